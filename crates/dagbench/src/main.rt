@@ -2,7 +2,15 @@
 #![tactic(auto)]
 
 mod command;
+mod device;
+mod ending;
+mod history;
+mod memory;
+mod mode;
+mod output;
 mod parse;
+mod reply;
+mod stream;
 mod words;
 
 fn main() {}
