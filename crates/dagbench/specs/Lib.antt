@@ -5,3 +5,5 @@ pub mod Streams
 pub mod Replies
 pub mod Arguments
 pub mod Endings
+pub mod Steps
+pub mod Serving

@@ -4,7 +4,9 @@
 mod command;
 mod device;
 mod ending;
+mod engine;
 mod history;
+mod line;
 mod memory;
 mod mode;
 mod output;
