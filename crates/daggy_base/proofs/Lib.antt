@@ -1,1 +1,5 @@
 mod Emptiness
+pub mod Marking
+pub mod Lists
+pub mod Going
+pub mod Searching
