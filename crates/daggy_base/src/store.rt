@@ -10,7 +10,7 @@ ghost use Rattle.daggy_base.specs.declared.error.EdgeError.TheVariants.{Memory a
 
 use crate::error::{EdgeError, NodeError};
 use crate::index::{Direction, EdgeIndex, IndexType, NodeIndex};
-use crate::search::source::EdgeSource;
+use crate::search::EdgeSource;
 
 /// A graph that can be changed. No call but [`look`](EdgeSource::look) counts a look.
 pub trait Store<Ix: IndexType>: EdgeSource<Ix> {

@@ -16,7 +16,7 @@ use std::marker::{Model, PhantomData};
 
 use daggy_base::error::{EdgeError, NodeError};
 use daggy_base::index::{DefaultIx, Direction, EdgeIndex, IndexType, NodeIndex};
-use daggy_base::search::scratch::Scratch;
+use daggy_base::search::Scratch;
 use daggy_graph::graph::DiGraph;
 use daggy_walk::walker::Walker;
 

@@ -9,7 +9,7 @@ ghost use Rattle.daggy_base.specs.declared.error.EdgeError.TheVariants.{WouldCyc
 use daggy_base::error::{EdgeError, NodeError, WouldCycle};
 use daggy_base::index::{EdgeIndex, IndexType, NodeIndex};
 use daggy_base::search::reaches;
-use daggy_base::search::scratch::Scratch;
+use daggy_base::search::Scratch;
 use daggy_base::store::Store;
 
 /// Adds a node, after the scratch fits a search of the graph with that node.

@@ -16,7 +16,7 @@ mod source;
 use daggy_base::error::{EdgeError, NodeError};
 use daggy_base::index::{DefaultIx, Direction, EdgeIndex, IndexType, NodeIndex};
 use daggy_base::link::Link;
-use daggy_base::search::looks::Looks;
+use daggy_base::search::Looks;
 use std::alloc::Global;
 use std::marker::Model;
 

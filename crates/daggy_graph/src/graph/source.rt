@@ -13,7 +13,7 @@ ghost use Rattle.daggy_base.specs.declared.error.EdgeError.TheVariants.{Memory a
 use crate::graph::DiGraph;
 use daggy_base::error::{EdgeError, NodeError};
 use daggy_base::index::{Direction, EdgeIndex, IndexType, NodeIndex};
-use daggy_base::search::source::EdgeSource;
+use daggy_base::search::EdgeSource;
 use daggy_base::store::Store;
 
 impl<N, E, Ix: IndexType> EdgeSource<Ix> for DiGraph<N, E, Ix> {
