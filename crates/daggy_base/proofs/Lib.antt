@@ -8,4 +8,5 @@ pub mod Full
 pub mod Adding
 pub mod Nodes
 pub mod Removing
+pub mod NodeRemoving
 pub mod TakingBack
