@@ -1,0 +1,12 @@
+pub mod Graph
+pub mod Path
+pub mod Adding
+pub mod Removal
+pub mod Taking
+pub mod WellFormed
+pub mod Reduction
+pub mod Cursor
+pub mod Finding
+pub mod Look
+pub mod State
+pub mod Room

@@ -1,0 +1,54 @@
+//! Why a node or an edge was not added. Each error hands back the weights that the call took.
+use std::{error, fmt};
+use thiserror::Error;
+
+/// An edge would have closed a cycle. It holds the weight of that edge.
+///
+/// It can be printed whatever the weight is, so `?` passes it on in any program.
+#[derive(Clone, Copy, Drop)]
+pub struct WouldCycle<E>(pub E);
+
+impl<E> fmt::Debug for WouldCycle<E> {
+    fn fmt<W: fmt::Write>(&self, f: &mut fmt::Formatter<W>) -> fmt::Result {
+        writeln!(f, "WouldCycle")
+    }
+}
+
+impl<E> fmt::Display for WouldCycle<E> {
+    fn fmt<W: fmt::Write>(&self, f: &mut fmt::Formatter<W>) -> fmt::Result {
+        writeln!(f, "{self:?}")
+    }
+}
+
+impl<E: Drop> error::Error for WouldCycle<E> {}
+
+/// A node was not added. It holds the weight of that node.
+#[derive(Debug, Drop, Error)]
+pub enum NodeError<N> {
+    /// There was no memory for the node.
+    #[error("out of memory")]
+    Memory(N),
+    /// The index type has no index left.
+    #[error("no index left")]
+    Full(N),
+}
+
+/// An edge was not added. It holds the weight of that edge.
+#[derive(Debug, Drop, Error)]
+pub enum EdgeError<E> {
+    /// A path leads from the edge's child to its parent.
+    #[error("would close a cycle")]
+    WouldCycle(WouldCycle<E>),
+    /// There was no memory for the edge.
+    #[error("out of memory")]
+    Memory(E),
+    /// One of the edge's ends does not exist.
+    #[error("no such endpoint")]
+    BadEndpoint(E),
+    /// The index type has no index left.
+    #[error("no index left")]
+    Full(E),
+    /// There was no memory for a node that the edge asked for.
+    #[error("out of memory for a node")]
+    NodeMemory(E),
+}

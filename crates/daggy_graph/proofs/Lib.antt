@@ -1,0 +1,5 @@
+pub mod Rows
+pub mod Threads
+pub mod StoredLemmas
+pub mod WellFormedLemmas
+pub mod States

@@ -1,0 +1,8 @@
+use Rattle.std.proofs.Common.{arith}
+use Rattle.daggy_graph.specs.Stored.{plain}
+use Rattle.daggy_graph.proofs.States.{holds_iff}
+use Rattle.daggy_graph.proofs.graph.DiGraph.contains_edge.Goals as goal
+
+pub returns : goal.returns
+returns g c =
+    rw (← c.self.view_is) (holds_iff plain c.self.inside.edges.items _ _ _ c.index.ensures.value (omega (arith, c.len.ensures)))

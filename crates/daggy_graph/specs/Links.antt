@@ -1,0 +1,40 @@
+-- Lists threaded through numbers: a row has a first element, and each element names the next.
+use Rattle.std.specs.Prelude.{◌≡◌, ℕ, zero, suc, ◌<◌, ◌↔◌, Some, List, [], ◌∷◌, length, map, slice_get, slice_set, slice_index, unwrap_or, Contains}
+use Rattle.std.specs.Option.{option_map}
+use Rattle.daggy_base.specs.Cursor.{first_of, after}
+use Rattle.daggy_base.specs.WellFormed.{AreDistinct}
+use Rattle.daggy_base.specs.Removal.{renamed}
+
+-- what is met from e on by following the links, at most so many
+abbrev pub follow : (nexts : List ℕ) → (fuel : ℕ) → ℕ → List ℕ
+follow nexts zero e = []
+follow nexts (suc k) e = unwrap_or (option_map (λ next. e ∷ follow nexts k next) (slice_get nexts e)) []
+
+-- the rows that begin with these
+abbrev pub rows_of : (firsts nexts : List ℕ) → List (List ℕ)
+rows_of firsts nexts = map (follow nexts (length nexts)) firsts
+
+abbrev pub row : List (List ℕ) → ℕ → List ℕ
+row lists n = unwrap_or (slice_get lists n) []
+
+-- the links thread this list
+pub record IsRow (end : ℕ) (nexts : List ℕ) (first : ℕ) (list : List ℕ) : Type 0 where
+  pub starts : first ≡ first_of end list
+  pub distinct : AreDistinct list
+  pub goes_on : (e : ℕ) → Contains list e → slice_get nexts e ≡ Some (after end list e)
+
+-- the links thread each of these lists, one for each of the firsts
+pub record IsLinked (end : ℕ) (firsts nexts : List ℕ) (lists : List (List ℕ)) : Type 0 where
+  pub rows : length lists ≡ length firsts
+  pub each : (n : ℕ) → n < length firsts → IsRow end nexts (slice_index firsts n) (row lists n)
+
+-- each row lists the places at which its number stands
+abbrev pub ListsEach : (ends : List ℕ) → List (List ℕ) → Type 0
+ListsEach ends lists = (n e : ℕ) → Contains (row lists n) e ↔ (slice_get ends e ≡ Some n)
+
+-- the one link to old in the row of n leads to new
+pub record Redirected (list : List ℕ) (n old new : ℕ) (firsts nexts firsts' nexts' : List ℕ) : Type 0 where
+  pub first : firsts' ≡ slice_set firsts n (renamed old new (slice_index firsts n))
+  pub same_length : length nexts' ≡ length nexts
+  pub inside : (e : ℕ) → Contains list e → slice_get nexts' e ≡ option_map (renamed old new) (slice_get nexts e)
+  pub outside : (e : ℕ) → ¬ Contains list e → slice_get nexts' e ≡ slice_get nexts e

@@ -1,0 +1,339 @@
+//! A directed graph whose nodes and edges fill the indices from 0 on.
+ghost use Rattle.std.specs.Prelude.{◌≡◌, ℕ, ◌<◌, ◌↔◌, length, IsTrue, IsSome, Some, option_copied, IfOk, OnOk, IfErr, OnErr};
+ghost use Rattle.std.specs.Option.{option_map};
+ghost use Rattle.daggy_base.specs.Graph.{empty, node_weight as weight_at, edge_at, HasNode, HasEdge, node_count as node_count_of, edge_count as edge_count_of, list_at, ends_of, pair_of, IsCompact};
+ghost use Rattle.daggy_base.specs.Adding.{next_node, next_edge as next_edge_of, with_node, with_edge};
+ghost use Rattle.daggy_base.specs.Finding.{find_edge as edge_between};
+ghost use Rattle.daggy_base.specs.Cursor.{first_of, cursor_after};
+ghost use Rattle.daggy_base.specs.WellFormed.{IsWellFormed};
+ghost use Rattle.daggy_base.specs.State.{with_graph};
+ghost use Rattle.daggy_base.specs.declared.error.NodeError.TheVariants.{Memory as NodeMemory};
+ghost use Rattle.daggy_base.specs.declared.error.EdgeError.TheVariants.{Memory as EdgeMemory};
+ghost use Rattle.daggy_graph.specs.Stored.{first_at, with_first, end_at, next_at, with_next, with_end};
+
+mod source;
+
+use daggy_base::error::{EdgeError, NodeError};
+use daggy_base::index::{DefaultIx, Direction, EdgeIndex, IndexType, NodeIndex};
+use daggy_base::link::Link;
+use daggy_base::search::Looks;
+use std::alloc::Global;
+use std::marker::Model;
+
+/// A node as it is stored: its weight, and the first edge of each of its lists.
+#[derive(Drop)]
+pub struct Node<N, Ix: IndexType = DefaultIx> {
+    /// The weight of the node.
+    pub weight: N,
+    first_out: Link<Ix>,
+    first_in: Link<Ix>,
+}
+
+/// An edge as it is stored: its weight, its ends, and the edge after it in each of its lists.
+#[derive(Drop)]
+pub struct Edge<E, Ix: IndexType = DefaultIx> {
+    /// The weight of the edge.
+    pub weight: E,
+    parent: Link<Ix>,
+    child: Link<Ix>,
+    next_out: Link<Ix>,
+    next_in: Link<Ix>,
+}
+
+impl<N, Ix: IndexType> Node<N, Ix> {
+    #[inline]
+    fn first(&self, dir: Direction) -> Link<Ix>
+        ensures { result ≡ first_at dir self.now }
+    {
+        match dir {
+            Direction::Outgoing => self.first_out,
+            Direction::Incoming => self.first_in,
+        }
+    }
+
+    #[inline]
+    fn set_first(&mut self, dir: Direction, e: Link<Ix>)
+        ensures { self.new ≡ with_first dir self.old e }
+    {
+        match dir {
+            Direction::Outgoing => self.first_out = e,
+            Direction::Incoming => self.first_in = e,
+        }
+    }
+}
+
+impl<E, Ix: IndexType> Edge<E, Ix> {
+    #[inline]
+    fn next(&self, dir: Direction) -> Link<Ix>
+        ensures { result ≡ next_at dir self.now }
+    {
+        match dir {
+            Direction::Outgoing => self.next_out,
+            Direction::Incoming => self.next_in,
+        }
+    }
+
+    #[inline]
+    fn end(&self, dir: Direction) -> Link<Ix>
+        ensures { result ≡ end_at dir self.now }
+    {
+        match dir {
+            Direction::Outgoing => self.parent,
+            Direction::Incoming => self.child,
+        }
+    }
+
+    #[inline]
+    fn set_end(&mut self, dir: Direction, n: Link<Ix>)
+        ensures { self.new ≡ with_end dir self.old n }
+    {
+        match dir {
+            Direction::Outgoing => self.parent = n,
+            Direction::Incoming => self.child = n,
+        }
+    }
+
+    #[inline]
+    fn set_next(&mut self, dir: Direction, e: Link<Ix>)
+        ensures { self.new ≡ with_next dir self.old e }
+    {
+        match dir {
+            Direction::Outgoing => self.next_out = e,
+            Direction::Incoming => self.next_in = e,
+        }
+    }
+}
+
+/// A directed graph. Any number of edges may lead from one node to another, and an edge may lead from a node to
+/// itself.
+///
+/// The indices of its nodes are the numbers below the count of its nodes, and so are those of its edges. A removal
+/// gives the index of what it removed to the node or the edge with the last index, and so changes that index.
+/// Adding is constant time, as are all calls that read, but for those that say otherwise.
+///
+/// `Ix` is the number type that indices are kept in. It bounds how many nodes and how many edges there may be.
+#[derive(Drop)]
+pub struct DiGraph<N, E, Ix: IndexType = DefaultIx> {
+    nodes: Vec<Node<N, Ix>>,
+    edges: Vec<Edge<E, Ix>>,
+    looks: Looks,
+}
+
+impl<N, E, Ix: IndexType> Model for DiGraph<N, E, Ix> {
+    ghost use Rattle.daggy_base.specs.State.{State};
+    ghost use Rattle.daggy_graph.specs.Stored.{stored_graph, Stores};
+
+    ghost Value = { State N E };
+
+    ghost view = { λ a. record { graph = stored_graph a.nodes.items a.edges.items; looks = a.looks.count } };
+
+    ghost invariant = { λ a. Stores Ix.greatest a.nodes.items a.edges.items (stored_graph a.nodes.items a.edges.items) };
+}
+
+impl<N, E, Ix: IndexType> DiGraph<N, E, Ix> {
+    /// A graph with no node and no edge. It takes no memory yet.
+    pub fn new(alloc: Global) -> Self
+        ensures { result ≡ record { graph = empty; looks = 0 } }
+    {
+        DiGraph {
+            nodes: Vec::new(alloc),
+            edges: Vec::new(alloc),
+            looks: Looks::new(),
+        }
+    }
+
+    /// How many nodes there are.
+    #[inline]
+    pub fn node_count(&self) -> usize
+        ensures count { result ≡ node_count_of self.now.graph }
+        ensures slots { result ≡ length self.now.graph.nodes }
+        ensures well_formed { IsWellFormed Ix.greatest self.now.graph }
+        ensures compact { IsCompact self.now.graph }
+    {
+        self.nodes.len()
+    }
+
+    /// How many edges there are.
+    #[inline]
+    pub fn edge_count(&self) -> usize
+        ensures count { result ≡ edge_count_of self.now.graph }
+        ensures slots { result ≡ length self.now.graph.edges }
+        ensures well_formed { IsWellFormed Ix.greatest self.now.graph }
+        ensures compact { IsCompact self.now.graph }
+    {
+        self.edges.len()
+    }
+
+    /// Whether the index type has an index left for one more node.
+    #[inline]
+    pub fn can_add_node(&self) -> bool
+        ensures { IsTrue result ↔ (node_count_of self.now.graph < Ix.greatest) }
+    {
+        self.nodes.len() < NodeIndex::<Ix>::end().index()
+    }
+
+    /// Whether the index type has an index left for one more edge.
+    #[inline]
+    pub fn can_add_edge(&self) -> bool
+        ensures { IsTrue result ↔ (edge_count_of self.now.graph < Ix.greatest) }
+    {
+        self.edges.len() < EdgeIndex::<Ix>::end().index()
+    }
+
+    /// Whether the node exists.
+    #[inline]
+    pub fn contains_node(&self, n: NodeIndex<Ix>) -> bool
+        ensures { IsTrue result ↔ HasNode self.now.graph (Ix.number n) }
+    {
+        n.index() < self.nodes.len()
+    }
+
+    /// Whether the edge exists.
+    #[inline]
+    pub fn contains_edge(&self, e: EdgeIndex<Ix>) -> bool
+        ensures { IsTrue result ↔ HasEdge self.now.graph (Ix.number e) }
+    {
+        e.index() < self.edges.len()
+    }
+
+    /// Adds a node, whose index is the number of nodes before.
+    ///
+    /// The error says that memory for it was refused. It holds the weight, and the graph is as it was. The cost is
+    /// constant, taken over many calls.
+    pub fn add_node(&mut self, weight: N) -> Result<NodeIndex<Ix>, NodeError<N>>
+        requires { node_count_of self.old.graph < Ix.greatest }
+        ensures index { IfOk result (λ n. Ix.number n ≡ next_node self.old.graph) }
+        ensures added { OnOk result (self.new ≡ with_graph self.old (with_node self.old.graph weight)) }
+        ensures refusal { IfErr result (λ e. e ≡ NodeMemory weight) }
+        ensures unchanged { OnErr result (self.new ≡ self.old) }
+    {
+        if self.nodes.reserve(1).is_err() {
+            return Err(NodeError::Memory(weight));
+        }
+        let n = NodeIndex::new(self.nodes.len());
+        self.nodes.push_reserved(Node {
+            weight,
+            first_out: Link::end(),
+            first_in: Link::end(),
+        });
+        Ok(n)
+    }
+
+    /// Adds an edge from `a` to `b`, whose index is the number of edges before. It is then the first edge that leaves
+    /// `a`, and the first that enters `b`.
+    ///
+    /// The error says that memory for it was refused. It holds the weight, and the graph is as it was. The cost is
+    /// constant, taken over many calls.
+    pub fn add_edge(
+        &mut self,
+        a: NodeIndex<Ix>,
+        b: NodeIndex<Ix>,
+        weight: E,
+    ) -> Result<EdgeIndex<Ix>, EdgeError<E>>
+        requires parent { HasNode self.old.graph (Ix.number a) }
+        requires child { HasNode self.old.graph (Ix.number b) }
+        requires room { edge_count_of self.old.graph < Ix.greatest }
+        ensures index { IfOk result (λ e. Ix.number e ≡ next_edge_of self.old.graph) }
+        ensures added { OnOk result (self.new ≡ with_graph self.old (with_edge self.old.graph (Ix.number a) (Ix.number b) weight)) }
+        ensures refusal { IfErr result (λ e. e ≡ EdgeMemory weight) }
+        ensures unchanged { OnErr result (self.new ≡ self.old) }
+    {
+        if self.edges.reserve(1).is_err() {
+            return Err(EdgeError::Memory(weight));
+        }
+        let e = Link::new(self.edges.len());
+        let u = a.index();
+        let v = b.index();
+        let next_out = self.nodes[u].first_out;
+        let next_in = self.nodes[v].first_in;
+        self.edges.push_reserved(Edge {
+            weight,
+            parent: Link::of_node(a),
+            child: Link::of_node(b),
+            next_out,
+            next_in,
+        });
+        self.nodes[u].first_out = e;
+        self.nodes[v].first_in = e;
+        Ok(e.edge())
+    }
+
+    /// The weight of a node, if the node exists.
+    #[inline]
+    pub fn node_weight(&self, n: NodeIndex<Ix>) -> Option<&N>
+        ensures { option_copied result ≡ weight_at self.now.graph (Ix.number n) }
+    {
+        match self.nodes.get(n.index()) {
+            Some(x) => Some(&x.weight),
+            None => None,
+        }
+    }
+
+    /// The weight of an edge, if the edge exists.
+    #[inline]
+    pub fn edge_weight(&self, e: EdgeIndex<Ix>) -> Option<&E>
+        ensures { option_copied result ≡ option_map (λ x. x.weight) (edge_at self.now.graph (Ix.number e)) }
+    {
+        match self.edges.get(e.index()) {
+            Some(x) => Some(&x.weight),
+            None => None,
+        }
+    }
+
+    /// The parent and the child of an edge, if the edge exists.
+    #[inline]
+    pub fn edge_endpoints(&self, e: EdgeIndex<Ix>) -> Option<(NodeIndex<Ix>, NodeIndex<Ix>)>
+        ensures { option_map (pair_of Ix.number) result ≡ option_map ends_of (edge_at self.now.graph (Ix.number e)) }
+    {
+        match self.edges.get(e.index()) {
+            Some(x) => Some((x.parent.node(), x.child.node())),
+            None => None,
+        }
+    }
+
+    /// The first edge of those that leave the node, or of those that enter it, or `end`.
+    #[inline]
+    pub fn first_edge(&self, n: NodeIndex<Ix>, dir: Direction) -> EdgeIndex<Ix>
+        ensures { Ix.number result ≡ first_of Ix.greatest (list_at dir self.now.graph (Ix.number n)) }
+    {
+        match self.nodes.get(n.index()) {
+            Some(x) => x.first(dir).edge(),
+            None => EdgeIndex::end(),
+        }
+    }
+
+    /// The edge after this one among those that leave its parent, or among those that enter its child, or `end`.
+    #[inline]
+    pub fn next_edge(&self, e: EdgeIndex<Ix>, dir: Direction) -> EdgeIndex<Ix>
+        requires { HasEdge self.now.graph (Ix.number e) }
+        ensures { Ix.number result ≡ cursor_after dir Ix.greatest self.now.graph (Ix.number e) (edge_at self.now.graph (Ix.number e)) }
+    {
+        let x = &self.edges[e.index()];
+        x.next(dir).edge()
+    }
+
+    /// The first edge from `a` to `b`, of those that leave `a`, if there is one.
+    ///
+    /// The cost grows with the number of edges that leave `a`.
+    pub fn find_edge(&self, a: NodeIndex<Ix>, b: NodeIndex<Ix>) -> Option<EdgeIndex<Ix>>
+        ensures { option_map Ix.number result ≡ edge_between self.now.graph (Ix.number a) (Ix.number b) }
+    {
+        let u = a.index();
+        let v = b.index();
+        if u >= self.nodes.len() {
+            return None;
+        }
+        let mut e = self.nodes[u].first_out;
+        'along: loop {
+            let i = e.index();
+            if i >= self.edges.len() {
+                return None;
+            }
+            let x = &self.edges[i];
+            if x.child.index() == v {
+                return Some(e.edge());
+            }
+            e = x.next_out;
+        }
+    }
+}
