@@ -1,3 +1,7 @@
+pub mod Answering
 pub mod Cuts
 pub mod Digits
+pub mod Keeping
+pub mod Telling
+pub mod Walking
 mod Walks

@@ -1,7 +1,7 @@
 -- What a whole run, and a part of one, does to its devices.
 use Rattle.std.specs.Prelude.{◌≡◌, ℕ, List, [], ◌∷◌, ◌++◌, take, Result, Ok, Err, ℤ}
 use Rattle.std.specs.List.{flat_map, AllByRecursion}
-use Rattle.daggy_base.specs.Graph.{Graph, empty}
+use Rattle.daggy.specs.Graph.{Graph, empty}
 use Rattle.dagbench.specs.Cutting.{newline, Lacks}
 use Rattle.dagbench.specs.Steps.{IsAnswer, IsTranscript}
 
@@ -17,7 +17,7 @@ pub record Serves (lines_in : List ℕ → List (List ℕ)) (given_old given_new
 -- after an Ok the line was answered behind what had been written
 abbrev pub AnswersLine : {A E : Type 0} → Result A E → (line : List ℕ) → (old new : Graph ℤ ℤ) → (written_old written_new : List ℕ) → Type 0
 AnswersLine (Ok x) line old new written_old written_new =
-    (text : List ℕ) × IsAnswer old line text new × (written_new ≡ written_old ++ text ++ newline ∷ [])
+    (text : List ℕ) × IsAnswer old line text new × (written_new ≡ written_old ++ (text ++ newline ∷ []))
 AnswersLine (Err e) line old new written_old written_new = Unit {0}
 
 -- a line with its newline

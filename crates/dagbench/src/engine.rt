@@ -6,15 +6,14 @@ ghost use Rattle.dagbench.specs.Steps.{IsStep, Said, children_of};
 ghost use Rattle.dagbench.specs.Serving.{AnswersLine};
 ghost use Rattle.dagbench.specs.declared.command.Command.TheVariants.{Node, Edge};
 
-use daggy::index::NodeIndex;
-use daggy::walker::Walker;
-use daggy::{Dag, EdgeError};
-
 use crate::command::Command;
 use crate::output::Output;
 use crate::parse::parse;
 use crate::reply::Reply;
 use crate::stream::{Fault, Sink};
+use daggy::index::NodeIndex;
+use daggy::walker::Walker;
+use daggy::{Dag, EdgeError};
 
 /// The graph that is served.
 pub type Weighted = Dag<i64, i64, u32>;
@@ -50,7 +49,12 @@ fn add_edge(dag: &mut Weighted, parent: u32, child: u32, weight: i64) -> Reply
 }
 
 /// Writes the children of a node.
-fn write_children<K: Sink>(dag: &Weighted, parent: u32, output: &mut Output, sink: &mut K) -> Result<(), Fault>
+fn write_children<K: Sink>(
+    dag: &Weighted,
+    parent: u32,
+    output: &mut Output,
+    sink: &mut K,
+) -> Result<(), Fault>
     ensures text { Appends result (K.taken sink.old ++ output.old) (K.taken sink.new ++ output.new)
         (walk_text (children_of dag.now.graph parent) ++ 10 ∷ []) }
     ensures counted { CountsFaults result (K.failures sink.old) (K.failures sink.new) }
@@ -69,7 +73,12 @@ fn write_children<K: Sink>(dag: &Weighted, parent: u32, output: &mut Output, sin
 }
 
 /// Answers a line.
-pub fn answer<K: Sink>(dag: &mut Weighted, line: &[u8], output: &mut Output, sink: &mut K) -> Result<(), Fault>
+pub fn answer<K: Sink>(
+    dag: &mut Weighted,
+    line: &[u8],
+    output: &mut Output,
+    sink: &mut K,
+) -> Result<(), Fault>
     ensures answered { AnswersLine result line.now dag.old.graph dag.new.graph
         (K.taken sink.old ++ output.old) (K.taken sink.new ++ output.new) }
     ensures counted { CountsFaults result (K.failures sink.old) (K.failures sink.new) }

@@ -2,10 +2,9 @@
 ghost use Rattle.std.specs.Prelude.{◌≡◌, ℕ, ◌≤◌, ◌==◌, List, [], ◌++◌, IfOk, take, length, vec_len, vec_capacity};
 ghost use Rattle.dagbench.specs.Serving.{kept_count};
 
+use crate::parse::LONGEST_LINE;
 use std::alloc::{AllocError, Global};
 use std::marker::Model;
-
-use crate::parse::LONGEST_LINE;
 
 /// How many bytes are kept of a line: one more than a command can have.
 const KEPT: usize = LONGEST_LINE + 1;
@@ -37,7 +36,8 @@ impl Line {
         ensures { self.new ≡ take kept_count (self.old ++ more.now) }
     {
         let room = KEPT - self.bytes.len();
-        let _ = self.bytes.extend_from_slice(&more[..more.len().min(room)]);
+        let (front, _) = more.split_at(room.min(more.len()));
+        let _ = self.bytes.extend_from_slice(front);
     }
 
     pub fn clear(&mut self)
