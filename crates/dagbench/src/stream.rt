@@ -1,5 +1,5 @@
 //! What the engine reads from and writes to.
-ghost use Rattle.std.specs.Prelude.{◌≡◌, ℕ, Bool, List};
+ghost use Rattle.std.specs.Prelude.{◌≡◌, ℕ, ◌<◌, ◌^◌, Bool, List, length, OnOk};
 ghost use Rattle.dagbench.specs.Streams.{CountsFaults, Appends, Gives, MeetsEnd};
 
 /// A device failed in a call.
@@ -18,8 +18,10 @@ pub trait Source {
     ghost failures: { Self → ℕ };
 
     /// Reads bytes to the front of the buffer and gives their number, 0 only at the end or where there is no room.
+    /// A source has fewer than 2^64 bytes.
     fn read(&mut self, buffer: &mut [u8]) -> Result<usize, Fault>
         ensures bytes { Gives result (given self.old) (given self.new) buffer.new }
+        ensures few { OnOk result (length (given self.new) < 2 ^ 64) }
         ensures end { MeetsEnd result (is_ended self.old) (is_ended self.new) buffer.new }
         ensures counted { CountsFaults result (failures self.old) (failures self.new) };
 }
