@@ -1,13 +1,11 @@
 -- Answers to lines, and the text of a walk as it grows.
-use Rattle.std.proofs.Common.{◌≡◌, ℕ, List, [], ◌∷◌, ◌++◌, map, codes, Option, Some, None, Result, Ok, Err, refl, sym, ap, subst, ◌∙◌, append_assoc, ℤ}
-use Rattle.std.specs.List.{flat_map}
+use Rattle.std.proofs.Common.{◌≡◌, ℕ, List, [], ◌∷◌, ◌++◌, codes, Some, None, Result, Ok, Err, refl, subst, ℤ}
 use Rattle.std.specs.Option.{MatchOption}
-use Rattle.daggy.specs.Graph.{Graph, out_list}
+use Rattle.daggy.specs.Graph.{Graph}
 use Rattle.dagbench.specs.declared.command.Command.{Command}
 use Rattle.dagbench.specs.Commands.{command_of}
 use Rattle.dagbench.specs.Streams.{Appends}
-use Rattle.dagbench.specs.Replies.{item_text, walk_text}
-use Rattle.dagbench.specs.Steps.{Answer, answer_text, IsStep, IsAnswer, children_of, with_child}
+use Rattle.dagbench.specs.Steps.{Answer, answer_text, IsStep, IsAnswer}
 use Rattle.dagbench.specs.Serving.{AnswersLine}
 
 answers : {A E : Type 0} (r : Result A E) (line : List ℕ) (old new : Graph ℤ ℤ) (before now text : List ℕ) → IsAnswer old line text new → Appends r before now (text ++ 10 ∷ []) → AnswersLine r line old new before now

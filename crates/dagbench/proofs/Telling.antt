@@ -1,5 +1,5 @@
 -- The text of a walk, as it grows item by item.
-use Rattle.std.proofs.Common.{◌≡◌, ℕ, suc, ◌≤◌, List, [], ◌∷◌, ◌++◌, length, map, codes, Option, Some, None, Result, Ok, Err, refl, sym, ap, subst, ◌∙◌, append_assoc, append-nil, arith, ℤ}
+use Rattle.std.proofs.Common.{◌≡◌, ℕ, suc, ◌≤◌, List, [], ◌∷◌, ◌++◌, length, map, codes, Some, None, Result, Ok, Err, sym, ap, subst, ◌∙◌, append_assoc, append-nil, arith, ℤ}
 use Rattle.std.specs.List.{flat_map}
 use Rattle.daggy.specs.Graph.{Graph, out_list}
 use Rattle.daggy.specs.Cursor.{first_of, IsStep}

@@ -7,3 +7,4 @@ pub mod Arguments
 pub mod Endings
 pub mod Steps
 pub mod Serving
+pub mod Ends

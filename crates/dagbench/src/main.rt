@@ -12,6 +12,8 @@ mod mode;
 mod output;
 mod parse;
 mod reply;
+mod serve;
+mod session;
 mod stream;
 mod words;
 

@@ -1,7 +1,6 @@
-use Rattle.std.proofs.Common.{◌≡◌, ◌++◌, ◌∷◌, [], length, map, codes}
+use Rattle.std.proofs.Common.{◌≡◌, ◌++◌, length, map, codes}
 use Rattle.std.specs.List.{flat_map}
 use Rattle.daggy.specs.Graph.{out_list}
-use Rattle.daggy.specs.WellFormed.{IsDag}
 use Rattle.dagbench.specs.Replies.{item_text, walk_text}
 use Rattle.dagbench.specs.Steps.{rest_from, with_child, children_of}
 use Rattle.dagbench.proofs.Walking.{Stands}
