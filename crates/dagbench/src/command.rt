@@ -1,7 +1,7 @@
 //! The commands, and the lines that say them.
 
 /// What a line may ask of the graph.
-#[derive(Clone, Copy)]
+#[derive(Clone, Copy, Debug, PartialEq, Eq)]
 pub enum Command {
     /// A node of this weight is to be added.
     Node(i64),

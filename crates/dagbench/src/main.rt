@@ -15,17 +15,17 @@ mod reply;
 mod serve;
 mod session;
 mod stream;
+#[cfg(test)]
+mod tests;
 mod words;
-
-use std::env;
-use std::io;
-use std::process::ExitCode;
-use std::rt::Env;
 
 use crate::device::Device;
 use crate::ending::{Stop, ending};
 use crate::mode::mode_of;
 use crate::serve::serve;
+use std::process::ExitCode;
+use std::rt::Env;
+use std::{env, io};
 
 /// The arguments behind the program's name.
 fn arguments(rt: &(impl Env + AllocGlobal)) -> io::Result<Vec<String>> {
