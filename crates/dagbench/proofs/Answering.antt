@@ -6,7 +6,7 @@ use Rattle.dagbench.specs.declared.command.Command.{Command}
 use Rattle.dagbench.specs.Commands.{command_of}
 use Rattle.dagbench.specs.Streams.{Appends}
 use Rattle.dagbench.specs.Steps.{Answer, answer_text, IsStep, IsAnswer}
-use Rattle.dagbench.specs.Serving.{AnswersLine}
+use Rattle.dagbench.specs.Progress.{AnswersLine}
 
 answers : {A E : Type 0} (r : Result A E) (line : List ℕ) (old new : Graph ℤ ℤ) (before now text : List ℕ) → IsAnswer old line text new → Appends r before now (text ++ 10 ∷ []) → AnswersLine r line old new before now
 answers (Ok x) line old new before now text is appended = (text, is, appended)

@@ -6,7 +6,8 @@ use Rattle.daggy.specs.Graph.{Graph, empty}
 use Rattle.dagbench.specs.declared.ending.Stop.{Stop}
 use Rattle.dagbench.specs.declared.ending.Stop.TheVariants.{Read, Write, Memory}
 use Rattle.dagbench.specs.Cutting.{lines_of, ended_lines_of}
-use Rattle.dagbench.specs.Serving.{IsServed, Serves, GoesOn}
+use Rattle.dagbench.specs.Serving.{Serves}
+use Rattle.dagbench.specs.Progress.{IsServed, GoesOn}
 use Rattle.dagbench.specs.Ends.{IsRun}
 use Rattle.dagbench.proofs.Serving.{fails, starts}
 

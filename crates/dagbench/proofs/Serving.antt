@@ -10,7 +10,8 @@ use Rattle.dagbench.specs.Cutting.{Lacks, newline, lines_of, ended_lines_of, wor
 use Rattle.dagbench.specs.Commands.{command_of, command_by_words}
 use Rattle.dagbench.specs.Streams.{Appends}
 use Rattle.dagbench.specs.Steps.{Answer, answer_text, IsStep, IsAnswer, IsTranscript}
-use Rattle.dagbench.specs.Serving.{IsServed, Serves, AnswersLine, GoesOn, ended}
+use Rattle.dagbench.specs.Serving.{Serves}
+use Rattle.dagbench.specs.Progress.{IsServed, AnswersLine, GoesOn, ended}
 use Rattle.dagbench.proofs.Cuts.{cut_at-first, cut_at-last, ended_at-first, ended_at-none}
 
 -- whole lines, and what stands behind them

@@ -7,8 +7,8 @@ use Rattle.daggy.specs.WellFormed.{IsDag}
 use Rattle.daggy.specs.declared.index.Direction.TheVariants.{Outgoing}
 use Rattle.dagbench.specs.Streams.{Appends}
 use Rattle.dagbench.specs.Replies.{item_text, walk_text}
-use Rattle.dagbench.specs.Steps.{children_of, with_child, rest_from}
-use Rattle.dagbench.proofs.Walking.{Stands, Steps, stands_first, stops, steps}
+use Rattle.dagbench.specs.Steps.{children_of, with_child}
+use Rattle.dagbench.proofs.Walking.{rest_from, Stands, Steps, stands_first, stops, steps}
 
 -- items behind the first, each with its space
 abbrev pub spaced : List (ℕ × ℕ) → List ℕ

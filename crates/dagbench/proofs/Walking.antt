@@ -1,5 +1,5 @@
 -- A walk along the out list of a node.
-use Rattle.std.proofs.Common.{◌≡◌, ◌≢◌, ◌⊎◌, ℕ, zero, suc, ◌<◌, eqb, List, [], ◌∷◌, length, get_or, Option, Some, None, refl, sym, ap, subst, ◌∙◌, inl, inr, arith, Contains, ℤ}
+use Rattle.std.proofs.Common.{if◌then◌else◌, ◌==◌, ◌≡◌, ◌≢◌, ◌⊎◌, ℕ, zero, suc, ◌<◌, eqb, List, [], ◌∷◌, length, get_or, Option, Some, None, refl, sym, ap, subst, ◌∙◌, inl, inr, arith, Contains, ℤ}
 use Rattle.std.proofs.lemmas.Bool.{cases_eq, eq-eqb, ne_eqb, cond-true, cond-false}
 use Rattle.std.proofs.lemmas.Option.{slice_get_past}
 use Rattle.std.specs.Option.{option_and_then, option_map, unwrap_or}
@@ -8,7 +8,11 @@ use Rattle.daggy.specs.Cursor.{first_of, after, IsStep, item_at, cursor_after}
 use Rattle.daggy.specs.WellFormed.{AreDistinct, IsWellFormed, IsDag}
 use Rattle.dagbench.specs.Steps.{with_child}
 use Rattle.daggy.specs.declared.index.Direction.TheVariants.{Outgoing}
-use Rattle.dagbench.specs.Steps.{rest_from}
+
+-- the list from e on
+abbrev pub rest_from : List ℕ → ℕ → List ℕ
+rest_from [] e = []
+rest_from (x ∷ xs) e = if x == e then x ∷ xs else rest_from xs e
 
 here : (x : ℕ) (xs : List ℕ) → Contains (x ∷ xs) x
 here x xs = (0, omega arith, refl)

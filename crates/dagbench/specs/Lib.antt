@@ -7,5 +7,6 @@ pub mod Arguments
 pub mod Endings
 pub mod Steps
 pub mod Serving
+pub mod Progress
 pub mod Ends
 pub mod Failing

@@ -1,5 +1,5 @@
 -- What commands and lines are answered, and what they make of the graph.
-use Rattle.std.specs.Prelude.{◌≡◌, ℕ, ◌<◌, ◌≤◌, ◌==◌, if◌then◌else◌, List, [], ◌∷◌, ◌++◌, map, MatchOption, unwrap_or, codes, ℤ}
+use Rattle.std.specs.Prelude.{◌≡◌, ℕ, ◌<◌, ◌≤◌, List, [], ◌∷◌, ◌++◌, map, MatchOption, unwrap_or, codes, ℤ}
 use Rattle.std.specs.Option.{option_map}
 use Rattle.daggy.specs.Graph.{Graph, HasNode, edge_at, out_list, node_count, edge_count}
 use Rattle.daggy.specs.Path.{Reaches}
@@ -70,8 +70,3 @@ IsTranscript old [] text new = (text ≡ []) × (new ≡ old)
 IsTranscript old (line ∷ lines) text new =
     (answer rest : List ℕ) × (mid : Graph ℤ ℤ) × IsAnswer old line answer mid
     × (text ≡ (answer ++ newline ∷ []) ++ rest) × IsTranscript mid lines rest new
-
--- the list from e on
-abbrev pub rest_from : List ℕ → ℕ → List ℕ
-rest_from [] e = []
-rest_from (x ∷ xs) e = if x == e then x ∷ xs else rest_from xs e

@@ -3,7 +3,7 @@ ghost use Rattle.std.specs.Prelude.{◌≡◌, ◌++◌, ◌∷◌, [], ◌<◌,
 ghost use Rattle.dagbench.specs.Streams.{CountsFaults, Appends};
 ghost use Rattle.dagbench.specs.Replies.{walk_text};
 ghost use Rattle.dagbench.specs.Steps.{IsStep, Said, children_of};
-ghost use Rattle.dagbench.specs.Serving.{AnswersLine};
+ghost use Rattle.dagbench.specs.Progress.{AnswersLine};
 ghost use Rattle.dagbench.specs.declared.command.Command.TheVariants.{Node, Edge};
 
 use crate::command::Command;

@@ -1,6 +1,6 @@
 //! The front of a line whose newline has not come.
 ghost use Rattle.std.specs.Prelude.{◌≡◌, ℕ, ◌≤◌, ◌==◌, List, [], ◌++◌, IfOk, take, length, vec_len, vec_capacity};
-ghost use Rattle.dagbench.specs.Serving.{kept_count};
+ghost use Rattle.dagbench.specs.Progress.{kept_count};
 
 use crate::parse::LONGEST_LINE;
 use std::alloc::{AllocError, Global};

@@ -3,7 +3,8 @@ ghost use Rattle.std.specs.Prelude.{◌≡◌, ℕ, List, [], ◌∷◌, ◌++�
 ghost use Rattle.daggy.specs.Graph.{empty};
 ghost use Rattle.dagbench.specs.Cutting.{Lacks, newline, lines_of};
 ghost use Rattle.dagbench.specs.Streams.{CountsFaults};
-ghost use Rattle.dagbench.specs.Serving.{GoesOn, IsServed, Serves};
+ghost use Rattle.dagbench.specs.Serving.{Serves};
+ghost use Rattle.dagbench.specs.Progress.{GoesOn, IsServed};
 
 use crate::engine::{Weighted, answer};
 use crate::line::Line;

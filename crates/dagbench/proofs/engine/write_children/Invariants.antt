@@ -2,8 +2,8 @@ use Rattle.std.proofs.Common.{◌≡◌, ◌++◌, length, map, codes}
 use Rattle.std.specs.List.{flat_map}
 use Rattle.daggy.specs.Graph.{out_list}
 use Rattle.dagbench.specs.Replies.{item_text, walk_text}
-use Rattle.dagbench.specs.Steps.{rest_from, with_child, children_of}
-use Rattle.dagbench.proofs.Walking.{Stands}
+use Rattle.dagbench.specs.Steps.{with_child, children_of}
+use Rattle.dagbench.proofs.Walking.{rest_from, Stands}
 use Rattle.dagbench.proofs.engine.write_children.Given as goal
 
 abbrev pub invariant-items : goal.invariant-items

@@ -1,5 +1,5 @@
 use Rattle.std.proofs.Common.{◌≡◌, ◌-◌, ◌^◌, ◌++◌, length}
-use Rattle.dagbench.specs.Serving.{IsServed}
+use Rattle.dagbench.specs.Progress.{IsServed}
 use Rattle.dagbench.proofs.serve.run.Given as goal
 
 abbrev pub invariant-reads : goal.invariant-reads
