@@ -4,7 +4,7 @@ use Rattle.std.specs.List.{swap_remove}
 use Rattle.std.specs.Option.{option_map}
 use Rattle.daggy_base.specs.declared.index.Direction.{Direction}
 use Rattle.daggy_base.specs.declared.index.Direction.TheVariants.{Outgoing, Incoming}
-use Rattle.daggy_base.specs.Graph.{Graph, Edge, out_list, in_list, list_at}
+use Rattle.daggy_base.specs.Graph.{Graph, Edge, empty, out_list, in_list, list_at}
 
 -- what a removal does with a slot: the last element moves into the gap, or the slot stays vacant
 pub data Kind : Type 0 where
@@ -98,3 +98,19 @@ dropped_node Stable g n =
 
 abbrev pub without_node : {N E : Type 0} → Kind → Graph N E → ℕ → Graph N E
 without_node kind g n = dropped_node kind (isolated kind g n) n
+
+-- without any node or edge
+abbrev pub cleared : {N E : Type 0} → Graph N E → Graph N E
+cleared g = empty
+
+-- without any edge, and with no slot of an edge, vacant or not
+abbrev pub without_all_edges : {N E : Type 0} → Graph N E → Graph N E
+without_all_edges g =
+    record {
+      nodes = g.nodes;
+      edges = [];
+      out_lists = map (λ _. []) g.out_lists;
+      in_lists = map (λ _. []) g.in_lists;
+      vacant_nodes = g.vacant_nodes;
+      vacant_edges = [];
+    }
