@@ -1,5 +1,12 @@
 mod Emptiness
-pub mod Marking
 pub mod Lists
 pub mod Going
+pub mod Marking
 pub mod Searching
+pub mod Slots
+pub mod Full
+pub mod Adding
+pub mod Nodes
+pub mod Removing
+pub mod NodeRemoving
+pub mod TakingBack

@@ -1,6 +1,7 @@
 -- When the parts of a graph agree.
 use Rattle.std.specs.Prelude.{◌≡◌, ℕ, ◌≤◌, ◌↔◌, Option, Some, None, List, [], ◌∷◌, length, slice_get, Contains}
 use Rattle.daggy_base.specs.Graph.{Graph, Edge, HasNode, edge_at, out_list, in_list}
+use Rattle.daggy_base.specs.Path.{IsAcyclic}
 
 -- no element stands at two places
 abbrev pub AreDistinct : List ℕ → Type 0
@@ -28,3 +29,8 @@ pub record IsWellFormed {N E : Type 0} (limit : ℕ) (g : Graph N E) : Type 0 wh
   pub edge_slots : ListsVacant g.edges g.vacant_edges
   pub few_nodes : length g.nodes ≤ limit
   pub few_edges : length g.edges ≤ limit
+
+-- a well-formed graph without a cycle
+pub record IsDag {N E : Type 0} (limit : ℕ) (g : Graph N E) : Type 0 where
+  pub acyclic : IsAcyclic g
+  pub well_formed : IsWellFormed limit g

@@ -6,14 +6,15 @@ ghost use Rattle.daggy_base.specs.Path.{Reaches};
 use crate::index::{EdgeIndex, IndexType, NodeIndex};
 use crate::link::Link;
 
-pub mod looks;
-pub mod marks;
-pub mod scratch;
-pub mod source;
+mod looks;
+mod marks;
+mod scratch;
+mod source;
 
+pub use looks::Looks;
 use marks::Marks;
-use scratch::Scratch;
-use source::EdgeSource;
+pub use scratch::Scratch;
+pub use source::EdgeSource;
 
 /// Whether a path leads from `from` to `to`. The path of one node counts, so an existing node reaches itself; a missing
 /// one reaches nothing.

@@ -1,7 +1,7 @@
 //! A directed graph whose nodes and edges fill the indices from 0 on.
 ghost use Rattle.std.specs.Prelude.{◌≡◌, ℕ, ◌<◌, ◌↔◌, length, IsTrue, option_copied, IfOk, OnOk, IfErr, OnErr};
 ghost use Rattle.std.specs.Option.{option_map};
-ghost use Rattle.daggy_base.specs.Graph.{empty, node_weight as weight_at, edge_at, HasNode, HasEdge, node_count as node_count_of, edge_count as edge_count_of, list_at, IsCompact};
+ghost use Rattle.daggy_base.specs.Graph.{empty, node_weight as weight_at, edge_at, HasNode, HasEdge, node_count as node_count_of, edge_count as edge_count_of, list_at, ends_of, pair_of, IsCompact};
 ghost use Rattle.daggy_base.specs.Adding.{next_node, next_edge as next_edge_of, with_node, with_edge};
 ghost use Rattle.daggy_base.specs.Finding.{find_edge as edge_between};
 ghost use Rattle.daggy_base.specs.Cursor.{first_of, cursor_after};
@@ -19,7 +19,7 @@ mod weights;
 use daggy_base::error::{EdgeError, NodeError};
 use daggy_base::index::{DefaultIx, Direction, EdgeIndex, IndexType, NodeIndex};
 use daggy_base::link::Link;
-use daggy_base::search::looks::Looks;
+use daggy_base::search::Looks;
 use std::alloc::Global;
 use std::marker::Model;
 
@@ -222,7 +222,7 @@ impl<N, E, Ix: IndexType> DiGraph<N, E, Ix> {
     /// The parent and the child of an edge, if the edge exists.
     #[inline]
     pub fn edge_endpoints(&self, e: EdgeIndex<Ix>) -> Option<(NodeIndex<Ix>, NodeIndex<Ix>)>
-        ensures { option_map {U = ℕ × ℕ} (λ ends. (Ix.number ends.0, Ix.number ends.1)) result ≡ option_map {U = ℕ × ℕ} (λ x. (x.parent, x.child)) (edge_at self.now.graph (Ix.number e)) }
+        ensures { option_map (pair_of Ix.number) result ≡ option_map ends_of (edge_at self.now.graph (Ix.number e)) }
     {
         match self.edges.get(e.index()) {
             Some(x) => Some((x.parent.node(), x.child.node())),

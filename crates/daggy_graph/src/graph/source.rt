@@ -1,8 +1,9 @@
 //! The compact store as a graph that searches read.
 ghost use Rattle.std.specs.Prelude.{◌≡◌, ℕ, ◌+◌, ◌<◌, ◌↔◌, IsTrue, IfOk, OnOk, IfErr, OnErr, length};
-ghost use Rattle.daggy_base.specs.Graph.{HasNode, HasEdge, out_list, node_bound as node_bound_of, edge_bound as edge_bound_of, node_count as node_count_of, edge_count as edge_count_of};
+ghost use Rattle.std.specs.Option.{option_map};
+ghost use Rattle.daggy_base.specs.Graph.{HasNode, HasEdge, edge_at, out_list, list_at, ends_of, pair_of, node_bound as node_bound_of, edge_bound as edge_bound_of, node_count as node_count_of, edge_count as edge_count_of};
 ghost use Rattle.daggy_base.specs.WellFormed.{IsWellFormed};
-ghost use Rattle.daggy_base.specs.Cursor.{first_of};
+ghost use Rattle.daggy_base.specs.Cursor.{first_of, cursor_after};
 ghost use Rattle.daggy_base.specs.Look.{IsLook};
 ghost use Rattle.daggy_base.specs.Adding.{next_node, next_edge, with_node, with_edge};
 ghost use Rattle.daggy_base.specs.Removal.{Compact};
@@ -12,7 +13,7 @@ ghost use Rattle.daggy_base.specs.declared.error.EdgeError.TheVariants.{Memory a
 use crate::graph::DiGraph;
 use daggy_base::error::{EdgeError, NodeError};
 use daggy_base::index::{Direction, EdgeIndex, IndexType, NodeIndex};
-use daggy_base::search::source::EdgeSource;
+use daggy_base::search::EdgeSource;
 use daggy_base::store::Store;
 
 impl<N, E, Ix: IndexType> EdgeSource<Ix> for DiGraph<N, E, Ix> {
@@ -75,6 +76,28 @@ impl<N, E, Ix: IndexType> Store<Ix> for DiGraph<N, E, Ix> {
     {
         let _fits = NodeIndex::<Ix>::end().index();
         self.node_count() + 1
+    }
+
+    #[inline]
+    fn first_edge(&self, n: NodeIndex<Ix>, dir: Direction) -> EdgeIndex<Ix>
+        ensures { Ix.number result ≡ first_of Ix.greatest (list_at dir self.now.graph (Ix.number n)) }
+    {
+        self.first_edge(n, dir)
+    }
+
+    #[inline]
+    fn next_edge(&self, e: EdgeIndex<Ix>, dir: Direction) -> EdgeIndex<Ix>
+        requires { HasEdge self.now.graph (Ix.number e) }
+        ensures { Ix.number result ≡ cursor_after dir Ix.greatest self.now.graph (Ix.number e) (edge_at self.now.graph (Ix.number e)) }
+    {
+        self.next_edge(e, dir)
+    }
+
+    #[inline]
+    fn edge_endpoints(&self, e: EdgeIndex<Ix>) -> Option<(NodeIndex<Ix>, NodeIndex<Ix>)>
+        ensures { option_map (pair_of Ix.number) result ≡ option_map ends_of (edge_at self.now.graph (Ix.number e)) }
+    {
+        self.edge_endpoints(e)
     }
 
     fn add_node(&mut self, weight: N) -> Result<NodeIndex<Ix>, NodeError<N>>

@@ -1,0 +1,9 @@
+pub use Rattle.daggy_base.specs.Graph
+pub use Rattle.daggy_base.specs.Path
+pub use Rattle.daggy_base.specs.Adding
+pub use Rattle.daggy_base.specs.Removal
+pub use Rattle.daggy_base.specs.Finding
+pub use Rattle.daggy_base.specs.Cursor
+pub use Rattle.daggy_base.specs.WellFormed
+pub use Rattle.daggy_base.specs.Reduction
+pub use Rattle.daggy_base.specs.State

@@ -1,0 +1,28 @@
+-- A change that either succeeded or left the graph as it was keeps it acyclic.
+use Rattle.std.proofs.Common.{◌≡◌, ℕ, ◌≤◌, length, Result, Ok, Err, OnOk, OnErr, sym, subst, ◌∙◌, arith}
+use Rattle.daggy_base.specs.Graph.{Graph, HasNode, node_bound}
+use Rattle.daggy_base.specs.Path.{Reaches, IsAcyclic}
+use Rattle.daggy_base.specs.Adding.{with_node, with_edge}
+use Rattle.daggy_base.specs.WellFormed.{IsWellFormed}
+use Rattle.daggy_base.proofs.Adding.{acyclic_after}
+use Rattle.daggy_base.proofs.Nodes.{acyclic_node_after, fits_after}
+
+pub acyclic_kept : {N E : Type 0} (old new : Graph N E) → IsAcyclic old → new ≡ old → IsAcyclic new
+acyclic_kept {N} {E} old new acyclic same = let P : Graph N E → Type 0 = λ z. IsAcyclic z in subst P (sym same) acyclic
+
+pub acyclic_edge : {R F N E : Type 0} (r : Result R F) (old at new : Graph N E) (a b : ℕ) (w : E) → HasNode old a → (Reaches old b a → ⊥) → IsAcyclic old → at ≡ old
+    → OnOk r (new ≡ with_edge at a b w) → OnErr r (new ≡ at) → IsAcyclic new
+acyclic_edge (Ok e) old at new a b w parent apart acyclic same added kept = acyclic_after old at new a b w parent apart acyclic same added
+acyclic_edge (Err e) old at new a b w parent apart acyclic same added kept = acyclic_kept old new acyclic (kept ∙ same)
+
+pub acyclic_node : {R F N E : Type 0} {end : ℕ} (r : Result R F) (old new : Graph N E) (w : N) → IsWellFormed end old → IsAcyclic old
+    → OnOk r (new ≡ with_node old w) → OnErr r (new ≡ old) → IsAcyclic new
+acyclic_node (Ok n) old new w f acyclic added kept = acyclic_node_after old new w f acyclic added
+acyclic_node (Err e) old new w f acyclic added kept = acyclic_kept old new acyclic kept
+
+pub node_fits : {R F N E : Type 0} (r : Result R F) (old new : Graph N E) (w : N) (slots before after : ℕ) → ((w : N) → length (with_node old w).nodes ≡ slots)
+    → node_bound old ≤ before → before ≤ after → slots ≤ after → OnOk r (new ≡ with_node old w) → OnErr r (new ≡ old) → node_bound new ≤ after
+node_fits (Ok n) old new w slots before after many had more room added kept = fits_after old new w slots after added many room
+node_fits {R} {F} {N} {E} (Err e) old new w slots before after many had more room added kept =
+    let P : Graph N E → Type 0 = λ z. node_bound z ≤ after in
+    subst P (sym kept) (omega arith)

@@ -1,0 +1,4 @@
+//! Walking over graphs without borrowing them.
+#![tactic(auto)]
+
+pub mod walker;
