@@ -4,7 +4,7 @@ ghost use Rattle.std.specs.Borrow.{sem};
 ghost use Rattle.std.specs.Option.{option_map, option_copied_mut};
 ghost use Rattle.daggy_base.specs.Graph.{node_weight as weight_at, edge_at, HasNode, HasEdge};
 ghost use Rattle.daggy_base.specs.State.{with_graph};
-ghost use Rattle.daggy_graph.specs.Reweighing.{with_edge_weight};
+ghost use Rattle.daggy_base.specs.Weights.{with_edge_weight};
 ghost use Rattle.daggy_graph.specs.Lends.{lends_node, lends_node_if, lends_edge, lends_edge_if};
 
 use crate::graph::DiGraph;
