@@ -2,3 +2,6 @@
 #![tactic(auto)]
 
 pub mod definitions;
+
+#[cfg(test)]
+mod tests;
