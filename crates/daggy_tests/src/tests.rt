@@ -5,7 +5,6 @@ mod errors;
 mod graphs;
 mod indices;
 mod large;
-mod memory;
 mod searching;
 mod support;
 mod walking;

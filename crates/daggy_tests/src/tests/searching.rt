@@ -1,5 +1,5 @@
 use daggy::graph::DiGraph;
-use daggy::search::{reaches, Scratch};
+use daggy::search::{EdgeSource, Scratch, reaches};
 use daggy::NodeIndex;
 use std::process::Abort;
 use std::test::Fail;
@@ -15,7 +15,9 @@ fn leads(
 ) -> bool {
     assert!(rt; from < 100);
     assert!(rt; to < 100);
-    assert!(rt; scratch.fits(graph.node_count(), 0));
+    let bound = graph.node_bound();
+    let fits = scratch.fits(bound, 0);
+    assert!(rt; fits);
     reaches(graph, NodeIndex::new(from), NodeIndex::new(to), scratch)
 }
 

@@ -1,3 +1,4 @@
+//! Each call is made again after a refusal, and must then succeed.
 use daggy::{Dag, EdgeError, NodeError, NodeIndex, Walker};
 use std::process::Abort;
 use std::test::Fail;
@@ -21,28 +22,28 @@ fn assert_fan(rt: &impl Abort, dag: &Dag<usize, usize>, nodes: usize, edges: usi
     assert!(rt; walker.walk_next(dag).is_none());
 }
 
-// Adds a node, a second time if the first is refused, and gives how often it was refused.
-fn add_node_again(rt: &impl Abort, dag: &mut Dag<usize, usize>, edges: usize) -> Result<usize, Fail> {
+// Adds a node, a second time if the first is refused, and says whether it was.
+fn add_node_again(rt: &impl Abort, dag: &mut Dag<usize, usize>, edges: usize) -> Result<bool, Fail> {
     let weight = dag.node_count();
     assert!(rt; dag.can_add_node());
     match dag.add_node(weight) {
         Ok(n) => {
             assert_eq!(rt; n.index(), weight);
-            Ok(0)
+            Ok(false)
         }
         Err(NodeError::Memory(refused)) => {
             assert_eq!(rt; refused, weight);
             assert_fan(rt, dag, weight, edges);
             assert!(rt; dag.can_add_node());
             assert_eq!(rt; dag.add_node(refused)?.index(), weight);
-            Ok(1)
+            Ok(true)
         }
         Err(NodeError::Full(_)) => panic!(rt; "an index is left"),
     }
 }
 
 // Adds an edge from the root to a node, likewise.
-fn add_edge_again(rt: &impl Abort, dag: &mut Dag<usize, usize>, child: NodeIndex) -> Result<usize, Fail> {
+fn add_edge_again(rt: &impl Abort, dag: &mut Dag<usize, usize>, child: NodeIndex) -> Result<bool, Fail> {
     let edges = dag.edge_count();
     let nodes = dag.node_count();
     let root = NodeIndex::new(0);
@@ -53,7 +54,7 @@ fn add_edge_again(rt: &impl Abort, dag: &mut Dag<usize, usize>, child: NodeIndex
     match dag.add_edge(root, child, edges + 100) {
         Ok(e) => {
             assert_eq!(rt; e.index(), edges);
-            Ok(0)
+            Ok(false)
         }
         Err(EdgeError::Memory(refused)) => {
             assert_eq!(rt; refused, edges + 100);
@@ -62,7 +63,7 @@ fn add_edge_again(rt: &impl Abort, dag: &mut Dag<usize, usize>, child: NodeIndex
             assert!(rt; dag.node_weight(child).is_some());
             assert!(rt; dag.can_add_edge());
             assert_eq!(rt; dag.add_edge(root, child, refused)?.index(), edges);
-            Ok(1)
+            Ok(true)
         }
         _ => panic!(rt; "no other refusal has a cause"),
     }
@@ -71,12 +72,17 @@ fn add_edge_again(rt: &impl Abort, dag: &mut Dag<usize, usize>, child: NodeIndex
 #[test]
 fn a_refused_allocation_is_answered_and_nothing_else(rt: HostRuntime) -> Result<(), Fail> {
     let mut dag: Dag<usize, usize> = Dag::new(rt.alloc());
-    let mut refusals = add_node_again(&rt, &mut dag, 0)?;
+    let mut refused = add_node_again(&rt, &mut dag, 0)?;
     for i in 0..20 {
-        refusals += add_node_again(&rt, &mut dag, i)?;
-        refusals += add_edge_again(&rt, &mut dag, NodeIndex::new(i + 1))?;
+        if add_node_again(&rt, &mut dag, i)? {
+            assert!(rt; !refused, "a second refusal");
+            refused = true;
+        }
+        if add_edge_again(&rt, &mut dag, NodeIndex::new(i + 1))? {
+            assert!(rt; !refused, "a second refusal");
+            refused = true;
+        }
         assert_fan(&rt, &dag, i + 2, i + 1);
     }
-    assert!(rt; refusals <= 1);
     Ok(())
 }
