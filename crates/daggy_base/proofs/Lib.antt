@@ -9,4 +9,8 @@ pub mod Adding
 pub mod Nodes
 pub mod Removing
 pub mod NodeRemoving
+pub mod Finding
+pub mod Neighbors
+pub mod NodeTaking
+pub mod Reweighing
 pub mod TakingBack

@@ -10,7 +10,7 @@ use Rattle.daggy_graph.specs.declared.graph.Node.{Node}
 use Rattle.daggy_graph.specs.declared.graph.Edge.{Edge}
 use Rattle.daggy_base.specs.declared.index.Direction.{Direction}
 use Rattle.daggy_base.specs.declared.index.Direction.TheVariants.{Outgoing, Incoming}
-use Rattle.daggy_graph.specs.Reweighing.{reweighed}
+use Rattle.daggy_base.specs.Weights.{reweighed}
 use Rattle.daggy_graph.specs.Raw.{raw_first, raw_next}
 use Rattle.daggy_graph.specs.Stored.{weight_of, with_first, with_next, plain_edge, end_at, firsts_of, nexts_of, ends_of, walks, stored_graph, Stores, KeepsNodes, KeepsEdges}
 use Rattle.daggy_graph.proofs.Threads.{rows_are, IsLinked-node, ListsEach-node, IsLinked-edge, ListsEach-edge}

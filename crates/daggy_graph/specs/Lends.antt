@@ -3,7 +3,7 @@ use Rattle.std.specs.Prelude.{◌≡◌, ℕ, Bool, List, Option}
 use Rattle.std.specs.Borrow.{Lends, LendsIf, Fml, RattleType, MutBor}
 use Rattle.std.specs.declared.cmp.Ordering.{Ordering}
 use Rattle.daggy_base.specs.State.{State, with_graph}
-use Rattle.daggy_graph.specs.Reweighing.{with_node_weight, with_edge_weight}
+use Rattle.daggy_base.specs.Weights.{with_node_weight, with_edge_weight}
 use Rattle.daggy_graph.specs.contracts.graph.DiGraph.{the_row}
 
 -- what a clause has as Ix.IndexType

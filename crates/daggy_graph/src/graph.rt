@@ -1,15 +1,15 @@
 //! A directed graph whose nodes and edges fill the indices from 0 on.
-ghost use Rattle.std.specs.Prelude.{◌≡◌, ℕ, ◌<◌, ◌↔◌, length, IsTrue, option_copied, IfOk, OnOk, IfErr, OnErr};
+ghost use Rattle.std.specs.Prelude.{◌≡◌, ℕ, ◌<◌, ◌↔◌, IsTrue, IfOk, OnOk, IfErr, OnErr};
 ghost use Rattle.std.specs.Option.{option_map};
-ghost use Rattle.daggy_base.specs.Graph.{empty, node_weight as weight_at, edge_at, HasNode, HasEdge, node_count as node_count_of, edge_count as edge_count_of, list_at, ends_of, pair_of, IsCompact};
+ghost use Rattle.daggy_base.specs.Graph.{empty, edge_at, HasNode, HasEdge, node_count as node_count_of, edge_count as edge_count_of, list_at, ends_of, pair_of};
 ghost use Rattle.daggy_base.specs.Adding.{next_node, next_edge as next_edge_of, with_node, with_edge};
 ghost use Rattle.daggy_base.specs.Finding.{find_edge as edge_between};
 ghost use Rattle.daggy_base.specs.Cursor.{first_of, cursor_after};
-ghost use Rattle.daggy_base.specs.WellFormed.{IsWellFormed};
 ghost use Rattle.daggy_base.specs.State.{with_graph};
 ghost use Rattle.daggy_base.specs.declared.error.NodeError.TheVariants.{Memory as NodeMemory};
 ghost use Rattle.daggy_base.specs.declared.error.EdgeError.TheVariants.{Memory as EdgeMemory};
 
+mod count;
 mod links;
 pub mod raw;
 mod removal;
@@ -79,44 +79,6 @@ impl<N, E, Ix: IndexType> DiGraph<N, E, Ix> {
             edges: Vec::new(alloc),
             looks: Looks::new(),
         }
-    }
-
-    /// How many nodes there are.
-    #[inline]
-    pub fn node_count(&self) -> usize
-        ensures count { result ≡ node_count_of self.now.graph }
-        ensures slots { result ≡ length self.now.graph.nodes }
-        ensures well_formed { IsWellFormed Ix.greatest self.now.graph }
-        ensures compact { IsCompact self.now.graph }
-    {
-        self.nodes.len()
-    }
-
-    /// How many edges there are.
-    #[inline]
-    pub fn edge_count(&self) -> usize
-        ensures count { result ≡ edge_count_of self.now.graph }
-        ensures slots { result ≡ length self.now.graph.edges }
-        ensures well_formed { IsWellFormed Ix.greatest self.now.graph }
-        ensures compact { IsCompact self.now.graph }
-    {
-        self.edges.len()
-    }
-
-    /// Whether the index type has an index left for one more node.
-    #[inline]
-    pub fn can_add_node(&self) -> bool
-        ensures { IsTrue result ↔ (node_count_of self.now.graph < Ix.greatest) }
-    {
-        self.nodes.len() < NodeIndex::<Ix>::end().index()
-    }
-
-    /// Whether the index type has an index left for one more edge.
-    #[inline]
-    pub fn can_add_edge(&self) -> bool
-        ensures { IsTrue result ↔ (edge_count_of self.now.graph < Ix.greatest) }
-    {
-        self.edges.len() < EdgeIndex::<Ix>::end().index()
     }
 
     /// Whether the node exists.
@@ -195,28 +157,6 @@ impl<N, E, Ix: IndexType> DiGraph<N, E, Ix> {
         self.nodes[u].first_out = e;
         self.nodes[v].first_in = e;
         Ok(e.edge())
-    }
-
-    /// The weight of a node, if the node exists.
-    #[inline]
-    pub fn node_weight(&self, n: NodeIndex<Ix>) -> Option<&N>
-        ensures { option_copied result ≡ weight_at self.now.graph (Ix.number n) }
-    {
-        match self.nodes.get(n.index()) {
-            Some(x) => Some(&x.weight),
-            None => None,
-        }
-    }
-
-    /// The weight of an edge, if the edge exists.
-    #[inline]
-    pub fn edge_weight(&self, e: EdgeIndex<Ix>) -> Option<&E>
-        ensures { option_copied result ≡ option_map (λ x. x.weight) (edge_at self.now.graph (Ix.number e)) }
-    {
-        match self.edges.get(e.index()) {
-            Some(x) => Some(&x.weight),
-            None => None,
-        }
     }
 
     /// The parent and the child of an edge, if the edge exists.

@@ -1,9 +1,10 @@
 //! Removing edges and nodes.
-ghost use Rattle.std.specs.Prelude.{◌≡◌, ℕ, length, OnSome, IfNone, Some, []};
+ghost use Rattle.std.specs.Prelude.{◌≡◌, ℕ, ◌≤◌, length, OnSome, IfNone, Some, []};
 ghost use Rattle.std.specs.Option.{option_map};
 ghost use Rattle.daggy_base.specs.declared.index.Direction.{Direction};
-ghost use Rattle.daggy_base.specs.Graph.{node_weight, edge_at, HasNode, list_at};
-ghost use Rattle.daggy_base.specs.Removal.{Compact, without_edge, without_front, without_node, dropped_node, without_all_edges, cleared};
+ghost use Rattle.daggy_base.specs.Graph.{empty, node_weight, edge_at, HasNode, list_at};
+ghost use Rattle.daggy_base.specs.Removal.{Compact, without_edge, without_front, without_node, isolated, dropped_node, without_all_edges};
+ghost use Rattle.daggy_base.specs.WellFormed.{IsIsolated};
 ghost use Rattle.daggy_base.specs.State.{with_graph};
 
 use crate::graph::links::{detach, reown_last, unlink_all};
@@ -48,13 +49,16 @@ impl<N, E, Ix: IndexType> DiGraph<N, E, Ix> {
         E: Drop,
         ensures value { result ≡ node_weight self.old.graph (Ix.number n) }
         ensures removed { OnSome result (self.new ≡ with_graph self.old (without_node Compact self.old.graph (Ix.number n))) }
+        ensures between { OnSome result (IsIsolated Ix.greatest (isolated Compact self.old.graph (Ix.number n)) (Ix.number n)) }
         ensures missing { IfNone result (self.new ≡ self.old) }
+        ensures slots { length self.new.graph.nodes ≤ length self.old.graph.nodes }
     {
         if self.node_weight(n).is_none() {
             return None;
         }
         self.clear_front(n, Direction::Outgoing);
         self.clear_front(n, Direction::Incoming);
+        let _well_formed = self.edge_count();
         Some(self.drop_node(n))
     }
 
@@ -77,11 +81,12 @@ impl<N, E, Ix: IndexType> DiGraph<N, E, Ix> {
     }
 
     // Removes a node that has no edges, and the node with the last index gets its index.
-    fn drop_node(&mut self, n: NodeIndex<Ix>) -> N
+    pub(super) fn drop_node(&mut self, n: NodeIndex<Ix>) -> N
         requires node { HasNode self.old.graph (Ix.number n) }
         requires no_edges { (d : Direction) → list_at d self.old.graph (Ix.number n) ≡ [] }
         ensures value { node_weight self.old.graph (Ix.number n) ≡ Some result }
         ensures dropped { self.new ≡ with_graph self.old (dropped_node Compact self.old.graph (Ix.number n)) }
+        ensures slots { length self.new.graph.nodes ≤ length self.old.graph.nodes }
     {
         let i = n.index();
         reown_last(&self.nodes, &mut self.edges, Link::of_node(n));
@@ -100,7 +105,7 @@ impl<N, E, Ix: IndexType> DiGraph<N, E, Ix> {
     where
         N: Drop,
         E: Drop,
-        ensures { self.new ≡ with_graph self.old (cleared self.old.graph) }
+        ensures { self.new ≡ with_graph self.old empty }
     {
         self.nodes.clear();
         self.edges.clear();

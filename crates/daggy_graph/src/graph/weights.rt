@@ -1,10 +1,10 @@
-//! Writing weights, and reading them by `[]`.
-ghost use Rattle.std.specs.Prelude.{◌≡◌, ℕ, Some};
+//! Reading and writing weights.
+ghost use Rattle.std.specs.Prelude.{◌≡◌, Some, option_copied};
 ghost use Rattle.std.specs.Borrow.{sem};
 ghost use Rattle.std.specs.Option.{option_map, option_copied_mut};
 ghost use Rattle.daggy_base.specs.Graph.{node_weight as weight_at, edge_at, HasNode, HasEdge};
 ghost use Rattle.daggy_base.specs.State.{with_graph};
-ghost use Rattle.daggy_graph.specs.Reweighing.{with_edge_weight};
+ghost use Rattle.daggy_base.specs.Weights.{with_edge_weight};
 ghost use Rattle.daggy_graph.specs.Lends.{lends_node, lends_node_if, lends_edge, lends_edge_if};
 
 use crate::graph::DiGraph;
@@ -13,13 +13,35 @@ use std::mem;
 use std::ops::{Index, IndexMut};
 
 impl<N, E, Ix: IndexType> DiGraph<N, E, Ix> {
+    /// The weight of a node, if the node exists.
+    #[inline]
+    pub fn node_weight(&self, n: NodeIndex<Ix>) -> Option<&N>
+        ensures { option_copied result ≡ weight_at self.now.graph (Ix.number n) }
+    {
+        match self.nodes.get(n.index()) {
+            Some(x) => Some(&x.weight),
+            None => None,
+        }
+    }
+
+    /// The weight of an edge, if the edge exists.
+    #[inline]
+    pub fn edge_weight(&self, e: EdgeIndex<Ix>) -> Option<&E>
+        ensures { option_copied result ≡ option_map (λ x. x.weight) (edge_at self.now.graph (Ix.number e)) }
+    {
+        match self.edges.get(e.index()) {
+            Some(x) => Some(&x.weight),
+            None => None,
+        }
+    }
+
     /// The weight of a node, to be written, if the node exists.
     #[inline]
     pub fn node_weight_mut(&mut self, n: NodeIndex<Ix>) -> Option<&mut N>
         ensures* writes_back { sem 𝓛 (lends_node_if N.row E.row Ix.row Ix.IndexType self.entry n result) }
         ensures value { option_copied_mut result ≡ weight_at self.old.graph (Ix.number n) }
     {
-        if n.index() < self.nodes.len() {
+        if self.contains_node(n) {
             Some(self.node_mut(n))
         } else {
             None
@@ -32,7 +54,7 @@ impl<N, E, Ix: IndexType> DiGraph<N, E, Ix> {
         ensures* writes_back { sem 𝓛 (lends_edge_if N.row E.row Ix.row Ix.IndexType self.entry e result) }
         ensures value { option_copied_mut result ≡ option_map (λ x. x.weight) (edge_at self.old.graph (Ix.number e)) }
     {
-        if e.index() < self.edges.len() {
+        if self.contains_edge(e) {
             Some(self.edge_mut(e))
         } else {
             None

@@ -1,7 +1,7 @@
 use Rattle.std.proofs.Common.{◌<◌, length, refl, sym, ap, ◌∙◌, arith}
 use Rattle.std.specs.Option.{option_map}
 use Rattle.daggy_base.specs.Graph.{edge_at}
-use Rattle.daggy_graph.specs.Reweighing.{with_edge_weight}
+use Rattle.daggy_base.specs.Weights.{with_edge_weight}
 use Rattle.daggy_graph.specs.Stored.{plain, stored_graph}
 use Rattle.daggy_graph.proofs.States.{state_changed}
 use Rattle.daggy_graph.proofs.StoredLemmas.{stored_is, Stores-itself, Stores-edge_weight, slot_within, slot_is}

@@ -1,6 +1,6 @@
 use Rattle.std.proofs.Common.{◌<◌, length, refl, sym, ap, ◌∙◌, arith}
 use Rattle.daggy_base.specs.Graph.{node_weight}
-use Rattle.daggy_graph.specs.Reweighing.{with_node_weight}
+use Rattle.daggy_base.specs.Weights.{with_node_weight}
 use Rattle.daggy_graph.specs.Stored.{stored_graph}
 use Rattle.daggy_graph.proofs.States.{state_changed}
 use Rattle.daggy_graph.proofs.StoredLemmas.{stored_is, Stores-itself, Stores-weight, slot_within, slot_is}
