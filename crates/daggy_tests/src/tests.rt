@@ -5,6 +5,8 @@ mod errors;
 mod graphs;
 mod indices;
 mod large;
+mod removing;
 mod searching;
 mod support;
+mod updating;
 mod walking;

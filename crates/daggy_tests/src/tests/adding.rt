@@ -1,7 +1,7 @@
 use daggy::{Dag, EdgeIndex, NodeIndex, Walker};
 use std::test::Fail;
 
-use super::support::{add_edge, add_node, children_of, closes_cycle};
+use super::support::{add_child, add_edge, add_node, children_of, closes_cycle};
 
 #[test]
 fn a_new_dag_is_empty(rt: HostRuntime) -> Result<(), Fail> {
@@ -32,9 +32,10 @@ fn an_edge_from_a_node_to_itself_is_refused(rt: HostRuntime) -> Result<(), Fail>
 fn children_come_newest_first(rt: HostRuntime) -> Result<(), Fail> {
     let mut dag: Dag<u8, u8> = Dag::new(rt.alloc());
     let root = add_node(&rt, &mut dag, 0)?;
-    for weight in 1..4 {
-        let child = add_node(&rt, &mut dag, weight)?;
-        add_edge(&rt, &mut dag, root, child, weight)?;
+    for weight in 1..4u8 {
+        let added = add_child(&rt, &mut dag, root, weight, weight)?;
+        assert_eq!(rt; added.0.index(), weight as usize - 1);
+        assert_eq!(rt; added.1.index(), weight as usize);
     }
     let children = children_of(rt.alloc(), &dag, root)?;
     assert_eq!(rt; children.as_slice(), [(2, 3), (1, 2), (0, 1)].as_slice());

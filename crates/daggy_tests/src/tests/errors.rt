@@ -1,4 +1,4 @@
-use daggy::{EdgeError, NodeError, WouldCycle};
+use daggy::{ChildError, EdgeError, NodeError, WouldCycle};
 use std::error::Error;
 use std::test::Fail;
 
@@ -41,6 +41,9 @@ fn errors_say_what_went_wrong(rt: HostRuntime) -> Result<(), Fail> {
         assert_eq!(rt; format!(in alloc; "{error}")?.as_str(), text);
     }
     assert!(rt; is_error(&node_memory));
+    let child: ChildError<u8, u16> = ChildError::Memory(2, 1);
+    assert_eq!(rt; format!(in alloc; "{child}")?.as_str(), "out of memory");
+    assert!(rt; is_error(&child));
     assert!(rt; is_error(&WouldCycle(Unprinted)));
     Ok(())
 }
