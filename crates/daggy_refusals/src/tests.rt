@@ -1,5 +1,5 @@
 //! Each call is made again after a refusal, and must then succeed.
-use daggy::{Dag, EdgeError, NodeError, NodeIndex, Walker};
+use daggy::{ChildError, Dag, EdgeError, NodeError, NodeIndex, Walker};
 use std::process::Abort;
 use std::test::Fail;
 
@@ -69,6 +69,35 @@ fn add_edge_again(rt: &impl Abort, dag: &mut Dag<usize, usize>, child: NodeIndex
     }
 }
 
+// Adds a node below the root, likewise.
+fn add_child_again(rt: &impl Abort, dag: &mut Dag<usize, usize>) -> Result<bool, Fail> {
+    let edges = dag.edge_count();
+    let nodes = dag.node_count();
+    let root = NodeIndex::new(0);
+    assert!(rt; edges < 100);
+    assert!(rt; dag.node_weight(root).is_some());
+    assert!(rt; dag.can_add_edge());
+    assert!(rt; dag.can_add_node());
+    match dag.add_child(root, edges + 100, nodes) {
+        Ok(added) => {
+            assert_eq!(rt; added.0.index(), edges);
+            assert_eq!(rt; added.1.index(), nodes);
+            Ok(false)
+        }
+        Err(ChildError::Memory(edge, node)) => {
+            assert_eq!(rt; edge, edges + 100);
+            assert_eq!(rt; node, nodes);
+            assert_fan(rt, dag, nodes, edges);
+            assert!(rt; dag.node_weight(root).is_some());
+            assert!(rt; dag.can_add_edge());
+            assert!(rt; dag.can_add_node());
+            let added = dag.add_child(root, edge, node)?;
+            assert_eq!(rt; added.0.index(), edges);
+            Ok(true)
+        }
+    }
+}
+
 #[test]
 fn a_refused_allocation_is_answered_and_nothing_else(rt: HostRuntime) -> Result<(), Fail> {
     let mut dag: Dag<usize, usize> = Dag::new(rt.alloc());
@@ -79,6 +108,20 @@ fn a_refused_allocation_is_answered_and_nothing_else(rt: HostRuntime) -> Result<
             refused = true;
         }
         if add_edge_again(&rt, &mut dag, NodeIndex::new(i + 1))? {
+            assert!(rt; !refused, "a second refusal");
+            refused = true;
+        }
+        assert_fan(&rt, &dag, i + 2, i + 1);
+    }
+    Ok(())
+}
+
+#[test]
+fn a_refused_child_comes_back_with_its_edge(rt: HostRuntime) -> Result<(), Fail> {
+    let mut dag: Dag<usize, usize> = Dag::new(rt.alloc());
+    let mut refused = add_node_again(&rt, &mut dag, 0)?;
+    for i in 0..20 {
+        if add_child_again(&rt, &mut dag)? {
             assert!(rt; !refused, "a second refusal");
             refused = true;
         }
