@@ -8,3 +8,4 @@ pub mod Endings
 pub mod Steps
 pub mod Serving
 pub mod Ends
+pub mod Failing

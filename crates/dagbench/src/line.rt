@@ -24,6 +24,7 @@ impl Model for Line {
 }
 
 impl Line {
+    /// Nothing is kept yet. All the room is taken here.
     pub fn new(alloc: Global) -> Result<Line, AllocError>
         ensures { IfOk result (λ line. line ≡ []) }
     {
@@ -40,18 +41,21 @@ impl Line {
         let _ = self.bytes.extend_from_slice(front);
     }
 
+    /// Begins the next line.
     pub fn clear(&mut self)
         ensures { self.new ≡ [] }
     {
         self.bytes.clear();
     }
 
+    /// Whether nothing is kept.
     pub fn is_empty(&self) -> bool
         ensures { result ≡ (length self.now == 0) }
     {
         self.bytes.is_empty()
     }
 
+    /// What is kept.
     pub fn as_slice(&self) -> &[u8]
         ensures { result.now ≡ self.now }
     {

@@ -26,6 +26,7 @@ impl Model for Output {
 }
 
 impl Output {
+    /// Nothing is pending. All the room is taken here.
     pub fn new(alloc: Global) -> Result<Output, AllocError>
         ensures { IfOk result (λ output. output ≡ []) }
     {

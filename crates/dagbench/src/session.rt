@@ -15,8 +15,11 @@ use std::alloc::{AllocError, Global};
 /// The graph, the line whose newline has not come, and the answers that the sink has not taken.
 #[derive(Drop)]
 pub struct Session {
+    /// The graph.
     pub dag: Weighted,
+    /// The line whose newline has not come.
     pub line: Line,
+    /// The answers that the sink has not taken.
     pub output: Output,
 }
 
