@@ -9,4 +9,9 @@ pub mod Adding
 pub mod Nodes
 pub mod Removing
 pub mod NodeRemoving
+pub mod Finding
+pub mod Neighbors
+pub mod Unreached
+pub mod NodeTaking
+pub mod Reweighing
 pub mod TakingBack

@@ -10,3 +10,5 @@ pub mod Finding
 pub mod Look
 pub mod State
 pub mod Room
+pub mod Weights
+pub mod Errors

@@ -1,4 +1,7 @@
 //! Why a node or an edge was not added. Each error hands back the weights that the call took.
+ghost use Rattle.std.specs.Prelude.{◌≡◌};
+ghost use Rattle.daggy_base.specs.Errors.{node_weight_of, edge_weight_of};
+
 use std::{error, fmt};
 use thiserror::Error;
 
@@ -33,6 +36,17 @@ pub enum NodeError<N> {
     Full(N),
 }
 
+impl<N> NodeError<N> {
+    /// The weight that comes back.
+    pub fn into_weight(self) -> N
+        ensures { result ≡ node_weight_of self }
+    {
+        match self {
+            NodeError::Memory(weight) | NodeError::Full(weight) => weight,
+        }
+    }
+}
+
 /// An edge was not added. It holds the weight of that edge.
 #[derive(Debug, Drop, Error)]
 pub enum EdgeError<E> {
@@ -51,4 +65,27 @@ pub enum EdgeError<E> {
     /// There was no memory for a node that the edge asked for.
     #[error("out of memory for a node")]
     NodeMemory(E),
+}
+
+impl<E> EdgeError<E> {
+    /// The weight that comes back.
+    pub fn into_weight(self) -> E
+        ensures { result ≡ edge_weight_of self }
+    {
+        match self {
+            EdgeError::WouldCycle(WouldCycle(weight)) => weight,
+            EdgeError::Memory(weight)
+            | EdgeError::BadEndpoint(weight)
+            | EdgeError::Full(weight)
+            | EdgeError::NodeMemory(weight) => weight,
+        }
+    }
+}
+
+/// A node with an edge to it, or from it, was not added. It holds the weights of that edge and of that node.
+#[derive(Debug, Drop, Error)]
+pub enum ChildError<N, E> {
+    /// There was no memory for the node or for the edge.
+    #[error("out of memory")]
+    Memory(E, N),
 }

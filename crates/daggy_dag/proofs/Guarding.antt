@@ -1,10 +1,12 @@
 -- A change that either succeeded or left the graph as it was keeps it acyclic.
-use Rattle.std.proofs.Common.{◌≡◌, ℕ, ◌≤◌, length, Result, Ok, Err, OnOk, OnErr, sym, subst, ◌∙◌, arith}
+use Rattle.std.proofs.Common.{◌≡◌, ℕ, ◌≤◌, length, Result, Ok, Err, OnOk, OnErr, Option, Some, None, OnSome, IfNone, sym, ap, subst, ◌∙◌, arith}
 use Rattle.daggy_base.specs.Graph.{Graph, HasNode, node_bound}
 use Rattle.daggy_base.specs.Path.{Reaches, IsAcyclic}
 use Rattle.daggy_base.specs.Adding.{with_node, with_edge}
 use Rattle.daggy_base.specs.WellFormed.{IsWellFormed}
 use Rattle.daggy_base.proofs.Adding.{acyclic_after}
+use Rattle.daggy_base.specs.Removal.{Kind, without_edge}
+use Rattle.daggy_base.proofs.Removing.{acyclic_without_edge, bound_same}
 use Rattle.daggy_base.proofs.Nodes.{acyclic_node_after, fits_after}
 
 pub acyclic_kept : {N E : Type 0} (old new : Graph N E) → IsAcyclic old → new ≡ old → IsAcyclic new
@@ -26,3 +28,13 @@ node_fits (Ok n) old new w slots before after many had more room added kept = fi
 node_fits {R} {F} {N} {E} (Err e) old new w slots before after many had more room added kept =
     let P : Graph N E → Type 0 = λ z. node_bound z ≤ after in
     subst P (sym kept) (omega arith)
+
+-- a graph without the edge, whether it was there or not
+module _ {A N E : Type 0} (kind : Kind) (old new : Graph N E) (e : ℕ) where
+  pub acyclic_edge_gone : (r : Option A) → OnSome r (new ≡ without_edge kind old e) → IfNone r (new ≡ old) → IsAcyclic old → IsAcyclic new
+  acyclic_edge_gone None removed missing acyclic = acyclic_kept old new acyclic missing
+  acyclic_edge_gone (Some a) removed missing acyclic = acyclic_kept (without_edge kind old e) new (acyclic_without_edge kind old e acyclic) removed
+
+  pub bound_edge_gone : (r : Option A) → OnSome r (new ≡ without_edge kind old e) → IfNone r (new ≡ old) → node_bound new ≡ node_bound old
+  bound_edge_gone None removed missing = ap node_bound missing
+  bound_edge_gone (Some a) removed missing = ap node_bound removed ∙ bound_same kind old e

@@ -1,1 +1,3 @@
 pub mod Guarding
+pub mod NewNode
+pub mod Writing

@@ -1,27 +1,39 @@
 //! The compact dag.
-ghost use Rattle.std.specs.Prelude.{◌≡◌, ℕ, ◌+◌, ◌<◌, ◌≤◌, ◌↔◌, ◌⊎◌, IsTrue, Err, IfOk, IfErr, OnErr, option_copied};
+ghost use Rattle.std.specs.Prelude.{◌≡◌, ℕ, ◌+◌, ◌<◌, ◌≤◌, ◌↔◌, ◌⊎◌, IsTrue, Err, None, IfOk, IfErr, OnErr, OnSome, IfSome, IfNone, IsOkAnd, option_copied};
 ghost use Rattle.std.specs.Option.{option_map};
-ghost use Rattle.daggy_base.specs.Graph.{empty, HasNode, node_weight as weight_at, edge_at, ends_of, pair_of, node_count as node_count_of, edge_count as edge_count_of, out_list};
+ghost use Rattle.daggy_base.specs.Graph.{empty, HasNode, node_weight as weight_at, edge_at, ends_of, pair_of, node_count as node_count_of, edge_count as edge_count_of, out_list, in_list};
 ghost use Rattle.daggy_base.specs.Path.{Reaches, IsAcyclic};
 ghost use Rattle.daggy_base.specs.WellFormed.{IsDag};
-ghost use Rattle.daggy_base.specs.Adding.{next_node, next_edge, with_node, with_edge};
+ghost use Rattle.daggy_base.specs.Adding.{next_node, next_edge, with_node, with_edge, with_neighbor};
+ghost use Rattle.daggy_base.specs.Removal.{Compact, without_edge, without_node, without_all_edges};
+ghost use Rattle.daggy_base.specs.Weights.{edge_weight as edge_weight_at, with_edge_weight};
 ghost use Rattle.daggy_base.specs.Finding.{find_edge as edge_between};
-ghost use Rattle.daggy_base.specs.Cursor.{first_of, IsStep};
-ghost use Rattle.daggy_base.specs.declared.index.Direction.TheVariants.{Outgoing};
+ghost use Rattle.daggy_base.specs.Cursor.{first_of};
+ghost use Rattle.daggy_base.specs.State.{with_graph};
+ghost use Rattle.daggy_base.specs.declared.index.Direction.TheVariants.{Outgoing, Incoming};
 ghost use Rattle.daggy_base.specs.declared.error.NodeError.TheVariants.{Memory as NodeMemory};
 ghost use Rattle.daggy_base.specs.declared.error.EdgeError.TheVariants.{WouldCycle as ByCycle, Memory as EdgeMemory};
-
-use std::alloc::{AllocError, Global};
-use std::marker::{Model, PhantomData};
-
-use daggy_base::error::{EdgeError, NodeError};
-use daggy_base::index::{DefaultIx, Direction, EdgeIndex, IndexType, NodeIndex};
-use daggy_base::search::Scratch;
-use daggy_graph::graph::DiGraph;
-use daggy_walk::walker::Walker;
+ghost use Rattle.daggy_base.specs.declared.error.ChildError.TheVariants.{Memory as ChildMemory};
+ghost use Rattle.daggy_graph.specs.Raw.{ShowsNodes, ShowsEdges};
 
 use crate::guard;
-use crate::walk;
+use daggy_base::error::{ChildError, EdgeError, NodeError};
+use daggy_base::index::{DefaultIx, Direction, EdgeIndex, IndexType, NodeIndex};
+use daggy_base::search::Scratch;
+use daggy_graph::graph::{DiGraph, Edge, Node};
+use std::alloc::Global;
+use std::marker::{Model, PhantomData};
+
+mod walkers;
+mod weights;
+
+pub use walkers::{Children, Parents};
+
+/// The nodes of a dag as they are stored, by index.
+pub type RawNodes<'a, N, Ix> = &'a [Node<N, Ix>];
+
+/// The edges of a dag as they are stored, by index.
+pub type RawEdges<'a, E, Ix> = &'a [Edge<E, Ix>];
 
 /// A directed graph that never has a cycle, with weights of type `N` at its nodes and of type `E` at its edges.
 ///
@@ -48,7 +60,7 @@ impl<N, E, Ix: IndexType> Model for Dag<N, E, Ix> {
     ghost invariant = { λ d. IsAcyclic d.graph.graph × (node_bound d.graph.graph ≤ d.scratch.nodes) };
 }
 
-impl<N, E, Ix: IndexType> Dag<N, E, Ix> {
+impl<N: Drop, E: Drop, Ix: IndexType> Dag<N, E, Ix> {
     /// An empty dag. Takes no memory.
     pub fn new(alloc: Global) -> Self
         ensures { result ≡ record { graph = empty; looks = 0 } }
@@ -104,7 +116,7 @@ impl<N, E, Ix: IndexType> Dag<N, E, Ix> {
     /// The weight of an edge, or `None` if there is no such edge.
     #[inline]
     pub fn edge_weight(&self, e: EdgeIndex<Ix>) -> Option<&E>
-        ensures { option_copied result ≡ option_map (λ x. x.weight) (edge_at self.now.graph (Ix.number e)) }
+        ensures { option_copied result ≡ edge_weight_at self.now.graph (Ix.number e) }
     {
         self.graph.edge_weight(e)
     }
@@ -143,7 +155,12 @@ impl<N, E, Ix: IndexType> Dag<N, E, Ix> {
     ///
     /// The refusal `WouldCycle` says that a path leads from `b` to `a`, so the edge would close a cycle. It is decided
     /// first, by a search from `b` that takes no memory. The refusal `Memory` says that there was no memory for the edge.
-    pub fn add_edge(&mut self, a: NodeIndex<Ix>, b: NodeIndex<Ix>, weight: E) -> Result<EdgeIndex<Ix>, EdgeError<E>>
+    pub fn add_edge(
+        &mut self,
+        a: NodeIndex<Ix>,
+        b: NodeIndex<Ix>,
+        weight: E,
+    ) -> Result<EdgeIndex<Ix>, EdgeError<E>>
         requires parent { HasNode self.old.graph (Ix.number a) }
         requires child { HasNode self.old.graph (Ix.number b) }
         requires room { edge_count_of self.old.graph < Ix.greatest }
@@ -158,6 +175,145 @@ impl<N, E, Ix: IndexType> Dag<N, E, Ix> {
         guard::add_edge(&mut self.graph, &mut self.scratch, a, b, weight)
     }
 
+    /// Writes the weight of the edge that [`find_edge`](Dag::find_edge) gives between `a` and `b`, or adds an edge as
+    /// [`add_edge`](Dag::add_edge) if there is none. It gives the index of that edge.
+    ///
+    /// Where the two nodes are joined it cannot fail, and the weight from before is dropped.
+    pub fn update_edge(
+        &mut self,
+        a: NodeIndex<Ix>,
+        b: NodeIndex<Ix>,
+        weight: E,
+    ) -> Result<EdgeIndex<Ix>, EdgeError<E>>
+        requires parent { HasNode self.old.graph (Ix.number a) }
+        requires child { HasNode self.old.graph (Ix.number b) }
+        requires room { edge_between self.old.graph (Ix.number a) (Ix.number b) ≡ None → edge_count_of self.old.graph < Ix.greatest }
+        ensures replaced { IfSome (edge_between self.old.graph (Ix.number a) (Ix.number b)) (λ e.
+            IsOkAnd result (λ updated. Ix.number updated ≡ e) × (self.new ≡ with_graph self.old (with_edge_weight self.old.graph e weight))) }
+        ensures cycle { (result ≡ Err (ByCycle (record { 0 = weight }))) ↔ Reaches self.old.graph (Ix.number b) (Ix.number a) }
+        ensures refusal { IfErr result (λ e. (e ≡ ByCycle (record { 0 = weight })) ⊎ (e ≡ EdgeMemory weight)) }
+        ensures added { edge_between self.old.graph (Ix.number a) (Ix.number b) ≡ None → IfOk result (λ e.
+            (Ix.number e ≡ next_edge self.old.graph)
+            × (self.new.graph ≡ with_edge self.old.graph (Ix.number a) (Ix.number b) weight)) }
+        ensures unchanged { OnErr result (self.new.graph ≡ self.old.graph) }
+        ensures acyclic { IsAcyclic self.new.graph }
+        ensures counted { self.new.looks ≤ self.old.looks + edge_count_of self.old.graph }
+    {
+        guard::update_edge(&mut self.graph, &mut self.scratch, a, b, weight)
+    }
+
+    /// Adds a node and an edge from `parent` to it, or neither. It gives both indices.
+    ///
+    /// It needs no search, so it costs less than adding the one and then the other. The refusal hands both weights back.
+    pub fn add_child(
+        &mut self,
+        parent: NodeIndex<Ix>,
+        edge: E,
+        node: N,
+    ) -> Result<(EdgeIndex<Ix>, NodeIndex<Ix>), ChildError<N, E>>
+        requires parent { HasNode self.old.graph (Ix.number parent) }
+        requires edge_room { edge_count_of self.old.graph < Ix.greatest }
+        requires node_room { node_count_of self.old.graph < Ix.greatest }
+        ensures added { IfOk result (λ r. (Ix.number r.0 ≡ next_edge self.old.graph) × (Ix.number r.1 ≡ next_node self.old.graph)
+            × (self.new ≡ with_graph self.old (with_neighbor Outgoing self.old.graph (Ix.number parent) edge node))) }
+        ensures refusal { IfErr result (λ e. e ≡ ChildMemory edge node) }
+        ensures unchanged { OnErr result (self.new ≡ self.old) }
+        ensures acyclic { IsAcyclic self.new.graph }
+    {
+        guard::add_neighbor(
+            &mut self.graph,
+            &mut self.scratch,
+            parent,
+            Direction::Outgoing,
+            edge,
+            node,
+        )
+    }
+
+    /// Adds a node and an edge from it to `child`, or neither. It gives both indices.
+    ///
+    /// It needs no search, so it costs less than adding the one and then the other. The refusal hands both weights back.
+    pub fn add_parent(
+        &mut self,
+        child: NodeIndex<Ix>,
+        edge: E,
+        node: N,
+    ) -> Result<(EdgeIndex<Ix>, NodeIndex<Ix>), ChildError<N, E>>
+        requires child { HasNode self.old.graph (Ix.number child) }
+        requires edge_room { edge_count_of self.old.graph < Ix.greatest }
+        requires node_room { node_count_of self.old.graph < Ix.greatest }
+        ensures added { IfOk result (λ r. (Ix.number r.0 ≡ next_edge self.old.graph) × (Ix.number r.1 ≡ next_node self.old.graph)
+            × (self.new ≡ with_graph self.old (with_neighbor Incoming self.old.graph (Ix.number child) edge node))) }
+        ensures refusal { IfErr result (λ e. e ≡ ChildMemory edge node) }
+        ensures unchanged { OnErr result (self.new ≡ self.old) }
+        ensures acyclic { IsAcyclic self.new.graph }
+    {
+        guard::add_neighbor(
+            &mut self.graph,
+            &mut self.scratch,
+            child,
+            Direction::Incoming,
+            edge,
+            node,
+        )
+    }
+
+    /// Removes an edge and hands its weight back, or gives `None` if there is no such edge. The edge with the last index
+    /// gets its index.
+    pub fn remove_edge(&mut self, e: EdgeIndex<Ix>) -> Option<E>
+        ensures value { result ≡ edge_weight_at self.old.graph (Ix.number e) }
+        ensures removed { OnSome result (self.new ≡ with_graph self.old (without_edge Compact self.old.graph (Ix.number e))) }
+        ensures missing { IfNone result (self.new ≡ self.old) }
+        ensures acyclic { IsAcyclic self.new.graph }
+    {
+        guard::remove_edge(&mut self.graph, e)
+    }
+
+    /// Removes a node with its edges and hands its weight back, or gives `None` if there is no such node.
+    ///
+    /// The edges go one by one, those to its children first, and each time the edge with the last index gets the index
+    /// that is left. Then the node with the last index gets the index of this node.
+    pub fn remove_node(&mut self, n: NodeIndex<Ix>) -> Option<N>
+        ensures value { result ≡ weight_at self.old.graph (Ix.number n) }
+        ensures removed { OnSome result (self.new ≡ with_graph self.old (without_node Compact self.old.graph (Ix.number n))) }
+        ensures missing { IfNone result (self.new ≡ self.old) }
+        ensures acyclic { IsAcyclic self.new.graph }
+    {
+        guard::remove_node(&mut self.graph, n)
+    }
+
+    /// Removes all nodes and edges.
+    pub fn clear(&mut self)
+        ensures cleared { self.new ≡ with_graph self.old empty }
+        ensures acyclic { IsAcyclic self.new.graph }
+    {
+        self.graph.clear();
+    }
+
+    /// Removes all edges, and keeps the nodes.
+    pub fn clear_edges(&mut self)
+        ensures cleared { self.new ≡ with_graph self.old (without_all_edges self.old.graph) }
+        ensures acyclic { IsAcyclic self.new.graph }
+    {
+        self.graph.clear_edges();
+    }
+
+    /// The nodes as they are stored, by index.
+    #[inline]
+    pub fn raw_nodes(&self) -> RawNodes<'_, N, Ix>
+        ensures { ShowsNodes Ix.greatest self.now.graph result.now }
+    {
+        self.graph.raw_nodes()
+    }
+
+    /// The edges as they are stored, by index.
+    #[inline]
+    pub fn raw_edges(&self) -> RawEdges<'_, E, Ix>
+        ensures { ShowsEdges Ix.greatest self.now.graph result.now }
+    {
+        self.graph.raw_edges()
+    }
+
     /// A walker over the children of a node, newest edge first. Over a missing node it gives nothing.
     #[inline]
     pub fn children(&self, n: NodeIndex<Ix>) -> Children<N, E, Ix>
@@ -169,53 +325,16 @@ impl<N, E, Ix: IndexType> Dag<N, E, Ix> {
             edge_weight: PhantomData,
         }
     }
-}
 
-/// A walker over the children of a node. It gives each edge with its child.
-///
-/// It holds no borrow of the dag. If the edge that comes next was removed, it gives nothing from then on, unless an edge
-/// gets that index again.
-pub struct Children<N, E, Ix = DefaultIx> {
-    edge: EdgeIndex<Ix>,
-    node_weight: PhantomData<N>,
-    edge_weight: PhantomData<E>,
-}
-
-impl<N, E, Ix> Model for Children<N, E, Ix> {
-    ghost use Rattle.std.specs.Prelude.{refl};
-
-    ghost Value = { Ix };
-
-    ghost coded = { Ix.code };
-
-    ghost view = { λ w. w.edge };
-
-    ghost inverse = { λ e. record { edge = e; node_weight = record { }; edge_weight = record { } } };
-
-    ghost inverse_ok = { λ w h. refl };
-}
-
-impl<N, E, Ix: Copy> Clone for Children<N, E, Ix> {
-    ghost is_clone = { λ a b. a ≡ b };
-
-    fn clone(&self) -> Result<Self, AllocError> {
-        Ok(Children {
-            edge: self.edge,
+    /// A walker over the parents of a node, newest edge first. Over a missing node it gives nothing.
+    #[inline]
+    pub fn parents(&self, n: NodeIndex<Ix>) -> Parents<N, E, Ix>
+        ensures { Ix.number result ≡ first_of Ix.greatest (in_list self.now.graph (Ix.number n)) }
+    {
+        Parents {
+            edge: self.graph.first_edge(n, Direction::Incoming),
             node_weight: PhantomData,
             edge_weight: PhantomData,
-        })
-    }
-}
-
-impl<N, E, Ix: Copy> Copy for Children<N, E, Ix> {}
-
-impl<N, E, Ix: IndexType> Walker<Dag<N, E, Ix>> for Children<N, E, Ix> {
-    type Item = (EdgeIndex<Ix>, NodeIndex<Ix>);
-
-    ghost walk_gives = { λ w d r after. IsStep Outgoing Ix.greatest d.graph (Ix.number w) (option_map (pair_of Ix.number) r) (Ix.number after) };
-
-    #[inline]
-    fn walk_next(&mut self, dag: &Dag<N, E, Ix>) -> Option<(EdgeIndex<Ix>, NodeIndex<Ix>)> {
-        walk::step(&dag.graph, Direction::Outgoing, &mut self.edge)
+        }
     }
 }

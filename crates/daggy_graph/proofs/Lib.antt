@@ -3,3 +3,9 @@ pub mod Threads
 pub mod StoredLemmas
 pub mod WellFormedLemmas
 pub mod States
+pub mod RemovalLemmas
+pub mod Reowning
+pub mod Dropping
+pub mod Isolation
+pub mod Clearing
+pub mod RawLemmas

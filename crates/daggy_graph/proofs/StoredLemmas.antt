@@ -10,8 +10,9 @@ use Rattle.daggy_graph.specs.declared.graph.Node.{Node}
 use Rattle.daggy_graph.specs.declared.graph.Edge.{Edge}
 use Rattle.daggy_base.specs.declared.index.Direction.{Direction}
 use Rattle.daggy_base.specs.declared.index.Direction.TheVariants.{Outgoing, Incoming}
-use Rattle.daggy_graph.specs.Reweighing.{reweighed}
-use Rattle.daggy_graph.specs.Stored.{weight_of, with_first, with_next, plain_edge, first_at, next_at, end_at, firsts_of, nexts_of, ends_of, walks, stored_graph, Stores, KeepsNodes, KeepsEdges}
+use Rattle.daggy_base.specs.Weights.{reweighed}
+use Rattle.daggy_graph.specs.Raw.{raw_first, raw_next}
+use Rattle.daggy_graph.specs.Stored.{weight_of, with_first, with_next, plain_edge, end_at, firsts_of, nexts_of, ends_of, walks, stored_graph, Stores, KeepsNodes, KeepsEdges}
 use Rattle.daggy_graph.proofs.Threads.{rows_are, IsLinked-node, ListsEach-node, IsLinked-edge, ListsEach-edge}
 
 -- a write that changes nothing that f sees
@@ -54,8 +55,8 @@ module _ {N E Ix : Type 0} (end : ℕ) (nodes : List (Node N Ix)) (edges : List 
   -- what is stored is what the view shows
   pub stored_is : (g : Graph N E) → Stores end nodes edges g → stored_graph nodes edges ≡ g
   stored_is g s =
-      let out : walks Outgoing nodes edges ≡ g.out_lists = rows_are end _ _ _ (s.linked Outgoing) (omega (arith, s.few_edges, length-map edges (next_at Outgoing))) in
-      let into : walks Incoming nodes edges ≡ g.in_lists = rows_are end _ _ _ (s.linked Incoming) (omega (arith, s.few_edges, length-map edges (next_at Incoming))) in
+      let out : walks Outgoing nodes edges ≡ g.out_lists = rows_are end _ _ _ (s.linked Outgoing) (omega (arith, s.few_edges, length-map edges (raw_next Outgoing))) in
+      let into : walks Incoming nodes edges ≡ g.in_lists = rows_are end _ _ _ (s.linked Incoming) (omega (arith, s.few_edges, length-map edges (raw_next Incoming))) in
       same_graph g (sym s.nodes_are) (sym s.edges_are) out into (sym s.no_vacant_node) (sym s.no_vacant_edge)
 
   pub Stores-itself : (g : Graph N E) → Stores end nodes edges g → Stores end nodes edges (stored_graph nodes edges)
@@ -73,8 +74,8 @@ module _ {N E Ix : Type 0} (end : ℕ) (nodes : List (Node N Ix)) (edges : List 
         no_vacant_node = refl;
         no_vacant_edge = s.no_vacant_edge;
         linked = elim [
-          | Outgoing ↦ rw (map_push (first_at Outgoing) nodes x) (IsLinked-node end _ _ _ (s.linked Outgoing))
-          | Incoming ↦ rw (map_push (first_at Incoming) nodes x) (IsLinked-node end _ _ _ (s.linked Incoming))
+          | Outgoing ↦ rw (map_push (raw_first Outgoing) nodes x) (IsLinked-node end _ _ _ (s.linked Outgoing))
+          | Incoming ↦ rw (map_push (raw_first Incoming) nodes x) (IsLinked-node end _ _ _ (s.linked Incoming))
         ];
         listed = elim [
           | Outgoing ↦ ListsEach-node _ _ (s.listed Outgoing)
@@ -100,12 +101,12 @@ module _ {N E Ix : Type 0} (end : ℕ) (nodes : List (Node N Ix)) (edges : List 
         no_vacant_node = s.no_vacant_node;
         no_vacant_edge = refl;
         linked = elim [
-          | Outgoing ↦ rw (outs, map_push (next_at Outgoing) edges x) (IsLinked-edge end _ _ _ u (length edges) (sym (length-map edges (next_at Outgoing))) (s.linked Outgoing) (omega (arith, u_in, length-map nodes (first_at Outgoing))))
-          | Incoming ↦ rw (ins, map_push (next_at Incoming) edges x) (IsLinked-edge end _ _ _ v (length edges) (sym (length-map edges (next_at Incoming))) (s.linked Incoming) (omega (arith, v_in, length-map nodes (first_at Incoming))))
+          | Outgoing ↦ rw (outs, map_push (raw_next Outgoing) edges x) (IsLinked-edge end _ _ _ u (length edges) (sym (length-map edges (raw_next Outgoing))) (s.linked Outgoing) (omega (arith, u_in, length-map nodes (raw_first Outgoing))))
+          | Incoming ↦ rw (ins, map_push (raw_next Incoming) edges x) (IsLinked-edge end _ _ _ v (length edges) (sym (length-map edges (raw_next Incoming))) (s.linked Incoming) (omega (arith, v_in, length-map nodes (raw_first Incoming))))
         ];
         listed = elim [
-          | Outgoing ↦ rw (map_push (end_at Outgoing) edges x) (ListsEach-edge _ _ u (length edges) (sym (length-map edges (end_at Outgoing))) (omega (arith, u_in, length-map nodes (first_at Outgoing), (s.linked Outgoing).rows)) (s.listed Outgoing))
-          | Incoming ↦ rw (map_push (end_at Incoming) edges x) (ListsEach-edge _ _ v (length edges) (sym (length-map edges (end_at Incoming))) (omega (arith, v_in, length-map nodes (first_at Incoming), (s.linked Incoming).rows)) (s.listed Incoming))
+          | Outgoing ↦ rw (map_push (end_at Outgoing) edges x) (ListsEach-edge _ _ u (length edges) (sym (length-map edges (end_at Outgoing))) (omega (arith, u_in, length-map nodes (raw_first Outgoing), (s.linked Outgoing).rows)) (s.listed Outgoing))
+          | Incoming ↦ rw (map_push (end_at Incoming) edges x) (ListsEach-edge _ _ v (length edges) (sym (length-map edges (end_at Incoming))) (omega (arith, v_in, length-map nodes (raw_first Incoming), (s.linked Incoming).rows)) (s.listed Incoming))
         ];
         few_nodes = omega (arith, s.few_nodes, same_nodes);
         few_edges = omega (arith, few, length_push edges x);
@@ -118,12 +119,12 @@ module _ {N E Ix : Type 0} (end : ℕ) (nodes : List (Node N Ix)) (edges : List 
       → Stores end (set (set nodes u (with_first Outgoing x (length edges))) v (with_first Incoming y (length edges))) (edges ++ (record { weight = w; parent = u; child = v; next_out = from.first_out; next_in = into.first_in }) ∷ []) (with_edge g u v w)
   Stores-edge_written u v w u_in v_in few from into x y from_is into_is x_is y_is =
       let first = set nodes u (with_first Outgoing x (length edges)) in
-      let out_is : from.first_out ≡ get_or (firsts_of Outgoing nodes) u 0 = ap (λ z. z.first_out) from_is ∙ sym (get_or-map (first_at Outgoing) nodes u from 0 u_in) in
-      let in_is : into.first_in ≡ get_or (firsts_of Incoming nodes) v 0 = ap (λ z. z.first_in) into_is ∙ sym (get_or-map (first_at Incoming) nodes v into 0 v_in) in
+      let out_is : from.first_out ≡ get_or (firsts_of Outgoing nodes) u 0 = ap (λ z. z.first_out) from_is ∙ sym (get_or-map (raw_first Outgoing) nodes u from 0 u_in) in
+      let in_is : into.first_in ≡ get_or (firsts_of Incoming nodes) v 0 = ap (λ z. z.first_in) into_is ∙ sym (get_or-map (raw_first Incoming) nodes v into 0 v_in) in
       let both = Stores-edge u v w u_in v_in few (set first v (with_first Incoming y (length edges)))
       (map-set_same weight_of first v y _ y_is refl ∙ map-set_same weight_of nodes u x _ x_is refl)
-      (map-set_same (first_at Outgoing) first v y _ y_is refl ∙ map-set (first_at Outgoing) nodes u _)
-      (map-set (first_at Incoming) first v _ ∙ ap (λ l. set l v (length edges)) (map-set_same (first_at Incoming) nodes u x _ x_is refl)) in
+      (map-set_same (raw_first Outgoing) first v y _ y_is refl ∙ map-set (raw_first Outgoing) nodes u _)
+      (map-set (raw_first Incoming) first v _ ∙ ap (λ l. set l v (length edges)) (map-set_same (raw_first Incoming) nodes u x _ x_is refl)) in
       rw (out_is, in_is) both
 
   pub Stores-weight : (n : ℕ) (w : N) (x : Node N Ix) → x ≡ get_or nodes n x → Stores end (set nodes n (record x { weight = w })) edges (record g { nodes = set g.nodes n (Some w) })
@@ -134,8 +135,8 @@ module _ {N E Ix : Type 0} (end : ℕ) (nodes : List (Node N Ix)) (edges : List 
         no_vacant_node = s.no_vacant_node;
         no_vacant_edge = s.no_vacant_edge;
         linked = elim [
-          | Outgoing ↦ rw (map-set_same (first_at Outgoing) nodes n x (record x { weight = w }) is refl) (s.linked Outgoing)
-          | Incoming ↦ rw (map-set_same (first_at Incoming) nodes n x (record x { weight = w }) is refl) (s.linked Incoming)
+          | Outgoing ↦ rw (map-set_same (raw_first Outgoing) nodes n x (record x { weight = w }) is refl) (s.linked Outgoing)
+          | Incoming ↦ rw (map-set_same (raw_first Incoming) nodes n x (record x { weight = w }) is refl) (s.linked Incoming)
         ];
         listed = elim [ Outgoing ↦ s.listed Outgoing | Incoming ↦ s.listed Incoming ];
         few_nodes = omega (arith, s.few_nodes, length-set nodes n (record x { weight = w }));
@@ -172,12 +173,12 @@ module _ {N E Ix : Type 0} (nodes : List (Node N Ix)) (edges : List (Edge E Ix))
 
 module _ {N Ix : Type 0} (nodes : List (Node N Ix)) (i : ℕ) (x : Node N Ix) (new : ℕ) (is : x ≡ get_or nodes i x) where
   pub KeepsNodes-set : (dir : Direction) → KeepsNodes dir nodes (set nodes i (with_first dir x new))
-  KeepsNodes-set Outgoing = record { weights = map-set_same weight_of nodes i x _ is refl; firsts = map-set_same (first_at Incoming) nodes i x _ is refl }
-  KeepsNodes-set Incoming = record { weights = map-set_same weight_of nodes i x _ is refl; firsts = map-set_same (first_at Outgoing) nodes i x _ is refl }
+  KeepsNodes-set Outgoing = record { weights = map-set_same weight_of nodes i x _ is refl; firsts = map-set_same (raw_first Incoming) nodes i x _ is refl }
+  KeepsNodes-set Incoming = record { weights = map-set_same weight_of nodes i x _ is refl; firsts = map-set_same (raw_first Outgoing) nodes i x _ is refl }
 
   pub firsts_of-set : (dir : Direction) → firsts_of dir (set nodes i (with_first dir x new)) ≡ set (firsts_of dir nodes) i new
-  firsts_of-set Outgoing = map-set (first_at Outgoing) nodes i _
-  firsts_of-set Incoming = map-set (first_at Incoming) nodes i _
+  firsts_of-set Outgoing = map-set (raw_first Outgoing) nodes i _
+  firsts_of-set Incoming = map-set (raw_first Incoming) nodes i _
 
 module _ {E Ix : Type 0} (edges : List (Edge E Ix)) (i : ℕ) (x : Edge E Ix) (new : ℕ) (is : x ≡ get_or edges i x) where
   pub KeepsEdges-set : (dir : Direction) → KeepsEdges dir edges (set edges i (with_next dir x new))
@@ -185,28 +186,28 @@ module _ {E Ix : Type 0} (edges : List (Edge E Ix)) (i : ℕ) (x : Edge E Ix) (n
       record {
         edges = map-set_same plain_edge edges i x _ is refl;
         ends = elim [ Outgoing ↦ map-set_same (end_at Outgoing) edges i x _ is refl | Incoming ↦ map-set_same (end_at Incoming) edges i x _ is refl ];
-        nexts = map-set_same (next_at Incoming) edges i x _ is refl;
+        nexts = map-set_same (raw_next Incoming) edges i x _ is refl;
       }
   KeepsEdges-set Incoming =
       record {
         edges = map-set_same plain_edge edges i x _ is refl;
         ends = elim [ Outgoing ↦ map-set_same (end_at Outgoing) edges i x _ is refl | Incoming ↦ map-set_same (end_at Incoming) edges i x _ is refl ];
-        nexts = map-set_same (next_at Outgoing) edges i x _ is refl;
+        nexts = map-set_same (raw_next Outgoing) edges i x _ is refl;
       }
 
   pub nexts_of-set : (dir : Direction) → nexts_of dir (set edges i (with_next dir x new)) ≡ set (nexts_of dir edges) i new
-  nexts_of-set Outgoing = map-set (next_at Outgoing) edges i _
-  nexts_of-set Incoming = map-set (next_at Incoming) edges i _
+  nexts_of-set Outgoing = map-set (raw_next Outgoing) edges i _
+  nexts_of-set Incoming = map-set (raw_next Incoming) edges i _
 
 -- what `redirect` reads: the row's node, and the row's first edge
 pub redirect_reads : {N E Ix : Type 0} (nodes : List (Node N Ix)) (edges : List (Edge E Ix)) (dir : Direction) (old o n i first : ℕ) (x : Edge E Ix) (y : Node N Ix)
-    → old < length edges → get_or (ends_of dir edges) old 0 < length nodes → o ≡ old → x ≡ get_or edges o x → n ≡ end_at dir x → i ≡ n → y ≡ get_or nodes i y → first ≡ first_at dir y
+    → old < length edges → get_or (ends_of dir edges) old 0 < length nodes → o ≡ old → x ≡ get_or edges o x → n ≡ end_at dir x → i ≡ n → y ≡ get_or nodes i y → first ≡ raw_first dir y
     → (i ≡ get_or (ends_of dir edges) old 0) × (first ≡ get_or (firsts_of dir nodes) (get_or (ends_of dir edges) old 0) 0)
 redirect_reads nodes edges dir old o n i first x y old_in n_in o_is x_is n_is i_is y_is first_is =
     let at_old : x ≡ get_or edges old x = x_is ∙ ap (λ z. get_or edges z x) o_is in
     let node : i ≡ get_or (ends_of dir edges) old 0 = i_is ∙ n_is ∙ ap (end_at dir) at_old ∙ sym (get_or-map (end_at dir) edges old x 0 old_in) in
     let at_n : y ≡ get_or nodes (get_or (ends_of dir edges) old 0) y = y_is ∙ ap (λ z. get_or nodes z y) node in
-    (node, first_is ∙ ap (first_at dir) at_n ∙ sym (get_or-map (first_at dir) nodes (get_or (ends_of dir edges) old 0) y 0 n_in))
+    (node, first_is ∙ ap (raw_first dir) at_n ∙ sym (get_or-map (raw_first dir) nodes (get_or (ends_of dir edges) old 0) y 0 n_in))
 
 pub Stores-edge_weight : {N E Ix : Type 0} (end : ℕ) (nodes : List (Node N Ix)) (edges : List (Edge E Ix)) (g : Graph N E) → Stores end nodes edges g → (e : ℕ) (w : E) (x : Edge E Ix) → e < length edges → x ≡ get_or edges e x
     → Stores end nodes (set edges e (record x { weight = w })) (record g { edges = set g.edges e (option_map (reweighed w) (slot g.edges e)) })
@@ -219,8 +220,8 @@ Stores-edge_weight {N} {E} {Ix} end nodes edges g s e w x within is =
       no_vacant_node = s.no_vacant_node;
       no_vacant_edge = s.no_vacant_edge;
       linked = elim [
-        | Outgoing ↦ rw (map-set_same (next_at Outgoing) edges e x (record x { weight = w }) is refl) (s.linked Outgoing)
-        | Incoming ↦ rw (map-set_same (next_at Incoming) edges e x (record x { weight = w }) is refl) (s.linked Incoming)
+        | Outgoing ↦ rw (map-set_same (raw_next Outgoing) edges e x (record x { weight = w }) is refl) (s.linked Outgoing)
+        | Incoming ↦ rw (map-set_same (raw_next Incoming) edges e x (record x { weight = w }) is refl) (s.linked Incoming)
       ];
       listed = elim [
         | Outgoing ↦ rw (map-set_same (end_at Outgoing) edges e x (record x { weight = w }) is refl) (s.listed Outgoing)

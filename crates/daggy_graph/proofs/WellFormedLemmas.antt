@@ -1,9 +1,9 @@
 -- What is stored is well formed.
-use Rattle.std.proofs.Common.{◌≡◌, ℕ, zero, suc, ◌<◌, ◌≤◌, List, [], ◌∷◌, map, length, get_or, Some, None, slice_get, refl, sym, ap, subst, ◌∙◌, inl, inr, arith}
+use Rattle.std.proofs.Common.{◌≡◌, ℕ, zero, suc, ◌<◌, List, [], ◌∷◌, map, length, get_or, Some, None, slice_get, refl, sym, ap, subst, ◌∙◌, inl, inr, arith}
 use Rattle.std.proofs.lemmas.List.{length-map, get_or-map}
 use Rattle.std.proofs.lemmas.Bool.{cases_lt}
 use Rattle.std.proofs.lemmas.Option.{same_Some, none-some}
-use Rattle.daggy_base.specs.Graph.{Graph, Edge as PlainEdge, slot, edge_at, near_end}
+use Rattle.daggy_base.specs.Graph.{Graph, Edge as PlainEdge, slot, edge_at, list_at, near_end}
 use Rattle.daggy_base.specs.Cursor.{after, first_of, cursor_after}
 use Rattle.daggy_base.specs.Look.{IsLook}
 use Rattle.daggy_base.specs.WellFormed.{AreDistinct, ListsVacant, IsWellFormed}
@@ -12,7 +12,8 @@ use Rattle.daggy_graph.specs.declared.graph.Edge.{Edge}
 use Rattle.daggy_base.specs.declared.index.Direction.{Direction}
 use Rattle.daggy_base.specs.declared.index.Direction.TheVariants.{Outgoing, Incoming}
 use Rattle.daggy_graph.specs.Links.{row}
-use Rattle.daggy_graph.specs.Stored.{weight_of, plain, plain_edge, first_at, end_at, next_at, firsts_of, ends_of, lists_at, stored_graph, Stores}
+use Rattle.daggy_graph.specs.Raw.{raw_first, raw_next}
+use Rattle.daggy_graph.specs.Stored.{weight_of, plain, plain_edge, end_at, firsts_of, ends_of, lists_at, stored_graph, Stores}
 use Rattle.daggy_graph.proofs.Rows.{Contains-nil}
 use Rattle.daggy_graph.proofs.Threads.{row_within, row_past}
 use Rattle.daggy_graph.proofs.StoredLemmas.{stored_is, Stores-itself, slot_holds, slot_is, slice_get_mapped}
@@ -58,11 +59,11 @@ module _ {N E Ix : Type 0} (end : ℕ) (nodes : List (Node N Ix)) (edges : List 
           let node_in : (dir : Direction) (e : ℕ) (x : PlainEdge E) → slot (map plain_edge edges) e ≡ Some x → near_end dir x < length nodes =
           λ dir e x p.
           let there = (s.listed dir (near_end dir x) e).1 (end_stored dir edges e x p) in
-          omega (arith, row_within (lists_at dir (stored_graph nodes edges)) _ e there, (s.linked dir).rows, length-map nodes (first_at dir)) in
+          omega (arith, row_within (lists_at dir (stored_graph nodes edges)) _ e there, (s.linked dir).rows, length-map nodes (raw_first dir)) in
           let once : (dir : Direction) (n : ℕ) → AreDistinct (row (lists_at dir (stored_graph nodes edges)) n) = λ dir n. distinct dir s n in
           record {
-            out_rows = (s.linked Outgoing).rows ∙ length-map nodes (first_at Outgoing) ∙ sym (length-map nodes weight_of);
-            in_rows = (s.linked Incoming).rows ∙ length-map nodes (first_at Incoming) ∙ sym (length-map nodes weight_of);
+            out_rows = (s.linked Outgoing).rows ∙ length-map nodes (raw_first Outgoing) ∙ sym (length-map nodes weight_of);
+            in_rows = (s.linked Incoming).rows ∙ length-map nodes (raw_first Incoming) ∙ sym (length-map nodes weight_of);
             parents = λ e x p. slot_holds (λ z. z.weight) nodes x.parent (node_in Outgoing e x p);
             children = λ e x p. slot_holds (λ z. z.weight) nodes x.child (node_in Incoming e x p);
             out_of = record {
@@ -80,23 +81,28 @@ module _ {N E Ix : Type 0} (end : ℕ) (nodes : List (Node N Ix)) (edges : List 
           }
 
   -- the first of a row, and what follows an edge in its row
-  pub first_shown : (dir : Direction) (g : Graph N E) → Stores end nodes edges g → (n : ℕ) (x : Node N Ix) → n < length nodes → x ≡ get_or nodes n x → first_at dir x ≡ first_of end (row (lists_at dir g) n)
+  pub first_shown : (dir : Direction) (g : Graph N E) → Stores end nodes edges g → (n : ℕ) (x : Node N Ix) → n < length nodes → x ≡ get_or nodes n x → raw_first dir x ≡ first_of end (row (lists_at dir g) n)
   first_shown dir g s n x within is =
-      let inside : n < length (firsts_of dir nodes) = omega (arith, within, length-map nodes (first_at dir)) in
-      ap (first_at dir) is ∙ sym (get_or-map (first_at dir) nodes n x 0 within) ∙ ((s.linked dir).each n inside).starts
+      let inside : n < length (firsts_of dir nodes) = omega (arith, within, length-map nodes (raw_first dir)) in
+      ap (raw_first dir) is ∙ sym (get_or-map (raw_first dir) nodes n x 0 within) ∙ ((s.linked dir).each n inside).starts
 
-  pub first_past : (dir : Direction) (g : Graph N E) → Stores end nodes edges g → (n : ℕ) → length nodes ≤ n → first_of end (row (lists_at dir g) n) ≡ end
-  first_past dir g s n past = ap (first_of end) (row_past (lists_at dir g) n (omega (arith, past, (s.linked dir).rows, length-map nodes (first_at dir))))
+  -- the same, as contracts say it
+  pub first_listed : (dir : Direction) → Stores end nodes edges (stored_graph nodes edges) → (n : ℕ) (x : Node N Ix) → n < length nodes → x ≡ get_or nodes n x → raw_first dir x ≡ first_of end (list_at dir (stored_graph nodes edges) n)
+  first_listed dir s n x within is = first_shown dir (stored_graph nodes edges) s n x within is ∙ ap (first_of end) (list_of dir)
+    where
+      list_of : (d : Direction) → row (lists_at d (stored_graph nodes edges)) n ≡ list_at d (stored_graph nodes edges) n
+      list_of Outgoing = refl
+      list_of Incoming = refl
 
-  pub next_shown : (dir : Direction) (g : Graph N E) → Stores end nodes edges g → (e : ℕ) (x : Edge E Ix) → e < length edges → x ≡ get_or edges e x → next_at dir x ≡ after end (row (lists_at dir g) (end_at dir x)) e
+  pub next_shown : (dir : Direction) (g : Graph N E) → Stores end nodes edges g → (e : ℕ) (x : Edge E Ix) → e < length edges → x ≡ get_or edges e x → raw_next dir x ≡ after end (row (lists_at dir g) (end_at dir x)) e
   next_shown dir g s e x within is =
       let ends = slice_get_mapped (end_at dir) edges e x within is in
       let there = (s.listed dir (end_at dir x) e).1 ends in
       let inside : end_at dir x < length (firsts_of dir nodes) = omega (arith, row_within (lists_at dir g) _ e there, (s.linked dir).rows) in
       let goes = ((s.linked dir).each (end_at dir x) inside).goes_on e there in
-      same_Some _ _ (sym (slice_get_mapped (next_at dir) edges e x within is) ∙ goes)
+      same_Some _ _ (sym (slice_get_mapped (raw_next dir) edges e x within is) ∙ goes)
 
-  pub cursor_shown : (dir : Direction) → Stores end nodes edges (stored_graph nodes edges) → (e : ℕ) (x : Edge E Ix) → e < length edges → x ≡ get_or edges e x → next_at dir x ≡ cursor_after dir end (stored_graph nodes edges) e (edge_at (stored_graph nodes edges) e)
+  pub cursor_shown : (dir : Direction) → Stores end nodes edges (stored_graph nodes edges) → (e : ℕ) (x : Edge E Ix) → e < length edges → x ≡ get_or edges e x → raw_next dir x ≡ cursor_after dir end (stored_graph nodes edges) e (edge_at (stored_graph nodes edges) e)
   cursor_shown dir s e x within is =
       next_shown dir (stored_graph nodes edges) s e x within is ∙ seen dir ∙ ap (cursor_after dir end (stored_graph nodes edges) e) (sym (slot_is plain edges e x within is))
     where

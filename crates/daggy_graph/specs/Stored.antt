@@ -3,6 +3,7 @@ use Rattle.std.specs.Prelude.{◌≡◌, ℕ, ◌<◌, ◌≤◌, Option, Some, 
 use Rattle.daggy_base.specs.Graph.{Graph, Edge as PlainEdge}
 use Rattle.std.specs.List.{swap_remove}
 use Rattle.daggy_base.specs.Removal.{Compact, without_edge, renamed}
+use Rattle.daggy_graph.specs.Raw.{raw_first, raw_next}
 use Rattle.daggy_graph.specs.Links.{follow, rows_of, IsRow, Redirected, IsLinked, ListsEach}
 use Rattle.daggy_graph.specs.declared.graph.Node.{Node}
 use Rattle.daggy_graph.specs.declared.graph.Edge.{Edge}
@@ -22,17 +23,9 @@ plain x = record { parent = x.parent; child = x.child; weight = x.weight }
 abbrev pub plain_edge : {E Ix : Type 0} → Edge E Ix → Option (PlainEdge E)
 plain_edge x = Some (plain x)
 
-abbrev pub first_at : {N Ix : Type 0} → Direction → Node N Ix → ℕ
-first_at Outgoing x = x.first_out
-first_at Incoming x = x.first_in
-
 abbrev pub with_first : {N Ix : Type 0} → Direction → Node N Ix → ℕ → Node N Ix
 with_first Outgoing x e = record x { first_out = e }
 with_first Incoming x e = record x { first_in = e }
-
-abbrev pub next_at : {E Ix : Type 0} → Direction → Edge E Ix → ℕ
-next_at Outgoing x = x.next_out
-next_at Incoming x = x.next_in
 
 abbrev pub with_next : {E Ix : Type 0} → Direction → Edge E Ix → ℕ → Edge E Ix
 with_next Outgoing x e = record x { next_out = e }
@@ -50,15 +43,19 @@ with_end Incoming x n = record x { child = n }
 abbrev pub reowned : {E Ix : Type 0} → Direction → (from to : ℕ) → Edge E Ix → Edge E Ix
 reowned dir from to x = with_end dir x (renamed from to (end_at dir x))
 
+-- the node with empty lists
+abbrev pub bare : {N Ix : Type 0} → (end : ℕ) → Node N Ix → Node N Ix
+bare end x = record x { first_out = end; first_in = end }
+
 abbrev pub lists_at : {N E : Type 0} → Direction → Graph N E → List (List ℕ)
 lists_at Outgoing g = g.out_lists
 lists_at Incoming g = g.in_lists
 
 abbrev pub firsts_of : {N Ix : Type 0} → Direction → List (Node N Ix) → List ℕ
-firsts_of dir nodes = map (first_at dir) nodes
+firsts_of dir nodes = map (raw_first dir) nodes
 
 abbrev pub nexts_of : {E Ix : Type 0} → Direction → List (Edge E Ix) → List ℕ
-nexts_of dir edges = map (next_at dir) edges
+nexts_of dir edges = map (raw_next dir) edges
 
 abbrev pub ends_of : {E Ix : Type 0} → Direction → List (Edge E Ix) → List ℕ
 ends_of dir edges = map (end_at dir) edges

@@ -1,17 +1,20 @@
 //! A directed graph whose nodes and edges fill the indices from 0 on.
-ghost use Rattle.std.specs.Prelude.{◌≡◌, ℕ, ◌<◌, ◌↔◌, length, IsTrue, IsSome, Some, option_copied, IfOk, OnOk, IfErr, OnErr};
+ghost use Rattle.std.specs.Prelude.{◌≡◌, ℕ, ◌<◌, ◌↔◌, IsTrue, IfOk, OnOk, IfErr, OnErr};
 ghost use Rattle.std.specs.Option.{option_map};
-ghost use Rattle.daggy_base.specs.Graph.{empty, node_weight as weight_at, edge_at, HasNode, HasEdge, node_count as node_count_of, edge_count as edge_count_of, list_at, ends_of, pair_of, IsCompact};
+ghost use Rattle.daggy_base.specs.Graph.{empty, edge_at, HasNode, HasEdge, node_count as node_count_of, edge_count as edge_count_of, list_at, ends_of, pair_of};
 ghost use Rattle.daggy_base.specs.Adding.{next_node, next_edge as next_edge_of, with_node, with_edge};
 ghost use Rattle.daggy_base.specs.Finding.{find_edge as edge_between};
 ghost use Rattle.daggy_base.specs.Cursor.{first_of, cursor_after};
-ghost use Rattle.daggy_base.specs.WellFormed.{IsWellFormed};
 ghost use Rattle.daggy_base.specs.State.{with_graph};
 ghost use Rattle.daggy_base.specs.declared.error.NodeError.TheVariants.{Memory as NodeMemory};
 ghost use Rattle.daggy_base.specs.declared.error.EdgeError.TheVariants.{Memory as EdgeMemory};
-ghost use Rattle.daggy_graph.specs.Stored.{first_at, with_first, end_at, next_at, with_next, with_end};
 
+mod count;
+mod links;
+mod raw;
+mod removal;
 mod source;
+mod weights;
 
 use daggy_base::error::{EdgeError, NodeError};
 use daggy_base::index::{DefaultIx, Direction, EdgeIndex, IndexType, NodeIndex};
@@ -38,70 +41,6 @@ pub struct Edge<E, Ix: IndexType = DefaultIx> {
     child: Link<Ix>,
     next_out: Link<Ix>,
     next_in: Link<Ix>,
-}
-
-impl<N, Ix: IndexType> Node<N, Ix> {
-    #[inline]
-    fn first(&self, dir: Direction) -> Link<Ix>
-        ensures { result ≡ first_at dir self.now }
-    {
-        match dir {
-            Direction::Outgoing => self.first_out,
-            Direction::Incoming => self.first_in,
-        }
-    }
-
-    #[inline]
-    fn set_first(&mut self, dir: Direction, e: Link<Ix>)
-        ensures { self.new ≡ with_first dir self.old e }
-    {
-        match dir {
-            Direction::Outgoing => self.first_out = e,
-            Direction::Incoming => self.first_in = e,
-        }
-    }
-}
-
-impl<E, Ix: IndexType> Edge<E, Ix> {
-    #[inline]
-    fn next(&self, dir: Direction) -> Link<Ix>
-        ensures { result ≡ next_at dir self.now }
-    {
-        match dir {
-            Direction::Outgoing => self.next_out,
-            Direction::Incoming => self.next_in,
-        }
-    }
-
-    #[inline]
-    fn end(&self, dir: Direction) -> Link<Ix>
-        ensures { result ≡ end_at dir self.now }
-    {
-        match dir {
-            Direction::Outgoing => self.parent,
-            Direction::Incoming => self.child,
-        }
-    }
-
-    #[inline]
-    fn set_end(&mut self, dir: Direction, n: Link<Ix>)
-        ensures { self.new ≡ with_end dir self.old n }
-    {
-        match dir {
-            Direction::Outgoing => self.parent = n,
-            Direction::Incoming => self.child = n,
-        }
-    }
-
-    #[inline]
-    fn set_next(&mut self, dir: Direction, e: Link<Ix>)
-        ensures { self.new ≡ with_next dir self.old e }
-    {
-        match dir {
-            Direction::Outgoing => self.next_out = e,
-            Direction::Incoming => self.next_in = e,
-        }
-    }
 }
 
 /// A directed graph. Any number of edges may lead from one node to another, and an edge may lead from a node to
@@ -140,44 +79,6 @@ impl<N, E, Ix: IndexType> DiGraph<N, E, Ix> {
             edges: Vec::new(alloc),
             looks: Looks::new(),
         }
-    }
-
-    /// How many nodes there are.
-    #[inline]
-    pub fn node_count(&self) -> usize
-        ensures count { result ≡ node_count_of self.now.graph }
-        ensures slots { result ≡ length self.now.graph.nodes }
-        ensures well_formed { IsWellFormed Ix.greatest self.now.graph }
-        ensures compact { IsCompact self.now.graph }
-    {
-        self.nodes.len()
-    }
-
-    /// How many edges there are.
-    #[inline]
-    pub fn edge_count(&self) -> usize
-        ensures count { result ≡ edge_count_of self.now.graph }
-        ensures slots { result ≡ length self.now.graph.edges }
-        ensures well_formed { IsWellFormed Ix.greatest self.now.graph }
-        ensures compact { IsCompact self.now.graph }
-    {
-        self.edges.len()
-    }
-
-    /// Whether the index type has an index left for one more node.
-    #[inline]
-    pub fn can_add_node(&self) -> bool
-        ensures { IsTrue result ↔ (node_count_of self.now.graph < Ix.greatest) }
-    {
-        self.nodes.len() < NodeIndex::<Ix>::end().index()
-    }
-
-    /// Whether the index type has an index left for one more edge.
-    #[inline]
-    pub fn can_add_edge(&self) -> bool
-        ensures { IsTrue result ↔ (edge_count_of self.now.graph < Ix.greatest) }
-    {
-        self.edges.len() < EdgeIndex::<Ix>::end().index()
     }
 
     /// Whether the node exists.
@@ -256,28 +157,6 @@ impl<N, E, Ix: IndexType> DiGraph<N, E, Ix> {
         self.nodes[u].first_out = e;
         self.nodes[v].first_in = e;
         Ok(e.edge())
-    }
-
-    /// The weight of a node, if the node exists.
-    #[inline]
-    pub fn node_weight(&self, n: NodeIndex<Ix>) -> Option<&N>
-        ensures { option_copied result ≡ weight_at self.now.graph (Ix.number n) }
-    {
-        match self.nodes.get(n.index()) {
-            Some(x) => Some(&x.weight),
-            None => None,
-        }
-    }
-
-    /// The weight of an edge, if the edge exists.
-    #[inline]
-    pub fn edge_weight(&self, e: EdgeIndex<Ix>) -> Option<&E>
-        ensures { option_copied result ≡ option_map (λ x. x.weight) (edge_at self.now.graph (Ix.number e)) }
-    {
-        match self.edges.get(e.index()) {
-            Some(x) => Some(&x.weight),
-            None => None,
-        }
     }
 
     /// The parent and the child of an edge, if the edge exists.

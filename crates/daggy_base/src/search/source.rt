@@ -13,9 +13,9 @@ use crate::index::{EdgeIndex, IndexType, NodeIndex};
 /// and no time.
 pub trait EdgeSource<Ix: IndexType> {
     /// The weight of a node.
-    type NodeWeight;
+    type NodeWeight: Drop;
     /// The weight of an edge.
-    type EdgeWeight;
+    type EdgeWeight: Drop;
 
     // The graph that is read.
     ghost graph: { Self → Graph Self.NodeWeight Self.EdgeWeight };

@@ -1,12 +1,16 @@
 //! The compact store as a graph that searches read.
-ghost use Rattle.std.specs.Prelude.{◌≡◌, ℕ, ◌+◌, ◌<◌, ◌↔◌, IsTrue, IfOk, OnOk, IfErr, OnErr, length};
+ghost use Rattle.std.specs.Prelude.{◌≡◌, ℕ, ◌+◌, ◌<◌, ◌↔◌, IsTrue, IfOk, OnOk, IfErr, OnErr, OnSome, IfNone, Some, [], ◌≤◌, length};
 ghost use Rattle.std.specs.Option.{option_map};
-ghost use Rattle.daggy_base.specs.Graph.{HasNode, HasEdge, edge_at, out_list, list_at, ends_of, pair_of, node_bound as node_bound_of, edge_bound as edge_bound_of, node_count as node_count_of, edge_count as edge_count_of};
-ghost use Rattle.daggy_base.specs.WellFormed.{IsWellFormed};
+ghost use Rattle.daggy_base.specs.Graph.{HasNode, HasEdge, node_weight, edge_at, out_list, list_at, ends_of, pair_of, node_bound as node_bound_of, edge_bound as edge_bound_of, node_count as node_count_of, edge_count as edge_count_of, IsCompact};
+ghost use Rattle.daggy_base.specs.WellFormed.{IsWellFormed, IsIsolated};
 ghost use Rattle.daggy_base.specs.Cursor.{first_of, cursor_after};
 ghost use Rattle.daggy_base.specs.Look.{IsLook};
 ghost use Rattle.daggy_base.specs.Adding.{next_node, next_edge, with_node, with_edge};
-ghost use Rattle.daggy_base.specs.Removal.{Compact};
+ghost use Rattle.daggy_base.specs.Finding.{find_edge as edge_between};
+ghost use Rattle.daggy_base.specs.Weights.{edge_weight, with_edge_weight};
+ghost use Rattle.daggy_base.specs.Taking.{node_taken_back};
+ghost use Rattle.daggy_base.specs.Removal.{Compact, without_edge, without_node, isolated};
+ghost use Rattle.daggy_base.specs.declared.index.Direction.{Direction};
 ghost use Rattle.daggy_base.specs.declared.error.NodeError.TheVariants.{Memory as NodeMemory};
 ghost use Rattle.daggy_base.specs.declared.error.EdgeError.TheVariants.{Memory as EdgeMemory};
 
@@ -16,7 +20,7 @@ use daggy_base::index::{Direction, EdgeIndex, IndexType, NodeIndex};
 use daggy_base::search::EdgeSource;
 use daggy_base::store::Store;
 
-impl<N, E, Ix: IndexType> EdgeSource<Ix> for DiGraph<N, E, Ix> {
+impl<N: Drop, E: Drop, Ix: IndexType> EdgeSource<Ix> for DiGraph<N, E, Ix> {
     type NodeWeight = N;
 
     type EdgeWeight = E;
@@ -67,8 +71,16 @@ impl<N, E, Ix: IndexType> EdgeSource<Ix> for DiGraph<N, E, Ix> {
     }
 }
 
-impl<N, E, Ix: IndexType> Store<Ix> for DiGraph<N, E, Ix> {
+impl<N: Drop, E: Drop, Ix: IndexType> Store<Ix> for DiGraph<N, E, Ix> {
     ghost kind = { Compact };
+
+    #[inline]
+    fn node_slots(&self) -> usize
+        ensures value { result ≡ length self.now.graph.nodes }
+        ensures compact { Compact ≡ Compact → IsCompact self.now.graph }
+    {
+        self.node_count()
+    }
 
     fn slots_with_node(&self) -> usize
         requires { node_count_of self.now.graph < Ix.greatest }
@@ -100,6 +112,13 @@ impl<N, E, Ix: IndexType> Store<Ix> for DiGraph<N, E, Ix> {
         self.edge_endpoints(e)
     }
 
+    #[inline]
+    fn find_edge(&self, a: NodeIndex<Ix>, b: NodeIndex<Ix>) -> Option<EdgeIndex<Ix>>
+        ensures { option_map Ix.number result ≡ edge_between self.now.graph (Ix.number a) (Ix.number b) }
+    {
+        self.find_edge(a, b)
+    }
+
     fn add_node(&mut self, weight: N) -> Result<NodeIndex<Ix>, NodeError<N>>
         requires { node_count_of self.old.graph < Ix.greatest }
         ensures index { IfOk result (λ n. Ix.number n ≡ next_node self.old.graph) }
@@ -127,5 +146,52 @@ impl<N, E, Ix: IndexType> Store<Ix> for DiGraph<N, E, Ix> {
         ensures counted { self.new.looks ≡ self.old.looks }
     {
         self.add_edge(a, b, weight)
+    }
+
+    #[inline]
+    fn replace_edge_weight(&mut self, e: EdgeIndex<Ix>, weight: E) -> E
+        requires { HasEdge self.old.graph (Ix.number e) }
+        ensures gives { edge_weight self.old.graph (Ix.number e) ≡ Some result }
+        ensures replaced { self.new.graph ≡ with_edge_weight self.old.graph (Ix.number e) weight }
+        ensures counted { self.new.looks ≡ self.old.looks }
+    {
+        self.replace_edge_weight(e, weight)
+    }
+
+    fn take_back_node(&mut self, n: NodeIndex<Ix>, made: bool) -> N
+        requires exists { HasNode self.old.graph (Ix.number n) }
+        requires no_edges { (dir : Direction) → list_at dir self.old.graph (Ix.number n) ≡ [] }
+        requires compact { Compact ≡ Compact → IsTrue made }
+        requires last { IsTrue made → Ix.number n + 1 ≡ length self.old.graph.nodes }
+        ensures gives { node_weight self.old.graph (Ix.number n) ≡ Some result }
+        ensures taken { self.new.graph ≡ node_taken_back made self.old.graph (Ix.number n) }
+        ensures counted { self.new.looks ≡ self.old.looks }
+    {
+        let _well_formed = self.node_count();
+        let _always = made;
+        self.drop_node(n)
+    }
+
+    fn remove_edge(&mut self, e: EdgeIndex<Ix>) -> Option<E>
+        ensures gives { result ≡ edge_weight self.old.graph (Ix.number e) }
+        ensures removed { OnSome result (self.new.graph ≡ without_edge Compact self.old.graph (Ix.number e)) }
+        ensures missing { IfNone result (self.new.graph ≡ self.old.graph) }
+        ensures counted { self.new.looks ≡ self.old.looks }
+    {
+        self.remove_edge(e)
+    }
+
+    fn remove_node(&mut self, n: NodeIndex<Ix>) -> Option<N>
+        ensures gives { result ≡ node_weight self.old.graph (Ix.number n) }
+        ensures removed { OnSome result (self.new.graph ≡ without_node Compact self.old.graph (Ix.number n)) }
+        ensures between { OnSome result (IsIsolated Ix.greatest (isolated Compact self.old.graph (Ix.number n)) (Ix.number n)) }
+        ensures missing { IfNone result (self.new.graph ≡ self.old.graph) }
+        ensures bound { node_bound_of self.new.graph ≤ node_bound_of self.old.graph }
+        ensures counted { self.new.looks ≡ self.old.looks }
+    {
+        let _compact = self.node_count();
+        let weight = self.remove_node(n);
+        let _still_compact = self.node_count();
+        weight
     }
 }

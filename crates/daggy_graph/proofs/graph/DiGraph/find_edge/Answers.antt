@@ -3,14 +3,15 @@ use Rattle.std.proofs.lemmas.Bool.{eq-eqb, ne_eqb}
 use Rattle.std.proofs.lemmas.List.{length-map}
 use Rattle.daggy_base.specs.Finding.{find_edge}
 use Rattle.daggy_base.specs.declared.index.Direction.TheVariants.{Outgoing}
-use Rattle.daggy_graph.specs.Stored.{nexts_of, next_at, stored_graph}
+use Rattle.daggy_graph.specs.Raw.{raw_next}
+use Rattle.daggy_graph.specs.Stored.{nexts_of, stored_graph}
 use Rattle.daggy_graph.proofs.Rows.{IsScan-done, IsScan-here, IsScan-step, IsScan-shorter}
 use Rattle.daggy_graph.proofs.StoredLemmas.{leads_to_read, slice_get_mapped}
 use Rattle.daggy_graph.proofs.graph.DiGraph.find_edge.Goals as goal
 
 pub returns-then-i-len : goal.returns-then-i-len
 returns-then-i-len g c =
-    let same : length (nexts_of Outgoing c.self.inside.edges.items) ≡ length c.self.inside.edges.items = length-map c.self.inside.edges.items (next_at Outgoing) in
+    let same : length (nexts_of Outgoing c.self.inside.edges.items) ≡ length c.self.inside.edges.items = length-map c.self.inside.edges.items (raw_next Outgoing) in
     let limit : length (nexts_of Outgoing c.self.inside.edges.items) ≤ g.Ix.IndexType.greatest = omega (arith, same, c.self.invariant.few_edges) in
     let shown : find_edge (stored_graph c.self.inside.nodes.items c.self.inside.edges.items) c.index-u.result c.index-v.result ≡ find_edge c.args.self.now.graph (g.Ix.IndexType.number c.args.a) (g.Ix.IndexType.number c.args.b) =
     ap (λ s. find_edge s.graph c.index-u.result c.index-v.result) c.self.view_is ∙ ap (λ z. find_edge c.args.self.now.graph z c.index-v.result) c.index-u.ensures.value ∙ ap (find_edge c.args.self.now.graph (g.Ix.IndexType.number c.args.a)) c.index-v.ensures.value in
@@ -19,7 +20,7 @@ returns-then-i-len g c =
 
 pub returns-then-index-v : goal.returns-then-index-v
 returns-then-index-v g c =
-    let same : length (nexts_of Outgoing c.self.inside.edges.items) ≡ length c.self.inside.edges.items = length-map c.self.inside.edges.items (next_at Outgoing) in
+    let same : length (nexts_of Outgoing c.self.inside.edges.items) ≡ length c.self.inside.edges.items = length-map c.self.inside.edges.items (raw_next Outgoing) in
     let limit : length (nexts_of Outgoing c.self.inside.edges.items) ≤ g.Ix.IndexType.greatest = omega (arith, same, c.self.invariant.few_edges) in
     let shown : find_edge (stored_graph c.self.inside.nodes.items c.self.inside.edges.items) c.index-u.result c.index-v.result ≡ find_edge c.args.self.now.graph (g.Ix.IndexType.number c.args.a) (g.Ix.IndexType.number c.args.b) =
     ap (λ s. find_edge s.graph c.index-u.result c.index-v.result) c.self.view_is ∙ ap (λ z. find_edge c.args.self.now.graph z c.index-v.result) c.index-u.ensures.value ∙ ap (find_edge c.args.self.now.graph (g.Ix.IndexType.number c.args.a)) c.index-v.ensures.value in
@@ -32,23 +33,23 @@ returns-then-index-v g c =
 
 pub along-smaller : goal.along-smaller
 along-smaller g c =
-    let same : length (nexts_of Outgoing c.self.inside.edges.items) ≡ length c.self.inside.edges.items = length-map c.self.inside.edges.items (next_at Outgoing) in
+    let same : length (nexts_of Outgoing c.self.inside.edges.items) ≡ length c.self.inside.edges.items = length-map c.self.inside.edges.items (raw_next Outgoing) in
     let limit : length (nexts_of Outgoing c.self.inside.edges.items) ≤ g.Ix.IndexType.greatest = omega (arith, same, c.self.invariant.few_edges) in
     let within : c.along.e < length (nexts_of Outgoing c.self.inside.edges.items) = omega (arith, same, c.if-i-len.false, c.index-i.ensures.value, c.len-in-along.ensures) in
     let reads : c.index-x.result.now ≡ get_or c.self.inside.edges.items c.along.e c.index-x.result.now = c.index-x.ensures ∙ ap (λ z. get_or c.self.inside.edges.items z c.index-x.result.now) c.index-i.ensures.value in
     let inside : c.along.e < length c.self.inside.edges.items = omega (arith, within, same) in
     let leads = leads_to_read c.self.inside.nodes.items c.self.inside.edges.items c.index-v.result c.along.e c.index-x.result.now inside reads in
-    let goes = slice_get_mapped (next_at Outgoing) c.self.inside.edges.items c.along.e c.index-x.result.now inside reads in
+    let goes = slice_get_mapped (raw_next Outgoing) c.self.inside.edges.items c.along.e c.index-x.result.now inside reads in
     IsScan-shorter _ _ _ _ _ _ c.along.invariant within limit goes
 
 pub along-preserved : goal.along-preserved
 along-preserved g c =
-    let same : length (nexts_of Outgoing c.self.inside.edges.items) ≡ length c.self.inside.edges.items = length-map c.self.inside.edges.items (next_at Outgoing) in
+    let same : length (nexts_of Outgoing c.self.inside.edges.items) ≡ length c.self.inside.edges.items = length-map c.self.inside.edges.items (raw_next Outgoing) in
     let limit : length (nexts_of Outgoing c.self.inside.edges.items) ≤ g.Ix.IndexType.greatest = omega (arith, same, c.self.invariant.few_edges) in
     let within : c.along.e < length (nexts_of Outgoing c.self.inside.edges.items) = omega (arith, same, c.if-i-len.false, c.index-i.ensures.value, c.len-in-along.ensures) in
     let reads : c.index-x.result.now ≡ get_or c.self.inside.edges.items c.along.e c.index-x.result.now = c.index-x.ensures ∙ ap (λ z. get_or c.self.inside.edges.items z c.index-x.result.now) c.index-i.ensures.value in
     let inside : c.along.e < length c.self.inside.edges.items = omega (arith, within, same) in
     let leads = leads_to_read c.self.inside.nodes.items c.self.inside.edges.items c.index-v.result c.along.e c.index-x.result.now inside reads in
-    let goes = slice_get_mapped (next_at Outgoing) c.self.inside.edges.items c.along.e c.index-x.result.now inside reads in
+    let goes = slice_get_mapped (raw_next Outgoing) c.self.inside.edges.items c.along.e c.index-x.result.now inside reads in
     let other : eqb c.index-x.result.now.child c.index-v.result ≡ false = ne_eqb _ _ (λ q. c.if-index-v.false (c.index-in-along.ensures.value ∙ q)) in
     IsScan-step _ _ _ _ _ _ c.along.invariant within limit (leads ∙ other) goes

@@ -1,0 +1,47 @@
+//! How many nodes and edges there are, and whether there is room for more.
+ghost use Rattle.std.specs.Prelude.{◌≡◌, ◌<◌, ◌↔◌, length, IsTrue};
+ghost use Rattle.daggy_base.specs.Graph.{node_count as node_count_of, edge_count as edge_count_of, IsCompact};
+ghost use Rattle.daggy_base.specs.WellFormed.{IsWellFormed};
+
+use crate::graph::DiGraph;
+use daggy_base::index::{EdgeIndex, IndexType, NodeIndex};
+
+impl<N, E, Ix: IndexType> DiGraph<N, E, Ix> {
+    /// How many nodes there are.
+    #[inline]
+    pub fn node_count(&self) -> usize
+        ensures count { result ≡ node_count_of self.now.graph }
+        ensures slots { result ≡ length self.now.graph.nodes }
+        ensures well_formed { IsWellFormed Ix.greatest self.now.graph }
+        ensures compact { IsCompact self.now.graph }
+    {
+        self.nodes.len()
+    }
+
+    /// How many edges there are.
+    #[inline]
+    pub fn edge_count(&self) -> usize
+        ensures count { result ≡ edge_count_of self.now.graph }
+        ensures slots { result ≡ length self.now.graph.edges }
+        ensures well_formed { IsWellFormed Ix.greatest self.now.graph }
+        ensures compact { IsCompact self.now.graph }
+    {
+        self.edges.len()
+    }
+
+    /// Whether the index type has an index left for one more node.
+    #[inline]
+    pub fn can_add_node(&self) -> bool
+        ensures { IsTrue result ↔ (node_count_of self.now.graph < Ix.greatest) }
+    {
+        self.node_count() < NodeIndex::<Ix>::end().index()
+    }
+
+    /// Whether the index type has an index left for one more edge.
+    #[inline]
+    pub fn can_add_edge(&self) -> bool
+        ensures { IsTrue result ↔ (edge_count_of self.now.graph < Ix.greatest) }
+    {
+        self.edge_count() < EdgeIndex::<Ix>::end().index()
+    }
+}

@@ -1,0 +1,125 @@
+//! Removing edges and nodes.
+ghost use Rattle.std.specs.Prelude.{◌≡◌, ℕ, ◌≤◌, length, OnSome, IfNone, Some, []};
+ghost use Rattle.std.specs.Option.{option_map};
+ghost use Rattle.daggy_base.specs.declared.index.Direction.{Direction};
+ghost use Rattle.daggy_base.specs.Graph.{empty, node_weight, edge_at, HasNode, list_at};
+ghost use Rattle.daggy_base.specs.Removal.{Compact, without_edge, without_front, without_node, isolated, dropped_node, without_all_edges};
+ghost use Rattle.daggy_base.specs.WellFormed.{IsIsolated};
+ghost use Rattle.daggy_base.specs.State.{with_graph};
+
+use crate::graph::links::{detach, reown_last, unlink_all};
+use crate::graph::{DiGraph, Edge, Node};
+use daggy_base::index::{Direction, EdgeIndex, IndexType, NodeIndex};
+use daggy_base::link::Link;
+
+impl<N, E, Ix: IndexType> DiGraph<N, E, Ix> {
+    /// Removes an edge and hands back its weight, if the edge exists. The edge with the last index gets its index.
+    ///
+    /// The cost grows with the number of edges in the lists that the two edges stand in. It takes no memory.
+    pub fn remove_edge(&mut self, e: EdgeIndex<Ix>) -> Option<E>
+        ensures value { result ≡ option_map (λ x. x.weight) (edge_at self.old.graph (Ix.number e)) }
+        ensures removed { OnSome result (self.new ≡ with_graph self.old (without_edge Compact self.old.graph (Ix.number e))) }
+        ensures missing { IfNone result (self.new ≡ self.old) }
+    {
+        let i = e.index();
+        if i >= self.edges.len() {
+            return None;
+        }
+        detach(&mut self.nodes, &mut self.edges, Link::of_edge(e));
+        let Edge {
+            weight,
+            parent: _,
+            child: _,
+            next_out: _,
+            next_in: _,
+        } = self.edges.swap_remove(i);
+        Some(weight)
+    }
+
+    /// Removes a node with its edges and hands back its weight, if the node exists.
+    ///
+    /// First the edges that leave it are removed, the first of the list each time, and then those that enter it. Each
+    /// removal gives the index of the removed edge to the edge with the last index. At last the node with the last
+    /// index gets the index of this node.
+    ///
+    /// The cost is that of removing each of those edges, and grows besides with the number of edges of the node with
+    /// the last index. It takes no memory.
+    pub fn remove_node(&mut self, n: NodeIndex<Ix>) -> Option<N>
+    where
+        E: Drop,
+        ensures value { result ≡ node_weight self.old.graph (Ix.number n) }
+        ensures removed { OnSome result (self.new ≡ with_graph self.old (without_node Compact self.old.graph (Ix.number n))) }
+        ensures between { OnSome result (IsIsolated Ix.greatest (isolated Compact self.old.graph (Ix.number n)) (Ix.number n)) }
+        ensures missing { IfNone result (self.new ≡ self.old) }
+        ensures slots { length self.new.graph.nodes ≤ length self.old.graph.nodes }
+    {
+        if self.node_weight(n).is_none() {
+            return None;
+        }
+        self.clear_front(n, Direction::Outgoing);
+        self.clear_front(n, Direction::Incoming);
+        let _well_formed = self.edge_count();
+        Some(self.drop_node(n))
+    }
+
+    // Removes the edge at the front of n's list of that direction until the list is empty.
+    fn clear_front(&mut self, n: NodeIndex<Ix>, dir: Direction)
+    where
+        E: Drop,
+        ensures cleared { self.new ≡ with_graph self.old (without_front Compact dir (length (list_at dir self.old.graph (Ix.number n))) self.old.graph (Ix.number n)) }
+        ensures emptied { list_at dir self.new.graph (Ix.number n) ≡ [] }
+        ensures empty_stays { (d : Direction) → list_at d self.old.graph (Ix.number n) ≡ [] → list_at d self.new.graph (Ix.number n) ≡ [] }
+        ensures nodes { self.new.graph.nodes ≡ self.old.graph.nodes }
+    {
+        'front: loop {
+            let _well_formed = self.edge_count();
+            let e = self.first_edge(n, dir);
+            if self.remove_edge(e).is_none() {
+                return;
+            }
+        }
+    }
+
+    // Removes a node that has no edges, and the node with the last index gets its index.
+    pub(super) fn drop_node(&mut self, n: NodeIndex<Ix>) -> N
+        requires node { HasNode self.old.graph (Ix.number n) }
+        requires no_edges { (d : Direction) → list_at d self.old.graph (Ix.number n) ≡ [] }
+        ensures value { node_weight self.old.graph (Ix.number n) ≡ Some result }
+        ensures dropped { self.new ≡ with_graph self.old (dropped_node Compact self.old.graph (Ix.number n)) }
+        ensures slots { length self.new.graph.nodes ≤ length self.old.graph.nodes }
+    {
+        let i = n.index();
+        reown_last(&self.nodes, &mut self.edges, Link::of_node(n));
+        let Node {
+            weight,
+            first_out: _,
+            first_in: _,
+        } = self.nodes.swap_remove(i);
+        weight
+    }
+
+    /// Removes all nodes and edges. It keeps the memory for later ones.
+    ///
+    /// The cost grows with the number of nodes and edges.
+    pub fn clear(&mut self)
+    where
+        N: Drop,
+        E: Drop,
+        ensures { self.new ≡ with_graph self.old empty }
+    {
+        self.nodes.clear();
+        self.edges.clear();
+    }
+
+    /// Removes all edges, and keeps the nodes. It keeps the memory for later edges.
+    ///
+    /// The cost grows with the number of nodes and edges.
+    pub fn clear_edges(&mut self)
+    where
+        E: Drop,
+        ensures { self.new ≡ with_graph self.old (without_all_edges self.old.graph) }
+    {
+        self.edges.clear();
+        unlink_all(&mut self.nodes);
+    }
+}

@@ -1,0 +1,131 @@
+//! Each call is made again after a refusal, and must then succeed.
+use daggy::{ChildError, Dag, EdgeError, NodeError, NodeIndex, Walker};
+use std::process::Abort;
+use std::test::Fail;
+
+// Asserts that the dag is a root with so many children, in order, and nothing else.
+fn assert_fan(rt: &impl Abort, dag: &Dag<usize, usize>, nodes: usize, edges: usize) {
+    assert_eq!(rt; dag.node_count(), nodes);
+    assert_eq!(rt; dag.edge_count(), edges);
+    let mut walker = dag.children(NodeIndex::new(0));
+    for e in (0..edges).rev() {
+        match walker.walk_next(dag) {
+            Some(item) => {
+                assert_eq!(rt; item.0.index(), e);
+                assert_eq!(rt; item.1.index(), e + 1);
+                assert_eq!(rt; dag.edge_weight(item.0).copied(), Some(e + 100));
+                assert_eq!(rt; dag.node_weight(item.1).copied(), Some(e + 1));
+            }
+            None => panic!(rt; "an edge is missing"),
+        }
+    }
+    assert!(rt; walker.walk_next(dag).is_none());
+}
+
+// Adds a node, a second time if the first is refused, and says whether it was.
+fn add_node_again(rt: &impl Abort, dag: &mut Dag<usize, usize>, edges: usize) -> Result<bool, Fail> {
+    let weight = dag.node_count();
+    assert!(rt; dag.can_add_node());
+    match dag.add_node(weight) {
+        Ok(n) => {
+            assert_eq!(rt; n.index(), weight);
+            Ok(false)
+        }
+        Err(NodeError::Memory(refused)) => {
+            assert_eq!(rt; refused, weight);
+            assert_fan(rt, dag, weight, edges);
+            assert!(rt; dag.can_add_node());
+            assert_eq!(rt; dag.add_node(refused)?.index(), weight);
+            Ok(true)
+        }
+        Err(NodeError::Full(_)) => panic!(rt; "an index is left"),
+    }
+}
+
+// Adds an edge from the root to a node, likewise.
+fn add_edge_again(rt: &impl Abort, dag: &mut Dag<usize, usize>, child: NodeIndex) -> Result<bool, Fail> {
+    let edges = dag.edge_count();
+    let nodes = dag.node_count();
+    let root = NodeIndex::new(0);
+    assert!(rt; edges < 100);
+    assert!(rt; dag.node_weight(root).is_some());
+    assert!(rt; dag.node_weight(child).is_some());
+    assert!(rt; dag.can_add_edge());
+    match dag.add_edge(root, child, edges + 100) {
+        Ok(e) => {
+            assert_eq!(rt; e.index(), edges);
+            Ok(false)
+        }
+        Err(EdgeError::Memory(refused)) => {
+            assert_eq!(rt; refused, edges + 100);
+            assert_fan(rt, dag, nodes, edges);
+            assert!(rt; dag.node_weight(root).is_some());
+            assert!(rt; dag.node_weight(child).is_some());
+            assert!(rt; dag.can_add_edge());
+            assert_eq!(rt; dag.add_edge(root, child, refused)?.index(), edges);
+            Ok(true)
+        }
+        _ => panic!(rt; "no other refusal has a cause"),
+    }
+}
+
+// Adds a node below the root, likewise.
+fn add_child_again(rt: &impl Abort, dag: &mut Dag<usize, usize>) -> Result<bool, Fail> {
+    let edges = dag.edge_count();
+    let nodes = dag.node_count();
+    let root = NodeIndex::new(0);
+    assert!(rt; edges < 100);
+    assert!(rt; dag.node_weight(root).is_some());
+    assert!(rt; dag.can_add_edge());
+    assert!(rt; dag.can_add_node());
+    match dag.add_child(root, edges + 100, nodes) {
+        Ok(added) => {
+            assert_eq!(rt; added.0.index(), edges);
+            assert_eq!(rt; added.1.index(), nodes);
+            Ok(false)
+        }
+        Err(ChildError::Memory(edge, node)) => {
+            assert_eq!(rt; edge, edges + 100);
+            assert_eq!(rt; node, nodes);
+            assert_fan(rt, dag, nodes, edges);
+            assert!(rt; dag.node_weight(root).is_some());
+            assert!(rt; dag.can_add_edge());
+            assert!(rt; dag.can_add_node());
+            let added = dag.add_child(root, edge, node)?;
+            assert_eq!(rt; added.0.index(), edges);
+            Ok(true)
+        }
+    }
+}
+
+#[test]
+fn a_refused_allocation_is_answered_and_nothing_else(rt: HostRuntime) -> Result<(), Fail> {
+    let mut dag: Dag<usize, usize> = Dag::new(rt.alloc());
+    let mut refused = add_node_again(&rt, &mut dag, 0)?;
+    for i in 0..20 {
+        if add_node_again(&rt, &mut dag, i)? {
+            assert!(rt; !refused, "a second refusal");
+            refused = true;
+        }
+        if add_edge_again(&rt, &mut dag, NodeIndex::new(i + 1))? {
+            assert!(rt; !refused, "a second refusal");
+            refused = true;
+        }
+        assert_fan(&rt, &dag, i + 2, i + 1);
+    }
+    Ok(())
+}
+
+#[test]
+fn a_refused_child_comes_back_with_its_edge(rt: HostRuntime) -> Result<(), Fail> {
+    let mut dag: Dag<usize, usize> = Dag::new(rt.alloc());
+    let mut refused = add_node_again(&rt, &mut dag, 0)?;
+    for i in 0..20 {
+        if add_child_again(&rt, &mut dag)? {
+            assert!(rt; !refused, "a second refusal");
+            refused = true;
+        }
+        assert_fan(&rt, &dag, i + 2, i + 1);
+    }
+    Ok(())
+}

@@ -1,0 +1,7 @@
+//! Examples: what the definitions give on small graphs, and what the public calls do.
+#![tactic(auto)]
+
+pub mod definitions;
+
+#[cfg(test)]
+mod tests;

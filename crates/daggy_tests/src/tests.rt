@@ -1,0 +1,12 @@
+//! What no contract says: that calls succeed, what is printed, and that large graphs are no trouble.
+
+mod adding;
+mod errors;
+mod graphs;
+mod indices;
+mod large;
+mod removing;
+mod searching;
+mod support;
+mod updating;
+mod walking;
