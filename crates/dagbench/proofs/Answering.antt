@@ -1,27 +1,68 @@
--- Answers to lines, and the text of a walk as it grows.
-use Rattle.std.proofs.Common.{◌≡◌, ℕ, List, [], ◌∷◌, ◌++◌, codes, Some, None, Result, Ok, Err, refl, subst, ℤ}
+-- Answers to commands and to lines.
+use Rattle.std.proofs.Common.{◌≡◌, ℕ, List, [], ◌∷◌, ◌++◌, codes, Some, None, Result, Ok, Err, refl, sym, subst, ℤ}
 use Rattle.std.specs.Option.{MatchOption}
+use Rattle.daggy.specs.declared.index.Direction.TheVariants.{Outgoing, Incoming}
 use Rattle.daggy.specs.Graph.{Graph}
 use Rattle.dagbench.specs.declared.command.Command.{Command}
+use Rattle.dagbench.specs.declared.command.Command.TheVariants.{Node, Edge, Update, Child, Parent, Find, Ends, RemoveNode, RemoveEdge, Children, Parents, ClearEdges, Clear}
+use Rattle.dagbench.specs.declared.reply.Reply.{Reply}
 use Rattle.dagbench.specs.Commands.{command_of}
+use Rattle.dagbench.specs.Replies.{text_of, walk_text}
 use Rattle.dagbench.specs.Streams.{Appends}
-use Rattle.dagbench.specs.Steps.{Answer, answer_text, IsStep, IsAnswer}
-use Rattle.dagbench.specs.Progress.{AnswersLine}
+use Rattle.dagbench.specs.Steps.{Answer, Said, Walked, answer_text, walk_of, IsReply, IsStep}
+use Rattle.dagbench.specs.Progress.{AnswersCommand, AnswersLine}
 
-answers : {A E : Type 0} (r : Result A E) (line : List ℕ) (old new : Graph ℤ ℤ) (before now text : List ℕ) → IsAnswer old line text new → Appends r before now (text ++ 10 ∷ []) → AnswersLine r line old new before now
-answers (Ok x) line old new before now text is appended = (text, is, appended)
-answers (Err e) line old new before now text is appended = tt
+reply_is_step : (old new : Graph ℤ ℤ) (command : Command) (reply : Reply) → IsReply old command reply new → IsStep old command (Said reply) new
+reply_is_step old new (Node w) reply is = is
+reply_is_step old new (Edge a b w) reply is = is
+reply_is_step old new (Update a b w) reply is = is
+reply_is_step old new (Child p e n) reply is = is
+reply_is_step old new (Parent c e n) reply is = is
+reply_is_step old new (Find a b) reply is = is
+reply_is_step old new (Ends e) reply is = is
+reply_is_step old new (RemoveNode n) reply is = is
+reply_is_step old new (RemoveEdge e) reply is = is
+reply_is_step old new (Children n) reply is = is
+reply_is_step old new (Parents n) reply is = is
+reply_is_step old new ClearEdges reply is = is
+reply_is_step old new Clear reply is = is
+
+answered : {A E : Type 0} (r : Result A E) (command : Command) (old new : Graph ℤ ℤ) (before now : List ℕ) (answer : Answer) → IsStep old command answer new → Appends r before now (answer_text answer ++ 10 ∷ []) → AnswersCommand r command old new before now
+answered (Ok x) command old new before now answer step appended = (answer, step, appended)
+answered (Err e) command old new before now answer step appended = tt
+
+-- the answer to a command that is replied
+pub replied : {A E : Type 0} (r : Result A E) (command : Command) (old new : Graph ℤ ℤ) (before now : List ℕ) (reply : Reply)
+    → IsReply old command reply new → Appends r before now (text_of reply ++ 10 ∷ []) → AnswersCommand r command old new before now
+replied r command old new before now reply is = answered r command old new before now (Said reply) (reply_is_step old new command reply is)
+
+-- the answers to the commands that are walked
+pub walked_down : {A E : Type 0} (r : Result A E) (command : Command) (g : Graph ℤ ℤ) (before now : List ℕ) (n : ℕ)
+    → command ≡ Children n → Appends r before now (walk_text (walk_of Outgoing g n) ++ 10 ∷ []) → AnswersCommand r command g g before now
+walked_down {A} {E} r command g before now n is appended =
+    subst (λ c. AnswersCommand r c g g before now) (sym is) (answered r (Children n) g g before now (Walked (walk_of Outgoing g n)) (refl, refl) appended)
+
+pub walked_up : {A E : Type 0} (r : Result A E) (command : Command) (g : Graph ℤ ℤ) (before now : List ℕ) (n : ℕ)
+    → command ≡ Parents n → Appends r before now (walk_text (walk_of Incoming g n) ++ 10 ∷ []) → AnswersCommand r command g g before now
+walked_up {A} {E} r command g before now n is appended =
+    subst (λ c. AnswersCommand r c g g before now) (sym is) (answered r (Parents n) g g before now (Walked (walk_of Incoming g n)) (refl, refl) appended)
 
 -- the answer to a line that says a command
-pub answers_command : {A E : Type 0} (r : Result A E) (line : List ℕ) (old new : Graph ℤ ℤ) (before now : List ℕ) (command : Command) (answer : Answer)
-    → Some command ≡ command_of line → IsStep old command answer new → Appends r before now (answer_text answer ++ 10 ∷ []) → AnswersLine r line old new before now
-answers_command r line old new before now command answer says step =
-    answers r line old new before now (answer_text answer)
-    (subst (λ o. MatchOption o ((answer_text answer ≡ codes "bad line") × (new ≡ old)) (λ c. (a : Answer) × IsStep old c a new × (answer_text answer ≡ answer_text a))) says (answer, step, refl))
+pub answers_command : {A E : Type 0} (r : Result A E) (line : List ℕ) (old new : Graph ℤ ℤ) (before now : List ℕ) (command : Command)
+    → Some command ≡ command_of line → AnswersCommand r command old new before now → AnswersLine r line old new before now
+answers_command (Err e) line old new before now command says h = tt
+answers_command (Ok x) line old new before now command says h = (
+  answer_text h.0,
+  subst (λ o. MatchOption o ((answer_text h.0 ≡ codes "bad line") × (new ≡ old)) (λ c. (a : Answer) × IsStep old c a new × (answer_text h.0 ≡ answer_text a))) says (h.0, h.1, refl),
+  h.2,
+)
 
 -- the answer to a line that says none
 pub answers_none : {A E : Type 0} (r : Result A E) (line : List ℕ) (old : Graph ℤ ℤ) (before now : List ℕ)
     → None ≡ command_of line → Appends r before now (codes "bad line" ++ 10 ∷ []) → AnswersLine r line old old before now
-answers_none r line old before now says =
-    answers r line old old before now (codes "bad line")
-    (subst (λ o. MatchOption o ((codes "bad line" ≡ codes "bad line") × (old ≡ old)) (λ c. (a : Answer) × IsStep old c a old × (codes "bad line" ≡ answer_text a))) says (refl, refl))
+answers_none (Err e) line old before now says appended = tt
+answers_none (Ok x) line old before now says appended = (
+  codes "bad line",
+  subst (λ o. MatchOption o ((codes "bad line" ≡ codes "bad line") × (old ≡ old)) (λ c. (a : Answer) × IsStep old c a old × (codes "bad line" ≡ answer_text a))) says (refl, refl),
+  appended,
+)

@@ -1,13 +1,14 @@
 -- A walk along the out list of a node.
-use Rattle.std.proofs.Common.{if◌then◌else◌, ◌==◌, ◌≡◌, ◌≢◌, ◌⊎◌, ℕ, zero, suc, ◌<◌, eqb, List, [], ◌∷◌, length, get_or, Option, Some, None, refl, sym, ap, subst, ◌∙◌, inl, inr, arith, Contains, ℤ}
+use Rattle.std.proofs.Common.{if◌then◌else◌, ◌==◌, ◌≡◌, ◌≢◌, ◌⊎◌, ◌↔◌, ℕ, zero, suc, ◌<◌, eqb, List, [], ◌∷◌, length, get_or, Option, Some, None, refl, sym, ap, subst, ◌∙◌, inl, inr, arith, Contains, ℤ}
 use Rattle.std.proofs.lemmas.Bool.{cases_eq, eq-eqb, ne_eqb, cond-true, cond-false}
 use Rattle.std.proofs.lemmas.Option.{slice_get_past}
 use Rattle.std.specs.Option.{option_and_then, option_map, unwrap_or}
-use Rattle.daggy.specs.Graph.{Graph, Edge, edge_at, out_list}
+use Rattle.daggy.specs.Graph.{Graph, Edge, edge_at, list_at, near_end, far_end}
 use Rattle.daggy.specs.Cursor.{first_of, after, IsStep, item_at, cursor_after}
 use Rattle.daggy.specs.WellFormed.{AreDistinct, IsWellFormed, IsDag}
-use Rattle.dagbench.specs.Steps.{with_child}
-use Rattle.daggy.specs.declared.index.Direction.TheVariants.{Outgoing}
+use Rattle.dagbench.specs.Steps.{with_far_end}
+use Rattle.daggy.specs.declared.index.Direction.{Direction}
+use Rattle.daggy.specs.declared.index.Direction.TheVariants.{Outgoing, Incoming}
 
 -- the list from e on
 abbrev pub rest_from : List ℕ → ℕ → List ℕ
@@ -109,10 +110,19 @@ first_again end xs e place no_end =
     ]
 
 -- the walk stands at the first of what is left of the list
-abbrev pub Stands : (end : ℕ) → Graph ℤ ℤ → (parent cursor : ℕ) → Type 0
-Stands end g parent cursor = first_of end (rest_from (out_list g parent) cursor) ≡ cursor
+abbrev pub Stands : Direction → (end : ℕ) → Graph ℤ ℤ → (parent cursor : ℕ) → Type 0
+Stands dir end g parent cursor = first_of end (rest_from (list_at dir g parent) cursor) ≡ cursor
 
-module _ (end : ℕ) (g : Graph ℤ ℤ) (dag : IsDag end g) where
+-- the edges of a list are those whose near end is its node, each once
+exact_at : (dir : Direction) (end : ℕ) (g : Graph ℤ ℤ) → IsWellFormed end g → (n e : ℕ) → Contains (list_at dir g n) e ↔ ((x : Edge ℤ) × (edge_at g e ≡ Some x) × (near_end dir x ≡ n))
+exact_at Outgoing end g w = w.out_of.exact
+exact_at Incoming end g w = w.in_of.exact
+
+once_at : (dir : Direction) (end : ℕ) (g : Graph ℤ ℤ) → IsWellFormed end g → (n : ℕ) → AreDistinct (list_at dir g n)
+once_at Outgoing end g w = w.out_of.once
+once_at Incoming end g w = w.in_of.once
+
+module _ (dir : Direction) (end : ℕ) (g : Graph ℤ ℤ) (dag : IsDag end g) where
   w : IsWellFormed end g
   w = dag.well_formed
 
@@ -120,55 +130,55 @@ module _ (end : ℕ) (g : Graph ℤ ℤ) (dag : IsDag end g) where
   no_edge : edge_at g end ≡ None
   no_edge = ap (option_and_then (λ x. x)) (slice_get_past g.edges end w.few_edges)
 
-  no_end : (n : ℕ) → ¬ Contains (out_list g n) end
-  no_end n p = let e = (w.out_of.exact n end).0 p in let clash : Some e.0 ≡ None = sym e.1 ∙ no_edge in absurd (cc)
+  no_end : (n : ℕ) → ¬ Contains (list_at dir g n) end
+  no_end n p = let e = (exact_at dir end g w n end).0 p in let clash : Some e.0 ≡ None = sym e.1 ∙ no_edge in absurd (cc)
 
-  pub stands_first : (parent cursor : ℕ) → cursor ≡ first_of end (out_list g parent) → Stands end g parent cursor × (rest_from (out_list g parent) cursor ≡ out_list g parent)
+  pub stands_first : (parent cursor : ℕ) → cursor ≡ first_of end (list_at dir g parent) → Stands dir end g parent cursor × (rest_from (list_at dir g parent) cursor ≡ list_at dir g parent)
   stands_first parent cursor is =
-      let whole : rest_from (out_list g parent) cursor ≡ out_list g parent = ap (rest_from (out_list g parent)) is ∙ rest_first end (out_list g parent) (no_end parent) in
+      let whole : rest_from (list_at dir g parent) cursor ≡ list_at dir g parent = ap (rest_from (list_at dir g parent)) is ∙ rest_first end (list_at dir g parent) (no_end parent) in
       (ap (first_of end) whole ∙ sym is, whole)
 
   -- where the walk gives nothing, nothing is left
-  pub stops : (parent cursor next : ℕ) → Stands end g parent cursor → IsStep Outgoing end g cursor None next → rest_from (out_list g parent) cursor ≡ []
+  pub stops : (parent cursor next : ℕ) → Stands dir end g parent cursor → IsStep dir end g cursor None next → rest_from (list_at dir g parent) cursor ≡ []
   stops parent cursor next stands step = go (edge_at g cursor) refl step.item_is
     where
-      go : (o : Option (Edge ℤ)) → edge_at g cursor ≡ o → None ≡ item_at Outgoing g cursor o → rest_from (out_list g parent) cursor ≡ []
+      go : (o : Option (Edge ℤ)) → edge_at g cursor ≡ o → None ≡ item_at dir g cursor o → rest_from (list_at dir g parent) cursor ≡ []
       go (Some x) is item = absurd (cc)
       go None is item =
-          elim (in_or_not (out_list g parent) cursor) [
-            | inl p ↦ let e = (w.out_of.exact parent cursor).0 p.0 in let clash : Some e.0 ≡ None = sym e.1 ∙ is in absurd (cc)
+          elim (in_or_not (list_at dir g parent) cursor) [
+            | inl p ↦ let e = (exact_at dir end g w parent cursor).0 p.0 in let clash : Some e.0 ≡ None = sym e.1 ∙ is in absurd (cc)
             | inr p ↦ p.1
           ]
 
   -- what a step of a walk does
   pub record Steps (parent cursor : ℕ) (item : ℕ × ℕ) (next : ℕ) : Type 0 where
-    pub here : rest_from (out_list g parent) cursor ≡ cursor ∷ rest_from (out_list g parent) next
-    pub item_is : item ≡ with_child g cursor
-    pub stands : Stands end g parent next
+    pub here : rest_from (list_at dir g parent) cursor ≡ cursor ∷ rest_from (list_at dir g parent) next
+    pub item_is : item ≡ with_far_end dir g cursor
+    pub stands : Stands dir end g parent next
 
-  pub steps : (parent cursor next : ℕ) (item : ℕ × ℕ) → Stands end g parent cursor → IsStep Outgoing end g cursor (Some item) next → Steps parent cursor item next
+  pub steps : (parent cursor next : ℕ) (item : ℕ × ℕ) → Stands dir end g parent cursor → IsStep dir end g cursor (Some item) next → Steps parent cursor item next
   steps parent cursor next item stands step = go (edge_at g cursor) refl step.item_is step.next_is
     where
-      go : (o : Option (Edge ℤ)) → edge_at g cursor ≡ o → Some item ≡ item_at Outgoing g cursor o → next ≡ cursor_after Outgoing end g cursor o → Steps parent cursor item next
+      go : (o : Option (Edge ℤ)) → edge_at g cursor ≡ o → Some item ≡ item_at dir g cursor o → next ≡ cursor_after dir end g cursor o → Steps parent cursor item next
       go None is item_is next_is = absurd (cc)
       go (Some x) is item_is next_is =
-          elim (in_or_not (out_list g parent) cursor) [
+          elim (in_or_not (list_at dir g parent) cursor) [
             | inl p ↦
-                let e = (w.out_of.exact parent cursor).0 p.0 in
+                let e = (exact_at dir end g w parent cursor).0 p.0 in
                 let same : x ≡ e.0 = cc in
-                let own : x.parent ≡ parent = ap (λ (y : Edge ℤ). y.parent) same ∙ e.2 in
-                let next_here : next ≡ after end (out_list g parent) cursor = next_is ∙ ap (λ n. after end (out_list g n) cursor) own in
-                let place : Contains (out_list g parent) next ⊎ (next ≡ end) = subst (λ n. Contains (out_list g parent) n ⊎ (n ≡ end)) (sym next_here) (after_in end (out_list g parent) cursor) in
+                let own : near_end dir x ≡ parent = ap (near_end dir) same ∙ e.2 in
+                let next_here : next ≡ after end (list_at dir g parent) cursor = next_is ∙ ap (λ n. after end (list_at dir g n) cursor) own in
+                let place : Contains (list_at dir g parent) next ⊎ (next ≡ end) = subst (λ n. Contains (list_at dir g parent) n ⊎ (n ≡ end)) (sym next_here) (after_in end (list_at dir g parent) cursor) in
                 record {
-                  here = rest_after end (out_list g parent) cursor (w.out_of.once parent) (no_end parent) p.0 ∙ ap (λ n. cursor ∷ rest_from (out_list g parent) n) (sym next_here);
+                  here = rest_after end (list_at dir g parent) cursor (once_at dir end g w parent) (no_end parent) p.0 ∙ ap (λ n. cursor ∷ rest_from (list_at dir g parent) n) (sym next_here);
                   item_is = child_is x is item_is;
-                  stands = first_again end (out_list g parent) next place (no_end parent);
+                  stands = first_again end (list_at dir g parent) next place (no_end parent);
                 }
             | inr p ↦
                 let at_end : end ≡ cursor = ap (first_of end) (sym p.1) ∙ stands in
                 let clash : Some x ≡ None = sym is ∙ (ap (edge_at g) (sym at_end) ∙ no_edge) in absurd (cc)
           ]
         where
-          child_is : (x : Edge ℤ) → edge_at g cursor ≡ Some x → Some item ≡ Some (cursor, x.child) → item ≡ with_child g cursor
+          child_is : (x : Edge ℤ) → edge_at g cursor ≡ Some x → Some item ≡ Some (cursor, far_end dir x) → item ≡ with_far_end dir g cursor
           child_is x is item_is =
-              let same : with_child g cursor ≡ (cursor, x.child) = ap (λ o. (cursor, unwrap_or (option_map (λ (y : Edge ℤ). y.child) o) 0)) is in cc
+              let same : with_far_end dir g cursor ≡ (cursor, far_end dir x) = ap (λ o. (cursor, unwrap_or (option_map (far_end dir) o) 0)) is in cc

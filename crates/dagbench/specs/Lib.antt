@@ -6,6 +6,7 @@ pub mod Replies
 pub mod Arguments
 pub mod Endings
 pub mod Steps
+pub mod Walks
 pub mod Serving
 pub mod Progress
 pub mod Ends

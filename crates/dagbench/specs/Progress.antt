@@ -3,13 +3,20 @@ use Rattle.std.specs.Prelude.{◌≡◌, ℕ, List, [], ◌∷◌, ◌++◌, tak
 use Rattle.std.specs.List.{flat_map, AllByRecursion}
 use Rattle.daggy.specs.Graph.{Graph, empty}
 use Rattle.dagbench.specs.Cutting.{newline, Lacks}
-use Rattle.dagbench.specs.Steps.{IsAnswer, IsTranscript}
+use Rattle.dagbench.specs.declared.command.Command.{Command}
+use Rattle.dagbench.specs.Steps.{Answer, answer_text, IsStep, IsAnswer, IsTranscript}
 
 -- after an Ok the line was answered behind what had been written
 abbrev pub AnswersLine : {A E : Type 0} → Result A E → (line : List ℕ) → (old new : Graph ℤ ℤ) → (written_old written_new : List ℕ) → Type 0
 AnswersLine (Ok x) line old new written_old written_new =
     (text : List ℕ) × IsAnswer old line text new × (written_new ≡ written_old ++ (text ++ newline ∷ []))
 AnswersLine (Err e) line old new written_old written_new = Unit {0}
+
+-- after an Ok the command was answered behind what had been written
+abbrev pub AnswersCommand : {A E : Type 0} → Result A E → Command → (old new : Graph ℤ ℤ) → (written_old written_new : List ℕ) → Type 0
+AnswersCommand (Ok x) command old new written_old written_new =
+    (answer : Answer) × IsStep old command answer new × (written_new ≡ written_old ++ (answer_text answer ++ newline ∷ []))
+AnswersCommand (Err e) command old new written_old written_new = Unit {0}
 
 -- a line with its newline
 abbrev pub ended : List ℕ → List ℕ

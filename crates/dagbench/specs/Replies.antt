@@ -3,11 +3,16 @@ use Rattle.std.specs.Prelude.{ℕ, List, [], ◌∷◌, ◌++◌, codes, decimal
 use Rattle.std.specs.List.{flat_map}
 use Rattle.std.specs.Fmt.{signed_decimal}
 use Rattle.dagbench.specs.declared.reply.Reply.{Reply}
-use Rattle.dagbench.specs.declared.reply.Reply.TheVariants.{Node, Edge, Missing, Full, Cycle, Memory}
+use Rattle.dagbench.specs.declared.reply.Reply.TheVariants.{Node, Edge, EdgeNode, Ends, Weight, Nothing, Done, Missing, Full, Cycle, Memory}
 
 abbrev pub text_of : Reply → List ℕ
 text_of (Node n) = codes "n" ++ decimal n
 text_of (Edge e) = codes "e" ++ decimal e
+text_of (EdgeNode e n) = (codes "e" ++ decimal e) ++ codes " " ++ (codes "n" ++ decimal n)
+text_of (Ends u v) = (codes "n" ++ decimal u) ++ codes " " ++ (codes "n" ++ decimal v)
+text_of (Weight weight) = codes "weight " ++ signed_decimal weight
+text_of Nothing = codes "none"
+text_of Done = codes "ok"
 text_of Missing = codes "missing"
 text_of Full = codes "full"
 text_of (Cycle weight) = codes "cycle " ++ signed_decimal weight

@@ -1,9 +1,14 @@
 -- What commands and lines are answered, and what they make of the graph.
-use Rattle.std.specs.Prelude.{◌≡◌, ℕ, ◌<◌, ◌≤◌, List, [], ◌∷◌, ◌++◌, map, MatchOption, unwrap_or, codes, ℤ}
+use Rattle.std.specs.Prelude.{◌≡◌, ℕ, ◌<◌, ◌≤◌, ◌⊎◌, Option, Some, None, List, [], ◌∷◌, ◌++◌, map, MatchOption, unwrap_or, codes, ℤ}
 use Rattle.std.specs.Option.{option_map}
-use Rattle.daggy.specs.Graph.{Graph, HasNode, edge_at, out_list, node_count, edge_count}
+use Rattle.daggy.specs.declared.index.Direction.{Direction}
+use Rattle.daggy.specs.declared.index.Direction.TheVariants.{Outgoing, Incoming}
+use Rattle.daggy.specs.Graph.{Graph, empty, HasNode, node_weight, edge_at, ends_of, list_at, far_end, node_count, edge_count}
 use Rattle.daggy.specs.Path.{Reaches}
-use Rattle.daggy.specs.Adding.{next_node, next_edge, with_node, with_edge}
+use Rattle.daggy.specs.Adding.{next_node, next_edge, with_node, with_edge, with_neighbor}
+use Rattle.daggy.specs.Removal.{Compact, without_edge, without_node, without_all_edges}
+use Rattle.daggy.specs.Weights.{edge_weight, with_edge_weight}
+use Rattle.daggy.specs.Finding.{find_edge}
 use Rattle.dagbench.specs.declared.command.Command.{Command}
 use Rattle.dagbench.specs.declared.command.Command.TheVariants as command
 use Rattle.dagbench.specs.declared.reply.Reply.{Reply}
@@ -25,38 +30,97 @@ answer_text (Walked items) = walk_text items
 abbrev pub index_count : ℕ
 index_count = 4294967295
 
--- an edge with the node that it leads to
-abbrev pub with_child : Graph ℤ ℤ → ℕ → ℕ × ℕ
-with_child g e = (e, unwrap_or (option_map (λ x. x.child) (edge_at g e)) 0)
+-- an edge with its far end
+abbrev pub with_far_end : Direction → Graph ℤ ℤ → ℕ → ℕ × ℕ
+with_far_end dir g e = (e, unwrap_or (option_map (far_end dir) (edge_at g e)) 0)
 
--- the edges that leave a node with the nodes that they lead to, newest first. A missing node has none
-abbrev pub children_of : Graph ℤ ℤ → ℕ → List (ℕ × ℕ)
-children_of g parent = map (with_child g) (out_list g parent)
+-- the edges of a node's list of that direction with their far ends, newest first. A missing node has none
+abbrev pub walk_of : Direction → Graph ℤ ℤ → ℕ → List (ℕ × ℕ)
+walk_of dir g n = map (with_far_end dir g) (list_at dir g n)
+
+abbrev pub HaveEnds : Graph ℤ ℤ → (parent child : ℕ) → Type 0
+HaveEnds g parent child = HasNode g parent × HasNode g child
 
 -- both ends of the edge exist, an index is left for it, and it closes no cycle
 pub record IsAddable (g : Graph ℤ ℤ) (parent child : ℕ) : Type 0 where
-  pub parent_exists : HasNode g parent
-  pub child_exists : HasNode g child
+  pub ends : HaveEnds g parent child
   pub index_left : edge_count g < index_count
   pub no_cycle : ¬ (Reaches g child parent)
 
+-- adding an edge
+abbrev pub IsEdgeStep : Graph ℤ ℤ → (parent child : ℕ) → ℤ → Reply → Graph ℤ ℤ → Type 0
+IsEdgeStep old parent child weight (reply.Edge e) new = IsAddable old parent child × (e ≡ next_edge old) × (new ≡ with_edge old parent child weight)
+IsEdgeStep old parent child weight reply.Memory new = IsAddable old parent child × (new ≡ old)
+IsEdgeStep old parent child weight reply.Missing new = ¬ (HaveEnds old parent child) × (new ≡ old)
+IsEdgeStep old parent child weight reply.Full new = HaveEnds old parent child × (index_count ≤ edge_count old) × (new ≡ old)
+IsEdgeStep old parent child weight (reply.Cycle back) new =
+    HaveEnds old parent child × (edge_count old < index_count) × Reaches old child parent × (back ≡ weight) × (new ≡ old)
+IsEdgeStep old parent child weight other new = ⊥
+
+-- writing the weight of the edge that was found between the two nodes, or adding one if none was
+abbrev pub IsUpdateStep : Graph ℤ ℤ → (found : Option ℕ) → (parent child : ℕ) → ℤ → Reply → Graph ℤ ℤ → Type 0
+IsUpdateStep old None parent child weight said new = IsEdgeStep old parent child weight said new
+IsUpdateStep old (Some e) parent child weight said new = (said ≡ reply.Edge e) × (new ≡ with_edge_weight old e weight)
+
+-- a node exists, and an index is left for an edge and for a node
+pub record HasRoomAt (g : Graph ℤ ℤ) (n : ℕ) : Type 0 where
+  pub exists : HasNode g n
+  pub edge_left : edge_count g < index_count
+  pub node_left : node_count g < index_count
+
+-- adding a node, and an edge to it or from it
+abbrev pub IsNeighborStep : Direction → Graph ℤ ℤ → ℕ → (edge node : ℤ) → Reply → Graph ℤ ℤ → Type 0
+IsNeighborStep dir old n edge node (reply.EdgeNode e m) new =
+    HasRoomAt old n × (e ≡ next_edge old) × (m ≡ next_node old) × (new ≡ with_neighbor dir old n edge node)
+IsNeighborStep dir old n edge node reply.Memory new = HasRoomAt old n × (new ≡ old)
+IsNeighborStep dir old n edge node reply.Missing new = ¬ (HasNode old n) × (new ≡ old)
+IsNeighborStep dir old n edge node reply.Full new = HasNode old n × ((index_count ≤ edge_count old) ⊎ (index_count ≤ node_count old)) × (new ≡ old)
+IsNeighborStep dir old n edge node other new = ⊥
+
+-- removing what has this weight, if it is there
+abbrev pub IsRemovalStep : Graph ℤ ℤ → Option ℤ → (without : Graph ℤ ℤ) → Reply → Graph ℤ ℤ → Type 0
+IsRemovalStep old None without said new = (said ≡ reply.Nothing) × (new ≡ old)
+IsRemovalStep old (Some weight) without said new = (said ≡ reply.Weight weight) × (new ≡ without)
+
+abbrev pub found_reply : Option ℕ → Reply
+found_reply None = reply.Nothing
+found_reply (Some e) = reply.Edge e
+
+abbrev pub ends_reply : Option (ℕ × ℕ) → Reply
+ends_reply None = reply.Nothing
+ends_reply (Some ends) = reply.Ends ends.0 ends.1
+
+-- what a command may be replied over a graph, and the graph after it
+abbrev pub IsReply : Graph ℤ ℤ → Command → Reply → Graph ℤ ℤ → Type 0
+IsReply old (command.Node weight) (reply.Node n) new = (node_count old < index_count) × (n ≡ next_node old) × (new ≡ with_node old weight)
+IsReply old (command.Node weight) reply.Full new = (index_count ≤ node_count old) × (new ≡ old)
+IsReply old (command.Node weight) reply.Memory new = (node_count old < index_count) × (new ≡ old)
+IsReply old (command.Node weight) other new = ⊥
+IsReply old (command.Edge parent child weight) said new = IsEdgeStep old parent child weight said new
+IsReply old (command.Update parent child weight) said new = IsUpdateStep old (find_edge old parent child) parent child weight said new
+IsReply old (command.Child parent edge node) said new = IsNeighborStep Outgoing old parent edge node said new
+IsReply old (command.Parent child edge node) said new = IsNeighborStep Incoming old child edge node said new
+IsReply old (command.Find parent child) said new = (said ≡ found_reply (find_edge old parent child)) × (new ≡ old)
+IsReply old (command.Ends e) said new = (said ≡ ends_reply (option_map ends_of (edge_at old e))) × (new ≡ old)
+IsReply old (command.RemoveNode n) said new = IsRemovalStep old (node_weight old n) (without_node Compact old n) said new
+IsReply old (command.RemoveEdge e) said new = IsRemovalStep old (edge_weight old e) (without_edge Compact old e) said new
+IsReply old command.ClearEdges said new = (said ≡ reply.Done) × (new ≡ without_all_edges old)
+IsReply old command.Clear said new = (said ≡ reply.Done) × (new ≡ empty)
+IsReply old (command.Children n) said new = ⊥
+IsReply old (command.Parents n) said new = ⊥
+
+-- a command that is replied, not walked
+abbrev pub IsNoWalk : Command → Type 0
+IsNoWalk (command.Children n) = ⊥
+IsNoWalk (command.Parents n) = ⊥
+IsNoWalk other = Unit {0}
+
 -- what a command may be answered over a graph, and the graph after it
 abbrev pub IsStep : Graph ℤ ℤ → Command → Answer → Graph ℤ ℤ → Type 0
-IsStep old (command.Node weight) (Said (reply.Node n)) new = (node_count old < index_count) × (n ≡ next_node old) × (new ≡ with_node old weight)
-IsStep old (command.Node weight) (Said reply.Full) new = (index_count ≤ node_count old) × (new ≡ old)
-IsStep old (command.Node weight) (Said reply.Memory) new = (node_count old < index_count) × (new ≡ old)
-IsStep old (command.Node weight) answer new = ⊥
-IsStep old (command.Edge parent child weight) (Said (reply.Edge e)) new =
-    IsAddable old parent child × (e ≡ next_edge old) × (new ≡ with_edge old parent child weight)
-IsStep old (command.Edge parent child weight) (Said reply.Memory) new = IsAddable old parent child × (new ≡ old)
-IsStep old (command.Edge parent child weight) (Said reply.Missing) new = ¬ (HasNode old parent × HasNode old child) × (new ≡ old)
-IsStep old (command.Edge parent child weight) (Said reply.Full) new =
-    (HasNode old parent × HasNode old child) × (index_count ≤ edge_count old) × (new ≡ old)
-IsStep old (command.Edge parent child weight) (Said (reply.Cycle back)) new =
-    (HasNode old parent × HasNode old child) × (edge_count old < index_count) × Reaches old child parent × (back ≡ weight) × (new ≡ old)
-IsStep old (command.Edge parent child weight) answer new = ⊥
-IsStep old (command.Children parent) (Walked items) new = (items ≡ children_of old parent) × (new ≡ old)
-IsStep old (command.Children parent) answer new = ⊥
+IsStep old (command.Children parent) (Walked items) new = (items ≡ walk_of Outgoing old parent) × (new ≡ old)
+IsStep old (command.Parents child) (Walked items) new = (items ≡ walk_of Incoming old child) × (new ≡ old)
+IsStep old command (Walked items) new = ⊥
+IsStep old command (Said reply) new = IsReply old command reply new
 
 -- what a line may be answered: if it says no command, that it is bad
 abbrev pub IsAnswer : Graph ℤ ℤ → (line text : List ℕ) → Graph ℤ ℤ → Type 0

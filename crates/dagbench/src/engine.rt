@@ -1,40 +1,58 @@
 //! The engine: lines in, answers out.
 ghost use Rattle.std.specs.Prelude.{◌≡◌, ◌++◌, ◌∷◌, [], ◌<◌, ◌↔◌, IfOk, OnOk, Err, IsTrue};
+ghost use Rattle.std.specs.Option.{option_map};
+ghost use Rattle.daggy.specs.declared.index.Direction.TheVariants.{Outgoing, Incoming};
+ghost use Rattle.daggy.specs.Graph.{node_weight, edge_at, ends_of};
+ghost use Rattle.daggy.specs.Finding.{find_edge as edge_between};
+ghost use Rattle.daggy.specs.Removal.{Compact, without_edge, without_node};
+ghost use Rattle.daggy.specs.Weights.{edge_weight};
 ghost use Rattle.dagbench.specs.Streams.{CountsFaults, Appends};
 ghost use Rattle.dagbench.specs.Replies.{walk_text};
-ghost use Rattle.dagbench.specs.Steps.{IsStep, Said, children_of};
-ghost use Rattle.dagbench.specs.Progress.{AnswersLine};
-ghost use Rattle.dagbench.specs.declared.command.Command.TheVariants.{Node, Edge};
+ghost use Rattle.dagbench.specs.Steps.{IsReply, IsNoWalk, IsEdgeStep, IsUpdateStep, IsNeighborStep, IsRemovalStep, found_reply, ends_reply, walk_of};
+ghost use Rattle.dagbench.specs.Progress.{AnswersCommand, AnswersLine};
+ghost use Rattle.dagbench.specs.declared.command.Command.TheVariants.{Node};
 
 use crate::command::Command;
 use crate::output::Output;
 use crate::parse::parse;
 use crate::reply::Reply;
 use crate::stream::{Fault, Sink};
-use daggy::index::NodeIndex;
-use daggy::walker::Walker;
+use crate::walk::Walk;
+use daggy::index::{Direction, EdgeIndex, NodeIndex};
 use daggy::{Dag, EdgeError};
 
 /// The graph that is served.
 pub type Weighted = Dag<i64, i64, u32>;
 
+fn node(n: u32) -> NodeIndex<u32>
+    ensures { result ≡ n }
+{
+    NodeIndex::new(n as usize)
+}
+
+fn edge(e: u32) -> EdgeIndex<u32>
+    ensures { result ≡ e }
+{
+    EdgeIndex::new(e as usize)
+}
+
 fn add_node(dag: &mut Weighted, weight: i64) -> Reply
-    ensures { IsStep dag.old.graph (Node weight) (Said result) dag.new.graph }
+    ensures { IsReply dag.old.graph (Node weight) result dag.new.graph }
 {
     if !dag.can_add_node() {
         return Reply::Full;
     }
     match dag.add_node(weight) {
-        Ok(node) => Reply::Node(node.index() as u32),
+        Ok(n) => Reply::Node(n.index() as u32),
         Err(_) => Reply::Memory,
     }
 }
 
 fn add_edge(dag: &mut Weighted, parent: u32, child: u32, weight: i64) -> Reply
-    ensures { IsStep dag.old.graph (Edge parent child weight) (Said result) dag.new.graph }
+    ensures { IsEdgeStep dag.old.graph parent child weight result dag.new.graph }
 {
-    let a = NodeIndex::new(parent as usize);
-    let b = NodeIndex::new(child as usize);
+    let a = node(parent);
+    let b = node(child);
     if dag.node_weight(a).is_none() || dag.node_weight(b).is_none() {
         return Reply::Missing;
     }
@@ -42,34 +60,166 @@ fn add_edge(dag: &mut Weighted, parent: u32, child: u32, weight: i64) -> Reply
         return Reply::Full;
     }
     match dag.add_edge(a, b, weight) {
-        Ok(edge) => Reply::Edge(edge.index() as u32),
+        Ok(e) => Reply::Edge(e.index() as u32),
         Err(EdgeError::WouldCycle(refused)) => Reply::Cycle(refused.0),
         Err(_) => Reply::Memory,
     }
 }
 
-/// Writes the children of a node.
-fn write_children<K: Sink>(
+fn find_edge(dag: &Weighted, parent: u32, child: u32) -> Reply
+    ensures { result ≡ found_reply (edge_between dag.now.graph parent child) }
+{
+    match dag.find_edge(node(parent), node(child)) {
+        Some(e) => Reply::Edge(e.index() as u32),
+        None => Reply::Nothing,
+    }
+}
+
+fn ends(dag: &Weighted, e: u32) -> Reply
+    ensures { result ≡ ends_reply (option_map ends_of (edge_at dag.now.graph e)) }
+{
+    match dag.edge_endpoints(edge(e)) {
+        Some((parent, child)) => Reply::Ends(parent.index() as u32, child.index() as u32),
+        None => Reply::Nothing,
+    }
+}
+
+fn remove_node(dag: &mut Weighted, n: u32) -> Reply
+    ensures { IsRemovalStep dag.old.graph (node_weight dag.old.graph n) (without_node Compact dag.old.graph n) result dag.new.graph }
+{
+    match dag.remove_node(node(n)) {
+        Some(weight) => Reply::Weight(weight),
+        None => Reply::Nothing,
+    }
+}
+
+fn remove_edge(dag: &mut Weighted, e: u32) -> Reply
+    ensures { IsRemovalStep dag.old.graph (edge_weight dag.old.graph e) (without_edge Compact dag.old.graph e) result dag.new.graph }
+{
+    match dag.remove_edge(edge(e)) {
+        Some(weight) => Reply::Weight(weight),
+        None => Reply::Nothing,
+    }
+}
+
+fn update_edge(dag: &mut Weighted, parent: u32, child: u32, weight: i64) -> Reply
+    ensures { IsUpdateStep dag.old.graph (edge_between dag.old.graph parent child) parent child weight result dag.new.graph }
+{
+    let a = node(parent);
+    let b = node(child);
+    let _count = dag.node_count();
+    if dag.find_edge(a, b).is_none() {
+        return add_edge(dag, parent, child, weight);
+    }
+    match dag.update_edge(a, b, weight) {
+        Ok(e) => Reply::Edge(e.index() as u32),
+        Err(_) => Reply::Memory,
+    }
+}
+
+fn add_child(dag: &mut Weighted, parent: u32, edge: i64, weight: i64) -> Reply
+    ensures { IsNeighborStep Outgoing dag.old.graph parent edge weight result dag.new.graph }
+{
+    let p = node(parent);
+    if dag.node_weight(p).is_none() {
+        return Reply::Missing;
+    }
+    if !dag.can_add_edge() || !dag.can_add_node() {
+        return Reply::Full;
+    }
+    match dag.add_child(p, edge, weight) {
+        Ok((e, n)) => Reply::EdgeNode(e.index() as u32, n.index() as u32),
+        Err(_) => Reply::Memory,
+    }
+}
+
+fn add_parent(dag: &mut Weighted, child: u32, edge: i64, weight: i64) -> Reply
+    ensures { IsNeighborStep Incoming dag.old.graph child edge weight result dag.new.graph }
+{
+    let c = node(child);
+    if dag.node_weight(c).is_none() {
+        return Reply::Missing;
+    }
+    if !dag.can_add_edge() || !dag.can_add_node() {
+        return Reply::Full;
+    }
+    match dag.add_parent(c, edge, weight) {
+        Ok((e, n)) => Reply::EdgeNode(e.index() as u32, n.index() as u32),
+        Err(_) => Reply::Memory,
+    }
+}
+
+/// Runs a command that is replied.
+fn perform(dag: &mut Weighted, command: Command) -> Reply
+    requires { IsNoWalk command }
+    ensures { IsReply dag.old.graph command result dag.new.graph }
+{
+    match command {
+        Command::Node(weight) => add_node(dag, weight),
+        Command::Edge(parent, child, weight) => add_edge(dag, parent, child, weight),
+        Command::Update(parent, child, weight) => update_edge(dag, parent, child, weight),
+        Command::Child(parent, edge, node) => add_child(dag, parent, edge, node),
+        Command::Parent(child, edge, node) => add_parent(dag, child, edge, node),
+        Command::Find(parent, child) => find_edge(dag, parent, child),
+        Command::Ends(e) => ends(dag, e),
+        Command::RemoveNode(n) => remove_node(dag, n),
+        Command::RemoveEdge(e) => remove_edge(dag, e),
+        Command::ClearEdges => {
+            dag.clear_edges();
+            Reply::Done
+        }
+        Command::Clear => {
+            dag.clear();
+            Reply::Done
+        }
+        Command::Children(_) | Command::Parents(_) => Reply::Nothing,
+    }
+}
+
+/// Writes the edges of a node in that direction, with their far ends.
+fn write_walk<K: Sink>(
     dag: &Weighted,
-    parent: u32,
+    dir: Direction,
+    n: u32,
     output: &mut Output,
     sink: &mut K,
 ) -> Result<(), Fault>
     ensures text { Appends result (K.taken sink.old ++ output.old) (K.taken sink.new ++ output.new)
-        (walk_text (children_of dag.now.graph parent) ++ 10 ∷ []) }
+        (walk_text (walk_of dir dag.now.graph n) ++ 10 ∷ []) }
     ensures counted { CountsFaults result (K.failures sink.old) (K.failures sink.new) }
 {
     let _count = dag.node_count();
-    let mut walker = dag.children(NodeIndex::new(parent as usize));
-    let Some(first) = walker.walk_next(dag) else {
+    let mut walk = Walk::new(dag, dir, node(n));
+    let Some(first) = walk.next(dag) else {
         return output.put(sink, b"-\n");
     };
-    output.put_item(sink, first.0.index() as u32, first.1.index() as u32)?;
-    'items: while let Some(item) = walker.walk_next(dag) {
+    output.put_item(sink, first.0, first.1)?;
+    'items: while let Some(item) = walk.next(dag) {
         output.put(sink, b" ")?;
-        output.put_item(sink, item.0.index() as u32, item.1.index() as u32)?;
+        output.put_item(sink, item.0, item.1)?;
     }
     output.put(sink, b"\n")
+}
+
+/// Answers a command.
+fn answer_command<K: Sink>(
+    dag: &mut Weighted,
+    command: Command,
+    output: &mut Output,
+    sink: &mut K,
+) -> Result<(), Fault>
+    ensures answered { AnswersCommand result command dag.old.graph dag.new.graph
+        (K.taken sink.old ++ output.old) (K.taken sink.new ++ output.new) }
+    ensures counted { CountsFaults result (K.failures sink.old) (K.failures sink.new) }
+{
+    match command {
+        Command::Children(n) => write_walk(dag, Direction::Outgoing, n, output, sink),
+        Command::Parents(n) => write_walk(dag, Direction::Incoming, n, output, sink),
+        _ => {
+            let reply = perform(dag, command);
+            output.put_reply(sink, reply)
+        }
+    }
 }
 
 /// Answers a line.
@@ -85,14 +235,6 @@ pub fn answer<K: Sink>(
 {
     match parse(line) {
         None => output.put(sink, b"bad line\n"),
-        Some(Command::Node(weight)) => {
-            let reply = add_node(dag, weight);
-            output.put_reply(sink, reply)
-        }
-        Some(Command::Edge(parent, child, weight)) => {
-            let reply = add_edge(dag, parent, child, weight);
-            output.put_reply(sink, reply)
-        }
-        Some(Command::Children(parent)) => write_children(dag, parent, output, sink),
+        Some(command) => answer_command(dag, command, output, sink),
     }
 }

@@ -17,6 +17,7 @@ mod session;
 mod stream;
 #[cfg(test)]
 mod tests;
+mod walk;
 mod words;
 
 use crate::device::Device;

@@ -1,5 +1,5 @@
 //! Text that is gathered before it goes to a sink.
-ghost use Rattle.std.specs.Prelude.{◌≡◌, ℕ, List, [], ◌∷◌, ◌++◌, IfOk, OnOk, decimal};
+ghost use Rattle.std.specs.Prelude.{◌≡◌, ℕ, List, [], ◌∷◌, ◌++◌, IfOk, OnOk, codes, decimal};
 ghost use Rattle.std.specs.Fmt.{signed_decimal};
 ghost use Rattle.dagbench.specs.Streams.{CountsFaults, Appends};
 ghost use Rattle.dagbench.specs.Replies.{text_of, item_text};
@@ -81,6 +81,24 @@ impl Output {
         self.put(sink, digits.format(weight).as_bytes())
     }
 
+    /// Writes a node as `n` and its index.
+    fn put_node<K: Sink>(&mut self, sink: &mut K, node: u32) -> Result<(), Fault>
+        ensures text { Appends result (K.taken sink.old ++ self.old) (K.taken sink.new ++ self.new) (codes "n" ++ decimal node) }
+        ensures counted { CountsFaults result (K.failures sink.old) (K.failures sink.new) }
+    {
+        self.put(sink, b"n")?;
+        self.put_index(sink, node)
+    }
+
+    /// Writes an edge as `e` and its index.
+    fn put_edge<K: Sink>(&mut self, sink: &mut K, edge: u32) -> Result<(), Fault>
+        ensures text { Appends result (K.taken sink.old ++ self.old) (K.taken sink.new ++ self.new) (codes "e" ++ decimal edge) }
+        ensures counted { CountsFaults result (K.failures sink.old) (K.failures sink.new) }
+    {
+        self.put(sink, b"e")?;
+        self.put_index(sink, edge)
+    }
+
     /// Writes an edge of a walk and the node that it leads to.
     pub fn put_item<K: Sink>(&mut self, sink: &mut K, edge: u32, node: u32) -> Result<(), Fault>
         ensures text { Appends result (K.taken sink.old ++ self.old) (K.taken sink.new ++ self.new) (item_text (edge, node)) }
@@ -92,30 +110,46 @@ impl Output {
         self.put_index(sink, node)
     }
 
+    /// Writes the text of a reply.
+    fn put_text<K: Sink>(&mut self, sink: &mut K, reply: Reply) -> Result<(), Fault>
+        ensures text { Appends result (K.taken sink.old ++ self.old) (K.taken sink.new ++ self.new) (text_of reply) }
+        ensures counted { CountsFaults result (K.failures sink.old) (K.failures sink.new) }
+    {
+        match reply {
+            Reply::Node(node) => self.put_node(sink, node),
+            Reply::Edge(edge) => self.put_edge(sink, edge),
+            Reply::EdgeNode(edge, node) => {
+                self.put_edge(sink, edge)?;
+                self.put(sink, b" ")?;
+                self.put_node(sink, node)
+            }
+            Reply::Ends(parent, child) => {
+                self.put_node(sink, parent)?;
+                self.put(sink, b" ")?;
+                self.put_node(sink, child)
+            }
+            Reply::Weight(weight) => {
+                self.put(sink, b"weight ")?;
+                self.put_weight(sink, weight)
+            }
+            Reply::Nothing => self.put(sink, b"none"),
+            Reply::Done => self.put(sink, b"ok"),
+            Reply::Missing => self.put(sink, b"missing"),
+            Reply::Full => self.put(sink, b"full"),
+            Reply::Cycle(weight) => {
+                self.put(sink, b"cycle ")?;
+                self.put_weight(sink, weight)
+            }
+            Reply::Memory => self.put(sink, b"memory"),
+        }
+    }
+
     /// Writes the text of a reply, and its newline.
     pub fn put_reply<K: Sink>(&mut self, sink: &mut K, reply: Reply) -> Result<(), Fault>
         ensures text { Appends result (K.taken sink.old ++ self.old) (K.taken sink.new ++ self.new) (text_of reply ++ 10 ∷ []) }
         ensures counted { CountsFaults result (K.failures sink.old) (K.failures sink.new) }
     {
-        match reply {
-            Reply::Node(node) => {
-                self.put(sink, b"n")?;
-                self.put_index(sink, node)?;
-                self.put(sink, b"\n")
-            }
-            Reply::Edge(edge) => {
-                self.put(sink, b"e")?;
-                self.put_index(sink, edge)?;
-                self.put(sink, b"\n")
-            }
-            Reply::Missing => self.put(sink, b"missing\n"),
-            Reply::Full => self.put(sink, b"full\n"),
-            Reply::Cycle(weight) => {
-                self.put(sink, b"cycle ")?;
-                self.put_weight(sink, weight)?;
-                self.put(sink, b"\n")
-            }
-            Reply::Memory => self.put(sink, b"memory\n"),
-        }
+        self.put_text(sink, reply)?;
+        self.put(sink, b"\n")
     }
 }

@@ -1,7 +1,7 @@
 //! What a line says.
-ghost use Rattle.std.specs.Prelude.{◌≡◌, [], IsTrue, ◌↔◌};
+ghost use Rattle.std.specs.Prelude.{◌≡◌};
 ghost use Rattle.dagbench.specs.Cutting.{words_of};
-ghost use Rattle.dagbench.specs.Commands.{command_of, command_by_words, node_of, edge_of, children_of};
+ghost use Rattle.dagbench.specs.Commands.{command_of, command_by_words, adding_by_name, removing_by_name, asking_by_name, if_done as if_done_of, weight_alone as weight_alone_of, index_alone as index_alone_of, two_indices as two_indices_of, ends_and_weight as ends_and_weight_of, index_and_weights as index_and_weights_of};
 
 use crate::command::Command;
 use crate::words::{first_index, first_weight, first_word};
@@ -20,63 +20,126 @@ pub fn parse(line: &[u8]) -> Option<Command>
     by_words(line)
 }
 
-#[tactic(auto, unfolding(crate::specs::Commands::command_by_words))]
 fn by_words(line: &[u8]) -> Option<Command>
     ensures { result ≡ command_by_words (words_of line.now) }
 {
     let (name, rest) = first_word(line)?;
+    let adding = adding(name, rest);
+    if adding.is_some() {
+        return adding;
+    }
+    let removing = removing(name, rest);
+    if removing.is_some() {
+        return removing;
+    }
+    asking(name, rest)
+}
+
+#[tactic(auto, unfolding(crate::specs::Commands::adding_by_name))]
+fn adding(name: &[u8], rest: &[u8]) -> Option<Command>
+    ensures { result ≡ adding_by_name name.now (words_of rest.now) }
+{
     if name == b"node".as_slice() {
-        node(rest)
+        weight_alone(rest).map(Command::Node)
     } else if name == b"edge".as_slice() {
-        edge(rest)
-    } else if name == b"children".as_slice() {
-        children(rest)
+        ends_and_weight(rest).map(|(a, b, weight)| Command::Edge(a, b, weight))
+    } else if name == b"update".as_slice() {
+        ends_and_weight(rest).map(|(a, b, weight)| Command::Update(a, b, weight))
+    } else if name == b"child".as_slice() {
+        index_and_weights(rest).map(|(parent, edge, node)| Command::Child(parent, edge, node))
+    } else if name == b"parent".as_slice() {
+        index_and_weights(rest).map(|(child, edge, node)| Command::Parent(child, edge, node))
     } else {
         None
     }
 }
 
-/// Whether a line has no word.
-fn is_done(line: &[u8]) -> bool
-    ensures { IsTrue result ↔ (words_of line.now ≡ []) }
+#[tactic(auto, unfolding(crate::specs::Commands::removing_by_name))]
+fn removing(name: &[u8], rest: &[u8]) -> Option<Command>
+    ensures { result ≡ removing_by_name name.now (words_of rest.now) }
 {
-    first_word(line).is_none()
+    if name == b"rmnode".as_slice() {
+        index_alone(rest).map(Command::RemoveNode)
+    } else if name == b"rmedge".as_slice() {
+        index_alone(rest).map(Command::RemoveEdge)
+    } else if name == b"clearedges".as_slice() {
+        if_done(rest, Command::ClearEdges)
+    } else if name == b"clear".as_slice() {
+        if_done(rest, Command::Clear)
+    } else {
+        None
+    }
 }
 
-#[tactic(auto, unfolding(crate::specs::Commands::node_of))]
-fn node(line: &[u8]) -> Option<Command>
-    ensures { result ≡ node_of (words_of line.now) }
+#[tactic(auto, unfolding(crate::specs::Commands::asking_by_name))]
+fn asking(name: &[u8], rest: &[u8]) -> Option<Command>
+    ensures { result ≡ asking_by_name name.now (words_of rest.now) }
+{
+    if name == b"find".as_slice() {
+        two_indices(rest).map(|(a, b)| Command::Find(a, b))
+    } else if name == b"ends".as_slice() {
+        index_alone(rest).map(Command::Ends)
+    } else if name == b"children".as_slice() {
+        index_alone(rest).map(Command::Children)
+    } else if name == b"parents".as_slice() {
+        index_alone(rest).map(Command::Parents)
+    } else {
+        None
+    }
+}
+
+// x, if the line has no word.
+fn if_done<T: Drop>(line: &[u8], x: T) -> Option<T>
+    ensures { result ≡ if_done_of (words_of line.now) x }
+{
+    if first_word(line).is_none() {
+        Some(x)
+    } else {
+        None
+    }
+}
+
+#[tactic(auto, unfolding(crate::specs::Commands::weight_alone))]
+fn weight_alone(line: &[u8]) -> Option<i64>
+    ensures { result ≡ weight_alone_of (words_of line.now) }
 {
     let (weight, rest) = first_weight(line)?;
-    if is_done(rest) {
-        Some(Command::Node(weight))
-    } else {
-        None
-    }
+    if_done(rest, weight)
 }
 
-#[tactic(auto, unfolding(crate::specs::Commands::edge_of))]
-fn edge(line: &[u8]) -> Option<Command>
-    ensures { result ≡ edge_of (words_of line.now) }
+#[tactic(auto, unfolding(crate::specs::Commands::index_alone))]
+fn index_alone(line: &[u8]) -> Option<u32>
+    ensures { result ≡ index_alone_of (words_of line.now) }
+{
+    let (index, rest) = first_index(line)?;
+    if_done(rest, index)
+}
+
+#[tactic(auto, unfolding(crate::specs::Commands::two_indices))]
+fn two_indices(line: &[u8]) -> Option<(u32, u32)>
+    ensures { result ≡ two_indices_of (words_of line.now) }
+{
+    let (first, rest) = first_index(line)?;
+    let (second, rest) = first_index(rest)?;
+    if_done(rest, (first, second))
+}
+
+#[tactic(auto, unfolding(crate::specs::Commands::ends_and_weight))]
+fn ends_and_weight(line: &[u8]) -> Option<(u32, u32, i64)>
+    ensures { result ≡ ends_and_weight_of (words_of line.now) }
 {
     let (parent, rest) = first_index(line)?;
     let (child, rest) = first_index(rest)?;
     let (weight, rest) = first_weight(rest)?;
-    if is_done(rest) {
-        Some(Command::Edge(parent, child, weight))
-    } else {
-        None
-    }
+    if_done(rest, (parent, child, weight))
 }
 
-#[tactic(auto, unfolding(crate::specs::Commands::children_of))]
-fn children(line: &[u8]) -> Option<Command>
-    ensures { result ≡ children_of (words_of line.now) }
+#[tactic(auto, unfolding(crate::specs::Commands::index_and_weights))]
+fn index_and_weights(line: &[u8]) -> Option<(u32, i64, i64)>
+    ensures { result ≡ index_and_weights_of (words_of line.now) }
 {
-    let (parent, rest) = first_index(line)?;
-    if is_done(rest) {
-        Some(Command::Children(parent))
-    } else {
-        None
-    }
+    let (index, rest) = first_index(line)?;
+    let (edge, rest) = first_weight(rest)?;
+    let (node, rest) = first_weight(rest)?;
+    if_done(rest, (index, edge, node))
 }

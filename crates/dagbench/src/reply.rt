@@ -5,8 +5,18 @@
 pub enum Reply {
     /// The node that was added.
     Node(u32),
-    /// The edge that was added.
+    /// The edge that was added, updated or found.
     Edge(u32),
+    /// The edge and the node that were added.
+    EdgeNode(u32, u32),
+    /// The parent and the child of an edge.
+    Ends(u32, u32),
+    /// The weight of what was removed.
+    Weight(i64),
+    /// What was asked for doesn't exist.
+    Nothing,
+    /// It is done.
+    Done,
     /// A node that the command names doesn't exist.
     Missing,
     /// No index is left.

@@ -7,3 +7,4 @@ pub use Rattle.daggy_base.specs.Cursor
 pub use Rattle.daggy_base.specs.WellFormed
 pub use Rattle.daggy_base.specs.Reduction
 pub use Rattle.daggy_base.specs.State
+pub use Rattle.daggy_base.specs.Weights

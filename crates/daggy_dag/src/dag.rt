@@ -131,9 +131,12 @@ impl<N: Drop, E: Drop, Ix: IndexType> Dag<N, E, Ix> {
 
     /// The newest edge from `a` to `b`, or `None` if there is none. It looks through the children of `a`.
     pub fn find_edge(&self, a: NodeIndex<Ix>, b: NodeIndex<Ix>) -> Option<EdgeIndex<Ix>>
-        ensures { option_map Ix.number result ≡ edge_between self.now.graph (Ix.number a) (Ix.number b) }
+        ensures found { option_map Ix.number result ≡ edge_between self.now.graph (Ix.number a) (Ix.number b) }
+        ensures ends { OnSome result (HasNode self.now.graph (Ix.number a) × HasNode self.now.graph (Ix.number b)) }
     {
-        self.graph.find_edge(a, b)
+        let graph = &self.graph;
+        let _well_formed = graph.edge_count();
+        graph.find_edge(a, b)
     }
 
     /// Adds a node without edges, and gives its index.
