@@ -3,10 +3,10 @@ ghost use Rattle.std.specs.Prelude.{◌≡◌, ℕ, List, [], ◌∷◌, Some, N
 ghost use Rattle.daggy_base.specs.declared.index.Direction.TheVariants.{Outgoing, Incoming};
 ghost use Rattle.daggy_base.specs.Graph.{Graph, node_weight, out_list, in_list};
 ghost use Rattle.daggy_base.specs.Adding.{next_node, next_edge, with_node, with_neighbor};
-ghost use Rattle.daggy_base.specs.Removal.{Stable, without_node, without_all_edges, cleared};
+ghost use Rattle.daggy_base.specs.Removal.{Stable, without_node, without_all_edges};
 ghost use Rattle.daggy_base.specs.Taking.{node_taken_back};
 ghost use Rattle.daggy_base.specs.Weights.{with_node_weight, with_edge_weight, edge_weight};
-ghost use Rattle.daggy_tests.specs.Examples.{line, nothing, one_node, pair, fan, diamond};
+ghost use Rattle.daggy_tests.specs.Examples.{line, one_node, pair, fan, diamond};
 
 /// Writing the weight of an edge changes that weight alone.
 pub fn writing_the_weight_of_an_edge_changes_it_alone()
@@ -44,12 +44,6 @@ pub fn clearing_edges_keeps_nodes()
     ensures next_edge { next_edge (without_all_edges (without_node Stable diamond 1)) ≡ 0 }
     ensures leaving { out_list (without_all_edges (without_node Stable diamond 1)) 0 ≡ [] }
     ensures entering { in_list (without_all_edges (without_node Stable diamond 1)) 3 ≡ [] }
-{
-}
-
-/// Clearing leaves nothing, not even slots.
-pub fn clearing_leaves_nothing()
-    ensures { cleared (without_node Stable diamond 1) ≡ nothing }
 {
 }
 
