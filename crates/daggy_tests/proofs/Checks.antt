@@ -2,7 +2,7 @@
 use Rattle.std.proofs.Common.{◌≡◌, ℕ, zero, suc, Bool, true, false, List, [], ◌∷◌, Option, Some, None, refl, sym, ap, subst, ◌∙◌}
 use Rattle.std.proofs.lemmas.Bool.{false≢true}
 use Rattle.daggy_base.specs.Graph.{Graph, Edge, slot, edge_at}
-use Rattle.daggy_base.specs.Path.{AreJoined, IsPath, Reaches, IsAcyclic, end_of}
+use Rattle.daggy_base.specs.Path.{AreJoined, Reaches, IsAcyclic, end_of}
 use Rattle.daggy_base.specs.Reduction.{ReachesRound, IsRedundant}
 use Rattle.daggy_base.proofs.Going.{path_stays, reaches_stays}
 use Rattle.daggy_tests.specs.Examples.{line}
@@ -104,15 +104,15 @@ module _ (g : Graph ℕ ℕ) where
   second : (u c : ℕ) → passes u c g ≡ true → (w x : ℕ) → AreJoined g u w → AreJoined g w x → Beyond c x
   second u c h w x j k =
       let first : each (λ b. if_so (same b.parent w) (before c b.child)) g.edges ≡ true =
-          so (same u u) (each (λ b. if_so (same b.parent w) (before c b.child)) g.edges)
-            (each_at (λ a. if_so (same a.parent u) (each (λ b. if_so (same b.parent a.child) (before c b.child)) g.edges)) g.edges h j.0 (line u w j.1) j.2)
-            (same_itself u) in
+      so (same u u) (each (λ b. if_so (same b.parent w) (before c b.child)) g.edges)
+      (each_at (λ a. if_so (same a.parent u) (each (λ b. if_so (same b.parent a.child) (before c b.child)) g.edges)) g.edges h j.0 (line u w j.1) j.2)
+      (same_itself u) in
       so (same w w) (before c x) (each_at (λ b. if_so (same b.parent w) (before c b.child)) g.edges first k.0 (line w x k.1) k.2) (same_itself w)
 
   no_round : (u c : ℕ) → keeps_beyond c g ≡ true → passes u c g ≡ true → ReachesRound g u c → ⊥
   no_round u c h s r =
       let there : Beyond c (end_of r.1 r.2) =
-          path_stays g (Beyond c) (beyond_on c h) r.1 r.2 r.3.2.2 (second u c s r.0 r.1 r.3.1 r.3.2.1) in
+      path_stays g (Beyond c) (beyond_on c h) r.1 r.2 r.3.2.2 (second u c s r.0 r.1 r.3.1 r.3.2.1) in
       false≢true (sym (before_itself c) ∙ subst (Beyond c) r.4 there)
 
   pub not_redundant : (roots : List ℕ) (e u c w : ℕ) → edge_at g e ≡ Some (line u c w) → keeps_beyond c g ≡ true → passes u c g ≡ true → IsRedundant g roots e → ⊥
@@ -121,4 +121,3 @@ module _ (g : Graph ℕ ℕ) where
       let it : line u c w ≡ r.edge = cc in
       let P : Edge ℕ → Type 0 = λ x. ReachesRound g x.parent x.child in
       no_round u c h s (subst P (sym it) r.round)
-

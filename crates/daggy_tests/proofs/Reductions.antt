@@ -1,13 +1,12 @@
 -- The reductions of small graphs.
-use Rattle.std.proofs.Common.{◌≡◌, ◌≢◌, ℕ, zero, suc, ◌+◌, ◌<◌, ◌≤◌, ◌↔◌, inl, inr, List, [], ◌∷◌, Some, None, refl, sym, subst, ◌∙◌, lit<, arith}
+use Rattle.std.proofs.Common.{◌≡◌, ◌≢◌, ℕ, zero, suc, ◌↔◌, inl, inr, List, [], ◌∷◌, Some, None, refl, sym, subst, lit<, arith}
 use Rattle.std.specs.List.{Contains}
 use Rattle.std.proofs.lemmas.Bool.{false≢true}
 use Rattle.daggy_base.specs.Graph.{Graph, Edge, HasNode, edge_at}
-use Rattle.daggy_base.specs.Path.{AreJoined, IsPath, Reaches, end_of}
+use Rattle.daggy_base.specs.Path.{Reaches}
 use Rattle.daggy_base.specs.Removal.{Compact, without_edges}
 use Rattle.daggy_base.specs.Reduction.{IsBelow, ReachesRound, IsRedundant, IsReduction, Covers}
 use Rattle.daggy_base.proofs.Lists.{Mem, contains_mem, mem_contains}
-use Rattle.daggy_base.proofs.Going.{reaches_stays}
 use Rattle.daggy_tests.specs.Examples.{line, with_lines, shortcuts, doubled_step, turned_triangle}
 use Rattle.daggy_tests.proofs.Checks.{not_redundant, not_reached}
 
@@ -71,11 +70,11 @@ module _ where
 
 pub shortcuts_reduced : IsReduction Compact (0 ∷ []) shortcuts (without_edges Compact shortcuts (6 ∷ 3 ∷ 2 ∷ []))
 shortcuts_reduced = record {
-    redundant = 6 ∷ 3 ∷ 2 ∷ [];
-    descending = (lit< tt, (lit< tt, tt));
-    exact = exactly shortcuts (0 ∷ []) (6 ∷ 3 ∷ 2 ∷ []) those no_others;
-    removed = refl;
-  }
+  redundant = 6 ∷ 3 ∷ 2 ∷ [];
+  descending = (lit< tt, (lit< tt, tt));
+  exact = exactly shortcuts (0 ∷ []) (6 ∷ 3 ∷ 2 ∷ []) those no_others;
+  removed = refl;
+}
 
 -- the same five nodes, after one of the three edges came back
 module _ where
@@ -88,7 +87,7 @@ module _ where
   fifth_redundant : IsRedundant again (0 ∷ []) 5
   fifth_redundant =
       redundant_at again (0 ∷ []) 5 0 4 9 refl (0, root_only, refl, ([], refl, refl))
-        (1, 3, 4 ∷ [], (refl, (0, 1, refl), (refl, (4, 5, refl), (refl, (3, 8, refl), refl))), refl)
+      (1, 3, 4 ∷ [], (refl, (0, 1, refl), (refl, (4, 5, refl), (refl, (3, 8, refl), refl))), refl)
 
   that : (e : ℕ) → Mem e (5 ∷ []) → IsRedundant again (0 ∷ []) e
   that e m = elim m [ inl h ↦ here again (0 ∷ []) e 5 h fifth_redundant | inr m ↦ absurd m ]
@@ -104,18 +103,18 @@ module _ where
 
   pub shortcuts_reduced_again : IsReduction Compact (0 ∷ []) again reduced
   shortcuts_reduced_again = record {
-      redundant = 5 ∷ [];
-      descending = tt;
-      exact = exactly again (0 ∷ []) (5 ∷ []) that no_other;
-      removed = refl;
-    }
+    redundant = 5 ∷ [];
+    descending = tt;
+    exact = exactly again (0 ∷ []) (5 ∷ []) that no_other;
+    removed = refl;
+  }
 
 -- two edges of one pair
 module _ where
   first_redundant : IsRedundant doubled_step (0 ∷ []) 1
   first_redundant =
       redundant_at doubled_step (0 ∷ []) 1 0 2 2 refl (0, root_only, refl, ([], refl, refl))
-        (1, 2, [], (refl, (0, 1, refl), (refl, (2, 3, refl), refl)), refl)
+      (1, 2, [], (refl, (0, 1, refl), (refl, (2, 3, refl), refl)), refl)
 
   that_one : (e : ℕ) → Mem e (1 ∷ []) → IsRedundant doubled_step (0 ∷ []) e
   that_one e m = elim m [ inl h ↦ here doubled_step (0 ∷ []) e 1 h first_redundant | inr m ↦ absurd m ]
@@ -130,11 +129,11 @@ module _ where
 
   pub doubled_step_reduced : IsReduction Compact (0 ∷ []) doubled_step (without_edges Compact doubled_step (1 ∷ []))
   doubled_step_reduced = record {
-      redundant = 1 ∷ [];
-      descending = tt;
-      exact = exactly doubled_step (0 ∷ []) (1 ∷ []) that_one only_that;
-      removed = refl;
-    }
+    redundant = 1 ∷ [];
+    descending = tt;
+    exact = exactly doubled_step (0 ∷ []) (1 ∷ []) that_one only_that;
+    removed = refl;
+  }
 
 -- the triangle, from several roots
 module _ where
@@ -153,11 +152,11 @@ module _ where
 
   none_left : (roots : List ℕ) → (IsBelow turned_triangle roots 0 → ⊥) → IsReduction Compact roots turned_triangle turned_triangle
   none_left roots above = record {
-      redundant = [];
-      descending = tt;
-      exact = exactly turned_triangle roots [] (λ e m. absurd m) (λ e r. absurd (above (top_below roots (here turned_triangle roots 2 e (sym (steps_stay roots e r)) r))));
-      removed = refl;
-    }
+    redundant = [];
+    descending = tt;
+    exact = exactly turned_triangle roots [] (λ e m. absurd m) (λ e r. absurd (above (top_below roots (here turned_triangle roots 2 e (sym (steps_stay roots e r)) r))));
+    removed = refl;
+  }
 
   of_one : (r x : ℕ) → Contains (x ∷ []) r → r ≡ x
   of_one r x c = elim (contains_mem (x ∷ []) r c) [ inl h ↦ h | inr m ↦ absurd m ]
@@ -181,17 +180,17 @@ module _ where
   top_redundant : IsRedundant turned_triangle (0 ∷ []) 2
   top_redundant =
       redundant_at turned_triangle (0 ∷ []) 2 0 2 30 refl (0, root_only, refl, ([], refl, refl))
-        (1, 2, [], (refl, (0, 10, refl), (refl, (1, 20, refl), refl)), refl)
+      (1, 2, [], (refl, (0, 10, refl), (refl, (1, 20, refl), refl)), refl)
 
   pub from_the_top : IsReduction Compact (0 ∷ []) turned_triangle (without_edges Compact turned_triangle (2 ∷ []))
   from_the_top = record {
-      redundant = 2 ∷ [];
-      descending = tt;
-      exact = exactly turned_triangle (0 ∷ []) (2 ∷ [])
+    redundant = 2 ∷ [];
+    descending = tt;
+    exact = exactly turned_triangle (0 ∷ []) (2 ∷ [])
         (λ e m. elim m [ inl h ↦ here turned_triangle (0 ∷ []) e 2 h top_redundant | inr m ↦ absurd m ])
         (λ e r. inl (steps_stay (0 ∷ []) e r));
-      removed = refl;
-    }
+    removed = refl;
+  }
 
   beyond_one : (w : ℕ) → w ≢ 0 → w ≢ 1 → Reaches turned_triangle 0 w → Reaches turned_triangle w 1 → ⊥
   beyond_one zero a b r s = a refl

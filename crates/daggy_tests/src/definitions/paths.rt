@@ -8,8 +8,7 @@ pub fn only_existing_nodes_reach_themselves()
     ensures existing { Reaches one_node 0 0 }
     ensures none { Reaches nothing 0 0 → ⊥ }
     ensures missing { Reaches chain 9 9 → ⊥ }
-{
-}
+{}
 
 /// Paths lead along edges, and not against them.
 pub fn paths_lead_along_edges()
@@ -17,26 +16,22 @@ pub fn paths_lead_along_edges()
     ensures round { Reaches ring 2 1 }
     ensures against { Reaches chain 2 0 → ⊥ }
     ensures across { Reaches diamond 2 1 → ⊥ }
-{
-}
+{}
 
 /// A graph with an edge from a node to itself, or with a longer way round, has a cycle.
 pub fn ways_round_are_cycles()
     ensures self_loop { IsAcyclic self_loop → ⊥ }
     ensures ring { IsAcyclic ring → ⊥ }
-{
-}
+{}
 
 /// Edges that all lead to greater nodes close no cycle.
 pub fn ways_forward_are_no_cycles()
     ensures fan { IsAcyclic fan }
     ensures shortcuts { IsAcyclic shortcuts }
-{
-}
+{}
 
 /// One more edge can close a cycle.
 pub fn an_edge_closes_a_cycle()
     ensures to_itself { IsAcyclic (with_lines (line 3 3 3 ∷ []) fan) → ⊥ }
     ensures back { IsAcyclic (with_lines (line 3 0 3 ∷ []) fan) → ⊥ }
-{
-}
+{}

@@ -1,7 +1,6 @@
+use super::support::{add_edge, add_node};
 use daggy::{Dag, Walker};
 use std::test::Fail;
-
-use super::support::{add_edge, add_node};
 
 #[test]
 fn a_walker_sees_what_was_added_since_it_was_made(rt: HostRuntime) -> Result<(), Fail> {
