@@ -66,3 +66,20 @@ fn children_of_a_child_are_its_own(rt: HostRuntime) -> Result<(), Fail> {
     assert_eq!(rt; children_of(rt.alloc(), &dag, first)?.len(), 0);
     Ok(())
 }
+
+#[test]
+fn updating_a_joined_pair_needs_no_index(rt: HostRuntime) -> Result<(), Fail> {
+    let mut dag: Dag<(), u8, u8> = Dag::new(rt.alloc());
+    let a = add_node(&rt, &mut dag, ())?;
+    let b = add_node(&rt, &mut dag, ())?;
+    for _ in 0..255 {
+        add_edge(&rt, &mut dag, a, b, 1)?;
+    }
+    assert!(rt; !dag.can_add_edge());
+    assert!(rt; dag.node_weight(a).is_some());
+    assert!(rt; dag.node_weight(b).is_some());
+    assert!(rt; dag.find_edge(a, b).is_some());
+    assert_eq!(rt; dag.update_edge(a, b, 9)?.index(), 254);
+    assert_eq!(rt; dag.edge_weight(EdgeIndex::new(254)).copied(), Some(9));
+    Ok(())
+}
