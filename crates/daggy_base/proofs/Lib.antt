@@ -11,6 +11,7 @@ pub mod Removing
 pub mod NodeRemoving
 pub mod Finding
 pub mod Neighbors
+pub mod Unreached
 pub mod NodeTaking
 pub mod Reweighing
 pub mod TakingBack

@@ -1,2 +1,3 @@
 pub mod Guarding
 pub mod NewNode
+pub mod Writing

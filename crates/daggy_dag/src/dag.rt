@@ -25,6 +25,7 @@ use std::alloc::Global;
 use std::marker::{Model, PhantomData};
 
 mod walkers;
+mod weights;
 
 pub use walkers::{Children, Parents};
 

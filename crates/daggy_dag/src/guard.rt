@@ -1,5 +1,5 @@
 //! The changes that keep any store acyclic. Both kinds of dag are made of them.
-ghost use Rattle.std.specs.Prelude.{◌≡◌, ℕ, ◌+◌, ◌<◌, ◌≤◌, ◌↔◌, ◌⊎◌, Err, None, IfOk, OnOk, IfErr, OnErr, OnSome, IfSome, IfNone, IsOkAnd};
+ghost use Rattle.std.specs.Prelude.{◌≡◌, ℕ, ◌+◌, ◌<◌, ◌≤◌, ◌↔◌, ◌⊎◌, IsTrue, Err, None, IfOk, OnOk, IfErr, OnErr, OnSome, IfSome, IfNone, IsOkAnd};
 ghost use Rattle.daggy_base.specs.Graph.{HasNode, node_weight, node_count, edge_count, node_bound};
 ghost use Rattle.daggy_base.specs.Path.{Reaches, IsAcyclic};
 ghost use Rattle.daggy_base.specs.Adding.{next_node, next_edge, with_node, with_edge, with_link, with_neighbor};
@@ -41,6 +41,27 @@ pub fn add_node<Ix: IndexType, S: Store<Ix>>(
     store.add_node(weight)
 }
 
+// Whether `from` reaches `to`. No search is needed where `to` has no parents, unless the two are one.
+fn leads_to<Ix: IndexType, S: Store<Ix>>(
+    store: &mut S,
+    scratch: &mut Scratch<Ix>,
+    from: NodeIndex<Ix>,
+    to: NodeIndex<Ix>,
+) -> bool
+    requires { node_bound (S.graph store.old) ≤ scratch.old.nodes }
+    ensures decided { IsTrue result ↔ Reaches (S.graph store.old) (Ix.number from) (Ix.number to) }
+    ensures same { S.graph store.new ≡ S.graph store.old }
+    ensures counted { S.looks store.new ≤ S.looks store.old + edge_count (S.graph store.old) }
+    ensures room { scratch.new ≡ scratch.old }
+{
+    let _bound = store.node_bound();
+    let first = store.first_edge(to, Direction::Incoming);
+    if first.index() == EdgeIndex::<Ix>::end().index() && from.index() != to.index() {
+        return false;
+    }
+    reaches(store, from, to, scratch)
+}
+
 /// Adds an edge from `a` to `b`, unless a path leads from `b` to `a`.
 pub fn add_edge<Ix: IndexType, S: Store<Ix>>(
     store: &mut S,
@@ -63,7 +84,7 @@ pub fn add_edge<Ix: IndexType, S: Store<Ix>>(
     ensures counted { S.looks store.new ≤ S.looks store.old + edge_count (S.graph store.old) }
     ensures room { scratch.new ≡ scratch.old }
 {
-    if reaches(store, b, a, scratch) {
+    if leads_to(store, scratch, b, a) {
         return Err(EdgeError::WouldCycle(WouldCycle(weight)));
     }
     store.add_edge(a, b, weight)

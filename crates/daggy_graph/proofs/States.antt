@@ -38,9 +38,3 @@ holds_iff f xs i k n i_is n_is = (
   λ p. slot_holds f xs k (omega (arith, (below_iff i n).0 p, i_is, n_is)),
   λ q. (below_iff i n).1 (omega (arith, slot_within f xs k q, i_is, n_is)),
 )
-
-pub few_iff : {A B : Type 0} (f : A → B) (xs : List A) (n m end : ℕ) → n ≡ length xs → m ≡ end → IsTrue (nat_lt n m) ↔ (count_by is_some (map (λ x. Some (f x)) xs) < end)
-few_iff f xs n m end n_is m_is = (
-  λ p. omega (arith, (below_iff n m).0 p, n_is, m_is, count-slots f xs),
-  λ q. (below_iff n m).1 (omega (arith, q, n_is, m_is, count-slots f xs)),
-)

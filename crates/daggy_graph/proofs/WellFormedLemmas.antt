@@ -1,5 +1,5 @@
 -- What is stored is well formed.
-use Rattle.std.proofs.Common.{◌≡◌, ℕ, zero, suc, ◌<◌, ◌≤◌, List, [], ◌∷◌, map, length, get_or, Some, None, slice_get, refl, sym, ap, subst, ◌∙◌, inl, inr, arith}
+use Rattle.std.proofs.Common.{◌≡◌, ℕ, zero, suc, ◌<◌, List, [], ◌∷◌, map, length, get_or, Some, None, slice_get, refl, sym, ap, subst, ◌∙◌, inl, inr, arith}
 use Rattle.std.proofs.lemmas.List.{length-map, get_or-map}
 use Rattle.std.proofs.lemmas.Bool.{cases_lt}
 use Rattle.std.proofs.lemmas.Option.{same_Some, none-some}
@@ -93,9 +93,6 @@ module _ {N E Ix : Type 0} (end : ℕ) (nodes : List (Node N Ix)) (edges : List 
       list_of : (d : Direction) → row (lists_at d (stored_graph nodes edges)) n ≡ list_at d (stored_graph nodes edges) n
       list_of Outgoing = refl
       list_of Incoming = refl
-
-  pub first_past : (dir : Direction) (g : Graph N E) → Stores end nodes edges g → (n : ℕ) → length nodes ≤ n → first_of end (row (lists_at dir g) n) ≡ end
-  first_past dir g s n past = ap (first_of end) (row_past (lists_at dir g) n (omega (arith, past, (s.linked dir).rows, length-map nodes (raw_first dir))))
 
   pub next_shown : (dir : Direction) (g : Graph N E) → Stores end nodes edges g → (e : ℕ) (x : Edge E Ix) → e < length edges → x ≡ get_or edges e x → raw_next dir x ≡ after end (row (lists_at dir g) (end_at dir x)) e
   next_shown dir g s e x within is =

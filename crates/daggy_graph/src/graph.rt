@@ -11,7 +11,7 @@ ghost use Rattle.daggy_base.specs.declared.error.EdgeError.TheVariants.{Memory a
 
 mod count;
 mod links;
-pub mod raw;
+mod raw;
 mod removal;
 mod source;
 mod weights;

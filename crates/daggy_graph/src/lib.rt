@@ -2,3 +2,5 @@
 #![tactic(auto)]
 
 pub mod graph;
+#[cfg(test)]
+mod tests;

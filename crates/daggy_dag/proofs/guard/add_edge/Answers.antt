@@ -5,5 +5,5 @@ use Rattle.daggy_dag.proofs.guard.add_edge.Goals as goal
 
 pub returns-clause-acyclic : goal.returns-clause-acyclic
 returns-clause-acyclic g c =
-    acyclic_edge c.add_edge.result _ _ _ _ _ c.args.weight c.requires.parent (λ r. false≢true (sym c.if-reaches.false ∙ c.reaches.ensures.decided.1 r)) c.requires.acyclic
-    c.reaches.ensures.same c.add_edge.ensures.added c.add_edge.ensures.unchanged
+    acyclic_edge c.add_edge.result _ _ _ _ _ c.args.weight c.requires.parent (λ r. false≢true (sym c.if-leads_to.false ∙ c.leads_to.ensures.decided.1 r)) c.requires.acyclic
+    c.leads_to.ensures.same c.add_edge.ensures.added c.add_edge.ensures.unchanged

@@ -1,0 +1,9 @@
+pub mod Answering
+pub mod Cuts
+pub mod Digits
+pub mod Keeping
+pub mod Runs
+pub mod Serving
+pub mod Telling
+pub mod Walking
+mod Walks

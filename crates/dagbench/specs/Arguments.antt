@@ -1,0 +1,10 @@
+-- What the program's arguments ask for.
+use Rattle.std.specs.Prelude.{ℕ, Option, Some, None, List, [], ◌∷◌, codes, if◌then◌else◌}
+use Rattle.std.specs.Str.{bytes_eq}
+use Rattle.dagbench.specs.declared.mode.Mode.{Mode}
+use Rattle.dagbench.specs.declared.mode.Mode.TheVariants.{Compact}
+
+-- the one word `compact`
+abbrev pub mode_by_words : List (List ℕ) → Option Mode
+mode_by_words (word ∷ []) = if bytes_eq word (codes "compact") then Some Compact else None
+mode_by_words words = None

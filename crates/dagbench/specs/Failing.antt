@@ -1,0 +1,8 @@
+-- Which call of a device in memory fails.
+use Rattle.std.specs.Prelude.{ℕ, zero, suc, Option, Some, None}
+
+-- how many calls still pass before one fails, after one more call. After the failure all pass
+abbrev pub passes_after : Option ℕ → Option ℕ
+passes_after None = None
+passes_after (Some zero) = None
+passes_after (Some (suc n)) = Some n

@@ -1,0 +1,12 @@
+pub mod Cutting
+pub mod Numbers
+pub mod Commands
+pub mod Streams
+pub mod Replies
+pub mod Arguments
+pub mod Endings
+pub mod Steps
+pub mod Serving
+pub mod Progress
+pub mod Ends
+pub mod Failing

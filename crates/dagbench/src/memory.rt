@@ -1,0 +1,148 @@
+//! A source and a sink that hold their bytes, and fail where they are told to.
+ghost use Rattle.std.specs.Prelude.{◌≡◌, ◌≢◌, ◌↔◌, ℕ, ◌≤◌, ◌<◌, ◌^◌, ◌++◌, ◌-◌, min, List, [], None, Some, false, take, length, vec_len, IsOk, IfOk, OnOk};
+ghost use Rattle.dagbench.specs.Streams.{CountsFaults, Gives, MeetsEnd};
+ghost use Rattle.dagbench.specs.Failing.{passes_after};
+
+use crate::history::History;
+use crate::stream::{Fault, Sink, Source};
+use std::alloc::Global;
+
+/// Counts a call. After `passes` ones one call is to fail.
+fn pass(passes: &mut Option<usize>) -> Result<(), Fault>
+    ensures fault { IsOk result ↔ (passes.old ≢ Some 0) }
+    ensures next { passes.new ≡ passes_after passes.old }
+{
+    match *passes {
+        None => Ok(()),
+        Some(0) => {
+            *passes = None;
+            Err(Fault)
+        }
+        Some(count) => {
+            *passes = Some(count - 1);
+            Ok(())
+        }
+    }
+}
+
+/// Copies as many bytes as both have room for, and gives their number.
+fn copy_front(from: &[u8], to: &mut [u8]) -> usize
+    ensures count { result ≡ min (length from.now) (length to.new) }
+    ensures copied { (result ≤ length to.new) × (take result to.new ≡ take result from.now) }
+{
+    let count = from.len().min(to.len());
+    to[..count].copy_from_slice(&from[..count]);
+    count
+}
+
+/// A source of bytes that it holds.
+#[derive(Drop)]
+pub struct MemorySource {
+    bytes: Vec<u8>,
+    at: usize,
+    passes: Option<usize>,
+    history: History,
+    ghost within: { at ≤ vec_len bytes },
+}
+
+impl MemorySource {
+    /// Gives these bytes, and then the end. If `passes` is some number, the call behind so many ones fails.
+    pub fn new(bytes: Vec<u8>, passes: Option<usize>) -> MemorySource
+        ensures bytes { (result.bytes ≡ bytes) × (result.passes ≡ passes) }
+        ensures given { ⟦<MemorySource as Source>⟧.given result ≡ [] }
+        ensures start { (⟦<MemorySource as Source>⟧.is_ended result ≡ false) × (⟦<MemorySource as Source>⟧.failures result ≡ 0) }
+    {
+        MemorySource {
+            bytes,
+            at: 0,
+            passes,
+            history: History::new(),
+        }
+    }
+
+    /// Gives the bytes that come next, as many as the buffer has room for, and their number.
+    fn give(&mut self, buffer: &mut [u8]) -> usize
+        ensures count { result ≡ min (vec_len self.old.bytes - self.old.at) (length buffer.new) }
+        ensures bytes { take self.new.at self.new.bytes.items ≡ take self.old.at self.old.bytes.items ++ take result buffer.new }
+        ensures others { (self.new.history ≡ self.old.history) × (self.new.passes ≡ self.old.passes) }
+    {
+        let count = copy_front(&self.bytes[self.at..], buffer);
+        self.at += count;
+        count
+    }
+}
+
+impl Source for MemorySource {
+    ghost given = { λ s. take s.at s.bytes.items };
+
+    ghost is_ended = { λ s. s.history.is_ended };
+
+    ghost failures = { λ s. s.history.failures };
+
+    fn read(&mut self, buffer: &mut [u8]) -> Result<usize, Fault>
+        ensures bytes { Gives result (take self.old.at self.old.bytes.items) (take self.new.at self.new.bytes.items) buffer.new }
+        ensures few { OnOk result (length (take self.new.at self.new.bytes.items) < 2 ^ 64) }
+        ensures end { MeetsEnd result self.old.history.is_ended self.new.history.is_ended buffer.new }
+        ensures counted { CountsFaults result self.old.history.failures self.new.history.failures }
+
+        // It gives as much as there is and as there is room for.
+        ensures count { IfOk result (λ n. n ≡ min (vec_len self.old.bytes - self.old.at) (length buffer.new)) }
+
+        // It fails where it was told to, and nowhere else.
+        ensures fault { IsOk result ↔ (self.old.passes ≢ Some 0) }
+        ensures next { self.new.passes ≡ passes_after self.old.passes }
+    {
+        if pass(&mut self.passes).is_err() {
+            self.history = self.history.and_failure();
+            return Err(Fault);
+        }
+        let count = self.give(buffer);
+        if count == 0 && !buffer.is_empty() {
+            self.history = self.history.and_end();
+        }
+        Ok(count)
+    }
+}
+
+/// A sink that holds what it took.
+#[derive(Drop)]
+pub struct MemorySink {
+    taken: Vec<u8>,
+    passes: Option<usize>,
+    history: History,
+}
+
+impl MemorySink {
+    /// Has taken nothing. If `passes` is some number, the call behind so many ones fails.
+    pub fn new(alloc: Global, passes: Option<usize>) -> MemorySink
+        ensures passes { result.passes ≡ passes }
+        ensures start { (⟦<MemorySink as Sink>⟧.taken result ≡ []) × (⟦<MemorySink as Sink>⟧.failures result ≡ 0) }
+    {
+        MemorySink {
+            taken: Vec::new(alloc),
+            passes,
+            history: History::new(),
+        }
+    }
+
+    /// What it took.
+    pub fn bytes(&self) -> &[u8]
+        ensures { result.now ≡ ⟦<MemorySink as Sink>⟧.taken self.now }
+    {
+        self.taken.as_slice()
+    }
+}
+
+impl Sink for MemorySink {
+    ghost taken = { λ s. s.taken.items };
+
+    ghost failures = { λ s. s.history.failures };
+
+    fn put(&mut self, bytes: &[u8]) -> Result<(), Fault> {
+        if pass(&mut self.passes).is_err() || self.taken.extend_from_slice(bytes).is_err() {
+            self.history = self.history.and_failure();
+            return Err(Fault);
+        }
+        Ok(())
+    }
+}

@@ -1,0 +1,327 @@
+//! Whole runs, and what single lines and arguments mean.
+use crate::command::Command;
+use crate::device::Device;
+use crate::ending::{Stop, ending};
+use crate::memory::{MemorySink, MemorySource};
+use crate::mode::{Mode, mode_of};
+use crate::parse::parse;
+use crate::serve::serve;
+use std::alloc::{AllocError, Global};
+use std::io;
+use std::io::{Read, Write};
+use std::test::Fail;
+
+/// A run with devices that fail behind so many calls, and what its sink took.
+fn served(
+    alloc: Global,
+    input: &[u8],
+    reads: Option<usize>,
+    writes: Option<usize>,
+) -> Result<(Result<(), Stop>, Vec<u8>), AllocError> {
+    let mut source = MemorySource::new(Vec::from_slice(alloc, input)?, reads);
+    let mut sink = MemorySink::new(alloc, writes);
+    let outcome = serve(alloc, Mode::Compact, &mut source, &mut sink);
+    let taken = Vec::from_slice(alloc, sink.bytes())?;
+    Ok((outcome, taken))
+}
+
+/// A front, then a byte so many times, then a rest.
+fn filled(
+    alloc: Global,
+    front: &[u8],
+    byte: u8,
+    count: usize,
+    rest: &[u8],
+) -> Result<Vec<u8>, AllocError> {
+    let mut bytes = Vec::from_slice(alloc, front)?;
+    for _ in 0..count {
+        bytes.push(byte)?;
+    }
+    bytes.extend_from_slice(rest)?;
+    Ok(bytes)
+}
+
+fn words(alloc: Global, texts: &[&str]) -> Result<Vec<String>, AllocError> {
+    let mut all = Vec::new(alloc);
+    for text in texts {
+        all.push(String::from_str(alloc, text)?)?;
+    }
+    Ok(all)
+}
+
+#[test]
+fn nodes_edges_and_children_are_answered(rt: HostRuntime) -> Result<(), Fail> {
+    let input = b"node 1\nnode 2\nedge 0 1 7\nedge 1 0 5\nchildren 0\n";
+    let (outcome, taken) = served(rt.alloc(), input.as_slice(), None, None)?;
+    assert_eq!(rt; outcome, Ok(()));
+    assert_eq!(rt; taken.as_slice(), b"n0\nn1\ne0\ncycle 5\ne0:1\n".as_slice());
+    Ok(())
+}
+
+#[test]
+fn refusals_are_told(rt: HostRuntime) -> Result<(), Fail> {
+    let input =
+        b"node -0\nnode 2\nedge 1 1 -4\nedge 0 9 1\nchildren 1\nchildren 4294967295\nfrob\nedge 0 1 3\nedge 0 1 4\nchildren 0";
+    let (outcome, taken) = served(rt.alloc(), input.as_slice(), None, None)?;
+    assert_eq!(rt; outcome, Ok(()));
+    let expected = b"n0\nn1\ncycle -4\nmissing\n-\n-\nbad line\ne0\ne1\ne1:1 e0:1\n";
+    assert_eq!(rt; taken.as_slice(), expected.as_slice());
+    Ok(())
+}
+
+#[test]
+fn an_empty_rest_is_no_line(rt: HostRuntime) -> Result<(), Fail> {
+    let (outcome, taken) = served(rt.alloc(), b"".as_slice(), None, None)?;
+    assert_eq!(rt; outcome, Ok(()));
+    assert_eq!(rt; taken.len(), 0);
+    let (outcome, taken) = served(rt.alloc(), b"\n  \nnode 1\n  ".as_slice(), None, None)?;
+    assert_eq!(rt; outcome, Ok(()));
+    assert_eq!(rt;
+        taken.as_slice(),
+        b"bad line\nbad line\nn0\nbad line\n".as_slice()
+    );
+    Ok(())
+}
+
+#[test]
+fn a_long_line_is_bad_once(rt: HostRuntime) -> Result<(), Fail> {
+    let longest = filled(
+        rt.alloc(),
+        b"node".as_slice(),
+        b' ',
+        4091,
+        b"7\n".as_slice(),
+    )?;
+    let (_outcome, taken) = served(rt.alloc(), longest.as_slice(), None, None)?;
+    assert_eq!(rt; taken.as_slice(), b"n0\n".as_slice());
+    let longer = filled(
+        rt.alloc(),
+        b"node".as_slice(),
+        b' ',
+        4092,
+        b"7\n".as_slice(),
+    )?;
+    let (_outcome, taken) = served(rt.alloc(), longer.as_slice(), None, None)?;
+    assert_eq!(rt; taken.as_slice(), b"bad line\n".as_slice());
+    let unended = filled(rt.alloc(), b"node".as_slice(), b' ', 4092, b"7".as_slice())?;
+    let (_outcome, taken) = served(rt.alloc(), unended.as_slice(), None, None)?;
+    assert_eq!(rt; taken.as_slice(), b"bad line\n".as_slice());
+    let huge = filled(
+        rt.alloc(),
+        b"node 5\n".as_slice(),
+        b'x',
+        200_000,
+        b"\nnode 6\nnode 7".as_slice(),
+    )?;
+    let (outcome, taken) = served(rt.alloc(), huge.as_slice(), None, None)?;
+    assert_eq!(rt; outcome, Ok(()));
+    assert_eq!(rt; taken.as_slice(), b"n0\nbad line\nn1\nn2\n".as_slice());
+    Ok(())
+}
+
+#[test]
+fn a_line_may_lie_in_two_blocks(rt: HostRuntime) -> Result<(), Fail> {
+    let bad = filled(
+        rt.alloc(),
+        b"node 5\n".as_slice(),
+        b'\n',
+        65_524,
+        b"node 66\nedge 0 1 8\n".as_slice(),
+    )?;
+    let (outcome, taken) = served(rt.alloc(), bad.as_slice(), None, None)?;
+    assert_eq!(rt; outcome, Ok(()));
+    assert_eq!(rt; taken.len(), 3 + 65_524 * 9 + 6);
+    assert!(rt; taken.ends_with(b"\nbad line\nn1\ne0\n".as_slice()));
+    Ok(())
+}
+
+#[test]
+fn a_fault_is_told_where_its_device_failed(rt: HostRuntime) -> Result<(), Fail> {
+    let input = b"node 1\nnode 2\nno";
+    let (outcome, taken) = served(rt.alloc(), input.as_slice(), Some(0), None)?;
+    assert_eq!(rt; outcome, Err(Stop::Read));
+    assert_eq!(rt; taken.len(), 0);
+    let (outcome, taken) = served(rt.alloc(), input.as_slice(), Some(1), None)?;
+    assert_eq!(rt; outcome, Err(Stop::Read));
+    assert_eq!(rt; taken.as_slice(), b"n0\nn1\n".as_slice());
+    let (outcome, taken) = served(rt.alloc(), input.as_slice(), Some(2), None)?;
+    assert_eq!(rt; outcome, Ok(()));
+    assert_eq!(rt; taken.as_slice(), b"n0\nn1\nbad line\n".as_slice());
+    let (outcome, taken) = served(rt.alloc(), input.as_slice(), None, Some(0))?;
+    assert_eq!(rt; outcome, Err(Stop::Write));
+    assert_eq!(rt; taken.len(), 0);
+    let (outcome, taken) = served(rt.alloc(), input.as_slice(), None, Some(1))?;
+    assert_eq!(rt; outcome, Err(Stop::Write));
+    assert_eq!(rt; taken.as_slice(), b"n0\nn1\n".as_slice());
+    let (outcome, taken) = served(rt.alloc(), input.as_slice(), None, Some(2))?;
+    assert_eq!(rt; outcome, Ok(()));
+    assert_eq!(rt; taken.as_slice(), b"n0\nn1\nbad line\n".as_slice());
+    Ok(())
+}
+
+#[test]
+fn weights_have_a_sign_and_nineteen_digits(rt: HostRuntime) {
+    assert_eq!(rt;
+        parse(b"node 9223372036854775807".as_slice()),
+        Some(Command::Node(i64::MAX))
+    );
+    assert_eq!(rt; parse(b"node 9223372036854775808".as_slice()), None);
+    assert_eq!(rt;
+        parse(b"node -9223372036854775808".as_slice()),
+        Some(Command::Node(i64::MIN))
+    );
+    assert_eq!(rt; parse(b"node -9223372036854775809".as_slice()), None);
+    assert_eq!(rt; parse(b"node -0".as_slice()), Some(Command::Node(0)));
+    assert_eq!(rt; parse(b"node -".as_slice()), None);
+    assert_eq!(rt; parse(b"node +1".as_slice()), None);
+    assert_eq!(rt; parse(b"node --1".as_slice()), None);
+    assert_eq!(rt;
+        parse(b"node 0000000000000000007".as_slice()),
+        Some(Command::Node(7))
+    );
+    assert_eq!(rt; parse(b"node 00000000000000000007".as_slice()), None);
+}
+
+#[test]
+fn indices_have_ten_digits(rt: HostRuntime) {
+    assert_eq!(rt;
+        parse(b"children 4294967295".as_slice()),
+        Some(Command::Children(u32::MAX))
+    );
+    assert_eq!(rt; parse(b"children 4294967296".as_slice()), None);
+    assert_eq!(rt;
+        parse(b"children 0000000007".as_slice()),
+        Some(Command::Children(7))
+    );
+    assert_eq!(rt; parse(b"children 00000000007".as_slice()), None);
+    assert_eq!(rt; parse(b"children -1".as_slice()), None);
+    assert_eq!(rt; parse(b"children x".as_slice()), None);
+}
+
+#[test]
+fn words_are_parted_by_spaces_alone(rt: HostRuntime) {
+    assert_eq!(rt;
+        parse(b"  edge   0 1  -7 ".as_slice()),
+        Some(Command::Edge(0, 1, -7))
+    );
+    assert_eq!(rt; parse(b"edge 0\t1 7".as_slice()), None);
+    assert_eq!(rt; parse(b"edge 0 1 7\r".as_slice()), None);
+    assert_eq!(rt; parse(b"edge 0 1".as_slice()), None);
+    assert_eq!(rt; parse(b"edge 0 1 7 8".as_slice()), None);
+    assert_eq!(rt; parse(b"Node 1".as_slice()), None);
+    assert_eq!(rt; parse(b"nodes 1".as_slice()), None);
+    assert_eq!(rt; parse(b"    ".as_slice()), None);
+    assert_eq!(rt; parse(b"".as_slice()), None);
+}
+
+#[test]
+fn arguments_name_the_kind(rt: HostRuntime) -> Result<(), Fail> {
+    assert_eq!(rt;
+        mode_of(words(rt.alloc(), ["compact"].as_slice())?.as_slice()),
+        Some(Mode::Compact)
+    );
+    assert_eq!(rt;
+        mode_of(words(rt.alloc(), ["stable"].as_slice())?.as_slice()),
+        None
+    );
+    assert_eq!(rt;
+        mode_of(words(rt.alloc(), ["plan"].as_slice())?.as_slice()),
+        None
+    );
+    assert_eq!(rt;
+        mode_of(words(rt.alloc(), ["compact", "compact"].as_slice())?.as_slice()),
+        None
+    );
+    assert_eq!(rt;
+        mode_of(words(rt.alloc(), ["Compact"].as_slice())?.as_slice()),
+        None
+    );
+    assert_eq!(rt;
+        mode_of(words(rt.alloc(), [""].as_slice())?.as_slice()),
+        None
+    );
+    let none: Vec<String> = Vec::new(rt.alloc());
+    assert_eq!(rt; mode_of(none.as_slice()), None);
+    Ok(())
+}
+
+#[test]
+fn endings_have_their_texts(rt: HostRuntime) {
+    assert_eq!(rt; ending(None), (2, "usage: dagbench compact|stable\n"));
+    assert_eq!(rt; ending(Some(&Ok(()))), (0, ""));
+    assert_eq!(rt;
+        ending(Some(&Err(Stop::Read))),
+        (1, "dagbench: read failed\n")
+    );
+    assert_eq!(rt;
+        ending(Some(&Err(Stop::Write))),
+        (1, "dagbench: write failed\n")
+    );
+    assert_eq!(rt;
+        ending(Some(&Err(Stop::Memory))),
+        (1, "dagbench: out of memory\n")
+    );
+}
+
+/// Gives nothing and takes nothing.
+#[derive(Drop)]
+struct Broken;
+
+impl Read for Broken {
+    fn read(&mut self, _buffer: &mut [u8]) -> io::Result<usize> {
+        Err(io::Error::from(io::ErrorKind::Unsupported))
+    }
+}
+
+impl Write for Broken {
+    fn write(&mut self, _bytes: &[u8]) -> io::Result<usize> {
+        Err(io::Error::from(io::ErrorKind::Unsupported))
+    }
+
+    fn flush(&mut self) -> io::Result<()> {
+        Ok(())
+    }
+}
+
+#[test]
+fn readers_and_writers_are_devices(rt: HostRuntime) -> Result<(), Fail> {
+    let mut taken = Vec::new(rt.alloc());
+    let mut sink = Device::new(&mut taken);
+    let mut source = Device::new(b"node 1\nchildren 0\n".as_slice());
+    assert_eq!(rt;
+        serve(rt.alloc(), Mode::Compact, &mut source, &mut sink),
+        Ok(())
+    );
+    assert_eq!(rt;
+        serve(
+            rt.alloc(),
+            Mode::Compact,
+            &mut Device::new(Broken),
+            &mut sink
+        ),
+        Err(Stop::Read)
+    );
+    drop(sink);
+    assert_eq!(rt; taken.as_slice(), b"n0\n-\n".as_slice());
+    let mut source = Device::new(b"node 1\n".as_slice());
+    assert_eq!(rt;
+        serve(
+            rt.alloc(),
+            Mode::Stable,
+            &mut source,
+            &mut Device::new(Broken)
+        ),
+        Err(Stop::Write)
+    );
+    let mut source = Device::new(b"".as_slice());
+    assert_eq!(rt;
+        serve(
+            rt.alloc(),
+            Mode::Stable,
+            &mut source,
+            &mut Device::new(Broken)
+        ),
+        Ok(())
+    );
+    Ok(())
+}

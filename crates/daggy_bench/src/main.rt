@@ -1,0 +1,50 @@
+//! Times one workload over the compact dag: `daggy_bench NAME NODES EDGES` prints `compact.NAME NODES SECONDS`, and a
+//! check value on standard error.
+#![tactic(auto)]
+
+mod random;
+mod workload;
+
+use crate::workload::{Sizes, Workload};
+use std::process::ExitCode;
+use std::time::Instant;
+use std::{env, io};
+
+// The workload and its sizes, as the arguments name them.
+fn chosen(words: &[String]) -> Option<(Workload, Sizes)> {
+    let [name, nodes, edges] = words else {
+        return None;
+    };
+    let workload = Workload::named(name.as_str())?;
+    let nodes = nodes.as_str().parse::<u32>().ok()?;
+    let edges = edges.as_str().parse::<u32>().ok()?;
+    Some((workload, Sizes { nodes, edges }))
+}
+
+fn time(
+    rt: &(impl Print + Eprint + AllocGlobal + std::rt::Clock),
+    workload: Workload,
+    sizes: Sizes,
+) -> io::Result<()> {
+    let prepared = workload.prepare(rt.alloc(), sizes)?;
+    let start = Instant::now(rt)?;
+    let check = prepared.run(rt.alloc())?;
+    let seconds = start.elapsed(rt)?.as_secs_f64();
+    let name = workload.name();
+    let nodes = sizes.nodes;
+    eprintln!(rt; "check compact.{name} {nodes} {check}")?;
+    println!(rt; "compact.{name} {nodes} {seconds:.6}")
+}
+
+fn main(rt: HostRuntime) -> io::Result<ExitCode> {
+    let mut words = Vec::new(rt.alloc());
+    for word in env::args(&rt)?.skip(1) {
+        words.push(word)?;
+    }
+    let Some((workload, sizes)) = chosen(words.as_slice()) else {
+        eprintln!(rt; "usage: daggy_bench NAME NODES EDGES")?;
+        return Ok(ExitCode::from(2));
+    };
+    time(&rt, workload, sizes)?;
+    Ok(ExitCode::SUCCESS)
+}

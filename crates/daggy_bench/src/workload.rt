@@ -1,0 +1,269 @@
+//! The workloads.
+use crate::random::Random;
+use daggy::{Dag, EdgeIndex, NodeIndex, Walker};
+use std::alloc::{AllocError, Global};
+
+type Weighted = Dag<i64, i64, u32>;
+
+/// How large a graph is.
+#[derive(Clone, Copy)]
+pub struct Sizes {
+    pub nodes: u32,
+    pub edges: u32,
+}
+
+/// What is timed.
+#[derive(Clone, Copy)]
+pub enum Workload {
+    AddChildTree,
+    BuildRandom,
+    BuildSorted,
+    WalkChildren,
+    RemoveEdges,
+    RemoveNodes,
+}
+
+/// A workload, with all that is made before the clock starts.
+#[derive(Drop)]
+pub enum Prepared {
+    AddChildTree(u32),
+    Build(u32, Vec<(u32, u32)>),
+    WalkChildren(Weighted),
+    RemoveEdges(Weighted),
+    RemoveNodes(Weighted),
+}
+
+impl Workload {
+    pub fn named(name: &str) -> Option<Workload> {
+        match name {
+            "add_child_tree" => Some(Workload::AddChildTree),
+            "build_random" => Some(Workload::BuildRandom),
+            "build_sorted" => Some(Workload::BuildSorted),
+            "walk_children" => Some(Workload::WalkChildren),
+            "remove_edges" => Some(Workload::RemoveEdges),
+            "remove_nodes" => Some(Workload::RemoveNodes),
+            _ => None,
+        }
+    }
+
+    pub fn name(self) -> &'static str {
+        match self {
+            Workload::AddChildTree => "add_child_tree",
+            Workload::BuildRandom => "build_random",
+            Workload::BuildSorted => "build_sorted",
+            Workload::WalkChildren => "walk_children",
+            Workload::RemoveEdges => "remove_edges",
+            Workload::RemoveNodes => "remove_nodes",
+        }
+    }
+
+    pub fn prepare(self, alloc: Global, sizes: Sizes) -> Result<Prepared, AllocError> {
+        match self {
+            Workload::AddChildTree => Ok(Prepared::AddChildTree(sizes.nodes)),
+            Workload::BuildRandom => Ok(Prepared::Build(sizes.nodes, random_pairs(alloc, sizes)?)),
+            Workload::BuildSorted => Ok(Prepared::Build(sizes.nodes, sorted_pairs(alloc, sizes)?)),
+            Workload::WalkChildren => Ok(Prepared::WalkChildren(sorted(alloc, sizes)?)),
+            Workload::RemoveEdges => Ok(Prepared::RemoveEdges(sorted(alloc, sizes)?)),
+            Workload::RemoveNodes => Ok(Prepared::RemoveNodes(sorted(alloc, sizes)?)),
+        }
+    }
+}
+
+impl Prepared {
+    /// The work that is timed. It gives a number that another program which did the same has too.
+    pub fn run(self, alloc: Global) -> Result<u64, AllocError> {
+        match self {
+            Prepared::AddChildTree(nodes) => add_child_tree(alloc, nodes),
+            Prepared::Build(nodes, pairs) => {
+                let (dag, refused) = build(alloc, nodes, pairs.as_slice())?;
+                Ok(
+                    (dag.edge_count() as u64)
+                        .wrapping_mul(1_000_000)
+                        .wrapping_add(refused),
+                )
+            }
+            Prepared::WalkChildren(dag) => Ok(walk_children(&dag)),
+            Prepared::RemoveEdges(dag) => Ok(remove_edges(dag)),
+            Prepared::RemoveNodes(dag) => Ok(remove_nodes(dag)),
+        }
+    }
+}
+
+fn weight_of(i: usize) -> i64 {
+    (i & 0x7fff_ffff_ffff_ffff) as i64
+}
+
+fn node(i: u32) -> NodeIndex<u32> {
+    NodeIndex::new(i as usize)
+}
+
+// The numbers below `n`, shuffled.
+fn shuffled(alloc: Global, random: &mut Random, n: u32) -> Result<Vec<u32>, AllocError> {
+    let mut numbers = Vec::new(alloc);
+    for i in 0..n {
+        numbers.push(i)?;
+    }
+    for i in (1..n).rev() {
+        let j = random.below(i + 1);
+        if (i as usize) < numbers.len() && (j as usize) < numbers.len() {
+            numbers.swap(i as usize, j as usize);
+        }
+    }
+    Ok(numbers)
+}
+
+// Random pairs of different numbers, the lesser first.
+fn ordered_pairs(
+    alloc: Global,
+    random: &mut Random,
+    sizes: Sizes,
+) -> Result<Vec<(u32, u32)>, AllocError> {
+    let mut pairs = Vec::new(alloc);
+    if sizes.nodes < 2 {
+        return Ok(pairs);
+    }
+    for _ in 0..u64::MAX {
+        if pairs.len() >= sizes.edges as usize {
+            break;
+        }
+        let i = random.below(sizes.nodes);
+        let j = random.below(sizes.nodes);
+        if i != j {
+            pairs.push((i.min(j), i.max(j)))?;
+        }
+    }
+    Ok(pairs)
+}
+
+fn random_pairs(alloc: Global, sizes: Sizes) -> Result<Vec<(u32, u32)>, AllocError> {
+    let mut random = Random::new(1);
+    let place = shuffled(alloc, &mut random, sizes.nodes)?;
+    let mut pairs = Vec::new(alloc);
+    for (i, j) in ordered_pairs(alloc, &mut random, sizes)? {
+        let parent = place.get(i as usize).copied().unwrap_or(0);
+        let child = place.get(j as usize).copied().unwrap_or(0);
+        pairs.push((parent, child))?;
+    }
+    Ok(pairs)
+}
+
+fn sorted_pairs(alloc: Global, sizes: Sizes) -> Result<Vec<(u32, u32)>, AllocError> {
+    let mut pairs = ordered_pairs(alloc, &mut Random::new(1), sizes)?;
+    pairs.sort()?;
+    Ok(pairs)
+}
+
+fn sorted(alloc: Global, sizes: Sizes) -> Result<Weighted, AllocError> {
+    let pairs = sorted_pairs(alloc, sizes)?;
+    let (dag, _) = build(alloc, sizes.nodes, pairs.as_slice())?;
+    Ok(dag)
+}
+
+// Whether the edge was added; one that would close a cycle is not.
+fn add_edge(dag: &mut Weighted, a: NodeIndex<u32>, b: NodeIndex<u32>, weight: i64) -> bool {
+    if dag.node_weight(a).is_none() || dag.node_weight(b).is_none() || !dag.can_add_edge() {
+        return false;
+    }
+    dag.add_edge(a, b, weight).is_ok()
+}
+
+fn add_node(dag: &mut Weighted, weight: i64) -> Result<(), AllocError> {
+    if !dag.can_add_node() {
+        return Err(AllocError);
+    }
+    match dag.add_node(weight) {
+        Ok(_) => Ok(()),
+        Err(_) => Err(AllocError),
+    }
+}
+
+// The dag of these edges, and how many were refused.
+fn build(alloc: Global, nodes: u32, pairs: &[(u32, u32)]) -> Result<(Weighted, u64), AllocError> {
+    let mut dag = Dag::new(alloc);
+    for i in 0..nodes {
+        add_node(&mut dag, i64::from(i))?;
+    }
+    let mut refused = 0u64;
+    for (i, (a, b)) in pairs.iter().enumerate() {
+        if !add_edge(&mut dag, node(*a), node(*b), weight_of(i)) {
+            refused = refused.wrapping_add(1);
+        }
+    }
+    Ok((dag, refused))
+}
+
+fn add_child_tree(alloc: Global, nodes: u32) -> Result<u64, AllocError> {
+    let mut random = Random::new(1);
+    let mut dag = Dag::new(alloc);
+    add_node(&mut dag, 0)?;
+    for i in 1..nodes {
+        let parent = node(random.below(i));
+        if dag.node_weight(parent).is_none() || !dag.can_add_node() || !dag.can_add_edge() {
+            return Err(AllocError);
+        }
+        let Ok(_) = dag.add_child(parent, i64::from(i), i64::from(i)) else {
+            return Err(AllocError);
+        };
+    }
+    Ok(dag.edge_count() as u64)
+}
+
+fn children_sum(dag: &Weighted, n: NodeIndex<u32>) -> u64 {
+    let mut sum = 0u64;
+    let mut walker = dag.children(n);
+    for _ in 0..u64::MAX {
+        let Some((e, child)) = walker.walk_next(dag) else {
+            break;
+        };
+        sum = sum
+            .wrapping_mul(31)
+            .wrapping_add(e.index() as u64 ^ child.index() as u64);
+    }
+    sum
+}
+
+fn walk_children(dag: &Weighted) -> u64 {
+    let mut sum = 0u64;
+    for _ in 0..10u8 {
+        for i in 0..dag.node_count() {
+            if i <= u32::MAX as usize {
+                sum = sum.wrapping_add(children_sum(dag, NodeIndex::new(i)));
+            }
+        }
+    }
+    sum
+}
+
+fn remove_edges(mut dag: Weighted) -> u64 {
+    let mut random = Random::new(2);
+    let mut sum = 0u64;
+    for _ in 0..u64::MAX {
+        let left = dag.edge_count();
+        if left == 0 || left > u32::MAX as usize {
+            break;
+        }
+        let e = EdgeIndex::new(random.below(left as u32) as usize);
+        let weight = dag.remove_edge(e).unwrap_or(0);
+        sum = sum
+            .wrapping_mul(31)
+            .wrapping_add((weight & i64::MAX) as u64);
+    }
+    sum
+}
+
+fn remove_nodes(mut dag: Weighted) -> u64 {
+    let mut random = Random::new(2);
+    let mut sum = 0u64;
+    for _ in 0..u64::MAX {
+        let left = dag.node_count();
+        if left == 0 || left > u32::MAX as usize {
+            break;
+        }
+        let n = NodeIndex::new(random.below(left as u32) as usize);
+        let weight = dag.remove_node(n).unwrap_or(0);
+        sum = sum
+            .wrapping_mul(31)
+            .wrapping_add((weight & i64::MAX) as u64);
+    }
+    sum
+}

@@ -1,0 +1,103 @@
+//! What no clause says: that calls succeed where memory is given, at a concrete type.
+use crate::graph::DiGraph;
+use daggy_base::index::{Direction, EdgeIndex, NodeIndex};
+use daggy_base::search::EdgeSource;
+use std::process::Abort;
+
+fn node(rt: &impl Abort, g: &mut DiGraph<u32, u32, u8>, w: u32) -> NodeIndex<u8> {
+    assert!(rt; g.can_add_node());
+    g.add_node(w).expect(rt, "memory")
+}
+
+fn edge(
+    rt: &impl Abort,
+    g: &mut DiGraph<u32, u32, u8>,
+    a: NodeIndex<u8>,
+    b: NodeIndex<u8>,
+    w: u32,
+) -> EdgeIndex<u8> {
+    assert!(rt; g.can_add_edge());
+    assert!(rt; g.contains_node(a));
+    assert!(rt; g.contains_node(b));
+    g.add_edge(a, b, w).expect(rt, "memory")
+}
+
+fn found(g: &DiGraph<u32, u32, u8>, a: NodeIndex<u8>, b: NodeIndex<u8>) -> Option<usize> {
+    match g.find_edge(a, b) {
+        Some(e) => Some(e.index()),
+        None => None,
+    }
+}
+
+#[test]
+fn edges_are_removed(rt: HostRuntime) {
+    let mut g = DiGraph::new(rt.alloc());
+    let a = node(&rt, &mut g, 10);
+    let b = node(&rt, &mut g, 11);
+    let c = node(&rt, &mut g, 12);
+    let ab = edge(&rt, &mut g, a, b, 100);
+    let ac = edge(&rt, &mut g, a, c, 101);
+    let ab2 = edge(&rt, &mut g, a, b, 102);
+    let bc = edge(&rt, &mut g, b, c, 103);
+    assert_eq!(rt; bc.index(), 3);
+    assert_eq!(rt; found(&g, a, b), Some(2));
+    assert_eq!(rt; g.first_edge(c, Direction::Incoming).index(), 3);
+    assert_eq!(rt; g.remove_edge(ab), Some(100));
+    assert_eq!(rt; found(&g, b, c), Some(0));
+    assert_eq!(rt; g.first_edge(c, Direction::Incoming).index(), 0);
+    assert_eq!(rt; g.remove_edge(ab2), Some(102));
+    assert_eq!(rt; found(&g, a, b), None);
+    assert_eq!(rt; g.first_edge(b, Direction::Incoming).index(), 255);
+    assert_eq!(rt; g.remove_edge(ac), Some(101));
+    assert_eq!(rt; g.edge_count(), 1);
+    assert_eq!(rt; g.remove_edge(ac), None);
+}
+
+#[test]
+fn nodes_are_removed(rt: HostRuntime) {
+    let mut g = DiGraph::new(rt.alloc());
+    let a = node(&rt, &mut g, 10);
+    let b = node(&rt, &mut g, 11);
+    let c = node(&rt, &mut g, 12);
+    let _ab = edge(&rt, &mut g, a, b, 100);
+    let _ca = edge(&rt, &mut g, c, a, 101);
+    let _cb = edge(&rt, &mut g, c, b, 102);
+    let _cc = edge(&rt, &mut g, c, c, 103);
+    assert_eq!(rt; g.remove_node(a), Some(10));
+    assert_eq!(rt; g.node_count(), 2);
+    assert_eq!(rt; g.edge_count(), 2);
+    assert_eq!(rt; g.node_weight(a).copied(), Some(12));
+    assert!(rt; g.find_edge(a, a).is_some());
+    assert!(rt; g.find_edge(a, b).is_some());
+    assert_eq!(rt; g.remove_node(c), None);
+    g.clear_edges();
+    assert_eq!(rt; g.edge_count(), 0);
+    assert_eq!(rt; g.node_count(), 2);
+    g.clear();
+    assert_eq!(rt; g.node_count(), 0);
+}
+
+#[test]
+fn weights_are_written(rt: HostRuntime) {
+    let mut g = DiGraph::new(rt.alloc());
+    let a = node(&rt, &mut g, 10);
+    let b = node(&rt, &mut g, 11);
+    let ab = edge(&rt, &mut g, a, b, 100);
+    if let Some(w) = g.node_weight_mut(b) {
+        *w = 12;
+    }
+    if let Some(w) = g.edge_weight_mut(ab) {
+        *w = 101;
+    }
+    assert_eq!(rt; g.node_weight(b).copied(), Some(12));
+    assert_eq!(rt; g.edge_weight(ab).copied(), Some(101));
+    assert!(rt; g.contains_node(a));
+    g[a] = 7;
+    assert!(rt; g.contains_edge(ab));
+    g[ab] = 8;
+    assert_eq!(rt; g.node_weight(a).copied(), Some(7));
+    assert_eq!(rt; g.edge_weight(ab).copied(), Some(8));
+    assert_eq!(rt; g.raw_nodes().len(), 2);
+    assert_eq!(rt; g.raw_edges().len(), 1);
+    assert_eq!(rt; EdgeSource::node_bound(&g), 2);
+}
