@@ -23,7 +23,11 @@ fn assert_fan(rt: &impl Abort, dag: &Dag<usize, usize>, nodes: usize, edges: usi
 }
 
 // Adds a node, a second time if the first is refused, and says whether it was.
-fn add_node_again(rt: &impl Abort, dag: &mut Dag<usize, usize>, edges: usize) -> Result<bool, Fail> {
+fn add_node_again(
+    rt: &impl Abort,
+    dag: &mut Dag<usize, usize>,
+    edges: usize,
+) -> Result<bool, Fail> {
     let weight = dag.node_count();
     assert!(rt; dag.can_add_node());
     match dag.add_node(weight) {
@@ -43,7 +47,11 @@ fn add_node_again(rt: &impl Abort, dag: &mut Dag<usize, usize>, edges: usize) ->
 }
 
 // Adds an edge from the root to a node, likewise.
-fn add_edge_again(rt: &impl Abort, dag: &mut Dag<usize, usize>, child: NodeIndex) -> Result<bool, Fail> {
+fn add_edge_again(
+    rt: &impl Abort,
+    dag: &mut Dag<usize, usize>,
+    child: NodeIndex,
+) -> Result<bool, Fail> {
     let edges = dag.edge_count();
     let nodes = dag.node_count();
     let root = NodeIndex::new(0);

@@ -1,8 +1,7 @@
 -- Small graphs whose parts are known by hand. Weights are numbers.
-use Rattle.std.specs.Prelude.{ℕ, Option, Some, List, [], ◌∷◌}
+use Rattle.std.specs.Prelude.{ℕ, List, [], ◌∷◌}
 use Rattle.daggy_base.specs.Graph.{Graph, Edge, empty}
 use Rattle.daggy_base.specs.Adding.{with_node, with_edge}
-use Rattle.daggy_base.specs.Removal.{Compact, Stable, without_edge, without_node}
 
 abbrev pub line : (u v weight : ℕ) → Edge ℕ
 line u v weight = record { parent = u; child = v; weight = weight }
@@ -80,3 +79,7 @@ shortcuts =
 -- a shortcut beside two edges of one pair, which is no shortcut
 abbrev pub doubled_step : Graph ℕ ℕ
 doubled_step = with_lines (line 0 1 1 ∷ line 0 2 2 ∷ line 1 2 3 ∷ line 1 2 4 ∷ line 2 3 5 ∷ []) four_nodes
+
+-- two nodes, each with an edge to the other
+abbrev pub round : Graph ℕ ℕ
+round = with_lines (line 0 1 0 ∷ line 1 0 0 ∷ []) (with_nodes (0 ∷ 0 ∷ []) nothing)

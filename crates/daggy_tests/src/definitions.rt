@@ -4,5 +4,7 @@ pub mod adding;
 pub mod changing;
 pub mod finding;
 pub mod moving;
+pub mod paths;
+pub mod reducing;
 pub mod slots;
 pub mod walking;

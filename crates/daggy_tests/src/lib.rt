@@ -2,6 +2,6 @@
 #![tactic(auto)]
 
 pub mod definitions;
-
+pub mod round;
 #[cfg(test)]
 mod tests;

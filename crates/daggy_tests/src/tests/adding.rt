@@ -1,7 +1,6 @@
+use super::support::{add_child, add_edge, add_node, children_of, closes_cycle};
 use daggy::{Dag, EdgeIndex, NodeIndex, Walker};
 use std::test::Fail;
-
-use super::support::{add_child, add_edge, add_node, children_of, closes_cycle};
 
 #[test]
 fn a_new_dag_is_empty(rt: HostRuntime) -> Result<(), Fail> {
@@ -78,8 +77,32 @@ fn the_newest_of_parallel_edges_is_found(rt: HostRuntime) -> Result<(), Fail> {
 #[test]
 fn many_edges_of_ten_nodes_are_accepted(rt: HostRuntime) -> Result<(), Fail> {
     let ends: [(usize, usize); 26] = [
-        (1, 4), (3, 4), (2, 5), (3, 5), (2, 8), (1, 9), (1, 8), (1, 3), (2, 7), (1, 7), (0, 6), (1, 2), (0, 7),
-        (1, 6), (2, 4), (0, 1), (0, 9), (2, 9), (2, 6), (0, 4), (2, 3), (0, 2), (0, 3), (0, 5), (0, 8), (1, 5),
+        (1, 4),
+        (3, 4),
+        (2, 5),
+        (3, 5),
+        (2, 8),
+        (1, 9),
+        (1, 8),
+        (1, 3),
+        (2, 7),
+        (1, 7),
+        (0, 6),
+        (1, 2),
+        (0, 7),
+        (1, 6),
+        (2, 4),
+        (0, 1),
+        (0, 9),
+        (2, 9),
+        (2, 6),
+        (0, 4),
+        (2, 3),
+        (0, 2),
+        (0, 3),
+        (0, 5),
+        (0, 8),
+        (1, 5),
     ];
     let mut dag: Dag<(), ()> = Dag::new(rt.alloc());
     for _ in 0..10 {

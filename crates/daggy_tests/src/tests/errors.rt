@@ -27,10 +27,16 @@ fn errors_say_what_went_wrong(rt: HostRuntime) -> Result<(), Fail> {
     let alloc = rt.alloc();
     let node_memory: NodeError<u8> = NodeError::Memory(1);
     let node_full: NodeError<u8> = NodeError::Full(1);
-    assert_eq!(rt; format!(in alloc; "{node_memory}")?.as_str(), "out of memory");
+    assert_eq!(rt;
+        format!(in alloc; "{node_memory}")?.as_str(),
+        "out of memory"
+    );
     assert_eq!(rt; format!(in alloc; "{node_full}")?.as_str(), "no index left");
     let texts = [
-        (EdgeError::WouldCycle(WouldCycle(1u8)), "would close a cycle"),
+        (
+            EdgeError::WouldCycle(WouldCycle(1u8)),
+            "would close a cycle",
+        ),
         (EdgeError::Memory(1), "out of memory"),
         (EdgeError::BadEndpoint(1), "no such endpoint"),
         (EdgeError::Full(1), "no index left"),

@@ -1,11 +1,10 @@
+use super::support::connect;
 use daggy::graph::DiGraph;
 use daggy::index::Direction;
 use daggy::{EdgeIndex, NodeIndex};
 use std::alloc::Global;
 use std::process::Abort;
 use std::test::Fail;
-
-use super::support::connect;
 
 fn three_nodes(rt: &impl Abort, alloc: Global) -> Result<DiGraph<u8, u8>, Fail> {
     let mut graph: DiGraph<u8, u8> = DiGraph::new(alloc);
@@ -16,9 +15,19 @@ fn three_nodes(rt: &impl Abort, alloc: Global) -> Result<DiGraph<u8, u8>, Fail> 
     Ok(graph)
 }
 
-fn connect_all(rt: &impl Abort, graph: &mut DiGraph<u8, u8>, ends: &[(u32, u32)]) -> Result<(), Fail> {
+fn connect_all(
+    rt: &impl Abort,
+    graph: &mut DiGraph<u8, u8>,
+    ends: &[(u32, u32)],
+) -> Result<(), Fail> {
     for (a, b) in ends {
-        connect(rt, graph, NodeIndex::new(*a as usize), NodeIndex::new(*b as usize), 7)?;
+        connect(
+            rt,
+            graph,
+            NodeIndex::new(*a as usize),
+            NodeIndex::new(*b as usize),
+            7,
+        )?;
     }
     Ok(())
 }
@@ -41,8 +50,14 @@ fn stored_slices_name_the_next_edges(rt: HostRuntime) -> Result<(), Fail> {
     assert_eq!(rt; edges[1].source(), NodeIndex::new(0));
     assert_eq!(rt; edges[1].target(), NodeIndex::new(2));
     assert_eq!(rt; graph.remove_edge(EdgeIndex::new(0)), Some(7));
-    assert_eq!(rt; graph.edge_endpoints(EdgeIndex::new(0)), Some((NodeIndex::new(1), NodeIndex::new(2))));
-    assert_eq!(rt; graph.first_edge(NodeIndex::new(1), Direction::Incoming), EdgeIndex::end());
+    assert_eq!(rt;
+        graph.edge_endpoints(EdgeIndex::new(0)),
+        Some((NodeIndex::new(1), NodeIndex::new(2)))
+    );
+    assert_eq!(rt;
+        graph.first_edge(NodeIndex::new(1), Direction::Incoming),
+        EdgeIndex::end()
+    );
     Ok(())
 }
 
@@ -55,7 +70,10 @@ fn removing_a_node_gives_its_weight(rt: HostRuntime) -> Result<(), Fail> {
     assert_eq!(rt; graph.node_weight(NodeIndex::new(1)).copied(), Some(20));
     assert_eq!(rt; graph.node_count(), 2);
     assert_eq!(rt; graph.edge_count(), 1);
-    assert_eq!(rt; graph.edge_endpoints(EdgeIndex::new(0)), Some((NodeIndex::new(1), NodeIndex::new(0))));
+    assert_eq!(rt;
+        graph.edge_endpoints(EdgeIndex::new(0)),
+        Some((NodeIndex::new(1), NodeIndex::new(0)))
+    );
     assert_eq!(rt; graph.remove_node(NodeIndex::new(2)), None);
     assert_eq!(rt; graph.remove_edge(EdgeIndex::new(1)), None);
     Ok(())
@@ -77,7 +95,10 @@ fn weights_are_written_and_all_is_cleared(rt: HostRuntime) -> Result<(), Fail> {
     graph.clear_edges();
     assert_eq!(rt; graph.node_count(), 3);
     assert_eq!(rt; graph.edge_count(), 0);
-    assert_eq!(rt; graph.first_edge(NodeIndex::new(0), Direction::Outgoing), EdgeIndex::end());
+    assert_eq!(rt;
+        graph.first_edge(NodeIndex::new(0), Direction::Outgoing),
+        EdgeIndex::end()
+    );
     graph.clear();
     assert_eq!(rt; graph.node_count(), 0);
     Ok(())

@@ -1,11 +1,10 @@
+use super::support::{add_edge, add_node, children_of, closes_cycle};
 use daggy::index::{DefaultIx, Direction, IndexType};
 use daggy::{Dag, EdgeIndex, NodeIndex};
 use std::alloc::Global;
 use std::collections::HashSet;
 use std::process::Abort;
 use std::test::Fail;
-
-use super::support::{add_edge, add_node, children_of, closes_cycle};
 
 #[test]
 fn indices_are_ordered_and_hashed_as_their_numbers(rt: HostRuntime) -> Result<(), Fail> {
@@ -46,7 +45,10 @@ fn joins_two_nodes<Ix: IndexType, R: Abort>(rt: &R, alloc: Global) -> Result<(),
     let e = add_edge(rt, &mut dag, a, b, 7)?;
     assert_eq!(rt; e.index(), 0);
     assert!(rt; closes_cycle(add_edge(rt, &mut dag, b, a, 5), 5));
-    assert_eq!(rt; children_of(alloc, &dag, a)?.as_slice(), [(0, 1)].as_slice());
+    assert_eq!(rt;
+        children_of(alloc, &dag, a)?.as_slice(),
+        [(0, 1)].as_slice()
+    );
     assert_eq!(rt; dag.find_edge(a, b), Some(e));
     Ok(())
 }
@@ -76,6 +78,9 @@ fn bytes_number_255_nodes_and_edges(rt: HostRuntime) -> Result<(), Fail> {
     }
     assert!(rt; !dag.can_add_edge());
     assert_eq!(rt; dag.edge_count(), 255);
-    assert_eq!(rt; dag.find_edge(NodeIndex::new(0), NodeIndex::new(254)), Some(EdgeIndex::new(254)));
+    assert_eq!(rt;
+        dag.find_edge(NodeIndex::new(0), NodeIndex::new(254)),
+        Some(EdgeIndex::new(254))
+    );
     Ok(())
 }

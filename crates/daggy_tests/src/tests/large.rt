@@ -1,7 +1,6 @@
+use super::support::{add_edge, add_node, closes_cycle};
 use daggy::{Dag, NodeIndex};
 use std::test::Fail;
-
-use super::support::{add_edge, add_node, closes_cycle};
 
 #[test]
 fn a_long_chain_is_searched(rt: HostRuntime) -> Result<(), Fail> {
@@ -13,7 +12,18 @@ fn a_long_chain_is_searched(rt: HostRuntime) -> Result<(), Fail> {
         }
     }
     for weight in 0..100 {
-        assert!(rt; closes_cycle(add_edge(&rt, &mut dag, NodeIndex::new(9_999), NodeIndex::new(0), weight), weight));
+        assert!(rt;
+            closes_cycle(
+                add_edge(
+                    &rt,
+                    &mut dag,
+                    NodeIndex::new(9_999),
+                    NodeIndex::new(0),
+                    weight
+                ),
+                weight
+            )
+        );
     }
     assert_eq!(rt; dag.edge_count(), 9_999);
     Ok(())
@@ -31,7 +41,18 @@ fn a_dense_graph_is_searched(rt: HostRuntime) -> Result<(), Fail> {
         }
     }
     for weight in 0..100 {
-        assert!(rt; closes_cycle(add_edge(&rt, &mut dag, NodeIndex::new(299), NodeIndex::new(0), weight), weight));
+        assert!(rt;
+            closes_cycle(
+                add_edge(
+                    &rt,
+                    &mut dag,
+                    NodeIndex::new(299),
+                    NodeIndex::new(0),
+                    weight
+                ),
+                weight
+            )
+        );
     }
     Ok(())
 }

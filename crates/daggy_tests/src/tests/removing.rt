@@ -1,13 +1,16 @@
+use super::support::{add_edge, add_node, children_of, parents_of};
 use daggy::index::Direction;
 use daggy::{Dag, EdgeIndex, NodeIndex, Walker};
 use std::alloc::Global;
 use std::process::Abort;
 use std::test::Fail;
 
-use super::support::{add_edge, add_node, children_of, parents_of};
-
 // Three nodes of weights 10, 20 and 30, and edges with these ends whose weights count from 0.
-fn three_nodes(rt: &impl Abort, alloc: Global, ends: &[(NodeIndex, NodeIndex)]) -> Result<Dag<u8, u8>, Fail> {
+fn three_nodes(
+    rt: &impl Abort,
+    alloc: Global,
+    ends: &[(NodeIndex, NodeIndex)],
+) -> Result<Dag<u8, u8>, Fail> {
     let mut dag: Dag<u8, u8> = Dag::new(alloc);
     for weight in [10, 20, 30] {
         add_node(rt, &mut dag, weight)?;
@@ -51,7 +54,10 @@ fn removing_an_edge_keeps_the_order_of_lists(rt: HostRuntime) -> Result<(), Fail
     let [a, b, c] = [node(&rt, 0), node(&rt, 1), node(&rt, 2)];
     let mut dag = three_nodes(&rt, rt.alloc(), &[(a, b), (a, c), (a, b)])?;
     assert_eq!(rt; dag.remove_edge(EdgeIndex::new(0)), Some(0));
-    assert_eq!(rt; children_of(rt.alloc(), &dag, a)?.as_slice(), [(0, 1), (1, 2)].as_slice());
+    assert_eq!(rt;
+        children_of(rt.alloc(), &dag, a)?.as_slice(),
+        [(0, 1), (1, 2)].as_slice()
+    );
     assert_eq!(rt; dag.find_edge(a, b), Some(EdgeIndex::new(0)));
     assert_eq!(rt; dag.edge_weight(EdgeIndex::new(0)).copied(), Some(2));
     Ok(())
@@ -61,11 +67,17 @@ fn removing_an_edge_keeps_the_order_of_lists(rt: HostRuntime) -> Result<(), Fail
 fn stored_slices_and_parents_follow_a_removal(rt: HostRuntime) -> Result<(), Fail> {
     let [a, b, c] = [node(&rt, 0), node(&rt, 1), node(&rt, 2)];
     let mut dag = three_nodes(&rt, rt.alloc(), &[(a, b), (a, c), (b, c)])?;
-    assert_eq!(rt; parents_of(rt.alloc(), &dag, c)?.as_slice(), [(2, 1), (1, 0)].as_slice());
+    assert_eq!(rt;
+        parents_of(rt.alloc(), &dag, c)?.as_slice(),
+        [(2, 1), (1, 0)].as_slice()
+    );
     assert_eq!(rt; dag.remove_edge(EdgeIndex::new(0)), Some(0));
     assert_eq!(rt; dag.edge_endpoints(EdgeIndex::new(0)), Some((b, c)));
     assert_eq!(rt; dag.edge_endpoints(EdgeIndex::new(1)), Some((a, c)));
-    assert_eq!(rt; parents_of(rt.alloc(), &dag, c)?.as_slice(), [(0, 1), (1, 0)].as_slice());
+    assert_eq!(rt;
+        parents_of(rt.alloc(), &dag, c)?.as_slice(),
+        [(0, 1), (1, 0)].as_slice()
+    );
     let nodes = dag.raw_nodes();
     let edges = dag.raw_edges();
     assert_eq!(rt; nodes.len(), 3);

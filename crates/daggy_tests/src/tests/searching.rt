@@ -1,10 +1,10 @@
+use super::support::connect;
+use crate::round::Round;
+use daggy::NodeIndex;
 use daggy::graph::DiGraph;
 use daggy::search::{EdgeSource, Scratch, reaches};
-use daggy::NodeIndex;
 use std::process::Abort;
 use std::test::Fail;
-
-use super::support::connect;
 
 fn leads(
     rt: &impl Abort,
@@ -60,7 +60,38 @@ fn searches_end_in_graphs_with_cycles(rt: HostRuntime) -> Result<(), Fail> {
         (0, 9, false),
         (9, 0, false),
     ] {
-        assert_eq!(rt; leads(&rt, &mut graph, &mut scratch, from, to), expected, "from {from} to {to}");
+        assert_eq!(rt;
+            leads(&rt, &mut graph, &mut scratch, from, to),
+            expected,
+            "from {from} to {to}"
+        );
+    }
+    Ok(())
+}
+
+#[test]
+fn searches_read_any_source(rt: HostRuntime) -> Result<(), Fail> {
+    let mut scratch: Scratch<u8> = Scratch::new(rt.alloc());
+    scratch.reserve(2, 0)?;
+    for (from, to, expected) in [
+        (0, 1, true),
+        (1, 0, true),
+        (0, 0, true),
+        (0, 2, false),
+        (2, 2, false),
+    ] {
+        let mut round = Round::new();
+        assert_eq!(rt; round.edge_bound(), 2);
+        let bound = round.node_bound();
+        let fits = scratch.fits(bound, 0);
+        assert!(rt; fits);
+        let reached = reaches(
+            &mut round,
+            NodeIndex::new(from),
+            NodeIndex::new(to),
+            &mut scratch,
+        );
+        assert_eq!(rt; reached, expected, "from {from} to {to}");
     }
     Ok(())
 }

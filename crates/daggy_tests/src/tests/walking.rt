@@ -1,7 +1,6 @@
+use super::support::{add_child, add_edge, add_node};
 use daggy::{Dag, Walker};
 use std::test::Fail;
-
-use super::support::{add_edge, add_node};
 
 #[test]
 fn a_walker_sees_what_was_added_since_it_was_made(rt: HostRuntime) -> Result<(), Fail> {
@@ -24,15 +23,20 @@ fn a_walker_sees_what_was_added_since_it_was_made(rt: HostRuntime) -> Result<(),
 #[test]
 fn a_walker_names_weights(rt: HostRuntime) -> Result<(), Fail> {
     let mut dag: Dag<&'static str, i32> = Dag::new(rt.alloc());
-    let root = add_node(&rt, &mut dag, "root")?;
-    let left = add_node(&rt, &mut dag, "left")?;
-    add_edge(&rt, &mut dag, root, left, -1)?;
-    match dag.children(root).walk_next(&dag) {
-        Some(item) => {
-            assert_eq!(rt; dag.edge_weight(item.0).copied(), Some(-1));
-            assert_eq!(rt; dag.node_weight(item.1).copied(), Some("left"));
+    let root = add_node(&rt, &mut dag, "0")?;
+    add_child(&rt, &mut dag, root, 1, "1")?;
+    add_child(&rt, &mut dag, root, 2, "2")?;
+    add_child(&rt, &mut dag, root, 3, "3")?;
+    let mut walker = dag.children(root);
+    for (weight, name) in [(3, "3"), (2, "2"), (1, "1")] {
+        match walker.walk_next(&dag) {
+            Some(item) => {
+                assert_eq!(rt; dag.edge_weight(item.0).copied(), Some(weight));
+                assert_eq!(rt; dag.node_weight(item.1).copied(), Some(name));
+            }
+            None => panic!(rt; "a child is missing"),
         }
-        None => panic!(rt; "the root has a child"),
     }
+    assert!(rt; walker.walk_next(&dag).is_none());
     Ok(())
 }

@@ -1,0 +1,4 @@
+pub mod Checks
+pub mod Paths
+pub mod Reductions
+pub mod Rounds
