@@ -70,6 +70,29 @@ fn refusals_are_told(rt: HostRuntime) -> Result<(), Fail> {
 }
 
 #[test]
+fn a_compact_dag_is_built_and_taken_apart(rt: HostRuntime) -> Result<(), Fail> {
+    let input =
+        b"node 1\nnode 2\nedge 0 1 7\nedge 1 0 5\nedge 1 1 4\nedge 0 9 1\nchildren 0\nparents 0\nfind 1 0\nrmedge 0\nfrob\n";
+    let (outcome, taken) = served(rt.alloc(), input.as_slice(), None, None)?;
+    assert_eq!(rt; outcome, Ok(()));
+    let expected = b"n0\nn1\ne0\ncycle 5\ncycle 4\nmissing\ne0:1\n-\nnone\nweight 7\nbad line\n";
+    assert_eq!(rt; taken.as_slice(), expected.as_slice());
+    Ok(())
+}
+
+#[test]
+fn updates_neighbors_and_removals_are_answered(rt: HostRuntime) -> Result<(), Fail> {
+    let input =
+        b"node 1\nchild 0 7 2\nparent 0 8 3\nupdate 0 1 9\nupdate 1 0 5\nupdate 0 9 5\nfind 0 1\nends 1\nends 2\nparents 0\nrmedge 5\nrmnode 0\nparents 0\nends 0\nrmnode 9\nclearedges\nclear\nnode 6\n";
+    let (outcome, taken) = served(rt.alloc(), input.as_slice(), None, None)?;
+    assert_eq!(rt; outcome, Ok(()));
+    let expected =
+        b"n0\ne0 n1\ne1 n2\ne0\ncycle 5\nmissing\ne0\nn2 n0\nnone\ne1:2\nnone\nweight 1\n-\nnone\nnone\nok\nok\nn0\n";
+    assert_eq!(rt; taken.as_slice(), expected.as_slice());
+    Ok(())
+}
+
+#[test]
 fn an_empty_rest_is_no_line(rt: HostRuntime) -> Result<(), Fail> {
     let (outcome, taken) = served(rt.alloc(), b"".as_slice(), None, None)?;
     assert_eq!(rt; outcome, Ok(()));

@@ -2,10 +2,13 @@
 //! check value on standard error.
 #![tactic(auto)]
 
+mod commands;
 mod random;
 mod workload;
 
+use crate::commands::write_commands;
 use crate::workload::{Sizes, Workload};
+use std::io::{BufWriter, Write};
 use std::process::ExitCode;
 use std::time::Instant;
 use std::{env, io};
@@ -36,10 +39,28 @@ fn time(
     println!(rt; "compact.{name} {nodes} {seconds:.6}")
 }
 
+// How many command lines are asked for.
+fn commands_asked(words: &[String]) -> Option<u32> {
+    let [name, count] = words else {
+        return None;
+    };
+    if name.as_str() == "commands" {
+        count.as_str().parse::<u32>().ok()
+    } else {
+        None
+    }
+}
+
 fn main(rt: HostRuntime) -> io::Result<ExitCode> {
     let mut words = Vec::new(rt.alloc());
     for word in env::args(&rt)?.skip(1) {
         words.push(word)?;
+    }
+    if let Some(count) = commands_asked(words.as_slice()) {
+        let mut out = BufWriter::new(rt.alloc(), io::writer(&rt))?;
+        write_commands(&mut out, count)?;
+        out.flush()?;
+        return Ok(ExitCode::SUCCESS);
     }
     let Some((workload, sizes)) = chosen(words.as_slice()) else {
         eprintln!(rt; "usage: daggy_bench NAME NODES EDGES")?;
