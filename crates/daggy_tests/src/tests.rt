@@ -10,3 +10,4 @@ mod searching;
 mod support;
 mod updating;
 mod walking;
+mod writing;
