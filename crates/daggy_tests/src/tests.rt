@@ -2,6 +2,7 @@
 
 mod adding;
 mod errors;
+mod example;
 mod graphs;
 mod indices;
 mod large;
