@@ -7,8 +7,6 @@ ghost use Rattle.dagbench.specs.Arguments.{mode_by_words};
 pub enum Mode {
     /// Removals move the last index to the gap.
     Compact,
-    /// Removals keep all other indices.
-    Stable,
 }
 
 /// The kind that the arguments behind the program's name ask for, None for wrong ones.

@@ -17,7 +17,7 @@ const BLOCK: usize = 0x1_0000;
 /// Reads lines until the end of the source, and writes the answer to each. What was answered is handed to the sink
 /// before more is read.
 ///
-/// Both kinds of graph answer these commands alike, since none of them removes anything.
+/// The mode says which kind of graph is served. There is one kind so far.
 pub fn serve<S: Source, K: Sink>(
     alloc: Global,
     mode: Mode,

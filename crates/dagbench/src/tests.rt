@@ -330,7 +330,7 @@ fn readers_and_writers_are_devices(rt: HostRuntime) -> Result<(), Fail> {
     assert_eq!(rt;
         serve(
             rt.alloc(),
-            Mode::Stable,
+            Mode::Compact,
             &mut source,
             &mut Device::new(Broken)
         ),
@@ -340,7 +340,7 @@ fn readers_and_writers_are_devices(rt: HostRuntime) -> Result<(), Fail> {
     assert_eq!(rt;
         serve(
             rt.alloc(),
-            Mode::Stable,
+            Mode::Compact,
             &mut source,
             &mut Device::new(Broken)
         ),
