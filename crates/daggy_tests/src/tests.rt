@@ -5,6 +5,7 @@ mod errors;
 mod graphs;
 mod indices;
 mod large;
+mod pairs;
 mod removing;
 mod searching;
 mod support;
