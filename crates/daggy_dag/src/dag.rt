@@ -24,6 +24,7 @@ use daggy_graph::graph::{DiGraph, Edge, Node};
 use std::alloc::Global;
 use std::marker::{Model, PhantomData};
 
+mod pairs;
 mod walkers;
 mod weights;
 

@@ -9,3 +9,5 @@ pub mod Dropping
 pub mod Isolation
 pub mod Clearing
 pub mod RawLemmas
+pub mod CellLemmas
+pub mod PairLemmas

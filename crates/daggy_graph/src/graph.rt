@@ -11,6 +11,7 @@ ghost use Rattle.daggy_base.specs.declared.error.EdgeError.TheVariants.{Memory a
 
 mod count;
 mod links;
+mod pairs;
 mod raw;
 mod removal;
 mod source;

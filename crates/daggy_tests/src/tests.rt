@@ -6,6 +6,7 @@ mod example;
 mod graphs;
 mod indices;
 mod large;
+mod pairs;
 mod removing;
 mod searching;
 mod support;

@@ -1,0 +1,24 @@
+use Rattle.daggy_base.specs.Weights.{with_edge_weight}
+use Rattle.daggy_graph.specs.Stored.{plain, stored_graph}
+use Rattle.daggy_graph.proofs.StoredLemmas.{stored_is, Stores-itself, slot_within}
+use Rattle.daggy_graph.proofs.States.{state_changed}
+use Rattle.daggy_graph.proofs.PairLemmas.{edges_updated, edge_shown, called_at}
+use Rattle.daggy_graph.proofs.graph.DiGraph.update_two_edges.Goals as goal
+
+pub invariant_of-self : goal.invariant_of-self
+invariant_of-self g c =
+    let r = c.at_edges.ensures in
+    Stores-itself _ _ _ _ (edges_updated _ _ _ _ c.self.invariant _ _ _ _ _ c.index.ensures.value c.index-2.ensures.value _ _ r.first_left.now r.second_left.now (slot_within plain c.self.inside.edges.items _ (rw (← c.self.view_is) at c.requires.first)) (slot_within plain c.self.inside.edges.items _ (rw (← c.self.view_is) at c.requires.second)) c.self.inside.edges.ok.0 c.as_mut_slice.ensures.value r.leaves)
+
+pub returns : goal.returns
+returns g c =
+    let r = c.at_edges.ensures in
+    let a = g.Ix.IndexType.number c.args.a in
+    let b = g.Ix.IndexType.number c.args.b in
+    let nodes = c.self.inside.nodes.items in
+    let edges = c.self.inside.edges.items in
+    called_at g.F.FnOnce c.args.f _ _ _ _ _ r.first r.second r.first_left r.second_left
+    (edge_shown nodes edges _ c.args.self.now c.self.view_is a c.index.result c.index.ensures.value _ _ c.as_mut_slice.ensures.value r.shows.0)
+    (edge_shown nodes edges _ c.args.self.now c.self.view_is b c.index-2.result c.index-2.ensures.value _ _ c.as_mut_slice.ensures.value r.shows.1)
+    r.called
+    (state_changed _ (stored_graph nodes edges) _ _ (λ h. with_edge_weight (with_edge_weight h a r.first_left.now) b r.second_left.now) c.self.view_is (stored_is _ _ _ _ (edges_updated _ _ _ _ c.self.invariant _ _ _ _ _ c.index.ensures.value c.index-2.ensures.value _ _ r.first_left.now r.second_left.now (slot_within plain c.self.inside.edges.items _ (rw (← c.self.view_is) at c.requires.first)) (slot_within plain c.self.inside.edges.items _ (rw (← c.self.view_is) at c.requires.second)) c.self.inside.edges.ok.0 c.as_mut_slice.ensures.value r.leaves)))
