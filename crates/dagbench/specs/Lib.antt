@@ -11,3 +11,4 @@ pub mod Serving
 pub mod Progress
 pub mod Ends
 pub mod Failing
+pub mod Devices

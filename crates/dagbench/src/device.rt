@@ -1,10 +1,12 @@
 //! Readers and writers of std as sources and sinks.
-ghost use Rattle.std.specs.Prelude.{◌≡◌, ◌+◌, ◌<◌, ◌^◌, [], false, length, OnErr};
+ghost use Rattle.std.specs.Prelude.{◌≡◌, OnErr};
+ghost use Rattle.dagbench.specs.Devices.{nothing_passed};
 ghost use Rattle.dagbench.specs.Streams.{CountsFaults, Appends};
 
 use crate::history::History;
 use crate::stream::{Fault, Sink, Source};
 use std::io::{Read, Write};
+use std::marker::Model;
 
 /// A reader or a writer. Each of its errors is a failure, and so is the byte behind the first 2^64 - 1 that are read.
 #[derive(Drop)]
@@ -13,15 +15,30 @@ pub struct Device<D> {
     left: u64,
     given: History,
     taken: History,
-    ghost few: { length given.bytes + left < 2 ^ 64 },
+}
+
+impl<D> Model for Device<D> {
+    ghost use Rattle.std.specs.Prelude.{◌+◌, ◌<◌, ◌^◌, length};
+    ghost use Rattle.dagbench.specs.Devices.{DeviceState};
+
+    ghost Value = { DeviceState D };
+
+    ghost view = { λ s. record {
+      device = s.device;
+      left = s.left;
+      given = record { bytes = s.given.bytes; is_ended = s.given.is_ended; failures = s.given.failures };
+      taken = record { bytes = s.taken.bytes; is_ended = s.taken.is_ended; failures = s.taken.failures };
+    } };
+
+    ghost invariant = { λ s. length s.given.bytes + s.left < 2 ^ 64 };
 }
 
 impl<D> Device<D> {
     /// Nothing was read or written yet.
     pub fn new(device: D) -> Device<D>
         ensures device { result.device ≡ device }
-        ensures given { result.given ≡ record { bytes = []; is_ended = false; failures = 0 } }
-        ensures taken { result.taken ≡ record { bytes = []; is_ended = false; failures = 0 } }
+        ensures given { result.given ≡ nothing_passed }
+        ensures taken { result.taken ≡ nothing_passed }
     {
         Device {
             device,

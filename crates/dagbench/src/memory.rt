@@ -1,11 +1,12 @@
 //! A source and a sink that hold their bytes, and fail where they are told to.
-ghost use Rattle.std.specs.Prelude.{◌≡◌, ◌≢◌, ◌↔◌, ℕ, ◌≤◌, ◌<◌, ◌^◌, ◌++◌, ◌-◌, min, List, [], None, Some, false, take, length, vec_len, IsOk, IfOk, OnOk};
-ghost use Rattle.dagbench.specs.Streams.{CountsFaults, Gives, MeetsEnd};
+ghost use Rattle.std.specs.Prelude.{◌≡◌, ◌≢◌, ◌↔◌, ℕ, ◌≤◌, ◌<◌, ◌^◌, ◌++◌, ◌-◌, min, List, [], None, Some, false, take, length, IsOk, IsErr, IfOk, OnOk};
+ghost use Rattle.dagbench.specs.Streams.{CountsFaults, Appends, Gives, MeetsEnd};
 ghost use Rattle.dagbench.specs.Failing.{passes_after};
 
 use crate::history::History;
 use crate::stream::{Fault, Sink, Source};
 use std::alloc::Global;
+use std::marker::Model;
 
 /// Counts a call. After `passes` ones one call is to fail.
 fn pass(passes: &mut Option<usize>) -> Result<(), Fault>
@@ -42,15 +43,23 @@ pub struct MemorySource {
     at: usize,
     passes: Option<usize>,
     history: History,
-    ghost within: { at ≤ vec_len bytes },
+}
+
+impl Model for MemorySource {
+    ghost use Rattle.std.specs.Prelude.{◌≤◌, vec_len};
+    ghost use Rattle.dagbench.specs.Devices.{SourceState};
+
+    ghost Value = { SourceState };
+
+    ghost view = { λ s. record { bytes = s.bytes.items; at = s.at; passes = s.passes; is_ended = s.history.is_ended; failures = s.history.failures } };
+
+    ghost invariant = { λ s. s.at ≤ vec_len s.bytes };
 }
 
 impl MemorySource {
     /// Gives these bytes, and then the end. If `passes` is some number, the call behind so many ones fails.
     pub fn new(bytes: Vec<u8>, passes: Option<usize>) -> MemorySource
-        ensures bytes { (result.bytes ≡ bytes) × (result.passes ≡ passes) }
-        ensures given { ⟦<MemorySource as Source>⟧.given result ≡ [] }
-        ensures start { (⟦<MemorySource as Source>⟧.is_ended result ≡ false) × (⟦<MemorySource as Source>⟧.failures result ≡ 0) }
+        ensures { result ≡ record { bytes = bytes.items; at = 0; passes = passes; is_ended = false; failures = 0 } }
     {
         MemorySource {
             bytes,
@@ -62,9 +71,9 @@ impl MemorySource {
 
     /// Gives the bytes that come next, as many as the buffer has room for, and their number.
     fn give(&mut self, buffer: &mut [u8]) -> usize
-        ensures count { result ≡ min (vec_len self.old.bytes - self.old.at) (length buffer.new) }
-        ensures bytes { take self.new.at self.new.bytes.items ≡ take self.old.at self.old.bytes.items ++ take result buffer.new }
-        ensures others { (self.new.history ≡ self.old.history) × (self.new.passes ≡ self.old.passes) }
+        ensures count { result ≡ min (length self.old.bytes - self.old.at) (length buffer.new) }
+        ensures bytes { take self.new.at self.new.bytes ≡ take self.old.at self.old.bytes ++ take result buffer.new }
+        ensures others { (self.new.is_ended ≡ self.old.is_ended) × (self.new.failures ≡ self.old.failures) × (self.new.passes ≡ self.old.passes) }
     {
         let count = copy_front(&self.bytes[self.at..], buffer);
         self.at += count;
@@ -73,20 +82,20 @@ impl MemorySource {
 }
 
 impl Source for MemorySource {
-    ghost given = { λ s. take s.at s.bytes.items };
+    ghost given = { λ s. take s.at s.bytes };
 
-    ghost is_ended = { λ s. s.history.is_ended };
+    ghost is_ended = { λ s. s.is_ended };
 
-    ghost failures = { λ s. s.history.failures };
+    ghost failures = { λ s. s.failures };
 
     fn read(&mut self, buffer: &mut [u8]) -> Result<usize, Fault>
-        ensures bytes { Gives result (take self.old.at self.old.bytes.items) (take self.new.at self.new.bytes.items) buffer.new }
-        ensures few { OnOk result (length (take self.new.at self.new.bytes.items) < 2 ^ 64) }
-        ensures end { MeetsEnd result self.old.history.is_ended self.new.history.is_ended buffer.new }
-        ensures counted { CountsFaults result self.old.history.failures self.new.history.failures }
+        ensures bytes { Gives result (take self.old.at self.old.bytes) (take self.new.at self.new.bytes) buffer.new }
+        ensures few { OnOk result (length (take self.new.at self.new.bytes) < 2 ^ 64) }
+        ensures end { MeetsEnd result self.old.is_ended self.new.is_ended buffer.new }
+        ensures counted { CountsFaults result self.old.failures self.new.failures }
 
         // It gives as much as there is and as there is room for.
-        ensures count { IfOk result (λ n. n ≡ min (vec_len self.old.bytes - self.old.at) (length buffer.new)) }
+        ensures count { IfOk result (λ n. n ≡ min (length self.old.bytes - self.old.at) (length buffer.new)) }
 
         // It fails where it was told to, and nowhere else.
         ensures fault { IsOk result ↔ (self.old.passes ≢ Some 0) }
@@ -112,11 +121,18 @@ pub struct MemorySink {
     history: History,
 }
 
+impl Model for MemorySink {
+    ghost use Rattle.dagbench.specs.Devices.{SinkState};
+
+    ghost Value = { SinkState };
+
+    ghost view = { λ s. record { taken = s.taken.items; passes = s.passes; failures = s.history.failures } };
+}
+
 impl MemorySink {
     /// Has taken nothing. If `passes` is some number, the call behind so many ones fails.
     pub fn new(alloc: Global, passes: Option<usize>) -> MemorySink
-        ensures passes { result.passes ≡ passes }
-        ensures start { (⟦<MemorySink as Sink>⟧.taken result ≡ []) × (⟦<MemorySink as Sink>⟧.failures result ≡ 0) }
+        ensures { result ≡ record { taken = []; passes = passes; failures = 0 } }
     {
         MemorySink {
             taken: Vec::new(alloc),
@@ -127,18 +143,25 @@ impl MemorySink {
 
     /// What it took.
     pub fn bytes(&self) -> &[u8]
-        ensures { result.now ≡ ⟦<MemorySink as Sink>⟧.taken self.now }
+        ensures { result.now ≡ self.now.taken }
     {
         self.taken.as_slice()
     }
 }
 
 impl Sink for MemorySink {
-    ghost taken = { λ s. s.taken.items };
+    ghost taken = { λ s. s.taken };
 
-    ghost failures = { λ s. s.history.failures };
+    ghost failures = { λ s. s.failures };
 
-    fn put(&mut self, bytes: &[u8]) -> Result<(), Fault> {
+    fn put(&mut self, bytes: &[u8]) -> Result<(), Fault>
+        ensures bytes { Appends result self.old.taken self.new.taken bytes.now }
+        ensures counted { CountsFaults result self.old.failures self.new.failures }
+
+        // It fails where it was told to.
+        ensures fault { self.old.passes ≡ Some 0 → IsErr result }
+        ensures next { self.new.passes ≡ passes_after self.old.passes }
+    {
         if pass(&mut self.passes).is_err() || self.taken.extend_from_slice(bytes).is_err() {
             self.history = self.history.and_failure();
             return Err(Fault);

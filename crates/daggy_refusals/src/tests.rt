@@ -106,6 +106,67 @@ fn add_child_again(rt: &impl Abort, dag: &mut Dag<usize, usize>) -> Result<bool,
     }
 }
 
+// Adds a node above the last one, likewise.
+fn add_parent_again(rt: &impl Abort, dag: &mut Dag<usize, usize>) -> Result<bool, Fail> {
+    let edges = dag.edge_count();
+    let nodes = dag.node_count();
+    assert!(rt; 0 < nodes && nodes <= 100);
+    let child = NodeIndex::new(nodes - 1);
+    assert!(rt; dag.node_weight(child).is_some());
+    assert!(rt; dag.can_add_edge());
+    assert!(rt; dag.can_add_node());
+    match dag.add_parent(child, edges + 100, nodes) {
+        Ok(added) => {
+            assert_eq!(rt; added.0.index(), edges);
+            assert_eq!(rt; added.1.index(), nodes);
+            Ok(false)
+        }
+        Err(ChildError::Memory(edge, node)) => {
+            assert_eq!(rt; edge, edges + 100);
+            assert_eq!(rt; node, nodes);
+            assert_eq!(rt; dag.node_count(), nodes);
+            assert_eq!(rt; dag.edge_count(), edges);
+            assert!(rt; dag.node_weight(child).is_some());
+            assert!(rt; dag.can_add_edge());
+            assert!(rt; dag.can_add_node());
+            let added = dag.add_parent(child, edge, node)?;
+            assert_eq!(rt; added.1.index(), nodes);
+            Ok(true)
+        }
+    }
+}
+
+// Writes the weight of the edge from the root to a node, or adds that edge, likewise.
+fn update_edge_again(
+    rt: &impl Abort,
+    dag: &mut Dag<usize, usize>,
+    child: NodeIndex,
+) -> Result<bool, Fail> {
+    let edges = dag.edge_count();
+    let nodes = dag.node_count();
+    let root = NodeIndex::new(0);
+    assert!(rt; edges < 100);
+    assert!(rt; dag.node_weight(root).is_some());
+    assert!(rt; dag.node_weight(child).is_some());
+    assert!(rt; dag.can_add_edge());
+    match dag.update_edge(root, child, edges + 100) {
+        Ok(e) => {
+            assert_eq!(rt; e.index(), edges);
+            Ok(false)
+        }
+        Err(EdgeError::Memory(refused)) => {
+            assert_eq!(rt; refused, edges + 100);
+            assert_fan(rt, dag, nodes, edges);
+            assert!(rt; dag.node_weight(root).is_some());
+            assert!(rt; dag.node_weight(child).is_some());
+            assert!(rt; dag.can_add_edge());
+            assert_eq!(rt; dag.update_edge(root, child, refused)?.index(), edges);
+            Ok(true)
+        }
+        _ => panic!(rt; "no other refusal has a cause"),
+    }
+}
+
 #[test]
 fn a_refused_allocation_is_answered_and_nothing_else(rt: HostRuntime) -> Result<(), Fail> {
     let mut dag: Dag<usize, usize> = Dag::new(rt.alloc());
@@ -130,6 +191,39 @@ fn a_refused_child_comes_back_with_its_edge(rt: HostRuntime) -> Result<(), Fail>
     let mut refused = add_node_again(&rt, &mut dag, 0)?;
     for i in 0..20 {
         if add_child_again(&rt, &mut dag)? {
+            assert!(rt; !refused, "a second refusal");
+            refused = true;
+        }
+        assert_fan(&rt, &dag, i + 2, i + 1);
+    }
+    Ok(())
+}
+
+#[test]
+fn a_refused_parent_comes_back_with_its_edge(rt: HostRuntime) -> Result<(), Fail> {
+    let mut dag: Dag<usize, usize> = Dag::new(rt.alloc());
+    let mut refused = add_node_again(&rt, &mut dag, 0)?;
+    for i in 0..20 {
+        if add_parent_again(&rt, &mut dag)? {
+            assert!(rt; !refused, "a second refusal");
+            refused = true;
+        }
+        assert_eq!(rt; dag.node_count(), i + 2);
+        assert_eq!(rt; dag.edge_count(), i + 1);
+    }
+    Ok(())
+}
+
+#[test]
+fn a_refused_update_comes_back(rt: HostRuntime) -> Result<(), Fail> {
+    let mut dag: Dag<usize, usize> = Dag::new(rt.alloc());
+    let mut refused = add_node_again(&rt, &mut dag, 0)?;
+    for i in 0..20 {
+        if add_node_again(&rt, &mut dag, i)? {
+            assert!(rt; !refused, "a second refusal");
+            refused = true;
+        }
+        if update_edge_again(&rt, &mut dag, NodeIndex::new(i + 1))? {
             assert!(rt; !refused, "a second refusal");
             refused = true;
         }
