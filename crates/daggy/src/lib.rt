@@ -1,4 +1,18 @@
-//! Directed acyclic graphs.
+//! Directed acyclic graphs with weights at nodes and edges.
+//!
+//! A [`Dag`] stays acyclic: an edge is refused exactly if a path leads from its child to its parent, and its weight comes
+//! back in the error. [`NodeIndex`] and [`EdgeIndex`] name nodes and edges. A [`Walker`], such as [`Children`], goes along a
+//! node's edges and borrows the dag only while it takes a step.
+//!
+//! ```
+//! let mut dag: Dag<&'static str, u32> = Dag::new(rt.alloc());
+//! let sow = dag.add_node("sow")?;
+//! let (days, reap) = dag.add_child(sow, 90, "reap")?;
+//! assert!(rt; dag.add_edge(reap, sow, 5).is_err());
+//! assert!(rt; dag.children(sow).walk_next(&dag) == Some((days, reap)));
+//! ```
+//!
+//! [`graph`] is the store below, which may hold cycles, and [`search`] finds paths in any graph that can be looked at.
 #![tactic(auto)]
 
 pub use daggy_base::error::{ChildError, EdgeError, NodeError, WouldCycle};
