@@ -143,6 +143,7 @@ impl<N: Drop, E: Drop, Ix: IndexType> Dag<N, E, Ix> {
     /// Adds a node without edges, and gives its index.
     ///
     /// The refusal `Memory` says that there was no memory for the node, or for the searches that it takes part in.
+    #[inline]
     pub fn add_node(&mut self, weight: N) -> Result<NodeIndex<Ix>, NodeError<N>>
         requires { node_count_of self.old.graph < Ix.greatest }
         ensures added { IfOk result (λ n. (Ix.number n ≡ next_node self.old.graph)
@@ -159,6 +160,7 @@ impl<N: Drop, E: Drop, Ix: IndexType> Dag<N, E, Ix> {
     ///
     /// The refusal `WouldCycle` says that a path leads from `b` to `a`, so the edge would close a cycle. It is decided
     /// first, by a search from `b` that takes no memory. The refusal `Memory` says that there was no memory for the edge.
+    #[inline]
     pub fn add_edge(
         &mut self,
         a: NodeIndex<Ix>,
@@ -209,6 +211,7 @@ impl<N: Drop, E: Drop, Ix: IndexType> Dag<N, E, Ix> {
     /// Adds a node and an edge from `parent` to it, or neither. It gives both indices.
     ///
     /// It needs no search, so it costs less than adding the one and then the other. The refusal hands both weights back.
+    #[inline]
     pub fn add_child(
         &mut self,
         parent: NodeIndex<Ix>,
@@ -237,6 +240,7 @@ impl<N: Drop, E: Drop, Ix: IndexType> Dag<N, E, Ix> {
     /// Adds a node and an edge from it to `child`, or neither. It gives both indices.
     ///
     /// It needs no search, so it costs less than adding the one and then the other. The refusal hands both weights back.
+    #[inline]
     pub fn add_parent(
         &mut self,
         child: NodeIndex<Ix>,

@@ -16,6 +16,7 @@ use daggy_base::search::{Scratch, reaches};
 use daggy_base::store::Store;
 
 /// Adds a node, after the scratch fits a search of the graph with that node.
+#[inline]
 pub fn add_node<Ix: IndexType, S: Store<Ix>>(
     store: &mut S,
     scratch: &mut Scratch<Ix>,
@@ -42,6 +43,7 @@ pub fn add_node<Ix: IndexType, S: Store<Ix>>(
 }
 
 // Whether `from` reaches `to`. No search is needed where `to` has no parents, unless the two are one.
+#[inline]
 fn leads_to<Ix: IndexType, S: Store<Ix>>(
     store: &mut S,
     scratch: &mut Scratch<Ix>,
@@ -63,6 +65,7 @@ fn leads_to<Ix: IndexType, S: Store<Ix>>(
 }
 
 /// Adds an edge from `a` to `b`, unless a path leads from `b` to `a`.
+#[inline]
 pub fn add_edge<Ix: IndexType, S: Store<Ix>>(
     store: &mut S,
     scratch: &mut Scratch<Ix>,
@@ -127,6 +130,7 @@ pub fn update_edge<Ix: IndexType, S: Store<Ix>>(
 }
 
 // Adds an edge from `n` to `new`, or from `new` to `n`, where no path leads between them.
+#[inline]
 fn link<Ix: IndexType, S: Store<Ix>>(
     store: &mut S,
     dir: Direction,
@@ -154,6 +158,7 @@ fn link<Ix: IndexType, S: Store<Ix>>(
 }
 
 /// Adds a node, and an edge from `n` to it or from it to `n`, or neither.
+#[inline]
 pub fn add_neighbor<Ix: IndexType, S: Store<Ix>>(
     store: &mut S,
     scratch: &mut Scratch<Ix>,

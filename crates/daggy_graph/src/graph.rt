@@ -102,6 +102,7 @@ impl<N, E, Ix: IndexType> DiGraph<N, E, Ix> {
     ///
     /// The error says that memory for it was refused. It holds the weight, and the graph is as it was. The cost is
     /// constant, taken over many calls.
+    #[inline]
     pub fn add_node(&mut self, weight: N) -> Result<NodeIndex<Ix>, NodeError<N>>
         requires { node_count_of self.old.graph < Ix.greatest }
         ensures index { IfOk result (λ n. Ix.number n ≡ next_node self.old.graph) }
@@ -126,6 +127,7 @@ impl<N, E, Ix: IndexType> DiGraph<N, E, Ix> {
     ///
     /// The error says that memory for it was refused. It holds the weight, and the graph is as it was. The cost is
     /// constant, taken over many calls.
+    #[inline]
     pub fn add_edge(
         &mut self,
         a: NodeIndex<Ix>,

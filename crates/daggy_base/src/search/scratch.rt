@@ -41,6 +41,7 @@ impl<Ix: IndexType> Scratch<Ix> {
     }
 
     /// Whether graphs of these bounds can be searched.
+    #[inline]
     pub fn fits(&self, node_bound: usize, edge_bound: usize) -> bool
         ensures { IsTrue result ↔ ((node_bound ≤ self.now.nodes) × (edge_bound ≤ self.now.edges)) }
     {
@@ -48,18 +49,37 @@ impl<Ix: IndexType> Scratch<Ix> {
     }
 
     /// Makes room for graphs of these bounds. What it fitted before, it goes on fitting, whatever the answer is.
+    #[inline]
     pub fn reserve(&mut self, node_bound: usize, edge_bound: usize) -> Result<(), AllocError>
         ensures ok { OnOk result ((node_bound ≤ self.new.nodes) × (edge_bound ≤ self.new.edges)) }
         ensures kept { (self.old.nodes ≤ self.new.nodes) × (self.old.edges ≤ self.new.edges) }
         ensures succeeds { node_bound ≤ self.old.nodes → edge_bound ≤ self.old.edges → IsOk result }
     {
-        if self.stack.len() < node_bound {
-            self.stack.resize(node_bound, Link::end())?;
+        if self.marks.len() < node_bound {
+            self.grow_nodes(node_bound)?;
         }
-        self.marks.grow(node_bound)?;
         if self.found.len() < edge_bound {
             self.found.resize(edge_bound, EdgeIndex::end())?;
         }
         Ok(())
+    }
+
+    // Grows to twice the room at least, so that a graph that gains its nodes one by one seldom needs it.
+    #[cold]
+    #[inline(never)]
+    fn grow_nodes(&mut self, node_bound: usize) -> Result<(), AllocError>
+        ensures ok { OnOk result (node_bound ≤ self.new.nodes) }
+        ensures kept { (self.old.nodes ≤ self.new.nodes) × (self.old.edges ≤ self.new.edges) }
+    {
+        let doubled = self.marks.len().saturating_mul(2);
+        let len = if node_bound < doubled {
+            doubled
+        } else {
+            node_bound
+        };
+        if self.stack.len() < len {
+            self.stack.resize(len, Link::end())?;
+        }
+        self.marks.grow(len)
     }
 }

@@ -82,6 +82,7 @@ impl<N: Drop, E: Drop, Ix: IndexType> Store<Ix> for DiGraph<N, E, Ix> {
         self.node_count()
     }
 
+    #[inline]
     fn slots_with_node(&self) -> usize
         requires { node_count_of self.now.graph < Ix.greatest }
         ensures { (w : N) → length (with_node self.now.graph w).nodes ≡ result }
@@ -119,6 +120,7 @@ impl<N: Drop, E: Drop, Ix: IndexType> Store<Ix> for DiGraph<N, E, Ix> {
         self.find_edge(a, b)
     }
 
+    #[inline]
     fn add_node(&mut self, weight: N) -> Result<NodeIndex<Ix>, NodeError<N>>
         requires { node_count_of self.old.graph < Ix.greatest }
         ensures index { IfOk result (λ n. Ix.number n ≡ next_node self.old.graph) }
@@ -130,6 +132,7 @@ impl<N: Drop, E: Drop, Ix: IndexType> Store<Ix> for DiGraph<N, E, Ix> {
         self.add_node(weight)
     }
 
+    #[inline]
     fn add_edge(
         &mut self,
         a: NodeIndex<Ix>,
