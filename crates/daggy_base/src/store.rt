@@ -1,12 +1,12 @@
 //! What both kinds of store offer to the code that keeps a graph acyclic.
-ghost use Rattle.std.specs.Prelude.{◌≡◌, ℕ, ◌+◌, ◌<◌, ◌≤◌, IsTrue, Some, [], IfOk, OnOk, IfErr, OnErr, OnSome, IfNone, length};
+ghost use Rattle.std.specs.Prelude.{◌≡◌, ℕ, ◌+◌, ◌<◌, ◌≤◌, ◌↔◌, IsTrue, Some, [], IfOk, OnOk, IfErr, OnErr, OnSome, IfNone, length};
 ghost use Rattle.std.specs.Option.{option_map};
 ghost use Rattle.daggy_base.specs.Graph.{HasNode, HasEdge, node_weight as node_weight_at, edge_at, list_at, ends_of, pair_of, node_count as node_count_of, edge_count as edge_count_of, node_bound as node_bound_of, IsCompact};
 ghost use Rattle.daggy_base.specs.Adding.{next_node, next_edge, with_node, with_edge};
 ghost use Rattle.daggy_base.specs.Cursor.{first_of, cursor_after};
 ghost use Rattle.daggy_base.specs.Finding.{find_edge as edge_between};
 ghost use Rattle.daggy_base.specs.Weights.{edge_weight as edge_weight_at, with_edge_weight};
-ghost use Rattle.daggy_base.specs.Taking.{node_taken_back};
+ghost use Rattle.daggy_base.specs.Taking.{taken_back, node_taken_back};
 ghost use Rattle.daggy_base.specs.Removal.{Kind, Compact, without_edge, without_node, isolated};
 ghost use Rattle.daggy_base.specs.WellFormed.{IsIsolated};
 ghost use Rattle.daggy_base.specs.declared.index.Direction.{Direction};
@@ -26,6 +26,23 @@ pub trait Store<Ix: IndexType>: EdgeSource<Ix> {
     fn node_slots(&self) -> usize
         ensures value { result ≡ length (Self.graph self.now).nodes }
         ensures compact { kind ≡ Compact → IsCompact (Self.graph self.now) };
+
+    /// How many slots of edges there are.
+    fn edge_slots(&self) -> usize
+        ensures value { result ≡ length (Self.graph self.now).edges }
+        ensures compact { kind ≡ Compact → IsCompact (Self.graph self.now) };
+
+    /// How many nodes exist.
+    fn node_count(&self) -> usize
+        ensures { result ≡ node_count_of (Self.graph self.now) };
+
+    /// Whether an index is left for one more node.
+    fn can_add_node(&self) -> bool
+        ensures { IsTrue result ↔ (node_count_of (Self.graph self.now) < Ix.greatest) };
+
+    /// Whether an index is left for one more edge.
+    fn can_add_edge(&self) -> bool
+        ensures { IsTrue result ↔ (edge_count_of (Self.graph self.now) < Ix.greatest) };
 
     /// How many slots of nodes there will be once one more node is added.
     fn slots_with_node(&self) -> usize
@@ -87,6 +104,16 @@ pub trait Store<Ix: IndexType>: EdgeSource<Ix> {
         requires { HasEdge (Self.graph self.old) (Ix.number e) }
         ensures gives { edge_weight_at (Self.graph self.old) (Ix.number e) ≡ Some result }
         ensures replaced { Self.graph self.new ≡ with_edge_weight (Self.graph self.old) (Ix.number e) weight }
+        ensures counted { Self.looks self.new ≡ Self.looks self.old };
+
+    /// Undoes the adding of an edge that was added last of those there are: its slot is cut off if it was made for it,
+    /// else vacated.
+    fn take_back_edge(&mut self, e: EdgeIndex<Ix>, made: bool) -> Self::EdgeWeight
+        requires exists { HasEdge (Self.graph self.old) (Ix.number e) }
+        requires compact { kind ≡ Compact → IsTrue made }
+        requires last { IsTrue made → Ix.number e + 1 ≡ length (Self.graph self.old).edges }
+        ensures gives { edge_weight_at (Self.graph self.old) (Ix.number e) ≡ Some result }
+        ensures taken { Self.graph self.new ≡ taken_back made (Self.graph self.old) (Ix.number e) }
         ensures counted { Self.looks self.new ≡ Self.looks self.old };
 
     /// Undoes the adding of a node: its slot is cut off if it was made for it, else vacated.

@@ -8,7 +8,7 @@ ghost use Rattle.daggy_base.specs.Look.{IsLook};
 ghost use Rattle.daggy_base.specs.Adding.{next_node, next_edge, with_node, with_edge};
 ghost use Rattle.daggy_base.specs.Finding.{find_edge as edge_between};
 ghost use Rattle.daggy_base.specs.Weights.{edge_weight, with_edge_weight};
-ghost use Rattle.daggy_base.specs.Taking.{node_taken_back};
+ghost use Rattle.daggy_base.specs.Taking.{taken_back, node_taken_back};
 ghost use Rattle.daggy_base.specs.Removal.{Compact, without_edge, without_node, isolated};
 ghost use Rattle.daggy_base.specs.declared.index.Direction.{Direction};
 ghost use Rattle.daggy_base.specs.declared.error.NodeError.TheVariants.{Memory as NodeMemory};
@@ -80,6 +80,35 @@ impl<N: Drop, E: Drop, Ix: IndexType> Store<Ix> for DiGraph<N, E, Ix> {
         ensures compact { Compact ≡ Compact → IsCompact self.now.graph }
     {
         self.node_count()
+    }
+
+    #[inline]
+    fn edge_slots(&self) -> usize
+        ensures value { result ≡ length self.now.graph.edges }
+        ensures compact { Compact ≡ Compact → IsCompact self.now.graph }
+    {
+        self.edge_count()
+    }
+
+    #[inline]
+    fn node_count(&self) -> usize
+        ensures { result ≡ node_count_of self.now.graph }
+    {
+        DiGraph::node_count(self)
+    }
+
+    #[inline]
+    fn can_add_node(&self) -> bool
+        ensures { IsTrue result ↔ (node_count_of self.now.graph < Ix.greatest) }
+    {
+        self.can_add_node()
+    }
+
+    #[inline]
+    fn can_add_edge(&self) -> bool
+        ensures { IsTrue result ↔ (edge_count_of self.now.graph < Ix.greatest) }
+    {
+        self.can_add_edge()
     }
 
     #[inline]
@@ -159,6 +188,18 @@ impl<N: Drop, E: Drop, Ix: IndexType> Store<Ix> for DiGraph<N, E, Ix> {
         ensures counted { self.new.looks ≡ self.old.looks }
     {
         self.replace_edge_weight(e, weight)
+    }
+
+    fn take_back_edge(&mut self, e: EdgeIndex<Ix>, made: bool) -> E
+        requires exists { HasEdge self.old.graph (Ix.number e) }
+        requires compact { Compact ≡ Compact → IsTrue made }
+        requires last { IsTrue made → Ix.number e + 1 ≡ length self.old.graph.edges }
+        ensures gives { edge_weight self.old.graph (Ix.number e) ≡ Some result }
+        ensures taken { self.new.graph ≡ taken_back made self.old.graph (Ix.number e) }
+        ensures counted { self.new.looks ≡ self.old.looks }
+    {
+        let _always = made;
+        DiGraph::remove_edge(self, e).unwrap()
     }
 
     fn take_back_node(&mut self, n: NodeIndex<Ix>, made: bool) -> N
