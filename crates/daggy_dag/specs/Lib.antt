@@ -1,1 +1,5 @@
 pub mod Lends
+pub mod Series
+pub mod SoFar
+pub mod Extension
+pub mod Elements

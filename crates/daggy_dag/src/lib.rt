@@ -2,5 +2,8 @@
 #![tactic(auto)]
 
 pub mod dag;
+pub mod edge_indices;
+pub mod extension;
 pub mod guard;
+pub mod series;
 pub mod walk;

@@ -10,12 +10,15 @@ ghost use Rattle.daggy_base.specs.declared.error.NodeError.TheVariants.{Memory a
 ghost use Rattle.daggy_base.specs.declared.error.EdgeError.TheVariants.{Memory as EdgeMemory};
 
 mod count;
+mod elements;
 mod links;
 mod pairs;
 mod raw;
 mod removal;
 mod source;
 mod weights;
+
+pub use elements::{Element, IntoWeightedEdge};
 
 use daggy_base::error::{EdgeError, NodeError};
 use daggy_base::index::{DefaultIx, Direction, EdgeIndex, IndexType, NodeIndex};

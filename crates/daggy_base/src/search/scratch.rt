@@ -40,6 +40,12 @@ impl<Ix: IndexType> Scratch<Ix> {
         }
     }
 
+    /// The allocator that its room comes from.
+    #[inline]
+    pub fn allocator(&self) -> Global {
+        *self.stack.allocator()
+    }
+
     /// Whether graphs of these bounds can be searched.
     #[inline]
     pub fn fits(&self, node_bound: usize, edge_bound: usize) -> bool

@@ -1,0 +1,11 @@
+use Rattle.std.proofs.Common.{◌+◌, ◌-◌}
+use Rattle.daggy_base.specs.Graph.{node_count}
+use Rattle.daggy_dag.proofs.Filling.{Filling}
+use Rattle.daggy_dag.proofs.extension.fill.Given as goal
+
+abbrev pub invariant-nodes : goal.invariant-nodes
+invariant-nodes g l =
+    Filling g.S.NodeWeight.Default.is_default l.last (g.S.EdgeSource.graph l.fn.store) (g.S.EdgeSource.graph l.store) l.scratch.nodes
+
+abbrev pub decreases-nodes : goal.decreases-nodes
+decreases-nodes g l = (l.last + 1) - node_count (g.S.EdgeSource.graph l.store)

@@ -1,0 +1,45 @@
+//! The indices that a series of edges got.
+ghost use Rattle.std.specs.Prelude.{◌≡◌, ◌<◌, ◌^◌, map, length};
+ghost use Rattle.std.specs.Iterator.{YieldsFirstBy, item_count};
+
+use daggy_base::index::{EdgeIndex, IndexType};
+use std::marker::Model;
+
+/// The indices of edges that were added together, in the order in which the edges were given.
+#[derive(Drop)]
+pub struct EdgeIndices<Ix: IndexType> {
+    indices: Vec<EdgeIndex<Ix>>,
+    at: usize,
+}
+
+impl<Ix: IndexType> Model for EdgeIndices<Ix> {
+    ghost use Rattle.std.specs.Prelude.{ℕ, List, map, drop};
+
+    ghost Value = { List ℕ };
+
+    ghost view = { λ s. map Ix.number (drop s.at s.indices.items) };
+}
+
+impl<Ix: IndexType> EdgeIndices<Ix> {
+    pub(crate) fn new(indices: Vec<EdgeIndex<Ix>>) -> Self
+        ensures indices { result ≡ map Ix.number indices.items }
+        ensures fits { length result < 2 ^ 64 }
+    {
+        EdgeIndices { indices, at: 0 }
+    }
+}
+
+impl<Ix: IndexType> Iterator for EdgeIndices<Ix> {
+    type Item = EdgeIndex<Ix>;
+
+    ghost next_gives = { YieldsFirstBy Ix.number (λ rest. rest) };
+
+    ghost remaining = { item_count (λ rest. rest) };
+
+    #[inline]
+    fn next(&mut self) -> Option<EdgeIndex<Ix>> {
+        let e = *self.indices.get(self.at)?;
+        self.at += 1;
+        Some(e)
+    }
+}
