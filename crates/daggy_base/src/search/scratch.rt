@@ -7,13 +7,16 @@ use crate::search::marks::Marks;
 use std::alloc::{AllocError, Global};
 use std::marker::Model;
 
-/// Room for searches: marks for nodes, a stack of nodes, and a place for the edges that a search finds.
+/// Room for searches: marks for nodes that were entered and for nodes that were left, a stack of nodes with a cursor for
+/// each, and a place for the edges that a search finds.
 ///
 /// A search takes no memory of its own. It works in a scratch that was made large enough before.
 #[derive(Drop)]
 pub struct Scratch<Ix: IndexType> {
     pub(crate) marks: Marks,
+    pub(crate) left: Marks,
     pub(crate) stack: Vec<Link<Ix>>,
+    pub(crate) cursors: Vec<Link<Ix>>,
     pub(crate) found: Vec<EdgeIndex<Ix>>,
 }
 
@@ -25,7 +28,7 @@ impl<Ix: IndexType> Model for Scratch<Ix> {
 
     ghost view = { λ s. record { nodes = length s.marks; edges = vec_len s.found } };
 
-    ghost invariant = { λ s. length s.marks ≤ vec_len s.stack };
+    ghost invariant = { λ s. (length s.marks ≤ vec_len s.stack) × (length s.marks ≤ length s.left) × (length s.marks ≤ vec_len s.cursors) };
 }
 
 impl<Ix: IndexType> Scratch<Ix> {
@@ -35,7 +38,9 @@ impl<Ix: IndexType> Scratch<Ix> {
     {
         Scratch {
             marks: Marks::new(alloc),
+            left: Marks::new(alloc),
             stack: Vec::new(alloc),
+            cursors: Vec::new(alloc),
             found: Vec::new(alloc),
         }
     }
@@ -80,6 +85,10 @@ impl<Ix: IndexType> Scratch<Ix> {
         if self.stack.len() < len {
             self.stack.resize(len, Link::end())?;
         }
+        if self.cursors.len() < len {
+            self.cursors.resize(len, Link::end())?;
+        }
+        self.left.grow(len)?;
         self.marks.grow(len)
     }
 }
