@@ -1,41 +1,16 @@
 -- A search that is on its way.
-use Rattle.std.proofs.Common.{◌≡◌, ◌≢◌, ℕ, zero, suc, ◌+◌, ◌<◌, ◌≤◌, Bool, true, false, ◌⊎◌, ◌↔◌, inl, inr, List, [], ◌∷◌, ◌++◌, length, get_or, take, drop, set, Some, None, Option, IsSome, is_some, refl, sym, ap, subst, ◌∙◌, arith, replicate, append_assoc}
-use Rattle.std.specs.List.{count_by, slice_get}
-use Rattle.std.proofs.lemmas.List.{get_or-set_other, get_or-set_same, get_or_past, length-append, length-take-le, get_or-replicate, length-replicate}
+use Rattle.std.proofs.Common.{◌≡◌, ◌≢◌, ℕ, suc, ◌+◌, ◌<◌, ◌≤◌, Bool, true, false, ◌⊎◌, ◌↔◌, inl, inr, List, [], ◌∷◌, ◌++◌, length, get_or, drop, set, refl, sym, subst, ◌∙◌, arith, replicate, append_assoc}
+use Rattle.std.specs.List.{count_by}
+use Rattle.std.proofs.lemmas.List.{get_or-set_other, get_or-set_same, get_or_past, length-append, get_or-replicate, length-replicate}
 use Rattle.std.proofs.lemmas.List.Sums.{count_by-le-length}
 use Rattle.std.proofs.lemmas.Bool.{false≢true, cases_lt, cases_eq}
-use Rattle.std.proofs.lemmas.Option.{slice_get_within}
-use Rattle.daggy_base.specs.Graph.{Graph, Edge, HasNode, HasEdge, slot, edge_at, out_list, edge_count, bound_of, bound_step}
+use Rattle.daggy_base.specs.Graph.{Graph, HasNode, HasEdge, out_list, edge_count}
 use Rattle.daggy_base.specs.Path.{AreJoined, IsPath, Reaches, end_of}
-use Rattle.daggy_base.specs.Cursor.{first_of, after}
+use Rattle.daggy_base.specs.Cursor.{first_of}
 use Rattle.daggy_base.specs.WellFormed.{IsWellFormed}
 use Rattle.daggy_base.specs.Look.{IsLook}
-use Rattle.daggy_base.proofs.Lists.{Mem, Unique, mem_cases, mem_out, mem_into, mem_mid, unique_mid, unique_append, unique_right, mem_at, place_of, contains_mem, mem_contains, mem_take, unique_take, unique_from_distinct, pigeon, first_at, first_past, after_at}
-
--- slots
-pub slot_get : {A : Type 0} (xs : List (Option A)) (i : ℕ) (x : A) → slot xs i ≡ Some x → slice_get xs i ≡ Some (Some x)
-slot_get [] i x h = cc
-slot_get (y ∷ xs) zero x h = ap Some h
-slot_get (y ∷ xs) (suc i) x h = slot_get xs i x h
-
-pub slot_get_or : {A : Type 0} (xs : List (Option A)) (i : ℕ) (x : A) → slot xs i ≡ Some x → get_or xs i None ≡ Some x
-slot_get_or [] i x h = cc
-slot_get_or (y ∷ xs) zero x h = h
-slot_get_or (y ∷ xs) (suc i) x h = slot_get_or xs i x h
-
-bound_step_first : {A : Type 0} (x : A) (n : ℕ) → 0 < bound_step (Some x) n
-bound_step_first x zero = omega arith
-bound_step_first x (suc n) = omega arith
-
-bound_step_more : {A : Type 0} (y : Option A) (n i : ℕ) → i < n → suc i < bound_step y n
-bound_step_more y zero i h = absurd (omega arith)
-bound_step_more y (suc n) i h = omega arith
-
-pub below_bound : {A : Type 0} (xs : List (Option A)) (i : ℕ) → IsSome (slot xs i) → i < bound_of xs
-below_bound [] i h = absurd (false≢true h)
-below_bound (None ∷ xs) zero h = absurd (false≢true h)
-below_bound (Some x ∷ xs) zero h = bound_step_first x (bound_of xs)
-below_bound (y ∷ xs) (suc i) h = bound_step_more y (bound_of xs) i (below_bound xs i h)
+use Rattle.daggy_base.proofs.Lists.{Mem, Unique, mem_out, mem_into, mem_mid, unique_mid, unique_right, pigeon}
+use Rattle.daggy_base.proofs.Reading.{lists_of, lists_few, LookedTo, read_whole, all_read, read_part, has_edge, child_exists, child_joined, next_cursor, looked_more}
 
 -- paths
 pub path_more : {N E : Type 0} (g : Graph N E) (u : ℕ) (rest : List ℕ) (v w : ℕ) → IsPath g (u ∷ rest) → end_of u rest ≡ v → AreJoined g v w → HasNode g w → IsPath g (u ∷ (rest ++ w ∷ [])) × (end_of u (rest ++ w ∷ []) ≡ w)
@@ -53,52 +28,6 @@ path_stays g P closed u (v ∷ rest) p here = path_stays g P closed v rest p.2 (
 pub reaches_stays : {N E : Type 0} (g : Graph N E) (P : ℕ → Type 0) → ((u v : ℕ) → P u → AreJoined g u v → P v) → (u v : ℕ) → Reaches g u v → P u → P v
 reaches_stays g P closed u v r here = subst P r.2 (path_stays g P closed u r.0 r.1 here)
 
--- a well-formed graph
-module _ {N E : Type 0} (end : ℕ) (g : Graph N E) (w : IsWellFormed end g) where
-  pub leaves : (u e : ℕ) → Mem e (out_list g u) → (x : Edge E) × (edge_at g e ≡ Some x) × (x.parent ≡ u)
-  leaves u e m = (w.out_of.exact u e).0 (mem_contains _ _ m)
-
-  pub listed : (u e : ℕ) (x : Edge E) → edge_at g e ≡ Some x → x.parent ≡ u → Mem e (out_list g u)
-  listed u e x a p = contains_mem _ _ ((w.out_of.exact u e).1 (x, a, p))
-
-  pub out_unique : (u : ℕ) → Unique (out_list g u)
-  out_unique u = unique_from_distinct _ (w.out_of.once u)
-
-  pub edge_below : (e : ℕ) (x : Edge E) → edge_at g e ≡ Some x → e < end
-  edge_below e x a = omega (arith, slice_get_within g.edges e (Some x) (slot_get g.edges e x a), w.few_edges)
-
-  pub joins : (e u : ℕ) (x : Edge E) → edge_at g e ≡ Some x → x.parent ≡ u → AreJoined g u x.child
-  joins e u x a p = let P : ℕ → Type 0 = λ z. AreJoined g z x.child in subst P p (e, x.weight, a)
-
--- the edges that leave the nodes of a list
-abbrev pub lists_of : {N E : Type 0} → Graph N E → List ℕ → List ℕ
-lists_of g [] = []
-lists_of g (u ∷ us) = out_list g u ++ lists_of g us
-
-pub mem_lists : {N E : Type 0} (g : Graph N E) (us : List ℕ) (e : ℕ) → Mem e (lists_of g us) → (u : ℕ) × Mem u us × Mem e (out_list g u)
-mem_lists g [] e m = absurd m
-mem_lists g (u ∷ us) e m =
-    elim (mem_cases (out_list g u) (lists_of g us) e m) [
-      | inl a ↦ (u, inl refl, a)
-      | inr b ↦ let p = mem_lists g us e b in (p.0, inr p.1, p.2)
-    ]
-
-pub one_parent : {N E : Type 0} (end : ℕ) (g : Graph N E) → IsWellFormed end g → (u v e : ℕ) → Mem e (out_list g u) → Mem e (out_list g v) → u ≡ v
-one_parent {N} {E} end g w u v e a b =
-    let p = leaves end g w u e a in
-    let q = leaves end g w v e b in
-    let same : Some p.0 ≡ Some q.0 = sym p.1 ∙ q.1 in
-    let whole : p.0 ≡ q.0 = cc in
-    sym p.2 ∙ (ap (λ (x : Edge E). x.parent) whole ∙ q.2)
-
-pub unique_lists : {N E : Type 0} (end : ℕ) (g : Graph N E) → IsWellFormed end g → (us : List ℕ) → Unique us → Unique (lists_of g us)
-unique_lists end g w [] u = tt
-unique_lists end g w (x ∷ xs) u =
-    unique_append (out_list g x) (lists_of g xs) (out_unique end g w x) (unique_lists end g w xs u.1) (λ e a b.
-    let p = mem_lists g xs e b in
-    let same = one_parent end g w x p.0 e a p.2 in
-    u.0 (let P : ℕ → Type 0 = λ z. Mem z xs in subst P (sym same) p.1))
-
 pub record Going {N E : Type 0} (end : ℕ) (g : Graph N E) (from to : ℕ) (marks : List Bool) (st : List ℕ) (e looked : ℕ) : Type 0 where
   -- the node whose list is read, how much of that list was read, and the nodes whose lists were read whole
   pub at : ℕ
@@ -112,7 +41,7 @@ pub record Going {N E : Type 0} (end : ℕ) (g : Graph N E) (from to : ℕ) (mar
   pub start : Mem from (st ++ at ∷ done)
   pub not_to : get_or marks to false ≡ false
   pub closed : (u v : ℕ) → Mem u done → AreJoined g u v → get_or marks v false ≡ true
-  pub half : (j : ℕ) (x : Edge E) → j < passed → edge_at g (get_or (out_list g at) j end) ≡ Some x → get_or marks x.child false ≡ true
+  pub half : LookedTo end g (λ c. get_or marks c false ≡ true) at passed
   pub counted : looked ≡ passed + length (lists_of g done)
 
 pub marked_within : (marks : List Bool) (n : ℕ) → get_or marks n false ≡ true → n < length marks
@@ -138,107 +67,45 @@ fewer_than xs n u h =
 -- what is known of a search that is on its way
 module _ {N E : Type 0} (end : ℕ) (g : Graph N E) (w : IsWellFormed end g) (from to : ℕ) (marks : List Bool) (st : List ℕ) (e looked : ℕ) (s : Going end g from to marks st e looked) where
   -- the edges that were looked at are few, were all of the list read or a part of it
-  pub read_few : (k : ℕ) → k ≤ length (out_list g s.at) → k + length (lists_of g s.done) ≤ edge_count g
+  read_few : (k : ℕ) → k ≤ length (out_list g s.at) → k + length (lists_of g s.done) ≤ edge_count g
   read_few k within =
-      let read = take k (out_list g s.at) in
-      let all = read ++ lists_of g s.done in
-      let tail : Unique (s.at ∷ s.done) = unique_right st _ s.once in
-      let once : Unique all =
-      unique_append read (lists_of g s.done) (unique_take _ k (out_unique end g w s.at)) (unique_lists end g w s.done tail.1) (λ x a b.
-      let p = mem_lists g s.done x b in
-      let same = one_parent end g w s.at p.0 x (mem_take _ _ _ a) p.2 in
-      tail.0 (let P : ℕ → Type 0 = λ z. Mem z s.done in subst P (sym same) p.1)) in
-      let full : (x : ℕ) → Mem x all → is_some (get_or g.edges x None) ≡ true = λ x m.
-      elim (mem_cases read (lists_of g s.done) x m) [
-        | inl a ↦ let p = leaves end g w s.at x (mem_take _ _ _ a) in ap is_some (slot_get_or g.edges x p.0 p.1)
-        | inr b ↦ let q = mem_lists g s.done x b in let p = leaves end g w q.0 x q.2 in ap is_some (slot_get_or g.edges x p.0 p.1)
-      ] in
-      let few : length all ≤ edge_count g = pigeon is_some None refl all g.edges once full in
-      omega (arith, few, length-append read (lists_of g s.done), length-take-le k (out_list g s.at) within)
+      let few = lists_few end g w (s.at ∷ s.done) (unique_right st _ s.once) in
+      omega (arith, few, length-append (out_list g s.at) (lists_of g s.done))
 
   pub looked_within : looked ≤ edge_count g
   looked_within = omega (arith, read_few s.passed s.within, s.counted)
 
-  -- at `end` the list was read whole
-  pub read_whole : e ≡ end → s.passed ≡ length (out_list g s.at)
-  read_whole h =
-      elim (cases_lt s.passed (length (out_list g s.at))) [
-        | inl a ↦ (
-            let p = leaves end g w s.at _ (mem_at (out_list g s.at) s.passed end a) in
-            let low = edge_below end g w _ p.0 p.1 in
-            let is : e ≡ get_or (out_list g s.at) s.passed end = s.cursor ∙ first_at _ _ end a in
-            absurd (omega arith)
-            )
-        | inr b ↦ omega (arith, s.within)
-      ]
-
-  -- before `end` the cursor is at an edge
-  pub read_part : e ≢ end → (s.passed < length (out_list g s.at)) × (e ≡ get_or (out_list g s.at) s.passed end)
-  read_part h =
-      elim (cases_lt s.passed (length (out_list g s.at))) [
-        | inl a ↦ (a, s.cursor ∙ first_at _ _ end a)
-        | inr b ↦ absurd (h (s.cursor ∙ first_past _ _ end b))
-      ]
-
   pub look_within : e ≢ end → looked + 1 ≤ edge_count g
-  look_within h = omega (arith, read_few (suc s.passed) (read_part h).0, s.counted)
+  look_within h = omega (arith, read_few (suc s.passed) (read_part end g w s.at s.passed e s.cursor h).0, s.counted)
 
-  pub cursor_leaves : e ≢ end → (x : Edge E) × (edge_at g e ≡ Some x) × (x.parent ≡ s.at)
-  cursor_leaves h =
-      let r = read_part h in
-      leaves end g w s.at e (let P : ℕ → Type 0 = λ z. Mem z (out_list g s.at) in subst P (sym r.1) (mem_at _ s.passed end r.0))
-
-  pub has_edge : e ≢ end → HasEdge g e
-  has_edge h = ap is_some (cursor_leaves h).1
+  pub edge_exists : e ≢ end → HasEdge g e
+  edge_exists h = has_edge end g w s.at s.passed e s.cursor h
 
   -- what a look at the cursor gives
   module _ (here : e ≢ end) (v next : ℕ) (look : IsLook end g e v next) where
-    pub looked_edge : (edge_at g e ≡ Some look.edge) × (look.edge.parent ≡ s.at)
-    looked_edge =
-        let p = cursor_leaves here in
-        let same : Some p.0 ≡ Some look.edge = sym p.1 ∙ look.at in
-        let whole : p.0 ≡ look.edge = cc in
-        (look.at, ap (λ (x : Edge E). x.parent) (sym whole) ∙ p.2)
-
-    pub child_exists : HasNode g v
-    child_exists = let P : ℕ → Type 0 = λ z. HasNode g z in subst P (sym look.child_is) (w.children e look.edge look.at)
-
-    pub child_joined : AreJoined g s.at v
-    child_joined =
-        let P : ℕ → Type 0 = λ z. AreJoined g s.at z in
-        subst P (sym look.child_is) (joins end g w e s.at look.edge look.at looked_edge.1)
+    pub found_exists : HasNode g v
+    found_exists = child_exists end g w s.at s.passed e s.cursor here v next look
 
     pub child_reached : Reaches g from v
-    child_reached = reaches_more g from s.at v (s.reached s.at (mem_mid st s.done s.at)) child_joined child_exists
+    child_reached =
+        reaches_more g from s.at v (s.reached s.at (mem_mid st s.done s.at)) (child_joined end g w s.at s.passed e s.cursor here v next look) found_exists
 
     -- the cursor moves on from a child that is marked
     pub moved : get_or marks v false ≡ true → Going end g from to marks st next (looked + 1)
     moved seen =
-        let r = read_part here in
         record {
           at = s.at;
           passed = suc s.passed;
           done = s.done;
-          cursor =
-              look.next_is ∙ (ap (λ (z : ℕ). after end (out_list g z) e) looked_edge.1 ∙ (ap (λ (z : ℕ). after end (out_list g s.at) z) r.1 ∙ after_at (out_list g s.at) s.passed end (out_unique end g w s.at) r.0));
-          within = omega (arith, r.0);
+          cursor = next_cursor end g w s.at s.passed e s.cursor here v next look;
+          within = omega (arith, (read_part end g w s.at s.passed e s.cursor here).0);
           once = s.once;
           marked = s.marked;
           reached = s.reached;
           start = s.start;
           not_to = s.not_to;
           closed = s.closed;
-          half = λ j x lt a.
-              elim (cases_lt j s.passed) [
-                | inl before ↦ s.half j x before a
-                | inr after ↦ (
-                    let last : j ≡ s.passed = omega arith in
-                    let is : get_or (out_list g s.at) j end ≡ e = ap (λ (z : ℕ). get_or (out_list g s.at) z end) last ∙ sym r.1 in
-                    let same : Some x ≡ Some look.edge = sym a ∙ (ap (λ (z : ℕ). edge_at g z) is ∙ look.at) in
-                    let whole : x ≡ look.edge = cc in
-                    ap (λ (y : Edge E). get_or marks y.child false) whole ∙ (ap (λ (z : ℕ). get_or marks z false) (sym look.child_is) ∙ seen)
-                    )
-              ];
+          half = looked_more end g w s.at s.passed e s.cursor here v next look (λ c. get_or marks c false ≡ true) s.half seen;
           counted = omega (arith, s.counted);
         }
 
@@ -293,12 +160,7 @@ module _ {N E : Type 0} (end : ℕ) (g : Graph N E) (w : IsWellFormed end g) (fr
   pub closed_now : e ≡ end → (u v : ℕ) → Mem u (s.at ∷ s.done) → AreJoined g u v → get_or marks v false ≡ true
   closed_now h u v m j =
       elim m [
-        | inl eq ↦ (
-            let x : Edge E = record { parent = u; child = v; weight = j.1 } in
-            let in_list = listed end g w s.at j.0 x j.2 eq in
-            let p = place_of (out_list g s.at) j.0 end in_list in
-            s.half p.0 x (omega (arith, p.1, read_whole h)) (ap (λ (z : ℕ). edge_at g z) p.2 ∙ j.2)
-            )
+        | inl eq ↦ all_read end g w s.at s.passed e s.cursor s.within h (λ c. get_or marks c false ≡ true) s.half v (let P : ℕ → Type 0 = λ z. AreJoined g z v in subst P eq j)
         | inr b ↦ s.closed u v b j
       ]
 
@@ -349,7 +211,7 @@ module _ {N E : Type 0} (end : ℕ) (g : Graph N E) (w : IsWellFormed end g) (fr
         not_to = s.not_to;
         closed = closed_now end g w from to marks (front ++ u ∷ []) e looked s h;
         half = λ j x lt a. absurd (omega arith);
-        counted = omega (arith, s.counted, read_whole end g w from to marks (front ++ u ∷ []) e looked s h, length-append (out_list g s.at) (lists_of g s.done));
+        counted = omega (arith, s.counted, read_whole end g w s.at s.passed e s.cursor s.within h, length-append (out_list g s.at) (lists_of g s.done));
       }
 
   -- nothing is left to read

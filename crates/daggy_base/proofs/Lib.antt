@@ -1,8 +1,11 @@
 mod Emptiness
 pub mod Lists
+pub mod Reading
 pub mod Going
+pub mod Leaving
 pub mod Marking
 pub mod Searching
+pub mod Walking
 pub mod Slots
 pub mod Full
 pub mod Adding

@@ -6,7 +6,8 @@ use Rattle.daggy_base.specs.Path.{Reaches}
 use Rattle.daggy_base.specs.Cursor.{first_of}
 use Rattle.daggy_base.specs.WellFormed.{IsWellFormed}
 use Rattle.daggy_base.specs.Look.{IsLook}
-use Rattle.daggy_base.proofs.Going.{Going, below_bound, looked_within, look_within, has_edge, child_exists, child_reached, moved, pushed, has_room, started, popped, exhausted}
+use Rattle.daggy_base.proofs.Reading.{below_bound}
+use Rattle.daggy_base.proofs.Going.{Going, looked_within, look_within, edge_exists, found_exists, child_reached, moved, pushed, has_room, started, popped, exhausted}
 
 -- the same of the variables of the code: g is the graph now, and before and now are the counts of looks
 pub record Searching {N E : Type 0} (end size : ℕ) (g₀ g : Graph N E) (from to : ℕ) (marks : List Bool) (stack : List ℕ) (len e before now : ℕ) : Type 0 where
@@ -46,7 +47,7 @@ module _ {N E : Type 0} {end size : ℕ} {g₀ g : Graph N E} (w : IsWellFormed 
   pub edge_here : e ≢ end → HasEdge g e
   edge_here here =
       let P : Graph N E → Type 0 = λ z. HasEdge z e in
-      subst P (sym s.same) (has_edge end g₀ w _ _ _ _ _ _ s.going here)
+      subst P (sym s.same) (edge_exists end g₀ w _ _ _ _ _ _ s.going here)
 
   pub nothing_left : e ≡ end → len ≡ 0 → Reaches g₀ from to → ⊥
   nothing_left h empty r =
@@ -81,7 +82,7 @@ module _ {N E : Type 0} {end size : ℕ} {g₀ g : Graph N E} (w : IsWellFormed 
     look₀ = let P : Graph N E → Type 0 = λ z. IsLook end z e v next in subst P s.same look
 
     pub child_low : v < length marks
-    child_low = omega (arith, below_bound g₀.nodes v (child_exists end g₀ w _ _ _ _ _ _ s.going here v next look₀), s.fits)
+    child_low = omega (arith, below_bound g₀.nodes v (found_exists end g₀ w _ _ _ _ _ _ s.going here v next look₀), s.fits)
 
     pub room_marks : get_or marks v false ≡ false → len + 1 < length marks
     room_marks unseen =

@@ -6,11 +6,13 @@ ghost use Rattle.daggy_base.specs.Path.{Reaches};
 use crate::index::{EdgeIndex, IndexType, NodeIndex};
 use crate::link::Link;
 
+mod cycles;
 mod looks;
 mod marks;
 mod scratch;
 mod source;
 
+pub use cycles::is_acyclic;
 pub use looks::Looks;
 use marks::Marks;
 pub use scratch::Scratch;

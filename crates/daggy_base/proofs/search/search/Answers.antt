@@ -2,7 +2,7 @@ use Rattle.std.proofs.Common.{rules, ◌≡◌, ◌≢◌, ◌+◌, ◌<◌, ◌
 use Rattle.std.proofs.lemmas.Bool.{false≢true}
 use Rattle.daggy_base.specs.Graph.{HasNode, out_list}
 use Rattle.daggy_base.specs.Cursor.{first_of}
-use Rattle.daggy_base.proofs.Going.{below_bound}
+use Rattle.daggy_base.proofs.Reading.{below_bound}
 use Rattle.daggy_base.proofs.Searching.{starts, few, edge_here, nothing_left, popped_here, child_low, room_here, found, moves_on, pushes, looked_once, room_marks}
 use Rattle.daggy_base.proofs.search.search.Goals as goal
 
