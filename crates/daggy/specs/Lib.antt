@@ -8,3 +8,6 @@ pub use Rattle.daggy_base.specs.WellFormed
 pub use Rattle.daggy_base.specs.Reduction
 pub use Rattle.daggy_base.specs.State
 pub use Rattle.daggy_base.specs.Weights
+pub use Rattle.daggy_dag.specs.Series
+pub use Rattle.daggy_dag.specs.Extension
+pub use Rattle.daggy_dag.specs.Elements

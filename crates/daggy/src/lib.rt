@@ -15,10 +15,13 @@
 //! [`graph`] is the store below, which may hold cycles, and [`search`] finds paths in any graph that can be looked at.
 #![tactic(auto)]
 
-pub use daggy_base::error::{ChildError, EdgeError, NodeError, WouldCycle};
+pub use daggy_base::error::{
+    ChildError, EdgeError, EdgesError, ElementError, NodeError, WouldCycle,
+};
 pub use daggy_base::index::{EdgeIndex, NodeIndex};
 pub use daggy_base::{index, search};
 pub use daggy_dag::dag::{Children, Dag, Parents, RawEdges, RawNodes};
+pub use daggy_dag::edge_indices::EdgeIndices;
 pub use daggy_graph::graph;
 pub use daggy_walk::walker;
 pub use daggy_walk::walker::Walker;

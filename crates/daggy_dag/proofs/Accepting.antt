@@ -1,14 +1,14 @@
 -- Edges added in order: when they leave a graph acyclic, and how many there are then.
-use Rattle.std.proofs.Common.{◌≡◌, ℕ, zero, suc, ◌+◌, ◌<◌, cond, List, [], ◌∷◌, ◌++◌, length, set, take, Option, Some, None, is_some, slice_get, refl, sym, ap, ◌∙◌, arith}
+use Rattle.std.proofs.Common.{◌≡◌, ℕ, zero, suc, ◌+◌, ◌<◌, cond, List, [], ◌∷◌, ◌++◌, length, set, take, Option, Some, None, is_some, slice_get, refl, ap, arith}
 use Rattle.std.specs.List.{count_by}
 use Rattle.std.proofs.lemmas.List.Sums.{sum_by-cons}
 use Rattle.daggy_base.specs.Graph.{Graph, edge_count}
-use Rattle.daggy_base.specs.Path.{Reaches, IsAcyclic}
+use Rattle.daggy_base.specs.Path.{IsAcyclic}
 use Rattle.daggy_base.specs.Adding.{with_edge, taken}
 use Rattle.daggy_base.specs.WellFormed.{IsWellFormed}
 use Rattle.daggy_base.proofs.Slots.{IsFree}
 use Rattle.daggy_base.proofs.Adding.{free_edge, acyclic_with_edge, still_cyclic, cyclic_with_edge}
-use Rattle.daggy_dag.specs.Series.{NewEdge, with_edges, new_edges, IsFaultless, AreAccepted}
+use Rattle.daggy_dag.specs.Series.{NewEdge, with_edges, IsFaultless, AreAccepted}
 
 -- the graph is well formed before each of the edges
 abbrev pub IsFine : {N E : Type 0} → (limit : ℕ) → Graph N E → List (NewEdge E) → Type 0
@@ -52,8 +52,7 @@ module _ {N E : Type 0} (limit : ℕ) where
   accepted_if_acyclic g [] fine faultless acyclic = tt
   accepted_if_acyclic g (x ∷ xs) fine faultless acyclic =
       let one = with_edge g x.0 x.1 x.2 in
-      let rest = fine_rest g x xs fine in
-      (
+      let rest = fine_rest g x xs fine in (
         λ r. cyclic_with_edge g x.0 x.1 x.2 (free_first g x xs fine) faultless.0.0 r (acyclic_before one xs rest acyclic),
         accepted_if_acyclic one xs rest faultless.2 acyclic,
       )

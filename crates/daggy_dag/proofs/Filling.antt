@@ -1,13 +1,13 @@
 -- The loop of `fill`: so many nodes were added.
-use Rattle.std.proofs.Common.{◌≡◌, ℕ, ◌+◌, ◌-◌, ◌<◌, ◌≤◌, List, [], ◌∷◌, ◌++◌, length, Some, refl, sym, ap, subst, ◌∙◌, arith}
-use Rattle.std.specs.List.{AllByRecursion, Contains}
+use Rattle.std.proofs.Common.{◌≡◌, ℕ, ◌+◌, ◌<◌, ◌≤◌, List, [], ◌∷◌, ◌++◌, length, refl, sym, ap, ◌∙◌, arith}
+use Rattle.std.specs.List.{AllByRecursion}
 use Rattle.std.proofs.lemmas.List.{length-append}
 use Rattle.daggy_base.specs.Graph.{Graph, node_count, node_bound, edge_count}
 use Rattle.daggy_base.specs.Path.{IsAcyclic}
 use Rattle.daggy_base.specs.Adding.{with_node}
 use Rattle.daggy_base.specs.WellFormed.{IsWellFormed}
 use Rattle.daggy_base.proofs.Neighbors.{free_slots}
-use Rattle.daggy_dag.specs.Extension.{with_nodes, HasMore, missing, IsFilled, IsPartFilled}
+use Rattle.daggy_dag.specs.Extension.{with_nodes, missing, IsFilled, IsPartFilled}
 use Rattle.daggy_dag.proofs.Accepting.{count_taken}
 
 nodes_more : {N E : Type 0} (g : Graph N E) (ws : List N) (w : N) → with_nodes g (ws ++ w ∷ []) ≡ with_node (with_nodes g ws) w

@@ -6,3 +6,6 @@ pub mod Accepting
 pub mod SeriesSteps
 pub mod Filling
 pub mod Stopping
+pub mod Iterating
+pub mod Extending
+pub mod Making

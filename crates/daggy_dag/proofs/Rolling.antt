@@ -1,14 +1,14 @@
 -- Edges taken back, the last one first.
-use Rattle.std.proofs.Common.{◌≡◌, ◌≢◌, ℕ, zero, suc, ◌+◌, ◌-◌, ◌<◌, ◌≤◌, ◌↔◌, Bool, true, false, leb, IsTrue, List, [], ◌∷◌, ◌++◌, map, length, take, drop, set, reverse, get_or, Option, Some, None, IsSome, is_some, slice_get, refl, sym, ap, subst, ◌∙◌, arith}
+use Rattle.std.proofs.Common.{◌≡◌, ℕ, zero, suc, ◌+◌, ◌<◌, ◌≤◌, ◌↔◌, Bool, true, false, leb, IsTrue, List, [], ◌∷◌, ◌++◌, map, length, take, drop, reverse, get_or, Some, None, is_some, refl, sym, ap, subst, ◌∙◌, arith}
 use Rattle.std.specs.List.{Contains}
 use Rattle.std.specs.Option.{option_map}
 use Rattle.std.proofs.lemmas.Bool.{false≢true, leb-true, le-leb}
 use Rattle.std.proofs.lemmas.Option.{slice_get_within, same_Some}
 use Rattle.std.proofs.lemmas.List.{length-append, length-set, reverse-append}
-use Rattle.daggy_base.specs.Graph.{Graph, Edge, HasNode, HasEdge, edge_at}
+use Rattle.daggy_base.specs.Graph.{Graph, Edge, HasEdge, edge_at}
 use Rattle.daggy_base.specs.Adding.{with_edge, next_edge, next_slot, taken, rest_of}
 use Rattle.daggy_base.specs.Removal.{Kind, Compact}
-use Rattle.daggy_base.specs.WellFormed.{IsWellFormed, ListsVacant}
+use Rattle.daggy_base.specs.WellFormed.{IsWellFormed}
 use Rattle.daggy_base.specs.Taking.{taken_back}
 use Rattle.daggy_base.proofs.Slots.{IsFree, slot_taken_new}
 use Rattle.daggy_base.proofs.Adding.{free_edge}

@@ -1,5 +1,5 @@
 -- The loop of `add_all`: the edges that were given so far are there.
-use Rattle.std.proofs.Common.{◌≡◌, ℕ, zero, suc, ◌+◌, ◌<◌, ◌≤◌, inl, inr, List, [], ◌∷◌, ◌++◌, map, length, take, reverse, Option, Some, None, Vec, refl, sym, ap, subst, ◌∙◌, arith}
+use Rattle.std.proofs.Common.{◌≡◌, ℕ, suc, ◌+◌, ◌<◌, ◌≤◌, inl, inr, List, [], ◌∷◌, ◌++◌, map, length, take, reverse, Option, Vec, refl, sym, ap, subst, ◌∙◌, arith}
 use Rattle.std.proofs.lemmas.Bool.{cases_lt}
 use Rattle.std.proofs.lemmas.List.{length-append, length-map, length-reverse, map-append, take-append-le}
 use Rattle.std.specs.Iterator.{Yields, Drains}
@@ -179,14 +179,3 @@ module _ {I N E : Type 0} {number : I → ℕ} {limit : ℕ} {kind : Kind} {befo
   pub as_many_weights : {back : List E} → back ≡ reverse (map (λ (x : NewEdge E). x.2) (map (by_numbers number) given)) → length back ≡ length edges
   as_many_weights is =
       omega (arith, ap length is, length-reverse (map (λ (x : NewEdge E). x.2) all), length-map all (λ (x : NewEdge E). x.2), ap length s.series.indices_are, length-new_edges before all)
-
--- one turn more
-pub yields_more : {S A : Type 0} (gives : S → Option A → S → Type 0) (s t u : S) (xs : List A) (x : A) (r : Option A) → Yields gives s xs t → gives t r u → r ≡ Some x → Yields gives s (xs ++ x ∷ []) u
-yields_more {S} {A} gives s t u [] x r y k is =
-    let P : Option A → Type 0 = λ z. gives t z u in
-    let Q : S → Type 0 = λ z. gives z (Some x) u in
-    (u, subst Q (sym y) (subst P is k), refl)
-yields_more gives s t u (z ∷ zs) x r y k is = (y.0, y.1, yields_more gives y.0 t u zs x r y.2 k is)
-
-pub drained : {S A : Type 0} (gives : S → Option A → S → Type 0) (s t u : S) (ys : List A) (r : Option A) → Yields gives s ys t → gives t r u → r ≡ None → Drains gives s ys
-drained {S} {A} gives s t u ys r y k is = (u, (t, y, (let P : Option A → Type 0 = λ z. gives t z u in subst P is k)))

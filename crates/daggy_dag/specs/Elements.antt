@@ -1,5 +1,6 @@
 -- Graphs made of elements: nodes, and edges between nodes that came before.
 use Rattle.std.specs.Prelude.{◌≡◌, ℕ, ◌<◌, ◌≤◌, List, [], ◌∷◌, ◌++◌, Option, None, MatchOption}
+use Rattle.std.specs.List.{FoldsTo}
 use Rattle.std.specs.Iterator.{Yields, Drains}
 use Rattle.daggy_base.specs.Graph.{Graph, node_count, edge_count}
 use Rattle.daggy_base.specs.Path.{Reaches}
@@ -20,8 +21,8 @@ use Rattle.daggy_dag.specs.Series.{NewEdge, HasEnds, LacksEnd}
 abbrev pub IsJoined : {N E : Type 0} → (limit : ℕ) → (old : Graph N E) → NewEdge E → (new : Graph N E) → Type 0
 IsJoined limit old x new =
     HasEnds old x × MatchOption (find_edge old x.0 x.1)
-      ((edge_count old < limit) × (Reaches old x.1 x.0 → ⊥) × (new ≡ with_edge old x.0 x.1 x.2))
-      (λ e. new ≡ with_edge_weight old e x.2)
+    ((edge_count old < limit) × (Reaches old x.1 x.0 → ⊥) × (new ≡ with_edge old x.0 x.1 x.2))
+    (λ e. new ≡ with_edge_weight old e x.2)
 
 -- an edge that would have to be added
 abbrev pub IsNew : {N E : Type 0} → Graph N E → NewEdge E → Type 0
@@ -52,17 +53,12 @@ IsElementRefused limit g (Node w) (error.Edge e) = ⊥
 IsElementRefused limit g (Edge source target w) (error.Node e) = ⊥
 IsElementRefused limit g (Edge source target w) (error.Edge e) = IsEdgeRefused limit g (source, target, w) e
 
--- with each element of a list, in its order
-abbrev pub WithElements : {N E : Type 0} → (limit : ℕ) → (old : Graph N E) → List (Element N E) → (new : Graph N E) → Type 0
-WithElements limit old [] new = new ≡ old
-WithElements {N} {E} limit old (x ∷ xs) new = (mid : Graph N E) × WithElement limit old x mid × WithElements limit mid xs new
-
 module _ {N E S : Type 0} (limit : ℕ) (gives : S → Option (Element N E) → S → Type 0) (items : S) where
   -- with all elements that the items gave
   pub record IsMade (old new : Graph N E) : Type 0 where
     pub given : List (Element N E)
     pub drained : Drains gives items given
-    pub made : WithElements limit old given new
+    pub made : FoldsTo (WithElement limit) old given new
 
   -- the first element that is refused, which was the last that was asked for, after those before it
   pub record IsUnmade (old : Graph N E) (error : ElementError N E) : Type 0 where
@@ -71,5 +67,5 @@ module _ {N E S : Type 0} (limit : ℕ) (gives : S → Option (Element N E) → 
     pub rest : S
     pub asked : Yields gives items (given ++ at ∷ []) rest
     pub mid : Graph N E
-    pub made : WithElements limit old given mid
+    pub made : FoldsTo (WithElement limit) old given mid
     pub refused : IsElementRefused limit mid at error

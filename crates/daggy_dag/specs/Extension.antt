@@ -1,6 +1,6 @@
 -- Extensions: edges added one by one, each after the nodes that it asks for.
 use Rattle.std.specs.Prelude.{◌≡◌, ℕ, ◌+◌, ◌-◌, ◌<◌, max, List, [], ◌∷◌, ◌++◌, length, map, Option}
-use Rattle.std.specs.List.{AllByRecursion, AllZip}
+use Rattle.std.specs.List.{AllByRecursion, AllZip, FoldsTo}
 use Rattle.std.specs.Iterator.{Yields, Drains}
 use Rattle.daggy_base.specs.Graph.{Graph, node_count, edge_count}
 use Rattle.daggy_base.specs.Path.{Reaches}
@@ -57,11 +57,6 @@ module _ {N E : Type 0} (IsDefault : N → Type 0) where
   IsStopped limit old x (Memory w) new =
       (w ≡ x.2) × HasIndices limit old x × IsFilled (max x.0 x.1) old new × HasEnds new x × (Reaches new x.1 x.0 → ⊥)
 
-  -- extended by each edge of a list, in its order
-  abbrev pub IsExtension : (limit : ℕ) → (old : Graph N E) → List (NewEdge E) → (new : Graph N E) → Type 0
-  IsExtension limit old [] new = new ≡ old
-  IsExtension limit old (x ∷ xs) new = (mid : Graph N E) × IsExtended limit old x mid × IsExtension limit mid xs new
-
   module _ {I A S : Type 0} (number : I → ℕ) (limit : ℕ) (becomes : A → I × I × E → Type 0) (gives : S → Option A → S → Type 0) (items : S) where
     -- extended by all the edges that the items become
     pub record Extends (old new : Graph N E) : Type 0 where
@@ -69,7 +64,7 @@ module _ {N E : Type 0} (IsDefault : N → Type 0) where
       pub drained : Drains gives items given
       pub edges : List (I × I × E)
       pub become : AllZip becomes given edges
-      pub extension : IsExtension limit old (map (by_numbers number) edges) new
+      pub extension : FoldsTo (IsExtended limit) old (map (by_numbers number) edges) new
 
     -- extended by the edges before the first one that is refused, which was the last that was asked for
     pub record Stops (old : Graph N E) (error : EdgeError E) (new : Graph N E) : Type 0 where
@@ -82,5 +77,5 @@ module _ {N E : Type 0} (IsDefault : N → Type 0) where
       pub edge : I × I × E
       pub at_becomes : becomes at edge
       pub mid : Graph N E
-      pub extension : IsExtension limit old (map (by_numbers number) edges) mid
+      pub extension : FoldsTo (IsExtended limit) old (map (by_numbers number) edges) mid
       pub stopped : IsStopped limit mid (by_numbers number edge) error new

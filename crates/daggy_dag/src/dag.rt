@@ -25,6 +25,7 @@ use std::alloc::Global;
 use std::marker::{Model, PhantomData};
 
 mod pairs;
+mod series;
 mod walkers;
 mod weights;
 

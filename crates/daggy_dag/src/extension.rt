@@ -80,11 +80,7 @@ fn extend_all<
     S: Store<Ix>,
     T: IntoWeightedEdge<S::EdgeWeight, NodeId = NodeIndex<Ix>>,
     I: Iterator<Item = T>,
->(
-    store: &mut S,
-    scratch: &mut Scratch<Ix>,
-    items: I,
-) -> Result<(), EdgeError<S::EdgeWeight>>
+>(store: &mut S, scratch: &mut Scratch<Ix>, items: I) -> Result<(), EdgeError<S::EdgeWeight>>
 where
     S::NodeWeight: Default,
     requires can { I.can_next items }
@@ -112,11 +108,7 @@ pub fn extend_with_edges<
     S: Store<Ix>,
     T: IntoWeightedEdge<S::EdgeWeight, NodeId = NodeIndex<Ix>>,
     I: IntoIterator<Item = T>,
->(
-    store: &mut S,
-    scratch: &mut Scratch<Ix>,
-    items: I,
-) -> Result<(), EdgeError<S::EdgeWeight>>
+>(store: &mut S, scratch: &mut Scratch<Ix>, items: I) -> Result<(), EdgeError<S::EdgeWeight>>
 where
     S::NodeWeight: Default,
     requires ends { IsFiniteIterable I.into_iter_gives I.IntoIter.can_next I.IntoIter.remaining items }

@@ -3,6 +3,7 @@
 
 pub mod dag;
 pub mod edge_indices;
+pub mod elements;
 pub mod extension;
 pub mod guard;
 pub mod series;

@@ -11,7 +11,7 @@ ghost use Rattle.daggy_dag.specs.SoFar.{IsSeries, IsFault, refusal};
 use crate::edge_indices::EdgeIndices;
 use daggy_base::error::{EdgesError, WouldCycle};
 use daggy_base::index::{EdgeIndex, IndexType, NodeIndex};
-use daggy_base::search::{EdgeSource, Scratch};
+use daggy_base::search::{Scratch, is_acyclic};
 use daggy_base::store::Store;
 
 // What keeps an edge from being added, with its weight.
@@ -34,21 +34,6 @@ impl<E> Fault<E> {
         }
     }
 }
-
-//STUB
-fn is_acyclic<Ix: IndexType, S: EdgeSource<Ix>>(
-    source: &mut S,
-    scratch: &mut Scratch<Ix>,
-) -> bool
-    requires { node_bound (S.graph source.old) ≤ scratch.old.nodes }
-    ensures decided { IsTrue result ↔ IsAcyclic (S.graph source.old) }
-    ensures same { S.graph source.new ≡ S.graph source.old }
-    ensures counted { S.looks source.new ≤ S.looks source.old + edge_count (S.graph source.old) }
-    ensures room { scratch.new ≡ scratch.old }
-{
-    true
-}
-//ENDSTUB
 
 // Takes back the edges of a series, the last one first, and hands their weights back in that order.
 fn roll_back<Ix: IndexType, S: Store<Ix>>(

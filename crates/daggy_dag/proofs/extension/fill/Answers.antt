@@ -1,5 +1,4 @@
-use Rattle.std.proofs.Common.{◌≡◌, ◌≤◌, ◌∙◌, arith}
-use Rattle.daggy_base.specs.Graph.{node_count}
+use Rattle.std.proofs.Common.{arith}
 use Rattle.daggy_dag.proofs.Filling.{filling_on, fewer_missing, is_part_filled}
 use Rattle.daggy_dag.proofs.extension.fill.Goals as goal
 

@@ -1,9 +1,10 @@
-use Rattle.std.proofs.Common.{◌≡◌, ◌∙◌, ◌+◌, ◌≤◌, [], map, length, ap, sym, subst, refl, rules, arith}
-use Rattle.std.specs.Iterator.{Yields, Drains}
+use Rattle.std.proofs.Common.{◌∙◌, map, length, ap, sym, rules, arith}
+use Rattle.std.specs.Iterator.{Yields}
 use Rattle.std.proofs.lemmas.Bool.{false≢true}
 use Rattle.std.proofs.lemmas.List.{length-map}
 use Rattle.daggy_base.specs.Path.{IsAcyclic}
-use Rattle.daggy_dag.proofs.SeriesSteps.{adding_on, as_before, refused_at, closes_cycle, is_added, series_kept, yields_more, drained, count_now, as_many_weights}
+use Rattle.daggy_dag.proofs.Iterating.{yields_more, drained}
+use Rattle.daggy_dag.proofs.SeriesSteps.{adding_on, as_before, refused_at, closes_cycle, is_added, series_kept, count_now, as_many_weights}
 use Rattle.daggy_dag.proofs.series.add_all.Goals as goal
 
 pub items-preserved : goal.items-preserved

@@ -1,4 +1,4 @@
-use Rattle.std.proofs.Common.{◌≡◌, ℕ, suc, ◌-◌, ◌≤◌, map, length, refl, sym, arith}
+use Rattle.std.proofs.Common.{◌≡◌, suc, ◌-◌, refl, sym, arith}
 use Rattle.std.proofs.lemmas.List.{length-map}
 use Rattle.daggy_dag.proofs.Rolling.{rolling_starts, left_within, by_test, has_edge, made_where_compact, made_at_end, rolls_on, numbered_at}
 use Rattle.daggy_dag.proofs.series.roll_back.Goals as goal
