@@ -1,0 +1,6 @@
+//! What the traits of a graph let generic code do with it.
+mod adj_matrix;
+mod node_set;
+
+pub use adj_matrix::AdjMatrix;
+pub use node_set::NodeSet;
