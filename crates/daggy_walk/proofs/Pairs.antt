@@ -32,12 +32,15 @@ pair_within n flags a b has =
           absurd (false≢true (sym (ap (λ xs. get_or xs b false) (get_or_past (rows n flags) a [] short)) ∙ has))
     ]
 
--- what the test of a pair within tells
-pub pair_tested : (n : ℕ) (flags : List Bool) (matrix : List (List Bool)) (a b i : ℕ) (answer : Bool)
-    → rows n flags ≡ matrix → a < n → b < n → i ≡ a * n + b → answer ≡ get_or flags i false → IsTrue answer ↔ HasPair matrix a b
-pair_tested n flags matrix a b i answer is row column at gives =
+-- what the test of a pair within tells, in the words of the code
+pub pair_tested : (n : ℕ) (flags : List Bool) (matrix : List (List Bool)) (a b row column i : ℕ) (answer : Bool)
+    → rows n flags ≡ matrix → row ≡ a → column ≡ b → row < n → column < n → i ≡ row * n + column → answer ≡ get_or flags i false
+    → IsTrue answer ↔ HasPair matrix a b
+pair_tested n flags matrix a b row column i answer is row_is column_is row_low column_low at gives =
     let same : answer ≡ get_or (get_or matrix a []) b false =
-    gives ∙ ap (λ k. get_or flags k false) at ∙ sym (flag_of_pair n flags a b row column) ∙ ap (λ m. get_or (get_or m a []) b false) is in
+    gives ∙ ap (λ k. get_or flags k false) at ∙ sym (flag_of_pair n flags row column row_low column_low)
+    ∙ ap (λ k. get_or (get_or (rows n flags) k []) column false) row_is ∙ ap (λ k. get_or (get_or (rows n flags) a []) k false) column_is
+    ∙ ap (λ m. get_or (get_or m a []) b false) is in
     (λ h. sym same ∙ h, λ h. same ∙ h)
 
 -- two pairs within stand at two places
@@ -53,23 +56,26 @@ apart n a b u v b_low v_low same =
       ]
     ]
 
--- the pairs after one was set
-pub pair_set : (n : ℕ) (flags : List Bool) (matrix : List (List Bool)) (a b i : ℕ) → rows n flags ≡ matrix → length flags ≡ n * n → a < n → b < n → i ≡ a * n + b → i < n * n
+-- the pairs after one was set, in the words of the code
+pub pair_set : (n : ℕ) (flags : List Bool) (matrix : List (List Bool)) (a b row column i : ℕ) → rows n flags ≡ matrix → length flags ≡ n * n
+    → row ≡ a → column ≡ b → row < n → column < n → i ≡ row * n + column → i < n * n
     → (u v : ℕ) → HasPair (rows n (set flags i true)) u v ↔ (((u ≡ a) × (v ≡ b)) ⊎ HasPair matrix u v)
-pair_set n flags matrix a b i is sized row column at within u v = (
+pair_set n flags matrix a b row column i is sized row_is column_is row_low column_low at within u v = (
   λ has.
       let low = pair_within n (set flags i true) u v has in
       let flag : get_or (set flags i true) (u * n + v) false ≡ true = sym (flag_of_pair n (set flags i true) u v low.0 low.1) ∙ has in
       elim (cases_eq (u * n + v) i) [
-        | inl same ↦ inl (apart n a b u v column low.1 (same ∙ at))
+        | inl same ↦ let here = apart n row column u v column_low low.1 (same ∙ at) in inl (here.0 ∙ row_is, here.1 ∙ column_is)
         | inr other ↦ inr (
             sym (ap (λ m. get_or (get_or m u []) v false) is) ∙ flag_of_pair n flags u v low.0 low.1
             ∙ sym (get_or-set_other flags i (u * n + v) true false other) ∙ flag)
       ],
   λ either. elim either [
     | inl here ↦
-        let place : u * n + v ≡ i = ap (λ k. k * n + v) here.0 ∙ ap (λ k. a * n + k) here.1 ∙ sym at in
-        flag_of_pair n (set flags i true) u v (omega (arith, here.0, row)) (omega (arith, here.1, column))
+        let same_row : u ≡ row = here.0 ∙ sym row_is in
+        let same_column : v ≡ column = here.1 ∙ sym column_is in
+        let place : u * n + v ≡ i = ap (λ k. k * n + v) same_row ∙ ap (λ k. row * n + k) same_column ∙ sym at in
+        flag_of_pair n (set flags i true) u v (omega (arith, same_row, row_low)) (omega (arith, same_column, column_low))
         ∙ ap (λ k. get_or (set flags i true) k false) place ∙ get_or-set_same flags i true false (omega (arith, sized, within))
     | inr had ↦
         let before : HasPair (rows n flags) u v = ap (λ m. get_or (get_or m u []) v false) is ∙ had in

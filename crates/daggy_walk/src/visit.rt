@@ -10,5 +10,5 @@ mod node_set;
 pub use adj_matrix::AdjMatrix;
 pub use data::{Data, DataMap, DataMapMut, Directed, GraphBase, GraphProp, NodeCount};
 pub use indexed::{NodeCompactIndexable, NodeIndexable};
-pub use marked::{GetAdjacencyMatrix, Visitable};
+pub use marked::{GetAdjacencyMatrix, VisitMap, Visitable};
 pub use node_set::NodeSet;

@@ -37,6 +37,7 @@ pub trait NodeCount: Data {
 }
 
 /// Says of a graph that its edges have a direction. It has no value.
+#[derive(Clone, Copy, Debug)]
 pub enum Directed {}
 
 /// A graph that says whether its edges have a direction.
@@ -65,23 +66,27 @@ pub trait DataMap: Data {
 
 /// A graph whose weights can be written.
 pub trait DataMapMut: DataMap {
-    // What the graph ends as, once a weight was written.
+    // What the graph ends as, once the weight of a node was written, or that of an edge.
     ghost node_written: { Self → Self.NodeId → Self.NodeWeight → Self };
 
     ghost edge_written: { Self → Self.EdgeId → Self.EdgeWeight → Self };
 
     /// The weight of a node, to be written, or `None` if there is no such node.
     fn node_weight_mut(&mut self, id: Self::NodeId) -> Option<&mut Self::NodeWeight>
-        ensures* writes_back { sem 𝓛 (LendsIf Self.row Self.NodeWeight.row self.entry result (node_written self.entry.now id) self.entry.now) }
+        ensures* writes_back { sem 𝓛 (LendsIf Self.row Self.NodeWeight.row self.entry result
+            (node_written self.entry.now id) self.entry.now) }
         ensures value { option_copied_mut result ≡ weight_at (Self.graph self.old) (Self.node_number id) };
 
     /// The weight of an edge, to be written, or `None` if there is no such edge.
     fn edge_weight_mut(&mut self, id: Self::EdgeId) -> Option<&mut Self::EdgeWeight>
-        ensures* writes_back { sem 𝓛 (LendsIf Self.row Self.EdgeWeight.row self.entry result (edge_written self.entry.now id) self.entry.now) }
+        ensures* writes_back { sem 𝓛 (LendsIf Self.row Self.EdgeWeight.row self.entry result
+            (edge_written self.entry.now id) self.entry.now) }
         ensures value { option_copied_mut result ≡ edge_weight_at (Self.graph self.old) (Self.edge_number id) };
 
     // Nothing but that weight changes.
-    ghost node_written_is: { (g : Self) (n : Self.NodeId) (w : Self.NodeWeight) → Self.graph (node_written g n w) ≡ with_node_weight (Self.graph g) (Self.node_number n) w };
+    ghost node_written_is: { (g : Self) (n : Self.NodeId) (w : Self.NodeWeight)
+        → Self.graph (node_written g n w) ≡ with_node_weight (Self.graph g) (Self.node_number n) w };
 
-    ghost edge_written_is: { (g : Self) (e : Self.EdgeId) (w : Self.EdgeWeight) → Self.graph (edge_written g e w) ≡ with_edge_weight (Self.graph g) (Self.edge_number e) w };
+    ghost edge_written_is: { (g : Self) (e : Self.EdgeId) (w : Self.EdgeWeight)
+        → Self.graph (edge_written g e w) ≡ with_edge_weight (Self.graph g) (Self.edge_number e) w };
 }

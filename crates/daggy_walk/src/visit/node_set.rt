@@ -3,6 +3,7 @@ ghost use Rattle.std.specs.Prelude.{◌≡◌, ℕ, ◌<◌, ◌≤◌, ◌↔�
 ghost use Rattle.daggy_walk.specs.Visit.{IsVisited};
 
 use crate::bits::Bits;
+use crate::visit::VisitMap;
 use daggy_base::index::{IndexType, NodeIndex};
 use std::alloc::{AllocError, Global};
 use std::marker::{Model, PhantomData};
@@ -56,7 +57,8 @@ impl<Ix: IndexType> NodeSet<Ix> {
     pub fn visit(&mut self, n: NodeIndex<Ix>) -> bool
         requires { Ix.number n < length self.old }
         ensures answer { IsFalse result ↔ IsVisited self.old (Ix.number n) }
-        ensures visited { (m : ℕ) → IsVisited self.new m ↔ ((m ≡ Ix.number n) ⊎ IsVisited self.old m) }
+        ensures visited { (m : ℕ) → IsVisited self.new m
+            ↔ ((m ≡ Ix.number n) ⊎ IsVisited self.old m) }
         ensures bound { length self.new ≡ length self.old }
     {
         self.bits.set(n.index())
@@ -69,5 +71,29 @@ impl<Ix: IndexType> NodeSet<Ix> {
     {
         let i = n.index();
         i < self.bits.len() && self.bits.get(i)
+    }
+}
+
+impl<Ix: IndexType> VisitMap<NodeIndex<Ix>> for NodeSet<Ix> {
+    ghost visited = { λ set. set };
+
+    ghost number = { λ n. Ix.number n };
+
+    #[inline]
+    fn visit(&mut self, a: NodeIndex<Ix>) -> bool
+        requires { Ix.number a < length self.old }
+        ensures answer { IsFalse result ↔ IsVisited self.old (Ix.number a) }
+        ensures visited { (m : ℕ) → IsVisited self.new m
+            ↔ ((m ≡ Ix.number a) ⊎ IsVisited self.old m) }
+        ensures bound { length self.new ≡ length self.old }
+    {
+        self.visit(a)
+    }
+
+    #[inline]
+    fn is_visited(&self, a: &NodeIndex<Ix>) -> bool
+        ensures { IsTrue result ↔ IsVisited self.now (Ix.number a.now) }
+    {
+        self.is_visited(*a)
     }
 }

@@ -1,21 +1,18 @@
-use Rattle.std.proofs.Common.{rules, ◌+◌, ◌*◌, ◌<◌, [], false, get_or, ap, ◌∙◌, arith}
+use Rattle.std.proofs.Common.{rules, ◌<◌, [], false, get_or, ap, ◌∙◌}
 use Rattle.daggy_walk.proofs.Pairs.{pair_tested, pair_within}
 use Rattle.daggy_walk.proofs.visit.adj_matrix.AdjMatrix.has.Goals as goal
 use Rattle.daggy_walk.proofs.visit.adj_matrix.AdjMatrix.has.Goals.{then-row-self, else-row-self}
 
 pub returns-then-column-self : goal.returns-then-column-self
 returns-then-column-self g c =
-    let n = c.self.inside.bound in
-    let low : (c.index-row.result < n) × (c.index-column.result < n) =
+    let low : (c.index-row.result < c.self.inside.bound) × (c.index-column.result < c.self.inside.bound) =
     elim c.if-row-self.branch [ then-row-self w ↦ search rules | else-row-self w ↦ search rules ] in
-    pair_tested n c.self.inside.bits c.args.self.now (g.Ix.IndexType.number c.args.a) (g.Ix.IndexType.number c.args.b) c.place.result c.get.result c.self.view_is
-    (omega (arith, low.0, c.index-row.ensures.value)) (omega (arith, low.1, c.index-column.ensures.value))
-    (c.place.ensures.value ∙ ap (λ k. k * n + c.index-column.result) c.index-row.ensures.value ∙ ap (λ k. g.Ix.IndexType.number c.args.a * n + k) c.index-column.ensures.value)
-    c.get.ensures
+    pair_tested c.self.inside.bound c.self.inside.bits c.args.self.now (g.Ix.IndexType.number c.args.a) (g.Ix.IndexType.number c.args.b) c.index-row.result c.index-column.result c.place.result
+    c.get.result c.self.view_is c.index-row.ensures.value c.index-column.ensures.value low.0 low.1 c.place.ensures.value c.get.ensures
 
 pub returns-else-column-self : goal.returns-else-column-self
 returns-else-column-self g c = (
-  λ true_here. search rules,
+  λ answer. search rules,
   λ has.
       let low = pair_within c.self.inside.bound c.self.inside.bits (g.Ix.IndexType.number c.args.a) (g.Ix.IndexType.number c.args.b)
       (ap (λ m. get_or (get_or m (g.Ix.IndexType.number c.args.a) []) (g.Ix.IndexType.number c.args.b) false) c.self.view_is ∙ has) in
