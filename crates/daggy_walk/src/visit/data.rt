@@ -37,7 +37,7 @@ pub trait NodeCount: Data {
 }
 
 /// Says of a graph that its edges have a direction. It has no value.
-#[derive(Clone, Copy, Debug)]
+#[derive(Clone, Copy)]
 pub enum Directed {}
 
 /// A graph that says whether its edges have a direction.
