@@ -1,4 +1,6 @@
-//! Walking over graphs without borrowing them.
+//! Walking over graphs without borrowing them, and what walks share.
 #![tactic(auto)]
 
+mod bits;
+pub mod visit;
 pub mod walker;

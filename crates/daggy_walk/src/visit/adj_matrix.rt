@@ -1,0 +1,85 @@
+//! A matrix of pairs of nodes.
+ghost use Rattle.std.specs.Prelude.{◌≡◌, ℕ, ◌+◌, ◌*◌, ◌^◌, ◌<◌, ◌↔◌, ◌⊎◌, length, IsTrue, IfOk, OnOk};
+ghost use Rattle.daggy_walk.specs.Visit.{HasPair};
+
+use crate::bits::Bits;
+use daggy_base::index::{IndexType, NodeIndex};
+use std::alloc::{AllocError, Global};
+use std::marker::{Model, PhantomData};
+
+/// A set of pairs of nodes whose indices are below a bound.
+///
+/// It takes a bit for each pair of indices below its bound.
+#[derive(Drop)]
+pub struct AdjMatrix<Ix> {
+    bits: Bits,
+    bound: usize,
+    index: PhantomData<Ix>,
+}
+
+impl<Ix> Model for AdjMatrix<Ix> {
+    ghost use Rattle.std.specs.Prelude.{◌≡◌, ◌*◌, ◌^◌, ◌<◌, List, Bool, length};
+    ghost use Rattle.daggy_walk.specs.Visit.{rows};
+
+    ghost Value = { List (List Bool) };
+
+    ghost view = { λ m. rows m.bound m.bits };
+
+    ghost invariant = { λ m. (length m.bits ≡ m.bound * m.bound) × (m.bound * m.bound < 2 ^ 64) };
+}
+
+/// Where the flag of a pair stands.
+#[inline]
+fn place(bound: usize, a: usize, b: usize) -> usize
+    requires row { a < bound }
+    requires column { b < bound }
+    requires fits { bound * bound < 2 ^ 64 }
+    ensures value { result ≡ a * bound + b }
+    ensures within { result < bound * bound }
+{
+    a * bound + b
+}
+
+impl<Ix: IndexType> AdjMatrix<Ix> {
+    /// A matrix without pairs for the indices below a bound. `Err` says that there is no memory, or that no memory
+    /// could be large enough.
+    ///
+    /// Takes time in proportion to a 64th of the square of the bound.
+    pub fn new(alloc: Global, bound: usize) -> Result<AdjMatrix<Ix>, AllocError>
+        ensures bound { IfOk result (λ matrix. length matrix ≡ bound) }
+        ensures empty { IfOk result (λ matrix. (a b : ℕ) → ¬ HasPair matrix a b) }
+        ensures fits { OnOk result (bound * bound < 2 ^ 64) }
+    {
+        let Some(count) = bound.checked_mul(bound) else {
+            return Err(AllocError);
+        };
+        let bits = Bits::new(alloc, count)?;
+        Ok(AdjMatrix {
+            bits,
+            bound,
+            index: PhantomData,
+        })
+    }
+
+    /// Adds a pair.
+    #[inline]
+    pub fn join(&mut self, a: NodeIndex<Ix>, b: NodeIndex<Ix>)
+        requires source { Ix.number a < length self.old }
+        requires target { Ix.number b < length self.old }
+        ensures joined { (u v : ℕ) → HasPair self.new u v
+            ↔ (((u ≡ Ix.number a) × (v ≡ Ix.number b)) ⊎ HasPair self.old u v) }
+        ensures bound { length self.new ≡ length self.old }
+    {
+        let i = place(self.bound, a.index(), b.index());
+        self.bits.set(i);
+    }
+
+    /// Whether the matrix has a pair. It has none with an index past its bound.
+    #[inline]
+    pub fn has(&self, a: NodeIndex<Ix>, b: NodeIndex<Ix>) -> bool
+        ensures { IsTrue result ↔ HasPair self.now (Ix.number a) (Ix.number b) }
+    {
+        let (row, column) = (a.index(), b.index());
+        row < self.bound && column < self.bound && self.bits.get(place(self.bound, row, column))
+    }
+}

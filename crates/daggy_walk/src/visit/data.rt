@@ -1,0 +1,92 @@
+//! What a graph consists of, and its weights.
+ghost use Rattle.std.specs.Prelude.{◌≡◌, ℕ, Bool, option_copied};
+ghost use Rattle.std.specs.Borrow.{sem, LendsIf};
+ghost use Rattle.std.specs.Option.{option_copied_mut};
+ghost use Rattle.daggy_base.specs.Graph.{Graph, node_weight as weight_at, node_count as node_count_of};
+ghost use Rattle.daggy_base.specs.Weights.{edge_weight as edge_weight_at, with_node_weight, with_edge_weight};
+
+/// What names the nodes and the edges of a graph.
+pub trait GraphBase {
+    /// What names a node.
+    type NodeId: Copy;
+    /// What names an edge.
+    type EdgeId: Copy;
+
+    // The number of a node, and of an edge.
+    ghost node_number: { Self.NodeId → ℕ };
+
+    ghost edge_number: { Self.EdgeId → ℕ };
+}
+
+/// A graph with weights.
+pub trait Data: GraphBase {
+    /// The weight of a node.
+    type NodeWeight;
+    /// The weight of an edge.
+    type EdgeWeight;
+
+    // The graph by whole lists.
+    ghost graph: { Self → Graph Self.NodeWeight Self.EdgeWeight };
+}
+
+/// A graph that knows how many nodes it has.
+pub trait NodeCount: Data {
+    /// How many nodes there are.
+    fn node_count(&self) -> usize
+        ensures { result ≡ node_count_of (Self.graph self.now) };
+}
+
+/// Says of a graph that its edges have a direction. It has no value.
+#[derive(Clone, Copy)]
+pub enum Directed {}
+
+/// A graph that says whether its edges have a direction.
+pub trait GraphProp: GraphBase {
+    /// [`Directed`], if edges have a direction.
+    type EdgeType;
+
+    // Whether edges have a direction.
+    ghost directed: { Bool };
+
+    /// Whether edges have a direction.
+    fn is_directed(&self) -> bool
+        ensures { result ≡ directed };
+}
+
+/// A graph whose weights can be read.
+pub trait DataMap: Data {
+    /// The weight of a node, or `None` if there is no such node.
+    fn node_weight(&self, id: Self::NodeId) -> Option<&Self::NodeWeight>
+        ensures { option_copied result ≡ weight_at (Self.graph self.now) (Self.node_number id) };
+
+    /// The weight of an edge, or `None` if there is no such edge.
+    fn edge_weight(&self, id: Self::EdgeId) -> Option<&Self::EdgeWeight>
+        ensures { option_copied result ≡ edge_weight_at (Self.graph self.now) (Self.edge_number id) };
+}
+
+/// A graph whose weights can be written.
+pub trait DataMapMut: DataMap {
+    // What the graph ends as, once the weight of a node was written, or that of an edge.
+    ghost node_written: { Self → Self.NodeId → Self.NodeWeight → Self };
+
+    ghost edge_written: { Self → Self.EdgeId → Self.EdgeWeight → Self };
+
+    /// The weight of a node, to be written, or `None` if there is no such node.
+    fn node_weight_mut(&mut self, id: Self::NodeId) -> Option<&mut Self::NodeWeight>
+        ensures* writes_back { sem 𝓛 (LendsIf Self.row Self.NodeWeight.row self.entry result
+            (node_written self.entry.now id) self.entry.now) }
+        ensures value { option_copied_mut result ≡ weight_at (Self.graph self.old) (Self.node_number id) };
+
+    /// The weight of an edge, to be written, or `None` if there is no such edge.
+    fn edge_weight_mut(&mut self, id: Self::EdgeId) -> Option<&mut Self::EdgeWeight>
+        ensures* writes_back { sem 𝓛 (LendsIf Self.row Self.EdgeWeight.row self.entry result
+            (edge_written self.entry.now id) self.entry.now) }
+        ensures value { option_copied_mut result ≡ edge_weight_at (Self.graph self.old) (Self.edge_number id) };
+
+    // Nothing but that weight changes.
+    ghost node_written_is: { (g : Self) (n : Self.NodeId) (w : Self.NodeWeight)
+        → Self.graph (node_written g n w) ≡ with_node_weight (Self.graph g) (Self.node_number n) w };
+
+    ghost edge_written_is: { (g : Self) (e : Self.EdgeId) (w : Self.EdgeWeight)
+        → Self.graph (edge_written g e w) ≡ with_edge_weight (Self.graph g) (Self.edge_number e) w };
+}

@@ -1,0 +1,28 @@
+//! Nodes by number.
+ghost use Rattle.std.specs.Prelude.{◌≡◌, ℕ, ◌≤◌};
+ghost use Rattle.daggy_base.specs.Graph.{node_bound as node_bound_of};
+
+use crate::visit::{Data, NodeCount};
+
+/// A graph whose nodes have numbers below a bound.
+pub trait NodeIndexable: Data {
+    // The greatest number that a node can be named by.
+    ghost greatest: { ℕ };
+
+    /// The greatest index of a node plus one, or 0.
+    fn node_bound(&self) -> usize
+        ensures value { result ≡ node_bound_of (Self.graph self.now) }
+        ensures fits { node_bound_of (Self.graph self.now) ≤ greatest };
+
+    /// The number of a node.
+    fn to_index(&self, id: Self::NodeId) -> usize
+        ensures { result ≡ Self.node_number id };
+
+    /// The node of a number, which need not exist.
+    fn from_index(&self, x: usize) -> Self::NodeId
+        requires { x ≤ greatest }
+        ensures { Self.node_number result ≡ x };
+}
+
+/// A graph whose nodes are numbered from 0 to their count.
+pub trait NodeCompactIndexable: NodeIndexable + NodeCount {}

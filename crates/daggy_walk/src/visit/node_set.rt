@@ -1,0 +1,99 @@
+//! A set of nodes.
+ghost use Rattle.std.specs.Prelude.{◌≡◌, ℕ, ◌<◌, ◌≤◌, ◌↔◌, ◌⊎◌, length, IsTrue, IsFalse, IfOk, OnOk, OnErr, IsOk};
+ghost use Rattle.daggy_walk.specs.Visit.{IsVisited};
+
+use crate::bits::Bits;
+use crate::visit::VisitMap;
+use daggy_base::index::{IndexType, NodeIndex};
+use std::alloc::{AllocError, Global};
+use std::marker::{Model, PhantomData};
+
+/// A set of nodes whose indices are below a bound.
+///
+/// It takes a bit for each index below its bound.
+#[derive(Drop)]
+pub struct NodeSet<Ix> {
+    bits: Bits,
+    index: PhantomData<Ix>,
+}
+
+impl<Ix> Model for NodeSet<Ix> {
+    ghost use Rattle.std.specs.Prelude.{List, Bool};
+
+    ghost Value = { List Bool };
+
+    ghost view = { λ s. s.bits };
+}
+
+impl<Ix: IndexType> NodeSet<Ix> {
+    /// An empty set for the indices below a bound. `Err` says that there is no memory.
+    ///
+    /// Takes time in proportion to a 64th of the bound.
+    pub fn new(alloc: Global, bound: usize) -> Result<NodeSet<Ix>, AllocError>
+        ensures bound { IfOk result (λ set. length set ≡ bound) }
+        ensures empty { IfOk result (λ set. (n : ℕ) → ¬ IsVisited set n) }
+    {
+        let bits = Bits::new(alloc, bound)?;
+        Ok(NodeSet {
+            bits,
+            index: PhantomData,
+        })
+    }
+
+    /// Empties the set and gives it another bound. `Err` says that there is no memory for it.
+    ///
+    /// Takes time in proportion to a 64th of the bound.
+    pub fn reset(&mut self, bound: usize) -> Result<(), AllocError>
+        ensures bound { OnOk result (length self.new ≡ bound) }
+        ensures empty { OnOk result ((n : ℕ) → ¬ IsVisited self.new n) }
+        ensures err { OnErr result (self.new ≡ self.old) }
+        ensures succeeds { bound ≤ length self.old → IsOk result }
+    {
+        self.bits.reset(bound)
+    }
+
+    /// Adds a node, and says whether it was missing.
+    #[inline]
+    pub fn visit(&mut self, n: NodeIndex<Ix>) -> bool
+        requires { Ix.number n < length self.old }
+        ensures answer { IsFalse result ↔ IsVisited self.old (Ix.number n) }
+        ensures visited { (m : ℕ) → IsVisited self.new m
+            ↔ ((m ≡ Ix.number n) ⊎ IsVisited self.old m) }
+        ensures bound { length self.new ≡ length self.old }
+    {
+        self.bits.set(n.index())
+    }
+
+    /// Whether the set has a node. It has none past its bound.
+    #[inline]
+    pub fn is_visited(&self, n: NodeIndex<Ix>) -> bool
+        ensures { IsTrue result ↔ IsVisited self.now (Ix.number n) }
+    {
+        let i = n.index();
+        i < self.bits.len() && self.bits.get(i)
+    }
+}
+
+impl<Ix: IndexType> VisitMap<NodeIndex<Ix>> for NodeSet<Ix> {
+    ghost visited = { λ set. set };
+
+    ghost number = { λ n. Ix.number n };
+
+    #[inline]
+    fn visit(&mut self, a: NodeIndex<Ix>) -> bool
+        requires { Ix.number a < length self.old }
+        ensures answer { IsFalse result ↔ IsVisited self.old (Ix.number a) }
+        ensures visited { (m : ℕ) → IsVisited self.new m
+            ↔ ((m ≡ Ix.number a) ⊎ IsVisited self.old m) }
+        ensures bound { length self.new ≡ length self.old }
+    {
+        self.visit(a)
+    }
+
+    #[inline]
+    fn is_visited(&self, a: &NodeIndex<Ix>) -> bool
+        ensures { IsTrue result ↔ IsVisited self.now (Ix.number a.now) }
+    {
+        self.is_visited(*a)
+    }
+}
