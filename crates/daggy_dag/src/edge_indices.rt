@@ -13,11 +13,13 @@ pub struct EdgeIndices<Ix: IndexType> {
 }
 
 impl<Ix: IndexType> Model for EdgeIndices<Ix> {
-    ghost use Rattle.std.specs.Prelude.{ℕ, List, map, drop};
+    ghost use Rattle.std.specs.Prelude.{ℕ, ◌≤◌, List, map, drop, vec_len};
 
     ghost Value = { List ℕ };
 
     ghost view = { λ s. map Ix.number (drop s.at s.indices.items) };
+
+    ghost invariant = { λ s. s.at ≤ vec_len s.indices };
 }
 
 impl<Ix: IndexType> EdgeIndices<Ix> {
@@ -41,5 +43,12 @@ impl<Ix: IndexType> Iterator for EdgeIndices<Ix> {
         let e = *self.indices.get(self.at)?;
         self.at += 1;
         Some(e)
+    }
+}
+
+impl<Ix: IndexType> ExactSizeIterator for EdgeIndices<Ix> {
+    #[inline]
+    fn len(&self) -> usize {
+        self.indices.len() - self.at
     }
 }

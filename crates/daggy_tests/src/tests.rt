@@ -9,6 +9,7 @@ mod large;
 mod pairs;
 mod removing;
 mod searching;
+mod series;
 mod support;
 mod updating;
 mod walking;

@@ -1,4 +1,4 @@
-use daggy::{ChildError, EdgeError, NodeError, WouldCycle};
+use daggy::{ChildError, EdgeError, EdgesError, ElementError, NodeError, WouldCycle};
 use std::error::Error;
 use std::test::Fail;
 
@@ -51,5 +51,31 @@ fn errors_say_what_went_wrong(rt: HostRuntime) -> Result<(), Fail> {
     assert_eq!(rt; format!(in alloc; "{child}")?.as_str(), "out of memory");
     assert!(rt; is_error(&child));
     assert!(rt; is_error(&WouldCycle(Unprinted)));
+    Ok(())
+}
+
+#[test]
+fn errors_of_many_edges_say_what_went_wrong(rt: HostRuntime) -> Result<(), Fail> {
+    let alloc = rt.alloc();
+    let before = Vec::new(alloc);
+    let ends: EdgesError<u8> = EdgesError::BadEndpoint { last: 1, before };
+    let before = Vec::new(alloc);
+    let full: EdgesError<u8> = EdgesError::Full { last: 1, before };
+    let before = Vec::new(alloc);
+    let memory: EdgesError<u8> = EdgesError::Memory { last: 1, before };
+    let cycle: EdgesError<u8> = EdgesError::WouldCycle(WouldCycle(Vec::new(alloc)));
+    assert_eq!(rt; format!(in alloc; "{ends}")?.as_str(), "no such endpoint");
+    assert_eq!(rt; format!(in alloc; "{full}")?.as_str(), "no index left");
+    assert_eq!(rt; format!(in alloc; "{memory}")?.as_str(), "out of memory");
+    assert_eq!(rt;
+        format!(in alloc; "{cycle}")?.as_str(),
+        "would close a cycle"
+    );
+    assert!(rt; is_error(&ends));
+    let node: ElementError<u8, u8> = ElementError::Node(NodeError::Full(1));
+    let edge: ElementError<u8, u8> = ElementError::Edge(EdgeError::BadEndpoint(1));
+    assert_eq!(rt; format!(in alloc; "{node}")?.as_str(), "no index left");
+    assert_eq!(rt; format!(in alloc; "{edge}")?.as_str(), "no such endpoint");
+    assert!(rt; is_error(&edge));
     Ok(())
 }
