@@ -3,14 +3,15 @@ use Rattle.std.proofs.Common.{◌≡◌, ℕ, List, [], ◌∷◌, ◌++◌, cod
 use Rattle.std.specs.Option.{MatchOption}
 use Rattle.daggy.specs.declared.index.Direction.TheVariants.{Outgoing, Incoming}
 use Rattle.daggy.specs.Graph.{Graph}
+use Rattle.daggy.specs.Series.{NewEdge}
 use Rattle.dagbench.specs.declared.command.Command.{Command}
-use Rattle.dagbench.specs.declared.command.Command.TheVariants.{Node, Edge, Update, Child, Parent, Find, Ends, RemoveNode, RemoveEdge, Children, Parents, ClearEdges, Clear}
+use Rattle.dagbench.specs.declared.command.Command.TheVariants.{Node, Edge, Update, Child, Parent, Edges, Find, Ends, RemoveNode, RemoveEdge, Children, Parents, ClearEdges, Clear}
 use Rattle.dagbench.specs.declared.reply.Reply.{Reply}
 use Rattle.dagbench.specs.Commands.{command_of}
 use Rattle.dagbench.specs.Replies.{text_of, walk_text}
 use Rattle.dagbench.specs.Streams.{Appends}
 use Rattle.dagbench.specs.Steps.{Answer, Said, Walked, answer_text, walk_of, IsReply, IsStep}
-use Rattle.dagbench.specs.Progress.{AnswersCommand, AnswersLine}
+use Rattle.dagbench.specs.Progress.{AnswersCommand, AnswersLine, AnswersSeries}
 
 reply_is_step : (old new : Graph ℤ ℤ) (command : Command) (reply : Reply) → IsReply old command reply new → IsStep old command (Said reply) new
 reply_is_step old new (Node w) reply is = is
@@ -18,6 +19,7 @@ reply_is_step old new (Edge a b w) reply is = is
 reply_is_step old new (Update a b w) reply is = is
 reply_is_step old new (Child p e n) reply is = is
 reply_is_step old new (Parent c e n) reply is = is
+reply_is_step old new (Edges edges) reply is = absurd is
 reply_is_step old new (Find a b) reply is = is
 reply_is_step old new (Ends e) reply is = is
 reply_is_step old new (RemoveNode n) reply is = is
@@ -46,6 +48,14 @@ pub walked_up : {A E : Type 0} (r : Result A E) (command : Command) (g : Graph �
     → command ≡ Parents n → Appends r before now (walk_text (walk_of Incoming g n) ++ 10 ∷ []) → AnswersCommand r command g g before now
 walked_up {A} {E} r command g before now n is appended =
     subst (λ c. AnswersCommand r c g g before now) (sym is) (answered r (Parents n) g g before now (Walked (walk_of Incoming g n)) (refl, refl) appended)
+
+-- the answer to many edges
+pub series_told : {A E : Type 0} (r : Result A E) (command : Command) (old new : Graph ℤ ℤ) (before now : List ℕ) (edges : List (NewEdge ℤ))
+    → command ≡ Edges edges → AnswersSeries r edges old new before now → AnswersCommand r command old new before now
+series_told (Err e) command old new before now edges is told = tt
+series_told {A} {E} (Ok x) command old new before now edges is told =
+    let P : Command → Type 0 = λ c. (answer : Answer) × IsStep old c answer new × (now ≡ before ++ (answer_text answer ++ 10 ∷ [])) in
+    subst P (sym is) told
 
 -- the answer to a line that says a command
 pub answers_command : {A E : Type 0} (r : Result A E) (line : List ℕ) (old new : Graph ℤ ℤ) (before now : List ℕ) (command : Command)

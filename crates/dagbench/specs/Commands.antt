@@ -3,19 +3,10 @@ use Rattle.std.specs.Prelude.{ℕ, nat_lt, Option, Some, None, List, [], ◌∷�
 use Rattle.std.specs.Option.{option_map}
 use Rattle.std.specs.Str.{bytes_eq}
 use Rattle.dagbench.specs.Cutting.{words_of}
+use Rattle.dagbench.specs.Listing.{◌>>=◌, first_by, edges_by_words}
 use Rattle.dagbench.specs.Numbers.{index_of, weight_of}
 use Rattle.dagbench.specs.declared.command.Command.{Command}
-use Rattle.dagbench.specs.declared.command.Command.TheVariants.{Node, Edge, Update, Child, Parent, Find, Ends, RemoveNode, RemoveEdge, Children, Parents, ClearEdges, Clear}
-
-infixl 10 ◌>>=◌
-abbrev pub ◌>>=◌ : {A B : Type 0} → Option A → (A → Option B) → Option B
-None >>= f = None
-(Some x) >>= f = f x
-
--- the first word, by what it means, and the words behind it
-abbrev pub first_by : {A : Type 0} → (List ℕ → Option A) → List (List ℕ) → Option (A × List (List ℕ))
-first_by meaning [] = None
-first_by meaning (word ∷ words) = option_map (λ x. (x, words)) (meaning word)
+use Rattle.dagbench.specs.declared.command.Command.TheVariants.{Node, Edge, Update, Child, Parent, Edges, Find, Ends, RemoveNode, RemoveEdge, Children, Parents, ClearEdges, Clear}
 
 -- x, if no word is left
 abbrev pub if_done : {A : Type 0} → List (List ℕ) → A → Option A
@@ -61,6 +52,7 @@ adding_by_name name words =
     else if bytes_eq name (codes "update") then option_map (λ x. Update x.0 x.1 x.2) (ends_and_weight words)
     else if bytes_eq name (codes "child") then option_map (λ x. Child x.0 x.1 x.2) (index_and_weights words)
     else if bytes_eq name (codes "parent") then option_map (λ x. Parent x.0 x.1 x.2) (index_and_weights words)
+    else if bytes_eq name (codes "edges") then option_map (λ edges. Edges edges) (edges_by_words words)
     else None
 
 -- what is removed

@@ -1,5 +1,6 @@
 pub mod Cutting
 pub mod Numbers
+pub mod Listing
 pub mod Commands
 pub mod Streams
 pub mod Replies

@@ -9,22 +9,28 @@ use Rattle.daggy.specs.Adding.{next_node, next_edge, with_node, with_edge, with_
 use Rattle.daggy.specs.Removal.{Compact, without_edge, without_node, without_all_edges}
 use Rattle.daggy.specs.Weights.{edge_weight, with_edge_weight}
 use Rattle.daggy.specs.Finding.{find_edge}
+use Rattle.daggy.specs.Series.{NewEdge, with_edges, new_edges, IsFaultless, AreAccepted, LacksEnd, LacksIndex, LacksMemory, weights_back}
 use Rattle.dagbench.specs.declared.command.Command.{Command}
 use Rattle.dagbench.specs.declared.command.Command.TheVariants as command
 use Rattle.dagbench.specs.declared.reply.Reply.{Reply}
 use Rattle.dagbench.specs.declared.reply.Reply.TheVariants as reply
 use Rattle.dagbench.specs.Commands.{command_of}
 use Rattle.dagbench.specs.Cutting.{newline}
-use Rattle.dagbench.specs.Replies.{text_of, walk_text}
+use Rattle.dagbench.specs.Replies.{text_of, walk_text, edges_text, handed_back_text, Refusal, MissingEnd, NoIndex, NoMemory, ClosesCycle}
 
--- the answer to a command: a reply, or the edges of a walk with the nodes that they lead to
+-- the answer to a command: a reply, the edges of a walk with the nodes that they lead to, edges that were added, or a
+-- refusal with the weights that are handed back
 pub data Answer : Type 0 where
   Said : Reply → Answer
   Walked : List (ℕ × ℕ) → Answer
+  Added : List ℕ → Answer
+  HandedBack : Refusal → List ℤ → Answer
 
 abbrev pub answer_text : Answer → List ℕ
 answer_text (Said reply) = text_of reply
 answer_text (Walked items) = walk_text items
+answer_text (Added edges) = edges_text edges
+answer_text (HandedBack refusal weights) = handed_back_text refusal weights
 
 -- how many nodes there can be, and how many edges
 abbrev pub index_count : ℕ
@@ -106,21 +112,43 @@ IsReply old (command.RemoveNode n) said new = IsRemovalStep old (node_weight old
 IsReply old (command.RemoveEdge e) said new = IsRemovalStep old (edge_weight old e) (without_edge Compact old e) said new
 IsReply old command.ClearEdges said new = (said ≡ reply.Done) × (new ≡ without_all_edges old)
 IsReply old command.Clear said new = (said ≡ reply.Done) × (new ≡ empty)
-IsReply old (command.Children n) said new = ⊥
-IsReply old (command.Parents n) said new = ⊥
+IsReply old other said new = ⊥
 
--- a command that is replied, not walked
-abbrev pub IsNoWalk : Command → Type 0
-IsNoWalk (command.Children n) = ⊥
-IsNoWalk (command.Parents n) = ⊥
-IsNoWalk other = Unit {0}
+-- a command that is answered by one reply
+abbrev pub IsReplied : Command → Type 0
+IsReplied (command.Children n) = ⊥
+IsReplied (command.Parents n) = ⊥
+IsReplied (command.Edges edges) = ⊥
+IsReplied other = Unit {0}
+
+-- the first of the edges that is at fault, and the weights of it and of those before it
+pub record IsFirstFault (IsCause : Graph ℤ ℤ → NewEdge ℤ → Type 0) (g : Graph ℤ ℤ) (edges : List (NewEdge ℤ)) (weights : List ℤ) : Type 0 where
+  pub before : List (NewEdge ℤ)
+  pub at : NewEdge ℤ
+  pub behind : List (NewEdge ℤ)
+  pub edges_are : edges ≡ before ++ at ∷ behind
+  pub faultless : IsFaultless index_count g before
+  pub cause : IsCause (with_edges g before) at
+  pub weights_are : weights ≡ at.2 ∷ weights_back before
+
+-- adding all edges of a list, or none
+abbrev pub IsSeriesStep : Graph ℤ ℤ → List (NewEdge ℤ) → Answer → Graph ℤ ℤ → Type 0
+IsSeriesStep old edges (Added indices) new =
+    IsFaultless index_count old edges × AreAccepted old edges × (indices ≡ new_edges old edges) × (new ≡ with_edges old edges)
+IsSeriesStep old edges (HandedBack MissingEnd weights) new = IsFirstFault LacksEnd old edges weights × (new ≡ old)
+IsSeriesStep old edges (HandedBack NoIndex weights) new = IsFirstFault (LacksIndex index_count) old edges weights × (new ≡ old)
+IsSeriesStep old edges (HandedBack NoMemory weights) new = IsFirstFault (LacksMemory index_count) old edges weights × (new ≡ old)
+IsSeriesStep old edges (HandedBack ClosesCycle weights) new =
+    IsFaultless index_count old edges × ¬ (AreAccepted old edges) × (weights ≡ weights_back edges) × (new ≡ old)
+IsSeriesStep old edges other new = ⊥
 
 -- what a command may be answered over a graph, and the graph after it
 abbrev pub IsStep : Graph ℤ ℤ → Command → Answer → Graph ℤ ℤ → Type 0
 IsStep old (command.Children parent) (Walked items) new = (items ≡ walk_of Outgoing old parent) × (new ≡ old)
 IsStep old (command.Parents child) (Walked items) new = (items ≡ walk_of Incoming old child) × (new ≡ old)
-IsStep old command (Walked items) new = ⊥
+IsStep old (command.Edges edges) answer new = IsSeriesStep old edges answer new
 IsStep old command (Said reply) new = IsReply old command reply new
+IsStep old command other new = ⊥
 
 -- what a line may be answered: if it says no command, that it is bad
 abbrev pub IsAnswer : Graph ℤ ℤ → (line text : List ℕ) → Graph ℤ ℤ → Type 0

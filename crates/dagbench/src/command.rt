@@ -1,8 +1,10 @@
 //! The commands, and the lines that say them.
 
+use crate::items::Items;
+
 /// What a line may ask of the graph.
-#[derive(Clone, Copy, Debug, PartialEq, Eq)]
-pub enum Command {
+#[derive(Drop)]
+pub enum Command<'a> {
     /// A node of this weight is to be added.
     Node(i64),
     /// An edge is to be added: its parent, its child and its weight.
@@ -13,6 +15,8 @@ pub enum Command {
     Child(u32, i64, i64),
     /// A parent of this node is to be added: the weight of the edge, then that of the new node.
     Parent(u32, i64, i64),
+    /// All these edges are to be added, or none.
+    Edges(Items<'a>),
     /// The edge from one node to another is asked for.
     Find(u32, u32),
     /// The ends of this edge are asked for.

@@ -8,7 +8,7 @@ ghost use Rattle.daggy.specs.Removal.{Compact, without_edge, without_node};
 ghost use Rattle.daggy.specs.Weights.{edge_weight};
 ghost use Rattle.dagbench.specs.Streams.{CountsFaults, Appends};
 ghost use Rattle.dagbench.specs.Replies.{walk_text};
-ghost use Rattle.dagbench.specs.Steps.{IsReply, IsNoWalk, IsEdgeStep, IsUpdateStep, IsNeighborStep, IsRemovalStep, found_reply, ends_reply, walk_of};
+ghost use Rattle.dagbench.specs.Steps.{IsReply, IsReplied, IsEdgeStep, IsUpdateStep, IsNeighborStep, IsRemovalStep, found_reply, ends_reply, walk_of};
 ghost use Rattle.dagbench.specs.Progress.{AnswersCommand, AnswersLine};
 ghost use Rattle.dagbench.specs.declared.command.Command.TheVariants.{Node};
 
@@ -16,6 +16,7 @@ use crate::command::Command;
 use crate::output::Output;
 use crate::parse::parse;
 use crate::reply::Reply;
+use crate::series::add_edges;
 use crate::stream::{Fault, Sink};
 use crate::walk::Walk;
 use daggy::index::{Direction, EdgeIndex, NodeIndex};
@@ -150,9 +151,9 @@ fn add_parent(dag: &mut Weighted, child: u32, edge: i64, weight: i64) -> Reply
 }
 
 /// Runs a command that is replied.
-fn perform(dag: &mut Weighted, command: Command) -> Reply
-    requires { IsNoWalk command }
-    ensures { IsReply dag.old.graph command result dag.new.graph }
+fn perform(dag: &mut Weighted, command: Command<'_>) -> Reply
+    requires { IsReplied command }
+    ensures { IsReply dag.old.graph command.entry result dag.new.graph }
 {
     match command {
         Command::Node(weight) => add_node(dag, weight),
@@ -172,7 +173,7 @@ fn perform(dag: &mut Weighted, command: Command) -> Reply
             dag.clear();
             Reply::Done
         }
-        Command::Children(_) | Command::Parents(_) => Reply::Nothing,
+        Command::Edges(_) | Command::Children(_) | Command::Parents(_) => Reply::Nothing,
     }
 }
 
@@ -204,17 +205,18 @@ fn write_walk<K: Sink>(
 /// Answers a command.
 fn answer_command<K: Sink>(
     dag: &mut Weighted,
-    command: Command,
+    command: Command<'_>,
     output: &mut Output,
     sink: &mut K,
 ) -> Result<(), Fault>
-    ensures answered { AnswersCommand result command dag.old.graph dag.new.graph
+    ensures answered { AnswersCommand result command.entry dag.old.graph dag.new.graph
         (K.taken sink.old ++ output.old) (K.taken sink.new ++ output.new) }
     ensures counted { CountsFaults result (K.failures sink.old) (K.failures sink.new) }
 {
     match command {
         Command::Children(n) => write_walk(dag, Direction::Outgoing, n, output, sink),
         Command::Parents(n) => write_walk(dag, Direction::Incoming, n, output, sink),
+        Command::Edges(items) => add_edges(dag, items, output, sink),
         _ => {
             let reply = perform(dag, command);
             output.put_reply(sink, reply)

@@ -2,7 +2,7 @@
 ghost use Rattle.std.specs.Prelude.{◌≡◌, ℕ, List, [], ◌∷◌, ◌++◌, IfOk, OnOk, codes, decimal};
 ghost use Rattle.std.specs.Fmt.{signed_decimal};
 ghost use Rattle.dagbench.specs.Streams.{CountsFaults, Appends};
-ghost use Rattle.dagbench.specs.Replies.{text_of, item_text};
+ghost use Rattle.dagbench.specs.Replies.{text_of, item_text, edge_text};
 
 use crate::reply::Reply;
 use crate::stream::{Fault, Sink};
@@ -73,7 +73,7 @@ impl Output {
     }
 
     /// Writes a weight in decimal.
-    fn put_weight<K: Sink>(&mut self, sink: &mut K, weight: i64) -> Result<(), Fault>
+    pub fn put_weight<K: Sink>(&mut self, sink: &mut K, weight: i64) -> Result<(), Fault>
         ensures text { Appends result (K.taken sink.old ++ self.old) (K.taken sink.new ++ self.new) (signed_decimal weight) }
         ensures counted { CountsFaults result (K.failures sink.old) (K.failures sink.new) }
     {
@@ -91,8 +91,8 @@ impl Output {
     }
 
     /// Writes an edge as `e` and its index.
-    fn put_edge<K: Sink>(&mut self, sink: &mut K, edge: u32) -> Result<(), Fault>
-        ensures text { Appends result (K.taken sink.old ++ self.old) (K.taken sink.new ++ self.new) (codes "e" ++ decimal edge) }
+    pub fn put_edge<K: Sink>(&mut self, sink: &mut K, edge: u32) -> Result<(), Fault>
+        ensures text { Appends result (K.taken sink.old ++ self.old) (K.taken sink.new ++ self.new) (edge_text edge) }
         ensures counted { CountsFaults result (K.failures sink.old) (K.failures sink.new) }
     {
         self.put(sink, b"e")?;

@@ -4,6 +4,7 @@ ghost use Rattle.dagbench.specs.Cutting.{words_of};
 ghost use Rattle.dagbench.specs.Commands.{command_of, command_by_words, adding_by_name, removing_by_name, asking_by_name, if_done as if_done_of, weight_alone as weight_alone_of, index_alone as index_alone_of, two_indices as two_indices_of, ends_and_weight as ends_and_weight_of, index_and_weights as index_and_weights_of};
 
 use crate::command::Command;
+use crate::items::Items;
 use crate::words::{first_index, first_weight, first_word};
 
 /// The most bytes of a line that can be a command, its newline not counted.
@@ -11,7 +12,7 @@ pub const LONGEST_LINE: usize = 4096;
 
 /// The command that a line says.
 #[tactic(auto, unfolding(crate::specs::Commands::command_of))]
-pub fn parse(line: &[u8]) -> Option<Command>
+pub fn parse(line: &[u8]) -> Option<Command<'_>>
     ensures { result ≡ command_of line.now }
 {
     if LONGEST_LINE < line.len() {
@@ -20,7 +21,7 @@ pub fn parse(line: &[u8]) -> Option<Command>
     by_words(line)
 }
 
-fn by_words(line: &[u8]) -> Option<Command>
+fn by_words(line: &[u8]) -> Option<Command<'_>>
     ensures { result ≡ command_by_words (words_of line.now) }
 {
     let (name, rest) = first_word(line)?;
@@ -36,32 +37,38 @@ fn by_words(line: &[u8]) -> Option<Command>
 }
 
 #[tactic(auto, unfolding(crate::specs::Commands::adding_by_name))]
-fn adding(name: &[u8], rest: &[u8]) -> Option<Command>
+fn adding<'a>(name: &[u8], rest: &'a [u8]) -> Option<Command<'a>>
     ensures { result ≡ adding_by_name name.now (words_of rest.now) }
 {
     if name == b"node".as_slice() {
-        weight_alone(rest).map(Command::Node)
+        Some(Command::Node(weight_alone(rest)?))
     } else if name == b"edge".as_slice() {
-        ends_and_weight(rest).map(|(a, b, weight)| Command::Edge(a, b, weight))
+        let (a, b, weight) = ends_and_weight(rest)?;
+        Some(Command::Edge(a, b, weight))
     } else if name == b"update".as_slice() {
-        ends_and_weight(rest).map(|(a, b, weight)| Command::Update(a, b, weight))
+        let (a, b, weight) = ends_and_weight(rest)?;
+        Some(Command::Update(a, b, weight))
     } else if name == b"child".as_slice() {
-        index_and_weights(rest).map(|(parent, edge, node)| Command::Child(parent, edge, node))
+        let (parent, edge, node) = index_and_weights(rest)?;
+        Some(Command::Child(parent, edge, node))
     } else if name == b"parent".as_slice() {
-        index_and_weights(rest).map(|(child, edge, node)| Command::Parent(child, edge, node))
+        let (child, edge, node) = index_and_weights(rest)?;
+        Some(Command::Parent(child, edge, node))
+    } else if name == b"edges".as_slice() {
+        Some(Command::Edges(Items::new(rest)?))
     } else {
         None
     }
 }
 
 #[tactic(auto, unfolding(crate::specs::Commands::removing_by_name))]
-fn removing(name: &[u8], rest: &[u8]) -> Option<Command>
+fn removing<'a>(name: &[u8], rest: &'a [u8]) -> Option<Command<'a>>
     ensures { result ≡ removing_by_name name.now (words_of rest.now) }
 {
     if name == b"rmnode".as_slice() {
-        index_alone(rest).map(Command::RemoveNode)
+        Some(Command::RemoveNode(index_alone(rest)?))
     } else if name == b"rmedge".as_slice() {
-        index_alone(rest).map(Command::RemoveEdge)
+        Some(Command::RemoveEdge(index_alone(rest)?))
     } else if name == b"clearedges".as_slice() {
         if_done(rest, Command::ClearEdges)
     } else if name == b"clear".as_slice() {
@@ -72,17 +79,18 @@ fn removing(name: &[u8], rest: &[u8]) -> Option<Command>
 }
 
 #[tactic(auto, unfolding(crate::specs::Commands::asking_by_name))]
-fn asking(name: &[u8], rest: &[u8]) -> Option<Command>
+fn asking<'a>(name: &[u8], rest: &'a [u8]) -> Option<Command<'a>>
     ensures { result ≡ asking_by_name name.now (words_of rest.now) }
 {
     if name == b"find".as_slice() {
-        two_indices(rest).map(|(a, b)| Command::Find(a, b))
+        let (a, b) = two_indices(rest)?;
+        Some(Command::Find(a, b))
     } else if name == b"ends".as_slice() {
-        index_alone(rest).map(Command::Ends)
+        Some(Command::Ends(index_alone(rest)?))
     } else if name == b"children".as_slice() {
-        index_alone(rest).map(Command::Children)
+        Some(Command::Children(index_alone(rest)?))
     } else if name == b"parents".as_slice() {
-        index_alone(rest).map(Command::Parents)
+        Some(Command::Parents(index_alone(rest)?))
     } else {
         None
     }

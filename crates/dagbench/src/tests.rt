@@ -72,10 +72,22 @@ fn refusals_are_told(rt: HostRuntime) -> Result<(), Fail> {
 #[test]
 fn a_compact_dag_is_built_and_taken_apart(rt: HostRuntime) -> Result<(), Fail> {
     let input =
-        b"node 1\nnode 2\nedge 0 1 7\nedge 1 0 5\nedge 1 1 4\nedge 0 9 1\nchildren 0\nparents 0\nfind 1 0\nrmedge 0\nfrob\n";
+        b"node 1\nnode 2\nedge 0 1 7\nedge 1 0 5\nedge 1 1 4\nedge 0 9 1\nchildren 0\nparents 0\nfind 1 0\nedges 0 1 8 1 0 9\nedges 0 1 8 0 9 3\nrmedge 0\nfrob\n";
     let (outcome, taken) = served(rt.alloc(), input.as_slice(), None, None)?;
     assert_eq!(rt; outcome, Ok(()));
-    let expected = b"n0\nn1\ne0\ncycle 5\ncycle 4\nmissing\ne0:1\n-\nnone\nweight 7\nbad line\n";
+    let expected = b"n0\nn1\ne0\ncycle 5\ncycle 4\nmissing\ne0:1\n-\nnone\ncycle 9 8\nmissing 3 8\nweight 7\nbad line\n";
+    assert_eq!(rt; taken.as_slice(), expected.as_slice());
+    Ok(())
+}
+
+#[test]
+fn many_edges_are_added_or_none(rt: HostRuntime) -> Result<(), Fail> {
+    let input =
+        b"node 1\nnode 2\nnode 3\nedges\nedges 0 1\nedges 0 1 x\n edges  0 1 -5  1 2 6 0 2 7\nedges 2 0 4 9 9 1\nedges 2 2 -3\nedges 0 1 1 2 0 2 0 9 3\nchildren 0\nparents 2";
+    let (outcome, taken) = served(rt.alloc(), input.as_slice(), None, None)?;
+    assert_eq!(rt; outcome, Ok(()));
+    let expected =
+        b"n0\nn1\nn2\n-\nbad line\nbad line\ne0 e1 e2\nmissing 1 4\ncycle -3\nmissing 3 2 1\ne2:2 e0:1\ne2:0 e1:1\n";
     assert_eq!(rt; taken.as_slice(), expected.as_slice());
     Ok(())
 }
@@ -184,57 +196,69 @@ fn a_fault_is_told_where_its_device_failed(rt: HostRuntime) -> Result<(), Fail> 
 
 #[test]
 fn weights_have_a_sign_and_nineteen_digits(rt: HostRuntime) {
-    assert_eq!(rt;
-        parse(b"node 9223372036854775807".as_slice()),
-        Some(Command::Node(i64::MAX))
+    assert!(rt;
+        matches!(
+            parse(b"node 9223372036854775807".as_slice()),
+            Some(Command::Node(i64::MAX))
+        )
     );
-    assert_eq!(rt; parse(b"node 9223372036854775808".as_slice()), None);
-    assert_eq!(rt;
-        parse(b"node -9223372036854775808".as_slice()),
-        Some(Command::Node(i64::MIN))
+    assert!(rt; parse(b"node 9223372036854775808".as_slice()).is_none());
+    assert!(rt;
+        matches!(
+            parse(b"node -9223372036854775808".as_slice()),
+            Some(Command::Node(i64::MIN))
+        )
     );
-    assert_eq!(rt; parse(b"node -9223372036854775809".as_slice()), None);
-    assert_eq!(rt; parse(b"node -0".as_slice()), Some(Command::Node(0)));
-    assert_eq!(rt; parse(b"node -".as_slice()), None);
-    assert_eq!(rt; parse(b"node +1".as_slice()), None);
-    assert_eq!(rt; parse(b"node --1".as_slice()), None);
-    assert_eq!(rt;
-        parse(b"node 0000000000000000007".as_slice()),
-        Some(Command::Node(7))
+    assert!(rt; parse(b"node -9223372036854775809".as_slice()).is_none());
+    assert!(rt; matches!(parse(b"node -0".as_slice()), Some(Command::Node(0))));
+    assert!(rt; parse(b"node -".as_slice()).is_none());
+    assert!(rt; parse(b"node +1".as_slice()).is_none());
+    assert!(rt; parse(b"node --1".as_slice()).is_none());
+    assert!(rt;
+        matches!(
+            parse(b"node 0000000000000000007".as_slice()),
+            Some(Command::Node(7))
+        )
     );
-    assert_eq!(rt; parse(b"node 00000000000000000007".as_slice()), None);
+    assert!(rt; parse(b"node 00000000000000000007".as_slice()).is_none());
 }
 
 #[test]
 fn indices_have_ten_digits(rt: HostRuntime) {
-    assert_eq!(rt;
-        parse(b"children 4294967295".as_slice()),
-        Some(Command::Children(u32::MAX))
+    assert!(rt;
+        matches!(
+            parse(b"children 4294967295".as_slice()),
+            Some(Command::Children(u32::MAX))
+        )
     );
-    assert_eq!(rt; parse(b"children 4294967296".as_slice()), None);
-    assert_eq!(rt;
-        parse(b"children 0000000007".as_slice()),
-        Some(Command::Children(7))
+    assert!(rt; parse(b"children 4294967296".as_slice()).is_none());
+    assert!(rt;
+        matches!(
+            parse(b"children 0000000007".as_slice()),
+            Some(Command::Children(7))
+        )
     );
-    assert_eq!(rt; parse(b"children 00000000007".as_slice()), None);
-    assert_eq!(rt; parse(b"children -1".as_slice()), None);
-    assert_eq!(rt; parse(b"children x".as_slice()), None);
+    assert!(rt; parse(b"children 00000000007".as_slice()).is_none());
+    assert!(rt; parse(b"children -1".as_slice()).is_none());
+    assert!(rt; parse(b"children x".as_slice()).is_none());
 }
 
 #[test]
 fn words_are_parted_by_spaces_alone(rt: HostRuntime) {
-    assert_eq!(rt;
-        parse(b"  edge   0 1  -7 ".as_slice()),
-        Some(Command::Edge(0, 1, -7))
+    assert!(rt;
+        matches!(
+            parse(b"  edge   0 1  -7 ".as_slice()),
+            Some(Command::Edge(0, 1, -7))
+        )
     );
-    assert_eq!(rt; parse(b"edge 0\t1 7".as_slice()), None);
-    assert_eq!(rt; parse(b"edge 0 1 7\r".as_slice()), None);
-    assert_eq!(rt; parse(b"edge 0 1".as_slice()), None);
-    assert_eq!(rt; parse(b"edge 0 1 7 8".as_slice()), None);
-    assert_eq!(rt; parse(b"Node 1".as_slice()), None);
-    assert_eq!(rt; parse(b"nodes 1".as_slice()), None);
-    assert_eq!(rt; parse(b"    ".as_slice()), None);
-    assert_eq!(rt; parse(b"".as_slice()), None);
+    assert!(rt; parse(b"edge 0\t1 7".as_slice()).is_none());
+    assert!(rt; parse(b"edge 0 1 7\r".as_slice()).is_none());
+    assert!(rt; parse(b"edge 0 1".as_slice()).is_none());
+    assert!(rt; parse(b"edge 0 1 7 8".as_slice()).is_none());
+    assert!(rt; parse(b"Node 1".as_slice()).is_none());
+    assert!(rt; parse(b"nodes 1".as_slice()).is_none());
+    assert!(rt; parse(b"    ".as_slice()).is_none());
+    assert!(rt; parse(b"".as_slice()).is_none());
 }
 
 #[test]

@@ -3,7 +3,7 @@ ghost use Rattle.std.specs.Prelude.{◌≡◌, ℕ, ◌+◌, ◌≤◌, ◌∷�
 ghost use Rattle.std.specs.Option.{option_map};
 ghost use Rattle.dagbench.specs.Cutting.{Lacks, words_of};
 ghost use Rattle.dagbench.specs.Numbers.{number_of, index_of, weight_of};
-ghost use Rattle.dagbench.specs.Commands.{first_by};
+ghost use Rattle.dagbench.specs.Listing.{first_by};
 
 use memchr::memchr;
 
