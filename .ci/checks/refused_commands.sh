@@ -1,13 +1,15 @@
 #!/usr/bin/env bash
 # Each allocation of the line program refused in turn: it ends before it reads, or one command is answered `memory`.
 set -u
+. "$(dirname "$0")/../each_allocation.sh"
 cd "$(dirname "$0")/../../crates/dagbench" || exit 1
 refuse() {
-  out=$(printf 'node 1\nnode 2\nedge 0 1 7\nedge 1 0 5\nchildren 0\n' | rt try --fail-alloc "$1" -- compact 2>&1)
+  out=$(printf 'node 1\nnode 2\nedge 0 1 7\nedge 1 0 5\nedges 0 1 8 0 1 9\nchildren 0\n' | rt try --fail-alloc "$1" -- compact 2>&1)
   replies=$(printf '%s\n' "$out" | sed '/^allocations:/,$d' | paste -sd, -)
   case "$replies" in
     '' | 'dagbench: out of memory') status=1 ;;
-    'n0,n1,e0,cycle 5,e0:1' | 'memory,n0,missing,missing,-' | 'n0,memory,missing,missing,-' | 'n0,n1,memory,e0,-') status=0 ;;
+    'n0,n1,e0,cycle 5,e1 e2,e2:1 e1:1 e0:1' | 'memory,n0,missing,missing,missing 8,-' | 'n0,memory,missing,missing,missing 8,-' | \
+    'n0,n1,memory,e0,cycle 9 8,-' | 'n0,n1,e0,cycle 5,memory 8,e0:1' | 'n0,n1,e0,cycle 5,memory 9 8,e0:1') status=0 ;;
     *) status=none ;;
   esac
   if printf '%s\n' "$out" | grep -q "ended status=$status"; then
@@ -16,5 +18,4 @@ refuse() {
   printf 'allocation %s:\n%s\n' "$1" "$out"
   exit 1
 }
-export -f refuse
-seq 1 14 | xargs -P 2 -I{} bash -c 'refuse {}'
+each_allocation 18

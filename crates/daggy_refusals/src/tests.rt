@@ -1,5 +1,8 @@
 //! Each call is made again after a refusal, and must then succeed.
-use daggy::{ChildError, Dag, EdgeError, NodeError, NodeIndex, Walker};
+use daggy::graph::Element;
+use daggy::{
+    ChildError, Dag, EdgeError, EdgeIndices, EdgesError, ElementError, NodeError, NodeIndex, Walker,
+};
 use std::process::Abort;
 use std::test::Fail;
 
@@ -167,6 +170,76 @@ fn update_edge_again(
     }
 }
 
+// Adds so many edges from the root to the nodes that have none, all at once, likewise.
+fn add_edges_again(
+    rt: &impl Abort,
+    dag: &mut Dag<usize, usize>,
+    count: usize,
+) -> Result<bool, Fail> {
+    let edges = dag.edge_count();
+    let nodes = dag.node_count();
+    assert!(rt; edges < 100 && count < 100);
+    let root = NodeIndex::new(0);
+    let items = (0..count).map(|i| (root, NodeIndex::new(edges + i + 1), edges + i + 100));
+    match dag.add_edges(items) {
+        Ok(added) => {
+            assert_added(rt, added, edges, count);
+            Ok(false)
+        }
+        Err(EdgesError::Memory { last, before }) => {
+            let accepted = before.len();
+            assert!(rt; accepted < count);
+            assert_eq!(rt; last, edges + accepted + 100);
+            for (i, weight) in before.iter().enumerate() {
+                assert!(rt; i < accepted);
+                assert_eq!(rt; *weight, edges + (accepted - 1 - i) + 100);
+            }
+            assert_fan(rt, dag, nodes, edges);
+            let items = (0..count).map(|i| (root, NodeIndex::new(edges + i + 1), edges + i + 100));
+            assert_added(rt, dag.add_edges(items)?, edges, count);
+            Ok(true)
+        }
+        Err(_) => panic!(rt; "no other refusal has a cause"),
+    }
+}
+
+fn assert_added(rt: &impl Abort, mut added: EdgeIndices<u32>, first: usize, count: usize) {
+    for i in 0..count {
+        assert!(rt; first < 100 && i < 100);
+        match added.next() {
+            Some(e) => assert_eq!(rt; e.index(), first + i),
+            None => panic!(rt; "an index is missing"),
+        }
+    }
+    assert!(rt; added.next().is_none());
+}
+
+// Adds an edge from the root to a node that is made for it, likewise. What was made before a refusal stays.
+fn extend_again(rt: &impl Abort, dag: &mut Dag<usize, usize>) -> Result<bool, Fail> {
+    let edges = dag.edge_count();
+    let nodes = dag.node_count();
+    assert!(rt; edges < 100 && nodes < 100);
+    let item = (NodeIndex::new(0), NodeIndex::new(edges + 1), edges + 100);
+    match dag.extend_with_edges([item]) {
+        Ok(()) => Ok(false),
+        Err(EdgeError::NodeMemory(refused)) => {
+            assert_eq!(rt; refused, edges + 100);
+            assert!(rt; dag.node_count() <= edges + 1);
+            assert_eq!(rt; dag.edge_count(), edges);
+            dag.extend_with_edges([item])?;
+            Ok(true)
+        }
+        Err(EdgeError::Memory(refused)) => {
+            assert_eq!(rt; refused, edges + 100);
+            assert_eq!(rt; dag.node_count(), edges + 2);
+            assert_eq!(rt; dag.edge_count(), edges);
+            dag.extend_with_edges([item])?;
+            Ok(true)
+        }
+        Err(_) => panic!(rt; "no other refusal has a cause"),
+    }
+}
+
 #[test]
 fn a_refused_allocation_is_answered_and_nothing_else(rt: HostRuntime) -> Result<(), Fail> {
     let mut dag: Dag<usize, usize> = Dag::new(rt.alloc());
@@ -229,5 +302,91 @@ fn a_refused_update_comes_back(rt: HostRuntime) -> Result<(), Fail> {
         }
         assert_fan(&rt, &dag, i + 2, i + 1);
     }
+    Ok(())
+}
+
+#[test]
+fn a_refused_series_comes_back_whole(rt: HostRuntime) -> Result<(), Fail> {
+    let mut dag: Dag<usize, usize> = Dag::new(rt.alloc());
+    let mut refused = add_node_again(&rt, &mut dag, 0)?;
+    for _ in 0..20 {
+        if add_node_again(&rt, &mut dag, 0)? {
+            assert!(rt; !refused, "a second refusal");
+            refused = true;
+        }
+    }
+    for _ in 0..4 {
+        if add_edges_again(&rt, &mut dag, 5)? {
+            assert!(rt; !refused, "a second refusal");
+            refused = true;
+        }
+    }
+    assert_fan(&rt, &dag, 21, 20);
+    assert!(rt;
+        !add_edges_again(&rt, &mut dag, 0)?,
+        "no edges need no memory"
+    );
+    Ok(())
+}
+
+#[test]
+fn a_refused_extension_keeps_what_it_made(rt: HostRuntime) -> Result<(), Fail> {
+    let mut dag: Dag<usize, usize> = Dag::new(rt.alloc());
+    let mut refused = false;
+    for i in 0..20 {
+        if extend_again(&rt, &mut dag)? {
+            assert!(rt; !refused, "a second refusal");
+            refused = true;
+        }
+        assert_eq!(rt; dag.node_count(), i + 2);
+        assert_eq!(rt; dag.edge_count(), i + 1);
+    }
+    Ok(())
+}
+
+#[test]
+fn a_dag_of_edges_is_made_or_its_weight_comes_back(rt: HostRuntime) -> Result<(), Fail> {
+    let (a, b, c) = (NodeIndex::new(0), NodeIndex::new(1), NodeIndex::new(2));
+    let items = [(a, b, 1), (b, c, 2), (a, c, 3)];
+    let made: Result<Dag<usize, usize>, EdgeError<usize>> = Dag::from_edges(rt.alloc(), items);
+    let dag = match made {
+        Ok(dag) => dag,
+        Err(EdgeError::Memory(_) | EdgeError::NodeMemory(_)) => Dag::from_edges(rt.alloc(), items)?,
+        Err(_) => panic!(rt; "no other refusal has a cause"),
+    };
+    assert_eq!(rt; dag.node_count(), 3);
+    assert_eq!(rt; dag.edge_count(), 3);
+    Ok(())
+}
+
+#[test]
+fn a_dag_of_elements_is_made_or_their_weight_comes_back(rt: HostRuntime) -> Result<(), Fail> {
+    let items = [
+        Element::Node { weight: 10 },
+        Element::Node { weight: 11 },
+        Element::Edge {
+            source: 0,
+            target: 1,
+            weight: 12,
+        },
+    ];
+    let made: Result<Dag<usize, usize>, ElementError<usize, usize>> = Dag::from_elements(
+        rt.alloc(),
+        items,
+    );
+    let dag = match made {
+        Ok(dag) => dag,
+        Err(ElementError::Node(NodeError::Memory(refused))) => {
+            assert!(rt; refused == 10 || refused == 11);
+            Dag::from_elements(rt.alloc(), items)?
+        }
+        Err(ElementError::Edge(EdgeError::Memory(refused))) => {
+            assert_eq!(rt; refused, 12);
+            Dag::from_elements(rt.alloc(), items)?
+        }
+        Err(_) => panic!(rt; "no other refusal has a cause"),
+    };
+    assert_eq!(rt; dag.node_count(), 2);
+    assert_eq!(rt; dag.edge_count(), 1);
     Ok(())
 }
