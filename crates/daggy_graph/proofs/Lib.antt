@@ -11,3 +11,4 @@ pub mod Clearing
 pub mod RawLemmas
 pub mod CellLemmas
 pub mod PairLemmas
+mod CloneLemmas

@@ -9,11 +9,13 @@ ghost use Rattle.daggy_base.specs.State.{with_graph};
 ghost use Rattle.daggy_base.specs.declared.error.NodeError.TheVariants.{Memory as NodeMemory};
 ghost use Rattle.daggy_base.specs.declared.error.EdgeError.TheVariants.{Memory as EdgeMemory};
 
+mod copy;
 mod count;
 mod links;
 mod pairs;
 mod raw;
 mod removal;
+mod room;
 mod source;
 mod weights;
 
@@ -25,7 +27,7 @@ use std::alloc::Global;
 use std::marker::Model;
 
 /// A node as it is stored: its weight, and the first edge of each of its lists.
-#[derive(Drop)]
+#[derive(Clone, Drop)]
 pub struct Node<N, Ix: IndexType = DefaultIx> {
     /// The weight of the node.
     pub weight: N,
@@ -34,7 +36,7 @@ pub struct Node<N, Ix: IndexType = DefaultIx> {
 }
 
 /// An edge as it is stored: its weight, its ends, and the edge after it in each of its lists.
-#[derive(Drop)]
+#[derive(Clone, Drop)]
 pub struct Edge<E, Ix: IndexType = DefaultIx> {
     /// The weight of the edge.
     pub weight: E,

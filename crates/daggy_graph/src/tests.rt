@@ -2,6 +2,7 @@
 use crate::graph::DiGraph;
 use daggy_base::index::{Direction, EdgeIndex, NodeIndex};
 use daggy_base::search::EdgeSource;
+use std::alloc::Global;
 use std::process::Abort;
 
 fn node(rt: &impl Abort, g: &mut DiGraph<u32, u32, u8>, w: u32) -> NodeIndex<u8> {
@@ -100,4 +101,52 @@ fn weights_are_written(rt: HostRuntime) {
     assert_eq!(rt; g.raw_nodes().len(), 2);
     assert_eq!(rt; g.raw_edges().len(), 1);
     assert_eq!(rt; EdgeSource::node_bound(&g), 2);
+}
+
+// Nodes of weights 10, 11 and 12, with edges 0 -> 1, 0 -> 2 and 1 -> 2.
+fn triangle(alloc: Global, rt: &impl Abort) -> DiGraph<u32, u32, u8> {
+    let mut g = DiGraph::new(alloc);
+    let a = node(rt, &mut g, 10);
+    let b = node(rt, &mut g, 11);
+    let c = node(rt, &mut g, 12);
+    let _ab = edge(rt, &mut g, a, b, 100);
+    let _ac = edge(rt, &mut g, a, c, 101);
+    let _bc = edge(rt, &mut g, b, c, 102);
+    g
+}
+
+#[test]
+fn room_is_made(rt: HostRuntime) {
+    let mut g = DiGraph::with_capacity(rt.alloc(), 4, 4).expect(&rt, "memory");
+    let a = node(&rt, &mut g, 10);
+    let _aa = edge(&rt, &mut g, a, a, 100);
+    assert!(rt; g.reserve_nodes(usize::MAX).is_err());
+    assert!(rt; g.reserve_exact_nodes(usize::MAX).is_err());
+    assert!(rt; g.reserve_edges(usize::MAX).is_err());
+    assert!(rt; g.reserve_exact_edges(usize::MAX).is_err());
+    assert!(rt; g.reserve_nodes(40).is_ok());
+    assert!(rt; g.reserve_exact_nodes(80).is_ok());
+    assert!(rt; g.reserve_edges(40).is_ok());
+    assert!(rt; g.reserve_exact_edges(80).is_ok());
+    assert!(rt; g.shrink_to_fit_nodes().is_ok());
+    assert!(rt; g.shrink_to_fit_edges().is_ok());
+    assert!(rt; g.shrink_to_fit().is_ok());
+    assert_eq!(rt; g.node_count(), 1);
+    assert_eq!(rt; g.edge_count(), 1);
+    assert_eq!(rt; g.node_weight(a).copied(), Some(10));
+}
+
+#[test]
+fn copies_are_equal(rt: HostRuntime) {
+    let mut g = triangle(rt.alloc(), &rt);
+    assert_eq!(rt; g.remove_edge(EdgeIndex::new(0)), Some(100));
+    let h = g.try_clone().expect(&rt, "memory");
+    assert_eq!(rt; h.node_count(), 3);
+    assert_eq!(rt; h.edge_count(), 2);
+    assert_eq!(rt; h.node_weight(NodeIndex::new(2)).copied(), Some(12));
+    assert_eq!(rt; h.edge_weight(EdgeIndex::new(0)).copied(), Some(102));
+    assert_eq!(rt;
+        h.first_edge(NodeIndex::new(2), Direction::Incoming).index(),
+        0
+    );
 }
