@@ -12,3 +12,5 @@ pub mod RawLemmas
 pub mod CellLemmas
 pub mod PairLemmas
 mod CloneLemmas
+pub mod MappingLemmas
+pub mod FilterLemmas

@@ -150,3 +150,85 @@ fn copies_are_equal(rt: HostRuntime) {
         0
     );
 }
+
+#[test]
+fn weights_are_mapped(rt: HostRuntime) {
+    let g = triangle(rt.alloc(), &rt);
+    let mut calls = 0u32;
+    let h = g
+        .map(
+            |n, w| {
+                calls = calls.wrapping_add(1);
+                (n.index(), *w > 10)
+            },
+            |e, w| (e.index(), *w > 101),
+        )
+        .expect(&rt, "memory");
+    assert_eq!(rt; calls, 3);
+    assert_eq!(rt; h.node_count(), 3);
+    assert_eq!(rt; h.edge_count(), 3);
+    assert_eq!(rt; h.node_weight(NodeIndex::new(2)).copied(), Some((2, true)));
+    assert_eq!(rt; h.edge_weight(EdgeIndex::new(1)).copied(), Some((1, false)));
+    assert_eq!(rt;
+        h.first_edge(NodeIndex::new(2), Direction::Incoming).index(),
+        2
+    );
+}
+
+#[test]
+fn a_refused_map_calls_nothing(rt: HostRuntime) {
+    let mut g = DiGraph::<u32, u32, u8>::new(rt.alloc());
+    if !g.can_add_node() || g.add_node(1).is_err() {
+        return;
+    }
+    let mut calls = 0u32;
+    let mapped = g.map(
+        |_, w| {
+            calls = calls.wrapping_add(1);
+            *w
+        },
+        |_, w| *w,
+    );
+    match mapped {
+        Ok(_) => assert_eq!(rt; calls, 1),
+        Err(_) => assert_eq!(rt; calls, 0),
+    }
+}
+
+#[test]
+fn a_part_is_kept(rt: HostRuntime) {
+    let g = triangle(rt.alloc(), &rt);
+    let h = g
+        .filter_map(
+            |_, w| if *w == 10 { None } else { Some(*w) },
+            |_, w| Some(*w),
+        )
+        .expect(&rt, "memory");
+    assert_eq!(rt; h.node_count(), 2);
+    assert_eq!(rt; h.edge_count(), 1);
+    let a = NodeIndex::new(0);
+    let b = NodeIndex::new(1);
+    assert_eq!(rt; h.node_weight(a).copied(), Some(11));
+    assert_eq!(rt; h.node_weight(b).copied(), Some(12));
+    assert_eq!(rt; h.edge_weight(EdgeIndex::new(0)).copied(), Some(102));
+    assert_eq!(rt; found(&h, a, b), Some(0));
+}
+
+#[test]
+fn lists_of_a_part_go_by_index(rt: HostRuntime) {
+    let mut g = triangle(rt.alloc(), &rt);
+    assert_eq!(rt; g.remove_edge(EdgeIndex::new(0)), Some(100));
+    assert_eq!(rt;
+        g.first_edge(NodeIndex::new(2), Direction::Incoming).index(),
+        0
+    );
+    let h = g
+        .filter_map(|_, w| Some(*w), |_, w| Some(*w))
+        .expect(&rt, "memory");
+    assert_eq!(rt; h.node_count(), 3);
+    assert_eq!(rt; h.edge_weight(EdgeIndex::new(0)).copied(), Some(102));
+    assert_eq!(rt;
+        h.first_edge(NodeIndex::new(2), Direction::Incoming).index(),
+        1
+    );
+}
