@@ -14,3 +14,4 @@ pub mod PairLemmas
 mod CloneLemmas
 pub mod MappingLemmas
 pub mod FilterLemmas
+pub mod RestLemmas

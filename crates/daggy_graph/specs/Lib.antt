@@ -8,3 +8,6 @@ pub mod Mapping
 pub mod MappedCells
 pub mod Filtering
 pub mod Names
+pub mod Iterating
+pub mod Referring
+pub mod Rest

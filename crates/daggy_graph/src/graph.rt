@@ -12,7 +12,9 @@ ghost use Rattle.daggy_base.specs.declared.error.EdgeError.TheVariants.{Memory a
 mod copy;
 mod count;
 mod filter;
+pub mod iterators;
 mod links;
+pub mod lists;
 mod map;
 mod pairs;
 mod raw;

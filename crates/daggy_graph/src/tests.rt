@@ -232,3 +232,54 @@ fn lists_of_a_part_go_by_index(rt: HostRuntime) {
         1
     );
 }
+
+#[test]
+fn all_nodes_and_edges_are_gone_through(rt: HostRuntime) {
+    let g = triangle(rt.alloc(), &rt);
+    let mut seen = 0u32;
+    for w in g.node_weights() {
+        seen = seen.wrapping_mul(100).wrapping_add(*w);
+    }
+    assert_eq!(rt; seen, 101112);
+    assert_eq!(rt; g.edge_weights().copied().max(), Some(102));
+    assert_eq!(rt; g.node_identifiers().count(), 3);
+    let mut last = 0;
+    for (n, w) in g.node_references() {
+        if *w == 12 {
+            last = n.index();
+        }
+    }
+    assert_eq!(rt; last, 2);
+    let mut ends = 0usize;
+    for e in g.edge_references() {
+        let digits = e.id().index() * 100 + e.source().index() * 10 + e.target().index();
+        ends = ends.wrapping_mul(1000).wrapping_add(digits);
+    }
+    assert_eq!(rt; ends, 1102212);
+}
+
+#[test]
+fn lists_are_gone_through(rt: HostRuntime) {
+    let mut g = triangle(rt.alloc(), &rt);
+    let a = NodeIndex::new(0);
+    let c = NodeIndex::new(2);
+    let again = edge(&rt, &mut g, a, c, 103);
+    assert_eq!(rt; again.index(), 3);
+    let mut children = 0usize;
+    for n in g.neighbors(a) {
+        children = children.wrapping_mul(10).wrapping_add(n.index());
+    }
+    assert_eq!(rt; children, 221);
+    let mut parents = 0usize;
+    for n in g.neighbors_directed(c, Direction::Incoming) {
+        parents = parents.wrapping_mul(10).wrapping_add(n.index());
+    }
+    assert_eq!(rt; parents, 10);
+    assert_eq!(rt; g.edges(a).count(), 3);
+    let mut weights = 0u32;
+    for e in g.edges_directed(c, Direction::Incoming) {
+        weights = weights.wrapping_mul(1000).wrapping_add(*e.weight());
+    }
+    assert_eq!(rt; weights, 103102101);
+    assert_eq!(rt; g.neighbors(NodeIndex::new(9)).count(), 0);
+}

@@ -26,40 +26,40 @@ impl<N, E, Ix: IndexType> DiGraph<N, E, Ix> {
 
     /// Makes room for so many more nodes, and for some more than that, so that a later call seldom makes room again.
     ///
-    /// The error says that memory was refused, or that so much can never be had. The graph is as it was.
+    /// The error says that memory was refused, or that no machine can have so much. The graph is as it was.
     pub fn reserve_nodes(&mut self, additional: usize) -> Result<(), AllocError>
         ensures same { self.new ≡ self.old }
-        ensures fits { OnOk result (length self.new.graph.nodes + additional < 2 ^ 64) }
+        ensures fits { OnOk result (length self.new.graph.nodes + additional < 2 ^ 63) }
     {
         self.nodes.reserve(additional)
     }
 
     /// Makes room for so many more nodes.
     ///
-    /// The error says that memory was refused, or that so much can never be had. The graph is as it was.
+    /// The error says that memory was refused, or that no machine can have so much. The graph is as it was.
     pub fn reserve_exact_nodes(&mut self, additional: usize) -> Result<(), AllocError>
         ensures same { self.new ≡ self.old }
-        ensures fits { OnOk result (length self.new.graph.nodes + additional < 2 ^ 64) }
+        ensures fits { OnOk result (length self.new.graph.nodes + additional < 2 ^ 63) }
     {
         self.nodes.reserve_exact(additional)
     }
 
     /// Makes room for so many more edges, and for some more than that, so that a later call seldom makes room again.
     ///
-    /// The error says that memory was refused, or that so much can never be had. The graph is as it was.
+    /// The error says that memory was refused, or that no machine can have so much. The graph is as it was.
     pub fn reserve_edges(&mut self, additional: usize) -> Result<(), AllocError>
         ensures same { self.new ≡ self.old }
-        ensures fits { OnOk result (length self.new.graph.edges + additional < 2 ^ 64) }
+        ensures fits { OnOk result (length self.new.graph.edges + additional < 2 ^ 63) }
     {
         self.edges.reserve(additional)
     }
 
     /// Makes room for so many more edges.
     ///
-    /// The error says that memory was refused, or that so much can never be had. The graph is as it was.
+    /// The error says that memory was refused, or that no machine can have so much. The graph is as it was.
     pub fn reserve_exact_edges(&mut self, additional: usize) -> Result<(), AllocError>
         ensures same { self.new ≡ self.old }
-        ensures fits { OnOk result (length self.new.graph.edges + additional < 2 ^ 64) }
+        ensures fits { OnOk result (length self.new.graph.edges + additional < 2 ^ 63) }
     {
         self.edges.reserve_exact(additional)
     }
