@@ -15,3 +15,4 @@ mod CloneLemmas
 pub mod MappingLemmas
 pub mod FilterLemmas
 pub mod RestLemmas
+pub mod Keeping

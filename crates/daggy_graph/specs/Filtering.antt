@@ -1,8 +1,11 @@
 -- What keeping some of the nodes and edges makes of a graph: they are added again, one after another.
-use Rattle.std.specs.Prelude.{◌≡◌, ℕ, ◌+◌, Option, Some, None, List, [], ◌∷◌}
+use Rattle.std.specs.Prelude.{◌≡◌, ℕ, ◌+◌, Option, Some, None, List, [], ◌∷◌, map}
+use Rattle.std.specs.Option.{option_map}
 use Rattle.std.specs.Borrow.{Bor}
-use Rattle.daggy_base.specs.Graph.{Graph, Edge, empty, slot}
+use Rattle.daggy_base.specs.declared.index.Direction.{Direction}
+use Rattle.daggy_base.specs.Graph.{Graph, Edge, empty, slot, list_at, ends_of}
 use Rattle.daggy_base.specs.Adding.{with_node, with_edge, next_node}
+use Rattle.daggy_base.specs.Reduction.{IsDescending}
 use Rattle.daggy_graph.specs.Mapping.{CalledAt}
 
 module _ {V W : Type 0} where
@@ -58,3 +61,11 @@ module _ {N E V W F G I : Type 0} (of : ℕ → I) (step_f : F → I → Bor N �
     pub middle : Graph V W
     pub nodes : FiltersNodes step_f of f 0 old.nodes empty names middle
     pub edges : FiltersEdges step_g of names g 0 old.edges middle new
+
+-- each list has the edge with the greatest index first, and so on down
+abbrev pub ListsDescend : {N E : Type 0} → Graph N E → Type 0
+ListsDescend g = (dir : Direction) (n : ℕ) → IsDescending (list_at dir g n)
+
+-- the edges lead between the same nodes
+abbrev pub HaveSameEnds : {N E V W : Type 0} → Graph N E → Graph V W → Type 0
+HaveSameEnds old new = map (option_map ends_of) new.edges ≡ map (option_map ends_of) old.edges

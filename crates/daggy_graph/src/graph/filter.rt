@@ -2,7 +2,7 @@
 ghost use Rattle.std.specs.Prelude.{◌≡◌, ◌+◌, ◌<◌, ◌≤◌, [], ◌∷◌, ◌++◌, map, length, vec_len, vec_capacity, IfOk};
 ghost use Rattle.daggy_base.specs.Graph.{empty, slot};
 ghost use Rattle.daggy_graph.specs.Stored.{stored_graph, Stores, weight_of, plain_edge};
-ghost use Rattle.daggy_graph.specs.Filtering.{kept_node, named, kept_edge, both, FiltersNodes, FiltersEdges, IsFiltered};
+ghost use Rattle.daggy_graph.specs.Filtering.{kept_node, named, kept_edge, both, FiltersNodes, FiltersEdges, IsFiltered, ListsDescend, HaveSameEnds};
 ghost use Rattle.daggy_graph.specs.Names.{AreNamesBelow};
 
 use crate::graph::links::{put_edge, put_node};
@@ -158,6 +158,9 @@ impl<N, E, Ix: IndexType> DiGraph<N, E, Ix> {
         requires nodes { F.IsAlwaysCallable f }
         requires edges { G.IsAlwaysCallable g }
         ensures filtered { IfOk result (λ h. IsFiltered Ix.of F.step G.step f g self.now.graph h.graph) }
+        ensures descending { IfOk result (λ h. ListsDescend h.graph) }
+        ensures whole { IfOk result (λ h. length h.graph.nodes ≡ length self.now.graph.nodes
+            → length h.graph.edges ≡ length self.now.graph.edges → HaveSameEnds self.now.graph h.graph) }
         ensures looks { IfOk result (λ h. h.looks ≡ 0) }
     {
         let alloc = *self.nodes.allocator();

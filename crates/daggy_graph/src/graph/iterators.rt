@@ -113,7 +113,6 @@ pub struct NodeReferences<'a, N, Ix: IndexType = DefaultIx> {
 
 impl<'a, N, Ix: IndexType> Model for NodeReferences<'a, N, Ix> {
     ghost use Rattle.std.specs.Prelude.{ℕ, ◌+◌, ◌^◌, ◌<◌, ◌≤◌, List, map, length};
-    ghost use Rattle.daggy_graph.specs.Referring.{other_end};
     ghost use Rattle.daggy_graph.specs.Iterating.{numbered};
     ghost use Rattle.daggy_graph.specs.Stored.{weight_of};
 
@@ -219,7 +218,6 @@ pub struct EdgeReferences<'a, E, Ix: IndexType = DefaultIx> {
 impl<'a, E, Ix: IndexType> Model for EdgeReferences<'a, E, Ix> {
     ghost use Rattle.std.specs.Prelude.{ℕ, ◌+◌, ◌^◌, ◌<◌, ◌≤◌, List, map, length};
     ghost use Rattle.daggy_base.specs.Graph.{Edge as PlainEdge};
-    ghost use Rattle.daggy_graph.specs.Referring.{other_end};
     ghost use Rattle.daggy_graph.specs.Iterating.{numbered};
     ghost use Rattle.daggy_graph.specs.Stored.{plain_edge};
 
