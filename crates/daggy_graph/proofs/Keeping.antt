@@ -1,17 +1,15 @@
 -- What holds of a graph to which nodes and then edges were added again.
-use Rattle.std.proofs.Common.{◌≡◌, ℕ, zero, suc, ◌+◌, ◌<◌, ◌≤◌, List, [], ◌∷◌, ◌++◌, map, length, Option, Some, None, slice_get, slice_set, unwrap_or, refl, sym, ap, subst, ◌∙◌, arith, append_assoc, append-nil}
-use Rattle.std.proofs.lemmas.List.{length_push, length-map, map_push}
+use Rattle.std.proofs.Common.{◌≡◌, ℕ, zero, suc, ◌+◌, ◌≤◌, List, [], ◌∷◌, ◌++◌, map, length, Option, Some, None, slice_get, slice_set, unwrap_or, refl, sym, ap, subst, ◌∙◌, arith, append_assoc, append-nil}
+use Rattle.std.proofs.lemmas.List.{length_push, map_push}
 use Rattle.std.proofs.lemmas.Option.{same_Some, none-some}
 use Rattle.std.specs.Borrow.{Bor}
 use Rattle.std.specs.List.{range_with_len}
 use Rattle.std.specs.Option.{option_map}
-use Rattle.daggy_base.specs.declared.index.Direction.{Direction}
 use Rattle.daggy_base.specs.declared.index.Direction.TheVariants.{Outgoing, Incoming}
-use Rattle.daggy_base.specs.Graph.{Graph, Edge, empty, slot, list_at, ends_of}
+use Rattle.daggy_base.specs.Graph.{Graph, Edge, empty, slot, ends_of}
 use Rattle.daggy_base.specs.Adding.{with_node, with_edge, next_node}
 use Rattle.daggy_base.specs.Reduction.{IsDescending}
-use Rattle.daggy_graph.specs.Mapping.{CalledAt}
-use Rattle.daggy_graph.specs.Filtering.{kept_node, named, kept_edge, both, new_ends, FiltersNodes, FiltersEdge, FiltersEdges, IsFiltered, ListsDescend, HaveSameEnds}
+use Rattle.daggy_graph.specs.Filtering.{kept_node, kept_edge, new_ends, FiltersNodes, FiltersEdge, FiltersEdges, IsFiltered, ListsDescend, HaveSameEnds}
 use Rattle.daggy_graph.proofs.FilterLemmas.{both_are}
 
 -- lists that descend from below k
