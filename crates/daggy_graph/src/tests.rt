@@ -120,6 +120,7 @@ fn room_is_made(rt: HostRuntime) {
     let mut g = DiGraph::with_capacity(rt.alloc(), 4, 4).expect(&rt, "memory");
     let a = node(&rt, &mut g, 10);
     let _aa = edge(&rt, &mut g, a, a, 100);
+    assert!(rt; DiGraph::<u32, u32, u8>::with_capacity(rt.alloc(), usize::MAX, 0).is_err());
     assert!(rt; g.reserve_nodes(usize::MAX).is_err());
     assert!(rt; g.reserve_exact_nodes(usize::MAX).is_err());
     assert!(rt; g.reserve_edges(usize::MAX).is_err());

@@ -10,12 +10,15 @@ use std::alloc::{AllocError, Global};
 impl<N, E, Ix: IndexType> DiGraph<N, E, Ix> {
     /// A graph with no node and no edge, and with memory for so many of each.
     ///
-    /// The error says that this memory was refused. The count of nodes and edges may still grow past these numbers.
+    /// The error says that memory was refused, or that no machine can have so much. There may later be more nodes and
+    /// edges than that.
     pub fn with_capacity(alloc: Global, nodes: usize, edges: usize) -> Result<Self, AllocError>
     where
         N: Drop,
         E: Drop,
-        ensures { IfOk result (λ g. g ≡ record { graph = empty; looks = 0 }) }
+        ensures value { IfOk result (λ g. g ≡ record { graph = empty; looks = 0 }) }
+        ensures nodes_fit { OnOk result (nodes < 2 ^ 63) }
+        ensures edges_fit { OnOk result (edges < 2 ^ 63) }
     {
         Ok(DiGraph {
             nodes: Vec::with_capacity(alloc, nodes)?,
