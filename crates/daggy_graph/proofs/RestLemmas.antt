@@ -74,14 +74,6 @@ module _ {E Ix : Type 0} (end : ℕ) (dir : Direction) (edges : List (Edge E Ix)
       let reads : slice_get edges e ≡ Some x = slice_get_read edges (length edges) e x refl within is in
       ap (filter_map h) (step_on e x within is s).0 ∙ rw reads refl
 
-  -- the same, where each part of what is shown was read by itself
-  pub edges_shown : (e id source target next : ℕ) (w : E) (x : Edge E Ix) → e < length edges → x ≡ get_or edges e x → IsOnRow end dir edges e → id ≡ e → source ≡ x.parent → target ≡ x.child → w ≡ x.weight → next ≡ raw_next dir x
-      → edges_left dir edges e ≡ (id, record { parent = source; child = target; weight = w }) ∷ edges_left dir edges next
-  edges_shown e id source target next w x within is s id_is source_is target_is w_is next_is =
-      let made : ℕ → ℕ → ℕ → E → ℕ → List (ℕ × PlainEdge E) = λ i a b v n. (i, record { parent = a; child = b; weight = v }) ∷ edges_left dir edges n in
-      edges_step e x within is s
-      ∙ sym (ap (λ i. made i source target w next) id_is ∙ ap (λ a. made e a target w next) source_is ∙ ap (λ b. made e x.parent b w next) target_is ∙ ap (λ v. made e x.parent x.child v next) w_is ∙ ap (made e x.parent x.child x.weight) next_is)
-
 same_edge : {E Ix : Type 0} (edges : List (Edge E Ix)) (j i : ℕ) → option_map (λ x. at_index j (plain x)) (slice_get edges i) ≡ option_map (λ x. at_index j x) (slot (map plain_edge edges) i)
 same_edge [] j i = refl
 same_edge (y ∷ ys) j zero = refl

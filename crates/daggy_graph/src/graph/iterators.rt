@@ -1,11 +1,12 @@
 //! Going over all nodes, or over all edges.
 ghost use Rattle.std.specs.Prelude.{◌≡◌, ◌<◌, ◌^◌, length};
 ghost use Rattle.std.specs.Iterator.{YieldsFirstRef, YieldsFirstBy, item_count};
-ghost use Rattle.daggy_graph.specs.Referring.{other_end};
+ghost use Rattle.daggy_graph.specs.Referring.{referred};
+ghost use Rattle.daggy_graph.specs.Stored.{plain};
 ghost use Rattle.daggy_graph.specs.Iterating.{node_weights as node_weights_of, edge_weights as edge_weights_of, node_identifiers as node_identifiers_of, node_references as node_references_of, edge_references as edge_references_of};
 
 use crate::graph::{DiGraph, Edge, Node};
-use daggy_base::index::{DefaultIx, Direction, EdgeIndex, IndexType, NodeIndex};
+use daggy_base::index::{DefaultIx, EdgeIndex, IndexType, NodeIndex};
 use daggy_base::link::Link;
 use std::alloc::AllocError;
 use std::marker::Model;
@@ -142,19 +143,32 @@ impl<'a, N, Ix: IndexType> Iterator for NodeReferences<'a, N, Ix> {
 
 /// An edge of a graph: its index, its ends and its weight.
 pub struct EdgeReference<'a, E, Ix = DefaultIx> {
-    pub(super) id: EdgeIndex<Ix>,
-    pub(super) source: NodeIndex<Ix>,
-    pub(super) target: NodeIndex<Ix>,
-    pub(super) weight: &'a E,
+    // No typed index stands here, so that a function can take a reference by value.
+    id: Ix,
+    source: Ix,
+    target: Ix,
+    weight: &'a E,
 }
 
 impl<'a, E, Ix: IndexType> EdgeReference<'a, E, Ix> {
+    #[inline]
+    pub(super) fn new(e: Link<Ix>, x: &'a Edge<E, Ix>) -> Self
+        ensures { referred Ix.number result ≡ (e, plain x.now) }
+    {
+        EdgeReference {
+            id: Ix::new(e.index()),
+            source: Ix::new(x.parent.index()),
+            target: Ix::new(x.child.index()),
+            weight: &x.weight,
+        }
+    }
+
     /// The index of the edge.
     #[inline]
     pub fn id(&self) -> EdgeIndex<Ix>
         ensures { result ≡ self.now.id }
     {
-        self.id
+        EdgeIndex::new(self.id.index())
     }
 
     /// The node that the edge leaves, whichever list it was found in.
@@ -162,7 +176,7 @@ impl<'a, E, Ix: IndexType> EdgeReference<'a, E, Ix> {
     pub fn source(&self) -> NodeIndex<Ix>
         ensures { result ≡ self.now.source }
     {
-        self.source
+        NodeIndex::new(self.source.index())
     }
 
     /// The node that the edge enters.
@@ -170,18 +184,7 @@ impl<'a, E, Ix: IndexType> EdgeReference<'a, E, Ix> {
     pub fn target(&self) -> NodeIndex<Ix>
         ensures { result ≡ self.now.target }
     {
-        self.target
-    }
-
-    // The end that is not the one in whose list of that direction the edge stands.
-    #[inline]
-    pub(super) fn far_end(&self, dir: Direction) -> NodeIndex<Ix>
-        ensures { result ≡ other_end dir self.now }
-    {
-        match dir {
-            Direction::Outgoing => self.target,
-            Direction::Incoming => self.source,
-        }
+        NodeIndex::new(self.target.index())
     }
 
     /// The weight of the edge, which can be kept for as long as the graph is lent.
@@ -240,15 +243,10 @@ impl<'a, E, Ix: IndexType> Iterator for EdgeReferences<'a, E, Ix> {
     #[inline]
     fn next(&mut self) -> Option<EdgeReference<'a, E, Ix>> {
         let (x, rest) = self.edges.split_first()?;
-        let id = EdgeIndex::new(self.index);
+        let e = Link::new(self.index);
         self.edges = rest;
         self.index += 1;
-        Some(EdgeReference {
-            id,
-            source: x.parent.node(),
-            target: x.child.node(),
-            weight: &x.weight,
-        })
+        Some(EdgeReference::new(e, x))
     }
 }
 

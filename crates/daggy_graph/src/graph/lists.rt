@@ -48,12 +48,7 @@ impl<'a, E, Ix: IndexType> Iterator for Edges<'a, E, Ix> {
         }
         let x = &self.edges[i];
         self.next = x.next(self.dir);
-        Some(EdgeReference {
-            id: e.edge(),
-            source: x.parent.node(),
-            target: x.child.node(),
-            weight: &x.weight,
-        })
+        Some(EdgeReference::new(e, x))
     }
 }
 
@@ -82,9 +77,10 @@ impl<'a, E, Ix: IndexType> Iterator for Neighbors<'a, E, Ix> {
 
     #[inline]
     fn next(&mut self) -> Option<NodeIndex<Ix>> {
-        match self.edges.next() {
-            Some(x) => Some(x.far_end(self.dir)),
-            None => None,
+        let x = self.edges.next()?;
+        match self.dir {
+            Direction::Outgoing => Some(x.target()),
+            Direction::Incoming => Some(x.source()),
         }
     }
 }
