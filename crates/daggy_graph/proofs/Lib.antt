@@ -11,3 +11,8 @@ pub mod Clearing
 pub mod RawLemmas
 pub mod CellLemmas
 pub mod PairLemmas
+mod CloneLemmas
+pub mod MappingLemmas
+pub mod FilterLemmas
+pub mod RestLemmas
+pub mod Keeping

@@ -230,3 +230,9 @@ Stores-edge_weight {N} {E} {Ix} end nodes edges g s e w x within is =
       few_nodes = s.few_nodes;
       few_edges = omega (arith, s.few_edges, length-set edges e (record x { weight = w }));
     }
+
+-- the graph with one more edge, in other words
+pub added_same : {N E Ix : Type 0} (nodes : List (Node N Ix)) (edges edges' : List (Edge E Ix)) (p q a b : ℕ) (w : E) → edges' ≡ edges → p ≡ a → q ≡ b
+    → with_edge (stored_graph nodes edges') p q w ≡ with_edge (stored_graph nodes edges) a b w
+added_same nodes edges edges' p q a b w same p_is q_is =
+    ap (λ l. with_edge (stored_graph nodes l) p q w) same ∙ ap (λ u. with_edge (stored_graph nodes edges) u q w) p_is ∙ ap (λ v. with_edge (stored_graph nodes edges) a v w) q_is

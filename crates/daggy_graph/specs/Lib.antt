@@ -4,3 +4,10 @@ pub mod Stored
 pub mod Lends
 pub mod Calls
 pub mod Cells
+pub mod Mapping
+pub mod MappedCells
+pub mod Filtering
+pub mod Names
+pub mod Iterating
+pub mod Referring
+pub mod Rest

@@ -9,17 +9,24 @@ ghost use Rattle.daggy_base.specs.State.{with_graph};
 ghost use Rattle.daggy_base.specs.declared.error.NodeError.TheVariants.{Memory as NodeMemory};
 ghost use Rattle.daggy_base.specs.declared.error.EdgeError.TheVariants.{Memory as EdgeMemory};
 
+mod copy;
 mod count;
 mod elements;
+mod filter;
+pub mod iterators;
 mod links;
+pub mod lists;
+mod map;
 mod pairs;
 mod raw;
 mod removal;
+mod room;
 mod source;
 mod weights;
 
 pub use elements::{Element, IntoWeightedEdge};
 
+use crate::graph::links::{put_edge, put_node};
 use daggy_base::error::{EdgeError, NodeError};
 use daggy_base::index::{DefaultIx, Direction, EdgeIndex, IndexType, NodeIndex};
 use daggy_base::link::Link;
@@ -28,7 +35,7 @@ use std::alloc::Global;
 use std::marker::Model;
 
 /// A node as it is stored: its weight, and the first edge of each of its lists.
-#[derive(Drop)]
+#[derive(Clone, Drop)]
 pub struct Node<N, Ix: IndexType = DefaultIx> {
     /// The weight of the node.
     pub weight: N,
@@ -37,7 +44,7 @@ pub struct Node<N, Ix: IndexType = DefaultIx> {
 }
 
 /// An edge as it is stored: its weight, its ends, and the edge after it in each of its lists.
-#[derive(Drop)]
+#[derive(Clone, Drop)]
 pub struct Edge<E, Ix: IndexType = DefaultIx> {
     /// The weight of the edge.
     pub weight: E,
@@ -116,13 +123,8 @@ impl<N, E, Ix: IndexType> DiGraph<N, E, Ix> {
         if self.nodes.reserve(1).is_err() {
             return Err(NodeError::Memory(weight));
         }
-        let n = NodeIndex::new(self.nodes.len());
-        self.nodes.push_reserved(Node {
-            weight,
-            first_out: Link::end(),
-            first_in: Link::end(),
-        });
-        Ok(n)
+        let n = put_node(&mut self.nodes, &self.edges, weight);
+        Ok(n.node())
     }
 
     /// Adds an edge from `a` to `b`, whose index is the number of edges before. It is then the first edge that leaves
@@ -148,20 +150,13 @@ impl<N, E, Ix: IndexType> DiGraph<N, E, Ix> {
         if self.edges.reserve(1).is_err() {
             return Err(EdgeError::Memory(weight));
         }
-        let e = Link::new(self.edges.len());
-        let u = a.index();
-        let v = b.index();
-        let next_out = self.nodes[u].first_out;
-        let next_in = self.nodes[v].first_in;
-        self.edges.push_reserved(Edge {
+        let e = put_edge(
+            &mut self.nodes,
+            &mut self.edges,
+            Link::of_node(a),
+            Link::of_node(b),
             weight,
-            parent: Link::of_node(a),
-            child: Link::of_node(b),
-            next_out,
-            next_in,
-        });
-        self.nodes[u].first_out = e;
-        self.nodes[v].first_in = e;
+        );
         Ok(e.edge())
     }
 

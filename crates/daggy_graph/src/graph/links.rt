@@ -1,6 +1,7 @@
 //! Changes to the links between nodes and edges.
-ghost use Rattle.std.specs.Prelude.{◌≡◌, ◌≢◌, ℕ, ◌-◌, ◌<◌, ◌≤◌, ◌↔◌, length, map, slice_get, Contains, Some};
+ghost use Rattle.std.specs.Prelude.{◌≡◌, ◌≢◌, ℕ, ◌+◌, ◌-◌, ◌<◌, ◌≤◌, ◌↔◌, length, map, slice_get, Contains, Some, vec_len, vec_capacity};
 ghost use Rattle.daggy_base.specs.declared.index.Direction.TheVariants.{Outgoing, Incoming};
+ghost use Rattle.daggy_base.specs.Adding.{with_node, with_edge};
 ghost use Rattle.daggy_base.specs.Cursor.{after};
 ghost use Rattle.daggy_graph.specs.Links.{IsRow};
 ghost use Rattle.daggy_graph.specs.Raw.{raw_first, raw_next};
@@ -72,6 +73,68 @@ impl<E, Ix: IndexType> Edge<E, Ix> {
             Direction::Incoming => self.next_in = e,
         }
     }
+}
+
+// Adds a node, in the room that it has.
+#[inline]
+pub(super) fn put_node<N, E, Ix: IndexType>(
+    nodes: &mut Vec<Node<N, Ix>>,
+    edges: &Vec<Edge<E, Ix>>,
+    weight: N,
+) -> Link<Ix>
+    requires stored { Stores Ix.greatest nodes.old.items edges.now.items (stored_graph nodes.old.items edges.now.items) }
+    requires left { length nodes.old.items < Ix.greatest }
+    requires room { vec_len nodes.old < vec_capacity nodes.old }
+    ensures index { result ≡ length nodes.old.items }
+    ensures stored { Stores Ix.greatest nodes.new.items edges.now.items (with_node (stored_graph nodes.old.items edges.now.items) weight) }
+    ensures len { length nodes.new.items ≡ length nodes.old.items + 1 }
+    ensures capacity { vec_capacity nodes.new ≡ vec_capacity nodes.old }
+{
+    let _edges = edges;
+    let n = Link::new(nodes.len());
+    nodes.push_reserved(Node {
+        weight,
+        first_out: Link::end(),
+        first_in: Link::end(),
+    });
+    n
+}
+
+// Adds an edge from a to b, in the room that it has.
+#[inline]
+pub(super) fn put_edge<N, E, Ix: IndexType>(
+    nodes: &mut Vec<Node<N, Ix>>,
+    edges: &mut Vec<Edge<E, Ix>>,
+    a: Link<Ix>,
+    b: Link<Ix>,
+    weight: E,
+) -> Link<Ix>
+    requires stored { Stores Ix.greatest nodes.old.items edges.old.items (stored_graph nodes.old.items edges.old.items) }
+    requires parent { a < length nodes.old.items }
+    requires child { b < length nodes.old.items }
+    requires left { length edges.old.items < Ix.greatest }
+    requires room { vec_len edges.old < vec_capacity edges.old }
+    ensures index { result ≡ length edges.old.items }
+    ensures stored { Stores Ix.greatest nodes.new.items edges.new.items (with_edge (stored_graph nodes.old.items edges.old.items) a b weight) }
+    ensures len { length edges.new.items ≡ length edges.old.items + 1 }
+    ensures nodes { length nodes.new.items ≡ length nodes.old.items }
+    ensures capacity { vec_capacity edges.new ≡ vec_capacity edges.old }
+{
+    let e = Link::new(edges.len());
+    let u = a.index();
+    let v = b.index();
+    let next_out = nodes[u].first_out;
+    let next_in = nodes[v].first_in;
+    edges.push_reserved(Edge {
+        weight,
+        parent: a,
+        child: b,
+        next_out,
+        next_in,
+    });
+    nodes[u].first_out = e;
+    nodes[v].first_in = e;
+    e
 }
 
 // The edge before `old` in the row that begins with `first`.

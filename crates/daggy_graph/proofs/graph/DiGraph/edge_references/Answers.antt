@@ -1,0 +1,7 @@
+use Rattle.std.proofs.Common.{arith}
+use Rattle.daggy_graph.specs.Stored.{plain}
+use Rattle.daggy_graph.proofs.RestLemmas.{length-numbered}
+use Rattle.daggy_graph.proofs.graph.DiGraph.edge_references.Goals as goal
+
+pub returns-clause-fits : goal.returns-clause-fits
+returns-clause-fits g c = omega (arith, length-numbered plain 0 c.as_slice.result.now, c.as_slice.ensures.len)

@@ -1,0 +1,6 @@
+use Rattle.std.proofs.Common.{arith}
+use Rattle.daggy_graph.proofs.RestLemmas.{length-numbered}
+use Rattle.daggy_graph.proofs.graph.DiGraph.node_references.Goals as goal
+
+pub returns-clause-fits : goal.returns-clause-fits
+returns-clause-fits g c = omega (arith, length-numbered (λ x. x.weight) 0 c.as_slice.result.now, c.as_slice.ensures.len)

@@ -1,0 +1,10 @@
+use Rattle.std.proofs.Common.{◌≤◌, length, vec_capacity}
+use Rattle.daggy_graph.specs.MappedCells.{edge_weight_in, edge_with}
+use Rattle.daggy_graph.proofs.MappingLemmas.{MappedBelow}
+use Rattle.daggy_graph.proofs.graph.map.map_edges.Given as goal
+
+abbrev pub invariant-each : goal.invariant-each
+invariant-each g l =
+    goal.G-IsAlwaysCallable g l.g
+    × (length l.edges ≤ vec_capacity l.new)
+    × MappedBelow (goal.G-step g) g.Ix.IndexType.of edge_weight_in edge_with l.fn.g l.edges l.g l.new.items l.i

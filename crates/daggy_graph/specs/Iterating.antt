@@ -1,0 +1,36 @@
+-- What iterators over a graph give.
+use Rattle.std.specs.Prelude.{ℕ, ◌+◌, Option, Some, None, List, [], ◌∷◌, map}
+use Rattle.std.specs.List.{filter_map}
+use Rattle.std.specs.Option.{option_map}
+use Rattle.daggy_base.specs.declared.index.Direction.{Direction}
+use Rattle.daggy_base.specs.Graph.{Graph, Edge, edge_at, list_at, far_end}
+
+-- what the slots hold that are not vacant, each with its index, by ascending index from i on
+abbrev pub numbered : {A : Type 0} → ℕ → List (Option A) → List (ℕ × A)
+numbered i [] = []
+numbered i (None ∷ xs) = numbered (i + 1) xs
+numbered i (Some x ∷ xs) = (i, x) ∷ numbered (i + 1) xs
+
+-- the nodes and the edges, each with its index, by ascending index
+abbrev pub node_references : {N E : Type 0} → Graph N E → List (ℕ × N)
+node_references g = numbered 0 g.nodes
+
+abbrev pub edge_references : {N E : Type 0} → Graph N E → List (ℕ × Edge E)
+edge_references g = numbered 0 g.edges
+
+abbrev pub node_identifiers : {N E : Type 0} → Graph N E → List ℕ
+node_identifiers g = map (λ p. p.0) (node_references g)
+
+abbrev pub node_weights : {N E : Type 0} → Graph N E → List N
+node_weights g = map (λ p. p.1) (node_references g)
+
+abbrev pub edge_weights : {N E : Type 0} → Graph N E → List E
+edge_weights g = map (λ p. p.1.weight) (edge_references g)
+
+-- the edges of n's list of that direction, each with its index, in the order of the list
+abbrev pub edges_at : {N E : Type 0} → Direction → Graph N E → ℕ → List (ℕ × Edge E)
+edges_at dir g n = filter_map (λ e. option_map (λ x. (e, x)) (edge_at g e)) (list_at dir g n)
+
+-- their far ends
+abbrev pub neighbors_at : {N E : Type 0} → Direction → Graph N E → ℕ → List ℕ
+neighbors_at dir g n = map (λ p. far_end dir p.1) (edges_at dir g n)

@@ -1,0 +1,27 @@
+//! A copy of a graph.
+ghost use Rattle.std.specs.Prelude.{◌≡◌, IfOk};
+
+use crate::graph::DiGraph;
+use daggy_base::index::IndexType;
+use daggy_base::search::Looks;
+use std::alloc::AllocError;
+
+impl<N, E, Ix: IndexType> DiGraph<N, E, Ix> {
+    /// A graph with the same nodes and edges under the same indices, and in the same lists.
+    ///
+    /// The error says that memory for it was refused. The cost grows with the number of nodes and edges.
+    pub fn try_clone(&self) -> Result<Self, AllocError>
+    where
+        N: Clone + Drop,
+        E: Clone + Drop,
+        requires nodes { (x y : N) → N.is_clone x y → y ≡ x }
+        requires edges { (x y : E) → E.is_clone x y → y ≡ x }
+        ensures { IfOk result (λ g. g ≡ record { graph = self.now.graph; looks = 0 }) }
+    {
+        Ok(DiGraph {
+            nodes: self.nodes.clone()?,
+            edges: self.edges.clone()?,
+            looks: Looks::new(),
+        })
+    }
+}

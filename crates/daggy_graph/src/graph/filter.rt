@@ -1,0 +1,178 @@
+//! The part of a graph that closures keep.
+ghost use Rattle.std.specs.Prelude.{◌≡◌, ◌+◌, ◌<◌, ◌≤◌, [], ◌∷◌, ◌++◌, map, length, vec_len, vec_capacity, IfOk};
+ghost use Rattle.daggy_base.specs.Graph.{empty, slot};
+ghost use Rattle.daggy_graph.specs.Stored.{stored_graph, Stores, weight_of, plain_edge};
+ghost use Rattle.daggy_graph.specs.Filtering.{kept_node, named, kept_edge, both, FiltersNodes, FiltersEdges, IsFiltered, ListsDescend, HaveSameEnds};
+ghost use Rattle.daggy_graph.specs.Names.{AreNamesBelow};
+
+use crate::graph::links::{put_edge, put_node};
+use crate::graph::{DiGraph, Edge, Node};
+use daggy_base::index::{EdgeIndex, IndexType, NodeIndex};
+use daggy_base::link::Link;
+use daggy_base::search::Looks;
+use std::alloc::AllocError;
+
+// Adds the node if there is a weight for it, and notes its new index.
+fn keep_node<N, E, Ix: IndexType>(
+    nodes: &mut Vec<Node<N, Ix>>,
+    edges: &Vec<Edge<E, Ix>>,
+    names: &mut Vec<Option<Link<Ix>>>,
+    answer: Option<N>,
+)
+    requires stored { Stores Ix.greatest nodes.old.items edges.now.items (stored_graph nodes.old.items edges.now.items) }
+    requires left { length nodes.old.items < Ix.greatest }
+    requires room { vec_len nodes.old < vec_capacity nodes.old }
+    requires room_for_name { vec_len names.old < vec_capacity names.old }
+    ensures stored { Stores Ix.greatest nodes.new.items edges.now.items (kept_node (stored_graph nodes.old.items edges.now.items) answer) }
+    ensures names { names.new.items ≡ names.old.items ++ named (stored_graph nodes.old.items edges.now.items) answer ∷ [] }
+    ensures len { length nodes.new.items ≤ length nodes.old.items + 1 }
+    ensures below { AreNamesBelow (length nodes.old.items) names.old.items → AreNamesBelow (length nodes.new.items) names.new.items }
+    ensures capacity { vec_capacity nodes.new ≡ vec_capacity nodes.old }
+    ensures capacity_for_names { vec_capacity names.new ≡ vec_capacity names.old }
+{
+    match answer {
+        Some(weight) => {
+            let n = put_node(nodes, edges, weight);
+            names.push_reserved(Some(n));
+        }
+        None => names.push_reserved(None),
+    }
+}
+
+// Adds the nodes that f keeps, in the room that they have.
+fn filter_nodes<N, V, W, Ix: IndexType, F: FnMut(NodeIndex<Ix>, &N) -> Option<V>>(
+    nodes: &[Node<N, Ix>],
+    new: &mut Vec<Node<V, Ix>>,
+    edges: &Vec<Edge<W, Ix>>,
+    names: &mut Vec<Option<Link<Ix>>>,
+    mut f: F,
+)
+    requires callable { F.IsAlwaysCallable f }
+    requires few { length nodes.now ≤ Ix.greatest }
+    requires room { length nodes.now ≤ vec_capacity new.old }
+    requires room_for_names { length nodes.now ≤ vec_capacity names.old }
+    requires empty { new.old.items ≡ [] }
+    requires no_names { names.old.items ≡ [] }
+    requires no_edges { edges.now.items ≡ [] }
+    ensures stored { Stores Ix.greatest new.new.items edges.now.items (stored_graph new.new.items edges.now.items) }
+    ensures below { AreNamesBelow (length new.new.items) names.new.items }
+    ensures filtered { FiltersNodes F.step Ix.of f 0 (map weight_of nodes.now) empty names.new.items (stored_graph new.new.items edges.now.items) }
+{
+    'each: for i in 0..nodes.len() {
+        let x = &nodes[i];
+        let answer = f(NodeIndex::new(i), &x.weight);
+        keep_node(new, edges, names, answer);
+    }
+}
+
+#[inline]
+fn name_of<Ix: IndexType>(names: &Vec<Option<Link<Ix>>>, n: Link<Ix>) -> Option<Link<Ix>>
+    ensures { result ≡ slot names.now.items n }
+{
+    match names.get(n.index()) {
+        Some(name) => *name,
+        None => None,
+    }
+}
+
+// The new ends of an edge, if both stayed.
+#[inline]
+fn kept_ends<E, Ix: IndexType>(
+    names: &Vec<Option<Link<Ix>>>,
+    x: &Edge<E, Ix>,
+) -> Option<(Link<Ix>, Link<Ix>)>
+    ensures { result ≡ both (slot names.now.items x.now.parent) (slot names.now.items x.now.child) }
+{
+    match (name_of(names, x.parent), name_of(names, x.child)) {
+        (Some(a), Some(b)) => Some((a, b)),
+        _ => None,
+    }
+}
+
+// Adds the edge if there is a weight for it.
+fn keep_edge<N, E, Ix: IndexType>(
+    nodes: &mut Vec<Node<N, Ix>>,
+    edges: &mut Vec<Edge<E, Ix>>,
+    ends: (Link<Ix>, Link<Ix>),
+    answer: Option<E>,
+)
+    requires stored { Stores Ix.greatest nodes.old.items edges.old.items (stored_graph nodes.old.items edges.old.items) }
+    requires parent { ends.0 < length nodes.old.items }
+    requires child { ends.1 < length nodes.old.items }
+    requires left { length edges.old.items < Ix.greatest }
+    requires room { vec_len edges.old < vec_capacity edges.old }
+    ensures stored { Stores Ix.greatest nodes.new.items edges.new.items (kept_edge (stored_graph nodes.old.items edges.old.items) ends answer) }
+    ensures len { length edges.new.items ≤ length edges.old.items + 1 }
+    ensures nodes { length nodes.new.items ≡ length nodes.old.items }
+    ensures capacity { vec_capacity edges.new ≡ vec_capacity edges.old }
+{
+    if let Some(weight) = answer {
+        let _e = put_edge(nodes, edges, ends.0, ends.1, weight);
+    }
+}
+
+// Adds the edges that g keeps of those whose ends both stayed, in the room that they have.
+fn filter_edges<N, E, W, Ix: IndexType, G: FnMut(EdgeIndex<Ix>, &E) -> Option<W>>(
+    edges: &[Edge<E, Ix>],
+    names: &Vec<Option<Link<Ix>>>,
+    nodes: &mut Vec<Node<N, Ix>>,
+    new: &mut Vec<Edge<W, Ix>>,
+    mut g: G,
+)
+    requires callable { G.IsAlwaysCallable g }
+    requires few { length edges.now ≤ Ix.greatest }
+    requires room { length edges.now ≤ vec_capacity new.old }
+    requires empty { new.old.items ≡ [] }
+    requires below { AreNamesBelow (length nodes.old.items) names.now.items }
+    requires stored { Stores Ix.greatest nodes.old.items new.old.items (stored_graph nodes.old.items new.old.items) }
+    ensures stored { Stores Ix.greatest nodes.new.items new.new.items (stored_graph nodes.new.items new.new.items) }
+    ensures filtered { FiltersEdges G.step Ix.of names.now.items g 0 (map plain_edge edges.now) (stored_graph nodes.old.items new.old.items) (stored_graph nodes.new.items new.new.items) }
+{
+    'each: for i in 0..edges.len() {
+        let x = &edges[i];
+        let ends = match kept_ends(names, x) {
+            Some(ends) => ends,
+            None => continue,
+        };
+        let answer = g(EdgeIndex::new(i), &x.weight);
+        keep_edge(nodes, new, ends, answer);
+    }
+}
+
+impl<N, E, Ix: IndexType> DiGraph<N, E, Ix> {
+    /// A graph of the nodes and edges that the closures give a weight for: `f` is called with each node by ascending
+    /// index, and then `g` with each edge whose ends both stayed.
+    ///
+    /// The nodes that stay keep their order and get new indices from 0 on. The edges that stay are added again by
+    /// ascending index, so each list has the edge with the greatest index first. Where nothing is left out, each node
+    /// and edge keeps its index.
+    ///
+    /// The error says that memory for it was refused. Then no closure was called. The cost grows with the number of
+    /// nodes and edges, besides that of the calls.
+    pub fn filter_map<
+        N2: Drop,
+        E2: Drop,
+        F: FnMut(NodeIndex<Ix>, &N) -> Option<N2>,
+        G: FnMut(EdgeIndex<Ix>, &E) -> Option<E2>,
+    >(&self, f: F, g: G) -> Result<DiGraph<N2, E2, Ix>, AllocError>
+        requires nodes { F.IsAlwaysCallable f }
+        requires edges { G.IsAlwaysCallable g }
+        ensures filtered { IfOk result (λ h. IsFiltered Ix.of F.step G.step f g self.now.graph h.graph) }
+        ensures descending { IfOk result (λ h. ListsDescend h.graph) }
+        ensures whole { IfOk result (λ h. length h.graph.nodes ≡ length self.now.graph.nodes
+            → length h.graph.edges ≡ length self.now.graph.edges → HaveSameEnds self.now.graph h.graph) }
+        ensures looks { IfOk result (λ h. h.looks ≡ 0) }
+    {
+        let alloc = *self.nodes.allocator();
+        let mut nodes = Vec::with_capacity(alloc, self.nodes.len())?;
+        let mut edges = Vec::with_capacity(alloc, self.edges.len())?;
+        let mut names = Vec::with_capacity(alloc, self.nodes.len())?;
+        filter_nodes(self.nodes.as_slice(), &mut nodes, &edges, &mut names, f);
+        filter_edges(self.edges.as_slice(), &names, &mut nodes, &mut edges, g);
+        Ok(DiGraph {
+            nodes,
+            edges,
+            looks: Looks::new(),
+        })
+    }
+}

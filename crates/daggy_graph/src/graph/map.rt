@@ -1,0 +1,87 @@
+//! The same graph with other weights.
+ghost use Rattle.std.specs.Prelude.{◌≡◌, ◌≤◌, [], length, vec_capacity, IfOk};
+ghost use Rattle.daggy_graph.specs.Mapping.{IsMapped};
+ghost use Rattle.daggy_graph.specs.MappedCells.{MapsCells, node_weight_in, node_with, edge_weight_in, edge_with};
+
+use crate::graph::{DiGraph, Edge, Node};
+use daggy_base::index::{EdgeIndex, IndexType, NodeIndex};
+use daggy_base::search::Looks;
+use std::alloc::AllocError;
+
+// Makes the nodes of the new graph, in the room that they have.
+fn map_nodes<N, V, Ix: IndexType, F: FnMut(NodeIndex<Ix>, &N) -> V>(
+    nodes: &[Node<N, Ix>],
+    new: &mut Vec<Node<V, Ix>>,
+    mut f: F,
+)
+    requires callable { F.IsAlwaysCallable f }
+    requires few { length nodes.now ≤ Ix.greatest }
+    requires room { length nodes.now ≤ vec_capacity new.old }
+    requires empty { new.old.items ≡ [] }
+    ensures { MapsCells F.step Ix.of node_weight_in node_with f 0 nodes.now new.new.items }
+{
+    'each: for i in 0..nodes.len() {
+        let x = &nodes[i];
+        let weight = f(NodeIndex::new(i), &x.weight);
+        new.push_reserved(Node {
+            weight,
+            first_out: x.first_out,
+            first_in: x.first_in,
+        });
+    }
+}
+
+// Makes the edges of the new graph, in the room that they have.
+fn map_edges<E, V, Ix: IndexType, G: FnMut(EdgeIndex<Ix>, &E) -> V>(
+    edges: &[Edge<E, Ix>],
+    new: &mut Vec<Edge<V, Ix>>,
+    mut g: G,
+)
+    requires callable { G.IsAlwaysCallable g }
+    requires few { length edges.now ≤ Ix.greatest }
+    requires room { length edges.now ≤ vec_capacity new.old }
+    requires empty { new.old.items ≡ [] }
+    ensures { MapsCells G.step Ix.of edge_weight_in edge_with g 0 edges.now new.new.items }
+{
+    'each: for i in 0..edges.len() {
+        let x = &edges[i];
+        let weight = g(EdgeIndex::new(i), &x.weight);
+        new.push_reserved(Edge {
+            weight,
+            parent: x.parent,
+            child: x.child,
+            next_out: x.next_out,
+            next_in: x.next_in,
+        });
+    }
+}
+
+impl<N, E, Ix: IndexType> DiGraph<N, E, Ix> {
+    /// A graph with the same nodes and edges under the same indices, and in the same lists, whose weights are what the
+    /// closures give: `f` is called with each node by ascending index, and then `g` with each edge.
+    ///
+    /// The error says that memory for it was refused. Then no closure was called. The cost grows with the number of
+    /// nodes and edges, besides that of the calls.
+    pub fn map<
+        N2: Drop,
+        E2: Drop,
+        F: FnMut(NodeIndex<Ix>, &N) -> N2,
+        G: FnMut(EdgeIndex<Ix>, &E) -> E2,
+    >(&self, f: F, g: G) -> Result<DiGraph<N2, E2, Ix>, AllocError>
+        requires nodes { F.IsAlwaysCallable f }
+        requires edges { G.IsAlwaysCallable g }
+        ensures mapped { IfOk result (λ h. IsMapped Ix.of F.step G.step f g self.now.graph h.graph) }
+        ensures looks { IfOk result (λ h. h.looks ≡ 0) }
+    {
+        let alloc = *self.nodes.allocator();
+        let mut nodes = Vec::with_capacity(alloc, self.nodes.len())?;
+        let mut edges = Vec::with_capacity(alloc, self.edges.len())?;
+        map_nodes(self.nodes.as_slice(), &mut nodes, f);
+        map_edges(self.edges.as_slice(), &mut edges, g);
+        Ok(DiGraph {
+            nodes,
+            edges,
+            looks: Looks::new(),
+        })
+    }
+}
