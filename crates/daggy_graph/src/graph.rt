@@ -11,19 +11,18 @@ ghost use Rattle.daggy_base.specs.declared.error.EdgeError.TheVariants.{Memory a
 
 mod count;
 mod elements;
-mod links;
+pub mod links;
 mod pairs;
 mod raw;
 mod removal;
 mod source;
 mod weights;
 
-pub use elements::{Element, IntoWeightedEdge};
-
 use daggy_base::error::{EdgeError, NodeError};
 use daggy_base::index::{DefaultIx, Direction, EdgeIndex, IndexType, NodeIndex};
 use daggy_base::link::Link;
 use daggy_base::search::Looks;
+pub use elements::{Element, IntoWeightedEdge};
 use std::alloc::Global;
 use std::marker::Model;
 
