@@ -1,0 +1,4 @@
+pub mod Slots
+pub mod Shown
+pub mod Stores
+pub mod Scanning
