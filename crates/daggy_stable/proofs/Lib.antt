@@ -2,3 +2,4 @@ pub mod Slots
 pub mod Shown
 pub mod Stores
 pub mod Scanning
+pub mod Changes

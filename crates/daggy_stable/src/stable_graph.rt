@@ -5,6 +5,7 @@ ghost use Rattle.daggy_base.specs.Graph.{empty, edge_at, HasNode, HasEdge, list_
 ghost use Rattle.daggy_base.specs.Finding.{find_edge as edge_between};
 ghost use Rattle.daggy_base.specs.Cursor.{first_of, cursor_after};
 
+mod adding;
 mod count;
 mod weights;
 
