@@ -192,6 +192,18 @@ pub IsLinked-kept : (end : ℕ) (firsts firsts' nexts nexts' : List ℕ) (lists 
 IsLinked-kept end firsts firsts' nexts nexts' lists linked same kept =
     rw same (record { rows = linked.rows; each = λ n within. IsRow-kept end nexts nexts' (get_or firsts n 0) (row lists n) (linked.each n within) (kept n) })
 
+-- no edge at all
+
+pub IsLinked-none : (end : ℕ) (firsts : List ℕ) (lists : List (List ℕ)) → length lists ≡ length firsts → ((n : ℕ) → n < length firsts → get_or firsts n 0 ≡ end) → IsLinked end firsts [] (map (λ _. []) lists)
+IsLinked-none end firsts lists rows ends =
+    record {
+      rows = length-map lists (λ _. []) ∙ rows;
+      each = λ n within. subst (IsRow end [] (get_or firsts n 0)) (sym (row-map (λ _. []) refl lists n)) (record { starts = ends n within; distinct = tt; goes_on = λ e p. absurd (Contains-nil e p) });
+    }
+
+pub ListsBy-none : (end_of : ℕ → Option ℕ) (lists : List (List ℕ)) → ((e : ℕ) → end_of e ≡ None) → ListsBy end_of (map (λ _. []) lists)
+ListsBy-none end_of lists none n e = (λ p. absurd (Contains-nil e (subst (λ l. Contains l e) (row-map (λ _. []) refl lists n) p)), λ q. absurd (none-some n (sym (none e) ∙ q)))
+
 -- the one link to an edge of a row, which leads elsewhere now
 
 pub Redirected-first : (end : ℕ) (firsts nexts l : List ℕ) (n old new : ℕ) → IsRow end nexts (get_or firsts n 0) l → get_or firsts n 0 ≡ old → old ≢ end → Redirected l n old new firsts nexts (set firsts n new) nexts

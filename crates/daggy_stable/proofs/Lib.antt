@@ -3,3 +3,4 @@ pub mod Shown
 pub mod Stores
 pub mod Scanning
 pub mod Changes
+pub mod Removing

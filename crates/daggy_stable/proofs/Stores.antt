@@ -201,6 +201,16 @@ module _ {N E Ix : Type 0} {end : ℕ} {nodes : List (Node (Option N) Ix)} {edge
         few_edges = s.edge_slots.few;
       }
 
+pub no_slots : (A : Type 0) (end head : ℕ) → head ≡ end → IsThreaded {A = A} end [] [] head 0 []
+no_slots A end head is =
+    record {
+      row = record { starts = is; distinct = tt; goes_on = λ e p. absurd (Contains-nil e p) };
+      exact = λ i. (λ p. absurd (Contains-nil i p), λ q. absurd (none-some None q));
+      counted = refl;
+      long = refl;
+      few = omega arith;
+    }
+
 pub Stores-empty : {N E Ix : Type 0} (end node_head edge_head : ℕ) → node_head ≡ end → edge_head ≡ end → Stores {N = N} {E = E} {Ix = Ix} end [] [] node_head edge_head 0 0 empty
 Stores-empty {N} {E} {Ix} end node_head edge_head nodes_end edges_end =
     record {
@@ -214,16 +224,6 @@ Stores-empty {N} {E} {Ix} end node_head edge_head nodes_end edges_end =
         | Outgoing ↦ λ n e. (λ p. absurd (Contains-nil e p), λ q. absurd (none-some n q))
         | Incoming ↦ λ n e. (λ p. absurd (Contains-nil e p), λ q. absurd (none-some n q))
       ];
-      node_slots = no_slots N node_head nodes_end;
-      edge_slots = no_slots (PlainEdge E) edge_head edges_end;
+      node_slots = no_slots N end node_head nodes_end;
+      edge_slots = no_slots (PlainEdge E) end edge_head edges_end;
     }
-  where
-    no_slots : (A : Type 0) (head : ℕ) → head ≡ end → IsThreaded {A = A} end [] [] head 0 []
-    no_slots A head is =
-        record {
-          row = record { starts = is; distinct = tt; goes_on = λ e p. absurd (Contains-nil e p) };
-          exact = λ i. (λ p. absurd (Contains-nil i p), λ q. absurd (none-some None q));
-          counted = refl;
-          long = refl;
-          few = omega arith;
-        }

@@ -46,6 +46,14 @@ stored_graph end nodes edges node_head edge_head =
       vacant_edges = follow (nexts_of Outgoing edges) (length (nexts_of Outgoing edges)) edge_head;
     }
 
+-- the node, if it exists, with empty lists
+abbrev pub links_emptied : {N Ix : Type 0} → (end : ℕ) → Option N → Node (Option N) Ix → Node (Option N) Ix
+links_emptied end None x = x
+links_emptied end (Some w) x = record x { first_out = end; first_in = end }
+
+abbrev pub emptied : {N Ix : Type 0} → (end : ℕ) → Node (Option N) Ix → Node (Option N) Ix
+emptied end x = links_emptied end x.weight x
+
 -- the links thread the vacant slots, and so many of the slots are not vacant
 pub record IsThreaded {A : Type 0} (end : ℕ) (slots : List (Option A)) (links : List ℕ) (head count : ℕ) (vacant : List ℕ) : Type 0 where
   pub row : IsRow end links head vacant
