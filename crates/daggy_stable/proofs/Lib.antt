@@ -4,3 +4,4 @@ pub mod Stores
 pub mod Scanning
 pub mod Changes
 pub mod Removing
+pub mod Weighing

@@ -328,7 +328,7 @@ both_redirected nodes n1 n2 edges e1 e2 e out into s1 s2 out_is into_is =
       | Incoming ↦ rw (← into_is) (rw (s1.keeps.firsts, s1.keeps_edges.nexts, s1.keeps_edges.ends Incoming) at s2.links)
     ]
 
-weight_plain : {E Ix : Type 0} (x : Edge (Option E) Ix) → option_map (λ z. z.weight) (plain_edge x) ≡ x.weight
+pub weight_plain : {E Ix : Type 0} (x : Edge (Option E) Ix) → option_map (λ z. z.weight) (plain_edge x) ≡ x.weight
 weight_plain {E} {Ix} x = go x.weight
   where
     go : (o : Option E) → option_map (λ z. z.weight) (option_map (plain x) o) ≡ o
@@ -361,11 +361,14 @@ module _ {N E Ix : Type 0} {end : ℕ} {nodes : List (Node (Option N) Ix)} {edge
         let within = edge_within s e found.0 found.1 in
         omega (arith, within, sym (length-map edges' stored_edge) ∙ ap length plains ∙ length-map edges stored_edge)
 
+    pub cell_weight : (x : Edge (Option E) Ix) → x ≡ get_or edges' e x → x.weight ≡ option_map (λ z. z.weight) (edge_at g e)
+    cell_weight x reads =
+        let same : edge_at g e ≡ plain_edge x = ap (λ l. slot l e) (s.edges_are ∙ sym (edges_seen edges' edges plains)) ∙ slot_read plain_edge edges' e x edge_inside reads in
+        sym (weight_plain x) ∙ sym (ap (option_map (λ z. z.weight)) same)
+
     pub removed_weight : (i : ℕ) (x x' : Edge (Option E) Ix) (taken left : Option E) → i ≡ e → x ≡ get_or edges' i x → x' ≡ with_next Outgoing x edge_head → taken ≡ x'.weight → taken ≡ option_map (λ z. z.weight) (edge_at g e)
     removed_weight i x x' taken left i_is reads x'_is taken_is =
-        let reads' : x ≡ get_or edges' e x = reads ∙ ap (λ z. get_or edges' z x) i_is in
-        let same : edge_at g e ≡ plain_edge x = ap (λ l. slot l e) (s.edges_are ∙ sym (edges_seen edges' edges plains)) ∙ slot_read plain_edge edges' e x edge_inside reads' in
-        taken_is ∙ ap (λ z. z.weight) x'_is ∙ sym (weight_plain x) ∙ sym (ap (option_map (λ z. z.weight)) same)
+        taken_is ∙ ap (λ z. z.weight) x'_is ∙ cell_weight x (reads ∙ ap (λ z. get_or edges' z x) i_is)
 
     module _ (red : (dir : Direction) → Redirects dir nodes edges e (get_or (nexts_of dir edges) e 0) nodes' edges') where
       pub edge_removed_code : (i : ℕ) (x x' : Edge (Option E) Ix) (left : Option E) → i ≡ e → x' ≡ with_next Outgoing x edge_head → left ≡ None
@@ -459,3 +462,10 @@ Stores-emptied {N} {E} {Ix} {end} {nodes} {edges} {node_head} {edge_head} {nodes
 pub changing_step : {A : Type 0} (f : A → A) (old now : List A) (i j : ℕ) (x y : A) → j ≡ suc i → now ≡ map f (take i old) ++ drop i old → i < length old → x ≡ get_or now i x → y ≡ f x → set now i y ≡ map f (take j old) ++ drop j old
 changing_step f old now i j x y j_is is within reads y_is =
     ap (set now i) y_is ∙ ap (λ l. set l i (f x)) is ∙ map_so_far f old i x within (reads ∙ ap (λ l. get_or l i x) is) ∙ ap (λ k. map f (take k old) ++ drop k old) (sym j_is)
+
+-- the last of a list is popped
+pub popped : {A : Type 0} (xs : List A) (i n : ℕ) → i + 1 ≡ n → take (n - 1) xs ≡ take i xs
+popped xs i n last = ap (λ k. take k xs) (omega (arith, last))
+
+pub popped_last : {A : Type 0} (xs : List A) (i n : ℕ) (r : Option A) (x : A) → i + 1 ≡ n → r ≡ Some (get_or xs (n - 1) x) → r ≡ Some x → x ≡ get_or xs i x
+popped_last xs i n r x last value is = same_Some x (get_or xs i x) (sym is ∙ value ∙ ap (λ k. Some (get_or xs k x)) (omega (arith, last)))
