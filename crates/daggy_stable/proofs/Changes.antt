@@ -1,12 +1,11 @@
 -- What each change of nodes and edges makes of what is stored.
-use Rattle.std.proofs.Common.{◌≡◌, ◌≢◌, ℕ, zero, suc, ◌+◌, ◌<◌, ◌≤◌, List, [], ◌∷◌, ◌++◌, map, length, get_or, set, Option, Some, None, IsSome, slice_get, refl, sym, ap, subst, ◌∙◌, inl, inr, arith, Contains}
+use Rattle.std.proofs.Common.{◌≡◌, ◌≢◌, ℕ, zero, suc, ◌+◌, ◌<◌, ◌≤◌, List, [], ◌∷◌, ◌++◌, map, length, get_or, set, Option, Some, None, IsSome, slice_get, refl, sym, ap, subst, ◌∙◌, arith, Contains}
 use Rattle.std.specs.Option.{option_map, option_and_then}
-use Rattle.std.proofs.lemmas.Bool.{cases_eq}
-use Rattle.std.proofs.lemmas.List.{length-set, length_push, length-map, map-set, map_push, get_or-map, set-get_or}
-use Rattle.std.proofs.lemmas.Option.{slice_get_within, same_Some, none-some, unwrap_or-slice_get, slice_get-get_or}
+use Rattle.std.proofs.lemmas.List.{length-set, length_push, length-map, map-set, map_push, set-get_or}
+use Rattle.std.proofs.lemmas.Option.{none-some, unwrap_or-slice_get}
 use Rattle.daggy_base.specs.declared.index.Direction.{Direction}
 use Rattle.daggy_base.specs.declared.index.Direction.TheVariants.{Outgoing, Incoming}
-use Rattle.daggy_base.specs.Graph.{Graph, Edge as PlainEdge, slot, edge_at, near_end}
+use Rattle.daggy_base.specs.Graph.{Graph, Edge as PlainEdge, slot, near_end}
 use Rattle.daggy_base.specs.Adding.{next_slot, next_edge, taken, rest_of, with_node, with_edge}
 use Rattle.daggy_base.proofs.Slots.{slot_taken_new}
 use Rattle.daggy_base.proofs.Neighbors.{free_slots, next_is_free}
@@ -17,7 +16,7 @@ use Rattle.daggy_graph.specs.Raw.{raw_first, raw_next}
 use Rattle.daggy_graph.specs.Stored.{with_first, firsts_of, nexts_of, lists_at}
 use Rattle.daggy_graph.proofs.Threads.{slice_get-set_other, slice_get-set_same, slice_get-push_other, slice_get-push_old, slice_get-push_new, row_push, IsLinked-node, IsLinked-put, ListsBy-put}
 use Rattle.daggy_graph.proofs.StoredLemmas.{slice_get_mapped, map-set_same}
-use Rattle.daggy_stable.specs.Stored.{weight_of, plain, plain_edge, shown, row_firsts, end_of, IsThreaded, Stores}
+use Rattle.daggy_stable.specs.Stored.{weight_of, plain_edge, shown, row_firsts, end_of, IsThreaded, Stores}
 use Rattle.daggy_stable.proofs.Slots.{made, filled, rethreaded, slot_not_vacant, counted_full, vacant_none, vacant_some, vacant_inside}
 use Rattle.daggy_stable.proofs.Shown.{shown_some, shown-set, shown-fill, shown_push}
 use Rattle.daggy_stable.proofs.Stores.{nodes_long, edges_long, firsts_long, none_shown, some_is}

@@ -5,3 +5,4 @@ pub mod Scanning
 pub mod Changes
 pub mod Removing
 pub mod Weighing
+pub mod Bounds

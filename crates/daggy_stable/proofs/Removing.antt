@@ -1,8 +1,8 @@
 -- What a removal makes of what is stored.
 use Rattle.std.proofs.Common.{◌≡◌, ◌≢◌, ℕ, zero, suc, ◌+◌, ◌-◌, ◌<◌, ◌≤◌, List, [], ◌∷◌, ◌++◌, map, length, get_or, set, take, drop, Option, Some, None, IsSome, OnSome, IfNone, slice_get, unwrap_or, true, refl, sym, ap, subst, ◌∙◌, inl, inr, arith, Contains}
 use Rattle.std.specs.Option.{option_map, option_and_then}
-use Rattle.std.proofs.lemmas.Bool.{cases_eq, cases_lt}
-use Rattle.std.proofs.lemmas.List.{length-set, length-map, map-set, get_or-map, take-map, length-take-le, get_or-set_same}
+use Rattle.std.proofs.lemmas.Bool.{cases_lt}
+use Rattle.std.proofs.lemmas.List.{length-set, length-map, map-set, get_or-map, take-map, length-take-le}
 use Rattle.std.proofs.lemmas.Option.{slice_get_within, slice_get_past, same_Some, none-some, unwrap_or-slice_get}
 use Rattle.daggy_base.specs.declared.index.Direction.{Direction}
 use Rattle.daggy_base.specs.declared.index.Direction.TheVariants.{Outgoing, Incoming}
@@ -23,7 +23,7 @@ use Rattle.daggy_graph.proofs.RemovalLemmas.{Step, Ready-row, Redirected-walk}
 use Rattle.daggy_stable.specs.Stored.{weight_of, plain, plain_edge, shown, row_firsts, end_of, links_emptied, emptied, IsThreaded, Stores}
 use Rattle.daggy_stable.proofs.Slots.{rethreaded, vacated, cut, slot_not_vacant, not_listed, count_vacate}
 use Rattle.daggy_stable.proofs.Shown.{length-shown, shown_some, shown-set, shown-set_vacant, shown-vacate, shown-take}
-use Rattle.daggy_stable.proofs.Stores.{nodes_long, edges_long, firsts_long, nexts_few, row_from, first_shown, listed_within, near_exists, edge_within, end_stored, stands, some_is, node_read, no_slots}
+use Rattle.daggy_stable.proofs.Stores.{nodes_long, edges_long, firsts_long, row_from, first_shown, listed_within, near_exists, edge_within, end_stored, stands, some_is, node_read, no_slots}
 use Rattle.daggy_stable.proofs.Changes.{node_inside}
 
 -- what is seen of stored nodes and edges, by less

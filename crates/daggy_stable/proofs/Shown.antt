@@ -1,5 +1,5 @@
 -- Links, where a vacant slot's leads nowhere.
-use Rattle.std.proofs.Common.{◌≡◌, ℕ, zero, suc, ◌<◌, List, [], ◌∷◌, ◌++◌, length, get_or, set, take, Option, Some, None, slice_get, refl, sym, ap, ◌∙◌, arith}
+use Rattle.std.proofs.Common.{◌≡◌, ℕ, zero, suc, ◌<◌, List, [], ◌∷◌, ◌++◌, length, get_or, set, take, Option, Some, None, slice_get, refl, sym, ap, arith}
 use Rattle.std.proofs.lemmas.Option.{same_Some, none-some}
 use Rattle.daggy_base.specs.Graph.{slot}
 use Rattle.daggy_stable.specs.Stored.{shown}

@@ -4,13 +4,13 @@ use Rattle.std.specs.List.{count_by}
 use Rattle.std.proofs.lemmas.Bool.{cases_eq, cases_lt}
 use Rattle.std.proofs.lemmas.List.{length-set, length_push, length-take-le}
 use Rattle.std.proofs.lemmas.List.Sums.{sum_by-cons}
-use Rattle.std.proofs.lemmas.Option.{slice_get_within, slice_get_past, same_Some, none-some}
+use Rattle.std.proofs.lemmas.Option.{slice_get_within, same_Some, none-some}
 use Rattle.daggy_base.specs.Graph.{slot}
 use Rattle.daggy_base.specs.Cursor.{first_of, after}
 use Rattle.daggy_base.proofs.Reading.{slot_get}
 use Rattle.daggy_base.proofs.Full.{count_full, full_from}
 use Rattle.daggy_graph.specs.Links.{follow, IsRow}
-use Rattle.daggy_graph.proofs.Rows.{Contains-nil, Contains-here, Contains-there, Contains-cases, Contains-rest, after_here, after_there, row_is, IsRow-tail}
+use Rattle.daggy_graph.proofs.Rows.{Contains-nil, Contains-here, Contains-there, Contains-rest, after_here, after_there, row_is, IsRow-tail}
 use Rattle.daggy_graph.proofs.Threads.{slice_get-set_same, slice_get-set_other, slice_get-push_new, slice_get-push_other, slice_get-take, slice_get-take_past, IsRow-kept}
 use Rattle.daggy_stable.specs.Stored.{IsThreaded}
 

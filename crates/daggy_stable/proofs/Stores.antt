@@ -1,22 +1,20 @@
 -- What is stored, and what it shows.
-use Rattle.std.proofs.Common.{◌≡◌, ◌≢◌, ℕ, zero, suc, ◌<◌, ◌≤◌, List, [], ◌∷◌, map, length, get_or, Option, Some, None, IsSome, is_some, true, eqb, Bool, slice_get, refl, sym, ap, subst, ◌∙◌, inl, inr, arith, Contains}
-use Rattle.std.specs.List.{find}
+use Rattle.std.proofs.Common.{◌≡◌, ℕ, ◌<◌, ◌≤◌, List, [], ◌∷◌, map, length, get_or, Option, Some, None, IsSome, is_some, refl, sym, ap, subst, ◌∙◌, inl, inr, arith, Contains}
 use Rattle.std.specs.Option.{option_map}
 use Rattle.std.proofs.lemmas.Bool.{cases_lt}
 use Rattle.std.proofs.lemmas.List.{length-map, get_or-map}
-use Rattle.std.proofs.lemmas.Option.{slice_get_past, slice_get_within, same_Some, none-some}
+use Rattle.std.proofs.lemmas.Option.{same_Some, none-some}
 use Rattle.daggy_base.specs.declared.index.Direction.{Direction}
 use Rattle.daggy_base.specs.declared.index.Direction.TheVariants.{Outgoing, Incoming}
-use Rattle.daggy_base.specs.Graph.{empty, Graph, Edge as PlainEdge, slot, edge_at, HasNode, list_at, near_end}
+use Rattle.daggy_base.specs.Graph.{empty, Graph, Edge as PlainEdge, slot, edge_at, list_at, near_end}
 use Rattle.daggy_base.specs.Cursor.{first_of, after, cursor_after}
-use Rattle.daggy_base.specs.Finding.{leads_to}
 use Rattle.daggy_base.specs.Look.{IsLook}
-use Rattle.daggy_base.specs.WellFormed.{AreDistinct, ListsVacant, IsWellFormed}
+use Rattle.daggy_base.specs.WellFormed.{IsWellFormed}
 use Rattle.daggy_graph.specs.declared.graph.Node.{Node}
 use Rattle.daggy_graph.specs.declared.graph.Edge.{Edge}
-use Rattle.daggy_graph.specs.Links.{row, IsRow, IsLinked, ListsBy}
+use Rattle.daggy_graph.specs.Links.{row, IsRow}
 use Rattle.daggy_graph.specs.Raw.{raw_first, raw_next}
-use Rattle.daggy_graph.specs.Stored.{end_at, firsts_of, nexts_of, ends_of, lists_at}
+use Rattle.daggy_graph.specs.Stored.{end_at, firsts_of, nexts_of, lists_at}
 use Rattle.daggy_graph.proofs.Rows.{Contains-nil, Contains-here}
 use Rattle.daggy_graph.proofs.Threads.{row_within, row_past, rows_are, linked_within}
 use Rattle.daggy_graph.proofs.StoredLemmas.{same_graph, slot_read, slot_beyond, slice_get_mapped}
@@ -160,6 +158,17 @@ module _ {N E Ix : Type 0} {end : ℕ} {nodes : List (Node (Option N) Ix)} {edge
 
   pub cursor_shown : (dir : Direction) (e : ℕ) (y : PlainEdge E) (x : Edge (Option E) Ix) → edge_at g e ≡ Some y → e < length edges → x ≡ get_or edges e x → raw_next dir x ≡ cursor_after dir end g e (edge_at g e)
   cursor_shown dir e y x at within is = next_shown dir e y x at within is ∙ cursor_seen dir e y ∙ ap (cursor_after dir end g e) (sym at)
+
+  pub look_shown : (e child next : ℕ) (x : Edge (Option E) Ix) → IsSome (edge_at g e) → x ≡ get_or edges e x → child ≡ end_at Incoming x → next ≡ raw_next Outgoing x → IsLook end g e child next
+  look_shown e child next x has is child_is next_is =
+      let found = some_is _ has in
+      let within = edge_within e found.0 found.1 in
+      record {
+        edge = found.0;
+        at = found.1;
+        child_is = child_is ∙ end_stored Incoming e found.0 x found.1 within is;
+        next_is = next_is ∙ next_shown Outgoing e found.0 x found.1 within is;
+      }
 
   list_seen : (dir : Direction) (n : ℕ) → row (lists_at dir g) n ≡ list_at dir g n
   list_seen Outgoing n = refl

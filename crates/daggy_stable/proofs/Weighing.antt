@@ -1,5 +1,5 @@
 -- What another weight makes of what is stored.
-use Rattle.std.proofs.Common.{◌≡◌, ◌≢◌, ℕ, ◌<◌, List, [], map, length, get_or, set, Option, Some, None, IsSome, refl, sym, ap, subst, ◌∙◌, inl, inr, arith, Contains}
+use Rattle.std.proofs.Common.{◌≡◌, ℕ, List, map, get_or, set, Option, Some, IsSome, refl, sym, ap, subst, ◌∙◌, inl, inr}
 use Rattle.std.specs.Option.{option_map, option_and_then}
 use Rattle.std.proofs.lemmas.Bool.{cases_eq}
 use Rattle.std.proofs.lemmas.List.{map-set}
@@ -9,15 +9,15 @@ use Rattle.daggy_base.specs.Graph.{Graph, Edge as PlainEdge, slot, edge_at, near
 use Rattle.daggy_base.specs.Weights.{with_node_weight, with_edge_weight, reweighed}
 use Rattle.daggy_graph.specs.declared.graph.Node.{Node}
 use Rattle.daggy_graph.specs.declared.graph.Edge.{Edge}
-use Rattle.daggy_graph.specs.Links.{IsLinked, ListsBy, row}
+use Rattle.daggy_graph.specs.Links.{IsLinked, ListsBy}
 use Rattle.daggy_graph.specs.Raw.{raw_first, raw_next}
 use Rattle.daggy_graph.specs.Stored.{firsts_of, nexts_of, lists_at}
 use Rattle.daggy_graph.proofs.Threads.{slice_get-set_same, slice_get-set_other}
 use Rattle.daggy_graph.proofs.StoredLemmas.{map-set_same}
-use Rattle.daggy_stable.specs.Stored.{weight_of, plain, plain_edge, shown, row_firsts, end_of, IsThreaded, Stores}
+use Rattle.daggy_stable.specs.Stored.{weight_of, plain_edge, shown, row_firsts, end_of, IsThreaded, Stores}
 use Rattle.daggy_stable.proofs.Slots.{renewed, slot_inside}
 use Rattle.daggy_stable.proofs.Shown.{shown-renew}
-use Rattle.daggy_stable.proofs.Stores.{some_is, edge_read, cell_of, edge_within}
+use Rattle.daggy_stable.proofs.Stores.{some_is, cell_of, edge_within}
 
 module _ {N E Ix : Type 0} {end : ℕ} {nodes : List (Node (Option N) Ix)} {edges : List (Edge (Option E) Ix)} {node_head edge_head nodes_counted edges_counted : ℕ} {g : Graph N E} (s : Stores end nodes edges node_head edge_head nodes_counted edges_counted g) where
   pub node_weighed : (n : ℕ) (w : N) (x : Node (Option N) Ix) → IsSome (slot g.nodes n) → x ≡ get_or nodes n x → Stores end (set nodes n (record x { weight = Some w })) edges node_head edge_head nodes_counted edges_counted (with_node_weight g n w)

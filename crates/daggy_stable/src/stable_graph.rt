@@ -8,6 +8,7 @@ ghost use Rattle.daggy_base.specs.Cursor.{first_of, cursor_after};
 mod adding;
 mod count;
 mod removal;
+mod source;
 mod taking;
 mod weights;
 

@@ -1,6 +1,8 @@
 //! What no clause says: that calls succeed where memory is given, at a concrete type.
 use crate::stable_graph::StableDiGraph;
-use daggy_base::index::{EdgeIndex, NodeIndex};
+use daggy_base::index::{Direction, EdgeIndex, NodeIndex};
+use daggy_base::search::EdgeSource;
+use daggy_base::store::Store;
 use std::process::Abort;
 
 fn node(rt: &impl Abort, g: &mut StableDiGraph<u32, u32, u8>, w: u32) -> NodeIndex<u8> {
@@ -84,4 +86,35 @@ fn a_full_graph_reuses_an_index(rt: HostRuntime) {
     assert_eq!(rt; g.remove_node(NodeIndex::new(7)), Some(7));
     assert_eq!(rt; node(&rt, &mut g, 300).index(), 7);
     assert!(rt; !g.can_add_node());
+}
+
+#[test]
+fn weights_and_lists_are_read_and_written(rt: HostRuntime) {
+    let mut g = StableDiGraph::new(rt.alloc());
+    let a = node(&rt, &mut g, 10);
+    let b = node(&rt, &mut g, 11);
+    let ab = edge(&rt, &mut g, a, b, 100);
+    let ab2 = edge(&rt, &mut g, a, b, 101);
+    if let Some(w) = g.node_weight_mut(b) {
+        *w = 12;
+    }
+    if let Some(w) = g.edge_weight_mut(ab) {
+        *w = 102;
+    }
+    assert_eq!(rt; g.node_weight(b).copied(), Some(12));
+    assert_eq!(rt; g.edge_weight(ab).copied(), Some(102));
+    assert!(rt; g.contains_node(a));
+    g[a] = 7;
+    assert!(rt; g.contains_edge(ab));
+    g[ab] = 8;
+    assert_eq!(rt; g[a], 7);
+    assert_eq!(rt; g.replace_edge_weight(ab, 9), 8);
+    assert_eq!(rt; g.first_edge(b, Direction::Incoming).index(), ab2.index());
+    assert!(rt; g.contains_edge(ab2));
+    assert_eq!(rt; g.next_edge(ab2, Direction::Outgoing).index(), ab.index());
+    assert_eq!(rt; g.find_edge(a, b).is_some(), true);
+    assert_eq!(rt; g.find_edge(b, a).is_some(), false);
+    assert_eq!(rt; g.edge_endpoints(ab).is_some(), true);
+    assert_eq!(rt; EdgeSource::node_bound(&g), 2);
+    assert_eq!(rt; Store::edge_slots(&g), 2);
 }

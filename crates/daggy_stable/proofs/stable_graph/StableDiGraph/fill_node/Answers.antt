@@ -1,4 +1,4 @@
-use Rattle.std.proofs.Common.{◌≢◌, [], sym, ap, ◌∙◌, arith}
+use Rattle.std.proofs.Common.{sym, ap, ◌∙◌, arith}
 use Rattle.daggy_base.specs.Adding.{next_slot, next_node, with_node}
 use Rattle.daggy_graph.proofs.States.{state_changed}
 use Rattle.daggy_stable.proofs.Stores.{stored_is, Stores-itself}

@@ -3,7 +3,6 @@ use Rattle.daggy_base.specs.Finding.{find_edge}
 use Rattle.daggy_base.specs.declared.index.Direction.TheVariants.{Outgoing}
 use Rattle.daggy_graph.specs.Stored.{nexts_of, walk}
 use Rattle.daggy_graph.proofs.Rows.{IsScan}
-use Rattle.daggy_stable.specs.Stored.{stored_graph}
 use Rattle.daggy_stable.proofs.Scanning.{child_is}
 use Rattle.daggy_stable.proofs.stable_graph.StableDiGraph.find_edge.Given as goal
 

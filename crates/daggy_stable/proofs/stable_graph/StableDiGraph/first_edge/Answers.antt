@@ -1,4 +1,4 @@
-use Rattle.std.proofs.Common.{◌≡◌, ◌<◌, ◌≤◌, length, get_or, None, not, sym, ap, subst, ◌∙◌, arith}
+use Rattle.std.proofs.Common.{◌≡◌, ◌<◌, ◌≤◌, length, get_or, not, ap, ◌∙◌, arith}
 use Rattle.daggy_base.specs.Graph.{list_at}
 use Rattle.daggy_base.specs.Cursor.{first_of}
 use Rattle.daggy_stable.proofs.Stores.{node_read, node_beyond, first_listed, none_listed}

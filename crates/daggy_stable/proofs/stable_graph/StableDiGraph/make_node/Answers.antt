@@ -1,4 +1,4 @@
-use Rattle.std.proofs.Common.{rules, ◌<◌, sym, ap, ◌∙◌, arith}
+use Rattle.std.proofs.Common.{rules, ◌<◌, ap, ◌∙◌, arith}
 use Rattle.daggy_base.specs.Graph.{node_count}
 use Rattle.daggy_base.specs.Adding.{with_node}
 use Rattle.daggy_graph.proofs.States.{state_changed}

@@ -1,7 +1,3 @@
-use Rattle.std.proofs.Common.{◌≡◌, get_or, set, refl, sym, ap, ◌∙◌}
-use Rattle.std.proofs.lemmas.List.{map-set}
-use Rattle.daggy_base.specs.declared.index.Direction.TheVariants.{Outgoing, Incoming}
-use Rattle.daggy_graph.specs.Raw.{raw_first}
 use Rattle.daggy_stable.proofs.Changes.{both_written}
 use Rattle.daggy_stable.proofs.stable_graph.adding.put_first.Goals as goal
 
