@@ -118,3 +118,19 @@ fn weights_and_lists_are_read_and_written(rt: HostRuntime) {
     assert_eq!(rt; EdgeSource::node_bound(&g), 2);
     assert_eq!(rt; Store::edge_slots(&g), 2);
 }
+
+#[test]
+fn adding_is_taken_back(rt: HostRuntime) {
+    let mut g = StableDiGraph::new(rt.alloc());
+    let a = node(&rt, &mut g, 10);
+    let first = edge(&rt, &mut g, a, a, 100);
+    let second = edge(&rt, &mut g, a, a, 101);
+    assert!(rt; g.contains_edge(second));
+    assert_eq!(rt; second.index() + 1, g.edge_slots());
+    assert_eq!(rt; g.take_back_edge(second, true), 101);
+    assert_eq!(rt; g.edge_slots(), 1);
+    assert!(rt; g.contains_edge(first));
+    assert_eq!(rt; g.take_back_edge(first, false), 100);
+    assert_eq!(rt; (g.edge_count(), g.edge_slots()), (0, 1));
+    assert_eq!(rt; g.first_edge(a, Direction::Incoming).index(), 255);
+}
