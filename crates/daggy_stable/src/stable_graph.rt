@@ -70,10 +70,7 @@ impl<N, E, Ix: IndexType> StableDiGraph<N, E, Ix> {
     pub fn contains_node(&self, n: NodeIndex<Ix>) -> bool
         ensures { IsTrue result ↔ HasNode self.now.graph (Ix.number n) }
     {
-        match self.nodes.get(n.index()) {
-            Some(x) => x.weight.is_some(),
-            None => false,
-        }
+        self.node_weight(n).is_some()
     }
 
     /// Whether the edge exists.
@@ -81,10 +78,7 @@ impl<N, E, Ix: IndexType> StableDiGraph<N, E, Ix> {
     pub fn contains_edge(&self, e: EdgeIndex<Ix>) -> bool
         ensures { IsTrue result ↔ HasEdge self.now.graph (Ix.number e) }
     {
-        match self.edges.get(e.index()) {
-            Some(x) => x.weight.is_some(),
-            None => false,
-        }
+        self.edge_weight(e).is_some()
     }
 
     /// The parent and the child of an edge, if the edge exists.

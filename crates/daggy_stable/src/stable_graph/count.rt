@@ -47,7 +47,7 @@ impl<N, E, Ix: IndexType> StableDiGraph<N, E, Ix> {
     pub fn node_bound(&self) -> usize
         ensures { result ≡ node_bound_of self.now.graph }
     {
-        let mut n = self.nodes.len();
+        let mut n = self.node_slots();
         'back: while n > 0 {
             let x = &self.nodes[n - 1];
             if x.weight.is_some() {
@@ -64,7 +64,7 @@ impl<N, E, Ix: IndexType> StableDiGraph<N, E, Ix> {
     pub fn edge_bound(&self) -> usize
         ensures { result ≡ edge_bound_of self.now.graph }
     {
-        let mut n = self.edges.len();
+        let mut n = self.edge_slots();
         'back: while n > 0 {
             let x = &self.edges[n - 1];
             if x.weight.is_some() {

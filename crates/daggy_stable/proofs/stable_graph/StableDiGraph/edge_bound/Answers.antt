@@ -1,11 +1,12 @@
-use Rattle.std.proofs.Common.{sym, ap, ◌∙◌, arith}
+use Rattle.std.proofs.Common.{length, sym, ap, ◌∙◌, arith}
 use Rattle.daggy_base.specs.Graph.{edge_bound}
 use Rattle.daggy_stable.specs.Stored.{plain_edge}
+use Rattle.daggy_stable.proofs.Stores.{edges_long}
 use Rattle.daggy_stable.proofs.Scanning.{plain_some, back_start, back_step, back_found, back_all}
 use Rattle.daggy_stable.proofs.stable_graph.StableDiGraph.edge_bound.Goals as goal
 
 pub back-init : goal.back-init
-back-init g c = record { within = omega (arith, c.len-n.ensures); same = back_start plain_edge c.self.inside.edges.items c.len-n.result (omega (arith, c.len-n.ensures)) }
+back-init g c = record { within = omega (arith, c.edge_slots-n.ensures, ap (λ s. length s.graph.edges) c.self.view_is, edges_long c.self.invariant); same = back_start plain_edge c.self.inside.edges.items c.edge_slots-n.result (omega (arith, c.edge_slots-n.ensures, ap (λ s. length s.graph.edges) c.self.view_is, edges_long c.self.invariant)) }
 
 pub back-preserved : goal.back-preserved
 back-preserved g c =

@@ -1,11 +1,12 @@
-use Rattle.std.proofs.Common.{ap, ◌∙◌, arith}
+use Rattle.std.proofs.Common.{length, ap, ◌∙◌, arith}
 use Rattle.daggy_base.specs.Graph.{node_bound}
 use Rattle.daggy_stable.specs.Stored.{weight_of}
+use Rattle.daggy_stable.proofs.Stores.{nodes_long}
 use Rattle.daggy_stable.proofs.Scanning.{back_start, back_step, back_found, back_all}
 use Rattle.daggy_stable.proofs.stable_graph.StableDiGraph.node_bound.Goals as goal
 
 pub back-init : goal.back-init
-back-init g c = record { within = omega (arith, c.len-n.ensures); same = back_start weight_of c.self.inside.nodes.items c.len-n.result (omega (arith, c.len-n.ensures)) }
+back-init g c = record { within = omega (arith, c.node_slots-n.ensures, ap (λ s. length s.graph.nodes) c.self.view_is, nodes_long c.self.invariant); same = back_start weight_of c.self.inside.nodes.items c.node_slots-n.result (omega (arith, c.node_slots-n.ensures, ap (λ s. length s.graph.nodes) c.self.view_is, nodes_long c.self.invariant)) }
 
 pub back-preserved : goal.back-preserved
 back-preserved g c =
