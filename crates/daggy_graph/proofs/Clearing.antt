@@ -1,18 +1,16 @@
 -- What is stored once all edges are gone.
-use Rattle.std.proofs.Common.{◌≡◌, ℕ, zero, suc, ◌<◌, List, [], ◌∷◌, ◌++◌, map, length, get_or, set, take, drop, refl, sym, ap, subst, ◌∙◌, arith, Contains}
+use Rattle.std.proofs.Common.{◌≡◌, ℕ, zero, suc, ◌<◌, List, [], ◌∷◌, ◌++◌, map, length, get_or, set, take, drop, slice_get, refl, sym, ap, ◌∙◌, arith}
 use Rattle.std.proofs.lemmas.List.{length-map}
-use Rattle.std.proofs.lemmas.Option.{none-some}
 use Rattle.daggy_base.specs.declared.index.Direction.{Direction}
 use Rattle.daggy_base.specs.declared.index.Direction.TheVariants.{Outgoing, Incoming}
 use Rattle.daggy_base.specs.Graph.{Graph}
 use Rattle.daggy_base.specs.Removal.{without_all_edges}
 use Rattle.daggy_graph.specs.declared.graph.Node.{Node}
 use Rattle.daggy_graph.specs.declared.graph.Edge.{Edge}
-use Rattle.daggy_graph.specs.Links.{row, IsRow, IsLinked, ListsEach}
+use Rattle.daggy_graph.specs.Links.{IsLinked, ListsEach}
 use Rattle.daggy_graph.specs.Raw.{raw_first}
 use Rattle.daggy_graph.specs.Stored.{weight_of, bare, firsts_of, lists_at, Stores}
-use Rattle.daggy_graph.proofs.Rows.{Contains-nil}
-use Rattle.daggy_graph.proofs.Threads.{row-map}
+use Rattle.daggy_graph.proofs.Threads.{IsLinked-none, ListsBy-none}
 
 -- one more element is mapped
 pub map_so_far : {A : Type 0} (f : A → A) (xs : List A) (i : ℕ) (x : A) → i < length xs → x ≡ get_or (map f (take i xs) ++ drop i xs) i x → set (map f (take i xs) ++ drop i xs) i (f x) ≡ map f (take (suc i) xs) ++ drop (suc i) xs
@@ -37,20 +35,13 @@ module _ {N E Ix : Type 0} (end : ℕ) (nodes : List (Node N Ix)) (edges : List 
   weights_bare [] = refl
   weights_bare (x ∷ xs) = ap (λ l. weight_of x ∷ l) (weights_bare xs)
 
-  row_empty : (lists : List (List ℕ)) (n : ℕ) → row (map (λ _. []) lists) n ≡ []
-  row_empty lists n = row-map (λ _. []) refl lists n
-
   long : (dir : Direction) → length (firsts_of dir (map (bare end) nodes)) ≡ length nodes
   long dir = length-map (map (bare end) nodes) (raw_first dir) ∙ length-map nodes (bare end)
 
   linked_none : (dir : Direction) → IsLinked end (firsts_of dir (map (bare end) nodes)) [] (map (λ _. []) (lists_at dir g))
   linked_none dir =
-      record {
-        rows = length-map (lists_at dir g) (λ _. []) ∙ (s.linked dir).rows ∙ length-map nodes (raw_first dir) ∙ sym (long dir);
-        each = λ n within.
-            let at : get_or (firsts_of dir (map (bare end) nodes)) n 0 ≡ end = ap (λ l. get_or l n 0) (first_bare dir nodes) ∙ ends_all nodes n (omega (arith, within, long dir)) in
-            subst (IsRow end [] (get_or (firsts_of dir (map (bare end) nodes)) n 0)) (sym (row_empty (lists_at dir g) n)) (record { starts = at; distinct = tt; goes_on = λ e p. absurd (Contains-nil e p) });
-      }
+      IsLinked-none end (firsts_of dir (map (bare end) nodes)) (lists_at dir g) ((s.linked dir).rows ∙ length-map nodes (raw_first dir) ∙ sym (long dir))
+      (λ n within. ap (λ l. get_or l n 0) (first_bare dir nodes) ∙ ends_all nodes n (omega (arith, within, long dir)))
     where
       ends_all : (xs : List (Node N Ix)) (n : ℕ) → n < length xs → get_or (map (λ _. end) xs) n 0 ≡ end
       ends_all [] n within = absurd (omega (arith, within))
@@ -58,7 +49,7 @@ module _ {N E Ix : Type 0} (end : ℕ) (nodes : List (Node N Ix)) (edges : List 
       ends_all (x ∷ xs) (suc n) within = ends_all xs n (omega (arith, within))
 
   listed_none : (dir : Direction) → ListsEach [] (map (λ _. []) (lists_at dir g))
-  listed_none dir n e = (λ p. absurd (Contains-nil e (subst (λ l. Contains l e) (row_empty (lists_at dir g) n) p)), λ q. absurd (none-some n q))
+  listed_none dir = ListsBy-none (slice_get []) (lists_at dir g) (λ e. refl)
 
   pub Stores-bare : Stores end (map (bare end) nodes) [] (without_all_edges g)
   Stores-bare =

@@ -15,30 +15,39 @@ use Rattle.daggy_graph.specs.Stored.{weight_of, plain_edge, end_at, firsts_of, n
 use Rattle.daggy_graph.proofs.Rows.{row_is, Contains-from_without, Contains-without}
 use Rattle.daggy_graph.proofs.Threads.{row-map, row_within, IsSwapRemoved, IsSwapRemoved-from, IsSwapRemoved-mapped, IsLinked-unlinked, IsLinked-renamed, IsLinked-cut, ListsEach-removed}
 
-module _ {N E Ix : Type 0} (end : ℕ) (dir : Direction) (nodes : List (Node N Ix)) (edges : List (Edge E Ix)) (lists : List (List ℕ)) (old n : ℕ) where
-  -- the rows are linked, and old stands in that of its node
-  walked : IsLinked end (firsts_of dir nodes) (nexts_of dir edges) lists → n < length nodes → length edges ≤ end → walk dir edges (get_or (firsts_of dir nodes) n 0) ≡ row lists n
-  walked linked n_in few =
-      row_is end _ (nexts_of dir edges) (row lists n) (linked.each n (omega (arith, n_in, length-map nodes (raw_first dir)))) (omega (arith, few, length-map edges (raw_next dir)))
+module _ {N E Ix : Type 0} (end : ℕ) (dir : Direction) (nodes : List (Node N Ix)) (edges : List (Edge E Ix)) (l : List ℕ) (old n : ℕ) (r : IsRow end (nexts_of dir edges) (get_or (firsts_of dir nodes) n 0) l) (n_is : get_or (ends_of dir edges) old 0 ≡ n) (few : length edges ≤ end) where
+  -- l is the row of n
+  walked : walk dir edges (get_or (firsts_of dir nodes) n 0) ≡ l
+  walked = row_is end _ (nexts_of dir edges) l r (omega (arith, few, length-map edges (raw_next dir)))
 
-  pub Ready-from : IsLinked end (firsts_of dir nodes) (nexts_of dir edges) lists → get_or (ends_of dir edges) old 0 ≡ n → n < length nodes → old < length edges → length edges ≤ end → Contains (row lists n) old → IsReady end dir nodes edges old
-  Ready-from linked n_is n_in old_in few there =
-      let is = walked linked n_in few in
-      let row_n : IsRow end (nexts_of dir edges) (get_or (firsts_of dir nodes) n 0) (row lists n) = linked.each n (omega (arith, n_in, length-map nodes (raw_first dir))) in
-      let row_w : IsRow end (nexts_of dir edges) (get_or (firsts_of dir nodes) n 0) (walk dir edges (get_or (firsts_of dir nodes) n 0)) = subst (IsRow end (nexts_of dir edges) (get_or (firsts_of dir nodes) n 0)) (sym is) row_n in
+  -- and old, which n is an end of, stands in it
+  pub Ready-row : n < length nodes → old < length edges → Contains l old → IsReady end dir nodes edges old
+  Ready-row n_in old_in there =
+      let row_w : IsRow end (nexts_of dir edges) (get_or (firsts_of dir nodes) n 0) (walk dir edges (get_or (firsts_of dir nodes) n 0)) = subst (IsRow end (nexts_of dir edges) (get_or (firsts_of dir nodes) n 0)) (sym walked) r in
       record {
         edge = old_in;
         node = omega (arith, n_in, n_is);
         row = subst (λ z. IsRow end (nexts_of dir edges) (get_or (firsts_of dir nodes) z 0) (walk dir edges (get_or (firsts_of dir nodes) z 0))) (sym n_is) row_w;
-        listed = subst (λ z. Contains (walk dir edges (get_or (firsts_of dir nodes) z 0)) old) (sym n_is) (subst (λ l. Contains l old) (sym is) there);
+        listed = subst (λ z. Contains (walk dir edges (get_or (firsts_of dir nodes) z 0)) old) (sym n_is) (subst (λ z. Contains z old) (sym walked) there);
         few = few;
       }
 
-  pub Redirected-row : (new : ℕ) (nodes' : List (Node N Ix)) (edges' : List (Edge E Ix)) → IsLinked end (firsts_of dir nodes) (nexts_of dir edges) lists → get_or (ends_of dir edges) old 0 ≡ n → n < length nodes → length edges ≤ end → Redirects dir nodes edges old new nodes' edges' → Redirected (row lists n) n old new (firsts_of dir nodes) (nexts_of dir edges) (firsts_of dir nodes') (nexts_of dir edges')
-  Redirected-row new nodes' edges' linked n_is n_in few red =
+  pub Redirected-walk : (new : ℕ) (nodes' : List (Node N Ix)) (edges' : List (Edge E Ix)) → Redirects dir nodes edges old new nodes' edges' → Redirected l n old new (firsts_of dir nodes) (nexts_of dir edges) (firsts_of dir nodes') (nexts_of dir edges')
+  Redirected-walk new nodes' edges' red =
       let at_n : Redirected (walk dir edges (get_or (firsts_of dir nodes) n 0)) n old new (firsts_of dir nodes) (nexts_of dir edges) (firsts_of dir nodes') (nexts_of dir edges') =
       subst (λ z. Redirected (walk dir edges (get_or (firsts_of dir nodes) z 0)) z old new (firsts_of dir nodes) (nexts_of dir edges) (firsts_of dir nodes') (nexts_of dir edges')) n_is red in
-      subst (λ l. Redirected l n old new (firsts_of dir nodes) (nexts_of dir edges) (firsts_of dir nodes') (nexts_of dir edges')) (walked linked n_in few) at_n
+      subst (λ z. Redirected z n old new (firsts_of dir nodes) (nexts_of dir edges) (firsts_of dir nodes') (nexts_of dir edges')) walked at_n
+
+module _ {N E Ix : Type 0} (end : ℕ) (dir : Direction) (nodes : List (Node N Ix)) (edges : List (Edge E Ix)) (lists : List (List ℕ)) (old n : ℕ) where
+  -- the rows are linked, and old stands in that of its node
+  row_at : IsLinked end (firsts_of dir nodes) (nexts_of dir edges) lists → n < length nodes → IsRow end (nexts_of dir edges) (get_or (firsts_of dir nodes) n 0) (row lists n)
+  row_at linked n_in = linked.each n (omega (arith, n_in, length-map nodes (raw_first dir)))
+
+  pub Ready-from : IsLinked end (firsts_of dir nodes) (nexts_of dir edges) lists → get_or (ends_of dir edges) old 0 ≡ n → n < length nodes → old < length edges → length edges ≤ end → Contains (row lists n) old → IsReady end dir nodes edges old
+  Ready-from linked n_is n_in old_in few there = Ready-row end dir nodes edges (row lists n) old n (row_at linked n_in) n_is few n_in old_in there
+
+  pub Redirected-row : (new : ℕ) (nodes' : List (Node N Ix)) (edges' : List (Edge E Ix)) → IsLinked end (firsts_of dir nodes) (nexts_of dir edges) lists → get_or (ends_of dir edges) old 0 ≡ n → n < length nodes → length edges ≤ end → Redirects dir nodes edges old new nodes' edges' → Redirected (row lists n) n old new (firsts_of dir nodes) (nexts_of dir edges) (firsts_of dir nodes') (nexts_of dir edges')
+  Redirected-row new nodes' edges' linked n_is n_in few red = Redirected-walk end dir nodes edges (row lists n) old n (row_at linked n_in) n_is few new nodes' edges' red
 
 -- the last element in the place of e, seen through a map
 pub map-swap_remove : {A B : Type 0} (h : A → B) (xs : List A) (i : ℕ) (d : A) (d' : B) → i < length xs → map h (swap_remove xs i d) ≡ swap_remove (map h xs) i d'
@@ -79,7 +88,7 @@ module _ {N E Ix : Type 0} (end : ℕ) (nodes : List (Node N Ix)) (edges : List 
       unlinked_links new nodes'' edges'' new_is red =
           let n_in' : get_or (ends_of dir edges) e 0 < length nodes' = omega (arith, n_in e e_in, nodes_long) in
           let goes : slice_get (nexts_of dir edges') e ≡ Some new = ap (λ l. slice_get l e) nexts_same ∙ slice_get-get_or (nexts_of dir edges) e 0 (omega (arith, e_in, length-map edges (raw_next dir))) ∙ ap Some (sym new_is) in
-          IsLinked-unlinked end (firsts_of dir nodes') (nexts_of dir edges') _ _ (ends_of dir edges) (lists_at dir g) (get_or (ends_of dir edges) e 0) e new linked' (s.listed dir) (stands e e_in)
+          IsLinked-unlinked end (firsts_of dir nodes') (nexts_of dir edges') _ _ (slice_get (ends_of dir edges)) (lists_at dir g) (get_or (ends_of dir edges) e 0) e new linked' (s.listed dir) (stands e e_in)
           (omega (arith, n_in', length-map nodes' (raw_first dir))) (omega (arith, e_in, s.few_edges)) goes
           (Redirected-row end dir nodes' edges' (lists_at dir g) e _ new nodes'' edges'' linked' (ap (λ l. get_or l e 0) ends_same) n_in' (omega (arith, s.few_edges, long')) red)
 

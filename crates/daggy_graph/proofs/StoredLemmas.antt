@@ -32,15 +32,22 @@ slot_holds f [] i p = absurd (omega arith)
 slot_holds f (x ∷ xs) zero p = refl
 slot_holds f (x ∷ xs) (suc i) p = slot_holds f xs i (omega arith)
 
+-- what a slot shows of what is stored there
+pub slot_read : {A B : Type 0} (f : A → Option B) (xs : List A) (i : ℕ) (x : A) → i < length xs → x ≡ get_or xs i x → slot (map f xs) i ≡ f x
+slot_read f [] i x p is = absurd (omega arith)
+slot_read f (y ∷ ys) zero x p is = ap f (sym is)
+slot_read f (y ∷ ys) (suc i) x p is = slot_read f ys i x (omega arith) is
+
+pub slot_beyond : {A B : Type 0} (f : A → Option B) (xs : List A) (i : ℕ) → length xs ≤ i → slot (map f xs) i ≡ None
+slot_beyond f [] i p = refl
+slot_beyond f (x ∷ xs) zero p = absurd (omega arith)
+slot_beyond f (x ∷ xs) (suc i) p = slot_beyond f xs i (omega arith)
+
 pub slot_is : {A B : Type 0} (f : A → B) (xs : List A) (i : ℕ) (x : A) → i < length xs → x ≡ get_or xs i x → slot (map (λ x. Some (f x)) xs) i ≡ Some (f x)
-slot_is f [] i x p is = absurd (omega arith)
-slot_is f (y ∷ ys) zero x p is = ap (λ z. Some (f z)) (sym is)
-slot_is f (y ∷ ys) (suc i) x p is = slot_is f ys i x (omega arith) is
+slot_is f xs i x p is = slot_read (λ y. Some (f y)) xs i x p is
 
 pub slot_past : {A B : Type 0} (f : A → B) (xs : List A) (i : ℕ) → length xs ≤ i → slot (map (λ x. Some (f x)) xs) i ≡ None
-slot_past f [] i p = refl
-slot_past f (x ∷ xs) zero p = absurd (omega arith)
-slot_past f (x ∷ xs) (suc i) p = slot_past f xs i (omega arith)
+slot_past f xs i p = slot_beyond (λ y. Some (f y)) xs i p
 
 -- a graph by its parts
 pub same_graph : {N E : Type 0} (g : Graph N E) {a : List (Option N)} {b : List (Option (PlainEdge E))} {c d : List (List ℕ)} {e f : List ℕ} → a ≡ g.nodes → b ≡ g.edges → c ≡ g.out_lists → d ≡ g.in_lists → e ≡ g.vacant_nodes → f ≡ g.vacant_edges → record { nodes = a; edges = b; out_lists = c; in_lists = d; vacant_nodes = e; vacant_edges = f } ≡ g

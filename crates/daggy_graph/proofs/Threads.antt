@@ -1,13 +1,13 @@
 -- What each change makes of the links and the rows.
-use Rattle.std.proofs.Common.{◌≡◌, ◌≢◌, ℕ, zero, suc, ◌+◌, ◌<◌, ◌≤◌, List, [], ◌∷◌, ◌++◌, map, length, get_or, set, take, ◌-◌, Some, None, slice_get, unwrap_or, refl, sym, ap, subst, ◌∙◌, inl, inr, arith, Contains}
+use Rattle.std.proofs.Common.{◌≡◌, ◌≢◌, ℕ, zero, suc, ◌+◌, ◌<◌, ◌≤◌, List, [], ◌∷◌, ◌++◌, map, length, get_or, set, take, ◌-◌, Option, Some, None, slice_get, unwrap_or, refl, sym, ap, subst, ◌∙◌, inl, inr, arith, Contains}
 use Rattle.std.specs.Option.{option_map}
 use Rattle.std.specs.List.{swap_remove}
-use Rattle.std.proofs.lemmas.Bool.{cases_eq, cases_order, cases_lt}
+use Rattle.std.proofs.lemmas.Bool.{cases_eq, cases_lt}
 use Rattle.std.proofs.lemmas.List.{length-set, length_push, length-map, get_or-map, get_or_push, get_or_append_left, get_or-set_same, get_or-set_other, set-get_or, same_lists}
 use Rattle.std.proofs.lemmas.Option.{slice_get_past, slice_get_within, slice_get-map, same_Some, none-some, slice_get-get_or}
 use Rattle.daggy_base.specs.Cursor.{first_of, after}
 use Rattle.daggy_base.specs.Removal.{without, renamed}
-use Rattle.daggy_graph.specs.Links.{follow, rows_of, row, IsRow, IsLinked, ListsEach, Redirected}
+use Rattle.daggy_graph.specs.Links.{follow, rows_of, row, IsRow, IsLinked, ListsBy, ListsEach, Redirected}
 use Rattle.daggy_graph.proofs.Rows.{Contains-nil, Contains-here, Contains-there, Contains-cases, after_here, after_there, row_is, renamed_here, renamed_other, after_not_first, after_injective, without_outside, Contains-from_without, Contains-without, AreDistinct-without, first_of-without, after-without, map-renamed_outside, renamed-injective, Contains-map, Contains-from_map, AreDistinct-map, first_of-map, after-map}
 
 module _ {A : Type 0} where
@@ -92,10 +92,11 @@ IsLinked-node end firsts nexts lists linked =
 pub ListsEach-node : (ends : List ℕ) (lists : List (List ℕ)) → ListsEach ends lists → ListsEach ends (lists ++ [] ∷ [])
 ListsEach-node ends lists listed n e = rw (row_push lists n) (listed n e)
 
--- one more edge, first in the row of a
+-- one more edge m, first in the row of a
 
-pub IsLinked-edge : (end : ℕ) (firsts nexts : List ℕ) (lists : List (List ℕ)) (a m : ℕ) → m ≡ length nexts → IsLinked end firsts nexts lists → a < length firsts → IsLinked end (set firsts a m) (nexts ++ get_or firsts a 0 ∷ []) (set lists a (m ∷ row lists a))
-IsLinked-edge end firsts nexts lists a m new linked inside_a =
+pub IsLinked-put : (end : ℕ) (firsts nexts nexts' : List ℕ) (lists : List (List ℕ)) (a m : ℕ) → IsLinked end firsts nexts lists → a < length firsts → ((n : ℕ) → ¬ Contains (row lists n) m) → slice_get nexts' m ≡ Some (get_or firsts a 0)
+    → ((f : ℕ) → f ≢ m → f < length nexts → slice_get nexts' f ≡ slice_get nexts f) → IsLinked end (set firsts a m) nexts' (set lists a (m ∷ row lists a))
+IsLinked-put end firsts nexts nexts' lists a m linked inside_a fresh new_link old_links =
     record {
       rows = length-set lists a _ ∙ linked.rows ∙ sym (length-set firsts a m);
       each = λ n within.
@@ -106,55 +107,60 @@ IsLinked-edge end firsts nexts lists a m new linked inside_a =
           ];
     }
   where
-    nexts' : List ℕ
-    nexts' = nexts ++ get_or firsts a 0 ∷ []
-
-    old_link : (n e : ℕ) → n < length firsts → Contains (row lists n) e → (e ≢ m) × (slice_get (nexts ++ get_or firsts a 0 ∷ []) e ≡ Some (after end (row lists n) e))
+    old_link : (n e : ℕ) → n < length firsts → Contains (row lists n) e → slice_get nexts' e ≡ Some (after end (row lists n) e)
     old_link n e inside p =
         let goes = (linked.each n inside).goes_on e p in
-        let within : e < length nexts = slice_get_within nexts e _ goes in
-        (λ same. omega (arith, same, within, new), slice_get-push_old nexts (get_or firsts a 0) e within ∙ goes)
+        old_links e (λ same. fresh n (subst (Contains (row lists n)) same p)) (slice_get_within nexts e _ goes) ∙ goes
 
-    kept : (n : ℕ) → n < length firsts → IsRow end (nexts ++ get_or firsts a 0 ∷ []) (get_or firsts n 0) (row lists n)
-    kept n inside = record { starts = (linked.each n inside).starts; distinct = (linked.each n inside).distinct; goes_on = λ e p. (old_link n e inside p).1 }
+    kept : (n : ℕ) → n < length firsts → IsRow end nexts' (get_or firsts n 0) (row lists n)
+    kept n inside = record { starts = (linked.each n inside).starts; distinct = (linked.each n inside).distinct; goes_on = λ e p. old_link n e inside p }
 
-    whole : IsRow end (nexts ++ get_or firsts a 0 ∷ []) m (m ∷ row lists a)
+    whole : IsRow end nexts' m (m ∷ row lists a)
     whole =
         record {
           starts = refl;
-          distinct = (λ p. (old_link a m inside_a p).0 refl, (linked.each a inside_a).distinct);
+          distinct = (fresh a, (linked.each a inside_a).distinct);
           goes_on = λ e p.
               elim (cases_eq m e) [
-                | inl same ↦ subst (λ z. slice_get (nexts ++ get_or firsts a 0 ∷ []) z ≡ Some (after end (m ∷ row lists a) z)) same
-                    (ap (slice_get (nexts ++ get_or firsts a 0 ∷ [])) new ∙ slice_get-push_new nexts (get_or firsts a 0) ∙ ap Some ((linked.each a inside_a).starts ∙ sym (after_here end m (row lists a))))
+                | inl same ↦ subst (λ z. slice_get nexts' z ≡ Some (after end (m ∷ row lists a) z)) same (new_link ∙ ap Some ((linked.each a inside_a).starts ∙ sym (after_here end m (row lists a))))
                 | inr other ↦ elim (Contains-cases m e (row lists a) p) [
                   | inl here ↦ absurd (other here)
-                  | inr there ↦ (old_link a e inside_a there).1 ∙ ap Some (sym (after_there end m e (row lists a) other))
+                  | inr there ↦ old_link a e inside_a there ∙ ap Some (sym (after_there end m e (row lists a) other))
                 ]
               ];
         }
 
-    at_a : IsRow end (nexts ++ get_or firsts a 0 ∷ []) (get_or (set firsts a m) a 0) (row (set lists a (m ∷ row lists a)) a)
+    at_a : IsRow end nexts' (get_or (set firsts a m) a 0) (row (set lists a (m ∷ row lists a)) a)
     at_a = IsRow-at _ _ _ _ (get_or-set_same firsts a m 0 inside_a) (row-set_same lists a _ (omega (arith, inside_a, linked.rows))) whole
 
-pub ListsEach-edge : (ends : List ℕ) (lists : List (List ℕ)) (a m : ℕ) → m ≡ length ends → a < length lists → ListsEach ends lists → ListsEach (ends ++ a ∷ []) (set lists a (m ∷ row lists a))
-ListsEach-edge ends lists a m new inside listed n e =
-    elim (cases_order e m) [
-      | inl last ↦
-          let stands : slice_get (ends ++ a ∷ []) e ≡ Some a = ap (slice_get (ends ++ a ∷ [])) (last ∙ new) ∙ slice_get-push_new ends a in
+-- the edges of rows are within the links
+pub linked_within : (end : ℕ) (firsts nexts : List ℕ) (lists : List (List ℕ)) (n e : ℕ) → IsLinked end firsts nexts lists → Contains (row lists n) e → e < length nexts
+linked_within end firsts nexts lists n e linked p =
+    slice_get_within nexts e _ ((linked.each n (omega (arith, row_within lists n e p, linked.rows))).goes_on e p)
+
+pub IsLinked-edge : (end : ℕ) (firsts nexts : List ℕ) (lists : List (List ℕ)) (a m : ℕ) → m ≡ length nexts → IsLinked end firsts nexts lists → a < length firsts → IsLinked end (set firsts a m) (nexts ++ get_or firsts a 0 ∷ []) (set lists a (m ∷ row lists a))
+IsLinked-edge end firsts nexts lists a m new linked inside_a =
+    IsLinked-put end firsts nexts _ lists a m linked inside_a (λ n p. let within = linked_within end firsts nexts lists n m linked p in omega (arith, within, new))
+    (ap (slice_get (nexts ++ get_or firsts a 0 ∷ [])) new ∙ slice_get-push_new nexts (get_or firsts a 0)) (λ f other within. slice_get-push_old nexts (get_or firsts a 0) f within)
+
+pub ListsBy-put : (end_of end_of' : ℕ → Option ℕ) (lists : List (List ℕ)) (a m : ℕ) → ListsBy end_of lists → a < length lists → end_of m ≡ None → end_of' m ≡ Some a → ((f : ℕ) → f ≢ m → end_of' f ≡ end_of f) → ListsBy end_of' (set lists a (m ∷ row lists a))
+ListsBy-put end_of end_of' lists a m listed inside none some others n e =
+    elim (cases_eq e m) [
+      | inl new ↦
+          let stands : end_of' e ≡ Some a = ap end_of' new ∙ some in
           elim (cases_eq n a) [
-            | inl same ↦ (λ p. stands ∙ ap Some (sym same), λ q. subst (λ l. Contains l e) (sym (ap (row (set lists a (m ∷ row lists a))) same ∙ row-set_same lists a _ inside)) (subst (Contains (m ∷ row lists a)) (sym last) (Contains-here m (row lists a))))
+            | inl same ↦ (λ p. stands ∙ ap Some (sym same), λ q. subst (λ l. Contains l e) (sym (ap (row (set lists a (m ∷ row lists a))) same ∙ row-set_same lists a _ inside)) (subst (Contains (m ∷ row lists a)) (sym new) (Contains-here m (row lists a))))
             | inr other ↦ (
-              λ p. absurd (past n e (omega (arith, last, new)) (subst (λ l. Contains l e) (row-set_other lists a n _ other) p)),
+              λ p. absurd (none-some n (sym none ∙ ap end_of (sym new) ∙ (listed n e).0 (subst (λ l. Contains l e) (row-set_other lists a n _ other) p))),
               λ q. absurd (other (same_Some n a (sym q ∙ stands))),
             )
           ]
-      | inr (inl before) ↦
-          let stands : slice_get (ends ++ a ∷ []) e ≡ slice_get ends e = slice_get-push_old ends a e (omega (arith, before, new)) in
+      | inr old ↦
+          let stands : end_of' e ≡ end_of e = others e old in
           elim (cases_eq n a) [
             | inl same ↦
                 let is : row (set lists a (m ∷ row lists a)) n ≡ m ∷ row lists n = ap (row (set lists a (m ∷ row lists a))) same ∙ row-set_same lists a _ inside ∙ ap (λ z. m ∷ row lists z) (sym same) in (
-                  λ p. elim (Contains-cases m e (row lists n) (subst (λ l. Contains l e) is p)) [ inl here ↦ absurd (omega (arith, here, before)) | inr there ↦ stands ∙ (listed n e).0 there ],
+                  λ p. elim (Contains-cases m e (row lists n) (subst (λ l. Contains l e) is p)) [ inl here ↦ absurd (old (sym here)) | inr there ↦ stands ∙ (listed n e).0 there ],
                   λ q. subst (λ l. Contains l e) (sym is) (Contains-there m e (row lists n) ((listed n e).1 (sym stands ∙ q))),
                 )
             | inr other ↦
@@ -163,20 +169,40 @@ ListsEach-edge ends lists a m new inside listed n e =
                   λ q. subst (λ l. Contains l e) (sym is) ((listed n e).1 (sym stands ∙ q)),
                 )
           ]
-      | inr (inr behind) ↦
-          let none : slice_get (ends ++ a ∷ []) e ≡ None = slice_get_past _ e (omega (arith, behind, new, length_push ends a)) in (
-            λ p. absurd (elim (cases_eq n a) [
-              | inl same ↦
-                  let is : row (set lists a (m ∷ row lists a)) n ≡ m ∷ row lists n = ap (row (set lists a (m ∷ row lists a))) same ∙ row-set_same lists a _ inside ∙ ap (λ z. m ∷ row lists z) (sym same) in
-                  elim (Contains-cases m e (row lists n) (subst (λ l. Contains l e) is p)) [ inl here ↦ omega (arith, here, behind) | inr there ↦ past n e (omega (arith, behind, new)) there ]
-              | inr other ↦ past n e (omega (arith, behind, new)) (subst (λ l. Contains l e) (row-set_other lists a n _ other) p)
-            ]),
-            λ q. absurd (none-some n (sym none ∙ q)),
-          )
     ]
-  where
-    past : (n e : ℕ) → length ends ≤ e → Contains (row lists n) e → ⊥
-    past n e far p = none-some n (sym (slice_get_past ends e far) ∙ (listed n e).0 p)
+
+pub slice_get-push_other : {A : Type 0} (xs : List A) (y : A) (i : ℕ) → i ≢ length xs → slice_get (xs ++ y ∷ []) i ≡ slice_get xs i
+slice_get-push_other xs y i other =
+    elim (cases_lt i (length xs)) [
+      | inl within ↦ slice_get-push_old xs y i within
+      | inr past ↦ slice_get_past (xs ++ y ∷ []) i (omega (arith, past, other, length_push xs y)) ∙ sym (slice_get_past xs i past)
+    ]
+
+pub ListsEach-edge : (ends : List ℕ) (lists : List (List ℕ)) (a m : ℕ) → m ≡ length ends → a < length lists → ListsEach ends lists → ListsEach (ends ++ a ∷ []) (set lists a (m ∷ row lists a))
+ListsEach-edge ends lists a m new inside listed =
+    ListsBy-put (slice_get ends) (slice_get (ends ++ a ∷ [])) lists a m listed inside (slice_get_past ends m (omega (arith, new))) (ap (slice_get (ends ++ a ∷ [])) new ∙ slice_get-push_new ends a)
+    (λ f other. slice_get-push_other ends a f (λ same. other (same ∙ sym new)))
+
+-- links and firsts that look the same to each row
+
+pub IsRow-kept : (end : ℕ) (nexts nexts' : List ℕ) (first : ℕ) (l : List ℕ) → IsRow end nexts first l → ((f : ℕ) → Contains l f → slice_get nexts' f ≡ slice_get nexts f) → IsRow end nexts' first l
+IsRow-kept end nexts nexts' first l r kept = record { starts = r.starts; distinct = r.distinct; goes_on = λ f p. kept f p ∙ r.goes_on f p }
+
+pub IsLinked-kept : (end : ℕ) (firsts firsts' nexts nexts' : List ℕ) (lists : List (List ℕ)) → IsLinked end firsts nexts lists → firsts' ≡ firsts → ((n f : ℕ) → Contains (row lists n) f → slice_get nexts' f ≡ slice_get nexts f) → IsLinked end firsts' nexts' lists
+IsLinked-kept end firsts firsts' nexts nexts' lists linked same kept =
+    rw same (record { rows = linked.rows; each = λ n within. IsRow-kept end nexts nexts' (get_or firsts n 0) (row lists n) (linked.each n within) (kept n) })
+
+-- no edge at all
+
+pub IsLinked-none : (end : ℕ) (firsts : List ℕ) (lists : List (List ℕ)) → length lists ≡ length firsts → ((n : ℕ) → n < length firsts → get_or firsts n 0 ≡ end) → IsLinked end firsts [] (map (λ _. []) lists)
+IsLinked-none end firsts lists rows ends =
+    record {
+      rows = length-map lists (λ _. []) ∙ rows;
+      each = λ n within. subst (IsRow end [] (get_or firsts n 0)) (sym (row-map (λ _. []) refl lists n)) (record { starts = ends n within; distinct = tt; goes_on = λ e p. absurd (Contains-nil e p) });
+    }
+
+pub ListsBy-none : (end_of : ℕ → Option ℕ) (lists : List (List ℕ)) → ((e : ℕ) → end_of e ≡ None) → ListsBy end_of (map (λ _. []) lists)
+ListsBy-none end_of lists none n e = (λ p. absurd (Contains-nil e (subst (λ l. Contains l e) (row-map (λ _. []) refl lists n) p)), λ q. absurd (none-some n (sym (none e) ∙ q)))
 
 -- the one link to an edge of a row, which leads elsewhere now
 
@@ -263,8 +289,8 @@ IsSwapRemoved-mapped h xs ys i last r =
 
 -- e taken out of its row
 
-pub IsLinked-unlinked : (end : ℕ) (firsts nexts firsts' nexts' ends : List ℕ) (lists : List (List ℕ)) (n e new : ℕ) → IsLinked end firsts nexts lists → ListsEach ends lists → slice_get ends e ≡ Some n → n < length firsts → e ≢ end → slice_get nexts e ≡ Some new → Redirected (row lists n) n e new firsts nexts firsts' nexts' → IsLinked end firsts' nexts' (map (without e) lists)
-IsLinked-unlinked end firsts nexts firsts' nexts' ends lists n e new linked listed at_n n_in inside goes red =
+pub IsLinked-unlinked : (end : ℕ) (firsts nexts firsts' nexts' : List ℕ) (end_of : ℕ → Option ℕ) (lists : List (List ℕ)) (n e new : ℕ) → IsLinked end firsts nexts lists → ListsBy end_of lists → end_of e ≡ Some n → n < length firsts → e ≢ end → slice_get nexts e ≡ Some new → Redirected (row lists n) n e new firsts nexts firsts' nexts' → IsLinked end firsts' nexts' (map (without e) lists)
+IsLinked-unlinked end firsts nexts firsts' nexts' end_of lists n e new linked listed at_n n_in inside goes red =
     record {
       rows = length-map lists (without e) ∙ linked.rows ∙ sym (ap length red.first ∙ length-set firsts n _);
       each = λ m within.
@@ -303,6 +329,15 @@ IsLinked-unlinked end firsts nexts firsts' nexts' ends lists n e new linked list
 
     at_row : IsRow end nexts' (get_or firsts' n 0) (row (map (without e) lists) n)
     at_row = IsRow-at _ _ _ _ (ap (λ l. get_or l n 0) red.first ∙ get_or-set_same firsts n _ 0 n_in) (row-map (without e) refl lists n) the_row
+
+-- the rows list what is left
+pub ListsBy-without : (end_of end_of' : ℕ → Option ℕ) (lists : List (List ℕ)) (e : ℕ) → ListsBy end_of lists → end_of' e ≡ None → ((f : ℕ) → f ≢ e → end_of' f ≡ end_of f) → ListsBy end_of' (map (without e) lists)
+ListsBy-without end_of end_of' lists e listed none others n f =
+    let is : row (map (without e) lists) n ≡ without e (row lists n) = row-map (without e) refl lists n in (
+      λ p. let was = Contains-from_without e f (row lists n) (subst (λ l. Contains l f) is p) in others f was.1 ∙ (listed n f).0 was.0,
+      λ q. let other : f ≢ e = λ same. none-some n (sym none ∙ ap end_of' (sym same) ∙ q) in
+          subst (λ l. Contains l f) (sym is) (Contains-without e f (row lists n) other ((listed n f).1 (sym (others f other) ∙ q))),
+    )
 
 -- the last edge renamed in its row, and moved to the place of e
 

@@ -1,5 +1,5 @@
 -- Lists threaded through numbers: a row has a first element, and each element names the next.
-use Rattle.std.specs.Prelude.{◌≡◌, ℕ, zero, suc, ◌<◌, ◌↔◌, Some, List, [], ◌∷◌, length, map, slice_get, slice_set, slice_index, unwrap_or, Contains}
+use Rattle.std.specs.Prelude.{◌≡◌, ℕ, zero, suc, ◌<◌, ◌↔◌, Option, Some, List, [], ◌∷◌, length, map, slice_get, slice_set, slice_index, unwrap_or, Contains}
 use Rattle.std.specs.Option.{option_map}
 use Rattle.daggy_base.specs.Cursor.{first_of, after}
 use Rattle.daggy_base.specs.WellFormed.{AreDistinct}
@@ -27,6 +27,10 @@ pub record IsRow (end : ℕ) (nexts : List ℕ) (first : ℕ) (list : List ℕ) 
 pub record IsLinked (end : ℕ) (firsts nexts : List ℕ) (lists : List (List ℕ)) : Type 0 where
   pub rows : length lists ≡ length firsts
   pub each : (n : ℕ) → n < length firsts → IsRow end nexts (slice_index firsts n) (row lists n)
+
+-- each row lists what has its number as an end
+abbrev pub ListsBy : (end_of : ℕ → Option ℕ) → List (List ℕ) → Type 0
+ListsBy end_of lists = (n e : ℕ) → Contains (row lists n) e ↔ (end_of e ≡ Some n)
 
 -- each row lists the places at which its number stands
 abbrev pub ListsEach : (ends : List ℕ) → List (List ℕ) → Type 0

@@ -14,7 +14,7 @@ mod count;
 mod elements;
 mod filter;
 pub mod iterators;
-mod links;
+pub mod links;
 pub mod lists;
 mod map;
 mod pairs;

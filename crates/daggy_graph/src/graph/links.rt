@@ -1,4 +1,4 @@
-//! Changes to the links between nodes and edges.
+//! The links between stored nodes and edges, and changes to them, for the stores that keep them.
 ghost use Rattle.std.specs.Prelude.{◌≡◌, ◌≢◌, ℕ, ◌+◌, ◌-◌, ◌<◌, ◌≤◌, ◌↔◌, length, map, slice_get, Contains, Some, vec_len, vec_capacity};
 ghost use Rattle.daggy_base.specs.declared.index.Direction.TheVariants.{Outgoing, Incoming};
 ghost use Rattle.daggy_base.specs.Adding.{with_node, with_edge};
@@ -12,8 +12,21 @@ use daggy_base::index::{Direction, IndexType};
 use daggy_base::link::Link;
 
 impl<N, Ix: IndexType> Node<N, Ix> {
+    /// A stored node with empty lists.
     #[inline]
-    pub(super) fn first(&self, dir: Direction) -> Link<Ix>
+    pub fn new(weight: N) -> Self
+        ensures { result ≡ record { weight = weight; first_out = Ix.greatest; first_in = Ix.greatest } }
+    {
+        Node {
+            weight,
+            first_out: Link::end(),
+            first_in: Link::end(),
+        }
+    }
+
+    /// The link to the first edge of its list of that direction.
+    #[inline]
+    pub fn first(&self, dir: Direction) -> Link<Ix>
         ensures { result ≡ raw_first dir self.now }
     {
         match dir {
@@ -22,8 +35,9 @@ impl<N, Ix: IndexType> Node<N, Ix> {
         }
     }
 
+    /// Writes the link to the first edge of its list of that direction.
     #[inline]
-    fn set_first(&mut self, dir: Direction, e: Link<Ix>)
+    pub fn set_first(&mut self, dir: Direction, e: Link<Ix>)
         ensures { self.new ≡ with_first dir self.old e }
     {
         match dir {
@@ -34,8 +48,29 @@ impl<N, Ix: IndexType> Node<N, Ix> {
 }
 
 impl<E, Ix: IndexType> Edge<E, Ix> {
+    /// A stored edge with its ends, and with the edges after it in its two lists.
     #[inline]
-    pub(super) fn next(&self, dir: Direction) -> Link<Ix>
+    pub fn new(
+        weight: E,
+        parent: Link<Ix>,
+        child: Link<Ix>,
+        next_out: Link<Ix>,
+        next_in: Link<Ix>,
+    ) -> Self
+        ensures { result ≡ record { weight = weight; parent = parent; child = child; next_out = next_out; next_in = next_in } }
+    {
+        Edge {
+            weight,
+            parent,
+            child,
+            next_out,
+            next_in,
+        }
+    }
+
+    /// The link to the edge after it in its list of that direction.
+    #[inline]
+    pub fn next(&self, dir: Direction) -> Link<Ix>
         ensures { result ≡ raw_next dir self.now }
     {
         match dir {
@@ -44,8 +79,9 @@ impl<E, Ix: IndexType> Edge<E, Ix> {
         }
     }
 
+    /// The link to the node whose list of that direction it stands in.
     #[inline]
-    fn end(&self, dir: Direction) -> Link<Ix>
+    pub fn end(&self, dir: Direction) -> Link<Ix>
         ensures { result ≡ end_at dir self.now }
     {
         match dir {
@@ -64,8 +100,9 @@ impl<E, Ix: IndexType> Edge<E, Ix> {
         }
     }
 
+    /// Writes the link to the edge after it in its list of that direction.
     #[inline]
-    fn set_next(&mut self, dir: Direction, e: Link<Ix>)
+    pub fn set_next(&mut self, dir: Direction, e: Link<Ix>)
         ensures { self.new ≡ with_next dir self.old e }
     {
         match dir {
@@ -163,8 +200,10 @@ fn find_before<E, Ix: IndexType>(
     }
 }
 
-// Leads the one link to `old` to `new` instead.
-fn redirect<N, E, Ix: IndexType>(
+/// Leads the one link to `old` in its list of that direction to `new` instead.
+///
+/// The cost grows with the number of edges before `old` in that list.
+pub fn redirect<N, E, Ix: IndexType>(
     nodes: &mut Vec<Node<N, Ix>>,
     edges: &mut Vec<Edge<E, Ix>>,
     dir: Direction,

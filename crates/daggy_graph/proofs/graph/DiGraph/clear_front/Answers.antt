@@ -1,4 +1,5 @@
 use Rattle.std.proofs.Common.{not, refl, ap, ◌∙◌}
+use Rattle.daggy_base.specs.Removal.{Compact}
 use Rattle.daggy_graph.proofs.Isolation.{clearing_step, clearing_done}
 use Rattle.daggy_graph.proofs.graph.DiGraph.clear_front.Goals as goal
 
@@ -7,13 +8,13 @@ front-init g c = record { left = refl; empty_stays = λ d empty. empty; nodes = 
 
 pub front-preserved : goal.front-preserved
 front-preserved g c =
-    (clearing_step _ _ _ _ _ c.front.self c.remove_edge.new.self c.front.invariant c.edge_count-well_formed.ensures.well_formed c.first_edge-e.ensures _ c.remove_edge.ensures.value c.remove_edge.ensures.removed (c.is_none.ensures ∙ ap not c.if-is_none.false)).0
+    (clearing_step Compact _ _ _ _ _ c.front.self c.remove_edge.new.self c.front.invariant c.edge_count-well_formed.ensures.well_formed c.first_edge-e.ensures _ c.remove_edge.ensures.value c.remove_edge.ensures.removed (c.is_none.ensures ∙ ap not c.if-is_none.false)).0
 
 pub front-smaller : goal.front-smaller
 front-smaller g c =
-    (clearing_step _ _ _ _ _ c.front.self c.remove_edge.new.self c.front.invariant c.edge_count-well_formed.ensures.well_formed c.first_edge-e.ensures _ c.remove_edge.ensures.value c.remove_edge.ensures.removed (c.is_none.ensures ∙ ap not c.if-is_none.false)).1
+    (clearing_step Compact _ _ _ _ _ c.front.self c.remove_edge.new.self c.front.invariant c.edge_count-well_formed.ensures.well_formed c.first_edge-e.ensures _ c.remove_edge.ensures.value c.remove_edge.ensures.removed (c.is_none.ensures ∙ ap not c.if-is_none.false)).1
 
 pub returns-then-is_none : goal.returns-then-is_none
 returns-then-is_none g c =
-    let done = clearing_done _ _ _ _ _ c.front.self c.remove_edge.new.self c.front.invariant c.edge_count-well_formed.ensures.well_formed c.first_edge-e.ensures _ c.remove_edge.ensures.value c.remove_edge.ensures.missing (c.is_none.ensures ∙ ap not c.if-is_none.true) in
+    let done = clearing_done Compact _ _ _ _ _ c.front.self c.remove_edge.new.self c.front.invariant c.edge_count-well_formed.ensures.well_formed c.first_edge-e.ensures _ c.remove_edge.ensures.value c.remove_edge.ensures.missing (c.is_none.ensures ∙ ap not c.if-is_none.true) in
     record { cleared = done.0; emptied = done.2; empty_stays = done.1.empty_stays; nodes = done.1.nodes }

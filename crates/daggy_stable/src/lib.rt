@@ -1,0 +1,6 @@
+//! The stable store: a graph in slots, where a removal vacates a slot and moves nothing.
+#![tactic(auto)]
+
+pub mod stable_graph;
+#[cfg(test)]
+mod tests;

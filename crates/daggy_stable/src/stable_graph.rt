@@ -1,0 +1,148 @@
+//! A directed graph in slots, whose indices outlive removals.
+ghost use Rattle.std.specs.Prelude.{◌≡◌, ◌<◌, ◌↔◌, IsTrue};
+ghost use Rattle.std.specs.Option.{option_map};
+ghost use Rattle.daggy_base.specs.Graph.{empty, edge_at, HasNode, HasEdge, list_at, ends_of, pair_of};
+ghost use Rattle.daggy_base.specs.Finding.{find_edge as edge_between};
+ghost use Rattle.daggy_base.specs.Cursor.{first_of, cursor_after};
+
+mod adding;
+mod count;
+mod removal;
+mod source;
+mod taking;
+mod weights;
+
+use daggy_base::index::{DefaultIx, Direction, EdgeIndex, IndexType, NodeIndex};
+use daggy_base::link::Link;
+use daggy_base::search::Looks;
+use daggy_graph::graph::{Edge, Node};
+use std::alloc::Global;
+use std::marker::Model;
+
+/// A directed graph whose indices outlive removals. Any number of edges may lead from one node to another, and an
+/// edge may lead from a node to itself.
+///
+/// A removal leaves the slot of what it removed vacant, and changes no other index. Adding reuses the slot that was
+/// vacated last, and makes a new slot, behind the others, only when none is vacant. Adding is constant time, as are
+/// all calls that read, but for those that say otherwise.
+///
+/// `Ix` is the number type that indices are kept in. It bounds how many nodes and how many edges there may be.
+#[derive(Drop)]
+pub struct StableDiGraph<N, E, Ix: IndexType = DefaultIx> {
+    nodes: Vec<Node<Option<N>, Ix>>,
+    edges: Vec<Edge<Option<E>, Ix>>,
+    first_vacant_node: Link<Ix>,
+    first_vacant_edge: Link<Ix>,
+    node_count: usize,
+    edge_count: usize,
+    looks: Looks,
+}
+
+impl<N, E, Ix: IndexType> Model for StableDiGraph<N, E, Ix> {
+    ghost use Rattle.daggy_base.specs.State.{State};
+    ghost use Rattle.daggy_stable.specs.Stored.{stored_graph, Stores};
+
+    ghost Value = { State N E };
+
+    ghost view = { λ a. record { graph = stored_graph Ix.greatest a.nodes.items a.edges.items a.first_vacant_node a.first_vacant_edge; looks = a.looks.count } };
+
+    ghost invariant = { λ a. Stores Ix.greatest a.nodes.items a.edges.items a.first_vacant_node a.first_vacant_edge a.node_count a.edge_count (stored_graph Ix.greatest a.nodes.items a.edges.items a.first_vacant_node a.first_vacant_edge) };
+}
+
+impl<N, E, Ix: IndexType> StableDiGraph<N, E, Ix> {
+    /// A graph with no node and no edge. It takes no memory yet.
+    pub fn new(alloc: Global) -> Self
+        ensures { result ≡ record { graph = empty; looks = 0 } }
+    {
+        StableDiGraph {
+            nodes: Vec::new(alloc),
+            edges: Vec::new(alloc),
+            first_vacant_node: Link::end(),
+            first_vacant_edge: Link::end(),
+            node_count: 0,
+            edge_count: 0,
+            looks: Looks::new(),
+        }
+    }
+
+    /// Whether the node exists.
+    #[inline]
+    pub fn contains_node(&self, n: NodeIndex<Ix>) -> bool
+        ensures { IsTrue result ↔ HasNode self.now.graph (Ix.number n) }
+    {
+        self.node_weight(n).is_some()
+    }
+
+    /// Whether the edge exists.
+    #[inline]
+    pub fn contains_edge(&self, e: EdgeIndex<Ix>) -> bool
+        ensures { IsTrue result ↔ HasEdge self.now.graph (Ix.number e) }
+    {
+        self.edge_weight(e).is_some()
+    }
+
+    /// The parent and the child of an edge, if the edge exists.
+    #[inline]
+    pub fn edge_endpoints(&self, e: EdgeIndex<Ix>) -> Option<(NodeIndex<Ix>, NodeIndex<Ix>)>
+        ensures { option_map (pair_of Ix.number) result ≡ option_map ends_of (edge_at self.now.graph (Ix.number e)) }
+    {
+        match self.edges.get(e.index()) {
+            Some(x) => {
+                if x.weight.is_none() {
+                    return None;
+                }
+                let parent = x.end(Direction::Outgoing);
+                let child = x.end(Direction::Incoming);
+                Some((parent.node(), child.node()))
+            }
+            None => None,
+        }
+    }
+
+    /// The first edge of those that leave the node, or of those that enter it, or `end`.
+    #[inline]
+    pub fn first_edge(&self, n: NodeIndex<Ix>, dir: Direction) -> EdgeIndex<Ix>
+        ensures { Ix.number result ≡ first_of Ix.greatest (list_at dir self.now.graph (Ix.number n)) }
+    {
+        match self.nodes.get(n.index()) {
+            Some(x) => {
+                if x.weight.is_none() {
+                    return EdgeIndex::end();
+                }
+                x.first(dir).edge()
+            }
+            None => EdgeIndex::end(),
+        }
+    }
+
+    /// The edge after this one among those that leave its parent, or among those that enter its child, or `end`.
+    #[inline]
+    pub fn next_edge(&self, e: EdgeIndex<Ix>, dir: Direction) -> EdgeIndex<Ix>
+        requires { HasEdge self.now.graph (Ix.number e) }
+        ensures { Ix.number result ≡ cursor_after dir Ix.greatest self.now.graph (Ix.number e) (edge_at self.now.graph (Ix.number e)) }
+    {
+        let x = &self.edges[e.index()];
+        x.next(dir).edge()
+    }
+
+    /// The first edge from `a` to `b`, of those that leave `a`, if there is one.
+    ///
+    /// The cost grows with the number of edges that leave `a`.
+    pub fn find_edge(&self, a: NodeIndex<Ix>, b: NodeIndex<Ix>) -> Option<EdgeIndex<Ix>>
+        ensures { option_map Ix.number result ≡ edge_between self.now.graph (Ix.number a) (Ix.number b) }
+    {
+        let v = b.index();
+        let mut e = Link::of_edge(self.first_edge(a, Direction::Outgoing));
+        'along: loop {
+            let i = e.index();
+            if i >= self.edges.len() {
+                return None;
+            }
+            let x = &self.edges[i];
+            if x.end(Direction::Incoming).index() == v {
+                return Some(e.edge());
+            }
+            e = x.next(Direction::Outgoing);
+        }
+    }
+}

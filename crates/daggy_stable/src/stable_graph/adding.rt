@@ -1,0 +1,186 @@
+//! Adding nodes and edges.
+ghost use Rattle.std.specs.Prelude.{◌≡◌, ◌≢◌, ◌<◌, [], Some, map, length, slice_set, slice_index, IfOk, OnOk, IfErr, OnErr};
+ghost use Rattle.daggy_base.specs.declared.index.Direction.TheVariants.{Outgoing, Incoming};
+ghost use Rattle.daggy_base.specs.Graph.{HasNode, node_count as node_count_of, edge_count as edge_count_of};
+ghost use Rattle.daggy_base.specs.Adding.{next_node, next_edge as next_edge_of, with_node, with_edge};
+ghost use Rattle.daggy_base.specs.State.{with_graph};
+ghost use Rattle.daggy_base.specs.declared.error.NodeError.TheVariants.{Memory as NodeMemory};
+ghost use Rattle.daggy_base.specs.declared.error.EdgeError.TheVariants.{Memory as EdgeMemory};
+ghost use Rattle.daggy_graph.specs.Stored.{firsts_of};
+ghost use Rattle.daggy_stable.specs.Stored.{weight_of};
+
+use crate::stable_graph::StableDiGraph;
+use daggy_base::error::{EdgeError, NodeError};
+use daggy_base::index::{Direction, EdgeIndex, IndexType, NodeIndex};
+use daggy_base::link::Link;
+use daggy_graph::graph::{Edge, Node};
+
+impl<N: Drop, E: Drop, Ix: IndexType> StableDiGraph<N, E, Ix> {
+    /// Adds a node. Its index is that of the node that was removed last, if its slot is still vacant, and so on to the
+    /// node that was removed first. If no slot is vacant, its index is the number of nodes before.
+    ///
+    /// The error says that memory for it was refused. It holds the weight, and the graph is as it was. The cost is
+    /// constant, taken over many calls.
+    #[inline]
+    pub fn add_node(&mut self, weight: N) -> Result<NodeIndex<Ix>, NodeError<N>>
+        requires { node_count_of self.old.graph < Ix.greatest }
+        ensures index { IfOk result (λ n. Ix.number n ≡ next_node self.old.graph) }
+        ensures added { OnOk result (self.new ≡ with_graph self.old (with_node self.old.graph weight)) }
+        ensures refusal { IfErr result (λ e. e ≡ NodeMemory weight) }
+        ensures unchanged { OnErr result (self.new ≡ self.old) }
+    {
+        if self.first_vacant_node.index() < self.nodes.len() {
+            return Ok(self.fill_node(weight));
+        }
+        self.make_node(weight)
+    }
+
+    // Adds a node in the slot that was vacated last.
+    #[inline]
+    fn fill_node(&mut self, weight: N) -> NodeIndex<Ix>
+        requires { self.old.graph.vacant_nodes ≢ [] }
+        ensures index { Ix.number result ≡ next_node self.old.graph }
+        ensures added { self.new ≡ with_graph self.old (with_node self.old.graph weight) }
+    {
+        let n = self.first_vacant_node;
+        let i = n.index();
+        self.first_vacant_node = self.nodes[i].first(Direction::Outgoing);
+        self.nodes[i] = Node::new(Some(weight));
+        self.node_count += 1;
+        n.node()
+    }
+
+    // Adds a node in a new slot.
+    #[inline]
+    fn make_node(&mut self, weight: N) -> Result<NodeIndex<Ix>, NodeError<N>>
+        requires none { self.old.graph.vacant_nodes ≡ [] }
+        requires room { node_count_of self.old.graph < Ix.greatest }
+        ensures index { IfOk result (λ n. Ix.number n ≡ next_node self.old.graph) }
+        ensures added { OnOk result (self.new ≡ with_graph self.old (with_node self.old.graph weight)) }
+        ensures refusal { IfErr result (λ e. e ≡ NodeMemory weight) }
+        ensures unchanged { OnErr result (self.new ≡ self.old) }
+    {
+        if self.nodes.reserve(1).is_err() {
+            return Err(NodeError::Memory(weight));
+        }
+        let n = NodeIndex::new(self.nodes.len());
+        self.nodes.push_reserved(Node::new(Some(weight)));
+        self.node_count += 1;
+        Ok(n)
+    }
+
+    /// Adds an edge from `a` to `b`. It is then the first edge that leaves `a`, and the first that enters `b`. Its index
+    /// is that of the edge that was removed last, if its slot is still vacant, and so on to the edge that was removed
+    /// first. If no slot is vacant, its index is the number of edges before.
+    ///
+    /// The error says that memory for it was refused. It holds the weight, and the graph is as it was. The cost is
+    /// constant, taken over many calls.
+    #[inline]
+    pub fn add_edge(
+        &mut self,
+        a: NodeIndex<Ix>,
+        b: NodeIndex<Ix>,
+        weight: E,
+    ) -> Result<EdgeIndex<Ix>, EdgeError<E>>
+        requires parent { HasNode self.old.graph (Ix.number a) }
+        requires child { HasNode self.old.graph (Ix.number b) }
+        requires room { edge_count_of self.old.graph < Ix.greatest }
+        ensures index { IfOk result (λ e. Ix.number e ≡ next_edge_of self.old.graph) }
+        ensures added { OnOk result (self.new ≡ with_graph self.old (with_edge self.old.graph (Ix.number a) (Ix.number b) weight)) }
+        ensures refusal { IfErr result (λ e. e ≡ EdgeMemory weight) }
+        ensures unchanged { OnErr result (self.new ≡ self.old) }
+    {
+        if self.first_vacant_edge.index() < self.edges.len() {
+            return Ok(self.fill_edge(a, b, weight));
+        }
+        self.make_edge(a, b, weight)
+    }
+
+    // Adds an edge in the slot that was vacated last.
+    #[inline]
+    fn fill_edge(&mut self, a: NodeIndex<Ix>, b: NodeIndex<Ix>, weight: E) -> EdgeIndex<Ix>
+        requires some { self.old.graph.vacant_edges ≢ [] }
+        requires parent { HasNode self.old.graph (Ix.number a) }
+        requires child { HasNode self.old.graph (Ix.number b) }
+        ensures index { Ix.number result ≡ next_edge_of self.old.graph }
+        ensures added { self.new ≡ with_graph self.old (with_edge self.old.graph (Ix.number a) (Ix.number b) weight) }
+    {
+        let e = self.first_vacant_edge;
+        let i = e.index();
+        self.first_vacant_edge = self.edges[i].next(Direction::Outgoing);
+        let x = put_first(
+            &mut self.nodes,
+            Link::of_node(a),
+            Link::of_node(b),
+            e,
+            weight,
+        );
+        self.edges[i] = x;
+        self.edge_count += 1;
+        e.edge()
+    }
+
+    // Adds an edge in a new slot.
+    #[inline]
+    fn make_edge(
+        &mut self,
+        a: NodeIndex<Ix>,
+        b: NodeIndex<Ix>,
+        weight: E,
+    ) -> Result<EdgeIndex<Ix>, EdgeError<E>>
+        requires none { self.old.graph.vacant_edges ≡ [] }
+        requires parent { HasNode self.old.graph (Ix.number a) }
+        requires child { HasNode self.old.graph (Ix.number b) }
+        requires room { edge_count_of self.old.graph < Ix.greatest }
+        ensures index { IfOk result (λ e. Ix.number e ≡ next_edge_of self.old.graph) }
+        ensures added { OnOk result (self.new ≡ with_graph self.old (with_edge self.old.graph (Ix.number a) (Ix.number b) weight)) }
+        ensures refusal { IfErr result (λ e. e ≡ EdgeMemory weight) }
+        ensures unchanged { OnErr result (self.new ≡ self.old) }
+    {
+        if self.edges.reserve(1).is_err() {
+            return Err(EdgeError::Memory(weight));
+        }
+        let e = Link::new(self.edges.len());
+        let x = put_first(
+            &mut self.nodes,
+            Link::of_node(a),
+            Link::of_node(b),
+            e,
+            weight,
+        );
+        self.edges.push_reserved(x);
+        self.edge_count += 1;
+        Ok(e.edge())
+    }
+}
+
+// Puts the edge `e` first in the out list of `a` and in the in list of `b`, and gives what is stored of it.
+#[inline]
+fn put_first<N, E, Ix: IndexType>(
+    nodes: &mut Vec<Node<Option<N>, Ix>>,
+    a: Link<Ix>,
+    b: Link<Ix>,
+    e: Link<Ix>,
+    weight: E,
+) -> Edge<Option<E>, Ix>
+    requires parent { a < length nodes.old.items }
+    requires child { b < length nodes.old.items }
+    ensures edge { result ≡ record {
+      weight = Some weight;
+      parent = a;
+      child = b;
+      next_out = slice_index (firsts_of Outgoing nodes.old.items) a;
+      next_in = slice_index (firsts_of Incoming nodes.old.items) b;
+    } }
+    ensures weights { map weight_of nodes.new.items ≡ map weight_of nodes.old.items }
+    ensures out { firsts_of Outgoing nodes.new.items ≡ slice_set (firsts_of Outgoing nodes.old.items) a e }
+    ensures into { firsts_of Incoming nodes.new.items ≡ slice_set (firsts_of Incoming nodes.old.items) b e }
+{
+    let u = a.index();
+    let v = b.index();
+    let next_out = nodes[u].first(Direction::Outgoing);
+    let next_in = nodes[v].first(Direction::Incoming);
+    nodes[u].set_first(Direction::Outgoing, e);
+    nodes[v].set_first(Direction::Incoming, e);
+    Edge::new(Some(weight), a, b, next_out, next_in)
+}

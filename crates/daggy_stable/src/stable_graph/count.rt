@@ -1,0 +1,93 @@
+//! How many nodes, edges and slots there are, and whether there is room for more.
+ghost use Rattle.std.specs.Prelude.{◌≡◌, ◌<◌, ◌↔◌, length, IsTrue};
+ghost use Rattle.daggy_base.specs.Graph.{node_count as node_count_of, edge_count as edge_count_of, node_bound as node_bound_of, edge_bound as edge_bound_of};
+ghost use Rattle.daggy_base.specs.WellFormed.{IsWellFormed};
+
+use crate::stable_graph::StableDiGraph;
+use daggy_base::index::{EdgeIndex, IndexType, NodeIndex};
+
+impl<N, E, Ix: IndexType> StableDiGraph<N, E, Ix> {
+    /// How many nodes there are.
+    #[inline]
+    pub fn node_count(&self) -> usize
+        ensures count { result ≡ node_count_of self.now.graph }
+        ensures well_formed { IsWellFormed Ix.greatest self.now.graph }
+    {
+        self.node_count
+    }
+
+    /// How many edges there are.
+    #[inline]
+    pub fn edge_count(&self) -> usize
+        ensures count { result ≡ edge_count_of self.now.graph }
+        ensures well_formed { IsWellFormed Ix.greatest self.now.graph }
+    {
+        self.edge_count
+    }
+
+    /// How many slots of nodes there are, vacant or not.
+    #[inline]
+    pub fn node_slots(&self) -> usize
+        ensures { result ≡ length self.now.graph.nodes }
+    {
+        self.nodes.len()
+    }
+
+    /// How many slots of edges there are, vacant or not.
+    #[inline]
+    pub fn edge_slots(&self) -> usize
+        ensures { result ≡ length self.now.graph.edges }
+    {
+        self.edges.len()
+    }
+
+    /// The greatest index of a node plus one, or 0 if there is no node.
+    ///
+    /// The cost grows with the number of vacant slots behind that node.
+    pub fn node_bound(&self) -> usize
+        ensures { result ≡ node_bound_of self.now.graph }
+    {
+        let mut n = self.node_slots();
+        'back: while n > 0 {
+            let x = &self.nodes[n - 1];
+            if x.weight.is_some() {
+                return n;
+            }
+            n -= 1;
+        }
+        0
+    }
+
+    /// The greatest index of an edge plus one, or 0 if there is no edge.
+    ///
+    /// The cost grows with the number of vacant slots behind that edge.
+    pub fn edge_bound(&self) -> usize
+        ensures { result ≡ edge_bound_of self.now.graph }
+    {
+        let mut n = self.edge_slots();
+        'back: while n > 0 {
+            let x = &self.edges[n - 1];
+            if x.weight.is_some() {
+                return n;
+            }
+            n -= 1;
+        }
+        0
+    }
+
+    /// Whether the index type has an index left for one more node.
+    #[inline]
+    pub fn can_add_node(&self) -> bool
+        ensures { IsTrue result ↔ (node_count_of self.now.graph < Ix.greatest) }
+    {
+        self.node_count() < NodeIndex::<Ix>::end().index()
+    }
+
+    /// Whether the index type has an index left for one more edge.
+    #[inline]
+    pub fn can_add_edge(&self) -> bool
+        ensures { IsTrue result ↔ (edge_count_of self.now.graph < Ix.greatest) }
+    {
+        self.edge_count() < EdgeIndex::<Ix>::end().index()
+    }
+}

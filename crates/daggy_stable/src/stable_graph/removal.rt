@@ -1,0 +1,173 @@
+//! Removing edges and nodes.
+ghost use Rattle.std.specs.Prelude.{◌≡◌, ℕ, ◌<◌, length, map, slice_index, OnSome, IfNone, Some, []};
+ghost use Rattle.std.specs.Option.{option_map};
+ghost use Rattle.daggy_base.specs.declared.index.Direction.{Direction};
+ghost use Rattle.daggy_base.specs.Graph.{empty, node_weight, edge_at, HasNode, HasEdge, list_at};
+ghost use Rattle.daggy_base.specs.Removal.{Stable, without_edge, without_front, without_node, isolated, dropped_node, without_all_edges};
+ghost use Rattle.daggy_base.specs.WellFormed.{IsIsolated};
+ghost use Rattle.daggy_base.specs.State.{with_graph};
+ghost use Rattle.daggy_graph.specs.Stored.{weight_of as stored_weight, plain_edge as stored_edge, nexts_of, IsReady, Redirects};
+ghost use Rattle.daggy_stable.specs.Stored.{emptied};
+
+use crate::stable_graph::StableDiGraph;
+use daggy_base::index::{Direction, EdgeIndex, IndexType, NodeIndex};
+use daggy_base::link::Link;
+use daggy_graph::graph::links::redirect;
+use daggy_graph::graph::{Edge, Node};
+
+impl<N, E, Ix: IndexType> StableDiGraph<N, E, Ix> {
+    /// Removes an edge and hands back its weight, if the edge exists. No other index changes.
+    ///
+    /// The cost grows with the number of edges before it in its two lists. It takes no memory.
+    pub fn remove_edge(&mut self, e: EdgeIndex<Ix>) -> Option<E>
+        ensures value { result ≡ option_map (λ x. x.weight) (edge_at self.old.graph (Ix.number e)) }
+        ensures removed { OnSome result (self.new ≡ with_graph self.old (without_edge Stable self.old.graph (Ix.number e))) }
+        ensures missing { IfNone result (self.new ≡ self.old) }
+    {
+        if !self.contains_edge(e) {
+            return None;
+        }
+        self.vacate_edge(e)
+    }
+
+    // Takes an edge out of its lists, and vacates its slot.
+    pub(super) fn vacate_edge(&mut self, e: EdgeIndex<Ix>) -> Option<E>
+        requires { HasEdge self.old.graph (Ix.number e) }
+        ensures value { result ≡ option_map (λ x. x.weight) (edge_at self.old.graph (Ix.number e)) }
+        ensures removed { self.new ≡ with_graph self.old (without_edge Stable self.old.graph (Ix.number e)) }
+    {
+        let link = Link::of_edge(e);
+        unlink(&mut self.nodes, &mut self.edges, link);
+        let x = &mut self.edges[link.index()];
+        x.set_next(Direction::Outgoing, self.first_vacant_edge);
+        let weight = x.weight.take();
+        self.first_vacant_edge = link;
+        self.edge_count -= 1;
+        weight
+    }
+
+    /// Removes a node with its edges and hands back its weight, if the node exists. No other index changes.
+    ///
+    /// First the edges that leave it are removed, the first of the list each time, and then those that enter it.
+    ///
+    /// The cost is that of removing each of those edges. It takes no memory.
+    pub fn remove_node(&mut self, n: NodeIndex<Ix>) -> Option<N>
+    where
+        E: Drop,
+        ensures value { result ≡ node_weight self.old.graph (Ix.number n) }
+        ensures removed { OnSome result (self.new ≡ with_graph self.old (without_node Stable self.old.graph (Ix.number n))) }
+        ensures between { OnSome result (IsIsolated Ix.greatest (isolated Stable self.old.graph (Ix.number n)) (Ix.number n)) }
+        ensures missing { IfNone result (self.new ≡ self.old) }
+    {
+        if self.node_weight(n).is_none() {
+            return None;
+        }
+        self.clear_front(n, Direction::Outgoing);
+        self.clear_front(n, Direction::Incoming);
+        let _well_formed = self.edge_count();
+        self.vacate_node(n)
+    }
+
+    // Removes the edge at the front of n's list of that direction until the list is empty.
+    fn clear_front(&mut self, n: NodeIndex<Ix>, dir: Direction)
+    where
+        E: Drop,
+        ensures cleared { self.new ≡ with_graph self.old (without_front Stable dir (length (list_at dir self.old.graph (Ix.number n))) self.old.graph (Ix.number n)) }
+        ensures emptied { list_at dir self.new.graph (Ix.number n) ≡ [] }
+        ensures empty_stays { (d : Direction) → list_at d self.old.graph (Ix.number n) ≡ [] → list_at d self.new.graph (Ix.number n) ≡ [] }
+        ensures nodes { self.new.graph.nodes ≡ self.old.graph.nodes }
+    {
+        'front: loop {
+            let _well_formed = self.edge_count();
+            let e = self.first_edge(n, dir);
+            if self.remove_edge(e).is_none() {
+                return;
+            }
+        }
+    }
+
+    // Vacates the slot of a node that has no edges.
+    pub(super) fn vacate_node(&mut self, n: NodeIndex<Ix>) -> Option<N>
+        requires node { HasNode self.old.graph (Ix.number n) }
+        requires no_edges { (d : Direction) → list_at d self.old.graph (Ix.number n) ≡ [] }
+        ensures value { result ≡ node_weight self.old.graph (Ix.number n) }
+        ensures dropped { self.new ≡ with_graph self.old (dropped_node Stable self.old.graph (Ix.number n)) }
+    {
+        let link = Link::of_node(n);
+        let x = &mut self.nodes[link.index()];
+        x.set_first(Direction::Outgoing, self.first_vacant_node);
+        let weight = x.weight.take();
+        self.first_vacant_node = link;
+        self.node_count -= 1;
+        weight
+    }
+
+    /// Removes all nodes and edges, and all slots. It keeps the memory for later ones.
+    ///
+    /// The cost grows with the number of slots.
+    pub fn clear(&mut self)
+    where
+        N: Drop,
+        E: Drop,
+        ensures { self.new ≡ with_graph self.old empty }
+    {
+        self.nodes.clear();
+        self.edges.clear();
+        self.first_vacant_node = Link::end();
+        self.first_vacant_edge = Link::end();
+        self.node_count = 0;
+        self.edge_count = 0;
+    }
+
+    /// Removes all edges, and all slots of edges. It keeps the nodes, and the memory for later edges.
+    ///
+    /// The cost grows with the number of slots.
+    pub fn clear_edges(&mut self)
+    where
+        E: Drop,
+        ensures { self.new ≡ with_graph self.old (without_all_edges self.old.graph) }
+    {
+        self.edges.clear();
+        empty_lists(&mut self.nodes);
+        self.first_vacant_edge = Link::end();
+        self.edge_count = 0;
+    }
+}
+
+// Takes an edge out of its two lists.
+pub(super) fn unlink<N, E, Ix: IndexType>(
+    nodes: &mut Vec<Node<N, Ix>>,
+    edges: &mut Vec<Edge<E, Ix>>,
+    e: Link<Ix>,
+)
+    requires { (dir : Direction) → IsReady Ix.greatest dir nodes.old.items edges.old.items e }
+    ensures links { (dir : Direction) → Redirects dir nodes.old.items edges.old.items e (slice_index (nexts_of dir edges.old.items) e) nodes.new.items edges.new.items }
+    ensures nodes { map stored_weight nodes.new.items ≡ map stored_weight nodes.old.items }
+    ensures edges { map stored_edge edges.new.items ≡ map stored_edge edges.old.items }
+{
+    let i = e.index();
+    let next_out = edges[i].next(Direction::Outgoing);
+    let next_in = edges[i].next(Direction::Incoming);
+    redirect(nodes, edges, Direction::Outgoing, e, next_out);
+    redirect(nodes, edges, Direction::Incoming, e, next_in);
+}
+
+// Empties the lists of every node.
+fn empty_lists<N, Ix: IndexType>(nodes: &mut Vec<Node<Option<N>, Ix>>)
+    ensures { nodes.new.items ≡ map (emptied Ix.greatest) nodes.old.items }
+{
+    for i in 0..nodes.len() {
+        empty_both(&mut nodes[i]);
+    }
+}
+
+// Empties the lists of a node, if it exists.
+fn empty_both<N, Ix: IndexType>(x: &mut Node<Option<N>, Ix>)
+    ensures { x.new ≡ emptied Ix.greatest x.old }
+{
+    if x.weight.is_none() {
+        return;
+    }
+    x.set_first(Direction::Outgoing, Link::end());
+    x.set_first(Direction::Incoming, Link::end());
+}
