@@ -11,3 +11,4 @@ pub use Rattle.daggy_base.specs.Weights
 pub use Rattle.daggy_dag.specs.Series
 pub use Rattle.daggy_dag.specs.Extension
 pub use Rattle.daggy_dag.specs.Elements
+pub use Rattle.daggy_walk.specs.Visit

@@ -12,7 +12,8 @@
 //! assert!(rt; dag.children(sow).walk_next(&dag) == Some((days, reap)));
 //! ```
 //!
-//! [`graph`] is the store below, which may hold cycles, and [`search`] finds paths in any graph that can be looked at.
+//! [`graph`] is the store below, which may hold cycles, [`search`] finds paths in any graph that can be looked at, and
+//! [`visit`] is what generic code may ask of a graph.
 #![tactic(auto)]
 
 pub use daggy_base::error::{
@@ -23,5 +24,6 @@ pub use daggy_base::{index, search};
 pub use daggy_dag::dag::{Children, Dag, Parents, RawEdges, RawNodes};
 pub use daggy_dag::edge_indices::EdgeIndices;
 pub use daggy_graph::graph;
+pub use daggy_walk::visit;
 pub use daggy_walk::walker;
 pub use daggy_walk::walker::Walker;

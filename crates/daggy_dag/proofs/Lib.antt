@@ -9,3 +9,4 @@ pub mod Stopping
 pub mod Iterating
 pub mod Extending
 pub mod Making
+pub mod Joining

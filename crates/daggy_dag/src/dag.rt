@@ -24,8 +24,10 @@ use daggy_graph::graph::{DiGraph, Edge, Node};
 use std::alloc::Global;
 use std::marker::{Model, PhantomData};
 
+mod convert;
 mod pairs;
 mod series;
+mod visit;
 mod walkers;
 mod weights;
 

@@ -6,5 +6,6 @@ pub mod edge_indices;
 pub mod elements;
 pub mod extension;
 pub mod guard;
+pub mod matrix;
 pub mod series;
 pub mod walk;

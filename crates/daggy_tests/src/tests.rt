@@ -1,6 +1,7 @@
 //! What no contract says: that calls succeed, what is printed, and that large graphs are no trouble.
 
 mod adding;
+mod converting;
 mod errors;
 mod example;
 mod graphs;
@@ -12,5 +13,6 @@ mod searching;
 mod series;
 mod support;
 mod updating;
+mod visiting;
 mod walking;
 mod writing;

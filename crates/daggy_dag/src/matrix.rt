@@ -1,0 +1,27 @@
+//! The matrix of the pairs of nodes that an edge joins, for both kinds of dag.
+ghost use Rattle.std.specs.Prelude.{ℕ, ◌↔◌, IfOk};
+ghost use Rattle.daggy_base.specs.Path.{AreJoined};
+ghost use Rattle.daggy_walk.specs.Visit.{HasPair};
+
+use daggy_base::index::{EdgeIndex, IndexType};
+use daggy_base::store::Store;
+use daggy_walk::visit::AdjMatrix;
+use std::alloc::{AllocError, Global};
+
+/// The pairs of nodes that an edge of the store joins. `Err` says that there is no memory.
+///
+/// Takes time in proportion to the bound of the edges, and to a 64th of the square of the bound of the nodes.
+pub fn adjacency_matrix<Ix: IndexType, S: Store<Ix>>(
+    store: &S,
+    alloc: Global,
+) -> Result<AdjMatrix<Ix>, AllocError>
+    ensures { IfOk result (λ matrix. (a b : ℕ) → HasPair matrix a b ↔ AreJoined (S.graph store.now) a b) }
+{
+    let mut matrix = AdjMatrix::new(alloc, store.node_bound())?;
+    'edges: for e in 0..store.edge_bound() {
+        if let Some(ends) = store.edge_endpoints(EdgeIndex::new(e)) {
+            matrix.join(ends.0, ends.1);
+        }
+    }
+    Ok(matrix)
+}
