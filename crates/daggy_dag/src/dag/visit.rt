@@ -17,7 +17,7 @@ use daggy_walk::visit::{
     AdjMatrix, Data, DataMap, DataMapMut, Directed, GetAdjacencyMatrix, GraphBase, GraphProp,
     NodeCompactIndexable, NodeCount, NodeIndexable, NodeSet, Visitable,
 };
-use std::alloc::{AllocError, Global};
+use std::alloc::AllocError;
 
 impl<N: Drop, E: Drop, Ix: IndexType> GraphBase for Dag<N, E, Ix> {
     type NodeId = NodeIndex<Ix>;
@@ -109,11 +109,11 @@ impl<N: Drop, E: Drop, Ix: IndexType> Visitable for Dag<N, E, Ix> {
 
     ghost map_number = { λ n. refl };
 
-    fn visit_map(&self, alloc: Global) -> Result<NodeSet<Ix>, AllocError>
+    fn visit_map(&self) -> Result<NodeSet<Ix>, AllocError>
         ensures bound { IfOk result (λ map. length map ≡ node_bound_of self.now.graph) }
         ensures empty { IfOk result (λ map. (n : ℕ) → ¬ IsVisited map n) }
     {
-        NodeSet::new(alloc, self.node_bound())
+        NodeSet::new(self.scratch.allocator(), self.node_bound())
     }
 
     fn reset_map(&self, map: &mut NodeSet<Ix>) -> Result<(), AllocError>
@@ -156,10 +156,10 @@ impl<N: Drop, E: Drop, Ix: IndexType> GetAdjacencyMatrix for Dag<N, E, Ix> {
 
     ghost pairs = { λ matrix. matrix };
 
-    fn adjacency_matrix(&self, alloc: Global) -> Result<AdjMatrix<Ix>, AllocError>
+    fn adjacency_matrix(&self) -> Result<AdjMatrix<Ix>, AllocError>
         ensures { IfOk result (λ matrix. (a b : ℕ) → HasPair matrix a b ↔ AreJoined self.now.graph a b) }
     {
-        matrix::adjacency_matrix(&self.graph, alloc)
+        matrix::adjacency_matrix(&self.graph, self.scratch.allocator())
     }
 
     #[inline]

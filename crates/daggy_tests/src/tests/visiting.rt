@@ -22,13 +22,13 @@ fn three_nodes(rt: &impl Abort, alloc: Global) -> Result<Dag<u8, u8>, Fail> {
 fn a_matrix_has_the_pairs_of_its_time(rt: HostRuntime) -> Result<(), Fail> {
     let mut dag = three_nodes(&rt, rt.alloc())?;
     let [a, b, c] = [NodeIndex::new(0), NodeIndex::new(1), NodeIndex::new(2)];
-    let before = dag.adjacency_matrix(rt.alloc())?;
+    let before = dag.adjacency_matrix()?;
     add_edge(&rt, &mut dag, b, c, 6)?;
     assert!(rt; dag.is_adjacent(&before, a, b));
     assert!(rt; !dag.is_adjacent(&before, b, c));
     assert!(rt; !dag.is_adjacent(&before, b, a));
     assert!(rt; !dag.is_adjacent(&before, a, NodeIndex::new(9)));
-    let after = dag.adjacency_matrix(rt.alloc())?;
+    let after = dag.adjacency_matrix()?;
     assert!(rt; dag.is_adjacent(&after, a, b));
     assert!(rt; dag.is_adjacent(&after, b, c));
     assert!(rt; !dag.is_adjacent(&after, a, c));
@@ -40,7 +40,7 @@ fn a_set_is_visited_and_emptied(rt: HostRuntime) -> Result<(), Fail> {
     let mut dag: Dag<u8, u8> = Dag::new(rt.alloc());
     add_node(&rt, &mut dag, 10)?;
     add_node(&rt, &mut dag, 20)?;
-    let mut map = dag.visit_map(rt.alloc())?;
+    let mut map = dag.visit_map()?;
     assert!(rt; dag.node_bound() == 2);
     assert!(rt; map.visit(NodeIndex::new(1)));
     assert!(rt; !map.visit(NodeIndex::new(1)));
@@ -54,7 +54,7 @@ fn a_set_is_visited_and_emptied(rt: HostRuntime) -> Result<(), Fail> {
 #[test]
 fn a_set_is_reset_for_more_nodes(rt: HostRuntime) -> Result<(), Fail> {
     let mut dag: Dag<u8, u8> = Dag::new(rt.alloc());
-    let mut map = dag.visit_map(rt.alloc())?;
+    let mut map = dag.visit_map()?;
     for weight in 0..70 {
         add_node(&rt, &mut dag, weight)?;
     }
@@ -143,14 +143,11 @@ fn is_full<G: NodeCompactIndexable>(graph: &G) -> bool {
 }
 
 // Whether the last node is visited once, then found, and no longer after a reset.
-fn visits_the_last<G: Visitable + NodeIndexable>(
-    alloc: Global,
-    graph: &G,
-) -> Result<bool, AllocError>
+fn visits_the_last<G: Visitable + NodeIndexable>(graph: &G) -> Result<bool, AllocError>
 where
     G::Map: Drop,
 {
-    let mut map = graph.visit_map(alloc)?;
+    let mut map = graph.visit_map()?;
     let Some(last) = graph.node_bound().checked_sub(1) else {
         return Ok(false);
     };
@@ -163,7 +160,6 @@ where
 }
 
 fn are_joined<G: GetAdjacencyMatrix>(
-    alloc: Global,
     graph: &G,
     a: G::NodeId,
     b: G::NodeId,
@@ -171,7 +167,7 @@ fn are_joined<G: GetAdjacencyMatrix>(
 where
     G::AdjMatrix: Drop,
 {
-    let matrix = graph.adjacency_matrix(alloc)?;
+    let matrix = graph.adjacency_matrix()?;
     Ok(graph.is_adjacent(&matrix, a, b))
 }
 
@@ -194,8 +190,8 @@ fn generic_code_takes_a_dag(rt: HostRuntime) -> Result<(), Fail> {
     assert_eq!(rt; dag.edge_weight(e).copied(), Some(6));
     assert_eq!(rt; past_the_last(&dag), 3);
     assert!(rt; is_full(&dag));
-    assert!(rt; visits_the_last(rt.alloc(), &dag)?);
-    assert!(rt; are_joined(rt.alloc(), &dag, a, b)?);
-    assert!(rt; !are_joined(rt.alloc(), &dag, b, a)?);
+    assert!(rt; visits_the_last(&dag)?);
+    assert!(rt; are_joined(&dag, a, b)?);
+    assert!(rt; !are_joined(&dag, b, a)?);
     Ok(())
 }

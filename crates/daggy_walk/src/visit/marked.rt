@@ -5,7 +5,7 @@ ghost use Rattle.daggy_base.specs.Path.{AreJoined};
 ghost use Rattle.daggy_walk.specs.Visit.{IsVisited, HasPair};
 
 use crate::visit::Data;
-use std::alloc::{AllocError, Global};
+use std::alloc::AllocError;
 
 /// A set of what is visited, which `N` names.
 pub trait VisitMap<N> {
@@ -33,7 +33,7 @@ pub trait Visitable: Data {
     type Map: VisitMap<Self::NodeId>;
 
     /// An empty set with room for the nodes of the graph. `Err` says that there is no memory.
-    fn visit_map(&self, alloc: Global) -> Result<Self::Map, AllocError>
+    fn visit_map(&self) -> Result<Self::Map, AllocError>
         ensures bound { IfOk result (λ map.
             length (Self.Map.visited map) ≡ node_bound_of (Self.graph self.now)) }
         ensures empty { IfOk result (λ map. (n : ℕ) → ¬ IsVisited (Self.Map.visited map) n) };
@@ -58,7 +58,7 @@ pub trait GetAdjacencyMatrix: Data {
     ghost pairs: { Self.AdjMatrix → List (List Bool) };
 
     /// The pairs of nodes that an edge joins. `Err` says that there is no memory.
-    fn adjacency_matrix(&self, alloc: Global) -> Result<Self::AdjMatrix, AllocError>
+    fn adjacency_matrix(&self) -> Result<Self::AdjMatrix, AllocError>
         ensures { IfOk result (λ matrix.
             (a b : ℕ) → HasPair (pairs matrix) a b ↔ AreJoined (Self.graph self.now) a b) };
 
