@@ -9,3 +9,6 @@ pub mod Stopping
 pub mod Iterating
 pub mod Extending
 pub mod Making
+pub mod Lifting
+pub mod Mapped
+pub mod Filtered

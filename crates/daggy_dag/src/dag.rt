@@ -24,6 +24,9 @@ use daggy_graph::graph::{DiGraph, Edge, Node};
 use std::alloc::Global;
 use std::marker::{Model, PhantomData};
 
+mod copies;
+mod iterators;
+mod map;
 mod pairs;
 mod series;
 mod walkers;
