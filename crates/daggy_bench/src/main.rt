@@ -31,8 +31,9 @@ fn time(
 ) -> io::Result<()> {
     let prepared = workload.prepare(rt.alloc(), sizes)?;
     let start = Instant::now(rt)?;
-    let check = prepared.run(rt.alloc())?;
+    let finished = prepared.run(rt.alloc())?;
     let seconds = start.elapsed(rt)?.as_secs_f64();
+    let check = finished.check();
     let name = workload.name();
     let nodes = sizes.nodes;
     eprintln!(rt; "check compact.{name} {nodes} {check}")?;

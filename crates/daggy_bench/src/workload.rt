@@ -18,7 +18,11 @@ pub enum Workload {
     AddChildTree,
     BuildRandom,
     BuildSorted,
+    AddEdges,
     WalkChildren,
+    MapWeights,
+    Copy,
+    EdgeList,
     RemoveEdges,
     RemoveNodes,
 }
@@ -28,9 +32,21 @@ pub enum Workload {
 pub enum Prepared {
     AddChildTree(u32),
     Build(u32, Vec<(u32, u32)>),
+    AddEdges(Weighted, Vec<(u32, u32)>),
     WalkChildren(Weighted),
+    MapWeights(Weighted),
+    Copy(Weighted),
+    EdgeList(Weighted),
     RemoveEdges(Weighted),
     RemoveNodes(Weighted),
+}
+
+/// What a workload ends with. The number that another program which did the same has too is made of it once the clock
+/// has stopped.
+#[derive(Drop)]
+pub enum Finished {
+    Number(u64),
+    Edges(Weighted),
 }
 
 impl Workload {
@@ -39,6 +55,10 @@ impl Workload {
             "add_child_tree" => Some(Workload::AddChildTree),
             "build_random" => Some(Workload::BuildRandom),
             "build_sorted" => Some(Workload::BuildSorted),
+            "add_edges" => Some(Workload::AddEdges),
+            "map_weights" => Some(Workload::MapWeights),
+            "copy" => Some(Workload::Copy),
+            "edge_list" => Some(Workload::EdgeList),
             "walk_children" => Some(Workload::WalkChildren),
             "remove_edges" => Some(Workload::RemoveEdges),
             "remove_nodes" => Some(Workload::RemoveNodes),
@@ -51,7 +71,11 @@ impl Workload {
             Workload::AddChildTree => "add_child_tree",
             Workload::BuildRandom => "build_random",
             Workload::BuildSorted => "build_sorted",
+            Workload::AddEdges => "add_edges",
             Workload::WalkChildren => "walk_children",
+            Workload::MapWeights => "map_weights",
+            Workload::Copy => "copy",
+            Workload::EdgeList => "edge_list",
             Workload::RemoveEdges => "remove_edges",
             Workload::RemoveNodes => "remove_nodes",
         }
@@ -62,7 +86,16 @@ impl Workload {
             Workload::AddChildTree => Ok(Prepared::AddChildTree(sizes.nodes)),
             Workload::BuildRandom => Ok(Prepared::Build(sizes.nodes, random_pairs(alloc, sizes)?)),
             Workload::BuildSorted => Ok(Prepared::Build(sizes.nodes, sorted_pairs(alloc, sizes)?)),
+            Workload::AddEdges => {
+                let pairs = random_pairs(alloc, sizes)?;
+                let none = Vec::new(alloc);
+                let (dag, _) = build(alloc, sizes.nodes, none.as_slice())?;
+                Ok(Prepared::AddEdges(dag, pairs))
+            }
             Workload::WalkChildren => Ok(Prepared::WalkChildren(sorted(alloc, sizes)?)),
+            Workload::MapWeights => Ok(Prepared::MapWeights(sorted(alloc, sizes)?)),
+            Workload::Copy => Ok(Prepared::Copy(sorted(alloc, sizes)?)),
+            Workload::EdgeList => Ok(Prepared::EdgeList(sorted(alloc, sizes)?)),
             Workload::RemoveEdges => Ok(Prepared::RemoveEdges(sorted(alloc, sizes)?)),
             Workload::RemoveNodes => Ok(Prepared::RemoveNodes(sorted(alloc, sizes)?)),
         }
@@ -70,21 +103,32 @@ impl Workload {
 }
 
 impl Prepared {
-    /// The work that is timed. It gives a number that another program which did the same has too.
-    pub fn run(self, alloc: Global) -> Result<u64, AllocError> {
+    /// The work that is timed.
+    pub fn run(self, alloc: Global) -> Result<Finished, AllocError> {
         match self {
-            Prepared::AddChildTree(nodes) => add_child_tree(alloc, nodes),
+            Prepared::AddChildTree(nodes) => Ok(Finished::Number(add_child_tree(alloc, nodes)?)),
             Prepared::Build(nodes, pairs) => {
                 let (dag, refused) = build(alloc, nodes, pairs.as_slice())?;
-                Ok(
-                    (dag.edge_count() as u64)
-                        .wrapping_mul(1_000_000)
-                        .wrapping_add(refused),
-                )
+                let added = (dag.edge_count() as u64).wrapping_mul(1_000_000);
+                Ok(Finished::Number(added.wrapping_add(refused)))
             }
-            Prepared::WalkChildren(dag) => Ok(walk_children(&dag)),
-            Prepared::RemoveEdges(dag) => Ok(remove_edges(dag)),
-            Prepared::RemoveNodes(dag) => Ok(remove_nodes(dag)),
+            Prepared::AddEdges(dag, pairs) => Ok(Finished::Number(add_edges(dag, pairs.as_slice())?)),
+            Prepared::WalkChildren(dag) => Ok(Finished::Number(walk_children(&dag))),
+            Prepared::MapWeights(dag) => Ok(Finished::Edges(plus_one(&dag)?)),
+            Prepared::Copy(dag) => Ok(Finished::Edges(dag.try_clone()?)),
+            Prepared::EdgeList(dag) => Ok(Finished::Number(edge_list(&dag))),
+            Prepared::RemoveEdges(dag) => Ok(Finished::Number(remove_edges(dag))),
+            Prepared::RemoveNodes(dag) => Ok(Finished::Number(remove_nodes(dag))),
+        }
+    }
+}
+
+impl Finished {
+    /// A number that another program which did the same has too.
+    pub fn check(&self) -> u64 {
+        match self {
+            Finished::Number(number) => *number,
+            Finished::Edges(dag) => edge_sum(dag),
         }
     }
 }
@@ -230,6 +274,42 @@ fn walk_children(dag: &Weighted) -> u64 {
                 sum = sum.wrapping_add(children_sum(dag, NodeIndex::new(i)));
             }
         }
+    }
+    sum
+}
+
+fn add_edges(mut dag: Weighted, pairs: &[(u32, u32)]) -> Result<u64, AllocError> {
+    let items = pairs
+        .iter()
+        .enumerate()
+        .map(|(i, (a, b))| (node(*a), node(*b), weight_of(i)));
+    match dag.add_edges(items) {
+        Ok(_) => Ok(dag.edge_count() as u64),
+        Err(_) => Err(AllocError),
+    }
+}
+
+fn plus_one(dag: &Weighted) -> Result<Weighted, AllocError> {
+    dag.map(|_, w| w.wrapping_add(1), |_, w| w.wrapping_add(1))
+}
+
+// All edges, their ends and their weights in one number.
+fn edge_sum(dag: &Weighted) -> u64 {
+    let mut sum = 0u64;
+    for edge in dag.edge_references() {
+        let ends = edge.source().index() as u64 ^ (edge.target().index() as u64).wrapping_mul(2);
+        let weight = *edge.weight() as u64;
+        sum = sum
+            .wrapping_mul(31)
+            .wrapping_add(edge.id().index() as u64 ^ ends ^ weight);
+    }
+    sum
+}
+
+fn edge_list(dag: &Weighted) -> u64 {
+    let mut sum = 0u64;
+    for _ in 0..10u8 {
+        sum = sum.wrapping_add(edge_sum(dag));
     }
     sum
 }

@@ -10,3 +10,6 @@ pub mod Iterating
 pub mod Extending
 pub mod Making
 pub mod Joining
+pub mod Lifting
+pub mod Mapped
+pub mod Filtered

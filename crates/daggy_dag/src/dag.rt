@@ -25,6 +25,9 @@ use std::alloc::Global;
 use std::marker::{Model, PhantomData};
 
 mod convert;
+mod copies;
+mod iterators;
+mod map;
 mod pairs;
 mod series;
 mod visit;

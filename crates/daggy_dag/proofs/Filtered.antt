@@ -1,0 +1,184 @@
+-- Keeping some of the nodes and edges of a dag gives a dag.
+use Rattle.std.proofs.Common.{◌≡◌, ℕ, zero, suc, ◌+◌, ◌≤◌, ◌⊎◌, inl, inr, List, [], ◌∷◌, length, Option, Some, None, refl, sym, ap, ◌∙◌, arith}
+use Rattle.std.specs.Borrow.{Bor}
+use Rattle.std.proofs.lemmas.Option.{same_Some, none-some}
+use Rattle.std.proofs.lemmas.List.{length_push}
+use Rattle.daggy_base.specs.Graph.{Graph, Edge, empty, edge_at, slot, node_bound}
+use Rattle.daggy_base.specs.Path.{AreJoined, IsAcyclic}
+use Rattle.daggy_base.specs.WellFormed.{IsWellFormed}
+use Rattle.daggy_base.specs.Adding.{taken, next_slot, rest_of, with_node, next_node}
+use Rattle.daggy_base.proofs.Nodes.{bound_low}
+use Rattle.daggy_base.proofs.Slots.{slot_taken}
+use Rattle.daggy_graph.specs.Filtering.{kept_node, named, kept_edge, both, new_ends, FiltersNodes, FiltersEdge, FiltersEdges, IsFiltered}
+use Rattle.daggy_dag.proofs.Lifting.{WereJoined, acyclic_lifted}
+
+module _ {V W : Type 0} where
+  -- where no slot is vacant, a node goes behind the others
+  more_nodes : (h : Graph V W) (r : Option V) → h.vacant_nodes ≡ [] → length (kept_node h r).nodes ≤ length h.nodes + 1
+  more_nodes h None none = omega arith
+  more_nodes h (Some v) none = omega (arith, ap (λ z. length (taken h.nodes z (Some v))) none, length_push h.nodes (Some v))
+
+  as_many_nodes : (h : Graph V W) (v : V) → h.vacant_nodes ≡ [] → length (with_node h v).nodes ≡ length h.nodes + 1
+  as_many_nodes h v none = ap (λ z. length (taken h.nodes z (Some v))) none ∙ length_push h.nodes (Some v)
+
+  none_vacant : (h : Graph V W) (r : Option V) → h.vacant_nodes ≡ [] → (kept_node h r).vacant_nodes ≡ []
+  none_vacant h None none = none
+  none_vacant h (Some v) none = ap rest_of none
+
+  edges_stay : (h : Graph V W) (r : Option V) → (kept_node h r).edges ≡ h.edges
+  edges_stay h None = refl
+  edges_stay h (Some v) = refl
+
+  named_next : (h : Graph V W) (r : Option V) (k : ℕ) → h.vacant_nodes ≡ [] → named h r ≡ Some k → (k ≡ length h.nodes) × (length (kept_node h r).nodes ≡ k + 1)
+  named_next h None k none is = absurd (none-some k is)
+  named_next h (Some v) k none is =
+      let next : k ≡ length h.nodes = same_Some k (next_node h) (sym is) ∙ ap (next_slot h.nodes) none in
+      (next, as_many_nodes h v none ∙ ap (λ z. z + 1) (sym next))
+
+  not_fewer : (h : Graph V W) (r : Option V) → h.vacant_nodes ≡ [] → length h.nodes ≤ length (kept_node h r).nodes
+  not_fewer h None none = omega arith
+  not_fewer h (Some v) none = omega (arith, as_many_nodes h v none)
+
+module _ {N V W F I : Type 0} (step : F → I → Bor N → Option V → F → Type 0) (of : ℕ → I) where
+  -- each name is the index of a node that was added
+  names_from : (f : F) (i : ℕ) (xs : List (Option N)) (h : Graph V W) (names : List (Option ℕ)) (new : Graph V W) → h.vacant_nodes ≡ [] → FiltersNodes step of f i xs h names new
+      → (a k : ℕ) → slot names a ≡ Some k → length h.nodes ≤ k
+  names_from f i [] h names new none (nil, same) a k at = absurd (none-some k (ap (λ z. slot z a) (sym nil) ∙ at))
+  names_from f i (None ∷ xs) h names new none (rest, is, more) zero k at = absurd (none-some k (ap (λ z. slot z zero) (sym is) ∙ at))
+  names_from f i (None ∷ xs) h names new none (rest, is, more) (suc a) k at = names_from f (i + 1) xs h rest new none more a k (ap (λ z. slot z (suc a)) (sym is) ∙ at)
+  names_from f i (Some x ∷ xs) h names new none (r, next, called, rest, is, more) zero k at = omega (arith, (named_next h r k none (ap (λ z. slot z zero) (sym is) ∙ at)).0)
+  names_from f i (Some x ∷ xs) h names new none (r, next, called, rest, is, more) (suc a) k at =
+      omega (arith, not_fewer h r none, names_from next (i + 1) xs (kept_node h r) rest new (none_vacant h r none) more a k (ap (λ z. slot z (suc a)) (sym is) ∙ at))
+
+  -- no two nodes got one name
+  one_name : (f : F) (i : ℕ) (xs : List (Option N)) (h : Graph V W) (names : List (Option ℕ)) (new : Graph V W) → h.vacant_nodes ≡ [] → FiltersNodes step of f i xs h names new
+      → (k a b : ℕ) → slot names a ≡ Some k → slot names b ≡ Some k → a ≡ b
+  one_name f i [] h names new none (nil, same) k a b p q = absurd (none-some k (ap (λ z. slot z a) (sym nil) ∙ p))
+  one_name f i (None ∷ xs) h names new none (rest, is, more) k zero b p q = absurd (none-some k (ap (λ z. slot z zero) (sym is) ∙ p))
+  one_name f i (None ∷ xs) h names new none (rest, is, more) k (suc a) zero p q = absurd (none-some k (ap (λ z. slot z zero) (sym is) ∙ q))
+  one_name f i (None ∷ xs) h names new none (rest, is, more) k (suc a) (suc b) p q =
+      ap suc (one_name f (i + 1) xs h rest new none more k a b (ap (λ z. slot z (suc a)) (sym is) ∙ p) (ap (λ z. slot z (suc b)) (sym is) ∙ q))
+  one_name f i (Some x ∷ xs) h names new none (r, next, called, rest, is, more) k zero zero p q = refl
+  one_name f i (Some x ∷ xs) h names new none (r, next, called, rest, is, more) k zero (suc b) p q =
+      absurd (omega (arith, (named_next h r k none (ap (λ z. slot z zero) (sym is) ∙ p)).1, names_from next (i + 1) xs (kept_node h r) rest new (none_vacant h r none) more b k (ap (λ z. slot z (suc b)) (sym is) ∙ q)))
+  one_name f i (Some x ∷ xs) h names new none (r, next, called, rest, is, more) k (suc a) zero p q =
+      absurd (omega (arith, (named_next h r k none (ap (λ z. slot z zero) (sym is) ∙ q)).1, names_from next (i + 1) xs (kept_node h r) rest new (none_vacant h r none) more a k (ap (λ z. slot z (suc a)) (sym is) ∙ p)))
+  one_name f i (Some x ∷ xs) h names new none (r, next, called, rest, is, more) k (suc a) (suc b) p q =
+      ap suc (one_name next (i + 1) xs (kept_node h r) rest new (none_vacant h r none) more k a b (ap (λ z. slot z (suc a)) (sym is) ∙ p) (ap (λ z. slot z (suc b)) (sym is) ∙ q))
+
+  -- no edge was added, and no more nodes than there were
+  no_edges : (f : F) (i : ℕ) (xs : List (Option N)) (h : Graph V W) (names : List (Option ℕ)) (new : Graph V W) → FiltersNodes step of f i xs h names new → new.edges ≡ h.edges
+  no_edges f i [] h names new (nil, same) = ap (λ (z : Graph V W). z.edges) same
+  no_edges f i (None ∷ xs) h names new (rest, is, more) = no_edges f (i + 1) xs h rest new more
+  no_edges f i (Some x ∷ xs) h names new (r, next, called, rest, is, more) = no_edges next (i + 1) xs (kept_node h r) rest new more ∙ edges_stay h r
+
+  few_nodes : (f : F) (i : ℕ) (xs : List (Option N)) (h : Graph V W) (names : List (Option ℕ)) (new : Graph V W) → h.vacant_nodes ≡ [] → FiltersNodes step of f i xs h names new → length new.nodes ≤ length h.nodes + length xs
+  few_nodes f i [] h names new none (nil, same) = omega (arith, ap (λ (z : Graph V W). length z.nodes) same)
+  few_nodes f i (None ∷ xs) h names new none (rest, is, more) = omega (arith, few_nodes f (i + 1) xs h rest new none more)
+  few_nodes f i (Some x ∷ xs) h names new none (r, next, called, rest, is, more) =
+      omega (arith, more_nodes h r none, few_nodes next (i + 1) xs (kept_node h r) rest new (none_vacant h r none) more)
+
+-- an old edge whose ends got these names
+pub record CameFrom {E : Type 0} (names : List (Option ℕ)) (xs : List (Option (Edge E))) (parent child : ℕ) : Type 0 where
+  pub index : ℕ
+  pub edge : Edge E
+  pub at : slot xs index ≡ Some edge
+  pub ends : new_ends names edge ≡ Some (parent, child)
+
+later_edge : {E : Type 0} (names : List (Option ℕ)) (x : Option (Edge E)) (xs : List (Option (Edge E))) (a b : ℕ) → CameFrom names xs a b → CameFrom names (x ∷ xs) a b
+later_edge names x xs a b c = record { index = suc c.index; edge = c.edge; at = c.at; ends = c.ends }
+
+module _ {E V W G I : Type 0} (step : G → I → Bor E → Option W → G → Type 0) (of : ℕ → I) (names : List (Option ℕ)) where
+  kept_from : (h : Graph V W) (ends : ℕ × ℕ) (r : Option W) (k : ℕ) (y : Edge W) → edge_at (kept_edge h ends r) k ≡ Some y → ((y.parent ≡ ends.0) × (y.child ≡ ends.1)) ⊎ (edge_at h k ≡ Some y)
+  kept_from h ends None k y at = inr at
+  kept_from h ends (Some w) k y at =
+      elim (slot_taken h.edges h.vacant_edges (record { parent = ends.0; child = ends.1; weight = w }) k y at) [
+        | inl p ↦ inl (ap (λ (z : Edge W). z.parent) p.1, ap (λ (z : Edge W). z.child) p.1)
+        | inr q ↦ inr q
+      ]
+
+  nodes_stay : (h : Graph V W) (ends : ℕ × ℕ) (r : Option W) → (kept_edge h ends r).nodes ≡ h.nodes
+  nodes_stay h ends None = refl
+  nodes_stay h ends (Some w) = refl
+
+  -- each edge is one of the old graph, or was there before
+  abbrev ComesFrom : List (Option (Edge E)) → Graph V W → Graph V W → Type 0
+  ComesFrom xs h new = (k : ℕ) (y : Edge W) → edge_at new k ≡ Some y → CameFrom names xs y.parent y.child ⊎ (edge_at h k ≡ Some y)
+
+  edge_from : (g : G) (e : ℕ) (x : Edge E) (xs : List (Option (Edge E))) (ends : Option (ℕ × ℕ)) (h new : Graph V W) → new_ends names x ≡ ends
+      → ((next : G) (mid : Graph V W) → FiltersEdges step of names next (e + 1) xs mid new → ComesFrom xs mid new)
+      → FiltersEdge step of names g e x.weight ends h (λ next mid. FiltersEdges step of names next (e + 1) xs mid new) → ComesFrom (Some x ∷ xs) h new
+  edge_from g e x xs None h new is later more k y at =
+      elim (later g h more k y at) [
+        | inl c ↦ inl (later_edge names (Some x) xs y.parent y.child c)
+        | inr q ↦ inr q
+      ]
+  edge_from g e x xs (Some ends) h new is later (r, next, called, more) k y at =
+      elim (later next (kept_edge h ends r) more k y at) [
+        | inl c ↦ inl (later_edge names (Some x) xs y.parent y.child c)
+        | inr q ↦ elim (kept_from h ends r k y q) [
+          | inl s ↦ inl (record { index = 0; edge = x; at = refl; ends = is ∙ ap (λ z. Some (z, ends.1)) (sym s.0) ∙ ap (λ z. Some (y.parent, z)) (sym s.1) })
+          | inr t ↦ inr t
+        ]
+      ]
+
+  edges_from : (g : G) (e : ℕ) (xs : List (Option (Edge E))) (h new : Graph V W) → FiltersEdges step of names g e xs h new → ComesFrom xs h new
+  edges_from g e [] h new is k y at = inr (ap (λ (z : Graph V W). edge_at z k) (sym is) ∙ at)
+  edges_from g e (None ∷ xs) h new more k y at =
+      elim (edges_from g (e + 1) xs h new more k y at) [
+        | inl c ↦ inl (later_edge names None xs y.parent y.child c)
+        | inr q ↦ inr q
+      ]
+  edges_from g e (Some x ∷ xs) h new more k y at =
+      edge_from g e x xs (new_ends names x) h new refl (λ next mid m. edges_from next (e + 1) xs mid new m) more k y at
+
+  nodes_after : (g : G) (e : ℕ) (w : E) (xs : List (Option (Edge E))) (ends : Option (ℕ × ℕ)) (h new : Graph V W)
+      → ((next : G) (mid : Graph V W) → FiltersEdges step of names next (e + 1) xs mid new → new.nodes ≡ mid.nodes)
+      → FiltersEdge step of names g e w ends h (λ next mid. FiltersEdges step of names next (e + 1) xs mid new) → new.nodes ≡ h.nodes
+  nodes_after g e w xs None h new later more = later g h more
+  nodes_after g e w xs (Some ends) h new later (r, next, called, more) = later next (kept_edge h ends r) more ∙ nodes_stay h ends r
+
+  same_nodes : (g : G) (e : ℕ) (xs : List (Option (Edge E))) (h new : Graph V W) → FiltersEdges step of names g e xs h new → new.nodes ≡ h.nodes
+  same_nodes g e [] h new is = ap (λ (z : Graph V W). z.nodes) is
+  same_nodes g e (None ∷ xs) h new more = same_nodes g (e + 1) xs h new more
+  same_nodes g e (Some x ∷ xs) h new more = nodes_after g e x.weight xs (new_ends names x) h new (λ next mid m. same_nodes next (e + 1) xs mid new m) more
+
+both_named : (p q : Option ℕ) (a b : ℕ) → both p q ≡ Some (a, b) → (p ≡ Some a) × (q ≡ Some b)
+both_named None q a b is = absurd (none-some (a, b) is)
+both_named (Some x) None a b is = absurd (none-some (a, b) is)
+both_named (Some x) (Some y) a b is = let s = same_Some (x, y) (a, b) is in (ap (λ z. Some z.0) s, ap (λ z. Some z.1) s)
+
+module _ {N E V W F G I : Type 0} (of : ℕ → I) (step_f : F → I → Bor N → Option V → F → Type 0) (step_g : G → I → Bor E → Option W → G → Type 0) (f : F) (g : G) (old : Graph N E) (new : Graph V W)
+    (filtered : IsFiltered of step_f step_g f g old new) where
+  joined_before : (end : ℕ) → IsWellFormed end old → (u v : ℕ) → AreJoined new u v → WereJoined old (λ k a. slot filtered.names a ≡ Some k) u v
+  joined_before end w u v j =
+      elim (edges_from step_g of filtered.names g 0 old.edges filtered.middle new filtered.edges j.0 _ j.2) [
+        | inl c ↦ (
+            let b = both_named (slot filtered.names c.edge.parent) (slot filtered.names c.edge.child) u v c.ends in
+            record {
+              parent = c.edge.parent;
+              child = c.edge.child;
+              parent_was = b.0;
+              child_was = b.1;
+              has_parent = w.parents c.index c.edge c.at;
+              joined = (c.index, c.edge.weight, c.at);
+              has_child = w.children c.index c.edge c.at;
+            }
+            )
+        | inr q ↦ absurd (none-some _ (ap (λ z. slot z j.0) (sym (no_edges step_f of f 0 old.nodes empty filtered.names filtered.middle filtered.nodes)) ∙ q))
+      ]
+
+  pub acyclic_filtered : (end : ℕ) → IsWellFormed end old → IsAcyclic old → IsAcyclic new
+  acyclic_filtered end w acyclic =
+      acyclic_lifted old new (λ k a. slot filtered.names a ≡ Some k) (one_name step_f of f 0 old.nodes empty filtered.names filtered.middle refl filtered.nodes) (joined_before end w) acyclic
+
+  pub fits_filtered : (slots room : ℕ) → slots ≡ length old.nodes → slots ≤ room → node_bound new ≤ room
+  fits_filtered slots room many fits =
+      omega (
+        arith,
+        bound_low new.nodes,
+        ap length (same_nodes step_g of filtered.names g 0 old.edges filtered.middle new filtered.edges),
+        few_nodes step_f of f 0 old.nodes empty filtered.names filtered.middle refl filtered.nodes,
+        many,
+        fits,
+      )

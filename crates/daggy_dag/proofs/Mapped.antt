@@ -1,0 +1,45 @@
+-- Mapping the weights of a dag gives a dag.
+use Rattle.std.proofs.Common.{◌≡◌, ℕ, zero, suc, ◌+◌, ◌≤◌, List, [], ◌∷◌, length, Option, Some, None, refl, sym, ap, ◌∙◌, arith}
+use Rattle.std.specs.Borrow.{Bor}
+use Rattle.std.proofs.lemmas.Option.{same_Some, none-some}
+use Rattle.daggy_base.specs.Graph.{Graph, Edge, slot, node_bound}
+use Rattle.daggy_base.specs.Path.{IsAcyclic}
+use Rattle.daggy_base.specs.WellFormed.{IsWellFormed}
+use Rattle.daggy_base.proofs.Nodes.{bound_low}
+use Rattle.daggy_graph.specs.Mapping.{MapsSlots, IsMapped, weight_in, with_weight}
+use Rattle.daggy_dag.proofs.Lifting.{acyclic_lifted}
+
+module _ {F I W V A B : Type 0} (step : F → I → Bor W → V → F → Type 0) (of : ℕ → I) (weight : A → W) (with : A → V → B) where
+  mapped_slot : (f : F) (i : ℕ) (xs : List (Option A)) (new : List (Option B)) → MapsSlots step of weight with f i xs new
+      → (k : ℕ) (y : B) → slot new k ≡ Some y → (x : A) × (v : V) × (slot xs k ≡ Some x) × (with x v ≡ y)
+  mapped_slot f i [] new is k y at = absurd (none-some y (ap (λ z. slot z k) (sym is) ∙ at))
+  mapped_slot f i (None ∷ xs) new (later, is, more) zero y at = absurd (none-some y (ap (λ z. slot z zero) (sym is) ∙ at))
+  mapped_slot f i (None ∷ xs) new (later, is, more) (suc k) y at = mapped_slot f (i + 1) xs later more k y (ap (λ z. slot z (suc k)) (sym is) ∙ at)
+  mapped_slot f i (Some x ∷ xs) new (v, next, called, later, is, more) zero y at = (x, v, refl, same_Some (with x v) y (ap (λ z. slot z zero) (sym is) ∙ at))
+  mapped_slot f i (Some x ∷ xs) new (v, next, called, later, is, more) (suc k) y at = mapped_slot next (i + 1) xs later more k y (ap (λ z. slot z (suc k)) (sym is) ∙ at)
+
+  mapped_length : (f : F) (i : ℕ) (xs : List (Option A)) (new : List (Option B)) → MapsSlots step of weight with f i xs new → length new ≡ length xs
+  mapped_length f i [] new is = ap length is
+  mapped_length f i (None ∷ xs) new (later, is, more) = ap length is ∙ ap suc (mapped_length f (i + 1) xs later more)
+  mapped_length f i (Some x ∷ xs) new (v, next, called, later, is, more) = ap length is ∙ ap suc (mapped_length next (i + 1) xs later more)
+
+module _ {N E V W F G I : Type 0} (of : ℕ → I) (step_f : F → I → Bor N → V → F → Type 0) (step_g : G → I → Bor E → W → G → Type 0) (f : F) (g : G) (old : Graph N E) (new : Graph V W)
+    (mapped : IsMapped of step_f step_g f g old new) where
+  pub acyclic_mapped : (end : ℕ) → IsWellFormed end old → IsAcyclic old → IsAcyclic new
+  acyclic_mapped end w acyclic =
+      acyclic_lifted old new (λ u a. a ≡ u) (λ u a b p q. p ∙ sym q) (λ u v j.
+      let m = mapped_slot step_g of weight_in with_weight g 0 old.edges new.edges mapped.edges j.0 _ j.2 in
+      let x = m.0 in
+      record {
+        parent = x.parent;
+        child = x.child;
+        parent_was = ap (λ (y : Edge W). y.parent) m.3;
+        child_was = ap (λ (y : Edge W). y.child) m.3;
+        has_parent = w.parents j.0 x m.2;
+        joined = (j.0, x.weight, m.2);
+        has_child = w.children j.0 x m.2;
+      }) acyclic
+
+  pub fits_mapped : (slots room : ℕ) → slots ≡ length old.nodes → slots ≤ room → node_bound new ≤ room
+  fits_mapped slots room many fits =
+      omega (arith, bound_low new.nodes, mapped_length step_f of (λ w. w) (λ w v. v) f 0 old.nodes new.nodes mapped.nodes, many, fits)
