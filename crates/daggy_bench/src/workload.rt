@@ -112,7 +112,10 @@ impl Prepared {
                 let added = (dag.edge_count() as u64).wrapping_mul(1_000_000);
                 Ok(Finished::Number(added.wrapping_add(refused)))
             }
-            Prepared::AddEdges(dag, pairs) => Ok(Finished::Number(add_edges(dag, pairs.as_slice())?)),
+            Prepared::AddEdges(dag, pairs) => Ok(Finished::Number(add_edges(
+                dag,
+                pairs.as_slice(),
+            )?)),
             Prepared::WalkChildren(dag) => Ok(Finished::Number(walk_children(&dag))),
             Prepared::MapWeights(dag) => Ok(Finished::Edges(plus_one(&dag)?)),
             Prepared::Copy(dag) => Ok(Finished::Edges(dag.try_clone()?)),
@@ -298,7 +301,7 @@ fn edge_sum(dag: &Weighted) -> u64 {
     let mut sum = 0u64;
     for edge in dag.edge_references() {
         let ends = edge.source().index() as u64 ^ (edge.target().index() as u64).wrapping_mul(2);
-        let weight = *edge.weight() as u64;
+        let weight = (*edge.weight() & i64::MAX) as u64;
         sum = sum
             .wrapping_mul(31)
             .wrapping_add(edge.id().index() as u64 ^ ends ^ weight);
