@@ -24,9 +24,6 @@ pub use daggy_base::{index, search};
 pub use daggy_dag::dag::{Children, Dag, Parents, RawEdges, RawNodes};
 pub use daggy_dag::edge_indices::EdgeIndices;
 pub use daggy_graph::graph;
-<<<<<<< HEAD
 pub use daggy_graph::graph::lists::Edges;
-=======
->>>>>>> dagvisit
 pub use daggy_walk::walker::Walker;
 pub use daggy_walk::{visit, walker};
