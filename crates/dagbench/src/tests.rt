@@ -75,7 +75,8 @@ fn a_compact_dag_is_built_and_taken_apart(rt: HostRuntime) -> Result<(), Fail> {
         b"node 1\nnode 2\nedge 0 1 7\nedge 1 0 5\nedge 1 1 4\nedge 0 9 1\nchildren 0\nparents 0\nfind 1 0\nedges 0 1 8 1 0 9\nedges 0 1 8 0 9 3\nrmedge 0\nfrob\n";
     let (outcome, taken) = served(rt.alloc(), input.as_slice(), None, None)?;
     assert_eq!(rt; outcome, Ok(()));
-    let expected = b"n0\nn1\ne0\ncycle 5\ncycle 4\nmissing\ne0:1\n-\nnone\ncycle 9 8\nmissing 3 8\nweight 7\nbad line\n";
+    let expected =
+        b"n0\nn1\ne0\ncycle 5\ncycle 4\nmissing\ne0:1\n-\nnone\ncycle 9 8\nmissing 3 8\nweight 7\nbad line\n";
     assert_eq!(rt; taken.as_slice(), expected.as_slice());
     Ok(())
 }

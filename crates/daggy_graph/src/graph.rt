@@ -24,13 +24,12 @@ mod room;
 mod source;
 mod weights;
 
-pub use elements::{Element, IntoWeightedEdge};
-
 use crate::graph::links::{put_edge, put_node};
 use daggy_base::error::{EdgeError, NodeError};
 use daggy_base::index::{DefaultIx, Direction, EdgeIndex, IndexType, NodeIndex};
 use daggy_base::link::Link;
 use daggy_base::search::Looks;
+pub use elements::{Element, IntoWeightedEdge};
 use std::alloc::Global;
 use std::marker::Model;
 
