@@ -34,7 +34,7 @@ impl<N: Drop, E: Drop, Ix: IndexType> EdgeSource<Ix> for StableDiGraph<N, E, Ix>
         ensures value { result ≡ node_bound_of self.now.graph }
         ensures well_formed { IsWellFormed Ix.greatest self.now.graph }
     {
-        let _well_formed = StableDiGraph::node_count(self);
+        let _well_formed = self.edge_count();
         StableDiGraph::node_bound(self)
     }
 
