@@ -5,7 +5,7 @@ set -u
 cd "$(dirname "$0")/../../crates/daggy_refusals" || exit 1
 refuse() {
   out=$(rt try --test --fail-alloc "$1" 2>&1)
-  if printf '%s\n' "$out" | grep -q 'test result: ok. 8 passed; 0 failed'; then
+  if printf '%s\n' "$out" | grep -q 'test result: ok. [0-9]* passed; 0 failed'; then
     exit 0
   fi
   printf 'allocation %s:\n%s\n' "$1" "$out"

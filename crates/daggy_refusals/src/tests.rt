@@ -3,6 +3,7 @@ use daggy::graph::Element;
 use daggy::{
     ChildError, Dag, EdgeError, EdgeIndices, EdgesError, ElementError, NodeError, NodeIndex, Walker,
 };
+use std::alloc::{AllocError, Global};
 use std::process::Abort;
 use std::test::Fail;
 
@@ -240,6 +241,98 @@ fn extend_again(rt: &impl Abort, dag: &mut Dag<usize, usize>) -> Result<bool, Fa
     }
 }
 
+// Copies the dag, a second time if the first copy is refused, and says whether it was.
+fn clone_again(rt: &impl Abort, dag: &Dag<usize, usize>) -> Result<bool, Fail> {
+    let (nodes, edges) = (dag.node_count(), dag.edge_count());
+    match dag.try_clone() {
+        Ok(copy) => {
+            assert_fan(rt, &copy, nodes, edges);
+            Ok(false)
+        }
+        Err(AllocError) => {
+            assert_fan(rt, dag, nodes, edges);
+            assert_fan(rt, &dag.try_clone()?, nodes, edges);
+            Ok(true)
+        }
+    }
+}
+
+// Maps the dag to its own weights, likewise. A refused call calls no closure.
+fn map_again(rt: &impl Abort, dag: &Dag<usize, usize>) -> Result<bool, Fail> {
+    let (nodes, edges) = (dag.node_count(), dag.edge_count());
+    let (mut shown_nodes, mut shown_edges) = (0usize, 0usize);
+    let mapped = dag.map(
+        |_, w| {
+            shown_nodes = shown_nodes.wrapping_add(1);
+            *w
+        },
+        |_, w| {
+            shown_edges = shown_edges.wrapping_add(1);
+            *w
+        },
+    );
+    match mapped {
+        Ok(same) => {
+            assert_eq!(rt; shown_nodes, nodes);
+            assert_eq!(rt; shown_edges, edges);
+            assert_fan(rt, &same, nodes, edges);
+            Ok(false)
+        }
+        Err(AllocError) => {
+            assert_eq!(rt; shown_nodes, 0);
+            assert_eq!(rt; shown_edges, 0);
+            assert_fan(rt, dag, nodes, edges);
+            assert_fan(rt, &dag.map(|_, w| *w, |_, w| *w)?, nodes, edges);
+            Ok(true)
+        }
+    }
+}
+
+// Keeps all of the dag, likewise.
+fn filter_map_again(rt: &impl Abort, dag: &Dag<usize, usize>) -> Result<bool, Fail> {
+    let (nodes, edges) = (dag.node_count(), dag.edge_count());
+    let (mut shown_nodes, mut shown_edges) = (0usize, 0usize);
+    let kept = dag.filter_map(
+        |_, w| {
+            shown_nodes = shown_nodes.wrapping_add(1);
+            Some(*w)
+        },
+        |_, w| {
+            shown_edges = shown_edges.wrapping_add(1);
+            Some(*w)
+        },
+    );
+    match kept {
+        Ok(same) => {
+            assert_eq!(rt; shown_nodes, nodes);
+            assert_eq!(rt; shown_edges, edges);
+            assert_fan(rt, &same, nodes, edges);
+            Ok(false)
+        }
+        Err(AllocError) => {
+            assert_eq!(rt; shown_nodes, 0);
+            assert_eq!(rt; shown_edges, 0);
+            assert_fan(rt, dag, nodes, edges);
+            let same = dag.filter_map(|_, w| Some(*w), |_, w| Some(*w))?;
+            assert_fan(rt, &same, nodes, edges);
+            Ok(true)
+        }
+    }
+}
+
+// A dag of one root with three children, and whether a call was refused on the way.
+fn small_fan(rt: &impl Abort, alloc: Global) -> Result<(Dag<usize, usize>, bool), Fail> {
+    let mut dag = Dag::new(alloc);
+    let mut refused = add_node_again(rt, &mut dag, 0)?;
+    for _ in 0..3 {
+        if add_child_again(rt, &mut dag)? {
+            assert!(rt; !refused, "a second refusal");
+            refused = true;
+        }
+    }
+    Ok((dag, refused))
+}
+
 #[test]
 fn a_refused_allocation_is_answered_and_nothing_else(rt: HostRuntime) -> Result<(), Fail> {
     let mut dag: Dag<usize, usize> = Dag::new(rt.alloc());
@@ -388,5 +481,68 @@ fn a_dag_of_elements_is_made_or_their_weight_comes_back(rt: HostRuntime) -> Resu
     };
     assert_eq!(rt; dag.node_count(), 2);
     assert_eq!(rt; dag.edge_count(), 1);
+    Ok(())
+}
+
+#[test]
+fn a_refused_copy_is_made_again(rt: HostRuntime) -> Result<(), Fail> {
+    let (dag, refused) = small_fan(&rt, rt.alloc())?;
+    if clone_again(&rt, &dag)? {
+        assert!(rt; !refused, "a second refusal");
+    }
+    Ok(())
+}
+
+#[test]
+fn a_refused_map_calls_no_closure(rt: HostRuntime) -> Result<(), Fail> {
+    let (dag, refused) = small_fan(&rt, rt.alloc())?;
+    if map_again(&rt, &dag)? {
+        assert!(rt; !refused, "a second refusal");
+    }
+    Ok(())
+}
+
+#[test]
+fn a_refused_part_calls_no_closure(rt: HostRuntime) -> Result<(), Fail> {
+    let (dag, refused) = small_fan(&rt, rt.alloc())?;
+    if filter_map_again(&rt, &dag)? {
+        assert!(rt; !refused, "a second refusal");
+    }
+    Ok(())
+}
+
+#[test]
+fn refused_capacity_is_asked_again(rt: HostRuntime) -> Result<(), Fail> {
+    let made: Result<Dag<usize, usize>, AllocError> = Dag::with_capacity(rt.alloc(), 8, 7);
+    let mut dag = match made {
+        Ok(dag) => dag,
+        Err(AllocError) => Dag::with_capacity(rt.alloc(), 8, 7)?,
+    };
+    assert!(rt; !add_node_again(&rt, &mut dag, 0)?, "room for all was made");
+    for i in 0..7 {
+        assert!(rt; !add_child_again(&rt, &mut dag)?, "room for all was made");
+        assert_fan(&rt, &dag, i + 2, i + 1);
+    }
+    Ok(())
+}
+
+#[test]
+fn refused_room_is_asked_again(rt: HostRuntime) -> Result<(), Fail> {
+    let (mut dag, mut refused) = small_fan(&rt, rt.alloc())?;
+    if dag.reserve_nodes(20).is_err() {
+        assert!(rt; !refused, "a second refusal");
+        refused = true;
+        assert_fan(&rt, &dag, 4, 3);
+        dag.reserve_nodes(20)?;
+    }
+    if dag.reserve_edges(20).is_err() {
+        assert!(rt; !refused, "a second refusal");
+        assert_fan(&rt, &dag, 4, 3);
+        dag.reserve_edges(20)?;
+    }
+    for i in 0..20 {
+        assert!(rt; !add_child_again(&rt, &mut dag)?, "room for all was made");
+        assert_fan(&rt, &dag, i + 5, i + 4);
+    }
     Ok(())
 }

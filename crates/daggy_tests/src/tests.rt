@@ -7,6 +7,7 @@ mod example;
 mod graphs;
 mod indices;
 mod large;
+mod mapping;
 mod pairs;
 mod removing;
 mod searching;
