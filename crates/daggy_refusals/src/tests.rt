@@ -528,21 +528,22 @@ fn refused_capacity_is_asked_again(rt: HostRuntime) -> Result<(), Fail> {
 
 #[test]
 fn refused_room_is_asked_again(rt: HostRuntime) -> Result<(), Fail> {
-    let (mut dag, mut refused) = small_fan(&rt, rt.alloc())?;
+    let mut dag: Dag<usize, usize> = Dag::new(rt.alloc());
+    let mut refused = false;
     if dag.reserve_nodes(20).is_err() {
-        assert!(rt; !refused, "a second refusal");
         refused = true;
-        assert_fan(&rt, &dag, 4, 3);
+        assert_eq!(rt; dag.node_count(), 0);
         dag.reserve_nodes(20)?;
     }
     if dag.reserve_edges(20).is_err() {
         assert!(rt; !refused, "a second refusal");
-        assert_fan(&rt, &dag, 4, 3);
+        assert_eq!(rt; dag.edge_count(), 0);
         dag.reserve_edges(20)?;
     }
-    for i in 0..20 {
+    assert!(rt; !add_node_again(&rt, &mut dag, 0)?, "room for all was made");
+    for i in 0..19 {
         assert!(rt; !add_child_again(&rt, &mut dag)?, "room for all was made");
-        assert_fan(&rt, &dag, i + 5, i + 4);
+        assert_fan(&rt, &dag, i + 2, i + 1);
     }
     Ok(())
 }
