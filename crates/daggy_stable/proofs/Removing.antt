@@ -3,7 +3,7 @@ use Rattle.std.proofs.Common.{◌≡◌, ◌≢◌, ℕ, zero, suc, ◌+◌, ◌
 use Rattle.std.specs.Option.{option_map, option_and_then}
 use Rattle.std.proofs.lemmas.Bool.{cases_lt}
 use Rattle.std.proofs.lemmas.List.{length-set, length-map, map-set, get_or-map, take-map, length-take-le}
-use Rattle.std.proofs.lemmas.Option.{slice_get_within, slice_get_past, same_Some, none-some, unwrap_or-slice_get}
+use Rattle.std.proofs.lemmas.Option.{slice_get-get_or, slice_get_within, slice_get_past, same_Some, none-some, unwrap_or-slice_get}
 use Rattle.daggy_base.specs.declared.index.Direction.{Direction}
 use Rattle.daggy_base.specs.declared.index.Direction.TheVariants.{Outgoing, Incoming}
 use Rattle.daggy_base.specs.Graph.{Graph, Edge as PlainEdge, slot, edge_at, list_at, near_end}
@@ -23,7 +23,7 @@ use Rattle.daggy_graph.proofs.RemovalLemmas.{Step, Ready-row, Redirected-walk}
 use Rattle.daggy_stable.specs.Stored.{weight_of, plain, plain_edge, shown, row_firsts, end_of, links_emptied, emptied, IsThreaded, Stores}
 use Rattle.daggy_stable.proofs.Slots.{rethreaded, vacated, cut, slot_not_vacant, not_listed, count_vacate}
 use Rattle.daggy_stable.proofs.Shown.{length-shown, shown_some, shown-set, shown-set_vacant, shown-vacate, shown-take}
-use Rattle.daggy_stable.proofs.Stores.{nodes_long, edges_long, firsts_long, row_from, first_shown, listed_within, near_exists, edge_within, end_stored, stands, some_is, node_read, no_slots}
+use Rattle.daggy_stable.proofs.Stores.{reads_itself, nodes_long, edges_long, firsts_long, row_from, first_shown, listed_within, near_exists, edge_within, end_stored, stands, some_is, node_read, no_slots}
 use Rattle.daggy_stable.proofs.Changes.{node_inside}
 
 -- what is seen of stored nodes and edges, by less
@@ -83,11 +83,6 @@ module _ {N E Ix : Type 0} {end : ℕ} {nodes : List (Node (Option N) Ix)} {edge
     end_is : (dir : Direction) → get_or (ends_of dir edges) e 0 ≡ near_end dir y
     end_is dir = go edges refl e_in
       where
-        reads_itself : (xs : List (Edge (Option E) Ix)) (i : ℕ) (d : Edge (Option E) Ix) → i < length xs → get_or xs i d ≡ get_or xs i (get_or xs i d)
-        reads_itself [] i d q = refl
-        reads_itself (z ∷ zs) zero d q = refl
-        reads_itself (z ∷ zs) (suc i) d q = reads_itself zs i d (omega (arith, q))
-
         go : (cells : List (Edge (Option E) Ix)) → cells ≡ edges → e < length cells → get_or (ends_of dir edges) e 0 ≡ near_end dir y
         go [] is p = absurd (omega (arith, p))
         go (d ∷ ds) is p = get_or-map (end_at dir) edges e d 0 e_in ∙ end_stored s dir e y (get_or edges e d) at e_in (reads_itself edges e d e_in)
@@ -120,12 +115,7 @@ module _ {N E Ix : Type 0} {end : ℕ} {nodes : List (Node (Option N) Ix)} {edge
       unlinked dir =
           let inside : e < length (nexts_of dir edges) = omega (arith, e_in, length-map edges (raw_next dir)) in
           IsLinked-unlinked end (row_firsts end dir nodes) (nexts_of dir edges) (row_firsts end dir nodes') (nexts_of dir edges') (end_of dir g) (lists_at dir g) (near_end dir y) e (get_or (nexts_of dir edges) e 0) (s.linked dir) (s.listed dir)
-          (ap (option_map (near_end dir)) at) (omega (arith, n_in dir, firsts_long s dir)) (omega (arith, e_in, edges_few)) (slice_get_read_at (nexts_of dir edges) e inside) (shown_red dir)
-        where
-          slice_get_read_at : (xs : List ℕ) (i : ℕ) → i < length xs → slice_get xs i ≡ Some (get_or xs i 0)
-          slice_get_read_at [] i p = absurd (omega (arith, p))
-          slice_get_read_at (x ∷ xs) zero p = refl
-          slice_get_read_at (x ∷ xs) (suc i) p = slice_get_read_at xs i (omega (arith, p))
+          (ap (option_map (near_end dir)) at) (omega (arith, n_in dir, firsts_long s dir)) (omega (arith, e_in, edges_few)) (slice_get-get_or (nexts_of dir edges) e 0 inside) (shown_red dir)
 
       -- members of the rows that are left
       left_over : (dir : Direction) (n f : ℕ) → Contains (row (map (without e) (lists_at dir g)) n) f → (f < length edges) × (f ≢ e)

@@ -15,7 +15,7 @@ use Rattle.daggy_graph.specs.Links.{row}
 use Rattle.daggy_graph.proofs.Rows.{Contains-here, Contains-there, IsScan}
 use Rattle.daggy_graph.proofs.StoredLemmas.{slot_read}
 use Rattle.daggy_stable.specs.Stored.{plain, plain_edge, Stores}
-use Rattle.daggy_stable.proofs.Stores.{end_back, edge_within, end_stored, row_from}
+use Rattle.daggy_stable.proofs.Stores.{reads_itself, end_back, edge_within, end_stored, row_from}
 
 -- whether the stored edge has v as its child
 abbrev pub child_is : {E Ix : Type 0} → List (Edge (Option E) Ix) → ℕ → ℕ → Bool
@@ -39,14 +39,9 @@ module _ {N E Ix : Type 0} {end : ℕ} {nodes : List (Node (Option N) Ix)} {edge
       go (d ∷ ds) is p =
           let inside : e < length edges = omega (arith, p, ap length is) in
           let x = get_or edges e d in
-          let reads : x ≡ get_or edges e x = get_or_default edges e d inside in
+          let reads : x ≡ get_or edges e x = reads_itself edges e d inside in
           ap (λ z. eqb z v) (get_or-map (end_at Incoming) edges e d 0 inside ∙ end_stored s Incoming e y x at inside reads)
           ∙ sym (ap (λ o. unwrap_or (option_map (λ z. eqb z.child v) o) false) at)
-        where
-          get_or_default : (xs : List (Edge (Option E) Ix)) (i : ℕ) (d : Edge (Option E) Ix) → i < length xs → get_or xs i d ≡ get_or xs i (get_or xs i d)
-          get_or_default [] i d q = refl
-          get_or_default (z ∷ zs) zero d q = refl
-          get_or_default (z ∷ zs) (suc i) d q = get_or_default zs i d (omega (arith, q))
 
   pub scan_start : (n v : ℕ) → IsScan end (nexts_of Outgoing edges) (child_is edges v) (first_of end (row (lists_at Outgoing g) n)) (find_edge g n v)
   scan_start n v =
@@ -59,13 +54,6 @@ module _ {N E Ix : Type 0} {end : ℕ} {nodes : List (Node (Option N) Ix)} {edge
       }
 
 -- the last slot that is not vacant
-
-bound_some : {A : Type 0} (x : A) (n : ℕ) → bound_step (Some x) n ≡ suc n
-bound_some x zero = refl
-bound_some x (suc n) = refl
-
-bound_more : {A : Type 0} (z : Option A) (n : ℕ) → bound_step z (suc n) ≡ suc (suc n)
-bound_more z n = refl
 
 pub bound_found : {A : Type 0} (xs : List (Option A)) (n : ℕ) (x : A) → slot xs n ≡ Some x → bound_of (take (suc n) xs) ≡ suc n
 bound_found [] n x at = absurd (none-some x at)

@@ -1,5 +1,5 @@
 -- What is stored, and what it shows.
-use Rattle.std.proofs.Common.{◌≡◌, ℕ, ◌<◌, ◌≤◌, List, [], ◌∷◌, map, length, get_or, Option, Some, None, IsSome, is_some, refl, sym, ap, subst, ◌∙◌, inl, inr, arith, Contains}
+use Rattle.std.proofs.Common.{◌≡◌, ℕ, zero, suc, ◌<◌, ◌≤◌, List, [], ◌∷◌, map, length, get_or, Option, Some, None, IsSome, is_some, refl, sym, ap, subst, ◌∙◌, inl, inr, arith, Contains}
 use Rattle.std.specs.Option.{option_map}
 use Rattle.std.proofs.lemmas.Bool.{cases_lt}
 use Rattle.std.proofs.lemmas.List.{length-map, get_or-map}
@@ -28,6 +28,12 @@ slot_vacant_or {A} xs i P none some = go (slot xs i) refl
     go : (o : Option A) → slot xs i ≡ o → P
     go None at = none at
     go (Some x) at = some x at
+
+-- what is read at a place, whatever is read past the end
+pub reads_itself : {A : Type 0} (xs : List A) (i : ℕ) (d : A) → i < length xs → get_or xs i d ≡ get_or xs i (get_or xs i d)
+reads_itself [] i d within = refl
+reads_itself (x ∷ xs) zero d within = refl
+reads_itself (x ∷ xs) (suc i) d within = reads_itself xs i d (omega (arith, within))
 
 pub some_is : {A : Type 0} (o : Option A) → IsSome o → (x : A) × (o ≡ Some x)
 some_is None p = absurd cc

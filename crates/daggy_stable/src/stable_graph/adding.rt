@@ -16,8 +16,8 @@ use daggy_base::link::Link;
 use daggy_graph::graph::{Edge, Node};
 
 impl<N: Drop, E: Drop, Ix: IndexType> StableDiGraph<N, E, Ix> {
-    /// Adds a node. Its index is that of the node that was removed last, if its slot is still vacant, and so on to the
-    /// node that was removed first. If no slot is vacant, its index is the number of nodes before.
+    /// Adds a node. Its index is that of the slot that was vacated last. If no slot is vacant, it is the number of nodes
+    /// before.
     ///
     /// The error says that memory for it was refused. It holds the weight, and the graph is as it was. The cost is
     /// constant, taken over many calls.
@@ -70,8 +70,7 @@ impl<N: Drop, E: Drop, Ix: IndexType> StableDiGraph<N, E, Ix> {
     }
 
     /// Adds an edge from `a` to `b`. It is then the first edge that leaves `a`, and the first that enters `b`. Its index
-    /// is that of the edge that was removed last, if its slot is still vacant, and so on to the edge that was removed
-    /// first. If no slot is vacant, its index is the number of edges before.
+    /// is that of the slot that was vacated last. If no slot is vacant, it is the number of edges before.
     ///
     /// The error says that memory for it was refused. It holds the weight, and the graph is as it was. The cost is
     /// constant, taken over many calls.
