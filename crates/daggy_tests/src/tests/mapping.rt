@@ -6,18 +6,16 @@ use std::process::Abort;
 use std::test::Fail;
 
 // Nodes of weights 10, 11 and 12, and edges of weights 100, 101 and so on between nodes of these indices.
-fn three_nodes(
-    rt: &impl Abort,
-    alloc: Global,
-    ends: &[(usize, usize)],
-) -> Result<Dag<u32, u32>, Fail> {
+fn three_nodes(rt: &impl Abort, alloc: Global, ends: &[(u32, u32)]) -> Result<Dag<u32, u32>, Fail> {
     let mut dag = Dag::new(alloc);
     for weight in [10, 11, 12] {
         add_node(rt, &mut dag, weight)?;
     }
     let mut weight = 100u32;
     for (a, b) in ends {
-        add_edge(rt, &mut dag, NodeIndex::new(*a), NodeIndex::new(*b), weight)?;
+        let a = NodeIndex::new(*a as usize);
+        let b = NodeIndex::new(*b as usize);
+        add_edge(rt, &mut dag, a, b, weight)?;
         weight = weight.wrapping_add(1);
     }
     Ok(dag)
@@ -169,7 +167,7 @@ fn all_nodes_and_edges_of_a_dag_are_gone_through(rt: HostRuntime) -> Result<(), 
         nodes = nodes
             .wrapping_mul(1000)
             .wrapping_add(*w)
-            .wrapping_add(n.index() as u32 * 100);
+            .wrapping_add((n.index() as u32).wrapping_mul(100));
     }
     assert_eq!(rt; nodes, 10111212);
     let mut ends = 0usize;
