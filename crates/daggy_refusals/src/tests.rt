@@ -437,14 +437,25 @@ fn a_refused_extension_keeps_what_it_made(rt: HostRuntime) -> Result<(), Fail> {
     Ok(())
 }
 
+// Edges of weights 1, 2 and 3.
+fn triangle() -> [(NodeIndex<u32>, NodeIndex<u32>, usize); 3] {
+    let (a, b, c) = (NodeIndex::new(0), NodeIndex::new(1), NodeIndex::new(2));
+    [(a, b, 1), (b, c, 2), (a, c, 3)]
+}
+
 #[test]
 fn a_dag_of_edges_is_made_or_its_weight_comes_back(rt: HostRuntime) -> Result<(), Fail> {
-    let (a, b, c) = (NodeIndex::new(0), NodeIndex::new(1), NodeIndex::new(2));
-    let items = [(a, b, 1), (b, c, 2), (a, c, 3)];
-    let made: Result<Dag<usize, usize>, EdgeError<usize>> = Dag::from_edges(rt.alloc(), items);
+    let made: Result<Dag<usize, usize>, EdgeError<usize>> = Dag::from_edges(rt.alloc(), triangle());
     let dag = match made {
         Ok(dag) => dag,
-        Err(EdgeError::Memory(_) | EdgeError::NodeMemory(_)) => Dag::from_edges(rt.alloc(), items)?,
+        Err(EdgeError::Memory(refused)) => {
+            assert!(rt; refused >= 1 && refused <= 3);
+            Dag::from_edges(rt.alloc(), triangle())?
+        }
+        Err(EdgeError::NodeMemory(refused)) => {
+            assert!(rt; refused == 1 || refused == 2);
+            Dag::from_edges(rt.alloc(), triangle())?
+        }
         Err(_) => panic!(rt; "no other refusal has a cause"),
     };
     assert_eq!(rt; dag.node_count(), 3);
