@@ -16,7 +16,7 @@ ghost use Rattle.daggy_base.specs.declared.error.EdgeError.TheVariants.{WouldCyc
 ghost use Rattle.daggy_base.specs.declared.error.ChildError.TheVariants.{Memory as ChildMemory};
 
 use daggy_base::error::{ChildError, EdgeError, NodeError};
-use daggy_base::index::{DefaultIx, Direction, EdgeIndex, IndexType, NodeIndex};
+use daggy_base::index::{DefaultIx, Direction, IndexType};
 use daggy_base::search::Scratch;
 use daggy_dag::guard;
 use daggy_stable::stable_graph::StableDiGraph;
@@ -29,6 +29,9 @@ mod visit;
 mod walkers;
 mod weights;
 
+pub use daggy_base::index::{EdgeIndex, NodeIndex};
+pub use daggy_dag::edge_indices::EdgeIndices;
+pub use daggy_walk::walker::Walker;
 pub use walkers::{Children, Parents};
 
 /// A directed graph that never has a cycle and whose indices outlive removals, with weights of type `N` at its nodes and
