@@ -7,6 +7,8 @@ pub mod Cells
 pub mod Mapping
 pub mod MappedCells
 pub mod Filtering
+pub mod Slots
+pub mod InPlace
 pub mod Names
 pub mod Iterating
 pub mod Referring

@@ -6,3 +6,5 @@ pub mod Changes
 pub mod Removing
 pub mod Weighing
 pub mod Bounds
+pub mod Copying
+pub mod Mapping
