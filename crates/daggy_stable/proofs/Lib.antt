@@ -8,3 +8,6 @@ pub mod Weighing
 pub mod Bounds
 pub mod Copying
 pub mod Mapping
+pub mod Descending
+pub mod Building
+pub mod Keeping

@@ -8,6 +8,7 @@ ghost use Rattle.daggy_base.specs.Cursor.{first_of, cursor_after};
 mod adding;
 mod copy;
 mod count;
+mod filter;
 mod map;
 mod removal;
 mod room;

@@ -197,3 +197,52 @@ fn a_map_keeps_slots(rt: HostRuntime) {
     assert!(rt; h.can_add_node());
     assert_eq!(rt; h.add_node((7, 7)).expect(&rt, "memory").index(), 0);
 }
+
+#[test]
+fn what_is_kept_keeps_its_index(rt: HostRuntime) {
+    let g = triangle(&rt, rt.alloc());
+    let mut asked = 0u32;
+    let kept = g.filter_map(
+        |_, w| if *w > 10 { Some(*w) } else { None },
+        |e, w| {
+            asked = asked.wrapping_mul(10).wrapping_add(*w);
+            Some((e.index() as u32).wrapping_add(*w))
+        },
+    );
+    let mut h = kept.expect(&rt, "memory");
+    assert_eq!(rt; asked, 102);
+    assert_eq!(rt; (h.node_count(), h.edge_count()), (2, 1));
+    assert_eq!(rt; (h.node_slots(), h.edge_slots()), (3, 3));
+    let (b, c, bc) = (NodeIndex::new(1), NodeIndex::new(2), EdgeIndex::new(2));
+    assert_eq!(rt; h.node_weight(b).copied(), Some(11));
+    assert_eq!(rt; h.node_weight(c).copied(), Some(12));
+    assert_eq!(rt; h.edge_weight(bc).copied(), Some(104));
+    assert_eq!(rt; h.first_edge(b, Direction::Outgoing).index(), 2);
+    assert_eq!(rt; h.first_edge(c, Direction::Incoming).index(), 2);
+    assert_eq!(rt; node(&rt, &mut h, 13).index(), 0);
+    assert_eq!(rt; edge(&rt, &mut h, b, c, 105).index(), 1);
+    assert_eq!(rt; edge(&rt, &mut h, b, c, 106).index(), 0);
+    assert_eq!(rt; edge(&rt, &mut h, b, c, 107).index(), 3);
+}
+
+#[test]
+fn slots_past_the_last_node_and_edge_are_left_out(rt: HostRuntime) {
+    let mut g = triangle(&rt, rt.alloc());
+    for (e, w) in [(2, 102), (0, 100), (1, 101)] {
+        assert_eq!(rt; g.remove_edge(EdgeIndex::new(e)), Some(w));
+    }
+    assert_eq!(rt; g.remove_node(NodeIndex::new(2)), Some(12));
+    let (a, b) = (NodeIndex::new(0), NodeIndex::new(1));
+    assert_eq!(rt; edge(&rt, &mut g, a, b, 103).index(), 1);
+    assert_eq!(rt; edge(&rt, &mut g, a, b, 104).index(), 0);
+    assert_eq!(rt; g.first_edge(a, Direction::Outgoing).index(), 0);
+    let kept = g.filter_map(|_, w| Some(*w), |_, w| Some(*w));
+    let h = kept.expect(&rt, "memory");
+    assert_eq!(rt; (h.node_slots(), h.edge_slots()), (2, 2));
+    assert_eq!(rt; h.first_edge(a, Direction::Outgoing).index(), 1);
+    assert_eq!(rt; h.first_edge(b, Direction::Incoming).index(), 1);
+    let none = g.filter_map(|_, _| None::<u32>, |_, w| Some(*w));
+    let h = none.expect(&rt, "memory");
+    assert_eq!(rt; (h.node_count(), h.edge_count()), (0, 0));
+    assert_eq!(rt; (h.node_slots(), h.edge_slots()), (2, 2));
+}

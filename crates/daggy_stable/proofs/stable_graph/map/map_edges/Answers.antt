@@ -1,4 +1,4 @@
-use Rattle.std.proofs.Common.{◌<◌, ◌+◌, Some, None, map, length, sym, ap, ◌∙◌, of_calls, arith}
+use Rattle.std.proofs.Common.{◌<◌, ◌+◌, Some, None, length, sym, ap, ◌∙◌, of_calls, arith}
 use Rattle.std.proofs.lemmas.List.{length-map, length_push}
 use Rattle.std.specs.Option.{option_map}
 use Rattle.daggy_graph.specs.Mapping.{weight_in, with_weight}

@@ -1,11 +1,10 @@
-use Rattle.std.proofs.Common.{◌<◌, ◌+◌, Some, None, map, length, sym, ap, subst, ◌∙◌, of_calls, arith}
+use Rattle.std.proofs.Common.{◌<◌, ◌+◌, Some, None, length, sym, ap, ◌∙◌, of_calls, arith}
 use Rattle.std.proofs.lemmas.List.{length-map, length_push}
-use Rattle.daggy_base.specs.declared.index.Direction.{Direction}
 use Rattle.daggy_graph.specs.Raw.{raw_first}
 use Rattle.daggy_graph.specs.Stored.{firsts_of}
 use Rattle.daggy_graph.proofs.MappingLemmas.{CalledAt-from_step}
 use Rattle.daggy_stable.specs.Stored.{weight_of}
-use Rattle.daggy_stable.proofs.Mapping.{MappedSlots, MappedSlots-pass, MappedSlots-call, MappedSlots-done, kept_more, kept_all, node_like_links}
+use Rattle.daggy_stable.proofs.Mapping.{MappedSlots-pass, MappedSlots-call, MappedSlots-done, kept_more, kept_all, node_like_links}
 use Rattle.daggy_stable.proofs.stable_graph.map.map_nodes.Goals as goal
 
 pub each-preserved-in-None : goal.each-preserved-in-None
