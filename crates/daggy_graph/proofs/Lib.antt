@@ -11,7 +11,7 @@ pub mod Clearing
 pub mod RawLemmas
 pub mod CellLemmas
 pub mod PairLemmas
-mod CloneLemmas
+pub mod CloneLemmas
 pub mod MappingLemmas
 pub mod RewritingLemmas
 pub mod FilterLemmas

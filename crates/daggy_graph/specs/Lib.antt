@@ -8,6 +8,8 @@ pub mod Mapping
 pub mod MappedCells
 pub mod Rewriting
 pub mod Filtering
+pub mod Slots
+pub mod InPlace
 pub mod Names
 pub mod Iterating
 pub mod Referring

@@ -7,3 +7,8 @@ pub mod Removing
 pub mod Weighing
 pub mod Bounds
 pub mod Filling
+pub mod Copying
+pub mod Mapping
+pub mod Descending
+pub mod Building
+pub mod Keeping

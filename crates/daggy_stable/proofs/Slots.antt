@@ -17,7 +17,7 @@ use Rattle.daggy_stable.specs.Stored.{IsThreaded}
 module _ {A : Type 0} where
   -- how many are not vacant
 
-  count_cons : (z : Option A) (zs : List (Option A)) → count_by is_some (z ∷ zs) ≡ cond (is_some z) 1 0 + count_by is_some zs
+  pub count_cons : (z : Option A) (zs : List (Option A)) → count_by is_some (z ∷ zs) ≡ cond (is_some z) 1 0 + count_by is_some zs
   count_cons z zs = sum_by-cons (λ y. cond (is_some y) 1 0) z zs
 
   pub count_push : (xs : List (Option A)) (x : A) → count_by is_some (xs ++ Some x ∷ []) ≡ suc (count_by is_some xs)

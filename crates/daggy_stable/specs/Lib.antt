@@ -1,3 +1,4 @@
 pub mod Stored
 pub mod Lends
 pub mod Room
+pub mod Building

@@ -6,7 +6,10 @@ ghost use Rattle.daggy_base.specs.Finding.{find_edge as edge_between};
 ghost use Rattle.daggy_base.specs.Cursor.{first_of, cursor_after};
 
 mod adding;
+mod copy;
 mod count;
+mod filter;
+mod map;
 mod removal;
 mod room;
 mod source;

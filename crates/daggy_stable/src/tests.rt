@@ -181,3 +181,115 @@ fn a_compact_graph_fills_a_room(rt: HostRuntime) {
     assert_eq!(rt; edge(&rt, &mut g, b, c, 103).index(), 2);
     assert_eq!(rt; node(&rt, &mut g, 13).index(), 3);
 }
+
+
+// Nodes of weights 10, 11 and 12, and edges 0 from 0 to 1, 1 from 0 to 2 and 2 from 1 to 2, of weights 100, 101 and 102.
+fn triangle(rt: &impl Abort, alloc: Global) -> StableDiGraph<u32, u32, u8> {
+    let mut g = StableDiGraph::new(alloc);
+    let a = node(rt, &mut g, 10);
+    let b = node(rt, &mut g, 11);
+    let c = node(rt, &mut g, 12);
+    let _ab = edge(rt, &mut g, a, b, 100);
+    let _ac = edge(rt, &mut g, a, c, 101);
+    let _bc = edge(rt, &mut g, b, c, 102);
+    g
+}
+
+#[test]
+fn room_is_made_at_first(rt: HostRuntime) {
+    let mut g = StableDiGraph::with_capacity(rt.alloc(), 2, 1).expect(&rt, "memory");
+    assert_eq!(rt; (g.node_count(), g.edge_count()), (0, 0));
+    let a = node(&rt, &mut g, 10);
+    let b = node(&rt, &mut g, 11);
+    let ab = edge(&rt, &mut g, a, b, 100);
+    assert_eq!(rt; (a.index(), b.index(), ab.index()), (0, 1, 0));
+}
+
+#[test]
+fn a_copy_takes_the_same_slots_next(rt: HostRuntime) {
+    let mut g = triangle(&rt, rt.alloc());
+    let a = NodeIndex::new(0);
+    let c = NodeIndex::new(2);
+    assert_eq!(rt; g.remove_edge(EdgeIndex::new(2)), Some(102));
+    assert_eq!(rt; g.remove_edge(EdgeIndex::new(0)), Some(100));
+    assert_eq!(rt; g.remove_node(NodeIndex::new(1)), Some(11));
+    let mut copy = g.try_clone().expect(&rt, "memory");
+    assert_eq!(rt; (copy.node_count(), copy.edge_count()), (2, 1));
+    assert_eq!(rt; copy.node_weight(c).copied(), Some(12));
+    assert_eq!(rt; copy.edge_weight(EdgeIndex::new(1)).copied(), Some(101));
+    assert_eq!(rt; edge(&rt, &mut copy, a, c, 103).index(), 0);
+    assert_eq!(rt; edge(&rt, &mut copy, a, c, 104).index(), 2);
+    assert_eq!(rt; edge(&rt, &mut copy, a, c, 105).index(), 3);
+    assert_eq!(rt; node(&rt, &mut copy, 13).index(), 1);
+    assert_eq!(rt; g.edge_count(), 1);
+}
+
+#[test]
+fn a_map_keeps_slots(rt: HostRuntime) {
+    let mut g = triangle(&rt, rt.alloc());
+    assert_eq!(rt; g.remove_node(NodeIndex::new(0)), Some(10));
+    let mut asked = 0u32;
+    let mapped = g.map(
+        |n, w| {
+            asked = asked.wrapping_mul(10).wrapping_add(*w);
+            (n.index(), *w)
+        },
+        |e, w| (e.index(), *w),
+    );
+    let mut h = mapped.expect(&rt, "memory");
+    assert_eq!(rt; asked, 122);
+    assert_eq!(rt; h.node_weight(NodeIndex::new(0)).copied(), None);
+    assert_eq!(rt; h.node_weight(NodeIndex::new(2)).copied(), Some((2, 12)));
+    assert_eq!(rt; h.edge_weight(EdgeIndex::new(2)).copied(), Some((2, 102)));
+    assert!(rt; h.can_add_node());
+    assert_eq!(rt; h.add_node((7, 7)).expect(&rt, "memory").index(), 0);
+}
+
+#[test]
+fn what_is_kept_keeps_its_index(rt: HostRuntime) {
+    let g = triangle(&rt, rt.alloc());
+    let mut asked = 0u32;
+    let kept = g.filter_map(
+        |_, w| if *w > 10 { Some(*w) } else { None },
+        |e, w| {
+            asked = asked.wrapping_mul(10).wrapping_add(*w);
+            Some((e.index() as u32).wrapping_add(*w))
+        },
+    );
+    let mut h = kept.expect(&rt, "memory");
+    assert_eq!(rt; asked, 102);
+    assert_eq!(rt; (h.node_count(), h.edge_count()), (2, 1));
+    assert_eq!(rt; (h.node_slots(), h.edge_slots()), (3, 3));
+    let (b, c, bc) = (NodeIndex::new(1), NodeIndex::new(2), EdgeIndex::new(2));
+    assert_eq!(rt; h.node_weight(b).copied(), Some(11));
+    assert_eq!(rt; h.node_weight(c).copied(), Some(12));
+    assert_eq!(rt; h.edge_weight(bc).copied(), Some(104));
+    assert_eq!(rt; h.first_edge(b, Direction::Outgoing).index(), 2);
+    assert_eq!(rt; h.first_edge(c, Direction::Incoming).index(), 2);
+    assert_eq!(rt; node(&rt, &mut h, 13).index(), 0);
+    assert_eq!(rt; edge(&rt, &mut h, b, c, 105).index(), 1);
+    assert_eq!(rt; edge(&rt, &mut h, b, c, 106).index(), 0);
+    assert_eq!(rt; edge(&rt, &mut h, b, c, 107).index(), 3);
+}
+
+#[test]
+fn slots_past_the_last_node_and_edge_are_left_out(rt: HostRuntime) {
+    let mut g = triangle(&rt, rt.alloc());
+    for (e, w) in [(2, 102), (0, 100), (1, 101)] {
+        assert_eq!(rt; g.remove_edge(EdgeIndex::new(e)), Some(w));
+    }
+    assert_eq!(rt; g.remove_node(NodeIndex::new(2)), Some(12));
+    let (a, b) = (NodeIndex::new(0), NodeIndex::new(1));
+    assert_eq!(rt; edge(&rt, &mut g, a, b, 103).index(), 1);
+    assert_eq!(rt; edge(&rt, &mut g, a, b, 104).index(), 0);
+    assert_eq!(rt; g.first_edge(a, Direction::Outgoing).index(), 0);
+    let kept = g.filter_map(|_, w| Some(*w), |_, w| Some(*w));
+    let h = kept.expect(&rt, "memory");
+    assert_eq!(rt; (h.node_slots(), h.edge_slots()), (2, 2));
+    assert_eq!(rt; h.first_edge(a, Direction::Outgoing).index(), 1);
+    assert_eq!(rt; h.first_edge(b, Direction::Incoming).index(), 1);
+    let none = g.filter_map(|_, _| None::<u32>, |_, w| Some(*w));
+    let h = none.expect(&rt, "memory");
+    assert_eq!(rt; (h.node_count(), h.edge_count()), (0, 0));
+    assert_eq!(rt; (h.node_slots(), h.edge_slots()), (2, 2));
+}

@@ -155,7 +155,7 @@ impl<N: Drop, E: Drop, Ix: IndexType> StableDiGraph<N, E, Ix> {
 
 // Puts the edge `e` first in the out list of `a` and in the in list of `b`, and gives what is stored of it.
 #[inline]
-fn put_first<N, E, Ix: IndexType>(
+pub(super) fn put_first<N, E, Ix: IndexType>(
     nodes: &mut Vec<Node<Option<N>, Ix>>,
     a: Link<Ix>,
     b: Link<Ix>,

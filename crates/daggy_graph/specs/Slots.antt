@@ -1,0 +1,36 @@
+-- The graph that given slots make.
+use Rattle.std.specs.Prelude.{ℕ, zero, suc, ◌==◌, Bool, false, not, Option, is_some, List, [], ◌∷◌, length, map, unwrap_or, if◌then◌else◌}
+use Rattle.std.specs.List.{range_with_len}
+use Rattle.std.specs.Option.{option_map}
+use Rattle.daggy_base.specs.declared.index.Direction.{Direction}
+use Rattle.daggy_base.specs.declared.index.Direction.TheVariants.{Outgoing, Incoming}
+use Rattle.daggy_base.specs.Graph.{Graph, Edge, slot, near_end}
+
+-- the numbers below k that pass, the greatest first
+abbrev pub down_from : (ℕ → Bool) → ℕ → List ℕ
+down_from passes zero = []
+down_from passes (suc k) = if passes k then k ∷ down_from passes k else down_from passes k
+
+-- the vacant slots, the last first
+abbrev pub vacant_down : {A : Type 0} → List (Option A) → List ℕ
+vacant_down slots = down_from (λ i. not (is_some (slot slots i))) (length slots)
+
+-- whether the slot e holds an edge with the end n
+abbrev pub has_end : {E : Type 0} → Direction → List (Option (Edge E)) → ℕ → ℕ → Bool
+has_end dir edges n e = unwrap_or (option_map (λ x. near_end dir x == n) (slot edges e)) false
+
+-- for each of so many nodes the edges with that end, the last first
+abbrev pub lists_down : {E : Type 0} → Direction → (nodes : ℕ) → List (Option (Edge E)) → List (List ℕ)
+lists_down dir nodes edges = map (λ n. down_from (has_end dir edges n) (length edges)) (range_with_len 0 nodes)
+
+-- the graph with these slots, whose lists all begin with the greatest index, those of vacant slots too
+abbrev pub of_slots : {N E : Type 0} → List (Option N) → List (Option (Edge E)) → Graph N E
+of_slots nodes edges =
+    record {
+      nodes = nodes;
+      edges = edges;
+      out_lists = lists_down Outgoing (length nodes) edges;
+      in_lists = lists_down Incoming (length nodes) edges;
+      vacant_nodes = vacant_down nodes;
+      vacant_edges = vacant_down edges;
+    }

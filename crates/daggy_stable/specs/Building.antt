@@ -1,0 +1,17 @@
+-- How slots are made one by one. No public clause cites this module.
+use Rattle.std.specs.Prelude.{ℕ, Option, map}
+use Rattle.daggy_base.specs.Graph.{Edge as PlainEdge}
+use Rattle.daggy_graph.specs.declared.graph.Node.{Node}
+use Rattle.daggy_graph.specs.declared.graph.Edge.{Edge}
+use Rattle.daggy_graph.specs.Slots.{of_slots}
+use Rattle.daggy_stable.specs.declared.stable_graph.filter.Slots.{Slots}
+use Rattle.daggy_stable.specs.Stored.{weight_of, plain_edge, Stores}
+
+-- what is stored is the graph that these slots make
+abbrev pub IsBuilt : {N E Ix : Type 0} → (end : ℕ) → Slots (Node (Option N) Ix) Ix → Slots (Edge (Option E) Ix) Ix → Type 0
+IsBuilt end nodes edges =
+    Stores end nodes.cells.items edges.cells.items nodes.first_vacant edges.first_vacant nodes.count edges.count (of_slots (map weight_of nodes.cells.items) (map plain_edge edges.cells.items))
+
+-- an edge between two nodes
+abbrev pub between : {E : Type 0} → ℕ → ℕ → E → PlainEdge E
+between a b w = record { parent = a; child = b; weight = w }

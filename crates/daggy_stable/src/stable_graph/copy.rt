@@ -1,0 +1,32 @@
+//! A copy of a graph.
+ghost use Rattle.std.specs.Prelude.{◌≡◌, IfOk};
+
+use crate::stable_graph::StableDiGraph;
+use daggy_base::index::IndexType;
+use daggy_base::search::Looks;
+use std::alloc::AllocError;
+
+impl<N, E, Ix: IndexType> StableDiGraph<N, E, Ix> {
+    /// A graph with the same nodes and edges under the same indices, in the same lists, and with the same vacant slots,
+    /// which are taken in the same order.
+    ///
+    /// The error says that memory for it was refused. The cost grows with the number of slots.
+    pub fn try_clone(&self) -> Result<Self, AllocError>
+    where
+        N: Clone + Drop,
+        E: Clone + Drop,
+        requires nodes { (x y : N) → N.is_clone x y → y ≡ x }
+        requires edges { (x y : E) → E.is_clone x y → y ≡ x }
+        ensures { IfOk result (λ g. g ≡ record { graph = self.now.graph; looks = 0 }) }
+    {
+        Ok(StableDiGraph {
+            nodes: self.nodes.clone()?,
+            edges: self.edges.clone()?,
+            first_vacant_node: self.first_vacant_node,
+            first_vacant_edge: self.first_vacant_edge,
+            node_count: self.node_count,
+            edge_count: self.edge_count,
+            looks: Looks::new(),
+        })
+    }
+}

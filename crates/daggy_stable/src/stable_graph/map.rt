@@ -1,0 +1,127 @@
+//! The same graph with other weights.
+ghost use Rattle.std.specs.Prelude.{◌≡◌, ◌≤◌, [], map, length, vec_capacity, IfOk};
+ghost use Rattle.daggy_base.specs.declared.index.Direction.{Direction};
+ghost use Rattle.daggy_graph.specs.Mapping.{MapsSlots, IsMapped, weight_in, with_weight};
+ghost use Rattle.daggy_graph.specs.MappedCells.{node_with, edge_with};
+ghost use Rattle.daggy_graph.specs.Stored.{firsts_of, nexts_of};
+ghost use Rattle.daggy_stable.specs.Stored.{weight_of, plain_edge};
+
+use crate::stable_graph::StableDiGraph;
+use daggy_base::index::{Direction, EdgeIndex, IndexType, NodeIndex};
+use daggy_base::search::Looks;
+use daggy_graph::graph::{Edge, Node};
+use std::alloc::AllocError;
+
+// A node with the links of `x`.
+#[inline]
+fn node_like<N, V, Ix: IndexType>(x: &Node<N, Ix>, weight: V) -> Node<V, Ix>
+    ensures { result ≡ node_with x.now weight }
+{
+    let mut node = Node::new(weight);
+    node.set_first(Direction::Outgoing, x.first(Direction::Outgoing));
+    node.set_first(Direction::Incoming, x.first(Direction::Incoming));
+    node
+}
+
+// An edge with the ends and the links of `x`.
+#[inline]
+fn edge_like<E, W, Ix: IndexType>(x: &Edge<E, Ix>, weight: W) -> Edge<W, Ix>
+    ensures { result ≡ edge_with x.now weight }
+{
+    Edge::new(
+        weight,
+        x.end(Direction::Outgoing),
+        x.end(Direction::Incoming),
+        x.next(Direction::Outgoing),
+        x.next(Direction::Incoming),
+    )
+}
+
+// Makes the nodes of the new graph, in the room that they have.
+fn map_nodes<N, V, Ix: IndexType, F: FnMut(NodeIndex<Ix>, &N) -> V>(
+    nodes: &[Node<Option<N>, Ix>],
+    new: &mut Vec<Node<Option<V>, Ix>>,
+    mut f: F,
+)
+    requires callable { F.IsAlwaysCallable f }
+    requires few { length nodes.now ≤ Ix.greatest }
+    requires room { length nodes.now ≤ vec_capacity new.old }
+    requires empty { new.old.items ≡ [] }
+    ensures mapped { MapsSlots F.step Ix.of (λ w. w) (λ w v. v) f 0 (map weight_of nodes.now) (map weight_of new.new.items) }
+    ensures links { (dir : Direction) → firsts_of dir new.new.items ≡ firsts_of dir nodes.now }
+{
+    'each: for i in 0..nodes.len() {
+        let x = &nodes[i];
+        let old = match x.weight.as_ref() {
+            Some(old) => old,
+            None => {
+                new.push_reserved(node_like(x, None));
+                continue;
+            }
+        };
+        let weight = f(NodeIndex::new(i), old);
+        new.push_reserved(node_like(x, Some(weight)));
+    }
+}
+
+// Makes the edges of the new graph, in the room that they have.
+fn map_edges<E, W, Ix: IndexType, G: FnMut(EdgeIndex<Ix>, &E) -> W>(
+    edges: &[Edge<Option<E>, Ix>],
+    new: &mut Vec<Edge<Option<W>, Ix>>,
+    mut g: G,
+)
+    requires callable { G.IsAlwaysCallable g }
+    requires few { length edges.now ≤ Ix.greatest }
+    requires room { length edges.now ≤ vec_capacity new.old }
+    requires empty { new.old.items ≡ [] }
+    ensures mapped { MapsSlots G.step Ix.of weight_in with_weight g 0 (map plain_edge edges.now) (map plain_edge new.new.items) }
+    ensures links { (dir : Direction) → nexts_of dir new.new.items ≡ nexts_of dir edges.now }
+{
+    'each: for i in 0..edges.len() {
+        let x = &edges[i];
+        let old = match x.weight.as_ref() {
+            Some(old) => old,
+            None => {
+                new.push_reserved(edge_like(x, None));
+                continue;
+            }
+        };
+        let weight = g(EdgeIndex::new(i), old);
+        new.push_reserved(edge_like(x, Some(weight)));
+    }
+}
+
+impl<N, E, Ix: IndexType> StableDiGraph<N, E, Ix> {
+    /// A graph with the same nodes and edges under the same indices, in the same lists, and with the same vacant slots,
+    /// whose weights are what the closures give: `f` is called with each node by ascending index, and then `g` with
+    /// each edge.
+    ///
+    /// The error says that memory for it was refused. Then no closure was called. The cost grows with the number of
+    /// slots, besides that of the calls.
+    pub fn map<
+        N2: Drop,
+        E2: Drop,
+        F: FnMut(NodeIndex<Ix>, &N) -> N2,
+        G: FnMut(EdgeIndex<Ix>, &E) -> E2,
+    >(&self, f: F, g: G) -> Result<StableDiGraph<N2, E2, Ix>, AllocError>
+        requires nodes { F.IsAlwaysCallable f }
+        requires edges { G.IsAlwaysCallable g }
+        ensures mapped { IfOk result (λ h. IsMapped Ix.of F.step G.step f g self.now.graph h.graph) }
+        ensures looks { IfOk result (λ h. h.looks ≡ 0) }
+    {
+        let alloc = *self.nodes.allocator();
+        let mut nodes = Vec::with_capacity(alloc, self.nodes.len())?;
+        let mut edges = Vec::with_capacity(alloc, self.edges.len())?;
+        map_nodes(self.nodes.as_slice(), &mut nodes, f);
+        map_edges(self.edges.as_slice(), &mut edges, g);
+        Ok(StableDiGraph {
+            nodes,
+            edges,
+            first_vacant_node: self.first_vacant_node,
+            first_vacant_edge: self.first_vacant_edge,
+            node_count: self.node_count,
+            edge_count: self.edge_count,
+            looks: Looks::new(),
+        })
+    }
+}
