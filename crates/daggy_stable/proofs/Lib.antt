@@ -7,3 +7,5 @@ pub mod Removing
 pub mod Weighing
 pub mod Bounds
 pub mod Filling
+pub mod Passing
+pub mod Listing

@@ -1,3 +1,5 @@
 pub mod Stored
 pub mod Lends
 pub mod Room
+pub mod Slots
+pub mod Rest

@@ -7,8 +7,11 @@ ghost use Rattle.daggy_base.specs.Cursor.{first_of, cursor_after};
 
 mod adding;
 mod count;
+pub mod iterators;
+pub mod lists;
 mod removal;
 mod room;
+mod slots;
 mod source;
 mod taking;
 mod weights;
