@@ -42,7 +42,7 @@ range_step a e within = let longer : e - a ≡ suc (e - (a + 1)) = omega (arith,
 abbrev pub at_index : {A : Type 0} → ℕ → A → ℕ × A
 at_index i x = (i, x)
 
-follow_past : (nexts : List ℕ) (fuel e : ℕ) → length nexts ≤ e → follow nexts fuel e ≡ []
+pub follow_past : (nexts : List ℕ) (fuel e : ℕ) → length nexts ≤ e → follow nexts fuel e ≡ []
 follow_past nexts zero e past = refl
 follow_past nexts (suc k) e past = rw (slice_get_past nexts e past) refl
 
@@ -52,7 +52,7 @@ module _ {E Ix : Type 0} (end : ℕ) (dir : Direction) (edges : List (Edge E Ix)
       ap (filter_map (λ i. option_map (λ x. at_index i (plain x)) (slice_get edges i))) (follow_past (nexts_of dir edges) (length (nexts_of dir edges)) e (omega (arith, past, length-map edges (raw_next dir))))
 
   -- the walk from an edge that is there
-  step_on : (e : ℕ) (x : Edge E Ix) → e < length edges → x ≡ get_or edges e x → IsOnRow end dir edges e → (walk dir edges e ≡ e ∷ walk dir edges (raw_next dir x)) × IsRow end (nexts_of dir edges) (raw_next dir x) (walk dir edges (raw_next dir x))
+  pub step_on : (e : ℕ) (x : Edge E Ix) → e < length edges → x ≡ get_or edges e x → IsOnRow end dir edges e → (walk dir edges e ≡ e ∷ walk dir edges (raw_next dir x)) × IsRow end (nexts_of dir edges) (raw_next dir x) (walk dir edges (raw_next dir x))
   step_on e x within is s =
       let nexts = nexts_of dir edges in
       let long : length nexts ≡ length edges = length-map edges (raw_next dir) in
@@ -124,7 +124,7 @@ go_few : (nexts : List ℕ) (k e : ℕ) → ((next : ℕ) → length (follow nex
 go_few nexts k e few None = omega arith
 go_few nexts k e few (Some next) = omega (arith, few next)
 
-follow_few : (nexts : List ℕ) (fuel e : ℕ) → length (follow nexts fuel e) ≤ fuel
+pub follow_few : (nexts : List ℕ) (fuel e : ℕ) → length (follow nexts fuel e) ≤ fuel
 follow_few nexts zero e = omega arith
 follow_few nexts (suc k) e = go_few nexts k e (follow_few nexts k) (slice_get nexts e)
 
@@ -132,7 +132,7 @@ cons_few : {A : Type 0} (o : Option A) (xs : List A) → length (cons_option o x
 cons_few None xs = omega arith
 cons_few (Some x) xs = omega arith
 
-filter_map_few : {A : Type 0} (h : ℕ → Option A) (xs : List ℕ) → length (filter_map h xs) ≤ length xs
+pub filter_map_few : {A : Type 0} (h : ℕ → Option A) (xs : List ℕ) → length (filter_map h xs) ≤ length xs
 filter_map_few h [] = omega arith
 filter_map_few h (x ∷ xs) = let more = filter_map_few h xs in omega (arith, more, cons_few (h x) (filter_map h xs))
 

@@ -12,3 +12,5 @@ pub mod Mapping
 pub mod Descending
 pub mod Building
 pub mod Keeping
+pub mod Passing
+pub mod Listing

@@ -176,7 +176,7 @@ module _ {N E Ix : Type 0} {end : ℕ} {nodes : List (Node (Option N) Ix)} {edge
         next_is = next_is ∙ next_shown Outgoing e found.0 x found.1 within is;
       }
 
-  list_seen : (dir : Direction) (n : ℕ) → row (lists_at dir g) n ≡ list_at dir g n
+  pub list_seen : (dir : Direction) (n : ℕ) → row (lists_at dir g) n ≡ list_at dir g n
   list_seen Outgoing n = refl
   list_seen Incoming n = refl
 

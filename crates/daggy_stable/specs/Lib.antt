@@ -2,3 +2,5 @@ pub mod Stored
 pub mod Lends
 pub mod Room
 pub mod Building
+pub mod Slots
+pub mod Rest

@@ -182,7 +182,6 @@ fn a_compact_graph_fills_a_room(rt: HostRuntime) {
     assert_eq!(rt; node(&rt, &mut g, 13).index(), 3);
 }
 
-
 // Nodes of weights 10, 11 and 12, and edges 0 from 0 to 1, 1 from 0 to 2 and 2 from 1 to 2, of weights 100, 101 and 102.
 fn triangle(rt: &impl Abort, alloc: Global) -> StableDiGraph<u32, u32, u8> {
     let mut g = StableDiGraph::new(alloc);
@@ -292,4 +291,106 @@ fn slots_past_the_last_node_and_edge_are_left_out(rt: HostRuntime) {
     let h = none.expect(&rt, "memory");
     assert_eq!(rt; (h.node_count(), h.edge_count()), (0, 0));
     assert_eq!(rt; (h.node_slots(), h.edge_slots()), (2, 2));
+}
+
+// The nodes 1, 3 and 4 and the edges 1 -> 4 and 1 -> 3, with vacant slots before, between and behind them.
+fn gappy(alloc: Global, rt: &impl Abort) -> StableDiGraph<u32, u32, u8> {
+    let mut g = StableDiGraph::new(alloc);
+    for w in 10..16 {
+        let _n = node(rt, &mut g, w);
+    }
+    for n in [5, 0, 2] {
+        assert!(rt; g.remove_node(NodeIndex::new(n)).is_some());
+    }
+    for (a, b, w) in [
+        (1, 3, 100),
+        (1, 4, 101),
+        (3, 4, 102),
+        (1, 3, 103),
+        (4, 3, 104),
+    ] {
+        let _e = edge(rt, &mut g, NodeIndex::new(a), NodeIndex::new(b), w);
+    }
+    for e in [2, 4, 0] {
+        assert!(rt; g.remove_edge(EdgeIndex::new(e)).is_some());
+    }
+    g
+}
+
+#[test]
+fn vacant_slots_are_passed_over(rt: HostRuntime) {
+    let g = gappy(rt.alloc(), &rt);
+    let mut weights = 0u32;
+    for w in g.node_weights() {
+        weights = weights.wrapping_mul(100).wrapping_add(*w);
+    }
+    assert_eq!(rt; weights, 111314);
+    let mut indices = 0usize;
+    for n in g.node_identifiers() {
+        indices = indices.wrapping_mul(10).wrapping_add(n.index());
+    }
+    assert_eq!(rt; indices, 134);
+    let mut pairs = 0usize;
+    for (n, w) in g.node_references() {
+        pairs = pairs.wrapping_mul(1000).wrapping_add(n.index() * 100);
+        assert_eq!(rt; g.node_weight(n).copied(), Some(*w));
+    }
+    assert_eq!(rt; pairs, 100300400);
+    let mut edge_weights = 0u32;
+    for w in g.edge_weights() {
+        edge_weights = edge_weights.wrapping_mul(1000).wrapping_add(*w);
+    }
+    assert_eq!(rt; edge_weights, 101103);
+    let mut ends = 0usize;
+    for e in g.edge_references() {
+        let digits = e.id().index() * 100 + e.source().index() * 10 + e.target().index();
+        ends = ends.wrapping_mul(1000).wrapping_add(digits);
+    }
+    assert_eq!(rt; ends, 114313);
+}
+
+#[test]
+fn lists_of_a_graph_with_vacant_slots(rt: HostRuntime) {
+    let g = gappy(rt.alloc(), &rt);
+    let a = NodeIndex::new(1);
+    let mut weights = 0u32;
+    for e in g.edges(a) {
+        weights = weights.wrapping_mul(1000).wrapping_add(*e.weight());
+    }
+    assert_eq!(rt; weights, 103101);
+    let mut children = 0usize;
+    for n in g.neighbors(a) {
+        children = children.wrapping_mul(10).wrapping_add(n.index());
+    }
+    assert_eq!(rt; children, 34);
+    let c = NodeIndex::new(4);
+    let mut entering = 0usize;
+    for e in g.edges_directed(c, Direction::Incoming) {
+        entering = entering
+            .wrapping_mul(100)
+            .wrapping_add(e.id().index() * 10 + e.source().index());
+    }
+    assert_eq!(rt; entering, 11);
+    let mut parents = 0usize;
+    for n in g.neighbors_directed(NodeIndex::new(3), Direction::Incoming) {
+        parents = parents.wrapping_mul(10).wrapping_add(n.index());
+    }
+    assert_eq!(rt; parents, 1);
+    assert_eq!(rt; g.neighbors(c).count(), 0);
+    assert_eq!(rt; g.edges(NodeIndex::new(2)).count(), 0);
+    assert_eq!(rt; g.neighbors(NodeIndex::new(9)).count(), 0);
+}
+
+#[test]
+fn only_vacant_slots_give_nothing(rt: HostRuntime) {
+    let mut g = StableDiGraph::<u32, u32, u8>::new(rt.alloc());
+    let a = node(&rt, &mut g, 10);
+    let _e = edge(&rt, &mut g, a, a, 100);
+    assert_eq!(rt; g.remove_node(a), Some(10));
+    assert_eq!(rt; (g.node_slots(), g.edge_slots()), (1, 1));
+    assert_eq!(rt; g.node_weights().count(), 0);
+    assert_eq!(rt; g.node_identifiers().count(), 0);
+    assert_eq!(rt; g.node_references().count(), 0);
+    assert_eq!(rt; g.edge_weights().count(), 0);
+    assert_eq!(rt; g.edge_references().count(), 0);
 }

@@ -1,0 +1,247 @@
+//! Going over all nodes, or over all edges.
+ghost use Rattle.std.specs.Prelude.{◌≡◌, ◌<◌, ◌^◌, length, Some, IsSome};
+ghost use Rattle.std.specs.Iterator.{YieldsFirstRef, YieldsFirstBy, item_count};
+ghost use Rattle.daggy_graph.specs.Iterating.{node_weights as node_weights_of, edge_weights as edge_weights_of, node_identifiers as node_identifiers_of, node_references as node_references_of, edge_references as edge_references_of};
+ghost use Rattle.daggy_graph.specs.Referring.{referred};
+ghost use Rattle.daggy_stable.specs.Rest.{numbered_edge};
+ghost use Rattle.daggy_stable.specs.Stored.{plain_edge};
+
+use crate::stable_graph::StableDiGraph;
+use crate::stable_graph::slots::Slots;
+use daggy_base::index::{DefaultIx, Direction, EdgeIndex, IndexType, NodeIndex};
+use daggy_graph::graph::iterators::EdgeReference;
+use daggy_graph::graph::{Edge, Node};
+use std::marker::Model;
+
+/// The nodes by ascending index, each with its weight. A step costs the vacant slots that it goes past.
+#[derive(Drop)]
+pub struct NodeReferences<'a, N, Ix: IndexType = DefaultIx> {
+    slots: Slots<'a, Node<Option<N>, Ix>>,
+}
+
+impl<'a, N, Ix: IndexType> Model for NodeReferences<'a, N, Ix> {
+    ghost use Rattle.std.specs.Prelude.{ℕ, ◌+◌, ◌^◌, ◌<◌, ◌≤◌, List, map, length};
+    ghost use Rattle.daggy_graph.specs.Iterating.{numbered};
+    ghost use Rattle.daggy_stable.specs.Stored.{weight_of};
+
+    ghost Value = { List (ℕ × N) };
+
+    ghost view = { λ it. numbered it.slots.index (map weight_of it.slots.cells.now) };
+
+    ghost invariant = { λ it. (it.slots.index + length it.slots.cells.now ≤ Ix.greatest) × (it.slots.index + length it.slots.cells.now < 2 ^ 64) };
+}
+
+impl<'a, N, Ix: IndexType> Iterator for NodeReferences<'a, N, Ix> {
+    type Item = (NodeIndex<Ix>, &'a N);
+
+    ghost next_gives = { YieldsFirstBy (λ item. (Ix.number item.0, item.1.now)) (λ rest. rest) };
+
+    ghost remaining = { item_count (λ rest. rest) };
+
+    #[inline]
+    fn next(&mut self) -> Option<(NodeIndex<Ix>, &'a N)> {
+        let (i, x) = self.slots.next_full()?;
+        let n = NodeIndex::new(i);
+        Some((n, x.weight.as_ref().unwrap()))
+    }
+}
+
+/// The indices of the nodes, in ascending order.
+#[derive(Drop)]
+pub struct NodeIdentifiers<'a, N, Ix: IndexType = DefaultIx> {
+    nodes: NodeReferences<'a, N, Ix>,
+}
+
+impl<'a, N, Ix: IndexType> Model for NodeIdentifiers<'a, N, Ix> {
+    ghost use Rattle.std.specs.Prelude.{ℕ, List, map};
+
+    ghost Value = { List ℕ };
+
+    ghost view = { λ it. map (λ p. p.0) it.nodes };
+}
+
+impl<'a, N, Ix: IndexType> Iterator for NodeIdentifiers<'a, N, Ix> {
+    type Item = NodeIndex<Ix>;
+
+    ghost next_gives = { YieldsFirstBy Ix.number (λ rest. rest) };
+
+    ghost remaining = { item_count (λ rest. rest) };
+
+    #[inline]
+    fn next(&mut self) -> Option<NodeIndex<Ix>> {
+        match self.nodes.next() {
+            Some((n, _w)) => Some(n),
+            None => None,
+        }
+    }
+}
+
+/// The weights of the nodes, by ascending index.
+#[derive(Drop)]
+pub struct NodeWeights<'a, N, Ix: IndexType = DefaultIx> {
+    nodes: NodeReferences<'a, N, Ix>,
+}
+
+impl<'a, N, Ix: IndexType> Model for NodeWeights<'a, N, Ix> {
+    ghost use Rattle.std.specs.Prelude.{List, map};
+
+    ghost Value = { List N };
+
+    ghost view = { λ it. map (λ p. p.1) it.nodes };
+}
+
+impl<'a, N, Ix: IndexType> Iterator for NodeWeights<'a, N, Ix> {
+    type Item = &'a N;
+
+    ghost next_gives = { YieldsFirstRef (λ rest. rest) };
+
+    ghost remaining = { item_count (λ rest. rest) };
+
+    #[inline]
+    fn next(&mut self) -> Option<&'a N> {
+        match self.nodes.next() {
+            Some((_n, w)) => Some(w),
+            None => None,
+        }
+    }
+}
+
+// The reference to an edge that is stored.
+#[inline]
+pub(super) fn reference<'a, E, Ix: IndexType>(
+    e: EdgeIndex<Ix>,
+    x: &'a Edge<Option<E>, Ix>,
+) -> EdgeReference<'a, E, Ix>
+    requires { IsSome x.now.weight }
+    ensures { numbered_edge (Ix.number e) (plain_edge x.now) ≡ Some (referred Ix.number result) }
+{
+    let source = x.end(Direction::Outgoing).node();
+    let target = x.end(Direction::Incoming).node();
+    EdgeReference::from_parts(e, source, target, x.weight.as_ref().unwrap())
+}
+
+/// The edges, by ascending index. A step costs the vacant slots that it goes past.
+#[derive(Drop)]
+pub struct EdgeReferences<'a, E, Ix: IndexType = DefaultIx> {
+    slots: Slots<'a, Edge<Option<E>, Ix>>,
+}
+
+impl<'a, E, Ix: IndexType> Model for EdgeReferences<'a, E, Ix> {
+    ghost use Rattle.std.specs.Prelude.{ℕ, ◌+◌, ◌^◌, ◌<◌, ◌≤◌, List, map, length};
+    ghost use Rattle.daggy_base.specs.Graph.{Edge as PlainEdge};
+    ghost use Rattle.daggy_graph.specs.Iterating.{numbered};
+    ghost use Rattle.daggy_stable.specs.Stored.{plain_edge};
+
+    ghost Value = { List (ℕ × PlainEdge E) };
+
+    ghost view = { λ it. numbered it.slots.index (map plain_edge it.slots.cells.now) };
+
+    ghost invariant = { λ it. (it.slots.index + length it.slots.cells.now ≤ Ix.greatest) × (it.slots.index + length it.slots.cells.now < 2 ^ 64) };
+}
+
+impl<'a, E, Ix: IndexType> Iterator for EdgeReferences<'a, E, Ix> {
+    ghost use Rattle.daggy_graph.specs.Referring.{referred};
+
+    type Item = EdgeReference<'a, E, Ix>;
+
+    ghost next_gives = { YieldsFirstBy (referred Ix.number) (λ rest. rest) };
+
+    ghost remaining = { item_count (λ rest. rest) };
+
+    #[inline]
+    fn next(&mut self) -> Option<EdgeReference<'a, E, Ix>> {
+        let (i, x) = self.slots.next_full()?;
+        Some(reference(EdgeIndex::new(i), x))
+    }
+}
+
+/// The weights of the edges, by ascending index.
+#[derive(Drop)]
+pub struct EdgeWeights<'a, E, Ix: IndexType = DefaultIx> {
+    edges: EdgeReferences<'a, E, Ix>,
+}
+
+impl<'a, E, Ix: IndexType> Model for EdgeWeights<'a, E, Ix> {
+    ghost use Rattle.std.specs.Prelude.{List, map};
+
+    ghost Value = { List E };
+
+    ghost view = { λ it. map (λ p. p.1.weight) it.edges };
+}
+
+impl<'a, E, Ix: IndexType> Iterator for EdgeWeights<'a, E, Ix> {
+    type Item = &'a E;
+
+    ghost next_gives = { YieldsFirstRef (λ rest. rest) };
+
+    ghost remaining = { item_count (λ rest. rest) };
+
+    #[inline]
+    fn next(&mut self) -> Option<&'a E> {
+        let x = self.edges.next()?;
+        Some(x.weight())
+    }
+}
+
+impl<N, E, Ix: IndexType> StableDiGraph<N, E, Ix> {
+    /// The weights of the nodes, by ascending index.
+    #[inline]
+    pub fn node_weights(&self) -> NodeWeights<'_, N, Ix>
+        ensures rest { result ≡ node_weights_of self.now.graph }
+        ensures fits { length result < 2 ^ 64 }
+    {
+        NodeWeights {
+            nodes: self.node_references(),
+        }
+    }
+
+    /// The weights of the edges, by ascending index.
+    #[inline]
+    pub fn edge_weights(&self) -> EdgeWeights<'_, E, Ix>
+        ensures rest { result ≡ edge_weights_of self.now.graph }
+        ensures fits { length result < 2 ^ 64 }
+    {
+        EdgeWeights {
+            edges: self.edge_references(),
+        }
+    }
+
+    /// The indices of the nodes, in ascending order.
+    #[inline]
+    pub fn node_identifiers(&self) -> NodeIdentifiers<'_, N, Ix>
+        ensures rest { result ≡ node_identifiers_of self.now.graph }
+        ensures fits { length result < 2 ^ 64 }
+    {
+        NodeIdentifiers {
+            nodes: self.node_references(),
+        }
+    }
+
+    /// The nodes by ascending index, each with its weight. Going over all of them costs all slots, vacant ones too.
+    #[inline]
+    pub fn node_references(&self) -> NodeReferences<'_, N, Ix>
+        ensures rest { result ≡ node_references_of self.now.graph }
+        ensures fits { length result < 2 ^ 64 }
+    {
+        NodeReferences {
+            slots: Slots {
+                cells: self.nodes.as_slice(),
+                index: 0,
+            },
+        }
+    }
+
+    /// The edges, by ascending index. Going over all of them costs all slots, vacant ones too.
+    #[inline]
+    pub fn edge_references(&self) -> EdgeReferences<'_, E, Ix>
+        ensures rest { result ≡ edge_references_of self.now.graph }
+        ensures fits { length result < 2 ^ 64 }
+    {
+        EdgeReferences {
+            slots: Slots {
+                cells: self.edges.as_slice(),
+                index: 0,
+            },
+        }
+    }
+}

@@ -1,0 +1,135 @@
+//! Going over the edges of one node.
+ghost use Rattle.std.specs.Prelude.{◌≡◌, ◌<◌, ◌^◌, length};
+ghost use Rattle.std.specs.Iterator.{YieldsFirstBy, item_count};
+ghost use Rattle.daggy_base.specs.declared.index.Direction.TheVariants.{Outgoing};
+ghost use Rattle.daggy_graph.specs.Iterating.{edges_at, neighbors_at};
+
+use crate::stable_graph::StableDiGraph;
+use crate::stable_graph::iterators::reference;
+use daggy_base::index::{DefaultIx, Direction, IndexType, NodeIndex};
+use daggy_base::link::Link;
+use daggy_graph::graph::Edge;
+use daggy_graph::graph::iterators::EdgeReference;
+use std::marker::Model;
+
+/// The edges of one list of a node, in the order of the list.
+#[derive(Drop)]
+pub struct Edges<'a, E, Ix: IndexType = DefaultIx> {
+    edges: &'a [Edge<Option<E>, Ix>],
+    dir: Direction,
+    next: Link<Ix>,
+}
+
+impl<'a, E, Ix: IndexType> Model for Edges<'a, E, Ix> {
+    ghost use Rattle.std.specs.Prelude.{ℕ, List};
+    ghost use Rattle.daggy_base.specs.Graph.{Edge as PlainEdge};
+    ghost use Rattle.daggy_stable.specs.Rest.{edges_left, IsOnFullRow};
+
+    ghost Value = { List (ℕ × PlainEdge E) };
+
+    ghost view = { λ it. edges_left it.dir it.edges.now it.next };
+
+    ghost invariant = { λ it. IsOnFullRow Ix.greatest it.dir it.edges.now it.next };
+}
+
+impl<'a, E, Ix: IndexType> Iterator for Edges<'a, E, Ix> {
+    ghost use Rattle.daggy_graph.specs.Referring.{referred};
+
+    type Item = EdgeReference<'a, E, Ix>;
+
+    ghost next_gives = { YieldsFirstBy (referred Ix.number) (λ rest. rest) };
+
+    ghost remaining = { item_count (λ rest. rest) };
+
+    #[inline]
+    fn next(&mut self) -> Option<EdgeReference<'a, E, Ix>> {
+        let e = self.next;
+        let i = e.index();
+        if i >= self.edges.len() {
+            return None;
+        }
+        let x = &self.edges[i];
+        self.next = x.next(self.dir);
+        Some(reference(e.edge(), x))
+    }
+}
+
+/// The far ends of the edges of one list of a node, in the order of the list.
+#[derive(Drop)]
+pub struct Neighbors<'a, E, Ix: IndexType = DefaultIx> {
+    edges: Edges<'a, E, Ix>,
+    dir: Direction,
+}
+
+impl<'a, E, Ix: IndexType> Model for Neighbors<'a, E, Ix> {
+    ghost use Rattle.std.specs.Prelude.{ℕ, List, map};
+    ghost use Rattle.daggy_base.specs.Graph.{far_end};
+
+    ghost Value = { List ℕ };
+
+    ghost view = { λ it. map (λ p. far_end it.dir p.1) it.edges };
+}
+
+impl<'a, E, Ix: IndexType> Iterator for Neighbors<'a, E, Ix> {
+    type Item = NodeIndex<Ix>;
+
+    ghost next_gives = { YieldsFirstBy Ix.number (λ rest. rest) };
+
+    ghost remaining = { item_count (λ rest. rest) };
+
+    #[inline]
+    fn next(&mut self) -> Option<NodeIndex<Ix>> {
+        let x = self.edges.next()?;
+        match self.dir {
+            Direction::Outgoing => Some(x.target()),
+            Direction::Incoming => Some(x.source()),
+        }
+    }
+}
+
+impl<N, E, Ix: IndexType> StableDiGraph<N, E, Ix> {
+    /// The edges that leave a node, newest first, or none if the node does not exist.
+    #[inline]
+    pub fn edges(&self, n: NodeIndex<Ix>) -> Edges<'_, E, Ix>
+        ensures rest { result ≡ edges_at Outgoing self.now.graph (Ix.number n) }
+        ensures fits { length result < 2 ^ 64 }
+    {
+        self.edges_directed(n, Direction::Outgoing)
+    }
+
+    /// The edges that leave a node, or those that enter it, newest first, or none if the node does not exist.
+    #[inline]
+    pub fn edges_directed(&self, n: NodeIndex<Ix>, dir: Direction) -> Edges<'_, E, Ix>
+        ensures rest { result ≡ edges_at dir self.now.graph (Ix.number n) }
+        ensures fits { length result < 2 ^ 64 }
+    {
+        let first = self.first_edge(n, dir);
+        Edges {
+            edges: self.edges.as_slice(),
+            dir,
+            next: Link::of_edge(first),
+        }
+    }
+
+    /// The children of a node, one for each edge that leaves it, newest first, or none if the node does not exist.
+    #[inline]
+    pub fn neighbors(&self, n: NodeIndex<Ix>) -> Neighbors<'_, E, Ix>
+        ensures rest { result ≡ neighbors_at Outgoing self.now.graph (Ix.number n) }
+        ensures fits { length result < 2 ^ 64 }
+    {
+        self.neighbors_directed(n, Direction::Outgoing)
+    }
+
+    /// The children of a node, or its parents, one for each edge that leaves it, or that enters it, newest first, or
+    /// none if the node does not exist.
+    #[inline]
+    pub fn neighbors_directed(&self, n: NodeIndex<Ix>, dir: Direction) -> Neighbors<'_, E, Ix>
+        ensures rest { result ≡ neighbors_at dir self.now.graph (Ix.number n) }
+        ensures fits { length result < 2 ^ 64 }
+    {
+        Neighbors {
+            edges: self.edges_directed(n, dir),
+            dir,
+        }
+    }
+}
