@@ -6,6 +6,7 @@ ghost use Rattle.daggy_base.specs.Finding.{find_edge as edge_between};
 ghost use Rattle.daggy_base.specs.Cursor.{first_of, cursor_after};
 
 mod adding;
+mod capacity;
 mod copy;
 mod count;
 mod filter;

@@ -1,6 +1,6 @@
-//! Memory that is taken first, for a graph that begins empty, or for a compact graph that is then put into it.
-ghost use Rattle.std.specs.Prelude.{◌≡◌, ◌<◌, ◌≤◌, ◌^◌, [], length, map, vec_capacity, IfOk, OnOk};
-ghost use Rattle.daggy_base.specs.Graph.{empty, node_count as node_count_of, edge_count as edge_count_of};
+//! Memory that is taken first, and a compact graph that is then put into it.
+ghost use Rattle.std.specs.Prelude.{◌≡◌, ◌≤◌, [], length, map, vec_capacity, IfOk};
+ghost use Rattle.daggy_base.specs.Graph.{node_count as node_count_of, edge_count as edge_count_of};
 ghost use Rattle.daggy_stable.specs.Room.{slotted_node, slotted_edge};
 
 use crate::stable_graph::StableDiGraph;
@@ -72,31 +72,6 @@ impl<N, E, Ix: IndexType> Room<N, E, Ix> {
             edge_count,
             looks: Looks::new(),
         }
-    }
-}
-
-impl<N, E, Ix: IndexType> StableDiGraph<N, E, Ix> {
-    /// A graph with no node and no edge, and with memory for so many of each.
-    ///
-    /// The error says that memory was refused, or that no machine can have so much. There may later be more nodes and
-    /// edges than that.
-    pub fn with_capacity(alloc: Global, nodes: usize, edges: usize) -> Result<Self, AllocError>
-    where
-        N: Drop,
-        E: Drop,
-        ensures value { IfOk result (λ g. g ≡ record { graph = empty; looks = 0 }) }
-        ensures nodes_fit { OnOk result (nodes < 2 ^ 63) }
-        ensures edges_fit { OnOk result (edges < 2 ^ 63) }
-    {
-        Ok(StableDiGraph {
-            nodes: Vec::with_capacity(alloc, nodes)?,
-            edges: Vec::with_capacity(alloc, edges)?,
-            first_vacant_node: Link::end(),
-            first_vacant_edge: Link::end(),
-            node_count: 0,
-            edge_count: 0,
-            looks: Looks::new(),
-        })
     }
 }
 
