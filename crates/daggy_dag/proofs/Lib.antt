@@ -13,3 +13,4 @@ pub mod Joining
 pub mod Lifting
 pub mod Mapped
 pub mod Filtered
+pub mod KeptInPlace
