@@ -14,3 +14,4 @@ pub mod Lifting
 pub mod Mapped
 pub mod Rewritten
 pub mod Filtered
+pub mod KeptInPlace
