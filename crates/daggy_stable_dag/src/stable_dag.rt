@@ -24,6 +24,9 @@ use std::alloc::Global;
 use std::marker::{Model, PhantomData};
 
 mod convert;
+mod copies;
+mod iterators;
+mod map;
 mod series;
 mod visit;
 mod walkers;
@@ -31,6 +34,7 @@ mod weights;
 
 pub use daggy_base::index::{EdgeIndex, NodeIndex};
 pub use daggy_dag::edge_indices::EdgeIndices;
+pub use daggy_stable::stable_graph::lists::Edges;
 pub use daggy_walk::walker::Walker;
 pub use walkers::{Children, Parents};
 

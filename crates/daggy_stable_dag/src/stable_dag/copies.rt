@@ -1,5 +1,5 @@
-//! Copies, and memory for nodes and edges that are added later.
-ghost use Rattle.std.specs.Prelude.{◌≡◌, ◌+◌, ◌<◌, ◌^◌, length, IfOk, OnOk};
+//! Copies, and dags with memory for nodes and edges that are added later.
+ghost use Rattle.std.specs.Prelude.{◌≡◌, ◌<◌, ◌^◌, IfOk, OnOk};
 ghost use Rattle.daggy_base.specs.Graph.{empty};
 ghost use Rattle.daggy_base.specs.Path.{IsAcyclic};
 
@@ -25,9 +25,10 @@ impl<N: Drop, E: Drop, Ix: IndexType> StableDag<N, E, Ix> {
         Ok(StableDag { graph, scratch })
     }
 
-    /// A dag with the same nodes and edges under the same indices, and in the same lists.
+    /// A dag with the same nodes and edges under the same indices, in the same lists, and with the same vacant slots, which
+    /// are taken in the same order.
     ///
-    /// The error says that memory for it was refused. The cost grows with the number of nodes and edges.
+    /// The error says that memory for it was refused. The cost grows with the number of slots.
     pub fn try_clone(&self) -> Result<Self, AllocError>
     where
         N: Clone,
@@ -38,80 +39,8 @@ impl<N: Drop, E: Drop, Ix: IndexType> StableDag<N, E, Ix> {
         ensures acyclic { IfOk result (λ d. IsAcyclic d.graph) }
     {
         let mut scratch = Scratch::new(self.scratch.allocator());
-        scratch.reserve(self.graph.node_count(), 0)?;
+        scratch.reserve(self.graph.node_slots(), 0)?;
         let graph = self.graph.try_clone()?;
         Ok(StableDag { graph, scratch })
-    }
-
-    /// Makes room for so many more nodes and for the searches among them, and for some more than that, so that a later
-    /// call seldom makes room again.
-    ///
-    /// The error says that memory was refused, or that no machine can have so much. The dag is as it was.
-    pub fn reserve_nodes(&mut self, additional: usize) -> Result<(), AllocError>
-        ensures same { self.new ≡ self.old }
-        ensures fits { OnOk result (length self.new.graph.nodes + additional < 2 ^ 63) }
-    {
-        self.graph.reserve_nodes(additional)?;
-        self.scratch
-            .reserve(self.graph.node_count() + additional, 0)
-    }
-
-    /// Makes room for so many more nodes and for the searches among them.
-    ///
-    /// The error says that memory was refused, or that no machine can have so much. The dag is as it was.
-    pub fn reserve_exact_nodes(&mut self, additional: usize) -> Result<(), AllocError>
-        ensures same { self.new ≡ self.old }
-        ensures fits { OnOk result (length self.new.graph.nodes + additional < 2 ^ 63) }
-    {
-        self.graph.reserve_exact_nodes(additional)?;
-        self.scratch
-            .reserve(self.graph.node_count() + additional, 0)
-    }
-
-    /// Makes room for so many more edges, and for some more than that, so that a later call seldom makes room again.
-    ///
-    /// The error says that memory was refused, or that no machine can have so much. The dag is as it was.
-    pub fn reserve_edges(&mut self, additional: usize) -> Result<(), AllocError>
-        ensures same { self.new ≡ self.old }
-        ensures fits { OnOk result (length self.new.graph.edges + additional < 2 ^ 63) }
-    {
-        self.graph.reserve_edges(additional)
-    }
-
-    /// Makes room for so many more edges.
-    ///
-    /// The error says that memory was refused, or that no machine can have so much. The dag is as it was.
-    pub fn reserve_exact_edges(&mut self, additional: usize) -> Result<(), AllocError>
-        ensures same { self.new ≡ self.old }
-        ensures fits { OnOk result (length self.new.graph.edges + additional < 2 ^ 63) }
-    {
-        self.graph.reserve_exact_edges(additional)
-    }
-
-    /// Gives memory back that no node and no edge needs. The room for searches stays.
-    ///
-    /// The error says that a smaller block was refused. The dag is as it was, and so is the memory of that block.
-    pub fn shrink_to_fit(&mut self) -> Result<(), AllocError>
-        ensures { self.new ≡ self.old }
-    {
-        self.graph.shrink_to_fit()
-    }
-
-    /// Gives memory back that no node needs. The room for searches stays.
-    ///
-    /// The error says that a smaller block was refused. The dag is as it was, and keeps the block that it had.
-    pub fn shrink_to_fit_nodes(&mut self) -> Result<(), AllocError>
-        ensures { self.new ≡ self.old }
-    {
-        self.graph.shrink_to_fit_nodes()
-    }
-
-    /// Gives memory back that no edge needs.
-    ///
-    /// The error says that a smaller block was refused. The dag is as it was, and keeps the block that it had.
-    pub fn shrink_to_fit_edges(&mut self) -> Result<(), AllocError>
-        ensures { self.new ≡ self.old }
-    {
-        self.graph.shrink_to_fit_edges()
     }
 }

@@ -5,13 +5,13 @@ ghost use Rattle.daggy_graph.specs.Iterating.{node_identifiers as node_identifie
 
 use crate::stable_dag::StableDag;
 use daggy_base::index::{Direction, IndexType, NodeIndex};
-use daggy_graph::graph::iterators::{EdgeReferences, NodeIdentifiers, NodeReferences};
-use daggy_graph::graph::lists::{Edges, Neighbors};
+use daggy_stable::stable_graph::iterators::{EdgeReferences, NodeIdentifiers, NodeReferences};
+use daggy_stable::stable_graph::lists::{Edges, Neighbors};
 
 impl<N: Drop, E: Drop, Ix: IndexType> StableDag<N, E, Ix> {
-    /// The indices of the nodes, in ascending order. The dag is free while they are gone through.
+    /// The indices of the nodes, in ascending order.
     #[inline]
-    pub fn node_identifiers(&self) -> NodeIdentifiers<Ix>
+    pub fn node_identifiers(&self) -> NodeIdentifiers<'_, N, Ix>
         ensures rest { result ≡ node_identifiers_of self.now.graph }
         ensures fits { length result < 2 ^ 64 }
     {

@@ -1,8 +1,9 @@
 //! The same dag with other weights, and the part of a dag that closures keep.
-ghost use Rattle.std.specs.Prelude.{◌≡◌, length, IfOk};
+ghost use Rattle.std.specs.Prelude.{◌≡◌, IfOk};
 ghost use Rattle.daggy_base.specs.Path.{IsAcyclic};
 ghost use Rattle.daggy_graph.specs.Mapping.{IsMapped};
-ghost use Rattle.daggy_graph.specs.Filtering.{IsFiltered, ListsDescend, HaveSameEnds};
+ghost use Rattle.daggy_graph.specs.InPlace.{IsFilteredInPlace};
+ghost use Rattle.daggy_graph.specs.Filtering.{ListsDescend};
 
 use crate::stable_dag::StableDag;
 use daggy_base::index::{EdgeIndex, IndexType, NodeIndex};
@@ -10,8 +11,8 @@ use daggy_base::search::Scratch;
 use std::alloc::AllocError;
 
 impl<N: Drop, E: Drop, Ix: IndexType> StableDag<N, E, Ix> {
-    /// A dag with the same nodes and edges under the same indices, and in the same lists, whose weights are what the
-    /// closures give: `f` is called with each node by ascending index, and then `g` with each edge.
+    /// A dag with the same nodes and edges under the same indices, in the same lists and with the same vacant slots, whose
+    /// weights are what the closures give: `f` is called with each node by ascending index, and then `g` with each edge.
     ///
     /// The error says that memory for it, or for its searches, was refused. Then no closure was called. The cost grows
     /// with the number of nodes and edges, besides that of the calls.
@@ -27,8 +28,9 @@ impl<N: Drop, E: Drop, Ix: IndexType> StableDag<N, E, Ix> {
         ensures acyclic { IfOk result (λ d. IsAcyclic d.graph) }
         ensures looks { IfOk result (λ d. d.looks ≡ 0) }
     {
+        let _well_formed = self.graph.node_count();
         let mut scratch = Scratch::new(self.scratch.allocator());
-        scratch.reserve(self.graph.node_count(), 0)?;
+        scratch.reserve(self.graph.node_slots(), 0)?;
         let graph = self.graph.map(f, g)?;
         Ok(StableDag { graph, scratch })
     }
@@ -36,9 +38,8 @@ impl<N: Drop, E: Drop, Ix: IndexType> StableDag<N, E, Ix> {
     /// A dag of the nodes and edges that the closures give a weight for: `f` is called with each node by ascending
     /// index, and then `g` with each edge whose ends both stayed.
     ///
-    /// The nodes that stay keep their order and get new indices from 0 on. The edges that stay are added again by
-    /// ascending index, so each list has the edge with the greatest index first. Where nothing is left out, each node
-    /// and edge keeps its index.
+    /// What stays keeps its index. There are slots up to the last node and up to the last edge of this dag, those of what
+    /// was left out are vacant, and the highest is used again first. Each list has the edge with the greatest index first.
     ///
     /// The error says that memory for it, or for its searches, was refused. Then no closure was called. The cost grows
     /// with the number of nodes and edges, besides that of the calls.
@@ -50,15 +51,14 @@ impl<N: Drop, E: Drop, Ix: IndexType> StableDag<N, E, Ix> {
     >(&self, f: F, g: G) -> Result<StableDag<N2, E2, Ix>, AllocError>
         requires nodes { F.IsAlwaysCallable f }
         requires edges { G.IsAlwaysCallable g }
-        ensures filtered { IfOk result (λ d. IsFiltered Ix.of F.step G.step f g self.now.graph d.graph) }
+        ensures filtered { IfOk result (λ d. IsFilteredInPlace Ix.of F.step G.step f g self.now.graph d.graph) }
         ensures descending { IfOk result (λ d. ListsDescend d.graph) }
-        ensures whole { IfOk result (λ d. length d.graph.nodes ≡ length self.now.graph.nodes
-            → length d.graph.edges ≡ length self.now.graph.edges → HaveSameEnds self.now.graph d.graph) }
         ensures acyclic { IfOk result (λ d. IsAcyclic d.graph) }
         ensures looks { IfOk result (λ d. d.looks ≡ 0) }
     {
+        let _well_formed = self.graph.node_count();
         let mut scratch = Scratch::new(self.scratch.allocator());
-        scratch.reserve(self.graph.node_count(), 0)?;
+        scratch.reserve(self.graph.node_slots(), 0)?;
         let graph = self.graph.filter_map(f, g)?;
         Ok(StableDag { graph, scratch })
     }
