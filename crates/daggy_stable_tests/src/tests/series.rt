@@ -25,7 +25,10 @@ fn a_series_gives_its_indices_in_order(rt: HostRuntime) -> Result<(), Fail> {
     let mut dag = with_nodes(&rt, rt.alloc(), 4)?;
     let (root, a, b, c) = (n(&rt, 0), n(&rt, 1), n(&rt, 2), n(&rt, 3));
     let added = dag.add_edges([(root, a, 0), (root, b, 1), (root, c, 2)])?;
-    assert_eq!(rt; numbers(rt.alloc(), added)?.as_slice(), [0, 1, 2].as_slice());
+    assert_eq!(rt;
+        numbers(rt.alloc(), added)?.as_slice(),
+        [0, 1, 2].as_slice()
+    );
     assert_eq!(rt; dag.find_edge(root, a), Some(EdgeIndex::new(0)));
     assert_eq!(rt; dag.find_edge(root, b), Some(EdgeIndex::new(1)));
     assert_eq!(rt; dag.find_edge(root, c), Some(EdgeIndex::new(2)));
@@ -87,7 +90,12 @@ fn a_vacant_end_is_no_end(rt: HostRuntime) -> Result<(), Fail> {
         _ => panic!(rt; "the second has a vacant end"),
     }
     assert_eq!(rt; dag.edge_count(), 0);
-    assert!(rt; matches!(dag.extend_with_edges([(a, b)]), Err(EdgeError::BadEndpoint(0))));
+    assert!(rt;
+        matches!(
+            dag.extend_with_edges([(a, b)]),
+            Err(EdgeError::BadEndpoint(0))
+        )
+    );
     assert_eq!(rt; (dag.node_count(), dag.edge_count()), (2, 0));
     dag.extend_with_edges([(b, c)])?;
     assert_eq!(rt; dag.node_weight(b).copied(), Some(0));
@@ -100,7 +108,10 @@ fn a_dag_is_made_of_edges_or_elements(rt: HostRuntime) -> Result<(), Fail> {
     let (a, b, c) = (n(&rt, 0), n(&rt, 1), n(&rt, 2));
     let dag: Plain = StableDag::from_edges(rt.alloc(), [(a, b), (b, c), (a, c)])?;
     assert_eq!(rt; dag.node_count(), 3);
-    assert_eq!(rt; children_of(rt.alloc(), &dag, a)?.as_slice(), [(2, 2), (0, 1)].as_slice());
+    assert_eq!(rt;
+        children_of(rt.alloc(), &dag, a)?.as_slice(),
+        [(2, 2), (0, 1)].as_slice()
+    );
     let node = |weight: u32| Element::Node { weight };
     let edge = |source: usize, target: usize, weight: u32| Element::Edge {
         source,

@@ -37,7 +37,10 @@ fn other_edges_keep_their_indices(rt: HostRuntime) -> Result<(), Fail> {
     assert_eq!(rt; dag.edge_weight(a).copied(), Some(0));
     assert_eq!(rt; dag.edge_weight(b).copied(), None);
     assert_eq!(rt; dag.edge_weight(c).copied(), Some(2));
-    assert_eq!(rt; children_of(rt.alloc(), &dag, root)?.as_slice(), [(2, 3), (0, 1)].as_slice());
+    assert_eq!(rt;
+        children_of(rt.alloc(), &dag, root)?.as_slice(),
+        [(2, 3), (0, 1)].as_slice()
+    );
     Ok(())
 }
 
@@ -95,7 +98,10 @@ fn clearing_forgets_vacant_slots(rt: HostRuntime) -> Result<(), Fail> {
     assert_eq!(rt; dag.remove_node(n(&rt, 1)), Some(11));
     dag.clear_edges();
     assert_eq!(rt; (dag.node_count(), dag.edge_count()), (2, 0));
-    assert_eq!(rt; add_edge(&rt, &mut dag, n(&rt, 0), n(&rt, 2), 6)?.index(), 0);
+    assert_eq!(rt;
+        add_edge(&rt, &mut dag, n(&rt, 0), n(&rt, 2), 6)?.index(),
+        0
+    );
     assert_eq!(rt; add_node(&rt, &mut dag, 7)?.index(), 1);
     dag.clear();
     assert_eq!(rt; (dag.node_count(), dag.edge_count()), (0, 0));
