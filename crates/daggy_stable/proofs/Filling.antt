@@ -3,7 +3,7 @@ use Rattle.std.proofs.Common.{◌≡◌, ℕ, zero, suc, ◌<◌, ◌≤◌, ◌
 use Rattle.std.specs.List.{count_by}
 use Rattle.std.specs.Option.{option_map}
 use Rattle.std.proofs.lemmas.List.{length-map}
-use Rattle.std.proofs.lemmas.Option.{same_Some, none-some}
+use Rattle.std.proofs.lemmas.Option.{same_Some, none-some, slice_get-map, get_or_from_slice_get}
 use Rattle.daggy_base.specs.declared.index.Direction.{Direction}
 use Rattle.daggy_base.specs.declared.index.Direction.TheVariants.{Outgoing, Incoming}
 use Rattle.daggy_base.specs.Cursor.{first_of, after, cursor_after}
@@ -17,6 +17,7 @@ use Rattle.daggy_graph.specs.Stored.{firsts_of, nexts_of, lists_at}
 use Rattle.daggy_graph.proofs.Rows.{Contains-nil}
 use Rattle.daggy_stable.specs.Room.{slotted_node, slotted_edge}
 use Rattle.daggy_stable.specs.Stored.{weight_of, plain_edge, row_firsts, end_of, IsThreaded, Stores}
+use Rattle.daggy_stable.proofs.Slots.{slot_inside}
 
 -- slots that are shown one by one
 slots_are : {A B C : Type 0} (k : B → Option C) (s : A → B) (xs : List (Option C)) (cells : List A) → length cells ≡ length xs → ((i : ℕ) (x : A) → slice_get cells i ≡ Some x → slot xs i ≡ k (s x)) → xs ≡ map k (map s cells)
@@ -31,20 +32,8 @@ some_at [] i within = absurd (omega (arith, within))
 some_at (x ∷ xs) zero within = (x, refl)
 some_at (x ∷ xs) (suc i) within = some_at xs i (omega (arith, within))
 
-get_or_at : {A : Type 0} (f : A → ℕ) (xs : List A) (i : ℕ) (x : A) → slice_get xs i ≡ Some x → get_or (map f xs) i 0 ≡ f x
-get_or_at f [] i x at = absurd (none-some x at)
-get_or_at f (y ∷ ys) zero x at = ap f (same_Some y x at)
-get_or_at f (y ∷ ys) (suc i) x at = get_or_at f ys i x at
-
-slice_get_at : {A : Type 0} (f : A → ℕ) (xs : List A) (i : ℕ) (x : A) → slice_get xs i ≡ Some x → slice_get (map f xs) i ≡ Some (f x)
-slice_get_at f [] i x at = absurd (none-some x at)
-slice_get_at f (y ∷ ys) zero x at = ap (λ z. Some (f z)) (same_Some y x at)
-slice_get_at f (y ∷ ys) (suc i) x at = slice_get_at f ys i x at
-
-slot_inside : {A : Type 0} (xs : List (Option A)) (i : ℕ) (x : A) → slot xs i ≡ Some x → i < length xs
-slot_inside [] i x at = absurd (none-some x at)
-slot_inside (y ∷ ys) zero x at = omega arith
-slot_inside (y ∷ ys) (suc i) x at = let more = slot_inside ys i x at in omega (arith, more)
+mapped_at : {A : Type 0} (f : A → ℕ) (xs : List A) (i : ℕ) (x : A) → slice_get xs i ≡ Some x → slice_get (map f xs) i ≡ Some (f x)
+mapped_at f xs i x at = slice_get-map f xs i ∙ ap (option_map f) at
 
 -- the links stay
 row_firsts_slotted : {N Ix : Type 0} (end : ℕ) (dir : Direction) (nodes : List (Node N Ix)) → row_firsts end dir (map slotted_node nodes) ≡ firsts_of dir nodes
@@ -91,7 +80,7 @@ module _ {N E Ix : Type 0} (end : ℕ) (g : Graph N E) (nodes : List (Node N Ix)
   starts : (dir : Direction) (n : ℕ) → n < length (firsts_of dir nodes) → get_or (firsts_of dir nodes) n 0 ≡ first_of end (row (lists_at dir g) n)
   starts dir n within =
       let cell = some_at nodes n (omega (arith, within, length-map nodes (raw_first dir))) in
-      get_or_at (raw_first dir) nodes n cell.0 cell.1 ∙ shows_nodes.first dir n cell.0 cell.1 ∙ ap (first_of end) (sym (list_seen dir n))
+      get_or_from_slice_get (firsts_of dir nodes) n (raw_first dir cell.0) 0 (mapped_at (raw_first dir) nodes n cell.0 cell.1) ∙ shows_nodes.first dir n cell.0 cell.1 ∙ ap (first_of end) (sym (list_seen dir n))
 
   goes_on : (dir : Direction) (n e : ℕ) → Contains (row (lists_at dir g) n) e → slice_get (nexts_of dir edges) e ≡ Some (after end (row (lists_at dir g) n) e)
   goes_on dir n e p =
@@ -100,7 +89,7 @@ module _ {N E Ix : Type 0} (end : ℕ) (g : Graph N E) (nodes : List (Node N Ix)
       let cell = some_at edges e (omega (arith, slot_inside g.edges e x found.1, shows_edges.count)) in
       let next : raw_next dir cell.0 ≡ after end (row (lists_at dir g) n) e =
       shows_edges.next dir e cell.0 cell.1 ∙ ap (cursor_after dir end g e) found.1 ∙ ap (λ m. after end (list_at dir g m) e) found.2 ∙ ap (λ l. after end l e) (sym (list_seen dir n)) in
-      slice_get_at (raw_next dir) edges e cell.0 cell.1 ∙ ap Some next
+      mapped_at (raw_next dir) edges e cell.0 cell.1 ∙ ap Some next
 
   linked : (dir : Direction) → IsLinked end (firsts_of dir nodes) (nexts_of dir edges) (lists_at dir g)
   linked dir =

@@ -1,19 +1,13 @@
 -- What is left once the vacant slots in front are passed over.
-use Rattle.std.proofs.Common.{◌≡◌, ℕ, ◌+◌, ◌≤◌, Bool, true, false, cond, List, [], ◌∷◌, map, length, Option, Some, None, is_none, true≢false, refl, sym, ap, ◌∙◌, arith}
+use Rattle.std.proofs.Common.{◌≡◌, ℕ, ◌+◌, ◌≤◌, Bool, true, false, cond, List, [], ◌∷◌, map, length, Option, Some, None, is_some, is_none, refl, sym, ap, ◌∙◌, arith}
 use Rattle.std.specs.Option.{option_map}
+use Rattle.std.proofs.lemmas.Bool.{not-true, not-false}
 use Rattle.std.proofs.lemmas.Option.{same_Some, none-some}
 use Rattle.daggy_graph.specs.declared.graph.Edge.{Edge}
 use Rattle.daggy_graph.specs.Iterating.{numbered}
 use Rattle.daggy_stable.specs.Slots.{next_full}
 use Rattle.daggy_stable.specs.Stored.{plain, plain_edge}
-
-none_is : {A : Type 0} (o : Option A) → is_none o ≡ true → o ≡ None
-none_is None p = refl
-none_is (Some x) p = absurd (true≢false (sym p))
-
-some_is : {A : Type 0} (o : Option A) → is_none o ≡ false → (x : A) × (o ≡ Some x)
-some_is None p = absurd (true≢false p)
-some_is (Some x) p = (x, refl)
+use Rattle.daggy_stable.proofs.Scanning.{none_from, some_from}
 
 pub numbered_few : {A : Type 0} (i : ℕ) (xs : List (Option A)) → length (numbered i xs) ≤ length xs
 numbered_few i [] = omega arith
@@ -35,11 +29,11 @@ module _ {C B : Type 0} (f : C → Option B) (vacant : C → Bool) (agree : (x :
   found_after : (i : ℕ) (y : C) (ys : List C) (j : ℕ) (x : C) (rest : List C) → (next_full vacant (i + 1) ys ≡ Some (j, (x, rest)) → Finds (i + 1) ys j x rest) → (b : Bool) → vacant y ≡ b → (if_vacant vacant i y ys b) ≡ Some (j, (x, rest)) → Finds i (y ∷ ys) j x rest
   found_after i y ys j x rest later true v is =
       let next = later is in
-      let none : f y ≡ None = none_is (f y) (sym (agree y) ∙ v) in
+      let none : f y ≡ None = none_from (f y) (not-true (is_some (f y)) (sym (agree y) ∙ v)) in
       record { held = next.held; holds = next.holds; left = rw none next.left; within = omega (arith, next.within) }
   found_after i y ys j x rest later false v is =
-      let here : (i, (y, ys)) ≡ (j, (x, rest)) = same_Some _ _ is in
-      let some = some_is (f y) (sym (agree y) ∙ v) in
+      let here = same_Some {A = ℕ × (C × List C)} (i, (y, ys)) (j, (x, rest)) is in
+      let some = some_from (f y) (not-false (is_some (f y)) (sym (agree y) ∙ v)) in
       let same_index : i ≡ j = ap (λ p. p.0) here in
       let same_cell : y ≡ x = ap (λ p. p.1.0) here in
       let same_rest : ys ≡ rest = ap (λ p. p.1.1) here in
@@ -56,7 +50,7 @@ module _ {C B : Type 0} (f : C → Option B) (vacant : C → Bool) (agree : (x :
 
   none_after : (i : ℕ) (y : C) (ys : List C) → (next_full vacant (i + 1) ys ≡ None → numbered (i + 1) (map f ys) ≡ []) → (b : Bool) → vacant y ≡ b → (if_vacant vacant i y ys b) ≡ None → numbered i (map f (y ∷ ys)) ≡ []
   none_after i y ys later true v is =
-      let none : f y ≡ None = none_is (f y) (sym (agree y) ∙ v) in
+      let none : f y ≡ None = none_from (f y) (not-true (is_some (f y)) (sym (agree y) ∙ v)) in
       rw none (later is)
   none_after i y ys later false v is = absurd (none-some _ (sym is))
 

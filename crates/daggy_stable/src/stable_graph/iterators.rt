@@ -184,7 +184,7 @@ impl<'a, E, Ix: IndexType> Iterator for EdgeWeights<'a, E, Ix> {
 }
 
 impl<N, E, Ix: IndexType> StableDiGraph<N, E, Ix> {
-    /// The weights of the nodes, by ascending index.
+    /// The weights of the nodes, by ascending index. Going over all of them costs all slots, vacant ones too.
     #[inline]
     pub fn node_weights(&self) -> NodeWeights<'_, N, Ix>
         ensures rest { result ≡ node_weights_of self.now.graph }
@@ -195,7 +195,7 @@ impl<N, E, Ix: IndexType> StableDiGraph<N, E, Ix> {
         }
     }
 
-    /// The weights of the edges, by ascending index.
+    /// The weights of the edges, by ascending index. Going over all of them costs all slots, vacant ones too.
     #[inline]
     pub fn edge_weights(&self) -> EdgeWeights<'_, E, Ix>
         ensures rest { result ≡ edge_weights_of self.now.graph }
@@ -206,7 +206,7 @@ impl<N, E, Ix: IndexType> StableDiGraph<N, E, Ix> {
         }
     }
 
-    /// The indices of the nodes, in ascending order.
+    /// The indices of the nodes, in ascending order. Going over all of them costs all slots, vacant ones too.
     #[inline]
     pub fn node_identifiers(&self) -> NodeIdentifiers<'_, N, Ix>
         ensures rest { result ≡ node_identifiers_of self.now.graph }
