@@ -3,6 +3,7 @@
 pub mod adding;
 pub mod changing;
 pub mod finding;
+pub mod keeping;
 pub mod moving;
 pub mod paths;
 pub mod reducing;
