@@ -3,4 +3,6 @@
 #![tactic(auto)]
 
 #[cfg(test)]
+mod stable_tests;
+#[cfg(test)]
 mod tests;
