@@ -6,12 +6,12 @@ ghost use Rattle.daggy_base.specs.Finding.{find_edge as edge_between};
 ghost use Rattle.daggy_base.specs.Cursor.{first_of, cursor_after};
 
 mod adding;
+mod capacity;
 mod copy;
 mod count;
 mod filter;
 mod map;
 mod removal;
-mod room;
 mod source;
 mod taking;
 mod weights;
