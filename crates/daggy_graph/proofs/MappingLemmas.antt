@@ -1,5 +1,5 @@
 -- How a loop maps the elements in turn, and what of a stored graph stays.
-use Rattle.std.proofs.Common.{◌≡◌, ℕ, ◌+◌, ◌<◌, ◌≤◌, List, [], ◌∷◌, ◌++◌, map, length, drop, get_or, Some, refl, sym, ap, subst, ◌∙◌, arith, append-nil, append_assoc}
+use Rattle.std.proofs.Common.{◌≡◌, ℕ, suc, ◌+◌, ◌<◌, ◌≤◌, List, [], ◌∷◌, ◌++◌, map, length, drop, get_or, Option, Some, None, refl, sym, ap, subst, ◌∙◌, arith, append-nil, append_assoc}
 use Rattle.std.proofs.lemmas.List.{length_push, length-map, drop_more, drop_all}
 use Rattle.std.specs.Borrow.{Bor}
 use Rattle.daggy_graph.specs.declared.graph.Node.{Node}
@@ -51,6 +51,13 @@ module _ {F I W V : Type 0} (step : F → I → Bor W → V → F → Type 0) (o
       ap (map (λ y. Some (read' y))) is ∙ ap (λ z. Some z ∷ map (λ y. Some (read' y)) later) (writes x v),
       slots_from weight' with' read read' sees writes next (i + 1) xs later more,
     )
+
+module _ {F I W V A B : Type 0} (step : F → I → Bor W → V → F → Type 0) (of : ℕ → I) (weight : A → W) (with : A → V → B) where
+  -- as many slots as before
+  pub mapped_length : (f : F) (i : ℕ) (xs : List (Option A)) (new : List (Option B)) → MapsSlots step of weight with f i xs new → length new ≡ length xs
+  mapped_length f i [] new is = ap length is
+  mapped_length f i (None ∷ xs) new (later, is, more) = ap length is ∙ ap suc (mapped_length f (i + 1) xs later more)
+  mapped_length f i (Some x ∷ xs) new (v, next, called, later, is, more) = ap length is ∙ ap suc (mapped_length next (i + 1) xs later more)
 
 -- a graph with the links of a stored graph
 module _ {N E V W Ix : Type 0} (end : ℕ) (nodes : List (Node N Ix)) (edges : List (Edge E Ix)) (nodes' : List (Node V Ix)) (edges' : List (Edge W Ix))

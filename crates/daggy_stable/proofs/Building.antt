@@ -36,7 +36,7 @@ module _ {A : Type 0} where
   slot_push_vacant : (xs : List (Option A)) (i : ℕ) → slot (xs ++ None ∷ []) i ≡ slot xs i
   slot_push_vacant xs i =
       elim (cases_eq i (length xs)) [
-        | inl last ↦ ap (slot (xs ++ None ∷ [])) last ∙ slot_push_new xs None ∙ sym (slot_past xs None i (omega (arith, last)))
+        | inl last ↦ ap (slot (xs ++ None ∷ [])) last ∙ slot_push_new xs None ∙ sym (slot_past xs i (omega (arith, last)))
         | inr other ↦ slot_push_other xs None i other
       ]
 
@@ -200,7 +200,7 @@ module _ {N E Ix : Type 0} {end : ℕ} {nodes : List (Node (Option N) Ix)} {edge
         ap (λ l. slice_get l f) outs ∙ slice_get-set_other (firsts_of Outgoing nodes) a f (length edges) other)
 
     vacant_yet : edge_at g (length edges) ≡ None
-    vacant_yet = slot_past g.edges None (length edges) (omega (arith, edges_long s))
+    vacant_yet = slot_past g.edges (length edges) (omega (arith, edges_long s))
 
     side_linked : (dir : Direction) (n : ℕ) (wn : N) → slot g.nodes n ≡ Some wn → firsts_of dir nodes' ≡ set (firsts_of dir nodes) n (length edges) → raw_next dir cell ≡ get_or (firsts_of dir nodes) n 0
         → IsLinked end (row_firsts end dir nodes') (nexts_of dir (edges ++ cell ∷ [])) (set (lists_at dir g) n (length edges ∷ row (lists_at dir g) n))

@@ -25,6 +25,9 @@ down_from_more p q k n b is here below =
     let next : n ≡ suc k = omega (arith, is) in
     ap (down_from q) next ∙ ap (λ l. cond (q k) (k ∷ l) l) (down_from_same q p k below) ∙ ap (λ z. cond z (k ∷ down_from p k) (down_from p k)) here
 
+pub slot_past : {A : Type 0} (xs : List (Option A)) (i : ℕ) → length xs ≤ i → slot xs i ≡ None
+slot_past xs i past = ap (option_and_then (λ z. z)) (slice_get_past xs i past)
+
 -- one more slot
 module _ {A : Type 0} (xs : List (Option A)) (x : Option A) where
   pub slot_push_new : slot (xs ++ x ∷ []) (length xs) ≡ x
@@ -35,9 +38,6 @@ module _ {A : Type 0} (xs : List (Option A)) (x : Option A) where
 
   pub slot_push_other : (i : ℕ) → ¬ (i ≡ length xs) → slot (xs ++ x ∷ []) i ≡ slot xs i
   slot_push_other i other = ap (option_and_then (λ z. z)) (slice_get-push_other xs x i other)
-
-  pub slot_past : (i : ℕ) → length xs ≤ i → slot xs i ≡ None
-  slot_past i past = ap (option_and_then (λ z. z)) (slice_get_past xs i past)
 
   pub vacant_down_more : vacant_down (xs ++ x ∷ []) ≡ cond (not (is_some x)) (length xs ∷ vacant_down xs) (vacant_down xs)
   vacant_down_more =

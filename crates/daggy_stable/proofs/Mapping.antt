@@ -15,6 +15,7 @@ use Rattle.daggy_graph.specs.Mapping.{CalledAt, MapsSlots, IsMapped, weight_in, 
 use Rattle.daggy_graph.specs.MappedCells.{node_with, edge_with}
 use Rattle.daggy_graph.specs.Raw.{raw_first, raw_next}
 use Rattle.daggy_graph.specs.Stored.{firsts_of, nexts_of}
+use Rattle.daggy_graph.proofs.MappingLemmas.{mapped_length}
 use Rattle.daggy_stable.specs.Stored.{weight_of, plain_edge, shown, row_firsts, end_of, stored_graph, IsThreaded, Stores}
 use Rattle.daggy_stable.proofs.Slots.{count_cons}
 
@@ -75,11 +76,6 @@ edge_like_links Incoming x w = refl
 
 -- what mapped slots have in common with the old
 module _ {F I W V A B : Type 0} (step : F → I → Bor W → V → F → Type 0) (of : ℕ → I) (weight : A → W) (with : A → V → B) where
-  mapped_length : (f : F) (i : ℕ) (xs : List (Option A)) (ys : List (Option B)) → MapsSlots step of weight with f i xs ys → length ys ≡ length xs
-  mapped_length f i [] ys m = ap length m
-  mapped_length f i (None ∷ xs) ys (later, is, more) = ap length is ∙ ap suc (mapped_length f (i + 1) xs later more)
-  mapped_length f i (Some x ∷ xs) ys (v, next, called, later, is, more) = ap length is ∙ ap suc (mapped_length next (i + 1) xs later more)
-
   mapped_count : (f : F) (i : ℕ) (xs : List (Option A)) (ys : List (Option B)) → MapsSlots step of weight with f i xs ys → count_by is_some ys ≡ count_by is_some xs
   mapped_count f i [] ys m = ap (count_by is_some) m
   mapped_count f i (None ∷ xs) ys (later, is, more) = omega (arith, ap (count_by is_some) is, count_cons None later, count_cons None xs, mapped_count f (i + 1) xs later more)
@@ -118,7 +114,7 @@ module _ {F I W V A B : Type 0} (step : F → I → Bor W → V → F → Type 0
   -- they are threaded as the old
   mapped_threaded : (end : ℕ) (f : F) (xs : List (Option A)) (ys : List (Option B)) (links links' : List ℕ) (head count : ℕ) (vacant : List ℕ) → MapsSlots step of weight with f 0 xs ys → links' ≡ links → IsThreaded end xs links head count vacant → IsThreaded end ys links' head count vacant
   mapped_threaded end f xs ys links links' head count vacant m same t =
-      let long = mapped_length f 0 xs ys m in
+      let long = mapped_length step of weight with f 0 xs ys m in
       record {
         row = subst (λ l. IsRow end l head vacant) (sym same) t.row;
         exact = λ i. (λ p. (mapped_vacant f 0 xs ys m i).1 ((t.exact i).0 p), λ q. (t.exact i).1 ((mapped_vacant f 0 xs ys m i).0 q));

@@ -1,5 +1,5 @@
 //! The part of a graph that closures keep, under the same indices.
-ghost use Rattle.std.specs.Prelude.{◌≡◌, ◌+◌, ◌<◌, ◌≤◌, None, [], ◌∷◌, ◌++◌, map, length, vec_len, vec_capacity, is_some, IsSome, option_copied, IfOk, OnOk};
+ghost use Rattle.std.specs.Prelude.{◌≡◌, ◌<◌, ◌≤◌, None, [], ◌∷◌, ◌++◌, map, length, vec_len, vec_capacity, is_some, IsSome, option_copied, IfOk};
 ghost use Rattle.std.specs.Option.{option_map};
 ghost use Rattle.daggy_base.specs.Graph.{slot};
 ghost use Rattle.daggy_graph.specs.Mapping.{weight_in, with_weight};

@@ -1,7 +1,7 @@
 //! Parts that are kept in their slots.
-ghost use Rattle.std.specs.Prelude.{◌≡◌, ℕ, List, [], ◌∷◌};
+ghost use Rattle.std.specs.Prelude.{◌≡◌, ℕ, [], ◌∷◌};
 ghost use Rattle.std.specs.Borrow.{Bor};
-ghost use Rattle.daggy_base.specs.Graph.{Graph, out_list, in_list, node_count, edge_count};
+ghost use Rattle.daggy_base.specs.Graph.{Graph, out_list, in_list, node_count};
 ghost use Rattle.daggy_base.specs.Adding.{next_node, next_edge, with_edge};
 ghost use Rattle.daggy_graph.specs.InPlace.{IsFilteredInPlace};
 ghost use Rattle.daggy_graph.specs.Slots.{of_slots};
