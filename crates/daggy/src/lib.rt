@@ -25,5 +25,7 @@ pub use daggy_dag::dag::{Children, Dag, Parents, RawEdges, RawNodes};
 pub use daggy_dag::edge_indices::EdgeIndices;
 pub use daggy_graph::graph;
 pub use daggy_graph::graph::lists::Edges;
+pub use daggy_stable::stable_graph;
+pub use daggy_stable_dag::stable_dag;
 pub use daggy_walk::walker::Walker;
 pub use daggy_walk::{visit, walker};

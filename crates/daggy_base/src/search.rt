@@ -67,7 +67,6 @@ fn search<Ix: IndexType, S: EdgeSource<Ix>>(
     ensures counted { S.looks source.new ≤ S.looks source.old + edge_count (S.graph source.old) }
     ensures marks_kept { length marks.new ≡ length marks.old }
 {
-    let _bound = source.node_bound();
     if !source.contains_node(from) {
         return false;
     }

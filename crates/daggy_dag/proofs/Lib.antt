@@ -12,4 +12,5 @@ pub mod Making
 pub mod Joining
 pub mod Lifting
 pub mod Mapped
+pub mod Rewritten
 pub mod Filtered

@@ -2,7 +2,7 @@
 use Rattle.std.proofs.Common.{◌≡◌, ℕ, zero, suc, ◌+◌, ◌≤◌, List, [], ◌∷◌, length, Option, Some, None, refl, sym, ap, ◌∙◌, arith}
 use Rattle.std.specs.Borrow.{Bor}
 use Rattle.std.proofs.lemmas.Option.{same_Some, none-some}
-use Rattle.daggy_base.specs.Graph.{Graph, Edge, slot, node_bound}
+use Rattle.daggy_base.specs.Graph.{Graph, Edge, slot, bound_of, bound_step, node_bound}
 use Rattle.daggy_base.specs.Path.{IsAcyclic}
 use Rattle.daggy_base.specs.WellFormed.{IsWellFormed}
 use Rattle.daggy_base.proofs.Nodes.{bound_low}
@@ -23,12 +23,26 @@ module _ {F I W V A B : Type 0} (step : F → I → Bor W → V → F → Type 0
   mapped_length f i (None ∷ xs) new (later, is, more) = ap length is ∙ ap suc (mapped_length f (i + 1) xs later more)
   mapped_length f i (Some x ∷ xs) new (v, next, called, later, is, more) = ap length is ∙ ap suc (mapped_length next (i + 1) xs later more)
 
-module _ {N E V W F G I : Type 0} (of : ℕ → I) (step_f : F → I → Bor N → V → F → Type 0) (step_g : G → I → Bor E → W → G → Type 0) (f : F) (g : G) (old : Graph N E) (new : Graph V W)
-    (mapped : IsMapped of step_f step_g f g old new) where
-  pub acyclic_mapped : (end : ℕ) → IsWellFormed end old → IsAcyclic old → IsAcyclic new
-  acyclic_mapped end w acyclic =
+  none_mapped : (n : ℕ) → bound_step {A = B} None n ≡ bound_step {A = A} None n
+  none_mapped zero = refl
+  none_mapped (suc n) = refl
+
+  step_mapped : (x : A) (y : B) (n : ℕ) → bound_step (Some y) n ≡ bound_step (Some x) n
+  step_mapped x y zero = refl
+  step_mapped x y (suc n) = refl
+
+  pub mapped_bound : (f : F) (i : ℕ) (xs : List (Option A)) (new : List (Option B)) → MapsSlots step of weight with f i xs new → bound_of new ≡ bound_of xs
+  mapped_bound f i [] new is = ap bound_of is
+  mapped_bound f i (None ∷ xs) new (later, is, more) = ap bound_of is ∙ ap (bound_step {A = B} None) (mapped_bound f (i + 1) xs later more) ∙ none_mapped (bound_of xs)
+  mapped_bound f i (Some x ∷ xs) new (v, next, called, later, is, more) = ap bound_of is ∙ ap (bound_step (Some (with x v))) (mapped_bound next (i + 1) xs later more) ∙ step_mapped x (with x v) (bound_of xs)
+
+-- the edges of a graph that has other weights there are between the same nodes
+module _ {N E V W G I : Type 0} (of : ℕ → I) (step : G → I → Bor E → W → G → Type 0) (g : G) (old : Graph N E) (new : Graph V W)
+    (mapped : MapsSlots step of weight_in with_weight g 0 old.edges new.edges) where
+  pub acyclic_reweighed : (end : ℕ) → IsWellFormed end old → IsAcyclic old → IsAcyclic new
+  acyclic_reweighed end w acyclic =
       acyclic_lifted old new (λ u a. a ≡ u) (λ u a b p q. p ∙ sym q) (λ u v j.
-      let m = mapped_slot step_g of weight_in with_weight g 0 old.edges new.edges mapped.edges j.0 _ j.2 in
+      let m = mapped_slot step of weight_in with_weight g 0 old.edges new.edges mapped j.0 _ j.2 in
       let x = m.0 in
       record {
         parent = x.parent;
@@ -39,6 +53,11 @@ module _ {N E V W F G I : Type 0} (of : ℕ → I) (step_f : F → I → Bor N �
         joined = (j.0, x.weight, m.2);
         has_child = w.children j.0 x m.2;
       }) acyclic
+
+module _ {N E V W F G I : Type 0} (of : ℕ → I) (step_f : F → I → Bor N → V → F → Type 0) (step_g : G → I → Bor E → W → G → Type 0) (f : F) (g : G) (old : Graph N E) (new : Graph V W)
+    (mapped : IsMapped of step_f step_g f g old new) where
+  pub acyclic_mapped : (end : ℕ) → IsWellFormed end old → IsAcyclic old → IsAcyclic new
+  acyclic_mapped end w acyclic = acyclic_reweighed of step_g g old new mapped.edges end w acyclic
 
   pub fits_mapped : (slots room : ℕ) → slots ≡ length old.nodes → slots ≤ room → node_bound new ≤ room
   fits_mapped slots room many fits =

@@ -29,6 +29,7 @@ mod copies;
 mod iterators;
 mod map;
 mod pairs;
+mod rewriting;
 mod series;
 mod visit;
 mod walkers;

@@ -30,7 +30,6 @@ where
     ensures fits { node_bound (S.graph store.new) ≤ scratch.new.nodes }
 {
     'nodes: while store.node_count() <= last {
-        let _bound = store.node_bound();
         match add_node(store, scratch, <S::NodeWeight as Default>::default()) {
             Ok(_) => {}
             Err(_) => return Err(AllocError),

@@ -34,7 +34,7 @@ pub fn add_node<Ix: IndexType, S: Store<Ix>>(
     ensures room { scratch.old.nodes ≤ scratch.new.nodes }
     ensures counted { S.looks store.new ≡ S.looks store.old }
 {
-    let _bound = store.node_bound();
+    let _well_formed = store.node_count();
     let slots = store.slots_with_node();
     if scratch.reserve(slots, 0).is_err() {
         return Err(NodeError::Memory(weight));
@@ -56,7 +56,7 @@ fn leads_to<Ix: IndexType, S: Store<Ix>>(
     ensures counted { S.looks store.new ≤ S.looks store.old + edge_count (S.graph store.old) }
     ensures room { scratch.new ≡ scratch.old }
 {
-    let _bound = store.node_bound();
+    let _well_formed = store.node_count();
     let first = store.first_edge(to, Direction::Incoming);
     if first.index() == EdgeIndex::<Ix>::end().index() && from.index() != to.index() {
         return false;
@@ -119,7 +119,7 @@ pub fn update_edge<Ix: IndexType, S: Store<Ix>>(
     ensures counted { S.looks store.new ≤ S.looks store.old + edge_count (S.graph store.old) }
     ensures fits { node_bound (S.graph store.new) ≤ scratch.new.nodes }
 {
-    let _bound = store.node_bound();
+    let _well_formed = store.node_count();
     match store.find_edge(a, b) {
         Some(e) => {
             let _old = store.replace_edge_weight(e, weight);
@@ -180,7 +180,7 @@ pub fn add_neighbor<Ix: IndexType, S: Store<Ix>>(
     ensures counted { S.looks store.new ≡ S.looks store.old }
     ensures fits { node_bound (S.graph store.new) ≤ scratch.new.nodes }
 {
-    let _bound = store.node_bound();
+    let _well_formed = store.node_count();
     let slots = store.node_slots();
     let new = match add_node(store, scratch, weight) {
         Ok(new) => new,

@@ -83,7 +83,7 @@ fn add_item<Ix: IndexType, S: Store<Ix>>(
     ensures room { vec_len weights.new + vec_len edges.new ≤ vec_capacity weights.new }
     ensures counted { S.looks store.new ≡ S.looks store.old }
 {
-    let _bound = store.node_bound();
+    let _well_formed = store.node_count();
     let (a, b, weight) = item;
     if !store.contains_node(a) || !store.contains_node(b) {
         return Err(Fault::BadEndpoint(weight));

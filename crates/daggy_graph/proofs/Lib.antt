@@ -13,6 +13,7 @@ pub mod CellLemmas
 pub mod PairLemmas
 mod CloneLemmas
 pub mod MappingLemmas
+pub mod RewritingLemmas
 pub mod FilterLemmas
 pub mod RestLemmas
 pub mod Keeping

@@ -6,6 +6,7 @@ pub mod Calls
 pub mod Cells
 pub mod Mapping
 pub mod MappedCells
+pub mod Rewriting
 pub mod Filtering
 pub mod Names
 pub mod Iterating

@@ -20,6 +20,7 @@ mod map;
 mod pairs;
 mod raw;
 mod removal;
+mod rewriting;
 mod room;
 mod source;
 mod weights;

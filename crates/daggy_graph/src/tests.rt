@@ -101,6 +101,8 @@ fn weights_are_written(rt: HostRuntime) {
     assert_eq!(rt; g.raw_nodes().len(), 2);
     assert_eq!(rt; g.raw_edges().len(), 1);
     assert_eq!(rt; EdgeSource::node_bound(&g), 2);
+    let (nodes, edges) = g.into_raw();
+    assert_eq!(rt; (nodes.len(), edges.len()), (2, 1));
 }
 
 // Nodes of weights 10, 11 and 12, with edges 0 -> 1, 0 -> 2 and 1 -> 2.

@@ -6,3 +6,4 @@ pub mod Changes
 pub mod Removing
 pub mod Weighing
 pub mod Bounds
+pub mod Filling

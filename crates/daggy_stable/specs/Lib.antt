@@ -1,2 +1,3 @@
 pub mod Stored
 pub mod Lends
+pub mod Room

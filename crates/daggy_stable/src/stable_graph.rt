@@ -8,6 +8,7 @@ ghost use Rattle.daggy_base.specs.Cursor.{first_of, cursor_after};
 mod adding;
 mod count;
 mod removal;
+mod room;
 mod source;
 mod taking;
 mod weights;
@@ -16,6 +17,7 @@ use daggy_base::index::{DefaultIx, Direction, EdgeIndex, IndexType, NodeIndex};
 use daggy_base::link::Link;
 use daggy_base::search::Looks;
 use daggy_graph::graph::{Edge, Node};
+pub use room::Room;
 use std::alloc::Global;
 use std::marker::Model;
 

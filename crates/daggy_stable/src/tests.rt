@@ -1,8 +1,10 @@
 //! What no clause says: that calls succeed where memory is given, at a concrete type.
-use crate::stable_graph::StableDiGraph;
+use crate::stable_graph::{Room, StableDiGraph};
 use daggy_base::index::{Direction, EdgeIndex, NodeIndex};
 use daggy_base::search::EdgeSource;
 use daggy_base::store::Store;
+use daggy_graph::graph::DiGraph;
+use std::alloc::Global;
 use std::process::Abort;
 
 fn node(rt: &impl Abort, g: &mut StableDiGraph<u32, u32, u8>, w: u32) -> NodeIndex<u8> {
@@ -133,4 +135,49 @@ fn adding_is_taken_back(rt: HostRuntime) {
     assert_eq!(rt; g.take_back_edge(first, false), 100);
     assert_eq!(rt; (g.edge_count(), g.edge_slots()), (0, 1));
     assert_eq!(rt; g.first_edge(a, Direction::Incoming).index(), 255);
+}
+
+// Nodes 0, 1 and 2, the edges 0 -> 1 and 0 -> 2, and in the list of the node 0 the first of them first.
+fn turned(alloc: Global, rt: &impl Abort) -> DiGraph<u32, u32, u8> {
+    let mut g = DiGraph::<u32, u32, u8>::new(alloc);
+    for w in 10..13 {
+        assert!(rt; g.can_add_node());
+        let _n = g.add_node(w).expect(rt, "memory");
+    }
+    let a = NodeIndex::new(0);
+    for (n, w) in [(1, 100), (2, 101), (1, 102)] {
+        let b = NodeIndex::new(n);
+        assert!(rt; g.contains_node(a) && g.contains_node(b) && g.can_add_edge());
+        let _e = g.add_edge(a, b, w).expect(rt, "memory");
+    }
+    assert_eq!(rt; g.remove_edge(EdgeIndex::new(0)), Some(100));
+    g
+}
+
+#[test]
+fn a_compact_graph_fills_a_room(rt: HostRuntime) {
+    let compact = turned(rt.alloc(), &rt);
+    let room = Room::new(rt.alloc(), compact.node_count(), compact.edge_count()).expect(
+        &rt, "memory",
+    );
+    let mut g = room.fill(compact);
+    assert_eq!(rt; (g.node_count(), g.edge_count()), (3, 2));
+    assert_eq!(rt; (g.node_slots(), g.edge_slots()), (3, 2));
+    let a = NodeIndex::new(0);
+    let b = NodeIndex::new(1);
+    let c = NodeIndex::new(2);
+    assert_eq!(rt; g.node_weight(c).copied(), Some(12));
+    let first = g.first_edge(a, Direction::Outgoing);
+    assert_eq!(rt; first.index(), 0);
+    assert_eq!(rt; g.edge_weight(first).copied(), Some(102));
+    assert!(rt; g.contains_edge(first));
+    let second = g.next_edge(first, Direction::Outgoing);
+    assert_eq!(rt; second.index(), 1);
+    assert_eq!(rt; g.edge_weight(second).copied(), Some(101));
+    assert!(rt; g.contains_edge(second));
+    assert_eq!(rt; g.next_edge(second, Direction::Outgoing).index(), 255);
+    assert_eq!(rt; g.first_edge(b, Direction::Incoming).index(), 0);
+    assert_eq!(rt; g.first_edge(c, Direction::Incoming).index(), 1);
+    assert_eq!(rt; edge(&rt, &mut g, b, c, 103).index(), 2);
+    assert_eq!(rt; node(&rt, &mut g, 13).index(), 3);
 }

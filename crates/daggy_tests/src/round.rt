@@ -68,7 +68,8 @@ impl EdgeSource<u8> for Round {
     }
 
     fn contains_node(&self, n: NodeIndex<u8>) -> bool
-        ensures { IsTrue result ↔ HasNode self.now.graph n }
+        ensures exists { IsTrue result ↔ HasNode self.now.graph n }
+        ensures well_formed { IsWellFormed 255 self.now.graph }
     {
         let firsts = &self.firsts;
         n.index() < firsts.len()

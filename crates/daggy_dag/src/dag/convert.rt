@@ -5,6 +5,7 @@ ghost use Rattle.daggy_base.specs.Path.{IsAcyclic};
 use crate::dag::Dag;
 use daggy_base::index::IndexType;
 use daggy_graph::graph::DiGraph;
+use std::alloc::Global;
 
 impl<N: Drop, E: Drop, Ix: IndexType> Dag<N, E, Ix> {
     /// The graph, for all that only reads one.
@@ -14,6 +15,12 @@ impl<N: Drop, E: Drop, Ix: IndexType> Dag<N, E, Ix> {
         ensures acyclic { IsAcyclic result.now.graph }
     {
         &self.graph
+    }
+
+    /// The allocator that the dag takes its memory from.
+    #[inline]
+    pub fn allocator(&self) -> Global {
+        self.scratch.allocator()
     }
 
     /// The graph, which need not stay acyclic from then on. Nothing is copied.

@@ -28,7 +28,7 @@ impl<N: Drop, E: Drop, Ix: IndexType> Dag<N, E, Ix> {
             (λ v w. with_graph self.old (with_node_weight (with_node_weight self.old.graph (Ix.number a) v) (Ix.number b) w)) self.new }
         ensures acyclic { IsAcyclic self.new.graph }
     {
-        let _compact = self.graph.node_count();
+        let _well_formed = self.graph.node_count();
         self.graph.update_two_nodes(a, b, f)
     }
 
@@ -50,7 +50,7 @@ impl<N: Drop, E: Drop, Ix: IndexType> Dag<N, E, Ix> {
             (λ v w. with_graph self.old (with_edge_weight (with_edge_weight self.old.graph (Ix.number a) v) (Ix.number b) w)) self.new }
         ensures acyclic { IsAcyclic self.new.graph }
     {
-        let _compact = self.graph.node_count();
+        let _well_formed = self.graph.node_count();
         self.graph.update_two_edges(a, b, f)
     }
 
@@ -71,7 +71,7 @@ impl<N: Drop, E: Drop, Ix: IndexType> Dag<N, E, Ix> {
             (λ v w. with_graph self.old (with_edge_weight (with_node_weight self.old.graph (Ix.number n) v) (Ix.number e) w)) self.new }
         ensures acyclic { IsAcyclic self.new.graph }
     {
-        let _compact = self.graph.node_count();
+        let _well_formed = self.graph.node_count();
         self.graph.update_node_and_edge(n, e, f)
     }
 }

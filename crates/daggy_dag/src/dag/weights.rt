@@ -71,7 +71,7 @@ impl<N, E, Ix: IndexType> IndexMut<NodeIndex<Ix>> for Dag<N, E, Ix> {
         ensures* writes_back { sem 𝓛 (lends_node N.row E.row Ix.row Ix.IndexType self.entry n result) }
         ensures value { weight_at self.old.graph (Ix.number n) ≡ Some result.now }
     {
-        let _compact = self.graph.node_count();
+        let _well_formed = self.graph.node_count();
         &mut self.graph[n]
     }
 }
@@ -83,7 +83,7 @@ impl<N, E, Ix: IndexType> IndexMut<EdgeIndex<Ix>> for Dag<N, E, Ix> {
         ensures* writes_back { sem 𝓛 (lends_edge N.row E.row Ix.row Ix.IndexType self.entry e result) }
         ensures value { edge_weight_at self.old.graph (Ix.number e) ≡ Some result.now }
     {
-        let _compact = self.graph.node_count();
+        let _well_formed = self.graph.node_count();
         &mut self.graph[e]
     }
 }

@@ -151,16 +151,29 @@ pub struct EdgeReference<'a, E, Ix = DefaultIx> {
 }
 
 impl<'a, E, Ix: IndexType> EdgeReference<'a, E, Ix> {
+    /// The reference to an edge of this index, these ends and this weight, for stores that lend their edges.
+    #[inline]
+    pub fn from_parts(
+        id: EdgeIndex<Ix>,
+        source: NodeIndex<Ix>,
+        target: NodeIndex<Ix>,
+        weight: &'a E,
+    ) -> Self
+        ensures { referred Ix.number result ≡ (Ix.number id, record { parent = Ix.number source; child = Ix.number target; weight = weight.now }) }
+    {
+        EdgeReference {
+            id: Ix::new(id.index()),
+            source: Ix::new(source.index()),
+            target: Ix::new(target.index()),
+            weight,
+        }
+    }
+
     #[inline]
     pub(super) fn new(e: Link<Ix>, x: &'a Edge<E, Ix>) -> Self
         ensures { referred Ix.number result ≡ (e, plain x.now) }
     {
-        EdgeReference {
-            id: Ix::new(e.index()),
-            source: Ix::new(x.parent.index()),
-            target: Ix::new(x.child.index()),
-            weight: &x.weight,
-        }
+        EdgeReference::from_parts(e.edge(), x.parent.node(), x.child.node(), &x.weight)
     }
 
     /// The index of the edge.

@@ -57,4 +57,13 @@ impl<N, E, Ix: IndexType> DiGraph<N, E, Ix> {
     {
         self.edges.as_slice()
     }
+
+    /// The nodes and the edges as they are stored, by their indices.
+    #[inline]
+    pub fn into_raw(self) -> (Vec<Node<N, Ix>>, Vec<Edge<E, Ix>>)
+        ensures nodes { ShowsNodes Ix.greatest self.graph result.0.items }
+        ensures edges { ShowsEdges Ix.greatest self.graph result.1.items }
+    {
+        (self.nodes, self.edges)
+    }
 }

@@ -46,8 +46,10 @@ impl<N: Drop, E: Drop, Ix: IndexType> EdgeSource<Ix> for DiGraph<N, E, Ix> {
 
     #[inline]
     fn contains_node(&self, n: NodeIndex<Ix>) -> bool
-        ensures { IsTrue result ↔ HasNode self.now.graph (Ix.number n) }
+        ensures exists { IsTrue result ↔ HasNode self.now.graph (Ix.number n) }
+        ensures well_formed { IsWellFormed Ix.greatest self.now.graph }
     {
+        let _well_formed = DiGraph::edge_count(self);
         self.contains_node(n)
     }
 
@@ -92,7 +94,8 @@ impl<N: Drop, E: Drop, Ix: IndexType> Store<Ix> for DiGraph<N, E, Ix> {
 
     #[inline]
     fn node_count(&self) -> usize
-        ensures { result ≡ node_count_of self.now.graph }
+        ensures count { result ≡ node_count_of self.now.graph }
+        ensures well_formed { IsWellFormed Ix.greatest self.now.graph }
     {
         DiGraph::node_count(self)
     }

@@ -4,7 +4,7 @@ use Rattle.daggy_dag.proofs.guard.add_node.Goals as goal
 
 pub returns-clause-acyclic : goal.returns-clause-acyclic
 returns-clause-acyclic g c =
-    acyclic_node c.add_node.result _ _ c.args.weight c.node_bound-bound.ensures.well_formed c.requires.acyclic c.add_node.ensures.added c.add_node.ensures.unchanged
+    acyclic_node c.add_node.result _ _ c.args.weight c.node_count-well_formed.ensures.well_formed c.requires.acyclic c.add_node.ensures.added c.add_node.ensures.unchanged
 
 pub returns-clause-fits : goal.returns-clause-fits
 returns-clause-fits g c =

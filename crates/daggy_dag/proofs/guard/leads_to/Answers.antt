@@ -11,4 +11,4 @@ returns-then-index-2-clause-decided g c =
     let to = g.Ix.IndexType.number c.args.to in
     let none : first_of g.Ix.IndexType.greatest (in_list graph to) ≡ g.Ix.IndexType.greatest = cc in
     let apart : g.Ix.IndexType.number c.args.from ≢ to = λ h. c.if-index-2.true cc in
-    (λ h. absurd (false≢true h), λ r. absurd (unreached g.Ix.IndexType.greatest graph c.node_bound-bound.ensures.well_formed to none (g.Ix.IndexType.number c.args.from) apart r))
+    (λ h. absurd (false≢true h), λ r. absurd (unreached g.Ix.IndexType.greatest graph c.node_count-well_formed.ensures.well_formed to none (g.Ix.IndexType.number c.args.from) apart r))

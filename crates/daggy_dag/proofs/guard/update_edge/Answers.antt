@@ -7,14 +7,14 @@ use Rattle.daggy_dag.proofs.guard.update_edge.Goals as goal
 
 pub replace_edge_weight-old-requires : goal.replace_edge_weight-old-requires
 replace_edge_weight-old-requires g c =
-    edge_between_exists (found_between _ _ _ _ c.node_bound-bound.ensures.well_formed (sym c.in-Some.ensures))
+    edge_between_exists (found_between _ _ _ _ c.node_count-well_formed.ensures.well_formed (sym c.in-Some.ensures))
 
 pub returns-in-Some-clause-cycle : goal.returns-in-Some-clause-cycle
 returns-in-Some-clause-cycle g c = (
   λ h. absurd cc,
-  λ r. absurd (no_round (g.S.EdgeSource.graph c.args.store.now) c.requires.acyclic _ _ c.requires.parent (joined_between (found_between _ _ _ _ c.node_bound-bound.ensures.well_formed (sym c.in-Some.ensures))) r),
+  λ r. absurd (no_round (g.S.EdgeSource.graph c.args.store.now) c.requires.acyclic _ _ c.requires.parent (joined_between (found_between _ _ _ _ c.node_count-well_formed.ensures.well_formed (sym c.in-Some.ensures))) r),
 )
 
 pub returns-in-Some-clause-acyclic : goal.returns-in-Some-clause-acyclic
 returns-in-Some-clause-acyclic g c =
-    acyclic_kept _ _ (acyclic_with_weight _ (g.Ix.IndexType.number c.in-Some.e) c.args.weight c.node_bound-bound.ensures.well_formed c.requires.acyclic) c.replace_edge_weight-old.ensures.replaced
+    acyclic_kept _ _ (acyclic_with_weight _ (g.Ix.IndexType.number c.in-Some.e) c.args.weight c.node_count-well_formed.ensures.well_formed c.requires.acyclic) c.replace_edge_weight-old.ensures.replaced

@@ -1,0 +1,13 @@
+use Rattle.std.proofs.Common.{◌≡◌, List, ◌++◌, drop}
+use Rattle.daggy_graph.specs.declared.graph.Node.{Node}
+use Rattle.daggy_graph.specs.Rewriting.{Leaves}
+use Rattle.daggy_graph.specs.MappedCells.{node_weight_in, node_with}
+use Rattle.daggy_graph.proofs.MappingLemmas.{MappedBelow}
+use Rattle.daggy_graph.proofs.graph.rewriting.write_nodes.Given as goal
+
+abbrev pub invariant-each : goal.invariant-each
+invariant-each g l =
+    goal.F-IsAlwaysCallable g l.f
+    × (done : List (Node g.row.N.Denot g.row.Ix.Denot))
+    × (l.nodes.items ≡ done ++ drop l.i l.fn.nodes.items)
+    × MappedBelow (Leaves (goal.F-step g)) g.Ix.IndexType.of node_weight_in node_with l.fn.f l.fn.nodes.items l.f done l.i

@@ -1,0 +1,61 @@
+//! All weights to write, one after another.
+ghost use Rattle.std.specs.Prelude.{◌≡◌, ◌≤◌, length};
+ghost use Rattle.daggy_graph.specs.Rewriting.{Leaves, RewritesNodes, RewritesEdges};
+ghost use Rattle.daggy_graph.specs.MappedCells.{MapsCells, node_weight_in, node_with, edge_weight_in, edge_with};
+
+use crate::graph::{DiGraph, Edge, Node};
+use daggy_base::index::{EdgeIndex, IndexType, NodeIndex};
+
+impl<N, E, Ix: IndexType> DiGraph<N, E, Ix> {
+    /// Calls `f` with each node by ascending index and with its weight, to be written.
+    ///
+    /// The cost grows with the number of nodes, besides that of the calls.
+    pub fn update_node_weights<F: FnMut(NodeIndex<Ix>, &mut N)>(&mut self, f: F)
+        requires { F.IsAlwaysCallable f }
+        ensures written { RewritesNodes Ix.of F.step f self.old.graph self.new.graph }
+        ensures looks { self.new.looks ≡ self.old.looks }
+    {
+        write_nodes(&mut self.nodes, f);
+    }
+
+    /// Calls `f` with each edge by ascending index and with its weight, to be written.
+    ///
+    /// The cost grows with the number of edges, besides that of the calls.
+    pub fn update_edge_weights<F: FnMut(EdgeIndex<Ix>, &mut E)>(&mut self, f: F)
+        requires { F.IsAlwaysCallable f }
+        ensures written { RewritesEdges Ix.of F.step f self.old.graph self.new.graph }
+        ensures looks { self.new.looks ≡ self.old.looks }
+    {
+        write_edges(&mut self.edges, f);
+    }
+}
+
+// Hands the weight of each node to f.
+fn write_nodes<N, Ix: IndexType, F: FnMut(NodeIndex<Ix>, &mut N)>(
+    nodes: &mut Vec<Node<N, Ix>>,
+    mut f: F,
+)
+    requires callable { F.IsAlwaysCallable f }
+    requires few { length nodes.old.items ≤ Ix.greatest }
+    ensures { MapsCells (Leaves F.step) Ix.of node_weight_in node_with f 0 nodes.old.items nodes.new.items }
+{
+    'each: for i in 0..nodes.len() {
+        let x = &mut nodes[i];
+        f(NodeIndex::new(i), &mut x.weight);
+    }
+}
+
+// Hands the weight of each edge to f.
+fn write_edges<E, Ix: IndexType, F: FnMut(EdgeIndex<Ix>, &mut E)>(
+    edges: &mut Vec<Edge<E, Ix>>,
+    mut f: F,
+)
+    requires callable { F.IsAlwaysCallable f }
+    requires few { length edges.old.items ≤ Ix.greatest }
+    ensures { MapsCells (Leaves F.step) Ix.of edge_weight_in edge_with f 0 edges.old.items edges.new.items }
+{
+    'each: for i in 0..edges.len() {
+        let x = &mut edges[i];
+        f(EdgeIndex::new(i), &mut x.weight);
+    }
+}

@@ -1,0 +1,4 @@
+//! A graph in slots that stays acyclic.
+#![tactic(auto)]
+
+pub mod stable_dag;
