@@ -8,7 +8,7 @@ ghost use Rattle.dagbench.specs.Ends.{IsRun};
 
 use crate::ending::Stop;
 use crate::mode::Mode;
-use crate::served::{CompactDag, Served};
+use crate::served::{CompactDag, Served, StableDag};
 use crate::session::Session;
 use crate::stream::{Sink, Source};
 use std::alloc::Global;
@@ -39,6 +39,7 @@ pub fn serve<S: Source, K: Sink>(
 {
     match mode {
         Mode::Compact => serve_with(alloc, CompactDag::new(alloc), source, sink),
+        Mode::Stable => serve_with(alloc, StableDag::new(alloc), source, sink),
     }
 }
 

@@ -17,8 +17,10 @@ use crate::items::Items;
 use daggy::{ChildError, EdgeError, EdgeIndex, EdgeIndices, EdgesError, NodeError, NodeIndex};
 
 mod compact;
+mod stable;
 
 pub use compact::CompactDag;
+pub use stable::StableDag;
 
 /// A node that was added, with the edge that was added to it or from it.
 pub type Neighbor = (EdgeIndex<u32>, NodeIndex<u32>);
