@@ -16,7 +16,8 @@ expect() { # STATUS TEXT INPUT WORDS..: the program ends so, and says so
 }
 
 expect 2 'usage: dagbench compact|stable' "$lines"
-expect 2 'usage: dagbench compact|stable' "$lines" -- stable
+expect 2 'usage: dagbench compact|stable' "$lines" -- dense
 expect 2 'usage: dagbench compact|stable' "$lines" -- compact compact
 expect 1 'dagbench: out of memory' "$lines" --fail-alloc 1 -- compact
 expect 0 'cycle 5' "$lines" -- compact
+expect 0 'cycle 5' "$lines" -- stable

@@ -1,10 +1,11 @@
 #!/usr/bin/env bash
-# Each allocation of the line program refused in turn: it ends before it reads, or one command is answered `memory`.
+# Each allocation of the line program refused in turn, for both kinds of graph: it ends before it reads, or one command is
+# answered `memory`.
 set -u
 . "$(dirname "$0")/../each_allocation.sh"
 cd "$(dirname "$0")/../../crates/dagbench" || exit 1
 refuse() {
-  out=$(printf 'node 1\nnode 2\nedge 0 1 7\nedge 1 0 5\nedges 0 1 8 0 1 9\nchildren 0\n' | rt try --fail-alloc "$1" -- compact 2>&1)
+  out=$(printf 'node 1\nnode 2\nedge 0 1 7\nedge 1 0 5\nedges 0 1 8 0 1 9\nchildren 0\n' | rt try --fail-alloc "$1" -- "$kind" 2>&1)
   replies=$(printf '%s\n' "$out" | sed '/^allocations:/,$d' | paste -sd, -)
   case "$replies" in
     '' | 'dagbench: out of memory') status=1 ;;
@@ -15,7 +16,10 @@ refuse() {
   if printf '%s\n' "$out" | grep -q "ended status=$status"; then
     exit 0
   fi
-  printf 'allocation %s:\n%s\n' "$1" "$out"
+  printf '%s, allocation %s:\n%s\n' "$kind" "$1" "$out"
   exit 1
 }
-each_allocation 18
+for kind in compact stable; do
+  export kind
+  each_allocation 18 || exit 1
+done

@@ -41,18 +41,18 @@ told (Ok x) edges old new before now answer step appended = (answer, step, appen
 told (Err e) edges old new before now answer step appended = tt
 
 -- the edges were added
-pub edges_added : {A E : Type 0} (r : Result A E) (items it : List (NewEdge ℤ)) (old new : Graph ℤ ℤ) (before now : List ℕ) (indices : List ℕ) → it ≡ items → IsAdded same 4294967295 gives it old new indices
+pub edges_added : {A E : Type 0} (r : Result A E) (items : List (NewEdge ℤ)) (old new : Graph ℤ ℤ) (before now : List ℕ) (indices : List ℕ) → IsAdded same 4294967295 gives items old new indices
     → Appends r before now (edges_text indices ++ 10 ∷ []) → AnswersSeries r items old new before now
-edges_added r items it old new before now indices is added appended =
-    let all : map (by_numbers same) added.given ≡ items = numbered added.given ∙ sym (given_all added.given it added.drained) ∙ is in
+edges_added r items old new before now indices added appended =
+    let all : map (by_numbers same) added.given ≡ items = numbered added.given ∙ sym (given_all added.given items added.drained) in
     let P : List (NewEdge ℤ) → Type 0 = λ xs. IsSeriesStep old xs (Added indices) new in
     told r items old new before now (Added indices) (subst P all (added.faultless, added.accepted, added.indices, added.added)) appended
 
 -- or one is at fault
-module _ (IsCause : Graph ℤ ℤ → NewEdge ℤ → Type 0) (g : Graph ℤ ℤ) (items it : List (NewEdge ℤ)) (last : ℤ) (before : List ℤ) (is : it ≡ items) (fault : IsFirstFault same 4294967295 gives it IsCause g last before) where
+module _ (IsCause : Graph ℤ ℤ → NewEdge ℤ → Type 0) (g : Graph ℤ ℤ) (items : List (NewEdge ℤ)) (last : ℤ) (before : List ℤ) (fault : IsFirstFault same 4294967295 gives items IsCause g last before) where
   first_fault : step.IsFirstFault IsCause g items (last ∷ before)
   first_fault =
-      let all : items ≡ (fault.given ++ fault.at ∷ []) ++ fault.rest = sym is ∙ given_first (fault.given ++ fault.at ∷ []) it fault.rest fault.asked in
+      let all : items ≡ (fault.given ++ fault.at ∷ []) ++ fault.rest = given_first (fault.given ++ fault.at ∷ []) items fault.rest fault.asked in
       let P : List (NewEdge ℤ) → Type 0 = λ xs. step.IsFirstFault IsCause g items (last ∷ before) in
       record {
         before = map (by_numbers same) fault.given;
@@ -69,11 +69,11 @@ module _ (IsCause : Graph ℤ ℤ → NewEdge ℤ → Type 0) (g : Graph ℤ ℤ
   fault_told r new old_text new_text refusal step appended = told r items g new old_text new_text (HandedBack refusal (last ∷ before)) (step first_fault) appended
 
 -- or with all of them there would be a cycle
-pub cycle_told : {A E : Type 0} (r : Result A E) (items it : List (NewEdge ℤ)) (old new : Graph ℤ ℤ) (before between now : List ℕ) (weights : List ℤ) → it ≡ items → ClosesCycle same 4294967295 gives it old weights → new ≡ old
+pub cycle_told : {A E : Type 0} (r : Result A E) (items : List (NewEdge ℤ)) (old new : Graph ℤ ℤ) (before between now : List ℕ) (weights : List ℤ) → ClosesCycle same 4294967295 gives items old weights → new ≡ old
     → between ≡ before ++ codes "cycle" → Appends r between now (flat_map (λ weight. codes " " ++ signed_decimal weight) weights ++ 10 ∷ []) → AnswersSeries r items old new before now
-cycle_told (Err e) items it old new before between now weights is closes kept name appended = tt
-cycle_told (Ok x) items it old new before between now weights is closes kept name appended =
-    let all : map (by_numbers same) closes.given ≡ items = numbered closes.given ∙ sym (given_all closes.given it closes.drained) ∙ is in
+cycle_told (Err e) items old new before between now weights closes kept name appended = tt
+cycle_told (Ok x) items old new before between now weights closes kept name appended =
+    let all : map (by_numbers same) closes.given ≡ items = numbered closes.given ∙ sym (given_all closes.given items closes.drained) in
     let P : List (NewEdge ℤ) → Type 0 = λ xs. IsSeriesStep old xs (HandedBack ByCycle weights) new in
     let texts = flat_map (λ weight. codes " " ++ signed_decimal weight) weights in (
       HandedBack ByCycle weights,

@@ -6,7 +6,7 @@ use Rattle.daggy.specs.declared.index.Direction.TheVariants.{Outgoing, Incoming}
 use Rattle.daggy.specs.Graph.{Graph, empty, HasNode, node_weight, edge_at, ends_of, list_at, far_end, node_count, edge_count}
 use Rattle.daggy.specs.Path.{Reaches}
 use Rattle.daggy.specs.Adding.{next_node, next_edge, with_node, with_edge, with_neighbor}
-use Rattle.daggy.specs.Removal.{Compact, without_edge, without_node, without_all_edges}
+use Rattle.daggy.specs.Removal.{Kind, without_edge, without_node, without_all_edges}
 use Rattle.daggy.specs.Weights.{edge_weight, with_edge_weight}
 use Rattle.daggy.specs.Finding.{find_edge}
 use Rattle.daggy.specs.Series.{NewEdge, with_edges, new_edges, IsFaultless, AreAccepted, LacksEnd, LacksIndex, LacksMemory, weights_back}
@@ -97,22 +97,22 @@ ends_reply None = reply.Nothing
 ends_reply (Some ends) = reply.Ends ends.0 ends.1
 
 -- what a command may be replied over a graph, and the graph after it
-abbrev pub IsReply : Graph ℤ ℤ → Command → Reply → Graph ℤ ℤ → Type 0
-IsReply old (command.Node weight) (reply.Node n) new = (node_count old < index_count) × (n ≡ next_node old) × (new ≡ with_node old weight)
-IsReply old (command.Node weight) reply.Full new = (index_count ≤ node_count old) × (new ≡ old)
-IsReply old (command.Node weight) reply.Memory new = (node_count old < index_count) × (new ≡ old)
-IsReply old (command.Node weight) other new = ⊥
-IsReply old (command.Edge parent child weight) said new = IsEdgeStep old parent child weight said new
-IsReply old (command.Update parent child weight) said new = IsUpdateStep old (find_edge old parent child) parent child weight said new
-IsReply old (command.Child parent edge node) said new = IsNeighborStep Outgoing old parent edge node said new
-IsReply old (command.Parent child edge node) said new = IsNeighborStep Incoming old child edge node said new
-IsReply old (command.Find parent child) said new = (said ≡ found_reply (find_edge old parent child)) × (new ≡ old)
-IsReply old (command.Ends e) said new = (said ≡ ends_reply (option_map ends_of (edge_at old e))) × (new ≡ old)
-IsReply old (command.RemoveNode n) said new = IsRemovalStep old (node_weight old n) (without_node Compact old n) said new
-IsReply old (command.RemoveEdge e) said new = IsRemovalStep old (edge_weight old e) (without_edge Compact old e) said new
-IsReply old command.ClearEdges said new = (said ≡ reply.Done) × (new ≡ without_all_edges old)
-IsReply old command.Clear said new = (said ≡ reply.Done) × (new ≡ empty)
-IsReply old other said new = ⊥
+abbrev pub IsReply : Kind → Graph ℤ ℤ → Command → Reply → Graph ℤ ℤ → Type 0
+IsReply kind old (command.Node weight) (reply.Node n) new = (node_count old < index_count) × (n ≡ next_node old) × (new ≡ with_node old weight)
+IsReply kind old (command.Node weight) reply.Full new = (index_count ≤ node_count old) × (new ≡ old)
+IsReply kind old (command.Node weight) reply.Memory new = (node_count old < index_count) × (new ≡ old)
+IsReply kind old (command.Node weight) other new = ⊥
+IsReply kind old (command.Edge parent child weight) said new = IsEdgeStep old parent child weight said new
+IsReply kind old (command.Update parent child weight) said new = IsUpdateStep old (find_edge old parent child) parent child weight said new
+IsReply kind old (command.Child parent edge node) said new = IsNeighborStep Outgoing old parent edge node said new
+IsReply kind old (command.Parent child edge node) said new = IsNeighborStep Incoming old child edge node said new
+IsReply kind old (command.Find parent child) said new = (said ≡ found_reply (find_edge old parent child)) × (new ≡ old)
+IsReply kind old (command.Ends e) said new = (said ≡ ends_reply (option_map ends_of (edge_at old e))) × (new ≡ old)
+IsReply kind old (command.RemoveNode n) said new = IsRemovalStep old (node_weight old n) (without_node kind old n) said new
+IsReply kind old (command.RemoveEdge e) said new = IsRemovalStep old (edge_weight old e) (without_edge kind old e) said new
+IsReply kind old command.ClearEdges said new = (said ≡ reply.Done) × (new ≡ without_all_edges old)
+IsReply kind old command.Clear said new = (said ≡ reply.Done) × (new ≡ empty)
+IsReply kind old other said new = ⊥
 
 -- a command that is answered by one reply
 abbrev pub IsReplied : Command → Type 0
@@ -143,22 +143,22 @@ IsSeriesStep old edges (HandedBack ClosesCycle weights) new =
 IsSeriesStep old edges other new = ⊥
 
 -- what a command may be answered over a graph, and the graph after it
-abbrev pub IsStep : Graph ℤ ℤ → Command → Answer → Graph ℤ ℤ → Type 0
-IsStep old (command.Children parent) (Walked items) new = (items ≡ walk_of Outgoing old parent) × (new ≡ old)
-IsStep old (command.Parents child) (Walked items) new = (items ≡ walk_of Incoming old child) × (new ≡ old)
-IsStep old (command.Edges edges) answer new = IsSeriesStep old edges answer new
-IsStep old command (Said reply) new = IsReply old command reply new
-IsStep old command other new = ⊥
+abbrev pub IsStep : Kind → Graph ℤ ℤ → Command → Answer → Graph ℤ ℤ → Type 0
+IsStep kind old (command.Children parent) (Walked items) new = (items ≡ walk_of Outgoing old parent) × (new ≡ old)
+IsStep kind old (command.Parents child) (Walked items) new = (items ≡ walk_of Incoming old child) × (new ≡ old)
+IsStep kind old (command.Edges edges) answer new = IsSeriesStep old edges answer new
+IsStep kind old command (Said reply) new = IsReply kind old command reply new
+IsStep kind old command other new = ⊥
 
 -- what a line may be answered: if it says no command, that it is bad
-abbrev pub IsAnswer : Graph ℤ ℤ → (line text : List ℕ) → Graph ℤ ℤ → Type 0
-IsAnswer old line text new = MatchOption (command_of line)
+abbrev pub IsAnswer : Kind → Graph ℤ ℤ → (line text : List ℕ) → Graph ℤ ℤ → Type 0
+IsAnswer kind old line text new = MatchOption (command_of line)
     ((text ≡ codes "bad line") × (new ≡ old))
-    (λ command. (answer : Answer) × IsStep old command answer new × (text ≡ answer_text answer))
+    (λ command. (answer : Answer) × IsStep kind old command answer new × (text ≡ answer_text answer))
 
 -- the answers to lines, one after another, each with a newline behind it
-abbrev pub IsTranscript : Graph ℤ ℤ → List (List ℕ) → (text : List ℕ) → Graph ℤ ℤ → Type 0
-IsTranscript old [] text new = (text ≡ []) × (new ≡ old)
-IsTranscript old (line ∷ lines) text new =
-    (answer rest : List ℕ) × (mid : Graph ℤ ℤ) × IsAnswer old line answer mid
-    × (text ≡ (answer ++ newline ∷ []) ++ rest) × IsTranscript mid lines rest new
+abbrev pub IsTranscript : Kind → Graph ℤ ℤ → List (List ℕ) → (text : List ℕ) → Graph ℤ ℤ → Type 0
+IsTranscript kind old [] text new = (text ≡ []) × (new ≡ old)
+IsTranscript kind old (line ∷ lines) text new =
+    (answer rest : List ℕ) × (mid : Graph ℤ ℤ) × IsAnswer kind old line answer mid
+    × (text ≡ (answer ++ newline ∷ []) ++ rest) × IsTranscript kind mid lines rest new

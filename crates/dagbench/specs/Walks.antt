@@ -5,10 +5,11 @@ use Rattle.daggy.specs.declared.index.Direction.TheVariants.{Outgoing, Incoming}
 use Rattle.dagbench.specs.declared.walk.Walk.{Walk}
 use Rattle.dagbench.specs.declared.walk.Walk.TheVariants.{Down, Up}
 
-abbrev pub direction_of : Walk → Direction
+abbrev pub direction_of : {C P : Type 0} → Walk C P → Direction
 direction_of (Down walker) = Outgoing
 direction_of (Up walker) = Incoming
 
-abbrev pub cursor_of : Walk → ℕ
-cursor_of (Down walker) = walker
-cursor_of (Up walker) = walker
+-- the edge at which the walker stands
+abbrev pub cursor_of : {C P : Type 0} → (child_cursor : C → ℕ) → (parent_cursor : P → ℕ) → Walk C P → ℕ
+cursor_of child_cursor parent_cursor (Down walker) = child_cursor walker
+cursor_of child_cursor parent_cursor (Up walker) = parent_cursor walker

@@ -4,7 +4,7 @@ ghost use Rattle.std.specs.Option.{option_map};
 ghost use Rattle.daggy.specs.declared.index.Direction.TheVariants.{Outgoing, Incoming};
 ghost use Rattle.daggy.specs.Graph.{node_weight, edge_at, ends_of};
 ghost use Rattle.daggy.specs.Finding.{find_edge as edge_between};
-ghost use Rattle.daggy.specs.Removal.{Compact, without_edge, without_node};
+ghost use Rattle.daggy.specs.Removal.{without_edge, without_node};
 ghost use Rattle.daggy.specs.Weights.{edge_weight};
 ghost use Rattle.dagbench.specs.Streams.{CountsFaults, Appends};
 ghost use Rattle.dagbench.specs.Replies.{walk_text};
@@ -17,13 +17,11 @@ use crate::output::Output;
 use crate::parse::parse;
 use crate::reply::Reply;
 use crate::series::add_edges;
+use crate::served::Served;
 use crate::stream::{Fault, Sink};
 use crate::walk::Walk;
+use daggy::EdgeError;
 use daggy::index::{Direction, EdgeIndex, NodeIndex};
-use daggy::{Dag, EdgeError};
-
-/// The graph that is served.
-pub type Weighted = Dag<i64, i64, u32>;
 
 fn node(n: u32) -> NodeIndex<u32>
     ensures { result ≡ n }
@@ -37,8 +35,8 @@ fn edge(e: u32) -> EdgeIndex<u32>
     EdgeIndex::new(e as usize)
 }
 
-fn add_node(dag: &mut Weighted, weight: i64) -> Reply
-    ensures { IsReply dag.old.graph (Node weight) result dag.new.graph }
+fn add_node<D: Served>(dag: &mut D, weight: i64) -> Reply
+    ensures { IsReply D.kind (D.graph dag.old) (Node weight) result (D.graph dag.new) }
 {
     if !dag.can_add_node() {
         return Reply::Full;
@@ -49,8 +47,8 @@ fn add_node(dag: &mut Weighted, weight: i64) -> Reply
     }
 }
 
-fn add_edge(dag: &mut Weighted, parent: u32, child: u32, weight: i64) -> Reply
-    ensures { IsEdgeStep dag.old.graph parent child weight result dag.new.graph }
+fn add_edge<D: Served>(dag: &mut D, parent: u32, child: u32, weight: i64) -> Reply
+    ensures { IsEdgeStep (D.graph dag.old) parent child weight result (D.graph dag.new) }
 {
     let a = node(parent);
     let b = node(child);
@@ -67,8 +65,8 @@ fn add_edge(dag: &mut Weighted, parent: u32, child: u32, weight: i64) -> Reply
     }
 }
 
-fn find_edge(dag: &Weighted, parent: u32, child: u32) -> Reply
-    ensures { result ≡ found_reply (edge_between dag.now.graph parent child) }
+fn find_edge<D: Served>(dag: &D, parent: u32, child: u32) -> Reply
+    ensures { result ≡ found_reply (edge_between (D.graph dag.now) parent child) }
 {
     match dag.find_edge(node(parent), node(child)) {
         Some(e) => Reply::Edge(e.index() as u32),
@@ -76,8 +74,8 @@ fn find_edge(dag: &Weighted, parent: u32, child: u32) -> Reply
     }
 }
 
-fn ends(dag: &Weighted, e: u32) -> Reply
-    ensures { result ≡ ends_reply (option_map ends_of (edge_at dag.now.graph e)) }
+fn ends<D: Served>(dag: &D, e: u32) -> Reply
+    ensures { result ≡ ends_reply (option_map ends_of (edge_at (D.graph dag.now) e)) }
 {
     match dag.edge_endpoints(edge(e)) {
         Some((parent, child)) => Reply::Ends(parent.index() as u32, child.index() as u32),
@@ -85,8 +83,8 @@ fn ends(dag: &Weighted, e: u32) -> Reply
     }
 }
 
-fn remove_node(dag: &mut Weighted, n: u32) -> Reply
-    ensures { IsRemovalStep dag.old.graph (node_weight dag.old.graph n) (without_node Compact dag.old.graph n) result dag.new.graph }
+fn remove_node<D: Served>(dag: &mut D, n: u32) -> Reply
+    ensures { IsRemovalStep (D.graph dag.old) (node_weight (D.graph dag.old) n) (without_node D.kind (D.graph dag.old) n) result (D.graph dag.new) }
 {
     match dag.remove_node(node(n)) {
         Some(weight) => Reply::Weight(weight),
@@ -94,8 +92,8 @@ fn remove_node(dag: &mut Weighted, n: u32) -> Reply
     }
 }
 
-fn remove_edge(dag: &mut Weighted, e: u32) -> Reply
-    ensures { IsRemovalStep dag.old.graph (edge_weight dag.old.graph e) (without_edge Compact dag.old.graph e) result dag.new.graph }
+fn remove_edge<D: Served>(dag: &mut D, e: u32) -> Reply
+    ensures { IsRemovalStep (D.graph dag.old) (edge_weight (D.graph dag.old) e) (without_edge D.kind (D.graph dag.old) e) result (D.graph dag.new) }
 {
     match dag.remove_edge(edge(e)) {
         Some(weight) => Reply::Weight(weight),
@@ -103,8 +101,8 @@ fn remove_edge(dag: &mut Weighted, e: u32) -> Reply
     }
 }
 
-fn update_edge(dag: &mut Weighted, parent: u32, child: u32, weight: i64) -> Reply
-    ensures { IsUpdateStep dag.old.graph (edge_between dag.old.graph parent child) parent child weight result dag.new.graph }
+fn update_edge<D: Served>(dag: &mut D, parent: u32, child: u32, weight: i64) -> Reply
+    ensures { IsUpdateStep (D.graph dag.old) (edge_between (D.graph dag.old) parent child) parent child weight result (D.graph dag.new) }
 {
     let a = node(parent);
     let b = node(child);
@@ -118,8 +116,8 @@ fn update_edge(dag: &mut Weighted, parent: u32, child: u32, weight: i64) -> Repl
     }
 }
 
-fn add_child(dag: &mut Weighted, parent: u32, edge: i64, weight: i64) -> Reply
-    ensures { IsNeighborStep Outgoing dag.old.graph parent edge weight result dag.new.graph }
+fn add_child<D: Served>(dag: &mut D, parent: u32, edge: i64, weight: i64) -> Reply
+    ensures { IsNeighborStep Outgoing (D.graph dag.old) parent edge weight result (D.graph dag.new) }
 {
     let p = node(parent);
     if dag.node_weight(p).is_none() {
@@ -134,8 +132,8 @@ fn add_child(dag: &mut Weighted, parent: u32, edge: i64, weight: i64) -> Reply
     }
 }
 
-fn add_parent(dag: &mut Weighted, child: u32, edge: i64, weight: i64) -> Reply
-    ensures { IsNeighborStep Incoming dag.old.graph child edge weight result dag.new.graph }
+fn add_parent<D: Served>(dag: &mut D, child: u32, edge: i64, weight: i64) -> Reply
+    ensures { IsNeighborStep Incoming (D.graph dag.old) child edge weight result (D.graph dag.new) }
 {
     let c = node(child);
     if dag.node_weight(c).is_none() {
@@ -151,9 +149,9 @@ fn add_parent(dag: &mut Weighted, child: u32, edge: i64, weight: i64) -> Reply
 }
 
 /// Runs a command that is replied.
-fn perform(dag: &mut Weighted, command: Command<'_>) -> Reply
+fn perform<D: Served>(dag: &mut D, command: Command<'_>) -> Reply
     requires { IsReplied command }
-    ensures { IsReply dag.old.graph command.entry result dag.new.graph }
+    ensures { IsReply D.kind (D.graph dag.old) command.entry result (D.graph dag.new) }
 {
     match command {
         Command::Node(weight) => add_node(dag, weight),
@@ -178,15 +176,15 @@ fn perform(dag: &mut Weighted, command: Command<'_>) -> Reply
 }
 
 /// Writes the edges of a node in that direction, with their far ends.
-fn write_walk<K: Sink>(
-    dag: &Weighted,
+fn write_walk<D: Served, K: Sink>(
+    dag: &D,
     dir: Direction,
     n: u32,
     output: &mut Output,
     sink: &mut K,
 ) -> Result<(), Fault>
     ensures text { Appends result (K.taken sink.old ++ output.old) (K.taken sink.new ++ output.new)
-        (walk_text (walk_of dir dag.now.graph n) ++ 10 ∷ []) }
+        (walk_text (walk_of dir (D.graph dag.now) n) ++ 10 ∷ []) }
     ensures counted { CountsFaults result (K.failures sink.old) (K.failures sink.new) }
 {
     let _count = dag.node_count();
@@ -203,13 +201,13 @@ fn write_walk<K: Sink>(
 }
 
 /// Answers a command.
-fn answer_command<K: Sink>(
-    dag: &mut Weighted,
+fn answer_command<D: Served, K: Sink>(
+    dag: &mut D,
     command: Command<'_>,
     output: &mut Output,
     sink: &mut K,
 ) -> Result<(), Fault>
-    ensures answered { AnswersCommand result command.entry dag.old.graph dag.new.graph
+    ensures answered { AnswersCommand D.kind result command.entry (D.graph dag.old) (D.graph dag.new)
         (K.taken sink.old ++ output.old) (K.taken sink.new ++ output.new) }
     ensures counted { CountsFaults result (K.failures sink.old) (K.failures sink.new) }
 {
@@ -225,13 +223,13 @@ fn answer_command<K: Sink>(
 }
 
 /// Answers a line.
-pub fn answer<K: Sink>(
-    dag: &mut Weighted,
+pub fn answer<D: Served, K: Sink>(
+    dag: &mut D,
     line: &[u8],
     output: &mut Output,
     sink: &mut K,
 ) -> Result<(), Fault>
-    ensures answered { AnswersLine result line.now dag.old.graph dag.new.graph
+    ensures answered { AnswersLine D.kind result line.now (D.graph dag.old) (D.graph dag.new)
         (K.taken sink.old ++ output.old) (K.taken sink.new ++ output.new) }
     ensures counted { CountsFaults result (K.failures sink.old) (K.failures sink.new) }
 {

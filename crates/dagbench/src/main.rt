@@ -15,6 +15,7 @@ mod parse;
 mod reply;
 mod series;
 mod serve;
+mod served;
 mod session;
 mod stream;
 #[cfg(test)]

@@ -7,6 +7,8 @@ ghost use Rattle.dagbench.specs.Arguments.{mode_by_words};
 pub enum Mode {
     /// Removals move the last index to the gap.
     Compact,
+    /// Removals change no other index.
+    Stable,
 }
 
 /// The kind that the arguments behind the program's name ask for, None for wrong ones.
@@ -15,6 +17,7 @@ pub fn mode_of(arguments: &[String]) -> Option<Mode>
 {
     match arguments {
         [word] if word.as_str() == "compact" => Some(Mode::Compact),
+        [word] if word.as_str() == "stable" => Some(Mode::Stable),
         _ => None,
     }
 }

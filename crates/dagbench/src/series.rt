@@ -7,9 +7,9 @@ ghost use Rattle.dagbench.specs.Streams.{CountsFaults, Appends};
 ghost use Rattle.dagbench.specs.Replies.{edges_text};
 ghost use Rattle.dagbench.specs.Progress.{AnswersSeries};
 
-use crate::engine::Weighted;
 use crate::items::Items;
 use crate::output::Output;
+use crate::served::Served;
 use crate::stream::{Fault, Sink};
 use daggy::{EdgeIndices, EdgesError};
 
@@ -65,13 +65,13 @@ fn write_refusal<K: Sink>(
 }
 
 /// Adds all edges, or none, and writes the answer.
-pub fn add_edges<K: Sink>(
-    dag: &mut Weighted,
+pub fn add_edges<D: Served, K: Sink>(
+    dag: &mut D,
     items: Items<'_>,
     output: &mut Output,
     sink: &mut K,
 ) -> Result<(), Fault>
-    ensures answered { AnswersSeries result items.entry dag.old.graph dag.new.graph
+    ensures answered { AnswersSeries result items.entry (D.graph dag.old) (D.graph dag.new)
         (K.taken sink.old ++ output.old) (K.taken sink.new ++ output.new) }
     ensures counted { CountsFaults result (K.failures sink.old) (K.failures sink.new) }
 {

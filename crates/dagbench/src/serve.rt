@@ -1,12 +1,14 @@
 //! A whole run.
 ghost use Rattle.std.specs.Prelude.{◌≡◌, ◌<◌, ◌↔◌, [], true, Err, OnOk, length};
 ghost use Rattle.daggy.specs.Graph.{empty};
+ghost use Rattle.dagbench.specs.Arguments.{kind_of};
 ghost use Rattle.dagbench.specs.Cutting.{lines_of, ended_lines_of};
 ghost use Rattle.dagbench.specs.Serving.{Serves};
 ghost use Rattle.dagbench.specs.Ends.{IsRun};
 
 use crate::ending::Stop;
 use crate::mode::Mode;
+use crate::served::{CompactDag, Served, StableDag};
 use crate::session::Session;
 use crate::stream::{Sink, Source};
 use std::alloc::Global;
@@ -17,7 +19,7 @@ const BLOCK: usize = 0x1_0000;
 /// Reads lines until the end of the source, and writes the answer to each. What was answered is handed to the sink
 /// before more is read.
 ///
-/// The mode says which kind of graph is served. There is one kind so far.
+/// The mode says which kind of graph is served.
 pub fn serve<S: Source, K: Sink>(
     alloc: Global,
     mode: Mode,
@@ -25,37 +27,61 @@ pub fn serve<S: Source, K: Sink>(
     sink: &mut K,
 ) -> Result<(), Stop>
     ensures end { OnOk result (S.is_ended source.new ≡ true) }
-    ensures served { OnOk result (Serves lines_of (S.given source.old) (S.given source.new) (K.taken sink.old) (K.taken sink.new)) }
+    ensures served { OnOk result (Serves (kind_of mode) lines_of (S.given source.old) (S.given source.new) (K.taken sink.old) (K.taken sink.new)) }
 
     // A fault is told exactly where its device failed.
     ensures read { (result ≡ Err Stop.Read) ↔ (S.failures source.old < S.failures source.new) }
     ensures write { (result ≡ Err Stop.Write) ↔ (K.failures sink.old < K.failures sink.new) }
 
     // At a read fault each line whose newline came has its answer.
-    ensures replied { result ≡ Err Stop.Read → Serves ended_lines_of (S.given source.old) (S.given source.new) (K.taken sink.old) (K.taken sink.new) }
+    ensures replied { result ≡ Err Stop.Read → Serves (kind_of mode) ended_lines_of (S.given source.old) (S.given source.new) (K.taken sink.old) (K.taken sink.new) }
     ensures memory { result ≡ Err Stop.Memory → (source.new ≡ source.old) × (sink.new ≡ sink.old) }
 {
-    let _ = mode;
+    match mode {
+        Mode::Compact => serve_with(alloc, CompactDag::new(alloc), source, sink),
+        Mode::Stable => serve_with(alloc, StableDag::new(alloc), source, sink),
+    }
+}
+
+/// Serves this graph, which is empty.
+fn serve_with<D: Served, S: Source, K: Sink>(
+    alloc: Global,
+    dag: D,
+    source: &mut S,
+    sink: &mut K,
+) -> Result<(), Stop>
+    requires { D.graph dag ≡ empty }
+    ensures end { OnOk result (S.is_ended source.new ≡ true) }
+    ensures served { OnOk result (Serves D.kind lines_of (S.given source.old) (S.given source.new) (K.taken sink.old) (K.taken sink.new)) }
+
+    // A fault is told exactly where its device failed.
+    ensures read { (result ≡ Err Stop.Read) ↔ (S.failures source.old < S.failures source.new) }
+    ensures write { (result ≡ Err Stop.Write) ↔ (K.failures sink.old < K.failures sink.new) }
+
+    // At a read fault each line whose newline came has its answer.
+    ensures replied { result ≡ Err Stop.Read → Serves D.kind ended_lines_of (S.given source.old) (S.given source.new) (K.taken sink.old) (K.taken sink.new) }
+    ensures memory { result ≡ Err Stop.Memory → (source.new ≡ source.old) × (sink.new ≡ sink.old) }
+{
     let Ok(mut block) = vec![in alloc; 0u8; BLOCK] else {
         return Err(Stop::Memory);
     };
-    let Ok(session) = Session::new(alloc) else {
+    let Ok(session) = Session::new(alloc, dag) else {
         return Err(Stop::Memory);
     };
     run(session, block.as_mut_slice(), source, sink)
 }
 
 /// The run of a new session, which reads block by block.
-fn run<S: Source, K: Sink>(
-    mut session: Session,
+fn run<D: Served, S: Source, K: Sink>(
+    mut session: Session<D>,
     block: &mut [u8],
     source: &mut S,
     sink: &mut K,
 ) -> Result<(), Stop>
     requires room { 0 < length block.old }
-    requires graph { session.dag.graph ≡ empty }
+    requires graph { D.graph session.dag ≡ empty }
     requires nothing { (session.line ≡ []) × (session.output ≡ []) }
-    ensures { IsRun result (S.given source.old) (S.given source.new) (K.taken sink.old) (K.taken sink.new) (S.is_ended source.new)
+    ensures { IsRun D.kind result (S.given source.old) (S.given source.new) (K.taken sink.old) (K.taken sink.new) (S.is_ended source.new)
         (S.failures source.old) (S.failures source.new) (K.failures sink.old) (K.failures sink.new) }
 {
     'reads: loop {

@@ -12,17 +12,28 @@ use std::io::{Read, Write};
 use std::test::Fail;
 
 /// A run with devices that fail behind so many calls, and what its sink took.
-fn served(
+fn served_by(
     alloc: Global,
+    mode: Mode,
     input: &[u8],
     reads: Option<usize>,
     writes: Option<usize>,
 ) -> Result<(Result<(), Stop>, Vec<u8>), AllocError> {
     let mut source = MemorySource::new(Vec::from_slice(alloc, input)?, reads);
     let mut sink = MemorySink::new(alloc, writes);
-    let outcome = serve(alloc, Mode::Compact, &mut source, &mut sink);
+    let outcome = serve(alloc, mode, &mut source, &mut sink);
     let taken = Vec::from_slice(alloc, sink.bytes())?;
     Ok((outcome, taken))
+}
+
+/// The same of the compact kind.
+fn served(
+    alloc: Global,
+    input: &[u8],
+    reads: Option<usize>,
+    writes: Option<usize>,
+) -> Result<(Result<(), Stop>, Vec<u8>), AllocError> {
+    served_by(alloc, Mode::Compact, input, reads, writes)
 }
 
 /// A front, then a byte so many times, then a rest.
@@ -101,6 +112,33 @@ fn updates_neighbors_and_removals_are_answered(rt: HostRuntime) -> Result<(), Fa
     assert_eq!(rt; outcome, Ok(()));
     let expected =
         b"n0\ne0 n1\ne1 n2\ne0\ncycle 5\nmissing\ne0\nn2 n0\nnone\ne1:2\nnone\nweight 1\n-\nnone\nnone\nok\nok\nn0\n";
+    assert_eq!(rt; taken.as_slice(), expected.as_slice());
+    Ok(())
+}
+
+#[test]
+fn indices_outlive_removals_in_the_stable_kind_alone(rt: HostRuntime) -> Result<(), Fail> {
+    let input =
+        b"node 10\nnode 20\nnode 30\nedge 0 1 4\nedge 0 2 5\nrmnode 1\njson\nnode 40\nchildren 0\nclear\nnode 7\n";
+    let (outcome, taken) = served_by(rt.alloc(), Mode::Stable, input.as_slice(), None, None)?;
+    assert_eq!(rt; outcome, Ok(()));
+    let expected = b"n0\nn1\nn2\ne0\ne1\nweight 20\nbad line\nn1\ne1:2\nok\nn0\n";
+    assert_eq!(rt; taken.as_slice(), expected.as_slice());
+    let (outcome, taken) = served_by(rt.alloc(), Mode::Compact, input.as_slice(), None, None)?;
+    assert_eq!(rt; outcome, Ok(()));
+    let expected = b"n0\nn1\nn2\ne0\ne1\nweight 20\nbad line\nn2\ne0:1\nok\nn0\n";
+    assert_eq!(rt; taken.as_slice(), expected.as_slice());
+    Ok(())
+}
+
+#[test]
+fn a_stable_dag_is_built_and_taken_apart(rt: HostRuntime) -> Result<(), Fail> {
+    let input =
+        b"node 1\nchild 0 7 2\nparent 0 8 3\nupdate 0 1 9\nupdate 1 0 5\nedges 2 1 6 1 2 5\nedges 2 1 6\nrmedge 0\nedge 2 1 4\nrmnode 0\nends 0\nends 1\nchildren 2\nparents 1\nnode 5\nchild 0 1 1\nfind 0 3\nclearedges\nparents 1\nedge 0 1 2\n";
+    let (outcome, taken) = served_by(rt.alloc(), Mode::Stable, input.as_slice(), None, None)?;
+    assert_eq!(rt; outcome, Ok(()));
+    let expected =
+        b"n0\ne0 n1\ne1 n2\ne0\ncycle 5\ncycle 5 6\ne2\nweight 9\ne0\nweight 1\nn2 n1\nnone\ne0:1 e2:1\ne0:2 e2:2\nn0\ne1 n3\ne1\nok\n-\ne0\n";
     assert_eq!(rt; taken.as_slice(), expected.as_slice());
     Ok(())
 }
@@ -270,14 +308,14 @@ fn arguments_name_the_kind(rt: HostRuntime) -> Result<(), Fail> {
     );
     assert_eq!(rt;
         mode_of(words(rt.alloc(), ["stable"].as_slice())?.as_slice()),
-        None
+        Some(Mode::Stable)
     );
     assert_eq!(rt;
         mode_of(words(rt.alloc(), ["plan"].as_slice())?.as_slice()),
         None
     );
     assert_eq!(rt;
-        mode_of(words(rt.alloc(), ["compact", "compact"].as_slice())?.as_slice()),
+        mode_of(words(rt.alloc(), ["compact", "stable"].as_slice())?.as_slice()),
         None
     );
     assert_eq!(rt;

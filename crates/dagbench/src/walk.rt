@@ -4,25 +4,27 @@ ghost use Rattle.daggy.specs.Cursor.{first_of, IsStep};
 ghost use Rattle.daggy.specs.Graph.{list_at};
 ghost use Rattle.dagbench.specs.Walks.{direction_of, cursor_of};
 
-use crate::engine::Weighted;
+use crate::served::Served;
 use daggy::index::{Direction, NodeIndex};
-use daggy::walker::Walker;
-use daggy::{Children, Parents};
 
 /// A walker in one direction or the other.
 #[derive(Drop)]
-pub enum Walk {
+pub enum Walk<C, P> {
     /// Over children.
-    Down(Children<i64, i64, u32>),
+    Down(C),
     /// Over parents.
-    Up(Parents<i64, i64, u32>),
+    Up(P),
 }
 
-impl Walk {
+impl<C: Drop, P: Drop> Walk<C, P> {
     /// Begins at the first edge of the node's list of that direction.
-    pub fn new(dag: &Weighted, dir: Direction, n: NodeIndex<u32>) -> Walk
+    pub fn new<D: Served<Children = C, Parents = P>>(
+        dag: &D,
+        dir: Direction,
+        n: NodeIndex<u32>,
+    ) -> Self
         ensures direction { direction_of result ≡ dir }
-        ensures first { cursor_of result ≡ first_of 4294967295 (list_at dir dag.now.graph n) }
+        ensures first { cursor_of D.child_cursor D.parent_cursor result ≡ first_of 4294967295 (list_at dir (D.graph dag.now) n) }
     {
         match dir {
             Direction::Outgoing => Walk::Down(dag.children(n)),
@@ -31,13 +33,14 @@ impl Walk {
     }
 
     /// The next edge, with its far end.
-    pub fn next(&mut self, dag: &Weighted) -> Option<(u32, u32)>
+    pub fn next<D: Served<Children = C, Parents = P>>(&mut self, dag: &D) -> Option<(u32, u32)>
         ensures direction { direction_of self.new ≡ direction_of self.old }
-        ensures step { IsStep (direction_of self.old) 4294967295 dag.now.graph (cursor_of self.old) result (cursor_of self.new) }
+        ensures step { IsStep (direction_of self.old) 4294967295 (D.graph dag.now)
+            (cursor_of D.child_cursor D.parent_cursor self.old) result (cursor_of D.child_cursor D.parent_cursor self.new) }
     {
         let item = match self {
-            Walk::Down(walker) => walker.walk_next(dag),
-            Walk::Up(walker) => walker.walk_next(dag),
+            Walk::Down(walker) => dag.next_child(walker),
+            Walk::Up(walker) => dag.next_parent(walker),
         };
         let (e, n) = item?;
         Some((e.index() as u32, n.index() as u32))

@@ -6,25 +6,25 @@ use Rattle.dagbench.proofs.engine.write_walk.Goals as goal
 
 pub returns-in_default-clause-text : goal.returns-in_default-clause-text
 returns-in_default-clause-text g c =
-    nothing_told c.args.dir 4294967295 c.args.dag.now.graph c.node_count-count.ensures.dag c.args.n _ _ _ _ _
-    (c.new-walk.ensures.first ∙ ap (λ n. first_of 4294967295 (list_at c.args.dir c.args.dag.now.graph n)) c.node.ensures)
+    nothing_told c.args.dir 4294967295 (g.D.Served.graph c.args.dag.now) c.node_count-count.ensures.dag c.args.n _ _ _ _ _
+    (c.new-walk.ensures.first ∙ ap (λ n. first_of 4294967295 (list_at c.args.dir (g.D.Served.graph c.args.dag.now) n)) c.node.ensures)
     (step_along c.new-walk.ensures.direction c.in_default.ensures.step) c.put.ensures.text
 
 pub items-init : goal.items-init
 items-init g c =
-    let told = first_told c.args.dir 4294967295 c.args.dag.now.graph c.node_count-count.ensures.dag c.args.n _ _ _ _ c.in-Some.first
-    (c.new-walk.ensures.first ∙ ap (λ n. first_of 4294967295 (list_at c.args.dir c.args.dag.now.graph n)) c.node.ensures)
+    let told = first_told c.args.dir 4294967295 (g.D.Served.graph c.args.dag.now) c.node_count-count.ensures.dag c.args.n _ _ _ _ c.in-Some.first
+    (c.new-walk.ensures.first ∙ ap (λ n. first_of 4294967295 (list_at c.args.dir (g.D.Served.graph c.args.dag.now) n)) c.node.ensures)
     (step_along c.new-walk.ensures.direction c.in-Some.ensures.step) c.in_ok-put_item.ensures.text in
     record { stands = told.stands; direction = c.next.ensures.direction ∙ c.new-walk.ensures.direction; text = told.text; counted = c.in_ok-put_item.ensures.counted }
 
 pub items-smaller : goal.items-smaller
 items-smaller g c =
-    fewer_left c.args.dir 4294967295 c.args.dag.now.graph c.node_count-count.ensures.dag c.args.n _ _ _ c.items.invariant.stands
+    fewer_left c.args.dir 4294967295 (g.D.Served.graph c.args.dag.now) c.node_count-count.ensures.dag c.args.n _ _ _ c.items.invariant.stands
     (step_along c.items.invariant.direction c.in-Some-next.ensures.step)
 
 pub items-preserved : goal.items-preserved
 items-preserved g c =
-    let told = one_more_told c.args.dir 4294967295 c.args.dag.now.graph c.node_count-count.ensures.dag c.args.n _ _ _ _ _ _ c.in-Some-next.item
+    let told = one_more_told c.args.dir 4294967295 (g.D.Served.graph c.args.dag.now) c.node_count-count.ensures.dag c.args.n _ _ _ _ _ _ c.in-Some-next.item
     (record { stands = c.items.invariant.stands; text = c.items.invariant.text })
     (step_along c.items.invariant.direction c.in-Some-next.ensures.step)
     c.in_ok-put.ensures.text c.in_ok-put_item-2.ensures.text in
@@ -37,6 +37,6 @@ items-preserved g c =
 
 pub returns-clause-text : goal.returns-clause-text
 returns-clause-text g c =
-    all_told c.args.dir 4294967295 c.args.dag.now.graph c.node_count-count.ensures.dag c.args.n _ _ _ _ _ _
+    all_told c.args.dir 4294967295 (g.D.Served.graph c.args.dag.now) c.node_count-count.ensures.dag c.args.n _ _ _ _ _ _
     (record { stands = c.items.invariant.stands; text = c.items.invariant.text })
     (step_along c.items.invariant.direction c.in_default-next.ensures.step) c.put-2.ensures.text
