@@ -12,3 +12,11 @@ pub use Rattle.daggy_dag.specs.Series
 pub use Rattle.daggy_dag.specs.Extension
 pub use Rattle.daggy_dag.specs.Elements
 pub use Rattle.daggy_walk.specs.Visit
+pub use Rattle.daggy_graph.specs.Mapping
+pub use Rattle.daggy_graph.specs.Filtering
+pub use Rattle.daggy_graph.specs.Slots
+pub use Rattle.daggy_graph.specs.InPlace
+pub use Rattle.daggy_graph.specs.Rewriting
+pub use Rattle.daggy_graph.specs.Iterating
+pub use Rattle.daggy_graph.specs.Calls
+pub use Rattle.daggy_graph.specs.Raw

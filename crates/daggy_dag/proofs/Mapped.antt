@@ -7,6 +7,7 @@ use Rattle.daggy_base.specs.Path.{IsAcyclic}
 use Rattle.daggy_base.specs.WellFormed.{IsWellFormed}
 use Rattle.daggy_base.proofs.Nodes.{bound_low}
 use Rattle.daggy_graph.specs.Mapping.{MapsSlots, IsMapped, weight_in, with_weight}
+use Rattle.daggy_graph.proofs.MappingLemmas.{mapped_length}
 use Rattle.daggy_dag.proofs.Lifting.{acyclic_lifted}
 
 module _ {F I W V A B : Type 0} (step : F → I → Bor W → V → F → Type 0) (of : ℕ → I) (weight : A → W) (with : A → V → B) where
@@ -17,11 +18,6 @@ module _ {F I W V A B : Type 0} (step : F → I → Bor W → V → F → Type 0
   mapped_slot f i (None ∷ xs) new (later, is, more) (suc k) y at = mapped_slot f (i + 1) xs later more k y (ap (λ z. slot z (suc k)) (sym is) ∙ at)
   mapped_slot f i (Some x ∷ xs) new (v, next, called, later, is, more) zero y at = (x, v, refl, same_Some (with x v) y (ap (λ z. slot z zero) (sym is) ∙ at))
   mapped_slot f i (Some x ∷ xs) new (v, next, called, later, is, more) (suc k) y at = mapped_slot next (i + 1) xs later more k y (ap (λ z. slot z (suc k)) (sym is) ∙ at)
-
-  mapped_length : (f : F) (i : ℕ) (xs : List (Option A)) (new : List (Option B)) → MapsSlots step of weight with f i xs new → length new ≡ length xs
-  mapped_length f i [] new is = ap length is
-  mapped_length f i (None ∷ xs) new (later, is, more) = ap length is ∙ ap suc (mapped_length f (i + 1) xs later more)
-  mapped_length f i (Some x ∷ xs) new (v, next, called, later, is, more) = ap length is ∙ ap suc (mapped_length next (i + 1) xs later more)
 
   none_mapped : (n : ℕ) → bound_step {A = B} None n ≡ bound_step {A = A} None n
   none_mapped zero = refl
