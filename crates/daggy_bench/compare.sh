@@ -1,7 +1,7 @@
 #!/usr/bin/env bash
 # Times this library and a peer on the same workloads, in turn, five times each, and prints one table of medians.
 #   compare.sh PEER_BENCH PEER_PROGRAM
-# PEER_BENCH NAME NODES EDGES --reps 1 prints a line `.. NODES SECONDS`, and on standard error `check .. VALUE`.
+# PEER_BENCH NAME NODES EDGES [--kind stable] --reps 1 prints a line `.. NODES SECONDS`, and on standard error `check .. VALUE`.
 # PEER_PROGRAM compact reads command lines and writes replies.
 set -eu
 peer_bench=$(realpath "$1")
@@ -61,4 +61,8 @@ workload copy 100000 500000
 workload edge_list 100000 500000
 workload remove_edges 100000 500000
 workload remove_nodes 100000 500000
+workload churn 20000 60000 --kind stable
+workload walk_children 100000 500000 --kind stable
+workload remove_edges 100000 500000 --kind stable
+workload remove_nodes 100000 500000 --kind stable
 program

@@ -1,9 +1,10 @@
-//! Times one workload over the compact dag: `daggy_bench NAME NODES EDGES` prints `compact.NAME NODES SECONDS`, and a
-//! check value on standard error.
+//! Times one workload: `daggy_bench NAME NODES EDGES` prints `compact.NAME NODES SECONDS`, and a check value on standard
+//! error. With `--kind stable` behind these the workload is one of the stable dag.
 #![tactic(auto)]
 
 mod commands;
 mod random;
+mod stable;
 mod workload;
 
 use crate::commands::write_commands;
@@ -15,10 +16,16 @@ use std::{env, io};
 
 // The workload and its sizes, as the arguments name them.
 fn chosen(words: &[String]) -> Option<(Workload, Sizes)> {
-    let [name, nodes, edges] = words else {
-        return None;
+    let (workload, nodes, edges) = match words {
+        [name, nodes, edges] => (Workload::named(name.as_str())?, nodes, edges),
+        [name, nodes, edges, option, kind] => {
+            if option.as_str() != "--kind" || kind.as_str() != "stable" {
+                return None;
+            }
+            (Workload::named_stable(name.as_str())?, nodes, edges)
+        }
+        _ => return None,
     };
-    let workload = Workload::named(name.as_str())?;
     let nodes = nodes.as_str().parse::<u32>().ok()?;
     let edges = edges.as_str().parse::<u32>().ok()?;
     Some((workload, Sizes { nodes, edges }))
@@ -36,8 +43,8 @@ fn time(
     let check = finished.check();
     let name = workload.name();
     let nodes = sizes.nodes;
-    eprintln!(rt; "check compact.{name} {nodes} {check}")?;
-    println!(rt; "compact.{name} {nodes} {seconds:.6}")
+    eprintln!(rt; "check {name} {nodes} {check}")?;
+    println!(rt; "{name} {nodes} {seconds:.6}")
 }
 
 // How many command lines are asked for.
@@ -64,7 +71,7 @@ fn main(rt: HostRuntime) -> io::Result<ExitCode> {
         return Ok(ExitCode::SUCCESS);
     }
     let Some((workload, sizes)) = chosen(words.as_slice()) else {
-        eprintln!(rt; "usage: daggy_bench NAME NODES EDGES")?;
+        eprintln!(rt; "usage: daggy_bench NAME NODES EDGES [--kind stable]")?;
         return Ok(ExitCode::from(2));
     };
     time(&rt, workload, sizes)?;

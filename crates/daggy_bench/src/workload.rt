@@ -1,5 +1,6 @@
 //! The workloads.
 use crate::random::Random;
+use crate::stable::{self, Churn, Stable};
 use daggy::{Dag, EdgeIndex, NodeIndex, Walker};
 use std::alloc::{AllocError, Global};
 
@@ -25,6 +26,10 @@ pub enum Workload {
     EdgeList,
     RemoveEdges,
     RemoveNodes,
+    StableChurn,
+    StableWalkChildren,
+    StableRemoveEdges,
+    StableRemoveNodes,
 }
 
 /// A workload, with all that is made before the clock starts.
@@ -39,6 +44,10 @@ pub enum Prepared {
     EdgeList(Weighted),
     RemoveEdges(Weighted),
     RemoveNodes(Weighted),
+    StableChurn(u32, Churn),
+    StableWalkChildren(Stable),
+    StableRemoveEdges(Stable, Vec<u32>),
+    StableRemoveNodes(Stable, Vec<u32>),
 }
 
 /// What a workload ends with. The number that another program which did the same has too is made of it once the clock
@@ -47,6 +56,7 @@ pub enum Prepared {
 pub enum Finished {
     Number(u64),
     Edges(Weighted),
+    Churned(u32, u64, Churn),
 }
 
 impl Workload {
@@ -66,18 +76,33 @@ impl Workload {
         }
     }
 
+    /// The workload of that name over the stable kind.
+    pub fn named_stable(name: &str) -> Option<Workload> {
+        match name {
+            "churn" => Some(Workload::StableChurn),
+            "walk_children" => Some(Workload::StableWalkChildren),
+            "remove_edges" => Some(Workload::StableRemoveEdges),
+            "remove_nodes" => Some(Workload::StableRemoveNodes),
+            _ => None,
+        }
+    }
+
     pub fn name(self) -> &'static str {
         match self {
-            Workload::AddChildTree => "add_child_tree",
-            Workload::BuildRandom => "build_random",
-            Workload::BuildSorted => "build_sorted",
-            Workload::AddEdges => "add_edges",
-            Workload::WalkChildren => "walk_children",
-            Workload::MapWeights => "map_weights",
-            Workload::Copy => "copy",
-            Workload::EdgeList => "edge_list",
-            Workload::RemoveEdges => "remove_edges",
-            Workload::RemoveNodes => "remove_nodes",
+            Workload::AddChildTree => "compact.add_child_tree",
+            Workload::BuildRandom => "compact.build_random",
+            Workload::BuildSorted => "compact.build_sorted",
+            Workload::AddEdges => "compact.add_edges",
+            Workload::WalkChildren => "compact.walk_children",
+            Workload::MapWeights => "compact.map_weights",
+            Workload::Copy => "compact.copy",
+            Workload::EdgeList => "compact.edge_list",
+            Workload::RemoveEdges => "compact.remove_edges",
+            Workload::RemoveNodes => "compact.remove_nodes",
+            Workload::StableChurn => "stable.churn",
+            Workload::StableWalkChildren => "stable.walk_children",
+            Workload::StableRemoveEdges => "stable.remove_edges",
+            Workload::StableRemoveNodes => "stable.remove_nodes",
         }
     }
 
@@ -98,6 +123,24 @@ impl Workload {
             Workload::EdgeList => Ok(Prepared::EdgeList(sorted(alloc, sizes)?)),
             Workload::RemoveEdges => Ok(Prepared::RemoveEdges(sorted(alloc, sizes)?)),
             Workload::RemoveNodes => Ok(Prepared::RemoveNodes(sorted(alloc, sizes)?)),
+            Workload::StableChurn => {
+                let churn = Churn::new(alloc, sizes.nodes)?;
+                Ok(Prepared::StableChurn(sizes.nodes, churn))
+            }
+            Workload::StableWalkChildren => {
+                let dag = stable::sorted(alloc, sizes)?;
+                Ok(Prepared::StableWalkChildren(dag))
+            }
+            Workload::StableRemoveEdges => {
+                let order = stable::removal_order(alloc, sizes.edges)?;
+                let dag = stable::sorted(alloc, sizes)?;
+                Ok(Prepared::StableRemoveEdges(dag, order))
+            }
+            Workload::StableRemoveNodes => {
+                let order = stable::removal_order(alloc, sizes.nodes)?;
+                let dag = stable::sorted(alloc, sizes)?;
+                Ok(Prepared::StableRemoveNodes(dag, order))
+            }
         }
     }
 }
@@ -122,6 +165,21 @@ impl Prepared {
             Prepared::EdgeList(dag) => Ok(Finished::Number(edge_list(&dag))),
             Prepared::RemoveEdges(dag) => Ok(Finished::Number(remove_edges(dag))),
             Prepared::RemoveNodes(dag) => Ok(Finished::Number(remove_nodes(dag))),
+            Prepared::StableChurn(nodes, mut churn) => {
+                let walked = churn.run(nodes)?;
+                Ok(Finished::Churned(nodes, walked, churn))
+            }
+            Prepared::StableWalkChildren(dag) => {
+                Ok(Finished::Number(stable::walk_children(&dag)))
+            }
+            Prepared::StableRemoveEdges(dag, order) => Ok(Finished::Number(stable::remove_edges(
+                dag,
+                order.as_slice(),
+            ))),
+            Prepared::StableRemoveNodes(dag, order) => Ok(Finished::Number(stable::remove_nodes(
+                dag,
+                order.as_slice(),
+            ))),
         }
     }
 }
@@ -132,20 +190,21 @@ impl Finished {
         match self {
             Finished::Number(number) => *number,
             Finished::Edges(dag) => edge_sum(dag),
+            Finished::Churned(nodes, walked, churn) => churn.check(*walked, *nodes),
         }
     }
 }
 
-fn weight_of(i: usize) -> i64 {
+pub fn weight_of(i: usize) -> i64 {
     (i & 0x7fff_ffff_ffff_ffff) as i64
 }
 
-fn node(i: u32) -> NodeIndex<u32> {
+pub fn node(i: u32) -> NodeIndex<u32> {
     NodeIndex::new(i as usize)
 }
 
 // The numbers below `n`, shuffled.
-fn shuffled(alloc: Global, random: &mut Random, n: u32) -> Result<Vec<u32>, AllocError> {
+pub fn shuffled(alloc: Global, random: &mut Random, n: u32) -> Result<Vec<u32>, AllocError> {
     let mut numbers = Vec::new(alloc);
     for i in 0..n {
         numbers.push(i)?;
@@ -194,7 +253,7 @@ fn random_pairs(alloc: Global, sizes: Sizes) -> Result<Vec<(u32, u32)>, AllocErr
     Ok(pairs)
 }
 
-fn sorted_pairs(alloc: Global, sizes: Sizes) -> Result<Vec<(u32, u32)>, AllocError> {
+pub fn sorted_pairs(alloc: Global, sizes: Sizes) -> Result<Vec<(u32, u32)>, AllocError> {
     let mut pairs = ordered_pairs(alloc, &mut Random::new(1), sizes)?;
     pairs.sort()?;
     Ok(pairs)
