@@ -72,6 +72,32 @@ fn add_edge_again(
             assert_eq!(rt; refused, 8);
             assert_eq!(rt; state_of(dag), before);
             assert!(rt; dag.contains_node(root) && dag.contains_node(child) && dag.can_add_edge());
+            assert_eq!(rt; dag.add_edge(root, child, refused)?.index(), index);
+            Ok(true)
+        }
+        Err(_) => panic!(rt; "no other refusal has a cause"),
+    }
+}
+
+// Adds an edge from the root to a node that it does not lead to yet, as an update, likewise.
+fn update_edge_again(
+    rt: &impl Abort,
+    dag: &mut Plain,
+    child: NodeIndex,
+    index: usize,
+) -> Result<bool, Fail> {
+    let before = state_of(dag);
+    let root = NodeIndex::new(0);
+    assert!(rt; dag.contains_node(root) && dag.contains_node(child) && dag.can_add_edge());
+    match dag.update_edge(root, child, 8) {
+        Ok(e) => {
+            assert_eq!(rt; e.index(), index);
+            Ok(false)
+        }
+        Err(EdgeError::Memory(refused)) => {
+            assert_eq!(rt; refused, 8);
+            assert_eq!(rt; state_of(dag), before);
+            assert!(rt; dag.contains_node(root) && dag.contains_node(child) && dag.can_add_edge());
             assert_eq!(rt; dag.update_edge(root, child, refused)?.index(), index);
             Ok(true)
         }
@@ -178,6 +204,30 @@ fn a_refused_node_or_edge_comes_back(rt: HostRuntime) -> Result<(), Fail> {
             refused = true;
         }
         if add_edge_again(&rt, &mut dag, last, i + 3)? {
+            assert!(rt; !refused, "a second refusal");
+            refused = true;
+        }
+    }
+    Ok(())
+}
+
+#[test]
+fn a_refused_update_comes_back(rt: HostRuntime) -> Result<(), Fail> {
+    let (mut dag, mut refused) = gappy(&rt, rt.alloc())?;
+    assert!(rt;
+        !add_node_again(&rt, &mut dag, 2)?,
+        "a vacant slot needs no memory"
+    );
+    assert!(rt;
+        !update_edge_again(&rt, &mut dag, NodeIndex::new(2), 1)?,
+        "a vacant slot needs no memory"
+    );
+    for i in 0..6 {
+        if add_node_again(&rt, &mut dag, i + 4)? {
+            assert!(rt; !refused, "a second refusal");
+            refused = true;
+        }
+        if update_edge_again(&rt, &mut dag, NodeIndex::new(i + 4), i + 3)? {
             assert!(rt; !refused, "a second refusal");
             refused = true;
         }
