@@ -5,6 +5,7 @@ pub mod Scanning
 pub mod Changes
 pub mod Removing
 pub mod Weighing
+pub mod Pairing
 pub mod Bounds
 pub mod Filling
 pub mod Copying

@@ -2,5 +2,6 @@ pub mod Stored
 pub mod Lends
 pub mod Room
 pub mod Building
+pub mod Cells
 pub mod Slots
 pub mod Rest

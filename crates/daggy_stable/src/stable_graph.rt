@@ -13,6 +13,7 @@ mod filter;
 pub mod iterators;
 pub mod lists;
 mod map;
+mod pairs;
 mod removal;
 mod room;
 mod slots;

@@ -394,3 +394,84 @@ fn only_vacant_slots_give_nothing(rt: HostRuntime) {
     assert_eq!(rt; g.edge_weights().count(), 0);
     assert_eq!(rt; g.edge_references().count(), 0);
 }
+
+fn raised(x: &mut u32, y: &mut u32) -> u32 {
+    let before = *x;
+    *x = before.wrapping_add(100);
+    *y = y.wrapping_add(200);
+    before
+}
+
+fn raise_nodes(
+    rt: &impl Abort,
+    g: &mut StableDiGraph<u32, u32, u8>,
+    a: NodeIndex<u8>,
+    b: NodeIndex<u8>,
+) -> u32 {
+    assert!(rt; g.contains_node(a));
+    assert!(rt; g.contains_node(b));
+    assert!(rt; a.index() != b.index());
+    g.update_two_nodes(a, b, |x, y| raised(x, y))
+}
+
+fn raise_edges(
+    rt: &impl Abort,
+    g: &mut StableDiGraph<u32, u32, u8>,
+    a: EdgeIndex<u8>,
+    b: EdgeIndex<u8>,
+) -> u32 {
+    assert!(rt; g.contains_edge(a));
+    assert!(rt; g.contains_edge(b));
+    assert!(rt; a.index() != b.index());
+    g.update_two_edges(a, b, |x, y| raised(x, y))
+}
+
+#[test]
+fn two_weights_are_written_in_either_order(rt: HostRuntime) {
+    let mut g = gappy(rt.alloc(), &rt);
+    let a = NodeIndex::new(1);
+    let b = NodeIndex::new(4);
+    assert_eq!(rt; raise_nodes(&rt, &mut g, a, b), 11);
+    assert_eq!(rt;
+        (g.node_weight(a).copied(), g.node_weight(b).copied()),
+        (Some(111), Some(214))
+    );
+    assert_eq!(rt; raise_nodes(&rt, &mut g, b, a), 214);
+    assert_eq!(rt;
+        (g.node_weight(a).copied(), g.node_weight(b).copied()),
+        (Some(311), Some(314))
+    );
+    let ab = EdgeIndex::new(1);
+    let ac = EdgeIndex::new(3);
+    assert_eq!(rt; raise_edges(&rt, &mut g, ab, ac), 101);
+    assert_eq!(rt;
+        (g.edge_weight(ab).copied(), g.edge_weight(ac).copied()),
+        (Some(201), Some(303))
+    );
+    assert_eq!(rt; raise_edges(&rt, &mut g, ac, ab), 303);
+    assert_eq!(rt;
+        (g.edge_weight(ab).copied(), g.edge_weight(ac).copied()),
+        (Some(401), Some(403))
+    );
+    assert_eq!(rt; g.edge_endpoints(ab), Some((a, b)));
+    assert_eq!(rt; g.node_weight(NodeIndex::new(3)).copied(), Some(13));
+    assert_eq!(rt; (g.node_count(), g.edge_count()), (3, 2));
+    assert_eq!(rt; node(&rt, &mut g, 20).index(), 2);
+    assert_eq!(rt; edge(&rt, &mut g, a, b, 200).index(), 0);
+}
+
+#[test]
+fn a_node_and_an_edge_are_written(rt: HostRuntime) {
+    let mut g = gappy(rt.alloc(), &rt);
+    let n = NodeIndex::new(3);
+    let e = EdgeIndex::new(1);
+    assert!(rt; g.contains_node(n));
+    assert!(rt; g.contains_edge(e));
+    assert_eq!(rt; g.update_node_and_edge(n, e, |x, y| raised(x, y)), 13);
+    assert_eq!(rt;
+        (g.node_weight(n).copied(), g.edge_weight(e).copied()),
+        (Some(113), Some(301))
+    );
+    assert_eq!(rt; g.node_weight(NodeIndex::new(1)).copied(), Some(11));
+    assert_eq!(rt; g.edge_weight(EdgeIndex::new(3)).copied(), Some(103));
+}

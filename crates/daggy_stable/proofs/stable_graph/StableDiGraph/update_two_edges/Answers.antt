@@ -1,0 +1,69 @@
+use Rattle.std.proofs.Common.{IsSome, ap, subst, ◌∙◌, arith}
+use Rattle.std.specs.Prelude.{length}
+use Rattle.daggy_base.specs.Weights.{with_edge_weight}
+use Rattle.daggy_graph.proofs.PairLemmas.{called_at}
+use Rattle.daggy_graph.proofs.States.{state_changed}
+use Rattle.daggy_stable.specs.Stored.{stored_graph}
+use Rattle.daggy_stable.proofs.Stores.{stored_is, Stores-itself}
+use Rattle.daggy_stable.proofs.Pairing.{edges_updated, edge_has, edge_stands, edge_seen, edge_weighs}
+use Rattle.daggy_stable.proofs.stable_graph.StableDiGraph.update_two_edges.Goals as goal
+
+pub at_edges-requires-clause-first : goal.at_edges-requires-clause-first
+at_edges-requires-clause-first g c =
+    let nodes = c.self.inside.nodes.items in
+    let edges = c.self.inside.edges.items in
+    let lent_is = c.as_mut_slice.ensures.value in
+    omega (arith, edge_stands _ nodes edges _ _ _ _ c.self.invariant _ c.args.self.now c.self.view_is (g.Ix.IndexType.number c.args.a) c.index.result c.index.ensures.value c.requires.first, ap length lent_is)
+
+pub at_edges-requires-clause-second : goal.at_edges-requires-clause-second
+at_edges-requires-clause-second g c =
+    let nodes = c.self.inside.nodes.items in
+    let edges = c.self.inside.edges.items in
+    let lent_is = c.as_mut_slice.ensures.value in
+    omega (arith, edge_stands _ nodes edges _ _ _ _ c.self.invariant _ c.args.self.now c.self.view_is (g.Ix.IndexType.number c.args.b) c.index-2.result c.index-2.ensures.value c.requires.second, ap length lent_is)
+
+pub at_edges-requires-clause-first_held : goal.at_edges-requires-clause-first_held
+at_edges-requires-clause-first_held g c =
+    let nodes = c.self.inside.nodes.items in
+    let edges = c.self.inside.edges.items in
+    let lent_is = c.as_mut_slice.ensures.value in
+    subst (λ o. IsSome o) (edge_seen _ nodes edges _ _ _ _ c.self.invariant _ c.args.self.now c.self.view_is (g.Ix.IndexType.number c.args.a) c.index.result c.index.ensures.value _ lent_is) (edge_weighs _ nodes edges _ _ _ _ c.self.invariant _ c.args.self.now c.self.view_is (g.Ix.IndexType.number c.args.a) c.index.result c.index.ensures.value c.requires.first)
+
+pub at_edges-requires-clause-second_held : goal.at_edges-requires-clause-second_held
+at_edges-requires-clause-second_held g c =
+    let nodes = c.self.inside.nodes.items in
+    let edges = c.self.inside.edges.items in
+    let lent_is = c.as_mut_slice.ensures.value in
+    subst (λ o. IsSome o) (edge_seen _ nodes edges _ _ _ _ c.self.invariant _ c.args.self.now c.self.view_is (g.Ix.IndexType.number c.args.b) c.index-2.result c.index-2.ensures.value _ lent_is) (edge_weighs _ nodes edges _ _ _ _ c.self.invariant _ c.args.self.now c.self.view_is (g.Ix.IndexType.number c.args.b) c.index-2.result c.index-2.ensures.value c.requires.second)
+
+pub at_edges-requires-clause-callable : goal.at_edges-requires-clause-callable
+at_edges-requires-clause-callable g c =
+    let nodes = c.self.inside.nodes.items in
+    let edges = c.self.inside.edges.items in
+    let lent_is = c.as_mut_slice.ensures.value in
+    λ p q p_is q_is. c.requires.callable p q (edge_seen _ nodes edges _ _ _ _ c.self.invariant _ c.args.self.now c.self.view_is (g.Ix.IndexType.number c.args.a) c.index.result c.index.ensures.value _ lent_is ∙ p_is) (edge_seen _ nodes edges _ _ _ _ c.self.invariant _ c.args.self.now c.self.view_is (g.Ix.IndexType.number c.args.b) c.index-2.result c.index-2.ensures.value _ lent_is ∙ q_is)
+
+pub invariant_of-self : goal.invariant_of-self
+invariant_of-self g c =
+    let nodes = c.self.inside.nodes.items in
+    let edges = c.self.inside.edges.items in
+    let lent_is = c.as_mut_slice.ensures.value in
+    let r = c.at_edges.ensures in
+    let a = g.Ix.IndexType.number c.args.a in
+    let b = g.Ix.IndexType.number c.args.b in
+    Stores-itself (edges_updated c.self.invariant a b _ _ c.index.ensures.value c.index-2.ensures.value _ _ _ r.first_left.now r.second_left.now (edge_has _ nodes edges _ _ _ _ c.self.invariant _ c.args.self.now c.self.view_is (g.Ix.IndexType.number c.args.a) c.index.result c.index.ensures.value c.requires.first) (edge_has _ nodes edges _ _ _ _ c.self.invariant _ c.args.self.now c.self.view_is (g.Ix.IndexType.number c.args.b) c.index-2.result c.index-2.ensures.value c.requires.second) c.self.inside.edges.ok.0 lent_is r.leaves)
+
+pub returns : goal.returns
+returns g c =
+    let nodes = c.self.inside.nodes.items in
+    let edges = c.self.inside.edges.items in
+    let lent_is = c.as_mut_slice.ensures.value in
+    let r = c.at_edges.ensures in
+    let a = g.Ix.IndexType.number c.args.a in
+    let b = g.Ix.IndexType.number c.args.b in
+    let was = stored_graph g.Ix.IndexType.greatest nodes edges c.self.inside.first_vacant_node c.self.inside.first_vacant_edge in
+    called_at g.F.FnOnce c.args.f _ _ _ _ _ r.first r.second r.first_left r.second_left
+    (edge_seen _ nodes edges _ _ _ _ c.self.invariant _ c.args.self.now c.self.view_is (g.Ix.IndexType.number c.args.a) c.index.result c.index.ensures.value _ lent_is ∙ r.shows.0)
+    (edge_seen _ nodes edges _ _ _ _ c.self.invariant _ c.args.self.now c.self.view_is (g.Ix.IndexType.number c.args.b) c.index-2.result c.index-2.ensures.value _ lent_is ∙ r.shows.1)
+    r.called
+    (state_changed _ was _ _ (λ h. with_edge_weight (with_edge_weight h a r.first_left.now) b r.second_left.now) c.self.view_is (stored_is (edges_updated c.self.invariant a b _ _ c.index.ensures.value c.index-2.ensures.value _ _ _ r.first_left.now r.second_left.now (edge_has _ nodes edges _ _ _ _ c.self.invariant _ c.args.self.now c.self.view_is (g.Ix.IndexType.number c.args.a) c.index.result c.index.ensures.value c.requires.first) (edge_has _ nodes edges _ _ _ _ c.self.invariant _ c.args.self.now c.self.view_is (g.Ix.IndexType.number c.args.b) c.index-2.result c.index-2.ensures.value c.requires.second) c.self.inside.edges.ok.0 lent_is r.leaves)))

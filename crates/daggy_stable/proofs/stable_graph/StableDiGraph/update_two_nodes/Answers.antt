@@ -1,0 +1,69 @@
+use Rattle.std.proofs.Common.{IsSome, ap, subst, ◌∙◌, arith}
+use Rattle.std.specs.Prelude.{length}
+use Rattle.daggy_base.specs.Weights.{with_node_weight}
+use Rattle.daggy_graph.proofs.PairLemmas.{called_at}
+use Rattle.daggy_graph.proofs.States.{state_changed}
+use Rattle.daggy_stable.specs.Stored.{stored_graph}
+use Rattle.daggy_stable.proofs.Stores.{stored_is, Stores-itself}
+use Rattle.daggy_stable.proofs.Pairing.{nodes_updated, node_has, node_stands, node_seen}
+use Rattle.daggy_stable.proofs.stable_graph.StableDiGraph.update_two_nodes.Goals as goal
+
+pub at_nodes-requires-clause-first : goal.at_nodes-requires-clause-first
+at_nodes-requires-clause-first g c =
+    let nodes = c.self.inside.nodes.items in
+    let edges = c.self.inside.edges.items in
+    let lent_is = c.as_mut_slice.ensures.value in
+    omega (arith, node_stands _ nodes edges _ _ _ _ c.self.invariant _ c.args.self.now c.self.view_is (g.Ix.IndexType.number c.args.a) c.index.result c.index.ensures.value c.requires.first, ap length lent_is)
+
+pub at_nodes-requires-clause-second : goal.at_nodes-requires-clause-second
+at_nodes-requires-clause-second g c =
+    let nodes = c.self.inside.nodes.items in
+    let edges = c.self.inside.edges.items in
+    let lent_is = c.as_mut_slice.ensures.value in
+    omega (arith, node_stands _ nodes edges _ _ _ _ c.self.invariant _ c.args.self.now c.self.view_is (g.Ix.IndexType.number c.args.b) c.index-2.result c.index-2.ensures.value c.requires.second, ap length lent_is)
+
+pub at_nodes-requires-clause-first_held : goal.at_nodes-requires-clause-first_held
+at_nodes-requires-clause-first_held g c =
+    let nodes = c.self.inside.nodes.items in
+    let edges = c.self.inside.edges.items in
+    let lent_is = c.as_mut_slice.ensures.value in
+    subst (λ o. IsSome o) (node_seen _ nodes edges _ _ _ _ c.self.invariant _ c.args.self.now c.self.view_is (g.Ix.IndexType.number c.args.a) c.index.result c.index.ensures.value _ lent_is) c.requires.first
+
+pub at_nodes-requires-clause-second_held : goal.at_nodes-requires-clause-second_held
+at_nodes-requires-clause-second_held g c =
+    let nodes = c.self.inside.nodes.items in
+    let edges = c.self.inside.edges.items in
+    let lent_is = c.as_mut_slice.ensures.value in
+    subst (λ o. IsSome o) (node_seen _ nodes edges _ _ _ _ c.self.invariant _ c.args.self.now c.self.view_is (g.Ix.IndexType.number c.args.b) c.index-2.result c.index-2.ensures.value _ lent_is) c.requires.second
+
+pub at_nodes-requires-clause-callable : goal.at_nodes-requires-clause-callable
+at_nodes-requires-clause-callable g c =
+    let nodes = c.self.inside.nodes.items in
+    let edges = c.self.inside.edges.items in
+    let lent_is = c.as_mut_slice.ensures.value in
+    λ p q p_is q_is. c.requires.callable p q (node_seen _ nodes edges _ _ _ _ c.self.invariant _ c.args.self.now c.self.view_is (g.Ix.IndexType.number c.args.a) c.index.result c.index.ensures.value _ lent_is ∙ p_is) (node_seen _ nodes edges _ _ _ _ c.self.invariant _ c.args.self.now c.self.view_is (g.Ix.IndexType.number c.args.b) c.index-2.result c.index-2.ensures.value _ lent_is ∙ q_is)
+
+pub invariant_of-self : goal.invariant_of-self
+invariant_of-self g c =
+    let nodes = c.self.inside.nodes.items in
+    let edges = c.self.inside.edges.items in
+    let lent_is = c.as_mut_slice.ensures.value in
+    let r = c.at_nodes.ensures in
+    let a = g.Ix.IndexType.number c.args.a in
+    let b = g.Ix.IndexType.number c.args.b in
+    Stores-itself (nodes_updated c.self.invariant a b _ _ c.index.ensures.value c.index-2.ensures.value _ _ _ r.first_left.now r.second_left.now (node_has _ nodes edges _ _ _ _ c.self.invariant _ c.args.self.now c.self.view_is (g.Ix.IndexType.number c.args.a) c.index.result c.index.ensures.value c.requires.first) (node_has _ nodes edges _ _ _ _ c.self.invariant _ c.args.self.now c.self.view_is (g.Ix.IndexType.number c.args.b) c.index-2.result c.index-2.ensures.value c.requires.second) c.self.inside.nodes.ok.0 lent_is r.leaves)
+
+pub returns : goal.returns
+returns g c =
+    let nodes = c.self.inside.nodes.items in
+    let edges = c.self.inside.edges.items in
+    let lent_is = c.as_mut_slice.ensures.value in
+    let r = c.at_nodes.ensures in
+    let a = g.Ix.IndexType.number c.args.a in
+    let b = g.Ix.IndexType.number c.args.b in
+    let was = stored_graph g.Ix.IndexType.greatest nodes edges c.self.inside.first_vacant_node c.self.inside.first_vacant_edge in
+    called_at g.F.FnOnce c.args.f _ _ _ _ _ r.first r.second r.first_left r.second_left
+    (node_seen _ nodes edges _ _ _ _ c.self.invariant _ c.args.self.now c.self.view_is (g.Ix.IndexType.number c.args.a) c.index.result c.index.ensures.value _ lent_is ∙ r.shows.0)
+    (node_seen _ nodes edges _ _ _ _ c.self.invariant _ c.args.self.now c.self.view_is (g.Ix.IndexType.number c.args.b) c.index-2.result c.index-2.ensures.value _ lent_is ∙ r.shows.1)
+    r.called
+    (state_changed _ was _ _ (λ h. with_node_weight (with_node_weight h a r.first_left.now) b r.second_left.now) c.self.view_is (stored_is (nodes_updated c.self.invariant a b _ _ c.index.ensures.value c.index-2.ensures.value _ _ _ r.first_left.now r.second_left.now (node_has _ nodes edges _ _ _ _ c.self.invariant _ c.args.self.now c.self.view_is (g.Ix.IndexType.number c.args.a) c.index.result c.index.ensures.value c.requires.first) (node_has _ nodes edges _ _ _ _ c.self.invariant _ c.args.self.now c.self.view_is (g.Ix.IndexType.number c.args.b) c.index-2.result c.index-2.ensures.value c.requires.second) c.self.inside.nodes.ok.0 lent_is r.leaves)))
