@@ -27,6 +27,7 @@ mod convert;
 mod copies;
 mod iterators;
 mod map;
+mod pairs;
 mod series;
 mod visit;
 mod walkers;
