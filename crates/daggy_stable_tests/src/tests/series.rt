@@ -32,6 +32,7 @@ fn a_series_gives_its_indices_in_order(rt: HostRuntime) -> Result<(), Fail> {
     assert_eq!(rt; dag.find_edge(root, a), Some(EdgeIndex::new(0)));
     assert_eq!(rt; dag.find_edge(root, b), Some(EdgeIndex::new(1)));
     assert_eq!(rt; dag.find_edge(root, c), Some(EdgeIndex::new(2)));
+    assert!(rt; add_edge(&rt, &mut dag, c, root, 0).is_err());
     Ok(())
 }
 
