@@ -146,7 +146,7 @@ fn at_slots<V, W, R, F: FnOnce(&mut V, &mut W) -> R>(
     f(v, w)
 }
 
-// Calls f with what two slots hold.
+// The same where both slots are of one type: a closure over one type is not taken for a bound over two.
 #[inline]
 fn at_pair<W, R, F: FnOnce(&mut W, &mut W) -> R>(x: &mut Option<W>, y: &mut Option<W>, f: F) -> R
     requires first { IsSome x.old }

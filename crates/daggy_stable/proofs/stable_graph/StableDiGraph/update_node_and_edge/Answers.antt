@@ -33,7 +33,9 @@ at_slots-requires-clause-callable g c =
     let edges = c.self.inside.edges.items in
     let x = c.index_mut-x in
     let y = c.index_mut-y in
-    λ p q p_is q_is. c.requires.callable p q (node_cell _ nodes edges _ _ _ _ c.self.invariant _ c.args.self.now c.self.view_is (g.Ix.IndexType.number c.args.n) c.index.result c.index.ensures.value x.result.now c.requires.node x.ensures.value ∙ p_is) (edge_cell _ nodes edges _ _ _ _ c.self.invariant _ c.args.self.now c.self.view_is (g.Ix.IndexType.number c.args.e) c.index-2.result c.index-2.ensures.value y.result.now c.requires.edge y.ensures.value ∙ q_is)
+    let node_seen = node_cell _ nodes edges _ _ _ _ c.self.invariant _ c.args.self.now c.self.view_is (g.Ix.IndexType.number c.args.n) c.index.result c.index.ensures.value x.result.now c.requires.node x.ensures.value in
+    let edge_seen = edge_cell _ nodes edges _ _ _ _ c.self.invariant _ c.args.self.now c.self.view_is (g.Ix.IndexType.number c.args.e) c.index-2.result c.index-2.ensures.value y.result.now c.requires.edge y.ensures.value in
+    λ p q p_is q_is. c.requires.callable p q (node_seen ∙ p_is) (edge_seen ∙ q_is)
 
 pub invariant_of-self : goal.invariant_of-self
 invariant_of-self g c =
@@ -44,7 +46,12 @@ invariant_of-self g c =
     let r = c.at_slots.ensures in
     let n = g.Ix.IndexType.number c.args.n in
     let e = g.Ix.IndexType.number c.args.e in
-    Stores-itself (both_updated c.self.invariant n e _ _ c.index.ensures.value c.index-2.ensures.value x.result.now y.result.now _ _ r.first_left.now r.second_left.now (node_has _ nodes edges _ _ _ _ c.self.invariant _ c.args.self.now c.self.view_is (g.Ix.IndexType.number c.args.n) c.index.result c.index.ensures.value c.requires.node) (edge_has _ nodes edges _ _ _ _ c.self.invariant _ c.args.self.now c.self.view_is (g.Ix.IndexType.number c.args.e) c.index-2.result c.index-2.ensures.value c.requires.edge) x.ensures.value y.ensures.value (ap (λ z. z.0) r.leaves) (ap (λ z. z.1) r.leaves))
+    let node = node_has _ nodes edges _ _ _ _ c.self.invariant _ c.args.self.now c.self.view_is (g.Ix.IndexType.number c.args.n) c.index.result c.index.ensures.value c.requires.node in
+    let edge = edge_has _ nodes edges _ _ _ _ c.self.invariant _ c.args.self.now c.self.view_is (g.Ix.IndexType.number c.args.e) c.index-2.result c.index-2.ensures.value c.requires.edge in
+    let left = ap (λ z. z.0) r.leaves in
+    let right = ap (λ z. z.1) r.leaves in
+    let stored = both_updated c.self.invariant n e _ _ c.index.ensures.value c.index-2.ensures.value x.result.now y.result.now _ _ r.first_left.now r.second_left.now node edge x.ensures.value y.ensures.value left right in
+    Stores-itself stored
 
 pub returns : goal.returns
 returns g c =
@@ -55,9 +62,14 @@ returns g c =
     let r = c.at_slots.ensures in
     let n = g.Ix.IndexType.number c.args.n in
     let e = g.Ix.IndexType.number c.args.e in
+    let node = node_has _ nodes edges _ _ _ _ c.self.invariant _ c.args.self.now c.self.view_is (g.Ix.IndexType.number c.args.n) c.index.result c.index.ensures.value c.requires.node in
+    let edge = edge_has _ nodes edges _ _ _ _ c.self.invariant _ c.args.self.now c.self.view_is (g.Ix.IndexType.number c.args.e) c.index-2.result c.index-2.ensures.value c.requires.edge in
+    let left = ap (λ z. z.0) r.leaves in
+    let right = ap (λ z. z.1) r.leaves in
+    let stored = both_updated c.self.invariant n e _ _ c.index.ensures.value c.index-2.ensures.value x.result.now y.result.now _ _ r.first_left.now r.second_left.now node edge x.ensures.value y.ensures.value left right in
     let was = stored_graph g.Ix.IndexType.greatest nodes edges c.self.inside.first_vacant_node c.self.inside.first_vacant_edge in
     called_at g.F.FnOnce c.args.f _ _ _ _ _ r.first r.second r.first_left r.second_left
     (node_cell _ nodes edges _ _ _ _ c.self.invariant _ c.args.self.now c.self.view_is (g.Ix.IndexType.number c.args.n) c.index.result c.index.ensures.value x.result.now c.requires.node x.ensures.value ∙ r.shows.0)
     (edge_cell _ nodes edges _ _ _ _ c.self.invariant _ c.args.self.now c.self.view_is (g.Ix.IndexType.number c.args.e) c.index-2.result c.index-2.ensures.value y.result.now c.requires.edge y.ensures.value ∙ r.shows.1)
     r.called
-    (state_changed _ was _ _ (λ h. with_edge_weight (with_node_weight h n r.first_left.now) e r.second_left.now) c.self.view_is (stored_is (both_updated c.self.invariant n e _ _ c.index.ensures.value c.index-2.ensures.value x.result.now y.result.now _ _ r.first_left.now r.second_left.now (node_has _ nodes edges _ _ _ _ c.self.invariant _ c.args.self.now c.self.view_is (g.Ix.IndexType.number c.args.n) c.index.result c.index.ensures.value c.requires.node) (edge_has _ nodes edges _ _ _ _ c.self.invariant _ c.args.self.now c.self.view_is (g.Ix.IndexType.number c.args.e) c.index-2.result c.index-2.ensures.value c.requires.edge) x.ensures.value y.ensures.value (ap (λ z. z.0) r.leaves) (ap (λ z. z.1) r.leaves))))
+    (state_changed _ was _ _ (λ h. with_edge_weight (with_node_weight h n r.first_left.now) e r.second_left.now) c.self.view_is (stored_is stored))

@@ -41,7 +41,9 @@ at_edges-requires-clause-callable g c =
     let nodes = c.self.inside.nodes.items in
     let edges = c.self.inside.edges.items in
     let lent_is = c.as_mut_slice.ensures.value in
-    λ p q p_is q_is. c.requires.callable p q (edge_seen _ nodes edges _ _ _ _ c.self.invariant _ c.args.self.now c.self.view_is (g.Ix.IndexType.number c.args.a) c.index.result c.index.ensures.value _ lent_is ∙ p_is) (edge_seen _ nodes edges _ _ _ _ c.self.invariant _ c.args.self.now c.self.view_is (g.Ix.IndexType.number c.args.b) c.index-2.result c.index-2.ensures.value _ lent_is ∙ q_is)
+    let first_seen = edge_seen _ nodes edges _ _ _ _ c.self.invariant _ c.args.self.now c.self.view_is (g.Ix.IndexType.number c.args.a) c.index.result c.index.ensures.value _ lent_is in
+    let second_seen = edge_seen _ nodes edges _ _ _ _ c.self.invariant _ c.args.self.now c.self.view_is (g.Ix.IndexType.number c.args.b) c.index-2.result c.index-2.ensures.value _ lent_is in
+    λ p q p_is q_is. c.requires.callable p q (first_seen ∙ p_is) (second_seen ∙ q_is)
 
 pub invariant_of-self : goal.invariant_of-self
 invariant_of-self g c =
@@ -51,7 +53,10 @@ invariant_of-self g c =
     let r = c.at_edges.ensures in
     let a = g.Ix.IndexType.number c.args.a in
     let b = g.Ix.IndexType.number c.args.b in
-    Stores-itself (edges_updated c.self.invariant a b _ _ c.index.ensures.value c.index-2.ensures.value _ _ _ r.first_left.now r.second_left.now (edge_has _ nodes edges _ _ _ _ c.self.invariant _ c.args.self.now c.self.view_is (g.Ix.IndexType.number c.args.a) c.index.result c.index.ensures.value c.requires.first) (edge_has _ nodes edges _ _ _ _ c.self.invariant _ c.args.self.now c.self.view_is (g.Ix.IndexType.number c.args.b) c.index-2.result c.index-2.ensures.value c.requires.second) c.self.inside.edges.ok.0 lent_is r.leaves)
+    let first = edge_has _ nodes edges _ _ _ _ c.self.invariant _ c.args.self.now c.self.view_is (g.Ix.IndexType.number c.args.a) c.index.result c.index.ensures.value c.requires.first in
+    let second = edge_has _ nodes edges _ _ _ _ c.self.invariant _ c.args.self.now c.self.view_is (g.Ix.IndexType.number c.args.b) c.index-2.result c.index-2.ensures.value c.requires.second in
+    let stored = edges_updated c.self.invariant a b _ _ c.index.ensures.value c.index-2.ensures.value _ _ _ r.first_left.now r.second_left.now first second c.self.inside.edges.ok.0 lent_is r.leaves in
+    Stores-itself stored
 
 pub returns : goal.returns
 returns g c =
@@ -61,9 +66,12 @@ returns g c =
     let r = c.at_edges.ensures in
     let a = g.Ix.IndexType.number c.args.a in
     let b = g.Ix.IndexType.number c.args.b in
+    let first = edge_has _ nodes edges _ _ _ _ c.self.invariant _ c.args.self.now c.self.view_is (g.Ix.IndexType.number c.args.a) c.index.result c.index.ensures.value c.requires.first in
+    let second = edge_has _ nodes edges _ _ _ _ c.self.invariant _ c.args.self.now c.self.view_is (g.Ix.IndexType.number c.args.b) c.index-2.result c.index-2.ensures.value c.requires.second in
+    let stored = edges_updated c.self.invariant a b _ _ c.index.ensures.value c.index-2.ensures.value _ _ _ r.first_left.now r.second_left.now first second c.self.inside.edges.ok.0 lent_is r.leaves in
     let was = stored_graph g.Ix.IndexType.greatest nodes edges c.self.inside.first_vacant_node c.self.inside.first_vacant_edge in
     called_at g.F.FnOnce c.args.f _ _ _ _ _ r.first r.second r.first_left r.second_left
     (edge_seen _ nodes edges _ _ _ _ c.self.invariant _ c.args.self.now c.self.view_is (g.Ix.IndexType.number c.args.a) c.index.result c.index.ensures.value _ lent_is ∙ r.shows.0)
     (edge_seen _ nodes edges _ _ _ _ c.self.invariant _ c.args.self.now c.self.view_is (g.Ix.IndexType.number c.args.b) c.index-2.result c.index-2.ensures.value _ lent_is ∙ r.shows.1)
     r.called
-    (state_changed _ was _ _ (λ h. with_edge_weight (with_edge_weight h a r.first_left.now) b r.second_left.now) c.self.view_is (stored_is (edges_updated c.self.invariant a b _ _ c.index.ensures.value c.index-2.ensures.value _ _ _ r.first_left.now r.second_left.now (edge_has _ nodes edges _ _ _ _ c.self.invariant _ c.args.self.now c.self.view_is (g.Ix.IndexType.number c.args.a) c.index.result c.index.ensures.value c.requires.first) (edge_has _ nodes edges _ _ _ _ c.self.invariant _ c.args.self.now c.self.view_is (g.Ix.IndexType.number c.args.b) c.index-2.result c.index-2.ensures.value c.requires.second) c.self.inside.edges.ok.0 lent_is r.leaves)))
+    (state_changed _ was _ _ (λ h. with_edge_weight (with_edge_weight h a r.first_left.now) b r.second_left.now) c.self.view_is (stored_is stored))

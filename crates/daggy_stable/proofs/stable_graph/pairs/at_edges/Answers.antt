@@ -8,17 +8,17 @@ pub at_pair-requires-clause-first : goal.at_pair-requires-clause-first
 at_pair-requires-clause-first g c =
     let cut = c.split_at_mut-front in
     let x = c.index-front-a in
-    let y = c.index-back-0 in
     let old = c.args.edges.now in
-    rw (← x.is) (subst (λ o. IsSome o) (front_shows (λ z. z.weight) old cut.result.0.now cut.result.1.now cut.ensures.value (edge_weight_in old) (edge_weight_read old) c.args.a x.result c.requires.first (omega (arith, cut.ensures.front_len, c.if-a-b.true)) x.is) c.requires.first_held)
+    rw (← x.is)
+    (subst (λ o. IsSome o) (front_shows (λ z. z.weight) old cut.result.0.now cut.result.1.now cut.ensures.value (edge_weight_in old) (edge_weight_read old) c.args.a x.result c.requires.first (omega (arith, cut.ensures.front_len, c.if-a-b.true)) x.is) c.requires.first_held)
 
 pub at_pair-requires-clause-second : goal.at_pair-requires-clause-second
 at_pair-requires-clause-second g c =
     let cut = c.split_at_mut-front in
-    let x = c.index-front-a in
     let y = c.index-back-0 in
     let old = c.args.edges.now in
-    rw (← y.is) (subst (λ o. IsSome o) (back_shows (λ z. z.weight) old cut.result.0.now cut.result.1.now cut.ensures.value (edge_weight_in old) (edge_weight_read old) c.args.b y.result c.requires.second cut.ensures.front_len y.is) c.requires.second_held)
+    rw (← y.is)
+    (subst (λ o. IsSome o) (back_shows (λ z. z.weight) old cut.result.0.now cut.result.1.now cut.ensures.value (edge_weight_in old) (edge_weight_read old) c.args.b y.result c.requires.second cut.ensures.front_len y.is) c.requires.second_held)
 
 pub at_pair-requires-clause-callable : goal.at_pair-requires-clause-callable
 at_pair-requires-clause-callable g c =
@@ -26,7 +26,9 @@ at_pair-requires-clause-callable g c =
     let x = c.index-front-a in
     let y = c.index-back-0 in
     let old = c.args.edges.now in
-    rw (← x.is, ← y.is) (λ p q p_is q_is. c.requires.callable p q (front_shows (λ z. z.weight) old cut.result.0.now cut.result.1.now cut.ensures.value (edge_weight_in old) (edge_weight_read old) c.args.a x.result c.requires.first (omega (arith, cut.ensures.front_len, c.if-a-b.true)) x.is ∙ p_is) (back_shows (λ z. z.weight) old cut.result.0.now cut.result.1.now cut.ensures.value (edge_weight_in old) (edge_weight_read old) c.args.b y.result c.requires.second cut.ensures.front_len y.is ∙ q_is))
+    let first = front_shows (λ z. z.weight) old cut.result.0.now cut.result.1.now cut.ensures.value (edge_weight_in old) (edge_weight_read old) c.args.a x.result c.requires.first (omega (arith, cut.ensures.front_len, c.if-a-b.true)) x.is in
+    let second = back_shows (λ z. z.weight) old cut.result.0.now cut.result.1.now cut.ensures.value (edge_weight_in old) (edge_weight_read old) c.args.b y.result c.requires.second cut.ensures.front_len y.is in
+    rw (← x.is, ← y.is) (λ p q p_is q_is. c.requires.callable p q (first ∙ p_is) (second ∙ q_is))
 
 pub returns-then-a-b : goal.returns-then-a-b
 returns-then-a-b g c =
@@ -42,17 +44,17 @@ pub at_pair-requires-else-a-b-clause-first : goal.at_pair-requires-else-a-b-clau
 at_pair-requires-else-a-b-clause-first g c =
     let cut = c.split_at_mut-front-else-a-b in
     let x = c.index-back-0-else-a-b in
-    let y = c.index-front-b in
     let old = c.args.edges.now in
-    rw (← x.is) (subst (λ o. IsSome o) (back_shows (λ z. z.weight) old cut.result.0.now cut.result.1.now cut.ensures.value (edge_weight_in old) (edge_weight_read old) c.args.a x.result c.requires.first cut.ensures.front_len x.is) c.requires.first_held)
+    rw (← x.is)
+    (subst (λ o. IsSome o) (back_shows (λ z. z.weight) old cut.result.0.now cut.result.1.now cut.ensures.value (edge_weight_in old) (edge_weight_read old) c.args.a x.result c.requires.first cut.ensures.front_len x.is) c.requires.first_held)
 
 pub at_pair-requires-else-a-b-clause-second : goal.at_pair-requires-else-a-b-clause-second
 at_pair-requires-else-a-b-clause-second g c =
     let cut = c.split_at_mut-front-else-a-b in
-    let x = c.index-back-0-else-a-b in
     let y = c.index-front-b in
     let old = c.args.edges.now in
-    rw (← y.is) (subst (λ o. IsSome o) (front_shows (λ z. z.weight) old cut.result.0.now cut.result.1.now cut.ensures.value (edge_weight_in old) (edge_weight_read old) c.args.b y.result c.requires.second (omega (arith, cut.ensures.front_len, c.if-a-b.false, c.requires.different)) y.is) c.requires.second_held)
+    rw (← y.is)
+    (subst (λ o. IsSome o) (front_shows (λ z. z.weight) old cut.result.0.now cut.result.1.now cut.ensures.value (edge_weight_in old) (edge_weight_read old) c.args.b y.result c.requires.second (omega (arith, cut.ensures.front_len, c.if-a-b.false, c.requires.different)) y.is) c.requires.second_held)
 
 pub at_pair-requires-else-a-b-clause-callable : goal.at_pair-requires-else-a-b-clause-callable
 at_pair-requires-else-a-b-clause-callable g c =
@@ -60,7 +62,9 @@ at_pair-requires-else-a-b-clause-callable g c =
     let x = c.index-back-0-else-a-b in
     let y = c.index-front-b in
     let old = c.args.edges.now in
-    rw (← x.is, ← y.is) (λ p q p_is q_is. c.requires.callable p q (back_shows (λ z. z.weight) old cut.result.0.now cut.result.1.now cut.ensures.value (edge_weight_in old) (edge_weight_read old) c.args.a x.result c.requires.first cut.ensures.front_len x.is ∙ p_is) (front_shows (λ z. z.weight) old cut.result.0.now cut.result.1.now cut.ensures.value (edge_weight_in old) (edge_weight_read old) c.args.b y.result c.requires.second (omega (arith, cut.ensures.front_len, c.if-a-b.false, c.requires.different)) y.is ∙ q_is))
+    let first = back_shows (λ z. z.weight) old cut.result.0.now cut.result.1.now cut.ensures.value (edge_weight_in old) (edge_weight_read old) c.args.a x.result c.requires.first cut.ensures.front_len x.is in
+    let second = front_shows (λ z. z.weight) old cut.result.0.now cut.result.1.now cut.ensures.value (edge_weight_in old) (edge_weight_read old) c.args.b y.result c.requires.second (omega (arith, cut.ensures.front_len, c.if-a-b.false, c.requires.different)) y.is in
+    rw (← x.is, ← y.is) (λ p q p_is q_is. c.requires.callable p q (first ∙ p_is) (second ∙ q_is))
 
 pub returns-else-a-b : goal.returns-else-a-b
 returns-else-a-b g c =

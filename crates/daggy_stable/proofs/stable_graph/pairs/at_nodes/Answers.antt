@@ -10,17 +10,17 @@ pub at_pair-requires-clause-first : goal.at_pair-requires-clause-first
 at_pair-requires-clause-first g c =
     let cut = c.split_at_mut-front in
     let x = c.index-front-a in
-    let y = c.index-back-0 in
     let old = c.args.nodes.now in
-    rw (← x.is) (subst (λ o. IsSome o) (front_shows weight_of old cut.result.0.now cut.result.1.now cut.ensures.value (node_weight_in old) (slot_read weight_of old) c.args.a x.result c.requires.first (omega (arith, cut.ensures.front_len, c.if-a-b.true)) x.is) c.requires.first_held)
+    rw (← x.is)
+    (subst (λ o. IsSome o) (front_shows weight_of old cut.result.0.now cut.result.1.now cut.ensures.value (node_weight_in old) (slot_read weight_of old) c.args.a x.result c.requires.first (omega (arith, cut.ensures.front_len, c.if-a-b.true)) x.is) c.requires.first_held)
 
 pub at_pair-requires-clause-second : goal.at_pair-requires-clause-second
 at_pair-requires-clause-second g c =
     let cut = c.split_at_mut-front in
-    let x = c.index-front-a in
     let y = c.index-back-0 in
     let old = c.args.nodes.now in
-    rw (← y.is) (subst (λ o. IsSome o) (back_shows weight_of old cut.result.0.now cut.result.1.now cut.ensures.value (node_weight_in old) (slot_read weight_of old) c.args.b y.result c.requires.second cut.ensures.front_len y.is) c.requires.second_held)
+    rw (← y.is)
+    (subst (λ o. IsSome o) (back_shows weight_of old cut.result.0.now cut.result.1.now cut.ensures.value (node_weight_in old) (slot_read weight_of old) c.args.b y.result c.requires.second cut.ensures.front_len y.is) c.requires.second_held)
 
 pub at_pair-requires-clause-callable : goal.at_pair-requires-clause-callable
 at_pair-requires-clause-callable g c =
@@ -28,7 +28,9 @@ at_pair-requires-clause-callable g c =
     let x = c.index-front-a in
     let y = c.index-back-0 in
     let old = c.args.nodes.now in
-    rw (← x.is, ← y.is) (λ p q p_is q_is. c.requires.callable p q (front_shows weight_of old cut.result.0.now cut.result.1.now cut.ensures.value (node_weight_in old) (slot_read weight_of old) c.args.a x.result c.requires.first (omega (arith, cut.ensures.front_len, c.if-a-b.true)) x.is ∙ p_is) (back_shows weight_of old cut.result.0.now cut.result.1.now cut.ensures.value (node_weight_in old) (slot_read weight_of old) c.args.b y.result c.requires.second cut.ensures.front_len y.is ∙ q_is))
+    let first = front_shows weight_of old cut.result.0.now cut.result.1.now cut.ensures.value (node_weight_in old) (slot_read weight_of old) c.args.a x.result c.requires.first (omega (arith, cut.ensures.front_len, c.if-a-b.true)) x.is in
+    let second = back_shows weight_of old cut.result.0.now cut.result.1.now cut.ensures.value (node_weight_in old) (slot_read weight_of old) c.args.b y.result c.requires.second cut.ensures.front_len y.is in
+    rw (← x.is, ← y.is) (λ p q p_is q_is. c.requires.callable p q (first ∙ p_is) (second ∙ q_is))
 
 pub returns-then-a-b : goal.returns-then-a-b
 returns-then-a-b g c =
@@ -44,17 +46,17 @@ pub at_pair-requires-else-a-b-clause-first : goal.at_pair-requires-else-a-b-clau
 at_pair-requires-else-a-b-clause-first g c =
     let cut = c.split_at_mut-front-else-a-b in
     let x = c.index-back-0-else-a-b in
-    let y = c.index-front-b in
     let old = c.args.nodes.now in
-    rw (← x.is) (subst (λ o. IsSome o) (back_shows weight_of old cut.result.0.now cut.result.1.now cut.ensures.value (node_weight_in old) (slot_read weight_of old) c.args.a x.result c.requires.first cut.ensures.front_len x.is) c.requires.first_held)
+    rw (← x.is)
+    (subst (λ o. IsSome o) (back_shows weight_of old cut.result.0.now cut.result.1.now cut.ensures.value (node_weight_in old) (slot_read weight_of old) c.args.a x.result c.requires.first cut.ensures.front_len x.is) c.requires.first_held)
 
 pub at_pair-requires-else-a-b-clause-second : goal.at_pair-requires-else-a-b-clause-second
 at_pair-requires-else-a-b-clause-second g c =
     let cut = c.split_at_mut-front-else-a-b in
-    let x = c.index-back-0-else-a-b in
     let y = c.index-front-b in
     let old = c.args.nodes.now in
-    rw (← y.is) (subst (λ o. IsSome o) (front_shows weight_of old cut.result.0.now cut.result.1.now cut.ensures.value (node_weight_in old) (slot_read weight_of old) c.args.b y.result c.requires.second (omega (arith, cut.ensures.front_len, c.if-a-b.false, c.requires.different)) y.is) c.requires.second_held)
+    rw (← y.is)
+    (subst (λ o. IsSome o) (front_shows weight_of old cut.result.0.now cut.result.1.now cut.ensures.value (node_weight_in old) (slot_read weight_of old) c.args.b y.result c.requires.second (omega (arith, cut.ensures.front_len, c.if-a-b.false, c.requires.different)) y.is) c.requires.second_held)
 
 pub at_pair-requires-else-a-b-clause-callable : goal.at_pair-requires-else-a-b-clause-callable
 at_pair-requires-else-a-b-clause-callable g c =
@@ -62,7 +64,9 @@ at_pair-requires-else-a-b-clause-callable g c =
     let x = c.index-back-0-else-a-b in
     let y = c.index-front-b in
     let old = c.args.nodes.now in
-    rw (← x.is, ← y.is) (λ p q p_is q_is. c.requires.callable p q (back_shows weight_of old cut.result.0.now cut.result.1.now cut.ensures.value (node_weight_in old) (slot_read weight_of old) c.args.a x.result c.requires.first cut.ensures.front_len x.is ∙ p_is) (front_shows weight_of old cut.result.0.now cut.result.1.now cut.ensures.value (node_weight_in old) (slot_read weight_of old) c.args.b y.result c.requires.second (omega (arith, cut.ensures.front_len, c.if-a-b.false, c.requires.different)) y.is ∙ q_is))
+    let first = back_shows weight_of old cut.result.0.now cut.result.1.now cut.ensures.value (node_weight_in old) (slot_read weight_of old) c.args.a x.result c.requires.first cut.ensures.front_len x.is in
+    let second = front_shows weight_of old cut.result.0.now cut.result.1.now cut.ensures.value (node_weight_in old) (slot_read weight_of old) c.args.b y.result c.requires.second (omega (arith, cut.ensures.front_len, c.if-a-b.false, c.requires.different)) y.is in
+    rw (← x.is, ← y.is) (λ p q p_is q_is. c.requires.callable p q (first ∙ p_is) (second ∙ q_is))
 
 pub returns-else-a-b : goal.returns-else-a-b
 returns-else-a-b g c =
