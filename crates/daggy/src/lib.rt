@@ -12,8 +12,10 @@
 //! assert!(rt; dag.children(sow).walk_next(&dag) == Some((days, reap)));
 //! ```
 //!
-//! [`graph`] is the store below, which may hold cycles, [`search`] finds paths in any graph that can be looked at, and
-//! [`visit`] is what generic code may ask of a graph.
+//! In a `Dag` a removal moves the last index to the gap. The dag of [`stable_dag`] keeps what stays under its index.
+//!
+//! [`graph`] and [`stable_graph`] are the stores below, which may hold cycles, [`search`] finds paths in any graph that can be
+//! looked at, and [`visit`] is what generic code may ask of a graph.
 #![tactic(auto)]
 
 pub use daggy_base::error::{
