@@ -6,3 +6,4 @@ mod slots;
 mod support;
 mod visiting;
 mod walking;
+mod writing;
