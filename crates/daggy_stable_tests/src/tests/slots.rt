@@ -1,4 +1,6 @@
-use super::support::{Plain, add_child, add_edge, add_node, children_of, n, triangle, with_nodes};
+use super::support::{
+    Plain, add_child, add_edge, add_node, children_of, n, triangle, update_edge, with_nodes,
+};
 use daggy::stable_dag::StableDag;
 use daggy::visit::NodeIndexable;
 use daggy::{EdgeError, EdgeIndex};
@@ -138,14 +140,11 @@ fn an_update_writes_or_adds_or_refuses(rt: HostRuntime) -> Result<(), Fail> {
     let mut dag = triangle(&rt, rt.alloc())?;
     let (a, b, c) = (n(&rt, 0), n(&rt, 1), n(&rt, 2));
     assert_eq!(rt; dag.remove_edge(EdgeIndex::new(1)), Some(101));
-    assert!(rt; dag.contains_node(a) && dag.contains_node(b) && dag.contains_node(c));
-    assert!(rt; dag.can_add_edge());
-    assert_eq!(rt; dag.update_edge(a, c, 7)?.index(), 2);
+    assert_eq!(rt; update_edge(&rt, &mut dag, a, c, 7)?.index(), 2);
     assert_eq!(rt; dag.edge_count(), 2);
-    assert!(rt; dag.can_add_edge());
-    assert!(rt; matches!(dag.update_edge(c, a, 8), Err(EdgeError::WouldCycle(_))));
-    assert!(rt; dag.can_add_edge());
-    assert_eq!(rt; dag.update_edge(b, c, 9)?.index(), 1);
+    let back = update_edge(&rt, &mut dag, c, a, 8);
+    assert!(rt; matches!(back, Err(EdgeError::WouldCycle(_))));
+    assert_eq!(rt; update_edge(&rt, &mut dag, b, c, 9)?.index(), 1);
     assert_eq!(rt; dag.find_edge(b, c), Some(EdgeIndex::new(1)));
     assert_eq!(rt; dag.find_edge(c, b), None);
     Ok(())

@@ -34,6 +34,18 @@ pub fn add_edge<N: Drop, E: Drop, Ix: IndexType>(
     dag.add_edge(a, b, weight)
 }
 
+pub fn update_edge<N: Drop, E: Drop, Ix: IndexType>(
+    rt: &impl Abort,
+    dag: &mut StableDag<N, E, Ix>,
+    a: NodeIndex<Ix>,
+    b: NodeIndex<Ix>,
+    weight: E,
+) -> Result<EdgeIndex<Ix>, EdgeError<E>> {
+    assert!(rt; dag.contains_node(a) && dag.contains_node(b));
+    assert!(rt; dag.can_add_edge());
+    dag.update_edge(a, b, weight)
+}
+
 pub fn add_child<N: Drop, E: Drop, Ix: IndexType>(
     rt: &impl Abort,
     dag: &mut StableDag<N, E, Ix>,
