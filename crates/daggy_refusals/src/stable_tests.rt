@@ -276,25 +276,27 @@ fn a_refused_series_comes_back_whole(rt: HostRuntime) -> Result<(), Fail> {
     Ok(())
 }
 
+// An edge from the root to a node that is not there yet.
+fn far_edge() -> [(NodeIndex<u32>, NodeIndex<u32>, usize); 1] {
+    [(NodeIndex::new(0), NodeIndex::new(6), 5)]
+}
+
 #[test]
 fn a_refused_extension_keeps_what_it_made(rt: HostRuntime) -> Result<(), Fail> {
     let (mut dag, refused) = gappy(&rt, rt.alloc())?;
-    let item = (NodeIndex::new(0), NodeIndex::new(6), 5);
-    match dag.extend_with_edges([item]) {
+    match dag.extend_with_edges(far_edge()) {
         Ok(()) => {}
         Err(EdgeError::NodeMemory(weight)) | Err(EdgeError::Memory(weight)) => {
             assert!(rt; !refused, "a second refusal");
             assert_eq!(rt; weight, 5);
             assert_eq!(rt; dag.edge_count(), 2);
-            dag.extend_with_edges([item])?;
+            dag.extend_with_edges(far_edge())?;
         }
         Err(_) => panic!(rt; "no other refusal has a cause"),
     }
     assert_eq!(rt; (dag.node_count(), dag.edge_count()), (7, 3));
-    assert_eq!(rt;
-        dag.edge_endpoints(EdgeIndex::new(1)),
-        Some((item.0, item.1))
-    );
+    let ends = dag.edge_endpoints(EdgeIndex::new(1));
+    assert_eq!(rt; ends, Some((NodeIndex::new(0), NodeIndex::new(6))));
     Ok(())
 }
 
