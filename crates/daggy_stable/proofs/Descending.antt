@@ -59,8 +59,8 @@ module _ {E : Type 0} (dir : Direction) (nodes : ℕ) (edges : List (Option (Edg
   -- one more node
   pub lists_down-node : edges ≡ [] → (many : ℕ) → many ≡ nodes + 1 → lists_down dir many edges ≡ lists_down dir nodes edges ++ [] ∷ []
   lists_down-node none many is =
-      let rows : ℕ → List ℕ = λ k. down_from (has_end dir edges k) (length edges) in
-      ap (λ k. lists_down dir k edges) is ∙ map-range_with_len_more rows 0 nodes nodes (omega arith) ∙ ap (λ l. lists_down dir nodes edges ++ l ∷ []) (ap (λ l. down_from (has_end dir edges nodes) (length l)) none)
+      let listed : ℕ → List ℕ = λ k. down_from (has_end dir edges k) (length edges) in
+      ap (λ k. lists_down dir k edges) is ∙ map-range_with_len_more listed 0 nodes nodes (omega arith) ∙ ap (λ l. lists_down dir nodes edges ++ l ∷ []) (ap (λ l. down_from (has_end dir edges nodes) (length l)) none)
 
   -- one more slot of an edge
   module _ (x : Option (Edge E)) where
