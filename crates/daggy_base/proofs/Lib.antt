@@ -12,8 +12,10 @@ pub mod Adding
 pub mod Nodes
 pub mod Removing
 pub mod NodeRemoving
+pub mod Outliving
 pub mod Finding
 pub mod Neighbors
+pub mod Newest
 pub mod Unreached
 pub mod NodeTaking
 pub mod Reweighing

@@ -1,5 +1,5 @@
 -- Edges added in order: when they leave a graph acyclic, and how many there are then.
-use Rattle.std.proofs.Common.{◌≡◌, ℕ, zero, suc, ◌+◌, ◌<◌, cond, List, [], ◌∷◌, ◌++◌, length, set, take, Option, Some, None, is_some, slice_get, refl, ap, arith}
+use Rattle.std.proofs.Common.{◌≡◌, ℕ, zero, suc, ◌+◌, ◌<◌, cond, List, [], ◌∷◌, ◌++◌, length, set, take, Option, Some, None, is_some, slice_get, refl, sym, ap, ◌∙◌, add-one, arith}
 use Rattle.std.specs.List.{count_by}
 use Rattle.std.proofs.lemmas.List.Sums.{sum_by-cons}
 use Rattle.daggy_base.specs.Graph.{Graph, edge_count}
@@ -34,6 +34,9 @@ count_filled (y ∷ ys) (suc v) x h =
 pub count_taken : {A : Type 0} (slots : List (Option A)) (vacant : List ℕ) (x : A) → IsFree slots vacant → count_by is_some (taken slots vacant (Some x)) ≡ suc (count_by is_some slots)
 count_taken slots [] x free = count_made slots x
 count_taken slots (v ∷ vs) x free = count_filled slots v x free
+
+pub count_with_edge : {N E : Type 0} (end : ℕ) (g : Graph N E) (u v : ℕ) (w : E) → IsWellFormed end g → edge_count (with_edge g u v w) ≡ edge_count g + 1
+count_with_edge end g u v w f = count_taken g.edges g.vacant_edges _ (free_edge g u v w end f) ∙ sym (add-one (edge_count g))
 
 module _ {N E : Type 0} (limit : ℕ) where
   fine_rest : (g : Graph N E) (x : NewEdge E) (xs : List (NewEdge E)) → IsFine limit g (x ∷ xs) → IsFine limit (with_edge g x.0 x.1 x.2) xs

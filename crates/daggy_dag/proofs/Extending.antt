@@ -1,5 +1,6 @@
 -- The loop of `extend_all`: the graph is extended by the items so far.
-use Rattle.std.proofs.Common.{ℕ, ◌≤◌, List, [], ◌∷◌, ◌++◌, map, Option, refl, sym, subst}
+use Rattle.std.proofs.Common.{◌≡◌, ℕ, ◌+◌, ◌-◌, ◌*◌, ◌≤◌, List, [], ◌∷◌, ◌++◌, map, Option, suc, refl, sym, ap, subst, ◌∙◌, add-one, arith}
+use Rattle.std.proofs.Math.Nat.{suc-mul, mul-suc}
 use Rattle.std.specs.List.{AllZip, FoldsTo}
 use Rattle.std.specs.Iterator.{Yields, Drains}
 use Rattle.std.proofs.lemmas.Fn.{FoldsTo-push}
@@ -53,3 +54,30 @@ module _ {I A N E : Type 0} {IsDefault : N → Type 0} {number : I → ℕ} {lim
 
   pub extends : {S : Type 0} (gives : S → Option A → S → Type 0) (items : S) → Drains gives items given → Extends IsDefault number limit becomes gives items old now
   extends gives items asked = record { given = given; drained = asked; edges = s.edges; become = s.become; extension = s.extension }
+
+-- the looks at so many edges, as often as edges were added
+pub record FewLooks (edges looks edges' looks' : ℕ) : Type 0 where
+  pub no_fewer : edges ≤ edges'
+  pub few : looks' ≤ looks + (edges' - edges) * edges'
+
+pub no_looks : (edges looks : ℕ) → FewLooks edges looks edges looks
+no_looks edges looks = record { no_fewer = omega arith; few = omega arith }
+
+pub few_more : (e l m k m' k' : ℕ) → FewLooks e l m k → m' ≡ m + 1 → k' ≤ k + m' → FewLooks e l m' k'
+few_more e l m k m' k' f one more =
+    let d = m - e in
+    let times : (m' - e) * m' ≡ d * m + d + m' =
+    ap (λ z. z * m') (omega (arith, f.no_fewer, one)) ∙ suc-mul d m' ∙ ap (λ z. d * z + m') (one ∙ add-one m) ∙ ap (λ z. z + m') (mul-suc d m) in
+    record { no_fewer = omega (arith, f.no_fewer, one); few = omega (arith, f.few, more, times) }
+
+pub few_all : (e l m k : ℕ) → FewLooks e l m k → k ≤ l + (m - e + 1) * m
+few_all e l m k f =
+    let times : (m - e + 1) * m ≡ (m - e) * m + m = ap (λ z. z * m) (add-one (m - e)) ∙ suc-mul (m - e) m in
+    omega (arith, f.few, times)
+
+pub few_last : (e l m k m' k' : ℕ) → FewLooks e l m k → m' ≡ m → k' ≤ k + m' → k' ≤ l + (m' - e + 1) * m'
+few_last e l m k m' k' f same more =
+    let times : (m - e + 1) * m ≡ (m - e) * m + m = ap (λ z. z * m) (add-one (m - e)) ∙ suc-mul (m - e) m in
+    let there : k' ≤ l + (m - e + 1) * m = omega (arith, f.few, times, more, same) in
+    let P : ℕ → Type 0 = λ z. k' ≤ l + (z - e + 1) * z in
+    subst P (sym same) there

@@ -1,10 +1,11 @@
 -- A change that either succeeded or left the graph as it was keeps it acyclic.
-use Rattle.std.proofs.Common.{◌≡◌, ℕ, ◌≤◌, length, Result, Ok, Err, OnOk, OnErr, Option, Some, None, OnSome, IfNone, sym, ap, subst, ◌∙◌, arith}
+use Rattle.std.proofs.Common.{◌≡◌, ℕ, ◌≤◌, length, Result, Ok, Err, OnOk, OnErr, IfOk, Option, Some, None, OnSome, IfNone, sym, ap, subst, ◌∙◌, arith}
 use Rattle.daggy_base.specs.Graph.{Graph, HasNode, node_bound}
 use Rattle.daggy_base.specs.Path.{Reaches, IsAcyclic}
-use Rattle.daggy_base.specs.Adding.{with_node, with_edge}
+use Rattle.daggy_base.specs.Adding.{with_node, with_edge, next_edge, ComesFirst}
 use Rattle.daggy_base.specs.WellFormed.{IsWellFormed}
 use Rattle.daggy_base.proofs.Adding.{acyclic_after}
+use Rattle.daggy_base.proofs.Newest.{comes_first}
 use Rattle.daggy_base.specs.Removal.{Kind, without_edge}
 use Rattle.daggy_base.proofs.Removing.{acyclic_without_edge, bound_same}
 use Rattle.daggy_base.proofs.Nodes.{acyclic_node_after, fits_after}
@@ -38,3 +39,13 @@ module _ {A N E : Type 0} (kind : Kind) (old new : Graph N E) (e : ℕ) where
   pub bound_edge_gone : (r : Option A) → OnSome r (new ≡ without_edge kind old e) → IfNone r (new ≡ old) → node_bound new ≡ node_bound old
   bound_edge_gone None removed missing = ap node_bound missing
   bound_edge_gone (Some a) removed missing = ap node_bound removed ∙ bound_same kind old e
+
+-- the edge that was added comes first in its two lists
+pub first_edge : {I F N E : Type 0} (number : I → ℕ) (end : ℕ) (r : Result I F) (old at new : Graph N E) (a b : ℕ) (w : E) → IsWellFormed end old → HasNode old a → HasNode old b → at ≡ old
+    → IfOk r (λ e. number e ≡ next_edge at) → OnOk r (new ≡ with_edge at a b w) → IfOk r (λ e. ComesFirst old new a b (number e))
+first_edge {I} {F} {N} {E} number end (Ok e) old at new a b w f parent child same index added =
+    let P : Graph N E → Type 0 = λ z. ComesFirst old z a b (number e) in
+    let Q : ℕ → Type 0 = λ n. ComesFirst old (with_edge old a b w) a b n in
+    subst P (sym (added ∙ ap (λ g. with_edge g a b w) same))
+    (subst Q (sym (index ∙ ap next_edge same)) (comes_first end old a b w f parent child))
+first_edge number end (Err e) old at new a b w f parent child same index added = tt

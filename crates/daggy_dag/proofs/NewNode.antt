@@ -9,10 +9,9 @@ use Rattle.daggy_base.specs.declared.index.Direction.TheVariants.{Outgoing, Inco
 use Rattle.daggy_base.specs.Graph.{Graph, HasNode, node_weight, list_at}
 use Rattle.daggy_base.specs.Path.{Reaches}
 use Rattle.daggy_base.specs.Adding.{with_node, next_node, next_slot, taken}
-use Rattle.daggy_base.specs.Taking.{node_taken_back}
+use Rattle.daggy_base.specs.Taking.{node_taken_back, is_made}
 use Rattle.daggy_base.specs.WellFormed.{IsWellFormed}
 use Rattle.daggy_base.proofs.Slots.{IsFree, slot_taken_new}
-use Rattle.daggy_base.proofs.TakingBack.{is_made}
 use Rattle.daggy_base.proofs.Neighbors.{free_slots, node_kept, node_new, leads_nowhere, comes_from_nowhere}
 use Rattle.daggy_base.proofs.NodeTaking.{node_taken_back_undoes}
 

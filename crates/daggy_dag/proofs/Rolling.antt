@@ -9,10 +9,10 @@ use Rattle.daggy_base.specs.Graph.{Graph, Edge, HasEdge, edge_at}
 use Rattle.daggy_base.specs.Adding.{with_edge, next_edge, next_slot, taken, rest_of}
 use Rattle.daggy_base.specs.Removal.{Kind, Compact}
 use Rattle.daggy_base.specs.WellFormed.{IsWellFormed}
-use Rattle.daggy_base.specs.Taking.{taken_back}
+use Rattle.daggy_base.specs.Taking.{is_made, taken_back}
 use Rattle.daggy_base.proofs.Slots.{IsFree, slot_taken_new}
 use Rattle.daggy_base.proofs.Adding.{free_edge}
-use Rattle.daggy_base.proofs.TakingBack.{is_made, taken_back_undoes}
+use Rattle.daggy_base.proofs.TakingBack.{taken_back_undoes}
 use Rattle.daggy_dag.specs.Series.{NewEdge, with_edges, new_edges}
 use Rattle.daggy_dag.specs.SoFar.{IsSeries}
 

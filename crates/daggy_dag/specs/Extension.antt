@@ -1,5 +1,5 @@
 -- Extensions: edges added one by one, each after the nodes that it asks for.
-use Rattle.std.specs.Prelude.{◌≡◌, ℕ, ◌+◌, ◌-◌, ◌<◌, max, List, [], ◌∷◌, ◌++◌, length, map, Option}
+use Rattle.std.specs.Prelude.{◌≡◌, ℕ, ◌+◌, ◌-◌, ◌*◌, ◌<◌, max, List, [], ◌∷◌, ◌++◌, length, map, Option}
 use Rattle.std.specs.List.{AllByRecursion, AllZip, FoldsTo}
 use Rattle.std.specs.Iterator.{Yields, Drains}
 use Rattle.daggy_base.specs.Graph.{Graph, node_count, edge_count}
@@ -79,3 +79,8 @@ module _ {N E : Type 0} (IsDefault : N → Type 0) where
       pub mid : Graph N E
       pub extension : FoldsTo (IsExtended limit) old (map (by_numbers number) edges) mid
       pub stopped : IsStopped limit mid (by_numbers number edge) error new
+
+-- How many looks an extension takes at most: for each edge that it added, and for the one that was refused, as many as
+-- there are edges in the end.
+abbrev pub extension_looks : {N E : Type 0} → (old new : Graph N E) → ℕ
+extension_looks old new = (edge_count new - edge_count old + 1) * edge_count new

@@ -1,10 +1,10 @@
 //! The compact dag.
 ghost use Rattle.std.specs.Prelude.{◌≡◌, ℕ, ◌+◌, ◌<◌, ◌≤◌, ◌↔◌, ◌⊎◌, IsTrue, Err, None, IfOk, IfErr, OnErr, OnSome, IfSome, IfNone, IsOkAnd, option_copied};
 ghost use Rattle.std.specs.Option.{option_map};
-ghost use Rattle.daggy_base.specs.Graph.{empty, HasNode, node_weight as weight_at, edge_at, ends_of, pair_of, node_count as node_count_of, edge_count as edge_count_of, out_list, in_list};
+ghost use Rattle.daggy_base.specs.Graph.{empty, HasNode, node_weight as weight_at, edge_at, ends_of, pair_of, node_count as node_count_of, edge_count as edge_count_of, out_list, in_list, IsCompact};
 ghost use Rattle.daggy_base.specs.Path.{Reaches, IsAcyclic};
 ghost use Rattle.daggy_base.specs.WellFormed.{IsDag};
-ghost use Rattle.daggy_base.specs.Adding.{next_node, next_edge, with_node, with_edge, with_neighbor};
+ghost use Rattle.daggy_base.specs.Adding.{next_node, next_edge, with_node, with_edge, with_neighbor, ComesFirst};
 ghost use Rattle.daggy_base.specs.Removal.{Compact, without_edge, without_node, without_all_edges};
 ghost use Rattle.daggy_base.specs.Weights.{edge_weight as edge_weight_at, with_edge_weight};
 ghost use Rattle.daggy_base.specs.Finding.{find_edge as edge_between};
@@ -84,6 +84,7 @@ impl<N: Drop, E: Drop, Ix: IndexType> Dag<N, E, Ix> {
     pub fn node_count(&self) -> usize
         ensures value { result ≡ node_count_of self.now.graph }
         ensures dag { IsDag Ix.greatest self.now.graph }
+        ensures compact { IsCompact self.now.graph }
     {
         self.graph.node_count()
     }
@@ -93,6 +94,7 @@ impl<N: Drop, E: Drop, Ix: IndexType> Dag<N, E, Ix> {
     pub fn edge_count(&self) -> usize
         ensures value { result ≡ edge_count_of self.now.graph }
         ensures dag { IsDag Ix.greatest self.now.graph }
+        ensures compact { IsCompact self.now.graph }
     {
         self.graph.edge_count()
     }
@@ -181,6 +183,7 @@ impl<N: Drop, E: Drop, Ix: IndexType> Dag<N, E, Ix> {
         ensures refusal { IfErr result (λ e. (e ≡ ByCycle (record { 0 = weight })) ⊎ (e ≡ EdgeMemory weight)) }
         ensures added { IfOk result (λ e. (Ix.number e ≡ next_edge self.old.graph)
             × (self.new.graph ≡ with_edge self.old.graph (Ix.number a) (Ix.number b) weight)) }
+        ensures first { IfOk result (λ e. ComesFirst self.old.graph self.new.graph (Ix.number a) (Ix.number b) (Ix.number e)) }
         ensures unchanged { OnErr result (self.new.graph ≡ self.old.graph) }
         ensures acyclic { IsAcyclic self.new.graph }
         ensures counted { self.new.looks ≤ self.old.looks + edge_count_of self.old.graph }

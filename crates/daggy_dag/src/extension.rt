@@ -1,9 +1,9 @@
 //! Edges one by one, each after the nodes that it asks for.
-ghost use Rattle.std.specs.Prelude.{◌≡◌, ℕ, ◌<◌, ◌≤◌, OnOk, OnErr, IfErr};
+ghost use Rattle.std.specs.Prelude.{◌≡◌, ℕ, ◌+◌, ◌<◌, ◌≤◌, OnOk, OnErr, IfErr};
 ghost use Rattle.std.specs.Iterator.{IsFinite, IsFiniteIterable};
-ghost use Rattle.daggy_base.specs.Graph.{node_bound};
+ghost use Rattle.daggy_base.specs.Graph.{node_bound, edge_count};
 ghost use Rattle.daggy_base.specs.Path.{IsAcyclic};
-ghost use Rattle.daggy_dag.specs.Extension.{IsFilled, IsPartFilled, IsExtended, IsStopped, Extends, Stops};
+ghost use Rattle.daggy_dag.specs.Extension.{IsFilled, IsPartFilled, IsExtended, IsStopped, Extends, Stops, extension_looks};
 
 use crate::guard::{add_edge, add_node};
 use daggy_base::error::EdgeError;
@@ -28,6 +28,8 @@ where
     ensures part { OnErr result (IsPartFilled S.NodeWeight.is_default last (S.graph store.old) (S.graph store.new)) }
     ensures acyclic { IsAcyclic (S.graph store.new) }
     ensures fits { node_bound (S.graph store.new) ≤ scratch.new.nodes }
+    ensures edges { edge_count (S.graph store.new) ≡ edge_count (S.graph store.old) }
+    ensures counted { S.looks store.new ≡ S.looks store.old }
 {
     'nodes: while store.node_count() <= last {
         match add_node(store, scratch, <S::NodeWeight as Default>::default()) {
@@ -54,6 +56,9 @@ where
     ensures stopped { IfErr result (λ error. IsStopped S.NodeWeight.is_default Ix.greatest (S.graph store.old) (Ix.number a, Ix.number b, weight) error (S.graph store.new)) }
     ensures acyclic { IsAcyclic (S.graph store.new) }
     ensures fits { node_bound (S.graph store.new) ≤ scratch.new.nodes }
+    ensures counted { S.looks store.new ≤ S.looks store.old + edge_count (S.graph store.new) }
+    ensures more { OnOk result (edge_count (S.graph store.new) ≡ edge_count (S.graph store.old) + 1) }
+    ensures as_many { OnErr result (edge_count (S.graph store.new) ≡ edge_count (S.graph store.old)) }
 {
     let end = NodeIndex::<Ix>::end().index();
     let u = a.index();
@@ -90,6 +95,7 @@ where
     ensures stopped { IfErr result (λ error. Stops S.NodeWeight.is_default Ix.number Ix.greatest T.edge_gives I.next_gives items (S.graph store.old) error (S.graph store.new)) }
     ensures acyclic { IsAcyclic (S.graph store.new) }
     ensures fits { node_bound (S.graph store.new) ≤ scratch.new.nodes }
+    ensures counted { S.looks store.new ≤ S.looks store.old + extension_looks (S.graph store.old) (S.graph store.new) }
 {
     'items: for item in items {
         let (a, b, weight) = item.into_weighted_edge();
@@ -119,6 +125,7 @@ where
         × Stops S.NodeWeight.is_default Ix.number Ix.greatest T.edge_gives I.IntoIter.next_gives it (S.graph store.old) error (S.graph store.new)) }
     ensures acyclic { IsAcyclic (S.graph store.new) }
     ensures fits { node_bound (S.graph store.new) ≤ scratch.new.nodes }
+    ensures counted { S.looks store.new ≤ S.looks store.old + extension_looks (S.graph store.old) (S.graph store.new) }
 {
     extend_all(store, scratch, items.into_iter())
 }

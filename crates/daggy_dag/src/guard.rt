@@ -2,7 +2,8 @@
 ghost use Rattle.std.specs.Prelude.{◌≡◌, ℕ, ◌+◌, ◌<◌, ◌≤◌, ◌↔◌, ◌⊎◌, IsTrue, Err, None, IfOk, OnOk, IfErr, OnErr, OnSome, IfSome, IfNone, IsOkAnd};
 ghost use Rattle.daggy_base.specs.Graph.{HasNode, node_weight, node_count, edge_count, node_bound};
 ghost use Rattle.daggy_base.specs.Path.{Reaches, IsAcyclic};
-ghost use Rattle.daggy_base.specs.Adding.{next_node, next_edge, with_node, with_edge, with_link, with_neighbor};
+ghost use Rattle.daggy_base.specs.WellFormed.{IsWellFormed};
+ghost use Rattle.daggy_base.specs.Adding.{next_node, next_edge, with_node, with_edge, with_link, with_neighbor, ComesFirst};
 ghost use Rattle.daggy_base.specs.Finding.{find_edge as edge_between};
 ghost use Rattle.daggy_base.specs.Weights.{edge_weight, with_edge_weight};
 ghost use Rattle.daggy_base.specs.Removal.{without_edge, without_node};
@@ -55,6 +56,7 @@ fn leads_to<Ix: IndexType, S: Store<Ix>>(
     ensures same { S.graph store.new ≡ S.graph store.old }
     ensures counted { S.looks store.new ≤ S.looks store.old + edge_count (S.graph store.old) }
     ensures room { scratch.new ≡ scratch.old }
+    ensures well_formed { IsWellFormed Ix.greatest (S.graph store.old) }
 {
     let _well_formed = store.node_count();
     let first = store.first_edge(to, Direction::Incoming);
@@ -82,6 +84,7 @@ pub fn add_edge<Ix: IndexType, S: Store<Ix>>(
     ensures refusal { IfErr result (λ e. (e ≡ ByCycle (record { 0 = weight })) ⊎ (e ≡ EdgeMemory weight)) }
     ensures added { IfOk result (λ e. (Ix.number e ≡ next_edge (S.graph store.old))
         × (S.graph store.new ≡ with_edge (S.graph store.old) (Ix.number a) (Ix.number b) weight)) }
+    ensures first { IfOk result (λ e. ComesFirst (S.graph store.old) (S.graph store.new) (Ix.number a) (Ix.number b) (Ix.number e)) }
     ensures unchanged { OnErr result (S.graph store.new ≡ S.graph store.old) }
     ensures acyclic { IsAcyclic (S.graph store.new) }
     ensures counted { S.looks store.new ≤ S.looks store.old + edge_count (S.graph store.old) }

@@ -4,8 +4,8 @@ ghost use Rattle.std.specs.Option.{option_map};
 ghost use Rattle.daggy_base.specs.Graph.{empty, HasNode, node_weight as weight_at, edge_at, ends_of, pair_of, node_count as node_count_of, edge_count as edge_count_of, out_list, in_list};
 ghost use Rattle.daggy_base.specs.Path.{Reaches, IsAcyclic};
 ghost use Rattle.daggy_base.specs.WellFormed.{IsDag};
-ghost use Rattle.daggy_base.specs.Adding.{next_node, next_edge, with_node, with_edge, with_neighbor};
-ghost use Rattle.daggy_base.specs.Removal.{Stable, without_edge, without_node, without_all_edges};
+ghost use Rattle.daggy_base.specs.Adding.{next_node, next_edge, with_node, with_edge, with_neighbor, ComesFirst};
+ghost use Rattle.daggy_base.specs.Removal.{Stable, KeepsIndices, without_edge, without_node, without_all_edges};
 ghost use Rattle.daggy_base.specs.Weights.{edge_weight as edge_weight_at, with_edge_weight};
 ghost use Rattle.daggy_base.specs.Finding.{find_edge as edge_between};
 ghost use Rattle.daggy_base.specs.Cursor.{first_of};
@@ -189,6 +189,7 @@ impl<N: Drop, E: Drop, Ix: IndexType> StableDag<N, E, Ix> {
         ensures refusal { IfErr result (λ e. (e ≡ ByCycle (record { 0 = weight })) ⊎ (e ≡ EdgeMemory weight)) }
         ensures added { IfOk result (λ e. (Ix.number e ≡ next_edge self.old.graph)
             × (self.new.graph ≡ with_edge self.old.graph (Ix.number a) (Ix.number b) weight)) }
+        ensures first { IfOk result (λ e. ComesFirst self.old.graph self.new.graph (Ix.number a) (Ix.number b) (Ix.number e)) }
         ensures unchanged { OnErr result (self.new.graph ≡ self.old.graph) }
         ensures acyclic { IsAcyclic self.new.graph }
         ensures counted { self.new.looks ≤ self.old.looks + edge_count_of self.old.graph }
@@ -287,6 +288,7 @@ impl<N: Drop, E: Drop, Ix: IndexType> StableDag<N, E, Ix> {
         ensures value { result ≡ edge_weight_at self.old.graph (Ix.number e) }
         ensures removed { OnSome result (self.new ≡ with_graph self.old (without_edge Stable self.old.graph (Ix.number e))) }
         ensures missing { IfNone result (self.new ≡ self.old) }
+        ensures keeps { KeepsIndices self.old.graph self.new.graph }
         ensures acyclic { IsAcyclic self.new.graph }
     {
         guard::remove_edge(&mut self.graph, e)
@@ -300,6 +302,7 @@ impl<N: Drop, E: Drop, Ix: IndexType> StableDag<N, E, Ix> {
         ensures value { result ≡ weight_at self.old.graph (Ix.number n) }
         ensures removed { OnSome result (self.new ≡ with_graph self.old (without_node Stable self.old.graph (Ix.number n))) }
         ensures missing { IfNone result (self.new ≡ self.old) }
+        ensures keeps { KeepsIndices self.old.graph self.new.graph }
         ensures acyclic { IsAcyclic self.new.graph }
     {
         guard::remove_node(&mut self.graph, n)

@@ -4,7 +4,7 @@ ghost use Rattle.std.specs.Iterator.{IsFiniteIterable};
 ghost use Rattle.daggy_base.specs.Graph.{Graph, empty};
 ghost use Rattle.daggy_base.specs.Path.{IsAcyclic};
 ghost use Rattle.daggy_dag.specs.Series.{IsAdded, IsRefused, most_looks};
-ghost use Rattle.daggy_dag.specs.Extension.{Extends, Stops};
+ghost use Rattle.daggy_dag.specs.Extension.{Extends, Stops, extension_looks};
 ghost use Rattle.daggy_dag.specs.Elements.{IsMade, IsUnmade};
 
 use crate::dag::Dag;
@@ -56,6 +56,7 @@ impl<N: Drop, E: Drop, Ix: IndexType> Dag<N, E, Ix> {
         ensures stopped { IfErr result (λ error. (it : I.IntoIter) × I.into_iter_gives items it
             × Stops N.is_default Ix.number Ix.greatest T.edge_gives I.IntoIter.next_gives it self.old.graph error self.new.graph) }
         ensures acyclic { IsAcyclic self.new.graph }
+        ensures counted { self.new.looks ≤ self.old.looks + extension_looks self.old.graph self.new.graph }
     {
         extension::extend_with_edges(&mut self.graph, &mut self.scratch, items)
     }

@@ -3,7 +3,7 @@ ghost use Rattle.std.specs.Prelude.{◌≡◌, ◌+◌, IsTrue, true, Some, [], 
 ghost use Rattle.daggy_base.specs.declared.index.Direction.{Direction};
 ghost use Rattle.daggy_base.specs.Graph.{node_weight, HasNode, HasEdge, list_at};
 ghost use Rattle.daggy_base.specs.Weights.{edge_weight};
-ghost use Rattle.daggy_base.specs.Taking.{taken_back, node_taken_back};
+ghost use Rattle.daggy_base.specs.Taking.{taken_back, node_taken_back, UndoesEdge, UndoesNode};
 ghost use Rattle.daggy_base.specs.State.{with_graph};
 
 use crate::stable_graph::StableDiGraph;
@@ -22,6 +22,7 @@ impl<N, E, Ix: IndexType> StableDiGraph<N, E, Ix> {
         requires last { IsTrue made → Ix.number e + 1 ≡ length self.old.graph.edges }
         ensures gives { edge_weight self.old.graph (Ix.number e) ≡ Some result }
         ensures taken { self.new ≡ with_graph self.old (taken_back made self.old.graph (Ix.number e)) }
+        ensures undone { UndoesEdge Ix.greatest made self.old.graph (Ix.number e) self.new.graph }
     {
         if made {
             return self.cut_edge(e).unwrap();
@@ -52,6 +53,7 @@ impl<N, E, Ix: IndexType> StableDiGraph<N, E, Ix> {
         requires last { IsTrue made → Ix.number n + 1 ≡ length self.old.graph.nodes }
         ensures gives { node_weight self.old.graph (Ix.number n) ≡ Some result }
         ensures taken { self.new ≡ with_graph self.old (node_taken_back made self.old.graph (Ix.number n)) }
+        ensures undone { UndoesNode Ix.greatest made self.old.graph (Ix.number n) self.new.graph }
     {
         if made {
             return self.cut_node(n).unwrap();

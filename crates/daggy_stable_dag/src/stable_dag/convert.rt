@@ -1,5 +1,6 @@
 //! A stable dag made of a compact one, and the graph of a stable dag, to read or to keep.
 ghost use Rattle.std.specs.Prelude.{◌≡◌, ◌≤◌, IfOk, IfErr};
+ghost use Rattle.daggy_base.specs.Graph.{IsCompact};
 ghost use Rattle.daggy_base.specs.Path.{IsAcyclic};
 
 use crate::stable_dag::StableDag;
@@ -32,6 +33,7 @@ impl<N: Drop, E: Drop, Ix: IndexType> StableDag<N, E, Ix> {
     pub fn from_dag(dag: Dag<N, E, Ix>) -> Result<Self, Dag<N, E, Ix>>
         ensures value { IfOk result (λ d. d ≡ record { graph = dag.graph; looks = 0 }) }
         ensures acyclic { IfOk result (λ d. IsAcyclic d.graph) }
+        ensures compact { IfOk result (λ d. IsCompact d.graph) }
         ensures refused { IfErr result (λ back. back ≡ dag) }
     {
         let nodes = dag.graph().node_count();
