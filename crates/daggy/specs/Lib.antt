@@ -8,9 +8,9 @@ pub use Rattle.daggy_base.specs.WellFormed
 pub use Rattle.daggy_base.specs.Reduction
 pub use Rattle.daggy_base.specs.State
 pub use Rattle.daggy_base.specs.Weights
-pub use Rattle.daggy_dag.specs.Series
-pub use Rattle.daggy_dag.specs.Extension
-pub use Rattle.daggy_dag.specs.Elements
+pub use Rattle.daggy_guard.specs.Series
+pub use Rattle.daggy_guard.specs.Extension
+pub use Rattle.daggy_guard.specs.Elements
 pub use Rattle.daggy_walk.specs.Visit
 pub use Rattle.daggy_graph.specs.Mapping
 pub use Rattle.daggy_graph.specs.Filtering

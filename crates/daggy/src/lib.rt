@@ -23,8 +23,8 @@ pub use daggy_base::error::{
 };
 pub use daggy_base::index::{EdgeIndex, NodeIndex};
 pub use daggy_base::{index, search};
-pub use daggy_dag::dag::{Children, Dag, Parents, RawEdges, RawNodes};
-pub use daggy_dag::edge_indices::EdgeIndices;
+pub use daggy_dag::acyclic::{Children, Dag, Parents, RawEdges, RawNodes, StableDag};
+pub use daggy_guard::edge_indices::EdgeIndices;
 pub use daggy_graph::graph;
 pub use daggy_graph::graph::lists::Edges;
 pub use daggy_stable::stable_graph;

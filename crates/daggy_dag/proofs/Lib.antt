@@ -1,15 +1,4 @@
-pub mod Guarding
-pub mod NewNode
 pub mod Writing
-pub mod Rolling
-pub mod Accepting
-pub mod SeriesSteps
-pub mod Filling
-pub mod Stopping
-pub mod Iterating
-pub mod Extending
-pub mod Making
-pub mod Joining
 pub mod Lifting
 pub mod Mapped
 pub mod Rewritten

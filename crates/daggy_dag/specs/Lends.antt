@@ -1,30 +1,44 @@
 -- What a dag ends as, where a `&mut` to one of its weights is returned.
-use Rattle.std.specs.Prelude.{Option}
+use Rattle.std.specs.Prelude.{Option, ℕ}
 use Rattle.std.specs.Borrow.{Lends, LendsIf, Fml, RattleType, MutBor}
+use Rattle.daggy_base.specs.Graph.{Graph}
+use Rattle.daggy_base.specs.Removal.{Kind}
 use Rattle.daggy_base.specs.State.{State, with_graph}
 use Rattle.daggy_base.specs.Weights.{with_node_weight, with_edge_weight}
 use Rattle.daggy_graph.specs.Lends.{IndexMembers}
-use Rattle.daggy_dag.specs.contracts.dag.Dag.{the_row}
+use Rattle.daggy_dag.specs.contracts.acyclic.Acyclic.{the_row}
+
+-- the members of a store, as a clause has them
+abbrev pub StoreMembers : (N E S : Type 0) → Type 0
+StoreMembers N E S =
+    record {
+      graph : S → Graph N E;
+      looks : S → ℕ;
+      kind : Kind;
+      node_written : S → ℕ → N → S;
+      edge_written : S → ℕ → E → S;
+    }
 
 -- the row of a dag
-abbrev pub dag_row : (N E Ix : RattleType) → IndexMembers Ix.Denot → RattleType
-dag_row N E Ix m =
-    the_row N E Ix (record { number = m.number; of = m.of; greatest = m.greatest; of_number = m.of_number }) (record { cmp = m.cmp }) (record { eq = m.eq }) (record { partial_cmp = m.partial_cmp })
+abbrev pub dag_row : (N E Ix S : RattleType) → IndexMembers Ix.Denot → StoreMembers N.Denot E.Denot S.Denot → RattleType
+dag_row N E Ix S m t =
+    the_row N E Ix S (record { number = m.number; of = m.of; greatest = m.greatest; of_number = m.of_number }) (record { cmp = m.cmp }) (record { eq = m.eq }) (record { partial_cmp = m.partial_cmp })
     (record { hash_input = m.hash_input }) (record { debug_output = m.debug_output })
+    (record { kind = t.kind; node_written = t.node_written; edge_written = t.edge_written }) (record { graph = t.graph; looks = t.looks })
 
-module _ (N E Ix : RattleType) (m : IndexMembers Ix.Denot) (s : MutBor (State N.Denot E.Denot)) (n : Ix.Denot) where
+module _ (N E Ix S : RattleType) (m : IndexMembers Ix.Denot) (t : StoreMembers N.Denot E.Denot S.Denot) (s : MutBor (State N.Denot E.Denot)) (n : Ix.Denot) where
   -- once the borrow r ends, the node has the last weight written through r
   abbrev pub lends_node : MutBor N.Denot → Fml
-  lends_node r = Lends (dag_row N E Ix m) N s r (λ w. with_graph s.now (with_node_weight s.now.graph (m.number n) w))
+  lends_node r = Lends (dag_row N E Ix S m t) N s r (λ w. with_graph s.now (with_node_weight s.now.graph (m.number n) w))
 
   -- the same where r is a reference, and at `None` the graph stays as it is
   abbrev pub lends_node_if : Option (MutBor N.Denot) → Fml
-  lends_node_if r = LendsIf (dag_row N E Ix m) N s r (λ w. with_graph s.now (with_node_weight s.now.graph (m.number n) w)) s.now
+  lends_node_if r = LendsIf (dag_row N E Ix S m t) N s r (λ w. with_graph s.now (with_node_weight s.now.graph (m.number n) w)) s.now
 
-module _ (N E Ix : RattleType) (m : IndexMembers Ix.Denot) (s : MutBor (State N.Denot E.Denot)) (e : Ix.Denot) where
+module _ (N E Ix S : RattleType) (m : IndexMembers Ix.Denot) (t : StoreMembers N.Denot E.Denot S.Denot) (s : MutBor (State N.Denot E.Denot)) (e : Ix.Denot) where
   -- the same for an edge
   abbrev pub lends_edge : MutBor E.Denot → Fml
-  lends_edge r = Lends (dag_row N E Ix m) E s r (λ w. with_graph s.now (with_edge_weight s.now.graph (m.number e) w))
+  lends_edge r = Lends (dag_row N E Ix S m t) E s r (λ w. with_graph s.now (with_edge_weight s.now.graph (m.number e) w))
 
   abbrev pub lends_edge_if : Option (MutBor E.Denot) → Fml
-  lends_edge_if r = LendsIf (dag_row N E Ix m) E s r (λ w. with_graph s.now (with_edge_weight s.now.graph (m.number e) w)) s.now
+  lends_edge_if r = LendsIf (dag_row N E Ix S m t) E s r (λ w. with_graph s.now (with_edge_weight s.now.graph (m.number e) w)) s.now

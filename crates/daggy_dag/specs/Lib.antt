@@ -1,5 +1,1 @@
 pub mod Lends
-pub mod Series
-pub mod SoFar
-pub mod Extension
-pub mod Elements

@@ -1,11 +1,4 @@
-//! A compact graph that stays acyclic.
+//! A graph that stays acyclic, over the compact store and over the stable one.
 #![tactic(auto)]
 
-pub mod dag;
-pub mod edge_indices;
-pub mod elements;
-pub mod extension;
-pub mod guard;
-pub mod matrix;
-pub mod series;
-pub mod walk;
+pub mod acyclic;

@@ -11,7 +11,6 @@ ghost use Rattle.daggy_base.specs.declared.error.EdgeError.TheVariants.{Memory a
 
 mod copy;
 mod count;
-mod elements;
 mod filter;
 pub mod iterators;
 pub mod links;
@@ -23,14 +22,15 @@ mod removal;
 mod rewriting;
 mod room;
 mod source;
+mod store;
 mod weights;
 
 use crate::graph::links::{put_edge, put_node};
+pub use daggy_base::element::{Element, IntoWeightedEdge};
 use daggy_base::error::{EdgeError, NodeError};
 use daggy_base::index::{DefaultIx, Direction, EdgeIndex, IndexType, NodeIndex};
 use daggy_base::link::Link;
 use daggy_base::search::Looks;
-pub use elements::{Element, IntoWeightedEdge};
 use std::alloc::Global;
 use std::marker::Model;
 

@@ -18,6 +18,7 @@ mod removal;
 mod room;
 mod slots;
 mod source;
+mod store;
 mod taking;
 mod weights;
 

@@ -1,4 +1,4 @@
-//! A graph in slots that stays acyclic.
+//! The dag whose indices outlive removals, under the names that go with it.
 #![tactic(auto)]
 
 pub mod stable_dag;

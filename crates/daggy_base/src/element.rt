@@ -1,0 +1,58 @@
+//! What graphs are made from: lists of edges, and lists of nodes and edges.
+ghost use Rattle.std.specs.Prelude.{◌≡◌};
+
+use crate::index::NodeIndex;
+
+/// What an edge can be made of: the nodes that it leads from and to, with a weight or without.
+///
+/// A pair of nodes stands for an edge of the default weight.
+pub trait IntoWeightedEdge<E> {
+    /// What names a node.
+    type NodeId;
+
+    // The edge that it may become.
+    ghost edge_gives: { Self → Self.NodeId × Self.NodeId × E → Type 0 };
+
+    /// The edge: its source, its target and its weight.
+    fn into_weighted_edge(self) -> (Self::NodeId, Self::NodeId, E)
+        ensures { edge_gives self result };
+}
+
+impl<Ix, E: Default> IntoWeightedEdge<E> for (NodeIndex<Ix>, NodeIndex<Ix>) {
+    type NodeId = NodeIndex<Ix>;
+
+    ghost edge_gives = { λ ends edge. (edge.0 ≡ ends.0) × (edge.1 ≡ ends.1) × E.is_default edge.2 };
+
+    fn into_weighted_edge(self) -> (NodeIndex<Ix>, NodeIndex<Ix>, E) {
+        (self.0, self.1, E::default())
+    }
+}
+
+impl<Ix, E> IntoWeightedEdge<E> for (NodeIndex<Ix>, NodeIndex<Ix>, E) {
+    type NodeId = NodeIndex<Ix>;
+
+    ghost edge_gives = { λ given edge. edge ≡ given };
+
+    fn into_weighted_edge(self) -> (NodeIndex<Ix>, NodeIndex<Ix>, E) {
+        self
+    }
+}
+
+/// A part of a graph, in a list that a graph is made from.
+#[derive(Debug, Clone, Copy, Drop, PartialEq, Eq)]
+pub enum Element<N, E> {
+    /// A node. The first one in a list is at position 0, the next at 1, and so on.
+    Node {
+        /// The weight of the node.
+        weight: N,
+    },
+    /// An edge between nodes that stand before it in the list.
+    Edge {
+        /// The position of the node that it leads from.
+        source: usize,
+        /// The position of the node that it leads to.
+        target: usize,
+        /// The weight of the edge.
+        weight: E,
+    },
+}

@@ -1,0 +1,7 @@
+//! What the compact dag alone has, or has in a form of its own.
+mod copies;
+mod iterators;
+mod map;
+mod pairs;
+pub mod raw;
+mod rewriting;

@@ -1,0 +1,128 @@
+//! Copies, and memory for nodes and edges that are added later.
+ghost use Rattle.std.specs.Prelude.{◌≡◌, ◌+◌, ◌<◌, ◌^◌, length, IfOk, OnOk};
+ghost use Rattle.daggy_base.specs.Graph.{empty};
+ghost use Rattle.daggy_base.specs.Path.{IsAcyclic};
+
+use crate::acyclic::Acyclic;
+use daggy_base::index::IndexType;
+use daggy_base::search::Scratch;
+use daggy_graph::graph::DiGraph;
+use std::alloc::{AllocError, Global};
+use std::marker::PhantomData;
+
+impl<N: Drop, E: Drop, Ix: IndexType> Acyclic<N, E, Ix, DiGraph<N, E, Ix>> {
+    /// An empty dag with memory for so many nodes and edges, and for the searches among them.
+    ///
+    /// The error says that memory was refused, or that no machine can have so much. There may later be more nodes and
+    /// edges than that.
+    pub fn with_capacity(alloc: Global, nodes: usize, edges: usize) -> Result<Self, AllocError>
+        ensures value { IfOk result (λ d. d ≡ record { graph = empty; looks = 0 }) }
+        ensures nodes_fit { OnOk result (nodes < 2 ^ 63) }
+        ensures edges_fit { OnOk result (edges < 2 ^ 63) }
+    {
+        let store = DiGraph::with_capacity(alloc, nodes, edges)?;
+        let mut scratch = Scratch::new(alloc);
+        scratch.reserve(nodes, 0)?;
+        Ok(Acyclic {
+            store,
+            scratch,
+            node_weight: PhantomData,
+            edge_weight: PhantomData,
+        })
+    }
+
+    /// A dag with the same nodes and edges under the same indices, and in the same lists.
+    ///
+    /// The error says that memory for it was refused. The cost grows with the number of nodes and edges.
+    pub fn try_clone(&self) -> Result<Self, AllocError>
+    where
+        N: Clone,
+        E: Clone,
+        requires nodes { (x y : N) → N.is_clone x y → y ≡ x }
+        requires edges { (x y : E) → E.is_clone x y → y ≡ x }
+        ensures value { IfOk result (λ d. d ≡ record { graph = self.now.graph; looks = 0 }) }
+        ensures acyclic { IfOk result (λ d. IsAcyclic d.graph) }
+    {
+        let mut scratch = Scratch::new(self.scratch.allocator());
+        scratch.reserve(self.store.node_count(), 0)?;
+        let store = self.store.try_clone()?;
+        Ok(Acyclic {
+            store,
+            scratch,
+            node_weight: PhantomData,
+            edge_weight: PhantomData,
+        })
+    }
+
+    /// Makes room for so many more nodes and for the searches among them, and for some more than that, so that a later
+    /// call seldom makes room again.
+    ///
+    /// The error says that memory was refused, or that no machine can have so much. The dag is as it was.
+    pub fn reserve_nodes(&mut self, additional: usize) -> Result<(), AllocError>
+        ensures same { self.new ≡ self.old }
+        ensures fits { OnOk result (length self.new.graph.nodes + additional < 2 ^ 63) }
+    {
+        self.store.reserve_nodes(additional)?;
+        self.scratch
+            .reserve(self.store.node_count() + additional, 0)
+    }
+
+    /// Makes room for so many more nodes and for the searches among them.
+    ///
+    /// The error says that memory was refused, or that no machine can have so much. The dag is as it was.
+    pub fn reserve_exact_nodes(&mut self, additional: usize) -> Result<(), AllocError>
+        ensures same { self.new ≡ self.old }
+        ensures fits { OnOk result (length self.new.graph.nodes + additional < 2 ^ 63) }
+    {
+        self.store.reserve_exact_nodes(additional)?;
+        self.scratch
+            .reserve(self.store.node_count() + additional, 0)
+    }
+
+    /// Makes room for so many more edges, and for some more than that, so that a later call seldom makes room again.
+    ///
+    /// The error says that memory was refused, or that no machine can have so much. The dag is as it was.
+    pub fn reserve_edges(&mut self, additional: usize) -> Result<(), AllocError>
+        ensures same { self.new ≡ self.old }
+        ensures fits { OnOk result (length self.new.graph.edges + additional < 2 ^ 63) }
+    {
+        self.store.reserve_edges(additional)
+    }
+
+    /// Makes room for so many more edges.
+    ///
+    /// The error says that memory was refused, or that no machine can have so much. The dag is as it was.
+    pub fn reserve_exact_edges(&mut self, additional: usize) -> Result<(), AllocError>
+        ensures same { self.new ≡ self.old }
+        ensures fits { OnOk result (length self.new.graph.edges + additional < 2 ^ 63) }
+    {
+        self.store.reserve_exact_edges(additional)
+    }
+
+    /// Gives memory back that no node and no edge needs. The room for searches stays.
+    ///
+    /// The error says that a smaller block was refused. The dag is as it was, and so is the memory of that block.
+    pub fn shrink_to_fit(&mut self) -> Result<(), AllocError>
+        ensures { self.new ≡ self.old }
+    {
+        self.store.shrink_to_fit()
+    }
+
+    /// Gives memory back that no node needs. The room for searches stays.
+    ///
+    /// The error says that a smaller block was refused. The dag is as it was, and keeps the block that it had.
+    pub fn shrink_to_fit_nodes(&mut self) -> Result<(), AllocError>
+        ensures { self.new ≡ self.old }
+    {
+        self.store.shrink_to_fit_nodes()
+    }
+
+    /// Gives memory back that no edge needs.
+    ///
+    /// The error says that a smaller block was refused. The dag is as it was, and keeps the block that it had.
+    pub fn shrink_to_fit_edges(&mut self) -> Result<(), AllocError>
+        ensures { self.new ≡ self.old }
+    {
+        self.store.shrink_to_fit_edges()
+    }
+}

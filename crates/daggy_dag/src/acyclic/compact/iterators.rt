@@ -1,0 +1,77 @@
+//! Going over all nodes, over all edges, and over the edges of one node.
+ghost use Rattle.std.specs.Prelude.{◌≡◌, ◌<◌, ◌^◌, length};
+ghost use Rattle.daggy_base.specs.declared.index.Direction.TheVariants.{Outgoing};
+ghost use Rattle.daggy_graph.specs.Iterating.{node_identifiers as node_identifiers_of, node_references as node_references_of, edge_references as edge_references_of, edges_at, neighbors_at};
+
+use crate::acyclic::Acyclic;
+use daggy_base::index::{Direction, IndexType, NodeIndex};
+use daggy_graph::graph::DiGraph;
+use daggy_graph::graph::iterators::{EdgeReferences, NodeIdentifiers, NodeReferences};
+use daggy_graph::graph::lists::{Edges, Neighbors};
+
+impl<N: Drop, E: Drop, Ix: IndexType> Acyclic<N, E, Ix, DiGraph<N, E, Ix>> {
+    /// The indices of the nodes, in ascending order. The dag is free while they are gone through.
+    #[inline]
+    pub fn node_identifiers(&self) -> NodeIdentifiers<Ix>
+        ensures rest { result ≡ node_identifiers_of self.now.graph }
+        ensures fits { length result < 2 ^ 64 }
+    {
+        self.store.node_identifiers()
+    }
+
+    /// The nodes by ascending index, each with its weight.
+    #[inline]
+    pub fn node_references(&self) -> NodeReferences<'_, N, Ix>
+        ensures rest { result ≡ node_references_of self.now.graph }
+        ensures fits { length result < 2 ^ 64 }
+    {
+        self.store.node_references()
+    }
+
+    /// The edges, by ascending index.
+    #[inline]
+    pub fn edge_references(&self) -> EdgeReferences<'_, E, Ix>
+        ensures rest { result ≡ edge_references_of self.now.graph }
+        ensures fits { length result < 2 ^ 64 }
+    {
+        self.store.edge_references()
+    }
+
+    /// The edges from a node to its children, newest first, or none if the node does not exist.
+    #[inline]
+    pub fn edges(&self, n: NodeIndex<Ix>) -> Edges<'_, E, Ix>
+        ensures rest { result ≡ edges_at Outgoing self.now.graph (Ix.number n) }
+        ensures fits { length result < 2 ^ 64 }
+    {
+        self.store.edges(n)
+    }
+
+    /// The edges from a node to its children, or those from its parents to it, newest first, or none if the node does
+    /// not exist.
+    #[inline]
+    pub fn edges_directed(&self, n: NodeIndex<Ix>, dir: Direction) -> Edges<'_, E, Ix>
+        ensures rest { result ≡ edges_at dir self.now.graph (Ix.number n) }
+        ensures fits { length result < 2 ^ 64 }
+    {
+        self.store.edges_directed(n, dir)
+    }
+
+    /// The children of a node, one for each edge that leaves it, newest first, or none if the node does not exist.
+    #[inline]
+    pub fn neighbors(&self, n: NodeIndex<Ix>) -> Neighbors<'_, E, Ix>
+        ensures rest { result ≡ neighbors_at Outgoing self.now.graph (Ix.number n) }
+        ensures fits { length result < 2 ^ 64 }
+    {
+        self.store.neighbors(n)
+    }
+
+    /// The children of a node, or its parents, one for each edge that leaves it, or that enters it, newest first, or
+    /// none if the node does not exist.
+    #[inline]
+    pub fn neighbors_directed(&self, n: NodeIndex<Ix>, dir: Direction) -> Neighbors<'_, E, Ix>
+        ensures rest { result ≡ neighbors_at dir self.now.graph (Ix.number n) }
+        ensures fits { length result < 2 ^ 64 }
+    {
+        self.store.neighbors_directed(n, dir)
+    }
+}

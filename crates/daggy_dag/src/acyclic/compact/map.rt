@@ -1,0 +1,77 @@
+//! The same dag with other weights, and the part of a dag that closures keep.
+ghost use Rattle.std.specs.Prelude.{◌≡◌, length, IfOk};
+ghost use Rattle.daggy_base.specs.Path.{IsAcyclic};
+ghost use Rattle.daggy_graph.specs.Mapping.{IsMapped};
+ghost use Rattle.daggy_graph.specs.Filtering.{IsFiltered, ListsDescend, HaveSameEnds};
+
+use crate::acyclic::{Acyclic, Dag};
+use daggy_base::index::{EdgeIndex, IndexType, NodeIndex};
+use daggy_base::search::Scratch;
+use daggy_graph::graph::DiGraph;
+use std::alloc::AllocError;
+use std::marker::PhantomData;
+
+impl<N: Drop, E: Drop, Ix: IndexType> Acyclic<N, E, Ix, DiGraph<N, E, Ix>> {
+    /// A dag with the same nodes and edges under the same indices, and in the same lists, whose weights are what the
+    /// closures give: `f` is called with each node by ascending index, and then `g` with each edge.
+    ///
+    /// The error says that memory for it, or for its searches, was refused. Then no closure was called. The cost grows
+    /// with the number of nodes and edges, besides that of the calls.
+    pub fn map<
+        N2: Drop,
+        E2: Drop,
+        F: FnMut(NodeIndex<Ix>, &N) -> N2,
+        G: FnMut(EdgeIndex<Ix>, &E) -> E2,
+    >(&self, f: F, g: G) -> Result<Dag<N2, E2, Ix>, AllocError>
+        requires nodes { F.IsAlwaysCallable f }
+        requires edges { G.IsAlwaysCallable g }
+        ensures mapped { IfOk result (λ d. IsMapped Ix.of F.step G.step f g self.now.graph d.graph) }
+        ensures acyclic { IfOk result (λ d. IsAcyclic d.graph) }
+        ensures looks { IfOk result (λ d. d.looks ≡ 0) }
+    {
+        let mut scratch = Scratch::new(self.scratch.allocator());
+        scratch.reserve(self.store.node_count(), 0)?;
+        let store = self.store.map(f, g)?;
+        Ok(Acyclic {
+            store,
+            scratch,
+            node_weight: PhantomData,
+            edge_weight: PhantomData,
+        })
+    }
+
+    /// A dag of the nodes and edges that the closures give a weight for: `f` is called with each node by ascending
+    /// index, and then `g` with each edge whose ends both stayed.
+    ///
+    /// The nodes that stay keep their order and get new indices from 0 on. The edges that stay are added again by
+    /// ascending index, so each list has the edge with the greatest index first. Where nothing is left out, each node
+    /// and edge keeps its index.
+    ///
+    /// The error says that memory for it, or for its searches, was refused. Then no closure was called. The cost grows
+    /// with the number of nodes and edges, besides that of the calls.
+    pub fn filter_map<
+        N2: Drop,
+        E2: Drop,
+        F: FnMut(NodeIndex<Ix>, &N) -> Option<N2>,
+        G: FnMut(EdgeIndex<Ix>, &E) -> Option<E2>,
+    >(&self, f: F, g: G) -> Result<Dag<N2, E2, Ix>, AllocError>
+        requires nodes { F.IsAlwaysCallable f }
+        requires edges { G.IsAlwaysCallable g }
+        ensures filtered { IfOk result (λ d. IsFiltered Ix.of F.step G.step f g self.now.graph d.graph) }
+        ensures descending { IfOk result (λ d. ListsDescend d.graph) }
+        ensures whole { IfOk result (λ d. length d.graph.nodes ≡ length self.now.graph.nodes
+            → length d.graph.edges ≡ length self.now.graph.edges → HaveSameEnds self.now.graph d.graph) }
+        ensures acyclic { IfOk result (λ d. IsAcyclic d.graph) }
+        ensures looks { IfOk result (λ d. d.looks ≡ 0) }
+    {
+        let mut scratch = Scratch::new(self.scratch.allocator());
+        scratch.reserve(self.store.node_count(), 0)?;
+        let store = self.store.filter_map(f, g)?;
+        Ok(Acyclic {
+            store,
+            scratch,
+            node_weight: PhantomData,
+            edge_weight: PhantomData,
+        })
+    }
+}

@@ -1,0 +1,78 @@
+//! Two weights to write at once.
+ghost use Rattle.std.specs.Prelude.{◌≢◌};
+ghost use Rattle.daggy_base.specs.Graph.{node_weight as weight_at, HasNode, HasEdge};
+ghost use Rattle.daggy_base.specs.Path.{IsAcyclic};
+ghost use Rattle.daggy_base.specs.State.{with_graph};
+ghost use Rattle.daggy_base.specs.Weights.{edge_weight as edge_weight_at, with_node_weight, with_edge_weight};
+ghost use Rattle.daggy_graph.specs.Calls.{TakesAtTwo, CalledAtTwo};
+
+use crate::acyclic::Acyclic;
+use daggy_base::index::{EdgeIndex, IndexType, NodeIndex};
+use daggy_graph::graph::DiGraph;
+
+impl<N: Drop, E: Drop, Ix: IndexType> Acyclic<N, E, Ix, DiGraph<N, E, Ix>> {
+    /// Calls `f` with the weights of two nodes, both to be written, and gives what `f` gives.
+    ///
+    /// The cost is constant, besides that of `f`.
+    #[inline]
+    pub fn update_two_nodes<R, F: FnOnce(&mut N, &mut N) -> R>(
+        &mut self,
+        a: NodeIndex<Ix>,
+        b: NodeIndex<Ix>,
+        f: F,
+    ) -> R
+        requires first { HasNode self.old.graph (Ix.number a) }
+        requires second { HasNode self.old.graph (Ix.number b) }
+        requires different { Ix.number a ≢ Ix.number b }
+        requires callable { TakesAtTwo F.FnOnce f (weight_at self.old.graph (Ix.number a)) (weight_at self.old.graph (Ix.number b)) }
+        ensures called { CalledAtTwo F.FnOnce f (weight_at self.old.graph (Ix.number a)) (weight_at self.old.graph (Ix.number b)) result
+            (λ v w. with_graph self.old (with_node_weight (with_node_weight self.old.graph (Ix.number a) v) (Ix.number b) w)) self.new }
+        ensures acyclic { IsAcyclic self.new.graph }
+    {
+        let _well_formed = self.store.node_count();
+        self.store.update_two_nodes(a, b, f)
+    }
+
+    /// Calls `f` with the weights of two edges, both to be written, and gives what `f` gives.
+    ///
+    /// The cost is constant, besides that of `f`.
+    #[inline]
+    pub fn update_two_edges<R, F: FnOnce(&mut E, &mut E) -> R>(
+        &mut self,
+        a: EdgeIndex<Ix>,
+        b: EdgeIndex<Ix>,
+        f: F,
+    ) -> R
+        requires first { HasEdge self.old.graph (Ix.number a) }
+        requires second { HasEdge self.old.graph (Ix.number b) }
+        requires different { Ix.number a ≢ Ix.number b }
+        requires callable { TakesAtTwo F.FnOnce f (edge_weight_at self.old.graph (Ix.number a)) (edge_weight_at self.old.graph (Ix.number b)) }
+        ensures called { CalledAtTwo F.FnOnce f (edge_weight_at self.old.graph (Ix.number a)) (edge_weight_at self.old.graph (Ix.number b)) result
+            (λ v w. with_graph self.old (with_edge_weight (with_edge_weight self.old.graph (Ix.number a) v) (Ix.number b) w)) self.new }
+        ensures acyclic { IsAcyclic self.new.graph }
+    {
+        let _well_formed = self.store.node_count();
+        self.store.update_two_edges(a, b, f)
+    }
+
+    /// Calls `f` with the weights of a node and an edge, both to be written, and gives what `f` gives.
+    ///
+    /// The cost is constant, besides that of `f`.
+    #[inline]
+    pub fn update_node_and_edge<R, F: FnOnce(&mut N, &mut E) -> R>(
+        &mut self,
+        n: NodeIndex<Ix>,
+        e: EdgeIndex<Ix>,
+        f: F,
+    ) -> R
+        requires node { HasNode self.old.graph (Ix.number n) }
+        requires edge { HasEdge self.old.graph (Ix.number e) }
+        requires callable { TakesAtTwo F.FnOnce f (weight_at self.old.graph (Ix.number n)) (edge_weight_at self.old.graph (Ix.number e)) }
+        ensures called { CalledAtTwo F.FnOnce f (weight_at self.old.graph (Ix.number n)) (edge_weight_at self.old.graph (Ix.number e)) result
+            (λ v w. with_graph self.old (with_edge_weight (with_node_weight self.old.graph (Ix.number n) v) (Ix.number e) w)) self.new }
+        ensures acyclic { IsAcyclic self.new.graph }
+    {
+        let _well_formed = self.store.node_count();
+        self.store.update_node_and_edge(n, e, f)
+    }
+}

@@ -1,0 +1,30 @@
+//! The slices that a compact dag is stored in.
+ghost use Rattle.daggy_graph.specs.Raw.{ShowsNodes, ShowsEdges};
+
+use crate::acyclic::Acyclic;
+use daggy_base::index::IndexType;
+use daggy_graph::graph::{DiGraph, Edge, Node};
+
+/// The nodes of a dag as they are stored, by index.
+pub type RawNodes<'a, N, Ix> = &'a [Node<N, Ix>];
+
+/// The edges of a dag as they are stored, by index.
+pub type RawEdges<'a, E, Ix> = &'a [Edge<E, Ix>];
+
+impl<N: Drop, E: Drop, Ix: IndexType> Acyclic<N, E, Ix, DiGraph<N, E, Ix>> {
+    /// The nodes as they are stored, by index.
+    #[inline]
+    pub fn raw_nodes(&self) -> RawNodes<'_, N, Ix>
+        ensures { ShowsNodes Ix.greatest self.now.graph result.now }
+    {
+        self.store.raw_nodes()
+    }
+
+    /// The edges as they are stored, by index.
+    #[inline]
+    pub fn raw_edges(&self) -> RawEdges<'_, E, Ix>
+        ensures { ShowsEdges Ix.greatest self.now.graph result.now }
+    {
+        self.store.raw_edges()
+    }
+}

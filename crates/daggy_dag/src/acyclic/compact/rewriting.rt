@@ -1,0 +1,36 @@
+//! All weights to write, one after another.
+ghost use Rattle.std.specs.Prelude.{◌≡◌};
+ghost use Rattle.daggy_base.specs.Path.{IsAcyclic};
+ghost use Rattle.daggy_graph.specs.Rewriting.{RewritesNodes, RewritesEdges};
+
+use crate::acyclic::Acyclic;
+use daggy_base::index::{EdgeIndex, IndexType, NodeIndex};
+use daggy_graph::graph::DiGraph;
+
+impl<N: Drop, E: Drop, Ix: IndexType> Acyclic<N, E, Ix, DiGraph<N, E, Ix>> {
+    /// Calls `f` with each node by ascending index and with its weight, to be written.
+    ///
+    /// The cost grows with the number of nodes, besides that of the calls.
+    pub fn update_node_weights<F: FnMut(NodeIndex<Ix>, &mut N)>(&mut self, f: F)
+        requires { F.IsAlwaysCallable f }
+        ensures written { RewritesNodes Ix.of F.step f self.old.graph self.new.graph }
+        ensures acyclic { IsAcyclic self.new.graph }
+        ensures looks { self.new.looks ≡ self.old.looks }
+    {
+        let _well_formed = self.store.node_count();
+        self.store.update_node_weights(f);
+    }
+
+    /// Calls `f` with each edge by ascending index and with its weight, to be written.
+    ///
+    /// The cost grows with the number of edges, besides that of the calls.
+    pub fn update_edge_weights<F: FnMut(EdgeIndex<Ix>, &mut E)>(&mut self, f: F)
+        requires { F.IsAlwaysCallable f }
+        ensures written { RewritesEdges Ix.of F.step f self.old.graph self.new.graph }
+        ensures acyclic { IsAcyclic self.new.graph }
+        ensures looks { self.new.looks ≡ self.old.looks }
+    {
+        let _well_formed = self.store.node_count();
+        self.store.update_edge_weights(f);
+    }
+}

@@ -1,0 +1,60 @@
+//! The graph of a dag, to read or to keep.
+ghost use Rattle.std.specs.Prelude.{◌≡◌};
+ghost use Rattle.daggy_base.specs.Path.{IsAcyclic};
+
+use crate::acyclic::{Acyclic, Dag, StableDag};
+use daggy_base::index::IndexType;
+use daggy_base::search::EdgeSource;
+use daggy_base::store::Store;
+use daggy_graph::graph::DiGraph;
+use daggy_stable::stable_graph::StableDiGraph;
+use std::alloc::Global;
+
+impl<N: Drop, E: Drop, Ix: IndexType, S> Acyclic<N, E, Ix, S>
+where
+    S: Store<Ix, NodeWeight = N, EdgeWeight = E>,
+{
+    /// The graph, for all that only reads one.
+    #[inline]
+    pub fn graph(&self) -> &S
+        ensures graph { S.graph result.now ≡ self.now.graph }
+        ensures looks { S.looks result.now ≡ self.now.looks }
+        ensures acyclic { IsAcyclic (S.graph result.now) }
+    {
+        &self.store
+    }
+
+    /// The allocator that the dag takes its memory from.
+    #[inline]
+    pub fn allocator(&self) -> Global {
+        self.scratch.allocator()
+    }
+
+    /// The graph, which need not stay acyclic from then on. Nothing is copied.
+    #[inline]
+    pub fn into_graph(self) -> S
+        ensures graph { S.graph result ≡ self.graph }
+        ensures looks { S.looks result ≡ self.looks }
+        ensures acyclic { IsAcyclic (S.graph result) }
+    {
+        self.store
+    }
+}
+
+impl<N: Drop, E: Drop, Ix: IndexType> From<Dag<N, E, Ix>> for DiGraph<N, E, Ix> {
+    ghost from_gives = { λ dag graph. graph ≡ dag };
+
+    #[inline]
+    fn from(dag: Dag<N, E, Ix>) -> DiGraph<N, E, Ix> {
+        dag.into_graph()
+    }
+}
+
+impl<N: Drop, E: Drop, Ix: IndexType> From<StableDag<N, E, Ix>> for StableDiGraph<N, E, Ix> {
+    ghost from_gives = { λ dag graph. graph ≡ dag };
+
+    #[inline]
+    fn from(dag: StableDag<N, E, Ix>) -> StableDiGraph<N, E, Ix> {
+        dag.into_graph()
+    }
+}

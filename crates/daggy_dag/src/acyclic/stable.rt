@@ -1,0 +1,6 @@
+//! What the stable dag alone has, or has in a form of its own.
+mod convert;
+mod copies;
+mod iterators;
+mod map;
+mod pairs;

@@ -1,0 +1,55 @@
+//! A stable dag made of a compact one.
+ghost use Rattle.std.specs.Prelude.{◌≡◌, ◌≤◌, IfOk, IfErr};
+ghost use Rattle.daggy_base.specs.Graph.{IsCompact};
+ghost use Rattle.daggy_base.specs.Path.{IsAcyclic};
+
+use crate::acyclic::{Acyclic, Dag};
+use daggy_base::index::IndexType;
+use daggy_base::search::Scratch;
+use daggy_stable::stable_graph::{Room, StableDiGraph};
+use std::alloc::{AllocError, Global};
+use std::marker::PhantomData;
+
+// Memory for a graph of so many nodes and edges, and for its searches.
+fn room_for<N: Drop, E: Drop, Ix: IndexType>(
+    alloc: Global,
+    nodes: usize,
+    edges: usize,
+) -> Result<(Scratch<Ix>, Room<N, E, Ix>), AllocError>
+    ensures searches { IfOk result (λ taken. nodes ≤ taken.0.nodes) }
+    ensures graph { IfOk result (λ taken. taken.1 ≡ record { nodes = nodes; edges = edges }) }
+{
+    let mut scratch = Scratch::new(alloc);
+    scratch.reserve(nodes, 0)?;
+    let room = Room::new(alloc, nodes, edges)?;
+    Ok((scratch, room))
+}
+
+impl<N: Drop, E: Drop, Ix: IndexType> Acyclic<N, E, Ix, StableDiGraph<N, E, Ix>> {
+    /// The same nodes and edges under the same indices, and in the same lists, with no slot vacant.
+    ///
+    /// The error says that memory for it was refused, and hands the dag back. The cost grows with the number of nodes and
+    /// edges.
+    pub fn from_dag(dag: Dag<N, E, Ix>) -> Result<Self, Dag<N, E, Ix>>
+        ensures value { IfOk result (λ d. d ≡ record { graph = dag.graph; looks = 0 }) }
+        ensures acyclic { IfOk result (λ d. IsAcyclic d.graph) }
+        ensures compact { IfOk result (λ d. IsCompact d.graph) }
+        ensures refused { IfErr result (λ back. back ≡ dag) }
+    {
+        let nodes = dag.graph().node_count();
+        let edges = dag.graph().edge_count();
+        let alloc = dag.allocator();
+        match room_for(alloc, nodes, edges) {
+            Ok((scratch, room)) => {
+                let store = room.fill(dag.into_graph());
+                Ok(Acyclic {
+                    store,
+                    scratch,
+                    node_weight: PhantomData,
+                    edge_weight: PhantomData,
+                })
+            }
+            Err(_) => Err(dag),
+        }
+    }
+}

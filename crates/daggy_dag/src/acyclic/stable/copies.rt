@@ -1,0 +1,57 @@
+//! Copies, and dags with memory for nodes and edges that are added later.
+ghost use Rattle.std.specs.Prelude.{◌≡◌, ◌<◌, ◌^◌, IfOk, OnOk};
+ghost use Rattle.daggy_base.specs.Graph.{empty};
+ghost use Rattle.daggy_base.specs.Path.{IsAcyclic};
+
+use crate::acyclic::Acyclic;
+use daggy_base::index::IndexType;
+use daggy_base::search::Scratch;
+use daggy_stable::stable_graph::StableDiGraph;
+use std::alloc::{AllocError, Global};
+use std::marker::PhantomData;
+
+impl<N: Drop, E: Drop, Ix: IndexType> Acyclic<N, E, Ix, StableDiGraph<N, E, Ix>> {
+    /// An empty dag with memory for so many nodes and edges, and for the searches among them.
+    ///
+    /// The error says that memory was refused, or that no machine can have so much. There may later be more nodes and
+    /// edges than that.
+    pub fn with_capacity(alloc: Global, nodes: usize, edges: usize) -> Result<Self, AllocError>
+        ensures value { IfOk result (λ d. d ≡ record { graph = empty; looks = 0 }) }
+        ensures nodes_fit { OnOk result (nodes < 2 ^ 63) }
+        ensures edges_fit { OnOk result (edges < 2 ^ 63) }
+    {
+        let store = StableDiGraph::with_capacity(alloc, nodes, edges)?;
+        let mut scratch = Scratch::new(alloc);
+        scratch.reserve(nodes, 0)?;
+        Ok(Acyclic {
+            store,
+            scratch,
+            node_weight: PhantomData,
+            edge_weight: PhantomData,
+        })
+    }
+
+    /// A dag with the same nodes and edges under the same indices, in the same lists, and with the same vacant slots, which
+    /// are taken in the same order.
+    ///
+    /// The error says that memory for it was refused. The cost grows with the number of slots.
+    pub fn try_clone(&self) -> Result<Self, AllocError>
+    where
+        N: Clone,
+        E: Clone,
+        requires nodes { (x y : N) → N.is_clone x y → y ≡ x }
+        requires edges { (x y : E) → E.is_clone x y → y ≡ x }
+        ensures value { IfOk result (λ d. d ≡ record { graph = self.now.graph; looks = 0 }) }
+        ensures acyclic { IfOk result (λ d. IsAcyclic d.graph) }
+    {
+        let mut scratch = Scratch::new(self.scratch.allocator());
+        scratch.reserve(self.store.node_slots(), 0)?;
+        let store = self.store.try_clone()?;
+        Ok(Acyclic {
+            store,
+            scratch,
+            node_weight: PhantomData,
+            edge_weight: PhantomData,
+        })
+    }
+}

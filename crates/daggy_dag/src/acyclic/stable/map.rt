@@ -1,0 +1,77 @@
+//! The same dag with other weights, and the part of a dag that closures keep.
+ghost use Rattle.std.specs.Prelude.{◌≡◌, IfOk};
+ghost use Rattle.daggy_base.specs.Path.{IsAcyclic};
+ghost use Rattle.daggy_graph.specs.Mapping.{IsMapped};
+ghost use Rattle.daggy_graph.specs.InPlace.{IsFilteredInPlace};
+ghost use Rattle.daggy_graph.specs.Filtering.{ListsDescend};
+
+use crate::acyclic::{Acyclic, StableDag};
+use daggy_base::index::{EdgeIndex, IndexType, NodeIndex};
+use daggy_base::search::Scratch;
+use daggy_stable::stable_graph::StableDiGraph;
+use std::alloc::AllocError;
+use std::marker::PhantomData;
+
+impl<N: Drop, E: Drop, Ix: IndexType> Acyclic<N, E, Ix, StableDiGraph<N, E, Ix>> {
+    /// A dag with the same nodes and edges under the same indices, in the same lists and with the same vacant slots, whose
+    /// weights are what the closures give: `f` is called with each node by ascending index, and then `g` with each edge.
+    ///
+    /// The error says that memory for it, or for its searches, was refused. Then no closure was called. The cost grows
+    /// with the number of nodes and edges, besides that of the calls.
+    pub fn map<
+        N2: Drop,
+        E2: Drop,
+        F: FnMut(NodeIndex<Ix>, &N) -> N2,
+        G: FnMut(EdgeIndex<Ix>, &E) -> E2,
+    >(&self, f: F, g: G) -> Result<StableDag<N2, E2, Ix>, AllocError>
+        requires nodes { F.IsAlwaysCallable f }
+        requires edges { G.IsAlwaysCallable g }
+        ensures mapped { IfOk result (λ d. IsMapped Ix.of F.step G.step f g self.now.graph d.graph) }
+        ensures acyclic { IfOk result (λ d. IsAcyclic d.graph) }
+        ensures looks { IfOk result (λ d. d.looks ≡ 0) }
+    {
+        let _well_formed = self.store.node_count();
+        let mut scratch = Scratch::new(self.scratch.allocator());
+        scratch.reserve(self.store.node_slots(), 0)?;
+        let store = self.store.map(f, g)?;
+        Ok(Acyclic {
+            store,
+            scratch,
+            node_weight: PhantomData,
+            edge_weight: PhantomData,
+        })
+    }
+
+    /// A dag of the nodes and edges that the closures give a weight for: `f` is called with each node by ascending
+    /// index, and then `g` with each edge whose ends both stayed.
+    ///
+    /// What stays keeps its index. There are slots up to the last node and up to the last edge of this dag, those of what
+    /// was left out are vacant, and the highest is used again first. Each list has the edge with the greatest index first.
+    ///
+    /// The error says that memory for it, or for its searches, was refused. Then no closure was called. The cost grows
+    /// with the number of nodes and edges, besides that of the calls.
+    pub fn filter_map<
+        N2: Drop,
+        E2: Drop,
+        F: FnMut(NodeIndex<Ix>, &N) -> Option<N2>,
+        G: FnMut(EdgeIndex<Ix>, &E) -> Option<E2>,
+    >(&self, f: F, g: G) -> Result<StableDag<N2, E2, Ix>, AllocError>
+        requires nodes { F.IsAlwaysCallable f }
+        requires edges { G.IsAlwaysCallable g }
+        ensures filtered { IfOk result (λ d. IsFilteredInPlace Ix.of F.step G.step f g self.now.graph d.graph) }
+        ensures descending { IfOk result (λ d. ListsDescend d.graph) }
+        ensures acyclic { IfOk result (λ d. IsAcyclic d.graph) }
+        ensures looks { IfOk result (λ d. d.looks ≡ 0) }
+    {
+        let _well_formed = self.store.node_count();
+        let mut scratch = Scratch::new(self.scratch.allocator());
+        scratch.reserve(self.store.node_slots(), 0)?;
+        let store = self.store.filter_map(f, g)?;
+        Ok(Acyclic {
+            store,
+            scratch,
+            node_weight: PhantomData,
+            edge_weight: PhantomData,
+        })
+    }
+}

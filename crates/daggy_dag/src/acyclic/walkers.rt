@@ -1,0 +1,118 @@
+//! Walkers over the children and over the parents of a node.
+ghost use Rattle.std.specs.Prelude.{◌≡◌};
+ghost use Rattle.std.specs.Option.{option_map};
+ghost use Rattle.daggy_base.specs.Graph.{pair_of};
+ghost use Rattle.daggy_base.specs.Cursor.{IsStep};
+ghost use Rattle.daggy_base.specs.declared.index.Direction.TheVariants.{Outgoing, Incoming};
+
+use crate::acyclic::Acyclic;
+use daggy_base::index::{DefaultIx, Direction, EdgeIndex, IndexType, NodeIndex};
+use daggy_base::store::Store;
+use daggy_guard::walk;
+use daggy_walk::walker::Walker;
+use std::alloc::AllocError;
+use std::marker::{Model, PhantomData};
+
+/// A walker over the children of a node. It gives each edge with its child.
+///
+/// It holds no borrow of the dag. If the edge that comes next was removed, it gives nothing from then on, unless an edge
+/// gets that index again.
+pub struct Children<N, E, Ix = DefaultIx> {
+    pub(super) edge: EdgeIndex<Ix>,
+    pub(super) node_weight: PhantomData<N>,
+    pub(super) edge_weight: PhantomData<E>,
+}
+
+impl<N, E, Ix> Model for Children<N, E, Ix> {
+    ghost use Rattle.std.specs.Prelude.{refl};
+
+    ghost Value = { Ix };
+
+    ghost coded = { Ix.code };
+
+    ghost view = { λ w. w.edge };
+
+    ghost inverse = { λ e. record { edge = e; node_weight = record {}; edge_weight = record {} } };
+
+    ghost inverse_ok = { λ w h. refl };
+}
+
+impl<N, E, Ix: Copy> Clone for Children<N, E, Ix> {
+    ghost is_clone = { λ a b. a ≡ b };
+
+    fn clone(&self) -> Result<Self, AllocError> {
+        Ok(Children {
+            edge: self.edge,
+            node_weight: PhantomData,
+            edge_weight: PhantomData,
+        })
+    }
+}
+
+impl<N, E, Ix: Copy> Copy for Children<N, E, Ix> {}
+
+impl<N: Drop, E: Drop, Ix: IndexType, S> Walker<Acyclic<N, E, Ix, S>> for Children<N, E, Ix>
+where
+    S: Store<Ix, NodeWeight = N, EdgeWeight = E>,
+{
+    type Item = (EdgeIndex<Ix>, NodeIndex<Ix>);
+
+    ghost walk_gives = { λ w d r after. IsStep Outgoing Ix.greatest d.graph (Ix.number w) (option_map (pair_of Ix.number) r) (Ix.number after) };
+
+    #[inline]
+    fn walk_next(&mut self, dag: &Acyclic<N, E, Ix, S>) -> Option<(EdgeIndex<Ix>, NodeIndex<Ix>)> {
+        walk::step(&dag.store, Direction::Outgoing, &mut self.edge)
+    }
+}
+
+/// A walker over the parents of a node. It gives each edge with its parent.
+///
+/// It holds no borrow of the dag. If the edge that comes next was removed, it gives nothing from then on, unless an edge
+/// gets that index again.
+pub struct Parents<N, E, Ix = DefaultIx> {
+    pub(super) edge: EdgeIndex<Ix>,
+    pub(super) node_weight: PhantomData<N>,
+    pub(super) edge_weight: PhantomData<E>,
+}
+
+impl<N, E, Ix> Model for Parents<N, E, Ix> {
+    ghost use Rattle.std.specs.Prelude.{refl};
+
+    ghost Value = { Ix };
+
+    ghost coded = { Ix.code };
+
+    ghost view = { λ w. w.edge };
+
+    ghost inverse = { λ e. record { edge = e; node_weight = record {}; edge_weight = record {} } };
+
+    ghost inverse_ok = { λ w h. refl };
+}
+
+impl<N, E, Ix: Copy> Clone for Parents<N, E, Ix> {
+    ghost is_clone = { λ a b. a ≡ b };
+
+    fn clone(&self) -> Result<Self, AllocError> {
+        Ok(Parents {
+            edge: self.edge,
+            node_weight: PhantomData,
+            edge_weight: PhantomData,
+        })
+    }
+}
+
+impl<N, E, Ix: Copy> Copy for Parents<N, E, Ix> {}
+
+impl<N: Drop, E: Drop, Ix: IndexType, S> Walker<Acyclic<N, E, Ix, S>> for Parents<N, E, Ix>
+where
+    S: Store<Ix, NodeWeight = N, EdgeWeight = E>,
+{
+    type Item = (EdgeIndex<Ix>, NodeIndex<Ix>);
+
+    ghost walk_gives = { λ w d r after. IsStep Incoming Ix.greatest d.graph (Ix.number w) (option_map (pair_of Ix.number) r) (Ix.number after) };
+
+    #[inline]
+    fn walk_next(&mut self, dag: &Acyclic<N, E, Ix, S>) -> Option<(EdgeIndex<Ix>, NodeIndex<Ix>)> {
+        walk::step(&dag.store, Direction::Incoming, &mut self.edge)
+    }
+}

@@ -1,0 +1,106 @@
+//! Weights to write, and `[]`.
+ghost use Rattle.std.specs.Prelude.{◌≡◌, Some};
+ghost use Rattle.std.specs.Borrow.{sem};
+ghost use Rattle.std.specs.Option.{option_copied_mut};
+ghost use Rattle.daggy_base.specs.Graph.{node_weight as weight_at, HasNode, HasEdge};
+ghost use Rattle.daggy_base.specs.Weights.{edge_weight as edge_weight_at};
+ghost use Rattle.daggy_dag.specs.Lends.{lends_node, lends_node_if, lends_edge, lends_edge_if};
+
+use crate::acyclic::Acyclic;
+use daggy_base::index::{EdgeIndex, IndexType, NodeIndex};
+use daggy_base::search::EdgeSource;
+use daggy_base::store::Store;
+use std::ops::{Index, IndexMut};
+
+impl<N: Drop, E: Drop, Ix: IndexType, S> Acyclic<N, E, Ix, S>
+where
+    S: Store<Ix, NodeWeight = N, EdgeWeight = E>,
+{
+    /// The weight of a node, to be written, or `None` if there is no such node.
+    #[inline]
+    pub fn node_weight_mut(&mut self, n: NodeIndex<Ix>) -> Option<&mut N>
+        ensures* writes_back { sem 𝓛 (lends_node_if N.row E.row Ix.row S.row Ix.IndexType S.Store self.entry n result) }
+        ensures value { option_copied_mut result ≡ weight_at self.old.graph (Ix.number n) }
+    {
+        if self.contains_node(n) {
+            Some(&mut self[n])
+        } else {
+            None
+        }
+    }
+
+    /// The weight of an edge, to be written, or `None` if there is no such edge.
+    #[inline]
+    pub fn edge_weight_mut(&mut self, e: EdgeIndex<Ix>) -> Option<&mut E>
+        ensures* writes_back { sem 𝓛 (lends_edge_if N.row E.row Ix.row S.row Ix.IndexType S.Store self.entry e result) }
+        ensures value { option_copied_mut result ≡ edge_weight_at self.old.graph (Ix.number e) }
+    {
+        if self.store.contains_edge(e) {
+            Some(&mut self[e])
+        } else {
+            None
+        }
+    }
+}
+
+impl<N: Drop, E: Drop, Ix: IndexType, S> Index<NodeIndex<Ix>> for Acyclic<N, E, Ix, S>
+where
+    S: Store<Ix, NodeWeight = N, EdgeWeight = E>,
+{
+    type Output = N;
+
+    ghost can_index = { λ d n. HasNode d.graph (Ix.number n) };
+
+    ghost index_gives = { λ d n w. weight_at d.graph (Ix.number n) ≡ Some w };
+
+    #[inline]
+    fn index(&self, n: NodeIndex<Ix>) -> &N {
+        self.store.node_weight(n).unwrap()
+    }
+}
+
+impl<N: Drop, E: Drop, Ix: IndexType, S> Index<EdgeIndex<Ix>> for Acyclic<N, E, Ix, S>
+where
+    S: Store<Ix, NodeWeight = N, EdgeWeight = E>,
+{
+    type Output = E;
+
+    ghost can_index = { λ d e. HasEdge d.graph (Ix.number e) };
+
+    ghost index_gives = { λ d e w. edge_weight_at d.graph (Ix.number e) ≡ Some w };
+
+    #[inline]
+    fn index(&self, e: EdgeIndex<Ix>) -> &E {
+        self.store.edge_weight(e).unwrap()
+    }
+}
+
+impl<N: Drop, E: Drop, Ix: IndexType, S> IndexMut<NodeIndex<Ix>> for Acyclic<N, E, Ix, S>
+where
+    S: Store<Ix, NodeWeight = N, EdgeWeight = E>,
+{
+    #[inline]
+    fn index_mut(&mut self, n: NodeIndex<Ix>) -> &mut N
+        requires { HasNode self.old.graph (Ix.number n) }
+        ensures* writes_back { sem 𝓛 (lends_node N.row E.row Ix.row S.row Ix.IndexType S.Store self.entry n result) }
+        ensures value { weight_at self.old.graph (Ix.number n) ≡ Some result.now }
+    {
+        let _well_formed = self.store.node_count();
+        self.store.node_mut(n)
+    }
+}
+
+impl<N: Drop, E: Drop, Ix: IndexType, S> IndexMut<EdgeIndex<Ix>> for Acyclic<N, E, Ix, S>
+where
+    S: Store<Ix, NodeWeight = N, EdgeWeight = E>,
+{
+    #[inline]
+    fn index_mut(&mut self, e: EdgeIndex<Ix>) -> &mut E
+        requires { HasEdge self.old.graph (Ix.number e) }
+        ensures* writes_back { sem 𝓛 (lends_edge N.row E.row Ix.row S.row Ix.IndexType S.Store self.entry e result) }
+        ensures value { edge_weight_at self.old.graph (Ix.number e) ≡ Some result.now }
+    {
+        let _well_formed = self.store.node_count();
+        self.store.edge_mut(e)
+    }
+}

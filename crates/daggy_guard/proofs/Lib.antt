@@ -1,0 +1,11 @@
+pub mod Guarding
+pub mod NewNode
+pub mod Rolling
+pub mod Accepting
+pub mod SeriesSteps
+pub mod Filling
+pub mod Stopping
+pub mod Iterating
+pub mod Extending
+pub mod Making
+pub mod Joining

@@ -1,0 +1,11 @@
+use Rattle.daggy_base.specs.Graph.{edge_count}
+use Rattle.daggy_guard.proofs.Extending.{Extending, FewLooks}
+use Rattle.daggy_guard.proofs.extension.extend_all.Given as goal
+
+abbrev pub invariant-items : goal.invariant-items
+invariant-items g l = record {
+  can : (goal.iterator-items g).can_next l.item-iterator;
+  ends : (goal.iterator-items g).is_finite l.item-iterator;
+  extending : Extending g.S.NodeWeight.Default.is_default g.Ix.IndexType.number g.Ix.IndexType.greatest g.T.IntoWeightedEdge.edge_gives (g.S.EdgeSource.graph l.fn.store) (g.S.EdgeSource.graph l.store) l.yielded l.scratch.nodes;
+  few : FewLooks (edge_count (g.S.EdgeSource.graph l.fn.store)) (g.S.EdgeSource.looks l.fn.store) (edge_count (g.S.EdgeSource.graph l.store)) (g.S.EdgeSource.looks l.store);
+}

@@ -1,0 +1,8 @@
+use Rattle.daggy_guard.proofs.Guarding.{acyclic_edge_gone, bound_edge_gone}
+use Rattle.daggy_guard.proofs.guard.remove_edge.Goals as goal
+
+pub returns-clause-acyclic : goal.returns-clause-acyclic
+returns-clause-acyclic g c = acyclic_edge_gone g.S.Store.kind _ _ _ c.remove_edge.result c.remove_edge.ensures.removed c.remove_edge.ensures.missing c.requires
+
+pub returns-clause-bound : goal.returns-clause-bound
+returns-clause-bound g c = bound_edge_gone g.S.Store.kind _ _ _ c.remove_edge.result c.remove_edge.ensures.removed c.remove_edge.ensures.missing

@@ -1,0 +1,4 @@
+pub mod Series
+pub mod SoFar
+pub mod Extension
+pub mod Elements

@@ -1,0 +1,31 @@
+-- How far a series of edges has come.
+use Rattle.std.specs.Prelude.{◌≡◌, ℕ, ◌<◌, List, [], length, take, Vec}
+use Rattle.std.specs.declared.alloc.Global.{Global}
+use Rattle.daggy_base.specs.Graph.{Graph}
+use Rattle.daggy_base.specs.Removal.{Kind, Compact}
+use Rattle.daggy_base.specs.WellFormed.{IsWellFormed}
+use Rattle.daggy_base.specs.declared.error.EdgesError.{EdgesError}
+use Rattle.daggy_base.specs.declared.error.EdgesError.TheVariants as edges
+use Rattle.daggy_guard.specs.Series.{NewEdge, with_edges, new_edges, LacksEnd, LacksIndex, LacksMemory}
+use Rattle.daggy_guard.specs.declared.series.Fault.{Fault}
+use Rattle.daggy_guard.specs.declared.series.Fault.TheVariants.{BadEndpoint, Full, Memory}
+
+-- now is before with the edges xs, which got these indices; slots is how many slots of edges there were before
+pub record IsSeries {N E : Type 0} (limit : ℕ) (kind : Kind) (before now : Graph N E) (xs : List (NewEdge E)) (indices : List ℕ) (slots : ℕ) : Type 0 where
+  pub now_is : now ≡ with_edges before xs
+  pub indices_are : indices ≡ new_edges before xs
+  pub well_formed : (k : ℕ) → k < length xs → IsWellFormed limit (with_edges before (take k xs))
+  pub compact : kind ≡ Compact → before.vacant_edges ≡ []
+  pub slots_are : slots ≡ length before.edges
+
+-- what keeps an edge from being added
+abbrev pub IsFault : {N E : Type 0} → (limit : ℕ) → Graph N E → NewEdge E → Fault E → Type 0
+IsFault limit g x (BadEndpoint w) = (w ≡ x.2) × LacksEnd g x
+IsFault limit g x (Full w) = (w ≡ x.2) × LacksIndex limit g x
+IsFault limit g x (Memory w) = (w ≡ x.2) × LacksMemory limit g x
+
+-- the refusal of the whole series
+abbrev pub refusal : {E : Type 0} → Fault E → Vec E Global → EdgesError E
+refusal (BadEndpoint w) before = edges.BadEndpoint w before
+refusal (Full w) before = edges.Full w before
+refusal (Memory w) before = edges.Memory w before
