@@ -3,3 +3,4 @@ pub mod Series
 pub mod SoFar
 pub mod Extension
 pub mod Elements
+pub mod Cursors

@@ -26,6 +26,7 @@ use std::marker::{Model, PhantomData};
 
 mod convert;
 mod copies;
+mod cursors;
 mod iterators;
 mod map;
 mod pairs;
@@ -35,6 +36,7 @@ mod visit;
 mod walkers;
 mod weights;
 
+pub use cursors::{EdgeWeightsMut, NodeWeightsMut};
 pub use walkers::{Children, Parents};
 
 /// The nodes of a dag as they are stored, by index.
