@@ -43,8 +43,8 @@ module _ {N E Ix : Type 0} (nodes : List (Node N Ix)) (edges : List (Edge E Ix))
         let w = IsWellFormed-stored end nodes edges (stored_graph nodes edges) stored in
         let beyond : length (map weight_of nodes) ≤ n = omega (arith, length-map nodes weight_of, ap length lent_is, i_is, past) in
         let empty : list_at dir (stored_graph nodes edges) n ≡ [] =
-          elim dir as (λ d. list_at d (stored_graph nodes edges) n ≡ []) [
-            Outgoing ↦ ap (λ o. unwrap_or o []) (slice_get_past _ n (omega (arith, w.out_rows, beyond)))
+        elim dir as (λ d. list_at d (stored_graph nodes edges) n ≡ []) [
+          | Outgoing ↦ ap (λ o. unwrap_or o []) (slice_get_past _ n (omega (arith, w.out_rows, beyond)))
           | Incoming ↦ ap (λ o. unwrap_or o []) (slice_get_past _ n (omega (arith, w.in_rows, beyond)))
-          ] in
+        ] in
         sym (ap (first_of end) empty) ∙ ap (λ z. first_of end (list_at dir z.graph n)) view
