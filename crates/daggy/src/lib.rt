@@ -23,7 +23,9 @@ pub use daggy_base::error::{
 };
 pub use daggy_base::index::{EdgeIndex, NodeIndex};
 pub use daggy_base::{index, search};
-pub use daggy_dag::acyclic::{Children, Dag, Parents, RawEdges, RawNodes, StableDag};
+pub use daggy_dag::acyclic::{
+    Children, Dag, EdgeWeightsMut, NodeWeightsMut, Parents, RawEdges, RawNodes, StableDag,
+};
 pub use daggy_guard::edge_indices::EdgeIndices;
 pub use daggy_graph::graph;
 pub use daggy_graph::graph::lists::Edges;

@@ -33,6 +33,7 @@ mod visit;
 mod walkers;
 mod weights;
 
+pub use compact::cursors::{EdgeWeightsMut, NodeWeightsMut};
 pub use compact::raw::{RawEdges, RawNodes};
 pub use walkers::{Children, Parents};
 

@@ -49,17 +49,18 @@ module _ {C : Type 0} where
     right_first : set front i (j x) ++ set back 0 (k y) ≡ changed_at j (changed_at k (front ++ back) (length front)) i
     right_first = sym both_set ∙ sym (changed_left j front (changed_at k back 0) i within) ∙ ap (λ l. changed_at j l i) (sym (changed_right k front back))
 
-module _ {C W F R : Type 0} (weight : C → W) (put : W → C → C) (g : Once F (MutBor W × (MutBor W × Unit {0})) (R × (MutBor W × (MutBor W × Unit {0})))) (f : F) (old front back : List C) (r : R) where
-  weight_left : (i : ℕ) (x : C) (w : W) → old ≡ front ++ back → i < length front → x ≡ get_or front i x → w ≡ weight x → option_map weight (slice_get old i) ≡ Some w
+module _ {C W : Type 0} (weight : C → W) (old front back : List C) where
+  pub weight_left : (i : ℕ) (x : C) (w : W) → old ≡ front ++ back → i < length front → x ≡ get_or front i x → w ≡ weight x → option_map weight (slice_get old i) ≡ Some w
   weight_left i x w is p x_is w_is = ap (λ l. option_map weight (slice_get l i)) is ∙ ap (option_map weight) (get_left front back i x p x_is) ∙ ap Some (sym w_is)
 
-  weight_right : (i : ℕ) (x : C) (w : W) → old ≡ front ++ back → length front ≡ i → 0 < length back → x ≡ get_or back 0 x → w ≡ weight x → option_map weight (slice_get old i) ≡ Some w
+  pub weight_right : (i : ℕ) (x : C) (w : W) → old ≡ front ++ back → length front ≡ i → 0 < length back → x ≡ get_or back 0 x → w ≡ weight x → option_map weight (slice_get old i) ≡ Some w
   weight_right i x w is at p x_is w_is =
       ap (λ l. option_map weight (slice_get l i)) is ∙ ap (λ n. option_map weight (slice_get (front ++ back) n)) (sym at) ∙ ap (option_map weight) (get_right front back x p x_is) ∙ ap Some (sym w_is)
 
-  more : (i : ℕ) → old ≡ front ++ back → length front ≡ i → i < length old → 0 < length back
+  pub more : (i : ℕ) → old ≡ front ++ back → length front ≡ i → i < length old → 0 < length back
   more i is at within = omega (arith, at, within, ap length is, length-append front back)
 
+module _ {C W F R : Type 0} (weight : C → W) (put : W → C → C) (g : Once F (MutBor W × (MutBor W × Unit {0})) (R × (MutBor W × (MutBor W × Unit {0})))) (f : F) (old front back : List C) (r : R) where
   -- the item at a is before the one at b
   pub called_in_order : (a b : ℕ) (x y : C) (p q p' q' : MutBor W) → old ≡ front ++ back → length front ≡ b → a < b → b < length old → x ≡ get_or front a x → y ≡ get_or back 0 y → p.now ≡ weight x → q.now ≡ weight y
       → g.post f (p, (q, tt)) (r, (p', (q', tt)))
@@ -71,7 +72,7 @@ module _ {C W F R : Type 0} (weight : C → W) (put : W → C → C) (g : Once F
         second = q;
         first_left = p';
         second_left = q';
-        shows = (weight_left a x p.now is first x_is p_is, weight_right b y q.now is at (more b is at within) y_is q_is);
+        shows = (weight_left weight old front back a x p.now is first x_is p_is, weight_right weight old front back b y q.now is at (more weight old front back b is at within) y_is q_is);
         called = called;
         leaves =
             left_first (put p'.now) (put q'.now) front back a x y first x_is y_is ∙ ap (changed_at (put q'.now) (changed_at (put p'.now) (front ++ back) a)) at
@@ -89,7 +90,7 @@ module _ {C W F R : Type 0} (weight : C → W) (put : W → C → C) (g : Once F
         second = q;
         first_left = p';
         second_left = q';
-        shows = (weight_right a x p.now is at (more a is at within) x_is p_is, weight_left b y q.now is second y_is q_is);
+        shows = (weight_right weight old front back a x p.now is at (more weight old front back a is at within) x_is p_is, weight_left weight old front back b y q.now is second y_is q_is);
         called = called;
         leaves =
             right_first (put q'.now) (put p'.now) front back b y x second y_is x_is ∙ ap (λ n. changed_at (put q'.now) (changed_at (put p'.now) (front ++ back) n) b) at

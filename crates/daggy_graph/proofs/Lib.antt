@@ -17,3 +17,4 @@ pub mod RewritingLemmas
 pub mod FilterLemmas
 pub mod RestLemmas
 pub mod Keeping
+pub mod Reading

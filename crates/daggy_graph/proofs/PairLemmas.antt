@@ -21,7 +21,7 @@ item_at [] i p = absurd (omega arith)
 item_at (x ∷ xs) zero p = (x, refl)
 item_at (x ∷ xs) (suc i) p = item_at xs i (omega arith)
 
-slots_read : {A B : Type 0} (f : A → B) (xs : List A) (i : ℕ) → slot (map (λ x. Some (f x)) xs) i ≡ option_map f (slice_get xs i)
+pub slots_read : {A B : Type 0} (f : A → B) (xs : List A) (i : ℕ) → slot (map (λ x. Some (f x)) xs) i ≡ option_map f (slice_get xs i)
 slots_read f [] i = refl
 slots_read f (x ∷ xs) zero = refl
 slots_read f (x ∷ xs) (suc i) = slots_read f xs i

@@ -1,7 +1,7 @@
 -- How a loop hands the weights out in turn: what stands behind the place is as it was.
 use Rattle.std.proofs.Common.{◌≡◌, ℕ, ◌+◌, ◌<◌, Option, List, [], ◌∷◌, ◌++◌, length, map, drop, get_or, set, sym, ap, refl, ◌∙◌, append_assoc}
 use Rattle.std.proofs.lemmas.List.{drop_more}
-use Rattle.std.specs.Borrow.{Bor, MutBor}
+use Rattle.std.specs.Borrow.{MutBor}
 use Rattle.daggy_base.specs.declared.index.Direction.{Direction}
 use Rattle.daggy_base.specs.declared.index.Direction.TheVariants.{Outgoing, Incoming}
 use Rattle.daggy_base.specs.Graph.{Graph, Edge as PlainEdge}

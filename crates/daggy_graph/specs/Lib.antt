@@ -14,3 +14,4 @@ pub mod Names
 pub mod Iterating
 pub mod Referring
 pub mod Rest
+pub mod Cursors

@@ -11,6 +11,7 @@ ghost use Rattle.daggy_base.specs.declared.error.EdgeError.TheVariants.{Memory a
 
 mod copy;
 mod count;
+pub mod cursors;
 mod filter;
 pub mod iterators;
 pub mod links;

@@ -15,3 +15,4 @@ pub mod Building
 pub mod Keeping
 pub mod Passing
 pub mod Listing
+pub mod Reading

@@ -2,3 +2,4 @@ pub mod Checks
 pub mod Paths
 pub mod Reductions
 pub mod Rounds
+pub mod Clearing

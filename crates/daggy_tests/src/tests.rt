@@ -2,6 +2,7 @@
 
 mod adding;
 mod converting;
+mod cursors;
 mod errors;
 mod example;
 mod graphs;

@@ -1,4 +1,4 @@
-use Rattle.std.proofs.Common.{◌≡◌, ◌<◌, map, length, sym, ap, subst, ◌∙◌, arith}
+use Rattle.std.proofs.Common.{◌≡◌, ◌<◌, ◌≤◌, map, length, refl, sym, ap, subst, ◌∙◌, arith}
 use Rattle.std.specs.List.{swap_remove}
 use Rattle.std.specs.Option.{option_map}
 use Rattle.std.proofs.lemmas.List.{length-map}
@@ -6,6 +6,7 @@ use Rattle.daggy_base.specs.Graph.{edge_at, slot}
 use Rattle.daggy_base.specs.Removal.{Compact, without_edge}
 use Rattle.daggy_graph.specs.Stored.{plain, plain_edge, stored_graph, Stores}
 use Rattle.daggy_graph.proofs.States.{state_changed}
+use Rattle.daggy_graph.proofs.Reading.{got_none, edge_got}
 use Rattle.daggy_graph.proofs.StoredLemmas.{stored_is, Stores-itself, slot_is}
 use Rattle.daggy_graph.proofs.graph.DiGraph.remove_edge.Goals as goal
 
@@ -35,3 +36,21 @@ returns-clause-removed g c =
     let was = stored_graph c.self.inside.nodes.items c.self.inside.edges.items in
     state_changed _ was _ _ (λ h. without_edge Compact h (g.Ix.IndexType.number c.args.e)) c.self.view_is
     (ap (stored_graph c.detach.new.nodes.items) same ∙ stored_is _ _ _ _ stored ∙ ap (without_edge Compact was) c.of_edge.ensures)
+
+pub returns-then-i-len-clause-value : goal.returns-then-i-len-clause-value
+returns-then-i-len-clause-value g c =
+    let past : length c.self.inside.edges.items ≤ c.index-i.result = omega (arith, c.if-i-len.true, c.len.ensures) in
+    ap (option_map (λ x. x.weight)) (edge_got _ _ _ c.args.self.now c.self.view_is _ _ c.index-i.ensures.value _ _ refl (got_none _ _ past))
+
+pub detach-requires-clause-stored : goal.detach-requires-clause-stored
+detach-requires-clause-stored g c = c.self.invariant
+
+pub detach-requires-clause-edge : goal.detach-requires-clause-edge
+detach-requires-clause-edge g c = omega (arith, c.if-i-len.false, c.len.ensures, c.of_edge.ensures, c.index-i.ensures.value)
+
+pub swap_remove-weight-requires : goal.swap_remove-weight-requires
+swap_remove-weight-requires g c =
+    let left = c.detach.new.edges.items in
+    let was = c.self.inside.edges.items in
+    let long : length left ≡ length was = sym (length-map left plain_edge) ∙ ap length c.detach.ensures.edges ∙ length-map was plain_edge in
+    omega (arith, long, c.if-i-len.false, c.len.ensures)

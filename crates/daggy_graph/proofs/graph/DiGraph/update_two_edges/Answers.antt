@@ -1,9 +1,29 @@
+use Rattle.std.proofs.Common.{length, sym, ap, ◌∙◌, arith}
 use Rattle.daggy_base.specs.Weights.{with_edge_weight}
 use Rattle.daggy_graph.specs.Stored.{plain, stored_graph}
 use Rattle.daggy_graph.proofs.StoredLemmas.{stored_is, Stores-itself, slot_within}
 use Rattle.daggy_graph.proofs.States.{state_changed}
 use Rattle.daggy_graph.proofs.PairLemmas.{edges_updated, edge_shown, called_at}
 use Rattle.daggy_graph.proofs.graph.DiGraph.update_two_edges.Goals as goal
+
+pub at_edges-requires-clause-first : goal.at_edges-requires-clause-first
+at_edges-requires-clause-first g c =
+    let within = slot_within plain c.self.inside.edges.items _ (rw (← c.self.view_is) at c.requires.first) in
+    omega (arith, within, c.index.ensures.value, ap length c.as_mut_slice.ensures.value)
+
+pub at_edges-requires-clause-second : goal.at_edges-requires-clause-second
+at_edges-requires-clause-second g c =
+    let within = slot_within plain c.self.inside.edges.items _ (rw (← c.self.view_is) at c.requires.second) in
+    omega (arith, within, c.index-2.ensures.value, ap length c.as_mut_slice.ensures.value)
+
+pub at_edges-requires-clause-different : goal.at_edges-requires-clause-different
+at_edges-requires-clause-different g c same = c.requires.different (sym c.index.ensures.value ∙ same ∙ c.index-2.ensures.value)
+
+pub at_edges-requires-clause-callable : goal.at_edges-requires-clause-callable
+at_edges-requires-clause-callable g c p q first second =
+    let shown = edge_shown c.self.inside.nodes.items c.self.inside.edges.items _ c.args.self.now c.self.view_is in
+    let lent_is = c.as_mut_slice.ensures.value in
+    c.requires.callable p q (shown _ _ c.index.ensures.value _ _ lent_is first) (shown _ _ c.index-2.ensures.value _ _ lent_is second)
 
 pub invariant_of-self : goal.invariant_of-self
 invariant_of-self g c =

@@ -1,4 +1,4 @@
-use Rattle.std.proofs.Common.{is_some, refl, sym, ap, ◌∙◌}
+use Rattle.std.proofs.Common.{is_some, arith, refl, sym, ap, ◌∙◌}
 use Rattle.std.specs.Option.{option_map, option_copied_mut}
 use Rattle.daggy_base.specs.Graph.{edge_at}
 use Rattle.daggy_base.specs.Weights.{with_edge_weight}
@@ -35,3 +35,9 @@ returns g c =
       (refl, λ w. state_changed _ was _ _ (λ h. with_edge_weight h e w) c.self.view_is (stored_is (edge_weighed c.self.invariant c.index.result w x has c.index_mut-x.ensures.value) ∙ ap (λ i. with_edge_weight was i w) c.index.ensures.value)),
       record { writes_back = tt; value = ap (λ z. option_map (λ y. y.weight) (edge_at c.args.self.now.graph z)) (sym c.index.ensures.value) ∙ ap (λ s. option_map (λ y. y.weight) (edge_at s.graph c.index.result)) (sym c.self.view_is) ∙ value },
     )
+
+pub index_mut-x-requires : goal.index_mut-x-requires
+index_mut-x-requires g c =
+    let found = some_is _ (rw (← c.self.view_is, ← c.index.ensures.value) at c.requires) in
+    let within = edge_within c.self.invariant c.index.result found.0 found.1 in
+    omega (arith, within)

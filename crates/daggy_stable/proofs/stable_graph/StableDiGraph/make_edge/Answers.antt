@@ -1,8 +1,8 @@
-use Rattle.std.proofs.Common.{◌≡◌, ◌<◌, length, ap, ◌∙◌, arith}
+use Rattle.std.proofs.Common.{rules, ◌≡◌, ◌<◌, length, ap, ◌∙◌, arith}
 use Rattle.daggy_base.specs.Graph.{edge_count}
 use Rattle.daggy_base.specs.Adding.{with_edge}
 use Rattle.daggy_graph.proofs.States.{state_changed}
-use Rattle.daggy_stable.proofs.Stores.{stored_is, Stores-itself}
+use Rattle.daggy_stable.proofs.Stores.{stored_is, Stores-itself, edges_long}
 use Rattle.daggy_stable.proofs.Changes.{node_inside, edge_made_code}
 use Rattle.daggy_stable.proofs.stable_graph.StableDiGraph.make_edge.Goals as goal
 
@@ -38,3 +38,10 @@ returns-clause-added g c =
     state_changed _ _ _ _ (λ h. with_edge h (g.Ix.IndexType.number c.args.a) (g.Ix.IndexType.number c.args.b) c.args.weight) c.self.view_is
     (stored_is (edge_made_code c.self.invariant _ _ c.args.weight a_in b_in _ _ _ _ c.of_node.ensures c.of_node-2.ensures c.put_first-x.ensures.edge c.put_first-x.ensures.weights _ c.put_first-x.ensures.out c.put_first-x.ensures.into
     _ _ new (ap (λ s. s.graph.vacant_edges) c.self.view_is ∙ c.requires.none) few c.reserve.ensures.items c.push_reserved.ensures.items))
+
+pub new-e-requires : goal.new-e-requires
+new-e-requires g c =
+    omega (arith, c.len.ensures, ap length c.reserve.ensures.items, edges_long c.self.invariant, c.self.invariant.edge_slots.few)
+
+pub push_reserved-requires : goal.push_reserved-requires
+push_reserved-requires g c = search (rules, c.reserve.ensures.ok, c.is_err.ensures, c.if-is_err.false)

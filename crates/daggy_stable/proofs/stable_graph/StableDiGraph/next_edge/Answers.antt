@@ -1,4 +1,4 @@
-use Rattle.std.proofs.Common.{◌≡◌, get_or, ap, ◌∙◌}
+use Rattle.std.proofs.Common.{◌≡◌, arith, get_or, ap, ◌∙◌}
 use Rattle.daggy_base.specs.Graph.{edge_at}
 use Rattle.daggy_base.specs.Cursor.{cursor_after}
 use Rattle.daggy_stable.proofs.Stores.{some_is, edge_within, cursor_shown}
@@ -12,3 +12,9 @@ returns g c =
     let reads : c.index-x.result.now ≡ get_or edges e c.index-x.result.now = c.index-x.ensures ∙ ap (λ z. get_or edges z c.index-x.result.now) c.index.ensures.value in
     c.edge.ensures.value ∙ c.next.ensures ∙ cursor_shown c.self.invariant c.args.dir e found.0 c.index-x.result.now found.1 (edge_within c.self.invariant e found.0 found.1) reads
     ∙ ap (λ s. cursor_after c.args.dir g.Ix.IndexType.greatest s.graph e (edge_at s.graph e)) c.self.view_is
+
+pub index-x-requires : goal.index-x-requires
+index-x-requires g c =
+    let found = some_is _ (rw (← c.self.view_is) at c.requires) in
+    let within = edge_within c.self.invariant _ found.0 found.1 in
+    omega (arith, within, c.index.ensures.value)

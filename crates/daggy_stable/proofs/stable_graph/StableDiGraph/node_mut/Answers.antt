@@ -1,10 +1,11 @@
-use Rattle.std.proofs.Common.{refl, sym, ap, ◌∙◌}
+use Rattle.std.proofs.Common.{◌<◌, map, length, is_some, arith, refl, sym, ap, ◌∙◌}
 use Rattle.std.specs.Option.{option_copied_mut}
 use Rattle.daggy_base.specs.Graph.{node_weight}
 use Rattle.daggy_base.specs.Weights.{with_node_weight}
 use Rattle.daggy_graph.proofs.States.{state_changed}
-use Rattle.daggy_stable.specs.Stored.{stored_graph}
-use Rattle.daggy_stable.proofs.Stores.{stored_is, Stores-itself}
+use Rattle.daggy_stable.specs.Stored.{weight_of, stored_graph}
+use Rattle.daggy_stable.proofs.Stores.{stored_is, Stores-itself, some_is, nodes_long, node_read}
+use Rattle.daggy_stable.proofs.Slots.{slot_inside}
 use Rattle.daggy_stable.proofs.Removing.{node_weight_read}
 use Rattle.daggy_stable.proofs.Weighing.{node_weighed}
 use Rattle.daggy_stable.proofs.stable_graph.StableDiGraph.node_mut.Goals as goal
@@ -24,3 +25,18 @@ returns g c =
       (refl, λ w. state_changed _ was _ _ (λ h. with_node_weight h n w) c.self.view_is (stored_is (node_weighed c.self.invariant c.index.result w c.index_mut-x.result.now has c.index_mut-x.ensures.value) ∙ ap (λ i. with_node_weight was i w) c.index.ensures.value)),
       record { writes_back = tt; value = ap (node_weight c.args.self.now.graph) (sym c.index.ensures.value) ∙ ap (λ s. node_weight s.graph c.index.result) (sym c.self.view_is) ∙ value },
     )
+
+pub index_mut-x-requires : goal.index_mut-x-requires
+index_mut-x-requires g c =
+    let found = some_is _ (rw (← c.self.view_is, ← c.index.ensures.value) at c.requires) in
+    let within = slot_inside (map weight_of c.self.inside.nodes.items) c.index.result found.0 found.1 in
+    omega (arith, within, nodes_long c.self.invariant)
+
+pub unwrap-requires : goal.unwrap-requires
+unwrap-requires g c =
+    let nodes = c.self.inside.nodes.items in
+    let x = c.index_mut-x.result.now in
+    let found = some_is _ (rw (← c.self.view_is, ← c.index.ensures.value) at c.requires) in
+    let within = slot_inside (map weight_of nodes) c.index.result found.0 found.1 in
+    let inside : c.index.result < length nodes = omega (arith, within, nodes_long c.self.invariant) in
+    c.as_mut.ensures.variant ∙ ap is_some (sym (node_read c.self.invariant c.index.result x inside c.index_mut-x.ensures.value) ∙ found.1)

@@ -1,4 +1,4 @@
-use Rattle.std.proofs.Common.{◌≡◌, get_or, ap, ◌∙◌}
+use Rattle.std.proofs.Common.{◌≡◌, ◌+◌, get_or, arith, ap, ◌∙◌}
 use Rattle.daggy_graph.specs.Stored.{plain}
 use Rattle.daggy_graph.proofs.StoredLemmas.{slot_within}
 use Rattle.daggy_graph.proofs.WellFormedLemmas.{look_shown}
@@ -11,3 +11,17 @@ returns-clause-gives g c =
     let within = slot_within plain edges e (rw (← c.self.view_is) at c.requires) in
     let reads : c.index-x.result.now ≡ get_or edges e c.index-x.result.now = c.index-x.ensures ∙ ap (λ z. get_or edges z c.index-x.result.now) c.index.ensures.value in
     rw (← c.self.view_is) (look_shown g.Ix.IndexType.greatest c.self.inside.nodes.items edges c.self.invariant e _ _ c.index-x.result.now within reads c.node.ensures.value c.edge.ensures.value)
+
+pub index-x-requires : goal.index-x-requires
+index-x-requires g c =
+    let within = slot_within plain c.self.inside.edges.items _ (rw (← c.self.view_is) at c.requires) in
+    omega (arith, within, c.index.ensures.value)
+
+pub invariant_of-self : goal.invariant_of-self
+invariant_of-self g c = c.self.invariant
+
+pub returns-clause-same : goal.returns-clause-same
+returns-clause-same g c = ap (λ s. s.graph) c.self.view_is
+
+pub returns-clause-counted : goal.returns-clause-counted
+returns-clause-counted g c = c.take.ensures ∙ ap (λ s. s.looks + 1) c.self.view_is

@@ -1,0 +1,93 @@
+//! All weights to write, each lent in turn.
+ghost use Rattle.std.specs.Prelude.{◌≡◌};
+ghost use Rattle.std.specs.Borrow.{sem};
+ghost use Rattle.std.specs.Option.{option_copied_mut};
+ghost use Rattle.daggy_base.specs.Graph.{node_weight as weight_at};
+ghost use Rattle.daggy_base.specs.Weights.{edge_weight as edge_weight_at};
+ghost use Rattle.daggy_dag.specs.Cursors.{nodes_lend_next, edges_lend_next};
+
+use crate::acyclic::{Acyclic, Dag};
+use daggy_base::index::{DefaultIx, EdgeIndex, IndexType, NodeIndex};
+use daggy_graph::graph::DiGraph;
+
+/// Lends the weights of the nodes, one at a time, by ascending index.
+///
+/// It is no iterator, since a weight is lent until the next one is asked for. Go through it with
+/// `while let Some(weight) = weights.next()`.
+#[derive(Drop)]
+pub struct NodeWeightsMut<'a, N, E, Ix: IndexType = DefaultIx> {
+    dag: &'a mut Dag<N, E, Ix>,
+    index: usize,
+}
+
+/// Lends the weights of the edges, one at a time, by ascending index.
+///
+/// It is no iterator, since a weight is lent until the next one is asked for. Go through it with
+/// `while let Some(weight) = weights.next()`.
+#[derive(Drop)]
+pub struct EdgeWeightsMut<'a, N, E, Ix: IndexType = DefaultIx> {
+    dag: &'a mut Dag<N, E, Ix>,
+    index: usize,
+}
+
+impl<N: Drop, E: Drop, Ix: IndexType> Acyclic<N, E, Ix, DiGraph<N, E, Ix>> {
+    /// The weights of the nodes, to be written one at a time, by ascending index.
+    #[inline]
+    pub fn node_weights_mut(&mut self) -> NodeWeightsMut<'_, N, E, Ix>
+        ensures same_reference { result.dag.ghost_name ≡ self.entry.ghost_name }
+        ensures start { result.index ≡ 0 }
+        ensures same { result.dag.now ≡ self.old }
+    {
+        NodeWeightsMut {
+            dag: self,
+            index: 0,
+        }
+    }
+
+    /// The weights of the edges, to be written one at a time, by ascending index.
+    #[inline]
+    pub fn edge_weights_mut(&mut self) -> EdgeWeightsMut<'_, N, E, Ix>
+        ensures same_reference { result.dag.ghost_name ≡ self.entry.ghost_name }
+        ensures start { result.index ≡ 0 }
+        ensures same { result.dag.now ≡ self.old }
+    {
+        EdgeWeightsMut {
+            dag: self,
+            index: 0,
+        }
+    }
+}
+
+impl<'a, N: Drop, E: Drop, Ix: IndexType> NodeWeightsMut<'a, N, E, Ix> {
+    /// The weight of the next node, or `None` if there is none left.
+    #[inline]
+    pub fn next(&mut self) -> Option<&mut N>
+        ensures* writes_back { sem 𝓛 (nodes_lend_next N.row E.row Ix.row Ix.IndexType self.entry result) }
+        ensures value { option_copied_mut result ≡ weight_at self.old.dag.now.graph self.old.index }
+    {
+        let i = self.index;
+        if i < self.dag.graph().node_count() {
+            self.index = i + 1;
+            Some(&mut self.dag[NodeIndex::new(i)])
+        } else {
+            None
+        }
+    }
+}
+
+impl<'a, N: Drop, E: Drop, Ix: IndexType> EdgeWeightsMut<'a, N, E, Ix> {
+    /// The weight of the next edge, or `None` if there is none left.
+    #[inline]
+    pub fn next(&mut self) -> Option<&mut E>
+        ensures* writes_back { sem 𝓛 (edges_lend_next N.row E.row Ix.row Ix.IndexType self.entry result) }
+        ensures value { option_copied_mut result ≡ edge_weight_at self.old.dag.now.graph self.old.index }
+    {
+        let i = self.index;
+        if i < self.dag.graph().edge_count() {
+            self.index = i + 1;
+            Some(&mut self.dag[EdgeIndex::new(i)])
+        } else {
+            None
+        }
+    }
+}

@@ -1,0 +1,16 @@
+use Rattle.std.proofs.Common.{Some, ap, ◌∙◌}
+use Rattle.std.specs.Option.{option_map}
+use Rattle.daggy_base.specs.Graph.{ends_of}
+use Rattle.daggy_graph.proofs.Reading.{got, got_none, edge_got}
+use Rattle.daggy_graph.proofs.graph.DiGraph.edge_endpoints.Goals as goal
+
+pub returns-in-Some : goal.returns-in-Some
+returns-in-Some g c =
+    let lookup = c.in-Some.ensures.lookup in
+    (λ i. Some (c.node.ensures.value i, c.node-in-Some.ensures.value i))
+    ∙ ap (option_map ends_of) (edge_got _ _ _ c.args.self.now c.self.view_is _ _ c.index.ensures.value _ _ c.deref.ensures.value (got _ _ _ lookup.3.0 lookup.1))
+
+pub returns-in-None : goal.returns-in-None
+returns-in-None g c =
+    let lookup = c.in-None.ensures.lookup in
+    ap (option_map ends_of) (edge_got _ _ _ c.args.self.now c.self.view_is _ _ c.index.ensures.value _ _ c.deref.ensures.value (got_none _ _ lookup.3))
