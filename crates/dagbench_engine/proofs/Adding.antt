@@ -4,6 +4,7 @@ use Rattle.std.specs.List.{flat_map}
 use Rattle.std.specs.Fmt.{signed_decimal}
 use Rattle.std.specs.Iterator.{YieldsFirst, Yields, Drains}
 use Rattle.daggy.specs.Graph.{Graph}
+use Rattle.daggy.specs.Path.{IsAcyclic}
 use Rattle.daggy.specs.Series.{NewEdge, by_numbers, IsAdded, IsFirstFault, ClosesCycle, weights_back}
 use Rattle.dagbench_engine.specs.Streams.{Appends}
 use Rattle.dagbench_engine.specs.Replies.{ClosesCycle as ByCycle}
@@ -41,12 +42,12 @@ told (Ok x) edges old new before now answer step appended = (answer, step, appen
 told (Err e) edges old new before now answer step appended = tt
 
 -- the edges were added
-pub edges_added : {A E : Type 0} (r : Result A E) (items : List (NewEdge ℤ)) (old new : Graph ℤ ℤ) (before now : List ℕ) (indices : List ℕ) → IsAdded same 4294967295 gives items old new indices
+pub edges_added : {A E : Type 0} (r : Result A E) (items : List (NewEdge ℤ)) (old new : Graph ℤ ℤ) (before now : List ℕ) (indices : List ℕ) → IsAdded same 4294967295 gives items old new indices → IsAcyclic new
     → Appends r before now (edges_text indices ++ 10 ∷ []) → AnswersSeries r items old new before now
-edges_added r items old new before now indices added appended =
+edges_added r items old new before now indices added acyclic appended =
     let all : map (by_numbers same) added.given ≡ items = numbered added.given ∙ sym (given_all added.given items added.drained) in
     let P : List (NewEdge ℤ) → Type 0 = λ xs. IsSeriesStep old xs (Added indices) new in
-    told r items old new before now (Added indices) (subst P all (added.faultless, added.accepted, added.indices, added.added)) appended
+    told r items old new before now (Added indices) (subst P all (added.faultless, subst IsAcyclic added.added acyclic, added.indices, added.added)) appended
 
 -- or one is at fault
 module _ (IsCause : Graph ℤ ℤ → NewEdge ℤ → Type 0) (g : Graph ℤ ℤ) (items : List (NewEdge ℤ)) (last : ℤ) (before : List ℤ) (fault : IsFirstFault same 4294967295 gives items IsCause g last before) where
@@ -77,6 +78,6 @@ cycle_told (Ok x) items old new before between now weights closes kept name appe
     let P : List (NewEdge ℤ) → Type 0 = λ xs. IsSeriesStep old xs (HandedBack ByCycle weights) new in
     let texts = flat_map (λ weight. codes " " ++ signed_decimal weight) weights in (
       HandedBack ByCycle weights,
-      subst P all (closes.faultless, closes.refused, closes.weights_are ∙ ap weights_back (sym (numbered closes.given)), kept),
+      subst P all (closes.faultless, closes.cyclic, closes.weights_are ∙ ap weights_back (sym (numbered closes.given)), kept),
       appended ∙ ap (λ t. t ++ (texts ++ 10 ∷ [])) name ∙ append_assoc before (codes "cycle") (texts ++ 10 ∷ []) ∙ ap (λ t. before ++ t) (sym (append_assoc (codes "cycle") texts (10 ∷ []))),
     )

@@ -8,4 +8,5 @@ pub mod Adding
 pub mod Serving
 pub mod Telling
 pub mod Walking
+pub mod Writing
 mod Walks

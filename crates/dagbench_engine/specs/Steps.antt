@@ -4,12 +4,12 @@ use Rattle.std.specs.Option.{option_map}
 use Rattle.daggy.specs.declared.index.Direction.{Direction}
 use Rattle.daggy.specs.declared.index.Direction.TheVariants.{Outgoing, Incoming}
 use Rattle.daggy.specs.Graph.{Graph, empty, HasNode, node_weight, edge_at, ends_of, list_at, far_end, node_count, edge_count}
-use Rattle.daggy.specs.Path.{Reaches}
+use Rattle.daggy.specs.Path.{Reaches, IsAcyclic}
 use Rattle.daggy.specs.Adding.{next_node, next_edge, with_node, with_edge, with_neighbor}
 use Rattle.daggy.specs.Removal.{Kind, without_edge, without_node, without_all_edges}
 use Rattle.daggy.specs.Weights.{edge_weight, with_edge_weight}
 use Rattle.daggy.specs.Finding.{find_edge}
-use Rattle.daggy.specs.Series.{NewEdge, with_edges, new_edges, IsFaultless, AreAccepted, LacksEnd, LacksIndex, LacksMemory, weights_back}
+use Rattle.daggy.specs.Series.{NewEdge, with_edges, new_edges, IsFaultless, LacksEnd, LacksIndex, LacksMemory, weights_back}
 use Rattle.dagbench_engine.specs.declared.command.Command.{Command}
 use Rattle.dagbench_engine.specs.declared.command.Command.TheVariants as command
 use Rattle.dagbench_engine.specs.declared.reply.Reply.{Reply}
@@ -131,15 +131,15 @@ pub record IsFirstFault (IsCause : Graph ℤ ℤ → NewEdge ℤ → Type 0) (g 
   pub cause : IsCause (with_edges g before) at
   pub weights_are : weights ≡ at.2 ∷ weights_back before
 
--- adding all edges of a list, or none
+-- Adding all edges of a list, or none. Edges without a fault are refused exactly if with all of them there is a cycle.
 abbrev pub IsSeriesStep : Graph ℤ ℤ → List (NewEdge ℤ) → Answer → Graph ℤ ℤ → Type 0
 IsSeriesStep old edges (Added indices) new =
-    IsFaultless index_count old edges × AreAccepted old edges × (indices ≡ new_edges old edges) × (new ≡ with_edges old edges)
+    IsFaultless index_count old edges × IsAcyclic (with_edges old edges) × (indices ≡ new_edges old edges) × (new ≡ with_edges old edges)
 IsSeriesStep old edges (HandedBack MissingEnd weights) new = IsFirstFault LacksEnd old edges weights × (new ≡ old)
 IsSeriesStep old edges (HandedBack NoIndex weights) new = IsFirstFault (LacksIndex index_count) old edges weights × (new ≡ old)
 IsSeriesStep old edges (HandedBack NoMemory weights) new = IsFirstFault (LacksMemory index_count) old edges weights × (new ≡ old)
 IsSeriesStep old edges (HandedBack ClosesCycle weights) new =
-    IsFaultless index_count old edges × ¬ (AreAccepted old edges) × (weights ≡ weights_back edges) × (new ≡ old)
+    IsFaultless index_count old edges × ¬ (IsAcyclic (with_edges old edges)) × (weights ≡ weights_back edges) × (new ≡ old)
 IsSeriesStep old edges other new = ⊥
 
 -- what a command may be answered over a graph, and the graph after it

@@ -3,7 +3,7 @@ ghost use Rattle.std.specs.Prelude.{◌≡◌, ℕ, ℤ, ◌<◌, ◌↔◌, ◌
 ghost use Rattle.std.specs.Option.{option_map};
 ghost use Rattle.std.specs.Iterator.{YieldsFirst};
 ghost use Rattle.daggy.specs.Graph.{Graph, empty, HasNode, node_weight as weight_at, edge_at, ends_of, node_count as node_count_of, edge_count as edge_count_of, out_list, in_list};
-ghost use Rattle.daggy.specs.Path.{Reaches};
+ghost use Rattle.daggy.specs.Path.{Reaches, IsAcyclic};
 ghost use Rattle.daggy.specs.WellFormed.{IsDag};
 ghost use Rattle.daggy.specs.Adding.{next_node, next_edge, with_node, with_edge, with_neighbor};
 ghost use Rattle.daggy.specs.Removal.{Kind, without_edge, without_node, without_all_edges};
@@ -146,7 +146,8 @@ pub trait Served: Drop {
     fn add_edges(&mut self, items: Items<'_>) -> Result<EdgeIndices<u32>, EdgesError<i64>>
         ensures added { IfOk result (λ edges. IsAdded (λ n. n) 4294967295 (YieldsFirst (λ rest. rest)) items.entry (graph self.old) (graph self.new) edges) }
         ensures refused { IfErr result (λ error. IsRefused (λ n. n) 4294967295 (YieldsFirst (λ rest. rest)) items.entry (graph self.old) error) }
-        ensures unchanged { OnErr result (graph self.new ≡ graph self.old) };
+        ensures unchanged { OnErr result (graph self.new ≡ graph self.old) }
+        ensures acyclic { IsAcyclic (graph self.new) };
 
     /// Removes an edge and hands its weight back, or gives `None` if there is no such edge.
     fn remove_edge(&mut self, e: EdgeIndex<u32>) -> Option<i64>

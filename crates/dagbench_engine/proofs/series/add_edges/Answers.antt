@@ -7,7 +7,7 @@ use Rattle.dagbench_engine.proofs.series.add_edges.Goals as goal
 
 pub returns-in-Ok-clause-answered : goal.returns-in-Ok-clause-answered
 returns-in-Ok-clause-answered g c =
-    edges_added c.write_edges.result c.args.items (g.D.Served.graph c.args.dag.now) _ _ _ c.in-Ok.edges c.in-Ok.ensures.added c.write_edges.ensures.text
+    edges_added c.write_edges.result c.args.items (g.D.Served.graph c.args.dag.now) _ _ _ c.in-Ok.edges c.in-Ok.ensures.added c.in-Ok.ensures.acyclic c.write_edges.ensures.text
 
 pub returns-in-Err-BadEndpoint-clause-answered : goal.returns-in-Err-BadEndpoint-clause-answered
 returns-in-Err-BadEndpoint-clause-answered g c =
