@@ -6,10 +6,10 @@ ghost use Rattle.dagbench_engine.specs.Cutting.{lines_of, ended_lines_of};
 ghost use Rattle.dagbench_engine.specs.Serving.{Serves};
 ghost use Rattle.dagbench_engine.specs.Ends.{IsRun};
 
-use crate::stop::Stop;
 use crate::mode::Mode;
 use crate::served::{CompactDag, Served, StableDag};
 use crate::session::Session;
+use crate::stop::Stop;
 use crate::stream::{Sink, Source};
 use std::alloc::Global;
 

@@ -1,10 +1,11 @@
 //! Readers and writers whose calls fail. Each error is a fault, whatever its kind is: a call is not tried again.
 use super::support::{ended, same};
 use dagbench_engine::{Device, Mode, Stop, serve};
+use std::alloc::Global;
+use std::io;
 use std::io::{ErrorKind, Read, Write};
 use std::process::Abort;
 use std::test::Fail;
-use std::{alloc::Global, io};
 
 /// Gives a line a read. Its call behind so many ones is an error, and it goes on behind that.
 #[derive(Drop)]
@@ -80,10 +81,18 @@ const READS: [(u32, Result<(), Stop>, &'static str); 4] = [
 
 #[test]
 fn each_error_of_a_reader_is_a_fault(rt: HostRuntime) -> Result<(), Fail> {
-    for error in [ErrorKind::Interrupted, ErrorKind::UnexpectedEof, ErrorKind::WouldBlock] {
+    for error in [
+        ErrorKind::Interrupted,
+        ErrorKind::UnexpectedEof,
+        ErrorKind::WouldBlock,
+    ] {
         for (passes, outcome, wanted) in READS {
             let rest = LINES.as_bytes();
-            let mut source = Device::new(Reader { rest, passes, error });
+            let mut source = Device::new(Reader {
+                rest,
+                passes,
+                error,
+            });
             let mut taken = Vec::new(rt.alloc());
             let mut sink = Device::new(&mut taken);
             let found = serve(rt.alloc(), Mode::Compact, &mut source, &mut sink);
@@ -112,7 +121,11 @@ fn written(
     outcome: Result<(), Stop>,
     wanted: &[u8],
 ) {
-    let mut writer = Writer { taken: Vec::new(alloc), passes, error };
+    let mut writer = Writer {
+        taken: Vec::new(alloc),
+        passes,
+        error,
+    };
     let mut source = Device::new(LINES.as_bytes());
     let mut sink = Device::new(&mut writer);
     let found = serve(alloc, Mode::Compact, &mut source, &mut sink);
@@ -123,9 +136,20 @@ fn written(
 
 #[test]
 fn each_error_of_a_writer_is_a_fault(rt: HostRuntime) {
-    for error in [ErrorKind::Interrupted, ErrorKind::BrokenPipe, ErrorKind::WouldBlock] {
+    for error in [
+        ErrorKind::Interrupted,
+        ErrorKind::BrokenPipe,
+        ErrorKind::WouldBlock,
+    ] {
         for (passes, outcome, wanted) in WRITES {
-            written(&rt, rt.alloc(), passes, Some(error), outcome, wanted.as_bytes());
+            written(
+                &rt,
+                rt.alloc(),
+                passes,
+                Some(error),
+                outcome,
+                wanted.as_bytes(),
+            );
         }
     }
 }
