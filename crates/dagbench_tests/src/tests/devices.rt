@@ -1,4 +1,5 @@
-//! Readers and writers whose calls fail. Each error is a fault, whatever its kind is: a call is not tried again.
+//! Readers and writers whose calls fail. Each error is a fault, whatever its kind is: a call is not
+//! tried again.
 use super::support::{ended, same};
 use dagbench_engine::{Device, Mode, Stop, serve};
 use std::alloc::Global;
@@ -30,7 +31,8 @@ impl<'a> Read for Reader<'a> {
     }
 }
 
-/// Takes four bytes a write. Its call behind so many ones is an error, or takes nothing, and it goes on behind that.
+/// Takes four bytes a write. Its call behind so many ones is an error, or takes nothing, and it goes
+/// on behind that.
 #[derive(Drop)]
 struct Writer {
     taken: Vec<u8>,
@@ -104,7 +106,8 @@ fn each_error_of_a_reader_is_a_fault(rt: HostRuntime) -> Result<(), Fail> {
     Ok(())
 }
 
-/// How a run ends whose write or flush fails behind so many ones, and what it writes: two pieces, and then it flushes.
+/// How a run ends whose write or flush fails behind so many ones, and what it writes: two pieces,
+/// and then it flushes.
 const WRITES: [(u32, Result<(), Stop>, &'static str); 4] = [
     (0, Err(Stop::Write), ""),
     (1, Err(Stop::Write), "n0\nn"),

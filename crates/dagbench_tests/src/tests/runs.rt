@@ -4,7 +4,8 @@ use dagbench_engine::{Mode, Stop};
 use std::alloc::{AllocError, Global};
 use std::test::Fail;
 
-/// Inputs and what is written for them, whatever the kind is: refusals, many edges at once, and what is no line.
+/// Inputs and what is written for them, whatever the kind is: refusals, many edges at once, and what
+/// is no line.
 const OF_BOTH_KINDS: [(&'static str, &'static str); 5] = [
     (
         "node 1\nnode 2\nedge 0 1 7\nedge 1 0 5\nchildren 0\n",
