@@ -14,7 +14,7 @@ ghost use Rattle.dagbench_engine.specs.declared.command.Command.TheVariants.{Nod
 
 use crate::command::Command;
 use crate::output::Output;
-use crate::parsing::parse;
+use crate::parse::parse;
 use crate::reply::Reply;
 use crate::series::add_edges;
 use crate::served::Served;

@@ -2,7 +2,7 @@
 ghost use Rattle.std.specs.Prelude.{◌≡◌, ℕ, ◌≤◌, ◌==◌, List, [], ◌++◌, IfOk, take, length, vec_len, vec_capacity};
 ghost use Rattle.dagbench_engine.specs.Progress.{kept_count};
 
-use crate::parsing::LONGEST_LINE;
+use crate::parse::LONGEST_LINE;
 use std::alloc::{AllocError, Global};
 use std::marker::Model;
 

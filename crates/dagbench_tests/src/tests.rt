@@ -2,7 +2,7 @@
 //! alike. Beside that, what lines, arguments and endings mean, on examples worked out by hand.
 
 mod devices;
-mod parsing;
+mod endings;
 mod random;
 mod runs;
 mod support;

@@ -23,16 +23,13 @@ impl<'a> Read for Reader<'a> {
             return Err(io::Error::from(self.error));
         }
         self.passes -= 1;
-        let count = self.rest.len().min(7).min(buffer.len());
-        let (front, rest) = self.rest.split_at(count);
-        buffer[..count].copy_from_slice(front);
-        self.rest = rest;
-        Ok(count)
+        let count = buffer.len().min(7);
+        self.rest.read(&mut buffer[..count])
     }
 }
 
-/// Takes four bytes a write. Its call behind so many ones is an error, or takes nothing, and it goes
-/// on behind that.
+/// Takes four bytes a write. Its call behind so many ones is an error, or takes nothing, and it
+/// goes on behind that.
 #[derive(Drop)]
 struct Writer {
     taken: Vec<u8>,

@@ -4,9 +4,9 @@ use dagbench_engine::{Mode, Stop};
 use std::alloc::{AllocError, Global};
 use std::test::Fail;
 
-/// Inputs and what is written for them, whatever the kind is: refusals, many edges at once, and what
-/// is no line.
-const OF_BOTH_KINDS: [(&'static str, &'static str); 5] = [
+/// Inputs and what is written for them, whatever the kind is: refusals, many edges at once, the
+/// greatest and the longest numbers, words, and what is no line.
+const OF_BOTH_KINDS: [(&'static str, &'static str); 8] = [
     (
         "node 1\nnode 2\nedge 0 1 7\nedge 1 0 5\nchildren 0\n",
         "n0\nn1\ne0\ncycle 5\ne0:1\n",
@@ -21,6 +21,25 @@ const OF_BOTH_KINDS: [(&'static str, &'static str); 5] = [
          edges 2 0 4 9 9 1\nedges 2 2 -3\nedges 0 1 1 2 0 2 0 9 3\nchildren 0\nparents 2",
         "n0\nn1\nn2\n-\nbad line\nbad line\ne0 e1 e2\nmissing 1 4\ncycle -3\nmissing 3 2 1\n\
          e2:2 e0:1\ne2:0 e1:1\n",
+    ),
+    (
+        "node 9223372036854775807\nnode 9223372036854775808\nnode -9223372036854775808\n\
+         node -9223372036854775809\nnode -0\nnode -\nnode +1\nnode --1\n\
+         node 0000000000000000007\nnode 00000000000000000007\n\
+         rmnode 3\nrmnode 2\nrmnode 1\nrmnode 0\n",
+        "n0\nbad line\nn1\nbad line\nn2\nbad line\nbad line\nbad line\nn3\nbad line\n\
+         weight 7\nweight 0\nweight -9223372036854775808\nweight 9223372036854775807\n",
+    ),
+    (
+        "node 1\nnode 2\nedge 0 0000000001 5\nedge 0 00000000001 5\nchildren 0000000000\n\
+         children 00000000000\nchildren 4294967295\nchildren 4294967296\nchildren -1\nchildren x\n",
+        "n0\nn1\ne0\nbad line\ne0:1\nbad line\n-\nbad line\nbad line\nbad line\n",
+    ),
+    (
+        "node 1\nnode 2\n  edge   0 1  -7 \nrmedge 0\nedge 0\t1 7\nedge 0 1 7\r\nedge 0 1\n\
+         edge 0 1 7 8\nNode 1\nnodes 1\n    ",
+        "n0\nn1\ne0\nweight -7\nbad line\nbad line\nbad line\nbad line\nbad line\nbad line\n\
+         bad line\n",
     ),
     ("", ""),
     ("\n  \nnode 1\n  ", "bad line\nbad line\nn0\nbad line\n"),
