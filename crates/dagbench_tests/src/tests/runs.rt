@@ -93,14 +93,14 @@ fn lines_are_answered(rt: HostRuntime) -> Result<(), Fail> {
 /// A front, then a piece so many times, then a rest.
 type Repeated = (&'static str, &'static str, u32, &'static str);
 
-fn repeated(alloc: Global, text: Repeated) -> Result<Vec<u8>, AllocError> {
+fn repeated(alloc: Global, text: Repeated) -> Result<String, AllocError> {
     let (front, piece, count, rest) = text;
-    let mut bytes = Vec::from_slice(alloc, front.as_bytes())?;
+    let mut all = String::from_str(alloc, front)?;
     for _ in 0..count {
-        bytes.extend_from_slice(piece.as_bytes())?;
+        all.push_str(piece)?;
     }
-    bytes.extend_from_slice(rest.as_bytes())?;
-    Ok(bytes)
+    all.push_str(rest)?;
+    Ok(all)
 }
 
 /// Inputs with long lines, and one whose last line but one lies in two blocks.
@@ -127,8 +127,8 @@ fn long_lines_are_bad_once(rt: HostRuntime) -> Result<(), Fail> {
             &rt,
             rt.alloc(),
             Mode::Compact,
-            input.as_slice(),
-            wanted.as_slice(),
+            input.as_bytes(),
+            wanted.as_bytes(),
         )?;
     }
     Ok(())
