@@ -1,32 +1,7 @@
 //! A graph that is driven by lines of commands, from standard input to standard output.
 #![tactic(auto)]
 
-mod command;
-mod device;
-mod ending;
-mod engine;
-mod history;
-mod items;
-mod line;
-mod memory;
-mod mode;
-mod output;
-mod parse;
-mod reply;
-mod series;
-mod serve;
-mod served;
-mod session;
-mod stream;
-#[cfg(test)]
-mod tests;
-mod walk;
-mod words;
-
-use crate::device::Device;
-use crate::ending::{Stop, ending};
-use crate::mode::mode_of;
-use crate::serve::serve;
+use dagbench_engine::{Device, Stop, ending, mode_of, serve};
 use std::process::ExitCode;
 use std::rt::Env;
 use std::{env, io};

@@ -15,7 +15,7 @@ use daggy_graph::graph::DiGraph;
 /// It is no iterator, since a weight is lent until the next one is asked for. Go through it with
 /// `while let Some(weight) = weights.next()`.
 #[derive(Drop)]
-pub struct NodeWeightsMut<'a, N, E, Ix: IndexType = DefaultIx> {
+pub struct NodeWeightsMut<'a, N: Drop, E: Drop, Ix: IndexType = DefaultIx> {
     dag: &'a mut Dag<N, E, Ix>,
     index: usize,
 }
@@ -25,7 +25,7 @@ pub struct NodeWeightsMut<'a, N, E, Ix: IndexType = DefaultIx> {
 /// It is no iterator, since a weight is lent until the next one is asked for. Go through it with
 /// `while let Some(weight) = weights.next()`.
 #[derive(Drop)]
-pub struct EdgeWeightsMut<'a, N, E, Ix: IndexType = DefaultIx> {
+pub struct EdgeWeightsMut<'a, N: Drop, E: Drop, Ix: IndexType = DefaultIx> {
     dag: &'a mut Dag<N, E, Ix>,
     index: usize,
 }

@@ -1,5 +1,0 @@
-use Rattle.dagbench.proofs.Answering.{answers_none}
-use Rattle.dagbench.proofs.engine.answer.Goals as goal
-
-pub returns-in-None-clause-answered : goal.returns-in-None-clause-answered
-returns-in-None-clause-answered g c = answers_none _ _ _ _ _ _ c.in-None.ensures c.put.ensures.text

@@ -1,0 +1,20 @@
+-- What the program's arguments ask for.
+use Rattle.std.specs.Prelude.{ℕ, Option, Some, None, List, [], ◌∷◌, codes, if◌then◌else◌}
+use Rattle.std.specs.Str.{bytes_eq}
+use Rattle.daggy.specs.Removal.{Kind}
+use Rattle.daggy.specs.Removal as kind
+use Rattle.dagbench_engine.specs.declared.mode.Mode.{Mode}
+use Rattle.dagbench_engine.specs.declared.mode.Mode.TheVariants.{Compact, Stable}
+
+-- one word: `compact` or `stable`
+abbrev pub mode_by_words : List (List ℕ) → Option Mode
+mode_by_words (word ∷ []) =
+    if bytes_eq word (codes "compact") then Some Compact
+    else if bytes_eq word (codes "stable") then Some Stable
+    else None
+mode_by_words words = None
+
+-- the kind of graph that is served
+abbrev pub kind_of : Mode → Kind
+kind_of Compact = kind.Compact
+kind_of Stable = kind.Stable

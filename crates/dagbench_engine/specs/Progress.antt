@@ -1,0 +1,54 @@
+-- How far a run has come: what was given, what was written, and what is kept of a line that has not ended.
+use Rattle.std.specs.Prelude.{◌≡◌, ℕ, List, [], ◌∷◌, ◌++◌, take, Result, Ok, Err, ℤ}
+use Rattle.std.specs.List.{flat_map, AllByRecursion}
+use Rattle.daggy.specs.Graph.{Graph, empty}
+use Rattle.daggy.specs.Removal.{Kind}
+use Rattle.daggy.specs.Series.{NewEdge}
+use Rattle.dagbench_engine.specs.Cutting.{newline, Lacks}
+use Rattle.dagbench_engine.specs.declared.command.Command.{Command}
+use Rattle.dagbench_engine.specs.Steps.{Answer, answer_text, IsStep, IsSeriesStep, IsAnswer, IsTranscript}
+
+-- after an Ok the line was answered behind what had been written
+abbrev pub AnswersLine : {A E : Type 0} → Kind → Result A E → (line : List ℕ) → (old new : Graph ℤ ℤ) → (written_old written_new : List ℕ) → Type 0
+AnswersLine kind (Ok x) line old new written_old written_new =
+    (text : List ℕ) × IsAnswer kind old line text new × (written_new ≡ written_old ++ (text ++ newline ∷ []))
+AnswersLine kind (Err e) line old new written_old written_new = Unit {0}
+
+-- after an Ok the command was answered behind what had been written
+abbrev pub AnswersCommand : {A E : Type 0} → Kind → Result A E → Command → (old new : Graph ℤ ℤ) → (written_old written_new : List ℕ) → Type 0
+AnswersCommand kind (Ok x) command old new written_old written_new =
+    (answer : Answer) × IsStep kind old command answer new × (written_new ≡ written_old ++ (answer_text answer ++ newline ∷ []))
+AnswersCommand kind (Err e) command old new written_old written_new = Unit {0}
+
+-- after an Ok the edges were added, or refused, and that was told behind what had been written
+abbrev pub AnswersSeries : {A E : Type 0} → Result A E → List (NewEdge ℤ) → (old new : Graph ℤ ℤ) → (written_old written_new : List ℕ) → Type 0
+AnswersSeries (Ok x) edges old new written_old written_new =
+    (answer : Answer) × IsSeriesStep old edges answer new × (written_new ≡ written_old ++ (answer_text answer ++ newline ∷ []))
+AnswersSeries (Err e) edges old new written_old written_new = Unit {0}
+
+-- a line with its newline
+abbrev pub ended : List ℕ → List ℕ
+ended line = line ++ newline ∷ []
+
+-- the most bytes that are kept of a line whose newline has not come
+abbrev pub kept_count : ℕ
+kept_count = 4097
+
+-- So far: what was given are whole lines and the front of one more. The whole ones are answered. Of the front, what
+-- tells what it says is kept.
+pub record IsServed (kind : Kind) (given_old given written_old written : List ℕ) (graph : Graph ℤ ℤ) (kept : List ℕ) : Type 0 where
+  pub lines : List (List ℕ)
+  pub front : List ℕ
+  pub text : List ℕ
+  pub given_is : given ≡ given_old ++ (flat_map ended lines ++ front)
+  pub written_is : written ≡ written_old ++ text
+  pub answers : IsTranscript kind empty lines text graph
+  pub whole : AllByRecursion (Lacks newline) lines
+  pub unended : Lacks newline front
+  pub kept_is : kept ≡ take kept_count front
+
+-- whatever was served before, the rest of the input is served now
+abbrev pub GoesOn : Kind → (given_more written_old written_new : List ℕ) (graph_old graph_new : Graph ℤ ℤ) (kept_old kept_new : List ℕ) → Type 0
+GoesOn kind given_more written_old written_new graph_old graph_new kept_old kept_new =
+    (given_start given written_start : List ℕ) → IsServed kind given_start given written_start written_old graph_old kept_old
+    → IsServed kind given_start (given ++ given_more) written_start written_new graph_new kept_new

@@ -1,0 +1,105 @@
+//! A whole run.
+ghost use Rattle.std.specs.Prelude.{◌≡◌, ◌<◌, ◌↔◌, [], true, Err, OnOk, length};
+ghost use Rattle.daggy.specs.Graph.{empty};
+ghost use Rattle.dagbench_engine.specs.Arguments.{kind_of};
+ghost use Rattle.dagbench_engine.specs.Cutting.{lines_of, ended_lines_of};
+ghost use Rattle.dagbench_engine.specs.Serving.{Serves};
+ghost use Rattle.dagbench_engine.specs.Ends.{IsRun};
+
+use crate::mode::Mode;
+use crate::served::{CompactDag, Served, StableDag};
+use crate::session::Session;
+use crate::stop::Stop;
+use crate::stream::{Sink, Source};
+use std::alloc::Global;
+
+/// How many bytes are read at once.
+const BLOCK: usize = 0x1_0000;
+
+/// Reads lines until the end of the source, and writes the answer to each. What was answered is handed to the sink
+/// before more is read.
+///
+/// The mode says which kind of graph is served.
+pub fn serve<S: Source, K: Sink>(
+    alloc: Global,
+    mode: Mode,
+    source: &mut S,
+    sink: &mut K,
+) -> Result<(), Stop>
+    ensures end { OnOk result (S.is_ended source.new ≡ true) }
+    ensures served { OnOk result (Serves (kind_of mode) lines_of (S.given source.old) (S.given source.new) (K.taken sink.old) (K.taken sink.new)) }
+
+    // A fault is told exactly where its device failed.
+    ensures read { (result ≡ Err Stop.Read) ↔ (S.failures source.old < S.failures source.new) }
+    ensures write { (result ≡ Err Stop.Write) ↔ (K.failures sink.old < K.failures sink.new) }
+
+    // At a read fault each line whose newline came has its answer.
+    ensures replied { result ≡ Err Stop.Read → Serves (kind_of mode) ended_lines_of (S.given source.old) (S.given source.new) (K.taken sink.old) (K.taken sink.new) }
+    ensures memory { result ≡ Err Stop.Memory → (source.new ≡ source.old) × (sink.new ≡ sink.old) }
+{
+    match mode {
+        Mode::Compact => serve_with(alloc, CompactDag::new(alloc), source, sink),
+        Mode::Stable => serve_with(alloc, StableDag::new(alloc), source, sink),
+    }
+}
+
+/// Serves this graph, which is empty.
+fn serve_with<D: Served, S: Source, K: Sink>(
+    alloc: Global,
+    dag: D,
+    source: &mut S,
+    sink: &mut K,
+) -> Result<(), Stop>
+    requires { D.graph dag ≡ empty }
+    ensures end { OnOk result (S.is_ended source.new ≡ true) }
+    ensures served { OnOk result (Serves D.kind lines_of (S.given source.old) (S.given source.new) (K.taken sink.old) (K.taken sink.new)) }
+
+    // A fault is told exactly where its device failed.
+    ensures read { (result ≡ Err Stop.Read) ↔ (S.failures source.old < S.failures source.new) }
+    ensures write { (result ≡ Err Stop.Write) ↔ (K.failures sink.old < K.failures sink.new) }
+
+    // At a read fault each line whose newline came has its answer.
+    ensures replied { result ≡ Err Stop.Read → Serves D.kind ended_lines_of (S.given source.old) (S.given source.new) (K.taken sink.old) (K.taken sink.new) }
+    ensures memory { result ≡ Err Stop.Memory → (source.new ≡ source.old) × (sink.new ≡ sink.old) }
+{
+    let Ok(mut block) = vec![in alloc; 0u8; BLOCK] else {
+        return Err(Stop::Memory);
+    };
+    let Ok(session) = Session::new(alloc, dag) else {
+        return Err(Stop::Memory);
+    };
+    run(session, block.as_mut_slice(), source, sink)
+}
+
+/// The run of a new session, which reads block by block.
+fn run<D: Served, S: Source, K: Sink>(
+    mut session: Session<D>,
+    block: &mut [u8],
+    source: &mut S,
+    sink: &mut K,
+) -> Result<(), Stop>
+    requires room { 0 < length block.old }
+    requires graph { D.graph session.dag ≡ empty }
+    requires nothing { (session.line ≡ []) × (session.output ≡ []) }
+    ensures { IsRun D.kind result (S.given source.old) (S.given source.new) (K.taken sink.old) (K.taken sink.new) (S.is_ended source.new)
+        (S.failures source.old) (S.failures source.new) (K.failures sink.old) (K.failures sink.new) }
+{
+    'reads: loop {
+        let Ok(()) = session.output.flush(sink) else {
+            return Err(Stop::Write);
+        };
+        let Ok(count) = source.read(block) else {
+            return Err(Stop::Read);
+        };
+        if count == 0 {
+            break;
+        }
+        let Ok(()) = session.take_block(&block[..count], sink) else {
+            return Err(Stop::Write);
+        };
+    }
+    let Ok(()) = session.finish(sink) else {
+        return Err(Stop::Write);
+    };
+    Ok(())
+}

@@ -1,0 +1,83 @@
+//! A graph that is being served, with what is kept between two blocks of input.
+ghost use Rattle.std.specs.Prelude.{◌≡◌, ℕ, List, [], ◌∷◌, ◌++◌, IfOk, OnOk};
+ghost use Rattle.dagbench_engine.specs.Cutting.{Lacks, newline, lines_of};
+ghost use Rattle.dagbench_engine.specs.Streams.{CountsFaults};
+ghost use Rattle.dagbench_engine.specs.Serving.{Serves};
+ghost use Rattle.dagbench_engine.specs.Progress.{GoesOn, IsServed};
+
+use crate::engine::answer;
+use crate::line::Line;
+use crate::output::Output;
+use crate::served::Served;
+use crate::stream::{Fault, Sink};
+use crate::words::split_at_byte;
+use std::alloc::{AllocError, Global};
+
+/// The graph, the line whose newline has not come, and the answers that the sink has not taken.
+#[derive(Drop)]
+pub struct Session<D> {
+    /// The graph.
+    pub dag: D,
+    /// The line whose newline has not come.
+    pub line: Line,
+    /// The answers that the sink has not taken.
+    pub output: Output,
+}
+
+impl<D: Served> Session<D> {
+    /// Begins with this graph.
+    pub fn new(alloc: Global, dag: D) -> Result<Session<D>, AllocError>
+        ensures dag { IfOk result (λ session. session.dag ≡ dag) }
+        ensures nothing { IfOk result (λ session. (session.line ≡ []) × (session.output ≡ [])) }
+    {
+        let line = Line::new(alloc)?;
+        let output = Output::new(alloc)?;
+        Ok(Session { dag, line, output })
+    }
+
+    /// Answers the line that ends with this rest.
+    fn end_line<K: Sink>(&mut self, rest: &[u8], sink: &mut K) -> Result<(), Fault>
+        ensures served { OnOk result (Lacks newline rest.now → GoesOn D.kind (rest.now ++ newline ∷ [])
+            (K.taken sink.old ++ self.old.output) (K.taken sink.new ++ self.new.output)
+            (D.graph self.old.dag) (D.graph self.new.dag) self.old.line self.new.line) }
+        ensures counted { CountsFaults result (K.failures sink.old) (K.failures sink.new) }
+    {
+        if self.line.is_empty() {
+            return answer(&mut self.dag, rest, &mut self.output, sink);
+        }
+        self.line.keep(rest);
+        answer(&mut self.dag, self.line.as_slice(), &mut self.output, sink)?;
+        self.line.clear();
+        Ok(())
+    }
+
+    /// Answers the lines that end in a block of input, and keeps what stands behind them.
+    pub fn take_block<K: Sink>(&mut self, block: &[u8], sink: &mut K) -> Result<(), Fault>
+        ensures served { OnOk result (GoesOn D.kind block.now
+            (K.taken sink.old ++ self.old.output) (K.taken sink.new ++ self.new.output)
+            (D.graph self.old.dag) (D.graph self.new.dag) self.old.line self.new.line) }
+        ensures counted { CountsFaults result (K.failures sink.old) (K.failures sink.new) }
+    {
+        let mut rest = block;
+        'lines: while let Some((line, behind)) = split_at_byte(b'\n', rest) {
+            self.end_line(line, sink)?;
+            rest = behind;
+        }
+        self.line.keep(rest);
+        Ok(())
+    }
+
+    /// Answers the last line, if its newline did not come, and hands all to the sink.
+    pub fn finish<K: Sink>(&mut self, sink: &mut K) -> Result<(), Fault>
+        ensures served { OnOk result ((given_old given written_old : List ℕ)
+            → IsServed D.kind given_old given written_old (K.taken sink.old ++ self.old.output) (D.graph self.old.dag) self.old.line
+            → Serves D.kind lines_of given_old given written_old (K.taken sink.new)) }
+        ensures counted { CountsFaults result (K.failures sink.old) (K.failures sink.new) }
+    {
+        if self.line.is_empty() {
+            return self.output.flush(sink);
+        }
+        answer(&mut self.dag, self.line.as_slice(), &mut self.output, sink)?;
+        self.output.flush(sink)
+    }
+}

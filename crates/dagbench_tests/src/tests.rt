@@ -1,0 +1,8 @@
+//! What no contract says: that runs succeed, which errors are faults, and that both kinds answer
+//! alike. Beside that, what lines, arguments and endings mean, on examples worked out by hand.
+
+mod devices;
+mod endings;
+mod random;
+mod runs;
+mod support;
