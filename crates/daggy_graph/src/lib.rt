@@ -2,5 +2,3 @@
 #![tactic(auto)]
 
 pub mod graph;
-#[cfg(test)]
-mod tests;

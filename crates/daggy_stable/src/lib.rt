@@ -2,5 +2,3 @@
 #![tactic(auto)]
 
 pub mod stable_graph;
-#[cfg(test)]
-mod tests;

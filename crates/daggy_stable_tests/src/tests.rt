@@ -1,5 +1,9 @@
-//! What no contract says: that calls succeed, at concrete types, and that the examples come out as they should.
+//! What no contract says: that calls succeed, at concrete types, that the examples come out as they should, and in which
+//! order closures are called.
 
+mod calling;
+mod graphs;
+mod iterating;
 mod keeping;
 mod series;
 mod slots;

@@ -1,12 +1,15 @@
-//! What no contract says: that calls succeed, what is printed, and that large graphs are no trouble.
+//! What no contract says: that calls succeed, what is printed, in which order closures are called, and that large graphs
+//! are no trouble.
 
 mod adding;
+mod calling;
 mod converting;
 mod cursors;
 mod errors;
 mod example;
 mod graphs;
 mod indices;
+mod iterating;
 mod large;
 mod mapping;
 mod pairs;

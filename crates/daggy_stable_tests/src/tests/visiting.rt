@@ -1,64 +1,61 @@
-use super::support::{add_edge, n, triangle};
-use daggy::stable_dag::StableDag;
+use super::support::{Plain, add_edge, four, holds, made, same, triangle};
 use daggy::visit::{
     DataMap, DataMapMut, GetAdjacencyMatrix, GraphProp, NodeCount, NodeIndexable, VisitMap,
     Visitable,
 };
 use daggy::{EdgeIndex, NodeIndex};
 use std::process::Abort;
-use std::test::Fail;
 
 #[test]
-fn a_matrix_has_the_pairs_of_its_time(rt: HostRuntime) -> Result<(), Fail> {
-    let mut dag = triangle(&rt, rt.alloc())?;
-    assert_eq!(rt; dag.remove_edge(EdgeIndex::new(1)), Some(101));
-    let (a, b, c): (NodeIndex, NodeIndex, NodeIndex) = (n(&rt, 0), n(&rt, 1), n(&rt, 2));
-    let matrix = dag.adjacency_matrix()?;
-    add_edge(&rt, &mut dag, b, c, 9)?;
-    assert!(rt; dag.is_adjacent(&matrix, a, b));
-    assert!(rt; dag.is_adjacent(&matrix, a, c));
-    assert!(rt; !dag.is_adjacent(&matrix, b, c));
-    assert!(rt; !dag.is_adjacent(&matrix, b, a));
-    assert!(rt; !dag.is_adjacent(&matrix, a, n(&rt, 9)));
-    Ok(())
+fn a_matrix_has_the_pairs_of_its_time(rt: HostRuntime) {
+    let mut dag = triangle(&rt, rt.alloc());
+    same(&rt, dag.remove_edge(EdgeIndex::new(1)), Some(101));
+    let [a, b, c, _] = four();
+    let matrix = made(&rt, dag.adjacency_matrix());
+    add_edge(&rt, &mut dag, (1, 2), 9, 1);
+    holds(&rt, dag.is_adjacent(&matrix, a, b));
+    holds(&rt, dag.is_adjacent(&matrix, a, c));
+    holds(&rt, !dag.is_adjacent(&matrix, b, c));
+    holds(&rt, !dag.is_adjacent(&matrix, b, a));
+    holds(&rt, !dag.is_adjacent(&matrix, a, NodeIndex::new(9)));
 }
 
-// Whether the node was put into a set for a dag just now, once and no more.
-fn is_visited_once(rt: &impl Abort, dag: &StableDag<u32, u32>, i: NodeIndex) -> Result<bool, Fail> {
-    let mut set = dag.visit_map()?;
-    assert!(rt; i.index() < dag.node_bound());
-    let first = set.visit(i);
-    let second = set.visit(i);
-    dag.reset_map(&mut set)?;
-    Ok(first && !second && !set.is_visited(i))
-}
-
-#[test]
-fn a_set_reaches_to_the_bound(rt: HostRuntime) -> Result<(), Fail> {
-    let mut dag = triangle(&rt, rt.alloc())?;
-    assert_eq!(rt; dag.remove_node(n(&rt, 0)), Some(10));
-    assert_eq!(rt; dag.node_bound(), 3);
-    assert!(rt; is_visited_once(&rt, &dag, n(&rt, 2))?);
-    assert_eq!(rt; dag.remove_node(n(&rt, 2)), Some(12));
-    assert_eq!(rt; dag.node_bound(), 2);
-    assert!(rt; is_visited_once(&rt, &dag, n(&rt, 1))?);
-    Ok(())
+// Asserts that a node is put into a set for a dag once and no more, and is gone after a reset.
+fn visits_once(rt: &impl Abort, dag: &Plain, n: NodeIndex) {
+    let mut set = made(rt, dag.visit_map());
+    holds(rt, n.index() < dag.node_bound());
+    holds(rt, set.visit(n));
+    holds(rt, !set.visit(n));
+    made(rt, dag.reset_map(&mut set));
+    holds(rt, !set.is_visited(n));
 }
 
 #[test]
-fn a_dag_is_read_and_written_by_its_traits(rt: HostRuntime) -> Result<(), Fail> {
-    let mut dag = triangle(&rt, rt.alloc())?;
-    assert!(rt; dag.is_directed());
-    assert_eq!(rt; NodeCount::node_count(&dag), 3);
-    assert_eq!(rt; dag.to_index(n(&rt, 2)), 2);
+fn a_set_reaches_to_the_bound(rt: HostRuntime) {
+    let mut dag = triangle(&rt, rt.alloc());
+    let [a, b, c, _] = four();
+    same(&rt, dag.remove_node(a), Some(10));
+    same(&rt, dag.node_bound(), 3);
+    visits_once(&rt, &dag, c);
+    same(&rt, dag.remove_node(c), Some(12));
+    same(&rt, dag.node_bound(), 2);
+    visits_once(&rt, &dag, b);
+}
+
+#[test]
+fn a_dag_is_read_and_written_by_its_traits(rt: HostRuntime) {
+    let mut dag = triangle(&rt, rt.alloc());
+    holds(&rt, dag.is_directed());
+    same(&rt, NodeCount::node_count(&dag), 3);
     let c: NodeIndex = dag.from_index(2);
-    assert_eq!(rt; DataMap::node_weight(&dag, c).copied(), Some(12));
+    same(&rt, dag.to_index(c), 2);
+    same(&rt, DataMap::node_weight(&dag, c).copied(), Some(12));
     if let Some(weight) = DataMapMut::edge_weight_mut(&mut dag, EdgeIndex::new(0)) {
         *weight = 7;
     }
-    assert_eq!(rt;
+    same(
+        &rt,
         DataMap::edge_weight(&dag, EdgeIndex::new(0)).copied(),
-        Some(7)
+        Some(7),
     );
-    Ok(())
 }

@@ -1,7 +1,37 @@
-use super::support::{Plain, add_edge, n, with_nodes};
+//! Weights that are written: one in place, or two at once.
+use super::support::{Plain, add_edge, add_node, dag_of, holds, same, shape, triangle};
 use daggy::{EdgeIndex, NodeIndex};
+use std::alloc::Global;
 use std::process::Abort;
-use std::test::Fail;
+
+#[test]
+fn weights_are_written_in_their_slots(rt: HostRuntime) {
+    let mut dag = triangle(&rt, rt.alloc());
+    same(&rt, dag.remove_node(NodeIndex::new(1)), Some(11));
+    holds(&rt, dag.node_weight_mut(NodeIndex::new(1)).is_none());
+    if let Some(weight) = dag.node_weight_mut(NodeIndex::new(2)) {
+        *weight = 1;
+    }
+    if let Some(weight) = dag.edge_weight_mut(EdgeIndex::new(2)) {
+        *weight = 2;
+    }
+    shape(&rt, dag.graph(), &[(0, 10), (2, 1)], &[(2, 0, 2, 2)]);
+}
+
+#[test]
+fn weights_are_read_and_written_by_index(rt: HostRuntime) {
+    let mut dag = triangle(&rt, rt.alloc());
+    same(&rt, dag.remove_node(NodeIndex::new(1)), Some(11));
+    let (n, e) = (NodeIndex::new(0), EdgeIndex::new(2));
+    holds(&rt, dag.contains_node(n));
+    dag[n] = 3;
+    same(&rt, dag[n], 3);
+    holds(&rt, dag.graph().contains_edge(e));
+    dag[e] = 4;
+    holds(&rt, dag.graph().contains_edge(e));
+    same(&rt, dag[e], 4);
+    same(&rt, dag.edge_endpoints(e), Some((n, NodeIndex::new(2))));
+}
 
 fn raised(x: &mut u32, y: &mut u32) -> u32 {
     let before = *x;
@@ -10,47 +40,57 @@ fn raised(x: &mut u32, y: &mut u32) -> u32 {
     before
 }
 
-fn raise_nodes(rt: &impl Abort, dag: &mut Plain, a: NodeIndex, b: NodeIndex) -> u32 {
+// Four nodes of which the third is gone, and the edges 0 from 0 to 1 and 2 from 0 to 3.
+fn gappy(rt: &impl Abort, alloc: Global) -> Plain {
+    let edges = [(0, 1, 30), (0, 2, 31), (0, 3, 32)];
+    let mut dag = dag_of(rt, alloc, &[10, 11, 12, 13], &edges);
+    same(rt, dag.remove_node(NodeIndex::new(2)), Some(12));
+    dag
+}
+
+fn raise_nodes(rt: &impl Abort, dag: &mut Plain, a: NodeIndex, b: NodeIndex, wanted: u32) {
     assert!(rt; dag.contains_node(a));
     assert!(rt; dag.contains_node(b));
     assert!(rt; a.index() != b.index());
-    dag.update_two_nodes(a, b, |x, y| raised(x, y))
-}
-
-fn raise_edges(rt: &impl Abort, dag: &mut Plain, a: EdgeIndex, b: EdgeIndex) -> u32 {
-    assert!(rt; dag.edge_endpoints(a).is_some());
-    assert!(rt; dag.edge_endpoints(b).is_some());
-    assert!(rt; a.index() != b.index());
-    dag.update_two_edges(a, b, |x, y| raised(x, y))
-}
-
-fn raise_both(rt: &impl Abort, dag: &mut Plain, a: NodeIndex, e: EdgeIndex) -> u32 {
-    assert!(rt; dag.contains_node(a));
-    assert!(rt; dag.edge_endpoints(e).is_some());
-    dag.update_node_and_edge(a, e, |x, y| raised(x, y))
+    same(rt, dag.update_two_nodes(a, b, |x, y| raised(x, y)), wanted);
 }
 
 #[test]
-fn two_weights_are_written_in_either_order(rt: HostRuntime) -> Result<(), Fail> {
-    let mut dag = with_nodes(&rt, rt.alloc(), 4)?;
-    let (a, b) = (n(&rt, 0), n(&rt, 3));
-    let first = add_edge(&rt, &mut dag, a, n(&rt, 1), 30)?;
-    add_edge(&rt, &mut dag, a, n(&rt, 2), 31)?;
-    let last = add_edge(&rt, &mut dag, a, b, 32)?;
-    assert_eq!(rt; dag.remove_node(n(&rt, 2)), Some(12));
-    assert_eq!(rt; raise_nodes(&rt, &mut dag, a, b), 10);
-    assert_eq!(rt; raise_nodes(&rt, &mut dag, b, a), 213);
-    assert_eq!(rt; dag.node_weight(a).copied(), Some(310));
-    assert_eq!(rt; dag.node_weight(b).copied(), Some(313));
-    assert_eq!(rt; raise_edges(&rt, &mut dag, first, last), 30);
-    assert_eq!(rt; raise_edges(&rt, &mut dag, last, first), 232);
-    assert_eq!(rt; dag.edge_weight(first).copied(), Some(330));
-    assert_eq!(rt; dag.edge_weight(last).copied(), Some(332));
-    assert_eq!(rt; raise_both(&rt, &mut dag, b, first), 313);
-    assert_eq!(rt; dag.node_weight(b).copied(), Some(413));
-    assert_eq!(rt; dag.edge_weight(first).copied(), Some(530));
-    assert_eq!(rt; dag.node_weight(n(&rt, 1)).copied(), Some(11));
-    assert_eq!(rt; dag.edge_endpoints(last), Some((a, b)));
-    assert_eq!(rt; (dag.node_count(), dag.edge_count()), (3, 2));
-    Ok(())
+fn two_nodes_are_written_in_either_order(rt: HostRuntime) {
+    let mut dag = gappy(&rt, rt.alloc());
+    let (a, b) = (NodeIndex::new(0), NodeIndex::new(3));
+    raise_nodes(&rt, &mut dag, a, b, 10);
+    raise_nodes(&rt, &mut dag, b, a, 213);
+    let edges = [(0, 0, 1, 30), (2, 0, 3, 32)];
+    shape(&rt, dag.graph(), &[(0, 310), (1, 11), (3, 313)], &edges);
+}
+
+fn raise_edges(rt: &impl Abort, dag: &mut Plain, a: EdgeIndex, b: EdgeIndex, wanted: u32) {
+    assert!(rt; dag.edge_endpoints(a).is_some());
+    assert!(rt; dag.edge_endpoints(b).is_some());
+    assert!(rt; a.index() != b.index());
+    same(rt, dag.update_two_edges(a, b, |x, y| raised(x, y)), wanted);
+}
+
+#[test]
+fn two_edges_are_written_in_either_order(rt: HostRuntime) {
+    let mut dag = gappy(&rt, rt.alloc());
+    let (a, b) = (EdgeIndex::new(0), EdgeIndex::new(2));
+    raise_edges(&rt, &mut dag, a, b, 30);
+    raise_edges(&rt, &mut dag, b, a, 232);
+    let edges = [(0, 0, 1, 330), (2, 0, 3, 332)];
+    shape(&rt, dag.graph(), &[(0, 10), (1, 11), (3, 13)], &edges);
+}
+
+#[test]
+fn a_node_and_an_edge_are_written(rt: HostRuntime) {
+    let mut dag = gappy(&rt, rt.alloc());
+    let (n, e) = (NodeIndex::new(3), EdgeIndex::new(0));
+    holds(&rt, dag.contains_node(n));
+    holds(&rt, dag.edge_endpoints(e).is_some());
+    same(&rt, dag.update_node_and_edge(n, e, |x, y| raised(x, y)), 13);
+    let edges = [(0, 0, 1, 230), (2, 0, 3, 32)];
+    shape(&rt, dag.graph(), &[(0, 10), (1, 11), (3, 113)], &edges);
+    same(&rt, add_node(&rt, &mut dag, 20).index(), 2);
+    add_edge(&rt, &mut dag, (0, 3), 200, 1);
 }

@@ -1,36 +1,31 @@
-use super::support::{add_child, add_node, connect};
+use super::support::{connect, dag_of, same, shape};
+use daggy::NodeIndex;
 use daggy::graph::DiGraph;
-use daggy::{Dag, NodeIndex};
-use std::alloc::Global;
-use std::process::Abort;
-use std::test::Fail;
 
-// Nodes of weights 1 and 3, and an edge of weight 2 from the first to the second.
-fn two_nodes(rt: &impl Abort, alloc: Global) -> Result<Dag<u8, u8>, Fail> {
-    let mut dag: Dag<u8, u8> = Dag::new(alloc);
-    let root = add_node(rt, &mut dag, 1)?;
-    add_child(rt, &mut dag, root, 2, 3)?;
-    Ok(dag)
+#[test]
+fn a_dag_lends_its_graph(rt: HostRuntime) {
+    let dag = dag_of(&rt, rt.alloc(), &[1, 3], &[(0, 1, 2)]);
+    shape(&rt, dag.graph(), &[1, 3], &[(0, 1, 2)]);
+    same(&rt, dag.graph().raw_nodes().len(), 2);
 }
 
 #[test]
-fn a_dag_lends_its_graph(rt: HostRuntime) -> Result<(), Fail> {
-    let dag = two_nodes(&rt, rt.alloc())?;
-    assert_eq!(rt; dag.graph().node_count(), 2);
-    assert_eq!(rt; dag.graph().edge_count(), 1);
-    assert_eq!(rt; dag.graph().raw_nodes().len(), 2);
-    Ok(())
-}
-
-#[test]
-fn a_graph_that_was_a_dag_may_hold_cycles(rt: HostRuntime) -> Result<(), Fail> {
+fn a_graph_that_was_a_dag_may_hold_cycles(rt: HostRuntime) {
     let (a, b) = (NodeIndex::new(0), NodeIndex::new(1));
-    let mut given = two_nodes(&rt, rt.alloc())?.into_graph();
-    connect(&rt, &mut given, b, a, 4)?;
-    assert_eq!(rt; given.edge_count(), 2);
-    let mut converted: DiGraph<u8, u8> = DiGraph::from(two_nodes(&rt, rt.alloc())?);
-    connect(&rt, &mut converted, b, a, 4)?;
-    assert_eq!(rt; converted.edge_count(), 2);
-    assert_eq!(rt; converted.node_weight(b).copied(), Some(3));
-    Ok(())
+    let mut given = dag_of(&rt, rt.alloc(), &[1, 3], &[(0, 1, 2)]).into_graph();
+    connect(&rt, &mut given, b, a, 4);
+    shape(&rt, &given, &[1, 3], &[(0, 1, 2), (1, 0, 4)]);
+}
+
+#[test]
+fn a_dag_converts_to_a_graph(rt: HostRuntime) {
+    let (a, b) = (NodeIndex::new(0), NodeIndex::new(1));
+    let mut converted: DiGraph<u32, u32> = DiGraph::from(dag_of(
+        &rt,
+        rt.alloc(),
+        &[1, 3],
+        &[(0, 1, 2)],
+    ));
+    connect(&rt, &mut converted, b, a, 4);
+    shape(&rt, &converted, &[1, 3], &[(0, 1, 2), (1, 0, 4)]);
 }

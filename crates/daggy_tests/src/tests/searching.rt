@@ -1,97 +1,69 @@
-use super::support::connect;
+use super::support::{connect, holds, made};
 use crate::round::Round;
 use daggy::NodeIndex;
 use daggy::graph::DiGraph;
 use daggy::search::{EdgeSource, Scratch, reaches};
 use std::process::Abort;
-use std::test::Fail;
 
-fn leads(
+// Asserts whether a path leads from one node to another.
+fn leads<S: EdgeSource<u8> + Drop>(
     rt: &impl Abort,
-    graph: &mut DiGraph<(), (), u16>,
-    scratch: &mut Scratch<u16>,
-    from: usize,
-    to: usize,
-) -> bool {
-    assert!(rt; from < 100);
-    assert!(rt; to < 100);
-    let bound = graph.node_bound();
+    source: &mut S,
+    scratch: &mut Scratch<u8>,
+    ends: (usize, usize),
+    wanted: bool,
+) {
+    let (from, to) = ends;
+    assert!(rt; from < 100 && to < 100);
+    let bound = source.node_bound();
     let fits = scratch.fits(bound, 0);
     assert!(rt; fits);
-    reaches(graph, NodeIndex::new(from), NodeIndex::new(to), scratch)
+    let reached = reaches(source, NodeIndex::new(from), NodeIndex::new(to), scratch);
+    assert_eq!(rt; reached, wanted, "from {from} to {to}");
 }
 
 #[test]
-fn a_scratch_grows_and_goes_on_fitting(rt: HostRuntime) -> Result<(), Fail> {
+fn a_scratch_grows_and_goes_on_fitting(rt: HostRuntime) {
     let mut scratch: Scratch<u32> = Scratch::new(rt.alloc());
-    assert!(rt; scratch.fits(0, 0));
-    assert!(rt; !scratch.fits(1, 0));
-    scratch.reserve(5, 2)?;
-    assert!(rt; scratch.fits(5, 2));
-    assert!(rt; scratch.fits(4, 0));
-    scratch.reserve(2, 9)?;
-    assert!(rt; scratch.fits(5, 9));
-    Ok(())
+    holds(&rt, scratch.fits(0, 0));
+    holds(&rt, !scratch.fits(1, 0));
+    made(&rt, scratch.reserve(5, 2));
+    holds(&rt, scratch.fits(5, 2));
+    holds(&rt, scratch.fits(4, 0));
+    made(&rt, scratch.reserve(2, 9));
+    holds(&rt, scratch.fits(5, 9));
 }
 
 #[test]
-fn searches_end_in_graphs_with_cycles(rt: HostRuntime) -> Result<(), Fail> {
-    let mut graph: DiGraph<(), (), u16> = DiGraph::new(rt.alloc());
+fn searches_end_in_graphs_with_cycles(rt: HostRuntime) {
+    let mut graph: DiGraph<(), (), u8> = DiGraph::new(rt.alloc());
     for _ in 0..6 {
         assert!(rt; graph.can_add_node());
-        graph.add_node(())?;
+        made(&rt, graph.add_node(()));
     }
     for (a, b) in [(0, 1), (1, 2), (2, 0), (2, 3), (3, 3), (4, 5)] {
-        connect(&rt, &mut graph, NodeIndex::new(a), NodeIndex::new(b), ())?;
+        connect(&rt, &mut graph, NodeIndex::new(a), NodeIndex::new(b), ());
     }
     let mut scratch = Scratch::new(rt.alloc());
-    scratch.reserve(6, 0)?;
-    for (from, to, expected) in [
-        (0, 2, true),
-        (2, 1, true),
-        (0, 3, true),
-        (3, 3, true),
-        (3, 0, false),
-        (0, 5, false),
-        (4, 5, true),
-        (5, 4, false),
-        (5, 5, true),
-        (9, 9, false),
-        (0, 9, false),
-        (9, 0, false),
-    ] {
-        assert_eq!(rt;
-            leads(&rt, &mut graph, &mut scratch, from, to),
-            expected,
-            "from {from} to {to}"
-        );
+    made(&rt, scratch.reserve(6, 0));
+    for ends in [(0, 2), (2, 1), (0, 3), (3, 3), (4, 5), (5, 5)] {
+        leads(&rt, &mut graph, &mut scratch, ends, true);
     }
-    Ok(())
+    for ends in [(3, 0), (0, 5), (5, 4), (9, 9), (0, 9), (9, 0)] {
+        leads(&rt, &mut graph, &mut scratch, ends, false);
+    }
 }
 
 #[test]
-fn searches_read_any_source(rt: HostRuntime) -> Result<(), Fail> {
+fn searches_read_any_source(rt: HostRuntime) {
     let mut scratch: Scratch<u8> = Scratch::new(rt.alloc());
-    scratch.reserve(2, 0)?;
-    for (from, to, expected) in [
-        (0, 1, true),
-        (1, 0, true),
-        (0, 0, true),
-        (0, 2, false),
-        (2, 2, false),
-    ] {
-        let mut round = Round::new();
-        assert_eq!(rt; round.edge_bound(), 2);
-        let bound = round.node_bound();
-        let fits = scratch.fits(bound, 0);
-        assert!(rt; fits);
-        let reached = reaches(
-            &mut round,
-            NodeIndex::new(from),
-            NodeIndex::new(to),
-            &mut scratch,
-        );
-        assert_eq!(rt; reached, expected, "from {from} to {to}");
+    made(&rt, scratch.reserve(2, 0));
+    let mut round = Round::new();
+    holds(&rt, round.edge_bound() == 2);
+    for ends in [(0, 1), (1, 0), (0, 0)] {
+        leads(&rt, &mut round, &mut scratch, ends, true);
     }
-    Ok(())
+    for ends in [(0, 2), (2, 2)] {
+        leads(&rt, &mut round, &mut scratch, ends, false);
+    }
 }

@@ -1,297 +1,329 @@
-use super::support::{add_node, children_of, parents_of};
-use daggy::graph::Element;
-use daggy::{
-    Dag, EdgeError, EdgeIndex, EdgeIndices, EdgesError, ElementError, NodeIndex, WouldCycle,
+//! Many edges or elements at once.
+use super::support::{
+    Plain, Small, add_edge, add_node, children, closes_cycle, counts, made, node, parents, same,
+    shape,
 };
-use std::alloc::{AllocError, Global};
+use daggy::graph::Element;
+use daggy::index::IndexType;
+use daggy::{
+    Dag, EdgeError, EdgeIndex, EdgeIndices, EdgesError, ElementError, NodeIndex, Walker, WouldCycle,
+};
+use std::alloc::Global;
 use std::process::Abort;
-use std::test::Fail;
 
-type Plain = Dag<u8, u32, u32>;
+type Answer<Ix> = Result<EdgeIndices<Ix>, EdgesError<u32>>;
 
-fn n<Ix: daggy::index::IndexType>(rt: &impl Abort, x: usize) -> NodeIndex<Ix> {
-    assert!(rt; x <= NodeIndex::<Ix>::end().index());
-    NodeIndex::new(x)
-}
-
-fn with_nodes(rt: &impl Abort, alloc: Global, count: u8) -> Result<Plain, Fail> {
+fn with_nodes(rt: &impl Abort, alloc: Global, count: u32) -> Plain {
     let mut dag = Dag::new(alloc);
     for weight in 0..count {
-        add_node(rt, &mut dag, weight)?;
+        add_node(rt, &mut dag, weight);
     }
-    Ok(dag)
+    dag
 }
 
-fn numbers(alloc: Global, indices: EdgeIndices<u32>) -> Result<Vec<usize>, AllocError> {
-    let mut numbers = Vec::new(alloc);
-    for e in indices {
-        numbers.push(e.index())?;
+// The first four nodes.
+fn four() -> [NodeIndex; 4] {
+    [
+        NodeIndex::new(0),
+        NodeIndex::new(1),
+        NodeIndex::new(2),
+        NodeIndex::new(3),
+    ]
+}
+
+// Asserts that a series was added, and which indices it got.
+fn added(rt: &impl Abort, answer: Answer<u32>, wanted: &[usize]) {
+    let mut indices = made(rt, answer);
+    same(rt, indices.len(), wanted.len());
+    for index in wanted {
+        same(rt, indices.next(), Some(edge(rt, *index)));
     }
-    Ok(numbers)
 }
 
-#[test]
-fn a_series_gives_its_indices_in_order(rt: HostRuntime) -> Result<(), Fail> {
-    let mut dag = with_nodes(&rt, rt.alloc(), 4)?;
-    let (root, a, b, c) = (n(&rt, 0), n(&rt, 1), n(&rt, 2), n(&rt, 3));
-    let added = dag.add_edges([(root, a, 0), (root, b, 1), (root, c, 2)])?;
-    assert_eq!(rt;
-        numbers(rt.alloc(), added)?.as_slice(),
-        [0, 1, 2].as_slice()
-    );
-    assert_eq!(rt; dag.find_edge(root, a), Some(EdgeIndex::new(0)));
-    assert_eq!(rt; dag.find_edge(root, b), Some(EdgeIndex::new(1)));
-    assert_eq!(rt; dag.find_edge(root, c), Some(EdgeIndex::new(2)));
-    assert_eq!(rt;
-        children_of(rt.alloc(), &dag, root)?.as_slice(),
-        [(2, 3), (1, 2), (0, 1)].as_slice()
-    );
-    Ok(())
+fn edge(rt: &impl Abort, x: usize) -> EdgeIndex {
+    assert!(rt; x < 1000);
+    EdgeIndex::new(x)
 }
 
-fn refused_weights(answer: Result<EdgeIndices<u32>, EdgesError<u32>>, weights: &[u32]) -> bool {
+// Asserts that a series closes a cycle, and that its weights come back, the last one first.
+fn refused(rt: &impl Abort, answer: Answer<u32>, wanted: &[u32]) {
     match answer {
-        Err(EdgesError::WouldCycle(WouldCycle(back))) => back.as_slice() == weights,
-        _ => false,
+        Err(EdgesError::WouldCycle(WouldCycle(back))) => same(rt, back.as_slice(), wanted),
+        _ => panic!(rt; "the series closes a cycle"),
     }
 }
 
-#[test]
-fn a_series_that_closes_a_cycle_adds_nothing(rt: HostRuntime) -> Result<(), Fail> {
-    let mut dag = with_nodes(&rt, rt.alloc(), 4)?;
-    let (root, a, b, c) = (n(&rt, 0), n(&rt, 1), n(&rt, 2), n(&rt, 3));
-    let to_itself = dag.add_edges([(root, a, 0), (root, b, 1), (root, c, 2), (c, c, 3)]);
-    assert!(rt; refused_weights(to_itself, &[3, 2, 1, 0]));
-    assert_eq!(rt; dag.edge_count(), 0);
-    let back = dag.add_edges([(root, a, 0), (root, b, 1), (root, c, 2), (c, root, 3)]);
-    assert!(rt; refused_weights(back, &[3, 2, 1, 0]));
-    assert_eq!(rt; dag.edge_count(), 0);
-    for x in 0..4 {
-        assert_eq!(rt; children_of(rt.alloc(), &dag, n(&rt, x))?.len(), 0);
-        assert_eq!(rt; parents_of(rt.alloc(), &dag, n(&rt, x))?.len(), 0);
-    }
-    Ok(())
-}
-
-#[test]
-fn a_cycle_in_the_middle_of_a_series_is_found_at_its_end(rt: HostRuntime) -> Result<(), Fail> {
-    let mut dag = with_nodes(&rt, rt.alloc(), 3)?;
-    let (a, b, c) = (n(&rt, 0), n(&rt, 1), n(&rt, 2));
-    let first = dag.add_edges([(a, b, 1)])?;
-    assert_eq!(rt; numbers(rt.alloc(), first)?.as_slice(), [0].as_slice());
-    let answer = dag.add_edges([(b, c, 2), (c, a, 3), (a, c, 4)]);
-    assert!(rt; refused_weights(answer, &[4, 3, 2]));
-    assert_eq!(rt;
-        children_of(rt.alloc(), &dag, a)?.as_slice(),
-        [(0, 1)].as_slice()
-    );
-    assert_eq!(rt; children_of(rt.alloc(), &dag, b)?.len(), 0);
-    Ok(())
-}
-
-#[test]
-fn the_first_item_at_fault_ends_a_series(rt: HostRuntime) -> Result<(), Fail> {
-    let mut dag = with_nodes(&rt, rt.alloc(), 2)?;
-    let (a, b, none) = (n(&rt, 0), n(&rt, 1), n(&rt, 9));
-    let mut items = [(a, b, 8), (b, a, 9), (a, none, 3), (none, none, 4)].into_iter();
-    match dag.add_edges(&mut items) {
-        Err(EdgesError::BadEndpoint { last, before }) => {
-            assert_eq!(rt; last, 3);
-            assert_eq!(rt; before.as_slice(), [9, 8].as_slice());
-        }
+// Asserts that an end of an item is missing, and that its weight and those before it come back.
+fn lacks_an_end<Ix: IndexType>(rt: &impl Abort, answer: Answer<Ix>, wanted: (u32, &[u32])) {
+    match answer {
+        Err(EdgesError::BadEndpoint { last, before }) => same(
+            rt,
+            (last, before.as_slice()),
+            wanted,
+        ),
         _ => panic!(rt; "an end is missing"),
     }
-    assert_eq!(rt; items.next(), Some((none, none, 4)), "it was not asked for");
-    assert_eq!(rt; dag.edge_count(), 0);
-    Ok(())
+}
+
+// Asserts that no index is left for an item, and that its weight and those before it come back.
+fn lacks_an_index<Ix: IndexType>(rt: &impl Abort, answer: Answer<Ix>, wanted: (u32, &[u32])) {
+    match answer {
+        Err(EdgesError::Full { last, before }) => same(rt, (last, before.as_slice()), wanted),
+        _ => panic!(rt; "no index is left"),
+    }
 }
 
 #[test]
-fn no_items_are_no_edges(rt: HostRuntime) -> Result<(), Fail> {
-    let mut dag = with_nodes(&rt, rt.alloc(), 1)?;
+fn a_series_gives_its_indices_in_order(rt: HostRuntime) {
+    let mut dag = with_nodes(&rt, rt.alloc(), 4);
+    let [root, a, b, c] = four();
+    added(
+        &rt,
+        dag.add_edges([(root, a, 0), (root, b, 1), (root, c, 2)]),
+        &[0, 1, 2],
+    );
+    shape(
+        &rt,
+        dag.graph(),
+        &[0, 1, 2, 3],
+        &[(0, 1, 0), (0, 2, 1), (0, 3, 2)],
+    );
+    same(&rt, dag.find_edge(root, b), Some(EdgeIndex::new(1)));
+    children(&rt, &dag, root, &[(2, 3), (1, 2), (0, 1)]);
+}
+
+#[test]
+fn a_series_that_closes_a_cycle_adds_nothing(rt: HostRuntime) {
+    let mut dag = with_nodes(&rt, rt.alloc(), 4);
+    let [root, a, b, c] = four();
+    let to_itself = dag.add_edges([(root, a, 0), (root, b, 1), (root, c, 2), (c, c, 3)]);
+    refused(&rt, to_itself, &[3, 2, 1, 0]);
+    counts(&rt, &dag, 4, 0);
+    let back = dag.add_edges([(root, a, 0), (root, b, 1), (root, c, 2), (c, root, 3)]);
+    refused(&rt, back, &[3, 2, 1, 0]);
+    counts(&rt, &dag, 4, 0);
+    for n in four() {
+        children(&rt, &dag, n, &[]);
+        parents(&rt, &dag, n, &[]);
+    }
+}
+
+#[test]
+fn a_cycle_in_the_middle_of_a_series_is_found_at_its_end(rt: HostRuntime) {
+    let mut dag = with_nodes(&rt, rt.alloc(), 3);
+    let [a, b, c, _] = four();
+    added(&rt, dag.add_edges([(a, b, 1)]), &[0]);
+    refused(
+        &rt,
+        dag.add_edges([(b, c, 2), (c, a, 3), (a, c, 4)]),
+        &[4, 3, 2],
+    );
+    children(&rt, &dag, a, &[(0, 1)]);
+    children(&rt, &dag, b, &[]);
+}
+
+#[test]
+fn the_first_item_at_fault_ends_a_series(rt: HostRuntime) {
+    let mut dag = with_nodes(&rt, rt.alloc(), 2);
+    let (a, b, none): (NodeIndex, NodeIndex, NodeIndex) = (
+        NodeIndex::new(0),
+        NodeIndex::new(1),
+        NodeIndex::new(9),
+    );
+    let mut items = [(a, b, 8), (b, a, 9), (a, none, 3), (none, none, 4)].into_iter();
+    lacks_an_end(&rt, dag.add_edges(&mut items), (3, &[9, 8]));
+    same(&rt, items.next(), Some((none, none, 4)));
+    counts(&rt, &dag, 2, 0);
+}
+
+#[test]
+fn no_items_are_no_edges(rt: HostRuntime) {
+    let mut dag = with_nodes(&rt, rt.alloc(), 1);
     let none: [(NodeIndex<u32>, NodeIndex<u32>, u32); 0] = [];
-    let added = dag.add_edges(none)?;
-    assert_eq!(rt; numbers(rt.alloc(), added)?.len(), 0);
-    Ok(())
+    added(&rt, dag.add_edges(none), &[]);
 }
 
 #[test]
-fn a_series_stops_where_no_index_is_left(rt: HostRuntime) -> Result<(), Fail> {
-    let mut dag: Dag<u8, u16, u8> = Dag::new(rt.alloc());
-    let a = add_node(&rt, &mut dag, 0)?;
-    let b = add_node(&rt, &mut dag, 1)?;
-    let many = dag.add_edges((0..254u16).map(|i| (a, b, i)))?;
-    assert_eq!(rt; many.len(), 254);
-    match dag.add_edges([(a, b, 5), (b, a, 6)]) {
-        Err(EdgesError::Full { last, before }) => {
-            assert_eq!(rt; last, 6);
-            assert_eq!(rt; before.as_slice(), [5].as_slice());
-        }
-        _ => panic!(rt; "no index is left for the second"),
+fn a_series_stops_where_no_index_is_left(rt: HostRuntime) {
+    let mut dag: Small = Dag::new(rt.alloc());
+    let a = add_node(&rt, &mut dag, 0);
+    let b = add_node(&rt, &mut dag, 1);
+    let many = made(&rt, dag.add_edges((0..254u32).map(|i| (a, b, i))));
+    same(&rt, many.len(), 254);
+    lacks_an_index(&rt, dag.add_edges([(a, b, 5), (b, a, 6)]), (6, &[5]));
+    counts(&rt, &dag, 2, 254);
+    same(&rt, made(&rt, dag.add_edges([(a, b, 5)])).len(), 1);
+    counts(&rt, &dag, 2, 255);
+    lacks_an_end(&rt, dag.add_edges([(a, NodeIndex::new(9), 1)]), (1, &[]));
+}
+
+// Asserts that an extension stops at an edge for which no index is left.
+fn lacks_room(rt: &impl Abort, answer: Result<(), EdgeError<u32>>, wanted: u32) {
+    match answer {
+        Err(EdgeError::Full(weight)) => same(rt, weight, wanted),
+        _ => panic!(rt; "no index is left"),
     }
-    assert_eq!(rt; dag.edge_count(), 254);
-    assert_eq!(rt; dag.add_edges([(a, b, 5)])?.len(), 1);
-    assert!(rt; !dag.can_add_edge());
-    match dag.add_edges([(a, n(&rt, 9), 1)]) {
-        Err(EdgesError::BadEndpoint { last, before }) => {
-            assert_eq!(rt; last, 1);
-            assert!(rt; before.is_empty());
-        }
-        _ => panic!(rt; "a missing end is found first"),
-    }
-    Ok(())
 }
 
 #[test]
-fn an_extension_keeps_what_it_made(rt: HostRuntime) -> Result<(), Fail> {
+fn an_extension_keeps_what_it_made(rt: HostRuntime) {
     let mut dag: Plain = Dag::new(rt.alloc());
-    let (a, b, c, d) = (n(&rt, 0), n(&rt, 1), n(&rt, 2), n(&rt, 3));
-    match dag.extend_with_edges([(a, b, 5), (b, c, 6), (c, a, 7), (a, d, 8)]) {
-        Err(EdgeError::WouldCycle(refused)) => assert_eq!(rt; refused.0, 7),
-        _ => panic!(rt; "the third closes a cycle"),
-    }
-    assert_eq!(rt; dag.node_count(), 3);
-    assert_eq!(rt; dag.edge_count(), 2);
-    let mut other: Plain = Dag::new(rt.alloc());
-    let far = n(&rt, 5);
-    match other.extend_with_edges([(a, b, 5), (far, far, 6)]) {
-        Err(EdgeError::WouldCycle(refused)) => assert_eq!(rt; refused.0, 6),
-        _ => panic!(rt; "the second closes a cycle"),
-    }
-    assert_eq!(rt; other.node_count(), 6);
-    assert_eq!(rt; other.edge_count(), 1);
-    assert_eq!(rt; other.node_weight(far).copied(), Some(0));
-    Ok(())
+    let [a, b, c, d] = four();
+    closes_cycle(
+        &rt,
+        dag.extend_with_edges([(a, b, 5), (b, c, 6), (c, a, 7), (a, d, 8)]),
+        7,
+    );
+    shape(&rt, dag.graph(), &[0, 0, 0], &[(0, 1, 5), (1, 2, 6)]);
 }
 
 #[test]
-fn an_extension_needs_an_index_for_each_node(rt: HostRuntime) -> Result<(), Fail> {
-    let mut full: Dag<u8, u32, u8> = Dag::new(rt.alloc());
+fn an_extension_makes_the_nodes_before_an_end(rt: HostRuntime) {
+    let mut dag: Plain = Dag::new(rt.alloc());
+    let [a, b, _, _] = four();
+    let far = NodeIndex::new(5);
+    closes_cycle(&rt, dag.extend_with_edges([(a, b, 5), (far, far, 6)]), 6);
+    shape(&rt, dag.graph(), &[0; 6], &[(0, 1, 5)]);
+}
+
+#[test]
+fn an_extension_of_a_full_dag_is_refused(rt: HostRuntime) {
+    let mut full: Small = Dag::new(rt.alloc());
     for weight in 0..255 {
-        add_node(&rt, &mut full, weight)?;
+        add_node(&rt, &mut full, weight);
     }
-    assert!(rt; !full.can_add_node());
-    let (first, greatest) = (n(&rt, 0), n(&rt, 255));
-    assert!(rt;
-        matches!(
-            full.extend_with_edges([(first, greatest, 1)]),
-            Err(EdgeError::Full(1))
-        )
-    );
-    assert_eq!(rt; full.node_count(), 255);
-    let mut empty: Dag<u8, u32, u8> = Dag::new(rt.alloc());
-    assert!(rt;
-        matches!(
-            empty.extend_with_edges([(first, greatest)]),
-            Err(EdgeError::Full(0))
-        )
-    );
-    assert_eq!(rt; empty.node_count(), 0);
-    empty.extend_with_edges([(first, n(&rt, 254))])?;
-    assert_eq!(rt; empty.node_count(), 255);
-    assert_eq!(rt; empty.edge_count(), 1);
-    assert_eq!(rt; empty.edge_weight(EdgeIndex::new(0)).copied(), Some(0));
-    Ok(())
+    let (first, greatest) = (NodeIndex::new(0), NodeIndex::new(255));
+    lacks_room(&rt, full.extend_with_edges([(first, greatest, 1)]), 1);
+    counts(&rt, &full, 255, 0);
 }
 
 #[test]
-fn a_dag_is_made_of_edges(rt: HostRuntime) -> Result<(), Fail> {
-    let (a, b, c) = (n(&rt, 0), n(&rt, 1), n(&rt, 2));
-    let dag: Plain = Dag::from_edges(rt.alloc(), [(a, b), (b, c), (a, c)])?;
-    assert_eq!(rt; dag.node_count(), 3);
-    assert_eq!(rt;
-        children_of(rt.alloc(), &dag, a)?.as_slice(),
-        [(2, 2), (0, 1)].as_slice()
-    );
-    let refused: Result<Plain, EdgeError<u32>> = Dag::from_edges(
-        rt.alloc(),
-        [(a, b, 1), (b, a, 2)],
-    );
-    match refused {
-        Err(EdgeError::WouldCycle(refused)) => assert_eq!(rt; refused.0, 2),
-        _ => panic!(rt; "the second closes a cycle"),
-    }
-    Ok(())
+fn an_extension_needs_an_index_for_each_node(rt: HostRuntime) {
+    let mut empty: Small = Dag::new(rt.alloc());
+    let (first, greatest) = (NodeIndex::new(0), NodeIndex::new(255));
+    lacks_room(&rt, empty.extend_with_edges([(first, greatest)]), 0);
+    counts(&rt, &empty, 0, 0);
+    made(&rt, empty.extend_with_edges([(first, NodeIndex::new(254))]));
+    counts(&rt, &empty, 255, 1);
+    same(&rt, empty.edge_weight(EdgeIndex::new(0)).copied(), Some(0));
 }
 
 #[test]
-fn elements_are_nodes_and_edges_by_position(rt: HostRuntime) -> Result<(), Fail> {
-    let node = |weight: u8| Element::Node { weight };
-    let edge = |source: usize, target: usize, weight: u32| Element::Edge {
+fn a_dag_is_made_of_edges(rt: HostRuntime) {
+    let [a, b, c, _] = four();
+    let dag: Plain = made(&rt, Dag::from_edges(rt.alloc(), [(a, b), (b, c), (a, c)]));
+    counts(&rt, &dag, 3, 3);
+    children(&rt, &dag, a, &[(2, 2), (0, 1)]);
+    let answer: Result<Plain, EdgeError<u32>> = Dag::from_edges(rt.alloc(), [(a, b, 1), (b, a, 2)]);
+    closes_cycle(&rt, answer, 2);
+}
+
+type Item = Element<u32, u32>;
+
+fn node_item(weight: u32) -> Item {
+    Element::Node { weight }
+}
+
+fn edge_item(source: usize, target: usize, weight: u32) -> Item {
+    Element::Edge {
         source,
         target,
         weight,
-    };
-    let dag: Plain = Dag::from_elements(
-        rt.alloc(),
-        [node(1), node(2), edge(0, 1, 7), edge(0, 1, 8)],
-    )?;
-    assert_eq!(rt; dag.node_count(), 2);
-    assert_eq!(rt; dag.edge_count(), 1);
-    assert_eq!(rt; dag.edge_weight(EdgeIndex::new(0)).copied(), Some(8));
-    let small: Result<Dag<u8, u32, u8>, ElementError<u8, u32>> = Dag::from_elements(
-        rt.alloc(),
-        [node(1), edge(300, 0, 9)],
-    );
-    match small {
-        Err(ElementError::Edge(EdgeError::BadEndpoint(refused))) => assert_eq!(rt; refused, 9),
-        _ => panic!(rt; "no node is at that position"),
     }
-    let round: Result<Plain, ElementError<u8, u32>> = Dag::from_elements(
-        rt.alloc(),
-        [node(1), node(2), edge(0, 1, 7), edge(1, 0, 4)],
-    );
-    match round {
-        Err(ElementError::Edge(EdgeError::WouldCycle(refused))) => assert_eq!(rt; refused.0, 4),
-        _ => panic!(rt; "the second edge closes a cycle"),
-    }
-    Ok(())
 }
 
 #[test]
-fn each_edge_of_a_sorted_list_is_accepted(rt: HostRuntime) -> Result<(), Fail> {
-    let ends = [
-        (1, 4),
-        (3, 4),
-        (2, 5),
-        (3, 5),
-        (2, 8),
-        (1, 9),
-        (1, 8),
-        (1, 3),
-        (2, 7),
-        (1, 7),
-        (0, 6),
-        (1, 2),
-        (0, 7),
-        (1, 6),
-        (2, 4),
-        (0, 1),
-        (0, 9),
-        (2, 9),
-        (2, 6),
-        (0, 4),
-        (2, 3),
-        (0, 2),
-        (0, 3),
-        (0, 5),
-        (0, 8),
-        (1, 5),
+fn elements_are_nodes_and_edges_by_position(rt: HostRuntime) {
+    let items = [
+        node_item(1),
+        node_item(2),
+        edge_item(0, 1, 7),
+        edge_item(0, 1, 8),
     ];
-    let mut one_by_one = with_nodes(&rt, rt.alloc(), 10)?;
+    let dag: Plain = made(&rt, Dag::from_elements(rt.alloc(), items));
+    shape(&rt, dag.graph(), &[1, 2], &[(0, 1, 8)]);
+}
+
+#[test]
+fn an_element_needs_the_nodes_at_its_ends(rt: HostRuntime) {
+    let answer: Result<Dag<u32, u32, u8>, ElementError<u32, u32>> = Dag::from_elements(
+        rt.alloc(),
+        [node_item(1), edge_item(300, 0, 9)],
+    );
+    match answer {
+        Err(ElementError::Edge(EdgeError::BadEndpoint(refused))) => same(&rt, refused, 9),
+        _ => panic!(rt; "no node is at that position"),
+    }
+}
+
+#[test]
+fn an_element_that_closes_a_cycle_is_refused(rt: HostRuntime) {
+    let answer: Result<Plain, ElementError<u32, u32>> = Dag::from_elements(
+        rt.alloc(),
+        [
+            node_item(1),
+            node_item(2),
+            edge_item(0, 1, 7),
+            edge_item(1, 0, 4),
+        ],
+    );
+    match answer {
+        Err(ElementError::Edge(EdgeError::WouldCycle(refused))) => same(&rt, refused.0, 4),
+        _ => panic!(rt; "the second edge closes a cycle"),
+    }
+}
+
+const ENDS: [(usize, usize); 26] = [
+    (1, 4),
+    (3, 4),
+    (2, 5),
+    (3, 5),
+    (2, 8),
+    (1, 9),
+    (1, 8),
+    (1, 3),
+    (2, 7),
+    (1, 7),
+    (0, 6),
+    (1, 2),
+    (0, 7),
+    (1, 6),
+    (2, 4),
+    (0, 1),
+    (0, 9),
+    (2, 9),
+    (2, 6),
+    (0, 4),
+    (2, 3),
+    (0, 2),
+    (0, 3),
+    (0, 5),
+    (0, 8),
+    (1, 5),
+];
+
+#[test]
+fn each_edge_of_a_sorted_list_is_accepted(rt: HostRuntime) {
+    let mut one_by_one = with_nodes(&rt, rt.alloc(), 10);
     let mut items = Vec::new(rt.alloc());
-    for (a, b) in ends {
-        super::support::add_edge(&rt, &mut one_by_one, n(&rt, a), n(&rt, b), 0)?;
-        items.push((n(&rt, a), n(&rt, b), 0))?;
+    for (a, b) in ENDS {
+        let (a, b): (NodeIndex, NodeIndex) = (node(&rt, a), node(&rt, b));
+        add_edge(&rt, &mut one_by_one, a, b, 0);
+        made(&rt, items.push((a, b, 0)));
     }
-    assert_eq!(rt; one_by_one.edge_count(), 26);
-    let mut at_once = with_nodes(&rt, rt.alloc(), 10)?;
-    assert_eq!(rt; at_once.add_edges(items)?.len(), 26);
+    let mut at_once = with_nodes(&rt, rt.alloc(), 10);
+    same(&rt, made(&rt, at_once.add_edges(items)).len(), 26);
+    counts(&rt, &one_by_one, 10, 26);
     for x in 0..10 {
-        assert_eq!(rt;
-            children_of(rt.alloc(), &at_once, n(&rt, x))?.as_slice(),
-            children_of(rt.alloc(), &one_by_one, n(&rt, x))?.as_slice()
-        );
+        let n = NodeIndex::new(x);
+        let mut found = at_once.children(n);
+        let mut wanted = one_by_one.children(n);
+        for _ in 0..11 {
+            same(
+                &rt,
+                found.walk_next(&at_once),
+                wanted.walk_next(&one_by_one),
+            );
+        }
     }
-    Ok(())
 }

@@ -1,4 +1,4 @@
-use super::support::{add_edge, add_node};
+use super::support::{Plain, add_edge, add_node, dag_of, holds, made, same, shape};
 use daggy::visit::{
     Data, DataMap, DataMapMut, GetAdjacencyMatrix, GraphBase, GraphProp, NodeCompactIndexable,
     NodeCount, NodeIndexable, VisitMap, Visitable,
@@ -6,86 +6,78 @@ use daggy::visit::{
 use daggy::{Dag, EdgeIndex, NodeIndex};
 use std::alloc::{AllocError, Global};
 use std::process::Abort;
-use std::test::Fail;
 
 // Nodes of weights 10, 20 and 30, and an edge of weight 5 from the first to the second.
-fn three_nodes(rt: &impl Abort, alloc: Global) -> Result<Dag<u8, u8>, Fail> {
-    let mut dag: Dag<u8, u8> = Dag::new(alloc);
-    for weight in [10, 20, 30] {
-        add_node(rt, &mut dag, weight)?;
-    }
-    add_edge(rt, &mut dag, NodeIndex::new(0), NodeIndex::new(1), 5)?;
-    Ok(dag)
+fn three_nodes(rt: &impl Abort, alloc: Global) -> Plain {
+    dag_of(rt, alloc, &[10, 20, 30], &[(0, 1, 5)])
 }
 
 #[test]
-fn a_matrix_has_the_pairs_of_its_time(rt: HostRuntime) -> Result<(), Fail> {
-    let mut dag = three_nodes(&rt, rt.alloc())?;
-    let [a, b, c] = [NodeIndex::new(0), NodeIndex::new(1), NodeIndex::new(2)];
-    let before = dag.adjacency_matrix()?;
-    add_edge(&rt, &mut dag, b, c, 6)?;
-    assert!(rt; dag.is_adjacent(&before, a, b));
-    assert!(rt; !dag.is_adjacent(&before, b, c));
-    assert!(rt; !dag.is_adjacent(&before, b, a));
-    assert!(rt; !dag.is_adjacent(&before, a, NodeIndex::new(9)));
-    let after = dag.adjacency_matrix()?;
-    assert!(rt; dag.is_adjacent(&after, a, b));
-    assert!(rt; dag.is_adjacent(&after, b, c));
-    assert!(rt; !dag.is_adjacent(&after, a, c));
-    Ok(())
+fn a_matrix_has_the_pairs_of_its_time(rt: HostRuntime) {
+    let mut dag = three_nodes(&rt, rt.alloc());
+    let (a, b, c) = (NodeIndex::new(0), NodeIndex::new(1), NodeIndex::new(2));
+    let before = made(&rt, dag.adjacency_matrix());
+    add_edge(&rt, &mut dag, b, c, 6);
+    holds(&rt, dag.is_adjacent(&before, a, b));
+    holds(&rt, !dag.is_adjacent(&before, b, c));
+    holds(&rt, !dag.is_adjacent(&before, b, a));
+    holds(&rt, !dag.is_adjacent(&before, a, NodeIndex::new(9)));
+    let after = made(&rt, dag.adjacency_matrix());
+    holds(&rt, dag.is_adjacent(&after, a, b));
+    holds(&rt, dag.is_adjacent(&after, b, c));
+    holds(&rt, !dag.is_adjacent(&after, a, c));
 }
 
 #[test]
-fn a_set_is_visited_and_emptied(rt: HostRuntime) -> Result<(), Fail> {
-    let mut dag: Dag<u8, u8> = Dag::new(rt.alloc());
-    add_node(&rt, &mut dag, 10)?;
-    add_node(&rt, &mut dag, 20)?;
-    let mut map = dag.visit_map()?;
-    assert!(rt; dag.node_bound() == 2);
-    assert!(rt; map.visit(NodeIndex::new(1)));
-    assert!(rt; !map.visit(NodeIndex::new(1)));
-    assert!(rt; !map.is_visited(NodeIndex::new(0)));
-    assert!(rt; !map.is_visited(NodeIndex::new(7)));
-    dag.reset_map(&mut map)?;
-    assert!(rt; map.visit(NodeIndex::new(1)));
-    Ok(())
+fn a_set_is_visited_and_emptied(rt: HostRuntime) {
+    let dag = dag_of(&rt, rt.alloc(), &[10, 20], &[]);
+    let mut map = made(&rt, dag.visit_map());
+    holds(&rt, dag.node_bound() == 2);
+    holds(&rt, map.visit(NodeIndex::new(1)));
+    holds(&rt, !map.visit(NodeIndex::new(1)));
+    holds(&rt, !map.is_visited(NodeIndex::new(0)));
+    holds(&rt, !map.is_visited(NodeIndex::new(7)));
+    made(&rt, dag.reset_map(&mut map));
+    holds(&rt, map.visit(NodeIndex::new(1)));
 }
 
 #[test]
-fn a_set_is_reset_for_more_nodes(rt: HostRuntime) -> Result<(), Fail> {
-    let mut dag: Dag<u8, u8> = Dag::new(rt.alloc());
-    let mut map = dag.visit_map()?;
+fn a_set_is_reset_for_more_nodes(rt: HostRuntime) {
+    let mut dag: Plain = Dag::new(rt.alloc());
+    let mut map = made(&rt, dag.visit_map());
     for weight in 0..70 {
-        add_node(&rt, &mut dag, weight)?;
+        add_node(&rt, &mut dag, weight);
     }
-    dag.reset_map(&mut map)?;
-    assert!(rt; dag.node_bound() == 70);
-    assert!(rt; map.visit(NodeIndex::new(69)));
-    assert!(rt; map.is_visited(NodeIndex::new(69)));
-    assert!(rt; !map.is_visited(NodeIndex::new(5)));
-    Ok(())
+    made(&rt, dag.reset_map(&mut map));
+    holds(&rt, dag.node_bound() == 70);
+    holds(&rt, map.visit(NodeIndex::new(69)));
+    holds(&rt, map.is_visited(NodeIndex::new(69)));
+    holds(&rt, !map.is_visited(NodeIndex::new(5)));
 }
 
 #[test]
-fn a_dag_is_read_and_written_by_its_traits(rt: HostRuntime) -> Result<(), Fail> {
-    let mut dag = three_nodes(&rt, rt.alloc())?;
+fn a_dag_is_read_by_its_traits(rt: HostRuntime) {
+    let dag = three_nodes(&rt, rt.alloc());
     let (n, e) = (NodeIndex::new(1), EdgeIndex::new(0));
-    assert_eq!(rt; NodeCount::node_count(&dag), 3);
-    assert!(rt; dag.is_directed());
-    assert_eq!(rt; dag.node_bound(), 3);
-    assert_eq!(rt; dag.to_index(n), 1);
-    assert_eq!(rt; dag.from_index(2), NodeIndex::new(2));
-    assert_eq!(rt; DataMap::node_weight(&dag, n).copied(), Some(20));
-    assert_eq!(rt; DataMap::edge_weight(&dag, e).copied(), Some(5));
-    if let Some(weight) = DataMapMut::node_weight_mut(&mut dag, n) {
+    same(&rt, NodeCount::node_count(&dag), 3);
+    holds(&rt, dag.is_directed());
+    same(&rt, dag.node_bound(), 3);
+    same(&rt, dag.to_index(n), 1);
+    same(&rt, dag.from_index(2), NodeIndex::new(2));
+    same(&rt, DataMap::node_weight(&dag, n).copied(), Some(20));
+    same(&rt, DataMap::edge_weight(&dag, e).copied(), Some(5));
+}
+
+#[test]
+fn a_dag_is_written_by_its_traits(rt: HostRuntime) {
+    let mut dag = three_nodes(&rt, rt.alloc());
+    if let Some(weight) = DataMapMut::node_weight_mut(&mut dag, NodeIndex::new(1)) {
         *weight = 21;
     }
-    if let Some(weight) = DataMapMut::edge_weight_mut(&mut dag, e) {
+    if let Some(weight) = DataMapMut::edge_weight_mut(&mut dag, EdgeIndex::new(0)) {
         *weight = 6;
     }
-    assert_eq!(rt; dag.node_weight(n).copied(), Some(21));
-    assert_eq!(rt; dag.edge_weight(e).copied(), Some(6));
-    Ok(())
+    shape(&rt, dag.graph(), &[10, 21, 30], &[(0, 1, 6)]);
 }
 
 fn twice<G: GraphBase>(n: G::NodeId, e: G::EdgeId) -> ([G::NodeId; 2], [G::EdgeId; 2]) {
@@ -108,7 +100,7 @@ fn has_direction<G: GraphProp>(graph: &G) -> bool {
     graph.is_directed()
 }
 
-fn holds<G: DataMap>(graph: &G, n: G::NodeId, e: G::EdgeId) -> (bool, bool) {
+fn has_weights<G: DataMap>(graph: &G, n: G::NodeId, e: G::EdgeId) -> (bool, bool) {
     (
         graph.node_weight(n).is_some(),
         graph.edge_weight(e).is_some(),
@@ -172,26 +164,29 @@ where
 }
 
 #[test]
-fn generic_code_takes_a_dag(rt: HostRuntime) -> Result<(), Fail> {
-    let mut dag = three_nodes(&rt, rt.alloc())?;
-    let [a, b] = [NodeIndex::new(0), NodeIndex::new(1)];
-    let e = EdgeIndex::new(0);
-    assert_eq!(rt; twice::<Dag<u8, u8>>(b, e), ([b, b], [e, e]));
-    assert!(rt; both::<Dag<u8, u8>>(Some(1), Some(2)));
-    assert_eq!(rt; count(&dag), 3);
-    assert!(rt; has_direction(&dag));
-    assert_eq!(rt; holds(&dag, b, e), (true, true));
-    assert_eq!(rt;
-        holds(&dag, NodeIndex::new(3), EdgeIndex::new(1)),
-        (false, false)
+fn generic_code_reads_a_dag(rt: HostRuntime) {
+    let dag = three_nodes(&rt, rt.alloc());
+    let (a, b, e) = (NodeIndex::new(0), NodeIndex::new(1), EdgeIndex::new(0));
+    same(&rt, twice::<Plain>(b, e), ([b, b], [e, e]));
+    same(&rt, both::<Plain>(Some(1), Some(2)), true);
+    same(&rt, count(&dag), 3);
+    same(&rt, has_direction(&dag), true);
+    same(&rt, has_weights(&dag, b, e), (true, true));
+    same(
+        &rt,
+        has_weights(&dag, NodeIndex::new(3), EdgeIndex::new(1)),
+        (false, false),
     );
-    write(&mut dag, b, 21, e, 6);
-    assert_eq!(rt; dag.node_weight(b).copied(), Some(21));
-    assert_eq!(rt; dag.edge_weight(e).copied(), Some(6));
-    assert_eq!(rt; past_the_last(&dag), 3);
-    assert!(rt; is_full(&dag));
-    assert!(rt; visits_the_last(&dag)?);
-    assert!(rt; are_joined(&dag, a, b)?);
-    assert!(rt; !are_joined(&dag, b, a)?);
-    Ok(())
+    same(&rt, past_the_last(&dag), 3);
+    same(&rt, is_full(&dag), true);
+    same(&rt, made(&rt, visits_the_last(&dag)), true);
+    same(&rt, made(&rt, are_joined(&dag, a, b)), true);
+    same(&rt, made(&rt, are_joined(&dag, b, a)), false);
+}
+
+#[test]
+fn generic_code_writes_a_dag(rt: HostRuntime) {
+    let mut dag = three_nodes(&rt, rt.alloc());
+    write(&mut dag, NodeIndex::new(1), 21, EdgeIndex::new(0), 6);
+    shape(&rt, dag.graph(), &[10, 21, 30], &[(0, 1, 6)]);
 }
