@@ -5,4 +5,6 @@
 #[cfg(test)]
 mod stable_tests;
 #[cfg(test)]
+mod support;
+#[cfg(test)]
 mod tests;

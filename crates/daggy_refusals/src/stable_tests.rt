@@ -1,5 +1,6 @@
 //! The calls of the stable dag, each made again after a refusal. It must then succeed, in the slots that it would have
 //! taken at first.
+use crate::support::{holds, made, refuse, same};
 use daggy::graph::Element;
 use daggy::index::Direction;
 use daggy::stable_dag::{EdgeIndices, StableDag};
@@ -9,7 +10,6 @@ use daggy::{
 };
 use std::alloc::{AllocError, Global};
 use std::process::Abort;
-use std::test::Fail;
 
 type Plain = StableDag<usize, usize>;
 
@@ -22,35 +22,55 @@ fn state_of(dag: &Plain) -> usize {
     let mut sum = dag.node_bound();
     for (n, weight) in dag.node_references() {
         sum = mix(mix(sum, n.index()), *weight);
-        for edge in dag.edges(n) {
-            sum = mix(mix(sum, edge.id().index()), *edge.weight());
-            sum = mix(sum, edge.target().index());
-        }
-        for parent in dag.neighbors_directed(n, Direction::Incoming) {
-            sum = mix(sum, parent.index());
-        }
+        sum = lists_of(dag, n, sum);
     }
     sum
 }
 
-// Adds a node, a second time if the first is refused, and says whether it was.
-fn add_node_again(rt: &impl Abort, dag: &mut Plain, index: usize) -> Result<bool, Fail> {
-    let before = state_of(dag);
+fn lists_of(dag: &Plain, n: NodeIndex, before: usize) -> usize {
+    let mut sum = before;
+    for edge in dag.edges(n) {
+        sum = mix(mix(sum, edge.id().index()), *edge.weight());
+        sum = mix(sum, edge.target().index());
+    }
+    for parent in dag.neighbors_directed(n, Direction::Incoming) {
+        sum = mix(sum, parent.index());
+    }
+    sum
+}
+
+fn counts(rt: &impl Abort, dag: &Plain, nodes: usize, edges: usize) {
+    same(rt, (dag.node_count(), dag.edge_count()), (nodes, edges));
+}
+
+fn add_node(rt: &impl Abort, dag: &mut Plain) -> Result<NodeIndex, NodeError<usize>> {
     assert!(rt; dag.can_add_node());
-    match dag.add_node(7) {
-        Ok(n) => {
-            assert_eq!(rt; n.index(), index);
-            Ok(false)
-        }
-        Err(NodeError::Memory(refused)) => {
-            assert_eq!(rt; refused, 7);
-            assert_eq!(rt; state_of(dag), before);
-            assert!(rt; dag.can_add_node());
-            assert_eq!(rt; dag.add_node(refused)?.index(), index);
-            Ok(true)
+    dag.add_node(7)
+}
+
+// Adds a node, a second time if the first is refused, and notes whether it was.
+fn add_node_again(rt: &impl Abort, dag: &mut Plain, index: usize, refused: &mut bool) {
+    let before = state_of(dag);
+    let n = match add_node(rt, dag) {
+        Ok(n) => n,
+        Err(NodeError::Memory(weight)) => {
+            refuse(rt, refused);
+            same(rt, (weight, state_of(dag)), (7, before));
+            made(rt, add_node(rt, dag))
         }
         Err(NodeError::Full(_)) => panic!(rt; "an index is left"),
-    }
+    };
+    same(rt, n.index(), index);
+}
+
+fn add_edge(
+    rt: &impl Abort,
+    dag: &mut Plain,
+    child: NodeIndex,
+) -> Result<EdgeIndex, EdgeError<usize>> {
+    let root = NodeIndex::new(0);
+    assert!(rt; dag.contains_node(root) && dag.contains_node(child) && dag.can_add_edge());
+    dag.add_edge(root, child, 8)
 }
 
 // Adds an edge from the root, likewise.
@@ -59,24 +79,29 @@ fn add_edge_again(
     dag: &mut Plain,
     child: NodeIndex,
     index: usize,
-) -> Result<bool, Fail> {
+    refused: &mut bool,
+) {
     let before = state_of(dag);
-    let root = NodeIndex::new(0);
-    assert!(rt; dag.contains_node(root) && dag.contains_node(child) && dag.can_add_edge());
-    match dag.add_edge(root, child, 8) {
-        Ok(e) => {
-            assert_eq!(rt; e.index(), index);
-            Ok(false)
-        }
-        Err(EdgeError::Memory(refused)) => {
-            assert_eq!(rt; refused, 8);
-            assert_eq!(rt; state_of(dag), before);
-            assert!(rt; dag.contains_node(root) && dag.contains_node(child) && dag.can_add_edge());
-            assert_eq!(rt; dag.add_edge(root, child, refused)?.index(), index);
-            Ok(true)
+    let e = match add_edge(rt, dag, child) {
+        Ok(e) => e,
+        Err(EdgeError::Memory(weight)) => {
+            refuse(rt, refused);
+            same(rt, (weight, state_of(dag)), (8, before));
+            made(rt, add_edge(rt, dag, child))
         }
         Err(_) => panic!(rt; "no other refusal has a cause"),
-    }
+    };
+    same(rt, e.index(), index);
+}
+
+fn update_edge(
+    rt: &impl Abort,
+    dag: &mut Plain,
+    child: NodeIndex,
+) -> Result<EdgeIndex, EdgeError<usize>> {
+    let root = NodeIndex::new(0);
+    assert!(rt; dag.contains_node(root) && dag.contains_node(child) && dag.can_add_edge());
+    dag.update_edge(root, child, 8)
 }
 
 // Adds an edge from the root to a node that it does not lead to yet, as an update, likewise.
@@ -85,23 +110,31 @@ fn update_edge_again(
     dag: &mut Plain,
     child: NodeIndex,
     index: usize,
-) -> Result<bool, Fail> {
+    refused: &mut bool,
+) {
     let before = state_of(dag);
-    let root = NodeIndex::new(0);
-    assert!(rt; dag.contains_node(root) && dag.contains_node(child) && dag.can_add_edge());
-    match dag.update_edge(root, child, 8) {
-        Ok(e) => {
-            assert_eq!(rt; e.index(), index);
-            Ok(false)
-        }
-        Err(EdgeError::Memory(refused)) => {
-            assert_eq!(rt; refused, 8);
-            assert_eq!(rt; state_of(dag), before);
-            assert!(rt; dag.contains_node(root) && dag.contains_node(child) && dag.can_add_edge());
-            assert_eq!(rt; dag.update_edge(root, child, refused)?.index(), index);
-            Ok(true)
+    let e = match update_edge(rt, dag, child) {
+        Ok(e) => e,
+        Err(EdgeError::Memory(weight)) => {
+            refuse(rt, refused);
+            same(rt, (weight, state_of(dag)), (8, before));
+            made(rt, update_edge(rt, dag, child))
         }
         Err(_) => panic!(rt; "no other refusal has a cause"),
+    };
+    same(rt, e.index(), index);
+}
+
+fn add_neighbor(
+    rt: &impl Abort,
+    dag: &mut Plain,
+    dir: Direction,
+) -> Result<(EdgeIndex, NodeIndex), ChildError<usize, usize>> {
+    let root = NodeIndex::new(0);
+    assert!(rt; dag.contains_node(root) && dag.can_add_edge() && dag.can_add_node());
+    match dir {
+        Direction::Outgoing => dag.add_child(root, 8, 9),
+        Direction::Incoming => dag.add_parent(root, 8, 9),
     }
 }
 
@@ -111,38 +144,23 @@ fn add_neighbor_again(
     dag: &mut Plain,
     dir: Direction,
     indices: (usize, usize),
-) -> Result<bool, Fail> {
+    refused: &mut bool,
+) {
     let before = state_of(dag);
-    let root = NodeIndex::new(0);
-    assert!(rt; dag.contains_node(root) && dag.can_add_edge() && dag.can_add_node());
-    let added = match dir {
-        Direction::Outgoing => dag.add_child(root, 8, 9),
-        Direction::Incoming => dag.add_parent(root, 8, 9),
-    };
-    match added {
-        Ok((e, n)) => {
-            assert_eq!(rt; (e.index(), n.index()), indices);
-            Ok(false)
-        }
+    let (e, n) = match add_neighbor(rt, dag, dir) {
+        Ok(added) => added,
         Err(ChildError::Memory(edge, node)) => {
-            assert_eq!(rt; (edge, node), (8, 9));
-            assert_eq!(rt; state_of(dag), before);
-            assert!(rt; dag.contains_node(root) && dag.can_add_edge() && dag.can_add_node());
-            let (e, n) = match dir {
-                Direction::Outgoing => dag.add_child(root, edge, node)?,
-                Direction::Incoming => dag.add_parent(root, edge, node)?,
-            };
-            assert_eq!(rt; (e.index(), n.index()), indices);
-            Ok(true)
+            refuse(rt, refused);
+            same(rt, (edge, node, state_of(dag)), (8, 9, before));
+            made(rt, add_neighbor(rt, dag, dir))
         }
-    }
+    };
+    same(rt, (e.index(), n.index()), indices);
 }
 
-fn assert_added(rt: &impl Abort, mut added: EdgeIndices<u32>, indices: [usize; 3]) {
-    for index in indices {
-        assert_eq!(rt; added.next().map(|e| e.index()), Some(index));
-    }
-    assert!(rt; added.next().is_none());
+fn add_edges(dag: &mut Plain, child: NodeIndex) -> Result<EdgeIndices<u32>, EdgesError<usize>> {
+    let root = NodeIndex::new(0);
+    dag.add_edges([(root, child, 1), (root, child, 2), (root, child, 3)])
 }
 
 // Adds three edges from the root at once, likewise.
@@ -151,166 +169,127 @@ fn add_edges_again(
     dag: &mut Plain,
     child: NodeIndex,
     indices: [usize; 3],
-) -> Result<bool, Fail> {
-    let before_all = state_of(dag);
-    let root = NodeIndex::new(0);
-    match dag.add_edges([(root, child, 1), (root, child, 2), (root, child, 3)]) {
-        Ok(added) => {
-            assert_added(rt, added, indices);
-            Ok(false)
-        }
+    refused: &mut bool,
+) {
+    let state = state_of(dag);
+    let mut added = match add_edges(dag, child) {
+        Ok(added) => added,
         Err(EdgesError::Memory { last, before }) => {
-            assert!(rt; last >= 1 && last <= 3);
-            assert_eq!(rt; before.len(), last - 1);
-            assert_eq!(rt; state_of(dag), before_all);
-            let added = dag.add_edges([(root, child, 1), (root, child, 2), (root, child, 3)])?;
-            assert_added(rt, added, indices);
-            Ok(true)
+            refuse(rt, refused);
+            holds(rt, last >= 1 && last <= 3);
+            same(rt, (before.len(), state_of(dag)), (last - 1, state));
+            made(rt, add_edges(dag, child))
         }
         Err(_) => panic!(rt; "no other refusal has a cause"),
+    };
+    for index in indices {
+        let Some(e) = added.next() else {
+            panic!(rt; "an index is missing");
+        };
+        same(rt, e.index(), index);
     }
+    holds(rt, added.next().is_none());
 }
 
 // A root with three nodes below it, of which the second was removed with its edge.
-fn gappy(rt: &impl Abort, alloc: Global) -> Result<(Plain, bool), Fail> {
-    let mut dag: Plain = StableDag::new(alloc);
-    let mut refused = add_node_again(rt, &mut dag, 0)?;
+fn gappy(rt: &impl Abort, alloc: Global, refused: &mut bool) -> Plain {
+    let mut dag = StableDag::new(alloc);
+    add_node_again(rt, &mut dag, 0, refused);
     for i in 0..3 {
-        if add_neighbor_again(rt, &mut dag, Direction::Outgoing, (i, i + 1))? {
-            assert!(rt; !refused, "a second refusal");
-            refused = true;
-        }
+        add_neighbor_again(rt, &mut dag, Direction::Outgoing, (i, i + 1), refused);
     }
-    assert_eq!(rt; dag.remove_node(NodeIndex::new(2)), Some(9));
-    assert_eq!(rt; dag.edge_count(), 2);
-    Ok((dag, refused))
+    same(rt, dag.remove_node(NodeIndex::new(2)), Some(9));
+    counts(rt, &dag, 3, 2);
+    dag
 }
 
 #[test]
-fn a_refused_node_or_edge_comes_back(rt: HostRuntime) -> Result<(), Fail> {
-    let (mut dag, mut refused) = gappy(&rt, rt.alloc())?;
+fn a_refused_node_or_edge_comes_back(rt: HostRuntime) {
+    let mut refused = false;
+    let mut dag = gappy(&rt, rt.alloc(), &mut refused);
     let last = NodeIndex::new(3);
-    assert!(rt;
-        !add_node_again(&rt, &mut dag, 2)?,
-        "a vacant slot needs no memory"
-    );
-    assert!(rt;
-        !add_edge_again(&rt, &mut dag, last, 1)?,
-        "a vacant slot needs no memory"
-    );
+    // A vacant slot needs no memory.
+    same(&rt, made(&rt, add_node(&rt, &mut dag)).index(), 2);
+    same(&rt, made(&rt, add_edge(&rt, &mut dag, last)).index(), 1);
     for i in 0..8 {
-        if add_node_again(&rt, &mut dag, i + 4)? {
-            assert!(rt; !refused, "a second refusal");
-            refused = true;
-        }
-        if add_edge_again(&rt, &mut dag, last, i + 3)? {
-            assert!(rt; !refused, "a second refusal");
-            refused = true;
-        }
+        add_node_again(&rt, &mut dag, i + 4, &mut refused);
+        add_edge_again(&rt, &mut dag, last, i + 3, &mut refused);
     }
-    Ok(())
 }
 
 #[test]
-fn a_refused_update_comes_back(rt: HostRuntime) -> Result<(), Fail> {
-    let (mut dag, mut refused) = gappy(&rt, rt.alloc())?;
-    assert!(rt;
-        !add_node_again(&rt, &mut dag, 2)?,
-        "a vacant slot needs no memory"
-    );
-    assert!(rt;
-        !update_edge_again(&rt, &mut dag, NodeIndex::new(2), 1)?,
-        "a vacant slot needs no memory"
+fn a_refused_update_comes_back(rt: HostRuntime) {
+    let mut refused = false;
+    let mut dag = gappy(&rt, rt.alloc(), &mut refused);
+    // A vacant slot needs no memory.
+    same(&rt, made(&rt, add_node(&rt, &mut dag)).index(), 2);
+    same(
+        &rt,
+        made(&rt, update_edge(&rt, &mut dag, NodeIndex::new(2))).index(),
+        1,
     );
     for i in 0..6 {
-        if add_node_again(&rt, &mut dag, i + 4)? {
-            assert!(rt; !refused, "a second refusal");
-            refused = true;
-        }
-        if update_edge_again(&rt, &mut dag, NodeIndex::new(i + 4), i + 3)? {
-            assert!(rt; !refused, "a second refusal");
-            refused = true;
-        }
+        add_node_again(&rt, &mut dag, i + 4, &mut refused);
+        update_edge_again(&rt, &mut dag, NodeIndex::new(i + 4), i + 3, &mut refused);
     }
-    Ok(())
 }
 
 #[test]
-fn a_refused_neighbor_comes_back_with_its_edge(rt: HostRuntime) -> Result<(), Fail> {
-    let (mut dag, mut refused) = gappy(&rt, rt.alloc())?;
-    for dir in [Direction::Outgoing, Direction::Incoming] {
-        let at = if dir == Direction::Outgoing {
-            (1, 2)
-        } else {
-            (3, 4)
-        };
-        if add_neighbor_again(&rt, &mut dag, dir, at)? {
-            assert!(rt; !refused, "a second refusal");
-            refused = true;
-        }
+fn a_refused_neighbor_comes_back_with_its_edge(rt: HostRuntime) {
+    let mut refused = false;
+    let mut dag = gappy(&rt, rt.alloc(), &mut refused);
+    add_neighbor_again(&rt, &mut dag, Direction::Outgoing, (1, 2), &mut refused);
+    for i in 3..10 {
+        add_neighbor_again(&rt, &mut dag, Direction::Incoming, (i, i + 1), &mut refused);
     }
-    for i in 0..6 {
-        if add_neighbor_again(&rt, &mut dag, Direction::Incoming, (i + 4, i + 5))? {
-            assert!(rt; !refused, "a second refusal");
-            refused = true;
-        }
-    }
-    Ok(())
 }
 
 #[test]
-fn a_refused_series_comes_back_whole(rt: HostRuntime) -> Result<(), Fail> {
-    let (mut dag, mut refused) = gappy(&rt, rt.alloc())?;
+fn a_refused_series_comes_back_whole(rt: HostRuntime) {
+    let mut refused = false;
+    let mut dag = gappy(&rt, rt.alloc(), &mut refused);
     let last = NodeIndex::new(3);
-    if add_edges_again(&rt, &mut dag, last, [1, 3, 4])? {
-        assert!(rt; !refused, "a second refusal");
-        refused = true;
+    for indices in [[1, 3, 4], [5, 6, 7], [8, 9, 10], [11, 12, 13]] {
+        add_edges_again(&rt, &mut dag, last, indices, &mut refused);
     }
-    for i in 0..3 {
-        let first = 5 + 3 * i;
-        if add_edges_again(&rt, &mut dag, last, [first, first + 1, first + 2])? {
-            assert!(rt; !refused, "a second refusal");
-            refused = true;
-        }
-    }
-    Ok(())
 }
 
-// An edge from the root to a node that is not there yet.
-fn far_edge() -> [(NodeIndex<u32>, NodeIndex<u32>, usize); 1] {
-    [(NodeIndex::new(0), NodeIndex::new(6), 5)]
+// Adds an edge from the root to a node that is not there yet.
+fn extend(dag: &mut Plain) -> Result<(), EdgeError<usize>> {
+    dag.extend_with_edges([(NodeIndex::new(0), NodeIndex::new(6), 5)])
 }
 
 #[test]
-fn a_refused_extension_keeps_what_it_made(rt: HostRuntime) -> Result<(), Fail> {
-    let (mut dag, refused) = gappy(&rt, rt.alloc())?;
-    match dag.extend_with_edges(far_edge()) {
+fn a_refused_extension_keeps_what_it_made(rt: HostRuntime) {
+    let mut refused = false;
+    let mut dag = gappy(&rt, rt.alloc(), &mut refused);
+    match extend(&mut dag) {
         Ok(()) => {}
         Err(EdgeError::NodeMemory(weight)) | Err(EdgeError::Memory(weight)) => {
-            assert!(rt; !refused, "a second refusal");
-            assert_eq!(rt; weight, 5);
-            assert_eq!(rt; dag.edge_count(), 2);
-            dag.extend_with_edges(far_edge())?;
+            refuse(&rt, &mut refused);
+            same(&rt, (weight, dag.edge_count()), (5, 2));
+            made(&rt, extend(&mut dag));
         }
         Err(_) => panic!(rt; "no other refusal has a cause"),
     }
-    assert_eq!(rt; (dag.node_count(), dag.edge_count()), (7, 3));
+    counts(&rt, &dag, 7, 3);
     let ends = dag.edge_endpoints(EdgeIndex::new(1));
-    assert_eq!(rt; ends, Some((NodeIndex::new(0), NodeIndex::new(6))));
-    Ok(())
+    same(&rt, ends, Some((NodeIndex::new(0), NodeIndex::new(6))));
 }
 
 #[test]
-fn a_dag_is_made_or_its_weight_comes_back(rt: HostRuntime) -> Result<(), Fail> {
+fn a_dag_of_edges_is_made_or_its_weight_comes_back(rt: HostRuntime) {
     let (a, b): (NodeIndex, NodeIndex) = (NodeIndex::new(0), NodeIndex::new(1));
-    let made: Result<Plain, EdgeError<usize>> = StableDag::from_edges(rt.alloc(), [(a, b, 4)]);
-    match made {
-        Ok(dag) => assert_eq!(rt; dag.edge_count(), 1),
-        Err(EdgeError::NodeMemory(weight)) | Err(EdgeError::Memory(weight)) => {
-            assert_eq!(rt; weight, 4);
-        }
+    let answer: Result<Plain, EdgeError<usize>> = StableDag::from_edges(rt.alloc(), [(a, b, 4)]);
+    match answer {
+        Ok(dag) => counts(&rt, &dag, 2, 1),
+        Err(EdgeError::NodeMemory(weight)) | Err(EdgeError::Memory(weight)) => same(&rt, weight, 4),
         Err(_) => panic!(rt; "no other refusal has a cause"),
     }
+}
+
+#[test]
+fn a_dag_of_elements_is_made_or_their_weight_comes_back(rt: HostRuntime) {
     let items = [
         Element::Node { weight: 10 },
         Element::Node { weight: 11 },
@@ -320,94 +299,98 @@ fn a_dag_is_made_or_its_weight_comes_back(rt: HostRuntime) -> Result<(), Fail> {
             weight: 12,
         },
     ];
-    let made: Result<Plain, ElementError<usize, usize>> = StableDag::from_elements(
+    let answer: Result<Plain, ElementError<usize, usize>> = StableDag::from_elements(
         rt.alloc(),
         items,
     );
-    match made {
-        Ok(dag) => assert_eq!(rt; dag.edge_count(), 1),
+    match answer {
+        Ok(dag) => counts(&rt, &dag, 2, 1),
         Err(ElementError::Node(NodeError::Memory(weight))) => {
-            assert!(rt; weight == 10 || weight == 11);
+            holds(&rt, weight == 10 || weight == 11);
         }
-        Err(ElementError::Edge(EdgeError::Memory(weight))) => assert_eq!(rt; weight, 12),
+        Err(ElementError::Edge(EdgeError::Memory(weight))) => same(&rt, weight, 12),
         Err(_) => panic!(rt; "no other refusal has a cause"),
     }
-    Ok(())
 }
 
 #[test]
-fn a_refused_copy_is_made_again(rt: HostRuntime) -> Result<(), Fail> {
-    let (dag, refused) = gappy(&rt, rt.alloc())?;
+fn a_refused_copy_is_made_again(rt: HostRuntime) {
+    let mut refused = false;
+    let dag = gappy(&rt, rt.alloc(), &mut refused);
     let state = state_of(&dag);
     let mut copy = match dag.try_clone() {
         Ok(copy) => copy,
         Err(AllocError) => {
-            assert!(rt; !refused, "a second refusal");
-            assert_eq!(rt; state_of(&dag), state);
-            dag.try_clone()?
+            refuse(&rt, &mut refused);
+            same(&rt, state_of(&dag), state);
+            made(&rt, dag.try_clone())
         }
     };
-    assert_eq!(rt; state_of(&copy), state);
-    assert!(rt;
-        !add_node_again(&rt, &mut copy, 2)?,
-        "a vacant slot needs no memory"
-    );
-    Ok(())
+    same(&rt, state_of(&copy), state);
+    // A vacant slot needs no memory.
+    same(&rt, made(&rt, add_node(&rt, &mut copy)).index(), 2);
 }
 
-#[test]
-fn a_refused_map_calls_no_closure(rt: HostRuntime) -> Result<(), Fail> {
-    let (dag, refused) = gappy(&rt, rt.alloc())?;
-    let state = state_of(&dag);
-    let mut asked = 0usize;
-    let mapped = dag.map(
+// Maps the dag to its own weights, and counts the calls.
+fn mapped(dag: &Plain, nodes: &mut usize, edges: &mut usize) -> Result<Plain, AllocError> {
+    dag.map(
         |_, w| {
-            asked = asked.wrapping_add(1);
+            *nodes = nodes.wrapping_add(1);
             *w
         },
-        |_, w| *w,
-    );
-    match mapped {
-        Ok(same) => {
-            assert_eq!(rt; asked, 3);
-            assert_eq!(rt; state_of(&same), state);
-        }
-        Err(AllocError) => {
-            assert!(rt; !refused, "a second refusal");
-            assert_eq!(rt; asked, 0);
-            assert_eq!(rt; state_of(&dag.map(|_, w| *w, |_, w| *w)?), state);
-        }
-    }
-    Ok(())
+        |_, w| {
+            *edges = edges.wrapping_add(1);
+            *w
+        },
+    )
 }
 
 #[test]
-fn a_refused_part_calls_no_closure(rt: HostRuntime) -> Result<(), Fail> {
-    let (dag, refused) = gappy(&rt, rt.alloc())?;
+fn a_refused_map_calls_no_closure(rt: HostRuntime) {
+    let mut refused = false;
+    let dag = gappy(&rt, rt.alloc(), &mut refused);
     let state = state_of(&dag);
-    let mut asked = 0usize;
-    let kept = dag.filter_map(
+    let (mut nodes, mut edges) = (0, 0);
+    let same_again = match mapped(&dag, &mut nodes, &mut edges) {
+        Ok(dag) => dag,
+        Err(AllocError) => {
+            refuse(&rt, &mut refused);
+            same(&rt, (nodes, edges), (0, 0));
+            made(&rt, mapped(&dag, &mut nodes, &mut edges))
+        }
+    };
+    same(&rt, (nodes, edges, state_of(&same_again)), (3, 2, state));
+}
+
+// Keeps all of the dag, and counts the calls.
+fn kept(dag: &Plain, nodes: &mut usize, edges: &mut usize) -> Result<Plain, AllocError> {
+    dag.filter_map(
         |_, w| {
-            asked = asked.wrapping_add(1);
+            *nodes = nodes.wrapping_add(1);
             Some(*w)
         },
-        |_, w| Some(*w),
-    );
-    match kept {
-        Ok(same) => {
-            assert_eq!(rt; asked, 3);
-            assert_eq!(rt; state_of(&same), state);
-        }
+        |_, w| {
+            *edges = edges.wrapping_add(1);
+            Some(*w)
+        },
+    )
+}
+
+#[test]
+fn a_refused_part_calls_no_closure(rt: HostRuntime) {
+    let mut refused = false;
+    let dag = gappy(&rt, rt.alloc(), &mut refused);
+    let state = state_of(&dag);
+    let (mut nodes, mut edges) = (0, 0);
+    let all = match kept(&dag, &mut nodes, &mut edges) {
+        Ok(dag) => dag,
         Err(AllocError) => {
-            assert!(rt; !refused, "a second refusal");
-            assert_eq!(rt; asked, 0);
-            assert_eq!(rt;
-                state_of(&dag.filter_map(|_, w| Some(*w), |_, w| Some(*w))?),
-                state
-            );
+            refuse(&rt, &mut refused);
+            same(&rt, (nodes, edges), (0, 0));
+            made(&rt, kept(&dag, &mut nodes, &mut edges))
         }
-    }
-    Ok(())
+    };
+    same(&rt, (nodes, edges, state_of(&all)), (3, 2, state));
 }
 
 // A compact dag of two nodes and an edge, if there is memory for it.
@@ -421,59 +404,59 @@ fn compact(rt: &impl Abort, alloc: Global) -> Option<Dag<usize, usize>> {
 }
 
 #[test]
-fn a_compact_dag_becomes_a_stable_one_or_comes_back(rt: HostRuntime) -> Result<(), Fail> {
+fn a_compact_dag_becomes_a_stable_one_or_comes_back(rt: HostRuntime) {
     let Some(dag) = compact(&rt, rt.alloc()) else {
-        return Ok(());
+        return;
     };
-    let dag = match StableDag::from_dag(dag) {
+    let stable = match StableDag::from_dag(dag) {
         Ok(stable) => stable,
         Err(back) => {
-            assert_eq!(rt; (back.node_count(), back.edge_count()), (2, 1));
-            let Ok(stable) = StableDag::from_dag(back) else {
-                panic!(rt; "a second refusal");
-            };
-            stable
+            same(&rt, (back.node_count(), back.edge_count()), (2, 1));
+            made(&rt, StableDag::from_dag(back))
         }
     };
-    assert_eq!(rt; (dag.node_count(), dag.edge_count()), (2, 1));
-    assert_eq!(rt; dag.edge_weight(EdgeIndex::new(0)).copied(), Some(2));
-    Ok(())
+    counts(&rt, &stable, 2, 1);
+    same(&rt, stable.edge_weight(EdgeIndex::new(0)).copied(), Some(2));
 }
 
 #[test]
-fn refused_capacity_sets_and_matrices_are_asked_again(rt: HostRuntime) -> Result<(), Fail> {
-    let made: Result<Plain, AllocError> = StableDag::with_capacity(rt.alloc(), 4, 3);
-    let mut refused = made.is_err();
-    let mut dag = match made {
+fn refused_capacity_is_asked_again(rt: HostRuntime) {
+    let answer: Result<Plain, AllocError> = StableDag::with_capacity(rt.alloc(), 4, 3);
+    let mut dag = match answer {
         Ok(dag) => dag,
-        Err(AllocError) => StableDag::with_capacity(rt.alloc(), 4, 3)?,
+        Err(AllocError) => made(&rt, StableDag::with_capacity(rt.alloc(), 4, 3)),
     };
-    assert!(rt; !add_node_again(&rt, &mut dag, 0)?, "room for all was made");
+    // Room for all was made.
+    made(&rt, add_node(&rt, &mut dag));
     for i in 0..3 {
-        assert!(rt;
-            !add_neighbor_again(&rt, &mut dag, Direction::Outgoing, (i, i + 1))?,
-            "room for all was made"
-        );
+        let (e, n) = made(&rt, add_neighbor(&rt, &mut dag, Direction::Outgoing));
+        same(&rt, (e.index(), n.index()), (i, i + 1));
     }
+}
+
+#[test]
+fn refused_sets_and_matrices_are_asked_again(rt: HostRuntime) {
+    let mut refused = false;
+    let dag = gappy(&rt, rt.alloc(), &mut refused);
     let mut set = match dag.visit_map() {
         Ok(set) => set,
         Err(AllocError) => {
-            assert!(rt; !refused, "a second refusal");
-            refused = true;
-            dag.visit_map()?
+            refuse(&rt, &mut refused);
+            made(&rt, dag.visit_map())
         }
     };
     if dag.reset_map(&mut set).is_err() {
-        assert!(rt; !refused, "a second refusal");
-        refused = true;
+        refuse(&rt, &mut refused);
     }
     let matrix = match dag.adjacency_matrix() {
         Ok(matrix) => matrix,
         Err(AllocError) => {
-            assert!(rt; !refused, "a second refusal");
-            dag.adjacency_matrix()?
+            refuse(&rt, &mut refused);
+            made(&rt, dag.adjacency_matrix())
         }
     };
-    assert!(rt; dag.is_adjacent(&matrix, NodeIndex::new(0), NodeIndex::new(3)));
-    Ok(())
+    holds(
+        &rt,
+        dag.is_adjacent(&matrix, NodeIndex::new(0), NodeIndex::new(3)),
+    );
 }

@@ -1,470 +1,354 @@
 //! Each call is made again after a refusal, and must then succeed.
+use crate::support::{holds, made, refuse, same};
 use daggy::graph::Element;
 use daggy::{
-    ChildError, Dag, EdgeError, EdgeIndices, EdgesError, ElementError, NodeError, NodeIndex, Walker,
+    ChildError, Dag, EdgeError, EdgeIndex, EdgeIndices, EdgesError, ElementError, NodeError,
+    NodeIndex, Walker,
 };
 use std::alloc::{AllocError, Global};
 use std::process::Abort;
-use std::test::Fail;
 
-// Asserts that the dag is a root with so many children, in order, and nothing else.
-fn assert_fan(rt: &impl Abort, dag: &Dag<usize, usize>, nodes: usize, edges: usize) {
-    assert_eq!(rt; dag.node_count(), nodes);
-    assert_eq!(rt; dag.edge_count(), edges);
+type Plain = Dag<usize, usize>;
+
+// Asserts that the dag is a root with so many children, in order, and nothing else. The edges weigh 100 and more.
+fn is_fan(rt: &impl Abort, dag: &Plain, nodes: usize, edges: usize) {
+    counts(rt, dag, nodes, edges);
     let mut walker = dag.children(NodeIndex::new(0));
     for e in (0..edges).rev() {
-        match walker.walk_next(dag) {
-            Some(item) => {
-                assert_eq!(rt; item.0.index(), e);
-                assert_eq!(rt; item.1.index(), e + 1);
-                assert_eq!(rt; dag.edge_weight(item.0).copied(), Some(e + 100));
-                assert_eq!(rt; dag.node_weight(item.1).copied(), Some(e + 1));
-            }
-            None => panic!(rt; "an edge is missing"),
-        }
+        let Some((edge, child)) = walker.walk_next(dag) else {
+            panic!(rt; "an edge is missing");
+        };
+        holds(rt, edge.index() == e);
+        same(rt, child.index(), e + 1);
+        same(rt, dag.edge_weight(edge).copied(), Some(e + 100));
+        same(rt, dag.node_weight(child).copied(), Some(e + 1));
     }
-    assert!(rt; walker.walk_next(dag).is_none());
+    holds(rt, walker.walk_next(dag).is_none());
 }
 
-// Adds a node, a second time if the first is refused, and says whether it was.
-fn add_node_again(
+fn counts(rt: &impl Abort, dag: &Plain, nodes: usize, edges: usize) {
+    same(rt, (dag.node_count(), dag.edge_count()), (nodes, edges));
+}
+
+fn add_node(
     rt: &impl Abort,
-    dag: &mut Dag<usize, usize>,
-    edges: usize,
-) -> Result<bool, Fail> {
-    let weight = dag.node_count();
+    dag: &mut Plain,
+    weight: usize,
+) -> Result<NodeIndex, NodeError<usize>> {
     assert!(rt; dag.can_add_node());
-    match dag.add_node(weight) {
-        Ok(n) => {
-            assert_eq!(rt; n.index(), weight);
-            Ok(false)
-        }
-        Err(NodeError::Memory(refused)) => {
-            assert_eq!(rt; refused, weight);
-            assert_fan(rt, dag, weight, edges);
-            assert!(rt; dag.can_add_node());
-            assert_eq!(rt; dag.add_node(refused)?.index(), weight);
-            Ok(true)
+    dag.add_node(weight)
+}
+
+// Adds a node, a second time if the first is refused, and notes whether it was.
+fn add_node_again(rt: &impl Abort, dag: &mut Plain, refused: &mut bool) {
+    let (nodes, edges) = (dag.node_count(), dag.edge_count());
+    let n = match add_node(rt, dag, nodes) {
+        Ok(n) => n,
+        Err(NodeError::Memory(weight)) => {
+            refuse(rt, refused);
+            same(rt, weight, nodes);
+            is_fan(rt, dag, nodes, edges);
+            made(rt, add_node(rt, dag, weight))
         }
         Err(NodeError::Full(_)) => panic!(rt; "an index is left"),
-    }
+    };
+    same(rt, n.index(), nodes);
+}
+
+fn add_edge(
+    rt: &impl Abort,
+    dag: &mut Plain,
+    child: usize,
+    weight: usize,
+) -> Result<EdgeIndex, EdgeError<usize>> {
+    assert!(rt; child < 100);
+    let (root, child) = (NodeIndex::new(0), NodeIndex::new(child));
+    assert!(rt; dag.node_weight(root).is_some());
+    assert!(rt; dag.node_weight(child).is_some());
+    assert!(rt; dag.can_add_edge());
+    dag.add_edge(root, child, weight)
 }
 
 // Adds an edge from the root to a node, likewise.
-fn add_edge_again(
-    rt: &impl Abort,
-    dag: &mut Dag<usize, usize>,
-    child: NodeIndex,
-) -> Result<bool, Fail> {
-    let edges = dag.edge_count();
-    let nodes = dag.node_count();
-    let root = NodeIndex::new(0);
-    assert!(rt; edges < 100);
-    assert!(rt; dag.node_weight(root).is_some());
-    assert!(rt; dag.node_weight(child).is_some());
-    assert!(rt; dag.can_add_edge());
-    match dag.add_edge(root, child, edges + 100) {
-        Ok(e) => {
-            assert_eq!(rt; e.index(), edges);
-            Ok(false)
-        }
-        Err(EdgeError::Memory(refused)) => {
-            assert_eq!(rt; refused, edges + 100);
-            assert_fan(rt, dag, nodes, edges);
-            assert!(rt; dag.node_weight(root).is_some());
-            assert!(rt; dag.node_weight(child).is_some());
-            assert!(rt; dag.can_add_edge());
-            assert_eq!(rt; dag.add_edge(root, child, refused)?.index(), edges);
-            Ok(true)
-        }
-        _ => panic!(rt; "no other refusal has a cause"),
-    }
-}
-
-// Adds a node below the root, likewise.
-fn add_child_again(rt: &impl Abort, dag: &mut Dag<usize, usize>) -> Result<bool, Fail> {
-    let edges = dag.edge_count();
-    let nodes = dag.node_count();
-    let root = NodeIndex::new(0);
-    assert!(rt; edges < 100);
-    assert!(rt; dag.node_weight(root).is_some());
-    assert!(rt; dag.can_add_edge());
-    assert!(rt; dag.can_add_node());
-    match dag.add_child(root, edges + 100, nodes) {
-        Ok(added) => {
-            assert_eq!(rt; added.0.index(), edges);
-            assert_eq!(rt; added.1.index(), nodes);
-            Ok(false)
-        }
-        Err(ChildError::Memory(edge, node)) => {
-            assert_eq!(rt; edge, edges + 100);
-            assert_eq!(rt; node, nodes);
-            assert_fan(rt, dag, nodes, edges);
-            assert!(rt; dag.node_weight(root).is_some());
-            assert!(rt; dag.can_add_edge());
-            assert!(rt; dag.can_add_node());
-            let added = dag.add_child(root, edge, node)?;
-            assert_eq!(rt; added.0.index(), edges);
-            Ok(true)
-        }
-    }
-}
-
-// Adds a node above the last one, likewise.
-fn add_parent_again(rt: &impl Abort, dag: &mut Dag<usize, usize>) -> Result<bool, Fail> {
-    let edges = dag.edge_count();
-    let nodes = dag.node_count();
-    assert!(rt; 0 < nodes && nodes <= 100);
-    let child = NodeIndex::new(nodes - 1);
-    assert!(rt; dag.node_weight(child).is_some());
-    assert!(rt; dag.can_add_edge());
-    assert!(rt; dag.can_add_node());
-    match dag.add_parent(child, edges + 100, nodes) {
-        Ok(added) => {
-            assert_eq!(rt; added.0.index(), edges);
-            assert_eq!(rt; added.1.index(), nodes);
-            Ok(false)
-        }
-        Err(ChildError::Memory(edge, node)) => {
-            assert_eq!(rt; edge, edges + 100);
-            assert_eq!(rt; node, nodes);
-            assert_eq!(rt; dag.node_count(), nodes);
-            assert_eq!(rt; dag.edge_count(), edges);
-            assert!(rt; dag.node_weight(child).is_some());
-            assert!(rt; dag.can_add_edge());
-            assert!(rt; dag.can_add_node());
-            let added = dag.add_parent(child, edge, node)?;
-            assert_eq!(rt; added.1.index(), nodes);
-            Ok(true)
-        }
-    }
-}
-
-// Writes the weight of the edge from the root to a node, or adds that edge, likewise.
-fn update_edge_again(
-    rt: &impl Abort,
-    dag: &mut Dag<usize, usize>,
-    child: NodeIndex,
-) -> Result<bool, Fail> {
-    let edges = dag.edge_count();
-    let nodes = dag.node_count();
-    let root = NodeIndex::new(0);
-    assert!(rt; edges < 100);
-    assert!(rt; dag.node_weight(root).is_some());
-    assert!(rt; dag.node_weight(child).is_some());
-    assert!(rt; dag.can_add_edge());
-    match dag.update_edge(root, child, edges + 100) {
-        Ok(e) => {
-            assert_eq!(rt; e.index(), edges);
-            Ok(false)
-        }
-        Err(EdgeError::Memory(refused)) => {
-            assert_eq!(rt; refused, edges + 100);
-            assert_fan(rt, dag, nodes, edges);
-            assert!(rt; dag.node_weight(root).is_some());
-            assert!(rt; dag.node_weight(child).is_some());
-            assert!(rt; dag.can_add_edge());
-            assert_eq!(rt; dag.update_edge(root, child, refused)?.index(), edges);
-            Ok(true)
-        }
-        _ => panic!(rt; "no other refusal has a cause"),
-    }
-}
-
-// Adds so many edges from the root to the nodes that have none, all at once, likewise.
-fn add_edges_again(
-    rt: &impl Abort,
-    dag: &mut Dag<usize, usize>,
-    count: usize,
-) -> Result<bool, Fail> {
-    let edges = dag.edge_count();
-    let nodes = dag.node_count();
-    assert!(rt; edges < 100 && count < 100);
-    let root = NodeIndex::new(0);
-    let items = (0..count).map(|i| (root, NodeIndex::new(edges + i + 1), edges + i + 100));
-    match dag.add_edges(items) {
-        Ok(added) => {
-            assert_added(rt, added, edges, count);
-            Ok(false)
-        }
-        Err(EdgesError::Memory { last, before }) => {
-            let accepted = before.len();
-            assert!(rt; accepted < count);
-            assert_eq!(rt; last, edges + accepted + 100);
-            for (i, weight) in before.iter().enumerate() {
-                assert!(rt; i < accepted);
-                assert_eq!(rt; *weight, edges + (accepted - 1 - i) + 100);
-            }
-            assert_fan(rt, dag, nodes, edges);
-            let items = (0..count).map(|i| (root, NodeIndex::new(edges + i + 1), edges + i + 100));
-            assert_added(rt, dag.add_edges(items)?, edges, count);
-            Ok(true)
-        }
-        Err(_) => panic!(rt; "no other refusal has a cause"),
-    }
-}
-
-fn assert_added(rt: &impl Abort, mut added: EdgeIndices<u32>, first: usize, count: usize) {
-    for i in 0..count {
-        assert!(rt; first < 100 && i < 100);
-        match added.next() {
-            Some(e) => assert_eq!(rt; e.index(), first + i),
-            None => panic!(rt; "an index is missing"),
-        }
-    }
-    assert!(rt; added.next().is_none());
-}
-
-// Adds an edge from the root to a node that is made for it, likewise. What was made before a refusal stays.
-fn extend_again(rt: &impl Abort, dag: &mut Dag<usize, usize>) -> Result<bool, Fail> {
-    let edges = dag.edge_count();
-    let nodes = dag.node_count();
-    assert!(rt; edges < 100 && nodes < 100);
-    let item = (NodeIndex::new(0), NodeIndex::new(edges + 1), edges + 100);
-    match dag.extend_with_edges([item]) {
-        Ok(()) => Ok(false),
-        Err(EdgeError::NodeMemory(refused)) => {
-            assert_eq!(rt; refused, edges + 100);
-            assert!(rt; dag.node_count() <= edges + 1);
-            assert_eq!(rt; dag.edge_count(), edges);
-            dag.extend_with_edges([item])?;
-            Ok(true)
-        }
-        Err(EdgeError::Memory(refused)) => {
-            assert_eq!(rt; refused, edges + 100);
-            assert_eq!(rt; dag.node_count(), edges + 2);
-            assert_eq!(rt; dag.edge_count(), edges);
-            dag.extend_with_edges([item])?;
-            Ok(true)
-        }
-        Err(_) => panic!(rt; "no other refusal has a cause"),
-    }
-}
-
-// Copies the dag, a second time if the first copy is refused, and says whether it was.
-fn clone_again(rt: &impl Abort, dag: &Dag<usize, usize>) -> Result<bool, Fail> {
+fn add_edge_again(rt: &impl Abort, dag: &mut Plain, child: usize, refused: &mut bool) {
     let (nodes, edges) = (dag.node_count(), dag.edge_count());
-    match dag.try_clone() {
-        Ok(copy) => {
-            assert_fan(rt, &copy, nodes, edges);
-            Ok(false)
-        }
-        Err(AllocError) => {
-            assert_fan(rt, dag, nodes, edges);
-            assert_fan(rt, &dag.try_clone()?, nodes, edges);
-            Ok(true)
-        }
-    }
-}
-
-// Maps the dag to its own weights, likewise. A refused call calls no closure.
-fn map_again(rt: &impl Abort, dag: &Dag<usize, usize>) -> Result<bool, Fail> {
-    let (nodes, edges) = (dag.node_count(), dag.edge_count());
-    let (mut shown_nodes, mut shown_edges) = (0usize, 0usize);
-    let mapped = dag.map(
-        |_, w| {
-            shown_nodes = shown_nodes.wrapping_add(1);
-            *w
-        },
-        |_, w| {
-            shown_edges = shown_edges.wrapping_add(1);
-            *w
-        },
-    );
-    match mapped {
-        Ok(same) => {
-            assert_eq!(rt; shown_nodes, nodes);
-            assert_eq!(rt; shown_edges, edges);
-            assert_fan(rt, &same, nodes, edges);
-            Ok(false)
-        }
-        Err(AllocError) => {
-            assert_eq!(rt; shown_nodes, 0);
-            assert_eq!(rt; shown_edges, 0);
-            assert_fan(rt, dag, nodes, edges);
-            assert_fan(rt, &dag.map(|_, w| *w, |_, w| *w)?, nodes, edges);
-            Ok(true)
-        }
-    }
-}
-
-// Keeps all of the dag, likewise.
-fn filter_map_again(rt: &impl Abort, dag: &Dag<usize, usize>) -> Result<bool, Fail> {
-    let (nodes, edges) = (dag.node_count(), dag.edge_count());
-    let (mut shown_nodes, mut shown_edges) = (0usize, 0usize);
-    let kept = dag.filter_map(
-        |_, w| {
-            shown_nodes = shown_nodes.wrapping_add(1);
-            Some(*w)
-        },
-        |_, w| {
-            shown_edges = shown_edges.wrapping_add(1);
-            Some(*w)
-        },
-    );
-    match kept {
-        Ok(same) => {
-            assert_eq!(rt; shown_nodes, nodes);
-            assert_eq!(rt; shown_edges, edges);
-            assert_fan(rt, &same, nodes, edges);
-            Ok(false)
-        }
-        Err(AllocError) => {
-            assert_eq!(rt; shown_nodes, 0);
-            assert_eq!(rt; shown_edges, 0);
-            assert_fan(rt, dag, nodes, edges);
-            let same = dag.filter_map(|_, w| Some(*w), |_, w| Some(*w))?;
-            assert_fan(rt, &same, nodes, edges);
-            Ok(true)
-        }
-    }
-}
-
-// A dag of one root with three children, and whether a call was refused on the way.
-fn small_fan(rt: &impl Abort, alloc: Global) -> Result<(Dag<usize, usize>, bool), Fail> {
-    let mut dag = Dag::new(alloc);
-    let mut refused = add_node_again(rt, &mut dag, 0)?;
-    for _ in 0..3 {
-        if add_child_again(rt, &mut dag)? {
-            assert!(rt; !refused, "a second refusal");
-            refused = true;
-        }
-    }
-    Ok((dag, refused))
-}
-
-#[test]
-fn a_refused_allocation_is_answered_and_nothing_else(rt: HostRuntime) -> Result<(), Fail> {
-    let mut dag: Dag<usize, usize> = Dag::new(rt.alloc());
-    let mut refused = add_node_again(&rt, &mut dag, 0)?;
-    for i in 0..20 {
-        if add_node_again(&rt, &mut dag, i)? {
-            assert!(rt; !refused, "a second refusal");
-            refused = true;
-        }
-        if add_edge_again(&rt, &mut dag, NodeIndex::new(i + 1))? {
-            assert!(rt; !refused, "a second refusal");
-            refused = true;
-        }
-        assert_fan(&rt, &dag, i + 2, i + 1);
-    }
-    Ok(())
-}
-
-#[test]
-fn a_refused_child_comes_back_with_its_edge(rt: HostRuntime) -> Result<(), Fail> {
-    let mut dag: Dag<usize, usize> = Dag::new(rt.alloc());
-    let mut refused = add_node_again(&rt, &mut dag, 0)?;
-    for i in 0..20 {
-        if add_child_again(&rt, &mut dag)? {
-            assert!(rt; !refused, "a second refusal");
-            refused = true;
-        }
-        assert_fan(&rt, &dag, i + 2, i + 1);
-    }
-    Ok(())
-}
-
-#[test]
-fn a_refused_parent_comes_back_with_its_edge(rt: HostRuntime) -> Result<(), Fail> {
-    let mut dag: Dag<usize, usize> = Dag::new(rt.alloc());
-    let mut refused = add_node_again(&rt, &mut dag, 0)?;
-    for i in 0..20 {
-        if add_parent_again(&rt, &mut dag)? {
-            assert!(rt; !refused, "a second refusal");
-            refused = true;
-        }
-        assert_eq!(rt; dag.node_count(), i + 2);
-        assert_eq!(rt; dag.edge_count(), i + 1);
-    }
-    Ok(())
-}
-
-#[test]
-fn a_refused_update_comes_back(rt: HostRuntime) -> Result<(), Fail> {
-    let mut dag: Dag<usize, usize> = Dag::new(rt.alloc());
-    let mut refused = add_node_again(&rt, &mut dag, 0)?;
-    for i in 0..20 {
-        if add_node_again(&rt, &mut dag, i)? {
-            assert!(rt; !refused, "a second refusal");
-            refused = true;
-        }
-        if update_edge_again(&rt, &mut dag, NodeIndex::new(i + 1))? {
-            assert!(rt; !refused, "a second refusal");
-            refused = true;
-        }
-        assert_fan(&rt, &dag, i + 2, i + 1);
-    }
-    Ok(())
-}
-
-#[test]
-fn a_refused_series_comes_back_whole(rt: HostRuntime) -> Result<(), Fail> {
-    let mut dag: Dag<usize, usize> = Dag::new(rt.alloc());
-    let mut refused = add_node_again(&rt, &mut dag, 0)?;
-    for _ in 0..20 {
-        if add_node_again(&rt, &mut dag, 0)? {
-            assert!(rt; !refused, "a second refusal");
-            refused = true;
-        }
-    }
-    for _ in 0..4 {
-        if add_edges_again(&rt, &mut dag, 5)? {
-            assert!(rt; !refused, "a second refusal");
-            refused = true;
-        }
-    }
-    assert_fan(&rt, &dag, 21, 20);
-    assert!(rt;
-        !add_edges_again(&rt, &mut dag, 0)?,
-        "no edges need no memory"
-    );
-    Ok(())
-}
-
-#[test]
-fn a_refused_extension_keeps_what_it_made(rt: HostRuntime) -> Result<(), Fail> {
-    let mut dag: Dag<usize, usize> = Dag::new(rt.alloc());
-    let mut refused = false;
-    for i in 0..20 {
-        if extend_again(&rt, &mut dag)? {
-            assert!(rt; !refused, "a second refusal");
-            refused = true;
-        }
-        assert_eq!(rt; dag.node_count(), i + 2);
-        assert_eq!(rt; dag.edge_count(), i + 1);
-    }
-    Ok(())
-}
-
-// Edges of weights 1, 2 and 3.
-fn triangle() -> [(NodeIndex<u32>, NodeIndex<u32>, usize); 3] {
-    let (a, b, c) = (NodeIndex::new(0), NodeIndex::new(1), NodeIndex::new(2));
-    [(a, b, 1), (b, c, 2), (a, c, 3)]
-}
-
-#[test]
-fn a_dag_of_edges_is_made_or_its_weight_comes_back(rt: HostRuntime) -> Result<(), Fail> {
-    let made: Result<Dag<usize, usize>, EdgeError<usize>> = Dag::from_edges(rt.alloc(), triangle());
-    let dag = match made {
-        Ok(dag) => dag,
-        Err(EdgeError::Memory(refused)) => {
-            assert!(rt; refused >= 1 && refused <= 3);
-            Dag::from_edges(rt.alloc(), triangle())?
-        }
-        Err(EdgeError::NodeMemory(refused)) => {
-            assert!(rt; refused == 1 || refused == 2);
-            Dag::from_edges(rt.alloc(), triangle())?
+    assert!(rt; edges < 100);
+    let e = match add_edge(rt, dag, child, edges + 100) {
+        Ok(e) => e,
+        Err(EdgeError::Memory(weight)) => {
+            refuse(rt, refused);
+            same(rt, weight, edges + 100);
+            is_fan(rt, dag, nodes, edges);
+            made(rt, add_edge(rt, dag, child, weight))
         }
         Err(_) => panic!(rt; "no other refusal has a cause"),
     };
-    assert_eq!(rt; dag.node_count(), 3);
-    assert_eq!(rt; dag.edge_count(), 3);
-    Ok(())
+    same(rt, e.index(), edges);
+}
+
+fn update_edge(
+    rt: &impl Abort,
+    dag: &mut Plain,
+    child: usize,
+    weight: usize,
+) -> Result<EdgeIndex, EdgeError<usize>> {
+    assert!(rt; child < 100);
+    let (root, child) = (NodeIndex::new(0), NodeIndex::new(child));
+    assert!(rt; dag.node_weight(root).is_some());
+    assert!(rt; dag.node_weight(child).is_some());
+    assert!(rt; dag.can_add_edge());
+    dag.update_edge(root, child, weight)
+}
+
+// Writes the weight of the edge from the root to a node, or adds that edge, likewise.
+fn update_edge_again(rt: &impl Abort, dag: &mut Plain, child: usize, refused: &mut bool) {
+    let (nodes, edges) = (dag.node_count(), dag.edge_count());
+    assert!(rt; edges < 100);
+    let e = match update_edge(rt, dag, child, edges + 100) {
+        Ok(e) => e,
+        Err(EdgeError::Memory(weight)) => {
+            refuse(rt, refused);
+            same(rt, weight, edges + 100);
+            is_fan(rt, dag, nodes, edges);
+            made(rt, update_edge(rt, dag, child, weight))
+        }
+        Err(_) => panic!(rt; "no other refusal has a cause"),
+    };
+    same(rt, e.index(), edges);
+}
+
+type Neighbor = Result<(EdgeIndex, NodeIndex), ChildError<usize, usize>>;
+
+fn add_child(rt: &impl Abort, dag: &mut Plain, edge: usize, node: usize) -> Neighbor {
+    let root = NodeIndex::new(0);
+    assert!(rt; dag.node_weight(root).is_some());
+    assert!(rt; dag.can_add_edge());
+    assert!(rt; dag.can_add_node());
+    dag.add_child(root, edge, node)
+}
+
+// Adds a node below the root, likewise.
+fn add_child_again(rt: &impl Abort, dag: &mut Plain, refused: &mut bool) {
+    let (nodes, edges) = (dag.node_count(), dag.edge_count());
+    assert!(rt; edges < 100);
+    let (e, n) = match add_child(rt, dag, edges + 100, nodes) {
+        Ok(added) => added,
+        Err(ChildError::Memory(edge, node)) => {
+            refuse(rt, refused);
+            same(rt, (edge, node), (edges + 100, nodes));
+            is_fan(rt, dag, nodes, edges);
+            made(rt, add_child(rt, dag, edge, node))
+        }
+    };
+    same(rt, (e.index(), n.index()), (edges, nodes));
+}
+
+fn add_parent(rt: &impl Abort, dag: &mut Plain, edge: usize, node: usize) -> Neighbor {
+    assert!(rt; 0 < node && node <= 100);
+    let child = NodeIndex::new(node - 1);
+    assert!(rt; dag.node_weight(child).is_some());
+    assert!(rt; dag.can_add_edge());
+    assert!(rt; dag.can_add_node());
+    dag.add_parent(child, edge, node)
+}
+
+// Adds a node above the last one, likewise.
+fn add_parent_again(rt: &impl Abort, dag: &mut Plain, refused: &mut bool) {
+    let (nodes, edges) = (dag.node_count(), dag.edge_count());
+    assert!(rt; edges < 100);
+    let (e, n) = match add_parent(rt, dag, edges + 100, nodes) {
+        Ok(added) => added,
+        Err(ChildError::Memory(edge, node)) => {
+            refuse(rt, refused);
+            same(rt, (edge, node), (edges + 100, nodes));
+            counts(rt, dag, nodes, edges);
+            made(rt, add_parent(rt, dag, edge, node))
+        }
+    };
+    same(rt, (e.index(), n.index()), (edges, nodes));
+}
+
+// Edges from the root to the first nodes that have none.
+fn add_edges(
+    rt: &impl Abort,
+    dag: &mut Plain,
+    count: usize,
+) -> Result<EdgeIndices<u32>, EdgesError<usize>> {
+    let edges = dag.edge_count();
+    assert!(rt; edges < 100 && count < 100);
+    let root = NodeIndex::new(0);
+    dag.add_edges((0..count).map(|i| (root, NodeIndex::new(edges + i + 1), edges + i + 100)))
+}
+
+// Adds so many edges from the root to the nodes that have none, all at once, likewise.
+fn add_edges_again(rt: &impl Abort, dag: &mut Plain, count: usize, refused: &mut bool) {
+    let (nodes, edges) = (dag.node_count(), dag.edge_count());
+    assert!(rt; edges < 100 && count < 100);
+    let mut added = match add_edges(rt, dag, count) {
+        Ok(added) => added,
+        Err(EdgesError::Memory { last, before }) => {
+            refuse(rt, refused);
+            holds(rt, before.len() < count);
+            come_back(rt, last, before.as_slice(), edges + 100);
+            is_fan(rt, dag, nodes, edges);
+            made(rt, add_edges(rt, dag, count))
+        }
+        Err(_) => panic!(rt; "no other refusal has a cause"),
+    };
+    for i in 0..count {
+        let Some(e) = added.next() else {
+            panic!(rt; "an index is missing");
+        };
+        same(rt, e.index(), edges + i);
+    }
+    holds(rt, added.next().is_none());
+}
+
+// Asserts that the weights of a refused series come back: they count from the first, and the last one accepted stands first.
+fn come_back(rt: &impl Abort, last: usize, before: &[usize], first: usize) {
+    let mut wanted = last;
+    for weight in before {
+        holds(rt, wanted > 0);
+        wanted -= 1;
+        same(rt, *weight, wanted);
+    }
+    same(rt, wanted, first);
+}
+
+fn extend(rt: &impl Abort, dag: &mut Plain, edges: usize) -> Result<(), EdgeError<usize>> {
+    assert!(rt; edges < 100);
+    dag.extend_with_edges([(NodeIndex::new(0), NodeIndex::new(edges + 1), edges + 100)])
+}
+
+// Adds an edge from the root to a node that is made for it, likewise. What was made before a refusal stays.
+fn extend_again(rt: &impl Abort, dag: &mut Plain, refused: &mut bool) {
+    let edges = dag.edge_count();
+    assert!(rt; edges < 100);
+    match extend(rt, dag, edges) {
+        Ok(()) => {}
+        Err(EdgeError::NodeMemory(weight)) => {
+            refuse(rt, refused);
+            same(rt, (weight, dag.edge_count()), (edges + 100, edges));
+            holds(rt, dag.node_count() <= edges + 1);
+            made(rt, extend(rt, dag, edges));
+        }
+        Err(EdgeError::Memory(weight)) => {
+            refuse(rt, refused);
+            same(rt, weight, edges + 100);
+            counts(rt, dag, edges + 2, edges);
+            made(rt, extend(rt, dag, edges));
+        }
+        Err(_) => panic!(rt; "no other refusal has a cause"),
+    }
+    counts(rt, dag, edges + 2, edges + 1);
+}
+
+// A dag of one root with three children.
+fn small_fan(rt: &impl Abort, alloc: Global, refused: &mut bool) -> Plain {
+    let mut dag = Dag::new(alloc);
+    add_node_again(rt, &mut dag, refused);
+    for _ in 0..3 {
+        add_child_again(rt, &mut dag, refused);
+    }
+    dag
 }
 
 #[test]
-fn a_dag_of_elements_is_made_or_their_weight_comes_back(rt: HostRuntime) -> Result<(), Fail> {
+fn a_refused_allocation_is_answered_and_nothing_else(rt: HostRuntime) {
+    let mut dag = Dag::new(rt.alloc());
+    let mut refused = false;
+    add_node_again(&rt, &mut dag, &mut refused);
+    for i in 0..20 {
+        add_node_again(&rt, &mut dag, &mut refused);
+        add_edge_again(&rt, &mut dag, i + 1, &mut refused);
+        is_fan(&rt, &dag, i + 2, i + 1);
+    }
+}
+
+#[test]
+fn a_refused_child_comes_back_with_its_edge(rt: HostRuntime) {
+    let mut dag = Dag::new(rt.alloc());
+    let mut refused = false;
+    add_node_again(&rt, &mut dag, &mut refused);
+    for i in 0..20 {
+        add_child_again(&rt, &mut dag, &mut refused);
+        is_fan(&rt, &dag, i + 2, i + 1);
+    }
+}
+
+#[test]
+fn a_refused_parent_comes_back_with_its_edge(rt: HostRuntime) {
+    let mut dag = Dag::new(rt.alloc());
+    let mut refused = false;
+    add_node_again(&rt, &mut dag, &mut refused);
+    for i in 0..20 {
+        add_parent_again(&rt, &mut dag, &mut refused);
+        counts(&rt, &dag, i + 2, i + 1);
+    }
+}
+
+#[test]
+fn a_refused_update_comes_back(rt: HostRuntime) {
+    let mut dag = Dag::new(rt.alloc());
+    let mut refused = false;
+    add_node_again(&rt, &mut dag, &mut refused);
+    for i in 0..20 {
+        add_node_again(&rt, &mut dag, &mut refused);
+        update_edge_again(&rt, &mut dag, i + 1, &mut refused);
+        is_fan(&rt, &dag, i + 2, i + 1);
+    }
+}
+
+#[test]
+fn a_refused_series_comes_back_whole(rt: HostRuntime) {
+    let mut dag = Dag::new(rt.alloc());
+    let mut refused = false;
+    for _ in 0..21 {
+        add_node_again(&rt, &mut dag, &mut refused);
+    }
+    for _ in 0..4 {
+        add_edges_again(&rt, &mut dag, 5, &mut refused);
+    }
+    is_fan(&rt, &dag, 21, 20);
+    let none = made(&rt, add_edges(&rt, &mut dag, 0));
+    same(&rt, none.len(), 0);
+}
+
+#[test]
+fn a_refused_extension_keeps_what_it_made(rt: HostRuntime) {
+    let mut dag = Dag::new(rt.alloc());
+    let mut refused = false;
+    for _ in 0..20 {
+        extend_again(&rt, &mut dag, &mut refused);
+    }
+    counts(&rt, &dag, 21, 20);
+}
+
+// A dag of edges of weights 1, 2 and 3.
+fn triangle(alloc: Global) -> Result<Plain, EdgeError<usize>> {
+    let (a, b, c) = (NodeIndex::new(0), NodeIndex::new(1), NodeIndex::new(2));
+    Dag::from_edges(alloc, [(a, b, 1), (b, c, 2), (a, c, 3)])
+}
+
+#[test]
+fn a_dag_of_edges_is_made_or_its_weight_comes_back(rt: HostRuntime) {
+    let dag = match triangle(rt.alloc()) {
+        Ok(dag) => dag,
+        Err(EdgeError::Memory(weight)) => {
+            holds(&rt, weight >= 1 && weight <= 3);
+            made(&rt, triangle(rt.alloc()))
+        }
+        Err(EdgeError::NodeMemory(weight)) => {
+            holds(&rt, weight == 1 || weight == 2);
+            made(&rt, triangle(rt.alloc()))
+        }
+        Err(_) => panic!(rt; "no other refusal has a cause"),
+    };
+    counts(&rt, &dag, 3, 3);
+}
+
+// A dag of two nodes of weights 10 and 11, and of an edge of weight 12.
+fn pair(alloc: Global) -> Result<Plain, ElementError<usize, usize>> {
     let items = [
         Element::Node { weight: 10 },
         Element::Node { weight: 11 },
@@ -474,87 +358,138 @@ fn a_dag_of_elements_is_made_or_their_weight_comes_back(rt: HostRuntime) -> Resu
             weight: 12,
         },
     ];
-    let made: Result<Dag<usize, usize>, ElementError<usize, usize>> = Dag::from_elements(
-        rt.alloc(),
-        items,
-    );
-    let dag = match made {
+    Dag::from_elements(alloc, items)
+}
+
+#[test]
+fn a_dag_of_elements_is_made_or_their_weight_comes_back(rt: HostRuntime) {
+    let dag = match pair(rt.alloc()) {
         Ok(dag) => dag,
-        Err(ElementError::Node(NodeError::Memory(refused))) => {
-            assert!(rt; refused == 10 || refused == 11);
-            Dag::from_elements(rt.alloc(), items)?
+        Err(ElementError::Node(NodeError::Memory(weight))) => {
+            holds(&rt, weight == 10 || weight == 11);
+            made(&rt, pair(rt.alloc()))
         }
-        Err(ElementError::Edge(EdgeError::Memory(refused))) => {
-            assert_eq!(rt; refused, 12);
-            Dag::from_elements(rt.alloc(), items)?
+        Err(ElementError::Edge(EdgeError::Memory(weight))) => {
+            same(&rt, weight, 12);
+            made(&rt, pair(rt.alloc()))
         }
         Err(_) => panic!(rt; "no other refusal has a cause"),
     };
-    assert_eq!(rt; dag.node_count(), 2);
-    assert_eq!(rt; dag.edge_count(), 1);
-    Ok(())
+    counts(&rt, &dag, 2, 1);
 }
 
 #[test]
-fn a_refused_copy_is_made_again(rt: HostRuntime) -> Result<(), Fail> {
-    let (dag, refused) = small_fan(&rt, rt.alloc())?;
-    if clone_again(&rt, &dag)? {
-        assert!(rt; !refused, "a second refusal");
-    }
-    Ok(())
-}
-
-#[test]
-fn a_refused_map_calls_no_closure(rt: HostRuntime) -> Result<(), Fail> {
-    let (dag, refused) = small_fan(&rt, rt.alloc())?;
-    if map_again(&rt, &dag)? {
-        assert!(rt; !refused, "a second refusal");
-    }
-    Ok(())
-}
-
-#[test]
-fn a_refused_part_calls_no_closure(rt: HostRuntime) -> Result<(), Fail> {
-    let (dag, refused) = small_fan(&rt, rt.alloc())?;
-    if filter_map_again(&rt, &dag)? {
-        assert!(rt; !refused, "a second refusal");
-    }
-    Ok(())
-}
-
-#[test]
-fn refused_capacity_is_asked_again(rt: HostRuntime) -> Result<(), Fail> {
-    let made: Result<Dag<usize, usize>, AllocError> = Dag::with_capacity(rt.alloc(), 8, 7);
-    let mut dag = match made {
-        Ok(dag) => dag,
-        Err(AllocError) => Dag::with_capacity(rt.alloc(), 8, 7)?,
+fn a_refused_copy_is_made_again(rt: HostRuntime) {
+    let mut refused = false;
+    let dag = small_fan(&rt, rt.alloc(), &mut refused);
+    let copy = match dag.try_clone() {
+        Ok(copy) => copy,
+        Err(AllocError) => {
+            refuse(&rt, &mut refused);
+            is_fan(&rt, &dag, 4, 3);
+            made(&rt, dag.try_clone())
+        }
     };
-    assert!(rt; !add_node_again(&rt, &mut dag, 0)?, "room for all was made");
-    for i in 0..7 {
-        assert!(rt; !add_child_again(&rt, &mut dag)?, "room for all was made");
-        assert_fan(&rt, &dag, i + 2, i + 1);
-    }
-    Ok(())
+    is_fan(&rt, &copy, 4, 3);
+}
+
+// Maps the dag to its own weights, and counts the calls.
+fn mapped(dag: &Plain, nodes: &mut usize, edges: &mut usize) -> Result<Plain, AllocError> {
+    dag.map(
+        |_, w| {
+            *nodes = nodes.wrapping_add(1);
+            *w
+        },
+        |_, w| {
+            *edges = edges.wrapping_add(1);
+            *w
+        },
+    )
 }
 
 #[test]
-fn refused_room_is_asked_again(rt: HostRuntime) -> Result<(), Fail> {
-    let mut dag: Dag<usize, usize> = Dag::new(rt.alloc());
+fn a_refused_map_calls_no_closure(rt: HostRuntime) {
+    let mut refused = false;
+    let dag = small_fan(&rt, rt.alloc(), &mut refused);
+    let (mut nodes, mut edges) = (0, 0);
+    let same_again = match mapped(&dag, &mut nodes, &mut edges) {
+        Ok(dag) => dag,
+        Err(AllocError) => {
+            refuse(&rt, &mut refused);
+            same(&rt, (nodes, edges), (0, 0));
+            is_fan(&rt, &dag, 4, 3);
+            made(&rt, mapped(&dag, &mut nodes, &mut edges))
+        }
+    };
+    same(&rt, (nodes, edges), (4, 3));
+    is_fan(&rt, &same_again, 4, 3);
+}
+
+// Keeps all of the dag, and counts the calls.
+fn kept(dag: &Plain, nodes: &mut usize, edges: &mut usize) -> Result<Plain, AllocError> {
+    dag.filter_map(
+        |_, w| {
+            *nodes = nodes.wrapping_add(1);
+            Some(*w)
+        },
+        |_, w| {
+            *edges = edges.wrapping_add(1);
+            Some(*w)
+        },
+    )
+}
+
+#[test]
+fn a_refused_part_calls_no_closure(rt: HostRuntime) {
+    let mut refused = false;
+    let dag = small_fan(&rt, rt.alloc(), &mut refused);
+    let (mut nodes, mut edges) = (0, 0);
+    let all = match kept(&dag, &mut nodes, &mut edges) {
+        Ok(dag) => dag,
+        Err(AllocError) => {
+            refuse(&rt, &mut refused);
+            same(&rt, (nodes, edges), (0, 0));
+            is_fan(&rt, &dag, 4, 3);
+            made(&rt, kept(&dag, &mut nodes, &mut edges))
+        }
+    };
+    same(&rt, (nodes, edges), (4, 3));
+    is_fan(&rt, &all, 4, 3);
+}
+
+// Adds a root and so many children to an empty dag that has room for them.
+fn fill(rt: &impl Abort, dag: &mut Plain, children: usize) {
+    made(rt, add_node(rt, dag, 0));
+    for i in 0..children {
+        assert!(rt; i < 100);
+        made(rt, add_child(rt, dag, i + 100, i + 1));
+        is_fan(rt, dag, i + 2, i + 1);
+    }
+}
+
+#[test]
+fn refused_capacity_is_asked_again(rt: HostRuntime) {
+    let answer: Result<Plain, AllocError> = Dag::with_capacity(rt.alloc(), 8, 7);
+    let mut dag = match answer {
+        Ok(dag) => dag,
+        Err(AllocError) => made(&rt, Dag::with_capacity(rt.alloc(), 8, 7)),
+    };
+    fill(&rt, &mut dag, 7);
+}
+
+#[test]
+fn refused_room_is_asked_again(rt: HostRuntime) {
+    let mut dag = Dag::new(rt.alloc());
     let mut refused = false;
     if dag.reserve_nodes(20).is_err() {
-        refused = true;
-        assert_eq!(rt; dag.node_count(), 0);
-        dag.reserve_nodes(20)?;
+        refuse(&rt, &mut refused);
+        counts(&rt, &dag, 0, 0);
+        made(&rt, dag.reserve_nodes(20));
     }
     if dag.reserve_edges(20).is_err() {
-        assert!(rt; !refused, "a second refusal");
-        assert_eq!(rt; dag.edge_count(), 0);
-        dag.reserve_edges(20)?;
+        refuse(&rt, &mut refused);
+        counts(&rt, &dag, 0, 0);
+        made(&rt, dag.reserve_edges(20));
     }
-    assert!(rt; !add_node_again(&rt, &mut dag, 0)?, "room for all was made");
-    for i in 0..19 {
-        assert!(rt; !add_child_again(&rt, &mut dag)?, "room for all was made");
-        assert_fan(&rt, &dag, i + 2, i + 1);
-    }
-    Ok(())
+    fill(&rt, &mut dag, 19);
 }
