@@ -1,0 +1,28 @@
+// Preloaded into a built program, makes its allocation number FAIL_ALLOCATION find no memory. Only the program that
+// FAIL_ALLOCATION_OF names is meant, so that what starts it goes on undisturbed.
+#define _GNU_SOURCE
+#include <errno.h>
+#include <stdlib.h>
+#include <string.h>
+
+extern void *__libc_malloc(size_t);
+extern void *__libc_realloc(void *, size_t);
+
+static long left = -1; // how many allocations to go before the one that fails; 0: none fails any more
+
+static int fails(void) {
+  if (left < 0) {
+    const char *program = getenv("FAIL_ALLOCATION_OF"), *number = getenv("FAIL_ALLOCATION");
+    left = program && number && !strcmp(program, program_invocation_short_name) ? atol(number) : 0;
+  }
+  return left > 0 && --left == 0;
+}
+
+static void *refused(void) {
+  errno = ENOMEM;
+  return NULL;
+}
+
+void *malloc(size_t size) { return fails() ? refused() : __libc_malloc(size); }
+
+void *realloc(void *block, size_t size) { return fails() ? refused() : __libc_realloc(block, size); }

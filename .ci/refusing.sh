@@ -1,0 +1,21 @@
+# For the checks that run what `rt ci` built: where it is, and a run in which one allocation is refused.
+top=$(cd "$(dirname "${BASH_SOURCE[0]}")/.." && pwd)
+runner=$(dirname "$(rt doc)")/bin/rattle-test
+shim=$(mktemp -d)/fail_allocation.so
+trap 'rm -rf "$(dirname "$shim")"' EXIT
+cc -O2 -shared -fPIC -o "$shim" "$top/.ci/fail_allocation.c" || exit 1
+
+built() { # CRATE FILE: the path of an executable that `rt ci` left, or the end of the check
+  local path=$top/crates/$1/out/$2
+  if [ ! -x "$path" ]; then
+    echo "$path is not there: run rt ci first" >&2
+    return 1
+  fi
+  echo "$path"
+}
+
+refusing() { # NUMBER PROGRAM COMMAND..: runs the command; in the program of that name that allocation finds no memory
+  local number=$1 program=$2
+  shift 2
+  LD_PRELOAD=$shim FAIL_ALLOCATION=$number FAIL_ALLOCATION_OF=$program "$@"
+}
