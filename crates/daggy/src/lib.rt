@@ -26,9 +26,9 @@ pub use daggy_base::{index, search};
 pub use daggy_dag::acyclic::{
     Children, Dag, EdgeWeightsMut, NodeWeightsMut, Parents, RawEdges, RawNodes, StableDag,
 };
-pub use daggy_guard::edge_indices::EdgeIndices;
 pub use daggy_graph::graph;
 pub use daggy_graph::graph::lists::Edges;
+pub use daggy_guard::edge_indices::EdgeIndices;
 pub use daggy_stable::stable_graph;
 pub use daggy_stable_dag::stable_dag;
 pub use daggy_walk::walker::Walker;
