@@ -1,5 +1,5 @@
 -- A dag whose first nodes have the weight 0.
-use Rattle.std.proofs.Common.{◌≡◌, ℕ, zero, suc, ◌+◌, ◌<◌, ◌≤◌, Option, Some, None, is_some, List, [], ◌∷◌, length, map, set, refl, sym, ap, subst, ◌∙◌, add-one, arith}
+use Rattle.std.proofs.Common.{◌≡◌, ℕ, zero, suc, ◌+◌, ◌<◌, ◌≤◌, Option, Some, None, is_some, List, [], ◌∷◌, length, map, set, refl, sym, ap, ◌∙◌, add-one, arith}
 use Rattle.std.proofs.lemmas.Bool.{false≢true}
 use Rattle.daggy_base.specs.Graph.{slot, node_weight, IsCompact}
 use Rattle.daggy_base.specs.State.{State, with_graph}
@@ -52,13 +52,12 @@ pub record IsClearedBelow {E : Type 0} (old now : State ℕ E) (i : ℕ) : Type 
   pub now_is : now ≡ with_zeros old i
   pub full : IsFull old.graph.nodes
 
-pub cleared_starts : {E : Type 0} (end : ℕ) (old read now : State ℕ E) (i : ℕ) → read ≡ old → now ≡ old → i ≡ 0 → IsWellFormed end read.graph → IsCompact read.graph
+pub cleared_starts : {E : Type 0} (end : ℕ) (old now : State ℕ E) (i : ℕ) → now ≡ old → i ≡ 0 → IsWellFormed end old.graph → IsCompact old.graph
     → IsClearedBelow old now i
-cleared_starts end old read now i read_is now_is start w compact =
-    let P : State _ _ → Type 0 = λ s. IsFull s.graph.nodes in
+cleared_starts end old now i now_is start w compact =
     record {
       now_is = now_is ∙ ap (λ l. with_graph old (record old.graph { nodes = l })) (sym (zeros_none old.graph.nodes)) ∙ ap (λ k. with_zeros old k) (sym start);
-      full = subst P read_is (full_from _ _ w.node_slots compact.nodes);
+      full = full_from _ _ w.node_slots compact.nodes;
     }
 
 module _ {E : Type 0} (old now : State ℕ E) (i : ℕ) (c : IsClearedBelow old now i) where

@@ -10,7 +10,7 @@ use daggy::index::IndexType;
 pub fn clear_weights<E: Drop, Ix: IndexType>(dag: &mut Dag<u32, E, Ix>)
     ensures { dag.new ≡ with_graph dag.old (with_all_nodes 0 dag.old.graph) }
 {
-    let _compact = dag.graph().node_count();
+    let _compact = dag.node_count();
     let mut weights = dag.node_weights_mut();
     'each: while let Some(weight) = weights.next() {
         *weight = 0;

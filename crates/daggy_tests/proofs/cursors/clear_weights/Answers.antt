@@ -6,7 +6,7 @@ pub each-init : goal.each-init
 each-init g c =
     let shown = c.node_count-compact.ensures in
     let weights = c.node_weights_mut-weights.ensures in
-    (refl, cleared_starts _ _ _ _ _ c.graph.ensures.value weights.same weights.start shown.well_formed shown.compact)
+    (refl, cleared_starts _ _ _ _ weights.same weights.start shown.dag.well_formed (shown.compact refl))
 
 pub each-smaller : goal.each-smaller
 each-smaller g c =
