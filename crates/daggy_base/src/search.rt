@@ -21,7 +21,8 @@ pub use source::EdgeSource;
 /// Whether a path leads from `from` to `to`. The path of one node counts, so an existing node reaches itself; a missing
 /// one reaches nothing.
 ///
-/// Each edge is looked at at most once, no memory is taken, and the cost is that of the nodes and edges visited.
+/// It takes no more looks than there are edges and cannot fail for want of memory. The cost is that of the nodes and edges
+/// visited.
 pub fn reaches<Ix: IndexType, S: EdgeSource<Ix>>(
     source: &mut S,
     from: NodeIndex<Ix>,

@@ -194,7 +194,7 @@ where
     /// Adds an edge from `a` to `b`, and gives its index.
     ///
     /// The refusal `WouldCycle` says that a path leads from `b` to `a`, so the edge would close a cycle. It is decided
-    /// first, by a search from `b` that takes no memory. The refusal `Memory` says that there was no memory for the edge.
+    /// first, by a search from `b` that cannot fail. The refusal `Memory` says that there was no memory for the edge.
     #[inline]
     pub fn add_edge(
         &mut self,
