@@ -43,7 +43,8 @@ pub use walkers::{Children, Parents};
 /// [`Dag`] and [`StableDag`] are this over the two stores. Parallel edges are allowed. An edge that would close a cycle is
 /// refused, and its weight comes back.
 ///
-/// Each node adds a little to the room that the search for cycles works in, so that search never takes memory.
+/// Each node adds a little to the room that the search for cycles works in, so that search cannot
+/// fail for want of memory.
 #[derive(Drop)]
 pub struct Acyclic<N, E, Ix: IndexType, S: Store<Ix, NodeWeight = N, EdgeWeight = E>> {
     store: S,
@@ -102,6 +103,7 @@ where
         ensures dag { IsDag Ix.greatest self.now.graph }
         ensures compact { S.kind ≡ Compact → IsCompact self.now.graph }
     {
+        // Asked for its contract alone: no slot of the compact kind is vacant.
         let _compact = self.store.node_slots();
         self.store.node_count()
     }
@@ -113,6 +115,7 @@ where
         ensures dag { IsDag Ix.greatest self.now.graph }
         ensures compact { S.kind ≡ Compact → IsCompact self.now.graph }
     {
+        // Asked for its contract alone: no slot of the compact kind is vacant.
         let _compact = self.store.edge_slots();
         self.store.edge_count()
     }
@@ -171,6 +174,7 @@ where
         ensures ends { OnSome result (HasNode self.now.graph (Ix.number a) × HasNode self.now.graph (Ix.number b)) }
     {
         let store = &self.store;
+        // Asked for its contract alone: both ends of an edge exist.
         let _well_formed = store.edge_count();
         store.find_edge(a, b)
     }

@@ -15,7 +15,7 @@ use daggy_base::link::Link;
 impl<N, E, Ix: IndexType> DiGraph<N, E, Ix> {
     /// Removes an edge and hands back its weight, if the edge exists. The edge with the last index gets its index.
     ///
-    /// The cost grows with the number of edges in the lists that the two edges stand in. It takes no memory.
+    /// The cost grows with the number of edges in the lists that the two edges stand in. It cannot fail for want of memory.
     pub fn remove_edge(&mut self, e: EdgeIndex<Ix>) -> Option<E>
         ensures value { result ≡ option_map (λ x. x.weight) (edge_at self.old.graph (Ix.number e)) }
         ensures removed { OnSome result (self.new ≡ with_graph self.old (without_edge Compact self.old.graph (Ix.number e))) }
@@ -43,7 +43,7 @@ impl<N, E, Ix: IndexType> DiGraph<N, E, Ix> {
     /// index gets the index of this node.
     ///
     /// The cost is that of removing each of those edges, and grows besides with the number of edges of the node with
-    /// the last index. It takes no memory.
+    /// the last index. It cannot fail for want of memory.
     pub fn remove_node(&mut self, n: NodeIndex<Ix>) -> Option<N>
     where
         E: Drop,

@@ -18,7 +18,7 @@ use daggy_graph::graph::{Edge, Node};
 impl<N, E, Ix: IndexType> StableDiGraph<N, E, Ix> {
     /// Removes an edge and hands back its weight, if the edge exists. No other index changes.
     ///
-    /// The cost grows with the number of edges before it in its two lists. It takes no memory.
+    /// The cost grows with the number of edges before it in its two lists. It cannot fail for want of memory.
     pub fn remove_edge(&mut self, e: EdgeIndex<Ix>) -> Option<E>
         ensures value { result ≡ option_map (λ x. x.weight) (edge_at self.old.graph (Ix.number e)) }
         ensures removed { OnSome result (self.new ≡ with_graph self.old (without_edge Stable self.old.graph (Ix.number e))) }
@@ -50,7 +50,7 @@ impl<N, E, Ix: IndexType> StableDiGraph<N, E, Ix> {
     ///
     /// First the edges that leave it are removed, the first of the list each time, and then those that enter it.
     ///
-    /// The cost is that of removing each of those edges. It takes no memory.
+    /// The cost is that of removing each of those edges. It cannot fail for want of memory.
     pub fn remove_node(&mut self, n: NodeIndex<Ix>) -> Option<N>
     where
         E: Drop,

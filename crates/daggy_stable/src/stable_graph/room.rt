@@ -47,7 +47,7 @@ impl<N, E, Ix: IndexType> Room<N, E, Ix> {
 
     /// The graph in slots, none of them vacant: the same nodes and edges under the same indices, and in the same lists.
     ///
-    /// It takes no memory, and the cost grows with the number of nodes and edges.
+    /// It cannot fail for want of memory, and the cost grows with the number of nodes and edges.
     pub fn fill(self, graph: DiGraph<N, E, Ix>) -> StableDiGraph<N, E, Ix>
     where
         N: Drop,

@@ -16,7 +16,7 @@ impl<N, E, Ix: IndexType> StableDiGraph<N, E, Ix> {
     /// vacated.
     ///
     /// The cost grows with the number of edges before it in its two lists, and is constant for the edge that was added
-    /// last. It takes no memory.
+    /// last. It cannot fail for want of memory.
     pub fn take_back_edge(&mut self, e: EdgeIndex<Ix>, made: bool) -> E
         requires exists { HasEdge self.old.graph (Ix.number e) }
         requires last { IsTrue made → Ix.number e + 1 ≡ length self.old.graph.edges }
@@ -46,7 +46,7 @@ impl<N, E, Ix: IndexType> StableDiGraph<N, E, Ix> {
     /// Undoes the adding of a node that has no edges, and hands back its weight. The slot is cut off if it was made for
     /// the node, else vacated.
     ///
-    /// It takes no memory.
+    /// It cannot fail for want of memory.
     pub fn take_back_node(&mut self, n: NodeIndex<Ix>, made: bool) -> N
         requires exists { HasNode self.old.graph (Ix.number n) }
         requires no_edges { (dir : Direction) → list_at dir self.old.graph (Ix.number n) ≡ [] }
