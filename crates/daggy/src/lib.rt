@@ -18,18 +18,23 @@
 //! looked at, and [`visit`] is what generic code may ask of a graph.
 #![tactic(auto)]
 
+pub mod graph;
+pub mod index;
+pub mod search;
+pub mod stable_graph;
+
+pub use daggy_base::element::IntoWeightedEdge;
 pub use daggy_base::error::{
     ChildError, EdgeError, EdgesError, ElementError, NodeError, WouldCycle,
 };
-pub use daggy_base::index::{EdgeIndex, NodeIndex};
-pub use daggy_base::{index, search};
+pub use daggy_base::index::{DefaultIx, Direction, EdgeIndex, IndexType, NodeIndex};
 pub use daggy_dag::acyclic::{
-    Children, Dag, EdgeWeightsMut, NodeWeightsMut, Parents, RawEdges, RawNodes, StableDag,
+    Children, Dag, EdgeWeightsMut, Externals, NodeWeightsMut, Parents, RawEdges, RawNodes,
+    StableDag,
 };
-pub use daggy_graph::graph;
+pub use daggy_graph::graph::iterators::EdgeReference;
 pub use daggy_graph::graph::lists::Edges;
 pub use daggy_guard::edge_indices::EdgeIndices;
-pub use daggy_stable::stable_graph;
 pub use daggy_stable_dag::stable_dag;
 pub use daggy_walk::walker::Walker;
 pub use daggy_walk::{visit, walker};

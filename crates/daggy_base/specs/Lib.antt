@@ -12,3 +12,5 @@ pub mod State
 pub mod Room
 pub mod Weights
 pub mod Errors
+pub mod Directions
+pub mod Externals

@@ -1,5 +1,6 @@
 pub mod Writing
 pub mod Lifting
+pub mod Externals
 pub mod Mapped
 pub mod Rewritten
 pub mod Filtered

@@ -26,6 +26,8 @@ use std::alloc::Global;
 use std::marker::{Model, PhantomData};
 
 mod compact;
+mod debug;
+mod externals;
 mod graph;
 mod series;
 mod stable;
@@ -35,6 +37,7 @@ mod weights;
 
 pub use compact::cursors::{EdgeWeightsMut, NodeWeightsMut};
 pub use compact::raw::{RawEdges, RawNodes};
+pub use externals::Externals;
 pub use walkers::{Children, Parents};
 
 /// A directed graph that never has a cycle, with weights of type `N` at its nodes and of type `E` at its edges, over a

@@ -12,6 +12,7 @@ ghost use Rattle.daggy_base.specs.declared.error.EdgeError.TheVariants.{Memory a
 mod copy;
 mod count;
 pub mod cursors;
+mod debug;
 mod filter;
 pub mod iterators;
 pub mod links;

@@ -3,6 +3,8 @@ ghost use Rattle.std.specs.Prelude.{◌≡◌, ◌<◌, ◌^◌, map, length};
 ghost use Rattle.std.specs.Iterator.{YieldsFirstBy, item_count};
 
 use daggy_base::index::{EdgeIndex, IndexType};
+use std::fmt;
+use std::iter::{ExactSizeIterator, FusedIterator};
 use std::marker::Model;
 
 /// The indices of edges that were added together, in the order in which the edges were given.
@@ -44,11 +46,27 @@ impl<Ix: IndexType> Iterator for EdgeIndices<Ix> {
         self.at += 1;
         Some(e)
     }
+
+    #[inline]
+    fn size_hint(&self) -> (usize, Option<usize>) {
+        let left = self.len();
+        (left, Some(left))
+    }
 }
 
 impl<Ix: IndexType> ExactSizeIterator for EdgeIndices<Ix> {
     #[inline]
     fn len(&self) -> usize {
         self.indices.len() - self.at
+    }
+}
+
+impl<Ix: IndexType> FusedIterator for EdgeIndices<Ix> {}
+
+impl<Ix: IndexType> fmt::Debug for EdgeIndices<Ix> {
+    fn fmt<W: fmt::Write>(&self, f: &mut fmt::Formatter<W>) -> fmt::Result {
+        f.debug_struct("EdgeIndices")
+            .field("remaining", &self.len())
+            .finish()
     }
 }

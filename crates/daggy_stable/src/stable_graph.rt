@@ -9,6 +9,7 @@ mod adding;
 mod capacity;
 mod copy;
 mod count;
+mod debug;
 mod filter;
 pub mod iterators;
 pub mod lists;

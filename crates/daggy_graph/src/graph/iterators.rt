@@ -9,6 +9,8 @@ use crate::graph::{DiGraph, Edge, Node};
 use daggy_base::index::{DefaultIx, EdgeIndex, IndexType, NodeIndex};
 use daggy_base::link::Link;
 use std::alloc::AllocError;
+use std::fmt;
+use std::iter::{ExactSizeIterator, FusedIterator};
 use std::marker::Model;
 
 /// The weights of the nodes, by ascending index.
@@ -38,6 +40,37 @@ impl<'a, N, Ix: IndexType> Iterator for NodeWeights<'a, N, Ix> {
         self.nodes = rest;
         Some(&x.weight)
     }
+
+    #[inline]
+    fn size_hint(&self) -> (usize, Option<usize>) {
+        let left = self.len();
+        (left, Some(left))
+    }
+}
+
+impl<'a, N, Ix: IndexType> ExactSizeIterator for NodeWeights<'a, N, Ix> {
+    #[inline]
+    fn len(&self) -> usize {
+        self.nodes.len()
+    }
+}
+
+impl<'a, N, Ix: IndexType> FusedIterator for NodeWeights<'a, N, Ix> {}
+
+impl<'a, N, Ix: IndexType> Clone for NodeWeights<'a, N, Ix> {
+    ghost is_clone = { λ a b. a ≡ b };
+
+    fn clone(&self) -> Result<Self, AllocError> {
+        Ok(NodeWeights { nodes: self.nodes })
+    }
+}
+
+impl<'a, N, Ix: IndexType> fmt::Debug for NodeWeights<'a, N, Ix> {
+    fn fmt<W: fmt::Write>(&self, f: &mut fmt::Formatter<W>) -> fmt::Result {
+        f.debug_struct("NodeWeights")
+            .field("remaining", &self.len())
+            .finish()
+    }
 }
 
 /// The weights of the edges, by ascending index.
@@ -66,6 +99,37 @@ impl<'a, E, Ix: IndexType> Iterator for EdgeWeights<'a, E, Ix> {
         let (x, rest) = self.edges.split_first()?;
         self.edges = rest;
         Some(&x.weight)
+    }
+
+    #[inline]
+    fn size_hint(&self) -> (usize, Option<usize>) {
+        let left = self.len();
+        (left, Some(left))
+    }
+}
+
+impl<'a, E, Ix: IndexType> ExactSizeIterator for EdgeWeights<'a, E, Ix> {
+    #[inline]
+    fn len(&self) -> usize {
+        self.edges.len()
+    }
+}
+
+impl<'a, E, Ix: IndexType> FusedIterator for EdgeWeights<'a, E, Ix> {}
+
+impl<'a, E, Ix: IndexType> Clone for EdgeWeights<'a, E, Ix> {
+    ghost is_clone = { λ a b. a ≡ b };
+
+    fn clone(&self) -> Result<Self, AllocError> {
+        Ok(EdgeWeights { edges: self.edges })
+    }
+}
+
+impl<'a, E, Ix: IndexType> fmt::Debug for EdgeWeights<'a, E, Ix> {
+    fn fmt<W: fmt::Write>(&self, f: &mut fmt::Formatter<W>) -> fmt::Result {
+        f.debug_struct("EdgeWeights")
+            .field("remaining", &self.len())
+            .finish()
     }
 }
 
@@ -103,6 +167,40 @@ impl<Ix: IndexType> Iterator for NodeIdentifiers<Ix> {
         self.next = Link::new(i + 1);
         Some(NodeIndex::new(i))
     }
+
+    #[inline]
+    fn size_hint(&self) -> (usize, Option<usize>) {
+        let left = self.len();
+        (left, Some(left))
+    }
+}
+
+impl<Ix: IndexType> ExactSizeIterator for NodeIdentifiers<Ix> {
+    #[inline]
+    fn len(&self) -> usize {
+        self.end.index().saturating_sub(self.next.index())
+    }
+}
+
+impl<Ix: IndexType> FusedIterator for NodeIdentifiers<Ix> {}
+
+impl<Ix: IndexType> Clone for NodeIdentifiers<Ix> {
+    ghost is_clone = { λ a b. a ≡ b };
+
+    fn clone(&self) -> Result<Self, AllocError> {
+        Ok(NodeIdentifiers {
+            next: self.next,
+            end: self.end,
+        })
+    }
+}
+
+impl<Ix: IndexType> fmt::Debug for NodeIdentifiers<Ix> {
+    fn fmt<W: fmt::Write>(&self, f: &mut fmt::Formatter<W>) -> fmt::Result {
+        f.debug_struct("NodeIdentifiers")
+            .field("remaining", &self.len())
+            .finish()
+    }
 }
 
 /// The nodes by ascending index, each with its weight.
@@ -138,6 +236,40 @@ impl<'a, N, Ix: IndexType> Iterator for NodeReferences<'a, N, Ix> {
         self.nodes = rest;
         self.index += 1;
         Some((n, &x.weight))
+    }
+
+    #[inline]
+    fn size_hint(&self) -> (usize, Option<usize>) {
+        let left = self.len();
+        (left, Some(left))
+    }
+}
+
+impl<'a, N, Ix: IndexType> ExactSizeIterator for NodeReferences<'a, N, Ix> {
+    #[inline]
+    fn len(&self) -> usize {
+        self.nodes.len()
+    }
+}
+
+impl<'a, N, Ix: IndexType> FusedIterator for NodeReferences<'a, N, Ix> {}
+
+impl<'a, N, Ix: IndexType> Clone for NodeReferences<'a, N, Ix> {
+    ghost is_clone = { λ a b. a ≡ b };
+
+    fn clone(&self) -> Result<Self, AllocError> {
+        Ok(NodeReferences {
+            nodes: self.nodes,
+            index: self.index,
+        })
+    }
+}
+
+impl<'a, N, Ix: IndexType> fmt::Debug for NodeReferences<'a, N, Ix> {
+    fn fmt<W: fmt::Write>(&self, f: &mut fmt::Formatter<W>) -> fmt::Result {
+        f.debug_struct("NodeReferences")
+            .field("remaining", &self.len())
+            .finish()
     }
 }
 
@@ -224,6 +356,17 @@ impl<'a, E, Ix: Copy> Clone for EdgeReference<'a, E, Ix> {
 
 impl<'a, E, Ix: Copy> Copy for EdgeReference<'a, E, Ix> {}
 
+impl<'a, E: fmt::Debug, Ix: IndexType> fmt::Debug for EdgeReference<'a, E, Ix> {
+    fn fmt<W: fmt::Write>(&self, f: &mut fmt::Formatter<W>) -> fmt::Result {
+        f.debug_struct("EdgeReference")
+            .field("id", &self.id.index())
+            .field("source", &self.source.index())
+            .field("target", &self.target.index())
+            .field("weight", self.weight)
+            .finish()
+    }
+}
+
 /// The edges, by ascending index.
 #[derive(Drop)]
 pub struct EdgeReferences<'a, E, Ix: IndexType = DefaultIx> {
@@ -260,6 +403,40 @@ impl<'a, E, Ix: IndexType> Iterator for EdgeReferences<'a, E, Ix> {
         self.edges = rest;
         self.index += 1;
         Some(EdgeReference::new(e, x))
+    }
+
+    #[inline]
+    fn size_hint(&self) -> (usize, Option<usize>) {
+        let left = self.len();
+        (left, Some(left))
+    }
+}
+
+impl<'a, E, Ix: IndexType> ExactSizeIterator for EdgeReferences<'a, E, Ix> {
+    #[inline]
+    fn len(&self) -> usize {
+        self.edges.len()
+    }
+}
+
+impl<'a, E, Ix: IndexType> FusedIterator for EdgeReferences<'a, E, Ix> {}
+
+impl<'a, E, Ix: IndexType> Clone for EdgeReferences<'a, E, Ix> {
+    ghost is_clone = { λ a b. a ≡ b };
+
+    fn clone(&self) -> Result<Self, AllocError> {
+        Ok(EdgeReferences {
+            edges: self.edges,
+            index: self.index,
+        })
+    }
+}
+
+impl<'a, E, Ix: IndexType> fmt::Debug for EdgeReferences<'a, E, Ix> {
+    fn fmt<W: fmt::Write>(&self, f: &mut fmt::Formatter<W>) -> fmt::Result {
+        f.debug_struct("EdgeReferences")
+            .field("remaining", &self.len())
+            .finish()
     }
 }
 

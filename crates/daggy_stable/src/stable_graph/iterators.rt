@@ -11,6 +11,9 @@ use crate::stable_graph::slots::Slots;
 use daggy_base::index::{DefaultIx, Direction, EdgeIndex, IndexType, NodeIndex};
 use daggy_graph::graph::iterators::EdgeReference;
 use daggy_graph::graph::{Edge, Node};
+use std::alloc::AllocError;
+use std::fmt;
+use std::iter::FusedIterator;
 use std::marker::Model;
 
 /// The nodes by ascending index, each with its weight. A step costs the vacant slots that it goes past.
@@ -46,6 +49,27 @@ impl<'a, N, Ix: IndexType> Iterator for NodeReferences<'a, N, Ix> {
     }
 }
 
+impl<'a, N, Ix: IndexType> FusedIterator for NodeReferences<'a, N, Ix> {}
+
+impl<'a, N, Ix: IndexType> Clone for NodeReferences<'a, N, Ix> {
+    ghost is_clone = { λ a b. a ≡ b };
+
+    fn clone(&self) -> Result<Self, AllocError> {
+        Ok(NodeReferences {
+            slots: Slots {
+                cells: self.slots.cells,
+                index: self.slots.index,
+            },
+        })
+    }
+}
+
+impl<'a, N, Ix: IndexType> fmt::Debug for NodeReferences<'a, N, Ix> {
+    fn fmt<W: fmt::Write>(&self, f: &mut fmt::Formatter<W>) -> fmt::Result {
+        f.debug_struct("NodeReferences").finish_non_exhaustive()
+    }
+}
+
 /// The indices of the nodes, in ascending order.
 #[derive(Drop)]
 pub struct NodeIdentifiers<'a, N, Ix: IndexType = DefaultIx> {
@@ -76,6 +100,24 @@ impl<'a, N, Ix: IndexType> Iterator for NodeIdentifiers<'a, N, Ix> {
     }
 }
 
+impl<'a, N, Ix: IndexType> FusedIterator for NodeIdentifiers<'a, N, Ix> {}
+
+impl<'a, N, Ix: IndexType> Clone for NodeIdentifiers<'a, N, Ix> {
+    ghost is_clone = { λ a b. a ≡ b };
+
+    fn clone(&self) -> Result<Self, AllocError> {
+        Ok(NodeIdentifiers {
+            nodes: self.nodes.clone()?,
+        })
+    }
+}
+
+impl<'a, N, Ix: IndexType> fmt::Debug for NodeIdentifiers<'a, N, Ix> {
+    fn fmt<W: fmt::Write>(&self, f: &mut fmt::Formatter<W>) -> fmt::Result {
+        f.debug_struct("NodeIdentifiers").finish_non_exhaustive()
+    }
+}
+
 /// The weights of the nodes, by ascending index.
 #[derive(Drop)]
 pub struct NodeWeights<'a, N, Ix: IndexType = DefaultIx> {
@@ -103,6 +145,24 @@ impl<'a, N, Ix: IndexType> Iterator for NodeWeights<'a, N, Ix> {
             Some((_n, w)) => Some(w),
             None => None,
         }
+    }
+}
+
+impl<'a, N, Ix: IndexType> FusedIterator for NodeWeights<'a, N, Ix> {}
+
+impl<'a, N, Ix: IndexType> Clone for NodeWeights<'a, N, Ix> {
+    ghost is_clone = { λ a b. a ≡ b };
+
+    fn clone(&self) -> Result<Self, AllocError> {
+        Ok(NodeWeights {
+            nodes: self.nodes.clone()?,
+        })
+    }
+}
+
+impl<'a, N, Ix: IndexType> fmt::Debug for NodeWeights<'a, N, Ix> {
+    fn fmt<W: fmt::Write>(&self, f: &mut fmt::Formatter<W>) -> fmt::Result {
+        f.debug_struct("NodeWeights").finish_non_exhaustive()
     }
 }
 
@@ -155,6 +215,27 @@ impl<'a, E, Ix: IndexType> Iterator for EdgeReferences<'a, E, Ix> {
     }
 }
 
+impl<'a, E, Ix: IndexType> FusedIterator for EdgeReferences<'a, E, Ix> {}
+
+impl<'a, E, Ix: IndexType> Clone for EdgeReferences<'a, E, Ix> {
+    ghost is_clone = { λ a b. a ≡ b };
+
+    fn clone(&self) -> Result<Self, AllocError> {
+        Ok(EdgeReferences {
+            slots: Slots {
+                cells: self.slots.cells,
+                index: self.slots.index,
+            },
+        })
+    }
+}
+
+impl<'a, E, Ix: IndexType> fmt::Debug for EdgeReferences<'a, E, Ix> {
+    fn fmt<W: fmt::Write>(&self, f: &mut fmt::Formatter<W>) -> fmt::Result {
+        f.debug_struct("EdgeReferences").finish_non_exhaustive()
+    }
+}
+
 /// The weights of the edges, by ascending index.
 #[derive(Drop)]
 pub struct EdgeWeights<'a, E, Ix: IndexType = DefaultIx> {
@@ -180,6 +261,24 @@ impl<'a, E, Ix: IndexType> Iterator for EdgeWeights<'a, E, Ix> {
     fn next(&mut self) -> Option<&'a E> {
         let x = self.edges.next()?;
         Some(x.weight())
+    }
+}
+
+impl<'a, E, Ix: IndexType> FusedIterator for EdgeWeights<'a, E, Ix> {}
+
+impl<'a, E, Ix: IndexType> Clone for EdgeWeights<'a, E, Ix> {
+    ghost is_clone = { λ a b. a ≡ b };
+
+    fn clone(&self) -> Result<Self, AllocError> {
+        Ok(EdgeWeights {
+            edges: self.edges.clone()?,
+        })
+    }
+}
+
+impl<'a, E, Ix: IndexType> fmt::Debug for EdgeWeights<'a, E, Ix> {
+    fn fmt<W: fmt::Write>(&self, f: &mut fmt::Formatter<W>) -> fmt::Result {
+        f.debug_struct("EdgeWeights").finish_non_exhaustive()
     }
 }
 

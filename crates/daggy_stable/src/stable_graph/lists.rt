@@ -10,6 +10,9 @@ use daggy_base::index::{DefaultIx, Direction, IndexType, NodeIndex};
 use daggy_base::link::Link;
 use daggy_graph::graph::Edge;
 use daggy_graph::graph::iterators::EdgeReference;
+use std::alloc::AllocError;
+use std::fmt;
+use std::iter::FusedIterator;
 use std::marker::Model;
 
 /// The edges of one list of a node, in the order of the list.
@@ -54,6 +57,26 @@ impl<'a, E, Ix: IndexType> Iterator for Edges<'a, E, Ix> {
     }
 }
 
+impl<'a, E, Ix: IndexType> FusedIterator for Edges<'a, E, Ix> {}
+
+impl<'a, E, Ix: IndexType> Clone for Edges<'a, E, Ix> {
+    ghost is_clone = { λ a b. a ≡ b };
+
+    fn clone(&self) -> Result<Self, AllocError> {
+        Ok(Edges {
+            edges: self.edges,
+            dir: self.dir,
+            next: self.next,
+        })
+    }
+}
+
+impl<'a, E, Ix: IndexType> fmt::Debug for Edges<'a, E, Ix> {
+    fn fmt<W: fmt::Write>(&self, f: &mut fmt::Formatter<W>) -> fmt::Result {
+        f.debug_struct("Edges").finish_non_exhaustive()
+    }
+}
+
 /// The far ends of the edges of one list of a node, in the order of the list.
 #[derive(Drop)]
 pub struct Neighbors<'a, E, Ix: IndexType = DefaultIx> {
@@ -84,6 +107,25 @@ impl<'a, E, Ix: IndexType> Iterator for Neighbors<'a, E, Ix> {
             Direction::Outgoing => Some(x.target()),
             Direction::Incoming => Some(x.source()),
         }
+    }
+}
+
+impl<'a, E, Ix: IndexType> FusedIterator for Neighbors<'a, E, Ix> {}
+
+impl<'a, E, Ix: IndexType> Clone for Neighbors<'a, E, Ix> {
+    ghost is_clone = { λ a b. a ≡ b };
+
+    fn clone(&self) -> Result<Self, AllocError> {
+        Ok(Neighbors {
+            edges: self.edges.clone()?,
+            dir: self.dir,
+        })
+    }
+}
+
+impl<'a, E, Ix: IndexType> fmt::Debug for Neighbors<'a, E, Ix> {
+    fn fmt<W: fmt::Write>(&self, f: &mut fmt::Formatter<W>) -> fmt::Result {
+        f.debug_struct("Neighbors").finish_non_exhaustive()
     }
 }
 

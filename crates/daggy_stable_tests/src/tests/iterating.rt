@@ -1,11 +1,11 @@
 //! Iterators over all of a graph and over the lists of a node, of the dag and of its store.
 use super::support::{
-    PlainGraph, edge, gives, graph_of, holds, node, put_edge, same, slots, triangle,
+    PlainGraph, edge, gives, graph_of, holds, made, node, put_edge, same, slots, triangle,
 };
 use daggy::NodeIndex;
-use daggy::graph::iterators::EdgeReference;
+use daggy::graph::EdgeReference;
 use daggy::index::Direction;
-use daggy::stable_graph::iterators::NodeReferences;
+use daggy::stable_graph::NodeReferences;
 use std::alloc::Global;
 use std::process::Abort;
 
@@ -141,4 +141,22 @@ fn only_vacant_slots_give_nothing(rt: HostRuntime) {
     weighted(&rt, graph.node_references(), &[]);
     gives(&rt, graph.edge_weights().copied(), &[]);
     gives(&rt, graph.edge_references().map(line), &[]);
+}
+
+#[test]
+fn roots_and_leaves_are_found(rt: HostRuntime) {
+    let mut dag = triangle(&rt, rt.alloc());
+    let out = Direction::Outgoing;
+    gives(&rt, dag.externals(out.opposite()).map(index), &[0]);
+    gives(&rt, dag.externals(out).map(index), &[2]);
+    same(&rt, dag.remove_node(NodeIndex::new(0)), Some(10));
+    gives(&rt, dag.externals(out.opposite()).map(index), &[1]);
+}
+
+#[test]
+fn a_dag_is_printed_by_its_counts(rt: HostRuntime) {
+    let dag = triangle(&rt, rt.alloc());
+    let text = made(&rt, format!(in rt.alloc(); "{dag:?}"));
+    let wanted = "Dag { graph: StableDiGraph { node_count: 3, edge_count: 3 } }";
+    holds(&rt, text.as_str() == wanted);
 }

@@ -1,7 +1,7 @@
 //! Iterators over all of a graph and over the lists of a node, of the dag and of its store.
-use super::support::{dag_of, gives, graph_of, holds, same};
+use super::support::{dag_of, gives, graph_of, holds, made, same};
 use daggy::NodeIndex;
-use daggy::graph::iterators::{EdgeReference, NodeReferences};
+use daggy::graph::{EdgeReference, NodeReferences};
 use daggy::index::Direction;
 use std::process::Abort;
 
@@ -104,3 +104,60 @@ fn lists_of_a_dag_are_gone_through(rt: HostRuntime) {
     );
     gives(&rt, dag.edges(NodeIndex::new(9)).map(line), &[]);
 }
+
+#[test]
+fn roots_and_leaves_are_found(rt: HostRuntime) {
+    let mut dag = dag_of(&rt, rt.alloc(), &[10, 11, 12], &EDGES);
+    gives(&rt, dag.externals(Direction::Incoming).map(index), &[0]);
+    gives(&rt, dag.externals(Direction::Outgoing).map(index), &[2]);
+    dag.clear_edges();
+    gives(
+        &rt,
+        dag.externals(Direction::Incoming).map(index),
+        &[0, 1, 2],
+    );
+    dag.clear();
+    gives(&rt, dag.externals(Direction::Incoming).map(index), &[]);
+}
+
+#[test]
+fn iterators_know_how_much_is_left(rt: HostRuntime) {
+    let graph = graph_of(&rt, rt.alloc(), &[10, 11, 12], &EDGES);
+    let mut nodes = graph.node_references();
+    holds(&rt, nodes.next().is_some());
+    let left = [
+        nodes.len(),
+        graph.node_identifiers().len(),
+        graph.node_weights().len(),
+        graph.edge_references().len(),
+        graph.edge_weights().len(),
+    ];
+    same(&rt, left, [2, 3, 3, 3, 3]);
+}
+
+#[test]
+fn a_graph_is_printed_by_its_counts_or_whole(rt: HostRuntime) {
+    let graph = graph_of(&rt, rt.alloc(), &[10, 11], &[(0, 1, 100)]);
+    let short = made(&rt, format!(in rt.alloc(); "{graph:?}"));
+    holds(
+        &rt,
+        short.as_str() == "DiGraph { node_count: 2, edge_count: 1 }",
+    );
+    let long = made(&rt, format!(in rt.alloc(); "{graph:#?}"));
+    holds(&rt, long.as_str() == WHOLE);
+}
+
+const WHOLE: &str = "DiGraph {
+    nodes: {
+        NodeIndex(0): 10,
+        NodeIndex(1): 11,
+    },
+    edges: [
+        EdgeReference {
+            id: 0,
+            source: 0,
+            target: 1,
+            weight: 100,
+        },
+    ],
+}";

@@ -1,0 +1,2 @@
+//! Searches over any graph whose edges can be looked at.
+pub use daggy_base::search::{EdgeSource, Looks, Scratch, is_acyclic, reaches};

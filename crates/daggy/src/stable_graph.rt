@@ -1,0 +1,6 @@
+//! The graph in slots that a [`StableDag`](crate::StableDag) stands on. It may hold cycles.
+pub use daggy_stable::stable_graph::iterators::{
+    EdgeReferences, EdgeWeights, NodeIdentifiers, NodeReferences, NodeWeights,
+};
+pub use daggy_stable::stable_graph::lists::{Edges, Neighbors};
+pub use daggy_stable::stable_graph::{Room, StableDiGraph};
