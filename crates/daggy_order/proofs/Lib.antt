@@ -5,4 +5,5 @@ pub mod Parting
 pub mod Placing
 pub mod Reordering
 pub mod Keeping
+pub mod Changing
 pub mod OrderLaws
