@@ -16,7 +16,7 @@ use Rattle.daggy_base.specs.declared.index.Direction.TheVariants.{Outgoing, Inco
 use Rattle.daggy_base.proofs.Lists.{Mem, contains_mem, mem_contains, unique_from_distinct}
 use Rattle.daggy_base.proofs.Slots.{slot_taken}
 use Rattle.daggy_base.proofs.Going.{path_stays}
-use Rattle.daggy_base.proofs.Adding.{joined_cases}
+use Rattle.daggy_base.proofs.Adding.{joined_cases, joined_kept, free_edge}
 use Rattle.daggy_base.proofs.Neighbors.{node_kept, node_new, not_before}
 use Rattle.daggy_base.proofs.NodeRemoving.{IsApart, apart, slot-map, from_map}
 use Rattle.daggy_base.proofs.Removing.{joined_before}
@@ -87,6 +87,10 @@ order_with_edge {N} {E} {g} order ord a b w before =
           ];
     }
 
+-- the edge that was added last is taken out again
+pub order_before_edge : {N E : Type 0} {end : ℕ} {g : Graph N E} → IsWellFormed end g → (order : List ℕ) (a b : ℕ) (w : E) → IsOrderOf (with_edge g a b w) order → IsOrderOf g order
+order_before_edge {N} {E} {end} {g} f order a b w ord = order_fewer order ord (λ n. (λ h. h, λ h. h)) (joined_kept g a b w (free_edge g a b w end f))
+
 module _ {N E V W : Type 0} {old : Graph N E} {new : Graph V W} (order : List ℕ) (ord : IsOrderOf old order) (ends : HasEnds new) where
   -- the nodes that pass a test, and no more pairs joined
   pub order_filtered : (test : ℕ → Bool) → ((n : ℕ) → HasNode new n ↔ (HasNode old n × (test n ≡ true))) → ((u v : ℕ) → AreJoined new u v → AreJoined old u v) → IsOrderOf new (filter test order)
@@ -145,7 +149,7 @@ first_before order u n m absent =
     let differs : n ≡ u → ⊥ = λ e. absent (let P : ℕ → Type 0 = λ z. Mem z order in subst P (sym e) m) in
     omega (arith, place_same n n order refl, place_other n u order differs)
 
-module _ {N E : Type 0} {end : ℕ} {g : Graph N E} (f : IsWellFormed end g) (order : List ℕ) (ord : IsOrderOf g order) (w : N) where
+module _ {N E : Type 0} {end : ℕ} {g : Graph N E} (f : IsWellFormed end g) (w : N) where
   nodes_more : (m : ℕ) → HasNode (with_node g w) m ↔ (HasNode g m ⊎ (m ≡ next_node g))
   nodes_more m = (
     λ h.
@@ -163,24 +167,33 @@ module _ {N E : Type 0} {end : ℕ} {g : Graph N E} (f : IsWellFormed end g) (or
   ends_more : HasEnds (with_node g w)
   ends_more u v j = let both = ends_exist f u v j in ((nodes_more u).1 (inl both.0), (nodes_more v).1 (inl both.1))
 
-  not_listed : Mem (next_node g) order → ⊥
-  not_listed m = not_before end g w f ((ord.exact (next_node g)).0 (mem_contains order (next_node g) m))
+  -- the node that was added last is taken out again
+  pub order_before_node : (order : List ℕ) → IsOrderOf (with_node g w) order → IsOrderOf g (without (next_node g) order)
+  order_before_node order ord =
+      order_filtered order ord (ends_exist f) (λ m. not (eqb m (next_node g))) (λ m. (
+        λ h. ((nodes_more m).1 (inl h), is_held (next_node g) m (λ e. not_before end g w f (let P : ℕ → Type 0 = λ z. HasNode g z in subst P e h))),
+        λ h. elim ((nodes_more m).0 h.0) [ inl old ↦ old | inr new ↦ absurd (held_is (next_node g) m h.1 new) ],
+      )) (λ u v j. j)
 
-  -- put last, or first
-  pub order_with_node_last : IsOrderOf (with_node g w) (order ++ next_node g ∷ [])
-  order_with_node_last = order_last order ord ends_more (ends_exist f) (next_node g) (not_before end g w f) nodes_more (λ u v j. inl j)
+  module _ (order : List ℕ) (ord : IsOrderOf g order) where
+    not_listed : Mem (next_node g) order → ⊥
+    not_listed m = not_before end g w f ((ord.exact (next_node g)).0 (mem_contains order (next_node g) m))
 
-  pub order_with_node_first : IsOrderOf (with_node g w) (next_node g ∷ order)
-  order_with_node_first = order_first order ord ends_more (ends_exist f) (next_node g) (not_before end g w f) nodes_more (λ u v j. inl j)
+    -- put last, or first
+    pub order_with_node_last : IsOrderOf (with_node g w) (order ++ next_node g ∷ [])
+    order_with_node_last = order_last order ord ends_more (ends_exist f) (next_node g) (not_before end g w f) nodes_more (λ u v j. inl j)
 
-  -- with an edge from an old node, or to one
-  pub order_with_child : (n : ℕ) (e : E) → HasNode g n → IsOrderOf (with_neighbor Outgoing g n e w) (order ++ next_node g ∷ [])
-  order_with_child n e exists =
-      order_with_edge (order ++ next_node g ∷ []) order_with_node_last n (next_node g) e (before_last order n (next_node g) (contains_mem order n ((ord.exact n).1 exists)) not_listed)
+    pub order_with_node_first : IsOrderOf (with_node g w) (next_node g ∷ order)
+    order_with_node_first = order_first order ord ends_more (ends_exist f) (next_node g) (not_before end g w f) nodes_more (λ u v j. inl j)
 
-  pub order_with_parent : (n : ℕ) (e : E) → HasNode g n → IsOrderOf (with_neighbor Incoming g n e w) (next_node g ∷ order)
-  order_with_parent n e exists =
-      order_with_edge (next_node g ∷ order) order_with_node_first (next_node g) n e (first_before order n (next_node g) (contains_mem order n ((ord.exact n).1 exists)) not_listed)
+    -- with an edge from an old node, or to one
+    pub order_with_child : (n : ℕ) (e : E) → HasNode g n → IsOrderOf (with_neighbor Outgoing g n e w) (order ++ next_node g ∷ [])
+    order_with_child n e exists =
+        order_with_edge (order ++ next_node g ∷ []) order_with_node_last n (next_node g) e (before_last order n (next_node g) (contains_mem order n ((ord.exact n).1 exists)) not_listed)
+
+    pub order_with_parent : (n : ℕ) (e : E) → HasNode g n → IsOrderOf (with_neighbor Incoming g n e w) (next_node g ∷ order)
+    order_with_parent n e exists =
+        order_with_edge (next_node g ∷ order) order_with_node_first (next_node g) n e (first_before order n (next_node g) (contains_mem order n ((ord.exact n).1 exists)) not_listed)
 
 -- weights are written
 pub order_with_node_weight : {N E : Type 0} {g : Graph N E} (order : List ℕ) → IsOrderOf g order → (n : ℕ) (w : N) → HasNode g n → IsOrderOf (with_node_weight g n w) order
