@@ -1,8 +1,6 @@
 //! A graph without cycles beside an order of its nodes.
-ghost use Rattle.std.specs.Prelude.{◌≡◌, ◌≤◌, ◌↔◌, false, [], ◌∷◌, ◌++◌, if◌then◌else◌};
-ghost use Rattle.daggy_base.specs.Graph.{node_bound};
+ghost use Rattle.std.specs.Prelude.{◌≡◌, ◌↔◌, false};
 ghost use Rattle.daggy_base.specs.Path.{Reaches};
-ghost use Rattle.daggy_order.specs.Ordered.{IsOrderOf};
 
 use super::support::{holds, made};
 use crate::counted::Counted;
@@ -10,6 +8,7 @@ use daggy_base::index::NodeIndex;
 use daggy_base::search::{EdgeSource, Scratch, reaches};
 use daggy_order::order::{Order, order_edge};
 use std::alloc::Global;
+use std::marker::Model;
 use std::process::Abort;
 
 /// An edge is added to it where its order can make way.
@@ -18,8 +17,19 @@ pub struct Kept {
     pub graph: Counted,
     pub order: Order<u8>,
     pub scratch: Scratch<u8>,
-    ghost ordered: { IsOrderOf graph.graph order },
-    ghost fits: { node_bound graph.graph ≤ scratch.nodes },
+}
+
+impl Model for Kept {
+    ghost use Rattle.std.specs.Prelude.{ℕ, ◌≤◌};
+    ghost use Rattle.daggy_base.specs.Graph.{node_bound};
+    ghost use Rattle.daggy_base.specs.State.{State};
+    ghost use Rattle.daggy_order.specs.Ordered.{IsOrderOf};
+
+    ghost Value = { State ℕ ℕ };
+
+    ghost view = { λ k. k.graph };
+
+    ghost invariant = { λ k. IsOrderOf k.graph.graph k.order × (node_bound k.graph.graph ≤ k.scratch.nodes) };
 }
 
 impl Kept {
@@ -49,33 +59,21 @@ impl Kept {
 
     /// Whether the order can make way for an edge.
     pub fn makes_way(&mut self, rt: &impl Abort, a: NodeIndex<u8>, b: NodeIndex<u8>) -> bool
-        ensures { result ≡ false ↔ Reaches self.old.graph.graph b a }
+        ensures { result ≡ false ↔ Reaches self.old.graph b a }
     {
         holds(rt, self.graph.contains_node(a));
         holds(rt, self.graph.contains_node(b));
-        order_edge(
-            &mut self.graph,
-            &mut self.order,
-            a,
-            b,
-            &mut self.scratch,
-        )
+        order_edge(&mut self.graph, &mut self.order, a, b, &mut self.scratch)
     }
 
     /// Adds an edge, unless it closes a cycle.
     pub fn add_edge(&mut self, rt: &impl Abort, a: NodeIndex<u8>, b: NodeIndex<u8>) -> bool
-        ensures { result ≡ false ↔ Reaches self.old.graph.graph b a }
+        ensures { result ≡ false ↔ Reaches self.old.graph b a }
     {
         holds(rt, self.graph.contains_node(a));
         holds(rt, self.graph.contains_node(b));
         holds(rt, self.graph.can_add_edge());
-        let fine = order_edge(
-            &mut self.graph,
-            &mut self.order,
-            a,
-            b,
-            &mut self.scratch,
-        );
+        let fine = order_edge(&mut self.graph, &mut self.order, a, b, &mut self.scratch);
         if fine {
             made(rt, self.graph.add_edge(a, b));
         }
