@@ -17,10 +17,10 @@ mod slots;
 
 pub use edge::order_edge;
 
-/// A list of nodes that differ, in which each node's place can be changed.
+/// A list of nodes, each at most once, in which nodes come and go at both ends and can be moved.
 ///
-/// The nodes stand in slots, and a slot may be a gap, so that a node is removed, or put first, without moving the
-/// others. Contracts see the list of the nodes' numbers.
+/// The nodes stand in slots, and a slot may be a gap, so that a node is removed, or put first,
+/// without moving the others.
 #[derive(Drop)]
 pub struct Order<Ix: IndexType = DefaultIx> {
     slots: Vec<Link<Ix>>,
@@ -41,7 +41,7 @@ impl<Ix: IndexType> Model for Order<Ix> {
 }
 
 impl<Ix: IndexType> Order<Ix> {
-    /// No nodes. Takes no memory.
+    /// An order of no nodes, in memory that it will take from `alloc`. Takes none.
     pub fn new(alloc: Global) -> Self
         ensures { result ≡ [] }
     {
@@ -62,7 +62,7 @@ impl<Ix: IndexType> Order<Ix> {
         self.count
     }
 
-    /// Whether it holds the node.
+    /// Whether it holds the node. Constant time.
     #[inline]
     pub fn holds(&self, n: NodeIndex<Ix>) -> bool
         ensures { IsTrue result ↔ Contains self.now (Ix.number n) }
@@ -70,7 +70,7 @@ impl<Ix: IndexType> Order<Ix> {
         stands(self.slots.as_slice(), self.positions.as_slice(), n.index())
     }
 
-    /// Whether one node of it stands before another.
+    /// Whether one node of it stands before another. Constant time.
     #[inline]
     pub fn stands_before(&self, a: NodeIndex<Ix>, b: NodeIndex<Ix>) -> bool
         requires first { Contains self.now (Ix.number a) }
@@ -80,7 +80,7 @@ impl<Ix: IndexType> Order<Ix> {
         self.positions[a.index()] < self.positions[b.index()]
     }
 
-    /// Puts a node last, which is not `end`.
+    /// Puts a node last. Constant time, but for growth.
     #[inline]
     pub fn push(&mut self, n: NodeIndex<Ix>) -> Result<(), AllocError>
         requires real { Ix.number n < Ix.greatest }
@@ -97,7 +97,7 @@ impl<Ix: IndexType> Order<Ix> {
         Ok(())
     }
 
-    /// Takes a node out.
+    /// Takes a node out. Constant time, but where most slots are gaps: these are closed then.
     #[inline]
     pub fn remove(&mut self, n: NodeIndex<Ix>)
         requires { Contains self.old (Ix.number n) }
@@ -123,7 +123,8 @@ impl<Ix: IndexType> Order<Ix> {
         self.first = 0;
     }
 
-    /// Renames a node: `m` is `n`, or a lower one that it does not hold.
+    /// Gives a node the index `m` in its place, as where a graph moves its last node into a gap.
+    /// Constant time.
     #[inline]
     pub fn rename(&mut self, n: NodeIndex<Ix>, m: NodeIndex<Ix>)
         requires held { Contains self.old (Ix.number n) }
@@ -136,7 +137,8 @@ impl<Ix: IndexType> Order<Ix> {
         self.positions[m.index()] = at;
     }
 
-    /// Puts a node first, which is not `end`.
+    /// Puts a node first. Constant time, but for growth: all nodes move to make as many gaps in
+    /// front of them.
     #[inline]
     pub fn push_first(&mut self, n: NodeIndex<Ix>) -> Result<(), AllocError>
         requires real { Ix.number n < Ix.greatest }
@@ -163,7 +165,8 @@ impl<Ix: IndexType> Order<Ix> {
 
     /// At which place a node of it stands.
     ///
-    /// Costs as much as there are slots before it, or nothing while there are gaps at the front alone.
+    /// Constant time while there are gaps in front of the nodes alone. Else the slots before it are
+    /// counted.
     pub fn place(&self, n: NodeIndex<Ix>) -> usize
         requires { Contains self.now (Ix.number n) }
         ensures { result ≡ place self.now (Ix.number n) }
@@ -175,7 +178,7 @@ impl<Ix: IndexType> Order<Ix> {
         count_held(self.slots.as_slice(), at)
     }
 
-    /// The node at a place. Costs as `place` does.
+    /// The node at a place. The cost is that of `place`.
     pub fn at(&self, place: usize) -> NodeIndex<Ix>
         requires { place < length self.now }
         ensures { Ix.number result ≡ slice_index self.now place }
@@ -198,7 +201,7 @@ impl<Ix: IndexType> Order<Ix> {
         })
     }
 
-    /// Takes all nodes out.
+    /// Takes all nodes out, and keeps the memory. Constant time.
     #[inline]
     pub fn clear(&mut self)
         ensures { self.new ≡ [] }

@@ -13,11 +13,11 @@ use daggy_base::index::{IndexType, NodeIndex};
 use daggy_base::link::Link;
 use daggy_base::search::{EdgeSource, Marks, Scratch};
 
-/// Moves nodes so that `a` stands before `b`, for an edge from `a` to `b` that is to be added, unless `b` reaches `a`.
+/// Makes way for an edge from `a` to `b` that is to be added: moves nodes so that `a` stands before
+/// `b`, unless the edge would close a cycle.
 ///
-/// Takes no memory. If `a` stood before `b`, nothing is looked at and nothing moves. Otherwise only edges are looked at
-/// whose parent stands at `b`'s place or later and before `a`'s, each at most once, and only the nodes from `b`'s place
-/// to `a`'s move.
+/// Constant time if `a` stands before `b`. Otherwise the cost is that of the nodes and edges
+/// between the two places, the gaps there included. It takes no memory.
 pub fn order_edge<Ix: IndexType, S: EdgeSource<Ix>>(
     source: &mut S,
     order: &mut Order<Ix>,
@@ -34,10 +34,14 @@ pub fn order_edge<Ix: IndexType, S: EdgeSource<Ix>>(
     ensures ordered { IsOrderOf (S.graph source.old) order.new }
     ensures before { result ≡ true → place order.new (Ix.number a) < place order.new (Ix.number b) }
     ensures kept { place order.old (Ix.number a) < place order.old (Ix.number b) → order.new ≡ order.old }
-    ensures moved { result ≡ true → place order.old (Ix.number b) < place order.old (Ix.number a) → IsParted (S.graph source.old) (Ix.number a) (Ix.number b) order.old order.new }
+    ensures moved { result ≡ true → place order.old (Ix.number b) < place order.old (Ix.number a)
+        → IsParted (S.graph source.old) (Ix.number a) (Ix.number b) order.old order.new }
     ensures same { S.graph source.new ≡ S.graph source.old }
-    ensures counted { S.looks source.new ≤ S.looks source.old + edges_from (S.graph source.old) (stretch order.old (place order.old (Ix.number b)) (place order.old (Ix.number a))) }
-    ensures unlooked { place order.old (Ix.number a) ≤ place order.old (Ix.number b) → S.looks source.new ≡ S.looks source.old }
+    ensures counted { S.looks source.new ≤ S.looks source.old
+        + edges_from (S.graph source.old)
+        (stretch order.old (place order.old (Ix.number b)) (place order.old (Ix.number a))) }
+    ensures unlooked { place order.old (Ix.number a) ≤ place order.old (Ix.number b)
+        → S.looks source.new ≡ S.looks source.old }
     ensures room { scratch.new ≡ scratch.old }
 {
     scratch.marks.clear();
@@ -72,16 +76,25 @@ fn order_slots<Ix: IndexType, S: EdgeSource<Ix>>(
     ensures decided { result ≡ false ↔ Reaches (S.graph source.old) (Ix.number b) (Ix.number a) }
     ensures refused { result ≡ false → held Ix.greatest slots.new ≡ held Ix.greatest slots.old }
     ensures ordered { IsOrderOf (S.graph source.old) (held Ix.greatest slots.new) }
-    ensures before { result ≡ true → place (held Ix.greatest slots.new) (Ix.number a) < place (held Ix.greatest slots.new) (Ix.number b) }
-    ensures kept { place (held Ix.greatest slots.old) (Ix.number a) < place (held Ix.greatest slots.old) (Ix.number b) → held Ix.greatest slots.new ≡ held Ix.greatest slots.old }
-    ensures moved { result ≡ true → place (held Ix.greatest slots.old) (Ix.number b) < place (held Ix.greatest slots.old) (Ix.number a) → IsParted (S.graph source.old) (Ix.number a) (Ix.number b) (held Ix.greatest slots.old) (held Ix.greatest slots.new) }
+    ensures before { result ≡ true
+        → place (held Ix.greatest slots.new) (Ix.number a) < place (held Ix.greatest slots.new) (Ix.number b) }
+    ensures kept { place (held Ix.greatest slots.old) (Ix.number a) < place (held Ix.greatest slots.old) (Ix.number b)
+        → held Ix.greatest slots.new ≡ held Ix.greatest slots.old }
+    ensures moved { result ≡ true
+        → place (held Ix.greatest slots.old) (Ix.number b) < place (held Ix.greatest slots.old) (Ix.number a)
+        → IsParted (S.graph source.old) (Ix.number a) (Ix.number b)
+        (held Ix.greatest slots.old) (held Ix.greatest slots.new) }
     ensures same { S.graph source.new ≡ S.graph source.old }
-    ensures counted { S.looks source.new ≤ S.looks source.old + edges_from (S.graph source.old) (stretch (held Ix.greatest slots.old) (place (held Ix.greatest slots.old) (Ix.number b)) (place (held Ix.greatest slots.old) (Ix.number a))) }
-    ensures unlooked { place (held Ix.greatest slots.old) (Ix.number a) ≤ place (held Ix.greatest slots.old) (Ix.number b) → S.looks source.new ≡ S.looks source.old }
+    ensures counted { S.looks source.new ≤ S.looks source.old
+        + edges_from (S.graph source.old) (stretch (held Ix.greatest slots.old)
+        (place (held Ix.greatest slots.old) (Ix.number b)) (place (held Ix.greatest slots.old) (Ix.number a))) }
+    ensures unlooked { place (held Ix.greatest slots.old) (Ix.number a) ≤ place (held Ix.greatest slots.old) (Ix.number b)
+        → S.looks source.new ≡ S.looks source.old }
     ensures placed { ArePlaced Ix.greatest slots.new positions.new }
     ensures slots_kept { length slots.new ≡ length slots.old }
     ensures count_kept { length (held Ix.greatest slots.new) ≡ length (held Ix.greatest slots.old) }
-    ensures gaps_kept { (i : ℕ) → i ≤ length slots.old → ((k : ℕ) → k < i → slice_index slots.old k ≡ Ix.greatest) → (k : ℕ) → k < i → slice_index slots.new k ≡ Ix.greatest }
+    ensures gaps_kept { (i : ℕ) → i ≤ length slots.old → ((k : ℕ) → k < i → slice_index slots.old k ≡ Ix.greatest)
+        → (k : ℕ) → k < i → slice_index slots.new k ≡ Ix.greatest }
     ensures marks_kept { length marks.new ≡ length marks.old }
     ensures stack_kept { length stack.new ≡ length stack.old }
 {

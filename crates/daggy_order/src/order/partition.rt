@@ -51,7 +51,9 @@ pub(crate) fn partition_stretch<Ix: IndexType>(
     requires ordered { low ≤ high }
     requires within { high ≤ length slots.old }
     requires room { count_by (marked_in marks.now) (stretch slots.old low high) ≤ length buffer.old }
-    ensures parted { slots.new ≡ take low slots.old ++ ((filter (unmarked_in marks.now) (stretch slots.old low high) ++ filter (marked_in marks.now) (stretch slots.old low high)) ++ drop high slots.old) }
+    ensures parted { slots.new ≡ take low slots.old
+        ++ ((filter (unmarked_in marks.now) (stretch slots.old low high)
+        ++ filter (marked_in marks.now) (stretch slots.old low high)) ++ drop high slots.old) }
     ensures kept { length buffer.new ≡ length buffer.old }
 {
     partition(&mut slots[low..high], marks, buffer);

@@ -10,8 +10,9 @@ use daggy_base::index::{EdgeIndex, IndexType, NodeIndex};
 use daggy_base::link::Link;
 use daggy_base::search::{EdgeSource, Marks};
 
-// Whether `from` reaches `to`, where every parent's position is lower than its children's. Only nodes whose position is
-// lower than `to`'s, which is `limit`, are entered. If `to` is not reached, the marked nodes are those of them that are.
+// Whether `from` reaches `to`, where every parent's position is lower than its children's. Only
+// nodes whose position is lower than `to`'s, which is `limit`, are entered. If `to` is not reached,
+// the marked nodes are those of them that are.
 pub(crate) fn reaches_below<Ix: IndexType, S: EdgeSource<Ix>>(
     source: &mut S,
     from: NodeIndex<Ix>,
@@ -24,16 +25,22 @@ pub(crate) fn reaches_below<Ix: IndexType, S: EdgeSource<Ix>>(
     requires well_formed { IsWellFormed Ix.greatest (S.graph source.old) }
     requires exists { HasNode (S.graph source.old) (Ix.number from) }
     requires placed { (n : ℕ) → HasNode (S.graph source.old) n → n < length positions.now }
-    requires ascending { (u v : ℕ) → AreJoined (S.graph source.old) u v → slice_index positions.now u < slice_index positions.now v }
+    requires ascending { (u v : ℕ) → AreJoined (S.graph source.old) u v
+        → slice_index positions.now u < slice_index positions.now v }
     requires limit_is { slice_index positions.now (Ix.number to) ≡ limit }
     requires before { slice_index positions.now (Ix.number from) < limit }
     requires marks_fit { node_bound (S.graph source.old) ≤ length marks.old }
     requires stack_fits { length marks.old ≤ length stack.old }
     requires cleared { (n : ℕ) → slice_index_or marks.old n false ≡ false }
     ensures decided { IsTrue result ↔ Reaches (S.graph source.old) (Ix.number from) (Ix.number to) }
-    ensures marked { result ≡ false → (n : ℕ) → slice_index_or marks.new n false ≡ true ↔ (Reaches (S.graph source.old) (Ix.number from) n × (slice_index positions.now n < limit)) }
+    ensures marked { result ≡ false → (n : ℕ) → slice_index_or marks.new n false ≡ true
+        ↔ (Reaches (S.graph source.old) (Ix.number from) n × (slice_index positions.now n < limit)) }
     ensures same { S.graph source.new ≡ S.graph source.old }
-    ensures counted { (ns : List ℕ) → ((n : ℕ) → HasNode (S.graph source.old) n → slice_index positions.now (Ix.number from) ≤ slice_index positions.now n → slice_index positions.now n < limit → Contains ns n) → S.looks source.new ≤ S.looks source.old + edges_from (S.graph source.old) ns }
+    ensures counted { (ns : List ℕ)
+        → ((n : ℕ) → HasNode (S.graph source.old) n
+        → slice_index positions.now (Ix.number from) ≤ slice_index positions.now n
+        → slice_index positions.now n < limit → Contains ns n)
+        → S.looks source.new ≤ S.looks source.old + edges_from (S.graph source.old) ns }
     ensures marks_kept { length marks.new ≡ length marks.old }
     ensures stack_kept { length stack.new ≡ length stack.old }
 {

@@ -25,7 +25,8 @@ pub(crate) fn grow_positions(positions: &mut Vec<usize>, n: usize) -> Result<(),
     requires { n + 1 < 2 ^ 64 }
     ensures ok { OnOk result (n < vec_len positions.new) }
     ensures longer { vec_len positions.old ≤ vec_len positions.new }
-    ensures same { (k : ℕ) → k < vec_len positions.old → slice_index positions.new.items k ≡ slice_index positions.old.items k }
+    ensures same { (k : ℕ) → k < vec_len positions.old
+        → slice_index positions.new.items k ≡ slice_index positions.old.items k }
 {
     if positions.len() <= n {
         let doubled = positions.len().saturating_mul(2);
@@ -55,8 +56,8 @@ fn with_front<Ix: IndexType>(
     Ok(all)
 }
 
-// Makes gaps at the front, one more than there are nodes, if none is known there, and says how many there are. `n` is a
-// node that does not stand.
+// Makes gaps at the front, one more than there are nodes, if none is known there, and says how many
+// there are. `n` is a node that does not stand.
 pub(crate) fn open_front<Ix: IndexType>(
     slots: &mut Vec<Link<Ix>>,
     positions: &mut [usize],
@@ -151,10 +152,15 @@ pub(crate) fn set_places<Ix: IndexType>(
 )
     requires ordered { low ≤ high }
     requires within { high ≤ length slots.now }
-    requires low_numbers { (i : ℕ) → low ≤ i → i < high → slice_index slots.now i ≢ Ix.greatest → slice_index slots.now i < length positions.old }
-    requires distinct { (i j : ℕ) → low ≤ i → i < j → j < high → slice_index slots.now i ≢ Ix.greatest → slice_index slots.now i ≢ slice_index slots.now j }
-    ensures at { (i : ℕ) → low ≤ i → i < high → slice_index slots.now i ≢ Ix.greatest → slice_index positions.new (slice_index slots.now i) ≡ i }
-    ensures other { (n : ℕ) → ((i : ℕ) → low ≤ i → i < high → slice_index slots.now i ≢ Ix.greatest → slice_index slots.now i ≢ n) → slice_index positions.new n ≡ slice_index positions.old n }
+    requires low_numbers { (i : ℕ) → low ≤ i → i < high → slice_index slots.now i ≢ Ix.greatest
+        → slice_index slots.now i < length positions.old }
+    requires distinct { (i j : ℕ) → low ≤ i → i < j → j < high → slice_index slots.now i ≢ Ix.greatest
+        → slice_index slots.now i ≢ slice_index slots.now j }
+    ensures at { (i : ℕ) → low ≤ i → i < high → slice_index slots.now i ≢ Ix.greatest
+        → slice_index positions.new (slice_index slots.now i) ≡ i }
+    ensures other { (n : ℕ)
+        → ((i : ℕ) → low ≤ i → i < high → slice_index slots.now i ≢ Ix.greatest → slice_index slots.now i ≢ n)
+        → slice_index positions.new n ≡ slice_index positions.old n }
     ensures sized { length positions.new ≡ length positions.old }
 {
     let end = Link::<Ix>::end().index();

@@ -4,7 +4,8 @@ use super::support::{holds, lists, same};
 use daggy_base::index::NodeIndex;
 use std::process::Abort;
 
-// Asserts whether an order makes way for an edge, after how many looks at most, and how it stands then.
+// Asserts whether an order makes way for an edge, after how many looks at most, and how it stands
+// then.
 fn tries(
     rt: &impl Abort,
     kept: &mut Kept,
@@ -22,7 +23,8 @@ fn tries(
     lists(rt, &kept.order, order);
 }
 
-// Asserts whether an edge is added, which it is unless the plain search says that it closes a cycle.
+// Asserts whether an edge is added, which it is unless the plain search says that it closes a
+// cycle.
 fn agrees(rt: &impl Abort, kept: &mut Kept, a: NodeIndex<u8>, b: NodeIndex<u8>) {
     let closes = kept.reaches(b, a);
     let added = kept.add_edge(rt, a, b);
