@@ -14,7 +14,7 @@ mod source;
 
 pub use cycles::is_acyclic;
 pub use looks::Looks;
-use marks::Marks;
+pub use marks::Marks;
 pub use scratch::Scratch;
 pub use source::EdgeSource;
 

@@ -1,0 +1,12 @@
+use Rattle.std.proofs.Common.{◌+◌, ◌-◌, ◌*◌, length}
+use Rattle.daggy_base.specs.Graph.{edge_count}
+use Rattle.daggy_order.proofs.Bounded.{SearchingBelow}
+use Rattle.daggy_order.proofs.order.search.reaches_below.Given as goal
+
+abbrev pub invariant-steps : goal.invariant-steps
+invariant-steps g l =
+    SearchingBelow g.Ix.IndexType.greatest (length l.fn.marks) (g.S.EdgeSource.graph l.fn.source) (g.S.EdgeSource.graph l.source) l.positions l.limit (g.Ix.IndexType.number l.fn.from) (g.Ix.IndexType.number l.fn.to) l.marks l.stack l.len (g.Ix.IndexType.number l.e) (g.S.EdgeSource.looks l.fn.source) (g.S.EdgeSource.looks l.source)
+
+abbrev pub decreases-steps : goal.decreases-steps
+decreases-steps g l =
+    2 * (edge_count (g.S.EdgeSource.graph l.fn.source) + g.S.EdgeSource.looks l.fn.source - g.S.EdgeSource.looks l.source) + l.len

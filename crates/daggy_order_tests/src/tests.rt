@@ -1,0 +1,8 @@
+//! What no contract says: that calls succeed, that an order and a plain search answer alike, and
+//! how often an edge is looked at.
+
+mod edges;
+mod kept;
+mod lists;
+mod random;
+mod support;

@@ -1,0 +1,87 @@
+//! A graph without cycles beside an order of its nodes.
+ghost use Rattle.std.specs.Prelude.{◌≡◌, ◌↔◌, false};
+ghost use Rattle.daggy_base.specs.Path.{Reaches};
+
+use super::support::{holds, made};
+use crate::counted::Counted;
+use daggy_base::index::NodeIndex;
+use daggy_base::search::{EdgeSource, Scratch, reaches};
+use daggy_order::order::{Order, order_edge};
+use std::alloc::Global;
+use std::marker::Model;
+use std::process::Abort;
+
+/// An edge is added to it where its order can make way.
+#[derive(Drop)]
+pub struct Kept {
+    pub graph: Counted,
+    pub order: Order<u8>,
+    pub scratch: Scratch<u8>,
+}
+
+impl Model for Kept {
+    ghost use Rattle.std.specs.Prelude.{ℕ, ◌≤◌};
+    ghost use Rattle.daggy_base.specs.Graph.{node_bound};
+    ghost use Rattle.daggy_base.specs.State.{State};
+    ghost use Rattle.daggy_order.specs.Ordered.{IsOrderOf};
+
+    ghost Value = { State ℕ ℕ };
+
+    ghost view = { λ k. k.graph };
+
+    ghost invariant = { λ k. IsOrderOf k.graph.graph k.order × (node_bound k.graph.graph ≤ k.scratch.nodes) };
+}
+
+impl Kept {
+    pub fn new(alloc: Global) -> Self {
+        Kept {
+            graph: Counted::new(alloc),
+            order: Order::new(alloc),
+            scratch: Scratch::new(alloc),
+        }
+    }
+
+    /// Adds a node, which is put first or last.
+    pub fn add_node(&mut self, rt: &impl Abort, first: bool) -> NodeIndex<u8> {
+        holds(rt, self.graph.can_add_node());
+        let _well_formed = self.graph.node_bound();
+        let n = made(rt, self.graph.add_node());
+        let bound = self.graph.node_bound();
+        made(rt, self.scratch.reserve(bound, 0));
+        holds(rt, n.index() < 255 && !self.order.holds(n));
+        if first {
+            made(rt, self.order.push_first(n));
+        } else {
+            made(rt, self.order.push(n));
+        }
+        n
+    }
+
+    /// Whether the order can make way for an edge.
+    pub fn makes_way(&mut self, rt: &impl Abort, a: NodeIndex<u8>, b: NodeIndex<u8>) -> bool
+        ensures { result ≡ false ↔ Reaches self.old.graph b a }
+    {
+        holds(rt, self.graph.contains_node(a));
+        holds(rt, self.graph.contains_node(b));
+        order_edge(&mut self.graph, &mut self.order, a, b, &mut self.scratch)
+    }
+
+    /// Adds an edge, unless it closes a cycle.
+    pub fn add_edge(&mut self, rt: &impl Abort, a: NodeIndex<u8>, b: NodeIndex<u8>) -> bool
+        ensures { result ≡ false ↔ Reaches self.old.graph b a }
+    {
+        holds(rt, self.graph.contains_node(a));
+        holds(rt, self.graph.contains_node(b));
+        holds(rt, self.graph.can_add_edge());
+        let fine = order_edge(&mut self.graph, &mut self.order, a, b, &mut self.scratch);
+        if fine {
+            made(rt, self.graph.add_edge(a, b));
+        }
+        fine
+    }
+
+    /// Whether a path leads from one node to another, by a search of the whole graph.
+    pub fn reaches(&mut self, from: NodeIndex<u8>, to: NodeIndex<u8>) -> bool {
+        reaches(&mut self.graph, from, to, &mut self.scratch)
+    }
+}

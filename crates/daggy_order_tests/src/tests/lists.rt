@@ -1,0 +1,74 @@
+use super::support::{holds, lists, made};
+use daggy_base::index::NodeIndex;
+use daggy_order::order::Order;
+use std::process::Abort;
+
+fn push(rt: &impl Abort, order: &mut Order<u8>, n: usize, first: bool) {
+    holds(rt, n < 255);
+    let n = NodeIndex::new(n);
+    holds(rt, !order.holds(n));
+    if first {
+        made(rt, order.push_first(n));
+    } else {
+        made(rt, order.push(n));
+    }
+}
+
+fn remove(rt: &impl Abort, order: &mut Order<u8>, n: usize) {
+    holds(rt, n < 255);
+    let n = NodeIndex::new(n);
+    holds(rt, order.holds(n));
+    order.remove(n);
+}
+
+fn rename(rt: &impl Abort, order: &mut Order<u8>, n: usize, m: usize) {
+    holds(rt, m <= n && n < 255);
+    let (n, m) = (NodeIndex::new(n), NodeIndex::new(m));
+    holds(rt, order.holds(n));
+    holds(rt, !order.holds(m));
+    order.rename(n, m);
+}
+
+#[test]
+fn nodes_come_and_go(rt: HostRuntime) {
+    let mut order: Order<u8> = Order::new(rt.alloc());
+    lists(&rt, &order, &[]);
+    for (n, first) in [(3, false), (5, false), (0, true), (7, true), (2, false)] {
+        push(&rt, &mut order, n, first);
+    }
+    lists(&rt, &order, &[7, 0, 3, 5, 2]);
+    remove(&rt, &mut order, 3);
+    remove(&rt, &mut order, 7);
+    lists(&rt, &order, &[0, 5, 2]);
+    rename(&rt, &mut order, 5, 3);
+    push(&rt, &mut order, 7, true);
+    lists(&rt, &order, &[7, 0, 3, 2]);
+}
+
+#[test]
+fn a_copy_goes_its_own_way(rt: HostRuntime) {
+    let mut order: Order<u8> = Order::new(rt.alloc());
+    for n in [4, 1, 6] {
+        push(&rt, &mut order, n, false);
+    }
+    remove(&rt, &mut order, 1);
+    let copy = made(&rt, order.try_clone());
+    push(&rt, &mut order, 9, false);
+    lists(&rt, &copy, &[4, 6]);
+    lists(&rt, &order, &[4, 6, 9]);
+    order.clear();
+    lists(&rt, &order, &[]);
+    lists(&rt, &copy, &[4, 6]);
+}
+
+#[test]
+fn many_nodes_stand_in_few_slots(rt: HostRuntime) {
+    let mut order: Order<u8> = Order::new(rt.alloc());
+    for n in 0..200 {
+        push(&rt, &mut order, n, n % 2 == 0);
+    }
+    for n in 0..197 {
+        remove(&rt, &mut order, n);
+    }
+    lists(&rt, &order, &[198, 197, 199]);
+}
