@@ -1,5 +1,5 @@
 -- A new edge comes first in its two lists.
-use Rattle.std.proofs.Common.{◌≡◌, ℕ, ◌<◌, List, [], ◌∷◌, length, get_or, set, IsSome, slice_get, unwrap_or, ◌∙◌, arith}
+use Rattle.std.proofs.Common.{◌≡◌, ℕ, ◌<◌, List, [], ◌∷◌, length, set, slice_get, unwrap_or, ◌∙◌, arith}
 use Rattle.std.proofs.lemmas.List.{get_or-set_same}
 use Rattle.std.proofs.lemmas.Option.{unwrap_or-slice_get}
 use Rattle.daggy_base.specs.Graph.{Graph, HasNode, out_list, in_list}
