@@ -30,7 +30,7 @@ pub use daggy_base::error::{
 pub use daggy_base::index::{DefaultIx, Direction, EdgeIndex, IndexType, NodeIndex};
 pub use daggy_dag::acyclic::{
     Children, Dag, EdgeWeightsMut, Externals, NodeWeightsMut, Parents, RawEdges, RawNodes,
-    StableDag,
+    RecursiveWalk, StableDag,
 };
 pub use daggy_graph::graph::iterators::EdgeReference;
 pub use daggy_graph::graph::lists::Edges;

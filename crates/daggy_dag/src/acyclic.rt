@@ -29,6 +29,7 @@ mod compact;
 mod debug;
 mod externals;
 mod graph;
+mod recursive;
 mod series;
 mod stable;
 mod visit;
@@ -38,6 +39,7 @@ mod weights;
 pub use compact::cursors::{EdgeWeightsMut, NodeWeightsMut};
 pub use compact::raw::{RawEdges, RawNodes};
 pub use externals::Externals;
+pub use recursive::RecursiveWalk;
 pub use walkers::{Children, Parents};
 
 /// A directed graph that never has a cycle, with weights of type `N` at its nodes and of type `E` at its edges, over a
