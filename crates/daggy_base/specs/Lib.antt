@@ -12,3 +12,10 @@ pub mod State
 pub mod Room
 pub mod Weights
 pub mod Errors
+pub mod Mapping
+pub mod Filtering
+pub mod FromSlots
+pub mod FilteringInPlace
+pub mod Rewriting
+pub mod Iterating
+pub mod Calls

@@ -6,7 +6,7 @@ use Rattle.daggy_base.specs.Graph.{Graph, Edge, slot, bound_of, bound_step, node
 use Rattle.daggy_base.specs.Path.{IsAcyclic}
 use Rattle.daggy_base.specs.WellFormed.{IsWellFormed}
 use Rattle.daggy_base.proofs.Nodes.{bound_low}
-use Rattle.daggy_graph.specs.Mapping.{MapsSlots, IsMapped, weight_in, with_weight}
+use Rattle.daggy_base.specs.Mapping.{MapsSlots, IsMapped, weight_in, with_weight}
 use Rattle.daggy_graph.proofs.MappingLemmas.{mapped_length}
 use Rattle.daggy_dag.proofs.Lifting.{acyclic_lifted}
 

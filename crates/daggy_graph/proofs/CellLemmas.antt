@@ -4,7 +4,7 @@ use Rattle.std.proofs.lemmas.List.{length-append}
 use Rattle.std.specs.Borrow.{MutBor}
 use Rattle.std.specs.Fn.{Once}
 use Rattle.std.specs.Option.{option_map}
-use Rattle.daggy_graph.specs.Calls.{CalledAtTwo}
+use Rattle.daggy_base.specs.Calls.{CalledAtTwo}
 use Rattle.daggy_graph.specs.Cells.{changed_at}
 
 module _ {C : Type 0} where

@@ -7,7 +7,7 @@ use Rattle.daggy_graph.specs.declared.graph.Edge.{Edge}
 use Rattle.daggy_base.specs.declared.index.Direction.{Direction}
 use Rattle.daggy_base.specs.declared.index.Direction.TheVariants.{Outgoing, Incoming}
 use Rattle.daggy_graph.specs.Links.{rows_of, IsLinked, ListsEach}
-use Rattle.daggy_graph.specs.Mapping.{CalledAt, MapsSlots, IsMapped, weight_in, with_weight}
+use Rattle.daggy_base.specs.Mapping.{CalledAt, MapsSlots, IsMapped, weight_in, with_weight}
 use Rattle.daggy_graph.specs.MappedCells.{MapsCells, node_weight_in, node_with, edge_weight_in, edge_with}
 use Rattle.daggy_graph.specs.Raw.{raw_first, raw_next}
 use Rattle.daggy_graph.specs.Stored.{end_at, firsts_of, nexts_of, ends_of, stored_graph, Stores}

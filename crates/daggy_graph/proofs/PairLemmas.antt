@@ -11,7 +11,7 @@ use Rattle.daggy_base.specs.Weights.{edge_weight, with_node_weight, with_edge_we
 use Rattle.daggy_graph.specs.declared.graph.Node.{Node}
 use Rattle.daggy_graph.specs.declared.graph.Edge.{Edge}
 use Rattle.daggy_graph.specs.Stored.{plain, stored_graph, Stores}
-use Rattle.daggy_graph.specs.Calls.{CalledAtTwo}
+use Rattle.daggy_base.specs.Calls.{CalledAtTwo}
 use Rattle.daggy_graph.specs.Cells.{changed_at, node_of_weight, edge_of_weight, node_weight_at, edge_weight_at, with_node_weights, with_edge_weights}
 use Rattle.daggy_graph.proofs.CellLemmas.{changed_is_set, length-changed}
 use Rattle.daggy_graph.proofs.StoredLemmas.{Stores-weight, Stores-edge_weight}

@@ -11,7 +11,7 @@ use Rattle.daggy_base.specs.Cursor.{first_of}
 use Rattle.daggy_base.specs.Graph.{Edge as PlainEdge, slot, list_at}
 use Rattle.daggy_graph.specs.declared.graph.Node.{Node}
 use Rattle.daggy_graph.specs.declared.graph.Edge.{Edge}
-use Rattle.daggy_graph.specs.Iterating.{numbered, edges_at}
+use Rattle.daggy_base.specs.Iterating.{numbered, edges_at}
 use Rattle.daggy_graph.specs.Links.{follow, row, IsRow}
 use Rattle.daggy_graph.specs.Raw.{raw_next}
 use Rattle.daggy_graph.specs.Rest.{edges_left, IsOnRow}

@@ -7,10 +7,10 @@ use Rattle.daggy_base.specs.declared.index.Direction.TheVariants.{Outgoing, Inco
 use Rattle.daggy_base.specs.Graph.{Graph, Edge as PlainEdge}
 use Rattle.daggy_graph.specs.declared.graph.Node.{Node}
 use Rattle.daggy_graph.specs.declared.graph.Edge.{Edge}
-use Rattle.daggy_graph.specs.Mapping.{CalledAt, weight_in, with_weight}
+use Rattle.daggy_base.specs.Mapping.{CalledAt, weight_in, with_weight}
 use Rattle.daggy_graph.specs.MappedCells.{MapsCells, node_weight_in, node_with, edge_weight_in, edge_with}
 use Rattle.daggy_graph.specs.Raw.{raw_first, raw_next}
-use Rattle.daggy_graph.specs.Rewriting.{Leaves, RewritesNodes, RewritesEdges}
+use Rattle.daggy_base.specs.Rewriting.{Leaves, RewritesNodes, RewritesEdges}
 use Rattle.daggy_graph.specs.Stored.{end_at, firsts_of, nexts_of, ends_of, weight_of, plain_edge, stored_graph, Stores}
 use Rattle.daggy_graph.proofs.MappingLemmas.{maps_keep, slots_from, same_rows, Stores-relinked}
 

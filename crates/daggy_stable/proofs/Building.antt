@@ -13,7 +13,7 @@ use Rattle.daggy_graph.specs.declared.graph.Node.{Node}
 use Rattle.daggy_graph.specs.declared.graph.Edge.{Edge}
 use Rattle.daggy_graph.specs.Links.{row, IsLinked, ListsBy}
 use Rattle.daggy_graph.specs.Raw.{raw_first, raw_next}
-use Rattle.daggy_graph.specs.Slots.{of_slots, lists_down, vacant_down}
+use Rattle.daggy_base.specs.FromSlots.{of_slots, lists_down, vacant_down}
 use Rattle.daggy_graph.specs.Stored.{firsts_of, nexts_of, lists_at}
 use Rattle.daggy_graph.proofs.Rows.{Contains-here, Contains-there, Contains-rest, after_here, after_there}
 use Rattle.daggy_graph.proofs.Threads.{slice_get-push_old, slice_get-push_new, slice_get-push_other, slice_get-set_other, row_push, linked_within, IsRow-kept, IsLinked-node, IsLinked-put, IsLinked-kept, ListsBy-put}

@@ -7,7 +7,7 @@ use Rattle.daggy_base.specs.Cursor.{first_of}
 use Rattle.daggy_base.specs.Graph.{Graph, Edge as PlainEdge, slot, list_at}
 use Rattle.daggy_graph.specs.declared.graph.Node.{Node}
 use Rattle.daggy_graph.specs.declared.graph.Edge.{Edge}
-use Rattle.daggy_graph.specs.Iterating.{edges_at}
+use Rattle.daggy_base.specs.Iterating.{edges_at}
 use Rattle.daggy_graph.specs.Links.{row, IsRow}
 use Rattle.daggy_graph.specs.Raw.{raw_next}
 use Rattle.daggy_graph.specs.Stored.{nexts_of, lists_at, walk}

@@ -11,7 +11,7 @@ use Rattle.daggy_base.specs.Graph.{Graph, Edge as PlainEdge, slot, near_end}
 use Rattle.daggy_graph.specs.declared.graph.Node.{Node}
 use Rattle.daggy_graph.specs.declared.graph.Edge.{Edge}
 use Rattle.daggy_graph.specs.Links.{follow, rows_of, row, IsRow, IsLinked, ListsBy}
-use Rattle.daggy_graph.specs.Mapping.{CalledAt, MapsSlots, IsMapped, weight_in, with_weight}
+use Rattle.daggy_base.specs.Mapping.{CalledAt, MapsSlots, IsMapped, weight_in, with_weight}
 use Rattle.daggy_graph.specs.MappedCells.{node_with, edge_with}
 use Rattle.daggy_graph.specs.Raw.{raw_first, raw_next}
 use Rattle.daggy_graph.specs.Stored.{firsts_of, nexts_of}

@@ -10,7 +10,7 @@ use Rattle.daggy_base.specs.State.{State}
 use Rattle.daggy_base.specs.Weights.{edge_weight, with_node_weight, with_edge_weight, reweighed}
 use Rattle.daggy_graph.specs.declared.graph.Node.{Node}
 use Rattle.daggy_graph.specs.declared.graph.Edge.{Edge}
-use Rattle.daggy_graph.specs.Calls.{CalledAtTwo}
+use Rattle.daggy_base.specs.Calls.{CalledAtTwo}
 use Rattle.daggy_graph.specs.Cells.{changed_at, node_of_weight, edge_of_weight}
 use Rattle.daggy_graph.proofs.CellLemmas.{changed_is_set, length-changed}
 use Rattle.daggy_graph.proofs.PairLemmas.{called_at}

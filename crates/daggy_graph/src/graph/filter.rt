@@ -2,7 +2,7 @@
 ghost use Rattle.std.specs.Prelude.{◌≡◌, ◌+◌, ◌<◌, ◌≤◌, [], ◌∷◌, ◌++◌, map, length, vec_len, vec_capacity, IfOk};
 ghost use Rattle.daggy_base.specs.Graph.{empty, slot};
 ghost use Rattle.daggy_graph.specs.Stored.{stored_graph, Stores, weight_of, plain_edge};
-ghost use Rattle.daggy_graph.specs.Filtering.{kept_node, named, kept_edge, both, FiltersNodes, FiltersEdges, IsFiltered, ListsDescend, HaveSameEnds};
+ghost use Rattle.daggy_base.specs.Filtering.{kept_node, named, kept_edge, both, FiltersNodes, FiltersEdges, IsFiltered, ListsDescend, HaveSameEnds};
 ghost use Rattle.daggy_graph.specs.Names.{AreNamesBelow};
 
 use crate::graph::links::{put_edge, put_node};

@@ -3,7 +3,7 @@ ghost use Rattle.std.specs.Prelude.{◌≡◌, ◌<◌, ◌^◌, length};
 ghost use Rattle.std.specs.Iterator.{YieldsFirstRef, YieldsFirstBy, item_count};
 ghost use Rattle.daggy_graph.specs.Referring.{referred};
 ghost use Rattle.daggy_graph.specs.Stored.{plain};
-ghost use Rattle.daggy_graph.specs.Iterating.{node_weights as node_weights_of, edge_weights as edge_weights_of, node_identifiers as node_identifiers_of, node_references as node_references_of, edge_references as edge_references_of};
+ghost use Rattle.daggy_base.specs.Iterating.{node_weights as node_weights_of, edge_weights as edge_weights_of, node_identifiers as node_identifiers_of, node_references as node_references_of, edge_references as edge_references_of};
 
 use crate::graph::{DiGraph, Edge, Node};
 use daggy_base::index::{DefaultIx, EdgeIndex, IndexType, NodeIndex};
@@ -114,7 +114,7 @@ pub struct NodeReferences<'a, N, Ix: IndexType = DefaultIx> {
 
 impl<'a, N, Ix: IndexType> Model for NodeReferences<'a, N, Ix> {
     ghost use Rattle.std.specs.Prelude.{ℕ, ◌+◌, ◌^◌, ◌<◌, ◌≤◌, List, map, length};
-    ghost use Rattle.daggy_graph.specs.Iterating.{numbered};
+    ghost use Rattle.daggy_base.specs.Iterating.{numbered};
     ghost use Rattle.daggy_graph.specs.Stored.{weight_of};
 
     ghost Value = { List (ℕ × N) };
@@ -234,7 +234,7 @@ pub struct EdgeReferences<'a, E, Ix: IndexType = DefaultIx> {
 impl<'a, E, Ix: IndexType> Model for EdgeReferences<'a, E, Ix> {
     ghost use Rattle.std.specs.Prelude.{ℕ, ◌+◌, ◌^◌, ◌<◌, ◌≤◌, List, map, length};
     ghost use Rattle.daggy_base.specs.Graph.{Edge as PlainEdge};
-    ghost use Rattle.daggy_graph.specs.Iterating.{numbered};
+    ghost use Rattle.daggy_base.specs.Iterating.{numbered};
     ghost use Rattle.daggy_graph.specs.Stored.{plain_edge};
 
     ghost Value = { List (ℕ × PlainEdge E) };

@@ -1,6 +1,6 @@
 //! The same graph with other weights.
 ghost use Rattle.std.specs.Prelude.{◌≡◌, ◌≤◌, [], length, vec_capacity, IfOk};
-ghost use Rattle.daggy_graph.specs.Mapping.{IsMapped};
+ghost use Rattle.daggy_base.specs.Mapping.{IsMapped};
 ghost use Rattle.daggy_graph.specs.MappedCells.{MapsCells, node_weight_in, node_with, edge_weight_in, edge_with};
 
 use crate::graph::{DiGraph, Edge, Node};

@@ -2,9 +2,9 @@
 ghost use Rattle.std.specs.Prelude.{◌≡◌, ◌<◌, ◌≤◌, None, [], ◌∷◌, ◌++◌, map, length, vec_len, vec_capacity, is_some, IsSome, option_copied, IfOk};
 ghost use Rattle.std.specs.Option.{option_map};
 ghost use Rattle.daggy_base.specs.Graph.{slot};
-ghost use Rattle.daggy_graph.specs.Mapping.{weight_in, with_weight};
-ghost use Rattle.daggy_graph.specs.Filtering.{ListsDescend};
-ghost use Rattle.daggy_graph.specs.InPlace.{KeepsSlots, if_joined, IsFilteredInPlace};
+ghost use Rattle.daggy_base.specs.Mapping.{weight_in, with_weight};
+ghost use Rattle.daggy_base.specs.Filtering.{ListsDescend};
+ghost use Rattle.daggy_base.specs.FilteringInPlace.{KeepsSlots, if_joined, IsFilteredInPlace};
 ghost use Rattle.daggy_stable.specs.Stored.{weight_of, plain_edge};
 ghost use Rattle.daggy_stable.specs.Building.{IsBuilt, between};
 

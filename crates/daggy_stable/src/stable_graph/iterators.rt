@@ -1,7 +1,7 @@
 //! Going over all nodes, or over all edges.
 ghost use Rattle.std.specs.Prelude.{◌≡◌, ◌<◌, ◌^◌, length, Some, IsSome};
 ghost use Rattle.std.specs.Iterator.{YieldsFirstRef, YieldsFirstBy, item_count};
-ghost use Rattle.daggy_graph.specs.Iterating.{node_weights as node_weights_of, edge_weights as edge_weights_of, node_identifiers as node_identifiers_of, node_references as node_references_of, edge_references as edge_references_of};
+ghost use Rattle.daggy_base.specs.Iterating.{node_weights as node_weights_of, edge_weights as edge_weights_of, node_identifiers as node_identifiers_of, node_references as node_references_of, edge_references as edge_references_of};
 ghost use Rattle.daggy_graph.specs.Referring.{referred};
 ghost use Rattle.daggy_stable.specs.Rest.{numbered_edge};
 ghost use Rattle.daggy_stable.specs.Stored.{plain_edge};
@@ -21,7 +21,7 @@ pub struct NodeReferences<'a, N, Ix: IndexType = DefaultIx> {
 
 impl<'a, N, Ix: IndexType> Model for NodeReferences<'a, N, Ix> {
     ghost use Rattle.std.specs.Prelude.{ℕ, ◌+◌, ◌^◌, ◌<◌, ◌≤◌, List, map, length};
-    ghost use Rattle.daggy_graph.specs.Iterating.{numbered};
+    ghost use Rattle.daggy_base.specs.Iterating.{numbered};
     ghost use Rattle.daggy_stable.specs.Stored.{weight_of};
 
     ghost Value = { List (ℕ × N) };
@@ -129,7 +129,7 @@ pub struct EdgeReferences<'a, E, Ix: IndexType = DefaultIx> {
 impl<'a, E, Ix: IndexType> Model for EdgeReferences<'a, E, Ix> {
     ghost use Rattle.std.specs.Prelude.{ℕ, ◌+◌, ◌^◌, ◌<◌, ◌≤◌, List, map, length};
     ghost use Rattle.daggy_base.specs.Graph.{Edge as PlainEdge};
-    ghost use Rattle.daggy_graph.specs.Iterating.{numbered};
+    ghost use Rattle.daggy_base.specs.Iterating.{numbered};
     ghost use Rattle.daggy_stable.specs.Stored.{plain_edge};
 
     ghost Value = { List (ℕ × PlainEdge E) };

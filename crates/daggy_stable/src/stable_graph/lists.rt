@@ -2,7 +2,7 @@
 ghost use Rattle.std.specs.Prelude.{◌≡◌, ◌<◌, ◌^◌, length};
 ghost use Rattle.std.specs.Iterator.{YieldsFirstBy, item_count};
 ghost use Rattle.daggy_base.specs.declared.index.Direction.TheVariants.{Outgoing};
-ghost use Rattle.daggy_graph.specs.Iterating.{edges_at, neighbors_at};
+ghost use Rattle.daggy_base.specs.Iterating.{edges_at, neighbors_at};
 
 use crate::stable_graph::StableDiGraph;
 use crate::stable_graph::iterators::reference;

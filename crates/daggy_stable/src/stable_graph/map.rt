@@ -1,7 +1,7 @@
 //! The same graph with other weights.
 ghost use Rattle.std.specs.Prelude.{◌≡◌, ◌≤◌, [], map, length, vec_capacity, IfOk};
 ghost use Rattle.daggy_base.specs.declared.index.Direction.{Direction};
-ghost use Rattle.daggy_graph.specs.Mapping.{MapsSlots, IsMapped, weight_in, with_weight};
+ghost use Rattle.daggy_base.specs.Mapping.{MapsSlots, IsMapped, weight_in, with_weight};
 ghost use Rattle.daggy_graph.specs.MappedCells.{node_with, edge_with};
 ghost use Rattle.daggy_graph.specs.Stored.{firsts_of, nexts_of};
 ghost use Rattle.daggy_stable.specs.Stored.{weight_of, plain_edge};

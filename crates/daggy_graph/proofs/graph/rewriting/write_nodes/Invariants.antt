@@ -1,6 +1,6 @@
 use Rattle.std.proofs.Common.{◌≡◌, List, ◌++◌, drop}
 use Rattle.daggy_graph.specs.declared.graph.Node.{Node}
-use Rattle.daggy_graph.specs.Rewriting.{Leaves}
+use Rattle.daggy_base.specs.Rewriting.{Leaves}
 use Rattle.daggy_graph.specs.MappedCells.{node_weight_in, node_with}
 use Rattle.daggy_graph.proofs.MappingLemmas.{MappedBelow}
 use Rattle.daggy_graph.proofs.graph.rewriting.write_nodes.Given as goal

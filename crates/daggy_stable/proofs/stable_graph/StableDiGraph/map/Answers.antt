@@ -1,5 +1,5 @@
 use Rattle.std.proofs.Common.{map, length, subst, ap, ◌∙◌, arith}
-use Rattle.daggy_graph.specs.Mapping.{MapsSlots, IsMapped, weight_in, with_weight}
+use Rattle.daggy_base.specs.Mapping.{MapsSlots, IsMapped, weight_in, with_weight}
 use Rattle.daggy_graph.specs.Stored.{firsts_of, nexts_of}
 use Rattle.daggy_stable.specs.Stored.{weight_of, plain_edge, stored_graph}
 use Rattle.daggy_stable.proofs.Stores.{edges_long}

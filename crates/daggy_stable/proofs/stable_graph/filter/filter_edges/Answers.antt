@@ -3,8 +3,8 @@ use Rattle.std.proofs.lemmas.List.{length-map, get_or-map}
 use Rattle.std.specs.Option.{option_map}
 use Rattle.daggy_base.specs.Graph.{slot}
 use Rattle.daggy_graph.specs.declared.graph.Edge.{Edge}
-use Rattle.daggy_graph.specs.InPlace.{if_joined}
-use Rattle.daggy_graph.specs.Mapping.{weight_in, with_weight}
+use Rattle.daggy_base.specs.FilteringInPlace.{if_joined}
+use Rattle.daggy_base.specs.Mapping.{weight_in, with_weight}
 use Rattle.daggy_graph.proofs.MappingLemmas.{CalledAt-from_step}
 use Rattle.daggy_stable.specs.Stored.{weight_of, plain, plain_edge}
 use Rattle.daggy_stable.specs.Building.{between}

@@ -1,7 +1,7 @@
 use Rattle.std.proofs.Common.{◌<◌, ◌+◌, Some, None, length, sym, ap, ◌∙◌, of_calls, arith}
 use Rattle.std.proofs.lemmas.List.{length-map, length_push}
 use Rattle.std.specs.Option.{option_map}
-use Rattle.daggy_graph.specs.Mapping.{weight_in, with_weight}
+use Rattle.daggy_base.specs.Mapping.{weight_in, with_weight}
 use Rattle.daggy_graph.specs.Raw.{raw_next}
 use Rattle.daggy_graph.specs.Stored.{nexts_of}
 use Rattle.daggy_graph.proofs.MappingLemmas.{CalledAt-from_step}

@@ -3,8 +3,8 @@ use Rattle.std.specs.Prelude.{◌≡◌, ℕ, ◌+◌, Option, Some, None, is_so
 use Rattle.std.specs.Option.{option_map}
 use Rattle.std.specs.Borrow.{Bor}
 use Rattle.daggy_base.specs.Graph.{Graph, Edge, slot, node_bound, edge_bound}
-use Rattle.daggy_graph.specs.Mapping.{CalledAt, weight_in, with_weight}
-use Rattle.daggy_graph.specs.Slots.{of_slots}
+use Rattle.daggy_base.specs.Mapping.{CalledAt, weight_in, with_weight}
+use Rattle.daggy_base.specs.FromSlots.{of_slots}
 
 module _ {F I W V : Type 0} (step : F → I → Bor W → Option V → F → Type 0) (of : ℕ → I) where
   -- f was called at each slot in turn that is not vacant, from the index i on, and new has what it gave. Where it gave

@@ -2,7 +2,7 @@
 use Rattle.std.specs.Prelude.{◌≡◌, ℕ, Option, List}
 use Rattle.std.specs.Borrow.{Bor, MutBor}
 use Rattle.daggy_base.specs.Graph.{Graph, Edge}
-use Rattle.daggy_graph.specs.Mapping.{MapsSlots, weight_in, with_weight}
+use Rattle.daggy_base.specs.Mapping.{MapsSlots, weight_in, with_weight}
 
 module _ {F I W : Type 0} (step : F → I → MutBor W → Unit {0} → MutBor W → F → Type 0) where
   -- the call left this weight where it was handed one to write

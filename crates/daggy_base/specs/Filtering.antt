@@ -6,7 +6,7 @@ use Rattle.daggy_base.specs.declared.index.Direction.{Direction}
 use Rattle.daggy_base.specs.Graph.{Graph, Edge, empty, slot, list_at, ends_of}
 use Rattle.daggy_base.specs.Adding.{with_node, with_edge, next_node}
 use Rattle.daggy_base.specs.Reduction.{IsDescending}
-use Rattle.daggy_graph.specs.Mapping.{CalledAt}
+use Rattle.daggy_base.specs.Mapping.{CalledAt}
 
 module _ {V W : Type 0} where
   -- the graph with a node of this weight, if there is one
