@@ -19,4 +19,4 @@ pub use Rattle.daggy_base.specs.FilteringInPlace
 pub use Rattle.daggy_base.specs.Rewriting
 pub use Rattle.daggy_base.specs.Iterating
 pub use Rattle.daggy_base.specs.Calls
-pub use Rattle.daggy_graph.specs.Raw
+pub use Rattle.daggy_cells.specs.Raw

@@ -19,3 +19,4 @@ pub mod FilteringInPlace
 pub mod Rewriting
 pub mod Iterating
 pub mod Calls
+pub mod IndexMembers

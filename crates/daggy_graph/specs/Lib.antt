@@ -1,10 +1,4 @@
-pub mod Links
-pub mod Raw
 pub mod Stored
 pub mod Lends
-pub mod Cells
-pub mod MappedCells
 pub mod Names
-pub mod Referring
-pub mod Rest
 pub mod Cursors

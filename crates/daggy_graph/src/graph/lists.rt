@@ -4,10 +4,11 @@ ghost use Rattle.std.specs.Iterator.{YieldsFirstBy, item_count};
 ghost use Rattle.daggy_base.specs.declared.index.Direction.TheVariants.{Outgoing};
 ghost use Rattle.daggy_base.specs.Iterating.{edges_at, neighbors_at};
 
-use crate::graph::iterators::EdgeReference;
-use crate::graph::{DiGraph, Edge};
+use crate::graph::iterators::reference;
+use crate::graph::{DiGraph, Edge, EdgeReference};
 use daggy_base::index::{DefaultIx, Direction, IndexType, NodeIndex};
 use daggy_base::link::Link;
+use daggy_cells::links;
 use std::marker::Model;
 
 /// The edges of one list of a node, in the order of the list.
@@ -21,7 +22,7 @@ pub struct Edges<'a, E, Ix: IndexType = DefaultIx> {
 impl<'a, E, Ix: IndexType> Model for Edges<'a, E, Ix> {
     ghost use Rattle.std.specs.Prelude.{ℕ, List};
     ghost use Rattle.daggy_base.specs.Graph.{Edge as PlainEdge};
-    ghost use Rattle.daggy_graph.specs.Rest.{edges_left, IsOnRow};
+    ghost use Rattle.daggy_cells.specs.Rest.{edges_left, IsOnRow};
 
     ghost Value = { List (ℕ × PlainEdge E) };
 
@@ -31,7 +32,7 @@ impl<'a, E, Ix: IndexType> Model for Edges<'a, E, Ix> {
 }
 
 impl<'a, E, Ix: IndexType> Iterator for Edges<'a, E, Ix> {
-    ghost use Rattle.daggy_graph.specs.Referring.{referred};
+    ghost use Rattle.daggy_cells.specs.Referring.{referred};
 
     type Item = EdgeReference<'a, E, Ix>;
 
@@ -47,8 +48,8 @@ impl<'a, E, Ix: IndexType> Iterator for Edges<'a, E, Ix> {
             return None;
         }
         let x = &self.edges[i];
-        self.next = x.next(self.dir);
-        Some(EdgeReference::new(e, x))
+        self.next = links::next(x, self.dir);
+        Some(reference(e, x))
     }
 }
 

@@ -2,15 +2,16 @@
 ghost use Rattle.std.specs.Prelude.{◌≡◌, ◌<◌, ◌^◌, length, Some, IsSome};
 ghost use Rattle.std.specs.Iterator.{YieldsFirstRef, YieldsFirstBy, item_count};
 ghost use Rattle.daggy_base.specs.Iterating.{node_weights as node_weights_of, edge_weights as edge_weights_of, node_identifiers as node_identifiers_of, node_references as node_references_of, edge_references as edge_references_of};
-ghost use Rattle.daggy_graph.specs.Referring.{referred};
+ghost use Rattle.daggy_cells.specs.Referring.{referred};
 ghost use Rattle.daggy_stable.specs.Rest.{numbered_edge};
 ghost use Rattle.daggy_stable.specs.Stored.{plain_edge};
 
 use crate::stable_graph::StableDiGraph;
 use crate::stable_graph::slots::Slots;
 use daggy_base::index::{DefaultIx, Direction, EdgeIndex, IndexType, NodeIndex};
-use daggy_graph::graph::iterators::EdgeReference;
-use daggy_graph::graph::{Edge, Node};
+use daggy_cells::cell::{Edge, Node};
+use daggy_cells::links;
+use daggy_cells::reference::EdgeReference;
 use std::marker::Model;
 
 /// The nodes by ascending index, each with its weight. A step costs the vacant slots that it goes past.
@@ -115,8 +116,8 @@ pub(super) fn reference<'a, E, Ix: IndexType>(
     requires { IsSome x.now.weight }
     ensures { numbered_edge (Ix.number e) (plain_edge x.now) ≡ Some (referred Ix.number result) }
 {
-    let source = x.end(Direction::Outgoing).node();
-    let target = x.end(Direction::Incoming).node();
+    let source = links::end(x, Direction::Outgoing).node();
+    let target = links::end(x, Direction::Incoming).node();
     EdgeReference::from_parts(e, source, target, x.weight.as_ref().unwrap())
 }
 
@@ -140,7 +141,7 @@ impl<'a, E, Ix: IndexType> Model for EdgeReferences<'a, E, Ix> {
 }
 
 impl<'a, E, Ix: IndexType> Iterator for EdgeReferences<'a, E, Ix> {
-    ghost use Rattle.daggy_graph.specs.Referring.{referred};
+    ghost use Rattle.daggy_cells.specs.Referring.{referred};
 
     type Item = EdgeReference<'a, E, Ix>;
 

@@ -8,8 +8,9 @@ use crate::stable_graph::StableDiGraph;
 use crate::stable_graph::iterators::reference;
 use daggy_base::index::{DefaultIx, Direction, IndexType, NodeIndex};
 use daggy_base::link::Link;
-use daggy_graph::graph::Edge;
-use daggy_graph::graph::iterators::EdgeReference;
+use daggy_cells::cell::Edge;
+use daggy_cells::links;
+use daggy_cells::reference::EdgeReference;
 use std::marker::Model;
 
 /// The edges of one list of a node, in the order of the list.
@@ -33,7 +34,7 @@ impl<'a, E, Ix: IndexType> Model for Edges<'a, E, Ix> {
 }
 
 impl<'a, E, Ix: IndexType> Iterator for Edges<'a, E, Ix> {
-    ghost use Rattle.daggy_graph.specs.Referring.{referred};
+    ghost use Rattle.daggy_cells.specs.Referring.{referred};
 
     type Item = EdgeReference<'a, E, Ix>;
 
@@ -49,7 +50,7 @@ impl<'a, E, Ix: IndexType> Iterator for Edges<'a, E, Ix> {
             return None;
         }
         let x = &self.edges[i];
-        self.next = x.next(self.dir);
+        self.next = links::next(x, self.dir);
         Some(reference(e.edge(), x))
     }
 }

@@ -8,7 +8,7 @@ ghost use Rattle.daggy_stable.specs.Cells.{node_weight_in, edge_weight_in, with_
 
 use crate::stable_graph::StableDiGraph;
 use daggy_base::index::{EdgeIndex, IndexType, NodeIndex};
-use daggy_graph::graph::{Edge, Node};
+use daggy_cells::cell::{Edge, Node};
 
 impl<N, E, Ix: IndexType> StableDiGraph<N, E, Ix> {
     /// Calls `f` with the weights of two nodes, both to be written, and gives what `f` gives.

@@ -59,8 +59,8 @@ impl<N: Drop, E: Drop, Ix: IndexType> EdgeSource<Ix> for StableDiGraph<N, E, Ix>
     {
         self.looks.take();
         let x = &self.edges[e.index()];
-        let child = x.end(Direction::Incoming);
-        let next = x.next(Direction::Outgoing);
+        let child = links::end(x, Direction::Incoming);
+        let next = links::next(x, Direction::Outgoing);
         (child.node(), next.edge())
     }
 }
