@@ -27,13 +27,7 @@ impl<N, E, Ix: IndexType> DiGraph<N, E, Ix> {
             return None;
         }
         detach(&mut self.nodes, &mut self.edges, Link::of_edge(e));
-        let Edge {
-            weight,
-            parent: _,
-            child: _,
-            next_out: _,
-            next_in: _,
-        } = self.edges.swap_remove(i);
+        let Edge { weight, .. } = self.edges.swap_remove(i);
         Some(weight)
     }
 
@@ -91,11 +85,7 @@ impl<N, E, Ix: IndexType> DiGraph<N, E, Ix> {
     {
         let i = n.index();
         reown_last(&self.nodes, &mut self.edges, Link::of_node(n));
-        let Node {
-            weight,
-            first_out: _,
-            first_in: _,
-        } = self.nodes.swap_remove(i);
+        let Node { weight, .. } = self.nodes.swap_remove(i);
         weight
     }
 
