@@ -28,11 +28,11 @@ pub use daggy_base::error::{
     ChildError, EdgeError, EdgesError, ElementError, NodeError, WouldCycle,
 };
 pub use daggy_base::index::{DefaultIx, Direction, EdgeIndex, IndexType, NodeIndex};
+pub use daggy_cells::reference::EdgeReference;
 pub use daggy_dag::acyclic::{
     Children, Dag, EdgeWeightsMut, Externals, NodeWeightsMut, Parents, RawEdges, RawNodes,
     RecursiveWalk, StableDag,
 };
-pub use daggy_graph::graph::iterators::EdgeReference;
 pub use daggy_graph::graph::lists::Edges;
 pub use daggy_guard::edge_indices::EdgeIndices;
 pub use daggy_stable_dag::stable_dag;

@@ -14,3 +14,11 @@ pub mod Weights
 pub mod Errors
 pub mod Directions
 pub mod Externals
+pub mod Mapping
+pub mod Filtering
+pub mod FromSlots
+pub mod FilteringInPlace
+pub mod Rewriting
+pub mod Iterating
+pub mod Calls
+pub mod IndexMembers

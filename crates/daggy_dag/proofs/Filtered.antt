@@ -9,7 +9,7 @@ use Rattle.daggy_base.specs.WellFormed.{IsWellFormed}
 use Rattle.daggy_base.specs.Adding.{taken, next_slot, rest_of, with_node, next_node}
 use Rattle.daggy_base.proofs.Nodes.{bound_low}
 use Rattle.daggy_base.proofs.Slots.{slot_taken}
-use Rattle.daggy_graph.specs.Filtering.{kept_node, named, kept_edge, both, new_ends, FiltersNodes, FiltersEdge, FiltersEdges, IsFiltered}
+use Rattle.daggy_base.specs.Filtering.{kept_node, named, kept_edge, both, new_ends, FiltersNodes, FiltersEdge, FiltersEdges, IsFiltered}
 use Rattle.daggy_dag.proofs.Lifting.{WereJoined, acyclic_lifted}
 
 module _ {V W : Type 0} where

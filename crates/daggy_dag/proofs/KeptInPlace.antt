@@ -8,8 +8,8 @@ use Rattle.daggy_base.specs.Graph.{Graph, Edge, slot, edge_at, node_bound}
 use Rattle.daggy_base.specs.Path.{IsAcyclic}
 use Rattle.daggy_base.specs.WellFormed.{IsWellFormed}
 use Rattle.daggy_base.proofs.Nodes.{bound_low}
-use Rattle.daggy_graph.specs.InPlace.{KeepsSlots, if_joined, IsFilteredInPlace}
-use Rattle.daggy_graph.specs.Mapping.{weight_in, with_weight}
+use Rattle.daggy_base.specs.FilteringInPlace.{KeepsSlots, if_joined, IsFilteredInPlace}
+use Rattle.daggy_base.specs.Mapping.{weight_in, with_weight}
 use Rattle.daggy_dag.proofs.Lifting.{acyclic_lifted}
 
 given : {V B : Type 0} (h : V → B) (r : Option V) (y : B) → option_map h r ≡ Some y → (v : V) × (h v ≡ y)

@@ -6,8 +6,8 @@ use Rattle.daggy_base.specs.Graph.{Graph, Edge, slot, bound_of, bound_step, node
 use Rattle.daggy_base.specs.Path.{IsAcyclic}
 use Rattle.daggy_base.specs.WellFormed.{IsWellFormed}
 use Rattle.daggy_base.proofs.Nodes.{bound_low}
-use Rattle.daggy_graph.specs.Mapping.{MapsSlots, IsMapped, weight_in, with_weight}
-use Rattle.daggy_graph.proofs.MappingLemmas.{mapped_length}
+use Rattle.daggy_base.specs.Mapping.{MapsSlots, IsMapped, weight_in, with_weight}
+use Rattle.daggy_cells.proofs.MappingLemmas.{mapped_length}
 use Rattle.daggy_dag.proofs.Lifting.{acyclic_lifted}
 
 module _ {F I W V A B : Type 0} (step : F → I → Bor W → V → F → Type 0) (of : ℕ → I) (weight : A → W) (with : A → V → B) where

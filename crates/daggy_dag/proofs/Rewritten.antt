@@ -5,8 +5,8 @@ use Rattle.daggy_base.specs.Graph.{Graph, node_bound}
 use Rattle.daggy_base.specs.Path.{IsAcyclic}
 use Rattle.daggy_base.specs.WellFormed.{IsWellFormed}
 use Rattle.daggy_base.proofs.NodeRemoving.{acyclic_renamed}
-use Rattle.daggy_graph.specs.Mapping.{weight_in, with_weight}
-use Rattle.daggy_graph.specs.Rewriting.{Leaves, RewritesNodes, RewritesEdges}
+use Rattle.daggy_base.specs.Mapping.{weight_in, with_weight}
+use Rattle.daggy_base.specs.Rewriting.{Leaves, RewritesNodes, RewritesEdges}
 use Rattle.daggy_dag.proofs.Mapped.{mapped_bound, acyclic_reweighed}
 
 module _ {N E F I : Type 0} (end room : ℕ) (of : ℕ → I) (f : F) (old new : Graph N E) (w : IsWellFormed end old) (acyclic : IsAcyclic old) (fits : node_bound old ≤ room) where

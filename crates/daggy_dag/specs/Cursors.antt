@@ -5,7 +5,7 @@ use mir.Syntax.{named}
 use Rattle.daggy_base.specs.State.{with_graph}
 use Rattle.daggy_base.specs.Weights.{with_node_weight, with_edge_weight}
 use Rattle.std.specs.declared.clone.Clone.{Ghosts as CloneMembers}
-use Rattle.daggy_graph.specs.Lends.{IndexMembers}
+use Rattle.daggy_base.specs.IndexMembers.{IndexMembers}
 use Rattle.daggy_dag.specs.declared.acyclic.compact.cursors.NodeWeightsMut.{NodeWeightsMut}
 use Rattle.daggy_dag.specs.declared.acyclic.compact.cursors.EdgeWeightsMut.{EdgeWeightsMut}
 use Rattle.daggy_dag.specs.contracts.acyclic.compact.cursors.NodeWeightsMut.{the_row as node_row}

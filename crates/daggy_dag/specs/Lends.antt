@@ -5,7 +5,7 @@ use Rattle.daggy_base.specs.Graph.{Graph}
 use Rattle.daggy_base.specs.Removal.{Kind}
 use Rattle.daggy_base.specs.State.{State, with_graph}
 use Rattle.daggy_base.specs.Weights.{with_node_weight, with_edge_weight}
-use Rattle.daggy_graph.specs.Lends.{IndexMembers}
+use Rattle.daggy_base.specs.IndexMembers.{IndexMembers}
 use Rattle.daggy_dag.specs.contracts.acyclic.Acyclic.{the_row}
 
 -- the members of a store, as a clause has them

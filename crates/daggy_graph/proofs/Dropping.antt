@@ -7,16 +7,17 @@ use Rattle.std.proofs.lemmas.List.{length-map, length-set, length-take-le, get_o
 use Rattle.std.proofs.lemmas.Option.{slice_get-map, same_Some, none-some, unwrap_or-slice_get}
 use Rattle.daggy_base.specs.Graph.{Graph}
 use Rattle.daggy_base.specs.Removal.{renamed, renamed_ends, Compact, dropped_node}
-use Rattle.daggy_graph.specs.declared.graph.Node.{Node}
-use Rattle.daggy_graph.specs.declared.graph.Edge.{Edge}
+use Rattle.daggy_cells.specs.declared.cell.Node.{Node}
+use Rattle.daggy_cells.specs.declared.cell.Edge.{Edge}
 use Rattle.daggy_base.specs.declared.index.Direction.{Direction}
 use Rattle.daggy_base.specs.declared.index.Direction.TheVariants.{Outgoing, Incoming}
-use Rattle.daggy_graph.specs.Links.{row, IsRow, IsLinked, ListsEach}
-use Rattle.daggy_graph.specs.Raw.{raw_first, raw_next}
-use Rattle.daggy_graph.specs.Stored.{weight_of, plain_edge, reowned, firsts_of, nexts_of, ends_of, lists_at, walk, Stores}
-use Rattle.daggy_graph.proofs.Rows.{Contains-nil, row_is, renamed_here, renamed_other}
-use Rattle.daggy_graph.proofs.Threads.{row_within, IsRow-at, IsSwapRemoved, IsSwapRemoved-from, IsSwapRemoved-mapped, renamed_itself}
-use Rattle.daggy_graph.proofs.RemovalLemmas.{map-swap_remove}
+use Rattle.daggy_cells.specs.Links.{row, IsRow, IsLinked, ListsEach}
+use Rattle.daggy_cells.specs.Raw.{raw_first, raw_next}
+use Rattle.daggy_cells.specs.Fields.{weight_of, plain_edge, reowned, firsts_of, nexts_of, ends_of, lists_at, walk}
+use Rattle.daggy_graph.specs.Stored.{Stores}
+use Rattle.daggy_cells.proofs.Rows.{Contains-nil, row_is, renamed_here, renamed_other}
+use Rattle.daggy_cells.proofs.Threads.{row_within, IsRow-at, IsSwapRemoved, IsSwapRemoved-from, IsSwapRemoved-mapped, renamed_itself}
+use Rattle.daggy_cells.proofs.RedirectLemmas.{map-swap_remove}
 
 pub length-swap_remove : {A : Type 0} (xs : List A) (i last : ℕ) (d : A) → length xs ≡ suc last → length (swap_remove xs i d) ≡ last
 length-swap_remove xs i last d long =

@@ -4,8 +4,8 @@ use Rattle.std.proofs.lemmas.List.{drop_more, drop_all}
 use Rattle.std.specs.Borrow.{Bor}
 use Rattle.std.proofs.lemmas.Option.{same_Some, none-some}
 use Rattle.daggy_base.specs.Graph.{Graph, Edge as PlainEdge, empty, slot}
-use Rattle.daggy_graph.specs.Mapping.{CalledAt}
-use Rattle.daggy_graph.specs.Filtering.{kept_node, named, kept_edge, both, new_ends, FiltersNodes, FiltersEdge, FiltersEdges}
+use Rattle.daggy_base.specs.Mapping.{CalledAt}
+use Rattle.daggy_base.specs.Filtering.{kept_node, named, kept_edge, both, new_ends, FiltersNodes, FiltersEdge, FiltersEdges}
 use Rattle.daggy_graph.specs.Names.{AreNamesBelow}
 
 module _ {N V W F I : Type 0} (step : F → I → Bor N → Option V → F → Type 0) (of : ℕ → I) where

@@ -9,7 +9,7 @@ use Rattle.daggy_base.specs.declared.index.Direction.TheVariants.{Outgoing, Inco
 use Rattle.daggy_base.specs.Graph.{Graph, Edge, empty, slot, ends_of}
 use Rattle.daggy_base.specs.Adding.{with_node, with_edge, next_node}
 use Rattle.daggy_base.specs.Reduction.{IsDescending}
-use Rattle.daggy_graph.specs.Filtering.{kept_node, kept_edge, new_ends, FiltersNodes, FiltersEdge, FiltersEdges, IsFiltered, ListsDescend, HaveSameEnds}
+use Rattle.daggy_base.specs.Filtering.{kept_node, kept_edge, new_ends, FiltersNodes, FiltersEdge, FiltersEdges, IsFiltered, ListsDescend, HaveSameEnds}
 use Rattle.daggy_graph.proofs.FilterLemmas.{both_are}
 
 -- lists that descend from below k

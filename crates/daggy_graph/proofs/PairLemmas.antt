@@ -2,18 +2,16 @@
 use Rattle.std.proofs.Common.{◌≡◌, ℕ, zero, suc, ◌<◌, List, [], ◌∷◌, ◌++◌, map, take, drop, length, get_or, set, slice_get, Option, Some, None, refl, sym, ap, subst, ◌∙◌, arith}
 use Rattle.std.proofs.Math.Seq.{take-append_seam}
 use Rattle.std.proofs.lemmas.Option.{slice_get_read}
-use Rattle.std.specs.Borrow.{MutBor}
-use Rattle.std.specs.Fn.{Once}
 use Rattle.std.specs.Option.{option_map}
 use Rattle.daggy_base.specs.Graph.{Graph, slot, node_weight}
 use Rattle.daggy_base.specs.State.{State}
 use Rattle.daggy_base.specs.Weights.{edge_weight, with_node_weight, with_edge_weight}
-use Rattle.daggy_graph.specs.declared.graph.Node.{Node}
-use Rattle.daggy_graph.specs.declared.graph.Edge.{Edge}
-use Rattle.daggy_graph.specs.Stored.{plain, stored_graph, Stores}
-use Rattle.daggy_graph.specs.Calls.{CalledAtTwo}
-use Rattle.daggy_graph.specs.Cells.{changed_at, node_of_weight, edge_of_weight, node_weight_at, edge_weight_at, with_node_weights, with_edge_weights}
-use Rattle.daggy_graph.proofs.CellLemmas.{changed_is_set, length-changed}
+use Rattle.daggy_cells.specs.declared.cell.Node.{Node}
+use Rattle.daggy_cells.specs.declared.cell.Edge.{Edge}
+use Rattle.daggy_cells.specs.Fields.{plain}
+use Rattle.daggy_graph.specs.Stored.{stored_graph, Stores}
+use Rattle.daggy_cells.specs.Cells.{changed_at, node_of_weight, edge_of_weight, node_weight_at, edge_weight_at, with_node_weights, with_edge_weights}
+use Rattle.daggy_cells.proofs.CellLemmas.{changed_is_set, length-changed}
 use Rattle.daggy_graph.proofs.StoredLemmas.{Stores-weight, Stores-edge_weight}
 
 item_at : {C : Type 0} (xs : List C) (i : ℕ) → i < length xs → (x : C) × (x ≡ get_or xs i x)
@@ -91,6 +89,3 @@ module _ {N E Ix : Type 0} (nodes : List (Node N Ix)) (edges : List (Edge E Ix))
 
   pub edge_read : (x : Edge E Ix) → n < length edges → x ≡ get_or edges i x → edge_weight s.graph n ≡ Some x.weight
   edge_read x within is = edge_shown edges x.weight refl (ap (option_map (λ z. z.weight)) (slice_get_read edges (length edges) i x refl (omega (arith, within, i_is)) is))
-
-pub called_at : {F X Y R S : Type 0} (g : Once F (MutBor X × (MutBor Y × Unit {0})) (R × (MutBor X × (MutBor Y × Unit {0})))) (f : F) (x : Option X) (y : Option Y) (r : R) (put : X → Y → S) (new : S) (p : MutBor X) (q : MutBor Y) (p' : MutBor X) (q' : MutBor Y) → x ≡ Some p.now → y ≡ Some q.now → g.post f (p, (q, tt)) (r, (p', (q', tt))) → new ≡ put p'.now q'.now → CalledAtTwo g f x y r put new
-called_at g f x y r put new p q p' q' p_is q_is called leaves = record { first = p; second = q; first_left = p'; second_left = q'; shows = (p_is, q_is); called = called; leaves = leaves }

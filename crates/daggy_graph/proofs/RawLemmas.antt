@@ -3,10 +3,11 @@ use Rattle.std.proofs.Common.{◌≡◌, ℕ, zero, suc, List, [], ◌∷◌, ma
 use Rattle.std.proofs.lemmas.List.{length-map}
 use Rattle.std.proofs.lemmas.Option.{slice_get_within, same_Some, none-some}
 use Rattle.daggy_base.specs.Graph.{slot}
-use Rattle.daggy_graph.specs.declared.graph.Node.{Node}
-use Rattle.daggy_graph.specs.declared.graph.Edge.{Edge}
-use Rattle.daggy_graph.specs.Raw.{ShowsNodes, ShowsEdges}
-use Rattle.daggy_graph.specs.Stored.{weight_of, plain, plain_edge, stored_graph, Stores}
+use Rattle.daggy_cells.specs.declared.cell.Node.{Node}
+use Rattle.daggy_cells.specs.declared.cell.Edge.{Edge}
+use Rattle.daggy_cells.specs.Raw.{ShowsNodes, ShowsEdges}
+use Rattle.daggy_cells.specs.Fields.{weight_of, plain, plain_edge}
+use Rattle.daggy_graph.specs.Stored.{stored_graph, Stores}
 use Rattle.daggy_graph.proofs.WellFormedLemmas.{first_listed, cursor_shown}
 
 slot_shown : {A B : Type 0} (f : A → B) (xs : List A) (i : ℕ) (x : A) → slice_get xs i ≡ Some x → slot (map (λ x. Some (f x)) xs) i ≡ Some (f x)

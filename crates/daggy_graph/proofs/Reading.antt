@@ -8,10 +8,11 @@ use Rattle.daggy_base.specs.declared.index.Direction.TheVariants.{Outgoing, Inco
 use Rattle.daggy_base.specs.Cursor.{first_of}
 use Rattle.daggy_base.specs.Graph.{node_weight, edge_at, list_at}
 use Rattle.daggy_base.specs.State.{State}
-use Rattle.daggy_graph.specs.Raw.{raw_first}
-use Rattle.daggy_graph.specs.Stored.{plain, weight_of, stored_graph, Stores}
-use Rattle.daggy_graph.specs.declared.graph.Node.{Node}
-use Rattle.daggy_graph.specs.declared.graph.Edge.{Edge}
+use Rattle.daggy_cells.specs.Raw.{raw_first}
+use Rattle.daggy_cells.specs.Fields.{plain, weight_of}
+use Rattle.daggy_graph.specs.Stored.{stored_graph, Stores}
+use Rattle.daggy_cells.specs.declared.cell.Node.{Node}
+use Rattle.daggy_cells.specs.declared.cell.Edge.{Edge}
 use Rattle.daggy_graph.proofs.PairLemmas.{slots_read}
 use Rattle.daggy_graph.proofs.RawLemmas.{ShowsNodes-stored}
 use Rattle.daggy_graph.proofs.WellFormedLemmas.{IsWellFormed-stored}

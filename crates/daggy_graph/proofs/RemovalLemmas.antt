@@ -1,63 +1,21 @@
 -- How an edge is taken out: out of its two rows, and the last edge into its place.
 use Rattle.std.proofs.Common.{◌≡◌, ◌≢◌, ℕ, suc, ◌-◌, ◌<◌, ◌≤◌, List, map, length, get_or, set, take, Some, None, slice_get, refl, sym, ap, subst, ◌∙◌, arith, Contains}
 use Rattle.std.specs.List.{swap_remove}
-use Rattle.std.proofs.lemmas.List.{length-map, map-set, get_or-map, take-map, length-set, length-take-le}
+use Rattle.std.proofs.lemmas.List.{length-map, length-set, length-take-le}
 use Rattle.std.proofs.lemmas.Option.{slice_get-get_or, same_Some}
 use Rattle.daggy_base.specs.Graph.{Graph}
 use Rattle.daggy_base.specs.Removal.{without, renamed}
-use Rattle.daggy_graph.specs.declared.graph.Node.{Node}
-use Rattle.daggy_graph.specs.declared.graph.Edge.{Edge}
+use Rattle.daggy_cells.specs.declared.cell.Node.{Node}
+use Rattle.daggy_cells.specs.declared.cell.Edge.{Edge}
 use Rattle.daggy_base.specs.declared.index.Direction.{Direction}
 use Rattle.daggy_base.specs.declared.index.Direction.TheVariants.{Outgoing, Incoming}
-use Rattle.daggy_graph.specs.Links.{row, IsRow, IsLinked, ListsEach, Redirected}
-use Rattle.daggy_graph.specs.Raw.{raw_first, raw_next}
-use Rattle.daggy_graph.specs.Stored.{weight_of, plain_edge, end_at, firsts_of, nexts_of, ends_of, lists_at, walk, Stores, KeepsNodes, KeepsEdges, IsReady, Redirects, IsDetached}
-use Rattle.daggy_graph.proofs.Rows.{row_is, Contains-from_without, Contains-without}
-use Rattle.daggy_graph.proofs.Threads.{row-map, row_within, IsSwapRemoved, IsSwapRemoved-from, IsSwapRemoved-mapped, IsLinked-unlinked, IsLinked-renamed, IsLinked-cut, ListsEach-removed}
-
-module _ {N E Ix : Type 0} (end : ℕ) (dir : Direction) (nodes : List (Node N Ix)) (edges : List (Edge E Ix)) (l : List ℕ) (old n : ℕ) (r : IsRow end (nexts_of dir edges) (get_or (firsts_of dir nodes) n 0) l) (n_is : get_or (ends_of dir edges) old 0 ≡ n) (few : length edges ≤ end) where
-  -- l is the row of n
-  walked : walk dir edges (get_or (firsts_of dir nodes) n 0) ≡ l
-  walked = row_is end _ (nexts_of dir edges) l r (omega (arith, few, length-map edges (raw_next dir)))
-
-  -- and old, which n is an end of, stands in it
-  pub Ready-row : n < length nodes → old < length edges → Contains l old → IsReady end dir nodes edges old
-  Ready-row n_in old_in there =
-      let row_w : IsRow end (nexts_of dir edges) (get_or (firsts_of dir nodes) n 0) (walk dir edges (get_or (firsts_of dir nodes) n 0)) = subst (IsRow end (nexts_of dir edges) (get_or (firsts_of dir nodes) n 0)) (sym walked) r in
-      record {
-        edge = old_in;
-        node = omega (arith, n_in, n_is);
-        row = subst (λ z. IsRow end (nexts_of dir edges) (get_or (firsts_of dir nodes) z 0) (walk dir edges (get_or (firsts_of dir nodes) z 0))) (sym n_is) row_w;
-        listed = subst (λ z. Contains (walk dir edges (get_or (firsts_of dir nodes) z 0)) old) (sym n_is) (subst (λ z. Contains z old) (sym walked) there);
-        few = few;
-      }
-
-  pub Redirected-walk : (new : ℕ) (nodes' : List (Node N Ix)) (edges' : List (Edge E Ix)) → Redirects dir nodes edges old new nodes' edges' → Redirected l n old new (firsts_of dir nodes) (nexts_of dir edges) (firsts_of dir nodes') (nexts_of dir edges')
-  Redirected-walk new nodes' edges' red =
-      let at_n : Redirected (walk dir edges (get_or (firsts_of dir nodes) n 0)) n old new (firsts_of dir nodes) (nexts_of dir edges) (firsts_of dir nodes') (nexts_of dir edges') =
-      subst (λ z. Redirected (walk dir edges (get_or (firsts_of dir nodes) z 0)) z old new (firsts_of dir nodes) (nexts_of dir edges) (firsts_of dir nodes') (nexts_of dir edges')) n_is red in
-      subst (λ z. Redirected z n old new (firsts_of dir nodes) (nexts_of dir edges) (firsts_of dir nodes') (nexts_of dir edges')) walked at_n
-
-module _ {N E Ix : Type 0} (end : ℕ) (dir : Direction) (nodes : List (Node N Ix)) (edges : List (Edge E Ix)) (lists : List (List ℕ)) (old n : ℕ) where
-  -- the rows are linked, and old stands in that of its node
-  row_at : IsLinked end (firsts_of dir nodes) (nexts_of dir edges) lists → n < length nodes → IsRow end (nexts_of dir edges) (get_or (firsts_of dir nodes) n 0) (row lists n)
-  row_at linked n_in = linked.each n (omega (arith, n_in, length-map nodes (raw_first dir)))
-
-  pub Ready-from : IsLinked end (firsts_of dir nodes) (nexts_of dir edges) lists → get_or (ends_of dir edges) old 0 ≡ n → n < length nodes → old < length edges → length edges ≤ end → Contains (row lists n) old → IsReady end dir nodes edges old
-  Ready-from linked n_is n_in old_in few there = Ready-row end dir nodes edges (row lists n) old n (row_at linked n_in) n_is few n_in old_in there
-
-  pub Redirected-row : (new : ℕ) (nodes' : List (Node N Ix)) (edges' : List (Edge E Ix)) → IsLinked end (firsts_of dir nodes) (nexts_of dir edges) lists → get_or (ends_of dir edges) old 0 ≡ n → n < length nodes → length edges ≤ end → Redirects dir nodes edges old new nodes' edges' → Redirected (row lists n) n old new (firsts_of dir nodes) (nexts_of dir edges) (firsts_of dir nodes') (nexts_of dir edges')
-  Redirected-row new nodes' edges' linked n_is n_in few red = Redirected-walk end dir nodes edges (row lists n) old n (row_at linked n_in) n_is few new nodes' edges' red
-
--- the last element in the place of e, seen through a map
-pub map-swap_remove : {A B : Type 0} (h : A → B) (xs : List A) (i : ℕ) (d : A) (d' : B) → i < length xs → map h (swap_remove xs i d) ≡ swap_remove (map h xs) i d'
-map-swap_remove h xs i d d' within =
-    let last = length xs - 1 in
-    let inside : last < length xs = omega (arith, within) in
-    let long : length (map h xs) - 1 ≡ last = ap (λ n. n - 1) (length-map xs h) in
-    sym (take-map h last (set xs i (get_or xs last d))) ∙ ap (take last) (map-set h xs i (get_or xs last d))
-    ∙ ap (λ z. take last (set (map h xs) i z)) (sym (get_or-map h xs last d d' inside))
-    ∙ ap (λ k. take k (set (map h xs) i (get_or (map h xs) k d'))) (sym long)
+use Rattle.daggy_cells.specs.Links.{row, IsLinked, ListsEach}
+use Rattle.daggy_cells.specs.Raw.{raw_first, raw_next}
+use Rattle.daggy_cells.specs.Fields.{weight_of, plain_edge, end_at, firsts_of, nexts_of, ends_of, lists_at, IsReady, Redirects}
+use Rattle.daggy_graph.specs.Stored.{Stores, IsDetached}
+use Rattle.daggy_cells.proofs.Rows.{Contains-from_without, Contains-without}
+use Rattle.daggy_cells.proofs.Threads.{row-map, row_within, IsSwapRemoved, IsSwapRemoved-from, IsSwapRemoved-mapped, IsLinked-unlinked, IsLinked-renamed, IsLinked-cut, ListsEach-removed}
+use Rattle.daggy_cells.proofs.RedirectLemmas.{Ready-from, Redirected-row, map-swap_remove, Step}
 
 module _ {N E Ix : Type 0} (end : ℕ) (nodes : List (Node N Ix)) (edges : List (Edge E Ix)) (g : Graph N E) (s : Stores end nodes edges g) (e last : ℕ) (e_in : e < length edges) (long : length edges ≡ suc last) (dir : Direction) where
   stands : (f : ℕ) → f < length edges → slice_get (ends_of dir edges) f ≡ Some (get_or (ends_of dir edges) f 0)
@@ -153,12 +111,6 @@ IsDetached-from end nodes edges g s e last e_in long nodes' edges' weights plain
       few_edges = omega (arith, s.few_edges, edges_long, shorter);
     })
 
--- one call of `redirect`
-pub record Step {N E Ix : Type 0} (dir : Direction) (nodes : List (Node N Ix)) (edges : List (Edge E Ix)) (old new : ℕ) (nodes' : List (Node N Ix)) (edges' : List (Edge E Ix)) : Type 0 where
-  pub links : Redirects dir nodes edges old new nodes' edges'
-  pub keeps : KeepsNodes dir nodes nodes'
-  pub keeps_edges : KeepsEdges dir edges edges'
-
 IsLinked-seen : {end : ℕ} {lists : List (List ℕ)} (firsts firsts' nexts nexts' : List ℕ) → firsts' ≡ firsts → nexts' ≡ nexts → IsLinked end firsts nexts lists → IsLinked end firsts' nexts' lists
 IsLinked-seen firsts firsts' nexts nexts' p q l = rw (p, q) l
 
@@ -214,6 +166,3 @@ module _ {N E Ix : Type 0} (end : ℕ) (nodes : List (Node N Ix)) (edges : List 
                     IsLinked-seen _ _ _ _ s4.keeps.firsts refl at_3
                 | Incoming ↦ λ nexts moves. renamed_links end nodes edges g s e last e_in long Incoming n3 e3 (ends_3 Incoming) in_3 n4 e4 nexts differs s4.links moves
               ])
-
-pub next_is : {E Ix : Type 0} (dir : Direction) (edges : List (Edge E Ix)) (i e : ℕ) (x : Edge E Ix) → x ≡ get_or edges i x → i ≡ e → e < length edges → raw_next dir x ≡ get_or (nexts_of dir edges) e 0
-next_is dir edges i e x is i_is e_in = ap (raw_next dir) (is ∙ ap (λ z. get_or edges z x) i_is) ∙ sym (get_or-map (raw_next dir) edges e x 0 e_in)

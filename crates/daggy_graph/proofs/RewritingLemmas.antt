@@ -5,14 +5,16 @@ use Rattle.std.specs.Borrow.{MutBor}
 use Rattle.daggy_base.specs.declared.index.Direction.{Direction}
 use Rattle.daggy_base.specs.declared.index.Direction.TheVariants.{Outgoing, Incoming}
 use Rattle.daggy_base.specs.Graph.{Graph, Edge as PlainEdge}
-use Rattle.daggy_graph.specs.declared.graph.Node.{Node}
-use Rattle.daggy_graph.specs.declared.graph.Edge.{Edge}
-use Rattle.daggy_graph.specs.Mapping.{CalledAt, weight_in, with_weight}
-use Rattle.daggy_graph.specs.MappedCells.{MapsCells, node_weight_in, node_with, edge_weight_in, edge_with}
-use Rattle.daggy_graph.specs.Raw.{raw_first, raw_next}
-use Rattle.daggy_graph.specs.Rewriting.{Leaves, RewritesNodes, RewritesEdges}
-use Rattle.daggy_graph.specs.Stored.{end_at, firsts_of, nexts_of, ends_of, weight_of, plain_edge, stored_graph, Stores}
-use Rattle.daggy_graph.proofs.MappingLemmas.{maps_keep, slots_from, same_rows, Stores-relinked}
+use Rattle.daggy_cells.specs.declared.cell.Node.{Node}
+use Rattle.daggy_cells.specs.declared.cell.Edge.{Edge}
+use Rattle.daggy_base.specs.Mapping.{CalledAt, weight_in, with_weight}
+use Rattle.daggy_cells.specs.MappedCells.{MapsCells, node_weight_in, node_with, edge_weight_in, edge_with}
+use Rattle.daggy_cells.specs.Raw.{raw_first, raw_next}
+use Rattle.daggy_base.specs.Rewriting.{Leaves, RewritesNodes, RewritesEdges}
+use Rattle.daggy_cells.specs.Fields.{end_at, firsts_of, nexts_of, ends_of, weight_of, plain_edge}
+use Rattle.daggy_graph.specs.Stored.{stored_graph, Stores}
+use Rattle.daggy_cells.proofs.MappingLemmas.{maps_keep, slots_from}
+use Rattle.daggy_graph.proofs.MappingLemmas.{same_rows, Stores-relinked}
 
 module _ {C : Type 0} where
   get_middle : (xs zs : List C) (z d : C) → get_or (xs ++ z ∷ zs) (length xs) d ≡ z

@@ -1,62 +1,19 @@
 -- How each change keeps what a graph stores.
-use Rattle.std.proofs.Common.{◌≡◌, ℕ, zero, suc, ◌<◌, ◌≤◌, List, [], ◌∷◌, ◌++◌, map, length, get_or, set, Option, Some, None, IsSome, slice_get, unwrap_or, eqb, false, refl, sym, ap, subst, ◌∙◌, arith}
-use Rattle.std.proofs.lemmas.List.{length-set, length_push, length-map, map-set, map_push, get_or-map, set-get_or}
+use Rattle.std.proofs.Common.{◌≡◌, ℕ, ◌<◌, List, [], ◌∷◌, ◌++◌, map, length, get_or, set, Some, unwrap_or, eqb, false, refl, sym, ap, subst, ◌∙◌, arith}
+use Rattle.std.proofs.lemmas.List.{length-set, length_push, length-map, map-set, map_push}
 use Rattle.daggy_base.specs.Graph.{Graph, Edge as PlainEdge, slot}
 use Rattle.daggy_base.specs.Finding.{leads_to}
 use Rattle.std.specs.Option.{option_map}
-use Rattle.std.proofs.lemmas.Option.{slice_get-map, slice_get_read}
 use Rattle.daggy_base.specs.Adding.{with_node, with_edge}
-use Rattle.daggy_graph.specs.declared.graph.Node.{Node}
-use Rattle.daggy_graph.specs.declared.graph.Edge.{Edge}
-use Rattle.daggy_base.specs.declared.index.Direction.{Direction}
+use Rattle.daggy_cells.specs.declared.cell.Node.{Node}
+use Rattle.daggy_cells.specs.declared.cell.Edge.{Edge}
 use Rattle.daggy_base.specs.declared.index.Direction.TheVariants.{Outgoing, Incoming}
 use Rattle.daggy_base.specs.Weights.{reweighed}
-use Rattle.daggy_graph.specs.Raw.{raw_first, raw_next}
-use Rattle.daggy_graph.specs.Stored.{weight_of, with_first, with_next, plain_edge, end_at, firsts_of, nexts_of, ends_of, walks, stored_graph, Stores, KeepsNodes, KeepsEdges}
-use Rattle.daggy_graph.proofs.Threads.{rows_are, IsLinked-node, ListsEach-node, IsLinked-edge, ListsEach-edge}
-
--- a write that changes nothing that f sees
-pub map-set_same : {A B : Type 0} (f : A → B) (xs : List A) (i : ℕ) (x y : A) → x ≡ get_or xs i x → f y ≡ f x → map f (set xs i y) ≡ map f xs
-map-set_same f xs i x y is same =
-    let back : set xs i x ≡ xs = ap (set xs i) is ∙ set-get_or xs i x in
-    map-set f xs i y ∙ ap (set (map f xs) i) same ∙ sym (map-set f xs i x) ∙ ap (map f) back
-
--- a slot that holds something is within, and the other way round
-pub slot_within : {A B : Type 0} (f : A → B) (xs : List A) (i : ℕ) → IsSome (slot (map (λ x. Some (f x)) xs) i) → i < length xs
-slot_within f [] i p = absurd (cc)
-slot_within f (x ∷ xs) zero p = omega arith
-slot_within f (x ∷ xs) (suc i) p = let more = slot_within f xs i p in omega arith
-
-pub slot_holds : {A B : Type 0} (f : A → B) (xs : List A) (i : ℕ) → i < length xs → IsSome (slot (map (λ x. Some (f x)) xs) i)
-slot_holds f [] i p = absurd (omega arith)
-slot_holds f (x ∷ xs) zero p = refl
-slot_holds f (x ∷ xs) (suc i) p = slot_holds f xs i (omega arith)
-
--- what a slot shows of what is stored there
-pub slot_read : {A B : Type 0} (f : A → Option B) (xs : List A) (i : ℕ) (x : A) → i < length xs → x ≡ get_or xs i x → slot (map f xs) i ≡ f x
-slot_read f [] i x p is = absurd (omega arith)
-slot_read f (y ∷ ys) zero x p is = ap f (sym is)
-slot_read f (y ∷ ys) (suc i) x p is = slot_read f ys i x (omega arith) is
-
-pub slot_beyond : {A B : Type 0} (f : A → Option B) (xs : List A) (i : ℕ) → length xs ≤ i → slot (map f xs) i ≡ None
-slot_beyond f [] i p = refl
-slot_beyond f (x ∷ xs) zero p = absurd (omega arith)
-slot_beyond f (x ∷ xs) (suc i) p = slot_beyond f xs i (omega arith)
-
-pub slot_is : {A B : Type 0} (f : A → B) (xs : List A) (i : ℕ) (x : A) → i < length xs → x ≡ get_or xs i x → slot (map (λ x. Some (f x)) xs) i ≡ Some (f x)
-slot_is f xs i x p is = slot_read (λ y. Some (f y)) xs i x p is
-
-pub slot_past : {A B : Type 0} (f : A → B) (xs : List A) (i : ℕ) → length xs ≤ i → slot (map (λ x. Some (f x)) xs) i ≡ None
-slot_past f xs i p = slot_beyond (λ y. Some (f y)) xs i p
-
--- a graph by its parts
-pub same_graph : {N E : Type 0} (g : Graph N E) {a : List (Option N)} {b : List (Option (PlainEdge E))} {c d : List (List ℕ)} {e f : List ℕ} → a ≡ g.nodes → b ≡ g.edges → c ≡ g.out_lists → d ≡ g.in_lists → e ≡ g.vacant_nodes → f ≡ g.vacant_edges → record { nodes = a; edges = b; out_lists = c; in_lists = d; vacant_nodes = e; vacant_edges = f } ≡ g
-same_graph {N} {E} g {a} {b} {c} {d} {e} {f} p q r s t u =
-    let mk : List (Option N) → List (Option (PlainEdge E)) → List (List ℕ) → List (List ℕ) → List ℕ → List ℕ → Graph N E =
-    λ a b c d e f. record { nodes = a; edges = b; out_lists = c; in_lists = d; vacant_nodes = e; vacant_edges = f } in
-    ap (λ x. mk x b c d e f) p ∙ ap (λ x. mk g.nodes x c d e f) q ∙ ap (λ x. mk g.nodes g.edges x d e f) r
-    ∙ ap (λ x. mk g.nodes g.edges g.out_lists x e f) s ∙ ap (λ x. mk g.nodes g.edges g.out_lists g.in_lists x f) t
-    ∙ ap (λ x. mk g.nodes g.edges g.out_lists g.in_lists g.vacant_nodes x) u
+use Rattle.daggy_cells.specs.Raw.{raw_first, raw_next}
+use Rattle.daggy_cells.specs.Fields.{weight_of, plain_edge, end_at, firsts_of, walks}
+use Rattle.daggy_graph.specs.Stored.{stored_graph, Stores}
+use Rattle.daggy_cells.proofs.Threads.{rows_are, IsLinked-node, ListsEach-node, IsLinked-edge, ListsEach-edge}
+use Rattle.daggy_cells.proofs.FieldLemmas.{map-set_same, slot_is, same_graph}
 
 module _ {N E Ix : Type 0} (end : ℕ) (nodes : List (Node N Ix)) (edges : List (Edge E Ix)) where
   -- what is stored is what the view shows
@@ -119,21 +76,6 @@ module _ {N E Ix : Type 0} (end : ℕ) (nodes : List (Node N Ix)) (edges : List 
         few_edges = omega (arith, few, length_push edges x);
       })
 
-  -- the same at the fields that the code reads and writes
-  pub Stores-edge_written : (u v : ℕ) (w : E) → u < length nodes → v < length nodes → length edges < end
-      → (from into x y : Node N Ix) → from ≡ get_or nodes u from → into ≡ get_or nodes v into → x ≡ get_or nodes u x
-      → y ≡ get_or (set nodes u (with_first Outgoing x (length edges))) v y
-      → Stores end (set (set nodes u (with_first Outgoing x (length edges))) v (with_first Incoming y (length edges))) (edges ++ (record { weight = w; parent = u; child = v; next_out = from.first_out; next_in = into.first_in }) ∷ []) (with_edge g u v w)
-  Stores-edge_written u v w u_in v_in few from into x y from_is into_is x_is y_is =
-      let first = set nodes u (with_first Outgoing x (length edges)) in
-      let out_is : from.first_out ≡ get_or (firsts_of Outgoing nodes) u 0 = ap (λ z. z.first_out) from_is ∙ sym (get_or-map (raw_first Outgoing) nodes u from 0 u_in) in
-      let in_is : into.first_in ≡ get_or (firsts_of Incoming nodes) v 0 = ap (λ z. z.first_in) into_is ∙ sym (get_or-map (raw_first Incoming) nodes v into 0 v_in) in
-      let both = Stores-edge u v w u_in v_in few (set first v (with_first Incoming y (length edges)))
-      (map-set_same weight_of first v y _ y_is refl ∙ map-set_same weight_of nodes u x _ x_is refl)
-      (map-set_same (raw_first Outgoing) first v y _ y_is refl ∙ map-set (raw_first Outgoing) nodes u _)
-      (map-set (raw_first Incoming) first v _ ∙ ap (λ l. set l v (length edges)) (map-set_same (raw_first Incoming) nodes u x _ x_is refl)) in
-      rw (out_is, in_is) both
-
   pub Stores-weight : (n : ℕ) (w : N) (x : Node N Ix) → x ≡ get_or nodes n x → Stores end (set nodes n (record x { weight = w })) edges (record g { nodes = set g.nodes n (Some w) })
   Stores-weight n w x is =
       record {
@@ -151,70 +93,23 @@ module _ {N E Ix : Type 0} (end : ℕ) (nodes : List (Node N Ix)) (edges : List 
       }
 
   -- in the words of the code
-  pub Stores-edge_code : (a b p q u v e : ℕ) (w : E) → u ≡ a → v ≡ b → p ≡ a → q ≡ b → e ≡ length edges → a < length nodes → b < length nodes → length edges < end
-      → (from into x y : Node N Ix) → from ≡ get_or nodes u from → into ≡ get_or nodes v into → x ≡ get_or nodes u x
-      → y ≡ get_or (set nodes u (with_first Outgoing x e)) v y
-      → (room edges' : List (Edge E Ix)) → room ≡ edges → edges' ≡ room ++ (record { weight = w; parent = p; child = q; next_out = from.first_out; next_in = into.first_in }) ∷ []
-      → Stores end (set (set nodes u (with_first Outgoing x e)) v (with_first Incoming y e)) edges' (with_edge g a b w)
-  Stores-edge_code a b p q u v e w u_is v_is p_is q_is e_is a_in b_in few from into x y from_is into_is x_is y_is room edges' reserved pushed =
-      let y_is' : y ≡ get_or (set nodes u (with_first Outgoing x (length edges))) v y = rw e_is at y_is in
-      rw (pushed, reserved, e_is, p_is, q_is, ← u_is, ← v_is) (Stores-edge_written u v w (omega (arith, a_in, u_is)) (omega (arith, b_in, v_is)) few from into x y from_is into_is x_is y_is')
+  pub Stores-edge_code : (a b e : ℕ) (w : E) → e ≡ length edges → a < length nodes → b < length nodes → length edges < end
+      → (nodes' : List (Node N Ix)) → map weight_of nodes' ≡ map weight_of nodes
+      → firsts_of Outgoing nodes' ≡ set (firsts_of Outgoing nodes) a e → firsts_of Incoming nodes' ≡ set (firsts_of Incoming nodes) b e
+      → (x : Edge E Ix) → x ≡ record { weight = w; parent = a; child = b; next_out = get_or (firsts_of Outgoing nodes) a 0; next_in = get_or (firsts_of Incoming nodes) b 0 }
+      → (edges' : List (Edge E Ix)) → edges' ≡ edges ++ x ∷ [] → Stores end nodes' edges' (with_edge g a b w)
+  Stores-edge_code a b e w e_is a_in b_in few nodes' weights outs ins x x_is edges' pushed =
+      rw (pushed, x_is) (Stores-edge a b w a_in b_in few nodes' weights (outs ∙ ap (set (firsts_of Outgoing nodes) a) e_is) (ins ∙ ap (set (firsts_of Incoming nodes) b) e_is))
 
-  pub Stores-node_code : (w : N) (first_out first_in : ℕ) → first_out ≡ end → first_in ≡ end → length nodes < end → (room nodes' : List (Node N Ix))
-      → room ≡ nodes → nodes' ≡ room ++ (record { weight = w; first_out = first_out; first_in = first_in }) ∷ [] → Stores end nodes' edges (with_node g w)
-  Stores-node_code w first_out first_in out_is in_is few room nodes' reserved pushed =
-      rw (pushed, reserved, out_is, in_is) (Stores-node w few)
-
--- what the code reads
-
-pub slice_get_mapped : {A B : Type 0} (f : A → B) (xs : List A) (i : ℕ) (x : A) → i < length xs → x ≡ get_or xs i x → slice_get (map f xs) i ≡ Some (f x)
-slice_get_mapped f xs i x within is = slice_get-map f xs i ∙ ap (option_map f) (slice_get_read xs (length xs) i x refl within is)
+  pub Stores-node_code : (w : N) → length nodes < end → (x : Node N Ix) → x ≡ record { weight = w; first_out = end; first_in = end }
+      → (nodes' : List (Node N Ix)) → nodes' ≡ nodes ++ x ∷ [] → Stores end nodes' edges (with_node g w)
+  Stores-node_code w few x x_is nodes' pushed = rw (pushed, x_is) (Stores-node w few)
 
 module _ {N E Ix : Type 0} (nodes : List (Node N Ix)) (edges : List (Edge E Ix)) where
   pub leads_to_read : (v e : ℕ) (x : Edge E Ix) → e < length edges → x ≡ get_or edges e x → leads_to (stored_graph nodes edges) v e ≡ eqb x.child v
   leads_to_read v e x within is =
       let P : Edge E Ix → PlainEdge E = λ z. record { parent = z.parent; child = z.child; weight = z.weight } in
       ap (λ o. unwrap_or (option_map (λ z. eqb z.child v) o) false) (slot_is P edges e x within is)
-
--- a write of one link
-
-module _ {N Ix : Type 0} (nodes : List (Node N Ix)) (i : ℕ) (x : Node N Ix) (new : ℕ) (is : x ≡ get_or nodes i x) where
-  pub KeepsNodes-set : (dir : Direction) → KeepsNodes dir nodes (set nodes i (with_first dir x new))
-  KeepsNodes-set Outgoing = record { weights = map-set_same weight_of nodes i x _ is refl; firsts = map-set_same (raw_first Incoming) nodes i x _ is refl }
-  KeepsNodes-set Incoming = record { weights = map-set_same weight_of nodes i x _ is refl; firsts = map-set_same (raw_first Outgoing) nodes i x _ is refl }
-
-  pub firsts_of-set : (dir : Direction) → firsts_of dir (set nodes i (with_first dir x new)) ≡ set (firsts_of dir nodes) i new
-  firsts_of-set Outgoing = map-set (raw_first Outgoing) nodes i _
-  firsts_of-set Incoming = map-set (raw_first Incoming) nodes i _
-
-module _ {E Ix : Type 0} (edges : List (Edge E Ix)) (i : ℕ) (x : Edge E Ix) (new : ℕ) (is : x ≡ get_or edges i x) where
-  pub KeepsEdges-set : (dir : Direction) → KeepsEdges dir edges (set edges i (with_next dir x new))
-  KeepsEdges-set Outgoing =
-      record {
-        edges = map-set_same plain_edge edges i x _ is refl;
-        ends = elim [ Outgoing ↦ map-set_same (end_at Outgoing) edges i x _ is refl | Incoming ↦ map-set_same (end_at Incoming) edges i x _ is refl ];
-        nexts = map-set_same (raw_next Incoming) edges i x _ is refl;
-      }
-  KeepsEdges-set Incoming =
-      record {
-        edges = map-set_same plain_edge edges i x _ is refl;
-        ends = elim [ Outgoing ↦ map-set_same (end_at Outgoing) edges i x _ is refl | Incoming ↦ map-set_same (end_at Incoming) edges i x _ is refl ];
-        nexts = map-set_same (raw_next Outgoing) edges i x _ is refl;
-      }
-
-  pub nexts_of-set : (dir : Direction) → nexts_of dir (set edges i (with_next dir x new)) ≡ set (nexts_of dir edges) i new
-  nexts_of-set Outgoing = map-set (raw_next Outgoing) edges i _
-  nexts_of-set Incoming = map-set (raw_next Incoming) edges i _
-
--- what `redirect` reads: the row's node, and the row's first edge
-pub redirect_reads : {N E Ix : Type 0} (nodes : List (Node N Ix)) (edges : List (Edge E Ix)) (dir : Direction) (old o n i first : ℕ) (x : Edge E Ix) (y : Node N Ix)
-    → old < length edges → get_or (ends_of dir edges) old 0 < length nodes → o ≡ old → x ≡ get_or edges o x → n ≡ end_at dir x → i ≡ n → y ≡ get_or nodes i y → first ≡ raw_first dir y
-    → (i ≡ get_or (ends_of dir edges) old 0) × (first ≡ get_or (firsts_of dir nodes) (get_or (ends_of dir edges) old 0) 0)
-redirect_reads nodes edges dir old o n i first x y old_in n_in o_is x_is n_is i_is y_is first_is =
-    let at_old : x ≡ get_or edges old x = x_is ∙ ap (λ z. get_or edges z x) o_is in
-    let node : i ≡ get_or (ends_of dir edges) old 0 = i_is ∙ n_is ∙ ap (end_at dir) at_old ∙ sym (get_or-map (end_at dir) edges old x 0 old_in) in
-    let at_n : y ≡ get_or nodes (get_or (ends_of dir edges) old 0) y = y_is ∙ ap (λ z. get_or nodes z y) node in
-    (node, first_is ∙ ap (raw_first dir) at_n ∙ sym (get_or-map (raw_first dir) nodes (get_or (ends_of dir edges) old 0) y 0 n_in))
 
 pub Stores-edge_weight : {N E Ix : Type 0} (end : ℕ) (nodes : List (Node N Ix)) (edges : List (Edge E Ix)) (g : Graph N E) → Stores end nodes edges g → (e : ℕ) (w : E) (x : Edge E Ix) → e < length edges → x ≡ get_or edges e x
     → Stores end nodes (set edges e (record x { weight = w })) (record g { edges = set g.edges e (option_map (reweighed w) (slot g.edges e)) })

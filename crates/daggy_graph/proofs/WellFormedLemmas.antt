@@ -7,16 +7,18 @@ use Rattle.daggy_base.specs.Graph.{Graph, Edge as PlainEdge, slot, edge_at, list
 use Rattle.daggy_base.specs.Cursor.{after, first_of, cursor_after}
 use Rattle.daggy_base.specs.Look.{IsLook}
 use Rattle.daggy_base.specs.WellFormed.{AreDistinct, ListsVacant, IsWellFormed}
-use Rattle.daggy_graph.specs.declared.graph.Node.{Node}
-use Rattle.daggy_graph.specs.declared.graph.Edge.{Edge}
+use Rattle.daggy_cells.specs.declared.cell.Node.{Node}
+use Rattle.daggy_cells.specs.declared.cell.Edge.{Edge}
 use Rattle.daggy_base.specs.declared.index.Direction.{Direction}
 use Rattle.daggy_base.specs.declared.index.Direction.TheVariants.{Outgoing, Incoming}
-use Rattle.daggy_graph.specs.Links.{row}
-use Rattle.daggy_graph.specs.Raw.{raw_first, raw_next}
-use Rattle.daggy_graph.specs.Stored.{weight_of, plain, plain_edge, end_at, firsts_of, ends_of, lists_at, stored_graph, Stores}
-use Rattle.daggy_graph.proofs.Rows.{Contains-nil}
-use Rattle.daggy_graph.proofs.Threads.{row_within, row_past}
-use Rattle.daggy_graph.proofs.StoredLemmas.{stored_is, Stores-itself, slot_holds, slot_is, slice_get_mapped}
+use Rattle.daggy_cells.specs.Links.{row}
+use Rattle.daggy_cells.specs.Raw.{raw_first, raw_next}
+use Rattle.daggy_cells.specs.Fields.{weight_of, plain, plain_edge, end_at, firsts_of, ends_of, lists_at}
+use Rattle.daggy_graph.specs.Stored.{stored_graph, Stores}
+use Rattle.daggy_cells.proofs.Rows.{Contains-nil}
+use Rattle.daggy_cells.proofs.Threads.{row_within, row_past}
+use Rattle.daggy_graph.proofs.StoredLemmas.{stored_is, Stores-itself}
+use Rattle.daggy_cells.proofs.FieldLemmas.{slot_holds, slot_is, slice_get_mapped}
 
 module _ {E Ix : Type 0} where
   end_is : (dir : Direction) (y : Edge E Ix) → near_end dir (record { parent = y.parent; child = y.child; weight = y.weight }) ≡ end_at dir y

@@ -4,7 +4,7 @@ use Rattle.std.specs.Borrow.{LendsIf, Fml, RattleType, MutBor}
 use mir.Syntax.{named}
 use Rattle.daggy_base.specs.State.{with_graph}
 use Rattle.daggy_base.specs.Weights.{with_node_weight, with_edge_weight}
-use Rattle.daggy_graph.specs.Lends.{IndexMembers}
+use Rattle.daggy_base.specs.IndexMembers.{IndexMembers}
 use Rattle.daggy_graph.specs.declared.graph.cursors.NodeWeightsMut.{NodeWeightsMut}
 use Rattle.daggy_graph.specs.declared.graph.cursors.EdgeWeightsMut.{EdgeWeightsMut}
 use Rattle.daggy_graph.specs.contracts.graph.cursors.NodeWeightsMut.{the_row as node_row}

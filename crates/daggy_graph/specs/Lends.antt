@@ -1,25 +1,10 @@
 -- What a graph ends as, where a `&mut` to one of its weights is returned.
-use Rattle.std.specs.Prelude.{◌≡◌, ℕ, Bool, List, Option}
+use Rattle.std.specs.Prelude.{Option}
 use Rattle.std.specs.Borrow.{Lends, LendsIf, Fml, RattleType, MutBor}
-use Rattle.std.specs.declared.cmp.Ordering.{Ordering}
 use Rattle.daggy_base.specs.State.{State, with_graph}
 use Rattle.daggy_base.specs.Weights.{with_node_weight, with_edge_weight}
 use Rattle.daggy_graph.specs.contracts.graph.DiGraph.{the_row}
-
--- what a clause has as Ix.IndexType
-abbrev pub IndexMembers : Type 0 → Type 0
-IndexMembers Ix =
-    record {
-      debug_output : Ix → Option (List ℕ);
-      hash_input : Ix → List (List ℕ);
-      partial_cmp : Ix → Ix → Option Ordering;
-      eq : Ix → Ix → Bool;
-      cmp : Ix → Ix → Ordering;
-      number : Ix → ℕ;
-      of : ℕ → Ix;
-      greatest : ℕ;
-      of_number : (i : Ix) → of (number i) ≡ i;
-    }
+use Rattle.daggy_base.specs.IndexMembers.{IndexMembers}
 
 -- the row of a graph
 abbrev pub graph_row : (N E Ix : RattleType) → IndexMembers Ix.Denot → RattleType

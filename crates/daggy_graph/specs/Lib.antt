@@ -1,17 +1,4 @@
-pub mod Links
-pub mod Raw
 pub mod Stored
 pub mod Lends
-pub mod Calls
-pub mod Cells
-pub mod Mapping
-pub mod MappedCells
-pub mod Rewriting
-pub mod Filtering
-pub mod Slots
-pub mod InPlace
 pub mod Names
-pub mod Iterating
-pub mod Referring
-pub mod Rest
 pub mod Cursors

@@ -9,13 +9,13 @@ ghost use Rattle.daggy_base.specs.State.{with_graph};
 ghost use Rattle.daggy_base.specs.declared.error.NodeError.TheVariants.{Memory as NodeMemory};
 ghost use Rattle.daggy_base.specs.declared.error.EdgeError.TheVariants.{Memory as EdgeMemory};
 
+mod changes;
 mod copy;
 mod count;
 pub mod cursors;
 mod debug;
 mod filter;
 pub mod iterators;
-pub mod links;
 pub mod lists;
 mod map;
 mod pairs;
@@ -27,34 +27,17 @@ mod source;
 mod store;
 mod weights;
 
-use crate::graph::links::{put_edge, put_node};
+use crate::graph::changes::{put_edge, put_node};
 pub use daggy_base::element::{Element, IntoWeightedEdge};
 use daggy_base::error::{EdgeError, NodeError};
 use daggy_base::index::{DefaultIx, Direction, EdgeIndex, IndexType, NodeIndex};
 use daggy_base::link::Link;
 use daggy_base::search::Looks;
+pub use daggy_cells::cell::{Edge, Node};
+use daggy_cells::links;
+pub use daggy_cells::reference::EdgeReference;
 use std::alloc::Global;
 use std::marker::Model;
-
-/// A node as it is stored: its weight, and the first edge of each of its lists.
-#[derive(Clone, Drop)]
-pub struct Node<N, Ix: IndexType = DefaultIx> {
-    /// The weight of the node.
-    pub weight: N,
-    first_out: Link<Ix>,
-    first_in: Link<Ix>,
-}
-
-/// An edge as it is stored: its weight, its ends, and the edge after it in each of its lists.
-#[derive(Clone, Drop)]
-pub struct Edge<E, Ix: IndexType = DefaultIx> {
-    /// The weight of the edge.
-    pub weight: E,
-    parent: Link<Ix>,
-    child: Link<Ix>,
-    next_out: Link<Ix>,
-    next_in: Link<Ix>,
-}
 
 /// A directed graph. Any number of edges may lead from one node to another, and an edge may lead from a node to
 /// itself.
@@ -168,7 +151,7 @@ impl<N, E, Ix: IndexType> DiGraph<N, E, Ix> {
         ensures { option_map (pair_of Ix.number) result ≡ option_map ends_of (edge_at self.now.graph (Ix.number e)) }
     {
         match self.edges.get(e.index()) {
-            Some(x) => Some((x.parent.node(), x.child.node())),
+            Some(x) => Some((x.source(), x.target())),
             None => None,
         }
     }
@@ -179,7 +162,7 @@ impl<N, E, Ix: IndexType> DiGraph<N, E, Ix> {
         ensures { Ix.number result ≡ first_of Ix.greatest (list_at dir self.now.graph (Ix.number n)) }
     {
         match self.nodes.get(n.index()) {
-            Some(x) => x.first(dir).edge(),
+            Some(x) => links::first(x, dir).edge(),
             None => EdgeIndex::end(),
         }
     }
@@ -191,7 +174,7 @@ impl<N, E, Ix: IndexType> DiGraph<N, E, Ix> {
         ensures { Ix.number result ≡ cursor_after dir Ix.greatest self.now.graph (Ix.number e) (edge_at self.now.graph (Ix.number e)) }
     {
         let x = &self.edges[e.index()];
-        x.next(dir).edge()
+        links::next(x, dir).edge()
     }
 
     /// The first edge from `a` to `b`, of those that leave `a`, if there is one.
@@ -205,17 +188,17 @@ impl<N, E, Ix: IndexType> DiGraph<N, E, Ix> {
         if u >= self.nodes.len() {
             return None;
         }
-        let mut e = self.nodes[u].first_out;
+        let mut e = links::first(&self.nodes[u], Direction::Outgoing);
         'along: loop {
             let i = e.index();
             if i >= self.edges.len() {
                 return None;
             }
             let x = &self.edges[i];
-            if x.child.index() == v {
+            if links::end(x, Direction::Incoming).index() == v {
                 return Some(e.edge());
             }
-            e = x.next_out;
+            e = links::next(x, Direction::Outgoing);
         }
     }
 }

@@ -9,15 +9,15 @@ use Rattle.daggy_base.specs.declared.index.Direction.{Direction}
 use Rattle.daggy_base.specs.declared.index.Direction.TheVariants.{Outgoing, Incoming}
 use Rattle.daggy_base.specs.Graph.{Graph, Edge as PlainEdge, slot, edge_at, near_end}
 use Rattle.daggy_base.specs.Cursor.{after}
-use Rattle.daggy_graph.specs.declared.graph.Node.{Node}
-use Rattle.daggy_graph.specs.declared.graph.Edge.{Edge}
-use Rattle.daggy_graph.specs.Links.{row, IsLinked, ListsBy}
-use Rattle.daggy_graph.specs.Raw.{raw_first, raw_next}
-use Rattle.daggy_graph.specs.Slots.{of_slots, lists_down, vacant_down}
-use Rattle.daggy_graph.specs.Stored.{firsts_of, nexts_of, lists_at}
-use Rattle.daggy_graph.proofs.Rows.{Contains-here, Contains-there, Contains-rest, after_here, after_there}
-use Rattle.daggy_graph.proofs.Threads.{slice_get-push_old, slice_get-push_new, slice_get-push_other, slice_get-set_other, row_push, linked_within, IsRow-kept, IsLinked-node, IsLinked-put, IsLinked-kept, ListsBy-put}
-use Rattle.daggy_graph.proofs.StoredLemmas.{same_graph}
+use Rattle.daggy_cells.specs.declared.cell.Node.{Node}
+use Rattle.daggy_cells.specs.declared.cell.Edge.{Edge}
+use Rattle.daggy_cells.specs.Links.{row, IsLinked, ListsBy}
+use Rattle.daggy_cells.specs.Raw.{raw_first, raw_next}
+use Rattle.daggy_base.specs.FromSlots.{of_slots, lists_down, vacant_down}
+use Rattle.daggy_cells.specs.Fields.{firsts_of, nexts_of, lists_at}
+use Rattle.daggy_cells.proofs.Rows.{Contains-here, Contains-there, Contains-rest, after_here, after_there}
+use Rattle.daggy_cells.proofs.Threads.{slice_get-push_old, slice_get-push_new, slice_get-push_other, slice_get-set_other, row_push, linked_within, IsRow-kept, IsLinked-node, IsLinked-put, IsLinked-kept, ListsBy-put}
+use Rattle.daggy_cells.proofs.FieldLemmas.{same_graph}
 use Rattle.daggy_stable.specs.Stored.{weight_of, plain_edge, shown, row_firsts, end_of, IsThreaded, Stores}
 use Rattle.daggy_stable.proofs.Descending.{slot_push_new, slot_push_other, slot_past, vacant_down_more, lists_down-node, lists_down-vacant, lists_down-edge}
 use Rattle.daggy_stable.proofs.Shown.{shown_some, shown-set, shown_push}

@@ -9,13 +9,13 @@ use Rattle.daggy_base.specs.Graph.{Graph, Edge as PlainEdge, slot, near_end}
 use Rattle.daggy_base.specs.Adding.{next_slot, next_edge, taken, rest_of, with_node, with_edge}
 use Rattle.daggy_base.proofs.Slots.{slot_taken_new}
 use Rattle.daggy_base.proofs.Neighbors.{free_slots, next_is_free}
-use Rattle.daggy_graph.specs.declared.graph.Node.{Node}
-use Rattle.daggy_graph.specs.declared.graph.Edge.{Edge}
-use Rattle.daggy_graph.specs.Links.{row, IsLinked, ListsBy}
-use Rattle.daggy_graph.specs.Raw.{raw_first, raw_next}
-use Rattle.daggy_graph.specs.Stored.{with_first, firsts_of, nexts_of, lists_at}
-use Rattle.daggy_graph.proofs.Threads.{slice_get-set_other, slice_get-set_same, slice_get-push_other, slice_get-push_old, slice_get-push_new, row_push, IsLinked-node, IsLinked-put, ListsBy-put}
-use Rattle.daggy_graph.proofs.StoredLemmas.{slice_get_mapped, map-set_same}
+use Rattle.daggy_cells.specs.declared.cell.Node.{Node}
+use Rattle.daggy_cells.specs.declared.cell.Edge.{Edge}
+use Rattle.daggy_cells.specs.Links.{row, IsLinked, ListsBy}
+use Rattle.daggy_cells.specs.Raw.{raw_first, raw_next}
+use Rattle.daggy_cells.specs.Fields.{firsts_of, nexts_of, lists_at}
+use Rattle.daggy_cells.proofs.Threads.{slice_get-set_other, slice_get-set_same, slice_get-push_other, slice_get-push_old, slice_get-push_new, row_push, IsLinked-node, IsLinked-put, ListsBy-put}
+use Rattle.daggy_cells.proofs.FieldLemmas.{slice_get_mapped}
 use Rattle.daggy_stable.specs.Stored.{weight_of, plain_edge, shown, row_firsts, end_of, IsThreaded, Stores}
 use Rattle.daggy_stable.proofs.Slots.{made, filled, rethreaded, slot_not_vacant, counted_full, vacant_none, vacant_some, vacant_inside}
 use Rattle.daggy_stable.proofs.Shown.{shown_some, shown-set, shown-fill, shown_push}
@@ -279,14 +279,3 @@ module _ {N E Ix : Type 0} {end : ℕ} {nodes : List (Node (Option N) Ix)} {edge
 
   pub node_inside : (n : ℕ) → IsSome (slot g.nodes n) → n < length nodes
   node_inside n p = let found = some_is _ p in slot_in nodes n found.0 (ap (λ l. slot l n) (sym s.nodes_are) ∙ found.1)
-
--- the first links of two nodes are written, which may be one node
-pub both_written : {N Ix : Type 0} (nodes : List (Node (Option N) Ix)) (a b u v e : ℕ) (x y x' y' : Node (Option N) Ix) → u ≡ a → v ≡ b → x ≡ get_or nodes u x → x' ≡ with_first Outgoing x e → y ≡ get_or (set nodes u x') v y → y' ≡ with_first Incoming y e
-    → (map weight_of (set (set nodes u x') v y') ≡ map weight_of nodes) × (firsts_of Outgoing (set (set nodes u x') v y') ≡ set (firsts_of Outgoing nodes) a e) × (firsts_of Incoming (set (set nodes u x') v y') ≡ set (firsts_of Incoming nodes) b e)
-both_written nodes a b u v e x y x' y' u_is v_is x_is x'_is y_is y'_is =
-    let first = set nodes u x' in (
-      map-set_same weight_of first v y y' y_is (ap weight_of y'_is) ∙ map-set_same weight_of nodes u x x' x_is (ap weight_of x'_is),
-      map-set_same (raw_first Outgoing) first v y y' y_is (ap (raw_first Outgoing) y'_is) ∙ map-set (raw_first Outgoing) nodes u x' ∙ ap (set (firsts_of Outgoing nodes) u) (ap (raw_first Outgoing) x'_is) ∙ ap (λ z. set (firsts_of Outgoing nodes) z e) u_is,
-      map-set (raw_first Incoming) first v y' ∙ ap (λ l. set l v (raw_first Incoming y')) (map-set_same (raw_first Incoming) nodes u x x' x_is (ap (raw_first Incoming) x'_is)) ∙ ap (set (firsts_of Incoming nodes) v) (ap (raw_first Incoming) y'_is)
-          ∙ ap (λ z. set (firsts_of Incoming nodes) z e) v_is,
-    )

@@ -2,9 +2,9 @@
 use Rattle.std.proofs.Common.{◌≡◌, ℕ, List, Option, Some, None, refl, sym, ap, subst, ◌∙◌}
 use Rattle.daggy_base.specs.Graph.{Graph}
 use Rattle.daggy_base.specs.State.{State}
-use Rattle.daggy_graph.specs.declared.graph.Node.{Node}
-use Rattle.daggy_graph.specs.declared.graph.Edge.{Edge}
-use Rattle.daggy_graph.proofs.CloneLemmas.{state_of}
+use Rattle.daggy_cells.specs.declared.cell.Node.{Node}
+use Rattle.daggy_cells.specs.declared.cell.Edge.{Edge}
+use Rattle.daggy_cells.proofs.CloneLemmas.{state_of}
 use Rattle.daggy_stable.specs.Stored.{stored_graph, Stores}
 
 -- where a clone of what is there equals it, and only vacant slots give vacant ones

@@ -9,12 +9,12 @@ use Rattle.daggy_base.specs.declared.index.Direction.TheVariants.{Outgoing, Inco
 use Rattle.daggy_base.specs.Cursor.{first_of, after, cursor_after}
 use Rattle.daggy_base.specs.Graph.{Graph, Edge as PlainEdge, slot, edge_at, list_at, near_end, IsCompact}
 use Rattle.daggy_base.specs.WellFormed.{IsWellFormed, AreDistinct}
-use Rattle.daggy_graph.specs.declared.graph.Node.{Node}
-use Rattle.daggy_graph.specs.declared.graph.Edge.{Edge}
-use Rattle.daggy_graph.specs.Links.{row, IsRow, IsLinked, ListsBy}
-use Rattle.daggy_graph.specs.Raw.{raw_first, raw_next, ShowsNodes, ShowsEdges}
-use Rattle.daggy_graph.specs.Stored.{firsts_of, nexts_of, lists_at}
-use Rattle.daggy_graph.proofs.Rows.{Contains-nil}
+use Rattle.daggy_cells.specs.declared.cell.Node.{Node}
+use Rattle.daggy_cells.specs.declared.cell.Edge.{Edge}
+use Rattle.daggy_cells.specs.Links.{row, IsRow, IsLinked, ListsBy}
+use Rattle.daggy_cells.specs.Raw.{raw_first, raw_next, ShowsNodes, ShowsEdges}
+use Rattle.daggy_cells.specs.Fields.{firsts_of, nexts_of, lists_at}
+use Rattle.daggy_cells.proofs.Rows.{Contains-nil}
 use Rattle.daggy_stable.specs.Room.{slotted_node, slotted_edge}
 use Rattle.daggy_stable.specs.Stored.{weight_of, plain_edge, row_firsts, end_of, IsThreaded, Stores}
 use Rattle.daggy_stable.proofs.Slots.{slot_inside}

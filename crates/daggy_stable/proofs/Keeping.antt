@@ -8,9 +8,9 @@ use Rattle.std.proofs.lemmas.Option.{same_Some, none-some}
 use Rattle.std.proofs.lemmas.Simd.{map-map}
 use Rattle.daggy_base.specs.Graph.{Edge as PlainEdge, slot, bound_of}
 use Rattle.daggy_base.proofs.Nodes.{bound_low}
-use Rattle.daggy_graph.specs.declared.graph.Edge.{Edge}
-use Rattle.daggy_graph.specs.Mapping.{CalledAt, weight_in}
-use Rattle.daggy_graph.specs.InPlace.{KeepsSlots, if_joined}
+use Rattle.daggy_cells.specs.declared.cell.Edge.{Edge}
+use Rattle.daggy_base.specs.Mapping.{CalledAt, weight_in}
+use Rattle.daggy_base.specs.FilteringInPlace.{KeepsSlots, if_joined}
 use Rattle.daggy_stable.specs.Stored.{plain, plain_edge}
 
 module _ {F I W V A B : Type 0} (step : F → I → Bor W → Option V → F → Type 0) (of : ℕ → I) (weight : A → W) (with : A → V → B) where

@@ -5,15 +5,15 @@ use Rattle.std.proofs.lemmas.List.{length-map}
 use Rattle.daggy_base.specs.declared.index.Direction.{Direction}
 use Rattle.daggy_base.specs.Cursor.{first_of}
 use Rattle.daggy_base.specs.Graph.{Graph, Edge as PlainEdge, slot, list_at}
-use Rattle.daggy_graph.specs.declared.graph.Node.{Node}
-use Rattle.daggy_graph.specs.declared.graph.Edge.{Edge}
-use Rattle.daggy_graph.specs.Iterating.{edges_at}
-use Rattle.daggy_graph.specs.Links.{row, IsRow}
-use Rattle.daggy_graph.specs.Raw.{raw_next}
-use Rattle.daggy_graph.specs.Stored.{nexts_of, lists_at, walk}
-use Rattle.daggy_graph.proofs.Rows.{row_is, Contains-here, Contains-there}
-use Rattle.daggy_graph.proofs.RestLemmas.{step_on, IsOnRow-step, follow_past, follow_few, filter_map_few}
-use Rattle.daggy_graph.proofs.StoredLemmas.{slot_read}
+use Rattle.daggy_cells.specs.declared.cell.Node.{Node}
+use Rattle.daggy_cells.specs.declared.cell.Edge.{Edge}
+use Rattle.daggy_base.specs.Iterating.{edges_at}
+use Rattle.daggy_cells.specs.Links.{row, IsRow}
+use Rattle.daggy_cells.specs.Raw.{raw_next}
+use Rattle.daggy_cells.specs.Fields.{nexts_of, lists_at, walk}
+use Rattle.daggy_cells.proofs.Rows.{row_is, Contains-here, Contains-there}
+use Rattle.daggy_cells.proofs.RestLemmas.{step_on, IsOnRow-step, follow_past, follow_few, filter_map_few}
+use Rattle.daggy_cells.proofs.FieldLemmas.{slot_read}
 use Rattle.daggy_stable.specs.Rest.{numbered_edge, edges_left, IsOnFullRow}
 use Rattle.daggy_stable.specs.Stored.{plain_edge, Stores}
 use Rattle.daggy_stable.proofs.Scanning.{plain_some}

@@ -8,14 +8,14 @@ use Rattle.std.specs.Option.{option_map}
 use Rattle.daggy_base.specs.declared.index.Direction.{Direction}
 use Rattle.daggy_base.specs.declared.index.Direction.TheVariants.{Outgoing, Incoming}
 use Rattle.daggy_base.specs.Graph.{Graph, Edge as PlainEdge, slot, near_end}
-use Rattle.daggy_graph.specs.declared.graph.Node.{Node}
-use Rattle.daggy_graph.specs.declared.graph.Edge.{Edge}
-use Rattle.daggy_graph.specs.Links.{follow, rows_of, row, IsRow, IsLinked, ListsBy}
-use Rattle.daggy_graph.specs.Mapping.{CalledAt, MapsSlots, IsMapped, weight_in, with_weight}
-use Rattle.daggy_graph.specs.MappedCells.{node_with, edge_with}
-use Rattle.daggy_graph.specs.Raw.{raw_first, raw_next}
-use Rattle.daggy_graph.specs.Stored.{firsts_of, nexts_of}
-use Rattle.daggy_graph.proofs.MappingLemmas.{mapped_length}
+use Rattle.daggy_cells.specs.declared.cell.Node.{Node}
+use Rattle.daggy_cells.specs.declared.cell.Edge.{Edge}
+use Rattle.daggy_cells.specs.Links.{follow, rows_of, row, IsRow, IsLinked, ListsBy}
+use Rattle.daggy_base.specs.Mapping.{CalledAt, MapsSlots, IsMapped, weight_in, with_weight}
+use Rattle.daggy_cells.specs.MappedCells.{node_with, edge_with}
+use Rattle.daggy_cells.specs.Raw.{raw_first, raw_next}
+use Rattle.daggy_cells.specs.Fields.{firsts_of, nexts_of}
+use Rattle.daggy_cells.proofs.MappingLemmas.{mapped_length}
 use Rattle.daggy_stable.specs.Stored.{weight_of, plain_edge, shown, row_firsts, end_of, stored_graph, IsThreaded, Stores}
 use Rattle.daggy_stable.proofs.Slots.{count_cons}
 

@@ -8,13 +8,12 @@ use Rattle.std.specs.Option.{option_map}
 use Rattle.daggy_base.specs.Graph.{Graph, slot, node_weight, edge_at}
 use Rattle.daggy_base.specs.State.{State}
 use Rattle.daggy_base.specs.Weights.{edge_weight, with_node_weight, with_edge_weight, reweighed}
-use Rattle.daggy_graph.specs.declared.graph.Node.{Node}
-use Rattle.daggy_graph.specs.declared.graph.Edge.{Edge}
-use Rattle.daggy_graph.specs.Calls.{CalledAtTwo}
-use Rattle.daggy_graph.specs.Cells.{changed_at, node_of_weight, edge_of_weight}
-use Rattle.daggy_graph.proofs.CellLemmas.{changed_is_set, length-changed}
-use Rattle.daggy_graph.proofs.PairLemmas.{called_at}
-use Rattle.daggy_graph.proofs.StoredLemmas.{slot_read}
+use Rattle.daggy_cells.specs.declared.cell.Node.{Node}
+use Rattle.daggy_cells.specs.declared.cell.Edge.{Edge}
+use Rattle.daggy_base.specs.Calls.{CalledAtTwo}
+use Rattle.daggy_cells.specs.Cells.{changed_at, node_of_weight, edge_of_weight}
+use Rattle.daggy_cells.proofs.CellLemmas.{changed_is_set, length-changed, called_at}
+use Rattle.daggy_cells.proofs.FieldLemmas.{slot_read}
 use Rattle.daggy_stable.specs.Cells.{node_weight_in, edge_weight_in, with_node_weights, with_edge_weights}
 use Rattle.daggy_stable.specs.Stored.{weight_of, plain_edge, stored_graph, Stores}
 use Rattle.daggy_stable.proofs.Changes.{node_inside}

@@ -3,8 +3,8 @@ use Rattle.std.proofs.Common.{◌≡◌, ℕ, ◌+◌, ◌≤◌, Bool, true, fa
 use Rattle.std.specs.Option.{option_map}
 use Rattle.std.proofs.lemmas.Bool.{not-true, not-false}
 use Rattle.std.proofs.lemmas.Option.{same_Some, none-some}
-use Rattle.daggy_graph.specs.declared.graph.Edge.{Edge}
-use Rattle.daggy_graph.specs.Iterating.{numbered}
+use Rattle.daggy_cells.specs.declared.cell.Edge.{Edge}
+use Rattle.daggy_base.specs.Iterating.{numbered}
 use Rattle.daggy_stable.specs.Slots.{next_full}
 use Rattle.daggy_stable.specs.Stored.{plain, plain_edge}
 use Rattle.daggy_stable.proofs.Scanning.{none_from, some_from}

@@ -10,16 +10,16 @@ use Rattle.daggy_base.specs.Graph.{Graph, Edge as PlainEdge, slot, edge_at, list
 use Rattle.daggy_base.specs.Cursor.{first_of}
 use Rattle.daggy_base.specs.Removal.{Stable, without, renamed, without_edge, dropped_node, without_all_edges}
 use Rattle.daggy_base.specs.Taking.{taken_back, node_taken_back}
-use Rattle.daggy_graph.specs.declared.graph.Node.{Node}
-use Rattle.daggy_graph.specs.declared.graph.Edge.{Edge}
-use Rattle.daggy_graph.specs.Links.{row, IsRow, IsLinked, ListsBy, Redirected}
-use Rattle.daggy_graph.specs.Raw.{raw_first, raw_next}
-use Rattle.daggy_graph.specs.Stored.{with_first, with_next, firsts_of, nexts_of, ends_of, end_at, lists_at, weight_of as stored_weight, plain_edge as stored_edge, IsReady, Redirects}
-use Rattle.daggy_graph.proofs.Rows.{Contains-nil, Contains-from_without}
-use Rattle.daggy_graph.proofs.Threads.{slice_get-set_other, slice_get-set_same, slice_get-take, slice_get-take_past, row-map, row_past, row_within, IsRow-at, IsLinked-kept, IsLinked-unlinked, ListsBy-without, linked_within, IsLinked-none, ListsBy-none}
-use Rattle.daggy_graph.proofs.StoredLemmas.{slot_read}
-use Rattle.daggy_graph.proofs.Clearing.{map_so_far}
-use Rattle.daggy_graph.proofs.RemovalLemmas.{Step, Ready-row, Redirected-walk}
+use Rattle.daggy_cells.specs.declared.cell.Node.{Node}
+use Rattle.daggy_cells.specs.declared.cell.Edge.{Edge}
+use Rattle.daggy_cells.specs.Links.{row, IsRow, IsLinked, ListsBy, Redirected}
+use Rattle.daggy_cells.specs.Raw.{raw_first, raw_next}
+use Rattle.daggy_cells.specs.Fields.{with_first, with_next, firsts_of, nexts_of, ends_of, end_at, lists_at, weight_of as stored_weight, plain_edge as stored_edge, IsReady, Redirects}
+use Rattle.daggy_cells.proofs.Rows.{Contains-nil, Contains-from_without}
+use Rattle.daggy_cells.proofs.Threads.{slice_get-set_other, slice_get-set_same, slice_get-take, slice_get-take_past, row-map, row_past, row_within, IsRow-at, IsLinked-kept, IsLinked-unlinked, ListsBy-without, linked_within, IsLinked-none, ListsBy-none}
+use Rattle.daggy_cells.proofs.FieldLemmas.{slot_read}
+use Rattle.daggy_cells.proofs.EmptyLists.{map_so_far}
+use Rattle.daggy_cells.proofs.RedirectLemmas.{Step, Ready-row, Redirected-walk}
 use Rattle.daggy_stable.specs.Stored.{weight_of, plain, plain_edge, shown, row_firsts, end_of, links_emptied, emptied, IsThreaded, Stores}
 use Rattle.daggy_stable.proofs.Slots.{rethreaded, vacated, cut, slot_not_vacant, not_listed, count_vacate}
 use Rattle.daggy_stable.proofs.Shown.{length-shown, shown_some, shown-set, shown-set_vacant, shown-vacate, shown-take}
@@ -28,7 +28,7 @@ use Rattle.daggy_stable.proofs.Changes.{node_inside}
 
 -- what is seen of stored nodes and edges, by less
 
-weights_seen : {N Ix : Type 0} (xs ys : List (Node (Option N) Ix)) → map stored_weight xs ≡ map stored_weight ys → map weight_of xs ≡ map weight_of ys
+pub weights_seen : {N Ix : Type 0} (xs ys : List (Node (Option N) Ix)) → map stored_weight xs ≡ map stored_weight ys → map weight_of xs ≡ map weight_of ys
 weights_seen {N} {Ix} xs ys same =
     let join : Option (Option N) → Option N = option_and_then (λ z. z) in
     sym (joined xs) ∙ ap (map join) same ∙ joined ys

@@ -8,12 +8,12 @@ use Rattle.daggy_base.specs.declared.index.Direction.TheVariants.{Outgoing, Inco
 use Rattle.daggy_base.specs.Graph.{Graph, Edge as PlainEdge, slot, edge_at, bound_of, bound_step}
 use Rattle.daggy_base.specs.Finding.{leads_to, find_edge}
 use Rattle.daggy_base.specs.Cursor.{first_of}
-use Rattle.daggy_graph.specs.declared.graph.Node.{Node}
-use Rattle.daggy_graph.specs.declared.graph.Edge.{Edge}
-use Rattle.daggy_graph.specs.Stored.{end_at, nexts_of, ends_of, lists_at}
-use Rattle.daggy_graph.specs.Links.{row}
-use Rattle.daggy_graph.proofs.Rows.{Contains-here, Contains-there, IsScan}
-use Rattle.daggy_graph.proofs.StoredLemmas.{slot_read}
+use Rattle.daggy_cells.specs.declared.cell.Node.{Node}
+use Rattle.daggy_cells.specs.declared.cell.Edge.{Edge}
+use Rattle.daggy_cells.specs.Fields.{end_at, nexts_of, ends_of, lists_at}
+use Rattle.daggy_cells.specs.Links.{row}
+use Rattle.daggy_cells.proofs.Rows.{Contains-here, Contains-there, IsScan}
+use Rattle.daggy_cells.proofs.FieldLemmas.{slot_read}
 use Rattle.daggy_stable.specs.Stored.{plain, plain_edge, Stores}
 use Rattle.daggy_stable.proofs.Stores.{reads_itself, end_back, edge_within, end_stored, row_from}
 

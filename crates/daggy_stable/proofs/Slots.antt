@@ -9,9 +9,9 @@ use Rattle.daggy_base.specs.Graph.{slot}
 use Rattle.daggy_base.specs.Cursor.{first_of, after}
 use Rattle.daggy_base.proofs.Reading.{slot_get}
 use Rattle.daggy_base.proofs.Full.{count_full, full_from}
-use Rattle.daggy_graph.specs.Links.{follow, IsRow}
-use Rattle.daggy_graph.proofs.Rows.{Contains-nil, Contains-here, Contains-there, Contains-rest, after_here, after_there, row_is, IsRow-tail}
-use Rattle.daggy_graph.proofs.Threads.{slice_get-set_same, slice_get-set_other, slice_get-push_new, slice_get-push_other, slice_get-take, slice_get-take_past, IsRow-kept}
+use Rattle.daggy_cells.specs.Links.{follow, IsRow}
+use Rattle.daggy_cells.proofs.Rows.{Contains-nil, Contains-here, Contains-there, Contains-rest, after_here, after_there, row_is, IsRow-tail}
+use Rattle.daggy_cells.proofs.Threads.{slice_get-set_same, slice_get-set_other, slice_get-push_new, slice_get-push_other, slice_get-take, slice_get-take_past, IsRow-kept}
 use Rattle.daggy_stable.specs.Stored.{IsThreaded}
 
 module _ {A : Type 0} where

@@ -10,14 +10,14 @@ use Rattle.daggy_base.specs.Graph.{empty, Graph, Edge as PlainEdge, slot, edge_a
 use Rattle.daggy_base.specs.Cursor.{first_of, after, cursor_after}
 use Rattle.daggy_base.specs.Look.{IsLook}
 use Rattle.daggy_base.specs.WellFormed.{IsWellFormed}
-use Rattle.daggy_graph.specs.declared.graph.Node.{Node}
-use Rattle.daggy_graph.specs.declared.graph.Edge.{Edge}
-use Rattle.daggy_graph.specs.Links.{row, IsRow}
-use Rattle.daggy_graph.specs.Raw.{raw_first, raw_next}
-use Rattle.daggy_graph.specs.Stored.{end_at, firsts_of, nexts_of, lists_at}
-use Rattle.daggy_graph.proofs.Rows.{Contains-nil, Contains-here}
-use Rattle.daggy_graph.proofs.Threads.{row_within, row_past, rows_are, linked_within}
-use Rattle.daggy_graph.proofs.StoredLemmas.{same_graph, slot_read, slot_beyond, slice_get_mapped}
+use Rattle.daggy_cells.specs.declared.cell.Node.{Node}
+use Rattle.daggy_cells.specs.declared.cell.Edge.{Edge}
+use Rattle.daggy_cells.specs.Links.{row, IsRow}
+use Rattle.daggy_cells.specs.Raw.{raw_first, raw_next}
+use Rattle.daggy_cells.specs.Fields.{end_at, firsts_of, nexts_of, lists_at}
+use Rattle.daggy_cells.proofs.Rows.{Contains-nil, Contains-here}
+use Rattle.daggy_cells.proofs.Threads.{row_within, row_past, rows_are, linked_within}
+use Rattle.daggy_cells.proofs.FieldLemmas.{same_graph, slot_read, slot_beyond, slice_get_mapped}
 use Rattle.daggy_stable.specs.Stored.{weight_of, plain, plain_edge, row_firsts, end_of, stored_graph, IsThreaded, Stores}
 use Rattle.daggy_stable.proofs.Slots.{vacant_is}
 use Rattle.daggy_stable.proofs.Shown.{length-shown, shown_some, shown_none}

@@ -7,13 +7,13 @@ use Rattle.daggy_base.specs.declared.index.Direction.{Direction}
 use Rattle.daggy_base.specs.declared.index.Direction.TheVariants.{Outgoing, Incoming}
 use Rattle.daggy_base.specs.Graph.{Graph, Edge as PlainEdge, slot, edge_at, near_end}
 use Rattle.daggy_base.specs.Weights.{with_node_weight, with_edge_weight, reweighed}
-use Rattle.daggy_graph.specs.declared.graph.Node.{Node}
-use Rattle.daggy_graph.specs.declared.graph.Edge.{Edge}
-use Rattle.daggy_graph.specs.Links.{IsLinked, ListsBy}
-use Rattle.daggy_graph.specs.Raw.{raw_first, raw_next}
-use Rattle.daggy_graph.specs.Stored.{firsts_of, nexts_of, lists_at}
-use Rattle.daggy_graph.proofs.Threads.{slice_get-set_same, slice_get-set_other}
-use Rattle.daggy_graph.proofs.StoredLemmas.{map-set_same}
+use Rattle.daggy_cells.specs.declared.cell.Node.{Node}
+use Rattle.daggy_cells.specs.declared.cell.Edge.{Edge}
+use Rattle.daggy_cells.specs.Links.{IsLinked, ListsBy}
+use Rattle.daggy_cells.specs.Raw.{raw_first, raw_next}
+use Rattle.daggy_cells.specs.Fields.{firsts_of, nexts_of, lists_at}
+use Rattle.daggy_cells.proofs.Threads.{slice_get-set_same, slice_get-set_other}
+use Rattle.daggy_cells.proofs.FieldLemmas.{map-set_same}
 use Rattle.daggy_stable.specs.Stored.{weight_of, plain_edge, shown, row_firsts, end_of, IsThreaded, Stores}
 use Rattle.daggy_stable.proofs.Slots.{renewed, slot_inside}
 use Rattle.daggy_stable.proofs.Shown.{shown-renew}

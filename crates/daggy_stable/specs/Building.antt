@@ -1,9 +1,9 @@
 -- How slots are made one by one. No public clause cites this module.
 use Rattle.std.specs.Prelude.{ℕ, Option, map}
 use Rattle.daggy_base.specs.Graph.{Edge as PlainEdge}
-use Rattle.daggy_graph.specs.declared.graph.Node.{Node}
-use Rattle.daggy_graph.specs.declared.graph.Edge.{Edge}
-use Rattle.daggy_graph.specs.Slots.{of_slots}
+use Rattle.daggy_cells.specs.declared.cell.Node.{Node}
+use Rattle.daggy_cells.specs.declared.cell.Edge.{Edge}
+use Rattle.daggy_base.specs.FromSlots.{of_slots}
 use Rattle.daggy_stable.specs.declared.stable_graph.filter.Slots.{Slots}
 use Rattle.daggy_stable.specs.Stored.{weight_of, plain_edge, Stores}
 

@@ -2,9 +2,9 @@
 use Rattle.std.specs.Prelude.{ℕ, Option, Some, List, map}
 use Rattle.std.specs.Option.{option_map}
 use Rattle.daggy_base.specs.Graph.{slot}
-use Rattle.daggy_graph.specs.declared.graph.Node.{Node}
-use Rattle.daggy_graph.specs.declared.graph.Edge.{Edge}
-use Rattle.daggy_graph.specs.Cells.{changed_at, node_of_weight, edge_of_weight}
+use Rattle.daggy_cells.specs.declared.cell.Node.{Node}
+use Rattle.daggy_cells.specs.declared.cell.Edge.{Edge}
+use Rattle.daggy_cells.specs.Cells.{changed_at, node_of_weight, edge_of_weight}
 use Rattle.daggy_stable.specs.Stored.{weight_of, plain_edge}
 
 -- the weight of the node there, if the slot is not vacant

@@ -3,7 +3,7 @@ use Rattle.std.specs.Prelude.{Option}
 use Rattle.std.specs.Borrow.{Lends, LendsIf, Fml, RattleType, MutBor}
 use Rattle.daggy_base.specs.State.{State, with_graph}
 use Rattle.daggy_base.specs.Weights.{with_node_weight, with_edge_weight}
-use Rattle.daggy_graph.specs.Lends.{IndexMembers}
+use Rattle.daggy_base.specs.IndexMembers.{IndexMembers}
 use Rattle.daggy_stable.specs.contracts.stable_graph.StableDiGraph.{the_row}
 
 -- the row of a graph

@@ -4,9 +4,9 @@ use Rattle.std.specs.List.{filter_map}
 use Rattle.std.specs.Option.{option_map}
 use Rattle.daggy_base.specs.declared.index.Direction.{Direction}
 use Rattle.daggy_base.specs.Graph.{Edge as PlainEdge, slot}
-use Rattle.daggy_graph.specs.declared.graph.Edge.{Edge}
-use Rattle.daggy_graph.specs.Rest.{IsOnRow}
-use Rattle.daggy_graph.specs.Stored.{walk}
+use Rattle.daggy_cells.specs.declared.cell.Edge.{Edge}
+use Rattle.daggy_cells.specs.Rest.{IsOnRow}
+use Rattle.daggy_cells.specs.Fields.{walk}
 use Rattle.daggy_stable.specs.Stored.{plain_edge}
 
 -- what a slot holds, with its index

@@ -1,7 +1,7 @@
 -- How a compact graph's nodes and edges are stored in slots. No public clause cites this module.
 use Rattle.std.specs.Prelude.{Some, Option}
-use Rattle.daggy_graph.specs.declared.graph.Node.{Node}
-use Rattle.daggy_graph.specs.declared.graph.Edge.{Edge}
+use Rattle.daggy_cells.specs.declared.cell.Node.{Node}
+use Rattle.daggy_cells.specs.declared.cell.Edge.{Edge}
 
 abbrev pub slotted_node : {N Ix : Type 0} → Node N Ix → Node (Option N) Ix
 slotted_node x = record { weight = Some x.weight; first_out = x.first_out; first_in = x.first_in }

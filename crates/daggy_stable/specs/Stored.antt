@@ -4,10 +4,10 @@ use Rattle.std.specs.Option.{option_map}
 use Rattle.daggy_base.specs.declared.index.Direction.{Direction}
 use Rattle.daggy_base.specs.declared.index.Direction.TheVariants.{Outgoing, Incoming}
 use Rattle.daggy_base.specs.Graph.{Graph, Edge as PlainEdge, edge_at, near_end}
-use Rattle.daggy_graph.specs.declared.graph.Node.{Node}
-use Rattle.daggy_graph.specs.declared.graph.Edge.{Edge}
-use Rattle.daggy_graph.specs.Links.{follow, rows_of, IsRow, IsLinked, ListsBy}
-use Rattle.daggy_graph.specs.Stored.{firsts_of, nexts_of, lists_at}
+use Rattle.daggy_cells.specs.declared.cell.Node.{Node}
+use Rattle.daggy_cells.specs.declared.cell.Edge.{Edge}
+use Rattle.daggy_cells.specs.Links.{follow, rows_of, IsRow, IsLinked, ListsBy}
+use Rattle.daggy_cells.specs.Fields.{firsts_of, nexts_of, lists_at}
 
 abbrev pub weight_of : {N Ix : Type 0} → Node (Option N) Ix → Option N
 weight_of x = x.weight

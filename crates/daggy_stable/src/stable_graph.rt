@@ -26,7 +26,8 @@ mod weights;
 use daggy_base::index::{DefaultIx, Direction, EdgeIndex, IndexType, NodeIndex};
 use daggy_base::link::Link;
 use daggy_base::search::Looks;
-use daggy_graph::graph::{Edge, Node};
+use daggy_cells::cell::{Edge, Node};
+use daggy_cells::links;
 pub use room::Room;
 use std::alloc::Global;
 use std::marker::Model;
@@ -103,8 +104,8 @@ impl<N, E, Ix: IndexType> StableDiGraph<N, E, Ix> {
                 if x.weight.is_none() {
                     return None;
                 }
-                let parent = x.end(Direction::Outgoing);
-                let child = x.end(Direction::Incoming);
+                let parent = links::end(x, Direction::Outgoing);
+                let child = links::end(x, Direction::Incoming);
                 Some((parent.node(), child.node()))
             }
             None => None,
@@ -121,7 +122,7 @@ impl<N, E, Ix: IndexType> StableDiGraph<N, E, Ix> {
                 if x.weight.is_none() {
                     return EdgeIndex::end();
                 }
-                x.first(dir).edge()
+                links::first(x, dir).edge()
             }
             None => EdgeIndex::end(),
         }
@@ -134,7 +135,7 @@ impl<N, E, Ix: IndexType> StableDiGraph<N, E, Ix> {
         ensures { Ix.number result ≡ cursor_after dir Ix.greatest self.now.graph (Ix.number e) (edge_at self.now.graph (Ix.number e)) }
     {
         let x = &self.edges[e.index()];
-        x.next(dir).edge()
+        links::next(x, dir).edge()
     }
 
     /// The first edge from `a` to `b`, of those that leave `a`, if there is one.
@@ -151,10 +152,10 @@ impl<N, E, Ix: IndexType> StableDiGraph<N, E, Ix> {
                 return None;
             }
             let x = &self.edges[i];
-            if x.end(Direction::Incoming).index() == v {
+            if links::end(x, Direction::Incoming).index() == v {
                 return Some(e.edge());
             }
-            e = x.next(Direction::Outgoing);
+            e = links::next(x, Direction::Outgoing);
         }
     }
 }

@@ -2,7 +2,7 @@
 use Rattle.std.specs.Prelude.{◌≡◌, ℕ, ◌+◌, ◌==◌, Option, Some, None, [], ◌∷◌, if◌then◌else◌}
 use Rattle.std.specs.Borrow.{Bor}
 use Rattle.daggy_base.specs.Graph.{Graph}
-use Rattle.daggy_graph.specs.Slots.{of_slots}
+use Rattle.daggy_base.specs.FromSlots.{of_slots}
 use Rattle.daggy_tests.specs.Examples.{line}
 
 abbrev pub unless_ten : ℕ → Option ℕ

@@ -1,15 +1,17 @@
 //! The part of a graph that closures keep.
 ghost use Rattle.std.specs.Prelude.{◌≡◌, ◌+◌, ◌<◌, ◌≤◌, [], ◌∷◌, ◌++◌, map, length, vec_len, vec_capacity, IfOk};
 ghost use Rattle.daggy_base.specs.Graph.{empty, slot};
-ghost use Rattle.daggy_graph.specs.Stored.{stored_graph, Stores, weight_of, plain_edge};
-ghost use Rattle.daggy_graph.specs.Filtering.{kept_node, named, kept_edge, both, FiltersNodes, FiltersEdges, IsFiltered, ListsDescend, HaveSameEnds};
+ghost use Rattle.daggy_graph.specs.Stored.{stored_graph, Stores};
+ghost use Rattle.daggy_cells.specs.Fields.{weight_of, plain_edge};
+ghost use Rattle.daggy_base.specs.Filtering.{kept_node, named, kept_edge, both, FiltersNodes, FiltersEdges, IsFiltered, ListsDescend, HaveSameEnds};
 ghost use Rattle.daggy_graph.specs.Names.{AreNamesBelow};
 
-use crate::graph::links::{put_edge, put_node};
+use crate::graph::changes::{put_edge, put_node};
 use crate::graph::{DiGraph, Edge, Node};
-use daggy_base::index::{EdgeIndex, IndexType, NodeIndex};
+use daggy_base::index::{Direction, EdgeIndex, IndexType, NodeIndex};
 use daggy_base::link::Link;
 use daggy_base::search::Looks;
+use daggy_cells::links;
 use std::alloc::AllocError;
 
 // Adds the node if there is a weight for it, and notes its new index.
@@ -83,7 +85,9 @@ fn kept_ends<E, Ix: IndexType>(
 ) -> Option<(Link<Ix>, Link<Ix>)>
     ensures { result ≡ both (slot names.now.items x.now.parent) (slot names.now.items x.now.child) }
 {
-    match (name_of(names, x.parent), name_of(names, x.child)) {
+    let parent = links::end(x, Direction::Outgoing);
+    let child = links::end(x, Direction::Incoming);
+    match (name_of(names, parent), name_of(names, child)) {
         (Some(a), Some(b)) => Some((a, b)),
         _ => None,
     }

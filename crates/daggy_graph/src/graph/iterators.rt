@@ -1,13 +1,14 @@
 //! Going over all nodes, or over all edges.
 ghost use Rattle.std.specs.Prelude.{◌≡◌, ◌<◌, ◌^◌, length};
 ghost use Rattle.std.specs.Iterator.{YieldsFirstRef, YieldsFirstBy, item_count};
-ghost use Rattle.daggy_graph.specs.Referring.{referred};
-ghost use Rattle.daggy_graph.specs.Stored.{plain};
-ghost use Rattle.daggy_graph.specs.Iterating.{node_weights as node_weights_of, edge_weights as edge_weights_of, node_identifiers as node_identifiers_of, node_references as node_references_of, edge_references as edge_references_of};
+ghost use Rattle.daggy_cells.specs.Referring.{referred};
+ghost use Rattle.daggy_cells.specs.Fields.{plain};
+ghost use Rattle.daggy_base.specs.Iterating.{node_weights as node_weights_of, edge_weights as edge_weights_of, node_identifiers as node_identifiers_of, node_references as node_references_of, edge_references as edge_references_of};
 
 use crate::graph::{DiGraph, Edge, Node};
 use daggy_base::index::{DefaultIx, EdgeIndex, IndexType, NodeIndex};
 use daggy_base::link::Link;
+use daggy_cells::reference::EdgeReference;
 use std::alloc::AllocError;
 use std::fmt;
 use std::iter::{ExactSizeIterator, FusedIterator};
@@ -212,8 +213,8 @@ pub struct NodeReferences<'a, N, Ix: IndexType = DefaultIx> {
 
 impl<'a, N, Ix: IndexType> Model for NodeReferences<'a, N, Ix> {
     ghost use Rattle.std.specs.Prelude.{ℕ, ◌+◌, ◌^◌, ◌<◌, ◌≤◌, List, map, length};
-    ghost use Rattle.daggy_graph.specs.Iterating.{numbered};
-    ghost use Rattle.daggy_graph.specs.Stored.{weight_of};
+    ghost use Rattle.daggy_base.specs.Iterating.{numbered};
+    ghost use Rattle.daggy_cells.specs.Fields.{weight_of};
 
     ghost Value = { List (ℕ × N) };
 
@@ -273,98 +274,15 @@ impl<'a, N, Ix: IndexType> fmt::Debug for NodeReferences<'a, N, Ix> {
     }
 }
 
-/// An edge of a graph: its index, its ends and its weight.
-pub struct EdgeReference<'a, E, Ix = DefaultIx> {
-    // No typed index stands here, so that a function can take a reference by value.
-    id: Ix,
-    source: Ix,
-    target: Ix,
-    weight: &'a E,
-}
-
-impl<'a, E, Ix: IndexType> EdgeReference<'a, E, Ix> {
-    /// The reference to an edge of this index, these ends and this weight, for stores that lend their edges.
-    #[inline]
-    pub fn from_parts(
-        id: EdgeIndex<Ix>,
-        source: NodeIndex<Ix>,
-        target: NodeIndex<Ix>,
-        weight: &'a E,
-    ) -> Self
-        ensures { referred Ix.number result ≡ (Ix.number id, record { parent = Ix.number source; child = Ix.number target; weight = weight.now }) }
-    {
-        EdgeReference {
-            id: Ix::new(id.index()),
-            source: Ix::new(source.index()),
-            target: Ix::new(target.index()),
-            weight,
-        }
-    }
-
-    #[inline]
-    pub(super) fn new(e: Link<Ix>, x: &'a Edge<E, Ix>) -> Self
-        ensures { referred Ix.number result ≡ (e, plain x.now) }
-    {
-        EdgeReference::from_parts(e.edge(), x.parent.node(), x.child.node(), &x.weight)
-    }
-
-    /// The index of the edge.
-    #[inline]
-    pub fn id(&self) -> EdgeIndex<Ix>
-        ensures { result ≡ self.now.id }
-    {
-        EdgeIndex::new(self.id.index())
-    }
-
-    /// The node that the edge leaves, whichever list it was found in.
-    #[inline]
-    pub fn source(&self) -> NodeIndex<Ix>
-        ensures { result ≡ self.now.source }
-    {
-        NodeIndex::new(self.source.index())
-    }
-
-    /// The node that the edge enters.
-    #[inline]
-    pub fn target(&self) -> NodeIndex<Ix>
-        ensures { result ≡ self.now.target }
-    {
-        NodeIndex::new(self.target.index())
-    }
-
-    /// The weight of the edge, which can be kept for as long as the graph is lent.
-    #[inline]
-    pub fn weight(&self) -> &'a E
-        ensures { result.now ≡ self.now.weight.now }
-    {
-        self.weight
-    }
-}
-
-impl<'a, E, Ix: Copy> Clone for EdgeReference<'a, E, Ix> {
-    ghost is_clone = { λ a b. a ≡ b };
-
-    fn clone(&self) -> Result<Self, AllocError> {
-        Ok(EdgeReference {
-            id: self.id,
-            source: self.source,
-            target: self.target,
-            weight: self.weight,
-        })
-    }
-}
-
-impl<'a, E, Ix: Copy> Copy for EdgeReference<'a, E, Ix> {}
-
-impl<'a, E: fmt::Debug, Ix: IndexType> fmt::Debug for EdgeReference<'a, E, Ix> {
-    fn fmt<W: fmt::Write>(&self, f: &mut fmt::Formatter<W>) -> fmt::Result {
-        f.debug_struct("EdgeReference")
-            .field("id", &self.id.index())
-            .field("source", &self.source.index())
-            .field("target", &self.target.index())
-            .field("weight", self.weight)
-            .finish()
-    }
+// The reference to an edge that is stored.
+#[inline]
+pub(super) fn reference<'a, E, Ix: IndexType>(
+    e: Link<Ix>,
+    x: &'a Edge<E, Ix>,
+) -> EdgeReference<'a, E, Ix>
+    ensures { referred Ix.number result ≡ (e, plain x.now) }
+{
+    EdgeReference::from_parts(e.edge(), x.source(), x.target(), &x.weight)
 }
 
 /// The edges, by ascending index.
@@ -377,8 +295,8 @@ pub struct EdgeReferences<'a, E, Ix: IndexType = DefaultIx> {
 impl<'a, E, Ix: IndexType> Model for EdgeReferences<'a, E, Ix> {
     ghost use Rattle.std.specs.Prelude.{ℕ, ◌+◌, ◌^◌, ◌<◌, ◌≤◌, List, map, length};
     ghost use Rattle.daggy_base.specs.Graph.{Edge as PlainEdge};
-    ghost use Rattle.daggy_graph.specs.Iterating.{numbered};
-    ghost use Rattle.daggy_graph.specs.Stored.{plain_edge};
+    ghost use Rattle.daggy_base.specs.Iterating.{numbered};
+    ghost use Rattle.daggy_cells.specs.Fields.{plain_edge};
 
     ghost Value = { List (ℕ × PlainEdge E) };
 
@@ -388,7 +306,7 @@ impl<'a, E, Ix: IndexType> Model for EdgeReferences<'a, E, Ix> {
 }
 
 impl<'a, E, Ix: IndexType> Iterator for EdgeReferences<'a, E, Ix> {
-    ghost use Rattle.daggy_graph.specs.Referring.{referred};
+    ghost use Rattle.daggy_cells.specs.Referring.{referred};
 
     type Item = EdgeReference<'a, E, Ix>;
 
@@ -402,7 +320,7 @@ impl<'a, E, Ix: IndexType> Iterator for EdgeReferences<'a, E, Ix> {
         let e = Link::new(self.index);
         self.edges = rest;
         self.index += 1;
-        Some(EdgeReference::new(e, x))
+        Some(reference(e, x))
     }
 
     #[inline]

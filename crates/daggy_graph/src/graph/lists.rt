@@ -2,12 +2,13 @@
 ghost use Rattle.std.specs.Prelude.{◌≡◌, ◌<◌, ◌^◌, length};
 ghost use Rattle.std.specs.Iterator.{YieldsFirstBy, item_count};
 ghost use Rattle.daggy_base.specs.declared.index.Direction.TheVariants.{Outgoing};
-ghost use Rattle.daggy_graph.specs.Iterating.{edges_at, neighbors_at};
+ghost use Rattle.daggy_base.specs.Iterating.{edges_at, neighbors_at};
 
-use crate::graph::iterators::EdgeReference;
-use crate::graph::{DiGraph, Edge};
+use crate::graph::iterators::reference;
+use crate::graph::{DiGraph, Edge, EdgeReference};
 use daggy_base::index::{DefaultIx, Direction, IndexType, NodeIndex};
 use daggy_base::link::Link;
+use daggy_cells::links;
 use std::alloc::AllocError;
 use std::fmt;
 use std::iter::FusedIterator;
@@ -24,7 +25,7 @@ pub struct Edges<'a, E, Ix: IndexType = DefaultIx> {
 impl<'a, E, Ix: IndexType> Model for Edges<'a, E, Ix> {
     ghost use Rattle.std.specs.Prelude.{ℕ, List};
     ghost use Rattle.daggy_base.specs.Graph.{Edge as PlainEdge};
-    ghost use Rattle.daggy_graph.specs.Rest.{edges_left, IsOnRow};
+    ghost use Rattle.daggy_cells.specs.Rest.{edges_left, IsOnRow};
 
     ghost Value = { List (ℕ × PlainEdge E) };
 
@@ -34,7 +35,7 @@ impl<'a, E, Ix: IndexType> Model for Edges<'a, E, Ix> {
 }
 
 impl<'a, E, Ix: IndexType> Iterator for Edges<'a, E, Ix> {
-    ghost use Rattle.daggy_graph.specs.Referring.{referred};
+    ghost use Rattle.daggy_cells.specs.Referring.{referred};
 
     type Item = EdgeReference<'a, E, Ix>;
 
@@ -50,8 +51,8 @@ impl<'a, E, Ix: IndexType> Iterator for Edges<'a, E, Ix> {
             return None;
         }
         let x = &self.edges[i];
-        self.next = x.next(self.dir);
-        Some(EdgeReference::new(e, x))
+        self.next = links::next(x, self.dir);
+        Some(reference(e, x))
     }
 }
 

@@ -1,11 +1,12 @@
 //! The same graph with other weights.
 ghost use Rattle.std.specs.Prelude.{◌≡◌, ◌≤◌, [], length, vec_capacity, IfOk};
-ghost use Rattle.daggy_graph.specs.Mapping.{IsMapped};
-ghost use Rattle.daggy_graph.specs.MappedCells.{MapsCells, node_weight_in, node_with, edge_weight_in, edge_with};
+ghost use Rattle.daggy_base.specs.Mapping.{IsMapped};
+ghost use Rattle.daggy_cells.specs.MappedCells.{MapsCells, node_weight_in, node_with, edge_weight_in, edge_with};
 
 use crate::graph::{DiGraph, Edge, Node};
 use daggy_base::index::{EdgeIndex, IndexType, NodeIndex};
 use daggy_base::search::Looks;
+use daggy_cells::links;
 use std::alloc::AllocError;
 
 // Makes the nodes of the new graph, in the room that they have.
@@ -23,11 +24,7 @@ fn map_nodes<N, V, Ix: IndexType, F: FnMut(NodeIndex<Ix>, &N) -> V>(
     'each: for i in 0..nodes.len() {
         let x = &nodes[i];
         let weight = f(NodeIndex::new(i), &x.weight);
-        new.push_reserved(Node {
-            weight,
-            first_out: x.first_out,
-            first_in: x.first_in,
-        });
+        new.push_reserved(links::node_like(x, weight));
     }
 }
 
@@ -46,13 +43,7 @@ fn map_edges<E, V, Ix: IndexType, G: FnMut(EdgeIndex<Ix>, &E) -> V>(
     'each: for i in 0..edges.len() {
         let x = &edges[i];
         let weight = g(EdgeIndex::new(i), &x.weight);
-        new.push_reserved(Edge {
-            weight,
-            parent: x.parent,
-            child: x.child,
-            next_out: x.next_out,
-            next_in: x.next_in,
-        });
+        new.push_reserved(links::edge_like(x, weight));
     }
 }
 

@@ -3,8 +3,8 @@ ghost use Rattle.std.specs.Prelude.{◌≢◌, ◌<◌, length};
 ghost use Rattle.daggy_base.specs.Graph.{node_weight as weight_at, HasNode, HasEdge};
 ghost use Rattle.daggy_base.specs.State.{with_graph};
 ghost use Rattle.daggy_base.specs.Weights.{edge_weight as edge_weight_of, with_node_weight, with_edge_weight};
-ghost use Rattle.daggy_graph.specs.Calls.{TakesAtTwo, CalledAtTwo};
-ghost use Rattle.daggy_graph.specs.Cells.{node_weight_at, edge_weight_at, with_node_weights, with_edge_weights};
+ghost use Rattle.daggy_base.specs.Calls.{TakesAtTwo, CalledAtTwo};
+ghost use Rattle.daggy_cells.specs.Cells.{node_weight_at, edge_weight_at, with_node_weights, with_edge_weights};
 
 use crate::graph::{DiGraph, Edge, Node};
 use daggy_base::index::{EdgeIndex, IndexType, NodeIndex};

@@ -7,10 +7,11 @@ ghost use Rattle.daggy_base.specs.Removal.{Compact, without_edge, without_front,
 ghost use Rattle.daggy_base.specs.WellFormed.{IsIsolated};
 ghost use Rattle.daggy_base.specs.State.{with_graph};
 
-use crate::graph::links::{detach, reown_last, unlink_all};
+use crate::graph::changes::{detach, reown_last};
 use crate::graph::{DiGraph, Edge, Node};
 use daggy_base::index::{Direction, EdgeIndex, IndexType, NodeIndex};
 use daggy_base::link::Link;
+use daggy_cells::links::unlink_all;
 
 impl<N, E, Ix: IndexType> DiGraph<N, E, Ix> {
     /// Removes an edge and hands back its weight, if the edge exists. The edge with the last index gets its index.
@@ -26,13 +27,7 @@ impl<N, E, Ix: IndexType> DiGraph<N, E, Ix> {
             return None;
         }
         detach(&mut self.nodes, &mut self.edges, Link::of_edge(e));
-        let Edge {
-            weight,
-            parent: _,
-            child: _,
-            next_out: _,
-            next_in: _,
-        } = self.edges.swap_remove(i);
+        let Edge { weight, .. } = self.edges.swap_remove(i);
         Some(weight)
     }
 
@@ -90,11 +85,7 @@ impl<N, E, Ix: IndexType> DiGraph<N, E, Ix> {
     {
         let i = n.index();
         reown_last(&self.nodes, &mut self.edges, Link::of_node(n));
-        let Node {
-            weight,
-            first_out: _,
-            first_in: _,
-        } = self.nodes.swap_remove(i);
+        let Node { weight, .. } = self.nodes.swap_remove(i);
         weight
     }
 

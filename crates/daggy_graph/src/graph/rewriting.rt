@@ -1,7 +1,7 @@
 //! All weights to write, one after another.
 ghost use Rattle.std.specs.Prelude.{◌≡◌, ◌≤◌, length};
-ghost use Rattle.daggy_graph.specs.Rewriting.{Leaves, RewritesNodes, RewritesEdges};
-ghost use Rattle.daggy_graph.specs.MappedCells.{MapsCells, node_weight_in, node_with, edge_weight_in, edge_with};
+ghost use Rattle.daggy_base.specs.Rewriting.{Leaves, RewritesNodes, RewritesEdges};
+ghost use Rattle.daggy_cells.specs.MappedCells.{MapsCells, node_weight_in, node_with, edge_weight_in, edge_with};
 
 use crate::graph::{DiGraph, Edge, Node};
 use daggy_base::index::{EdgeIndex, IndexType, NodeIndex};

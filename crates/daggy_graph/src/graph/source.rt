@@ -58,6 +58,6 @@ impl<N: Drop, E: Drop, Ix: IndexType> EdgeSource<Ix> for DiGraph<N, E, Ix> {
     {
         self.looks.take();
         let x = &self.edges[e.index()];
-        (x.child.node(), x.next_out.edge())
+        (x.target(), x.next_edge(Direction::Outgoing))
     }
 }

@@ -1,19 +1,16 @@
 //! Adding nodes and edges.
-ghost use Rattle.std.specs.Prelude.{◌≡◌, ◌≢◌, ◌<◌, [], Some, map, length, slice_set, slice_index, IfOk, OnOk, IfErr, OnErr};
-ghost use Rattle.daggy_base.specs.declared.index.Direction.TheVariants.{Outgoing, Incoming};
+ghost use Rattle.std.specs.Prelude.{◌≡◌, ◌≢◌, ◌<◌, [], IfOk, OnOk, IfErr, OnErr};
 ghost use Rattle.daggy_base.specs.Graph.{HasNode, node_count as node_count_of, edge_count as edge_count_of};
 ghost use Rattle.daggy_base.specs.Adding.{next_node, next_edge as next_edge_of, with_node, with_edge};
 ghost use Rattle.daggy_base.specs.State.{with_graph};
 ghost use Rattle.daggy_base.specs.declared.error.NodeError.TheVariants.{Memory as NodeMemory};
 ghost use Rattle.daggy_base.specs.declared.error.EdgeError.TheVariants.{Memory as EdgeMemory};
-ghost use Rattle.daggy_graph.specs.Stored.{firsts_of};
-ghost use Rattle.daggy_stable.specs.Stored.{weight_of};
 
 use crate::stable_graph::StableDiGraph;
 use daggy_base::error::{EdgeError, NodeError};
 use daggy_base::index::{Direction, EdgeIndex, IndexType, NodeIndex};
 use daggy_base::link::Link;
-use daggy_graph::graph::{Edge, Node};
+use daggy_cells::links::{self, put_first};
 
 impl<N: Drop, E: Drop, Ix: IndexType> StableDiGraph<N, E, Ix> {
     /// Adds a node. Its index is that of the slot that was vacated last. If no slot is vacant, it is the number of nodes
@@ -44,8 +41,8 @@ impl<N: Drop, E: Drop, Ix: IndexType> StableDiGraph<N, E, Ix> {
     {
         let n = self.first_vacant_node;
         let i = n.index();
-        self.first_vacant_node = self.nodes[i].first(Direction::Outgoing);
-        self.nodes[i] = Node::new(Some(weight));
+        self.first_vacant_node = links::first(&self.nodes[i], Direction::Outgoing);
+        self.nodes[i] = links::new_node(Some(weight));
         self.node_count += 1;
         n.node()
     }
@@ -64,7 +61,7 @@ impl<N: Drop, E: Drop, Ix: IndexType> StableDiGraph<N, E, Ix> {
             return Err(NodeError::Memory(weight));
         }
         let n = NodeIndex::new(self.nodes.len());
-        self.nodes.push_reserved(Node::new(Some(weight)));
+        self.nodes.push_reserved(links::new_node(Some(weight)));
         self.node_count += 1;
         Ok(n)
     }
@@ -106,13 +103,13 @@ impl<N: Drop, E: Drop, Ix: IndexType> StableDiGraph<N, E, Ix> {
     {
         let e = self.first_vacant_edge;
         let i = e.index();
-        self.first_vacant_edge = self.edges[i].next(Direction::Outgoing);
+        self.first_vacant_edge = links::next(&self.edges[i], Direction::Outgoing);
         let x = put_first(
             &mut self.nodes,
             Link::of_node(a),
             Link::of_node(b),
             e,
-            weight,
+            Some(weight),
         );
         self.edges[i] = x;
         self.edge_count += 1;
@@ -145,41 +142,10 @@ impl<N: Drop, E: Drop, Ix: IndexType> StableDiGraph<N, E, Ix> {
             Link::of_node(a),
             Link::of_node(b),
             e,
-            weight,
+            Some(weight),
         );
         self.edges.push_reserved(x);
         self.edge_count += 1;
         Ok(e.edge())
     }
-}
-
-// Puts the edge `e` first in the out list of `a` and in the in list of `b`, and gives what is stored of it.
-#[inline]
-pub(super) fn put_first<N, E, Ix: IndexType>(
-    nodes: &mut Vec<Node<Option<N>, Ix>>,
-    a: Link<Ix>,
-    b: Link<Ix>,
-    e: Link<Ix>,
-    weight: E,
-) -> Edge<Option<E>, Ix>
-    requires parent { a < length nodes.old.items }
-    requires child { b < length nodes.old.items }
-    ensures edge { result ≡ record {
-      weight = Some weight;
-      parent = a;
-      child = b;
-      next_out = slice_index (firsts_of Outgoing nodes.old.items) a;
-      next_in = slice_index (firsts_of Incoming nodes.old.items) b;
-    } }
-    ensures weights { map weight_of nodes.new.items ≡ map weight_of nodes.old.items }
-    ensures out { firsts_of Outgoing nodes.new.items ≡ slice_set (firsts_of Outgoing nodes.old.items) a e }
-    ensures into { firsts_of Incoming nodes.new.items ≡ slice_set (firsts_of Incoming nodes.old.items) b e }
-{
-    let u = a.index();
-    let v = b.index();
-    let next_out = nodes[u].first(Direction::Outgoing);
-    let next_in = nodes[v].first(Direction::Incoming);
-    nodes[u].set_first(Direction::Outgoing, e);
-    nodes[v].set_first(Direction::Incoming, e);
-    Edge::new(Some(weight), a, b, next_out, next_in)
 }

@@ -2,18 +2,18 @@
 ghost use Rattle.std.specs.Prelude.{◌≡◌, ◌<◌, ◌≤◌, None, [], ◌∷◌, ◌++◌, map, length, vec_len, vec_capacity, is_some, IsSome, option_copied, IfOk};
 ghost use Rattle.std.specs.Option.{option_map};
 ghost use Rattle.daggy_base.specs.Graph.{slot};
-ghost use Rattle.daggy_graph.specs.Mapping.{weight_in, with_weight};
-ghost use Rattle.daggy_graph.specs.Filtering.{ListsDescend};
-ghost use Rattle.daggy_graph.specs.InPlace.{KeepsSlots, if_joined, IsFilteredInPlace};
+ghost use Rattle.daggy_base.specs.Mapping.{weight_in, with_weight};
+ghost use Rattle.daggy_base.specs.Filtering.{ListsDescend};
+ghost use Rattle.daggy_base.specs.FilteringInPlace.{KeepsSlots, if_joined, IsFilteredInPlace};
 ghost use Rattle.daggy_stable.specs.Stored.{weight_of, plain_edge};
 ghost use Rattle.daggy_stable.specs.Building.{IsBuilt, between};
 
 use crate::stable_graph::StableDiGraph;
-use crate::stable_graph::adding::put_first;
 use daggy_base::index::{Direction, EdgeIndex, IndexType, NodeIndex};
 use daggy_base::link::Link;
 use daggy_base::search::Looks;
-use daggy_graph::graph::{Edge, Node};
+use daggy_cells::cell::{Edge, Node};
+use daggy_cells::links::{self, put_first};
 use std::alloc::{AllocError, Global};
 
 // Slots that are made one by one, and which of them was made vacant last.
@@ -56,12 +56,12 @@ fn keep_node<N, E, Ix: IndexType>(
     let n = Link::new(nodes.cells.len());
     match answer {
         Some(weight) => {
-            nodes.cells.push_reserved(Node::new(Some(weight)));
+            nodes.cells.push_reserved(links::new_node(Some(weight)));
             nodes.count += 1;
         }
         None => {
-            let mut x = Node::new(None);
-            x.set_first(Direction::Outgoing, nodes.first_vacant);
+            let mut x = links::new_node(None);
+            links::set_first(&mut x, Direction::Outgoing, nodes.first_vacant);
             nodes.cells.push_reserved(x);
             nodes.first_vacant = n;
         }
@@ -116,10 +116,10 @@ fn joined_weight<'a, N, E, Ix: IndexType>(
 ) -> Option<&'a E>
     ensures { option_copied result ≡ option_map weight_in (if_joined (map weight_of nodes.now.cells.items) (plain_edge x.now)) }
 {
-    if !stayed(nodes, x.end(Direction::Outgoing)) {
+    if !stayed(nodes, links::end(x, Direction::Outgoing)) {
         return None;
     }
-    if !stayed(nodes, x.end(Direction::Incoming)) {
+    if !stayed(nodes, links::end(x, Direction::Incoming)) {
         return None;
     }
     x.weight.as_ref()
@@ -141,7 +141,7 @@ fn leave_edge<N, E, Ix: IndexType>(
     let end = Link::end();
     edges
         .cells
-        .push_reserved(Edge::new(None, end, end, edges.first_vacant, end));
+        .push_reserved(links::new_edge(None, end, end, edges.first_vacant, end));
     edges.first_vacant = e;
 }
 
@@ -171,7 +171,7 @@ fn keep_edge<N, E, Ix: IndexType>(
         }
     };
     let e = Link::new(edges.cells.len());
-    let x = put_first(&mut nodes.cells, a, b, e, weight);
+    let x = put_first(&mut nodes.cells, a, b, e, Some(weight));
     edges.cells.push_reserved(x);
     edges.count += 1;
 }
@@ -202,8 +202,8 @@ fn filter_edges<N, E, W, Ix: IndexType, G: FnMut(EdgeIndex<Ix>, &E) -> Option<W>
             }
         };
         let answer = g(EdgeIndex::new(i), old);
-        let a = x.end(Direction::Outgoing);
-        let b = x.end(Direction::Incoming);
+        let a = links::end(x, Direction::Outgoing);
+        let b = links::end(x, Direction::Incoming);
         keep_edge(nodes, new, a, b, answer);
     }
 }

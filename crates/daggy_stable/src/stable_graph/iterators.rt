@@ -1,16 +1,17 @@
 //! Going over all nodes, or over all edges.
 ghost use Rattle.std.specs.Prelude.{◌≡◌, ◌<◌, ◌^◌, length, Some, IsSome};
 ghost use Rattle.std.specs.Iterator.{YieldsFirstRef, YieldsFirstBy, item_count};
-ghost use Rattle.daggy_graph.specs.Iterating.{node_weights as node_weights_of, edge_weights as edge_weights_of, node_identifiers as node_identifiers_of, node_references as node_references_of, edge_references as edge_references_of};
-ghost use Rattle.daggy_graph.specs.Referring.{referred};
+ghost use Rattle.daggy_base.specs.Iterating.{node_weights as node_weights_of, edge_weights as edge_weights_of, node_identifiers as node_identifiers_of, node_references as node_references_of, edge_references as edge_references_of};
+ghost use Rattle.daggy_cells.specs.Referring.{referred};
 ghost use Rattle.daggy_stable.specs.Rest.{numbered_edge};
 ghost use Rattle.daggy_stable.specs.Stored.{plain_edge};
 
 use crate::stable_graph::StableDiGraph;
 use crate::stable_graph::slots::Slots;
 use daggy_base::index::{DefaultIx, Direction, EdgeIndex, IndexType, NodeIndex};
-use daggy_graph::graph::iterators::EdgeReference;
-use daggy_graph::graph::{Edge, Node};
+use daggy_cells::cell::{Edge, Node};
+use daggy_cells::links;
+use daggy_cells::reference::EdgeReference;
 use std::alloc::AllocError;
 use std::fmt;
 use std::iter::FusedIterator;
@@ -24,7 +25,7 @@ pub struct NodeReferences<'a, N, Ix: IndexType = DefaultIx> {
 
 impl<'a, N, Ix: IndexType> Model for NodeReferences<'a, N, Ix> {
     ghost use Rattle.std.specs.Prelude.{ℕ, ◌+◌, ◌^◌, ◌<◌, ◌≤◌, List, map, length};
-    ghost use Rattle.daggy_graph.specs.Iterating.{numbered};
+    ghost use Rattle.daggy_base.specs.Iterating.{numbered};
     ghost use Rattle.daggy_stable.specs.Stored.{weight_of};
 
     ghost Value = { List (ℕ × N) };
@@ -175,8 +176,8 @@ pub(super) fn reference<'a, E, Ix: IndexType>(
     requires { IsSome x.now.weight }
     ensures { numbered_edge (Ix.number e) (plain_edge x.now) ≡ Some (referred Ix.number result) }
 {
-    let source = x.end(Direction::Outgoing).node();
-    let target = x.end(Direction::Incoming).node();
+    let source = links::end(x, Direction::Outgoing).node();
+    let target = links::end(x, Direction::Incoming).node();
     EdgeReference::from_parts(e, source, target, x.weight.as_ref().unwrap())
 }
 
@@ -189,7 +190,7 @@ pub struct EdgeReferences<'a, E, Ix: IndexType = DefaultIx> {
 impl<'a, E, Ix: IndexType> Model for EdgeReferences<'a, E, Ix> {
     ghost use Rattle.std.specs.Prelude.{ℕ, ◌+◌, ◌^◌, ◌<◌, ◌≤◌, List, map, length};
     ghost use Rattle.daggy_base.specs.Graph.{Edge as PlainEdge};
-    ghost use Rattle.daggy_graph.specs.Iterating.{numbered};
+    ghost use Rattle.daggy_base.specs.Iterating.{numbered};
     ghost use Rattle.daggy_stable.specs.Stored.{plain_edge};
 
     ghost Value = { List (ℕ × PlainEdge E) };
@@ -200,7 +201,7 @@ impl<'a, E, Ix: IndexType> Model for EdgeReferences<'a, E, Ix> {
 }
 
 impl<'a, E, Ix: IndexType> Iterator for EdgeReferences<'a, E, Ix> {
-    ghost use Rattle.daggy_graph.specs.Referring.{referred};
+    ghost use Rattle.daggy_cells.specs.Referring.{referred};
 
     type Item = EdgeReference<'a, E, Ix>;
 

@@ -2,14 +2,15 @@
 ghost use Rattle.std.specs.Prelude.{◌≡◌, ◌<◌, ◌^◌, length};
 ghost use Rattle.std.specs.Iterator.{YieldsFirstBy, item_count};
 ghost use Rattle.daggy_base.specs.declared.index.Direction.TheVariants.{Outgoing};
-ghost use Rattle.daggy_graph.specs.Iterating.{edges_at, neighbors_at};
+ghost use Rattle.daggy_base.specs.Iterating.{edges_at, neighbors_at};
 
 use crate::stable_graph::StableDiGraph;
 use crate::stable_graph::iterators::reference;
 use daggy_base::index::{DefaultIx, Direction, IndexType, NodeIndex};
 use daggy_base::link::Link;
-use daggy_graph::graph::Edge;
-use daggy_graph::graph::iterators::EdgeReference;
+use daggy_cells::cell::Edge;
+use daggy_cells::links;
+use daggy_cells::reference::EdgeReference;
 use std::alloc::AllocError;
 use std::fmt;
 use std::iter::FusedIterator;
@@ -36,7 +37,7 @@ impl<'a, E, Ix: IndexType> Model for Edges<'a, E, Ix> {
 }
 
 impl<'a, E, Ix: IndexType> Iterator for Edges<'a, E, Ix> {
-    ghost use Rattle.daggy_graph.specs.Referring.{referred};
+    ghost use Rattle.daggy_cells.specs.Referring.{referred};
 
     type Item = EdgeReference<'a, E, Ix>;
 
@@ -52,7 +53,7 @@ impl<'a, E, Ix: IndexType> Iterator for Edges<'a, E, Ix> {
             return None;
         }
         let x = &self.edges[i];
-        self.next = x.next(self.dir);
+        self.next = links::next(x, self.dir);
         Some(reference(e.edge(), x))
     }
 }

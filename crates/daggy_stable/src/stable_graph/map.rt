@@ -1,41 +1,16 @@
 //! The same graph with other weights.
 ghost use Rattle.std.specs.Prelude.{◌≡◌, ◌≤◌, [], map, length, vec_capacity, IfOk};
 ghost use Rattle.daggy_base.specs.declared.index.Direction.{Direction};
-ghost use Rattle.daggy_graph.specs.Mapping.{MapsSlots, IsMapped, weight_in, with_weight};
-ghost use Rattle.daggy_graph.specs.MappedCells.{node_with, edge_with};
-ghost use Rattle.daggy_graph.specs.Stored.{firsts_of, nexts_of};
+ghost use Rattle.daggy_base.specs.Mapping.{MapsSlots, IsMapped, weight_in, with_weight};
+ghost use Rattle.daggy_cells.specs.Fields.{firsts_of, nexts_of};
 ghost use Rattle.daggy_stable.specs.Stored.{weight_of, plain_edge};
 
 use crate::stable_graph::StableDiGraph;
 use daggy_base::index::{Direction, EdgeIndex, IndexType, NodeIndex};
 use daggy_base::search::Looks;
-use daggy_graph::graph::{Edge, Node};
+use daggy_cells::cell::{Edge, Node};
+use daggy_cells::links;
 use std::alloc::AllocError;
-
-// A node with the links of `x`.
-#[inline]
-fn node_like<N, V, Ix: IndexType>(x: &Node<N, Ix>, weight: V) -> Node<V, Ix>
-    ensures { result ≡ node_with x.now weight }
-{
-    let mut node = Node::new(weight);
-    node.set_first(Direction::Outgoing, x.first(Direction::Outgoing));
-    node.set_first(Direction::Incoming, x.first(Direction::Incoming));
-    node
-}
-
-// An edge with the ends and the links of `x`.
-#[inline]
-fn edge_like<E, W, Ix: IndexType>(x: &Edge<E, Ix>, weight: W) -> Edge<W, Ix>
-    ensures { result ≡ edge_with x.now weight }
-{
-    Edge::new(
-        weight,
-        x.end(Direction::Outgoing),
-        x.end(Direction::Incoming),
-        x.next(Direction::Outgoing),
-        x.next(Direction::Incoming),
-    )
-}
 
 // Makes the nodes of the new graph, in the room that they have.
 fn map_nodes<N, V, Ix: IndexType, F: FnMut(NodeIndex<Ix>, &N) -> V>(
@@ -55,12 +30,12 @@ fn map_nodes<N, V, Ix: IndexType, F: FnMut(NodeIndex<Ix>, &N) -> V>(
         let old = match x.weight.as_ref() {
             Some(old) => old,
             None => {
-                new.push_reserved(node_like(x, None));
+                new.push_reserved(links::node_like(x, None));
                 continue;
             }
         };
         let weight = f(NodeIndex::new(i), old);
-        new.push_reserved(node_like(x, Some(weight)));
+        new.push_reserved(links::node_like(x, Some(weight)));
     }
 }
 
@@ -82,12 +57,12 @@ fn map_edges<E, W, Ix: IndexType, G: FnMut(EdgeIndex<Ix>, &E) -> W>(
         let old = match x.weight.as_ref() {
             Some(old) => old,
             None => {
-                new.push_reserved(edge_like(x, None));
+                new.push_reserved(links::edge_like(x, None));
                 continue;
             }
         };
         let weight = g(EdgeIndex::new(i), old);
-        new.push_reserved(edge_like(x, Some(weight)));
+        new.push_reserved(links::edge_like(x, Some(weight)));
     }
 }
 

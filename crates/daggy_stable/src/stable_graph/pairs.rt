@@ -3,12 +3,12 @@ ghost use Rattle.std.specs.Prelude.{◌≢◌, ◌<◌, Option, IsSome, Some, le
 ghost use Rattle.daggy_base.specs.Graph.{node_weight as weight_at, HasNode, HasEdge};
 ghost use Rattle.daggy_base.specs.State.{with_graph};
 ghost use Rattle.daggy_base.specs.Weights.{edge_weight as edge_weight_of, with_node_weight, with_edge_weight};
-ghost use Rattle.daggy_graph.specs.Calls.{TakesAtTwo, CalledAtTwo};
+ghost use Rattle.daggy_base.specs.Calls.{TakesAtTwo, CalledAtTwo};
 ghost use Rattle.daggy_stable.specs.Cells.{node_weight_in, edge_weight_in, with_node_weights, with_edge_weights};
 
 use crate::stable_graph::StableDiGraph;
 use daggy_base::index::{EdgeIndex, IndexType, NodeIndex};
-use daggy_graph::graph::{Edge, Node};
+use daggy_cells::cell::{Edge, Node};
 
 impl<N, E, Ix: IndexType> StableDiGraph<N, E, Ix> {
     /// Calls `f` with the weights of two nodes, both to be written, and gives what `f` gives.

@@ -6,14 +6,14 @@ ghost use Rattle.daggy_base.specs.Graph.{empty, node_weight, edge_at, HasNode, H
 ghost use Rattle.daggy_base.specs.Removal.{Stable, without_edge, without_front, without_node, isolated, dropped_node, without_all_edges};
 ghost use Rattle.daggy_base.specs.WellFormed.{IsIsolated};
 ghost use Rattle.daggy_base.specs.State.{with_graph};
-ghost use Rattle.daggy_graph.specs.Stored.{weight_of as stored_weight, plain_edge as stored_edge, nexts_of, IsReady, Redirects};
+ghost use Rattle.daggy_cells.specs.Fields.{weight_of as stored_weight, plain_edge as stored_edge, nexts_of, IsReady, Redirects};
 ghost use Rattle.daggy_stable.specs.Stored.{emptied};
 
 use crate::stable_graph::StableDiGraph;
 use daggy_base::index::{Direction, EdgeIndex, IndexType, NodeIndex};
 use daggy_base::link::Link;
-use daggy_graph::graph::links::redirect;
-use daggy_graph::graph::{Edge, Node};
+use daggy_cells::cell::{Edge, Node};
+use daggy_cells::links::{self, redirect};
 
 impl<N, E, Ix: IndexType> StableDiGraph<N, E, Ix> {
     /// Removes an edge and hands back its weight, if the edge exists. No other index changes.
@@ -39,7 +39,7 @@ impl<N, E, Ix: IndexType> StableDiGraph<N, E, Ix> {
         let link = Link::of_edge(e);
         unlink(&mut self.nodes, &mut self.edges, link);
         let x = &mut self.edges[link.index()];
-        x.set_next(Direction::Outgoing, self.first_vacant_edge);
+        links::set_next(x, Direction::Outgoing, self.first_vacant_edge);
         let weight = x.weight.take();
         self.first_vacant_edge = link;
         self.edge_count -= 1;
@@ -95,7 +95,7 @@ impl<N, E, Ix: IndexType> StableDiGraph<N, E, Ix> {
     {
         let link = Link::of_node(n);
         let x = &mut self.nodes[link.index()];
-        x.set_first(Direction::Outgoing, self.first_vacant_node);
+        links::set_first(x, Direction::Outgoing, self.first_vacant_node);
         let weight = x.weight.take();
         self.first_vacant_node = link;
         self.node_count -= 1;
@@ -146,8 +146,8 @@ pub(super) fn unlink<N, E, Ix: IndexType>(
     ensures edges { map stored_edge edges.new.items ≡ map stored_edge edges.old.items }
 {
     let i = e.index();
-    let next_out = edges[i].next(Direction::Outgoing);
-    let next_in = edges[i].next(Direction::Incoming);
+    let next_out = links::next(&edges[i], Direction::Outgoing);
+    let next_in = links::next(&edges[i], Direction::Incoming);
     redirect(nodes, edges, Direction::Outgoing, e, next_out);
     redirect(nodes, edges, Direction::Incoming, e, next_in);
 }
@@ -168,6 +168,6 @@ fn empty_both<N, Ix: IndexType>(x: &mut Node<Option<N>, Ix>)
     if x.weight.is_none() {
         return;
     }
-    x.set_first(Direction::Outgoing, Link::end());
-    x.set_first(Direction::Incoming, Link::end());
+    links::set_first(x, Direction::Outgoing, Link::end());
+    links::set_first(x, Direction::Incoming, Link::end());
 }

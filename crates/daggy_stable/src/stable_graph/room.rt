@@ -7,7 +7,9 @@ use crate::stable_graph::StableDiGraph;
 use daggy_base::index::{DefaultIx, Direction, IndexType};
 use daggy_base::link::Link;
 use daggy_base::search::Looks;
-use daggy_graph::graph::{DiGraph, Edge, Node};
+use daggy_cells::cell::{Edge, Node};
+use daggy_cells::links;
+use daggy_graph::graph::DiGraph;
 use std::alloc::{AllocError, Global};
 use std::marker::Model;
 
@@ -90,11 +92,11 @@ fn put_nodes<N: Drop, Ix: IndexType>(old: Vec<Node<N, Ix>>, slots: &mut Vec<Node
 fn node_slot<N, Ix: IndexType>(x: Node<N, Ix>) -> Node<Option<N>, Ix>
     ensures { result ≡ slotted_node x }
 {
-    let first_out = x.first(Direction::Outgoing);
-    let first_in = x.first(Direction::Incoming);
-    let mut slot = Node::new(Some(x.weight));
-    slot.set_first(Direction::Outgoing, first_out);
-    slot.set_first(Direction::Incoming, first_in);
+    let first_out = links::first(&x, Direction::Outgoing);
+    let first_in = links::first(&x, Direction::Incoming);
+    let mut slot = links::new_node(Some(x.weight));
+    links::set_first(&mut slot, Direction::Outgoing, first_out);
+    links::set_first(&mut slot, Direction::Incoming, first_in);
     slot
 }
 
@@ -113,9 +115,9 @@ fn put_edges<E: Drop, Ix: IndexType>(old: Vec<Edge<E, Ix>>, slots: &mut Vec<Edge
 fn edge_slot<E, Ix: IndexType>(x: Edge<E, Ix>) -> Edge<Option<E>, Ix>
     ensures { result ≡ slotted_edge x }
 {
-    let parent = x.end(Direction::Outgoing);
-    let child = x.end(Direction::Incoming);
-    let next_out = x.next(Direction::Outgoing);
-    let next_in = x.next(Direction::Incoming);
-    Edge::new(Some(x.weight), parent, child, next_out, next_in)
+    let parent = links::end(&x, Direction::Outgoing);
+    let child = links::end(&x, Direction::Incoming);
+    let next_out = links::next(&x, Direction::Outgoing);
+    let next_in = links::next(&x, Direction::Incoming);
+    links::new_edge(Some(x.weight), parent, child, next_out, next_in)
 }

@@ -3,7 +3,7 @@ ghost use Rattle.std.specs.Prelude.{◌≡◌, ◌+◌, ◌<◌, ◌≤◌, ◌^
 ghost use Rattle.daggy_stable.specs.Slots.{next_full as next_full_of};
 
 use daggy_base::index::IndexType;
-use daggy_graph::graph::{Edge, Node};
+use daggy_cells::cell::{Edge, Node};
 
 // What is stored in a slot.
 pub(super) trait Slot {

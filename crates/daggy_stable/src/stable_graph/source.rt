@@ -8,6 +8,7 @@ ghost use Rattle.daggy_base.specs.Look.{IsLook};
 use crate::stable_graph::StableDiGraph;
 use daggy_base::index::{Direction, EdgeIndex, IndexType, NodeIndex};
 use daggy_base::search::EdgeSource;
+use daggy_cells::links;
 
 impl<N: Drop, E: Drop, Ix: IndexType> EdgeSource<Ix> for StableDiGraph<N, E, Ix> {
     type NodeWeight = N;
@@ -59,8 +60,8 @@ impl<N: Drop, E: Drop, Ix: IndexType> EdgeSource<Ix> for StableDiGraph<N, E, Ix>
     {
         self.looks.take();
         let x = &self.edges[e.index()];
-        let child = x.end(Direction::Incoming);
-        let next = x.next(Direction::Outgoing);
+        let child = links::end(x, Direction::Incoming);
+        let next = links::next(x, Direction::Outgoing);
         (child.node(), next.edge())
     }
 }

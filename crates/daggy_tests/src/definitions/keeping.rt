@@ -3,8 +3,8 @@ ghost use Rattle.std.specs.Prelude.{◌≡◌, ℕ, [], ◌∷◌};
 ghost use Rattle.std.specs.Borrow.{Bor};
 ghost use Rattle.daggy_base.specs.Graph.{Graph, out_list, in_list, node_count};
 ghost use Rattle.daggy_base.specs.Adding.{next_node, next_edge, with_edge};
-ghost use Rattle.daggy_graph.specs.InPlace.{IsFilteredInPlace};
-ghost use Rattle.daggy_graph.specs.Slots.{of_slots};
+ghost use Rattle.daggy_base.specs.FilteringInPlace.{IsFilteredInPlace};
+ghost use Rattle.daggy_base.specs.FromSlots.{of_slots};
 ghost use Rattle.daggy_tests.specs.Examples.{line, nothing, pair, triangle, diamond, shortcuts, with_lines};
 ghost use Rattle.daggy_tests.specs.Keeping.{drops_ten, numbers_its_calls, kept};
 

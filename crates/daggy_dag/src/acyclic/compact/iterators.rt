@@ -1,7 +1,7 @@
 //! Going over all nodes, over all edges, and over the edges of one node.
 ghost use Rattle.std.specs.Prelude.{◌≡◌, ◌<◌, ◌^◌, length};
 ghost use Rattle.daggy_base.specs.declared.index.Direction.TheVariants.{Outgoing};
-ghost use Rattle.daggy_graph.specs.Iterating.{node_identifiers as node_identifiers_of, node_references as node_references_of, edge_references as edge_references_of, edges_at, neighbors_at};
+ghost use Rattle.daggy_base.specs.Iterating.{node_identifiers as node_identifiers_of, node_references as node_references_of, edge_references as edge_references_of, edges_at, neighbors_at};
 
 use crate::acyclic::Acyclic;
 use daggy_base::index::{Direction, IndexType, NodeIndex};

@@ -1,8 +1,8 @@
 //! The same dag with other weights, and the part of a dag that closures keep.
 ghost use Rattle.std.specs.Prelude.{◌≡◌, length, IfOk};
 ghost use Rattle.daggy_base.specs.Path.{IsAcyclic};
-ghost use Rattle.daggy_graph.specs.Mapping.{IsMapped};
-ghost use Rattle.daggy_graph.specs.Filtering.{IsFiltered, ListsDescend, HaveSameEnds};
+ghost use Rattle.daggy_base.specs.Mapping.{IsMapped};
+ghost use Rattle.daggy_base.specs.Filtering.{IsFiltered, ListsDescend, HaveSameEnds};
 
 use crate::acyclic::{Acyclic, Dag};
 use daggy_base::index::{EdgeIndex, IndexType, NodeIndex};

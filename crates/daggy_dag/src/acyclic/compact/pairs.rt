@@ -4,7 +4,7 @@ ghost use Rattle.daggy_base.specs.Graph.{node_weight as weight_at, HasNode, HasE
 ghost use Rattle.daggy_base.specs.Path.{IsAcyclic};
 ghost use Rattle.daggy_base.specs.State.{with_graph};
 ghost use Rattle.daggy_base.specs.Weights.{edge_weight as edge_weight_at, with_node_weight, with_edge_weight};
-ghost use Rattle.daggy_graph.specs.Calls.{TakesAtTwo, CalledAtTwo};
+ghost use Rattle.daggy_base.specs.Calls.{TakesAtTwo, CalledAtTwo};
 
 use crate::acyclic::Acyclic;
 use daggy_base::index::{EdgeIndex, IndexType, NodeIndex};

@@ -1,5 +1,5 @@
 //! The slices that a compact dag is stored in.
-ghost use Rattle.daggy_graph.specs.Raw.{ShowsNodes, ShowsEdges};
+ghost use Rattle.daggy_cells.specs.Raw.{ShowsNodes, ShowsEdges};
 
 use crate::acyclic::Acyclic;
 use daggy_base::index::IndexType;

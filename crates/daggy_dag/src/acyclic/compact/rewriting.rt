@@ -1,7 +1,7 @@
 //! All weights to write, one after another.
 ghost use Rattle.std.specs.Prelude.{◌≡◌};
 ghost use Rattle.daggy_base.specs.Path.{IsAcyclic};
-ghost use Rattle.daggy_graph.specs.Rewriting.{RewritesNodes, RewritesEdges};
+ghost use Rattle.daggy_base.specs.Rewriting.{RewritesNodes, RewritesEdges};
 
 use crate::acyclic::Acyclic;
 use daggy_base::index::{EdgeIndex, IndexType, NodeIndex};

@@ -1,9 +1,9 @@
 //! The same dag with other weights, and the part of a dag that closures keep.
 ghost use Rattle.std.specs.Prelude.{◌≡◌, IfOk};
 ghost use Rattle.daggy_base.specs.Path.{IsAcyclic};
-ghost use Rattle.daggy_graph.specs.Mapping.{IsMapped};
-ghost use Rattle.daggy_graph.specs.InPlace.{IsFilteredInPlace};
-ghost use Rattle.daggy_graph.specs.Filtering.{ListsDescend};
+ghost use Rattle.daggy_base.specs.Mapping.{IsMapped};
+ghost use Rattle.daggy_base.specs.FilteringInPlace.{IsFilteredInPlace};
+ghost use Rattle.daggy_base.specs.Filtering.{ListsDescend};
 
 use crate::acyclic::{Acyclic, StableDag};
 use daggy_base::index::{EdgeIndex, IndexType, NodeIndex};

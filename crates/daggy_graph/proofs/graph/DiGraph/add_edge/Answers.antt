@@ -1,9 +1,10 @@
 use Rattle.std.proofs.Common.{length, ap, ◌∙◌, arith}
 use Rattle.daggy_base.specs.Graph.{edge_count}
 use Rattle.daggy_base.specs.Adding.{with_edge}
-use Rattle.daggy_graph.specs.Stored.{plain}
-use Rattle.daggy_graph.proofs.StoredLemmas.{stored_is, Stores-itself, slot_within, added_same}
-use Rattle.daggy_graph.proofs.States.{state_changed, count-slots}
+use Rattle.daggy_cells.specs.Fields.{plain}
+use Rattle.daggy_graph.proofs.StoredLemmas.{stored_is, Stores-itself, added_same}
+use Rattle.daggy_cells.proofs.FieldLemmas.{slot_within}
+use Rattle.daggy_cells.proofs.States.{state_changed, count-slots}
 use Rattle.daggy_graph.proofs.graph.DiGraph.add_edge.Goals as goal
 
 pub invariant_of-self : goal.invariant_of-self

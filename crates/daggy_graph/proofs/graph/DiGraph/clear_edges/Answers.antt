@@ -1,7 +1,7 @@
 use Rattle.std.proofs.Common.{ap, ◌∙◌}
 use Rattle.daggy_base.specs.Removal.{without_all_edges}
 use Rattle.daggy_graph.specs.Stored.{stored_graph}
-use Rattle.daggy_graph.proofs.States.{state_changed}
+use Rattle.daggy_cells.proofs.States.{state_changed}
 use Rattle.daggy_graph.proofs.StoredLemmas.{stored_is, Stores-itself}
 use Rattle.daggy_graph.proofs.Clearing.{Stores-bare}
 use Rattle.daggy_graph.proofs.graph.DiGraph.clear_edges.Goals as goal

@@ -4,10 +4,12 @@ use Rattle.daggy_base.specs.declared.index.Direction.{Direction}
 use Rattle.daggy_base.specs.declared.index.Direction.TheVariants.{Outgoing, Incoming}
 use Rattle.daggy_base.specs.Graph.{node_weight}
 use Rattle.daggy_base.specs.Removal.{Compact, dropped_node}
-use Rattle.daggy_graph.specs.Links.{row}
-use Rattle.daggy_graph.specs.Stored.{lists_at, reowned, stored_graph}
-use Rattle.daggy_graph.proofs.States.{state_changed}
-use Rattle.daggy_graph.proofs.StoredLemmas.{stored_is, Stores-itself, slot_within, slot_is}
+use Rattle.daggy_cells.specs.Links.{row}
+use Rattle.daggy_cells.specs.Fields.{lists_at, reowned}
+use Rattle.daggy_graph.specs.Stored.{stored_graph}
+use Rattle.daggy_cells.proofs.States.{state_changed}
+use Rattle.daggy_graph.proofs.StoredLemmas.{stored_is, Stores-itself}
+use Rattle.daggy_cells.proofs.FieldLemmas.{slot_within, slot_is}
 use Rattle.daggy_graph.proofs.Dropping.{Stores-dropped}
 use Rattle.daggy_graph.proofs.graph.DiGraph.drop_node.Goals as goal
 

@@ -2,9 +2,11 @@ use Rattle.std.proofs.Common.{◌<◌, length, refl, sym, ap, ◌∙◌, arith}
 use Rattle.std.specs.Option.{option_map}
 use Rattle.daggy_base.specs.Graph.{edge_at}
 use Rattle.daggy_base.specs.Weights.{with_edge_weight}
-use Rattle.daggy_graph.specs.Stored.{plain, stored_graph}
-use Rattle.daggy_graph.proofs.States.{state_changed}
-use Rattle.daggy_graph.proofs.StoredLemmas.{stored_is, Stores-itself, Stores-edge_weight, slot_within, slot_is}
+use Rattle.daggy_cells.specs.Fields.{plain}
+use Rattle.daggy_graph.specs.Stored.{stored_graph}
+use Rattle.daggy_cells.proofs.States.{state_changed}
+use Rattle.daggy_graph.proofs.StoredLemmas.{stored_is, Stores-itself, Stores-edge_weight}
+use Rattle.daggy_cells.proofs.FieldLemmas.{slot_within, slot_is}
 use Rattle.daggy_graph.proofs.graph.DiGraph.edge_mut.Goals as goal
 
 pub index_mut-x-requires : goal.index_mut-x-requires

@@ -1,6 +1,6 @@
 use Rattle.std.proofs.Common.{arith}
-use Rattle.daggy_graph.specs.Stored.{plain}
-use Rattle.daggy_graph.proofs.RestLemmas.{length-numbered}
+use Rattle.daggy_cells.specs.Fields.{plain}
+use Rattle.daggy_cells.proofs.RestLemmas.{length-numbered}
 use Rattle.daggy_graph.proofs.graph.DiGraph.edge_references.Goals as goal
 
 pub returns-clause-fits : goal.returns-clause-fits

@@ -1,7 +1,7 @@
 use Rattle.std.proofs.Common.{map, sym, ap, ◌∙◌}
-use Rattle.daggy_graph.specs.Iterating.{edge_weights}
-use Rattle.daggy_graph.specs.Stored.{plain}
-use Rattle.daggy_graph.proofs.RestLemmas.{values_are}
+use Rattle.daggy_base.specs.Iterating.{edge_weights}
+use Rattle.daggy_cells.specs.Fields.{plain}
+use Rattle.daggy_cells.proofs.RestLemmas.{values_are}
 use Rattle.daggy_graph.proofs.graph.DiGraph.edge_weights.Goals as goal
 
 pub returns-clause-rest : goal.returns-clause-rest

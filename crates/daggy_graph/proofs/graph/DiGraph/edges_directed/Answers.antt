@@ -1,9 +1,10 @@
 use Rattle.std.proofs.Common.{sym, ap, subst, ◌∙◌, arith}
 use Rattle.daggy_base.specs.Cursor.{first_of}
 use Rattle.daggy_base.specs.Graph.{list_at}
-use Rattle.daggy_graph.specs.Iterating.{edges_at}
-use Rattle.daggy_graph.specs.Rest.{edges_left, IsOnRow}
-use Rattle.daggy_graph.proofs.RestLemmas.{IsOnRow-begins, edges_begin, edges_few}
+use Rattle.daggy_base.specs.Iterating.{edges_at}
+use Rattle.daggy_cells.specs.Rest.{edges_left, IsOnRow}
+use Rattle.daggy_graph.proofs.RestLemmas.{IsOnRow-begins, edges_begin}
+use Rattle.daggy_cells.proofs.RestLemmas.{edges_few}
 use Rattle.daggy_graph.proofs.graph.DiGraph.edges_directed.Goals as goal
 
 pub invariant_of-result : goal.invariant_of-result

@@ -1,7 +1,8 @@
 use Rattle.std.proofs.Common.{map, subst}
 use Rattle.daggy_base.specs.Graph.{empty}
-use Rattle.daggy_graph.specs.Stored.{stored_graph, weight_of, plain_edge}
-use Rattle.daggy_graph.specs.Filtering.{FiltersNodes, FiltersEdges, IsFiltered}
+use Rattle.daggy_graph.specs.Stored.{stored_graph}
+use Rattle.daggy_cells.specs.Fields.{weight_of, plain_edge}
+use Rattle.daggy_base.specs.Filtering.{FiltersNodes, FiltersEdges, IsFiltered}
 use Rattle.daggy_graph.proofs.Keeping.{ListsDescend-filtered, HaveSameEnds-filtered}
 use Rattle.daggy_graph.proofs.graph.DiGraph.filter_map.Goals as goal
 

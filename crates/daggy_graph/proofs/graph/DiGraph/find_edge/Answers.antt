@@ -3,10 +3,12 @@ use Rattle.std.proofs.lemmas.Bool.{eq-eqb, ne_eqb}
 use Rattle.std.proofs.lemmas.List.{length-map}
 use Rattle.daggy_base.specs.Finding.{find_edge}
 use Rattle.daggy_base.specs.declared.index.Direction.TheVariants.{Outgoing}
-use Rattle.daggy_graph.specs.Raw.{raw_next}
-use Rattle.daggy_graph.specs.Stored.{nexts_of, stored_graph}
-use Rattle.daggy_graph.proofs.Rows.{IsScan-done, IsScan-here, IsScan-step, IsScan-shorter}
-use Rattle.daggy_graph.proofs.StoredLemmas.{leads_to_read, slice_get_mapped}
+use Rattle.daggy_cells.specs.Raw.{raw_next}
+use Rattle.daggy_cells.specs.Fields.{nexts_of}
+use Rattle.daggy_graph.specs.Stored.{stored_graph}
+use Rattle.daggy_cells.proofs.Rows.{IsScan-done, IsScan-here, IsScan-step, IsScan-shorter}
+use Rattle.daggy_graph.proofs.StoredLemmas.{leads_to_read}
+use Rattle.daggy_cells.proofs.FieldLemmas.{slice_get_mapped}
 use Rattle.daggy_graph.proofs.graph.DiGraph.find_edge.Goals as goal
 
 pub returns-then-i-len : goal.returns-then-i-len
@@ -28,7 +30,7 @@ returns-then-index-v g c =
     let reads : c.index-x.result.now ≡ get_or c.self.inside.edges.items c.along.e c.index-x.result.now = c.index-x.ensures ∙ ap (λ z. get_or c.self.inside.edges.items z c.index-x.result.now) c.index-i.ensures.value in
     let inside : c.along.e < length c.self.inside.edges.items = omega (arith, within, same) in
     let leads = leads_to_read c.self.inside.nodes.items c.self.inside.edges.items c.index-v.result c.along.e c.index-x.result.now inside reads in
-    let met : eqb c.index-x.result.now.child c.index-v.result ≡ true = eq-eqb _ _ (sym c.index-in-along.ensures.value ∙ c.if-index-v.true) in
+    let met : eqb c.index-x.result.now.child c.index-v.result ≡ true = eq-eqb _ _ (sym c.end.ensures ∙ sym c.index-in-along.ensures.value ∙ c.if-index-v.true) in
     ap Some c.edge.ensures.value ∙ sym (sym shown ∙ IsScan-here _ _ _ _ _ c.along.invariant within limit (leads ∙ met))
 
 pub along-smaller : goal.along-smaller
@@ -39,7 +41,7 @@ along-smaller g c =
     let reads : c.index-x.result.now ≡ get_or c.self.inside.edges.items c.along.e c.index-x.result.now = c.index-x.ensures ∙ ap (λ z. get_or c.self.inside.edges.items z c.index-x.result.now) c.index-i.ensures.value in
     let inside : c.along.e < length c.self.inside.edges.items = omega (arith, within, same) in
     let leads = leads_to_read c.self.inside.nodes.items c.self.inside.edges.items c.index-v.result c.along.e c.index-x.result.now inside reads in
-    let goes = slice_get_mapped (raw_next Outgoing) c.self.inside.edges.items c.along.e c.index-x.result.now inside reads in
+    let goes = slice_get_mapped (raw_next Outgoing) c.self.inside.edges.items c.along.e c.index-x.result.now inside reads ∙ ap Some (sym c.next-e.ensures) in
     IsScan-shorter _ _ _ _ _ _ c.along.invariant within limit goes
 
 pub along-preserved : goal.along-preserved
@@ -50,6 +52,6 @@ along-preserved g c =
     let reads : c.index-x.result.now ≡ get_or c.self.inside.edges.items c.along.e c.index-x.result.now = c.index-x.ensures ∙ ap (λ z. get_or c.self.inside.edges.items z c.index-x.result.now) c.index-i.ensures.value in
     let inside : c.along.e < length c.self.inside.edges.items = omega (arith, within, same) in
     let leads = leads_to_read c.self.inside.nodes.items c.self.inside.edges.items c.index-v.result c.along.e c.index-x.result.now inside reads in
-    let goes = slice_get_mapped (raw_next Outgoing) c.self.inside.edges.items c.along.e c.index-x.result.now inside reads in
-    let other : eqb c.index-x.result.now.child c.index-v.result ≡ false = ne_eqb _ _ (λ q. c.if-index-v.false (c.index-in-along.ensures.value ∙ q)) in
+    let goes = slice_get_mapped (raw_next Outgoing) c.self.inside.edges.items c.along.e c.index-x.result.now inside reads ∙ ap Some (sym c.next-e.ensures) in
+    let other : eqb c.index-x.result.now.child c.index-v.result ≡ false = ne_eqb _ _ (λ q. c.if-index-v.false (c.index-in-along.ensures.value ∙ c.end.ensures ∙ q)) in
     IsScan-step _ _ _ _ _ _ c.along.invariant within limit (leads ∙ other) goes

@@ -1,8 +1,9 @@
 use Rattle.std.proofs.Common.{length}
 use Rattle.daggy_base.specs.Finding.{leads_to, find_edge}
 use Rattle.daggy_base.specs.declared.index.Direction.TheVariants.{Outgoing}
-use Rattle.daggy_graph.specs.Stored.{nexts_of, walk, stored_graph}
-use Rattle.daggy_graph.proofs.Rows.{IsScan}
+use Rattle.daggy_cells.specs.Fields.{nexts_of, walk}
+use Rattle.daggy_graph.specs.Stored.{stored_graph}
+use Rattle.daggy_cells.proofs.Rows.{IsScan}
 use Rattle.daggy_graph.proofs.graph.DiGraph.find_edge.Given as goal
 
 abbrev pub invariant-along : goal.invariant-along

@@ -1,7 +1,7 @@
 use Rattle.std.proofs.Common.{subst}
 use Rattle.daggy_graph.specs.Stored.{stored_graph}
-use Rattle.daggy_graph.specs.Mapping.{IsMapped}
-use Rattle.daggy_graph.specs.MappedCells.{MapsCells, node_weight_in, node_with, edge_weight_in, edge_with}
+use Rattle.daggy_base.specs.Mapping.{IsMapped}
+use Rattle.daggy_cells.specs.MappedCells.{MapsCells, node_weight_in, node_with, edge_weight_in, edge_with}
 use Rattle.daggy_graph.proofs.MappingLemmas.{Stores-mapped, IsMapped-stored}
 use Rattle.daggy_graph.proofs.graph.DiGraph.map.Goals as goal
 

@@ -1,8 +1,8 @@
 use Rattle.std.proofs.Common.{◌≡◌, ◌-◌, length, sym, ap, ◌∙◌, arith}
 use Rattle.std.specs.List.{range_with_len}
 use Rattle.std.proofs.lemmas.List.FromFn.{length-range_with_len}
-use Rattle.daggy_graph.specs.Iterating.{node_identifiers}
-use Rattle.daggy_graph.proofs.RestLemmas.{numbers_are}
+use Rattle.daggy_base.specs.Iterating.{node_identifiers}
+use Rattle.daggy_cells.proofs.RestLemmas.{numbers_are}
 use Rattle.daggy_graph.proofs.graph.DiGraph.node_identifiers.Goals as goal
 
 pub returns-clause-rest : goal.returns-clause-rest

@@ -1,5 +1,5 @@
 use Rattle.std.proofs.Common.{arith}
-use Rattle.daggy_graph.proofs.RestLemmas.{length-numbered}
+use Rattle.daggy_cells.proofs.RestLemmas.{length-numbered}
 use Rattle.daggy_graph.proofs.graph.DiGraph.node_references.Goals as goal
 
 pub returns-clause-fits : goal.returns-clause-fits

@@ -1,6 +1,6 @@
 use Rattle.std.proofs.Common.{map, sym, ap, ◌∙◌}
-use Rattle.daggy_graph.specs.Iterating.{node_weights}
-use Rattle.daggy_graph.proofs.RestLemmas.{values_are}
+use Rattle.daggy_base.specs.Iterating.{node_weights}
+use Rattle.daggy_cells.proofs.RestLemmas.{values_are}
 use Rattle.daggy_graph.proofs.graph.DiGraph.node_weights.Goals as goal
 
 pub returns-clause-rest : goal.returns-clause-rest

@@ -4,10 +4,12 @@ use Rattle.std.specs.Option.{option_map}
 use Rattle.std.proofs.lemmas.List.{length-map}
 use Rattle.daggy_base.specs.Graph.{edge_at, slot}
 use Rattle.daggy_base.specs.Removal.{Compact, without_edge}
-use Rattle.daggy_graph.specs.Stored.{plain, plain_edge, stored_graph, Stores}
-use Rattle.daggy_graph.proofs.States.{state_changed}
+use Rattle.daggy_cells.specs.Fields.{plain, plain_edge}
+use Rattle.daggy_graph.specs.Stored.{stored_graph, Stores}
+use Rattle.daggy_cells.proofs.States.{state_changed}
 use Rattle.daggy_graph.proofs.Reading.{got_none, edge_got}
-use Rattle.daggy_graph.proofs.StoredLemmas.{stored_is, Stores-itself, slot_is}
+use Rattle.daggy_graph.proofs.StoredLemmas.{stored_is, Stores-itself}
+use Rattle.daggy_cells.proofs.FieldLemmas.{slot_is}
 use Rattle.daggy_graph.proofs.graph.DiGraph.remove_edge.Goals as goal
 
 pub invariant_of-self : goal.invariant_of-self

@@ -1,4 +1,5 @@
-use Rattle.daggy_graph.proofs.CloneLemmas.{nodes_same, edges_same, Stores-copied, copied_state}
+use Rattle.daggy_cells.proofs.CloneLemmas.{nodes_same, edges_same}
+use Rattle.daggy_graph.proofs.CloneLemmas.{Stores-copied, copied_state}
 use Rattle.daggy_graph.proofs.graph.DiGraph.try_clone.Goals as goal
 
 pub invariant_of-result : goal.invariant_of-result

@@ -1,5 +1,5 @@
 use Rattle.std.proofs.Common.{subst}
-use Rattle.daggy_graph.specs.Rewriting.{RewritesEdges}
+use Rattle.daggy_base.specs.Rewriting.{RewritesEdges}
 use Rattle.daggy_graph.specs.Stored.{stored_graph}
 use Rattle.daggy_graph.proofs.RewritingLemmas.{Stores-edges_rewritten, RewritesEdges-stored}
 use Rattle.daggy_graph.proofs.graph.DiGraph.update_edge_weights.Goals as goal

@@ -1,9 +1,12 @@
 use Rattle.std.proofs.Common.{arith}
 use Rattle.daggy_base.specs.Weights.{with_node_weight, with_edge_weight}
-use Rattle.daggy_graph.specs.Stored.{plain, stored_graph}
-use Rattle.daggy_graph.proofs.StoredLemmas.{stored_is, Stores-itself, slot_within}
-use Rattle.daggy_graph.proofs.States.{state_changed}
-use Rattle.daggy_graph.proofs.PairLemmas.{both_updated, node_read, edge_read, called_at}
+use Rattle.daggy_cells.specs.Fields.{plain}
+use Rattle.daggy_graph.specs.Stored.{stored_graph}
+use Rattle.daggy_graph.proofs.StoredLemmas.{stored_is, Stores-itself}
+use Rattle.daggy_cells.proofs.FieldLemmas.{slot_within}
+use Rattle.daggy_cells.proofs.States.{state_changed}
+use Rattle.daggy_graph.proofs.PairLemmas.{both_updated, node_read, edge_read}
+use Rattle.daggy_cells.proofs.CellLemmas.{called_at}
 use Rattle.daggy_graph.proofs.graph.DiGraph.update_node_and_edge.Goals as goal
 
 pub invariant_of-self : goal.invariant_of-self

@@ -1,5 +1,5 @@
 use Rattle.std.proofs.Common.{subst}
-use Rattle.daggy_graph.specs.Rewriting.{RewritesNodes}
+use Rattle.daggy_base.specs.Rewriting.{RewritesNodes}
 use Rattle.daggy_graph.specs.Stored.{stored_graph}
 use Rattle.daggy_graph.proofs.RewritingLemmas.{Stores-nodes_rewritten, RewritesNodes-stored}
 use Rattle.daggy_graph.proofs.graph.DiGraph.update_node_weights.Goals as goal

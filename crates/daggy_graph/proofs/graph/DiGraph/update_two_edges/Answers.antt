@@ -1,9 +1,12 @@
 use Rattle.std.proofs.Common.{length, sym, ap, ◌∙◌, arith}
 use Rattle.daggy_base.specs.Weights.{with_edge_weight}
-use Rattle.daggy_graph.specs.Stored.{plain, stored_graph}
-use Rattle.daggy_graph.proofs.StoredLemmas.{stored_is, Stores-itself, slot_within}
-use Rattle.daggy_graph.proofs.States.{state_changed}
-use Rattle.daggy_graph.proofs.PairLemmas.{edges_updated, edge_shown, called_at}
+use Rattle.daggy_cells.specs.Fields.{plain}
+use Rattle.daggy_graph.specs.Stored.{stored_graph}
+use Rattle.daggy_graph.proofs.StoredLemmas.{stored_is, Stores-itself}
+use Rattle.daggy_cells.proofs.FieldLemmas.{slot_within}
+use Rattle.daggy_cells.proofs.States.{state_changed}
+use Rattle.daggy_graph.proofs.PairLemmas.{edges_updated, edge_shown}
+use Rattle.daggy_cells.proofs.CellLemmas.{called_at}
 use Rattle.daggy_graph.proofs.graph.DiGraph.update_two_edges.Goals as goal
 
 pub at_edges-requires-clause-first : goal.at_edges-requires-clause-first

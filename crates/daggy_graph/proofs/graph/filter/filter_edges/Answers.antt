@@ -1,10 +1,11 @@
 use Rattle.std.proofs.Common.{◌≡◌, ◌<◌, ◌+◌, Some, None, map, length, sym, ap, subst, ◌∙◌, of_calls, arith}
 use Rattle.std.proofs.lemmas.List.{length-map, get_or-map}
 use Rattle.daggy_base.specs.Graph.{Edge as PlainEdge}
-use Rattle.daggy_graph.specs.Stored.{stored_graph, plain_edge}
-use Rattle.daggy_graph.specs.Filtering.{new_ends}
+use Rattle.daggy_graph.specs.Stored.{stored_graph}
+use Rattle.daggy_cells.specs.Fields.{plain_edge}
+use Rattle.daggy_base.specs.Filtering.{new_ends}
 use Rattle.daggy_graph.proofs.StoredLemmas.{stored_is, Stores-itself}
-use Rattle.daggy_graph.proofs.MappingLemmas.{CalledAt-from_step}
+use Rattle.daggy_cells.proofs.MappingLemmas.{CalledAt-from_step}
 use Rattle.daggy_graph.proofs.FilterLemmas.{EdgesBelow, EdgesBelow-passed, EdgesBelow-called, EdgesBelow-done, both_are, named_within}
 use Rattle.daggy_graph.proofs.graph.filter.filter_edges.Goals as goal
 

@@ -1,5 +1,6 @@
 use Rattle.std.proofs.Common.{◌≡◌, ◌≤◌, map, length, vec_capacity}
-use Rattle.daggy_graph.specs.Stored.{stored_graph, Stores, plain_edge}
+use Rattle.daggy_graph.specs.Stored.{stored_graph, Stores}
+use Rattle.daggy_cells.specs.Fields.{plain_edge}
 use Rattle.daggy_graph.proofs.FilterLemmas.{EdgesBelow}
 use Rattle.daggy_graph.proofs.graph.filter.filter_edges.Given as goal
 

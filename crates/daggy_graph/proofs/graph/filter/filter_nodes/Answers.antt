@@ -1,9 +1,10 @@
 use Rattle.std.proofs.Common.{◌<◌, ◌+◌, Some, map, length, sym, ap, subst, ◌∙◌, of_calls, arith}
 use Rattle.std.proofs.lemmas.List.{length-map, get_or-map, length_push}
-use Rattle.daggy_graph.specs.Stored.{stored_graph, weight_of}
-use Rattle.daggy_graph.specs.Filtering.{named, kept_node}
+use Rattle.daggy_graph.specs.Stored.{stored_graph}
+use Rattle.daggy_cells.specs.Fields.{weight_of}
+use Rattle.daggy_base.specs.Filtering.{named, kept_node}
 use Rattle.daggy_graph.proofs.StoredLemmas.{stored_is, Stores-itself}
-use Rattle.daggy_graph.proofs.MappingLemmas.{CalledAt-from_step}
+use Rattle.daggy_cells.proofs.MappingLemmas.{CalledAt-from_step}
 use Rattle.daggy_graph.proofs.FilterLemmas.{FilteredBelow, FilteredBelow-called, FilteredBelow-done}
 use Rattle.daggy_graph.proofs.graph.filter.filter_nodes.Goals as goal
 

@@ -1,5 +1,6 @@
 use Rattle.std.proofs.Common.{◌≡◌, ◌≤◌, map, length, vec_capacity}
-use Rattle.daggy_graph.specs.Stored.{stored_graph, Stores, weight_of}
+use Rattle.daggy_graph.specs.Stored.{stored_graph, Stores}
+use Rattle.daggy_cells.specs.Fields.{weight_of}
 use Rattle.daggy_graph.specs.Names.{AreNamesBelow}
 use Rattle.daggy_graph.proofs.FilterLemmas.{FilteredBelow}
 use Rattle.daggy_graph.proofs.graph.filter.filter_nodes.Given as goal

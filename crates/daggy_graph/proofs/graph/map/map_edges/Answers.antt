@@ -1,6 +1,6 @@
 use Rattle.std.proofs.Common.{◌<◌, length, of_calls, arith}
-use Rattle.daggy_graph.specs.MappedCells.{edge_weight_in, edge_with}
-use Rattle.daggy_graph.proofs.MappingLemmas.{CalledAt-from_step, MappedBelow-called, MappedBelow-done}
+use Rattle.daggy_cells.specs.MappedCells.{edge_weight_in, edge_with}
+use Rattle.daggy_cells.proofs.MappingLemmas.{CalledAt-from_step, MappedBelow-called, MappedBelow-done}
 use Rattle.daggy_graph.proofs.graph.map.map_edges.Goals as goal
 
 pub each-preserved : goal.each-preserved
@@ -9,7 +9,7 @@ each-preserved g c =
     let within : c.each.i < length c.args.edges.now = omega arith in (
       search of_calls,
       omega (arith, c.push_reserved.ensures.capacity, c.each.invariant.1),
-      rw c.push_reserved.ensures.items (MappedBelow-called (goal.G-step g) g.Ix.IndexType.of edge_weight_in edge_with c.args.g c.args.edges.now c.each.g c.g-weight.new.self c.each.new.items c.each.i c.index-edges-i.result c.g-weight.result within c.index-edges-i.is called c.each.invariant.2),
+      rw (c.push_reserved.ensures.items, c.edge_like.ensures) (MappedBelow-called (goal.G-step g) g.Ix.IndexType.of edge_weight_in edge_with c.args.g c.args.edges.now c.each.g c.g-weight.new.self c.each.new.items c.each.i c.index-edges-i.result c.g-weight.result within c.index-edges-i.is called c.each.invariant.2),
     )
 
 pub returns : goal.returns

@@ -1,6 +1,6 @@
 use Rattle.std.proofs.Common.{◌≤◌, length, vec_capacity}
-use Rattle.daggy_graph.specs.MappedCells.{edge_weight_in, edge_with}
-use Rattle.daggy_graph.proofs.MappingLemmas.{MappedBelow}
+use Rattle.daggy_cells.specs.MappedCells.{edge_weight_in, edge_with}
+use Rattle.daggy_cells.proofs.MappingLemmas.{MappedBelow}
 use Rattle.daggy_graph.proofs.graph.map.map_edges.Given as goal
 
 abbrev pub invariant-each : goal.invariant-each

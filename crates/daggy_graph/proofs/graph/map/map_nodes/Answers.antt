@@ -1,6 +1,6 @@
 use Rattle.std.proofs.Common.{◌<◌, length, of_calls, arith}
-use Rattle.daggy_graph.specs.MappedCells.{node_weight_in, node_with}
-use Rattle.daggy_graph.proofs.MappingLemmas.{CalledAt-from_step, MappedBelow-called, MappedBelow-done}
+use Rattle.daggy_cells.specs.MappedCells.{node_weight_in, node_with}
+use Rattle.daggy_cells.proofs.MappingLemmas.{CalledAt-from_step, MappedBelow-called, MappedBelow-done}
 use Rattle.daggy_graph.proofs.graph.map.map_nodes.Goals as goal
 
 pub each-preserved : goal.each-preserved
@@ -9,7 +9,7 @@ each-preserved g c =
     let within : c.each.i < length c.args.nodes.now = omega arith in (
       search of_calls,
       omega (arith, c.push_reserved.ensures.capacity, c.each.invariant.1),
-      rw c.push_reserved.ensures.items (MappedBelow-called (goal.F-step g) g.Ix.IndexType.of node_weight_in node_with c.args.f c.args.nodes.now c.each.f c.f-weight.new.self c.each.new.items c.each.i c.index-nodes-i.result c.f-weight.result within c.index-nodes-i.is called c.each.invariant.2),
+      rw (c.push_reserved.ensures.items, c.node_like.ensures) (MappedBelow-called (goal.F-step g) g.Ix.IndexType.of node_weight_in node_with c.args.f c.args.nodes.now c.each.f c.f-weight.new.self c.each.new.items c.each.i c.index-nodes-i.result c.f-weight.result within c.index-nodes-i.is called c.each.invariant.2),
     )
 
 pub returns : goal.returns

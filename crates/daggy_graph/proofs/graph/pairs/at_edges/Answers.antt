@@ -1,6 +1,6 @@
 use Rattle.std.proofs.Common.{sym, ap, arith}
-use Rattle.daggy_graph.specs.Cells.{edge_of_weight}
-use Rattle.daggy_graph.proofs.CellLemmas.{weight_left, weight_right, more, called_in_order, called_turned}
+use Rattle.daggy_cells.specs.Cells.{edge_of_weight}
+use Rattle.daggy_cells.proofs.CellLemmas.{weight_left, weight_right, more, called_in_order, called_turned}
 use Rattle.daggy_graph.proofs.graph.pairs.at_edges.Goals as goal
 
 pub split_at_mut-front-requires : goal.split_at_mut-front-requires

@@ -1,8 +1,8 @@
 use Rattle.std.proofs.Common.{◌≡◌, List, ◌++◌, drop}
-use Rattle.daggy_graph.specs.declared.graph.Edge.{Edge}
-use Rattle.daggy_graph.specs.Rewriting.{Leaves}
-use Rattle.daggy_graph.specs.MappedCells.{edge_weight_in, edge_with}
-use Rattle.daggy_graph.proofs.MappingLemmas.{MappedBelow}
+use Rattle.daggy_cells.specs.declared.cell.Edge.{Edge}
+use Rattle.daggy_base.specs.Rewriting.{Leaves}
+use Rattle.daggy_cells.specs.MappedCells.{edge_weight_in, edge_with}
+use Rattle.daggy_cells.proofs.MappingLemmas.{MappedBelow}
 use Rattle.daggy_graph.proofs.graph.rewriting.write_edges.Given as goal
 
 abbrev pub invariant-each : goal.invariant-each

@@ -1,8 +1,8 @@
 use Rattle.std.proofs.Common.{◌<◌, ◌≤◌, ◌≡◌, [], ◌∷◌, ◌++◌, length, drop, refl, ap, ◌∙◌, append-nil, of_calls, arith}
 use Rattle.std.proofs.lemmas.List.{drop_all, length-append, length-drop}
-use Rattle.daggy_graph.specs.Rewriting.{Leaves}
-use Rattle.daggy_graph.specs.MappedCells.{node_weight_in, node_with}
-use Rattle.daggy_graph.proofs.MappingLemmas.{MappedBelow-called, MappedBelow-done}
+use Rattle.daggy_base.specs.Rewriting.{Leaves}
+use Rattle.daggy_cells.specs.MappedCells.{node_weight_in, node_with}
+use Rattle.daggy_cells.proofs.MappingLemmas.{MappedBelow-called, MappedBelow-done}
 use Rattle.daggy_graph.proofs.RewritingLemmas.{read_old, written, left_at}
 use Rattle.daggy_graph.proofs.graph.rewriting.write_nodes.Goals as goal
 

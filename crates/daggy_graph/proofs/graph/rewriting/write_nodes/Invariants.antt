@@ -1,8 +1,8 @@
 use Rattle.std.proofs.Common.{◌≡◌, List, ◌++◌, drop}
-use Rattle.daggy_graph.specs.declared.graph.Node.{Node}
-use Rattle.daggy_graph.specs.Rewriting.{Leaves}
-use Rattle.daggy_graph.specs.MappedCells.{node_weight_in, node_with}
-use Rattle.daggy_graph.proofs.MappingLemmas.{MappedBelow}
+use Rattle.daggy_cells.specs.declared.cell.Node.{Node}
+use Rattle.daggy_base.specs.Rewriting.{Leaves}
+use Rattle.daggy_cells.specs.MappedCells.{node_weight_in, node_with}
+use Rattle.daggy_cells.proofs.MappingLemmas.{MappedBelow}
 use Rattle.daggy_graph.proofs.graph.rewriting.write_nodes.Given as goal
 
 abbrev pub invariant-each : goal.invariant-each

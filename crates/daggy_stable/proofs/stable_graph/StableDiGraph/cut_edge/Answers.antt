@@ -3,8 +3,8 @@ use Rattle.std.specs.Option.{option_map}
 use Rattle.std.proofs.lemmas.List.{length-map}
 use Rattle.daggy_base.specs.Graph.{edge_at}
 use Rattle.daggy_base.specs.Taking.{taken_back}
-use Rattle.daggy_graph.proofs.States.{state_changed}
-use Rattle.daggy_graph.specs.Stored.{plain_edge as stored_edge}
+use Rattle.daggy_cells.proofs.States.{state_changed}
+use Rattle.daggy_cells.specs.Fields.{plain_edge as stored_edge}
 use Rattle.daggy_stable.specs.Stored.{stored_graph}
 use Rattle.daggy_stable.proofs.Stores.{stored_is, Stores-itself, edges_long}
 use Rattle.daggy_stable.proofs.Removing.{edges_some, ready_code, cell_weight, edge_cut_code, popped, popped_last}

@@ -2,7 +2,7 @@ use Rattle.std.proofs.Common.{◌≡◌, ◌+◌, [], true, length, refl, ap, �
 use Rattle.daggy_base.specs.declared.index.Direction.{Direction}
 use Rattle.daggy_base.specs.Graph.{node_weight, list_at}
 use Rattle.daggy_base.specs.Taking.{node_taken_back}
-use Rattle.daggy_graph.proofs.States.{state_changed}
+use Rattle.daggy_cells.proofs.States.{state_changed}
 use Rattle.daggy_stable.specs.Stored.{stored_graph}
 use Rattle.daggy_stable.proofs.Stores.{stored_is, Stores-itself, nodes_long}
 use Rattle.daggy_stable.proofs.Removing.{nodes_some, node_cut_code, node_weight_read, popped, popped_last}

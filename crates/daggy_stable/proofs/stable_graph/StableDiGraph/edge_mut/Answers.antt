@@ -2,7 +2,7 @@ use Rattle.std.proofs.Common.{is_some, arith, refl, sym, ap, ◌∙◌}
 use Rattle.std.specs.Option.{option_map, option_copied_mut}
 use Rattle.daggy_base.specs.Graph.{edge_at}
 use Rattle.daggy_base.specs.Weights.{with_edge_weight}
-use Rattle.daggy_graph.proofs.States.{state_changed}
+use Rattle.daggy_cells.proofs.States.{state_changed}
 use Rattle.daggy_stable.specs.Stored.{stored_graph}
 use Rattle.daggy_stable.proofs.Stores.{stored_is, Stores-itself, some_is, edge_within, edge_read, cell_of}
 use Rattle.daggy_stable.proofs.Removing.{weight_plain}

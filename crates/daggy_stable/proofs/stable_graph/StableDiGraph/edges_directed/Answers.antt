@@ -1,7 +1,7 @@
 use Rattle.std.proofs.Common.{sym, ap, subst, ◌∙◌, arith}
 use Rattle.daggy_base.specs.Cursor.{first_of}
 use Rattle.daggy_base.specs.Graph.{list_at}
-use Rattle.daggy_graph.specs.Iterating.{edges_at}
+use Rattle.daggy_base.specs.Iterating.{edges_at}
 use Rattle.daggy_stable.specs.Rest.{edges_left, IsOnFullRow}
 use Rattle.daggy_stable.proofs.Listing.{IsOnFullRow-begins, left_begins, left_few}
 use Rattle.daggy_stable.proofs.stable_graph.StableDiGraph.edges_directed.Goals as goal

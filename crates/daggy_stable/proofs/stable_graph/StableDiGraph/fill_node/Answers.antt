@@ -1,6 +1,6 @@
 use Rattle.std.proofs.Common.{sym, ap, ◌∙◌, arith}
 use Rattle.daggy_base.specs.Adding.{next_slot, next_node, with_node}
-use Rattle.daggy_graph.proofs.States.{state_changed}
+use Rattle.daggy_cells.proofs.States.{state_changed}
 use Rattle.daggy_stable.proofs.Stores.{stored_is, Stores-itself}
 use Rattle.daggy_stable.proofs.Changes.{node_next, node_filled_code}
 use Rattle.daggy_stable.proofs.stable_graph.StableDiGraph.fill_node.Goals as goal
@@ -17,7 +17,7 @@ index_mut-requires g c =
 
 pub invariant_of-self : goal.invariant_of-self
 invariant_of-self g c =
-    Stores-itself (node_filled_code c.self.invariant c.args.weight _ _ _ _ (λ q. c.requires (ap (λ s. s.graph.vacant_nodes) (sym c.self.view_is) ∙ q)) c.index-i.ensures.value c.index.ensures c.first-self-inside.ensures c.new.ensures)
+    Stores-itself (node_filled_code c.self.invariant c.args.weight _ _ _ _ (λ q. c.requires (ap (λ s. s.graph.vacant_nodes) (sym c.self.view_is) ∙ q)) c.index-i.ensures.value c.index.ensures c.first-self-inside.ensures c.new_node.ensures)
 
 pub returns-clause-index : goal.returns-clause-index
 returns-clause-index g c =
@@ -27,4 +27,4 @@ returns-clause-index g c =
 pub returns-clause-added : goal.returns-clause-added
 returns-clause-added g c =
     state_changed _ _ _ _ (λ h. with_node h c.args.weight) c.self.view_is
-    (stored_is (node_filled_code c.self.invariant c.args.weight _ _ _ _ (λ q. c.requires (ap (λ s. s.graph.vacant_nodes) (sym c.self.view_is) ∙ q)) c.index-i.ensures.value c.index.ensures c.first-self-inside.ensures c.new.ensures))
+    (stored_is (node_filled_code c.self.invariant c.args.weight _ _ _ _ (λ q. c.requires (ap (λ s. s.graph.vacant_nodes) (sym c.self.view_is) ∙ q)) c.index-i.ensures.value c.index.ensures c.first-self-inside.ensures c.new_node.ensures))

@@ -1,8 +1,8 @@
 use Rattle.std.proofs.Common.{map, take, sym, ap, subst, ◌∙◌, arith}
 use Rattle.daggy_base.specs.Graph.{node_bound, edge_bound, bound_of}
-use Rattle.daggy_graph.specs.Filtering.{ListsDescend}
-use Rattle.daggy_graph.specs.InPlace.{KeepsSlots, IsFilteredInPlace}
-use Rattle.daggy_graph.specs.Mapping.{weight_in, with_weight}
+use Rattle.daggy_base.specs.Filtering.{ListsDescend}
+use Rattle.daggy_base.specs.FilteringInPlace.{KeepsSlots, IsFilteredInPlace}
+use Rattle.daggy_base.specs.Mapping.{weight_in, with_weight}
 use Rattle.daggy_stable.specs.Stored.{weight_of, plain_edge, stored_graph}
 use Rattle.daggy_stable.proofs.Stores.{nodes_long, edges_long, stored_is, Stores-itself, Stores-empty}
 use Rattle.daggy_stable.proofs.Descending.{of_slots_descend}

@@ -5,10 +5,10 @@ use Rattle.daggy_base.specs.Finding.{find_edge}
 use Rattle.daggy_base.specs.Cursor.{first_of}
 use Rattle.daggy_base.specs.Graph.{out_list}
 use Rattle.daggy_base.specs.declared.index.Direction.TheVariants.{Outgoing}
-use Rattle.daggy_graph.specs.Raw.{raw_next}
-use Rattle.daggy_graph.specs.Stored.{nexts_of}
-use Rattle.daggy_graph.proofs.Rows.{IsScan, IsScan-done, IsScan-here, IsScan-step, IsScan-shorter}
-use Rattle.daggy_graph.proofs.StoredLemmas.{slice_get_mapped}
+use Rattle.daggy_cells.specs.Raw.{raw_next}
+use Rattle.daggy_cells.specs.Fields.{nexts_of}
+use Rattle.daggy_cells.proofs.Rows.{IsScan, IsScan-done, IsScan-here, IsScan-step, IsScan-shorter}
+use Rattle.daggy_cells.proofs.FieldLemmas.{slice_get_mapped}
 use Rattle.daggy_stable.proofs.Stores.{nexts_few}
 use Rattle.daggy_stable.proofs.Scanning.{child_is, child_seen, scan_start}
 use Rattle.daggy_stable.proofs.stable_graph.StableDiGraph.find_edge.Goals as goal

@@ -1,8 +1,8 @@
 use Rattle.std.proofs.Common.{length}
 use Rattle.daggy_base.specs.Finding.{find_edge}
 use Rattle.daggy_base.specs.declared.index.Direction.TheVariants.{Outgoing}
-use Rattle.daggy_graph.specs.Stored.{nexts_of, walk}
-use Rattle.daggy_graph.proofs.Rows.{IsScan}
+use Rattle.daggy_cells.specs.Fields.{nexts_of, walk}
+use Rattle.daggy_cells.proofs.Rows.{IsScan}
 use Rattle.daggy_stable.proofs.Scanning.{child_is}
 use Rattle.daggy_stable.proofs.stable_graph.StableDiGraph.find_edge.Given as goal
 

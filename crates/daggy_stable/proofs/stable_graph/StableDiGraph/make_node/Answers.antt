@@ -1,7 +1,7 @@
 use Rattle.std.proofs.Common.{rules, ◌<◌, ap, ◌∙◌, arith}
 use Rattle.daggy_base.specs.Graph.{node_count}
 use Rattle.daggy_base.specs.Adding.{with_node}
-use Rattle.daggy_graph.proofs.States.{state_changed}
+use Rattle.daggy_cells.proofs.States.{state_changed}
 use Rattle.daggy_stable.proofs.Stores.{stored_is, Stores-itself}
 use Rattle.daggy_stable.proofs.Changes.{node_made_code}
 use Rattle.daggy_stable.proofs.stable_graph.StableDiGraph.make_node.Goals as goal
@@ -12,10 +12,10 @@ push_reserved-requires g c = search (rules, c.reserve.ensures.ok, c.is_err.ensur
 pub invariant_of-self-2 : goal.invariant_of-self-2
 invariant_of-self-2 g c =
     let few : c.self.inside.node_count < g.Ix.IndexType.greatest = omega (arith, c.requires.room, ap (λ s. node_count s.graph) c.self.view_is, c.self.invariant.node_slots.counted) in
-    Stores-itself (node_made_code c.self.invariant c.args.weight _ _ _ (ap (λ s. s.graph.vacant_nodes) c.self.view_is ∙ c.requires.none) few c.new.ensures c.reserve.ensures.items c.push_reserved.ensures.items)
+    Stores-itself (node_made_code c.self.invariant c.args.weight _ _ _ (ap (λ s. s.graph.vacant_nodes) c.self.view_is ∙ c.requires.none) few c.new_node.ensures c.reserve.ensures.items c.push_reserved.ensures.items)
 
 pub returns-clause-added : goal.returns-clause-added
 returns-clause-added g c =
     let few : c.self.inside.node_count < g.Ix.IndexType.greatest = omega (arith, c.requires.room, ap (λ s. node_count s.graph) c.self.view_is, c.self.invariant.node_slots.counted) in
     state_changed _ _ _ _ (λ h. with_node h c.args.weight) c.self.view_is
-    (stored_is (node_made_code c.self.invariant c.args.weight _ _ _ (ap (λ s. s.graph.vacant_nodes) c.self.view_is ∙ c.requires.none) few c.new.ensures c.reserve.ensures.items c.push_reserved.ensures.items))
+    (stored_is (node_made_code c.self.invariant c.args.weight _ _ _ (ap (λ s. s.graph.vacant_nodes) c.self.view_is ∙ c.requires.none) few c.new_node.ensures c.reserve.ensures.items c.push_reserved.ensures.items))

@@ -1,6 +1,6 @@
 use Rattle.std.proofs.Common.{map, length, subst, ap, ◌∙◌, arith}
-use Rattle.daggy_graph.specs.Mapping.{MapsSlots, IsMapped, weight_in, with_weight}
-use Rattle.daggy_graph.specs.Stored.{firsts_of, nexts_of}
+use Rattle.daggy_base.specs.Mapping.{MapsSlots, IsMapped, weight_in, with_weight}
+use Rattle.daggy_cells.specs.Fields.{firsts_of, nexts_of}
 use Rattle.daggy_stable.specs.Stored.{weight_of, plain_edge, stored_graph}
 use Rattle.daggy_stable.proofs.Stores.{edges_long}
 use Rattle.daggy_stable.proofs.Mapping.{Stores-mapped, IsMapped-stored}

@@ -2,7 +2,7 @@ use Rattle.std.proofs.Common.{◌<◌, map, length, is_some, arith, refl, sym, a
 use Rattle.std.specs.Option.{option_copied_mut}
 use Rattle.daggy_base.specs.Graph.{node_weight}
 use Rattle.daggy_base.specs.Weights.{with_node_weight}
-use Rattle.daggy_graph.proofs.States.{state_changed}
+use Rattle.daggy_cells.proofs.States.{state_changed}
 use Rattle.daggy_stable.specs.Stored.{weight_of, stored_graph}
 use Rattle.daggy_stable.proofs.Stores.{stored_is, Stores-itself, some_is, nodes_long, node_read}
 use Rattle.daggy_stable.proofs.Slots.{slot_inside}

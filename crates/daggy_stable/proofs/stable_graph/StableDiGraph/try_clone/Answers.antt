@@ -1,4 +1,4 @@
-use Rattle.daggy_graph.proofs.CloneLemmas.{nodes_same, edges_same}
+use Rattle.daggy_cells.proofs.CloneLemmas.{nodes_same, edges_same}
 use Rattle.daggy_stable.proofs.Copying.{options_same, Stores-copied, copied_state}
 use Rattle.daggy_stable.proofs.stable_graph.StableDiGraph.try_clone.Goals as goal
 

@@ -1,7 +1,7 @@
 use Rattle.std.proofs.Common.{IsSome, ap, subst, ◌∙◌, arith}
 use Rattle.daggy_base.specs.Weights.{with_node_weight, with_edge_weight}
-use Rattle.daggy_graph.proofs.PairLemmas.{called_at}
-use Rattle.daggy_graph.proofs.States.{state_changed}
+use Rattle.daggy_cells.proofs.CellLemmas.{called_at}
+use Rattle.daggy_cells.proofs.States.{state_changed}
 use Rattle.daggy_stable.specs.Stored.{stored_graph}
 use Rattle.daggy_stable.proofs.Stores.{stored_is, Stores-itself}
 use Rattle.daggy_stable.proofs.Pairing.{both_updated, node_has, edge_has, edge_stands, node_cell, edge_cell, edge_weighs}

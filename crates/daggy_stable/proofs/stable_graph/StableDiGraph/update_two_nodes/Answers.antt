@@ -1,8 +1,8 @@
 use Rattle.std.proofs.Common.{IsSome, ap, subst, ◌∙◌, arith}
 use Rattle.std.specs.Prelude.{length}
 use Rattle.daggy_base.specs.Weights.{with_node_weight}
-use Rattle.daggy_graph.proofs.PairLemmas.{called_at}
-use Rattle.daggy_graph.proofs.States.{state_changed}
+use Rattle.daggy_cells.proofs.CellLemmas.{called_at}
+use Rattle.daggy_cells.proofs.States.{state_changed}
 use Rattle.daggy_stable.specs.Stored.{stored_graph}
 use Rattle.daggy_stable.proofs.Stores.{stored_is, Stores-itself}
 use Rattle.daggy_stable.proofs.Pairing.{nodes_updated, node_has, node_stands, node_seen}

@@ -2,10 +2,10 @@ use Rattle.std.proofs.Common.{◌≡◌, ◌<◌, ◌+◌, [], ◌∷◌, ◌++�
 use Rattle.std.proofs.lemmas.List.{length-map, get_or-map}
 use Rattle.std.specs.Option.{option_map}
 use Rattle.daggy_base.specs.Graph.{slot}
-use Rattle.daggy_graph.specs.declared.graph.Edge.{Edge}
-use Rattle.daggy_graph.specs.InPlace.{if_joined}
-use Rattle.daggy_graph.specs.Mapping.{weight_in, with_weight}
-use Rattle.daggy_graph.proofs.MappingLemmas.{CalledAt-from_step}
+use Rattle.daggy_cells.specs.declared.cell.Edge.{Edge}
+use Rattle.daggy_base.specs.FilteringInPlace.{if_joined}
+use Rattle.daggy_base.specs.Mapping.{weight_in, with_weight}
+use Rattle.daggy_cells.proofs.MappingLemmas.{CalledAt-from_step}
 use Rattle.daggy_stable.specs.Stored.{weight_of, plain, plain_edge}
 use Rattle.daggy_stable.specs.Building.{between}
 use Rattle.daggy_stable.proofs.Keeping.{KeptSlots-passed, KeptSlots-called, KeptSlots-done, one_longer, joined_is, lost_is}

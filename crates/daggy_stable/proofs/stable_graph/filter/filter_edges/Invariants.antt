@@ -1,6 +1,6 @@
 use Rattle.std.proofs.Common.{◌≡◌, ◌≤◌, map, length, vec_capacity}
-use Rattle.daggy_graph.specs.InPlace.{if_joined}
-use Rattle.daggy_graph.specs.Mapping.{weight_in, with_weight}
+use Rattle.daggy_base.specs.FilteringInPlace.{if_joined}
+use Rattle.daggy_base.specs.Mapping.{weight_in, with_weight}
 use Rattle.daggy_stable.specs.Stored.{weight_of, plain_edge}
 use Rattle.daggy_stable.specs.Building.{IsBuilt}
 use Rattle.daggy_stable.proofs.Keeping.{KeptSlots}

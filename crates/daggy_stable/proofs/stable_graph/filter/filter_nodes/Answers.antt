@@ -1,6 +1,6 @@
 use Rattle.std.proofs.Common.{◌≡◌, ◌<◌, ◌+◌, [], ◌∷◌, ◌++◌, Some, None, map, length, get_or, sym, ap, ◌∙◌, of_calls, arith}
 use Rattle.std.proofs.lemmas.List.{length-map, get_or-map}
-use Rattle.daggy_graph.proofs.MappingLemmas.{CalledAt-from_step}
+use Rattle.daggy_cells.proofs.MappingLemmas.{CalledAt-from_step}
 use Rattle.daggy_stable.specs.Stored.{weight_of}
 use Rattle.daggy_stable.proofs.Keeping.{KeptSlots-passed, KeptSlots-called, KeptSlots-done, option_map_same, one_longer}
 use Rattle.daggy_stable.proofs.stable_graph.filter.filter_nodes.Goals as goal

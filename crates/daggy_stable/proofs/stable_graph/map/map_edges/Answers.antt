@@ -1,10 +1,10 @@
 use Rattle.std.proofs.Common.{◌<◌, ◌+◌, Some, None, length, sym, ap, ◌∙◌, of_calls, arith}
 use Rattle.std.proofs.lemmas.List.{length-map, length_push}
 use Rattle.std.specs.Option.{option_map}
-use Rattle.daggy_graph.specs.Mapping.{weight_in, with_weight}
-use Rattle.daggy_graph.specs.Raw.{raw_next}
-use Rattle.daggy_graph.specs.Stored.{nexts_of}
-use Rattle.daggy_graph.proofs.MappingLemmas.{CalledAt-from_step}
+use Rattle.daggy_base.specs.Mapping.{weight_in, with_weight}
+use Rattle.daggy_cells.specs.Raw.{raw_next}
+use Rattle.daggy_cells.specs.Fields.{nexts_of}
+use Rattle.daggy_cells.proofs.MappingLemmas.{CalledAt-from_step}
 use Rattle.daggy_stable.specs.Stored.{plain, plain_edge}
 use Rattle.daggy_stable.proofs.Mapping.{MappedSlots-pass, MappedSlots-call, MappedSlots-done, kept_more, kept_all, edge_like_links}
 use Rattle.daggy_stable.proofs.stable_graph.map.map_edges.Goals as goal

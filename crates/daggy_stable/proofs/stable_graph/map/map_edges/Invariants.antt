@@ -1,7 +1,7 @@
 use Rattle.std.proofs.Common.{◌≡◌, ◌≤◌, map, take, length, vec_capacity}
 use Rattle.daggy_base.specs.declared.index.Direction.{Direction}
-use Rattle.daggy_graph.specs.Mapping.{weight_in, with_weight}
-use Rattle.daggy_graph.specs.Stored.{nexts_of}
+use Rattle.daggy_base.specs.Mapping.{weight_in, with_weight}
+use Rattle.daggy_cells.specs.Fields.{nexts_of}
 use Rattle.daggy_stable.specs.Stored.{plain_edge}
 use Rattle.daggy_stable.proofs.Mapping.{MappedSlots}
 use Rattle.daggy_stable.proofs.stable_graph.map.map_edges.Given as goal

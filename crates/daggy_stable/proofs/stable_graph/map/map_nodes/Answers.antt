@@ -1,8 +1,8 @@
 use Rattle.std.proofs.Common.{◌<◌, ◌+◌, Some, None, length, sym, ap, ◌∙◌, of_calls, arith}
 use Rattle.std.proofs.lemmas.List.{length-map, length_push}
-use Rattle.daggy_graph.specs.Raw.{raw_first}
-use Rattle.daggy_graph.specs.Stored.{firsts_of}
-use Rattle.daggy_graph.proofs.MappingLemmas.{CalledAt-from_step}
+use Rattle.daggy_cells.specs.Raw.{raw_first}
+use Rattle.daggy_cells.specs.Fields.{firsts_of}
+use Rattle.daggy_cells.proofs.MappingLemmas.{CalledAt-from_step}
 use Rattle.daggy_stable.specs.Stored.{weight_of}
 use Rattle.daggy_stable.proofs.Mapping.{MappedSlots-pass, MappedSlots-call, MappedSlots-done, kept_more, kept_all, node_like_links}
 use Rattle.daggy_stable.proofs.stable_graph.map.map_nodes.Goals as goal

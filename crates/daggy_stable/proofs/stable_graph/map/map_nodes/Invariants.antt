@@ -1,6 +1,6 @@
 use Rattle.std.proofs.Common.{◌≡◌, ◌≤◌, map, take, length, vec_capacity}
 use Rattle.daggy_base.specs.declared.index.Direction.{Direction}
-use Rattle.daggy_graph.specs.Stored.{firsts_of}
+use Rattle.daggy_cells.specs.Fields.{firsts_of}
 use Rattle.daggy_stable.specs.Stored.{weight_of}
 use Rattle.daggy_stable.proofs.Mapping.{MappedSlots}
 use Rattle.daggy_stable.proofs.stable_graph.map.map_nodes.Given as goal

@@ -1,5 +1,5 @@
 use Rattle.std.proofs.Common.{IsSome, sym, ap, subst, ◌∙◌, arith}
-use Rattle.daggy_graph.specs.Cells.{edge_of_weight}
+use Rattle.daggy_cells.specs.Cells.{edge_of_weight}
 use Rattle.daggy_stable.specs.Cells.{edge_weight_in}
 use Rattle.daggy_stable.proofs.Pairing.{front_shows, back_shows, called_in_order, called_turned, edge_weight_read}
 use Rattle.daggy_stable.proofs.stable_graph.pairs.at_edges.Goals as goal

@@ -1,6 +1,6 @@
 use Rattle.std.proofs.Common.{refl, sym, ap, ◌∙◌}
 use Rattle.std.specs.Option.{option_copied_mut}
-use Rattle.daggy_graph.proofs.PairLemmas.{called_at}
+use Rattle.daggy_cells.proofs.CellLemmas.{called_at}
 use Rattle.daggy_stable.proofs.stable_graph.pairs.at_slots.Goals as goal
 
 pub returns : goal.returns

@@ -1,7 +1,7 @@
 use Rattle.std.proofs.Common.{◌≡◌, get_or, ◌∙◌, arith}
 use Rattle.daggy_base.specs.declared.index.Direction.TheVariants.{Outgoing, Incoming}
-use Rattle.daggy_graph.specs.Stored.{nexts_of}
-use Rattle.daggy_graph.proofs.RemovalLemmas.{next_is}
+use Rattle.daggy_cells.specs.Fields.{nexts_of}
+use Rattle.daggy_cells.proofs.RedirectLemmas.{next_is}
 use Rattle.daggy_stable.proofs.Removing.{ready_kept, both_redirected}
 use Rattle.daggy_stable.proofs.stable_graph.removal.unlink.Goals as goal
 

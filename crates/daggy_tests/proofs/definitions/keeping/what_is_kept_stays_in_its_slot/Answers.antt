@@ -1,9 +1,9 @@
 use Rattle.std.proofs.Common.{◌≡◌, ℕ, Option, None, Some, List, [], ◌∷◌, map, refl, sym, ap, subst, ◌∙◌}
 use Rattle.std.specs.Option.{option_map}
 use Rattle.daggy_base.specs.Graph.{Edge}
-use Rattle.daggy_graph.specs.InPlace.{KeepsSlots, if_joined}
-use Rattle.daggy_graph.specs.Mapping.{CalledAt, weight_in, with_weight}
-use Rattle.daggy_graph.specs.Slots.{of_slots}
+use Rattle.daggy_base.specs.FilteringInPlace.{KeepsSlots, if_joined}
+use Rattle.daggy_base.specs.Mapping.{CalledAt, weight_in, with_weight}
+use Rattle.daggy_base.specs.FromSlots.{of_slots}
 use Rattle.daggy_tests.specs.Examples.{line, triangle}
 use Rattle.daggy_tests.specs.Keeping.{unless_ten, drops_ten, numbers_its_calls}
 use Rattle.daggy_tests.proofs.definitions.keeping.what_is_kept_stays_in_its_slot.Goals as goal

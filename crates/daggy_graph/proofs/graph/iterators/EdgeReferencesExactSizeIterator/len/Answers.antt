@@ -1,6 +1,6 @@
 use Rattle.std.proofs.Common.{length, sym, ap, ◌∙◌}
-use Rattle.daggy_graph.specs.Stored.{plain}
-use Rattle.daggy_graph.proofs.RestLemmas.{length-numbered}
+use Rattle.daggy_cells.specs.Fields.{plain}
+use Rattle.daggy_cells.proofs.RestLemmas.{length-numbered}
 use Rattle.daggy_graph.proofs.graph.iterators.EdgeReferencesExactSizeIterator.len.Goals as goal
 
 pub returns-clause-value : goal.returns-clause-value

@@ -1,6 +1,6 @@
 use Rattle.std.proofs.Common.{◌∷◌, ◌+◌, ◌-◌, ◌<◌, sym, ap, ◌∙◌, arith, rules}
 use Rattle.std.specs.List.{range_with_len}
-use Rattle.daggy_graph.proofs.RestLemmas.{range_step}
+use Rattle.daggy_cells.proofs.RestLemmas.{range_step}
 use Rattle.daggy_graph.proofs.graph.iterators.NodeIdentifiersIterator.next.Goals as goal
 
 pub returns-clause-steps : goal.returns-clause-steps

@@ -1,5 +1,5 @@
 use Rattle.std.proofs.Common.{length, sym, ap, ◌∙◌}
-use Rattle.daggy_graph.proofs.RestLemmas.{length-numbered}
+use Rattle.daggy_cells.proofs.RestLemmas.{length-numbered}
 use Rattle.daggy_graph.proofs.graph.iterators.NodeReferencesExactSizeIterator.len.Goals as goal
 
 pub returns-clause-value : goal.returns-clause-value

@@ -1,9 +1,9 @@
 use Rattle.std.proofs.Common.{◌≡◌, ◌∷◌, ◌<◌, length, get_or, sym, ap, subst, ◌∙◌, arith, rules}
-use Rattle.daggy_graph.specs.Raw.{raw_next}
-use Rattle.daggy_graph.specs.Referring.{referred}
-use Rattle.daggy_graph.specs.Stored.{plain}
-use Rattle.daggy_graph.specs.Rest.{edges_left, IsOnRow}
-use Rattle.daggy_graph.proofs.RestLemmas.{edges_past, IsOnRow-step, at_index, edges_step}
+use Rattle.daggy_cells.specs.Raw.{raw_next}
+use Rattle.daggy_cells.specs.Referring.{referred}
+use Rattle.daggy_cells.specs.Fields.{plain}
+use Rattle.daggy_cells.specs.Rest.{edges_left, IsOnRow}
+use Rattle.daggy_cells.proofs.RestLemmas.{edges_past, IsOnRow-step, at_index, edges_step}
 use Rattle.daggy_graph.proofs.graph.lists.EdgesIterator.next.Goals as goal
 
 pub returns-then-i-self-clause-steps : goal.returns-then-i-self-clause-steps
@@ -26,8 +26,8 @@ returns-clause-steps g c =
     sym c.self.view_is
     ∙ edges_step g.Ix.IndexType.greatest c.self.inside.dir c.self.inside.edges.now c.self.inside.next c.index-self-i.result within reads c.self.invariant
     ∙ ap (λ x. at_index c.self.inside.next (plain x) ∷ rest (raw_next c.self.inside.dir c.index-self-i.result)) c.index-self-i.is
-    ∙ ap (λ p. p ∷ rest (raw_next c.self.inside.dir c.index-self-i.result)) (sym c.new.ensures)
-    ∙ ap (λ n. referred g.Ix.IndexType.number c.new.result ∷ rest n) (sym next)
+    ∙ ap (λ p. p ∷ rest (raw_next c.self.inside.dir c.index-self-i.result)) (sym c.reference.ensures)
+    ∙ ap (λ n. referred g.Ix.IndexType.number c.reference.result ∷ rest n) (sym next)
 
 pub returns-clause-goes : goal.returns-clause-goes
 returns-clause-goes g c = let steps = returns-clause-steps g c in search (rules, steps)

@@ -1,6 +1,6 @@
 use Rattle.std.proofs.Common.{◌≡◌, ◌+◌, get_or, arith, ap, ◌∙◌}
-use Rattle.daggy_graph.specs.Stored.{plain}
-use Rattle.daggy_graph.proofs.StoredLemmas.{slot_within}
+use Rattle.daggy_cells.specs.Fields.{plain}
+use Rattle.daggy_cells.proofs.FieldLemmas.{slot_within}
 use Rattle.daggy_graph.proofs.WellFormedLemmas.{look_shown}
 use Rattle.daggy_graph.proofs.graph.source.DiGraphEdgeSource.look.Goals as goal
 
@@ -10,7 +10,7 @@ returns-clause-gives g c =
     let e = g.Ix.IndexType.number c.args.e in
     let within = slot_within plain edges e (rw (← c.self.view_is) at c.requires) in
     let reads : c.index-x.result.now ≡ get_or edges e c.index-x.result.now = c.index-x.ensures ∙ ap (λ z. get_or edges z c.index-x.result.now) c.index.ensures.value in
-    rw (← c.self.view_is) (look_shown g.Ix.IndexType.greatest c.self.inside.nodes.items edges c.self.invariant e _ _ c.index-x.result.now within reads c.node.ensures.value c.edge.ensures.value)
+    rw (← c.self.view_is) (look_shown g.Ix.IndexType.greatest c.self.inside.nodes.items edges c.self.invariant e _ _ c.index-x.result.now within reads c.target.ensures c.next_edge.ensures)
 
 pub index-x-requires : goal.index-x-requires
 index-x-requires g c =

@@ -1,7 +1,7 @@
 use Rattle.std.proofs.Common.{rules, ◌≡◌, ◌∷◌, ◌+◌, is_some, is_none, map, sym, ap, ◌∙◌, arith}
 use Rattle.std.proofs.lemmas.Option.{same_Some}
-use Rattle.daggy_graph.specs.Iterating.{numbered}
-use Rattle.daggy_graph.specs.Referring.{referred}
+use Rattle.daggy_base.specs.Iterating.{numbered}
+use Rattle.daggy_cells.specs.Referring.{referred}
 use Rattle.daggy_stable.specs.Rest.{numbered_edge}
 use Rattle.daggy_stable.specs.Stored.{plain_edge}
 use Rattle.daggy_stable.proofs.Passing.{found, none_left, plain_vacant}

@@ -1,7 +1,7 @@
 use Rattle.std.proofs.Common.{rules, ◌≡◌, ◌∷◌, ◌+◌, is_some, is_none, map, refl, sym, ap, ◌∙◌, arith}
 use Rattle.std.specs.Option.{option_copied}
 use Rattle.std.proofs.lemmas.Option.{same_Some}
-use Rattle.daggy_graph.specs.Iterating.{numbered}
+use Rattle.daggy_base.specs.Iterating.{numbered}
 use Rattle.daggy_stable.specs.Stored.{weight_of}
 use Rattle.daggy_stable.proofs.Passing.{found, none_left}
 use Rattle.daggy_stable.proofs.stable_graph.iterators.NodeReferencesIterator.next.Goals as goal

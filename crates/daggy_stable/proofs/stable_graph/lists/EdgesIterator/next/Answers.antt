@@ -1,6 +1,6 @@
 use Rattle.std.proofs.Common.{◌≡◌, ◌∷◌, ◌<◌, Some, IsSome, length, get_or, sym, ap, subst, ◌∙◌, arith, rules}
-use Rattle.daggy_graph.specs.Raw.{raw_next}
-use Rattle.daggy_graph.specs.Referring.{referred}
+use Rattle.daggy_cells.specs.Raw.{raw_next}
+use Rattle.daggy_cells.specs.Referring.{referred}
 use Rattle.daggy_stable.specs.Rest.{numbered_edge, edges_left, IsOnFullRow}
 use Rattle.daggy_stable.specs.Stored.{plain_edge}
 use Rattle.daggy_stable.proofs.Listing.{left_past, weight_there, IsOnFullRow-step, left_step}

@@ -1,0 +1,71 @@
+-- What keeping some of the nodes and edges makes of a graph: they are added again, one after another.
+use Rattle.std.specs.Prelude.{◌≡◌, ℕ, ◌+◌, Option, Some, None, List, [], ◌∷◌, map}
+use Rattle.std.specs.Option.{option_map}
+use Rattle.std.specs.Borrow.{Bor}
+use Rattle.daggy_base.specs.declared.index.Direction.{Direction}
+use Rattle.daggy_base.specs.Graph.{Graph, Edge, empty, slot, list_at, ends_of}
+use Rattle.daggy_base.specs.Adding.{with_node, with_edge, next_node}
+use Rattle.daggy_base.specs.Reduction.{IsDescending}
+use Rattle.daggy_base.specs.Mapping.{CalledAt}
+
+module _ {V W : Type 0} where
+  -- the graph with a node of this weight, if there is one
+  abbrev pub kept_node : Graph V W → Option V → Graph V W
+  kept_node h None = h
+  kept_node h (Some v) = with_node h v
+
+  -- the index of that node, if it is kept
+  abbrev pub named : Graph V W → Option V → Option ℕ
+  named h None = None
+  named h (Some v) = Some (next_node h)
+
+  -- the graph with an edge of this weight between two nodes, if there is one
+  abbrev pub kept_edge : Graph V W → ℕ × ℕ → Option W → Graph V W
+  kept_edge h ends None = h
+  kept_edge h ends (Some w) = with_edge h ends.0 ends.1 w
+
+abbrev pub both : Option ℕ → Option ℕ → Option (ℕ × ℕ)
+both None b = None
+both (Some a) None = None
+both (Some a) (Some b) = Some (a, b)
+
+-- the new indices of an edge's ends, if both stayed
+abbrev pub new_ends : {E : Type 0} → List (Option ℕ) → Edge E → Option (ℕ × ℕ)
+new_ends names x = both (slot names x.parent) (slot names x.child)
+
+module _ {N V W F I : Type 0} (step : F → I → Bor N → Option V → F → Type 0) (of : ℕ → I) where
+  -- f was called at each node from the index i on, what it keeps was added to h, which made new, and names has the new
+  -- index of each slot's node
+  abbrev pub FiltersNodes : F → ℕ → List (Option N) → Graph V W → List (Option ℕ) → Graph V W → Type 0
+  FiltersNodes f i [] h names new = (names ≡ []) × (new ≡ h)
+  FiltersNodes f i (None ∷ xs) h names new = (rest : List (Option ℕ)) × (names ≡ None ∷ rest) × FiltersNodes f (i + 1) xs h rest new
+  FiltersNodes f i (Some x ∷ xs) h names new =
+      (r : Option V) × (next : F) × CalledAt step of f i x r next × (rest : List (Option ℕ)) × (names ≡ named h r ∷ rest) × FiltersNodes next (i + 1) xs (kept_node h r) rest new
+
+module _ {E V W G I : Type 0} (step : G → I → Bor E → Option W → G → Type 0) (of : ℕ → I) (names : List (Option ℕ)) where
+  -- at an edge that lost an end g was not called, at another it was
+  abbrev pub FiltersEdge : G → ℕ → E → Option (ℕ × ℕ) → Graph V W → (G → Graph V W → Type 0) → Type 0
+  FiltersEdge g e w None h later = later g h
+  FiltersEdge g e w (Some ends) h later = (r : Option W) × (next : G) × CalledAt step of g e w r next × later next (kept_edge h ends r)
+
+  -- what g keeps of the edges from the index e on was added to h, which made new
+  abbrev pub FiltersEdges : G → ℕ → List (Option (Edge E)) → Graph V W → Graph V W → Type 0
+  FiltersEdges g e [] h new = new ≡ h
+  FiltersEdges g e (None ∷ xs) h new = FiltersEdges g (e + 1) xs h new
+  FiltersEdges g e (Some x ∷ xs) h new = FiltersEdge g e x.weight (new_ends names x) h (λ next mid. FiltersEdges next (e + 1) xs mid new)
+
+module _ {N E V W F G I : Type 0} (of : ℕ → I) (step_f : F → I → Bor N → Option V → F → Type 0) (step_g : G → I → Bor E → Option W → G → Type 0) where
+  -- new has the nodes that f keeps, and of the edges whose ends both stayed those that g keeps
+  pub record IsFiltered (f : F) (g : G) (old : Graph N E) (new : Graph V W) : Type 0 where
+    pub names : List (Option ℕ)
+    pub middle : Graph V W
+    pub nodes : FiltersNodes step_f of f 0 old.nodes empty names middle
+    pub edges : FiltersEdges step_g of names g 0 old.edges middle new
+
+-- each list has the edge with the greatest index first, and so on down
+abbrev pub ListsDescend : {N E : Type 0} → Graph N E → Type 0
+ListsDescend g = (dir : Direction) (n : ℕ) → IsDescending (list_at dir g n)
+
+-- the edges lead between the same nodes
+abbrev pub HaveSameEnds : {N E V W : Type 0} → Graph N E → Graph V W → Type 0
+HaveSameEnds old new = map (option_map ends_of) new.edges ≡ map (option_map ends_of) old.edges

@@ -1,0 +1,111 @@
+-- What lists of stored nodes and edges hold, before and after a write.
+use Rattle.std.proofs.Common.{◌≡◌, ℕ, zero, suc, ◌<◌, ◌≤◌, List, [], ◌∷◌, map, length, get_or, set, Option, Some, None, IsSome, slice_get, refl, sym, ap, ◌∙◌, arith}
+use Rattle.std.proofs.lemmas.List.{map-set, get_or-map, set-get_or}
+use Rattle.daggy_base.specs.Graph.{Graph, Edge as PlainEdge, slot}
+use Rattle.std.specs.Option.{option_map}
+use Rattle.std.proofs.lemmas.Option.{slice_get-map, slice_get_read}
+use Rattle.daggy_cells.specs.declared.cell.Node.{Node}
+use Rattle.daggy_cells.specs.declared.cell.Edge.{Edge}
+use Rattle.daggy_base.specs.declared.index.Direction.{Direction}
+use Rattle.daggy_base.specs.declared.index.Direction.TheVariants.{Outgoing, Incoming}
+use Rattle.daggy_cells.specs.Raw.{raw_first, raw_next}
+use Rattle.daggy_cells.specs.Fields.{weight_of, with_first, with_next, plain_edge, end_at, firsts_of, nexts_of, ends_of, KeepsNodes, KeepsEdges}
+
+-- a write that changes nothing that f sees
+pub map-set_same : {A B : Type 0} (f : A → B) (xs : List A) (i : ℕ) (x y : A) → x ≡ get_or xs i x → f y ≡ f x → map f (set xs i y) ≡ map f xs
+map-set_same f xs i x y is same =
+    let back : set xs i x ≡ xs = ap (set xs i) is ∙ set-get_or xs i x in
+    map-set f xs i y ∙ ap (set (map f xs) i) same ∙ sym (map-set f xs i x) ∙ ap (map f) back
+
+-- a slot that holds something is within, and the other way round
+pub slot_within : {A B : Type 0} (f : A → B) (xs : List A) (i : ℕ) → IsSome (slot (map (λ x. Some (f x)) xs) i) → i < length xs
+slot_within f [] i p = absurd (cc)
+slot_within f (x ∷ xs) zero p = omega arith
+slot_within f (x ∷ xs) (suc i) p = let more = slot_within f xs i p in omega arith
+
+pub slot_holds : {A B : Type 0} (f : A → B) (xs : List A) (i : ℕ) → i < length xs → IsSome (slot (map (λ x. Some (f x)) xs) i)
+slot_holds f [] i p = absurd (omega arith)
+slot_holds f (x ∷ xs) zero p = refl
+slot_holds f (x ∷ xs) (suc i) p = slot_holds f xs i (omega arith)
+
+-- what a slot shows of what is stored there
+pub slot_read : {A B : Type 0} (f : A → Option B) (xs : List A) (i : ℕ) (x : A) → i < length xs → x ≡ get_or xs i x → slot (map f xs) i ≡ f x
+slot_read f [] i x p is = absurd (omega arith)
+slot_read f (y ∷ ys) zero x p is = ap f (sym is)
+slot_read f (y ∷ ys) (suc i) x p is = slot_read f ys i x (omega arith) is
+
+pub slot_beyond : {A B : Type 0} (f : A → Option B) (xs : List A) (i : ℕ) → length xs ≤ i → slot (map f xs) i ≡ None
+slot_beyond f [] i p = refl
+slot_beyond f (x ∷ xs) zero p = absurd (omega arith)
+slot_beyond f (x ∷ xs) (suc i) p = slot_beyond f xs i (omega arith)
+
+pub slot_is : {A B : Type 0} (f : A → B) (xs : List A) (i : ℕ) (x : A) → i < length xs → x ≡ get_or xs i x → slot (map (λ x. Some (f x)) xs) i ≡ Some (f x)
+slot_is f xs i x p is = slot_read (λ y. Some (f y)) xs i x p is
+
+pub slot_past : {A B : Type 0} (f : A → B) (xs : List A) (i : ℕ) → length xs ≤ i → slot (map (λ x. Some (f x)) xs) i ≡ None
+slot_past f xs i p = slot_beyond (λ y. Some (f y)) xs i p
+
+-- a graph by its parts
+pub same_graph : {N E : Type 0} (g : Graph N E) {a : List (Option N)} {b : List (Option (PlainEdge E))} {c d : List (List ℕ)} {e f : List ℕ} → a ≡ g.nodes → b ≡ g.edges → c ≡ g.out_lists → d ≡ g.in_lists → e ≡ g.vacant_nodes → f ≡ g.vacant_edges → record { nodes = a; edges = b; out_lists = c; in_lists = d; vacant_nodes = e; vacant_edges = f } ≡ g
+same_graph {N} {E} g {a} {b} {c} {d} {e} {f} p q r s t u =
+    let mk : List (Option N) → List (Option (PlainEdge E)) → List (List ℕ) → List (List ℕ) → List ℕ → List ℕ → Graph N E =
+    λ a b c d e f. record { nodes = a; edges = b; out_lists = c; in_lists = d; vacant_nodes = e; vacant_edges = f } in
+    ap (λ x. mk x b c d e f) p ∙ ap (λ x. mk g.nodes x c d e f) q ∙ ap (λ x. mk g.nodes g.edges x d e f) r
+    ∙ ap (λ x. mk g.nodes g.edges g.out_lists x e f) s ∙ ap (λ x. mk g.nodes g.edges g.out_lists g.in_lists x f) t
+    ∙ ap (λ x. mk g.nodes g.edges g.out_lists g.in_lists g.vacant_nodes x) u
+
+-- what the code reads
+
+pub slice_get_mapped : {A B : Type 0} (f : A → B) (xs : List A) (i : ℕ) (x : A) → i < length xs → x ≡ get_or xs i x → slice_get (map f xs) i ≡ Some (f x)
+slice_get_mapped f xs i x within is = slice_get-map f xs i ∙ ap (option_map f) (slice_get_read xs (length xs) i x refl within is)
+
+-- a write of one link
+
+module _ {N Ix : Type 0} (nodes : List (Node N Ix)) (i : ℕ) (x : Node N Ix) (new : ℕ) (is : x ≡ get_or nodes i x) where
+  pub KeepsNodes-set : (dir : Direction) → KeepsNodes dir nodes (set nodes i (with_first dir x new))
+  KeepsNodes-set Outgoing = record { weights = map-set_same weight_of nodes i x _ is refl; firsts = map-set_same (raw_first Incoming) nodes i x _ is refl }
+  KeepsNodes-set Incoming = record { weights = map-set_same weight_of nodes i x _ is refl; firsts = map-set_same (raw_first Outgoing) nodes i x _ is refl }
+
+  pub firsts_of-set : (dir : Direction) → firsts_of dir (set nodes i (with_first dir x new)) ≡ set (firsts_of dir nodes) i new
+  firsts_of-set Outgoing = map-set (raw_first Outgoing) nodes i _
+  firsts_of-set Incoming = map-set (raw_first Incoming) nodes i _
+
+module _ {E Ix : Type 0} (edges : List (Edge E Ix)) (i : ℕ) (x : Edge E Ix) (new : ℕ) (is : x ≡ get_or edges i x) where
+  pub KeepsEdges-set : (dir : Direction) → KeepsEdges dir edges (set edges i (with_next dir x new))
+  KeepsEdges-set Outgoing =
+      record {
+        edges = map-set_same plain_edge edges i x _ is refl;
+        ends = elim [ Outgoing ↦ map-set_same (end_at Outgoing) edges i x _ is refl | Incoming ↦ map-set_same (end_at Incoming) edges i x _ is refl ];
+        nexts = map-set_same (raw_next Incoming) edges i x _ is refl;
+      }
+  KeepsEdges-set Incoming =
+      record {
+        edges = map-set_same plain_edge edges i x _ is refl;
+        ends = elim [ Outgoing ↦ map-set_same (end_at Outgoing) edges i x _ is refl | Incoming ↦ map-set_same (end_at Incoming) edges i x _ is refl ];
+        nexts = map-set_same (raw_next Outgoing) edges i x _ is refl;
+      }
+
+  pub nexts_of-set : (dir : Direction) → nexts_of dir (set edges i (with_next dir x new)) ≡ set (nexts_of dir edges) i new
+  nexts_of-set Outgoing = map-set (raw_next Outgoing) edges i _
+  nexts_of-set Incoming = map-set (raw_next Incoming) edges i _
+
+-- what `redirect` reads: the row's node, and the row's first edge
+pub redirect_reads : {N E Ix : Type 0} (nodes : List (Node N Ix)) (edges : List (Edge E Ix)) (dir : Direction) (old o n i first : ℕ) (x : Edge E Ix) (y : Node N Ix)
+    → old < length edges → get_or (ends_of dir edges) old 0 < length nodes → o ≡ old → x ≡ get_or edges o x → n ≡ end_at dir x → i ≡ n → y ≡ get_or nodes i y → first ≡ raw_first dir y
+    → (i ≡ get_or (ends_of dir edges) old 0) × (first ≡ get_or (firsts_of dir nodes) (get_or (ends_of dir edges) old 0) 0)
+redirect_reads nodes edges dir old o n i first x y old_in n_in o_is x_is n_is i_is y_is first_is =
+    let at_old : x ≡ get_or edges old x = x_is ∙ ap (λ z. get_or edges z x) o_is in
+    let node : i ≡ get_or (ends_of dir edges) old 0 = i_is ∙ n_is ∙ ap (end_at dir) at_old ∙ sym (get_or-map (end_at dir) edges old x 0 old_in) in
+    let at_n : y ≡ get_or nodes (get_or (ends_of dir edges) old 0) y = y_is ∙ ap (λ z. get_or nodes z y) node in
+    (node, first_is ∙ ap (raw_first dir) at_n ∙ sym (get_or-map (raw_first dir) nodes (get_or (ends_of dir edges) old 0) y 0 n_in))
+
+-- the first links of two nodes are written, which may be one node
+pub both_written : {N Ix : Type 0} (nodes : List (Node N Ix)) (a b u v e : ℕ) (x y x' y' : Node N Ix) → u ≡ a → v ≡ b → x ≡ get_or nodes u x → x' ≡ with_first Outgoing x e → y ≡ get_or (set nodes u x') v y → y' ≡ with_first Incoming y e
+    → (map weight_of (set (set nodes u x') v y') ≡ map weight_of nodes) × (firsts_of Outgoing (set (set nodes u x') v y') ≡ set (firsts_of Outgoing nodes) a e) × (firsts_of Incoming (set (set nodes u x') v y') ≡ set (firsts_of Incoming nodes) b e)
+both_written nodes a b u v e x y x' y' u_is v_is x_is x'_is y_is y'_is =
+    let first = set nodes u x' in (
+      map-set_same weight_of first v y y' y_is (ap weight_of y'_is) ∙ map-set_same weight_of nodes u x x' x_is (ap weight_of x'_is),
+      map-set_same (raw_first Outgoing) first v y y' y_is (ap (raw_first Outgoing) y'_is) ∙ map-set (raw_first Outgoing) nodes u x' ∙ ap (set (firsts_of Outgoing nodes) u) (ap (raw_first Outgoing) x'_is) ∙ ap (λ z. set (firsts_of Outgoing nodes) z e) u_is,
+      map-set (raw_first Incoming) first v y' ∙ ap (λ l. set l v (raw_first Incoming y')) (map-set_same (raw_first Incoming) nodes u x x' x_is (ap (raw_first Incoming) x'_is)) ∙ ap (set (firsts_of Incoming nodes) v) (ap (raw_first Incoming) y'_is)
+          ∙ ap (λ z. set (firsts_of Incoming nodes) z e) v_is,
+    )

@@ -1,0 +1,12 @@
+pub mod Rows
+pub mod Threads
+pub mod FieldLemmas
+pub mod States
+pub mod RedirectLemmas
+pub mod Reowning
+pub mod Isolation
+pub mod EmptyLists
+pub mod CellLemmas
+pub mod CloneLemmas
+pub mod MappingLemmas
+pub mod RestLemmas

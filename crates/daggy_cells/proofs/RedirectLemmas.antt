@@ -1,0 +1,64 @@
+-- One link led elsewhere: when it can be, and what it makes of a row.
+use Rattle.std.proofs.Common.{◌≡◌, ℕ, ◌-◌, ◌<◌, ◌≤◌, List, map, length, get_or, set, take, sym, ap, subst, ◌∙◌, arith, Contains}
+use Rattle.std.specs.List.{swap_remove}
+use Rattle.std.proofs.lemmas.List.{length-map, map-set, get_or-map, take-map}
+use Rattle.daggy_cells.specs.declared.cell.Node.{Node}
+use Rattle.daggy_cells.specs.declared.cell.Edge.{Edge}
+use Rattle.daggy_base.specs.declared.index.Direction.{Direction}
+use Rattle.daggy_cells.specs.Links.{row, IsRow, IsLinked, Redirected}
+use Rattle.daggy_cells.specs.Raw.{raw_first, raw_next}
+use Rattle.daggy_cells.specs.Fields.{firsts_of, nexts_of, ends_of, walk, KeepsNodes, KeepsEdges, IsReady, Redirects}
+use Rattle.daggy_cells.proofs.Rows.{row_is}
+
+module _ {N E Ix : Type 0} (end : ℕ) (dir : Direction) (nodes : List (Node N Ix)) (edges : List (Edge E Ix)) (l : List ℕ) (old n : ℕ) (r : IsRow end (nexts_of dir edges) (get_or (firsts_of dir nodes) n 0) l) (n_is : get_or (ends_of dir edges) old 0 ≡ n) (few : length edges ≤ end) where
+  -- l is the row of n
+  walked : walk dir edges (get_or (firsts_of dir nodes) n 0) ≡ l
+  walked = row_is end _ (nexts_of dir edges) l r (omega (arith, few, length-map edges (raw_next dir)))
+
+  -- and old, which n is an end of, stands in it
+  pub Ready-row : n < length nodes → old < length edges → Contains l old → IsReady end dir nodes edges old
+  Ready-row n_in old_in there =
+      let row_w : IsRow end (nexts_of dir edges) (get_or (firsts_of dir nodes) n 0) (walk dir edges (get_or (firsts_of dir nodes) n 0)) = subst (IsRow end (nexts_of dir edges) (get_or (firsts_of dir nodes) n 0)) (sym walked) r in
+      record {
+        edge = old_in;
+        node = omega (arith, n_in, n_is);
+        row = subst (λ z. IsRow end (nexts_of dir edges) (get_or (firsts_of dir nodes) z 0) (walk dir edges (get_or (firsts_of dir nodes) z 0))) (sym n_is) row_w;
+        listed = subst (λ z. Contains (walk dir edges (get_or (firsts_of dir nodes) z 0)) old) (sym n_is) (subst (λ z. Contains z old) (sym walked) there);
+        few = few;
+      }
+
+  pub Redirected-walk : (new : ℕ) (nodes' : List (Node N Ix)) (edges' : List (Edge E Ix)) → Redirects dir nodes edges old new nodes' edges' → Redirected l n old new (firsts_of dir nodes) (nexts_of dir edges) (firsts_of dir nodes') (nexts_of dir edges')
+  Redirected-walk new nodes' edges' red =
+      let at_n : Redirected (walk dir edges (get_or (firsts_of dir nodes) n 0)) n old new (firsts_of dir nodes) (nexts_of dir edges) (firsts_of dir nodes') (nexts_of dir edges') =
+      subst (λ z. Redirected (walk dir edges (get_or (firsts_of dir nodes) z 0)) z old new (firsts_of dir nodes) (nexts_of dir edges) (firsts_of dir nodes') (nexts_of dir edges')) n_is red in
+      subst (λ z. Redirected z n old new (firsts_of dir nodes) (nexts_of dir edges) (firsts_of dir nodes') (nexts_of dir edges')) walked at_n
+
+module _ {N E Ix : Type 0} (end : ℕ) (dir : Direction) (nodes : List (Node N Ix)) (edges : List (Edge E Ix)) (lists : List (List ℕ)) (old n : ℕ) where
+  -- the rows are linked, and old stands in that of its node
+  row_at : IsLinked end (firsts_of dir nodes) (nexts_of dir edges) lists → n < length nodes → IsRow end (nexts_of dir edges) (get_or (firsts_of dir nodes) n 0) (row lists n)
+  row_at linked n_in = linked.each n (omega (arith, n_in, length-map nodes (raw_first dir)))
+
+  pub Ready-from : IsLinked end (firsts_of dir nodes) (nexts_of dir edges) lists → get_or (ends_of dir edges) old 0 ≡ n → n < length nodes → old < length edges → length edges ≤ end → Contains (row lists n) old → IsReady end dir nodes edges old
+  Ready-from linked n_is n_in old_in few there = Ready-row end dir nodes edges (row lists n) old n (row_at linked n_in) n_is few n_in old_in there
+
+  pub Redirected-row : (new : ℕ) (nodes' : List (Node N Ix)) (edges' : List (Edge E Ix)) → IsLinked end (firsts_of dir nodes) (nexts_of dir edges) lists → get_or (ends_of dir edges) old 0 ≡ n → n < length nodes → length edges ≤ end → Redirects dir nodes edges old new nodes' edges' → Redirected (row lists n) n old new (firsts_of dir nodes) (nexts_of dir edges) (firsts_of dir nodes') (nexts_of dir edges')
+  Redirected-row new nodes' edges' linked n_is n_in few red = Redirected-walk end dir nodes edges (row lists n) old n (row_at linked n_in) n_is few new nodes' edges' red
+
+-- the last element in the place of e, seen through a map
+pub map-swap_remove : {A B : Type 0} (h : A → B) (xs : List A) (i : ℕ) (d : A) (d' : B) → i < length xs → map h (swap_remove xs i d) ≡ swap_remove (map h xs) i d'
+map-swap_remove h xs i d d' within =
+    let last = length xs - 1 in
+    let inside : last < length xs = omega (arith, within) in
+    let long : length (map h xs) - 1 ≡ last = ap (λ n. n - 1) (length-map xs h) in
+    sym (take-map h last (set xs i (get_or xs last d))) ∙ ap (take last) (map-set h xs i (get_or xs last d))
+    ∙ ap (λ z. take last (set (map h xs) i z)) (sym (get_or-map h xs last d d' inside))
+    ∙ ap (λ k. take k (set (map h xs) i (get_or (map h xs) k d'))) (sym long)
+
+-- one call of `redirect`
+pub record Step {N E Ix : Type 0} (dir : Direction) (nodes : List (Node N Ix)) (edges : List (Edge E Ix)) (old new : ℕ) (nodes' : List (Node N Ix)) (edges' : List (Edge E Ix)) : Type 0 where
+  pub links : Redirects dir nodes edges old new nodes' edges'
+  pub keeps : KeepsNodes dir nodes nodes'
+  pub keeps_edges : KeepsEdges dir edges edges'
+
+pub next_is : {E Ix : Type 0} (dir : Direction) (edges : List (Edge E Ix)) (i e : ℕ) (x : Edge E Ix) → x ≡ get_or edges i x → i ≡ e → e < length edges → raw_next dir x ≡ get_or (nexts_of dir edges) e 0
+next_is dir edges i e x is i_is e_in = ap (raw_next dir) (is ∙ ap (λ z. get_or edges z x) i_is) ∙ sym (get_or-map (raw_next dir) edges e x 0 e_in)

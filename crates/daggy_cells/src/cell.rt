@@ -1,0 +1,63 @@
+//! Nodes and edges as they are stored.
+ghost use Rattle.std.specs.Prelude.{◌≡◌, ℕ};
+ghost use Rattle.daggy_cells.specs.Raw.{raw_first, raw_next, raw_parent, raw_child};
+
+use crate::links;
+use daggy_base::index::{DefaultIx, Direction, EdgeIndex, IndexType, NodeIndex};
+use daggy_base::link::Link;
+
+/// A node as it is stored: its weight, and the first edge of each of its lists.
+#[derive(Clone, Debug, Drop)]
+pub struct Node<N, Ix: IndexType = DefaultIx> {
+    /// The weight of the node.
+    pub weight: N,
+    pub(crate) first_out: Link<Ix>,
+    pub(crate) first_in: Link<Ix>,
+}
+
+/// An edge as it is stored: its weight, its ends, and the edge after it in each of its lists.
+#[derive(Clone, Debug, Drop)]
+pub struct Edge<E, Ix: IndexType = DefaultIx> {
+    /// The weight of the edge.
+    pub weight: E,
+    pub(crate) parent: Link<Ix>,
+    pub(crate) child: Link<Ix>,
+    pub(crate) next_out: Link<Ix>,
+    pub(crate) next_in: Link<Ix>,
+}
+
+impl<N, Ix: IndexType> Node<N, Ix> {
+    /// The first edge of those that leave the node, or of those that enter it, or `end`.
+    #[inline]
+    pub fn next_edge(&self, dir: Direction) -> EdgeIndex<Ix>
+        ensures { Ix.number result ≡ raw_first dir self.now }
+    {
+        links::first(self, dir).edge()
+    }
+}
+
+impl<E, Ix: IndexType> Edge<E, Ix> {
+    /// The node that the edge leaves.
+    #[inline]
+    pub fn source(&self) -> NodeIndex<Ix>
+        ensures { Ix.number result ≡ raw_parent self.now }
+    {
+        self.parent.node()
+    }
+
+    /// The node that the edge enters.
+    #[inline]
+    pub fn target(&self) -> NodeIndex<Ix>
+        ensures { Ix.number result ≡ raw_child self.now }
+    {
+        self.child.node()
+    }
+
+    /// The edge after this one among those that leave its source, or among those that enter its target, or `end`.
+    #[inline]
+    pub fn next_edge(&self, dir: Direction) -> EdgeIndex<Ix>
+        ensures { Ix.number result ≡ raw_next dir self.now }
+    {
+        links::next(self, dir).edge()
+    }
+}

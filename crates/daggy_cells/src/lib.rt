@@ -1,0 +1,6 @@
+//! What graphs are stored in: nodes and edges with links to each other.
+#![tactic(auto)]
+
+pub mod cell;
+pub mod links;
+pub mod reference;

@@ -1,0 +1,259 @@
+//! The links between stored nodes and edges, and changes to them, for the stores that keep them.
+ghost use Rattle.std.specs.Prelude.{◌≡◌, ◌≢◌, ℕ, ◌<◌, ◌≤◌, ◌↔◌, length, map, slice_get, slice_set, slice_index, Contains, Some};
+ghost use Rattle.daggy_base.specs.declared.index.Direction.TheVariants.{Outgoing, Incoming};
+ghost use Rattle.daggy_base.specs.Cursor.{after};
+ghost use Rattle.daggy_cells.specs.Links.{IsRow};
+ghost use Rattle.daggy_cells.specs.Raw.{raw_first, raw_next};
+ghost use Rattle.daggy_cells.specs.Fields.{weight_of, with_first, end_at, with_next, with_end, reowned, firsts_of, nexts_of, ends_of, walk, bare, KeepsNodes, KeepsEdges, IsReady, Redirects};
+ghost use Rattle.daggy_cells.specs.MappedCells.{node_with, edge_with};
+
+use crate::cell::{Edge, Node};
+use daggy_base::index::{Direction, IndexType};
+use daggy_base::link::Link;
+
+/// A stored node with empty lists.
+#[inline]
+pub fn new_node<N, Ix: IndexType>(weight: N) -> Node<N, Ix>
+    ensures { result ≡ record { weight = weight; first_out = Ix.greatest; first_in = Ix.greatest } }
+{
+    Node {
+        weight,
+        first_out: Link::end(),
+        first_in: Link::end(),
+    }
+}
+
+/// A node with the links of `x`.
+#[inline]
+pub fn node_like<N, V, Ix: IndexType>(x: &Node<N, Ix>, weight: V) -> Node<V, Ix>
+    ensures { result ≡ node_with x.now weight }
+{
+    Node {
+        weight,
+        first_out: x.first_out,
+        first_in: x.first_in,
+    }
+}
+
+/// The link to the first edge of a node's list of that direction.
+#[inline]
+pub fn first<N, Ix: IndexType>(x: &Node<N, Ix>, dir: Direction) -> Link<Ix>
+    ensures { result ≡ raw_first dir x.now }
+{
+    match dir {
+        Direction::Outgoing => x.first_out,
+        Direction::Incoming => x.first_in,
+    }
+}
+
+/// Writes the link to the first edge of a node's list of that direction.
+#[inline]
+pub fn set_first<N, Ix: IndexType>(x: &mut Node<N, Ix>, dir: Direction, e: Link<Ix>)
+    ensures { x.new ≡ with_first dir x.old e }
+{
+    match dir {
+        Direction::Outgoing => x.first_out = e,
+        Direction::Incoming => x.first_in = e,
+    }
+}
+
+/// A stored edge with its ends, and with the edges after it in its two lists.
+#[inline]
+pub fn new_edge<E, Ix: IndexType>(
+    weight: E,
+    parent: Link<Ix>,
+    child: Link<Ix>,
+    next_out: Link<Ix>,
+    next_in: Link<Ix>,
+) -> Edge<E, Ix>
+    ensures { result ≡ record { weight = weight; parent = parent; child = child; next_out = next_out; next_in = next_in } }
+{
+    Edge {
+        weight,
+        parent,
+        child,
+        next_out,
+        next_in,
+    }
+}
+
+/// An edge with the ends and the links of `x`.
+#[inline]
+pub fn edge_like<E, W, Ix: IndexType>(x: &Edge<E, Ix>, weight: W) -> Edge<W, Ix>
+    ensures { result ≡ edge_with x.now weight }
+{
+    Edge {
+        weight,
+        parent: x.parent,
+        child: x.child,
+        next_out: x.next_out,
+        next_in: x.next_in,
+    }
+}
+
+/// The link to the edge after this one in its list of that direction.
+#[inline]
+pub fn next<E, Ix: IndexType>(x: &Edge<E, Ix>, dir: Direction) -> Link<Ix>
+    ensures { result ≡ raw_next dir x.now }
+{
+    match dir {
+        Direction::Outgoing => x.next_out,
+        Direction::Incoming => x.next_in,
+    }
+}
+
+/// Writes the link to the edge after this one in its list of that direction.
+#[inline]
+pub fn set_next<E, Ix: IndexType>(x: &mut Edge<E, Ix>, dir: Direction, e: Link<Ix>)
+    ensures { x.new ≡ with_next dir x.old e }
+{
+    match dir {
+        Direction::Outgoing => x.next_out = e,
+        Direction::Incoming => x.next_in = e,
+    }
+}
+
+/// The link to the node whose list of that direction an edge stands in.
+#[inline]
+pub fn end<E, Ix: IndexType>(x: &Edge<E, Ix>, dir: Direction) -> Link<Ix>
+    ensures { result ≡ end_at dir x.now }
+{
+    match dir {
+        Direction::Outgoing => x.parent,
+        Direction::Incoming => x.child,
+    }
+}
+
+#[inline]
+fn set_end<E, Ix: IndexType>(x: &mut Edge<E, Ix>, dir: Direction, n: Link<Ix>)
+    ensures { x.new ≡ with_end dir x.old n }
+{
+    match dir {
+        Direction::Outgoing => x.parent = n,
+        Direction::Incoming => x.child = n,
+    }
+}
+
+/// Puts the edge `e` first in the out list of `a` and in the in list of `b`, and gives what is stored of it.
+#[inline]
+pub fn put_first<N, E, Ix: IndexType>(
+    nodes: &mut Vec<Node<N, Ix>>,
+    a: Link<Ix>,
+    b: Link<Ix>,
+    e: Link<Ix>,
+    weight: E,
+) -> Edge<E, Ix>
+    requires parent { a < length nodes.old.items }
+    requires child { b < length nodes.old.items }
+    ensures edge { result ≡ record {
+      weight = weight;
+      parent = a;
+      child = b;
+      next_out = slice_index (firsts_of Outgoing nodes.old.items) a;
+      next_in = slice_index (firsts_of Incoming nodes.old.items) b;
+    } }
+    ensures len { length nodes.new.items ≡ length nodes.old.items }
+    ensures weights { map weight_of nodes.new.items ≡ map weight_of nodes.old.items }
+    ensures out { firsts_of Outgoing nodes.new.items ≡ slice_set (firsts_of Outgoing nodes.old.items) a e }
+    ensures into { firsts_of Incoming nodes.new.items ≡ slice_set (firsts_of Incoming nodes.old.items) b e }
+{
+    let u = a.index();
+    let v = b.index();
+    let next_out = first(&nodes[u], Direction::Outgoing);
+    let next_in = first(&nodes[v], Direction::Incoming);
+    set_first(&mut nodes[u], Direction::Outgoing, e);
+    set_first(&mut nodes[v], Direction::Incoming, e);
+    new_edge(weight, a, b, next_out, next_in)
+}
+
+// The edge before `old` in the row that begins with `first`.
+fn find_before<E, Ix: IndexType>(
+    edges: &[Edge<E, Ix>],
+    dir: Direction,
+    first: Link<Ix>,
+    old: Link<Ix>,
+) -> Link<Ix>
+    requires row { IsRow Ix.greatest (nexts_of dir edges.now) first (walk dir edges.now first) }
+    requires listed { Contains (walk dir edges.now first) old }
+    requires later { first ≢ old }
+    requires few { length edges.now ≤ Ix.greatest }
+    ensures listed { Contains (walk dir edges.now first) result }
+    ensures before { after Ix.greatest (walk dir edges.now first) result ≡ old }
+{
+    let target = old.index();
+    let mut e = first;
+    'along: loop {
+        let i = e.index();
+        let next = next(&edges[i], dir);
+        if next.index() == target {
+            return e;
+        }
+        e = next;
+    }
+}
+
+/// Leads the one link to `old` in its list of that direction to `new` instead.
+///
+/// The cost grows with the number of edges before `old` in that list.
+pub fn redirect<N, E, Ix: IndexType>(
+    nodes: &mut Vec<Node<N, Ix>>,
+    edges: &mut Vec<Edge<E, Ix>>,
+    dir: Direction,
+    old: Link<Ix>,
+    new: Link<Ix>,
+)
+    requires { IsReady Ix.greatest dir nodes.old.items edges.old.items old }
+    ensures links { Redirects dir nodes.old.items edges.old.items old new nodes.new.items edges.new.items }
+    ensures nodes { KeepsNodes dir nodes.old.items nodes.new.items }
+    ensures edges { KeepsEdges dir edges.old.items edges.new.items }
+{
+    let o = old.index();
+    let n = end(&edges[o], dir);
+    let i = n.index();
+    let first = first(&nodes[i], dir);
+    if first.index() == o {
+        set_first(&mut nodes[i], dir, new);
+    } else {
+        let before = find_before(edges.as_slice(), dir, first, old);
+        let j = before.index();
+        set_next(&mut edges[j], dir, new);
+    }
+}
+
+/// Gives the edges of the row that begins with `first`, which are all those of the node `from`, to the node `to`.
+pub fn reown<E, Ix: IndexType>(
+    edges: &mut Vec<Edge<E, Ix>>,
+    dir: Direction,
+    first: Link<Ix>,
+    from: Link<Ix>,
+    to: Link<Ix>,
+)
+    requires row { IsRow Ix.greatest (nexts_of dir edges.old.items) first (walk dir edges.old.items first) }
+    requires exact { (e : ℕ) → Contains (walk dir edges.old.items first) e ↔ (slice_get (ends_of dir edges.old.items) e ≡ Some from) }
+    requires differ { from ≢ to }
+    requires few { length edges.old.items ≤ Ix.greatest }
+    ensures { edges.new.items ≡ map (reowned dir from to) edges.old.items }
+{
+    let mut e = first;
+    'along: loop {
+        let i = e.index();
+        if i >= edges.len() {
+            return;
+        }
+        let x = &mut edges[i];
+        set_end(x, dir, to);
+        e = next(x, dir);
+    }
+}
+
+/// Empties every list.
+pub fn unlink_all<N, Ix: IndexType>(nodes: &mut Vec<Node<N, Ix>>)
+    ensures { nodes.new.items ≡ map (bare Ix.greatest) nodes.old.items }
+{
+    let end = Link::end();
+    for i in 0..nodes.len() {
+        let x = &mut nodes[i];
+        x.first_out = end;
+        x.first_in = end;
+    }
+}

@@ -1,0 +1,94 @@
+//! Edges as a graph lends them.
+ghost use Rattle.std.specs.Prelude.{◌≡◌};
+ghost use Rattle.daggy_cells.specs.Referring.{referred};
+
+use daggy_base::index::{DefaultIx, EdgeIndex, IndexType, NodeIndex};
+use std::alloc::AllocError;
+use std::fmt;
+
+/// An edge of a graph: its index, its ends and its weight.
+pub struct EdgeReference<'a, E, Ix = DefaultIx> {
+    // No typed index stands here, so that a function can take a reference by value.
+    id: Ix,
+    source: Ix,
+    target: Ix,
+    weight: &'a E,
+}
+
+impl<'a, E, Ix: IndexType> EdgeReference<'a, E, Ix> {
+    /// The reference to an edge of this index, these ends and this weight, for stores that lend their edges.
+    #[inline]
+    pub fn from_parts(
+        id: EdgeIndex<Ix>,
+        source: NodeIndex<Ix>,
+        target: NodeIndex<Ix>,
+        weight: &'a E,
+    ) -> Self
+        ensures { referred Ix.number result ≡ (Ix.number id, record { parent = Ix.number source; child = Ix.number target; weight = weight.now }) }
+    {
+        EdgeReference {
+            id: Ix::new(id.index()),
+            source: Ix::new(source.index()),
+            target: Ix::new(target.index()),
+            weight,
+        }
+    }
+
+    /// The index of the edge.
+    #[inline]
+    pub fn id(&self) -> EdgeIndex<Ix>
+        ensures { result ≡ self.now.id }
+    {
+        EdgeIndex::new(self.id.index())
+    }
+
+    /// The node that the edge leaves, whichever list it was found in.
+    #[inline]
+    pub fn source(&self) -> NodeIndex<Ix>
+        ensures { result ≡ self.now.source }
+    {
+        NodeIndex::new(self.source.index())
+    }
+
+    /// The node that the edge enters.
+    #[inline]
+    pub fn target(&self) -> NodeIndex<Ix>
+        ensures { result ≡ self.now.target }
+    {
+        NodeIndex::new(self.target.index())
+    }
+
+    /// The weight of the edge, which can be kept for as long as the graph is lent.
+    #[inline]
+    pub fn weight(&self) -> &'a E
+        ensures { result.now ≡ self.now.weight.now }
+    {
+        self.weight
+    }
+}
+
+impl<'a, E, Ix: Copy> Clone for EdgeReference<'a, E, Ix> {
+    ghost is_clone = { λ a b. a ≡ b };
+
+    fn clone(&self) -> Result<Self, AllocError> {
+        Ok(EdgeReference {
+            id: self.id,
+            source: self.source,
+            target: self.target,
+            weight: self.weight,
+        })
+    }
+}
+
+impl<'a, E, Ix: Copy> Copy for EdgeReference<'a, E, Ix> {}
+
+impl<'a, E: fmt::Debug, Ix: IndexType> fmt::Debug for EdgeReference<'a, E, Ix> {
+    fn fmt<W: fmt::Write>(&self, f: &mut fmt::Formatter<W>) -> fmt::Result {
+        f.debug_struct("EdgeReference")
+            .field("id", &self.id.index())
+            .field("source", &self.source.index())
+            .field("target", &self.target.index())
+            .field("weight", self.weight)
+            .finish()
+    }
+}

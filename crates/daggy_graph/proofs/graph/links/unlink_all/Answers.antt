@@ -1,7 +1,0 @@
-use Rattle.std.proofs.Common.{arith}
-use Rattle.daggy_graph.proofs.Clearing.{unlinking_step}
-use Rattle.daggy_graph.proofs.graph.links.unlink_all.Goals as goal
-
-pub loop-i-preserved : goal.loop-i-preserved
-loop-i-preserved g c =
-    unlinking_step _ _ _ c.loop-i.i _ _ c.index_mut-x.result.now (omega arith) c.loop-i.invariant (omega arith) c.index_mut-x.ensures.value c.end-end.ensures.value

@@ -1,6 +1,0 @@
-use Rattle.std.proofs.Common.{◌≡◌, ◌++◌, map, take, drop}
-use Rattle.daggy_graph.specs.Stored.{bare}
-use Rattle.daggy_graph.proofs.graph.links.unlink_all.Given as goal
-
-abbrev pub invariant-loop-i : goal.invariant-loop-i
-invariant-loop-i g l = l.nodes.items ≡ map (bare g.Ix.IndexType.greatest) (take l.i l.fn.nodes.items) ++ drop l.i l.fn.nodes.items

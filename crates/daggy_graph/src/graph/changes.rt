@@ -1,0 +1,104 @@
+//! Adding nodes and edges to what is stored, and taking them out of their lists.
+ghost use Rattle.std.specs.Prelude.{◌≡◌, ◌+◌, ◌-◌, ◌<◌, length, map, vec_len, vec_capacity};
+ghost use Rattle.daggy_base.specs.declared.index.Direction.TheVariants.{Outgoing, Incoming};
+ghost use Rattle.daggy_base.specs.Adding.{with_node, with_edge};
+ghost use Rattle.daggy_cells.specs.Fields.{reowned, plain_edge};
+ghost use Rattle.daggy_graph.specs.Stored.{stored_graph, IsDetached, Stores};
+
+use daggy_base::index::{Direction, IndexType};
+use daggy_base::link::Link;
+use daggy_cells::cell::{Edge, Node};
+use daggy_cells::links::{self, put_first, redirect, reown};
+
+// Adds a node, in the room that it has.
+#[inline]
+pub(super) fn put_node<N, E, Ix: IndexType>(
+    nodes: &mut Vec<Node<N, Ix>>,
+    edges: &Vec<Edge<E, Ix>>,
+    weight: N,
+) -> Link<Ix>
+    requires stored { Stores Ix.greatest nodes.old.items edges.now.items (stored_graph nodes.old.items edges.now.items) }
+    requires left { length nodes.old.items < Ix.greatest }
+    requires room { vec_len nodes.old < vec_capacity nodes.old }
+    ensures index { result ≡ length nodes.old.items }
+    ensures stored { Stores Ix.greatest nodes.new.items edges.now.items (with_node (stored_graph nodes.old.items edges.now.items) weight) }
+    ensures len { length nodes.new.items ≡ length nodes.old.items + 1 }
+    ensures capacity { vec_capacity nodes.new ≡ vec_capacity nodes.old }
+{
+    let _edges = edges;
+    let n = Link::new(nodes.len());
+    nodes.push_reserved(links::new_node(weight));
+    n
+}
+
+// Adds an edge from a to b, in the room that it has.
+#[inline]
+pub(super) fn put_edge<N, E, Ix: IndexType>(
+    nodes: &mut Vec<Node<N, Ix>>,
+    edges: &mut Vec<Edge<E, Ix>>,
+    a: Link<Ix>,
+    b: Link<Ix>,
+    weight: E,
+) -> Link<Ix>
+    requires stored { Stores Ix.greatest nodes.old.items edges.old.items (stored_graph nodes.old.items edges.old.items) }
+    requires parent { a < length nodes.old.items }
+    requires child { b < length nodes.old.items }
+    requires left { length edges.old.items < Ix.greatest }
+    requires room { vec_len edges.old < vec_capacity edges.old }
+    ensures index { result ≡ length edges.old.items }
+    ensures stored { Stores Ix.greatest nodes.new.items edges.new.items (with_edge (stored_graph nodes.old.items edges.old.items) a b weight) }
+    ensures len { length edges.new.items ≡ length edges.old.items + 1 }
+    ensures nodes { length nodes.new.items ≡ length nodes.old.items }
+    ensures capacity { vec_capacity edges.new ≡ vec_capacity edges.old }
+{
+    let e = Link::new(edges.len());
+    let x = put_first(nodes, a, b, e, weight);
+    edges.push_reserved(x);
+    e
+}
+
+// Takes `e` out of its two rows, and leads the links to the last edge to `e`, whose place it takes next.
+pub(super) fn detach<N, E, Ix: IndexType>(
+    nodes: &mut Vec<Node<N, Ix>>,
+    edges: &mut Vec<Edge<E, Ix>>,
+    e: Link<Ix>,
+)
+    requires stored { Stores Ix.greatest nodes.old.items edges.old.items (stored_graph nodes.old.items edges.old.items) }
+    requires edge { e < length edges.old.items }
+    ensures detached { IsDetached Ix.greatest (stored_graph nodes.old.items edges.old.items) e nodes.new.items edges.new.items }
+    ensures edges { map plain_edge edges.new.items ≡ map plain_edge edges.old.items }
+{
+    let i = e.index();
+    let last = edges.len() - 1;
+    let next_out = links::next(&edges[i], Direction::Outgoing);
+    let next_in = links::next(&edges[i], Direction::Incoming);
+    redirect(nodes, edges, Direction::Outgoing, e, next_out);
+    redirect(nodes, edges, Direction::Incoming, e, next_in);
+    if i != last {
+        let moved = Link::new(last);
+        redirect(nodes, edges, Direction::Outgoing, moved, e);
+        redirect(nodes, edges, Direction::Incoming, moved, e);
+    }
+}
+
+// Gives the edges of the last node to `n`, whose place it takes next.
+pub(super) fn reown_last<N, E, Ix: IndexType>(
+    nodes: &Vec<Node<N, Ix>>,
+    edges: &mut Vec<Edge<E, Ix>>,
+    n: Link<Ix>,
+)
+    requires stored { Stores Ix.greatest nodes.now.items edges.old.items (stored_graph nodes.now.items edges.old.items) }
+    requires node { n < length nodes.now.items }
+    ensures { let last = length nodes.now.items - 1 in
+        edges.new.items ≡ map (reowned Incoming last n) (map (reowned Outgoing last n) edges.old.items) }
+{
+    let i = n.index();
+    let last = nodes.len() - 1;
+    if i != last {
+        let from = Link::new(last);
+        let out = links::first(&nodes[last], Direction::Outgoing);
+        let into = links::first(&nodes[last], Direction::Incoming);
+        reown(edges, Direction::Outgoing, out, from, n);
+        reown(edges, Direction::Incoming, into, from, n);
+    }
+}
