@@ -1,2 +1,4 @@
 pub mod Flags
+pub mod Leading
 pub mod Pairs
+pub mod Stepping

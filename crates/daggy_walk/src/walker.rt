@@ -1,18 +1,78 @@
 //! Walkers: iterators that borrow their graph only while they take a step.
-ghost use Rattle.std.specs.Prelude.{Option};
+ghost use Rattle.std.specs.Prelude.{◌≡◌, Option, IfSome, ⊤};
+ghost use Rattle.std.specs.Iterator.{Count, IsFinite, UpTo, endless};
+ghost use Rattle.daggy_walk.specs.Walking.{Proceeds};
+
+mod chain;
+mod cycle;
+mod filter;
+mod inspect;
+mod iter;
+mod peek;
+mod peekable;
+mod recursive;
+mod skip;
+mod skip_while;
+mod take;
+mod take_while;
+
+pub use chain::Chain;
+pub use cycle::Cycle;
+pub use filter::Filter;
+pub use inspect::Inspect;
+pub use iter::WalkerIter;
+pub use peekable::{Ahead, Peekable};
+pub use recursive::{Led, Recursive};
+pub use skip::Skip;
+pub use skip_while::SkipWhile;
+pub use take::Take;
+pub use take_while::TakeWhile;
 
 /// A walk over a graph of type `G`.
 ///
 /// A walker works like an iterator, but it is handed the graph anew for each step. So the graph may change between two
 /// steps, and the weights that a step leads to may be written.
-pub trait Walker<G> {
+pub trait Walker<G>: Drop {
     /// What a step gives.
     type Item;
+
+    // Whether this walker may take a step over this graph. A walker that calls no closure always may.
+    ghost can_walk: { Self → G → Type 0 } = { λ _ _. ⊤ };
 
     // Whether a step from this walker over this graph may give this item and leave that walker.
     ghost walk_gives: { Self → G → Option Self.Item → Self → Type 0 };
 
+    // How many items may still come, as long as the graph is this one.
+    ghost items_left: { Self → G → Count } = { λ _ _. endless };
+
     /// Takes one step. `None` says that there is nowhere to go in this graph.
     fn walk_next(&mut self, graph: &G) -> Option<Self::Item>
-        ensures { walk_gives self.old graph.now result self.new };
+        requires { can_walk self.old graph.now }
+        ensures steps { walk_gives self.old graph.now result self.new }
+        ensures goes { Proceeds (λ w. can_walk w graph.now) (λ w. items_left w graph.now) self.old result self.new };
+
+    /// The rest of the walk as an iterator, which borrows the graph.
+    final fn iter<'a>(self, graph: &'a G) -> WalkerIter<'a, G, Self>
+    where
+        Self: Sized,
+        ensures walker { result.walker ≡ self }
+        ensures graph { result.graph.now ≡ graph.now }
+    {
+        WalkerIter::new(self, graph)
+    }
+}
+
+/// A walker that ends over each graph, as long as the graph does not change.
+pub trait FiniteWalker<G>: Walker<G> {
+    /// How many items may still come at most, where that is known without a walk.
+    #[inline]
+    fn upper_bound(&self, graph: &G) -> Option<usize>
+        ensures { IfSome result (UpTo (Self.items_left self.now graph.now)) }
+    {
+        let _ = graph;
+        None
+    }
+
+    // The number of items that may still come is bounded.
+    ghost ends: { (w : Self) (g : G) → IsFinite (Self.items_left w g) };
 }

@@ -1,0 +1,70 @@
+//! The steps of a walk that pass a test.
+ghost use Rattle.std.specs.Prelude.{◌≡◌};
+
+use crate::walker::{FiniteWalker, Walker};
+use std::marker::PhantomData;
+
+/// The items of a walk that a predicate accepts.
+#[derive(Drop)]
+#[derive_where(Clone, Copy, Debug; W, P)]
+pub struct Filter<G, W, P> {
+    walker: W,
+    predicate: P,
+    graph: PhantomData<G>,
+}
+
+impl<G, W, P> Filter<G, W, P> {
+    /// The items of a walk that `predicate` accepts.
+    #[inline]
+    pub fn new(walker: W, predicate: P) -> Self
+        ensures walker { result.walker ≡ walker }
+        ensures predicate { result.predicate ≡ predicate }
+    {
+        Filter {
+            walker,
+            predicate,
+            graph: PhantomData,
+        }
+    }
+}
+
+impl<G, W: FiniteWalker<G>, P: FnMut(&G, &W::Item) -> bool> Walker<G> for Filter<G, W, P>
+where
+    W::Item: Drop,
+{
+    ghost use Rattle.std.specs.Prelude.{Bool};
+    ghost use Rattle.daggy_walk.specs.Adapters.{FilterStep};
+    ghost use Rattle.daggy_walk.specs.Walking.{CallableAlong, CallsItem, TakesItem};
+
+    type Item = W::Item;
+
+    ghost can_walk = { λ s g. W.can_walk s.walker g × CallableAlong (λ w o v. W.walk_gives w g o v)
+        (λ f x h. (b : Bool) × CallsItem P.FnMut f g x b h) (λ f x. TakesItem P.FnMut f g x) s.walker s.predicate };
+
+    ghost walk_gives = { λ s g r t. FilterStep (λ w o v. W.walk_gives w g o v) P.FnMut g s.walker s.predicate
+        r t.walker t.predicate };
+
+    ghost items_left = { λ s g. W.items_left s.walker g };
+
+    #[inline]
+    fn walk_next(&mut self, graph: &G) -> Option<W::Item> {
+        while let Some(item) = self.walker.walk_next(graph) {
+            if (self.predicate)(graph, &item) {
+                return Some(item);
+            }
+        }
+        None
+    }
+}
+
+impl<G, W: FiniteWalker<G>, P: FnMut(&G, &W::Item) -> bool> FiniteWalker<G> for Filter<G, W, P>
+where
+    W::Item: Drop,
+{
+    ghost ends = { λ w g. W.ends w.walker g };
+
+    #[inline]
+    fn upper_bound(&self, graph: &G) -> Option<usize> {
+        self.walker.upper_bound(graph)
+    }
+}

@@ -1,0 +1,38 @@
+//! A look at what comes next, apart from its type, whose row its clause names.
+ghost use Rattle.std.specs.Prelude.{◌≡◌, ⊤, option_copied};
+ghost use Rattle.std.specs.Borrow.{sem, follows_so};
+ghost use mathlib.Core.Option.{none};
+ghost use Rattle.daggy_walk.specs.Adapters.{Peeks};
+ghost use Rattle.daggy_walk.specs.contracts.walker.peekable.Ahead.{the_row};
+
+use crate::walker::Walker;
+use crate::walker::peekable::Ahead;
+
+impl<G, W: Walker<G>> Ahead<G, W, W::Item>
+where
+    W::Item: Drop,
+{
+    /// What the next step gives. It is taken out of the walk now, and held until that step.
+    ///
+    /// Where the walk gives nothing, nothing is held, and the next step asks again.
+    #[inline]
+    pub fn peek(&mut self, graph: &G) -> Option<&W::Item>
+        requires { W.can_walk self.old.walker graph.now }
+        ensures* peeks { sem 𝓛 (follows_so (the_row G.row W.row W.Item.row) (the_row G.row W.row W.Item.row) self.entry.ghost_name none
+            (λ _ _. ⊤) (λ v. (v.held ≡ option_copied result) × Peeks (λ w o u. W.walk_gives w graph.now o u)
+            (λ w. W.can_walk w graph.now) (λ w. W.items_left w graph.now) self.entry.now.walker self.entry.now.held v.walker v.held)) }
+    {
+        self.fill(graph);
+        self.held.as_ref()
+    }
+
+    fn fill(&mut self, graph: &G)
+        requires { W.can_walk self.old.walker graph.now }
+        ensures { Peeks (λ w o u. W.walk_gives w graph.now o u)
+            (λ w. W.can_walk w graph.now) (λ w. W.items_left w graph.now) self.old.walker self.old.held self.new.walker self.new.held }
+    {
+        if self.held.is_none() {
+            self.held = self.walker.walk_next(graph);
+        }
+    }
+}

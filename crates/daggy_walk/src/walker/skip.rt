@@ -1,0 +1,67 @@
+//! A walk without its first steps.
+ghost use Rattle.std.specs.Prelude.{◌≡◌};
+
+use crate::walker::{FiniteWalker, Walker};
+use std::marker::PhantomData;
+
+/// A walk without its first steps, which are all taken in the first step of this.
+///
+/// So the first step takes time in proportion to the number of skipped steps, also where the walk ends before.
+#[derive(Drop)]
+#[derive_where(Clone, Copy, Debug; W)]
+pub struct Skip<G, W> {
+    walker: W,
+    to_skip: usize,
+    graph: PhantomData<G>,
+}
+
+impl<G, W> Skip<G, W> {
+    /// A walk without its first `to_skip` steps.
+    #[inline]
+    pub fn new(walker: W, to_skip: usize) -> Self
+        ensures walker { result.walker ≡ walker }
+        ensures count { result.to_skip ≡ to_skip }
+    {
+        Skip {
+            walker,
+            to_skip,
+            graph: PhantomData,
+        }
+    }
+}
+
+impl<G, W: Walker<G>> Walker<G> for Skip<G, W>
+where
+    W::Item: Drop,
+{
+    ghost use Rattle.daggy_walk.specs.Adapters.{SkipStep};
+
+    type Item = W::Item;
+
+    ghost can_walk = { λ s g. W.can_walk s.walker g };
+
+    ghost walk_gives = { λ s g r t. SkipStep (λ w o v. W.walk_gives w g o v) s.walker s.to_skip r t.walker t.to_skip };
+
+    ghost items_left = { λ s g. W.items_left s.walker g };
+
+    #[inline]
+    fn walk_next(&mut self, graph: &G) -> Option<W::Item> {
+        'skipped: while self.to_skip > 0 {
+            self.to_skip -= 1;
+            self.walker.walk_next(graph);
+        }
+        self.walker.walk_next(graph)
+    }
+}
+
+impl<G, W: FiniteWalker<G>> FiniteWalker<G> for Skip<G, W>
+where
+    W::Item: Drop,
+{
+    ghost ends = { λ w g. W.ends w.walker g };
+
+    #[inline]
+    fn upper_bound(&self, graph: &G) -> Option<usize> {
+        self.walker.upper_bound(graph)
+    }
+}
