@@ -12,6 +12,10 @@ pub use Rattle.daggy_guard.specs.Series
 pub use Rattle.daggy_guard.specs.Extension
 pub use Rattle.daggy_guard.specs.Elements
 pub use Rattle.daggy_walk.specs.Visit
+pub use Rattle.daggy_walk.specs.Walking
+pub use Rattle.daggy_walk.specs.Adapters
+pub use Rattle.daggy_walk.specs.Leading
+pub use Rattle.daggy_dag.specs.Walks
 pub use Rattle.daggy_graph.specs.Mapping
 pub use Rattle.daggy_graph.specs.Filtering
 pub use Rattle.daggy_graph.specs.Slots

@@ -24,7 +24,8 @@ pub use daggy_base::error::{
 pub use daggy_base::index::{EdgeIndex, NodeIndex};
 pub use daggy_base::{index, search};
 pub use daggy_dag::acyclic::{
-    Children, Dag, EdgeWeightsMut, NodeWeightsMut, Parents, RawEdges, RawNodes, StableDag,
+    Children, Dag, EdgeWeightsMut, NodeWeightsMut, Parents, RawEdges, RawNodes, RecursiveWalk,
+    StableDag,
 };
 pub use daggy_graph::graph;
 pub use daggy_graph::graph::lists::Edges;

@@ -4,3 +4,4 @@ pub mod Mapped
 pub mod Rewritten
 pub mod Filtered
 pub mod KeptInPlace
+pub mod Walking

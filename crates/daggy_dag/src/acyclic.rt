@@ -27,6 +27,7 @@ use std::marker::{Model, PhantomData};
 
 mod compact;
 mod graph;
+mod recursive;
 mod series;
 mod stable;
 mod visit;
@@ -35,6 +36,7 @@ mod weights;
 
 pub use compact::cursors::{EdgeWeightsMut, NodeWeightsMut};
 pub use compact::raw::{RawEdges, RawNodes};
+pub use recursive::RecursiveWalk;
 pub use walkers::{Children, Parents};
 
 /// A directed graph that never has a cycle, with weights of type `N` at its nodes and of type `E` at its edges, over a

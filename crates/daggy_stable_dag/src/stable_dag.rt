@@ -3,4 +3,8 @@ pub use daggy_base::index::{EdgeIndex, NodeIndex};
 pub use daggy_dag::acyclic::{Children, Parents, StableDag};
 pub use daggy_guard::edge_indices::EdgeIndices;
 pub use daggy_stable::stable_graph::lists::Edges;
+use daggy_walk::walker::Recursive;
 pub use daggy_walk::walker::Walker;
+
+/// A walk over a [`StableDag`] that a function leads from node to node.
+pub type RecursiveWalk<N, E, Ix, F> = Recursive<StableDag<N, E, Ix>, F>;

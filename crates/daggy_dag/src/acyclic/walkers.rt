@@ -1,15 +1,17 @@
 //! Walkers over the children and over the parents of a node.
-ghost use Rattle.std.specs.Prelude.{◌≡◌};
+ghost use Rattle.std.specs.Prelude.{◌≡◌, length};
 ghost use Rattle.std.specs.Option.{option_map};
+ghost use Rattle.std.specs.Iterator.{at_most};
 ghost use Rattle.daggy_base.specs.Graph.{pair_of};
 ghost use Rattle.daggy_base.specs.Cursor.{IsStep};
 ghost use Rattle.daggy_base.specs.declared.index.Direction.TheVariants.{Outgoing, Incoming};
+ghost use Rattle.daggy_dag.specs.Walks.{rest_of_walk};
 
 use crate::acyclic::Acyclic;
 use daggy_base::index::{DefaultIx, Direction, EdgeIndex, IndexType, NodeIndex};
 use daggy_base::store::Store;
 use daggy_guard::walk;
-use daggy_walk::walker::Walker;
+use daggy_walk::walker::{FiniteWalker, Walker};
 use std::alloc::AllocError;
 use std::marker::{Model, PhantomData};
 
@@ -17,6 +19,7 @@ use std::marker::{Model, PhantomData};
 ///
 /// It holds no borrow of the dag. If the edge that comes next was removed, it gives nothing from then on, unless an edge
 /// gets that index again.
+#[derive_where(Debug; Ix)]
 pub struct Children<N, E, Ix = DefaultIx> {
     pub(super) edge: EdgeIndex<Ix>,
     pub(super) node_weight: PhantomData<N>,
@@ -59,16 +62,28 @@ where
 
     ghost walk_gives = { λ w d r after. IsStep Outgoing Ix.greatest d.graph (Ix.number w) (option_map (pair_of Ix.number) r) (Ix.number after) };
 
+    ghost items_left = { λ w d. at_most (length (rest_of_walk Outgoing d.graph (Ix.number w))) };
+
     #[inline]
     fn walk_next(&mut self, dag: &Acyclic<N, E, Ix, S>) -> Option<(EdgeIndex<Ix>, NodeIndex<Ix>)> {
+        // Asked for its contract alone: an edge comes once in its list.
+        let _well_formed = dag.store.edge_count();
         walk::step(&dag.store, Direction::Outgoing, &mut self.edge)
     }
+}
+
+impl<N: Drop, E: Drop, Ix: IndexType, S> FiniteWalker<Acyclic<N, E, Ix, S>> for Children<N, E, Ix>
+where
+    S: Store<Ix, NodeWeight = N, EdgeWeight = E>,
+{
+    ghost ends = { λ w d. tt };
 }
 
 /// A walker over the parents of a node. It gives each edge with its parent.
 ///
 /// It holds no borrow of the dag. If the edge that comes next was removed, it gives nothing from then on, unless an edge
 /// gets that index again.
+#[derive_where(Debug; Ix)]
 pub struct Parents<N, E, Ix = DefaultIx> {
     pub(super) edge: EdgeIndex<Ix>,
     pub(super) node_weight: PhantomData<N>,
@@ -111,8 +126,19 @@ where
 
     ghost walk_gives = { λ w d r after. IsStep Incoming Ix.greatest d.graph (Ix.number w) (option_map (pair_of Ix.number) r) (Ix.number after) };
 
+    ghost items_left = { λ w d. at_most (length (rest_of_walk Incoming d.graph (Ix.number w))) };
+
     #[inline]
     fn walk_next(&mut self, dag: &Acyclic<N, E, Ix, S>) -> Option<(EdgeIndex<Ix>, NodeIndex<Ix>)> {
+        // Asked for its contract alone: an edge comes once in its list.
+        let _well_formed = dag.store.edge_count();
         walk::step(&dag.store, Direction::Incoming, &mut self.edge)
     }
+}
+
+impl<N: Drop, E: Drop, Ix: IndexType, S> FiniteWalker<Acyclic<N, E, Ix, S>> for Parents<N, E, Ix>
+where
+    S: Store<Ix, NodeWeight = N, EdgeWeight = E>,
+{
+    ghost ends = { λ w d. tt };
 }
