@@ -1,0 +1,7 @@
+//! What no contract says: that the examples come out as they should, and how often predicates are asked.
+
+mod adapters;
+mod asked;
+mod iterating;
+mod stale;
+mod support;

@@ -1,0 +1,136 @@
+use super::support::{Plain, Step, dag_of, far, goes, node, same, six};
+use daggy_base::store::Store;
+use daggy_graph::graph::DiGraph;
+use daggy_stable::stable_graph::StableDiGraph;
+use daggy_walk::walker::{
+    Chain, Cycle, Filter, Peekable, Skip, SkipWhile, Take, TakeWhile, Walker,
+};
+use std::alloc::Global;
+use std::process::Abort;
+
+fn weight<S: Store<u32, NodeWeight = u32, EdgeWeight = u32>>(dag: &Plain<S>, item: &Step) -> u32 {
+    match dag.node_weight(item.1) {
+        Some(weight) => *weight,
+        None => 99,
+    }
+}
+
+fn cuts<S: Store<u32, NodeWeight = u32, EdgeWeight = u32>>(rt: &impl Abort, alloc: Global) {
+    let dag: Plain<S> = six(rt, alloc);
+    let all = dag.children(node(rt, 6));
+    goes(
+        rt,
+        &dag,
+        &mut Skip::new(all, 3),
+        &[Some(2), Some(1), Some(0), None],
+    );
+    goes(rt, &dag, &mut Skip::new(all, 8), &[None, None]);
+    goes(
+        rt,
+        &dag,
+        &mut Take::new(all, 3),
+        &[Some(5), Some(4), Some(3), None],
+    );
+    goes(rt, &dag, &mut Take::new(all, 0), &[None, None]);
+    goes(
+        rt,
+        &dag,
+        &mut Take::new(Cycle::new(all), 8),
+        &[
+            Some(5),
+            Some(4),
+            Some(3),
+            Some(2),
+            Some(1),
+            Some(0),
+            Some(5),
+            Some(4),
+            None,
+        ],
+    );
+    let none = dag.children(node(rt, 0));
+    goes(rt, &dag, &mut Cycle::new(none), &[None, None]);
+}
+
+fn tests<S: Store<u32, NodeWeight = u32, EdgeWeight = u32>>(rt: &impl Abort, alloc: Global) {
+    let dag: Plain<S> = six(rt, alloc);
+    let all = dag.children(node(rt, 6));
+    let mut even = Filter::new(
+        all,
+        |dag: &Plain<S>, item: &Step| weight(dag, item) % 2 == 0,
+    );
+    goes(rt, &dag, &mut even, &[Some(4), Some(2), Some(0), None]);
+    let mut below = SkipWhile::new(all, |dag: &Plain<S>, item: &Step| weight(dag, item) >= 3);
+    goes(rt, &dag, &mut below, &[Some(2), Some(1), Some(0), None]);
+    let mut above = TakeWhile::new(all, |dag: &Plain<S>, item: &Step| weight(dag, item) > 2);
+    goes(
+        rt,
+        &dag,
+        &mut above,
+        &[Some(5), Some(4), Some(3), None, None],
+    );
+}
+
+fn chains<S: Store<u32, NodeWeight = u32, EdgeWeight = u32>>(rt: &impl Abort, alloc: Global) {
+    let dag: Plain<S> = dag_of(rt, alloc, 6, &[(0, 1), (0, 2), (0, 3), (2, 4), (2, 5)]);
+    let mut both = Chain::new(dag.children(node(rt, 2)), dag.children(node(rt, 0)));
+    goes(
+        rt,
+        &dag,
+        &mut both,
+        &[Some(5), Some(4), Some(3), Some(2), Some(1), None],
+    );
+}
+
+fn peeks<S: Store<u32, NodeWeight = u32, EdgeWeight = u32>>(rt: &impl Abort, alloc: Global) {
+    let dag: Plain<S> = dag_of(rt, alloc, 4, &[(0, 1), (0, 2), (0, 3)]);
+    let mut children = Peekable::new(dag.children(node(rt, 0)));
+    same(rt, far(children.peek(&dag).copied()), Some(3));
+    goes(rt, &dag, &mut children, &[Some(3), Some(2)]);
+    same(rt, far(children.peek(&dag).copied()), Some(1));
+    same(rt, far(children.peek(&dag).copied()), Some(1));
+    goes(rt, &dag, &mut children, &[Some(1)]);
+    same(rt, far(children.peek(&dag).copied()), None);
+    goes(rt, &dag, &mut children, &[None]);
+}
+
+fn leads<S: Store<u32, NodeWeight = u32, EdgeWeight = u32>>(rt: &impl Abort, alloc: Global) {
+    let mut dag: Plain<S> = dag_of(rt, alloc, 4, &[(0, 1), (1, 2)]);
+    let mut up = dag.recursive_walk(
+        node(rt, 2),
+        |dag: &Plain<S>, n| dag.parents(n).walk_next(dag),
+    );
+    goes(rt, &dag, &mut up, &[Some(1), Some(0), None]);
+    super::support::add_edge(rt, &mut dag, 3, 0);
+    goes(rt, &dag, &mut up, &[Some(3), None]);
+}
+
+#[test]
+fn walks_are_cut(rt: HostRuntime) {
+    cuts::<DiGraph<u32, u32, u32>>(&rt, rt.alloc());
+    cuts::<StableDiGraph<u32, u32, u32>>(&rt, rt.alloc());
+}
+
+#[test]
+fn items_are_tested(rt: HostRuntime) {
+    tests::<DiGraph<u32, u32, u32>>(&rt, rt.alloc());
+    tests::<StableDiGraph<u32, u32, u32>>(&rt, rt.alloc());
+}
+
+#[test]
+fn one_list_comes_after_another(rt: HostRuntime) {
+    chains::<DiGraph<u32, u32, u32>>(&rt, rt.alloc());
+    chains::<StableDiGraph<u32, u32, u32>>(&rt, rt.alloc());
+}
+
+#[test]
+fn a_look_ahead_takes_no_step(rt: HostRuntime) {
+    peeks::<DiGraph<u32, u32, u32>>(&rt, rt.alloc());
+    peeks::<StableDiGraph<u32, u32, u32>>(&rt, rt.alloc());
+}
+
+#[test]
+fn a_walk_up_goes_on_after_a_parent_was_added(rt: HostRuntime) {
+    leads::<DiGraph<u32, u32, u32>>(&rt, rt.alloc());
+    leads::<StableDiGraph<u32, u32, u32>>(&rt, rt.alloc());
+}

@@ -1,0 +1,120 @@
+//! The assertions, dags of numbers, and walks as numbers.
+//!
+//! Each `assert_eq!` is proved where it stands, so it stands here once, and tests call it. What is generic over the store
+//! serves both kinds of dag.
+ghost use Rattle.std.specs.Prelude.{◌≡◌, IsTrue, Ok};
+
+use daggy_base::index::{EdgeIndex, NodeIndex};
+use daggy_base::store::Store;
+use daggy_dag::acyclic::Acyclic;
+use daggy_walk::walker::Walker;
+use std::alloc::Global;
+use std::fmt::Debug;
+use std::process::Abort;
+
+/// A dag of either kind whose weights are numbers.
+pub type Plain<S> = Acyclic<u32, u32, u32, S>;
+
+/// What a walker over such a dag gives.
+pub type Step = (EdgeIndex, NodeIndex);
+
+/// Asserts that what was found is what is wanted.
+pub fn same<T: PartialEq + Debug + Drop>(rt: &impl Abort, found: T, wanted: T) {
+    assert_eq!(rt; found, wanted);
+}
+
+/// Asserts a fact, which calls after it may rest on.
+pub fn holds(rt: &impl Abort, fact: bool)
+    ensures { IsTrue fact }
+{
+    assert!(rt; fact);
+}
+
+/// Asserts that a call succeeded, and gives what it gave.
+pub fn made<T: Drop, E: Drop>(rt: &impl Abort, answer: Result<T, E>) -> T
+    ensures { answer ≡ Ok result }
+{
+    match answer {
+        Ok(x) => x,
+        Err(_) => panic!(rt; "the call was refused"),
+    }
+}
+
+/// The index of a node.
+pub fn node(rt: &impl Abort, x: usize) -> NodeIndex {
+    assert!(rt; x <= NodeIndex::<u32>::end().index());
+    NodeIndex::new(x)
+}
+
+/// The index of an edge.
+pub fn edge(rt: &impl Abort, x: usize) -> EdgeIndex {
+    assert!(rt; x <= EdgeIndex::<u32>::end().index());
+    EdgeIndex::new(x)
+}
+
+/// A dag with so many nodes, whose weights are their indices, and with these edges, of weight 0.
+pub fn dag_of<S: Store<u32, NodeWeight = u32, EdgeWeight = u32>>(
+    rt: &impl Abort,
+    alloc: Global,
+    nodes: u32,
+    edges: &[(usize, usize)],
+) -> Plain<S> {
+    let mut dag = Plain::<S>::new(alloc);
+    for weight in 0..nodes {
+        assert!(rt; dag.can_add_node());
+        made(rt, dag.add_node(weight));
+    }
+    for (a, b) in edges {
+        add_edge(rt, &mut dag, *a, *b);
+    }
+    dag
+}
+
+/// Adds an edge of weight 0 that closes no cycle.
+pub fn add_edge<S: Store<u32, NodeWeight = u32, EdgeWeight = u32>>(
+    rt: &impl Abort,
+    dag: &mut Plain<S>,
+    a: usize,
+    b: usize,
+) {
+    let (a, b) = (node(rt, a), node(rt, b));
+    assert!(rt; dag.contains_node(a) && dag.contains_node(b));
+    assert!(rt; dag.can_add_edge());
+    made(rt, dag.add_edge(a, b, 0));
+}
+
+/// Nodes 0 to 5, and node 6 with an edge to each of them, that to node 5 newest.
+pub fn six<S: Store<u32, NodeWeight = u32, EdgeWeight = u32>>(
+    rt: &impl Abort,
+    alloc: Global,
+) -> Plain<S> {
+    dag_of(
+        rt,
+        alloc,
+        7,
+        &[(6, 0), (6, 1), (6, 2), (6, 3), (6, 4), (6, 5)],
+    )
+}
+
+/// The number of the node that a step gives.
+pub fn far(step: Option<Step>) -> Option<usize> {
+    match step {
+        Some(item) => Some(item.1.index()),
+        None => None,
+    }
+}
+
+/// Takes steps, and asserts which nodes they give.
+pub fn goes<G, W: Walker<G, Item = Step>>(
+    rt: &impl Abort,
+    graph: &G,
+    walker: &mut W,
+    wanted: &[Option<usize>],
+)
+    requires { W.can_walk walker.old graph.now }
+    ensures { W.can_walk walker.new graph.now }
+{
+    for step in wanted {
+        same(rt, far(walker.walk_next(graph)), *step);
+    }
+}
