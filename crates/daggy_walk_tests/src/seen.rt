@@ -2,9 +2,9 @@
 ghost use Rattle.std.specs.Prelude.{◌≡◌, IfOk, map};
 ghost use Rattle.daggy_base.specs.Graph.{out_list};
 
-use daggy::index::IndexType;
-use daggy::walker::Walker;
-use daggy::{Dag, EdgeIndex, NodeIndex};
+use daggy_base::index::{EdgeIndex, IndexType, NodeIndex};
+use daggy_dag::acyclic::Dag;
+use daggy_walk::walker::Walker;
 use std::alloc::{AllocError, Global};
 
 /// The edges to the children of a node, each once, newest first.

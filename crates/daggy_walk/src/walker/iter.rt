@@ -6,9 +6,11 @@ use crate::walker::Walker;
 /// The rest of a walk over a graph that is borrowed, as an iterator. [`Walker::iter`] makes it.
 ///
 /// As a walk may go on after it gave `None`, so may this.
-#[derive(Clone, Copy, Drop)]
+#[derive(Drop)]
+#[derive_where(Clone, Copy, Debug; W)]
 pub struct WalkerIter<'a, G, W> {
     walker: W,
+    #[derive_where(skip(Debug))]
     graph: &'a G,
 }
 

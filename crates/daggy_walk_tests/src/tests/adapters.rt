@@ -1,8 +1,10 @@
 use super::support::{Plain, Step, dag_of, far, goes, node, same, six};
-use daggy::graph::DiGraph;
-use daggy::stable_graph::StableDiGraph;
-use daggy::walker::{Chain, Cycle, Filter, Peekable, Skip, SkipWhile, Take, TakeWhile, Walker};
 use daggy_base::store::Store;
+use daggy_graph::graph::DiGraph;
+use daggy_stable::stable_graph::StableDiGraph;
+use daggy_walk::walker::{
+    Chain, Cycle, Filter, Peekable, Skip, SkipWhile, Take, TakeWhile, Walker,
+};
 use std::alloc::Global;
 use std::process::Abort;
 

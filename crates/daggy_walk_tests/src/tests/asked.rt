@@ -1,8 +1,8 @@
 use super::support::{Plain, Step, goes, node, same, six};
-use daggy::graph::DiGraph;
-use daggy::stable_graph::StableDiGraph;
-use daggy::walker::{Filter, Inspect, SkipWhile, Take, TakeWhile};
 use daggy_base::store::Store;
+use daggy_graph::graph::DiGraph;
+use daggy_stable::stable_graph::StableDiGraph;
+use daggy_walk::walker::{Filter, Inspect, SkipWhile, Take, TakeWhile};
 use std::alloc::Global;
 use std::process::Abort;
 

@@ -1,8 +1,8 @@
 use super::support::{Plain, edge, node, same, six};
-use daggy::graph::DiGraph;
-use daggy::stable_graph::StableDiGraph;
-use daggy::walker::Walker;
 use daggy_base::store::Store;
+use daggy_graph::graph::DiGraph;
+use daggy_stable::stable_graph::StableDiGraph;
+use daggy_walk::walker::Walker;
 use std::alloc::Global;
 use std::process::Abort;
 

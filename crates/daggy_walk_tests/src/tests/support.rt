@@ -4,10 +4,10 @@
 //! serves both kinds of dag.
 ghost use Rattle.std.specs.Prelude.{◌≡◌, IsTrue, Ok};
 
-use daggy::walker::Walker;
-use daggy::{EdgeIndex, NodeIndex};
+use daggy_base::index::{EdgeIndex, NodeIndex};
 use daggy_base::store::Store;
 use daggy_dag::acyclic::Acyclic;
+use daggy_walk::walker::Walker;
 use std::alloc::Global;
 use std::fmt::Debug;
 use std::process::Abort;
