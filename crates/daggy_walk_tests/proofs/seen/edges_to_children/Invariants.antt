@@ -7,5 +7,5 @@ use Rattle.daggy_walk_tests.proofs.seen.edges_to_children.Given as goal
 abbrev pub invariant-loop-step : goal.invariant-loop-step
 invariant-loop-step g l =
     let number = g.Ix.IndexType.number in
-    (map number l.seen.items ++ rest_of_walk Outgoing l.dag.graph (number l.step-iterator.walker) ≡ out_list l.dag.graph (number l.n))
+    (map number l.seen.items ++ rest_of_walk Outgoing l.dag.graph (number l.step-iterator.walker) ≡ out_list l.dag.graph (number l.fn.n))
     × (l.step-iterator.graph.now ≡ l.dag)
