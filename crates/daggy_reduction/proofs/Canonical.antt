@@ -46,19 +46,17 @@ module _ {N E M F : Type 0} (roots : List ℕ) (old new : Graph N E) (acyclic : 
 pub alike_exactly : {N E M F : Type 0} (roots : List ℕ) (old new : Graph N E) (acyclic : IsAcyclic old) (s : LosesRoundPairs roots old new) (ends : Ends old) (all : ReachAll old roots) (roots' : List ℕ) (old' new' : Graph M F) (acyclic' : IsAcyclic old') (s' : LosesRoundPairs roots' old' new') (ends' : Ends old') (all' : ReachAll old' roots') (nodes : HaveSameNodes old old') → JoinSamePairs new new' ↔ HaveSameReachability old old'
 alike_exactly roots old new acyclic s ends all roots' old' new' acyclic' s' ends' all' nodes = (
   λ pairs u v. (
-    let after : HaveSameNodes new new' = λ n. (λ h. (s'.nodes n).0 ((nodes n).0 ((s.nodes n).1 h)), λ h. (s.nodes n).0 ((nodes n).1 ((s'.nodes n).1 h))) in
-    let alike = reach_same new new' after pairs u v in
-    (
-      λ r. reached_before roots' old' new' acyclic' s' u v (alike.0 (reached_after roots old new acyclic s u v r)),
-      λ r. reached_before roots old new acyclic s u v (alike.1 (reached_after roots' old' new' acyclic' s' u v r)),
-    )
-  ),
+      let after : HaveSameNodes new new' = λ n. (λ h. (s'.nodes n).0 ((nodes n).0 ((s.nodes n).1 h)), λ h. (s.nodes n).0 ((nodes n).1 ((s'.nodes n).1 h))) in
+      let alike = reach_same new new' after pairs u v in (
+        λ r. reached_before roots' old' new' acyclic' s' u v (alike.0 (reached_after roots old new acyclic s u v r)),
+        λ r. reached_before roots old new acyclic s u v (alike.1 (reached_after roots' old' new' acyclic' s' u v r)),
+      )
+      ),
   λ same u v. (
-    let back : HaveSameReachability old' old = λ a b. ((same a b).1, (same a b).0) in
-    let turned : HaveSameNodes old' old = λ n. ((nodes n).1, (nodes n).0) in
-    (
-      pairs_kept roots old new acyclic s ends all roots' old' new' acyclic' s' ends' all' nodes same u v,
-      pairs_kept roots' old' new' acyclic' s' ends' all' roots old new acyclic s ends all turned back u v,
-    )
-  ),
+      let back : HaveSameReachability old' old = λ a b. ((same a b).1, (same a b).0) in
+      let turned : HaveSameNodes old' old = λ n. ((nodes n).1, (nodes n).0) in (
+        pairs_kept roots old new acyclic s ends all roots' old' new' acyclic' s' ends' all' nodes same u v,
+        pairs_kept roots' old' new' acyclic' s' ends' all' roots old new acyclic s ends all turned back u v,
+      )
+      ),
 )

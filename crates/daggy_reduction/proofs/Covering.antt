@@ -43,9 +43,9 @@ module _ {N E : Type 0} (roots : List ℕ) (old new : Graph N E) (acyclic : IsAc
       let has = ends u v before in
       record {
         apart = λ e. (
-          let P : ℕ → Type 0 = λ z. Reaches old z u in
-          no_round old acyclic u v has.0 before (subst P e (reaches_itself old u has.0))
-        );
+            let P : ℕ → Type 0 = λ z. Reaches old z u in
+            no_round old acyclic u v has.0 before (subst P e (reaches_itself old u has.0))
+            );
         reached = reaches_one old u v has.0 has.1 before;
         nothing_between = λ w from to a b. s.lost u v j below (round_through old u w v a b from to);
       }
@@ -61,12 +61,12 @@ module _ {N E : Type 0} (roots : List ℕ) (old new : Graph N E) (acyclic : IsAc
             let hu = (ends u w parts.2).0 in
             let hw = (ends u w parts.2).1 in
             let from : w ≢ u = λ e. (
-              let P : ℕ → Type 0 = λ z. Reaches old w z in
-              no_round old acyclic u w hu parts.2 (subst P e (reaches_itself old w hw))
+            let P : ℕ → Type 0 = λ z. Reaches old w z in
+            no_round old acyclic u w hu parts.2 (subst P e (reaches_itself old w hw))
             ) in
             let to : w ≢ v = λ e. (
-              let P : ℕ → Type 0 = λ z. Reaches old parts.1 z in
-              no_round old acyclic w parts.1 hw parts.3 (subst P (sym e) parts.5)
+            let P : ℕ → Type 0 = λ z. Reaches old parts.1 z in
+            no_round old acyclic w parts.1 hw parts.3 (subst P (sym e) parts.5)
             ) in
             absurd (c.nothing_between w from to (reaches_one old u w hu hw parts.2) parts.4)
             )

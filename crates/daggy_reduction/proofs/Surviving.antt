@@ -127,8 +127,7 @@ module _ {N E : Type 0} (kind : Kind) where
   survivor_before (d ∷ ds) g s i x h =
       let later = survivor_before ds (without_edge kind g d) (descending_rest d ds s) i x h in
       let here = left_before g d kind later.0 x later.1 in
-      let P : ℕ → Type 0 = λ z. Mem z ds in
-      (
+      let P : ℕ → Type 0 = λ z. Mem z ds in (
         here.0,
         here.1,
         λ m. elim m [
@@ -147,15 +146,15 @@ module _ {N E : Type 0} (kind : Kind) where
       let low = slot_inside g.edges d first.0 first.1 in
       let here = left_after g d kind j x low h (λ e. out (inl e)) in
       let still : (e : ℕ) → Mem e ds → (y : Edge E) × (edge_at (without_edge kind g d) e ≡ Some y) = λ e m. (
-        let before = exist e (inr m) in
-        (before.0, left_below g d kind e low (below_first d ds s e m) ∙ before.1)
+      let before = exist e (inr m) in
+      (before.0, left_below g d kind e low (below_first d ds s e m) ∙ before.1)
       ) in
       let gone : Mem here.0 ds → ⊥ = λ m. (
-        let P : ℕ → Type 0 = λ z. Mem z ds in
-        elim here.2 [
-          | inl same ↦ out (inr (subst P same m))
-          | inr there ↦ (let under = below_first d ds s here.0 m in omega (arith, under, there))
-        ]
+      let P : ℕ → Type 0 = λ z. Mem z ds in
+      elim here.2 [
+        | inl same ↦ out (inr (subst P same m))
+        | inr there ↦ (let under = below_first d ds s here.0 m in omega (arith, under, there))
+      ]
       ) in
       survivor_after ds (without_edge kind g d) (descending_rest d ds s) still here.0 x here.1 gone
 
@@ -196,9 +195,9 @@ reduction_loses {N} {E} kind roots old new r =
         | inr out ↦ (let after = survivor_after kind ds old r.descending exist j.0 _ j.2 out in inl (after.0, j.1, after.1))
       ];
       lost = λ u v j below round. (
-        let before = survivor_before kind ds old r.descending j.0 _ j.2 in
-        before.2 (contains_mem ds before.0 ((r.exact before.0).1 (record { edge = _; at = before.1; below = below; round = round })))
-      );
+          let before = survivor_before kind ds old r.descending j.0 _ j.2 in
+          before.2 (contains_mem ds before.0 ((r.exact before.0).1 (record { edge = _; at = before.1; below = below; round = round })))
+          );
     })
   where
     exist : (d : ℕ) → Mem d r.redundant → (x : Edge E) × (edge_at old d ≡ Some x)
