@@ -7,6 +7,7 @@ pub mod Marking
 pub mod Searching
 pub mod Walking
 pub mod Slots
+pub mod MappedSlots
 pub mod Full
 pub mod Adding
 pub mod Nodes

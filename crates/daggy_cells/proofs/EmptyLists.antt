@@ -1,13 +1,8 @@
 -- Nodes whose lists are emptied one after another.
-use Rattle.std.proofs.Common.{◌≡◌, ℕ, zero, suc, ◌<◌, List, [], ◌∷◌, ◌++◌, map, length, get_or, set, take, drop, sym, ap, ◌∙◌, arith}
+use Rattle.std.proofs.Common.{◌≡◌, ℕ, suc, ◌<◌, List, ◌++◌, map, length, get_or, set, take, drop, sym, ap, ◌∙◌}
 use Rattle.daggy_cells.specs.declared.cell.Node.{Node}
 use Rattle.daggy_cells.specs.Fields.{bare}
-
--- one more element is mapped
-pub map_so_far : {A : Type 0} (f : A → A) (xs : List A) (i : ℕ) (x : A) → i < length xs → x ≡ get_or (map f (take i xs) ++ drop i xs) i x → set (map f (take i xs) ++ drop i xs) i (f x) ≡ map f (take (suc i) xs) ++ drop (suc i) xs
-map_so_far f [] i x within is = absurd (omega (arith, within))
-map_so_far f (y ∷ ys) zero x within is = ap (λ z. f z ∷ ys) is
-map_so_far f (y ∷ ys) (suc i) x within is = ap (λ l. f y ∷ l) (map_so_far f ys i x (omega (arith, within)) is)
+use Rattle.daggy_base.proofs.Lists.{map_so_far}
 
 -- in the words of the code: the lists of one more node are emptied
 pub unlinking_step : {N Ix : Type 0} (end : ℕ) (old now : List (Node N Ix)) (i j a : ℕ) (x : Node N Ix) → j ≡ suc i → now ≡ map (bare end) (take i old) ++ drop i old → i < length old → x ≡ get_or now i x → a ≡ end

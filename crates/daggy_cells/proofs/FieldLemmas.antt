@@ -1,49 +1,18 @@
 -- What lists of stored nodes and edges hold, before and after a write.
-use Rattle.std.proofs.Common.{◌≡◌, ℕ, zero, suc, ◌<◌, ◌≤◌, List, [], ◌∷◌, map, length, get_or, set, Option, Some, None, IsSome, slice_get, refl, sym, ap, ◌∙◌, arith}
-use Rattle.std.proofs.lemmas.List.{map-set, get_or-map, set-get_or}
-use Rattle.daggy_base.specs.Graph.{Graph, Edge as PlainEdge, slot}
-use Rattle.std.specs.Option.{option_map}
-use Rattle.std.proofs.lemmas.Option.{slice_get-map, slice_get_read}
+use Rattle.std.proofs.Common.{◌≡◌, ℕ, ◌<◌, List, map, length, get_or, set, Option, refl, sym, ap, ◌∙◌}
+use Rattle.std.proofs.lemmas.List.{length-map, map-set, get_or-map}
+use Rattle.daggy_base.specs.Graph.{Graph, Edge as PlainEdge}
 use Rattle.daggy_cells.specs.declared.cell.Node.{Node}
 use Rattle.daggy_cells.specs.declared.cell.Edge.{Edge}
 use Rattle.daggy_base.specs.declared.index.Direction.{Direction}
 use Rattle.daggy_base.specs.declared.index.Direction.TheVariants.{Outgoing, Incoming}
 use Rattle.daggy_cells.specs.Raw.{raw_first, raw_next}
 use Rattle.daggy_cells.specs.Fields.{weight_of, with_first, with_next, plain_edge, end_at, firsts_of, nexts_of, ends_of, KeepsNodes, KeepsEdges}
+use Rattle.daggy_base.proofs.Lists.{map-set_same}
 
--- a write that changes nothing that f sees
-pub map-set_same : {A B : Type 0} (f : A → B) (xs : List A) (i : ℕ) (x y : A) → x ≡ get_or xs i x → f y ≡ f x → map f (set xs i y) ≡ map f xs
-map-set_same f xs i x y is same =
-    let back : set xs i x ≡ xs = ap (set xs i) is ∙ set-get_or xs i x in
-    map-set f xs i y ∙ ap (set (map f xs) i) same ∙ sym (map-set f xs i x) ∙ ap (map f) back
-
--- a slot that holds something is within, and the other way round
-pub slot_within : {A B : Type 0} (f : A → B) (xs : List A) (i : ℕ) → IsSome (slot (map (λ x. Some (f x)) xs) i) → i < length xs
-slot_within f [] i p = absurd (cc)
-slot_within f (x ∷ xs) zero p = omega arith
-slot_within f (x ∷ xs) (suc i) p = let more = slot_within f xs i p in omega arith
-
-pub slot_holds : {A B : Type 0} (f : A → B) (xs : List A) (i : ℕ) → i < length xs → IsSome (slot (map (λ x. Some (f x)) xs) i)
-slot_holds f [] i p = absurd (omega arith)
-slot_holds f (x ∷ xs) zero p = refl
-slot_holds f (x ∷ xs) (suc i) p = slot_holds f xs i (omega arith)
-
--- what a slot shows of what is stored there
-pub slot_read : {A B : Type 0} (f : A → Option B) (xs : List A) (i : ℕ) (x : A) → i < length xs → x ≡ get_or xs i x → slot (map f xs) i ≡ f x
-slot_read f [] i x p is = absurd (omega arith)
-slot_read f (y ∷ ys) zero x p is = ap f (sym is)
-slot_read f (y ∷ ys) (suc i) x p is = slot_read f ys i x (omega arith) is
-
-pub slot_beyond : {A B : Type 0} (f : A → Option B) (xs : List A) (i : ℕ) → length xs ≤ i → slot (map f xs) i ≡ None
-slot_beyond f [] i p = refl
-slot_beyond f (x ∷ xs) zero p = absurd (omega arith)
-slot_beyond f (x ∷ xs) (suc i) p = slot_beyond f xs i (omega arith)
-
-pub slot_is : {A B : Type 0} (f : A → B) (xs : List A) (i : ℕ) (x : A) → i < length xs → x ≡ get_or xs i x → slot (map (λ x. Some (f x)) xs) i ≡ Some (f x)
-slot_is f xs i x p is = slot_read (λ y. Some (f y)) xs i x p is
-
-pub slot_past : {A B : Type 0} (f : A → B) (xs : List A) (i : ℕ) → length xs ≤ i → slot (map (λ x. Some (f x)) xs) i ≡ None
-slot_past f xs i p = slot_beyond (λ y. Some (f y)) xs i p
+-- there is a first link for each node
+pub firsts_as_many : {N V Ix : Type 0} (f : Node N Ix → V) (dir : Direction) (nodes : List (Node N Ix)) → length (firsts_of dir nodes) ≡ length (map f nodes)
+firsts_as_many f dir nodes = length-map nodes (raw_first dir) ∙ sym (length-map nodes f)
 
 -- a graph by its parts
 pub same_graph : {N E : Type 0} (g : Graph N E) {a : List (Option N)} {b : List (Option (PlainEdge E))} {c d : List (List ℕ)} {e f : List ℕ} → a ≡ g.nodes → b ≡ g.edges → c ≡ g.out_lists → d ≡ g.in_lists → e ≡ g.vacant_nodes → f ≡ g.vacant_edges → record { nodes = a; edges = b; out_lists = c; in_lists = d; vacant_nodes = e; vacant_edges = f } ≡ g
@@ -53,11 +22,6 @@ same_graph {N} {E} g {a} {b} {c} {d} {e} {f} p q r s t u =
     ap (λ x. mk x b c d e f) p ∙ ap (λ x. mk g.nodes x c d e f) q ∙ ap (λ x. mk g.nodes g.edges x d e f) r
     ∙ ap (λ x. mk g.nodes g.edges g.out_lists x e f) s ∙ ap (λ x. mk g.nodes g.edges g.out_lists g.in_lists x f) t
     ∙ ap (λ x. mk g.nodes g.edges g.out_lists g.in_lists g.vacant_nodes x) u
-
--- what the code reads
-
-pub slice_get_mapped : {A B : Type 0} (f : A → B) (xs : List A) (i : ℕ) (x : A) → i < length xs → x ≡ get_or xs i x → slice_get (map f xs) i ≡ Some (f x)
-slice_get_mapped f xs i x within is = slice_get-map f xs i ∙ ap (option_map f) (slice_get_read xs (length xs) i x refl within is)
 
 -- a write of one link
 

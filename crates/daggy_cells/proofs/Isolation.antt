@@ -10,7 +10,8 @@ use Rattle.daggy_base.specs.Cursor.{first_of}
 use Rattle.daggy_base.specs.State.{State, with_graph}
 use Rattle.daggy_base.specs.WellFormed.{AreDistinct, ListsEdges, IsWellFormed}
 use Rattle.daggy_base.specs.Removal.{Kind, Compact, Stable, without, renamed, without_edge, without_first, without_front}
-use Rattle.daggy_cells.proofs.Rows.{Contains-here, without_here}
+use Rattle.daggy_base.proofs.Lists.{Contains-here}
+use Rattle.daggy_cells.proofs.Rows.{without_here}
 use Rattle.daggy_cells.proofs.Threads.{row-map}
 
 on_some : {A : Type 0} (r : Option A) (P : Type 0) → OnSome r P → is_some r ≡ true → P

@@ -1,7 +1,6 @@
 -- One link led elsewhere: when it can be, and what it makes of a row.
-use Rattle.std.proofs.Common.{◌≡◌, ℕ, ◌-◌, ◌<◌, ◌≤◌, List, map, length, get_or, set, take, sym, ap, subst, ◌∙◌, arith, Contains}
-use Rattle.std.specs.List.{swap_remove}
-use Rattle.std.proofs.lemmas.List.{length-map, map-set, get_or-map, take-map}
+use Rattle.std.proofs.Common.{◌≡◌, ℕ, ◌-◌, ◌<◌, ◌≤◌, List, length, get_or, sym, ap, subst, ◌∙◌, arith, Contains}
+use Rattle.std.proofs.lemmas.List.{length-map, get_or-map}
 use Rattle.daggy_cells.specs.declared.cell.Node.{Node}
 use Rattle.daggy_cells.specs.declared.cell.Edge.{Edge}
 use Rattle.daggy_base.specs.declared.index.Direction.{Direction}
@@ -43,16 +42,6 @@ module _ {N E Ix : Type 0} (end : ℕ) (dir : Direction) (nodes : List (Node N I
 
   pub Redirected-row : (new : ℕ) (nodes' : List (Node N Ix)) (edges' : List (Edge E Ix)) → IsLinked end (firsts_of dir nodes) (nexts_of dir edges) lists → get_or (ends_of dir edges) old 0 ≡ n → n < length nodes → length edges ≤ end → Redirects dir nodes edges old new nodes' edges' → Redirected (row lists n) n old new (firsts_of dir nodes) (nexts_of dir edges) (firsts_of dir nodes') (nexts_of dir edges')
   Redirected-row new nodes' edges' linked n_is n_in few red = Redirected-walk end dir nodes edges (row lists n) old n (row_at linked n_in) n_is few new nodes' edges' red
-
--- the last element in the place of e, seen through a map
-pub map-swap_remove : {A B : Type 0} (h : A → B) (xs : List A) (i : ℕ) (d : A) (d' : B) → i < length xs → map h (swap_remove xs i d) ≡ swap_remove (map h xs) i d'
-map-swap_remove h xs i d d' within =
-    let last = length xs - 1 in
-    let inside : last < length xs = omega (arith, within) in
-    let long : length (map h xs) - 1 ≡ last = ap (λ n. n - 1) (length-map xs h) in
-    sym (take-map h last (set xs i (get_or xs last d))) ∙ ap (take last) (map-set h xs i (get_or xs last d))
-    ∙ ap (λ z. take last (set (map h xs) i z)) (sym (get_or-map h xs last d d' inside))
-    ∙ ap (λ k. take k (set (map h xs) i (get_or (map h xs) k d'))) (sym long)
 
 -- one call of `redirect`
 pub record Step {N E Ix : Type 0} (dir : Direction) (nodes : List (Node N Ix)) (edges : List (Edge E Ix)) (old new : ℕ) (nodes' : List (Node N Ix)) (edges' : List (Edge E Ix)) : Type 0 where

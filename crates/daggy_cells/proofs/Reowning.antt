@@ -3,6 +3,7 @@ use Rattle.std.proofs.Common.{◌≡◌, ◌≢◌, ◌↔◌, ℕ, suc, ◌<◌
 use Rattle.std.proofs.lemmas.Bool.{cases_eq}
 use Rattle.std.proofs.lemmas.List.{length-map, length-set, map-set}
 use Rattle.std.proofs.lemmas.Option.{slice_get_within, same_Some}
+use Rattle.std.proofs.lemmas.Map.Made.{Contains-tail}
 use Rattle.daggy_base.specs.Cursor.{first_of}
 use Rattle.daggy_base.specs.Removal.{renamed}
 use Rattle.daggy_cells.specs.declared.cell.Edge.{Edge}
@@ -11,9 +12,8 @@ use Rattle.daggy_base.specs.declared.index.Direction.TheVariants.{Outgoing, Inco
 use Rattle.daggy_cells.specs.Links.{IsRow}
 use Rattle.daggy_cells.specs.Raw.{raw_next}
 use Rattle.daggy_cells.specs.Fields.{end_at, with_end, reowned, nexts_of, ends_of, walk}
-use Rattle.daggy_cells.proofs.Rows.{Contains-here, Contains-there, Contains-rest, Contains-nil, renamed_here, renamed_other, row_splits, row_is, IsRow-tail, after_here}
-use Rattle.daggy_cells.proofs.Threads.{slice_get-set_same, slice_get-set_other}
-use Rattle.daggy_cells.proofs.FieldLemmas.{map-set_same, slice_get_mapped}
+use Rattle.daggy_base.proofs.Lists.{Contains-here, Contains-there, Contains-nil, slice_get-set_same, slice_get-set_other, map-set_same, slice_get_mapped}
+use Rattle.daggy_cells.proofs.Rows.{renamed_here, renamed_other, row_splits, row_is, IsRow-tail, after_here}
 
 -- the edges so far, where the rest of the row from e on still has the node from
 pub record IsReowning {E Ix : Type 0} (end : ℕ) (dir : Direction) (from to : ℕ) (old now : List (Edge E Ix)) (e : ℕ) : Type 0 where
@@ -99,7 +99,7 @@ module _ {E Ix : Type 0} (end : ℕ) (dir : Direction) (from to : ℕ) where
             | inr other ↦
                 let stands : slice_get (ends_of dir now') f ≡ slice_get (ends_of dir now) f = ap (λ l. slice_get l f) ends_now ∙ slice_get-set_other (ends_of dir now) e f to other in (
                   λ p. stands ∙ (r.exact f).0 (subst (λ l. Contains l f) (sym split.1) (Contains-there e f split.0 p)),
-                  λ q. Contains-rest e f split.0 (λ z. other (sym z)) (subst (λ l. Contains l f) split.1 ((r.exact f).1 (sym stands ∙ q))),
+                  λ q. Contains-tail e split.0 f (λ z. other (sym z)) (subst (λ l. Contains l f) split.1 ((r.exact f).1 (sym stands ∙ q))),
                 )
           ];
           same = map-set_same (reowned dir from to) now e x (with_end dir x to) is (

@@ -13,8 +13,8 @@ use Rattle.daggy_cells.specs.Links.{follow, row, IsRow}
 use Rattle.daggy_cells.specs.Raw.{raw_next}
 use Rattle.daggy_cells.specs.Rest.{edges_left, IsOnRow}
 use Rattle.daggy_cells.specs.Fields.{nexts_of, walk, plain}
-use Rattle.daggy_cells.proofs.Rows.{row_splits, row_is, IsRow-tail, after_here, Contains-here}
-use Rattle.daggy_cells.proofs.FieldLemmas.{slice_get_mapped}
+use Rattle.daggy_cells.proofs.Rows.{row_splits, row_is, IsRow-tail, after_here}
+use Rattle.daggy_base.proofs.Lists.{Contains-here, slice_get_mapped}
 
 -- no slot is vacant
 

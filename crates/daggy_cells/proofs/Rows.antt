@@ -1,35 +1,16 @@
 -- Lists of numbers that are threaded by links.
-use Rattle.std.proofs.Common.{◌≡◌, ◌≢◌, ◌⊎◌, ℕ, zero, suc, ◌<◌, ◌≤◌, Bool, true, false, eqb, List, [], ◌∷◌, map, length, get_or, Option, Some, None, slice_get, refl, sym, ap, subst, ◌∙◌, inl, inr, arith, Contains}
+use Rattle.std.proofs.Common.{◌≡◌, ◌≢◌, ◌⊎◌, ℕ, zero, suc, ◌<◌, ◌≤◌, Bool, true, false, eqb, List, [], ◌∷◌, map, length, Option, Some, None, slice_get, refl, sym, ap, subst, ◌∙◌, inl, inr, arith, Contains}
 use Rattle.std.specs.List.{AllByRecursion, IsDistinct, find}
 use Rattle.std.proofs.lemmas.Bool.{cases_eq, eq-eqb, ne_eqb, cond-true, cond-false, eqb-true}
 use Rattle.std.proofs.lemmas.Option.{slice_get_past, slice_get_within, same_Some}
 use Rattle.std.proofs.lemmas.Map.Steps.{length-le_from_distinct_below}
 use Rattle.std.proofs.lemmas.Map.Views.{Contains-from_any}
+use Rattle.std.proofs.lemmas.Map.Made.{Contains-tail}
 use Rattle.daggy_base.specs.Cursor.{first_of, after}
 use Rattle.daggy_base.specs.WellFormed.{AreDistinct}
 use Rattle.daggy_base.specs.Removal.{without, renamed}
 use Rattle.daggy_cells.specs.Links.{follow, IsRow}
-
--- membership, by the head and the rest
-
-pub Contains-nil : (x : ℕ) → Contains [] x → ⊥
-Contains-nil x p = omega (arith, p.1)
-
-pub Contains-here : (x : ℕ) (xs : List ℕ) → Contains (x ∷ xs) x
-Contains-here x xs = (0, omega arith, refl)
-
-pub Contains-there : (head x : ℕ) (rest : List ℕ) → Contains rest x → Contains (head ∷ rest) x
-Contains-there head x rest p = (suc p.0, omega (arith, p.1), p.2)
-
-pub Contains-cases : (head x : ℕ) (rest : List ℕ) → Contains (head ∷ rest) x → (head ≡ x) ⊎ Contains rest x
-Contains-cases head x rest p = by_index p.0 p.1 p.2
-  where
-    by_index : (k : ℕ) → k < suc (length rest) → get_or (head ∷ rest) k x ≡ x → (head ≡ x) ⊎ Contains rest x
-    by_index zero within found = inl found
-    by_index (suc k) within found = inr (k, omega arith, found)
-
-pub Contains-rest : (head x : ℕ) (rest : List ℕ) → head ≢ x → Contains (head ∷ rest) x → Contains rest x
-Contains-rest head x rest differs p = elim (Contains-cases head x rest p) [ inl here ↦ absurd (differs here) | inr there ↦ there ]
+use Rattle.daggy_base.proofs.Lists.{Contains-nil, Contains-here, Contains-there, Contains-cases}
 
 -- an element of the rest differs from the head
 pub apart : (head x : ℕ) (rest : List ℕ) → AreDistinct (head ∷ rest) → Contains rest x → head ≢ x
@@ -128,7 +109,7 @@ pub Contains-without : (e f : ℕ) (xs : List ℕ) → f ≢ e → Contains xs f
 Contains-without e f [] differs p = p
 Contains-without e f (x ∷ xs) differs p =
     elim (cases_eq x e) [
-      | inl same ↦ rw (eq-eqb x e same) (Contains-without e f xs differs (Contains-rest x f xs (λ g. differs (sym g ∙ same)) p))
+      | inl same ↦ rw (eq-eqb x e same) (Contains-without e f xs differs (Contains-tail x xs f (λ g. differs (sym g ∙ same)) p))
       | inr other ↦ rw (ne_eqb x e other) (elim (Contains-cases x f xs p) [
         | inl here ↦ subst (Contains (x ∷ without e xs)) here (Contains-here x (without e xs))
         | inr there ↦ Contains-there x f (without e xs) (Contains-without e f xs differs there)
@@ -164,7 +145,7 @@ after-without end e (x ∷ xs) f d p differs inside =
           ∙ ap (λ v. renamed e v (first_of end xs)) (sym (after_there end x e xs other)) ∙ ap (renamed e (after end (x ∷ xs) e)) (sym (after_here end x xs)) in
           subst (λ z. after end (without e (x ∷ xs)) z ≡ renamed e (after end (x ∷ xs) e) (after end (x ∷ xs) z)) same at_x
       | inr apart_f ↦
-          let later = Contains-rest x f xs apart_f p in
+          let later = Contains-tail x xs f apart_f p in
           elim (cases_eq x e) [
             | inl same ↦
                 let out : after end xs f ≢ x = λ g. elim (after_cases end xs f) [ inl q ↦ d.0 (subst (Contains xs) g q) | inr q ↦ inside (sym same ∙ sym g ∙ q) ] in
@@ -200,7 +181,7 @@ IsRest-start end nexts first old (x ∷ xs) r p later =
     let same : x ≡ first = sym r.starts in
     let differs : x ≢ old = λ q. later (r.starts ∙ q) in
     subst (λ z. IsRest end nexts z old (x ∷ xs)) same
-    (record { more = xs; from_here = subst (λ z. IsRow end nexts z (x ∷ xs)) r.starts r; behind = Contains-rest x old xs differs p; inside = λ f q. (q, refl) })
+    (record { more = xs; from_here = subst (λ z. IsRow end nexts z (x ∷ xs)) r.starts r; behind = Contains-tail x xs old differs p; inside = λ f q. (q, refl) })
 
 -- a step along it: next is not yet `old`
 pub IsRest-step : (end : ℕ) (nexts : List ℕ) (e old next : ℕ) (whole : List ℕ) → IsRest end nexts e old whole → slice_get nexts e ≡ Some next → next ≢ old → IsRest end nexts next old whole
@@ -214,7 +195,7 @@ IsRest-step end nexts e old next whole r goes differs = go r.more r.from_here r.
         (record {
           more = ys;
           from_here = IsRow-tail end nexts e (y ∷ ys) row_e;
-          behind = Contains-rest y old ys (λ q. differs (sym same ∙ q)) behind;
+          behind = Contains-tail y ys old (λ q. differs (sym same ∙ q)) behind;
           inside = λ f q. (
             (inside f (Contains-there e f (y ∷ ys) q)).0,
             (inside f (Contains-there e f (y ∷ ys) q)).1 ∙ after_there end e f (y ∷ ys) (apart e f (y ∷ ys) row_e.distinct q),
@@ -324,7 +305,7 @@ after_injective end (x ∷ xs) e f d p q same inside =
             absurd (after_not_first end xs e d.1 (λ z. inside (same ∙ here ∙ z)) (sym (after_there end x e xs not_e) ∙ same ∙ here))
         | inr not_f ↦
             let here = after_there end x e xs not_e in
-            after_injective end xs e f d.1 (Contains-rest x e xs not_e p) (Contains-rest x f xs not_f q) (sym here ∙ same ∙ after_there end x f xs not_f) (λ z. inside (here ∙ z))
+            after_injective end xs e f d.1 (Contains-tail x xs e not_e p) (Contains-tail x xs f not_f q) (sym here ∙ same ∙ after_there end x f xs not_f) (λ z. inside (here ∙ z))
       ]
     ]
 
@@ -349,30 +330,6 @@ renamed-injective from to xs out x y p q same =
       ]
     ]
 
-pub Contains-map : (r : ℕ → ℕ) (xs : List ℕ) (x : ℕ) → Contains xs x → Contains (map r xs) (r x)
-Contains-map r [] x p = absurd (Contains-nil x p)
-Contains-map r (y ∷ ys) x p =
-    elim (Contains-cases y x ys p) [
-      | inl here ↦ subst (λ z. Contains (map r (y ∷ ys)) (r z)) here (Contains-here (r y) (map r ys))
-      | inr there ↦ Contains-there (r y) (r x) (map r ys) (Contains-map r ys x there)
-    ]
-
-pub Contains-from_map : (r : ℕ → ℕ) (xs : List ℕ) (z : ℕ) → Contains (map r xs) z → (x : ℕ) × Contains xs x × (r x ≡ z)
-Contains-from_map r [] z p = absurd (Contains-nil z p)
-Contains-from_map r (y ∷ ys) z p =
-    elim (Contains-cases (r y) z (map r ys) p) [
-      | inl here ↦ (y, Contains-here y ys, here)
-      | inr there ↦ let more = Contains-from_map r ys z there in (more.0, Contains-there y more.0 ys more.1, more.2)
-    ]
-
-pub AreDistinct-map : (r : ℕ → ℕ) (xs : List ℕ) → ((x y : ℕ) → Contains xs x → Contains xs y → r x ≡ r y → x ≡ y) → AreDistinct xs → AreDistinct (map r xs)
-AreDistinct-map r [] inj d = tt
-AreDistinct-map r (x ∷ xs) inj d = (
-  λ p. let found = Contains-from_map r xs (r x) p in
-      d.0 (subst (Contains xs) (inj found.0 x (Contains-there x found.0 xs found.1) (Contains-here x xs) found.2) found.1),
-  AreDistinct-map r xs (λ y z p q. inj y z (Contains-there x y xs p) (Contains-there x z xs q)) d.1,
-)
-
 pub first_of-map : (end : ℕ) (r : ℕ → ℕ) (xs : List ℕ) → r end ≡ end → first_of end (map r xs) ≡ r (first_of end xs)
 first_of-map end r [] fixed = sym fixed
 first_of-map end r (x ∷ xs) fixed = refl
@@ -384,7 +341,7 @@ after-map end r (x ∷ xs) f inj fixed p =
       | inl same ↦ subst (λ z. after end (map r (x ∷ xs)) (r z) ≡ r (after end (x ∷ xs) z)) same
           (after_here end (r x) (map r xs) ∙ first_of-map end r xs fixed ∙ ap r (sym (after_here end x xs)))
       | inr differs ↦
-          let later = Contains-rest x f xs differs p in
+          let later = Contains-tail x xs f differs p in
           after_there end (r x) (r f) (map r xs) (λ q. differs (inj x f (Contains-here x xs) p q))
           ∙ after-map end r xs f (λ y z p q. inj y z (Contains-there x y xs p) (Contains-there x z xs q)) fixed later
           ∙ ap r (sym (after_there end x f xs differs))

@@ -1,36 +1,14 @@
 -- What each change makes of the links and the rows.
-use Rattle.std.proofs.Common.{◌≡◌, ◌≢◌, ℕ, zero, suc, ◌+◌, ◌<◌, ◌≤◌, List, [], ◌∷◌, ◌++◌, map, length, get_or, set, take, ◌-◌, Option, Some, None, slice_get, unwrap_or, refl, sym, ap, subst, ◌∙◌, inl, inr, arith, Contains}
+use Rattle.std.proofs.Common.{◌≡◌, ◌≢◌, ℕ, zero, suc, ◌+◌, ◌<◌, ◌≤◌, List, [], ◌∷◌, ◌++◌, map, length, get_or, set, ◌-◌, Option, Some, None, slice_get, unwrap_or, refl, sym, ap, subst, ◌∙◌, inl, inr, arith, Contains}
 use Rattle.std.specs.Option.{option_map}
-use Rattle.std.specs.List.{swap_remove}
 use Rattle.std.proofs.lemmas.Bool.{cases_eq, cases_lt}
 use Rattle.std.proofs.lemmas.List.{length-set, length_push, length-map, get_or-map, get_or_push, get_or_append_left, get_or-set_same, get_or-set_other, set-get_or, same_lists}
-use Rattle.std.proofs.lemmas.Option.{slice_get_past, slice_get_within, slice_get-map, same_Some, none-some, slice_get-get_or}
+use Rattle.std.proofs.lemmas.Option.{slice_get_past, slice_get_within, same_Some, none-some, slice_get-get_or}
 use Rattle.daggy_base.specs.Cursor.{first_of, after}
 use Rattle.daggy_base.specs.Removal.{without, renamed}
 use Rattle.daggy_cells.specs.Links.{follow, rows_of, row, IsRow, IsLinked, ListsBy, ListsEach, Redirected}
-use Rattle.daggy_cells.proofs.Rows.{Contains-nil, Contains-here, Contains-there, Contains-cases, after_here, after_there, row_is, renamed_here, renamed_other, after_not_first, after_injective, without_outside, Contains-from_without, Contains-without, AreDistinct-without, first_of-without, after-without, map-renamed_outside, renamed-injective, Contains-map, Contains-from_map, AreDistinct-map, first_of-map, after-map}
-
-module _ {A : Type 0} where
-  pub slice_get-set_same : (xs : List A) (i : ℕ) (a : A) → i < length xs → slice_get (set xs i a) i ≡ Some a
-  slice_get-set_same [] i a within = absurd (omega (arith, within))
-  slice_get-set_same (x ∷ xs) zero a within = refl
-  slice_get-set_same (x ∷ xs) (suc i) a within = slice_get-set_same xs i a (omega (arith, within))
-
-  pub slice_get-set_other : (xs : List A) (i j : ℕ) (a : A) → j ≢ i → slice_get (set xs i a) j ≡ slice_get xs j
-  slice_get-set_other [] i j a differs = refl
-  slice_get-set_other (x ∷ xs) zero zero a differs = absurd (differs refl)
-  slice_get-set_other (x ∷ xs) zero (suc j) a differs = refl
-  slice_get-set_other (x ∷ xs) (suc i) zero a differs = refl
-  slice_get-set_other (x ∷ xs) (suc i) (suc j) a differs = slice_get-set_other xs i j a (λ same. differs (ap suc same))
-
-  pub slice_get-push_old : (xs : List A) (y : A) (i : ℕ) → i < length xs → slice_get (xs ++ y ∷ []) i ≡ slice_get xs i
-  slice_get-push_old [] y i within = absurd (omega (arith, within))
-  slice_get-push_old (x ∷ xs) y zero within = refl
-  slice_get-push_old (x ∷ xs) y (suc i) within = slice_get-push_old xs y i (omega (arith, within))
-
-  pub slice_get-push_new : (xs : List A) (y : A) → slice_get (xs ++ y ∷ []) (length xs) ≡ Some y
-  slice_get-push_new [] y = refl
-  slice_get-push_new (x ∷ xs) y = slice_get-push_new xs y
+use Rattle.daggy_base.proofs.Lists.{Contains-nil, Contains-here, Contains-there, Contains-cases, Contains-map, Contains-from_map, AreDistinct-map, slice_get-set_same, slice_get-set_other, slice_get-push_old, slice_get-push_new, slice_get-push_other, IsSwapRemoved}
+use Rattle.daggy_cells.proofs.Rows.{after_here, after_there, row_is, renamed_here, renamed_other, after_not_first, after_injective, without_outside, Contains-from_without, Contains-without, AreDistinct-without, first_of-without, after-without, map-renamed_outside, renamed-injective, first_of-map, after-map}
 
 -- rows
 
@@ -171,13 +149,6 @@ ListsBy-put end_of end_of' lists a m listed inside none some others n e =
           ]
     ]
 
-pub slice_get-push_other : {A : Type 0} (xs : List A) (y : A) (i : ℕ) → i ≢ length xs → slice_get (xs ++ y ∷ []) i ≡ slice_get xs i
-slice_get-push_other xs y i other =
-    elim (cases_lt i (length xs)) [
-      | inl within ↦ slice_get-push_old xs y i within
-      | inr past ↦ slice_get_past (xs ++ y ∷ []) i (omega (arith, past, other, length_push xs y)) ∙ sym (slice_get_past xs i past)
-    ]
-
 pub ListsEach-edge : (ends : List ℕ) (lists : List (List ℕ)) (a m : ℕ) → m ≡ length ends → a < length lists → ListsEach ends lists → ListsEach (ends ++ a ∷ []) (set lists a (m ∷ row lists a))
 ListsEach-edge ends lists a m new inside listed =
     ListsBy-put (slice_get ends) (slice_get (ends ++ a ∷ [])) lists a m listed inside (slice_get_past ends m (omega (arith, new))) (ap (slice_get (ends ++ a ∷ [])) new ∙ slice_get-push_new ends a)
@@ -235,57 +206,6 @@ Redirected-later end firsts nexts l n p old new r later listed before inside =
           ];
       outside = λ e q. slice_get-set_other nexts p e new (λ same. q (subst (Contains l) (sym same) listed));
     }
-
--- the last element in the place of another
-
-module _ {A : Type 0} where
-  pub slice_get-take : (n : ℕ) (xs : List A) (i : ℕ) → i < n → slice_get (take n xs) i ≡ slice_get xs i
-  slice_get-take zero xs i below = absurd (omega (arith, below))
-  slice_get-take (suc n) [] i below = refl
-  slice_get-take (suc n) (x ∷ xs) zero below = refl
-  slice_get-take (suc n) (x ∷ xs) (suc i) below = slice_get-take n xs i (omega (arith, below))
-
-  pub slice_get-take_past : (n : ℕ) (xs : List A) (i : ℕ) → n ≤ i → slice_get (take n xs) i ≡ None
-  slice_get-take_past zero xs i past = refl
-  slice_get-take_past (suc n) [] i past = refl
-  slice_get-take_past (suc n) (x ∷ xs) zero past = absurd (omega (arith, past))
-  slice_get-take_past (suc n) (x ∷ xs) (suc i) past = slice_get-take_past n xs i (omega (arith, past))
-
-  -- ys is xs after the removal of i
-  pub record IsSwapRemoved (xs ys : List A) (i last : ℕ) : Type 0 where
-    pub long : length xs ≡ suc last
-    pub moved : i ≢ last → slice_get ys i ≡ slice_get xs last
-    pub kept : (f : ℕ) → f < last → f ≢ i → slice_get ys f ≡ slice_get xs f
-    pub gone : (f : ℕ) → last ≤ f → slice_get ys f ≡ None
-
-  pub IsSwapRemoved-from : (xs : List A) (i last : ℕ) (d : A) → i < length xs → length xs ≡ suc last → IsSwapRemoved xs (swap_remove xs i d) i last
-  IsSwapRemoved-from xs i last d within long =
-      let is : length xs - 1 ≡ last = omega (arith, long) in
-      let mk : ℕ → List A = λ k. take k (set xs i (get_or xs k d)) in
-      let moves : mk (length xs - 1) ≡ mk last = ap mk is in
-      record {
-        long = long;
-        moved = λ differs. ap (λ l. slice_get l i) moves ∙ slice_get-take last _ i (omega (arith, within, long, differs)) ∙ slice_get-set_same xs i (get_or xs last d) within ∙ sym (slice_get-get_or xs last d (omega (arith, long)));
-        kept = λ f below differs. ap (λ l. slice_get l f) moves ∙ slice_get-take last _ f below ∙ slice_get-set_other xs i f _ differs;
-        gone = λ f past. ap (λ l. slice_get l f) moves ∙ slice_get-take_past last _ f past;
-      }
-
-  pub IsSwapRemoved-map : {B : Type 0} (h : A → B) (xs ys : List A) (i last : ℕ) → IsSwapRemoved xs ys i last → length (map h xs) ≡ suc last × ((i ≢ last → slice_get (map h ys) i ≡ slice_get (map h xs) last) × (((f : ℕ) → f < last → f ≢ i → slice_get (map h ys) f ≡ slice_get (map h xs) f) × ((f : ℕ) → last ≤ f → slice_get (map h ys) f ≡ None)))
-  IsSwapRemoved-map h xs ys i last r = (
-    length-map xs h ∙ r.long,
-    (
-      λ differs. slice_get-map h ys i ∙ ap (option_map h) (r.moved differs) ∙ sym (slice_get-map h xs last),
-      (
-        λ f below differs. slice_get-map h ys f ∙ ap (option_map h) (r.kept f below differs) ∙ sym (slice_get-map h xs f),
-        λ f past. slice_get-map h ys f ∙ ap (option_map h) (r.gone f past),
-      ),
-    ),
-  )
-
-pub IsSwapRemoved-mapped : {A B : Type 0} (h : A → B) (xs ys : List A) (i last : ℕ) → IsSwapRemoved xs ys i last → IsSwapRemoved (map h xs) (map h ys) i last
-IsSwapRemoved-mapped h xs ys i last r =
-    let parts = IsSwapRemoved-map h xs ys i last r in
-    record { long = parts.0; moved = parts.1.0; kept = parts.1.1.0; gone = parts.1.1.1 }
 
 -- e taken out of its row
 

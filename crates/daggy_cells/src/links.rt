@@ -134,7 +134,8 @@ fn set_end<E, Ix: IndexType>(x: &mut Edge<E, Ix>, dir: Direction, n: Link<Ix>)
     }
 }
 
-/// Puts the edge `e` first in the out list of `a` and in the in list of `b`, and gives what is stored of it.
+/// Puts the edge `e` first in the out list of `a` and in the in list of `b`, and gives what is
+/// stored of it.
 #[inline]
 pub fn put_first<N, E, Ix: IndexType>(
     nodes: &mut Vec<Node<N, Ix>>,
@@ -166,7 +167,7 @@ pub fn put_first<N, E, Ix: IndexType>(
     new_edge(weight, a, b, next_out, next_in)
 }
 
-// The edge before `old` in the row that begins with `first`.
+// The edge before `old` in the list that begins with `first`.
 fn find_before<E, Ix: IndexType>(
     edges: &[Edge<E, Ix>],
     dir: Direction,
@@ -220,7 +221,8 @@ pub fn redirect<N, E, Ix: IndexType>(
     }
 }
 
-/// Gives the edges of the row that begins with `first`, which are all those of the node `from`, to the node `to`.
+/// Gives the edges of the list that begins with `first`, which are all those of the node `from`,
+/// to the node `to`.
 pub fn reown<E, Ix: IndexType>(
     edges: &mut Vec<Edge<E, Ix>>,
     dir: Direction,

@@ -16,7 +16,8 @@ pub struct EdgeReference<'a, E, Ix = DefaultIx> {
 }
 
 impl<'a, E, Ix: IndexType> EdgeReference<'a, E, Ix> {
-    /// The reference to an edge of this index, these ends and this weight, for stores that lend their edges.
+    /// The reference to an edge of this index, these ends and this weight, for stores that lend
+    /// their edges.
     #[inline]
     pub fn from_parts(
         id: EdgeIndex<Ix>,

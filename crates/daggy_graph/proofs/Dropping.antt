@@ -15,9 +15,9 @@ use Rattle.daggy_cells.specs.Links.{row, IsRow, IsLinked, ListsEach}
 use Rattle.daggy_cells.specs.Raw.{raw_first, raw_next}
 use Rattle.daggy_cells.specs.Fields.{weight_of, plain_edge, reowned, firsts_of, nexts_of, ends_of, lists_at, walk}
 use Rattle.daggy_graph.specs.Stored.{Stores}
-use Rattle.daggy_cells.proofs.Rows.{Contains-nil, row_is, renamed_here, renamed_other}
-use Rattle.daggy_cells.proofs.Threads.{row_within, IsRow-at, IsSwapRemoved, IsSwapRemoved-from, IsSwapRemoved-mapped, renamed_itself}
-use Rattle.daggy_cells.proofs.RedirectLemmas.{map-swap_remove}
+use Rattle.daggy_base.proofs.Lists.{Contains-nil, IsSwapRemoved, IsSwapRemoved-from, IsSwapRemoved-mapped, map-swap_remove}
+use Rattle.daggy_cells.proofs.Rows.{row_is, renamed_here, renamed_other}
+use Rattle.daggy_cells.proofs.Threads.{row_within, IsRow-at, renamed_itself}
 
 pub length-swap_remove : {A : Type 0} (xs : List A) (i last : ℕ) (d : A) → length xs ≡ suc last → length (swap_remove xs i d) ≡ last
 length-swap_remove xs i last d long =

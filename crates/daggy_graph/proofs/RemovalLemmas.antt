@@ -14,8 +14,9 @@ use Rattle.daggy_cells.specs.Raw.{raw_first, raw_next}
 use Rattle.daggy_cells.specs.Fields.{weight_of, plain_edge, end_at, firsts_of, nexts_of, ends_of, lists_at, IsReady, Redirects}
 use Rattle.daggy_graph.specs.Stored.{Stores, IsDetached}
 use Rattle.daggy_cells.proofs.Rows.{Contains-from_without, Contains-without}
-use Rattle.daggy_cells.proofs.Threads.{row-map, row_within, IsSwapRemoved, IsSwapRemoved-from, IsSwapRemoved-mapped, IsLinked-unlinked, IsLinked-renamed, IsLinked-cut, ListsEach-removed}
-use Rattle.daggy_cells.proofs.RedirectLemmas.{Ready-from, Redirected-row, map-swap_remove, Step}
+use Rattle.daggy_cells.proofs.Threads.{row-map, row_within, IsLinked-unlinked, IsLinked-renamed, IsLinked-cut, ListsEach-removed}
+use Rattle.daggy_base.proofs.Lists.{IsSwapRemoved, IsSwapRemoved-from, IsSwapRemoved-mapped, map-swap_remove}
+use Rattle.daggy_cells.proofs.RedirectLemmas.{Ready-from, Redirected-row, Step}
 
 module _ {N E Ix : Type 0} (end : ℕ) (nodes : List (Node N Ix)) (edges : List (Edge E Ix)) (g : Graph N E) (s : Stores end nodes edges g) (e last : ℕ) (e_in : e < length edges) (long : length edges ≡ suc last) (dir : Direction) where
   stands : (f : ℕ) → f < length edges → slice_get (ends_of dir edges) f ≡ Some (get_or (ends_of dir edges) f 0)

@@ -16,7 +16,8 @@ use Rattle.daggy_cells.specs.Raw.{raw_next}
 use Rattle.daggy_cells.specs.Rest.{edges_left, IsOnRow}
 use Rattle.daggy_cells.specs.Fields.{nexts_of, firsts_of, walk, plain, plain_edge, lists_at}
 use Rattle.daggy_graph.specs.Stored.{stored_graph, Stores}
-use Rattle.daggy_cells.proofs.Rows.{row_is, Contains-nil}
+use Rattle.daggy_cells.proofs.Rows.{row_is}
+use Rattle.daggy_base.proofs.Lists.{Contains-nil}
 use Rattle.daggy_cells.proofs.Threads.{row_past}
 use Rattle.daggy_cells.proofs.RestLemmas.{at_index}
 

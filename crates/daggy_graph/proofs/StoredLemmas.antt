@@ -13,7 +13,9 @@ use Rattle.daggy_cells.specs.Raw.{raw_first, raw_next}
 use Rattle.daggy_cells.specs.Fields.{weight_of, plain_edge, end_at, firsts_of, walks}
 use Rattle.daggy_graph.specs.Stored.{stored_graph, Stores}
 use Rattle.daggy_cells.proofs.Threads.{rows_are, IsLinked-node, ListsEach-node, IsLinked-edge, ListsEach-edge}
-use Rattle.daggy_cells.proofs.FieldLemmas.{map-set_same, slot_is, same_graph}
+use Rattle.daggy_base.proofs.Lists.{map-set_same}
+use Rattle.daggy_base.proofs.MappedSlots.{slot_is}
+use Rattle.daggy_cells.proofs.FieldLemmas.{same_graph}
 
 module _ {N E Ix : Type 0} (end : ℕ) (nodes : List (Node N Ix)) (edges : List (Edge E Ix)) where
   -- what is stored is what the view shows

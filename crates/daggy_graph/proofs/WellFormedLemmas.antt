@@ -15,10 +15,11 @@ use Rattle.daggy_cells.specs.Links.{row}
 use Rattle.daggy_cells.specs.Raw.{raw_first, raw_next}
 use Rattle.daggy_cells.specs.Fields.{weight_of, plain, plain_edge, end_at, firsts_of, ends_of, lists_at}
 use Rattle.daggy_graph.specs.Stored.{stored_graph, Stores}
-use Rattle.daggy_cells.proofs.Rows.{Contains-nil}
+use Rattle.daggy_base.proofs.Lists.{Contains-nil, slice_get_mapped}
 use Rattle.daggy_cells.proofs.Threads.{row_within, row_past}
+use Rattle.daggy_cells.proofs.FieldLemmas.{firsts_as_many}
 use Rattle.daggy_graph.proofs.StoredLemmas.{stored_is, Stores-itself}
-use Rattle.daggy_cells.proofs.FieldLemmas.{slot_holds, slot_is, slice_get_mapped}
+use Rattle.daggy_base.proofs.MappedSlots.{slot_holds, slot_is}
 
 module _ {E Ix : Type 0} where
   end_is : (dir : Direction) (y : Edge E Ix) → near_end dir (record { parent = y.parent; child = y.child; weight = y.weight }) ≡ end_at dir y
@@ -64,8 +65,8 @@ module _ {N E Ix : Type 0} (end : ℕ) (nodes : List (Node N Ix)) (edges : List 
           omega (arith, row_within (lists_at dir (stored_graph nodes edges)) _ e there, (s.linked dir).rows, length-map nodes (raw_first dir)) in
           let once : (dir : Direction) (n : ℕ) → AreDistinct (row (lists_at dir (stored_graph nodes edges)) n) = λ dir n. distinct dir s n in
           record {
-            out_rows = (s.linked Outgoing).rows ∙ length-map nodes (raw_first Outgoing) ∙ sym (length-map nodes weight_of);
-            in_rows = (s.linked Incoming).rows ∙ length-map nodes (raw_first Incoming) ∙ sym (length-map nodes weight_of);
+            out_rows = (s.linked Outgoing).rows ∙ firsts_as_many weight_of Outgoing nodes;
+            in_rows = (s.linked Incoming).rows ∙ firsts_as_many weight_of Incoming nodes;
             parents = λ e x p. slot_holds (λ z. z.weight) nodes x.parent (node_in Outgoing e x p);
             children = λ e x p. slot_holds (λ z. z.weight) nodes x.child (node_in Incoming e x p);
             out_of = record {

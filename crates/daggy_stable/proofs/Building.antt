@@ -5,6 +5,7 @@ use Rattle.std.specs.Option.{option_map}
 use Rattle.std.proofs.lemmas.Bool.{cases_eq}
 use Rattle.std.proofs.lemmas.List.{length-set, length_push, length-map, map_push}
 use Rattle.std.proofs.lemmas.Option.{same_Some, none-some}
+use Rattle.std.proofs.lemmas.Map.Made.{Contains-tail}
 use Rattle.daggy_base.specs.declared.index.Direction.{Direction}
 use Rattle.daggy_base.specs.declared.index.Direction.TheVariants.{Outgoing, Incoming}
 use Rattle.daggy_base.specs.Graph.{Graph, Edge as PlainEdge, slot, edge_at, near_end}
@@ -15,9 +16,10 @@ use Rattle.daggy_cells.specs.Links.{row, IsLinked, ListsBy}
 use Rattle.daggy_cells.specs.Raw.{raw_first, raw_next}
 use Rattle.daggy_base.specs.FromSlots.{of_slots, lists_down, vacant_down}
 use Rattle.daggy_cells.specs.Fields.{firsts_of, nexts_of, lists_at}
-use Rattle.daggy_cells.proofs.Rows.{Contains-here, Contains-there, Contains-rest, after_here, after_there}
-use Rattle.daggy_cells.proofs.Threads.{slice_get-push_old, slice_get-push_new, slice_get-push_other, slice_get-set_other, row_push, linked_within, IsRow-kept, IsLinked-node, IsLinked-put, IsLinked-kept, ListsBy-put}
-use Rattle.daggy_cells.proofs.FieldLemmas.{same_graph}
+use Rattle.daggy_base.proofs.Lists.{Contains-here, Contains-there, slice_get-push_old, slice_get-push_new, slice_get-push_other, slice_get-set_other}
+use Rattle.daggy_cells.proofs.Rows.{after_here, after_there}
+use Rattle.daggy_cells.proofs.Threads.{row_push, linked_within, IsRow-kept, IsLinked-node, IsLinked-put, IsLinked-kept, ListsBy-put}
+use Rattle.daggy_cells.proofs.FieldLemmas.{same_graph, firsts_as_many}
 use Rattle.daggy_stable.specs.Stored.{weight_of, plain_edge, shown, row_firsts, end_of, IsThreaded, Stores}
 use Rattle.daggy_stable.proofs.Descending.{slot_push_new, slot_push_other, slot_past, vacant_down_more, lists_down-node, lists_down-vacant, lists_down-edge}
 use Rattle.daggy_stable.proofs.Shown.{shown_some, shown-set, shown_push}
@@ -88,14 +90,14 @@ module _ {A : Type 0} where
                       subst (λ z. slice_get (links ++ head ∷ []) z ≡ Some (after end (e ∷ vacant) z)) same
                       (ap (slice_get (links ++ head ∷ [])) (sym t.long) ∙ slice_get-push_new links head ∙ ap Some (t.row.starts ∙ sym (after_here end e vacant)))
                   | inr other ↦
-                      let there = Contains-rest e f vacant other p in
+                      let there = Contains-tail e vacant f other p in
                       old_link head f there ∙ t.row.goes_on f there ∙ ap Some (sym (after_there end e f vacant other))
                 ];
           };
           exact = λ i. (
             λ p. elim (cases_eq e i) [
               | inl same ↦ subst (λ z. slice_get (slots ++ None ∷ []) z ≡ Some None) same (slice_get-push_new slots None)
-              | inr other ↦ slice_get-push_other slots None i (λ same. other (sym same)) ∙ (t.exact i).0 (Contains-rest e i vacant other p)
+              | inr other ↦ slice_get-push_other slots None i (λ same. other (sym same)) ∙ (t.exact i).0 (Contains-tail e vacant i other p)
             ],
             λ q. elim (cases_eq e i) [
               | inl same ↦ subst (Contains (e ∷ vacant)) same (Contains-here e vacant)
@@ -108,9 +110,6 @@ module _ {A : Type 0} where
         }
 
 module _ {N E Ix : Type 0} {end : ℕ} {nodes : List (Node (Option N) Ix)} {edges : List (Edge (Option E) Ix)} {node_head edge_head nodes_counted edges_counted : ℕ} {g : Graph N E} (s : Stores end nodes edges node_head edge_head nodes_counted edges_counted g) where
-  as_many : (dir : Direction) → length (firsts_of dir nodes) ≡ length (map weight_of nodes)
-  as_many dir = length-map nodes (raw_first dir) ∙ sym (length-map nodes weight_of)
-
   -- one more slot of a node
   module _ (x : Node (Option N) Ix) where
     pub node_slot : ((dir : Direction) → row_firsts end dir (nodes ++ x ∷ []) ≡ row_firsts end dir nodes ++ end ∷ []) → (head' count' : ℕ) (vacant : List ℕ) → IsThreaded end (g.nodes ++ x.weight ∷ []) (firsts_of Outgoing (nodes ++ x ∷ [])) head' count' vacant
@@ -143,7 +142,7 @@ module _ {N E Ix : Type 0} {end : ℕ} {nodes : List (Node (Option N) Ix)} {edge
         let some : x.weight ≡ Some w = ap weight_of is in
         let at_end : (dir : Direction) → raw_first dir x ≡ end = elim [ Outgoing ↦ ap (raw_first Outgoing) is | Incoming ↦ ap (raw_first Incoming) is ] in
         let firsts : (dir : Direction) → row_firsts end dir (nodes ++ x ∷ []) ≡ row_firsts end dir nodes ++ end ∷ [] =
-        λ dir. shown_more dir ∙ ap (λ o. shown end (map weight_of nodes ++ o ∷ []) (firsts_of dir nodes ++ raw_first dir x ∷ [])) some ∙ ap (λ z. shown end (map weight_of nodes ++ Some w ∷ []) (firsts_of dir nodes ++ z ∷ [])) (at_end dir) ∙ shown_push end (map weight_of nodes) (firsts_of dir nodes) w end (as_many dir) in
+        λ dir. shown_more dir ∙ ap (λ o. shown end (map weight_of nodes ++ o ∷ []) (firsts_of dir nodes ++ raw_first dir x ∷ [])) some ∙ ap (λ z. shown end (map weight_of nodes ++ Some w ∷ []) (firsts_of dir nodes ++ z ∷ [])) (at_end dir) ∙ shown_push end (map weight_of nodes) (firsts_of dir nodes) w end (firsts_as_many weight_of dir nodes) in
         let threaded = threaded_taken end g.nodes (firsts_of Outgoing nodes) node_head nodes_counted g.vacant_nodes s.node_slots (omega (arith, room, nodes_long s)) w (raw_first Outgoing x) in
         let moved = subst (λ l. IsThreaded end (g.nodes ++ Some w ∷ []) l node_head (nodes_counted + 1) g.vacant_nodes) (sym (firsts_more Outgoing)) threaded in
         node_slot firsts node_head (nodes_counted + 1) g.vacant_nodes (subst (λ o. IsThreaded end (g.nodes ++ o ∷ []) (firsts_of Outgoing (nodes ++ x ∷ [])) node_head (nodes_counted + 1) g.vacant_nodes) (sym some) moved)
@@ -153,7 +152,7 @@ module _ {N E Ix : Type 0} {end : ℕ} {nodes : List (Node (Option N) Ix)} {edge
     node_left is room =
         let none : x.weight ≡ None = ap weight_of is in
         let firsts : (dir : Direction) → row_firsts end dir (nodes ++ x ∷ []) ≡ row_firsts end dir nodes ++ end ∷ [] =
-        λ dir. shown_more dir ∙ ap (λ o. shown end (map weight_of nodes ++ o ∷ []) (firsts_of dir nodes ++ raw_first dir x ∷ [])) none ∙ shown_push_vacant end (map weight_of nodes) (firsts_of dir nodes) (raw_first dir x) (as_many dir) in
+        λ dir. shown_more dir ∙ ap (λ o. shown end (map weight_of nodes ++ o ∷ []) (firsts_of dir nodes ++ raw_first dir x ∷ [])) none ∙ shown_push_vacant end (map weight_of nodes) (firsts_of dir nodes) (raw_first dir x) (firsts_as_many weight_of dir nodes) in
         let threaded = threaded_vacant end g.nodes (firsts_of Outgoing nodes) node_head nodes_counted g.vacant_nodes s.node_slots (omega (arith, room, nodes_long s)) in
         let links : firsts_of Outgoing nodes ++ node_head ∷ [] ≡ firsts_of Outgoing (nodes ++ x ∷ []) = ap (λ z. firsts_of Outgoing nodes ++ z ∷ []) (sym (ap (raw_first Outgoing) is)) ∙ sym (firsts_more Outgoing) in
         let moved = subst (λ l. IsThreaded end (g.nodes ++ None ∷ []) l (length g.nodes) nodes_counted (length g.nodes ∷ g.vacant_nodes)) links threaded in
@@ -215,7 +214,7 @@ module _ {N E Ix : Type 0} {end : ℕ} {nodes : List (Node (Option N) Ix)} {edge
         (IsLinked-put end (row_firsts end dir nodes) (nexts_of dir edges) (nexts_of dir (edges ++ cell ∷ [])) (lists_at dir g) n (length edges) (s.linked dir) within
         (λ m p. none-some m (sym (ap (option_map (near_end dir)) vacant_yet) ∙ (s.listed dir m (length edges)).0 p))
         (ap (slice_get (nexts_of dir (edges ++ cell ∷ []))) (sym long) ∙ ap (λ l. slice_get l (length (nexts_of dir edges))) more ∙ slice_get-push_new (nexts_of dir edges) (raw_next dir cell)
-        ∙ ap Some (next ∙ sym (shown_some end (map weight_of nodes) (firsts_of dir nodes) n wn (as_many dir) at')))
+        ∙ ap Some (next ∙ sym (shown_some end (map weight_of nodes) (firsts_of dir nodes) n wn (firsts_as_many weight_of dir nodes) at')))
         (λ f other within_f. ap (λ l. slice_get l f) more ∙ slice_get-push_old (nexts_of dir edges) (raw_next dir cell) f within_f))
 
     side_listed : (dir : Direction) (n : ℕ) (wn : N) → slot g.nodes n ≡ Some wn → near_end dir line ≡ n → ListsBy (λ e. option_map (near_end dir) (slot (g.edges ++ Some line ∷ []) e)) (set (lists_at dir g) n (length edges ∷ row (lists_at dir g) n))

@@ -14,8 +14,9 @@ use Rattle.daggy_cells.specs.declared.cell.Edge.{Edge}
 use Rattle.daggy_cells.specs.Links.{row, IsLinked, ListsBy}
 use Rattle.daggy_cells.specs.Raw.{raw_first, raw_next}
 use Rattle.daggy_cells.specs.Fields.{firsts_of, nexts_of, lists_at}
-use Rattle.daggy_cells.proofs.Threads.{slice_get-set_other, slice_get-set_same, slice_get-push_other, slice_get-push_old, slice_get-push_new, row_push, IsLinked-node, IsLinked-put, ListsBy-put}
-use Rattle.daggy_cells.proofs.FieldLemmas.{slice_get_mapped}
+use Rattle.daggy_base.proofs.Lists.{slice_get-set_other, slice_get-set_same, slice_get-push_other, slice_get-push_old, slice_get-push_new, slice_get_mapped}
+use Rattle.daggy_cells.proofs.Threads.{row_push, IsLinked-node, IsLinked-put, ListsBy-put}
+use Rattle.daggy_cells.proofs.FieldLemmas.{firsts_as_many}
 use Rattle.daggy_stable.specs.Stored.{weight_of, plain_edge, shown, row_firsts, end_of, IsThreaded, Stores}
 use Rattle.daggy_stable.proofs.Slots.{made, filled, rethreaded, slot_not_vacant, counted_full, vacant_none, vacant_some, vacant_inside}
 use Rattle.daggy_stable.proofs.Shown.{shown_some, shown-set, shown-fill, shown_push}
@@ -42,9 +43,6 @@ slot_in (c ∷ cs) zero y p = omega arith
 slot_in (c ∷ cs) (suc i) y p = let more = slot_in cs i y p in omega (arith, more)
 
 module _ {N E Ix : Type 0} {end : ℕ} {nodes : List (Node (Option N) Ix)} {edges : List (Edge (Option E) Ix)} {node_head edge_head nodes_counted edges_counted : ℕ} {g : Graph N E} (s : Stores end nodes edges node_head edge_head nodes_counted edges_counted g) where
-  firsts_same : (dir : Direction) → length (firsts_of dir nodes) ≡ length (map weight_of nodes)
-  firsts_same dir = length-map nodes (raw_first dir) ∙ sym (length-map nodes weight_of)
-
   -- one more node, in a new slot
   pub node_made : (w : N) → g.vacant_nodes ≡ [] → nodes_counted < end → Stores end (nodes ++ fresh_node end w ∷ []) edges node_head edge_head (suc nodes_counted) edges_counted (with_node g w)
   node_made w none room =
@@ -53,7 +51,7 @@ module _ {N E Ix : Type 0} {end : ℕ} {nodes : List (Node (Option N) Ix)} {edge
       let full = counted_full end g.nodes (firsts_of Outgoing nodes) node_head nodes_counted t in
       let firsts : (dir : Direction) → row_firsts end dir nodes ++ end ∷ [] ≡ row_firsts end dir (nodes ++ x ∷ []) =
       λ dir. sym (ap (λ l. shown end l (firsts_of dir (nodes ++ x ∷ []))) (map_push weight_of nodes x) ∙ ap (shown end (map weight_of nodes ++ Some w ∷ [])) (map_push (raw_first dir) nodes x ∙ ap (λ z. firsts_of dir nodes ++ z ∷ []) (raw_fresh Ix dir end w))
-      ∙ shown_push end (map weight_of nodes) (firsts_of dir nodes) w end (firsts_same dir)) in
+      ∙ shown_push end (map weight_of nodes) (firsts_of dir nodes) w end (firsts_as_many weight_of dir nodes)) in
       let links : (dir : Direction) → IsLinked end (row_firsts end dir (nodes ++ x ∷ [])) (nexts_of dir edges) (lists_at dir g ++ [] ∷ []) =
       λ dir. subst (λ z. IsLinked end z (nexts_of dir edges) (lists_at dir g ++ [] ∷ [])) (firsts dir) (IsLinked-node end _ _ _ (s.linked dir)) in
       let lists : (dir : Direction) → ListsBy (end_of dir g) (lists_at dir g ++ [] ∷ []) = λ dir n e. rw (row_push (lists_at dir g) n) (s.listed dir n e) in
@@ -123,7 +121,7 @@ module _ {N E Ix : Type 0} {end : ℕ} {nodes : List (Node (Option N) Ix)} {edge
           subst (λ z. IsLinked end z (nexts_of dir edges') (set (lists_at dir g) n (next_edge g ∷ row (lists_at dir g) n))) is
           (IsLinked-put end (row_firsts end dir nodes) (nexts_of dir edges) (nexts_of dir edges') (lists_at dir g) n (next_edge g) (s.linked dir) within
           (λ m p. none-some m (sym (ap (option_map (near_end dir)) edge_slots_vacant) ∙ (s.listed dir m (next_edge g)).0 p))
-          (new_link ∙ ap Some (sym (shown_some end (map weight_of nodes) (firsts_of dir nodes) n wn (firsts_same dir) at')))
+          (new_link ∙ ap Some (sym (shown_some end (map weight_of nodes) (firsts_of dir nodes) n wn (firsts_as_many weight_of dir nodes) at')))
           (λ f other inside. old_links dir f other (omega (arith, inside, length-map edges (raw_next dir)))))
 
       side_listed : (dir : Direction) (n : ℕ) (wn : N) → slot g.nodes n ≡ Some wn → near_end dir new ≡ n → ListsBy (λ e. option_map (near_end dir) (slot (taken g.edges g.vacant_edges (Some (record { parent = u; child = v; weight = w }))) e)) (set (lists_at dir g) n (next_edge g ∷ row (lists_at dir g) n))

@@ -12,7 +12,7 @@ use Rattle.daggy_base.specs.Reduction.{IsDescending}
 use Rattle.daggy_cells.specs.Links.{row}
 use Rattle.daggy_base.specs.FromSlots.{down_from, vacant_down, has_end, lists_down, of_slots}
 use Rattle.daggy_base.specs.Filtering.{ListsDescend}
-use Rattle.daggy_cells.proofs.Threads.{slice_get-push_old, slice_get-push_new, slice_get-push_other}
+use Rattle.daggy_base.proofs.Lists.{slice_get-push_old, slice_get-push_new, slice_get-push_other}
 
 down_from_same : (p q : ℕ → Bool) (k : ℕ) → ((i : ℕ) → i < k → p i ≡ q i) → down_from p k ≡ down_from q k
 down_from_same p q zero same = refl

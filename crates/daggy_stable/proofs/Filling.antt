@@ -14,7 +14,7 @@ use Rattle.daggy_cells.specs.declared.cell.Edge.{Edge}
 use Rattle.daggy_cells.specs.Links.{row, IsRow, IsLinked, ListsBy}
 use Rattle.daggy_cells.specs.Raw.{raw_first, raw_next, ShowsNodes, ShowsEdges}
 use Rattle.daggy_cells.specs.Fields.{firsts_of, nexts_of, lists_at}
-use Rattle.daggy_cells.proofs.Rows.{Contains-nil}
+use Rattle.daggy_base.proofs.Lists.{Contains-nil}
 use Rattle.daggy_stable.specs.Room.{slotted_node, slotted_edge}
 use Rattle.daggy_stable.specs.Stored.{weight_of, plain_edge, row_firsts, end_of, IsThreaded, Stores}
 use Rattle.daggy_stable.proofs.Slots.{slot_inside}

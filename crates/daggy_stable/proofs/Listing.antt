@@ -11,9 +11,10 @@ use Rattle.daggy_base.specs.Iterating.{edges_at}
 use Rattle.daggy_cells.specs.Links.{row, IsRow}
 use Rattle.daggy_cells.specs.Raw.{raw_next}
 use Rattle.daggy_cells.specs.Fields.{nexts_of, lists_at, walk}
-use Rattle.daggy_cells.proofs.Rows.{row_is, Contains-here, Contains-there}
+use Rattle.daggy_cells.proofs.Rows.{row_is}
+use Rattle.daggy_base.proofs.Lists.{Contains-here, Contains-there}
 use Rattle.daggy_cells.proofs.RestLemmas.{step_on, IsOnRow-step, follow_past, follow_few, filter_map_few}
-use Rattle.daggy_cells.proofs.FieldLemmas.{slot_read}
+use Rattle.daggy_base.proofs.MappedSlots.{slot_read}
 use Rattle.daggy_stable.specs.Rest.{numbered_edge, edges_left, IsOnFullRow}
 use Rattle.daggy_stable.specs.Stored.{plain_edge, Stores}
 use Rattle.daggy_stable.proofs.Scanning.{plain_some}

@@ -6,7 +6,7 @@ use Rattle.daggy_base.specs.Graph.{Graph, node_weight, edge_at, ends_of, slot}
 use Rattle.daggy_base.specs.State.{State}
 use Rattle.daggy_cells.specs.declared.cell.Node.{Node}
 use Rattle.daggy_cells.specs.declared.cell.Edge.{Edge}
-use Rattle.daggy_cells.proofs.FieldLemmas.{slot_beyond}
+use Rattle.daggy_base.proofs.MappedSlots.{slot_beyond}
 use Rattle.daggy_stable.specs.Stored.{plain, plain_edge, Stores}
 use Rattle.daggy_stable.proofs.Stores.{node_read, node_beyond, edge_read}
 

@@ -15,11 +15,12 @@ use Rattle.daggy_cells.specs.declared.cell.Edge.{Edge}
 use Rattle.daggy_cells.specs.Links.{row, IsRow, IsLinked, ListsBy, Redirected}
 use Rattle.daggy_cells.specs.Raw.{raw_first, raw_next}
 use Rattle.daggy_cells.specs.Fields.{with_first, with_next, firsts_of, nexts_of, ends_of, end_at, lists_at, weight_of as stored_weight, plain_edge as stored_edge, IsReady, Redirects}
-use Rattle.daggy_cells.proofs.Rows.{Contains-nil, Contains-from_without}
-use Rattle.daggy_cells.proofs.Threads.{slice_get-set_other, slice_get-set_same, slice_get-take, slice_get-take_past, row-map, row_past, row_within, IsRow-at, IsLinked-kept, IsLinked-unlinked, ListsBy-without, linked_within, IsLinked-none, ListsBy-none}
-use Rattle.daggy_cells.proofs.FieldLemmas.{slot_read}
-use Rattle.daggy_cells.proofs.EmptyLists.{map_so_far}
+use Rattle.daggy_base.proofs.Lists.{Contains-nil, slice_get-set_other, slice_get-set_same, slice_get-take, slice_get-take_past, map_so_far}
+use Rattle.daggy_cells.proofs.Rows.{Contains-from_without}
+use Rattle.daggy_cells.proofs.Threads.{row-map, row_past, row_within, IsRow-at, IsLinked-kept, IsLinked-unlinked, ListsBy-without, linked_within, IsLinked-none, ListsBy-none}
+use Rattle.daggy_base.proofs.MappedSlots.{slot_read}
 use Rattle.daggy_cells.proofs.RedirectLemmas.{Step, Ready-row, Redirected-walk}
+use Rattle.daggy_cells.proofs.FieldLemmas.{firsts_as_many}
 use Rattle.daggy_stable.specs.Stored.{weight_of, plain, plain_edge, shown, row_firsts, end_of, links_emptied, emptied, IsThreaded, Stores}
 use Rattle.daggy_stable.proofs.Slots.{rethreaded, vacated, cut, slot_not_vacant, not_listed, count_vacate}
 use Rattle.daggy_stable.proofs.Shown.{length-shown, shown_some, shown-set, shown-set_vacant, shown-vacate, shown-take}
@@ -55,9 +56,6 @@ slot-set_other : {A : Type 0} (xs : List (Option A)) (i f : ℕ) (o : Option A) 
 slot-set_other xs i f o other = ap (option_and_then (λ z. z)) (slice_get-set_other xs i f o other)
 
 module _ {N E Ix : Type 0} {end : ℕ} {nodes : List (Node (Option N) Ix)} {edges : List (Edge (Option E) Ix)} {node_head edge_head nodes_counted edges_counted : ℕ} {g : Graph N E} (s : Stores end nodes edges node_head edge_head nodes_counted edges_counted g) where
-  same_long : (dir : Direction) → length (firsts_of dir nodes) ≡ length (map weight_of nodes)
-  same_long dir = length-map nodes (raw_first dir) ∙ sym (length-map nodes weight_of)
-
   -- an edge is taken out of its lists
   module _ (e : ℕ) (y : PlainEdge E) (at : edge_at g e ≡ Some y) where
     e_in : e < length edges
@@ -105,7 +103,7 @@ module _ {N E Ix : Type 0} {end : ℕ} {nodes : List (Node (Option N) Ix)} {edge
             first =
                 ap (λ l. shown end l (firsts_of dir nodes')) weights ∙ ap (shown end (map weight_of nodes)) r.first
                 ∙ shown-set end (map weight_of nodes) (firsts_of dir nodes) n (renamed e new (get_or (firsts_of dir nodes) n 0)) found.0 found.1
-                ∙ ap (λ z. set (row_firsts end dir nodes) n (renamed e new z)) (sym (shown_some end (map weight_of nodes) (firsts_of dir nodes) n found.0 (same_long dir) found.1));
+                ∙ ap (λ z. set (row_firsts end dir nodes) n (renamed e new z)) (sym (shown_some end (map weight_of nodes) (firsts_of dir nodes) n found.0 (firsts_as_many weight_of dir nodes) found.1));
             same_length = r.same_length;
             inside = r.inside;
             outside = r.outside;
@@ -221,7 +219,7 @@ module _ {N E Ix : Type 0} {end : ℕ} {nodes : List (Node (Option N) Ix)} {edge
         let firsts : (dir : Direction) → row_firsts end dir (set nodes n cell) ≡ row_firsts end dir nodes =
         λ dir. ap (λ l. shown end l (firsts_of dir (set nodes n cell))) gone ∙ ap (shown end (set (map weight_of nodes) n None)) (written dir)
         ∙ shown-set_vacant end (set (map weight_of nodes) n None) (firsts_of dir nodes) n (raw_first dir cell) (slot-set_same (map weight_of nodes) n None inside)
-        ∙ shown-vacate end (map weight_of nodes) (firsts_of dir nodes) n (same_long dir) (leads_nowhere dir) in
+        ∙ shown-vacate end (map weight_of nodes) (firsts_of dir nodes) n (firsts_as_many weight_of dir nodes) (leads_nowhere dir) in
         let links : (dir : Direction) → IsLinked end (row_firsts end dir (set nodes n cell)) (nexts_of dir edges) (lists_at dir g) = λ dir. IsLinked-kept end _ _ (nexts_of dir edges) (nexts_of dir edges) (lists_at dir g) (s.linked dir) (firsts dir) (λ m f p. refl) in
         let long : length (firsts_of Outgoing (set nodes n cell)) ≡ length (firsts_of Outgoing nodes) = ap length (written Outgoing) ∙ length-set (firsts_of Outgoing nodes) n (raw_first Outgoing cell) in
         let goes : slice_get (firsts_of Outgoing (set nodes n cell)) n ≡ Some node_head =

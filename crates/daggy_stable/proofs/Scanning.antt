@@ -12,8 +12,9 @@ use Rattle.daggy_cells.specs.declared.cell.Node.{Node}
 use Rattle.daggy_cells.specs.declared.cell.Edge.{Edge}
 use Rattle.daggy_cells.specs.Fields.{end_at, nexts_of, ends_of, lists_at}
 use Rattle.daggy_cells.specs.Links.{row}
-use Rattle.daggy_cells.proofs.Rows.{Contains-here, Contains-there, IsScan}
-use Rattle.daggy_cells.proofs.FieldLemmas.{slot_read}
+use Rattle.daggy_base.proofs.Lists.{Contains-here, Contains-there}
+use Rattle.daggy_cells.proofs.Rows.{IsScan}
+use Rattle.daggy_base.proofs.MappedSlots.{slot_read}
 use Rattle.daggy_stable.specs.Stored.{plain, plain_edge, Stores}
 use Rattle.daggy_stable.proofs.Stores.{reads_itself, end_back, edge_within, end_stored, row_from}
 

@@ -5,13 +5,15 @@ use Rattle.std.proofs.lemmas.Bool.{cases_eq, cases_lt}
 use Rattle.std.proofs.lemmas.List.{length-set, length_push, length-take-le}
 use Rattle.std.proofs.lemmas.List.Sums.{sum_by-cons}
 use Rattle.std.proofs.lemmas.Option.{slice_get_within, same_Some, none-some}
+use Rattle.std.proofs.lemmas.Map.Made.{Contains-tail}
 use Rattle.daggy_base.specs.Graph.{slot}
 use Rattle.daggy_base.specs.Cursor.{first_of, after}
 use Rattle.daggy_base.proofs.Reading.{slot_get}
 use Rattle.daggy_base.proofs.Full.{count_full, full_from}
 use Rattle.daggy_cells.specs.Links.{follow, IsRow}
-use Rattle.daggy_cells.proofs.Rows.{Contains-nil, Contains-here, Contains-there, Contains-rest, after_here, after_there, row_is, IsRow-tail}
-use Rattle.daggy_cells.proofs.Threads.{slice_get-set_same, slice_get-set_other, slice_get-push_new, slice_get-push_other, slice_get-take, slice_get-take_past, IsRow-kept}
+use Rattle.daggy_base.proofs.Lists.{Contains-nil, Contains-here, Contains-there, slice_get-set_same, slice_get-set_other, slice_get-push_new, slice_get-push_other, slice_get-take, slice_get-take_past}
+use Rattle.daggy_cells.proofs.Rows.{after_here, after_there, row_is, IsRow-tail}
+use Rattle.daggy_cells.proofs.Threads.{IsRow-kept}
 use Rattle.daggy_stable.specs.Stored.{IsThreaded}
 
 module _ {A : Type 0} where
@@ -130,7 +132,7 @@ module _ {A : Type 0} where
             λ p. slice_get-set_other slots v i (Some x) (λ same. t.row.distinct.0 (subst (Contains vs) same p)) ∙ (t.exact i).0 (Contains-there v i vs p),
             λ q. elim (cases_eq i v) [
               | inl same ↦ absurd (none-some x (sym (same_Some (Some x) None (sym (slice_get-set_same slots v (Some x) (slice_get_within slots v _ vacant_v)) ∙ ap (slice_get (set slots v (Some x))) (sym same) ∙ q))))
-              | inr other ↦ Contains-rest v i vs (λ same. other (sym same)) ((t.exact i).1 (sym (slice_get-set_other slots v i (Some x) other) ∙ q))
+              | inr other ↦ Contains-tail v vs i (λ same. other (sym same)) ((t.exact i).1 (sym (slice_get-set_other slots v i (Some x) other) ∙ q))
             ],
           );
           counted = ap suc t.counted ∙ sym (count_fill slots v x vacant_v);
@@ -152,14 +154,14 @@ module _ {A : Type 0} where
                   elim (cases_eq e f) [
                     | inl same ↦ subst (λ z. slice_get links' z ≡ Some (after end (e ∷ vacant) z)) same (goes ∙ ap Some (t.row.starts ∙ sym (after_here end e vacant)))
                     | inr other ↦
-                        let there = Contains-rest e f vacant other p in
+                        let there = Contains-tail e vacant f other p in
                         kept f there ∙ t.row.goes_on f there ∙ ap Some (sym (after_there end e f vacant other))
                   ];
             };
             exact = λ i. (
               λ p. elim (cases_eq e i) [
                 | inl same ↦ subst (λ z. slice_get (set slots e None) z ≡ Some None) same (slice_get-set_same slots e None (slot_inside slots e x at))
-                | inr other ↦ slice_get-set_other slots e i None (λ same. other (sym same)) ∙ (t.exact i).0 (Contains-rest e i vacant other p)
+                | inr other ↦ slice_get-set_other slots e i None (λ same. other (sym same)) ∙ (t.exact i).0 (Contains-tail e vacant i other p)
               ],
               λ q. elim (cases_eq e i) [
                 | inl same ↦ subst (Contains (e ∷ vacant)) same (Contains-here e vacant)

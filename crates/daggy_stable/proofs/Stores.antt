@@ -15,9 +15,10 @@ use Rattle.daggy_cells.specs.declared.cell.Edge.{Edge}
 use Rattle.daggy_cells.specs.Links.{row, IsRow}
 use Rattle.daggy_cells.specs.Raw.{raw_first, raw_next}
 use Rattle.daggy_cells.specs.Fields.{end_at, firsts_of, nexts_of, lists_at}
-use Rattle.daggy_cells.proofs.Rows.{Contains-nil, Contains-here}
+use Rattle.daggy_base.proofs.Lists.{Contains-nil, Contains-here, slice_get_mapped}
 use Rattle.daggy_cells.proofs.Threads.{row_within, row_past, rows_are, linked_within}
-use Rattle.daggy_cells.proofs.FieldLemmas.{same_graph, slot_read, slot_beyond, slice_get_mapped}
+use Rattle.daggy_cells.proofs.FieldLemmas.{same_graph, firsts_as_many}
+use Rattle.daggy_base.proofs.MappedSlots.{slot_read, slot_beyond}
 use Rattle.daggy_stable.specs.Stored.{weight_of, plain, plain_edge, row_firsts, end_of, stored_graph, IsThreaded, Stores}
 use Rattle.daggy_stable.proofs.Slots.{vacant_is}
 use Rattle.daggy_stable.proofs.Shown.{length-shown, shown_some, shown_none}
@@ -58,7 +59,7 @@ module _ {N E Ix : Type 0} {end : ℕ} {nodes : List (Node (Option N) Ix)} {edge
 
   pub firsts_long : (dir : Direction) → length (row_firsts end dir nodes) ≡ length nodes
   firsts_long dir =
-      let same : length (firsts_of dir nodes) ≡ length (map weight_of nodes) = length-map nodes (raw_first dir) ∙ sym (length-map nodes weight_of) in
+      let same = firsts_as_many weight_of dir nodes in
       length-shown end (map weight_of nodes) (firsts_of dir nodes) same ∙ length-map nodes weight_of
 
   -- what is stored is what the view shows
@@ -95,7 +96,7 @@ module _ {N E Ix : Type 0} {end : ℕ} {nodes : List (Node (Option N) Ix)} {edge
       slot_vacant_or g.nodes n ((w : N) × (slot g.nodes n ≡ Some w))
       (λ none.
       let at : slot (map weight_of nodes) n ≡ None = ap (λ l. slot l n) (sym s.nodes_are) ∙ none in
-      let same : length (firsts_of dir nodes) ≡ length (map weight_of nodes) = length-map nodes (raw_first dir) ∙ sym (length-map nodes weight_of) in
+      let same = firsts_as_many weight_of dir nodes in
       let is_end = shown_none end (map weight_of nodes) (firsts_of dir nodes) n same (omega (arith, within, length-map nodes weight_of)) at in
       absurd (omega (arith, first, sym r.starts ∙ is_end)))
       (λ w at. (w, at))
@@ -112,7 +113,7 @@ module _ {N E Ix : Type 0} {end : ℕ} {nodes : List (Node (Option N) Ix)} {edge
   pub first_shown : (dir : Direction) (n : ℕ) (w : N) → slot g.nodes n ≡ Some w → get_or (firsts_of dir nodes) n 0 ≡ first_of end (row (lists_at dir g) n)
   first_shown dir n w at =
       let at' : slot (map weight_of nodes) n ≡ Some w = ap (λ l. slot l n) (sym s.nodes_are) ∙ at in
-      let same : length (firsts_of dir nodes) ≡ length (map weight_of nodes) = length-map nodes (raw_first dir) ∙ sym (length-map nodes weight_of) in
+      let same = firsts_as_many weight_of dir nodes in
       let within : n < length nodes = elim (cases_lt n (length nodes)) [ inl p ↦ p | inr past ↦ absurd (none-some w (sym (node_beyond n past) ∙ at)) ] in
       sym (shown_some end (map weight_of nodes) (firsts_of dir nodes) n w same at') ∙ ((s.linked dir).each n (omega (arith, within, firsts_long dir))).starts
 

@@ -12,8 +12,7 @@ use Rattle.daggy_cells.specs.declared.cell.Edge.{Edge}
 use Rattle.daggy_cells.specs.Links.{IsLinked, ListsBy}
 use Rattle.daggy_cells.specs.Raw.{raw_first, raw_next}
 use Rattle.daggy_cells.specs.Fields.{firsts_of, nexts_of, lists_at}
-use Rattle.daggy_cells.proofs.Threads.{slice_get-set_same, slice_get-set_other}
-use Rattle.daggy_cells.proofs.FieldLemmas.{map-set_same}
+use Rattle.daggy_base.proofs.Lists.{slice_get-set_same, slice_get-set_other, map-set_same}
 use Rattle.daggy_stable.specs.Stored.{weight_of, plain_edge, shown, row_firsts, end_of, IsThreaded, Stores}
 use Rattle.daggy_stable.proofs.Slots.{renewed, slot_inside}
 use Rattle.daggy_stable.proofs.Shown.{shown-renew}

@@ -3,7 +3,7 @@ use Rattle.std.proofs.lemmas.List.{length-map}
 use Rattle.daggy_cells.specs.Raw.{raw_next}
 use Rattle.daggy_cells.specs.Fields.{nexts_of, walk}
 use Rattle.daggy_cells.proofs.Rows.{IsRest-start, IsRest-step, IsRest-within, IsRest-found, IsRest-shorter}
-use Rattle.daggy_cells.proofs.FieldLemmas.{slice_get_mapped}
+use Rattle.daggy_base.proofs.Lists.{slice_get_mapped}
 use Rattle.daggy_cells.proofs.links.find_before.Goals as goal
 
 pub along-init : goal.along-init

@@ -3,8 +3,8 @@ use Rattle.daggy_base.specs.Graph.{edge_count}
 use Rattle.daggy_base.specs.Adding.{with_edge}
 use Rattle.daggy_cells.specs.Fields.{plain}
 use Rattle.daggy_graph.proofs.StoredLemmas.{stored_is, Stores-itself, added_same}
-use Rattle.daggy_cells.proofs.FieldLemmas.{slot_within}
-use Rattle.daggy_cells.proofs.States.{state_changed, count-slots}
+use Rattle.daggy_base.proofs.MappedSlots.{slot_within, count-slots}
+use Rattle.daggy_cells.proofs.States.{state_changed}
 use Rattle.daggy_graph.proofs.graph.DiGraph.add_edge.Goals as goal
 
 pub invariant_of-self : goal.invariant_of-self

@@ -3,7 +3,8 @@ use Rattle.daggy_base.specs.Graph.{node_count}
 use Rattle.daggy_base.specs.Adding.{with_node}
 use Rattle.daggy_graph.specs.Stored.{stored_graph}
 use Rattle.daggy_graph.proofs.StoredLemmas.{stored_is, Stores-itself}
-use Rattle.daggy_cells.proofs.States.{state_changed, count-slots}
+use Rattle.daggy_cells.proofs.States.{state_changed}
+use Rattle.daggy_base.proofs.MappedSlots.{count-slots}
 use Rattle.daggy_graph.proofs.graph.DiGraph.add_node.Goals as goal
 
 pub put_node-n-requires-clause-left : goal.put_node-n-requires-clause-left

@@ -1,6 +1,6 @@
 use Rattle.std.proofs.Common.{arith}
 use Rattle.daggy_cells.specs.Fields.{plain}
-use Rattle.daggy_cells.proofs.States.{holds_iff}
+use Rattle.daggy_base.proofs.MappedSlots.{holds_iff}
 use Rattle.daggy_graph.proofs.graph.DiGraph.contains_edge.Goals as goal
 
 pub returns : goal.returns

@@ -1,5 +1,5 @@
 use Rattle.std.proofs.Common.{arith}
-use Rattle.daggy_cells.proofs.States.{holds_iff}
+use Rattle.daggy_base.proofs.MappedSlots.{holds_iff}
 use Rattle.daggy_graph.proofs.graph.DiGraph.contains_node.Goals as goal
 
 pub returns : goal.returns

@@ -9,7 +9,7 @@ use Rattle.daggy_cells.specs.Fields.{lists_at, reowned}
 use Rattle.daggy_graph.specs.Stored.{stored_graph}
 use Rattle.daggy_cells.proofs.States.{state_changed}
 use Rattle.daggy_graph.proofs.StoredLemmas.{stored_is, Stores-itself}
-use Rattle.daggy_cells.proofs.FieldLemmas.{slot_within, slot_is}
+use Rattle.daggy_base.proofs.MappedSlots.{slot_within, slot_is}
 use Rattle.daggy_graph.proofs.Dropping.{Stores-dropped}
 use Rattle.daggy_graph.proofs.graph.DiGraph.drop_node.Goals as goal
 

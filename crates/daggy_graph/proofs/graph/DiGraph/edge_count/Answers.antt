@@ -2,7 +2,7 @@ use Rattle.std.proofs.Common.{ap, subst, arith}
 use Rattle.daggy_base.specs.Graph.{edge_count}
 use Rattle.daggy_base.specs.WellFormed.{IsWellFormed}
 use Rattle.daggy_cells.specs.Fields.{plain}
-use Rattle.daggy_cells.proofs.States.{count-slots}
+use Rattle.daggy_base.proofs.MappedSlots.{count-slots}
 use Rattle.daggy_graph.proofs.WellFormedLemmas.{IsWellFormed-stored}
 use Rattle.daggy_graph.proofs.graph.DiGraph.edge_count.Goals as goal
 

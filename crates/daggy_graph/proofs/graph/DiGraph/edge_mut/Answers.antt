@@ -6,7 +6,7 @@ use Rattle.daggy_cells.specs.Fields.{plain}
 use Rattle.daggy_graph.specs.Stored.{stored_graph}
 use Rattle.daggy_cells.proofs.States.{state_changed}
 use Rattle.daggy_graph.proofs.StoredLemmas.{stored_is, Stores-itself, Stores-edge_weight}
-use Rattle.daggy_cells.proofs.FieldLemmas.{slot_within, slot_is}
+use Rattle.daggy_base.proofs.MappedSlots.{slot_within, slot_is}
 use Rattle.daggy_graph.proofs.graph.DiGraph.edge_mut.Goals as goal
 
 pub index_mut-x-requires : goal.index_mut-x-requires

@@ -1,7 +1,7 @@
 use Rattle.std.proofs.Common.{◌≡◌, get_or, ap, ◌∙◌}
 use Rattle.daggy_base.specs.Graph.{edge_at}
 use Rattle.daggy_base.specs.Cursor.{cursor_after}
-use Rattle.daggy_cells.proofs.FieldLemmas.{slot_within}
+use Rattle.daggy_base.proofs.MappedSlots.{slot_within}
 use Rattle.daggy_graph.proofs.WellFormedLemmas.{cursor_shown}
 use Rattle.daggy_graph.proofs.graph.DiGraph.next_edge.Goals as goal
 

@@ -1,7 +1,7 @@
 use Rattle.std.proofs.Common.{ap, subst, arith}
 use Rattle.daggy_base.specs.Graph.{node_count}
 use Rattle.daggy_base.specs.WellFormed.{IsWellFormed}
-use Rattle.daggy_cells.proofs.States.{count-slots}
+use Rattle.daggy_base.proofs.MappedSlots.{count-slots}
 use Rattle.daggy_graph.proofs.WellFormedLemmas.{IsWellFormed-stored}
 use Rattle.daggy_graph.proofs.graph.DiGraph.node_count.Goals as goal
 

@@ -9,7 +9,7 @@ use Rattle.daggy_graph.specs.Stored.{stored_graph, Stores}
 use Rattle.daggy_cells.proofs.States.{state_changed}
 use Rattle.daggy_graph.proofs.Reading.{got_none, edge_got}
 use Rattle.daggy_graph.proofs.StoredLemmas.{stored_is, Stores-itself}
-use Rattle.daggy_cells.proofs.FieldLemmas.{slot_is}
+use Rattle.daggy_base.proofs.MappedSlots.{slot_is}
 use Rattle.daggy_graph.proofs.graph.DiGraph.remove_edge.Goals as goal
 
 pub invariant_of-self : goal.invariant_of-self

@@ -2,7 +2,7 @@ use Rattle.std.proofs.Common.{length, sym, ap, ◌∙◌, arith}
 use Rattle.daggy_base.specs.Weights.{with_node_weight}
 use Rattle.daggy_graph.specs.Stored.{stored_graph}
 use Rattle.daggy_graph.proofs.StoredLemmas.{stored_is, Stores-itself}
-use Rattle.daggy_cells.proofs.FieldLemmas.{slot_within}
+use Rattle.daggy_base.proofs.MappedSlots.{slot_within}
 use Rattle.daggy_cells.proofs.States.{state_changed}
 use Rattle.daggy_graph.proofs.PairLemmas.{nodes_updated, node_shown}
 use Rattle.daggy_cells.proofs.CellLemmas.{called_at}

@@ -1,6 +1,6 @@
 use Rattle.std.proofs.Common.{is_some, map, sym, ap, ◌∙◌}
 use Rattle.daggy_base.specs.Graph.{slot}
-use Rattle.daggy_cells.proofs.FieldLemmas.{slot_read, slot_beyond}
+use Rattle.daggy_base.proofs.MappedSlots.{slot_read, slot_beyond}
 use Rattle.daggy_stable.specs.Stored.{weight_of}
 use Rattle.daggy_stable.proofs.stable_graph.filter.stayed.Goals as goal
 

@@ -1,6 +1,6 @@
 use Rattle.std.proofs.Common.{IsSome, sym, ap, subst, ◌∙◌, arith}
 use Rattle.daggy_cells.specs.Cells.{node_of_weight}
-use Rattle.daggy_cells.proofs.FieldLemmas.{slot_read}
+use Rattle.daggy_base.proofs.MappedSlots.{slot_read}
 use Rattle.daggy_stable.specs.Cells.{node_weight_in}
 use Rattle.daggy_stable.specs.Stored.{weight_of}
 use Rattle.daggy_stable.proofs.Pairing.{front_shows, back_shows, called_in_order, called_turned}

@@ -1,6 +1,6 @@
 use Rattle.std.proofs.Common.{◌≡◌, ◌+◌, get_or, arith, ap, ◌∙◌}
 use Rattle.daggy_cells.specs.Fields.{plain}
-use Rattle.daggy_cells.proofs.FieldLemmas.{slot_within}
+use Rattle.daggy_base.proofs.MappedSlots.{slot_within}
 use Rattle.daggy_graph.proofs.WellFormedLemmas.{look_shown}
 use Rattle.daggy_graph.proofs.graph.source.DiGraphEdgeSource.look.Goals as goal
 

@@ -1,7 +1,7 @@
 use Rattle.std.proofs.Common.{ap, subst, arith}
 use Rattle.daggy_base.specs.Graph.{node_bound}
 use Rattle.daggy_base.specs.WellFormed.{IsWellFormed}
-use Rattle.daggy_cells.proofs.States.{bound-slots}
+use Rattle.daggy_base.proofs.MappedSlots.{bound-slots}
 use Rattle.daggy_graph.proofs.WellFormedLemmas.{IsWellFormed-stored}
 use Rattle.daggy_graph.proofs.graph.source.DiGraphEdgeSource.node_bound.Goals as goal
 
