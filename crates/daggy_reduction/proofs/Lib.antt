@@ -3,3 +3,10 @@ pub mod Keeping
 pub mod Covering
 pub mod Canonical
 pub mod Surviving
+pub mod Queueing
+pub mod Draining
+pub mod Rounding
+pub mod Flagging
+pub mod Flagged
+pub mod Rooting
+pub mod Sweeping

@@ -1,2 +1,7 @@
-//! What a transitive reduction is known to keep and to lose.
+//! The transitive reduction: which edges it removes, and what it keeps and loses.
 #![tactic(auto)]
+
+mod closure;
+mod flags;
+pub mod redundant;
+mod roots;

@@ -1,0 +1,29 @@
+-- Edges that are flagged in a list: the flag of an edge is its own index, and `end` where there is none.
+use Rattle.std.specs.Prelude.{◌≡◌, ◌≢◌, ℕ, ◌↔◌, ◌⊎◌, Bool, true, false, Some, List, slice_index_or}
+use Rattle.daggy_base.specs.Graph.{Graph, Edge, edge_at}
+use Rattle.daggy_base.specs.Reduction.{ReachesRound}
+
+abbrev pub IsFlagged : (end : ℕ) → List ℕ → ℕ → Type 0
+IsFlagged end flags e = slice_index_or flags e end ≢ end
+
+-- e leaves u, and its child has a mark
+pub record LeavesToMarked {N E : Type 0} (g : Graph N E) (u : ℕ) (marks : List Bool) (e : ℕ) : Type 0 where
+  pub edge : Edge E
+  pub at : edge_at g e ≡ Some edge
+  pub parent : edge.parent ≡ u
+  pub child : slice_index_or marks edge.child false ≡ true
+
+-- those edges got flags, and the flags from before stay
+abbrev pub FlagsMarked : {N E : Type 0} → (end : ℕ) → Graph N E → (u : ℕ) (marks : List Bool) (old new : List ℕ) → Type 0
+FlagsMarked end g u marks old new = (e : ℕ) → IsFlagged end new e ↔ (IsFlagged end old e ⊎ LeavesToMarked g u marks e)
+
+-- e leaves u, and a longer way leads to its child too
+pub record LeavesRound {N E : Type 0} (g : Graph N E) (u e : ℕ) : Type 0 where
+  pub edge : Edge E
+  pub at : edge_at g e ≡ Some edge
+  pub parent : edge.parent ≡ u
+  pub round : ReachesRound g u edge.child
+
+-- those edges got flags, and the flags from before stay
+abbrev pub FlagsRound : {N E : Type 0} → (end : ℕ) → Graph N E → (u : ℕ) (old new : List ℕ) → Type 0
+FlagsRound end g u old new = (e : ℕ) → IsFlagged end new e ↔ (IsFlagged end old e ⊎ LeavesRound g u e)

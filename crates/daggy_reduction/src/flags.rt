@@ -1,0 +1,65 @@
+//! Flags of edges, kept in a list of indices: each flag is the edge's own index.
+ghost use Rattle.std.specs.Prelude.{◌≡◌, ℕ, ◌+◌, ◌<◌, ◌≤◌, true, false, map, length, slice_set, slice_index_or};
+ghost use Rattle.daggy_base.specs.Graph.{out_list, node_bound, edge_bound};
+ghost use Rattle.daggy_base.specs.WellFormed.{IsWellFormed};
+ghost use Rattle.daggy_reduction.specs.Flags.{IsFlagged, FlagsMarked};
+
+use daggy_base::index::{EdgeIndex, IndexType, NodeIndex};
+use daggy_base::search::{EdgeSource, Marks};
+
+// Takes all flags away.
+pub(crate) fn unflag<Ix: IndexType>(flags: &mut [EdgeIndex<Ix>])
+    ensures none { (e : ℕ) → ¬ IsFlagged Ix.greatest (map Ix.number flags.new) e }
+    ensures kept { length flags.new ≡ length flags.old }
+{
+    let mut i = 0;
+    'places: while i < flags.len() {
+        flags[i] = EdgeIndex::end();
+        i += 1;
+    }
+}
+
+// Flags an edge if its child is marked.
+#[inline]
+fn flag_if_marked<Ix: IndexType>(
+    flags: &mut [EdgeIndex<Ix>],
+    e: EdgeIndex<Ix>,
+    marks: &Marks,
+    child: NodeIndex<Ix>,
+)
+    requires edge { Ix.number e < length flags.old }
+    requires child { Ix.number child < length marks.now }
+    ensures flagged { slice_index_or marks.now (Ix.number child) false ≡ true
+        → map Ix.number flags.new ≡ slice_set (map Ix.number flags.old) (Ix.number e) (Ix.number e) }
+    ensures passed { slice_index_or marks.now (Ix.number child) false ≡ false
+        → map Ix.number flags.new ≡ map Ix.number flags.old }
+    ensures kept { length flags.new ≡ length flags.old }
+{
+    if marks.is_marked(child.index()) {
+        flags[e.index()] = e;
+    }
+}
+
+// Flags the edges that lead from `u` to a marked child.
+pub(crate) fn flag_marked<Ix: IndexType, S: EdgeSource<Ix>>(
+    source: &mut S,
+    u: NodeIndex<Ix>,
+    marks: &Marks,
+    flags: &mut [EdgeIndex<Ix>],
+)
+    requires well_formed { IsWellFormed Ix.greatest (S.graph source.old) }
+    requires marks_fit { node_bound (S.graph source.old) ≤ length marks.now }
+    requires flags_fit { edge_bound (S.graph source.old) ≤ length flags.old }
+    ensures same { S.graph source.new ≡ S.graph source.old }
+    ensures flagged { FlagsMarked Ix.greatest (S.graph source.old) (Ix.number u) marks.now (map Ix.number flags.old) (map Ix.number flags.new) }
+    ensures counted { S.looks source.new ≡ S.looks source.old + length (out_list (S.graph source.old) (Ix.number u)) }
+    ensures kept { length flags.new ≡ length flags.old }
+{
+    let end = EdgeIndex::<Ix>::end().index();
+    let mut e = source.first(u);
+    'edges: while e.index() != end {
+        let (v, next) = source.look(e);
+        flag_if_marked(flags, e, marks, v);
+        e = next;
+    }
+}

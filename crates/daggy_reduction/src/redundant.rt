@@ -1,0 +1,87 @@
+//! Which edges a longer way makes redundant.
+ghost use Rattle.std.specs.Prelude.{◌≡◌, ℕ, ◌+◌, ◌*◌, ◌≤◌, ◌↔◌, map, length};
+ghost use Rattle.daggy_base.specs.Graph.{HasNode, out_list, node_bound, edge_bound, node_count, edge_count};
+ghost use Rattle.daggy_base.specs.Path.{IsAcyclic};
+ghost use Rattle.daggy_base.specs.WellFormed.{IsWellFormed};
+ghost use Rattle.daggy_base.specs.Reduction.{IsRedundant};
+ghost use Rattle.daggy_reduction.specs.Flags.{IsFlagged, FlagsRound};
+
+use crate::closure::{close, enter};
+use crate::flags::{flag_marked, unflag};
+use crate::roots::enter_below;
+use daggy_base::index::{EdgeIndex, IndexType, NodeIndex};
+use daggy_base::link::Link;
+use daggy_base::search::{EdgeSource, Marks};
+
+// Flags the edges of `u` to whose children a longer way leads.
+fn flag_round<Ix: IndexType, S: EdgeSource<Ix>>(
+    source: &mut S,
+    u: NodeIndex<Ix>,
+    entered: &mut Marks,
+    met: &mut Marks,
+    queue: &mut [Link<Ix>],
+    flags: &mut [EdgeIndex<Ix>],
+)
+    requires well_formed { IsWellFormed Ix.greatest (S.graph source.old) }
+    requires acyclic { IsAcyclic (S.graph source.old) }
+    requires exists { HasNode (S.graph source.old) (Ix.number u) }
+    requires entered_fit { node_bound (S.graph source.old) ≤ length entered.old }
+    requires met_fit { node_bound (S.graph source.old) ≤ length met.old }
+    requires queue_fits { length entered.old ≤ length queue.old }
+    requires flags_fit { edge_bound (S.graph source.old) ≤ length flags.old }
+    ensures same { S.graph source.new ≡ S.graph source.old }
+    ensures flagged { FlagsRound Ix.greatest (S.graph source.old) (Ix.number u) (map Ix.number flags.old) (map Ix.number flags.new) }
+    ensures counted { S.looks source.new ≤ S.looks source.old + edge_count (S.graph source.old)
+        + length (out_list (S.graph source.old) (Ix.number u)) }
+    ensures entered_kept { length entered.new ≡ length entered.old }
+    ensures met_kept { length met.new ≡ length met.old }
+    ensures queue_kept { length queue.new ≡ length queue.old }
+    ensures flags_kept { length flags.new ≡ length flags.old }
+{
+    entered.clear();
+    met.clear();
+    let len = enter(entered, queue, 0, u);
+    close(source, entered, met, queue, len);
+    flag_marked(source, u, met, flags);
+}
+
+/// Flags the edges that are redundant below some roots: at the places of those edges `flags` has an index, and at all
+/// other places `end`.
+///
+/// It works in marks and lists that are as long as the bounds of the graph, and cannot fail for want of memory. The cost is
+/// that of one search for each node that the roots reach.
+pub fn flag_redundant<Ix: IndexType, S: EdgeSource<Ix>>(
+    source: &mut S,
+    roots: &[NodeIndex<Ix>],
+    entered: &mut Marks,
+    met: &mut Marks,
+    below: &mut [Link<Ix>],
+    queue: &mut [Link<Ix>],
+    flags: &mut [EdgeIndex<Ix>],
+)
+    requires acyclic { IsAcyclic (S.graph source.old) }
+    requires entered_fit { node_bound (S.graph source.old) ≤ length entered.old }
+    requires met_fit { node_bound (S.graph source.old) ≤ length met.old }
+    requires below_fits { length entered.old ≤ length below.old }
+    requires queue_fits { length entered.old ≤ length queue.old }
+    requires flags_fit { edge_bound (S.graph source.old) ≤ length flags.old }
+    ensures same { S.graph source.new ≡ S.graph source.old }
+    ensures flagged { (e : ℕ) → IsFlagged Ix.greatest (map Ix.number flags.new) e
+        ↔ IsRedundant (S.graph source.old) (map Ix.number roots.now) e }
+    ensures counted { S.looks source.new ≤ S.looks source.old
+        + (node_count (S.graph source.old) + 2) * edge_count (S.graph source.old) }
+    ensures entered_kept { length entered.new ≡ length entered.old }
+    ensures met_kept { length met.new ≡ length met.old }
+    ensures below_kept { length below.new ≡ length below.old }
+    ensures queue_kept { length queue.new ≡ length queue.old }
+    ensures flags_kept { length flags.new ≡ length flags.old }
+{
+    let _well_formed = source.node_bound();
+    unflag(flags);
+    let count = enter_below(source, roots, entered, met, below);
+    let mut k = 0;
+    'nodes: while k < count {
+        flag_round(source, below[k].node(), entered, met, queue, flags);
+        k += 1;
+    }
+}

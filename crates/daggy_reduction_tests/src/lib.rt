@@ -1,0 +1,5 @@
+//! Which edges are redundant, by example.
+#![tactic(auto)]
+
+#[cfg(test)]
+mod tests;
