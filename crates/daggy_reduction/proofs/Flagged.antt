@@ -1,5 +1,5 @@
 -- Edges flagged by marks are those that a longer way makes redundant.
-use Rattle.std.proofs.Common.{◌≡◌, ℕ, suc, ◌+◌, ◌<◌, Bool, true, false, inl, inr, List, [], ◌∷◌, length, get_or, take, set, refl, sym, ap, subst, ◌∙◌, arith, replicate}
+use Rattle.std.proofs.Common.{◌≡◌, ℕ, suc, ◌+◌, ◌<◌, Bool, true, false, inl, inr, List, [], ◌∷◌, length, get_or, take, set, sym, ap, subst, ◌∙◌, arith, replicate}
 use Rattle.std.proofs.lemmas.List.{get_or-replicate, length-replicate}
 use Rattle.std.proofs.lemmas.Bool.{false≢true, cases_lt}
 use Rattle.std.proofs.lemmas.List.{get_or_past}
@@ -10,6 +10,7 @@ use Rattle.daggy_base.proofs.Lists.{mem_contains, contains_mem}
 use Rattle.daggy_base.proofs.Going.{set_marked}
 use Rattle.daggy_reduction.specs.Closing.{IsQueue, IsClosure, MeetsChildren}
 use Rattle.daggy_reduction.specs.Flags.{FlagsMarked, FlagsRound}
+use Rattle.daggy_reduction.proofs.Queueing.{take_none}
 use Rattle.daggy_reduction.proofs.Rounding.{child_round}
 
 pub unmarked : (k n : ℕ) → get_or (replicate k false) n false ≡ false
@@ -53,10 +54,6 @@ flags_round end g w acyclic u closure c k marks meets old new flags e = (
     | inr r ↦ inr (record { edge = r.edge; at = r.at; parent = r.parent; child = (meets r.edge.child).1 (inr ((child_round g acyclic (joined_exist end g w) u closure c r.edge.child).1 r.round)) })
   ]),
 )
-
-take_none : (xs : List ℕ) → take 0 xs ≡ []
-take_none [] = refl
-take_none (x ∷ xs) = refl
 
 -- the first place of a list written, and that alone taken
 pub first_put : (queue queue' : List ℕ) (n len : ℕ) → 0 < length queue → queue' ≡ set queue 0 n → len ≡ 0 + 1 → take len queue' ≡ n ∷ []

@@ -8,7 +8,7 @@ use Rattle.daggy_reduction.specs.Comparing.{LosesRoundPairs, HaveSameReachabilit
 use Rattle.daggy_reduction.proofs.Paths.{path_append, end_append, path_short}
 
 module _ {N E : Type 0} (roots : List ℕ) (old new : Graph N E) (acyclic : IsAcyclic old) (s : LosesRoundPairs roots old new) where
-  path_before : (us : List ℕ) → IsPath new us → IsPath old us
+  pub path_before : (us : List ℕ) → IsPath new us → IsPath old us
   path_before [] p = p
   path_before (u ∷ []) p = (s.nodes u).1 p
   path_before (u ∷ v ∷ rest) p = ((s.nodes u).1 p.0, s.joined u v p.1, path_before (v ∷ rest) p.2)

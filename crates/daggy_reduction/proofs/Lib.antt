@@ -7,6 +7,9 @@ pub mod Queueing
 pub mod Draining
 pub mod Rounding
 pub mod Flagging
+pub mod Gathering
 pub mod Flagged
 pub mod Rooting
 pub mod Sweeping
+pub mod Descending
+pub mod Laws

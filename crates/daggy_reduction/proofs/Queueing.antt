@@ -1,5 +1,5 @@
 -- A queue of nodes that is read from its front, while the children that are new to it are put behind.
-use Rattle.std.proofs.Common.{◌≡◌, ◌≢◌, ℕ, suc, ◌+◌, ◌<◌, ◌≤◌, Bool, true, false, ◌⊎◌, ◌↔◌, inl, inr, List, [], ◌∷◌, ◌++◌, length, get_or, drop, set, refl, sym, ap, subst, ◌∙◌, arith, append_assoc, append-nil}
+use Rattle.std.proofs.Common.{◌≡◌, ◌≢◌, ℕ, suc, ◌+◌, ◌<◌, ◌≤◌, Bool, true, false, ◌⊎◌, ◌↔◌, inl, inr, List, [], ◌∷◌, ◌++◌, length, get_or, drop, set, take, refl, sym, ap, subst, ◌∙◌, arith, append_assoc, append-nil}
 use Rattle.std.proofs.lemmas.List.{length-append}
 use Rattle.std.proofs.lemmas.Bool.{false≢true}
 use Rattle.daggy_base.specs.Graph.{Graph, HasNode, HasEdge, out_list, edge_count}
@@ -11,6 +11,10 @@ use Rattle.daggy_base.proofs.Lists.{Mem, Unique, mem_left, mem_right, mem_cases,
 use Rattle.daggy_base.proofs.Reading.{lists_of, lists_few, LookedTo, read_whole, all_read, read_part, has_edge, child_exists, child_joined, next_cursor, looked_more}
 use Rattle.daggy_base.proofs.Going.{reaches_more, reaches_stays, marked_within, set_marked, fewer_than}
 use Rattle.daggy_reduction.specs.Closing.{behind}
+
+pub take_none : (xs : List ℕ) → take 0 xs ≡ []
+take_none [] = refl
+take_none (x ∷ xs) = refl
 
 -- a queue that is read, with marks for its nodes and marks for the children of all but its first node
 pub record Queueing {N E : Type 0} (end : ℕ) (g : Graph N E) (starts : List ℕ) (before marks met : List Bool) (queue : List ℕ) (head e looked : ℕ) : Type 0 where

@@ -8,6 +8,7 @@ use Rattle.daggy_base.proofs.Lists.{Mem, Unique, mem_left, mem_right, mem_cases,
 use Rattle.daggy_base.proofs.Reading.{below_bound}
 use Rattle.daggy_base.proofs.Going.{marked_within, set_marked, fewer_than}
 use Rattle.daggy_reduction.specs.Closing.{IsQueue, IsClosure}
+use Rattle.daggy_reduction.proofs.Queueing.{take_none}
 use Rattle.daggy_reduction.proofs.Draining.{distinct_from_unique}
 
 pub record Rooting {N E : Type 0} (g : Graph N E) (marks_size queue_size : ℕ) (roots : List ℕ) (marks : List Bool) (queue : List ℕ) (len k : ℕ) : Type 0 where
@@ -19,10 +20,6 @@ pub record Rooting {N E : Type 0} (g : Graph N E) (marks_size queue_size : ℕ) 
   pub once : Unique (take len queue)
   pub marked : (n : ℕ) → (get_or marks n false ≡ true) ↔ Mem n (take len queue)
   pub exact : (n : ℕ) → Mem n (take len queue) ↔ (Mem n (take k roots) × HasNode g n)
-
-take_none : (xs : List ℕ) → take 0 xs ≡ []
-take_none [] = refl
-take_none (x ∷ xs) = refl
 
 pub rooting_start : {N E : Type 0} (g : Graph N E) (roots : List ℕ) (marks : List Bool) (queue : List ℕ) → node_bound g ≤ length marks → length marks ≤ length queue → ((n : ℕ) → get_or marks n false ≡ false) → Rooting g (length marks) (length queue) roots marks queue 0 0
 rooting_start g roots marks queue fits room cleared =
@@ -44,9 +41,6 @@ rooting_start g roots marks queue fits room cleared =
     }
 
 module _ {N E : Type 0} {g : Graph N E} {marks_size queue_size : ℕ} {roots : List ℕ} {marks : List Bool} {queue : List ℕ} {len k : ℕ} (s : Rooting g marks_size queue_size roots marks queue len k) (within : k < length roots) where
-  root : ℕ
-  root = get_or roots k 0
-
   more_roots : (r : ℕ) → r ≡ get_or roots k r → take (k + 1) roots ≡ take k roots ++ r ∷ []
   more_roots r is = take_more roots k r within ∙ ap (λ z. take k roots ++ z ∷ []) (sym is)
 
@@ -194,17 +188,3 @@ closure_below g roots first closure exact c n = (
   λ k. (let r = (c.exact n).0 k in let both = (exact r.0).0 r.1 in (r.0, both.0, both.1, r.2)),
   λ b. (c.exact n).1 (b.0, (exact b.0).1 (b.1, b.2), b.3),
 )
-
-pub none_below : {N E : Type 0} (g : Graph N E) (roots queue : List ℕ) (len : ℕ) → ((n : ℕ) → Contains (take len queue) n ↔ (Contains roots n × HasNode g n)) → len ≡ 0 → (n : ℕ) → Contains (take 0 queue) n ↔ IsBelow g roots n
-none_below g roots queue len exact empty n =
-    let nothing : (m : ℕ) → Contains (take 0 queue) m → ⊥ = λ m c. (
-    let P : List ℕ → Type 0 = λ z. Mem m z in
-    subst P (take_none queue) (contains_mem (take 0 queue) m c)
-    ) in
-    let P : ℕ → Type 0 = λ z. Contains (take z queue) (n) in (
-      λ c. absurd (nothing n c),
-      λ b. absurd (nothing b.0 (let Q : ℕ → Type 0 = λ z. Contains (take z queue) b.0 in subst Q empty ((exact b.0).1 (b.1, b.2)))),
-    )
-
-pub none_distinct : (queue : List ℕ) → Unique (take 0 queue)
-none_distinct queue = let P : List ℕ → Type 0 = λ z. Unique z in subst P (sym (take_none queue)) tt

@@ -9,7 +9,7 @@ use Rattle.daggy_base.proofs.Lists.{Mem, contains_mem, mem_contains}
 use Rattle.daggy_base.proofs.Removing.{slot_of}
 use Rattle.daggy_reduction.specs.Comparing.{LosesRoundPairs}
 
-slot_inside : {A : Type 0} (xs : List (Option A)) (i : ℕ) (y : A) → slot xs i ≡ Some y → i < length xs
+pub slot_inside : {A : Type 0} (xs : List (Option A)) (i : ℕ) (y : A) → slot xs i ≡ Some y → i < length xs
 slot_inside [] i y h = absurd cc
 slot_inside (x ∷ xs) zero y h = omega arith
 slot_inside (x ∷ xs) (suc i) y h = let more = slot_inside xs i y h in omega (arith, more)
@@ -33,7 +33,7 @@ slot_set_same [] i o within = absurd (omega arith)
 slot_set_same (x ∷ xs) zero o within = refl
 slot_set_same (x ∷ xs) (suc i) o within = slot_set_same xs i o (omega arith)
 
-slot_set_other : {A : Type 0} (xs : List (Option A)) (i f : ℕ) (o : Option A) → f ≢ i → slot (set xs i o) f ≡ slot xs f
+pub slot_set_other : {A : Type 0} (xs : List (Option A)) (i f : ℕ) (o : Option A) → f ≢ i → slot (set xs i o) f ≡ slot xs f
 slot_set_other [] zero f o other = refl
 slot_set_other [] (suc i) f o other = refl
 slot_set_other (x ∷ xs) zero zero o other = absurd (other refl)
@@ -47,7 +47,7 @@ slot_or (x ∷ xs) zero y h = h
 slot_or (x ∷ xs) (suc i) y h = slot_or xs i y h
 
 -- an emptied slot holds nothing
-slot_emptied : {A : Type 0} (xs : List (Option A)) (i : ℕ) (y : A) → slot (set xs i None) i ≡ Some y → ⊥
+pub slot_emptied : {A : Type 0} (xs : List (Option A)) (i : ℕ) (y : A) → slot (set xs i None) i ≡ Some y → ⊥
 slot_emptied [] zero y h = cc
 slot_emptied [] (suc i) y h = cc
 slot_emptied (x ∷ xs) zero y h = cc
@@ -98,7 +98,7 @@ module _ {N E : Type 0} (g : Graph N E) (d : ℕ) where
       ]
 
   -- below the removed one each edge stands where it stood
-  left_below : (kind : Kind) (e : ℕ) → d < length g.edges → e < d → edge_at (without_edge kind g d) e ≡ edge_at g e
+  pub left_below : (kind : Kind) (e : ℕ) → d < length g.edges → e < d → edge_at (without_edge kind g d) e ≡ edge_at g e
   left_below Stable e low under = slot_set_other g.edges d e None (λ k. omega (arith, under, k))
   left_below Compact e low under =
       let last = length g.edges - 1 in
@@ -117,7 +117,7 @@ below_first d (e ∷ ds) s y m =
       | inr later ↦ let low = below_first e ds s.1 y later in omega (arith, s.0, low)
     ]
 
-descending_rest : (d : ℕ) (ds : List ℕ) → IsDescending (d ∷ ds) → IsDescending ds
+pub descending_rest : (d : ℕ) (ds : List ℕ) → IsDescending (d ∷ ds) → IsDescending ds
 descending_rest d [] s = tt
 descending_rest d (e ∷ ds) s = s.1
 

@@ -2,24 +2,20 @@
 use Rattle.std.proofs.Common.{◌≡◌, ℕ, zero, suc, ◌+◌, ◌*◌, ◌<◌, ◌≤◌, true, ◌↔◌, inl, inr, Option, None, IsSome, is_some, List, [], ◌∷◌, ◌++◌, length, get_or, take, refl, sym, ap, subst, ◌∙◌, arith, Contains}
 use Rattle.std.proofs.Math.Nat.{suc-mul, zero-mul}
 use Rattle.std.proofs.lemmas.List.{take_more, take_all}
-use Rattle.daggy_base.specs.Graph.{Graph, HasNode, slot, out_list, node_count, edge_count}
+use Rattle.daggy_base.specs.Graph.{Graph, Edge, HasNode, slot, out_list, node_count, edge_count, edge_bound}
 use Rattle.daggy_base.specs.Reduction.{IsBelow, IsRedundant, ReachesRound}
 use Rattle.daggy_base.specs.WellFormed.{IsWellFormed, AreDistinct}
 use Rattle.daggy_base.proofs.Lists.{Mem, mem_left, mem_right, mem_cases, mem_contains, contains_mem, unique_from_distinct, pigeon}
-use Rattle.daggy_base.proofs.Reading.{lists_of, lists_few}
+use Rattle.daggy_base.proofs.Reading.{lists_of, lists_few, below_bound}
 use Rattle.daggy_reduction.specs.Flags.{IsFlagged, LeavesRound, FlagsRound}
 use Rattle.daggy_reduction.proofs.Paths.{has_last}
-use Rattle.daggy_reduction.proofs.Queueing.{lists_append}
+use Rattle.daggy_reduction.proofs.Queueing.{take_none, lists_append}
 
 pub record Sweeping {N E : Type 0} (end : ℕ) (g₀ g : Graph N E) (below flags : List ℕ) (k looks₀ looks : ℕ) : Type 0 where
   pub same : g ≡ g₀
   pub only : (e : ℕ) → IsFlagged end flags e → (u : ℕ) × Mem u (take k below) × LeavesRound g₀ u e
   pub all : (u e : ℕ) → Mem u (take k below) → LeavesRound g₀ u e → IsFlagged end flags e
   pub counted : looks ≤ looks₀ + (k + 1) * edge_count g₀ + length (lists_of g₀ (take k below))
-
-take_none : (xs : List ℕ) → take 0 xs ≡ []
-take_none [] = refl
-take_none (x ∷ xs) = refl
 
 one_more : (k m : ℕ) → (k + 1) * m ≡ k * m + m
 one_more k m = let is : k + 1 ≡ suc k = omega arith in ap (λ z. z * m) is ∙ suc-mul k m
@@ -49,7 +45,6 @@ module _ {N E : Type 0} {end : ℕ} {g₀ g : Graph N E} {below flags : List ℕ
       record {
         same = same' ∙ s.same;
         only = λ e f. (
-            let P : ℕ → List ℕ → Type 0 = λ n z. Mem n z in
             elim ((flagged e).0 f) [
               | inl a ↦ (let o = s.only e a in let P : List ℕ → Type 0 = λ z. Mem o.0 z in (o.0, subst P (sym longer) (mem_left (take k below) (u ∷ []) o.0 o.1), o.2))
               | inr l ↦ (let P : List ℕ → Type 0 = λ z. Mem u z in (u, subst P (sym longer) (mem_right (take k below) (u ∷ []) u (inl refl)), l))
@@ -116,3 +111,6 @@ module _ {N E : Type 0} {end : ℕ} {g₀ g : Graph N E} (w : IsWellFormed end g
       let same_k : (k + 1) * m ≡ (length below + 1) * m = ap (λ z. (z + 1) * m) (omega (arith, within, past)) in
       let last : (length below + 2) * m ≡ (length below + 1) * m + m = ap (λ z. z * m) (omega arith) ∙ suc-mul (length below + 1) m in
       omega (arith, s.counted, ap (λ z. length (lists_of g₀ z)) whole, lists, more, same_k, last)
+
+pub redundant_low : {N E : Type 0} (g : Graph N E) (roots : List ℕ) (e : ℕ) → IsRedundant g roots e → e < edge_bound g
+redundant_low {N} {E} g roots e r = let P : Option (Edge E) → Type 0 = λ z. IsSome z in below_bound g.edges e (subst P (sym r.at) cc)

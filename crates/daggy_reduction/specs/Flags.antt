@@ -1,10 +1,16 @@
 -- Edges that are flagged in a list: the flag of an edge is its own index, and `end` where there is none.
-use Rattle.std.specs.Prelude.{◌≡◌, ◌≢◌, ℕ, ◌↔◌, ◌⊎◌, Bool, true, false, Some, List, slice_index_or}
+use Rattle.std.specs.Prelude.{◌≡◌, ◌≢◌, ℕ, zero, suc, ◌==◌, ◌↔◌, ◌⊎◌, Bool, true, false, Some, List, [], ◌∷◌, ◌++◌, slice_index_or, if◌then◌else◌}
 use Rattle.daggy_base.specs.Graph.{Graph, Edge, edge_at}
 use Rattle.daggy_base.specs.Reduction.{ReachesRound}
 
 abbrev pub IsFlagged : (end : ℕ) → List ℕ → ℕ → Type 0
 IsFlagged end flags e = slice_index_or flags e end ≢ end
+
+-- the flagged ones below a bound, in ascending order
+abbrev pub flagged_below : (end : ℕ) → List ℕ → ℕ → List ℕ
+flagged_below end flags zero = []
+flagged_below end flags (suc k) =
+    if slice_index_or flags k end == end then flagged_below end flags k else flagged_below end flags k ++ k ∷ []
 
 -- e leaves u, and its child has a mark
 pub record LeavesToMarked {N E : Type 0} (g : Graph N E) (u : ℕ) (marks : List Bool) (e : ℕ) : Type 0 where

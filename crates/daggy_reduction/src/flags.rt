@@ -1,8 +1,8 @@
 //! Flags of edges, kept in a list of indices: each flag is the edge's own index.
-ghost use Rattle.std.specs.Prelude.{◌≡◌, ℕ, ◌+◌, ◌<◌, ◌≤◌, true, false, map, length, slice_set, slice_index_or};
+ghost use Rattle.std.specs.Prelude.{◌≡◌, ℕ, ◌+◌, ◌<◌, ◌≤◌, true, false, map, length, take, slice_set, slice_index_or};
 ghost use Rattle.daggy_base.specs.Graph.{out_list, node_bound, edge_bound};
 ghost use Rattle.daggy_base.specs.WellFormed.{IsWellFormed};
-ghost use Rattle.daggy_reduction.specs.Flags.{IsFlagged, FlagsMarked};
+ghost use Rattle.daggy_reduction.specs.Flags.{IsFlagged, FlagsMarked, flagged_below};
 
 use daggy_base::index::{EdgeIndex, IndexType, NodeIndex};
 use daggy_base::search::{EdgeSource, Marks};
@@ -62,4 +62,25 @@ pub(crate) fn flag_marked<Ix: IndexType, S: EdgeSource<Ix>>(
         flag_if_marked(flags, e, marks, v);
         e = next;
     }
+}
+
+// Puts the edges that have flags in front, in ascending order, and gives how many there are. The flags are lost.
+pub(crate) fn gather_flagged<Ix: IndexType>(flags: &mut [EdgeIndex<Ix>], bound: usize) -> usize
+    requires within { bound ≤ length flags.old }
+    requires real { bound ≤ Ix.greatest }
+    ensures gathered { take result (map Ix.number flags.new) ≡ flagged_below Ix.greatest (map Ix.number flags.old) bound }
+    ensures within { result ≤ bound }
+    ensures kept { length flags.new ≡ length flags.old }
+{
+    let end = EdgeIndex::<Ix>::end().index();
+    let mut len = 0;
+    let mut i = 0;
+    'places: while i < bound {
+        if flags[i].index() != end {
+            flags[len] = EdgeIndex::new(i);
+            len += 1;
+        }
+        i += 1;
+    }
+    len
 }

@@ -3,5 +3,6 @@
 
 mod closure;
 mod flags;
+pub mod reduce;
 pub mod redundant;
 mod roots;

@@ -1,17 +1,18 @@
 //! Which edges a longer way makes redundant.
-ghost use Rattle.std.specs.Prelude.{◌≡◌, ℕ, ◌+◌, ◌*◌, ◌≤◌, ◌↔◌, map, length};
+ghost use Rattle.std.specs.Prelude.{◌≡◌, ℕ, ◌+◌, ◌*◌, ◌≤◌, ◌↔◌, map, length, take, Contains};
 ghost use Rattle.daggy_base.specs.Graph.{HasNode, out_list, node_bound, edge_bound, node_count, edge_count};
 ghost use Rattle.daggy_base.specs.Path.{IsAcyclic};
 ghost use Rattle.daggy_base.specs.WellFormed.{IsWellFormed};
 ghost use Rattle.daggy_base.specs.Reduction.{IsRedundant};
 ghost use Rattle.daggy_reduction.specs.Flags.{IsFlagged, FlagsRound};
+ghost use Rattle.daggy_reduction.specs.Comparing.{IsAscending};
 
 use crate::closure::{close, enter};
-use crate::flags::{flag_marked, unflag};
+use crate::flags::{flag_marked, gather_flagged, unflag};
 use crate::roots::enter_below;
 use daggy_base::index::{EdgeIndex, IndexType, NodeIndex};
 use daggy_base::link::Link;
-use daggy_base::search::{EdgeSource, Marks};
+use daggy_base::search::{EdgeSource, Marks, Scratch};
 
 // Flags the edges of `u` to whose children a longer way leads.
 fn flag_round<Ix: IndexType, S: EdgeSource<Ix>>(
@@ -45,12 +46,9 @@ fn flag_round<Ix: IndexType, S: EdgeSource<Ix>>(
     flag_marked(source, u, met, flags);
 }
 
-/// Flags the edges that are redundant below some roots: at the places of those edges `flags` has an index, and at all
-/// other places `end`.
-///
-/// It works in marks and lists that are as long as the bounds of the graph, and cannot fail for want of memory. The cost is
-/// that of one search for each node that the roots reach.
-pub fn flag_redundant<Ix: IndexType, S: EdgeSource<Ix>>(
+// Flags the edges that are redundant below some roots: at the places of those edges `flags` has an index, and at all
+// other places `end`.
+fn flag_redundant<Ix: IndexType, S: EdgeSource<Ix>>(
     source: &mut S,
     roots: &[NodeIndex<Ix>],
     entered: &mut Marks,
@@ -84,4 +82,73 @@ pub fn flag_redundant<Ix: IndexType, S: EdgeSource<Ix>>(
         flag_round(source, below[k].node(), entered, met, queue, flags);
         k += 1;
     }
+}
+
+// Puts the edges that are redundant below some roots in front of a list, and gives how many there are.
+pub(crate) fn find_redundant<Ix: IndexType, S: EdgeSource<Ix>>(
+    source: &mut S,
+    roots: &[NodeIndex<Ix>],
+    entered: &mut Marks,
+    met: &mut Marks,
+    below: &mut [Link<Ix>],
+    queue: &mut [Link<Ix>],
+    edges: &mut [EdgeIndex<Ix>],
+) -> usize
+    requires acyclic { IsAcyclic (S.graph source.old) }
+    requires entered_fit { node_bound (S.graph source.old) ≤ length entered.old }
+    requires met_fit { node_bound (S.graph source.old) ≤ length met.old }
+    requires below_fits { length entered.old ≤ length below.old }
+    requires queue_fits { length entered.old ≤ length queue.old }
+    requires edges_fit { edge_bound (S.graph source.old) ≤ length edges.old }
+    ensures same { S.graph source.new ≡ S.graph source.old }
+    ensures within { result ≤ length edges.new }
+    ensures ascending { IsAscending (take result (map Ix.number edges.new)) }
+    ensures exact { (e : ℕ) → Contains (take result (map Ix.number edges.new)) e
+        ↔ IsRedundant (S.graph source.old) (map Ix.number roots.now) e }
+    ensures counted { S.looks source.new ≤ S.looks source.old
+        + (node_count (S.graph source.old) + 2) * edge_count (S.graph source.old) }
+    ensures entered_kept { length entered.new ≡ length entered.old }
+    ensures met_kept { length met.new ≡ length met.old }
+    ensures below_kept { length below.new ≡ length below.old }
+    ensures queue_kept { length queue.new ≡ length queue.old }
+    ensures edges_kept { length edges.new ≡ length edges.old }
+{
+    let _well_formed = source.node_bound();
+    let bound = source.edge_bound();
+    flag_redundant(source, roots, entered, met, below, queue, edges);
+    gather_flagged(edges, bound)
+}
+
+/// Puts the edges that are redundant below some roots in front of `edges`, each once, in ascending order, and gives how
+/// many there are.
+///
+/// It cannot fail for want of memory. The cost is that of one search for each node that the roots reach.
+pub fn redundant_edges<Ix: IndexType, S: EdgeSource<Ix>>(
+    source: &mut S,
+    roots: &[NodeIndex<Ix>],
+    scratch: &mut Scratch<Ix>,
+    edges: &mut [EdgeIndex<Ix>],
+) -> usize
+    requires acyclic { IsAcyclic (S.graph source.old) }
+    requires nodes_fit { node_bound (S.graph source.old) ≤ scratch.old.nodes }
+    requires edges_fit { edge_bound (S.graph source.old) ≤ length edges.old }
+    ensures same { S.graph source.new ≡ S.graph source.old }
+    ensures within { result ≤ length edges.new }
+    ensures ascending { IsAscending (take result (map Ix.number edges.new)) }
+    ensures exact { (e : ℕ) → Contains (take result (map Ix.number edges.new)) e
+        ↔ IsRedundant (S.graph source.old) (map Ix.number roots.now) e }
+    ensures counted { S.looks source.new ≤ S.looks source.old
+        + (node_count (S.graph source.old) + 2) * edge_count (S.graph source.old) }
+    ensures room { scratch.new ≡ scratch.old }
+    ensures edges_kept { length edges.new ≡ length edges.old }
+{
+    find_redundant(
+        source,
+        roots,
+        &mut scratch.marks,
+        &mut scratch.left,
+        scratch.stack.as_mut_slice(),
+        scratch.cursors.as_mut_slice(),
+        edges,
+    )
 }

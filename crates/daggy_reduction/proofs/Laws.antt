@@ -1,0 +1,55 @@
+-- What a reduction keeps and loses, from its definition.
+use Rattle.std.proofs.Common.{◌≡◌, ℕ, inl, inr, List, ◌∷◌, sym, ap, subst, ◌∙◌}
+use Rattle.daggy_base.specs.Graph.{Graph}
+use Rattle.daggy_base.specs.Path.{IsAcyclic}
+use Rattle.daggy_base.specs.Removal.{Kind, Stable, KeepsIndices, without_edges}
+use Rattle.daggy_base.specs.WellFormed.{IsWellFormed}
+use Rattle.daggy_base.specs.Reduction.{IsReduction}
+use Rattle.daggy_reduction.specs.Comparing.{LosesRoundPairs, HaveSameReachability, JoinsCovers, JoinsOthers, IsLeast, HasNoneRedundant, IsCanonical}
+use Rattle.daggy_reduction.proofs.Surviving.{reduction_loses}
+use Rattle.daggy_reduction.proofs.Keeping.{path_before, same_reachability}
+use Rattle.daggy_reduction.proofs.Covering.{joined_exactly}
+use Rattle.daggy_reduction.proofs.Canonical.{Ends, least, nothing_left, alike_exactly}
+use Rattle.daggy_reduction.proofs.Descending.{keeps_indices, nodes_kept}
+
+pub ends_of : {N E : Type 0} (limit : ℕ) (g : Graph N E) → IsWellFormed limit g → Ends g
+ends_of limit g w u v j = (w.parents j.0 _ j.2, w.children j.0 _ j.2)
+
+module _ {N E : Type 0} {limit : ℕ} (kind : Kind) (roots : List ℕ) (old new : Graph N E) (acyclic : IsAcyclic old) (w : IsWellFormed limit old) (r : IsReduction kind roots old new) where
+  loses : LosesRoundPairs roots old new
+  loses = reduction_loses kind roots old new r
+
+  pub law_reachability : HaveSameReachability old new
+  law_reachability = same_reachability roots old new acyclic loses
+
+  pub law_acyclic : IsAcyclic new
+  law_acyclic u v rest p = acyclic u v rest (path_before roots old new acyclic loses (u ∷ v ∷ rest) p)
+
+  pub law_nodes : new.nodes ≡ old.nodes
+  law_nodes = ap (λ (z : Graph N E). z.nodes) r.removed ∙ nodes_kept kind r.redundant old
+
+  pub law_covers : JoinsCovers roots old new
+  law_covers u v below = joined_exactly roots old new acyclic loses (ends_of limit old w) u v below
+
+  pub law_others : JoinsOthers roots old new
+  law_others u v out = (
+    λ j. loses.joined u v j,
+    λ j. elim (loses.kept u v j) [ inl k ↦ k | inr both ↦ absurd (out both.0) ],
+  )
+
+  pub law_least : IsLeast roots old new
+  law_least h same u v below j = least roots old new acyclic loses (ends_of limit old w) h same u v below j
+
+  pub law_none : HasNoneRedundant roots new
+  law_none e red = nothing_left roots old new acyclic loses (ends_of limit old w) red.edge.parent red.edge.child (e, red.edge.weight, red.at) red.below red.round
+
+  pub law_canonical : IsCanonical limit roots old new
+  law_canonical all h h' other =
+      alike_exactly roots old new acyclic loses (ends_of limit old w) all other.roots h h' other.dag.acyclic
+      (reduction_loses other.kind other.roots h h' other.reduced) (ends_of limit h other.dag.well_formed) other.all other.nodes
+
+pub law_indices : {N E : Type 0} (kind : Kind) (roots : List ℕ) (old new : Graph N E) → IsReduction kind roots old new → kind ≡ Stable → KeepsIndices old new
+law_indices {N} {E} kind roots old new r stable =
+    let P : Graph N E → Type 0 = λ z. KeepsIndices old z in
+    let Q : Kind → Type 0 = λ z. new ≡ without_edges z old r.redundant in
+    subst P (sym (subst Q stable r.removed)) (keeps_indices r.redundant old)

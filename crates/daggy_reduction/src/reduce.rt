@@ -1,0 +1,64 @@
+//! The reduction of any store.
+ghost use Rattle.std.specs.Prelude.{◌≡◌, ℕ, ◌+◌, ◌*◌, ◌≤◌, map, reverse, Contains, OnOk, OnErr};
+ghost use Rattle.daggy_base.specs.Graph.{HasEdge, node_bound, node_count, edge_count};
+ghost use Rattle.daggy_base.specs.Path.{IsAcyclic};
+ghost use Rattle.daggy_base.specs.Removal.{without_edges};
+ghost use Rattle.daggy_base.specs.WellFormed.{IsWellFormed};
+ghost use Rattle.daggy_base.specs.Reduction.{IsReduction};
+ghost use Rattle.daggy_reduction.specs.Comparing.{IsAscending};
+
+use crate::redundant::find_redundant;
+use daggy_base::index::{EdgeIndex, IndexType, NodeIndex};
+use daggy_base::search::Scratch;
+use daggy_base::store::Store;
+use std::alloc::AllocError;
+
+// Removes the edges of a list, the last one first.
+fn remove_edges<Ix: IndexType, S: Store<Ix>>(store: &mut S, edges: &[EdgeIndex<Ix>])
+    requires ascending { IsAscending (map Ix.number edges.now) }
+    requires exist { (e : ℕ) → Contains (map Ix.number edges.now) e → HasEdge (S.graph store.old) e }
+    ensures removed { S.graph store.new ≡ without_edges S.kind (S.graph store.old) (reverse (map Ix.number edges.now)) }
+    ensures counted { S.looks store.new ≡ S.looks store.old }
+{
+    let mut left = edges.len();
+    'edges: while left > 0 {
+        left -= 1;
+        let _weight = store.remove_edge(edges[left]);
+    }
+}
+
+/// Removes the edges that are redundant below some roots: first it decides which these are, and then it removes them, the
+/// one with the highest index first.
+///
+/// The only refusal is that the scratch cannot grow to the bounds of the graph.
+pub fn transitive_reduce<Ix: IndexType, S: Store<Ix>>(
+    store: &mut S,
+    scratch: &mut Scratch<Ix>,
+    roots: &[NodeIndex<Ix>],
+) -> Result<(), AllocError>
+    requires { IsAcyclic (S.graph store.old) }
+    ensures reduced { OnOk result (IsReduction S.kind (map Ix.number roots.now) (S.graph store.old) (S.graph store.new)) }
+    ensures well_formed { IsWellFormed Ix.greatest (S.graph store.old) }
+    ensures unchanged { OnErr result (S.graph store.new ≡ S.graph store.old) }
+    ensures acyclic { IsAcyclic (S.graph store.new) }
+    ensures bound { node_bound (S.graph store.new) ≡ node_bound (S.graph store.old) }
+    ensures counted { OnOk result (S.looks store.new ≤ S.looks store.old
+        + (node_count (S.graph store.old) + 2) * edge_count (S.graph store.old)) }
+    ensures unlooked { OnErr result (S.looks store.new ≡ S.looks store.old) }
+    ensures room { scratch.old.nodes ≤ scratch.new.nodes }
+{
+    let nodes = store.node_bound();
+    let edges = store.edge_bound();
+    scratch.reserve(nodes, edges)?;
+    let count = find_redundant(
+        store,
+        roots,
+        &mut scratch.marks,
+        &mut scratch.left,
+        scratch.stack.as_mut_slice(),
+        scratch.cursors.as_mut_slice(),
+        scratch.found.as_mut_slice(),
+    );
+    remove_edges(store, &scratch.found[..count]);
+    Ok(())
+}
