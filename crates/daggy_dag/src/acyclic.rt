@@ -30,6 +30,7 @@ mod debug;
 mod externals;
 mod graph;
 mod recursive;
+mod reduction;
 mod series;
 mod stable;
 mod visit;
