@@ -2,10 +2,11 @@
 ghost use Rattle.std.specs.Prelude.{◌≡◌, IsTrue, Ok};
 
 use daggy_base::index::{EdgeIndex, NodeIndex};
-use daggy_base::link::Link;
-use daggy_base::search::{EdgeSource, Marks, Scratch, is_acyclic};
+use daggy_base::search::{EdgeSource, Scratch, is_acyclic};
+use daggy_base::store::Store;
+use daggy_dag::acyclic::{Acyclic, Dag, StableDag};
 use daggy_graph::graph::DiGraph;
-use daggy_reduction::redundant::flag_redundant;
+use daggy_reduction::redundant::redundant_edges;
 use std::alloc::Global;
 use std::process::Abort;
 
@@ -47,43 +48,23 @@ fn add_edge(rt: &impl Abort, graph: &mut Small, ends: (usize, usize)) {
     let _e = made(rt, graph.add_edge(a, b, 0));
 }
 
-// Asserts that an edge is flagged below some roots exactly if it is wanted.
+// Asserts that these edges are redundant below some roots.
 fn check(rt: &impl Abort, alloc: Global, graph: &mut Small, roots: &[usize], wanted: &[usize]) {
     let bound = graph.node_bound();
     let mut scratch = Scratch::new(alloc);
     made(rt, scratch.reserve(bound, 0));
     holds(rt, is_acyclic(graph, &mut scratch));
-    let mut entered = Marks::new(alloc);
-    made(rt, entered.grow(bound));
-    let mut met = Marks::new(alloc);
-    made(rt, met.grow(bound));
-    let mut below = Vec::new(alloc);
-    made(rt, below.resize(bound, Link::end()));
-    let mut queue = Vec::new(alloc);
-    made(rt, queue.resize(bound, Link::end()));
-    let mut flags = Vec::new(alloc);
-    made(rt, flags.resize(graph.edge_bound(), EdgeIndex::end()));
+    let mut edges = Vec::new(alloc);
+    made(rt, edges.resize(graph.edge_bound(), EdgeIndex::end()));
     let mut first = Vec::new(alloc);
     for root in roots {
         made(rt, first.push(node(rt, *root)));
     }
-    flag_redundant(
-        graph,
-        first.as_slice(),
-        &mut entered,
-        &mut met,
-        below.as_mut_slice(),
-        queue.as_mut_slice(),
-        flags.as_mut_slice(),
-    );
-    let mut count = 0usize;
-    for e in flags.iter() {
-        if e.index() != 255 {
-            holds(rt, wanted.get(count).copied() == Some(e.index()));
-            count = count.wrapping_add(1);
-        }
-    }
+    let count = redundant_edges(graph, first.as_slice(), &mut scratch, edges.as_mut_slice());
     holds(rt, count == wanted.len());
+    for (e, index) in edges.iter().zip(wanted) {
+        holds(rt, e.index() == *index);
+    }
 }
 
 fn redundant(
@@ -146,4 +127,137 @@ fn forty_diamonds_in_a_chain_are_searched_quickly(rt: HostRuntime) {
     }
     add_edge(&rt, &mut graph, (0, 120));
     check(&rt, rt.alloc(), &mut graph, &[0], &[160]);
+}
+
+// Adds nodes and edges to a dag without any.
+fn fill<S: Store<u8, NodeWeight = (), EdgeWeight = ()>>(
+    rt: &impl Abort,
+    dag: &mut Acyclic<(), (), u8, S>,
+    nodes: usize,
+    edges: &[(usize, usize)],
+) {
+    for _ in 0..nodes {
+        holds(rt, dag.can_add_node());
+        let _n = made(rt, dag.add_node(()));
+    }
+    for ends in edges {
+        let _e = join(rt, dag, *ends);
+    }
+}
+
+fn join<S: Store<u8, NodeWeight = (), EdgeWeight = ()>>(
+    rt: &impl Abort,
+    dag: &mut Acyclic<(), (), u8, S>,
+    ends: (usize, usize),
+) -> usize {
+    let (a, b) = (node(rt, ends.0), node(rt, ends.1));
+    holds(rt, dag.contains_node(a) && dag.contains_node(b));
+    holds(rt, dag.can_add_edge());
+    made(rt, dag.add_edge(a, b, ())).index()
+}
+
+// Reduces a dag from some roots, and asserts which edges it has then, with their ends.
+fn reduce<S: Store<u8, NodeWeight = (), EdgeWeight = ()>>(
+    rt: &impl Abort,
+    alloc: Global,
+    dag: &mut Acyclic<(), (), u8, S>,
+    roots: &[usize],
+    left: &[(usize, usize, usize)],
+) {
+    let mut first = Vec::new(alloc);
+    for root in roots {
+        made(rt, first.push(node(rt, *root)));
+    }
+    made(rt, dag.transitive_reduce(first));
+    holds(rt, dag.edge_count() == left.len());
+    for (index, a, b) in left {
+        holds(rt, *index < 255);
+        let ends = dag.edge_endpoints(EdgeIndex::new(*index));
+        holds(rt, ends == Some((node(rt, *a), node(rt, *b))));
+    }
+}
+
+const TEXTBOOK: [(usize, usize); 8] = [
+    (0, 1),
+    (0, 2),
+    (0, 3),
+    (0, 4),
+    (1, 3),
+    (2, 3),
+    (2, 4),
+    (3, 4),
+];
+
+#[test]
+fn a_compact_dag_moves_the_last_edges_to_the_gaps(rt: HostRuntime) {
+    let left = [(0, 0, 1), (1, 0, 2), (2, 2, 3), (3, 3, 4), (4, 1, 3)];
+    let mut dag: Dag<(), (), u8> = Dag::new(rt.alloc());
+    fill(&rt, &mut dag, 5, &TEXTBOOK);
+    reduce(&rt, rt.alloc(), &mut dag, &[0], &left);
+    holds(&rt, join(&rt, &mut dag, (0, 4)) == 5);
+    reduce(&rt, rt.alloc(), &mut dag, &[0], &left);
+}
+
+#[test]
+fn in_a_stable_dag_what_stays_keeps_its_index(rt: HostRuntime) {
+    let left = [(0, 0, 1), (1, 0, 2), (4, 1, 3), (5, 2, 3), (7, 3, 4)];
+    let mut dag: StableDag<(), (), u8> = StableDag::new(rt.alloc());
+    fill(&rt, &mut dag, 5, &TEXTBOOK);
+    reduce(&rt, rt.alloc(), &mut dag, &[0], &left);
+    holds(&rt, join(&rt, &mut dag, (0, 4)) == 2);
+    reduce(&rt, rt.alloc(), &mut dag, &[0], &left);
+    for index in [2, 3, 6, 8] {
+        holds(&rt, join(&rt, &mut dag, (0, 1)) == index);
+    }
+}
+
+#[test]
+fn roots_that_miss_change_nothing(rt: HostRuntime) {
+    let all = [(0, 0, 1), (1, 1, 2), (2, 0, 2)];
+    let mut dag: Dag<(), (), u8> = Dag::new(rt.alloc());
+    fill(&rt, &mut dag, 3, &[(0, 1), (1, 2), (0, 2)]);
+    reduce(&rt, rt.alloc(), &mut dag, &[1], &all);
+    reduce(&rt, rt.alloc(), &mut dag, &[99], &all);
+    reduce(&rt, rt.alloc(), &mut dag, &[], &all);
+    reduce(
+        &rt,
+        rt.alloc(),
+        &mut dag,
+        &[0, 9, 0],
+        &[(0, 0, 1), (1, 1, 2)],
+    );
+}
+
+#[test]
+fn nodes_without_edges_are_reduced_already(rt: HostRuntime) {
+    let mut dag: StableDag<(), (), u8> = StableDag::new(rt.alloc());
+    fill(&rt, &mut dag, 3, &[]);
+    reduce(&rt, rt.alloc(), &mut dag, &[0, 0, 9], &[]);
+    holds(&rt, dag.node_count() == 3);
+}
+
+#[test]
+fn all_edges_of_a_pair_stay_or_go(rt: HostRuntime) {
+    let mut dag: Dag<(), (), u8> = Dag::new(rt.alloc());
+    fill(&rt, &mut dag, 4, &[(0, 1), (0, 2), (1, 2), (1, 2), (2, 3)]);
+    let left = [(0, 0, 1), (1, 2, 3), (2, 1, 2), (3, 1, 2)];
+    reduce(&rt, rt.alloc(), &mut dag, &[0], &left);
+}
+
+#[test]
+fn a_full_dag_is_reduced(rt: HostRuntime) {
+    let mut dag: Dag<(), (), u8> = Dag::new(rt.alloc());
+    fill(&rt, &mut dag, 3, &[(0, 1), (1, 2)]);
+    for _ in 0..253 {
+        let _e = join(&rt, &mut dag, (0, 2));
+    }
+    holds(&rt, !dag.can_add_edge());
+    reduce(&rt, rt.alloc(), &mut dag, &[0], &[(0, 0, 1), (1, 1, 2)]);
+    for _ in 0..253 {
+        let _e = join(&rt, &mut dag, (0, 1));
+    }
+    let mut roots = Vec::new(rt.alloc());
+    made(&rt, roots.push(node(&rt, 0)));
+    made(&rt, dag.transitive_reduce(roots));
+    holds(&rt, dag.edge_count() == 255);
 }
