@@ -9,11 +9,9 @@ use Rattle.daggy_reduction.specs.Comparing.{LosesRoundPairs, HaveSameReachabilit
 use Rattle.daggy_reduction.proofs.Surviving.{reduction_loses}
 use Rattle.daggy_reduction.proofs.Keeping.{path_before, same_reachability}
 use Rattle.daggy_reduction.proofs.Covering.{joined_exactly}
-use Rattle.daggy_reduction.proofs.Canonical.{Ends, least, nothing_left, alike_exactly}
+use Rattle.daggy_reduction.proofs.Canonical.{least, nothing_left, alike_exactly}
+use Rattle.daggy_reduction.proofs.Flagged.{joined_exist}
 use Rattle.daggy_reduction.proofs.Descending.{keeps_indices, nodes_kept}
-
-pub ends_of : {N E : Type 0} (limit : ℕ) (g : Graph N E) → IsWellFormed limit g → Ends g
-ends_of limit g w u v j = (w.parents j.0 _ j.2, w.children j.0 _ j.2)
 
 module _ {N E : Type 0} {limit : ℕ} (kind : Kind) (roots : List ℕ) (old new : Graph N E) (acyclic : IsAcyclic old) (w : IsWellFormed limit old) (r : IsReduction kind roots old new) where
   loses : LosesRoundPairs roots old new
@@ -29,7 +27,7 @@ module _ {N E : Type 0} {limit : ℕ} (kind : Kind) (roots : List ℕ) (old new 
   law_nodes = ap (λ (z : Graph N E). z.nodes) r.removed ∙ nodes_kept kind r.redundant old
 
   pub law_covers : JoinsCovers roots old new
-  law_covers u v below = joined_exactly roots old new acyclic loses (ends_of limit old w) u v below
+  law_covers u v below = joined_exactly roots old new acyclic loses (joined_exist limit old w) u v below
 
   pub law_others : JoinsOthers roots old new
   law_others u v out = (
@@ -38,15 +36,15 @@ module _ {N E : Type 0} {limit : ℕ} (kind : Kind) (roots : List ℕ) (old new 
   )
 
   pub law_least : IsLeast roots old new
-  law_least h same u v below j = least roots old new acyclic loses (ends_of limit old w) h same u v below j
+  law_least h same u v below j = least roots old new acyclic loses (joined_exist limit old w) h same u v below j
 
   pub law_none : HasNoneRedundant roots new
-  law_none e red = nothing_left roots old new acyclic loses (ends_of limit old w) red.edge.parent red.edge.child (e, red.edge.weight, red.at) red.below red.round
+  law_none e red = nothing_left roots old new acyclic loses (joined_exist limit old w) red.edge.parent red.edge.child (e, red.edge.weight, red.at) red.below red.round
 
   pub law_canonical : IsCanonical limit roots old new
   law_canonical all h h' other =
-      alike_exactly roots old new acyclic loses (ends_of limit old w) all other.roots h h' other.dag.acyclic
-      (reduction_loses other.kind other.roots h h' other.reduced) (ends_of limit h other.dag.well_formed) other.all other.nodes
+      alike_exactly roots old new acyclic loses (joined_exist limit old w) all other.roots h h' other.dag.acyclic
+      (reduction_loses other.kind other.roots h h' other.reduced) (joined_exist limit h other.dag.well_formed) other.all other.nodes
 
 pub law_indices : {N E : Type 0} (kind : Kind) (roots : List ℕ) (old new : Graph N E) → IsReduction kind roots old new → kind ≡ Stable → KeepsIndices old new
 law_indices {N} {E} kind roots old new r stable =

@@ -13,3 +13,4 @@ pub mod Rooting
 pub mod Sweeping
 pub mod Descending
 pub mod Laws
+pub mod Children

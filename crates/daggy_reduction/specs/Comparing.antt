@@ -11,6 +11,10 @@ module _ {N E M F : Type 0} (g : Graph N E) (h : Graph M F) where
   abbrev pub HaveSameNodes : Type 0
   HaveSameNodes = (n : ℕ) → HasNode g n ↔ HasNode h n
 
+  -- h joins all pairs that g joins
+  abbrev pub JoinsAll : Type 0
+  JoinsAll = (u v : ℕ) → AreJoined g u v → AreJoined h u v
+
   -- the same pairs are joined
   abbrev pub JoinSamePairs : Type 0
   JoinSamePairs = (u v : ℕ) → AreJoined g u v ↔ AreJoined h u v

@@ -3,6 +3,7 @@
 
 mod closure;
 mod flags;
+pub mod pairs;
 pub mod reduce;
 pub mod redundant;
 mod roots;

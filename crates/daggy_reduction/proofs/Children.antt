@@ -1,0 +1,137 @@
+-- The children of a node gone through, edge by edge.
+use Rattle.std.proofs.Common.{◌≡◌, ◌≢◌, ℕ, suc, ◌+◌, ◌<◌, ◌≤◌, Bool, true, false, ◌⊎◌, ◌↔◌, inl, inr, List, length, get_or, drop, set, refl, sym, subst, ◌∙◌, arith, length-set, replicate}
+use Rattle.std.proofs.lemmas.Bool.{false≢true, cases_lt}
+use Rattle.daggy_base.specs.Graph.{Graph, HasEdge, out_list, node_bound}
+use Rattle.daggy_base.specs.Path.{AreJoined}
+use Rattle.daggy_base.specs.Cursor.{first_of}
+use Rattle.daggy_base.specs.WellFormed.{IsWellFormed}
+use Rattle.daggy_base.specs.Look.{IsLook}
+use Rattle.daggy_base.proofs.Reading.{LookedTo, below_bound, read_part, all_read, has_edge, child_exists, child_joined, next_cursor, looked_more}
+use Rattle.daggy_base.proofs.Going.{set_marked}
+use Rattle.daggy_reduction.specs.Comparing.{JoinsAll}
+use Rattle.daggy_reduction.proofs.Flagged.{unmarked}
+
+-- The first edges that leave a node were looked at, and e is the next one. P holds of their children.
+pub record Looking {N E : Type 0} (end : ℕ) (g₀ g : Graph N E) (u e looks₀ looks : ℕ) (P : ℕ → Type 0) : Type 0 where
+  pub same : g ≡ g₀
+  pub passed : ℕ
+  pub cursor : e ≡ first_of end (drop passed (out_list g₀ u))
+  pub within : passed ≤ length (out_list g₀ u)
+  pub counted : looks ≡ looks₀ + passed
+  pub looked : LookedTo end g₀ P u passed
+
+pub looking_starts : {N E : Type 0} {end : ℕ} {g : Graph N E} {u e looks : ℕ} (P : ℕ → Type 0) → e ≡ first_of end (out_list g u) → Looking end g g u e looks looks P
+looking_starts {N} {E} {end} {g} {u} P first =
+    record {
+      same = refl;
+      passed = 0;
+      cursor = first;
+      within = omega arith;
+      counted = omega arith;
+      looked = λ j x lt a. absurd (omega (arith, lt));
+    }
+
+module _ {N E : Type 0} {end : ℕ} {g₀ g : Graph N E} (w : IsWellFormed end g₀) {u e looks₀ looks : ℕ} {P : ℕ → Type 0} (s : Looking end g₀ g u e looks₀ looks P) where
+  pub looking_edge : e ≢ end → HasEdge g e
+  looking_edge here =
+      let H : Graph N E → Type 0 = λ z. HasEdge z e in
+      subst H (sym s.same) (has_edge end g₀ w u s.passed e s.cursor here)
+
+  pub looking_less : e ≢ end → s.passed + 1 ≤ length (out_list g₀ u)
+  looking_less here = omega (arith, (read_part end g₀ w u s.passed e s.cursor here).0)
+
+  -- at `end` P holds of all children
+  pub all_looked : e ≡ end → (v : ℕ) → AreJoined g₀ u v → P v
+  all_looked h v j = all_read end g₀ w u s.passed e s.cursor s.within h P s.looked v j
+
+  module _ (here : e ≢ end) {v next : ℕ} (look : IsLook end g e v next) where
+    look₀ : IsLook end g₀ e v next
+    look₀ = let L : Graph N E → Type 0 = λ z. IsLook end z e v next in subst L s.same look
+
+    pub looked_child : AreJoined g₀ u v
+    looked_child = child_joined end g₀ w u s.passed e s.cursor here v next look₀
+
+    pub looked_low : v < node_bound g₀
+    looked_low = below_bound g₀.nodes v (child_exists end g₀ w u s.passed e s.cursor here v next look₀)
+
+    pub looking_on : {g' : Graph N E} {looks' : ℕ} (Q : ℕ → Type 0) → g' ≡ g → looks' ≡ looks + 1 → ((n : ℕ) → P n → Q n) → Q v → Looking end g₀ g' u next looks₀ looks' Q
+    looking_on Q same' more holds this =
+        record {
+          same = same' ∙ s.same;
+          passed = suc s.passed;
+          cursor = next_cursor end g₀ w u s.passed e s.cursor here v next look₀;
+          within = let less = looking_less here in omega (arith, less);
+          counted = let counted = s.counted in omega (arith, counted, more);
+          looked = looked_more end g₀ w u s.passed e s.cursor here v next look₀ Q (λ j x lt a. holds x.child (s.looked j x lt a)) this;
+        }
+
+-- marked since are children alone
+pub record Marking {N E : Type 0} (g : Graph N E) (u : ℕ) (before marks : List Bool) : Type 0 where
+  pub sized : length marks ≡ length before
+  pub only : (n : ℕ) → get_or marks n false ≡ true → (get_or before n false ≡ true) ⊎ AreJoined g u n
+  pub kept : (n : ℕ) → get_or before n false ≡ true → get_or marks n false ≡ true
+
+pub none_marked : {N E : Type 0} {g : Graph N E} {u : ℕ} {marks : List Bool} → Marking g u marks marks
+none_marked = record { sized = refl; only = λ n m. inl m; kept = λ n m. m }
+
+pub mark_one : {N E : Type 0} {g : Graph N E} {u : ℕ} {before marks : List Bool} → Marking g u before marks → (v : ℕ) → v < length marks → AreJoined g u v → Marking g u before (set marks v true)
+mark_one {N} {E} {g} {u} {before} {marks} s v low joined =
+    record {
+      sized = length-set marks v true ∙ s.sized;
+      only = λ n m. elim ((set_marked marks v n low).0 m) [
+        | inl here ↦ (let J : ℕ → Type 0 = λ z. AreJoined g u z in inr (subst J (sym here) joined))
+        | inr earlier ↦ s.only n earlier
+      ];
+      kept = λ n m. (set_marked marks v n low).1 (inr (s.kept n m));
+    }
+
+-- a marked node stays marked, and the new one is
+pub marks_grow : (marks : List Bool) (v : ℕ) → v < length marks → ((n : ℕ) → get_or marks n false ≡ true → get_or (set marks v true) n false ≡ true) × (get_or (set marks v true) v false ≡ true)
+marks_grow marks v low = (λ n m. (set_marked marks v n low).1 (inr m), (set_marked marks v v low).1 (inl refl))
+
+-- up to a node, h joins all that g joins
+pub record Comparing {N E M F : Type 0} (g₀ g : Graph N E) (h₀ h : Graph M F) (marks₀ marks : List Bool) (bound n : ℕ) : Type 0 where
+  pub same : g ≡ g₀
+  pub other_same : h ≡ h₀
+  pub within : n ≤ bound
+  pub sized : length marks ≡ length marks₀
+  pub joined : (u v : ℕ) → u < n → AreJoined g₀ u v → AreJoined h₀ u v
+
+module _ {N E M F : Type 0} {g₀ g : Graph N E} {h₀ h : Graph M F} {marks₀ marks : List Bool} {bound n : ℕ} (s : Comparing g₀ g h₀ h marks₀ marks bound n) where
+  both_join : (v : ℕ) → AreJoined h n v → AreJoined h₀ n v
+  both_join v j = let J : Graph M F → Type 0 = λ z. AreJoined z n v in subst J s.other_same j
+
+  module _ (size : ℕ) (marks' : List Bool) (marked : (k : ℕ) → (get_or marks' k false ≡ true) ↔ ((get_or (replicate size false) k false ≡ true) ⊎ AreJoined h n k)) where
+    pub compare_on : n < bound → length marks' ≡ length marks → {g' : Graph N E} {h' : Graph M F} → g' ≡ g → h' ≡ h → ((k : ℕ) → AreJoined g n k → get_or marks' k false ≡ true) → Comparing g₀ g' h₀ h' marks₀ marks' bound (n + 1)
+    compare_on low sized {g'} {h'} same other_same all =
+        record {
+          same = same ∙ s.same;
+          other_same = other_same ∙ s.other_same;
+          within = omega (arith, low);
+          sized = sized ∙ s.sized;
+          joined = λ u v lt j. elim (cases_lt u n) [
+            | inl early ↦ s.joined u v early j
+            | inr late ↦ (
+                let here : u ≡ n = omega (arith, lt, late) in
+                let A : ℕ → Type 0 = λ z. AreJoined g₀ z v in
+                let B : Graph N E → Type 0 = λ z. AreJoined z n v in
+                let C : ℕ → Type 0 = λ z. AreJoined h₀ z v in
+                subst C (sym here) (elim ((marked v).0 (all v (subst B (sym s.same) (subst A here j)))) [
+                  | inl before ↦ absurd (false≢true (sym (unmarked size v) ∙ before))
+                  | inr joined ↦ both_join v joined
+                ])
+                )
+          ];
+        }
+
+    -- where all pairs are joined, all these children are marked
+    pub all_marked_if : JoinsAll g₀ h₀ → (k : ℕ) → AreJoined g n k → get_or marks' k false ≡ true
+    all_marked_if all k j =
+        let B : Graph N E → Type 0 = λ z. AreJoined z n k in
+        let J : Graph M F → Type 0 = λ z. AreJoined z n k in
+        (marked k).1 (inr (subst J (sym s.other_same) (all n k (subst B s.same j))))
+
+  pub compared : (limit : ℕ) → IsWellFormed limit g₀ → bound ≡ node_bound g₀ → bound ≤ n → JoinsAll g₀ h₀
+  compared limit w is past u v j =
+      let low = below_bound g₀.nodes u (w.parents j.0 _ j.2) in
+      s.joined u v (omega (arith, low, is, past)) j
