@@ -33,9 +33,11 @@ impl<N: Drop, E: Drop, Ix: IndexType> Acyclic<N, E, Ix, StableDiGraph<N, E, Ix>>
         let _well_formed = self.store.node_count();
         let mut scratch = Scratch::new(self.scratch.allocator());
         scratch.reserve(self.store.node_slots(), 0)?;
+        let order = self.order.try_clone()?;
         let store = self.store.map(f, g)?;
         Ok(Acyclic {
             store,
+            order,
             scratch,
             node_weight: PhantomData,
             edge_weight: PhantomData,
@@ -65,10 +67,15 @@ impl<N: Drop, E: Drop, Ix: IndexType> Acyclic<N, E, Ix, StableDiGraph<N, E, Ix>>
     {
         let _well_formed = self.store.node_count();
         let mut scratch = Scratch::new(self.scratch.allocator());
-        scratch.reserve(self.store.node_slots(), 0)?;
+        let slots = self.store.node_slots();
+        scratch.reserve(slots, 0)?;
+        let mut order = self.order.try_clone()?;
         let store = self.store.filter_map(f, g)?;
+        let _joined_nodes = store.node_count();
+        keep_existing(&store, &mut order, slots);
         Ok(Acyclic {
             store,
+            order,
             scratch,
             node_weight: PhantomData,
             edge_weight: PhantomData,
