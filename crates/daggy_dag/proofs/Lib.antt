@@ -1,5 +1,5 @@
 pub mod Writing
-pub mod Lifting
+pub mod Copied
 pub mod Externals
 pub mod Mapped
 pub mod Rewritten
