@@ -1,5 +1,5 @@
 pub mod Writing
-pub mod Copied
+pub mod Kept
 pub mod Externals
 pub mod Mapped
 pub mod Rewritten

@@ -7,7 +7,7 @@ use Rattle.daggy_base.specs.Rewriting.{Leaves, RewritesNodes, RewritesEdges}
 use Rattle.daggy_order.specs.Ordered.{IsOrderOf}
 use Rattle.daggy_order.proofs.OrderLaws.{order_fewer}
 use Rattle.daggy_dag.proofs.Mapped.{mapped_bound, same_nodes, joined_reweighed}
-use Rattle.daggy_dag.proofs.Writing.{IsKept, stays_so}
+use Rattle.daggy_dag.proofs.Kept.{IsKept, stays_so}
 
 module _ {N E F I : Type 0} (room : ℕ) (of : ℕ → I) (f : F) (old new : Graph N E) (order : List ℕ) (kept : IsKept old order room) where
   pub nodes_rewritten : (step : F → I → MutBor N → Unit {0} → MutBor N → F → Type 0) → RewritesNodes of step f old new → IsKept new order room

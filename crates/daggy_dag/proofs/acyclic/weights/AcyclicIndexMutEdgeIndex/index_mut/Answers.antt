@@ -1,4 +1,5 @@
-use Rattle.daggy_dag.proofs.Writing.{edge_written, stays_so}
+use Rattle.daggy_dag.proofs.Kept.{stays_so}
+use Rattle.daggy_dag.proofs.Writing.{edge_written}
 use Rattle.daggy_dag.proofs.acyclic.weights.AcyclicIndexMutEdgeIndex.index_mut.Goals as goal
 
 pub invariant_of-self-lent : goal.invariant_of-self-lent

@@ -1,0 +1,5 @@
+use Rattle.daggy_dag.proofs.Kept.{kept_empty}
+use Rattle.daggy_dag.proofs.acyclic.compact.copies.Acyclic+N+E+Ix+DiGraph+N+E+Ix.with_capacity.Goals as goal
+
+pub invariant_of-result : goal.invariant_of-result
+invariant_of-result g c = ?
