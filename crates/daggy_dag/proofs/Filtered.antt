@@ -8,11 +8,11 @@ use Rattle.daggy_base.specs.Graph.{Graph, Edge, HasNode, empty, edge_at, slot, n
 use Rattle.daggy_base.specs.Path.{AreJoined}
 use Rattle.daggy_base.specs.Adding.{taken, next_slot, rest_of, with_node, next_node}
 use Rattle.daggy_base.proofs.Nodes.{bound_low}
-use Rattle.daggy_base.proofs.Reading.{below_bound}
 use Rattle.daggy_base.proofs.Slots.{IsFree, slot_taken, slot_taken_kept, slot_taken_new}
 use Rattle.daggy_base.specs.Filtering.{kept_node, named, kept_edge, both, new_ends, FiltersNodes, FiltersEdge, FiltersEdges, IsFiltered}
 use Rattle.daggy_order.specs.Ordered.{IsOrderOf}
 use Rattle.daggy_order.proofs.OrderLaws.{HasEnds, order_named, some_is}
+use Rattle.daggy_dag.proofs.Kept.{order_below}
 
 module _ {V W : Type 0} where
   -- where no slot is vacant, a node goes behind the others
@@ -264,10 +264,7 @@ module _ {N E V W F G I : Type 0} (of : ℕ → I) (step_f : F → I → Bor N �
     names_many = ap length (sym same) ∙ names_long step_f of f 0 old.nodes empty filtered.names filtered.middle filtered.nodes
 
     pub names_cover : (order copy : List ℕ) → copy ≡ order → IsOrderOf old order → (n : ℕ) → Contains copy n → n < length names
-    names_cover order copy is ord n h =
-        let P : List ℕ → Type 0 = λ z. Contains z n in
-        let there : HasNode old n = (ord.exact n).0 (subst P is h) in
-        omega (arith, below_bound old.nodes n there, bound_low old.nodes, names_many)
+    names_cover order copy is ord = order_below old order copy (length names) names_many is ord
 
     pub order_renamed : (order copy left : List ℕ) → copy ≡ order → left ≡ filter_map (slot names) copy → IsOrderOf old order → IsOrderOf new left
     order_renamed order copy left is named_so ord =

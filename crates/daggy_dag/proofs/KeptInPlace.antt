@@ -1,5 +1,5 @@
 -- Keeping some of the nodes and edges of a dag in their slots keeps the order of its nodes.
-use Rattle.std.proofs.Common.{◌≡◌, ℕ, zero, suc, ◌+◌, ◌<◌, ◌≤◌, Bool, true, false, cond, List, [], ◌∷◌, map, length, take, Contains, Option, Some, None, IsSome, is_some, refl, sym, ap, subst, ◌∙◌, arith}
+use Rattle.std.proofs.Common.{◌≡◌, ℕ, zero, suc, ◌+◌, ◌<◌, ◌≤◌, Bool, true, false, cond, List, [], ◌∷◌, map, length, take, Option, Some, None, IsSome, is_some, refl, sym, ap, subst, ◌∙◌, arith}
 use Rattle.std.specs.List.{filter}
 use Rattle.std.specs.Borrow.{Bor}
 use Rattle.std.specs.Option.{option_map}
@@ -9,7 +9,6 @@ use Rattle.daggy_base.specs.Graph.{Graph, Edge, HasNode, node_weight, slot, edge
 use Rattle.daggy_base.specs.Path.{AreJoined}
 use Rattle.daggy_base.specs.WellFormed.{IsWellFormed}
 use Rattle.daggy_base.proofs.Nodes.{bound_low}
-use Rattle.daggy_base.proofs.Reading.{below_bound}
 use Rattle.daggy_base.specs.FilteringInPlace.{KeepsSlots, if_joined, IsFilteredInPlace}
 use Rattle.daggy_base.specs.Mapping.{weight_in, with_weight}
 use Rattle.daggy_order.specs.Ordered.{IsOrderOf}
@@ -76,12 +75,6 @@ module _ {N E V W F G I : Type 0} (of : ℕ → I) (step_f : F → I → Bor N �
       let P : List ℕ → Type 0 = λ z. IsOrderOf new z in
       let test : ℕ → Bool = λ n. is_some (node_weight new n) in
       subst P (sym (is ∙ ap (filter test) same)) (order_filtered order ord (ends_exist w) test (λ n. (λ h. (was_there n h, h), λ h. h.1)) joined_before)
-
-  -- each node of the order is below the number of slots
-  pub order_below : (order copy : List ℕ) (slots : ℕ) → slots ≡ length old.nodes → copy ≡ order → IsOrderOf old order → (n : ℕ) → Contains copy n → n < slots
-  order_below order copy slots many same ord n h =
-      let P : List ℕ → Type 0 = λ z. Contains z n in
-      omega (arith, many, below_bound old.nodes n ((ord.exact n).0 (subst P same h)), bound_low old.nodes)
 
   pub fits_kept : (slots room : ℕ) → slots ≡ length old.nodes → slots ≤ room → node_bound new ≤ room
   fits_kept slots room many fits =

@@ -6,3 +6,4 @@ pub mod Rewritten
 pub mod Filtered
 pub mod KeptInPlace
 pub mod Walking
+pub mod Staying

@@ -182,6 +182,9 @@ impl<N, E, Ix: IndexType> DiGraph<N, E, Ix> {
         requires nodes { F.IsAlwaysCallable f }
         requires edges { G.IsAlwaysCallable g }
         ensures filtered { IfOk result (λ made. IsFilteredAs Ix.of F.step G.step f g made.1.items self.now.graph made.0.graph) }
+        ensures descending { IfOk result (λ made. ListsDescend made.0.graph) }
+        ensures whole { IfOk result (λ made. length made.0.graph.nodes ≡ length self.now.graph.nodes
+            → length made.0.graph.edges ≡ length self.now.graph.edges → HaveSameEnds self.now.graph made.0.graph) }
         ensures looks { IfOk result (λ made. made.0.looks ≡ 0) }
     {
         let alloc = *self.nodes.allocator();
