@@ -1,5 +1,5 @@
 -- The loop of `extend_all`: the graph is extended by the items so far.
-use Rattle.std.proofs.Common.{◌≡◌, ℕ, ◌+◌, ◌-◌, ◌*◌, ◌≤◌, List, [], ◌∷◌, ◌++◌, map, Option, suc, refl, sym, ap, subst, ◌∙◌, add-one, arith}
+use Rattle.std.proofs.Common.{◌≡◌, ℕ, ◌+◌, ◌-◌, ◌*◌, ◌≤◌, List, [], ◌∷◌, ◌++◌, map, Option, refl, sym, ap, subst, ◌∙◌, add-one, arith}
 use Rattle.std.proofs.Math.Nat.{suc-mul, mul-suc}
 use Rattle.std.specs.List.{AllZip, FoldsTo}
 use Rattle.std.specs.Iterator.{Yields, Drains}

@@ -1,5 +1,5 @@
 -- An order of the nodes, before and after a change that a guard makes.
-use Rattle.std.proofs.Common.{◌≡◌, ℕ, ◌-◌, ◌<◌, ◌≤◌, Bool, true, false, not, List, [], ◌∷◌, ◌++◌, zero, suc, eqb, slice_get, length, set, take, drop, map, Result, Ok, Err, OnOk, OnErr, Option, Some, None, OnSome, IfNone, IsSome, get_or, refl, sym, ap, subst, ◌∙◌, arith}
+use Rattle.std.proofs.Common.{◌≡◌, ℕ, ◌-◌, ◌<◌, ◌≤◌, true, false, not, List, [], ◌∷◌, ◌++◌, zero, suc, eqb, slice_get, length, set, take, drop, map, Result, Ok, Err, OnOk, OnErr, Option, Some, None, OnSome, IfNone, IsSome, get_or, refl, sym, ap, subst, ◌∙◌, arith}
 use Rattle.std.specs.List.{Contains}
 use Rattle.std.proofs.lemmas.Bool.{eqb-true, eq-eqb, ne_eqb}
 use Rattle.std.proofs.lemmas.List.{take-append-drop, length-take, length-set}
@@ -22,7 +22,7 @@ use Rattle.daggy_order.proofs.Sorted.{unique_left, mem_filter, filter_mem}
 use Rattle.daggy_order.proofs.Standing.{is_held, held_is}
 use Rattle.daggy_order.proofs.Bounded.{lists_length}
 use Rattle.daggy_order.proofs.OrderLaws.{acyclic_from_order, order_with_edge, order_with_node_last, order_with_node_first, order_before_node, order_with_child, order_with_parent, order_without_edge, order_without_node, nodes_isolated, none_renamed}
-use Rattle.daggy_guard.specs.Ends.{with_end}
+use Rattle.daggy_guard.specs.NewNode.{with_end}
 
 pub order_kept : {N E : Type 0} {old new : Graph N E} {order : List ℕ} → IsOrderOf old order → new ≡ old → IsOrderOf new order
 order_kept {N} {E} {old} {new} {order} ord same = let P : Graph N E → Type 0 = λ z. IsOrderOf z order in subst P (sym same) ord

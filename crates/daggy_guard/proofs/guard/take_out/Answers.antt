@@ -1,4 +1,4 @@
-use Rattle.std.proofs.Common.{◌≡◌, ◌∙◌, inl, sym, subst, ℕ}
+use Rattle.std.proofs.Common.{◌∙◌, inl, sym, subst, ℕ}
 use Rattle.std.specs.List.{Contains}
 use Rattle.std.proofs.lemmas.Bool.{false≢true}
 use Rattle.daggy_guard.proofs.Ordering.{not_there, still_there, nothing_renamed}

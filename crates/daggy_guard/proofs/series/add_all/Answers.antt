@@ -3,7 +3,7 @@ use Rattle.std.specs.Iterator.{Yields}
 use Rattle.daggy_order.proofs.OrderLaws.{acyclic_from_order}
 use Rattle.daggy_guard.proofs.Iterating.{yields_more, drained}
 use Rattle.daggy_guard.proofs.Ordering.{order_kept}
-use Rattle.daggy_guard.proofs.SeriesSteps.{adding_starts, adding_on, order_then, refused_at, closes_cycle, is_added, series_kept, few_added, few_in_cycle, few_at_fault}
+use Rattle.daggy_guard.proofs.SeriesSteps.{adding_on, order_then, refused_at, closes_cycle, is_added, series_kept, few_added, few_in_cycle, few_at_fault}
 use Rattle.daggy_guard.proofs.series.add_all.Goals as goal
 
 pub items-preserved : goal.items-preserved
