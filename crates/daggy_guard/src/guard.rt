@@ -1,13 +1,13 @@
 //! The changes that keep any store acyclic. Both kinds of dag are made of them.
-ghost use Rattle.std.specs.Prelude.{◌≡◌, ℕ, ◌+◌, ◌<◌, ◌≤◌, ◌↔◌, ◌⊎◌, List, Contains, Err, None, IfOk, OnOk, IfErr, OnErr, OnSome, IfSome, IfNone, IsOkAnd};
-ghost use Rattle.daggy_base.specs.Graph.{HasNode, node_weight, node_count, edge_count, node_bound};
+ghost use Rattle.std.specs.Prelude.{◌≡◌, ℕ, ◌+◌, ◌<◌, ◌≤◌, ◌↔◌, ◌⊎◌, true, false, List, Contains, map, Err, None, IfOk, OnOk, IfErr, OnErr, OnSome, IfSome, IfNone, IsOkAnd};
+ghost use Rattle.daggy_base.specs.Graph.{Graph, HasNode, node_weight, node_count, edge_count, node_bound};
 ghost use Rattle.daggy_base.specs.Path.{Reaches, IsAcyclic};
 ghost use Rattle.daggy_base.specs.Adding.{next_node, next_edge, with_node, with_edge, with_link, with_neighbor, ComesFirst};
 ghost use Rattle.daggy_base.specs.Finding.{find_edge as edge_between};
 ghost use Rattle.daggy_base.specs.Weights.{edge_weight, with_edge_weight};
-ghost use Rattle.daggy_base.specs.Removal.{without_edge, without_node};
+ghost use Rattle.daggy_base.specs.Removal.{without, renamed, without_edge, without_node};
 ghost use Rattle.daggy_order.specs.Ordered.{IsOrderOf};
-ghost use Rattle.daggy_guard.specs.Ends.{with_end};
+ghost use Rattle.daggy_guard.specs.NewNode.{IsAddedNode, with_end};
 ghost use Rattle.daggy_base.specs.declared.error.NodeError.TheVariants.{Memory as NodeMemory};
 ghost use Rattle.daggy_base.specs.declared.error.EdgeError.TheVariants.{WouldCycle as ByCycle, Memory as EdgeMemory};
 ghost use Rattle.daggy_base.specs.declared.error.ChildError.TheVariants.{Memory as ChildMemory};
@@ -37,6 +37,24 @@ fn put<Ix: IndexType>(
     }
 }
 
+// Takes back a node that was just added, and hands its weight back. There were so many slots before.
+#[inline]
+fn take_back<Ix: IndexType, S: Store<Ix>>(
+    store: &mut S,
+    n: NodeIndex<Ix>,
+    slots: usize,
+) -> S::NodeWeight
+    requires added { (old : Graph S.NodeWeight S.EdgeWeight) × (w : S.NodeWeight)
+        × IsAddedNode Ix.greatest S.kind old (S.graph store.old) w (Ix.number n) slots }
+    ensures undone { (old : Graph S.NodeWeight S.EdgeWeight) (w : S.NodeWeight)
+        → IsAddedNode Ix.greatest S.kind old (S.graph store.old) w (Ix.number n) slots → S.graph store.new ≡ old }
+    ensures returned { (old : Graph S.NodeWeight S.EdgeWeight) (w : S.NodeWeight)
+        → IsAddedNode Ix.greatest S.kind old (S.graph store.old) w (Ix.number n) slots → result ≡ w }
+    ensures counted { S.looks store.new ≡ S.looks store.old }
+{
+    store.take_back_node(n, slots <= n.index())
+}
+
 // Adds a node, and puts it last in the order, or first. The scratch fits a search of the graph with that node then.
 #[inline]
 fn put_node<Ix: IndexType, S: Store<Ix>>(
@@ -49,8 +67,8 @@ fn put_node<Ix: IndexType, S: Store<Ix>>(
     requires room { node_count (S.graph store.old) < Ix.greatest }
     requires fits { node_bound (S.graph store.old) ≤ scratch.old.nodes }
     requires ordered { IsOrderOf (S.graph store.old) order.old }
-    ensures added { IfOk result (λ n. (Ix.number n ≡ next_node (S.graph store.old))
-        × (S.graph store.new ≡ with_node (S.graph store.old) weight)) }
+    ensures index { IfOk result (λ n. Ix.number n ≡ next_node (S.graph store.old)) }
+    ensures added { OnOk result (S.graph store.new ≡ with_node (S.graph store.old) weight) }
     ensures put { OnOk result (order.new ≡ with_end dir order.old (next_node (S.graph store.old))) }
     ensures refusal { IfErr result (λ e. e ≡ NodeMemory weight) }
     ensures unchanged { OnErr result (S.graph store.new ≡ S.graph store.old) }
@@ -70,7 +88,7 @@ fn put_node<Ix: IndexType, S: Store<Ix>>(
     match put(order, dir, n) {
         Ok(()) => Ok(n),
         Err(_) => {
-            let weight = store.take_back_node(n, old_slots <= n.index());
+            let weight = take_back(store, n, old_slots);
             Err(NodeError::Memory(weight))
         }
     }
@@ -234,7 +252,7 @@ pub fn add_neighbor<Ix: IndexType, S: Store<Ix>>(
         Ok(e) => Ok((e, new)),
         Err(error) => {
             order.remove(new);
-            let weight = store.take_back_node(new, slots <= new.index());
+            let weight = take_back(store, new, slots);
             Err(ChildError::Memory(error.into_weight(), weight))
         }
     }
@@ -256,6 +274,22 @@ pub fn remove_edge<Ix: IndexType, S: Store<Ix>>(
     store.remove_edge(e)
 }
 
+// Takes a removed node out of an order. If the node of the index `last` was moved to its index, it is renamed.
+#[inline]
+fn take_out<Ix: IndexType>(order: &mut Order<Ix>, n: NodeIndex<Ix>, last: usize, moved: bool)
+    requires held { Contains order.old (Ix.number n) }
+    requires last { moved ≡ true → Contains order.old last }
+    requires real { last < Ix.greatest }
+    requires lower { Ix.number n ≤ last }
+    ensures moved { moved ≡ true → order.new ≡ map (renamed last (Ix.number n)) (without (Ix.number n) order.old) }
+    ensures stayed { moved ≡ false → order.new ≡ without (Ix.number n) order.old }
+{
+    order.remove(n);
+    if moved && n.index() != last {
+        order.rename(NodeIndex::new(last), n);
+    }
+}
+
 /// Removes a node with its edges, if it is there, and takes it out of the order.
 pub fn remove_node<Ix: IndexType, S: Store<Ix>>(
     store: &mut S,
@@ -274,10 +308,8 @@ pub fn remove_node<Ix: IndexType, S: Store<Ix>>(
     let _well_formed = store.node_count();
     let slots = store.node_slots();
     let weight = store.remove_node(n)?;
-    order.remove(n);
     let last = slots - 1;
-    if store.node_slots() == last && n.index() != last {
-        order.rename(NodeIndex::new(last), n);
-    }
+    let moved = store.node_slots() == last;
+    take_out(order, n, last, moved);
     Some(weight)
 }

@@ -86,6 +86,7 @@ fn order_item<Ix: IndexType, S: Store<Ix>>(
     ensures counted { S.looks store.new ≤ S.looks store.old + edge_count (S.graph store.old) }
     ensures room { scratch.new ≡ scratch.old }
 {
+    let _well_formed = store.node_count();
     cyclic || !order_edge(store, order, a, b, scratch)
 }
 
