@@ -1,16 +1,18 @@
--- Keeping some of the nodes and edges of a dag gives a dag.
-use Rattle.std.proofs.Common.{◌≡◌, ℕ, zero, suc, ◌+◌, ◌≤◌, ◌⊎◌, inl, inr, List, [], ◌∷◌, length, Option, Some, None, refl, sym, ap, ◌∙◌, arith}
+-- Keeping some of the nodes and edges of a dag keeps the order of its nodes, under their new names.
+use Rattle.std.proofs.Common.{◌≡◌, ℕ, zero, suc, ◌+◌, ◌<◌, ◌≤◌, ◌⊎◌, ◌↔◌, inl, inr, List, [], ◌∷◌, length, Contains, Option, Some, None, IsSome, is_some, refl, sym, ap, subst, ◌∙◌, arith}
+use Rattle.std.specs.List.{filter_map}
 use Rattle.std.specs.Borrow.{Bor}
 use Rattle.std.proofs.lemmas.Option.{same_Some, none-some}
 use Rattle.std.proofs.lemmas.List.{length_push}
-use Rattle.daggy_base.specs.Graph.{Graph, Edge, empty, edge_at, slot, node_bound}
-use Rattle.daggy_base.specs.Path.{AreJoined, IsAcyclic}
-use Rattle.daggy_base.specs.WellFormed.{IsWellFormed}
+use Rattle.daggy_base.specs.Graph.{Graph, Edge, HasNode, empty, edge_at, slot, node_bound}
+use Rattle.daggy_base.specs.Path.{AreJoined}
 use Rattle.daggy_base.specs.Adding.{taken, next_slot, rest_of, with_node, next_node}
 use Rattle.daggy_base.proofs.Nodes.{bound_low}
-use Rattle.daggy_base.proofs.Slots.{slot_taken}
+use Rattle.daggy_base.proofs.Slots.{IsFree, slot_taken, slot_taken_kept, slot_taken_new}
 use Rattle.daggy_base.specs.Filtering.{kept_node, named, kept_edge, both, new_ends, FiltersNodes, FiltersEdge, FiltersEdges, IsFiltered}
-use Rattle.daggy_dag.proofs.Lifting.{WereJoined, acyclic_lifted}
+use Rattle.daggy_order.specs.Ordered.{IsOrderOf}
+use Rattle.daggy_order.proofs.OrderLaws.{HasEnds, order_named, some_is}
+use Rattle.daggy_dag.proofs.Kept.{order_below}
 
 module _ {V W : Type 0} where
   -- where no slot is vacant, a node goes behind the others
@@ -39,6 +41,21 @@ module _ {V W : Type 0} where
   not_fewer h None none = omega arith
   not_fewer h (Some v) none = omega (arith, as_many_nodes h v none)
 
+  none_taken : (h : Graph V W) → h.vacant_nodes ≡ [] → IsFree h.nodes h.vacant_nodes
+  none_taken h none = let P : List ℕ → Type 0 = λ z. IsFree h.nodes z in subst P (sym none) tt
+
+  node_remains : (h : Graph V W) (r : Option V) → h.vacant_nodes ≡ [] → (k : ℕ) (y : V) → slot h.nodes k ≡ Some y → slot (kept_node h r).nodes k ≡ Some y
+  node_remains h None none k y at = at
+  node_remains h (Some v) none k y at = slot_taken_kept h.nodes h.vacant_nodes v k y (none_taken h none) at
+
+  node_came : (h : Graph V W) (r : Option V) (k : ℕ) (y : V) → slot (kept_node h r).nodes k ≡ Some y → (named h r ≡ Some k) ⊎ (slot h.nodes k ≡ Some y)
+  node_came h None k y at = inr at
+  node_came h (Some v) k y at =
+      elim (slot_taken h.nodes h.vacant_nodes v k y at) [
+        | inl new ↦ inl (ap Some (sym new.0))
+        | inr old ↦ inr old
+      ]
+
 module _ {N V W F I : Type 0} (step : F → I → Bor N → Option V → F → Type 0) (of : ℕ → I) where
   -- each name is the index of a node that was added
   names_from : (f : F) (i : ℕ) (xs : List (Option N)) (h : Graph V W) (names : List (Option ℕ)) (new : Graph V W) → h.vacant_nodes ≡ [] → FiltersNodes step of f i xs h names new
@@ -65,6 +82,55 @@ module _ {N V W F I : Type 0} (step : F → I → Bor N → Option V → F → T
       absurd (omega (arith, (named_next h r k none (ap (λ z. slot z zero) (sym is) ∙ q)).1, names_from next (i + 1) xs (kept_node h r) rest new (none_vacant h r none) more a k (ap (λ z. slot z (suc a)) (sym is) ∙ p)))
   one_name f i (Some x ∷ xs) h names new none (r, next, called, rest, is, more) k (suc a) (suc b) p q =
       ap suc (one_name next (i + 1) xs (kept_node h r) rest new (none_vacant h r none) more k a b (ap (λ z. slot z (suc a)) (sym is) ∙ p) (ap (λ z. slot z (suc b)) (sym is) ∙ q))
+
+  -- there is a name for each slot, vacant or not
+  names_long : (f : F) (i : ℕ) (xs : List (Option N)) (h : Graph V W) (names : List (Option ℕ)) (new : Graph V W) → FiltersNodes step of f i xs h names new → length names ≡ length xs
+  names_long f i [] h names new (nil, same) = ap length nil
+  names_long f i (None ∷ xs) h names new (rest, is, more) = ap length is ∙ ap suc (names_long f (i + 1) xs h rest new more)
+  names_long f i (Some x ∷ xs) h names new (r, next, called, rest, is, more) = ap length is ∙ ap suc (names_long next (i + 1) xs (kept_node h r) rest new more)
+
+  -- what was added stays
+  nodes_remain : (f : F) (i : ℕ) (xs : List (Option N)) (h : Graph V W) (names : List (Option ℕ)) (new : Graph V W) → h.vacant_nodes ≡ [] → FiltersNodes step of f i xs h names new
+      → (k : ℕ) (y : V) → slot h.nodes k ≡ Some y → slot new.nodes k ≡ Some y
+  nodes_remain f i [] h names new none (nil, same) k y at = ap (λ (z : Graph V W). slot z.nodes k) same ∙ at
+  nodes_remain f i (None ∷ xs) h names new none (rest, is, more) k y at = nodes_remain f (i + 1) xs h rest new none more k y at
+  nodes_remain f i (Some x ∷ xs) h names new none (r, next, called, rest, is, more) k y at = nodes_remain next (i + 1) xs (kept_node h r) rest new (none_vacant h r none) more k y (node_remains h r none k y at)
+
+  -- a node that got a name existed, and the name is the index of one that exists
+  named_at : (f : F) (i : ℕ) (xs : List (Option N)) (h : Graph V W) (names : List (Option ℕ)) (new : Graph V W) → h.vacant_nodes ≡ [] → FiltersNodes step of f i xs h names new
+      → (a k : ℕ) → slot names a ≡ Some k → IsSome (slot xs a) × IsSome (slot new.nodes k) × (k ≤ length h.nodes + a)
+  named_at f i [] h names new none (nil, same) a k at = absurd (none-some k (ap (λ z. slot z a) (sym nil) ∙ at))
+  named_at f i (None ∷ xs) h names new none (rest, is, more) zero k at = absurd (none-some k (ap (λ z. slot z zero) (sym is) ∙ at))
+  named_at f i (None ∷ xs) h names new none (rest, is, more) (suc a) k at =
+      let later = named_at f (i + 1) xs h rest new none more a k (ap (λ z. slot z (suc a)) (sym is) ∙ at) in (later.0, later.1, omega (arith, later.2))
+  named_at f i (Some x ∷ xs) h names new none (None, next, called, rest, is, more) zero k at = absurd (none-some k (ap (λ z. slot z zero) (sym is) ∙ at))
+  named_at f i (Some x ∷ xs) h names new none (Some v, next, called, rest, is, more) zero k at =
+      let here : named h (Some v) ≡ Some k = ap (λ z. slot z zero) (sym is) ∙ at in
+      let index : k ≡ length h.nodes = (named_next h (Some v) k none here).0 in
+      let P : ℕ → Type 0 = λ z. slot (with_node h v).nodes z ≡ Some v in
+      let added : slot (with_node h v).nodes k ≡ Some v = subst P (same_Some (next_node h) k here) (slot_taken_new h.nodes h.vacant_nodes v (none_taken h none)) in
+      (refl, ap is_some (nodes_remain next (i + 1) xs (with_node h v) rest new (none_vacant h (Some v) none) more k v added), omega (arith, index))
+  named_at f i (Some x ∷ xs) h names new none (r, next, called, rest, is, more) (suc a) k at =
+      let later = named_at next (i + 1) xs (kept_node h r) rest new (none_vacant h r none) more a k (ap (λ z. slot z (suc a)) (sym is) ∙ at) in
+      (later.0, later.1, omega (arith, later.2, more_nodes h r none))
+
+  -- each node got its index as a name, or was there before
+  came_from : (f : F) (i : ℕ) (xs : List (Option N)) (h : Graph V W) (names : List (Option ℕ)) (new : Graph V W) → FiltersNodes step of f i xs h names new
+      → (k : ℕ) (y : V) → slot new.nodes k ≡ Some y → ((a : ℕ) × (slot names a ≡ Some k)) ⊎ (slot h.nodes k ≡ Some y)
+  came_from f i [] h names new (nil, same) k y at = inr (ap (λ (z : Graph V W). slot z.nodes k) (sym same) ∙ at)
+  came_from f i (None ∷ xs) h names new (rest, is, more) k y at =
+      elim (came_from f (i + 1) xs h rest new more k y at) [
+        | inl c ↦ inl (suc c.0, ap (λ z. slot z (suc c.0)) is ∙ c.1)
+        | inr q ↦ inr q
+      ]
+  came_from f i (Some x ∷ xs) h names new (r, next, called, rest, is, more) k y at =
+      elim (came_from next (i + 1) xs (kept_node h r) rest new more k y at) [
+        | inl c ↦ inl (suc c.0, ap (λ z. slot z (suc c.0)) is ∙ c.1)
+        | inr q ↦ elim (node_came h r k y q) [
+          | inl named_so ↦ inl (zero, ap (λ z. slot z zero) is ∙ named_so)
+          | inr old ↦ inr old
+        ]
+      ]
 
   -- no edge was added, and no more nodes than there were
   no_edges : (f : F) (i : ℕ) (xs : List (Option N)) (h : Graph V W) (names : List (Option ℕ)) (new : Graph V W) → FiltersNodes step of f i xs h names new → new.edges ≡ h.edges
@@ -150,27 +216,61 @@ both_named (Some x) (Some y) a b is = let s = same_Some (x, y) (a, b) is in (ap 
 
 module _ {N E V W F G I : Type 0} (of : ℕ → I) (step_f : F → I → Bor N → Option V → F → Type 0) (step_g : G → I → Bor E → Option W → G → Type 0) (f : F) (g : G) (old : Graph N E) (new : Graph V W)
     (filtered : IsFiltered of step_f step_g f g old new) where
-  joined_before : (end : ℕ) → IsWellFormed end old → (u v : ℕ) → AreJoined new u v → WereJoined old (λ k a. slot filtered.names a ≡ Some k) u v
-  joined_before end w u v j =
+  was_joined : (k l : ℕ) → AreJoined new k l → (u v : ℕ) × (slot filtered.names u ≡ Some k) × (slot filtered.names v ≡ Some l) × AreJoined old u v
+  was_joined k l j =
       elim (edges_from step_g of filtered.names g 0 old.edges filtered.middle new filtered.edges j.0 _ j.2) [
         | inl c ↦ (
-            let b = both_named (slot filtered.names c.edge.parent) (slot filtered.names c.edge.child) u v c.ends in
-            record {
-              parent = c.edge.parent;
-              child = c.edge.child;
-              parent_was = b.0;
-              child_was = b.1;
-              has_parent = w.parents c.index c.edge c.at;
-              joined = (c.index, c.edge.weight, c.at);
-              has_child = w.children c.index c.edge c.at;
-            }
+            let b = both_named (slot filtered.names c.edge.parent) (slot filtered.names c.edge.child) k l c.ends in
+            (c.edge.parent, c.edge.child, b.0, b.1, (c.index, c.edge.weight, c.at))
             )
         | inr q ↦ absurd (none-some _ (ap (λ z. slot z j.0) (sym (no_edges step_f of f 0 old.nodes empty filtered.names filtered.middle filtered.nodes)) ∙ q))
       ]
 
-  pub acyclic_filtered : (end : ℕ) → IsWellFormed end old → IsAcyclic old → IsAcyclic new
-  acyclic_filtered end w acyclic =
-      acyclic_lifted old new (λ k a. slot filtered.names a ≡ Some k) (one_name step_f of f 0 old.nodes empty filtered.names filtered.middle refl filtered.nodes) (joined_before end w) acyclic
+  nodes_are : new.nodes ≡ filtered.middle.nodes
+  nodes_are = same_nodes step_g of filtered.names g 0 old.edges filtered.middle new filtered.edges
+
+  has_name : (a k : ℕ) → slot filtered.names a ≡ Some k → HasNode old a × HasNode new k × (k ≤ a)
+  has_name a k at =
+      let n = named_at step_f of f 0 old.nodes empty filtered.names filtered.middle refl filtered.nodes a k at in
+      let P : List (Option V) → Type 0 = λ z. IsSome (slot z k) in
+      (n.0, subst P (sym nodes_are) n.1, omega (arith, n.2))
+
+  has_node : (k : ℕ) → HasNode new k ↔ ((a : ℕ) × HasNode old a × (slot filtered.names a ≡ Some k))
+  has_node k = (
+    λ h.
+        let w = some_is (slot new.nodes k) h in
+        elim (came_from step_f of f 0 old.nodes empty filtered.names filtered.middle filtered.nodes k w.0 (ap (λ z. slot z k) (sym nodes_are) ∙ w.1)) [
+          | inl c ↦ (c.0, (has_name c.0 k c.1).0, c.1)
+          | inr none ↦ absurd (none-some w.0 none)
+        ],
+    λ h. (has_name h.0 k h.2).1,
+  )
+
+  ends_named : HasEnds new
+  ends_named k l j =
+      let was = was_joined k l j in
+      ((has_name was.0 k was.2).1, (has_name was.1 l was.3).1)
+
+  -- what is asked of new names
+  module _ (names : List (Option ℕ)) (same : filtered.names ≡ names) where
+    pub names_lower : (a k : ℕ) → slot names a ≡ Some k → k ≤ a
+    names_lower a k at = (has_name a k (ap (λ z. slot z a) same ∙ at)).2
+
+    pub names_differ : (a b k : ℕ) → slot names a ≡ Some k → slot names b ≡ Some k → a ≡ b
+    names_differ a b k p q =
+        one_name step_f of f 0 old.nodes empty filtered.names filtered.middle refl filtered.nodes k a b (ap (λ z. slot z a) same ∙ p) (ap (λ z. slot z b) same ∙ q)
+
+    pub names_many : length names ≡ length old.nodes
+    names_many = ap length (sym same) ∙ names_long step_f of f 0 old.nodes empty filtered.names filtered.middle filtered.nodes
+
+    pub names_cover : (order copy : List ℕ) → copy ≡ order → IsOrderOf old order → (n : ℕ) → Contains copy n → n < length names
+    names_cover order copy is ord = order_below old order copy (length names) names_many is ord
+
+    pub order_renamed : (order copy left : List ℕ) → copy ≡ order → left ≡ filter_map (slot names) copy → IsOrderOf old order → IsOrderOf new left
+    order_renamed order copy left is named_so ord =
+        let P : List ℕ → Type 0 = λ z. IsOrderOf new z in
+        let whole : left ≡ filter_map (slot filtered.names) order = named_so ∙ (ap (λ z. filter_map (slot z) copy) (sym same) ∙ ap (filter_map (slot filtered.names)) is) in
+        subst P (sym whole) (order_named order ord ends_named (slot filtered.names) (λ u v k p q. one_name step_f of f 0 old.nodes empty filtered.names filtered.middle refl filtered.nodes k u v p q) has_node was_joined)
 
   pub fits_filtered : (slots room : ℕ) → slots ≡ length old.nodes → slots ≤ room → node_bound new ≤ room
   fits_filtered slots room many fits =

@@ -1,16 +1,18 @@
--- Keeping some of the nodes and edges of a dag in their slots gives a dag.
-use Rattle.std.proofs.Common.{◌≡◌, ℕ, zero, suc, ◌+◌, ◌≤◌, Bool, true, false, cond, List, [], ◌∷◌, map, length, take, Option, Some, None, is_some, refl, sym, ap, ◌∙◌, arith}
+-- Keeping some of the nodes and edges of a dag in their slots keeps the order of its nodes.
+use Rattle.std.proofs.Common.{◌≡◌, ℕ, zero, suc, ◌+◌, ◌<◌, ◌≤◌, Bool, true, false, cond, List, [], ◌∷◌, map, length, take, Option, Some, None, IsSome, is_some, refl, sym, ap, subst, ◌∙◌, arith}
+use Rattle.std.specs.List.{filter}
 use Rattle.std.specs.Borrow.{Bor}
 use Rattle.std.specs.Option.{option_map}
 use Rattle.std.proofs.lemmas.List.{length-take-le}
 use Rattle.std.proofs.lemmas.Option.{same_Some, none-some}
-use Rattle.daggy_base.specs.Graph.{Graph, Edge, slot, edge_at, node_bound}
-use Rattle.daggy_base.specs.Path.{IsAcyclic}
+use Rattle.daggy_base.specs.Graph.{Graph, Edge, HasNode, node_weight, slot, edge_at, node_bound}
+use Rattle.daggy_base.specs.Path.{AreJoined}
 use Rattle.daggy_base.specs.WellFormed.{IsWellFormed}
 use Rattle.daggy_base.proofs.Nodes.{bound_low}
 use Rattle.daggy_base.specs.FilteringInPlace.{KeepsSlots, if_joined, IsFilteredInPlace}
 use Rattle.daggy_base.specs.Mapping.{weight_in, with_weight}
-use Rattle.daggy_dag.proofs.Lifting.{acyclic_lifted}
+use Rattle.daggy_order.specs.Ordered.{IsOrderOf}
+use Rattle.daggy_order.proofs.OrderLaws.{ends_exist, order_filtered, some_is}
 
 given : {V B : Type 0} (h : V → B) (r : Option V) (y : B) → option_map h r ≡ Some y → (v : V) × (h v ≡ y)
 given h None y at = absurd (none-some y at)
@@ -52,21 +54,27 @@ joined_slot nodes (y ∷ ys) (suc k) x at = joined_slot nodes ys k x at
 
 module _ {N E V W F G I : Type 0} (of : ℕ → I) (step_f : F → I → Bor N → Option V → F → Type 0) (step_g : G → I → Bor E → Option W → G → Type 0) (f : F) (g : G) (old : Graph N E) (new : Graph V W)
     (filtered : IsFilteredInPlace of step_f step_g f g old new) where
-  pub acyclic_kept : (end : ℕ) → IsWellFormed end old → IsAcyclic old → IsAcyclic new
-  acyclic_kept end w acyclic =
-      acyclic_lifted old new (λ u a. a ≡ u) (λ u a b p q. p ∙ sym q) (λ u v j.
+  joined_before : (u v : ℕ) → AreJoined new u v → AreJoined old u v
+  joined_before u v j =
       let m = kept_slot step_g of weight_in with_weight g 0 _ filtered.edges filtered.keeps_edges j.0 _ (ap (λ (z : Graph V W). edge_at z j.0) (sym filtered.is) ∙ j.2) in
       let x = m.0 in
       let there : edge_at old j.0 ≡ Some x = taken_slot _ old.edges j.0 x (joined_slot filtered.nodes _ j.0 x m.2) in
-      record {
-        parent = x.parent;
-        child = x.child;
-        parent_was = ap (λ (y : Edge W). y.parent) m.3;
-        child_was = ap (λ (y : Edge W). y.child) m.3;
-        has_parent = w.parents j.0 x there;
-        joined = (j.0, x.weight, there);
-        has_child = w.children j.0 x there;
-      }) acyclic
+      let P : ℕ → Type 0 = λ z. AreJoined old z v in
+      let Q : ℕ → Type 0 = λ z. AreJoined old x.parent z in
+      subst P (ap (λ (y : Edge W). y.parent) m.3) (subst Q (ap (λ (y : Edge W). y.child) m.3) (j.0, x.weight, there))
+
+  was_there : (n : ℕ) → HasNode new n → HasNode old n
+  was_there n h =
+      let w = some_is (node_weight new n) h in
+      let m = kept_slot step_f of (λ w. w) (λ w v. v) f 0 _ filtered.nodes filtered.keeps_nodes n w.0 (ap (λ (z : Graph V W). node_weight z n) (sym filtered.is) ∙ w.1) in
+      let P : Option N → Type 0 = λ z. IsSome z in
+      subst P (sym (taken_slot _ old.nodes n m.0 m.2)) refl
+
+  pub order_kept : (end : ℕ) (order copy left : List ℕ) → IsWellFormed end new → copy ≡ order → left ≡ filter (λ n. is_some (node_weight new n)) copy → IsOrderOf old order → IsOrderOf new left
+  order_kept end order copy left w same is ord =
+      let P : List ℕ → Type 0 = λ z. IsOrderOf new z in
+      let test : ℕ → Bool = λ n. is_some (node_weight new n) in
+      subst P (sym (is ∙ ap (filter test) same)) (order_filtered order ord (ends_exist w) test (λ n. (λ h. (was_there n h, h), λ h. h.1)) joined_before)
 
   pub fits_kept : (slots room : ℕ) → slots ≡ length old.nodes → slots ≤ room → node_bound new ≤ room
   fits_kept slots room many fits =

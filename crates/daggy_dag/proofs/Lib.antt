@@ -1,5 +1,5 @@
 pub mod Writing
-pub mod Lifting
+pub mod Kept
 pub mod Externals
 pub mod Mapped
 pub mod Rewritten
@@ -7,3 +7,4 @@ pub mod Filtered
 pub mod KeptInPlace
 pub mod Walking
 pub mod Reduced
+pub mod Staying

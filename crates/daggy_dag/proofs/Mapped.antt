@@ -1,14 +1,14 @@
--- Mapping the weights of a dag gives a dag.
-use Rattle.std.proofs.Common.{◌≡◌, ℕ, zero, suc, ◌+◌, ◌≤◌, List, [], ◌∷◌, length, Option, Some, None, refl, sym, ap, ◌∙◌, arith}
+-- Mapping the weights of a dag keeps its order.
+use Rattle.std.proofs.Common.{◌≡◌, ℕ, zero, suc, ◌+◌, ◌≤◌, ◌↔◌, List, [], ◌∷◌, length, Option, Some, None, IsSome, is_some, refl, sym, ap, subst, ◌∙◌, arith}
 use Rattle.std.specs.Borrow.{Bor}
 use Rattle.std.proofs.lemmas.Option.{same_Some, none-some}
 use Rattle.daggy_base.specs.Graph.{Graph, Edge, slot, bound_of, bound_step, node_bound}
-use Rattle.daggy_base.specs.Path.{IsAcyclic}
-use Rattle.daggy_base.specs.WellFormed.{IsWellFormed}
+use Rattle.daggy_base.specs.Path.{AreJoined}
 use Rattle.daggy_base.proofs.Nodes.{bound_low}
 use Rattle.daggy_base.specs.Mapping.{MapsSlots, IsMapped, weight_in, with_weight}
 use Rattle.daggy_cells.proofs.MappingLemmas.{mapped_length}
-use Rattle.daggy_dag.proofs.Lifting.{acyclic_lifted}
+use Rattle.daggy_order.specs.Ordered.{IsOrderOf}
+use Rattle.daggy_order.proofs.OrderLaws.{order_fewer}
 
 module _ {F I W V A B : Type 0} (step : F → I → Bor W → V → F → Type 0) (of : ℕ → I) (weight : A → W) (with : A → V → B) where
   mapped_slot : (f : F) (i : ℕ) (xs : List (Option A)) (new : List (Option B)) → MapsSlots step of weight with f i xs new
@@ -18,6 +18,14 @@ module _ {F I W V A B : Type 0} (step : F → I → Bor W → V → F → Type 0
   mapped_slot f i (None ∷ xs) new (later, is, more) (suc k) y at = mapped_slot f (i + 1) xs later more k y (ap (λ z. slot z (suc k)) (sym is) ∙ at)
   mapped_slot f i (Some x ∷ xs) new (v, next, called, later, is, more) zero y at = (x, v, refl, same_Some (with x v) y (ap (λ z. slot z zero) (sym is) ∙ at))
   mapped_slot f i (Some x ∷ xs) new (v, next, called, later, is, more) (suc k) y at = mapped_slot next (i + 1) xs later more k y (ap (λ z. slot z (suc k)) (sym is) ∙ at)
+
+  -- no slot is vacated, and none is filled
+  pub mapped_there : (f : F) (i : ℕ) (xs : List (Option A)) (new : List (Option B)) → MapsSlots step of weight with f i xs new → (k : ℕ) → is_some (slot new k) ≡ is_some (slot xs k)
+  mapped_there f i [] new is k = ap (λ z. is_some (slot z k)) is
+  mapped_there f i (None ∷ xs) new (later, is, more) zero = ap (λ z. is_some (slot z zero)) is
+  mapped_there f i (None ∷ xs) new (later, is, more) (suc k) = ap (λ z. is_some (slot z (suc k))) is ∙ mapped_there f (i + 1) xs later more k
+  mapped_there f i (Some x ∷ xs) new (v, next, called, later, is, more) zero = ap (λ z. is_some (slot z zero)) is
+  mapped_there f i (Some x ∷ xs) new (v, next, called, later, is, more) (suc k) = ap (λ z. is_some (slot z (suc k))) is ∙ mapped_there next (i + 1) xs later more k
 
   none_mapped : (n : ℕ) → bound_step {A = B} None n ≡ bound_step {A = A} None n
   none_mapped zero = refl
@@ -35,25 +43,25 @@ module _ {F I W V A B : Type 0} (step : F → I → Bor W → V → F → Type 0
 -- the edges of a graph that has other weights there are between the same nodes
 module _ {N E V W G I : Type 0} (of : ℕ → I) (step : G → I → Bor E → W → G → Type 0) (g : G) (old : Graph N E) (new : Graph V W)
     (mapped : MapsSlots step of weight_in with_weight g 0 old.edges new.edges) where
-  pub acyclic_reweighed : (end : ℕ) → IsWellFormed end old → IsAcyclic old → IsAcyclic new
-  acyclic_reweighed end w acyclic =
-      acyclic_lifted old new (λ u a. a ≡ u) (λ u a b p q. p ∙ sym q) (λ u v j.
+  pub joined_reweighed : (u v : ℕ) → AreJoined new u v → AreJoined old u v
+  joined_reweighed u v j =
       let m = mapped_slot step of weight_in with_weight g 0 old.edges new.edges mapped j.0 _ j.2 in
-      let x = m.0 in
-      record {
-        parent = x.parent;
-        child = x.child;
-        parent_was = ap (λ (y : Edge W). y.parent) m.3;
-        child_was = ap (λ (y : Edge W). y.child) m.3;
-        has_parent = w.parents j.0 x m.2;
-        joined = (j.0, x.weight, m.2);
-        has_child = w.children j.0 x m.2;
-      }) acyclic
+      let P : ℕ → Type 0 = λ z. AreJoined old z v in
+      let Q : ℕ → Type 0 = λ z. AreJoined old m.0.parent z in
+      subst P (ap (λ (y : Edge W). y.parent) m.3) (subst Q (ap (λ (y : Edge W). y.child) m.3) (j.0, m.0.weight, m.2))
+
+-- a graph whose slots hold other weights has the same nodes
+pub same_nodes : {F I W V A B : Type 0} (step : F → I → Bor W → V → F → Type 0) (of : ℕ → I) (weight : A → W) (with : A → V → B) (f : F) (xs : List (Option A)) (new : List (Option B))
+    → MapsSlots step of weight with f 0 xs new → (n : ℕ) → IsSome (slot new n) ↔ IsSome (slot xs n)
+same_nodes step of weight with f xs new mapped n =
+    let same = mapped_there step of weight with f 0 xs new mapped n in
+    (λ h. sym same ∙ h, λ h. same ∙ h)
 
 module _ {N E V W F G I : Type 0} (of : ℕ → I) (step_f : F → I → Bor N → V → F → Type 0) (step_g : G → I → Bor E → W → G → Type 0) (f : F) (g : G) (old : Graph N E) (new : Graph V W)
     (mapped : IsMapped of step_f step_g f g old new) where
-  pub acyclic_mapped : (end : ℕ) → IsWellFormed end old → IsAcyclic old → IsAcyclic new
-  acyclic_mapped end w acyclic = acyclic_reweighed of step_g g old new mapped.edges end w acyclic
+  pub order_mapped : (order copy : List ℕ) → copy ≡ order → IsOrderOf old order → IsOrderOf new copy
+  order_mapped order copy same ord =
+      subst (IsOrderOf new) (sym same) (order_fewer order ord (same_nodes step_f of (λ w. w) (λ w v. v) f old.nodes new.nodes mapped.nodes) (joined_reweighed of step_g g old new mapped.edges))
 
   pub fits_mapped : (slots room : ℕ) → slots ≡ length old.nodes → slots ≤ room → node_bound new ≤ room
   fits_mapped slots room many fits =

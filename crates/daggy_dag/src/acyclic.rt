@@ -21,6 +21,7 @@ use daggy_base::search::Scratch;
 use daggy_base::store::Store;
 use daggy_graph::graph::DiGraph;
 use daggy_guard::guard;
+use daggy_order::order::Order;
 use daggy_stable::stable_graph::StableDiGraph;
 use std::alloc::Global;
 use std::marker::{Model, PhantomData};
@@ -49,11 +50,13 @@ pub use walkers::{Children, Parents};
 /// [`Dag`] and [`StableDag`] are this over the two stores. Parallel edges are allowed. An edge that would close a cycle is
 /// refused, and its weight comes back.
 ///
-/// Each node adds a little to the room that the search for cycles works in, so that search cannot
-/// fail for want of memory.
+/// It keeps an order of its nodes in which every parent stands before its children, so an edge that leads forward in it needs
+/// no search. Each node adds a little to the room that the search for cycles works in, so that search cannot fail for want of
+/// memory.
 #[derive(Drop)]
 pub struct Acyclic<N, E, Ix: IndexType, S: Store<Ix, NodeWeight = N, EdgeWeight = E>> {
     store: S,
+    order: Order<Ix>,
     scratch: Scratch<Ix>,
     node_weight: PhantomData<N>,
     edge_weight: PhantomData<E>,
@@ -76,14 +79,14 @@ where
 {
     ghost use Rattle.std.specs.Prelude.{◌≤◌};
     ghost use Rattle.daggy_base.specs.Graph.{node_bound};
-    ghost use Rattle.daggy_base.specs.Path.{IsAcyclic};
     ghost use Rattle.daggy_base.specs.State.{State};
+    ghost use Rattle.daggy_order.specs.Ordered.{IsOrderOf};
 
     ghost Value = { State N E };
 
     ghost view = { λ d. record { graph = S.graph d.store; looks = S.looks d.store } };
 
-    ghost invariant = { λ d. IsAcyclic (S.graph d.store) × (node_bound (S.graph d.store) ≤ d.scratch.nodes) };
+    ghost invariant = { λ d. IsOrderOf (S.graph d.store) d.order × (node_bound (S.graph d.store) ≤ d.scratch.nodes) };
 }
 
 impl<N: Drop, E: Drop, Ix: IndexType, S> Acyclic<N, E, Ix, S>
@@ -96,6 +99,7 @@ where
     {
         Acyclic {
             store: S::new(alloc),
+            order: Order::new(alloc),
             scratch: Scratch::new(alloc),
             node_weight: PhantomData,
             edge_weight: PhantomData,
@@ -198,7 +202,7 @@ where
         ensures acyclic { IsAcyclic self.new.graph }
         ensures counted { self.new.looks ≡ self.old.looks }
     {
-        guard::add_node(&mut self.store, &mut self.scratch, weight)
+        guard::add_node(&mut self.store, &mut self.order, &mut self.scratch, weight)
     }
 
     /// Adds an edge from `a` to `b`, and gives its index.
@@ -223,8 +227,16 @@ where
         ensures unchanged { OnErr result (self.new.graph ≡ self.old.graph) }
         ensures acyclic { IsAcyclic self.new.graph }
         ensures counted { self.new.looks ≤ self.old.looks + edge_count_of self.old.graph }
+        ensures ready { Reaches self.old.graph (Ix.number a) (Ix.number b) → self.new.looks ≡ self.old.looks }
     {
-        guard::add_edge(&mut self.store, &mut self.scratch, a, b, weight)
+        guard::add_edge(
+            &mut self.store,
+            &mut self.order,
+            &mut self.scratch,
+            a,
+            b,
+            weight,
+        )
     }
 
     /// Writes the weight of the edge that [`find_edge`](Acyclic::find_edge) gives between `a` and `b`, or adds an edge as
@@ -250,8 +262,16 @@ where
         ensures unchanged { OnErr result (self.new.graph ≡ self.old.graph) }
         ensures acyclic { IsAcyclic self.new.graph }
         ensures counted { self.new.looks ≤ self.old.looks + edge_count_of self.old.graph }
+        ensures ready { Reaches self.old.graph (Ix.number a) (Ix.number b) → self.new.looks ≡ self.old.looks }
     {
-        guard::update_edge(&mut self.store, &mut self.scratch, a, b, weight)
+        guard::update_edge(
+            &mut self.store,
+            &mut self.order,
+            &mut self.scratch,
+            a,
+            b,
+            weight,
+        )
     }
 
     /// Adds a node and an edge from `parent` to it, or neither. It gives both indices.
@@ -275,6 +295,7 @@ where
     {
         guard::add_neighbor(
             &mut self.store,
+            &mut self.order,
             &mut self.scratch,
             parent,
             Direction::Outgoing,
@@ -304,6 +325,7 @@ where
     {
         guard::add_neighbor(
             &mut self.store,
+            &mut self.order,
             &mut self.scratch,
             child,
             Direction::Incoming,
@@ -338,7 +360,7 @@ where
         ensures keeps { S.kind ≡ Stable → KeepsIndices self.old.graph self.new.graph }
         ensures acyclic { IsAcyclic self.new.graph }
     {
-        guard::remove_node(&mut self.store, n)
+        guard::remove_node(&mut self.store, &mut self.order, n)
     }
 
     /// Removes all nodes and edges, and all slots, so that indices begin at 0 again.
@@ -347,6 +369,7 @@ where
         ensures acyclic { IsAcyclic self.new.graph }
     {
         self.store.clear();
+        self.order.clear();
     }
 
     /// Removes all edges and the slots of edges, and keeps the nodes and the vacant slots of nodes.

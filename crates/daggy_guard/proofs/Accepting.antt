@@ -8,6 +8,8 @@ use Rattle.daggy_base.specs.Adding.{with_edge, taken}
 use Rattle.daggy_base.specs.WellFormed.{IsWellFormed}
 use Rattle.daggy_base.proofs.Slots.{IsFree}
 use Rattle.daggy_base.proofs.Adding.{free_edge, acyclic_with_edge, still_cyclic, cyclic_with_edge}
+use Rattle.daggy_order.specs.Ordered.{IsOrderOf}
+use Rattle.daggy_order.proofs.OrderLaws.{order_before_edge}
 use Rattle.daggy_guard.specs.Series.{NewEdge, with_edges, IsFaultless, AreAccepted}
 
 -- the graph is well formed before each of the edges
@@ -49,6 +51,12 @@ module _ {N E : Type 0} (limit : ℕ) where
   acyclic_before g [] fine acyclic = acyclic
   acyclic_before g (x ∷ xs) fine acyclic =
       still_cyclic g x.0 x.1 x.2 (free_first g x xs fine) (acyclic_before (with_edge g x.0 x.1 x.2) xs (fine_rest g x xs fine) acyclic)
+
+  -- an order of the graph with the edges is one of the graph without them
+  pub order_before_edges : (g : Graph N E) (xs : List (NewEdge E)) → IsFine limit g xs → (order : List ℕ) → IsOrderOf (with_edges g xs) order → IsOrderOf g order
+  order_before_edges g [] fine order ord = ord
+  order_before_edges g (x ∷ xs) fine order ord =
+      order_before_edge (fine 0 (omega arith)) order x.0 x.1 x.2 (order_before_edges (with_edge g x.0 x.1 x.2) xs (fine_rest g x xs fine) order ord)
 
   -- edges that leave the graph acyclic would be accepted one by one
   pub accepted_if_acyclic : (g : Graph N E) (xs : List (NewEdge E)) → IsFine limit g xs → IsFaultless limit g xs → IsAcyclic (with_edges g xs) → AreAccepted g xs

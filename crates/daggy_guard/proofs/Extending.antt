@@ -1,38 +1,38 @@
 -- The loop of `extend_all`: the graph is extended by the items so far.
-use Rattle.std.proofs.Common.{◌≡◌, ℕ, ◌+◌, ◌-◌, ◌*◌, ◌≤◌, List, [], ◌∷◌, ◌++◌, map, Option, suc, refl, sym, ap, subst, ◌∙◌, add-one, arith}
+use Rattle.std.proofs.Common.{◌≡◌, ℕ, ◌+◌, ◌-◌, ◌*◌, ◌≤◌, List, [], ◌∷◌, ◌++◌, map, Option, refl, sym, ap, subst, ◌∙◌, add-one, arith}
 use Rattle.std.proofs.Math.Nat.{suc-mul, mul-suc}
 use Rattle.std.specs.List.{AllZip, FoldsTo}
 use Rattle.std.specs.Iterator.{Yields, Drains}
 use Rattle.std.proofs.lemmas.Fn.{FoldsTo-push}
 use Rattle.std.proofs.lemmas.List.{map-append}
 use Rattle.daggy_base.specs.Graph.{Graph, node_bound}
-use Rattle.daggy_base.specs.Path.{IsAcyclic}
 use Rattle.daggy_base.specs.declared.error.EdgeError.{EdgeError}
+use Rattle.daggy_order.specs.Ordered.{IsOrderOf}
 use Rattle.daggy_guard.specs.Series.{NewEdge, by_numbers}
 use Rattle.daggy_guard.specs.Extension.{IsExtended, IsStopped, Extends, Stops}
 use Rattle.daggy_guard.proofs.Iterating.{zip_more}
 
-pub record Extending {I A N E : Type 0} (IsDefault : N → Type 0) (number : I → ℕ) (limit : ℕ) (becomes : A → I × I × E → Type 0) (old now : Graph N E) (given : List A) (room : ℕ) : Type 0 where
+pub record Extending {I A N E : Type 0} (IsDefault : N → Type 0) (number : I → ℕ) (limit : ℕ) (becomes : A → I × I × E → Type 0) (old now : Graph N E) (given : List A) (order : List ℕ) (room : ℕ) : Type 0 where
   pub edges : List (I × I × E)
   pub become : AllZip becomes given edges
   pub extension : FoldsTo (IsExtended IsDefault limit) old (map (by_numbers number) edges) now
-  pub acyclic : IsAcyclic now
+  pub ordered : IsOrderOf now order
   pub fits : node_bound now ≤ room
 
-pub extending_starts : {I A N E : Type 0} (IsDefault : N → Type 0) (number : I → ℕ) (limit : ℕ) (becomes : A → I × I × E → Type 0) (g : Graph N E) (room : ℕ) → IsAcyclic g → node_bound g ≤ room → Extending IsDefault number limit becomes g g [] room
-extending_starts IsDefault number limit becomes g room acyclic fits =
-    record { edges = []; become = tt; extension = refl; acyclic = acyclic; fits = fits }
+pub extending_starts : {I A N E : Type 0} (IsDefault : N → Type 0) (number : I → ℕ) (limit : ℕ) (becomes : A → I × I × E → Type 0) (g : Graph N E) (order : List ℕ) (room : ℕ) → IsOrderOf g order → node_bound g ≤ room → Extending IsDefault number limit becomes g g [] order room
+extending_starts IsDefault number limit becomes g order room ordered fits =
+    record { edges = []; become = tt; extension = refl; ordered = ordered; fits = fits }
 
-module _ {I A N E : Type 0} {IsDefault : N → Type 0} {number : I → ℕ} {limit : ℕ} {becomes : A → I × I × E → Type 0} {old now : Graph N E} {given : List A} {room : ℕ} (s : Extending IsDefault number limit becomes old now given room) where
-  pub extending_on : (x : A) (edge : I × I × E) → becomes x edge → (new : Graph N E) → IsExtended IsDefault limit now (by_numbers number edge) new → IsAcyclic new → (room' : ℕ) → node_bound new ≤ room'
-      → Extending IsDefault number limit becomes old new (given ++ x ∷ []) room'
-  extending_on x edge is new extended acyclic room' fits =
+module _ {I A N E : Type 0} {IsDefault : N → Type 0} {number : I → ℕ} {limit : ℕ} {becomes : A → I × I × E → Type 0} {old now : Graph N E} {given : List A} {order : List ℕ} {room : ℕ} (s : Extending IsDefault number limit becomes old now given order room) where
+  pub extending_on : (x : A) (edge : I × I × E) → becomes x edge → (new : Graph N E) → IsExtended IsDefault limit now (by_numbers number edge) new → (order' : List ℕ) → IsOrderOf new order' → (room' : ℕ) → node_bound new ≤ room'
+      → Extending IsDefault number limit becomes old new (given ++ x ∷ []) order' room'
+  extending_on x edge is new extended order' ordered room' fits =
       let P : List (NewEdge E) → Type 0 = λ z. FoldsTo (IsExtended IsDefault limit) old z new in
       record {
         edges = s.edges ++ edge ∷ [];
         become = zip_more becomes given s.edges x edge s.become is;
         extension = subst P (sym (map-append (by_numbers number) s.edges (edge ∷ []))) (FoldsTo-push (IsExtended IsDefault limit) old (map (by_numbers number) s.edges) now (by_numbers number edge) new s.extension extended);
-        acyclic = acyclic;
+        ordered = ordered;
         fits = fits;
       }
 

@@ -3,10 +3,10 @@ use Rattle.std.proofs.Common.{◌≡◌, ℕ, ◌+◌, ◌<◌, ◌≤◌, List,
 use Rattle.std.specs.List.{AllByRecursion}
 use Rattle.std.proofs.lemmas.List.{length-append}
 use Rattle.daggy_base.specs.Graph.{Graph, node_count, node_bound, edge_count}
-use Rattle.daggy_base.specs.Path.{IsAcyclic}
 use Rattle.daggy_base.specs.Adding.{with_node}
 use Rattle.daggy_base.specs.WellFormed.{IsWellFormed}
 use Rattle.daggy_base.proofs.Neighbors.{free_slots}
+use Rattle.daggy_order.specs.Ordered.{IsOrderOf}
 use Rattle.daggy_guard.specs.Extension.{with_nodes, missing, IsFilled, IsPartFilled}
 use Rattle.daggy_guard.proofs.Accepting.{count_taken}
 
@@ -22,23 +22,23 @@ pub edges_kept : {N E : Type 0} (g : Graph N E) (ws : List N) → edge_count (wi
 edges_kept g [] = refl
 edges_kept g (w ∷ ws) = edges_kept (with_node g w) ws
 
-pub record Filling {N E : Type 0} (IsDefault : N → Type 0) (last : ℕ) (old now : Graph N E) (room : ℕ) : Type 0 where
+pub record Filling {N E : Type 0} (IsDefault : N → Type 0) (last : ℕ) (old now : Graph N E) (order : List ℕ) (room : ℕ) : Type 0 where
   pub weights : List N
   pub defaults : AllByRecursion IsDefault weights
   pub added : now ≡ with_nodes old weights
   pub within : length weights ≤ missing IsDefault old last
   pub count : node_count now ≡ node_count old + length weights
-  pub acyclic : IsAcyclic now
+  pub ordered : IsOrderOf now order
   pub fits : node_bound now ≤ room
 
-pub filling_starts : {N E : Type 0} (IsDefault : N → Type 0) (last : ℕ) (g : Graph N E) (room : ℕ) → IsAcyclic g → node_bound g ≤ room → Filling IsDefault last g g room
-filling_starts IsDefault last g room acyclic fits =
-    record { weights = []; defaults = tt; added = refl; within = omega arith; count = omega arith; acyclic = acyclic; fits = fits }
+pub filling_starts : {N E : Type 0} (IsDefault : N → Type 0) (last : ℕ) (g : Graph N E) (order : List ℕ) (room : ℕ) → IsOrderOf g order → node_bound g ≤ room → Filling IsDefault last g g order room
+filling_starts IsDefault last g order room ordered fits =
+    record { weights = []; defaults = tt; added = refl; within = omega arith; count = omega arith; ordered = ordered; fits = fits }
 
-module _ {N E : Type 0} {IsDefault : N → Type 0} {last : ℕ} {old now : Graph N E} {room : ℕ} (s : Filling IsDefault last old now room) where
-  pub filling_on : (limit : ℕ) → IsWellFormed limit now → node_count now ≤ last → (w : N) → IsDefault w → (new : Graph N E) → new ≡ with_node now w → IsAcyclic new → (room' : ℕ) → node_bound new ≤ room'
-      → Filling IsDefault last old new room'
-  filling_on limit f few w default new is acyclic room' fits =
+module _ {N E : Type 0} {IsDefault : N → Type 0} {last : ℕ} {old now : Graph N E} {order : List ℕ} {room : ℕ} (s : Filling IsDefault last old now order room) where
+  pub filling_on : (limit : ℕ) → IsWellFormed limit now → node_count now ≤ last → (w : N) → IsDefault w → (new : Graph N E) → new ≡ with_node now w → (order' : List ℕ) → IsOrderOf new order' → (room' : ℕ) → node_bound new ≤ room'
+      → Filling IsDefault last old new order' room'
+  filling_on limit f few w default new is order' ordered room' fits =
       let one : node_count (with_node now w) ≡ node_count now + 1 = omega (arith, count_taken now.nodes now.vacant_nodes w (free_slots now.nodes now.vacant_nodes f.node_slots)) in
       record {
         weights = s.weights ++ w ∷ [];
@@ -46,7 +46,7 @@ module _ {N E : Type 0} {IsDefault : N → Type 0} {last : ℕ} {old now : Graph
         added = is ∙ ap (λ z. with_node z w) s.added ∙ sym (nodes_more old s.weights w);
         within = omega (arith, s.within, s.count, few, length-append s.weights (w ∷ []));
         count = omega (arith, ap node_count is, one, s.count, length-append s.weights (w ∷ []));
-        acyclic = acyclic;
+        ordered = ordered;
         fits = fits;
       }
 

@@ -1,27 +1,16 @@
--- A change that either succeeded or left the graph as it was keeps it acyclic.
+-- What a guard keeps, whether a change succeeded or left the graph as it was.
 use Rattle.std.proofs.Common.{◌≡◌, ℕ, ◌≤◌, length, Result, Ok, Err, OnOk, OnErr, IfOk, Option, Some, None, OnSome, IfNone, sym, ap, subst, ◌∙◌, arith}
 use Rattle.daggy_base.specs.Graph.{Graph, HasNode, node_bound}
-use Rattle.daggy_base.specs.Path.{Reaches, IsAcyclic}
+use Rattle.daggy_base.specs.Path.{IsAcyclic}
 use Rattle.daggy_base.specs.Adding.{with_node, with_edge, next_edge, ComesFirst}
 use Rattle.daggy_base.specs.WellFormed.{IsWellFormed}
-use Rattle.daggy_base.proofs.Adding.{acyclic_after}
 use Rattle.daggy_base.proofs.Newest.{comes_first}
 use Rattle.daggy_base.specs.Removal.{Kind, without_edge}
 use Rattle.daggy_base.proofs.Removing.{acyclic_without_edge, bound_same}
-use Rattle.daggy_base.proofs.Nodes.{acyclic_node_after, fits_after}
+use Rattle.daggy_base.proofs.Nodes.{fits_after}
 
-pub acyclic_kept : {N E : Type 0} (old new : Graph N E) → IsAcyclic old → new ≡ old → IsAcyclic new
+acyclic_kept : {N E : Type 0} (old new : Graph N E) → IsAcyclic old → new ≡ old → IsAcyclic new
 acyclic_kept {N} {E} old new acyclic same = let P : Graph N E → Type 0 = λ z. IsAcyclic z in subst P (sym same) acyclic
-
-pub acyclic_edge : {R F N E : Type 0} (r : Result R F) (old at new : Graph N E) (a b : ℕ) (w : E) → HasNode old a → (Reaches old b a → ⊥) → IsAcyclic old → at ≡ old
-    → OnOk r (new ≡ with_edge at a b w) → OnErr r (new ≡ at) → IsAcyclic new
-acyclic_edge (Ok e) old at new a b w parent apart acyclic same added kept = acyclic_after old at new a b w parent apart acyclic same added
-acyclic_edge (Err e) old at new a b w parent apart acyclic same added kept = acyclic_kept old new acyclic (kept ∙ same)
-
-pub acyclic_node : {R F N E : Type 0} {end : ℕ} (r : Result R F) (old new : Graph N E) (w : N) → IsWellFormed end old → IsAcyclic old
-    → OnOk r (new ≡ with_node old w) → OnErr r (new ≡ old) → IsAcyclic new
-acyclic_node (Ok n) old new w f acyclic added kept = acyclic_node_after old new w f acyclic added
-acyclic_node (Err e) old new w f acyclic added kept = acyclic_kept old new acyclic kept
 
 pub node_fits : {R F N E : Type 0} (r : Result R F) (old new : Graph N E) (w : N) (slots before after : ℕ) → ((w : N) → length (with_node old w).nodes ≡ slots)
     → node_bound old ≤ before → before ≤ after → slots ≤ after → OnOk r (new ≡ with_node old w) → OnErr r (new ≡ old) → node_bound new ≤ after

@@ -1,3 +1,4 @@
+pub mod Ordering
 pub mod Guarding
 pub mod NewNode
 pub mod Rolling

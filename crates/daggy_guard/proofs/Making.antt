@@ -4,23 +4,23 @@ use Rattle.std.specs.List.{FoldsTo}
 use Rattle.std.specs.Iterator.{Yields}
 use Rattle.std.proofs.lemmas.Fn.{FoldsTo-push}
 use Rattle.daggy_base.specs.Graph.{Graph, node_bound}
-use Rattle.daggy_base.specs.Path.{IsAcyclic}
 use Rattle.daggy_base.specs.declared.error.ElementError.{ElementError}
 use Rattle.daggy_base.specs.declared.element.Element.{Element}
+use Rattle.daggy_order.specs.Ordered.{IsOrderOf}
 use Rattle.daggy_guard.specs.Elements.{WithElement, IsElementRefused, IsUnmade}
 
-pub record Making {N E : Type 0} (limit : ℕ) (old now : Graph N E) (given : List (Element N E)) (room : ℕ) : Type 0 where
+pub record Making {N E : Type 0} (limit : ℕ) (old now : Graph N E) (given : List (Element N E)) (order : List ℕ) (room : ℕ) : Type 0 where
   pub made : FoldsTo (WithElement limit) old given now
-  pub acyclic : IsAcyclic now
+  pub ordered : IsOrderOf now order
   pub fits : node_bound now ≤ room
 
-pub making_starts : {N E : Type 0} (limit : ℕ) (g : Graph N E) (room : ℕ) → IsAcyclic g → node_bound g ≤ room → Making limit g g [] room
-making_starts limit g room acyclic fits = record { made = refl; acyclic = acyclic; fits = fits }
+pub making_starts : {N E : Type 0} (limit : ℕ) (g : Graph N E) (order : List ℕ) (room : ℕ) → IsOrderOf g order → node_bound g ≤ room → Making limit g g [] order room
+making_starts limit g order room ordered fits = record { made = refl; ordered = ordered; fits = fits }
 
-module _ {N E : Type 0} {limit : ℕ} {old now : Graph N E} {given : List (Element N E)} {room : ℕ} (s : Making limit old now given room) where
-  pub making_on : (x : Element N E) (new : Graph N E) → WithElement limit now x new → IsAcyclic new → (room' : ℕ) → node_bound new ≤ room' → Making limit old new (given ++ x ∷ []) room'
-  making_on x new more acyclic room' fits =
-      record { made = FoldsTo-push (WithElement limit) old given now x new s.made more; acyclic = acyclic; fits = fits }
+module _ {N E : Type 0} {limit : ℕ} {old now : Graph N E} {given : List (Element N E)} {order : List ℕ} {room : ℕ} (s : Making limit old now given order room) where
+  pub making_on : (x : Element N E) (new : Graph N E) → WithElement limit now x new → (order' : List ℕ) → IsOrderOf new order' → (room' : ℕ) → node_bound new ≤ room' → Making limit old new (given ++ x ∷ []) order' room'
+  making_on x new more order' ordered room' fits =
+      record { made = FoldsTo-push (WithElement limit) old given now x new s.made more; ordered = ordered; fits = fits }
 
   pub unmade : {S : Type 0} (gives : S → Option (Element N E) → S → Type 0) (items rest : S) (x : Element N E) → Yields gives items (given ++ x ∷ []) rest
       → (error : ElementError N E) → IsElementRefused limit now x error → IsUnmade limit gives items old error

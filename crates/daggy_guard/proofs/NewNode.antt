@@ -1,19 +1,22 @@
 -- A node that was just added, until an edge to it is added or it is taken back.
-use Rattle.std.proofs.Common.{◌≡◌, ℕ, zero, suc, ◌+◌, leb, IsTrue, true, List, [], ◌∷◌, ◌++◌, length, get_or, set, Option, Some, refl, sym, ap, subst, ◌∙◌, arith}
+use Rattle.std.proofs.Common.{◌≡◌, ℕ, zero, suc, ◌+◌, ◌<◌, leb, IsTrue, true, List, [], ◌∷◌, ◌++◌, length, get_or, set, Option, Some, refl, sym, ap, ◌∙◌, arith}
 use Rattle.std.proofs.lemmas.Bool.{false≢true}
 use Rattle.std.proofs.lemmas.Bool.Decides.{nat_tests}
 use Rattle.std.proofs.lemmas.List.{length_push}
-use Rattle.std.proofs.lemmas.Option.{unwrap_or-slice_get, slice_get_within}
+use Rattle.std.proofs.lemmas.Option.{unwrap_or-slice_get, slice_get_within, same_Some}
 use Rattle.daggy_base.specs.declared.index.Direction.{Direction}
 use Rattle.daggy_base.specs.declared.index.Direction.TheVariants.{Outgoing, Incoming}
-use Rattle.daggy_base.specs.Graph.{Graph, HasNode, node_weight, list_at}
-use Rattle.daggy_base.specs.Path.{Reaches}
+use Rattle.daggy_base.specs.Graph.{Graph, HasNode, node_weight, list_at, IsCompact}
 use Rattle.daggy_base.specs.Adding.{with_node, next_node, next_slot, taken}
+use Rattle.daggy_base.specs.Removal.{Kind, Compact}
 use Rattle.daggy_base.specs.Taking.{node_taken_back, is_made}
 use Rattle.daggy_base.specs.WellFormed.{IsWellFormed}
 use Rattle.daggy_base.proofs.Slots.{IsFree, slot_taken_new}
-use Rattle.daggy_base.proofs.Neighbors.{free_slots, node_kept, node_new, leads_nowhere, comes_from_nowhere}
+use Rattle.daggy_base.proofs.Neighbors.{free_slots, node_kept, node_new}
+use Rattle.daggy_base.proofs.Nodes.{bound_low}
 use Rattle.daggy_base.proofs.NodeTaking.{node_taken_back_undoes}
+use Rattle.daggy_base.proofs.Reading.{below_bound}
+use Rattle.daggy_guard.specs.NewNode.{IsAddedNode}
 
 emptied : (rows : List (List ℕ)) (i : ℕ) → get_or (set rows i []) i [] ≡ []
 emptied [] i = refl
@@ -37,38 +40,42 @@ made_last : {A : Type 0} (nodes : List (Option A)) (vacant : List ℕ) (w : A) �
 made_last nodes [] w made = sym (length_push nodes (Some w))
 made_last nodes (v ∷ vs) w made = absurd (false≢true made)
 
-module _ {N E : Type 0} (end : ℕ) (old g : Graph N E) (w : N) (n : ℕ) (f : IsWellFormed end old) (is : n ≡ next_node old) (added : g ≡ with_node old w) where
-  pub new_exists : HasNode g n
-  new_exists = rw (added, is) (node_new end old w f)
+pub added_node : {N E : Type 0} {limit : ℕ} {kind : Kind} {old now : Graph N E} {n slots : ℕ} (w : N) → IsWellFormed limit old → (kind ≡ Compact → IsCompact old) → slots ≡ length old.nodes → n ≡ next_node old → now ≡ with_node old w
+    → IsAddedNode limit kind old now w n slots
+added_node w f compact were is added = record { well_formed = f; compact = λ c. (compact c).nodes; now_is = added; index_is = is; slots_are = were }
 
-  pub weight_is : node_weight g n ≡ Some w
-  weight_is = rw (added, is) (slot_taken_new old.nodes old.vacant_nodes w (free_slots _ _ f.node_slots))
+module _ {N E : Type 0} {limit : ℕ} {kind : Kind} {old now : Graph N E} {w : N} {n slots : ℕ} (s : IsAddedNode limit kind old now w n slots) where
+  free : IsFree old.nodes old.vacant_nodes
+  free = free_slots old.nodes old.vacant_nodes s.well_formed.node_slots
 
-  pub old_exists : (m : ℕ) → HasNode old m → HasNode g m
-  old_exists m h = rw added (node_kept end old w f m h)
+  pub new_exists : HasNode now n
+  new_exists = rw (s.now_is, s.index_is) (node_new limit old w s.well_formed)
 
-  pub not_from : (m : ℕ) → HasNode old m → Reaches g m n → ⊥
-  not_from m h r =
-      let P : Graph N E → Type 0 = λ z. Reaches z m n in
-      let Q : ℕ → Type 0 = λ z. Reaches (with_node old w) m z in
-      comes_from_nowhere end old w f m h (subst Q is (subst P added r))
+  pub new_low : {end : ℕ} → IsWellFormed end now → n < end
+  new_low f = omega (arith, below_bound now.nodes n new_exists, bound_low now.nodes, f.few_nodes)
 
-  pub not_to : (m : ℕ) → HasNode old m → Reaches g n m → ⊥
-  not_to m h r =
-      let P : Graph N E → Type 0 = λ z. Reaches z n m in
-      let Q : ℕ → Type 0 = λ z. Reaches (with_node old w) z m in
-      leads_nowhere end old w f m h (subst Q is (subst P added r))
+  pub old_exists : (m : ℕ) → HasNode old m → HasNode now m
+  old_exists m h = rw s.now_is (node_kept limit old w s.well_formed m h)
 
-  pub no_lists : (dir : Direction) → list_at dir g n ≡ []
-  no_lists Outgoing = rw (added, is) (unwrap_or-slice_get (with_node old w).out_lists (next_node old) [] ∙ new_row old.nodes old.out_lists old.vacant_nodes f.out_rows)
-  no_lists Incoming = rw (added, is) (unwrap_or-slice_get (with_node old w).in_lists (next_node old) [] ∙ new_row old.nodes old.in_lists old.vacant_nodes f.in_rows)
+  pub weight_is : (x : N) → node_weight now n ≡ Some x → x ≡ w
+  weight_is x gives =
+      let there : node_weight now n ≡ Some w = rw (s.now_is, s.index_is) (slot_taken_new old.nodes old.vacant_nodes w free) in
+      same_Some x w (sym gives ∙ there)
 
-  pub made_is_last : IsTrue (leb (length old.nodes) n) → n + 1 ≡ length g.nodes
-  made_is_last made =
-      rw (added, is) (made_last old.nodes old.vacant_nodes w (sym (made_cases old.nodes old.vacant_nodes (free_slots _ _ f.node_slots)) ∙ ap (leb (length old.nodes)) (sym is) ∙ made))
+  pub no_lists : (dir : Direction) → list_at dir now n ≡ []
+  no_lists Outgoing = rw (s.now_is, s.index_is) (unwrap_or-slice_get (with_node old w).out_lists (next_node old) [] ∙ new_row old.nodes old.out_lists old.vacant_nodes s.well_formed.out_rows)
+  no_lists Incoming = rw (s.now_is, s.index_is) (unwrap_or-slice_get (with_node old w).in_lists (next_node old) [] ∙ new_row old.nodes old.in_lists old.vacant_nodes s.well_formed.in_rows)
 
-  pub taken_back_is_old : node_taken_back (leb (length old.nodes) n) g n ≡ old
+  made_is : leb slots n ≡ is_made old.vacant_nodes
+  made_is = ap (λ k. leb k n) s.slots_are ∙ ap (leb (length old.nodes)) s.index_is ∙ made_cases old.nodes old.vacant_nodes free
+
+  pub made_where_compact : kind ≡ Compact → IsTrue (leb slots n)
+  made_where_compact c = made_is ∙ ap is_made (s.compact c)
+
+  pub made_is_last : IsTrue (leb slots n) → n + 1 ≡ length now.nodes
+  made_is_last made = rw (s.now_is, s.index_is) (made_last old.nodes old.vacant_nodes w (sym made_is ∙ made))
+
+  pub taken_back_is_old : node_taken_back (leb slots n) now n ≡ old
   taken_back_is_old =
-      ap (λ b. node_taken_back b g n) (ap (leb (length old.nodes)) is ∙ made_cases old.nodes old.vacant_nodes (free_slots _ _ f.node_slots))
-      ∙ ap (λ h. node_taken_back (is_made old.vacant_nodes) h n) added ∙ ap (node_taken_back (is_made old.vacant_nodes) (with_node old w)) is
-      ∙ node_taken_back_undoes end old f w
+      ap (λ b. node_taken_back b now n) made_is ∙ ap (λ h. node_taken_back (is_made old.vacant_nodes) h n) s.now_is
+      ∙ ap (node_taken_back (is_made old.vacant_nodes) (with_node old w)) s.index_is ∙ node_taken_back_undoes limit old s.well_formed w

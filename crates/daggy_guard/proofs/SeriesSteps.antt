@@ -1,20 +1,24 @@
 -- The loop of `add_all`: the edges that were given so far are there.
-use Rattle.std.proofs.Common.{◌≡◌, ℕ, suc, ◌+◌, ◌<◌, ◌≤◌, inl, inr, List, [], ◌∷◌, ◌++◌, map, length, take, reverse, Option, Vec, refl, sym, ap, subst, ◌∙◌, arith}
-use Rattle.std.proofs.lemmas.Bool.{cases_lt}
-use Rattle.std.proofs.lemmas.List.{length-append, length-map, length-reverse, map-append, take-append-le}
+use Rattle.std.proofs.Common.{◌≡◌, ℕ, suc, ◌+◌, ◌<◌, ◌≤◌, inl, inr, Bool, true, false, Err, add-one, List, [], ◌∷◌, ◌++◌, map, length, take, reverse, Option, Vec, refl, sym, ap, subst, ◌∙◌, arith}
+use Rattle.std.proofs.lemmas.Bool.{false≢true, cases_lt, cases_Bool}
+use Rattle.std.proofs.lemmas.List.{length-append, length_push, length-map, length-reverse, map-append, take-append-le}
 use Rattle.std.specs.Iterator.{Yields, Drains}
 use Rattle.daggy_base.specs.Graph.{Graph, node_bound, edge_count}
-use Rattle.daggy_base.specs.Path.{IsAcyclic}
+use Rattle.daggy_base.specs.Path.{Reaches, IsAcyclic}
 use Rattle.daggy_base.specs.Adding.{with_edge, next_edge}
 use Rattle.daggy_base.specs.Removal.{Kind, Compact}
 use Rattle.daggy_base.specs.Graph.{IsCompact}
 use Rattle.daggy_base.specs.WellFormed.{IsWellFormed}
 use Rattle.std.specs.declared.alloc.Global.{Global}
-use Rattle.daggy_guard.specs.Series.{NewEdge, by_numbers, with_edges, new_edges, HasEnds, IsFaultless, IsAdded, IsFirstFault, ClosesCycle, IsRefused, LacksEnd, LacksIndex, LacksMemory, weights_back}
-use Rattle.daggy_guard.specs.SoFar.{IsSeries, IsFault, refusal}
+use Rattle.daggy_base.proofs.Adding.{free_edge, still_cyclic, cyclic_with_edge}
+use Rattle.daggy_order.specs.Ordered.{IsOrderOf, place}
+use Rattle.daggy_order.proofs.OrderLaws.{order_with_edge}
+use Rattle.daggy_guard.specs.Series.{NewEdge, by_numbers, with_edges, new_edges, HasEnds, IsFaultless, IsAdded, IsFirstFault, ClosesCycle, IsRefused, LacksEnd, LacksIndex, LacksMemory, weights_back, ordering_looks, most_looks}
+use Rattle.daggy_guard.specs.SoFar.{IsSeries, IsFault, item_looks, refusal}
 use Rattle.daggy_guard.specs.declared.series.Fault.{Fault}
 use Rattle.daggy_guard.specs.declared.series.Fault.TheVariants.{BadEndpoint, Full, Memory}
-use Rattle.daggy_guard.proofs.Accepting.{accepted_if_acyclic, acyclic_if_accepted, count_with_edges}
+use Rattle.daggy_guard.proofs.Accepting.{accepted_if_acyclic, acyclic_if_accepted, order_before_edges, count_with_edges}
+use Rattle.daggy_guard.proofs.Ordering.{order_kept}
 
 -- one edge more
 edges_more : {N E : Type 0} (g : Graph N E) (xs : List (NewEdge E)) (x : NewEdge E) → with_edges g (xs ++ x ∷ []) ≡ with_edge (with_edges g xs) x.0 x.1 x.2
@@ -32,10 +36,6 @@ fault_more limit g (y ∷ ys) x f h r = (f.0, f.1, fault_more limit (with_edge g
 length-new_edges : {N E : Type 0} (g : Graph N E) (xs : List (NewEdge E)) → length (new_edges g xs) ≡ length xs
 length-new_edges g [] = refl
 length-new_edges g (x ∷ xs) = ap suc (length-new_edges (with_edge g x.0 x.1 x.2) xs)
-
-nothing_added : {N E : Type 0} (g : Graph N E) (xs : List (NewEdge E)) → length xs ≡ 0 → with_edges g xs ≡ g
-nothing_added g [] none = refl
-nothing_added g (x ∷ xs) none = absurd (omega (arith, none))
 
 take_front : {A : Type 0} (xs : List A) (x : A) (k : ℕ) → k ≤ length xs → take k (xs ++ x ∷ []) ≡ take k xs
 take_front xs x k h = take-append-le k xs (x ∷ []) h
@@ -67,48 +67,86 @@ module _ {N E : Type 0} {limit : ℕ} {kind : Kind} {before now : Graph N E} {xs
         slots_are = s.slots_are;
       }
 
-pub record Adding {I N E : Type 0} (number : I → ℕ) (limit : ℕ) (kind : Kind) (before now : Graph N E) (given : List (I × I × E)) (edges : List ℕ) (slots : ℕ) (weights : List E) (len₀ len₁ capacity room looks₀ looks : ℕ) : Type 0 where
+pub record Adding {I N E : Type 0} (number : I → ℕ) (limit : ℕ) (kind : Kind) (before now : Graph N E) (given : List (I × I × E)) (edges : List ℕ) (slots : ℕ) (weights : List E) (len₀ len₁ capacity room looks₀ looks : ℕ) (order : List ℕ) (cyclic : Bool) : Type 0 where
   pub series : IsSeries limit kind before now (map (by_numbers number) given) edges slots
   pub faultless : IsFaultless limit before (map (by_numbers number) given)
   pub empty : weights ≡ []
   pub spare : len₀ + len₁ ≤ capacity
   pub fits : node_bound now ≤ room
-  pub uncounted : looks ≡ looks₀
+  pub few_looks : looks ≤ looks₀ + ordering_looks (edge_count before) (length given)
+  pub ordered_before : IsOrderOf before order
+  pub ordered_now : cyclic ≡ false → IsOrderOf now order
+  pub closed : cyclic ≡ true → IsAcyclic now → ⊥
 
-pub adding_starts : {I N E : Type 0} {number : I → ℕ} {limit : ℕ} {kind : Kind} (g : Graph N E) (edges : List ℕ) (slots : ℕ) (weights : List E) (len₀ len₁ capacity room looks : ℕ)
-    → edges ≡ [] → slots ≡ length g.edges → (kind ≡ Compact → IsCompact g) → weights ≡ [] → len₀ ≡ 0 → len₁ ≡ 0 → node_bound g ≤ room
-    → Adding number limit kind g g [] edges slots weights len₀ len₁ capacity room looks looks
-adding_starts g edges slots weights len₀ len₁ capacity room looks none many compact empty zero₀ zero₁ fits = record {
+pub adding_starts : {I N E : Type 0} {number : I → ℕ} {limit : ℕ} {kind : Kind} (g : Graph N E) (edges : List ℕ) (slots : ℕ) (weights : List E) (len₀ len₁ capacity room looks : ℕ) (order : List ℕ) (cyclic : Bool)
+    → edges ≡ [] → slots ≡ length g.edges → (kind ≡ Compact → IsCompact g) → weights ≡ [] → len₀ ≡ 0 → len₁ ≡ 0 → node_bound g ≤ room → IsOrderOf g order → cyclic ≡ false
+    → Adding number limit kind g g [] edges slots weights len₀ len₁ capacity room looks looks order cyclic
+adding_starts g edges slots weights len₀ len₁ capacity room looks order cyclic none many compact empty zero₀ zero₁ fits ordered start = record {
   series = record { now_is = refl; indices_are = none; well_formed = λ k h. absurd (omega arith); compact = λ c. (compact c).edges; slots_are = many };
   faultless = tt;
   empty = empty;
   spare = omega (arith, zero₀, zero₁);
   fits = fits;
-  uncounted = refl;
+  few_looks = omega arith;
+  ordered_before = ordered;
+  ordered_now = λ f. ordered;
+  closed = λ t. absurd (false≢true (sym start ∙ t));
 }
 
-module _ {I N E : Type 0} {number : I → ℕ} {limit : ℕ} {kind : Kind} {before now : Graph N E} {given : List (I × I × E)} {edges : List ℕ} {slots : ℕ} {weights : List E} {len₀ len₁ capacity room looks₀ looks : ℕ} (s : Adding number limit kind before now given edges slots weights len₀ len₁ capacity room looks₀ looks) where
+module _ {I N E : Type 0} {number : I → ℕ} {limit : ℕ} {kind : Kind} {before now : Graph N E} {given : List (I × I × E)} {edges : List ℕ} {slots : ℕ} {weights : List E} {len₀ len₁ capacity room looks₀ looks : ℕ} {order : List ℕ} {cyclic : Bool} (s : Adding number limit kind before now given edges slots weights len₀ len₁ capacity room looks₀ looks order cyclic) where
   abbrev all : List (NewEdge E)
   all = map (by_numbers number) given
 
+  -- how many edges there are now
+  count_now : edge_count now ≡ edge_count before + length given
+  count_now =
+      omega (arith, ap edge_count s.series.now_is, count_with_edges limit before all s.series.well_formed, length-map given (by_numbers number))
+
+  as_many : length edges ≡ length given
+  as_many = ap length s.series.indices_are ∙ length-new_edges before all ∙ length-map given (by_numbers number)
+
+  -- the order after way was made for an edge more, whatever became of it
+  pub order_then : (order' : List ℕ) (cyclic' : Bool) → (cyclic ≡ true → (cyclic' ≡ true) × (order' ≡ order)) → (cyclic ≡ false → IsOrderOf now order') → IsOrderOf before order'
+  order_then order' cyclic' stays sorts =
+      elim (cases_Bool cyclic) [
+        | inl t ↦ (let P : List ℕ → Type 0 = λ z. IsOrderOf before z in subst P (sym (stays t).1) s.ordered_before)
+        | inr f ↦ order_before_edges limit before all s.series.well_formed order' (order_kept (sorts f) (sym s.series.now_is))
+      ]
+
   pub adding_on : (x : I × I × E) (new : Graph N E) → IsWellFormed limit now → HasEnds now (by_numbers number x) → edge_count now < limit → new ≡ with_edge now (number x.0) (number x.1) x.2
       → (edges' : List ℕ) → edges' ≡ edges ++ next_edge now ∷ [] → (weights' : List E) → weights' ≡ weights
-      → (len₀' len₁' capacity' : ℕ) → len₀' + len₁' ≤ capacity' → (looks' : ℕ) → looks' ≡ looks
-      → Adding number limit kind before new (given ++ x ∷ []) edges' slots weights' len₀' len₁' capacity' room looks₀ looks'
-  adding_on x new f ends left is edges' noted weights' same len₀' len₁' capacity' spare looks' unlooked =
+      → (len₀' len₁' capacity' : ℕ) → len₀' + len₁' ≤ capacity' → (looks' : ℕ) → looks' ≤ looks + edge_count now
+      → (order' : List ℕ) (cyclic' : Bool) → (cyclic ≡ true → (cyclic' ≡ true) × (order' ≡ order)) → (cyclic ≡ false → IsOrderOf now order')
+      → (cyclic' ≡ false → place order' (number x.0) < place order' (number x.1)) → (cyclic ≡ false → cyclic' ≡ true → Reaches now (number x.1) (number x.0))
+      → Adding number limit kind before new (given ++ x ∷ []) edges' slots weights' len₀' len₁' capacity' room looks₀ looks' order' cyclic'
+  adding_on x new f ends left is edges' noted weights' same len₀' len₁' capacity' spare looks' few order' cyclic' stays sorts placed closes =
       let now_is = s.series.now_is in
       let P : Graph N E → Type 0 = λ z. HasEnds z (by_numbers number x) in
       let Q : Graph N E → Type 0 = λ z. edge_count z < limit in
       let longer : map (by_numbers number) given ++ by_numbers number x ∷ [] ≡ map (by_numbers number) (given ++ x ∷ []) = sym (map-append (by_numbers number) given (x ∷ [])) in
       let R : List (NewEdge E) → Type 0 = λ z. IsSeries limit kind before new z edges' slots in
       let S : List (NewEdge E) → Type 0 = λ z. IsFaultless limit before z in
+      let one_more : ordering_looks (edge_count before) (length (given ++ x ∷ [])) ≡ ordering_looks (edge_count before) (suc (length given)) = ap (ordering_looks (edge_count before)) (length_push given x ∙ add-one (length given)) in
+      let free = free_edge now (number x.0) (number x.1) x.2 limit f in
+      let C : Graph N E → Type 0 = λ z. IsAcyclic z in
       record {
         series = subst R longer (series_on s.series (by_numbers number x) new f is edges' noted);
         faultless = subst S longer (fault_more limit before all (by_numbers number x) s.faultless (subst P now_is ends) (subst Q now_is left));
         empty = same ∙ s.empty;
         spare = spare;
-        fits = (let C : Graph N E → Type 0 = λ z. node_bound z ≤ room in subst C (sym is) s.fits);
-        uncounted = unlooked ∙ s.uncounted;
+        fits = (let B : Graph N E → Type 0 = λ z. node_bound z ≤ room in subst B (sym is) s.fits);
+        few_looks = omega (arith, one_more, few, s.few_looks, count_now);
+        ordered_before = order_then order' cyclic' stays sorts;
+        ordered_now = λ unshut.
+            elim (cases_Bool cyclic) [
+              | inl t ↦ absurd (false≢true (sym unshut ∙ (stays t).0))
+              | inr f ↦ order_kept (order_with_edge order' (sorts f) (number x.0) (number x.1) x.2 (placed unshut)) is
+            ];
+        closed = λ shut a.
+            elim (cases_Bool cyclic) [
+              | inl t ↦ s.closed t (still_cyclic now (number x.0) (number x.1) x.2 free (subst C is a))
+              | inr f ↦ cyclic_with_edge now (number x.0) (number x.1) x.2 free ends.0 (closes f shut) (subst C is a)
+            ];
       }
 
   -- the same series, where nothing changed
@@ -165,17 +203,20 @@ module _ {I N E : Type 0} {number : I → ℕ} {limit : ℕ} {kind : Kind} {befo
         accepted = accepted_if_acyclic limit before all s.series.well_formed s.faultless (subst P s.series.now_is acyclic);
       }
 
-  pub as_before : length edges ≡ 0 → IsAcyclic before → IsAcyclic now
-  as_before none acyclic =
-      let P : Graph N E → Type 0 = λ z. IsAcyclic z in
-      let same = nothing_added before all (omega (arith, none, ap length s.series.indices_are, length-new_edges before all)) in
-      subst P (sym (s.series.now_is ∙ same)) acyclic
+  -- how many weights are handed back, and how often was looked then
+  as_many_back : {back : List E} → back ≡ reverse (map (λ (x : NewEdge E). x.2) (map (by_numbers number) given)) → length back ≡ length given
+  as_many_back is =
+      omega (arith, ap length is, length-reverse (map (λ (x : NewEdge E). x.2) all), length-map all (λ (x : NewEdge E). x.2), length-map given (by_numbers number))
 
-  -- how many edges there are now
-  pub count_now : edge_count now ≡ edge_count before + length edges
-  count_now =
-      omega (arith, ap edge_count s.series.now_is, count_with_edges limit before all s.series.well_formed, ap length s.series.indices_are, length-new_edges before all)
+  pub few_added : (edges' : List ℕ) → edges' ≡ edges → looks ≤ looks₀ + ordering_looks (edge_count before) (length edges')
+  few_added edges' kept = omega (arith, s.few_looks, ap (ordering_looks (edge_count before)) (ap length kept ∙ as_many))
 
-  pub as_many_weights : {back : List E} → back ≡ reverse (map (λ (x : NewEdge E). x.2) (map (by_numbers number) given)) → length back ≡ length edges
-  as_many_weights is =
-      omega (arith, ap length is, length-reverse (map (λ (x : NewEdge E). x.2) all), length-map all (λ (x : NewEdge E). x.2), ap length s.series.indices_are, length-new_edges before all)
+  pub few_in_cycle : {back : List E} → back ≡ reverse (map (λ (x : NewEdge E). x.2) (map (by_numbers number) given)) → (looks' : ℕ) → looks' ≡ looks → looks' ≤ looks₀ + ordering_looks (edge_count before) (length back)
+  few_in_cycle returned looks' same = omega (arith, s.few_looks, ap (ordering_looks (edge_count before)) (as_many_back returned), same)
+
+  pub few_at_fault : (fault : Fault E) (back : Vec E Global) → back.items ≡ reverse (map (λ (x : NewEdge E). x.2) (map (by_numbers number) given))
+      → (looks' looks″ : ℕ) → looks' ≤ looks + item_looks {R = Unit {0}} (edge_count now) (Err fault) → looks″ ≡ looks' → looks″ ≤ looks₀ + most_looks before (Err (refusal fault back))
+  few_at_fault (BadEndpoint w) back returned looks' looks″ few same = omega (arith, s.few_looks, ap (ordering_looks (edge_count before)) (as_many_back returned), few, same)
+  few_at_fault (Full w) back returned looks' looks″ few same = omega (arith, s.few_looks, ap (ordering_looks (edge_count before)) (as_many_back returned), few, same)
+  few_at_fault (Memory w) back returned looks' looks″ few same =
+      omega (arith, s.few_looks, count_now, ap (λ k. ordering_looks (edge_count before) (suc k)) (as_many_back returned), few, same)

@@ -2,3 +2,4 @@ pub mod Series
 pub mod SoFar
 pub mod Extension
 pub mod Elements
+pub mod NewNode

@@ -1,5 +1,5 @@
 -- Series of edges: all are added in their order, or none is.
-use Rattle.std.specs.Prelude.{◌≡◌, ℕ, ◌+◌, ◌<◌, ◌≤◌, List, [], ◌∷◌, ◌++◌, length, map, reverse, Option, Result, Ok, Err}
+use Rattle.std.specs.Prelude.{◌≡◌, ℕ, zero, suc, ◌+◌, ◌<◌, ◌≤◌, List, [], ◌∷◌, ◌++◌, length, map, reverse, Option, Result, Ok, Err}
 use Rattle.std.specs.Iterator.{Yields, Drains}
 use Rattle.daggy_base.specs.Graph.{Graph, HasNode, edge_count}
 use Rattle.daggy_base.specs.Path.{Reaches, IsAcyclic}
@@ -91,8 +91,15 @@ module _ {I N E S : Type 0} (number : I → ℕ) (limit : ℕ) (gives : S → Op
   IsRefused g (Memory last before) = IsFirstFault (LacksMemory limit) g last before.items
   IsRefused g (WouldCycle w) = ClosesCycle g w.0.items
 
--- how many edges were looked at, at most: where the graph was searched, each edge once
+-- how many looks it takes at most to make way for so many edges in turn: for each as many as there are edges then
+abbrev pub ordering_looks : (edges count : ℕ) → ℕ
+ordering_looks edges zero = 0
+ordering_looks edges (suc count) = ordering_looks edges count + (edges + count)
+
+-- how many edges were looked at, at most. Where memory is missing it may be missing after way was made for the last edge
 abbrev pub most_looks : {N E : Type 0} → Graph N E → Result (List ℕ) (EdgesError E) → ℕ
-most_looks g (Ok edges) = edge_count g + length edges
-most_looks g (Err (WouldCycle w)) = edge_count g + length w.0.items
-most_looks g (Err other) = 0
+most_looks g (Ok edges) = ordering_looks (edge_count g) (length edges)
+most_looks g (Err (WouldCycle w)) = ordering_looks (edge_count g) (length w.0.items)
+most_looks g (Err (Memory last before)) = ordering_looks (edge_count g) (suc (length before.items))
+most_looks g (Err (BadEndpoint last before)) = ordering_looks (edge_count g) (length before.items)
+most_looks g (Err (Full last before)) = ordering_looks (edge_count g) (length before.items)

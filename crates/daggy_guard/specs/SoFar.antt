@@ -1,5 +1,5 @@
 -- How far a series of edges has come.
-use Rattle.std.specs.Prelude.{◌≡◌, ℕ, ◌<◌, List, [], length, take, Vec}
+use Rattle.std.specs.Prelude.{◌≡◌, ℕ, ◌<◌, List, [], length, take, Vec, Result, Ok, Err}
 use Rattle.std.specs.declared.alloc.Global.{Global}
 use Rattle.daggy_base.specs.Graph.{Graph}
 use Rattle.daggy_base.specs.Removal.{Kind, Compact}
@@ -29,3 +29,10 @@ abbrev pub refusal : {E : Type 0} → Fault E → Vec E Global → EdgesError E
 refusal (BadEndpoint w) before = edges.BadEndpoint w before
 refusal (Full w) before = edges.Full w before
 refusal (Memory w) before = edges.Memory w before
+
+-- how many edges were looked at, at most, for one edge more: only a missing end or index is seen before way is made for it
+abbrev pub item_looks : {R E : Type 0} → (edges : ℕ) → Result R (Fault E) → ℕ
+item_looks edges (Ok r) = edges
+item_looks edges (Err (BadEndpoint w)) = 0
+item_looks edges (Err (Full w)) = 0
+item_looks edges (Err (Memory w)) = edges

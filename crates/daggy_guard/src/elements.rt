@@ -3,6 +3,7 @@ ghost use Rattle.std.specs.Prelude.{◌≡◌, ◌<◌, ◌≤◌, OnOk, OnErr, 
 ghost use Rattle.std.specs.Iterator.{IsFinite, IsFiniteIterable};
 ghost use Rattle.daggy_base.specs.Graph.{HasNode, node_bound};
 ghost use Rattle.daggy_base.specs.Path.{IsAcyclic};
+ghost use Rattle.daggy_order.specs.Ordered.{IsOrderOf};
 ghost use Rattle.daggy_guard.specs.Elements.{IsJoined, IsEdgeRefused, WithElement, IsElementRefused, IsMade, IsUnmade};
 
 use crate::guard::{add_node, update_edge};
@@ -11,6 +12,7 @@ use daggy_base::error::{EdgeError, ElementError, NodeError};
 use daggy_base::index::{IndexType, NodeIndex};
 use daggy_base::search::Scratch;
 use daggy_base::store::Store;
+use daggy_order::order::Order;
 
 // The node at a position, if there is one.
 fn node_at<Ix: IndexType, S: Store<Ix>>(store: &S, position: usize) -> Option<NodeIndex<Ix>>
@@ -32,17 +34,18 @@ fn node_at<Ix: IndexType, S: Store<Ix>>(store: &S, position: usize) -> Option<No
 // Writes the weight of the edge between two positions, or adds it.
 fn join<Ix: IndexType, S: Store<Ix>>(
     store: &mut S,
+    order: &mut Order<Ix>,
     scratch: &mut Scratch<Ix>,
     source: usize,
     target: usize,
     weight: S::EdgeWeight,
 ) -> Result<(), EdgeError<S::EdgeWeight>>
     requires fits { node_bound (S.graph store.old) ≤ scratch.old.nodes }
-    requires acyclic { IsAcyclic (S.graph store.old) }
+    requires ordered { IsOrderOf (S.graph store.old) order.old }
     ensures joined { OnOk result (IsJoined Ix.greatest (S.graph store.old) (source, target, weight) (S.graph store.new)) }
     ensures refused { IfErr result (λ error. IsEdgeRefused Ix.greatest (S.graph store.old) (source, target, weight) error) }
     ensures unchanged { OnErr result (S.graph store.new ≡ S.graph store.old) }
-    ensures acyclic { IsAcyclic (S.graph store.new) }
+    ensures ordered { IsOrderOf (S.graph store.new) order.new }
     ensures fits { node_bound (S.graph store.new) ≤ scratch.new.nodes }
 {
     let Some(a) = node_at(store, source) else {
@@ -54,7 +57,7 @@ fn join<Ix: IndexType, S: Store<Ix>>(
     if store.find_edge(a, b).is_none() && !store.can_add_edge() {
         return Err(EdgeError::Full(weight));
     }
-    match update_edge(store, scratch, a, b, weight) {
+    match update_edge(store, order, scratch, a, b, weight) {
         Ok(_) => Ok(()),
         Err(error) => Err(error),
     }
@@ -63,15 +66,16 @@ fn join<Ix: IndexType, S: Store<Ix>>(
 // Adds one element.
 fn add_element<Ix: IndexType, S: Store<Ix>>(
     store: &mut S,
+    order: &mut Order<Ix>,
     scratch: &mut Scratch<Ix>,
     element: Element<S::NodeWeight, S::EdgeWeight>,
 ) -> Result<(), ElementError<S::NodeWeight, S::EdgeWeight>>
     requires fits { node_bound (S.graph store.old) ≤ scratch.old.nodes }
-    requires acyclic { IsAcyclic (S.graph store.old) }
+    requires ordered { IsOrderOf (S.graph store.old) order.old }
     ensures added { OnOk result (WithElement Ix.greatest (S.graph store.old) element (S.graph store.new)) }
     ensures refused { IfErr result (λ error. IsElementRefused Ix.greatest (S.graph store.old) element error) }
     ensures unchanged { OnErr result (S.graph store.new ≡ S.graph store.old) }
-    ensures acyclic { IsAcyclic (S.graph store.new) }
+    ensures ordered { IsOrderOf (S.graph store.new) order.new }
     ensures fits { node_bound (S.graph store.new) ≤ scratch.new.nodes }
 {
     match element {
@@ -79,7 +83,7 @@ fn add_element<Ix: IndexType, S: Store<Ix>>(
             if !store.can_add_node() {
                 return Err(ElementError::Node(NodeError::Full(weight)));
             }
-            match add_node(store, scratch, weight) {
+            match add_node(store, order, scratch, weight) {
                 Ok(_) => Ok(()),
                 Err(error) => Err(ElementError::Node(error)),
             }
@@ -88,7 +92,7 @@ fn add_element<Ix: IndexType, S: Store<Ix>>(
             source,
             target,
             weight,
-        } => match join(store, scratch, source, target, weight) {
+        } => match join(store, order, scratch, source, target, weight) {
             Ok(()) => Ok(()),
             Err(error) => Err(ElementError::Edge(error)),
         },
@@ -98,20 +102,21 @@ fn add_element<Ix: IndexType, S: Store<Ix>>(
 // Adds the elements that an iterator gives, up to the first one that is refused.
 fn add_all<Ix: IndexType, S: Store<Ix>, I: Iterator<Item = Element<S::NodeWeight, S::EdgeWeight>>>(
     store: &mut S,
+    order: &mut Order<Ix>,
     scratch: &mut Scratch<Ix>,
     items: I,
 ) -> Result<(), ElementError<S::NodeWeight, S::EdgeWeight>>
     requires can { I.can_next items }
     requires ends { IsFinite (I.remaining items) }
     requires fits { node_bound (S.graph store.old) ≤ scratch.old.nodes }
-    requires acyclic { IsAcyclic (S.graph store.old) }
+    requires ordered { IsOrderOf (S.graph store.old) order.old }
     ensures made { OnOk result (IsMade Ix.greatest I.next_gives items (S.graph store.old) (S.graph store.new)) }
     ensures refused { IfErr result (λ error. IsUnmade Ix.greatest I.next_gives items (S.graph store.old) error) }
-    ensures acyclic { IsAcyclic (S.graph store.new) }
+    ensures ordered { IsOrderOf (S.graph store.new) order.new }
     ensures fits { node_bound (S.graph store.new) ≤ scratch.new.nodes }
 {
     'items: for element in items {
-        match add_element(store, scratch, element) {
+        match add_element(store, order, scratch, element) {
             Ok(()) => {}
             Err(error) => return Err(error),
         }
@@ -126,18 +131,20 @@ pub fn add_elements<
     I: IntoIterator<Item = Element<S::NodeWeight, S::EdgeWeight>>,
 >(
     store: &mut S,
+    order: &mut Order<Ix>,
     scratch: &mut Scratch<Ix>,
     items: I,
 ) -> Result<(), ElementError<S::NodeWeight, S::EdgeWeight>>
     requires ends { IsFiniteIterable I.into_iter_gives I.IntoIter.can_next I.IntoIter.remaining items }
     requires fits { node_bound (S.graph store.old) ≤ scratch.old.nodes }
-    requires acyclic { IsAcyclic (S.graph store.old) }
+    requires ordered { IsOrderOf (S.graph store.old) order.old }
     ensures made { OnOk result ((it : I.IntoIter) × I.into_iter_gives items it
         × IsMade Ix.greatest I.IntoIter.next_gives it (S.graph store.old) (S.graph store.new)) }
     ensures refused { IfErr result (λ error. (it : I.IntoIter) × I.into_iter_gives items it
         × IsUnmade Ix.greatest I.IntoIter.next_gives it (S.graph store.old) error) }
     ensures acyclic { IsAcyclic (S.graph store.new) }
+    ensures ordered { IsOrderOf (S.graph store.new) order.new }
     ensures fits { node_bound (S.graph store.new) ≤ scratch.new.nodes }
 {
-    add_all(store, scratch, items.into_iter())
+    add_all(store, order, scratch, items.into_iter())
 }

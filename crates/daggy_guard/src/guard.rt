@@ -1,75 +1,129 @@
 //! The changes that keep any store acyclic. Both kinds of dag are made of them.
-ghost use Rattle.std.specs.Prelude.{◌≡◌, ℕ, ◌+◌, ◌<◌, ◌≤◌, ◌↔◌, ◌⊎◌, IsTrue, Err, None, IfOk, OnOk, IfErr, OnErr, OnSome, IfSome, IfNone, IsOkAnd};
-ghost use Rattle.daggy_base.specs.Graph.{HasNode, node_weight, node_count, edge_count, node_bound};
+ghost use Rattle.std.specs.Prelude.{◌≡◌, ℕ, ◌+◌, ◌<◌, ◌≤◌, ◌↔◌, ◌⊎◌, true, false, List, Contains, map, Err, None, IfOk, OnOk, IfErr, OnErr, OnSome, IfSome, IfNone, IsOkAnd};
+ghost use Rattle.daggy_base.specs.Graph.{Graph, HasNode, node_weight, node_count, edge_count, node_bound};
 ghost use Rattle.daggy_base.specs.Path.{Reaches, IsAcyclic};
-ghost use Rattle.daggy_base.specs.WellFormed.{IsWellFormed};
 ghost use Rattle.daggy_base.specs.Adding.{next_node, next_edge, with_node, with_edge, with_link, with_neighbor, ComesFirst};
 ghost use Rattle.daggy_base.specs.Finding.{find_edge as edge_between};
 ghost use Rattle.daggy_base.specs.Weights.{edge_weight, with_edge_weight};
-ghost use Rattle.daggy_base.specs.Removal.{without_edge, without_node};
+ghost use Rattle.daggy_base.specs.Removal.{without, renamed, without_edge, without_node};
+ghost use Rattle.daggy_order.specs.Ordered.{IsOrderOf};
+ghost use Rattle.daggy_guard.specs.NewNode.{IsAddedNode, with_end};
 ghost use Rattle.daggy_base.specs.declared.error.NodeError.TheVariants.{Memory as NodeMemory};
 ghost use Rattle.daggy_base.specs.declared.error.EdgeError.TheVariants.{WouldCycle as ByCycle, Memory as EdgeMemory};
 ghost use Rattle.daggy_base.specs.declared.error.ChildError.TheVariants.{Memory as ChildMemory};
 
 use daggy_base::error::{ChildError, EdgeError, NodeError, WouldCycle};
 use daggy_base::index::{Direction, EdgeIndex, IndexType, NodeIndex};
-use daggy_base::search::{Scratch, reaches};
+use daggy_base::search::Scratch;
 use daggy_base::store::Store;
+use daggy_order::order::{Order, order_edge};
+use std::alloc::AllocError;
 
-/// Adds a node, after the scratch fits a search of the graph with that node.
+// Puts a new node last in an order, where edges are to lead to it, or first, where they are to leave it.
 #[inline]
-pub fn add_node<Ix: IndexType, S: Store<Ix>>(
+fn put<Ix: IndexType>(
+    order: &mut Order<Ix>,
+    dir: Direction,
+    n: NodeIndex<Ix>,
+) -> Result<(), AllocError>
+    requires real { Ix.number n < Ix.greatest }
+    requires absent { ¬ Contains order.old (Ix.number n) }
+    ensures ok { OnOk result (order.new ≡ with_end dir order.old (Ix.number n)) }
+    ensures err { OnErr result (order.new ≡ order.old) }
+{
+    match dir {
+        Direction::Outgoing => order.push(n),
+        Direction::Incoming => order.push_first(n),
+    }
+}
+
+// Takes back a node that was just added, and hands its weight back. There were so many slots before.
+#[inline]
+fn take_back<Ix: IndexType, S: Store<Ix>>(
     store: &mut S,
+    n: NodeIndex<Ix>,
+    slots: usize,
+) -> S::NodeWeight
+    requires added { (old : Graph S.NodeWeight S.EdgeWeight) × (w : S.NodeWeight)
+        × IsAddedNode Ix.greatest S.kind old (S.graph store.old) w (Ix.number n) slots }
+    ensures undone { (old : Graph S.NodeWeight S.EdgeWeight) (w : S.NodeWeight)
+        → IsAddedNode Ix.greatest S.kind old (S.graph store.old) w (Ix.number n) slots → S.graph store.new ≡ old }
+    ensures returned { (old : Graph S.NodeWeight S.EdgeWeight) (w : S.NodeWeight)
+        → IsAddedNode Ix.greatest S.kind old (S.graph store.old) w (Ix.number n) slots → result ≡ w }
+    ensures counted { S.looks store.new ≡ S.looks store.old }
+{
+    store.take_back_node(n, slots <= n.index())
+}
+
+// Adds a node, and puts it last in the order, or first. The scratch fits a search of the graph with that node then.
+#[inline]
+fn put_node<Ix: IndexType, S: Store<Ix>>(
+    store: &mut S,
+    order: &mut Order<Ix>,
     scratch: &mut Scratch<Ix>,
+    dir: Direction,
     weight: S::NodeWeight,
 ) -> Result<NodeIndex<Ix>, NodeError<S::NodeWeight>>
     requires room { node_count (S.graph store.old) < Ix.greatest }
     requires fits { node_bound (S.graph store.old) ≤ scratch.old.nodes }
-    requires acyclic { IsAcyclic (S.graph store.old) }
-    ensures added { IfOk result (λ n. (Ix.number n ≡ next_node (S.graph store.old))
-        × (S.graph store.new ≡ with_node (S.graph store.old) weight)) }
+    requires ordered { IsOrderOf (S.graph store.old) order.old }
+    ensures index { IfOk result (λ n. Ix.number n ≡ next_node (S.graph store.old)) }
+    ensures added { OnOk result (S.graph store.new ≡ with_node (S.graph store.old) weight) }
+    ensures put { OnOk result (order.new ≡ with_end dir order.old (next_node (S.graph store.old))) }
     ensures refusal { IfErr result (λ e. e ≡ NodeMemory weight) }
     ensures unchanged { OnErr result (S.graph store.new ≡ S.graph store.old) }
-    ensures acyclic { IsAcyclic (S.graph store.new) }
+    ensures kept { OnErr result (order.new ≡ order.old) }
     ensures fits { node_bound (S.graph store.new) ≤ scratch.new.nodes }
     ensures room { scratch.old.nodes ≤ scratch.new.nodes }
     ensures counted { S.looks store.new ≡ S.looks store.old }
 {
     let _well_formed = store.node_count();
+    let old_slots = store.node_slots();
     let slots = store.slots_with_node();
     if scratch.reserve(slots, 0).is_err() {
         return Err(NodeError::Memory(weight));
     }
-    store.add_node(weight)
+    let n = store.add_node(weight)?;
+    let _still = store.node_count();
+    match put(order, dir, n) {
+        Ok(()) => Ok(n),
+        Err(_) => {
+            let weight = take_back(store, n, old_slots);
+            Err(NodeError::Memory(weight))
+        }
+    }
 }
 
-// Whether `from` reaches `to`. No search is needed where `to` has no parents, unless the two are one.
+/// Adds a node, which stands last in the order, after the scratch fits a search of the graph with that node.
 #[inline]
-fn leads_to<Ix: IndexType, S: Store<Ix>>(
+pub fn add_node<Ix: IndexType, S: Store<Ix>>(
     store: &mut S,
+    order: &mut Order<Ix>,
     scratch: &mut Scratch<Ix>,
-    from: NodeIndex<Ix>,
-    to: NodeIndex<Ix>,
-) -> bool
-    requires { node_bound (S.graph store.old) ≤ scratch.old.nodes }
-    ensures decided { IsTrue result ↔ Reaches (S.graph store.old) (Ix.number from) (Ix.number to) }
-    ensures same { S.graph store.new ≡ S.graph store.old }
-    ensures counted { S.looks store.new ≤ S.looks store.old + edge_count (S.graph store.old) }
-    ensures room { scratch.new ≡ scratch.old }
-    ensures well_formed { IsWellFormed Ix.greatest (S.graph store.old) }
+    weight: S::NodeWeight,
+) -> Result<NodeIndex<Ix>, NodeError<S::NodeWeight>>
+    requires room { node_count (S.graph store.old) < Ix.greatest }
+    requires fits { node_bound (S.graph store.old) ≤ scratch.old.nodes }
+    requires ordered { IsOrderOf (S.graph store.old) order.old }
+    ensures added { IfOk result (λ n. (Ix.number n ≡ next_node (S.graph store.old))
+        × (S.graph store.new ≡ with_node (S.graph store.old) weight)) }
+    ensures refusal { IfErr result (λ e. e ≡ NodeMemory weight) }
+    ensures unchanged { OnErr result (S.graph store.new ≡ S.graph store.old) }
+    ensures acyclic { IsAcyclic (S.graph store.new) }
+    ensures ordered { IsOrderOf (S.graph store.new) order.new }
+    ensures fits { node_bound (S.graph store.new) ≤ scratch.new.nodes }
+    ensures room { scratch.old.nodes ≤ scratch.new.nodes }
+    ensures counted { S.looks store.new ≡ S.looks store.old }
 {
     let _well_formed = store.node_count();
-    let first = store.first_edge(to, Direction::Incoming);
-    if first.index() == EdgeIndex::<Ix>::end().index() && from.index() != to.index() {
-        return false;
-    }
-    reaches(store, from, to, scratch)
+    put_node(store, order, scratch, Direction::Outgoing, weight)
 }
 
-/// Adds an edge from `a` to `b`, unless a path leads from `b` to `a`.
+/// Adds an edge from `a` to `b`, unless a path leads from `b` to `a`. The order makes way for it.
 #[inline]
 pub fn add_edge<Ix: IndexType, S: Store<Ix>>(
     store: &mut S,
+    order: &mut Order<Ix>,
     scratch: &mut Scratch<Ix>,
     a: NodeIndex<Ix>,
     b: NodeIndex<Ix>,
@@ -79,7 +133,7 @@ pub fn add_edge<Ix: IndexType, S: Store<Ix>>(
     requires child { HasNode (S.graph store.old) (Ix.number b) }
     requires room { edge_count (S.graph store.old) < Ix.greatest }
     requires fits { node_bound (S.graph store.old) ≤ scratch.old.nodes }
-    requires acyclic { IsAcyclic (S.graph store.old) }
+    requires ordered { IsOrderOf (S.graph store.old) order.old }
     ensures cycle { (result ≡ Err (ByCycle (record { 0 = weight }))) ↔ Reaches (S.graph store.old) (Ix.number b) (Ix.number a) }
     ensures refusal { IfErr result (λ e. (e ≡ ByCycle (record { 0 = weight })) ⊎ (e ≡ EdgeMemory weight)) }
     ensures added { IfOk result (λ e. (Ix.number e ≡ next_edge (S.graph store.old))
@@ -87,10 +141,13 @@ pub fn add_edge<Ix: IndexType, S: Store<Ix>>(
     ensures first { IfOk result (λ e. ComesFirst (S.graph store.old) (S.graph store.new) (Ix.number a) (Ix.number b) (Ix.number e)) }
     ensures unchanged { OnErr result (S.graph store.new ≡ S.graph store.old) }
     ensures acyclic { IsAcyclic (S.graph store.new) }
+    ensures ordered { IsOrderOf (S.graph store.new) order.new }
     ensures counted { S.looks store.new ≤ S.looks store.old + edge_count (S.graph store.old) }
+    ensures ready { Reaches (S.graph store.old) (Ix.number a) (Ix.number b) → S.looks store.new ≡ S.looks store.old }
     ensures room { scratch.new ≡ scratch.old }
 {
-    if leads_to(store, scratch, b, a) {
+    let _well_formed = store.node_count();
+    if !order_edge(store, order, a, b, scratch) {
         return Err(EdgeError::WouldCycle(WouldCycle(weight)));
     }
     store.add_edge(a, b, weight)
@@ -99,6 +156,7 @@ pub fn add_edge<Ix: IndexType, S: Store<Ix>>(
 /// Writes the weight of the edge that is found between `a` and `b`, or adds an edge as [`add_edge`] if there is none.
 pub fn update_edge<Ix: IndexType, S: Store<Ix>>(
     store: &mut S,
+    order: &mut Order<Ix>,
     scratch: &mut Scratch<Ix>,
     a: NodeIndex<Ix>,
     b: NodeIndex<Ix>,
@@ -108,7 +166,7 @@ pub fn update_edge<Ix: IndexType, S: Store<Ix>>(
     requires child { HasNode (S.graph store.old) (Ix.number b) }
     requires room { edge_between (S.graph store.old) (Ix.number a) (Ix.number b) ≡ None → edge_count (S.graph store.old) < Ix.greatest }
     requires fits { node_bound (S.graph store.old) ≤ scratch.old.nodes }
-    requires acyclic { IsAcyclic (S.graph store.old) }
+    requires ordered { IsOrderOf (S.graph store.old) order.old }
     ensures replaced { IfSome (edge_between (S.graph store.old) (Ix.number a) (Ix.number b)) (λ e.
         IsOkAnd result (λ updated. Ix.number updated ≡ e) × (S.graph store.new ≡ with_edge_weight (S.graph store.old) e weight)
         × (S.looks store.new ≡ S.looks store.old)) }
@@ -119,7 +177,9 @@ pub fn update_edge<Ix: IndexType, S: Store<Ix>>(
         × (S.graph store.new ≡ with_edge (S.graph store.old) (Ix.number a) (Ix.number b) weight)) }
     ensures unchanged { OnErr result (S.graph store.new ≡ S.graph store.old) }
     ensures acyclic { IsAcyclic (S.graph store.new) }
+    ensures ordered { IsOrderOf (S.graph store.new) order.new }
     ensures counted { S.looks store.new ≤ S.looks store.old + edge_count (S.graph store.old) }
+    ensures ready { Reaches (S.graph store.old) (Ix.number a) (Ix.number b) → S.looks store.new ≡ S.looks store.old }
     ensures fits { node_bound (S.graph store.new) ≤ scratch.new.nodes }
 {
     let _well_formed = store.node_count();
@@ -128,11 +188,11 @@ pub fn update_edge<Ix: IndexType, S: Store<Ix>>(
             let _old = store.replace_edge_weight(e, weight);
             Ok(e)
         }
-        None => add_edge(store, scratch, a, b, weight),
+        None => add_edge(store, order, scratch, a, b, weight),
     }
 }
 
-// Adds an edge from `n` to `new`, or from `new` to `n`, where no path leads between them.
+// Adds an edge from `n` to `new`, or from `new` to `n`.
 #[inline]
 fn link<Ix: IndexType, S: Store<Ix>>(
     store: &mut S,
@@ -144,14 +204,10 @@ fn link<Ix: IndexType, S: Store<Ix>>(
     requires node { HasNode (S.graph store.old) (Ix.number n) }
     requires new { HasNode (S.graph store.old) (Ix.number new) }
     requires room { edge_count (S.graph store.old) < Ix.greatest }
-    requires acyclic { IsAcyclic (S.graph store.old) }
-    requires from { Reaches (S.graph store.old) (Ix.number n) (Ix.number new) → ⊥ }
-    requires to { Reaches (S.graph store.old) (Ix.number new) (Ix.number n) → ⊥ }
     ensures index { IfOk result (λ e. Ix.number e ≡ next_edge (S.graph store.old)) }
     ensures added { OnOk result (S.graph store.new ≡ with_link dir (S.graph store.old) (Ix.number n) (Ix.number new) edge) }
     ensures refusal { IfErr result (λ e. e ≡ EdgeMemory edge) }
     ensures unchanged { OnErr result (S.graph store.new ≡ S.graph store.old) }
-    ensures acyclic { IsAcyclic (S.graph store.new) }
     ensures counted { S.looks store.new ≡ S.looks store.old }
 {
     match dir {
@@ -160,10 +216,12 @@ fn link<Ix: IndexType, S: Store<Ix>>(
     }
 }
 
-/// Adds a node, and an edge from `n` to it or from it to `n`, or neither.
+/// Adds a node, and an edge from `n` to it or from it to `n`, or neither. A new child stands last in the order, a new
+/// parent first.
 #[inline]
 pub fn add_neighbor<Ix: IndexType, S: Store<Ix>>(
     store: &mut S,
+    order: &mut Order<Ix>,
     scratch: &mut Scratch<Ix>,
     n: NodeIndex<Ix>,
     dir: Direction,
@@ -174,58 +232,84 @@ pub fn add_neighbor<Ix: IndexType, S: Store<Ix>>(
     requires edge_room { edge_count (S.graph store.old) < Ix.greatest }
     requires node_room { node_count (S.graph store.old) < Ix.greatest }
     requires fits { node_bound (S.graph store.old) ≤ scratch.old.nodes }
-    requires acyclic { IsAcyclic (S.graph store.old) }
+    requires ordered { IsOrderOf (S.graph store.old) order.old }
     ensures added { IfOk result (λ r. (Ix.number r.0 ≡ next_edge (S.graph store.old)) × (Ix.number r.1 ≡ next_node (S.graph store.old))
         × (S.graph store.new ≡ with_neighbor dir (S.graph store.old) (Ix.number n) edge weight)) }
     ensures refusal { IfErr result (λ e. e ≡ ChildMemory edge weight) }
     ensures unchanged { OnErr result (S.graph store.new ≡ S.graph store.old) }
     ensures acyclic { IsAcyclic (S.graph store.new) }
+    ensures ordered { IsOrderOf (S.graph store.new) order.new }
     ensures counted { S.looks store.new ≡ S.looks store.old }
     ensures fits { node_bound (S.graph store.new) ≤ scratch.new.nodes }
 {
     let _well_formed = store.node_count();
     let slots = store.node_slots();
-    let new = match add_node(store, scratch, weight) {
+    let new = match put_node(store, order, scratch, dir, weight) {
         Ok(new) => new,
         Err(error) => return Err(ChildError::Memory(edge, error.into_weight())),
     };
     match link(store, dir, n, new, edge) {
         Ok(e) => Ok((e, new)),
         Err(error) => {
-            let weight = store.take_back_node(new, slots <= new.index());
+            order.remove(new);
+            let weight = take_back(store, new, slots);
             Err(ChildError::Memory(error.into_weight(), weight))
         }
     }
 }
 
-/// Removes an edge, if it is there.
+/// Removes an edge, if it is there. An order of the nodes stays one.
 pub fn remove_edge<Ix: IndexType, S: Store<Ix>>(
     store: &mut S,
     e: EdgeIndex<Ix>,
 ) -> Option<S::EdgeWeight>
-    requires { IsAcyclic (S.graph store.old) }
     ensures gives { result ≡ edge_weight (S.graph store.old) (Ix.number e) }
     ensures removed { OnSome result (S.graph store.new ≡ without_edge S.kind (S.graph store.old) (Ix.number e)) }
     ensures missing { IfNone result (S.graph store.new ≡ S.graph store.old) }
-    ensures acyclic { IsAcyclic (S.graph store.new) }
+    ensures acyclic { IsAcyclic (S.graph store.old) → IsAcyclic (S.graph store.new) }
+    ensures ordered { (order : List ℕ) → IsOrderOf (S.graph store.old) order → IsOrderOf (S.graph store.new) order }
     ensures bound { node_bound (S.graph store.new) ≡ node_bound (S.graph store.old) }
     ensures counted { S.looks store.new ≡ S.looks store.old }
 {
     store.remove_edge(e)
 }
 
-/// Removes a node with its edges, if it is there.
+// Takes a removed node out of an order. If the node of the index `last` was moved to its index, it is renamed.
+#[inline]
+fn take_out<Ix: IndexType>(order: &mut Order<Ix>, n: NodeIndex<Ix>, last: usize, moved: bool)
+    requires held { Contains order.old (Ix.number n) }
+    requires last { moved ≡ true → Contains order.old last }
+    requires real { last < Ix.greatest }
+    requires lower { Ix.number n ≤ last }
+    ensures moved { moved ≡ true → order.new ≡ map (renamed last (Ix.number n)) (without (Ix.number n) order.old) }
+    ensures stayed { moved ≡ false → order.new ≡ without (Ix.number n) order.old }
+{
+    order.remove(n);
+    if moved && n.index() != last {
+        order.rename(NodeIndex::new(last), n);
+    }
+}
+
+/// Removes a node with its edges, if it is there, and takes it out of the order.
 pub fn remove_node<Ix: IndexType, S: Store<Ix>>(
     store: &mut S,
+    order: &mut Order<Ix>,
     n: NodeIndex<Ix>,
 ) -> Option<S::NodeWeight>
-    requires { IsAcyclic (S.graph store.old) }
+    requires ordered { IsOrderOf (S.graph store.old) order.old }
     ensures gives { result ≡ node_weight (S.graph store.old) (Ix.number n) }
     ensures removed { OnSome result (S.graph store.new ≡ without_node S.kind (S.graph store.old) (Ix.number n)) }
     ensures missing { IfNone result (S.graph store.new ≡ S.graph store.old) }
     ensures acyclic { IsAcyclic (S.graph store.new) }
+    ensures ordered { IsOrderOf (S.graph store.new) order.new }
     ensures bound { node_bound (S.graph store.new) ≤ node_bound (S.graph store.old) }
     ensures counted { S.looks store.new ≡ S.looks store.old }
 {
-    store.remove_node(n)
+    let _well_formed = store.node_count();
+    let slots = store.node_slots();
+    let weight = store.remove_node(n)?;
+    let last = slots - 1;
+    let moved = store.node_slots() == last;
+    take_out(order, n, last, moved);
+    Some(weight)
 }

@@ -1,18 +1,20 @@
 //! Many edges at once: all or none.
-ghost use Rattle.std.specs.Prelude.{◌≡◌, ℕ, ◌+◌, ◌<◌, ◌≤◌, ◌↔◌, IsTrue, List, [], ◌∷◌, ◌++◌, length, map, reverse, vec_len, vec_capacity, IfOk, OnOk, IfErr, OnErr};
+ghost use Rattle.std.specs.Prelude.{◌≡◌, ℕ, ◌+◌, ◌<◌, ◌≤◌, true, false, List, [], ◌∷◌, ◌++◌, length, map, reverse, vec_len, vec_capacity, IfOk, OnOk, IfErr, OnErr};
 ghost use Rattle.std.specs.Iterator.{IsFinite, IsFiniteIterable};
-ghost use Rattle.daggy_base.specs.Graph.{Graph, node_bound, edge_count};
-ghost use Rattle.daggy_base.specs.Path.{IsAcyclic};
+ghost use Rattle.daggy_base.specs.Graph.{Graph, HasNode, node_bound, edge_count};
+ghost use Rattle.daggy_base.specs.Path.{Reaches, IsAcyclic};
 ghost use Rattle.daggy_base.specs.Adding.{with_edge, next_edge};
 ghost use Rattle.daggy_base.specs.WellFormed.{IsWellFormed};
+ghost use Rattle.daggy_order.specs.Ordered.{IsOrderOf, place};
 ghost use Rattle.daggy_guard.specs.Series.{NewEdge, by_numbers, HasEnds, IsAdded, IsRefused, most_looks};
-ghost use Rattle.daggy_guard.specs.SoFar.{IsSeries, IsFault, refusal};
+ghost use Rattle.daggy_guard.specs.SoFar.{IsSeries, IsFault, item_looks, refusal};
 
 use crate::edge_indices::EdgeIndices;
 use daggy_base::error::{EdgesError, WouldCycle};
 use daggy_base::index::{EdgeIndex, IndexType, NodeIndex};
-use daggy_base::search::{Scratch, is_acyclic};
+use daggy_base::search::Scratch;
 use daggy_base::store::Store;
+use daggy_order::order::{Order, order_edge};
 
 // What keeps an edge from being added, with its weight.
 #[derive(Drop)]
@@ -63,14 +65,44 @@ fn roll_back<Ix: IndexType, S: Store<Ix>>(
     }
 }
 
+// Makes way for an edge of a series, unless an edge before it closed a cycle. Whether one closes a cycle now.
+fn order_item<Ix: IndexType, S: Store<Ix>>(
+    store: &mut S,
+    order: &mut Order<Ix>,
+    scratch: &mut Scratch<Ix>,
+    a: NodeIndex<Ix>,
+    b: NodeIndex<Ix>,
+    cyclic: bool,
+) -> bool
+    requires parent { HasNode (S.graph store.old) (Ix.number a) }
+    requires child { HasNode (S.graph store.old) (Ix.number b) }
+    requires fits { node_bound (S.graph store.old) ≤ scratch.old.nodes }
+    requires ordered { cyclic ≡ false → IsOrderOf (S.graph store.old) order.old }
+    ensures stays { cyclic ≡ true → (result ≡ true) × (order.new ≡ order.old) }
+    ensures ordered { cyclic ≡ false → IsOrderOf (S.graph store.old) order.new }
+    ensures before { result ≡ false → place order.new (Ix.number a) < place order.new (Ix.number b) }
+    ensures closed { cyclic ≡ false → result ≡ true → Reaches (S.graph store.old) (Ix.number b) (Ix.number a) }
+    ensures same { S.graph store.new ≡ S.graph store.old }
+    ensures counted { S.looks store.new ≤ S.looks store.old + edge_count (S.graph store.old) }
+    ensures room { scratch.new ≡ scratch.old }
+{
+    let _well_formed = store.node_count();
+    cyclic || !order_edge(store, order, a, b, scratch)
+}
+
 // Adds one edge of a series, and notes its index. Room for its weight is taken first, for when it is handed back.
 fn add_item<Ix: IndexType, S: Store<Ix>>(
     store: &mut S,
+    order: &mut Order<Ix>,
+    scratch: &mut Scratch<Ix>,
     item: (NodeIndex<Ix>, NodeIndex<Ix>, S::EdgeWeight),
+    cyclic: &mut bool,
     edges: &mut Vec<EdgeIndex<Ix>>,
     weights: &mut Vec<S::EdgeWeight>,
 ) -> Result<(), Fault<S::EdgeWeight>>
     requires room { vec_len weights.old + vec_len edges.old ≤ vec_capacity weights.old }
+    requires fits { node_bound (S.graph store.old) ≤ scratch.old.nodes }
+    requires ordered { cyclic.old ≡ false → IsOrderOf (S.graph store.old) order.old }
     ensures refused { IfErr result (λ fault. IsFault Ix.greatest (S.graph store.old) (by_numbers Ix.number item) fault) }
     ensures well_formed { IsWellFormed Ix.greatest (S.graph store.old) }
     ensures unchanged { OnErr result (S.graph store.new ≡ S.graph store.old) }
@@ -81,7 +113,13 @@ fn add_item<Ix: IndexType, S: Store<Ix>>(
     ensures noted { OnOk result (map Ix.number edges.new.items ≡ map Ix.number edges.old.items ++ next_edge (S.graph store.old) ∷ []) }
     ensures weights { weights.new.items ≡ weights.old.items }
     ensures room { vec_len weights.new + vec_len edges.new ≤ vec_capacity weights.new }
-    ensures counted { S.looks store.new ≡ S.looks store.old }
+    ensures stays { cyclic.old ≡ true → (cyclic.new ≡ true) × (order.new ≡ order.old) }
+    ensures ordered { cyclic.old ≡ false → IsOrderOf (S.graph store.old) order.new }
+    ensures before { OnOk result (cyclic.new ≡ false → place order.new (Ix.number item.0) < place order.new (Ix.number item.1)) }
+    ensures closed { OnOk result (cyclic.old ≡ false → cyclic.new ≡ true
+        → Reaches (S.graph store.old) (Ix.number item.1) (Ix.number item.0)) }
+    ensures counted { S.looks store.new ≤ S.looks store.old + item_looks (edge_count (S.graph store.old)) result }
+    ensures scratch_kept { scratch.new ≡ scratch.old }
 {
     let _well_formed = store.node_count();
     let (a, b, weight) = item;
@@ -94,6 +132,7 @@ fn add_item<Ix: IndexType, S: Store<Ix>>(
     if edges.reserve(1).is_err() || weights.reserve(edges.len() + 1).is_err() {
         return Err(Fault::Memory(weight));
     }
+    *cyclic = order_item(store, order, scratch, a, b, *cyclic);
     match store.add_edge(a, b, weight) {
         Ok(e) => {
             edges.push_reserved(e);
@@ -103,25 +142,6 @@ fn add_item<Ix: IndexType, S: Store<Ix>>(
     }
 }
 
-// Whether the graph is acyclic now that it has these new edges. Without any it is what it was.
-fn still_acyclic<Ix: IndexType, S: Store<Ix>>(
-    store: &mut S,
-    scratch: &mut Scratch<Ix>,
-    new: &[EdgeIndex<Ix>],
-) -> bool
-    requires fits { node_bound (S.graph store.old) ≤ scratch.old.nodes }
-    requires old { new.now ≡ [] → IsAcyclic (S.graph store.old) }
-    ensures decided { IsTrue result ↔ IsAcyclic (S.graph store.old) }
-    ensures same { S.graph store.new ≡ S.graph store.old }
-    ensures counted { S.looks store.new ≤ S.looks store.old + edge_count (S.graph store.old) }
-    ensures room { scratch.new ≡ scratch.old }
-{
-    if new.is_empty() {
-        return true;
-    }
-    is_acyclic(store, scratch)
-}
-
 // Adds all edges that an iterator gives, or none.
 fn add_all<
     Ix: IndexType,
@@ -129,17 +149,18 @@ fn add_all<
     I: Iterator<Item = (NodeIndex<Ix>, NodeIndex<Ix>, S::EdgeWeight)>,
 >(
     store: &mut S,
+    order: &mut Order<Ix>,
     scratch: &mut Scratch<Ix>,
     items: I,
 ) -> Result<EdgeIndices<Ix>, EdgesError<S::EdgeWeight>>
     requires can { I.can_next items }
     requires ends { IsFinite (I.remaining items) }
     requires fits { node_bound (S.graph store.old) ≤ scratch.old.nodes }
-    requires acyclic { IsAcyclic (S.graph store.old) }
+    requires ordered { IsOrderOf (S.graph store.old) order.old }
     ensures added { IfOk result (λ edges. IsAdded Ix.number Ix.greatest I.next_gives items (S.graph store.old) (S.graph store.new) edges) }
     ensures refused { IfErr result (λ error. IsRefused Ix.number Ix.greatest I.next_gives items (S.graph store.old) error) }
     ensures unchanged { OnErr result (S.graph store.new ≡ S.graph store.old) }
-    ensures acyclic { IsAcyclic (S.graph store.new) }
+    ensures ordered { IsOrderOf (S.graph store.new) order.new }
     ensures fits { node_bound (S.graph store.new) ≤ scratch.new.nodes }
     ensures room { scratch.new ≡ scratch.old }
     ensures counted { S.looks store.new ≤ S.looks store.old + most_looks (S.graph store.old) result }
@@ -148,8 +169,17 @@ fn add_all<
     let slots = store.edge_slots();
     let mut edges = Vec::new(alloc);
     let mut weights = Vec::new(alloc);
+    let mut cyclic = false;
     'items: for item in items {
-        match add_item(store, item, &mut edges, &mut weights) {
+        match add_item(
+            store,
+            order,
+            scratch,
+            item,
+            &mut cyclic,
+            &mut edges,
+            &mut weights,
+        ) {
             Ok(()) => {}
             Err(fault) => {
                 roll_back(store, edges.as_slice(), slots, &mut weights);
@@ -157,7 +187,7 @@ fn add_all<
             }
         }
     }
-    if !still_acyclic(store, scratch, edges.as_slice()) {
+    if cyclic {
         roll_back(store, edges.as_slice(), slots, &mut weights);
         return Err(EdgesError::WouldCycle(WouldCycle(weights)));
     }
@@ -171,21 +201,23 @@ pub fn add_edges<
     I: IntoIterator<Item = (NodeIndex<Ix>, NodeIndex<Ix>, S::EdgeWeight)>,
 >(
     store: &mut S,
+    order: &mut Order<Ix>,
     scratch: &mut Scratch<Ix>,
     items: I,
 ) -> Result<EdgeIndices<Ix>, EdgesError<S::EdgeWeight>>
     requires ends { IsFiniteIterable I.into_iter_gives I.IntoIter.can_next I.IntoIter.remaining items }
     requires fits { node_bound (S.graph store.old) ≤ scratch.old.nodes }
-    requires acyclic { IsAcyclic (S.graph store.old) }
+    requires ordered { IsOrderOf (S.graph store.old) order.old }
     ensures added { IfOk result (λ edges. (it : I.IntoIter) × I.into_iter_gives items it
         × IsAdded Ix.number Ix.greatest I.IntoIter.next_gives it (S.graph store.old) (S.graph store.new) edges) }
     ensures refused { IfErr result (λ error. (it : I.IntoIter) × I.into_iter_gives items it
         × IsRefused Ix.number Ix.greatest I.IntoIter.next_gives it (S.graph store.old) error) }
     ensures unchanged { OnErr result (S.graph store.new ≡ S.graph store.old) }
     ensures acyclic { IsAcyclic (S.graph store.new) }
+    ensures ordered { IsOrderOf (S.graph store.new) order.new }
     ensures fits { node_bound (S.graph store.new) ≤ scratch.new.nodes }
     ensures room { scratch.new ≡ scratch.old }
     ensures counted { S.looks store.new ≤ S.looks store.old + most_looks (S.graph store.old) result }
 {
-    add_all(store, scratch, items.into_iter())
+    add_all(store, order, scratch, items.into_iter())
 }

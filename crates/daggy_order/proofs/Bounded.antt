@@ -39,7 +39,8 @@ edges_few {N} {E} g (x ∷ xs) ys u h =
     let whole : edges_from g ys ≡ length (out_list g x) + edges_from g (s.0 ++ s.1) = ap (edges_from g) s.2 ∙ edges_mid g s.0 x s.1 in
     omega arith
 
-lists_length : {N E : Type 0} (g : Graph N E) (xs : List ℕ) → length (lists_of g xs) ≡ edges_from g xs
+-- so many edges stand in their lists
+pub lists_length : {N E : Type 0} (g : Graph N E) (xs : List ℕ) → length (lists_of g xs) ≡ edges_from g xs
 lists_length g [] = refl
 lists_length g (x ∷ xs) = let rest = lists_length g xs in omega (arith, length-append (out_list g x) (lists_of g xs))
 

@@ -7,3 +7,4 @@ pub mod Reordering
 pub mod Keeping
 pub mod Changing
 pub mod OrderLaws
+pub mod Naming

@@ -123,7 +123,7 @@ slot_get (x ∷ xs) (suc i) = slot_get xs i
 some_as : {A : Type 0} {a b : Option A} → a ≡ b → IsSome b → IsSome a
 some_as {A} e h = let P : Option A → Type 0 = λ z. IsSome z in subst P (sym e) h
 
-slot_within : {A : Type 0} (xs : List (Option A)) (i : ℕ) → IsSome (slot xs i) → i < length xs
+pub slot_within : {A : Type 0} (xs : List (Option A)) (i : ℕ) → IsSome (slot xs i) → i < length xs
 slot_within xs i h =
     elim (cases_lt i (length xs)) [
       | inl low ↦ low
@@ -137,7 +137,7 @@ slot_other : {A : Type 0} (xs : List (Option A)) (i k : ℕ) (x : Option A) → 
 slot_other xs i k x differs = slot_get (set xs i x) k ∙ (get_or-set_other xs i k x None differs ∙ sym (slot_get xs k))
 
 -- a node is added
-some_is : {A : Type 0} (o : Option A) → IsSome o → (x : A) × (o ≡ Some x)
+pub some_is : {A : Type 0} (o : Option A) → IsSome o → (x : A) × (o ≡ Some x)
 some_is None h = absurd (false≢true h)
 some_is (Some x) h = (x, refl)
 

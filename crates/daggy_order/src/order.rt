@@ -11,6 +11,7 @@ use std::alloc::{AllocError, Global};
 use std::marker::Model;
 
 mod edge;
+mod naming;
 mod partition;
 mod search;
 mod slots;

@@ -1,17 +1,17 @@
 -- What a reduction keeps and loses, from its definition.
-use Rattle.std.proofs.Common.{◌≡◌, ℕ, inl, inr, List, ◌∷◌, sym, ap, subst, ◌∙◌}
+use Rattle.std.proofs.Common.{◌≡◌, ℕ, inl, inr, List, sym, subst}
 use Rattle.daggy_base.specs.Graph.{Graph}
 use Rattle.daggy_base.specs.Path.{IsAcyclic}
 use Rattle.daggy_base.specs.Removal.{Kind, Stable, KeepsIndices, without_edges}
 use Rattle.daggy_base.specs.WellFormed.{IsWellFormed}
 use Rattle.daggy_base.specs.Reduction.{IsReduction}
-use Rattle.daggy_reduction.specs.Comparing.{LosesRoundPairs, HaveSameReachability, JoinsCovers, JoinsOthers, IsLeast, HasNoneRedundant, IsCanonical}
+use Rattle.daggy_reduction.specs.Comparing.{LosesRoundPairs, JoinsAll, HaveSameReachability, JoinsCovers, JoinsOthers, IsLeast, HasNoneRedundant, IsCanonical}
 use Rattle.daggy_reduction.proofs.Surviving.{reduction_loses}
-use Rattle.daggy_reduction.proofs.Keeping.{path_before, same_reachability}
+use Rattle.daggy_reduction.proofs.Keeping.{same_reachability}
 use Rattle.daggy_reduction.proofs.Covering.{joined_exactly}
 use Rattle.daggy_reduction.proofs.Canonical.{least, nothing_left, alike_exactly}
 use Rattle.daggy_reduction.proofs.Flagged.{joined_exist}
-use Rattle.daggy_reduction.proofs.Descending.{keeps_indices, nodes_kept}
+use Rattle.daggy_reduction.proofs.Descending.{keeps_indices}
 
 module _ {N E : Type 0} {limit : ℕ} (kind : Kind) (roots : List ℕ) (old new : Graph N E) (acyclic : IsAcyclic old) (w : IsWellFormed limit old) (r : IsReduction kind roots old new) where
   loses : LosesRoundPairs roots old new
@@ -20,11 +20,8 @@ module _ {N E : Type 0} {limit : ℕ} (kind : Kind) (roots : List ℕ) (old new 
   pub law_reachability : HaveSameReachability old new
   law_reachability = same_reachability roots old new acyclic loses
 
-  pub law_acyclic : IsAcyclic new
-  law_acyclic u v rest p = acyclic u v rest (path_before roots old new acyclic loses (u ∷ v ∷ rest) p)
-
-  pub law_nodes : new.nodes ≡ old.nodes
-  law_nodes = ap (λ (z : Graph N E). z.nodes) r.removed ∙ nodes_kept kind r.redundant old
+  pub law_fewer : JoinsAll new old
+  law_fewer = loses.joined
 
   pub law_covers : JoinsCovers roots old new
   law_covers u v below = joined_exactly roots old new acyclic loses (joined_exist limit old w) u v below

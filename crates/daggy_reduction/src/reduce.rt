@@ -1,11 +1,11 @@
 //! The reduction of any store.
 ghost use Rattle.std.specs.Prelude.{◌≡◌, ℕ, ◌+◌, ◌*◌, ◌≤◌, map, reverse, Contains, OnOk, OnErr};
-ghost use Rattle.daggy_base.specs.Graph.{HasEdge, node_bound, node_count, edge_count};
+ghost use Rattle.daggy_base.specs.Graph.{HasEdge, node_count, edge_count};
 ghost use Rattle.daggy_base.specs.Path.{IsAcyclic};
 ghost use Rattle.daggy_base.specs.Removal.{without_edges};
 ghost use Rattle.daggy_base.specs.WellFormed.{IsWellFormed};
 ghost use Rattle.daggy_base.specs.Reduction.{IsReduction};
-ghost use Rattle.daggy_reduction.specs.Comparing.{IsAscending};
+ghost use Rattle.daggy_reduction.specs.Comparing.{IsAscending, JoinsAll};
 
 use crate::redundant::find_redundant;
 use daggy_base::index::{EdgeIndex, IndexType, NodeIndex};
@@ -40,8 +40,8 @@ pub fn transitive_reduce<Ix: IndexType, S: Store<Ix>>(
     ensures reduced { OnOk result (IsReduction S.kind (map Ix.number roots.now) (S.graph store.old) (S.graph store.new)) }
     ensures well_formed { IsWellFormed Ix.greatest (S.graph store.old) }
     ensures unchanged { OnErr result (S.graph store.new ≡ S.graph store.old) }
-    ensures acyclic { IsAcyclic (S.graph store.new) }
-    ensures bound { node_bound (S.graph store.new) ≡ node_bound (S.graph store.old) }
+    ensures nodes { (S.graph store.new).nodes ≡ (S.graph store.old).nodes }
+    ensures fewer { JoinsAll (S.graph store.new) (S.graph store.old) }
     ensures counted { OnOk result (S.looks store.new ≤ S.looks store.old
         + (node_count (S.graph store.old) + 2) * edge_count (S.graph store.old)) }
     ensures unlooked { OnErr result (S.looks store.new ≡ S.looks store.old) }

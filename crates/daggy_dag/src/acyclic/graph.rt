@@ -1,12 +1,14 @@
 //! The graph of a dag, to read or to keep.
 ghost use Rattle.std.specs.Prelude.{◌≡◌};
 ghost use Rattle.daggy_base.specs.Path.{IsAcyclic};
+ghost use Rattle.daggy_order.specs.Ordered.{IsOrderOf};
 
 use crate::acyclic::{Acyclic, Dag, StableDag};
 use daggy_base::index::IndexType;
 use daggy_base::search::EdgeSource;
 use daggy_base::store::Store;
 use daggy_graph::graph::DiGraph;
+use daggy_order::order::Order;
 use daggy_stable::stable_graph::StableDiGraph;
 use std::alloc::Global;
 
@@ -38,6 +40,19 @@ where
         ensures acyclic { IsAcyclic (S.graph result) }
     {
         self.store
+    }
+}
+
+impl<N: Drop, E: Drop, Ix: IndexType> Acyclic<N, E, Ix, DiGraph<N, E, Ix>> {
+    /// The graph, which need not stay acyclic from then on, and an order of its nodes in which every parent stands before
+    /// its children. Nothing is copied.
+    #[inline]
+    pub fn into_parts(self) -> (DiGraph<N, E, Ix>, Order<Ix>)
+        ensures graph { result.0.graph ≡ self.graph }
+        ensures looks { result.0.looks ≡ self.looks }
+        ensures ordered { IsOrderOf result.0.graph result.1 }
+    {
+        (self.store, self.order)
     }
 }
 

@@ -40,7 +40,7 @@ where
         ensures acyclic { IsAcyclic self.new.graph }
         ensures counted { self.new.looks ≤ self.old.looks + most_looks self.old.graph result }
     {
-        series::add_edges(&mut self.store, &mut self.scratch, items)
+        series::add_edges(&mut self.store, &mut self.order, &mut self.scratch, items)
     }
 
     /// Adds the edges that `items` gives, one by one, each after as many nodes of the default weight as it takes for its
@@ -62,7 +62,7 @@ where
         ensures acyclic { IsAcyclic self.new.graph }
         ensures counted { self.new.looks ≤ self.old.looks + extension_looks self.old.graph self.new.graph }
     {
-        extension::extend_with_edges(&mut self.store, &mut self.scratch, items)
+        extension::extend_with_edges(&mut self.store, &mut self.order, &mut self.scratch, items)
     }
 
     /// A dag of the edges that `items` gives, as [`extend_with_edges`](Acyclic::extend_with_edges) makes it of an empty one. Where an edge is
@@ -103,7 +103,7 @@ where
         ensures acyclic { IfOk result (λ dag. IsAcyclic dag.graph) }
     {
         let mut dag: Acyclic<N, E, Ix, S> = Acyclic::new(alloc);
-        match elements::add_elements(&mut dag.store, &mut dag.scratch, items) {
+        match elements::add_elements(&mut dag.store, &mut dag.order, &mut dag.scratch, items) {
             Ok(()) => Ok(dag),
             Err(error) => Err(error),
         }

@@ -4,7 +4,7 @@ ghost use Rattle.daggy_base.specs.Graph.{empty, slot};
 ghost use Rattle.daggy_graph.specs.Stored.{stored_graph, Stores};
 ghost use Rattle.daggy_cells.specs.Fields.{weight_of, plain_edge};
 ghost use Rattle.daggy_base.specs.Filtering.{kept_node, named, kept_edge, both, FiltersNodes, FiltersEdges, IsFiltered, ListsDescend, HaveSameEnds};
-ghost use Rattle.daggy_graph.specs.Names.{AreNamesBelow};
+ghost use Rattle.daggy_graph.specs.Names.{AreNamesBelow, IsFilteredAs};
 
 use crate::graph::changes::{put_edge, put_node};
 use crate::graph::{DiGraph, Edge, Node};
@@ -167,16 +167,37 @@ impl<N, E, Ix: IndexType> DiGraph<N, E, Ix> {
             → length h.graph.edges ≡ length self.now.graph.edges → HaveSameEnds self.now.graph h.graph) }
         ensures looks { IfOk result (λ h. h.looks ≡ 0) }
     {
+        let (graph, _names) = self.filter_map_named(f, g)?;
+        Ok(graph)
+    }
+
+    /// What [`filter_map`](DiGraph::filter_map) gives, and for each node of this graph its new index, if it stayed.
+    #[doc(hidden)]
+    pub fn filter_map_named<
+        N2: Drop,
+        E2: Drop,
+        F: FnMut(NodeIndex<Ix>, &N) -> Option<N2>,
+        G: FnMut(EdgeIndex<Ix>, &E) -> Option<E2>,
+    >(&self, f: F, g: G) -> Result<(DiGraph<N2, E2, Ix>, Vec<Option<Link<Ix>>>), AllocError>
+        requires nodes { F.IsAlwaysCallable f }
+        requires edges { G.IsAlwaysCallable g }
+        ensures filtered { IfOk result (λ made. IsFilteredAs Ix.of F.step G.step f g made.1.items self.now.graph made.0.graph) }
+        ensures descending { IfOk result (λ made. ListsDescend made.0.graph) }
+        ensures whole { IfOk result (λ made. length made.0.graph.nodes ≡ length self.now.graph.nodes
+            → length made.0.graph.edges ≡ length self.now.graph.edges → HaveSameEnds self.now.graph made.0.graph) }
+        ensures looks { IfOk result (λ made. made.0.looks ≡ 0) }
+    {
         let alloc = *self.nodes.allocator();
         let mut nodes = Vec::with_capacity(alloc, self.nodes.len())?;
         let mut edges = Vec::with_capacity(alloc, self.edges.len())?;
         let mut names = Vec::with_capacity(alloc, self.nodes.len())?;
         filter_nodes(self.nodes.as_slice(), &mut nodes, &edges, &mut names, f);
         filter_edges(self.edges.as_slice(), &names, &mut nodes, &mut edges, g);
-        Ok(DiGraph {
+        let graph = DiGraph {
             nodes,
             edges,
             looks: Looks::new(),
-        })
+        };
+        Ok((graph, names))
     }
 }

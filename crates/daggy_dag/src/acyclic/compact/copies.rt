@@ -7,6 +7,7 @@ use crate::acyclic::Acyclic;
 use daggy_base::index::IndexType;
 use daggy_base::search::Scratch;
 use daggy_graph::graph::DiGraph;
+use daggy_order::order::Order;
 use std::alloc::{AllocError, Global};
 use std::marker::PhantomData;
 
@@ -23,8 +24,10 @@ impl<N: Drop, E: Drop, Ix: IndexType> Acyclic<N, E, Ix, DiGraph<N, E, Ix>> {
         let store = DiGraph::with_capacity(alloc, nodes, edges)?;
         let mut scratch = Scratch::new(alloc);
         scratch.reserve(nodes, 0)?;
+        let order = Order::new(alloc);
         Ok(Acyclic {
             store,
+            order,
             scratch,
             node_weight: PhantomData,
             edge_weight: PhantomData,
@@ -45,9 +48,11 @@ impl<N: Drop, E: Drop, Ix: IndexType> Acyclic<N, E, Ix, DiGraph<N, E, Ix>> {
     {
         let mut scratch = Scratch::new(self.scratch.allocator());
         scratch.reserve(self.store.node_count(), 0)?;
+        let order = self.order.try_clone()?;
         let store = self.store.try_clone()?;
         Ok(Acyclic {
             store,
+            order,
             scratch,
             node_weight: PhantomData,
             edge_weight: PhantomData,

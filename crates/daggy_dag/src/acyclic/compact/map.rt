@@ -31,9 +31,11 @@ impl<N: Drop, E: Drop, Ix: IndexType> Acyclic<N, E, Ix, DiGraph<N, E, Ix>> {
     {
         let mut scratch = Scratch::new(self.scratch.allocator());
         scratch.reserve(self.store.node_count(), 0)?;
+        let order = self.order.try_clone()?;
         let store = self.store.map(f, g)?;
         Ok(Acyclic {
             store,
+            order,
             scratch,
             node_weight: PhantomData,
             edge_weight: PhantomData,
@@ -66,9 +68,12 @@ impl<N: Drop, E: Drop, Ix: IndexType> Acyclic<N, E, Ix, DiGraph<N, E, Ix>> {
     {
         let mut scratch = Scratch::new(self.scratch.allocator());
         scratch.reserve(self.store.node_count(), 0)?;
-        let store = self.store.filter_map(f, g)?;
+        let mut order = self.order.try_clone()?;
+        let (store, names) = self.store.filter_map_named(f, g)?;
+        order.rename_all(names.as_slice());
         Ok(Acyclic {
             store,
+            order,
             scratch,
             node_weight: PhantomData,
             edge_weight: PhantomData,

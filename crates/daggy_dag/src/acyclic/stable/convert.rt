@@ -41,9 +41,11 @@ impl<N: Drop, E: Drop, Ix: IndexType> Acyclic<N, E, Ix, StableDiGraph<N, E, Ix>>
         let alloc = dag.allocator();
         match room_for(alloc, nodes, edges) {
             Ok((scratch, room)) => {
-                let store = room.fill(dag.into_graph());
+                let (graph, order) = dag.into_parts();
+                let store = room.fill(graph);
                 Ok(Acyclic {
                     store,
+                    order,
                     scratch,
                     node_weight: PhantomData,
                     edge_weight: PhantomData,

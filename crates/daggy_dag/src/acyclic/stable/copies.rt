@@ -6,6 +6,7 @@ ghost use Rattle.daggy_base.specs.Path.{IsAcyclic};
 use crate::acyclic::Acyclic;
 use daggy_base::index::IndexType;
 use daggy_base::search::Scratch;
+use daggy_order::order::Order;
 use daggy_stable::stable_graph::StableDiGraph;
 use std::alloc::{AllocError, Global};
 use std::marker::PhantomData;
@@ -23,8 +24,10 @@ impl<N: Drop, E: Drop, Ix: IndexType> Acyclic<N, E, Ix, StableDiGraph<N, E, Ix>>
         let store = StableDiGraph::with_capacity(alloc, nodes, edges)?;
         let mut scratch = Scratch::new(alloc);
         scratch.reserve(nodes, 0)?;
+        let order = Order::new(alloc);
         Ok(Acyclic {
             store,
+            order,
             scratch,
             node_weight: PhantomData,
             edge_weight: PhantomData,
@@ -46,9 +49,11 @@ impl<N: Drop, E: Drop, Ix: IndexType> Acyclic<N, E, Ix, StableDiGraph<N, E, Ix>>
     {
         let mut scratch = Scratch::new(self.scratch.allocator());
         scratch.reserve(self.store.node_slots(), 0)?;
+        let order = self.order.try_clone()?;
         let store = self.store.try_clone()?;
         Ok(Acyclic {
             store,
+            order,
             scratch,
             node_weight: PhantomData,
             edge_weight: PhantomData,

@@ -1,5 +1,6 @@
 //! The same dag with other weights, and the part of a dag that closures keep.
-ghost use Rattle.std.specs.Prelude.{◌≡◌, IfOk};
+ghost use Rattle.std.specs.Prelude.{◌≡◌, ℕ, ◌<◌, ◌≤◌, Contains, filter, is_some, IfOk};
+ghost use Rattle.daggy_base.specs.Graph.{node_weight as weight_at};
 ghost use Rattle.daggy_base.specs.Path.{IsAcyclic};
 ghost use Rattle.daggy_base.specs.Mapping.{IsMapped};
 ghost use Rattle.daggy_base.specs.FilteringInPlace.{IsFilteredInPlace};
@@ -8,9 +9,25 @@ ghost use Rattle.daggy_base.specs.Filtering.{ListsDescend};
 use crate::acyclic::{Acyclic, StableDag};
 use daggy_base::index::{EdgeIndex, IndexType, NodeIndex};
 use daggy_base::search::Scratch;
+use daggy_base::store::Store;
+use daggy_order::order::Order;
 use daggy_stable::stable_graph::StableDiGraph;
 use std::alloc::AllocError;
 use std::marker::PhantomData;
+
+// Takes the nodes out of an order that a graph does not have. Each is below `slots`.
+fn keep_existing<Ix: IndexType, S: Store<Ix>>(store: &S, order: &mut Order<Ix>, slots: usize)
+    requires few { slots ≤ Ix.greatest }
+    requires below { (n : ℕ) → Contains order.old n → n < slots }
+    ensures { order.new ≡ filter (λ n. is_some (weight_at (S.graph store.now) n)) order.old }
+{
+    'nodes: for i in 0..slots {
+        let n = NodeIndex::new(i);
+        if order.holds(n) && !store.contains_node(n) {
+            order.remove(n);
+        }
+    }
+}
 
 impl<N: Drop, E: Drop, Ix: IndexType> Acyclic<N, E, Ix, StableDiGraph<N, E, Ix>> {
     /// A dag with the same nodes and edges under the same indices, in the same lists and with the same vacant slots, whose
@@ -33,9 +50,11 @@ impl<N: Drop, E: Drop, Ix: IndexType> Acyclic<N, E, Ix, StableDiGraph<N, E, Ix>>
         let _well_formed = self.store.node_count();
         let mut scratch = Scratch::new(self.scratch.allocator());
         scratch.reserve(self.store.node_slots(), 0)?;
+        let order = self.order.try_clone()?;
         let store = self.store.map(f, g)?;
         Ok(Acyclic {
             store,
+            order,
             scratch,
             node_weight: PhantomData,
             edge_weight: PhantomData,
@@ -65,10 +84,15 @@ impl<N: Drop, E: Drop, Ix: IndexType> Acyclic<N, E, Ix, StableDiGraph<N, E, Ix>>
     {
         let _well_formed = self.store.node_count();
         let mut scratch = Scratch::new(self.scratch.allocator());
-        scratch.reserve(self.store.node_slots(), 0)?;
+        let slots = self.store.node_slots();
+        scratch.reserve(slots, 0)?;
+        let mut order = self.order.try_clone()?;
         let store = self.store.filter_map(f, g)?;
+        let _joined_nodes = store.node_count();
+        keep_existing(&store, &mut order, slots);
         Ok(Acyclic {
             store,
+            order,
             scratch,
             node_weight: PhantomData,
             edge_weight: PhantomData,

@@ -8,14 +8,14 @@ pub items-init : goal.items-init
 items-init g c = record {
   can = search rules;
   ends = search rules;
-  making = making_starts _ _ _ c.requires.acyclic c.requires.fits;
+  making = making_starts _ _ _ _ c.requires.ordered c.requires.fits;
 }
 
 pub items-preserved : goal.items-preserved
 items-preserved g c = record {
   can = search rules;
   ends = search rules;
-  making = making_on c.items.invariant.making c.in-Some.element _ c.in-Ok.ensures.added c.add_element.ensures.acyclic _ c.add_element.ensures.fits;
+  making = making_on c.items.invariant.making c.in-Some.element _ c.in-Ok.ensures.added _ c.add_element.ensures.ordered _ c.add_element.ensures.fits;
 }
 
 pub returns-in-Err-clause-refused : goal.returns-in-Err-clause-refused

@@ -8,7 +8,7 @@ pub items-init : goal.items-init
 items-init g c = record {
   can = search rules;
   ends = search rules;
-  extending = extending_starts g.S.NodeWeight.Default.is_default g.Ix.IndexType.number _ _ _ _ c.requires.acyclic c.requires.fits;
+  extending = extending_starts g.S.NodeWeight.Default.is_default g.Ix.IndexType.number _ _ _ _ _ c.requires.ordered c.requires.fits;
   few = no_looks _ _;
 }
 
@@ -16,7 +16,7 @@ pub items-preserved : goal.items-preserved
 items-preserved g c = record {
   can = search rules;
   ends = search rules;
-  extending = extending_on c.items.invariant.extending c.in-Some.item _ c.into_weighted_edge-a.ensures _ c.in-Ok.ensures.extended c.extend_by.ensures.acyclic _ c.extend_by.ensures.fits;
+  extending = extending_on c.items.invariant.extending c.in-Some.item _ c.into_weighted_edge-a.ensures _ c.in-Ok.ensures.extended _ c.extend_by.ensures.ordered _ c.extend_by.ensures.fits;
   few = few_more _ _ _ _ _ _ c.items.invariant.few c.in-Ok.ensures.more c.extend_by.ensures.counted;
 }
 

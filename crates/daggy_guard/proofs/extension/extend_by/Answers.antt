@@ -1,4 +1,4 @@
-use Rattle.std.proofs.Common.{◌≡◌, ◌+◌, ◌<◌, ◌∙◌, max, ap, rules, arith}
+use Rattle.std.proofs.Common.{◌+◌, ◌<◌, ◌∙◌, max, ap, rules, arith}
 use Rattle.daggy_base.specs.Graph.{HasNode, edge_count}
 use Rattle.daggy_guard.specs.Extension.{IsFilled, HasIndices}
 use Rattle.daggy_guard.proofs.Filling.{edges_kept}

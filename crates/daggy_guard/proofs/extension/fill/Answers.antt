@@ -1,7 +1,10 @@
-use Rattle.std.proofs.Common.{◌∙◌, ap, arith}
+use Rattle.std.proofs.Common.{◌∙◌, ap, refl, arith}
 use Rattle.daggy_base.specs.Graph.{edge_count}
-use Rattle.daggy_guard.proofs.Filling.{filling_on, fewer_missing, is_part_filled, edges_kept}
+use Rattle.daggy_guard.proofs.Filling.{filling_starts, filling_on, fewer_missing, is_part_filled, edges_kept}
 use Rattle.daggy_guard.proofs.extension.fill.Goals as goal
+
+pub nodes-init : goal.nodes-init
+nodes-init g c = record { filling = filling_starts _ _ _ _ _ c.requires.ordered c.requires.fits; counted = refl }
 
 pub returns-in-Err-clause-part : goal.returns-in-Err-clause-part
 returns-in-Err-clause-part g c =
@@ -14,7 +17,7 @@ nodes-smaller g c =
 
 pub nodes-preserved : goal.nodes-preserved
 nodes-preserved g c = record {
-  filling = filling_on c.nodes.invariant.filling _ c.node_count.ensures.well_formed (omega (arith, c.nodes-test.true, c.node_count.ensures.count)) _ c.default.ensures _ c.in-Ok.ensures.added.1 c.add_node.ensures.acyclic _ c.add_node.ensures.fits;
+  filling = filling_on c.nodes.invariant.filling _ c.node_count.ensures.well_formed (omega (arith, c.nodes-test.true, c.node_count.ensures.count)) _ c.default.ensures _ c.in-Ok.ensures.added.1 _ c.add_node.ensures.ordered _ c.add_node.ensures.fits;
   counted = c.add_node.ensures.counted ∙ c.nodes.invariant.counted;
 }
 

@@ -1,12 +1,12 @@
 use Rattle.std.proofs.Common.{◌≡◌, ◌↔◌, ℕ, List, length, map, take, reverse, Option, Vec, sym, ap, subst, ◌∙◌, arith, Contains, IsSome}
 use Rattle.std.specs.Vec.{with_items}
 use Rattle.std.proofs.lemmas.List.{take-map, with_items_is}
-use Rattle.daggy_base.specs.Graph.{Graph, Edge, HasEdge, bound_of}
+use Rattle.daggy_base.specs.Graph.{Graph, Edge, HasEdge}
 use Rattle.daggy_base.specs.Removal.{Kind, without_edges}
 use Rattle.daggy_base.specs.Reduction.{IsReduction, IsRedundant}
 use Rattle.daggy_reduction.specs.Comparing.{IsAscending}
 use Rattle.daggy_reduction.proofs.Descending.{reduced, nodes_kept}
-use Rattle.daggy_reduction.proofs.Laws.{law_acyclic}
+use Rattle.daggy_reduction.proofs.Laws.{law_fewer}
 use Rattle.daggy_reduction.proofs.reduce.transitive_reduce.Goals as goal
 
 -- the first ones of a list that was written in place
@@ -51,8 +51,8 @@ returns-clause-reduced g c =
     let found = c.find_redundant-count.ensures in
     reduced_so g.S.Store.kind roots (g.S.EdgeSource.graph c.args.store.now) is found.same c.remove_edges.ensures.removed found.ascending found.exact
 
-pub returns-clause-acyclic : goal.returns-clause-acyclic
-returns-clause-acyclic g c =
+pub returns-clause-fewer : goal.returns-clause-fewer
+returns-clause-fewer g c =
     let found = c.scratch.inside.found in
     let edges = c.find_redundant-count.new.edges in
     let long : length edges ≡ found.len = omega (arith, c.find_redundant-count.ensures.edges_kept, ap (λ (z : List g.row.Ix.Denot). length z) c.as_mut_slice-3.ensures.value, found.ok.0) in
@@ -60,11 +60,11 @@ returns-clause-acyclic g c =
     let roots = map g.Ix.IndexType.number c.args.roots.now in
     let found = c.find_redundant-count.ensures in
     let reduction = reduced_so g.S.Store.kind roots (g.S.EdgeSource.graph c.args.store.now) is found.same c.remove_edges.ensures.removed found.ascending found.exact in
-    law_acyclic g.S.Store.kind roots (g.S.EdgeSource.graph c.args.store.now) (g.S.EdgeSource.graph c.remove_edges.new.store) c.requires c.node_bound-nodes.ensures.well_formed reduction
+    law_fewer g.S.Store.kind roots (g.S.EdgeSource.graph c.args.store.now) (g.S.EdgeSource.graph c.remove_edges.new.store) c.requires c.node_bound-nodes.ensures.well_formed reduction
 
-pub returns-clause-bound : goal.returns-clause-bound
-returns-clause-bound g c =
+pub returns-clause-nodes : goal.returns-clause-nodes
+returns-clause-nodes g c =
     let handed = map g.Ix.IndexType.number (take c.find_redundant-count.result c.deref.result.now) in
-    ap bound_of (ap (λ (z : Graph g.row.S-NodeWeight.Denot g.row.S-EdgeWeight.Denot). z.nodes) c.remove_edges.ensures.removed
+    ap (λ (z : Graph g.row.S-NodeWeight.Denot g.row.S-EdgeWeight.Denot). z.nodes) c.remove_edges.ensures.removed
     ∙ nodes_kept g.S.Store.kind (reverse handed) (g.S.EdgeSource.graph c.find_redundant-count.new.source)
-    ∙ ap (λ (z : Graph g.row.S-NodeWeight.Denot g.row.S-EdgeWeight.Denot). z.nodes) c.find_redundant-count.ensures.same)
+    ∙ ap (λ (z : Graph g.row.S-NodeWeight.Denot g.row.S-EdgeWeight.Denot). z.nodes) c.find_redundant-count.ensures.same

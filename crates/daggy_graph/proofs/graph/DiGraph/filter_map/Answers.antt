@@ -1,22 +1,4 @@
-use Rattle.std.proofs.Common.{map, subst}
-use Rattle.daggy_base.specs.Graph.{empty}
-use Rattle.daggy_graph.specs.Stored.{stored_graph}
-use Rattle.daggy_cells.specs.Fields.{weight_of, plain_edge}
-use Rattle.daggy_base.specs.Filtering.{FiltersNodes, FiltersEdges, IsFiltered}
-use Rattle.daggy_graph.proofs.Keeping.{ListsDescend-filtered, HaveSameEnds-filtered}
 use Rattle.daggy_graph.proofs.graph.DiGraph.filter_map.Goals as goal
 
 pub returns-clause-filtered : goal.returns-clause-filtered
-returns-clause-filtered g c =
-    let names = c.filter_nodes.new.names.items in
-    let middle = stored_graph c.filter_nodes.new.new.items c.in_ok-edges.edges.items in
-    let new = stored_graph c.filter_edges.new.nodes.items c.filter_edges.new.new.items in
-    let nodes_are = subst (λ l. FiltersNodes (goal.F-step g) g.Ix.IndexType.of c.args.f 0 (map weight_of l) empty names middle) c.as_slice.ensures.value c.filter_nodes.ensures.filtered in
-    let edges_are = subst (λ l. FiltersEdges (goal.G-step g) g.Ix.IndexType.of names c.args.g 0 (map plain_edge l) middle new) c.as_slice-2.ensures.value c.filter_edges.ensures.filtered in
-    subst (λ s. IsFiltered g.Ix.IndexType.of (goal.F-step g) (goal.G-step g) c.args.f c.args.g s.graph new) c.self.view_is (record { names = names; middle = middle; nodes = nodes_are; edges = edges_are })
-
-pub returns-clause-descending : goal.returns-clause-descending
-returns-clause-descending g c = ListsDescend-filtered _ _ _ _ _ _ _ (returns-clause-filtered g c)
-
-pub returns-clause-whole : goal.returns-clause-whole
-returns-clause-whole g c = HaveSameEnds-filtered _ _ _ _ _ _ _ (returns-clause-filtered g c)
+returns-clause-filtered g c = c.in_ok-graph.ensures.filtered.0

@@ -1,10 +1,10 @@
-use Rattle.daggy_dag.proofs.Writing.{edge_written, stays_so}
+use Rattle.daggy_dag.proofs.Kept.{stays_so}
+use Rattle.daggy_dag.proofs.Writing.{edge_written}
 use Rattle.daggy_dag.proofs.acyclic.weights.AcyclicIndexMutEdgeIndex.index_mut.Goals as goal
 
 pub invariant_of-self-lent : goal.invariant_of-self-lent
 invariant_of-self-lent g c =
-    let now = c.node_count-well_formed.ensures in
     let e = g.Ix.IndexType.number c.args.e in
     let s = c.self.inside.store in
-    λ w. stays_so c.self.inside.scratch.nodes _ _ (g.met.S.Store.edge_written_is s e w)
-    (edge_written g.Ix.IndexType.greatest c.self.inside.scratch.nodes (g.S.EdgeSource.graph s) now.well_formed c.self.invariant.0 c.self.invariant.1 e w)
+    λ w. stays_so c.self.inside.order c.self.inside.scratch.nodes _ _ (g.met.S.Store.edge_written_is s e w)
+    (edge_written c.self.inside.scratch.nodes (g.S.EdgeSource.graph s) c.self.inside.order c.self.invariant e w)

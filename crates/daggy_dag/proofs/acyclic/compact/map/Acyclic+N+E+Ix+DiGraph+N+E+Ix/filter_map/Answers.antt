@@ -1,15 +1,37 @@
-use Rattle.daggy_dag.proofs.Filtered.{acyclic_filtered, fits_filtered}
+use Rattle.std.proofs.Common.{sym, ◌∙◌, arith}
+use Rattle.daggy_order.proofs.OrderLaws.{acyclic_from_order}
+use Rattle.daggy_dag.proofs.Filtered.{names_lower, names_differ, names_many, names_cover, order_renamed, fits_filtered}
 use Rattle.daggy_dag.proofs.acyclic.compact.map.Acyclic+N+E+Ix+DiGraph+N+E+Ix.filter_map.Goals as goal
 
+pub rename_all-requires-clause-few : goal.rename_all-requires-clause-few
+rename_all-requires-clause-few g c =
+    let made = c.in_ok-store.ensures.filtered in
+    omega (arith, names_many _ _ _ _ _ _ _ made.0 _ (made.1 ∙ sym c.as_slice.ensures.value), c.node_count.ensures.well_formed.few_nodes)
+
+pub rename_all-requires-clause-covered : goal.rename_all-requires-clause-covered
+rename_all-requires-clause-covered g c =
+    let made = c.in_ok-store.ensures.filtered in
+    names_cover _ _ _ _ _ _ _ made.0 _ (made.1 ∙ sym c.as_slice.ensures.value) _ _ c.in_ok-order.ensures c.self.invariant.0
+
+pub rename_all-requires-clause-lower : goal.rename_all-requires-clause-lower
+rename_all-requires-clause-lower g c =
+    let made = c.in_ok-store.ensures.filtered in names_lower _ _ _ _ _ _ _ made.0 _ (made.1 ∙ sym c.as_slice.ensures.value)
+
+pub rename_all-requires-clause-distinct : goal.rename_all-requires-clause-distinct
+rename_all-requires-clause-distinct g c =
+    let made = c.in_ok-store.ensures.filtered in names_differ _ _ _ _ _ _ _ made.0 _ (made.1 ∙ sym c.as_slice.ensures.value)
+
 pub invariant_of-result : goal.invariant_of-result
-invariant_of-result g c = (
-  acyclic_filtered _ _ _ _ _ _ _ c.in_ok-store.ensures.filtered _ c.node_count.ensures.well_formed c.self.invariant.0,
-  fits_filtered _ _ _ _ _ _ _ c.in_ok-store.ensures.filtered _ _ c.node_count.ensures.slots c.in_ok-reserve.ensures.ok.0,
-)
+invariant_of-result g c =
+    let made = c.in_ok-store.ensures.filtered in (
+      order_renamed _ _ _ _ _ _ _ made.0 _ (made.1 ∙ sym c.as_slice.ensures.value) _ _ _ c.in_ok-order.ensures c.rename_all.ensures c.self.invariant.0,
+      fits_filtered _ _ _ _ _ _ _ made.0 _ _ c.node_count.ensures.slots c.in_ok-reserve.ensures.ok.0,
+    )
 
 pub returns-clause-filtered : goal.returns-clause-filtered
-returns-clause-filtered g c = rw (← c.self.view_is) c.in_ok-store.ensures.filtered
+returns-clause-filtered g c = rw (← c.self.view_is) c.in_ok-store.ensures.filtered.0
 
 pub returns-clause-acyclic : goal.returns-clause-acyclic
 returns-clause-acyclic g c =
-    acyclic_filtered _ _ _ _ _ _ _ c.in_ok-store.ensures.filtered _ c.node_count.ensures.well_formed c.self.invariant.0
+    let made = c.in_ok-store.ensures.filtered in
+    acyclic_from_order _ (order_renamed _ _ _ _ _ _ _ made.0 _ (made.1 ∙ sym c.as_slice.ensures.value) _ _ _ c.in_ok-order.ensures c.rename_all.ensures c.self.invariant.0)

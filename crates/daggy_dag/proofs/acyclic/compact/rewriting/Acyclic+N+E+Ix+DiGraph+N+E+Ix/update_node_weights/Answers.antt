@@ -1,14 +1,15 @@
 use Rattle.std.proofs.Common.{subst}
 use Rattle.daggy_base.specs.Rewriting.{RewritesNodes}
+use Rattle.daggy_order.proofs.OrderLaws.{acyclic_from_order}
 use Rattle.daggy_dag.proofs.Rewritten.{nodes_rewritten}
 use Rattle.daggy_dag.proofs.acyclic.compact.rewriting.Acyclic+N+E+Ix+DiGraph+N+E+Ix.update_node_weights.Goals as goal
 
 pub invariant_of-self : goal.invariant_of-self
 invariant_of-self g c =
-    nodes_rewritten _ _ g.Ix.IndexType.of c.args.f _ _ c.node_count-well_formed.ensures.well_formed c.self.invariant.0 c.self.invariant.1 (goal.F-step g) c.update_node_weights.ensures.written
+    nodes_rewritten _ g.Ix.IndexType.of c.args.f _ _ _ c.self.invariant (goal.F-step g) c.update_node_weights.ensures.written
 
 pub returns-clause-written : goal.returns-clause-written
 returns-clause-written g c = rw (← c.self.view_is) c.update_node_weights.ensures.written
 
 pub returns-clause-acyclic : goal.returns-clause-acyclic
-returns-clause-acyclic g c = (invariant_of-self g c).0
+returns-clause-acyclic g c = acyclic_from_order c.self.inside.order (invariant_of-self g c).0

@@ -1,15 +1,19 @@
-use Rattle.daggy_dag.proofs.KeptInPlace.{acyclic_kept, fits_kept}
+use Rattle.daggy_order.proofs.OrderLaws.{acyclic_from_order}
+use Rattle.daggy_dag.proofs.Kept.{order_below}
+use Rattle.daggy_dag.proofs.KeptInPlace.{order_kept, fits_kept}
 use Rattle.daggy_dag.proofs.acyclic.stable.map.Acyclic+N+E+Ix+StableDiGraph+N+E+Ix.filter_map.Goals as goal
+
+pub keep_existing-requires-clause-below : goal.keep_existing-requires-clause-below
+keep_existing-requires-clause-below g c = order_below _ _ _ _ c.node_slots-slots.ensures c.in_ok-order.ensures c.self.invariant.0
 
 pub invariant_of-result : goal.invariant_of-result
 invariant_of-result g c = (
-  acyclic_kept _ _ _ _ _ _ _ c.in_ok-store.ensures.filtered _ c.node_count-well_formed.ensures.well_formed c.self.invariant.0,
-  fits_kept _ _ _ _ _ _ _ c.in_ok-store.ensures.filtered _ _ c.node_slots.ensures c.in_ok-reserve.ensures.ok.0,
+  order_kept _ _ _ _ _ _ _ c.in_ok-store.ensures.filtered _ _ _ _ c.node_count-joined_nodes.ensures.well_formed c.in_ok-order.ensures c.keep_existing.ensures c.self.invariant.0,
+  fits_kept _ _ _ _ _ _ _ c.in_ok-store.ensures.filtered _ _ c.node_slots-slots.ensures c.in_ok-reserve.ensures.ok.0,
 )
 
 pub returns-clause-filtered : goal.returns-clause-filtered
 returns-clause-filtered g c = rw (← c.self.view_is) c.in_ok-store.ensures.filtered
 
 pub returns-clause-acyclic : goal.returns-clause-acyclic
-returns-clause-acyclic g c =
-    acyclic_kept _ _ _ _ _ _ _ c.in_ok-store.ensures.filtered _ c.node_count-well_formed.ensures.well_formed c.self.invariant.0
+returns-clause-acyclic g c = acyclic_from_order _ (invariant_of-result g c).0

@@ -1,9 +1,10 @@
-use Rattle.daggy_dag.proofs.Mapped.{acyclic_mapped, fits_mapped}
+use Rattle.daggy_order.proofs.OrderLaws.{acyclic_from_order}
+use Rattle.daggy_dag.proofs.Mapped.{order_mapped, fits_mapped}
 use Rattle.daggy_dag.proofs.acyclic.stable.map.Acyclic+N+E+Ix+StableDiGraph+N+E+Ix.map.Goals as goal
 
 pub invariant_of-result : goal.invariant_of-result
 invariant_of-result g c = (
-  acyclic_mapped _ _ _ _ _ _ _ c.in_ok-store.ensures.mapped _ c.node_count-well_formed.ensures.well_formed c.self.invariant.0,
+  order_mapped _ _ _ _ _ _ _ c.in_ok-store.ensures.mapped _ _ c.in_ok-order.ensures c.self.invariant.0,
   fits_mapped _ _ _ _ _ _ _ c.in_ok-store.ensures.mapped _ _ c.node_slots.ensures c.in_ok-reserve.ensures.ok.0,
 )
 
@@ -11,5 +12,4 @@ pub returns-clause-mapped : goal.returns-clause-mapped
 returns-clause-mapped g c = rw (← c.self.view_is) c.in_ok-store.ensures.mapped
 
 pub returns-clause-acyclic : goal.returns-clause-acyclic
-returns-clause-acyclic g c =
-    acyclic_mapped _ _ _ _ _ _ _ c.in_ok-store.ensures.mapped _ c.node_count-well_formed.ensures.well_formed c.self.invariant.0
+returns-clause-acyclic g c = acyclic_from_order _ (invariant_of-result g c).0

@@ -1,0 +1,32 @@
+//! Nodes that get new indices all at once.
+ghost use Rattle.std.specs.Prelude.{◌≡◌, ℕ, ◌<◌, ◌≤◌, Some, Contains, length};
+ghost use Rattle.std.specs.List.{filter_map};
+ghost use Rattle.daggy_base.specs.Graph.{slot};
+
+use crate::order::Order;
+use daggy_base::index::{IndexType, NodeIndex};
+use daggy_base::link::Link;
+
+impl<Ix: IndexType> Order<Ix> {
+    /// Keeps the nodes that have a new index, under that index and in their order. `names` has the
+    /// new index of each node, if it stays.
+    ///
+    /// The cost grows with the length of `names`. It takes no memory.
+    pub fn rename_all(&mut self, names: &[Option<Link<Ix>>])
+        requires few { length names.now ≤ Ix.greatest }
+        requires covered { (n : ℕ) → Contains self.old n → n < length names.now }
+        requires lower { (n k : ℕ) → slot names.now n ≡ Some k → k ≤ n }
+        requires distinct { (a b k : ℕ) → slot names.now a ≡ Some k → slot names.now b ≡ Some k → a ≡ b }
+        ensures { self.new ≡ filter_map (slot names.now) self.old }
+    {
+        'nodes: for i in 0..names.len() {
+            let n = NodeIndex::new(i);
+            if self.holds(n) {
+                match names[i] {
+                    Some(name) => self.rename(n, name.node()),
+                    None => self.remove(n),
+                }
+            }
+        }
+    }
+}
