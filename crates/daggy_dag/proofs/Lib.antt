@@ -8,3 +8,4 @@ pub mod KeptInPlace
 pub mod Walking
 pub mod Reduced
 pub mod Staying
+pub mod Shaped

@@ -7,6 +7,8 @@ use Rattle.daggy_base.specs.Path.{AreJoined}
 use Rattle.daggy_base.proofs.Nodes.{bound_low}
 use Rattle.daggy_base.specs.Mapping.{MapsSlots, IsMapped, weight_in, with_weight}
 use Rattle.daggy_cells.proofs.MappingLemmas.{mapped_length}
+use Rattle.daggy_reduction.specs.Comparing.{HaveSameNodes, HaveSameReachability}
+use Rattle.daggy_reduction.proofs.Canonical.{reach_same}
 use Rattle.daggy_order.specs.Ordered.{IsOrderOf}
 use Rattle.daggy_order.proofs.OrderLaws.{order_fewer}
 
@@ -18,6 +20,17 @@ module _ {F I W V A B : Type 0} (step : F → I → Bor W → V → F → Type 0
   mapped_slot f i (None ∷ xs) new (later, is, more) (suc k) y at = mapped_slot f (i + 1) xs later more k y (ap (λ z. slot z (suc k)) (sym is) ∙ at)
   mapped_slot f i (Some x ∷ xs) new (v, next, called, later, is, more) zero y at = (x, v, refl, same_Some (with x v) y (ap (λ z. slot z zero) (sym is) ∙ at))
   mapped_slot f i (Some x ∷ xs) new (v, next, called, later, is, more) (suc k) y at = mapped_slot next (i + 1) xs later more k y (ap (λ z. slot z (suc k)) (sym is) ∙ at)
+
+  mapped_after : (f : F) (i : ℕ) (xs : List (Option A)) (new : List (Option B)) → MapsSlots step of weight with f i xs new
+      → (k : ℕ) (x : A) → slot xs k ≡ Some x → (v : V) × (slot new k ≡ Some (with x v))
+  mapped_after f i [] new is k x at = absurd (none-some x at)
+  mapped_after f i (None ∷ xs) new (later, is, more) zero x at = absurd (none-some x at)
+  mapped_after f i (None ∷ xs) new (later, is, more) (suc k) x at =
+      let m = mapped_after f (i + 1) xs later more k x at in (m.0, ap (λ z. slot z (suc k)) is ∙ m.1)
+  mapped_after f i (Some y ∷ xs) new (v, next, called, later, is, more) zero x at =
+      (v, ap (λ z. slot z zero) is ∙ ap (λ z. Some (with z v)) (same_Some y x at))
+  mapped_after f i (Some y ∷ xs) new (v, next, called, later, is, more) (suc k) x at =
+      let m = mapped_after next (i + 1) xs later more k x at in (m.0, ap (λ z. slot z (suc k)) is ∙ m.1)
 
   -- no slot is vacated, and none is filled
   pub mapped_there : (f : F) (i : ℕ) (xs : List (Option A)) (new : List (Option B)) → MapsSlots step of weight with f i xs new → (k : ℕ) → is_some (slot new k) ≡ is_some (slot xs k)
@@ -50,6 +63,11 @@ module _ {N E V W G I : Type 0} (of : ℕ → I) (step : G → I → Bor E → W
       let Q : ℕ → Type 0 = λ z. AreJoined old m.0.parent z in
       subst P (ap (λ (y : Edge W). y.parent) m.3) (subst Q (ap (λ (y : Edge W). y.child) m.3) (j.0, m.0.weight, m.2))
 
+  pub joined_still : (u v : ℕ) → AreJoined old u v → AreJoined new u v
+  joined_still u v j =
+      let m = mapped_after step of weight_in with_weight g 0 old.edges new.edges mapped j.0 _ j.2 in
+      (j.0, m.0, m.1)
+
 -- a graph whose slots hold other weights has the same nodes
 pub same_nodes : {F I W V A B : Type 0} (step : F → I → Bor W → V → F → Type 0) (of : ℕ → I) (weight : A → W) (with : A → V → B) (f : F) (xs : List (Option A)) (new : List (Option B))
     → MapsSlots step of weight with f 0 xs new → (n : ℕ) → IsSome (slot new n) ↔ IsSome (slot xs n)
@@ -66,3 +84,13 @@ module _ {N E V W F G I : Type 0} (of : ℕ → I) (step_f : F → I → Bor N �
   pub fits_mapped : (slots room : ℕ) → slots ≡ length old.nodes → slots ≤ room → node_bound new ≤ room
   fits_mapped slots room many fits =
       omega (arith, bound_low new.nodes, mapped_length step_f of (λ w. w) (λ w v. v) f 0 old.nodes new.nodes mapped.nodes, many, fits)
+
+  pub nodes_mapped : HaveSameNodes old new
+  nodes_mapped n = let same = same_nodes step_f of (λ w. w) (λ w v. v) f old.nodes new.nodes mapped.nodes n in (same.1, same.0)
+
+  pub reach_mapped : HaveSameReachability old new
+  reach_mapped =
+      reach_same old new nodes_mapped (λ u v. (
+        joined_still of step_g g old new mapped.edges u v,
+        joined_reweighed of step_g g old new mapped.edges u v,
+      ))

@@ -27,6 +27,7 @@ use std::alloc::Global;
 use std::marker::{Model, PhantomData};
 
 mod compact;
+mod comparing;
 mod debug;
 mod externals;
 mod graph;
@@ -40,6 +41,7 @@ mod weights;
 
 pub use compact::cursors::{EdgeWeightsMut, NodeWeightsMut};
 pub use compact::raw::{RawEdges, RawNodes};
+pub use comparing::same_reachability;
 pub use externals::Externals;
 pub use recursive::RecursiveWalk;
 pub use walkers::{Children, Parents};

@@ -14,3 +14,4 @@ pub mod Sweeping
 pub mod Descending
 pub mod Laws
 pub mod Children
+pub mod Shapes

@@ -71,3 +71,14 @@ pub record IsReducedFrom {N E : Type 0} (limit : ℕ) (old : Graph N E) (h h' : 
 abbrev pub IsCanonical : {N E : Type 0} → (limit : ℕ) (roots : List ℕ) (old new : Graph N E) → Type 0
 IsCanonical {N} {E} limit roots old new =
     ReachAll old roots → (h h' : Graph N E) → IsReducedFrom limit old h h' → JoinSamePairs new h' ↔ HaveSameReachability old h
+
+-- a dag with the nodes and the reachability of g, reduced from roots that reach all of its nodes
+pub record IsReducedShape {N E M F : Type 0} (limit : ℕ) (g : Graph N E) (shape : Graph M F) : Type 0 where
+  pub whole : Graph M F
+  pub dag : IsDag limit whole
+  pub nodes : HaveSameNodes g whole
+  pub reachability : HaveSameReachability g whole
+  pub kind : Kind
+  pub roots : List ℕ
+  pub all : ReachAll whole roots
+  pub reduced : IsReduction kind roots whole shape

@@ -3,7 +3,7 @@ ghost use Rattle.std.specs.Prelude.{◌≡◌, ℕ, ◌≤◌, ◌↔◌, ◌⊎
 ghost use Rattle.daggy_base.specs.Graph.{node_bound};
 ghost use Rattle.daggy_base.specs.Path.{AreJoined};
 ghost use Rattle.daggy_base.specs.WellFormed.{IsWellFormed};
-ghost use Rattle.daggy_reduction.specs.Comparing.{JoinsAll};
+ghost use Rattle.daggy_reduction.specs.Comparing.{JoinsAll, JoinSamePairs};
 
 use daggy_base::index::{EdgeIndex, IndexType, NodeIndex};
 use daggy_base::search::{EdgeSource, Marks};
@@ -53,10 +53,8 @@ fn are_children_marked<Ix: IndexType, S: EdgeSource<Ix>>(
     true
 }
 
-/// Whether one graph joins all pairs of nodes that another joins. The marks are as long as the bounds of both.
-///
-/// It cannot fail for want of memory. The cost is that of going through both graphs once.
-pub fn joins_all<Ix: IndexType, A: EdgeSource<Ix>, B: EdgeSource<Ix>>(
+// Whether one graph joins all pairs of nodes that another joins.
+fn joins_all<Ix: IndexType, A: EdgeSource<Ix>, B: EdgeSource<Ix>>(
     a: &mut A,
     b: &mut B,
     marks: &mut Marks,
@@ -81,4 +79,24 @@ pub fn joins_all<Ix: IndexType, A: EdgeSource<Ix>, B: EdgeSource<Ix>>(
         n += 1;
     }
     true
+}
+
+/// Whether two graphs join the same pairs of nodes. The marks are as long as the bounds of both.
+///
+/// It cannot fail for want of memory. The cost is that of going through both graphs twice.
+pub fn join_same_pairs<Ix: IndexType, A: EdgeSource<Ix>, B: EdgeSource<Ix>>(
+    a: &mut A,
+    b: &mut B,
+    marks: &mut Marks,
+) -> bool
+    requires fits { node_bound (A.graph a.old) ≤ length marks.old }
+    requires other_fits { node_bound (B.graph b.old) ≤ length marks.old }
+    ensures decided { IsTrue result ↔ JoinSamePairs (A.graph a.old) (B.graph b.old) }
+    ensures same { A.graph a.new ≡ A.graph a.old }
+    ensures other_same { B.graph b.new ≡ B.graph b.old }
+{
+    if !joins_all(a, b, marks) {
+        return false;
+    }
+    joins_all(b, a, marks)
 }
