@@ -24,10 +24,10 @@ nodes-preserved g c =
     elim c.if-holds.branch [
       | then-holds+then-not-contains_node w ↦ (
           let none : is_some (at i) ≡ false =
-              elim (cases_Bool (is_some (at i))) [
-                | inl t ↦ absurd (false≢true (sym w.if-not-contains_node.true ∙ w.contains_node.ensures.exists.1 (subst There (sym number) t)))
-                | inr f ↦ f
-              ] in
+          elim (cases_Bool (is_some (at i))) [
+            | inl t ↦ absurd (false≢true (sym w.if-not-contains_node.true ∙ w.contains_node.ensures.exists.1 (subst There (sym number) t)))
+            | inr f ↦ f
+          ] in
           w.order-is ∙ w.remove.ensures ∙ ap (λ n. without n c.nodes.order) number ∙ ap (without i) same ∙ stays_not at old i none
           )
       | else-holds w ↦ w.order-is ∙ same ∙ stays_past at old i (λ m.
