@@ -33,6 +33,7 @@ mod graph;
 mod recursive;
 mod series;
 mod stable;
+mod topological;
 mod visit;
 mod walkers;
 mod weights;
@@ -41,6 +42,7 @@ pub use compact::cursors::{EdgeWeightsMut, NodeWeightsMut};
 pub use compact::raw::{RawEdges, RawNodes};
 pub use externals::Externals;
 pub use recursive::RecursiveWalk;
+pub use topological::TopologicalOrder;
 pub use walkers::{Children, Parents};
 
 /// A directed graph that never has a cycle, with weights of type `N` at its nodes and of type `E` at its edges, over a
