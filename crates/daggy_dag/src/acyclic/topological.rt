@@ -1,5 +1,5 @@
 //! The nodes in an order in which every parent comes before its children.
-ghost use Rattle.std.specs.Prelude.{◌<◌, ◌^◌, length};
+ghost use Rattle.std.specs.Prelude.{◌≡◌, ◌<◌, ◌^◌, length};
 ghost use Rattle.std.specs.Iterator.{YieldsFirstBy, item_count};
 ghost use Rattle.daggy_order.specs.Ordered.{IsOrderOf};
 

@@ -15,5 +15,5 @@ gaps-preserved g c =
     let slots = c.args.slots.now in
     let item : c.index-slots-i.result ≡ get_or slots c.gaps.i 0 = c.index-slots-i.is ∙ get_or_default slots c.gaps.i c.index-slots-i.result 0 c.gaps-test.true in
     let gap : get_or slots c.gaps.i 0 ≡ g.Ix.IndexType.greatest =
-        sym item ∙ sym c.index.ensures.value ∙ c.if-index-end.false ∙ c.index-end.ensures.value ∙ c.end.ensures.value in
+    sym item ∙ sym c.index.ensures.value ∙ c.if-index-end.false ∙ c.index-end.ensures.value ∙ c.end.ensures.value in
     sym (gap_passed g.Ix.IndexType.greatest slots c.gaps.i c.gaps-test.true gap) ∙ c.gaps.invariant
