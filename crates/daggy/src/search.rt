@@ -1,4 +1,4 @@
 //! Searches over any graph whose edges can be looked at.
 pub use daggy_base::search::{EdgeSource, Looks, Scratch, is_acyclic, reaches};
-pub use daggy_order::order::{Order, order_edge};
+pub use daggy_order::order::{Nodes, Order, order_edge};
 pub use daggy_reduction::redundant::redundant_edges;

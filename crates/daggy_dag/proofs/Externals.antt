@@ -1,5 +1,5 @@
 -- Nodes without an edge in one direction, found by their first links and gone through by index.
-use Rattle.std.proofs.Common.{◌≡◌, ℕ, ◌+◌, ◌-◌, ◌<◌, ◌≤◌, ◌==◌, Bool, true, false, Option, Some, None, IsSome, is_some, List, [], ◌∷◌, length, Contains, refl, ap, sym, ◌∙◌, arith, inl, inr}
+use Rattle.std.proofs.Common.{◌≡◌, ℕ, ◌+◌, ◌-◌, ◌<◌, ◌≤◌, ◌==◌, true, false, Option, Some, None, IsSome, is_some, List, [], ◌∷◌, length, refl, ap, sym, ◌∙◌, arith, inl}
 use Rattle.std.specs.List.{filter, range_with_len}
 use Rattle.std.proofs.Math.Dec.{eqb-suc-zero}
 use Rattle.std.proofs.lemmas.List.FromFn.{length-range_with_len}

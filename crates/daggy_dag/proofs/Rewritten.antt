@@ -1,10 +1,8 @@
 -- Weights that are handed out to be written leave a dag's order one, with room for its searches.
-use Rattle.std.proofs.Common.{◌≡◌, ℕ, ◌≤◌, List, sym, ap, subst, arith}
+use Rattle.std.proofs.Common.{ℕ, List, arith}
 use Rattle.std.specs.Borrow.{MutBor}
-use Rattle.daggy_base.specs.Graph.{Graph, node_bound}
-use Rattle.daggy_base.specs.Mapping.{weight_in, with_weight}
+use Rattle.daggy_base.specs.Graph.{Graph}
 use Rattle.daggy_base.specs.Rewriting.{Leaves, RewritesNodes, RewritesEdges}
-use Rattle.daggy_order.specs.Ordered.{IsOrderOf}
 use Rattle.daggy_order.proofs.OrderLaws.{order_fewer}
 use Rattle.daggy_dag.proofs.Mapped.{mapped_bound, same_nodes, joined_reweighed}
 use Rattle.daggy_dag.proofs.Kept.{IsKept, stays_so}

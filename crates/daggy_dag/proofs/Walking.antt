@@ -1,18 +1,16 @@
 -- A step of a walk gives the first of what is left of its list, and leaves the others.
-use Rattle.std.proofs.Common.{◌≡◌, ℕ, ◌+◌, ◌≤◌, ◌<◌, Bool, true, false, cond, eqb, inl, inr, Option, Some, None, List, [], ◌∷◌, length, refl, sym, ap, subst, ◌∙◌, arith}
+use Rattle.std.proofs.Common.{◌≡◌, ℕ, ◌+◌, ◌≤◌, inl, inr, Option, Some, None, List, [], ◌∷◌, length, refl, sym, ap, subst, ◌∙◌, arith}
 use Rattle.std.specs.Prelude.{MatchOption}
 use Rattle.std.specs.Option.{option_len, option_map}
-use Rattle.std.specs.Iterator.{at_most}
 use Rattle.std.proofs.lemmas.Bool.Decides.{nat_tests}
 use Rattle.std.proofs.lemmas.Option.{slice_get_within}
 use Rattle.daggy_base.specs.declared.index.Direction.{Direction}
 use Rattle.daggy_base.specs.declared.index.Direction.TheVariants.{Outgoing, Incoming}
-use Rattle.daggy_base.specs.Graph.{Graph, Edge, edge_at, list_at, near_end, far_end, pair_of}
+use Rattle.daggy_base.specs.Graph.{Graph, Edge, edge_at, list_at, near_end, far_end}
 use Rattle.daggy_base.specs.WellFormed.{IsWellFormed}
 use Rattle.daggy_base.specs.Cursor.{first_of, after, IsStep, item_at, cursor_after}
 use Rattle.daggy_base.proofs.Lists.{Mem, Unique, contains_mem, mem_contains, unique_from_distinct}
 use Rattle.daggy_base.proofs.Reading.{slot_get}
-use Rattle.daggy_walk.specs.Walking.{Proceeds}
 use Rattle.daggy_dag.specs.Walks.{from_on, rest_with, rest_of_walk}
 
 -- ---- a list at one of its members

@@ -35,6 +35,7 @@ mod recursive;
 mod reduction;
 mod series;
 mod stable;
+mod topological;
 mod visit;
 mod walkers;
 mod weights;
@@ -44,6 +45,7 @@ pub use compact::raw::{RawEdges, RawNodes};
 pub use comparing::same_reachability;
 pub use externals::Externals;
 pub use recursive::RecursiveWalk;
+pub use topological::TopologicalOrder;
 pub use walkers::{Children, Parents};
 
 /// A directed graph that never has a cycle, with weights of type `N` at its nodes and of type `E` at its edges, over a

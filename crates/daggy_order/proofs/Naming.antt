@@ -109,9 +109,9 @@ module _ (names : List (Option ℕ)) where
                   )
               | inr d ↦ others k (names_to i n) (λ j at. not_yet n j at d) ∙ names_next i n d
             ]) where
-          others : (k : ℕ) (o : Option ℕ) → ((j : ℕ) → o ≡ Some j → j ≡ i → ⊥) → option_map (renamed i k) o ≡ o
-          others k None apart = refl
-          others k (Some j) apart = ap Some (cond-false (eqb j i) k j (ne_eqb j i (apart j refl)))
+              others : (k : ℕ) (o : Option ℕ) → ((j : ℕ) → o ≡ Some j → j ≡ i → ⊥) → option_map (renamed i k) o ≡ o
+              others k None apart = refl
+              others k (Some j) apart = ap Some (cond-false (eqb j i) k j (ne_eqb j i (apart j refl)))
 
         -- the node i is taken out
         pub named_gone : slot names i ≡ None → without i (filter_map (names_to i) old) ≡ filter_map (names_to (i + 1)) old
@@ -125,9 +125,9 @@ module _ (names : List (Option ℕ)) where
                   )
               | inr d ↦ others (names_to i n) (λ j at. not_yet n j at d) ∙ names_next i n d
             ]) where
-          others : (o : Option ℕ) → ((j : ℕ) → o ≡ Some j → j ≡ i → ⊥) → if_passes (λ x. not (eqb x i)) o ≡ o
-          others None apart = refl
-          others (Some j) apart = cond-true (not (eqb j i)) (Some j) None (ap not (ne_eqb j i (apart j refl)))
+              others : (o : Option ℕ) → ((j : ℕ) → o ≡ Some j → j ≡ i → ⊥) → if_passes (λ x. not (eqb x i)) o ≡ o
+              others None apart = refl
+              others (Some j) apart = cond-true (not (eqb j i)) (Some j) None (ap not (ne_eqb j i (apart j refl)))
 
         -- no other node has that name so far
         pub name_free : (k : ℕ) → slot names i ≡ Some k → (Mem k (filter_map (names_to i) old) → ⊥) ⊎ (k ≡ i)

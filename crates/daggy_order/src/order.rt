@@ -12,11 +12,13 @@ use std::marker::Model;
 
 mod edge;
 mod naming;
+mod nodes;
 mod partition;
 mod search;
 mod slots;
 
 pub use edge::order_edge;
+pub use nodes::Nodes;
 
 /// A list of nodes, each at most once, in which nodes come and go at both ends and can be moved.
 ///
@@ -96,6 +98,19 @@ impl<Ix: IndexType> Order<Ix> {
         self.positions[i] = at;
         self.count += 1;
         Ok(())
+    }
+
+    /// Makes room for as many nodes as `bound` in all, each with an index below it, so that pushing
+    /// them takes no memory.
+    ///
+    /// The error says that memory was refused. The order is as it was.
+    pub fn reserve(&mut self, bound: usize) -> Result<(), AllocError>
+        ensures { self.new ≡ self.old }
+    {
+        if bound > 0 {
+            grow_positions(&mut self.positions, bound - 1)?;
+        }
+        self.slots.reserve(bound.saturating_sub(self.count))
     }
 
     /// Takes a node out. Constant time, but where most slots are gaps: these are closed then.

@@ -12,7 +12,7 @@ use std::alloc::{AllocError, Global};
 use std::marker::PhantomData;
 
 impl<N: Drop, E: Drop, Ix: IndexType> Acyclic<N, E, Ix, DiGraph<N, E, Ix>> {
-    /// An empty dag with memory for so many nodes and edges, and for the searches among them.
+    /// An empty dag with memory for so many nodes and edges, for their order, and for the searches among them.
     ///
     /// The error says that memory was refused, or that no machine can have so much. There may later be more nodes and
     /// edges than that.
@@ -24,7 +24,8 @@ impl<N: Drop, E: Drop, Ix: IndexType> Acyclic<N, E, Ix, DiGraph<N, E, Ix>> {
         let store = DiGraph::with_capacity(alloc, nodes, edges)?;
         let mut scratch = Scratch::new(alloc);
         scratch.reserve(nodes, 0)?;
-        let order = Order::new(alloc);
+        let mut order = Order::new(alloc);
+        order.reserve(nodes)?;
         Ok(Acyclic {
             store,
             order,
@@ -59,8 +60,8 @@ impl<N: Drop, E: Drop, Ix: IndexType> Acyclic<N, E, Ix, DiGraph<N, E, Ix>> {
         })
     }
 
-    /// Makes room for so many more nodes and for the searches among them, and for some more than that, so that a later
-    /// call seldom makes room again.
+    /// Makes room for so many more nodes, for their order and for the searches among them, and for some more than that,
+    /// so that a later call seldom makes room again.
     ///
     /// The error says that memory was refused, or that no machine can have so much. The dag is as it was.
     pub fn reserve_nodes(&mut self, additional: usize) -> Result<(), AllocError>
@@ -68,11 +69,12 @@ impl<N: Drop, E: Drop, Ix: IndexType> Acyclic<N, E, Ix, DiGraph<N, E, Ix>> {
         ensures fits { OnOk result (length self.new.graph.nodes + additional < 2 ^ 63) }
     {
         self.store.reserve_nodes(additional)?;
-        self.scratch
-            .reserve(self.store.node_count() + additional, 0)
+        let nodes = self.store.node_count() + additional;
+        self.order.reserve(nodes)?;
+        self.scratch.reserve(nodes, 0)
     }
 
-    /// Makes room for so many more nodes and for the searches among them.
+    /// Makes room for so many more nodes, for their order and for the searches among them.
     ///
     /// The error says that memory was refused, or that no machine can have so much. The dag is as it was.
     pub fn reserve_exact_nodes(&mut self, additional: usize) -> Result<(), AllocError>
@@ -80,8 +82,9 @@ impl<N: Drop, E: Drop, Ix: IndexType> Acyclic<N, E, Ix, DiGraph<N, E, Ix>> {
         ensures fits { OnOk result (length self.new.graph.nodes + additional < 2 ^ 63) }
     {
         self.store.reserve_exact_nodes(additional)?;
-        self.scratch
-            .reserve(self.store.node_count() + additional, 0)
+        let nodes = self.store.node_count() + additional;
+        self.order.reserve(nodes)?;
+        self.scratch.reserve(nodes, 0)
     }
 
     /// Makes room for so many more edges, and for some more than that, so that a later call seldom makes room again.

@@ -12,7 +12,7 @@ use std::alloc::{AllocError, Global};
 use std::marker::PhantomData;
 
 impl<N: Drop, E: Drop, Ix: IndexType> Acyclic<N, E, Ix, StableDiGraph<N, E, Ix>> {
-    /// An empty dag with memory for so many nodes and edges, and for the searches among them.
+    /// An empty dag with memory for so many nodes and edges, for their order, and for the searches among them.
     ///
     /// The error says that memory was refused, or that no machine can have so much. There may later be more nodes and
     /// edges than that.
@@ -24,7 +24,8 @@ impl<N: Drop, E: Drop, Ix: IndexType> Acyclic<N, E, Ix, StableDiGraph<N, E, Ix>>
         let store = StableDiGraph::with_capacity(alloc, nodes, edges)?;
         let mut scratch = Scratch::new(alloc);
         scratch.reserve(nodes, 0)?;
-        let order = Order::new(alloc);
+        let mut order = Order::new(alloc);
+        order.reserve(nodes)?;
         Ok(Acyclic {
             store,
             order,

@@ -1,4 +1,4 @@
-use Rattle.std.proofs.Common.{◌<◌, ◌^◌, length, arith}
+use Rattle.std.proofs.Common.{arith}
 use Rattle.daggy_dag.proofs.Externals.{few}
 use Rattle.daggy_dag.proofs.acyclic.Acyclic.externals.Goals as goal
 

@@ -41,7 +41,7 @@ nodes-preserved g c =
           w.self-is ∙ same
           ∙ named_past names old i (λ m.
           let stands : Contains c.nodes.self (g.Ix.IndexType.number c.new-n.result) =
-              subst Q (sym c.new-n.ensures.number) (subst P (sym same) (mem_contains (filter_map (names_to names i) old) i m)) in
+          subst Q (sym c.new-n.ensures.number) (subst P (sym same) (mem_contains (filter_map (names_to names i) old) i m)) in
           false≢true (sym w.if-holds.false ∙ c.holds.ensures.1 stands))
           )
     ]

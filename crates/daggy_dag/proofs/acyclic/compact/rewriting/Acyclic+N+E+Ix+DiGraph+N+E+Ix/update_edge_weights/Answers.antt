@@ -1,5 +1,3 @@
-use Rattle.std.proofs.Common.{subst}
-use Rattle.daggy_base.specs.Rewriting.{RewritesEdges}
 use Rattle.daggy_order.proofs.OrderLaws.{acyclic_from_order}
 use Rattle.daggy_dag.proofs.Rewritten.{edges_rewritten}
 use Rattle.daggy_dag.proofs.acyclic.compact.rewriting.Acyclic+N+E+Ix+DiGraph+N+E+Ix.update_edge_weights.Goals as goal

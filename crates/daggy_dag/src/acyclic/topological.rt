@@ -1,0 +1,93 @@
+//! The nodes in an order in which every parent comes before its children.
+ghost use Rattle.std.specs.Prelude.{◌≡◌, ◌<◌, ◌^◌, length};
+ghost use Rattle.std.specs.Iterator.{YieldsFirstBy, item_count};
+ghost use Rattle.daggy_order.specs.Ordered.{IsOrderOf};
+
+use crate::acyclic::Acyclic;
+use daggy_base::index::{DefaultIx, IndexType, NodeIndex};
+use daggy_base::store::Store;
+use daggy_order::order::Nodes;
+use std::alloc::AllocError;
+use std::fmt;
+use std::iter::{ExactSizeIterator, FusedIterator};
+use std::marker::Model;
+
+/// The nodes of a dag, every parent before its children.
+///
+/// Going over all of them costs the nodes alone.
+#[derive(Drop)]
+pub struct TopologicalOrder<'a, Ix: IndexType = DefaultIx> {
+    nodes: Nodes<'a, Ix>,
+}
+
+impl<'a, Ix: IndexType> Model for TopologicalOrder<'a, Ix> {
+    ghost use Rattle.std.specs.Prelude.{ℕ, List};
+
+    ghost Value = { List ℕ };
+
+    ghost view = { λ it. it.nodes };
+}
+
+impl<N: Drop, E: Drop, Ix: IndexType, S> Acyclic<N, E, Ix, S>
+where
+    S: Store<Ix, NodeWeight = N, EdgeWeight = E>,
+{
+    /// The nodes in an order in which every parent comes before its children: the one that the dag keeps, so none is
+    /// searched for.
+    ///
+    /// An edge that is added may change it, and so may a node.
+    #[inline]
+    pub fn topological_order(&self) -> TopologicalOrder<'_, Ix>
+        ensures ordered { IsOrderOf self.now.graph result }
+        ensures fits { length result < 2 ^ 64 }
+    {
+        TopologicalOrder {
+            nodes: self.order.nodes(),
+        }
+    }
+}
+
+impl<'a, Ix: IndexType> Iterator for TopologicalOrder<'a, Ix> {
+    type Item = NodeIndex<Ix>;
+
+    ghost next_gives = { YieldsFirstBy Ix.number (λ rest. rest) };
+
+    ghost remaining = { item_count (λ rest. rest) };
+
+    #[inline]
+    fn next(&mut self) -> Option<NodeIndex<Ix>> {
+        self.nodes.next()
+    }
+
+    #[inline]
+    fn size_hint(&self) -> (usize, Option<usize>) {
+        self.nodes.size_hint()
+    }
+}
+
+impl<'a, Ix: IndexType> ExactSizeIterator for TopologicalOrder<'a, Ix> {
+    #[inline]
+    fn len(&self) -> usize {
+        self.nodes.len()
+    }
+}
+
+impl<'a, Ix: IndexType> FusedIterator for TopologicalOrder<'a, Ix> {}
+
+impl<'a, Ix: IndexType> Clone for TopologicalOrder<'a, Ix> {
+    ghost is_clone = { λ a b. a ≡ b };
+
+    fn clone(&self) -> Result<Self, AllocError> {
+        Ok(TopologicalOrder {
+            nodes: self.nodes.clone()?,
+        })
+    }
+}
+
+impl<'a, Ix: IndexType> fmt::Debug for TopologicalOrder<'a, Ix> {
+    fn fmt<W: fmt::Write>(&self, f: &mut fmt::Formatter<W>) -> fmt::Result {
+        f.debug_struct("TopologicalOrder")
+            .field("remaining", &self.len())
+            .finish()
+    }
+}
