@@ -1,7 +1,7 @@
 -- That an adapter gives nothing any more once it gave nothing, where its walkers do so.
 use Rattle.std.specs.Prelude.{◌≡◌, ℕ, zero, suc, Bool, true, false, Option, Some, None, List, [], ◌∷◌, length, MatchOption, ⊤}
 use Rattle.std.specs.Bool.{MatchBool}
-use Rattle.std.specs.Iterator.{YieldsThen}
+use Rattle.std.specs.Iterator.{YieldsThen, YieldsFirstBy}
 use denote.Ref.{Bor}
 use denote.Param.Members.{Mut}
 use native.Mathlib.Nat.{zero-lt-suc}
@@ -13,8 +13,20 @@ use Rattle.daggy_walk.specs.Walking.{Answers, CallsItem}
 abbrev pub Rests : {W A : Type 0} → (W → Option A → W → Type 0) → Type 0
 Rests {W} {A} steps = (w t u : W) (r : Option A) → steps w None t → steps t r u → r ≡ None
 
+-- what is something is not nothing
 differ : {A : Type 0} (P : Type 0) (x : A) → Some x ≡ None → P
 differ P x e = absurd (subst (λ o. MatchOption o ⊥ (λ _. ⊤)) e tt)
+
+-- the list is empty
+abbrev empty : {A : Type 0} → List A → Type 0
+empty [] = ⊤
+empty (x ∷ xs) = ⊥
+
+-- a walk whose state shows the list of what is left rests
+pub list_rests : {W A B : Type 0} (view : A → B) (rest : W → List B) (w t u : W) (r : Option A)
+    → YieldsFirstBy view rest w None t → YieldsFirstBy view rest t r u → r ≡ None
+list_rests view rest w t u None a b = refl
+list_rests view rest w t u (Some x) a b = absurd (subst empty (sym a.1 ∙ b) tt)
 
 -- the number is above zero
 abbrev above : ℕ → Type 0
