@@ -56,6 +56,8 @@ workload build_random 10000 100000
 workload build_sorted 100000 500000
 workload add_edges 100000 500000
 workload walk_children 100000 500000
+workload fold_children 100000 500000
+workload take_even 100000 500000
 workload map_weights 100000 500000
 workload copy 100000 500000
 workload edge_list 100000 500000

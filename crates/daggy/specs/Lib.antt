@@ -15,6 +15,8 @@ pub use Rattle.daggy_walk.specs.Visit
 pub use Rattle.daggy_walk.specs.Walking
 pub use Rattle.daggy_walk.specs.Adapters
 pub use Rattle.daggy_walk.specs.Leading
+pub use Rattle.daggy_walk.specs.Fused
+pub use Rattle.daggy_walk.specs.Parts
 pub use Rattle.daggy_dag.specs.Walks
 pub use Rattle.daggy_base.specs.Mapping
 pub use Rattle.daggy_base.specs.Filtering

@@ -31,7 +31,7 @@ pub use daggy_base::index::{DefaultIx, Direction, EdgeIndex, IndexType, NodeInde
 pub use daggy_cells::reference::EdgeReference;
 pub use daggy_dag::acyclic::{
     Children, Dag, EdgeWeightsMut, Externals, NodeWeightsMut, Parents, RawEdges, RawNodes,
-    RecursiveWalk, StableDag, TopologicalOrder,
+    RecursiveWalk, StableDag, TopologicalOrder, same_reachability,
 };
 pub use daggy_graph::graph::lists::Edges;
 pub use daggy_guard::edge_indices::EdgeIndices;

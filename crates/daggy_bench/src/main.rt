@@ -5,6 +5,7 @@
 mod commands;
 mod random;
 mod stable;
+mod walks;
 mod workload;
 
 use crate::commands::write_commands;

@@ -49,10 +49,7 @@ fn add_edge(
 fn children_sum(dag: &Stable, n: NodeIndex<u32>) -> u64 {
     let mut sum = 0u64;
     let mut walker = dag.children(n);
-    for _ in 0..u64::MAX {
-        let Some((e, child)) = walker.walk_next(dag) else {
-            break;
-        };
+    'down: while let Some((e, child)) = walker.walk_next(dag) {
         sum = sum
             .wrapping_mul(31)
             .wrapping_add(e.index() as u64 ^ child.index() as u64);

@@ -1,6 +1,7 @@
 //! The workloads.
 use crate::random::Random;
 use crate::stable::{self, Churn, Stable};
+use crate::walks::{fold_children, take_even};
 use daggy::{Dag, EdgeIndex, NodeIndex, Walker};
 use std::alloc::{AllocError, Global};
 
@@ -21,6 +22,8 @@ pub enum Workload {
     BuildSorted,
     AddEdges,
     WalkChildren,
+    FoldChildren,
+    TakeEven,
     MapWeights,
     Copy,
     EdgeList,
@@ -39,6 +42,8 @@ pub enum Prepared {
     Build(u32, Vec<(u32, u32)>),
     AddEdges(Weighted, Vec<(u32, u32)>),
     WalkChildren(Weighted),
+    FoldChildren(Weighted),
+    TakeEven(Weighted),
     MapWeights(Weighted),
     Copy(Weighted),
     EdgeList(Weighted),
@@ -70,6 +75,8 @@ impl Workload {
             "copy" => Some(Workload::Copy),
             "edge_list" => Some(Workload::EdgeList),
             "walk_children" => Some(Workload::WalkChildren),
+            "fold_children" => Some(Workload::FoldChildren),
+            "take_even" => Some(Workload::TakeEven),
             "remove_edges" => Some(Workload::RemoveEdges),
             "remove_nodes" => Some(Workload::RemoveNodes),
             _ => None,
@@ -94,6 +101,8 @@ impl Workload {
             Workload::BuildSorted => "compact.build_sorted",
             Workload::AddEdges => "compact.add_edges",
             Workload::WalkChildren => "compact.walk_children",
+            Workload::FoldChildren => "compact.fold_children",
+            Workload::TakeEven => "compact.take_even",
             Workload::MapWeights => "compact.map_weights",
             Workload::Copy => "compact.copy",
             Workload::EdgeList => "compact.edge_list",
@@ -118,6 +127,8 @@ impl Workload {
                 Ok(Prepared::AddEdges(dag, pairs))
             }
             Workload::WalkChildren => Ok(Prepared::WalkChildren(sorted(alloc, sizes)?)),
+            Workload::FoldChildren => Ok(Prepared::FoldChildren(sorted(alloc, sizes)?)),
+            Workload::TakeEven => Ok(Prepared::TakeEven(sorted(alloc, sizes)?)),
             Workload::MapWeights => Ok(Prepared::MapWeights(sorted(alloc, sizes)?)),
             Workload::Copy => Ok(Prepared::Copy(sorted(alloc, sizes)?)),
             Workload::EdgeList => Ok(Prepared::EdgeList(sorted(alloc, sizes)?)),
@@ -160,6 +171,8 @@ impl Prepared {
                 pairs.as_slice(),
             )?)),
             Prepared::WalkChildren(dag) => Ok(Finished::Number(walk_children(&dag))),
+            Prepared::FoldChildren(dag) => Ok(Finished::Number(fold_children(&dag))),
+            Prepared::TakeEven(dag) => Ok(Finished::Number(take_even(&dag))),
             Prepared::MapWeights(dag) => Ok(Finished::Edges(plus_one(&dag)?)),
             Prepared::Copy(dag) => Ok(Finished::Edges(dag.try_clone()?)),
             Prepared::EdgeList(dag) => Ok(Finished::Number(edge_list(&dag))),
@@ -317,10 +330,7 @@ fn add_child_tree(alloc: Global, nodes: u32) -> Result<u64, AllocError> {
 fn children_sum(dag: &Weighted, n: NodeIndex<u32>) -> u64 {
     let mut sum = 0u64;
     let mut walker = dag.children(n);
-    for _ in 0..u64::MAX {
-        let Some((e, child)) = walker.walk_next(dag) else {
-            break;
-        };
+    'down: while let Some((e, child)) = walker.walk_next(dag) {
         sum = sum
             .wrapping_mul(31)
             .wrapping_add(e.index() as u64 ^ child.index() as u64);

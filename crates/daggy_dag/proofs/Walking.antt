@@ -1,16 +1,17 @@
 -- A step of a walk gives the first of what is left of its list, and leaves the others.
-use Rattle.std.proofs.Common.{◌≡◌, ℕ, ◌+◌, ◌≤◌, inl, inr, Option, Some, None, List, [], ◌∷◌, length, refl, sym, ap, subst, ◌∙◌, arith}
+use Rattle.std.proofs.Common.{◌≡◌, ℕ, ◌+◌, ◌≤◌, ◌<◌, inl, inr, Option, Some, None, List, [], ◌∷◌, length, refl, sym, ap, subst, ◌∙◌, arith}
 use Rattle.std.specs.Prelude.{MatchOption}
 use Rattle.std.specs.Option.{option_len, option_map}
 use Rattle.std.proofs.lemmas.Bool.Decides.{nat_tests}
 use Rattle.std.proofs.lemmas.Option.{slice_get_within}
 use Rattle.daggy_base.specs.declared.index.Direction.{Direction}
 use Rattle.daggy_base.specs.declared.index.Direction.TheVariants.{Outgoing, Incoming}
-use Rattle.daggy_base.specs.Graph.{Graph, Edge, edge_at, list_at, near_end, far_end}
+use Rattle.daggy_base.specs.Graph.{Graph, Edge, edge_at, out_list, in_list, list_at, near_end, far_end, pair_of}
 use Rattle.daggy_base.specs.WellFormed.{IsWellFormed}
 use Rattle.daggy_base.specs.Cursor.{first_of, after, IsStep, item_at, cursor_after}
 use Rattle.daggy_base.proofs.Lists.{Mem, Unique, contains_mem, mem_contains, unique_from_distinct}
 use Rattle.daggy_base.proofs.Reading.{slot_get}
+use Rattle.daggy_cells.proofs.Rows.{length_le}
 use Rattle.daggy_dag.specs.Walks.{from_on, rest_with, rest_of_walk}
 
 -- ---- a list at one of its members
@@ -111,16 +112,31 @@ module _ {N E : Type 0} (end : ℕ) (g : Graph N E) (w : IsWellFormed end g) whe
           subst (λ k. MatchOption k ((rest_of_walk dir g e ≡ []) × (rest_of_walk dir g e' ≡ [])) (λ p. rest_of_walk dir g e ≡ p.0 ∷ rest_of_walk dir g e'))
           (sym some) (begun ∙ ap (λ k. e ∷ k) (sym ended))
 
-  -- So what is left falls by one where an edge came, and does not rise.
-  pub step_falls : (dir : Direction) (e : ℕ) (item : Option (ℕ × ℕ)) (e' : ℕ) → IsStep dir end g e item e'
-      → length (rest_of_walk dir g e') + option_len item ≤ length (rest_of_walk dir g e)
-  step_falls dir e item e' s = by_item item (step_gives dir e item e' s)
-    where
-      by_item : (o : Option (ℕ × ℕ)) → MatchOption o ((rest_of_walk dir g e ≡ []) × (rest_of_walk dir g e' ≡ [])) (λ p. rest_of_walk dir g e ≡ p.0 ∷ rest_of_walk dir g e')
-          → length (rest_of_walk dir g e') + option_len o ≤ length (rest_of_walk dir g e)
-      by_item None h = omega (arith, ap length h.1)
-      by_item (Some p) h = omega (arith, ap length h)
+  edge_below_end : (e : ℕ) (x : Edge E) → edge_at g e ≡ Some x → e < end
+  edge_below_end e x a = omega (arith, slice_get_within g.edges e (Some x) (slot_get g.edges e x a), w.few_edges)
 
-pub mapped_len : {A B : Type 0} (f : A → B) (o : Option A) → option_len (option_map f o) ≡ option_len o
-mapped_len f None = refl
-mapped_len f (Some x) = refl
+  -- a list has no more edges than there are indices
+  pub few_in : (dir : Direction) (n : ℕ) → length (list_at dir g n) ≤ end
+  few_in Outgoing n = length_le (out_list g n) end (w.out_of.once n) (λ e p. let x = (w.out_of.exact n e).0 p in edge_below_end e x.0 x.1)
+  few_in Incoming n = length_le (in_list g n) end (w.in_of.once n) (λ e p. let x = (w.in_of.exact n e).0 p in edge_below_end e x.0 x.1)
+
+module _ {N E Ix : Type 0} (number : Ix → ℕ) (dir : Direction) where
+  -- what a step tells of what is left, by the index of the edge that it gives
+  abbrev Yields : Graph N E → ℕ → Option (Ix × Ix) → ℕ → Type 0
+  Yields g e r e' = MatchOption r ((rest_of_walk dir g e ≡ []) × (rest_of_walk dir g e' ≡ [])) (λ x. rest_of_walk dir g e ≡ number x.0 ∷ rest_of_walk dir g e')
+
+  by_index : (end : ℕ) (g : Graph N E) → IsWellFormed end g → (e : ℕ) (r : Option (Ix × Ix)) (e' : ℕ) → IsStep dir end g e (option_map (pair_of number) r) e' → Yields g e r e'
+  by_index end g w e None e' s = step_gives end g w dir e None e' s
+  by_index end g w e (Some x) e' s = step_gives end g w dir e (Some (pair_of number x)) e' s
+
+  -- A step over the graph h from f, which are g and e by other names.
+  pub steps : (end : ℕ) {g h : Graph N E} {e f : ℕ} (r : Option (Ix × Ix)) (e' : ℕ) → IsWellFormed end h → h ≡ g → f ≡ e → IsStep dir end h f (option_map (pair_of number) r) e'
+      → IsStep dir end g e (option_map (pair_of number) r) e' × Yields g e r e'
+  steps end {g} {h} {e} {f} r e' w graph cursor s =
+      let here : IsStep dir end g e (option_map (pair_of number) r) e' = subst (λ k. IsStep dir end g k (option_map (pair_of number) r) e') cursor (subst (λ k. IsStep dir end k f (option_map (pair_of number) r) e') graph s) in
+      (here, by_index end g (subst (IsWellFormed end) graph w) e r e' here)
+
+  -- So what is left falls by one where an edge came, and does not rise.
+  pub falls : (g : Graph N E) (e : ℕ) (r : Option (Ix × Ix)) (e' : ℕ) → Yields g e r e' → length (rest_of_walk dir g e') + option_len r ≤ length (rest_of_walk dir g e)
+  falls g e None e' y = omega (arith, ap length y.1)
+  falls g e (Some x) e' y = omega (arith, ap length y)

@@ -1,5 +1,5 @@
 //! The dag over any store, of which `Dag` and `StableDag` are the two kinds.
-ghost use Rattle.std.specs.Prelude.{◌≡◌, ℕ, ◌+◌, ◌<◌, ◌≤◌, ◌↔◌, ◌⊎◌, IsTrue, Err, None, IfOk, IfErr, OnErr, OnSome, IfSome, IfNone, IsOkAnd, option_copied};
+ghost use Rattle.std.specs.Prelude.{◌≡◌, ℕ, ◌+◌, ◌^◌, ◌<◌, ◌≤◌, ◌↔◌, ◌⊎◌, IsTrue, Err, None, IfOk, IfErr, OnErr, OnSome, IfSome, IfNone, IsOkAnd, length, option_copied};
 ghost use Rattle.std.specs.Option.{option_map};
 ghost use Rattle.daggy_base.specs.Graph.{empty, HasNode, node_weight as weight_at, edge_at, ends_of, pair_of, node_count as node_count_of, edge_count as edge_count_of, out_list, in_list, IsCompact};
 ghost use Rattle.daggy_base.specs.Path.{Reaches, IsAcyclic};
@@ -14,6 +14,7 @@ ghost use Rattle.daggy_base.specs.declared.index.Direction.TheVariants.{Outgoing
 ghost use Rattle.daggy_base.specs.declared.error.NodeError.TheVariants.{Memory as NodeMemory};
 ghost use Rattle.daggy_base.specs.declared.error.EdgeError.TheVariants.{WouldCycle as ByCycle, Memory as EdgeMemory};
 ghost use Rattle.daggy_base.specs.declared.error.ChildError.TheVariants.{Memory as ChildMemory};
+ghost use Rattle.daggy_dag.specs.Walks.{rest_of_walk};
 
 use daggy_base::error::{ChildError, EdgeError, NodeError};
 use daggy_base::index::{DefaultIx, Direction, EdgeIndex, IndexType, NodeIndex};
@@ -387,8 +388,12 @@ where
     /// A walker over the children of a node, newest edge first. Over a missing node it gives nothing.
     #[inline]
     pub fn children(&self, n: NodeIndex<Ix>) -> Children<N, E, Ix>
-        ensures { Ix.number result ≡ first_of Ix.greatest (out_list self.now.graph (Ix.number n)) }
+        ensures first { Ix.number result ≡ first_of Ix.greatest (out_list self.now.graph (Ix.number n)) }
+        ensures whole { rest_of_walk Outgoing self.now.graph (Ix.number result) ≡ out_list self.now.graph (Ix.number n) }
+        ensures fits { length (rest_of_walk Outgoing self.now.graph (Ix.number result)) < 2 ^ 64 }
     {
+        // Asked for its contract alone: an edge comes once in its list.
+        let _well_formed = self.store.edge_count();
         Children {
             edge: self.store.first_edge(n, Direction::Outgoing),
             node_weight: PhantomData,
@@ -399,8 +404,12 @@ where
     /// A walker over the parents of a node, newest edge first. Over a missing node it gives nothing.
     #[inline]
     pub fn parents(&self, n: NodeIndex<Ix>) -> Parents<N, E, Ix>
-        ensures { Ix.number result ≡ first_of Ix.greatest (in_list self.now.graph (Ix.number n)) }
+        ensures first { Ix.number result ≡ first_of Ix.greatest (in_list self.now.graph (Ix.number n)) }
+        ensures whole { rest_of_walk Incoming self.now.graph (Ix.number result) ≡ in_list self.now.graph (Ix.number n) }
+        ensures fits { length (rest_of_walk Incoming self.now.graph (Ix.number result)) < 2 ^ 64 }
     {
+        // Asked for its contract alone: an edge comes once in its list.
+        let _well_formed = self.store.edge_count();
         Parents {
             edge: self.store.first_edge(n, Direction::Incoming),
             node_weight: PhantomData,

@@ -2,7 +2,7 @@
 use Rattle.std.proofs.Common.{◌≡◌, ℕ, ◌+◌, ◌≤◌, ◌<◌, Bool, true, false, cond, Option, Some, None, List, [], ◌∷◌, ◌++◌, length, refl, sym, subst, ap, ◌∙◌, arith}
 use Rattle.std.specs.Prelude.{MatchOption}
 use Rattle.std.specs.Option.{option_len}
-use Rattle.std.specs.Iterator.{Count, IsFinite, size, at_most, Yields, MakesProgress}
+use Rattle.std.specs.Iterator.{Count, IsFinite, size, at_most, Yields}
 use Rattle.std.specs.List.{FoldsTo}
 use Rattle.std.specs.Fn.{Called}
 use denote.Ref.{Bor}
@@ -17,11 +17,6 @@ use Rattle.daggy_walk.specs.Walking.{Proceeds, Answers, CallsItem, CallableAlong
 pub lowers : {W A : Type 0} {can : W → Type 0} {left : W → Count} {s t : W} {r : Option A} {x : A} → Proceeds can left s r t → r ≡ Some x
     → IsFinite (left s) → size (left t) < size (left s)
 lowers {left = left} {s = s} {t = t} g e h = omega (arith, (g.falls h).1, subst (λ o. option_len o ≡ 1) (sym e) refl)
-
--- what a step tells of an iterator over it
-pub advances : {W A : Type 0} {can : W → Type 0} {left : W → Count} {s t : W} (r : Option A) → Proceeds can left s r t → MakesProgress can left s r t
-advances None g = record { on = λ _. tt; keeps = tt; rests = λ h. (g.falls h).0 }
-advances (Some x) g = record { on = λ h. (g.stays, (g.falls h).0, omega (arith, (g.falls h).1)); keeps = g.stays; rests = λ _. tt }
 
 -- ---- calls
 

@@ -1,6 +1,8 @@
 pub mod Adapters
 pub mod Bits
 pub mod Ends
+pub mod Fused
 pub mod Leading
+pub mod Parts
 pub mod Visit
 pub mod Walking

@@ -1,6 +1,8 @@
 //! Walkers: iterators that borrow their graph only while they take a step.
-ghost use Rattle.std.specs.Prelude.{◌≡◌, Option, IfSome, ⊤};
+ghost use Rattle.std.specs.Prelude.{◌≡◌, Option, None, IfSome, ⊤};
 ghost use Rattle.std.specs.Iterator.{Count, IsFinite, UpTo, endless};
+ghost use Rattle.daggy_walk.specs.Fused.{Rests};
+ghost use Rattle.daggy_walk.specs.Parts.{iter_walker, iter_graph};
 ghost use Rattle.daggy_walk.specs.Walking.{Proceeds};
 
 mod chain;
@@ -51,12 +53,22 @@ pub trait Walker<G>: Drop {
         ensures steps { walk_gives self.old graph.now result self.new }
         ensures goes { Proceeds (λ w. can_walk w graph.now) (λ w. items_left w graph.now) self.old result self.new };
 
+    /// How many items may still come at most, where that is known without a walk.
+    #[inline]
+    fn upper_bound(&self, graph: &G) -> Option<usize>
+        ensures bounded { IfSome result (UpTo (items_left self.now graph.now)) }
+    {
+        let _ = graph;
+        None
+    }
+
     /// The rest of the walk as an iterator, which borrows the graph.
+    #[inline]
     final fn iter<'a>(self, graph: &'a G) -> WalkerIter<'a, G, Self>
     where
         Self: Sized,
-        ensures walker { result.walker ≡ self }
-        ensures graph { result.graph.now ≡ graph.now }
+        ensures walker { iter_walker result ≡ self }
+        ensures graph { (iter_graph result).now ≡ graph.now }
     {
         WalkerIter::new(self, graph)
     }
@@ -64,15 +76,29 @@ pub trait Walker<G>: Drop {
 
 /// A walker that ends over each graph, as long as the graph does not change.
 pub trait FiniteWalker<G>: Walker<G> {
-    /// How many items may still come at most, where that is known without a walk.
+    /// Does nothing. It is called for its contract alone: the walk ends.
     #[inline]
-    fn upper_bound(&self, graph: &G) -> Option<usize>
-        ensures { IfSome result (UpTo (Self.items_left self.now graph.now)) }
+    fn ends_over(&self, graph: &G)
+        ensures { IsFinite (Self.items_left self.now graph.now) }
     {
         let _ = graph;
-        None
     }
 
     // The number of items that may still come is bounded.
     ghost ends: { (w : Self) (g : G) → IsFinite (Self.items_left w g) };
+}
+
+/// A walker that gives nothing any more once it gave nothing, as long as the graph does not change.
+pub trait FusedWalker<G>: Walker<G> {
+    /// Does nothing. It is called for its contract alone: once the walk gave nothing, the next step gives nothing.
+    #[inline]
+    fn rests_over(&self, graph: &G)
+        ensures { (t u : Self) (r : Option Self.Item) → Self.walk_gives self.now graph.now None t
+            → Self.walk_gives t graph.now r u → r ≡ None }
+    {
+        let _ = graph;
+    }
+
+    // After a step that gave nothing, the next one gives nothing.
+    ghost rests: { (g : G) → Rests (λ w o v. Self.walk_gives w g o v) };
 }

@@ -1,5 +1,5 @@
 //! Callers that go along all children, or all parents, of a node.
-ghost use Rattle.std.specs.Prelude.{◌≡◌, IfOk, map};
+ghost use Rattle.std.specs.Prelude.{◌≡◌, IfOk, length, map};
 ghost use Rattle.daggy_base.specs.Graph.{out_list};
 
 use daggy_base::index::{EdgeIndex, IndexType, NodeIndex};
@@ -15,7 +15,6 @@ pub fn edges_to_children<N: Drop, E: Drop, Ix: IndexType>(
 ) -> Result<Vec<EdgeIndex<Ix>>, AllocError>
     ensures { IfOk result (λ v. map Ix.number v.items ≡ out_list dag.now.graph (Ix.number n)) }
 {
-    let _dag = dag.edge_count();
     let mut seen = Vec::new(alloc);
     for step in dag.children(n).iter(dag) {
         seen.push(step.0)?;
@@ -47,4 +46,18 @@ pub fn sum_of_children<N: Drop, E: Drop, Ix: IndexType>(
         sum = sum.wrapping_add(child.index());
     }
     sum
+}
+
+/// How many edges lead to children of a node.
+pub fn number_of_children<N: Drop, E: Drop, Ix: IndexType>(
+    dag: &Dag<N, E, Ix>,
+    n: NodeIndex<Ix>,
+) -> usize
+    ensures { result ≡ length (out_list dag.now.graph (Ix.number n)) }
+{
+    let mut count = 0;
+    for _ in dag.children(n).iter(dag) {
+        count += 1;
+    }
+    count
 }

@@ -2,6 +2,8 @@
 
 mod adapters;
 mod asked;
+mod families;
+mod hints;
 mod iterating;
 mod stale;
 mod support;

@@ -1,7 +1,7 @@
 //! Walkers over the children and over the parents of a node.
 ghost use Rattle.std.specs.Prelude.{◌≡◌, length};
 ghost use Rattle.std.specs.Option.{option_map};
-ghost use Rattle.std.specs.Iterator.{at_most};
+ghost use Rattle.std.specs.Iterator.{at_most, YieldsFirstBy};
 ghost use Rattle.daggy_base.specs.Graph.{pair_of};
 ghost use Rattle.daggy_base.specs.Cursor.{IsStep};
 ghost use Rattle.daggy_base.specs.declared.index.Direction.TheVariants.{Outgoing, Incoming};
@@ -11,7 +11,7 @@ use crate::acyclic::Acyclic;
 use daggy_base::index::{DefaultIx, Direction, EdgeIndex, IndexType, NodeIndex};
 use daggy_base::store::Store;
 use daggy_guard::walk;
-use daggy_walk::walker::{FiniteWalker, Walker};
+use daggy_walk::walker::{FiniteWalker, FusedWalker, Walker};
 use std::alloc::AllocError;
 use std::marker::{Model, PhantomData};
 
@@ -60,7 +60,9 @@ where
 {
     type Item = (EdgeIndex<Ix>, NodeIndex<Ix>);
 
-    ghost walk_gives = { λ w d r after. IsStep Outgoing Ix.greatest d.graph (Ix.number w) (option_map (pair_of Ix.number) r) (Ix.number after) };
+    ghost walk_gives = { λ w d r after.
+        IsStep Outgoing Ix.greatest d.graph (Ix.number w) (option_map (pair_of Ix.number) r) (Ix.number after)
+        × YieldsFirstBy (λ x. Ix.number x.0) (λ v. rest_of_walk Outgoing d.graph (Ix.number v)) w r after };
 
     ghost items_left = { λ w d. at_most (length (rest_of_walk Outgoing d.graph (Ix.number w))) };
 
@@ -77,6 +79,16 @@ where
     S: Store<Ix, NodeWeight = N, EdgeWeight = E>,
 {
     ghost ends = { λ w d. tt };
+}
+
+impl<N: Drop, E: Drop, Ix: IndexType, S> FusedWalker<Acyclic<N, E, Ix, S>> for Children<N, E, Ix>
+where
+    S: Store<Ix, NodeWeight = N, EdgeWeight = E>,
+{
+    ghost use Rattle.daggy_walk.specs.Fused.{list_rests};
+
+    ghost rests = { λ d w t u r a b. list_rests (λ x. Ix.number x.0) (λ v. rest_of_walk Outgoing d.graph (Ix.number v))
+        w t u r a.1 b.1 };
 }
 
 /// A walker over the parents of a node. It gives each edge with its parent.
@@ -124,7 +136,9 @@ where
 {
     type Item = (EdgeIndex<Ix>, NodeIndex<Ix>);
 
-    ghost walk_gives = { λ w d r after. IsStep Incoming Ix.greatest d.graph (Ix.number w) (option_map (pair_of Ix.number) r) (Ix.number after) };
+    ghost walk_gives = { λ w d r after.
+        IsStep Incoming Ix.greatest d.graph (Ix.number w) (option_map (pair_of Ix.number) r) (Ix.number after)
+        × YieldsFirstBy (λ x. Ix.number x.0) (λ v. rest_of_walk Incoming d.graph (Ix.number v)) w r after };
 
     ghost items_left = { λ w d. at_most (length (rest_of_walk Incoming d.graph (Ix.number w))) };
 
@@ -141,4 +155,14 @@ where
     S: Store<Ix, NodeWeight = N, EdgeWeight = E>,
 {
     ghost ends = { λ w d. tt };
+}
+
+impl<N: Drop, E: Drop, Ix: IndexType, S> FusedWalker<Acyclic<N, E, Ix, S>> for Parents<N, E, Ix>
+where
+    S: Store<Ix, NodeWeight = N, EdgeWeight = E>,
+{
+    ghost use Rattle.daggy_walk.specs.Fused.{list_rests};
+
+    ghost rests = { λ d w t u r a b. list_rests (λ x. Ix.number x.0) (λ v. rest_of_walk Incoming d.graph (Ix.number v))
+        w t u r a.1 b.1 };
 }

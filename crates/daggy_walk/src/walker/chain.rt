@@ -1,7 +1,8 @@
 //! One walk after another.
 ghost use Rattle.std.specs.Prelude.{◌≡◌, Some};
+ghost use Rattle.daggy_walk.specs.Parts.{chain_first, chain_second};
 
-use crate::walker::{FiniteWalker, Walker};
+use crate::walker::{FiniteWalker, FusedWalker, Walker};
 use std::marker::PhantomData;
 
 /// One walk, and after its end another.
@@ -19,8 +20,8 @@ impl<G, A, B> Chain<G, A, B> {
     /// The walk of `a` and then that of `b`.
     #[inline]
     pub fn new(a: A, b: B) -> Self
-        ensures first { result.first ≡ Some a }
-        ensures second { result.second ≡ b }
+        ensures first { chain_first result ≡ Some a }
+        ensures second { chain_second result ≡ b }
     {
         Chain {
             first: Some(a),
@@ -36,12 +37,12 @@ impl<G, A: Walker<G>, B: Walker<G, Item = A::Item>> Walker<G> for Chain<G, A, B>
 
     type Item = A::Item;
 
-    ghost can_walk = { λ s g. ForSome s.first (λ w. A.can_walk w g) × B.can_walk s.second g };
+    ghost can_walk = { λ s g. ForSome (chain_first s) (λ w. A.can_walk w g) × B.can_walk (chain_second s) g };
 
     ghost walk_gives = { λ s g r t. ChainStep (λ w o v. A.walk_gives w g o v) (λ w o v. B.walk_gives w g o v)
-        s.first s.second r t.first t.second };
+        (chain_first s) (chain_second s) r (chain_first t) (chain_second t) };
 
-    ghost items_left = { λ s g. chain_left (λ w. A.items_left w g) (B.items_left s.second g) s.first };
+    ghost items_left = { λ s g. chain_left (λ w. A.items_left w g) (B.items_left (chain_second s) g) (chain_first s) };
 
     #[inline]
     fn walk_next(&mut self, graph: &G) -> Option<A::Item> {
@@ -53,10 +54,25 @@ impl<G, A: Walker<G>, B: Walker<G, Item = A::Item>> Walker<G> for Chain<G, A, B>
         }
         self.second.walk_next(graph)
     }
+
+    #[inline]
+    fn upper_bound(&self, graph: &G) -> Option<usize> {
+        let second = self.second.upper_bound(graph)?;
+        match &self.first {
+            Some(first) => second.checked_add(first.upper_bound(graph)?),
+            None => Some(second),
+        }
+    }
 }
 
 impl<G, A: FiniteWalker<G>, B: FiniteWalker<G, Item = A::Item>> FiniteWalker<G> for Chain<G, A, B> {
     ghost use Rattle.daggy_walk.specs.Ends.{chain_ends};
 
-    ghost ends = { λ w g. chain_ends _ _ (B.ends w.second g) w.first (λ v. A.ends v g) };
+    ghost ends = { λ w g. chain_ends _ _ (B.ends (chain_second w) g) (chain_first w) (λ v. A.ends v g) };
+}
+
+impl<G, A: Walker<G>, B: FusedWalker<G, Item = A::Item>> FusedWalker<G> for Chain<G, A, B> {
+    ghost use Rattle.daggy_walk.specs.Fused.{chain_rests};
+
+    ghost rests = { λ g w t u r. chain_rests _ (B.rests g) _ _ _ _ _ _ _ r };
 }

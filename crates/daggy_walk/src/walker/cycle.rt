@@ -1,5 +1,6 @@
 //! A walk again and again.
 ghost use Rattle.std.specs.Prelude.{◌≡◌};
+ghost use Rattle.daggy_walk.specs.Parts.{cycle_start, cycle_running};
 
 use crate::walker::Walker;
 use std::marker::PhantomData;
@@ -20,8 +21,8 @@ impl<G, W: Copy> Cycle<G, W> {
     /// The walk of `walker`, again and again.
     #[inline]
     pub fn new(walker: W) -> Self
-        ensures start { result.start ≡ walker }
-        ensures running { result.running ≡ walker }
+        ensures start { cycle_start result ≡ walker }
+        ensures running { cycle_running result ≡ walker }
     {
         Cycle {
             start: walker,
@@ -36,9 +37,10 @@ impl<G, W: Walker<G> + Copy> Walker<G> for Cycle<G, W> {
 
     type Item = W::Item;
 
-    ghost can_walk = { λ s g. W.can_walk s.start g × W.can_walk s.running g };
+    ghost can_walk = { λ s g. W.can_walk (cycle_start s) g × W.can_walk (cycle_running s) g };
 
-    ghost walk_gives = { λ s g r t. CycleStep (λ w o v. W.walk_gives w g o v) s.start s.running r t.start t.running };
+    ghost walk_gives = { λ s g r t. CycleStep (λ w o v. W.walk_gives w g o v)
+        (cycle_start s) (cycle_running s) r (cycle_start t) (cycle_running t) };
 
     #[inline]
     fn walk_next(&mut self, graph: &G) -> Option<W::Item> {

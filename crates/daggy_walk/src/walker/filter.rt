@@ -1,7 +1,8 @@
 //! The steps of a walk that pass a test.
 ghost use Rattle.std.specs.Prelude.{◌≡◌};
+ghost use Rattle.daggy_walk.specs.Parts.{filter_walker, filter_predicate};
 
-use crate::walker::{FiniteWalker, Walker};
+use crate::walker::{FiniteWalker, FusedWalker, Walker};
 use std::marker::PhantomData;
 
 /// The items of a walk that a predicate accepts.
@@ -17,8 +18,8 @@ impl<G, W, P> Filter<G, W, P> {
     /// The items of a walk that `predicate` accepts.
     #[inline]
     pub fn new(walker: W, predicate: P) -> Self
-        ensures walker { result.walker ≡ walker }
-        ensures predicate { result.predicate ≡ predicate }
+        ensures walker { filter_walker result ≡ walker }
+        ensures predicate { filter_predicate result ≡ predicate }
     {
         Filter {
             walker,
@@ -38,13 +39,14 @@ where
 
     type Item = W::Item;
 
-    ghost can_walk = { λ s g. W.can_walk s.walker g × CallableAlong (λ w o v. W.walk_gives w g o v)
-        (λ f x h. (b : Bool) × CallsItem P.FnMut f g x b h) (λ f x. TakesItem P.FnMut f g x) s.walker s.predicate };
+    ghost can_walk = { λ s g. W.can_walk (filter_walker s) g × CallableAlong (λ w o v. W.walk_gives w g o v)
+        (λ f x h. (b : Bool) × CallsItem P.FnMut f g x b h) (λ f x. TakesItem P.FnMut f g x)
+        (filter_walker s) (filter_predicate s) };
 
-    ghost walk_gives = { λ s g r t. FilterStep (λ w o v. W.walk_gives w g o v) P.FnMut g s.walker s.predicate
-        r t.walker t.predicate };
+    ghost walk_gives = { λ s g r t. FilterStep (λ w o v. W.walk_gives w g o v) P.FnMut g
+        (filter_walker s) (filter_predicate s) r (filter_walker t) (filter_predicate t) };
 
-    ghost items_left = { λ s g. W.items_left s.walker g };
+    ghost items_left = { λ s g. W.items_left (filter_walker s) g };
 
     #[inline]
     fn walk_next(&mut self, graph: &G) -> Option<W::Item> {
@@ -55,16 +57,32 @@ where
         }
         None
     }
+
+    #[inline]
+    fn upper_bound(&self, graph: &G) -> Option<usize> {
+        self.walker.upper_bound(graph)
+    }
 }
 
 impl<G, W: FiniteWalker<G>, P: FnMut(&G, &W::Item) -> bool> FiniteWalker<G> for Filter<G, W, P>
 where
     W::Item: Drop,
 {
-    ghost ends = { λ w g. W.ends w.walker g };
+    ghost ends = { λ w g. W.ends (filter_walker w) g };
 
     #[inline]
-    fn upper_bound(&self, graph: &G) -> Option<usize> {
-        self.walker.upper_bound(graph)
-    }
+    fn ends_over(&self, _graph: &G) {}
+}
+
+impl<G, W: FiniteWalker<G> + FusedWalker<G>, P: FnMut(&G, &W::Item) -> bool> FusedWalker<G>
+    for Filter<G, W, P>
+where
+    W::Item: Drop,
+{
+    ghost use Rattle.daggy_walk.specs.Fused.{filter_rests};
+
+    ghost rests = { λ g w t u r. filter_rests _ (W.rests g) P.FnMut g _ _ _ _ _ _ r };
+
+    #[inline]
+    fn rests_over(&self, _graph: &G) {}
 }

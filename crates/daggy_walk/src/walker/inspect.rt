@@ -1,7 +1,8 @@
 //! A walk that is looked at.
 ghost use Rattle.std.specs.Prelude.{◌≡◌};
+ghost use Rattle.daggy_walk.specs.Parts.{inspect_walker, inspect_function};
 
-use crate::walker::{FiniteWalker, Walker};
+use crate::walker::{FiniteWalker, FusedWalker, Walker};
 
 /// A walk that shows each item to a function before it gives it.
 #[derive(Clone, Copy, Debug, Drop)]
@@ -14,8 +15,8 @@ impl<W, F> Inspect<W, F> {
     /// The same walk, with each item shown to `f`.
     #[inline]
     pub fn new(walker: W, f: F) -> Self
-        ensures walker { result.walker ≡ walker }
-        ensures function { result.f ≡ f }
+        ensures walker { inspect_walker result ≡ walker }
+        ensures function { inspect_function result ≡ f }
     {
         Inspect { walker, f }
     }
@@ -27,12 +28,14 @@ impl<G, W: Walker<G>, F: FnMut(&G, &W::Item)> Walker<G> for Inspect<W, F> {
 
     type Item = W::Item;
 
-    ghost can_walk = { λ s g. W.can_walk s.walker g × CallableAlong (λ w o v. W.walk_gives w g o v)
-        (λ f x h. CallsItem F.FnMut f g x tt h) (λ f x. TakesItem F.FnMut f g x) s.walker s.f };
+    ghost can_walk = { λ s g. W.can_walk (inspect_walker s) g × CallableAlong (λ w o v. W.walk_gives w g o v)
+        (λ f x h. CallsItem F.FnMut f g x tt h) (λ f x. TakesItem F.FnMut f g x)
+        (inspect_walker s) (inspect_function s) };
 
-    ghost walk_gives = { λ s g r t. InspectStep (λ w o v. W.walk_gives w g o v) F.FnMut g s.walker s.f r t.walker t.f };
+    ghost walk_gives = { λ s g r t. InspectStep (λ w o v. W.walk_gives w g o v) F.FnMut g
+        (inspect_walker s) (inspect_function s) r (inspect_walker t) (inspect_function t) };
 
-    ghost items_left = { λ s g. W.items_left s.walker g };
+    ghost items_left = { λ s g. W.items_left (inspect_walker s) g };
 
     #[inline]
     fn walk_next(&mut self, graph: &G) -> Option<W::Item> {
@@ -40,13 +43,25 @@ impl<G, W: Walker<G>, F: FnMut(&G, &W::Item)> Walker<G> for Inspect<W, F> {
         (self.f)(graph, &item);
         Some(item)
     }
-}
-
-impl<G, W: FiniteWalker<G>, F: FnMut(&G, &W::Item)> FiniteWalker<G> for Inspect<W, F> {
-    ghost ends = { λ w g. W.ends w.walker g };
 
     #[inline]
     fn upper_bound(&self, graph: &G) -> Option<usize> {
         self.walker.upper_bound(graph)
     }
+}
+
+impl<G, W: FiniteWalker<G>, F: FnMut(&G, &W::Item)> FiniteWalker<G> for Inspect<W, F> {
+    ghost ends = { λ w g. W.ends (inspect_walker w) g };
+
+    #[inline]
+    fn ends_over(&self, _graph: &G) {}
+}
+
+impl<G, W: FusedWalker<G>, F: FnMut(&G, &W::Item)> FusedWalker<G> for Inspect<W, F> {
+    ghost use Rattle.daggy_walk.specs.Fused.{inspect_rests};
+
+    ghost rests = { λ g w t u r. inspect_rests _ (W.rests g) F.FnMut g _ _ _ _ _ _ r };
+
+    #[inline]
+    fn rests_over(&self, _graph: &G) {}
 }

@@ -1,11 +1,14 @@
 //! The rest of a walk as an iterator.
 ghost use Rattle.std.specs.Prelude.{◌≡◌};
+ghost use Rattle.daggy_walk.specs.Parts.{iter_walker, iter_graph};
 
-use crate::walker::Walker;
+use crate::walker::{FusedWalker, Walker};
+use std::iter::FusedIterator;
 
 /// The rest of a walk over a graph that is borrowed, as an iterator. [`Walker::iter`] makes it.
 ///
-/// As a walk may go on after it gave `None`, so may this.
+/// As a walk may go on after it gave `None`, so may this, unless the walker is a
+/// [`FusedWalker`](crate::walker::FusedWalker).
 #[derive(Drop)]
 #[derive_where(Clone, Copy, Debug; W)]
 pub struct WalkerIter<'a, G, W> {
@@ -15,9 +18,10 @@ pub struct WalkerIter<'a, G, W> {
 }
 
 impl<'a, G, W> WalkerIter<'a, G, W> {
+    #[inline]
     pub(super) fn new(walker: W, graph: &'a G) -> Self
-        ensures walker { result.walker ≡ walker }
-        ensures graph { result.graph.now ≡ graph.now }
+        ensures walker { iter_walker result ≡ walker }
+        ensures graph { (iter_graph result).now ≡ graph.now }
     {
         WalkerIter { walker, graph }
     }
@@ -26,14 +30,22 @@ impl<'a, G, W> WalkerIter<'a, G, W> {
 impl<'a, G, W: Walker<G>> Iterator for WalkerIter<'a, G, W> {
     type Item = W::Item;
 
-    ghost can_next = { λ s. W.can_walk s.walker s.graph.now };
+    ghost can_next = { λ s. W.can_walk (iter_walker s) (iter_graph s).now };
 
-    ghost next_gives = { λ s r t. W.walk_gives s.walker s.graph.now r t.walker × (t.graph ≡ s.graph) };
+    ghost next_gives = { λ s r t. W.walk_gives (iter_walker s) (iter_graph s).now r (iter_walker t)
+        × (iter_graph t ≡ iter_graph s) };
 
-    ghost remaining = { λ s. W.items_left s.walker s.graph.now };
+    ghost remaining = { λ s. W.items_left (iter_walker s) (iter_graph s).now };
 
     #[inline]
     fn next(&mut self) -> Option<W::Item> {
         self.walker.walk_next(self.graph)
     }
+
+    #[inline]
+    fn size_hint(&self) -> (usize, Option<usize>) {
+        (0, self.walker.upper_bound(self.graph))
+    }
 }
+
+impl<'a, G, W: FusedWalker<G>> FusedIterator for WalkerIter<'a, G, W> {}

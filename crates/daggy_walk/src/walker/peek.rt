@@ -3,6 +3,7 @@ ghost use Rattle.std.specs.Prelude.{◌≡◌, ⊤, option_copied};
 ghost use Rattle.std.specs.Borrow.{sem, follows_so};
 ghost use mathlib.Core.Option.{none};
 ghost use Rattle.daggy_walk.specs.Adapters.{Peeks};
+ghost use Rattle.daggy_walk.specs.Parts.{peekable_walker, peekable_held};
 ghost use Rattle.daggy_walk.specs.contracts.walker.peekable.Ahead.{the_row};
 
 use crate::walker::Walker;
@@ -17,19 +18,21 @@ where
     /// Where the walk gives nothing, nothing is held, and the next step asks again.
     #[inline]
     pub fn peek(&mut self, graph: &G) -> Option<&W::Item>
-        requires { W.can_walk self.old.walker graph.now }
+        requires { W.can_walk (peekable_walker self.old) graph.now }
         ensures* peeks { sem 𝓛 (follows_so (the_row G.row W.row W.Item.row) (the_row G.row W.row W.Item.row) self.entry.ghost_name none
-            (λ _ _. ⊤) (λ v. (v.held ≡ option_copied result) × Peeks (λ w o u. W.walk_gives w graph.now o u)
-            (λ w. W.can_walk w graph.now) (λ w. W.items_left w graph.now) self.entry.now.walker self.entry.now.held v.walker v.held)) }
+            (λ _ _. ⊤) (λ v. (peekable_held v ≡ option_copied result) × Peeks (λ w o u. W.walk_gives w graph.now o u)
+            (λ w. W.can_walk w graph.now) (λ w. W.items_left w graph.now)
+            (peekable_walker self.entry.now) (peekable_held self.entry.now) (peekable_walker v) (peekable_held v))) }
     {
         self.fill(graph);
         self.held.as_ref()
     }
 
     fn fill(&mut self, graph: &G)
-        requires { W.can_walk self.old.walker graph.now }
+        requires { W.can_walk (peekable_walker self.old) graph.now }
         ensures { Peeks (λ w o u. W.walk_gives w graph.now o u)
-            (λ w. W.can_walk w graph.now) (λ w. W.items_left w graph.now) self.old.walker self.old.held self.new.walker self.new.held }
+            (λ w. W.can_walk w graph.now) (λ w. W.items_left w graph.now)
+            (peekable_walker self.old) (peekable_held self.old) (peekable_walker self.new) (peekable_held self.new) }
     {
         if self.held.is_none() {
             self.held = self.walker.walk_next(graph);

@@ -1,7 +1,8 @@
 //! A walk with a look at what comes next.
 ghost use Rattle.std.specs.Prelude.{◌≡◌, None};
+ghost use Rattle.daggy_walk.specs.Parts.{peekable_walker, peekable_held};
 
-use crate::walker::{FiniteWalker, Walker};
+use crate::walker::{FiniteWalker, FusedWalker, Walker};
 use std::marker::PhantomData;
 
 /// A walk that can be asked what comes next before it goes there.
@@ -20,8 +21,8 @@ impl<G, W, T> Ahead<G, W, T> {
     /// The same walk, with nothing looked at yet.
     #[inline]
     pub fn new(walker: W) -> Self
-        ensures walker { result.walker ≡ walker }
-        ensures held { result.held ≡ None }
+        ensures walker { peekable_walker result ≡ walker }
+        ensures held { peekable_held result ≡ None }
     {
         Ahead {
             walker,
@@ -42,11 +43,12 @@ where
 
     type Item = W::Item;
 
-    ghost can_walk = { λ s g. W.can_walk s.walker g };
+    ghost can_walk = { λ s g. W.can_walk (peekable_walker s) g };
 
-    ghost walk_gives = { λ s g r t. PeekableStep (λ w o v. W.walk_gives w g o v) s.walker s.held r t.walker t.held };
+    ghost walk_gives = { λ s g r t. PeekableStep (λ w o v. W.walk_gives w g o v)
+        (peekable_walker s) (peekable_held s) r (peekable_walker t) (peekable_held t) };
 
-    ghost items_left = { λ s g. count_map (λ n. n + option_len s.held) (W.items_left s.walker g) };
+    ghost items_left = { λ s g. count_map (λ n. n + option_len (peekable_held s)) (W.items_left (peekable_walker s) g) };
 
     #[inline]
     fn walk_next(&mut self, graph: &G) -> Option<W::Item> {
@@ -55,11 +57,29 @@ where
             None => self.walker.walk_next(graph),
         }
     }
+
+    #[inline]
+    fn upper_bound(&self, graph: &G) -> Option<usize> {
+        let inner = self.walker.upper_bound(graph)?;
+        match &self.held {
+            Some(_) => inner.checked_add(1),
+            None => Some(inner),
+        }
+    }
 }
 
 impl<G, W: FiniteWalker<G>> FiniteWalker<G> for Ahead<G, W, W::Item>
 where
     W::Item: Drop,
 {
-    ghost ends = { λ w g. W.ends w.walker g };
+    ghost ends = { λ w g. W.ends (peekable_walker w) g };
+}
+
+impl<G, W: FusedWalker<G>> FusedWalker<G> for Ahead<G, W, W::Item>
+where
+    W::Item: Drop,
+{
+    ghost use Rattle.daggy_walk.specs.Fused.{peekable_rests};
+
+    ghost rests = { λ g w t u r. peekable_rests _ (W.rests g) _ _ _ _ _ _ r };
 }

@@ -1,6 +1,7 @@
 //! A walk that a function leads from node to node.
 ghost use Rattle.std.specs.Prelude.{◌≡◌};
 ghost use Rattle.daggy_walk.specs.Leading.{LeadsOn, RecursiveStep};
+ghost use Rattle.daggy_walk.specs.Parts.{recursive_node, recursive_function};
 
 use crate::visit::GraphBase;
 use crate::walker::Walker;
@@ -25,8 +26,8 @@ impl<G, N, F> Led<G, N, F> {
     /// A walk from `start` on, which `f` leads.
     #[inline]
     pub fn new(start: N, f: F) -> Self
-        ensures node { result.node ≡ start }
-        ensures function { result.f ≡ f }
+        ensures node { recursive_node result ≡ start }
+        ensures function { recursive_function result ≡ f }
     {
         Led {
             node: start,
@@ -43,9 +44,10 @@ where
     /// Takes one step, as [`Walker::walk_next`].
     #[inline]
     pub fn next(&mut self, graph: &G) -> Option<(G::EdgeId, G::NodeId)>
-        requires { LeadsOn F.FnMut graph.now self.old.node self.old.f }
-        ensures step { RecursiveStep F.FnMut graph.now self.old.node self.old.f result self.new.node self.new.f }
-        ensures can { LeadsOn F.FnMut graph.now self.new.node self.new.f }
+        requires { LeadsOn F.FnMut graph.now (recursive_node self.old) (recursive_function self.old) }
+        ensures step { RecursiveStep F.FnMut graph.now
+            (recursive_node self.old) (recursive_function self.old) result (recursive_node self.new) (recursive_function self.new) }
+        ensures can { LeadsOn F.FnMut graph.now (recursive_node self.new) (recursive_function self.new) }
     {
         let (edge, node) = (self.f)(graph, self.node)?;
         self.node = node;
@@ -59,9 +61,10 @@ where
 {
     type Item = (G::EdgeId, G::NodeId);
 
-    ghost can_walk = { λ s g. LeadsOn F.FnMut g s.node s.f };
+    ghost can_walk = { λ s g. LeadsOn F.FnMut g (recursive_node s) (recursive_function s) };
 
-    ghost walk_gives = { λ s g r t. RecursiveStep F.FnMut g s.node s.f r t.node t.f };
+    ghost walk_gives = { λ s g r t. RecursiveStep F.FnMut g
+        (recursive_node s) (recursive_function s) r (recursive_node t) (recursive_function t) };
 
     #[inline]
     fn walk_next(&mut self, graph: &G) -> Option<(G::EdgeId, G::NodeId)> {

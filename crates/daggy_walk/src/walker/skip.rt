@@ -1,7 +1,8 @@
 //! A walk without its first steps.
 ghost use Rattle.std.specs.Prelude.{◌≡◌};
+ghost use Rattle.daggy_walk.specs.Parts.{skip_walker, skip_count};
 
-use crate::walker::{FiniteWalker, Walker};
+use crate::walker::{FiniteWalker, FusedWalker, Walker};
 use std::marker::PhantomData;
 
 /// A walk without its first steps, which are all taken in the first step of this.
@@ -19,8 +20,8 @@ impl<G, W> Skip<G, W> {
     /// A walk without its first `to_skip` steps.
     #[inline]
     pub fn new(walker: W, to_skip: usize) -> Self
-        ensures walker { result.walker ≡ walker }
-        ensures count { result.to_skip ≡ to_skip }
+        ensures walker { skip_walker result ≡ walker }
+        ensures count { skip_count result ≡ to_skip }
     {
         Skip {
             walker,
@@ -38,11 +39,12 @@ where
 
     type Item = W::Item;
 
-    ghost can_walk = { λ s g. W.can_walk s.walker g };
+    ghost can_walk = { λ s g. W.can_walk (skip_walker s) g };
 
-    ghost walk_gives = { λ s g r t. SkipStep (λ w o v. W.walk_gives w g o v) s.walker s.to_skip r t.walker t.to_skip };
+    ghost walk_gives = { λ s g r t. SkipStep (λ w o v. W.walk_gives w g o v)
+        (skip_walker s) (skip_count s) r (skip_walker t) (skip_count t) };
 
-    ghost items_left = { λ s g. W.items_left s.walker g };
+    ghost items_left = { λ s g. W.items_left (skip_walker s) g };
 
     #[inline]
     fn walk_next(&mut self, graph: &G) -> Option<W::Item> {
@@ -52,16 +54,25 @@ where
         }
         self.walker.walk_next(graph)
     }
+
+    #[inline]
+    fn upper_bound(&self, graph: &G) -> Option<usize> {
+        self.walker.upper_bound(graph)
+    }
 }
 
 impl<G, W: FiniteWalker<G>> FiniteWalker<G> for Skip<G, W>
 where
     W::Item: Drop,
 {
-    ghost ends = { λ w g. W.ends w.walker g };
+    ghost ends = { λ w g. W.ends (skip_walker w) g };
+}
 
-    #[inline]
-    fn upper_bound(&self, graph: &G) -> Option<usize> {
-        self.walker.upper_bound(graph)
-    }
+impl<G, W: FusedWalker<G>> FusedWalker<G> for Skip<G, W>
+where
+    W::Item: Drop,
+{
+    ghost use Rattle.daggy_walk.specs.Fused.{skip_rests};
+
+    ghost rests = { λ g w t u r. skip_rests _ (W.rests g) _ _ _ _ _ _ r };
 }

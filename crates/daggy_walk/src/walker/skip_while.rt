@@ -1,7 +1,8 @@
 //! A walk from the first step on that fails a test.
 ghost use Rattle.std.specs.Prelude.{◌≡◌, Some};
+ghost use Rattle.daggy_walk.specs.Parts.{skip_while_walker, skip_while_predicate};
 
-use crate::walker::{FiniteWalker, Walker};
+use crate::walker::{FiniteWalker, FusedWalker, Walker};
 use std::marker::PhantomData;
 
 /// A walk from the first item on that a predicate refuses.
@@ -19,8 +20,8 @@ impl<G, W, P> SkipWhile<G, W, P> {
     /// A walk from the first item on that `predicate` refuses.
     #[inline]
     pub fn new(walker: W, predicate: P) -> Self
-        ensures walker { result.walker ≡ walker }
-        ensures predicate { result.predicate ≡ Some predicate }
+        ensures walker { skip_while_walker result ≡ walker }
+        ensures predicate { skip_while_predicate result ≡ Some predicate }
     {
         SkipWhile {
             walker,
@@ -41,13 +42,14 @@ where
 
     type Item = W::Item;
 
-    ghost can_walk = { λ s g. W.can_walk s.walker g × ForSome s.predicate (λ p. CallableAlong (λ w o v. W.walk_gives w g o v)
-        (λ f x h. CallsItem P.FnMut f g x true h) (λ f x. TakesItem P.FnMut f g x) s.walker p) };
+    ghost can_walk = { λ s g. W.can_walk (skip_while_walker s) g × ForSome (skip_while_predicate s)
+        (λ p. CallableAlong (λ w o v. W.walk_gives w g o v) (λ f x h. CallsItem P.FnMut f g x true h)
+        (λ f x. TakesItem P.FnMut f g x) (skip_while_walker s) p) };
 
-    ghost walk_gives = { λ s g r t. SkipWhileStep (λ w o v. W.walk_gives w g o v) P.FnMut g s.walker s.predicate
-        r t.walker t.predicate };
+    ghost walk_gives = { λ s g r t. SkipWhileStep (λ w o v. W.walk_gives w g o v) P.FnMut g
+        (skip_while_walker s) (skip_while_predicate s) r (skip_while_walker t) (skip_while_predicate t) };
 
-    ghost items_left = { λ s g. W.items_left s.walker g };
+    ghost items_left = { λ s g. W.items_left (skip_while_walker s) g };
 
     #[inline]
     fn walk_next(&mut self, graph: &G) -> Option<W::Item> {
@@ -61,16 +63,32 @@ where
         }
         self.walker.walk_next(graph)
     }
+
+    #[inline]
+    fn upper_bound(&self, graph: &G) -> Option<usize> {
+        self.walker.upper_bound(graph)
+    }
 }
 
 impl<G, W: FiniteWalker<G>, P: FnMut(&G, &W::Item) -> bool> FiniteWalker<G> for SkipWhile<G, W, P>
 where
     W::Item: Drop,
 {
-    ghost ends = { λ w g. W.ends w.walker g };
+    ghost ends = { λ w g. W.ends (skip_while_walker w) g };
 
     #[inline]
-    fn upper_bound(&self, graph: &G) -> Option<usize> {
-        self.walker.upper_bound(graph)
-    }
+    fn ends_over(&self, _graph: &G) {}
+}
+
+impl<G, W: FiniteWalker<G> + FusedWalker<G>, P: FnMut(&G, &W::Item) -> bool> FusedWalker<G>
+    for SkipWhile<G, W, P>
+where
+    W::Item: Drop,
+{
+    ghost use Rattle.daggy_walk.specs.Fused.{skip_while_rests};
+
+    ghost rests = { λ g w t u r. skip_while_rests _ (W.rests g) P.FnMut g _ _ _ _ _ _ r };
+
+    #[inline]
+    fn rests_over(&self, _graph: &G) {}
 }

@@ -1,7 +1,8 @@
 //! The first steps of a walk.
 ghost use Rattle.std.specs.Prelude.{◌≡◌};
+ghost use Rattle.daggy_walk.specs.Parts.{take_walker, take_count};
 
-use crate::walker::{FiniteWalker, Walker};
+use crate::walker::{FiniteWalker, FusedWalker, Walker};
 use std::marker::PhantomData;
 
 /// The first steps of a walk. After so many steps it gives nothing, and its walker is asked no more.
@@ -19,8 +20,8 @@ impl<G, W> Take<G, W> {
     /// The first `to_take` steps of a walk.
     #[inline]
     pub fn new(walker: W, to_take: usize) -> Self
-        ensures walker { result.walker ≡ walker }
-        ensures count { result.to_take ≡ to_take }
+        ensures walker { take_walker result ≡ walker }
+        ensures count { take_count result ≡ to_take }
     {
         Take {
             walker,
@@ -36,11 +37,12 @@ impl<G, W: Walker<G>> Walker<G> for Take<G, W> {
 
     type Item = W::Item;
 
-    ghost can_walk = { λ s g. W.can_walk s.walker g };
+    ghost can_walk = { λ s g. W.can_walk (take_walker s) g };
 
-    ghost walk_gives = { λ s g r t. TakeStep (λ w o v. W.walk_gives w g o v) s.walker s.to_take r t.walker t.to_take };
+    ghost walk_gives = { λ s g r t. TakeStep (λ w o v. W.walk_gives w g o v)
+        (take_walker s) (take_count s) r (take_walker t) (take_count t) };
 
-    ghost items_left = { λ s g. count_min (at_most s.to_take) (W.items_left s.walker g) };
+    ghost items_left = { λ s g. count_min (at_most (take_count s)) (W.items_left (take_walker s) g) };
 
     #[inline]
     fn walk_next(&mut self, graph: &G) -> Option<W::Item> {
@@ -50,13 +52,22 @@ impl<G, W: Walker<G>> Walker<G> for Take<G, W> {
         self.to_take -= 1;
         self.walker.walk_next(graph)
     }
+
+    #[inline]
+    fn upper_bound(&self, graph: &G) -> Option<usize> {
+        match self.walker.upper_bound(graph) {
+            Some(inner) => Some(self.to_take.min(inner)),
+            None => Some(self.to_take),
+        }
+    }
 }
 
 impl<G, W: Walker<G>> FiniteWalker<G> for Take<G, W> {
     ghost ends = { λ w g. tt };
+}
 
-    #[inline]
-    fn upper_bound(&self, _graph: &G) -> Option<usize> {
-        Some(self.to_take)
-    }
+impl<G, W: FusedWalker<G>> FusedWalker<G> for Take<G, W> {
+    ghost use Rattle.daggy_walk.specs.Fused.{take_rests};
+
+    ghost rests = { λ g w t u r. take_rests _ (W.rests g) _ _ _ _ _ _ r };
 }

@@ -1,7 +1,8 @@
 //! The first steps of a walk that pass a test.
 ghost use Rattle.std.specs.Prelude.{◌≡◌, Some};
+ghost use Rattle.daggy_walk.specs.Parts.{take_while_walker, take_while_predicate};
 
-use crate::walker::{FiniteWalker, Walker};
+use crate::walker::{FiniteWalker, FusedWalker, Walker};
 use std::marker::PhantomData;
 
 /// A walk up to the first item that a predicate refuses, which is not given.
@@ -19,8 +20,8 @@ impl<G, W, P> TakeWhile<G, W, P> {
     /// A walk up to the first item that `predicate` refuses.
     #[inline]
     pub fn new(walker: W, predicate: P) -> Self
-        ensures walker { result.walker ≡ Some walker }
-        ensures predicate { result.predicate ≡ predicate }
+        ensures walker { take_while_walker result ≡ Some walker }
+        ensures predicate { take_while_predicate result ≡ predicate }
     {
         TakeWhile {
             walker: Some(walker),
@@ -42,13 +43,14 @@ where
 
     type Item = W::Item;
 
-    ghost can_walk = { λ s g. ForSome s.walker (λ w. W.can_walk w g × CallableAlong (λ w o v. W.walk_gives w g o v)
-        (λ f x h. CallsItem P.FnMut f g x true h) (λ f x. TakesItem P.FnMut f g x) w s.predicate) };
+    ghost can_walk = { λ s g. ForSome (take_while_walker s) (λ w. W.can_walk w g
+        × CallableAlong (λ w o v. W.walk_gives w g o v)
+        (λ f x h. CallsItem P.FnMut f g x true h) (λ f x. TakesItem P.FnMut f g x) w (take_while_predicate s)) };
 
-    ghost walk_gives = { λ s g r t. TakeWhileStep (λ w o v. W.walk_gives w g o v) P.FnMut g s.walker s.predicate
-        r t.walker t.predicate };
+    ghost walk_gives = { λ s g r t. TakeWhileStep (λ w o v. W.walk_gives w g o v) P.FnMut g
+        (take_while_walker s) (take_while_predicate s) r (take_while_walker t) (take_while_predicate t) };
 
-    ghost items_left = { λ s g. chain_left (λ w. W.items_left w g) (at_most 0) s.walker };
+    ghost items_left = { λ s g. chain_left (λ w. W.items_left w g) (at_most 0) (take_while_walker s) };
 
     #[inline]
     fn walk_next(&mut self, graph: &G) -> Option<W::Item> {
@@ -62,15 +64,6 @@ where
         self.walker = None;
         None
     }
-}
-
-impl<G, W: FiniteWalker<G>, P: FnMut(&G, &W::Item) -> bool> FiniteWalker<G> for TakeWhile<G, W, P>
-where
-    W::Item: Drop,
-{
-    ghost use Rattle.daggy_walk.specs.Ends.{chain_ends};
-
-    ghost ends = { λ w g. chain_ends _ _ tt w.walker (λ v. W.ends v g) };
 
     #[inline]
     fn upper_bound(&self, graph: &G) -> Option<usize> {
@@ -79,4 +72,28 @@ where
             None => Some(0),
         }
     }
+}
+
+impl<G, W: FiniteWalker<G>, P: FnMut(&G, &W::Item) -> bool> FiniteWalker<G> for TakeWhile<G, W, P>
+where
+    W::Item: Drop,
+{
+    ghost use Rattle.daggy_walk.specs.Ends.{chain_ends};
+
+    ghost ends = { λ w g. chain_ends _ _ tt (take_while_walker w) (λ v. W.ends v g) };
+
+    #[inline]
+    fn ends_over(&self, _graph: &G) {}
+}
+
+impl<G, W: FusedWalker<G>, P: FnMut(&G, &W::Item) -> bool> FusedWalker<G> for TakeWhile<G, W, P>
+where
+    W::Item: Drop,
+{
+    ghost use Rattle.daggy_walk.specs.Fused.{take_while_rests};
+
+    ghost rests = { λ g w t u r. take_while_rests _ (W.rests g) P.FnMut g _ _ _ _ _ _ r };
+
+    #[inline]
+    fn rests_over(&self, _graph: &G) {}
 }

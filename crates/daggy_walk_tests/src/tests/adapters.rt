@@ -1,4 +1,4 @@
-use super::support::{Plain, Step, dag_of, far, goes, node, same, six};
+use super::support::{Plain, Step, dag_of, far, goes, node, same, six, weight};
 use daggy_base::store::Store;
 use daggy_graph::graph::DiGraph;
 use daggy_stable::stable_graph::StableDiGraph;
@@ -7,13 +7,6 @@ use daggy_walk::walker::{
 };
 use std::alloc::Global;
 use std::process::Abort;
-
-fn weight<S: Store<u32, NodeWeight = u32, EdgeWeight = u32>>(dag: &Plain<S>, item: &Step) -> u32 {
-    match dag.node_weight(item.1) {
-        Some(weight) => *weight,
-        None => 99,
-    }
-}
 
 fn cuts<S: Store<u32, NodeWeight = u32, EdgeWeight = u32>>(rt: &impl Abort, alloc: Global) {
     let dag: Plain<S> = six(rt, alloc);

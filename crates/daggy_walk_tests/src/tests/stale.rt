@@ -2,7 +2,9 @@ use super::support::{Plain, Step, add_edge, dag_of, edge, goes, node};
 use daggy_base::store::Store;
 use daggy_graph::graph::DiGraph;
 use daggy_stable::stable_graph::StableDiGraph;
-use daggy_walk::walker::{Chain, Cycle, Filter, Peekable, SkipWhile, Take, TakeWhile, Walker};
+use daggy_walk::walker::{
+    Chain, Cycle, Filter, Inspect, Peekable, Skip, SkipWhile, Take, TakeWhile, Walker,
+};
 use std::alloc::Global;
 use std::process::Abort;
 
@@ -42,6 +44,10 @@ fn stale<S: Store<u32, NodeWeight = u32, EdgeWeight = u32>>(rt: &impl Abort, all
     over_an_edge_that_changes::<S, _>(rt, begun(rt, alloc), Chain::new(w, z), [None, None, None]);
     let again = [None, Some(2), Some(2)];
     over_an_edge_that_changes::<S, _>(rt, begun(rt, alloc), Cycle::new(w), again);
+    over_an_edge_that_changes::<S, _>(rt, begun(rt, alloc), Skip::new(w, 1), later);
+    over_an_edge_that_changes::<S, _>(rt, begun(rt, alloc), Skip::new(w, 0), later);
+    let seen = |_: &Plain<S>, _: &Step| ();
+    over_an_edge_that_changes::<S, _>(rt, begun(rt, alloc), Inspect::new(w, seen), later);
     let all = |_: &Plain<S>, _: &Step| true;
     over_an_edge_that_changes::<S, _>(rt, begun(rt, alloc), Filter::new(w, all), later);
     over_an_edge_that_changes::<S, _>(

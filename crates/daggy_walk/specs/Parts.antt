@@ -1,0 +1,91 @@
+-- What the adapters of walkers are made of, and what an iterator over a walker is.
+use Rattle.std.specs.Prelude.{ℕ, Option}
+use denote.Ref.{Bor}
+use Rattle.daggy_walk.specs.declared.walker.chain.Chain.{Chain}
+use Rattle.daggy_walk.specs.declared.walker.cycle.Cycle.{Cycle}
+use Rattle.daggy_walk.specs.declared.walker.filter.Filter.{Filter}
+use Rattle.daggy_walk.specs.declared.walker.inspect.Inspect.{Inspect}
+use Rattle.daggy_walk.specs.declared.walker.iter.WalkerIter.{WalkerIter}
+use Rattle.daggy_walk.specs.declared.walker.peekable.Ahead.{Ahead}
+use Rattle.daggy_walk.specs.declared.walker.recursive.Led.{Led}
+use Rattle.daggy_walk.specs.declared.walker.skip.Skip.{Skip}
+use Rattle.daggy_walk.specs.declared.walker.skip_while.SkipWhile.{SkipWhile}
+use Rattle.daggy_walk.specs.declared.walker.take.Take.{Take}
+use Rattle.daggy_walk.specs.declared.walker.take_while.TakeWhile.{TakeWhile}
+
+-- the first walker of a chain, until it is dropped, and the second
+abbrev pub chain_first : {G A B : Type 0} → Chain G A B → Option A
+chain_first s = s.first
+
+abbrev pub chain_second : {G A B : Type 0} → Chain G A B → B
+chain_second s = s.second
+
+-- the walker that a cycle begins anew with, and the one that runs
+abbrev pub cycle_start : {G W : Type 0} → Cycle G W → W
+cycle_start s = s.start
+
+abbrev pub cycle_running : {G W : Type 0} → Cycle G W → W
+cycle_running s = s.running
+
+-- the walker of a filter, and its predicate
+abbrev pub filter_walker : {G W P : Type 0} → Filter G W P → W
+filter_walker s = s.walker
+
+abbrev pub filter_predicate : {G W P : Type 0} → Filter G W P → P
+filter_predicate s = s.predicate
+
+-- the walker that is looked at, and the function that sees its items
+abbrev pub inspect_walker : {W F : Type 0} → Inspect W F → W
+inspect_walker s = s.walker
+
+abbrev pub inspect_function : {W F : Type 0} → Inspect W F → F
+inspect_function s = s.f
+
+-- the walker of an iterator, and the graph that it borrows
+abbrev pub iter_walker : {G W : Type 0} → WalkerIter G W → W
+iter_walker s = s.walker
+
+abbrev pub iter_graph : {G W : Type 0} → WalkerIter G W → Bor G
+iter_graph s = s.graph
+
+-- the walker that is asked ahead, and the item that was taken out of it
+abbrev pub peekable_walker : {G W T : Type 0} → Ahead G W T → W
+peekable_walker s = s.walker
+
+abbrev pub peekable_held : {G W T : Type 0} → Ahead G W T → Option T
+peekable_held s = s.held
+
+-- the node that a recursive walk is at, and the function that leads it
+abbrev pub recursive_node : {G N F : Type 0} → Led G N F → N
+recursive_node s = s.node
+
+abbrev pub recursive_function : {G N F : Type 0} → Led G N F → F
+recursive_function s = s.f
+
+-- the walker whose steps are skipped, and how many of them still are
+abbrev pub skip_walker : {G W : Type 0} → Skip G W → W
+skip_walker s = s.walker
+
+abbrev pub skip_count : {G W : Type 0} → Skip G W → ℕ
+skip_count s = s.to_skip
+
+-- the walker whose items are skipped, and the predicate, until it is dropped
+abbrev pub skip_while_walker : {G W P : Type 0} → SkipWhile G W P → W
+skip_while_walker s = s.walker
+
+abbrev pub skip_while_predicate : {G W P : Type 0} → SkipWhile G W P → Option P
+skip_while_predicate s = s.predicate
+
+-- the walker whose steps are taken, and how many of them still are
+abbrev pub take_walker : {G W : Type 0} → Take G W → W
+take_walker s = s.walker
+
+abbrev pub take_count : {G W : Type 0} → Take G W → ℕ
+take_count s = s.to_take
+
+-- the walker whose items are taken, until it is dropped, and the predicate
+abbrev pub take_while_walker : {G W P : Type 0} → TakeWhile G W P → Option W
+take_while_walker s = s.walker
+
+abbrev pub take_while_predicate : {G W P : Type 0} → TakeWhile G W P → P
+take_while_predicate s = s.predicate
