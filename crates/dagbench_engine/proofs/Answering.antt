@@ -6,7 +6,7 @@ use Rattle.daggy.specs.Graph.{Graph}
 use Rattle.daggy.specs.Removal.{Kind}
 use Rattle.daggy.specs.Series.{NewEdge}
 use Rattle.dagbench_engine.specs.declared.command.Command.{Command}
-use Rattle.dagbench_engine.specs.declared.command.Command.TheVariants.{Node, Edge, Update, Child, Parent, Edges, Find, Ends, RemoveNode, RemoveEdge, Children, Parents, ClearEdges, Clear}
+use Rattle.dagbench_engine.specs.declared.command.Command.TheVariants.{Node, Edge, Update, Child, Parent, Edges, Find, Ends, RemoveNode, RemoveEdge, Children, Parents, ClearEdges, Clear, Reduce}
 use Rattle.dagbench_engine.specs.declared.reply.Reply.{Reply}
 use Rattle.dagbench_engine.specs.Commands.{command_of}
 use Rattle.dagbench_engine.specs.Replies.{text_of, walk_text}
@@ -30,6 +30,7 @@ module _ (kind : Kind) where
   reply_is_step old new (Children n) reply is = is
   reply_is_step old new (Parents n) reply is = is
   reply_is_step old new ClearEdges reply is = is
+  reply_is_step old new (Reduce roots) reply is = is
   reply_is_step old new Clear reply is = is
 
   answered : {A E : Type 0} (r : Result A E) (command : Command) (old new : Graph ℤ ℤ) (before now : List ℕ) (answer : Answer) → IsStep kind old command answer new → Appends r before now (answer_text answer ++ 10 ∷ []) → AnswersCommand kind r command old new before now

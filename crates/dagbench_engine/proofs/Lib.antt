@@ -10,3 +10,4 @@ pub mod Telling
 pub mod Walking
 pub mod Writing
 mod Walks
+pub mod ListedRoots

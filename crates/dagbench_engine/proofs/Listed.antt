@@ -13,7 +13,7 @@ Listed = ℕ × ℕ × ℤ
 abbrev with_rest : Option (Listed × List (List ℕ)) → Option (List Listed)
 with_rest first = first >>= (λ e. edges_by_words e.1 >>= (λ es. Some (e.0 ∷ es)))
 
-abbrev beside : {A : Type 0} → List (List ℕ) → A → A × List (List ℕ)
+abbrev pub beside : {A : Type 0} → List (List ℕ) → A → A × List (List ℕ)
 beside words x = (x, words)
 
 -- what is read behind a parent, behind its child, and behind a weight
@@ -67,11 +67,11 @@ unfolding first_edge_of
 no_first = refl
 
 -- where the first edge is read
-listed_with : (o : Option (List Listed)) (e : Listed) → IsSome (o >>= (λ es. Some (e ∷ es))) → IsSome o × (unwrap_or (o >>= (λ es. Some (e ∷ es))) [] ≡ e ∷ unwrap_or o [])
+pub listed_with : {A : Type 0} (o : Option (List A)) (e : A) → IsSome (o >>= (λ es. Some (e ∷ es))) → IsSome o × (unwrap_or (o >>= (λ es. Some (e ∷ es))) [] ≡ e ∷ unwrap_or o [])
 listed_with None e some = absurd (false≢true some)
 listed_with (Some es) e some = (refl, refl)
 
-is_some_with : (o : Option (List Listed)) (e : Listed) → is_some (o >>= (λ es. Some (e ∷ es))) ≡ is_some o
+pub is_some_with : {A : Type 0} (o : Option (List A)) (e : A) → is_some (o >>= (λ es. Some (e ∷ es))) ≡ is_some o
 is_some_with None e = refl
 is_some_with (Some es) e = refl
 
@@ -97,7 +97,7 @@ pub not_listed : (word : List ℕ) (words : List (List ℕ)) → first_edge_of (
 not_listed word words first = by_first word words ∙ ap with_rest first
 
 -- the loop that reads them all
-not_some : {A : Type 0} (o : Option A) → is_some o ≡ false → o ≡ None
+pub not_some : {A : Type 0} (o : Option A) → is_some o ≡ false → o ≡ None
 not_some None h = refl
 not_some (Some x) h = absurd (false≢true (sym h))
 

@@ -3,10 +3,10 @@ use Rattle.std.specs.Prelude.{ℕ, nat_lt, Option, Some, None, List, [], ◌∷�
 use Rattle.std.specs.Option.{option_map}
 use Rattle.std.specs.Str.{bytes_eq}
 use Rattle.dagbench_engine.specs.Cutting.{words_of}
-use Rattle.dagbench_engine.specs.Listing.{◌>>=◌, first_by, edges_by_words}
+use Rattle.dagbench_engine.specs.Listing.{◌>>=◌, first_by, edges_by_words, indices_by_words}
 use Rattle.dagbench_engine.specs.Numbers.{index_of, weight_of}
 use Rattle.dagbench_engine.specs.declared.command.Command.{Command}
-use Rattle.dagbench_engine.specs.declared.command.Command.TheVariants.{Node, Edge, Update, Child, Parent, Edges, Find, Ends, RemoveNode, RemoveEdge, Children, Parents, ClearEdges, Clear}
+use Rattle.dagbench_engine.specs.declared.command.Command.TheVariants.{Node, Edge, Update, Child, Parent, Edges, Find, Ends, RemoveNode, RemoveEdge, Children, Parents, ClearEdges, Clear, Reduce}
 
 -- x, if no word is left
 abbrev pub if_done : {A : Type 0} → List (List ℕ) → A → Option A
@@ -62,6 +62,7 @@ removing_by_name name words =
     else if bytes_eq name (codes "rmedge") then option_map (λ e. RemoveEdge e) (index_alone words)
     else if bytes_eq name (codes "clearedges") then if_done words ClearEdges
     else if bytes_eq name (codes "clear") then if_done words Clear
+    else if bytes_eq name (codes "reduce") then option_map (λ roots. Reduce roots) (indices_by_words words)
     else None
 
 -- what is asked for

@@ -32,3 +32,11 @@ edges_by_words (parent ∷ child ∷ weight ∷ words) = do
   w ← weight_of weight
   edges ← edges_by_words words
   Some ((p, c, w) ∷ edges)
+
+-- any number of indices, a word each
+abbrev pub indices_by_words : List (List ℕ) → Option (List ℕ)
+indices_by_words [] = Some []
+indices_by_words (word ∷ words) = do
+  n ← index_of word
+  indices ← indices_by_words words
+  Some (n ∷ indices)

@@ -7,6 +7,7 @@ use Rattle.daggy.specs.Graph.{Graph, empty, HasNode, node_weight, edge_at, ends_
 use Rattle.daggy.specs.Path.{Reaches, IsAcyclic}
 use Rattle.daggy.specs.Adding.{next_node, next_edge, with_node, with_edge, with_neighbor}
 use Rattle.daggy.specs.Removal.{Kind, without_edge, without_node, without_all_edges}
+use Rattle.daggy.specs.Reduction.{IsReduction}
 use Rattle.daggy.specs.Weights.{edge_weight, with_edge_weight}
 use Rattle.daggy.specs.Finding.{find_edge}
 use Rattle.daggy.specs.Series.{NewEdge, with_edges, new_edges, IsFaultless, LacksEnd, LacksIndex, LacksMemory, weights_back}
@@ -112,6 +113,9 @@ IsReply kind old (command.RemoveNode n) said new = IsRemovalStep old (node_weigh
 IsReply kind old (command.RemoveEdge e) said new = IsRemovalStep old (edge_weight old e) (without_edge kind old e) said new
 IsReply kind old command.ClearEdges said new = (said ≡ reply.Done) × (new ≡ without_all_edges old)
 IsReply kind old command.Clear said new = (said ≡ reply.Done) × (new ≡ empty)
+IsReply kind old (command.Reduce roots) reply.Done new = IsReduction kind roots old new
+IsReply kind old (command.Reduce roots) reply.Memory new = new ≡ old
+IsReply kind old (command.Reduce roots) other new = ⊥
 IsReply kind old other said new = ⊥
 
 -- a command that is answered by one reply

@@ -1,6 +1,7 @@
 //! The commands, and the lines that say them.
 
 use crate::items::Items;
+use crate::roots::Roots;
 
 /// What a line may ask of the graph.
 #[derive(Drop)]
@@ -33,4 +34,6 @@ pub enum Command<'a> {
     ClearEdges,
     /// All nodes and edges are to be removed.
     Clear,
+    /// The edges that are redundant below these nodes are to be removed.
+    Reduce(Roots<'a>),
 }

@@ -10,12 +10,13 @@ ghost use Rattle.dagbench_engine.specs.Streams.{CountsFaults, Appends};
 ghost use Rattle.dagbench_engine.specs.Replies.{walk_text};
 ghost use Rattle.dagbench_engine.specs.Steps.{IsReply, IsReplied, IsEdgeStep, IsUpdateStep, IsNeighborStep, IsRemovalStep, found_reply, ends_reply, walk_of};
 ghost use Rattle.dagbench_engine.specs.Progress.{AnswersCommand, AnswersLine};
-ghost use Rattle.dagbench_engine.specs.declared.command.Command.TheVariants.{Node};
+ghost use Rattle.dagbench_engine.specs.declared.command.Command.TheVariants.{Node, Reduce};
 
 use crate::command::Command;
 use crate::output::Output;
 use crate::parse::parse;
 use crate::reply::Reply;
+use crate::roots::Roots;
 use crate::series::add_edges;
 use crate::served::Served;
 use crate::stream::{Fault, Sink};
@@ -148,6 +149,18 @@ fn add_parent<D: Served>(dag: &mut D, child: u32, edge: i64, weight: i64) -> Rep
     }
 }
 
+fn reduce<D: Served>(dag: &mut D, roots: Roots<'_>) -> Reply
+    ensures { IsReply D.kind (D.graph dag.old) (Reduce roots) result (D.graph dag.new) }
+{
+    let Ok(roots) = roots.into_nodes(dag.allocator()) else {
+        return Reply::Memory;
+    };
+    match dag.transitive_reduce(roots) {
+        Ok(()) => Reply::Done,
+        Err(_) => Reply::Memory,
+    }
+}
+
 /// Runs a command that is replied.
 fn perform<D: Served>(dag: &mut D, command: Command<'_>) -> Reply
     requires { IsReplied command }
@@ -171,6 +184,7 @@ fn perform<D: Served>(dag: &mut D, command: Command<'_>) -> Reply
             dag.clear();
             Reply::Done
         }
+        Command::Reduce(roots) => reduce(dag, roots),
         Command::Edges(_) | Command::Children(_) | Command::Parents(_) => Reply::Nothing,
     }
 }

@@ -15,6 +15,7 @@ mod mode;
 mod output;
 mod parse;
 mod reply;
+mod roots;
 mod series;
 mod served;
 mod service;

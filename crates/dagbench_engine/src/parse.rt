@@ -5,6 +5,7 @@ ghost use Rattle.dagbench_engine.specs.Commands.{command_of, command_by_words, a
 
 use crate::command::Command;
 use crate::items::Items;
+use crate::roots::Roots;
 use crate::words::{first_index, first_weight, first_word};
 
 /// The most bytes of a line that can be a command, its newline not counted.
@@ -73,6 +74,8 @@ fn removing<'a>(name: &[u8], rest: &'a [u8]) -> Option<Command<'a>>
         if_done(rest, Command::ClearEdges)
     } else if name == b"clear".as_slice() {
         if_done(rest, Command::Clear)
+    } else if name == b"reduce".as_slice() {
+        Some(Command::Reduce(Roots::new(rest)?))
     } else {
         None
     }

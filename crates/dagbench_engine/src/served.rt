@@ -1,5 +1,5 @@
 //! What the engine asks of the graph that it serves.
-ghost use Rattle.std.specs.Prelude.{◌≡◌, ℕ, ℤ, ◌<◌, ◌↔◌, ◌⊎◌, IsTrue, Err, None, IfOk, IfErr, OnErr, OnSome, IfSome, IfNone, IsOkAnd, option_copied};
+ghost use Rattle.std.specs.Prelude.{◌≡◌, ℕ, ℤ, ◌<◌, ◌↔◌, ◌⊎◌, IsTrue, Err, None, IfOk, IfErr, OnOk, OnErr, OnSome, IfSome, IfNone, IsOkAnd, option_copied};
 ghost use Rattle.std.specs.Option.{option_map};
 ghost use Rattle.std.specs.Iterator.{YieldsFirst};
 ghost use Rattle.daggy.specs.Graph.{Graph, empty, HasNode, node_weight as weight_at, edge_at, ends_of, node_count as node_count_of, edge_count as edge_count_of, out_list, in_list};
@@ -7,6 +7,7 @@ ghost use Rattle.daggy.specs.Path.{Reaches, IsAcyclic};
 ghost use Rattle.daggy.specs.WellFormed.{IsDag};
 ghost use Rattle.daggy.specs.Adding.{next_node, next_edge, with_node, with_edge, with_neighbor};
 ghost use Rattle.daggy.specs.Removal.{Kind, without_edge, without_node, without_all_edges};
+ghost use Rattle.daggy.specs.Reduction.{IsReduction};
 ghost use Rattle.daggy.specs.Weights.{edge_weight as edge_weight_at, with_edge_weight};
 ghost use Rattle.daggy.specs.Finding.{find_edge as edge_between};
 ghost use Rattle.daggy.specs.Cursor.{first_of, IsStep};
@@ -15,6 +16,7 @@ ghost use Rattle.daggy.specs.declared.index.Direction.TheVariants.{Outgoing, Inc
 
 use crate::items::Items;
 use daggy::{ChildError, EdgeError, EdgeIndex, EdgeIndices, EdgesError, NodeError, NodeIndex};
+use std::alloc::{AllocError, Global};
 
 mod compact;
 mod stable;
@@ -168,6 +170,14 @@ pub trait Served: Drop {
     /// Removes all edges, and keeps the nodes.
     fn clear_edges(&mut self)
         ensures { graph self.new ≡ without_all_edges (graph self.old) };
+
+    /// Removes the edges that are redundant below `roots`, the one with the highest index first.
+    fn transitive_reduce(&mut self, roots: Vec<NodeIndex<u32>>) -> Result<(), AllocError>
+        ensures reduced { OnOk result (IsReduction kind roots.items (graph self.old) (graph self.new)) }
+        ensures unchanged { OnErr result (graph self.new ≡ graph self.old) };
+
+    /// The allocator that the graph takes its memory from.
+    fn allocator(&self) -> Global;
 
     /// A walker over the children of a node, newest edge first.
     fn children(&self, n: NodeIndex<u32>) -> Self::Children

@@ -8,6 +8,7 @@ use daggy::{
     ChildError, Children, Dag, EdgeError, EdgeIndex, EdgeIndices, EdgesError, NodeError, NodeIndex,
     Parents,
 };
+use std::alloc::{AllocError, Global};
 
 /// The graph whose removals move the last index to the gap.
 pub type CompactDag = Dag<i64, i64, u32>;
@@ -123,6 +124,16 @@ impl Served for CompactDag {
     #[inline]
     fn clear_edges(&mut self) {
         self.clear_edges();
+    }
+
+    #[inline]
+    fn transitive_reduce(&mut self, roots: Vec<NodeIndex<u32>>) -> Result<(), AllocError> {
+        self.transitive_reduce(roots)
+    }
+
+    #[inline]
+    fn allocator(&self) -> Global {
+        self.allocator()
     }
 
     #[inline]

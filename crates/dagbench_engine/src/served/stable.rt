@@ -8,6 +8,7 @@ use daggy::walker::Walker;
 use daggy::{
     ChildError, EdgeError, EdgeIndex, EdgeIndices, EdgesError, NodeError, NodeIndex, stable_dag,
 };
+use std::alloc::{AllocError, Global};
 
 /// The graph whose removals change no other index.
 pub type StableDag = stable_dag::StableDag<i64, i64, u32>;
@@ -123,6 +124,16 @@ impl Served for StableDag {
     #[inline]
     fn clear_edges(&mut self) {
         self.clear_edges();
+    }
+
+    #[inline]
+    fn transitive_reduce(&mut self, roots: Vec<NodeIndex<u32>>) -> Result<(), AllocError> {
+        self.transitive_reduce(roots)
+    }
+
+    #[inline]
+    fn allocator(&self) -> Global {
+        self.allocator()
     }
 
     #[inline]
