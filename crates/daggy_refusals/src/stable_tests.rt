@@ -460,3 +460,23 @@ fn refused_sets_and_matrices_are_asked_again(rt: HostRuntime) {
         dag.is_adjacent(&matrix, NodeIndex::new(0), NodeIndex::new(3)),
     );
 }
+
+// Reduces the dag from its root.
+fn reduce(alloc: Global, dag: &mut Plain) -> Result<(), AllocError> {
+    let mut roots = Vec::new(alloc);
+    roots.push(NodeIndex::new(0))?;
+    dag.transitive_reduce(roots)
+}
+
+#[test]
+fn a_refused_reduction_changes_nothing(rt: HostRuntime) {
+    let mut refused = false;
+    let mut dag = gappy(&rt, rt.alloc(), &mut refused);
+    let state = state_of(&dag);
+    if reduce(rt.alloc(), &mut dag).is_err() {
+        refuse(&rt, &mut refused);
+        same(&rt, state_of(&dag), state);
+        made(&rt, reduce(rt.alloc(), &mut dag));
+    }
+    same(&rt, state_of(&dag), state);
+}

@@ -3,7 +3,7 @@ use crate::support::{holds, made, refuse, same};
 use daggy::graph::Element;
 use daggy::{
     ChildError, Dag, EdgeError, EdgeIndex, EdgeIndices, EdgesError, ElementError, NodeError,
-    NodeIndex, Walker,
+    NodeIndex, Walker, same_reachability,
 };
 use std::alloc::{AllocError, Global};
 use std::process::Abort;
@@ -492,4 +492,57 @@ fn refused_room_is_asked_again(rt: HostRuntime) {
         made(&rt, dag.reserve_edges(20));
     }
     fill(&rt, &mut dag, 19);
+}
+
+// Adds the edge from the first child to the second, which makes the one from the root to the second redundant.
+fn join_children(rt: &impl Abort, dag: &mut Plain, refused: &mut bool) {
+    let (a, b) = (NodeIndex::new(1), NodeIndex::new(2));
+    assert!(rt; dag.contains_node(a) && dag.contains_node(b) && dag.can_add_edge());
+    if dag.add_edge(a, b, 103).is_err() {
+        refuse(rt, refused);
+        is_fan(rt, dag, 4, 3);
+        assert!(rt; dag.contains_node(a) && dag.contains_node(b) && dag.can_add_edge());
+        let _e = made(rt, dag.add_edge(a, b, 103));
+    }
+}
+
+// Reduces the dag from its root.
+fn reduce(alloc: Global, dag: &mut Plain) -> Result<(), AllocError> {
+    let mut roots = Vec::new(alloc);
+    roots.push(NodeIndex::new(0))?;
+    dag.transitive_reduce(roots)
+}
+
+#[test]
+fn a_refused_reduction_removes_nothing(rt: HostRuntime) {
+    let mut refused = false;
+    let mut dag = small_fan(&rt, rt.alloc(), &mut refused);
+    join_children(&rt, &mut dag, &mut refused);
+    if reduce(rt.alloc(), &mut dag).is_err() {
+        refuse(&rt, &mut refused);
+        counts(&rt, &dag, 4, 4);
+        made(&rt, reduce(rt.alloc(), &mut dag));
+    }
+    counts(&rt, &dag, 4, 3);
+    let gone = dag.find_edge(NodeIndex::new(0), NodeIndex::new(2));
+    holds(&rt, gone.is_none());
+}
+
+#[test]
+fn a_refused_comparison_is_made_again(rt: HostRuntime) {
+    let mut refused = false;
+    let dag = small_fan(&rt, rt.alloc(), &mut refused);
+    let mut other = small_fan(&rt, rt.alloc(), &mut refused);
+    join_children(&rt, &mut other, &mut refused);
+    for (b, wanted) in [(&dag, true), (&other, false)] {
+        let found = match same_reachability(&dag, b) {
+            Ok(found) => found,
+            Err(AllocError) => {
+                refuse(&rt, &mut refused);
+                made(&rt, same_reachability(&dag, b))
+            }
+        };
+        same(&rt, found, wanted);
+    }
+    counts(&rt, &other, 4, 4);
 }
