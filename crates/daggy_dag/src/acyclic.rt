@@ -55,9 +55,9 @@ pub use walkers::{Children, Parents};
 /// [`Dag`] and [`StableDag`] are this over the two stores. Parallel edges are allowed. An edge that would close a cycle is
 /// refused, and its weight comes back.
 ///
-/// It keeps an order of its nodes in which every parent stands before its children, so an edge that leads forward in it needs
-/// no search. Each node adds a little to the room that the search for cycles works in, so that search cannot fail for want of
-/// memory.
+/// It keeps an order of its nodes in which every parent stands before its children, so an edge that leads forward in it
+/// needs no search. Each node adds a little to the room that the search for cycles works in, so that search cannot fail
+/// for want of memory.
 #[derive(Drop)]
 pub struct Acyclic<N, E, Ix: IndexType, S: Store<Ix, NodeWeight = N, EdgeWeight = E>> {
     store: S,
@@ -213,7 +213,9 @@ where
     /// Adds an edge from `a` to `b`, and gives its index.
     ///
     /// The refusal `WouldCycle` says that a path leads from `b` to `a`, so the edge would close a cycle. It is decided
-    /// first, by a search from `b` that cannot fail. The refusal `Memory` says that there was no memory for the edge.
+    /// first, and cannot fail: where `a` stands before `b` in the order that the dag keeps, no edge is looked at, and
+    /// otherwise a search from `b` goes no further than the place of `a`. The refusal `Memory` says that there was no
+    /// memory for the edge.
     #[inline]
     pub fn add_edge(
         &mut self,

@@ -83,9 +83,32 @@ impl<Ix: IndexType> Order<Ix> {
         self.positions[a.index()] < self.positions[b.index()]
     }
 
-    /// Puts a node last. Constant time, but for growth.
+    /// Puts a node last. Constant time, but for growth. Where memory for that is refused, gaps are
+    /// closed, if there are some.
     #[inline]
     pub fn push(&mut self, n: NodeIndex<Ix>) -> Result<(), AllocError>
+        requires real { Ix.number n < Ix.greatest }
+        requires absent { ¬ Contains self.old (Ix.number n) }
+        ensures ok { OnOk result (self.new ≡ self.old ++ Ix.number n ∷ []) }
+        ensures err { OnErr result (self.new ≡ self.old) }
+    {
+        self.make_slot();
+        self.push_last(n)
+    }
+
+    // Makes room for one more slot, if there is memory, or closes the gaps.
+    #[inline]
+    fn make_slot(&mut self)
+        ensures { self.new ≡ self.old }
+    {
+        if self.slots.reserve(1).is_err() && self.count < self.slots.len() {
+            self.close();
+        }
+    }
+
+    // Puts a node last, in a slot behind the others.
+    #[inline]
+    fn push_last(&mut self, n: NodeIndex<Ix>) -> Result<(), AllocError>
         requires real { Ix.number n < Ix.greatest }
         requires absent { ¬ Contains self.old (Ix.number n) }
         ensures ok { OnOk result (self.new ≡ self.old ++ Ix.number n ∷ []) }

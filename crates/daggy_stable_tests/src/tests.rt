@@ -5,6 +5,7 @@ mod calling;
 mod graphs;
 mod iterating;
 mod keeping;
+mod ordering;
 mod series;
 mod slots;
 mod support;

@@ -12,6 +12,7 @@ mod indices;
 mod iterating;
 mod large;
 mod mapping;
+mod ordering;
 mod pairs;
 mod removing;
 mod searching;

@@ -22,8 +22,8 @@ where
 {
     /// Adds all the edges that `items` gives, or none of them. It gives their indices in the order of the items.
     ///
-    /// Whether they close a cycle is decided once, after the last item, by a search of the whole dag that cannot fail.
-    /// So this costs less than adding many edges one by one, and more than adding a few to a large dag.
+    /// The dag's order makes way for each edge in turn, as for [`add_edge`](Acyclic::add_edge), which cannot fail. Once an edge
+    /// closes a cycle no further way is made.
     ///
     /// The first item that is at fault by itself ends it, and none behind that item is asked for. All weights that were
     /// asked for come back.

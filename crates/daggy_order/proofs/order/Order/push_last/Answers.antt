@@ -2,7 +2,7 @@ use Rattle.std.proofs.Common.{rules, ◌≡◌, ◌<◌, ◌++◌, ◌∷◌, []
 use Rattle.daggy_order.specs.Slots.{held}
 use Rattle.daggy_base.proofs.Lists.{Mem, mem_contains}
 use Rattle.daggy_order.proofs.Keeping.{kept_grown, count_low, kept_last}
-use Rattle.daggy_order.proofs.order.Order.push.Goals as goal
+use Rattle.daggy_order.proofs.order.Order.push_last.Goals as goal
 
 pub overflow_add-self : goal.overflow_add-self
 overflow_add-self g c =
