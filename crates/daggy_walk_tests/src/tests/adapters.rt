@@ -1,4 +1,4 @@
-use super::support::{Plain, Step, dag_of, far, goes, node, same, six, weight};
+use super::support::{Plain, Step, dag_of, far, goes, made, node, same, six, weight};
 use daggy_base::store::Store;
 use daggy_graph::graph::DiGraph;
 use daggy_stable::stable_graph::StableDiGraph;
@@ -101,7 +101,7 @@ fn leads<S: Store<u32, NodeWeight = u32, EdgeWeight = u32>>(rt: &impl Abort, all
 fn copies<S: Store<u32, NodeWeight = u32, EdgeWeight = u32>>(rt: &impl Abort, alloc: Global) {
     let dag: Plain<S> = six(rt, alloc);
     let mut first = Take::new(dag.children(node(rt, 6)), 3);
-    let mut second = first;
+    let mut second = made(rt, first.clone());
     goes(rt, &dag, &mut first, &[Some(5), Some(4)]);
     goes(rt, &dag, &mut second, &[Some(5), Some(4), Some(3), None]);
     goes(rt, &dag, &mut first, &[Some(3), None]);
