@@ -14,6 +14,15 @@ pub struct Sizes {
     pub edges: u32,
 }
 
+/// A look at a whole graph, which changes nothing.
+#[derive(Clone, Copy)]
+pub enum Reading {
+    WalkChildren,
+    FoldChildren,
+    TakeEven,
+    EdgeList,
+}
+
 /// What is timed.
 #[derive(Clone, Copy)]
 pub enum Workload {
@@ -21,12 +30,9 @@ pub enum Workload {
     BuildRandom,
     BuildSorted,
     AddEdges,
-    WalkChildren,
-    FoldChildren,
-    TakeEven,
+    Read(Reading),
     MapWeights,
     Copy,
-    EdgeList,
     RemoveEdges,
     RemoveNodes,
     StableChurn,
@@ -41,12 +47,9 @@ pub enum Prepared {
     AddChildTree(u32),
     Build(u32, Vec<(u32, u32)>),
     AddEdges(Weighted, Vec<(u32, u32)>),
-    WalkChildren(Weighted),
-    FoldChildren(Weighted),
-    TakeEven(Weighted),
+    Read(Reading, Weighted),
     MapWeights(Weighted),
     Copy(Weighted),
-    EdgeList(Weighted),
     RemoveEdges(Weighted),
     RemoveNodes(Weighted),
     StableChurn(u32, Churn),
@@ -73,10 +76,10 @@ impl Workload {
             "add_edges" => Some(Workload::AddEdges),
             "map_weights" => Some(Workload::MapWeights),
             "copy" => Some(Workload::Copy),
-            "edge_list" => Some(Workload::EdgeList),
-            "walk_children" => Some(Workload::WalkChildren),
-            "fold_children" => Some(Workload::FoldChildren),
-            "take_even" => Some(Workload::TakeEven),
+            "edge_list" => Some(Workload::Read(Reading::EdgeList)),
+            "walk_children" => Some(Workload::Read(Reading::WalkChildren)),
+            "fold_children" => Some(Workload::Read(Reading::FoldChildren)),
+            "take_even" => Some(Workload::Read(Reading::TakeEven)),
             "remove_edges" => Some(Workload::RemoveEdges),
             "remove_nodes" => Some(Workload::RemoveNodes),
             _ => None,
@@ -100,12 +103,12 @@ impl Workload {
             Workload::BuildRandom => "compact.build_random",
             Workload::BuildSorted => "compact.build_sorted",
             Workload::AddEdges => "compact.add_edges",
-            Workload::WalkChildren => "compact.walk_children",
-            Workload::FoldChildren => "compact.fold_children",
-            Workload::TakeEven => "compact.take_even",
+            Workload::Read(Reading::WalkChildren) => "compact.walk_children",
+            Workload::Read(Reading::FoldChildren) => "compact.fold_children",
+            Workload::Read(Reading::TakeEven) => "compact.take_even",
             Workload::MapWeights => "compact.map_weights",
             Workload::Copy => "compact.copy",
-            Workload::EdgeList => "compact.edge_list",
+            Workload::Read(Reading::EdgeList) => "compact.edge_list",
             Workload::RemoveEdges => "compact.remove_edges",
             Workload::RemoveNodes => "compact.remove_nodes",
             Workload::StableChurn => "stable.churn",
@@ -126,12 +129,9 @@ impl Workload {
                 let (dag, _) = build(alloc, sizes.nodes, none.as_slice())?;
                 Ok(Prepared::AddEdges(dag, pairs))
             }
-            Workload::WalkChildren => Ok(Prepared::WalkChildren(sorted(alloc, sizes)?)),
-            Workload::FoldChildren => Ok(Prepared::FoldChildren(sorted(alloc, sizes)?)),
-            Workload::TakeEven => Ok(Prepared::TakeEven(sorted(alloc, sizes)?)),
+            Workload::Read(reading) => Ok(Prepared::Read(reading, sorted(alloc, sizes)?)),
             Workload::MapWeights => Ok(Prepared::MapWeights(sorted(alloc, sizes)?)),
             Workload::Copy => Ok(Prepared::Copy(sorted(alloc, sizes)?)),
-            Workload::EdgeList => Ok(Prepared::EdgeList(sorted(alloc, sizes)?)),
             Workload::RemoveEdges => Ok(Prepared::RemoveEdges(sorted(alloc, sizes)?)),
             Workload::RemoveNodes => Ok(Prepared::RemoveNodes(sorted(alloc, sizes)?)),
             Workload::StableChurn => {
@@ -156,6 +156,17 @@ impl Workload {
     }
 }
 
+impl Reading {
+    fn run(self, dag: &Weighted) -> u64 {
+        match self {
+            Reading::WalkChildren => walk_children(dag),
+            Reading::FoldChildren => fold_children(dag),
+            Reading::TakeEven => take_even(dag),
+            Reading::EdgeList => edge_list(dag),
+        }
+    }
+}
+
 impl Prepared {
     /// The work that is timed.
     pub fn run(self, alloc: Global) -> Result<Finished, AllocError> {
@@ -170,12 +181,9 @@ impl Prepared {
                 dag,
                 pairs.as_slice(),
             )?)),
-            Prepared::WalkChildren(dag) => Ok(Finished::Number(walk_children(&dag))),
-            Prepared::FoldChildren(dag) => Ok(Finished::Number(fold_children(&dag))),
-            Prepared::TakeEven(dag) => Ok(Finished::Number(take_even(&dag))),
+            Prepared::Read(reading, dag) => Ok(Finished::Number(reading.run(&dag))),
             Prepared::MapWeights(dag) => Ok(Finished::Edges(plus_one(&dag)?)),
             Prepared::Copy(dag) => Ok(Finished::Edges(dag.try_clone()?)),
-            Prepared::EdgeList(dag) => Ok(Finished::Number(edge_list(&dag))),
             Prepared::RemoveEdges(dag) => Ok(Finished::Number(remove_edges(dag))),
             Prepared::RemoveNodes(dag) => Ok(Finished::Number(remove_nodes(dag))),
             Prepared::StableChurn(nodes, mut churn) => {

@@ -1,5 +1,6 @@
 //! A walk from node to node that a function leads.
 ghost use Rattle.std.specs.Prelude.{◌≡◌};
+ghost use Rattle.daggy_walk.specs.Parts.{recursive_node, recursive_function};
 
 use crate::acyclic::{Acyclic, Dag};
 use daggy_base::index::{IndexType, NodeIndex};
@@ -19,8 +20,8 @@ where
     /// Where `f` names none the walk stays, and asks there again at its next step. So it has an end only if `f` sees to it.
     #[inline]
     pub fn recursive_walk<F>(&self, start: NodeIndex<Ix>, f: F) -> Led<Self, NodeIndex<Ix>, F>
-        ensures node { result.node ≡ start }
-        ensures function { result.f ≡ f }
+        ensures node { recursive_node result ≡ start }
+        ensures function { recursive_function result ≡ f }
     {
         Led::new(start, f)
     }

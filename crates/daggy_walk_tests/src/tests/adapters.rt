@@ -1,4 +1,4 @@
-use super::support::{Plain, Step, dag_of, far, goes, node, same, six, weight};
+use super::support::{Plain, Step, dag_of, far, goes, made, node, same, six, weight};
 use daggy_base::store::Store;
 use daggy_graph::graph::DiGraph;
 use daggy_stable::stable_graph::StableDiGraph;
@@ -98,6 +98,15 @@ fn leads<S: Store<u32, NodeWeight = u32, EdgeWeight = u32>>(rt: &impl Abort, all
     goes(rt, &dag, &mut up, &[Some(3), None]);
 }
 
+fn copies<S: Store<u32, NodeWeight = u32, EdgeWeight = u32>>(rt: &impl Abort, alloc: Global) {
+    let dag: Plain<S> = six(rt, alloc);
+    let mut first = Take::new(dag.children(node(rt, 6)), 3);
+    let mut second = made(rt, first.clone());
+    goes(rt, &dag, &mut first, &[Some(5), Some(4)]);
+    goes(rt, &dag, &mut second, &[Some(5), Some(4), Some(3), None]);
+    goes(rt, &dag, &mut first, &[Some(3), None]);
+}
+
 #[test]
 fn walks_are_cut(rt: HostRuntime) {
     cuts::<DiGraph<u32, u32, u32>>(&rt, rt.alloc());
@@ -126,4 +135,10 @@ fn a_look_ahead_takes_no_step(rt: HostRuntime) {
 fn a_walk_up_goes_on_after_a_parent_was_added(rt: HostRuntime) {
     leads::<DiGraph<u32, u32, u32>>(&rt, rt.alloc());
     leads::<StableDiGraph<u32, u32, u32>>(&rt, rt.alloc());
+}
+
+#[test]
+fn a_copied_walk_goes_its_own_way(rt: HostRuntime) {
+    copies::<DiGraph<u32, u32, u32>>(&rt, rt.alloc());
+    copies::<StableDiGraph<u32, u32, u32>>(&rt, rt.alloc());
 }
