@@ -150,7 +150,7 @@ fn add_parent<D: Served>(dag: &mut D, child: u32, edge: i64, weight: i64) -> Rep
 }
 
 fn reduce<D: Served>(dag: &mut D, roots: Roots<'_>) -> Reply
-    ensures { IsReply D.kind (D.graph dag.old) (Reduce roots) result (D.graph dag.new) }
+    ensures { IsReply D.kind (D.graph dag.old) (Reduce roots.entry) result (D.graph dag.new) }
 {
     let Ok(roots) = roots.into_nodes(dag.allocator()) else {
         return Reply::Memory;

@@ -3,10 +3,10 @@ use Rattle.std.proofs.Common.{◌≡◌, ℕ, zero, suc, ◌+◌, ◌<◌, ◌�
 use Rattle.std.specs.List.{filter, filter_map, cons_option}
 use Rattle.std.specs.Option.{option_map}
 use Rattle.std.proofs.lemmas.Bool.{cases_eq, cases_lt, eq-eqb, ne_eqb, lt-ltb, le-ltb, cond-true, cond-false}
-use Rattle.std.proofs.lemmas.Option.{same_Some, none-some}
+use Rattle.std.proofs.lemmas.Option.{same_Some}
 use Rattle.daggy_base.specs.Graph.{slot}
 use Rattle.daggy_base.specs.Removal.{without, renamed}
-use Rattle.daggy_base.proofs.Lists.{Mem, contains_mem, mem_contains}
+use Rattle.daggy_base.proofs.Lists.{Mem}
 use Rattle.daggy_order.proofs.Changing.{was_named, is_named}
 
 -- a slot, as it is read
