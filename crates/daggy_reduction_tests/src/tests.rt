@@ -83,18 +83,8 @@ fn redundant(
 
 #[test]
 fn a_longer_way_makes_an_edge_redundant(rt: HostRuntime) {
-    let edges = [
-        (0, 1),
-        (0, 2),
-        (0, 3),
-        (0, 4),
-        (1, 3),
-        (2, 3),
-        (2, 4),
-        (3, 4),
-    ];
-    redundant(&rt, rt.alloc(), &edges, &[0], &[2, 3, 6]);
-    redundant(&rt, rt.alloc(), &edges, &[2], &[6]);
+    redundant(&rt, rt.alloc(), &TEXTBOOK, &[0], &[2, 3, 6]);
+    redundant(&rt, rt.alloc(), &TEXTBOOK, &[2], &[6]);
 }
 
 #[test]
