@@ -3,7 +3,7 @@
 set -u
 . "$(dirname "$0")/../refusing.sh"
 tests=$(built daggy_refusals daggy_refusals_tests) || exit 1
-for number in $(seq 0 120); do
+for number in $(seq 0 80); do
   out=$(refusing "$number" daggy_refusals_tests "$runner" --seconds 60 "$tests" 2>&1)
   if ! printf '%s\n' "$out" | grep -q 'test result: ok. [0-9]* passed; 0 failed'; then
     printf 'allocation %s:\n%s\n' "$number" "$out"
