@@ -24,13 +24,14 @@ nodes-preserved g c =
     let is : u ≡ get_or (take count below) c.nodes.k u =
     value ∙ c.index-below-k.is ∙ sym (get_or-take count below c.nodes.k c.index-below-k.result c.nodes-test.true) ∙ ap (λ z. get_or (take count below) c.nodes.k z) (sym value) in
     let inv = c.nodes.invariant in
+    let few = rw (inv.sweep.same) c.flag_round.ensures.counted in
     record {
       within = omega (arith, c.nodes-test.true);
       entered = c.flag_round.ensures.entered_kept ∙ inv.entered;
       met = c.flag_round.ensures.met_kept ∙ inv.met;
       queue = c.flag_round.ensures.queue_kept ∙ inv.queue;
       flags = c.flag_round.ensures.flags_kept ∙ inv.flags;
-      sweep = sweep_on inv.sweep low u is c.flag_round.ensures.same c.flag_round.ensures.flagged c.flag_round.ensures.counted;
+      sweep = sweep_on inv.sweep low u is c.flag_round.ensures.same c.flag_round.ensures.flagged few;
     }
 
 pub returns-clause-flagged : goal.returns-clause-flagged
@@ -46,4 +47,4 @@ returns-clause-counted g c =
     let below = c.enter_below-count.new.queue in
     let sized = length-take-le count below c.enter_below-count.ensures.within in
     let past : length (take count below) ≤ c.nodes.k = omega (arith, c.nodes-test.false, sized) in
-    looks_few c.node_bound-well_formed.ensures.well_formed (map g.Ix.IndexType.number c.args.roots.now) c.nodes.invariant.sweep past c.enter_below-count.ensures.below c.enter_below-count.ensures.distinct (omega (arith, c.nodes.invariant.within, sized))
+    looks_few c.node_bound-well_formed.ensures.well_formed (map g.Ix.IndexType.number c.args.roots.now) c.nodes.invariant.sweep past c.enter_below-count.ensures.below c.enter_below-count.ensures.distinct (λ u m. omega arith)
