@@ -220,10 +220,10 @@ module _ {N E : Type 0} {end marks_size queue_size : ℕ} {g₀ g : Graph N E} (
                 ];
             last_from = inr child_of;
             found = looked_more end g₀ w u s.passed e s.cursor here v next look₀ (λ z. Mem z p.q' ⊎ (z ≡ v)) (λ j x lt a.
-            elim (s.found j x lt a) [
-              | inl m ↦ inl (p.old x.child m)
-              | inr eq ↦ (let P : ℕ → Type 0 = λ z. Mem z p.q' in inl (subst P (sym eq) p.here))
-            ]) (inr refl);
+                elim (s.found j x lt a) [
+                  | inl m ↦ inl (p.old x.child m)
+                  | inr eq ↦ (let P : ℕ → Type 0 = λ z. Mem z p.q' in inl (subst P (sym eq) p.here))
+                ]) (inr refl);
             front = inr (elim s.front [
               | inl none ↦ elim p.front' [
                 | inl eq ↦ (let P : List ℕ → Type 0 = λ z. Mem last z in absurd (subst P (eq ∙ none.0) p.here))
@@ -266,10 +266,10 @@ module _ {N E : Type 0} {end marks_size queue_size : ℕ} {g₀ g : Graph N E} (
                 ];
             last_from = s.last_from;
             found = looked_more end g₀ w u s.passed e s.cursor here v next look₀ (λ z. Mem z p.q' ⊎ (z ≡ last)) (λ j x lt a.
-            elim (s.found j x lt a) [
-              | inl m ↦ inl (p.old x.child m)
-              | inr eq ↦ inr eq
-            ]) (inl p.here);
+                elim (s.found j x lt a) [
+                  | inl m ↦ inl (p.old x.child m)
+                  | inr eq ↦ inr eq
+                ]) (inl p.here);
             front = elim s.front [
               | inl none ↦ (
                   let P : ℕ → Type 0 = λ z. place order v < place order z in

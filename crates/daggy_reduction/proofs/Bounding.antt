@@ -46,7 +46,7 @@ in_places xs i j n m above below =
     subst P at.1 (in_stretch xs i j (place xs n) above below at.0)
 
 -- no child stands later than the last one
-latest_from : {N E : Type 0} (g : Graph N E) (order : List ℕ) (k : ℕ) (es : List ℕ) → k ≤ latest g order k es
+pub latest_from : {N E : Type 0} (g : Graph N E) (order : List ℕ) (k : ℕ) (es : List ℕ) → k ≤ latest g order k es
 latest_from g order k [] = omega arith
 latest_from g order k (e ∷ es) =
     let c = child_place order (edge_at g e) in

@@ -17,3 +17,4 @@ pub mod Children
 pub mod Shapes
 pub mod Beginning
 pub mod Bounding
+pub mod Spanning

@@ -12,7 +12,7 @@ use Rattle.daggy_reduction.proofs.Paths.{has_last}
 use Rattle.daggy_reduction.proofs.Queueing.{take_none, lists_append}
 
 -- a number for each node of a list, summed
-pub total : (ℕ → ℕ) → List ℕ → ℕ
+abbrev pub total : (ℕ → ℕ) → List ℕ → ℕ
 total cost [] = 0
 total cost (x ∷ xs) = cost x + total cost xs
 
@@ -69,7 +69,7 @@ module _ {N E : Type 0} {end : ℕ} {g₀ g : Graph N E} {cost : ℕ → ℕ} {b
       }
 
 pub total_few : (cost : ℕ → ℕ) (m : ℕ) (us : List ℕ) → ((u : ℕ) → Mem u us → cost u ≤ m) → total cost us ≤ length us * m
-total_few cost m [] each = omega arith
+total_few cost m [] each = omega (arith, zero-mul m)
 total_few cost m (u ∷ us) each = omega (arith, each u (inl refl), total_few cost m us (λ v h. each v (inr h)), suc-mul (length us) m)
 
 some_there : {A : Type 0} (xs : List (Option A)) (x : ℕ) → IsSome (slot xs x) → is_some (get_or xs x None) ≡ true
@@ -80,7 +80,7 @@ some_there (y ∷ xs) (suc x) h = some_there xs x h
 pub below_exists : {N E : Type 0} (g : Graph N E) (roots : List ℕ) (n : ℕ) → IsBelow g roots n → HasNode g n
 below_exists g roots n b = let P : ℕ → Type 0 = λ z. HasNode g z in subst P b.3.2 (has_last g b.0 b.3.0 b.3.1)
 
-module _ {N E : Type 0} {end : ℕ} {g₀ g : Graph N E} (w : IsWellFormed end g₀) (roots : List ℕ) {below flags : List ℕ} {k looks₀ looks : ℕ} (s : Sweeping end g₀ g cost below flags k looks₀ looks) (past : length below ≤ k) (exact : (n : ℕ) → Contains below n ↔ IsBelow g₀ roots n) (distinct : AreDistinct below) where
+module _ {N E : Type 0} {end : ℕ} {g₀ g : Graph N E} (w : IsWellFormed end g₀) (roots : List ℕ) {cost : ℕ → ℕ} {below flags : List ℕ} {k looks₀ looks : ℕ} (s : Sweeping end g₀ g cost below flags k looks₀ looks) (past : length below ≤ k) (exact : (n : ℕ) → Contains below n ↔ IsBelow g₀ roots n) (distinct : AreDistinct below) where
   whole : take k below ≡ below
   whole = take_all k below past
 

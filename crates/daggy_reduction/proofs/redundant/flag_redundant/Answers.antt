@@ -1,5 +1,6 @@
 use Rattle.std.proofs.Common.{◌≡◌, ◌<◌, ◌≤◌, length, map, take, get_or, sym, ap, ◌∙◌, arith, Contains}
 use Rattle.std.proofs.lemmas.List.{length-take-le, get_or-take}
+use Rattle.daggy_base.specs.Graph.{edge_count}
 use Rattle.daggy_reduction.proofs.Sweeping.{sweep_on, below_exists, flags_redundant, looks_few}
 use Rattle.daggy_reduction.proofs.redundant.flag_redundant.Goals as goal
 
@@ -24,14 +25,13 @@ nodes-preserved g c =
     let is : u ≡ get_or (take count below) c.nodes.k u =
     value ∙ c.index-below-k.is ∙ sym (get_or-take count below c.nodes.k c.index-below-k.result c.nodes-test.true) ∙ ap (λ z. get_or (take count below) c.nodes.k z) (sym value) in
     let inv = c.nodes.invariant in
-    let few = rw (inv.sweep.same) c.flag_round.ensures.counted in
     record {
       within = omega (arith, c.nodes-test.true);
       entered = c.flag_round.ensures.entered_kept ∙ inv.entered;
       met = c.flag_round.ensures.met_kept ∙ inv.met;
       queue = c.flag_round.ensures.queue_kept ∙ inv.queue;
       flags = c.flag_round.ensures.flags_kept ∙ inv.flags;
-      sweep = sweep_on inv.sweep low u is c.flag_round.ensures.same c.flag_round.ensures.flagged few;
+      sweep = sweep_on inv.sweep low u is c.flag_round.ensures.same c.flag_round.ensures.flagged (omega (arith, c.flag_round.ensures.counted, ap edge_count inv.sweep.same));
     }
 
 pub returns-clause-flagged : goal.returns-clause-flagged
