@@ -8,7 +8,7 @@ ghost use Rattle.daggy_order.specs.Ordered.{IsOrderOf};
 ghost use Rattle.daggy_reduction.specs.Comparing.{IsAscending, JoinsAll};
 ghost use Rattle.daggy_reduction.specs.Stretching.{all_spanned};
 
-use crate::redundant::find_redundant_in;
+use crate::bounded::find_redundant_in;
 use daggy_base::index::{EdgeIndex, IndexType, NodeIndex};
 use daggy_base::search::Scratch;
 use daggy_base::store::Store;

@@ -4,19 +4,15 @@ ghost use Rattle.daggy_base.specs.Graph.{HasNode, out_list, node_bound, edge_bou
 ghost use Rattle.daggy_base.specs.Path.{IsAcyclic};
 ghost use Rattle.daggy_base.specs.WellFormed.{IsWellFormed};
 ghost use Rattle.daggy_base.specs.Reduction.{IsRedundant};
-ghost use Rattle.daggy_order.specs.Ordered.{IsOrderOf};
 ghost use Rattle.daggy_reduction.specs.Flags.{IsFlagged, FlagsRound};
 ghost use Rattle.daggy_reduction.specs.Comparing.{IsAscending};
-ghost use Rattle.daggy_reduction.specs.Stretching.{edges_spanned, all_spanned};
 
-use crate::bounded::meet_round;
 use crate::closure::{close, enter};
 use crate::flags::{flag_marked, gather_flagged, unflag};
 use crate::roots::enter_below;
 use daggy_base::index::{EdgeIndex, IndexType, NodeIndex};
 use daggy_base::link::Link;
 use daggy_base::search::{EdgeSource, Marks, Scratch};
-use daggy_order::order::Order;
 
 // Flags the edges of `u` to whose children a longer way leads.
 fn flag_round<Ix: IndexType, S: EdgeSource<Ix>>(
@@ -148,155 +144,6 @@ pub fn redundant_edges<Ix: IndexType, S: EdgeSource<Ix>>(
 {
     find_redundant(
         source,
-        roots,
-        &mut scratch.marks,
-        &mut scratch.left,
-        scratch.stack.as_mut_slice(),
-        scratch.cursors.as_mut_slice(),
-        edges,
-    )
-}
-
-// `flag_round` by an order of the nodes.
-fn flag_round_in<Ix: IndexType, S: EdgeSource<Ix>>(
-    source: &mut S,
-    order: &Order<Ix>,
-    u: NodeIndex<Ix>,
-    entered: &mut Marks,
-    met: &mut Marks,
-    queue: &mut [Link<Ix>],
-    flags: &mut [EdgeIndex<Ix>],
-)
-    requires well_formed { IsWellFormed Ix.greatest (S.graph source.old) }
-    requires ordered { IsOrderOf (S.graph source.old) order.now }
-    requires exists { HasNode (S.graph source.old) (Ix.number u) }
-    requires entered_fit { node_bound (S.graph source.old) ≤ length entered.old }
-    requires met_fit { node_bound (S.graph source.old) ≤ length met.old }
-    requires queue_fits { length entered.old ≤ length queue.old }
-    requires flags_fit { edge_bound (S.graph source.old) ≤ length flags.old }
-    ensures same { S.graph source.new ≡ S.graph source.old }
-    ensures flagged { FlagsRound Ix.greatest (S.graph source.old) (Ix.number u) (map Ix.number flags.old) (map Ix.number flags.new) }
-    ensures counted { S.looks source.new ≤ S.looks source.old
-        + edges_spanned (S.graph source.old) order.now (Ix.number u)
-        + length (out_list (S.graph source.old) (Ix.number u)) }
-    ensures entered_kept { length entered.new ≡ length entered.old }
-    ensures met_kept { length met.new ≡ length met.old }
-    ensures queue_kept { length queue.new ≡ length queue.old }
-    ensures flags_kept { length flags.new ≡ length flags.old }
-{
-    entered.clear();
-    met.clear();
-    meet_round(source, order, u, entered, met, queue);
-    flag_marked(source, u, met, flags);
-}
-
-// `flag_redundant` by an order of the nodes.
-fn flag_redundant_in<Ix: IndexType, S: EdgeSource<Ix>>(
-    source: &mut S,
-    order: &Order<Ix>,
-    roots: &[NodeIndex<Ix>],
-    entered: &mut Marks,
-    met: &mut Marks,
-    below: &mut [Link<Ix>],
-    queue: &mut [Link<Ix>],
-    flags: &mut [EdgeIndex<Ix>],
-)
-    requires ordered { IsOrderOf (S.graph source.old) order.now }
-    requires entered_fit { node_bound (S.graph source.old) ≤ length entered.old }
-    requires met_fit { node_bound (S.graph source.old) ≤ length met.old }
-    requires below_fits { length entered.old ≤ length below.old }
-    requires queue_fits { length entered.old ≤ length queue.old }
-    requires flags_fit { edge_bound (S.graph source.old) ≤ length flags.old }
-    ensures same { S.graph source.new ≡ S.graph source.old }
-    ensures flagged { (e : ℕ) → IsFlagged Ix.greatest (map Ix.number flags.new) e
-        ↔ IsRedundant (S.graph source.old) (map Ix.number roots.now) e }
-    ensures counted { S.looks source.new ≤ S.looks source.old
-        + (node_count (S.graph source.old) + 2) * edge_count (S.graph source.old) }
-    ensures spanned { S.looks source.new ≤ S.looks source.old
-        + 2 * edge_count (S.graph source.old) + all_spanned (S.graph source.old) order.now order.now }
-    ensures entered_kept { length entered.new ≡ length entered.old }
-    ensures met_kept { length met.new ≡ length met.old }
-    ensures below_kept { length below.new ≡ length below.old }
-    ensures queue_kept { length queue.new ≡ length queue.old }
-    ensures flags_kept { length flags.new ≡ length flags.old }
-{
-    let _well_formed = source.node_bound();
-    unflag(flags);
-    let count = enter_below(source, roots, entered, met, below);
-    let mut k = 0;
-    'nodes: while k < count {
-        flag_round_in(source, order, below[k].node(), entered, met, queue, flags);
-        k += 1;
-    }
-}
-
-// `find_redundant` by an order of the nodes.
-pub(crate) fn find_redundant_in<Ix: IndexType, S: EdgeSource<Ix>>(
-    source: &mut S,
-    order: &Order<Ix>,
-    roots: &[NodeIndex<Ix>],
-    entered: &mut Marks,
-    met: &mut Marks,
-    below: &mut [Link<Ix>],
-    queue: &mut [Link<Ix>],
-    edges: &mut [EdgeIndex<Ix>],
-) -> usize
-    requires ordered { IsOrderOf (S.graph source.old) order.now }
-    requires entered_fit { node_bound (S.graph source.old) ≤ length entered.old }
-    requires met_fit { node_bound (S.graph source.old) ≤ length met.old }
-    requires below_fits { length entered.old ≤ length below.old }
-    requires queue_fits { length entered.old ≤ length queue.old }
-    requires edges_fit { edge_bound (S.graph source.old) ≤ length edges.old }
-    ensures same { S.graph source.new ≡ S.graph source.old }
-    ensures within { result ≤ length edges.new }
-    ensures ascending { IsAscending (take result (map Ix.number edges.new)) }
-    ensures exact { (e : ℕ) → Contains (take result (map Ix.number edges.new)) e
-        ↔ IsRedundant (S.graph source.old) (map Ix.number roots.now) e }
-    ensures counted { S.looks source.new ≤ S.looks source.old
-        + (node_count (S.graph source.old) + 2) * edge_count (S.graph source.old) }
-    ensures spanned { S.looks source.new ≤ S.looks source.old
-        + 2 * edge_count (S.graph source.old) + all_spanned (S.graph source.old) order.now order.now }
-    ensures entered_kept { length entered.new ≡ length entered.old }
-    ensures met_kept { length met.new ≡ length met.old }
-    ensures below_kept { length below.new ≡ length below.old }
-    ensures queue_kept { length queue.new ≡ length queue.old }
-    ensures edges_kept { length edges.new ≡ length edges.old }
-{
-    let _well_formed = source.node_bound();
-    let bound = source.edge_bound();
-    flag_redundant_in(source, order, roots, entered, met, below, queue, edges);
-    gather_flagged(edges, bound)
-}
-
-/// [`redundant_edges`] by an order in which every parent stands before its children.
-///
-/// The search from a node enters only nodes that stand before its last child. A longer way to a child passes through no
-/// others.
-pub fn redundant_edges_in<Ix: IndexType, S: EdgeSource<Ix>>(
-    source: &mut S,
-    order: &Order<Ix>,
-    roots: &[NodeIndex<Ix>],
-    scratch: &mut Scratch<Ix>,
-    edges: &mut [EdgeIndex<Ix>],
-) -> usize
-    requires ordered { IsOrderOf (S.graph source.old) order.now }
-    requires nodes_fit { node_bound (S.graph source.old) ≤ scratch.old.nodes }
-    requires edges_fit { edge_bound (S.graph source.old) ≤ length edges.old }
-    ensures same { S.graph source.new ≡ S.graph source.old }
-    ensures within { result ≤ length edges.new }
-    ensures ascending { IsAscending (take result (map Ix.number edges.new)) }
-    ensures exact { (e : ℕ) → Contains (take result (map Ix.number edges.new)) e
-        ↔ IsRedundant (S.graph source.old) (map Ix.number roots.now) e }
-    ensures counted { S.looks source.new ≤ S.looks source.old
-        + (node_count (S.graph source.old) + 2) * edge_count (S.graph source.old) }
-    ensures spanned { S.looks source.new ≤ S.looks source.old
-        + 2 * edge_count (S.graph source.old) + all_spanned (S.graph source.old) order.now order.now }
-    ensures room { scratch.new ≡ scratch.old }
-    ensures edges_kept { length edges.new ≡ length edges.old }
-{
-    find_redundant_in(
-        source,
-        order,
         roots,
         &mut scratch.marks,
         &mut scratch.left,

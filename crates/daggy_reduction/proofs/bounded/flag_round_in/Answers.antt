@@ -5,7 +5,7 @@ use Rattle.daggy_base.specs.Path.{AreJoined}
 use Rattle.daggy_base.specs.Reduction.{ReachesRound}
 use Rattle.daggy_reduction.specs.Flags.{FlagsMarked}
 use Rattle.daggy_reduction.proofs.Flagged.{unmarked, flags_met}
-use Rattle.daggy_reduction.proofs.redundant.flag_round_in.Goals as goal
+use Rattle.daggy_reduction.proofs.bounded.flag_round_in.Goals as goal
 
 pub meet_round-requires-clause-cleared : goal.meet_round-requires-clause-cleared
 meet_round-requires-clause-cleared g c n = ap (λ m. get_or m n false) c.clear.ensures ∙ unmarked (length c.args.entered.now) n

@@ -4,7 +4,7 @@ use Rattle.daggy_base.specs.Graph.{Graph}
 use Rattle.daggy_reduction.specs.Stretching.{edges_spanned}
 use Rattle.daggy_reduction.proofs.Sweeping.{sweep_on, below_exists, flags_redundant, looks_few, looks_total}
 use Rattle.daggy_reduction.proofs.Spanning.{spanned_few, total_spanned}
-use Rattle.daggy_reduction.proofs.redundant.flag_redundant_in.Goals as goal
+use Rattle.daggy_reduction.proofs.bounded.flag_redundant_in.Goals as goal
 
 pub flag_round_in-requires-clause-exists : goal.flag_round_in-requires-clause-exists
 flag_round_in-requires-clause-exists g c =

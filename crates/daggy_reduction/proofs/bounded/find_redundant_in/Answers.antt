@@ -5,7 +5,7 @@ use Rattle.daggy_reduction.specs.Comparing.{IsAscending}
 use Rattle.daggy_reduction.specs.Flags.{IsFlagged, flagged_below}
 use Rattle.daggy_reduction.proofs.Gathering.{gathered_ascend, gathered_exactly}
 use Rattle.daggy_reduction.proofs.Sweeping.{redundant_low}
-use Rattle.daggy_reduction.proofs.redundant.find_redundant_in.Goals as goal
+use Rattle.daggy_reduction.proofs.bounded.find_redundant_in.Goals as goal
 
 pub gather_flagged-requires-clause-real : goal.gather_flagged-requires-clause-real
 gather_flagged-requires-clause-real g c =
