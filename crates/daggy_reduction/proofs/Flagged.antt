@@ -1,12 +1,14 @@
 -- Edges flagged by marks are those that a longer way makes redundant.
-use Rattle.std.proofs.Common.{◌≡◌, ℕ, suc, ◌+◌, ◌<◌, Bool, true, false, inl, inr, List, [], ◌∷◌, length, get_or, take, set, sym, ap, subst, ◌∙◌, arith, replicate}
+use Rattle.std.proofs.Common.{◌≡◌, ℕ, suc, ◌+◌, ◌<◌, Bool, true, false, ◌⊎◌, ◌↔◌, inl, inr, List, [], ◌∷◌, length, get_or, take, set, sym, ap, subst, ◌∙◌, arith, replicate}
 use Rattle.std.proofs.lemmas.List.{get_or-replicate, length-replicate}
 use Rattle.std.proofs.lemmas.Bool.{false≢true, cases_lt}
 use Rattle.std.proofs.lemmas.List.{get_or_past}
 use Rattle.daggy_base.specs.Graph.{Graph, HasNode}
 use Rattle.daggy_base.specs.Path.{AreJoined, IsAcyclic}
+use Rattle.daggy_base.specs.Reduction.{ReachesRound}
 use Rattle.daggy_base.specs.WellFormed.{IsWellFormed}
 use Rattle.daggy_base.proofs.Lists.{mem_contains, contains_mem}
+use Rattle.daggy_base.proofs.Reading.{joins}
 use Rattle.daggy_base.proofs.Going.{set_marked}
 use Rattle.daggy_reduction.specs.Closing.{IsQueue, IsClosure, MeetsChildren}
 use Rattle.daggy_reduction.specs.Flags.{FlagsMarked, FlagsRound}
@@ -52,6 +54,22 @@ flags_round end g w acyclic u closure c k marks meets old new flags e = (
   λ f. (flags e).1 (elim f [
     | inl a ↦ inl a
     | inr r ↦ inr (record { edge = r.edge; at = r.at; parent = r.parent; child = (meets r.edge.child).1 (inr ((child_round g acyclic (joined_exist end g w) u closure c r.edge.child).1 r.round)) })
+  ]),
+)
+
+-- the same by marks that are right for the children of the node alone
+pub flags_met : {N E : Type 0} (end : ℕ) (g : Graph N E) → IsWellFormed end g → (u k : ℕ) (marks : List Bool) → ((v : ℕ) → AreJoined g u v → (get_or marks v false ≡ true) ↔ ((get_or (replicate k false) v false ≡ true) ⊎ ReachesRound g u v)) → (old new : List ℕ) → FlagsMarked end g u marks old new → FlagsRound end g u old new
+flags_met end g w u k marks met old new flags e = (
+  λ f. elim ((flags e).0 f) [
+    | inl a ↦ inl a
+    | inr l ↦ elim ((met l.edge.child (joins end g w e u l.edge l.at l.parent)).0 l.child) [
+      | inl before ↦ absurd (false≢true (sym (unmarked k l.edge.child) ∙ before))
+      | inr round ↦ inr (record { edge = l.edge; at = l.at; parent = l.parent; round = round })
+    ]
+  ],
+  λ f. (flags e).1 (elim f [
+    | inl a ↦ inl a
+    | inr r ↦ inr (record { edge = r.edge; at = r.at; parent = r.parent; child = (met r.edge.child (joins end g w e u r.edge r.at r.parent)).1 (inr r.round) })
   ]),
 )
 

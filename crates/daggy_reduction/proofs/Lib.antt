@@ -15,3 +15,6 @@ pub mod Descending
 pub mod Laws
 pub mod Children
 pub mod Shapes
+pub mod Beginning
+pub mod Bounding
+pub mod Spanning

@@ -10,14 +10,24 @@ use Rattle.daggy_base.specs.Look.{IsLook}
 use Rattle.daggy_base.proofs.Lists.{Mem, Unique, mem_left, mem_right, mem_cases, mem_mid, unique_append}
 use Rattle.daggy_base.proofs.Reading.{lists_of, lists_few, LookedTo, read_whole, all_read, read_part, has_edge, child_exists, child_joined, next_cursor, looked_more}
 use Rattle.daggy_base.proofs.Going.{reaches_more, reaches_stays, marked_within, set_marked, fewer_than}
+use Rattle.daggy_order.specs.Ordered.{edges_from}
+use Rattle.daggy_order.proofs.Bounded.{edges_few, lists_length}
 use Rattle.daggy_reduction.specs.Closing.{behind}
 
 pub take_none : (xs : List ℕ) → take 0 xs ≡ []
 take_none [] = refl
 take_none (x ∷ xs) = refl
 
--- a queue that is read, with marks for its nodes and marks for the children of all but its first node
-pub record Queueing {N E : Type 0} (end : ℕ) (g : Graph N E) (starts : List ℕ) (before marks met : List Bool) (queue : List ℕ) (head e looked : ℕ) : Type 0 where
+-- no node is kept out
+abbrev pub Anywhere : ℕ → Type 0
+Anywhere n = Unit {0}
+
+abbrev pub Nowhere : ℕ → Type 0
+Nowhere n = ⊥
+
+-- A queue that is read, with marks for its nodes and marks for the children of all but its first node. Its nodes are all
+-- inside, and the children that are beyond are not put into it.
+pub record Queueing {N E : Type 0} (end : ℕ) (g : Graph N E) (Inside Beyond : ℕ → Type 0) (starts : List ℕ) (before marks met : List Bool) (queue : List ℕ) (head e looked : ℕ) : Type 0 where
   -- the nodes that were read, the one whose list is read, those behind it, and how much of that list was read
   pub done : List ℕ
   pub at : ℕ
@@ -33,8 +43,9 @@ pub record Queueing {N E : Type 0} (end : ℕ) (g : Graph N E) (starts : List �
   pub start : (s : ℕ) → Mem s starts → Mem s queue
   pub later : List ℕ
   pub begins : queue ≡ starts ++ later
-  pub closed : (u v : ℕ) → Mem u done → AreJoined g u v → Mem v queue
-  pub half : LookedTo end g (λ v. Mem v queue) at passed
+  pub inside : (n : ℕ) → Mem n queue → Inside n
+  pub closed : (u v : ℕ) → Mem u done → AreJoined g u v → Mem v queue ⊎ Beyond v
+  pub half : LookedTo end g (λ v. Mem v queue ⊎ Beyond v) at passed
   pub met_only : (n : ℕ) → get_or met n false ≡ true → (get_or before n false ≡ true) ⊎ ((m : ℕ) × Mem m (behind queue) × AreJoined g m n)
   pub met_before : (n : ℕ) → get_or before n false ≡ true → get_or met n false ≡ true
   pub met_closed : (u v : ℕ) → Mem u (behind done) → AreJoined g u v → get_or met v false ≡ true
@@ -69,7 +80,7 @@ behind_last (x ∷ xs) y m h =
     ]
 
 -- what is known of a queue
-module _ {N E : Type 0} (end : ℕ) (g : Graph N E) (w : IsWellFormed end g) (starts : List ℕ) (before marks met : List Bool) (queue : List ℕ) (head e looked : ℕ) (s : Queueing end g starts before marks met queue head e looked) where
+module _ {N E : Type 0} (end : ℕ) (g : Graph N E) (w : IsWellFormed end g) (Inside Beyond : ℕ → Type 0) (starts : List ℕ) (before marks met : List Bool) (queue : List ℕ) (head e looked : ℕ) (s : Queueing end g Inside Beyond starts before marks met queue head e looked) where
   once_to_here : Unique (s.done ++ s.at ∷ [])
   once_to_here =
       let P : List ℕ → Type 0 = λ z. Unique z in
@@ -79,10 +90,26 @@ module _ {N E : Type 0} (end : ℕ) (g : Graph N E) (w : IsWellFormed end g) (st
   at_queued : Mem s.at queue
   at_queued = let P : List ℕ → Type 0 = λ z. Mem s.at z in subst P (sym s.split) (mem_mid s.done s.rest s.at)
 
+  here_queued : (x : ℕ) → Mem x (s.done ++ s.at ∷ []) → Mem x queue
+  here_queued x m =
+      let P : List ℕ → Type 0 = λ z. Mem x z in
+      let is : queue ≡ (s.done ++ s.at ∷ []) ++ s.rest = s.split ∙ sym (append_assoc s.done (s.at ∷ []) s.rest) in
+      subst P (sym is) (mem_left (s.done ++ s.at ∷ []) s.rest x m)
+
   read_few : (k : ℕ) → k ≤ length (out_list g s.at) → k + length (lists_of g s.done) ≤ edge_count g
   read_few k within =
       let few = lists_few end g w (s.done ++ s.at ∷ []) once_to_here in
       omega (arith, few, within, lists_append g s.done s.at)
+
+  -- no more looks than edges leave the nodes of any list that has those of the queue
+  module _ (ns : List ℕ) (all : (n : ℕ) → Mem n queue → Mem n ns) where
+    few_from : (k : ℕ) → k ≤ length (out_list g s.at) → k + length (lists_of g s.done) ≤ edges_from g ns
+    few_from k within =
+        let few = edges_few g (s.done ++ s.at ∷ []) ns once_to_here (λ x m. all x (here_queued x m)) in
+        omega (arith, few, within, lists_append g s.done s.at, lists_length g (s.done ++ s.at ∷ []))
+
+    pub looked_from : looked ≤ edges_from g ns
+    looked_from = omega (arith, few_from s.passed s.within, s.counted)
 
   pub looked_within : looked ≤ edge_count g
   looked_within = omega (arith, read_few s.passed s.within, s.counted)
@@ -116,7 +143,7 @@ module _ {N E : Type 0} (end : ℕ) (g : Graph N E) (w : IsWellFormed end g) (st
     joined_here = child_joined end g w s.at s.passed e s.cursor here v next look
 
     -- the cursor moves on from a child that is in the queue
-    pub moved : Mem v queue → (head ≢ 0 → get_or met v false ≡ true) → Queueing end g starts before marks met queue head next (looked + 1)
+    pub moved : Mem v queue ⊎ Beyond v → (head ≢ 0 → get_or met v false ≡ true) → Queueing end g Inside Beyond starts before marks met queue head next (looked + 1)
     moved seen meets =
         record {
           done = s.done;
@@ -133,8 +160,9 @@ module _ {N E : Type 0} (end : ℕ) (g : Graph N E) (w : IsWellFormed end g) (st
           start = s.start;
           later = s.later;
           begins = s.begins;
+          inside = s.inside;
           closed = s.closed;
-          half = looked_more end g w s.at s.passed e s.cursor here v next look (λ z. Mem z queue) s.half seen;
+          half = looked_more end g w s.at s.passed e s.cursor here v next look (λ z. Mem z queue ⊎ Beyond z) s.half seen;
           met_only = s.met_only;
           met_before = s.met_before;
           met_closed = s.met_closed;
@@ -143,7 +171,7 @@ module _ {N E : Type 0} (end : ℕ) (g : Graph N E) (w : IsWellFormed end g) (st
         }
 
     -- a child of a node behind the first is met
-    pub meets_child : head ≢ 0 → v < length met → Queueing end g starts before marks (set met v true) queue head e looked
+    pub meets_child : head ≢ 0 → v < length met → Queueing end g Inside Beyond starts before marks (set met v true) queue head e looked
     meets_child some low =
         let at_behind : Mem s.at (behind queue) = (
         let P : List ℕ → Type 0 = λ z. Mem s.at (behind z) in
@@ -166,6 +194,7 @@ module _ {N E : Type 0} (end : ℕ) (g : Graph N E) (w : IsWellFormed end g) (st
           start = s.start;
           later = s.later;
           begins = s.begins;
+          inside = s.inside;
           closed = s.closed;
           half = s.half;
           met_only = λ n m.
@@ -180,8 +209,8 @@ module _ {N E : Type 0} (end : ℕ) (g : Graph N E) (w : IsWellFormed end g) (st
         }
 
     -- a child that is new goes behind
-    pub pushed : v < length marks → get_or marks v false ≡ false → Queueing end g starts before (set marks v true) met (queue ++ v ∷ []) head e looked
-    pushed low unseen =
+    pub pushed : Inside v → v < length marks → get_or marks v false ≡ false → Queueing end g Inside Beyond starts before (set marks v true) met (queue ++ v ∷ []) head e looked
+    pushed within low unseen =
         let absent : Mem v queue → ⊥ = λ m. false≢true (sym unseen ∙ (s.marked v).1 m) in
         let old : (n : ℕ) → Mem n queue → Mem n (queue ++ v ∷ []) = λ n m. mem_left queue (v ∷ []) n m in
         let out : (n : ℕ) → Mem n (queue ++ v ∷ []) → Mem n queue ⊎ (n ≡ v) = λ n m.
@@ -221,8 +250,13 @@ module _ {N E : Type 0} (end : ℕ) (g : Graph N E) (w : IsWellFormed end g) (st
           start = λ n m. old n (s.start n m);
           later = s.later ++ v ∷ [];
           begins = ap (λ z. z ++ v ∷ []) s.begins ∙ append_assoc starts s.later (v ∷ []);
-          closed = λ a b m j. old b (s.closed a b m j);
-          half = λ j x lt a. old x.child (s.half j x lt a);
+          inside = λ n m.
+              elim (out n m) [
+                | inl a ↦ s.inside n a
+                | inr eq ↦ (let P : ℕ → Type 0 = λ z. Inside z in subst P (sym eq) within)
+              ];
+          closed = λ a b m j. elim (s.closed a b m j) [ inl q ↦ inl (old b q) | inr far ↦ inr far ];
+          half = λ j x lt a. elim (s.half j x lt a) [ inl q ↦ inl (old x.child q) | inr far ↦ inr far ];
           met_only = λ n m.
               elim (s.met_only n m) [
                 | inl a ↦ inl a
@@ -235,12 +269,12 @@ module _ {N E : Type 0} (end : ℕ) (g : Graph N E) (w : IsWellFormed end g) (st
         }
 
   -- at `end` the list was read whole
-  closed_here : e ≡ end → (u v : ℕ) → Mem u (s.done ++ s.at ∷ []) → AreJoined g u v → Mem v queue
+  closed_here : e ≡ end → (u v : ℕ) → Mem u (s.done ++ s.at ∷ []) → AreJoined g u v → Mem v queue ⊎ Beyond v
   closed_here h u v m j =
       elim (mem_cases s.done (s.at ∷ []) u m) [
         | inl a ↦ s.closed u v a j
         | inr b ↦ elim b [
-          | inl eq ↦ (let P : ℕ → Type 0 = λ z. AreJoined g z v in all_read end g w s.at s.passed e s.cursor s.within h (λ z. Mem z queue) s.half v (subst P eq j))
+          | inl eq ↦ (let P : ℕ → Type 0 = λ z. AreJoined g z v in all_read end g w s.at s.passed e s.cursor s.within h (λ z. Mem z queue ⊎ Beyond z) s.half v (subst P eq j))
           | inr none ↦ absurd none
         ]
       ]
@@ -257,7 +291,7 @@ module _ {N E : Type 0} (end : ℕ) (g : Graph N E) (w : IsWellFormed end g) (st
       ]
 
   -- the next node of the queue
-  pub next_node : e ≡ end → (y : ℕ) (ys : List ℕ) → s.rest ≡ y ∷ ys → Queueing end g starts before marks met queue (head + 1) (first_of end (out_list g y)) looked
+  pub next_node : e ≡ end → (y : ℕ) (ys : List ℕ) → s.rest ≡ y ∷ ys → Queueing end g Inside Beyond starts before marks met queue (head + 1) (first_of end (out_list g y)) looked
   next_node h y ys more =
       record {
         done = s.done ++ s.at ∷ [];
@@ -274,6 +308,7 @@ module _ {N E : Type 0} (end : ℕ) (g : Graph N E) (w : IsWellFormed end g) (st
         start = s.start;
         later = s.later;
         begins = s.begins;
+        inside = s.inside;
         closed = closed_here h;
         half = λ j x lt a. absurd (omega (arith, lt));
         met_only = s.met_only;
@@ -288,14 +323,15 @@ module _ {N E : Type 0} (end : ℕ) (g : Graph N E) (w : IsWellFormed end g) (st
     whole : queue ≡ s.done ++ s.at ∷ []
     whole = s.split ∙ ap (λ z. s.done ++ s.at ∷ z) last
 
-    stays : (u v : ℕ) → Mem u queue → AreJoined g u v → Mem v queue
-    stays u v m j = let P : List ℕ → Type 0 = λ z. Mem u z in closed_here h u v (subst P whole m) j
+    -- all that is reached is in the queue or beyond
+    module _ (far : (u v : ℕ) → Beyond u → AreJoined g u v → Beyond v) where
+      stays : (u v : ℕ) → Mem u queue ⊎ Beyond u → AreJoined g u v → Mem v queue ⊎ Beyond v
+      stays u v m j =
+          let P : List ℕ → Type 0 = λ z. Mem u z in
+          elim m [ inl q ↦ closed_here h u v (subst P whole q) j | inr past ↦ inr (far u v past j) ]
 
-    pub all_reached : (n : ℕ) → Mem n queue ↔ ((s : ℕ) × Mem s starts × Reaches g s n)
-    all_reached n = (
-      s.reached n,
-      λ r. reaches_stays g (λ z. Mem z queue) stays r.0 n r.2 (s.start r.0 r.1),
-    )
+      pub all_reached : (n s : ℕ) → Mem s starts → Reaches g s n → Mem n queue ⊎ Beyond n
+      all_reached n s' m r = reaches_stays g (λ z. Mem z queue ⊎ Beyond z) stays s' n r (inl (s.start s' m))
 
     pub all_met : (n : ℕ) → (get_or met n false ≡ true) ↔ ((get_or before n false ≡ true) ⊎ ((m : ℕ) × Mem m (behind queue) × AreJoined g m n))
     all_met n = (
@@ -307,7 +343,7 @@ module _ {N E : Type 0} (end : ℕ) (g : Graph N E) (w : IsWellFormed end g) (st
     )
 
 -- the start
-pub started : {N E : Type 0} (end : ℕ) (g : Graph N E) (marks met : List Bool) (x : ℕ) (xs : List ℕ) → ((n : ℕ) → Mem n (x ∷ xs) → HasNode g n) → Unique (x ∷ xs) → ((n : ℕ) → (get_or marks n false ≡ true) ↔ Mem n (x ∷ xs)) → Queueing end g (x ∷ xs) met marks met (x ∷ xs) 0 (first_of end (out_list g x)) 0
+pub started : {N E : Type 0} (end : ℕ) (g : Graph N E) (marks met : List Bool) (x : ℕ) (xs : List ℕ) → ((n : ℕ) → Mem n (x ∷ xs) → HasNode g n) → Unique (x ∷ xs) → ((n : ℕ) → (get_or marks n false ≡ true) ↔ Mem n (x ∷ xs)) → Queueing end g Anywhere Nowhere (x ∷ xs) met marks met (x ∷ xs) 0 (first_of end (out_list g x)) 0
 started end g marks met x xs exist once marked =
     record {
       done = [];
@@ -324,6 +360,7 @@ started end g marks met x xs exist once marked =
       start = λ n m. m;
       later = [];
       begins = sym (append-nil (x ∷ xs));
+      inside = λ n m. tt;
       closed = λ u v m j. absurd m;
       half = λ j x lt a. absurd (omega (arith, lt));
       met_only = λ n m. inl m;

@@ -9,7 +9,7 @@ use Rattle.daggy_base.proofs.Adding.{reaches_itself, reaches_before, no_round}
 use Rattle.daggy_reduction.specs.Closing.{behind, IsClosure, IsChildBehind}
 use Rattle.daggy_reduction.proofs.Paths.{reaches_one, round_through}
 
-last_step : {N E : Type 0} (g : Graph N E) (w x : ℕ) (rest : List ℕ) → IsPath g (w ∷ x ∷ rest) → (m : ℕ) × Reaches g w m × AreJoined g m (end_of x rest)
+pub last_step : {N E : Type 0} (g : Graph N E) (w x : ℕ) (rest : List ℕ) → IsPath g (w ∷ x ∷ rest) → (m : ℕ) × Reaches g w m × AreJoined g m (end_of x rest)
 last_step g w x [] p = (w, reaches_itself g w p.0, p.1)
 last_step g w x (y ∷ rest) p = let later = last_step g x y rest p.2 in (later.0, reaches_before g w x later.0 p.0 p.1 later.1, later.2)
 

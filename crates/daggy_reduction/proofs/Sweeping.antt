@@ -11,35 +11,42 @@ use Rattle.daggy_reduction.specs.Flags.{IsFlagged, LeavesRound, FlagsRound}
 use Rattle.daggy_reduction.proofs.Paths.{has_last}
 use Rattle.daggy_reduction.proofs.Queueing.{take_none, lists_append}
 
-pub record Sweeping {N E : Type 0} (end : ℕ) (g₀ g : Graph N E) (below flags : List ℕ) (k looks₀ looks : ℕ) : Type 0 where
+-- a number for each node of a list, summed
+abbrev pub total : (ℕ → ℕ) → List ℕ → ℕ
+total cost [] = 0
+total cost (x ∷ xs) = cost x + total cost xs
+
+total_append : (cost : ℕ → ℕ) (xs : List ℕ) (x : ℕ) → total cost (xs ++ x ∷ []) ≡ total cost xs + cost x
+total_append cost [] x = omega arith
+total_append cost (y ∷ ys) x = omega (arith, total_append cost ys x)
+
+-- where a search from a node has that cost
+pub record Sweeping {N E : Type 0} (end : ℕ) (g₀ g : Graph N E) (cost : ℕ → ℕ) (below flags : List ℕ) (k looks₀ looks : ℕ) : Type 0 where
   pub same : g ≡ g₀
   pub only : (e : ℕ) → IsFlagged end flags e → (u : ℕ) × Mem u (take k below) × LeavesRound g₀ u e
   pub all : (u e : ℕ) → Mem u (take k below) → LeavesRound g₀ u e → IsFlagged end flags e
-  pub counted : looks ≤ looks₀ + (k + 1) * edge_count g₀ + length (lists_of g₀ (take k below))
-
-one_more : (k m : ℕ) → (k + 1) * m ≡ k * m + m
-one_more k m = let is : k + 1 ≡ suc k = omega arith in ap (λ z. z * m) is ∙ suc-mul k m
+  pub counted : looks ≤ looks₀ + edge_count g₀ + total cost (take k below) + length (lists_of g₀ (take k below))
 
 more_times : (a b m : ℕ) → a ≤ b → a * m ≤ b * m
 more_times zero b m h = omega (arith, zero-mul m)
 more_times (suc a) zero m h = absurd (omega (arith, h))
 more_times (suc a) (suc b) m h = let less = more_times a b m (omega (arith, h)) in omega (arith, less, suc-mul a m, suc-mul b m)
 
-pub sweep_start : {N E : Type 0} (end : ℕ) (g₀ g : Graph N E) (below flags : List ℕ) (looks₀ looks : ℕ) → g ≡ g₀ → ((e : ℕ) → IsFlagged end flags e → ⊥) → looks ≤ looks₀ + edge_count g₀ → Sweeping end g₀ g below flags 0 looks₀ looks
-sweep_start end g₀ g below flags looks₀ looks same none counted =
+pub sweep_start : {N E : Type 0} (end : ℕ) (g₀ g : Graph N E) (cost : ℕ → ℕ) (below flags : List ℕ) (looks₀ looks : ℕ) → g ≡ g₀ → ((e : ℕ) → IsFlagged end flags e → ⊥) → looks ≤ looks₀ + edge_count g₀ → Sweeping end g₀ g cost below flags 0 looks₀ looks
+sweep_start end g₀ g cost below flags looks₀ looks same none counted =
     record {
       same = same;
       only = λ e f. absurd (none e f);
       all = λ u e m l. (let P : List ℕ → Type 0 = λ z. Mem u z in absurd (subst P (take_none below) m));
-      counted = omega (arith, counted, one_more 0 (edge_count g₀));
+      counted = omega (arith, counted, ap (total cost) (take_none below));
     }
 
-module _ {N E : Type 0} {end : ℕ} {g₀ g : Graph N E} {below flags : List ℕ} {k looks₀ looks : ℕ} (s : Sweeping end g₀ g below flags k looks₀ looks) where
-  pub sweep_on : k < length below → (u : ℕ) → u ≡ get_or below k u → {g' : Graph N E} {flags' : List ℕ} {looks' : ℕ} → g' ≡ g → FlagsRound end g u flags flags' → looks' ≤ looks + edge_count g + length (out_list g u) → Sweeping end g₀ g' below flags' (k + 1) looks₀ looks'
+module _ {N E : Type 0} {end : ℕ} {g₀ g : Graph N E} {cost : ℕ → ℕ} {below flags : List ℕ} {k looks₀ looks : ℕ} (s : Sweeping end g₀ g cost below flags k looks₀ looks) where
+  pub sweep_on : k < length below → (u : ℕ) → u ≡ get_or below k u → {g' : Graph N E} {flags' : List ℕ} {looks' : ℕ} → g' ≡ g → FlagsRound end g u flags flags' → looks' ≤ looks + cost u + length (out_list g u) → Sweeping end g₀ g' cost below flags' (k + 1) looks₀ looks'
   sweep_on low u is {g'} {flags'} {looks'} same' round counted' =
       let longer : take (k + 1) below ≡ take k below ++ u ∷ [] = take_more below k u low ∙ ap (λ z. take k below ++ z ∷ []) (sym is) in
       let R : Graph N E → Type 0 = λ z. FlagsRound end z u flags flags' in
-      let C : Graph N E → Type 0 = λ z. looks' ≤ looks + edge_count z + length (out_list z u) in
+      let C : Graph N E → Type 0 = λ z. looks' ≤ looks + cost u + length (out_list z u) in
       let flagged = subst R s.same round in
       let few = subst C s.same counted' in
       record {
@@ -58,8 +65,12 @@ module _ {N E : Type 0} {end : ℕ} {g₀ g : Graph N E} {below flags : List ℕ
               | inr b ↦ elim b [ inl here ↦ inr (subst L here l) | inr none ↦ absurd none ]
             ])
             );
-        counted = omega (arith, s.counted, few, one_more (k + 1) (edge_count g₀), ap (λ z. length (lists_of g₀ z)) longer, lists_append g₀ (take k below) u);
+        counted = omega (arith, s.counted, few, ap (total cost) longer, total_append cost (take k below) u, ap (λ z. length (lists_of g₀ z)) longer, lists_append g₀ (take k below) u);
       }
+
+pub total_few : (cost : ℕ → ℕ) (m : ℕ) (us : List ℕ) → ((u : ℕ) → Mem u us → cost u ≤ m) → total cost us ≤ length us * m
+total_few cost m [] each = omega (arith, zero-mul m)
+total_few cost m (u ∷ us) each = omega (arith, each u (inl refl), total_few cost m us (λ v h. each v (inr h)), suc-mul (length us) m)
 
 some_there : {A : Type 0} (xs : List (Option A)) (x : ℕ) → IsSome (slot xs x) → is_some (get_or xs x None) ≡ true
 some_there [] x h = absurd cc
@@ -69,7 +80,7 @@ some_there (y ∷ xs) (suc x) h = some_there xs x h
 pub below_exists : {N E : Type 0} (g : Graph N E) (roots : List ℕ) (n : ℕ) → IsBelow g roots n → HasNode g n
 below_exists g roots n b = let P : ℕ → Type 0 = λ z. HasNode g z in subst P b.3.2 (has_last g b.0 b.3.0 b.3.1)
 
-module _ {N E : Type 0} {end : ℕ} {g₀ g : Graph N E} (w : IsWellFormed end g₀) (roots : List ℕ) {below flags : List ℕ} {k looks₀ looks : ℕ} (s : Sweeping end g₀ g below flags k looks₀ looks) (past : length below ≤ k) (exact : (n : ℕ) → Contains below n ↔ IsBelow g₀ roots n) (distinct : AreDistinct below) where
+module _ {N E : Type 0} {end : ℕ} {g₀ g : Graph N E} (w : IsWellFormed end g₀) (roots : List ℕ) {cost : ℕ → ℕ} {below flags : List ℕ} {k looks₀ looks : ℕ} (s : Sweeping end g₀ g cost below flags k looks₀ looks) (past : length below ≤ k) (exact : (n : ℕ) → Contains below n ↔ IsBelow g₀ roots n) (distinct : AreDistinct below) where
   whole : take k below ≡ below
   whole = take_all k below past
 
@@ -103,14 +114,19 @@ module _ {N E : Type 0} {end : ℕ} {g₀ g : Graph N E} (w : IsWellFormed end g
       go x has = some_there g₀.nodes x has
 
   -- one search for each node below, and each list read once more before and after them
-  pub looks_few : k ≤ length below → looks ≤ looks₀ + (node_count g₀ + 2) * edge_count g₀
-  looks_few within =
-      let m = edge_count g₀ in
+  pub looks_total : looks ≤ looks₀ + 2 * edge_count g₀ + total cost below
+  looks_total =
       let lists = lists_few end g₀ w below (unique_from_distinct below distinct) in
+      omega (arith, s.counted, ap (λ z. length (lists_of g₀ z)) whole, ap (total cost) whole, lists)
+
+  -- no search takes more looks than there are edges
+  pub looks_few : ((u : ℕ) → Mem u below → cost u ≤ edge_count g₀) → looks ≤ looks₀ + (node_count g₀ + 2) * edge_count g₀
+  looks_few each =
+      let m = edge_count g₀ in
       let more = more_times (length below + 2) (node_count g₀ + 2) m (omega (arith, few_nodes)) in
-      let same_k : (k + 1) * m ≡ (length below + 1) * m = ap (λ z. (z + 1) * m) (omega (arith, within, past)) in
       let last : (length below + 2) * m ≡ (length below + 1) * m + m = ap (λ z. z * m) (omega arith) ∙ suc-mul (length below + 1) m in
-      omega (arith, s.counted, ap (λ z. length (lists_of g₀ z)) whole, lists, more, same_k, last)
+      let last' : (length below + 1) * m ≡ length below * m + m = ap (λ z. z * m) (omega arith) ∙ suc-mul (length below) m in
+      omega (arith, looks_total, total_few cost m below each, more, last, last')
 
 pub redundant_low : {N E : Type 0} (g : Graph N E) (roots : List ℕ) (e : ℕ) → IsRedundant g roots e → e < edge_bound g
 redundant_low {N} {E} g roots e r = let P : Option (Edge E) → Type 0 = λ z. IsSome z in below_bound g.edges e (subst P (sym r.at) cc)

@@ -1,3 +1,4 @@
 pub mod Comparing
 pub mod Closing
 pub mod Flags
+pub mod Stretching

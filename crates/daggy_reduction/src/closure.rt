@@ -35,7 +35,7 @@ pub(crate) fn enter<Ix: IndexType>(
 }
 
 #[inline]
-fn mark_unless_first(met: &mut Marks, head: usize, i: usize)
+pub(crate) fn mark_unless_first(met: &mut Marks, head: usize, i: usize)
     requires { i < length met.old }
     ensures later { head ≢ 0 → met.new ≡ slice_set met.old i true }
     ensures first { head ≡ 0 → met.new ≡ met.old }

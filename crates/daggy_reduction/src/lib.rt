@@ -1,6 +1,7 @@
 //! The transitive reduction: which edges it removes, and what it keeps and loses.
 #![tactic(auto)]
 
+pub mod bounded;
 mod closure;
 mod flags;
 pub mod pairs;

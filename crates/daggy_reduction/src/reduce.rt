@@ -1,16 +1,18 @@
 //! The reduction of any store.
 ghost use Rattle.std.specs.Prelude.{◌≡◌, ℕ, ◌+◌, ◌*◌, ◌≤◌, map, reverse, Contains, OnOk, OnErr};
 ghost use Rattle.daggy_base.specs.Graph.{HasEdge, node_count, edge_count};
-ghost use Rattle.daggy_base.specs.Path.{IsAcyclic};
 ghost use Rattle.daggy_base.specs.Removal.{without_edges};
 ghost use Rattle.daggy_base.specs.WellFormed.{IsWellFormed};
 ghost use Rattle.daggy_base.specs.Reduction.{IsReduction};
+ghost use Rattle.daggy_order.specs.Ordered.{IsOrderOf};
 ghost use Rattle.daggy_reduction.specs.Comparing.{IsAscending, JoinsAll};
+ghost use Rattle.daggy_reduction.specs.Stretching.{all_spanned};
 
-use crate::redundant::find_redundant;
+use crate::bounded::find_redundant_in;
 use daggy_base::index::{EdgeIndex, IndexType, NodeIndex};
 use daggy_base::search::Scratch;
 use daggy_base::store::Store;
+use daggy_order::order::Order;
 use std::alloc::AllocError;
 
 // Removes the edges of a list, the last one first.
@@ -33,10 +35,11 @@ fn remove_edges<Ix: IndexType, S: Store<Ix>>(store: &mut S, edges: &[EdgeIndex<I
 /// The only refusal is that the scratch cannot grow to the bounds of the graph.
 pub fn transitive_reduce<Ix: IndexType, S: Store<Ix>>(
     store: &mut S,
+    order: &Order<Ix>,
     scratch: &mut Scratch<Ix>,
     roots: &[NodeIndex<Ix>],
 ) -> Result<(), AllocError>
-    requires { IsAcyclic (S.graph store.old) }
+    requires { IsOrderOf (S.graph store.old) order.now }
     ensures reduced { OnOk result (IsReduction S.kind (map Ix.number roots.now) (S.graph store.old) (S.graph store.new)) }
     ensures well_formed { IsWellFormed Ix.greatest (S.graph store.old) }
     ensures unchanged { OnErr result (S.graph store.new ≡ S.graph store.old) }
@@ -44,14 +47,17 @@ pub fn transitive_reduce<Ix: IndexType, S: Store<Ix>>(
     ensures fewer { JoinsAll (S.graph store.new) (S.graph store.old) }
     ensures counted { OnOk result (S.looks store.new ≤ S.looks store.old
         + (node_count (S.graph store.old) + 2) * edge_count (S.graph store.old)) }
+    ensures spanned { OnOk result (S.looks store.new ≤ S.looks store.old
+        + 2 * edge_count (S.graph store.old) + all_spanned (S.graph store.old) order.now order.now) }
     ensures unlooked { OnErr result (S.looks store.new ≡ S.looks store.old) }
     ensures room { scratch.old.nodes ≤ scratch.new.nodes }
 {
     let nodes = store.node_bound();
     let edges = store.edge_bound();
     scratch.reserve(nodes, edges)?;
-    let count = find_redundant(
+    let count = find_redundant_in(
         store,
+        order,
         roots,
         &mut scratch.marks,
         &mut scratch.left,

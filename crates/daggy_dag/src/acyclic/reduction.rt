@@ -24,7 +24,8 @@ where
     /// removes it, and their weights are dropped.
     ///
     /// The error says that there was no memory to search in. The cost is that of one search for each node that the roots
-    /// reach, and of the removals.
+    /// reach, and of the removals. In the order that the dag keeps, no search goes on from a node that stands after the
+    /// last child of the one that it is for.
     pub fn transitive_reduce(&mut self, roots: Vec<NodeIndex<Ix>>) -> Result<(), AllocError>
         ensures reduced { OnOk result (IsReduction S.kind (map Ix.number roots.items) self.old.graph self.new.graph) }
         ensures reachability { OnOk result (HaveSameReachability self.old.graph self.new.graph) }
@@ -39,6 +40,11 @@ where
         ensures counted { self.new.looks ≤ self.old.looks
             + (node_count_of self.old.graph + 2) * edge_count_of self.old.graph }
     {
-        reduce::transitive_reduce(&mut self.store, &mut self.scratch, roots.as_slice())
+        reduce::transitive_reduce(
+            &mut self.store,
+            &self.order,
+            &mut self.scratch,
+            roots.as_slice(),
+        )
     }
 }

@@ -1,7 +1,7 @@
 use Rattle.std.proofs.Common.{rules, ◌≡◌, ◌≢◌, ◌+◌, ◌≤◌, ◌∙◌, sym, ap, refl, arith, length}
 use Rattle.daggy_base.specs.Graph.{out_list}
 use Rattle.daggy_base.specs.Cursor.{first_of}
-use Rattle.daggy_reduction.proofs.Draining.{few, looked_once, edge_here, head_low, child_low, room_here, visited, next_here, is_closure, meets_children, starts_here}
+use Rattle.daggy_reduction.proofs.Draining.{few, looked_once, edge_here, head_low, child_low, room_here, entered, visited, next_here, is_closure, meets_children, starts_here}
 use Rattle.daggy_reduction.proofs.closure.close.Goals as goal
 
 pub steps-init : goal.steps-init
@@ -85,4 +85,5 @@ steps-preserved g c =
     let here : g.Ix.IndexType.number c.steps.e ≢ g.Ix.IndexType.greatest = λ h. c.if-index-end.false cc in
     let s = c.steps.invariant in
     let at = c.index-else-index-end.ensures.value in
-    visited c.requires.well_formed s here c.look-v.ensures.gives c.look-v.ensures.same c.look-v.ensures.counted c.enter-len.ensures.there c.enter-len.ensures.put (rw (sym at) c.mark_unless_first.ensures.later) c.mark_unless_first.ensures.first
+    visited c.requires.well_formed s here c.look-v.ensures.gives c.look-v.ensures.same c.look-v.ensures.counted
+    (entered c.requires.well_formed s here c.look-v.ensures.gives tt c.enter-len.ensures.there c.enter-len.ensures.put) (rw (sym at) c.mark_unless_first.ensures.later) c.mark_unless_first.ensures.first

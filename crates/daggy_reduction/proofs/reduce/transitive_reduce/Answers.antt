@@ -4,6 +4,7 @@ use Rattle.std.proofs.lemmas.List.{take-map, with_items_is}
 use Rattle.daggy_base.specs.Graph.{Graph, Edge, HasEdge}
 use Rattle.daggy_base.specs.Removal.{Kind, without_edges}
 use Rattle.daggy_base.specs.Reduction.{IsReduction, IsRedundant}
+use Rattle.daggy_order.proofs.OrderLaws.{acyclic_from_order}
 use Rattle.daggy_reduction.specs.Comparing.{IsAscending}
 use Rattle.daggy_reduction.proofs.Descending.{reduced, nodes_kept}
 use Rattle.daggy_reduction.proofs.Laws.{law_fewer}
@@ -21,50 +22,50 @@ reduced_so kind roots old {mid} {new} {handed} {gone} is same removed up exact =
 pub remove_edges-requires-clause-ascending : goal.remove_edges-requires-clause-ascending
 remove_edges-requires-clause-ascending g c =
     let found = c.scratch.inside.found in
-    let edges = c.find_redundant-count.new.edges in
-    let long : length edges ≡ found.len = omega (arith, c.find_redundant-count.ensures.edges_kept, ap (λ (z : List g.row.Ix.Denot). length z) c.as_mut_slice-3.ensures.value, found.ok.0) in
-    let is = front_is g.Ix.IndexType.number c.find_redundant-count.result found edges c.deref.result.now c.deref.ensures.value long in
+    let edges = c.find_redundant_in-count.new.edges in
+    let long : length edges ≡ found.len = omega (arith, c.find_redundant_in-count.ensures.edges_kept, ap (λ (z : List g.row.Ix.Denot). length z) c.as_mut_slice-3.ensures.value, found.ok.0) in
+    let is = front_is g.Ix.IndexType.number c.find_redundant_in-count.result found edges c.deref.result.now c.deref.ensures.value long in
     let P : List ℕ → Type 0 = λ z. IsAscending z in
-    subst P (sym is) c.find_redundant-count.ensures.ascending
+    subst P (sym is) c.find_redundant_in-count.ensures.ascending
 
 pub remove_edges-requires-clause-exist : goal.remove_edges-requires-clause-exist
 remove_edges-requires-clause-exist g c =
     let found = c.scratch.inside.found in
-    let edges = c.find_redundant-count.new.edges in
-    let long : length edges ≡ found.len = omega (arith, c.find_redundant-count.ensures.edges_kept, ap (λ (z : List g.row.Ix.Denot). length z) c.as_mut_slice-3.ensures.value, found.ok.0) in
-    let is = front_is g.Ix.IndexType.number c.find_redundant-count.result found edges c.deref.result.now c.deref.ensures.value long in
+    let edges = c.find_redundant_in-count.new.edges in
+    let long : length edges ≡ found.len = omega (arith, c.find_redundant_in-count.ensures.edges_kept, ap (λ (z : List g.row.Ix.Denot). length z) c.as_mut_slice-3.ensures.value, found.ok.0) in
+    let is = front_is g.Ix.IndexType.number c.find_redundant_in-count.result found edges c.deref.result.now c.deref.ensures.value long in
     λ e m. (
     let M : List ℕ → Type 0 = λ z. Contains z e in
     let H : Option (Edge g.row.S-EdgeWeight.Denot) → Type 0 = λ z. IsSome z in
     let G : Graph g.row.S-NodeWeight.Denot g.row.S-EdgeWeight.Denot → Type 0 = λ z. HasEdge z e in
-    let red = (c.find_redundant-count.ensures.exact e).0 (subst M is m) in
-    subst G (sym c.find_redundant-count.ensures.same) (subst H (sym red.at) cc)
+    let red = (c.find_redundant_in-count.ensures.exact e).0 (subst M is m) in
+    subst G (sym c.find_redundant_in-count.ensures.same) (subst H (sym red.at) cc)
     )
 
 pub returns-clause-reduced : goal.returns-clause-reduced
 returns-clause-reduced g c =
     let found = c.scratch.inside.found in
-    let edges = c.find_redundant-count.new.edges in
-    let long : length edges ≡ found.len = omega (arith, c.find_redundant-count.ensures.edges_kept, ap (λ (z : List g.row.Ix.Denot). length z) c.as_mut_slice-3.ensures.value, found.ok.0) in
-    let is = front_is g.Ix.IndexType.number c.find_redundant-count.result found edges c.deref.result.now c.deref.ensures.value long in
+    let edges = c.find_redundant_in-count.new.edges in
+    let long : length edges ≡ found.len = omega (arith, c.find_redundant_in-count.ensures.edges_kept, ap (λ (z : List g.row.Ix.Denot). length z) c.as_mut_slice-3.ensures.value, found.ok.0) in
+    let is = front_is g.Ix.IndexType.number c.find_redundant_in-count.result found edges c.deref.result.now c.deref.ensures.value long in
     let roots = map g.Ix.IndexType.number c.args.roots.now in
-    let found = c.find_redundant-count.ensures in
+    let found = c.find_redundant_in-count.ensures in
     reduced_so g.S.Store.kind roots (g.S.EdgeSource.graph c.args.store.now) is found.same c.remove_edges.ensures.removed found.ascending found.exact
 
 pub returns-clause-fewer : goal.returns-clause-fewer
 returns-clause-fewer g c =
     let found = c.scratch.inside.found in
-    let edges = c.find_redundant-count.new.edges in
-    let long : length edges ≡ found.len = omega (arith, c.find_redundant-count.ensures.edges_kept, ap (λ (z : List g.row.Ix.Denot). length z) c.as_mut_slice-3.ensures.value, found.ok.0) in
-    let is = front_is g.Ix.IndexType.number c.find_redundant-count.result found edges c.deref.result.now c.deref.ensures.value long in
+    let edges = c.find_redundant_in-count.new.edges in
+    let long : length edges ≡ found.len = omega (arith, c.find_redundant_in-count.ensures.edges_kept, ap (λ (z : List g.row.Ix.Denot). length z) c.as_mut_slice-3.ensures.value, found.ok.0) in
+    let is = front_is g.Ix.IndexType.number c.find_redundant_in-count.result found edges c.deref.result.now c.deref.ensures.value long in
     let roots = map g.Ix.IndexType.number c.args.roots.now in
-    let found = c.find_redundant-count.ensures in
+    let found = c.find_redundant_in-count.ensures in
     let reduction = reduced_so g.S.Store.kind roots (g.S.EdgeSource.graph c.args.store.now) is found.same c.remove_edges.ensures.removed found.ascending found.exact in
-    law_fewer g.S.Store.kind roots (g.S.EdgeSource.graph c.args.store.now) (g.S.EdgeSource.graph c.remove_edges.new.store) c.requires c.node_bound-nodes.ensures.well_formed reduction
+    law_fewer g.S.Store.kind roots (g.S.EdgeSource.graph c.args.store.now) (g.S.EdgeSource.graph c.remove_edges.new.store) (acyclic_from_order _ c.requires) c.node_bound-nodes.ensures.well_formed reduction
 
 pub returns-clause-nodes : goal.returns-clause-nodes
 returns-clause-nodes g c =
-    let handed = map g.Ix.IndexType.number (take c.find_redundant-count.result c.deref.result.now) in
+    let handed = map g.Ix.IndexType.number (take c.find_redundant_in-count.result c.deref.result.now) in
     ap (λ (z : Graph g.row.S-NodeWeight.Denot g.row.S-EdgeWeight.Denot). z.nodes) c.remove_edges.ensures.removed
-    ∙ nodes_kept g.S.Store.kind (reverse handed) (g.S.EdgeSource.graph c.find_redundant-count.new.source)
-    ∙ ap (λ (z : Graph g.row.S-NodeWeight.Denot g.row.S-EdgeWeight.Denot). z.nodes) c.find_redundant-count.ensures.same
+    ∙ nodes_kept g.S.Store.kind (reverse handed) (g.S.EdgeSource.graph c.find_redundant_in-count.new.source)
+    ∙ ap (λ (z : Graph g.row.S-NodeWeight.Denot g.row.S-EdgeWeight.Denot). z.nodes) c.find_redundant_in-count.ensures.same

@@ -1,5 +1,6 @@
 use Rattle.std.proofs.Common.{◌≡◌, ◌<◌, ◌≤◌, length, map, take, get_or, sym, ap, ◌∙◌, arith, Contains}
 use Rattle.std.proofs.lemmas.List.{length-take-le, get_or-take}
+use Rattle.daggy_base.specs.Graph.{edge_count}
 use Rattle.daggy_reduction.proofs.Sweeping.{sweep_on, below_exists, flags_redundant, looks_few}
 use Rattle.daggy_reduction.proofs.redundant.flag_redundant.Goals as goal
 
@@ -30,7 +31,7 @@ nodes-preserved g c =
       met = c.flag_round.ensures.met_kept ∙ inv.met;
       queue = c.flag_round.ensures.queue_kept ∙ inv.queue;
       flags = c.flag_round.ensures.flags_kept ∙ inv.flags;
-      sweep = sweep_on inv.sweep low u is c.flag_round.ensures.same c.flag_round.ensures.flagged c.flag_round.ensures.counted;
+      sweep = sweep_on inv.sweep low u is c.flag_round.ensures.same c.flag_round.ensures.flagged (omega (arith, c.flag_round.ensures.counted, ap edge_count inv.sweep.same));
     }
 
 pub returns-clause-flagged : goal.returns-clause-flagged
@@ -46,4 +47,4 @@ returns-clause-counted g c =
     let below = c.enter_below-count.new.queue in
     let sized = length-take-le count below c.enter_below-count.ensures.within in
     let past : length (take count below) ≤ c.nodes.k = omega (arith, c.nodes-test.false, sized) in
-    looks_few c.node_bound-well_formed.ensures.well_formed (map g.Ix.IndexType.number c.args.roots.now) c.nodes.invariant.sweep past c.enter_below-count.ensures.below c.enter_below-count.ensures.distinct (omega (arith, c.nodes.invariant.within, sized))
+    looks_few c.node_bound-well_formed.ensures.well_formed (map g.Ix.IndexType.number c.args.roots.now) c.nodes.invariant.sweep past c.enter_below-count.ensures.below c.enter_below-count.ensures.distinct (λ u m. omega arith)

@@ -1,4 +1,5 @@
 use Rattle.std.proofs.Common.{◌≡◌, ◌-◌, ◌≤◌, length, map, take}
+use Rattle.daggy_base.specs.Graph.{edge_count}
 use Rattle.daggy_reduction.proofs.Sweeping.{Sweeping}
 use Rattle.daggy_reduction.proofs.redundant.flag_redundant.Given as goal
 
@@ -10,7 +11,7 @@ invariant-nodes g l =
       met : length l.met ≡ length l.fn.met;
       queue : length l.queue ≡ length l.fn.queue;
       flags : length l.flags ≡ length l.fn.flags;
-      sweep : Sweeping g.Ix.IndexType.greatest (g.S.EdgeSource.graph l.fn.source) (g.S.EdgeSource.graph l.source) (take l.count l.below) (map g.Ix.IndexType.number l.flags) l.k (g.S.EdgeSource.looks l.fn.source) (g.S.EdgeSource.looks l.source);
+      sweep : Sweeping g.Ix.IndexType.greatest (g.S.EdgeSource.graph l.fn.source) (g.S.EdgeSource.graph l.source) (λ _. edge_count (g.S.EdgeSource.graph l.fn.source)) (take l.count l.below) (map g.Ix.IndexType.number l.flags) l.k (g.S.EdgeSource.looks l.fn.source) (g.S.EdgeSource.looks l.source);
     }
 
 abbrev pub decreases-nodes : goal.decreases-nodes

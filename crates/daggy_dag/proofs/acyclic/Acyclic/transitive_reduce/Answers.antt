@@ -112,4 +112,4 @@ pub returns-clause-acyclic : goal.returns-clause-acyclic
 returns-clause-acyclic g c = acyclic_from_order _ (invariant_of-self g c).0
 
 pub transitive_reduce-requires : goal.transitive_reduce-requires
-transitive_reduce-requires g c = acyclic_from_order _ c.self.invariant.0
+transitive_reduce-requires g c = c.self.invariant.0

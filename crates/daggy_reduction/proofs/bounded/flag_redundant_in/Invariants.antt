@@ -1,0 +1,18 @@
+use Rattle.std.proofs.Common.{◌≡◌, ◌-◌, ◌≤◌, length, map, take}
+use Rattle.daggy_reduction.specs.Stretching.{edges_spanned}
+use Rattle.daggy_reduction.proofs.Sweeping.{Sweeping}
+use Rattle.daggy_reduction.proofs.bounded.flag_redundant_in.Given as goal
+
+abbrev pub invariant-nodes : goal.invariant-nodes
+invariant-nodes g l =
+    record {
+      within : l.k ≤ l.count;
+      entered : length l.entered ≡ length l.fn.entered;
+      met : length l.met ≡ length l.fn.met;
+      queue : length l.queue ≡ length l.fn.queue;
+      flags : length l.flags ≡ length l.fn.flags;
+      sweep : Sweeping g.Ix.IndexType.greatest (g.S.EdgeSource.graph l.fn.source) (g.S.EdgeSource.graph l.source) (edges_spanned (g.S.EdgeSource.graph l.fn.source) l.order) (take l.count l.below) (map g.Ix.IndexType.number l.flags) l.k (g.S.EdgeSource.looks l.fn.source) (g.S.EdgeSource.looks l.source);
+    }
+
+abbrev pub decreases-nodes : goal.decreases-nodes
+decreases-nodes g l = l.count - l.k

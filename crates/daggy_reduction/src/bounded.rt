@@ -1,0 +1,229 @@
+//! Which edges a longer way makes redundant, by an order of the nodes.
+ghost use Rattle.std.specs.Prelude.{◌≡◌, ℕ, ◌+◌, ◌*◌, ◌≤◌, ◌↔◌, ◌⊎◌, true, false, map, length, take, slice_index_or, Contains};
+ghost use Rattle.daggy_base.specs.Graph.{HasNode, out_list, node_bound, edge_bound, node_count, edge_count};
+ghost use Rattle.daggy_base.specs.Path.{AreJoined};
+ghost use Rattle.daggy_base.specs.WellFormed.{IsWellFormed};
+ghost use Rattle.daggy_base.specs.Reduction.{IsRedundant, ReachesRound};
+ghost use Rattle.daggy_order.specs.Ordered.{IsOrderOf};
+ghost use Rattle.daggy_reduction.specs.Flags.{IsFlagged, FlagsRound};
+ghost use Rattle.daggy_reduction.specs.Comparing.{IsAscending};
+ghost use Rattle.daggy_reduction.specs.Stretching.{edges_spanned, all_spanned};
+
+use crate::closure::{enter, mark_unless_first};
+use crate::flags::{flag_marked, gather_flagged, unflag};
+use crate::roots::enter_below;
+use daggy_base::index::{EdgeIndex, IndexType, NodeIndex};
+use daggy_base::link::Link;
+use daggy_base::search::{EdgeSource, Marks, Scratch};
+use daggy_order::order::Order;
+
+// Gives marks in `met` to those children of `u` to which a longer way leads. Such a way stays before the last child, so
+// only nodes that stand before it are entered.
+pub(crate) fn meet_round<Ix: IndexType, S: EdgeSource<Ix>>(
+    source: &mut S,
+    order: &Order<Ix>,
+    u: NodeIndex<Ix>,
+    entered: &mut Marks,
+    met: &mut Marks,
+    queue: &mut [Link<Ix>],
+)
+    requires well_formed { IsWellFormed Ix.greatest (S.graph source.old) }
+    requires ordered { IsOrderOf (S.graph source.old) order.now }
+    requires exists { HasNode (S.graph source.old) (Ix.number u) }
+    requires cleared { (n : ℕ) → slice_index_or entered.old n false ≡ false }
+    requires entered_fit { node_bound (S.graph source.old) ≤ length entered.old }
+    requires met_fit { node_bound (S.graph source.old) ≤ length met.old }
+    requires queue_fits { length entered.old ≤ length queue.old }
+    ensures same { S.graph source.new ≡ S.graph source.old }
+    ensures met { (v : ℕ) → AreJoined (S.graph source.old) (Ix.number u) v → (slice_index_or met.new v false ≡ true)
+        ↔ ((slice_index_or met.old v false ≡ true) ⊎ ReachesRound (S.graph source.old) (Ix.number u) v) }
+    ensures counted { S.looks source.new ≤ S.looks source.old + edges_spanned (S.graph source.old) order.now (Ix.number u) }
+    ensures entered_kept { length entered.new ≡ length entered.old }
+    ensures met_kept { length met.new ≡ length met.old }
+    ensures queue_kept { length queue.new ≡ length queue.old }
+{
+    let end = EdgeIndex::<Ix>::end().index();
+    let mut last = u;
+    let mut len = 0;
+    let mut e = source.first(u);
+    'children: while e.index() != end {
+        let (v, next) = source.look(e);
+        if order.stands_before(last, v) {
+            len = enter(entered, queue, len, last);
+            last = v;
+        } else if order.stands_before(v, last) {
+            len = enter(entered, queue, len, v);
+        }
+        e = next;
+    }
+    if len == 0 {
+        return;
+    }
+    let mut head = 0;
+    'steps: loop {
+        if e.index() == end {
+            head += 1;
+            if head == len {
+                return;
+            }
+            e = source.first(queue[head].node());
+        } else {
+            let (v, next) = source.look(e);
+            if order.stands_before(v, last) {
+                len = enter(entered, queue, len, v);
+            }
+            mark_unless_first(met, head, v.index());
+            e = next;
+        }
+    }
+}
+
+// Flags the edges of `u` to whose children a longer way leads.
+fn flag_round_in<Ix: IndexType, S: EdgeSource<Ix>>(
+    source: &mut S,
+    order: &Order<Ix>,
+    u: NodeIndex<Ix>,
+    entered: &mut Marks,
+    met: &mut Marks,
+    queue: &mut [Link<Ix>],
+    flags: &mut [EdgeIndex<Ix>],
+)
+    requires well_formed { IsWellFormed Ix.greatest (S.graph source.old) }
+    requires ordered { IsOrderOf (S.graph source.old) order.now }
+    requires exists { HasNode (S.graph source.old) (Ix.number u) }
+    requires entered_fit { node_bound (S.graph source.old) ≤ length entered.old }
+    requires met_fit { node_bound (S.graph source.old) ≤ length met.old }
+    requires queue_fits { length entered.old ≤ length queue.old }
+    requires flags_fit { edge_bound (S.graph source.old) ≤ length flags.old }
+    ensures same { S.graph source.new ≡ S.graph source.old }
+    ensures flagged { FlagsRound Ix.greatest (S.graph source.old) (Ix.number u) (map Ix.number flags.old) (map Ix.number flags.new) }
+    ensures counted { S.looks source.new ≤ S.looks source.old
+        + edges_spanned (S.graph source.old) order.now (Ix.number u)
+        + length (out_list (S.graph source.old) (Ix.number u)) }
+    ensures entered_kept { length entered.new ≡ length entered.old }
+    ensures met_kept { length met.new ≡ length met.old }
+    ensures queue_kept { length queue.new ≡ length queue.old }
+    ensures flags_kept { length flags.new ≡ length flags.old }
+{
+    entered.clear();
+    met.clear();
+    meet_round(source, order, u, entered, met, queue);
+    flag_marked(source, u, met, flags);
+}
+
+// Flags the edges that are redundant below some roots: at the places of those edges `flags` has an index, and at all
+// other places `end`.
+fn flag_redundant_in<Ix: IndexType, S: EdgeSource<Ix>>(
+    source: &mut S,
+    order: &Order<Ix>,
+    roots: &[NodeIndex<Ix>],
+    entered: &mut Marks,
+    met: &mut Marks,
+    below: &mut [Link<Ix>],
+    queue: &mut [Link<Ix>],
+    flags: &mut [EdgeIndex<Ix>],
+)
+    requires ordered { IsOrderOf (S.graph source.old) order.now }
+    requires entered_fit { node_bound (S.graph source.old) ≤ length entered.old }
+    requires met_fit { node_bound (S.graph source.old) ≤ length met.old }
+    requires below_fits { length entered.old ≤ length below.old }
+    requires queue_fits { length entered.old ≤ length queue.old }
+    requires flags_fit { edge_bound (S.graph source.old) ≤ length flags.old }
+    ensures same { S.graph source.new ≡ S.graph source.old }
+    ensures flagged { (e : ℕ) → IsFlagged Ix.greatest (map Ix.number flags.new) e
+        ↔ IsRedundant (S.graph source.old) (map Ix.number roots.now) e }
+    ensures counted { S.looks source.new ≤ S.looks source.old
+        + (node_count (S.graph source.old) + 2) * edge_count (S.graph source.old) }
+    ensures spanned { S.looks source.new ≤ S.looks source.old
+        + 2 * edge_count (S.graph source.old) + all_spanned (S.graph source.old) order.now order.now }
+    ensures entered_kept { length entered.new ≡ length entered.old }
+    ensures met_kept { length met.new ≡ length met.old }
+    ensures below_kept { length below.new ≡ length below.old }
+    ensures queue_kept { length queue.new ≡ length queue.old }
+    ensures flags_kept { length flags.new ≡ length flags.old }
+{
+    let _well_formed = source.node_bound();
+    unflag(flags);
+    let count = enter_below(source, roots, entered, met, below);
+    let mut k = 0;
+    'nodes: while k < count {
+        flag_round_in(source, order, below[k].node(), entered, met, queue, flags);
+        k += 1;
+    }
+}
+
+// Puts the edges that are redundant below some roots in front of a list, and gives how many there are.
+pub(crate) fn find_redundant_in<Ix: IndexType, S: EdgeSource<Ix>>(
+    source: &mut S,
+    order: &Order<Ix>,
+    roots: &[NodeIndex<Ix>],
+    entered: &mut Marks,
+    met: &mut Marks,
+    below: &mut [Link<Ix>],
+    queue: &mut [Link<Ix>],
+    edges: &mut [EdgeIndex<Ix>],
+) -> usize
+    requires ordered { IsOrderOf (S.graph source.old) order.now }
+    requires entered_fit { node_bound (S.graph source.old) ≤ length entered.old }
+    requires met_fit { node_bound (S.graph source.old) ≤ length met.old }
+    requires below_fits { length entered.old ≤ length below.old }
+    requires queue_fits { length entered.old ≤ length queue.old }
+    requires edges_fit { edge_bound (S.graph source.old) ≤ length edges.old }
+    ensures same { S.graph source.new ≡ S.graph source.old }
+    ensures within { result ≤ length edges.new }
+    ensures ascending { IsAscending (take result (map Ix.number edges.new)) }
+    ensures exact { (e : ℕ) → Contains (take result (map Ix.number edges.new)) e
+        ↔ IsRedundant (S.graph source.old) (map Ix.number roots.now) e }
+    ensures counted { S.looks source.new ≤ S.looks source.old
+        + (node_count (S.graph source.old) + 2) * edge_count (S.graph source.old) }
+    ensures spanned { S.looks source.new ≤ S.looks source.old
+        + 2 * edge_count (S.graph source.old) + all_spanned (S.graph source.old) order.now order.now }
+    ensures entered_kept { length entered.new ≡ length entered.old }
+    ensures met_kept { length met.new ≡ length met.old }
+    ensures below_kept { length below.new ≡ length below.old }
+    ensures queue_kept { length queue.new ≡ length queue.old }
+    ensures edges_kept { length edges.new ≡ length edges.old }
+{
+    let _well_formed = source.node_bound();
+    let bound = source.edge_bound();
+    flag_redundant_in(source, order, roots, entered, met, below, queue, edges);
+    gather_flagged(edges, bound)
+}
+
+/// [`redundant_edges`](crate::redundant::redundant_edges) by an order in which every parent stands before its children.
+///
+/// The search from a node enters only nodes that stand before its last child. A longer way to a child passes through no
+/// others.
+pub fn redundant_edges_in<Ix: IndexType, S: EdgeSource<Ix>>(
+    source: &mut S,
+    order: &Order<Ix>,
+    roots: &[NodeIndex<Ix>],
+    scratch: &mut Scratch<Ix>,
+    edges: &mut [EdgeIndex<Ix>],
+) -> usize
+    requires ordered { IsOrderOf (S.graph source.old) order.now }
+    requires nodes_fit { node_bound (S.graph source.old) ≤ scratch.old.nodes }
+    requires edges_fit { edge_bound (S.graph source.old) ≤ length edges.old }
+    ensures same { S.graph source.new ≡ S.graph source.old }
+    ensures within { result ≤ length edges.new }
+    ensures ascending { IsAscending (take result (map Ix.number edges.new)) }
+    ensures exact { (e : ℕ) → Contains (take result (map Ix.number edges.new)) e
+        ↔ IsRedundant (S.graph source.old) (map Ix.number roots.now) e }
+    ensures counted { S.looks source.new ≤ S.looks source.old
+        + (node_count (S.graph source.old) + 2) * edge_count (S.graph source.old) }
+    ensures spanned { S.looks source.new ≤ S.looks source.old
+        + 2 * edge_count (S.graph source.old) + all_spanned (S.graph source.old) order.now order.now }
+    ensures room { scratch.new ≡ scratch.old }
+    ensures edges_kept { length edges.new ≡ length edges.old }
+{
+    find_redundant_in(
+        source,
+        order,
+        roots,
+        &mut scratch.marks,
+        &mut scratch.left,
+        scratch.stack.as_mut_slice(),
+        scratch.cursors.as_mut_slice(),
+        edges,
+    )
+}
