@@ -4,7 +4,7 @@ use Rattle.daggy_base.specs.Graph.{Graph}
 use Rattle.daggy_base.specs.Path.{IsAcyclic}
 use Rattle.daggy_reduction_tests.proofs.tests.check.Goals as goal
 
-pub flag_redundant-requires-clause-acyclic : goal.flag_redundant-requires-clause-acyclic
-flag_redundant-requires-clause-acyclic g c =
+pub redundant_edges-count-requires-clause-acyclic : goal.redundant_edges-count-requires-clause-acyclic
+redundant_edges-count-requires-clause-acyclic g c =
     let P : Graph ℕ ℕ → Type 0 = λ z. IsAcyclic z in
     subst P (sym c.is_acyclic.ensures.same) (c.is_acyclic.ensures.decided.0 c.holds.ensures)
