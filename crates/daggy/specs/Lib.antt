@@ -28,6 +28,7 @@ pub use Rattle.daggy_base.specs.Calls
 pub use Rattle.daggy_cells.specs.Raw
 pub use Rattle.daggy_order.specs.Ordered
 pub use Rattle.daggy_reduction.specs.Comparing
+pub use Rattle.daggy_reduction.specs.Stretching
 pub use Rattle.daggy_base.specs.Look
 pub use Rattle.daggy_base.specs.Errors
 pub use Rattle.daggy_base.specs.Room

@@ -2,4 +2,6 @@
 #![tactic(auto)]
 
 #[cfg(test)]
+mod ordered;
+#[cfg(test)]
 mod tests;

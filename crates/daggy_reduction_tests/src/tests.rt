@@ -1,6 +1,7 @@
 //! Redundant edges of small graphs, and of one with more paths than could be walked.
 ghost use Rattle.std.specs.Prelude.{◌≡◌, IsTrue, Ok};
 
+use crate::ordered::Ordered;
 use daggy_base::index::{EdgeIndex, NodeIndex};
 use daggy_base::search::{EdgeSource, Scratch, is_acyclic};
 use daggy_base::store::Store;
@@ -12,13 +13,13 @@ use std::process::Abort;
 
 type Small = DiGraph<u32, u32, u8>;
 
-fn holds(rt: &impl Abort, fact: bool)
+pub fn holds(rt: &impl Abort, fact: bool)
     ensures { IsTrue fact }
 {
     assert!(rt; fact);
 }
 
-fn made<T: Drop, E: Drop>(rt: &impl Abort, answer: Result<T, E>) -> T
+pub fn made<T: Drop, E: Drop>(rt: &impl Abort, answer: Result<T, E>) -> T
     ensures { answer ≡ Ok result }
 {
     match answer {
@@ -250,4 +251,16 @@ fn a_full_dag_is_reduced(rt: HostRuntime) {
     made(&rt, roots.push(node(&rt, 0)));
     made(&rt, dag.transitive_reduce(roots));
     holds(&rt, dag.edge_count() == 255);
+}
+
+#[test]
+fn an_order_bounds_each_search(rt: HostRuntime) {
+    let mut graph = Ordered::new(rt.alloc());
+    for _ in 0..5 {
+        graph.add_node(&rt);
+    }
+    for (a, b) in TEXTBOOK {
+        holds(&rt, graph.add_edge(&rt, node(&rt, a), node(&rt, b)));
+    }
+    graph.check(&rt, rt.alloc(), &[node(&rt, 0)], &[2, 3, 6], 31);
 }
