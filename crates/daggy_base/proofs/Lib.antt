@@ -17,7 +17,6 @@ pub mod Outliving
 pub mod Finding
 pub mod Neighbors
 pub mod Newest
-pub mod Unreached
 pub mod NodeTaking
 pub mod Reweighing
 pub mod TakingBack

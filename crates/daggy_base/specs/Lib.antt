@@ -8,6 +8,7 @@ pub mod Reduction
 pub mod Cursor
 pub mod Finding
 pub mod Look
+pub mod Sorting
 pub mod State
 pub mod Room
 pub mod Weights

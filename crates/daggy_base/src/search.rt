@@ -12,7 +12,7 @@ mod marks;
 mod scratch;
 mod source;
 
-pub use cycles::is_acyclic;
+pub use cycles::{is_acyclic, sort_nodes};
 pub use looks::Looks;
 pub use marks::Marks;
 pub use scratch::Scratch;
