@@ -1,4 +1,5 @@
 pub mod Sorted
+pub mod Sorting
 pub mod Standing
 pub mod Bounded
 pub mod Parting

@@ -16,6 +16,7 @@ mod nodes;
 mod partition;
 mod search;
 mod slots;
+mod sorting;
 
 pub use edge::order_edge;
 pub use nodes::Nodes;
