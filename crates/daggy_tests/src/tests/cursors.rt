@@ -1,5 +1,5 @@
 use super::support::{Plain, add_child, add_edge, add_node, same};
-use crate::cursors::clear_weights;
+use daggy_definitions::cursors::clear_weights;
 use daggy::EdgeIndex;
 
 #[test]

@@ -1,5 +1,5 @@
 use super::support::{connect, holds, made};
-use crate::round::Round;
+use daggy_definitions::round::Round;
 use daggy::NodeIndex;
 use daggy::graph::DiGraph;
 use daggy::search::{EdgeSource, Scratch, reaches};

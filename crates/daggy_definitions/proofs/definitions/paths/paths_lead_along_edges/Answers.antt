@@ -1,0 +1,14 @@
+use Rattle.daggy_definitions.proofs.Paths.{chain_reaches_its_end, ring_reaches_round, chain_reaches_no_start, siblings_reach_not}
+use Rattle.daggy_definitions.proofs.definitions.paths.paths_lead_along_edges.Goals as goal
+
+pub returns-clause-along : goal.returns-clause-along
+returns-clause-along c = chain_reaches_its_end
+
+pub returns-clause-round : goal.returns-clause-round
+returns-clause-round c = ring_reaches_round
+
+pub returns-clause-against : goal.returns-clause-against
+returns-clause-against c = chain_reaches_no_start
+
+pub returns-clause-across : goal.returns-clause-across
+returns-clause-across c = siblings_reach_not
