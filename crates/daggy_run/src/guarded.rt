@@ -151,10 +151,7 @@ pub trait GuardedDag<N, E, Ix: IndexType> {
         ensures acyclic { IsAcyclic (graph self.new) };
 
     /// Adds all the edges, or none of them. It gives their indices in the order in which they were given.
-    fn add_edges(
-        &mut self,
-        edges: Vec<NewEdge<E, Ix>>,
-    ) -> Result<Vec<EdgeIndex<Ix>>, EdgesError<E>>
+    fn add_edges(&mut self, edges: Vec<NewEdge<E, Ix>>) -> Result<Vec<EdgeIndex<Ix>>, EdgesError<E>>
         ensures added { IfOk result (λ indices. AddsAll Ix.greatest (graph self.old) (map (by_numbers Ix.number) edges.items)
             (map Ix.number indices.items) (graph self.new)) }
         ensures refused { IfErr result (λ error. IsRefused Ix.greatest (graph self.old) (map (by_numbers Ix.number) edges.items) error) }

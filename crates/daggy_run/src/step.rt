@@ -125,7 +125,10 @@ fn add_edges<N: Drop, E: Drop, Ix: IndexType, D: GuardedDag<N, E, Ix>>(
 {
     match dag.add_edges(edges) {
         Ok(indices) => Reply::Edges(indices),
-        Err(EdgesError::BadEndpoint { last, before }) => Reply::Missing(Back::Edges { last, before }),
+        Err(EdgesError::BadEndpoint { last, before }) => Reply::Missing(Back::Edges {
+            last,
+            before,
+        }),
         Err(EdgesError::Full { last, before }) => Reply::Full(Back::Edges { last, before }),
         Err(EdgesError::Memory { last, before }) => Reply::Memory(Back::Edges { last, before }),
         Err(EdgesError::WouldCycle(refused)) => Reply::CycleAll(refused.0),
