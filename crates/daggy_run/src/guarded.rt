@@ -24,7 +24,7 @@ use daggy_base::error::{ChildError, EdgeError, EdgesError, NodeError};
 use daggy_base::index::{EdgeIndex, IndexType, NodeIndex};
 use std::alloc::AllocError;
 
-// mod acyclic;
+mod acyclic;
 
 /// What a removal does with the place that it leaves.
 #[derive(Clone, Copy, Debug, PartialEq, Eq)]
