@@ -8,10 +8,10 @@ use Rattle.daggy_base.specs.Adding.{with_edge}
 use Rattle.daggy_base.specs.Removal.{Kind, Compact}
 use Rattle.daggy_base.specs.Finding.{find_edge}
 use Rattle.daggy_guard.specs.Series.{NewEdge, with_edges, HasEnds, IsFaultless, LacksEnd, LacksIndex, weights_back}
-use Rattle.daggy_run.specs.EdgeLists.{AddsAll, StopsAt, ClosesCycle}
+use Rattle.daggy_run.specs.EdgeLists.{StopsAt}
 use Rattle.daggy_run.specs.Requests as request
 use Rattle.daggy_run.specs.Requests.{Request}
-use Rattle.daggy_run.specs.Answers.{Answer, Node, Edge, EdgeNode, Edges, Found, Ends, Walk, Done, Missing, Full, Cycle, CycleAll, Memory, OfNothing, OfNode, OfEdge, OfEdgeNode, OfEdges}
+use Rattle.daggy_run.specs.Answers.{Answer, Node, Edge, EdgeNode, Edges, Found, Ends, Walk, Done, Missing, Full, Cycle, CycleAll, Memory, OfNode, OfEdge, OfEdgeNode, OfEdges}
 use Rattle.daggy_run.specs.Steps.{IsStep, IsEdgeStep, IsUpdateStep, IsNeighborStep, IsSeriesStep}
 use Rattle.daggy_run.specs.Runs.{IsRun, IsForBothKinds, FindsMemory, IsAsCompact}
 use Rattle.daggy_run.proofs.Running.{compact_run}
