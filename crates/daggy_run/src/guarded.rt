@@ -17,6 +17,7 @@ ghost use Rattle.daggy_base.specs.declared.error.EdgeError.TheVariants.{WouldCyc
 ghost use Rattle.daggy_base.specs.declared.error.ChildError.TheVariants.{Memory as ChildMemory};
 ghost use Rattle.daggy_guard.specs.Series.{by_numbers};
 ghost use Rattle.daggy_run.specs.Kinds.{kind_of};
+ghost use Rattle.daggy_run.specs.declared.guarded.Kind.{Kind as DagKind};
 ghost use Rattle.daggy_run.specs.Steps.{walk_of};
 ghost use Rattle.daggy_run.specs.EdgeLists.{AddsAll, IsRefused};
 
@@ -53,9 +54,11 @@ pub trait GuardedDag<N, E, Ix: IndexType> {
     // What a removal does with a slot.
     ghost kind: { SlotKind };
 
+    // The same at run time.
+    ghost KIND: { DagKind };
+
     /// The kind of the dag.
-    fn kind_of_slots() -> Kind
-        ensures { kind_of result ≡ kind };
+    const KIND: Kind;
 
     /// Whether the node exists.
     fn has_node(&self, n: NodeIndex<Ix>) -> bool
@@ -225,4 +228,7 @@ pub trait GuardedDag<N, E, Ix: IndexType> {
     fn child_edge(&self, e: EdgeIndex<Ix>) -> (NodeIndex<Ix>, EdgeIndex<Ix>)
         requires { HasEdge (graph self.now) (Ix.number e) }
         ensures { IsLook Ix.greatest (graph self.now) (Ix.number e) (Ix.number result.0) (Ix.number result.1) };
+
+    // The kind that is told is the kind that there is.
+    ghost tells: { kind_of KIND ≡ kind };
 }

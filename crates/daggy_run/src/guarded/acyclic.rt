@@ -17,6 +17,9 @@ ghost use Rattle.daggy_base.specs.declared.error.EdgeError.TheVariants.{WouldCyc
 ghost use Rattle.daggy_base.specs.declared.error.ChildError.TheVariants.{Memory as ChildMemory};
 ghost use Rattle.daggy_guard.specs.Series.{by_numbers};
 ghost use Rattle.daggy_run.specs.Kinds.{kind_of};
+ghost use Rattle.daggy_run.specs.declared.guarded.Kind.{Kind as DagKind};
+ghost use Rattle.daggy_run.specs.declared.guarded.Kind.TheVariants.{Compact, Stable};
+ghost use Rattle.std.specs.Prelude.{refl};
 ghost use Rattle.daggy_run.specs.Steps.{walk_of};
 ghost use Rattle.daggy_run.specs.EdgeLists.{AddsAll, IsRefused};
 
@@ -34,21 +37,30 @@ use std::alloc::{AllocError, Global};
 
 /// A store that tells its kind.
 pub trait TellsKind<Ix: IndexType>: Store<Ix> {
+    // What a removal does with a slot of the store.
+    ghost KIND: { DagKind };
+
     /// What a removal does with a slot of the store.
-    fn kind_of_slots() -> Kind
-        ensures { kind_of result ≡ Self.kind };
+    const KIND: Kind;
+
+    // The kind that is told is the kind that there is.
+    ghost tells: { kind_of KIND ≡ Self.kind };
 }
 
 impl<N: Drop, E: Drop, Ix: IndexType> TellsKind<Ix> for DiGraph<N, E, Ix> {
-    fn kind_of_slots() -> Kind {
-        Kind::Compact
-    }
+    ghost KIND = { Compact };
+
+    const KIND: Kind = Kind::Compact;
+
+    ghost tells = { refl };
 }
 
 impl<N: Drop, E: Drop, Ix: IndexType> TellsKind<Ix> for StableDiGraph<N, E, Ix> {
-    fn kind_of_slots() -> Kind {
-        Kind::Stable
-    }
+    ghost KIND = { Stable };
+
+    const KIND: Kind = Kind::Stable;
+
+    ghost tells = { refl };
 }
 
 // The edges of a node's list of that direction with their far ends.
@@ -78,11 +90,11 @@ where
 
     ghost kind = { S.kind };
 
-    fn kind_of_slots() -> Kind
-        ensures { kind_of result ≡ S.kind }
-    {
-        S::kind_of_slots()
-    }
+    ghost KIND = { S.KIND };
+
+    const KIND: Kind = S::KIND;
+
+    ghost tells = { S.tells };
 
     #[inline]
     fn has_node(&self, n: NodeIndex<Ix>) -> bool
