@@ -3,7 +3,7 @@
 use daggy_base::index::{DefaultIx, EdgeIndex, NodeIndex};
 
 /// What is asked of a dag. Any index may be named, also one that does not exist.
-#[derive(Debug, Drop)]
+#[derive(Debug, Drop, PartialEq)]
 pub enum Command<N, E, Ix = DefaultIx> {
     /// Add a node of this weight.
     Node(N),
@@ -38,7 +38,7 @@ pub enum Command<N, E, Ix = DefaultIx> {
 }
 
 /// What a command is answered.
-#[derive(Debug, Drop)]
+#[derive(Debug, Drop, PartialEq)]
 pub enum Reply<N, E, Ix = DefaultIx> {
     /// The node that was added.
     Node(NodeIndex<Ix>),
@@ -73,7 +73,7 @@ pub enum Reply<N, E, Ix = DefaultIx> {
 }
 
 /// The weights of a command that was not carried out.
-#[derive(Debug, Drop)]
+#[derive(Debug, Drop, PartialEq)]
 pub enum Back<N, E> {
     /// The command had none.
     Nothing,

@@ -35,7 +35,8 @@ pub fn run<N: Drop, E: Drop, Ix: IndexType, D: GuardedDag<N, E, Ix>>(
         return Err(commands);
     }
     'commands: for command in commands {
-        replies.push_reserved(perform(dag, command));
+        let reply = perform(dag, command);
+        replies.push_reserved(reply);
     }
     Ok(replies)
 }

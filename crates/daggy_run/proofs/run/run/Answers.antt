@@ -18,9 +18,9 @@ pub commands-preserved : goal.commands-preserved
 commands-preserved g c = record {
   can = tt;
   ends = tt;
-  run = run_on g.D.GuardedDag.kind g.Ix.IndexType.greatest _ _ _ _ _ _ _ _ _ _ c.commands.invariant.run c.perform.ensures.step c.push_reserved.ensures.items;
+  run = run_on g.D.GuardedDag.kind g.Ix.IndexType.greatest _ _ _ _ _ _ _ _ _ _ c.commands.invariant.run c.perform-reply.ensures.step c.push_reserved.ensures.items;
   room = omega (arith, c.in-Some.ensures.steps.1, c.push_reserved.ensures.len, c.push_reserved.ensures.capacity, c.commands.invariant.room);
-  acyclic = c.perform.ensures.acyclic;
+  acyclic = c.perform-reply.ensures.acyclic;
 }
 
 pub returns-clause-run : goal.returns-clause-run
