@@ -31,6 +31,18 @@ impl<Ix: IndexType> EdgeIndices<Ix> {
     {
         EdgeIndices { indices, at: 0 }
     }
+
+    /// The indices that were not given yet, as a list. Takes no memory, and if none was given moves nothing.
+    pub fn into_vec(self) -> Vec<EdgeIndex<Ix>>
+        ensures { map Ix.number result.items ≡ self }
+    {
+        let at = self.at;
+        let mut indices = self.indices;
+        if at > 0 {
+            drop(indices.drain(..at));
+        }
+        indices
+    }
 }
 
 impl<Ix: IndexType> Iterator for EdgeIndices<Ix> {

@@ -1,0 +1,4 @@
+pub mod Running
+pub mod Agreeing
+pub mod Walking
+pub mod Listing

@@ -1,0 +1,7 @@
+//! Lists of commands over a dag of either kind, each with its reply.
+#![tactic(auto)]
+
+pub mod command;
+pub mod guarded;
+pub mod run;
+pub mod step;

@@ -1,0 +1,5 @@
+//! Commands and lists of commands to both kinds of dag, by example.
+#![tactic(auto)]
+
+#[cfg(test)]
+mod tests;
