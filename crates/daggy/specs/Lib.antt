@@ -35,3 +35,9 @@ pub use Rattle.daggy_base.specs.Room
 pub use Rattle.daggy_base.specs.Directions
 pub use Rattle.daggy_base.specs.Externals
 pub use Rattle.daggy_cells.specs.Referring
+pub use Rattle.daggy_run.specs.Kinds
+pub use Rattle.daggy_run.specs.Requests
+pub use Rattle.daggy_run.specs.Answers
+pub use Rattle.daggy_run.specs.EdgeLists
+pub use Rattle.daggy_run.specs.Steps
+pub use Rattle.daggy_run.specs.Runs

@@ -27,6 +27,8 @@ use std::alloc::AllocError;
 
 mod acyclic;
 
+pub use acyclic::TellsKind;
+
 /// What a removal does with the place that it leaves.
 #[derive(Clone, Copy, Debug, PartialEq, Eq)]
 pub enum Kind {

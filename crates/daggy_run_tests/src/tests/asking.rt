@@ -49,7 +49,11 @@ fn go_along<D: GuardedDag<u32, u32, u8>>(rt: &impl Abort, dag: &mut D) {
     same(rt, dag.node_bound(), 3);
     same(rt, dag.first_child(n(0)), e(1));
     same(rt, dag.first_child(n(2)), EdgeIndex::end());
-    same(rt, dag.edge_endpoints(e(1)).is_some(), true);
+    let newest = e(1);
+    let Some(_ends) = dag.edge_endpoints(newest) else {
+        panic!(rt; "the edge is there");
+    };
+    same(rt, dag.child_edge(newest), (n(2), e(0)));
 }
 
 #[test]
