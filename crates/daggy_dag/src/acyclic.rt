@@ -35,6 +35,7 @@ mod graph;
 mod recursive;
 mod reduction;
 mod series;
+mod slots;
 mod stable;
 mod topological;
 mod visit;
