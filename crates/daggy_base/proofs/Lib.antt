@@ -21,3 +21,6 @@ pub mod Unreached
 pub mod NodeTaking
 pub mod Reweighing
 pub mod TakingBack
+pub mod SlotLists
+pub mod Orders
+pub mod Turns

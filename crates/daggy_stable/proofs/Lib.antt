@@ -10,7 +10,6 @@ pub mod Bounds
 pub mod Filling
 pub mod Copying
 pub mod Mapping
-pub mod Descending
 pub mod Building
 pub mod Keeping
 pub mod Passing
