@@ -15,6 +15,7 @@ mod count;
 pub mod cursors;
 mod debug;
 mod filter;
+mod given;
 pub mod iterators;
 pub mod lists;
 mod map;
