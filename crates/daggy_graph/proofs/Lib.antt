@@ -12,4 +12,5 @@ pub mod FilterLemmas
 pub mod RestLemmas
 pub mod Keeping
 pub mod Building
+pub mod Ordering
 pub mod Reading

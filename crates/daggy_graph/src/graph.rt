@@ -19,6 +19,7 @@ mod given;
 pub mod iterators;
 pub mod lists;
 mod map;
+mod ordering;
 mod pairs;
 mod raw;
 mod removal;

@@ -11,6 +11,7 @@ pub mod Filling
 pub mod Copying
 pub mod Mapping
 pub mod Building
+pub mod Ordering
 pub mod Keeping
 pub mod Passing
 pub mod Listing

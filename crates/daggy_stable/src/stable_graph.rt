@@ -16,6 +16,7 @@ mod given;
 pub mod iterators;
 pub mod lists;
 mod map;
+mod ordering;
 mod pairs;
 mod removal;
 mod room;
