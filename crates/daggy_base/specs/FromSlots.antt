@@ -39,6 +39,10 @@ of_slots nodes edges =
 abbrev pub edge_of : {I E : Type 0} → (number : I → ℕ) → I × I × E → Edge E
 edge_of number x = record { parent = number x.0; child = number x.1; weight = x.2 }
 
+-- slots of edges, which name their ends by index
+abbrev pub edges_by : {I E : Type 0} → (number : I → ℕ) → List (Option (I × I × E)) → List (Option (Edge E))
+edges_by number edges = map (option_map (edge_of number)) edges
+
 -- slots that make a graph: there is an index for each, and both ends of each edge are nodes
 pub record MakeGraph {N E : Type 0} (limit : ℕ) (nodes : List (Option N)) (edges : List (Option (Edge E))) : Type 0 where
   pub few_nodes : length nodes ≤ limit

@@ -2,7 +2,7 @@
 ghost use Rattle.std.specs.Prelude.{◌≡◌, ◌≤◌, [], map, length, vec_capacity, IfOk};
 ghost use Rattle.std.specs.Option.{option_map};
 ghost use Rattle.daggy_base.specs.Graph.{IsCompact};
-ghost use Rattle.daggy_base.specs.FromSlots.{vacant_down, of_slots, edge_of, MakeGraph};
+ghost use Rattle.daggy_base.specs.FromSlots.{vacant_down, of_slots, edge_of, edges_by, MakeGraph};
 ghost use Rattle.daggy_cells.specs.Fields.{weight_of, plain_edge};
 ghost use Rattle.daggy_graph.specs.Stored.{IsBuilt};
 
@@ -77,9 +77,9 @@ impl<N, E, Ix: IndexType> DiGraph<N, E, Ix> {
     where
         N: Drop,
         E: Drop,
-        requires slots { MakeGraph Ix.greatest nodes.items (map (option_map (edge_of Ix.number)) edges.items) }
-        requires full { IsCompact (of_slots nodes.items (map (option_map (edge_of Ix.number)) edges.items)) }
-        ensures { IfOk result (λ g. g ≡ record { graph = of_slots nodes.items (map (option_map (edge_of Ix.number)) edges.items); looks = 0 }) }
+        requires slots { MakeGraph Ix.greatest nodes.items (edges_by Ix.number edges.items) }
+        requires full { IsCompact (of_slots nodes.items (edges_by Ix.number edges.items)) }
+        ensures { IfOk result (λ g. g ≡ record { graph = of_slots nodes.items (edges_by Ix.number edges.items); looks = 0 }) }
     {
         let mut new_nodes = Vec::with_capacity(alloc, nodes.len())?;
         let mut new_edges = Vec::with_capacity(alloc, edges.len())?;

@@ -1,7 +1,7 @@
 //! A graph that is made of given slots.
 ghost use Rattle.std.specs.Prelude.{◌≡◌, ◌≤◌, [], map, length, vec_capacity, IfOk};
 ghost use Rattle.std.specs.Option.{option_map};
-ghost use Rattle.daggy_base.specs.FromSlots.{of_slots, edge_of, MakeGraph};
+ghost use Rattle.daggy_base.specs.FromSlots.{of_slots, edge_of, edges_by, MakeGraph};
 ghost use Rattle.daggy_stable.specs.Stored.{weight_of, plain_edge};
 ghost use Rattle.daggy_stable.specs.Building.{IsBuilt};
 
@@ -73,8 +73,8 @@ impl<N, E, Ix: IndexType> StableDiGraph<N, E, Ix> {
     where
         N: Drop,
         E: Drop,
-        requires { MakeGraph Ix.greatest nodes.items (map (option_map (edge_of Ix.number)) edges.items) }
-        ensures { IfOk result (λ g. g ≡ record { graph = of_slots nodes.items (map (option_map (edge_of Ix.number)) edges.items); looks = 0 }) }
+        requires { MakeGraph Ix.greatest nodes.items (edges_by Ix.number edges.items) }
+        ensures { IfOk result (λ g. g ≡ record { graph = of_slots nodes.items (edges_by Ix.number edges.items); looks = 0 }) }
     {
         let mut node_slots = Slots::with_capacity(alloc, nodes.len())?;
         let mut edge_slots = Slots::with_capacity(alloc, edges.len())?;
