@@ -20,3 +20,6 @@ pub mod Newest
 pub mod NodeTaking
 pub mod Reweighing
 pub mod TakingBack
+pub mod SlotLists
+pub mod Orders
+pub mod Turns

@@ -1,5 +1,5 @@
 -- The graph that given slots make.
-use Rattle.std.specs.Prelude.{ℕ, zero, suc, ◌==◌, Bool, false, not, Option, is_some, List, [], ◌∷◌, length, map, unwrap_or, if◌then◌else◌}
+use Rattle.std.specs.Prelude.{◌≡◌, ℕ, zero, suc, ◌≤◌, ◌==◌, Bool, false, not, Option, Some, IsSome, is_some, List, [], ◌∷◌, length, map, unwrap_or, if◌then◌else◌}
 use Rattle.std.specs.List.{range_with_len}
 use Rattle.std.specs.Option.{option_map}
 use Rattle.daggy_base.specs.declared.index.Direction.{Direction}
@@ -34,3 +34,18 @@ of_slots nodes edges =
       vacant_nodes = vacant_down nodes;
       vacant_edges = vacant_down edges;
     }
+
+-- the edge from the first of two indices to the second
+abbrev pub edge_of : {I E : Type 0} → (number : I → ℕ) → I × I × E → Edge E
+edge_of number x = record { parent = number x.0; child = number x.1; weight = x.2 }
+
+-- slots of edges, which name their ends by index
+abbrev pub edges_by : {I E : Type 0} → (number : I → ℕ) → List (Option (I × I × E)) → List (Option (Edge E))
+edges_by number edges = map (option_map (edge_of number)) edges
+
+-- slots that make a graph: there is an index for each, and both ends of each edge are nodes
+pub record MakeGraph {N E : Type 0} (limit : ℕ) (nodes : List (Option N)) (edges : List (Option (Edge E))) : Type 0 where
+  pub few_nodes : length nodes ≤ limit
+  pub few_edges : length edges ≤ limit
+  pub parents : (e : ℕ) (x : Edge E) → slot edges e ≡ Some x → IsSome (slot nodes x.parent)
+  pub children : (e : ℕ) (x : Edge E) → slot edges e ≡ Some x → IsSome (slot nodes x.child)

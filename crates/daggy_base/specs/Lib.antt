@@ -18,6 +18,7 @@ pub mod Externals
 pub mod Mapping
 pub mod Filtering
 pub mod FromSlots
+pub mod Orders
 pub mod FilteringInPlace
 pub mod Rewriting
 pub mod Iterating

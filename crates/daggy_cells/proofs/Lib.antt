@@ -5,6 +5,8 @@ pub mod States
 pub mod RedirectLemmas
 pub mod Reowning
 pub mod Isolation
+pub mod Threading
+pub mod Ordering
 pub mod EmptyLists
 pub mod CellLemmas
 pub mod CloneLemmas

@@ -6,10 +6,10 @@ use Rattle.std.specs.List.{filter_map, cons_option, range_with_len}
 use Rattle.std.specs.Option.{option_map}
 use Rattle.daggy_base.specs.declared.index.Direction.{Direction}
 use Rattle.daggy_base.specs.Cursor.{first_of}
-use Rattle.daggy_base.specs.Graph.{Edge as PlainEdge, slot}
+use Rattle.daggy_base.specs.Graph.{Edge as PlainEdge}
 use Rattle.daggy_cells.specs.declared.cell.Edge.{Edge}
 use Rattle.daggy_base.specs.Iterating.{numbered}
-use Rattle.daggy_cells.specs.Links.{follow, row, IsRow}
+use Rattle.daggy_cells.specs.Links.{follow, IsRow}
 use Rattle.daggy_cells.specs.Raw.{raw_next}
 use Rattle.daggy_cells.specs.Rest.{edges_left, IsOnRow}
 use Rattle.daggy_cells.specs.Fields.{nexts_of, walk, plain}

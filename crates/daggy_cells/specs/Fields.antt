@@ -1,9 +1,10 @@
 -- What stored nodes and edges hold, in their lists. No public clause cites this module.
-use Rattle.std.specs.Prelude.{◌≡◌, ℕ, ◌<◌, ◌≤◌, Option, Some, List, length, map, slice_index, Contains}
+use Rattle.std.specs.Prelude.{◌≡◌, ℕ, ◌<◌, ◌≤◌, Option, Some, List, length, map, slice_index, slice_set, Contains}
 use Rattle.daggy_base.specs.Graph.{Graph, Edge as PlainEdge}
 use Rattle.daggy_base.specs.Removal.{renamed}
 use Rattle.daggy_cells.specs.Raw.{raw_first, raw_next}
-use Rattle.daggy_cells.specs.Links.{follow, rows_of, IsRow, Redirected}
+use Rattle.daggy_base.specs.Cursor.{first_of}
+use Rattle.daggy_cells.specs.Links.{follow, rows_of, IsRow, Redirected, Rethreads}
 use Rattle.daggy_cells.specs.declared.cell.Node.{Node}
 use Rattle.daggy_cells.specs.declared.cell.Edge.{Edge}
 use Rattle.daggy_base.specs.declared.index.Direction.{Direction}
@@ -89,3 +90,13 @@ abbrev pub Redirects : {N E Ix : Type 0} → Direction → List (Node N Ix) → 
 Redirects dir nodes edges old new nodes' edges' =
     let n = slice_index (ends_of dir edges) old in
     Redirected (walk dir edges (slice_index (firsts_of dir nodes) n)) n old new (firsts_of dir nodes) (nexts_of dir edges) (firsts_of dir nodes') (nexts_of dir edges')
+
+-- what `thread` promises: the list is the row of n
+pub record Threads {N E Ix : Type 0} (end : ℕ) (dir : Direction) (nodes : List (Node N Ix)) (edges : List (Edge E Ix)) (n : ℕ) (list : List ℕ) (nodes' : List (Node N Ix)) (edges' : List (Edge E Ix)) : Type 0 where
+  pub first : firsts_of dir nodes' ≡ slice_set (firsts_of dir nodes) n (first_of end list)
+  pub nexts : Rethreads end list (nexts_of dir edges) (nexts_of dir edges')
+
+-- the list of that direction of the two that are given for a node
+abbrev pub order_at : Direction → List ℕ × List ℕ → List ℕ
+order_at Outgoing p = p.0
+order_at Incoming p = p.1

@@ -42,3 +42,25 @@ pub record Redirected (list : List ℕ) (n old new : ℕ) (firsts nexts firsts' 
   pub same_length : length nexts' ≡ length nexts
   pub inside : (e : ℕ) → Contains list e → slice_get nexts' e ≡ option_map (renamed old new) (slice_get nexts e)
   pub outside : (e : ℕ) → ¬ Contains list e → slice_get nexts' e ≡ slice_get nexts e
+
+-- each element of the list has a link, and stands once
+pub record CanThread (count : ℕ) (list : List ℕ) : Type 0 where
+  pub once : AreDistinct list
+  pub within : (e : ℕ) → Contains list e → e < count
+
+-- the links of the list lead along it, and each other link is as it was
+pub record Rethreads (end : ℕ) (list nexts nexts' : List ℕ) : Type 0 where
+  pub same_length : length nexts' ≡ length nexts
+  pub inside : (e : ℕ) → Contains list e → slice_get nexts' e ≡ Some (after end list e)
+  pub outside : (e : ℕ) → ¬ Contains list e → slice_get nexts' e ≡ slice_get nexts e
+
+-- each row can be threaded, and none has an element of another
+pub record CanThreadAll (count : ℕ) (lists : List (List ℕ)) : Type 0 where
+  pub each : (n : ℕ) → CanThread count (row lists n)
+  pub apart : (n m e : ℕ) → Contains (row lists n) e → Contains (row lists m) e → n ≡ m
+
+-- the rows before the number i are threaded, and the links of what stands in no row are as they were
+pub record AreThreadedBelow (i end : ℕ) (nexts firsts' nexts' : List ℕ) (lists : List (List ℕ)) : Type 0 where
+  pub same_length : length nexts' ≡ length nexts
+  pub rows : (n : ℕ) → n < i → IsRow end nexts' (slice_index firsts' n) (row lists n)
+  pub others : (e : ℕ) → ((n : ℕ) → ¬ Contains (row lists n) e) → slice_get nexts' e ≡ slice_get nexts e

@@ -1,14 +1,16 @@
 //! The links between stored nodes and edges, and changes to them, for the stores that keep them.
 ghost use Rattle.std.specs.Prelude.{◌≡◌, ◌≢◌, ℕ, ◌<◌, ◌≤◌, ◌↔◌, length, map, slice_get, slice_set, slice_index, Contains, Some};
+ghost use Rattle.daggy_base.specs.declared.index.Direction.{Direction};
 ghost use Rattle.daggy_base.specs.declared.index.Direction.TheVariants.{Outgoing, Incoming};
 ghost use Rattle.daggy_base.specs.Cursor.{after};
-ghost use Rattle.daggy_cells.specs.Links.{IsRow};
+ghost use Rattle.daggy_base.specs.Orders.{numbers_of};
+ghost use Rattle.daggy_cells.specs.Links.{IsRow, CanThread};
 ghost use Rattle.daggy_cells.specs.Raw.{raw_first, raw_next};
-ghost use Rattle.daggy_cells.specs.Fields.{weight_of, with_first, end_at, with_next, with_end, reowned, firsts_of, nexts_of, ends_of, walk, bare, KeepsNodes, KeepsEdges, IsReady, Redirects};
+ghost use Rattle.daggy_cells.specs.Fields.{weight_of, plain_edge, with_first, end_at, with_next, with_end, reowned, firsts_of, nexts_of, ends_of, walk, bare, KeepsNodes, KeepsEdges, IsReady, Redirects, Threads, order_at};
 ghost use Rattle.daggy_cells.specs.MappedCells.{node_with, edge_with};
 
 use crate::cell::{Edge, Node};
-use daggy_base::index::{Direction, IndexType};
+use daggy_base::index::{Direction, EdgeIndex, IndexType};
 use daggy_base::link::Link;
 
 /// A stored node with empty lists.
@@ -246,6 +248,49 @@ pub fn reown<E, Ix: IndexType>(
         set_end(x, dir, to);
         e = next(x, dir);
     }
+}
+
+/// Threads the edges of `list`, in its order, as the list of that direction of the node `n`.
+pub fn thread<N, E, Ix: IndexType>(
+    nodes: &mut Vec<Node<N, Ix>>,
+    edges: &mut Vec<Edge<E, Ix>>,
+    dir: Direction,
+    n: usize,
+    list: &[EdgeIndex<Ix>],
+)
+    requires node { n < length nodes.old.items }
+    requires list { CanThread (length edges.old.items) (map Ix.number list.now) }
+    ensures links { Threads Ix.greatest dir nodes.old.items edges.old.items n (map Ix.number list.now) nodes.new.items edges.new.items }
+    ensures nodes { KeepsNodes dir nodes.old.items nodes.new.items }
+    ensures edges { KeepsEdges dir edges.old.items edges.new.items }
+{
+    let mut after = Link::end();
+    let mut left = list.len();
+    'back: while left > 0 {
+        left -= 1;
+        let e = Link::of_edge(list[left]);
+        let i = e.index();
+        set_next(&mut edges[i], dir, after);
+        after = e;
+    }
+    set_first(&mut nodes[n], dir, after);
+}
+
+/// Threads both lists of the node `n` in these orders, the out list and the in list.
+pub fn thread_both<N, E, Ix: IndexType>(
+    nodes: &mut Vec<Node<N, Ix>>,
+    edges: &mut Vec<Edge<E, Ix>>,
+    n: usize,
+    order: &(Vec<EdgeIndex<Ix>>, Vec<EdgeIndex<Ix>>),
+)
+    requires node { n < length nodes.old.items }
+    requires lists { (dir : Direction) → CanThread (length edges.old.items) (order_at dir (numbers_of Ix.number order.now)) }
+    ensures links { (dir : Direction) → Threads Ix.greatest dir nodes.old.items edges.old.items n (order_at dir (numbers_of Ix.number order.now)) nodes.new.items edges.new.items }
+    ensures nodes { map weight_of nodes.new.items ≡ map weight_of nodes.old.items }
+    ensures edges { map plain_edge edges.new.items ≡ map plain_edge edges.old.items }
+{
+    thread(nodes, edges, Direction::Outgoing, n, order.0.as_slice());
+    thread(nodes, edges, Direction::Incoming, n, order.1.as_slice());
 }
 
 /// Empties every list.

@@ -11,4 +11,6 @@ pub mod RewritingLemmas
 pub mod FilterLemmas
 pub mod RestLemmas
 pub mod Keeping
+pub mod Building
+pub mod Ordering
 pub mod Reading

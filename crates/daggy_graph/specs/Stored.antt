@@ -2,6 +2,7 @@
 use Rattle.std.specs.Prelude.{◌≡◌, ℕ, ◌≤◌, List, [], length, map}
 use Rattle.daggy_base.specs.Graph.{Graph}
 use Rattle.std.specs.List.{swap_remove}
+use Rattle.daggy_base.specs.FromSlots.{of_slots}
 use Rattle.daggy_base.specs.Removal.{Compact, without_edge}
 use Rattle.daggy_cells.specs.Links.{IsLinked, ListsEach}
 use Rattle.daggy_cells.specs.declared.cell.Node.{Node}
@@ -35,3 +36,7 @@ pub record Stores {N E Ix : Type 0} (end : ℕ) (nodes : List (Node N Ix)) (edge
 -- once the last edge takes the place of e, what is stored is the graph without e
 abbrev pub IsDetached : {N E Ix : Type 0} → (end : ℕ) → Graph N E → ℕ → List (Node N Ix) → List (Edge E Ix) → Type 0
 IsDetached {N} {E} {Ix} end g e nodes edges = (x : Edge E Ix) → Stores end nodes (swap_remove edges e x) (without_edge Compact g e)
+
+-- what is stored is the graph that these slots make
+abbrev pub IsBuilt : {N E Ix : Type 0} → (end : ℕ) → List (Node N Ix) → List (Edge E Ix) → Type 0
+IsBuilt end nodes edges = Stores end nodes edges (of_slots (map weight_of nodes) (map plain_edge edges))

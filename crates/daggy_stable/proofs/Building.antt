@@ -14,16 +14,17 @@ use Rattle.daggy_cells.specs.declared.cell.Node.{Node}
 use Rattle.daggy_cells.specs.declared.cell.Edge.{Edge}
 use Rattle.daggy_cells.specs.Links.{row, IsLinked, ListsBy}
 use Rattle.daggy_cells.specs.Raw.{raw_first, raw_next}
-use Rattle.daggy_base.specs.FromSlots.{of_slots, lists_down, vacant_down}
+use Rattle.daggy_base.specs.FromSlots.{of_slots, vacant_down}
 use Rattle.daggy_cells.specs.Fields.{firsts_of, nexts_of, lists_at}
 use Rattle.daggy_base.proofs.Lists.{Contains-here, Contains-there, slice_get-push_old, slice_get-push_new, slice_get-push_other, slice_get-set_other}
 use Rattle.daggy_cells.proofs.Rows.{after_here, after_there}
 use Rattle.daggy_cells.proofs.Threads.{row_push, linked_within, IsRow-kept, IsLinked-node, IsLinked-put, IsLinked-kept, ListsBy-put}
-use Rattle.daggy_cells.proofs.FieldLemmas.{same_graph, firsts_as_many}
+use Rattle.daggy_cells.proofs.FieldLemmas.{firsts_as_many}
 use Rattle.daggy_stable.specs.Stored.{weight_of, plain_edge, shown, row_firsts, end_of, IsThreaded, Stores}
-use Rattle.daggy_stable.proofs.Descending.{slot_push_new, slot_push_other, slot_past, vacant_down_more, lists_down-node, lists_down-vacant, lists_down-edge}
+use Rattle.daggy_base.proofs.SlotLists.{slot_push_new, slot_push_other, none_past, vacant_down_more, of_slots_node, of_slots_left, of_slots_taken}
 use Rattle.daggy_stable.proofs.Shown.{shown_some, shown-set, shown_push}
-use Rattle.daggy_stable.proofs.Slots.{count_cons, count_push, vacant_inside, rethreaded, slot_not_vacant, slot_inside}
+use Rattle.daggy_base.proofs.Slots.{count_cons}
+use Rattle.daggy_stable.proofs.Slots.{count_push, vacant_inside, rethreaded, slot_not_vacant, slot_inside}
 use Rattle.daggy_stable.proofs.Stores.{nodes_long, edges_long, firsts_long, some_is}
 
 module _ {A : Type 0} where
@@ -38,7 +39,7 @@ module _ {A : Type 0} where
   slot_push_vacant : (xs : List (Option A)) (i : ℕ) → slot (xs ++ None ∷ []) i ≡ slot xs i
   slot_push_vacant xs i =
       elim (cases_eq i (length xs)) [
-        | inl last ↦ ap (slot (xs ++ None ∷ [])) last ∙ slot_push_new xs None ∙ sym (slot_past xs i (omega (arith, last)))
+        | inl last ↦ ap (slot (xs ++ None ∷ [])) last ∙ slot_push_new xs None ∙ sym (none_past xs i (omega (arith, last)))
         | inr other ↦ slot_push_other xs None i other
       ]
 
@@ -199,7 +200,7 @@ module _ {N E Ix : Type 0} {end : ℕ} {nodes : List (Node (Option N) Ix)} {edge
         ap (λ l. slice_get l f) outs ∙ slice_get-set_other (firsts_of Outgoing nodes) a f (length edges) other)
 
     vacant_yet : edge_at g (length edges) ≡ None
-    vacant_yet = slot_past g.edges (length edges) (omega (arith, edges_long s))
+    vacant_yet = none_past g.edges (length edges) (omega (arith, edges_long s))
 
     side_linked : (dir : Direction) (n : ℕ) (wn : N) → slot g.nodes n ≡ Some wn → firsts_of dir nodes' ≡ set (firsts_of dir nodes) n (length edges) → raw_next dir cell ≡ get_or (firsts_of dir nodes) n 0
         → IsLinked end (row_firsts end dir nodes') (nexts_of dir (edges ++ cell ∷ [])) (set (lists_at dir g) n (length edges ∷ row (lists_at dir g) n))
@@ -236,36 +237,6 @@ module _ {N E Ix : Type 0} {end : ℕ} {nodes : List (Node (Option N) Ix)} {edge
           node_slots = node_slots';
           edge_slots = subst (λ l. IsThreaded end (g.edges ++ Some line ∷ []) l edge_head (edges_counted + 1) g.vacant_edges) (sym (map_push (raw_next Outgoing) edges cell)) threaded;
         }
-
--- the graph that the slots make, with one more
-
-of_slots_node : {N E : Type 0} (nodes : List (Option N)) (x : Option N) (edges : List (Option (PlainEdge E))) → edges ≡ [] → (vacant : List ℕ) → vacant ≡ vacant_down (nodes ++ x ∷ [])
-    → record { nodes = nodes ++ x ∷ []; edges = edges; out_lists = lists_down Outgoing (length nodes) edges ++ [] ∷ []; in_lists = lists_down Incoming (length nodes) edges ++ [] ∷ []; vacant_nodes = vacant; vacant_edges = vacant_down edges } ≡ of_slots (nodes ++ x ∷ []) edges
-of_slots_node nodes x edges none vacant is =
-    same_graph (of_slots (nodes ++ x ∷ []) edges) refl refl (sym (lists_down-node Outgoing (length nodes) edges none (length (nodes ++ x ∷ [])) (length_push nodes x)))
-    (sym (lists_down-node Incoming (length nodes) edges none (length (nodes ++ x ∷ [])) (length_push nodes x))) is refl
-
-of_slots_left : {N E : Type 0} (nodes : List (Option N)) (edges : List (Option (PlainEdge E))) (last : ℕ) → last ≡ length edges
-    → record { nodes = nodes; edges = edges ++ None ∷ []; out_lists = lists_down Outgoing (length nodes) edges; in_lists = lists_down Incoming (length nodes) edges; vacant_nodes = vacant_down nodes; vacant_edges = last ∷ vacant_down edges } ≡ of_slots nodes (edges ++ None ∷ [])
-of_slots_left nodes edges last is =
-    same_graph (of_slots nodes (edges ++ None ∷ [])) refl refl (sym (lists_down-vacant Outgoing (length nodes) edges)) (sym (lists_down-vacant Incoming (length nodes) edges)) refl
-    (ap (λ k. k ∷ vacant_down edges) is ∙ sym (vacant_down_more edges None))
-
-of_slots_taken : {N E : Type 0} (nodes : List (Option N)) (edges : List (Option (PlainEdge E))) (a b : ℕ) (w : E) (last : ℕ) → last ≡ length edges → a < length nodes → b < length nodes
-    → record {
-      nodes = nodes;
-      edges = edges ++ Some (record { parent = a; child = b; weight = w }) ∷ [];
-      out_lists = set (lists_down Outgoing (length nodes) edges) a (last ∷ row (lists_down Outgoing (length nodes) edges) a);
-      in_lists = set (lists_down Incoming (length nodes) edges) b (last ∷ row (lists_down Incoming (length nodes) edges) b);
-      vacant_nodes = vacant_down nodes;
-      vacant_edges = vacant_down edges;
-    } ≡ of_slots nodes (edges ++ Some (record { parent = a; child = b; weight = w }) ∷ [])
-of_slots_taken {N} {E} nodes edges a b w last is at_a at_b =
-    let outs = lists_down Outgoing (length nodes) edges in
-    let ins = lists_down Incoming (length nodes) edges in
-    let x : PlainEdge E = record { parent = a; child = b; weight = w } in
-    same_graph (of_slots nodes (edges ++ Some x ∷ [])) refl refl (ap (λ k. set outs a (k ∷ row outs a)) is ∙ sym (lists_down-edge Outgoing (length nodes) edges x a refl at_a))
-    (ap (λ k. set ins b (k ∷ row ins b)) is ∙ sym (lists_down-edge Incoming (length nodes) edges x b refl at_b)) refl (sym (vacant_down_more edges (Some x)))
 
 -- what is stored is the graph that the slots make, in the words of the code
 module _ {N E Ix : Type 0} (end : ℕ) where

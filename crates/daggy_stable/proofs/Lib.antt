@@ -10,8 +10,8 @@ pub mod Bounds
 pub mod Filling
 pub mod Copying
 pub mod Mapping
-pub mod Descending
 pub mod Building
+pub mod Ordering
 pub mod Keeping
 pub mod Passing
 pub mod Listing

@@ -17,7 +17,7 @@ use Rattle.daggy_cells.specs.Raw.{raw_first, raw_next}
 use Rattle.daggy_cells.specs.Fields.{firsts_of, nexts_of}
 use Rattle.daggy_cells.proofs.MappingLemmas.{mapped_length}
 use Rattle.daggy_stable.specs.Stored.{weight_of, plain_edge, shown, row_firsts, end_of, stored_graph, IsThreaded, Stores}
-use Rattle.daggy_stable.proofs.Slots.{count_cons}
+use Rattle.daggy_base.proofs.Slots.{count_cons}
 
 module _ {F I W V A B : Type 0} (step : F → I → Bor W → V → F → Type 0) (of : ℕ → I) (weight : A → W) (with : A → V → B) where
   -- what is left maps as the whole did

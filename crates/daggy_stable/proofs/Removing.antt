@@ -42,7 +42,7 @@ abbrev part_of : {E : Type 0} → Option (PlainEdge (Option E)) → Option (Plai
 part_of None = None
 part_of (Some y) = option_map (λ w. record { parent = y.parent; child = y.child; weight = w }) y.weight
 
-edges_seen : {E Ix : Type 0} (xs ys : List (Edge (Option E) Ix)) → map stored_edge xs ≡ map stored_edge ys → map plain_edge xs ≡ map plain_edge ys
+pub edges_seen : {E Ix : Type 0} (xs ys : List (Edge (Option E) Ix)) → map stored_edge xs ≡ map stored_edge ys → map plain_edge xs ≡ map plain_edge ys
 edges_seen {E} {Ix} xs ys same = sym (joined xs) ∙ ap (map part_of) same ∙ joined ys
   where
     joined : (xs : List (Edge (Option E) Ix)) → map part_of (map stored_edge xs) ≡ map plain_edge xs

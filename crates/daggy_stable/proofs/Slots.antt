@@ -1,9 +1,9 @@
 -- Slots: one made, one filled, one vacated, one cut off.
-use Rattle.std.proofs.Common.{◌≡◌, ◌≢◌, ℕ, zero, suc, ◌+◌, ◌<◌, ◌≤◌, cond, List, [], ◌∷◌, ◌++◌, length, set, take, Option, Some, None, is_some, slice_get, refl, sym, ap, subst, ◌∙◌, inl, inr, arith, Contains}
+use Rattle.std.proofs.Common.{◌≡◌, ◌≢◌, ℕ, zero, suc, ◌+◌, ◌<◌, ◌≤◌, List, [], ◌∷◌, ◌++◌, length, set, take, Option, Some, None, is_some, slice_get, refl, sym, ap, subst, ◌∙◌, inl, inr, arith, Contains}
 use Rattle.std.specs.List.{count_by}
 use Rattle.std.proofs.lemmas.Bool.{cases_eq, cases_lt}
 use Rattle.std.proofs.lemmas.List.{length-set, length_push, length-take-le}
-use Rattle.std.proofs.lemmas.List.Sums.{sum_by-cons}
+use Rattle.daggy_base.proofs.Slots.{count_cons}
 use Rattle.std.proofs.lemmas.Option.{slice_get_within, same_Some, none-some}
 use Rattle.std.proofs.lemmas.Map.Made.{Contains-tail}
 use Rattle.daggy_base.specs.Graph.{slot}
@@ -18,9 +18,6 @@ use Rattle.daggy_stable.specs.Stored.{IsThreaded}
 
 module _ {A : Type 0} where
   -- how many are not vacant
-
-  pub count_cons : (z : Option A) (zs : List (Option A)) → count_by is_some (z ∷ zs) ≡ cond (is_some z) 1 0 + count_by is_some zs
-  count_cons z zs = sum_by-cons (λ y. cond (is_some y) 1 0) z zs
 
   pub count_push : (xs : List (Option A)) (x : A) → count_by is_some (xs ++ Some x ∷ []) ≡ suc (count_by is_some xs)
   count_push [] x = let step = count_cons (Some x) [] in omega (arith, step)

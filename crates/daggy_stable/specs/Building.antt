@@ -4,7 +4,7 @@ use Rattle.daggy_base.specs.Graph.{Edge as PlainEdge}
 use Rattle.daggy_cells.specs.declared.cell.Node.{Node}
 use Rattle.daggy_cells.specs.declared.cell.Edge.{Edge}
 use Rattle.daggy_base.specs.FromSlots.{of_slots}
-use Rattle.daggy_stable.specs.declared.stable_graph.filter.Slots.{Slots}
+use Rattle.daggy_stable.specs.declared.stable_graph.building.Slots.{Slots}
 use Rattle.daggy_stable.specs.Stored.{weight_of, plain_edge, Stores}
 
 -- what is stored is the graph that these slots make

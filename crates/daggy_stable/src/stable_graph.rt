@@ -6,14 +6,17 @@ ghost use Rattle.daggy_base.specs.Finding.{find_edge as edge_between};
 ghost use Rattle.daggy_base.specs.Cursor.{first_of, cursor_after};
 
 mod adding;
+mod building;
 mod capacity;
 mod copy;
 mod count;
 mod debug;
 mod filter;
+mod given;
 pub mod iterators;
 pub mod lists;
 mod map;
+mod ordering;
 mod pairs;
 mod removal;
 mod room;

@@ -1,5 +1,5 @@
 //! The compact store as one that a dag stands on.
-ghost use Rattle.std.specs.Prelude.{◌≡◌, ℕ, ◌+◌, ◌<◌, ◌↔◌, IsTrue, IfOk, OnOk, IfErr, OnErr, OnSome, IfNone, Some, [], ◌≤◌, length, option_copied, refl};
+ghost use Rattle.std.specs.Prelude.{◌≡◌, ℕ, ◌+◌, ◌<◌, ◌↔◌, IsTrue, IfOk, OnOk, IfErr, OnErr, OnSome, IfNone, Some, [], ◌≤◌, length, map, option_copied, refl};
 ghost use Rattle.std.specs.Borrow.{sem};
 ghost use Rattle.std.specs.Option.{option_map};
 ghost use Rattle.daggy_base.specs.Graph.{empty, HasNode, HasEdge, node_weight, edge_at, list_at, ends_of, pair_of, node_bound as node_bound_of, node_count as node_count_of, edge_count as edge_count_of, IsCompact};
@@ -8,6 +8,8 @@ ghost use Rattle.daggy_base.specs.Cursor.{first_of, cursor_after};
 ghost use Rattle.daggy_base.specs.Adding.{next_node, next_edge, with_node, with_edge};
 ghost use Rattle.daggy_base.specs.Finding.{find_edge as edge_between};
 ghost use Rattle.daggy_base.specs.Weights.{edge_weight, with_node_weight, with_edge_weight};
+ghost use Rattle.daggy_base.specs.FromSlots.{of_slots, edges_by, MakeGraph};
+ghost use Rattle.daggy_base.specs.Orders.{numbers_of, with_orders, AreOrders};
 ghost use Rattle.daggy_base.specs.Taking.{taken_back, node_taken_back};
 ghost use Rattle.daggy_base.specs.Removal.{Compact, without_edge, without_node, without_all_edges, isolated};
 ghost use Rattle.daggy_base.specs.State.{with_graph};
@@ -21,7 +23,7 @@ use daggy_base::error::{EdgeError, NodeError};
 use daggy_base::index::{Direction, EdgeIndex, IndexType, NodeIndex};
 use daggy_base::search::EdgeSource;
 use daggy_base::store::Store;
-use std::alloc::Global;
+use std::alloc::{AllocError, Global};
 
 impl<N: Drop, E: Drop, Ix: IndexType> Store<Ix> for DiGraph<N, E, Ix> {
     ghost kind = { Compact };
@@ -43,6 +45,19 @@ impl<N: Drop, E: Drop, Ix: IndexType> Store<Ix> for DiGraph<N, E, Ix> {
         ensures looks { result.looks ≡ 0 }
     {
         DiGraph::new(alloc)
+    }
+
+    fn from_slots(
+        alloc: Global,
+        nodes: Vec<Option<N>>,
+        edges: Vec<Option<(NodeIndex<Ix>, NodeIndex<Ix>, E)>>,
+    ) -> Result<Self, AllocError>
+        requires slots { MakeGraph Ix.greatest nodes.items (edges_by Ix.number edges.items) }
+        requires compact { Compact ≡ Compact → IsCompact (of_slots nodes.items (edges_by Ix.number edges.items)) }
+        ensures graph { IfOk result (λ s. s.graph ≡ of_slots nodes.items (edges_by Ix.number edges.items)) }
+        ensures looks { IfOk result (λ s. s.looks ≡ 0) }
+    {
+        DiGraph::from_slots(alloc, nodes, edges)
     }
 
     #[inline]
@@ -256,6 +271,14 @@ impl<N: Drop, E: Drop, Ix: IndexType> Store<Ix> for DiGraph<N, E, Ix> {
         let weight = self.remove_node(n);
         let _still_compact = self.node_count();
         weight
+    }
+
+    fn set_orders(&mut self, orders: &[(Vec<EdgeIndex<Ix>>, Vec<EdgeIndex<Ix>>)])
+        requires { AreOrders self.old.graph (map (numbers_of Ix.number) orders.now) }
+        ensures ordered { self.new.graph ≡ with_orders self.old.graph (map (numbers_of Ix.number) orders.now) }
+        ensures counted { self.new.looks ≡ self.old.looks }
+    {
+        DiGraph::set_orders(self, orders)
     }
 
     fn clear(&mut self)

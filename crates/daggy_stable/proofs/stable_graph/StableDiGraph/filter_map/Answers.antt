@@ -4,8 +4,8 @@ use Rattle.daggy_base.specs.Filtering.{ListsDescend}
 use Rattle.daggy_base.specs.FilteringInPlace.{KeepsSlots, IsFilteredInPlace}
 use Rattle.daggy_base.specs.Mapping.{weight_in, with_weight}
 use Rattle.daggy_stable.specs.Stored.{weight_of, plain_edge, stored_graph}
-use Rattle.daggy_stable.proofs.Stores.{nodes_long, edges_long, stored_is, Stores-itself, Stores-empty}
-use Rattle.daggy_stable.proofs.Descending.{of_slots_descend}
+use Rattle.daggy_stable.proofs.Stores.{nodes_long, edges_long, Stores-empty}
+use Rattle.daggy_base.proofs.SlotLists.{of_slots_descend}
 use Rattle.daggy_stable.proofs.Keeping.{slice_long, slice_few, slice_read, slice_joined}
 use Rattle.daggy_stable.proofs.stable_graph.StableDiGraph.filter_map.Goals as goal
 
@@ -29,9 +29,6 @@ pub filter_edges-requires-clause-few : goal.filter_edges-requires-clause-few
 filter_edges-requires-clause-few g c =
     slice_few plain_edge c.self.inside.edges.items c.deref-2.result.now _ (c.edge_bound-edge_bound.ensures ∙ sym (ap (λ s. edge_bound s.graph) c.self.view_is)) c.deref-2.ensures.value _ (omega (arith, edges_long c.self.invariant, c.self.invariant.edge_slots.few))
 
-pub invariant_of-result : goal.invariant_of-result
-invariant_of-result g c = Stores-itself c.filter_edges.ensures.stored
-
 pub returns-clause-filtered : goal.returns-clause-filtered
 returns-clause-filtered g c =
     let of = g.Ix.IndexType.of in
@@ -41,16 +38,15 @@ returns-clause-filtered g c =
     let cells = c.self.inside.nodes.items in
     let rows = c.self.inside.edges.items in
     let old = stored_graph g.Ix.IndexType.greatest cells rows c.self.inside.first_vacant_node c.self.inside.first_vacant_edge in
-    let new = stored_graph g.Ix.IndexType.greatest c.filter_edges.new.nodes.cells.items c.filter_edges.new.new.cells.items c.filter_edges.new.nodes.first_vacant c.filter_edges.new.new.first_vacant in
     let nodes_read = slice_read weight_of cells c.deref.result.now _ (c.node_bound-node_bound.ensures ∙ sym (ap (λ s. node_bound s.graph) c.self.view_is)) c.deref.ensures.value in
     let edges_read = slice_joined before nodes rows c.deref-2.result.now _ c.filter_edges.ensures.nodes (c.edge_bound-edge_bound.ensures ∙ sym (ap (λ s. edge_bound s.graph) c.self.view_is)) c.deref-2.ensures.value in
     let kept = subst (λ l. KeepsSlots (goal.F-step g) of (λ w. w) (λ w v. v) c.args.f 0 l before) nodes_read c.filter_nodes.ensures.kept in
     let kept_nodes = subst (λ l. KeepsSlots (goal.F-step g) of (λ w. w) (λ w v. v) c.args.f 0 (take (bound_of (map weight_of cells)) (map weight_of cells)) l) (sym c.filter_edges.ensures.nodes) kept in
     let kept_edges = subst (λ l. KeepsSlots (goal.G-step g) of weight_in with_weight c.args.g 0 l edges) edges_read c.filter_edges.ensures.kept in
-    subst (λ s. IsFilteredInPlace of (goal.F-step g) (goal.G-step g) c.args.f c.args.g s.graph new) c.self.view_is (record { nodes = nodes; edges = edges; keeps_nodes = kept_nodes; keeps_edges = kept_edges; is = stored_is c.filter_edges.ensures.stored })
+    subst (λ s. IsFilteredInPlace of (goal.F-step g) (goal.G-step g) c.args.f c.args.g s.graph c.built.result.graph) c.self.view_is (record { nodes = nodes; edges = edges; keeps_nodes = kept_nodes; keeps_edges = kept_edges; is = ap (λ s. s.graph) c.built.ensures })
 
 pub returns-clause-descending : goal.returns-clause-descending
 returns-clause-descending g c =
     let nodes = map weight_of c.filter_edges.new.nodes.cells.items in
     let edges = map plain_edge c.filter_edges.new.new.cells.items in
-    subst ListsDescend (sym (stored_is c.filter_edges.ensures.stored)) (of_slots_descend nodes edges)
+    subst ListsDescend (sym (ap (λ s. s.graph) c.built.ensures)) (of_slots_descend nodes edges)

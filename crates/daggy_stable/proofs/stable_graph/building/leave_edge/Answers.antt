@@ -1,7 +1,7 @@
 use Rattle.std.proofs.Common.{◌≡◌, length, Option, ap, arith}
 use Rattle.daggy_cells.specs.declared.cell.Edge.{Edge}
 use Rattle.daggy_stable.proofs.Building.{built_edge_left}
-use Rattle.daggy_stable.proofs.stable_graph.filter.leave_edge.Goals as goal
+use Rattle.daggy_stable.proofs.stable_graph.building.leave_edge.Goals as goal
 
 pub returns-clause-stored : goal.returns-clause-stored
 returns-clause-stored g c =

@@ -1,18 +1,23 @@
--- What one more slot makes of lists that stand from the greatest index down.
-use Rattle.std.proofs.Common.{◌≡◌, ℕ, zero, suc, ◌+◌, ◌<◌, ◌≤◌, Bool, true, false, not, eqb, cond, List, [], ◌∷◌, ◌++◌, length, get_or, set, Option, Some, None, is_some, unwrap_or, refl, sym, ap, subst, ◌∙◌, inl, inr, arith}
+-- Lists that stand from the greatest index down, and what one more slot makes of them.
+use Rattle.std.proofs.Common.{◌≡◌, ℕ, zero, suc, ◌+◌, ◌<◌, ◌≤◌, Bool, true, false, not, eqb, cond, List, [], ◌∷◌, ◌++◌, length, get_or, set, Option, Some, None, IsSome, slice_get, is_some, unwrap_or, refl, sym, ap, subst, ◌∙◌, inl, inr, arith}
 use Rattle.std.specs.Option.{option_map, option_and_then}
-use Rattle.std.proofs.lemmas.Bool.{cases_eq, cases_lt, eq-eqb, ne_eqb}
-use Rattle.std.proofs.lemmas.List.{length-set, length_push, get_or-set_same, get_or-set_other}
+use Rattle.std.proofs.lemmas.Bool.{cases_eq, cases_lt, eq-eqb, ne_eqb, false≢true}
+use Rattle.std.proofs.lemmas.List.{length-set, length_push, length-append, get_or-set_same, get_or-set_other}
 use Rattle.std.proofs.lemmas.List.FromFn.{length-map-range_with_len, get_or-map-range_with_len, map-range_with_len_more, fill_by_all}
 use Rattle.std.proofs.lemmas.Option.{unwrap_or-slice_get, slice_get_past}
 use Rattle.daggy_base.specs.declared.index.Direction.{Direction}
 use Rattle.daggy_base.specs.declared.index.Direction.TheVariants.{Outgoing, Incoming}
-use Rattle.daggy_base.specs.Graph.{Edge, slot, near_end}
+use Rattle.daggy_base.specs.Graph.{Graph, Edge, slot, near_end}
 use Rattle.daggy_base.specs.Reduction.{IsDescending}
-use Rattle.daggy_cells.specs.Links.{row}
 use Rattle.daggy_base.specs.FromSlots.{down_from, vacant_down, has_end, lists_down, of_slots}
 use Rattle.daggy_base.specs.Filtering.{ListsDescend}
+use Rattle.daggy_base.specs.Adding.{with_node, with_edge}
 use Rattle.daggy_base.proofs.Lists.{slice_get-push_old, slice_get-push_new, slice_get-push_other}
+use Rattle.daggy_base.proofs.TakingBack.{same_graph}
+
+-- the row of n
+abbrev pub row : List (List ℕ) → ℕ → List ℕ
+row lists n = unwrap_or (slice_get lists n) []
 
 down_from_same : (p q : ℕ → Bool) (k : ℕ) → ((i : ℕ) → i < k → p i ≡ q i) → down_from p k ≡ down_from q k
 down_from_same p q zero same = refl
@@ -25,8 +30,8 @@ down_from_more p q k n b is here below =
     let next : n ≡ suc k = omega (arith, is) in
     ap (down_from q) next ∙ ap (λ l. cond (q k) (k ∷ l) l) (down_from_same q p k below) ∙ ap (λ z. cond z (k ∷ down_from p k) (down_from p k)) here
 
-pub slot_past : {A : Type 0} (xs : List (Option A)) (i : ℕ) → length xs ≤ i → slot xs i ≡ None
-slot_past xs i past = ap (option_and_then (λ z. z)) (slice_get_past xs i past)
+pub none_past : {A : Type 0} (xs : List (Option A)) (i : ℕ) → length xs ≤ i → slot xs i ≡ None
+none_past xs i past = ap (option_and_then (λ z. z)) (slice_get_past xs i past)
 
 -- one more slot
 module _ {A : Type 0} (xs : List (Option A)) (x : Option A) where
@@ -92,6 +97,81 @@ module _ {E : Type 0} (dir : Direction) (nodes : ℕ) (edges : List (Option (Edg
             get_or-set_other lists a n _ [] other ∙ row_is (Some x) n within
             ∙ sym (row_more (Some x) n ∙ ap (λ b. cond b (length edges ∷ down_from (has_end dir edges n) (length edges)) (down_from (has_end dir edges n) (length edges))) fails)
       ]))
+
+-- no slot is vacant
+
+none_passes : (p : ℕ → Bool) (k : ℕ) → down_from p k ≡ [] → (i : ℕ) → i < k → p i ≡ false
+none_passes p zero none i within = absurd (omega (arith, within))
+none_passes p (suc k) none i within = go (p k) refl none (λ below. none_passes p k below i)
+  where
+    go : (b : Bool) → p k ≡ b → cond b (k ∷ down_from p k) (down_from p k) ≡ [] → (down_from p k ≡ [] → i < k → p i ≡ false) → p i ≡ false
+    go true here none lower = absurd cc
+    go false here none lower = elim (cases_eq i k) [ inl same ↦ ap p same ∙ here | inr other ↦ lower none (omega (arith, within, other)) ]
+
+all_fail : (p : ℕ → Bool) (k : ℕ) → ((i : ℕ) → i < k → p i ≡ false) → down_from p k ≡ []
+all_fail p zero fails = refl
+all_fail p (suc k) fails = ap (λ b. cond b (k ∷ down_from p k) (down_from p k)) (fails k (omega arith)) ∙ all_fail p k (λ i within. fails i (omega (arith, within)))
+
+pub slot_between : {A : Type 0} (before : List (Option A)) (x : Option A) (behind : List (Option A)) → slot (before ++ x ∷ behind) (length before) ≡ x
+slot_between [] x behind = refl
+slot_between (z ∷ before) x behind = slot_between before x behind
+
+module _ {A : Type 0} where
+  pub none_vacant : (slots : List (Option A)) → ((i : ℕ) → i < length slots → IsSome (slot slots i)) → vacant_down slots ≡ []
+  none_vacant slots full = all_fail (λ i. not (is_some (slot slots i))) (length slots) (λ i within. ap not (full i within))
+
+  pub vacant_is_listed : (before behind slots : List (Option A)) → slots ≡ before ++ None ∷ behind → vacant_down slots ≡ [] → ⊥
+  vacant_is_listed before behind slots is none =
+      let within : length before < length slots = omega (arith, ap length is, length-append before (None ∷ behind)) in
+      let full = none_passes (λ i. not (is_some (slot slots i))) (length slots) none (length before) within in
+      let here : slot slots (length before) ≡ None = ap (λ l. slot l (length before)) is ∙ slot_between before None behind in
+      false≢true (sym full ∙ ap (λ o. not (is_some o)) here)
+
+-- the graph that the slots make, with one more
+
+module _ {N E : Type 0} (nodes : List (Option N)) where
+  pub of_slots_node : (x : Option N) (edges : List (Option (Edge E))) → edges ≡ [] → (vacant : List ℕ) → vacant ≡ vacant_down (nodes ++ x ∷ [])
+      → record { nodes = nodes ++ x ∷ []; edges = edges; out_lists = lists_down Outgoing (length nodes) edges ++ [] ∷ []; in_lists = lists_down Incoming (length nodes) edges ++ [] ∷ []; vacant_nodes = vacant; vacant_edges = vacant_down edges } ≡ of_slots (nodes ++ x ∷ []) edges
+  of_slots_node x edges none vacant is =
+      same_graph (of_slots (nodes ++ x ∷ []) edges) refl refl (sym (lists_down-node Outgoing (length nodes) edges none (length (nodes ++ x ∷ [])) (length_push nodes x)))
+      (sym (lists_down-node Incoming (length nodes) edges none (length (nodes ++ x ∷ [])) (length_push nodes x))) is refl
+
+  pub of_slots_left : (edges : List (Option (Edge E))) (last : ℕ) → last ≡ length edges
+      → record { nodes = nodes; edges = edges ++ None ∷ []; out_lists = lists_down Outgoing (length nodes) edges; in_lists = lists_down Incoming (length nodes) edges; vacant_nodes = vacant_down nodes; vacant_edges = last ∷ vacant_down edges } ≡ of_slots nodes (edges ++ None ∷ [])
+  of_slots_left edges last is =
+      same_graph (of_slots nodes (edges ++ None ∷ [])) refl refl (sym (lists_down-vacant Outgoing (length nodes) edges)) (sym (lists_down-vacant Incoming (length nodes) edges)) refl
+      (ap (λ k. k ∷ vacant_down edges) is ∙ sym (vacant_down_more edges None))
+
+  pub of_slots_taken : (edges : List (Option (Edge E))) (a b : ℕ) (w : E) (last : ℕ) → last ≡ length edges → a < length nodes → b < length nodes
+      → record {
+        nodes = nodes;
+        edges = edges ++ Some (record { parent = a; child = b; weight = w }) ∷ [];
+        out_lists = set (lists_down Outgoing (length nodes) edges) a (last ∷ row (lists_down Outgoing (length nodes) edges) a);
+        in_lists = set (lists_down Incoming (length nodes) edges) b (last ∷ row (lists_down Incoming (length nodes) edges) b);
+        vacant_nodes = vacant_down nodes;
+        vacant_edges = vacant_down edges;
+      } ≡ of_slots nodes (edges ++ Some (record { parent = a; child = b; weight = w }) ∷ [])
+  of_slots_taken edges a b w last is at_a at_b =
+      let outs = lists_down Outgoing (length nodes) edges in
+      let ins = lists_down Incoming (length nodes) edges in
+      let x : Edge E = record { parent = a; child = b; weight = w } in
+      same_graph (of_slots nodes (edges ++ Some x ∷ [])) refl refl (ap (λ k. set outs a (k ∷ row outs a)) is ∙ sym (lists_down-edge Outgoing (length nodes) edges x a refl at_a))
+      (ap (λ k. set ins b (k ∷ row ins b)) is ∙ sym (lists_down-edge Incoming (length nodes) edges x b refl at_b)) refl (sym (vacant_down_more edges (Some x)))
+
+  -- where none is vacant, that is what adding makes
+  pub of_slots_with_node : (w : N) → vacant_down nodes ≡ [] → with_node (of_slots {E = E} nodes []) w ≡ of_slots (nodes ++ Some w ∷ []) []
+  of_slots_with_node w none =
+      let g : Graph N E = of_slots nodes [] in
+      let with_vacant : List ℕ → Graph N E = λ v. with_node (record { nodes = nodes; edges = []; out_lists = g.out_lists; in_lists = g.in_lists; vacant_nodes = v; vacant_edges = [] }) w in
+      ap with_vacant none ∙ of_slots_node (Some w) [] refl [] (sym (vacant_down_more nodes (Some w) ∙ none))
+
+  pub of_slots_with_edge : (edges : List (Option (Edge E))) (a b : ℕ) (w : E) → vacant_down edges ≡ [] → a < length nodes → b < length nodes → with_edge (of_slots nodes edges) a b w ≡ of_slots nodes (edges ++ Some (record { parent = a; child = b; weight = w }) ∷ [])
+  of_slots_with_edge edges a b w none at_a at_b =
+      let g : Graph N E = of_slots nodes edges in
+      let with_vacant : List ℕ → Graph N E = λ v. with_edge (record { nodes = nodes; edges = edges; out_lists = g.out_lists; in_lists = g.in_lists; vacant_nodes = g.vacant_nodes; vacant_edges = v }) a b w in
+      let new : Graph N E = of_slots nodes (edges ++ Some (record { parent = a; child = b; weight = w }) ∷ []) in
+      let seen : List ℕ → Graph N E = λ v. record { nodes = nodes; edges = new.edges; out_lists = set g.out_lists a (length edges ∷ row g.out_lists a); in_lists = set g.in_lists b (length edges ∷ row g.in_lists b); vacant_nodes = g.vacant_nodes; vacant_edges = v } in
+      ap with_vacant none ∙ ap seen (sym none) ∙ of_slots_taken edges a b w (length edges) refl at_a at_b
 
 -- they descend
 

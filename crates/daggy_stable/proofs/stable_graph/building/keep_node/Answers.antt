@@ -2,7 +2,7 @@ use Rattle.std.proofs.Common.{◌≡◌, length, ap, ◌∙◌, arith}
 use Rattle.daggy_base.specs.declared.index.Direction.TheVariants.{Outgoing}
 use Rattle.daggy_cells.specs.Fields.{with_first}
 use Rattle.daggy_stable.proofs.Building.{built_node_taken, built_node_left}
-use Rattle.daggy_stable.proofs.stable_graph.filter.keep_node.Goals as goal
+use Rattle.daggy_stable.proofs.stable_graph.building.keep_node.Goals as goal
 
 pub returns-in-Some-clause-stored : goal.returns-in-Some-clause-stored
 returns-in-Some-clause-stored g c =

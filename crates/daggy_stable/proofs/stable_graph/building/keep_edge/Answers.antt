@@ -1,7 +1,7 @@
 use Rattle.std.proofs.Common.{◌≡◌, length, arith}
 use Rattle.daggy_stable.proofs.Building.{built_edge_taken}
 use Rattle.daggy_stable.proofs.Removing.{weights_seen}
-use Rattle.daggy_stable.proofs.stable_graph.filter.keep_edge.Goals as goal
+use Rattle.daggy_stable.proofs.stable_graph.building.keep_edge.Goals as goal
 
 pub returns-clause-stored : goal.returns-clause-stored
 returns-clause-stored g c =

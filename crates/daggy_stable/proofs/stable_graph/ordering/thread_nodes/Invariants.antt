@@ -1,0 +1,7 @@
+use Rattle.std.proofs.Common.{map}
+use Rattle.daggy_base.specs.Orders.{numbers_of}
+use Rattle.daggy_stable.proofs.Ordering.{IsOrdering}
+use Rattle.daggy_stable.proofs.stable_graph.ordering.thread_nodes.Given as goal
+
+abbrev pub invariant-each : goal.invariant-each
+invariant-each g l = IsOrdering g.Ix.IndexType.greatest l.fn.nodes.items l.fn.edges.items (map (numbers_of g.Ix.IndexType.number) l.orders) l.nodes.items l.edges.items l.i l.next
