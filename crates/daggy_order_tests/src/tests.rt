@@ -5,4 +5,5 @@ mod edges;
 mod kept;
 mod lists;
 mod random;
+mod sorting;
 mod support;

@@ -43,9 +43,9 @@ where
             return Err(SlotsError::Memory);
         };
         let mut scratch = Scratch::new(alloc);
-        if scratch.reserve(store.node_slots(), 0).is_err() {
+        let Ok(()) = scratch.reserve(store.node_slots(), 0) else {
             return Err(SlotsError::Memory);
-        }
+        };
         match Order::sorted(alloc, &mut store, &mut scratch) {
             Ok(Some(order)) => Ok(Acyclic {
                 store,

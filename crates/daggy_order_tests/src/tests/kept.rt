@@ -57,6 +57,11 @@ impl Kept {
         n
     }
 
+    /// Its nodes sorted anew, whatever its order is.
+    pub fn sorted(&mut self, rt: &impl Abort, alloc: Global) -> Option<Order<u8>> {
+        made(rt, Order::sorted(alloc, &mut self.graph, &mut self.scratch))
+    }
+
     /// Whether the order can make way for an edge.
     pub fn makes_way(&mut self, rt: &impl Abort, a: NodeIndex<u8>, b: NodeIndex<u8>) -> bool
         ensures { result ≡ false ↔ Reaches self.old.graph b a }
