@@ -4,3 +4,4 @@ pub mod Answers
 pub mod EdgeLists
 pub mod Steps
 pub mod Runs
+pub mod Plans
