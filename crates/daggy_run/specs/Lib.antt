@@ -5,3 +5,4 @@ pub mod EdgeLists
 pub mod Steps
 pub mod Runs
 pub mod Plans
+pub mod Levels

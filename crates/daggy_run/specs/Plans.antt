@@ -1,7 +1,12 @@
 -- Plans: nodes in stages, each node in a later stage than its parents.
-use Rattle.std.specs.Prelude.{◌≡◌, ◌≢◌, ℕ, suc, ◌<◌, ◌≤◌, ◌+◌, ◌↔◌, ◌⊎◌, List, [], ◌∷◌, length, Contains, slice_index_or}
+use Rattle.std.specs.Prelude.{◌≡◌, ◌≢◌, ℕ, ◌<◌, ◌≤◌, ◌+◌, ◌↔◌, ◌⊎◌, List, [], ◌∷◌, length, map, Contains, slice_index_or, Vec}
+use Rattle.std.specs.declared.alloc.Global.{Global}
 use Rattle.daggy_base.specs.Graph.{Graph, HasNode}
 use Rattle.daggy_base.specs.Path.{AreJoined, IsPath, end_of}
+
+-- stages by the numbers of their nodes
+abbrev pub stages_of : {I : Type 0} → (number : I → ℕ) → List (Vec I Global) → List (List ℕ)
+stages_of number stages = map (λ stage. map number stage.items) stages
 
 -- the node stands in that stage, counted from 0
 abbrev pub StandsIn : List (List ℕ) → ℕ → ℕ → Type 0
