@@ -4,3 +4,5 @@ pub mod Answers
 pub mod EdgeLists
 pub mod Steps
 pub mod Runs
+pub mod Plans
+pub mod Levels

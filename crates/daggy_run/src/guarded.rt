@@ -1,5 +1,5 @@
 //! What lists of commands ask of a dag.
-ghost use Rattle.std.specs.Prelude.{◌≡◌, ℕ, ◌<◌, ◌≤◌, ◌↔◌, ◌⊎◌, IsTrue, Err, None, IfOk, IfErr, OnOk, OnErr, OnSome, IfSome, IfNone, IsOkAnd, map};
+ghost use Rattle.std.specs.Prelude.{◌≡◌, ℕ, ◌<◌, ◌≤◌, ◌^◌, ◌↔◌, ◌⊎◌, IsTrue, Err, None, IfOk, IfErr, OnOk, OnErr, OnSome, IfSome, IfNone, IsOkAnd, length, map};
 ghost use Rattle.std.specs.Option.{option_map};
 ghost use Rattle.daggy_base.specs.Graph.{Graph, empty, HasNode, HasEdge, node_weight as weight_at, edge_at, ends_of, pair_of, node_count as node_count_of, edge_count as edge_count_of, node_bound as node_bound_of, out_list};
 ghost use Rattle.daggy_base.specs.Path.{Reaches, IsAcyclic};
@@ -11,6 +11,7 @@ ghost use Rattle.daggy_base.specs.Weights.{edge_weight as edge_weight_at, with_e
 ghost use Rattle.daggy_base.specs.Finding.{find_edge as edge_between};
 ghost use Rattle.daggy_base.specs.Cursor.{first_of};
 ghost use Rattle.daggy_base.specs.Look.{IsLook};
+ghost use Rattle.daggy_order.specs.Ordered.{IsOrderOf};
 ghost use Rattle.daggy_base.specs.declared.index.Direction.TheVariants.{Outgoing, Incoming};
 ghost use Rattle.daggy_base.specs.declared.error.NodeError.TheVariants.{Memory as NodeMemory};
 ghost use Rattle.daggy_base.specs.declared.error.EdgeError.TheVariants.{WouldCycle as ByCycle, Memory as EdgeMemory};
@@ -23,6 +24,7 @@ ghost use Rattle.daggy_run.specs.EdgeLists.{AddsAll, IsRefused};
 
 use daggy_base::error::{ChildError, EdgeError, EdgesError, NodeError};
 use daggy_base::index::{EdgeIndex, IndexType, NodeIndex};
+use daggy_dag::acyclic::TopologicalOrder;
 use std::alloc::AllocError;
 
 mod acyclic;
@@ -230,6 +232,11 @@ pub trait GuardedDag<N, E, Ix: IndexType> {
     fn child_edge(&self, e: EdgeIndex<Ix>) -> (NodeIndex<Ix>, EdgeIndex<Ix>)
         requires { HasEdge (graph self.now) (Ix.number e) }
         ensures { IsLook Ix.greatest (graph self.now) (Ix.number e) (Ix.number result.0) (Ix.number result.1) };
+
+    /// The nodes, every parent before its children.
+    fn topological_order(&self) -> TopologicalOrder<'_, Ix>
+        ensures ordered { IsOrderOf (graph self.now) result }
+        ensures fits { length result < 2 ^ 64 };
 
     // The kind that is told is the kind that there is.
     ghost tells: { kind_of KIND ≡ kind };

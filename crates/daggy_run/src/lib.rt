@@ -3,5 +3,6 @@
 
 pub mod command;
 pub mod guarded;
+pub mod plan;
 pub mod run;
 pub mod step;

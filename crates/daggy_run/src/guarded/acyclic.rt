@@ -1,5 +1,5 @@
 //! Both kinds of dag as dags that take commands.
-ghost use Rattle.std.specs.Prelude.{◌≡◌, ℕ, ◌<◌, ◌≤◌, ◌↔◌, ◌⊎◌, IsTrue, Err, None, IfOk, IfErr, OnOk, OnErr, OnSome, IfSome, IfNone, IsOkAnd, map};
+ghost use Rattle.std.specs.Prelude.{◌≡◌, ℕ, ◌<◌, ◌≤◌, ◌^◌, ◌↔◌, ◌⊎◌, IsTrue, Err, None, IfOk, IfErr, OnOk, OnErr, OnSome, IfSome, IfNone, IsOkAnd, length, map};
 ghost use Rattle.std.specs.Option.{option_map};
 ghost use Rattle.daggy_base.specs.Graph.{Graph, empty, HasNode, HasEdge, node_weight as weight_at, edge_at, ends_of, pair_of, node_count as node_count_of, edge_count as edge_count_of, node_bound as node_bound_of, out_list};
 ghost use Rattle.daggy_base.specs.Path.{Reaches, IsAcyclic};
@@ -11,6 +11,7 @@ ghost use Rattle.daggy_base.specs.Weights.{edge_weight as edge_weight_at, with_e
 ghost use Rattle.daggy_base.specs.Finding.{find_edge as edge_between};
 ghost use Rattle.daggy_base.specs.Cursor.{first_of};
 ghost use Rattle.daggy_base.specs.Look.{IsLook};
+ghost use Rattle.daggy_order.specs.Ordered.{IsOrderOf};
 ghost use Rattle.daggy_base.specs.declared.index.Direction.TheVariants.{Outgoing, Incoming};
 ghost use Rattle.daggy_base.specs.declared.error.NodeError.TheVariants.{Memory as NodeMemory};
 ghost use Rattle.daggy_base.specs.declared.error.EdgeError.TheVariants.{WouldCycle as ByCycle, Memory as EdgeMemory};
@@ -28,7 +29,7 @@ use daggy_base::error::{ChildError, EdgeError, EdgesError, NodeError};
 use daggy_base::index::{Direction, EdgeIndex, IndexType, NodeIndex};
 use daggy_base::search::EdgeSource;
 use daggy_base::store::Store;
-use daggy_dag::acyclic::Acyclic;
+use daggy_dag::acyclic::{Acyclic, TopologicalOrder};
 use daggy_graph::graph::DiGraph;
 use daggy_guard::walk;
 use daggy_stable::stable_graph::StableDiGraph;
@@ -328,5 +329,13 @@ where
         let next = store.next_edge(e, Direction::Outgoing);
         let (_, child) = store.edge_endpoints(e).unwrap();
         (child, next)
+    }
+
+    #[inline]
+    fn topological_order(&self) -> TopologicalOrder<'_, Ix>
+        ensures ordered { IsOrderOf self.now.graph result }
+        ensures fits { length result < 2 ^ 64 }
+    {
+        self.topological_order()
     }
 }
