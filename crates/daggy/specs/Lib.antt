@@ -21,6 +21,7 @@ pub use Rattle.daggy_dag.specs.Walks
 pub use Rattle.daggy_base.specs.Mapping
 pub use Rattle.daggy_base.specs.Filtering
 pub use Rattle.daggy_base.specs.FromSlots
+pub use Rattle.daggy_base.specs.Orders
 pub use Rattle.daggy_base.specs.FilteringInPlace
 pub use Rattle.daggy_base.specs.Rewriting
 pub use Rattle.daggy_base.specs.Iterating
@@ -41,3 +42,4 @@ pub use Rattle.daggy_run.specs.Answers
 pub use Rattle.daggy_run.specs.EdgeLists
 pub use Rattle.daggy_run.specs.Steps
 pub use Rattle.daggy_run.specs.Runs
+pub use Rattle.daggy_run.specs.Plans

@@ -26,7 +26,7 @@ pub mod stable_graph;
 
 pub use daggy_base::element::IntoWeightedEdge;
 pub use daggy_base::error::{
-    ChildError, EdgeError, EdgesError, ElementError, NodeError, WouldCycle,
+    ChildError, EdgeError, EdgesError, ElementError, NodeError, SlotsError, WouldCycle,
 };
 pub use daggy_base::index::{DefaultIx, Direction, EdgeIndex, IndexType, NodeIndex};
 pub use daggy_cells::reference::EdgeReference;
