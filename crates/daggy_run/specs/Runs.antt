@@ -30,7 +30,8 @@ FindsMemory other = Unit {0}
 -- the compact kind may give these answers, and where it finds memory no others, and leave no other graph
 pub record IsCompactRun {N E : Type 0} (limit : ℕ) (old : Graph N E) (requests : List (Request N E)) (answers : List (Answer N E)) (new : Graph N E) : Type 0 where
   pub run : IsRun Compact limit old requests answers new
-  pub only : (others : List (Answer N E)) (end : Graph N E) → IsRun Compact limit old requests others end → AllByRecursion FindsMemory others → (others ≡ answers) × (end ≡ new)
+  pub only : (others : List (Answer N E)) (end : Graph N E) → IsRun Compact limit old requests others end
+      → AllByRecursion FindsMemory others → (others ≡ answers) × (end ≡ new)
 
 -- where all requests are for both kinds and memory is found, the answers are those of the compact kind
 abbrev pub IsAsCompact : {N E : Type 0} → (limit : ℕ) → Graph N E → List (Request N E) → List (Answer N E) → Graph N E → Type 0

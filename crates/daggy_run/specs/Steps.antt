@@ -28,7 +28,8 @@ IsAddable limit g x = HasEnds g x × (edge_count g < limit) × ¬ (Reaches g x.1
 
 -- adding an edge
 abbrev pub IsEdgeStep : {N E : Type 0} → (limit : ℕ) → Graph N E → NewEdge E → Answer N E → Graph N E → Type 0
-IsEdgeStep limit old x (answer.Edge e) new = IsAddable limit old x × (e ≡ next_edge old) × (new ≡ with_edge old x.0 x.1 x.2)
+IsEdgeStep limit old x (answer.Edge e) new =
+    IsAddable limit old x × (e ≡ next_edge old) × (new ≡ with_edge old x.0 x.1 x.2)
 IsEdgeStep limit old x (answer.Missing (OfEdge back)) new = LacksEnd old x × (back ≡ x.2) × (new ≡ old)
 IsEdgeStep limit old x (answer.Full (OfEdge back)) new = LacksIndex limit old x × (back ≡ x.2) × (new ≡ old)
 IsEdgeStep limit old x (answer.Cycle back) new =
@@ -61,18 +62,24 @@ IsNeighborStep dir limit old n edge node other new = ⊥
 -- adding all edges of a list, or none
 abbrev pub IsSeriesStep : {N E : Type 0} → (limit : ℕ) → Graph N E → List (NewEdge E) → Answer N E → Graph N E → Type 0
 IsSeriesStep limit old edges (answer.Edges indices) new = AddsAll limit old edges indices new
-IsSeriesStep limit old edges (answer.Missing (OfEdges last before)) new = StopsAt limit old edges LacksEnd last before × (new ≡ old)
-IsSeriesStep limit old edges (answer.Full (OfEdges last before)) new = StopsAt limit old edges (LacksIndex limit) last before × (new ≡ old)
-IsSeriesStep limit old edges (answer.Memory (OfEdges last before)) new = StopsAt limit old edges (LacksMemory limit) last before × (new ≡ old)
+IsSeriesStep limit old edges (answer.Missing (OfEdges last before)) new =
+    StopsAt limit old edges LacksEnd last before × (new ≡ old)
+IsSeriesStep limit old edges (answer.Full (OfEdges last before)) new =
+    StopsAt limit old edges (LacksIndex limit) last before × (new ≡ old)
+IsSeriesStep limit old edges (answer.Memory (OfEdges last before)) new =
+    StopsAt limit old edges (LacksMemory limit) last before × (new ≡ old)
 IsSeriesStep limit old edges (answer.CycleAll weights) new = ClosesCycle limit old edges weights × (new ≡ old)
 IsSeriesStep limit old edges other new = ⊥
 
 -- What a request may be answered over a graph, and the graph after it. What is missing comes before what is full, and that
 -- before a cycle. Where there was no memory, nothing else stands in the way, and nothing has changed.
 abbrev pub IsStep : {N E : Type 0} → Kind → (limit : ℕ) → Graph N E → Request N E → Answer N E → Graph N E → Type 0
-IsStep kind limit old (request.Node weight) (answer.Node n) new = (node_count old < limit) × (n ≡ next_node old) × (new ≡ with_node old weight)
-IsStep kind limit old (request.Node weight) (answer.Full (OfNode back)) new = (limit ≤ node_count old) × (back ≡ weight) × (new ≡ old)
-IsStep kind limit old (request.Node weight) (answer.Memory (OfNode back)) new = (node_count old < limit) × (back ≡ weight) × (new ≡ old)
+IsStep kind limit old (request.Node weight) (answer.Node n) new =
+    (node_count old < limit) × (n ≡ next_node old) × (new ≡ with_node old weight)
+IsStep kind limit old (request.Node weight) (answer.Full (OfNode back)) new =
+    (limit ≤ node_count old) × (back ≡ weight) × (new ≡ old)
+IsStep kind limit old (request.Node weight) (answer.Memory (OfNode back)) new =
+    (node_count old < limit) × (back ≡ weight) × (new ≡ old)
 IsStep kind limit old (request.Node weight) other new = ⊥
 IsStep kind limit old (request.Edge x) said new = IsEdgeStep limit old x said new
 IsStep kind limit old (request.Update x) said new = IsUpdateStep limit (find_edge old x.0 x.1) old x said new

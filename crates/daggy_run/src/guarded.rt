@@ -87,7 +87,8 @@ pub trait GuardedDag<N, E, Ix: IndexType> {
         ensures unchanged { OnErr result (graph self.new ≡ graph self.old) }
         ensures acyclic { IsAcyclic (graph self.new) };
 
-    /// Adds an edge from `a` to `b`, and gives its index. It is refused exactly if it would close a cycle, memory aside.
+    /// Adds an edge from `a` to `b`, and gives its index. It is refused exactly if it would close a cycle,
+    /// memory aside.
     fn add_edge(
         &mut self,
         a: NodeIndex<Ix>,
@@ -97,15 +98,16 @@ pub trait GuardedDag<N, E, Ix: IndexType> {
         requires parent { HasNode (graph self.old) (Ix.number a) }
         requires child { HasNode (graph self.old) (Ix.number b) }
         requires room { edge_count_of (graph self.old) < Ix.greatest }
-        ensures cycle { (result ≡ Err (ByCycle (record { 0 = weight }))) ↔ Reaches (graph self.old) (Ix.number b) (Ix.number a) }
+        ensures cycle { (result ≡ Err (ByCycle (record { 0 = weight })))
+            ↔ Reaches (graph self.old) (Ix.number b) (Ix.number a) }
         ensures refusal { IfErr result (λ e. (e ≡ ByCycle (record { 0 = weight })) ⊎ (e ≡ EdgeMemory weight)) }
         ensures added { IfOk result (λ e. (Ix.number e ≡ next_edge (graph self.old))
             × (graph self.new ≡ with_edge (graph self.old) (Ix.number a) (Ix.number b) weight)) }
         ensures unchanged { OnErr result (graph self.new ≡ graph self.old) }
         ensures acyclic { IsAcyclic (graph self.new) };
 
-    /// Writes the weight of the edge that [`find_edge`](GuardedDag::find_edge) gives between `a` and `b`, or adds an edge
-    /// as [`add_edge`](GuardedDag::add_edge) if there is none. Where the two nodes are joined it cannot fail.
+    /// Writes the weight of the edge that [`find_edge`](GuardedDag::find_edge) gives between `a` and `b`, or adds an
+    /// edge as [`add_edge`](GuardedDag::add_edge) if there is none. Where the two nodes are joined it cannot fail.
     fn update_edge(
         &mut self,
         a: NodeIndex<Ix>,
@@ -114,10 +116,13 @@ pub trait GuardedDag<N, E, Ix: IndexType> {
     ) -> Result<EdgeIndex<Ix>, EdgeError<E>>
         requires parent { HasNode (graph self.old) (Ix.number a) }
         requires child { HasNode (graph self.old) (Ix.number b) }
-        requires room { edge_between (graph self.old) (Ix.number a) (Ix.number b) ≡ None → edge_count_of (graph self.old) < Ix.greatest }
+        requires room { edge_between (graph self.old) (Ix.number a) (Ix.number b) ≡ None
+            → edge_count_of (graph self.old) < Ix.greatest }
         ensures replaced { IfSome (edge_between (graph self.old) (Ix.number a) (Ix.number b)) (λ e.
-            IsOkAnd result (λ updated. Ix.number updated ≡ e) × (graph self.new ≡ with_edge_weight (graph self.old) e weight)) }
-        ensures cycle { (result ≡ Err (ByCycle (record { 0 = weight }))) ↔ Reaches (graph self.old) (Ix.number b) (Ix.number a) }
+            IsOkAnd result (λ updated. Ix.number updated ≡ e)
+            × (graph self.new ≡ with_edge_weight (graph self.old) e weight)) }
+        ensures cycle { (result ≡ Err (ByCycle (record { 0 = weight })))
+            ↔ Reaches (graph self.old) (Ix.number b) (Ix.number a) }
         ensures refusal { IfErr result (λ e. (e ≡ ByCycle (record { 0 = weight })) ⊎ (e ≡ EdgeMemory weight)) }
         ensures added { edge_between (graph self.old) (Ix.number a) (Ix.number b) ≡ None → IfOk result (λ e.
             (Ix.number e ≡ next_edge (graph self.old))
@@ -135,7 +140,8 @@ pub trait GuardedDag<N, E, Ix: IndexType> {
         requires parent { HasNode (graph self.old) (Ix.number parent) }
         requires edge_room { edge_count_of (graph self.old) < Ix.greatest }
         requires node_room { node_count_of (graph self.old) < Ix.greatest }
-        ensures added { IfOk result (λ r. (Ix.number r.0 ≡ next_edge (graph self.old)) × (Ix.number r.1 ≡ next_node (graph self.old))
+        ensures added { IfOk result (λ r. (Ix.number r.0 ≡ next_edge (graph self.old))
+            × (Ix.number r.1 ≡ next_node (graph self.old))
             × (graph self.new ≡ with_neighbor Outgoing (graph self.old) (Ix.number parent) edge node)) }
         ensures refusal { IfErr result (λ e. e ≡ ChildMemory edge node) }
         ensures unchanged { OnErr result (graph self.new ≡ graph self.old) }
@@ -151,7 +157,8 @@ pub trait GuardedDag<N, E, Ix: IndexType> {
         requires child { HasNode (graph self.old) (Ix.number child) }
         requires edge_room { edge_count_of (graph self.old) < Ix.greatest }
         requires node_room { node_count_of (graph self.old) < Ix.greatest }
-        ensures added { IfOk result (λ r. (Ix.number r.0 ≡ next_edge (graph self.old)) × (Ix.number r.1 ≡ next_node (graph self.old))
+        ensures added { IfOk result (λ r. (Ix.number r.0 ≡ next_edge (graph self.old))
+            × (Ix.number r.1 ≡ next_node (graph self.old))
             × (graph self.new ≡ with_neighbor Incoming (graph self.old) (Ix.number child) edge node)) }
         ensures refusal { IfErr result (λ e. e ≡ ChildMemory edge node) }
         ensures unchanged { OnErr result (graph self.new ≡ graph self.old) }
@@ -159,16 +166,18 @@ pub trait GuardedDag<N, E, Ix: IndexType> {
 
     /// Adds all the edges, or none of them. It gives their indices in the order in which they were given.
     fn add_edges(&mut self, edges: Vec<NewEdge<E, Ix>>) -> Result<Vec<EdgeIndex<Ix>>, EdgesError<E>>
-        ensures added { IfOk result (λ indices. AddsAll Ix.greatest (graph self.old) (map (by_numbers Ix.number) edges.items)
-            (map Ix.number indices.items) (graph self.new)) }
-        ensures refused { IfErr result (λ error. IsRefused Ix.greatest (graph self.old) (map (by_numbers Ix.number) edges.items) error) }
+        ensures added { IfOk result (λ indices. AddsAll Ix.greatest (graph self.old)
+            (map (by_numbers Ix.number) edges.items) (map Ix.number indices.items) (graph self.new)) }
+        ensures refused { IfErr result (λ error. IsRefused Ix.greatest (graph self.old)
+            (map (by_numbers Ix.number) edges.items) error) }
         ensures unchanged { OnErr result (graph self.new ≡ graph self.old) }
         ensures acyclic { IsAcyclic (graph self.new) };
 
     /// The newest edge from `a` to `b`, or `None` if there is none.
     fn find_edge(&self, a: NodeIndex<Ix>, b: NodeIndex<Ix>) -> Option<EdgeIndex<Ix>>
         ensures found { option_map Ix.number result ≡ edge_between (graph self.now) (Ix.number a) (Ix.number b) }
-        ensures ends { OnSome result (HasNode (graph self.now) (Ix.number a) × HasNode (graph self.now) (Ix.number b)) };
+        ensures ends { OnSome result (HasNode (graph self.now) (Ix.number a)
+            × HasNode (graph self.now) (Ix.number b)) };
 
     /// The parent and the child of an edge, or `None` if there is no such edge.
     fn edge_endpoints(&self, e: EdgeIndex<Ix>) -> Option<(NodeIndex<Ix>, NodeIndex<Ix>)>
@@ -192,13 +201,15 @@ pub trait GuardedDag<N, E, Ix: IndexType> {
     ///
     /// The error says that there was no memory for the list.
     fn children(&self, n: NodeIndex<Ix>) -> Result<Vec<Neighbor<Ix>>, AllocError>
-        ensures { IfOk result (λ items. map (pair_of Ix.number) items.items ≡ walk_of Outgoing (graph self.now) (Ix.number n)) };
+        ensures { IfOk result (λ items. map (pair_of Ix.number) items.items
+            ≡ walk_of Outgoing (graph self.now) (Ix.number n)) };
 
     /// The edges that enter a node with their parents, newest first. A missing node has none.
     ///
     /// The error says that there was no memory for the list.
     fn parents(&self, n: NodeIndex<Ix>) -> Result<Vec<Neighbor<Ix>>, AllocError>
-        ensures { IfOk result (λ items. map (pair_of Ix.number) items.items ≡ walk_of Incoming (graph self.now) (Ix.number n)) };
+        ensures { IfOk result (λ items. map (pair_of Ix.number) items.items
+            ≡ walk_of Incoming (graph self.now) (Ix.number n)) };
 
     /// Removes all edges, and keeps the nodes.
     fn clear_edges(&mut self)

@@ -11,8 +11,8 @@ use crate::step::perform;
 use daggy_base::index::IndexType;
 use std::alloc::Global;
 
-/// Carries out commands in order, and gives one reply to each. A refused command changes nothing, and those behind it are
-/// carried out all the same.
+/// Carries out commands in order, and gives one reply to each. A refused command changes nothing, and those behind it
+/// are carried out all the same.
 ///
 /// The error hands the commands back: there was no memory for the replies, and no command was carried out.
 pub fn run<N: Drop, E: Drop, Ix: IndexType, D: GuardedDag<N, E, Ix>>(

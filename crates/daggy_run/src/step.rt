@@ -18,7 +18,8 @@ fn add_node<N: Drop, E: Drop, Ix: IndexType, D: GuardedDag<N, E, Ix>>(
     dag: &mut D,
     weight: N,
 ) -> Reply<N, E, Ix>
-    ensures step { IsStep D.kind Ix.greatest (D.graph dag.old) (Node weight) (answer_of Ix.number result) (D.graph dag.new) }
+    ensures step { IsStep D.kind Ix.greatest (D.graph dag.old) (Node weight)
+        (answer_of Ix.number result) (D.graph dag.new) }
     ensures acyclic { IsAcyclic (D.graph dag.new) }
 {
     if !dag.can_add_node() {
@@ -36,7 +37,8 @@ fn add_edge<N: Drop, E: Drop, Ix: IndexType, D: GuardedDag<N, E, Ix>>(
     b: NodeIndex<Ix>,
     weight: E,
 ) -> Reply<N, E, Ix>
-    ensures step { IsEdgeStep Ix.greatest (D.graph dag.old) (by_numbers Ix.number (a, b, weight)) (answer_of Ix.number result) (D.graph dag.new) }
+    ensures step { IsEdgeStep Ix.greatest (D.graph dag.old) (by_numbers Ix.number (a, b, weight))
+        (answer_of Ix.number result) (D.graph dag.new) }
     ensures acyclic { IsAcyclic (D.graph dag.new) }
 {
     // Asked before the nodes are, for its contract too: there is no cycle.
@@ -60,8 +62,8 @@ fn update_edge<N: Drop, E: Drop, Ix: IndexType, D: GuardedDag<N, E, Ix>>(
     b: NodeIndex<Ix>,
     weight: E,
 ) -> Reply<N, E, Ix>
-    ensures step { IsUpdateStep Ix.greatest (edge_between (D.graph dag.old) (Ix.number a) (Ix.number b)) (D.graph dag.old)
-        (by_numbers Ix.number (a, b, weight)) (answer_of Ix.number result) (D.graph dag.new) }
+    ensures step { IsUpdateStep Ix.greatest (edge_between (D.graph dag.old) (Ix.number a) (Ix.number b))
+        (D.graph dag.old) (by_numbers Ix.number (a, b, weight)) (answer_of Ix.number result) (D.graph dag.new) }
     ensures acyclic { IsAcyclic (D.graph dag.new) }
 {
     let Some(e) = dag.find_edge(a, b) else {
@@ -78,7 +80,8 @@ fn add_child<N: Drop, E: Drop, Ix: IndexType, D: GuardedDag<N, E, Ix>>(
     edge: E,
     node: N,
 ) -> Reply<N, E, Ix>
-    ensures step { IsNeighborStep Outgoing Ix.greatest (D.graph dag.old) (Ix.number parent) edge node (answer_of Ix.number result) (D.graph dag.new) }
+    ensures step { IsNeighborStep Outgoing Ix.greatest (D.graph dag.old) (Ix.number parent) edge node
+        (answer_of Ix.number result) (D.graph dag.new) }
     ensures acyclic { IsAcyclic (D.graph dag.new) }
 {
     let indices_left = dag.can_add_edge() && dag.can_add_node();
@@ -100,7 +103,8 @@ fn add_parent<N: Drop, E: Drop, Ix: IndexType, D: GuardedDag<N, E, Ix>>(
     edge: E,
     node: N,
 ) -> Reply<N, E, Ix>
-    ensures step { IsNeighborStep Incoming Ix.greatest (D.graph dag.old) (Ix.number child) edge node (answer_of Ix.number result) (D.graph dag.new) }
+    ensures step { IsNeighborStep Incoming Ix.greatest (D.graph dag.old) (Ix.number child) edge node
+        (answer_of Ix.number result) (D.graph dag.new) }
     ensures acyclic { IsAcyclic (D.graph dag.new) }
 {
     let indices_left = dag.can_add_edge() && dag.can_add_node();
@@ -120,7 +124,8 @@ fn add_edges<N: Drop, E: Drop, Ix: IndexType, D: GuardedDag<N, E, Ix>>(
     dag: &mut D,
     edges: Vec<NewEdge<E, Ix>>,
 ) -> Reply<N, E, Ix>
-    ensures step { IsSeriesStep Ix.greatest (D.graph dag.old) (map (by_numbers Ix.number) edges.items) (answer_of Ix.number result) (D.graph dag.new) }
+    ensures step { IsSeriesStep Ix.greatest (D.graph dag.old) (map (by_numbers Ix.number) edges.items)
+        (answer_of Ix.number result) (D.graph dag.new) }
     ensures acyclic { IsAcyclic (D.graph dag.new) }
 {
     match dag.add_edges(edges) {
@@ -149,13 +154,14 @@ fn walk<N: Drop, E: Drop, Ix: IndexType>(
 
 /// Carries out one command. A refused command changes nothing.
 ///
-/// Where a node that an edge is added to does not exist, the reply is `Missing`. Otherwise, where no index is left, it is
-/// `Full`, and only then `Cycle` or `CycleAll`, where a cycle would be closed.
+/// Where a node that an edge is added to does not exist, the reply is `Missing`. Otherwise, where no index is left, it
+/// is `Full`, and only then `Cycle` or `CycleAll`, where a cycle would be closed.
 pub fn perform<N: Drop, E: Drop, Ix: IndexType, D: GuardedDag<N, E, Ix>>(
     dag: &mut D,
     command: Command<N, E, Ix>,
 ) -> Reply<N, E, Ix>
-    ensures step { IsStep D.kind Ix.greatest (D.graph dag.old) (request_of Ix.number command) (answer_of Ix.number result) (D.graph dag.new) }
+    ensures step { IsStep D.kind Ix.greatest (D.graph dag.old) (request_of Ix.number command)
+        (answer_of Ix.number result) (D.graph dag.new) }
     ensures acyclic { IsAcyclic (D.graph dag.new) }
 {
     // Asked for its contract alone: there is no cycle.

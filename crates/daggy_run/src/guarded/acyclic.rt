@@ -1,5 +1,5 @@
 //! Both kinds of dag as dags that take commands.
-ghost use Rattle.std.specs.Prelude.{◌≡◌, ℕ, ◌<◌, ◌≤◌, ◌^◌, ◌↔◌, ◌⊎◌, IsTrue, Err, None, IfOk, IfErr, OnOk, OnErr, OnSome, IfSome, IfNone, IsOkAnd, length, map};
+ghost use Rattle.std.specs.Prelude.{◌≡◌, ℕ, ◌<◌, ◌≤◌, ◌^◌, ◌↔◌, ◌⊎◌, IsTrue, Err, None, IfOk, IfErr, OnOk, OnErr, OnSome, IfSome, IfNone, IsOkAnd, length, map, refl};
 ghost use Rattle.std.specs.Option.{option_map};
 ghost use Rattle.daggy_base.specs.Graph.{Graph, empty, HasNode, HasEdge, node_weight as weight_at, edge_at, ends_of, pair_of, node_count as node_count_of, edge_count as edge_count_of, node_bound as node_bound_of, out_list};
 ghost use Rattle.daggy_base.specs.Path.{Reaches, IsAcyclic};
@@ -20,7 +20,6 @@ ghost use Rattle.daggy_guard.specs.Series.{by_numbers};
 ghost use Rattle.daggy_run.specs.Kinds.{kind_of};
 ghost use Rattle.daggy_run.specs.declared.guarded.Kind.{Kind as DagKind};
 ghost use Rattle.daggy_run.specs.declared.guarded.Kind.TheVariants.{Compact, Stable};
-ghost use Rattle.std.specs.Prelude.{refl};
 ghost use Rattle.daggy_run.specs.Steps.{walk_of};
 ghost use Rattle.daggy_run.specs.EdgeLists.{AddsAll, IsRefused};
 
@@ -71,7 +70,8 @@ fn walk_along<Ix: IndexType, S: Store<Ix>>(
     dir: Direction,
     n: NodeIndex<Ix>,
 ) -> Result<Vec<Neighbor<Ix>>, AllocError>
-    ensures { IfOk result (λ items. map (pair_of Ix.number) items.items ≡ walk_of dir (S.graph store.now) (Ix.number n)) }
+    ensures { IfOk result (λ items. map (pair_of Ix.number) items.items
+        ≡ walk_of dir (S.graph store.now) (Ix.number n)) }
 {
     // Asked for its contract alone: an edge comes once in its list.
     let _well_formed = store.node_count();
@@ -146,7 +146,8 @@ where
         requires parent { HasNode self.old.graph (Ix.number a) }
         requires child { HasNode self.old.graph (Ix.number b) }
         requires room { edge_count_of self.old.graph < Ix.greatest }
-        ensures cycle { (result ≡ Err (ByCycle (record { 0 = weight }))) ↔ Reaches self.old.graph (Ix.number b) (Ix.number a) }
+        ensures cycle { (result ≡ Err (ByCycle (record { 0 = weight })))
+            ↔ Reaches self.old.graph (Ix.number b) (Ix.number a) }
         ensures refusal { IfErr result (λ e. (e ≡ ByCycle (record { 0 = weight })) ⊎ (e ≡ EdgeMemory weight)) }
         ensures added { IfOk result (λ e. (Ix.number e ≡ next_edge self.old.graph)
             × (self.new.graph ≡ with_edge self.old.graph (Ix.number a) (Ix.number b) weight)) }
@@ -165,10 +166,13 @@ where
     ) -> Result<EdgeIndex<Ix>, EdgeError<E>>
         requires parent { HasNode self.old.graph (Ix.number a) }
         requires child { HasNode self.old.graph (Ix.number b) }
-        requires room { edge_between self.old.graph (Ix.number a) (Ix.number b) ≡ None → edge_count_of self.old.graph < Ix.greatest }
+        requires room { edge_between self.old.graph (Ix.number a) (Ix.number b) ≡ None
+            → edge_count_of self.old.graph < Ix.greatest }
         ensures replaced { IfSome (edge_between self.old.graph (Ix.number a) (Ix.number b)) (λ e.
-            IsOkAnd result (λ updated. Ix.number updated ≡ e) × (self.new.graph ≡ with_edge_weight self.old.graph e weight)) }
-        ensures cycle { (result ≡ Err (ByCycle (record { 0 = weight }))) ↔ Reaches self.old.graph (Ix.number b) (Ix.number a) }
+            IsOkAnd result (λ updated. Ix.number updated ≡ e)
+            × (self.new.graph ≡ with_edge_weight self.old.graph e weight)) }
+        ensures cycle { (result ≡ Err (ByCycle (record { 0 = weight })))
+            ↔ Reaches self.old.graph (Ix.number b) (Ix.number a) }
         ensures refusal { IfErr result (λ e. (e ≡ ByCycle (record { 0 = weight })) ⊎ (e ≡ EdgeMemory weight)) }
         ensures added { edge_between self.old.graph (Ix.number a) (Ix.number b) ≡ None → IfOk result (λ e.
             (Ix.number e ≡ next_edge self.old.graph)
@@ -189,7 +193,8 @@ where
         requires parent { HasNode self.old.graph (Ix.number parent) }
         requires edge_room { edge_count_of self.old.graph < Ix.greatest }
         requires node_room { node_count_of self.old.graph < Ix.greatest }
-        ensures added { IfOk result (λ r. (Ix.number r.0 ≡ next_edge self.old.graph) × (Ix.number r.1 ≡ next_node self.old.graph)
+        ensures added { IfOk result (λ r. (Ix.number r.0 ≡ next_edge self.old.graph)
+            × (Ix.number r.1 ≡ next_node self.old.graph)
             × (self.new.graph ≡ with_neighbor Outgoing self.old.graph (Ix.number parent) edge node)) }
         ensures refusal { IfErr result (λ e. e ≡ ChildMemory edge node) }
         ensures unchanged { OnErr result (self.new.graph ≡ self.old.graph) }
@@ -208,7 +213,8 @@ where
         requires child { HasNode self.old.graph (Ix.number child) }
         requires edge_room { edge_count_of self.old.graph < Ix.greatest }
         requires node_room { node_count_of self.old.graph < Ix.greatest }
-        ensures added { IfOk result (λ r. (Ix.number r.0 ≡ next_edge self.old.graph) × (Ix.number r.1 ≡ next_node self.old.graph)
+        ensures added { IfOk result (λ r. (Ix.number r.0 ≡ next_edge self.old.graph)
+            × (Ix.number r.1 ≡ next_node self.old.graph)
             × (self.new.graph ≡ with_neighbor Incoming self.old.graph (Ix.number child) edge node)) }
         ensures refusal { IfErr result (λ e. e ≡ ChildMemory edge node) }
         ensures unchanged { OnErr result (self.new.graph ≡ self.old.graph) }
@@ -218,9 +224,10 @@ where
     }
 
     fn add_edges(&mut self, edges: Vec<NewEdge<E, Ix>>) -> Result<Vec<EdgeIndex<Ix>>, EdgesError<E>>
-        ensures added { IfOk result (λ indices. AddsAll Ix.greatest self.old.graph (map (by_numbers Ix.number) edges.items)
-            (map Ix.number indices.items) self.new.graph) }
-        ensures refused { IfErr result (λ error. IsRefused Ix.greatest self.old.graph (map (by_numbers Ix.number) edges.items) error) }
+        ensures added { IfOk result (λ indices. AddsAll Ix.greatest self.old.graph
+            (map (by_numbers Ix.number) edges.items) (map Ix.number indices.items) self.new.graph) }
+        ensures refused { IfErr result (λ error. IsRefused Ix.greatest self.old.graph
+            (map (by_numbers Ix.number) edges.items) error) }
         ensures unchanged { OnErr result (self.new.graph ≡ self.old.graph) }
         ensures acyclic { IsAcyclic self.new.graph }
     {
@@ -233,7 +240,8 @@ where
     #[inline]
     fn find_edge(&self, a: NodeIndex<Ix>, b: NodeIndex<Ix>) -> Option<EdgeIndex<Ix>>
         ensures found { option_map Ix.number result ≡ edge_between self.now.graph (Ix.number a) (Ix.number b) }
-        ensures ends { OnSome result (HasNode self.now.graph (Ix.number a) × HasNode self.now.graph (Ix.number b)) }
+        ensures ends { OnSome result (HasNode self.now.graph (Ix.number a)
+            × HasNode self.now.graph (Ix.number b)) }
     {
         self.find_edge(a, b)
     }
@@ -266,13 +274,15 @@ where
     }
 
     fn children(&self, n: NodeIndex<Ix>) -> Result<Vec<Neighbor<Ix>>, AllocError>
-        ensures { IfOk result (λ items. map (pair_of Ix.number) items.items ≡ walk_of Outgoing self.now.graph (Ix.number n)) }
+        ensures { IfOk result (λ items. map (pair_of Ix.number) items.items
+            ≡ walk_of Outgoing self.now.graph (Ix.number n)) }
     {
         walk_along(self.allocator(), self.graph(), Direction::Outgoing, n)
     }
 
     fn parents(&self, n: NodeIndex<Ix>) -> Result<Vec<Neighbor<Ix>>, AllocError>
-        ensures { IfOk result (λ items. map (pair_of Ix.number) items.items ≡ walk_of Incoming self.now.graph (Ix.number n)) }
+        ensures { IfOk result (λ items. map (pair_of Ix.number) items.items
+            ≡ walk_of Incoming self.now.graph (Ix.number n)) }
     {
         walk_along(self.allocator(), self.graph(), Direction::Incoming, n)
     }
