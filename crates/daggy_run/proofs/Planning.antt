@@ -4,19 +4,33 @@ use Rattle.std.proofs.lemmas.List.{get_or_past, length-append}
 use Rattle.std.proofs.lemmas.Bool.{cases_lt}
 use Rattle.daggy_base.specs.Graph.{Graph, HasNode, node_bound}
 use Rattle.daggy_base.specs.Path.{AreJoined, IsPath, end_of}
-use Rattle.daggy_base.specs.WellFormed.{IsWellFormed}
+use Rattle.daggy_base.specs.WellFormed.{IsWellFormed, AreDistinct}
 use Rattle.daggy_base.proofs.Lists.{Mem, contains_mem, Contains-nil, Contains-here}
 use Rattle.daggy_base.proofs.Reading.{below_bound}
 use Rattle.daggy_base.proofs.Going.{path_more}
 use Rattle.daggy_run.specs.Plans.{StandsIn, IsAscending, IsPlan, IsLevel, IsByLevels, IsLowest, IsChain, IsShortest}
 use Rattle.daggy_run.specs.Levels.{AreLevels, AreStaged, IsBack}
 
--- the first of an ascending list is the least
+-- the first of an ascending list is less than the others
+first_less : (x : ℕ) (xs : List ℕ) → IsAscending (x ∷ xs) → (m : ℕ) → Mem m xs → x < m
+first_less x [] a m h = absurd h
+first_less x (y ∷ xs) a m (inl e) = omega (arith, a.0)
+first_less x (y ∷ xs) a m (inr b) = omega (arith, a.0, first_less y xs a.1 m b)
+
+ascending_rest : (x : ℕ) (xs : List ℕ) → IsAscending (x ∷ xs) → IsAscending xs
+ascending_rest x [] a = tt
+ascending_rest x (y ∷ xs) a = a.1
+
+ascending_distinct : (xs : List ℕ) → IsAscending xs → AreDistinct xs
+ascending_distinct [] a = tt
+ascending_distinct (x ∷ xs) a = (
+  λ h. let less = first_less x xs a x (contains_mem xs x h) in absurd (omega (arith, less)),
+  ascending_distinct xs (ascending_rest x xs a),
+)
+
 first_least : (x : ℕ) (xs : List ℕ) → IsAscending (x ∷ xs) → (m : ℕ) → Mem m (x ∷ xs) → x ≤ m
-first_least x [] a m (inl e) = omega arith
-first_least x [] a m (inr b) = absurd b
-first_least x (y ∷ xs) a m (inl e) = omega arith
-first_least x (y ∷ xs) a m (inr b) = omega (arith, a.0, first_least y xs a.1 m b)
+first_least x xs a m (inl e) = omega arith
+first_least x xs a m (inr b) = omega (arith, first_less x xs a m b)
 
 pub first_lowest : (xs : List ℕ) → xs ≢ [] → IsAscending xs → IsLowest (Contains xs) (slice_index xs 0)
 first_lowest [] some a = absurd (some refl)
@@ -91,6 +105,7 @@ module _ {N E : Type 0} (end : ℕ) (g : Graph N E) (w : IsWellFormed end g) (le
         record {
           exact = λ n. (λ h. (slice_index levels n, stands n _ h refl), λ p. let q = (s.exact p.0 n).0 p.1 in q.1);
           once = λ n j k a b. let p = (s.exact j n).0 a in let q = (s.exact k n).0 b in sym p.2 ∙ q.2;
+          distinct = λ k. ascending_distinct (slice_index_or stages k []) (s.ascending k);
           later = λ u v j k joined a b. let p = (s.exact j u).0 a in let q = (s.exact k v).0 b in omega (arith, f.above u v joined, p.2, q.2);
         }
 

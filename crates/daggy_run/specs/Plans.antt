@@ -3,6 +3,7 @@ use Rattle.std.specs.Prelude.{◌≡◌, ◌≢◌, ℕ, ◌<◌, ◌≤◌, ◌
 use Rattle.std.specs.declared.alloc.Global.{Global}
 use Rattle.daggy_base.specs.Graph.{Graph, HasNode}
 use Rattle.daggy_base.specs.Path.{AreJoined, IsPath, end_of}
+use Rattle.daggy_base.specs.WellFormed.{AreDistinct}
 
 -- stages by the numbers of their nodes
 abbrev pub stages_of : {I : Type 0} → (number : I → ℕ) → List (Vec I Global) → List (List ℕ)
@@ -18,11 +19,11 @@ IsAscending [] = Unit {0}
 IsAscending (n ∷ []) = Unit {0}
 IsAscending (n ∷ m ∷ ns) = (n < m) × IsAscending (m ∷ ns)
 
--- Each existing node stands in one stage, and in a later one than its parents. No stage is empty, and indices ascend
--- within a stage.
+-- each existing node stands once, in a later stage than its parents
 pub record IsPlan {N E : Type 0} (g : Graph N E) (stages : List (List ℕ)) : Type 0 where
   pub exact : (n : ℕ) → HasNode g n ↔ ((k : ℕ) × StandsIn stages k n)
   pub once : (n j k : ℕ) → StandsIn stages j n → StandsIn stages k n → j ≡ k
+  pub distinct : (k : ℕ) → AreDistinct (slice_index_or stages k [])
   pub later : (u v j k : ℕ) → AreJoined g u v → StandsIn stages j u → StandsIn stages k v → j < k
 
 -- the level of a node: how many edges the longest path that ends with it has
@@ -36,13 +37,13 @@ pub record IsByLevels {N E : Type 0} (g : Graph N E) (stages : List (List ℕ)) 
   pub full : (k : ℕ) → k < length stages → slice_index_or stages k [] ≢ []
   pub ascending : (k : ℕ) → IsAscending (slice_index_or stages k [])
 
--- the least node of a list
+-- the lowest node of which this holds
 pub record IsLowest (holds : ℕ → Type 0) (n : ℕ) : Type 0 where
   pub here : holds n
   pub least : (m : ℕ) → holds m → n ≤ m
 
--- A path with a node in each stage. It ends with the lowest node of the last stage, and before each node stands the lowest
--- of its parents in the stage just before.
+-- A path with a node in each stage, or nothing if there is no stage. It ends with the lowest node of the last stage, and
+-- before each node stands the lowest of its parents in the stage just before.
 pub record IsChain {N E : Type 0} (g : Graph N E) (stages : List (List ℕ)) (chain : List ℕ) : Type 0 where
   pub as_long : length chain ≡ length stages
   pub path : (chain ≡ []) ⊎ IsPath g chain

@@ -244,7 +244,7 @@ pub trait GuardedDag<N, E, Ix: IndexType> {
         requires { HasEdge (graph self.now) (Ix.number e) }
         ensures { IsLook Ix.greatest (graph self.now) (Ix.number e) (Ix.number result.0) (Ix.number result.1) };
 
-    /// The nodes, every parent before its children.
+    /// The nodes, every parent before its children. Going over all of them costs the nodes alone.
     fn topological_order(&self) -> TopologicalOrder<'_, Ix>
         ensures ordered { IsOrderOf (graph self.now) result }
         ensures fits { length result < 2 ^ 64 };

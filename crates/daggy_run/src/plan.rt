@@ -3,6 +3,8 @@ ghost use Rattle.std.specs.Prelude.{map, IfOk};
 ghost use Rattle.daggy_run.specs.Plans.{stages_of, IsPlan, IsByLevels, IsChain, IsShortest};
 
 use crate::guarded::GuardedDag;
+use crate::plan::levels::levels_of;
+use crate::plan::stages::{Plan, chain_back, stages_by};
 use daggy_base::index::IndexType;
 use std::alloc::{AllocError, Global};
 
@@ -11,18 +13,19 @@ pub mod stages;
 
 /// Plans the nodes of a dag in stages.
 ///
-/// The error says that there was no memory for the plan. The cost is that of all nodes and edges.
+/// The error says that there was no memory for the plan. The cost is that of all slots of nodes and of all edges.
 pub fn plan<N, E, Ix: IndexType, D: GuardedDag<N, E, Ix>>(
     alloc: Global,
     dag: &D,
-) -> Result<stages::Plan<Ix>, AllocError>
+) -> Result<Plan<Ix>, AllocError>
     ensures plan { IfOk result (λ p. IsPlan (D.graph dag.now) (stages_of Ix.number p.stages.items)) }
     ensures by_levels { IfOk result (λ p. IsByLevels (D.graph dag.now) (stages_of Ix.number p.stages.items)) }
-    ensures chain { IfOk result (λ p. IsChain (D.graph dag.now) (stages_of Ix.number p.stages.items) (map Ix.number p.chain.items)) }
+    ensures chain { IfOk result (λ p. IsChain (D.graph dag.now)
+        (stages_of Ix.number p.stages.items) (map Ix.number p.chain.items)) }
     ensures shortest { IfOk result (λ p. IsShortest (D.graph dag.now) (stages_of Ix.number p.stages.items)) }
 {
-    let found = levels::levels_of(alloc, dag)?;
-    let stages = stages::stages_by(alloc, dag, found.levels.as_slice())?;
-    let chain = stages::chain_back(alloc, stages.as_slice(), found.parents.as_slice())?;
-    Ok(stages::Plan { stages, chain })
+    let found = levels_of(alloc, dag)?;
+    let stages = stages_by(alloc, dag, found.levels.as_slice())?;
+    let chain = chain_back(alloc, stages.as_slice(), found.parents.as_slice())?;
+    Ok(Plan { stages, chain })
 }

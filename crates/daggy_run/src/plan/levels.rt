@@ -10,24 +10,27 @@ use daggy_base::index::{EdgeIndex, IndexType, NodeIndex};
 use daggy_base::link::Link;
 use std::alloc::{AllocError, Global};
 
-// For each index of a node how many edges the longest path to the node has, and the lowest of its parents that has one
-// edge less, or 0 if it has no parents.
+// For each index of a node how many edges the longest path to the node has, and the lowest of its
+// parents that has one edge less, or 0 if it has no parents.
 #[derive(Drop)]
 pub(crate) struct Levels<Ix: IndexType> {
     pub(crate) levels: Vec<usize>,
     pub(crate) parents: Vec<Link<Ix>>,
 }
 
-// The level of each node, found along the dag's order: a node's level is known once its parents were gone through.
+// The level of each node, found along the dag's order: a node's level is known once its parents were
+// gone through.
 pub(crate) fn levels_of<N, E, Ix: IndexType, D: GuardedDag<N, E, Ix>>(
     alloc: Global,
     dag: &D,
 ) -> Result<Levels<Ix>, AllocError>
     ensures dag { IsDag Ix.greatest (D.graph dag.now) }
-    ensures found { IfOk result (λ f. (most : ℕ) × AreLevels (AreJoined (D.graph dag.now)) most f.levels.items f.parents.items) }
+    ensures found { IfOk result (λ f.
+        (most : ℕ) × AreLevels (AreJoined (D.graph dag.now)) most f.levels.items f.parents.items) }
     ensures levels { IfOk result (λ f. vec_len f.levels ≡ node_bound_of (D.graph dag.now)) }
     ensures parents { IfOk result (λ f. vec_len f.parents ≡ node_bound_of (D.graph dag.now)) }
-    ensures within { IfOk result (λ f. (k : ℕ) → k < vec_len f.parents → slice_index f.parents.items k < vec_len f.parents) }
+    ensures within { IfOk result (λ f. (k : ℕ) → k < vec_len f.parents
+        → slice_index f.parents.items k < vec_len f.parents) }
 {
     let bound = dag.node_bound();
     let mut levels = Vec::new(alloc);
@@ -83,7 +86,8 @@ fn raise<Ix: IndexType>(
 )
     requires levels { child < vec_len levels.old }
     requires parents { child < vec_len parents.old }
-    ensures raised { IsRaised (Ix.number n) level child levels.old.items parents.old.items levels.new.items parents.new.items }
+    ensures raised { IsRaised (Ix.number n) level child
+        levels.old.items parents.old.items levels.new.items parents.new.items }
 {
     if levels[child] < level {
         levels[child] = level;
