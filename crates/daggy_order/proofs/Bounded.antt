@@ -1,15 +1,16 @@
 -- A search among nodes whose positions are below a limit.
-use Rattle.std.proofs.Common.{◌≡◌, ◌≢◌, ℕ, ◌+◌, ◌<◌, ◌≤◌, Bool, true, false, ◌↔◌, inl, inr, List, [], ◌∷◌, ◌++◌, length, get_or, take, refl, sym, ap, subst, ◌∙◌, arith}
+use Rattle.std.proofs.Common.{◌≡◌, ◌≢◌, ℕ, ◌+◌, ◌<◌, ◌≤◌, Bool, true, false, ◌↔◌, inl, inr, List, [], ◌∷◌, ◌++◌, length, get_or, set, take, refl, sym, ap, subst, ◌∙◌, arith}
 use Rattle.std.specs.List.{Contains}
-use Rattle.std.proofs.lemmas.List.{length-append}
+use Rattle.std.proofs.lemmas.Bool.{false≢true}
+use Rattle.std.proofs.lemmas.List.{length-append, length-set, length-take-le, take_more_set}
 use Rattle.daggy_base.specs.Graph.{Graph, HasNode, out_list}
 use Rattle.daggy_base.specs.Path.{AreJoined, IsPath, Reaches, end_of}
 use Rattle.daggy_order.specs.Ordered.{edges_from}
 use Rattle.daggy_base.specs.WellFormed.{IsWellFormed}
 use Rattle.daggy_base.specs.Look.{IsLook}
-use Rattle.daggy_base.proofs.Lists.{Mem, Unique, mem_out, mem_right, unique_right, contains_mem}
+use Rattle.daggy_base.proofs.Lists.{Mem, Unique, mem_out, mem_left, mem_right, mem_cases, unique_append, unique_right, contains_mem}
 use Rattle.daggy_base.proofs.Reading.{lists_of, read_part}
-use Rattle.daggy_base.proofs.Going.{Met, reaches_stays}
+use Rattle.daggy_base.proofs.Going.{Met, reaches_stays, fewer_than, marked_within, set_marked}
 use Rattle.daggy_base.proofs.Searching.{Searching, all_met_here, from_marked, only_reached, child_found}
 
 -- sums over the nodes of a list
@@ -50,6 +51,81 @@ last_exists g u (v ∷ rest) p = last_exists g v rest p.2
 
 pub reached_exists : {N E : Type 0} (g : Graph N E) (u v : ℕ) → Reaches g u v → HasNode g v
 reached_exists g u v r = let P : ℕ → Type 0 = λ z. HasNode g z in subst P r.2 (last_exists g u r.0 r.1)
+
+-- the marked numbers, in a list
+pub record Finding (marks : List Bool) (found : List ℕ) (size count : ℕ) : Type 0 where
+  pub once : Unique (take count found)
+  pub exact : (n : ℕ) → (get_or marks n false ≡ true) ↔ Mem n (take count found)
+  pub fits : count ≤ length marks
+  pub room : length marks ≤ length found
+  pub sized : length found ≡ size
+
+pub finds_first : (marks : List Bool) (found : List ℕ) (n k m : ℕ) → ((i : ℕ) → get_or marks i false ≡ false) → n < length marks → length marks ≤ length found → k ≡ n → m ≡ n → Finding (set marks k true) (set found 0 m) (length found) 1
+finds_first marks found n k m clear low room is is' =
+    let some : 0 < length found = omega (arith, low, room) in
+    let one : take 1 (set found 0 m) ≡ m ∷ [] = take_more_set found 0 m some in
+    let U : List ℕ → Type 0 = λ z. Unique z in
+    record {
+      once = subst U (sym one) (λ h. h, tt);
+      exact = λ i. (
+        λ h. elim ((set_marked marks k i (omega (arith, low, is))).0 h) [
+          | inl e ↦ (let M : List ℕ → Type 0 = λ z. Mem i z in subst M (sym one) (inl (e ∙ (is ∙ sym is'))))
+          | inr old ↦ absurd (false≢true (sym (clear i) ∙ old))
+        ],
+        λ h. (
+            let M : List ℕ → Type 0 = λ z. Mem i z in
+            elim (subst M one h) [ inl e ↦ (set_marked marks k i (omega (arith, low, is))).1 (inl (e ∙ (is' ∙ sym is))) | inr none ↦ absurd none ]
+            ),
+      );
+      fits = omega (arith, low, length-set marks k true);
+      room = omega (arith, room, length-set marks k true, length-set found 0 m);
+      sized = length-set found 0 m;
+    }
+
+module _ {marks : List Bool} {found : List ℕ} {size count : ℕ} (s : Finding marks found size count) (v : ℕ) (low : v < length marks) (unseen : get_or marks v false ≡ false) where
+  new_found : Mem v (take count found) → ⊥
+  new_found m = false≢true (sym unseen ∙ (s.exact v).1 m)
+
+  pub finds_room : count < length marks
+  finds_room =
+      let long : length (take count found) ≡ count = length-take-le count found (omega (arith, s.fits, s.room)) in
+      let few = fewer_than (v ∷ take count found) (length marks) (new_found, s.once) (λ x m.
+      elim m [
+        | inl e ↦ omega (arith, e, low)
+        | inr b ↦ marked_within marks x ((s.exact x).1 b)
+      ]) in
+      omega (arith, few, long)
+
+  pub finds_more : (k m : ℕ) → k ≡ v → m ≡ v → Finding (set marks k true) (set found count m) size (count + 1)
+  finds_more k m is is' =
+      let room = finds_room in
+      let more : take (count + 1) (set found count m) ≡ take count found ++ m ∷ [] = take_more_set found count m (omega (arith, room, s.room)) in
+      let U : List ℕ → Type 0 = λ z. Unique z in
+      record {
+        once = subst U (sym more) (unique_append (take count found) (m ∷ []) s.once (λ h. h, tt) (λ x a b. elim b [
+          | inl e ↦ new_found (let M : ℕ → Type 0 = λ z. Mem z (take count found) in subst M (e ∙ is') a)
+          | inr none ↦ none
+        ]));
+        exact = λ i. (
+          λ h. (
+              let M : List ℕ → Type 0 = λ z. Mem i z in
+              subst M (sym more) (elim ((set_marked marks k i (omega (arith, low, is))).0 h) [
+                | inl e ↦ mem_right (take count found) (m ∷ []) i (inl (e ∙ (is ∙ sym is')))
+                | inr old ↦ mem_left (take count found) (m ∷ []) i ((s.exact i).0 old)
+              ])
+              ),
+          λ h. (
+              let M : List ℕ → Type 0 = λ z. Mem i z in
+              elim (mem_cases (take count found) (m ∷ []) i (subst M more h)) [
+                | inl a ↦ (set_marked marks k i (omega (arith, low, is))).1 (inr ((s.exact i).1 a))
+                | inr b ↦ elim b [ inl e ↦ (set_marked marks k i (omega (arith, low, is))).1 (inl (e ∙ (is' ∙ sym is))) | inr none ↦ absurd none ]
+              ]
+              ),
+        );
+        fits = omega (arith, room, length-set marks k true);
+        room = omega (arith, s.room, length-set marks k true, length-set found count m);
+        sized = length-set found count m ∙ s.sized;
+      }
 
 -- what is entered, and what is passed over
 abbrev pub Below : (positions : List ℕ) → (limit : ℕ) → ℕ → Type 0

@@ -1,2 +1,2 @@
 pub mod Ordered
-pub mod Slots
+pub mod Links

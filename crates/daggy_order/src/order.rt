@@ -6,16 +6,18 @@ ghost use Rattle.daggy_order.specs.Ordered.{place};
 
 use daggy_base::index::{DefaultIx, IndexType, NodeIndex};
 use daggy_base::link::Link;
-use slots::{close_gaps, count_held, grow_positions, nth_held, open_front, set_places, stands};
+use labels::{label_first, label_last};
+use links::{Links, grow};
 use std::alloc::{AllocError, Global};
 use std::marker::Model;
 
 mod edge;
+mod labels;
+mod links;
+mod moving;
 mod naming;
 mod nodes;
-mod partition;
 mod search;
-mod slots;
 mod sorting;
 
 pub use edge::order_edge;
@@ -23,25 +25,23 @@ pub use nodes::Nodes;
 
 /// A list of nodes, each at most once, in which nodes come and go at both ends and can be moved.
 ///
-/// The nodes stand in slots, and a slot may be a gap, so that a node is removed, or put first,
-/// without moving the others.
+/// Each node leads to the next and to the one before it, and has a label. Labels ascend along the list, so two of them
+/// tell which node stands before the other.
 #[derive(Drop)]
 pub struct Order<Ix: IndexType = DefaultIx> {
-    slots: Vec<Link<Ix>>,
-    positions: Vec<usize>,
-    first: usize,
-    count: usize,
+    links: Links<Ix>,
+    labels: Vec<u64>,
 }
 
 impl<Ix: IndexType> Model for Order<Ix> {
     ghost use Rattle.std.specs.Prelude.{ℕ, List};
-    ghost use Rattle.daggy_order.specs.Slots.{held, IsKept};
+    ghost use Rattle.daggy_order.specs.Links.{IsLabelled};
 
     ghost Value = { List ℕ };
 
-    ghost view = { λ o. held Ix.greatest o.slots.items };
+    ghost view = { λ o. o.links.nodes };
 
-    ghost invariant = { λ o. IsKept Ix.greatest o.slots.items o.positions.items o.first o.count };
+    ghost invariant = { λ o. IsLabelled o.labels.items o.links.nodes };
 }
 
 impl<Ix: IndexType> Order<Ix> {
@@ -50,10 +50,8 @@ impl<Ix: IndexType> Order<Ix> {
         ensures { result ≡ [] }
     {
         Order {
-            slots: Vec::new(alloc),
-            positions: Vec::new(alloc),
-            first: 0,
-            count: 0,
+            links: Links::new(alloc),
+            labels: Vec::new(alloc),
         }
     }
 
@@ -63,7 +61,7 @@ impl<Ix: IndexType> Order<Ix> {
         ensures value { result ≡ length self.now }
         ensures distinct { AreDistinct self.now }
     {
-        self.count
+        self.links.len()
     }
 
     /// Whether it holds the node. Constant time.
@@ -71,7 +69,8 @@ impl<Ix: IndexType> Order<Ix> {
     pub fn holds(&self, n: NodeIndex<Ix>) -> bool
         ensures { IsTrue result ↔ Contains self.now (Ix.number n) }
     {
-        stands(self.slots.as_slice(), self.positions.as_slice(), n.index())
+        let i = n.index();
+        i < self.labels.len() && self.labels[i] > 0
     }
 
     /// Whether one node of it stands before another. Constant time.
@@ -81,11 +80,11 @@ impl<Ix: IndexType> Order<Ix> {
         requires second { Contains self.now (Ix.number b) }
         ensures { IsTrue result ↔ (place self.now (Ix.number a) < place self.now (Ix.number b)) }
     {
-        self.positions[a.index()] < self.positions[b.index()]
+        self.labels[a.index()] < self.labels[b.index()]
     }
 
-    /// Puts a node last. Constant time, but for growth. Where memory for that is refused, gaps are
-    /// closed, if there are some.
+    /// Puts a node last. Constant time, but for growth, and where labels reach the end of their
+    /// range: all are made anew then, once in many million nodes.
     #[inline]
     pub fn push(&mut self, n: NodeIndex<Ix>) -> Result<(), AllocError>
         requires real { Ix.number n < Ix.greatest }
@@ -93,34 +92,13 @@ impl<Ix: IndexType> Order<Ix> {
         ensures ok { OnOk result (self.new ≡ self.old ++ Ix.number n ∷ []) }
         ensures err { OnErr result (self.new ≡ self.old) }
     {
-        self.make_slot();
-        self.push_last(n)
-    }
-
-    // Makes room for one more slot, if there is memory, or closes the gaps.
-    #[inline]
-    fn make_slot(&mut self)
-        ensures { self.new ≡ self.old }
-    {
-        if self.slots.reserve(1).is_err() && self.count < self.slots.len() {
-            self.close();
-        }
-    }
-
-    // Puts a node last, in a slot behind the others.
-    #[inline]
-    fn push_last(&mut self, n: NodeIndex<Ix>) -> Result<(), AllocError>
-        requires real { Ix.number n < Ix.greatest }
-        requires absent { ¬ Contains self.old (Ix.number n) }
-        ensures ok { OnOk result (self.new ≡ self.old ++ Ix.number n ∷ []) }
-        ensures err { OnErr result (self.new ≡ self.old) }
-    {
         let i = n.index();
-        grow_positions(&mut self.positions, i)?;
-        let at = self.slots.len();
-        self.slots.push(Link::of_node(n))?;
-        self.positions[i] = at;
-        self.count += 1;
+        self.links.make_room(i)?;
+        grow(&mut self.labels, i, 0)?;
+        let last = self.links.last();
+        let n = Link::of_node(n);
+        self.links.put_last(n);
+        label_last(&self.links, &mut self.labels, last, n);
         Ok(())
     }
 
@@ -131,36 +109,21 @@ impl<Ix: IndexType> Order<Ix> {
     pub fn reserve(&mut self, bound: usize) -> Result<(), AllocError>
         ensures { self.new ≡ self.old }
     {
-        if bound > 0 {
-            grow_positions(&mut self.positions, bound - 1)?;
+        if bound == 0 {
+            return Ok(());
         }
-        self.slots.reserve(bound.saturating_sub(self.count))
+        self.links.make_room(bound - 1)?;
+        grow(&mut self.labels, bound - 1, 0)
     }
 
-    /// Takes a node out. Constant time, but where most slots are gaps: these are closed then.
+    /// Takes a node out. Constant time.
     #[inline]
     pub fn remove(&mut self, n: NodeIndex<Ix>)
         requires { Contains self.old (Ix.number n) }
         ensures { self.new ≡ without (Ix.number n) self.old }
     {
-        let at = self.positions[n.index()];
-        self.slots[at] = Link::end();
-        self.count -= 1;
-        if self.count < self.slots.len() / 4 {
-            self.close();
-        }
-    }
-
-    // Closes the gaps.
-    #[cold]
-    #[inline(never)]
-    fn close(&mut self)
-        ensures { self.new ≡ self.old }
-    {
-        close_gaps(&mut self.slots);
-        let len = self.slots.len();
-        set_places(self.slots.as_slice(), self.positions.as_mut_slice(), 0, len);
-        self.first = 0;
+        self.labels[n.index()] = 0;
+        self.links.remove(Link::of_node(n));
     }
 
     /// Gives a node the index `m` in its place, as where a graph moves its last node into a gap.
@@ -172,13 +135,20 @@ impl<Ix: IndexType> Order<Ix> {
         requires lower { Ix.number m ≤ Ix.number n }
         ensures { self.new ≡ map (renamed (Ix.number n) (Ix.number m)) self.old }
     {
-        let at = self.positions[n.index()];
-        self.slots[at] = Link::of_node(m);
-        self.positions[m.index()] = at;
+        let i = n.index();
+        let j = m.index();
+        let _count = self.links.len();
+        if i != j {
+            let label = self.labels[i];
+            self.labels[i] = 0;
+            self.labels[j] = label;
+            let n = Link::of_node(n);
+            self.links.put_behind(n, Link::of_node(m));
+            self.links.remove(n);
+        }
     }
 
-    /// Puts a node first. Constant time, but for growth: all nodes move to make as many gaps in
-    /// front of them.
+    /// Puts a node first. The cost is that of `push`.
     #[inline]
     pub fn push_first(&mut self, n: NodeIndex<Ix>) -> Result<(), AllocError>
         requires real { Ix.number n < Ix.greatest }
@@ -187,46 +157,41 @@ impl<Ix: IndexType> Order<Ix> {
         ensures err { OnErr result (self.new ≡ self.old) }
     {
         let i = n.index();
-        grow_positions(&mut self.positions, i)?;
-        self.first = open_front(
-            &mut self.slots,
-            self.positions.as_mut_slice(),
-            self.first,
-            self.count,
-            i,
-        )?;
-        self.first -= 1;
-        let at = self.first;
-        self.slots[at] = Link::of_node(n);
-        self.positions[i] = at;
-        self.count += 1;
+        self.links.make_room(i)?;
+        grow(&mut self.labels, i, 0)?;
+        let first = self.links.first();
+        let n = Link::of_node(n);
+        self.links.put_first(n);
+        label_first(&self.links, &mut self.labels, first, n);
         Ok(())
     }
 
-    /// At which place a node of it stands.
-    ///
-    /// Constant time while there are gaps in front of the nodes alone. Else the slots before it are
-    /// counted.
+    /// At which place a node of it stands. The nodes before it are counted.
     pub fn place(&self, n: NodeIndex<Ix>) -> usize
         requires { Contains self.now (Ix.number n) }
         ensures { result ≡ place self.now (Ix.number n) }
     {
-        let at = self.positions[n.index()];
-        if self.slots.len() - self.first == self.count {
-            return at - self.first;
+        let i = n.index();
+        let mut at = self.links.first();
+        'nodes: for place in 0..self.links.len() {
+            if at.index() == i {
+                return place;
+            }
+            at = self.links.next(at);
         }
-        count_held(self.slots.as_slice(), at)
+        self.links.len()
     }
 
-    /// The node at a place. The cost is that of `place`.
+    /// The node at a place. The nodes before it are counted.
     pub fn at(&self, place: usize) -> NodeIndex<Ix>
         requires { place < length self.now }
         ensures { Ix.number result ≡ slice_index self.now place }
     {
-        if self.slots.len() - self.first == self.count {
-            return self.slots[self.first + place].node();
+        let mut at = self.links.first();
+        'nodes: for _i in 0..place {
+            at = self.links.next(at);
         }
-        nth_held(self.slots.as_slice(), place)
+        at.node()
     }
 
     /// The same list, in memory of its own.
@@ -234,10 +199,8 @@ impl<Ix: IndexType> Order<Ix> {
         ensures { IfOk result (λ o. o ≡ self.now) }
     {
         Ok(Order {
-            slots: Vec::from_slice(*self.slots.allocator(), self.slots.as_slice())?,
-            positions: Vec::from_slice(*self.positions.allocator(), self.positions.as_slice())?,
-            first: self.first,
-            count: self.count,
+            links: self.links.try_clone()?,
+            labels: Vec::from_slice(*self.labels.allocator(), self.labels.as_slice())?,
         })
     }
 
@@ -246,8 +209,7 @@ impl<Ix: IndexType> Order<Ix> {
     pub fn clear(&mut self)
         ensures { self.new ≡ [] }
     {
-        self.slots.clear();
-        self.first = 0;
-        self.count = 0;
+        self.links.clear();
+        self.labels.clear();
     }
 }

@@ -1,14 +1,16 @@
 //! How an order makes way for an edge.
-ghost use Rattle.std.specs.Prelude.{◌≡◌, ℕ, ◌+◌, ◌<◌, ◌≤◌, ◌↔◌, true, false, length, slice_index, slice_index_or};
+ghost use Rattle.std.specs.Prelude.{◌≡◌, ℕ, ◌+◌, ◌<◌, ◌≤◌, ◌↔◌, ◌^◌, ◌++◌, ◌∷◌, List, Contains, true, false, length, slice_index_or};
 ghost use Rattle.daggy_base.specs.Graph.{HasNode, node_bound};
 ghost use Rattle.daggy_base.specs.Path.{Reaches};
+ghost use Rattle.daggy_base.specs.WellFormed.{AreDistinct};
 ghost use Rattle.daggy_order.specs.Ordered.{IsOrderOf, IsParted, place, stretch, edges_from};
-ghost use Rattle.daggy_order.specs.Slots.{held, ArePlaced};
+ghost use Rattle.daggy_order.specs.Links.{IsLabelled, IsMoved, StandBefore};
 
 use crate::order::Order;
-use crate::order::partition::partition_stretch;
+use crate::order::labels::spread;
+use crate::order::links::Links;
+use crate::order::moving::{move_behind, sort_by_label};
 use crate::order::search::reaches_below;
-use crate::order::slots::set_places;
 use daggy_base::index::{IndexType, NodeIndex};
 use daggy_base::link::Link;
 use daggy_base::search::{EdgeSource, Marks, Scratch};
@@ -16,8 +18,9 @@ use daggy_base::search::{EdgeSource, Marks, Scratch};
 /// Makes way for an edge from `a` to `b` that is to be added: moves nodes so that `a` stands before
 /// `b`, unless the edge would close a cycle.
 ///
-/// Constant time if `a` stands before `b`. Otherwise the cost is that of the nodes and edges
-/// between the two places, the gaps there included. It takes no memory.
+/// Constant time if `a` stands before `b`. Otherwise the cost is that of the nodes between the two
+/// places that `b` reaches and of their edges, of sorting these nodes, and of labels that have to be
+/// made anew where there is no room for theirs, on the average few. It takes no memory.
 pub fn order_edge<Ix: IndexType, S: EdgeSource<Ix>>(
     source: &mut S,
     order: &mut Order<Ix>,
@@ -45,72 +48,93 @@ pub fn order_edge<Ix: IndexType, S: EdgeSource<Ix>>(
     ensures room { scratch.new ≡ scratch.old }
 {
     scratch.marks.clear();
-    order_slots(
+    order_links(
         source,
-        order.slots.as_mut_slice(),
-        order.positions.as_mut_slice(),
+        &mut order.links,
+        &mut order.labels,
         a,
         b,
         &mut scratch.marks,
         scratch.stack.as_mut_slice(),
+        scratch.cursors.as_mut_slice(),
     )
 }
 
-// `order_edge` over the slots of an order.
-fn order_slots<Ix: IndexType, S: EdgeSource<Ix>>(
+// `order_edge` over the links and the labels of an order.
+fn order_links<Ix: IndexType, S: EdgeSource<Ix>>(
     source: &mut S,
-    slots: &mut [Link<Ix>],
-    positions: &mut [usize],
+    links: &mut Links<Ix>,
+    labels: &mut Vec<u64>,
     a: NodeIndex<Ix>,
     b: NodeIndex<Ix>,
     marks: &mut Marks,
     stack: &mut [Link<Ix>],
+    found: &mut [Link<Ix>],
 ) -> bool
     requires parent { HasNode (S.graph source.old) (Ix.number a) }
     requires child { HasNode (S.graph source.old) (Ix.number b) }
-    requires ordered { IsOrderOf (S.graph source.old) (held Ix.greatest slots.old) }
-    requires placed { ArePlaced Ix.greatest slots.old positions.old }
+    requires ordered { IsOrderOf (S.graph source.old) links.old.nodes }
+    requires labelled { IsLabelled labels.old.items links.old.nodes }
     requires marks_fit { node_bound (S.graph source.old) ≤ length marks.old }
     requires stack_fits { length marks.old ≤ length stack.old }
+    requires found_fits { length marks.old ≤ length found.old }
     requires cleared { (n : ℕ) → slice_index_or marks.old n false ≡ false }
     ensures decided { result ≡ false ↔ Reaches (S.graph source.old) (Ix.number b) (Ix.number a) }
-    ensures refused { result ≡ false → held Ix.greatest slots.new ≡ held Ix.greatest slots.old }
-    ensures ordered { IsOrderOf (S.graph source.old) (held Ix.greatest slots.new) }
-    ensures before { result ≡ true
-        → place (held Ix.greatest slots.new) (Ix.number a) < place (held Ix.greatest slots.new) (Ix.number b) }
-    ensures kept { place (held Ix.greatest slots.old) (Ix.number a) < place (held Ix.greatest slots.old) (Ix.number b)
-        → held Ix.greatest slots.new ≡ held Ix.greatest slots.old }
-    ensures moved { result ≡ true
-        → place (held Ix.greatest slots.old) (Ix.number b) < place (held Ix.greatest slots.old) (Ix.number a)
-        → IsParted (S.graph source.old) (Ix.number a) (Ix.number b)
-        (held Ix.greatest slots.old) (held Ix.greatest slots.new) }
+    ensures refused { result ≡ false → links.new.nodes ≡ links.old.nodes }
+    ensures ordered { IsOrderOf (S.graph source.old) links.new.nodes }
+    ensures before { result ≡ true → place links.new.nodes (Ix.number a) < place links.new.nodes (Ix.number b) }
+    ensures kept { place links.old.nodes (Ix.number a) < place links.old.nodes (Ix.number b)
+        → links.new.nodes ≡ links.old.nodes }
+    ensures moved { result ≡ true → place links.old.nodes (Ix.number b) < place links.old.nodes (Ix.number a)
+        → IsParted (S.graph source.old) (Ix.number a) (Ix.number b) links.old.nodes links.new.nodes }
     ensures same { S.graph source.new ≡ S.graph source.old }
     ensures counted { S.looks source.new ≤ S.looks source.old
-        + edges_from (S.graph source.old) (stretch (held Ix.greatest slots.old)
-        (place (held Ix.greatest slots.old) (Ix.number b)) (place (held Ix.greatest slots.old) (Ix.number a))) }
-    ensures unlooked { place (held Ix.greatest slots.old) (Ix.number a) ≤ place (held Ix.greatest slots.old) (Ix.number b)
+        + edges_from (S.graph source.old)
+        (stretch links.old.nodes (place links.old.nodes (Ix.number b)) (place links.old.nodes (Ix.number a))) }
+    ensures unlooked { place links.old.nodes (Ix.number a) ≤ place links.old.nodes (Ix.number b)
         → S.looks source.new ≡ S.looks source.old }
-    ensures placed { ArePlaced Ix.greatest slots.new positions.new }
-    ensures slots_kept { length slots.new ≡ length slots.old }
-    ensures count_kept { length (held Ix.greatest slots.new) ≡ length (held Ix.greatest slots.old) }
-    ensures gaps_kept { (i : ℕ) → i ≤ length slots.old → ((k : ℕ) → k < i → slice_index slots.old k ≡ Ix.greatest)
-        → (k : ℕ) → k < i → slice_index slots.new k ≡ Ix.greatest }
+    ensures labelled { IsLabelled labels.new.items links.new.nodes }
     ensures marks_kept { length marks.new ≡ length marks.old }
     ensures stack_kept { length stack.new ≡ length stack.old }
+    ensures found_kept { length found.new ≡ length found.old }
 {
     let _exists = source.contains_node(b);
-    let low = positions[b.index()];
-    let high = positions[a.index()];
+    let low = labels[b.index()];
+    let high = labels[a.index()];
     if high < low {
         return true;
     }
     if high == low {
         return false;
     }
-    if reaches_below(source, b, a, positions, high, marks, stack) {
-        return false;
+    let labels_now = labels.as_slice();
+    match reaches_below(source, b, a, labels_now, high, marks, stack, found) {
+        None => false,
+        Some(count) => {
+            move_sorted(links, labels, Link::of_node(a), &mut found[..count]);
+            true
+        }
     }
-    partition_stretch(slots, marks, stack, low, high + 1);
-    set_places(slots, positions, low, high + 1);
-    true
+}
+
+// Puts nodes that stand before `a` behind it, ordered as they stood, and labels them.
+fn move_sorted<Ix: IndexType>(
+    links: &mut Links<Ix>,
+    labels: &mut Vec<u64>,
+    a: Link<Ix>,
+    nodes: &mut [Link<Ix>],
+)
+    requires labelled { IsLabelled labels.old.items links.old.nodes }
+    requires stand { StandBefore links.old.nodes a nodes.old }
+    requires distinct { AreDistinct nodes.old }
+    ensures labelled { IsLabelled labels.new.items links.new.nodes }
+    ensures moved { IsMoved a nodes.old links.old.nodes links.new.nodes }
+    ensures sized { length nodes.new ≡ length nodes.old }
+{
+    let after = links.next(a);
+    sort_by_label(nodes, labels.as_slice());
+    let count = nodes.len();
+    let from = if count == 0 { after } else { nodes[0] };
+    move_behind(links, a, nodes);
+    spread(links, labels, a, from, count, after);
 }

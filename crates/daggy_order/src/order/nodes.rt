@@ -1,9 +1,9 @@
 //! Going over the nodes of an order.
-ghost use Rattle.std.specs.Prelude.{◌≡◌, ◌≢◌, ◌<◌, ◌≤◌, ◌^◌, length, drop, slice_index};
+ghost use Rattle.std.specs.Prelude.{◌≡◌, ◌<◌, ◌^◌, length};
 ghost use Rattle.std.specs.Iterator.{YieldsFirstBy, item_count};
-ghost use Rattle.daggy_order.specs.Slots.{held};
 
 use crate::order::Order;
+use crate::order::links::Links;
 use daggy_base::index::{DefaultIx, IndexType, NodeIndex};
 use daggy_base::link::Link;
 use std::alloc::AllocError;
@@ -12,24 +12,22 @@ use std::iter::{ExactSizeIterator, FusedIterator};
 use std::marker::Model;
 
 /// The nodes of an order, from the first to the last.
-///
-/// Going over all of them reads each slot of the order once.
 #[derive(Drop)]
 pub struct Nodes<'a, Ix: IndexType = DefaultIx> {
-    slots: &'a [Link<Ix>],
-    at: usize,
+    links: &'a Links<Ix>,
+    at: Link<Ix>,
     left: usize,
 }
 
 impl<'a, Ix: IndexType> Model for Nodes<'a, Ix> {
-    ghost use Rattle.std.specs.Prelude.{◌≡◌, ℕ, ◌≤◌, List, length, drop};
-    ghost use Rattle.daggy_order.specs.Slots.{held};
+    ghost use Rattle.std.specs.Prelude.{ℕ, List};
+    ghost use Rattle.daggy_order.specs.Links.{last_few, IsAt};
 
     ghost Value = { List ℕ };
 
-    ghost view = { λ it. held Ix.greatest (drop it.at it.slots.now) };
+    ghost view = { λ it. last_few it.left it.links.now.nodes };
 
-    ghost invariant = { λ it. (it.at ≤ length it.slots.now) × (it.left ≡ length (held Ix.greatest (drop it.at it.slots.now))) };
+    ghost invariant = { λ it. IsAt Ix.greatest it.links.now.nodes it.left it.at };
 }
 
 impl<Ix: IndexType> Order<Ix> {
@@ -40,29 +38,11 @@ impl<Ix: IndexType> Order<Ix> {
         ensures fits { length result < 2 ^ 64 }
     {
         Nodes {
-            slots: self.slots.as_slice(),
-            at: 0,
-            left: self.len(),
+            links: &self.links,
+            at: self.links.first(),
+            left: self.links.len(),
         }
     }
-}
-
-// The first slot from `at` on in which a node stands, or the number of slots.
-#[inline]
-fn next_held<Ix: IndexType>(slots: &[Link<Ix>], at: usize) -> usize
-    requires { at ≤ length slots.now }
-    ensures above { at ≤ result }
-    ensures within { result ≤ length slots.now }
-    ensures stands { result < length slots.now → slice_index slots.now result ≢ Ix.greatest }
-    ensures gaps { held Ix.greatest (drop result slots.now) ≡ held Ix.greatest (drop at slots.now) }
-{
-    let end = Link::<Ix>::end().index();
-    'gaps: for i in at..slots.len() {
-        if slots[i].index() != end {
-            return i;
-        }
-    }
-    slots.len()
 }
 
 impl<'a, Ix: IndexType> Iterator for Nodes<'a, Ix> {
@@ -74,12 +54,11 @@ impl<'a, Ix: IndexType> Iterator for Nodes<'a, Ix> {
 
     #[inline]
     fn next(&mut self) -> Option<NodeIndex<Ix>> {
-        let at = next_held(self.slots, self.at);
-        if at == self.slots.len() {
+        if self.left == 0 {
             return None;
         }
-        let n = self.slots[at];
-        self.at = at + 1;
+        let n = self.at;
+        self.at = self.links.next(n);
         self.left -= 1;
         Some(n.node())
     }
@@ -105,7 +84,7 @@ impl<'a, Ix: IndexType> Clone for Nodes<'a, Ix> {
 
     fn clone(&self) -> Result<Self, AllocError> {
         Ok(Nodes {
-            slots: self.slots,
+            links: self.links,
             at: self.at,
             left: self.left,
         })

@@ -1,12 +1,21 @@
-use Rattle.std.proofs.Common.{◌≡◌, ◌-◌, ◌+◌, ◌<◌, ℕ, List, ◌∙◌, ap, arith, length, get_or}
-use Rattle.std.proofs.lemmas.List.{get_or_default}
-use Rattle.daggy_order.specs.Slots.{held}
-use Rattle.daggy_order.proofs.Keeping.{dense_at}
+use Rattle.std.proofs.Common.{◌≡◌, ℕ, List, length, get_or, ap, ◌∙◌, arith}
+use Rattle.daggy_base.proofs.Lists.{mem_contains}
+use Rattle.daggy_order.proofs.Going.{goes_none, goes_in, goes_more, goes_at}
 use Rattle.daggy_order.proofs.order.Order.at.Goals as goal
 
-pub returns-then-len-self : goal.returns-then-len-self
-returns-then-len-self g c =
-    let dense : length c.self.inside.slots.items - c.self.inside.first ≡ c.self.inside.count = omega (arith, c.if-len-self.true, c.len.ensures, c.self.inside.slots.ok.0) in
-    let low : c.args.place < length (held g.Ix.IndexType.greatest c.self.inside.slots.items) = omega (arith, c.requires, ap (λ (z : List ℕ). length z) c.self.view_is) in
-    let d = dense_at c.self.invariant dense c.args.place low in
-    c.node.ensures.value ∙ (c.index.ensures ∙ (get_or_default c.self.inside.slots.items (c.self.inside.first + c.args.place) c.index.result.now 0 d.0 ∙ (d.1 ∙ ap (λ (z : List ℕ). get_or z c.args.place 0) c.self.view_is)))
+pub nodes-init : goal.nodes-init
+nodes-init g c = goes_none g.Ix.IndexType.greatest c.self.inside.links.nodes c.first-at.result c.first-at.ensures
+
+pub next-at-requires : goal.next-at-requires
+next-at-requires g c =
+    mem_contains c.self.inside.links.nodes c.nodes.at (goes_in c.nodes.invariant (omega (arith, c.nodes-test.true, c.requires, ap (λ (z : List ℕ). length z) c.self.view_is)))
+
+pub nodes-preserved : goal.nodes-preserved
+nodes-preserved g c =
+    goes_more c.nodes.invariant (omega (arith, c.nodes-test.true, c.requires, ap (λ (z : List ℕ). length z) c.self.view_is)) c.next-at.result c.next-at.ensures
+
+pub returns : goal.returns
+returns g c =
+    let ended : c.nodes._i ≡ c.args.place = omega (arith, c.nodes-test.false, c.nodes.auto._i-end) in
+    let here = goes_at c.nodes.invariant (omega (arith, ended, c.requires, ap (λ (z : List ℕ). length z) c.self.view_is)) in
+    c.node.ensures.value ∙ (here ∙ (ap (λ k. get_or c.self.inside.links.nodes k 0) ended ∙ ap (λ (z : List ℕ). get_or z c.args.place 0) c.self.view_is))

@@ -1,6 +1,6 @@
 use Rattle.std.proofs.Common.{◌<◌, ℕ, ◌∙◌, sym, subst}
 use Rattle.daggy_base.proofs.Lists.{contains_mem, mem_contains, mem_at}
-use Rattle.daggy_order.proofs.Sorting.{not_before}
+use Rattle.daggy_order.proofs.NodesSorted.{not_before}
 use Rattle.daggy_order.proofs.order.Order.of_nodes.Goals as goal
 
 pub push-requires-clause-real : goal.push-requires-clause-real

@@ -1,106 +1,44 @@
-use Rattle.std.proofs.Common.{rules, ◌≡◌, ◌+◌, ◌-◌, ◌<◌, ◌∷◌, ℕ, List, ◌∙◌, sym, ap, subst, arith, length, set}
-use Rattle.std.specs.Vec.{with_items}
-use Rattle.std.proofs.lemmas.List.{with_items_is}
-use Rattle.daggy_order.specs.Slots.{IsKept, held}
-use Rattle.daggy_base.proofs.Lists.{Mem, contains_mem, mem_contains}
-use Rattle.daggy_order.proofs.Keeping.{kept_grown, count_low, pushed_first, kept_first}
+use Rattle.std.proofs.Common.{◌≡◌, ◌<◌, ℕ, List, ◌∷◌, sym, ap, subst, inl, inr, arith}
+use Rattle.daggy_base.proofs.Lists.{Mem, contains_mem}
+use Rattle.daggy_order.specs.Links.{Listed}
+use Rattle.daggy_order.proofs.Labelled.{label_within, labelled_grown, labelled_more}
 use Rattle.daggy_order.proofs.order.Order.push_first.Goals as goal
 
-pub open_front-requires : goal.open_front-requires
-open_front-requires g c =
-    let grown : IsKept g.Ix.IndexType.greatest c.self.inside.slots.items c.grow_positions.new.positions.items c.self.inside.first c.self.inside.count = kept_grown c.self.invariant c.grow_positions.new.positions.items (omega (arith, c.grow_positions.ensures.longer, c.self.inside.positions.ok.0, c.grow_positions.new.positions.ok.0)) (λ k h. c.grow_positions.ensures.same k (omega (arith, h, c.self.inside.positions.ok.0))) in
-    let real : (g.Ix.IndexType.number c.args.n) ≡ g.Ix.IndexType.greatest → ⊥ = λ e. absurd (omega (arith, c.requires.real)) in
-    let Q : List ℕ → Type 0 = λ z. Mem (g.Ix.IndexType.number c.args.n) z in
-    let absent : Mem (g.Ix.IndexType.number c.args.n) (held g.Ix.IndexType.greatest c.self.inside.slots.items) → ⊥ = λ h. c.requires.absent (mem_contains c.args.self.now (g.Ix.IndexType.number c.args.n) (subst Q c.self.view_is h)) in
-    let low : (g.Ix.IndexType.number c.args.n) < length c.grow_positions.new.positions.items = omega (arith, c.in_ok-grow_positions.ensures.ok, c.index-i.ensures.value, c.grow_positions.new.positions.ok.0) in
-    let long : length c.as_mut_slice.result.now ≡ length c.grow_positions.new.positions.items = ap (λ (z : List ℕ). length z) c.as_mut_slice.ensures.value in
-    let P : List ℕ → Type 0 = λ z. IsKept g.Ix.IndexType.greatest c.self.inside.slots.items z c.self.inside.first c.self.inside.count in
+pub invariant_of-self-in_err-grow : goal.invariant_of-self-in_err-grow
+invariant_of-self-in_err-grow g c = labelled_grown c.self.invariant c.grow.new.list.items c.make_room.new.self.nodes c.make_room.ensures.same c.grow.ensures.same
+
+pub label_first-requires-clause-behind : goal.label_first-requires-clause-behind
+label_first-requires-clause-behind g c =
+    let nodes : List ℕ = c.self.inside.links.nodes in
+    let grown = labelled_grown c.self.invariant c.grow.new.list.items c.make_room.new.self.nodes c.make_room.ensures.same c.grow.ensures.same in
+    let n : ℕ = g.Ix.IndexType.number c.args.n in
+    let put : c.put_first.new.self.nodes ≡ c.of_node-n.result ∷ c.make_room.new.self.nodes = ap (λ (z : Listed). z.nodes) c.put_first.ensures in
     record {
-      kept = subst P (sym c.as_mut_slice.ensures.value) grown;
-      real = omega (arith, c.requires.real, c.index-i.ensures.value);
-      absent = λ h. (let R : ℕ → Type 0 = λ z. Mem z (held g.Ix.IndexType.greatest c.self.inside.slots.items) in absent (subst R c.index-i.ensures.value (contains_mem (held g.Ix.IndexType.greatest c.self.inside.slots.items) c.index-i.result h)));
-      numbered = omega (arith, low, long, c.index-i.ensures.value);
+      behind = c.make_room.new.self.nodes;
+      is = put;
+      begins = c.first-first.ensures;
+      ascending = grown.ascending;
     }
 
-pub overflow_sub-self : goal.overflow_sub-self
-overflow_sub-self g c =
-    omega (arith, c.in_ok-self-inside.ensures.ok.0)
-
-pub overflow_add-self : goal.overflow_add-self
-overflow_add-self g c =
-    let grown : IsKept g.Ix.IndexType.greatest c.self.inside.slots.items c.grow_positions.new.positions.items c.self.inside.first c.self.inside.count = kept_grown c.self.invariant c.grow_positions.new.positions.items (omega (arith, c.grow_positions.ensures.longer, c.self.inside.positions.ok.0, c.grow_positions.new.positions.ok.0)) (λ k h. c.grow_positions.ensures.same k (omega (arith, h, c.self.inside.positions.ok.0))) in
-    let real : (g.Ix.IndexType.number c.args.n) ≡ g.Ix.IndexType.greatest → ⊥ = λ e. absurd (omega (arith, c.requires.real)) in
-    let Q : List ℕ → Type 0 = λ z. Mem (g.Ix.IndexType.number c.args.n) z in
-    let absent : Mem (g.Ix.IndexType.number c.args.n) (held g.Ix.IndexType.greatest c.self.inside.slots.items) → ⊥ = λ h. c.requires.absent (mem_contains c.args.self.now (g.Ix.IndexType.number c.args.n) (subst Q c.self.view_is h)) in
-    let low : (g.Ix.IndexType.number c.args.n) < length c.grow_positions.new.positions.items = omega (arith, c.in_ok-grow_positions.ensures.ok, c.index-i.ensures.value, c.grow_positions.new.positions.ok.0) in
-    let few = count_low grown (g.Ix.IndexType.number c.args.n) real absent low in
-    let small = c.grow_positions.new.positions.small in
-    search rules
-
-pub index_mut-requires : goal.index_mut-requires
-index_mut-requires g c =
-    let grown : IsKept g.Ix.IndexType.greatest c.self.inside.slots.items c.grow_positions.new.positions.items c.self.inside.first c.self.inside.count = kept_grown c.self.invariant c.grow_positions.new.positions.items (omega (arith, c.grow_positions.ensures.longer, c.self.inside.positions.ok.0, c.grow_positions.new.positions.ok.0)) (λ k h. c.grow_positions.ensures.same k (omega (arith, h, c.self.inside.positions.ok.0))) in
-    let real : (g.Ix.IndexType.number c.args.n) ≡ g.Ix.IndexType.greatest → ⊥ = λ e. absurd (omega (arith, c.requires.real)) in
-    let Q : List ℕ → Type 0 = λ z. Mem (g.Ix.IndexType.number c.args.n) z in
-    let absent : Mem (g.Ix.IndexType.number c.args.n) (held g.Ix.IndexType.greatest c.self.inside.slots.items) → ⊥ = λ h. c.requires.absent (mem_contains c.args.self.now (g.Ix.IndexType.number c.args.n) (subst Q c.self.view_is h)) in
-    let low : (g.Ix.IndexType.number c.args.n) < length c.grow_positions.new.positions.items = omega (arith, c.in_ok-grow_positions.ensures.ok, c.index-i.ensures.value, c.grow_positions.new.positions.ok.0) in
-    let long : length c.as_mut_slice.result.now ≡ length c.grow_positions.new.positions.items = ap (λ (z : List ℕ). length z) c.as_mut_slice.ensures.value in
-    let opened : IsKept g.Ix.IndexType.greatest c.open_front.new.slots.items c.open_front.new.positions c.in_ok-self-inside.field-0 c.self.inside.count = c.in_ok-self-inside.ensures.ok.1 in
-    let some : 0 < c.in_ok-self-inside.field-0 = c.in_ok-self-inside.ensures.ok.0 in
-    let room : c.in_ok-self-inside.field-0 - 1 + 1 ≡ c.in_ok-self-inside.field-0 = omega arith in
-    let still : Mem (g.Ix.IndexType.number c.args.n) (held g.Ix.IndexType.greatest c.open_front.new.slots.items) → ⊥ = λ h. absent (subst Q c.open_front.ensures.same h) in
-    let low_now : (g.Ix.IndexType.number c.args.n) < length c.open_front.new.positions = omega (arith, low, long, c.open_front.ensures.sized) in
-    omega (arith, opened.within, c.open_front.new.slots.ok.0, some)
-
-pub index_mut-requires-2 : goal.index_mut-requires-2
-index_mut-requires-2 g c =
-    let low : (g.Ix.IndexType.number c.args.n) < length c.grow_positions.new.positions.items = omega (arith, c.in_ok-grow_positions.ensures.ok, c.index-i.ensures.value, c.grow_positions.new.positions.ok.0) in
-    omega (arith, low, c.index-i.ensures.value, c.grow_positions.new.positions.ok.0)
-
-pub invariant_of-self : goal.invariant_of-self
-invariant_of-self g c =
-    let grown : IsKept g.Ix.IndexType.greatest c.self.inside.slots.items c.grow_positions.new.positions.items c.self.inside.first c.self.inside.count = kept_grown c.self.invariant c.grow_positions.new.positions.items (omega (arith, c.grow_positions.ensures.longer, c.self.inside.positions.ok.0, c.grow_positions.new.positions.ok.0)) (λ k h. c.grow_positions.ensures.same k (omega (arith, h, c.self.inside.positions.ok.0))) in
-    grown
-
-pub invariant_of-self-in_err-self-inside : goal.invariant_of-self-in_err-self-inside
-invariant_of-self-in_err-self-inside g c =
-    let long : length c.as_mut_slice.result.now ≡ length c.grow_positions.new.positions.items = ap (λ (z : List ℕ). length z) c.as_mut_slice.ensures.value in
-    let written : (with_items c.grow_positions.new.positions c.open_front.new.positions).items ≡ c.open_front.new.positions = with_items_is c.grow_positions.new.positions c.open_front.new.positions (omega (arith, c.open_front.ensures.sized, long, c.grow_positions.new.positions.ok.0)) in
-    let P : List ℕ → Type 0 = λ z. IsKept g.Ix.IndexType.greatest c.open_front.new.slots.items z c.self.inside.first c.self.inside.count in
-    subst P (sym written) c.in_err-self-inside.ensures.err
+pub label_first-requires-clause-numbered : goal.label_first-requires-clause-numbered
+label_first-requires-clause-numbered g c =
+    let nodes : List ℕ = c.self.inside.links.nodes in
+    let grown = labelled_grown c.self.invariant c.grow.new.list.items c.make_room.new.self.nodes c.make_room.ensures.same c.grow.ensures.same in
+    let n : ℕ = g.Ix.IndexType.number c.args.n in
+    let put : c.put_first.new.self.nodes ≡ c.of_node-n.result ∷ c.make_room.new.self.nodes = ap (λ (z : Listed). z.nodes) c.put_first.ensures in
+    λ k h.
+    let P : List ℕ → Type 0 = λ z. Mem k z in
+    let low : n < c.grow.new.list.len = omega (arith, c.in_ok-grow.ensures.ok, c.index-i.ensures.value) in
+    let is_n : k ≡ c.of_node-n.result → k < c.grow.new.list.len = λ e. omega (arith, low, e, c.of_node-n.ensures) in
+    let old : Mem k c.make_room.new.self.nodes → k < c.grow.new.list.len = λ a. omega (arith, label_within grown k a, c.grow.new.list.ok.0) in
+    elim (subst P put (contains_mem c.put_first.new.self.nodes k h)) [ inl e ↦ is_n e | inr a ↦ old a ]
 
 pub invariant_of-self-2 : goal.invariant_of-self-2
 invariant_of-self-2 g c =
-    let grown : IsKept g.Ix.IndexType.greatest c.self.inside.slots.items c.grow_positions.new.positions.items c.self.inside.first c.self.inside.count = kept_grown c.self.invariant c.grow_positions.new.positions.items (omega (arith, c.grow_positions.ensures.longer, c.self.inside.positions.ok.0, c.grow_positions.new.positions.ok.0)) (λ k h. c.grow_positions.ensures.same k (omega (arith, h, c.self.inside.positions.ok.0))) in
-    let real : (g.Ix.IndexType.number c.args.n) ≡ g.Ix.IndexType.greatest → ⊥ = λ e. absurd (omega (arith, c.requires.real)) in
-    let Q : List ℕ → Type 0 = λ z. Mem (g.Ix.IndexType.number c.args.n) z in
-    let absent : Mem (g.Ix.IndexType.number c.args.n) (held g.Ix.IndexType.greatest c.self.inside.slots.items) → ⊥ = λ h. c.requires.absent (mem_contains c.args.self.now (g.Ix.IndexType.number c.args.n) (subst Q c.self.view_is h)) in
-    let low : (g.Ix.IndexType.number c.args.n) < length c.grow_positions.new.positions.items = omega (arith, c.in_ok-grow_positions.ensures.ok, c.index-i.ensures.value, c.grow_positions.new.positions.ok.0) in
-    let long : length c.as_mut_slice.result.now ≡ length c.grow_positions.new.positions.items = ap (λ (z : List ℕ). length z) c.as_mut_slice.ensures.value in
-    let opened : IsKept g.Ix.IndexType.greatest c.open_front.new.slots.items c.open_front.new.positions c.in_ok-self-inside.field-0 c.self.inside.count = c.in_ok-self-inside.ensures.ok.1 in
-    let some : 0 < c.in_ok-self-inside.field-0 = c.in_ok-self-inside.ensures.ok.0 in
-    let room : c.in_ok-self-inside.field-0 - 1 + 1 ≡ c.in_ok-self-inside.field-0 = omega arith in
-    let still : Mem (g.Ix.IndexType.number c.args.n) (held g.Ix.IndexType.greatest c.open_front.new.slots.items) → ⊥ = λ h. absent (subst Q c.open_front.ensures.same h) in
-    let low_now : (g.Ix.IndexType.number c.args.n) < length c.open_front.new.positions = omega (arith, low, long, c.open_front.ensures.sized) in
-    let written : (with_items c.grow_positions.new.positions c.open_front.new.positions).items ≡ c.open_front.new.positions = with_items_is c.grow_positions.new.positions c.open_front.new.positions (omega (arith, c.open_front.ensures.sized, long, c.grow_positions.new.positions.ok.0)) in
-    let P : List ℕ → Type 0 = λ z. IsKept g.Ix.IndexType.greatest (set c.open_front.new.slots.items (c.in_ok-self-inside.field-0 - 1) c.of_node.result) (set z c.index-i.result (c.in_ok-self-inside.field-0 - 1)) (c.in_ok-self-inside.field-0 - 1) (c.self.inside.count + 1) in
-    let kept : IsKept g.Ix.IndexType.greatest (set c.open_front.new.slots.items (c.in_ok-self-inside.field-0 - 1) c.of_node.result) (set c.open_front.new.positions c.index-i.result (c.in_ok-self-inside.field-0 - 1)) (c.in_ok-self-inside.field-0 - 1) (c.self.inside.count + 1) = rw (c.of_node.ensures, c.index-i.ensures.value) (kept_first opened (g.Ix.IndexType.number c.args.n) real still low_now (c.in_ok-self-inside.field-0 - 1) room) in
-    subst P (sym written) kept
-
-pub returns : goal.returns
-returns g c =
-    let grown : IsKept g.Ix.IndexType.greatest c.self.inside.slots.items c.grow_positions.new.positions.items c.self.inside.first c.self.inside.count = kept_grown c.self.invariant c.grow_positions.new.positions.items (omega (arith, c.grow_positions.ensures.longer, c.self.inside.positions.ok.0, c.grow_positions.new.positions.ok.0)) (λ k h. c.grow_positions.ensures.same k (omega (arith, h, c.self.inside.positions.ok.0))) in
-    let real : (g.Ix.IndexType.number c.args.n) ≡ g.Ix.IndexType.greatest → ⊥ = λ e. absurd (omega (arith, c.requires.real)) in
-    let Q : List ℕ → Type 0 = λ z. Mem (g.Ix.IndexType.number c.args.n) z in
-    let absent : Mem (g.Ix.IndexType.number c.args.n) (held g.Ix.IndexType.greatest c.self.inside.slots.items) → ⊥ = λ h. c.requires.absent (mem_contains c.args.self.now (g.Ix.IndexType.number c.args.n) (subst Q c.self.view_is h)) in
-    let low : (g.Ix.IndexType.number c.args.n) < length c.grow_positions.new.positions.items = omega (arith, c.in_ok-grow_positions.ensures.ok, c.index-i.ensures.value, c.grow_positions.new.positions.ok.0) in
-    let long : length c.as_mut_slice.result.now ≡ length c.grow_positions.new.positions.items = ap (λ (z : List ℕ). length z) c.as_mut_slice.ensures.value in
-    let opened : IsKept g.Ix.IndexType.greatest c.open_front.new.slots.items c.open_front.new.positions c.in_ok-self-inside.field-0 c.self.inside.count = c.in_ok-self-inside.ensures.ok.1 in
-    let some : 0 < c.in_ok-self-inside.field-0 = c.in_ok-self-inside.ensures.ok.0 in
-    let room : c.in_ok-self-inside.field-0 - 1 + 1 ≡ c.in_ok-self-inside.field-0 = omega arith in
-    let still : Mem (g.Ix.IndexType.number c.args.n) (held g.Ix.IndexType.greatest c.open_front.new.slots.items) → ⊥ = λ h. absent (subst Q c.open_front.ensures.same h) in
-    let low_now : (g.Ix.IndexType.number c.args.n) < length c.open_front.new.positions = omega (arith, low, long, c.open_front.ensures.sized) in
-    record {
-      ok = ap (λ (z : ℕ). held g.Ix.IndexType.greatest (set c.open_front.new.slots.items (c.in_ok-self-inside.field-0 - 1) z)) c.of_node.ensures ∙ (pushed_first opened (g.Ix.IndexType.number c.args.n) real still low_now (c.in_ok-self-inside.field-0 - 1) room ∙ ap (λ (z : List ℕ). (g.Ix.IndexType.number c.args.n) ∷ z) (c.open_front.ensures.same ∙ c.self.view_is));
-      err = tt;
-    }
+    let nodes : List ℕ = c.self.inside.links.nodes in
+    let grown = labelled_grown c.self.invariant c.grow.new.list.items c.make_room.new.self.nodes c.make_room.ensures.same c.grow.ensures.same in
+    let n : ℕ = g.Ix.IndexType.number c.args.n in
+    let put : c.put_first.new.self.nodes ≡ c.of_node-n.result ∷ c.make_room.new.self.nodes = ap (λ (z : Listed). z.nodes) c.put_first.ensures in
+    labelled_more grown c.label_first.new.labels.items c.put_first.new.self.nodes c.label_first.ensures.ascending c.label_first.ensures.others (λ k m.
+    let P : List ℕ → Type 0 = λ z. Mem k z in
+    subst P (sym put) (inr m))

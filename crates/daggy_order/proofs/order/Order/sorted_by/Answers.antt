@@ -1,6 +1,6 @@
 use Rattle.std.proofs.Common.{List, ℕ, ◌∙◌, sym, subst}
 use Rattle.daggy_order.specs.Ordered.{IsOrderOf}
-use Rattle.daggy_order.proofs.Sorting.{whole_back, order_from_sorted, sorted_real}
+use Rattle.daggy_order.proofs.NodesSorted.{whole_back, order_from_sorted, sorted_real}
 use Rattle.daggy_order.proofs.order.Order.sorted_by.Goals as goal
 
 pub of_nodes-requires-clause-distinct : goal.of_nodes-requires-clause-distinct

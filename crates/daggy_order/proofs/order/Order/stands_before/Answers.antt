@@ -1,33 +1,45 @@
-use Rattle.std.proofs.Common.{◌<◌, ℕ, List, sym, subst, arith}
-use Rattle.daggy_order.specs.Ordered.{place}
-use Rattle.daggy_order.specs.Slots.{held}
+use Rattle.std.proofs.Common.{◌≡◌, ◌<◌, ℕ, List, get_or, sym, ap, subst, inl, inr, ◌∙◌, arith}
+use Rattle.std.proofs.lemmas.Bool.{lt-ltb, ltb-true}
+use Rattle.std.proofs.lemmas.List.{get_or_read}
 use Rattle.daggy_base.proofs.Lists.{Mem, contains_mem}
-use Rattle.daggy_order.proofs.Standing.{lower, raised}
-use Rattle.daggy_order.proofs.Keeping.{read_at, numbered}
+use Rattle.daggy_order.specs.Ordered.{place}
+use Rattle.daggy_order.proofs.Labelled.{label_within, label_places}
 use Rattle.daggy_order.proofs.order.Order.stands_before.Goals as goal
-use Rattle.std.proofs.lemmas.Bool.{ltb-true, lt-ltb}
 
 pub index-requires-2 : goal.index-requires-2
 index-requires-2 g c =
-    let Pm : List ℕ → Type 0 = λ z. Mem (g.Ix.IndexType.number c.args.a) z in
-    let m : Mem (g.Ix.IndexType.number c.args.a) (held g.Ix.IndexType.greatest c.self.inside.slots.items) = subst Pm (sym c.self.view_is) (contains_mem c.args.self.now (g.Ix.IndexType.number c.args.a) c.requires.first) in
-    omega (arith, numbered c.self.invariant (g.Ix.IndexType.number c.args.a) m, c.index.ensures.value, c.self.inside.positions.ok.0)
+    let a : ℕ = g.Ix.IndexType.number c.args.a in
+    let Ma : List ℕ → Type 0 = λ z. Mem a z in
+    let has_a : Mem a c.self.inside.links.nodes = subst Ma (sym c.self.view_is) (contains_mem c.args.self.now a c.requires.first) in
+    omega (arith, c.index.ensures.value, label_within c.self.invariant a has_a, c.self.inside.labels.ok.0)
 
 pub index-requires-4 : goal.index-requires-4
 index-requires-4 g c =
-    let Pk : List ℕ → Type 0 = λ z. Mem (g.Ix.IndexType.number c.args.b) z in
-    let k : Mem (g.Ix.IndexType.number c.args.b) (held g.Ix.IndexType.greatest c.self.inside.slots.items) = subst Pk (sym c.self.view_is) (contains_mem c.args.self.now (g.Ix.IndexType.number c.args.b) c.requires.second) in
-    omega (arith, numbered c.self.invariant (g.Ix.IndexType.number c.args.b) k, c.index-3.ensures.value, c.self.inside.positions.ok.0)
+    let b : ℕ = g.Ix.IndexType.number c.args.b in
+    let Mb : List ℕ → Type 0 = λ z. Mem b z in
+    let has_b : Mem b c.self.inside.links.nodes = subst Mb (sym c.self.view_is) (contains_mem c.args.self.now b c.requires.second) in
+    omega (arith, c.index-3.ensures.value, label_within c.self.invariant b has_b, c.self.inside.labels.ok.0)
 
 pub returns : goal.returns
 returns g c =
-    let Pm : List ℕ → Type 0 = λ z. Mem (g.Ix.IndexType.number c.args.a) z in
-    let m : Mem (g.Ix.IndexType.number c.args.a) (held g.Ix.IndexType.greatest c.self.inside.slots.items) = subst Pm (sym c.self.view_is) (contains_mem c.args.self.now (g.Ix.IndexType.number c.args.a) c.requires.first) in
-    let Pk : List ℕ → Type 0 = λ z. Mem (g.Ix.IndexType.number c.args.b) z in
-    let k : Mem (g.Ix.IndexType.number c.args.b) (held g.Ix.IndexType.greatest c.self.inside.slots.items) = subst Pk (sym c.self.view_is) (contains_mem c.args.self.now (g.Ix.IndexType.number c.args.b) c.requires.second) in
-    let a_is = read_at c.self.inside.positions.items c.index.result (g.Ix.IndexType.number c.args.a) c.index-2.result.now c.index.ensures.value (numbered c.self.invariant (g.Ix.IndexType.number c.args.a) m) c.index-2.ensures in
-    let b_is = read_at c.self.inside.positions.items c.index-3.result (g.Ix.IndexType.number c.args.b) c.index-4.result.now c.index-3.ensures.value (numbered c.self.invariant (g.Ix.IndexType.number c.args.b) k) c.index-4.ensures in
-    let Q : List ℕ → Type 0 = λ z. place z (g.Ix.IndexType.number c.args.a) < place z (g.Ix.IndexType.number c.args.b) in (
-      λ e. subst Q c.self.view_is (raised c.self.invariant.placed (g.Ix.IndexType.number c.args.a) (g.Ix.IndexType.number c.args.b) m k (omega (arith, ltb-true _ _ e, a_is, b_is))),
-      λ h. lt-ltb _ _ (omega (arith, a_is, b_is, lower c.self.invariant.placed (g.Ix.IndexType.number c.args.a) (g.Ix.IndexType.number c.args.b) m k (subst Q (sym c.self.view_is) h))),
+    let a : ℕ = g.Ix.IndexType.number c.args.a in
+    let Ma : List ℕ → Type 0 = λ z. Mem a z in
+    let has_a : Mem a c.self.inside.links.nodes = subst Ma (sym c.self.view_is) (contains_mem c.args.self.now a c.requires.first) in
+    let b : ℕ = g.Ix.IndexType.number c.args.b in
+    let Mb : List ℕ → Type 0 = λ z. Mem b z in
+    let has_b : Mem b c.self.inside.links.nodes = subst Mb (sym c.self.view_is) (contains_mem c.args.self.now b c.requires.second) in
+    let a_is : c.index-2.result.now ≡ get_or c.self.inside.labels.items a 0 = get_or_read c.self.inside.labels.items _ _ (omega (arith, c.index.ensures.value, label_within c.self.invariant a has_a)) c.index-2.ensures 0 ∙ ap (λ z. get_or c.self.inside.labels.items z 0) c.index.ensures.value in
+    let b_is : c.index-4.result.now ≡ get_or c.self.inside.labels.items b 0 = get_or_read c.self.inside.labels.items _ _ (omega (arith, c.index-3.ensures.value, label_within c.self.invariant b has_b)) c.index-4.ensures 0 ∙ ap (λ z. get_or c.self.inside.labels.items z 0) c.index-3.ensures.value in
+    let Q : List ℕ → Type 0 = λ z. place z a < place z b in
+    let cases = label_places c.self.invariant a b has_a has_b in (
+      λ e. subst Q c.self.view_is (elim cases [
+        | inl same ↦ absurd (omega (arith, ltb-true _ _ e, a_is, b_is, ap (λ z. get_or c.self.inside.labels.items z 0) same))
+        | inr r ↦ elim r [ inl before ↦ before.1 | inr behind ↦ absurd (omega (arith, ltb-true _ _ e, a_is, b_is, behind.0)) ]
+      ]),
+      λ h.
+          let earlier = subst Q (sym c.self.view_is) h in
+          lt-ltb _ _ (elim cases [
+            | inl same ↦ absurd (omega (arith, earlier, ap (place c.self.inside.links.nodes) same))
+            | inr r ↦ elim r [ inl before ↦ omega (arith, a_is, b_is, before.0) | inr behind ↦ absurd (omega (arith, earlier, behind.1)) ]
+          ]),
     )

@@ -1,11 +1,12 @@
 use Rattle.std.proofs.Common.{◌+◌, ◌-◌, ◌*◌, length}
 use Rattle.daggy_base.specs.Graph.{edge_count}
-use Rattle.daggy_order.proofs.Bounded.{SearchingBelow}
+use Rattle.daggy_order.proofs.Bounded.{SearchingBelow, Finding}
 use Rattle.daggy_order.proofs.order.search.reaches_below.Given as goal
 
 abbrev pub invariant-steps : goal.invariant-steps
 invariant-steps g l =
-    SearchingBelow g.Ix.IndexType.greatest (length l.fn.marks) (g.S.EdgeSource.graph l.fn.source) (g.S.EdgeSource.graph l.source) l.positions l.limit (g.Ix.IndexType.number l.fn.from) (g.Ix.IndexType.number l.fn.to) l.marks l.stack l.len (g.Ix.IndexType.number l.e) (g.S.EdgeSource.looks l.fn.source) (g.S.EdgeSource.looks l.source)
+    SearchingBelow g.Ix.IndexType.greatest (length l.fn.marks) (g.S.EdgeSource.graph l.fn.source) (g.S.EdgeSource.graph l.source) l.labels l.limit (g.Ix.IndexType.number l.fn.from) (g.Ix.IndexType.number l.fn.to) l.marks l.stack l.len (g.Ix.IndexType.number l.e) (g.S.EdgeSource.looks l.fn.source) (g.S.EdgeSource.looks l.source)
+    × Finding l.marks l.found (length l.fn.found) l.count
 
 abbrev pub decreases-steps : goal.decreases-steps
 decreases-steps g l =

@@ -1,0 +1,109 @@
+-- How the nodes of an order lead to one another, and their labels.
+use Rattle.std.specs.Prelude.{◌≡◌, ℕ, zero, suc, ◌-◌, ◌<◌, ◌≤◌, ◌==◌, ◌^◌, List, [], ◌∷◌, ◌++◌, length, drop, filter, not, Bool, true, ◌↔◌, slice_index, slice_index_or, Contains, if◌then◌else◌}
+use Rattle.daggy_base.specs.Cursor.{first_of}
+use Rattle.daggy_base.specs.Removal.{without}
+use Rattle.daggy_base.specs.WellFormed.{AreDistinct}
+
+-- a list of nodes, and the number below which nodes can be put into it
+pub record Listed : Type 0 where
+  pub nodes : List ℕ
+  pub room : ℕ
+
+-- as many nodes as `count`, each the one that the node before it leads to
+abbrev pub walk : (end : ℕ) → List ℕ → (from count : ℕ) → List ℕ
+walk end next from zero = []
+walk end next from (suc count) = from ∷ walk end next (slice_index_or next from end) count
+
+-- where a node leads, and `end`, which stands before the first node and behind the last, leads to `outer`
+abbrev pub neighbor : (end outer : ℕ) → List ℕ → ℕ → ℕ
+neighbor end outer links n = if n == end then outer else slice_index_or links n end
+
+-- from p over nodes to q, each leads to what follows it, and back to what stands before it
+abbrev pub IsChain : (next previous : ℕ → ℕ) → (p : ℕ) → List ℕ → (q : ℕ) → Type 0
+IsChain next previous p [] q = (next p ≡ q) × (previous q ≡ p)
+IsChain next previous p (x ∷ xs) q = (next p ≡ x) × (previous x ≡ p) × IsChain next previous x xs q
+
+-- what the links of a list keep
+pub record IsLinked (end : ℕ) (next previous : List ℕ) (first last : ℕ) (nodes : List ℕ) : Type 0 where
+  pub chained : IsChain (neighbor end first next) (neighbor end last previous) end nodes end
+  pub distinct : AreDistinct (end ∷ nodes)
+  pub within : (n : ℕ) → Contains nodes n → n < length previous
+  pub sized : length previous ≤ length next
+
+-- labels that ascend along a list, all above `low` and below `high`
+abbrev pub IsAscending : (labels : List ℕ) → (low : ℕ) → List ℕ → (high : ℕ) → Type 0
+IsAscending labels low [] high = low < high
+IsAscending labels low (n ∷ nodes) high = (low < slice_index labels n) × IsAscending labels (slice_index labels n) nodes high
+
+-- labels that ascend along an order, and are 0 for what is not in it
+pub record IsLabelled (labels nodes : List ℕ) : Type 0 where
+  pub ascending : IsAscending labels 0 nodes (2 ^ 64)
+  pub held : (n : ℕ) → 0 < slice_index labels n → Contains nodes n
+
+-- a part of a list: `count` nodes, of which the first is `from`
+pub record IsRun (end : ℕ) (nodes : List ℕ) (from count : ℕ) (before run behind : List ℕ) : Type 0 where
+  pub is : nodes ≡ before ++ (run ++ behind)
+  pub counted : length run ≡ count
+  pub begins : from ≡ first_of end (run ++ behind)
+
+pub record HasRun (end : ℕ) (nodes : List ℕ) (from count : ℕ) : Type 0 where
+  pub before : List ℕ
+  pub run : List ℕ
+  pub behind : List ℕ
+  pub is_run : IsRun end nodes from count before run behind
+
+-- labels that ascend along a list but for `count` nodes behind a, of which the first is `from`, and `after` what follows
+-- the last
+pub record HasGap (end : ℕ) (labels nodes : List ℕ) (a from count after : ℕ) : Type 0 where
+  pub before : List ℕ
+  pub run : List ℕ
+  pub behind : List ℕ
+  pub is : nodes ≡ before ++ a ∷ (run ++ behind)
+  pub counted : length run ≡ count
+  pub begins : from ≡ first_of end (run ++ behind)
+  pub ends : after ≡ first_of end behind
+  pub ascending : IsAscending labels 0 (before ++ a ∷ behind) (2 ^ 64)
+
+-- labels that ascend along a list but for the last node n, before which stands `last`
+pub record HasLast (labels nodes : List ℕ) (last n : ℕ) : Type 0 where
+  pub before : List ℕ
+  pub is : nodes ≡ before ++ n ∷ []
+  pub ends : (ns : List ℕ) (m : ℕ) → before ≡ ns ++ m ∷ [] → last ≡ m
+  pub ascending : IsAscending labels 0 before (2 ^ 64)
+
+-- labels that ascend along a list but for the first node n, behind which stands `first`
+pub record HasFirst (end : ℕ) (labels nodes : List ℕ) (first n : ℕ) : Type 0 where
+  pub behind : List ℕ
+  pub is : nodes ≡ n ∷ behind
+  pub begins : first ≡ first_of end behind
+  pub ascending : IsAscending labels 0 behind (2 ^ 64)
+
+-- the last nodes of a list, as many as `left`
+abbrev pub last_few : (left : ℕ) → List ℕ → List ℕ
+last_few left nodes = drop (length nodes - left) nodes
+
+-- where one is who has yet to go over the last nodes of a list
+pub record IsAt (end : ℕ) (nodes : List ℕ) (left at : ℕ) : Type 0 where
+  pub within : left ≤ length nodes
+  pub here : at ≡ first_of end (last_few left nodes)
+
+-- nodes that stand before a
+pub record StandBefore (nodes : List ℕ) (a : ℕ) (ns : List ℕ) : Type 0 where
+  pub before : List ℕ
+  pub behind : List ℕ
+  pub is : nodes ≡ before ++ a ∷ behind
+  pub stand : (n : ℕ) → Contains ns n → Contains before n
+
+-- Of the nodes before a, those in `ns` are put behind it, ordered as they stood.
+pub record IsMoved (a : ℕ) (ns old new : List ℕ) : Type 0 where
+  pub test : ℕ → Bool
+  pub exact : (n : ℕ) → (test n ≡ true) ↔ Contains ns n
+  pub before : List ℕ
+  pub behind : List ℕ
+  pub was : old ≡ before ++ a ∷ behind
+  pub is : new ≡ filter (λ n. not (test n)) before ++ a ∷ (filter test before ++ behind)
+
+-- a list without some nodes
+abbrev pub without_all : List ℕ → List ℕ → List ℕ
+without_all [] nodes = nodes
+without_all (n ∷ ns) nodes = without_all ns (without n nodes)

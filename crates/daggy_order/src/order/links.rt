@@ -1,0 +1,242 @@
+//! A list of nodes, each of which leads to the next and to the one before it.
+ghost use Rattle.std.specs.Prelude.{◌≡◌, ◌≢◌, ℕ, ◌+◌, ◌<◌, ◌≤◌, ◌⊎◌, ◌^◌, [], ◌∷◌, ◌++◌, List, Contains, length, vec_len, slice_index_or, IfOk, OnOk, OnErr};
+ghost use Rattle.daggy_base.specs.Cursor.{first_of};
+ghost use Rattle.daggy_base.specs.Removal.{without};
+ghost use Rattle.daggy_base.specs.WellFormed.{AreDistinct};
+ghost use Rattle.daggy_order.specs.Links.{Listed, neighbor};
+
+use daggy_base::index::IndexType;
+use daggy_base::link::Link;
+use std::alloc::{AllocError, Global};
+use std::marker::Model;
+
+/// A list of nodes in which a node is put, or taken out, without a look at the others.
+///
+/// `end` stands before the first node and behind the last: it leads to the first, and back to the last.
+#[derive(Drop)]
+pub(crate) struct Links<Ix: IndexType> {
+    next: Vec<Link<Ix>>,
+    previous: Vec<Link<Ix>>,
+    first: Link<Ix>,
+    last: Link<Ix>,
+    count: usize,
+}
+
+impl<Ix: IndexType> Model for Links<Ix> {
+    ghost use Rattle.std.specs.Prelude.{length};
+    ghost use Rattle.daggy_order.specs.Links.{Listed, IsLinked, walk};
+
+    ghost Value = { Listed };
+
+    ghost view = { λ l. record { nodes = walk Ix.greatest l.next.items l.first l.count; room = length l.previous.items } };
+
+    ghost invariant = { λ l. IsLinked Ix.greatest l.next.items l.previous.items l.first l.last (walk Ix.greatest l.next.items l.first l.count) };
+}
+
+// Makes a list longer than `n`, with its elements as they were and `value` behind them. It grows by doubling, but not
+// beyond the memory that it has, if that is enough.
+#[inline]
+pub(crate) fn grow<T: Copy + Drop>(list: &mut Vec<T>, n: usize, value: T) -> Result<(), AllocError>
+    requires { n + 1 < 2 ^ 64 }
+    ensures ok { OnOk result (n < vec_len list.new) }
+    ensures longer { vec_len list.old ≤ vec_len list.new }
+    ensures same { (k : ℕ) → slice_index_or list.new.items k value ≡ slice_index_or list.old.items k value }
+{
+    if list.len() <= n {
+        let doubled = list.len().saturating_mul(2);
+        let room = list.capacity();
+        let most = if n < room && room < doubled {
+            room
+        } else {
+            doubled
+        };
+        let len = if n < most { most } else { n + 1 };
+        lengthen(list, len, value)?;
+    }
+    Ok(())
+}
+
+// Makes a list so long, with its elements as they were and `value` behind them.
+#[inline]
+fn lengthen<T: Copy + Drop>(list: &mut Vec<T>, len: usize, value: T) -> Result<(), AllocError>
+    requires { vec_len list.old ≤ len }
+    ensures ok { OnOk result (vec_len list.new ≡ len) }
+    ensures err { OnErr result (vec_len list.new ≡ vec_len list.old) }
+    ensures same { (k : ℕ) → slice_index_or list.new.items k value ≡ slice_index_or list.old.items k value }
+{
+    list.resize(len, value)
+}
+
+// Makes `from` lead to `to`.
+#[inline]
+fn lead<Ix: IndexType>(
+    links: &mut Vec<Link<Ix>>,
+    outer: &mut Link<Ix>,
+    from: Link<Ix>,
+    to: Link<Ix>,
+)
+    requires { (from ≡ Ix.greatest) ⊎ (from < vec_len links.old) }
+    ensures led { neighbor Ix.greatest outer.new links.new.items from ≡ to }
+    ensures others { (k : ℕ) → k ≢ from
+        → neighbor Ix.greatest outer.new links.new.items k ≡ neighbor Ix.greatest outer.old links.old.items k }
+    ensures sized { vec_len links.new ≡ vec_len links.old }
+{
+    if from.index() == Link::<Ix>::end().index() {
+        *outer = to;
+    } else {
+        links[from.index()] = to;
+    }
+}
+
+impl<Ix: IndexType> Links<Ix> {
+    // A list of no nodes. Takes no memory.
+    pub(crate) fn new(alloc: Global) -> Self
+        ensures { result ≡ record { nodes = []; room = 0 } }
+    {
+        Links {
+            next: Vec::new(alloc),
+            previous: Vec::new(alloc),
+            first: Link::end(),
+            last: Link::end(),
+            count: 0,
+        }
+    }
+
+    #[inline]
+    pub(crate) fn len(&self) -> usize
+        ensures value { result ≡ length self.now.nodes }
+        ensures distinct { AreDistinct (Ix.greatest ∷ self.now.nodes) }
+        ensures within { (n : ℕ) → Contains self.now.nodes n → n < self.now.room }
+        ensures small { length self.now.nodes < 2 ^ 63 }
+    {
+        self.count
+    }
+
+    // The first node, or `end`.
+    #[inline]
+    pub(crate) fn first(&self) -> Link<Ix>
+        ensures { result ≡ first_of Ix.greatest self.now.nodes }
+    {
+        self.first
+    }
+
+    // The last node, or `end`.
+    #[inline]
+    pub(crate) fn last(&self) -> Link<Ix>
+        ensures { (ns : List ℕ) (n : ℕ) → self.now.nodes ≡ ns ++ n ∷ [] → result ≡ n }
+    {
+        self.last
+    }
+
+    // The node that follows a node, or `end`.
+    #[inline]
+    pub(crate) fn next(&self, n: Link<Ix>) -> Link<Ix>
+        requires { Contains self.now.nodes n }
+        ensures { (ns ms : List ℕ) → self.now.nodes ≡ ns ++ n ∷ ms → result ≡ first_of Ix.greatest ms }
+    {
+        self.next[n.index()]
+    }
+
+    // Makes room for a node. Memory that is refused leaves the nodes as they were.
+    #[inline]
+    pub(crate) fn make_room(&mut self, n: usize) -> Result<(), AllocError>
+        requires { n + 1 < 2 ^ 64 }
+        ensures ok { OnOk result (n < self.new.room) }
+        ensures same { self.new.nodes ≡ self.old.nodes }
+    {
+        grow(&mut self.next, n, Link::end())?;
+        if self.previous.len() <= n {
+            let long = self.next.len();
+            lengthen(&mut self.previous, long, Link::end())?;
+        }
+        Ok(())
+    }
+
+    // Puts a node first.
+    #[inline]
+    pub(crate) fn put_first(&mut self, n: Link<Ix>)
+        requires real { n ≢ Ix.greatest }
+        requires absent { ¬ Contains self.old.nodes n }
+        requires numbered { n < self.old.room }
+        ensures { self.new ≡ record { nodes = n ∷ self.old.nodes; room = self.old.room } }
+    {
+        let q = self.first;
+        lead(&mut self.next, &mut self.first, Link::end(), n);
+        lead(&mut self.next, &mut self.first, n, q);
+        lead(&mut self.previous, &mut self.last, n, Link::end());
+        lead(&mut self.previous, &mut self.last, q, n);
+        self.count += 1;
+    }
+
+    // Puts a node behind another.
+    #[inline]
+    pub(crate) fn put_behind(&mut self, p: Link<Ix>, n: Link<Ix>)
+        requires held { Contains self.old.nodes p }
+        requires real { n ≢ Ix.greatest }
+        requires absent { ¬ Contains self.old.nodes n }
+        requires numbered { n < self.old.room }
+        ensures nodes { (ns ms : List ℕ) → self.old.nodes ≡ ns ++ p ∷ ms → self.new.nodes ≡ ns ++ p ∷ (n ∷ ms) }
+        ensures room { self.new.room ≡ self.old.room }
+    {
+        let q = self.next[p.index()];
+        lead(&mut self.next, &mut self.first, p, n);
+        lead(&mut self.next, &mut self.first, n, q);
+        lead(&mut self.previous, &mut self.last, n, p);
+        lead(&mut self.previous, &mut self.last, q, n);
+        self.count += 1;
+    }
+
+    // Puts a node last.
+    #[inline]
+    pub(crate) fn put_last(&mut self, n: Link<Ix>)
+        requires real { n ≢ Ix.greatest }
+        requires absent { ¬ Contains self.old.nodes n }
+        requires numbered { n < self.old.room }
+        ensures { self.new ≡ record { nodes = self.old.nodes ++ n ∷ []; room = self.old.room } }
+    {
+        if self.count == 0 {
+            self.put_first(n);
+        } else {
+            let last = self.last;
+            self.put_behind(last, n);
+        }
+    }
+
+    // Takes a node out.
+    #[inline]
+    pub(crate) fn remove(&mut self, n: Link<Ix>)
+        requires { Contains self.old.nodes n }
+        ensures { self.new ≡ record { nodes = without n self.old.nodes; room = self.old.room } }
+    {
+        let p = self.previous[n.index()];
+        let q = self.next[n.index()];
+        lead(&mut self.next, &mut self.first, p, q);
+        lead(&mut self.previous, &mut self.last, q, p);
+        self.count -= 1;
+    }
+
+    // Takes all nodes out, and keeps the memory.
+    #[inline]
+    pub(crate) fn clear(&mut self)
+        ensures { self.new ≡ record { nodes = []; room = 0 } }
+    {
+        self.next.clear();
+        self.previous.clear();
+        self.first = Link::end();
+        self.last = Link::end();
+        self.count = 0;
+    }
+
+    // The same list, in memory of its own.
+    pub(crate) fn try_clone(&self) -> Result<Self, AllocError>
+        ensures { IfOk result (λ l. l ≡ self.now) }
+    {
+        Ok(Links {
+            next: Vec::from_slice(*self.next.allocator(), self.next.as_slice())?,
+            previous: Vec::from_slice(*self.previous.allocator(), self.previous.as_slice())?,
+            first: self.first,
+            last: self.last,
+            count: self.count,
+        })
+    }
+}
