@@ -15,7 +15,8 @@
 //! In a `Dag` a removal moves the last index to the gap. The dag of [`stable_dag`] keeps what stays under its index.
 //!
 //! [`graph`] and [`stable_graph`] are the stores below, which may hold cycles, [`search`] finds paths in any graph that can be
-//! looked at, and [`visit`] is what generic code may ask of a graph. [`run`] carries out lists of commands over a dag of either kind.
+//! looked at, and [`visit`] is what generic code may ask of a graph. [`run`] carries out lists of commands over a dag of
+//! either kind.
 #![tactic(auto)]
 
 pub mod graph;
