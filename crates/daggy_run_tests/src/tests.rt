@@ -4,6 +4,7 @@
 mod adding;
 mod asking;
 mod filling;
+mod planning;
 mod removing;
 mod running;
 mod support;
