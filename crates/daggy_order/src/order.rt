@@ -25,8 +25,8 @@ pub use nodes::Nodes;
 
 /// A list of nodes, each at most once, in which nodes come and go at both ends and can be moved.
 ///
-/// Each node leads to the next and to the one before it, and has a label. Labels ascend along the list, so two of them
-/// tell which node stands before the other.
+/// Each node leads to the next and to the one before it, and has a label. Labels ascend along the
+/// list, so two of them tell which node stands before the other.
 #[derive(Drop)]
 pub struct Order<Ix: IndexType = DefaultIx> {
     links: Links<Ix>,

@@ -19,8 +19,8 @@ use daggy_base::search::{EdgeSource, Marks, Scratch};
 /// `b`, unless the edge would close a cycle.
 ///
 /// Constant time if `a` stands before `b`. Otherwise the cost is that of the nodes between the two
-/// places that `b` reaches and of their edges, of sorting these nodes, and of labels that have to be
-/// made anew where there is no room for theirs, on the average few. It takes no memory.
+/// places that `b` reaches and of their edges, of sorting these nodes, and of labels that are made
+/// anew where there is no room for theirs, mostly few. It takes no memory.
 pub fn order_edge<Ix: IndexType, S: EdgeSource<Ix>>(
     source: &mut S,
     order: &mut Order<Ix>,

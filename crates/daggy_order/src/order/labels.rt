@@ -15,7 +15,8 @@ const LOWEST: u64 = 1 << 61;
 
 const HIGHEST: u64 = LOWEST + (1 << 63);
 
-// Labels `count` nodes from `from` on, each by `gap` above the one before it, and the first by `gap` above `low`.
+// Labels `count` nodes from `from` on, each by `gap` above the one before it, and the first by
+// `gap` above `low`.
 fn number<Ix: IndexType>(
     links: &Links<Ix>,
     labels: &mut Vec<u64>,
@@ -85,9 +86,9 @@ pub(crate) fn label_all<Ix: IndexType>(links: &Links<Ix>, labels: &mut Vec<u64>)
     number(links, labels, first, count, LOWEST, gap);
 }
 
-// Labels the `count` nodes that stand behind `a`, of which `from` is the first and `after` follows the last. Where the
-// next label leaves no room, nodes behind them are labelled too, as many as it takes for gaps as wide as their number.
-// Says whether there was room.
+// Labels the `count` nodes that stand behind `a`, of which `from` is the first and `after` follows
+// the last. Where the next label leaves no room, nodes behind them are labelled too, as many as it
+// takes for gaps as wide as their number. Says whether there was room.
 fn number_window<Ix: IndexType>(
     links: &Links<Ix>,
     labels: &mut Vec<u64>,
@@ -121,7 +122,8 @@ fn number_window<Ix: IndexType>(
     false
 }
 
-// Labels the `count` nodes that stand behind `a`, of which `from` is the first and `after` follows the last.
+// Labels the `count` nodes that stand behind `a`, of which `from` is the first and `after` follows
+// the last, and others anew where it takes that.
 pub(crate) fn spread<Ix: IndexType>(
     links: &Links<Ix>,
     labels: &mut Vec<u64>,

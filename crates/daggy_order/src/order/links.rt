@@ -12,7 +12,8 @@ use std::marker::Model;
 
 /// A list of nodes in which a node is put, or taken out, without a look at the others.
 ///
-/// `end` stands before the first node and behind the last: it leads to the first, and back to the last.
+/// `end` stands before the first node and behind the last: it leads to the first, and back to the
+/// last.
 #[derive(Drop)]
 pub(crate) struct Links<Ix: IndexType> {
     next: Vec<Link<Ix>>,
@@ -33,8 +34,8 @@ impl<Ix: IndexType> Model for Links<Ix> {
     ghost invariant = { λ l. IsLinked Ix.greatest l.next.items l.previous.items l.first l.last (walk Ix.greatest l.next.items l.first l.count) };
 }
 
-// Makes a list longer than `n`, with its elements as they were and `value` behind them. It grows by doubling, but not
-// beyond the memory that it has, if that is enough.
+// Makes a list longer than `n`, with its elements as they were and `value` behind them. It grows by
+// doubling, but not beyond the memory that it has, if that is enough.
 #[inline]
 pub(crate) fn grow<T: Copy + Drop>(list: &mut Vec<T>, n: usize, value: T) -> Result<(), AllocError>
     requires { n + 1 < 2 ^ 64 }

@@ -18,8 +18,9 @@ fn write<Ix: IndexType>(list: &mut [Link<Ix>], at: usize, link: Link<Ix>)
     list[at] = link;
 }
 
-// The nodes that `from` reaches, as far as their labels are lower than `to`'s, which is `limit`, or `None` if it reaches
-// `to`. Every parent's label is lower than its children's. They are the first of `found`, and the answer is their number.
+// The nodes that `from` reaches, as far as their labels are lower than `to`'s, which is `limit`, or
+// `None` if it reaches `to`. Every parent's label is lower than its children's. The nodes are the
+// first of `found`, and the answer is their number.
 pub(crate) fn reaches_below<Ix: IndexType, S: EdgeSource<Ix>>(
     source: &mut S,
     from: NodeIndex<Ix>,

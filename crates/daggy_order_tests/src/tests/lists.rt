@@ -62,7 +62,7 @@ fn a_copy_goes_its_own_way(rt: HostRuntime) {
 }
 
 #[test]
-fn many_nodes_stand_in_few_slots(rt: HostRuntime) {
+fn many_nodes_are_taken_out(rt: HostRuntime) {
     let mut order: Order<u8> = Order::new(rt.alloc());
     for n in 0..200 {
         push(&rt, &mut order, n, n % 2 == 0);
