@@ -1,0 +1,4 @@
+//! Dags as JSON values.
+#![tactic(auto)]
+
+mod writing;
