@@ -1,2 +1,4 @@
 pub mod Document
 pub mod Weight
+pub mod Orders
+pub mod Reading

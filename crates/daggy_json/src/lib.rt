@@ -1,4 +1,6 @@
 //! Dags as JSON values.
 #![tactic(auto)]
 
+pub mod documents;
+pub mod error;
 mod writing;
