@@ -2,3 +2,4 @@ pub mod Document
 pub mod Weight
 pub mod Orders
 pub mod Reading
+pub mod Found

@@ -26,14 +26,14 @@ array_in d = option_map list_of (as_array d)
 abbrev pub whole_in : Data → Option ℕ
 whole_in d = option_and_then as_u64 (as_number d)
 
--- whole numbers, if each of them is one
-abbrev pub wholes_in : List Data → Option (List ℕ)
-wholes_in [] = Some []
-wholes_in (d ∷ ds) = option_and_then (λ n. option_map (λ ns. n ∷ ns) (wholes_in ds)) (whole_in d)
+-- what a test gives of each of a list, if it gives something of each
+abbrev pub all_in : {A : Type 0} → (Data → Option A) → List Data → Option (List A)
+all_in one [] = Some []
+all_in one (d ∷ ds) = option_and_then (λ x. option_map (λ xs. x ∷ xs) (all_in one ds)) (one d)
 
 -- an array of whole numbers
 abbrev pub numbers_in : Data → Option (List ℕ)
-numbers_in d = option_and_then wholes_in (array_in d)
+numbers_in d = option_and_then (all_in whole_in) (array_in d)
 
 -- what stands for the weights of the nodes, the holes, the property, the entries of the edges, and the orders if there are any
 pub record Parts : Type 0 where
@@ -55,10 +55,10 @@ abbrev pub parts_in : Data → Option Parts
 parts_in d =
     option_and_then
     (λ nodes. option_and_then
-        (λ holes. option_and_then
-            (λ property. option_map (λ edges. record { nodes = nodes; holes = holes; property = property; edges = edges; orders = get (codes "orders") d }) (array_at (codes "edges") d))
-            (option_and_then as_str (get (codes "edge_property") d)))
-        (holes_in (get (codes "node_holes") d)))
+    (λ holes. option_and_then
+    (λ property. option_map (λ edges. record { nodes = nodes; holes = holes; property = property; edges = edges; orders = get (codes "orders") d }) (array_at (codes "edges") d))
+    (option_and_then as_str (get (codes "edge_property") d)))
+    (holes_in (get (codes "node_holes") d)))
     (array_at (codes "nodes") d)
 
 -- ---- holes
@@ -138,12 +138,8 @@ pair _ = None
 abbrev pub pair_in : Data → Option (List ℕ × List ℕ)
 pair_in d = option_and_then pair (array_in d)
 
-abbrev pub pairs_in : List Data → Option (List (List ℕ × List ℕ))
-pairs_in [] = Some []
-pairs_in (d ∷ ds) = option_and_then (λ p. option_map (λ ps. p ∷ ps) (pairs_in ds)) (pair_in d)
-
 abbrev pub orders_in : Data → Option (List (List ℕ × List ℕ))
-orders_in d = option_and_then pairs_in (array_in d)
+orders_in d = option_and_then (all_in pair_in) (array_in d)
 
 -- the graph with the lists that the orders give, if there are orders
 abbrev pub IsOrdered : {N E : Type 0} → Graph N E → Option Data → Result (Graph N E) ReadError → Type 0

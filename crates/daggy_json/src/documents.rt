@@ -20,12 +20,7 @@ fn write<
     S: Store<Ix, NodeWeight = N, EdgeWeight = E>,
     F: Fn(&N) -> Result<Value, AllocError>,
     G: Fn(&E) -> Result<Value, AllocError>,
->(
-    alloc: Global,
-    dag: &Acyclic<N, E, Ix, S>,
-    fn_node: &F,
-    fn_edge: &G,
-) -> Result<Value, WriteError>
+>(alloc: Global, dag: &Acyclic<N, E, Ix, S>, fn_node: &F, fn_edge: &G) -> Result<Value, WriteError>
     requires nodes { F.IsAlwaysCallable fn_node.now }
     requires edges { G.IsAlwaysCallable fn_edge.now }
     ensures { IfOk result (λ v. IsDocumentOf (WritesAs F.Fn fn_node.now) (WritesAs G.Fn fn_edge.now) dag.now.graph (view v)) }
@@ -43,12 +38,7 @@ pub fn dag_to_json<
     Ix: IndexType,
     F: Fn(&N) -> Result<Value, AllocError> + Drop,
     G: Fn(&E) -> Result<Value, AllocError> + Drop,
->(
-    alloc: Global,
-    dag: &Dag<N, E, Ix>,
-    fn_node: F,
-    fn_edge: G,
-) -> Result<Value, WriteError>
+>(alloc: Global, dag: &Dag<N, E, Ix>, fn_node: F, fn_edge: G) -> Result<Value, WriteError>
     requires nodes { F.IsAlwaysCallable fn_node }
     requires edges { G.IsAlwaysCallable fn_edge }
     ensures { IfOk result (λ v. IsDocumentOf (WritesAs F.Fn fn_node) (WritesAs G.Fn fn_edge) dag.now.graph (view v)) }
@@ -64,12 +54,7 @@ pub fn stable_to_json<
     Ix: IndexType,
     F: Fn(&N) -> Result<Value, AllocError> + Drop,
     G: Fn(&E) -> Result<Value, AllocError> + Drop,
->(
-    alloc: Global,
-    dag: &StableDag<N, E, Ix>,
-    fn_node: F,
-    fn_edge: G,
-) -> Result<Value, WriteError>
+>(alloc: Global, dag: &StableDag<N, E, Ix>, fn_node: F, fn_edge: G) -> Result<Value, WriteError>
     requires nodes { F.IsAlwaysCallable fn_node }
     requires edges { G.IsAlwaysCallable fn_edge }
     ensures { IfOk result (λ v. IsDocumentOf (WritesAs F.Fn fn_node) (WritesAs G.Fn fn_edge) dag.now.graph (view v)) }

@@ -3,7 +3,7 @@ ghost use Rattle.std.specs.Prelude.{◌≡◌};
 ghost use Rattle.daggy_json.specs.declared.error.WriteError.TheVariants.{Memory};
 ghost use Rattle.daggy_json.specs.declared.error.ReadError.TheVariants.{Memory as ReadMemory};
 
-use std::alloc::AllocError;
+use std::alloc::{AllocError, AllocFailed};
 use thiserror::Error;
 
 /// A dag was not written.
@@ -60,6 +60,14 @@ impl From<AllocError> for ReadError {
     ghost from_gives = { λ _ e. e ≡ ReadMemory };
 
     fn from(_error: AllocError) -> ReadError {
+        ReadError::Memory
+    }
+}
+
+impl<T: Drop> From<AllocFailed<T>> for ReadError {
+    ghost from_gives = { λ _ e. e ≡ ReadMemory };
+
+    fn from(_error: AllocFailed<T>) -> ReadError {
         ReadError::Memory
     }
 }

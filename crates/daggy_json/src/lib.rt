@@ -3,4 +3,5 @@
 
 pub mod documents;
 pub mod error;
+mod reading;
 mod writing;

@@ -34,7 +34,10 @@ fn write_weights<Ix: IndexType, S: Store<Ix>, F: Fn(&S::NodeWeight) -> Result<Va
 }
 
 // The indices of the vacant nodes below the bound, ascending.
-fn write_holes<Ix: IndexType, S: Store<Ix>>(alloc: Global, store: &S) -> Result<Vec<Value>, AllocError>
+fn write_holes<Ix: IndexType, S: Store<Ix>>(
+    alloc: Global,
+    store: &S,
+) -> Result<Vec<Value>, AllocError>
     ensures { IfOk result (λ v. map view v.items ≡ map whole (holes_of (S.graph store.now))) }
 {
     let bound = store.node_bound();
@@ -145,7 +148,10 @@ fn write_row<Ix: IndexType, S: Store<Ix>>(
 }
 
 // The lists of the nodes, by ascending index.
-fn write_orders<Ix: IndexType, S: Store<Ix>>(alloc: Global, store: &S) -> Result<Vec<Value>, AllocError>
+fn write_orders<Ix: IndexType, S: Store<Ix>>(
+    alloc: Global,
+    store: &S,
+) -> Result<Vec<Value>, AllocError>
     ensures { IfOk result (λ v. map view v.items
         ≡ map (row_of (S.graph store.now)) (node_identifiers (S.graph store.now))) }
 {
@@ -187,12 +193,7 @@ pub(crate) fn write_document<
     S: Store<Ix>,
     F: Fn(&S::NodeWeight) -> Result<Value, AllocError>,
     G: Fn(&S::EdgeWeight) -> Result<Value, AllocError>,
->(
-    alloc: Global,
-    store: &S,
-    fn_node: &F,
-    fn_edge: &G,
-) -> Result<Value, AllocError>
+>(alloc: Global, store: &S, fn_node: &F, fn_edge: &G) -> Result<Value, AllocError>
     requires nodes { F.IsAlwaysCallable fn_node.now }
     requires edges { G.IsAlwaysCallable fn_edge.now }
     ensures { IfOk result (λ v. IsDocumentOf (WritesAs F.Fn fn_node.now) (WritesAs G.Fn fn_edge.now) (S.graph store.now) (view v)) }

@@ -6,7 +6,6 @@ use Rattle.daggy_base.proofs.Nodes.{bound_low}
 use Rattle.daggy_json.proofs.Listing.{listed_starts, listed_whole, listed_edge, listed_next}
 use Rattle.daggy_json.proofs.Parts.{writes_as, below_length, hole_more, hole_kept, row_more, row_kept, weight_more, weight_kept, at_bound, rows_whole, weights_whole, entry_more}
 use Rattle.daggy_json.proofs.writing.write_weights.Goals as goal
-
 use Rattle.daggy_json.proofs.writing.write_weights.Goals.{in-Some+in_ok-fn_node+in_ok-push, in_default}
 
 pub new-requires : goal.new-requires

@@ -1,0 +1,6 @@
+//! What a value is read as.
+mod entries;
+mod layout;
+mod orders;
+mod parts;
+mod weights;
