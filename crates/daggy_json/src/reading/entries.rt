@@ -17,13 +17,20 @@ use std::alloc::{AllocError, Global};
 fn find_triple<'v>(value: &'v Value) -> Option<(usize, usize, &'v Value)>
     ensures { option_map (λ t. (t.0, t.1, view t.2.now)) result ≡ triple_in (view value.now) }
 {
-    let parts = value.as_array()?;
+    let Some(parts) = value.as_array() else {
+        return None;
+    };
     if parts.len() != 3 {
         return None;
     }
-    let parent = parts[0].as_u64()?;
-    let child = parts[1].as_u64()?;
-    Some((parent as usize, child as usize, &parts[2]))
+    let (first, second, third) = (&parts[0], &parts[1], &parts[2]);
+    let Some(parent) = first.as_u64() else {
+        return None;
+    };
+    let Some(child) = second.as_u64() else {
+        return None;
+    };
+    Some((parent as usize, child as usize, third))
 }
 
 // Whether a node stands in the slot.
@@ -83,7 +90,10 @@ pub(super) fn read_entries<
     let mut edges = Vec::new(alloc);
     edges.reserve(list.len())?;
     for value in list {
-        edges.push(read_entry(value, stable, nodes, fn_edge)?)?;
+        match read_entry(value, stable, nodes, fn_edge) {
+            Ok(edge) => edges.push(edge)?,
+            Err(error) => return Err(error),
+        }
     }
     Ok(edges)
 }

@@ -62,10 +62,11 @@ fn read_row<Ix: IndexType>(
     if lists.len() != 2 {
         return Ok(None);
     }
-    let Some(out_list) = read_list(alloc, &lists[0], bound)? else {
+    let (first, second) = (&lists[0], &lists[1]);
+    let Some(out_list) = read_list(alloc, first, bound)? else {
         return Ok(None);
     };
-    let Some(in_list) = read_list(alloc, &lists[1], bound)? else {
+    let Some(in_list) = read_list(alloc, second, bound)? else {
         return Ok(None);
     };
     Ok(Some((out_list, in_list)))

@@ -38,7 +38,10 @@ pub(super) fn read_weights<N: Drop, F: Fn(&Value) -> Result<Option<N>, AllocErro
     let mut weights = Vec::new(alloc);
     weights.reserve(list.len())?;
     for value in list {
-        weights.push(read_weight(value, fn_node)?)?;
+        match read_weight(value, fn_node) {
+            Ok(weight) => weights.push(weight)?,
+            Err(error) => return Err(error),
+        }
     }
     Ok(weights)
 }
