@@ -4,3 +4,6 @@ pub mod Parts
 pub mod Finding
 pub mod Stages
 pub mod Placing
+pub mod Marking
+pub mod Rearranging
+pub mod Composing

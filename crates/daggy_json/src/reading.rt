@@ -3,4 +3,5 @@ mod entries;
 mod layout;
 mod orders;
 mod parts;
+mod rearranged;
 mod weights;
