@@ -7,3 +7,4 @@ pub mod Placing
 pub mod Marking
 pub mod Rearranging
 pub mod Composing
+pub mod Bounding

@@ -107,10 +107,10 @@ at_next P i j e h = ap (λ k. P k e) (let q : i + suc j ≡ i + 1 + j = omega ar
 at_here : (P : ℕ → ℕ → Bool) (i e : ℕ) → P i e ≡ true → P (i + 0) e ≡ true
 at_here P i e h = ap (λ k. P k e) (let q : i + 0 ≡ i = omega arith in q) ∙ h
 
-count_none : {N : Type 0} (slots : List (Option N)) → count_by is_some (None ∷ slots) ≡ count_by is_some slots
+pub count_none : {N : Type 0} (slots : List (Option N)) → count_by is_some (None ∷ slots) ≡ count_by is_some slots
 count_none slots = sum_by-cons (λ y. cond (is_some y) 1 0) None slots ∙ zero-add (count_by is_some slots)
 
-count_some : {N : Type 0} (x : N) (slots : List (Option N)) → count_by is_some (Some x ∷ slots) ≡ 1 + count_by is_some slots
+pub count_some : {N : Type 0} (x : N) (slots : List (Option N)) → count_by is_some (Some x ∷ slots) ≡ 1 + count_by is_some slots
 count_some x slots = sum_by-cons (λ y. cond (is_some y) 1 0) (Some x) slots
 
 module _ {N : Type 0} (P : ℕ → ℕ → Bool) where

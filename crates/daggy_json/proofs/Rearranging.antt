@@ -85,11 +85,11 @@ module _ {E : Type 0} (dir : Direction) (edges : List (Option (Edge E))) where
     in_list_ends n e low c =
         down_passes (has_end dir edges n) (length edges) e (subst (λ k. Contains k e) (at_dir dir n ∙ lists_at n low) c)
 
-    ordered_at : (d : Direction) (rows : List (List ℕ × List ℕ)) (n : ℕ) → list_at d (with_orders (of_slots nodes edges) rows) n ≡ row (rows_by_slots nodes (map (chosen d) rows)) n
+    pub ordered_at : (d : Direction) (rows : List (List ℕ × List ℕ)) (n : ℕ) → list_at d (with_orders (of_slots nodes edges) rows) n ≡ row (rows_by_slots nodes (map (chosen d) rows)) n
     ordered_at Outgoing rows n = refl
     ordered_at Incoming rows n = refl
 
-    slot_low : (xs : List (Option N)) (n : ℕ) → IsSome (slot xs n) → n < length xs
+    pub slot_low : (xs : List (Option N)) (n : ℕ) → IsSome (slot xs n) → n < length xs
     slot_low [] n h = absurd (false≢true h)
     slot_low (x ∷ xs) zero h = omega arith
     slot_low (x ∷ xs) (suc n) h = let r = slot_low xs n h in omega arith

@@ -1,5 +1,5 @@
 -- What the stages of reading hand on, by the values that they found.
-use Rattle.std.specs.Prelude.{◌≡◌, ℕ, ◌+◌, ◌<◌, Bool, true, false, IsSome, length, slice_index_or, slice_set, replicate, nat_lt, if◌then◌else◌, Option, Some, None, option_and_then, List, [], ◌∷◌, map}
+use Rattle.std.specs.Prelude.{◌≡◌, ◌⊎◌, Ok, Err, ℕ, ◌+◌, ◌<◌, Bool, true, false, IsSome, length, slice_index_or, slice_set, replicate, nat_lt, if◌then◌else◌, Option, Some, None, option_and_then, List, [], ◌∷◌, map}
 use Rattle.std.specs.Option.{option_map}
 use Rattle.std.specs.Borrow.{Bor}
 use Rattle.serde_json.specs.Data.{Data}
@@ -10,7 +10,8 @@ use Rattle.daggy_base.specs.declared.index.Direction.TheVariants.{Outgoing, Inco
 use Rattle.daggy_base.specs.Graph.{Graph, Edge, slot, near_end}
 use Rattle.daggy_base.specs.FromSlots.{has_end}
 use Rattle.daggy_json.specs.Orders.{with_orders}
-use Rattle.daggy_json.specs.Reading.{Parts, whole_in, array_in, all_in}
+use Rattle.daggy_json.specs.Reading.{Parts, whole_in, array_in, all_in, IsLaidOut, ReadsEach, IsWeight, AreSlots}
+use Rattle.daggy_json.specs.declared.error.ReadError.{ReadError}
 
 -- the parts in these values
 abbrev pub parts_of : (nodes : List Value) (holes property : List ℕ) (edges : List Value) (orders : Option (Bor Value)) → Parts
@@ -86,3 +87,13 @@ ordered g (Some rows) = with_orders g rows
 -- both ends of each edge are nodes
 abbrev pub EndsExist : {N E : Type 0} → List (Option N) → List (Option (Edge E)) → Type 0
 EndsExist {N} {E} nodes edges = (dir : Direction) (e : ℕ) (x : Edge E) → slot edges e ≡ Some x → IsSome (slot nodes (near_end dir x))
+
+-- the nodes were read, in a document that is laid out well
+abbrev pub AreNodesRead : {N : Type 0} → (limit : ℕ) (stable : Bool) (answers : Data → Option N → Type 0) → Parts → List (Option N) → Type 0
+AreNodesRead {N} limit stable answers p nodes =
+    IsLaidOut limit stable p None × ((weights : List N) × ReadsEach (IsWeight answers) p.nodes (Ok weights) × AreSlots nodes p.holes weights)
+
+-- the first fault up to there
+abbrev pub IsNodesFault : {N : Type 0} → (limit : ℕ) (stable : Bool) (answers : Data → Option N → Type 0) → Parts → ReadError → Type 0
+IsNodesFault {N} limit stable answers p e =
+    IsLaidOut limit stable p (Some e) ⊎ (IsLaidOut limit stable p None × ReadsEach {A = N} (IsWeight answers) p.nodes (Err e))

@@ -1,5 +1,6 @@
 //! What a value is read as.
 mod entries;
+mod gathering;
 mod layout;
 mod orders;
 mod parts;

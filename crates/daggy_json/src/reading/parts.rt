@@ -12,6 +12,7 @@ use serde_json::Value;
 use std::alloc::{AllocError, Global};
 
 // The parts of a document. It borrows what was found.
+#[derive(Drop)]
 pub(super) struct Parts<'v> {
     pub(super) nodes: &'v Vec<Value>,
     pub(super) holes: Vec<usize>,
