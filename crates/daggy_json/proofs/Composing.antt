@@ -18,7 +18,7 @@ use Rattle.daggy_json.specs.declared.error.ReadError.{ReadError}
 use Rattle.daggy_json.specs.declared.error.ReadError.TheVariants.{Shape, Orders}
 use Rattle.daggy_json.specs.Orders.{rows_by_slots, with_orders, AreOrders}
 use Rattle.daggy_json.specs.Reading.{Parts, parts_in, whole_in, all_in, array_in, numbers_in, pair, pair_in, orders_in, IsLaidOut, IsRead, IsFilled, IsLinked, ReadsEach, IsWeight, IsEntryRead, AreSlots, IsOrdered, IsTested, Then}
-use Rattle.daggy_json.specs.Found.{ordered, EndsExist}
+use Rattle.daggy_json.specs.Found.{ordered, EndsExist, IsNodesFault}
 
 module _ {N E : Type 0} (limit : ℕ) (stable : Bool) (node_answers : Data → Option N → Type 0) (edge_answers : Data → Option E → Type 0) (d : Data) where
   pub shape_fault : parts_in d ≡ None → IsRead limit stable node_answers edge_answers d (Err Shape)
@@ -97,3 +97,8 @@ ends_exist stable nodes answers (d ∷ ds) (Some y ∷ edges) h dir zero x is =
     let ends = h.0.2 in
     subst (λ k. IsSome (slot nodes (near_end dir k))) same (elim dir as (λ dir. IsSome (slot nodes (near_end dir y))) [ Outgoing ↦ ends.0 | Incoming ↦ ends.1 ])
 ends_exist stable nodes answers (d ∷ ds) (y ∷ edges) h dir (suc e) x is = ends_exist stable nodes answers ds edges h.1 dir e x is
+
+-- a fault up to the nodes
+pub nodes_fault : {N E : Type 0} (limit : ℕ) (stable : Bool) (node_answers : Data → Option N → Type 0) (edge_answers : Data → Option E → Type 0) (d : Data) (p : Parts) → parts_in d ≡ Some p → (e : ReadError) → IsNodesFault limit stable node_answers p e → IsRead limit stable node_answers edge_answers d (Err e)
+nodes_fault limit stable node_answers edge_answers d p is e (inl laid) = layout_fault limit stable node_answers edge_answers d p is e laid
+nodes_fault limit stable node_answers edge_answers d p is e (inr h) = weight_fault limit stable node_answers edge_answers d p is h.0 e h.1
