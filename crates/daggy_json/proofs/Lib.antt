@@ -8,3 +8,5 @@ pub mod Marking
 pub mod Rearranging
 pub mod Composing
 pub mod Bounding
+pub mod Cycles
+pub mod Returning

@@ -3,5 +3,6 @@
 
 pub mod documents;
 pub mod error;
+mod making;
 mod reading;
 mod writing;

@@ -1,6 +1,6 @@
 //! What a value is read as.
 mod entries;
-mod gathering;
+pub(crate) mod gathering;
 mod layout;
 mod orders;
 mod parts;

@@ -49,10 +49,10 @@ fn read_orders<N, E, Ix: IndexType>(
 
 // What a document without a fault gives, but for cycles: the slots, and the orders if it has some.
 #[derive(Drop)]
-pub(super) struct Gathered<N, E, Ix> {
-    pub(super) nodes: Vec<Option<N>>,
-    pub(super) edges: Vec<Slot<E, Ix>>,
-    pub(super) orders: Option<Vec<Row<Ix>>>,
+pub(crate) struct Gathered<N, E, Ix> {
+    pub(crate) nodes: Vec<Option<N>>,
+    pub(crate) edges: Vec<Slot<E, Ix>>,
+    pub(crate) orders: Option<Vec<Row<Ix>>>,
 }
 
 // The nodes of the document.
@@ -78,7 +78,7 @@ fn gather_nodes<N: Drop, Ix: IndexType, F: Fn(&Value) -> Result<Option<N>, Alloc
 }
 
 // The slots and the orders of the document.
-pub(super) fn gather<
+pub(crate) fn gather<
     N: Drop,
     E: Drop,
     Ix: IndexType,

@@ -9,7 +9,7 @@ use daggy_base::index::{EdgeIndex, IndexType};
 use serde_json::Value;
 use std::alloc::{AllocError, Global};
 
-pub(super) type Row<Ix> = (Vec<EdgeIndex<Ix>>, Vec<EdgeIndex<Ix>>);
+pub(crate) type Row<Ix> = (Vec<EdgeIndex<Ix>>, Vec<EdgeIndex<Ix>>);
 
 // The index of an edge slot.
 fn find_index<Ix: IndexType>(value: &Value, bound: usize) -> Option<EdgeIndex<Ix>>

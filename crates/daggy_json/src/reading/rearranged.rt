@@ -10,7 +10,7 @@ use daggy_base::index::{Direction, EdgeIndex, IndexType, NodeIndex};
 use daggy_base::search::Marks;
 use std::alloc::{AllocError, Global};
 
-pub(super) type Slot<E, Ix> = Option<(NodeIndex<Ix>, NodeIndex<Ix>, E)>;
+pub(crate) type Slot<E, Ix> = Option<(NodeIndex<Ix>, NodeIndex<Ix>, E)>;
 
 // Whether the slot holds an edge that has this node as its end of that direction.
 fn is_at<E, Ix: IndexType>(edges: &Vec<Slot<E, Ix>>, e: usize, n: usize, dir: Direction) -> bool

@@ -1,0 +1,59 @@
+//! The dag of a document without a fault.
+ghost use Rattle.std.specs.Prelude.{◌≡◌, ◌⊎◌, Ok, Err, map, IfOk, IfErr};
+ghost use Rattle.std.specs.Option.{option_map};
+ghost use Rattle.serde_json.specs.View.{view};
+ghost use Rattle.daggy_base.specs.FromSlots.{of_slots};
+ghost use Rattle.daggy_json.specs.Orders.{numbers_of};
+ghost use Rattle.daggy_json.specs.Reading.{IsRead, IsTested};
+ghost use Rattle.daggy_json.specs.Found.{edge_of, ordered};
+ghost use Rattle.daggy_json.specs.Weight.{ReadsAs};
+ghost use Rattle.daggy_json.specs.declared.error.ReadError.TheVariants.{Memory};
+
+use crate::error::ReadError;
+use crate::reading::gathering::{Gathered, gather};
+use daggy_base::index::IndexType;
+use daggy_base::store::Store;
+use daggy_dag::acyclic::Acyclic;
+use serde_json::Value;
+use std::alloc::{AllocError, Global};
+
+// The dag of what was gathered.
+//
+// It is still to be made of `Acyclic::from_slots` and `Acyclic::set_orders`; until they stand it gives up.
+fn make<N: Drop, E: Drop, Ix: IndexType, S: Store<Ix, NodeWeight = N, EdgeWeight = E>>(
+    _alloc: Global,
+    _found: Gathered<N, E, Ix>,
+) -> Result<Acyclic<N, E, Ix, S>, ReadError>
+    ensures ok { IfOk result (λ d. IsTested (ordered (of_slots _found.nodes.items (map (option_map (edge_of Ix.number)) _found.edges.items))
+        (option_map (λ v. map (numbers_of Ix.number) v.items) _found.orders)) (Ok d.graph)) }
+    ensures err { IfErr result (λ e. (e ≡ Memory) ⊎ IsTested (ordered (of_slots _found.nodes.items (map (option_map (edge_of Ix.number)) _found.edges.items))
+        (option_map (λ v. map (numbers_of Ix.number) v.items) _found.orders)) (Err e)) }
+{
+    Err(ReadError::Memory)
+}
+
+// The dag that the value is read as. Slots may be vacant if `stable`.
+pub(crate) fn read<
+    N: Drop,
+    E: Drop,
+    Ix: IndexType,
+    S: Store<Ix, NodeWeight = N, EdgeWeight = E>,
+    F: Fn(&Value) -> Result<Option<N>, AllocError>,
+    G: Fn(&Value) -> Result<Option<E>, AllocError>,
+>(
+    alloc: Global,
+    value: &Value,
+    stable: bool,
+    fn_node: &F,
+    fn_edge: &G,
+) -> Result<Acyclic<N, E, Ix, S>, ReadError>
+    requires nodes { F.IsAlwaysCallable fn_node.now }
+    requires edges { G.IsAlwaysCallable fn_edge.now }
+    ensures ok { IfOk result (λ d. IsRead Ix.greatest stable (ReadsAs F.Fn fn_node.now) (ReadsAs G.Fn fn_edge.now) (view value.now) (Ok d.graph)) }
+    ensures err { IfErr result (λ e. (e ≡ Memory) ⊎ IsRead {N = N} {E = E} Ix.greatest stable (ReadsAs F.Fn fn_node.now) (ReadsAs G.Fn fn_edge.now) (view value.now) (Err e)) }
+{
+    match gather(alloc, value, stable, fn_node, fn_edge) {
+        Ok(found) => make(alloc, found),
+        Err(error) => Err(error),
+    }
+}
