@@ -102,3 +102,11 @@ ends_exist stable nodes answers (d ∷ ds) (y ∷ edges) h dir (suc e) x is = en
 pub nodes_fault : {N E : Type 0} (limit : ℕ) (stable : Bool) (node_answers : Data → Option N → Type 0) (edge_answers : Data → Option E → Type 0) (d : Data) (p : Parts) → parts_in d ≡ Some p → (e : ReadError) → IsNodesFault limit stable node_answers p e → IsRead limit stable node_answers edge_answers d (Err e)
 nodes_fault limit stable node_answers edge_answers d p is e (inl laid) = layout_fault limit stable node_answers edge_answers d p is e laid
 nodes_fault limit stable node_answers edge_answers d p is e (inr h) = weight_fault limit stable node_answers edge_answers d p is h.0 e h.1
+
+-- where no slot may be vacant, none is
+pub full_entries : {N E T : Type 0} (stable : Bool) (nodes : List (Option N)) (answers : Data → Option E → Type 0) (edge : T → Edge E) → stable ≡ false → (i : ℕ) (ds : List Data) (xs : List (Option T)) → ReadsEach (IsEntryRead stable nodes answers) ds (Ok (map (option_map edge) xs)) → vacant_from i xs ≡ []
+full_entries stable nodes answers edge compact i [] [] h = refl
+full_entries stable nodes answers edge compact i [] (x ∷ xs) h = absurd h
+full_entries stable nodes answers edge compact i (d ∷ ds) [] h = absurd h
+full_entries stable nodes answers edge compact i (d ∷ ds) (None ∷ xs) h = absurd (false≢true (sym compact ∙ h.0.0))
+full_entries stable nodes answers edge compact i (d ∷ ds) (Some x ∷ xs) h = full_entries stable nodes answers edge compact (i + 1) ds xs h.1

@@ -1,10 +1,11 @@
 //! The slots and the orders of a document, before a dag is made of them.
-ghost use Rattle.std.specs.Prelude.{◌≡◌, ◌≤◌, ◌⊎◌, Result, Ok, Err, map, length, vec_len, IfOk, IfErr};
+ghost use Rattle.std.specs.Prelude.{◌≡◌, ◌≤◌, ◌⊎◌, [], false, IfSome, Result, Ok, Err, map, length, vec_len, IfOk, IfErr};
 ghost use Rattle.std.specs.Option.{option_map};
 ghost use Rattle.serde_json.specs.View.{view};
 ghost use Rattle.daggy_base.specs.Graph.{Graph};
 ghost use Rattle.daggy_base.specs.FromSlots.{of_slots};
-ghost use Rattle.daggy_json.specs.Orders.{numbers_of};
+ghost use Rattle.daggy_json.specs.Orders.{AreOrders, numbers_of};
+ghost use Rattle.daggy_json.specs.Document.{vacant_from};
 ghost use Rattle.daggy_json.specs.Reading.{IsOrdered, IsRead, IsTested};
 ghost use Rattle.daggy_json.specs.Found.{edge_of, ordered, EndsExist, parts_of, AreNodesRead, IsNodesFault};
 ghost use Rattle.daggy_json.specs.Weight.{ReadsAs};
@@ -33,6 +34,7 @@ fn read_orders<N, E, Ix: IndexType>(
     requires few { vec_len edges.now ≤ Ix.greatest }
     ensures ok { IfOk result (λ o. IsOrdered (of_slots nodes.now.items (map (option_map (edge_of Ix.number)) edges.now.items)) (option_map (λ d. view d.now) orders.entry)
         (Ok (ordered (of_slots nodes.now.items (map (option_map (edge_of Ix.number)) edges.now.items)) (option_map (λ v. map (numbers_of Ix.number) v.items) o)))) }
+    ensures orders { IfOk result (λ o. IfSome o (λ v. AreOrders (of_slots nodes.now.items (map (option_map (edge_of Ix.number)) edges.now.items)) (map (numbers_of Ix.number) v.items))) }
     ensures err { IfErr result (λ e. (e ≡ Memory) ⊎ IsOrdered (of_slots nodes.now.items (map (option_map (edge_of Ix.number)) edges.now.items)) (option_map (λ d. view d.now) orders.entry) (Err e)) }
 {
     let Some(value) = orders else {
@@ -96,6 +98,12 @@ pub(crate) fn gather<
     ensures ok { IfOk result (λ s. (r : Result (Graph N E) ReadError)
         → IsTested (ordered (of_slots s.nodes.items (map (option_map (edge_of Ix.number)) s.edges.items)) (option_map (λ v. map (numbers_of Ix.number) v.items) s.orders)) r
         → IsRead Ix.greatest stable (ReadsAs F.Fn fn_node.now) (ReadsAs G.Fn fn_edge.now) (view value.now) r) }
+    ensures few_nodes { IfOk result (λ s. length s.nodes.items ≤ Ix.greatest) }
+    ensures few_edges { IfOk result (λ s. length s.edges.items ≤ Ix.greatest) }
+    ensures ends { IfOk result (λ s. EndsExist s.nodes.items (map (option_map (edge_of Ix.number)) s.edges.items)) }
+    ensures full_nodes { IfOk result (λ s. stable ≡ false → vacant_from 0 s.nodes.items ≡ []) }
+    ensures full_edges { IfOk result (λ s. stable ≡ false → vacant_from 0 s.edges.items ≡ []) }
+    ensures orders { IfOk result (λ s. IfSome s.orders (λ v. AreOrders (of_slots s.nodes.items (map (option_map (edge_of Ix.number)) s.edges.items)) (map (numbers_of Ix.number) v.items))) }
     ensures err { IfErr result (λ e. (e ≡ Memory) ⊎ IsRead {N = N} {E = E} Ix.greatest stable (ReadsAs F.Fn fn_node.now) (ReadsAs G.Fn fn_edge.now) (view value.now) (Err e)) }
 {
     let parts = match read_parts(alloc, value) {
