@@ -1,0 +1,12 @@
+pub mod Numbering
+pub mod Listing
+pub mod Parts
+pub mod Finding
+pub mod Stages
+pub mod Placing
+pub mod Marking
+pub mod Rearranging
+pub mod Composing
+pub mod Bounding
+pub mod Cycles
+pub mod Returning

@@ -1,0 +1,1 @@
+use Rattle.daggy_json.proofs.reading.layout.ascends.Goals as goal

@@ -1,0 +1,1 @@
+use Rattle.daggy_json.proofs.reading.parts.read_numbers.Goals as goal

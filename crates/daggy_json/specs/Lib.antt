@@ -1,0 +1,4 @@
+pub mod Document
+pub mod Weight
+pub mod Reading
+pub mod Found

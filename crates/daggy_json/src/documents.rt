@@ -1,0 +1,114 @@
+//! Dags of both kinds, written as JSON values and read from them.
+ghost use Rattle.std.specs.Prelude.{◌≡◌, ◌⊎◌, true, false, Ok, Err, IfOk, IfErr};
+ghost use Rattle.serde_json.specs.View.{view};
+ghost use Rattle.daggy_json.specs.Document.{IsDocumentOf};
+ghost use Rattle.daggy_json.specs.Weight.{WritesAs, ReadsAs};
+ghost use Rattle.daggy_json.specs.Reading.{IsRead};
+ghost use Rattle.daggy_json.specs.declared.error.ReadError.TheVariants.{Memory};
+
+use crate::error::{ReadError, WriteError};
+use crate::making::read;
+use crate::writing::write_document;
+use daggy_base::index::IndexType;
+use daggy_base::store::Store;
+use daggy_dag::acyclic::{Acyclic, Dag, StableDag};
+use serde_json::Value;
+use std::alloc::{AllocError, Global};
+
+// The document of a dag of either kind.
+fn write<
+    N: Drop,
+    E: Drop,
+    Ix: IndexType,
+    S: Store<Ix, NodeWeight = N, EdgeWeight = E>,
+    F: Fn(&N) -> Result<Value, AllocError>,
+    G: Fn(&E) -> Result<Value, AllocError>,
+>(alloc: Global, dag: &Acyclic<N, E, Ix, S>, fn_node: &F, fn_edge: &G) -> Result<Value, WriteError>
+    requires nodes { F.IsAlwaysCallable fn_node.now }
+    requires edges { G.IsAlwaysCallable fn_edge.now }
+    ensures { IfOk result (λ v. IsDocumentOf (WritesAs F.Fn fn_node.now) (WritesAs G.Fn fn_edge.now) dag.now.graph (view v)) }
+{
+    Ok(write_document(alloc, dag.graph(), fn_node, fn_edge)?)
+}
+
+/// The document of a dag: an object with the weights of its nodes, its edges, and the orders of its lists.
+///
+/// `fn_node` gives the value that stands for the weight of a node, and `fn_edge` that of an edge. The error says that
+/// there was no memory. The cost grows with the number of nodes and edges, besides that of the calls.
+pub fn dag_to_json<
+    N: Drop,
+    E: Drop,
+    Ix: IndexType,
+    F: Fn(&N) -> Result<Value, AllocError> + Drop,
+    G: Fn(&E) -> Result<Value, AllocError> + Drop,
+>(alloc: Global, dag: &Dag<N, E, Ix>, fn_node: F, fn_edge: G) -> Result<Value, WriteError>
+    requires nodes { F.IsAlwaysCallable fn_node }
+    requires edges { G.IsAlwaysCallable fn_edge }
+    ensures { IfOk result (λ v. IsDocumentOf (WritesAs F.Fn fn_node) (WritesAs G.Fn fn_edge) dag.now.graph (view v)) }
+{
+    write(alloc, dag, &fn_node, &fn_edge)
+}
+
+/// The document of a stable dag, as [`dag_to_json`] gives it. It also names the vacant slots of nodes, and has `null` for
+/// a vacant slot of an edge, both as far as the greatest index that is in use.
+pub fn stable_to_json<
+    N: Drop,
+    E: Drop,
+    Ix: IndexType,
+    F: Fn(&N) -> Result<Value, AllocError> + Drop,
+    G: Fn(&E) -> Result<Value, AllocError> + Drop,
+>(alloc: Global, dag: &StableDag<N, E, Ix>, fn_node: F, fn_edge: G) -> Result<Value, WriteError>
+    requires nodes { F.IsAlwaysCallable fn_node }
+    requires edges { G.IsAlwaysCallable fn_edge }
+    ensures { IfOk result (λ v. IsDocumentOf (WritesAs F.Fn fn_node) (WritesAs G.Fn fn_edge) dag.now.graph (view v)) }
+{
+    write(alloc, dag, &fn_node, &fn_edge)
+}
+
+/// The dag that a value is read as: an object as [`dag_to_json`] gives it. Other members are ignored. Without `orders`
+/// the edges are linked by ascending index, so each list has the edge with the greatest index first.
+///
+/// `fn_node` and `fn_edge` read the weights, and give `None` for one that they refuse. The error is the first fault of
+/// the value, or says that there was no memory. The cost grows with the number of nodes and edges, besides that of the
+/// calls.
+pub fn dag_from_json<
+    N: Drop,
+    E: Drop,
+    Ix: IndexType,
+    F: Fn(&Value) -> Result<Option<N>, AllocError> + Drop,
+    G: Fn(&Value) -> Result<Option<E>, AllocError> + Drop,
+>(
+    alloc: Global,
+    value: &Value,
+    fn_node: F,
+    fn_edge: G,
+) -> Result<Dag<N, E, Ix>, ReadError>
+    requires nodes { F.IsAlwaysCallable fn_node }
+    requires edges { G.IsAlwaysCallable fn_edge }
+    ensures ok { IfOk result (λ d. IsRead Ix.greatest false (ReadsAs F.Fn fn_node) (ReadsAs G.Fn fn_edge) (view value.now) (Ok d.graph)) }
+    ensures err { IfErr result (λ e. (e ≡ Memory) ⊎ IsRead {N = N} {E = E} Ix.greatest false (ReadsAs F.Fn fn_node) (ReadsAs G.Fn fn_edge) (view value.now) (Err e)) }
+{
+    read(alloc, value, false, &fn_node, &fn_edge)
+}
+
+/// The stable dag that a value is read as, as [`dag_from_json`] reads a dag. Slots of nodes are vacant at the holes, and
+/// slots of edges at `null`; of the vacant slots the one with the greatest index is taken first.
+pub fn stable_from_json<
+    N: Drop,
+    E: Drop,
+    Ix: IndexType,
+    F: Fn(&Value) -> Result<Option<N>, AllocError> + Drop,
+    G: Fn(&Value) -> Result<Option<E>, AllocError> + Drop,
+>(
+    alloc: Global,
+    value: &Value,
+    fn_node: F,
+    fn_edge: G,
+) -> Result<StableDag<N, E, Ix>, ReadError>
+    requires nodes { F.IsAlwaysCallable fn_node }
+    requires edges { G.IsAlwaysCallable fn_edge }
+    ensures ok { IfOk result (λ d. IsRead Ix.greatest true (ReadsAs F.Fn fn_node) (ReadsAs G.Fn fn_edge) (view value.now) (Ok d.graph)) }
+    ensures err { IfErr result (λ e. (e ≡ Memory) ⊎ IsRead {N = N} {E = E} Ix.greatest true (ReadsAs F.Fn fn_node) (ReadsAs G.Fn fn_edge) (view value.now) (Err e)) }
+{
+    read(alloc, value, true, &fn_node, &fn_edge)
+}

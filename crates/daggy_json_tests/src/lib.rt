@@ -1,0 +1,7 @@
+//! Dags as documents, by example.
+#![tactic(auto)]
+
+#[cfg(test)]
+mod support;
+#[cfg(test)]
+mod writing;
