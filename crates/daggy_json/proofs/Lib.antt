@@ -9,4 +9,5 @@ pub mod Rearranging
 pub mod Composing
 pub mod Bounding
 pub mod Cycles
+pub mod Making
 pub mod Returning
