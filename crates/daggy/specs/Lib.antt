@@ -43,3 +43,6 @@ pub use Rattle.daggy_run.specs.EdgeLists
 pub use Rattle.daggy_run.specs.Steps
 pub use Rattle.daggy_run.specs.Runs
 pub use Rattle.daggy_run.specs.Plans
+pub use Rattle.daggy_json.specs.Document
+pub use Rattle.daggy_json.specs.Reading
+pub use Rattle.daggy_json.specs.Weight

@@ -21,6 +21,7 @@
 
 pub mod graph;
 pub mod index;
+pub mod json;
 pub mod run;
 pub mod search;
 pub mod stable_graph;
