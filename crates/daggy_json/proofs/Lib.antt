@@ -10,4 +10,3 @@ pub mod Composing
 pub mod Bounding
 pub mod Cycles
 pub mod Making
-pub mod Returning

@@ -2,6 +2,8 @@
 #![tactic(auto)]
 
 #[cfg(test)]
+mod reading;
+#[cfg(test)]
 mod support;
 #[cfg(test)]
 mod writing;

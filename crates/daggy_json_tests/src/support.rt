@@ -4,7 +4,8 @@ ghost use Rattle.std.specs.Prelude.{◌≡◌, IsTrue, Ok};
 use daggy_base::index::{EdgeIndex, NodeIndex};
 use daggy_base::store::Store;
 use daggy_dag::acyclic::Acyclic;
-use std::alloc::Global;
+use serde_json::Value;
+use std::alloc::{AllocError, Global};
 use std::process::Abort;
 
 pub fn holds(rt: &impl Abort, fact: bool)
@@ -51,4 +52,9 @@ pub fn dag_of<S: Store<u8, NodeWeight = u32, EdgeWeight = u32>>(
         let _e = made(rt, dag.add_edge(a, b, *weight));
     }
     dag
+}
+
+// A weight as it is written.
+pub fn number(weight: &u32) -> Result<Value, AllocError> {
+    Ok(Value::from(*weight))
 }

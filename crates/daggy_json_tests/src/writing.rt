@@ -1,5 +1,5 @@
 //! Documents that are written, by their texts.
-use crate::support::{dag_of, edge, holds, made, node};
+use crate::support::{dag_of, edge, holds, made, node, number};
 use daggy_dag::acyclic::{Dag, StableDag};
 use daggy_json::documents::{dag_to_json, stable_to_json};
 use daggy_json::error::{ReadError, WriteError};
@@ -8,11 +8,8 @@ use std::alloc::{AllocError, Global};
 use std::process::Abort;
 
 type Small = Dag<u32, u32, u8>;
-type SmallStable = StableDag<u32, u32, u8>;
 
-fn number(weight: &u32) -> Result<Value, AllocError> {
-    Ok(Value::from(*weight))
-}
+type SmallStable = StableDag<u32, u32, u8>;
 
 fn check_text(rt: &impl Abort, alloc: Global, value: &Value, wanted: &str) {
     let text = made(rt, value.to_string(alloc));
@@ -40,7 +37,8 @@ fn nothing_is_written_as_empty_lists(rt: HostRuntime) {
 
 const THREE: [(usize, usize, u32); 3] = [(0, 1, 4), (0, 2, 5), (0, 1, 6)];
 
-const REORDERED: &str = "{\"edge_property\":\"directed\",\"edges\":[[0,1,6],[0,2,5]],\"node_holes\":[],\"nodes\":[1,2,3],\"orders\":[[[0,1],[]],[[],[0]],[[],[1]]]}";
+const REORDERED: &str =
+    "{\"edge_property\":\"directed\",\"edges\":[[0,1,6],[0,2,5]],\"node_holes\":[],\"nodes\":[1,2,3],\"orders\":[[[0,1],[]],[[],[0]],[[],[1]]]}";
 
 #[test]
 fn the_lists_are_written_in_their_order(rt: HostRuntime) {
@@ -49,7 +47,8 @@ fn the_lists_are_written_in_their_order(rt: HostRuntime) {
     check(&rt, rt.alloc(), &dag, REORDERED);
 }
 
-const VACANT: &str = "{\"edge_property\":\"directed\",\"edges\":[null,[0,2,5]],\"node_holes\":[1],\"nodes\":[10,30],\"orders\":[[[1],[]],[[],[1]]]}";
+const VACANT: &str =
+    "{\"edge_property\":\"directed\",\"edges\":[null,[0,2,5]],\"node_holes\":[1],\"nodes\":[10,30],\"orders\":[[[1],[]],[[],[1]]]}";
 
 #[test]
 fn vacant_slots_below_the_bound_are_named(rt: HostRuntime) {
@@ -59,7 +58,8 @@ fn vacant_slots_below_the_bound_are_named(rt: HostRuntime) {
     check_stable(&rt, rt.alloc(), &dag, VACANT);
 }
 
-const CUT: &str = "{\"edge_property\":\"directed\",\"edges\":[],\"node_holes\":[],\"nodes\":[10],\"orders\":[[[],[]]]}";
+const CUT: &str =
+    "{\"edge_property\":\"directed\",\"edges\":[],\"node_holes\":[],\"nodes\":[10],\"orders\":[[[],[]]]}";
 
 #[test]
 fn vacant_slots_past_the_bound_are_left_out(rt: HostRuntime) {

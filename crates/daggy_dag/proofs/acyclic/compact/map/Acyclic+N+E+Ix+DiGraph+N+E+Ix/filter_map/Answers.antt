@@ -35,3 +35,6 @@ pub returns-clause-acyclic : goal.returns-clause-acyclic
 returns-clause-acyclic g c =
     let made = c.in_ok-store.ensures.filtered in
     acyclic_from_order _ (order_renamed _ _ _ _ _ _ _ made.0 _ (made.1 ∙ sym c.as_slice.ensures.value) _ _ _ c.in_ok-order.ensures c.rename_all.ensures c.self.invariant.0)
+
+pub returns-clause-whole : goal.returns-clause-whole
+returns-clause-whole g c = rw (← c.self.view_is) c.in_ok-store.ensures.whole

@@ -1,0 +1,236 @@
+//! Documents that are read.
+use crate::support::{holds, made, number};
+use daggy_dag::acyclic::{Dag, StableDag};
+use daggy_json::documents::{dag_from_json, dag_to_json, stable_from_json, stable_to_json};
+use daggy_json::error::ReadError;
+use serde_json::Value;
+use std::alloc::{AllocError, Global};
+use std::process::Abort;
+
+type Small = Dag<u32, u32, u8>;
+
+type SmallStable = StableDag<u32, u32, u8>;
+
+// A whole number that fits; anything else is refused.
+fn weight(value: &Value) -> Result<Option<u32>, AllocError> {
+    match value.as_u64() {
+        Some(n) if n <= 1000 => Ok(Some(n as u32)),
+        _ => Ok(None),
+    }
+}
+
+fn value_of(rt: &impl Abort, alloc: Global, text: &str) -> Value {
+    match Value::from_str(alloc, text) {
+        Ok(value) => value,
+        Err(_) => panic!(rt; "the text is no JSON"),
+    }
+}
+
+fn read(rt: &impl Abort, alloc: Global, text: &str) -> Result<Small, ReadError> {
+    let value = value_of(rt, alloc, text);
+    dag_from_json(alloc, &value, weight, weight)
+}
+
+fn read_stable(rt: &impl Abort, alloc: Global, text: &str) -> Result<SmallStable, ReadError> {
+    let value = value_of(rt, alloc, text);
+    stable_from_json(alloc, &value, weight, weight)
+}
+
+// Asserts that a document reads as a dag that is written as the other one.
+fn reads_as(rt: &impl Abort, alloc: Global, text: &str, wanted: &str) {
+    let dag = made(rt, read(rt, alloc, text));
+    let written = made(rt, dag_to_json(alloc, &dag, number, number));
+    let written = made(rt, written.to_string(alloc));
+    holds(rt, written.as_str() == wanted);
+}
+
+fn reads_as_stable(rt: &impl Abort, alloc: Global, text: &str, wanted: &str) {
+    let dag = made(rt, read_stable(rt, alloc, text));
+    let written = made(rt, stable_to_json(alloc, &dag, number, number));
+    let written = made(rt, written.to_string(alloc));
+    holds(rt, written.as_str() == wanted);
+}
+
+const REORDERED: &str =
+    "{\"edge_property\":\"directed\",\"edges\":[[0,1,6],[0,2,5]],\"node_holes\":[],\"nodes\":[1,2,3],\"orders\":[[[0,1],[]],[[],[0]],[[],[1]]]}";
+
+const WITHOUT_ORDERS: &str =
+    "{\"edge_property\":\"directed\",\"edges\":[[0,1,6],[0,2,5]],\"node_holes\":[],\"nodes\":[1,2,3]}";
+
+const DESCENDING: &str =
+    "{\"edge_property\":\"directed\",\"edges\":[[0,1,6],[0,2,5]],\"node_holes\":[],\"nodes\":[1,2,3],\"orders\":[[[1,0],[]],[[],[0]],[[],[1]]]}";
+
+#[test]
+fn lists_are_read_in_their_order(rt: HostRuntime) {
+    reads_as(&rt, rt.alloc(), REORDERED, REORDERED);
+    reads_as_stable(&rt, rt.alloc(), REORDERED, REORDERED);
+}
+
+#[test]
+fn without_orders_lists_descend(rt: HostRuntime) {
+    reads_as(&rt, rt.alloc(), WITHOUT_ORDERS, DESCENDING);
+    reads_as_stable(&rt, rt.alloc(), WITHOUT_ORDERS, DESCENDING);
+}
+
+const VACANT: &str =
+    "{\"edge_property\":\"directed\",\"edges\":[null,[0,2,5]],\"node_holes\":[1],\"nodes\":[10,30],\"orders\":[[[1],[]],[[],[1]]]}";
+
+const TRAILING: &str =
+    "{\"nodes\":[1,2],\"node_holes\":[0,2],\"edge_property\":\"directed\",\"edges\":[null,[1,3,7]]}";
+
+#[test]
+fn vacant_slots_are_read(rt: HostRuntime) {
+    reads_as_stable(&rt, rt.alloc(), VACANT, VACANT);
+    let mut dag = made(&rt, read_stable(&rt, rt.alloc(), TRAILING));
+    for wanted in [2, 0, 4] {
+        holds(&rt, dag.can_add_node());
+        let n = made(&rt, dag.add_node(9));
+        holds(&rt, n.index() == wanted);
+    }
+}
+
+fn is_fault(found: &ReadError, wanted: &ReadError) -> bool {
+    matches!(
+        (found, wanted),
+        (ReadError::Shape, ReadError::Shape)
+            | (ReadError::Property, ReadError::Property)
+            | (ReadError::Holes, ReadError::Holes)
+            | (ReadError::Full, ReadError::Full)
+            | (ReadError::Weight, ReadError::Weight)
+            | (ReadError::BadEndpoint, ReadError::BadEndpoint)
+            | (ReadError::Orders, ReadError::Orders)
+            | (ReadError::Cycle, ReadError::Cycle)
+    )
+}
+
+fn refuses(rt: &impl Abort, alloc: Global, text: &str, wanted: &ReadError) {
+    match read(rt, alloc, text) {
+        Ok(_) => holds(rt, false),
+        Err(found) => holds(rt, is_fault(&found, wanted)),
+    }
+}
+
+fn refuses_stable(rt: &impl Abort, alloc: Global, text: &str, wanted: &ReadError) {
+    match read_stable(rt, alloc, text) {
+        Ok(_) => holds(rt, false),
+        Err(found) => holds(rt, is_fault(&found, wanted)),
+    }
+}
+
+#[test]
+fn the_first_fault_of_a_document_is_told(rt: HostRuntime) {
+    for (text, wanted) in [
+        ("null", ReadError::Shape),
+        ("[]", ReadError::Shape),
+        ("{\"nodes\":[],\"edges\":[]}", ReadError::Shape),
+        (
+            "{\"nodes\":[],\"edge_property\":\"directed\",\"edges\":{}}",
+            ReadError::Shape,
+        ),
+        (
+            "{\"nodes\":[],\"node_holes\":null,\"edge_property\":\"directed\",\"edges\":[]}",
+            ReadError::Shape,
+        ),
+        (
+            "{\"nodes\":[1],\"node_holes\":[5],\"edge_property\":\"x\",\"edges\":[]}",
+            ReadError::Property,
+        ),
+        (
+            "{\"nodes\":[1,2],\"node_holes\":[1,1],\"edge_property\":\"directed\",\"edges\":[]}",
+            ReadError::Holes,
+        ),
+        (
+            "{\"nodes\":[1],\"node_holes\":[5],\"edge_property\":\"directed\",\"edges\":[]}",
+            ReadError::Holes,
+        ),
+        (
+            "{\"nodes\":[true],\"edge_property\":\"directed\",\"edges\":[[0,9,1]]}",
+            ReadError::Weight,
+        ),
+        (
+            "{\"nodes\":[1],\"edge_property\":\"directed\",\"edges\":[[0,9,true]]}",
+            ReadError::BadEndpoint,
+        ),
+        (
+            "{\"nodes\":[1],\"edge_property\":\"directed\",\"edges\":[[0,18446744073709551615,1]]}",
+            ReadError::BadEndpoint,
+        ),
+        (
+            "{\"nodes\":[1],\"node_holes\":[0],\"edge_property\":\"directed\",\"edges\":[[0,1,2]]}",
+            ReadError::BadEndpoint,
+        ),
+        (
+            "{\"nodes\":[1],\"edge_property\":\"directed\",\"edges\":[[0,0,true]]}",
+            ReadError::Weight,
+        ),
+        (
+            "{\"nodes\":[1],\"edge_property\":\"directed\",\"edges\":[[0,0,1],[0]]}",
+            ReadError::Shape,
+        ),
+        (
+            "{\"nodes\":[1],\"edge_property\":\"directed\",\"edges\":[[0,-1,1]]}",
+            ReadError::Shape,
+        ),
+        (
+            "{\"nodes\":[1],\"edge_property\":\"directed\",\"edges\":[[0,0,1,1]]}",
+            ReadError::Shape,
+        ),
+        (
+            "{\"nodes\":[1],\"edge_property\":\"directed\",\"edges\":[[0,0,1]]}",
+            ReadError::Cycle,
+        ),
+        (
+            "{\"nodes\":[1],\"edge_property\":\"directed\",\"edges\":[[0,0,1]],\"orders\":[]}",
+            ReadError::Orders,
+        ),
+        (
+            "{\"nodes\":[1],\"edge_property\":\"directed\",\"edges\":[[0,0,1]],\"orders\":null}",
+            ReadError::Orders,
+        ),
+        (
+            "{\"nodes\":[1],\"edge_property\":\"directed\",\"edges\":[[0,0,1]],\"orders\":[[[0],[0]]]}",
+            ReadError::Cycle,
+        ),
+        (
+            "{\"nodes\":[1,2],\"edge_property\":\"directed\",\"edges\":[[0,1,0],[1,0,0]]}",
+            ReadError::Cycle,
+        ),
+    ] {
+        refuses_stable(&rt, rt.alloc(), text, &wanted);
+    }
+}
+
+#[test]
+fn a_compact_dag_has_no_vacant_slot(rt: HostRuntime) {
+    for (text, wanted) in [
+        (
+            "{\"nodes\":[1],\"node_holes\":[0],\"edge_property\":\"directed\",\"edges\":[]}",
+            ReadError::Holes,
+        ),
+        (
+            "{\"nodes\":[1],\"edge_property\":\"directed\",\"edges\":[null]}",
+            ReadError::Shape,
+        ),
+        (
+            "{\"nodes\":[1],\"edge_property\":\"undirected\",\"edges\":[]}",
+            ReadError::Property,
+        ),
+        (
+            "{\"nodes\":[1,2],\"edge_property\":\"directed\",\"edges\":[[0,1,0],[1,0,0]]}",
+            ReadError::Cycle,
+        ),
+    ] {
+        refuses(&rt, rt.alloc(), text, &wanted);
+    }
+}
+
+#[test]
+fn other_orders_are_no_rearrangement(rt: HostRuntime) {
+    let front =
+        "{\"edge_property\":\"directed\",\"edges\":[[0,1,6],[0,2,5]],\"nodes\":[1,2,3],\"orders\":[[";
+    for list in ["[0]", "[0,0]", "[0,1,1]"] {
+        let text = format!(in rt.alloc(); "{front}{list},[]],[[],[0]],[[],[1]]]}}");
+        let text = made(&rt, text);
+        refuses(&rt, rt.alloc(), text.as_str(), &ReadError::Orders);
+    }
+}
