@@ -1,24 +1,22 @@
 -- The stages of reading, put together.
-use Rattle.std.proofs.Common.{◌≡◌, ℕ, zero, suc, ◌+◌, ◌<◌, ◌≤◌, inl, inr, Bool, true, false, Option, Some, None, IsSome, is_some, List, [], ◌∷◌, length, map, count_by, unwrap_or, slice_get, nat_lt, cond, refl, sym, ap, subst, ◌∙◌, arith}
-use Rattle.std.specs.Prelude.{◌⊎◌, MatchOption, Contains, Result, Ok, Err, option_and_then}
+use Rattle.std.proofs.Common.{◌≡◌, ℕ, zero, suc, ◌+◌, inl, inr, Bool, false, Option, Some, None, IsSome, List, [], ◌∷◌, length, map, refl, sym, ap, subst, ◌∙◌, arith}
+use Rattle.std.specs.Prelude.{MatchOption, Result, Ok, Err}
 use Rattle.std.specs.Option.{option_map}
-use Rattle.std.proofs.lemmas.Bool.{false≢true, cases_lt}
+use Rattle.std.proofs.lemmas.Bool.{false≢true}
 use Rattle.std.specs.Borrow.{Bor}
 use Rattle.serde_json.specs.Data.{Data}
 use Rattle.serde_json.specs.View.{view}
 use Rattle.serde_json.specs.declared.value.Value.{Value}
 use Rattle.daggy_base.specs.Iterating.{numbered}
 use Rattle.daggy_json.specs.Document.{vacant_from}
-use Rattle.daggy_base.specs.declared.index.Direction.{Direction}
 use Rattle.daggy_base.specs.declared.index.Direction.TheVariants.{Outgoing, Incoming}
 use Rattle.daggy_base.specs.Graph.{Graph, Edge, slot, near_end}
 use Rattle.daggy_base.specs.FromSlots.{of_slots}
-use Rattle.daggy_base.proofs.Lists.{Contains-here, Contains-there}
 use Rattle.daggy_json.specs.declared.error.ReadError.{ReadError}
 use Rattle.daggy_json.specs.declared.error.ReadError.TheVariants.{Shape, Orders}
-use Rattle.daggy_base.specs.Orders.{rows_by_slots, with_orders, AreOrders}
-use Rattle.daggy_json.specs.Reading.{Parts, parts_in, whole_in, all_in, array_in, numbers_in, pair, pair_in, orders_in, IsLaidOut, IsRead, IsFilled, IsLinked, ReadsEach, IsWeight, IsEntryRead, AreSlots, IsOrdered, IsTested, Then}
-use Rattle.daggy_json.specs.Found.{ordered, EndsExist, IsNodesFault}
+use Rattle.daggy_base.specs.Orders.{with_orders, AreOrders}
+use Rattle.daggy_json.specs.Reading.{Parts, parts_in, orders_in, IsLaidOut, IsRead, IsFilled, IsLinked, ReadsEach, IsWeight, IsEntryRead, AreSlots, IsOrdered, IsTested}
+use Rattle.daggy_json.specs.Found.{EndsExist, IsNodesFault}
 
 module _ {N E : Type 0} (limit : ℕ) (stable : Bool) (node_answers : Data → Option N → Type 0) (edge_answers : Data → Option E → Type 0) (d : Data) where
   pub shape_fault : parts_in d ≡ None → IsRead limit stable node_answers edge_answers d (Err Shape)

@@ -9,4 +9,4 @@ pub mod Rearranging
 pub mod Composing
 pub mod Bounding
 pub mod Cycles
-pub mod Making
+pub mod GivenSlots

@@ -1,15 +1,14 @@
 -- What was written of a list so far.
-use Rattle.std.proofs.Common.{◌≡◌, ◌≢◌, ℕ, zero, suc, ◌+◌, ◌-◌, ◌<◌, ◌≤◌, inl, inr, Option, Some, None, List, [], ◌∷◌, ◌++◌, length, get_or, take, drop, map, refl, sym, ap, subst, ◌∙◌, add-one, arith, length-append}
+use Rattle.std.proofs.Common.{◌≡◌, ◌≢◌, ℕ, suc, ◌<◌, ◌≤◌, inl, inr, Some, List, [], ◌∷◌, ◌++◌, length, get_or, take, drop, map, refl, sym, ap, subst, ◌∙◌, add-one, arith, length-append}
 use Rattle.std.proofs.lemmas.Bool.{cases_lt}
 use Rattle.std.proofs.lemmas.List.{map-append, take_more, take_all}
 use Rattle.daggy_base.specs.declared.index.Direction.{Direction}
 use Rattle.daggy_base.specs.declared.index.Direction.TheVariants.{Outgoing, Incoming}
-use Rattle.daggy_base.specs.Graph.{Graph, Edge, HasEdge, edge_at, list_at, near_end}
+use Rattle.daggy_base.specs.Graph.{Graph, Edge, edge_at, list_at, near_end}
 use Rattle.daggy_base.specs.Cursor.{first_of, after, cursor_after}
 use Rattle.daggy_base.specs.WellFormed.{IsWellFormed}
-use Rattle.daggy_base.proofs.Lists.{Mem, Unique, mem_at, contains_mem, mem_contains, unique_from_distinct, first_at, first_past, after_at}
+use Rattle.daggy_base.proofs.Lists.{Mem, Unique, mem_at, mem_contains, unique_from_distinct, first_at, first_past, after_at}
 use Rattle.daggy_base.proofs.Reading.{edge_below}
-use Rattle.serde_json.specs.Data.{Data}
 use Rattle.serde_json.specs.View.{view}
 use Rattle.serde_json.specs.declared.value.Value.{Value}
 use Rattle.daggy_json.specs.Document.{whole}

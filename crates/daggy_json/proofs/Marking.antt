@@ -1,5 +1,5 @@
 -- Lists that are marked one edge after the other, and what the marks say at the end.
-use Rattle.std.proofs.Common.{◌≡◌, ◌≢◌, ℕ, zero, suc, ◌+◌, ◌<◌, ◌≤◌, inl, inr, Bool, true, false, eqb, Option, Some, None, IsSome, is_some, List, [], ◌∷◌, ◌++◌, length, get_or, set, drop, map, replicate, cond, count_by, unwrap_or, slice_get, refl, sym, ap, subst, ◌∙◌, arith, add-one, zero-add, drop-cons, length-set, length-drop}
+use Rattle.std.proofs.Common.{◌≡◌, ◌≢◌, ℕ, zero, suc, ◌+◌, ◌<◌, ◌≤◌, inl, inr, Bool, true, false, Option, Some, None, IsSome, is_some, List, [], ◌∷◌, length, get_or, set, drop, map, cond, count_by, unwrap_or, slice_get, refl, sym, ap, subst, ◌∙◌, arith, add-one, zero-add, drop-cons, length-set, length-drop}
 use Rattle.std.specs.Prelude.{◌⊎◌, Contains}
 use Rattle.std.specs.Option.{option_map}
 use Rattle.std.proofs.lemmas.Bool.{false≢true, cases_eq, cases_lt}
@@ -46,22 +46,20 @@ module _ (p : ℕ → Bool) where
   pub marked_once : (m : List Bool) (es : List ℕ) → ((e : ℕ) → p e ≡ true → e < length m) → Marked p m es → AreDistinct es
   marked_once m [] low h = tt
   marked_once m (a ∷ es) low h =
-      let l : (k : ℕ) → p k ≡ true → k < length (set m a true) = λ k q. omega (arith, low k q, length-set m a true) in
-      (
+      let l : (k : ℕ) → p k ≡ true → k < length (set m a true) = λ k q. omega (arith, low k q, length-set m a true) in (
         λ c. false≢true (sym (marked_fresh (set m a true) es l h.2 a c) ∙ get_or-set_same m a true false (low a h.0)),
         marked_once (set m a true) es l h.2,
       )
 
   pub marked_from : (m : List Bool) (es : List ℕ) → ((e : ℕ) → Contains es e → p e ≡ true) → AreDistinct es → ((e : ℕ) → Contains es e → get_or m e false ≡ false) → Marked p m es
   marked_from m [] pass once fresh = tt
-  marked_from m (a ∷ es) pass once fresh =
-      (
-        pass a (Contains-here a es),
-        fresh a (Contains-here a es),
-        marked_from (set m a true) es (λ e c. pass e (Contains-there a e es c)) once.1
+  marked_from m (a ∷ es) pass once fresh = (
+    pass a (Contains-here a es),
+    fresh a (Contains-here a es),
+    marked_from (set m a true) es (λ e c. pass e (Contains-there a e es c)) once.1
         (λ e c. let ne : e ≢ a = λ s. once.0 (subst (λ k. Contains es k) s c) in
         get_or-set_other m a e true false ne ∙ fresh e (Contains-there a e es c)),
-      )
+  )
 
 -- what is marked then
 pub marks_came : (m : List Bool) (es : List ℕ) (e : ℕ) → get_or (marked_with m es) e false ≡ true → (get_or m e false ≡ true) ⊎ Contains es e
@@ -176,12 +174,11 @@ module _ {N : Type 0} (P : ℕ → ℕ → Bool) where
       back : (i j e : ℕ) → P (i + suc j) e ≡ true → P (i + 1 + j) e ≡ true
       back i j e h = ap (λ k. P k e) (let q : i + 1 + j ≡ i + suc j = omega arith in q) ∙ h
   all_from one i m (Some x ∷ slots) [] count r before = absurd (omega (arith, count, count_some x slots))
-  all_from one i m (Some x ∷ slots) (l ∷ lists) count r before =
-      (
-        marked_from (P i) m l (λ e c. here i e (r.pass 0 refl e c)) (r.once 0 refl) unmarked,
-        all_from one (i + 1) (marked_with m l) slots lists (omega (arith, count, count_some x slots))
+  all_from one i m (Some x ∷ slots) (l ∷ lists) count r before = (
+    marked_from (P i) m l (λ e c. here i e (r.pass 0 refl e c)) (r.once 0 refl) unmarked,
+    all_from one (i + 1) (marked_with m l) slots lists (omega (arith, count, count_some x slots))
         (record { pass = λ j s e c. back i j e (r.pass (suc j) s e c); once = λ j s. r.once (suc j) s }) later,
-      )
+  )
     where
       back : (i j e : ℕ) → P (i + suc j) e ≡ true → P (i + 1 + j) e ≡ true
       back i j e h = ap (λ k. P k e) (let q : i + 1 + j ≡ i + suc j = omega arith in q) ∙ h
@@ -327,18 +324,17 @@ module _ {N : Type 0} {P : ℕ → ℕ → Bool} {m₀ m : List Bool} {slots : L
 
   pub lists_whole : length slots ≤ n → (passed ≡ length lists → AllMarked P 0 m₀ slots lists × (m ≡ marked_by m₀ slots lists)) × (AllMarked P 0 m₀ slots lists → passed ≡ length lists)
   lists_whole past =
-      let Q : List (Option N) → Type 0 = λ k. AllMarked P n m k (drop passed lists) in
-      (
+      let Q : List (Option N) → Type 0 = λ k. AllMarked P n m k (drop passed lists) in (
         λ e. (
-          let none : drop passed lists ≡ [] = drop_all passed lists (omega arith) in
-          let q : AllMarked {N = N} P n m [] (drop passed lists) = none in
-          (s.back (subst Q (sym (drop_all n slots past)) q), sym (s.with_all ∙ ap (λ k. marked_by m k (drop passed lists)) (drop_all n slots past)))
-          ),
+            let none : drop passed lists ≡ [] = drop_all passed lists (omega arith) in
+            let q : AllMarked {N = N} P n m [] (drop passed lists) = none in
+            (s.back (subst Q (sym (drop_all n slots past)) q), sym (s.with_all ∙ ap (λ k. marked_by m k (drop passed lists)) (drop_all n slots past)))
+            ),
         λ h. (
-          let q : AllMarked {N = N} P n m [] (drop passed lists) = subst Q (drop_all n slots past) (s.forth h) in
-          let left : length (drop passed lists) ≡ 0 = ap length q in
-          omega (arith, length-drop passed lists, left, s.within)
-          ),
+            let q : AllMarked {N = N} P n m [] (drop passed lists) = subst Q (drop_all n slots past) (s.forth h) in
+            let left : length (drop passed lists) ≡ 0 = ap length q in
+            omega (arith, length-drop passed lists, left, s.within)
+            ),
       )
 
 -- ---- what the code reads

@@ -9,9 +9,8 @@ use Rattle.std.specs.List.{AllZip}
 use Rattle.std.specs.Option.{option_map}
 use Rattle.std.proofs.lemmas.Bool.{false≢true}
 use Rattle.std.proofs.lemmas.List.{map-append, take_more}
-use Rattle.daggy_base.specs.Graph.{Graph, Edge, ends_of, pair_of, slot, bound_of, edge_at}
+use Rattle.daggy_base.specs.Graph.{Edge, ends_of, pair_of, slot, bound_of}
 use Rattle.daggy_base.specs.Iterating.{numbered}
-use Rattle.daggy_base.specs.WellFormed.{IsWellFormed}
 use Rattle.daggy_base.proofs.Nodes.{bound_low}
 use Rattle.serde_json.specs.Data.{Data}
 use Rattle.serde_json.specs.View.{view}

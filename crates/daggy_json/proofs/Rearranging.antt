@@ -1,21 +1,20 @@
 -- Orders that can be marked are rearrangements of the lists of a graph of slots.
-use Rattle.std.proofs.Common.{◌≡◌, ◌≢◌, ℕ, zero, suc, ◌+◌, ◌<◌, ◌≤◌, inl, inr, Bool, true, false, eqb, Option, Some, None, IsSome, is_some, List, [], ◌∷◌, ◌++◌, length, get_or, set, drop, map, replicate, count_by, unwrap_or, slice_get, refl, sym, ap, subst, ◌∙◌, arith, cond}
+use Rattle.std.proofs.Common.{◌≡◌, ℕ, zero, suc, ◌+◌, ◌<◌, inl, inr, Bool, true, false, eqb, Option, Some, None, IsSome, is_some, List, [], ◌∷◌, length, get_or, map, replicate, count_by, unwrap_or, refl, sym, ap, subst, ◌∙◌, arith, cond}
 use Rattle.std.proofs.lemmas.List.{length-replicate, length-map}
-use Rattle.std.specs.Prelude.{◌⊎◌, ◌↔◌, Contains}
+use Rattle.std.specs.Prelude.{Contains}
 use Rattle.std.specs.Option.{option_map}
-use Rattle.std.proofs.lemmas.Bool.{false≢true, cases_eq, cases_lt, eqb-true, eq-eqb}
+use Rattle.std.proofs.lemmas.Bool.{false≢true, cases_eq, eqb-true, eq-eqb}
 use Rattle.std.proofs.lemmas.Option.{slice_get_within, unwrap_or-slice_get}
 use Rattle.std.proofs.lemmas.List.FromFn.{get_or-map-range_with_len}
 use Rattle.daggy_base.proofs.Reading.{slot_get}
 use Rattle.daggy_base.specs.declared.index.Direction.{Direction}
 use Rattle.daggy_base.specs.declared.index.Direction.TheVariants.{Outgoing, Incoming}
-use Rattle.daggy_base.specs.WellFormed.{AreDistinct}
-use Rattle.daggy_base.specs.Graph.{Graph, Edge, slot, near_end, list_at}
+use Rattle.daggy_base.specs.Graph.{Edge, slot, near_end, list_at}
 use Rattle.daggy_base.specs.FromSlots.{down_from, has_end, lists_down, of_slots}
 use Rattle.daggy_base.proofs.Lists.{Contains-nil, Contains-here, Contains-there, Contains-cases}
 use Rattle.daggy_base.specs.Orders.{rows_by_slots, with_orders, IsOrder, AreOrders}
-use Rattle.daggy_json.specs.Found.{chosen, Marked, marked_with, AllMarked, marked_by, LeavesNone, AreRearranged, EndsExist}
-use Rattle.daggy_json.proofs.Marking.{row, IsRow, rows_count, rows_are, stands_in, gets_marked, all_from}
+use Rattle.daggy_json.specs.Found.{chosen, AllMarked, marked_by, LeavesNone, AreRearranged, EndsExist}
+use Rattle.daggy_json.proofs.Marking.{row, rows_count, rows_are, stands_in, gets_marked, all_from}
 
 -- ---- numbers below k that pass
 

@@ -1,5 +1,5 @@
 -- Weights and entries that were read so far.
-use Rattle.std.proofs.Common.{◌≡◌, ℕ, zero, suc, ◌+◌, ◌<◌, ◌≤◌, Bool, IsSome, Option, Some, None, List, [], ◌∷◌, ◌++◌, length, get_or, take, drop, map, refl, sym, ap, subst, ◌∙◌, arith, add-one, drop-cons}
+use Rattle.std.proofs.Common.{◌≡◌, ℕ, suc, ◌+◌, ◌<◌, ◌≤◌, Bool, IsSome, Option, Some, None, List, [], ◌∷◌, ◌++◌, length, get_or, take, drop, map, sym, ap, subst, ◌∙◌, add-one, drop-cons}
 use Rattle.std.specs.Prelude.{Result, Ok, Err}
 use Rattle.std.specs.List.{AllZip}
 use Rattle.std.proofs.lemmas.List.{map-append, take_more, take_all, drop_all, take-append-drop}
@@ -7,7 +7,7 @@ use Rattle.serde_json.specs.Data.{Data}
 use Rattle.serde_json.specs.View.{view}
 use Rattle.serde_json.specs.declared.value.Value.{Value}
 use Rattle.daggy_json.specs.Reading.{ReadsEach, Ascend, triple_in, IsEntryRead}
-use Rattle.daggy_base.specs.Graph.{Edge, slot}
+use Rattle.daggy_base.specs.Graph.{slot}
 use Rattle.daggy_json.specs.declared.error.ReadError.{ReadError}
 use Rattle.daggy_json.specs.declared.error.ReadError.TheVariants.{Weight}
 use Rattle.daggy_json.proofs.Parts.{zip_more}

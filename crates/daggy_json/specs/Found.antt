@@ -1,5 +1,5 @@
 -- What the stages of reading hand on, by the values that they found.
-use Rattle.std.specs.Prelude.{◌≡◌, ◌⊎◌, Ok, Err, ℕ, ◌+◌, ◌<◌, Bool, true, false, IsSome, length, slice_index_or, slice_set, replicate, nat_lt, if◌then◌else◌, Option, Some, None, option_and_then, List, [], ◌∷◌, map}
+use Rattle.std.specs.Prelude.{◌≡◌, ◌⊎◌, Ok, Err, ℕ, ◌+◌, Bool, true, false, IsSome, length, slice_index_or, slice_set, replicate, nat_lt, if◌then◌else◌, Option, Some, None, option_and_then, List, [], ◌∷◌, map}
 use Rattle.std.specs.Option.{option_map}
 use Rattle.std.specs.Borrow.{Bor}
 use Rattle.serde_json.specs.Data.{Data}

@@ -1,5 +1,5 @@
 -- What a value is read as: a graph, or its first fault.
-use Rattle.std.specs.Prelude.{◌≡◌, ℕ, ◌+◌, ◌<◌, ◌≤◌, ◌⊎◌, Bool, true, false, Option, Some, None, IsSome, option_and_then, Result, Ok, Err, List, [], ◌∷◌, ◌++◌, length, map, codes, MatchOption, MatchResult, ok_or}
+use Rattle.std.specs.Prelude.{◌≡◌, ℕ, ◌+◌, ◌<◌, ◌≤◌, Bool, true, false, Option, Some, None, IsSome, option_and_then, Result, Ok, Err, List, [], ◌∷◌, ◌++◌, length, map, codes, MatchOption, MatchResult}
 use Rattle.std.specs.List.{AllZip}
 use Rattle.std.specs.Option.{option_map}
 use Rattle.serde_json.specs.Data.{Data, null, Items, no_items, item}

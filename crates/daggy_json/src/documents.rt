@@ -77,12 +77,7 @@ pub fn dag_from_json<
     Ix: IndexType,
     F: Fn(&Value) -> Result<Option<N>, AllocError> + Drop,
     G: Fn(&Value) -> Result<Option<E>, AllocError> + Drop,
->(
-    alloc: Global,
-    value: &Value,
-    fn_node: F,
-    fn_edge: G,
-) -> Result<Dag<N, E, Ix>, ReadError>
+>(alloc: Global, value: &Value, fn_node: F, fn_edge: G) -> Result<Dag<N, E, Ix>, ReadError>
     requires nodes { F.IsAlwaysCallable fn_node }
     requires edges { G.IsAlwaysCallable fn_edge }
     ensures ok { IfOk result (λ d. IsRead Ix.greatest false (ReadsAs F.Fn fn_node) (ReadsAs G.Fn fn_edge) (view value.now) (Ok d.graph)) }
@@ -99,12 +94,7 @@ pub fn stable_from_json<
     Ix: IndexType,
     F: Fn(&Value) -> Result<Option<N>, AllocError> + Drop,
     G: Fn(&Value) -> Result<Option<E>, AllocError> + Drop,
->(
-    alloc: Global,
-    value: &Value,
-    fn_node: F,
-    fn_edge: G,
-) -> Result<StableDag<N, E, Ix>, ReadError>
+>(alloc: Global, value: &Value, fn_node: F, fn_edge: G) -> Result<StableDag<N, E, Ix>, ReadError>
     requires nodes { F.IsAlwaysCallable fn_node }
     requires edges { G.IsAlwaysCallable fn_edge }
     ensures ok { IfOk result (λ d. IsRead Ix.greatest true (ReadsAs F.Fn fn_node) (ReadsAs G.Fn fn_edge) (view value.now) (Ok d.graph)) }

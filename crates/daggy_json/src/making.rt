@@ -46,9 +46,10 @@ fn make<N: Drop, E: Drop, Ix: IndexType, S: Store<Ix, NodeWeight = N, EdgeWeight
         Err(SlotsError::Cycle) => return Err(ReadError::Cycle),
         Err(SlotsError::Memory) => return Err(ReadError::Memory),
     };
-    if let Some(rows) = orders {
-        dag.set_orders(rows.as_slice());
-    }
+    let Some(rows) = orders else {
+        return Ok(dag);
+    };
+    dag.set_orders(rows.as_slice());
     Ok(dag)
 }
 

@@ -79,7 +79,9 @@ fn mark_lists<N, E, Ix: IndexType>(
     let mut passed = 0;
     for n in 0..nodes.len() {
         if nodes[n].is_some() {
-            if passed >= rows.len() || !mark_list(edges, list_of(&rows[passed], dir), n, dir, marks) {
+            if passed >= rows.len()
+                || !mark_list(edges, list_of(&rows[passed], dir), n, dir, marks)
+            {
                 return false;
             }
             passed += 1;
@@ -129,6 +131,8 @@ pub(super) fn are_orders<N, E, Ix: IndexType>(
 {
     let mut marks = Marks::new(alloc);
     marks.grow(edges.len())?;
-    Ok(is_rearranged(nodes, edges, rows, Direction::Outgoing, &mut marks)
-        && is_rearranged(nodes, edges, rows, Direction::Incoming, &mut marks))
+    Ok(
+        is_rearranged(nodes, edges, rows, Direction::Outgoing, &mut marks)
+            && is_rearranged(nodes, edges, rows, Direction::Incoming, &mut marks),
+    )
 }

@@ -1,4 +1,3 @@
-use Rattle.std.proofs.Common.{refl}
 use Rattle.std.proofs.lemmas.Result.{IfOk-weaker}
 use Rattle.daggy_json.proofs.Parts.{entry_is, writes_as}
 use Rattle.daggy_json.proofs.writing.write_entry.Goals as goal

@@ -1,10 +1,6 @@
-use Rattle.std.proofs.Common.{◌≡◌, ◌≢◌, ℕ, ◌+◌, ◌<◌, ◌≤◌, List, [], ◌∷◌, length-append, IsSome, is_some, true, false, length, refl, sym, ap, subst, ◌∙◌, arith, rules}
-use Rattle.std.proofs.lemmas.Bool.{false≢true}
-use Rattle.daggy_base.specs.Graph.{edge_at, node_weight, HasNode, HasEdge, list_at}
-use Rattle.daggy_base.proofs.Nodes.{bound_low}
+use Rattle.std.proofs.Common.{◌≡◌, ◌≢◌, ◌+◌, [], ◌∷◌, length-append, is_some, length, ap, ◌∙◌, arith}
 use Rattle.daggy_json.specs.Document.{whole}
-use Rattle.daggy_json.proofs.Listing.{listed_starts, listed_more, listed_whole, listed_edge, listed_next}
-use Rattle.daggy_json.proofs.Parts.{below_length, hole_more, hole_kept, row_more, row_kept, weight_more, weight_kept, at_bound, rows_whole, weights_whole, entry_more}
+use Rattle.daggy_json.proofs.Listing.{listed_more, listed_whole, listed_edge, listed_next}
 use Rattle.daggy_json.proofs.writing.write_list.Goals as goal
 
 pub next_edge-e-requires : goal.next_edge-e-requires

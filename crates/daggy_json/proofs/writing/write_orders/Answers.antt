@@ -1,9 +1,7 @@
-use Rattle.std.proofs.Common.{◌≡◌, ◌≢◌, ℕ, ◌<◌, ◌≤◌, IsSome, is_some, true, false, length, refl, sym, ap, subst, ◌∙◌, arith, rules}
+use Rattle.std.proofs.Common.{is_some, sym, ap, ◌∙◌, arith}
 use Rattle.std.proofs.lemmas.Bool.{false≢true}
-use Rattle.daggy_base.specs.Graph.{slot, edge_at, node_weight, HasNode, HasEdge, list_at}
-use Rattle.daggy_base.proofs.Nodes.{bound_low}
-use Rattle.daggy_json.proofs.Listing.{listed_starts, listed_whole, listed_edge, listed_next}
-use Rattle.daggy_json.proofs.Parts.{slot_some, below_length, hole_more, hole_kept, row_more, row_kept, weight_more, weight_kept, at_bound, rows_whole, weights_whole, entry_more}
+use Rattle.daggy_base.specs.Graph.{slot}
+use Rattle.daggy_json.proofs.Parts.{slot_some, below_length, row_more, row_kept, at_bound, rows_whole}
 use Rattle.daggy_json.proofs.writing.write_orders.Goals as goal
 use Rattle.daggy_json.proofs.writing.write_orders.Goals.{then-contains_node+in_ok-write_row+in_ok-push, else-contains_node}
 

@@ -1,10 +1,6 @@
 use Rattle.std.specs.Option.{option_copied}
-use Rattle.std.proofs.Common.{◌≡◌, ◌≢◌, ℕ, ◌<◌, ◌≤◌, IsSome, is_some, true, false, length, refl, sym, ap, subst, ◌∙◌, arith, rules}
-use Rattle.std.proofs.lemmas.Bool.{false≢true}
-use Rattle.daggy_base.specs.Graph.{edge_at, node_weight, HasNode, HasEdge, list_at}
-use Rattle.daggy_base.proofs.Nodes.{bound_low}
-use Rattle.daggy_json.proofs.Listing.{listed_starts, listed_whole, listed_edge, listed_next}
-use Rattle.daggy_json.proofs.Parts.{writes_as, below_length, hole_more, hole_kept, row_more, row_kept, weight_more, weight_kept, at_bound, rows_whole, weights_whole, entry_more}
+use Rattle.std.proofs.Common.{sym, ap, ◌∙◌, arith}
+use Rattle.daggy_json.proofs.Parts.{writes_as, below_length, weight_more, weight_kept, at_bound, weights_whole}
 use Rattle.daggy_json.proofs.writing.write_weights.Goals as goal
 use Rattle.daggy_json.proofs.writing.write_weights.Goals.{in-Some+in_ok-fn_node+in_ok-push, in_default}
 

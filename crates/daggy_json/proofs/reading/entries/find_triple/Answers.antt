@@ -1,4 +1,4 @@
-use Rattle.std.proofs.Common.{◌≡◌, None, Some, refl, arith, rules}
+use Rattle.std.proofs.Common.{Some, rules}
 use Rattle.daggy_json.proofs.Finding.{no_triple, triple_found}
 use Rattle.daggy_json.proofs.reading.entries.find_triple.Goals as goal
 

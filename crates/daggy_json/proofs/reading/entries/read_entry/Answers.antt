@@ -1,4 +1,4 @@
-use Rattle.std.proofs.Common.{inr, rules}
+use Rattle.std.proofs.Common.{inr}
 use Rattle.daggy_json.specs.Weight.{ReadsAs}
 use Rattle.daggy_json.proofs.Finding.{reads_as}
 use Rattle.daggy_json.proofs.Stages.{entry_some, entry_refused}

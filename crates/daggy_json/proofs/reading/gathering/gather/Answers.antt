@@ -1,9 +1,9 @@
-use Rattle.std.proofs.Common.{◌≡◌, ℕ, ◌≤◌, Some, None, vec_len, length, map, inl, inr, refl, sym, ap, ◌∙◌, arith, rules}
+use Rattle.std.proofs.Common.{◌≡◌, vec_len, length, inl, inr, ◌∙◌, arith, rules}
 use Rattle.std.specs.Option.{option_map}
 use Rattle.std.proofs.lemmas.Slice.Zip.{AllZip-long}
 use Rattle.std.proofs.lemmas.List.{length-map}
 use Rattle.serde_json.specs.View.{view}
-use Rattle.daggy_json.specs.Found.{edge_of, parts_of}
+use Rattle.daggy_json.specs.Found.{edge_of}
 use Rattle.daggy_json.specs.Weight.{ReadsAs}
 use Rattle.daggy_json.proofs.Composing.{nodes_fault, entry_fault, orders_fault, is_read, placed_long, ends_exist, full_entries}
 use Rattle.daggy_json.proofs.reading.gathering.gather.Goals as goal

@@ -1,1 +1,0 @@
-use Rattle.daggy_json.proofs.reading.layout.ascends.Goals as goal

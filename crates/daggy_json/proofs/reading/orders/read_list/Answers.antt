@@ -1,4 +1,4 @@
-use Rattle.std.proofs.Common.{sym, ap, ◌∙◌, arith, rules}
+use Rattle.std.proofs.Common.{sym}
 use Rattle.daggy_json.proofs.Finding.{all_none, all_whole, all_none_in, all_found}
 use Rattle.daggy_json.proofs.reading.orders.read_list.Goals as goal
 

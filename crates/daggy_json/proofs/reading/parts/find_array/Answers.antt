@@ -1,5 +1,5 @@
 use Rattle.daggy_json.proofs.reading.parts.find_array.Goals as goal
-use Rattle.std.proofs.Common.{sym, ap, ◌∙◌}
+use Rattle.std.proofs.Common.{ap, ◌∙◌}
 use Rattle.std.specs.Prelude.{option_and_then}
 use Rattle.daggy_json.specs.Reading.{array_in}
 use Rattle.daggy_json.proofs.Finding.{array_found}

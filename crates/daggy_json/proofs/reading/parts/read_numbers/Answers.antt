@@ -1,1 +1,0 @@
-use Rattle.daggy_json.proofs.reading.parts.read_numbers.Goals as goal

@@ -1,4 +1,4 @@
-use Rattle.std.proofs.Common.{◌≡◌, ℕ, ◌<◌, true, false, inl, inr, is_some, length, get_or, map, sym, ap, ◌∙◌, arith, rules}
+use Rattle.std.proofs.Common.{◌≡◌, true, false, inl, inr, is_some, get_or, map, sym, ap, ◌∙◌, arith, rules}
 use Rattle.std.specs.Option.{option_map}
 use Rattle.std.proofs.lemmas.Bool.{false≢true, cases_lt}
 use Rattle.std.proofs.lemmas.List.{length-map}
@@ -24,8 +24,7 @@ loop-e-preserved g c =
     ]
 
 pub returns : goal.returns
-returns g c =
-    (
-      λ t e s. c.loop-e.invariant e (omega (arith, slot_within (map (option_map (edge_of g.Ix.IndexType.number)) c.args.edges.now.items) e s, length-map c.args.edges.now.items (option_map (edge_of g.Ix.IndexType.number)), c.loop-e-test.false, c.len-e-end.ensures)) s,
-      λ h. search rules,
-    )
+returns g c = (
+  λ t e s. c.loop-e.invariant e (omega (arith, slot_within (map (option_map (edge_of g.Ix.IndexType.number)) c.args.edges.now.items) e s, length-map c.args.edges.now.items (option_map (edge_of g.Ix.IndexType.number)), c.loop-e-test.false, c.len-e-end.ensures)) s,
+  λ h. search rules,
+)

@@ -1,7 +1,6 @@
-use Rattle.std.proofs.Common.{◌≡◌, ℕ, ◌<◌, ◌+◌, None, Some, Option, length, get_or, sym, ap, ◌∙◌, arith, rules, length-append}
+use Rattle.std.proofs.Common.{◌≡◌, ◌<◌, None, length, get_or, sym, ap, ◌∙◌, arith, rules}
 use Rattle.std.proofs.lemmas.List.{get_or_read}
-use Rattle.std.specs.Vec.Iter.{into_iter_items, into_iter_len}
-use Rattle.std.specs.Option.{option_to_list}
+use Rattle.std.specs.Vec.Iter.{into_iter_items}
 use Rattle.daggy_json.proofs.Placing.{none_left, counted_on, starts_at, hole_placed, weight_placed, placed_whole}
 use Rattle.daggy_json.proofs.reading.weights.place_weights.Goals as goal
 use Rattle.daggy_json.proofs.reading.weights.place_weights.Goals.{else-passed-len-via-then-passed-len+else-index-len, else-passed-len-via-else-passed-len}
