@@ -1,6 +1,6 @@
 use super::support::{Plain, add_child, add_edge, add_node, same};
-use daggy_definitions::cursors::clear_weights;
 use daggy::EdgeIndex;
+use daggy_definitions::cursors::clear_weights;
 
 #[test]
 fn weights_are_lent_in_order(rt: HostRuntime) {

@@ -1,8 +1,8 @@
 use super::support::{connect, holds, made};
-use daggy_definitions::round::Round;
 use daggy::NodeIndex;
 use daggy::graph::DiGraph;
 use daggy::search::{EdgeSource, Scratch, reaches};
+use daggy_definitions::round::Round;
 use std::process::Abort;
 
 // Asserts whether a path leads from one node to another.
