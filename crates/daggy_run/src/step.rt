@@ -2,7 +2,6 @@
 ghost use Rattle.std.specs.Prelude.{◌≡◌, map, IfOk, OnErr};
 ghost use Rattle.daggy_base.specs.Path.{IsAcyclic};
 ghost use Rattle.daggy_base.specs.Finding.{find_edge as edge_between};
-ghost use Rattle.daggy_base.specs.declared.index.Direction.TheVariants.{Outgoing, Incoming};
 ghost use Rattle.daggy_guard.specs.Series.{by_numbers};
 ghost use Rattle.daggy_run.specs.Requests.{request_of, Node, Children, Parents, Reduce};
 ghost use Rattle.daggy_run.specs.Answers.{answer_of};
@@ -11,7 +10,7 @@ ghost use Rattle.daggy_run.specs.Steps.{IsStep, IsEdgeStep, IsUpdateStep, IsNeig
 use crate::command::{Back, Command, Reply};
 use crate::guarded::{GuardedDag, Neighbor, NewEdge};
 use daggy_base::error::{ChildError, EdgeError, EdgesError, NodeError};
-use daggy_base::index::{IndexType, NodeIndex};
+use daggy_base::index::{Direction, IndexType, NodeIndex};
 use std::alloc::AllocError;
 
 fn add_node<N: Drop, E: Drop, Ix: IndexType, D: GuardedDag<N, E, Ix>>(
@@ -74,47 +73,29 @@ fn update_edge<N: Drop, E: Drop, Ix: IndexType, D: GuardedDag<N, E, Ix>>(
     Reply::Edge(e)
 }
 
-fn add_child<N: Drop, E: Drop, Ix: IndexType, D: GuardedDag<N, E, Ix>>(
+fn add_neighbor<N: Drop, E: Drop, Ix: IndexType, D: GuardedDag<N, E, Ix>>(
     dag: &mut D,
-    parent: NodeIndex<Ix>,
+    dir: Direction,
+    n: NodeIndex<Ix>,
     edge: E,
     node: N,
 ) -> Reply<N, E, Ix>
-    ensures step { IsNeighborStep Outgoing Ix.greatest (D.graph dag.old) (Ix.number parent) edge node
+    ensures step { IsNeighborStep dir Ix.greatest (D.graph dag.old) (Ix.number n) edge node
         (answer_of Ix.number result) (D.graph dag.new) }
     ensures acyclic { IsAcyclic (D.graph dag.new) }
 {
     let indices_left = dag.can_add_edge() && dag.can_add_node();
-    if !dag.has_node(parent) {
+    if !dag.has_node(n) {
         return Reply::Missing(Back::EdgeNode(edge, node));
     }
     if !indices_left {
         return Reply::Full(Back::EdgeNode(edge, node));
     }
-    match dag.add_child(parent, edge, node) {
-        Ok((e, n)) => Reply::EdgeNode(e, n),
-        Err(ChildError::Memory(edge, node)) => Reply::Memory(Back::EdgeNode(edge, node)),
-    }
-}
-
-fn add_parent<N: Drop, E: Drop, Ix: IndexType, D: GuardedDag<N, E, Ix>>(
-    dag: &mut D,
-    child: NodeIndex<Ix>,
-    edge: E,
-    node: N,
-) -> Reply<N, E, Ix>
-    ensures step { IsNeighborStep Incoming Ix.greatest (D.graph dag.old) (Ix.number child) edge node
-        (answer_of Ix.number result) (D.graph dag.new) }
-    ensures acyclic { IsAcyclic (D.graph dag.new) }
-{
-    let indices_left = dag.can_add_edge() && dag.can_add_node();
-    if !dag.has_node(child) {
-        return Reply::Missing(Back::EdgeNode(edge, node));
-    }
-    if !indices_left {
-        return Reply::Full(Back::EdgeNode(edge, node));
-    }
-    match dag.add_parent(child, edge, node) {
+    let added = match dir {
+        Direction::Outgoing => dag.add_child(n, edge, node),
+        Direction::Incoming => dag.add_parent(n, edge, node),
+    };
+    match added {
         Ok((e, n)) => Reply::EdgeNode(e, n),
         Err(ChildError::Memory(edge, node)) => Reply::Memory(Back::EdgeNode(edge, node)),
     }
@@ -170,8 +151,12 @@ pub fn perform<N: Drop, E: Drop, Ix: IndexType, D: GuardedDag<N, E, Ix>>(
         Command::Node(weight) => add_node(dag, weight),
         Command::Edge(a, b, weight) => add_edge(dag, a, b, weight),
         Command::Update(a, b, weight) => update_edge(dag, a, b, weight),
-        Command::Child(parent, edge, node) => add_child(dag, parent, edge, node),
-        Command::Parent(child, edge, node) => add_parent(dag, child, edge, node),
+        Command::Child(parent, edge, node) => {
+            add_neighbor(dag, Direction::Outgoing, parent, edge, node)
+        }
+        Command::Parent(child, edge, node) => {
+            add_neighbor(dag, Direction::Incoming, child, edge, node)
+        }
         Command::Edges(edges) => add_edges(dag, edges),
         Command::RemoveNode(n) => Reply::NodeGone(dag.remove_node(n)),
         Command::RemoveEdge(e) => Reply::EdgeGone(dag.remove_edge(e)),
