@@ -10,7 +10,7 @@ use Rattle.daggy_base.proofs.SlotLists.{none_vacant}
 use Rattle.daggy_json.specs.Document.{vacant_from}
 use Rattle.daggy_json.specs.Found.{EndsExist}
 
-full_from : {A : Type 0} (k : ℕ) (xs : List (Option A)) → vacant_from k xs ≡ [] → (i : ℕ) → i < length xs → IsSome (slot xs i)
+pub full_from : {A : Type 0} (k : ℕ) (xs : List (Option A)) → vacant_from k xs ≡ [] → (i : ℕ) → i < length xs → IsSome (slot xs i)
 full_from k [] h i low = absurd (omega arith)
 full_from k (None ∷ xs) h i low = absurd cc
 full_from k (Some x ∷ xs) h zero low = refl

@@ -10,3 +10,6 @@ pub mod Composing
 pub mod Bounding
 pub mod Cycles
 pub mod GivenSlots
+pub mod Trimming
+pub mod Repeating
+pub mod Restoring

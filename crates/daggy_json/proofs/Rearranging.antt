@@ -45,7 +45,7 @@ down_passes p (suc k) e c = down_passes_at (down_from p k) p k e (p k) refl (dow
 -- ---- ends
 
 module _ {E : Type 0} (dir : Direction) (edges : List (Option (Edge E))) where
-  end_some : (n e : ℕ) → has_end dir edges n e ≡ true → (x : Edge E) × (slot edges e ≡ Some x) × (near_end dir x ≡ n)
+  pub end_some : (n e : ℕ) → has_end dir edges n e ≡ true → (x : Edge E) × (slot edges e ≡ Some x) × (near_end dir x ≡ n)
   end_some n e h = at (slot edges e) refl h
     where
       at : (o : Option (Edge E)) → slot edges e ≡ o → unwrap_or (option_map (λ x. eqb (near_end dir x) n) o) false ≡ true → (x : Edge E) × (slot edges e ≡ Some x) × (near_end dir x ≡ n)

@@ -2,3 +2,4 @@ pub mod Document
 pub mod Weight
 pub mod Reading
 pub mod Found
+pub mod Restoring

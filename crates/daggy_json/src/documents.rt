@@ -1,9 +1,12 @@
 //! Dags of both kinds, written as JSON values and read from them.
-ghost use Rattle.std.specs.Prelude.{◌≡◌, ◌⊎◌, true, false, Ok, Err, IfOk, IfErr};
+ghost use Rattle.std.specs.Prelude.{◌≡◌, ◌⊎◌, true, false, Ok, Err, IfOk, IfErr, MatchResult};
 ghost use Rattle.serde_json.specs.View.{view};
+ghost use Rattle.daggy_base.specs.Graph.{Graph, IsCompact};
+ghost use Rattle.daggy_base.specs.WellFormed.{IsDag};
 ghost use Rattle.daggy_json.specs.Document.{IsDocumentOf};
 ghost use Rattle.daggy_json.specs.Weight.{WritesAs, ReadsAs};
 ghost use Rattle.daggy_json.specs.Reading.{IsRead};
+ghost use Rattle.daggy_json.specs.Restoring.{ReadsOnly, trimmed};
 ghost use Rattle.daggy_json.specs.declared.error.ReadError.TheVariants.{Memory};
 
 use crate::error::{ReadError, WriteError};
@@ -66,7 +69,8 @@ pub fn stable_to_json<
 }
 
 /// The dag that a value is read as: an object as [`dag_to_json`] gives it. Other members are ignored. Without `orders`
-/// the edges are linked by ascending index, so each list has the edge with the greatest index first.
+/// the edges are linked by ascending index, so each list has the edge with the greatest index first. The document of a dag
+/// gives this dag back, if each of its weights is read as it was.
 ///
 /// `fn_node` and `fn_edge` read the weights, and give `None` for one that they refuse. The error is the first fault of
 /// the value, or says that there was no memory. The cost grows with the number of nodes and edges, besides that of the
@@ -80,14 +84,21 @@ pub fn dag_from_json<
 >(alloc: Global, value: &Value, fn_node: F, fn_edge: G) -> Result<Dag<N, E, Ix>, ReadError>
     requires nodes { F.IsAlwaysCallable fn_node }
     requires edges { G.IsAlwaysCallable fn_edge }
-    ensures ok { IfOk result (λ d. IsRead Ix.greatest false (ReadsAs F.Fn fn_node) (ReadsAs G.Fn fn_edge) (view value.now) (Ok d.graph)) }
-    ensures err { IfErr result (λ e. (e ≡ Memory) ⊎ IsRead {N = N} {E = E} Ix.greatest false (ReadsAs F.Fn fn_node) (ReadsAs G.Fn fn_edge) (view value.now) (Err e)) }
+    ensures ok { IfOk result (λ d. IsRead Ix.greatest false (ReadsAs F.Fn fn_node) (ReadsAs G.Fn fn_edge) (view value.now)
+        (Ok d.graph)) }
+    ensures err { IfErr result (λ e. (e ≡ Memory)
+        ⊎ IsRead {N = N} {E = E} Ix.greatest false (ReadsAs F.Fn fn_node) (ReadsAs G.Fn fn_edge) (view value.now) (Err e)) }
+    // The document of a dag, if each of its weights is read as it was.
+    ensures restored { (g : Graph N E) → IsDag Ix.greatest g → IsCompact g
+        → IsDocumentOf (ReadsOnly (ReadsAs F.Fn fn_node)) (ReadsOnly (ReadsAs G.Fn fn_edge)) g (view value.now)
+        → MatchResult result (λ d. d.graph ≡ g) (λ e. e ≡ Memory) }
 {
     read(alloc, value, false, &fn_node, &fn_edge)
 }
 
 /// The stable dag that a value is read as, as [`dag_from_json`] reads a dag. Slots of nodes are vacant at the holes, and
-/// slots of edges at `null`; of the vacant slots the one with the greatest index is taken first.
+/// slots of edges at `null`; of the vacant slots the one with the greatest index is taken first. So the document of a dag
+/// gives back all of it but the order of its vacant slots, and those past the greatest index in use.
 pub fn stable_from_json<
     N: Drop,
     E: Drop,
@@ -97,8 +108,14 @@ pub fn stable_from_json<
 >(alloc: Global, value: &Value, fn_node: F, fn_edge: G) -> Result<StableDag<N, E, Ix>, ReadError>
     requires nodes { F.IsAlwaysCallable fn_node }
     requires edges { G.IsAlwaysCallable fn_edge }
-    ensures ok { IfOk result (λ d. IsRead Ix.greatest true (ReadsAs F.Fn fn_node) (ReadsAs G.Fn fn_edge) (view value.now) (Ok d.graph)) }
-    ensures err { IfErr result (λ e. (e ≡ Memory) ⊎ IsRead {N = N} {E = E} Ix.greatest true (ReadsAs F.Fn fn_node) (ReadsAs G.Fn fn_edge) (view value.now) (Err e)) }
+    ensures ok { IfOk result (λ d. IsRead Ix.greatest true (ReadsAs F.Fn fn_node) (ReadsAs G.Fn fn_edge) (view value.now)
+        (Ok d.graph)) }
+    ensures err { IfErr result (λ e. (e ≡ Memory)
+        ⊎ IsRead {N = N} {E = E} Ix.greatest true (ReadsAs F.Fn fn_node) (ReadsAs G.Fn fn_edge) (view value.now) (Err e)) }
+    // The document of a dag, if each of its weights is read as it was.
+    ensures restored { (g : Graph N E) → IsDag Ix.greatest g
+        → IsDocumentOf (ReadsOnly (ReadsAs F.Fn fn_node)) (ReadsOnly (ReadsAs G.Fn fn_edge)) g (view value.now)
+        → MatchResult result (λ d. d.graph ≡ trimmed g) (λ e. e ≡ Memory) }
 {
     read(alloc, value, true, &fn_node, &fn_edge)
 }

@@ -74,8 +74,5 @@ pub(crate) fn read<
     ensures ok { IfOk result (λ d. IsRead Ix.greatest stable (ReadsAs F.Fn fn_node.now) (ReadsAs G.Fn fn_edge.now) (view value.now) (Ok d.graph)) }
     ensures err { IfErr result (λ e. (e ≡ Memory) ⊎ IsRead {N = N} {E = E} Ix.greatest stable (ReadsAs F.Fn fn_node.now) (ReadsAs G.Fn fn_edge.now) (view value.now) (Err e)) }
 {
-    match gather(alloc, value, stable, fn_node, fn_edge) {
-        Ok(found) => make(alloc, found),
-        Err(error) => Err(error),
-    }
+    make(alloc, gather(alloc, value, stable, fn_node, fn_edge)?)
 }

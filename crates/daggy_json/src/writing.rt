@@ -99,6 +99,7 @@ fn write_entries<Ix: IndexType, S: Store<Ix>, G: Fn(&S::EdgeWeight) -> Result<Va
         (take (edge_bound (S.graph store.now)) (S.graph store.now).edges) (map view v.items)) }
 {
     let bound = store.edge_bound();
+    // Asked for its contract alone: there is an index for each edge.
     let _well_formed = store.edge_count();
     let mut entries = Vec::new(alloc);
     entries.reserve(bound)?;
@@ -119,6 +120,7 @@ fn write_list<Ix: IndexType, S: Store<Ix>>(
 ) -> Result<Vec<Value>, AllocError>
     ensures { IfOk result (λ v. map view v.items ≡ map whole (list_at dir (S.graph store.now) (Ix.number n))) }
 {
+    // Asked for its contract alone: the list has the edges of the node, each once.
     let _well_formed = store.edge_count();
     let end = EdgeIndex::<Ix>::end().index();
     let mut list = Vec::new(alloc);

@@ -17,20 +17,14 @@ use std::alloc::{AllocError, Global};
 fn find_triple<'v>(value: &'v Value) -> Option<(usize, usize, &'v Value)>
     ensures { option_map (λ t. (t.0, t.1, view t.2.now)) result ≡ triple_in (view value.now) }
 {
-    let Some(parts) = value.as_array() else {
-        return None;
-    };
+    let parts = value.as_array()?;
     if parts.len() != 3 {
         return None;
     }
     let (first, second, third) = (&parts[0], &parts[1], &parts[2]);
-    let Some(parent) = first.as_u64() else {
-        return None;
-    };
-    let Some(child) = second.as_u64() else {
-        return None;
-    };
-    Some((parent as usize, child as usize, third))
+    let parent = first.as_u64()? as usize;
+    let child = second.as_u64()? as usize;
+    Some((parent, child, third))
 }
 
 // Whether a node stands in the slot.
@@ -90,10 +84,7 @@ pub(super) fn read_entries<
     let mut edges = Vec::new(alloc);
     edges.reserve(list.len())?;
     for value in list {
-        match read_entry(value, stable, nodes, fn_edge) {
-            Ok(edge) => edges.push(edge)?,
-            Err(error) => return Err(error),
-        }
+        edges.push(read_entry(value, stable, nodes, fn_edge)?)?;
     }
     Ok(edges)
 }

@@ -70,13 +70,9 @@ fn gather_nodes<N: Drop, Ix: IndexType, F: Fn(&Value) -> Result<Option<N>, Alloc
     ensures err { IfErr result (λ e. (e ≡ Memory) ⊎ IsNodesFault Ix.greatest stable (ReadsAs F.Fn fn_node.now)
         (parts_of parts.now.nodes.now.items parts.now.holes.items parts.now.property.now parts.now.edges.now.items parts.now.orders) e) }
 {
-    if let Err(error) = check_layout::<Ix>(stable, parts) {
-        return Err(error);
-    }
-    match read_weights(alloc, parts.nodes, fn_node) {
-        Ok(weights) => Ok(place_weights(alloc, weights, &parts.holes)?),
-        Err(error) => Err(error),
-    }
+    check_layout::<Ix>(stable, parts)?;
+    let weights = read_weights(alloc, parts.nodes, fn_node)?;
+    Ok(place_weights(alloc, weights, &parts.holes)?)
 }
 
 // The slots and the orders of the document.
@@ -106,24 +102,13 @@ pub(crate) fn gather<
     ensures orders { IfOk result (λ s. IfSome s.orders (λ v. AreOrders (of_slots s.nodes.items (map (option_map (edge_of Ix.number)) s.edges.items)) (map (numbers_of Ix.number) v.items))) }
     ensures err { IfErr result (λ e. (e ≡ Memory) ⊎ IsRead {N = N} {E = E} Ix.greatest stable (ReadsAs F.Fn fn_node.now) (ReadsAs G.Fn fn_edge.now) (view value.now) (Err e)) }
 {
-    let parts = match read_parts(alloc, value) {
-        Ok(parts) => parts,
-        Err(error) => return Err(error),
-    };
-    let nodes = match gather_nodes::<N, Ix, F>(alloc, &parts, stable, fn_node) {
-        Ok(nodes) => nodes,
-        Err(error) => return Err(error),
-    };
-    let edges = match read_entries(alloc, parts.edges, stable, &nodes, fn_edge) {
-        Ok(edges) => edges,
-        Err(error) => return Err(error),
-    };
-    match read_orders(alloc, parts.orders, &nodes, &edges) {
-        Ok(orders) => Ok(Gathered {
-            nodes,
-            edges,
-            orders,
-        }),
-        Err(error) => Err(error),
-    }
+    let parts = read_parts(alloc, value)?;
+    let nodes = gather_nodes::<N, Ix, F>(alloc, &parts, stable, fn_node)?;
+    let edges = read_entries(alloc, parts.edges, stable, &nodes, fn_edge)?;
+    let orders = read_orders(alloc, parts.orders, &nodes, &edges)?;
+    Ok(Gathered {
+        nodes,
+        edges,
+        orders,
+    })
 }

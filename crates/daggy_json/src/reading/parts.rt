@@ -24,10 +24,7 @@ pub(super) struct Parts<'v> {
 fn find_array<'v>(value: &'v Value, key: &str) -> Option<&'v Vec<Value>>
     ensures { option_map (λ v. map view v.now.items) result ≡ array_at key.now (view value.now) }
 {
-    let Some(found) = value.get(key) else {
-        return None;
-    };
-    found.as_array()
+    value.get(key)?.as_array()
 }
 
 // Whole numbers, if each value is one.

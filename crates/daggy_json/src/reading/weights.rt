@@ -38,10 +38,7 @@ pub(super) fn read_weights<N: Drop, F: Fn(&Value) -> Result<Option<N>, AllocErro
     let mut weights = Vec::new(alloc);
     weights.reserve(list.len())?;
     for value in list {
-        match read_weight(value, fn_node) {
-            Ok(weight) => weights.push(weight)?,
-            Err(error) => return Err(error),
-        }
+        weights.push(read_weight(value, fn_node)?)?;
     }
     Ok(weights)
 }
