@@ -1,0 +1,109 @@
+//! Dags that are made of lists of edges.
+use crate::figures::Figures;
+use crate::graph::{Graph, weight_of};
+use crate::inputs::{Pairs, Sizes, low_high_pairs, mixed_pairs, random_pairs, sorted_pairs};
+use crate::random::Random;
+use std::alloc::{AllocError, Global};
+use std::io;
+use std::rt::Clock;
+use std::time::Instant;
+
+/// How the edges of a dag are chosen.
+#[derive(Clone, Copy)]
+pub enum Input {
+    Random,
+    LowHigh,
+    Sorted,
+    Mixed,
+}
+
+impl Input {
+    fn pairs(self, alloc: Global, sizes: Sizes) -> Result<Pairs, AllocError> {
+        match self {
+            Input::Random => random_pairs(alloc, sizes),
+            Input::LowHigh => low_high_pairs(alloc, sizes),
+            Input::Sorted => sorted_pairs(alloc, sizes),
+            Input::Mixed => mixed_pairs(alloc, sizes),
+        }
+    }
+}
+
+/// A dag without edges.
+fn nodes_alone<G: Graph>(alloc: Global, nodes: u32) -> Result<G, AllocError> {
+    let mut dag = G::make(alloc);
+    for i in 0..nodes {
+        let _n = dag.put_node(i64::from(i))?;
+    }
+    Ok(dag)
+}
+
+// Adds edges one by one, and gives how many were refused.
+fn put_pairs<G: Graph>(dag: &mut G, pairs: &[(u32, u32)]) -> u64 {
+    let mut refused = 0u64;
+    for (i, (a, b)) in pairs.iter().enumerate() {
+        if dag.put_edge(*a, *b, weight_of(i)).is_none() {
+            refused = refused.wrapping_add(1);
+        }
+    }
+    refused
+}
+
+/// A dag of so many nodes and these edges, each added by itself.
+pub fn build<G: Graph>(alloc: Global, nodes: u32, pairs: &[(u32, u32)]) -> Result<G, AllocError> {
+    let mut dag = nodes_alone::<G>(alloc, nodes)?;
+    let _refused = put_pairs(&mut dag, pairs);
+    Ok(dag)
+}
+
+/// The dag of the edges that are sorted by parent and child.
+pub fn sorted<G: Graph>(alloc: Global, sizes: Sizes) -> Result<G, AllocError> {
+    let pairs = sorted_pairs(alloc, sizes)?;
+    build::<G>(alloc, sizes.nodes, pairs.as_slice())
+}
+
+/// Adding the nodes, and the edges one by one.
+pub fn timed_build<G: Graph, R: AllocGlobal + Clock>(
+    rt: &R,
+    input: Input,
+    sizes: Sizes,
+) -> io::Result<Figures> {
+    let pairs = input.pairs(rt.alloc(), sizes)?;
+    let start = Instant::now(rt)?;
+    let mut dag = nodes_alone::<G>(rt.alloc(), sizes.nodes)?;
+    let refused = put_pairs(&mut dag, pairs.as_slice());
+    let seconds = start.elapsed(rt)?.as_secs_f64();
+    let added = (dag.edges() as u64).wrapping_mul(1_000_000);
+    let check = added.wrapping_add(refused);
+    Ok(Figures { seconds, check })
+}
+
+/// Adding all edges by one call.
+pub fn add_edges<G: Graph, R: AllocGlobal + Clock>(rt: &R, sizes: Sizes) -> io::Result<Figures> {
+    let pairs = random_pairs(rt.alloc(), sizes)?;
+    let mut dag = nodes_alone::<G>(rt.alloc(), sizes.nodes)?;
+    let start = Instant::now(rt)?;
+    dag.put_edges(pairs.as_slice())?;
+    let seconds = start.elapsed(rt)?.as_secs_f64();
+    let check = dag.edges() as u64;
+    Ok(Figures { seconds, check })
+}
+
+// A tree in which each node is the child of a random one before it.
+fn tree<G: Graph>(alloc: Global, nodes: u32) -> Result<G, AllocError> {
+    let mut random = Random::new(1);
+    let mut dag = G::make(alloc);
+    let _root = dag.put_node(0)?;
+    for i in 1..nodes {
+        dag.put_child(random.below(i), i64::from(i))?;
+    }
+    Ok(dag)
+}
+
+/// Adding each node as a child.
+pub fn add_child_tree<G: Graph, R: AllocGlobal + Clock>(rt: &R, nodes: u32) -> io::Result<Figures> {
+    let start = Instant::now(rt)?;
+    let dag = tree::<G>(rt.alloc(), nodes)?;
+    let seconds = start.elapsed(rt)?.as_secs_f64();
+    let check = dag.edges() as u64;
+    Ok(Figures { seconds, check })
+}

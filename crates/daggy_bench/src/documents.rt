@@ -1,0 +1,42 @@
+//! Dags that are written as documents and read.
+use crate::builds::sorted;
+use crate::figures::Figures;
+use crate::graph::{Kind, mixed};
+use crate::inputs::Sizes;
+use serde_json::Value;
+use std::io;
+use std::rt::Clock;
+use std::time::Instant;
+
+// A number of the edges that a document has.
+fn edges_sum(document: &Value) -> u64 {
+    let mut sum = 0u64;
+    if let Some(Value::Array(edges)) = document.get("edges") {
+        for edge in edges {
+            let child = edge.get(1usize).and_then(Value::as_u64);
+            sum = mixed(sum, child.unwrap_or(0));
+        }
+    }
+    sum
+}
+
+/// Writing a dag.
+pub fn json_write<G: Kind, R: AllocGlobal + Clock>(rt: &R, sizes: Sizes) -> io::Result<Figures> {
+    let dag = sorted::<G>(rt.alloc(), sizes)?;
+    let start = Instant::now(rt)?;
+    let document = dag.document(rt.alloc())?;
+    let seconds = start.elapsed(rt)?.as_secs_f64();
+    let check = edges_sum(&document);
+    Ok(Figures { seconds, check })
+}
+
+/// Reading the document of a dag.
+pub fn json_read<G: Kind, R: AllocGlobal + Clock>(rt: &R, sizes: Sizes) -> io::Result<Figures> {
+    let dag = sorted::<G>(rt.alloc(), sizes)?;
+    let document = dag.document(rt.alloc())?;
+    let start = Instant::now(rt)?;
+    let other = G::of_document(rt.alloc(), &document)?;
+    let seconds = start.elapsed(rt)?.as_secs_f64();
+    let check = other.edge_sum();
+    Ok(Figures { seconds, check })
+}

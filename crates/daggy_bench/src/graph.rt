@@ -1,0 +1,305 @@
+//! What the workloads ask of a dag.
+use daggy::json::{dag_from_json, dag_to_json, stable_from_json, stable_to_json};
+use daggy::run::{Plan, TellsKind, plan};
+use daggy::walker::{Filter, Take};
+use daggy::{Dag, EdgeIndex, NodeIndex, StableDag, Walker};
+use daggy_base::store::Store;
+use daggy_dag::acyclic::Acyclic;
+use serde_json::Value;
+use std::alloc::{AllocError, Global};
+
+/// A dag with whole numbers as weights, whose nodes and edges are named by plain numbers.
+pub trait Graph: Drop {
+    fn make(alloc: Global) -> Self;
+
+    fn nodes(&self) -> usize;
+
+    fn edges(&self) -> usize;
+
+    /// Adds a node. The error says that it was refused.
+    fn put_node(&mut self, weight: i64) -> Result<usize, AllocError>;
+
+    /// Adds an edge, and gives its index. One that would close a cycle is not added.
+    fn put_edge(&mut self, a: u32, b: u32, weight: i64) -> Option<usize>;
+
+    /// Adds a node below another. The error says that it was refused.
+    fn put_child(&mut self, parent: u32, weight: i64) -> Result<(), AllocError>;
+
+    /// Adds all edges at once. The error says that they were refused.
+    fn put_edges(&mut self, pairs: &[(u32, u32)]) -> Result<(), AllocError>;
+
+    /// Removes a node and gives its weight, or 0 if there is none.
+    fn take_node(&mut self, n: u32) -> i64;
+
+    /// Removes an edge and gives its weight, or 0 if there is none.
+    fn take_edge(&mut self, e: u32) -> i64;
+
+    /// A number of the walk over the children of a node.
+    fn walked(&self, n: u32) -> u64;
+
+    /// The same by a fold of the walker.
+    fn folded(&self, n: u32) -> u64;
+
+    /// A number of the first three children with an even index.
+    fn first_even(&self, n: u32) -> u64;
+
+    /// Reduces what is below these roots.
+    fn reduce(&mut self, roots: Vec<NodeIndex<u32>>) -> Result<(), AllocError>;
+
+    /// The nodes in stages, each node behind its parents.
+    fn stages(&self, alloc: Global) -> Result<Vec<Vec<NodeIndex<u32>>>, AllocError>;
+}
+
+/// What the two kinds of dag do each by a call of its own.
+pub trait Kind: Graph {
+    /// Whether what stays after a removal keeps its index.
+    fn keeps_indices() -> bool;
+
+    /// A number of all edges with their ends and weights.
+    fn edge_sum(&self) -> u64;
+
+    /// The same dag with weights that are greater by one.
+    fn plus_one(&self) -> Result<Self, AllocError>;
+
+    fn copy(&self) -> Result<Self, AllocError>;
+
+    /// The JSON value of the dag.
+    fn document(&self, alloc: Global) -> Result<Value, AllocError>;
+
+    /// The dag that a value is read as. The error says that it was refused.
+    fn of_document(alloc: Global, document: &Value) -> Result<Self, AllocError>;
+}
+
+/// The number so far with one more item in it.
+#[inline]
+pub fn mixed(sum: u64, item: u64) -> u64 {
+    sum.wrapping_mul(31).wrapping_add(item)
+}
+
+/// The weight of what is added at a place.
+#[inline]
+pub fn weight_of(i: usize) -> i64 {
+    (i as u64).cast_signed()
+}
+
+#[inline]
+pub fn node(i: u32) -> NodeIndex<u32> {
+    NodeIndex::new(i as usize)
+}
+
+#[inline]
+fn mixed_step(sum: u64, item: (EdgeIndex<u32>, NodeIndex<u32>)) -> u64 {
+    mixed(sum, item.0.index() as u64 ^ item.1.index() as u64)
+}
+
+#[inline]
+fn edge_number(id: usize, source: usize, target: usize, weight: i64) -> u64 {
+    let ends = source as u64 ^ (target as u64).wrapping_mul(2);
+    id as u64 ^ ends ^ weight.cast_unsigned()
+}
+
+// A weight as a document has it.
+fn written(weight: &i64) -> Result<Value, AllocError> {
+    Ok(Value::from(*weight))
+}
+
+// The weight that a value of a document is.
+fn weight_in(value: &Value) -> Result<Option<i64>, AllocError> {
+    Ok(value.as_i64())
+}
+
+#[inline]
+fn children_sum<S: Store<u32, NodeWeight = i64, EdgeWeight = i64>>(
+    dag: &Acyclic<i64, i64, u32, S>,
+    n: NodeIndex<u32>,
+) -> u64 {
+    let mut sum = 0u64;
+    let mut walker = dag.children(n);
+    'down: while let Some(item) = walker.walk_next(dag) {
+        sum = mixed_step(sum, item);
+    }
+    sum
+}
+
+impl<S: TellsKind<u32> + Store<u32, NodeWeight = i64, EdgeWeight = i64>> Graph
+    for Acyclic<i64, i64, u32, S> {
+    fn make(alloc: Global) -> Self {
+        Acyclic::new(alloc)
+    }
+
+    #[inline]
+    fn nodes(&self) -> usize {
+        self.node_count()
+    }
+
+    #[inline]
+    fn edges(&self) -> usize {
+        self.edge_count()
+    }
+
+    #[inline]
+    fn put_node(&mut self, weight: i64) -> Result<usize, AllocError> {
+        if !self.can_add_node() {
+            return Err(AllocError);
+        }
+        match self.add_node(weight) {
+            Ok(n) => Ok(n.index()),
+            Err(_) => Err(AllocError),
+        }
+    }
+
+    #[inline]
+    fn put_edge(&mut self, a: u32, b: u32, weight: i64) -> Option<usize> {
+        let (a, b) = (node(a), node(b));
+        if !self.contains_node(a) || !self.contains_node(b) || !self.can_add_edge() {
+            return None;
+        }
+        match self.add_edge(a, b, weight) {
+            Ok(e) => Some(e.index()),
+            Err(_) => None,
+        }
+    }
+
+    #[inline]
+    fn put_child(&mut self, parent: u32, weight: i64) -> Result<(), AllocError> {
+        let parent = node(parent);
+        if !self.contains_node(parent) || !self.can_add_node() || !self.can_add_edge() {
+            return Err(AllocError);
+        }
+        match self.add_child(parent, weight, weight) {
+            Ok(_) => Ok(()),
+            Err(_) => Err(AllocError),
+        }
+    }
+
+    fn put_edges(&mut self, pairs: &[(u32, u32)]) -> Result<(), AllocError> {
+        let items = pairs
+            .iter()
+            .enumerate()
+            .map(|(i, (a, b))| (node(*a), node(*b), weight_of(i)));
+        match self.add_edges(items) {
+            Ok(_) => Ok(()),
+            Err(_) => Err(AllocError),
+        }
+    }
+
+    #[inline]
+    fn take_node(&mut self, n: u32) -> i64 {
+        self.remove_node(node(n)).unwrap_or(0)
+    }
+
+    #[inline]
+    fn take_edge(&mut self, e: u32) -> i64 {
+        self.remove_edge(EdgeIndex::new(e as usize)).unwrap_or(0)
+    }
+
+    #[inline]
+    fn walked(&self, n: u32) -> u64 {
+        children_sum(self, node(n))
+    }
+
+    #[inline]
+    fn folded(&self, n: u32) -> u64 {
+        self.children(node(n)).iter(self).fold(0u64, mixed_step)
+    }
+
+    #[inline]
+    fn first_even(&self, n: u32) -> u64 {
+        let even = Filter::new(
+            self.children(node(n)),
+            |_: &Self, item: &(EdgeIndex<u32>, NodeIndex<u32>)| item.1.index() % 2 == 0,
+        );
+        Take::new(even, 3).iter(self).fold(0u64, mixed_step)
+    }
+
+    fn reduce(&mut self, roots: Vec<NodeIndex<u32>>) -> Result<(), AllocError> {
+        self.transitive_reduce(roots)
+    }
+
+    fn stages(&self, alloc: Global) -> Result<Vec<Vec<NodeIndex<u32>>>, AllocError> {
+        let Plan { stages, .. } = plan(alloc, self)?;
+        Ok(stages)
+    }
+}
+
+impl Kind for Dag<i64, i64, u32> {
+    fn keeps_indices() -> bool {
+        false
+    }
+
+    fn edge_sum(&self) -> u64 {
+        let mut sum = 0u64;
+        for edge in self.edge_references() {
+            let source = edge.source().index();
+            let target = edge.target().index();
+            sum = mixed(
+                sum,
+                edge_number(edge.id().index(), source, target, *edge.weight()),
+            );
+        }
+        sum
+    }
+
+    fn plus_one(&self) -> Result<Self, AllocError> {
+        self.map(|_, w| w.wrapping_add(1), |_, w| w.wrapping_add(1))
+    }
+
+    fn copy(&self) -> Result<Self, AllocError> {
+        self.try_clone()
+    }
+
+    fn document(&self, alloc: Global) -> Result<Value, AllocError> {
+        match dag_to_json(alloc, self, written, written) {
+            Ok(document) => Ok(document),
+            Err(_) => Err(AllocError),
+        }
+    }
+
+    fn of_document(alloc: Global, document: &Value) -> Result<Self, AllocError> {
+        match dag_from_json(alloc, document, weight_in, weight_in) {
+            Ok(dag) => Ok(dag),
+            Err(_) => Err(AllocError),
+        }
+    }
+}
+
+impl Kind for StableDag<i64, i64, u32> {
+    fn keeps_indices() -> bool {
+        true
+    }
+
+    fn edge_sum(&self) -> u64 {
+        let mut sum = 0u64;
+        for edge in self.edge_references() {
+            let source = edge.source().index();
+            let target = edge.target().index();
+            sum = mixed(
+                sum,
+                edge_number(edge.id().index(), source, target, *edge.weight()),
+            );
+        }
+        sum
+    }
+
+    fn plus_one(&self) -> Result<Self, AllocError> {
+        self.map(|_, w| w.wrapping_add(1), |_, w| w.wrapping_add(1))
+    }
+
+    fn copy(&self) -> Result<Self, AllocError> {
+        self.try_clone()
+    }
+
+    fn document(&self, alloc: Global) -> Result<Value, AllocError> {
+        match stable_to_json(alloc, self, written, written) {
+            Ok(document) => Ok(document),
+            Err(_) => Err(AllocError),
+        }
+    }
+
+    fn of_document(alloc: Global, document: &Value) -> Result<Self, AllocError> {
+        match stable_from_json(alloc, document, weight_in, weight_in) {
+            Ok(dag) => Ok(dag),
+            Err(_) => Err(AllocError),
+        }
+    }
+}

@@ -1,0 +1,29 @@
+//! Plans of the nodes of a dag.
+use crate::builds::build;
+use crate::figures::Figures;
+use crate::graph::{Graph, mixed};
+use crate::inputs::{Sizes, low_high_pairs};
+use daggy::NodeIndex;
+use std::io;
+use std::rt::Clock;
+use std::time::Instant;
+
+// A number of the stages in which the nodes stand.
+fn stages_sum(stages: &[Vec<NodeIndex<u32>>]) -> u64 {
+    let mut sum = 0u64;
+    for stage in stages {
+        sum = mixed(sum, stage.len() as u64);
+    }
+    sum
+}
+
+/// Planning a dag of random edges.
+pub fn plan_stages<G: Graph, R: AllocGlobal + Clock>(rt: &R, sizes: Sizes) -> io::Result<Figures> {
+    let pairs = low_high_pairs(rt.alloc(), sizes)?;
+    let dag = build::<G>(rt.alloc(), sizes.nodes, pairs.as_slice())?;
+    let start = Instant::now(rt)?;
+    let stages = dag.stages(rt.alloc())?;
+    let seconds = start.elapsed(rt)?.as_secs_f64();
+    let check = stages_sum(stages.as_slice());
+    Ok(Figures { seconds, check })
+}

@@ -1,0 +1,90 @@
+//! Dags that are gone through and copied.
+use crate::builds::sorted;
+use crate::figures::Figures;
+use crate::graph::{Graph, Kind};
+use crate::inputs::Sizes;
+use std::io;
+use std::rt::Clock;
+use std::time::Instant;
+
+/// How a dag is gone through, ten times.
+#[derive(Clone, Copy)]
+pub enum Reading {
+    /// All children of each node, step by step.
+    WalkChildren,
+    /// The same by an iterator.
+    FoldChildren,
+    /// The first three children with an even index of each node, by adapters of walkers.
+    TakeEven,
+    /// All edges.
+    EdgeList,
+}
+
+fn walk_children<G: Graph>(dag: &G, nodes: u32) -> u64 {
+    let mut sum = 0u64;
+    for i in 0..nodes {
+        sum = sum.wrapping_add(dag.walked(i));
+    }
+    sum
+}
+
+fn fold_children<G: Graph>(dag: &G, nodes: u32) -> u64 {
+    let mut sum = 0u64;
+    for i in 0..nodes {
+        sum = sum.wrapping_add(dag.folded(i));
+    }
+    sum
+}
+
+fn take_even<G: Graph>(dag: &G, nodes: u32) -> u64 {
+    let mut sum = 0u64;
+    for i in 0..nodes {
+        sum = sum.wrapping_add(dag.first_even(i));
+    }
+    sum
+}
+
+impl Reading {
+    fn sum<G: Kind>(self, dag: &G, nodes: u32) -> u64 {
+        match self {
+            Reading::WalkChildren => walk_children(dag, nodes),
+            Reading::FoldChildren => fold_children(dag, nodes),
+            Reading::TakeEven => take_even(dag, nodes),
+            Reading::EdgeList => dag.edge_sum(),
+        }
+    }
+}
+
+pub fn read<G: Kind, R: AllocGlobal + Clock>(
+    rt: &R,
+    reading: Reading,
+    sizes: Sizes,
+) -> io::Result<Figures> {
+    let dag = sorted::<G>(rt.alloc(), sizes)?;
+    let start = Instant::now(rt)?;
+    let mut check = 0u64;
+    for _ in 0..10u8 {
+        check = check.wrapping_add(reading.sum(&dag, sizes.nodes));
+    }
+    let seconds = start.elapsed(rt)?.as_secs_f64();
+    Ok(Figures { seconds, check })
+}
+
+/// Making a dag with other weights.
+pub fn map_weights<G: Kind, R: AllocGlobal + Clock>(rt: &R, sizes: Sizes) -> io::Result<Figures> {
+    let dag = sorted::<G>(rt.alloc(), sizes)?;
+    let start = Instant::now(rt)?;
+    let other = dag.plus_one()?;
+    let seconds = start.elapsed(rt)?.as_secs_f64();
+    let check = other.edge_sum();
+    Ok(Figures { seconds, check })
+}
+
+pub fn copy<G: Kind, R: AllocGlobal + Clock>(rt: &R, sizes: Sizes) -> io::Result<Figures> {
+    let dag = sorted::<G>(rt.alloc(), sizes)?;
+    let start = Instant::now(rt)?;
+    let other = dag.copy()?;
+    let seconds = start.elapsed(rt)?.as_secs_f64();
+    let check = other.edge_sum();
+    Ok(Figures { seconds, check })
+}

@@ -1,0 +1,58 @@
+//! Dags that are reduced.
+use crate::builds::build;
+use crate::figures::Figures;
+use crate::graph::{Graph, node};
+use crate::inputs::{Layers, Sizes, layered_pairs, low_high_pairs};
+use daggy::NodeIndex;
+use std::alloc::{AllocError, Global};
+use std::io;
+use std::rt::Clock;
+use std::time::Instant;
+
+// The first nodes.
+fn first_nodes(alloc: Global, count: u32) -> Result<Vec<NodeIndex<u32>>, AllocError> {
+    let mut nodes = Vec::new(alloc);
+    for i in 0..count {
+        nodes.push(node(i))?;
+    }
+    Ok(nodes)
+}
+
+// Reducing the dag of these edges below its first nodes.
+fn reduce<G: Graph, R: AllocGlobal + Clock>(
+    rt: &R,
+    nodes: u32,
+    pairs: &[(u32, u32)],
+    roots: u32,
+) -> io::Result<Figures> {
+    let mut dag = build::<G>(rt.alloc(), nodes, pairs)?;
+    let start = Instant::now(rt)?;
+    let roots = first_nodes(rt.alloc(), roots)?;
+    dag.reduce(roots)?;
+    let seconds = start.elapsed(rt)?.as_secs_f64();
+    let check = dag.edges() as u64;
+    Ok(Figures { seconds, check })
+}
+
+/// Reducing layers of nodes: so many as the first number, each of so many nodes as the second.
+pub fn reduce_layers<G: Graph, R: AllocGlobal + Clock>(
+    rt: &R,
+    sizes: Sizes,
+) -> io::Result<Figures> {
+    let layers = Layers {
+        count: sizes.nodes,
+        width: sizes.edges,
+    };
+    let pairs = layered_pairs(rt.alloc(), layers)?;
+    let nodes = layers.count.saturating_mul(layers.width);
+    reduce::<G, R>(rt, nodes, pairs.as_slice(), layers.width)
+}
+
+/// Reducing a random dag below all its nodes.
+pub fn reduce_random<G: Graph, R: AllocGlobal + Clock>(
+    rt: &R,
+    sizes: Sizes,
+) -> io::Result<Figures> {
+    let pairs = low_high_pairs(rt.alloc(), sizes)?;
+    reduce::<G, R>(rt, sizes.nodes, pairs.as_slice(), sizes.nodes)
+}

@@ -1,0 +1,100 @@
+//! What is timed, by name.
+use crate::builds::{Input, add_child_tree, add_edges, timed_build};
+use crate::churn::come_and_go;
+use crate::documents::{json_read, json_write};
+use crate::figures::Figures;
+use crate::graph::Kind;
+use crate::inputs::Sizes;
+use crate::plans::plan_stages;
+use crate::readings::{Reading, copy, map_weights, read};
+use crate::reductions::{reduce_layers, reduce_random};
+use crate::removals::{Part, remove};
+use daggy::{Dag, StableDag};
+use std::io;
+use std::rt::Clock;
+
+type Compact = Dag<i64, i64, u32>;
+
+type Stable = StableDag<i64, i64, u32>;
+
+/// What is timed.
+#[derive(Clone, Copy)]
+pub enum Workload {
+    Build(Input),
+    AddEdges,
+    AddChildTree,
+    Read(Reading),
+    MapWeights,
+    Copy,
+    Remove(Part),
+    ReduceLayers,
+    ReduceRandom,
+    Churn,
+    Plan,
+    JsonWrite,
+    JsonRead,
+}
+
+impl Workload {
+    pub fn named(name: &str) -> Option<Workload> {
+        match name {
+            "build_random" => Some(Workload::Build(Input::Random)),
+            "build_lowhigh" => Some(Workload::Build(Input::LowHigh)),
+            "build_sorted" => Some(Workload::Build(Input::Sorted)),
+            "build_mixed" => Some(Workload::Build(Input::Mixed)),
+            "add_edges" => Some(Workload::AddEdges),
+            "add_child_tree" => Some(Workload::AddChildTree),
+            "walk_children" => Some(Workload::Read(Reading::WalkChildren)),
+            "fold_children" => Some(Workload::Read(Reading::FoldChildren)),
+            "take_even" => Some(Workload::Read(Reading::TakeEven)),
+            "edge_list" => Some(Workload::Read(Reading::EdgeList)),
+            "map_weights" => Some(Workload::MapWeights),
+            "copy" => Some(Workload::Copy),
+            "remove_nodes" => Some(Workload::Remove(Part::Nodes)),
+            "remove_edges" => Some(Workload::Remove(Part::Edges)),
+            "reduce" => Some(Workload::ReduceLayers),
+            "reduce_random" => Some(Workload::ReduceRandom),
+            "churn" => Some(Workload::Churn),
+            "plan" => Some(Workload::Plan),
+            "json_write" => Some(Workload::JsonWrite),
+            "json_read" => Some(Workload::JsonRead),
+            _ => None,
+        }
+    }
+
+    /// Runs it over a compact dag, or over a stable one.
+    pub fn run<R: AllocGlobal + Clock>(
+        self,
+        rt: &R,
+        stable: bool,
+        sizes: Sizes,
+    ) -> io::Result<Figures> {
+        if stable {
+            self.run_over::<Stable, R>(rt, sizes)
+        } else {
+            self.run_over::<Compact, R>(rt, sizes)
+        }
+    }
+
+    fn run_over<G: Kind, R: AllocGlobal + Clock>(
+        self,
+        rt: &R,
+        sizes: Sizes,
+    ) -> io::Result<Figures> {
+        match self {
+            Workload::Build(input) => timed_build::<G, R>(rt, input, sizes),
+            Workload::AddEdges => add_edges::<G, R>(rt, sizes),
+            Workload::AddChildTree => add_child_tree::<G, R>(rt, sizes.nodes),
+            Workload::Read(reading) => read::<G, R>(rt, reading, sizes),
+            Workload::MapWeights => map_weights::<G, R>(rt, sizes),
+            Workload::Copy => copy::<G, R>(rt, sizes),
+            Workload::Remove(part) => remove::<G, R>(rt, part, sizes),
+            Workload::ReduceLayers => reduce_layers::<G, R>(rt, sizes),
+            Workload::ReduceRandom => reduce_random::<G, R>(rt, sizes),
+            Workload::Churn => come_and_go::<G, R>(rt, sizes.nodes),
+            Workload::Plan => plan_stages::<G, R>(rt, sizes),
+            Workload::JsonWrite => json_write::<G, R>(rt, sizes),
+            Workload::JsonRead => json_read::<G, R>(rt, sizes),
+        }
+    }
+}
