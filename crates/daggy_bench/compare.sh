@@ -12,10 +12,8 @@ work=$(mktemp -d)
 trap 'rm -rf "$work"' EXIT
 
 (cd "$here" && rt run -- commands 1 > "$work/build" 2>&1) || { cat "$work/build"; exit 1; }
-(cd "$here/../dagbench" && rt run -- compact > "$work/build" 2>&1) || { cat "$work/build"; exit 1; }
 our_bench=$here/out/daggy_bench
 our_program=$here/../dagbench/out/dagbench
-"$our_bench" commands 200000 > "$work/lines"
 
 median() { sort -g "$1" | awk '{ x[NR] = $1 } END { print x[int((NR + 1) / 2)] }'; }
 
@@ -48,6 +46,8 @@ workload() { # ROUNDS NAME NODES EDGES ..
 program() { # ROUNDS
   local same=equal
   asked "line program" || return 0
+  (cd "$here/../dagbench" && rt run -- compact > "$work/build" 2>&1) || { cat "$work/build"; exit 1; }
+  "$our_bench" commands 200000 > "$work/lines"
   : > "$work/ours"
   : > "$work/theirs"
   for _ in $(seq "$1"); do

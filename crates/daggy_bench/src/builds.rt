@@ -1,12 +1,11 @@
 //! Dags that are made of lists of edges.
-use crate::figures::Figures;
+use crate::figures::{Figures, since};
 use crate::graph::{Graph, weight_of};
 use crate::inputs::{Pairs, Sizes, low_high_pairs, mixed_pairs, random_pairs, sorted_pairs};
 use crate::random::Random;
 use std::alloc::{AllocError, Global};
 use std::io;
-use std::rt::Clock;
-use std::time::Instant;
+use std::rt::CpuClock;
 
 /// How the edges of a dag are chosen.
 #[derive(Clone, Copy)]
@@ -62,28 +61,28 @@ pub fn sorted<G: Graph>(alloc: Global, sizes: Sizes) -> Result<G, AllocError> {
 }
 
 /// Adding the nodes, and the edges one by one.
-pub fn timed_build<G: Graph, R: AllocGlobal + Clock>(
+pub fn timed_build<G: Graph, R: AllocGlobal + CpuClock>(
     rt: &R,
     input: Input,
     sizes: Sizes,
 ) -> io::Result<Figures> {
     let pairs = input.pairs(rt.alloc(), sizes)?;
-    let start = Instant::now(rt)?;
+    let start = rt.process_cpu_time()?;
     let mut dag = nodes_alone::<G>(rt.alloc(), sizes.nodes)?;
     let refused = put_pairs(&mut dag, pairs.as_slice());
-    let seconds = start.elapsed(rt)?.as_secs_f64();
+    let seconds = since(rt, start)?;
     let added = (dag.edges() as u64).wrapping_mul(1_000_000);
     let check = added.wrapping_add(refused);
     Ok(Figures { seconds, check })
 }
 
 /// Adding all edges by one call.
-pub fn add_edges<G: Graph, R: AllocGlobal + Clock>(rt: &R, sizes: Sizes) -> io::Result<Figures> {
+pub fn add_edges<G: Graph, R: AllocGlobal + CpuClock>(rt: &R, sizes: Sizes) -> io::Result<Figures> {
     let pairs = random_pairs(rt.alloc(), sizes)?;
     let mut dag = nodes_alone::<G>(rt.alloc(), sizes.nodes)?;
-    let start = Instant::now(rt)?;
+    let start = rt.process_cpu_time()?;
     dag.put_edges(pairs.as_slice())?;
-    let seconds = start.elapsed(rt)?.as_secs_f64();
+    let seconds = since(rt, start)?;
     let check = dag.edges() as u64;
     Ok(Figures { seconds, check })
 }
@@ -100,10 +99,13 @@ fn tree<G: Graph>(alloc: Global, nodes: u32) -> Result<G, AllocError> {
 }
 
 /// Adding each node as a child.
-pub fn add_child_tree<G: Graph, R: AllocGlobal + Clock>(rt: &R, nodes: u32) -> io::Result<Figures> {
-    let start = Instant::now(rt)?;
+pub fn add_child_tree<G: Graph, R: AllocGlobal + CpuClock>(
+    rt: &R,
+    nodes: u32,
+) -> io::Result<Figures> {
+    let start = rt.process_cpu_time()?;
     let dag = tree::<G>(rt.alloc(), nodes)?;
-    let seconds = start.elapsed(rt)?.as_secs_f64();
+    let seconds = since(rt, start)?;
     let check = dag.edges() as u64;
     Ok(Figures { seconds, check })
 }

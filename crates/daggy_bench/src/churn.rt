@@ -1,11 +1,10 @@
 //! A dag in which edges and nodes come and go.
-use crate::figures::Figures;
+use crate::figures::{Figures, since};
 use crate::graph::{Graph, mixed};
 use crate::random::Random;
 use std::alloc::{AllocError, Global};
 use std::io;
-use std::rt::Clock;
-use std::time::Instant;
+use std::rt::CpuClock;
 
 // How many times an edge or a node comes or goes.
 const STEPS: u32 = 100_000;
@@ -119,11 +118,11 @@ impl<G: Graph> Churn<G> {
 }
 
 /// Edges and nodes that come and go in a dag of so many nodes.
-pub fn come_and_go<G: Graph, R: AllocGlobal + Clock>(rt: &R, nodes: u32) -> io::Result<Figures> {
+pub fn come_and_go<G: Graph, R: AllocGlobal + CpuClock>(rt: &R, nodes: u32) -> io::Result<Figures> {
     let mut churn: Churn<G> = Churn::new(rt.alloc(), nodes)?;
-    let start = Instant::now(rt)?;
+    let start = rt.process_cpu_time()?;
     churn.run(nodes)?;
-    let seconds = start.elapsed(rt)?.as_secs_f64();
+    let seconds = since(rt, start)?;
     let check = churn.check(nodes);
     Ok(Figures { seconds, check })
 }

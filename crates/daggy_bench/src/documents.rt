@@ -1,12 +1,11 @@
 //! Dags that are written as documents and read.
 use crate::builds::sorted;
-use crate::figures::Figures;
+use crate::figures::{Figures, since};
 use crate::graph::{Kind, mixed};
 use crate::inputs::Sizes;
 use serde_json::Value;
 use std::io;
-use std::rt::Clock;
-use std::time::Instant;
+use std::rt::CpuClock;
 
 // A number of the edges that a document has.
 fn edges_sum(document: &Value) -> u64 {
@@ -21,22 +20,22 @@ fn edges_sum(document: &Value) -> u64 {
 }
 
 /// Writing a dag.
-pub fn json_write<G: Kind, R: AllocGlobal + Clock>(rt: &R, sizes: Sizes) -> io::Result<Figures> {
+pub fn json_write<G: Kind, R: AllocGlobal + CpuClock>(rt: &R, sizes: Sizes) -> io::Result<Figures> {
     let dag = sorted::<G>(rt.alloc(), sizes)?;
-    let start = Instant::now(rt)?;
+    let start = rt.process_cpu_time()?;
     let document = dag.document(rt.alloc())?;
-    let seconds = start.elapsed(rt)?.as_secs_f64();
+    let seconds = since(rt, start)?;
     let check = edges_sum(&document);
     Ok(Figures { seconds, check })
 }
 
 /// Reading the document of a dag.
-pub fn json_read<G: Kind, R: AllocGlobal + Clock>(rt: &R, sizes: Sizes) -> io::Result<Figures> {
+pub fn json_read<G: Kind, R: AllocGlobal + CpuClock>(rt: &R, sizes: Sizes) -> io::Result<Figures> {
     let dag = sorted::<G>(rt.alloc(), sizes)?;
     let document = dag.document(rt.alloc())?;
-    let start = Instant::now(rt)?;
+    let start = rt.process_cpu_time()?;
     let other = G::of_document(rt.alloc(), &document)?;
-    let seconds = start.elapsed(rt)?.as_secs_f64();
+    let seconds = since(rt, start)?;
     let check = other.edge_sum();
     Ok(Figures { seconds, check })
 }

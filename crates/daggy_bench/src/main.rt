@@ -21,7 +21,7 @@ use crate::inputs::Sizes;
 use crate::workload::Workload;
 use std::io::{BufWriter, Write};
 use std::process::ExitCode;
-use std::rt::Clock;
+use std::rt::CpuClock;
 use std::{env, io};
 
 // What the arguments ask for.
@@ -58,7 +58,7 @@ fn chosen(words: &[String]) -> Option<Request> {
     })
 }
 
-fn time<R: Print + Eprint + AllocGlobal + Clock>(
+fn time<R: Print + Eprint + AllocGlobal + CpuClock>(
     rt: &R,
     name: &str,
     chosen: Request,

@@ -1,12 +1,11 @@
 //! Plans of the nodes of a dag.
 use crate::builds::build;
-use crate::figures::Figures;
+use crate::figures::{Figures, since};
 use crate::graph::{Graph, mixed};
 use crate::inputs::{Sizes, low_high_pairs};
 use daggy::NodeIndex;
 use std::io;
-use std::rt::Clock;
-use std::time::Instant;
+use std::rt::CpuClock;
 
 // A number of the stages in which the nodes stand.
 fn stages_sum(stages: &[Vec<NodeIndex<u32>>]) -> u64 {
@@ -18,12 +17,15 @@ fn stages_sum(stages: &[Vec<NodeIndex<u32>>]) -> u64 {
 }
 
 /// Planning a dag of random edges.
-pub fn plan_stages<G: Graph, R: AllocGlobal + Clock>(rt: &R, sizes: Sizes) -> io::Result<Figures> {
+pub fn plan_stages<G: Graph, R: AllocGlobal + CpuClock>(
+    rt: &R,
+    sizes: Sizes,
+) -> io::Result<Figures> {
     let pairs = low_high_pairs(rt.alloc(), sizes)?;
     let dag = build::<G>(rt.alloc(), sizes.nodes, pairs.as_slice())?;
-    let start = Instant::now(rt)?;
+    let start = rt.process_cpu_time()?;
     let stages = dag.stages(rt.alloc())?;
-    let seconds = start.elapsed(rt)?.as_secs_f64();
+    let seconds = since(rt, start)?;
     let check = stages_sum(stages.as_slice());
     Ok(Figures { seconds, check })
 }

@@ -1,11 +1,10 @@
 //! Dags that are gone through and copied.
 use crate::builds::sorted;
-use crate::figures::Figures;
+use crate::figures::{Figures, since};
 use crate::graph::{Graph, Kind};
 use crate::inputs::Sizes;
 use std::io;
-use std::rt::Clock;
-use std::time::Instant;
+use std::rt::CpuClock;
 
 /// How a dag is gone through, ten times.
 #[derive(Clone, Copy)]
@@ -55,36 +54,39 @@ impl Reading {
     }
 }
 
-pub fn read<G: Kind, R: AllocGlobal + Clock>(
+pub fn read<G: Kind, R: AllocGlobal + CpuClock>(
     rt: &R,
     reading: Reading,
     sizes: Sizes,
 ) -> io::Result<Figures> {
     let dag = sorted::<G>(rt.alloc(), sizes)?;
-    let start = Instant::now(rt)?;
+    let start = rt.process_cpu_time()?;
     let mut check = 0u64;
     for _ in 0..10u8 {
         check = check.wrapping_add(reading.sum(&dag, sizes.nodes));
     }
-    let seconds = start.elapsed(rt)?.as_secs_f64();
+    let seconds = since(rt, start)?;
     Ok(Figures { seconds, check })
 }
 
 /// Making a dag with other weights.
-pub fn map_weights<G: Kind, R: AllocGlobal + Clock>(rt: &R, sizes: Sizes) -> io::Result<Figures> {
+pub fn map_weights<G: Kind, R: AllocGlobal + CpuClock>(
+    rt: &R,
+    sizes: Sizes,
+) -> io::Result<Figures> {
     let dag = sorted::<G>(rt.alloc(), sizes)?;
-    let start = Instant::now(rt)?;
+    let start = rt.process_cpu_time()?;
     let other = dag.plus_one()?;
-    let seconds = start.elapsed(rt)?.as_secs_f64();
+    let seconds = since(rt, start)?;
     let check = other.edge_sum();
     Ok(Figures { seconds, check })
 }
 
-pub fn copy<G: Kind, R: AllocGlobal + Clock>(rt: &R, sizes: Sizes) -> io::Result<Figures> {
+pub fn copy<G: Kind, R: AllocGlobal + CpuClock>(rt: &R, sizes: Sizes) -> io::Result<Figures> {
     let dag = sorted::<G>(rt.alloc(), sizes)?;
-    let start = Instant::now(rt)?;
+    let start = rt.process_cpu_time()?;
     let other = dag.copy()?;
-    let seconds = start.elapsed(rt)?.as_secs_f64();
+    let seconds = since(rt, start)?;
     let check = other.edge_sum();
     Ok(Figures { seconds, check })
 }

@@ -1,13 +1,12 @@
 //! Dags that are reduced.
 use crate::builds::build;
-use crate::figures::Figures;
+use crate::figures::{Figures, since};
 use crate::graph::{Graph, node};
 use crate::inputs::{Layers, Sizes, layered_pairs, low_high_pairs};
 use daggy::NodeIndex;
 use std::alloc::{AllocError, Global};
 use std::io;
-use std::rt::Clock;
-use std::time::Instant;
+use std::rt::CpuClock;
 
 // The first nodes.
 fn first_nodes(alloc: Global, count: u32) -> Result<Vec<NodeIndex<u32>>, AllocError> {
@@ -19,23 +18,23 @@ fn first_nodes(alloc: Global, count: u32) -> Result<Vec<NodeIndex<u32>>, AllocEr
 }
 
 // Reducing the dag of these edges below its first nodes.
-fn reduce<G: Graph, R: AllocGlobal + Clock>(
+fn reduce<G: Graph, R: AllocGlobal + CpuClock>(
     rt: &R,
     nodes: u32,
     pairs: &[(u32, u32)],
     roots: u32,
 ) -> io::Result<Figures> {
     let mut dag = build::<G>(rt.alloc(), nodes, pairs)?;
-    let start = Instant::now(rt)?;
+    let start = rt.process_cpu_time()?;
     let roots = first_nodes(rt.alloc(), roots)?;
     dag.reduce(roots)?;
-    let seconds = start.elapsed(rt)?.as_secs_f64();
+    let seconds = since(rt, start)?;
     let check = dag.edges() as u64;
     Ok(Figures { seconds, check })
 }
 
 /// Reducing layers of nodes: so many as the first number, each of so many nodes as the second.
-pub fn reduce_layers<G: Graph, R: AllocGlobal + Clock>(
+pub fn reduce_layers<G: Graph, R: AllocGlobal + CpuClock>(
     rt: &R,
     sizes: Sizes,
 ) -> io::Result<Figures> {
@@ -49,7 +48,7 @@ pub fn reduce_layers<G: Graph, R: AllocGlobal + Clock>(
 }
 
 /// Reducing a random dag below all its nodes.
-pub fn reduce_random<G: Graph, R: AllocGlobal + Clock>(
+pub fn reduce_random<G: Graph, R: AllocGlobal + CpuClock>(
     rt: &R,
     sizes: Sizes,
 ) -> io::Result<Figures> {

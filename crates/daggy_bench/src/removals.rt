@@ -1,12 +1,11 @@
 //! Dags whose nodes or edges are removed.
 use crate::builds::sorted;
-use crate::figures::Figures;
+use crate::figures::{Figures, since};
 use crate::graph::{Kind, mixed};
 use crate::inputs::{Sizes, shuffled};
 use crate::random::Random;
 use std::io;
-use std::rt::Clock;
-use std::time::Instant;
+use std::rt::CpuClock;
 
 /// What is removed.
 #[derive(Clone, Copy)]
@@ -44,7 +43,7 @@ fn take_in_turn<G: Kind>(dag: &mut G, part: Part, order: &[u32]) -> u64 {
 }
 
 /// Removing all nodes, or all edges, in random order.
-pub fn remove<G: Kind, R: AllocGlobal + Clock>(
+pub fn remove<G: Kind, R: AllocGlobal + CpuClock>(
     rt: &R,
     part: Part,
     sizes: Sizes,
@@ -55,12 +54,12 @@ pub fn remove<G: Kind, R: AllocGlobal + Clock>(
     };
     let order = shuffled(rt.alloc(), &mut Random::new(2), count)?;
     let mut dag = sorted::<G>(rt.alloc(), sizes)?;
-    let start = Instant::now(rt)?;
+    let start = rt.process_cpu_time()?;
     let check = if G::keeps_indices() {
         take_in_turn(&mut dag, part, order.as_slice())
     } else {
         take_at_random(&mut dag, part, count)
     };
-    let seconds = start.elapsed(rt)?.as_secs_f64();
+    let seconds = since(rt, start)?;
     Ok(Figures { seconds, check })
 }

@@ -11,7 +11,7 @@ use crate::reductions::{reduce_layers, reduce_random};
 use crate::removals::{Part, remove};
 use daggy::{Dag, StableDag};
 use std::io;
-use std::rt::Clock;
+use std::rt::CpuClock;
 
 type Compact = Dag<i64, i64, u32>;
 
@@ -63,7 +63,7 @@ impl Workload {
     }
 
     /// Runs it over a compact dag, or over a stable one.
-    pub fn run<R: AllocGlobal + Clock>(
+    pub fn run<R: AllocGlobal + CpuClock>(
         self,
         rt: &R,
         stable: bool,
@@ -76,7 +76,7 @@ impl Workload {
         }
     }
 
-    fn run_over<G: Kind, R: AllocGlobal + Clock>(
+    fn run_over<G: Kind, R: AllocGlobal + CpuClock>(
         self,
         rt: &R,
         sizes: Sizes,
