@@ -48,6 +48,11 @@ impl<'a, N, Ix: IndexType> Iterator for NodeReferences<'a, N, Ix> {
         let n = NodeIndex::new(i);
         Some((n, x.weight.as_ref().unwrap()))
     }
+
+    #[inline]
+    fn size_hint(&self) -> (usize, Option<usize>) {
+        (0, Some(self.slots.cells.len()))
+    }
 }
 
 impl<'a, N, Ix: IndexType> FusedIterator for NodeReferences<'a, N, Ix> {}
@@ -99,6 +104,11 @@ impl<'a, N, Ix: IndexType> Iterator for NodeIdentifiers<'a, N, Ix> {
             None => None,
         }
     }
+
+    #[inline]
+    fn size_hint(&self) -> (usize, Option<usize>) {
+        self.nodes.size_hint()
+    }
 }
 
 impl<'a, N, Ix: IndexType> FusedIterator for NodeIdentifiers<'a, N, Ix> {}
@@ -146,6 +156,11 @@ impl<'a, N, Ix: IndexType> Iterator for NodeWeights<'a, N, Ix> {
             Some((_n, w)) => Some(w),
             None => None,
         }
+    }
+
+    #[inline]
+    fn size_hint(&self) -> (usize, Option<usize>) {
+        self.nodes.size_hint()
     }
 }
 
@@ -214,6 +229,11 @@ impl<'a, E, Ix: IndexType> Iterator for EdgeReferences<'a, E, Ix> {
         let (i, x) = self.slots.next_full()?;
         Some(reference(EdgeIndex::new(i), x))
     }
+
+    #[inline]
+    fn size_hint(&self) -> (usize, Option<usize>) {
+        (0, Some(self.slots.cells.len()))
+    }
 }
 
 impl<'a, E, Ix: IndexType> FusedIterator for EdgeReferences<'a, E, Ix> {}
@@ -262,6 +282,11 @@ impl<'a, E, Ix: IndexType> Iterator for EdgeWeights<'a, E, Ix> {
     fn next(&mut self) -> Option<&'a E> {
         let x = self.edges.next()?;
         Some(x.weight())
+    }
+
+    #[inline]
+    fn size_hint(&self) -> (usize, Option<usize>) {
+        self.edges.size_hint()
     }
 }
 

@@ -5,6 +5,7 @@ ghost use Rattle.daggy_walk.specs.Visit.{HasPair};
 use crate::bits::Bits;
 use daggy_base::index::{IndexType, NodeIndex};
 use std::alloc::{AllocError, Global};
+use std::fmt;
 use std::marker::{Model, PhantomData};
 
 /// A set of pairs of nodes whose indices are below a bound.
@@ -81,5 +82,13 @@ impl<Ix: IndexType> AdjMatrix<Ix> {
     {
         let (row, column) = (a.index(), b.index());
         row < self.bound && column < self.bound && self.bits.get(place(self.bound, row, column))
+    }
+}
+
+impl<Ix> fmt::Debug for AdjMatrix<Ix> {
+    fn fmt<W: fmt::Write>(&self, f: &mut fmt::Formatter<W>) -> fmt::Result {
+        f.debug_struct("AdjMatrix")
+            .field("bound", &self.bound)
+            .finish_non_exhaustive()
     }
 }

@@ -6,6 +6,7 @@ use crate::bits::Bits;
 use crate::visit::VisitMap;
 use daggy_base::index::{IndexType, NodeIndex};
 use std::alloc::{AllocError, Global};
+use std::fmt;
 use std::marker::{Model, PhantomData};
 
 /// A set of nodes whose indices are below a bound.
@@ -95,5 +96,13 @@ impl<Ix: IndexType> VisitMap<NodeIndex<Ix>> for NodeSet<Ix> {
         ensures { IsTrue result ↔ IsVisited self.now (Ix.number a.now) }
     {
         self.is_visited(*a)
+    }
+}
+
+impl<Ix> fmt::Debug for NodeSet<Ix> {
+    fn fmt<W: fmt::Write>(&self, f: &mut fmt::Formatter<W>) -> fmt::Result {
+        f.debug_struct("NodeSet")
+            .field("bound", &self.bits.len())
+            .finish_non_exhaustive()
     }
 }
