@@ -1,9 +1,12 @@
 // Preloaded into a built program, makes its allocation number FAIL_ALLOCATION find no memory. Only the program that
-// FAIL_ALLOCATION_OF names is meant, so that what starts it goes on undisturbed.
+// FAIL_ALLOCATION_OF names is meant, so that what starts it goes on undisturbed. Where there were so many allocations, the
+// file FAIL_ALLOCATION_MARK is made.
 #define _GNU_SOURCE
 #include <errno.h>
+#include <fcntl.h>
 #include <stdlib.h>
 #include <string.h>
+#include <unistd.h>
 
 extern void *__libc_malloc(size_t);
 extern void *__libc_realloc(void *, size_t);
@@ -19,6 +22,9 @@ static int fails(void) {
 }
 
 static void *refused(void) {
+  const char *mark = getenv("FAIL_ALLOCATION_MARK");
+  if (mark)
+    close(open(mark, O_CREAT | O_WRONLY, 0600));
   errno = ENOMEM;
   return NULL;
 }

@@ -17,5 +17,10 @@ built() { # CRATE FILE: the path of an executable that `rt ci` left, or the end 
 refusing() { # NUMBER PROGRAM COMMAND..: runs the command; in the program of that name that allocation finds no memory
   local number=$1 program=$2
   shift 2
-  LD_PRELOAD=$shim FAIL_ALLOCATION=$number FAIL_ALLOCATION_OF=$program "$@"
+  rm -f "$shim.mark"
+  LD_PRELOAD=$shim FAIL_ALLOCATION=$number FAIL_ALLOCATION_OF=$program FAIL_ALLOCATION_MARK=$shim.mark "$@"
+}
+
+was_refused() { # whether the last run that was refusing had so many allocations
+  [ -e "$shim.mark" ]
 }

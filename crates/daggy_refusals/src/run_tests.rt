@@ -1,9 +1,9 @@
 //! Commands that are run while memory is refused once: they come back, or the reply says so and nothing has changed.
 //! Run again they must succeed.
 use crate::support::{holds, made, refuse, same};
-use daggy::run::{Back, Command, GuardedDag, Reply, run};
+use daggy::run::{Back, Command, GuardedDag, Reply, plan, run};
 use daggy::{Dag, EdgeIndex, NodeIndex, StableDag};
-use std::alloc::Global;
+use std::alloc::{AllocError, Global};
 use std::process::Abort;
 
 type Asked = Command<usize, usize, u32>;
@@ -175,11 +175,31 @@ fn ask_and_reduce<D: GuardedDag<usize, usize, u32>>(
     same(rt, reduced, Some(Reply::Done));
 }
 
+// A plan, which is made again if it was refused.
+fn plan_all<D: GuardedDag<usize, usize, u32>>(
+    rt: &impl Abort,
+    alloc: Global,
+    dag: &D,
+    refused: &mut bool,
+) {
+    let before = state_of(dag);
+    let planned = match plan(alloc, dag) {
+        Ok(found) => found,
+        Err(AllocError) => {
+            refuse(rt, refused);
+            same(rt, state_of(dag), before);
+            made(rt, plan(alloc, dag))
+        }
+    };
+    same(rt, planned.chain.len(), planned.stages.len());
+}
+
 fn run_all<D: GuardedDag<usize, usize, u32>>(rt: &impl Abort, alloc: Global, dag: &mut D) {
     let mut refused = false;
     add_one_by_one(rt, alloc, dag, &mut refused);
     join_nodes(rt, alloc, dag, &mut refused);
     add_many(rt, alloc, dag, &mut refused);
+    plan_all(rt, alloc, dag, &mut refused);
     ask_and_reduce(rt, alloc, dag, &mut refused);
 }
 
