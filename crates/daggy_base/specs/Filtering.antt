@@ -24,6 +24,7 @@ module _ {V W : Type 0} where
   kept_edge h ends None = h
   kept_edge h ends (Some w) = with_edge h ends.0 ends.1 w
 
+-- both numbers, if both are there
 abbrev pub both : Option ℕ → Option ℕ → Option (ℕ × ℕ)
 both None b = None
 both (Some a) None = None

@@ -18,6 +18,7 @@ node_references g = numbered 0 g.nodes
 abbrev pub edge_references : {N E : Type 0} → Graph N E → List (ℕ × Edge E)
 edge_references g = numbered 0 g.edges
 
+-- the indices of the nodes, and the weights of the nodes and of the edges, by ascending index
 abbrev pub node_identifiers : {N E : Type 0} → Graph N E → List ℕ
 node_identifiers g = map (λ p. p.0) (node_references g)
 

@@ -18,6 +18,7 @@ module _ {F I W V : Type 0} (step : F → I → Bor W → V → F → Type 0) (o
   MapsSlots {A} {B} weight with f i (Some x ∷ xs) new =
       (v : V) × (next : F) × CalledAt f i (weight x) v next × (later : List (Option B)) × (new ≡ Some (with x v) ∷ later) × MapsSlots weight with next (i + 1) xs later
 
+-- the weight of an edge
 abbrev pub weight_in : {E : Type 0} → Edge E → E
 weight_in x = x.weight
 

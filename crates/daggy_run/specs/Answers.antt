@@ -16,6 +16,7 @@ pub data Weights (N E : Type 0) : Type 0 where
   OfEdgeNode : E → N → Weights N E
   OfEdges : (last : E) (before : List E) → Weights N E
 
+-- what a reply hands back, by plain values
 abbrev pub weights_of : {N E : Type 0} → Back N E → Weights N E
 weights_of back.Nothing = OfNothing
 weights_of (back.Node weight) = OfNode weight
@@ -23,6 +24,7 @@ weights_of (back.Edge weight) = OfEdge weight
 weights_of (back.EdgeNode edge node) = OfEdgeNode edge node
 weights_of (back.Edges last before) = OfEdges last before.items
 
+-- a reply by plain values
 pub data Answer (N E : Type 0) : Type 0 where
   -- what was added
   Node : ℕ → Answer N E
@@ -44,6 +46,7 @@ pub data Answer (N E : Type 0) : Type 0 where
   CycleAll : List E → Answer N E
   Memory : Weights N E → Answer N E
 
+-- what a reply says
 abbrev pub answer_of : {I N E : Type 0} → (number : I → ℕ) → Reply N E I → Answer N E
 answer_of number (reply.Node n) = Node (number n)
 answer_of number (reply.Edge e) = Edge (number e)

@@ -4,6 +4,7 @@ use Rattle.daggy_guard.specs.Series.{NewEdge, by_numbers}
 use Rattle.daggy_run.specs.declared.command.Command.{Command}
 use Rattle.daggy_run.specs.declared.command.Command.TheVariants as command
 
+-- a command by plain values
 pub data Request (N E : Type 0) : Type 0 where
   -- to add a node; to add an edge; to write the weight of an edge that is there, or to add it
   Node : N → Request N E
@@ -27,6 +28,7 @@ pub data Request (N E : Type 0) : Type 0 where
   -- to remove what is redundant below these nodes
   Reduce : List ℕ → Request N E
 
+-- what a command asks
 abbrev pub request_of : {I N E : Type 0} → (number : I → ℕ) → Command N E I → Request N E
 request_of number (command.Node weight) = Node weight
 request_of number (command.Edge parent child weight) = Edge (by_numbers number (parent, child, weight))
