@@ -53,7 +53,8 @@ pub fn remove<G: Kind, R: AllocGlobal + CpuClock>(
         Part::Edges => sizes.edges,
     };
     let order = shuffled(rt.alloc(), &mut Random::new(2), count)?;
-    let mut dag = sorted::<G>(rt.alloc(), sizes)?;
+    let built = sorted::<G>(rt.alloc(), sizes)?;
+    let mut dag = built.copy()?;
     let start = rt.process_cpu_time()?;
     let check = if G::keeps_indices() {
         take_in_turn(&mut dag, part, order.as_slice())
