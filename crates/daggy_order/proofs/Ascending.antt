@@ -230,6 +230,19 @@ gap_last {end} {labels} {nodes} {last} {n} h more =
       ascending = subst P split h.ascending;
     }
 
+pub last_in : {labels nodes : List ℕ} {last n : ℕ} → HasLast labels nodes last n → (length nodes ≡ 1 → ⊥) → Mem last nodes
+last_in {labels} {nodes} {last} {n} h more =
+    let gap = gap_last {end = 0} h more in
+    let P : List ℕ → Type 0 = λ z. Mem last z in
+    subst P (sym gap.is) (mem_right gap.before (last ∷ (gap.run ++ gap.behind)) last (inl refl))
+
+pub last_labelled : (end : ℕ) {labels nodes : List ℕ} {last n : ℕ} → HasLast labels nodes last n → Unique nodes → (Mem end nodes → ⊥) → (length nodes ≡ 1 → ⊥) → n < length labels → (label : ℕ) → get_or labels last 0 < label → label + 1 < 2 ^ 64 → IsAscending (set labels n label) 0 nodes (2 ^ 64)
+unfolding gap_last
+last_labelled end {labels} {nodes} {last} {n} h once real more within label above below =
+    let new = set labels n label in
+    let here : get_or new n 0 ≡ label = get_or-set_same labels n label 0 within in
+    gap_filled (gap_last {end = end} h more) new label (label + 1) once (omega (arith, here, above), omega (arith, here)) (λ k d. get_or-set_other labels n k label 0 (λ e. d (inl e))) (omega arith) (λ e. below) (λ d. absurd (d refl)) real
+
 pub first_labelled : {end : ℕ} {labels nodes : List ℕ} {first n : ℕ} (h : HasFirst end labels nodes first n) → Unique nodes → (length nodes ≡ 1 → ⊥) → n < length labels → (label : ℕ) → 0 < label → label < get_or labels first 0 → IsAscending (set labels n label) 0 nodes (2 ^ 64)
 first_labelled {end} {labels} {nodes} {first} {n} h once more within label some below =
     let U : List ℕ → Type 0 = λ z. Unique z in

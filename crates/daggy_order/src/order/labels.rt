@@ -157,10 +157,15 @@ pub(crate) fn label_last<Ix: IndexType>(
     ensures others { (k : ℕ) → ¬ Contains links.now.nodes k
         → slice_index labels.new.items k ≡ slice_index labels.old.items k }
 {
-    if links.len() == 1 {
-        label_all(links, labels);
+    let low = if links.len() == 1 {
+        u64::MAX
     } else {
-        spread(links, labels, last, n, 1, Link::end());
+        labels[last.index()]
+    };
+    if low < u64::MAX - STEP {
+        labels[n.index()] = low + STEP;
+    } else {
+        label_all(links, labels);
     }
 }
 

@@ -34,8 +34,12 @@ impl<Ix: IndexType> Model for Links<Ix> {
     ghost invariant = { λ l. IsLinked Ix.greatest l.next.items l.previous.items l.first l.last (walk Ix.greatest l.next.items l.first l.count) };
 }
 
+// How many elements a list is made longer by at most, so that they are still near when they are
+// written. Its memory doubles all the same.
+const STRETCH: usize = 512;
+
 // Makes a list longer than `n`, with its elements as they were and `value` behind them. It grows by
-// doubling, but not beyond the memory that it has, if that is enough.
+// doubling while it is short, but not beyond the memory that it has, if that is enough.
 #[inline]
 pub(crate) fn grow<T: Copy + Drop>(list: &mut Vec<T>, n: usize, value: T) -> Result<(), AllocError>
     requires { n + 1 < 2 ^ 64 }
@@ -44,13 +48,9 @@ pub(crate) fn grow<T: Copy + Drop>(list: &mut Vec<T>, n: usize, value: T) -> Res
     ensures same { (k : ℕ) → slice_index_or list.new.items k value ≡ slice_index_or list.old.items k value }
 {
     if list.len() <= n {
-        let doubled = list.len().saturating_mul(2);
+        let more = list.len().saturating_mul(2).min(n.saturating_add(STRETCH));
         let room = list.capacity();
-        let most = if n < room && room < doubled {
-            room
-        } else {
-            doubled
-        };
+        let most = if n < room && room < more { room } else { more };
         let len = if n < most { most } else { n + 1 };
         lengthen(list, len, value)?;
     }

@@ -1,6 +1,29 @@
-use Rattle.std.proofs.Common.{◌+◌, ◌<◌, ◌≤◌, ℕ, List, ◌∙◌, sym, subst}
+use Rattle.std.proofs.Common.{◌+◌, ◌<◌, ◌≤◌, ℕ, false, List, length, get_or, replicate, inl, inr, ◌∙◌, sym, ap, subst, arith}
+use Rattle.std.proofs.lemmas.Bool.{false≢true, cases_lt}
+use Rattle.std.proofs.lemmas.List.{get_or-replicate, get_or_past, length-replicate}
+use Rattle.daggy_base.proofs.Going.{reaches_stays}
 use Rattle.daggy_order.specs.Ordered.{IsOrderOf, IsParted, place, stretch, edges_from}
 use Rattle.daggy_order.proofs.order.edge.order_edge.Goals as goal
+
+pub returns-then-stands_before-clause-decided : goal.returns-then-stands_before-clause-decided
+returns-then-stands_before-clause-decided g c =
+    let order : List ℕ = c.args.order.now in
+    let a : ℕ = g.Ix.IndexType.number c.args.a in
+    let b : ℕ = g.Ix.IndexType.number c.args.b in
+    let P : ℕ → Type 0 = λ z. place order b ≤ place order z in
+    let before : place order a < place order b = c.stands_before.ensures.0 c.if-stands_before.true in
+    (
+      λ e. absurd (false≢true (sym e)),
+      λ r. absurd (omega (arith, before, reaches_stays (g.S.EdgeSource.graph c.args.source.now) P (λ x y h j. omega (arith, h, c.requires.ordered.sorted x y j)) b a r (omega arith))),
+    )
+
+pub order_links-requires-clause-cleared : goal.order_links-requires-clause-cleared
+order_links-requires-clause-cleared g c n =
+    let count : ℕ = length c.scratch.inside.marks in
+    ap (λ z. get_or z n false) c.clear.ensures ∙ elim (cases_lt n count) [
+      | inl within ↦ get_or-replicate count n false false within
+      | inr past ↦ get_or_past (replicate count false) n false (omega (arith, past, length-replicate count false))
+    ]
 
 pub order_links-requires-clause-ordered : goal.order_links-requires-clause-ordered
 order_links-requires-clause-ordered g c =
