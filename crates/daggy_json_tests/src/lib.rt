@@ -1,9 +1,8 @@
-//! Dags as documents, by example, and a caller that gets its dag back.
+//! Dags as documents, by example.
 #![tactic(auto)]
 
 #[cfg(test)]
 mod reading;
-pub mod round;
 #[cfg(test)]
 mod support;
 #[cfg(test)]
