@@ -1,23 +1,15 @@
 //! Documents that are read.
-use crate::support::{holds, made, number};
+use crate::support::{holds, made, number, weight};
 use daggy_dag::acyclic::{Dag, StableDag};
 use daggy_json::documents::{dag_from_json, dag_to_json, stable_from_json, stable_to_json};
 use daggy_json::error::ReadError;
 use serde_json::Value;
-use std::alloc::{AllocError, Global};
+use std::alloc::Global;
 use std::process::Abort;
 
 type Small = Dag<u32, u32, u8>;
 
 type SmallStable = StableDag<u32, u32, u8>;
-
-// A whole number that fits; anything else is refused.
-fn weight(value: &Value) -> Result<Option<u32>, AllocError> {
-    match value.as_u64() {
-        Some(n) if n <= 1000 => Ok(Some(n as u32)),
-        _ => Ok(None),
-    }
-}
 
 fn value_of(rt: &impl Abort, alloc: Global, text: &str) -> Value {
     match Value::from_str(alloc, text) {

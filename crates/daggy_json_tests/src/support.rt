@@ -58,3 +58,11 @@ pub fn dag_of<S: Store<u8, NodeWeight = u32, EdgeWeight = u32>>(
 pub fn number(weight: &u32) -> Result<Value, AllocError> {
     Ok(Value::from(*weight))
 }
+
+// A whole number that fits; anything else is refused.
+pub fn weight(value: &Value) -> Result<Option<u32>, AllocError> {
+    match value.as_u64() {
+        Some(n) if n <= 1000 => Ok(Some(n as u32)),
+        _ => Ok(None),
+    }
+}
