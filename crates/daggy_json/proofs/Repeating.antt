@@ -92,6 +92,12 @@ pub weight_only : {W : Type 0} (answers : Data → Option W → Type 0) (x : W) 
 weight_only answers x d (Ok y) only says = let same : Some y ≡ Some x = only (Some y) says in let e : y ≡ x = cc in ap Ok e
 weight_only answers x d (Err e) only says = absurd (none-some x (only None says.0))
 
+abbrev edge_with : {E : Type 0} → ℕ → ℕ → E → Option (Edge E)
+edge_with a b w = Some (record { parent = a; child = b; weight = w })
+
+same_edge : {E : Type 0} (a b c d : ℕ) (v w : E) → a ≡ c → b ≡ d → v ≡ w → edge_with a b v ≡ edge_with c d w
+same_edge a b c d v w e f h = ap (λ k. edge_with k b v) e ∙ ap (λ k. edge_with c k v) f ∙ ap (edge_with c d) h
+
 -- what an edge slot needs in order to be read
 abbrev pub CanBeRead : {N E : Type 0} → (stable : Bool) → List (Option N) → Option (Edge E) → Type 0
 CanBeRead stable nodes None = stable ≡ true
@@ -124,8 +130,8 @@ module _ {N E : Type 0} (stable : Bool) (nodes : List (Option N)) (answers : Dat
       found : triple_in (listed (whole x.parent ∷ whole x.child ∷ w ∷ [])) ≡ triple_of
       found = refl
 
-      same_edge : (p q : ℕ) (v : E) (a : Data) → triple_of ≡ Some (p, q, a) → answers a (Some v) → Some (record { parent = p; child = q; weight = v }) ≡ Some x
-      same_edge p q v a e s =
+      one_edge : (p q : ℕ) (v : E) (a : Data) → triple_of ≡ Some (p, q, a) → answers a (Some v) → edge_with p q v ≡ Some x
+      one_edge p q v a e s =
           let old : ℕ × ℕ × Data = (x.parent, x.child, w) in
           let new : ℕ × ℕ × Data = (p, q, a) in
           let whole_is : old ≡ new = cc in
@@ -135,11 +141,11 @@ module _ {N E : Type 0} (stable : Bool) (nodes : List (Option N)) (answers : Dat
           let parent : p ≡ x.parent = ap (λ (t : ℕ × ℕ × Data). t.0) (sym whole_is) in
           let child : q ≡ x.child = ap (λ (t : ℕ × ℕ × Data). t.1) (sym whole_is) in
           let weight : v ≡ x.weight = cc in
-          ap (λ k. Some (record { parent = k; child = q; weight = v })) parent ∙ ap (λ k. Some (record { parent = x.parent; child = k; weight = v })) child ∙ ap (λ k. Some (record { parent = x.parent; child = x.child; weight = k })) weight
+          same_edge p q x.parent x.child v x.weight parent child weight
 
       go : (r : Result (Option (Edge E)) ReadError) → IsEntryRead stable nodes answers (listed (whole x.parent ∷ whole x.child ∷ w ∷ [])) r → r ≡ Ok (Some x)
       go (Ok None) s = absurd (let bad = s.1 in cc)
-      go (Ok (Some y)) s = ap Ok (same_edge y.parent y.child y.weight s.0 s.1 s.3)
+      go (Ok (Some y)) s = ap Ok (one_edge y.parent y.child y.weight s.0 s.1 s.3)
       go (Err Shape) s = absurd (let bad = sym found ∙ s.0 in cc)
       go (Err BadEndpoint) s = absurd (let same : triple_of ≡ Some s.0 = sym found ∙ s.1 in let e : (x.parent, x.child, w) ≡ s.0 = cc in s.2 (subst (HasEnds nodes) e ends))
       go (Err Weight) s =

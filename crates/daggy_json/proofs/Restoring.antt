@@ -245,3 +245,27 @@ pub answers_again : {D N E : Type 0} (graph_of : D → Graph N E) (h : Graph N E
     → IfOk result (λ x. read (Ok (graph_of x))) → IfErr result (λ e. (e ≡ Memory) ⊎ read (Err e)) → MatchResult result (λ x. graph_of x ≡ h) (λ e. e ≡ Memory)
 answers_again graph_of h (Ok x) read only ok err = let same : Ok (graph_of x) ≡ Ok h = only (Ok (graph_of x)) ok in let it : graph_of x ≡ h = cc in it
 answers_again graph_of h (Err e) read only ok err = elim err [ inl m ↦ m | inr r ↦ absurd (let bad : Err e ≡ Ok h = only (Err e) r in cc) ]
+
+-- ---- what is written so that it is read again
+
+zip_weaker : {A B : Type 0} (R S : A → B → Type 0) → ((x : A) (y : B) → R x y → S x y) → (xs : List A) (ys : List B) → AllZip R xs ys → AllZip S xs ys
+zip_weaker R S f [] [] z = z
+zip_weaker R S f [] (y ∷ ys) z = z
+zip_weaker R S f (x ∷ xs) [] z = z
+zip_weaker R S f (x ∷ xs) (y ∷ ys) z = (f x y z.0, zip_weaker R S f xs ys z.1)
+
+module _ {N E : Type 0} (node_as node_again : N → Data → Type 0) (edge_as edge_again : E → Data → Type 0) (nodes : (w : N) (d : Data) → node_as w d → node_again w d) (edges : (w : E) (d : Data) → edge_as w d → edge_again w d) where
+  entry_again : (x : Option (Edge E)) (d : Data) → IsEntry edge_as x d → IsEntry edge_again x d
+  entry_again None d e = e
+  entry_again (Some x) d e = (e.0, edges x.weight e.0 e.1, e.2)
+
+  -- the document of a graph, where what stands for a weight has one more property
+  pub document_again : (g : Graph N E) (d : Data) → IsDocumentOf node_as edge_as g d → IsDocumentOf node_again edge_again g d
+  document_again g d doc =
+      record {
+        entries = doc.entries;
+        weights = doc.weights;
+        edges = zip_weaker (IsEntry edge_as) (IsEntry edge_again) entry_again (take (edge_bound g) g.edges) doc.entries doc.edges;
+        nodes = zip_weaker node_as node_again nodes (node_weights g) doc.weights doc.nodes;
+        is = doc.is;
+      }

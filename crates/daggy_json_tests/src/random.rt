@@ -1,11 +1,12 @@
 //! Random dags with vacant slots, written and read back.
-ghost use Rattle.std.specs.Prelude.{◌<◌};
+ghost use Rattle.std.specs.Prelude.{◌≡◌, ◌<◌};
+ghost use Rattle.daggy_json.specs.Restoring.{trimmed};
 
 use crate::support::{edge, holds, made, node, number, weight};
 use daggy_base::error::EdgeError;
 use daggy_base::index::{Direction, EdgeIndex};
 use daggy_base::store::Store;
-use daggy_dag::acyclic::Acyclic;
+use daggy_dag::acyclic::{Acyclic, Dag, StableDag};
 use daggy_json::documents::{dag_from_json, dag_to_json, stable_from_json, stable_to_json};
 use std::alloc::Global;
 use std::process::Abort;
@@ -22,22 +23,22 @@ fn next_number(state: &mut u64, bound: u64) -> usize
     ((z ^ (z >> 31)) % bound) as usize
 }
 
-fn add_nodes<S: Store<u8, NodeWeight = u32, EdgeWeight = u32>>(
+fn add_nodes<S: Store<u8, NodeWeight = u64, EdgeWeight = u64>>(
     rt: &impl Abort,
-    dag: &mut Acyclic<u32, u32, u8, S>,
+    dag: &mut Acyclic<u64, u64, u8, S>,
     state: &mut u64,
     count: usize,
 ) {
     for _ in 0..count {
         holds(rt, dag.can_add_node());
-        let _n = made(rt, dag.add_node(next_number(state, 1000) as u32));
+        let _n = made(rt, dag.add_node(next_number(state, 1000) as u64));
     }
 }
 
 // Tries edges between any two of ten nodes.
-fn add_edges<S: Store<u8, NodeWeight = u32, EdgeWeight = u32>>(
+fn add_edges<S: Store<u8, NodeWeight = u64, EdgeWeight = u64>>(
     rt: &impl Abort,
-    dag: &mut Acyclic<u32, u32, u8, S>,
+    dag: &mut Acyclic<u64, u64, u8, S>,
     state: &mut u64,
     count: usize,
 ) {
@@ -48,7 +49,7 @@ fn add_edges<S: Store<u8, NodeWeight = u32, EdgeWeight = u32>>(
         );
         if dag.contains_node(a) && dag.contains_node(b) {
             holds(rt, dag.can_add_edge());
-            match dag.add_edge(a, b, next_number(state, 1000) as u32) {
+            match dag.add_edge(a, b, next_number(state, 1000) as u64) {
                 Ok(_) | Err(EdgeError::WouldCycle(_)) => {}
                 Err(_) => holds(rt, false),
             }
@@ -57,11 +58,11 @@ fn add_edges<S: Store<u8, NodeWeight = u32, EdgeWeight = u32>>(
 }
 
 // A dag that was changed in both ways.
-fn random_dag<S: Store<u8, NodeWeight = u32, EdgeWeight = u32>>(
+fn random_dag<S: Store<u8, NodeWeight = u64, EdgeWeight = u64>>(
     rt: &impl Abort,
     alloc: Global,
     state: &mut u64,
-) -> Acyclic<u32, u32, u8, S> {
+) -> Acyclic<u64, u64, u8, S> {
     let mut dag = Acyclic::new(alloc);
     add_nodes(rt, &mut dag, state, 8);
     add_edges(rt, &mut dag, state, 16);
@@ -76,7 +77,7 @@ fn random_dag<S: Store<u8, NodeWeight = u32, EdgeWeight = u32>>(
 }
 
 // The same weights stand under the same indices, and the lists are the same.
-fn same_nodes<S: Store<u8, NodeWeight = u32, EdgeWeight = u32>>(
+fn same_nodes<S: Store<u8, NodeWeight = u64, EdgeWeight = u64>>(
     rt: &impl Abort,
     found: &S,
     wanted: &S,
@@ -91,7 +92,7 @@ fn same_nodes<S: Store<u8, NodeWeight = u32, EdgeWeight = u32>>(
     }
 }
 
-fn same_edges<S: Store<u8, NodeWeight = u32, EdgeWeight = u32>>(
+fn same_edges<S: Store<u8, NodeWeight = u64, EdgeWeight = u64>>(
     rt: &impl Abort,
     found: &S,
     wanted: &S,
@@ -110,13 +111,36 @@ fn same_edges<S: Store<u8, NodeWeight = u32, EdgeWeight = u32>>(
     }
 }
 
-fn same_dag<S: Store<u8, NodeWeight = u32, EdgeWeight = u32>>(
+fn same_dag<S: Store<u8, NodeWeight = u64, EdgeWeight = u64>>(
     rt: &impl Abort,
-    found: &Acyclic<u32, u32, u8, S>,
-    wanted: &Acyclic<u32, u32, u8, S>,
+    found: &Acyclic<u64, u64, u8, S>,
+    wanted: &Acyclic<u64, u64, u8, S>,
 ) {
     same_nodes(rt, found.graph(), wanted.graph());
     same_edges(rt, found.graph(), wanted.graph());
+}
+
+// The dag of the document of a dag.
+fn read_back(rt: &impl Abort, alloc: Global, dag: &Dag<u64, u64, u8>) -> Dag<u64, u64, u8>
+    ensures { result.graph ≡ dag.now.graph }
+{
+    // Asked for its contract alone: the graph is that of a compact dag.
+    let _dag = dag.node_count();
+    let value = made(rt, dag_to_json(alloc, dag, number, number));
+    made(rt, dag_from_json(alloc, &value, weight, weight))
+}
+
+fn read_back_stable(
+    rt: &impl Abort,
+    alloc: Global,
+    dag: &StableDag<u64, u64, u8>,
+) -> StableDag<u64, u64, u8>
+    ensures { result.graph ≡ trimmed dag.now.graph }
+{
+    // Asked for its contract alone: the graph is that of a dag.
+    let _dag = dag.node_count();
+    let value = made(rt, stable_to_json(alloc, dag, number, number));
+    made(rt, stable_from_json(alloc, &value, weight, weight))
 }
 
 #[test]
@@ -124,12 +148,8 @@ fn random_dags_are_read_back(rt: HostRuntime) {
     let mut state = 1;
     for _ in 0..1000 {
         let dag = random_dag(&rt, rt.alloc(), &mut state);
-        let value = made(&rt, dag_to_json(rt.alloc(), &dag, number, number));
-        let read = made(&rt, dag_from_json(rt.alloc(), &value, weight, weight));
-        same_dag(&rt, &read, &dag);
+        same_dag(&rt, &read_back(&rt, rt.alloc(), &dag), &dag);
         let dag = random_dag(&rt, rt.alloc(), &mut state);
-        let value = made(&rt, stable_to_json(rt.alloc(), &dag, number, number));
-        let read = made(&rt, stable_from_json(rt.alloc(), &value, weight, weight));
-        same_dag(&rt, &read, &dag);
+        same_dag(&rt, &read_back_stable(&rt, rt.alloc(), &dag), &dag);
     }
 }

@@ -4,12 +4,12 @@ use daggy_dag::acyclic::{Dag, StableDag};
 use daggy_json::documents::{dag_from_json, dag_to_json, stable_from_json, stable_to_json};
 use daggy_json::error::ReadError;
 use serde_json::Value;
-use std::alloc::Global;
+use std::alloc::{AllocError, Global};
 use std::process::Abort;
 
-type Small = Dag<u32, u32, u8>;
+type Small = Dag<u64, u64, u8>;
 
-type SmallStable = StableDag<u32, u32, u8>;
+type SmallStable = StableDag<u64, u64, u8>;
 
 fn value_of(rt: &impl Abort, alloc: Global, text: &str) -> Value {
     match Value::from_str(alloc, text) {
@@ -225,4 +225,46 @@ fn other_orders_are_no_rearrangement(rt: HostRuntime) {
         let text = made(&rt, text);
         refuses(&rt, rt.alloc(), text.as_str(), &ReadError::Orders);
     }
+}
+
+// So many of an item, parted by commas.
+fn repeated(rt: &impl Abort, alloc: Global, item: &str, count: usize) -> String {
+    let mut list = String::new(alloc);
+    for i in 0..count {
+        if i > 0 {
+            made(rt, list.push(','));
+        }
+        made(rt, list.push_str(item));
+    }
+    list
+}
+
+#[test]
+fn there_is_an_index_for_each_slot(rt: HostRuntime) {
+    for (count, fits) in [(255, true), (256, false)] {
+        let nodes = repeated(&rt, rt.alloc(), "1", count);
+        let edges = repeated(&rt, rt.alloc(), "null", count);
+        for (nodes, edges) in [(nodes.as_str(), ""), ("", edges.as_str())] {
+            let text = format!(in rt.alloc();
+                "{{\"nodes\":[{nodes}],\"edge_property\":\"directed\",\"edges\":[{edges}]}}"
+            );
+            let text = made(&rt, text);
+            if fits {
+                let _dag = made(&rt, read_stable(&rt, rt.alloc(), text.as_str()));
+            } else {
+                refuses_stable(&rt, rt.alloc(), text.as_str(), &ReadError::Full);
+            }
+        }
+    }
+}
+
+fn starve(_value: &Value) -> Result<Option<u64>, AllocError> {
+    Err(AllocError)
+}
+
+#[test]
+fn want_of_memory_for_a_weight_is_the_answer(rt: HostRuntime) {
+    let value = value_of(&rt, rt.alloc(), REORDERED);
+    let answer: Result<Small, ReadError> = dag_from_json(rt.alloc(), &value, weight, starve);
+    holds(&rt, matches!(&answer, Err(ReadError::Memory)));
 }

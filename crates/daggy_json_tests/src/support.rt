@@ -1,5 +1,8 @@
 //! Small dags, and what a document of one is to be.
-ghost use Rattle.std.specs.Prelude.{◌≡◌, IsTrue, Ok};
+ghost use Rattle.std.specs.Prelude.{◌≡◌, IsTrue, Ok, IfOk};
+ghost use Rattle.serde_json.specs.View.{view};
+ghost use Rattle.daggy_json.specs.Document.{whole};
+ghost use Rattle.daggy_json.specs.Reading.{whole_in};
 
 use daggy_base::index::{EdgeIndex, NodeIndex};
 use daggy_base::store::Store;
@@ -34,12 +37,12 @@ pub fn edge(rt: &impl Abort, e: usize) -> EdgeIndex<u8> {
 }
 
 // A dag with nodes of these weights and these edges, each with its parent, its child and its weight.
-pub fn dag_of<S: Store<u8, NodeWeight = u32, EdgeWeight = u32>>(
+pub fn dag_of<S: Store<u8, NodeWeight = u64, EdgeWeight = u64>>(
     rt: &impl Abort,
     alloc: Global,
-    nodes: &[u32],
-    edges: &[(usize, usize, u32)],
-) -> Acyclic<u32, u32, u8, S> {
+    nodes: &[u64],
+    edges: &[(usize, usize, u64)],
+) -> Acyclic<u64, u64, u8, S> {
     let mut dag = Acyclic::new(alloc);
     for weight in nodes {
         holds(rt, dag.can_add_node());
@@ -55,14 +58,15 @@ pub fn dag_of<S: Store<u8, NodeWeight = u32, EdgeWeight = u32>>(
 }
 
 // A weight as it is written.
-pub fn number(weight: &u32) -> Result<Value, AllocError> {
+pub fn number(weight: &u64) -> Result<Value, AllocError>
+    ensures { IfOk result (λ v. view v ≡ whole weight.now) }
+{
     Ok(Value::from(*weight))
 }
 
-// A whole number that fits; anything else is refused.
-pub fn weight(value: &Value) -> Result<Option<u32>, AllocError> {
-    match value.as_u64() {
-        Some(n) if n <= 1000 => Ok(Some(n as u32)),
-        _ => Ok(None),
-    }
+// A whole number; anything else is refused.
+pub fn weight(value: &Value) -> Result<Option<u64>, AllocError>
+    ensures { IfOk result (λ o. o ≡ whole_in (view value.now)) }
+{
+    Ok(value.as_u64())
 }

@@ -7,9 +7,9 @@ use serde_json::Value;
 use std::alloc::{AllocError, Global};
 use std::process::Abort;
 
-type Small = Dag<u32, u32, u8>;
+type Small = Dag<u64, u64, u8>;
 
-type SmallStable = StableDag<u32, u32, u8>;
+type SmallStable = StableDag<u64, u64, u8>;
 
 fn check_text(rt: &impl Abort, alloc: Global, value: &Value, wanted: &str) {
     let text = made(rt, value.to_string(alloc));
@@ -35,7 +35,7 @@ fn nothing_is_written_as_empty_lists(rt: HostRuntime) {
     check_stable(&rt, rt.alloc(), &SmallStable::new(rt.alloc()), EMPTY);
 }
 
-const THREE: [(usize, usize, u32); 3] = [(0, 1, 4), (0, 2, 5), (0, 1, 6)];
+const THREE: [(usize, usize, u64); 3] = [(0, 1, 4), (0, 2, 5), (0, 1, 6)];
 
 const REORDERED: &str =
     "{\"edge_property\":\"directed\",\"edges\":[[0,1,6],[0,2,5]],\"node_holes\":[],\"nodes\":[1,2,3],\"orders\":[[[0,1],[]],[[],[0]],[[],[1]]]}";
@@ -70,7 +70,7 @@ fn vacant_slots_past_the_bound_are_left_out(rt: HostRuntime) {
     check_stable(&rt, rt.alloc(), &dag, CUT);
 }
 
-fn refuse(_weight: &u32) -> Result<Value, AllocError> {
+fn refuse(_weight: &u64) -> Result<Value, AllocError> {
     Err(AllocError)
 }
 
