@@ -2,6 +2,7 @@
 use Rattle.std.specs.Prelude.{◌≡◌, ◌⊎◌, Ok, Err, ℕ, ◌+◌, Bool, true, false, IsSome, length, slice_index_or, slice_set, replicate, nat_lt, if◌then◌else◌, Option, Some, None, option_and_then, List, [], ◌∷◌, map}
 use Rattle.std.specs.Option.{option_map}
 use Rattle.std.specs.Borrow.{Bor}
+use Rattle.std.specs.Global.{Vec}
 use Rattle.serde_json.specs.Data.{Data}
 use Rattle.serde_json.specs.View.{view}
 use Rattle.serde_json.specs.declared.value.Value.{Value}
@@ -10,9 +11,13 @@ use Rattle.daggy_base.specs.declared.index.Direction.TheVariants.{Outgoing, Inco
 use Rattle.daggy_base.specs.Graph.{Graph, Edge, slot, near_end}
 use Rattle.daggy_base.specs.FromSlots.{has_end}
 pub use Rattle.daggy_base.specs.FromSlots.{edge_of}
-use Rattle.daggy_base.specs.Orders.{with_orders}
+use Rattle.daggy_base.specs.Orders.{with_orders, numbers_of}
 use Rattle.daggy_json.specs.Reading.{Parts, whole_in, array_in, all_in, IsLaidOut, ReadsEach, IsWeight, AreSlots}
 use Rattle.daggy_json.specs.declared.error.ReadError.{ReadError}
+
+-- the orders by their numbers
+abbrev pub orders_by : {I : Type 0} → (number : I → ℕ) → Option (Vec (Vec I × Vec I)) → Option (List (List ℕ × List ℕ))
+orders_by number o = option_map (λ v. map (numbers_of number) v.items) o
 
 -- the parts in these values
 abbrev pub parts_of : (nodes : List Value) (holes property : List ℕ) (edges : List Value) (orders : Option (Bor Value)) → Parts

@@ -29,7 +29,8 @@ fn write<
 >(alloc: Global, dag: &Acyclic<N, E, Ix, S>, fn_node: &F, fn_edge: &G) -> Result<Value, WriteError>
     requires nodes { F.IsAlwaysCallable fn_node.now }
     requires edges { G.IsAlwaysCallable fn_edge.now }
-    ensures { IfOk result (λ v. IsDocumentOf (WritesAs F.Fn fn_node.now) (WritesAs G.Fn fn_edge.now) dag.now.graph (view v)) }
+    ensures { IfOk result (λ v. IsDocumentOf (WritesAs F.Fn fn_node.now) (WritesAs G.Fn fn_edge.now) dag.now.graph
+        (view v)) }
 {
     Ok(write_document(alloc, dag.graph(), fn_node, fn_edge)?)
 }
@@ -52,8 +53,8 @@ pub fn dag_to_json<
     write(alloc, dag, &fn_node, &fn_edge)
 }
 
-/// The document of a stable dag, as [`dag_to_json`] gives it. It also names the vacant slots of nodes, and has `null` for
-/// a vacant slot of an edge, both as far as the greatest index that is in use.
+/// The document of a stable dag, as [`dag_to_json`] gives it. It also names the vacant slots of nodes, and has `null`
+/// for a vacant slot of an edge, both as far as the greatest index that is in use.
 pub fn stable_to_json<
     N: Drop,
     E: Drop,
@@ -69,8 +70,8 @@ pub fn stable_to_json<
 }
 
 /// The dag that a value is read as: an object as [`dag_to_json`] gives it. Other members are ignored. Without `orders`
-/// the edges are linked by ascending index, so each list has the edge with the greatest index first. The document of a dag
-/// gives this dag back, if each of its weights is read as it was.
+/// the edges are linked by ascending index, so each list has the edge with the greatest index first. The document of a
+/// dag gives this dag back, if each of its weights is read as it was.
 ///
 /// `fn_node` and `fn_edge` read the weights, and give `None` for one that they refuse. The error is the first fault of
 /// the value, or says that there was no memory. The cost grows with the number of nodes and edges, besides that of the
@@ -84,10 +85,10 @@ pub fn dag_from_json<
 >(alloc: Global, value: &Value, fn_node: F, fn_edge: G) -> Result<Dag<N, E, Ix>, ReadError>
     requires nodes { F.IsAlwaysCallable fn_node }
     requires edges { G.IsAlwaysCallable fn_edge }
-    ensures ok { IfOk result (λ d. IsRead Ix.greatest false (ReadsAs F.Fn fn_node) (ReadsAs G.Fn fn_edge) (view value.now)
-        (Ok d.graph)) }
-    ensures err { IfErr result (λ e. (e ≡ Memory)
-        ⊎ IsRead {N = N} {E = E} Ix.greatest false (ReadsAs F.Fn fn_node) (ReadsAs G.Fn fn_edge) (view value.now) (Err e)) }
+    ensures ok { IfOk result (λ d.
+        IsRead Ix.greatest false (ReadsAs F.Fn fn_node) (ReadsAs G.Fn fn_edge) (view value.now) (Ok d.graph)) }
+    ensures err { IfErr result (λ e. (e ≡ Memory) ⊎ IsRead {N = N} {E = E} Ix.greatest false (ReadsAs F.Fn fn_node)
+        (ReadsAs G.Fn fn_edge) (view value.now) (Err e)) }
     // The document of a dag, if each of its weights is read as it was.
     ensures restored { (g : Graph N E) → IsDag Ix.greatest g → IsCompact g
         → IsDocumentOf (ReadsOnly (ReadsAs F.Fn fn_node)) (ReadsOnly (ReadsAs G.Fn fn_edge)) g (view value.now)
@@ -96,9 +97,9 @@ pub fn dag_from_json<
     read(alloc, value, false, &fn_node, &fn_edge)
 }
 
-/// The stable dag that a value is read as, as [`dag_from_json`] reads a dag. Slots of nodes are vacant at the holes, and
-/// slots of edges at `null`; of the vacant slots the one with the greatest index is taken first. So the document of a dag
-/// gives back all of it but the order of its vacant slots, and those past the greatest index in use.
+/// The stable dag that a value is read as, as [`dag_from_json`] reads a dag. Slots of nodes are vacant at the holes,
+/// and slots of edges at `null`; of the vacant slots the one with the greatest index is taken first. So the document of
+/// a dag gives back all of it but the order of its vacant slots, and those past the greatest index that is in use.
 pub fn stable_from_json<
     N: Drop,
     E: Drop,
@@ -108,10 +109,10 @@ pub fn stable_from_json<
 >(alloc: Global, value: &Value, fn_node: F, fn_edge: G) -> Result<StableDag<N, E, Ix>, ReadError>
     requires nodes { F.IsAlwaysCallable fn_node }
     requires edges { G.IsAlwaysCallable fn_edge }
-    ensures ok { IfOk result (λ d. IsRead Ix.greatest true (ReadsAs F.Fn fn_node) (ReadsAs G.Fn fn_edge) (view value.now)
-        (Ok d.graph)) }
-    ensures err { IfErr result (λ e. (e ≡ Memory)
-        ⊎ IsRead {N = N} {E = E} Ix.greatest true (ReadsAs F.Fn fn_node) (ReadsAs G.Fn fn_edge) (view value.now) (Err e)) }
+    ensures ok { IfOk result (λ d.
+        IsRead Ix.greatest true (ReadsAs F.Fn fn_node) (ReadsAs G.Fn fn_edge) (view value.now) (Ok d.graph)) }
+    ensures err { IfErr result (λ e. (e ≡ Memory) ⊎ IsRead {N = N} {E = E} Ix.greatest true (ReadsAs F.Fn fn_node)
+        (ReadsAs G.Fn fn_edge) (view value.now) (Err e)) }
     // The document of a dag, if each of its weights is read as it was.
     ensures restored { (g : Graph N E) → IsDag Ix.greatest g
         → IsDocumentOf (ReadsOnly (ReadsAs F.Fn fn_node)) (ReadsOnly (ReadsAs G.Fn fn_edge)) g (view value.now)

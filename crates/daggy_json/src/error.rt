@@ -18,8 +18,9 @@ pub enum WriteError {
 /// tested one after the other, and each for its shape, its ends and its weight.
 #[derive(Debug, Drop, Error)]
 pub enum ReadError {
-    /// It is no object, `nodes` or `edges` is no array, `edge_property` is no text, or `node_holes` is no array of whole
-    /// numbers. Or an entry of an edge is no array of two whole numbers and a weight, nor `null` for a vacant slot.
+    /// It is no object, `nodes` or `edges` is no array, `edge_property` is no text, or `node_holes` is no array of
+    /// whole numbers. Or an entry of an edge is no array of two whole numbers and a weight, nor `null` for a vacant
+    /// slot.
     #[error("wrong shape")]
     Shape,
     /// `edge_property` is not `directed`.

@@ -2,12 +2,12 @@
 ghost use Rattle.std.specs.Prelude.{◌≡◌, ◌≤◌, ◌⊎◌, [], false, Ok, Err, map, length, IfOk, IfErr, IfSome};
 ghost use Rattle.std.specs.Option.{option_map};
 ghost use Rattle.serde_json.specs.View.{view};
-ghost use Rattle.daggy_base.specs.FromSlots.{of_slots};
+ghost use Rattle.daggy_base.specs.FromSlots.{of_slots, edges_by};
 ghost use Rattle.daggy_base.specs.Orders.{AreOrders, numbers_of};
 ghost use Rattle.daggy_base.specs.Removal.{Compact};
 ghost use Rattle.daggy_json.specs.Document.{vacant_from};
 ghost use Rattle.daggy_json.specs.Reading.{IsRead, IsTested};
-ghost use Rattle.daggy_json.specs.Found.{edge_of, ordered, EndsExist};
+ghost use Rattle.daggy_json.specs.Found.{ordered, orders_by, EndsExist};
 ghost use Rattle.daggy_json.specs.Weight.{ReadsAs};
 ghost use Rattle.daggy_json.specs.declared.error.ReadError.TheVariants.{Memory};
 
@@ -27,14 +27,17 @@ fn make<N: Drop, E: Drop, Ix: IndexType, S: Store<Ix, NodeWeight = N, EdgeWeight
 ) -> Result<Acyclic<N, E, Ix, S>, ReadError>
     requires few_nodes { length found.nodes.items ≤ Ix.greatest }
     requires few_edges { length found.edges.items ≤ Ix.greatest }
-    requires ends { EndsExist found.nodes.items (map (option_map (edge_of Ix.number)) found.edges.items) }
+    requires ends { EndsExist found.nodes.items (edges_by Ix.number found.edges.items) }
     requires full_nodes { S.kind ≡ Compact → vacant_from 0 found.nodes.items ≡ [] }
     requires full_edges { S.kind ≡ Compact → vacant_from 0 found.edges.items ≡ [] }
-    requires orders { IfSome found.orders (λ v. AreOrders (of_slots found.nodes.items (map (option_map (edge_of Ix.number)) found.edges.items)) (map (numbers_of Ix.number) v.items)) }
-    ensures ok { IfOk result (λ d. IsTested (ordered (of_slots found.nodes.items (map (option_map (edge_of Ix.number)) found.edges.items))
-        (option_map (λ v. map (numbers_of Ix.number) v.items) found.orders)) (Ok d.graph)) }
-    ensures err { IfErr result (λ e. (e ≡ Memory) ⊎ IsTested (ordered (of_slots found.nodes.items (map (option_map (edge_of Ix.number)) found.edges.items))
-        (option_map (λ v. map (numbers_of Ix.number) v.items) found.orders)) (Err e)) }
+    requires orders { IfSome found.orders (λ v.
+        AreOrders (of_slots found.nodes.items (edges_by Ix.number found.edges.items))
+        (map (numbers_of Ix.number) v.items)) }
+    ensures ok { IfOk result (λ d. IsTested (ordered (of_slots found.nodes.items (edges_by Ix.number found.edges.items))
+        (orders_by Ix.number found.orders)) (Ok d.graph)) }
+    ensures err { IfErr result (λ e. (e ≡ Memory)
+        ⊎ IsTested (ordered (of_slots found.nodes.items (edges_by Ix.number found.edges.items))
+        (orders_by Ix.number found.orders)) (Err e)) }
 {
     let Gathered {
         nodes,
@@ -71,8 +74,10 @@ pub(crate) fn read<
     requires nodes { F.IsAlwaysCallable fn_node.now }
     requires edges { G.IsAlwaysCallable fn_edge.now }
     requires kind { S.kind ≡ Compact → stable ≡ false }
-    ensures ok { IfOk result (λ d. IsRead Ix.greatest stable (ReadsAs F.Fn fn_node.now) (ReadsAs G.Fn fn_edge.now) (view value.now) (Ok d.graph)) }
-    ensures err { IfErr result (λ e. (e ≡ Memory) ⊎ IsRead {N = N} {E = E} Ix.greatest stable (ReadsAs F.Fn fn_node.now) (ReadsAs G.Fn fn_edge.now) (view value.now) (Err e)) }
+    ensures ok { IfOk result (λ d.
+        IsRead Ix.greatest stable (ReadsAs F.Fn fn_node.now) (ReadsAs G.Fn fn_edge.now) (view value.now) (Ok d.graph)) }
+    ensures err { IfErr result (λ e. (e ≡ Memory) ⊎ IsRead {N = N} {E = E} Ix.greatest stable (ReadsAs F.Fn fn_node.now)
+        (ReadsAs G.Fn fn_edge.now) (view value.now) (Err e)) }
 {
     make(alloc, gather(alloc, value, stable, fn_node, fn_edge)?)
 }

@@ -19,7 +19,8 @@ fn write_weights<Ix: IndexType, S: Store<Ix>, F: Fn(&S::NodeWeight) -> Result<Va
     fn_node: &F,
 ) -> Result<Vec<Value>, AllocError>
     requires { F.IsAlwaysCallable fn_node.now }
-    ensures { IfOk result (λ v. AllZip (WritesAs F.Fn fn_node.now) (node_weights (S.graph store.now)) (map view v.items)) }
+    ensures { IfOk result (λ v. AllZip (WritesAs F.Fn fn_node.now) (node_weights (S.graph store.now))
+        (map view v.items)) }
 {
     let bound = store.node_bound();
     let mut weights = Vec::new(alloc);
@@ -76,7 +77,8 @@ fn write_entry<Ix: IndexType, S: Store<Ix>, G: Fn(&S::EdgeWeight) -> Result<Valu
     fn_edge: &G,
 ) -> Result<Value, AllocError>
     requires { G.IsAlwaysCallable fn_edge.now }
-    ensures { IfOk result (λ v. IsEntry (WritesAs G.Fn fn_edge.now) (edge_at (S.graph store.now) (Ix.number e)) (view v)) }
+    ensures { IfOk result (λ v. IsEntry (WritesAs G.Fn fn_edge.now) (edge_at (S.graph store.now) (Ix.number e))
+        (view v)) }
 {
     let Some(ends) = store.edge_endpoints(e) else {
         return Ok(Value::Null);
@@ -178,7 +180,8 @@ fn assemble(
     weights: Vec<Value>,
     orders: Vec<Value>,
 ) -> Result<Value, AllocError>
-    ensures { IfOk result (λ v. view v ≡ document_of (map view entries.items) (map view holes.items) (map view weights.items) (map view orders.items)) }
+    ensures { IfOk result (λ v. view v ≡ document_of (map view entries.items) (map view holes.items)
+        (map view weights.items) (map view orders.items)) }
 {
     json!(in alloc; {
         "edge_property": "directed",
@@ -198,7 +201,8 @@ pub(crate) fn write_document<
 >(alloc: Global, store: &S, fn_node: &F, fn_edge: &G) -> Result<Value, AllocError>
     requires nodes { F.IsAlwaysCallable fn_node.now }
     requires edges { G.IsAlwaysCallable fn_edge.now }
-    ensures { IfOk result (λ v. IsDocumentOf (WritesAs F.Fn fn_node.now) (WritesAs G.Fn fn_edge.now) (S.graph store.now) (view v)) }
+    ensures { IfOk result (λ v. IsDocumentOf (WritesAs F.Fn fn_node.now) (WritesAs G.Fn fn_edge.now) (S.graph store.now)
+        (view v)) }
 {
     let entries = write_entries(alloc, store, fn_edge)?;
     let holes = write_holes(alloc, store)?;

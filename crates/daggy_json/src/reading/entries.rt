@@ -3,6 +3,7 @@ ghost use Rattle.std.specs.Prelude.{◌≡◌, ◌⊎◌, ◌≤◌, ◌↔◌, 
 ghost use Rattle.std.specs.Option.{option_map};
 ghost use Rattle.serde_json.specs.View.{view};
 ghost use Rattle.daggy_base.specs.Graph.{slot};
+ghost use Rattle.daggy_base.specs.FromSlots.{edges_by};
 ghost use Rattle.daggy_json.specs.Reading.{ReadsEach, IsEntryRead, triple_in};
 ghost use Rattle.daggy_json.specs.Found.{edge_of};
 ghost use Rattle.daggy_json.specs.Weight.{ReadsAs};
@@ -43,8 +44,10 @@ fn read_entry<N, E: Drop, Ix: IndexType, G: Fn(&Value) -> Result<Option<E>, Allo
 ) -> Result<Option<(NodeIndex<Ix>, NodeIndex<Ix>, E)>, ReadError>
     requires callable { G.IsAlwaysCallable fn_edge.now }
     requires few { vec_len nodes.now ≤ Ix.greatest }
-    ensures ok { IfOk result (λ x. IsEntryRead stable nodes.now.items (ReadsAs G.Fn fn_edge.now) (view value.now) (Ok (option_map (edge_of Ix.number) x))) }
-    ensures err { IfErr result (λ e. (e ≡ Memory) ⊎ IsEntryRead stable nodes.now.items (ReadsAs G.Fn fn_edge.now) (view value.now) (Err e)) }
+    ensures ok { IfOk result (λ x. IsEntryRead stable nodes.now.items (ReadsAs G.Fn fn_edge.now) (view value.now)
+        (Ok (option_map (edge_of Ix.number) x))) }
+    ensures err { IfErr result (λ e. (e ≡ Memory)
+        ⊎ IsEntryRead stable nodes.now.items (ReadsAs G.Fn fn_edge.now) (view value.now) (Err e)) }
 {
     if stable && value.is_null() {
         return Ok(None);
@@ -77,9 +80,10 @@ pub(super) fn read_entries<
 ) -> Result<Vec<Option<(NodeIndex<Ix>, NodeIndex<Ix>, E)>>, ReadError>
     requires callable { G.IsAlwaysCallable fn_edge.now }
     requires few { vec_len nodes.now ≤ Ix.greatest }
-    ensures ok { IfOk result (λ v. ReadsEach (IsEntryRead stable nodes.now.items (ReadsAs G.Fn fn_edge.now)) (map view list.now.items)
-        (Ok (map (option_map (edge_of Ix.number)) v.items))) }
-    ensures err { IfErr result (λ e. (e ≡ Memory) ⊎ ReadsEach (IsEntryRead stable nodes.now.items (ReadsAs G.Fn fn_edge.now)) (map view list.now.items) (Err e)) }
+    ensures ok { IfOk result (λ v. ReadsEach (IsEntryRead stable nodes.now.items (ReadsAs G.Fn fn_edge.now))
+        (map view list.now.items) (Ok (edges_by Ix.number v.items))) }
+    ensures err { IfErr result (λ e. (e ≡ Memory)
+        ⊎ ReadsEach (IsEntryRead stable nodes.now.items (ReadsAs G.Fn fn_edge.now)) (map view list.now.items) (Err e)) }
 {
     let mut edges = Vec::new(alloc);
     edges.reserve(list.len())?;

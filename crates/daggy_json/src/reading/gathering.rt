@@ -3,11 +3,11 @@ ghost use Rattle.std.specs.Prelude.{◌≡◌, ◌≤◌, ◌⊎◌, [], false, 
 ghost use Rattle.std.specs.Option.{option_map};
 ghost use Rattle.serde_json.specs.View.{view};
 ghost use Rattle.daggy_base.specs.Graph.{Graph};
-ghost use Rattle.daggy_base.specs.FromSlots.{of_slots};
+ghost use Rattle.daggy_base.specs.FromSlots.{of_slots, edges_by};
 ghost use Rattle.daggy_base.specs.Orders.{AreOrders, numbers_of};
 ghost use Rattle.daggy_json.specs.Document.{vacant_from};
 ghost use Rattle.daggy_json.specs.Reading.{IsOrdered, IsRead, IsTested};
-ghost use Rattle.daggy_json.specs.Found.{edge_of, ordered, EndsExist, parts_of, AreNodesRead, IsNodesFault};
+ghost use Rattle.daggy_json.specs.Found.{ordered, orders_by, EndsExist, parts_of, AreNodesRead, IsNodesFault};
 ghost use Rattle.daggy_json.specs.Weight.{ReadsAs};
 ghost use Rattle.daggy_json.specs.declared.error.ReadError.TheVariants.{Memory};
 ghost use Rattle.daggy_json.specs.declared.error.ReadError.{ReadError};
@@ -30,12 +30,17 @@ fn read_orders<N, E, Ix: IndexType>(
     nodes: &Vec<Option<N>>,
     edges: &Vec<Slot<E, Ix>>,
 ) -> Result<Option<Vec<Row<Ix>>>, ReadError>
-    requires ends { EndsExist nodes.now.items (map (option_map (edge_of Ix.number)) edges.now.items) }
+    requires ends { EndsExist nodes.now.items (edges_by Ix.number edges.now.items) }
     requires few { vec_len edges.now ≤ Ix.greatest }
-    ensures ok { IfOk result (λ o. IsOrdered (of_slots nodes.now.items (map (option_map (edge_of Ix.number)) edges.now.items)) (option_map (λ d. view d.now) orders.entry)
-        (Ok (ordered (of_slots nodes.now.items (map (option_map (edge_of Ix.number)) edges.now.items)) (option_map (λ v. map (numbers_of Ix.number) v.items) o)))) }
-    ensures orders { IfOk result (λ o. IfSome o (λ v. AreOrders (of_slots nodes.now.items (map (option_map (edge_of Ix.number)) edges.now.items)) (map (numbers_of Ix.number) v.items))) }
-    ensures err { IfErr result (λ e. (e ≡ Memory) ⊎ IsOrdered (of_slots nodes.now.items (map (option_map (edge_of Ix.number)) edges.now.items)) (option_map (λ d. view d.now) orders.entry) (Err e)) }
+    ensures ok { IfOk result (λ o. IsOrdered (of_slots nodes.now.items (edges_by Ix.number edges.now.items))
+        (option_map (λ d. view d.now) orders.entry)
+        (Ok (ordered (of_slots nodes.now.items (edges_by Ix.number edges.now.items)) (orders_by Ix.number o)))) }
+    ensures orders { IfOk result (λ o. IfSome o (λ v.
+        AreOrders (of_slots nodes.now.items (edges_by Ix.number edges.now.items))
+        (map (numbers_of Ix.number) v.items))) }
+    ensures err { IfErr result (λ e. (e ≡ Memory)
+        ⊎ IsOrdered (of_slots nodes.now.items (edges_by Ix.number edges.now.items))
+        (option_map (λ d. view d.now) orders.entry) (Err e)) }
 {
     let Some(value) = orders else {
         return Ok(None);
@@ -66,9 +71,11 @@ fn gather_nodes<N: Drop, Ix: IndexType, F: Fn(&Value) -> Result<Option<N>, Alloc
 ) -> Result<Vec<Option<N>>, ReadError>
     requires { F.IsAlwaysCallable fn_node.now }
     ensures ok { IfOk result (λ v. AreNodesRead Ix.greatest stable (ReadsAs F.Fn fn_node.now)
-        (parts_of parts.now.nodes.now.items parts.now.holes.items parts.now.property.now parts.now.edges.now.items parts.now.orders) v.items) }
+        (parts_of parts.now.nodes.now.items parts.now.holes.items parts.now.property.now
+        parts.now.edges.now.items parts.now.orders) v.items) }
     ensures err { IfErr result (λ e. (e ≡ Memory) ⊎ IsNodesFault Ix.greatest stable (ReadsAs F.Fn fn_node.now)
-        (parts_of parts.now.nodes.now.items parts.now.holes.items parts.now.property.now parts.now.edges.now.items parts.now.orders) e) }
+        (parts_of parts.now.nodes.now.items parts.now.holes.items parts.now.property.now
+        parts.now.edges.now.items parts.now.orders) e) }
 {
     check_layout::<Ix>(stable, parts)?;
     let weights = read_weights(alloc, parts.nodes, fn_node)?;
@@ -92,15 +99,18 @@ pub(crate) fn gather<
     requires nodes { F.IsAlwaysCallable fn_node.now }
     requires edges { G.IsAlwaysCallable fn_edge.now }
     ensures ok { IfOk result (λ s. (r : Result (Graph N E) ReadError)
-        → IsTested (ordered (of_slots s.nodes.items (map (option_map (edge_of Ix.number)) s.edges.items)) (option_map (λ v. map (numbers_of Ix.number) v.items) s.orders)) r
+        → IsTested (ordered (of_slots s.nodes.items (edges_by Ix.number s.edges.items))
+        (orders_by Ix.number s.orders)) r
         → IsRead Ix.greatest stable (ReadsAs F.Fn fn_node.now) (ReadsAs G.Fn fn_edge.now) (view value.now) r) }
     ensures few_nodes { IfOk result (λ s. length s.nodes.items ≤ Ix.greatest) }
     ensures few_edges { IfOk result (λ s. length s.edges.items ≤ Ix.greatest) }
-    ensures ends { IfOk result (λ s. EndsExist s.nodes.items (map (option_map (edge_of Ix.number)) s.edges.items)) }
+    ensures ends { IfOk result (λ s. EndsExist s.nodes.items (edges_by Ix.number s.edges.items)) }
     ensures full_nodes { IfOk result (λ s. stable ≡ false → vacant_from 0 s.nodes.items ≡ []) }
     ensures full_edges { IfOk result (λ s. stable ≡ false → vacant_from 0 s.edges.items ≡ []) }
-    ensures orders { IfOk result (λ s. IfSome s.orders (λ v. AreOrders (of_slots s.nodes.items (map (option_map (edge_of Ix.number)) s.edges.items)) (map (numbers_of Ix.number) v.items))) }
-    ensures err { IfErr result (λ e. (e ≡ Memory) ⊎ IsRead {N = N} {E = E} Ix.greatest stable (ReadsAs F.Fn fn_node.now) (ReadsAs G.Fn fn_edge.now) (view value.now) (Err e)) }
+    ensures orders { IfOk result (λ s. IfSome s.orders (λ v.
+        AreOrders (of_slots s.nodes.items (edges_by Ix.number s.edges.items)) (map (numbers_of Ix.number) v.items))) }
+    ensures err { IfErr result (λ e. (e ≡ Memory) ⊎ IsRead {N = N} {E = E} Ix.greatest stable (ReadsAs F.Fn fn_node.now)
+        (ReadsAs G.Fn fn_edge.now) (view value.now) (Err e)) }
 {
     let parts = read_parts(alloc, value)?;
     let nodes = gather_nodes::<N, Ix, F>(alloc, &parts, stable, fn_node)?;

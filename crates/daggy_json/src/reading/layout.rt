@@ -24,9 +24,11 @@ fn ascends(holes: &Vec<usize>, slots: usize) -> bool
 // Tests the property, the holes and the numbers of slots.
 pub(super) fn check_layout<Ix: IndexType>(stable: bool, parts: &Parts) -> Result<(), ReadError>
     ensures ok { OnOk result (IsLaidOut Ix.greatest stable
-        (parts_of parts.now.nodes.now.items parts.now.holes.items parts.now.property.now parts.now.edges.now.items parts.now.orders) None) }
+        (parts_of parts.now.nodes.now.items parts.now.holes.items parts.now.property.now
+        parts.now.edges.now.items parts.now.orders) None) }
     ensures err { IfErr result (λ e. IsLaidOut Ix.greatest stable
-        (parts_of parts.now.nodes.now.items parts.now.holes.items parts.now.property.now parts.now.edges.now.items parts.now.orders) (Some e)) }
+        (parts_of parts.now.nodes.now.items parts.now.holes.items parts.now.property.now
+        parts.now.edges.now.items parts.now.orders) (Some e)) }
 {
     if parts.property != "directed" {
         return Err(ReadError::Property);

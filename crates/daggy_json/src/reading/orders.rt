@@ -3,7 +3,7 @@ ghost use Rattle.std.specs.Prelude.{◌≡◌, ◌≤◌, map, IfOk};
 ghost use Rattle.std.specs.Option.{option_map};
 ghost use Rattle.serde_json.specs.View.{view};
 ghost use Rattle.daggy_base.specs.Orders.{numbers_of};
-ghost use Rattle.daggy_json.specs.Found.{index_in, indices_in, row_in, rows_in};
+ghost use Rattle.daggy_json.specs.Found.{orders_by, index_in, indices_in, row_in, rows_in};
 
 use daggy_base::index::{EdgeIndex, IndexType};
 use serde_json::Value;
@@ -79,7 +79,7 @@ pub(super) fn read_rows<Ix: IndexType>(
     bound: usize,
 ) -> Result<Option<Vec<Row<Ix>>>, AllocError>
     requires { bound ≤ Ix.greatest }
-    ensures { IfOk result (λ o. option_map (λ v. map (numbers_of Ix.number) v.items) o ≡ rows_in bound (view value.now)) }
+    ensures { IfOk result (λ o. orders_by Ix.number o ≡ rows_in bound (view value.now)) }
 {
     let Some(list) = value.as_array() else {
         return Ok(None);

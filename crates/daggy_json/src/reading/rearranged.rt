@@ -1,9 +1,8 @@
 //! Whether the orders of a document are rearrangements of the lists of its graph.
 ghost use Rattle.std.specs.Prelude.{◌≡◌, ◌≤◌, ◌↔◌, IsTrue, ℕ, length, map, vec_len, slice_index_or, false, OnOk, IfOk};
-ghost use Rattle.std.specs.Option.{option_map};
-ghost use Rattle.daggy_base.specs.FromSlots.{of_slots, has_end};
+ghost use Rattle.daggy_base.specs.FromSlots.{of_slots, has_end, edges_by};
 ghost use Rattle.daggy_base.specs.Orders.{AreOrders, numbers_of};
-ghost use Rattle.daggy_json.specs.Found.{edge_of, chosen, Marked, marked_with, AllMarked, marked_by, LeavesNone, AreRearranged, EndsExist};
+ghost use Rattle.daggy_json.specs.Found.{chosen, Marked, marked_with, AllMarked, marked_by, LeavesNone, AreRearranged, EndsExist};
 
 use crate::reading::orders::Row;
 use daggy_base::index::{Direction, EdgeIndex, IndexType, NodeIndex};
@@ -14,7 +13,7 @@ pub(crate) type Slot<E, Ix> = Option<(NodeIndex<Ix>, NodeIndex<Ix>, E)>;
 
 // Whether the slot holds an edge that has this node as its end of that direction.
 fn is_at<E, Ix: IndexType>(edges: &Vec<Slot<E, Ix>>, e: usize, n: usize, dir: Direction) -> bool
-    ensures { result ≡ has_end dir (map (option_map (edge_of Ix.number)) edges.now.items) n e }
+    ensures { result ≡ has_end dir (edges_by Ix.number edges.now.items) n e }
 {
     if e >= edges.len() {
         return false;
@@ -37,7 +36,8 @@ fn mark_list<E, Ix: IndexType>(
     marks: &mut Marks,
 ) -> bool
     requires fits { vec_len edges.now ≤ length marks.old }
-    ensures decided { IsTrue result ↔ Marked (has_end dir (map (option_map (edge_of Ix.number)) edges.now.items) n) marks.old (map Ix.number list.now.items) }
+    ensures decided { IsTrue result
+        ↔ Marked (has_end dir (edges_by Ix.number edges.now.items) n) marks.old (map Ix.number list.now.items) }
     ensures marked { IsTrue result → marks.new ≡ marked_with marks.old (map Ix.number list.now.items) }
     ensures kept { length marks.new ≡ length marks.old }
 {
@@ -61,8 +61,8 @@ fn list_of<Ix: IndexType>(row: &Row<Ix>, dir: Direction) -> &Vec<EdgeIndex<Ix>>
     }
 }
 
-// Marks the edges of all lists of one direction. False if a list has an edge that is not at its node, or one twice, or if
-// there are not as many lists as nodes.
+// Marks the edges of all lists of one direction. False if a list has an edge that is not at its node, or one twice, or
+// if there are not as many lists as nodes.
 fn mark_lists<N, E, Ix: IndexType>(
     nodes: &Vec<Option<N>>,
     edges: &Vec<Slot<E, Ix>>,
@@ -71,9 +71,11 @@ fn mark_lists<N, E, Ix: IndexType>(
     marks: &mut Marks,
 ) -> bool
     requires fits { vec_len edges.now ≤ length marks.old }
-    ensures decided { IsTrue result ↔ AllMarked (has_end dir (map (option_map (edge_of Ix.number)) edges.now.items)) 0 marks.old nodes.now.items
+    ensures decided { IsTrue result
+        ↔ AllMarked (has_end dir (edges_by Ix.number edges.now.items)) 0 marks.old nodes.now.items
         (map (chosen dir) (map (numbers_of Ix.number) rows.now.items)) }
-    ensures marked { IsTrue result → marks.new ≡ marked_by marks.old nodes.now.items (map (chosen dir) (map (numbers_of Ix.number) rows.now.items)) }
+    ensures marked { IsTrue result → marks.new
+        ≡ marked_by marks.old nodes.now.items (map (chosen dir) (map (numbers_of Ix.number) rows.now.items)) }
     ensures kept { length marks.new ≡ length marks.old }
 {
     let mut passed = 0;
@@ -93,7 +95,7 @@ fn mark_lists<N, E, Ix: IndexType>(
 // Whether each edge is marked.
 fn leaves_none<E, Ix: IndexType>(edges: &Vec<Slot<E, Ix>>, marks: &Marks) -> bool
     requires fits { vec_len edges.now ≤ length marks.now }
-    ensures { IsTrue result ↔ LeavesNone (map (option_map (edge_of Ix.number)) edges.now.items) marks.now }
+    ensures { IsTrue result ↔ LeavesNone (edges_by Ix.number edges.now.items) marks.now }
 {
     for e in 0..edges.len() {
         if edges[e].is_some() && !marks.is_marked(e) {
@@ -112,7 +114,8 @@ fn is_rearranged<N, E, Ix: IndexType>(
     marks: &mut Marks,
 ) -> bool
     requires fits { length marks.old ≡ vec_len edges.now }
-    ensures decided { IsTrue result ↔ AreRearranged dir nodes.now.items (map (option_map (edge_of Ix.number)) edges.now.items) (map (numbers_of Ix.number) rows.now.items) }
+    ensures decided { IsTrue result ↔ AreRearranged dir nodes.now.items (edges_by Ix.number edges.now.items)
+        (map (numbers_of Ix.number) rows.now.items) }
     ensures kept { length marks.new ≡ length marks.old }
 {
     marks.clear();
@@ -126,8 +129,9 @@ pub(super) fn are_orders<N, E, Ix: IndexType>(
     edges: &Vec<Slot<E, Ix>>,
     rows: &Vec<Row<Ix>>,
 ) -> Result<bool, AllocError>
-    requires { EndsExist nodes.now.items (map (option_map (edge_of Ix.number)) edges.now.items) }
-    ensures { IfOk result (λ b. IsTrue b ↔ AreOrders (of_slots nodes.now.items (map (option_map (edge_of Ix.number)) edges.now.items)) (map (numbers_of Ix.number) rows.now.items)) }
+    requires { EndsExist nodes.now.items (edges_by Ix.number edges.now.items) }
+    ensures { IfOk result (λ b. IsTrue b ↔ AreOrders (of_slots nodes.now.items (edges_by Ix.number edges.now.items))
+        (map (numbers_of Ix.number) rows.now.items)) }
 {
     let mut marks = Marks::new(alloc);
     marks.grow(edges.len())?;

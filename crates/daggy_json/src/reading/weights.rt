@@ -32,8 +32,10 @@ pub(super) fn read_weights<N: Drop, F: Fn(&Value) -> Result<Option<N>, AllocErro
     fn_node: &F,
 ) -> Result<Vec<N>, ReadError>
     requires { F.IsAlwaysCallable fn_node.now }
-    ensures ok { IfOk result (λ v. ReadsEach (IsWeight (ReadsAs F.Fn fn_node.now)) (map view list.now.items) (Ok v.items)) }
-    ensures err { IfErr result (λ e. (e ≡ Memory) ⊎ ReadsEach (IsWeight (ReadsAs F.Fn fn_node.now)) (map view list.now.items) (Err e)) }
+    ensures ok { IfOk result (λ v. ReadsEach (IsWeight (ReadsAs F.Fn fn_node.now)) (map view list.now.items)
+        (Ok v.items)) }
+    ensures err { IfErr result (λ e. (e ≡ Memory)
+        ⊎ ReadsEach (IsWeight (ReadsAs F.Fn fn_node.now)) (map view list.now.items) (Err e)) }
 {
     let mut weights = Vec::new(alloc);
     weights.reserve(list.len())?;
