@@ -1,19 +1,18 @@
--- The commands that lines say.
+-- What lines ask.
 use Rattle.std.specs.Prelude.{ℕ, nat_lt, Option, Some, None, List, [], ◌∷◌, length, codes, ℤ, if◌then◌else◌}
 use Rattle.std.specs.Option.{option_map}
 use Rattle.std.specs.Str.{bytes_eq}
+use Rattle.daggy.specs.Requests.{Request, Node, Edge, Update, Child, Parent, Edges, Find, Ends, RemoveNode, RemoveEdge, Children, Parents, ClearEdges, Clear, Reduce}
 use Rattle.dagbench_engine.specs.Cutting.{words_of}
 use Rattle.dagbench_engine.specs.Listing.{◌>>=◌, first_by, edges_by_words, indices_by_words}
 use Rattle.dagbench_engine.specs.Numbers.{index_of, weight_of}
-use Rattle.dagbench_engine.specs.declared.command.Command.{Command}
-use Rattle.dagbench_engine.specs.declared.command.Command.TheVariants.{Node, Edge, Update, Child, Parent, Edges, Find, Ends, RemoveNode, RemoveEdge, Children, Parents, ClearEdges, Clear, Reduce}
 
 -- x, if no word is left
 abbrev pub if_done : {A : Type 0} → List (List ℕ) → A → Option A
 if_done [] x = Some x
 if_done (word ∷ words) x = None
 
--- the arguments of a command, with nothing behind them
+-- what stands behind a name, with nothing behind it
 unfoldable pub weight_alone : List (List ℕ) → Option ℤ
 weight_alone words = do
   weight ← first_by weight_of words
@@ -44,29 +43,34 @@ index_and_weights words = do
   node ← first_by weight_of edge.1
   if_done node.1 (index.0, edge.0, node.0)
 
--- what is added, by its name and its arguments
-unfoldable pub adding_by_name : (name : List ℕ) → List (List ℕ) → Option Command
+-- what holds a list, by its name and by what stands behind it
+unfoldable pub listing_by_name : (name : List ℕ) → List (List ℕ) → Option (Request ℤ ℤ)
+listing_by_name name words =
+    if bytes_eq name (codes "edges") then option_map (λ edges. Edges edges) (edges_by_words words)
+    else if bytes_eq name (codes "reduce") then option_map (λ roots. Reduce roots) (indices_by_words words)
+    else None
+
+-- what is added
+unfoldable pub adding_by_name : (name : List ℕ) → List (List ℕ) → Option (Request ℤ ℤ)
 adding_by_name name words =
     if bytes_eq name (codes "node") then option_map (λ weight. Node weight) (weight_alone words)
-    else if bytes_eq name (codes "edge") then option_map (λ x. Edge x.0 x.1 x.2) (ends_and_weight words)
-    else if bytes_eq name (codes "update") then option_map (λ x. Update x.0 x.1 x.2) (ends_and_weight words)
+    else if bytes_eq name (codes "edge") then option_map (λ x. Edge x) (ends_and_weight words)
+    else if bytes_eq name (codes "update") then option_map (λ x. Update x) (ends_and_weight words)
     else if bytes_eq name (codes "child") then option_map (λ x. Child x.0 x.1 x.2) (index_and_weights words)
     else if bytes_eq name (codes "parent") then option_map (λ x. Parent x.0 x.1 x.2) (index_and_weights words)
-    else if bytes_eq name (codes "edges") then option_map (λ edges. Edges edges) (edges_by_words words)
     else None
 
 -- what is removed
-unfoldable pub removing_by_name : (name : List ℕ) → List (List ℕ) → Option Command
+unfoldable pub removing_by_name : (name : List ℕ) → List (List ℕ) → Option (Request ℤ ℤ)
 removing_by_name name words =
     if bytes_eq name (codes "rmnode") then option_map (λ n. RemoveNode n) (index_alone words)
     else if bytes_eq name (codes "rmedge") then option_map (λ e. RemoveEdge e) (index_alone words)
     else if bytes_eq name (codes "clearedges") then if_done words ClearEdges
     else if bytes_eq name (codes "clear") then if_done words Clear
-    else if bytes_eq name (codes "reduce") then option_map (λ roots. Reduce roots) (indices_by_words words)
     else None
 
 -- what is asked for
-unfoldable pub asking_by_name : (name : List ℕ) → List (List ℕ) → Option Command
+unfoldable pub asking_by_name : (name : List ℕ) → List (List ℕ) → Option (Request ℤ ℤ)
 asking_by_name name words =
     if bytes_eq name (codes "find") then option_map (λ x. Find x.0 x.1) (two_indices words)
     else if bytes_eq name (codes "ends") then option_map (λ e. Ends e) (index_alone words)
@@ -78,12 +82,22 @@ abbrev pub or_else : {A : Type 0} → Option A → Option A → Option A
 or_else None other = other
 or_else (Some x) other = Some x
 
--- a command is its name and its arguments
-abbrev pub command_by_words : List (List ℕ) → Option Command
-command_by_words [] = None
-command_by_words (name ∷ words) =
+-- what holds no list
+abbrev pub single_by_name : (name : List ℕ) → List (List ℕ) → Option (Request ℤ ℤ)
+single_by_name name words =
     or_else (adding_by_name name words) (or_else (removing_by_name name words) (asking_by_name name words))
 
--- the command that a line says. A line of more than 4,096 bytes says none
-unfoldable pub command_of : List ℕ → Option Command
-command_of line = if nat_lt 4096 (length line) then None else command_by_words (words_of line)
+-- a line is a name and what stands behind it
+abbrev pub request_by_words : List (List ℕ) → Option (Request ℤ ℤ)
+request_by_words [] = None
+request_by_words (name ∷ words) = or_else (single_by_name name words) (listing_by_name name words)
+
+-- the request that a line says. A line of more than 4,096 bytes says none
+unfoldable pub request_in : List ℕ → Option (Request ℤ ℤ)
+request_in line = if nat_lt 4096 (length line) then None else request_by_words (words_of line)
+
+-- requests that hold a list
+abbrev pub HoldsList : Request ℤ ℤ → Type 0
+HoldsList (Edges edges) = Unit {0}
+HoldsList (Reduce roots) = Unit {0}
+HoldsList other = ⊥

@@ -6,8 +6,7 @@ pub mod Streams
 pub mod Replies
 pub mod Arguments
 pub mod Endings
-pub mod Steps
-pub mod Walks
+pub mod Transcripts
 pub mod Serving
 pub mod Progress
 pub mod Ends

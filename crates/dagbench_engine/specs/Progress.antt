@@ -3,28 +3,14 @@ use Rattle.std.specs.Prelude.{◌≡◌, ℕ, List, [], ◌∷◌, ◌++◌, tak
 use Rattle.std.specs.List.{flat_map, AllByRecursion}
 use Rattle.daggy.specs.Graph.{Graph, empty}
 use Rattle.daggy.specs.Removal.{Kind}
-use Rattle.daggy.specs.Series.{NewEdge}
 use Rattle.dagbench_engine.specs.Cutting.{newline, Lacks}
-use Rattle.dagbench_engine.specs.declared.command.Command.{Command}
-use Rattle.dagbench_engine.specs.Steps.{Answer, answer_text, IsStep, IsSeriesStep, IsAnswer, IsTranscript}
+use Rattle.dagbench_engine.specs.Transcripts.{IsAnswer, IsTranscript}
 
 -- after an Ok the line was answered behind what had been written
 abbrev pub AnswersLine : {A E : Type 0} → Kind → Result A E → (line : List ℕ) → (old new : Graph ℤ ℤ) → (written_old written_new : List ℕ) → Type 0
 AnswersLine kind (Ok x) line old new written_old written_new =
     (text : List ℕ) × IsAnswer kind old line text new × (written_new ≡ written_old ++ (text ++ newline ∷ []))
 AnswersLine kind (Err e) line old new written_old written_new = Unit {0}
-
--- after an Ok the command was answered behind what had been written
-abbrev pub AnswersCommand : {A E : Type 0} → Kind → Result A E → Command → (old new : Graph ℤ ℤ) → (written_old written_new : List ℕ) → Type 0
-AnswersCommand kind (Ok x) command old new written_old written_new =
-    (answer : Answer) × IsStep kind old command answer new × (written_new ≡ written_old ++ (answer_text answer ++ newline ∷ []))
-AnswersCommand kind (Err e) command old new written_old written_new = Unit {0}
-
--- after an Ok the edges were added, or refused, and that was told behind what had been written
-abbrev pub AnswersSeries : {A E : Type 0} → Result A E → List (NewEdge ℤ) → (old new : Graph ℤ ℤ) → (written_old written_new : List ℕ) → Type 0
-AnswersSeries (Ok x) edges old new written_old written_new =
-    (answer : Answer) × IsSeriesStep old edges answer new × (written_new ≡ written_old ++ (answer_text answer ++ newline ∷ []))
-AnswersSeries (Err e) edges old new written_old written_new = Unit {0}
 
 -- a line with its newline
 abbrev pub ended : List ℕ → List ℕ

@@ -1,53 +1,57 @@
--- The texts of replies, without their newline.
-use Rattle.std.specs.Prelude.{ℕ, List, [], ◌∷◌, ◌++◌, codes, decimal, ℤ}
+-- The texts of answers, without their newline.
+use Rattle.std.specs.Prelude.{ℕ, Option, Some, None, List, [], ◌∷◌, ◌++◌, codes, decimal, ℤ}
 use Rattle.std.specs.List.{flat_map}
 use Rattle.std.specs.Fmt.{signed_decimal}
-use Rattle.dagbench_engine.specs.declared.reply.Reply.{Reply}
-use Rattle.dagbench_engine.specs.declared.reply.Reply.TheVariants.{Node, Edge, EdgeNode, Ends, Weight, Nothing, Done, Missing, Full, Cycle, Memory}
+use Rattle.daggy.specs.Answers.{Weights, OfEdges, Answer, Node, Edge, EdgeNode, Edges, Found, Ends, NodeGone, EdgeGone, Walk, Done, Missing, Full, Cycle, CycleAll, Memory}
 
-abbrev pub text_of : Reply → List ℕ
-text_of (Node n) = codes "n" ++ decimal n
-text_of (Edge e) = codes "e" ++ decimal e
-text_of (EdgeNode e n) = (codes "e" ++ decimal e) ++ codes " " ++ (codes "n" ++ decimal n)
-text_of (Ends u v) = (codes "n" ++ decimal u) ++ codes " " ++ (codes "n" ++ decimal v)
-text_of (Weight weight) = codes "weight " ++ signed_decimal weight
-text_of Nothing = codes "none"
-text_of Done = codes "ok"
-text_of Missing = codes "missing"
-text_of Full = codes "full"
-text_of (Cycle weight) = codes "cycle " ++ signed_decimal weight
-text_of Memory = codes "memory"
-
--- an edge of a walk, and the node that it leads to
-abbrev pub item_text : ℕ × ℕ → List ℕ
-item_text item = codes "e" ++ decimal item.0 ++ codes ":" ++ decimal item.1
-
--- the items of a walk, parted by spaces
-abbrev pub walk_text : List (ℕ × ℕ) → List ℕ
-walk_text [] = codes "-"
-walk_text (item ∷ items) = item_text item ++ flat_map (λ other. codes " " ++ item_text other) items
+abbrev pub node_text : ℕ → List ℕ
+node_text n = codes "n" ++ decimal n
 
 abbrev pub edge_text : ℕ → List ℕ
 edge_text e = codes "e" ++ decimal e
 
--- edges that were added, parted by spaces
-abbrev pub edges_text : List ℕ → List ℕ
-edges_text [] = codes "-"
-edges_text (e ∷ es) = edge_text e ++ flat_map (λ other. codes " " ++ edge_text other) es
+-- the ends of an edge; an edge and the node that it leads to; what had this weight
+abbrev pub ends_text : ℕ × ℕ → List ℕ
+ends_text ends = node_text ends.0 ++ codes " " ++ node_text ends.1
 
--- why edges were not added
-pub data Refusal : Type 0 where
-  MissingEnd : Refusal
-  NoIndex : Refusal
-  NoMemory : Refusal
-  ClosesCycle : Refusal
+abbrev pub item_text : ℕ × ℕ → List ℕ
+item_text item = edge_text item.0 ++ codes ":" ++ decimal item.1
 
-abbrev pub refusal_text : Refusal → List ℕ
-refusal_text MissingEnd = codes "missing"
-refusal_text NoIndex = codes "full"
-refusal_text NoMemory = codes "memory"
-refusal_text ClosesCycle = codes "cycle"
+abbrev pub weight_text : ℤ → List ℕ
+weight_text weight = codes "weight " ++ signed_decimal weight
 
--- the same, with the weights that are handed back
-abbrev pub handed_back_text : Refusal → List ℤ → List ℕ
-handed_back_text refusal weights = refusal_text refusal ++ flat_map (λ weight. codes " " ++ signed_decimal weight) weights
+-- pieces, each behind a space
+abbrev pub spaced : {A : Type 0} → (text : A → List ℕ) → List A → List ℕ
+spaced text xs = flat_map (λ x. codes " " ++ text x) xs
+
+-- pieces parted by spaces, or a dash if there is none
+abbrev pub parted : {A : Type 0} → (text : A → List ℕ) → List A → List ℕ
+parted text [] = codes "-"
+parted text (x ∷ xs) = text x ++ spaced text xs
+
+-- what there is, if there is anything
+abbrev pub if_any : {A : Type 0} → (text : A → List ℕ) → Option A → List ℕ
+if_any text None = codes "none"
+if_any text (Some x) = text x
+
+-- the weights of many edges that are handed back. Other weights are not told
+abbrev pub back_text : Weights ℤ ℤ → List ℕ
+back_text (OfEdges last before) = spaced signed_decimal (last ∷ before)
+back_text other = []
+
+abbrev pub text_of : Answer ℤ ℤ → List ℕ
+text_of (Node n) = node_text n
+text_of (Edge e) = edge_text e
+text_of (EdgeNode e n) = edge_text e ++ codes " " ++ node_text n
+text_of (Edges es) = parted edge_text es
+text_of (Found e) = if_any edge_text e
+text_of (Ends ends) = if_any ends_text ends
+text_of (NodeGone weight) = if_any weight_text weight
+text_of (EdgeGone weight) = if_any weight_text weight
+text_of (Walk items) = parted item_text items
+text_of Done = codes "ok"
+text_of (Missing weights) = codes "missing" ++ back_text weights
+text_of (Full weights) = codes "full" ++ back_text weights
+text_of (Cycle weight) = codes "cycle" ++ spaced signed_decimal (weight ∷ [])
+text_of (CycleAll weights) = codes "cycle" ++ spaced signed_decimal weights
+text_of (Memory weights) = codes "memory" ++ back_text weights

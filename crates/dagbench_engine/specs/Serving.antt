@@ -2,7 +2,7 @@
 use Rattle.std.specs.Prelude.{◌≡◌, List, ℕ, ◌++◌, ℤ}
 use Rattle.daggy.specs.Graph.{Graph, empty}
 use Rattle.daggy.specs.Removal.{Kind}
-use Rattle.dagbench_engine.specs.Steps.{IsTranscript}
+use Rattle.dagbench_engine.specs.Transcripts.{IsTranscript}
 
 -- What the source gave is an input, and what the sink took are the answers to the lines in it, from the empty graph of
 -- that kind on.

@@ -1,18 +1,15 @@
 //! The edges that a line lists.
-ghost use Rattle.std.specs.Prelude.{◌≡◌};
+ghost use Rattle.std.specs.Prelude.{◌≡◌, IfOk};
 ghost use Rattle.std.specs.Option.{option_map};
-ghost use Rattle.std.specs.Iterator.{YieldsFirst, item_count};
 ghost use Rattle.dagbench_engine.specs.Cutting.{words_of};
 ghost use Rattle.dagbench_engine.specs.Listing.{edges_by_words, first_edge_of};
 
-use crate::words::{first_index, first_weight, first_word};
-use daggy::NodeIndex;
+use crate::words::{first_index, first_weight, first_word, node};
+use daggy::run::NewEdge;
+use std::alloc::{AllocError, Global};
 use std::marker::Model;
 
-/// An edge to be added: its parent, its child and its weight.
-pub type Listed = (NodeIndex<u32>, NodeIndex<u32>, i64);
-
-/// The edges that a line lists, read from its words when they are asked for.
+/// The edges that a line lists, which are read from its words when a list of them is asked for.
 #[derive(Drop)]
 pub struct Items<'a> {
     words: &'a [u8],
@@ -41,14 +38,10 @@ fn first_edge(words: &[u8]) -> Option<((u32, u32, i64), &[u8])>
     Some(((parent, child, weight), rest))
 }
 
-fn listed(parent: u32, child: u32, weight: i64) -> Listed
+fn new_edge(parent: u32, child: u32, weight: i64) -> NewEdge<i64, u32>
     ensures { result ≡ (parent, child, weight) }
 {
-    (
-        NodeIndex::new(parent as usize),
-        NodeIndex::new(child as usize),
-        weight,
-    )
+    (node(parent), node(child), weight)
 }
 
 impl<'a> Items<'a> {
@@ -63,18 +56,17 @@ impl<'a> Items<'a> {
         }
         Some(Items { words })
     }
-}
 
-impl<'a> Iterator for Items<'a> {
-    type Item = Listed;
-
-    ghost next_gives = { YieldsFirst (λ rest. rest) };
-
-    ghost remaining = { item_count (λ rest. rest) };
-
-    fn next(&mut self) -> Option<Listed> {
-        let ((parent, child, weight), rest) = first_edge(self.words)?;
-        self.words = rest;
-        Some(listed(parent, child, weight))
+    /// The edges in a list.
+    pub fn into_edges(self, alloc: Global) -> Result<Vec<NewEdge<i64, u32>>, AllocError>
+        ensures { IfOk result (λ edges. edges.items ≡ self.entry) }
+    {
+        let mut edges = Vec::new(alloc);
+        let mut rest = self.words;
+        'edges: while let Some(((parent, child, weight), behind)) = first_edge(rest) {
+            edges.push(new_edge(parent, child, weight))?;
+            rest = behind;
+        }
+        Ok(edges)
     }
 }

@@ -4,7 +4,6 @@
 //! writer, and [`MemorySource`] and [`MemorySink`] hold their bytes.
 #![tactic(auto)]
 
-mod command;
 mod device;
 mod engine;
 mod history;
@@ -14,15 +13,13 @@ mod memory;
 mod mode;
 mod output;
 mod parse;
+mod piece;
 mod reply;
 mod roots;
-mod series;
-mod served;
 mod service;
 mod session;
 mod stop;
 mod stream;
-mod walk;
 mod words;
 
 pub use device::Device;

@@ -1,31 +1,76 @@
 //! What a line says.
-ghost use Rattle.std.specs.Prelude.{◌≡◌};
+ghost use Rattle.std.specs.Prelude.{◌≡◌, IfOk, OnErr, IsSomeAnd};
+ghost use Rattle.std.specs.Option.{option_map};
+ghost use Rattle.daggy.specs.Requests.{request_of};
 ghost use Rattle.dagbench_engine.specs.Cutting.{words_of};
-ghost use Rattle.dagbench_engine.specs.Commands.{command_of, command_by_words, adding_by_name, removing_by_name, asking_by_name, if_done as if_done_of, weight_alone as weight_alone_of, index_alone as index_alone_of, two_indices as two_indices_of, ends_and_weight as ends_and_weight_of, index_and_weights as index_and_weights_of};
+ghost use Rattle.dagbench_engine.specs.Commands.{request_in, request_by_words, HoldsList, listing_by_name, single_by_name, adding_by_name, removing_by_name, asking_by_name, if_done as if_done_of, weight_alone as weight_alone_of, index_alone as index_alone_of, two_indices as two_indices_of, ends_and_weight as ends_and_weight_of, index_and_weights as index_and_weights_of};
 
-use crate::command::Command;
 use crate::items::Items;
 use crate::roots::Roots;
-use crate::words::{first_index, first_weight, first_word};
+use crate::words::{edge, first_index, first_weight, first_word, node};
+use daggy::run::Command;
+use std::alloc::{AllocError, Global};
 
 /// The most bytes of a line that can be a command, its newline not counted.
 pub const LONGEST_LINE: usize = 4096;
 
-/// The command that a line says.
-#[tactic(auto, unfolding(crate::specs::Commands::command_of))]
-pub fn parse(line: &[u8]) -> Option<Command<'_>>
-    ensures { result ≡ command_of line.now }
+/// The command that a line says, or `None` if it says none.
+///
+/// The error says that there was no room for the list that the command holds.
+#[tactic(auto, unfolding(crate::specs::Commands::request_in))]
+pub fn parse(alloc: Global, line: &[u8]) -> Result<Option<Command<i64, i64, u32>>, AllocError>
+    ensures said { IfOk result (λ command. option_map (request_of (λ i. i)) command ≡ request_in line.now) }
+    ensures no_room { OnErr result (IsSomeAnd (request_in line.now) HoldsList) }
 {
     if LONGEST_LINE < line.len() {
-        return None;
+        return Ok(None);
     }
-    by_words(line)
+    by_words(alloc, line)
 }
 
-fn by_words(line: &[u8]) -> Option<Command<'_>>
-    ensures { result ≡ command_by_words (words_of line.now) }
+fn by_words(alloc: Global, line: &[u8]) -> Result<Option<Command<i64, i64, u32>>, AllocError>
+    ensures said { IfOk result (λ command. option_map (request_of (λ i. i)) command
+        ≡ request_by_words (words_of line.now)) }
+    ensures no_room { OnErr result (IsSomeAnd (request_by_words (words_of line.now)) HoldsList) }
 {
-    let (name, rest) = first_word(line)?;
+    let Some((name, rest)) = first_word(line) else {
+        return Ok(None);
+    };
+    let single = single(name, rest);
+    if single.is_some() {
+        return Ok(single);
+    }
+    listing(alloc, name, rest)
+}
+
+#[tactic(auto, unfolding(crate::specs::Commands::listing_by_name))]
+fn listing(
+    alloc: Global,
+    name: &[u8],
+    rest: &[u8],
+) -> Result<Option<Command<i64, i64, u32>>, AllocError>
+    ensures said { IfOk result (λ command. option_map (request_of (λ i. i)) command
+        ≡ listing_by_name name.now (words_of rest.now)) }
+    ensures no_room { OnErr result (IsSomeAnd (listing_by_name name.now (words_of rest.now)) HoldsList) }
+{
+    if name == b"edges".as_slice() {
+        let Some(items) = Items::new(rest) else {
+            return Ok(None);
+        };
+        Ok(Some(Command::Edges(items.into_edges(alloc)?)))
+    } else if name == b"reduce".as_slice() {
+        let Some(roots) = Roots::new(rest) else {
+            return Ok(None);
+        };
+        Ok(Some(Command::Reduce(roots.into_nodes(alloc)?)))
+    } else {
+        Ok(None)
+    }
+}
+
+fn single(name: &[u8], rest: &[u8]) -> Option<Command<i64, i64, u32>>
+    ensures { option_map (request_of (λ i. i)) result ≡ single_by_name name.now (words_of rest.now) }
+{
     let adding = adding(name, rest);
     if adding.is_some() {
         return adding;
@@ -38,62 +83,58 @@ fn by_words(line: &[u8]) -> Option<Command<'_>>
 }
 
 #[tactic(auto, unfolding(crate::specs::Commands::adding_by_name))]
-fn adding<'a>(name: &[u8], rest: &'a [u8]) -> Option<Command<'a>>
-    ensures { result ≡ adding_by_name name.now (words_of rest.now) }
+fn adding(name: &[u8], rest: &[u8]) -> Option<Command<i64, i64, u32>>
+    ensures { option_map (request_of (λ i. i)) result ≡ adding_by_name name.now (words_of rest.now) }
 {
     if name == b"node".as_slice() {
         Some(Command::Node(weight_alone(rest)?))
     } else if name == b"edge".as_slice() {
-        let (a, b, weight) = ends_and_weight(rest)?;
-        Some(Command::Edge(a, b, weight))
+        let (parent, child, weight) = ends_and_weight(rest)?;
+        Some(Command::Edge(node(parent), node(child), weight))
     } else if name == b"update".as_slice() {
-        let (a, b, weight) = ends_and_weight(rest)?;
-        Some(Command::Update(a, b, weight))
+        let (parent, child, weight) = ends_and_weight(rest)?;
+        Some(Command::Update(node(parent), node(child), weight))
     } else if name == b"child".as_slice() {
-        let (parent, edge, node) = index_and_weights(rest)?;
-        Some(Command::Child(parent, edge, node))
+        let (parent, edge, weight) = index_and_weights(rest)?;
+        Some(Command::Child(node(parent), edge, weight))
     } else if name == b"parent".as_slice() {
-        let (child, edge, node) = index_and_weights(rest)?;
-        Some(Command::Parent(child, edge, node))
-    } else if name == b"edges".as_slice() {
-        Some(Command::Edges(Items::new(rest)?))
+        let (child, edge, weight) = index_and_weights(rest)?;
+        Some(Command::Parent(node(child), edge, weight))
     } else {
         None
     }
 }
 
 #[tactic(auto, unfolding(crate::specs::Commands::removing_by_name))]
-fn removing<'a>(name: &[u8], rest: &'a [u8]) -> Option<Command<'a>>
-    ensures { result ≡ removing_by_name name.now (words_of rest.now) }
+fn removing(name: &[u8], rest: &[u8]) -> Option<Command<i64, i64, u32>>
+    ensures { option_map (request_of (λ i. i)) result ≡ removing_by_name name.now (words_of rest.now) }
 {
     if name == b"rmnode".as_slice() {
-        Some(Command::RemoveNode(index_alone(rest)?))
+        Some(Command::RemoveNode(node(index_alone(rest)?)))
     } else if name == b"rmedge".as_slice() {
-        Some(Command::RemoveEdge(index_alone(rest)?))
+        Some(Command::RemoveEdge(edge(index_alone(rest)?)))
     } else if name == b"clearedges".as_slice() {
         if_done(rest, Command::ClearEdges)
     } else if name == b"clear".as_slice() {
         if_done(rest, Command::Clear)
-    } else if name == b"reduce".as_slice() {
-        Some(Command::Reduce(Roots::new(rest)?))
     } else {
         None
     }
 }
 
 #[tactic(auto, unfolding(crate::specs::Commands::asking_by_name))]
-fn asking<'a>(name: &[u8], rest: &'a [u8]) -> Option<Command<'a>>
-    ensures { result ≡ asking_by_name name.now (words_of rest.now) }
+fn asking(name: &[u8], rest: &[u8]) -> Option<Command<i64, i64, u32>>
+    ensures { option_map (request_of (λ i. i)) result ≡ asking_by_name name.now (words_of rest.now) }
 {
     if name == b"find".as_slice() {
-        let (a, b) = two_indices(rest)?;
-        Some(Command::Find(a, b))
+        let (parent, child) = two_indices(rest)?;
+        Some(Command::Find(node(parent), node(child)))
     } else if name == b"ends".as_slice() {
-        Some(Command::Ends(index_alone(rest)?))
+        Some(Command::Ends(edge(index_alone(rest)?)))
     } else if name == b"children".as_slice() {
-        Some(Command::Children(index_alone(rest)?))
+        Some(Command::Children(node(index_alone(rest)?)))
     } else if name == b"parents".as_slice() {
-        Some(Command::Parents(index_alone(rest)?))
+        Some(Command::Parents(node(index_alone(rest)?)))
     } else {
         None
     }

@@ -3,12 +3,12 @@ ghost use Rattle.std.specs.Prelude.{◌≡◌, IfOk};
 ghost use Rattle.dagbench_engine.specs.Cutting.{words_of};
 ghost use Rattle.dagbench_engine.specs.Listing.{indices_by_words};
 
-use crate::words::{first_index, first_word};
+use crate::words::{first_index, first_word, node};
 use daggy::NodeIndex;
 use std::alloc::{AllocError, Global};
 use std::marker::Model;
 
-/// The nodes that a line lists, read from its words when they are asked for.
+/// The nodes that a line lists, which are read from its words when a list of them is asked for.
 #[derive(Drop)]
 pub struct Roots<'a> {
     words: &'a [u8],
@@ -46,7 +46,7 @@ impl<'a> Roots<'a> {
         let mut nodes = Vec::new(alloc);
         let mut rest = self.words;
         'roots: while let Some((n, behind)) = first_index(rest) {
-            nodes.push(NodeIndex::new(n as usize))?;
+            nodes.push(node(n))?;
             rest = behind;
         }
         Ok(nodes)

@@ -7,10 +7,11 @@ ghost use Rattle.dagbench_engine.specs.Serving.{Serves};
 ghost use Rattle.dagbench_engine.specs.Ends.{IsRun};
 
 use crate::mode::Mode;
-use crate::served::{CompactDag, Served, StableDag};
 use crate::session::Session;
 use crate::stop::Stop;
 use crate::stream::{Sink, Source};
+use daggy::run::GuardedDag;
+use daggy::{Dag, StableDag};
 use std::alloc::Global;
 
 /// How many bytes are read at once.
@@ -38,13 +39,13 @@ pub fn serve<S: Source, K: Sink>(
     ensures memory { result ≡ Err Stop.Memory → (source.new ≡ source.old) × (sink.new ≡ sink.old) }
 {
     match mode {
-        Mode::Compact => serve_with(alloc, CompactDag::new(alloc), source, sink),
+        Mode::Compact => serve_with(alloc, Dag::new(alloc), source, sink),
         Mode::Stable => serve_with(alloc, StableDag::new(alloc), source, sink),
     }
 }
 
 /// Serves this graph, which is empty.
-fn serve_with<D: Served, S: Source, K: Sink>(
+fn serve_with<D: GuardedDag<i64, i64, u32> + Drop, S: Source, K: Sink>(
     alloc: Global,
     dag: D,
     source: &mut S,
@@ -72,7 +73,7 @@ fn serve_with<D: Served, S: Source, K: Sink>(
 }
 
 /// The run of a new session, which reads block by block.
-fn run<D: Served, S: Source, K: Sink>(
+fn run<D: GuardedDag<i64, i64, u32> + Drop, S: Source, K: Sink>(
     mut session: Session<D>,
     block: &mut [u8],
     source: &mut S,

@@ -8,9 +8,9 @@ ghost use Rattle.dagbench_engine.specs.Progress.{GoesOn, IsServed};
 use crate::engine::answer;
 use crate::line::Line;
 use crate::output::Output;
-use crate::served::Served;
 use crate::stream::{Fault, Sink};
 use crate::words::split_at_byte;
+use daggy::run::GuardedDag;
 use std::alloc::{AllocError, Global};
 
 /// The graph, the line whose newline has not come, and the answers that the sink has not taken.
@@ -22,9 +22,10 @@ pub struct Session<D> {
     pub line: Line,
     /// The answers that the sink has not taken.
     pub output: Output,
+    alloc: Global,
 }
 
-impl<D: Served> Session<D> {
+impl<D: GuardedDag<i64, i64, u32> + Drop> Session<D> {
     /// Begins with this graph.
     pub fn new(alloc: Global, dag: D) -> Result<Session<D>, AllocError>
         ensures dag { IfOk result (λ session. session.dag ≡ dag) }
@@ -32,7 +33,12 @@ impl<D: Served> Session<D> {
     {
         let line = Line::new(alloc)?;
         let output = Output::new(alloc)?;
-        Ok(Session { dag, line, output })
+        Ok(Session {
+            dag,
+            line,
+            output,
+            alloc,
+        })
     }
 
     /// Answers the line that ends with this rest.
@@ -43,10 +49,16 @@ impl<D: Served> Session<D> {
         ensures counted { CountsFaults result (K.failures sink.old) (K.failures sink.new) }
     {
         if self.line.is_empty() {
-            return answer(&mut self.dag, rest, &mut self.output, sink);
+            return answer(self.alloc, &mut self.dag, rest, &mut self.output, sink);
         }
         self.line.keep(rest);
-        answer(&mut self.dag, self.line.as_slice(), &mut self.output, sink)?;
+        answer(
+            self.alloc,
+            &mut self.dag,
+            self.line.as_slice(),
+            &mut self.output,
+            sink,
+        )?;
         self.line.clear();
         Ok(())
     }
@@ -77,7 +89,13 @@ impl<D: Served> Session<D> {
         if self.line.is_empty() {
             return self.output.flush(sink);
         }
-        answer(&mut self.dag, self.line.as_slice(), &mut self.output, sink)?;
+        answer(
+            self.alloc,
+            &mut self.dag,
+            self.line.as_slice(),
+            &mut self.output,
+            sink,
+        )?;
         self.output.flush(sink)
     }
 }

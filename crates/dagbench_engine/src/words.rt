@@ -5,6 +5,7 @@ ghost use Rattle.dagbench_engine.specs.Cutting.{Lacks, words_of};
 ghost use Rattle.dagbench_engine.specs.Numbers.{number_of, index_of, weight_of};
 ghost use Rattle.dagbench_engine.specs.Listing.{first_by};
 
+use daggy::{EdgeIndex, NodeIndex};
 use memchr::memchr;
 
 /// What stands before the first separator, and what stands behind it.
@@ -92,6 +93,20 @@ fn weight(word: &[u8]) -> Option<i64>
     } else {
         i64::try_from(number(word, 19)?).ok()
     }
+}
+
+/// The node of this index.
+pub fn node(index: u32) -> NodeIndex<u32>
+    ensures { result ≡ index }
+{
+    NodeIndex::new(index as usize)
+}
+
+/// The edge of this index.
+pub fn edge(index: u32) -> EdgeIndex<u32>
+    ensures { result ≡ index }
+{
+    EdgeIndex::new(index as usize)
 }
 
 /// The index at the front of a line's words, and the rest of the line.

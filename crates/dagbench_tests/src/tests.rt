@@ -4,5 +4,6 @@
 mod devices;
 mod endings;
 mod random;
+mod refusals;
 mod runs;
 mod support;

@@ -8,10 +8,11 @@ use std::io::{ErrorKind, Read, Write};
 use std::process::Abort;
 use std::test::Fail;
 
-/// Gives a line a read. Its call behind so many ones is an error, and it goes on behind that.
+/// Gives so many bytes a read. Its call behind so many ones is an error, and it goes on behind that.
 #[derive(Drop)]
 struct Reader<'a> {
     rest: &'a [u8],
+    most: usize,
     passes: u32,
     error: ErrorKind,
 }
@@ -23,7 +24,7 @@ impl<'a> Read for Reader<'a> {
             return Err(io::Error::from(self.error));
         }
         self.passes -= 1;
-        let count = buffer.len().min(7);
+        let count = buffer.len().min(self.most);
         self.rest.read(&mut buffer[..count])
     }
 }
@@ -78,6 +79,50 @@ const READS: [(u32, Result<(), Stop>, &'static str); 4] = [
     (3, Ok(()), "n0\nn1\n"),
 ];
 
+/// A run over such a reader.
+fn read(
+    rt: &impl Abort,
+    alloc: Global,
+    most: usize,
+    passes: u32,
+    error: ErrorKind,
+    outcome: Result<(), Stop>,
+    wanted: &[u8],
+) {
+    let rest = LINES.as_bytes();
+    let mut source = Device::new(Reader {
+        rest,
+        most,
+        passes,
+        error,
+    });
+    let mut taken = Vec::new(alloc);
+    let mut sink = Device::new(&mut taken);
+    let found = serve(alloc, Mode::Compact, &mut source, &mut sink);
+    ended(rt, found, outcome);
+    drop(sink);
+    same(rt, taken.as_slice(), wanted);
+}
+
+#[test]
+fn a_reader_may_give_one_byte_at_a_time(rt: HostRuntime) {
+    for (passes, outcome, wanted) in [
+        (u32::MAX, Ok(()), "n0\nn1\n"),
+        (13, Err(Stop::Read), "n0\n"),
+    ] {
+        let error = ErrorKind::UnexpectedEof;
+        read(
+            &rt,
+            rt.alloc(),
+            1,
+            passes,
+            error,
+            outcome,
+            wanted.as_bytes(),
+        );
+    }
+}
+
 #[test]
 fn each_error_of_a_reader_is_a_fault(rt: HostRuntime) -> Result<(), Fail> {
     for error in [
@@ -86,18 +131,17 @@ fn each_error_of_a_reader_is_a_fault(rt: HostRuntime) -> Result<(), Fail> {
         ErrorKind::WouldBlock,
     ] {
         for (passes, outcome, wanted) in READS {
-            let rest = LINES.as_bytes();
-            let mut source = Device::new(Reader {
-                rest,
+            // A line a read.
+            let most = 7;
+            read(
+                &rt,
+                rt.alloc(),
+                most,
                 passes,
                 error,
-            });
-            let mut taken = Vec::new(rt.alloc());
-            let mut sink = Device::new(&mut taken);
-            let found = serve(rt.alloc(), Mode::Compact, &mut source, &mut sink);
-            ended(&rt, found, outcome);
-            drop(sink);
-            same(&rt, taken.as_slice(), wanted.as_bytes());
+                outcome,
+                wanted.as_bytes(),
+            );
         }
     }
     Ok(())

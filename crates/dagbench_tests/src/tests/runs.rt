@@ -6,7 +6,7 @@ use std::test::Fail;
 
 /// Inputs and what is written for them, whatever the kind is: refusals, many edges at once, the
 /// greatest and the longest numbers, words, and what is no line.
-const OF_BOTH_KINDS: [(&'static str, &'static str); 8] = [
+const OF_BOTH_KINDS: [(&'static str, &'static str); 9] = [
     (
         "node 1\nnode 2\nedge 0 1 7\nedge 1 0 5\nchildren 0\n",
         "n0\nn1\ne0\ncycle 5\ne0:1\n",
@@ -40,6 +40,13 @@ const OF_BOTH_KINDS: [(&'static str, &'static str); 8] = [
          edge 0 1 7 8\nNode 1\nnodes 1\n    ",
         "n0\nn1\ne0\nweight -7\nbad line\nbad line\nbad line\nbad line\nbad line\nbad line\n\
          bad line\n",
+    ),
+    (
+        "\nnode\nnode 1 2\nnode +1\nNODE 1\nnode 1\r\nnode\t1\nnode 9223372036854775808\n  node   1  \n\
+         node -0\nnode -9223372036854775808\nedge 00 01 5\nedge 0 4294967295 1\n\
+         edge 0 4294967296 1\nchildren 00000000000\nedges 0 1\nedges\n",
+        "bad line\nbad line\nbad line\nbad line\nbad line\nbad line\nbad line\nbad line\n\
+         n0\nn1\nn2\ne0\nmissing\nbad line\nbad line\nbad line\n-\n",
     ),
     ("", ""),
     ("\n  \nnode 1\n  ", "bad line\nbad line\nn0\nbad line\n"),
@@ -87,6 +94,14 @@ fn lines_are_answered(rt: HostRuntime) -> Result<(), Fail> {
     for (mode, input, wanted) in OF_ONE_KIND {
         served(&rt, rt.alloc(), mode, input.as_bytes(), wanted.as_bytes())?;
     }
+    Ok(())
+}
+
+#[test]
+fn a_line_may_hold_any_byte(rt: HostRuntime) -> Result<(), Fail> {
+    let input = b"\xff\nnode 1\xff\nnode\x00 1\nnode 1\n";
+    let wanted = "bad line\nbad line\nbad line\nn0\n".as_bytes();
+    served(&rt, rt.alloc(), Mode::Stable, input, wanted)?;
     Ok(())
 }
 

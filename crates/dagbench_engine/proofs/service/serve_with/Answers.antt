@@ -30,7 +30,7 @@ pub run-requires-clause-room : goal.run-requires-clause-room
 run-requires-clause-room g c = omega (arith, c.in-Ok.ensures.len, c.as_mut_slice.ensures.len)
 
 pub run-requires-clause-graph : goal.run-requires-clause-graph
-run-requires-clause-graph g c = ap g.D.Served.graph c.in-Ok-new.ensures.dag ∙ c.requires
+run-requires-clause-graph g c = ap g.D.GuardedDag.graph c.in-Ok-new.ensures.dag ∙ c.requires
 
 pub run-requires-clause-nothing : goal.run-requires-clause-nothing
 run-requires-clause-nothing g c = c.in-Ok-new.ensures.nothing
