@@ -1,17 +1,18 @@
 -- Answers to lines that are not carried out.
-use Rattle.std.proofs.Common.{◌≡◌, ℕ, ℤ, List, [], ◌∷◌, ◌++◌, codes, Option, Some, None, Result, Ok, Err, refl, subst, inr}
+use Rattle.std.proofs.Common.{◌≡◌, ℕ, ℤ, List, [], ◌∷◌, ◌++◌, codes, Option, Some, None, Result, Ok, Err, refl, subst, inl, inr}
 use Rattle.std.specs.Option.{MatchOption, IsSomeAnd}
+use Rattle.std.specs.Result.{OnOk}
 use Rattle.daggy.specs.Graph.{Graph}
 use Rattle.daggy.specs.Removal.{Kind}
-use Rattle.daggy.specs.Requests.{Request}
-use Rattle.dagbench_engine.specs.Commands.{request_in, HoldsList}
+use Rattle.dagbench_engine.specs.Commands.{Asked, Document, asked_in, TakesRoom}
+use Rattle.dagbench_engine.specs.Documents.{TellsDocument}
 use Rattle.dagbench_engine.specs.Streams.{Appends}
 use Rattle.dagbench_engine.specs.Transcripts.{IsAnswered}
 use Rattle.dagbench_engine.specs.Progress.{AnswersLine}
 
 module _ (kind : Kind) (line : List ℕ) (g : Graph ℤ ℤ) (before now : List ℕ) where
-  -- one that says no request
-  pub none_answered : {A E : Type 0} (r : Result A E) → None ≡ request_in line → Appends r before now (codes "bad line" ++ 10 ∷ []) → AnswersLine kind r line g g before now
+  -- one that asks nothing
+  pub none_answered : {A E : Type 0} (r : Result A E) → None ≡ asked_in line → Appends r before now (codes "bad line" ++ 10 ∷ []) → AnswersLine kind r line g g before now
   none_answered (Err e) says appended = tt
   none_answered (Ok x) says appended = (
     codes "bad line",
@@ -19,11 +20,25 @@ module _ (kind : Kind) (line : List ℕ) (g : Graph ℤ ℤ) (before now : List 
     appended,
   )
 
-  no_room : (o : Option (Request ℤ ℤ)) → IsSomeAnd o HoldsList → MatchOption o ((codes "memory" ≡ codes "bad line") × (g ≡ g)) (λ asked. IsAnswered kind g asked (codes "memory") g)
+  no_room : (o : Option Asked) → IsSomeAnd o TakesRoom → MatchOption o ((codes "memory" ≡ codes "bad line") × (g ≡ g)) (λ asked. IsAnswered kind g asked (codes "memory") g)
   no_room None holds = absurd holds
   no_room (Some asked) holds = inr (holds, refl, refl)
 
   -- one whose list finds no room
-  pub no_room_answered : {A E : Type 0} (r : Result A E) → IsSomeAnd (request_in line) HoldsList → Appends r before now (codes "memory" ++ 10 ∷ []) → AnswersLine kind r line g g before now
+  pub no_room_answered : {A E : Type 0} (r : Result A E) → IsSomeAnd (asked_in line) TakesRoom → Appends r before now (codes "memory" ++ 10 ∷ []) → AnswersLine kind r line g g before now
   no_room_answered (Err e) holds appended = tt
-  no_room_answered (Ok x) holds appended = (codes "memory", no_room (request_in line) holds, appended)
+  no_room_answered (Ok x) holds appended = (codes "memory", no_room (asked_in line) holds, appended)
+
+  told : (text : List ℕ) → TellsDocument g text → IsAnswered kind g Document text g
+  told text (inl is) = inl (is, refl)
+  told text (inr none) = inr (tt, none, refl)
+
+  -- one that asks for the document
+  pub document_answered : {A E : Type 0} (r : Result A E) → Some Document ≡ asked_in line
+      → OnOk r ((text : List ℕ) × TellsDocument g text × (now ≡ before ++ (text ++ 10 ∷ []))) → AnswersLine kind r line g g before now
+  document_answered (Err e) says appended = tt
+  document_answered (Ok x) says appended = (
+    appended.0,
+    subst (λ o. MatchOption o ((appended.0 ≡ codes "bad line") × (g ≡ g)) (λ asked. IsAnswered kind g asked appended.0 g)) says (told appended.0 appended.1),
+    appended.2,
+  )

@@ -5,7 +5,9 @@ pub mod Runs
 pub mod Listed
 pub mod Serving
 pub mod Writing
-mod Walks
+mod Units
 pub mod ListedRoots
 pub mod Parsing
 pub mod Answering
+pub mod NoFloats
+pub mod Documents

@@ -8,7 +8,7 @@ use Rattle.std.specs.Result.{OnOk}
 use Rattle.daggy.specs.Graph.{Graph, empty}
 use Rattle.daggy.specs.Removal.{Kind}
 use Rattle.dagbench_engine.specs.Cutting.{Lacks, newline, lines_of, ended_lines_of, words_of}
-use Rattle.dagbench_engine.specs.Commands.{request_in, request_by_words}
+use Rattle.dagbench_engine.specs.Commands.{asked_in, asked_by_words}
 use Rattle.dagbench_engine.specs.Streams.{Appends}
 use Rattle.dagbench_engine.specs.Transcripts.{IsAnswered, IsAnswer, IsTranscript}
 use Rattle.dagbench_engine.specs.Serving.{Serves}
@@ -66,21 +66,21 @@ nothing_kept n (x ∷ xs) is = absurd (cc)
 something_kept : (n : ℕ) (xs : List ℕ) → 0 < length (take n xs) → 0 < length xs
 something_kept n xs some = omega (arith, length-take n xs)
 
--- a line that is too long says no request
-says_none : (line : List ℕ) → 4096 < length line → request_in line ≡ None
-unfolding request_in
-says_none line long = cond-true (nat_lt 4096 (length line)) None (request_by_words (words_of line)) (lt-ltb 4096 (length line) long)
+-- a line that is too long asks nothing
+says_none : (line : List ℕ) → 4096 < length line → asked_in line ≡ None
+unfolding asked_in
+says_none line long = cond-true (nat_lt 4096 (length line)) None (asked_by_words (words_of line)) (lt-ltb 4096 (length line) long)
 
--- what is kept of a line tells what the line says
-kept_says : (line : List ℕ) → request_in (take 4097 line) ≡ request_in line
+-- what is kept of a line tells what the line asks
+kept_says : (line : List ℕ) → asked_in (take 4097 line) ≡ asked_in line
 kept_says line =
     elim (cases_lt 4096 (length line)) [
       | inl long ↦ says_none (take 4097 line) (omega (arith, length-take 4097 line)) ∙ sym (says_none line long)
-      | inr short ↦ ap request_in (take_all 4097 line (omega arith))
+      | inr short ↦ ap asked_in (take_all 4097 line (omega arith))
     ]
 
--- the answer depends on what the line says
-says_same : (kind : Kind) (old new : Graph ℤ ℤ) (a b text : List ℕ) → request_in a ≡ request_in b → IsAnswer kind old a text new → IsAnswer kind old b text new
+-- the answer depends on what the line asks
+says_same : (kind : Kind) (old new : Graph ℤ ℤ) (a b text : List ℕ) → asked_in a ≡ asked_in b → IsAnswer kind old a text new → IsAnswer kind old b text new
 says_same kind old new a b text same is =
     subst (λ o. MatchOption o ((text ≡ codes "bad line") × (new ≡ old)) (λ asked. IsAnswered kind old asked text new)) same is
 
@@ -121,11 +121,11 @@ module _ (kind : Kind) (given_old given written_old written : List ℕ) (graph :
         kept_is = is ∙ (ap (λ k. take 4097 (k ++ rest)) s.kept_is ∙ take_in 4097 s.front rest);
       }
 
-  pub ends_line : (rest answered : List ℕ) (new : Graph ℤ ℤ) (now : List ℕ) → Lacks newline rest → request_in answered ≡ request_in (take 4097 (kept ++ rest))
+  pub ends_line : (rest answered : List ℕ) (new : Graph ℤ ℤ) (now : List ℕ) → Lacks newline rest → asked_in answered ≡ asked_in (take 4097 (kept ++ rest))
       → AnswersLine {A = Unit {0}} {E = Unit {0}} kind (Ok tt) answered graph new written now → IsServed kind given_old (given ++ (rest ++ newline ∷ [])) written_old now new []
   ends_line rest answered new now lacks says answer =
       let line = s.front ++ rest in
-      let same : request_in answered ≡ request_in line = says ∙ (ap request_in (ap (λ k. take 4097 (k ++ rest)) s.kept_is ∙ take_in 4097 s.front rest) ∙ kept_says line) in
+      let same : asked_in answered ≡ asked_in line = says ∙ (ap asked_in (ap (λ k. take 4097 (k ++ rest)) s.kept_is ∙ take_in 4097 s.front rest) ∙ kept_says line) in
       record {
         lines = s.lines ++ line ∷ [];
         front = [];
@@ -161,7 +161,7 @@ module _ (kind : Kind) (given_old given written_old written : List ℕ) (graph :
   ends_unended new now taken some answer is =
       let last : lines_of s.front ≡ s.front ∷ [] = last_line s.front (something_kept 4097 s.front (subst (λ k. 0 < length k) s.kept_is some)) s.unended in
       let lines : lines_of (flat_map ended s.lines ++ s.front) ≡ s.lines ++ s.front ∷ [] = lines_behind s.lines s.front s.whole ∙ ap (λ ls. s.lines ++ ls) last in
-      let same : request_in kept ≡ request_in s.front = ap request_in s.kept_is ∙ kept_says s.front in
+      let same : asked_in kept ≡ asked_in s.front = ap asked_in s.kept_is ∙ kept_says s.front in
       record {
         input = flat_map ended s.lines ++ s.front;
         output = s.text ++ (answer.0 ++ newline ∷ []);
@@ -200,13 +200,13 @@ pub at_once : {A E : Type 0} (kind : Kind) (r : Result A E) (rest written now : 
 at_once kind (Err e) rest written now graph new kept none answer = tt
 at_once kind (Ok x) rest written now graph new kept none answer = λ lacks given_old given written_old so_far.
     subst (IsServed kind given_old (given ++ (rest ++ newline ∷ [])) written_old now new) (sym none)
-    (ends_line kind given_old given written_old written graph kept so_far rest rest new now lacks (sym (kept_says rest) ∙ ap (λ k. request_in (take 4097 (k ++ rest))) (sym none)) answer)
+    (ends_line kind given_old given written_old written graph kept so_far rest rest new now lacks (sym (kept_says rest) ∙ ap (λ k. asked_in (take 4097 (k ++ rest))) (sym none)) answer)
 
 pub at_last : (kind : Kind) (rest answered written now : List ℕ) (graph new : Graph ℤ ℤ) (kept kept_new : List ℕ) → answered ≡ take 4097 (kept ++ rest) → kept_new ≡ []
     → AnswersLine {A = Unit {0}} {E = Unit {0}} kind (Ok tt) answered graph new written now → Lacks newline rest → GoesOn kind (rest ++ newline ∷ []) written now graph new kept kept_new
 at_last kind rest answered written now graph new kept kept_new is none answer lacks given_old given written_old so_far =
     subst (IsServed kind given_old (given ++ (rest ++ newline ∷ [])) written_old now new) (sym none)
-    (ends_line kind given_old given written_old written graph kept so_far rest answered new now lacks (ap request_in is) answer)
+    (ends_line kind given_old given written_old written graph kept so_far rest answered new now lacks (ap asked_in is) answer)
 
 -- of a block a part has been passed
 abbrev pub Passed : (kind : Kind) (block rest written_before written : List ℕ) (graph_before graph : Graph ℤ ℤ) (kept_before kept : List ℕ) → Type 0

@@ -6,6 +6,8 @@ pub mod Streams
 pub mod Replies
 pub mod Arguments
 pub mod Endings
+pub mod Documents
+pub mod Saying
 pub mod Transcripts
 pub mod Serving
 pub mod Progress

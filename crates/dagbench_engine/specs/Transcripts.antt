@@ -2,26 +2,31 @@
 use Rattle.std.specs.Prelude.{◌≡◌, ℕ, ◌⊎◌, List, [], ◌∷◌, ◌++◌, MatchOption, codes, ℤ}
 use Rattle.daggy.specs.Graph.{Graph}
 use Rattle.daggy.specs.Removal.{Kind}
-use Rattle.daggy.specs.Requests.{Request}
 use Rattle.daggy.specs.Answers.{Answer}
 use Rattle.daggy.specs.Steps.{IsStep}
-use Rattle.dagbench_engine.specs.Commands.{request_in, HoldsList}
+use Rattle.dagbench_engine.specs.Commands.{Asked, Step, Document, asked_in, TakesRoom}
 use Rattle.dagbench_engine.specs.Cutting.{newline}
+use Rattle.dagbench_engine.specs.Documents.{IsDocumentText}
 use Rattle.dagbench_engine.specs.Replies.{text_of}
 
 -- how many nodes there can be, and how many edges
 abbrev pub index_count : ℕ
 index_count = 4294967295
 
--- The text of a step from one graph to the next. Where there is no room for the list that a request holds, there is none.
-abbrev pub IsAnswered : Kind → Graph ℤ ℤ → Request ℤ ℤ → (text : List ℕ) → Graph ℤ ℤ → Type 0
-IsAnswered kind old asked text new =
-    ((answer : Answer ℤ ℤ) × IsStep kind index_count old asked answer new × (text ≡ text_of answer))
-    ⊎ (HoldsList asked × (text ≡ codes "memory") × (new ≡ old))
+-- the text of a step from one graph to the next, or of the document of a graph that stays as it is
+abbrev pub IsCarriedOut : Kind → Graph ℤ ℤ → Asked → (text : List ℕ) → Graph ℤ ℤ → Type 0
+IsCarriedOut kind old (Step request) text new =
+    (answer : Answer ℤ ℤ) × IsStep kind index_count old request answer new × (text ≡ text_of answer)
+IsCarriedOut kind old Document text new = IsDocumentText old text × (new ≡ old)
 
--- what a line may be answered: if it says no request, that it is bad
+-- what is asked is carried out, or there was no room for it
+abbrev pub IsAnswered : Kind → Graph ℤ ℤ → Asked → (text : List ℕ) → Graph ℤ ℤ → Type 0
+IsAnswered kind old asked text new =
+    IsCarriedOut kind old asked text new ⊎ (TakesRoom asked × (text ≡ codes "memory") × (new ≡ old))
+
+-- what a line may be answered: if it asks nothing, that it is bad
 abbrev pub IsAnswer : Kind → Graph ℤ ℤ → (line text : List ℕ) → Graph ℤ ℤ → Type 0
-IsAnswer kind old line text new = MatchOption (request_in line)
+IsAnswer kind old line text new = MatchOption (asked_in line)
     ((text ≡ codes "bad line") × (new ≡ old))
     (λ asked. IsAnswered kind old asked text new)
 

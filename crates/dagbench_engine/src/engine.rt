@@ -3,16 +3,17 @@ ghost use Rattle.std.specs.Prelude.{◌≡◌, ◌++◌};
 ghost use Rattle.dagbench_engine.specs.Streams.{CountsFaults};
 ghost use Rattle.dagbench_engine.specs.Progress.{AnswersLine};
 
+use crate::document::{Documented, put_document};
 use crate::output::Output;
-use crate::parse::parse;
+use crate::parse::{Asked, parse};
 use crate::reply::put_reply;
 use crate::stream::{Fault, Sink};
-use daggy::run::{GuardedDag, perform};
+use daggy::run::perform;
 use std::alloc::Global;
 
 /// Answers a line. It takes no memory but what its command asks for: what the graph grows by, the
-/// list that the line holds, and those of the reply to it.
-pub fn answer<D: GuardedDag<i64, i64, u32>, K: Sink>(
+/// list that the line holds, those of the reply to it, and a document with its text.
+pub fn answer<D: Documented, K: Sink>(
     alloc: Global,
     dag: &mut D,
     line: &[u8],
@@ -24,10 +25,11 @@ pub fn answer<D: GuardedDag<i64, i64, u32>, K: Sink>(
     ensures counted { CountsFaults result (K.failures sink.old) (K.failures sink.new) }
 {
     match parse(alloc, line) {
-        Ok(Some(command)) => {
+        Ok(Some(Asked::Command(command))) => {
             let reply = perform(dag, command);
             put_reply(reply, output, sink)
         }
+        Ok(Some(Asked::Document)) => put_document(alloc, dag, output, sink),
         Ok(None) => output.put(sink, b"bad line\n"),
         Err(_) => output.put(sink, b"memory\n"),
     }

@@ -5,6 +5,7 @@
 #![tactic(auto)]
 
 mod device;
+mod document;
 mod engine;
 mod history;
 mod items;

@@ -3,7 +3,8 @@ ghost use Rattle.std.specs.Prelude.{◌≡◌, IfOk, OnErr, IsSomeAnd};
 ghost use Rattle.std.specs.Option.{option_map};
 ghost use Rattle.daggy.specs.Requests.{request_of};
 ghost use Rattle.dagbench_engine.specs.Cutting.{words_of};
-ghost use Rattle.dagbench_engine.specs.Commands.{request_in, request_by_words, HoldsList, listing_by_name, single_by_name, adding_by_name, removing_by_name, asking_by_name, if_done as if_done_of, weight_alone as weight_alone_of, index_alone as index_alone_of, two_indices as two_indices_of, ends_and_weight as ends_and_weight_of, index_and_weights as index_and_weights_of};
+ghost use Rattle.dagbench_engine.specs.Saying.{asked_of};
+ghost use Rattle.dagbench_engine.specs.Commands.{asked_in, asked_by_words, document_by_name, Step, TakesRoom, listing_by_name, single_by_name, adding_by_name, removing_by_name, asking_by_name, if_done as if_done_of, weight_alone as weight_alone_of, index_alone as index_alone_of, two_indices as two_indices_of, ends_and_weight as ends_and_weight_of, index_and_weights as index_and_weights_of};
 
 use crate::items::Items;
 use crate::roots::Roots;
@@ -14,13 +15,22 @@ use std::alloc::{AllocError, Global};
 /// The most bytes of a line that can be a command, its newline not counted.
 pub const LONGEST_LINE: usize = 4096;
 
-/// The command that a line says, or `None` if it says none.
+/// What a line asks.
+#[derive(Drop)]
+pub enum Asked {
+    /// That a command is carried out.
+    Command(Command<i64, i64, u32>),
+    /// The document of the dag.
+    Document,
+}
+
+/// What a line asks, or `None` if it asks nothing.
 ///
-/// The error says that there was no room for the list that the command holds.
-#[tactic(auto, unfolding(crate::specs::Commands::request_in))]
-pub fn parse(alloc: Global, line: &[u8]) -> Result<Option<Command<i64, i64, u32>>, AllocError>
-    ensures said { IfOk result (λ command. option_map (request_of (λ i. i)) command ≡ request_in line.now) }
-    ensures no_room { OnErr result (IsSomeAnd (request_in line.now) HoldsList) }
+/// The error says that there was no room for the list that a command holds.
+#[tactic(auto, unfolding(crate::specs::Commands::asked_in))]
+pub fn parse(alloc: Global, line: &[u8]) -> Result<Option<Asked>, AllocError>
+    ensures asked { IfOk result (λ asked. option_map asked_of asked ≡ asked_in line.now) }
+    ensures no_room { OnErr result (IsSomeAnd (asked_in line.now) TakesRoom) }
 {
     if LONGEST_LINE < line.len() {
         return Ok(None);
@@ -28,19 +38,30 @@ pub fn parse(alloc: Global, line: &[u8]) -> Result<Option<Command<i64, i64, u32>
     by_words(alloc, line)
 }
 
-fn by_words(alloc: Global, line: &[u8]) -> Result<Option<Command<i64, i64, u32>>, AllocError>
-    ensures said { IfOk result (λ command. option_map (request_of (λ i. i)) command
-        ≡ request_by_words (words_of line.now)) }
-    ensures no_room { OnErr result (IsSomeAnd (request_by_words (words_of line.now)) HoldsList) }
+fn by_words(alloc: Global, line: &[u8]) -> Result<Option<Asked>, AllocError>
+    ensures asked { IfOk result (λ asked. option_map asked_of asked ≡ asked_by_words (words_of line.now)) }
+    ensures no_room { OnErr result (IsSomeAnd (asked_by_words (words_of line.now)) TakesRoom) }
 {
     let Some((name, rest)) = first_word(line) else {
         return Ok(None);
     };
-    let single = single(name, rest);
-    if single.is_some() {
-        return Ok(single);
+    if let Some(command) = single(name, rest) {
+        return Ok(Some(Asked::Command(command)));
     }
-    listing(alloc, name, rest)
+    match listing(alloc, name, rest)? {
+        Some(command) => Ok(Some(Asked::Command(command))),
+        None => Ok(document(name, rest)),
+    }
+}
+
+fn document(name: &[u8], rest: &[u8]) -> Option<Asked>
+    ensures { option_map asked_of result ≡ document_by_name name.now (words_of rest.now) }
+{
+    if name == b"json".as_slice() {
+        if_done(rest, Asked::Document)
+    } else {
+        None
+    }
 }
 
 #[tactic(auto, unfolding(crate::specs::Commands::listing_by_name))]
@@ -51,7 +72,7 @@ fn listing(
 ) -> Result<Option<Command<i64, i64, u32>>, AllocError>
     ensures said { IfOk result (λ command. option_map (request_of (λ i. i)) command
         ≡ listing_by_name name.now (words_of rest.now)) }
-    ensures no_room { OnErr result (IsSomeAnd (listing_by_name name.now (words_of rest.now)) HoldsList) }
+    ensures no_room { OnErr result (IsSomeAnd (listing_by_name name.now (words_of rest.now)) (λ request. TakesRoom (Step request))) }
 {
     if name == b"edges".as_slice() {
         let Some(items) = Items::new(rest) else {

@@ -6,11 +6,11 @@ ghost use Rattle.dagbench_engine.specs.Cutting.{lines_of, ended_lines_of};
 ghost use Rattle.dagbench_engine.specs.Serving.{Serves};
 ghost use Rattle.dagbench_engine.specs.Ends.{IsRun};
 
+use crate::document::Documented;
 use crate::mode::Mode;
 use crate::session::Session;
 use crate::stop::Stop;
 use crate::stream::{Sink, Source};
-use daggy::run::GuardedDag;
 use daggy::{Dag, StableDag};
 use std::alloc::Global;
 
@@ -45,7 +45,7 @@ pub fn serve<S: Source, K: Sink>(
 }
 
 /// Serves this graph, which is empty.
-fn serve_with<D: GuardedDag<i64, i64, u32> + Drop, S: Source, K: Sink>(
+fn serve_with<D: Documented, S: Source, K: Sink>(
     alloc: Global,
     dag: D,
     source: &mut S,
@@ -73,7 +73,7 @@ fn serve_with<D: GuardedDag<i64, i64, u32> + Drop, S: Source, K: Sink>(
 }
 
 /// The run of a new session, which reads block by block.
-fn run<D: GuardedDag<i64, i64, u32> + Drop, S: Source, K: Sink>(
+fn run<D: Documented, S: Source, K: Sink>(
     mut session: Session<D>,
     block: &mut [u8],
     source: &mut S,

@@ -5,12 +5,12 @@ ghost use Rattle.dagbench_engine.specs.Streams.{CountsFaults};
 ghost use Rattle.dagbench_engine.specs.Serving.{Serves};
 ghost use Rattle.dagbench_engine.specs.Progress.{GoesOn, IsServed};
 
+use crate::document::Documented;
 use crate::engine::answer;
 use crate::line::Line;
 use crate::output::Output;
 use crate::stream::{Fault, Sink};
 use crate::words::split_at_byte;
-use daggy::run::GuardedDag;
 use std::alloc::{AllocError, Global};
 
 /// The graph, the line whose newline has not come, and the answers that the sink has not taken.
@@ -25,7 +25,7 @@ pub struct Session<D> {
     alloc: Global,
 }
 
-impl<D: GuardedDag<i64, i64, u32> + Drop> Session<D> {
+impl<D: Documented> Session<D> {
     /// Begins with this graph.
     pub fn new(alloc: Global, dag: D) -> Result<Session<D>, AllocError>
         ensures dag { IfOk result (λ session. session.dag ≡ dag) }

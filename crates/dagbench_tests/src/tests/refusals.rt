@@ -20,7 +20,12 @@ const SCRIPT: [(&'static str, &'static str); 17] = [
     ("children 0", "e2:1 e0:2"),
     ("parents 2", "e4:3 e3:1 e0:0"),
     ("reduce 3", "ok"),
-    ("json", "bad line"),
+    (
+        "json",
+        "{\"edge_property\":\"directed\",\"edges\":[[0,2,5],[3,1,6],[0,1,8],[1,2,9]],\
+         \"node_holes\":[],\"nodes\":[1,2,3,4],\
+         \"orders\":[[[2,0],[]],[[3],[2,1]],[[],[3,0]],[[1],[]]]}",
+    ),
     ("rmedge 0", "weight 5"),
     ("rmnode 1", "weight 2"),
     ("clearedges", "ok"),

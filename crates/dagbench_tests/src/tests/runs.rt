@@ -6,7 +6,7 @@ use std::test::Fail;
 
 /// Inputs and what is written for them, whatever the kind is: refusals, many edges at once, the
 /// greatest and the longest numbers, words, and what is no line.
-const OF_BOTH_KINDS: [(&'static str, &'static str); 9] = [
+const OF_BOTH_KINDS: [(&'static str, &'static str); 10] = [
     (
         "node 1\nnode 2\nedge 0 1 7\nedge 1 0 5\nchildren 0\n",
         "n0\nn1\ne0\ncycle 5\ne0:1\n",
@@ -48,12 +48,27 @@ const OF_BOTH_KINDS: [(&'static str, &'static str); 9] = [
         "bad line\nbad line\nbad line\nbad line\nbad line\nbad line\nbad line\nbad line\n\
          n0\nn1\nn2\ne0\nmissing\nbad line\nbad line\nbad line\n-\n",
     ),
+    (
+        " json \njson 1\nnode -9223372036854775808\nnode 9223372036854775807\nedge 1 0 -0\njson",
+        "{\"edge_property\":\"directed\",\"edges\":[],\"node_holes\":[],\"nodes\":[],\"orders\":[]}\n\
+         bad line\nn0\nn1\ne0\n\
+         {\"edge_property\":\"directed\",\"edges\":[[1,0,0]],\"node_holes\":[],\
+         \"nodes\":[-9223372036854775808,9223372036854775807],\
+         \"orders\":[[[],[0]],[[0],[]]]}\n",
+    ),
     ("", ""),
     ("\n  \nnode 1\n  ", "bad line\nbad line\nn0\nbad line\n"),
 ];
 
 /// Inputs with removals. The last index moves to the gap in the compact kind alone.
-const OF_ONE_KIND: [(Mode, &'static str, &'static str); 4] = [
+const OF_ONE_KIND: [(Mode, &'static str, &'static str); 5] = [
+    (
+        Mode::Compact,
+        "node 1\nnode 2\nnode 3\nedge 0 1 4\nedge 0 2 5\nedge 0 1 6\nrmedge 0\njson\n",
+        "n0\nn1\nn2\ne0\ne1\ne2\nweight 4\n\
+         {\"edge_property\":\"directed\",\"edges\":[[0,1,6],[0,2,5]],\"node_holes\":[],\"nodes\":[1,2,3],\
+         \"orders\":[[[0,1],[]],[[],[0]],[[],[1]]]}\n",
+    ),
     (
         Mode::Compact,
         "node 1\nchild 0 7 2\nparent 0 8 3\nupdate 0 1 9\nupdate 1 0 5\nupdate 0 9 5\nfind 0 1\n\
@@ -66,13 +81,19 @@ const OF_ONE_KIND: [(Mode, &'static str, &'static str); 4] = [
         Mode::Compact,
         "node 10\nnode 20\nnode 30\nedge 0 1 4\nedge 0 2 5\nrmnode 1\njson\nnode 40\nchildren 0\n\
          clear\nnode 7\n",
-        "n0\nn1\nn2\ne0\ne1\nweight 20\nbad line\nn2\ne0:1\nok\nn0\n",
+        "n0\nn1\nn2\ne0\ne1\nweight 20\n\
+         {\"edge_property\":\"directed\",\"edges\":[[0,1,5]],\"node_holes\":[],\"nodes\":[10,30],\
+         \"orders\":[[[0],[]],[[],[0]]]}\n\
+         n2\ne0:1\nok\nn0\n",
     ),
     (
         Mode::Stable,
         "node 10\nnode 20\nnode 30\nedge 0 1 4\nedge 0 2 5\nrmnode 1\njson\nnode 40\nchildren 0\n\
          clear\nnode 7\n",
-        "n0\nn1\nn2\ne0\ne1\nweight 20\nbad line\nn1\ne1:2\nok\nn0\n",
+        "n0\nn1\nn2\ne0\ne1\nweight 20\n\
+         {\"edge_property\":\"directed\",\"edges\":[null,[0,2,5]],\"node_holes\":[1],\"nodes\":[10,30],\
+         \"orders\":[[[1],[]],[[],[1]]]}\n\
+         n1\ne1:2\nok\nn0\n",
     ),
     (
         Mode::Stable,

@@ -14,7 +14,7 @@ use denote.Signature.{plain, types_at}
 use denote.Steps.{nothing}
 use denote.Triple.Entry.{alive}
 use denote.Triple.Walked.{says, walk_of, Stays, stay_dropped, Goes-dropped, ends_at}
-use Rattle.dagbench_engine.proofs.Walks.{unit_value, makes_unit}
+use Rattle.dagbench_engine.proofs.Units.{unit_value, makes_unit}
 use Rattle.dagbench_engine.specs.contracts.history.History as History
 use Rattle.dagbench_engine.specs.contracts.history.History.and_end as f
 use Rattle.dagbench_engine.proofs.history.History.and_end.Statement.{statement}

@@ -10,7 +10,7 @@ use denote.Signature.{types_at}
 use denote.Steps.{nothing}
 use denote.Triple.Entry.{alive}
 use denote.Triple.Walked.{says, walk_of, ends_at}
-use Rattle.dagbench_engine.proofs.Walks.{unit_value, makes_unit}
+use Rattle.dagbench_engine.proofs.Units.{unit_value, makes_unit}
 use Rattle.dagbench_engine.specs.contracts.history.History.new as f
 use Rattle.dagbench_engine.proofs.history.History.new.Statement.{statement}
 use Rattle.dagbench_engine.proofs.history.History.new.Code as code

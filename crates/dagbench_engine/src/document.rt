@@ -1,0 +1,66 @@
+//! The document of the dag, as one line of text.
+ghost use Rattle.std.specs.Prelude.{◌≡◌, IfSome, IfOk, OnOk, ◌++◌, ◌∷◌, [], List, ℕ};
+ghost use Rattle.serde_json.specs.View.{view};
+ghost use Rattle.daggy.specs.Document.{IsDocumentOf};
+ghost use Rattle.dagbench_engine.specs.Documents.{StandsFor, IsDocumentText, TellsDocument};
+ghost use Rattle.dagbench_engine.specs.Streams.{CountsFaults};
+
+use crate::output::Output;
+use crate::stream::{Fault, Sink};
+use daggy::json::{dag_to_json, stable_to_json};
+use daggy::run::GuardedDag;
+use daggy::{Dag, StableDag};
+use serde_json::Value;
+use std::alloc::{AllocError, Global};
+
+/// A dag that can be written as a document. Both kinds can.
+pub trait Documented: GuardedDag<i64, i64, u32> + Drop {
+    /// The document of the dag, with weights as numbers. `None` says that there was no memory.
+    fn to_json(&self, alloc: Global) -> Option<Value>
+        ensures { IfSome result (λ v. IsDocumentOf StandsFor StandsFor (Self.graph self.now) (view v)) };
+}
+
+/// A weight as it stands in a document.
+fn number(weight: &i64) -> Result<Value, AllocError>
+    ensures { IfOk result (λ v. StandsFor weight.now (view v)) }
+{
+    Ok(Value::from(*weight))
+}
+
+impl Documented for Dag<i64, i64, u32> {
+    fn to_json(&self, alloc: Global) -> Option<Value> {
+        dag_to_json(alloc, self, number, number).ok()
+    }
+}
+
+impl Documented for StableDag<i64, i64, u32> {
+    fn to_json(&self, alloc: Global) -> Option<Value> {
+        stable_to_json(alloc, self, number, number).ok()
+    }
+}
+
+/// The text of the document of a dag. `None` says that there was no memory.
+fn document_text<D: Documented>(alloc: Global, dag: &D) -> Option<Vec<u8>>
+    ensures { IfSome result (λ text. IsDocumentText (D.graph dag.now) text.items) }
+{
+    let document = dag.to_json(alloc)?;
+    document.to_vec(alloc).ok()
+}
+
+/// Writes the document of a dag as a line, or that there was no memory for it.
+pub fn put_document<D: Documented, K: Sink>(
+    alloc: Global,
+    dag: &D,
+    output: &mut Output,
+    sink: &mut K,
+) -> Result<(), Fault>
+    ensures text { OnOk result ((text : List ℕ) × TellsDocument (D.graph dag.now) text
+        × (K.taken sink.new ++ output.new ≡ (K.taken sink.old ++ output.old) ++ (text ++ 10 ∷ []))) }
+    ensures counted { CountsFaults result (K.failures sink.old) (K.failures sink.new) }
+{
+    let Some(text) = document_text(alloc, dag) else {
+        return output.put(sink, b"memory\n");
+    };
+    output.put(sink, text.as_slice())?;
+    output.put(sink, b"\n")
+}
