@@ -1,5 +1,6 @@
 mod Emptiness
 pub mod Lists
+pub mod Copies
 pub mod Reading
 pub mod Going
 pub mod Leaving

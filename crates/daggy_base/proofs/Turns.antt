@@ -1,5 +1,5 @@
 -- A list whose elements are taken in turn.
-use Rattle.std.proofs.Common.{◌≡◌, ℕ, ◌<◌, List, [], ◌∷◌, ◌++◌, length, ap, ◌∙◌, arith, append_assoc}
+use Rattle.std.proofs.Common.{◌≡◌, ◌<◌, List, [], ◌∷◌, ◌++◌, length, ap, ◌∙◌, arith, append_assoc}
 use Rattle.std.proofs.lemmas.List.{length-append}
 
 module _ {A : Type 0} (made : List A) (x : A) (rest whole : List A) (is : made ++ x ∷ rest ≡ whole) where

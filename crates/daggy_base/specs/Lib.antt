@@ -16,6 +16,7 @@ pub mod Errors
 pub mod Directions
 pub mod Externals
 pub mod Mapping
+pub mod Copying
 pub mod Filtering
 pub mod FromSlots
 pub mod Orders

@@ -5,7 +5,6 @@ pub mod Dropping
 pub mod Clearing
 pub mod RawLemmas
 pub mod PairLemmas
-pub mod CloneLemmas
 pub mod MappingLemmas
 pub mod RewritingLemmas
 pub mod FilterLemmas

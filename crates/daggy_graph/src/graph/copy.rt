@@ -1,10 +1,24 @@
 //! A copy of a graph.
 ghost use Rattle.std.specs.Prelude.{◌≡◌, IfOk};
+ghost use Rattle.daggy_base.specs.Copying.{IsCopy};
 
 use crate::graph::DiGraph;
 use daggy_base::index::IndexType;
 use daggy_base::search::Looks;
 use std::alloc::AllocError;
+
+/// Gives a graph with the same nodes and edges under the same indices, and in the same lists, with a clone of each weight.
+impl<N: Clone + Drop, E: Clone + Drop, Ix: IndexType> Clone for DiGraph<N, E, Ix> {
+    ghost is_clone = { λ g copy. IsCopy N.is_clone E.is_clone g.graph copy.graph × (copy.looks ≡ 0) };
+
+    fn clone(&self) -> Result<Self, AllocError> {
+        Ok(DiGraph {
+            nodes: self.nodes.clone()?,
+            edges: self.edges.clone()?,
+            looks: Looks::new(),
+        })
+    }
+}
 
 impl<N, E, Ix: IndexType> DiGraph<N, E, Ix> {
     /// A graph with the same nodes and edges under the same indices, and in the same lists.
@@ -18,10 +32,6 @@ impl<N, E, Ix: IndexType> DiGraph<N, E, Ix> {
         requires edges { (x y : E) → E.is_clone x y → y ≡ x }
         ensures { IfOk result (λ g. g ≡ record { graph = self.now.graph; looks = 0 }) }
     {
-        Ok(DiGraph {
-            nodes: self.nodes.clone()?,
-            edges: self.edges.clone()?,
-            looks: Looks::new(),
-        })
+        self.clone()
     }
 }

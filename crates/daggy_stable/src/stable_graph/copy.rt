@@ -1,10 +1,28 @@
 //! A copy of a graph.
 ghost use Rattle.std.specs.Prelude.{◌≡◌, IfOk};
+ghost use Rattle.daggy_base.specs.Copying.{IsCopy};
 
 use crate::stable_graph::StableDiGraph;
 use daggy_base::index::IndexType;
 use daggy_base::search::Looks;
 use std::alloc::AllocError;
+
+/// Gives a graph with the same slots, lists and vacant slots, with a clone of each weight.
+impl<N: Clone + Drop, E: Clone + Drop, Ix: IndexType> Clone for StableDiGraph<N, E, Ix> {
+    ghost is_clone = { λ g copy. IsCopy N.is_clone E.is_clone g.graph copy.graph × (copy.looks ≡ 0) };
+
+    fn clone(&self) -> Result<Self, AllocError> {
+        Ok(StableDiGraph {
+            nodes: self.nodes.clone()?,
+            edges: self.edges.clone()?,
+            first_vacant_node: self.first_vacant_node,
+            first_vacant_edge: self.first_vacant_edge,
+            node_count: self.node_count,
+            edge_count: self.edge_count,
+            looks: Looks::new(),
+        })
+    }
+}
 
 impl<N, E, Ix: IndexType> StableDiGraph<N, E, Ix> {
     /// A graph with the same nodes and edges under the same indices, in the same lists, and with the same vacant slots,
@@ -19,14 +37,6 @@ impl<N, E, Ix: IndexType> StableDiGraph<N, E, Ix> {
         requires edges { (x y : E) → E.is_clone x y → y ≡ x }
         ensures { IfOk result (λ g. g ≡ record { graph = self.now.graph; looks = 0 }) }
     {
-        Ok(StableDiGraph {
-            nodes: self.nodes.clone()?,
-            edges: self.edges.clone()?,
-            first_vacant_node: self.first_vacant_node,
-            first_vacant_edge: self.first_vacant_edge,
-            node_count: self.node_count,
-            edge_count: self.edge_count,
-            looks: Looks::new(),
-        })
+        self.clone()
     }
 }

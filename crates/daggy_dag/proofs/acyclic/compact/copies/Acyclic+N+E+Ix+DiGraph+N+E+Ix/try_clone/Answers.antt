@@ -1,9 +1,9 @@
-use Rattle.daggy_order.proofs.OrderLaws.{acyclic_from_order}
-use Rattle.daggy_dag.proofs.Kept.{kept_copied}
+use Rattle.daggy_base.proofs.Copies.{copies_same, copies_hold}
+use Rattle.daggy_base.specs.Path.{IsAcyclic}
 use Rattle.daggy_dag.proofs.acyclic.compact.copies.Acyclic+N+E+Ix+DiGraph+N+E+Ix.try_clone.Goals as goal
 
-pub invariant_of-result : goal.invariant_of-result
-invariant_of-result g c = kept_copied _ _ _ _ _ _ _ c.in_ok-store.ensures c.in_ok-order.ensures c.node_count.ensures.slots c.in_ok-reserve.ensures.ok.0 c.self.invariant.0
+pub returns-clause-value : goal.returns-clause-value
+returns-clause-value g c = copies_same g.N.Clone.is_clone g.E.Clone.is_clone c.requires.nodes c.requires.edges c.args.self.now c.clone.result _ c.clone.ensures.cases
 
 pub returns-clause-acyclic : goal.returns-clause-acyclic
-returns-clause-acyclic g c = acyclic_from_order _ (invariant_of-result g c).0
+returns-clause-acyclic g c = copies_hold (λ graph. IsAcyclic graph) c.args.self.now c.clone.result (returns-clause-value g c) c.node_count-acyclic.ensures.dag.acyclic

@@ -1,0 +1,12 @@
+use Rattle.daggy_base.specs.Copying.{clone_step}
+use Rattle.daggy_dag.proofs.Mapped.{order_mapped, fits_mapped}
+use Rattle.daggy_dag.proofs.acyclic.stable.copies.AcyclicStableDiGraphClone.clone.Goals as goal
+
+pub invariant_of-result : goal.invariant_of-result
+invariant_of-result g c =
+    let nodes = clone_step g.N.Clone.is_clone in
+    let edges = clone_step g.E.Clone.is_clone in
+    let copy = c.in_ok-store.ensures.cases.0 in (
+      order_mapped (λ i. i) nodes edges tt tt _ _ copy _ _ c.in_ok-order.ensures c.self.invariant.0,
+      fits_mapped (λ i. i) nodes edges tt tt _ _ copy _ _ c.node_slots.ensures c.in_ok-reserve.ensures.ok.0,
+    )
