@@ -11,8 +11,7 @@ returns-then-stands_before-clause-decided g c =
     let a : ℕ = g.Ix.IndexType.number c.args.a in
     let b : ℕ = g.Ix.IndexType.number c.args.b in
     let P : ℕ → Type 0 = λ z. place order b ≤ place order z in
-    let before : place order a < place order b = c.stands_before.ensures.0 c.if-stands_before.true in
-    (
+    let before : place order a < place order b = c.stands_before.ensures.0 c.if-stands_before.true in (
       λ e. absurd (false≢true (sym e)),
       λ r. absurd (omega (arith, before, reaches_stays (g.S.EdgeSource.graph c.args.source.now) P (λ x y h j. omega (arith, h, c.requires.ordered.sorted x y j)) b a r (omega arith))),
     )
