@@ -11,3 +11,4 @@ pub mod Parsing
 pub mod Answering
 pub mod NoFloats
 pub mod Documents
+pub mod Planning

@@ -39,18 +39,18 @@ comes_nearer given given_new buffer count is within some few =
 
 -- the source failed
 pub read_failed : (kind : Kind) (given_old given given_new written_old taken output taken_mid : List ℕ) (graph : Graph ℤ ℤ) (kept : List ℕ)
-    → IsServed kind given_old given written_old (taken ++ output) graph kept → taken_mid ≡ taken ++ output → given_new ≡ given → Serves kind ended_lines_of given_old given_new written_old taken_mid
+    → IsServed kind given_old given written_old (taken ++ output) graph kept → taken_mid ≡ taken ++ output → given_new ≡ given → Serves kind false ended_lines_of given_old given_new written_old taken_mid
 read_failed kind given_old given given_new written_old taken output taken_mid graph kept so_far flush none =
-    subst (λ g. Serves kind ended_lines_of given_old g written_old taken_mid) (sym none) (fails kind given_old given written_old (taken ++ output) graph kept so_far taken_mid flush)
+    subst (λ g. Serves kind false ended_lines_of given_old g written_old taken_mid) (sym none) (fails kind given_old given written_old (taken ++ output) graph kept so_far taken_mid flush)
 
 -- nothing was read, and what was kept is answered
-pub read_all : (kind : Kind) (given_old given given_new written_old taken output taken_mid output_mid buffer taken_new : List ℕ) (count : ℕ) (graph : Graph ℤ ℤ) (kept : List ℕ)
+pub read_all : (kind : Kind) (plans : Bool) (given_old given given_new written_old taken output taken_mid output_mid buffer taken_new : List ℕ) (count : ℕ) (graph : Graph ℤ ℤ) (kept : List ℕ)
     → IsServed kind given_old given written_old (taken ++ output) graph kept → taken_mid ≡ taken ++ output → output_mid ≡ []
     → given_new ≡ given ++ take count buffer → count ≡ 0
-    → ((given_old given written_old : List ℕ) → IsServed kind given_old given written_old (taken_mid ++ output_mid) graph kept → Serves kind lines_of given_old given written_old taken_new)
-    → Serves kind lines_of given_old given_new written_old taken_new
-read_all kind given_old given given_new written_old taken output taken_mid output_mid buffer taken_new count graph kept so_far flush none gives is_zero finish =
-    subst (λ g. Serves kind lines_of given_old g written_old taken_new) (sym (gives ∙ (ap (λ n. given ++ take n buffer) is_zero ∙ append-nil given)))
+    → ((given_old given written_old : List ℕ) → IsServed kind given_old given written_old (taken_mid ++ output_mid) graph kept → Serves kind plans lines_of given_old given written_old taken_new)
+    → Serves kind plans lines_of given_old given_new written_old taken_new
+read_all kind plans given_old given given_new written_old taken output taken_mid output_mid buffer taken_new count graph kept so_far flush none gives is_zero finish =
+    subst (λ g. Serves kind plans lines_of given_old g written_old taken_new) (sym (gives ∙ (ap (λ n. given ++ take n buffer) is_zero ∙ append-nil given)))
     (finish given_old given written_old (subst (λ w. IsServed kind given_old given written_old w graph kept) (flushed taken output taken_mid output_mid flush none) so_far))
 
 or_true : (b : Bool) → (b || true) ≡ true
@@ -63,15 +63,15 @@ met old new count buffer is is_zero room =
     is ∙ (ap (λ b. old || b) (ap (λ n. n == 0 && nat_lt 0 (length buffer)) is_zero ∙ lt-ltb 0 (length buffer) room) ∙ or_true old)
 
 -- the clauses of a run
-module _ (kind : Kind) (given_old given_new taken_old taken_new : List ℕ) (is_ended : Bool) (reads_old reads_new writes_old writes_new : ℕ) where
+module _ (kind : Kind) (plans : Bool) (given_old given_new taken_old taken_new : List ℕ) (is_ended : Bool) (reads_old reads_new writes_old writes_new : ℕ) where
   abbrev pub Is : Result (Unit {0}) Stop → Type 0
-  Is r = IsRun kind r given_old given_new taken_old taken_new is_ended reads_old reads_new writes_old writes_new
+  Is r = IsRun kind plans r given_old given_new taken_old taken_new is_ended reads_old reads_new writes_old writes_new
 
   pub run_ends : (r : Result (Unit {0}) Stop) → Is r → OnOk r (is_ended ≡ true)
   run_ends (Ok done) is = is.1
   run_ends (Err stop) is = tt
 
-  pub run_serves : (r : Result (Unit {0}) Stop) → Is r → OnOk r (Serves kind lines_of given_old given_new taken_old taken_new)
+  pub run_serves : (r : Result (Unit {0}) Stop) → Is r → OnOk r (Serves kind plans lines_of given_old given_new taken_old taken_new)
   run_serves (Ok done) is = is.0
   run_serves (Err stop) is = tt
 
@@ -87,7 +87,7 @@ module _ (kind : Kind) (given_old given_new taken_old taken_new : List ℕ) (is_
   run_tells_write (Err Write) is = (λ e. omega arith, λ h. refl)
   run_tells_write (Err Memory) is = absurd is
 
-  pub run_replies : (r : Result (Unit {0}) Stop) → Is r → r ≡ Err Read → Serves kind ended_lines_of given_old given_new taken_old taken_new
+  pub run_replies : (r : Result (Unit {0}) Stop) → Is r → r ≡ Err Read → Serves kind false ended_lines_of given_old given_new taken_old taken_new
   run_replies (Ok done) is e = absurd (cc)
   run_replies (Err Read) is e = is.0
   run_replies (Err Write) is e = absurd (cc)

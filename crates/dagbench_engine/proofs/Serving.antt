@@ -1,5 +1,5 @@
 -- How what was served grows.
-use Rattle.std.proofs.Common.{◌≡◌, ℕ, zero, suc, ◌<◌, ◌==◌, true, false, List, [], ◌∷◌, ◌++◌, length, take, None, Result, Ok, Err, nat_lt, codes, refl, sym, ap, subst, ◌∙◌, inl, inr, append_assoc, append-nil, arith, ℤ}
+use Rattle.std.proofs.Common.{◌≡◌, ℕ, zero, suc, ◌<◌, ◌==◌, Bool, true, false, List, [], ◌∷◌, ◌++◌, length, take, None, Result, Ok, Err, nat_lt, codes, refl, sym, ap, subst, ◌∙◌, inl, inr, append_assoc, append-nil, arith, ℤ}
 use Rattle.std.proofs.lemmas.List.{take_all, length-take}
 use Rattle.std.proofs.lemmas.Bool.{cond-true, cases_lt, lt-ltb}
 use Rattle.std.specs.List.{flat_map, AllByRecursion}
@@ -11,8 +11,9 @@ use Rattle.dagbench_engine.specs.Cutting.{Lacks, newline, lines_of, ended_lines_
 use Rattle.dagbench_engine.specs.Commands.{asked_in, asked_by_words}
 use Rattle.dagbench_engine.specs.Streams.{Appends}
 use Rattle.dagbench_engine.specs.Transcripts.{IsAnswered, IsAnswer, IsTranscript}
+use Rattle.dagbench_engine.specs.Plans.{IsClose}
 use Rattle.dagbench_engine.specs.Serving.{Serves}
-use Rattle.dagbench_engine.specs.Progress.{IsServed, AnswersLine, GoesOn, ended}
+use Rattle.dagbench_engine.specs.Progress.{IsServed, IsDone, AnswersLine, GoesOn, ended}
 use Rattle.dagbench_engine.proofs.Cuts.{cut_at-first, cut_at-last, ended_at-first, ended_at-none}
 
 -- whole lines, and what stands behind them
@@ -143,47 +144,62 @@ module _ (kind : Kind) (given_old given written_old written : List ℕ) (graph :
       }
 
   -- all lines are answered if nothing is kept
-  pub ends : (taken : List ℕ) → kept ≡ [] → taken ≡ written → Serves kind lines_of given_old given written_old taken
-  ends taken is_nil is =
+  pub ends : kept ≡ [] → IsDone kind given_old given written_old written graph
+  ends is_nil =
       let none : s.front ≡ [] = nothing_kept 4096 s.front (sym is_nil ∙ s.kept_is) in
       let lines : lines_of (flat_map ended s.lines ++ s.front) ≡ s.lines = lines_behind s.lines s.front s.whole ∙ (ap (λ f. s.lines ++ lines_of f) none ∙ append-nil s.lines) in
       record {
         input = flat_map ended s.lines ++ s.front;
-        output = s.text;
-        graph = graph;
-        given = s.given_is;
-        taken = is ∙ s.written_is;
+        text = s.text;
+        given_is = s.given_is;
+        written_is = s.written_is;
         answers = subst (λ ls. IsTranscript kind empty ls s.text graph) (sym lines) s.answers;
       }
 
   -- and otherwise if the last one is answered too
-  pub ends_unended : (new : Graph ℤ ℤ) (now taken : List ℕ) → 0 < length kept → AnswersLine {A = Unit {0}} {E = Unit {0}} kind (Ok tt) kept graph new written now → taken ≡ now → Serves kind lines_of given_old given written_old taken
-  ends_unended new now taken some answer is =
+  pub ends_unended : (new : Graph ℤ ℤ) (now : List ℕ) → 0 < length kept → AnswersLine {A = Unit {0}} {E = Unit {0}} kind (Ok tt) kept graph new written now → IsDone kind given_old given written_old now new
+  ends_unended new now some answer =
       let last : lines_of s.front ≡ s.front ∷ [] = last_line s.front (something_kept 4097 s.front (subst (λ k. 0 < length k) s.kept_is some)) s.unended in
       let lines : lines_of (flat_map ended s.lines ++ s.front) ≡ s.lines ++ s.front ∷ [] = lines_behind s.lines s.front s.whole ∙ ap (λ ls. s.lines ++ ls) last in
       let same : asked_in kept ≡ asked_in s.front = ap asked_in s.kept_is ∙ kept_says s.front in
       record {
         input = flat_map ended s.lines ++ s.front;
-        output = s.text ++ (answer.0 ++ newline ∷ []);
-        graph = new;
-        given = s.given_is;
-        taken = is ∙ (answer.2 ∙ (ap (λ t. t ++ (answer.0 ++ newline ∷ [])) s.written_is ∙ append_assoc written_old s.text (answer.0 ++ newline ∷ [])));
+        text = s.text ++ (answer.0 ++ newline ∷ []);
+        given_is = s.given_is;
+        written_is = answer.2 ∙ (ap (λ t. t ++ (answer.0 ++ newline ∷ [])) s.written_is ∙ append_assoc written_old s.text (answer.0 ++ newline ∷ []));
         answers = subst (λ ls. IsTranscript kind empty ls (s.text ++ (answer.0 ++ newline ∷ [])) new) (sym lines)
             (one_more kind s.lines s.front s.text answer.0 empty graph new s.answers (says_same kind graph new kept s.front answer.0 same answer.1));
       }
 
   -- where the source fails, what ended is answered
-  pub fails : (taken : List ℕ) → taken ≡ written → Serves kind ended_lines_of given_old given written_old taken
+  pub fails : (taken : List ℕ) → taken ≡ written → Serves kind false ended_lines_of given_old given written_old taken
   fails taken is =
       let lines : ended_lines_of (flat_map ended s.lines ++ s.front) ≡ s.lines = ended_behind s.lines s.front s.whole ∙ (ap (λ ls. s.lines ++ ls) (ended_at-none newline s.front s.unended) ∙ append-nil s.lines) in
       record {
         input = flat_map ended s.lines ++ s.front;
         output = s.text;
         graph = graph;
+        close = [];
         given = s.given_is;
-        taken = is ∙ s.written_is;
+        taken = is ∙ s.written_is ∙ ap (λ t. written_old ++ t) (sym (append-nil s.text));
         answers = subst (λ ls. IsTranscript kind empty ls s.text graph) (sym lines) s.answers;
+        closes = refl;
       }
+
+-- what is written behind the answers
+closed : (kind : Kind) (plans : Bool) (given_old given written_old written close taken : List ℕ) (graph : Graph ℤ ℤ) → IsDone kind given_old given written_old written graph
+    → IsClose plans graph close → taken ≡ written ++ close → Serves kind plans lines_of given_old given written_old taken
+closed kind plans given_old given written_old written close taken graph done closes is =
+    record {
+      input = done.input;
+      output = done.text;
+      graph = graph;
+      close = close;
+      given = done.given_is;
+      taken = is ∙ ap (λ t. t ++ close) done.written_is ∙ append_assoc written_old done.text close;
+      answers = done.answers;
+      closes = closes;
+    }
 
 -- the test of a length
 pub nothing_there : (xs : List ℕ) → true ≡ (length xs == 0) → xs ≡ []
@@ -236,17 +252,24 @@ block_passed kind block rest written_before written graph_before graph kept_befo
     subst (λ g. IsServed kind given_old g written_old written graph kept_new) (append_assoc given p.0 rest ∙ ap (λ b. given ++ b) (sym p.1))
     (keeps_rest kind given_old (given ++ p.0) written_old written graph kept p.2 rest kept_new lacks is)
 
--- the end, where no line is left unended, and where one is
-pub finished : {A E : Type 0} (kind : Kind) (r : Result A E) (taken output taken_new : List ℕ) (graph : Graph ℤ ℤ) (kept : List ℕ) → kept ≡ [] → Appends r taken taken_new output
-    → OnOk r ((given_old given written_old : List ℕ) → IsServed kind given_old given written_old (taken ++ output) graph kept → Serves kind lines_of given_old given written_old taken_new)
-finished kind (Err e) taken output taken_new graph kept none appended = tt
-finished kind (Ok x) taken output taken_new graph kept none appended = λ given_old given written_old so_far.
-    ends kind given_old given written_old (taken ++ output) graph kept so_far taken_new none appended
+-- the last line, where it has ended, and where it has not
+pub last_ended : (kind : Kind) (written : List ℕ) (graph : Graph ℤ ℤ) (kept : List ℕ) → kept ≡ []
+    → (given_old given written_old : List ℕ) → IsServed kind given_old given written_old written graph kept → IsDone kind given_old given written_old written graph
+last_ended kind written graph kept none given_old given written_old so_far = ends kind given_old given written_old written graph kept so_far none
 
-pub finished_unended : {A E : Type 0} (kind : Kind) (r : Result A E) (written taken output taken_new : List ℕ) (graph new : Graph ℤ ℤ) (kept answered : List ℕ) → 0 < length kept → answered ≡ kept
-    → AnswersLine {A = Unit {0}} {E = Unit {0}} kind (Ok tt) answered graph new written (taken ++ output) → Appends r taken taken_new output
-    → OnOk r ((given_old given written_old : List ℕ) → IsServed kind given_old given written_old written graph kept → Serves kind lines_of given_old given written_old taken_new)
-finished_unended kind (Err e) written taken output taken_new graph new kept answered some is answer appended = tt
-finished_unended kind (Ok x) written taken output taken_new graph new kept answered some is answer appended = λ given_old given written_old so_far.
-    ends_unended kind given_old given written_old written graph kept so_far new (taken ++ output) taken_new some
-    (subst (λ line. AnswersLine {A = Unit {0}} {E = Unit {0}} kind (Ok tt) line graph new written (taken ++ output)) is answer) appended
+pub last_unended : {A E : Type 0} (kind : Kind) (r : Result A E) (written now : List ℕ) (graph new : Graph ℤ ℤ) (kept answered : List ℕ) → 0 < length kept → answered ≡ kept
+    → AnswersLine kind r answered graph new written now
+    → OnOk r ((given_old given written_old : List ℕ) → IsServed kind given_old given written_old written graph kept → IsDone kind given_old given written_old now new)
+last_unended kind (Err e) written now graph new kept answered some is answer = tt
+last_unended kind (Ok x) written now graph new kept answered some is answer = λ given_old given written_old so_far.
+    ends_unended kind given_old given written_old written graph kept so_far new now some
+    (subst (λ line. AnswersLine {A = Unit {0}} {E = Unit {0}} kind (Ok tt) line graph new written now) is answer)
+
+-- the end
+pub finished : {A E : Type 0} (kind : Kind) (plans : Bool) (r : Result A E) (written between taken output taken_new : List ℕ) (graph new : Graph ℤ ℤ) (kept : List ℕ)
+    → ((given_old given written_old : List ℕ) → IsServed kind given_old given written_old written graph kept → IsDone kind given_old given written_old between new)
+    → ((close : List ℕ) × IsClose plans new close × (taken ++ output ≡ between ++ close)) → Appends r taken taken_new output
+    → OnOk r ((given_old given written_old : List ℕ) → IsServed kind given_old given written_old written graph kept → Serves kind plans lines_of given_old given written_old taken_new)
+finished kind plans (Err e) written between taken output taken_new graph new kept done close appended = tt
+finished kind plans (Ok x) written between taken output taken_new graph new kept done close appended = λ given_old given written_old so_far.
+    closed kind plans given_old given written_old between close.0 taken_new new (done given_old given written_old so_far) close.1 (appended ∙ close.2)

@@ -5,7 +5,7 @@ use Rattle.dagbench_engine.specs.declared.stop.Stop.TheVariants.{Read, Write, Me
 
 -- the status, and the text on standard error. Without a run the arguments were wrong
 abbrev pub ending_of : Option (Result (Unit {0}) Stop) → ℕ × List ℕ
-ending_of None = (2, codes "usage: dagbench compact|stable\n")
+ending_of None = (2, codes "usage: dagbench compact|stable|plan compact|plan stable\n")
 ending_of (Some (Ok done)) = (0, [])
 ending_of (Some (Err Read)) = (1, codes "dagbench: read failed\n")
 ending_of (Some (Err Write)) = (1, codes "dagbench: write failed\n")

@@ -9,6 +9,7 @@ pub mod Endings
 pub mod Documents
 pub mod Saying
 pub mod Transcripts
+pub mod Plans
 pub mod Serving
 pub mod Progress
 pub mod Ends

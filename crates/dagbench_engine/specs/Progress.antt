@@ -3,7 +3,7 @@ use Rattle.std.specs.Prelude.{◌≡◌, ℕ, List, [], ◌∷◌, ◌++◌, tak
 use Rattle.std.specs.List.{flat_map, AllByRecursion}
 use Rattle.daggy.specs.Graph.{Graph, empty}
 use Rattle.daggy.specs.Removal.{Kind}
-use Rattle.dagbench_engine.specs.Cutting.{newline, Lacks}
+use Rattle.dagbench_engine.specs.Cutting.{newline, Lacks, lines_of}
 use Rattle.dagbench_engine.specs.Transcripts.{IsAnswer, IsTranscript}
 
 -- after an Ok the line was answered behind what had been written
@@ -38,3 +38,11 @@ abbrev pub GoesOn : Kind → (given_more written_old written_new : List ℕ) (gr
 GoesOn kind given_more written_old written_new graph_old graph_new kept_old kept_new =
     (given_start given written_start : List ℕ) → IsServed kind given_start given written_start written_old graph_old kept_old
     → IsServed kind given_start (given ++ given_more) written_start written_new graph_new kept_new
+
+-- all lines of what was given are answered, also one whose newline did not come
+pub record IsDone (kind : Kind) (given_old given written_old written : List ℕ) (graph : Graph ℤ ℤ) : Type 0 where
+  pub input : List ℕ
+  pub text : List ℕ
+  pub given_is : given ≡ given_old ++ input
+  pub written_is : written ≡ written_old ++ text
+  pub answers : IsTranscript kind empty (lines_of input) text graph

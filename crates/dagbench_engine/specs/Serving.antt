@@ -1,15 +1,18 @@
 -- What a whole run does to its devices.
-use Rattle.std.specs.Prelude.{◌≡◌, List, ℕ, ◌++◌, ℤ}
+use Rattle.std.specs.Prelude.{◌≡◌, Bool, List, ℕ, ◌++◌, ℤ}
 use Rattle.daggy.specs.Graph.{Graph, empty}
 use Rattle.daggy.specs.Removal.{Kind}
 use Rattle.dagbench_engine.specs.Transcripts.{IsTranscript}
+use Rattle.dagbench_engine.specs.Plans.{IsClose}
 
 -- What the source gave is an input, and what the sink took are the answers to the lines in it, from the empty graph of
--- that kind on.
-pub record Serves (kind : Kind) (lines_in : List ℕ → List (List ℕ)) (given_old given_new taken_old taken_new : List ℕ) : Type 0 where
+-- that kind on, and behind them a plan of the graph that they left, if there is to be one.
+pub record Serves (kind : Kind) (plans : Bool) (lines_in : List ℕ → List (List ℕ)) (given_old given_new taken_old taken_new : List ℕ) : Type 0 where
   pub input : List ℕ
   pub output : List ℕ
   pub graph : Graph ℤ ℤ
+  pub close : List ℕ
   pub given : given_new ≡ given_old ++ input
-  pub taken : taken_new ≡ taken_old ++ output
+  pub taken : taken_new ≡ taken_old ++ (output ++ close)
   pub answers : IsTranscript kind empty (lines_in input) output graph
+  pub closes : IsClose plans graph close

@@ -15,6 +15,7 @@ mod mode;
 mod output;
 mod parse;
 mod piece;
+mod plan;
 mod reply;
 mod roots;
 mod service;

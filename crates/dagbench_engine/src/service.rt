@@ -1,7 +1,7 @@
 //! A whole run.
-ghost use Rattle.std.specs.Prelude.{◌≡◌, ◌<◌, ◌↔◌, [], true, Err, OnOk, length};
+ghost use Rattle.std.specs.Prelude.{◌≡◌, ◌<◌, ◌↔◌, [], true, false, Err, OnOk, length};
 ghost use Rattle.daggy.specs.Graph.{empty};
-ghost use Rattle.dagbench_engine.specs.Arguments.{kind_of};
+ghost use Rattle.dagbench_engine.specs.Arguments.{kind_of, plans as plans_of};
 ghost use Rattle.dagbench_engine.specs.Cutting.{lines_of, ended_lines_of};
 ghost use Rattle.dagbench_engine.specs.Serving.{Serves};
 ghost use Rattle.dagbench_engine.specs.Ends.{IsRun};
@@ -20,7 +20,8 @@ const BLOCK: usize = 0x1_0000;
 /// Reads lines until the end of the source, and writes the answer to each. What was answered is handed to the sink
 /// before more is read.
 ///
-/// The mode says which kind of graph is served.
+/// The mode says which kind of graph is served, and whether at the end of the source a plan of it is written: each stage as a
+/// line, and then the chain, or that there was no memory for one.
 pub fn serve<S: Source, K: Sink>(
     alloc: Global,
     mode: Mode,
@@ -28,39 +29,42 @@ pub fn serve<S: Source, K: Sink>(
     sink: &mut K,
 ) -> Result<(), Stop>
     ensures end { OnOk result (S.is_ended source.new ≡ true) }
-    ensures served { OnOk result (Serves (kind_of mode) lines_of (S.given source.old) (S.given source.new) (K.taken sink.old) (K.taken sink.new)) }
+    ensures served { OnOk result (Serves (kind_of mode) (plans_of mode) lines_of (S.given source.old) (S.given source.new) (K.taken sink.old) (K.taken sink.new)) }
 
     // A fault is told exactly where its device failed.
     ensures read { (result ≡ Err Stop.Read) ↔ (S.failures source.old < S.failures source.new) }
     ensures write { (result ≡ Err Stop.Write) ↔ (K.failures sink.old < K.failures sink.new) }
 
     // At a read fault each line whose newline came has its answer.
-    ensures replied { result ≡ Err Stop.Read → Serves (kind_of mode) ended_lines_of (S.given source.old) (S.given source.new) (K.taken sink.old) (K.taken sink.new) }
+    ensures replied { result ≡ Err Stop.Read → Serves (kind_of mode) false ended_lines_of (S.given source.old) (S.given source.new) (K.taken sink.old) (K.taken sink.new) }
     ensures memory { result ≡ Err Stop.Memory → (source.new ≡ source.old) × (sink.new ≡ sink.old) }
 {
     match mode {
-        Mode::Compact => serve_with(alloc, Dag::new(alloc), source, sink),
-        Mode::Stable => serve_with(alloc, StableDag::new(alloc), source, sink),
+        Mode::Compact => serve_with(alloc, Dag::new(alloc), false, source, sink),
+        Mode::Stable => serve_with(alloc, StableDag::new(alloc), false, source, sink),
+        Mode::PlanCompact => serve_with(alloc, Dag::new(alloc), true, source, sink),
+        Mode::PlanStable => serve_with(alloc, StableDag::new(alloc), true, source, sink),
     }
 }
 
-/// Serves this graph, which is empty.
+/// Serves this graph, which is empty, and plans it at the end if that is asked for.
 fn serve_with<D: Documented, S: Source, K: Sink>(
     alloc: Global,
     dag: D,
+    plans: bool,
     source: &mut S,
     sink: &mut K,
 ) -> Result<(), Stop>
     requires { D.graph dag ≡ empty }
     ensures end { OnOk result (S.is_ended source.new ≡ true) }
-    ensures served { OnOk result (Serves D.kind lines_of (S.given source.old) (S.given source.new) (K.taken sink.old) (K.taken sink.new)) }
+    ensures served { OnOk result (Serves D.kind plans lines_of (S.given source.old) (S.given source.new) (K.taken sink.old) (K.taken sink.new)) }
 
     // A fault is told exactly where its device failed.
     ensures read { (result ≡ Err Stop.Read) ↔ (S.failures source.old < S.failures source.new) }
     ensures write { (result ≡ Err Stop.Write) ↔ (K.failures sink.old < K.failures sink.new) }
 
     // At a read fault each line whose newline came has its answer.
-    ensures replied { result ≡ Err Stop.Read → Serves D.kind ended_lines_of (S.given source.old) (S.given source.new) (K.taken sink.old) (K.taken sink.new) }
+    ensures replied { result ≡ Err Stop.Read → Serves D.kind false ended_lines_of (S.given source.old) (S.given source.new) (K.taken sink.old) (K.taken sink.new) }
     ensures memory { result ≡ Err Stop.Memory → (source.new ≡ source.old) × (sink.new ≡ sink.old) }
 {
     let Ok(mut block) = vec![in alloc; 0u8; BLOCK] else {
@@ -69,12 +73,13 @@ fn serve_with<D: Documented, S: Source, K: Sink>(
     let Ok(session) = Session::new(alloc, dag) else {
         return Err(Stop::Memory);
     };
-    run(session, block.as_mut_slice(), source, sink)
+    run(session, plans, block.as_mut_slice(), source, sink)
 }
 
 /// The run of a new session, which reads block by block.
 fn run<D: Documented, S: Source, K: Sink>(
     mut session: Session<D>,
+    plans: bool,
     block: &mut [u8],
     source: &mut S,
     sink: &mut K,
@@ -82,7 +87,7 @@ fn run<D: Documented, S: Source, K: Sink>(
     requires room { 0 < length block.old }
     requires graph { D.graph session.dag ≡ empty }
     requires nothing { (session.line ≡ []) × (session.output ≡ []) }
-    ensures { IsRun D.kind result (S.given source.old) (S.given source.new) (K.taken sink.old) (K.taken sink.new) (S.is_ended source.new)
+    ensures { IsRun D.kind plans result (S.given source.old) (S.given source.new) (K.taken sink.old) (K.taken sink.new) (S.is_ended source.new)
         (S.failures source.old) (S.failures source.new) (K.failures sink.old) (K.failures sink.new) }
 {
     'reads: loop {
@@ -99,7 +104,7 @@ fn run<D: Documented, S: Source, K: Sink>(
             return Err(Stop::Write);
         };
     }
-    let Ok(()) = session.finish(sink) else {
+    let Ok(()) = session.finish(plans, sink) else {
         return Err(Stop::Write);
     };
     Ok(())

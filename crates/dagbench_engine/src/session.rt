@@ -3,12 +3,13 @@ ghost use Rattle.std.specs.Prelude.{◌≡◌, ℕ, List, [], ◌∷◌, ◌++�
 ghost use Rattle.dagbench_engine.specs.Cutting.{Lacks, newline, lines_of};
 ghost use Rattle.dagbench_engine.specs.Streams.{CountsFaults};
 ghost use Rattle.dagbench_engine.specs.Serving.{Serves};
-ghost use Rattle.dagbench_engine.specs.Progress.{GoesOn, IsServed};
+ghost use Rattle.dagbench_engine.specs.Progress.{GoesOn, IsServed, IsDone};
 
 use crate::document::Documented;
 use crate::engine::answer;
 use crate::line::Line;
 use crate::output::Output;
+use crate::plan::put_close;
 use crate::stream::{Fault, Sink};
 use crate::words::split_at_byte;
 use std::alloc::{AllocError, Global};
@@ -79,15 +80,15 @@ impl<D: Documented> Session<D> {
         Ok(())
     }
 
-    /// Answers the last line, if its newline did not come, and hands all to the sink.
-    pub fn finish<K: Sink>(&mut self, sink: &mut K) -> Result<(), Fault>
-        ensures served { OnOk result ((given_old given written_old : List ℕ)
+    /// Answers the last line, if its newline did not come.
+    fn end_last_line<K: Sink>(&mut self, sink: &mut K) -> Result<(), Fault>
+        ensures done { OnOk result ((given_old given written_old : List ℕ)
             → IsServed D.kind given_old given written_old (K.taken sink.old ++ self.old.output) (D.graph self.old.dag) self.old.line
-            → Serves D.kind lines_of given_old given written_old (K.taken sink.new)) }
+            → IsDone D.kind given_old given written_old (K.taken sink.new ++ self.new.output) (D.graph self.new.dag)) }
         ensures counted { CountsFaults result (K.failures sink.old) (K.failures sink.new) }
     {
         if self.line.is_empty() {
-            return self.output.flush(sink);
+            return Ok(());
         }
         answer(
             self.alloc,
@@ -95,7 +96,18 @@ impl<D: Documented> Session<D> {
             self.line.as_slice(),
             &mut self.output,
             sink,
-        )?;
+        )
+    }
+
+    /// Answers the last line, if its newline did not come, writes a plan if there is to be one, and hands all to the sink.
+    pub fn finish<K: Sink>(&mut self, plans: bool, sink: &mut K) -> Result<(), Fault>
+        ensures served { OnOk result ((given_old given written_old : List ℕ)
+            → IsServed D.kind given_old given written_old (K.taken sink.old ++ self.old.output) (D.graph self.old.dag) self.old.line
+            → Serves D.kind plans lines_of given_old given written_old (K.taken sink.new)) }
+        ensures counted { CountsFaults result (K.failures sink.old) (K.failures sink.new) }
+    {
+        self.end_last_line(sink)?;
+        put_close(self.alloc, plans, &self.dag, &mut self.output, sink)?;
         self.output.flush(sink)
     }
 }

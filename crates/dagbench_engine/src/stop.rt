@@ -18,7 +18,10 @@ pub fn ending(run: Option<&Result<(), Stop>>) -> (u8, &'static str)
     ensures { (result.0, result.1.now) ≡ ending_of (option_copied run.entry) }
 {
     match run {
-        None => (2, "usage: dagbench compact|stable\n"),
+        None => (
+            2,
+            "usage: dagbench compact|stable|plan compact|plan stable\n",
+        ),
         Some(Ok(())) => (0, ""),
         Some(Err(Stop::Read)) => (1, "dagbench: read failed\n"),
         Some(Err(Stop::Write)) => (1, "dagbench: write failed\n"),

@@ -24,6 +24,17 @@ fn ask(
 fn arguments_name_the_kind(rt: HostRuntime) -> Result<(), Fail> {
     ask(&rt, rt.alloc(), &["compact"], Some(Mode::Compact))?;
     ask(&rt, rt.alloc(), &["stable"], Some(Mode::Stable))?;
+    ask(
+        &rt,
+        rt.alloc(),
+        &["plan", "compact"],
+        Some(Mode::PlanCompact),
+    )?;
+    ask(&rt, rt.alloc(), &["plan", "stable"], Some(Mode::PlanStable))?;
+    ask(&rt, rt.alloc(), &["plan"], None)?;
+    ask(&rt, rt.alloc(), &["plan", "plan"], None)?;
+    ask(&rt, rt.alloc(), &["compact", "plan"], None)?;
+    ask(&rt, rt.alloc(), &["plan", "compact", "stable"], None)?;
     ask(&rt, rt.alloc(), &["compact", "stable"], None)?;
     ask(&rt, rt.alloc(), &["Compact"], None)?;
     ask(&rt, rt.alloc(), &[""], None)?;
@@ -40,7 +51,12 @@ fn tell(rt: &impl Abort, outcome: Option<&Result<(), Stop>>, status: u8, text: &
 
 #[test]
 fn endings_have_their_texts(rt: HostRuntime) {
-    tell(&rt, None, 2, "usage: dagbench compact|stable\n");
+    tell(
+        &rt,
+        None,
+        2,
+        "usage: dagbench compact|stable|plan compact|plan stable\n",
+    );
     tell(&rt, Some(&Ok(())), 0, "");
     tell(&rt, Some(&Err(Stop::Read)), 1, "dagbench: read failed\n");
     tell(&rt, Some(&Err(Stop::Write)), 1, "dagbench: write failed\n");

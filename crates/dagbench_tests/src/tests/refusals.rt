@@ -1,5 +1,5 @@
 //! A script of lines with every command that may ask for memory. `.ci/checks/refused_commands.sh`
-//! runs the last test with one request for memory refused, for each request in turn.
+//! runs the last two tests with one request for memory refused, for each request in turn.
 use super::support::{Run, ended, run, same};
 use dagbench_engine::{Mode, Stop};
 use std::alloc::{AllocError, Global};
@@ -124,5 +124,25 @@ fn a_refused_request_is_the_reply_to_one_line(rt: HostRuntime) {
             Err(stop) => stop == Stop::Write,
         };
         assert!(rt; fits);
+    }
+}
+
+const PLANNED: (&'static str, &'static str) = (
+    "node 1\nnode 2\nedge 1 0 3\n",
+    "n0\nn1\ne0\nstage n1\nstage n0\nchain n1 n0\n",
+);
+
+#[test]
+fn a_refused_request_of_a_plan_is_its_one_line(rt: HostRuntime) {
+    let (input, wanted) = PLANNED;
+    for mode in [Mode::PlanCompact, Mode::PlanStable] {
+        let Ok((outcome, taken)) = run(rt.alloc(), mode, input.as_bytes(), None, None) else {
+            continue;
+        };
+        let replies = &wanted.as_bytes()[..9];
+        if outcome == Ok(()) && taken.len() > 9 && &taken[..9] == replies {
+            let plan = &taken[9..];
+            assert!(rt; plan == &wanted.as_bytes()[9..] || plan == b"memory\n".as_slice());
+        }
     }
 }

@@ -118,6 +118,35 @@ fn lines_are_answered(rt: HostRuntime) -> Result<(), Fail> {
     Ok(())
 }
 
+/// Inputs, and what is written with a plan at the end.
+const PLANNED: [(Mode, &'static str, &'static str); 5] = [
+    (
+        Mode::PlanCompact,
+        "node 1\nnode 1\nnode 1\nnode 1\nnode 1\nedges 0 2 1 1 2 1 2 4 1 0 4 1\n",
+        "n0\nn1\nn2\nn3\nn4\ne0 e1 e2 e3\nstage n0 n1 n3\nstage n2\nstage n4\nchain n0 n2 n4\n",
+    ),
+    (
+        Mode::PlanStable,
+        "node 1\nnode 1\nnode 1\nedge 2 0 1\nrmnode 1",
+        "n0\nn1\nn2\ne0\nweight 1\nstage n2\nstage n0\nchain n2 n0\n",
+    ),
+    (Mode::PlanCompact, "", "chain -\n"),
+    (Mode::PlanStable, "", "chain -\n"),
+    (
+        Mode::PlanCompact,
+        "plan\nnode 1\n",
+        "bad line\nn0\nstage n0\nchain n0\n",
+    ),
+];
+
+#[test]
+fn a_plan_stands_behind_the_replies(rt: HostRuntime) -> Result<(), Fail> {
+    for (mode, input, wanted) in PLANNED {
+        served(&rt, rt.alloc(), mode, input.as_bytes(), wanted.as_bytes())?;
+    }
+    Ok(())
+}
+
 #[test]
 fn a_line_may_hold_any_byte(rt: HostRuntime) -> Result<(), Fail> {
     let input = b"\xff\nnode 1\xff\nnode\x00 1\nnode 1\n";
@@ -187,6 +216,13 @@ fn a_fault_is_told_where_its_device_failed(rt: HostRuntime) -> Result<(), Fail> 
         let (found, taken) = run(rt.alloc(), Mode::Compact, input, reads, writes)?;
         ended(&rt, found, outcome);
         same(&rt, taken.as_slice(), wanted.as_bytes());
+
+        // There is no plan behind a fault.
+        if outcome.is_err() {
+            let (found, taken) = run(rt.alloc(), Mode::PlanStable, input, reads, writes)?;
+            ended(&rt, found, outcome);
+            same(&rt, taken.as_slice(), wanted.as_bytes());
+        }
     }
     Ok(())
 }

@@ -53,7 +53,7 @@ returns-in_default-finish g c = (
 pub returns : goal.returns
 returns g c =
     let room : 0 < length c.read.new.buffer = omega arith in (
-      read_all _ _ _ _ _ (g.K.Sink.taken c.reads.sink) c.reads.session.output _ _ _ _ _ _ _ c.reads.invariant.served c.in-Ok.ensures.text c.in-Ok.ensures.empty c.in-Ok-read.ensures.bytes.1 c.if-count-eq0.true c.in-Ok-finish.ensures.served,
+      read_all _ _ _ _ _ _ (g.K.Sink.taken c.reads.sink) c.reads.session.output _ _ _ _ _ _ _ c.reads.invariant.served c.in-Ok.ensures.text c.in-Ok.ensures.empty c.in-Ok-read.ensures.bytes.1 c.if-count-eq0.true c.in-Ok-finish.ensures.served,
       met _ _ _ _ c.in-Ok-read.ensures.end c.if-count-eq0.true room,
       c.in-Ok-read.ensures.counted ∙ c.reads.invariant.no_read_fault,
       c.in-Ok-finish.ensures.counted ∙ (c.in-Ok.ensures.counted ∙ c.reads.invariant.no_write_fault),
