@@ -1,6 +1,6 @@
 #!/usr/bin/env bash
 # Each allocation of the line program refused in turn, for both kinds of graph: it ends before it reads, or one command is
-# answered `memory`. The same of the script of `dagbench_tests`, by the program and by `serve`.
+# answered `memory`. The same of the script of `dagbench_tests`, by the program and by `serve`, and of a plan.
 set -u
 . "$(dirname "$0")/../refusing.sh"
 program=$(built dagbench dagbench) || exit 1
@@ -54,7 +54,7 @@ for kind in compact stable; do
 done
 
 tests=$(built dagbench_tests dagbench_tests_tests) || exit 1
-for number in $(seq 1 120); do
+for number in $(seq 1 130); do
   if ! out=$(refusing "$number" dagbench_tests_tests "$runner" --filter a_refused_request "$tests" 2>&1); then
     printf 'serve, allocation %s:\n%s\n' "$number" "$out"
     exit 1
