@@ -3,6 +3,8 @@
 #![tactic(auto)]
 
 #[cfg(test)]
+mod document_tests;
+#[cfg(test)]
 mod run_tests;
 #[cfg(test)]
 mod stable_tests;
