@@ -1,12 +1,12 @@
 #!/usr/bin/env bash
-# Each allocation of the line program refused in turn, for both kinds of graph: it ends before it reads, or one command is
-# answered `memory`. The same of the script of `dagbench_tests`, by the program and by `serve`, and of a plan.
+# Each allocation of the line program refused in turn, until there are no more, for both kinds of graph: it ends before it reads,
+# or one command is answered `memory`. The same of the script of `dagbench_tests`, by the program and by `serve`, and of a plan.
 set -u
 . "$(dirname "$0")/../refusing.sh"
 program=$(built dagbench dagbench) || exit 1
 lines=$'node 1\nnode 2\nedge 0 1 7\nedge 1 0 5\nedges 0 1 8 0 1 9\nchildren 0\n'
 for kind in compact stable; do
-  for number in $(seq 1 40); do
+  for number in $(seq 1 1000); do
     out=$(printf '%s' "$lines" | refusing "$number" dagbench "$program" "$kind" 2>&1)
     ended=$?
     case "$(printf '%s\n' "$out" | paste -sd, -)" in
@@ -20,6 +20,7 @@ for kind in compact stable; do
       printf '%s, allocation %s, status %s:\n%s\n' "$kind" "$number" "$ended" "$out"
       exit 1
     fi
+    was_refused || break
   done
 done
 
@@ -43,20 +44,22 @@ for kind in compact stable; do
   for line in $(seq 1 17); do
     without[$kind $line]=$(printf '%s' "$script" | sed "${line}d" | "$program" "$kind")
   done
-  for number in $(seq 1 40); do
+  for number in $(seq 1 1000); do
     out=$(printf '%s' "$script" | refusing "$number" dagbench "$program" "$kind" 2>&1)
     ended=$?
     if [ "$ended $out" != '1 dagbench: out of memory' ] && ! { [ "$ended" = 0 ] && are_replies "$kind" "$out"; }; then
       printf '%s, the script, allocation %s, status %s:\n%s\n' "$kind" "$number" "$ended" "$out"
       exit 1
     fi
+    was_refused || break
   done
 done
 
 tests=$(built dagbench_tests dagbench_tests_tests) || exit 1
-for number in $(seq 1 130); do
+for number in $(seq 1 1000); do
   if ! out=$(refusing "$number" dagbench_tests_tests "$runner" --filter a_refused_request "$tests" 2>&1); then
     printf 'serve, allocation %s:\n%s\n' "$number" "$out"
     exit 1
   fi
+  was_refused || break
 done
