@@ -1,11 +1,11 @@
 #!/usr/bin/env bash
 # Times this library and a peer on the same workloads, one run of each in turn, and prints a table of medians and of least times.
-#   compare.sh PEER_BENCH PEER_PROGRAM [ROW]     with ROW, the rows alone whose text holds it
+#   compare.sh PEER_BENCH PEER_PROGRAM [ROW]     PEER_PROGRAM may be -; with ROW, the rows alone whose text holds it
 # PEER_BENCH NAME NODES EDGES [--kind stable] --reps 1 prints a line that ends with seconds, and on standard error `check .. VALUE`.
 # PEER_PROGRAM compact reads command lines and writes replies.
 set -eu
 peer_bench=$(realpath "$1")
-peer_program=$(realpath "$2")
+peer_program=$([ "$2" = - ] && echo - || realpath "$2")
 wanted=${3:-}
 here=$(cd "$(dirname "$0")" && pwd)
 work=$(mktemp -d)
@@ -22,7 +22,7 @@ least() { sort -g "$1" | head -n 1; }
 row() { # NAME CHECKS: from the files ours and theirs
   awk -v name="$1" -v checks="$2" -v ours="$(median "$work/ours")" -v theirs="$(median "$work/theirs")" \
     -v our_least="$(least "$work/ours")" -v their_least="$(least "$work/theirs")" 'BEGIN {
-      printf "| %s | %.4f | %.4f | %.3f | %.4f | %.4f | %.3f | %s |\n", name, ours, theirs, ours / theirs,
+      printf "| %s | %.3g | %.3g | %.3g | %.3g | %.3g | %.3g | %s |\n", name, ours, theirs, ours / theirs,
         our_least, their_least, our_least / their_least, checks }'
 }
 
@@ -61,7 +61,7 @@ program() { # ROUNDS
 echo "| Workload, nodes, edges | ours, s | theirs, s | ratio | least of ours | least of theirs | ratio | check values |"
 echo "|---|---|---|---|---|---|---|---|"
 workload 11 build_sorted 100000 500000
-workload 11 build_random 10000 100000
+workload 5 build_random 10000 100000
 workload 3 build_lowhigh 3000 100000
 workload 3 build_mixed 10000 100000
 workload 21 add_edges 100000 500000
@@ -85,4 +85,4 @@ workload 41 map_weights 100000 500000 --kind stable
 workload 41 copy 100000 500000 --kind stable
 workload 21 remove_edges 100000 500000 --kind stable
 workload 21 remove_nodes 100000 500000 --kind stable
-program 5
+[ "$peer_program" = "-" ] || program 5

@@ -3,7 +3,7 @@
 # how many times the time of the first size the last one took.
 set -eu
 here=$(cd "$(dirname "$0")" && pwd)
-(cd "$here" && rt run -- commands 1 > /dev/null)
+(cd "$here" && rt run -- commands 1 > /dev/null 2>&1)
 
 least() { # NAME NODES EDGES ..
   for _ in 1 2 3 4 5; do "$here/out/daggy_bench" "$@" 2> /dev/null | awk '{ print $NF }'; done | sort -g | head -n 1
