@@ -46,3 +46,4 @@ pub use Rattle.daggy_run.specs.Plans
 pub use Rattle.daggy_json.specs.Document
 pub use Rattle.daggy_json.specs.Reading
 pub use Rattle.daggy_json.specs.Weight
+pub use Rattle.daggy_json.specs.Restoring
