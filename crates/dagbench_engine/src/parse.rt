@@ -72,7 +72,8 @@ fn listing(
 ) -> Result<Option<Command<i64, i64, u32>>, AllocError>
     ensures said { IfOk result (λ command. option_map (request_of (λ i. i)) command
         ≡ listing_by_name name.now (words_of rest.now)) }
-    ensures no_room { OnErr result (IsSomeAnd (listing_by_name name.now (words_of rest.now)) (λ request. TakesRoom (Step request))) }
+    ensures no_room { OnErr result (IsSomeAnd (listing_by_name name.now (words_of rest.now))
+        (λ request. TakesRoom (Step request))) }
 {
     if name == b"edges".as_slice() {
         let Some(items) = Items::new(rest) else {

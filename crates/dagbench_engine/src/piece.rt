@@ -88,7 +88,8 @@ pub fn put_if_any<T: Piece, K: Sink>(
     output: &mut Output,
     sink: &mut K,
 ) -> Result<(), Fault>
-    ensures text { Appends result (K.taken sink.old ++ output.old) (K.taken sink.new ++ output.new) (if_any T.text piece) }
+    ensures text { Appends result (K.taken sink.old ++ output.old) (K.taken sink.new ++ output.new)
+        (if_any T.text piece) }
     ensures counted { CountsFaults result (K.failures sink.old) (K.failures sink.new) }
 {
     match piece {
@@ -103,7 +104,8 @@ pub fn put_each<T: Piece, K: Sink>(
     output: &mut Output,
     sink: &mut K,
 ) -> Result<(), Fault>
-    ensures text { Appends result (K.taken sink.old ++ output.old) (K.taken sink.new ++ output.new) (spaced T.text pieces.now) }
+    ensures text { Appends result (K.taken sink.old ++ output.old) (K.taken sink.new ++ output.new)
+        (spaced T.text pieces.now) }
     ensures counted { CountsFaults result (K.failures sink.old) (K.failures sink.new) }
 {
     for piece in pieces {
@@ -119,7 +121,8 @@ pub fn put_parted<T: Piece, K: Sink>(
     output: &mut Output,
     sink: &mut K,
 ) -> Result<(), Fault>
-    ensures text { Appends result (K.taken sink.old ++ output.old) (K.taken sink.new ++ output.new) (parted T.text pieces.now) }
+    ensures text { Appends result (K.taken sink.old ++ output.old) (K.taken sink.new ++ output.new)
+        (parted T.text pieces.now) }
     ensures counted { CountsFaults result (K.failures sink.old) (K.failures sink.new) }
 {
     let Some((first, others)) = pieces.split_first() else {

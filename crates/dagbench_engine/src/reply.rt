@@ -11,7 +11,8 @@ use daggy::run::{Back, Reply};
 
 /// The weight of what was removed, if there was anything.
 fn put_gone<K: Sink>(weight: Option<i64>, output: &mut Output, sink: &mut K) -> Result<(), Fault>
-    ensures text { Appends result (K.taken sink.old ++ output.old) (K.taken sink.new ++ output.new) (if_any weight_text weight) }
+    ensures text { Appends result (K.taken sink.old ++ output.old) (K.taken sink.new ++ output.new)
+        (if_any weight_text weight) }
     ensures counted { CountsFaults result (K.failures sink.old) (K.failures sink.new) }
 {
     let Some(weight) = weight else {

@@ -17,11 +17,11 @@ use std::alloc::Global;
 /// How many bytes are read at once.
 const BLOCK: usize = 0x1_0000;
 
-/// Reads lines until the end of the source, and writes the answer to each. What was answered is handed to the sink
-/// before more is read.
+/// Reads lines until the end of the source, and writes the answer to each. What was answered is handed
+/// to the sink before more is read.
 ///
-/// The mode says which kind of graph is served, and whether at the end of the source a plan of it is written: each stage as a
-/// line, and then the chain, or that there was no memory for one.
+/// The mode says which kind of graph is served, and whether at the end of the source a plan of it is
+/// written: each stage as a line, and then the chain, or that there was no memory for one.
 pub fn serve<S: Source, K: Sink>(
     alloc: Global,
     mode: Mode,
@@ -29,14 +29,16 @@ pub fn serve<S: Source, K: Sink>(
     sink: &mut K,
 ) -> Result<(), Stop>
     ensures end { OnOk result (S.is_ended source.new ≡ true) }
-    ensures served { OnOk result (Serves (kind_of mode) (plans_of mode) lines_of (S.given source.old) (S.given source.new) (K.taken sink.old) (K.taken sink.new)) }
+    ensures served { OnOk result (Serves (kind_of mode) (plans_of mode) lines_of
+        (S.given source.old) (S.given source.new) (K.taken sink.old) (K.taken sink.new)) }
 
     // A fault is told exactly where its device failed.
     ensures read { (result ≡ Err Stop.Read) ↔ (S.failures source.old < S.failures source.new) }
     ensures write { (result ≡ Err Stop.Write) ↔ (K.failures sink.old < K.failures sink.new) }
 
     // At a read fault each line whose newline came has its answer.
-    ensures replied { result ≡ Err Stop.Read → Serves (kind_of mode) false ended_lines_of (S.given source.old) (S.given source.new) (K.taken sink.old) (K.taken sink.new) }
+    ensures replied { result ≡ Err Stop.Read → Serves (kind_of mode) false ended_lines_of
+        (S.given source.old) (S.given source.new) (K.taken sink.old) (K.taken sink.new) }
     ensures memory { result ≡ Err Stop.Memory → (source.new ≡ source.old) × (sink.new ≡ sink.old) }
 {
     match mode {
@@ -57,14 +59,16 @@ fn serve_with<D: Documented, S: Source, K: Sink>(
 ) -> Result<(), Stop>
     requires { D.graph dag ≡ empty }
     ensures end { OnOk result (S.is_ended source.new ≡ true) }
-    ensures served { OnOk result (Serves D.kind plans lines_of (S.given source.old) (S.given source.new) (K.taken sink.old) (K.taken sink.new)) }
+    ensures served { OnOk result (Serves D.kind plans lines_of
+        (S.given source.old) (S.given source.new) (K.taken sink.old) (K.taken sink.new)) }
 
     // A fault is told exactly where its device failed.
     ensures read { (result ≡ Err Stop.Read) ↔ (S.failures source.old < S.failures source.new) }
     ensures write { (result ≡ Err Stop.Write) ↔ (K.failures sink.old < K.failures sink.new) }
 
     // At a read fault each line whose newline came has its answer.
-    ensures replied { result ≡ Err Stop.Read → Serves D.kind false ended_lines_of (S.given source.old) (S.given source.new) (K.taken sink.old) (K.taken sink.new) }
+    ensures replied { result ≡ Err Stop.Read → Serves D.kind false ended_lines_of
+        (S.given source.old) (S.given source.new) (K.taken sink.old) (K.taken sink.new) }
     ensures memory { result ≡ Err Stop.Memory → (source.new ≡ source.old) × (sink.new ≡ sink.old) }
 {
     let Ok(mut block) = vec![in alloc; 0u8; BLOCK] else {
@@ -87,7 +91,8 @@ fn run<D: Documented, S: Source, K: Sink>(
     requires room { 0 < length block.old }
     requires graph { D.graph session.dag ≡ empty }
     requires nothing { (session.line ≡ []) × (session.output ≡ []) }
-    ensures { IsRun D.kind plans result (S.given source.old) (S.given source.new) (K.taken sink.old) (K.taken sink.new) (S.is_ended source.new)
+    ensures { IsRun D.kind plans result (S.given source.old) (S.given source.new)
+        (K.taken sink.old) (K.taken sink.new) (S.is_ended source.new)
         (S.failures source.old) (S.failures source.new) (K.failures sink.old) (K.failures sink.new) }
 {
     'reads: loop {

@@ -83,8 +83,10 @@ impl<D: Documented> Session<D> {
     /// Answers the last line, if its newline did not come.
     fn end_last_line<K: Sink>(&mut self, sink: &mut K) -> Result<(), Fault>
         ensures done { OnOk result ((given_old given written_old : List ℕ)
-            → IsServed D.kind given_old given written_old (K.taken sink.old ++ self.old.output) (D.graph self.old.dag) self.old.line
-            → IsDone D.kind given_old given written_old (K.taken sink.new ++ self.new.output) (D.graph self.new.dag)) }
+            → IsServed D.kind given_old given written_old (K.taken sink.old ++ self.old.output)
+            (D.graph self.old.dag) self.old.line
+            → IsDone D.kind given_old given written_old (K.taken sink.new ++ self.new.output)
+            (D.graph self.new.dag)) }
         ensures counted { CountsFaults result (K.failures sink.old) (K.failures sink.new) }
     {
         if self.line.is_empty() {
@@ -99,10 +101,12 @@ impl<D: Documented> Session<D> {
         )
     }
 
-    /// Answers the last line, if its newline did not come, writes a plan if there is to be one, and hands all to the sink.
+    /// Answers the last line, if its newline did not come, writes a plan if there is to be one, and
+    /// hands all to the sink.
     pub fn finish<K: Sink>(&mut self, plans: bool, sink: &mut K) -> Result<(), Fault>
         ensures served { OnOk result ((given_old given written_old : List ℕ)
-            → IsServed D.kind given_old given written_old (K.taken sink.old ++ self.old.output) (D.graph self.old.dag) self.old.line
+            → IsServed D.kind given_old given written_old (K.taken sink.old ++ self.old.output)
+            (D.graph self.old.dag) self.old.line
             → Serves D.kind plans lines_of given_old given written_old (K.taken sink.new)) }
         ensures counted { CountsFaults result (K.failures sink.old) (K.failures sink.new) }
     {
