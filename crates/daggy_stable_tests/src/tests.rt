@@ -1,14 +1,4 @@
-//! What no contract says: that calls succeed, at concrete types, that the examples come out as they should, and in which
-//! order closures are called.
+//! What no contract says: that calls succeed, at concrete types, and that the examples come out as they should.
 
-mod calling;
-mod graphs;
 mod iterating;
-mod keeping;
-mod ordering;
-mod series;
-mod slots;
-mod support;
-mod visiting;
-mod walking;
-mod writing;
+mod storing;

@@ -1,6 +1,7 @@
 use super::kept::Kept;
 use super::random::Random;
-use super::support::{holds, lists, same};
+use super::support::lists;
+use daggy_assertions::{holds, same};
 use daggy_base::index::NodeIndex;
 use std::process::Abort;
 

@@ -1,4 +1,5 @@
-use super::support::{holds, lists, made};
+use super::support::lists;
+use daggy_assertions::{holds, made};
 use daggy_base::index::NodeIndex;
 use daggy_order::order::Order;
 use std::process::Abort;

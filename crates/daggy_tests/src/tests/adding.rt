@@ -1,7 +1,6 @@
-use super::support::{
-    Plain, add_child, add_edge, add_node, children, counts, dag_of, refuse_edge, same,
-};
+use super::support::{Plain, add_child, add_edge, add_node, children, counts, dag_of, refuse_edge};
 use daggy::{Dag, EdgeIndex, NodeIndex};
+use daggy_assertions::same;
 
 #[test]
 fn a_new_dag_is_empty(rt: HostRuntime) {

@@ -1,5 +1,6 @@
-use super::support::{Plain, add_child, add_edge, add_node, same};
+use super::support::{Plain, add_child, add_edge, add_node};
 use daggy::EdgeIndex;
+use daggy_assertions::same;
 use daggy_definitions::cursors::clear_weights;
 
 #[test]

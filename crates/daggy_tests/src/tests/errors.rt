@@ -1,5 +1,5 @@
-use super::support::{holds, made, prints, same};
 use daggy::{ChildError, EdgeError, EdgesError, ElementError, NodeError, WouldCycle};
+use daggy_assertions::{holds, prints, same, shows};
 use std::error::Error;
 
 #[derive(Drop)]
@@ -8,8 +8,7 @@ struct Unprinted;
 #[test]
 fn a_refused_cycle_prints_whatever_its_weight_is(rt: HostRuntime) {
     let error = WouldCycle(Unprinted);
-    let debug = made(&rt, format!(in rt.alloc(); "{error:?}"));
-    same(&rt, debug.as_str(), "WouldCycle\n");
+    shows(&rt, rt.alloc(), &error, "WouldCycle\n");
     prints(&rt, rt.alloc(), &error, "WouldCycle\n\n");
     let copied = WouldCycle(7);
     let copy = copied;

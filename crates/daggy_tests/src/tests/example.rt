@@ -1,5 +1,6 @@
-use super::support::{closes_cycle, holds};
+use super::support::closes_cycle;
 use daggy::{Dag, Walker};
+use daggy_assertions::holds;
 use std::test::Fail;
 
 #[test]

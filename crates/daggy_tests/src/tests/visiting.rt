@@ -1,9 +1,11 @@
-use super::support::{Plain, add_edge, add_node, dag_of, holds, made, same, shape};
+use super::support::{Plain, add_edge, add_node, dag_of};
 use daggy::visit::{
     Data, DataMap, DataMapMut, GetAdjacencyMatrix, GraphBase, GraphProp, NodeCompactIndexable,
     NodeCount, NodeIndexable, VisitMap, Visitable,
 };
 use daggy::{Dag, EdgeIndex, NodeIndex};
+use daggy_assertions::{holds, made, same, shows};
+use daggy_graph_tests::graphs::shape;
 use std::alloc::{AllocError, Global};
 use std::process::Abort;
 
@@ -53,6 +55,15 @@ fn a_set_is_reset_for_more_nodes(rt: HostRuntime) {
     holds(&rt, map.visit(NodeIndex::new(69)));
     holds(&rt, map.is_visited(NodeIndex::new(69)));
     holds(&rt, !map.is_visited(NodeIndex::new(5)));
+}
+
+#[test]
+fn a_set_and_a_matrix_show_their_bounds(rt: HostRuntime) {
+    let dag = three_nodes(&rt, rt.alloc());
+    let map = made(&rt, dag.visit_map());
+    shows(&rt, rt.alloc(), &map, "NodeSet { bound: 3, .. }");
+    let matrix = made(&rt, dag.adjacency_matrix());
+    shows(&rt, rt.alloc(), &matrix, "AdjMatrix { bound: 3, .. }");
 }
 
 #[test]

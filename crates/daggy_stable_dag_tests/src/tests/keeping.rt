@@ -1,11 +1,12 @@
 //! Copies, maps and parts, and the dag or graph that another becomes.
 use super::support::{
-    Plain, add_edge, add_node, children, counts, dag_of, made, parents, put_edge, refuse_edge,
-    same, shape, triangle,
+    Plain, add_edge, add_node, children, counts, dag_of, parents, refuse_edge, triangle,
 };
 use daggy::stable_dag::StableDag;
 use daggy::stable_graph::StableDiGraph;
 use daggy::{Dag, EdgeIndex, NodeIndex};
+use daggy_assertions::{made, same};
+use daggy_stable_tests::graphs::{put_edge, shape};
 use std::alloc::Global;
 use std::process::Abort;
 
@@ -108,4 +109,29 @@ fn a_stable_graph_that_was_a_dag_may_hold_cycles(rt: HostRuntime) {
     put_edge(&rt, &mut graph, (2, 0), 3, 3);
     let edges = [(0, 0, 1, 100), (1, 1, 2, 101), (2, 0, 2, 102), (3, 2, 0, 3)];
     shape(&rt, &graph, &[(0, 10), (1, 11), (2, 12)], &edges);
+}
+
+// A struct of a user's own, which derives its copies.
+#[derive(Clone, Drop)]
+struct Named {
+    dag: Plain,
+    name: u32,
+}
+
+#[test]
+fn a_struct_that_holds_a_dag_is_cloned(rt: HostRuntime) {
+    let named = Named {
+        dag: triangle(&rt, rt.alloc()),
+        name: 7,
+    };
+    let mut copy = made(&rt, named.clone());
+    same(&rt, copy.name, named.name);
+    shape(
+        &rt,
+        copy.dag.graph(),
+        &[(0, 10), (1, 11), (2, 12)],
+        &[(0, 0, 1, 100), (1, 1, 2, 101), (2, 0, 2, 102)],
+    );
+    add_edge(&rt, &mut copy.dag, (0, 1), 103, 3);
+    counts(&rt, &named.dag, 3, 3);
 }

@@ -1,0 +1,13 @@
+//! What no contract says: that calls succeed, at concrete types, that the examples come out as they should, and in which
+//! order closures are called.
+
+mod calling;
+mod iterating;
+mod keeping;
+mod ordering;
+mod series;
+mod slots;
+mod support;
+mod visiting;
+mod walking;
+mod writing;

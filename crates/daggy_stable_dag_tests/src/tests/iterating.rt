@@ -1,0 +1,58 @@
+//! Iterators over all of a dag and over the lists of a node.
+use super::support::triangle;
+use daggy::NodeIndex;
+use daggy::index::Direction;
+use daggy_assertions::{gives, same, shows};
+use daggy_graph_tests::graphs::{index, line};
+use daggy_stable_tests::graphs::weighted;
+
+#[test]
+fn all_there_is_is_gone_through(rt: HostRuntime) {
+    let mut dag = triangle(&rt, rt.alloc());
+    same(&rt, dag.remove_node(NodeIndex::new(1)), Some(11));
+    gives(&rt, dag.node_identifiers().map(index), &[0, 2]);
+    weighted(&rt, dag.node_references(), &[(0, 10), (2, 12)]);
+    gives(&rt, dag.edge_references().map(line), &[(2, 0, 2, 102)]);
+    same(&rt, dag.node_references().size_hint(), (0, Some(3)));
+    same(&rt, dag.edge_references().size_hint(), (0, Some(3)));
+}
+
+#[test]
+fn lists_are_gone_through(rt: HostRuntime) {
+    let dag = triangle(&rt, rt.alloc());
+    let (a, c) = (NodeIndex::new(0), NodeIndex::new(2));
+    gives(&rt, dag.neighbors(a).map(index), &[2, 1]);
+    gives(
+        &rt,
+        dag.neighbors_directed(c, Direction::Incoming).map(index),
+        &[0, 1],
+    );
+    gives(
+        &rt,
+        dag.edges(a).map(line),
+        &[(2, 0, 2, 102), (0, 0, 1, 100)],
+    );
+    gives(
+        &rt,
+        dag.edges_directed(c, Direction::Incoming).map(line),
+        &[(2, 0, 2, 102), (1, 1, 2, 101)],
+    );
+    gives(&rt, dag.edges(NodeIndex::new(9)).map(line), &[]);
+}
+
+#[test]
+fn roots_and_leaves_are_found(rt: HostRuntime) {
+    let mut dag = triangle(&rt, rt.alloc());
+    let out = Direction::Outgoing;
+    gives(&rt, dag.externals(out.opposite()).map(index), &[0]);
+    gives(&rt, dag.externals(out).map(index), &[2]);
+    same(&rt, dag.remove_node(NodeIndex::new(0)), Some(10));
+    gives(&rt, dag.externals(out.opposite()).map(index), &[1]);
+}
+
+#[test]
+fn a_dag_is_printed_by_its_counts(rt: HostRuntime) {
+    let dag = triangle(&rt, rt.alloc());
+    let wanted = "Dag { graph: StableDiGraph { node_count: 3, edge_count: 3 } }";
+    shows(&rt, rt.alloc(), &dag, wanted);
+}
