@@ -9,12 +9,15 @@ use crate::link::Link;
 mod cycles;
 mod looks;
 mod marks;
+mod room;
 mod scratch;
 mod source;
 
 pub use cycles::{is_acyclic, sort_nodes};
 pub use looks::Looks;
 pub use marks::Marks;
+#[doc(hidden)]
+pub use room::write_out;
 pub use scratch::Scratch;
 pub use source::EdgeSource;
 
@@ -36,6 +39,7 @@ pub fn reaches<Ix: IndexType, S: EdgeSource<Ix>>(
     ensures room { scratch.new ≡ scratch.old }
 {
     scratch.marks.clear();
+    write_out(&mut scratch.stack, scratch.marks.len(), Link::end());
     search(
         source,
         from,

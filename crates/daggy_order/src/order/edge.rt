@@ -13,7 +13,7 @@ use crate::order::moving::{move_behind, sort_by_label};
 use crate::order::search::reaches_below;
 use daggy_base::index::{IndexType, NodeIndex};
 use daggy_base::link::Link;
-use daggy_base::search::{EdgeSource, Marks, Scratch};
+use daggy_base::search::{EdgeSource, Marks, Scratch, write_out};
 
 /// Makes way for an edge from `a` to `b` that is to be added: moves nodes so that `a` stands before
 /// `b`, unless the edge would close a cycle.
@@ -54,6 +54,8 @@ pub fn order_edge<Ix: IndexType, S: EdgeSource<Ix>>(
         return true;
     }
     scratch.marks.clear();
+    write_out(&mut scratch.stack, scratch.marks.len(), Link::end());
+    write_out(&mut scratch.cursors, scratch.marks.len(), Link::end());
     order_links(
         source,
         &mut order.links,
