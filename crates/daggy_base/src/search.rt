@@ -24,8 +24,8 @@ pub use source::EdgeSource;
 /// Whether a path leads from `from` to `to`. The path of one node counts, so an existing node reaches itself; a missing
 /// one reaches nothing.
 ///
-/// It takes no more looks than there are edges and cannot fail for want of memory. The cost is that of the nodes and edges
-/// visited.
+/// It takes no more looks than there are edges and cannot fail for want of memory. The cost is that
+/// of the nodes and edges visited, and of room in the scratch that no search wrote before.
 pub fn reaches<Ix: IndexType, S: EdgeSource<Ix>>(
     source: &mut S,
     from: NodeIndex<Ix>,

@@ -1,4 +1,4 @@
-//! Lists for which memory is reserved first, and which are written when they are first needed.
+//! Lists for which memory is reserved first, and which are written when they are needed.
 ghost use Rattle.std.specs.Prelude.{◌≡◌, ℕ, ◌-◌, ◌≤◌, ◌++◌, replicate, vec_len, vec_capacity, OnOk, IsOk};
 
 use std::alloc::AllocError;
@@ -17,8 +17,8 @@ pub(crate) fn reserve<T>(list: &mut Vec<T>, len: usize) -> Result<(), AllocError
     Ok(())
 }
 
-/// Makes a list at least so long, with a value at the places that were not written yet. Memory for them was reserved
-/// before.
+/// Makes a list at least so long, with a value at the places that were not written yet. Memory for
+/// them was reserved before.
 #[doc(hidden)]
 #[inline]
 pub fn write_out<T: Copy>(list: &mut Vec<T>, len: usize, value: T)

@@ -20,7 +20,8 @@ use daggy_base::search::{EdgeSource, Marks, Scratch, write_out};
 ///
 /// Constant time if `a` stands before `b`. Otherwise the cost is that of the nodes between the two
 /// places that `b` reaches and of their edges, of sorting these nodes, and of labels that are made
-/// anew where there is no room for theirs, mostly few. It takes no memory.
+/// anew where there is no room for theirs, mostly few. It takes no memory; room in the scratch that
+/// no search wrote before is written.
 #[inline]
 pub fn order_edge<Ix: IndexType, S: EdgeSource<Ix>>(
     source: &mut S,
