@@ -9,20 +9,23 @@ use crate::link::Link;
 mod cycles;
 mod looks;
 mod marks;
+mod room;
 mod scratch;
 mod source;
 
 pub use cycles::{is_acyclic, sort_nodes};
 pub use looks::Looks;
 pub use marks::Marks;
+#[doc(hidden)]
+pub use room::write_out;
 pub use scratch::Scratch;
 pub use source::EdgeSource;
 
 /// Whether a path leads from `from` to `to`. The path of one node counts, so an existing node reaches itself; a missing
 /// one reaches nothing.
 ///
-/// It takes no more looks than there are edges and cannot fail for want of memory. The cost is that of the nodes and edges
-/// visited.
+/// It takes no more looks than there are edges and cannot fail for want of memory. The cost is that
+/// of the nodes and edges visited, and of room in the scratch that no search wrote before.
 pub fn reaches<Ix: IndexType, S: EdgeSource<Ix>>(
     source: &mut S,
     from: NodeIndex<Ix>,
@@ -36,6 +39,7 @@ pub fn reaches<Ix: IndexType, S: EdgeSource<Ix>>(
     ensures room { scratch.new ≡ scratch.old }
 {
     scratch.marks.clear();
+    write_out(&mut scratch.stack, scratch.marks.len(), Link::end());
     search(
         source,
         from,

@@ -14,7 +14,7 @@ use crate::flags::{flag_marked, gather_flagged, unflag};
 use crate::roots::enter_below;
 use daggy_base::index::{EdgeIndex, IndexType, NodeIndex};
 use daggy_base::link::Link;
-use daggy_base::search::{EdgeSource, Marks, Scratch};
+use daggy_base::search::{EdgeSource, Marks, Scratch, write_out};
 use daggy_order::order::Order;
 
 // Gives marks in `met` to those children of `u` to which a longer way leads. Such a way stays before the last child, so
@@ -216,6 +216,8 @@ pub fn redundant_edges_in<Ix: IndexType, S: EdgeSource<Ix>>(
     ensures room { scratch.new ≡ scratch.old }
     ensures edges_kept { length edges.new ≡ length edges.old }
 {
+    write_out(&mut scratch.stack, scratch.marks.len(), Link::end());
+    write_out(&mut scratch.cursors, scratch.marks.len(), Link::end());
     find_redundant_in(
         source,
         order,

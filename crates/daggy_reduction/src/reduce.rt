@@ -10,7 +10,8 @@ ghost use Rattle.daggy_reduction.specs.Stretching.{all_spanned};
 
 use crate::bounded::find_redundant_in;
 use daggy_base::index::{EdgeIndex, IndexType, NodeIndex};
-use daggy_base::search::Scratch;
+use daggy_base::link::Link;
+use daggy_base::search::{Scratch, write_out};
 use daggy_base::store::Store;
 use daggy_order::order::Order;
 use std::alloc::AllocError;
@@ -55,6 +56,8 @@ pub fn transitive_reduce<Ix: IndexType, S: Store<Ix>>(
     let nodes = store.node_bound();
     let edges = store.edge_bound();
     scratch.reserve(nodes, edges)?;
+    write_out(&mut scratch.stack, scratch.marks.len(), Link::end());
+    write_out(&mut scratch.cursors, scratch.marks.len(), Link::end());
     let count = find_redundant_in(
         store,
         order,

@@ -12,7 +12,7 @@ use crate::flags::{flag_marked, gather_flagged, unflag};
 use crate::roots::enter_below;
 use daggy_base::index::{EdgeIndex, IndexType, NodeIndex};
 use daggy_base::link::Link;
-use daggy_base::search::{EdgeSource, Marks, Scratch};
+use daggy_base::search::{EdgeSource, Marks, Scratch, write_out};
 
 // Flags the edges of `u` to whose children a longer way leads.
 fn flag_round<Ix: IndexType, S: EdgeSource<Ix>>(
@@ -142,6 +142,8 @@ pub fn redundant_edges<Ix: IndexType, S: EdgeSource<Ix>>(
     ensures room { scratch.new ≡ scratch.old }
     ensures edges_kept { length edges.new ≡ length edges.old }
 {
+    write_out(&mut scratch.stack, scratch.marks.len(), Link::end());
+    write_out(&mut scratch.cursors, scratch.marks.len(), Link::end());
     find_redundant(
         source,
         roots,

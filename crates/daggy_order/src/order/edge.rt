@@ -13,14 +13,15 @@ use crate::order::moving::{move_behind, sort_by_label};
 use crate::order::search::reaches_below;
 use daggy_base::index::{IndexType, NodeIndex};
 use daggy_base::link::Link;
-use daggy_base::search::{EdgeSource, Marks, Scratch};
+use daggy_base::search::{EdgeSource, Marks, Scratch, write_out};
 
 /// Makes way for an edge from `a` to `b` that is to be added: moves nodes so that `a` stands before
 /// `b`, unless the edge would close a cycle.
 ///
 /// Constant time if `a` stands before `b`. Otherwise the cost is that of the nodes between the two
 /// places that `b` reaches and of their edges, of sorting these nodes, and of labels that are made
-/// anew where there is no room for theirs, mostly few. It takes no memory.
+/// anew where there is no room for theirs, mostly few. It takes no memory; room in the scratch that
+/// no search wrote before is written.
 #[inline]
 pub fn order_edge<Ix: IndexType, S: EdgeSource<Ix>>(
     source: &mut S,
@@ -54,6 +55,8 @@ pub fn order_edge<Ix: IndexType, S: EdgeSource<Ix>>(
         return true;
     }
     scratch.marks.clear();
+    write_out(&mut scratch.stack, scratch.marks.len(), Link::end());
+    write_out(&mut scratch.cursors, scratch.marks.len(), Link::end());
     order_links(
         source,
         &mut order.links,
