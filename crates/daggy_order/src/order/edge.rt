@@ -53,11 +53,12 @@ pub fn order_edge<Ix: IndexType, S: EdgeSource<Ix>>(
     if order.stands_before(a, b) {
         return true;
     }
+    order.tail = order.written.settle(order.tail);
     scratch.marks.clear();
     order_links(
         source,
-        &mut order.links,
-        &mut order.labels,
+        &mut order.written.links,
+        &mut order.written.labels,
         a,
         b,
         &mut scratch.marks,

@@ -17,17 +17,19 @@ pub struct Nodes<'a, Ix: IndexType = DefaultIx> {
     links: &'a Links<Ix>,
     at: Link<Ix>,
     left: usize,
+    from: usize,
+    count: usize,
 }
 
 impl<'a, Ix: IndexType> Model for Nodes<'a, Ix> {
-    ghost use Rattle.std.specs.Prelude.{ℕ, List};
-    ghost use Rattle.daggy_order.specs.Links.{last_few, IsAt};
+    ghost use Rattle.std.specs.Prelude.{ℕ, List, ◌++◌};
+    ghost use Rattle.daggy_order.specs.Links.{last_few, in_turn, IsAmong};
 
     ghost Value = { List ℕ };
 
-    ghost view = { λ it. last_few it.left it.links.now.nodes };
+    ghost view = { λ it. last_few it.left it.links.now.nodes ++ in_turn it.from it.count };
 
-    ghost invariant = { λ it. IsAt Ix.greatest it.links.now.nodes it.left it.at };
+    ghost invariant = { λ it. IsAmong Ix.greatest it.links.now.nodes it.left it.at it.from it.count };
 }
 
 impl<Ix: IndexType> Order<Ix> {
@@ -38,9 +40,11 @@ impl<Ix: IndexType> Order<Ix> {
         ensures fits { length result < 2 ^ 64 }
     {
         Nodes {
-            links: &self.links,
-            at: self.links.first(),
-            left: self.links.len(),
+            links: &self.written.links,
+            at: self.written.links.first(),
+            left: self.written.links.len(),
+            from: self.tail.from,
+            count: self.tail.count,
         }
     }
 }
@@ -55,7 +59,13 @@ impl<'a, Ix: IndexType> Iterator for Nodes<'a, Ix> {
     #[inline]
     fn next(&mut self) -> Option<NodeIndex<Ix>> {
         if self.left == 0 {
-            return None;
+            if self.count == 0 {
+                return None;
+            }
+            let n = NodeIndex::new(self.from);
+            self.from += 1;
+            self.count -= 1;
+            return Some(n);
         }
         let n = self.at;
         self.at = self.links.next(n);
@@ -73,7 +83,7 @@ impl<'a, Ix: IndexType> Iterator for Nodes<'a, Ix> {
 impl<'a, Ix: IndexType> ExactSizeIterator for Nodes<'a, Ix> {
     #[inline]
     fn len(&self) -> usize {
-        self.left
+        self.left + self.count
     }
 }
 
@@ -87,6 +97,8 @@ impl<'a, Ix: IndexType> Clone for Nodes<'a, Ix> {
             links: self.links,
             at: self.at,
             left: self.left,
+            from: self.from,
+            count: self.count,
         })
     }
 }

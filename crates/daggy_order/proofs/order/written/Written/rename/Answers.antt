@@ -3,49 +3,49 @@ use Rattle.std.specs.List.{Contains}
 use Rattle.std.proofs.lemmas.List.{get_or_read}
 use Rattle.daggy_base.specs.Removal.{without, renamed}
 use Rattle.daggy_base.proofs.Lists.{Mem, mem_left, mem_right, mem_mid, contains_mem, mem_contains}
-use Rattle.daggy_order.specs.Links.{Listed}
+use Rattle.daggy_order.specs.Links.{Listed, Stored}
 use Rattle.daggy_order.proofs.Bounded.{split_at}
 use Rattle.daggy_order.proofs.Linking.{without_mid}
 use Rattle.daggy_order.proofs.Labelled.{label_within, label_once, labelled_renamed, renamed_mid, renamed_self}
-use Rattle.daggy_order.proofs.order.Order.rename.Goals as goal
+use Rattle.daggy_order.proofs.order.written.Written.rename.Goals as goal
 
 pub index-label-requires : goal.index-label-requires
 index-label-requires g c =
     let n : ℕ = g.Ix.IndexType.number c.args.n in
     let Mn : List ℕ → Type 0 = λ z. Mem n z in
-    let has_n : Mem n c.self.inside.links.nodes = subst Mn (sym c.self.view_is) (contains_mem c.args.self.now n c.requires.held) in
+    let has_n : Mem n c.self.inside.links.nodes = subst Mn (sym (ap (λ (z : Stored). z.nodes) c.self.view_is)) (contains_mem c.args.self.now.nodes n c.requires.held) in
     omega (arith, c.index-i.ensures.value, label_within c.self.invariant n has_n, c.self.inside.labels.ok.0)
 
 pub index_mut-requires : goal.index_mut-requires
 index_mut-requires g c =
     let n : ℕ = g.Ix.IndexType.number c.args.n in
     let Mn : List ℕ → Type 0 = λ z. Mem n z in
-    let has_n : Mem n c.self.inside.links.nodes = subst Mn (sym c.self.view_is) (contains_mem c.args.self.now n c.requires.held) in
+    let has_n : Mem n c.self.inside.links.nodes = subst Mn (sym (ap (λ (z : Stored). z.nodes) c.self.view_is)) (contains_mem c.args.self.now.nodes n c.requires.held) in
     omega (arith, c.index-i.ensures.value, label_within c.self.invariant n has_n, c.self.inside.labels.ok.0)
 
 pub index_mut-requires-then-i-j : goal.index_mut-requires-then-i-j
 index_mut-requires-then-i-j g c =
     let n : ℕ = g.Ix.IndexType.number c.args.n in
     let Mn : List ℕ → Type 0 = λ z. Mem n z in
-    let has_n : Mem n c.self.inside.links.nodes = subst Mn (sym c.self.view_is) (contains_mem c.args.self.now n c.requires.held) in
+    let has_n : Mem n c.self.inside.links.nodes = subst Mn (sym (ap (λ (z : Stored). z.nodes) c.self.view_is)) (contains_mem c.args.self.now.nodes n c.requires.held) in
     omega (arith, c.index-j.ensures.value, c.requires.lower, label_within c.self.invariant n has_n, c.self.inside.labels.ok.0)
 
 pub put_behind-requires-clause-numbered : goal.put_behind-requires-clause-numbered
 put_behind-requires-clause-numbered g c =
     let n : ℕ = g.Ix.IndexType.number c.args.n in
     let Mn : List ℕ → Type 0 = λ z. Mem n z in
-    let has_n : Mem n c.self.inside.links.nodes = subst Mn (sym c.self.view_is) (contains_mem c.args.self.now n c.requires.held) in
+    let has_n : Mem n c.self.inside.links.nodes = subst Mn (sym (ap (λ (z : Stored). z.nodes) c.self.view_is)) (contains_mem c.args.self.now.nodes n c.requires.held) in
     omega (arith, c.of_node.ensures, c.requires.lower, c.len-count.ensures.within n (mem_contains c.self.inside.links.nodes n has_n))
 
 pub remove-requires : goal.remove-requires
 remove-requires g c =
     let n : ℕ = g.Ix.IndexType.number c.args.n in
     let Mn : List ℕ → Type 0 = λ z. Mem n z in
-    let has_n : Mem n c.self.inside.links.nodes = subst Mn (sym c.self.view_is) (contains_mem c.args.self.now n c.requires.held) in
+    let has_n : Mem n c.self.inside.links.nodes = subst Mn (sym (ap (λ (z : Stored). z.nodes) c.self.view_is)) (contains_mem c.args.self.now.nodes n c.requires.held) in
     let m : ℕ = g.Ix.IndexType.number c.args.m in
     let apart : m ≢ n = λ e. c.if-i-j.true (c.index-i.ensures.value ∙ (sym e ∙ sym c.index-j.ensures.value)) in
     let absent : Mem m c.self.inside.links.nodes → ⊥ = λ h. elim c.requires.free [
-      | inl free ↦ free (let A : List ℕ → Type 0 = λ z. Mem m z in mem_contains c.args.self.now m (subst A c.self.view_is h))
+      | inl free ↦ free (let A : List ℕ → Type 0 = λ z. Mem m z in mem_contains c.args.self.now.nodes m (subst A (ap (λ (z : Stored). z.nodes) c.self.view_is) h))
       | inr same ↦ apart same
     ] in
     let at = split_at c.self.inside.links.nodes n has_n in
@@ -59,11 +59,11 @@ pub invariant_of-self : goal.invariant_of-self
 invariant_of-self g c =
     let n : ℕ = g.Ix.IndexType.number c.args.n in
     let Mn : List ℕ → Type 0 = λ z. Mem n z in
-    let has_n : Mem n c.self.inside.links.nodes = subst Mn (sym c.self.view_is) (contains_mem c.args.self.now n c.requires.held) in
+    let has_n : Mem n c.self.inside.links.nodes = subst Mn (sym (ap (λ (z : Stored). z.nodes) c.self.view_is)) (contains_mem c.args.self.now.nodes n c.requires.held) in
     let m : ℕ = g.Ix.IndexType.number c.args.m in
     let apart : m ≢ n = λ e. c.if-i-j.true (c.index-i.ensures.value ∙ (sym e ∙ sym c.index-j.ensures.value)) in
     let absent : Mem m c.self.inside.links.nodes → ⊥ = λ h. elim c.requires.free [
-      | inl free ↦ free (let A : List ℕ → Type 0 = λ z. Mem m z in mem_contains c.args.self.now m (subst A c.self.view_is h))
+      | inl free ↦ free (let A : List ℕ → Type 0 = λ z. Mem m z in mem_contains c.args.self.now.nodes m (subst A (ap (λ (z : Stored). z.nodes) c.self.view_is) h))
       | inr same ↦ apart same
     ] in
     let at = split_at c.self.inside.links.nodes n has_n in
@@ -82,11 +82,11 @@ pub returns-then-i-j : goal.returns-then-i-j
 returns-then-i-j g c =
     let n : ℕ = g.Ix.IndexType.number c.args.n in
     let Mn : List ℕ → Type 0 = λ z. Mem n z in
-    let has_n : Mem n c.self.inside.links.nodes = subst Mn (sym c.self.view_is) (contains_mem c.args.self.now n c.requires.held) in
+    let has_n : Mem n c.self.inside.links.nodes = subst Mn (sym (ap (λ (z : Stored). z.nodes) c.self.view_is)) (contains_mem c.args.self.now.nodes n c.requires.held) in
     let m : ℕ = g.Ix.IndexType.number c.args.m in
     let apart : m ≢ n = λ e. c.if-i-j.true (c.index-i.ensures.value ∙ (sym e ∙ sym c.index-j.ensures.value)) in
     let absent : Mem m c.self.inside.links.nodes → ⊥ = λ h. elim c.requires.free [
-      | inl free ↦ free (let A : List ℕ → Type 0 = λ z. Mem m z in mem_contains c.args.self.now m (subst A c.self.view_is h))
+      | inl free ↦ free (let A : List ℕ → Type 0 = λ z. Mem m z in mem_contains c.args.self.now.nodes m (subst A (ap (λ (z : Stored). z.nodes) c.self.view_is) h))
       | inr same ↦ apart same
     ] in
     let at = split_at c.self.inside.links.nodes n has_n in
@@ -97,10 +97,10 @@ returns-then-i-j g c =
     ap (λ (z : Listed). z.nodes) c.remove.ensures
     ∙ (ap (λ z. without z c.put_behind.new.self.nodes) c.of_node-n.ensures
     ∙ (ap (without n) put ∙ without_mid n at.0 (m ∷ at.1) (λ h. once n (mem_left at.0 at.1 n h) refl) (λ h. elim h [ inl e ↦ apart (sym e) | inr b ↦ once n (mem_right at.0 at.1 n b) refl ]))) in
-    taken ∙ (sym (renamed_mid n m at.0 at.1 (λ h. once n (mem_left at.0 at.1 n h) refl) (λ h. once n (mem_right at.0 at.1 n h) refl)) ∙ (ap (map (renamed n m)) (sym at.2) ∙ ap (map (renamed n m)) c.self.view_is))
+    taken ∙ (sym (renamed_mid n m at.0 at.1 (λ h. once n (mem_left at.0 at.1 n h) refl) (λ h. once n (mem_right at.0 at.1 n h) refl)) ∙ (ap (map (renamed n m)) (sym at.2) ∙ ap (map (renamed n m)) (ap (λ (z : Stored). z.nodes) c.self.view_is)))
 
 pub returns-else-i-j : goal.returns-else-i-j
 returns-else-i-j g c =
     let n : ℕ = g.Ix.IndexType.number c.args.n in
     let m : ℕ = g.Ix.IndexType.number c.args.m in
-    sym (renamed_self n m c.args.self.now (sym c.index-j.ensures.value ∙ (sym c.if-i-j.false ∙ c.index-i.ensures.value)))
+    sym (renamed_self n m c.args.self.now.nodes (sym c.index-j.ensures.value ∙ (sym c.if-i-j.false ∙ c.index-i.ensures.value)))
