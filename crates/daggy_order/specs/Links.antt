@@ -114,11 +114,6 @@ abbrev pub without_all : List ℕ → List ℕ → List ℕ
 without_all [] nodes = nodes
 without_all (n ∷ ns) nodes = without_all ns (without n nodes)
 
--- so many nodes whose indices follow one another, the first of them `from`
-abbrev pub in_turn : (from count : ℕ) → List ℕ
-in_turn from zero = []
-in_turn from (suc count) = from ∷ in_turn (suc from) count
-
 -- nodes that are written, behind which stand nodes in turn that are not: these are above all others, and there is memory
 -- to write them
 pub record IsTailed (end : ℕ) (nodes : List ℕ) (capacity from count room : ℕ) : Type 0 where

@@ -35,11 +35,12 @@ pub struct Order<Ix: IndexType = DefaultIx> {
 
 impl<Ix: IndexType> Model for Order<Ix> {
     ghost use Rattle.std.specs.Prelude.{ℕ, List, ◌++◌};
-    ghost use Rattle.daggy_order.specs.Links.{IsTailed, in_turn};
+    ghost use Rattle.std.specs.List.{range_with_len};
+    ghost use Rattle.daggy_order.specs.Links.{IsTailed};
 
     ghost Value = { List ℕ };
 
-    ghost view = { λ o. o.written.nodes ++ in_turn o.tail.from o.tail.count };
+    ghost view = { λ o. o.written.nodes ++ range_with_len o.tail.from o.tail.count };
 
     ghost invariant = { λ o. IsTailed Ix.greatest o.written.nodes o.written.capacity o.tail.from o.tail.count o.tail.room };
 }
@@ -124,7 +125,7 @@ impl<Ix: IndexType> Order<Ix> {
     {
         let i = n.index();
         if i == self.tail.from + self.tail.count {
-            self.reserve(i + 1)?;
+            self.tail.room = self.written.reserve(i + 1)?;
             self.tail.count += 1;
             return Ok(());
         }

@@ -3,7 +3,7 @@ ghost use Rattle.std.specs.Prelude.{◌≡◌, ◌<◌, ◌^◌, length};
 ghost use Rattle.std.specs.Iterator.{YieldsFirstBy, item_count};
 
 use crate::order::Order;
-use crate::order::links::Links;
+use crate::order::written::Written;
 use daggy_base::index::{DefaultIx, IndexType, NodeIndex};
 use daggy_base::link::Link;
 use std::alloc::AllocError;
@@ -14,7 +14,7 @@ use std::marker::Model;
 /// The nodes of an order, from the first to the last.
 #[derive(Drop)]
 pub struct Nodes<'a, Ix: IndexType = DefaultIx> {
-    links: &'a Links<Ix>,
+    written: &'a Written<Ix>,
     at: Link<Ix>,
     left: usize,
     from: usize,
@@ -23,13 +23,14 @@ pub struct Nodes<'a, Ix: IndexType = DefaultIx> {
 
 impl<'a, Ix: IndexType> Model for Nodes<'a, Ix> {
     ghost use Rattle.std.specs.Prelude.{ℕ, List, ◌++◌};
-    ghost use Rattle.daggy_order.specs.Links.{last_few, in_turn, IsAmong};
+    ghost use Rattle.std.specs.List.{range_with_len};
+    ghost use Rattle.daggy_order.specs.Links.{last_few, IsAmong};
 
     ghost Value = { List ℕ };
 
-    ghost view = { λ it. last_few it.left it.links.now.nodes ++ in_turn it.from it.count };
+    ghost view = { λ it. last_few it.left it.written.now.nodes ++ range_with_len it.from it.count };
 
-    ghost invariant = { λ it. IsAmong Ix.greatest it.links.now.nodes it.left it.at it.from it.count };
+    ghost invariant = { λ it. IsAmong Ix.greatest it.written.now.nodes it.left it.at it.from it.count };
 }
 
 impl<Ix: IndexType> Order<Ix> {
@@ -40,9 +41,9 @@ impl<Ix: IndexType> Order<Ix> {
         ensures fits { length result < 2 ^ 64 }
     {
         Nodes {
-            links: &self.written.links,
-            at: self.written.links.first(),
-            left: self.written.links.len(),
+            written: &self.written,
+            at: self.written.first(),
+            left: self.written.len(),
             from: self.tail.from,
             count: self.tail.count,
         }
@@ -68,7 +69,7 @@ impl<'a, Ix: IndexType> Iterator for Nodes<'a, Ix> {
             return Some(n);
         }
         let n = self.at;
-        self.at = self.links.next(n);
+        self.at = self.written.next(n);
         self.left -= 1;
         Some(n.node())
     }
@@ -94,7 +95,7 @@ impl<'a, Ix: IndexType> Clone for Nodes<'a, Ix> {
 
     fn clone(&self) -> Result<Self, AllocError> {
         Ok(Nodes {
-            links: self.links,
+            written: self.written,
             at: self.at,
             left: self.left,
             from: self.from,

@@ -1,9 +1,11 @@
 //! The nodes of an order that are written, as links and labels.
-ghost use Rattle.std.specs.Prelude.{◌≡◌, ℕ, ◌+◌, ◌<◌, ◌≤◌, ◌↔◌, ◌⊎◌, [], ◌∷◌, ◌++◌, length, slice_index, map, vec_len, IsTrue, Contains, OnOk, OnErr, IfOk};
+ghost use Rattle.std.specs.Prelude.{◌≡◌, ℕ, ◌+◌, ◌<◌, ◌≤◌, ◌↔◌, ◌⊎◌, [], ◌∷◌, ◌++◌, List, length, slice_index, map, vec_len, IsTrue, Contains, OnOk, OnErr, IfOk};
+ghost use Rattle.daggy_base.specs.Cursor.{first_of};
 ghost use Rattle.daggy_base.specs.Removal.{without, renamed};
 ghost use Rattle.daggy_base.specs.WellFormed.{AreDistinct};
 ghost use Rattle.daggy_order.specs.Ordered.{place};
-ghost use Rattle.daggy_order.specs.Links.{IsLabelled, IsTailed, in_turn};
+ghost use Rattle.std.specs.List.{range_with_len};
+ghost use Rattle.daggy_order.specs.Links.{IsLabelled, IsTailed};
 
 use crate::order::labels::{label_first, label_last};
 use crate::order::links::{Links, grow, lengthen_within, reserve_to};
@@ -43,6 +45,7 @@ pub(crate) struct Tail {
 }
 
 // Puts a node last, for which there is room.
+#[inline]
 fn put_last<Ix: IndexType>(links: &mut Links<Ix>, labels: &mut Vec<u64>, n: Link<Ix>)
     requires labelled { IsLabelled labels.old.items links.old.nodes }
     requires real { n < Ix.greatest }
@@ -71,7 +74,7 @@ fn put_in_turn<Ix: IndexType>(
     requires real { from + count ≤ Ix.greatest }
     requires room { from + count ≤ links.old.room }
     requires labels_fit { from + count ≤ vec_len labels.old }
-    ensures nodes { links.new.nodes ≡ links.old.nodes ++ in_turn from count }
+    ensures nodes { links.new.nodes ≡ links.old.nodes ++ range_with_len from count }
     ensures labelled { IsLabelled labels.new.items links.new.nodes }
 {
     'nodes: for i in 0..count {
@@ -95,6 +98,23 @@ impl<Ix: IndexType> Written<Ix> {
         ensures distinct { AreDistinct self.now.nodes }
     {
         self.links.len()
+    }
+
+    // The first node, or `end`.
+    #[inline]
+    pub(crate) fn first(&self) -> Link<Ix>
+        ensures { result ≡ first_of Ix.greatest self.now.nodes }
+    {
+        self.links.first()
+    }
+
+    // The node that follows a node, or `end`.
+    #[inline]
+    pub(crate) fn next(&self, n: Link<Ix>) -> Link<Ix>
+        requires { Contains self.now.nodes n }
+        ensures { (ns ms : List ℕ) → self.now.nodes ≡ ns ++ n ∷ ms → result ≡ first_of Ix.greatest ms }
+    {
+        self.links.next(n)
     }
 
     #[inline]
@@ -131,7 +151,7 @@ impl<Ix: IndexType> Written<Ix> {
     #[inline]
     pub(crate) fn settle(&mut self, tail: Tail) -> Tail
         requires { IsTailed Ix.greatest self.old.nodes self.old.capacity tail.from tail.count tail.room }
-        ensures nodes { self.new.nodes ≡ self.old.nodes ++ in_turn tail.from tail.count }
+        ensures nodes { self.new.nodes ≡ self.old.nodes ++ range_with_len tail.from tail.count }
         ensures from { result.from ≡ tail.from + tail.count }
         ensures count { result.count ≡ 0 }
         ensures room { result.room ≡ 0 }
@@ -150,7 +170,7 @@ impl<Ix: IndexType> Written<Ix> {
     fn write_tail(&mut self, tail: Tail)
         requires some { 0 < tail.count }
         requires tailed { IsTailed Ix.greatest self.old.nodes self.old.capacity tail.from tail.count tail.room }
-        ensures { self.new.nodes ≡ self.old.nodes ++ in_turn tail.from tail.count }
+        ensures { self.new.nodes ≡ self.old.nodes ++ range_with_len tail.from tail.count }
     {
         let end = tail.from + tail.count;
         lengthen_within(&mut self.labels, end, 0);
@@ -170,10 +190,7 @@ impl<Ix: IndexType> Written<Ix> {
         let i = n.index();
         self.links.make_room(i)?;
         grow(&mut self.labels, i, 0)?;
-        let last = self.links.last();
-        let n = Link::of_node(n);
-        self.links.put_last(n);
-        label_last(&self.links, &mut self.labels, last, n);
+        put_last(&mut self.links, &mut self.labels, Link::of_node(n));
         Ok(())
     }
 

@@ -1,47 +1,17 @@
-use Rattle.std.proofs.Common.{◌≡◌, ◌<◌, ℕ, List, [], ◌∷◌, ◌++◌, sym, ap, subst, inl, inr, arith}
-use Rattle.daggy_base.proofs.Lists.{Mem, mem_left, mem_cases, contains_mem}
-use Rattle.daggy_order.specs.Links.{Listed, Stored}
-use Rattle.daggy_order.proofs.Labelled.{label_within, labelled_grown, labelled_more}
+use Rattle.std.proofs.Common.{ℕ, List, subst, ap, sym, ◌∙◌}
+use Rattle.std.specs.List.{Contains}
+use Rattle.daggy_order.specs.Links.{Stored}
+use Rattle.daggy_order.proofs.Labelled.{labelled_grown}
 use Rattle.daggy_order.proofs.order.written.Written.push.Goals as goal
 
 pub invariant_of-self-in_err-grow : goal.invariant_of-self-in_err-grow
 invariant_of-self-in_err-grow g c = labelled_grown c.self.invariant c.grow.new.list.items c.make_room.new.self.nodes c.make_room.ensures.same c.grow.ensures.same
 
-pub label_last-requires-clause-before : goal.label_last-requires-clause-before
-label_last-requires-clause-before g c =
-    let nodes : List ℕ = c.self.inside.links.nodes in
-    let grown = labelled_grown c.self.invariant c.grow.new.list.items c.make_room.new.self.nodes c.make_room.ensures.same c.grow.ensures.same in
-    let n : ℕ = g.Ix.IndexType.number c.args.n in
-    let put : c.put_last.new.self.nodes ≡ c.make_room.new.self.nodes ++ c.of_node-n.result ∷ [] = ap (λ (z : Listed). z.nodes) c.put_last.ensures in
-    record {
-      before = c.make_room.new.self.nodes;
-      is = put;
-      ends = c.last-last.ensures;
-      ascending = grown.ascending;
-    }
+pub put_last-requires-clause-labelled : goal.put_last-requires-clause-labelled
+put_last-requires-clause-labelled g c = labelled_grown c.self.invariant c.grow.new.list.items c.make_room.new.self.nodes c.make_room.ensures.same c.grow.ensures.same
 
-pub label_last-requires-clause-numbered : goal.label_last-requires-clause-numbered
-label_last-requires-clause-numbered g c =
-    let nodes : List ℕ = c.self.inside.links.nodes in
-    let grown = labelled_grown c.self.invariant c.grow.new.list.items c.make_room.new.self.nodes c.make_room.ensures.same c.grow.ensures.same in
-    let n : ℕ = g.Ix.IndexType.number c.args.n in
-    let put : c.put_last.new.self.nodes ≡ c.make_room.new.self.nodes ++ c.of_node-n.result ∷ [] = ap (λ (z : Listed). z.nodes) c.put_last.ensures in
-    λ k h.
-    let P : List ℕ → Type 0 = λ z. Mem k z in
-    let low : n < c.grow.new.list.len = omega (arith, c.in_ok-grow.ensures.ok, c.index-i.ensures.value) in
-    let is_n : k ≡ c.of_node-n.result → k < c.grow.new.list.len = λ e. omega (arith, low, e, c.of_node-n.ensures) in
-    let old : Mem k c.make_room.new.self.nodes → k < c.grow.new.list.len = λ a. omega (arith, label_within grown k a, c.grow.new.list.ok.0) in
-    elim (mem_cases c.make_room.new.self.nodes (c.of_node-n.result ∷ []) k (subst P put (contains_mem c.put_last.new.self.nodes k h))) [
-      | inl a ↦ old a
-      | inr b ↦ elim b [ inl e ↦ is_n e | inr none ↦ absurd none ]
-    ]
-
-pub invariant_of-self-2 : goal.invariant_of-self-2
-invariant_of-self-2 g c =
-    let nodes : List ℕ = c.self.inside.links.nodes in
-    let grown = labelled_grown c.self.invariant c.grow.new.list.items c.make_room.new.self.nodes c.make_room.ensures.same c.grow.ensures.same in
-    let n : ℕ = g.Ix.IndexType.number c.args.n in
-    let put : c.put_last.new.self.nodes ≡ c.make_room.new.self.nodes ++ c.of_node-n.result ∷ [] = ap (λ (z : Listed). z.nodes) c.put_last.ensures in
-    labelled_more grown c.label_last.new.labels.items c.put_last.new.self.nodes c.label_last.ensures.ascending c.label_last.ensures.others (λ k m.
-    let P : List ℕ → Type 0 = λ z. Mem k z in
-    subst P (sym put) (mem_left c.make_room.new.self.nodes (c.of_node-n.result ∷ []) k m))
+pub put_last-requires-clause-absent : goal.put_last-requires-clause-absent
+put_last-requires-clause-absent g c =
+    let P : List ℕ → Type 0 = λ z. Contains z (g.Ix.IndexType.number c.args.n) in
+    let Q : ℕ → Type 0 = λ z. Contains c.make_room.new.self.nodes z in
+    λ h. c.requires.absent (subst P (c.make_room.ensures.same ∙ ap (λ (z : Stored). z.nodes) c.self.view_is) (subst Q c.of_node.ensures h))

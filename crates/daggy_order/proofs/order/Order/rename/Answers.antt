@@ -1,0 +1,18 @@
+use Rattle.std.proofs.Common.{rules, ◌≡◌, ◌≢◌, ◌<◌, ◌≤◌, ◌^◌, ◌-◌, ◌+◌, ℕ, List, [], ◌∷◌, ◌++◌, length, map, get_or, refl, sym, ap, subst, inl, inr, ◌∙◌, arith, true, false}
+use Rattle.std.specs.List.{Contains, range_with_len}
+use Rattle.daggy_base.proofs.Lists.{Mem, mem_left, mem_cases, contains_mem, mem_contains, unique_from_distinct, distinct_from_unique}
+use Rattle.daggy_base.specs.Removal.{renamed}
+use Rattle.daggy_order.proofs.Tails.{high, tailed_after, renamed_below}
+use Rattle.daggy_order.proofs.order.Order.rename.Goals as goal
+
+pub invariant_of-self : goal.invariant_of-self
+invariant_of-self g c =
+    let n : ℕ = g.Ix.IndexType.number c.args.n in
+    let m : ℕ = g.Ix.IndexType.number c.args.m in
+    let N : List ℕ → Type 0 = λ z. Mem n z in
+    let within = high c.self.invariant n (subst N (sym c.self.view_is) (contains_mem c.args.self.now n c.requires.held)) in
+    tailed_after c.self.invariant c.rename.new.self.nodes c.rename.new.self.capacity c.settle-self-inside.result.from c.settle-self-inside.result.count c.settle-self-inside.result.room c.settle-self-inside.ensures.count c.settle-self-inside.ensures.room (omega (arith, c.settle-self-inside.ensures.from)) (omega (arith, c.settle-self-inside.ensures.from, c.self.invariant.real)) (λ k h.
+    let P : List ℕ → Type 0 = λ z. Mem k z in
+    inr (renamed_below n m c.settle-self-inside.result.from c.settle-self-inside.new.self.nodes (omega (arith, within, c.requires.lower, c.settle-self-inside.ensures.from)) (λ j i.
+    let Q : List ℕ → Type 0 = λ z. Mem j z in
+    omega (arith, high c.self.invariant j (subst Q c.settle-self-inside.ensures.nodes i), c.settle-self-inside.ensures.from)) k (subst P c.rename.ensures h)))
