@@ -1,7 +1,4 @@
-use Rattle.std.proofs.Common.{rules, ◌≡◌, ◌≢◌, ◌<◌, ◌≤◌, ◌^◌, ◌-◌, ◌+◌, ℕ, List, [], ◌∷◌, ◌++◌, length, map, get_or, refl, sym, ap, subst, inl, inr, ◌∙◌, arith, true, false}
-use Rattle.std.specs.List.{Contains, range_with_len}
-use Rattle.std.proofs.lemmas.Bool.{false≢true, lt-ltb, ltb-true}
-use Rattle.daggy_base.proofs.Lists.{Mem, mem_left, contains_mem, mem_contains, unique_from_distinct, distinct_from_unique}
+use Rattle.std.proofs.Common.{rules, ◌<◌, ◌≤◌, ◌^◌, ◌-◌, ◌+◌, ℕ, List, length, get_or, sym, ap, ◌∙◌, arith}
 use Rattle.daggy_order.proofs.Tails.{tail_length, at_late}
 use Rattle.daggy_order.proofs.order.Order.at.Goals as goal
 

@@ -1,7 +1,6 @@
-use Rattle.std.proofs.Common.{rules, ◌≡◌, ◌≢◌, ◌<◌, ◌≤◌, ◌^◌, ◌-◌, ◌+◌, ℕ, List, [], ◌∷◌, ◌++◌, length, map, get_or, refl, sym, ap, subst, inl, inr, ◌∙◌, arith, true, false}
-use Rattle.std.specs.List.{Contains, range_with_len}
-use Rattle.std.proofs.lemmas.Bool.{false≢true, lt-ltb, ltb-true}
-use Rattle.daggy_base.proofs.Lists.{Mem, mem_left, contains_mem, mem_contains, unique_from_distinct, distinct_from_unique}
+use Rattle.std.proofs.Common.{rules, ◌<◌, ◌^◌, ◌+◌, ℕ, List, ◌++◌, length, sym, ap, arith}
+use Rattle.std.specs.List.{range_with_len}
+use Rattle.daggy_base.proofs.Lists.{unique_from_distinct, distinct_from_unique}
 use Rattle.daggy_order.proofs.Tails.{few_written, tail_length, tail_once}
 use Rattle.daggy_order.proofs.order.Order.len.Goals as goal
 

@@ -1,8 +1,7 @@
-use Rattle.std.proofs.Common.{rules, ◌≡◌, ◌≢◌, ◌<◌, ◌≤◌, ◌^◌, ◌-◌, ◌+◌, ℕ, List, [], ◌∷◌, ◌++◌, length, map, get_or, refl, sym, ap, subst, inl, inr, ◌∙◌, arith, true, false}
-use Rattle.std.specs.List.{Contains, range_with_len}
-use Rattle.daggy_base.proofs.Lists.{Mem, mem_left, mem_cases, contains_mem, mem_contains, unique_from_distinct, distinct_from_unique}
+use Rattle.std.proofs.Common.{ℕ, List, ◌++◌, length, sym, ap, ◌∙◌, arith}
+use Rattle.std.specs.List.{range_with_len}
+use Rattle.daggy_base.proofs.Lists.{unique_from_distinct}
 use Rattle.daggy_base.specs.Cursor.{first_of}
-use Rattle.daggy_order.specs.Links.{last_few}
 use Rattle.daggy_order.proofs.Going.{few_all}
 use Rattle.daggy_order.proofs.Tails.{few_written, tail_length}
 use Rattle.daggy_order.proofs.order.Order.nodes.Goals as goal

@@ -1,6 +1,5 @@
-use Rattle.std.proofs.Common.{rules, ◌≡◌, ◌≢◌, ◌<◌, ◌≤◌, ◌^◌, ◌-◌, ◌+◌, ℕ, List, [], ◌∷◌, ◌++◌, length, map, get_or, refl, sym, ap, subst, inl, inr, ◌∙◌, arith, not, eqb}
-use Rattle.std.specs.List.{Contains, range_with_len}
-use Rattle.daggy_base.proofs.Lists.{Mem, mem_left, mem_cases, contains_mem, mem_contains, unique_from_distinct, distinct_from_unique}
+use Rattle.std.proofs.Common.{rules, ◌≡◌, ◌<◌, ◌^◌, ◌-◌, ◌+◌, ℕ, List, sym, ap, subst, inl, ◌∙◌, arith, not, eqb}
+use Rattle.daggy_base.proofs.Lists.{Mem, contains_mem}
 use Rattle.daggy_base.specs.Removal.{without}
 use Rattle.daggy_order.proofs.Sorted.{filter_mem}
 use Rattle.daggy_order.proofs.Tails.{high, tailed_after, tail_fewer}

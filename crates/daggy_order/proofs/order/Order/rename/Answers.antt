@@ -1,7 +1,5 @@
-use Rattle.std.proofs.Common.{rules, ◌≡◌, ◌≢◌, ◌<◌, ◌≤◌, ◌^◌, ◌-◌, ◌+◌, ℕ, List, [], ◌∷◌, ◌++◌, length, map, get_or, refl, sym, ap, subst, inl, inr, ◌∙◌, arith, true, false}
-use Rattle.std.specs.List.{Contains, range_with_len}
-use Rattle.daggy_base.proofs.Lists.{Mem, mem_left, mem_cases, contains_mem, mem_contains, unique_from_distinct, distinct_from_unique}
-use Rattle.daggy_base.specs.Removal.{renamed}
+use Rattle.std.proofs.Common.{ℕ, List, sym, subst, inr, arith}
+use Rattle.daggy_base.proofs.Lists.{Mem, contains_mem}
 use Rattle.daggy_order.proofs.Tails.{high, tailed_after, renamed_below}
 use Rattle.daggy_order.proofs.order.Order.rename.Goals as goal
 

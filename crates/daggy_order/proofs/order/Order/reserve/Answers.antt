@@ -1,6 +1,3 @@
-use Rattle.std.proofs.Common.{rules, ◌≡◌, ◌≢◌, ◌<◌, ◌≤◌, ◌^◌, ◌-◌, ◌+◌, ℕ, List, [], ◌∷◌, ◌++◌, length, map, get_or, refl, sym, ap, subst, inl, inr, ◌∙◌, arith, true, false}
-use Rattle.std.specs.List.{Contains, range_with_len}
-use Rattle.daggy_base.proofs.Lists.{Mem, mem_left, mem_cases, contains_mem, mem_contains, unique_from_distinct, distinct_from_unique}
 use Rattle.daggy_order.proofs.Tails.{tailed_same, tailed_roomy}
 use Rattle.daggy_order.proofs.order.Order.reserve.Goals as goal
 

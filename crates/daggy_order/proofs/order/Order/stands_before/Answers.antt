@@ -1,7 +1,6 @@
-use Rattle.std.proofs.Common.{rules, ◌≡◌, ◌≢◌, ◌<◌, ◌≤◌, ◌^◌, ◌-◌, ◌+◌, ℕ, List, [], ◌∷◌, ◌++◌, length, map, get_or, refl, sym, ap, subst, inl, inr, ◌∙◌, arith, true, false}
-use Rattle.std.specs.List.{Contains, range_with_len}
+use Rattle.std.proofs.Common.{◌<◌, ℕ, List, sym, subst, arith}
 use Rattle.std.proofs.lemmas.Bool.{lt-ltb, ltb-true}
-use Rattle.daggy_base.proofs.Lists.{Mem, mem_left, contains_mem, mem_contains, unique_from_distinct, distinct_from_unique}
+use Rattle.daggy_base.proofs.Lists.{Mem, contains_mem, mem_contains}
 use Rattle.daggy_order.specs.Ordered.{place}
 use Rattle.daggy_order.proofs.Tails.{in_written, place_written, before_late, not_before_early}
 use Rattle.daggy_order.proofs.order.Order.stands_before.Goals as goal

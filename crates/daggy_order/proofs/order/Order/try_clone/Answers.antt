@@ -1,7 +1,6 @@
-use Rattle.std.proofs.Common.{rules, ◌≡◌, ◌≢◌, ◌<◌, ◌≤◌, ◌^◌, ◌-◌, ◌+◌, ℕ, List, [], ◌∷◌, ◌++◌, length, map, get_or, refl, sym, ap, subst, inl, inr, ◌∙◌, arith, true, false}
-use Rattle.std.specs.List.{Contains, range_with_len}
-use Rattle.daggy_base.proofs.Lists.{Mem, mem_left, mem_cases, contains_mem, mem_contains, unique_from_distinct, distinct_from_unique}
-use Rattle.daggy_order.specs.Links.{Stored, IsTailed}
+use Rattle.std.proofs.Common.{ℕ, List, ap, subst, ◌∙◌, arith}
+use Rattle.daggy_base.proofs.Lists.{Mem}
+use Rattle.daggy_order.specs.Links.{Stored}
 use Rattle.daggy_order.proofs.Tails.{tailed_bare, tailed_room, below}
 use Rattle.daggy_order.proofs.order.Order.try_clone.Goals.{then-count-eq0, else-count-eq0+in_ok-room}
 use Rattle.daggy_order.proofs.order.Order.try_clone.Goals as goal

@@ -1,5 +1,5 @@
-use Rattle.std.proofs.Common.{◌≡◌, ◌+◌, ◌<◌, ℕ, List, [], ◌∷◌, ◌++◌, sym, ap, subst, inl, inr, refl, ◌∙◌, arith, append_assoc, append-nil}
-use Rattle.std.specs.List.{Contains, range_with_len}
+use Rattle.std.proofs.Common.{◌≡◌, ◌+◌, ℕ, List, [], ◌∷◌, ◌++◌, sym, ap, subst, inl, inr, refl, ◌∙◌, arith, append_assoc, append-nil}
+use Rattle.std.specs.List.{range_with_len}
 use Rattle.daggy_base.proofs.Lists.{Mem, mem_cases, contains_mem, mem_contains}
 use Rattle.daggy_order.proofs.Tails.{turn_high, turn_more}
 use Rattle.daggy_order.proofs.order.written.put_in_turn.Goals as goal
@@ -29,9 +29,9 @@ nodes-preserved g c =
       c.put_last.ensures.labelled,
       (
         c.put_last.ensures.nodes
-        ∙ (ap (λ (z : List ℕ). z ++ c.new.result ∷ []) c.nodes.invariant.1.0
-        ∙ (append_assoc c.args.links.now.nodes (range_with_len c.args.from c.nodes.i) (c.new.result ∷ [])
-        ∙ ap (λ (z : List ℕ). c.args.links.now.nodes ++ z) (sym (turn_more c.args.from c.nodes.i more c.new.result refl c.new.ensures)))),
+            ∙ (ap (λ (z : List ℕ). z ++ c.new.result ∷ []) c.nodes.invariant.1.0
+            ∙ (append_assoc c.args.links.now.nodes (range_with_len c.args.from c.nodes.i) (c.new.result ∷ [])
+            ∙ ap (λ (z : List ℕ). c.args.links.now.nodes ++ z) (sym (turn_more c.args.from c.nodes.i more c.new.result refl c.new.ensures)))),
         (c.put_last.ensures.room ∙ c.nodes.invariant.1.1.0, c.put_last.ensures.sized ∙ c.nodes.invariant.1.1.1),
       ),
     )

@@ -1,4 +1,4 @@
-use Rattle.std.proofs.Common.{ℕ, List, ◌∙◌, sym, ap, subst}
+use Rattle.std.proofs.Common.{◌∙◌, sym, ap, subst}
 use Rattle.std.specs.List.{Contains}
 use Rattle.daggy_order.specs.Links.{Stored}
 use Rattle.daggy_order.proofs.order.written.Written.next.Goals as goal

@@ -1,4 +1,4 @@
-use Rattle.std.proofs.Common.{ℕ, List, subst, ap, sym, ◌∙◌}
+use Rattle.std.proofs.Common.{ℕ, List, subst, ap, ◌∙◌}
 use Rattle.std.specs.List.{Contains}
 use Rattle.daggy_order.specs.Links.{Stored}
 use Rattle.daggy_order.proofs.Labelled.{labelled_grown}

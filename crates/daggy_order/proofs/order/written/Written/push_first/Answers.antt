@@ -1,6 +1,6 @@
 use Rattle.std.proofs.Common.{◌≡◌, ◌<◌, ℕ, List, ◌∷◌, sym, ap, subst, inl, inr, arith}
 use Rattle.daggy_base.proofs.Lists.{Mem, contains_mem}
-use Rattle.daggy_order.specs.Links.{Listed, Stored}
+use Rattle.daggy_order.specs.Links.{Listed}
 use Rattle.daggy_order.proofs.Labelled.{label_within, labelled_grown, labelled_more}
 use Rattle.daggy_order.proofs.order.written.Written.push_first.Goals as goal
 
