@@ -179,8 +179,10 @@ impl<Ix: IndexType> Order<Ix> {
         requires lower { Ix.number m ≤ Ix.number n }
         ensures { self.new ≡ map (renamed (Ix.number n) (Ix.number m)) self.old }
     {
-        self.tail = self.written.settle(self.tail);
-        self.written.rename(n, m);
+        if n.index() != m.index() {
+            self.tail = self.written.settle(self.tail);
+            self.written.rename(n, m);
+        }
     }
 
     /// Puts a node first. The cost is that of `push`.

@@ -60,6 +60,7 @@ pub fn order_edge<Ix: IndexType, S: EdgeSource<Ix>>(
 }
 
 // `order_edge` over written nodes.
+#[inline(never)]
 fn order_written<Ix: IndexType, S: EdgeSource<Ix>>(
     source: &mut S,
     written: &mut Written<Ix>,
@@ -99,7 +100,6 @@ fn order_written<Ix: IndexType, S: EdgeSource<Ix>>(
 }
 
 // `order_written` over the links and the labels.
-#[inline(never)]
 fn order_links<Ix: IndexType, S: EdgeSource<Ix>>(
     source: &mut S,
     links: &mut Links<Ix>,

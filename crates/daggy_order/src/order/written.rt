@@ -1,5 +1,5 @@
 //! The nodes of an order that are written, as links and labels.
-ghost use Rattle.std.specs.Prelude.{◌≡◌, ℕ, ◌+◌, ◌<◌, ◌≤◌, ◌↔◌, ◌⊎◌, [], ◌∷◌, ◌++◌, List, length, slice_index, map, vec_len, IsTrue, Contains, OnOk, OnErr, IfOk};
+ghost use Rattle.std.specs.Prelude.{◌≡◌, ℕ, ◌+◌, ◌<◌, ◌≤◌, ◌↔◌, [], ◌∷◌, ◌++◌, List, length, slice_index, map, vec_len, IsTrue, Contains, OnOk, OnErr, IfOk};
 ghost use Rattle.daggy_base.specs.Cursor.{first_of};
 ghost use Rattle.daggy_base.specs.Removal.{without, renamed};
 ghost use Rattle.daggy_base.specs.WellFormed.{AreDistinct};
@@ -209,21 +209,18 @@ impl<Ix: IndexType> Written<Ix> {
     #[inline]
     pub(crate) fn rename(&mut self, n: NodeIndex<Ix>, m: NodeIndex<Ix>)
         requires held { Contains self.old.nodes (Ix.number n) }
-        requires free { ¬ Contains self.old.nodes (Ix.number m) ⊎ (Ix.number m ≡ Ix.number n) }
-        requires lower { Ix.number m ≤ Ix.number n }
+        requires free { ¬ Contains self.old.nodes (Ix.number m) }
+        requires lower { Ix.number m < Ix.number n }
         ensures { self.new.nodes ≡ map (renamed (Ix.number n) (Ix.number m)) self.old.nodes }
     {
         let i = n.index();
-        let j = m.index();
         let _count = self.links.len();
-        if i != j {
-            let label = self.labels[i];
-            self.labels[i] = 0;
-            self.labels[j] = label;
-            let n = Link::of_node(n);
-            self.links.put_behind(n, Link::of_node(m));
-            self.links.remove(n);
-        }
+        let label = self.labels[i];
+        self.labels[i] = 0;
+        self.labels[m.index()] = label;
+        let n = Link::of_node(n);
+        self.links.put_behind(n, Link::of_node(m));
+        self.links.remove(n);
     }
 
     // Puts a node first. The cost is that of `push`.

@@ -1,7 +1,24 @@
-use Rattle.std.proofs.Common.{ℕ, List, sym, subst, inr, arith}
+use Rattle.std.proofs.Common.{ℕ, List, sym, subst, inl, inr, ◌∙◌, arith}
 use Rattle.daggy_base.proofs.Lists.{Mem, contains_mem}
+use Rattle.std.specs.List.{Contains}
+use Rattle.daggy_order.proofs.Labelled.{renamed_self}
 use Rattle.daggy_order.proofs.Tails.{high, tailed_after, renamed_below}
 use Rattle.daggy_order.proofs.order.Order.rename.Goals as goal
+
+pub rename-requires-clause-free : goal.rename-requires-clause-free
+rename-requires-clause-free g c =
+    let m : ℕ = g.Ix.IndexType.number c.args.m in
+    let P : List ℕ → Type 0 = λ z. Contains z m in
+    elim c.requires.free [
+      | inl free ↦ λ h. free (subst P (c.settle-self-inside.ensures.nodes ∙ c.self.view_is) h)
+      | inr same ↦ absurd (omega (arith, same, c.if-index.true, c.index.ensures.value, c.index-2.ensures.value))
+    ]
+
+pub returns-else-index : goal.returns-else-index
+returns-else-index g c =
+    let n : ℕ = g.Ix.IndexType.number c.args.n in
+    let m : ℕ = g.Ix.IndexType.number c.args.m in
+    sym (renamed_self n m c.args.self.now (sym c.index-2.ensures.value ∙ (sym c.if-index.false ∙ c.index.ensures.value)))
 
 pub invariant_of-self : goal.invariant_of-self
 invariant_of-self g c =
