@@ -13,3 +13,4 @@ pub mod Bounded
 pub mod Changing
 pub mod OrderLaws
 pub mod Naming
+pub mod Tails

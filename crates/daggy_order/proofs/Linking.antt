@@ -1,5 +1,5 @@
 -- What the links of a list keep, as nodes are put in and taken out.
-use Rattle.std.proofs.Common.{◌≡◌, ◌≢◌, ℕ, zero, suc, ◌+◌, ◌<◌, ◌≤◌, ◌⊎◌, inl, inr, List, [], ◌∷◌, ◌++◌, length, get_or, not, eqb, cond, refl, sym, ap, subst, ◌∙◌, arith}
+use Rattle.std.proofs.Common.{◌≡◌, ◌≢◌, ℕ, zero, suc, ◌+◌, ◌<◌, ◌≤◌, ◌⊎◌, inl, inr, List, [], ◌∷◌, ◌++◌, length, get_or, min, not, eqb, cond, refl, sym, ap, subst, ◌∙◌, arith}
 use Rattle.std.proofs.lemmas.Bool.{eq-eqb}
 use Rattle.std.proofs.lemmas.List.{length-append}
 use Rattle.std.proofs.lemmas.List.Elements.{filter-append}
@@ -13,12 +13,16 @@ use Rattle.daggy_order.proofs.Standing.{filter_yes, filter_no, is_held}
 use Rattle.daggy_order.proofs.Bounded.{split_at}
 use Rattle.daggy_order.proofs.Chains.{chain_same, IsPut, IsTaken, chain_left, chain_right, after_in, before_in, put_behind_start, put_behind_member, take_member, neighbor_end, neighbor_node, walk_is}
 
-pub listed : {xs ys : List ℕ} {r s : ℕ} → xs ≡ ys → r ≡ s → ◌≡◌ {A = Listed} (record { nodes = xs; room = r }) (record { nodes = ys; room = s })
-listed {xs} {ys} {r} {s} e f =
-    ap (λ (z : List ℕ). listing z r) e ∙ ap (λ (z : ℕ). listing ys z) f
+pub listed : {xs ys : List ℕ} {r s k l : ℕ} → xs ≡ ys → r ≡ s → k ≡ l → ◌≡◌ {A = Listed} (record { nodes = xs; room = r; capacity = k }) (record { nodes = ys; room = s; capacity = l })
+listed {xs} {ys} {r} {s} {k} {l} e f h =
+    ap (λ (z : List ℕ). listing z r k) e ∙ (ap (λ (z : ℕ). listing ys z k) f ∙ ap (λ (z : ℕ). listing ys s z) h)
   where
-    listing : List ℕ → ℕ → Listed
-    listing z w = record { nodes = z; room = w }
+    listing : List ℕ → ℕ → ℕ → Listed
+    listing z w v = record { nodes = z; room = w; capacity = v }
+
+-- the lesser of two numbers that stay
+pub same_lesser : {a b c d m : ℕ} → c ≡ a → d ≡ b → min a b ≡ m → min c d ≡ m
+same_lesser {a} {b} {c} {d} {m} e f h = ap (λ (z : ℕ). min z d) e ∙ (ap (λ (z : ℕ). min a z) f ∙ h)
 
 -- the last element
 pub ended : (xs : List ℕ) → 0 < length xs → (ns : List ℕ) × (m : ℕ) × (xs ≡ ns ++ m ∷ [])

@@ -1,13 +1,19 @@
 -- How the nodes of an order lead to one another, and their labels.
-use Rattle.std.specs.Prelude.{◌≡◌, ℕ, zero, suc, ◌-◌, ◌<◌, ◌≤◌, ◌==◌, ◌^◌, List, [], ◌∷◌, ◌++◌, length, drop, filter, not, Bool, true, ◌↔◌, slice_index, slice_index_or, Contains, if◌then◌else◌}
+use Rattle.std.specs.Prelude.{◌≡◌, ℕ, zero, suc, ◌+◌, ◌-◌, ◌<◌, ◌≤◌, ◌==◌, ◌^◌, List, [], ◌∷◌, ◌++◌, length, drop, filter, not, Bool, true, ◌↔◌, slice_index, slice_index_or, Contains, if◌then◌else◌}
 use Rattle.daggy_base.specs.Cursor.{first_of}
 use Rattle.daggy_base.specs.Removal.{without}
 use Rattle.daggy_base.specs.WellFormed.{AreDistinct}
 
--- a list of nodes, and the number below which nodes can be put into it
+-- a list of nodes, the number below which nodes can be put into it, and how far that goes up without new memory
 pub record Listed : Type 0 where
   pub nodes : List ℕ
   pub room : ℕ
+  pub capacity : ℕ
+
+-- a list of nodes, and the number below which nodes can be put into it without new memory
+pub record Stored : Type 0 where
+  pub nodes : List ℕ
+  pub capacity : ℕ
 
 -- as many nodes as `count`, each the one that the node before it leads to
 abbrev pub walk : (end : ℕ) → List ℕ → (from count : ℕ) → List ℕ
@@ -107,3 +113,17 @@ pub record IsMoved (a : ℕ) (ns old new : List ℕ) : Type 0 where
 abbrev pub without_all : List ℕ → List ℕ → List ℕ
 without_all [] nodes = nodes
 without_all (n ∷ ns) nodes = without_all ns (without n nodes)
+
+-- nodes that are written, behind which stand nodes in turn that are not: these are above all others, and there is memory
+-- to write them
+pub record IsTailed (end : ℕ) (nodes : List ℕ) (capacity from count room : ℕ) : Type 0 where
+  pub below : (n : ℕ) → Contains nodes n → n < from
+  pub real : from + count ≤ end
+  pub within : room ≤ capacity
+  pub fits : 0 < count → from + count ≤ room
+
+-- where one is who has yet to go over the last nodes of a list, and behind it over nodes in turn
+pub record IsAmong (end : ℕ) (nodes : List ℕ) (left at from count : ℕ) : Type 0 where
+  pub written : IsAt end nodes left at
+  pub real : from + count ≤ end
+  pub few : left ≤ from

@@ -5,11 +5,9 @@ ghost use Rattle.daggy_base.specs.WellFormed.{AreDistinct};
 ghost use Rattle.daggy_order.specs.Ordered.{place};
 
 use daggy_base::index::{DefaultIx, IndexType, NodeIndex};
-use daggy_base::link::Link;
-use labels::{label_first, label_last};
-use links::{Links, grow};
 use std::alloc::{AllocError, Global};
 use std::marker::Model;
+use written::{Tail, Written};
 
 mod edge;
 mod labels;
@@ -19,29 +17,32 @@ mod naming;
 mod nodes;
 mod search;
 mod sorting;
+mod written;
 
 pub use edge::order_edge;
 pub use nodes::Nodes;
 
 /// A list of nodes, each at most once, in which nodes come and go at both ends and can be moved.
 ///
-/// Each node leads to the next and to the one before it, and has a label. Labels ascend along the
-/// list, so two of them tell which node stands before the other.
+/// Last nodes that came in turn, each with the index that follows the one before it, are only
+/// counted. They are written as soon as the list changes in another way, in memory that was taken
+/// when they came.
 #[derive(Drop)]
 pub struct Order<Ix: IndexType = DefaultIx> {
-    links: Links<Ix>,
-    labels: Vec<u64>,
+    written: Written<Ix>,
+    tail: Tail,
 }
 
 impl<Ix: IndexType> Model for Order<Ix> {
-    ghost use Rattle.std.specs.Prelude.{ℕ, List};
-    ghost use Rattle.daggy_order.specs.Links.{IsLabelled};
+    ghost use Rattle.std.specs.Prelude.{ℕ, List, ◌++◌};
+    ghost use Rattle.std.specs.List.{range_with_len};
+    ghost use Rattle.daggy_order.specs.Links.{IsTailed};
 
     ghost Value = { List ℕ };
 
-    ghost view = { λ o. o.links.nodes };
+    ghost view = { λ o. o.written.nodes ++ range_with_len o.tail.from o.tail.count };
 
-    ghost invariant = { λ o. IsLabelled o.labels.items o.links.nodes };
+    ghost invariant = { λ o. IsTailed Ix.greatest o.written.nodes o.written.capacity o.tail.from o.tail.count o.tail.room };
 }
 
 impl<Ix: IndexType> Order<Ix> {
@@ -50,8 +51,12 @@ impl<Ix: IndexType> Order<Ix> {
         ensures { result ≡ [] }
     {
         Order {
-            links: Links::new(alloc),
-            labels: Vec::new(alloc),
+            written: Written::new(alloc),
+            tail: Tail {
+                from: 0,
+                count: 0,
+                room: 0,
+            },
         }
     }
 
@@ -61,7 +66,7 @@ impl<Ix: IndexType> Order<Ix> {
         ensures value { result ≡ length self.now }
         ensures distinct { AreDistinct self.now }
     {
-        self.links.len()
+        self.written.len() + self.tail.count
     }
 
     /// Whether it holds the node. Constant time.
@@ -70,7 +75,11 @@ impl<Ix: IndexType> Order<Ix> {
         ensures { IsTrue result ↔ Contains self.now (Ix.number n) }
     {
         let i = n.index();
-        i < self.labels.len() && self.labels[i] > 0
+        if i < self.tail.from {
+            self.written.holds(n)
+        } else {
+            i - self.tail.from < self.tail.count
+        }
     }
 
     /// Whether one node of it stands before another. Constant time.
@@ -80,7 +89,13 @@ impl<Ix: IndexType> Order<Ix> {
         requires second { Contains self.now (Ix.number b) }
         ensures { IsTrue result ↔ (place self.now (Ix.number a) < place self.now (Ix.number b)) }
     {
-        self.labels[a.index()] < self.labels[b.index()]
+        let i = a.index();
+        let j = b.index();
+        if j < self.tail.from {
+            i < self.tail.from && self.written.stands_before(a, b)
+        } else {
+            i < j
+        }
     }
 
     /// Puts a node last. Constant time, but for growth, and where labels reach the end of their
@@ -93,12 +108,40 @@ impl<Ix: IndexType> Order<Ix> {
         ensures err { OnErr result (self.new ≡ self.old) }
     {
         let i = n.index();
-        self.links.make_room(i)?;
-        grow(&mut self.labels, i, 0)?;
-        let last = self.links.last();
-        let n = Link::of_node(n);
-        self.links.put_last(n);
-        label_last(&self.links, &mut self.labels, last, n);
+        if i < self.tail.room && i == self.tail.from + self.tail.count {
+            self.tail.count += 1;
+            return Ok(());
+        }
+        self.push_slowly(n)
+    }
+
+    // `push` where the node does not stand in turn, or there is no memory for it.
+    #[inline(never)]
+    fn push_slowly(&mut self, n: NodeIndex<Ix>) -> Result<(), AllocError>
+        requires real { Ix.number n < Ix.greatest }
+        requires absent { ¬ Contains self.old (Ix.number n) }
+        ensures ok { OnOk result (self.new ≡ self.old ++ Ix.number n ∷ []) }
+        ensures err { OnErr result (self.new ≡ self.old) }
+    {
+        let i = n.index();
+        if i == self.tail.from + self.tail.count {
+            self.tail.room = self.written.reserve(i + 1)?;
+            self.tail.count += 1;
+            return Ok(());
+        }
+        self.push_written(n)
+    }
+
+    // Puts a node last, written as all before it are.
+    fn push_written(&mut self, n: NodeIndex<Ix>) -> Result<(), AllocError>
+        requires real { Ix.number n < Ix.greatest }
+        requires absent { ¬ Contains self.old (Ix.number n) }
+        ensures ok { OnOk result (self.new ≡ self.old ++ Ix.number n ∷ []) }
+        ensures err { OnErr result (self.new ≡ self.old) }
+    {
+        self.tail = self.written.settle(self.tail);
+        self.written.push(n)?;
+        self.tail.from = self.tail.from.max(n.index() + 1);
         Ok(())
     }
 
@@ -109,11 +152,8 @@ impl<Ix: IndexType> Order<Ix> {
     pub fn reserve(&mut self, bound: usize) -> Result<(), AllocError>
         ensures { self.new ≡ self.old }
     {
-        if bound == 0 {
-            return Ok(());
-        }
-        self.links.make_room(bound - 1)?;
-        grow(&mut self.labels, bound - 1, 0)
+        self.tail.room = self.written.reserve(bound)?;
+        Ok(())
     }
 
     /// Takes a node out. Constant time.
@@ -122,8 +162,12 @@ impl<Ix: IndexType> Order<Ix> {
         requires { Contains self.old (Ix.number n) }
         ensures { self.new ≡ without (Ix.number n) self.old }
     {
-        self.labels[n.index()] = 0;
-        self.links.remove(Link::of_node(n));
+        if self.tail.count > 0 && n.index() + 1 == self.tail.from + self.tail.count {
+            self.tail.count -= 1;
+        } else {
+            self.tail = self.written.settle(self.tail);
+            self.written.remove(n);
+        }
     }
 
     /// Gives a node the index `m` in its place, as where a graph moves its last node into a gap.
@@ -135,16 +179,9 @@ impl<Ix: IndexType> Order<Ix> {
         requires lower { Ix.number m ≤ Ix.number n }
         ensures { self.new ≡ map (renamed (Ix.number n) (Ix.number m)) self.old }
     {
-        let i = n.index();
-        let j = m.index();
-        let _count = self.links.len();
-        if i != j {
-            let label = self.labels[i];
-            self.labels[i] = 0;
-            self.labels[j] = label;
-            let n = Link::of_node(n);
-            self.links.put_behind(n, Link::of_node(m));
-            self.links.remove(n);
+        if n.index() != m.index() {
+            self.tail = self.written.settle(self.tail);
+            self.written.rename(n, m);
         }
     }
 
@@ -156,13 +193,9 @@ impl<Ix: IndexType> Order<Ix> {
         ensures ok { OnOk result (self.new ≡ Ix.number n ∷ self.old) }
         ensures err { OnErr result (self.new ≡ self.old) }
     {
-        let i = n.index();
-        self.links.make_room(i)?;
-        grow(&mut self.labels, i, 0)?;
-        let first = self.links.first();
-        let n = Link::of_node(n);
-        self.links.put_first(n);
-        label_first(&self.links, &mut self.labels, first, n);
+        self.tail = self.written.settle(self.tail);
+        self.written.push_first(n)?;
+        self.tail.from = self.tail.from.max(n.index() + 1);
         Ok(())
     }
 
@@ -172,14 +205,11 @@ impl<Ix: IndexType> Order<Ix> {
         ensures { result ≡ place self.now (Ix.number n) }
     {
         let i = n.index();
-        let mut at = self.links.first();
-        'nodes: for place in 0..self.links.len() {
-            if at.index() == i {
-                return place;
-            }
-            at = self.links.next(at);
+        if i < self.tail.from {
+            self.written.place(n)
+        } else {
+            self.written.len() + (i - self.tail.from)
         }
-        self.links.len()
     }
 
     /// The node at a place. The nodes before it are counted.
@@ -187,20 +217,28 @@ impl<Ix: IndexType> Order<Ix> {
         requires { place < length self.now }
         ensures { Ix.number result ≡ slice_index self.now place }
     {
-        let mut at = self.links.first();
-        'nodes: for _i in 0..place {
-            at = self.links.next(at);
+        let count = self.written.len();
+        if place < count {
+            self.written.at(place)
+        } else {
+            NodeIndex::new(self.tail.from + (place - count))
         }
-        at.node()
     }
 
     /// The same list, in memory of its own.
     pub fn try_clone(&self) -> Result<Self, AllocError>
         ensures { IfOk result (λ o. o ≡ self.now) }
     {
+        let mut written = self.written.try_clone()?;
+        let Tail { from, count, .. } = self.tail;
+        let room = if count == 0 {
+            0
+        } else {
+            written.reserve(from + count)?
+        };
         Ok(Order {
-            links: self.links.try_clone()?,
-            labels: Vec::from_slice(*self.labels.allocator(), self.labels.as_slice())?,
+            written,
+            tail: Tail { from, count, room },
         })
     }
 
@@ -209,7 +247,11 @@ impl<Ix: IndexType> Order<Ix> {
     pub fn clear(&mut self)
         ensures { self.new ≡ [] }
     {
-        self.links.clear();
-        self.labels.clear();
+        self.written.clear();
+        self.tail = Tail {
+            from: 0,
+            count: 0,
+            room: 0,
+        };
     }
 }

@@ -11,6 +11,7 @@ use crate::order::labels::spread;
 use crate::order::links::Links;
 use crate::order::moving::{move_behind, sort_by_label};
 use crate::order::search::reaches_below;
+use crate::order::written::Written;
 use daggy_base::index::{IndexType, NodeIndex};
 use daggy_base::link::Link;
 use daggy_base::search::{EdgeSource, Marks, Scratch, write_out};
@@ -54,13 +55,45 @@ pub fn order_edge<Ix: IndexType, S: EdgeSource<Ix>>(
     if order.stands_before(a, b) {
         return true;
     }
+    let tail = order.tail;
+    order.tail = order.written.settle(tail);
+    order_written(source, &mut order.written, a, b, scratch)
+}
+
+// `order_edge` over written nodes.
+#[inline(never)]
+fn order_written<Ix: IndexType, S: EdgeSource<Ix>>(
+    source: &mut S,
+    written: &mut Written<Ix>,
+    a: NodeIndex<Ix>,
+    b: NodeIndex<Ix>,
+    scratch: &mut Scratch<Ix>,
+) -> bool
+    requires parent { HasNode (S.graph source.old) (Ix.number a) }
+    requires child { HasNode (S.graph source.old) (Ix.number b) }
+    requires ordered { IsOrderOf (S.graph source.old) written.old.nodes }
+    requires room { node_bound (S.graph source.old) ≤ scratch.old.nodes }
+    ensures decided { result ≡ false ↔ Reaches (S.graph source.old) (Ix.number b) (Ix.number a) }
+    ensures refused { result ≡ false → written.new.nodes ≡ written.old.nodes }
+    ensures ordered { IsOrderOf (S.graph source.old) written.new.nodes }
+    ensures before { result ≡ true → place written.new.nodes (Ix.number a) < place written.new.nodes (Ix.number b) }
+    ensures moved { result ≡ true → place written.old.nodes (Ix.number b) < place written.old.nodes (Ix.number a)
+        → IsParted (S.graph source.old) (Ix.number a) (Ix.number b) written.old.nodes written.new.nodes }
+    ensures same { S.graph source.new ≡ S.graph source.old }
+    ensures counted { S.looks source.new ≤ S.looks source.old
+        + edges_from (S.graph source.old)
+        (stretch written.old.nodes (place written.old.nodes (Ix.number b)) (place written.old.nodes (Ix.number a))) }
+    ensures unlooked { place written.old.nodes (Ix.number a) ≤ place written.old.nodes (Ix.number b)
+        → S.looks source.new ≡ S.looks source.old }
+    ensures room { scratch.new ≡ scratch.old }
+{
     scratch.marks.clear();
     write_out(&mut scratch.stack, scratch.marks.len(), Link::end());
     write_out(&mut scratch.cursors, scratch.marks.len(), Link::end());
     order_links(
         source,
-        &mut order.links,
-        &mut order.labels,
+        &mut written.links,
+        &mut written.labels,
         a,
         b,
         &mut scratch.marks,
@@ -69,8 +102,7 @@ pub fn order_edge<Ix: IndexType, S: EdgeSource<Ix>>(
     )
 }
 
-// `order_edge` over the links and the labels of an order.
-#[inline(never)]
+// `order_written` over the links and the labels.
 fn order_links<Ix: IndexType, S: EdgeSource<Ix>>(
     source: &mut S,
     links: &mut Links<Ix>,

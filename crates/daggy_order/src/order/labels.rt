@@ -79,6 +79,7 @@ pub(crate) fn label_all<Ix: IndexType>(links: &Links<Ix>, labels: &mut Vec<u64>)
     ensures ascending { IsAscending labels.new.items 0 links.now.nodes (2 ^ 64) }
     ensures others { (n : ℕ) → ¬ Contains links.now.nodes n
         → slice_index labels.new.items n ≡ slice_index labels.old.items n }
+    ensures sized { vec_len labels.new ≡ vec_len labels.old }
 {
     let count = links.len();
     let gap = gap_between(LOWEST, HIGHEST, count);
@@ -156,6 +157,7 @@ pub(crate) fn label_last<Ix: IndexType>(
     ensures ascending { IsAscending labels.new.items 0 links.now.nodes (2 ^ 64) }
     ensures others { (k : ℕ) → ¬ Contains links.now.nodes k
         → slice_index labels.new.items k ≡ slice_index labels.old.items k }
+    ensures sized { vec_len labels.new ≡ vec_len labels.old }
 {
     let low = if links.len() == 1 {
         u64::MAX

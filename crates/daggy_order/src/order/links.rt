@@ -1,5 +1,5 @@
 //! A list of nodes, each of which leads to the next and to the one before it.
-ghost use Rattle.std.specs.Prelude.{◌≡◌, ◌≢◌, ℕ, ◌+◌, ◌<◌, ◌≤◌, ◌⊎◌, ◌^◌, [], ◌∷◌, ◌++◌, List, Contains, length, vec_len, slice_index_or, IfOk, OnOk, OnErr};
+ghost use Rattle.std.specs.Prelude.{◌≡◌, ◌≢◌, ℕ, ◌+◌, ◌<◌, ◌≤◌, ◌⊎◌, ◌^◌, [], ◌∷◌, ◌++◌, List, Contains, length, vec_len, vec_capacity, slice_index_or, max, IfOk, IsOk, OnOk, OnErr};
 ghost use Rattle.daggy_base.specs.Cursor.{first_of};
 ghost use Rattle.daggy_base.specs.Removal.{without};
 ghost use Rattle.daggy_base.specs.WellFormed.{AreDistinct};
@@ -24,12 +24,12 @@ pub(crate) struct Links<Ix: IndexType> {
 }
 
 impl<Ix: IndexType> Model for Links<Ix> {
-    ghost use Rattle.std.specs.Prelude.{length};
+    ghost use Rattle.std.specs.Prelude.{length, min, vec_capacity};
     ghost use Rattle.daggy_order.specs.Links.{Listed, IsLinked, walk};
 
     ghost Value = { Listed };
 
-    ghost view = { λ l. record { nodes = walk Ix.greatest l.next.items l.first l.count; room = length l.previous.items } };
+    ghost view = { λ l. record { nodes = walk Ix.greatest l.next.items l.first l.count; room = length l.previous.items; capacity = min (vec_capacity l.next) (vec_capacity l.previous) } };
 
     ghost invariant = { λ l. IsLinked Ix.greatest l.next.items l.previous.items l.first l.last (walk Ix.greatest l.next.items l.first l.count) };
 }
@@ -63,9 +63,34 @@ fn lengthen<T: Copy + Drop>(list: &mut Vec<T>, len: usize, value: T) -> Result<(
     requires { vec_len list.old ≤ len }
     ensures ok { OnOk result (vec_len list.new ≡ len) }
     ensures err { OnErr result (vec_len list.new ≡ vec_len list.old) }
+    ensures succeeds { len ≤ vec_capacity list.old → IsOk result }
     ensures same { (k : ℕ) → slice_index_or list.new.items k value ≡ slice_index_or list.old.items k value }
 {
     list.resize(len, value)
+}
+
+// Takes memory for a list that is to be so long. Writes nothing.
+pub(crate) fn reserve_to<T: Copy + Drop>(list: &mut Vec<T>, bound: usize) -> Result<(), AllocError>
+    ensures ok { OnOk result (bound ≤ vec_capacity list.new) }
+    ensures larger { vec_capacity list.old ≤ vec_capacity list.new }
+    ensures items { list.new.items ≡ list.old.items }
+    ensures sized { vec_len list.new ≡ vec_len list.old }
+{
+    list.reserve(bound.saturating_sub(list.len()))
+}
+
+// Makes a list at least so long, with its elements as they were and `value` behind them. There is
+// memory for it.
+pub(crate) fn lengthen_within<T: Copy + Drop>(list: &mut Vec<T>, len: usize, value: T)
+    requires { len ≤ vec_capacity list.old }
+    ensures longer { len ≤ vec_len list.new }
+    ensures sized { vec_len list.new ≡ max (vec_len list.old) len }
+    ensures same { (k : ℕ) → slice_index_or list.new.items k value ≡ slice_index_or list.old.items k value }
+{
+    if list.len() < len {
+        // Within its memory this cannot fail.
+        let _done = lengthen(list, len, value);
+    }
 }
 
 // Makes `from` lead to `to`.
@@ -81,6 +106,7 @@ fn lead<Ix: IndexType>(
     ensures others { (k : ℕ) → k ≢ from
         → neighbor Ix.greatest outer.new links.new.items k ≡ neighbor Ix.greatest outer.old links.old.items k }
     ensures sized { vec_len links.new ≡ vec_len links.old }
+    ensures capacity { vec_capacity links.new ≡ vec_capacity links.old }
 {
     if from.index() == Link::<Ix>::end().index() {
         *outer = to;
@@ -92,7 +118,7 @@ fn lead<Ix: IndexType>(
 impl<Ix: IndexType> Links<Ix> {
     // A list of no nodes. Takes no memory.
     pub(crate) fn new(alloc: Global) -> Self
-        ensures { result ≡ record { nodes = []; room = 0 } }
+        ensures { result.nodes ≡ [] }
     {
         Links {
             next: Vec::new(alloc),
@@ -153,13 +179,36 @@ impl<Ix: IndexType> Links<Ix> {
         Ok(())
     }
 
+    // Takes memory for as many nodes as `bound`, each with an index below it, and says for how many
+    // there is. Writes nothing.
+    pub(crate) fn reserve(&mut self, bound: usize) -> Result<usize, AllocError>
+        ensures ok { OnOk result (bound ≤ self.new.capacity) }
+        ensures room { IfOk result (λ room. room ≡ self.new.capacity) }
+        ensures larger { self.old.capacity ≤ self.new.capacity }
+        ensures same { self.new.nodes ≡ self.old.nodes }
+    {
+        reserve_to(&mut self.next, bound)?;
+        reserve_to(&mut self.previous, bound)?;
+        Ok(self.next.capacity().min(self.previous.capacity()))
+    }
+
+    // Makes room for nodes below `bound`, for which there is memory.
+    pub(crate) fn use_memory(&mut self, bound: usize)
+        requires { bound ≤ self.old.capacity }
+        ensures room { bound ≤ self.new.room }
+        ensures same { self.new.nodes ≡ self.old.nodes }
+    {
+        lengthen_within(&mut self.next, bound, Link::end());
+        lengthen_within(&mut self.previous, bound, Link::end());
+    }
+
     // Puts a node first.
     #[inline]
     pub(crate) fn put_first(&mut self, n: Link<Ix>)
         requires real { n ≢ Ix.greatest }
         requires absent { ¬ Contains self.old.nodes n }
         requires numbered { n < self.old.room }
-        ensures { self.new ≡ record { nodes = n ∷ self.old.nodes; room = self.old.room } }
+        ensures { self.new ≡ record { nodes = n ∷ self.old.nodes; room = self.old.room; capacity = self.old.capacity } }
     {
         let q = self.first;
         lead(&mut self.next, &mut self.first, Link::end(), n);
@@ -178,6 +227,7 @@ impl<Ix: IndexType> Links<Ix> {
         requires numbered { n < self.old.room }
         ensures nodes { (ns ms : List ℕ) → self.old.nodes ≡ ns ++ p ∷ ms → self.new.nodes ≡ ns ++ p ∷ (n ∷ ms) }
         ensures room { self.new.room ≡ self.old.room }
+        ensures capacity { self.new.capacity ≡ self.old.capacity }
     {
         let q = self.next[p.index()];
         lead(&mut self.next, &mut self.first, p, n);
@@ -193,7 +243,7 @@ impl<Ix: IndexType> Links<Ix> {
         requires real { n ≢ Ix.greatest }
         requires absent { ¬ Contains self.old.nodes n }
         requires numbered { n < self.old.room }
-        ensures { self.new ≡ record { nodes = self.old.nodes ++ n ∷ []; room = self.old.room } }
+        ensures { self.new ≡ record { nodes = self.old.nodes ++ n ∷ []; room = self.old.room; capacity = self.old.capacity } }
     {
         if self.count == 0 {
             self.put_first(n);
@@ -207,7 +257,7 @@ impl<Ix: IndexType> Links<Ix> {
     #[inline]
     pub(crate) fn remove(&mut self, n: Link<Ix>)
         requires { Contains self.old.nodes n }
-        ensures { self.new ≡ record { nodes = without n self.old.nodes; room = self.old.room } }
+        ensures { self.new ≡ record { nodes = without n self.old.nodes; room = self.old.room; capacity = self.old.capacity } }
     {
         let p = self.previous[n.index()];
         let q = self.next[n.index()];
@@ -219,7 +269,7 @@ impl<Ix: IndexType> Links<Ix> {
     // Takes all nodes out, and keeps the memory.
     #[inline]
     pub(crate) fn clear(&mut self)
-        ensures { self.new ≡ record { nodes = []; room = 0 } }
+        ensures { self.new.nodes ≡ [] }
     {
         self.next.clear();
         self.previous.clear();
@@ -230,7 +280,7 @@ impl<Ix: IndexType> Links<Ix> {
 
     // The same list, in memory of its own.
     pub(crate) fn try_clone(&self) -> Result<Self, AllocError>
-        ensures { IfOk result (λ l. l ≡ self.now) }
+        ensures { IfOk result (λ l. l.nodes ≡ self.now.nodes) }
     {
         Ok(Links {
             next: Vec::from_slice(*self.next.allocator(), self.next.as_slice())?,

@@ -3,7 +3,7 @@ ghost use Rattle.std.specs.Prelude.{◌≡◌, ◌<◌, ◌^◌, length};
 ghost use Rattle.std.specs.Iterator.{YieldsFirstBy, item_count};
 
 use crate::order::Order;
-use crate::order::links::Links;
+use crate::order::written::Written;
 use daggy_base::index::{DefaultIx, IndexType, NodeIndex};
 use daggy_base::link::Link;
 use std::alloc::AllocError;
@@ -14,20 +14,23 @@ use std::marker::Model;
 /// The nodes of an order, from the first to the last.
 #[derive(Drop)]
 pub struct Nodes<'a, Ix: IndexType = DefaultIx> {
-    links: &'a Links<Ix>,
+    written: &'a Written<Ix>,
     at: Link<Ix>,
     left: usize,
+    from: usize,
+    count: usize,
 }
 
 impl<'a, Ix: IndexType> Model for Nodes<'a, Ix> {
-    ghost use Rattle.std.specs.Prelude.{ℕ, List};
-    ghost use Rattle.daggy_order.specs.Links.{last_few, IsAt};
+    ghost use Rattle.std.specs.Prelude.{ℕ, List, ◌++◌};
+    ghost use Rattle.std.specs.List.{range_with_len};
+    ghost use Rattle.daggy_order.specs.Links.{last_few, IsAmong};
 
     ghost Value = { List ℕ };
 
-    ghost view = { λ it. last_few it.left it.links.now.nodes };
+    ghost view = { λ it. last_few it.left it.written.now.nodes ++ range_with_len it.from it.count };
 
-    ghost invariant = { λ it. IsAt Ix.greatest it.links.now.nodes it.left it.at };
+    ghost invariant = { λ it. IsAmong Ix.greatest it.written.now.nodes it.left it.at it.from it.count };
 }
 
 impl<Ix: IndexType> Order<Ix> {
@@ -38,9 +41,11 @@ impl<Ix: IndexType> Order<Ix> {
         ensures fits { length result < 2 ^ 64 }
     {
         Nodes {
-            links: &self.links,
-            at: self.links.first(),
-            left: self.links.len(),
+            written: &self.written,
+            at: self.written.first(),
+            left: self.written.len(),
+            from: self.tail.from,
+            count: self.tail.count,
         }
     }
 }
@@ -55,10 +60,16 @@ impl<'a, Ix: IndexType> Iterator for Nodes<'a, Ix> {
     #[inline]
     fn next(&mut self) -> Option<NodeIndex<Ix>> {
         if self.left == 0 {
-            return None;
+            if self.count == 0 {
+                return None;
+            }
+            let n = NodeIndex::new(self.from);
+            self.from += 1;
+            self.count -= 1;
+            return Some(n);
         }
         let n = self.at;
-        self.at = self.links.next(n);
+        self.at = self.written.next(n);
         self.left -= 1;
         Some(n.node())
     }
@@ -73,7 +84,7 @@ impl<'a, Ix: IndexType> Iterator for Nodes<'a, Ix> {
 impl<'a, Ix: IndexType> ExactSizeIterator for Nodes<'a, Ix> {
     #[inline]
     fn len(&self) -> usize {
-        self.left
+        self.left + self.count
     }
 }
 
@@ -84,9 +95,11 @@ impl<'a, Ix: IndexType> Clone for Nodes<'a, Ix> {
 
     fn clone(&self) -> Result<Self, AllocError> {
         Ok(Nodes {
-            links: self.links,
+            written: self.written,
             at: self.at,
             left: self.left,
+            from: self.from,
+            count: self.count,
         })
     }
 }

@@ -63,6 +63,28 @@ fn a_copy_goes_its_own_way(rt: HostRuntime) {
 }
 
 #[test]
+fn nodes_in_turn_are_written_when_the_list_changes(rt: HostRuntime) {
+    let mut order: Order<u8> = Order::new(rt.alloc());
+    for n in 0..6 {
+        push(&rt, &mut order, n, false);
+    }
+    remove(&rt, &mut order, 5);
+    let copy = made(&rt, order.try_clone());
+    lists(&rt, &copy, &[0, 1, 2, 3, 4]);
+    remove(&rt, &mut order, 2);
+    push(&rt, &mut order, 5, false);
+    push(&rt, &mut order, 6, false);
+    lists(&rt, &order, &[0, 1, 3, 4, 5, 6]);
+    rename(&rt, &mut order, 6, 2);
+    push(&rt, &mut order, 9, false);
+    push(&rt, &mut order, 10, false);
+    lists(&rt, &order, &[0, 1, 3, 4, 5, 2, 9, 10]);
+    push(&rt, &mut order, 7, true);
+    lists(&rt, &order, &[7, 0, 1, 3, 4, 5, 2, 9, 10]);
+    lists(&rt, &copy, &[0, 1, 2, 3, 4]);
+}
+
+#[test]
 fn many_nodes_are_taken_out(rt: HostRuntime) {
     let mut order: Order<u8> = Order::new(rt.alloc());
     for n in 0..200 {

@@ -1,21 +1,20 @@
-use Rattle.std.proofs.Common.{◌≡◌, ℕ, List, length, get_or, ap, ◌∙◌, arith}
-use Rattle.daggy_base.proofs.Lists.{mem_contains}
-use Rattle.daggy_order.proofs.Going.{goes_none, goes_in, goes_more, goes_at}
+use Rattle.std.proofs.Common.{rules, ◌<◌, ◌≤◌, ◌^◌, ◌-◌, ◌+◌, ℕ, List, length, get_or, sym, ap, ◌∙◌, arith}
+use Rattle.daggy_order.proofs.Tails.{tail_length, at_late}
 use Rattle.daggy_order.proofs.order.Order.at.Goals as goal
 
-pub nodes-init : goal.nodes-init
-nodes-init g c = goes_none g.Ix.IndexType.greatest c.self.inside.links.nodes c.first-at.result c.first-at.ensures
+pub overflow_add-self-inside : goal.overflow_add-self-inside
+overflow_add-self-inside g c =
+    let low : c.self.inside.tail.from + (c.args.place - c.len-count.result) < 2 ^ 64 = omega (arith, c.requires, ap (λ (z : List ℕ). length z) c.self.view_is, tail_length c.self.invariant, c.self.invariant.real, g.met.Ix.IndexType.fits, c.len-count.ensures.value, c.if-place-count.false) in
+    search rules
 
-pub next-at-requires : goal.next-at-requires
-next-at-requires g c =
-    mem_contains c.self.inside.links.nodes c.nodes.at (goes_in c.nodes.invariant (omega (arith, c.nodes-test.true, c.requires, ap (λ (z : List ℕ). length z) c.self.view_is)))
+pub new-requires : goal.new-requires
+new-requires g c =
+    omega (arith, c.requires, ap (λ (z : List ℕ). length z) c.self.view_is, tail_length c.self.invariant, c.self.invariant.real, c.len-count.ensures.value, c.if-place-count.false)
 
-pub nodes-preserved : goal.nodes-preserved
-nodes-preserved g c =
-    goes_more c.nodes.invariant (omega (arith, c.nodes-test.true, c.requires, ap (λ (z : List ℕ). length z) c.self.view_is)) c.next-at.result c.next-at.ensures
-
-pub returns : goal.returns
-returns g c =
-    let ended : c.nodes._i ≡ c.args.place = omega (arith, c.nodes-test.false, c.nodes.auto._i-end) in
-    let here = goes_at c.nodes.invariant (omega (arith, ended, c.requires, ap (λ (z : List ℕ). length z) c.self.view_is)) in
-    c.node.ensures.value ∙ (here ∙ (ap (λ k. get_or c.self.inside.links.nodes k 0) ended ∙ ap (λ (z : List ℕ). get_or z c.args.place 0) c.self.view_is))
+pub returns-else-place-count : goal.returns-else-place-count
+returns-else-place-count g c =
+    let low : length c.self.inside.written.nodes ≤ c.args.place = omega (arith, c.len-count.ensures.value, c.if-place-count.false) in
+    let within : c.args.place < length c.self.inside.written.nodes + c.self.inside.tail.count = omega (arith, c.requires, ap (λ (z : List ℕ). length z) c.self.view_is, tail_length c.self.invariant) in
+    c.new.ensures.number
+    ∙ (ap (λ (z : ℕ). c.self.inside.tail.from + (c.args.place - z)) c.len-count.ensures.value
+    ∙ (sym (at_late c.self.invariant c.args.place low within) ∙ ap (λ (z : List ℕ). get_or z c.args.place 0) c.self.view_is))

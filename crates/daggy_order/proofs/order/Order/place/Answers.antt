@@ -1,27 +1,37 @@
-use Rattle.std.proofs.Common.{ℕ, List, sym, ap, subst, ◌∙◌, arith}
-use Rattle.daggy_base.proofs.Lists.{Mem, contains_mem, mem_contains}
+use Rattle.std.proofs.Common.{rules, ◌<◌, ◌≤◌, ◌^◌, ◌-◌, ◌+◌, ℕ, List, sym, ap, subst, ◌∙◌, arith}
+use Rattle.daggy_base.proofs.Lists.{Mem, contains_mem, mem_contains, unique_from_distinct}
 use Rattle.daggy_order.specs.Ordered.{place}
-use Rattle.daggy_order.proofs.Going.{seeks_none, goes_in, sought, seeks_more, sought_all}
+use Rattle.daggy_order.proofs.Tails.{high, in_written, few_written, place_written, place_late}
 use Rattle.daggy_order.proofs.order.Order.place.Goals as goal
 
-pub nodes-init : goal.nodes-init
-nodes-init g c = seeks_none g.Ix.IndexType.greatest c.self.inside.links.nodes c.index-i.result c.first-at.result c.first-at.ensures
+pub place-requires : goal.place-requires
+place-requires g c =
+    let n : ℕ = g.Ix.IndexType.number c.args.n in
+    let P : List ℕ → Type 0 = λ z. Mem n z in
+    let low : n < c.self.inside.tail.from = omega (arith, c.if-i-self.true, c.index-i.ensures.value) in
+    mem_contains c.self.inside.written.nodes n (in_written c.self.invariant n low (subst P (sym c.self.view_is) (contains_mem c.args.self.now n c.requires)))
 
-pub next-at-requires : goal.next-at-requires
-next-at-requires g c =
-    mem_contains c.self.inside.links.nodes c.nodes.at (goes_in c.nodes.invariant.on (omega (arith, c.nodes-test.true, c.len-place-end.ensures.value)))
+pub overflow_add-result : goal.overflow_add-result
+overflow_add-result g c =
+    let n : ℕ = g.Ix.IndexType.number c.args.n in
+    let P : List ℕ → Type 0 = λ z. Mem n z in
+    let within = high c.self.invariant n (subst P (sym c.self.view_is) (contains_mem c.args.self.now n c.requires)) in
+    let few = few_written c.self.invariant (unique_from_distinct c.self.inside.written.nodes c.len.ensures.distinct) in
+    let low : c.len.result + (c.index-i.result - c.self.inside.tail.from) < 2 ^ 64 = omega (arith, few, within, c.index-i.ensures.value, c.if-i-self.false, c.len.ensures.value, c.self.invariant.real, g.met.Ix.IndexType.fits) in
+    search rules
 
-pub returns-then-index-i : goal.returns-then-index-i
-returns-then-index-i g c =
-    let found = sought c.nodes.invariant (omega (arith, c.nodes-test.true, c.len-place-end.ensures.value)) (sym c.index.ensures.value ∙ c.if-index-i.true) in
-    sym (ap (place c.args.self.now) (sym c.index-i.ensures.value) ∙ (ap (λ (z : List ℕ). place z c.index-i.result) (sym c.self.view_is) ∙ found))
+pub returns-then-i-self : goal.returns-then-i-self
+returns-then-i-self g c =
+    let n : ℕ = g.Ix.IndexType.number c.args.n in
+    let P : List ℕ → Type 0 = λ z. Mem n z in
+    let low : n < c.self.inside.tail.from = omega (arith, c.if-i-self.true, c.index-i.ensures.value) in
+    let held = in_written c.self.invariant n low (subst P (sym c.self.view_is) (contains_mem c.args.self.now n c.requires)) in
+    c.place.ensures ∙ (sym (place_written c.self.invariant n held) ∙ ap (λ (z : List ℕ). place z n) c.self.view_is)
 
-pub nodes-preserved : goal.nodes-preserved
-nodes-preserved g c =
-    seeks_more c.nodes.invariant (omega (arith, c.nodes-test.true, c.len-place-end.ensures.value)) c.next-at.result (λ e. c.if-index-i.false (c.index.ensures.value ∙ e)) c.next-at.ensures
-
-pub returns : goal.returns
-returns g c =
-    let P : List ℕ → Type 0 = λ z. Mem (g.Ix.IndexType.number c.args.n) z in
-    let Q : ℕ → Type 0 = λ z. Mem z c.self.inside.links.nodes in
-    absurd (sought_all c.nodes.invariant (omega (arith, c.nodes-test.false, c.len-place-end.ensures.value)) (subst Q (sym c.index-i.ensures.value) (subst P (sym c.self.view_is) (contains_mem c.args.self.now (g.Ix.IndexType.number c.args.n) c.requires))))
+pub returns-else-i-self : goal.returns-else-i-self
+returns-else-i-self g c =
+    let n : ℕ = g.Ix.IndexType.number c.args.n in
+    let P : List ℕ → Type 0 = λ z. Mem n z in
+    let late : c.self.inside.tail.from ≤ n = omega (arith, c.if-i-self.false, c.index-i.ensures.value) in
+    let within = high c.self.invariant n (subst P (sym c.self.view_is) (contains_mem c.args.self.now n c.requires)) in
+    omega (arith, place_late c.self.invariant n late within, ap (λ (z : List ℕ). place z n) c.self.view_is, c.len.ensures.value, c.index-i.ensures.value, late)

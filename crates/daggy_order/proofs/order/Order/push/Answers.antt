@@ -1,47 +1,9 @@
-use Rattle.std.proofs.Common.{◌≡◌, ◌<◌, ℕ, List, [], ◌∷◌, ◌++◌, sym, ap, subst, inl, inr, arith}
-use Rattle.daggy_base.proofs.Lists.{Mem, mem_left, mem_cases, contains_mem}
-use Rattle.daggy_order.specs.Links.{Listed}
-use Rattle.daggy_order.proofs.Labelled.{label_within, labelled_grown, labelled_more}
+use Rattle.std.proofs.Common.{◌≡◌, ◌+◌, ℕ, List, [], ◌∷◌, ◌++◌, refl, ap, ◌∙◌, arith}
+use Rattle.daggy_order.proofs.Tails.{tail_more}
 use Rattle.daggy_order.proofs.order.Order.push.Goals as goal
 
-pub invariant_of-self-in_err-grow : goal.invariant_of-self-in_err-grow
-invariant_of-self-in_err-grow g c = labelled_grown c.self.invariant c.grow.new.list.items c.make_room.new.self.nodes c.make_room.ensures.same c.grow.ensures.same
-
-pub label_last-requires-clause-before : goal.label_last-requires-clause-before
-label_last-requires-clause-before g c =
-    let nodes : List ℕ = c.self.inside.links.nodes in
-    let grown = labelled_grown c.self.invariant c.grow.new.list.items c.make_room.new.self.nodes c.make_room.ensures.same c.grow.ensures.same in
+pub returns-then-i-self-2-clause-ok : goal.returns-then-i-self-2-clause-ok
+returns-then-i-self-2-clause-ok g c =
     let n : ℕ = g.Ix.IndexType.number c.args.n in
-    let put : c.put_last.new.self.nodes ≡ c.make_room.new.self.nodes ++ c.of_node-n.result ∷ [] = ap (λ (z : Listed). z.nodes) c.put_last.ensures in
-    record {
-      before = c.make_room.new.self.nodes;
-      is = put;
-      ends = c.last-last.ensures;
-      ascending = grown.ascending;
-    }
-
-pub label_last-requires-clause-numbered : goal.label_last-requires-clause-numbered
-label_last-requires-clause-numbered g c =
-    let nodes : List ℕ = c.self.inside.links.nodes in
-    let grown = labelled_grown c.self.invariant c.grow.new.list.items c.make_room.new.self.nodes c.make_room.ensures.same c.grow.ensures.same in
-    let n : ℕ = g.Ix.IndexType.number c.args.n in
-    let put : c.put_last.new.self.nodes ≡ c.make_room.new.self.nodes ++ c.of_node-n.result ∷ [] = ap (λ (z : Listed). z.nodes) c.put_last.ensures in
-    λ k h.
-    let P : List ℕ → Type 0 = λ z. Mem k z in
-    let low : n < c.grow.new.list.len = omega (arith, c.in_ok-grow.ensures.ok, c.index-i.ensures.value) in
-    let is_n : k ≡ c.of_node-n.result → k < c.grow.new.list.len = λ e. omega (arith, low, e, c.of_node-n.ensures) in
-    let old : Mem k c.make_room.new.self.nodes → k < c.grow.new.list.len = λ a. omega (arith, label_within grown k a, c.grow.new.list.ok.0) in
-    elim (mem_cases c.make_room.new.self.nodes (c.of_node-n.result ∷ []) k (subst P put (contains_mem c.put_last.new.self.nodes k h))) [
-      | inl a ↦ old a
-      | inr b ↦ elim b [ inl e ↦ is_n e | inr none ↦ absurd none ]
-    ]
-
-pub invariant_of-self-2 : goal.invariant_of-self-2
-invariant_of-self-2 g c =
-    let nodes : List ℕ = c.self.inside.links.nodes in
-    let grown = labelled_grown c.self.invariant c.grow.new.list.items c.make_room.new.self.nodes c.make_room.ensures.same c.grow.ensures.same in
-    let n : ℕ = g.Ix.IndexType.number c.args.n in
-    let put : c.put_last.new.self.nodes ≡ c.make_room.new.self.nodes ++ c.of_node-n.result ∷ [] = ap (λ (z : Listed). z.nodes) c.put_last.ensures in
-    labelled_more grown c.label_last.new.labels.items c.put_last.new.self.nodes c.label_last.ensures.ascending c.label_last.ensures.others (λ k m.
-    let P : List ℕ → Type 0 = λ z. Mem k z in
-    subst P (sym put) (mem_left c.make_room.new.self.nodes (c.of_node-n.result ∷ []) k m))
+    let at : n ≡ c.self.inside.tail.from + c.self.inside.tail.count = omega (arith, c.if-i-self-2.true, c.index-i.ensures.value) in
+    tail_more c.self.invariant (c.self.inside.tail.count + 1) n refl at ∙ ap (λ (z : List ℕ). z ++ n ∷ []) c.self.view_is

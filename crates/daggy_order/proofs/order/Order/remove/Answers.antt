@@ -1,21 +1,27 @@
-use Rattle.std.proofs.Common.{◌≡◌, ℕ, List, sym, ap, subst, ◌∙◌, arith}
-use Rattle.daggy_base.specs.Removal.{without}
+use Rattle.std.proofs.Common.{rules, ◌≡◌, ◌<◌, ◌^◌, ◌-◌, ◌+◌, ℕ, List, sym, ap, subst, inl, ◌∙◌, arith, not, eqb}
 use Rattle.daggy_base.proofs.Lists.{Mem, contains_mem}
-use Rattle.daggy_order.specs.Links.{Listed}
-use Rattle.daggy_order.proofs.Labelled.{label_within, labelled_without}
+use Rattle.daggy_base.specs.Removal.{without}
+use Rattle.daggy_order.proofs.Sorted.{filter_mem}
+use Rattle.daggy_order.proofs.Tails.{high, tailed_after, tail_fewer}
 use Rattle.daggy_order.proofs.order.Order.remove.Goals as goal
 
-pub index_mut-requires : goal.index_mut-requires
-index_mut-requires g c =
+pub overflow_add-index : goal.overflow_add-index
+overflow_add-index g c =
     let n : ℕ = g.Ix.IndexType.number c.args.n in
-    let Mn : List ℕ → Type 0 = λ z. Mem n z in
-    let has_n : Mem n c.self.inside.links.nodes = subst Mn (sym c.self.view_is) (contains_mem c.args.self.now n c.requires) in
-    omega (arith, c.index.ensures.value, label_within c.self.invariant n has_n, c.self.inside.labels.ok.0)
+    let P : List ℕ → Type 0 = λ z. Mem n z in
+    let within = high c.self.invariant n (subst P (sym c.self.view_is) (contains_mem c.args.self.now n c.requires)) in
+    let low : c.index.result + 1 < 2 ^ 64 = omega (arith, within, c.self.invariant.real, c.index.ensures.value, c.index.ensures.fits) in
+    search rules
 
-pub invariant_of-self : goal.invariant_of-self
-invariant_of-self g c =
+pub invariant_of-self-else-self-gt0 : goal.invariant_of-self-else-self-gt0
+invariant_of-self-else-self-gt0 g c =
     let n : ℕ = g.Ix.IndexType.number c.args.n in
-    let Mn : List ℕ → Type 0 = λ z. Mem n z in
-    let has_n : Mem n c.self.inside.links.nodes = subst Mn (sym c.self.view_is) (contains_mem c.args.self.now n c.requires) in
-    let nodes : c.remove.new.self.nodes ≡ without n c.self.inside.links.nodes = ap (λ (z : Listed). z.nodes) c.remove.ensures ∙ ap (λ z. without z c.self.inside.links.nodes) c.of_node.ensures in
-    rw (c.index.ensures.value, nodes) (labelled_without c.self.invariant n has_n)
+    tailed_after c.self.invariant c.remove.new.self.nodes c.remove.new.self.capacity c.settle-self-inside.result.from c.settle-self-inside.result.count c.settle-self-inside.result.room c.settle-self-inside.ensures.count c.settle-self-inside.ensures.room (omega (arith, c.settle-self-inside.ensures.from)) (omega (arith, c.settle-self-inside.ensures.from, c.self.invariant.real)) (λ k m.
+    let P : List ℕ → Type 0 = λ z. Mem k z in
+    inl (subst P c.settle-self-inside.ensures.nodes (filter_mem (λ x. not (eqb x n)) c.settle-self-inside.new.self.nodes k (subst P c.remove.ensures m)).0))
+
+pub returns-then-index-self : goal.returns-then-index-self
+returns-then-index-self g c =
+    let n : ℕ = g.Ix.IndexType.number c.args.n in
+    let is : c.self.inside.tail.count - 1 + 1 ≡ c.self.inside.tail.count = omega (arith, c.if-self-gt0.true) in
+    tail_fewer c.self.invariant (c.self.inside.tail.count - 1) n is (omega (arith, c.if-index-self.true, c.index.ensures.value)) ∙ ap (without n) c.self.view_is

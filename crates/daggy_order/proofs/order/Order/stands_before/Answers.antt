@@ -1,45 +1,55 @@
-use Rattle.std.proofs.Common.{◌≡◌, ◌<◌, ℕ, List, get_or, sym, ap, subst, inl, inr, ◌∙◌, arith}
+use Rattle.std.proofs.Common.{◌<◌, ℕ, List, sym, subst, arith}
 use Rattle.std.proofs.lemmas.Bool.{lt-ltb, ltb-true}
-use Rattle.std.proofs.lemmas.List.{get_or_read}
-use Rattle.daggy_base.proofs.Lists.{Mem, contains_mem}
+use Rattle.daggy_base.proofs.Lists.{Mem, contains_mem, mem_contains}
 use Rattle.daggy_order.specs.Ordered.{place}
-use Rattle.daggy_order.proofs.Labelled.{label_within, label_places}
+use Rattle.daggy_order.proofs.Tails.{in_written, place_written, before_late, not_before_early}
 use Rattle.daggy_order.proofs.order.Order.stands_before.Goals as goal
 
-pub index-requires-2 : goal.index-requires-2
-index-requires-2 g c =
+pub stands_before-requires-clause-first : goal.stands_before-requires-clause-first
+stands_before-requires-clause-first g c =
     let a : ℕ = g.Ix.IndexType.number c.args.a in
-    let Ma : List ℕ → Type 0 = λ z. Mem a z in
-    let has_a : Mem a c.self.inside.links.nodes = subst Ma (sym c.self.view_is) (contains_mem c.args.self.now a c.requires.first) in
-    omega (arith, c.index.ensures.value, label_within c.self.invariant a has_a, c.self.inside.labels.ok.0)
+    let P : List ℕ → Type 0 = λ z. Mem a z in
+    mem_contains c.self.inside.written.nodes a (in_written c.self.invariant a (omega (arith, c.if-i-self.true, c.index-i.ensures.value)) (subst P (sym c.self.view_is) (contains_mem c.args.self.now a c.requires.first)))
 
-pub index-requires-4 : goal.index-requires-4
-index-requires-4 g c =
+pub stands_before-requires-clause-second : goal.stands_before-requires-clause-second
+stands_before-requires-clause-second g c =
     let b : ℕ = g.Ix.IndexType.number c.args.b in
-    let Mb : List ℕ → Type 0 = λ z. Mem b z in
-    let has_b : Mem b c.self.inside.links.nodes = subst Mb (sym c.self.view_is) (contains_mem c.args.self.now b c.requires.second) in
-    omega (arith, c.index-3.ensures.value, label_within c.self.invariant b has_b, c.self.inside.labels.ok.0)
+    let P : List ℕ → Type 0 = λ z. Mem b z in
+    mem_contains c.self.inside.written.nodes b (in_written c.self.invariant b (omega (arith, c.if-j-self.true, c.index-j.ensures.value)) (subst P (sym c.self.view_is) (contains_mem c.args.self.now b c.requires.second)))
 
-pub returns : goal.returns
-returns g c =
+pub returns-then-i-self : goal.returns-then-i-self
+returns-then-i-self g c =
     let a : ℕ = g.Ix.IndexType.number c.args.a in
-    let Ma : List ℕ → Type 0 = λ z. Mem a z in
-    let has_a : Mem a c.self.inside.links.nodes = subst Ma (sym c.self.view_is) (contains_mem c.args.self.now a c.requires.first) in
     let b : ℕ = g.Ix.IndexType.number c.args.b in
-    let Mb : List ℕ → Type 0 = λ z. Mem b z in
-    let has_b : Mem b c.self.inside.links.nodes = subst Mb (sym c.self.view_is) (contains_mem c.args.self.now b c.requires.second) in
-    let a_is : c.index-2.result.now ≡ get_or c.self.inside.labels.items a 0 = get_or_read c.self.inside.labels.items _ _ (omega (arith, c.index.ensures.value, label_within c.self.invariant a has_a)) c.index-2.ensures 0 ∙ ap (λ z. get_or c.self.inside.labels.items z 0) c.index.ensures.value in
-    let b_is : c.index-4.result.now ≡ get_or c.self.inside.labels.items b 0 = get_or_read c.self.inside.labels.items _ _ (omega (arith, c.index-3.ensures.value, label_within c.self.invariant b has_b)) c.index-4.ensures 0 ∙ ap (λ z. get_or c.self.inside.labels.items z 0) c.index-3.ensures.value in
+    let A : List ℕ → Type 0 = λ z. Mem a z in
+    let B : List ℕ → Type 0 = λ z. Mem b z in
+    let s = c.self.invariant in
+    let at_a = place_written s a (in_written s a (omega (arith, c.if-i-self.true, c.index-i.ensures.value)) (subst A (sym c.self.view_is) (contains_mem c.args.self.now a c.requires.first))) in
+    let at_b = place_written s b (in_written s b (omega (arith, c.if-j-self.true, c.index-j.ensures.value)) (subst B (sym c.self.view_is) (contains_mem c.args.self.now b c.requires.second))) in
+    let Q : List ℕ → Type 0 = λ z. place z a < place z b in (
+      λ e. subst Q c.self.view_is (omega (arith, at_a, at_b, c.stands_before.ensures.0 e)),
+      λ h. c.stands_before.ensures.1 (omega (arith, at_a, at_b, subst Q (sym c.self.view_is) h)),
+    )
+
+pub returns-else-i-self : goal.returns-else-i-self
+returns-else-i-self g c =
+    let a : ℕ = g.Ix.IndexType.number c.args.a in
+    let b : ℕ = g.Ix.IndexType.number c.args.b in
+    let A : List ℕ → Type 0 = λ z. Mem a z in
+    let B : List ℕ → Type 0 = λ z. Mem b z in
+    let Q : List ℕ → Type 0 = λ z. place z a < place z b in (
+      λ e. absurd (omega (arith, ltb-true _ _ e, c.if-i-self.false)),
+      λ h. absurd (not_before_early c.self.invariant a b (subst A (sym c.self.view_is) (contains_mem c.args.self.now a c.requires.first)) (subst B (sym c.self.view_is) (contains_mem c.args.self.now b c.requires.second)) (omega (arith, c.if-j-self.true, c.index-j.ensures.value)) (omega (arith, c.if-i-self.false, c.index-i.ensures.value)) (subst Q (sym c.self.view_is) h)),
+    )
+
+pub returns-else-j-self : goal.returns-else-j-self
+returns-else-j-self g c =
+    let a : ℕ = g.Ix.IndexType.number c.args.a in
+    let b : ℕ = g.Ix.IndexType.number c.args.b in
+    let A : List ℕ → Type 0 = λ z. Mem a z in
+    let B : List ℕ → Type 0 = λ z. Mem b z in
     let Q : List ℕ → Type 0 = λ z. place z a < place z b in
-    let cases = label_places c.self.invariant a b has_a has_b in (
-      λ e. subst Q c.self.view_is (elim cases [
-        | inl same ↦ absurd (omega (arith, ltb-true _ _ e, a_is, b_is, ap (λ z. get_or c.self.inside.labels.items z 0) same))
-        | inr r ↦ elim r [ inl before ↦ before.1 | inr behind ↦ absurd (omega (arith, ltb-true _ _ e, a_is, b_is, behind.0)) ]
-      ]),
-      λ h.
-          let earlier = subst Q (sym c.self.view_is) h in
-          lt-ltb _ _ (elim cases [
-            | inl same ↦ absurd (omega (arith, earlier, ap (place c.self.inside.links.nodes) same))
-            | inr r ↦ elim r [ inl before ↦ omega (arith, a_is, b_is, before.0) | inr behind ↦ absurd (omega (arith, earlier, behind.1)) ]
-          ]),
+    let both = before_late c.self.invariant a b (subst A (sym c.self.view_is) (contains_mem c.args.self.now a c.requires.first)) (subst B (sym c.self.view_is) (contains_mem c.args.self.now b c.requires.second)) (omega (arith, c.if-j-self.false, c.index-j.ensures.value)) in (
+      λ e. subst Q c.self.view_is (both.0 (omega (arith, ltb-true _ _ e, c.index-i.ensures.value, c.index-j.ensures.value))),
+      λ h. lt-ltb _ _ (omega (arith, both.1 (subst Q (sym c.self.view_is) h), c.index-i.ensures.value, c.index-j.ensures.value)),
     )

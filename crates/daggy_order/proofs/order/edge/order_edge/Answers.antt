@@ -1,8 +1,10 @@
-use Rattle.std.proofs.Common.{◌+◌, ◌<◌, ◌≤◌, ℕ, false, List, length, get_or, replicate, inl, inr, ◌∙◌, sym, ap, subst, arith}
-use Rattle.std.proofs.lemmas.Bool.{false≢true, cases_lt}
-use Rattle.std.proofs.lemmas.List.{get_or-replicate, get_or_past, length-replicate}
+use Rattle.std.proofs.Common.{◌≡◌, ◌+◌, ◌<◌, ◌≤◌, ℕ, List, ◌++◌, ◌∙◌, sym, subst, arith}
+use Rattle.std.proofs.lemmas.Bool.{false≢true}
 use Rattle.daggy_base.proofs.Going.{reaches_stays}
 use Rattle.daggy_order.specs.Ordered.{IsOrderOf, IsParted, place, stretch, edges_from}
+use Rattle.daggy_base.proofs.Lists.{Mem, contains_mem, mem_contains}
+use Rattle.std.specs.List.{range_with_len}
+use Rattle.daggy_order.proofs.Tails.{high, tailed_bare, bare_is}
 use Rattle.daggy_order.proofs.order.edge.order_edge.Goals as goal
 
 pub returns-then-stands_before-clause-decided : goal.returns-then-stands_before-clause-decided
@@ -16,57 +18,66 @@ returns-then-stands_before-clause-decided g c =
       λ r. absurd (omega (arith, before, reaches_stays (g.S.EdgeSource.graph c.args.source.now) P (λ x y h j. omega (arith, h, c.requires.ordered.sorted x y j)) b a r (omega arith))),
     )
 
-pub order_links-requires-clause-cleared : goal.order_links-requires-clause-cleared
-order_links-requires-clause-cleared g c n =
-    let count : ℕ = length c.scratch.inside.marks in
-    ap (λ z. get_or z n false) c.clear.ensures ∙ elim (cases_lt n count) [
-      | inl within ↦ get_or-replicate count n false false within
-      | inr past ↦ get_or_past (replicate count false) n false (omega (arith, past, length-replicate count false))
-    ]
-
-pub order_links-requires-clause-ordered : goal.order_links-requires-clause-ordered
-order_links-requires-clause-ordered g c =
+pub order_written-requires-clause-ordered : goal.order_written-requires-clause-ordered
+order_written-requires-clause-ordered g c =
+    let was : c.settle-order-inside.new.self.nodes ≡ c.args.order.now = c.settle-order-inside.ensures.nodes ∙ c.order.view_is in
     let P : List ℕ → Type 0 = λ z. IsOrderOf (g.S.EdgeSource.graph c.args.source.now) z in
-    subst P (sym c.order.view_is) c.requires.ordered
-
-pub order_links-requires-clause-labelled : goal.order_links-requires-clause-labelled
-order_links-requires-clause-labelled g c = c.order.invariant
+    subst P (sym was) c.requires.ordered
 
 pub invariant_of-order : goal.invariant_of-order
-invariant_of-order g c = c.order_links.ensures.labelled
+invariant_of-order g c =
+    let ord = c.order_written.ensures.ordered in
+    let old = c.requires.ordered in
+    tailed_bare g.Ix.IndexType.greatest c.order_written.new.written.nodes c.order_written.new.written.capacity c.settle-order-inside.result.from c.settle-order-inside.result.count c.settle-order-inside.result.room c.settle-order-inside.ensures.count c.settle-order-inside.ensures.room (omega (arith, c.settle-order-inside.ensures.from, c.order.invariant.real)) (λ k m.
+    let held = contains_mem c.args.order.now k ((old.exact k).1 ((ord.exact k).0 (mem_contains c.order_written.new.written.nodes k m))) in
+    let P : List ℕ → Type 0 = λ z. Mem k z in
+    omega (arith, c.settle-order-inside.ensures.from, high c.order.invariant k (subst P (sym c.order.view_is) held)))
 
 pub returns-clause-decided : goal.returns-clause-decided
-returns-clause-decided g c = c.order_links.ensures.decided
+returns-clause-decided g c = c.order_written.ensures.decided
 
 pub returns-clause-refused : goal.returns-clause-refused
-returns-clause-refused g c = λ e. c.order_links.ensures.refused e ∙ c.order.view_is
+returns-clause-refused g c =
+    let was : c.settle-order-inside.new.self.nodes ≡ c.args.order.now = c.settle-order-inside.ensures.nodes ∙ c.order.view_is in
+    let is : c.order_written.new.written.nodes ++ range_with_len c.settle-order-inside.result.from c.settle-order-inside.result.count ≡ c.order_written.new.written.nodes = bare_is c.order_written.new.written.nodes c.settle-order-inside.result.from c.settle-order-inside.result.count c.settle-order-inside.ensures.count in
+    λ e. is ∙ (c.order_written.ensures.refused e ∙ was)
 
 pub returns-clause-ordered : goal.returns-clause-ordered
-returns-clause-ordered g c = c.order_links.ensures.ordered
+returns-clause-ordered g c =
+    let is : c.order_written.new.written.nodes ++ range_with_len c.settle-order-inside.result.from c.settle-order-inside.result.count ≡ c.order_written.new.written.nodes = bare_is c.order_written.new.written.nodes c.settle-order-inside.result.from c.settle-order-inside.result.count c.settle-order-inside.ensures.count in
+    let P : List ℕ → Type 0 = λ z. IsOrderOf (g.S.EdgeSource.graph c.args.source.now) z in
+    subst P (sym is) c.order_written.ensures.ordered
 
 pub returns-clause-before : goal.returns-clause-before
-returns-clause-before g c = c.order_links.ensures.before
+returns-clause-before g c =
+    let is : c.order_written.new.written.nodes ++ range_with_len c.settle-order-inside.result.from c.settle-order-inside.result.count ≡ c.order_written.new.written.nodes = bare_is c.order_written.new.written.nodes c.settle-order-inside.result.from c.settle-order-inside.result.count c.settle-order-inside.ensures.count in
+    let P : List ℕ → Type 0 = λ z. place z (g.Ix.IndexType.number c.args.a) < place z (g.Ix.IndexType.number c.args.b) in
+    λ t. subst P (sym is) (c.order_written.ensures.before t)
 
 pub returns-clause-kept : goal.returns-clause-kept
 returns-clause-kept g c =
-    let P : List ℕ → Type 0 = λ z. place z (g.Ix.IndexType.number c.args.a) < place z (g.Ix.IndexType.number c.args.b) in
-    λ early. c.order_links.ensures.kept (subst P (sym c.order.view_is) early) ∙ c.order.view_is
+    λ early. absurd (false≢true (sym c.if-stands_before.false ∙ c.stands_before.ensures.1 early))
 
 pub returns-clause-moved : goal.returns-clause-moved
 returns-clause-moved g c =
+    let was : c.settle-order-inside.new.self.nodes ≡ c.args.order.now = c.settle-order-inside.ensures.nodes ∙ c.order.view_is in
+    let is : c.order_written.new.written.nodes ++ range_with_len c.settle-order-inside.result.from c.settle-order-inside.result.count ≡ c.order_written.new.written.nodes = bare_is c.order_written.new.written.nodes c.settle-order-inside.result.from c.settle-order-inside.result.count c.settle-order-inside.ensures.count in
     let Q : List ℕ → Type 0 = λ z. place z (g.Ix.IndexType.number c.args.b) < place z (g.Ix.IndexType.number c.args.a) in
-    let R : List ℕ → Type 0 = λ z. IsParted (g.S.EdgeSource.graph c.args.source.now) (g.Ix.IndexType.number c.args.a) (g.Ix.IndexType.number c.args.b) z c.order_links.new.links.nodes in
-    λ t after. subst R c.order.view_is (c.order_links.ensures.moved t (subst Q (sym c.order.view_is) after))
+    let R : List ℕ → Type 0 = λ z. IsParted (g.S.EdgeSource.graph c.args.source.now) (g.Ix.IndexType.number c.args.a) (g.Ix.IndexType.number c.args.b) z c.order_written.new.written.nodes in
+    let T : List ℕ → Type 0 = λ z. IsParted (g.S.EdgeSource.graph c.args.source.now) (g.Ix.IndexType.number c.args.a) (g.Ix.IndexType.number c.args.b) c.args.order.now z in
+    λ t after. subst T (sym is) (subst R was (c.order_written.ensures.moved t (subst Q (sym was) after)))
 
 pub returns-clause-same : goal.returns-clause-same
-returns-clause-same g c = c.order_links.ensures.same
+returns-clause-same g c = c.order_written.ensures.same
 
 pub returns-clause-counted : goal.returns-clause-counted
 returns-clause-counted g c =
-    let P : List ℕ → Type 0 = λ z. g.S.EdgeSource.looks c.order_links.new.source ≤ g.S.EdgeSource.looks c.args.source.now + edges_from (g.S.EdgeSource.graph c.args.source.now) (stretch z (place z (g.Ix.IndexType.number c.args.b)) (place z (g.Ix.IndexType.number c.args.a))) in
-    subst P c.order.view_is c.order_links.ensures.counted
+    let was : c.settle-order-inside.new.self.nodes ≡ c.args.order.now = c.settle-order-inside.ensures.nodes ∙ c.order.view_is in
+    let P : List ℕ → Type 0 = λ z. g.S.EdgeSource.looks c.order_written.new.source ≤ g.S.EdgeSource.looks c.args.source.now + edges_from (g.S.EdgeSource.graph c.args.source.now) (stretch z (place z (g.Ix.IndexType.number c.args.b)) (place z (g.Ix.IndexType.number c.args.a))) in
+    subst P was c.order_written.ensures.counted
 
 pub returns-clause-unlooked : goal.returns-clause-unlooked
 returns-clause-unlooked g c =
+    let was : c.settle-order-inside.new.self.nodes ≡ c.args.order.now = c.settle-order-inside.ensures.nodes ∙ c.order.view_is in
     let P : List ℕ → Type 0 = λ z. place z (g.Ix.IndexType.number c.args.a) ≤ place z (g.Ix.IndexType.number c.args.b) in
-    λ h. c.order_links.ensures.unlooked (subst P (sym c.order.view_is) h)
+    λ h. c.order_written.ensures.unlooked (subst P (sym was) h)

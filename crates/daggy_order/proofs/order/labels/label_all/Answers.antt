@@ -38,4 +38,5 @@ returns g c =
     record {
       ascending = asc_lower new 2305843009213693952 0 nodes (2 ^ 64) (omega arith) (asc_higher new 2305843009213693952 nodes _ (2 ^ 64) (omega (arith, fits)) (c.number.ensures.ascending [] nodes [] whole));
       others = λ n d. c.number.ensures.others [] nodes [] whole n d;
+      sized = c.number.ensures.sized;
     }

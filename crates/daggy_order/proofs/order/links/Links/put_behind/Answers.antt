@@ -4,7 +4,7 @@ use Rattle.daggy_base.proofs.Lists.{Mem, mem_cases, contains_mem, mem_contains}
 use Rattle.daggy_order.specs.Links.{Listed, walk, neighbor}
 use Rattle.daggy_order.proofs.Bounded.{split_at}
 use Rattle.daggy_order.proofs.Chains.{neighbor_node}
-use Rattle.daggy_order.proofs.Linking.{few, once, inside, length_walk, is_put, next_leads, leads_within, put_walked, put_linked}
+use Rattle.daggy_order.proofs.Linking.{few, once, inside, length_walk, is_put, next_leads, leads_within, put_walked, put_linked, same_lesser}
 use Rattle.daggy_order.proofs.order.links.Links.put_behind.Goals as goal
 
 pub index-q-requires : goal.index-q-requires
@@ -113,3 +113,7 @@ returns-clause-room g c =
     let s = c.self.invariant in
     let long : length c.self.inside.previous.items ≡ length c.lead-4.new.links.items = omega (arith, c.lead-3.ensures.sized, c.lead-4.ensures.sized, c.self.inside.previous.ok.0, c.lead-4.new.links.ok.0) in
     sym long ∙ ap (λ (z : Listed). z.room) c.self.view_is
+
+pub returns-clause-capacity : goal.returns-clause-capacity
+returns-clause-capacity g c =
+    same_lesser (c.lead-2.ensures.capacity ∙ c.lead.ensures.capacity) (c.lead-4.ensures.capacity ∙ c.lead-3.ensures.capacity) (ap (λ (z : Listed). z.capacity) c.self.view_is)

@@ -20,4 +20,4 @@ returns-else-self-eq0 g c =
     let e = ended c.args.self.now.nodes (omega (arith, count, c.if-self-eq0.false, ap (λ (z : List ℕ). length z) nodes)) in
     let last = last_is s e.0 e.1 (nodes ∙ e.2) in
     let split : c.args.self.now.nodes ≡ e.0 ++ c.self.inside.last ∷ [] = e.2 ∙ ap (λ (z : ℕ). e.0 ++ z ∷ []) (sym last) in
-    listed (c.put_behind.ensures.nodes e.0 [] split ∙ (sym (append_assoc e.0 (c.self.inside.last ∷ []) (c.args.n ∷ [])) ∙ ap (λ (z : List ℕ). z ++ c.args.n ∷ []) (sym split))) c.put_behind.ensures.room
+    listed (c.put_behind.ensures.nodes e.0 [] split ∙ (sym (append_assoc e.0 (c.self.inside.last ∷ []) (c.args.n ∷ [])) ∙ ap (λ (z : List ℕ). z ++ c.args.n ∷ []) (sym split))) c.put_behind.ensures.room c.put_behind.ensures.capacity

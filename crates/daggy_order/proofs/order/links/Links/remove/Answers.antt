@@ -4,7 +4,7 @@ use Rattle.daggy_base.proofs.Lists.{Mem, contains_mem}
 use Rattle.daggy_base.specs.Removal.{without}
 use Rattle.daggy_order.specs.Links.{Listed, walk, neighbor}
 use Rattle.daggy_order.proofs.Bounded.{split_at}
-use Rattle.daggy_order.proofs.Linking.{listed}
+use Rattle.daggy_order.proofs.Linking.{listed, same_lesser}
 use Rattle.daggy_order.proofs.Chains.{IsTaken, neighbor_node}
 use Rattle.daggy_order.proofs.Linking.{once, inside, length_walk, previous_leads, next_leads, leads_within, taken_walked, taken_linked}
 use Rattle.daggy_order.proofs.order.links.Links.remove.Goals as goal
@@ -117,4 +117,4 @@ returns g c =
       back = λ k d. c.lead-2.ensures.others k (λ e. d (e ∙ q_n));
     } in
     let is = taken_walked s c.lead.new.links.items c.lead-2.new.links.items c.lead.new.outer c.lead-2.new.outer c.args.n at.0 at.1 at.2 taken sized (omega (arith, long)) (c.self.inside.count - 1) count in
-    listed (is ∙ ap (without c.args.n) nodes) (sym long ∙ ap (λ (z : Listed). z.room) c.self.view_is)
+    listed (is ∙ ap (without c.args.n) nodes) (sym long ∙ ap (λ (z : Listed). z.room) c.self.view_is) (same_lesser c.lead.ensures.capacity c.lead-2.ensures.capacity (ap (λ (z : Listed). z.capacity) c.self.view_is))

@@ -1,5 +1,5 @@
 use Rattle.daggy_order.proofs.Going.{Seeking}
-use Rattle.daggy_order.proofs.order.Order.place.Given as goal
+use Rattle.daggy_order.proofs.order.written.Written.place.Given as goal
 
 abbrev pub invariant-nodes : goal.invariant-nodes
 invariant-nodes g l = Seeking g.Ix.IndexType.greatest l.self-inside.links.nodes l.i l.at l.place

@@ -1,0 +1,290 @@
+//! The nodes of an order that are written, as links and labels.
+ghost use Rattle.std.specs.Prelude.{◌≡◌, ℕ, ◌+◌, ◌<◌, ◌≤◌, ◌↔◌, [], ◌∷◌, ◌++◌, List, length, slice_index, map, vec_len, IsTrue, Contains, OnOk, OnErr, IfOk};
+ghost use Rattle.daggy_base.specs.Cursor.{first_of};
+ghost use Rattle.daggy_base.specs.Removal.{without, renamed};
+ghost use Rattle.daggy_base.specs.WellFormed.{AreDistinct};
+ghost use Rattle.daggy_order.specs.Ordered.{place};
+ghost use Rattle.std.specs.List.{range_with_len};
+ghost use Rattle.daggy_order.specs.Links.{IsLabelled, IsTailed};
+
+use crate::order::labels::{label_first, label_last};
+use crate::order::links::{Links, grow, lengthen_within, reserve_to};
+use daggy_base::index::{IndexType, NodeIndex};
+use daggy_base::link::Link;
+use std::alloc::{AllocError, Global};
+use std::marker::Model;
+
+/// A list of nodes, each at most once, in which nodes come and go at both ends and can be moved.
+///
+/// Each node leads to the next and to the one before it, and has a label. Labels ascend along the
+/// list, so two of them tell which node stands before the other.
+#[derive(Drop)]
+pub(crate) struct Written<Ix: IndexType> {
+    pub(super) links: Links<Ix>,
+    pub(super) labels: Vec<u64>,
+}
+
+impl<Ix: IndexType> Model for Written<Ix> {
+    ghost use Rattle.std.specs.Prelude.{min, vec_capacity};
+    ghost use Rattle.daggy_order.specs.Links.{IsLabelled, Stored};
+
+    ghost Value = { Stored };
+
+    ghost view = { λ o. record { nodes = o.links.nodes; capacity = min o.links.capacity (vec_capacity o.labels) } };
+
+    ghost invariant = { λ o. IsLabelled o.labels.items o.links.nodes };
+}
+
+/// The nodes behind the written ones: `count` of them, whose indices follow one another from `from`
+/// on. Nodes below `room` can be written without new memory.
+#[derive(Clone, Copy)]
+pub(crate) struct Tail {
+    pub(super) from: usize,
+    pub(super) count: usize,
+    pub(super) room: usize,
+}
+
+// Puts a node last, for which there is room.
+#[inline]
+fn put_last<Ix: IndexType>(links: &mut Links<Ix>, labels: &mut Vec<u64>, n: Link<Ix>)
+    requires labelled { IsLabelled labels.old.items links.old.nodes }
+    requires real { n < Ix.greatest }
+    requires absent { ¬ Contains links.old.nodes n }
+    requires room { n < links.old.room }
+    requires labels_fit { n < vec_len labels.old }
+    ensures nodes { links.new.nodes ≡ links.old.nodes ++ n ∷ [] }
+    ensures labelled { IsLabelled labels.new.items links.new.nodes }
+    ensures room { links.new.room ≡ links.old.room }
+    ensures sized { vec_len labels.new ≡ vec_len labels.old }
+{
+    let last = links.last();
+    links.put_last(n);
+    label_last(links, labels, last, n);
+}
+
+// Puts nodes in turn last, for which there is room.
+fn put_in_turn<Ix: IndexType>(
+    links: &mut Links<Ix>,
+    labels: &mut Vec<u64>,
+    from: usize,
+    count: usize,
+)
+    requires labelled { IsLabelled labels.old.items links.old.nodes }
+    requires below { (n : ℕ) → Contains links.old.nodes n → n < from }
+    requires real { from + count ≤ Ix.greatest }
+    requires room { from + count ≤ links.old.room }
+    requires labels_fit { from + count ≤ vec_len labels.old }
+    ensures nodes { links.new.nodes ≡ links.old.nodes ++ range_with_len from count }
+    ensures labelled { IsLabelled labels.new.items links.new.nodes }
+{
+    'nodes: for i in 0..count {
+        put_last(links, labels, Link::new(from + i));
+    }
+}
+
+impl<Ix: IndexType> Written<Ix> {
+    pub(crate) fn new(alloc: Global) -> Self
+        ensures { result.nodes ≡ [] }
+    {
+        Written {
+            links: Links::new(alloc),
+            labels: Vec::new(alloc),
+        }
+    }
+
+    #[inline]
+    pub(crate) fn len(&self) -> usize
+        ensures value { result ≡ length self.now.nodes }
+        ensures distinct { AreDistinct self.now.nodes }
+    {
+        self.links.len()
+    }
+
+    // The first node, or `end`.
+    #[inline]
+    pub(crate) fn first(&self) -> Link<Ix>
+        ensures { result ≡ first_of Ix.greatest self.now.nodes }
+    {
+        self.links.first()
+    }
+
+    // The node that follows a node, or `end`.
+    #[inline]
+    pub(crate) fn next(&self, n: Link<Ix>) -> Link<Ix>
+        requires { Contains self.now.nodes n }
+        ensures { (ns ms : List ℕ) → self.now.nodes ≡ ns ++ n ∷ ms → result ≡ first_of Ix.greatest ms }
+    {
+        self.links.next(n)
+    }
+
+    #[inline]
+    pub(crate) fn holds(&self, n: NodeIndex<Ix>) -> bool
+        ensures { IsTrue result ↔ Contains self.now.nodes (Ix.number n) }
+    {
+        let i = n.index();
+        i < self.labels.len() && self.labels[i] > 0
+    }
+
+    #[inline]
+    pub(crate) fn stands_before(&self, a: NodeIndex<Ix>, b: NodeIndex<Ix>) -> bool
+        requires first { Contains self.now.nodes (Ix.number a) }
+        requires second { Contains self.now.nodes (Ix.number b) }
+        ensures { IsTrue result ↔ (place self.now.nodes (Ix.number a) < place self.now.nodes (Ix.number b)) }
+    {
+        self.labels[a.index()] < self.labels[b.index()]
+    }
+
+    // Takes memory for nodes below `bound`, and says below which number there is memory for nodes.
+    // Writes nothing.
+    pub(crate) fn reserve(&mut self, bound: usize) -> Result<usize, AllocError>
+        ensures ok { IfOk result (λ room. bound ≤ room) }
+        ensures room { IfOk result (λ room. room ≡ self.new.capacity) }
+        ensures larger { self.old.capacity ≤ self.new.capacity }
+        ensures same { self.new.nodes ≡ self.old.nodes }
+    {
+        reserve_to(&mut self.labels, bound)?;
+        let room = self.links.reserve(bound)?;
+        Ok(room.min(self.labels.capacity()))
+    }
+
+    // Writes the nodes of a tail. There is memory for them. The tail that is left is empty.
+    #[inline]
+    pub(crate) fn settle(&mut self, tail: Tail) -> Tail
+        requires { IsTailed Ix.greatest self.old.nodes self.old.capacity tail.from tail.count tail.room }
+        ensures nodes { self.new.nodes ≡ self.old.nodes ++ range_with_len tail.from tail.count }
+        ensures from { result.from ≡ tail.from + tail.count }
+        ensures count { result.count ≡ 0 }
+        ensures room { result.room ≡ 0 }
+    {
+        if tail.count > 0 {
+            self.write_tail(tail);
+        }
+        Tail {
+            from: tail.from + tail.count,
+            count: 0,
+            room: 0,
+        }
+    }
+
+    #[inline(never)]
+    fn write_tail(&mut self, tail: Tail)
+        requires some { 0 < tail.count }
+        requires tailed { IsTailed Ix.greatest self.old.nodes self.old.capacity tail.from tail.count tail.room }
+        ensures { self.new.nodes ≡ self.old.nodes ++ range_with_len tail.from tail.count }
+    {
+        let end = tail.from + tail.count;
+        lengthen_within(&mut self.labels, end, 0);
+        self.links.use_memory(end);
+        put_in_turn(&mut self.links, &mut self.labels, tail.from, tail.count);
+    }
+
+    // Puts a node last. Constant time, but for growth, and where labels reach the end of their
+    // range: all are made anew then, once in many million nodes.
+    #[inline]
+    pub(crate) fn push(&mut self, n: NodeIndex<Ix>) -> Result<(), AllocError>
+        requires real { Ix.number n < Ix.greatest }
+        requires absent { ¬ Contains self.old.nodes (Ix.number n) }
+        ensures ok { OnOk result (self.new.nodes ≡ self.old.nodes ++ Ix.number n ∷ []) }
+        ensures err { OnErr result (self.new.nodes ≡ self.old.nodes) }
+    {
+        let i = n.index();
+        self.links.make_room(i)?;
+        grow(&mut self.labels, i, 0)?;
+        put_last(&mut self.links, &mut self.labels, Link::of_node(n));
+        Ok(())
+    }
+
+    // Takes a node out. Constant time.
+    #[inline]
+    pub(crate) fn remove(&mut self, n: NodeIndex<Ix>)
+        requires { Contains self.old.nodes (Ix.number n) }
+        ensures { self.new.nodes ≡ without (Ix.number n) self.old.nodes }
+    {
+        self.labels[n.index()] = 0;
+        self.links.remove(Link::of_node(n));
+    }
+
+    // Gives a node the index `m` in its place, as where a graph moves its last node into a gap.
+    // Constant time.
+    #[inline]
+    pub(crate) fn rename(&mut self, n: NodeIndex<Ix>, m: NodeIndex<Ix>)
+        requires held { Contains self.old.nodes (Ix.number n) }
+        requires free { ¬ Contains self.old.nodes (Ix.number m) }
+        requires lower { Ix.number m < Ix.number n }
+        ensures { self.new.nodes ≡ map (renamed (Ix.number n) (Ix.number m)) self.old.nodes }
+    {
+        let i = n.index();
+        let _count = self.links.len();
+        let label = self.labels[i];
+        self.labels[i] = 0;
+        self.labels[m.index()] = label;
+        let n = Link::of_node(n);
+        self.links.put_behind(n, Link::of_node(m));
+        self.links.remove(n);
+    }
+
+    // Puts a node first. The cost is that of `push`.
+    #[inline]
+    pub(crate) fn push_first(&mut self, n: NodeIndex<Ix>) -> Result<(), AllocError>
+        requires real { Ix.number n < Ix.greatest }
+        requires absent { ¬ Contains self.old.nodes (Ix.number n) }
+        ensures ok { OnOk result (self.new.nodes ≡ Ix.number n ∷ self.old.nodes) }
+        ensures err { OnErr result (self.new.nodes ≡ self.old.nodes) }
+    {
+        let i = n.index();
+        self.links.make_room(i)?;
+        grow(&mut self.labels, i, 0)?;
+        let first = self.links.first();
+        let n = Link::of_node(n);
+        self.links.put_first(n);
+        label_first(&self.links, &mut self.labels, first, n);
+        Ok(())
+    }
+
+    // At which place a node of it stands. The nodes before it are counted.
+    pub(crate) fn place(&self, n: NodeIndex<Ix>) -> usize
+        requires { Contains self.now.nodes (Ix.number n) }
+        ensures { result ≡ place self.now.nodes (Ix.number n) }
+    {
+        let i = n.index();
+        let mut at = self.links.first();
+        'nodes: for place in 0..self.links.len() {
+            if at.index() == i {
+                return place;
+            }
+            at = self.links.next(at);
+        }
+        self.links.len()
+    }
+
+    // The node at a place. The nodes before it are counted.
+    pub(crate) fn at(&self, place: usize) -> NodeIndex<Ix>
+        requires { place < length self.now.nodes }
+        ensures { Ix.number result ≡ slice_index self.now.nodes place }
+    {
+        let mut at = self.links.first();
+        'nodes: for _i in 0..place {
+            at = self.links.next(at);
+        }
+        at.node()
+    }
+
+    // The same list, in memory of its own.
+    pub(crate) fn try_clone(&self) -> Result<Self, AllocError>
+        ensures { IfOk result (λ o. o.nodes ≡ self.now.nodes) }
+    {
+        Ok(Written {
+            links: self.links.try_clone()?,
+            labels: Vec::from_slice(*self.labels.allocator(), self.labels.as_slice())?,
+        })
+    }
+
+    // Takes all nodes out, and keeps the memory. Constant time.
+    #[inline]
+    pub(crate) fn clear(&mut self)
+        ensures { self.new.nodes ≡ [] }
+    {
+        self.links.clear();
+        self.labels.clear();
+    }
+}
