@@ -2,8 +2,7 @@
 ghost use Rattle.std.specs.Prelude.{◌≡◌, ◌<◌};
 ghost use Rattle.daggy_json.specs.Restoring.{trimmed};
 
-use crate::support::{edge, node, number, weight};
-use daggy_assertions::{holds, made};
+use crate::support::{edge, holds, made, node, number, weight};
 use daggy_base::error::EdgeError;
 use daggy_base::index::{Direction, EdgeIndex};
 use daggy_base::store::Store;

@@ -1,6 +1,5 @@
 //! Documents that are read.
-use crate::support::{number, weight};
-use daggy_assertions::{holds, made};
+use crate::support::{holds, made, number, weight};
 use daggy_dag::acyclic::{Dag, StableDag};
 use daggy_json::documents::{dag_from_json, dag_to_json, stable_from_json, stable_to_json};
 use daggy_json::error::ReadError;

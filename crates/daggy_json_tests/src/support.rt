@@ -1,16 +1,30 @@
 //! Small dags, and what a document of one is to be.
-ghost use Rattle.std.specs.Prelude.{◌≡◌, IfOk};
+ghost use Rattle.std.specs.Prelude.{◌≡◌, IsTrue, Ok, IfOk};
 ghost use Rattle.serde_json.specs.View.{view};
 ghost use Rattle.daggy_json.specs.Document.{whole};
 ghost use Rattle.daggy_json.specs.Reading.{whole_in};
 
-use daggy_assertions::{holds, made};
 use daggy_base::index::{EdgeIndex, NodeIndex};
 use daggy_base::store::Store;
 use daggy_dag::acyclic::Acyclic;
 use serde_json::Value;
 use std::alloc::{AllocError, Global};
 use std::process::Abort;
+
+pub fn holds(rt: &impl Abort, fact: bool)
+    ensures { IsTrue fact }
+{
+    assert!(rt; fact);
+}
+
+pub fn made<T: Drop, E: Drop>(rt: &impl Abort, answer: Result<T, E>) -> T
+    ensures { answer ≡ Ok result }
+{
+    match answer {
+        Ok(x) => x,
+        Err(_) => panic!(rt; "the call was refused"),
+    }
+}
 
 pub fn node(rt: &impl Abort, n: usize) -> NodeIndex<u8> {
     holds(rt, n < 255);

@@ -1,6 +1,5 @@
 //! Documents that are written, by their texts.
-use crate::support::{dag_of, edge, node, number};
-use daggy_assertions::{holds, made};
+use crate::support::{dag_of, edge, holds, made, node, number};
 use daggy_dag::acyclic::{Dag, StableDag};
 use daggy_json::documents::{dag_to_json, stable_to_json};
 use daggy_json::error::{ReadError, WriteError};

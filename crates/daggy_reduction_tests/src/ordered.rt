@@ -1,7 +1,7 @@
 //! A graph that counts its looks, beside an order of its nodes.
 ghost use Rattle.std.specs.Prelude.{◌≡◌, IsTrue, Ok};
 
-use daggy_assertions::{holds, made};
+use crate::tests::{holds, made};
 use daggy_base::index::{EdgeIndex, NodeIndex};
 use daggy_base::search::{EdgeSource, Scratch};
 use daggy_order::order::{Order, order_edge};

@@ -1,6 +1,7 @@
 //! Redundant edges of small graphs, and of one with more paths than could be walked.
+ghost use Rattle.std.specs.Prelude.{◌≡◌, IsTrue, Ok};
+
 use crate::ordered::Ordered;
-use daggy_assertions::{holds, made};
 use daggy_base::index::{EdgeIndex, NodeIndex};
 use daggy_base::search::{EdgeSource, Scratch, is_acyclic};
 use daggy_base::store::Store;
@@ -11,6 +12,21 @@ use std::alloc::Global;
 use std::process::Abort;
 
 type Small = DiGraph<u32, u32, u8>;
+
+pub fn holds(rt: &impl Abort, fact: bool)
+    ensures { IsTrue fact }
+{
+    assert!(rt; fact);
+}
+
+pub fn made<T: Drop, E: Drop>(rt: &impl Abort, answer: Result<T, E>) -> T
+    ensures { answer ≡ Ok result }
+{
+    match answer {
+        Ok(x) => x,
+        Err(_) => panic!(rt; "the call was refused"),
+    }
+}
 
 fn node(rt: &impl Abort, n: usize) -> NodeIndex<u8> {
     holds(rt, n < 255);

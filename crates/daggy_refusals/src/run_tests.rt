@@ -1,9 +1,8 @@
 //! Commands that are run while memory is refused once: they come back, or the reply says so and nothing has changed.
 //! Run again they must succeed.
-use crate::support::refuse;
+use crate::support::{holds, made, refuse, same};
 use daggy::run::{Back, Command, GuardedDag, Reply, plan, run};
 use daggy::{Dag, EdgeIndex, NodeIndex, StableDag};
-use daggy_assertions::{holds, made, same};
 use std::alloc::{AllocError, Global};
 use std::process::Abort;
 

@@ -1,6 +1,6 @@
 //! The calls of the stable dag, each made again after a refusal. It must then succeed, in the slots that it would have
 //! taken at first.
-use crate::support::refuse;
+use crate::support::{holds, made, refuse, same};
 use daggy::graph::Element;
 use daggy::index::Direction;
 use daggy::stable_dag::{EdgeIndices, StableDag};
@@ -8,7 +8,6 @@ use daggy::visit::{GetAdjacencyMatrix, NodeIndexable, Visitable};
 use daggy::{
     ChildError, Dag, EdgeError, EdgeIndex, EdgesError, ElementError, NodeError, NodeIndex,
 };
-use daggy_assertions::{holds, made, same};
 use std::alloc::{AllocError, Global};
 use std::process::Abort;
 

@@ -1,11 +1,10 @@
 //! Each call is made again after a refusal, and must then succeed.
-use crate::support::refuse;
+use crate::support::{holds, made, refuse, same};
 use daggy::graph::Element;
 use daggy::{
     ChildError, Dag, EdgeError, EdgeIndex, EdgeIndices, EdgesError, ElementError, NodeError,
     NodeIndex, Walker, same_reachability,
 };
-use daggy_assertions::{holds, made, same};
 use std::alloc::{AllocError, Global};
 use std::process::Abort;
 

@@ -1,6 +1,5 @@
-//! What the public calls of the stable store do, by example, and its graphs as numbers for the tests of dags.
+//! What the public calls of the stable kind do, by example.
 #![tactic(auto)]
 
-pub mod graphs;
 #[cfg(test)]
 mod tests;

@@ -1,4 +1,14 @@
-//! What no contract says: that calls succeed, at concrete types, and that the examples come out as they should.
+//! What no contract says: that calls succeed, at concrete types, that the examples come out as they should, and in which
+//! order closures are called.
 
+mod calling;
+mod graphs;
 mod iterating;
-mod storing;
+mod keeping;
+mod ordering;
+mod series;
+mod slots;
+mod support;
+mod visiting;
+mod walking;
+mod writing;

@@ -7,6 +7,7 @@ mod converting;
 mod cursors;
 mod errors;
 mod example;
+mod graphs;
 mod indices;
 mod iterating;
 mod large;

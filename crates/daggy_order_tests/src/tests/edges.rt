@@ -1,7 +1,6 @@
 use super::kept::Kept;
 use super::random::Random;
-use super::support::lists;
-use daggy_assertions::{holds, same};
+use super::support::{holds, lists, same};
 use daggy_base::index::NodeIndex;
 use std::process::Abort;
 

@@ -2,8 +2,8 @@
 ghost use Rattle.std.specs.Prelude.{◌≡◌, ◌↔◌, false};
 ghost use Rattle.daggy_base.specs.Path.{Reaches};
 
+use super::support::{holds, made};
 use crate::counted::Counted;
-use daggy_assertions::{holds, made};
 use daggy_base::index::NodeIndex;
 use daggy_base::search::{EdgeSource, Scratch, reaches};
 use daggy_order::order::{Order, order_edge};

@@ -1,5 +1,4 @@
-use super::support::lists;
-use daggy_assertions::{holds, made};
+use super::support::{holds, lists, made};
 use daggy_base::index::NodeIndex;
 use daggy_order::order::Order;
 use std::process::Abort;

@@ -1,6 +1,5 @@
 use super::kept::Kept;
-use super::support::lists;
-use daggy_assertions::{holds, made};
+use super::support::{holds, lists, made};
 use daggy_base::index::NodeIndex;
 use daggy_base::search::Scratch;
 use daggy_graph::graph::DiGraph;

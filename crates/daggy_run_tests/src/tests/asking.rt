@@ -1,6 +1,5 @@
 //! Commands that ask, and what a planner asks, of both kinds.
-use crate::tests::support::{Compact, Stable, add_edges, add_nodes, e, list, n, replies};
-use daggy_assertions::same;
+use crate::tests::support::{Compact, Stable, add_edges, add_nodes, e, list, n, replies, same};
 use daggy_base::index::EdgeIndex;
 use daggy_run::command::{Command, Reply};
 use daggy_run::guarded::{GuardedDag, Kind};

@@ -1,6 +1,5 @@
 //! What is answered where no index is left.
-use crate::tests::support::{Compact, Stable, add_nodes, back, e, edges, n, replies};
-use daggy_assertions::same;
+use crate::tests::support::{Compact, Stable, add_nodes, back, e, edges, n, replies, same};
 use daggy_run::command::{Back, Command, Reply};
 use daggy_run::guarded::GuardedDag;
 use daggy_run::step::perform;

@@ -1,6 +1,5 @@
 //! Plans of dags of both kinds.
-use crate::tests::support::{Compact, Stable, add_edges, add_nodes, list, n, replies};
-use daggy_assertions::{made, same};
+use crate::tests::support::{Compact, Stable, add_edges, add_nodes, list, made, n, replies, same};
 use daggy_base::index::NodeIndex;
 use daggy_run::command::{Command, Reply};
 use daggy_run::guarded::GuardedDag;

@@ -1,6 +1,5 @@
 //! Lists of commands.
-use crate::tests::support::{Asked, Compact, Said, Stable, back, e, edges, list, n};
-use daggy_assertions::{made, same};
+use crate::tests::support::{Asked, Compact, Said, Stable, back, e, edges, list, made, n, same};
 use daggy_run::command::{Back, Command, Reply};
 use daggy_run::guarded::GuardedDag;
 use daggy_run::run::run;

@@ -1,11 +1,11 @@
-//! Short names, and what commands reply.
-use daggy_assertions::{made, same};
+//! The assertions, each proved once, and short names.
 use daggy_base::index::{EdgeIndex, NodeIndex};
 use daggy_dag::acyclic::{Dag, StableDag};
 use daggy_run::command::{Back, Command, Reply};
 use daggy_run::guarded::GuardedDag;
 use daggy_run::step::perform;
 use std::alloc::Global;
+use std::fmt::Debug;
 use std::process::Abort;
 
 pub type Asked = Command<u32, u32, u8>;
@@ -24,6 +24,19 @@ pub fn n(index: u8) -> NodeIndex<u8> {
 /// The edge of this index.
 pub fn e(index: u8) -> EdgeIndex<u8> {
     EdgeIndex::new(usize::from(index))
+}
+
+/// Asserts that what was found is what is wanted.
+pub fn same<T: PartialEq + Debug + Drop>(rt: &impl Abort, found: T, wanted: T) {
+    assert_eq!(rt; found, wanted);
+}
+
+/// Gives what a call that has memory gave.
+pub fn made<T: Drop, E: Drop>(rt: &impl Abort, answer: Result<T, E>) -> T {
+    match answer {
+        Ok(x) => x,
+        Err(_) => panic!(rt; "the call was refused"),
+    }
 }
 
 /// These in a `Vec`.

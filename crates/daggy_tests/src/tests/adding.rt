@@ -1,6 +1,7 @@
-use super::support::{Plain, add_child, add_edge, add_node, children, counts, dag_of, refuse_edge};
+use super::support::{
+    Plain, add_child, add_edge, add_node, children, counts, dag_of, refuse_edge, same,
+};
 use daggy::{Dag, EdgeIndex, NodeIndex};
-use daggy_assertions::same;
 
 #[test]
 fn a_new_dag_is_empty(rt: HostRuntime) {

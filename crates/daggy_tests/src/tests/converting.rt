@@ -1,8 +1,6 @@
-use super::support::dag_of;
+use super::support::{connect, dag_of, same, shape};
 use daggy::NodeIndex;
 use daggy::graph::DiGraph;
-use daggy_assertions::same;
-use daggy_graph_tests::graphs::{connect, shape};
 
 #[test]
 fn a_dag_lends_its_graph(rt: HostRuntime) {

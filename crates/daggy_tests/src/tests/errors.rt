@@ -1,5 +1,5 @@
+use super::support::{holds, prints, same, shows};
 use daggy::{ChildError, EdgeError, EdgesError, ElementError, NodeError, WouldCycle};
-use daggy_assertions::{holds, prints, same, shows};
 use std::error::Error;
 
 #[derive(Drop)]

@@ -1,6 +1,5 @@
-use super::support::closes_cycle;
+use super::support::{closes_cycle, holds};
 use daggy::{Dag, Walker};
-use daggy_assertions::holds;
 use std::test::Fail;
 
 #[test]

@@ -1,7 +1,8 @@
-use super::support::{Small, add_edge, add_node, children, closes_cycle, counts, try_edge};
+use super::support::{
+    Small, add_edge, add_node, children, closes_cycle, counts, holds, made, same, try_edge,
+};
 use daggy::index::{DefaultIx, Direction, IndexType};
 use daggy::{Dag, EdgeIndex, NodeIndex};
-use daggy_assertions::{holds, made, same};
 use std::alloc::Global;
 use std::collections::HashSet;
 use std::process::Abort;

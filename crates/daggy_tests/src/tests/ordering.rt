@@ -1,7 +1,6 @@
 //! The order of its nodes that a dag keeps, where its edges allow but one.
-use super::support::{Plain, dag_of};
+use super::support::{Plain, dag_of, made, same};
 use daggy::NodeIndex;
-use daggy_assertions::{made, same};
 use std::alloc::Global;
 use std::process::Abort;
 

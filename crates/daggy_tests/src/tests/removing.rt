@@ -1,8 +1,8 @@
-use super::support::{Plain, add_edge, add_node, children, counts, dag_of, parents, refuse_edge};
+use super::support::{
+    Plain, add_edge, add_node, children, counts, dag_of, holds, parents, refuse_edge, same, shape,
+};
 use daggy::index::Direction;
 use daggy::{Dag, EdgeIndex, NodeIndex, Walker};
-use daggy_assertions::{holds, same};
-use daggy_graph_tests::graphs::shape;
 
 #[test]
 fn nothing_is_removed_from_an_empty_dag(rt: HostRuntime) {

@@ -1,9 +1,8 @@
+use super::support::{connect, holds, made};
 use daggy::NodeIndex;
 use daggy::graph::DiGraph;
 use daggy::search::{EdgeSource, Scratch, reaches};
-use daggy_assertions::{holds, made};
 use daggy_definitions::round::Round;
-use daggy_graph_tests::graphs::connect;
 use std::process::Abort;
 
 // Asserts whether a path leads from one node to another.

@@ -1,12 +1,13 @@
 //! Many edges or elements at once.
-use super::support::{Plain, Small, add_edge, add_node, children, closes_cycle, counts, parents};
+use super::support::{
+    Plain, Small, add_edge, add_node, children, closes_cycle, counts, made, node, parents, same,
+    shape,
+};
 use daggy::graph::Element;
 use daggy::index::IndexType;
 use daggy::{
     Dag, EdgeError, EdgeIndex, EdgeIndices, EdgesError, ElementError, NodeIndex, Walker, WouldCycle,
 };
-use daggy_assertions::{made, same};
-use daggy_graph_tests::graphs::{edge, node, shape};
 use std::alloc::Global;
 use std::process::Abort;
 
@@ -37,6 +38,11 @@ fn added(rt: &impl Abort, answer: Answer<u32>, wanted: &[usize]) {
     for index in wanted {
         same(rt, indices.next(), Some(edge(rt, *index)));
     }
+}
+
+fn edge(rt: &impl Abort, x: usize) -> EdgeIndex {
+    assert!(rt; x < 1000);
+    EdgeIndex::new(x)
 }
 
 // Asserts that a series closes a cycle, and that its weights come back, the last one first.

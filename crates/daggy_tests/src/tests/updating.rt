@@ -1,10 +1,8 @@
 use super::support::{
     Small, add_child, add_edge, add_node, add_parent, children, closes_cycle, counts, dag_of,
-    parents, update_edge,
+    holds, made, parents, same, shape, update_edge,
 };
 use daggy::{Dag, EdgeIndex, NodeIndex};
-use daggy_assertions::{holds, made, same};
-use daggy_graph_tests::graphs::shape;
 
 #[test]
 fn updating_writes_the_newest_of_parallel_edges(rt: HostRuntime) {

@@ -1,11 +1,9 @@
-use super::support::{Plain, add_edge, add_node, dag_of};
+use super::support::{Plain, add_edge, add_node, dag_of, holds, made, same, shape, shows};
 use daggy::visit::{
     Data, DataMap, DataMapMut, GetAdjacencyMatrix, GraphBase, GraphProp, NodeCompactIndexable,
     NodeCount, NodeIndexable, VisitMap, Visitable,
 };
 use daggy::{Dag, EdgeIndex, NodeIndex};
-use daggy_assertions::{holds, made, same, shows};
-use daggy_graph_tests::graphs::shape;
 use std::alloc::{AllocError, Global};
 use std::process::Abort;
 

@@ -1,6 +1,5 @@
-use super::support::{add_child, add_edge, add_node, dag_of};
+use super::support::{add_child, add_edge, add_node, dag_of, holds, same};
 use daggy::{Dag, NodeIndex, Walker};
-use daggy_assertions::{holds, same};
 
 #[test]
 fn a_walker_sees_what_was_added_since_it_was_made(rt: HostRuntime) {

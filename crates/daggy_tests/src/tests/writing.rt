@@ -1,8 +1,6 @@
 //! Weights that are read and written in place.
-use super::support::dag_of;
+use super::support::{dag_of, holds, same, shape};
 use daggy::{EdgeIndex, NodeIndex};
-use daggy_assertions::{holds, same};
-use daggy_graph_tests::graphs::shape;
 
 #[test]
 fn weights_are_written_in_place(rt: HostRuntime) {

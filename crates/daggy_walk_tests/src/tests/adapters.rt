@@ -1,8 +1,6 @@
-use super::support::{Plain, Step, dag_of, far, goes, six, weight};
-use daggy_assertions::{made, same};
+use super::support::{Plain, Step, dag_of, far, goes, made, node, same, six, weight};
 use daggy_base::store::Store;
 use daggy_graph::graph::DiGraph;
-use daggy_graph_tests::graphs::node;
 use daggy_stable::stable_graph::StableDiGraph;
 use daggy_walk::walker::{
     Chain, Cycle, Filter, Peekable, Skip, SkipWhile, Take, TakeWhile, Walker,

@@ -1,8 +1,6 @@
-use super::support::{Plain, Step, goes, six};
-use daggy_assertions::same;
+use super::support::{Plain, Step, goes, node, same, six};
 use daggy_base::store::Store;
 use daggy_graph::graph::DiGraph;
-use daggy_graph_tests::graphs::node;
 use daggy_stable::stable_graph::StableDiGraph;
 use daggy_walk::walker::{Filter, Inspect, SkipWhile, Take, TakeWhile};
 use std::alloc::Global;

@@ -1,11 +1,9 @@
 use super::support::{
-    Plain, add_child, add_parent, dag_of, edge_weight, family, far, goes, lists, numbers, steps,
-    weight,
+    Plain, add_child, add_parent, dag_of, edge_weight, family, far, goes, lists, node, numbers,
+    same, steps, weight,
 };
-use daggy_assertions::same;
 use daggy_base::store::Store;
 use daggy_graph::graph::DiGraph;
-use daggy_graph_tests::graphs::node;
 use daggy_stable::stable_graph::StableDiGraph;
 use daggy_walk::walker::Walker;
 use std::alloc::Global;

@@ -1,10 +1,8 @@
 ghost use Rattle.std.specs.Iterator.{IsFinite};
 
-use super::support::{Plain, Step, far, goes, six};
-use daggy_assertions::same;
+use super::support::{Plain, Step, far, goes, node, same, six};
 use daggy_base::store::Store;
 use daggy_graph::graph::DiGraph;
-use daggy_graph_tests::graphs::node;
 use daggy_stable::stable_graph::StableDiGraph;
 use daggy_walk::walker::{
     Chain, Cycle, Filter, Inspect, Peekable, Skip, SkipWhile, Take, TakeWhile, Walker,

@@ -1,8 +1,6 @@
-use super::support::{Plain, six};
-use daggy_assertions::same;
+use super::support::{Plain, edge, node, same, six};
 use daggy_base::store::Store;
 use daggy_graph::graph::DiGraph;
-use daggy_graph_tests::graphs::{edge, node};
 use daggy_stable::stable_graph::StableDiGraph;
 use daggy_walk::walker::Walker;
 use std::alloc::Global;

@@ -1,7 +1,6 @@
-use super::support::{Plain, Step, add_edge, dag_of, goes};
+use super::support::{Plain, Step, add_edge, dag_of, edge, goes, node};
 use daggy_base::store::Store;
 use daggy_graph::graph::DiGraph;
-use daggy_graph_tests::graphs::{edge, node};
 use daggy_stable::stable_graph::StableDiGraph;
 use daggy_walk::walker::{
     Chain, Cycle, Filter, Inspect, Peekable, Skip, SkipWhile, Take, TakeWhile, Walker,

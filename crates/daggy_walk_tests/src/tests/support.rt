@@ -1,11 +1,15 @@
-//! Dags of numbers, and walks as numbers. What is generic over the store serves both kinds of dag.
-use daggy_assertions::{made, same};
+//! The assertions, dags of numbers, and walks as numbers.
+//!
+//! Each `assert_eq!` is proved where it stands, so it stands here once, and tests call it. What is generic over the store
+//! serves both kinds of dag.
+ghost use Rattle.std.specs.Prelude.{◌≡◌, IsTrue, Ok};
+
 use daggy_base::index::{EdgeIndex, NodeIndex};
 use daggy_base::store::Store;
 use daggy_dag::acyclic::Acyclic;
-use daggy_graph_tests::graphs::node;
 use daggy_walk::walker::{FiniteWalker, Walker};
 use std::alloc::Global;
+use std::fmt::Debug;
 use std::process::Abort;
 
 /// A dag of either kind whose weights are numbers.
@@ -13,6 +17,40 @@ pub type Plain<S> = Acyclic<u32, u32, u32, S>;
 
 /// What a walker over such a dag gives.
 pub type Step = (EdgeIndex, NodeIndex);
+
+/// Asserts that what was found is what is wanted.
+pub fn same<T: PartialEq + Debug + Drop>(rt: &impl Abort, found: T, wanted: T) {
+    assert_eq!(rt; found, wanted);
+}
+
+/// Asserts a fact, which calls after it may rest on.
+pub fn holds(rt: &impl Abort, fact: bool)
+    ensures { IsTrue fact }
+{
+    assert!(rt; fact);
+}
+
+/// Asserts that a call succeeded, and gives what it gave.
+pub fn made<T: Drop, E: Drop>(rt: &impl Abort, answer: Result<T, E>) -> T
+    ensures { answer ≡ Ok result }
+{
+    match answer {
+        Ok(x) => x,
+        Err(_) => panic!(rt; "the call was refused"),
+    }
+}
+
+/// The index of a node.
+pub fn node(rt: &impl Abort, x: usize) -> NodeIndex {
+    assert!(rt; x <= NodeIndex::<u32>::end().index());
+    NodeIndex::new(x)
+}
+
+/// The index of an edge.
+pub fn edge(rt: &impl Abort, x: usize) -> EdgeIndex {
+    assert!(rt; x <= EdgeIndex::<u32>::end().index());
+    EdgeIndex::new(x)
+}
 
 /// A dag with so many nodes, whose weights are their indices, and with these edges, of weight 0.
 pub fn dag_of<S: Store<u32, NodeWeight = u32, EdgeWeight = u32>>(

@@ -1,12 +1,11 @@
 //! Copies, maps and parts, and the dag or graph that another becomes.
 use super::support::{
-    Plain, add_edge, add_node, children, counts, dag_of, parents, refuse_edge, triangle,
+    Plain, add_edge, add_node, children, counts, dag_of, made, parents, put_edge, refuse_edge,
+    same, shape, triangle,
 };
 use daggy::stable_dag::StableDag;
 use daggy::stable_graph::StableDiGraph;
 use daggy::{Dag, EdgeIndex, NodeIndex};
-use daggy_assertions::{made, same};
-use daggy_stable_tests::graphs::{put_edge, shape};
 use std::alloc::Global;
 use std::process::Abort;
 

@@ -1,8 +1,6 @@
 //! In which order the closures of a call are called, and how often.
-use super::support::{Plain, dag_of, triangle};
+use super::support::{Plain, dag_of, made, same, shape, triangle};
 use daggy::NodeIndex;
-use daggy_assertions::{made, same};
-use daggy_stable_tests::graphs::shape;
 use std::alloc::Global;
 use std::cell::Cell;
 use std::process::Abort;

@@ -1,8 +1,6 @@
 //! Weights that are written: one in place, or two at once.
-use super::support::{Plain, add_edge, add_node, dag_of, triangle};
+use super::support::{Plain, add_edge, add_node, dag_of, holds, same, shape, triangle};
 use daggy::{EdgeIndex, NodeIndex};
-use daggy_assertions::{holds, same};
-use daggy_stable_tests::graphs::shape;
 use std::alloc::Global;
 use std::process::Abort;
 

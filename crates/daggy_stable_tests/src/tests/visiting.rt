@@ -1,10 +1,9 @@
-use super::support::{Plain, add_edge, four, triangle};
+use super::support::{Plain, add_edge, four, holds, made, same, triangle};
 use daggy::visit::{
     DataMap, DataMapMut, GetAdjacencyMatrix, GraphProp, NodeCount, NodeIndexable, VisitMap,
     Visitable,
 };
 use daggy::{EdgeIndex, NodeIndex};
-use daggy_assertions::{holds, made, same};
 use std::process::Abort;
 
 #[test]

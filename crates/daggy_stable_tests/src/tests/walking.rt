@@ -1,9 +1,9 @@
 use super::support::{
-    Plain, add_child, add_edge, add_node, add_parent, children, dag_of, parents, triangle,
+    Plain, add_child, add_edge, add_node, add_parent, children, dag_of, holds, parents, same,
+    triangle,
 };
 use daggy::stable_dag::{StableDag, Walker};
 use daggy::{EdgeIndex, NodeIndex};
-use daggy_assertions::{holds, same};
 
 #[test]
 fn children_come_newest_first(rt: HostRuntime) {

@@ -1,12 +1,10 @@
 use super::support::{
-    Plain, add_child, add_edge, add_node, children, closes_cycle, counts, dag_of, four,
-    refuse_edge, triangle, update_edge,
+    Plain, add_child, add_edge, add_node, children, closes_cycle, counts, dag_of, four, holds,
+    made, refuse_edge, same, shape, triangle, update_edge,
 };
 use daggy::stable_dag::StableDag;
 use daggy::visit::NodeIndexable;
 use daggy::{EdgeIndex, NodeIndex};
-use daggy_assertions::{holds, made, same};
-use daggy_stable_tests::graphs::shape;
 
 #[test]
 fn nothing_is_removed_from_an_empty_dag(rt: HostRuntime) {

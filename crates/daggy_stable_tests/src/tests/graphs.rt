@@ -1,12 +1,13 @@
 //! The stable store: slots, lists and parts of a graph that may have cycles.
-use crate::graphs::{PlainGraph, first, graph_of, put_edge, put_node, shape, slots};
-use daggy_assertions::{holds, made, same};
-use daggy_base::index::{Direction, EdgeIndex, NodeIndex};
-use daggy_base::search::EdgeSource;
+use super::support::{
+    PlainGraph, first, graph_of, holds, made, put_edge, put_node, same, shape, slots,
+};
+use daggy::graph::DiGraph;
+use daggy::index::Direction;
+use daggy::search::EdgeSource;
+use daggy::stable_graph::{Room, StableDiGraph};
+use daggy::{EdgeIndex, NodeIndex};
 use daggy_base::store::Store;
-use daggy_graph::graph::DiGraph;
-use daggy_graph_tests::graphs::connect;
-use daggy_stable::stable_graph::{Room, StableDiGraph};
 use std::alloc::Global;
 use std::process::Abort;
 
@@ -98,7 +99,9 @@ fn turned(rt: &impl Abort, alloc: Global) -> DiGraph<u32, u32> {
     }
     let a = NodeIndex::new(0);
     for (n, weight) in [(1, 100), (2, 101), (1, 102)] {
-        connect(rt, &mut graph, a, NodeIndex::new(n), weight);
+        let b = NodeIndex::new(n);
+        assert!(rt; graph.contains_node(a) && graph.contains_node(b) && graph.can_add_edge());
+        made(rt, graph.add_edge(a, b, weight));
     }
     same(rt, graph.remove_edge(EdgeIndex::new(0)), Some(100));
     graph

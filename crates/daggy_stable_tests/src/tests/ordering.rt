@@ -1,8 +1,7 @@
 //! The order of its nodes that a dag keeps, where its edges allow but one.
-use super::support::{Plain, dag_of};
+use super::support::{Plain, dag_of, made, same};
 use daggy::stable_dag::StableDag;
 use daggy::{Dag, NodeIndex};
-use daggy_assertions::{made, same};
 use std::alloc::Global;
 use std::process::Abort;
 

@@ -1,11 +1,10 @@
 //! Many edges or elements at once.
-use super::support::{Plain, add_edge, add_node, children, counts, dag_of, four, refuse_edge};
+use super::support::{
+    Plain, add_edge, add_node, children, counts, dag_of, edge, four, made, refuse_edge, same, shape,
+};
 use daggy::graph::Element;
 use daggy::stable_dag::{EdgeIndices, StableDag};
 use daggy::{EdgeError, EdgeIndex, EdgesError, ElementError, WouldCycle};
-use daggy_assertions::{made, same};
-use daggy_graph_tests::graphs::edge;
-use daggy_stable_tests::graphs::shape;
 use std::process::Abort;
 
 type Answer = Result<EdgeIndices<u32>, EdgesError<u32>>;
