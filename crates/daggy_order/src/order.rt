@@ -25,8 +25,8 @@ pub use nodes::Nodes;
 /// A list of nodes, each at most once, in which nodes come and go at both ends and can be moved.
 ///
 /// Last nodes that came in turn, each with the index that follows the one before it, are only
-/// counted. They are written as soon as the list changes in another way, in memory that was taken
-/// when they came.
+/// counted. They are written once the list changes in another way, in memory that was taken when
+/// they came, so that time is theirs: each is written once.
 #[derive(Drop)]
 pub struct Order<Ix: IndexType = DefaultIx> {
     written: Written<Ix>,
@@ -156,7 +156,7 @@ impl<Ix: IndexType> Order<Ix> {
         Ok(())
     }
 
-    /// Takes a node out. Constant time.
+    /// Takes a node out. Constant time, but for nodes that are still to be written.
     #[inline]
     pub fn remove(&mut self, n: NodeIndex<Ix>)
         requires { Contains self.old (Ix.number n) }
@@ -171,7 +171,7 @@ impl<Ix: IndexType> Order<Ix> {
     }
 
     /// Gives a node the index `m` in its place, as where a graph moves its last node into a gap.
-    /// Constant time.
+    /// Constant time, but for nodes that are still to be written.
     #[inline]
     pub fn rename(&mut self, n: NodeIndex<Ix>, m: NodeIndex<Ix>)
         requires held { Contains self.old (Ix.number n) }
