@@ -81,7 +81,7 @@ pub(crate) fn reserve_to<T: Copy + Drop>(list: &mut Vec<T>, bound: usize) -> Res
 
 // Makes a list at least so long, with its elements as they were and `value` behind them. There is
 // memory for it.
-pub(crate) fn lengthen_within<T: Copy + Drop>(list: &mut Vec<T>, len: usize, value: T)
+fn lengthen_within<T: Copy + Drop>(list: &mut Vec<T>, len: usize, value: T)
     requires { len ≤ vec_capacity list.old }
     ensures longer { len ≤ vec_len list.new }
     ensures sized { vec_len list.new ≡ max (vec_len list.old) len }
@@ -90,6 +90,29 @@ pub(crate) fn lengthen_within<T: Copy + Drop>(list: &mut Vec<T>, len: usize, val
     if list.len() < len {
         // Within its memory this cannot fail.
         let _done = lengthen(list, len, value);
+    }
+}
+
+// How long a list is made where it is to be longer than `bound`, within its memory: by more than
+// that, so that this is seldom done.
+#[inline]
+fn stretched(bound: usize, capacity: usize) -> usize
+    requires { bound ≤ capacity }
+    ensures enough { bound ≤ result }
+    ensures fits { result ≤ capacity }
+{
+    capacity.min(bound.saturating_add(STRETCH))
+}
+
+// Makes a list at least as long as `bound`, as `lengthen_within` does.
+pub(crate) fn lengthen_for<T: Copy + Drop>(list: &mut Vec<T>, bound: usize, value: T)
+    requires { bound ≤ vec_capacity list.old }
+    ensures longer { bound ≤ vec_len list.new }
+    ensures same { (k : ℕ) → slice_index_or list.new.items k value ≡ slice_index_or list.old.items k value }
+{
+    if list.len() < bound {
+        let len = stretched(bound, list.capacity());
+        lengthen_within(list, len, value);
     }
 }
 
@@ -198,8 +221,11 @@ impl<Ix: IndexType> Links<Ix> {
         ensures room { bound ≤ self.new.room }
         ensures same { self.new.nodes ≡ self.old.nodes }
     {
-        lengthen_within(&mut self.next, bound, Link::end());
-        lengthen_within(&mut self.previous, bound, Link::end());
+        if self.previous.len() < bound {
+            let len = stretched(bound, self.next.capacity().min(self.previous.capacity()));
+            lengthen_within(&mut self.next, len, Link::end());
+            lengthen_within(&mut self.previous, len, Link::end());
+        }
     }
 
     // Puts a node first.

@@ -8,7 +8,7 @@ ghost use Rattle.std.specs.List.{range_with_len};
 ghost use Rattle.daggy_order.specs.Links.{IsLabelled, IsTailed};
 
 use crate::order::labels::{label_first, label_last};
-use crate::order::links::{Links, grow, lengthen_within, reserve_to};
+use crate::order::links::{Links, grow, lengthen_for, reserve_to};
 use daggy_base::index::{IndexType, NodeIndex};
 use daggy_base::link::Link;
 use std::alloc::{AllocError, Global};
@@ -173,7 +173,7 @@ impl<Ix: IndexType> Written<Ix> {
         ensures { self.new.nodes ≡ self.old.nodes ++ range_with_len tail.from tail.count }
     {
         let end = tail.from + tail.count;
-        lengthen_within(&mut self.labels, end, 0);
+        lengthen_for(&mut self.labels, end, 0);
         self.links.use_memory(end);
         put_in_turn(&mut self.links, &mut self.labels, tail.from, tail.count);
     }
