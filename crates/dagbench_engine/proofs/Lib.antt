@@ -1,14 +1,14 @@
 pub mod Cuts
 pub mod Digits
-pub mod Keeping
+pub mod KeptFront
 pub mod Runs
 pub mod Listed
-pub mod Serving
-pub mod Writing
+pub mod ServedSoFar
+pub mod WrittenBytes
 mod Units
 pub mod ListedRoots
-pub mod Parsing
-pub mod Answering
+pub mod ParsedLines
+pub mod AnswersAtOnce
 pub mod NoFloats
 pub mod Documents
-pub mod Planning
+pub mod PlanText

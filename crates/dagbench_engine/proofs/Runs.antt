@@ -10,7 +10,7 @@ use Rattle.dagbench_engine.specs.Cutting.{lines_of, ended_lines_of}
 use Rattle.dagbench_engine.specs.Serving.{Serves}
 use Rattle.dagbench_engine.specs.Progress.{IsServed, GoesOn}
 use Rattle.dagbench_engine.specs.Ends.{IsRun}
-use Rattle.dagbench_engine.proofs.Serving.{fails, starts}
+use Rattle.dagbench_engine.proofs.ServedSoFar.{fails, starts}
 
 -- what was pending is taken
 flushed : (taken output taken_new output_new : List ℕ) → taken_new ≡ taken ++ output → output_new ≡ [] → taken ++ output ≡ taken_new ++ output_new

@@ -88,7 +88,7 @@ fn run<D: Documented, S: Source, K: Sink>(
     source: &mut S,
     sink: &mut K,
 ) -> Result<(), Stop>
-    requires room { 0 < length block.old }
+    requires block_not_empty { 0 < length block.old }
     requires graph { D.graph session.dag ≡ empty }
     requires nothing { (session.line ≡ []) × (session.output ≡ []) }
     ensures { IsRun D.kind plans result (S.given source.old) (S.given source.new)

@@ -8,7 +8,7 @@ pub use Rattle.daggy_base.specs.WellFormed
 pub use Rattle.daggy_base.specs.Reduction
 pub use Rattle.daggy_base.specs.State
 pub use Rattle.daggy_base.specs.Weights
-pub use Rattle.daggy_guard.specs.Series
+pub use Rattle.daggy_guard.specs.EdgeBatch
 pub use Rattle.daggy_guard.specs.Extension
 pub use Rattle.daggy_guard.specs.Elements
 pub use Rattle.daggy_walk.specs.Visit
@@ -28,11 +28,11 @@ pub use Rattle.daggy_base.specs.Iterating
 pub use Rattle.daggy_base.specs.Calls
 pub use Rattle.daggy_cells.specs.Raw
 pub use Rattle.daggy_order.specs.Ordered
-pub use Rattle.daggy_reduction.specs.Comparing
-pub use Rattle.daggy_reduction.specs.Stretching
+pub use Rattle.daggy_reduction.specs.Comparison
+pub use Rattle.daggy_reduction.specs.SearchSpan
 pub use Rattle.daggy_base.specs.Look
 pub use Rattle.daggy_base.specs.Errors
-pub use Rattle.daggy_base.specs.Room
+pub use Rattle.daggy_base.specs.Capacity
 pub use Rattle.daggy_base.specs.Directions
 pub use Rattle.daggy_base.specs.Externals
 pub use Rattle.daggy_cells.specs.Referring

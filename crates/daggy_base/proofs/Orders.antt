@@ -1,4 +1,4 @@
--- Rows by slots, and what other orders of its lists keep of a graph.
+-- Lists by slots, and what other orders of its lists keep of a graph.
 use Rattle.std.proofs.Common.{◌≡◌, ℕ, zero, suc, ◌+◌, ◌<◌, cond, List, [], ◌∷◌, map, length, take, Option, Some, None, is_some, refl, sym, ap, subst, ◌∙◌, arith, ◌↔◌}
 use Rattle.std.specs.List.{count_by, Contains}
 use Rattle.std.proofs.lemmas.Bool.{false≢true}
@@ -7,20 +7,20 @@ use Rattle.daggy_base.specs.declared.index.Direction.{Direction}
 use Rattle.daggy_base.specs.declared.index.Direction.TheVariants.{Outgoing, Incoming}
 use Rattle.daggy_base.specs.Graph.{Graph, Edge, slot, HasNode, edge_at, list_at, near_end}
 use Rattle.daggy_base.specs.WellFormed.{AreDistinct, ListsEdges, IsWellFormed}
-use Rattle.daggy_base.specs.Orders.{rows_by_slots, with_orders, AreOrders}
+use Rattle.daggy_base.specs.Orders.{lists_by_slots, with_orders, AreOrders}
 use Rattle.daggy_base.proofs.Lists.{Contains-nil}
 use Rattle.daggy_base.proofs.Slots.{count_cons}
 use Rattle.daggy_base.proofs.SlotLists.{row}
 
 module _ {A : Type 0} where
-  pub length-rows_by_slots : (slots : List (Option A)) (lists : List (List ℕ)) → length (rows_by_slots slots lists) ≡ length slots
-  length-rows_by_slots [] lists = refl
-  length-rows_by_slots (None ∷ slots) lists = ap suc (length-rows_by_slots slots lists)
-  length-rows_by_slots (Some x ∷ slots) [] = ap suc (length-rows_by_slots slots [])
-  length-rows_by_slots (Some x ∷ slots) (l ∷ lists) = ap suc (length-rows_by_slots slots lists)
+  pub length-lists_by_slots : (slots : List (Option A)) (lists : List (List ℕ)) → length (lists_by_slots slots lists) ≡ length slots
+  length-lists_by_slots [] lists = refl
+  length-lists_by_slots (None ∷ slots) lists = ap suc (length-lists_by_slots slots lists)
+  length-lists_by_slots (Some x ∷ slots) [] = ap suc (length-lists_by_slots slots [])
+  length-lists_by_slots (Some x ∷ slots) (l ∷ lists) = ap suc (length-lists_by_slots slots lists)
 
-  -- a vacant slot has an empty row
-  pub row_vacant : (slots : List (Option A)) (lists : List (List ℕ)) (n : ℕ) → slot slots n ≡ None → row (rows_by_slots slots lists) n ≡ []
+  -- a vacant slot has an empty list
+  pub row_vacant : (slots : List (Option A)) (lists : List (List ℕ)) (n : ℕ) → slot slots n ≡ None → row (lists_by_slots slots lists) n ≡ []
   row_vacant [] lists n none = refl
   row_vacant (None ∷ slots) lists zero none = refl
   row_vacant (None ∷ slots) lists (suc n) none = row_vacant slots lists n none
@@ -29,7 +29,7 @@ module _ {A : Type 0} where
   row_vacant (Some x ∷ slots) (l ∷ lists) (suc n) none = row_vacant slots lists n none
 
   -- another has the list whose place is the number of such slots before it
-  pub row_taken : (slots : List (Option A)) (lists : List (List ℕ)) (n : ℕ) (x : A) → slot slots n ≡ Some x → row (rows_by_slots slots lists) n ≡ row lists (count_by is_some (take n slots))
+  pub row_taken : (slots : List (Option A)) (lists : List (List ℕ)) (n : ℕ) (x : A) → slot slots n ≡ Some x → row (lists_by_slots slots lists) n ≡ row lists (count_by is_some (take n slots))
   row_taken [] lists n x is = absurd (none-some x is)
   row_taken (None ∷ slots) lists zero x is = absurd (none-some x is)
   row_taken (None ∷ slots) lists (suc n) x is =
@@ -57,8 +57,8 @@ module _ {A : Type 0} where
       let more = count_next slots n (omega (arith, within)) in
       omega (arith, more, count_cons z (take (suc n) slots), count_cons z (take n slots))
 
--- where no slot is vacant, the rows are the lists
-pub rows_by_full : {A B : Type 0} (f : B → A) (xs : List B) (lists : List (List ℕ)) → length lists ≡ length xs → rows_by_slots (map (λ x. Some (f x)) xs) lists ≡ lists
+-- where no slot is vacant, the lists are the lists
+pub rows_by_full : {A B : Type 0} (f : B → A) (xs : List B) (lists : List (List ℕ)) → length lists ≡ length xs → lists_by_slots (map (λ x. Some (f x)) xs) lists ≡ lists
 rows_by_full f [] [] long = refl
 rows_by_full f [] (l ∷ lists) long = absurd (omega (arith, long))
 rows_by_full f (x ∷ xs) [] long = absurd (omega (arith, long))
@@ -98,8 +98,8 @@ module _ {N E : Type 0} (g : Graph N E) (orders : List (List ℕ × List ℕ)) w
 pub well_formed_with_orders : {N E : Type 0} (limit : ℕ) (g : Graph N E) (orders : List (List ℕ × List ℕ)) → IsWellFormed limit g → AreOrders g orders → IsWellFormed limit (with_orders g orders)
 well_formed_with_orders limit g orders f are =
     record {
-      out_rows = length-rows_by_slots g.nodes (map (λ p. p.0) orders);
-      in_rows = length-rows_by_slots g.nodes (map (λ p. p.1) orders);
+      out_list_count = length-lists_by_slots g.nodes (map (λ p. p.0) orders);
+      in_list_count = length-lists_by_slots g.nodes (map (λ p. p.1) orders);
       parents = f.parents;
       children = f.children;
       out_of = lists_ordered g orders are Outgoing f.out_of f.parents;

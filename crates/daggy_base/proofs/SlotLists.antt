@@ -9,13 +9,13 @@ use Rattle.daggy_base.specs.declared.index.Direction.{Direction}
 use Rattle.daggy_base.specs.declared.index.Direction.TheVariants.{Outgoing, Incoming}
 use Rattle.daggy_base.specs.Graph.{Graph, Edge, slot, near_end}
 use Rattle.daggy_base.specs.Reduction.{IsDescending}
-use Rattle.daggy_base.specs.FromSlots.{down_from, vacant_down, has_end, lists_down, of_slots}
+use Rattle.daggy_base.specs.FromSlots.{down_from, vacant_down, has_end, lists_down, graph_of_slots}
 use Rattle.daggy_base.specs.Filtering.{ListsDescend}
 use Rattle.daggy_base.specs.Adding.{with_node, with_edge}
 use Rattle.daggy_base.proofs.Lists.{slice_get-push_old, slice_get-push_new, slice_get-push_other}
-use Rattle.daggy_base.proofs.TakingBack.{same_graph}
+use Rattle.daggy_base.proofs.EdgeTakenBack.{same_graph}
 
--- the row of n
+-- the list of n
 abbrev pub row : List (List ℕ) → ℕ → List ℕ
 row lists n = unwrap_or (slice_get lists n) []
 
@@ -131,15 +131,15 @@ module _ {A : Type 0} where
 
 module _ {N E : Type 0} (nodes : List (Option N)) where
   pub of_slots_node : (x : Option N) (edges : List (Option (Edge E))) → edges ≡ [] → (vacant : List ℕ) → vacant ≡ vacant_down (nodes ++ x ∷ [])
-      → record { nodes = nodes ++ x ∷ []; edges = edges; out_lists = lists_down Outgoing (length nodes) edges ++ [] ∷ []; in_lists = lists_down Incoming (length nodes) edges ++ [] ∷ []; vacant_nodes = vacant; vacant_edges = vacant_down edges } ≡ of_slots (nodes ++ x ∷ []) edges
+      → record { nodes = nodes ++ x ∷ []; edges = edges; out_lists = lists_down Outgoing (length nodes) edges ++ [] ∷ []; in_lists = lists_down Incoming (length nodes) edges ++ [] ∷ []; vacant_nodes = vacant; vacant_edges = vacant_down edges } ≡ graph_of_slots (nodes ++ x ∷ []) edges
   of_slots_node x edges none vacant is =
-      same_graph (of_slots (nodes ++ x ∷ []) edges) refl refl (sym (lists_down-node Outgoing (length nodes) edges none (length (nodes ++ x ∷ [])) (length_push nodes x)))
+      same_graph (graph_of_slots (nodes ++ x ∷ []) edges) refl refl (sym (lists_down-node Outgoing (length nodes) edges none (length (nodes ++ x ∷ [])) (length_push nodes x)))
       (sym (lists_down-node Incoming (length nodes) edges none (length (nodes ++ x ∷ [])) (length_push nodes x))) is refl
 
   pub of_slots_left : (edges : List (Option (Edge E))) (last : ℕ) → last ≡ length edges
-      → record { nodes = nodes; edges = edges ++ None ∷ []; out_lists = lists_down Outgoing (length nodes) edges; in_lists = lists_down Incoming (length nodes) edges; vacant_nodes = vacant_down nodes; vacant_edges = last ∷ vacant_down edges } ≡ of_slots nodes (edges ++ None ∷ [])
+      → record { nodes = nodes; edges = edges ++ None ∷ []; out_lists = lists_down Outgoing (length nodes) edges; in_lists = lists_down Incoming (length nodes) edges; vacant_nodes = vacant_down nodes; vacant_edges = last ∷ vacant_down edges } ≡ graph_of_slots nodes (edges ++ None ∷ [])
   of_slots_left edges last is =
-      same_graph (of_slots nodes (edges ++ None ∷ [])) refl refl (sym (lists_down-vacant Outgoing (length nodes) edges)) (sym (lists_down-vacant Incoming (length nodes) edges)) refl
+      same_graph (graph_of_slots nodes (edges ++ None ∷ [])) refl refl (sym (lists_down-vacant Outgoing (length nodes) edges)) (sym (lists_down-vacant Incoming (length nodes) edges)) refl
       (ap (λ k. k ∷ vacant_down edges) is ∙ sym (vacant_down_more edges None))
 
   pub of_slots_taken : (edges : List (Option (Edge E))) (a b : ℕ) (w : E) (last : ℕ) → last ≡ length edges → a < length nodes → b < length nodes
@@ -150,26 +150,26 @@ module _ {N E : Type 0} (nodes : List (Option N)) where
         in_lists = set (lists_down Incoming (length nodes) edges) b (last ∷ row (lists_down Incoming (length nodes) edges) b);
         vacant_nodes = vacant_down nodes;
         vacant_edges = vacant_down edges;
-      } ≡ of_slots nodes (edges ++ Some (record { parent = a; child = b; weight = w }) ∷ [])
+      } ≡ graph_of_slots nodes (edges ++ Some (record { parent = a; child = b; weight = w }) ∷ [])
   of_slots_taken edges a b w last is at_a at_b =
       let outs = lists_down Outgoing (length nodes) edges in
       let ins = lists_down Incoming (length nodes) edges in
       let x : Edge E = record { parent = a; child = b; weight = w } in
-      same_graph (of_slots nodes (edges ++ Some x ∷ [])) refl refl (ap (λ k. set outs a (k ∷ row outs a)) is ∙ sym (lists_down-edge Outgoing (length nodes) edges x a refl at_a))
+      same_graph (graph_of_slots nodes (edges ++ Some x ∷ [])) refl refl (ap (λ k. set outs a (k ∷ row outs a)) is ∙ sym (lists_down-edge Outgoing (length nodes) edges x a refl at_a))
       (ap (λ k. set ins b (k ∷ row ins b)) is ∙ sym (lists_down-edge Incoming (length nodes) edges x b refl at_b)) refl (sym (vacant_down_more edges (Some x)))
 
   -- where none is vacant, that is what adding makes
-  pub of_slots_with_node : (w : N) → vacant_down nodes ≡ [] → with_node (of_slots {E = E} nodes []) w ≡ of_slots (nodes ++ Some w ∷ []) []
+  pub of_slots_with_node : (w : N) → vacant_down nodes ≡ [] → with_node (graph_of_slots {E = E} nodes []) w ≡ graph_of_slots (nodes ++ Some w ∷ []) []
   of_slots_with_node w none =
-      let g : Graph N E = of_slots nodes [] in
+      let g : Graph N E = graph_of_slots nodes [] in
       let with_vacant : List ℕ → Graph N E = λ v. with_node (record { nodes = nodes; edges = []; out_lists = g.out_lists; in_lists = g.in_lists; vacant_nodes = v; vacant_edges = [] }) w in
       ap with_vacant none ∙ of_slots_node (Some w) [] refl [] (sym (vacant_down_more nodes (Some w) ∙ none))
 
-  pub of_slots_with_edge : (edges : List (Option (Edge E))) (a b : ℕ) (w : E) → vacant_down edges ≡ [] → a < length nodes → b < length nodes → with_edge (of_slots nodes edges) a b w ≡ of_slots nodes (edges ++ Some (record { parent = a; child = b; weight = w }) ∷ [])
+  pub of_slots_with_edge : (edges : List (Option (Edge E))) (a b : ℕ) (w : E) → vacant_down edges ≡ [] → a < length nodes → b < length nodes → with_edge (graph_of_slots nodes edges) a b w ≡ graph_of_slots nodes (edges ++ Some (record { parent = a; child = b; weight = w }) ∷ [])
   of_slots_with_edge edges a b w none at_a at_b =
-      let g : Graph N E = of_slots nodes edges in
+      let g : Graph N E = graph_of_slots nodes edges in
       let with_vacant : List ℕ → Graph N E = λ v. with_edge (record { nodes = nodes; edges = edges; out_lists = g.out_lists; in_lists = g.in_lists; vacant_nodes = g.vacant_nodes; vacant_edges = v }) a b w in
-      let new : Graph N E = of_slots nodes (edges ++ Some (record { parent = a; child = b; weight = w }) ∷ []) in
+      let new : Graph N E = graph_of_slots nodes (edges ++ Some (record { parent = a; child = b; weight = w }) ∷ []) in
       let seen : List ℕ → Graph N E = λ v. record { nodes = nodes; edges = new.edges; out_lists = set g.out_lists a (length edges ∷ row g.out_lists a); in_lists = set g.in_lists b (length edges ∷ row g.in_lists b); vacant_nodes = g.vacant_nodes; vacant_edges = v } in
       ap with_vacant none ∙ ap seen (sym none) ∙ of_slots_taken edges a b w (length edges) refl at_a at_b
 
@@ -198,5 +198,5 @@ row_descends dir nodes edges n =
       | inr past ↦ subst IsDescending (sym (ap (λ o. unwrap_or o []) (slice_get_past (lists_down dir nodes edges) n (omega (arith, past, length-lists_down dir nodes edges))))) tt
     ]
 
-pub of_slots_descend : {N E : Type 0} (nodes : List (Option N)) (edges : List (Option (Edge E))) → ListsDescend (of_slots nodes edges)
+pub of_slots_descend : {N E : Type 0} (nodes : List (Option N)) (edges : List (Option (Edge E))) → ListsDescend (graph_of_slots nodes edges)
 of_slots_descend nodes edges = elim [ Outgoing ↦ λ n. row_descends Outgoing (length nodes) edges n | Incoming ↦ λ n. row_descends Incoming (length nodes) edges n ]

@@ -10,9 +10,9 @@ use Rattle.daggy_base.specs.Mapping.{CalledAt}
 
 module _ {V W : Type 0} where
   -- the graph with a node of this weight, if there is one
-  abbrev pub kept_node : Graph V W → Option V → Graph V W
-  kept_node h None = h
-  kept_node h (Some v) = with_node h v
+  abbrev pub with_kept_node : Graph V W → Option V → Graph V W
+  with_kept_node h None = h
+  with_kept_node h (Some v) = with_node h v
 
   -- the index of that node, if it is kept
   abbrev pub named : Graph V W → Option V → Option ℕ
@@ -20,9 +20,9 @@ module _ {V W : Type 0} where
   named h (Some v) = Some (next_node h)
 
   -- the graph with an edge of this weight between two nodes, if there is one
-  abbrev pub kept_edge : Graph V W → ℕ × ℕ → Option W → Graph V W
-  kept_edge h ends None = h
-  kept_edge h ends (Some w) = with_edge h ends.0 ends.1 w
+  abbrev pub with_kept_edge : Graph V W → ℕ × ℕ → Option W → Graph V W
+  with_kept_edge h ends None = h
+  with_kept_edge h ends (Some w) = with_edge h ends.0 ends.1 w
 
 -- both numbers, if both are there
 abbrev pub both : Option ℕ → Option ℕ → Option (ℕ × ℕ)
@@ -41,13 +41,13 @@ module _ {N V W F I : Type 0} (step : F → I → Bor N → Option V → F → T
   FiltersNodes f i [] h names new = (names ≡ []) × (new ≡ h)
   FiltersNodes f i (None ∷ xs) h names new = (rest : List (Option ℕ)) × (names ≡ None ∷ rest) × FiltersNodes f (i + 1) xs h rest new
   FiltersNodes f i (Some x ∷ xs) h names new =
-      (r : Option V) × (next : F) × CalledAt step of f i x r next × (rest : List (Option ℕ)) × (names ≡ named h r ∷ rest) × FiltersNodes next (i + 1) xs (kept_node h r) rest new
+      (r : Option V) × (next : F) × CalledAt step of f i x r next × (rest : List (Option ℕ)) × (names ≡ named h r ∷ rest) × FiltersNodes next (i + 1) xs (with_kept_node h r) rest new
 
 module _ {E V W G I : Type 0} (step : G → I → Bor E → Option W → G → Type 0) (of : ℕ → I) (names : List (Option ℕ)) where
   -- at an edge that lost an end g was not called, at another it was
   abbrev pub FiltersEdge : G → ℕ → E → Option (ℕ × ℕ) → Graph V W → (G → Graph V W → Type 0) → Type 0
   FiltersEdge g e w None h later = later g h
-  FiltersEdge g e w (Some ends) h later = (r : Option W) × (next : G) × CalledAt step of g e w r next × later next (kept_edge h ends r)
+  FiltersEdge g e w (Some ends) h later = (r : Option W) × (next : G) × CalledAt step of g e w r next × later next (with_kept_edge h ends r)
 
   -- what g keeps of the edges from the index e on was added to h, which made new
   abbrev pub FiltersEdges : G → ℕ → List (Option (Edge E)) → Graph V W → Graph V W → Type 0

@@ -4,7 +4,7 @@ use Rattle.std.specs.Option.{option_map}
 use Rattle.std.specs.Borrow.{Bor}
 use Rattle.daggy_base.specs.Graph.{Graph, Edge, slot, node_bound, edge_bound}
 use Rattle.daggy_base.specs.Mapping.{CalledAt, weight_in, with_weight}
-use Rattle.daggy_base.specs.FromSlots.{of_slots}
+use Rattle.daggy_base.specs.FromSlots.{graph_of_slots}
 
 module _ {F I W V : Type 0} (step : F → I → Bor W → Option V → F → Type 0) (of : ℕ → I) where
   -- f was called at each slot in turn that is not vacant, from the index i on, and new has what it gave. Where it gave
@@ -16,9 +16,9 @@ module _ {F I W V : Type 0} (step : F → I → Bor W → Option V → F → Typ
       (r : Option V) × (next : F) × CalledAt step of f i (weight x) r next × (later : List (Option B)) × (new ≡ option_map (with x) r ∷ later) × KeepsSlots weight with next (i + 1) xs later
 
 -- the edge, if both its ends are there
-abbrev pub if_joined : {N E : Type 0} → List (Option N) → Option (Edge E) → Option (Edge E)
-if_joined nodes None = None
-if_joined nodes (Some x) = if is_some (slot nodes x.parent) then (if is_some (slot nodes x.child) then Some x else None) else None
+abbrev pub if_ends_exist : {N E : Type 0} → List (Option N) → Option (Edge E) → Option (Edge E)
+if_ends_exist nodes None = None
+if_ends_exist nodes (Some x) = if is_some (slot nodes x.parent) then (if is_some (slot nodes x.child) then Some x else None) else None
 
 module _ {N E V W F G I : Type 0} (of : ℕ → I) (step_f : F → I → Bor N → Option V → F → Type 0) (step_g : G → I → Bor E → Option W → G → Type 0) where
   -- new has the nodes that f keeps, and of the edges whose ends both stayed those that g keeps, all in their slots
@@ -26,5 +26,5 @@ module _ {N E V W F G I : Type 0} (of : ℕ → I) (step_f : F → I → Bor N �
     pub nodes : List (Option V)
     pub edges : List (Option (Edge W))
     pub keeps_nodes : KeepsSlots step_f of (λ w. w) (λ w v. v) f 0 (take (node_bound old) old.nodes) nodes
-    pub keeps_edges : KeepsSlots step_g of weight_in with_weight g 0 (map (if_joined nodes) (take (edge_bound old) old.edges)) edges
-    pub is : new ≡ of_slots nodes edges
+    pub keeps_edges : KeepsSlots step_g of weight_in with_weight g 0 (map (if_ends_exist nodes) (take (edge_bound old) old.edges)) edges
+    pub is : new ≡ graph_of_slots nodes edges

@@ -24,8 +24,8 @@ abbrev pub lists_down : {E : Type 0} → Direction → (nodes : ℕ) → List (O
 lists_down dir nodes edges = map (λ n. down_from (has_end dir edges n) (length edges)) (range_with_len 0 nodes)
 
 -- the graph with these slots, whose lists all begin with the greatest index, those of vacant slots too
-abbrev pub of_slots : {N E : Type 0} → List (Option N) → List (Option (Edge E)) → Graph N E
-of_slots nodes edges =
+abbrev pub graph_of_slots : {N E : Type 0} → List (Option N) → List (Option (Edge E)) → Graph N E
+graph_of_slots nodes edges =
     record {
       nodes = nodes;
       edges = edges;

@@ -1,4 +1,4 @@
--- The members of an index type, for clauses that write a row out.
+-- The members of an index type, for clauses that write a type out.
 use Rattle.std.specs.Prelude.{◌≡◌, ℕ, Bool, List, Option}
 use Rattle.std.specs.declared.cmp.Ordering.{Ordering}
 

@@ -11,20 +11,23 @@ numbered i [] = []
 numbered i (None ∷ xs) = numbered (i + 1) xs
 numbered i (Some x ∷ xs) = (i, x) ∷ numbered (i + 1) xs
 
--- the nodes and the edges, each with its index, by ascending index
+-- the nodes, each with its index, by ascending index
 abbrev pub node_references : {N E : Type 0} → Graph N E → List (ℕ × N)
 node_references g = numbered 0 g.nodes
 
+-- the edges, each with its index, by ascending index
 abbrev pub edge_references : {N E : Type 0} → Graph N E → List (ℕ × Edge E)
 edge_references g = numbered 0 g.edges
 
--- the indices of the nodes, and the weights of the nodes and of the edges, by ascending index
+-- the indices of the nodes, by ascending index
 abbrev pub node_identifiers : {N E : Type 0} → Graph N E → List ℕ
 node_identifiers g = map (λ p. p.0) (node_references g)
 
+-- the weights of the nodes, by ascending index
 abbrev pub node_weights : {N E : Type 0} → Graph N E → List N
 node_weights g = map (λ p. p.1) (node_references g)
 
+-- the weights of the edges, by ascending index
 abbrev pub edge_weights : {N E : Type 0} → Graph N E → List E
 edge_weights g = map (λ p. p.1.weight) (edge_references g)
 

@@ -2,7 +2,7 @@ pub mod Graph
 pub mod Path
 pub mod Adding
 pub mod Removal
-pub mod Taking
+pub mod TakingBack
 pub mod WellFormed
 pub mod Reduction
 pub mod Cursor
@@ -10,7 +10,7 @@ pub mod Finding
 pub mod Look
 pub mod Sorting
 pub mod State
-pub mod Room
+pub mod Capacity
 pub mod Weights
 pub mod Errors
 pub mod Directions

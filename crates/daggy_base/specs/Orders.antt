@@ -5,12 +5,12 @@ use Rattle.daggy_base.specs.declared.index.Direction.{Direction}
 use Rattle.daggy_base.specs.Graph.{Graph, HasNode, list_at, node_count}
 use Rattle.daggy_base.specs.WellFormed.{AreDistinct}
 
--- a row for each slot: the next of the lists, or an empty one where the slot is vacant
-abbrev pub rows_by_slots : {A : Type 0} → List (Option A) → List (List ℕ) → List (List ℕ)
-rows_by_slots [] lists = []
-rows_by_slots (None ∷ slots) lists = [] ∷ rows_by_slots slots lists
-rows_by_slots (Some x ∷ slots) [] = [] ∷ rows_by_slots slots []
-rows_by_slots (Some x ∷ slots) (l ∷ lists) = l ∷ rows_by_slots slots lists
+-- a list for each slot: the next of the lists, or an empty one where the slot is vacant
+abbrev pub lists_by_slots : {A : Type 0} → List (Option A) → List (List ℕ) → List (List ℕ)
+lists_by_slots [] lists = []
+lists_by_slots (None ∷ slots) lists = [] ∷ lists_by_slots slots lists
+lists_by_slots (Some x ∷ slots) [] = [] ∷ lists_by_slots slots []
+lists_by_slots (Some x ∷ slots) (l ∷ lists) = l ∷ lists_by_slots slots lists
 
 -- with other lists: for each node that exists, by ascending index, its out list and its in list
 abbrev pub with_orders : {N E : Type 0} → Graph N E → List (List ℕ × List ℕ) → Graph N E
@@ -18,8 +18,8 @@ with_orders g orders =
     record {
       nodes = g.nodes;
       edges = g.edges;
-      out_lists = rows_by_slots g.nodes (map (λ p. p.0) orders);
-      in_lists = rows_by_slots g.nodes (map (λ p. p.1) orders);
+      out_lists = lists_by_slots g.nodes (map (λ p. p.0) orders);
+      in_lists = lists_by_slots g.nodes (map (λ p. p.1) orders);
       vacant_nodes = g.vacant_nodes;
       vacant_edges = g.vacant_edges;
     }

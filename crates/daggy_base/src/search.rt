@@ -9,7 +9,7 @@ use crate::link::Link;
 mod cycles;
 mod looks;
 mod marks;
-mod room;
+mod reserved;
 mod scratch;
 mod source;
 
@@ -17,7 +17,7 @@ pub use cycles::{is_acyclic, sort_nodes};
 pub use looks::Looks;
 pub use marks::Marks;
 #[doc(hidden)]
-pub use room::write_out;
+pub use reserved::write_out;
 pub use scratch::Scratch;
 pub use source::EdgeSource;
 
@@ -36,7 +36,7 @@ pub fn reaches<Ix: IndexType, S: EdgeSource<Ix>>(
     ensures decided { IsTrue result ↔ Reaches (S.graph source.old) (Ix.number from) (Ix.number to) }
     ensures same { S.graph source.new ≡ S.graph source.old }
     ensures counted { S.looks source.new ≤ S.looks source.old + edge_count (S.graph source.old) }
-    ensures room { scratch.new ≡ scratch.old }
+    ensures same_capacity { scratch.new ≡ scratch.old }
 {
     scratch.marks.clear();
     write_out(&mut scratch.stack, scratch.marks.len(), Link::end());

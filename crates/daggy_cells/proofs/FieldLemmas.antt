@@ -53,7 +53,7 @@ module _ {E Ix : Type 0} (edges : List (Edge E Ix)) (i : ℕ) (x : Edge E Ix) (n
   nexts_of-set Outgoing = map-set (raw_next Outgoing) edges i _
   nexts_of-set Incoming = map-set (raw_next Incoming) edges i _
 
--- what `redirect` reads: the row's node, and the row's first edge
+-- what `redirect` reads: the list's node, and the list's first edge
 pub redirect_reads : {N E Ix : Type 0} (nodes : List (Node N Ix)) (edges : List (Edge E Ix)) (dir : Direction) (old o n i first : ℕ) (x : Edge E Ix) (y : Node N Ix)
     → old < length edges → get_or (ends_of dir edges) old 0 < length nodes → o ≡ old → x ≡ get_or edges o x → n ≡ end_at dir x → i ≡ n → y ≡ get_or nodes i y → first ≡ raw_first dir y
     → (i ≡ get_or (ends_of dir edges) old 0) × (first ≡ get_or (firsts_of dir nodes) (get_or (ends_of dir edges) old 0) 0)

@@ -1,47 +1,47 @@
--- One link led elsewhere: when it can be, and what it makes of a row.
+-- One link led elsewhere: when it can be, and what it makes of a list.
 use Rattle.std.proofs.Common.{◌≡◌, ℕ, ◌<◌, ◌≤◌, List, length, get_or, sym, ap, subst, ◌∙◌, arith, Contains}
 use Rattle.std.proofs.lemmas.List.{length-map, get_or-map}
 use Rattle.daggy_cells.specs.declared.cell.Node.{Node}
 use Rattle.daggy_cells.specs.declared.cell.Edge.{Edge}
 use Rattle.daggy_base.specs.declared.index.Direction.{Direction}
-use Rattle.daggy_cells.specs.Links.{row, IsRow, IsLinked, Redirected}
+use Rattle.daggy_cells.specs.Links.{nth_list, IsLinkedList, AreLinkedLists, Redirected}
 use Rattle.daggy_cells.specs.Raw.{raw_first, raw_next}
-use Rattle.daggy_cells.specs.Fields.{firsts_of, nexts_of, ends_of, walk, KeepsNodes, KeepsEdges, IsReady, Redirects}
-use Rattle.daggy_cells.proofs.Rows.{row_is}
+use Rattle.daggy_cells.specs.Fields.{firsts_of, nexts_of, ends_of, list_from, KeepsNodes, KeepsEdges, IsReady, Redirects}
+use Rattle.daggy_cells.proofs.LinkedLists.{row_is}
 
-module _ {N E Ix : Type 0} (end : ℕ) (dir : Direction) (nodes : List (Node N Ix)) (edges : List (Edge E Ix)) (l : List ℕ) (old n : ℕ) (r : IsRow end (nexts_of dir edges) (get_or (firsts_of dir nodes) n 0) l) (n_is : get_or (ends_of dir edges) old 0 ≡ n) (few : length edges ≤ end) where
-  -- l is the row of n
-  walked : walk dir edges (get_or (firsts_of dir nodes) n 0) ≡ l
+module _ {N E Ix : Type 0} (end : ℕ) (dir : Direction) (nodes : List (Node N Ix)) (edges : List (Edge E Ix)) (l : List ℕ) (old n : ℕ) (r : IsLinkedList end (nexts_of dir edges) (get_or (firsts_of dir nodes) n 0) l) (n_is : get_or (ends_of dir edges) old 0 ≡ n) (few : length edges ≤ end) where
+  -- l is the list of n
+  walked : list_from dir edges (get_or (firsts_of dir nodes) n 0) ≡ l
   walked = row_is end _ (nexts_of dir edges) l r (omega (arith, few, length-map edges (raw_next dir)))
 
   -- and old, which n is an end of, stands in it
   pub Ready-row : n < length nodes → old < length edges → Contains l old → IsReady end dir nodes edges old
   Ready-row n_in old_in there =
-      let row_w : IsRow end (nexts_of dir edges) (get_or (firsts_of dir nodes) n 0) (walk dir edges (get_or (firsts_of dir nodes) n 0)) = subst (IsRow end (nexts_of dir edges) (get_or (firsts_of dir nodes) n 0)) (sym walked) r in
+      let row_w : IsLinkedList end (nexts_of dir edges) (get_or (firsts_of dir nodes) n 0) (list_from dir edges (get_or (firsts_of dir nodes) n 0)) = subst (IsLinkedList end (nexts_of dir edges) (get_or (firsts_of dir nodes) n 0)) (sym walked) r in
       record {
         edge = old_in;
         node = omega (arith, n_in, n_is);
-        row = subst (λ z. IsRow end (nexts_of dir edges) (get_or (firsts_of dir nodes) z 0) (walk dir edges (get_or (firsts_of dir nodes) z 0))) (sym n_is) row_w;
-        listed = subst (λ z. Contains (walk dir edges (get_or (firsts_of dir nodes) z 0)) old) (sym n_is) (subst (λ z. Contains z old) (sym walked) there);
+        linked = subst (λ z. IsLinkedList end (nexts_of dir edges) (get_or (firsts_of dir nodes) z 0) (list_from dir edges (get_or (firsts_of dir nodes) z 0))) (sym n_is) row_w;
+        listed = subst (λ z. Contains (list_from dir edges (get_or (firsts_of dir nodes) z 0)) old) (sym n_is) (subst (λ z. Contains z old) (sym walked) there);
         few = few;
       }
 
-  pub Redirected-walk : (new : ℕ) (nodes' : List (Node N Ix)) (edges' : List (Edge E Ix)) → Redirects dir nodes edges old new nodes' edges' → Redirected l n old new (firsts_of dir nodes) (nexts_of dir edges) (firsts_of dir nodes') (nexts_of dir edges')
-  Redirected-walk new nodes' edges' red =
-      let at_n : Redirected (walk dir edges (get_or (firsts_of dir nodes) n 0)) n old new (firsts_of dir nodes) (nexts_of dir edges) (firsts_of dir nodes') (nexts_of dir edges') =
-      subst (λ z. Redirected (walk dir edges (get_or (firsts_of dir nodes) z 0)) z old new (firsts_of dir nodes) (nexts_of dir edges) (firsts_of dir nodes') (nexts_of dir edges')) n_is red in
+  pub Redirected-list_from : (new : ℕ) (nodes' : List (Node N Ix)) (edges' : List (Edge E Ix)) → Redirects dir nodes edges old new nodes' edges' → Redirected l n old new (firsts_of dir nodes) (nexts_of dir edges) (firsts_of dir nodes') (nexts_of dir edges')
+  Redirected-list_from new nodes' edges' red =
+      let at_n : Redirected (list_from dir edges (get_or (firsts_of dir nodes) n 0)) n old new (firsts_of dir nodes) (nexts_of dir edges) (firsts_of dir nodes') (nexts_of dir edges') =
+      subst (λ z. Redirected (list_from dir edges (get_or (firsts_of dir nodes) z 0)) z old new (firsts_of dir nodes) (nexts_of dir edges) (firsts_of dir nodes') (nexts_of dir edges')) n_is red in
       subst (λ z. Redirected z n old new (firsts_of dir nodes) (nexts_of dir edges) (firsts_of dir nodes') (nexts_of dir edges')) walked at_n
 
 module _ {N E Ix : Type 0} (end : ℕ) (dir : Direction) (nodes : List (Node N Ix)) (edges : List (Edge E Ix)) (lists : List (List ℕ)) (old n : ℕ) where
-  -- the rows are linked, and old stands in that of its node
-  row_at : IsLinked end (firsts_of dir nodes) (nexts_of dir edges) lists → n < length nodes → IsRow end (nexts_of dir edges) (get_or (firsts_of dir nodes) n 0) (row lists n)
+  -- the lists are linked, and old stands in that of its node
+  row_at : AreLinkedLists end (firsts_of dir nodes) (nexts_of dir edges) lists → n < length nodes → IsLinkedList end (nexts_of dir edges) (get_or (firsts_of dir nodes) n 0) (nth_list lists n)
   row_at linked n_in = linked.each n (omega (arith, n_in, length-map nodes (raw_first dir)))
 
-  pub Ready-from : IsLinked end (firsts_of dir nodes) (nexts_of dir edges) lists → get_or (ends_of dir edges) old 0 ≡ n → n < length nodes → old < length edges → length edges ≤ end → Contains (row lists n) old → IsReady end dir nodes edges old
-  Ready-from linked n_is n_in old_in few there = Ready-row end dir nodes edges (row lists n) old n (row_at linked n_in) n_is few n_in old_in there
+  pub Ready-from : AreLinkedLists end (firsts_of dir nodes) (nexts_of dir edges) lists → get_or (ends_of dir edges) old 0 ≡ n → n < length nodes → old < length edges → length edges ≤ end → Contains (nth_list lists n) old → IsReady end dir nodes edges old
+  Ready-from linked n_is n_in old_in few there = Ready-row end dir nodes edges (nth_list lists n) old n (row_at linked n_in) n_is few n_in old_in there
 
-  pub Redirected-row : (new : ℕ) (nodes' : List (Node N Ix)) (edges' : List (Edge E Ix)) → IsLinked end (firsts_of dir nodes) (nexts_of dir edges) lists → get_or (ends_of dir edges) old 0 ≡ n → n < length nodes → length edges ≤ end → Redirects dir nodes edges old new nodes' edges' → Redirected (row lists n) n old new (firsts_of dir nodes) (nexts_of dir edges) (firsts_of dir nodes') (nexts_of dir edges')
-  Redirected-row new nodes' edges' linked n_is n_in few red = Redirected-walk end dir nodes edges (row lists n) old n (row_at linked n_in) n_is few new nodes' edges' red
+  pub Redirected-row : (new : ℕ) (nodes' : List (Node N Ix)) (edges' : List (Edge E Ix)) → AreLinkedLists end (firsts_of dir nodes) (nexts_of dir edges) lists → get_or (ends_of dir edges) old 0 ≡ n → n < length nodes → length edges ≤ end → Redirects dir nodes edges old new nodes' edges' → Redirected (nth_list lists n) n old new (firsts_of dir nodes) (nexts_of dir edges) (firsts_of dir nodes') (nexts_of dir edges')
+  Redirected-row new nodes' edges' linked n_is n_in few red = Redirected-list_from end dir nodes edges (nth_list lists n) old n (row_at linked n_in) n_is few new nodes' edges' red
 
 -- one call of `redirect`
 pub record Step {N E Ix : Type 0} (dir : Direction) (nodes : List (Node N Ix)) (edges : List (Edge E Ix)) (old new : ℕ) (nodes' : List (Node N Ix)) (edges' : List (Edge E Ix)) : Type 0 where

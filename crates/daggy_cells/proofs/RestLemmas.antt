@@ -9,11 +9,11 @@ use Rattle.daggy_base.specs.Cursor.{first_of}
 use Rattle.daggy_base.specs.Graph.{Edge as PlainEdge}
 use Rattle.daggy_cells.specs.declared.cell.Edge.{Edge}
 use Rattle.daggy_base.specs.Iterating.{numbered}
-use Rattle.daggy_cells.specs.Links.{follow, IsRow}
+use Rattle.daggy_cells.specs.Links.{follow, IsLinkedList}
 use Rattle.daggy_cells.specs.Raw.{raw_next}
-use Rattle.daggy_cells.specs.Rest.{edges_left, IsOnRow}
-use Rattle.daggy_cells.specs.Fields.{nexts_of, walk, plain}
-use Rattle.daggy_cells.proofs.Rows.{row_splits, row_is, IsRow-tail, after_here}
+use Rattle.daggy_cells.specs.Rest.{edges_left, IsOnList}
+use Rattle.daggy_cells.specs.Fields.{nexts_of, list_from, plain}
+use Rattle.daggy_cells.proofs.LinkedLists.{row_splits, row_is, IsLinkedList-tail, after_here}
 use Rattle.daggy_base.proofs.Lists.{Contains-here, slice_get_mapped}
 
 -- no slot is vacant
@@ -33,7 +33,7 @@ values_are f h i (x ∷ xs) = ap (λ l. h (f x) ∷ l) (values_are f h (i + 1) x
 pub range_step : (a e : ℕ) → a < e → range_with_len a (e - a) ≡ a ∷ range_with_len (a + 1) (e - (a + 1))
 range_step a e within = let longer : e - a ≡ suc (e - (a + 1)) = omega (arith, within) in ap (range_with_len a) longer
 
--- a step along a row
+-- a step along a list
 
 abbrev pub at_index : {A : Type 0} → ℕ → A → ℕ × A
 at_index i x = (i, x)
@@ -48,23 +48,23 @@ module _ {E Ix : Type 0} (end : ℕ) (dir : Direction) (edges : List (Edge E Ix)
       ap (filter_map (λ i. option_map (λ x. at_index i (plain x)) (slice_get edges i))) (follow_past (nexts_of dir edges) (length (nexts_of dir edges)) e (omega (arith, past, length-map edges (raw_next dir))))
 
   -- the walk from an edge that is there
-  pub step_on : (e : ℕ) (x : Edge E Ix) → e < length edges → x ≡ get_or edges e x → IsOnRow end dir edges e → (walk dir edges e ≡ e ∷ walk dir edges (raw_next dir x)) × IsRow end (nexts_of dir edges) (raw_next dir x) (walk dir edges (raw_next dir x))
+  pub step_on : (e : ℕ) (x : Edge E Ix) → e < length edges → x ≡ get_or edges e x → IsOnList end dir edges e → (list_from dir edges e ≡ e ∷ list_from dir edges (raw_next dir x)) × IsLinkedList end (nexts_of dir edges) (raw_next dir x) (list_from dir edges (raw_next dir x))
   step_on e x within is s =
       let nexts = nexts_of dir edges in
       let long : length nexts ≡ length edges = length-map edges (raw_next dir) in
       let limit : length nexts ≤ end = omega (arith, long, s.few) in
-      let split = row_splits end nexts e (walk dir edges e) s.row (omega (arith, within, long)) limit in
-      let row_e : IsRow end nexts e (e ∷ split.0) = subst (IsRow end nexts e) split.1 s.row in
+      let split = row_splits end nexts e (list_from dir edges e) s.linked (omega (arith, within, long)) limit in
+      let row_e : IsLinkedList end nexts e (e ∷ split.0) = subst (IsLinkedList end nexts e) split.1 s.linked in
       let goes = slice_get_mapped (raw_next dir) edges e x within is in
       let next : first_of end split.0 ≡ raw_next dir x = same_Some _ _ (ap Some (sym (after_here end e split.0)) ∙ sym (row_e.goes_on e (Contains-here e split.0)) ∙ goes) in
-      let tail : IsRow end nexts (raw_next dir x) split.0 = subst (λ z. IsRow end nexts z split.0) next (IsRow-tail end nexts e split.0 row_e) in
-      let rest : walk dir edges (raw_next dir x) ≡ split.0 = row_is end (raw_next dir x) nexts split.0 tail limit in
-      (split.1 ∙ ap (λ l. e ∷ l) (sym rest), subst (IsRow end nexts (raw_next dir x)) (sym rest) tail)
+      let tail : IsLinkedList end nexts (raw_next dir x) split.0 = subst (λ z. IsLinkedList end nexts z split.0) next (IsLinkedList-tail end nexts e split.0 row_e) in
+      let rest : list_from dir edges (raw_next dir x) ≡ split.0 = row_is end (raw_next dir x) nexts split.0 tail limit in
+      (split.1 ∙ ap (λ l. e ∷ l) (sym rest), subst (IsLinkedList end nexts (raw_next dir x)) (sym rest) tail)
 
-  pub IsOnRow-step : (e : ℕ) (x : Edge E Ix) → e < length edges → x ≡ get_or edges e x → IsOnRow end dir edges e → IsOnRow end dir edges (raw_next dir x)
-  IsOnRow-step e x within is s = record { row = (step_on e x within is s).1; few = s.few }
+  pub IsOnList-step : (e : ℕ) (x : Edge E Ix) → e < length edges → x ≡ get_or edges e x → IsOnList end dir edges e → IsOnList end dir edges (raw_next dir x)
+  IsOnList-step e x within is s = record { linked = (step_on e x within is s).1; few = s.few }
 
-  pub edges_step : (e : ℕ) (x : Edge E Ix) → e < length edges → x ≡ get_or edges e x → IsOnRow end dir edges e → edges_left dir edges e ≡ (e, plain x) ∷ edges_left dir edges (raw_next dir x)
+  pub edges_step : (e : ℕ) (x : Edge E Ix) → e < length edges → x ≡ get_or edges e x → IsOnList end dir edges e → edges_left dir edges e ≡ (e, plain x) ∷ edges_left dir edges (raw_next dir x)
   edges_step e x within is s =
       let h : ℕ → Option (ℕ × PlainEdge E) = λ i. option_map (λ y. at_index i (plain y)) (slice_get edges i) in
       let reads : slice_get edges e ≡ Some x = slice_get_read edges (length edges) e x refl within is in
@@ -90,6 +90,6 @@ filter_map_few h (x ∷ xs) = let more = filter_map_few h xs in omega (arith, mo
 
 pub edges_few : {E Ix : Type 0} (dir : Direction) (edges : List (Edge E Ix)) (e : ℕ) → length (edges_left dir edges e) ≤ length edges
 edges_few dir edges e =
-    let one = filter_map_few (λ i. option_map (λ x. at_index i (plain x)) (slice_get edges i)) (walk dir edges e) in
+    let one = filter_map_few (λ i. option_map (λ x. at_index i (plain x)) (slice_get edges i)) (list_from dir edges e) in
     let two = follow_few (nexts_of dir edges) (length (nexts_of dir edges)) e in
     omega (arith, one, two, length-map edges (raw_next dir))

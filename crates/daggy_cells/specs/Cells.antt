@@ -10,20 +10,26 @@ changed_at change [] i = []
 changed_at change (x ∷ xs) zero = change x ∷ xs
 changed_at change (x ∷ xs) (suc i) = x ∷ changed_at change xs i
 
+-- the stored node with another weight
 abbrev pub node_of_weight : {N Ix : Type 0} → N → Node N Ix → Node N Ix
 node_of_weight w x = record x { weight = w }
 
+-- the stored edge with another weight
 abbrev pub edge_of_weight : {E Ix : Type 0} → E → Edge E Ix → Edge E Ix
 edge_of_weight w x = record x { weight = w }
 
+-- the weight of the i-th stored node, if there is one
 abbrev pub node_weight_at : {N Ix : Type 0} → List (Node N Ix) → ℕ → Option N
 node_weight_at nodes i = option_map (λ x. x.weight) (slice_get nodes i)
 
+-- the weight of the i-th stored edge, if there is one
 abbrev pub edge_weight_at : {E Ix : Type 0} → List (Edge E Ix) → ℕ → Option E
 edge_weight_at edges i = option_map (λ x. x.weight) (slice_get edges i)
 
+-- v written at the place a, and then w at the place b
 abbrev pub with_node_weights : {N Ix : Type 0} → List (Node N Ix) → (a b : ℕ) → N → N → List (Node N Ix)
 with_node_weights nodes a b v w = changed_at (node_of_weight w) (changed_at (node_of_weight v) nodes a) b
 
+-- v written at the place a, and then w at the place b
 abbrev pub with_edge_weights : {E Ix : Type 0} → List (Edge E Ix) → (a b : ℕ) → E → E → List (Edge E Ix)
 with_edge_weights edges a b v w = changed_at (edge_of_weight w) (changed_at (edge_of_weight v) edges a) b

@@ -4,74 +4,88 @@ use Rattle.daggy_base.specs.Graph.{Graph, Edge as PlainEdge}
 use Rattle.daggy_base.specs.Removal.{renamed}
 use Rattle.daggy_cells.specs.Raw.{raw_first, raw_next}
 use Rattle.daggy_base.specs.Cursor.{first_of}
-use Rattle.daggy_cells.specs.Links.{follow, rows_of, IsRow, Redirected, Rethreads}
+use Rattle.daggy_cells.specs.Links.{follow, linked_lists, IsLinkedList, Redirected, Rethreads}
 use Rattle.daggy_cells.specs.declared.cell.Node.{Node}
 use Rattle.daggy_cells.specs.declared.cell.Edge.{Edge}
 use Rattle.daggy_base.specs.declared.index.Direction.{Direction}
 use Rattle.daggy_base.specs.declared.index.Direction.TheVariants.{Outgoing, Incoming}
 
+-- the other direction
 abbrev pub other : Direction → Direction
 other Outgoing = Incoming
 other Incoming = Outgoing
 
+-- the weight that a stored node shows, whose slot is never vacant
 abbrev pub weight_of : {N Ix : Type 0} → Node N Ix → Option N
 weight_of x = Some x.weight
 
+-- a stored edge without its links
 abbrev pub plain : {E Ix : Type 0} → Edge E Ix → PlainEdge E
 plain x = record { parent = x.parent; child = x.child; weight = x.weight }
 
+-- the edge that a stored edge shows, whose slot is never vacant
 abbrev pub plain_edge : {E Ix : Type 0} → Edge E Ix → Option (PlainEdge E)
 plain_edge x = Some (plain x)
 
+-- the node with e as the first edge of its list of that direction
 abbrev pub with_first : {N Ix : Type 0} → Direction → Node N Ix → ℕ → Node N Ix
 with_first Outgoing x e = record x { first_out = e }
 with_first Incoming x e = record x { first_in = e }
 
+-- the edge with e after it in its list of that direction
 abbrev pub with_next : {E Ix : Type 0} → Direction → Edge E Ix → ℕ → Edge E Ix
 with_next Outgoing x e = record x { next_out = e }
 with_next Incoming x e = record x { next_in = e }
 
+-- the end in whose list of that direction the edge stands
 abbrev pub end_at : {E Ix : Type 0} → Direction → Edge E Ix → ℕ
 end_at Outgoing x = x.parent
 end_at Incoming x = x.child
 
+-- the edge with another end of that direction
 abbrev pub with_end : {E Ix : Type 0} → Direction → Edge E Ix → ℕ → Edge E Ix
 with_end Outgoing x n = record x { parent = n }
 with_end Incoming x n = record x { child = n }
 
 -- the edge with its end renamed
-abbrev pub reowned : {E Ix : Type 0} → Direction → (from to : ℕ) → Edge E Ix → Edge E Ix
-reowned dir from to x = with_end dir x (renamed from to (end_at dir x))
+abbrev pub with_end_renamed : {E Ix : Type 0} → Direction → (from to : ℕ) → Edge E Ix → Edge E Ix
+with_end_renamed dir from to x = with_end dir x (renamed from to (end_at dir x))
 
 -- the node with empty lists
-abbrev pub bare : {N Ix : Type 0} → (end : ℕ) → Node N Ix → Node N Ix
-bare end x = record x { first_out = end; first_in = end }
+abbrev pub with_lists_emptied : {N Ix : Type 0} → (end : ℕ) → Node N Ix → Node N Ix
+with_lists_emptied end x = record x { first_out = end; first_in = end }
 
+-- the lists of that direction, one for each node
 abbrev pub lists_at : {N E : Type 0} → Direction → Graph N E → List (List ℕ)
 lists_at Outgoing g = g.out_lists
 lists_at Incoming g = g.in_lists
 
+-- the first edge of each node's list of that direction
 abbrev pub firsts_of : {N Ix : Type 0} → Direction → List (Node N Ix) → List ℕ
 firsts_of dir nodes = map (raw_first dir) nodes
 
+-- the edge after each edge in its list of that direction
 abbrev pub nexts_of : {E Ix : Type 0} → Direction → List (Edge E Ix) → List ℕ
 nexts_of dir edges = map (raw_next dir) edges
 
+-- for each edge the end in whose list of that direction it stands
 abbrev pub ends_of : {E Ix : Type 0} → Direction → List (Edge E Ix) → List ℕ
 ends_of dir edges = map (end_at dir) edges
 
--- the row that begins with this edge
-abbrev pub walk : {E Ix : Type 0} → Direction → List (Edge E Ix) → ℕ → List ℕ
-walk dir edges first = follow (nexts_of dir edges) (length (nexts_of dir edges)) first
+-- the list that begins with this edge
+abbrev pub list_from : {E Ix : Type 0} → Direction → List (Edge E Ix) → ℕ → List ℕ
+list_from dir edges first = follow (nexts_of dir edges) (length (nexts_of dir edges)) first
 
-abbrev pub walks : {N E Ix : Type 0} → Direction → List (Node N Ix) → List (Edge E Ix) → List (List ℕ)
-walks dir nodes edges = rows_of (firsts_of dir nodes) (nexts_of dir edges)
+-- the lists of all nodes, by following the links
+abbrev pub lists_from : {N E Ix : Type 0} → Direction → List (Node N Ix) → List (Edge E Ix) → List (List ℕ)
+lists_from dir nodes edges = linked_lists (firsts_of dir nodes) (nexts_of dir edges)
 
 -- only the links of one direction differ
 pub record KeepsNodes {N Ix : Type 0} (dir : Direction) (old new : List (Node N Ix)) : Type 0 where
   pub weights : map weight_of new ≡ map weight_of old
   pub firsts : firsts_of (other dir) new ≡ firsts_of (other dir) old
 
+-- only the links of one direction differ
 pub record KeepsEdges {E Ix : Type 0} (dir : Direction) (old new : List (Edge E Ix)) : Type 0 where
   pub edges : map plain_edge new ≡ map plain_edge old
   pub ends : (d : Direction) → ends_of d new ≡ ends_of d old
@@ -81,17 +95,17 @@ pub record KeepsEdges {E Ix : Type 0} (dir : Direction) (old new : List (Edge E 
 pub record IsReady {N E Ix : Type 0} (end : ℕ) (dir : Direction) (nodes : List (Node N Ix)) (edges : List (Edge E Ix)) (old : ℕ) : Type 0 where
   pub edge : old < length edges
   pub node : slice_index (ends_of dir edges) old < length nodes
-  pub row : let first = slice_index (firsts_of dir nodes) (slice_index (ends_of dir edges) old) in IsRow end (nexts_of dir edges) first (walk dir edges first)
-  pub listed : let first = slice_index (firsts_of dir nodes) (slice_index (ends_of dir edges) old) in Contains (walk dir edges first) old
+  pub linked : let first = slice_index (firsts_of dir nodes) (slice_index (ends_of dir edges) old) in IsLinkedList end (nexts_of dir edges) first (list_from dir edges first)
+  pub listed : let first = slice_index (firsts_of dir nodes) (slice_index (ends_of dir edges) old) in Contains (list_from dir edges first) old
   pub few : length edges ≤ end
 
 -- what `redirect` promises
 abbrev pub Redirects : {N E Ix : Type 0} → Direction → List (Node N Ix) → List (Edge E Ix) → (old new : ℕ) → List (Node N Ix) → List (Edge E Ix) → Type 0
 Redirects dir nodes edges old new nodes' edges' =
     let n = slice_index (ends_of dir edges) old in
-    Redirected (walk dir edges (slice_index (firsts_of dir nodes) n)) n old new (firsts_of dir nodes) (nexts_of dir edges) (firsts_of dir nodes') (nexts_of dir edges')
+    Redirected (list_from dir edges (slice_index (firsts_of dir nodes) n)) n old new (firsts_of dir nodes) (nexts_of dir edges) (firsts_of dir nodes') (nexts_of dir edges')
 
--- what `thread` promises: the list is the row of n
+-- what `thread` promises: the list is threaded as that of n
 pub record Threads {N E Ix : Type 0} (end : ℕ) (dir : Direction) (nodes : List (Node N Ix)) (edges : List (Edge E Ix)) (n : ℕ) (list : List ℕ) (nodes' : List (Node N Ix)) (edges' : List (Edge E Ix)) : Type 0 where
   pub first : firsts_of dir nodes' ≡ slice_set (firsts_of dir nodes) n (first_of end list)
   pub nexts : Rethreads end list (nexts_of dir edges) (nexts_of dir edges')

@@ -1,4 +1,4 @@
--- Lists threaded through numbers: a row has a first element, and each element names the next.
+-- Lists threaded through numbers: a list has a first element, and each element names the next.
 use Rattle.std.specs.Prelude.{◌≡◌, ℕ, zero, suc, ◌<◌, ◌↔◌, Option, Some, List, [], ◌∷◌, length, map, slice_get, slice_set, slice_index, unwrap_or, Contains}
 use Rattle.std.specs.Option.{option_map}
 use Rattle.daggy_base.specs.Cursor.{first_of, after}
@@ -10,33 +10,34 @@ abbrev pub follow : (nexts : List ℕ) → (fuel : ℕ) → ℕ → List ℕ
 follow nexts zero e = []
 follow nexts (suc k) e = unwrap_or (option_map (λ next. e ∷ follow nexts k next) (slice_get nexts e)) []
 
--- the rows that begin with these
-abbrev pub rows_of : (firsts nexts : List ℕ) → List (List ℕ)
-rows_of firsts nexts = map (follow nexts (length nexts)) firsts
+-- the lists that begin with these
+abbrev pub linked_lists : (firsts nexts : List ℕ) → List (List ℕ)
+linked_lists firsts nexts = map (follow nexts (length nexts)) firsts
 
-abbrev pub row : List (List ℕ) → ℕ → List ℕ
-row lists n = unwrap_or (slice_get lists n) []
+-- the n-th of the lists, or an empty one
+abbrev pub nth_list : List (List ℕ) → ℕ → List ℕ
+nth_list lists n = unwrap_or (slice_get lists n) []
 
 -- the links thread this list
-pub record IsRow (end : ℕ) (nexts : List ℕ) (first : ℕ) (list : List ℕ) : Type 0 where
+pub record IsLinkedList (end : ℕ) (nexts : List ℕ) (first : ℕ) (list : List ℕ) : Type 0 where
   pub starts : first ≡ first_of end list
   pub distinct : AreDistinct list
   pub goes_on : (e : ℕ) → Contains list e → slice_get nexts e ≡ Some (after end list e)
 
 -- the links thread each of these lists, one for each of the firsts
-pub record IsLinked (end : ℕ) (firsts nexts : List ℕ) (lists : List (List ℕ)) : Type 0 where
+pub record AreLinkedLists (end : ℕ) (firsts nexts : List ℕ) (lists : List (List ℕ)) : Type 0 where
   pub rows : length lists ≡ length firsts
-  pub each : (n : ℕ) → n < length firsts → IsRow end nexts (slice_index firsts n) (row lists n)
+  pub each : (n : ℕ) → n < length firsts → IsLinkedList end nexts (slice_index firsts n) (nth_list lists n)
 
--- each row lists what has its number as an end
+-- the n-th of the lists has what has n as an end
 abbrev pub ListsBy : (end_of : ℕ → Option ℕ) → List (List ℕ) → Type 0
-ListsBy end_of lists = (n e : ℕ) → Contains (row lists n) e ↔ (end_of e ≡ Some n)
+ListsBy end_of lists = (n e : ℕ) → Contains (nth_list lists n) e ↔ (end_of e ≡ Some n)
 
--- each row lists the places at which its number stands
+-- the n-th of the lists has the places at which n stands
 abbrev pub ListsEach : (ends : List ℕ) → List (List ℕ) → Type 0
-ListsEach ends lists = (n e : ℕ) → Contains (row lists n) e ↔ (slice_get ends e ≡ Some n)
+ListsEach ends lists = (n e : ℕ) → Contains (nth_list lists n) e ↔ (slice_get ends e ≡ Some n)
 
--- the one link to old in the row of n leads to new
+-- the one link to old in the list of n leads to new
 pub record Redirected (list : List ℕ) (n old new : ℕ) (firsts nexts firsts' nexts' : List ℕ) : Type 0 where
   pub first : firsts' ≡ slice_set firsts n (renamed old new (slice_index firsts n))
   pub same_length : length nexts' ≡ length nexts
@@ -54,13 +55,13 @@ pub record Rethreads (end : ℕ) (list nexts nexts' : List ℕ) : Type 0 where
   pub inside : (e : ℕ) → Contains list e → slice_get nexts' e ≡ Some (after end list e)
   pub outside : (e : ℕ) → ¬ Contains list e → slice_get nexts' e ≡ slice_get nexts e
 
--- each row can be threaded, and none has an element of another
+-- each list can be threaded, and none has an element of another
 pub record CanThreadAll (count : ℕ) (lists : List (List ℕ)) : Type 0 where
-  pub each : (n : ℕ) → CanThread count (row lists n)
-  pub apart : (n m e : ℕ) → Contains (row lists n) e → Contains (row lists m) e → n ≡ m
+  pub each : (n : ℕ) → CanThread count (nth_list lists n)
+  pub apart : (n m e : ℕ) → Contains (nth_list lists n) e → Contains (nth_list lists m) e → n ≡ m
 
--- the rows before the number i are threaded, and the links of what stands in no row are as they were
+-- the lists before the number i are threaded, and the links of what stands in no list are as they were
 pub record AreThreadedBelow (i end : ℕ) (nexts firsts' nexts' : List ℕ) (lists : List (List ℕ)) : Type 0 where
   pub same_length : length nexts' ≡ length nexts
-  pub rows : (n : ℕ) → n < i → IsRow end nexts' (slice_index firsts' n) (row lists n)
-  pub others : (e : ℕ) → ((n : ℕ) → ¬ Contains (row lists n) e) → slice_get nexts' e ≡ slice_get nexts e
+  pub rows : (n : ℕ) → n < i → IsLinkedList end nexts' (slice_index firsts' n) (nth_list lists n)
+  pub others : (e : ℕ) → ((n : ℕ) → ¬ Contains (nth_list lists n) e) → slice_get nexts' e ≡ slice_get nexts e

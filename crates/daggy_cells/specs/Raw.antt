@@ -16,6 +16,7 @@ raw_first Incoming x = x.first_in
 abbrev pub raw_parent : {E Ix : Type 0} → Edge E Ix → ℕ
 raw_parent x = x.parent
 
+-- the node that a stored edge enters
 abbrev pub raw_child : {E Ix : Type 0} → Edge E Ix → ℕ
 raw_child x = x.child
 

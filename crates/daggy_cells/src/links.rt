@@ -4,9 +4,9 @@ ghost use Rattle.daggy_base.specs.declared.index.Direction.{Direction};
 ghost use Rattle.daggy_base.specs.declared.index.Direction.TheVariants.{Outgoing, Incoming};
 ghost use Rattle.daggy_base.specs.Cursor.{after};
 ghost use Rattle.daggy_base.specs.Orders.{numbers_of};
-ghost use Rattle.daggy_cells.specs.Links.{IsRow, CanThread};
+ghost use Rattle.daggy_cells.specs.Links.{IsLinkedList, CanThread};
 ghost use Rattle.daggy_cells.specs.Raw.{raw_first, raw_next};
-ghost use Rattle.daggy_cells.specs.Fields.{weight_of, plain_edge, with_first, end_at, with_next, with_end, reowned, firsts_of, nexts_of, ends_of, walk, bare, KeepsNodes, KeepsEdges, IsReady, Redirects, Threads, order_at};
+ghost use Rattle.daggy_cells.specs.Fields.{weight_of, plain_edge, with_first, end_at, with_next, with_end, with_end_renamed, firsts_of, nexts_of, ends_of, list_from, with_lists_emptied, KeepsNodes, KeepsEdges, IsReady, Redirects, Threads, order_at};
 ghost use Rattle.daggy_cells.specs.MappedCells.{node_with, edge_with};
 
 use crate::cell::{Edge, Node};
@@ -176,12 +176,12 @@ fn find_before<E, Ix: IndexType>(
     first: Link<Ix>,
     old: Link<Ix>,
 ) -> Link<Ix>
-    requires row { IsRow Ix.greatest (nexts_of dir edges.now) first (walk dir edges.now first) }
-    requires listed { Contains (walk dir edges.now first) old }
+    requires linked { IsLinkedList Ix.greatest (nexts_of dir edges.now) first (list_from dir edges.now first) }
+    requires listed { Contains (list_from dir edges.now first) old }
     requires later { first ≢ old }
     requires few { length edges.now ≤ Ix.greatest }
-    ensures listed { Contains (walk dir edges.now first) result }
-    ensures before { after Ix.greatest (walk dir edges.now first) result ≡ old }
+    ensures listed { Contains (list_from dir edges.now first) result }
+    ensures before { after Ix.greatest (list_from dir edges.now first) result ≡ old }
 {
     let target = old.index();
     let mut e = first;
@@ -232,11 +232,11 @@ pub fn reown<E, Ix: IndexType>(
     from: Link<Ix>,
     to: Link<Ix>,
 )
-    requires row { IsRow Ix.greatest (nexts_of dir edges.old.items) first (walk dir edges.old.items first) }
-    requires exact { (e : ℕ) → Contains (walk dir edges.old.items first) e ↔ (slice_get (ends_of dir edges.old.items) e ≡ Some from) }
+    requires linked { IsLinkedList Ix.greatest (nexts_of dir edges.old.items) first (list_from dir edges.old.items first) }
+    requires exact { (e : ℕ) → Contains (list_from dir edges.old.items first) e ↔ (slice_get (ends_of dir edges.old.items) e ≡ Some from) }
     requires differ { from ≢ to }
     requires few { length edges.old.items ≤ Ix.greatest }
-    ensures { edges.new.items ≡ map (reowned dir from to) edges.old.items }
+    ensures { edges.new.items ≡ map (with_end_renamed dir from to) edges.old.items }
 {
     let mut e = first;
     'along: loop {
@@ -295,7 +295,7 @@ pub fn thread_both<N, E, Ix: IndexType>(
 
 /// Empties every list.
 pub fn unlink_all<N, Ix: IndexType>(nodes: &mut Vec<Node<N, Ix>>)
-    ensures { nodes.new.items ≡ map (bare Ix.greatest) nodes.old.items }
+    ensures { nodes.new.items ≡ map (with_lists_emptied Ix.greatest) nodes.old.items }
 {
     let end = Link::end();
     for i in 0..nodes.len() {

@@ -12,7 +12,7 @@ use Rattle.daggy_base.specs.Cursor.{first_of}
 use Rattle.daggy_base.specs.Externals.{is_external, externals_from}
 use Rattle.daggy_base.specs.WellFormed.{IsWellFormed}
 use Rattle.daggy_base.proofs.Lists.{Mem, mem_contains}
-use Rattle.daggy_base.proofs.Reading.{edge_below}
+use Rattle.daggy_base.proofs.OutEdgesRead.{edge_below}
 use Rattle.daggy_cells.proofs.RestLemmas.{range_step}
 
 first_none : (end : ℕ) (xs : List ℕ) → ((e : ℕ) → Mem e xs → e < end) → (first_of end xs == end) ≡ (length xs == 0)

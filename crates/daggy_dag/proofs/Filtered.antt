@@ -6,49 +6,49 @@ use Rattle.std.proofs.lemmas.Option.{same_Some, none-some}
 use Rattle.std.proofs.lemmas.List.{length_push}
 use Rattle.daggy_base.specs.Graph.{Graph, Edge, HasNode, empty, edge_at, slot, node_bound}
 use Rattle.daggy_base.specs.Path.{AreJoined}
-use Rattle.daggy_base.specs.Adding.{taken, next_slot, rest_of, with_node, next_node}
-use Rattle.daggy_base.proofs.Nodes.{bound_low}
+use Rattle.daggy_base.specs.Adding.{with_slot_filled, next_slot, remaining_vacant, with_node, next_node}
+use Rattle.daggy_base.proofs.PathsWithNode.{bound_low}
 use Rattle.daggy_base.proofs.Slots.{IsFree, slot_taken, slot_taken_kept, slot_taken_new}
-use Rattle.daggy_base.specs.Filtering.{kept_node, named, kept_edge, both, new_ends, FiltersNodes, FiltersEdge, FiltersEdges, IsFiltered}
+use Rattle.daggy_base.specs.Filtering.{with_kept_node, named, with_kept_edge, both, new_ends, FiltersNodes, FiltersEdge, FiltersEdges, IsFiltered}
 use Rattle.daggy_order.specs.Ordered.{IsOrderOf}
 use Rattle.daggy_order.proofs.OrderLaws.{HasEnds, order_named, some_is}
-use Rattle.daggy_dag.proofs.Kept.{order_below}
+use Rattle.daggy_dag.proofs.OrderKept.{order_below}
 
 module _ {V W : Type 0} where
   -- where no slot is vacant, a node goes behind the others
-  more_nodes : (h : Graph V W) (r : Option V) → h.vacant_nodes ≡ [] → length (kept_node h r).nodes ≤ length h.nodes + 1
+  more_nodes : (h : Graph V W) (r : Option V) → h.vacant_nodes ≡ [] → length (with_kept_node h r).nodes ≤ length h.nodes + 1
   more_nodes h None none = omega arith
-  more_nodes h (Some v) none = omega (arith, ap (λ z. length (taken h.nodes z (Some v))) none, length_push h.nodes (Some v))
+  more_nodes h (Some v) none = omega (arith, ap (λ z. length (with_slot_filled h.nodes z (Some v))) none, length_push h.nodes (Some v))
 
   as_many_nodes : (h : Graph V W) (v : V) → h.vacant_nodes ≡ [] → length (with_node h v).nodes ≡ length h.nodes + 1
-  as_many_nodes h v none = ap (λ z. length (taken h.nodes z (Some v))) none ∙ length_push h.nodes (Some v)
+  as_many_nodes h v none = ap (λ z. length (with_slot_filled h.nodes z (Some v))) none ∙ length_push h.nodes (Some v)
 
-  none_vacant : (h : Graph V W) (r : Option V) → h.vacant_nodes ≡ [] → (kept_node h r).vacant_nodes ≡ []
+  none_vacant : (h : Graph V W) (r : Option V) → h.vacant_nodes ≡ [] → (with_kept_node h r).vacant_nodes ≡ []
   none_vacant h None none = none
-  none_vacant h (Some v) none = ap rest_of none
+  none_vacant h (Some v) none = ap remaining_vacant none
 
-  edges_stay : (h : Graph V W) (r : Option V) → (kept_node h r).edges ≡ h.edges
+  edges_stay : (h : Graph V W) (r : Option V) → (with_kept_node h r).edges ≡ h.edges
   edges_stay h None = refl
   edges_stay h (Some v) = refl
 
-  named_next : (h : Graph V W) (r : Option V) (k : ℕ) → h.vacant_nodes ≡ [] → named h r ≡ Some k → (k ≡ length h.nodes) × (length (kept_node h r).nodes ≡ k + 1)
+  named_next : (h : Graph V W) (r : Option V) (k : ℕ) → h.vacant_nodes ≡ [] → named h r ≡ Some k → (k ≡ length h.nodes) × (length (with_kept_node h r).nodes ≡ k + 1)
   named_next h None k none is = absurd (none-some k is)
   named_next h (Some v) k none is =
       let next : k ≡ length h.nodes = same_Some k (next_node h) (sym is) ∙ ap (next_slot h.nodes) none in
       (next, as_many_nodes h v none ∙ ap (λ z. z + 1) (sym next))
 
-  not_fewer : (h : Graph V W) (r : Option V) → h.vacant_nodes ≡ [] → length h.nodes ≤ length (kept_node h r).nodes
+  not_fewer : (h : Graph V W) (r : Option V) → h.vacant_nodes ≡ [] → length h.nodes ≤ length (with_kept_node h r).nodes
   not_fewer h None none = omega arith
   not_fewer h (Some v) none = omega (arith, as_many_nodes h v none)
 
   none_taken : (h : Graph V W) → h.vacant_nodes ≡ [] → IsFree h.nodes h.vacant_nodes
   none_taken h none = let P : List ℕ → Type 0 = λ z. IsFree h.nodes z in subst P (sym none) tt
 
-  node_remains : (h : Graph V W) (r : Option V) → h.vacant_nodes ≡ [] → (k : ℕ) (y : V) → slot h.nodes k ≡ Some y → slot (kept_node h r).nodes k ≡ Some y
+  node_remains : (h : Graph V W) (r : Option V) → h.vacant_nodes ≡ [] → (k : ℕ) (y : V) → slot h.nodes k ≡ Some y → slot (with_kept_node h r).nodes k ≡ Some y
   node_remains h None none k y at = at
   node_remains h (Some v) none k y at = slot_taken_kept h.nodes h.vacant_nodes v k y (none_taken h none) at
 
-  node_came : (h : Graph V W) (r : Option V) (k : ℕ) (y : V) → slot (kept_node h r).nodes k ≡ Some y → (named h r ≡ Some k) ⊎ (slot h.nodes k ≡ Some y)
+  node_came : (h : Graph V W) (r : Option V) (k : ℕ) (y : V) → slot (with_kept_node h r).nodes k ≡ Some y → (named h r ≡ Some k) ⊎ (slot h.nodes k ≡ Some y)
   node_came h None k y at = inr at
   node_came h (Some v) k y at =
       elim (slot_taken h.nodes h.vacant_nodes v k y at) [
@@ -65,7 +65,7 @@ module _ {N V W F I : Type 0} (step : F → I → Bor N → Option V → F → T
   names_from f i (None ∷ xs) h names new none (rest, is, more) (suc a) k at = names_from f (i + 1) xs h rest new none more a k (ap (λ z. slot z (suc a)) (sym is) ∙ at)
   names_from f i (Some x ∷ xs) h names new none (r, next, called, rest, is, more) zero k at = omega (arith, (named_next h r k none (ap (λ z. slot z zero) (sym is) ∙ at)).0)
   names_from f i (Some x ∷ xs) h names new none (r, next, called, rest, is, more) (suc a) k at =
-      omega (arith, not_fewer h r none, names_from next (i + 1) xs (kept_node h r) rest new (none_vacant h r none) more a k (ap (λ z. slot z (suc a)) (sym is) ∙ at))
+      omega (arith, not_fewer h r none, names_from next (i + 1) xs (with_kept_node h r) rest new (none_vacant h r none) more a k (ap (λ z. slot z (suc a)) (sym is) ∙ at))
 
   -- no two nodes got one name
   one_name : (f : F) (i : ℕ) (xs : List (Option N)) (h : Graph V W) (names : List (Option ℕ)) (new : Graph V W) → h.vacant_nodes ≡ [] → FiltersNodes step of f i xs h names new
@@ -77,24 +77,24 @@ module _ {N V W F I : Type 0} (step : F → I → Bor N → Option V → F → T
       ap suc (one_name f (i + 1) xs h rest new none more k a b (ap (λ z. slot z (suc a)) (sym is) ∙ p) (ap (λ z. slot z (suc b)) (sym is) ∙ q))
   one_name f i (Some x ∷ xs) h names new none (r, next, called, rest, is, more) k zero zero p q = refl
   one_name f i (Some x ∷ xs) h names new none (r, next, called, rest, is, more) k zero (suc b) p q =
-      absurd (omega (arith, (named_next h r k none (ap (λ z. slot z zero) (sym is) ∙ p)).1, names_from next (i + 1) xs (kept_node h r) rest new (none_vacant h r none) more b k (ap (λ z. slot z (suc b)) (sym is) ∙ q)))
+      absurd (omega (arith, (named_next h r k none (ap (λ z. slot z zero) (sym is) ∙ p)).1, names_from next (i + 1) xs (with_kept_node h r) rest new (none_vacant h r none) more b k (ap (λ z. slot z (suc b)) (sym is) ∙ q)))
   one_name f i (Some x ∷ xs) h names new none (r, next, called, rest, is, more) k (suc a) zero p q =
-      absurd (omega (arith, (named_next h r k none (ap (λ z. slot z zero) (sym is) ∙ q)).1, names_from next (i + 1) xs (kept_node h r) rest new (none_vacant h r none) more a k (ap (λ z. slot z (suc a)) (sym is) ∙ p)))
+      absurd (omega (arith, (named_next h r k none (ap (λ z. slot z zero) (sym is) ∙ q)).1, names_from next (i + 1) xs (with_kept_node h r) rest new (none_vacant h r none) more a k (ap (λ z. slot z (suc a)) (sym is) ∙ p)))
   one_name f i (Some x ∷ xs) h names new none (r, next, called, rest, is, more) k (suc a) (suc b) p q =
-      ap suc (one_name next (i + 1) xs (kept_node h r) rest new (none_vacant h r none) more k a b (ap (λ z. slot z (suc a)) (sym is) ∙ p) (ap (λ z. slot z (suc b)) (sym is) ∙ q))
+      ap suc (one_name next (i + 1) xs (with_kept_node h r) rest new (none_vacant h r none) more k a b (ap (λ z. slot z (suc a)) (sym is) ∙ p) (ap (λ z. slot z (suc b)) (sym is) ∙ q))
 
   -- there is a name for each slot, vacant or not
   names_long : (f : F) (i : ℕ) (xs : List (Option N)) (h : Graph V W) (names : List (Option ℕ)) (new : Graph V W) → FiltersNodes step of f i xs h names new → length names ≡ length xs
   names_long f i [] h names new (nil, same) = ap length nil
   names_long f i (None ∷ xs) h names new (rest, is, more) = ap length is ∙ ap suc (names_long f (i + 1) xs h rest new more)
-  names_long f i (Some x ∷ xs) h names new (r, next, called, rest, is, more) = ap length is ∙ ap suc (names_long next (i + 1) xs (kept_node h r) rest new more)
+  names_long f i (Some x ∷ xs) h names new (r, next, called, rest, is, more) = ap length is ∙ ap suc (names_long next (i + 1) xs (with_kept_node h r) rest new more)
 
   -- what was added stays
   nodes_remain : (f : F) (i : ℕ) (xs : List (Option N)) (h : Graph V W) (names : List (Option ℕ)) (new : Graph V W) → h.vacant_nodes ≡ [] → FiltersNodes step of f i xs h names new
       → (k : ℕ) (y : V) → slot h.nodes k ≡ Some y → slot new.nodes k ≡ Some y
   nodes_remain f i [] h names new none (nil, same) k y at = ap (λ (z : Graph V W). slot z.nodes k) same ∙ at
   nodes_remain f i (None ∷ xs) h names new none (rest, is, more) k y at = nodes_remain f (i + 1) xs h rest new none more k y at
-  nodes_remain f i (Some x ∷ xs) h names new none (r, next, called, rest, is, more) k y at = nodes_remain next (i + 1) xs (kept_node h r) rest new (none_vacant h r none) more k y (node_remains h r none k y at)
+  nodes_remain f i (Some x ∷ xs) h names new none (r, next, called, rest, is, more) k y at = nodes_remain next (i + 1) xs (with_kept_node h r) rest new (none_vacant h r none) more k y (node_remains h r none k y at)
 
   -- a node that got a name existed, and the name is the index of one that exists
   named_at : (f : F) (i : ℕ) (xs : List (Option N)) (h : Graph V W) (names : List (Option ℕ)) (new : Graph V W) → h.vacant_nodes ≡ [] → FiltersNodes step of f i xs h names new
@@ -111,7 +111,7 @@ module _ {N V W F I : Type 0} (step : F → I → Bor N → Option V → F → T
       let added : slot (with_node h v).nodes k ≡ Some v = subst P (same_Some (next_node h) k here) (slot_taken_new h.nodes h.vacant_nodes v (none_taken h none)) in
       (refl, ap is_some (nodes_remain next (i + 1) xs (with_node h v) rest new (none_vacant h (Some v) none) more k v added), omega (arith, index))
   named_at f i (Some x ∷ xs) h names new none (r, next, called, rest, is, more) (suc a) k at =
-      let later = named_at next (i + 1) xs (kept_node h r) rest new (none_vacant h r none) more a k (ap (λ z. slot z (suc a)) (sym is) ∙ at) in
+      let later = named_at next (i + 1) xs (with_kept_node h r) rest new (none_vacant h r none) more a k (ap (λ z. slot z (suc a)) (sym is) ∙ at) in
       (later.0, later.1, omega (arith, later.2, more_nodes h r none))
 
   -- each node got its index as a name, or was there before
@@ -124,7 +124,7 @@ module _ {N V W F I : Type 0} (step : F → I → Bor N → Option V → F → T
         | inr q ↦ inr q
       ]
   came_from f i (Some x ∷ xs) h names new (r, next, called, rest, is, more) k y at =
-      elim (came_from next (i + 1) xs (kept_node h r) rest new more k y at) [
+      elim (came_from next (i + 1) xs (with_kept_node h r) rest new more k y at) [
         | inl c ↦ inl (suc c.0, ap (λ z. slot z (suc c.0)) is ∙ c.1)
         | inr q ↦ elim (node_came h r k y q) [
           | inl named_so ↦ inl (zero, ap (λ z. slot z zero) is ∙ named_so)
@@ -136,13 +136,13 @@ module _ {N V W F I : Type 0} (step : F → I → Bor N → Option V → F → T
   no_edges : (f : F) (i : ℕ) (xs : List (Option N)) (h : Graph V W) (names : List (Option ℕ)) (new : Graph V W) → FiltersNodes step of f i xs h names new → new.edges ≡ h.edges
   no_edges f i [] h names new (nil, same) = ap (λ (z : Graph V W). z.edges) same
   no_edges f i (None ∷ xs) h names new (rest, is, more) = no_edges f (i + 1) xs h rest new more
-  no_edges f i (Some x ∷ xs) h names new (r, next, called, rest, is, more) = no_edges next (i + 1) xs (kept_node h r) rest new more ∙ edges_stay h r
+  no_edges f i (Some x ∷ xs) h names new (r, next, called, rest, is, more) = no_edges next (i + 1) xs (with_kept_node h r) rest new more ∙ edges_stay h r
 
   few_nodes : (f : F) (i : ℕ) (xs : List (Option N)) (h : Graph V W) (names : List (Option ℕ)) (new : Graph V W) → h.vacant_nodes ≡ [] → FiltersNodes step of f i xs h names new → length new.nodes ≤ length h.nodes + length xs
   few_nodes f i [] h names new none (nil, same) = omega (arith, ap (λ (z : Graph V W). length z.nodes) same)
   few_nodes f i (None ∷ xs) h names new none (rest, is, more) = omega (arith, few_nodes f (i + 1) xs h rest new none more)
   few_nodes f i (Some x ∷ xs) h names new none (r, next, called, rest, is, more) =
-      omega (arith, more_nodes h r none, few_nodes next (i + 1) xs (kept_node h r) rest new (none_vacant h r none) more)
+      omega (arith, more_nodes h r none, few_nodes next (i + 1) xs (with_kept_node h r) rest new (none_vacant h r none) more)
 
 -- an old edge whose ends got these names
 pub record CameFrom {E : Type 0} (names : List (Option ℕ)) (xs : List (Option (Edge E))) (parent child : ℕ) : Type 0 where
@@ -155,7 +155,7 @@ later_edge : {E : Type 0} (names : List (Option ℕ)) (x : Option (Edge E)) (xs 
 later_edge names x xs a b c = record { index = suc c.index; edge = c.edge; at = c.at; ends = c.ends }
 
 module _ {E V W G I : Type 0} (step : G → I → Bor E → Option W → G → Type 0) (of : ℕ → I) (names : List (Option ℕ)) where
-  kept_from : (h : Graph V W) (ends : ℕ × ℕ) (r : Option W) (k : ℕ) (y : Edge W) → edge_at (kept_edge h ends r) k ≡ Some y → ((y.parent ≡ ends.0) × (y.child ≡ ends.1)) ⊎ (edge_at h k ≡ Some y)
+  kept_from : (h : Graph V W) (ends : ℕ × ℕ) (r : Option W) (k : ℕ) (y : Edge W) → edge_at (with_kept_edge h ends r) k ≡ Some y → ((y.parent ≡ ends.0) × (y.child ≡ ends.1)) ⊎ (edge_at h k ≡ Some y)
   kept_from h ends None k y at = inr at
   kept_from h ends (Some w) k y at =
       elim (slot_taken h.edges h.vacant_edges (record { parent = ends.0; child = ends.1; weight = w }) k y at) [
@@ -163,7 +163,7 @@ module _ {E V W G I : Type 0} (step : G → I → Bor E → Option W → G → T
         | inr q ↦ inr q
       ]
 
-  nodes_stay : (h : Graph V W) (ends : ℕ × ℕ) (r : Option W) → (kept_edge h ends r).nodes ≡ h.nodes
+  nodes_stay : (h : Graph V W) (ends : ℕ × ℕ) (r : Option W) → (with_kept_edge h ends r).nodes ≡ h.nodes
   nodes_stay h ends None = refl
   nodes_stay h ends (Some w) = refl
 
@@ -180,7 +180,7 @@ module _ {E V W G I : Type 0} (step : G → I → Bor E → Option W → G → T
         | inr q ↦ inr q
       ]
   edge_from g e x xs (Some ends) h new is later (r, next, called, more) k y at =
-      elim (later next (kept_edge h ends r) more k y at) [
+      elim (later next (with_kept_edge h ends r) more k y at) [
         | inl c ↦ inl (later_edge names (Some x) xs y.parent y.child c)
         | inr q ↦ elim (kept_from h ends r k y q) [
           | inl s ↦ inl (record { index = 0; edge = x; at = refl; ends = is ∙ ap (λ z. Some (z, ends.1)) (sym s.0) ∙ ap (λ z. Some (y.parent, z)) (sym s.1) })
@@ -202,7 +202,7 @@ module _ {E V W G I : Type 0} (step : G → I → Bor E → Option W → G → T
       → ((next : G) (mid : Graph V W) → FiltersEdges step of names next (e + 1) xs mid new → new.nodes ≡ mid.nodes)
       → FiltersEdge step of names g e w ends h (λ next mid. FiltersEdges step of names next (e + 1) xs mid new) → new.nodes ≡ h.nodes
   nodes_after g e w xs None h new later more = later g h more
-  nodes_after g e w xs (Some ends) h new later (r, next, called, more) = later next (kept_edge h ends r) more ∙ nodes_stay h ends r
+  nodes_after g e w xs (Some ends) h new later (r, next, called, more) = later next (with_kept_edge h ends r) more ∙ nodes_stay h ends r
 
   same_nodes : (g : G) (e : ℕ) (xs : List (Option (Edge E))) (h new : Graph V W) → FiltersEdges step of names g e xs h new → new.nodes ≡ h.nodes
   same_nodes g e [] h new is = ap (λ (z : Graph V W). z.nodes) is
@@ -272,8 +272,8 @@ module _ {N E V W F G I : Type 0} (of : ℕ → I) (step_f : F → I → Bor N �
         let whole : left ≡ filter_map (slot filtered.names) order = named_so ∙ (ap (λ z. filter_map (slot z) copy) (sym same) ∙ ap (filter_map (slot filtered.names)) is) in
         subst P (sym whole) (order_named order ord ends_named (slot filtered.names) (λ u v k p q. one_name step_f of f 0 old.nodes empty filtered.names filtered.middle refl filtered.nodes k u v p q) has_node was_joined)
 
-  pub fits_filtered : (slots room : ℕ) → slots ≡ length old.nodes → slots ≤ room → node_bound new ≤ room
-  fits_filtered slots room many fits =
+  pub fits_filtered : (slots capacity : ℕ) → slots ≡ length old.nodes → slots ≤ capacity → node_bound new ≤ capacity
+  fits_filtered slots capacity many fits =
       omega (
         arith,
         bound_low new.nodes,

@@ -8,8 +8,8 @@ use Rattle.std.proofs.lemmas.Option.{same_Some, none-some}
 use Rattle.daggy_base.specs.Graph.{Graph, Edge, HasNode, node_weight, slot, edge_at, node_bound}
 use Rattle.daggy_base.specs.Path.{AreJoined}
 use Rattle.daggy_base.specs.WellFormed.{IsWellFormed}
-use Rattle.daggy_base.proofs.Nodes.{bound_low}
-use Rattle.daggy_base.specs.FilteringInPlace.{KeepsSlots, if_joined, IsFilteredInPlace}
+use Rattle.daggy_base.proofs.PathsWithNode.{bound_low}
+use Rattle.daggy_base.specs.FilteringInPlace.{KeepsSlots, if_ends_exist, IsFilteredInPlace}
 use Rattle.daggy_base.specs.Mapping.{weight_in, with_weight}
 use Rattle.daggy_order.specs.Ordered.{IsOrderOf}
 use Rattle.daggy_order.proofs.OrderLaws.{ends_exist, order_filtered, some_is}
@@ -43,11 +43,11 @@ there_if true true x y at = at
 there_if true false x y at = absurd (none-some y at)
 there_if false b x y at = absurd (none-some y at)
 
-joined_there : {N E : Type 0} (nodes : List (Option N)) (o : Option (Edge E)) (x : Edge E) → if_joined nodes o ≡ Some x → o ≡ Some x
+joined_there : {N E : Type 0} (nodes : List (Option N)) (o : Option (Edge E)) (x : Edge E) → if_ends_exist nodes o ≡ Some x → o ≡ Some x
 joined_there nodes None x at = absurd (none-some x at)
 joined_there nodes (Some y) x at = there_if (is_some (slot nodes y.parent)) (is_some (slot nodes y.child)) y x at
 
-joined_slot : {N E : Type 0} (nodes : List (Option N)) (xs : List (Option (Edge E))) (k : ℕ) (x : Edge E) → slot (map (if_joined nodes) xs) k ≡ Some x → slot xs k ≡ Some x
+joined_slot : {N E : Type 0} (nodes : List (Option N)) (xs : List (Option (Edge E))) (k : ℕ) (x : Edge E) → slot (map (if_ends_exist nodes) xs) k ≡ Some x → slot xs k ≡ Some x
 joined_slot nodes [] k x at = absurd (none-some x at)
 joined_slot nodes (y ∷ ys) zero x at = joined_there nodes y x at
 joined_slot nodes (y ∷ ys) (suc k) x at = joined_slot nodes ys k x at
@@ -76,8 +76,8 @@ module _ {N E V W F G I : Type 0} (of : ℕ → I) (step_f : F → I → Bor N �
       let test : ℕ → Bool = λ n. is_some (node_weight new n) in
       subst P (sym (is ∙ ap (filter test) same)) (order_filtered order ord (ends_exist w) test (λ n. (λ h. (was_there n h, h), λ h. h.1)) joined_before)
 
-  pub fits_kept : (slots room : ℕ) → slots ≡ length old.nodes → slots ≤ room → node_bound new ≤ room
-  fits_kept slots room many fits =
+  pub fits_kept : (slots capacity : ℕ) → slots ≡ length old.nodes → slots ≤ capacity → node_bound new ≤ capacity
+  fits_kept slots capacity many fits =
       omega (
         arith,
         ap (λ (z : Graph V W). node_bound z) filtered.is,

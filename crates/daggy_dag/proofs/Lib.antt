@@ -1,11 +1,11 @@
-pub mod Writing
-pub mod Kept
+pub mod OrderWithWeights
+pub mod OrderKept
 pub mod Externals
 pub mod Mapped
 pub mod Rewritten
 pub mod Filtered
 pub mod KeptInPlace
-pub mod Walking
+pub mod WalkSteps
 pub mod Reduced
-pub mod Staying
-pub mod Shaped
+pub mod OrderOfExisting
+pub mod NodesBelow

@@ -4,10 +4,10 @@ use Rattle.std.specs.Borrow.{Bor}
 use Rattle.std.proofs.lemmas.Option.{same_Some, none-some}
 use Rattle.daggy_base.specs.Graph.{Graph, Edge, slot, bound_of, bound_step, node_bound}
 use Rattle.daggy_base.specs.Path.{AreJoined}
-use Rattle.daggy_base.proofs.Nodes.{bound_low}
+use Rattle.daggy_base.proofs.PathsWithNode.{bound_low}
 use Rattle.daggy_base.specs.Mapping.{MapsSlots, IsMapped, weight_in, with_weight}
 use Rattle.daggy_cells.proofs.MappingLemmas.{mapped_length}
-use Rattle.daggy_reduction.specs.Comparing.{HaveSameNodes, HaveSameReachability}
+use Rattle.daggy_reduction.specs.Comparison.{HaveSameNodes, HaveSameReachability}
 use Rattle.daggy_reduction.proofs.Canonical.{reach_same}
 use Rattle.daggy_order.specs.Ordered.{IsOrderOf}
 use Rattle.daggy_order.proofs.OrderLaws.{order_fewer}
@@ -81,8 +81,8 @@ module _ {N E V W F G I : Type 0} (of : ℕ → I) (step_f : F → I → Bor N �
   order_mapped order copy same ord =
       subst (IsOrderOf new) (sym same) (order_fewer order ord (same_nodes step_f of (λ w. w) (λ w v. v) f old.nodes new.nodes mapped.nodes) (joined_reweighed of step_g g old new mapped.edges))
 
-  pub fits_mapped : (slots room : ℕ) → slots ≡ length old.nodes → slots ≤ room → node_bound new ≤ room
-  fits_mapped slots room many fits =
+  pub fits_mapped : (slots capacity : ℕ) → slots ≡ length old.nodes → slots ≤ capacity → node_bound new ≤ capacity
+  fits_mapped slots capacity many fits =
       omega (arith, bound_low new.nodes, mapped_length step_f of (λ w. w) (λ w v. v) f 0 old.nodes new.nodes mapped.nodes, many, fits)
 
   pub nodes_mapped : HaveSameNodes old new

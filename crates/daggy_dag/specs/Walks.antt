@@ -8,6 +8,7 @@ abbrev pub from_on : ℕ → List ℕ → List ℕ
 from_on e [] = []
 from_on e (x ∷ xs) = if x == e then x ∷ xs else from_on e xs
 
+-- the list of the edge x from e on, or nothing where there is no edge
 abbrev pub rest_with : {N E : Type 0} → Direction → Graph N E → ℕ → Option (Edge E) → List ℕ
 rest_with dir g e None = []
 rest_with dir g e (Some x) = from_on e (list_at dir g (near_end dir x))

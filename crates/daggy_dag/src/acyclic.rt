@@ -31,11 +31,11 @@ mod compact;
 mod comparing;
 mod debug;
 mod externals;
+mod from_slots;
 mod graph;
+mod many_edges;
 mod recursive;
 mod reduction;
-mod series;
-mod slots;
 mod stable;
 mod topological;
 mod visit;
@@ -226,7 +226,7 @@ where
     ) -> Result<EdgeIndex<Ix>, EdgeError<E>>
         requires parent { HasNode self.old.graph (Ix.number a) }
         requires child { HasNode self.old.graph (Ix.number b) }
-        requires room { edge_count_of self.old.graph < Ix.greatest }
+        requires index_left { edge_count_of self.old.graph < Ix.greatest }
         ensures cycle { (result ≡ Err (ByCycle (record { 0 = weight }))) ↔ Reaches self.old.graph (Ix.number b) (Ix.number a) }
         ensures refusal { IfErr result (λ e. (e ≡ ByCycle (record { 0 = weight })) ⊎ (e ≡ EdgeMemory weight)) }
         ensures added { IfOk result (λ e. (Ix.number e ≡ next_edge self.old.graph)
@@ -259,7 +259,7 @@ where
     ) -> Result<EdgeIndex<Ix>, EdgeError<E>>
         requires parent { HasNode self.old.graph (Ix.number a) }
         requires child { HasNode self.old.graph (Ix.number b) }
-        requires room { edge_between self.old.graph (Ix.number a) (Ix.number b) ≡ None → edge_count_of self.old.graph < Ix.greatest }
+        requires index_left { edge_between self.old.graph (Ix.number a) (Ix.number b) ≡ None → edge_count_of self.old.graph < Ix.greatest }
         ensures replaced { IfSome (edge_between self.old.graph (Ix.number a) (Ix.number b)) (λ e.
             IsOkAnd result (λ updated. Ix.number updated ≡ e) × (self.new ≡ with_graph self.old (with_edge_weight self.old.graph e weight))) }
         ensures cycle { (result ≡ Err (ByCycle (record { 0 = weight }))) ↔ Reaches self.old.graph (Ix.number b) (Ix.number a) }

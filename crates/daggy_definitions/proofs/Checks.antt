@@ -3,8 +3,8 @@ use Rattle.std.proofs.Common.{◌≡◌, ℕ, zero, suc, Bool, true, false, List
 use Rattle.std.proofs.lemmas.Bool.{false≢true}
 use Rattle.daggy_base.specs.Graph.{Graph, Edge, slot, edge_at}
 use Rattle.daggy_base.specs.Path.{AreJoined, Reaches, IsAcyclic, end_of}
-use Rattle.daggy_base.specs.Reduction.{ReachesRound, IsRedundant}
-use Rattle.daggy_base.proofs.Going.{path_stays, reaches_stays}
+use Rattle.daggy_base.specs.Reduction.{ReachesIndirectly, IsRedundant}
+use Rattle.daggy_base.proofs.SearchProgress.{path_stays, reaches_stays}
 use Rattle.daggy_definitions.specs.Examples.{line}
 
 abbrev pub same : ℕ → ℕ → Bool
@@ -109,7 +109,7 @@ module _ (g : Graph ℕ ℕ) where
       (same_itself u) in
       so (same w w) (before c x) (each_at (λ b. if_so (same b.parent w) (before c b.child)) g.edges first k.0 (line w x k.1) k.2) (same_itself w)
 
-  no_round : (u c : ℕ) → keeps_beyond c g ≡ true → passes u c g ≡ true → ReachesRound g u c → ⊥
+  no_round : (u c : ℕ) → keeps_beyond c g ≡ true → passes u c g ≡ true → ReachesIndirectly g u c → ⊥
   no_round u c h s r =
       let there : Beyond c (end_of r.1 r.2) =
       path_stays g (Beyond c) (beyond_on c h) r.1 r.2 r.3.2.2 (second u c s r.0 r.1 r.3.1 r.3.2.1) in
@@ -119,5 +119,5 @@ module _ (g : Graph ℕ ℕ) where
   not_redundant roots e u c w at h s r =
       let there : Some (line u c w) ≡ Some r.edge = sym at ∙ r.at in
       let it : line u c w ≡ r.edge = cc in
-      let P : Edge ℕ → Type 0 = λ x. ReachesRound g x.parent x.child in
+      let P : Edge ℕ → Type 0 = λ x. ReachesIndirectly g x.parent x.child in
       no_round u c h s (subst P (sym it) r.round)

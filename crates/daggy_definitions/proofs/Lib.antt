@@ -2,4 +2,4 @@ pub mod Checks
 pub mod Paths
 pub mod Reductions
 pub mod Rounds
-pub mod Clearing
+pub mod ClearedWeights

@@ -5,7 +5,7 @@ use Rattle.std.proofs.lemmas.Bool.{false≢true}
 use Rattle.daggy_base.specs.Graph.{Graph, Edge, HasNode, edge_at}
 use Rattle.daggy_base.specs.Path.{Reaches}
 use Rattle.daggy_base.specs.Removal.{Compact, without_edges}
-use Rattle.daggy_base.specs.Reduction.{IsBelow, ReachesRound, IsRedundant, IsReduction, Covers}
+use Rattle.daggy_base.specs.Reduction.{IsBelow, ReachesIndirectly, IsRedundant, IsReduction, Covers}
 use Rattle.daggy_base.proofs.Lists.{Mem, contains_mem, mem_contains}
 use Rattle.daggy_definitions.specs.Examples.{line, with_lines, shortcuts, doubled_step, turned_triangle}
 use Rattle.daggy_definitions.proofs.Checks.{not_redundant, not_reached}
@@ -15,7 +15,7 @@ module _ (g : Graph ℕ ℕ) (roots : List ℕ) where
   exactly : (es : List ℕ) → ((e : ℕ) → Mem e es → IsRedundant g roots e) → ((e : ℕ) → IsRedundant g roots e → Mem e es) → (e : ℕ) → Contains es e ↔ IsRedundant g roots e
   exactly es f h e = (λ c. f e (contains_mem _ _ c), λ r. mem_contains _ _ (h e r))
 
-  redundant_at : (e u v w : ℕ) → edge_at g e ≡ Some (line u v w) → IsBelow g roots u → ReachesRound g u v → IsRedundant g roots e
+  redundant_at : (e u v w : ℕ) → edge_at g e ≡ Some (line u v w) → IsBelow g roots u → ReachesIndirectly g u v → IsRedundant g roots e
   redundant_at e u v w at below round = record { edge = line u v w; at = at; below = below; round = round }
 
   here : (e k : ℕ) → e ≡ k → IsRedundant g roots k → IsRedundant g roots e

@@ -88,8 +88,8 @@ full_edges (suc (suc i)) h = cc
 
 pub round_is_well_formed : IsWellFormed 255 round
 round_is_well_formed = record {
-  out_rows = refl;
-  in_rows = refl;
+  out_list_count = refl;
+  in_list_count = refl;
   parents = λ e x h. (parts e x h).0;
   children = λ e x h. (parts e x h).1;
   out_of = record { exact = λ n e. (λ k. outs n e (contains_mem (out_list round n) e k), λ l. mem_contains (out_list round n) e (outs_back n e l)); once = outs_once };

@@ -2,7 +2,7 @@
 use Rattle.std.specs.Prelude.{◌≡◌, ℕ, ◌+◌, ◌==◌, Option, Some, None, [], ◌∷◌, if◌then◌else◌}
 use Rattle.std.specs.Borrow.{Bor}
 use Rattle.daggy_base.specs.Graph.{Graph}
-use Rattle.daggy_base.specs.FromSlots.{of_slots}
+use Rattle.daggy_base.specs.FromSlots.{graph_of_slots}
 use Rattle.daggy_definitions.specs.Examples.{line}
 
 abbrev pub unless_ten : ℕ → Option ℕ
@@ -18,4 +18,4 @@ numbers_its_calls f i shown r next = (r ≡ Some f) × (next ≡ f + 1)
 
 -- two nodes and the third edge
 abbrev pub kept : Graph ℕ ℕ
-kept = of_slots (None ∷ Some 20 ∷ Some 30 ∷ []) (None ∷ None ∷ Some (line 1 2 0) ∷ [])
+kept = graph_of_slots (None ∷ Some 20 ∷ Some 30 ∷ []) (None ∷ None ∷ Some (line 1 2 0) ∷ [])

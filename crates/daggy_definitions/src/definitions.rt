@@ -2,10 +2,10 @@
 
 pub mod adding;
 pub mod changing;
+pub mod compact_removal;
 pub mod finding;
 pub mod keeping;
-pub mod moving;
 pub mod paths;
 pub mod reducing;
-pub mod slots;
+pub mod stable_removal;
 pub mod walking;

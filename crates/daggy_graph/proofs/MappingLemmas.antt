@@ -6,7 +6,7 @@ use Rattle.daggy_cells.specs.declared.cell.Node.{Node}
 use Rattle.daggy_cells.specs.declared.cell.Edge.{Edge}
 use Rattle.daggy_base.specs.declared.index.Direction.{Direction}
 use Rattle.daggy_base.specs.declared.index.Direction.TheVariants.{Outgoing, Incoming}
-use Rattle.daggy_cells.specs.Links.{rows_of, IsLinked, ListsEach}
+use Rattle.daggy_cells.specs.Links.{linked_lists, AreLinkedLists, ListsEach}
 use Rattle.daggy_base.specs.Mapping.{IsMapped, weight_in, with_weight}
 use Rattle.daggy_cells.specs.MappedCells.{MapsCells, node_weight_in, node_with, edge_weight_in, edge_with}
 use Rattle.daggy_cells.specs.Raw.{raw_first, raw_next}
@@ -17,18 +17,18 @@ use Rattle.daggy_cells.proofs.MappingLemmas.{maps_keep, slots_from}
 -- a graph with the links of a stored graph
 module _ {N E V W Ix : Type 0} (end : ℕ) (nodes : List (Node N Ix)) (edges : List (Edge E Ix)) (nodes' : List (Node V Ix)) (edges' : List (Edge W Ix))
     (firsts : (d : Direction) → firsts_of d nodes' ≡ firsts_of d nodes) (nexts : (d : Direction) → nexts_of d edges' ≡ nexts_of d edges) where
-  pub same_rows : (d : Direction) → rows_of (firsts_of d nodes') (nexts_of d edges') ≡ rows_of (firsts_of d nodes) (nexts_of d edges)
-  same_rows d = ap (λ z. rows_of z (nexts_of d edges')) (firsts d) ∙ ap (rows_of (firsts_of d nodes)) (nexts d)
+  pub same_rows : (d : Direction) → linked_lists (firsts_of d nodes') (nexts_of d edges') ≡ linked_lists (firsts_of d nodes) (nexts_of d edges)
+  same_rows d = ap (λ z. linked_lists z (nexts_of d edges')) (firsts d) ∙ ap (linked_lists (firsts_of d nodes)) (nexts d)
 
-  linked_again : (d : Direction) → IsLinked end (firsts_of d nodes) (nexts_of d edges) (rows_of (firsts_of d nodes) (nexts_of d edges)) → IsLinked end (firsts_of d nodes') (nexts_of d edges') (rows_of (firsts_of d nodes') (nexts_of d edges'))
+  linked_again : (d : Direction) → AreLinkedLists end (firsts_of d nodes) (nexts_of d edges) (linked_lists (firsts_of d nodes) (nexts_of d edges)) → AreLinkedLists end (firsts_of d nodes') (nexts_of d edges') (linked_lists (firsts_of d nodes') (nexts_of d edges'))
   linked_again d s =
-      let one = subst (λ z. IsLinked end z (nexts_of d edges) (rows_of z (nexts_of d edges))) (sym (firsts d)) s in
-      subst (λ z. IsLinked end (firsts_of d nodes') z (rows_of (firsts_of d nodes') z)) (sym (nexts d)) one
+      let one = subst (λ z. AreLinkedLists end z (nexts_of d edges) (linked_lists z (nexts_of d edges))) (sym (firsts d)) s in
+      subst (λ z. AreLinkedLists end (firsts_of d nodes') z (linked_lists (firsts_of d nodes') z)) (sym (nexts d)) one
 
-  listed_again : (d : Direction) → ends_of d edges' ≡ ends_of d edges → ListsEach (ends_of d edges) (rows_of (firsts_of d nodes) (nexts_of d edges)) → ListsEach (ends_of d edges') (rows_of (firsts_of d nodes') (nexts_of d edges'))
+  listed_again : (d : Direction) → ends_of d edges' ≡ ends_of d edges → ListsEach (ends_of d edges) (linked_lists (firsts_of d nodes) (nexts_of d edges)) → ListsEach (ends_of d edges') (linked_lists (firsts_of d nodes') (nexts_of d edges'))
   listed_again d ends s =
       let one = subst (λ z. ListsEach (ends_of d edges) z) (sym (same_rows d)) s in
-      subst (λ z. ListsEach z (rows_of (firsts_of d nodes') (nexts_of d edges'))) (sym ends) one
+      subst (λ z. ListsEach z (linked_lists (firsts_of d nodes') (nexts_of d edges'))) (sym ends) one
 
   pub Stores-relinked : ((d : Direction) → ends_of d edges' ≡ ends_of d edges) → Stores end nodes edges (stored_graph nodes edges) → Stores end nodes' edges' (stored_graph nodes' edges')
   Stores-relinked ends s =

@@ -1,4 +1,4 @@
--- How an edge is taken out: out of its two rows, and the last edge into its place.
+-- How an edge is taken out: out of its two lists, and the last edge into its place.
 use Rattle.std.proofs.Common.{◌≡◌, ◌≢◌, ℕ, suc, ◌-◌, ◌<◌, ◌≤◌, List, map, length, get_or, set, take, Some, None, slice_get, refl, sym, ap, subst, ◌∙◌, arith, Contains}
 use Rattle.std.specs.List.{swap_remove}
 use Rattle.std.proofs.lemmas.List.{length-map, length-set, length-take-le}
@@ -9,12 +9,12 @@ use Rattle.daggy_cells.specs.declared.cell.Node.{Node}
 use Rattle.daggy_cells.specs.declared.cell.Edge.{Edge}
 use Rattle.daggy_base.specs.declared.index.Direction.{Direction}
 use Rattle.daggy_base.specs.declared.index.Direction.TheVariants.{Outgoing, Incoming}
-use Rattle.daggy_cells.specs.Links.{row, IsLinked, ListsEach}
+use Rattle.daggy_cells.specs.Links.{nth_list, AreLinkedLists, ListsEach}
 use Rattle.daggy_cells.specs.Raw.{raw_first, raw_next}
 use Rattle.daggy_cells.specs.Fields.{weight_of, plain_edge, end_at, firsts_of, nexts_of, ends_of, lists_at, IsReady, Redirects}
 use Rattle.daggy_graph.specs.Stored.{Stores, IsDetached}
-use Rattle.daggy_cells.proofs.Rows.{Contains-from_without, Contains-without}
-use Rattle.daggy_cells.proofs.Threads.{row-map, row_within, IsLinked-unlinked, IsLinked-renamed, IsLinked-cut, ListsEach-removed}
+use Rattle.daggy_cells.proofs.LinkedLists.{Contains-from_without, Contains-without}
+use Rattle.daggy_cells.proofs.LinkedListChanges.{row-map, row_within, AreLinkedLists-with_edge_unlinked, AreLinkedLists-renamed, AreLinkedLists-cut, ListsEach-removed}
 use Rattle.daggy_base.proofs.Lists.{IsSwapRemoved, IsSwapRemoved-from, IsSwapRemoved-mapped, map-swap_remove}
 use Rattle.daggy_cells.proofs.RedirectLemmas.{Ready-from, Redirected-row, Step}
 
@@ -22,7 +22,7 @@ module _ {N E Ix : Type 0} (end : ℕ) (nodes : List (Node N Ix)) (edges : List 
   stands : (f : ℕ) → f < length edges → slice_get (ends_of dir edges) f ≡ Some (get_or (ends_of dir edges) f 0)
   stands f f_in = slice_get-get_or (ends_of dir edges) f 0 (omega (arith, f_in, length-map edges (end_at dir)))
 
-  there : (f : ℕ) → f < length edges → Contains (row (lists_at dir g) (get_or (ends_of dir edges) f 0)) f
+  there : (f : ℕ) → f < length edges → Contains (nth_list (lists_at dir g) (get_or (ends_of dir edges) f 0)) f
   there f f_in = (s.listed dir (get_or (ends_of dir edges) f 0) f).1 (stands f f_in)
 
   n_in : (f : ℕ) → f < length edges → get_or (ends_of dir edges) f 0 < length nodes
@@ -36,58 +36,58 @@ module _ {N E Ix : Type 0} (end : ℕ) (nodes : List (Node N Ix)) (edges : List 
       nodes_long : length nodes' ≡ length nodes
       nodes_long = sym (length-map nodes' (raw_first dir)) ∙ ap length firsts_same ∙ length-map nodes (raw_first dir)
 
-      linked' : IsLinked end (firsts_of dir nodes') (nexts_of dir edges') (lists_at dir g)
-      linked' = subst (λ z. IsLinked end z (nexts_of dir edges') (lists_at dir g)) (sym firsts_same) (subst (λ z. IsLinked end (firsts_of dir nodes) z (lists_at dir g)) (sym nexts_same) (s.linked dir))
+      linked' : AreLinkedLists end (firsts_of dir nodes') (nexts_of dir edges') (lists_at dir g)
+      linked' = subst (λ z. AreLinkedLists end z (nexts_of dir edges') (lists_at dir g)) (sym firsts_same) (subst (λ z. AreLinkedLists end (firsts_of dir nodes) z (lists_at dir g)) (sym nexts_same) (s.linked dir))
 
-      -- before e is taken out of its row
+      -- before e is taken out of its list
       pub unlink_ready : IsReady end dir nodes' edges' e
       unlink_ready = Ready-from end dir nodes' edges' (lists_at dir g) e _ linked' (ap (λ l. get_or l e 0) ends_same) (omega (arith, n_in e e_in, nodes_long)) (omega (arith, e_in, long')) (omega (arith, s.few_edges, long')) (there e e_in)
 
-      pub unlinked_links : (new : ℕ) (nodes'' : List (Node N Ix)) (edges'' : List (Edge E Ix)) → new ≡ get_or (nexts_of dir edges) e 0 → Redirects dir nodes' edges' e new nodes'' edges'' → IsLinked end (firsts_of dir nodes'') (nexts_of dir edges'') (map (without e) (lists_at dir g))
+      pub unlinked_links : (new : ℕ) (nodes'' : List (Node N Ix)) (edges'' : List (Edge E Ix)) → new ≡ get_or (nexts_of dir edges) e 0 → Redirects dir nodes' edges' e new nodes'' edges'' → AreLinkedLists end (firsts_of dir nodes'') (nexts_of dir edges'') (map (without e) (lists_at dir g))
       unlinked_links new nodes'' edges'' new_is red =
           let n_in' : get_or (ends_of dir edges) e 0 < length nodes' = omega (arith, n_in e e_in, nodes_long) in
           let goes : slice_get (nexts_of dir edges') e ≡ Some new = ap (λ l. slice_get l e) nexts_same ∙ slice_get-get_or (nexts_of dir edges) e 0 (omega (arith, e_in, length-map edges (raw_next dir))) ∙ ap Some (sym new_is) in
-          IsLinked-unlinked end (firsts_of dir nodes') (nexts_of dir edges') _ _ (slice_get (ends_of dir edges)) (lists_at dir g) (get_or (ends_of dir edges) e 0) e new linked' (s.listed dir) (stands e e_in)
+          AreLinkedLists-with_edge_unlinked end (firsts_of dir nodes') (nexts_of dir edges') _ _ (slice_get (ends_of dir edges)) (lists_at dir g) (get_or (ends_of dir edges) e 0) e new linked' (s.listed dir) (stands e e_in)
           (omega (arith, n_in', length-map nodes' (raw_first dir))) (omega (arith, e_in, s.few_edges)) goes
           (Redirected-row end dir nodes' edges' (lists_at dir g) e _ new nodes'' edges'' linked' (ap (λ l. get_or l e 0) ends_same) n_in' (omega (arith, s.few_edges, long')) red)
 
-    module _ (unlinked : IsLinked end (firsts_of dir nodes') (nexts_of dir edges') (map (without e) (lists_at dir g))) where
+    module _ (with_edge_unlinked : AreLinkedLists end (firsts_of dir nodes') (nexts_of dir edges') (map (without e) (lists_at dir g))) where
       nodes_kept : length nodes' ≡ length nodes
-      nodes_kept = sym (length-map nodes' (raw_first dir)) ∙ sym unlinked.rows ∙ length-map (lists_at dir g) (without e) ∙ (s.linked dir).rows ∙ length-map nodes (raw_first dir)
+      nodes_kept = sym (length-map nodes' (raw_first dir)) ∙ sym with_edge_unlinked.rows ∙ length-map (lists_at dir g) (without e) ∙ (s.linked dir).rows ∙ length-map nodes (raw_first dir)
 
-      kept_row : (m f : ℕ) → Contains (row (map (without e) (lists_at dir g)) m) f → Contains (row (lists_at dir g) m) f × (f ≢ e)
-      kept_row m f p = Contains-from_without e f (row (lists_at dir g) m) (subst (λ l. Contains l f) (row-map (without e) refl (lists_at dir g) m) p)
+      kept_row : (m f : ℕ) → Contains (nth_list (map (without e) (lists_at dir g)) m) f → Contains (nth_list (lists_at dir g) m) f × (f ≢ e)
+      kept_row m f p = Contains-from_without e f (nth_list (lists_at dir g) m) (subst (λ l. Contains l f) (row-map (without e) refl (lists_at dir g) m) p)
 
-      apart_rows : (m k f : ℕ) → Contains (row (map (without e) (lists_at dir g)) m) f → Contains (row (map (without e) (lists_at dir g)) k) f → m ≡ k
+      apart_rows : (m k f : ℕ) → Contains (nth_list (map (without e) (lists_at dir g)) m) f → Contains (nth_list (map (without e) (lists_at dir g)) k) f → m ≡ k
       apart_rows m k f p q = same_Some m k (sym ((s.listed dir m f).0 (kept_row m f p).0) ∙ (s.listed dir k f).0 (kept_row k f q).0)
 
-      no_e : (m : ℕ) → ¬ Contains (row (map (without e) (lists_at dir g)) m) e
+      no_e : (m : ℕ) → ¬ Contains (nth_list (map (without e) (lists_at dir g)) m) e
       no_e m p = (kept_row m e p).1 refl
 
-      last_there : e ≢ last → Contains (row (map (without e) (lists_at dir g)) (get_or (ends_of dir edges) last 0)) last
+      last_there : e ≢ last → Contains (nth_list (map (without e) (lists_at dir g)) (get_or (ends_of dir edges) last 0)) last
       last_there differs = subst (λ l. Contains l last) (sym (row-map (without e) refl (lists_at dir g) _)) (Contains-without e last _ (λ q. differs (sym q)) (there last (omega (arith, long))))
 
       -- before the last edge is renamed
       pub rename_ready : e ≢ last → IsReady end dir nodes' edges' last
       rename_ready differs =
-          Ready-from end dir nodes' edges' (map (without e) (lists_at dir g)) last _ unlinked (ap (λ l. get_or l last 0) ends_same) (omega (arith, n_in last (omega (arith, long)), nodes_kept)) (omega (arith, long, long')) (omega (arith, s.few_edges, long')) (last_there differs)
+          Ready-from end dir nodes' edges' (map (without e) (lists_at dir g)) last _ with_edge_unlinked (ap (λ l. get_or l last 0) ends_same) (omega (arith, n_in last (omega (arith, long)), nodes_kept)) (omega (arith, long, long')) (omega (arith, s.few_edges, long')) (last_there differs)
 
       pub renamed_links : (nodes'' : List (Node N Ix)) (edges'' : List (Edge E Ix)) (nexts : List ℕ) → e ≢ last → Redirects dir nodes' edges' last e nodes'' edges'' → IsSwapRemoved (nexts_of dir edges'') nexts e last
-          → IsLinked end (firsts_of dir nodes'') nexts (map (map (renamed last e)) (map (without e) (lists_at dir g)))
+          → AreLinkedLists end (firsts_of dir nodes'') nexts (map (map (renamed last e)) (map (without e) (lists_at dir g)))
       renamed_links nodes'' edges'' nexts differs red moves =
           let n_in' : get_or (ends_of dir edges) last 0 < length nodes' = omega (arith, n_in last (omega (arith, long)), nodes_kept) in
-          IsLinked-renamed end (firsts_of dir nodes') (nexts_of dir edges') _ _ nexts (map (without e) (lists_at dir g)) (get_or (ends_of dir edges) last 0) e last unlinked apart_rows no_e (last_there differs)
+          AreLinkedLists-renamed end (firsts_of dir nodes') (nexts_of dir edges') _ _ nexts (map (without e) (lists_at dir g)) (get_or (ends_of dir edges) last 0) e last with_edge_unlinked apart_rows no_e (last_there differs)
           (omega (arith, n_in', length-map nodes' (raw_first dir))) (omega (arith, long, long', length-map edges' (raw_next dir))) (omega (arith, long, s.few_edges)) differs
-          (Redirected-row end dir nodes' edges' (map (without e) (lists_at dir g)) last _ e nodes'' edges'' unlinked (ap (λ l. get_or l last 0) ends_same) n_in' (omega (arith, s.few_edges, long')) red) moves
+          (Redirected-row end dir nodes' edges' (map (without e) (lists_at dir g)) last _ e nodes'' edges'' with_edge_unlinked (ap (λ l. get_or l last 0) ends_same) n_in' (omega (arith, s.few_edges, long')) red) moves
 
       -- e is the last edge
-      pub cut_links : (nexts : List ℕ) → e ≡ last → IsSwapRemoved (nexts_of dir edges') nexts e last → IsLinked end (firsts_of dir nodes') nexts (map (map (renamed last e)) (map (without e) (lists_at dir g)))
-      cut_links nexts same moves = IsLinked-cut end _ _ nexts _ e last unlinked no_e (omega (arith, long, long', length-map edges' (raw_next dir))) same moves
+      pub cut_links : (nexts : List ℕ) → e ≡ last → IsSwapRemoved (nexts_of dir edges') nexts e last → AreLinkedLists end (firsts_of dir nodes') nexts (map (map (renamed last e)) (map (without e) (lists_at dir g)))
+      cut_links nexts same moves = AreLinkedLists-cut end _ _ nexts _ e last with_edge_unlinked no_e (omega (arith, long, long', length-map edges' (raw_next dir))) same moves
 
 -- all of it
 pub IsDetached-from : {N E Ix : Type 0} (end : ℕ) (nodes : List (Node N Ix)) (edges : List (Edge E Ix)) (g : Graph N E) (s : Stores end nodes edges g) (e last : ℕ) → e < length edges → length edges ≡ suc last
     → (nodes' : List (Node N Ix)) (edges' : List (Edge E Ix)) → map weight_of nodes' ≡ map weight_of nodes → map plain_edge edges' ≡ map plain_edge edges → ((d : Direction) → ends_of d edges' ≡ ends_of d edges)
-    → ((d : Direction) (nexts : List ℕ) → IsSwapRemoved (nexts_of d edges') nexts e last → IsLinked end (firsts_of d nodes') nexts (map (map (renamed last e)) (map (without e) (lists_at d g))))
+    → ((d : Direction) (nexts : List ℕ) → IsSwapRemoved (nexts_of d edges') nexts e last → AreLinkedLists end (firsts_of d nodes') nexts (map (map (renamed last e)) (map (without e) (lists_at d g))))
     → IsDetached end g e nodes' edges'
 IsDetached-from end nodes edges g s e last e_in long nodes' edges' weights plain ends links x =
     let edges_long : length edges' ≡ length edges = sym (length-map edges' plain_edge) ∙ ap length plain ∙ length-map edges plain_edge in
@@ -97,7 +97,7 @@ IsDetached-from end nodes edges g s e last e_in long nodes' edges' weights plain
     let listed : (d : Direction) → ListsEach (ends_of d (swap_remove edges' e x)) (map (map (renamed last e)) (map (without e) (lists_at d g))) =
     λ d. ListsEach-removed (ends_of d edges') (ends_of d (swap_remove edges' e x)) (lists_at d g) e last (subst (λ l. ListsEach l (lists_at d g)) (sym (ends d)) (s.listed d)) (omega (arith, e_in, edges_long, length-map edges' (end_at d)))
     (IsSwapRemoved-mapped (end_at d) edges' (swap_remove edges' e x) e last moves) in
-    let linked : (d : Direction) → IsLinked end (firsts_of d nodes') (nexts_of d (swap_remove edges' e x)) (map (map (renamed last e)) (map (without e) (lists_at d g))) =
+    let linked : (d : Direction) → AreLinkedLists end (firsts_of d nodes') (nexts_of d (swap_remove edges' e x)) (map (map (renamed last e)) (map (without e) (lists_at d g))) =
     λ d. links d (nexts_of d (swap_remove edges' e x)) (IsSwapRemoved-mapped (raw_next d) edges' (swap_remove edges' e x) e last moves) in
     let shorter : length (swap_remove edges' e x) ≤ length edges' = omega (arith, length-take-le (length edges' - 1) (set edges' e (get_or edges' (length edges' - 1) x)) (omega (arith, length-set edges' e (get_or edges' (length edges' - 1) x)))) in
     rw count (
@@ -112,8 +112,8 @@ IsDetached-from end nodes edges g s e last e_in long nodes' edges' weights plain
       few_edges = omega (arith, s.few_edges, edges_long, shorter);
     })
 
-IsLinked-seen : {end : ℕ} {lists : List (List ℕ)} (firsts firsts' nexts nexts' : List ℕ) → firsts' ≡ firsts → nexts' ≡ nexts → IsLinked end firsts nexts lists → IsLinked end firsts' nexts' lists
-IsLinked-seen firsts firsts' nexts nexts' p q l = rw (p, q) l
+AreLinkedLists-seen : {end : ℕ} {lists : List (List ℕ)} (firsts firsts' nexts nexts' : List ℕ) → firsts' ≡ firsts → nexts' ≡ nexts → AreLinkedLists end firsts nexts lists → AreLinkedLists end firsts' nexts' lists
+AreLinkedLists-seen firsts firsts' nexts nexts' p q l = rw (p, q) l
 
 -- the calls that `detach` makes, in turn
 module _ {N E Ix : Type 0} (end : ℕ) (nodes : List (Node N Ix)) (edges : List (Edge E Ix)) (g : Graph N E) (s : Stores end nodes edges g) (e last : ℕ) (e_in : e < length edges) (long : length edges ≡ suc last) where
@@ -121,7 +121,7 @@ module _ {N E Ix : Type 0} (end : ℕ) (nodes : List (Node N Ix)) (edges : List 
   ready_1 = unlink_ready end nodes edges g s e last e_in long Outgoing nodes edges refl refl refl
 
   module _ (out : ℕ) (out_is : out ≡ get_or (nexts_of Outgoing edges) e 0) (n1 : List (Node N Ix)) (e1 : List (Edge E Ix)) (s1 : Step Outgoing nodes edges e out n1 e1) where
-    out_1 : IsLinked end (firsts_of Outgoing n1) (nexts_of Outgoing e1) (map (without e) (lists_at Outgoing g))
+    out_1 : AreLinkedLists end (firsts_of Outgoing n1) (nexts_of Outgoing e1) (map (without e) (lists_at Outgoing g))
     out_1 = unlinked_links end nodes edges g s e last e_in long Outgoing nodes edges refl refl refl out n1 e1 out_is s1.links
 
     pub ready_2 : IsReady end Incoming n1 e1 e
@@ -131,10 +131,10 @@ module _ {N E Ix : Type 0} (end : ℕ) (nodes : List (Node N Ix)) (edges : List 
       ends_2 : (d : Direction) → ends_of d e2 ≡ ends_of d edges
       ends_2 d = s2.keeps_edges.ends d ∙ s1.keeps_edges.ends d
 
-      out_2 : IsLinked end (firsts_of Outgoing n2) (nexts_of Outgoing e2) (map (without e) (lists_at Outgoing g))
-      out_2 = IsLinked-seen _ _ _ _ s2.keeps.firsts s2.keeps_edges.nexts out_1
+      out_2 : AreLinkedLists end (firsts_of Outgoing n2) (nexts_of Outgoing e2) (map (without e) (lists_at Outgoing g))
+      out_2 = AreLinkedLists-seen _ _ _ _ s2.keeps.firsts s2.keeps_edges.nexts out_1
 
-      in_2 : IsLinked end (firsts_of Incoming n2) (nexts_of Incoming e2) (map (without e) (lists_at Incoming g))
+      in_2 : AreLinkedLists end (firsts_of Incoming n2) (nexts_of Incoming e2) (map (without e) (lists_at Incoming g))
       in_2 = unlinked_links end nodes edges g s e last e_in long Incoming n1 e1 (s1.keeps_edges.ends Incoming) s1.keeps.firsts s1.keeps_edges.nexts into n2 e2 into_is s2.links
 
       pub ready_3 : e ≢ last → IsReady end Outgoing n2 e2 last
@@ -151,8 +151,8 @@ module _ {N E Ix : Type 0} (end : ℕ) (nodes : List (Node N Ix)) (edges : List 
         ends_3 : (d : Direction) → ends_of d e3 ≡ ends_of d edges
         ends_3 d = s3.keeps_edges.ends d ∙ ends_2 d
 
-        in_3 : IsLinked end (firsts_of Incoming n3) (nexts_of Incoming e3) (map (without e) (lists_at Incoming g))
-        in_3 = IsLinked-seen _ _ _ _ s3.keeps.firsts s3.keeps_edges.nexts in_2
+        in_3 : AreLinkedLists end (firsts_of Incoming n3) (nexts_of Incoming e3) (map (without e) (lists_at Incoming g))
+        in_3 = AreLinkedLists-seen _ _ _ _ s3.keeps.firsts s3.keeps_edges.nexts in_2
 
         pub ready_4 : e ≢ last → IsReady end Incoming n3 e3 last
         ready_4 differs = rename_ready end nodes edges g s e last e_in long Incoming n3 e3 (ends_3 Incoming) in_3 differs
@@ -164,6 +164,6 @@ module _ {N E Ix : Type 0} (end : ℕ) (nodes : List (Node N Ix)) (edges : List 
               (λ d. s4.keeps_edges.ends d ∙ ends_3 d) (elim [
                 | Outgoing ↦ λ nexts moves.
                     let at_3 = renamed_links end nodes edges g s e last e_in long Outgoing n2 e2 (ends_2 Outgoing) out_2 n3 e3 nexts differs s3.links (subst (λ l. IsSwapRemoved l nexts e last) s4.keeps_edges.nexts moves) in
-                    IsLinked-seen _ _ _ _ s4.keeps.firsts refl at_3
+                    AreLinkedLists-seen _ _ _ _ s4.keeps.firsts refl at_3
                 | Incoming ↦ λ nexts moves. renamed_links end nodes edges g s e last e_in long Incoming n3 e3 (ends_3 Incoming) in_3 n4 e4 nexts differs s4.links moves
               ])

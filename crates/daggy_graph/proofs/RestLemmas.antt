@@ -11,14 +11,14 @@ use Rattle.daggy_base.specs.Graph.{slot, list_at}
 use Rattle.daggy_cells.specs.declared.cell.Node.{Node}
 use Rattle.daggy_cells.specs.declared.cell.Edge.{Edge}
 use Rattle.daggy_base.specs.Iterating.{edges_at}
-use Rattle.daggy_cells.specs.Links.{row, IsRow}
+use Rattle.daggy_cells.specs.Links.{nth_list, IsLinkedList}
 use Rattle.daggy_cells.specs.Raw.{raw_next}
-use Rattle.daggy_cells.specs.Rest.{edges_left, IsOnRow}
-use Rattle.daggy_cells.specs.Fields.{nexts_of, firsts_of, walk, plain, plain_edge, lists_at}
+use Rattle.daggy_cells.specs.Rest.{edges_left, IsOnList}
+use Rattle.daggy_cells.specs.Fields.{nexts_of, firsts_of, list_from, plain, plain_edge, lists_at}
 use Rattle.daggy_graph.specs.Stored.{stored_graph, Stores}
-use Rattle.daggy_cells.proofs.Rows.{row_is}
+use Rattle.daggy_cells.proofs.LinkedLists.{row_is}
 use Rattle.daggy_base.proofs.Lists.{Contains-nil}
-use Rattle.daggy_cells.proofs.Threads.{row_past}
+use Rattle.daggy_cells.proofs.LinkedListChanges.{row_past}
 use Rattle.daggy_cells.proofs.RestLemmas.{at_index}
 
 same_edge : {E Ix : Type 0} (edges : List (Edge E Ix)) (j i : ℕ) → option_map (λ x. at_index j (plain x)) (slice_get edges i) ≡ option_map (λ x. at_index j x) (slot (map plain_edge edges) i)
@@ -30,7 +30,7 @@ filter_map_same : {A : Type 0} (h k : ℕ → Option A) → ((i : ℕ) → h i �
 filter_map_same h k same [] = refl
 filter_map_same h k same (x ∷ xs) = rw (same x, filter_map_same h k same xs) refl
 
-list_is : {N E Ix : Type 0} (nodes : List (Node N Ix)) (edges : List (Edge E Ix)) (dir : Direction) (n : ℕ) → row (lists_at dir (stored_graph nodes edges)) n ≡ list_at dir (stored_graph nodes edges) n
+list_is : {N E Ix : Type 0} (nodes : List (Node N Ix)) (edges : List (Edge E Ix)) (dir : Direction) (n : ℕ) → nth_list (lists_at dir (stored_graph nodes edges)) n ≡ list_at dir (stored_graph nodes edges) n
 list_is nodes edges Outgoing n = refl
 list_is nodes edges Incoming n = refl
 
@@ -39,26 +39,26 @@ module _ {N E Ix : Type 0} (end : ℕ) (nodes : List (Node N Ix)) (edges : List 
   long : length (nexts_of dir edges) ≡ length edges
   long = length-map edges (raw_next dir)
 
-  first : e ≡ first_of end (row (lists_at dir (stored_graph nodes edges)) n)
+  first : e ≡ first_of end (nth_list (lists_at dir (stored_graph nodes edges)) n)
   first = is ∙ ap (first_of end) (sym (list_is nodes edges dir n))
 
   -- a walk that begins with the first of a node's list
-  begins : IsRow end (nexts_of dir edges) e (row (lists_at dir (stored_graph nodes edges)) n)
+  begins : IsLinkedList end (nexts_of dir edges) e (nth_list (lists_at dir (stored_graph nodes edges)) n)
   begins =
       elim (cases_lt n (length (firsts_of dir nodes))) [
-        | inl within ↦ subst (λ z. IsRow end (nexts_of dir edges) z (row (lists_at dir (stored_graph nodes edges)) n)) (((s.linked dir).each n within).starts ∙ sym first) ((s.linked dir).each n within)
+        | inl within ↦ subst (λ z. IsLinkedList end (nexts_of dir edges) z (nth_list (lists_at dir (stored_graph nodes edges)) n)) (((s.linked dir).each n within).starts ∙ sym first) ((s.linked dir).each n within)
         | inr past ↦ none (row_past (lists_at dir (stored_graph nodes edges)) n (omega (arith, past, (s.linked dir).rows)))
       ]
     where
-      none : row (lists_at dir (stored_graph nodes edges)) n ≡ [] → IsRow end (nexts_of dir edges) e (row (lists_at dir (stored_graph nodes edges)) n)
+      none : nth_list (lists_at dir (stored_graph nodes edges)) n ≡ [] → IsLinkedList end (nexts_of dir edges) e (nth_list (lists_at dir (stored_graph nodes edges)) n)
       none empty =
-          subst (IsRow end (nexts_of dir edges) e) (sym empty) (record { starts = first ∙ ap (first_of end) empty; distinct = tt; goes_on = λ f p. absurd (Contains-nil f p) })
+          subst (IsLinkedList end (nexts_of dir edges) e) (sym empty) (record { starts = first ∙ ap (first_of end) empty; distinct = tt; goes_on = λ f p. absurd (Contains-nil f p) })
 
-  walk_begins : walk dir edges e ≡ row (lists_at dir (stored_graph nodes edges)) n
+  walk_begins : list_from dir edges e ≡ nth_list (lists_at dir (stored_graph nodes edges)) n
   walk_begins = row_is end e (nexts_of dir edges) _ begins (omega (arith, s.few_edges, long))
 
-  pub IsOnRow-begins : IsOnRow end dir edges e
-  IsOnRow-begins = record { row = subst (IsRow end (nexts_of dir edges) e) (sym walk_begins) begins; few = s.few_edges }
+  pub IsOnList-begins : IsOnList end dir edges e
+  IsOnList-begins = record { linked = subst (IsLinkedList end (nexts_of dir edges) e) (sym walk_begins) begins; few = s.few_edges }
 
   pub edges_begin : edges_left dir edges e ≡ edges_at dir (stored_graph nodes edges) n
   edges_begin =

@@ -8,11 +8,11 @@ use Rattle.daggy_base.specs.Adding.{with_node, with_edge}
 use Rattle.daggy_cells.specs.declared.cell.Node.{Node}
 use Rattle.daggy_cells.specs.declared.cell.Edge.{Edge}
 use Rattle.daggy_base.specs.declared.index.Direction.TheVariants.{Outgoing, Incoming}
-use Rattle.daggy_base.specs.Weights.{reweighed}
+use Rattle.daggy_base.specs.Weights.{edge_with_weight}
 use Rattle.daggy_cells.specs.Raw.{raw_first, raw_next}
-use Rattle.daggy_cells.specs.Fields.{weight_of, plain_edge, end_at, firsts_of, walks}
+use Rattle.daggy_cells.specs.Fields.{weight_of, plain_edge, end_at, firsts_of, lists_from}
 use Rattle.daggy_graph.specs.Stored.{stored_graph, Stores}
-use Rattle.daggy_cells.proofs.Threads.{rows_are, IsLinked-node, ListsEach-node, IsLinked-edge, ListsEach-edge}
+use Rattle.daggy_cells.proofs.LinkedListChanges.{rows_are, AreLinkedLists-node, ListsEach-node, AreLinkedLists-edge, ListsEach-edge}
 use Rattle.daggy_base.proofs.Lists.{map-set_same}
 use Rattle.daggy_base.proofs.MappedSlots.{slot_is}
 use Rattle.daggy_cells.proofs.FieldLemmas.{same_graph}
@@ -21,8 +21,8 @@ module _ {N E Ix : Type 0} (end : ℕ) (nodes : List (Node N Ix)) (edges : List 
   -- what is stored is what the view shows
   pub stored_is : (g : Graph N E) → Stores end nodes edges g → stored_graph nodes edges ≡ g
   stored_is g s =
-      let out : walks Outgoing nodes edges ≡ g.out_lists = rows_are end _ _ _ (s.linked Outgoing) (omega (arith, s.few_edges, length-map edges (raw_next Outgoing))) in
-      let into : walks Incoming nodes edges ≡ g.in_lists = rows_are end _ _ _ (s.linked Incoming) (omega (arith, s.few_edges, length-map edges (raw_next Incoming))) in
+      let out : lists_from Outgoing nodes edges ≡ g.out_lists = rows_are end _ _ _ (s.linked Outgoing) (omega (arith, s.few_edges, length-map edges (raw_next Outgoing))) in
+      let into : lists_from Incoming nodes edges ≡ g.in_lists = rows_are end _ _ _ (s.linked Incoming) (omega (arith, s.few_edges, length-map edges (raw_next Incoming))) in
       same_graph g (sym s.nodes_are) (sym s.edges_are) out into (sym s.no_vacant_node) (sym s.no_vacant_edge)
 
   pub Stores-itself : (g : Graph N E) → Stores end nodes edges g → Stores end nodes edges (stored_graph nodes edges)
@@ -40,8 +40,8 @@ module _ {N E Ix : Type 0} (end : ℕ) (nodes : List (Node N Ix)) (edges : List 
         no_vacant_node = refl;
         no_vacant_edge = s.no_vacant_edge;
         linked = elim [
-          | Outgoing ↦ rw (map_push (raw_first Outgoing) nodes x) (IsLinked-node end _ _ _ (s.linked Outgoing))
-          | Incoming ↦ rw (map_push (raw_first Incoming) nodes x) (IsLinked-node end _ _ _ (s.linked Incoming))
+          | Outgoing ↦ rw (map_push (raw_first Outgoing) nodes x) (AreLinkedLists-node end _ _ _ (s.linked Outgoing))
+          | Incoming ↦ rw (map_push (raw_first Incoming) nodes x) (AreLinkedLists-node end _ _ _ (s.linked Incoming))
         ];
         listed = elim [
           | Outgoing ↦ ListsEach-node _ _ (s.listed Outgoing)
@@ -67,8 +67,8 @@ module _ {N E Ix : Type 0} (end : ℕ) (nodes : List (Node N Ix)) (edges : List 
         no_vacant_node = s.no_vacant_node;
         no_vacant_edge = refl;
         linked = elim [
-          | Outgoing ↦ rw (outs, map_push (raw_next Outgoing) edges x) (IsLinked-edge end _ _ _ u (length edges) (sym (length-map edges (raw_next Outgoing))) (s.linked Outgoing) (omega (arith, u_in, length-map nodes (raw_first Outgoing))))
-          | Incoming ↦ rw (ins, map_push (raw_next Incoming) edges x) (IsLinked-edge end _ _ _ v (length edges) (sym (length-map edges (raw_next Incoming))) (s.linked Incoming) (omega (arith, v_in, length-map nodes (raw_first Incoming))))
+          | Outgoing ↦ rw (outs, map_push (raw_next Outgoing) edges x) (AreLinkedLists-edge end _ _ _ u (length edges) (sym (length-map edges (raw_next Outgoing))) (s.linked Outgoing) (omega (arith, u_in, length-map nodes (raw_first Outgoing))))
+          | Incoming ↦ rw (ins, map_push (raw_next Incoming) edges x) (AreLinkedLists-edge end _ _ _ v (length edges) (sym (length-map edges (raw_next Incoming))) (s.linked Incoming) (omega (arith, v_in, length-map nodes (raw_first Incoming))))
         ];
         listed = elim [
           | Outgoing ↦ rw (map_push (end_at Outgoing) edges x) (ListsEach-edge _ _ u (length edges) (sym (length-map edges (end_at Outgoing))) (omega (arith, u_in, length-map nodes (raw_first Outgoing), (s.linked Outgoing).rows)) (s.listed Outgoing))
@@ -114,13 +114,13 @@ module _ {N E Ix : Type 0} (nodes : List (Node N Ix)) (edges : List (Edge E Ix))
       ap (λ o. unwrap_or (option_map (λ z. eqb z.child v) o) false) (slot_is P edges e x within is)
 
 pub Stores-edge_weight : {N E Ix : Type 0} (end : ℕ) (nodes : List (Node N Ix)) (edges : List (Edge E Ix)) (g : Graph N E) → Stores end nodes edges g → (e : ℕ) (w : E) (x : Edge E Ix) → e < length edges → x ≡ get_or edges e x
-    → Stores end nodes (set edges e (record x { weight = w })) (record g { edges = set g.edges e (option_map (reweighed w) (slot g.edges e)) })
+    → Stores end nodes (set edges e (record x { weight = w })) (record g { edges = set g.edges e (option_map (edge_with_weight w) (slot g.edges e)) })
 Stores-edge_weight {N} {E} {Ix} end nodes edges g s e w x within is =
     let P : Edge E Ix → PlainEdge E = λ z. record { parent = z.parent; child = z.child; weight = z.weight } in
     let slot_e : slot g.edges e ≡ Some (P x) = ap (λ l. slot l e) s.edges_are ∙ slot_is P edges e x within is in
     record {
       nodes_are = s.nodes_are;
-      edges_are = ap (λ o. set g.edges e (option_map (reweighed w) o)) slot_e ∙ ap (λ l. set l e (plain_edge (record x { weight = w }))) s.edges_are ∙ sym (map-set plain_edge edges e _);
+      edges_are = ap (λ o. set g.edges e (option_map (edge_with_weight w) o)) slot_e ∙ ap (λ l. set l e (plain_edge (record x { weight = w }))) s.edges_are ∙ sym (map-set plain_edge edges e _);
       no_vacant_node = s.no_vacant_node;
       no_vacant_edge = s.no_vacant_edge;
       linked = elim [

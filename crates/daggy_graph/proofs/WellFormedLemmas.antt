@@ -11,12 +11,12 @@ use Rattle.daggy_cells.specs.declared.cell.Node.{Node}
 use Rattle.daggy_cells.specs.declared.cell.Edge.{Edge}
 use Rattle.daggy_base.specs.declared.index.Direction.{Direction}
 use Rattle.daggy_base.specs.declared.index.Direction.TheVariants.{Outgoing, Incoming}
-use Rattle.daggy_cells.specs.Links.{row}
+use Rattle.daggy_cells.specs.Links.{nth_list}
 use Rattle.daggy_cells.specs.Raw.{raw_first, raw_next}
 use Rattle.daggy_cells.specs.Fields.{weight_of, plain, plain_edge, end_at, firsts_of, ends_of, lists_at}
 use Rattle.daggy_graph.specs.Stored.{stored_graph, Stores}
 use Rattle.daggy_base.proofs.Lists.{Contains-nil, slice_get_mapped}
-use Rattle.daggy_cells.proofs.Threads.{row_within, row_past}
+use Rattle.daggy_cells.proofs.LinkedListChanges.{row_within, row_past}
 use Rattle.daggy_cells.proofs.FieldLemmas.{firsts_as_many}
 use Rattle.daggy_graph.proofs.StoredLemmas.{stored_is, Stores-itself}
 use Rattle.daggy_base.proofs.MappedSlots.{slot_holds, slot_is}
@@ -49,7 +49,7 @@ module _ {N E Ix : Type 0} (end : ℕ) (nodes : List (Node N Ix)) (edges : List 
   pub IsWellFormed-stored : (g : Graph N E) → Stores end nodes edges g → IsWellFormed end g
   IsWellFormed-stored g t = subst (IsWellFormed end) (stored_is end nodes edges g t) whole
     where
-      distinct : (dir : Direction) → Stores end nodes edges (stored_graph nodes edges) → (n : ℕ) → AreDistinct (row (lists_at dir (stored_graph nodes edges)) n)
+      distinct : (dir : Direction) → Stores end nodes edges (stored_graph nodes edges) → (n : ℕ) → AreDistinct (nth_list (lists_at dir (stored_graph nodes edges)) n)
       distinct dir s n =
           elim (cases_lt n (length (firsts_of dir nodes))) [
             | inl within ↦ ((s.linked dir).each n within).distinct
@@ -63,10 +63,10 @@ module _ {N E Ix : Type 0} (end : ℕ) (nodes : List (Node N Ix)) (edges : List 
           λ dir e x p.
           let there = (s.listed dir (near_end dir x) e).1 (end_stored dir edges e x p) in
           omega (arith, row_within (lists_at dir (stored_graph nodes edges)) _ e there, (s.linked dir).rows, length-map nodes (raw_first dir)) in
-          let once : (dir : Direction) (n : ℕ) → AreDistinct (row (lists_at dir (stored_graph nodes edges)) n) = λ dir n. distinct dir s n in
+          let once : (dir : Direction) (n : ℕ) → AreDistinct (nth_list (lists_at dir (stored_graph nodes edges)) n) = λ dir n. distinct dir s n in
           record {
-            out_rows = (s.linked Outgoing).rows ∙ firsts_as_many weight_of Outgoing nodes;
-            in_rows = (s.linked Incoming).rows ∙ firsts_as_many weight_of Incoming nodes;
+            out_list_count = (s.linked Outgoing).rows ∙ firsts_as_many weight_of Outgoing nodes;
+            in_list_count = (s.linked Incoming).rows ∙ firsts_as_many weight_of Incoming nodes;
             parents = λ e x p. slot_holds (λ z. z.weight) nodes x.parent (node_in Outgoing e x p);
             children = λ e x p. slot_holds (λ z. z.weight) nodes x.child (node_in Incoming e x p);
             out_of = record {
@@ -83,8 +83,8 @@ module _ {N E Ix : Type 0} (end : ℕ) (nodes : List (Node N Ix)) (edges : List 
             few_edges = omega (arith, s.few_edges, length-map edges plain_edge);
           }
 
-  -- the first of a row, and what follows an edge in its row
-  pub first_shown : (dir : Direction) (g : Graph N E) → Stores end nodes edges g → (n : ℕ) (x : Node N Ix) → n < length nodes → x ≡ get_or nodes n x → raw_first dir x ≡ first_of end (row (lists_at dir g) n)
+  -- the first of a list, and what follows an edge in its list
+  pub first_shown : (dir : Direction) (g : Graph N E) → Stores end nodes edges g → (n : ℕ) (x : Node N Ix) → n < length nodes → x ≡ get_or nodes n x → raw_first dir x ≡ first_of end (nth_list (lists_at dir g) n)
   first_shown dir g s n x within is =
       let inside : n < length (firsts_of dir nodes) = omega (arith, within, length-map nodes (raw_first dir)) in
       ap (raw_first dir) is ∙ sym (get_or-map (raw_first dir) nodes n x 0 within) ∙ ((s.linked dir).each n inside).starts
@@ -93,11 +93,11 @@ module _ {N E Ix : Type 0} (end : ℕ) (nodes : List (Node N Ix)) (edges : List 
   pub first_listed : (dir : Direction) → Stores end nodes edges (stored_graph nodes edges) → (n : ℕ) (x : Node N Ix) → n < length nodes → x ≡ get_or nodes n x → raw_first dir x ≡ first_of end (list_at dir (stored_graph nodes edges) n)
   first_listed dir s n x within is = first_shown dir (stored_graph nodes edges) s n x within is ∙ ap (first_of end) (list_of dir)
     where
-      list_of : (d : Direction) → row (lists_at d (stored_graph nodes edges)) n ≡ list_at d (stored_graph nodes edges) n
+      list_of : (d : Direction) → nth_list (lists_at d (stored_graph nodes edges)) n ≡ list_at d (stored_graph nodes edges) n
       list_of Outgoing = refl
       list_of Incoming = refl
 
-  pub next_shown : (dir : Direction) (g : Graph N E) → Stores end nodes edges g → (e : ℕ) (x : Edge E Ix) → e < length edges → x ≡ get_or edges e x → raw_next dir x ≡ after end (row (lists_at dir g) (end_at dir x)) e
+  pub next_shown : (dir : Direction) (g : Graph N E) → Stores end nodes edges g → (e : ℕ) (x : Edge E Ix) → e < length edges → x ≡ get_or edges e x → raw_next dir x ≡ after end (nth_list (lists_at dir g) (end_at dir x)) e
   next_shown dir g s e x within is =
       let ends = slice_get_mapped (end_at dir) edges e x within is in
       let there = (s.listed dir (end_at dir x) e).1 ends in
@@ -109,7 +109,7 @@ module _ {N E Ix : Type 0} (end : ℕ) (nodes : List (Node N Ix)) (edges : List 
   cursor_shown dir s e x within is =
       next_shown dir (stored_graph nodes edges) s e x within is ∙ seen dir ∙ ap (cursor_after dir end (stored_graph nodes edges) e) (sym (slot_is plain edges e x within is))
     where
-      seen : (d : Direction) → after end (row (lists_at d (stored_graph nodes edges)) (end_at d x)) e ≡ cursor_after d end (stored_graph nodes edges) e (Some (plain x))
+      seen : (d : Direction) → after end (nth_list (lists_at d (stored_graph nodes edges)) (end_at d x)) e ≡ cursor_after d end (stored_graph nodes edges) e (Some (plain x))
       seen Outgoing = refl
       seen Incoming = refl
 

@@ -2,22 +2,23 @@
 use Rattle.std.specs.Prelude.{◌≡◌, ℕ, ◌≤◌, List, [], length, map}
 use Rattle.daggy_base.specs.Graph.{Graph}
 use Rattle.std.specs.List.{swap_remove}
-use Rattle.daggy_base.specs.FromSlots.{of_slots}
+use Rattle.daggy_base.specs.FromSlots.{graph_of_slots}
 use Rattle.daggy_base.specs.Removal.{Compact, without_edge}
-use Rattle.daggy_cells.specs.Links.{IsLinked, ListsEach}
+use Rattle.daggy_cells.specs.Links.{AreLinkedLists, ListsEach}
 use Rattle.daggy_cells.specs.declared.cell.Node.{Node}
 use Rattle.daggy_cells.specs.declared.cell.Edge.{Edge}
 use Rattle.daggy_base.specs.declared.index.Direction.{Direction}
 use Rattle.daggy_base.specs.declared.index.Direction.TheVariants.{Outgoing, Incoming}
-use Rattle.daggy_cells.specs.Fields.{weight_of, plain_edge, lists_at, firsts_of, nexts_of, ends_of, walks}
+use Rattle.daggy_cells.specs.Fields.{weight_of, plain_edge, lists_at, firsts_of, nexts_of, ends_of, lists_from}
 
+-- the graph that the nodes and the edges store
 abbrev pub stored_graph : {N E Ix : Type 0} → List (Node N Ix) → List (Edge E Ix) → Graph N E
 stored_graph nodes edges =
     record {
       nodes = map weight_of nodes;
       edges = map plain_edge edges;
-      out_lists = walks Outgoing nodes edges;
-      in_lists = walks Incoming nodes edges;
+      out_lists = lists_from Outgoing nodes edges;
+      in_lists = lists_from Incoming nodes edges;
       vacant_nodes = [];
       vacant_edges = [];
     }
@@ -28,7 +29,7 @@ pub record Stores {N E Ix : Type 0} (end : ℕ) (nodes : List (Node N Ix)) (edge
   pub edges_are : g.edges ≡ map plain_edge edges
   pub no_vacant_node : g.vacant_nodes ≡ []
   pub no_vacant_edge : g.vacant_edges ≡ []
-  pub linked : (dir : Direction) → IsLinked end (firsts_of dir nodes) (nexts_of dir edges) (lists_at dir g)
+  pub linked : (dir : Direction) → AreLinkedLists end (firsts_of dir nodes) (nexts_of dir edges) (lists_at dir g)
   pub listed : (dir : Direction) → ListsEach (ends_of dir edges) (lists_at dir g)
   pub few_nodes : length nodes ≤ end
   pub few_edges : length edges ≤ end
@@ -39,4 +40,4 @@ IsDetached {N} {E} {Ix} end g e nodes edges = (x : Edge E Ix) → Stores end nod
 
 -- what is stored is the graph that these slots make
 abbrev pub IsBuilt : {N E Ix : Type 0} → (end : ℕ) → List (Node N Ix) → List (Edge E Ix) → Type 0
-IsBuilt end nodes edges = Stores end nodes edges (of_slots (map weight_of nodes) (map plain_edge edges))
+IsBuilt end nodes edges = Stores end nodes edges (graph_of_slots (map weight_of nodes) (map plain_edge edges))

@@ -9,24 +9,24 @@ ghost use Rattle.daggy_base.specs.State.{with_graph};
 ghost use Rattle.daggy_base.specs.declared.error.NodeError.TheVariants.{Memory as NodeMemory};
 ghost use Rattle.daggy_base.specs.declared.error.EdgeError.TheVariants.{Memory as EdgeMemory};
 
+mod capacity;
 mod changes;
 mod copy;
 mod count;
 pub mod cursors;
 mod debug;
 mod filter;
-mod given;
+mod from_slots;
 pub mod iterators;
 pub mod lists;
 mod map;
 mod ordering;
-mod pairs;
 mod raw;
 mod removal;
 mod rewriting;
-mod room;
 mod source;
 mod store;
+mod two_weights;
 mod weights;
 
 use crate::graph::changes::{put_edge, put_node};
@@ -128,7 +128,7 @@ impl<N, E, Ix: IndexType> DiGraph<N, E, Ix> {
     ) -> Result<EdgeIndex<Ix>, EdgeError<E>>
         requires parent { HasNode self.old.graph (Ix.number a) }
         requires child { HasNode self.old.graph (Ix.number b) }
-        requires room { edge_count_of self.old.graph < Ix.greatest }
+        requires index_left { edge_count_of self.old.graph < Ix.greatest }
         ensures index { IfOk result (λ e. Ix.number e ≡ next_edge_of self.old.graph) }
         ensures added { OnOk result (self.new ≡ with_graph self.old (with_edge self.old.graph (Ix.number a) (Ix.number b) weight)) }
         ensures refusal { IfErr result (λ e. e ≡ EdgeMemory weight) }

@@ -15,7 +15,7 @@ use Rattle.daggy_base.specs.declared.error.ElementError.{ElementError}
 use Rattle.daggy_base.specs.declared.error.ElementError.TheVariants as error
 use Rattle.daggy_base.specs.declared.element.Element.{Element}
 use Rattle.daggy_base.specs.declared.element.Element.TheVariants.{Node, Edge}
-use Rattle.daggy_guard.specs.Series.{NewEdge, HasEnds, LacksEnd}
+use Rattle.daggy_guard.specs.EdgeBatch.{NewEdge, HasEnds, LacksEnd}
 
 -- the edge replaces the weight of the one that is found between its ends, or is added
 abbrev pub IsJoined : {N E : Type 0} → (limit : ℕ) → (old : Graph N E) → NewEdge E → (new : Graph N E) → Type 0

@@ -1,5 +1,5 @@
-pub mod Series
-pub mod SoFar
+pub mod EdgeBatch
+pub mod BatchProgress
 pub mod Extension
 pub mod Elements
 pub mod NewNode

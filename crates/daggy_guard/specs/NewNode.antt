@@ -7,13 +7,13 @@ use Rattle.daggy_base.specs.WellFormed.{IsWellFormed}
 use Rattle.daggy_base.specs.declared.index.Direction.{Direction}
 use Rattle.daggy_base.specs.declared.index.Direction.TheVariants.{Outgoing, Incoming}
 
--- now is old with the node n of weight w; slots is how many slots of nodes there were before
-pub record IsAddedNode {N E : Type 0} (limit : ℕ) (kind : Kind) (old now : Graph N E) (w : N) (n slots : ℕ) : Type 0 where
+-- now is old with the node n of weight w; slot_count is how many slots of nodes there were before
+pub record IsAddedNode {N E : Type 0} (limit : ℕ) (kind : Kind) (old now : Graph N E) (w : N) (n slot_count : ℕ) : Type 0 where
   pub well_formed : IsWellFormed limit old
   pub compact : kind ≡ Compact → old.vacant_nodes ≡ []
   pub now_is : now ≡ with_node old w
   pub index_is : n ≡ next_node old
-  pub slots_are : slots ≡ length old.nodes
+  pub slot_count_is : slot_count ≡ length old.nodes
 
 -- the order with the node put last, where edges are to lead to it, or first, where they are to leave it
 abbrev pub with_end : Direction → List ℕ → ℕ → List ℕ

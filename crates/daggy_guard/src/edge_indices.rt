@@ -1,4 +1,4 @@
-//! The indices that a series of edges got.
+//! The indices that a batch of edges got.
 ghost use Rattle.std.specs.Prelude.{◌≡◌, ◌<◌, ◌^◌, map, length};
 ghost use Rattle.std.specs.Iterator.{YieldsFirstBy, item_count};
 

@@ -42,17 +42,17 @@ fn put<Ix: IndexType>(
 fn take_back<Ix: IndexType, S: Store<Ix>>(
     store: &mut S,
     n: NodeIndex<Ix>,
-    slots: usize,
+    slot_count: usize,
 ) -> S::NodeWeight
     requires added { (old : Graph S.NodeWeight S.EdgeWeight) × (w : S.NodeWeight)
-        × IsAddedNode Ix.greatest S.kind old (S.graph store.old) w (Ix.number n) slots }
+        × IsAddedNode Ix.greatest S.kind old (S.graph store.old) w (Ix.number n) slot_count }
     ensures undone { (old : Graph S.NodeWeight S.EdgeWeight) (w : S.NodeWeight)
-        → IsAddedNode Ix.greatest S.kind old (S.graph store.old) w (Ix.number n) slots → S.graph store.new ≡ old }
+        → IsAddedNode Ix.greatest S.kind old (S.graph store.old) w (Ix.number n) slot_count → S.graph store.new ≡ old }
     ensures returned { (old : Graph S.NodeWeight S.EdgeWeight) (w : S.NodeWeight)
-        → IsAddedNode Ix.greatest S.kind old (S.graph store.old) w (Ix.number n) slots → result ≡ w }
+        → IsAddedNode Ix.greatest S.kind old (S.graph store.old) w (Ix.number n) slot_count → result ≡ w }
     ensures counted { S.looks store.new ≡ S.looks store.old }
 {
-    store.take_back_node(n, slots <= n.index())
+    store.take_back_node(n, slot_count <= n.index())
 }
 
 // Adds a node, and puts it last in the order, or first. The scratch fits a search of the graph with that node then.
@@ -64,7 +64,7 @@ fn put_node<Ix: IndexType, S: Store<Ix>>(
     dir: Direction,
     weight: S::NodeWeight,
 ) -> Result<NodeIndex<Ix>, NodeError<S::NodeWeight>>
-    requires room { node_count (S.graph store.old) < Ix.greatest }
+    requires index_left { node_count (S.graph store.old) < Ix.greatest }
     requires fits { node_bound (S.graph store.old) ≤ scratch.old.nodes }
     requires ordered { IsOrderOf (S.graph store.old) order.old }
     ensures index { IfOk result (λ n. Ix.number n ≡ next_node (S.graph store.old)) }
@@ -74,13 +74,13 @@ fn put_node<Ix: IndexType, S: Store<Ix>>(
     ensures unchanged { OnErr result (S.graph store.new ≡ S.graph store.old) }
     ensures kept { OnErr result (order.new ≡ order.old) }
     ensures fits { node_bound (S.graph store.new) ≤ scratch.new.nodes }
-    ensures room { scratch.old.nodes ≤ scratch.new.nodes }
+    ensures capacity_kept { scratch.old.nodes ≤ scratch.new.nodes }
     ensures counted { S.looks store.new ≡ S.looks store.old }
 {
     let _well_formed = store.node_count();
     let old_slots = store.node_slots();
-    let slots = store.slots_with_node();
-    if scratch.reserve(slots, 0).is_err() {
+    let slot_count = store.slots_with_node();
+    if scratch.reserve(slot_count, 0).is_err() {
         return Err(NodeError::Memory(weight));
     }
     let n = store.add_node(weight)?;
@@ -102,7 +102,7 @@ pub fn add_node<Ix: IndexType, S: Store<Ix>>(
     scratch: &mut Scratch<Ix>,
     weight: S::NodeWeight,
 ) -> Result<NodeIndex<Ix>, NodeError<S::NodeWeight>>
-    requires room { node_count (S.graph store.old) < Ix.greatest }
+    requires index_left { node_count (S.graph store.old) < Ix.greatest }
     requires fits { node_bound (S.graph store.old) ≤ scratch.old.nodes }
     requires ordered { IsOrderOf (S.graph store.old) order.old }
     ensures added { IfOk result (λ n. (Ix.number n ≡ next_node (S.graph store.old))
@@ -112,7 +112,7 @@ pub fn add_node<Ix: IndexType, S: Store<Ix>>(
     ensures acyclic { IsAcyclic (S.graph store.new) }
     ensures ordered { IsOrderOf (S.graph store.new) order.new }
     ensures fits { node_bound (S.graph store.new) ≤ scratch.new.nodes }
-    ensures room { scratch.old.nodes ≤ scratch.new.nodes }
+    ensures capacity_kept { scratch.old.nodes ≤ scratch.new.nodes }
     ensures counted { S.looks store.new ≡ S.looks store.old }
 {
     let _well_formed = store.node_count();
@@ -131,7 +131,7 @@ pub fn add_edge<Ix: IndexType, S: Store<Ix>>(
 ) -> Result<EdgeIndex<Ix>, EdgeError<S::EdgeWeight>>
     requires parent { HasNode (S.graph store.old) (Ix.number a) }
     requires child { HasNode (S.graph store.old) (Ix.number b) }
-    requires room { edge_count (S.graph store.old) < Ix.greatest }
+    requires index_left { edge_count (S.graph store.old) < Ix.greatest }
     requires fits { node_bound (S.graph store.old) ≤ scratch.old.nodes }
     requires ordered { IsOrderOf (S.graph store.old) order.old }
     ensures cycle { (result ≡ Err (ByCycle (record { 0 = weight }))) ↔ Reaches (S.graph store.old) (Ix.number b) (Ix.number a) }
@@ -144,7 +144,7 @@ pub fn add_edge<Ix: IndexType, S: Store<Ix>>(
     ensures ordered { IsOrderOf (S.graph store.new) order.new }
     ensures counted { S.looks store.new ≤ S.looks store.old + edge_count (S.graph store.old) }
     ensures ready { Reaches (S.graph store.old) (Ix.number a) (Ix.number b) → S.looks store.new ≡ S.looks store.old }
-    ensures room { scratch.new ≡ scratch.old }
+    ensures same_capacity { scratch.new ≡ scratch.old }
 {
     let _well_formed = store.node_count();
     if !order_edge(store, order, a, b, scratch) {
@@ -164,7 +164,7 @@ pub fn update_edge<Ix: IndexType, S: Store<Ix>>(
 ) -> Result<EdgeIndex<Ix>, EdgeError<S::EdgeWeight>>
     requires parent { HasNode (S.graph store.old) (Ix.number a) }
     requires child { HasNode (S.graph store.old) (Ix.number b) }
-    requires room { edge_between (S.graph store.old) (Ix.number a) (Ix.number b) ≡ None → edge_count (S.graph store.old) < Ix.greatest }
+    requires index_left { edge_between (S.graph store.old) (Ix.number a) (Ix.number b) ≡ None → edge_count (S.graph store.old) < Ix.greatest }
     requires fits { node_bound (S.graph store.old) ≤ scratch.old.nodes }
     requires ordered { IsOrderOf (S.graph store.old) order.old }
     ensures replaced { IfSome (edge_between (S.graph store.old) (Ix.number a) (Ix.number b)) (λ e.
@@ -203,7 +203,7 @@ fn link<Ix: IndexType, S: Store<Ix>>(
 ) -> Result<EdgeIndex<Ix>, EdgeError<S::EdgeWeight>>
     requires node { HasNode (S.graph store.old) (Ix.number n) }
     requires new { HasNode (S.graph store.old) (Ix.number new) }
-    requires room { edge_count (S.graph store.old) < Ix.greatest }
+    requires index_left { edge_count (S.graph store.old) < Ix.greatest }
     ensures index { IfOk result (λ e. Ix.number e ≡ next_edge (S.graph store.old)) }
     ensures added { OnOk result (S.graph store.new ≡ with_link dir (S.graph store.old) (Ix.number n) (Ix.number new) edge) }
     ensures refusal { IfErr result (λ e. e ≡ EdgeMemory edge) }
@@ -243,7 +243,7 @@ pub fn add_neighbor<Ix: IndexType, S: Store<Ix>>(
     ensures fits { node_bound (S.graph store.new) ≤ scratch.new.nodes }
 {
     let _well_formed = store.node_count();
-    let slots = store.node_slots();
+    let slot_count = store.node_slots();
     let new = match put_node(store, order, scratch, dir, weight) {
         Ok(new) => new,
         Err(error) => return Err(ChildError::Memory(edge, error.into_weight())),
@@ -252,7 +252,7 @@ pub fn add_neighbor<Ix: IndexType, S: Store<Ix>>(
         Ok(e) => Ok((e, new)),
         Err(error) => {
             order.remove(new);
-            let weight = take_back(store, new, slots);
+            let weight = take_back(store, new, slot_count);
             Err(ChildError::Memory(error.into_weight(), weight))
         }
     }
@@ -306,9 +306,9 @@ pub fn remove_node<Ix: IndexType, S: Store<Ix>>(
     ensures counted { S.looks store.new ≡ S.looks store.old }
 {
     let _well_formed = store.node_count();
-    let slots = store.node_slots();
+    let slot_count = store.node_slots();
     let weight = store.remove_node(n)?;
-    let last = slots - 1;
+    let last = slot_count - 1;
     let moved = store.node_slots() == last;
     take_out(order, n, last, moved);
     Some(weight)

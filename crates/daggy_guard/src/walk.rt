@@ -2,7 +2,7 @@
 ghost use Rattle.std.specs.Prelude.{◌≡◌};
 ghost use Rattle.std.specs.Option.{option_map};
 ghost use Rattle.daggy_base.specs.Graph.{pair_of};
-ghost use Rattle.daggy_base.specs.Cursor.{IsStep};
+ghost use Rattle.daggy_base.specs.Cursor.{IsWalkStep};
 
 use daggy_base::index::{Direction, EdgeIndex, IndexType, NodeIndex};
 use daggy_base::store::Store;
@@ -15,7 +15,7 @@ pub fn step<Ix: IndexType, S: Store<Ix>>(
     dir: Direction,
     cursor: &mut EdgeIndex<Ix>,
 ) -> Option<(EdgeIndex<Ix>, NodeIndex<Ix>)>
-    ensures { IsStep dir Ix.greatest (S.graph store.now) (Ix.number cursor.old)
+    ensures { IsWalkStep dir Ix.greatest (S.graph store.now) (Ix.number cursor.old)
         (option_map (pair_of Ix.number) result) (Ix.number cursor.new) }
 {
     let e = *cursor;

@@ -4,8 +4,8 @@ use Rattle.std.specs.Option.{option_map}
 use Rattle.std.proofs.lemmas.List.{length-map}
 use Rattle.daggy_base.specs.declared.index.Direction.TheVariants.{Outgoing, Incoming}
 use Rattle.daggy_base.specs.Graph.{Edge, slot, IsCompact}
-use Rattle.daggy_base.specs.FromSlots.{of_slots, MakeGraph}
-use Rattle.daggy_base.proofs.NodeRemoving.{slot-map}
+use Rattle.daggy_base.specs.FromSlots.{graph_of_slots, MakeGraph}
+use Rattle.daggy_base.proofs.PathsWithoutNode.{slot-map}
 use Rattle.daggy_base.proofs.SlotLists.{none_vacant}
 use Rattle.daggy_json.specs.Document.{vacant_from}
 use Rattle.daggy_json.specs.Found.{EndsExist}
@@ -27,7 +27,7 @@ module _ {N E A : Type 0} (f : A → Edge E) (nodes : List (Option N)) (edges : 
       subst P (sym (slot-map f edges i)) (some_mapped f (slot edges i) (full_from 0 edges h i (omega (arith, length-map edges (option_map f)))))
 
   -- no slot is vacant
-  pub compact_slots : vacant_from 0 nodes ≡ [] → vacant_from 0 edges ≡ [] → IsCompact (of_slots nodes (map (option_map f) edges))
+  pub compact_slots : vacant_from 0 nodes ≡ [] → vacant_from 0 edges ≡ [] → IsCompact (graph_of_slots nodes (map (option_map f) edges))
   compact_slots h k =
       record {
         nodes = none_vacant nodes (full_from 0 nodes h);

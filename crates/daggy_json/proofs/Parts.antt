@@ -11,12 +11,12 @@ use Rattle.std.proofs.lemmas.Bool.{false≢true}
 use Rattle.std.proofs.lemmas.List.{map-append, take_more}
 use Rattle.daggy_base.specs.Graph.{Edge, ends_of, pair_of, slot, bound_of}
 use Rattle.daggy_base.specs.Iterating.{numbered}
-use Rattle.daggy_base.proofs.Nodes.{bound_low}
+use Rattle.daggy_base.proofs.PathsWithNode.{bound_low}
 use Rattle.serde_json.specs.Data.{Data}
 use Rattle.serde_json.specs.View.{view}
 use Rattle.serde_json.specs.declared.value.Value.{Value}
 use Rattle.daggy_json.specs.Document.{whole, listed, vacant_from, IsEntry}
-use Rattle.daggy_json.proofs.Numbering.{numbered_passes, numbered_skips, numbered_bounded, vacant_passes, vacant_skips}
+use Rattle.daggy_json.proofs.NumberedSlots.{numbered_passes, numbered_skips, numbered_bounded, vacant_passes, vacant_skips}
 
 pub below_length : {A : Type 0} (slots : List (Option A)) (bound i : ℕ) → bound ≡ bound_of slots → i < bound → i < length slots
 below_length slots bound i is low = omega (arith, bound_low slots)

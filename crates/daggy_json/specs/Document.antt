@@ -10,9 +10,11 @@ use Rattle.daggy_base.specs.Iterating.{node_identifiers, node_weights}
 abbrev pub whole : ℕ → Data
 whole n = number (unsigned n)
 
+-- an array
 abbrev pub listed : List Data → Data
 listed ds = array (items_of ds)
 
+-- an array of whole numbers
 abbrev pub wholes : List ℕ → Data
 wholes ns = listed (map whole ns)
 

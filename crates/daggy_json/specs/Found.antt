@@ -28,6 +28,7 @@ parts_of nodes holes property edges orders =
 abbrev pub index_in : ℕ → Data → Option ℕ
 index_in bound d = option_and_then (λ n. if nat_lt n bound then Some n else None) (whole_in d)
 
+-- an array of whole numbers below a bound
 abbrev pub indices_in : ℕ → Data → Option (List ℕ)
 indices_in bound d = option_and_then (all_in (index_in bound)) (array_in d)
 
@@ -36,9 +37,11 @@ abbrev pub row : ℕ → List Data → Option (List ℕ × List ℕ)
 row bound (a ∷ b ∷ []) = option_and_then (λ p. option_map (λ c. (p, c)) (indices_in bound b)) (indices_in bound a)
 row bound _ = None
 
+-- an array of two arrays of such numbers
 abbrev pub row_in : ℕ → Data → Option (List ℕ × List ℕ)
 row_in bound d = option_and_then (row bound) (array_in d)
 
+-- an array of such pairs
 abbrev pub rows_in : ℕ → Data → Option (List (List ℕ × List ℕ))
 rows_in bound d = option_and_then (all_in (row_in bound)) (array_in d)
 
@@ -54,6 +57,7 @@ abbrev pub Marked : (passes : ℕ → Bool) → List Bool → List ℕ → Type 
 Marked passes marks [] = Unit {0}
 Marked passes marks (e ∷ es) = (passes e ≡ true) × (slice_index_or marks e false ≡ false) × Marked passes (slice_set marks e true) es
 
+-- the marks with one for each of a list
 abbrev pub marked_with : List Bool → List ℕ → List Bool
 marked_with marks [] = marks
 marked_with marks (e ∷ es) = marked_with (slice_set marks e true) es
@@ -65,6 +69,7 @@ AllMarked passes n marks (None ∷ slots) lists = AllMarked passes (n + 1) marks
 AllMarked passes n marks (Some x ∷ slots) [] = ⊥
 AllMarked passes n marks (Some x ∷ slots) (l ∷ lists) = Marked (passes n) marks l × AllMarked passes (n + 1) (marked_with marks l) slots lists
 
+-- the marks with one for each of the lists of the nodes
 abbrev pub marked_by : {N : Type 0} → List Bool → List (Option N) → List (List ℕ) → List Bool
 marked_by marks [] lists = marks
 marked_by marks (None ∷ slots) lists = marked_by marks slots lists

@@ -5,7 +5,7 @@ use Rattle.std.specs.Option.{option_map}
 use Rattle.serde_json.specs.Data.{Data, null, Items, no_items, item}
 use Rattle.serde_json.specs.Find.{get, as_array, as_number, as_str, as_u64}
 use Rattle.daggy_base.specs.Graph.{Graph, Edge, slot}
-use Rattle.daggy_base.specs.FromSlots.{of_slots}
+use Rattle.daggy_base.specs.FromSlots.{graph_of_slots}
 use Rattle.daggy_base.specs.Iterating.{numbered}
 use Rattle.daggy_base.specs.Path.{IsAcyclic}
 use Rattle.daggy_json.specs.Document.{vacant_from}
@@ -23,6 +23,7 @@ list_of (item d ds) = d ∷ list_of ds
 abbrev pub array_in : Data → Option (List Data)
 array_in d = option_map list_of (as_array d)
 
+-- a whole number from 0
 abbrev pub whole_in : Data → Option ℕ
 whole_in d = option_and_then as_u64 (as_number d)
 
@@ -48,9 +49,11 @@ abbrev pub holes_in : Option Data → Option (List ℕ)
 holes_in None = Some []
 holes_in (Some d) = numbers_in d
 
+-- the array that stands at that key of an object
 abbrev pub array_at : List ℕ → Data → Option (List Data)
 array_at key d = option_and_then array_in (get key d)
 
+-- the parts of a document, if each is there in its form
 abbrev pub parts_in : Data → Option Parts
 parts_in d =
     option_and_then
@@ -68,6 +71,7 @@ abbrev pub Ascend : (low high : ℕ) → List ℕ → Type 0
 Ascend low high [] = Unit {0}
 Ascend low high (h ∷ hs) = (low ≤ h) × (h < high) × Ascend (h + 1) high hs
 
+-- how many slots of nodes there are: one for each weight and for each hole
 abbrev pub slots_of : Parts → ℕ
 slots_of p = length p.nodes + length p.holes
 
@@ -107,6 +111,7 @@ abbrev pub triple : List Data → Option (ℕ × ℕ × Data)
 triple (a ∷ b ∷ w ∷ []) = option_and_then (λ p. option_map (λ c. (p, c, w)) (whole_in b)) (whole_in a)
 triple _ = None
 
+-- an array of these three
 abbrev pub triple_in : Data → Option (ℕ × ℕ × Data)
 triple_in d = option_and_then triple (array_in d)
 
@@ -135,9 +140,11 @@ abbrev pub pair : List Data → Option (List ℕ × List ℕ)
 pair (a ∷ b ∷ []) = option_and_then (λ p. option_map (λ c. (p, c)) (numbers_in b)) (numbers_in a)
 pair _ = None
 
+-- an array of these two
 abbrev pub pair_in : Data → Option (List ℕ × List ℕ)
 pair_in d = option_and_then pair (array_in d)
 
+-- an array of such pairs, one for each node
 abbrev pub orders_in : Data → Option (List (List ℕ × List ℕ))
 orders_in d = option_and_then (all_in pair_in) (array_in d)
 
@@ -147,6 +154,7 @@ IsOrdered g None r = r ≡ Ok g
 IsOrdered g (Some d) (Ok h) = (orders : List (List ℕ × List ℕ)) × (orders_in d ≡ Some orders) × AreOrders g orders × (h ≡ with_orders g orders)
 IsOrdered g (Some d) (Err e) = ((orders : List (List ℕ × List ℕ)) → orders_in d ≡ Some orders → ¬ AreOrders g orders) × (e ≡ Orders)
 
+-- the graph itself if it is acyclic, else the fault `Cycle`
 abbrev pub IsTested : {N E : Type 0} → Graph N E → Result (Graph N E) ReadError → Type 0
 IsTested g (Ok h) = IsAcyclic g × (h ≡ g)
 IsTested g (Err e) = ¬ IsAcyclic g × (e ≡ Cycle)
@@ -161,8 +169,9 @@ module _ {N E : Type 0} (limit : ℕ) (stable : Bool) (node_answers : Data → O
   -- the edges over these nodes, the orders, and whether there is a cycle
   abbrev pub IsLinked : Parts → List (Option N) → Result (Graph N E) ReadError → Type 0
   IsLinked p nodes =
-      Then (ReadsEach (IsEntryRead stable nodes edge_answers) p.edges) (λ edges. Then (IsOrdered (of_slots nodes edges) p.orders) IsTested)
+      Then (ReadsEach (IsEntryRead stable nodes edge_answers) p.edges) (λ edges. Then (IsOrdered (graph_of_slots nodes edges) p.orders) IsTested)
 
+  -- the weights of the nodes, put into slots, and then what stands on them
   abbrev pub IsFilled : Parts → Result (Graph N E) ReadError → Type 0
   IsFilled p = Then (ReadsEach (IsWeight node_answers) p.nodes) (λ weights r. (nodes : List (Option N)) × AreSlots nodes p.holes weights × IsLinked p nodes r)
 

@@ -2,7 +2,7 @@
 ghost use Rattle.std.specs.Prelude.{◌≡◌, ◌≤◌, ◌⊎◌, [], false, Ok, Err, map, length, IfOk, IfErr, IfSome};
 ghost use Rattle.std.specs.Option.{option_map};
 ghost use Rattle.serde_json.specs.View.{view};
-ghost use Rattle.daggy_base.specs.FromSlots.{of_slots, edges_by};
+ghost use Rattle.daggy_base.specs.FromSlots.{graph_of_slots, edges_by};
 ghost use Rattle.daggy_base.specs.Orders.{AreOrders, numbers_of};
 ghost use Rattle.daggy_base.specs.Removal.{Compact};
 ghost use Rattle.daggy_json.specs.Document.{vacant_from};
@@ -31,12 +31,12 @@ fn make<N: Drop, E: Drop, Ix: IndexType, S: Store<Ix, NodeWeight = N, EdgeWeight
     requires full_nodes { S.kind ≡ Compact → vacant_from 0 found.nodes.items ≡ [] }
     requires full_edges { S.kind ≡ Compact → vacant_from 0 found.edges.items ≡ [] }
     requires orders { IfSome found.orders (λ v.
-        AreOrders (of_slots found.nodes.items (edges_by Ix.number found.edges.items))
+        AreOrders (graph_of_slots found.nodes.items (edges_by Ix.number found.edges.items))
         (map (numbers_of Ix.number) v.items)) }
-    ensures ok { IfOk result (λ d. IsTested (ordered (of_slots found.nodes.items (edges_by Ix.number found.edges.items))
+    ensures ok { IfOk result (λ d. IsTested (ordered (graph_of_slots found.nodes.items (edges_by Ix.number found.edges.items))
         (orders_by Ix.number found.orders)) (Ok d.graph)) }
     ensures err { IfErr result (λ e. (e ≡ Memory)
-        ⊎ IsTested (ordered (of_slots found.nodes.items (edges_by Ix.number found.edges.items))
+        ⊎ IsTested (ordered (graph_of_slots found.nodes.items (edges_by Ix.number found.edges.items))
         (orders_by Ix.number found.orders)) (Err e)) }
 {
     let Gathered {

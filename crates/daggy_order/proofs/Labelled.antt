@@ -5,15 +5,15 @@ use Rattle.std.proofs.lemmas.Bool.{cases_eq, eq-eqb, ne_eqb, cond-true, cond-fal
 use Rattle.std.proofs.lemmas.List.{get_or-set_other, get_or-set_same, length-set, map-append}
 use Rattle.daggy_base.specs.Removal.{without, renamed}
 use Rattle.daggy_base.proofs.Lists.{Mem, mem_left, mem_right, mem_cases, mem_out, mem_into, contains_mem, mem_contains}
-use Rattle.daggy_order.specs.Links.{IsAscending, IsLabelled}
+use Rattle.daggy_order.specs.Links.{LabelsAscend, IsLabelled}
 use Rattle.daggy_order.specs.Ordered.{place}
 use Rattle.daggy_order.proofs.Sorted.{place_same, place_other}
-use Rattle.daggy_order.proofs.Linking.{without_mid}
-use Rattle.daggy_order.proofs.Bounded.{split_at}
-use Rattle.daggy_order.proofs.Ascending.{asc_append, asc_left, asc_right, asc_same, asc_drop, asc_above, asc_before, asc_held}
+use Rattle.daggy_order.proofs.LinkedNodes.{without_mid}
+use Rattle.daggy_order.proofs.BoundedSearch.{split_at}
+use Rattle.daggy_order.proofs.AscendingLabels.{asc_append, asc_left, asc_right, asc_same, asc_drop, asc_above, asc_before, asc_held}
 
 -- labels are ordered as places
-pub asc_cases : (labels : List ℕ) (low : ℕ) (xs : List ℕ) (high : ℕ) → IsAscending labels low xs high → (u v : ℕ) → Mem u xs → Mem v xs → (u ≡ v) ⊎ (((get_or labels u 0 < get_or labels v 0) × (place xs u < place xs v)) ⊎ ((get_or labels v 0 < get_or labels u 0) × (place xs v < place xs u)))
+pub asc_cases : (labels : List ℕ) (low : ℕ) (xs : List ℕ) (high : ℕ) → LabelsAscend labels low xs high → (u v : ℕ) → Mem u xs → Mem v xs → (u ≡ v) ⊎ (((get_or labels u 0 < get_or labels v 0) × (place xs u < place xs v)) ⊎ ((get_or labels v 0 < get_or labels u 0) × (place xs v < place xs u)))
 asc_cases labels low [] high c u v m n = absurd m
 asc_cases labels low (x ∷ xs) high c u v m n =
     elim m [
@@ -61,7 +61,7 @@ module _ {labels nodes : List ℕ} (s : IsLabelled labels nodes) where
 
   pub label_once : (us : List ℕ) (n : ℕ) (vs : List ℕ) → nodes ≡ us ++ n ∷ vs → (k : ℕ) → Mem k (us ++ vs) → k ≢ n
   label_once us n vs is k m e =
-      let P : List ℕ → Type 0 = λ z. IsAscending labels 0 z (2 ^ 64) in
+      let P : List ℕ → Type 0 = λ z. LabelsAscend labels 0 z (2 ^ 64) in
       let c = subst P is s.ascending in
       let M : ℕ → Type 0 = λ z. Mem z (us ++ vs) in
       elim (mem_cases us vs n (subst M e m)) [
@@ -79,7 +79,7 @@ module _ {labels nodes : List ℕ} (s : IsLabelled labels nodes) where
       })
 
   -- labels of more nodes
-  pub labelled_more : (new nodes' : List ℕ) → IsAscending new 0 nodes' (2 ^ 64) → ((k : ℕ) → (Contains nodes' k → ⊥) → get_or new k 0 ≡ get_or labels k 0) → ((k : ℕ) → Mem k nodes → Mem k nodes') → IsLabelled new nodes'
+  pub labelled_more : (new nodes' : List ℕ) → LabelsAscend new 0 nodes' (2 ^ 64) → ((k : ℕ) → (Contains nodes' k → ⊥) → get_or new k 0 ≡ get_or labels k 0) → ((k : ℕ) → Mem k nodes → Mem k nodes') → IsLabelled new nodes'
   labelled_more new nodes' asc others more =
       record {
         ascending = asc;
@@ -105,7 +105,7 @@ module _ {labels nodes : List ℕ} (s : IsLabelled labels nodes) where
         let us = at.0 in
         let vs = at.1 in
         let once = label_once us n vs at.2 in
-        let P : List ℕ → Type 0 = λ z. IsAscending labels 0 z (2 ^ 64) in
+        let P : List ℕ → Type 0 = λ z. LabelsAscend labels 0 z (2 ^ 64) in
         let is : without n nodes ≡ us ++ vs = ap (without n) at.2 ∙ without_mid n us vs (λ h. once n (mem_left us vs n h) refl) (λ h. once n (mem_right us vs n h) refl) in
         let Q : List ℕ → Type 0 = λ z. IsLabelled (set labels n 0) z in
         subst Q (sym is) (record {
@@ -129,7 +129,7 @@ module _ {labels nodes : List ℕ} (s : IsLabelled labels nodes) where
           let new = set (set labels n 0) to (get_or labels n 0) in
           let once = label_once us n vs at in
           let absent_here : Mem to (us ++ n ∷ vs) → ⊥ = let A : List ℕ → Type 0 = λ z. Mem to z → ⊥ in subst A at absent in
-          let P : List ℕ → Type 0 = λ z. IsAscending labels 0 z (2 ^ 64) in
+          let P : List ℕ → Type 0 = λ z. LabelsAscend labels 0 z (2 ^ 64) in
           let c = subst P at s.ascending in
           let low' : to < length (set labels n 0) = omega (arith, low, length-set labels n 0) in
           let here : get_or new to 0 ≡ get_or labels n 0 = get_or-set_same (set labels n 0) to (get_or labels n 0) 0 low' in
@@ -138,8 +138,8 @@ module _ {labels nodes : List ℕ} (s : IsLabelled labels nodes) where
           other k (once k h) (λ e. absent_here (let M : ℕ → Type 0 = λ z. Mem z (us ++ n ∷ vs) in subst M e (mem_into us vs n k h))) in
           let left = asc_same labels new 0 us (get_or labels n 0) (λ k h. kept k (mem_left us vs k h)) (asc_left labels 0 us n vs (2 ^ 64) c) in
           let right = asc_same labels new (get_or labels n 0) vs (2 ^ 64) (λ k h. kept k (mem_right us vs k h)) (asc_right labels 0 us n vs (2 ^ 64) c) in
-          let L : ℕ → Type 0 = λ z. IsAscending new 0 us z in
-          let R : ℕ → Type 0 = λ z. IsAscending new z vs (2 ^ 64) in
+          let L : ℕ → Type 0 = λ z. LabelsAscend new 0 us z in
+          let R : ℕ → Type 0 = λ z. LabelsAscend new z vs (2 ^ 64) in
           record {
             ascending = asc_append new 0 us to vs (2 ^ 64) (subst L (sym here) left) (subst R (sym here) right);
             held = λ k h. mem_contains (us ++ to ∷ vs) k (elim (cases_eq k to) [

@@ -7,8 +7,8 @@ use Rattle.daggy_base.specs.Path.{AreJoined}
 use Rattle.daggy_base.specs.Sorting.{LeadsOnward, IsSorted}
 use Rattle.daggy_base.specs.WellFormed.{AreDistinct, IsWellFormed}
 use Rattle.daggy_base.proofs.Lists.{Mem, Unique, mem_at, contains_mem, unique_from_distinct}
-use Rattle.daggy_base.proofs.Reading.{below_bound}
-use Rattle.daggy_base.proofs.Nodes.{bound_low}
+use Rattle.daggy_base.proofs.OutEdgesRead.{below_bound}
+use Rattle.daggy_base.proofs.PathsWithNode.{bound_low}
 use Rattle.daggy_order.specs.Ordered.{IsOrderOf, place}
 use Rattle.daggy_order.proofs.Sorted.{place_same, place_other}
 

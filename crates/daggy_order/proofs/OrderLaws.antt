@@ -8,23 +8,23 @@ use Rattle.std.proofs.lemmas.Option.{same_Some, none-some}
 use Rattle.daggy_base.specs.Graph.{Graph, Edge, HasNode, node_weight, edge_at, slot, out_list, in_list, list_at, empty}
 use Rattle.daggy_base.specs.Path.{AreJoined, IsAcyclic}
 use Rattle.daggy_base.specs.Adding.{with_node, with_edge, with_neighbor, next_node}
-use Rattle.daggy_base.specs.Removal.{Kind, Compact, Stable, without, renamed, renamed_ends, without_edge, without_first, without_front, isolated, dropped_node, without_node, without_all_edges}
+use Rattle.daggy_base.specs.Removal.{Kind, Compact, Stable, without, renamed, with_ends_renamed, without_edge, without_first, without_front, with_node_isolated, with_node_dropped, without_node, without_all_edges}
 use Rattle.daggy_base.specs.Weights.{with_node_weight, with_edge_weight}
 use Rattle.daggy_base.specs.WellFormed.{IsWellFormed, IsIsolated}
 use Rattle.daggy_base.specs.declared.index.Direction.{Direction}
 use Rattle.daggy_base.specs.declared.index.Direction.TheVariants.{Outgoing, Incoming}
 use Rattle.daggy_base.proofs.Lists.{Mem, contains_mem, mem_contains, unique_from_distinct}
 use Rattle.daggy_base.proofs.Slots.{slot_taken}
-use Rattle.daggy_base.proofs.Going.{path_stays}
-use Rattle.daggy_base.proofs.Adding.{joined_cases, joined_kept, free_edge}
-use Rattle.daggy_base.proofs.Neighbors.{node_kept, node_new, not_before}
-use Rattle.daggy_base.proofs.NodeRemoving.{IsApart, apart, slot-map, from_map}
-use Rattle.daggy_base.proofs.Removing.{joined_before}
-use Rattle.daggy_base.proofs.Reweighing as weight
+use Rattle.daggy_base.proofs.SearchProgress.{path_stays}
+use Rattle.daggy_base.proofs.PathsWithEdge.{joined_cases, joined_kept, free_edge}
+use Rattle.daggy_base.proofs.PathsWithNewNode.{node_kept, node_new, not_before}
+use Rattle.daggy_base.proofs.PathsWithoutNode.{IsApart, apart, slot-map, from_map}
+use Rattle.daggy_base.proofs.PathsWithoutEdge.{joined_before}
+use Rattle.daggy_base.proofs.PathsWithEdgeWeight as weight
 use Rattle.daggy_order.specs.Ordered.{IsOrderOf, place}
 use Rattle.daggy_order.proofs.Sorted.{distinct_from_unique, place_same, place_other, place_left, place_right, sorted_from_places, places_from_sorted}
-use Rattle.daggy_order.proofs.Standing.{is_held, held_is}
-use Rattle.daggy_order.proofs.Changing.{Lists, lists_filtered, lists_named, lists_last, lists_first, filter_map_some}
+use Rattle.daggy_order.proofs.ListParts.{is_held, held_is}
+use Rattle.daggy_order.proofs.SortedListChanges.{Lists, lists_filtered, lists_named, lists_last, lists_first, filter_map_some}
 
 pub acyclic_from_order : {N E : Type 0} {g : Graph N E} (order : List ℕ) → IsOrderOf g order → IsAcyclic g
 acyclic_from_order {N} {E} {g} order ord u v rest p e =
@@ -233,7 +233,7 @@ order_without_front kind dir zero g order n ord = ord
 order_without_front kind dir (suc k) g order n ord =
     order_without_front kind dir k (without_first kind g (list_at dir g n)) order n (order_without_first kind g order (list_at dir g n) ord)
 
-pub order_isolated : {N E : Type 0} (kind : Kind) (g : Graph N E) (order : List ℕ) (n : ℕ) → IsOrderOf g order → IsOrderOf (isolated kind g n) order
+pub order_isolated : {N E : Type 0} (kind : Kind) (g : Graph N E) (order : List ℕ) (n : ℕ) → IsOrderOf g order → IsOrderOf (with_node_isolated kind g n) order
 order_isolated kind g order n ord =
     let h = without_front kind Outgoing (length (out_list g n)) g n in
     order_without_front kind Incoming (length (in_list h n)) h order n (order_without_front kind Outgoing (length (out_list g n)) g order n ord)
@@ -288,10 +288,10 @@ module _ {N E : Type 0} {end : ℕ} (g : Graph N E) (f : IsWellFormed end g) (or
   n_within : n < length g.nodes
   n_within = slot_within g.nodes n exists
 
-  there : (p m : ℕ) → Others p → renamed last n p ≡ m → HasNode (dropped_node Compact g n) m
+  there : (p m : ℕ) → Others p → renamed last n p ≡ m → HasNode (with_node_dropped Compact g n) m
   there p m other is =
       let here : p < length g.nodes = slot_within g.nodes p other.0 in
-      let P : ℕ → Type 0 = λ z. HasNode (dropped_node Compact g n) z in
+      let P : ℕ → Type 0 = λ z. HasNode (with_node_dropped Compact g n) z in
       subst P is (elim (cases_eq p last) [
         | inl e ↦ (
             let apart_from_last : last ≡ n → ⊥ = λ q. other.1 (e ∙ q) in
@@ -305,22 +305,22 @@ module _ {N E : Type 0} {end : ℕ} (g : Graph N E) (f : IsWellFormed end g) (or
             )
       ])
 
-  back : (m : ℕ) → HasNode (dropped_node Compact g n) m → (p : ℕ) × Others p × (renamed last n p ≡ m)
+  back : (m : ℕ) → HasNode (with_node_dropped Compact g n) m → (p : ℕ) × Others p × (renamed last n p ≡ m)
   back m h =
       let low : m < length g.nodes - 1 = swapped_short g.nodes n n_within m h in
       let is_low : m ≡ last → ⊥ = λ e. absurd (omega (arith, low, e)) in
       elim (cases_eq m n) [
         | inl e ↦ (
             let n_low : n < length g.nodes - 1 = omega (arith, low, e) in
-            let P : ℕ → Type 0 = λ z. HasNode (dropped_node Compact g n) z in
+            let P : ℕ → Type 0 = λ z. HasNode (with_node_dropped Compact g n) z in
             (last, (some_as (sym (swapped_here g.nodes n n_within n_low)) (subst P e h), λ q. is_low (e ∙ sym q)), renamed_last last n ∙ sym e)
             )
         | inr d ↦ (m, (some_as (sym (swapped_other g.nodes n n_within m low d)) h, d), renamed_other last n m is_low)
       ]
 
-  was_joined : (u v k l : ℕ) → Others u → Others v → renamed last n u ≡ k → renamed last n v ≡ l → AreJoined (dropped_node Compact g n) k l → AreJoined g u v
+  was_joined : (u v k l : ℕ) → Others u → Others v → renamed last n u ≡ k → renamed last n v ≡ l → AreJoined (with_node_dropped Compact g n) k l → AreJoined g u v
   was_joined u v k l a b p q j =
-      let found = from_map (renamed_ends last n) (edge_at g j.0) _ (sym (slot-map (renamed_ends last n) g.edges j.0) ∙ j.2) in
+      let found = from_map (with_ends_renamed last n) (edge_at g j.0) _ (sym (slot-map (with_ends_renamed last n) g.edges j.0) ∙ j.2) in
       let x : Edge E = found.0 in
       let from : renamed last n x.parent ≡ k = ap (λ (y : Edge E). y.parent) found.2 in
       let to : renamed last n x.child ≡ l = ap (λ (y : Edge E). y.child) found.2 in
@@ -328,28 +328,28 @@ module _ {N E : Type 0} {end : ℕ} (g : Graph N E) (f : IsWellFormed end g) (or
       let Q : ℕ → Type 0 = λ z. AreJoined g x.parent z in
       subst P (renamed_one last n x.parent u (alone.parents j.0 x found.1) a.1 (from ∙ sym p)) (subst Q (renamed_one last n x.child v (alone.children j.0 x found.1) b.1 (to ∙ sym q)) (j.0, x.weight, found.1))
 
-  ends_there : HasEnds (dropped_node Compact g n)
+  ends_there : HasEnds (with_node_dropped Compact g n)
   ends_there k l j =
-      let found = from_map (renamed_ends last n) (edge_at g j.0) _ (sym (slot-map (renamed_ends last n) g.edges j.0) ∙ j.2) in
+      let found = from_map (with_ends_renamed last n) (edge_at g j.0) _ (sym (slot-map (with_ends_renamed last n) g.edges j.0) ∙ j.2) in
       let x : Edge E = found.0 in (
         there x.parent k (f.parents j.0 x found.1, alone.parents j.0 x found.1) (ap (λ (y : Edge E). y.parent) found.2),
         there x.child l (f.children j.0 x found.1, alone.children j.0 x found.1) (ap (λ (y : Edge E). y.child) found.2),
       )
 
-  order_compact : IsOrderOf (dropped_node Compact g n) (map (renamed last n) (without n order))
+  order_compact : IsOrderOf (with_node_dropped Compact g n) (map (renamed last n) (without n order))
   order_compact =
       let named = lists_named (without n order) others_listed (λ m. Some (renamed last n m)) (λ u v k a b p q. renamed_one last n u v a.1 b.1 (same_Some _ _ (p ∙ sym q))) (λ k. (
         λ h. (let b = back k h in (b.0, b.1, ap Some b.2)),
         λ h. there h.0 k h.1 (same_Some _ _ h.2),
       )) (λ u v k l a b p q. was_joined u v k l a b (same_Some _ _ p) (same_Some _ _ q)) in
-      let P : List ℕ → Type 0 = λ z. Lists (HasNode (dropped_node Compact g n)) (AreJoined (dropped_node Compact g n)) z in
+      let P : List ℕ → Type 0 = λ z. Lists (HasNode (with_node_dropped Compact g n)) (AreJoined (with_node_dropped Compact g n)) z in
       order_from_lists (map (renamed last n) (without n order)) ends_there (subst P (filter_map_some (renamed last n) (without n order)) named)
 
-  order_stable : IsOrderOf (dropped_node Stable g n) (without n order)
+  order_stable : IsOrderOf (with_node_dropped Stable g n) (without n order)
   order_stable =
-      let same : (m : ℕ) → HasNode (dropped_node Stable g n) m ↔ Others m = λ m. (
+      let same : (m : ℕ) → HasNode (with_node_dropped Stable g n) m ↔ Others m = λ m. (
         λ h. elim (cases_eq m n) [
-          | inl e ↦ (let P : ℕ → Type 0 = λ z. HasNode (dropped_node Stable g n) z in absurd (false≢true (some_as (sym (slot_here g.nodes n None n_within)) (subst P e h))))
+          | inl e ↦ (let P : ℕ → Type 0 = λ z. HasNode (with_node_dropped Stable g n) z in absurd (false≢true (some_as (sym (slot_here g.nodes n None n_within)) (subst P e h))))
           | inr d ↦ (some_as (sym (slot_other g.nodes n m None d)) h, d)
         ],
         λ h. some_as (slot_other g.nodes n m None h.1) h.0,
@@ -359,7 +359,7 @@ module _ {N E : Type 0} {end : ℕ} (g : Graph N E) (f : IsWellFormed end g) (or
         (same v).1 (both.1, λ e. alone.children j.0 _ j.2 e),
       )) (record { exact = λ m. (λ h. (same m).1 ((others_listed.exact m).0 h), λ h. (others_listed.exact m).1 ((same m).0 h)); once = others_listed.once; sorted = others_listed.sorted })
 
-  pub order_dropped : (kind : Kind) → IsOrderOf (dropped_node kind g n) (order_left kind last n order)
+  pub order_dropped : (kind : Kind) → IsOrderOf (with_node_dropped kind g n) (order_left kind last n order)
   order_dropped Compact = order_compact
   order_dropped Stable = order_stable
 
@@ -374,15 +374,15 @@ nodes_without_front kind dir zero g n = refl
 nodes_without_front kind dir (suc k) g n =
     nodes_without_front kind dir k (without_first kind g (list_at dir g n)) n ∙ nodes_without_first kind g (list_at dir g n)
 
-pub nodes_isolated : {N E : Type 0} (kind : Kind) (g : Graph N E) (n : ℕ) → (isolated kind g n).nodes ≡ g.nodes
+pub nodes_isolated : {N E : Type 0} (kind : Kind) (g : Graph N E) (n : ℕ) → (with_node_isolated kind g n).nodes ≡ g.nodes
 nodes_isolated kind g n =
     let h = without_front kind Outgoing (length (out_list g n)) g n in
     nodes_without_front kind Incoming (length (in_list h n)) h n ∙ nodes_without_front kind Outgoing (length (out_list g n)) g n
 
-pub order_without_node : {N E : Type 0} {end : ℕ} (kind : Kind) (g : Graph N E) (order : List ℕ) (n : ℕ) → IsOrderOf g order → HasNode g n → IsIsolated end (isolated kind g n) n
+pub order_without_node : {N E : Type 0} {end : ℕ} (kind : Kind) (g : Graph N E) (order : List ℕ) (n : ℕ) → IsOrderOf g order → HasNode g n → IsIsolated end (with_node_isolated kind g n) n
     → IsOrderOf (without_node kind g n) (order_left kind (length g.nodes - 1) n order)
 order_without_node {N} {E} {end} kind g order n ord exists alone =
-    let h = isolated kind g n in
+    let h = with_node_isolated kind g n in
     let same : h.nodes ≡ g.nodes = nodes_isolated kind g n in
     let still : HasNode h n = some_as (ap (λ z. slot z n) same) exists in
     let P : ℕ → Type 0 = λ z. IsOrderOf (without_node kind g n) (order_left kind (z - 1) n order) in

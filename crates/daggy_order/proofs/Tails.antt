@@ -6,11 +6,11 @@ use Rattle.std.proofs.lemmas.List.{length-append, get_or-append_right}
 use Rattle.std.proofs.lemmas.List.FromFn.{length-range_with_len, get_or-range_with_len}
 use Rattle.daggy_base.specs.Removal.{without, renamed}
 use Rattle.daggy_base.proofs.Lists.{Mem, Unique, mem_right, mem_cases, unique_append, contains_mem, mem_contains}
-use Rattle.daggy_base.proofs.Going.{fewer_than}
+use Rattle.daggy_base.proofs.SearchProgress.{fewer_than}
 use Rattle.daggy_order.specs.Ordered.{place}
-use Rattle.daggy_order.specs.Links.{IsTailed, last_few}
+use Rattle.daggy_order.specs.Links.{IsTailed, last_nodes}
 use Rattle.daggy_order.proofs.Sorted.{place_same, place_other, place_left, place_right}
-use Rattle.daggy_order.proofs.Linking.{without_mid}
+use Rattle.daggy_order.proofs.LinkedNodes.{without_mid}
 
 -- nodes in turn
 pub turn_low : (from count k : ℕ) → Mem k (range_with_len from count) → from ≤ k
@@ -74,8 +74,8 @@ place_left_is (y ∷ xs) ys x m =
     ]
 
 -- a list without a tail
-pub tailed_bare : (end : ℕ) (nodes : List ℕ) (capacity from count room : ℕ) → count ≡ 0 → room ≡ 0 → from ≤ end → ((k : ℕ) → Mem k nodes → k < from) → IsTailed end nodes capacity from count room
-tailed_bare end nodes capacity from count room none no_room real below =
+pub tailed_bare : (end : ℕ) (nodes : List ℕ) (capacity from count index_bound : ℕ) → count ≡ 0 → index_bound ≡ 0 → from ≤ end → ((k : ℕ) → Mem k nodes → k < from) → IsTailed end nodes capacity from count index_bound
+tailed_bare end nodes capacity from count index_bound none no_room real below =
     record {
       below = λ k h. below k (contains_mem nodes k h);
       real = omega (arith, none, real);
@@ -84,7 +84,7 @@ tailed_bare end nodes capacity from count room none no_room real below =
     }
 
 -- nodes that are written, and nodes in turn behind them
-module _ {end : ℕ} {nodes : List ℕ} {capacity from count room : ℕ} (s : IsTailed end nodes capacity from count room) where
+module _ {end : ℕ} {nodes : List ℕ} {capacity from count index_bound : ℕ} (s : IsTailed end nodes capacity from count index_bound) where
   pub below : (k : ℕ) → Mem k nodes → k < from
   below k m = s.below k (mem_contains nodes k m)
 
@@ -152,7 +152,7 @@ module _ {end : ℕ} {nodes : List ℕ} {capacity from count room : ℕ} (s : Is
       get_or-append_right nodes (range_with_len from count) (length nodes) k 0 refl low ∙ get_or-range_with_len from count (k - length nodes) 0 (omega (arith, low, within))
 
   -- a further node in turn
-  pub tailed_more : (more : ℕ) → more ≡ count + 1 → from + count < end → from + count < room → IsTailed end nodes capacity from more room
+  pub tailed_more : (more : ℕ) → more ≡ count + 1 → from + count < end → from + count < index_bound → IsTailed end nodes capacity from more index_bound
   tailed_more more is real fits =
       record {
         below = s.below;
@@ -166,8 +166,8 @@ module _ {end : ℕ} {nodes : List ℕ} {capacity from count room : ℕ} (s : Is
       ap (λ (z : List ℕ). nodes ++ z) (turn_more from count more n is at) ∙ sym (append_assoc nodes (range_with_len from count) (n ∷ []))
 
   -- memory for more
-  pub tailed_roomy : (nodes' : List ℕ) (capacity' room' : ℕ) → nodes' ≡ nodes → room' ≡ capacity' → capacity ≤ capacity' → IsTailed end nodes' capacity' from count room'
-  tailed_roomy nodes' capacity' room' same all larger =
+  pub tailed_roomy : (nodes' : List ℕ) (capacity' index_bound' : ℕ) → nodes' ≡ nodes → index_bound' ≡ capacity' → capacity ≤ capacity' → IsTailed end nodes' capacity' from count index_bound'
+  tailed_roomy nodes' capacity' index_bound' same all larger =
       let P : List ℕ → Type 0 = λ z. (n : ℕ) → Contains z n → n < from in
       record {
         below = subst P (sym same) s.below;
@@ -176,8 +176,8 @@ module _ {end : ℕ} {nodes : List ℕ} {capacity from count room : ℕ} (s : Is
         fits = λ some. omega (arith, s.fits some, s.within, all, larger);
       }
 
-  pub tailed_room : (nodes' : List ℕ) (capacity' room' : ℕ) → nodes' ≡ nodes → room' ≤ capacity' → from + count ≤ room' → IsTailed end nodes' capacity' from count room'
-  tailed_room nodes' capacity' room' same all larger =
+  pub tailed_room : (nodes' : List ℕ) (capacity' index_bound' : ℕ) → nodes' ≡ nodes → index_bound' ≤ capacity' → from + count ≤ index_bound' → IsTailed end nodes' capacity' from count index_bound'
+  tailed_room nodes' capacity' index_bound' same all larger =
       let P : List ℕ → Type 0 = λ z. (n : ℕ) → Contains z n → n < from in
       record {
         below = subst P (sym same) s.below;
@@ -187,15 +187,15 @@ module _ {end : ℕ} {nodes : List ℕ} {capacity from count room : ℕ} (s : Is
       }
 
   -- all are written now, and they may have changed
-  pub tailed_after : (nodes' : List ℕ) (capacity' from' count' room' : ℕ) → count' ≡ 0 → room' ≡ 0 → from + count ≤ from' → from' ≤ end
-      → ((k : ℕ) → Mem k nodes' → Mem k (nodes ++ range_with_len from count) ⊎ (k < from')) → IsTailed end nodes' capacity' from' count' room'
-  tailed_after nodes' capacity' from' count' room' none no_room higher real members =
-      tailed_bare end nodes' capacity' from' count' room' none no_room real (λ k m. elim (members k m) [
+  pub tailed_after : (nodes' : List ℕ) (capacity' from' count' index_bound' : ℕ) → count' ≡ 0 → index_bound' ≡ 0 → from + count ≤ from' → from' ≤ end
+      → ((k : ℕ) → Mem k nodes' → Mem k (nodes ++ range_with_len from count) ⊎ (k < from')) → IsTailed end nodes' capacity' from' count' index_bound'
+  tailed_after nodes' capacity' from' count' index_bound' none no_room higher real members =
+      tailed_bare end nodes' capacity' from' count' index_bound' none no_room real (λ k m. elim (members k m) [
         | inl a ↦ omega (arith, high k a, higher)
         | inr b ↦ b
       ])
 
-  pub tailed_same : (nodes' : List ℕ) (capacity' : ℕ) → nodes' ≡ nodes → capacity ≤ capacity' → IsTailed end nodes' capacity' from count room
+  pub tailed_same : (nodes' : List ℕ) (capacity' : ℕ) → nodes' ≡ nodes → capacity ≤ capacity' → IsTailed end nodes' capacity' from count index_bound
   tailed_same nodes' capacity' same larger =
       let P : List ℕ → Type 0 = λ z. (n : ℕ) → Contains z n → n < from in
       record {
@@ -207,7 +207,7 @@ module _ {end : ℕ} {nodes : List ℕ} {capacity from count room : ℕ} (s : Is
 
   -- the last node taken out
   module _ (less n : ℕ) (is : less + 1 ≡ count) (last : n + 1 ≡ from + count) where
-    pub tailed_fewer : IsTailed end nodes capacity from less room
+    pub tailed_fewer : IsTailed end nodes capacity from less index_bound
     tailed_fewer =
         record {
           below = s.below;
@@ -244,7 +244,7 @@ renamed_below n m from (x ∷ xs) low all k h =
     ]
 
 -- the last nodes of a list, when none of them is left
-pub few_none : (nodes : List ℕ) (left : ℕ) → left ≡ 0 → last_few left nodes ≡ []
+pub few_none : (nodes : List ℕ) (left : ℕ) → left ≡ 0 → last_nodes left nodes ≡ []
 few_none nodes left none =
     let all : length nodes - left ≡ length nodes = omega (arith, none) in
     ap (λ k. drop k nodes) all ∙ gone nodes

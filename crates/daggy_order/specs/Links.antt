@@ -7,7 +7,7 @@ use Rattle.daggy_base.specs.WellFormed.{AreDistinct}
 -- a list of nodes, the number below which nodes can be put into it, and how far that goes up without new memory
 pub record Listed : Type 0 where
   pub nodes : List ℕ
-  pub room : ℕ
+  pub index_bound : ℕ
   pub capacity : ℕ
 
 -- a list of nodes, and the number below which nodes can be put into it without new memory
@@ -16,47 +16,48 @@ pub record Stored : Type 0 where
   pub capacity : ℕ
 
 -- as many nodes as `count`, each the one that the node before it leads to
-abbrev pub walk : (end : ℕ) → List ℕ → (from count : ℕ) → List ℕ
-walk end next from zero = []
-walk end next from (suc count) = from ∷ walk end next (slice_index_or next from end) count
+abbrev pub nodes_from : (end : ℕ) → List ℕ → (from count : ℕ) → List ℕ
+nodes_from end next from zero = []
+nodes_from end next from (suc count) = from ∷ nodes_from end next (slice_index_or next from end) count
 
 -- where a node leads, and `end`, which stands before the first node and behind the last, leads to `outer`
 abbrev pub neighbor : (end outer : ℕ) → List ℕ → ℕ → ℕ
 neighbor end outer links n = if n == end then outer else slice_index_or links n end
 
 -- from p over nodes to q, each leads to what follows it, and back to what stands before it
-abbrev pub IsChain : (next previous : ℕ → ℕ) → (p : ℕ) → List ℕ → (q : ℕ) → Type 0
-IsChain next previous p [] q = (next p ≡ q) × (previous q ≡ p)
-IsChain next previous p (x ∷ xs) q = (next p ≡ x) × (previous x ≡ p) × IsChain next previous x xs q
+abbrev pub IsLinkChain : (next previous : ℕ → ℕ) → (p : ℕ) → List ℕ → (q : ℕ) → Type 0
+IsLinkChain next previous p [] q = (next p ≡ q) × (previous q ≡ p)
+IsLinkChain next previous p (x ∷ xs) q = (next p ≡ x) × (previous x ≡ p) × IsLinkChain next previous x xs q
 
 -- what the links of a list keep
-pub record IsLinked (end : ℕ) (next previous : List ℕ) (first last : ℕ) (nodes : List ℕ) : Type 0 where
-  pub chained : IsChain (neighbor end first next) (neighbor end last previous) end nodes end
+pub record AreLinksOf (end : ℕ) (next previous : List ℕ) (first last : ℕ) (nodes : List ℕ) : Type 0 where
+  pub chained : IsLinkChain (neighbor end first next) (neighbor end last previous) end nodes end
   pub distinct : AreDistinct (end ∷ nodes)
   pub within : (n : ℕ) → Contains nodes n → n < length previous
   pub sized : length previous ≤ length next
 
 -- labels that ascend along a list, all above `low` and below `high`
-abbrev pub IsAscending : (labels : List ℕ) → (low : ℕ) → List ℕ → (high : ℕ) → Type 0
-IsAscending labels low [] high = low < high
-IsAscending labels low (n ∷ nodes) high = (low < slice_index labels n) × IsAscending labels (slice_index labels n) nodes high
+abbrev pub LabelsAscend : (labels : List ℕ) → (low : ℕ) → List ℕ → (high : ℕ) → Type 0
+LabelsAscend labels low [] high = low < high
+LabelsAscend labels low (n ∷ nodes) high = (low < slice_index labels n) × LabelsAscend labels (slice_index labels n) nodes high
 
 -- labels that ascend along an order, and are 0 for what is not in it
 pub record IsLabelled (labels nodes : List ℕ) : Type 0 where
-  pub ascending : IsAscending labels 0 nodes (2 ^ 64)
+  pub ascending : LabelsAscend labels 0 nodes (2 ^ 64)
   pub held : (n : ℕ) → 0 < slice_index labels n → Contains nodes n
 
 -- a part of a list: `count` nodes, of which the first is `from`
-pub record IsRun (end : ℕ) (nodes : List ℕ) (from count : ℕ) (before run behind : List ℕ) : Type 0 where
+pub record IsSegment (end : ℕ) (nodes : List ℕ) (from count : ℕ) (before run behind : List ℕ) : Type 0 where
   pub is : nodes ≡ before ++ (run ++ behind)
   pub counted : length run ≡ count
   pub begins : from ≡ first_of end (run ++ behind)
 
-pub record HasRun (end : ℕ) (nodes : List ℕ) (from count : ℕ) : Type 0 where
+-- such a part exists
+pub record HasSegment (end : ℕ) (nodes : List ℕ) (from count : ℕ) : Type 0 where
   pub before : List ℕ
   pub run : List ℕ
   pub behind : List ℕ
-  pub is_run : IsRun end nodes from count before run behind
+  pub is_run : IsSegment end nodes from count before run behind
 
 -- labels that ascend along a list but for `count` nodes behind a, of which the first is `from`, and `after` what follows
 -- the last
@@ -68,30 +69,30 @@ pub record HasGap (end : ℕ) (labels nodes : List ℕ) (a from count after : �
   pub counted : length run ≡ count
   pub begins : from ≡ first_of end (run ++ behind)
   pub ends : after ≡ first_of end behind
-  pub ascending : IsAscending labels 0 (before ++ a ∷ behind) (2 ^ 64)
+  pub ascending : LabelsAscend labels 0 (before ++ a ∷ behind) (2 ^ 64)
 
 -- labels that ascend along a list but for the last node n, before which stands `last`
 pub record HasLast (labels nodes : List ℕ) (last n : ℕ) : Type 0 where
   pub before : List ℕ
   pub is : nodes ≡ before ++ n ∷ []
   pub ends : (ns : List ℕ) (m : ℕ) → before ≡ ns ++ m ∷ [] → last ≡ m
-  pub ascending : IsAscending labels 0 before (2 ^ 64)
+  pub ascending : LabelsAscend labels 0 before (2 ^ 64)
 
 -- labels that ascend along a list but for the first node n, behind which stands `first`
 pub record HasFirst (end : ℕ) (labels nodes : List ℕ) (first n : ℕ) : Type 0 where
   pub behind : List ℕ
   pub is : nodes ≡ n ∷ behind
   pub begins : first ≡ first_of end behind
-  pub ascending : IsAscending labels 0 behind (2 ^ 64)
+  pub ascending : LabelsAscend labels 0 behind (2 ^ 64)
 
 -- the last nodes of a list, as many as `left`
-abbrev pub last_few : (left : ℕ) → List ℕ → List ℕ
-last_few left nodes = drop (length nodes - left) nodes
+abbrev pub last_nodes : (left : ℕ) → List ℕ → List ℕ
+last_nodes left nodes = drop (length nodes - left) nodes
 
 -- where one is who has yet to go over the last nodes of a list
 pub record IsAt (end : ℕ) (nodes : List ℕ) (left at : ℕ) : Type 0 where
   pub within : left ≤ length nodes
-  pub here : at ≡ first_of end (last_few left nodes)
+  pub here : at ≡ first_of end (last_nodes left nodes)
 
 -- nodes that stand before a
 pub record StandBefore (nodes : List ℕ) (a : ℕ) (ns : List ℕ) : Type 0 where
@@ -116,11 +117,11 @@ without_all (n ∷ ns) nodes = without_all ns (without n nodes)
 
 -- nodes that are written, behind which stand nodes in turn that are not: these are above all others, and there is memory
 -- to write them
-pub record IsTailed (end : ℕ) (nodes : List ℕ) (capacity from count room : ℕ) : Type 0 where
+pub record IsTailed (end : ℕ) (nodes : List ℕ) (capacity from count index_bound : ℕ) : Type 0 where
   pub below : (n : ℕ) → Contains nodes n → n < from
   pub real : from + count ≤ end
-  pub within : room ≤ capacity
-  pub fits : 0 < count → from + count ≤ room
+  pub within : index_bound ≤ capacity
+  pub fits : 0 < count → from + count ≤ index_bound
 
 -- where one is who has yet to go over the last nodes of a list, and behind it over nodes in turn
 pub record IsAmong (end : ℕ) (nodes : List ℕ) (left at from count : ℕ) : Type 0 where

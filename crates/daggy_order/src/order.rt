@@ -42,7 +42,7 @@ impl<Ix: IndexType> Model for Order<Ix> {
 
     ghost view = { λ o. o.written.nodes ++ range_with_len o.tail.from o.tail.count };
 
-    ghost invariant = { λ o. IsTailed Ix.greatest o.written.nodes o.written.capacity o.tail.from o.tail.count o.tail.room };
+    ghost invariant = { λ o. IsTailed Ix.greatest o.written.nodes o.written.capacity o.tail.from o.tail.count o.tail.index_bound };
 }
 
 impl<Ix: IndexType> Order<Ix> {
@@ -55,7 +55,7 @@ impl<Ix: IndexType> Order<Ix> {
             tail: Tail {
                 from: 0,
                 count: 0,
-                room: 0,
+                index_bound: 0,
             },
         }
     }
@@ -108,7 +108,7 @@ impl<Ix: IndexType> Order<Ix> {
         ensures err { OnErr result (self.new ≡ self.old) }
     {
         let i = n.index();
-        if i < self.tail.room && i == self.tail.from + self.tail.count {
+        if i < self.tail.index_bound && i == self.tail.from + self.tail.count {
             self.tail.count += 1;
             return Ok(());
         }
@@ -125,7 +125,7 @@ impl<Ix: IndexType> Order<Ix> {
     {
         let i = n.index();
         if i == self.tail.from + self.tail.count {
-            self.tail.room = self.written.reserve(i + 1)?;
+            self.tail.index_bound = self.written.reserve(i + 1)?;
             self.tail.count += 1;
             return Ok(());
         }
@@ -152,7 +152,7 @@ impl<Ix: IndexType> Order<Ix> {
     pub fn reserve(&mut self, bound: usize) -> Result<(), AllocError>
         ensures { self.new ≡ self.old }
     {
-        self.tail.room = self.written.reserve(bound)?;
+        self.tail.index_bound = self.written.reserve(bound)?;
         Ok(())
     }
 
@@ -231,14 +231,18 @@ impl<Ix: IndexType> Order<Ix> {
     {
         let mut written = self.written.try_clone()?;
         let Tail { from, count, .. } = self.tail;
-        let room = if count == 0 {
+        let index_bound = if count == 0 {
             0
         } else {
             written.reserve(from + count)?
         };
         Ok(Order {
             written,
-            tail: Tail { from, count, room },
+            tail: Tail {
+                from,
+                count,
+                index_bound,
+            },
         })
     }
 
@@ -251,7 +255,7 @@ impl<Ix: IndexType> Order<Ix> {
         self.tail = Tail {
             from: 0,
             count: 0,
-            room: 0,
+            index_bound: 0,
         };
     }
 }

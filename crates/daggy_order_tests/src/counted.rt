@@ -72,7 +72,7 @@ impl Counted {
     pub fn add_edge(&mut self, a: NodeIndex<u8>, b: NodeIndex<u8>) -> Result<(), AllocError>
         requires parent { HasNode self.old.graph a }
         requires child { HasNode self.old.graph b }
-        requires room { edge_count self.old.graph < 255 }
+        requires index_left { edge_count self.old.graph < 255 }
         ensures added { OnOk result (self.new ≡ with_graph self.old (with_edge self.old.graph a b 0)) }
         ensures err { OnErr result (self.new ≡ self.old) }
     {

@@ -2,10 +2,10 @@
 use Rattle.std.proofs.Common.{ℕ, ◌↔◌, List, [], ◌∷◌}
 use Rattle.daggy_base.specs.Graph.{Graph, HasNode}
 use Rattle.daggy_base.specs.Path.{AreJoined, IsPath, IsAcyclic}
-use Rattle.daggy_base.specs.Reduction.{IsBelow, ReachesRound}
-use Rattle.daggy_reduction.specs.Comparing.{LosesRoundPairs, HaveSameNodes, JoinSamePairs, HaveSameReachability, ReachAll}
-use Rattle.daggy_reduction.proofs.Keeping.{reached_before, reached_after}
-use Rattle.daggy_reduction.proofs.Covering.{cover_joined, cover_same, joined_cover, cover_kept}
+use Rattle.daggy_base.specs.Reduction.{IsBelow, ReachesIndirectly}
+use Rattle.daggy_reduction.specs.Comparison.{LosesRoundPairs, HaveSameNodes, JoinSamePairs, HaveSameReachability, ReachAll}
+use Rattle.daggy_reduction.proofs.ReachabilityKept.{reached_before, reached_after}
+use Rattle.daggy_reduction.proofs.CoverPairs.{cover_joined, cover_same, joined_cover, cover_kept}
 
 -- the ends of joined pairs exist
 abbrev pub Ends : {N E : Type 0} → Graph N E → Type 0
@@ -32,7 +32,7 @@ module _ {N E : Type 0} (roots : List ℕ) (old new : Graph N E) (acyclic : IsAc
   below_before n b = (b.0, b.1, (s.nodes b.0).1 b.2, reached_before roots old new acyclic s b.0 n b.3)
 
   -- no joined pair is redundant any more
-  pub nothing_left : (u v : ℕ) → AreJoined new u v → IsBelow new roots u → ReachesRound new u v → ⊥
+  pub nothing_left : (u v : ℕ) → AreJoined new u v → IsBelow new roots u → ReachesIndirectly new u v → ⊥
   nothing_left u v j below round =
       s.lost u v j (below_before u below) (round.0, round.1, round.2, path_same new old (λ n. (s.nodes n).1) s.joined (u ∷ round.0 ∷ round.1 ∷ round.2) round.3, round.4)
 

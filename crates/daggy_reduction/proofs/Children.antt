@@ -6,10 +6,10 @@ use Rattle.daggy_base.specs.Path.{AreJoined}
 use Rattle.daggy_base.specs.Cursor.{first_of}
 use Rattle.daggy_base.specs.WellFormed.{IsWellFormed}
 use Rattle.daggy_base.specs.Look.{IsLook}
-use Rattle.daggy_base.proofs.Reading.{LookedTo, below_bound, read_part, all_read, has_edge, child_exists, child_joined, next_cursor, looked_more}
-use Rattle.daggy_base.proofs.Going.{set_marked}
-use Rattle.daggy_reduction.specs.Comparing.{JoinsAll}
-use Rattle.daggy_reduction.proofs.Flagged.{unmarked}
+use Rattle.daggy_base.proofs.OutEdgesRead.{LookedTo, below_bound, read_part, all_read, has_edge, child_exists, child_joined, next_cursor, looked_more}
+use Rattle.daggy_base.proofs.SearchProgress.{set_marked}
+use Rattle.daggy_reduction.specs.Comparison.{JoinsAll}
+use Rattle.daggy_reduction.proofs.FlaggedRedundant.{unmarked}
 
 -- The first edges that leave a node were looked at, and e is the next one. P holds of their children.
 pub record Looking {N E : Type 0} (end : ℕ) (g₀ g : Graph N E) (u e looks₀ looks : ℕ) (P : ℕ → Type 0) : Type 0 where

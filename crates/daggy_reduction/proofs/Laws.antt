@@ -5,13 +5,13 @@ use Rattle.daggy_base.specs.Path.{IsAcyclic}
 use Rattle.daggy_base.specs.Removal.{Kind, Stable, KeepsIndices, without_edges}
 use Rattle.daggy_base.specs.WellFormed.{IsWellFormed}
 use Rattle.daggy_base.specs.Reduction.{IsReduction}
-use Rattle.daggy_reduction.specs.Comparing.{LosesRoundPairs, JoinsAll, HaveSameReachability, JoinsCovers, JoinsOthers, IsLeast, HasNoneRedundant, IsCanonical}
-use Rattle.daggy_reduction.proofs.Surviving.{reduction_loses}
-use Rattle.daggy_reduction.proofs.Keeping.{same_reachability}
-use Rattle.daggy_reduction.proofs.Covering.{joined_exactly}
+use Rattle.daggy_reduction.specs.Comparison.{LosesRoundPairs, JoinsAll, HaveSameReachability, JoinsCovers, JoinsOthers, IsLeast, HasNoneRedundant, IsCanonical}
+use Rattle.daggy_reduction.proofs.RemainingEdges.{reduction_loses}
+use Rattle.daggy_reduction.proofs.ReachabilityKept.{same_reachability}
+use Rattle.daggy_reduction.proofs.CoverPairs.{joined_exactly}
 use Rattle.daggy_reduction.proofs.Canonical.{least, nothing_left, alike_exactly}
-use Rattle.daggy_reduction.proofs.Flagged.{joined_exist}
-use Rattle.daggy_reduction.proofs.Descending.{keeps_indices}
+use Rattle.daggy_reduction.proofs.FlaggedRedundant.{joined_exist}
+use Rattle.daggy_reduction.proofs.EdgesRemovedDownward.{keeps_indices}
 
 module _ {N E : Type 0} {limit : ℕ} (kind : Kind) (roots : List ℕ) (old new : Graph N E) (acyclic : IsAcyclic old) (w : IsWellFormed limit old) (r : IsReduction kind roots old new) where
   loses : LosesRoundPairs roots old new

@@ -2,12 +2,12 @@
 use Rattle.std.proofs.Common.{◌≡◌, ◌≢◌, ℕ, ◌<◌, ◌≤◌, inl, inr, List, [], ◌∷◌, ◌++◌, length, refl, sym, subst, arith}
 use Rattle.daggy_base.specs.Graph.{Graph, HasNode}
 use Rattle.daggy_base.specs.Path.{AreJoined, IsPath, Reaches, IsAcyclic, end_of}
-use Rattle.daggy_base.specs.Reduction.{ReachesRound}
+use Rattle.daggy_base.specs.Reduction.{ReachesIndirectly}
 use Rattle.daggy_base.proofs.Lists.{Mem, Unique}
-use Rattle.daggy_base.proofs.Adding.{reaches_on}
-use Rattle.daggy_base.proofs.Going.{fewer_than}
-use Rattle.daggy_base.proofs.Nodes.{bound_low}
-use Rattle.daggy_base.proofs.Reading.{below_bound}
+use Rattle.daggy_base.proofs.PathsWithEdge.{reaches_on}
+use Rattle.daggy_base.proofs.SearchProgress.{fewer_than}
+use Rattle.daggy_base.proofs.PathsWithNode.{bound_low}
+use Rattle.daggy_base.proofs.OutEdgesRead.{below_bound}
 
 pub end_append : (u : ℕ) (rest more : List ℕ) → end_of u (rest ++ more) ≡ end_of (end_of u rest) more
 end_append u [] more = refl
@@ -70,17 +70,17 @@ module _ {N E : Type 0} (g : Graph N E) where
   reaches_one u v a b j = (v ∷ [], (a, j, b), refl)
 
   -- a longer way passes another node
-  pub round_parts : (u v : ℕ) → ReachesRound g u v → (w x : ℕ) × AreJoined g u w × AreJoined g w x × Reaches g w v × Reaches g x v
+  pub round_parts : (u v : ℕ) → ReachesIndirectly g u v → (w x : ℕ) × AreJoined g u w × AreJoined g w x × Reaches g w v × Reaches g x v
   round_parts u v r = (r.0, r.1, r.3.1, r.3.2.1, (r.1 ∷ r.2, r.3.2, r.4), (r.2, r.3.2.2, r.4))
 
   -- and a way that passes another node is longer
-  pub round_through : (u w v : ℕ) → Reaches g u w → Reaches g w v → w ≢ u → w ≢ v → ReachesRound g u v
+  pub round_through : (u w v : ℕ) → Reaches g u w → Reaches g w v → w ≢ u → w ≢ v → ReachesIndirectly g u v
   round_through u w v a b from to =
       let s = first_step u w a (λ e. from (sym e)) in
       let t = reaches_on g s.0 w v s.3 b in
       go s.0 s.1 s.2 s.3 t.0 t.1 t.2
     where
-      go : (x : ℕ) → HasNode g u → AreJoined g u x → Reaches g x w → (rest : List ℕ) → IsPath g (x ∷ rest) → end_of x rest ≡ v → ReachesRound g u v
+      go : (x : ℕ) → HasNode g u → AreJoined g u x → Reaches g x w → (rest : List ℕ) → IsPath g (x ∷ rest) → end_of x rest ≡ v → ReachesIndirectly g u v
       go x has j xw (y ∷ rest) p e = (x, y, rest, (has, j, p), e)
       go x has j xw [] p e =
           let s = first_step w v b to in

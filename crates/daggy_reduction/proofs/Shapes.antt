@@ -3,14 +3,14 @@ use Rattle.std.proofs.Common.{◌≡◌, ℕ, zero, suc, ◌<◌, ◌↔◌, Lis
 use Rattle.daggy_base.specs.Graph.{Graph, HasNode, slot, node_count}
 use Rattle.daggy_base.specs.WellFormed.{IsDag}
 use Rattle.daggy_base.specs.Graph.{IsCompact}
-use Rattle.daggy_base.proofs.Adding.{reaches_itself}
-use Rattle.daggy_base.proofs.Full.{IsFull, full_from, node_count_full}
-use Rattle.daggy_base.proofs.Nodes.{bound_low}
-use Rattle.daggy_base.proofs.Reading.{below_bound}
-use Rattle.daggy_reduction.specs.Comparing.{HaveSameNodes, JoinSamePairs, HaveSameReachability, ReachAll, IsReducedShape}
-use Rattle.daggy_reduction.proofs.Surviving.{reduction_loses}
+use Rattle.daggy_base.proofs.PathsWithEdge.{reaches_itself}
+use Rattle.daggy_base.proofs.FullSlots.{IsFull, full_from, node_count_full}
+use Rattle.daggy_base.proofs.PathsWithNode.{bound_low}
+use Rattle.daggy_base.proofs.OutEdgesRead.{below_bound}
+use Rattle.daggy_reduction.specs.Comparison.{HaveSameNodes, JoinSamePairs, HaveSameReachability, ReachAll, IsReducedShape}
+use Rattle.daggy_reduction.proofs.RemainingEdges.{reduction_loses}
 use Rattle.daggy_reduction.proofs.Canonical.{alike_exactly}
-use Rattle.daggy_reduction.proofs.Flagged.{joined_exist}
+use Rattle.daggy_reduction.proofs.FlaggedRedundant.{joined_exist}
 
 full_there : {A : Type 0} (xs : List (Option A)) → IsFull xs → (i : ℕ) → i < length xs → IsSome (slot xs i)
 full_there [] full i low = absurd (omega (arith, low))

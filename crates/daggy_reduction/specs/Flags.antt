@@ -1,8 +1,9 @@
 -- Edges that are flagged in a list: the flag of an edge is its own index, and `end` where there is none.
 use Rattle.std.specs.Prelude.{◌≡◌, ◌≢◌, ℕ, zero, suc, ◌==◌, ◌↔◌, ◌⊎◌, Bool, true, false, Some, List, [], ◌∷◌, ◌++◌, slice_index_or, if◌then◌else◌}
 use Rattle.daggy_base.specs.Graph.{Graph, Edge, edge_at}
-use Rattle.daggy_base.specs.Reduction.{ReachesRound}
+use Rattle.daggy_base.specs.Reduction.{ReachesIndirectly}
 
+-- the edge e has a flag
 abbrev pub IsFlagged : (end : ℕ) → List ℕ → ℕ → Type 0
 IsFlagged end flags e = slice_index_or flags e end ≢ end
 
@@ -28,7 +29,7 @@ pub record LeavesRound {N E : Type 0} (g : Graph N E) (u e : ℕ) : Type 0 where
   pub edge : Edge E
   pub at : edge_at g e ≡ Some edge
   pub parent : edge.parent ≡ u
-  pub round : ReachesRound g u edge.child
+  pub round : ReachesIndirectly g u edge.child
 
 -- those edges got flags, and the flags from before stay
 abbrev pub FlagsRound : {N E : Type 0} → (end : ℕ) → Graph N E → (u : ℕ) (old new : List ℕ) → Type 0

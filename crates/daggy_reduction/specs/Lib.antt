@@ -1,4 +1,4 @@
-pub mod Comparing
-pub mod Closing
+pub mod Comparison
+pub mod Closure
 pub mod Flags
-pub mod Stretching
+pub mod SearchSpan

@@ -3,11 +3,11 @@ ghost use Rattle.std.specs.Prelude.{◌≡◌, ℕ, ◌+◌, ◌*◌, ◌≤◌,
 ghost use Rattle.daggy_base.specs.Graph.{HasNode, out_list, node_bound, edge_bound, node_count, edge_count};
 ghost use Rattle.daggy_base.specs.Path.{AreJoined};
 ghost use Rattle.daggy_base.specs.WellFormed.{IsWellFormed};
-ghost use Rattle.daggy_base.specs.Reduction.{IsRedundant, ReachesRound};
+ghost use Rattle.daggy_base.specs.Reduction.{IsRedundant, ReachesIndirectly};
 ghost use Rattle.daggy_order.specs.Ordered.{IsOrderOf};
 ghost use Rattle.daggy_reduction.specs.Flags.{IsFlagged, FlagsRound};
-ghost use Rattle.daggy_reduction.specs.Comparing.{IsAscending};
-ghost use Rattle.daggy_reduction.specs.Stretching.{edges_spanned, all_spanned};
+ghost use Rattle.daggy_reduction.specs.Comparison.{IsAscending};
+ghost use Rattle.daggy_reduction.specs.SearchSpan.{edges_spanned, all_spanned};
 
 use crate::closure::{enter, mark_unless_first};
 use crate::flags::{flag_marked, gather_flagged, unflag};
@@ -36,7 +36,7 @@ pub(crate) fn meet_round<Ix: IndexType, S: EdgeSource<Ix>>(
     requires queue_fits { length entered.old ≤ length queue.old }
     ensures same { S.graph source.new ≡ S.graph source.old }
     ensures met { (v : ℕ) → AreJoined (S.graph source.old) (Ix.number u) v → (slice_index_or met.new v false ≡ true)
-        ↔ ((slice_index_or met.old v false ≡ true) ⊎ ReachesRound (S.graph source.old) (Ix.number u) v) }
+        ↔ ((slice_index_or met.old v false ≡ true) ⊎ ReachesIndirectly (S.graph source.old) (Ix.number u) v) }
     ensures counted { S.looks source.new ≤ S.looks source.old + edges_spanned (S.graph source.old) order.now (Ix.number u) }
     ensures entered_kept { length entered.new ≡ length entered.old }
     ensures met_kept { length met.new ≡ length met.old }
@@ -213,7 +213,7 @@ pub fn redundant_edges_in<Ix: IndexType, S: EdgeSource<Ix>>(
         + (node_count (S.graph source.old) + 2) * edge_count (S.graph source.old) }
     ensures spanned { S.looks source.new ≤ S.looks source.old
         + 2 * edge_count (S.graph source.old) + all_spanned (S.graph source.old) order.now order.now }
-    ensures room { scratch.new ≡ scratch.old }
+    ensures same_capacity { scratch.new ≡ scratch.old }
     ensures edges_kept { length edges.new ≡ length edges.old }
 {
     write_out(&mut scratch.stack, scratch.marks.len(), Link::end());
@@ -223,7 +223,7 @@ pub fn redundant_edges_in<Ix: IndexType, S: EdgeSource<Ix>>(
         order,
         roots,
         &mut scratch.marks,
-        &mut scratch.left,
+        &mut scratch.finished,
         scratch.stack.as_mut_slice(),
         scratch.cursors.as_mut_slice(),
         edges,

@@ -2,7 +2,7 @@
 ghost use Rattle.std.specs.Prelude.{◌≡◌, ◌≢◌, ℕ, ◌+◌, ◌<◌, ◌≤◌, ◌^◌, true, false, length, take, slice_set, slice_index_or};
 ghost use Rattle.daggy_base.specs.Graph.{node_bound, edge_count};
 ghost use Rattle.daggy_base.specs.WellFormed.{IsWellFormed};
-ghost use Rattle.daggy_reduction.specs.Closing.{IsQueue, IsClosure, MeetsChildren};
+ghost use Rattle.daggy_reduction.specs.Closure.{IsQueue, IsClosure, MeetsChildren};
 
 use daggy_base::index::{EdgeIndex, IndexType, NodeIndex};
 use daggy_base::link::Link;
@@ -17,7 +17,7 @@ pub(crate) fn enter<Ix: IndexType>(
     n: NodeIndex<Ix>,
 ) -> usize
     requires mark { Ix.number n < length entered.old }
-    requires room { slice_index_or entered.old (Ix.number n) false ≡ false → len < length queue.old }
+    requires queue_fits { slice_index_or entered.old (Ix.number n) false ≡ false → len < length queue.old }
     requires fits { length queue.old < 2 ^ 64 }
     ensures most { result ≤ len + 1 }
     ensures there { slice_index_or entered.old (Ix.number n) false ≡ true

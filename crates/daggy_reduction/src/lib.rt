@@ -4,7 +4,7 @@
 pub mod bounded;
 mod closure;
 mod flags;
-pub mod pairs;
+pub mod joined_pairs;
 pub mod reduce;
 pub mod redundant;
 mod roots;

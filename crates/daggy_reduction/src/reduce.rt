@@ -5,8 +5,8 @@ ghost use Rattle.daggy_base.specs.Removal.{without_edges};
 ghost use Rattle.daggy_base.specs.WellFormed.{IsWellFormed};
 ghost use Rattle.daggy_base.specs.Reduction.{IsReduction};
 ghost use Rattle.daggy_order.specs.Ordered.{IsOrderOf};
-ghost use Rattle.daggy_reduction.specs.Comparing.{IsAscending, JoinsAll};
-ghost use Rattle.daggy_reduction.specs.Stretching.{all_spanned};
+ghost use Rattle.daggy_reduction.specs.Comparison.{IsAscending, JoinsAll};
+ghost use Rattle.daggy_reduction.specs.SearchSpan.{all_spanned};
 
 use crate::bounded::find_redundant_in;
 use daggy_base::index::{EdgeIndex, IndexType, NodeIndex};
@@ -51,7 +51,7 @@ pub fn transitive_reduce<Ix: IndexType, S: Store<Ix>>(
     ensures spanned { OnOk result (S.looks store.new ≤ S.looks store.old
         + 2 * edge_count (S.graph store.old) + all_spanned (S.graph store.old) order.now order.now) }
     ensures unlooked { OnErr result (S.looks store.new ≡ S.looks store.old) }
-    ensures room { scratch.old.nodes ≤ scratch.new.nodes }
+    ensures capacity_kept { scratch.old.nodes ≤ scratch.new.nodes }
 {
     let nodes = store.node_bound();
     let edges = store.edge_bound();
@@ -63,7 +63,7 @@ pub fn transitive_reduce<Ix: IndexType, S: Store<Ix>>(
         order,
         roots,
         &mut scratch.marks,
-        &mut scratch.left,
+        &mut scratch.finished,
         scratch.stack.as_mut_slice(),
         scratch.cursors.as_mut_slice(),
         scratch.found.as_mut_slice(),

@@ -5,7 +5,7 @@ ghost use Rattle.daggy_base.specs.Path.{IsAcyclic};
 ghost use Rattle.daggy_base.specs.WellFormed.{IsWellFormed};
 ghost use Rattle.daggy_base.specs.Reduction.{IsRedundant};
 ghost use Rattle.daggy_reduction.specs.Flags.{IsFlagged, FlagsRound};
-ghost use Rattle.daggy_reduction.specs.Comparing.{IsAscending};
+ghost use Rattle.daggy_reduction.specs.Comparison.{IsAscending};
 
 use crate::closure::{close, enter};
 use crate::flags::{flag_marked, gather_flagged, unflag};
@@ -139,7 +139,7 @@ pub fn redundant_edges<Ix: IndexType, S: EdgeSource<Ix>>(
         ↔ IsRedundant (S.graph source.old) (map Ix.number roots.now) e }
     ensures counted { S.looks source.new ≤ S.looks source.old
         + (node_count (S.graph source.old) + 2) * edge_count (S.graph source.old) }
-    ensures room { scratch.new ≡ scratch.old }
+    ensures same_capacity { scratch.new ≡ scratch.old }
     ensures edges_kept { length edges.new ≡ length edges.old }
 {
     write_out(&mut scratch.stack, scratch.marks.len(), Link::end());
@@ -148,7 +148,7 @@ pub fn redundant_edges<Ix: IndexType, S: EdgeSource<Ix>>(
         source,
         roots,
         &mut scratch.marks,
-        &mut scratch.left,
+        &mut scratch.finished,
         scratch.stack.as_mut_slice(),
         scratch.cursors.as_mut_slice(),
         edges,

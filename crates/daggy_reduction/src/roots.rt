@@ -3,7 +3,7 @@ ghost use Rattle.std.specs.Prelude.{◌≡◌, ℕ, ◌+◌, ◌≤◌, ◌↔�
 ghost use Rattle.daggy_base.specs.Graph.{HasNode, node_bound, edge_count};
 ghost use Rattle.daggy_base.specs.Reduction.{IsBelow};
 ghost use Rattle.daggy_base.specs.WellFormed.{IsWellFormed, AreDistinct};
-ghost use Rattle.daggy_reduction.specs.Closing.{IsQueue};
+ghost use Rattle.daggy_reduction.specs.Closure.{IsQueue};
 
 use crate::closure::{close, enter};
 use daggy_base::index::{IndexType, NodeIndex};

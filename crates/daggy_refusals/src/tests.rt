@@ -204,7 +204,8 @@ fn add_edges_again(rt: &impl Abort, dag: &mut Plain, count: usize, refused: &mut
     holds(rt, added.next().is_none());
 }
 
-// Asserts that the weights of a refused series come back: they count from the first, and the last one accepted stands first.
+// Asserts that the weights of a refused batch come back: they count from the first, and the last
+// one accepted stands first.
 fn come_back(rt: &impl Abort, last: usize, before: &[usize], first: usize) {
     let mut wanted = last;
     for weight in before {

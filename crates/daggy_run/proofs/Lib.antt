@@ -1,7 +1,7 @@
-pub mod Running
-pub mod Agreeing
-pub mod Walking
-pub mod Listing
-pub mod Raising
-pub mod Staging
-pub mod Planning
+pub mod RunSteps
+pub mod OneAnswer
+pub mod ListedNeighbors
+pub mod EdgesFromVec
+pub mod RaisedNodes
+pub mod StagedNodes
+pub mod PlanByLevels

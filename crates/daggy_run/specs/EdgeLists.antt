@@ -1,10 +1,10 @@
--- A series of edges that is at hand as a list: all are added in their order, or none is.
+-- A batch of edges that is at hand as a list: all are added in their order, or none is.
 use Rattle.std.specs.Prelude.{◌≡◌, ℕ, List, ◌∷◌, ◌++◌}
 use Rattle.daggy_base.specs.Graph.{Graph}
 use Rattle.daggy_base.specs.Path.{IsAcyclic}
 use Rattle.daggy_base.specs.declared.error.EdgesError.{EdgesError}
 use Rattle.daggy_base.specs.declared.error.EdgesError.TheVariants.{BadEndpoint, Full, Memory, WouldCycle}
-use Rattle.daggy_guard.specs.Series.{NewEdge, with_edges, new_edges, IsFaultless, LacksEnd, LacksIndex, LacksMemory, weights_back}
+use Rattle.daggy_guard.specs.EdgeBatch.{NewEdge, with_edges, new_edges, IsFaultless, LacksEnd, LacksIndex, LacksMemory, weights_back}
 
 module _ {N E : Type 0} (limit : ℕ) (g : Graph N E) (edges : List (NewEdge E)) where
   -- no edge is at fault, and with all of them there is no cycle, so all are added

@@ -1,6 +1,6 @@
 -- What commands ask, with each index as its number and each `Vec` as its list.
 use Rattle.std.specs.Prelude.{ℕ, List, map}
-use Rattle.daggy_guard.specs.Series.{NewEdge, by_numbers}
+use Rattle.daggy_guard.specs.EdgeBatch.{NewEdge, by_numbers}
 use Rattle.daggy_run.specs.declared.command.Command.{Command}
 use Rattle.daggy_run.specs.declared.command.Command.TheVariants as command
 

@@ -11,7 +11,7 @@ use Rattle.daggy_base.specs.Reduction.{IsReduction}
 use Rattle.daggy_base.specs.Weights.{edge_weight, with_edge_weight}
 use Rattle.daggy_base.specs.Finding.{find_edge}
 use Rattle.daggy_base.specs.Iterating.{edges_at}
-use Rattle.daggy_guard.specs.Series.{NewEdge, HasEnds, LacksEnd, LacksIndex, LacksMemory}
+use Rattle.daggy_guard.specs.EdgeBatch.{NewEdge, HasEnds, LacksEnd, LacksIndex, LacksMemory}
 use Rattle.daggy_run.specs.EdgeLists.{AddsAll, StopsAt, ClosesCycle}
 use Rattle.daggy_run.specs.Requests as request
 use Rattle.daggy_run.specs.Requests.{Request}
@@ -44,32 +44,32 @@ IsUpdateStep limit (Some found) old x (answer.Edge e) new = (e ≡ found) × (ne
 IsUpdateStep limit (Some found) old x other new = ⊥
 
 -- a node exists, and an index is left for an edge and for a node
-abbrev pub HasRoomAt : {N E : Type 0} → (limit : ℕ) → Graph N E → ℕ → Type 0
-HasRoomAt limit g n = HasNode g n × (edge_count g < limit) × (node_count g < limit)
+abbrev pub HasIndicesAt : {N E : Type 0} → (limit : ℕ) → Graph N E → ℕ → Type 0
+HasIndicesAt limit g n = HasNode g n × (edge_count g < limit) × (node_count g < limit)
 
 -- adding a node with an edge to it, or from it
 abbrev pub IsNeighborStep : {N E : Type 0} → Direction → (limit : ℕ) → Graph N E → ℕ → E → N → Answer N E → Graph N E → Type 0
 IsNeighborStep dir limit old n edge node (answer.EdgeNode e m) new =
-    HasRoomAt limit old n × (e ≡ next_edge old) × (m ≡ next_node old) × (new ≡ with_neighbor dir old n edge node)
+    HasIndicesAt limit old n × (e ≡ next_edge old) × (m ≡ next_node old) × (new ≡ with_neighbor dir old n edge node)
 IsNeighborStep dir limit old n edge node (answer.Missing (OfEdgeNode e w)) new =
     ¬ (HasNode old n) × (e ≡ edge) × (w ≡ node) × (new ≡ old)
 IsNeighborStep dir limit old n edge node (answer.Full (OfEdgeNode e w)) new =
     HasNode old n × ((limit ≤ edge_count old) ⊎ (limit ≤ node_count old)) × (e ≡ edge) × (w ≡ node) × (new ≡ old)
 IsNeighborStep dir limit old n edge node (answer.Memory (OfEdgeNode e w)) new =
-    HasRoomAt limit old n × (e ≡ edge) × (w ≡ node) × (new ≡ old)
+    HasIndicesAt limit old n × (e ≡ edge) × (w ≡ node) × (new ≡ old)
 IsNeighborStep dir limit old n edge node other new = ⊥
 
 -- adding all edges of a list, or none
-abbrev pub IsSeriesStep : {N E : Type 0} → (limit : ℕ) → Graph N E → List (NewEdge E) → Answer N E → Graph N E → Type 0
-IsSeriesStep limit old edges (answer.Edges indices) new = AddsAll limit old edges indices new
-IsSeriesStep limit old edges (answer.Missing (OfEdges last before)) new =
+abbrev pub IsBatchStep : {N E : Type 0} → (limit : ℕ) → Graph N E → List (NewEdge E) → Answer N E → Graph N E → Type 0
+IsBatchStep limit old edges (answer.Edges indices) new = AddsAll limit old edges indices new
+IsBatchStep limit old edges (answer.Missing (OfEdges last before)) new =
     StopsAt limit old edges LacksEnd last before × (new ≡ old)
-IsSeriesStep limit old edges (answer.Full (OfEdges last before)) new =
+IsBatchStep limit old edges (answer.Full (OfEdges last before)) new =
     StopsAt limit old edges (LacksIndex limit) last before × (new ≡ old)
-IsSeriesStep limit old edges (answer.Memory (OfEdges last before)) new =
+IsBatchStep limit old edges (answer.Memory (OfEdges last before)) new =
     StopsAt limit old edges (LacksMemory limit) last before × (new ≡ old)
-IsSeriesStep limit old edges (answer.CycleAll weights) new = ClosesCycle limit old edges weights × (new ≡ old)
-IsSeriesStep limit old edges other new = ⊥
+IsBatchStep limit old edges (answer.CycleAll weights) new = ClosesCycle limit old edges weights × (new ≡ old)
+IsBatchStep limit old edges other new = ⊥
 
 -- What a request may be answered over a graph, and the graph after it. What is missing comes before what is full, and that
 -- before a cycle. Where there was no memory, nothing else stands in the way, and nothing has changed.
@@ -85,7 +85,7 @@ IsStep kind limit old (request.Edge x) said new = IsEdgeStep limit old x said ne
 IsStep kind limit old (request.Update x) said new = IsUpdateStep limit (find_edge old x.0 x.1) old x said new
 IsStep kind limit old (request.Child parent edge node) said new = IsNeighborStep Outgoing limit old parent edge node said new
 IsStep kind limit old (request.Parent child edge node) said new = IsNeighborStep Incoming limit old child edge node said new
-IsStep kind limit old (request.Edges edges) said new = IsSeriesStep limit old edges said new
+IsStep kind limit old (request.Edges edges) said new = IsBatchStep limit old edges said new
 IsStep kind limit old (request.Find parent child) (answer.Found e) new = (e ≡ find_edge old parent child) × (new ≡ old)
 IsStep kind limit old (request.Find parent child) other new = ⊥
 IsStep kind limit old (request.Ends e) (answer.Ends ends) new = (ends ≡ option_map ends_of (edge_at old e)) × (new ≡ old)

@@ -16,7 +16,7 @@ ghost use Rattle.daggy_base.specs.declared.index.Direction.TheVariants.{Outgoing
 ghost use Rattle.daggy_base.specs.declared.error.NodeError.TheVariants.{Memory as NodeMemory};
 ghost use Rattle.daggy_base.specs.declared.error.EdgeError.TheVariants.{WouldCycle as ByCycle, Memory as EdgeMemory};
 ghost use Rattle.daggy_base.specs.declared.error.ChildError.TheVariants.{Memory as ChildMemory};
-ghost use Rattle.daggy_guard.specs.Series.{by_numbers};
+ghost use Rattle.daggy_guard.specs.EdgeBatch.{by_numbers};
 ghost use Rattle.daggy_run.specs.Kinds.{kind_of};
 ghost use Rattle.daggy_run.specs.declared.guarded.Kind.{Kind as DagKind};
 ghost use Rattle.daggy_run.specs.Steps.{walk_of};
@@ -97,7 +97,7 @@ pub trait GuardedDag<N, E, Ix: IndexType> {
     ) -> Result<EdgeIndex<Ix>, EdgeError<E>>
         requires parent { HasNode (graph self.old) (Ix.number a) }
         requires child { HasNode (graph self.old) (Ix.number b) }
-        requires room { edge_count_of (graph self.old) < Ix.greatest }
+        requires index_left { edge_count_of (graph self.old) < Ix.greatest }
         ensures cycle { (result ≡ Err (ByCycle (record { 0 = weight })))
             ↔ Reaches (graph self.old) (Ix.number b) (Ix.number a) }
         ensures refusal { IfErr result (λ e. (e ≡ ByCycle (record { 0 = weight })) ⊎ (e ≡ EdgeMemory weight)) }
@@ -116,7 +116,7 @@ pub trait GuardedDag<N, E, Ix: IndexType> {
     ) -> Result<EdgeIndex<Ix>, EdgeError<E>>
         requires parent { HasNode (graph self.old) (Ix.number a) }
         requires child { HasNode (graph self.old) (Ix.number b) }
-        requires room { edge_between (graph self.old) (Ix.number a) (Ix.number b) ≡ None
+        requires index_left { edge_between (graph self.old) (Ix.number a) (Ix.number b) ≡ None
             → edge_count_of (graph self.old) < Ix.greatest }
         ensures replaced { IfSome (edge_between (graph self.old) (Ix.number a) (Ix.number b)) (λ e.
             IsOkAnd result (λ updated. Ix.number updated ≡ e)

@@ -2,10 +2,10 @@
 ghost use Rattle.std.specs.Prelude.{◌≡◌, map, IfOk, OnErr};
 ghost use Rattle.daggy_base.specs.Path.{IsAcyclic};
 ghost use Rattle.daggy_base.specs.Finding.{find_edge as edge_between};
-ghost use Rattle.daggy_guard.specs.Series.{by_numbers};
+ghost use Rattle.daggy_guard.specs.EdgeBatch.{by_numbers};
 ghost use Rattle.daggy_run.specs.Requests.{request_of, Node, Children, Parents, Reduce};
 ghost use Rattle.daggy_run.specs.Answers.{answer_of};
-ghost use Rattle.daggy_run.specs.Steps.{IsStep, IsEdgeStep, IsUpdateStep, IsNeighborStep, IsSeriesStep};
+ghost use Rattle.daggy_run.specs.Steps.{IsStep, IsEdgeStep, IsUpdateStep, IsNeighborStep, IsBatchStep};
 
 use crate::command::{Back, Command, Reply};
 use crate::guarded::{GuardedDag, Neighbor, NewEdge};
@@ -105,7 +105,7 @@ fn add_edges<N: Drop, E: Drop, Ix: IndexType, D: GuardedDag<N, E, Ix>>(
     dag: &mut D,
     edges: Vec<NewEdge<E, Ix>>,
 ) -> Reply<N, E, Ix>
-    ensures step { IsSeriesStep Ix.greatest (D.graph dag.old) (map (by_numbers Ix.number) edges.items)
+    ensures step { IsBatchStep Ix.greatest (D.graph dag.old) (map (by_numbers Ix.number) edges.items)
         (answer_of Ix.number result) (D.graph dag.new) }
     ensures acyclic { IsAcyclic (D.graph dag.new) }
 {

@@ -4,15 +4,15 @@ use Rattle.std.proofs.lemmas.List.{length-set, length_push}
 use Rattle.daggy_base.specs.declared.index.Direction.{Direction}
 use Rattle.daggy_base.specs.declared.index.Direction.TheVariants.{Outgoing, Incoming}
 use Rattle.daggy_base.specs.Graph.{Graph, bound_of, bound_step, node_bound, list_at, out_list, in_list}
-use Rattle.daggy_base.specs.Adding.{taken}
-use Rattle.daggy_base.specs.Removal.{Stable, without_first, without_front, isolated, without_node}
+use Rattle.daggy_base.specs.Adding.{with_slot_filled}
+use Rattle.daggy_base.specs.Removal.{Stable, without_first, without_front, with_node_isolated, without_node}
 use Rattle.daggy_base.specs.State.{State, with_graph}
 
-pub taken_filled : {A : Type 0} (xs : List (Option A)) (vacant : List ℕ) (x : Option A) → vacant ≢ [] → length (taken xs vacant x) ≡ length xs
+pub taken_filled : {A : Type 0} (xs : List (Option A)) (vacant : List ℕ) (x : Option A) → vacant ≢ [] → length (with_slot_filled xs vacant x) ≡ length xs
 taken_filled xs [] x some = absurd (some refl)
 taken_filled xs (v ∷ vs) x some = length-set xs v x
 
-pub taken_made : {A : Type 0} (xs : List (Option A)) (vacant : List ℕ) (x : Option A) → vacant ≡ [] → length (taken xs vacant x) ≡ length xs + 1
+pub taken_made : {A : Type 0} (xs : List (Option A)) (vacant : List ℕ) (x : Option A) → vacant ≡ [] → length (with_slot_filled xs vacant x) ≡ length xs + 1
 taken_made xs [] x none = length_push xs x
 taken_made xs (v ∷ vs) x none = absurd (omega (arith, ap length none))
 
@@ -44,7 +44,7 @@ module _ {N E : Type 0} where
   nodes_front dir zero g n = refl
   nodes_front dir (suc k) g n = nodes_front dir k (without_first Stable g (list_at dir g n)) n ∙ nodes_first g (list_at dir g n)
 
-  nodes_isolated : (g : Graph N E) (n : ℕ) → (isolated Stable g n).nodes ≡ g.nodes
+  nodes_isolated : (g : Graph N E) (n : ℕ) → (with_node_isolated Stable g n).nodes ≡ g.nodes
   nodes_isolated g n =
       let h = without_front Stable Outgoing (length (out_list g n)) g n in
       nodes_front Incoming (length (in_list h n)) h n ∙ nodes_front Outgoing (length (out_list g n)) g n

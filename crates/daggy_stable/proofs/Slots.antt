@@ -8,12 +8,12 @@ use Rattle.std.proofs.lemmas.Option.{slice_get_within, same_Some, none-some}
 use Rattle.std.proofs.lemmas.Map.Made.{Contains-tail}
 use Rattle.daggy_base.specs.Graph.{slot}
 use Rattle.daggy_base.specs.Cursor.{first_of, after}
-use Rattle.daggy_base.proofs.Reading.{slot_get}
-use Rattle.daggy_base.proofs.Full.{count_full, full_from}
-use Rattle.daggy_cells.specs.Links.{follow, IsRow}
+use Rattle.daggy_base.proofs.OutEdgesRead.{slot_get}
+use Rattle.daggy_base.proofs.FullSlots.{count_full, full_from}
+use Rattle.daggy_cells.specs.Links.{follow, IsLinkedList}
 use Rattle.daggy_base.proofs.Lists.{Contains-nil, Contains-here, Contains-there, slice_get-set_same, slice_get-set_other, slice_get-push_new, slice_get-push_other, slice_get-take, slice_get-take_past}
-use Rattle.daggy_cells.proofs.Rows.{after_here, after_there, row_is, IsRow-tail}
-use Rattle.daggy_cells.proofs.Threads.{IsRow-kept}
+use Rattle.daggy_cells.proofs.LinkedLists.{after_here, after_there, row_is, IsLinkedList-tail}
+use Rattle.daggy_cells.proofs.LinkedListChanges.{IsLinkedList-kept}
 use Rattle.daggy_stable.specs.Stored.{IsThreaded}
 
 module _ {A : Type 0} where
@@ -83,14 +83,14 @@ module _ {A : Type 0} where
     -- where the head leads
     pub vacant_none : (vacant : List ℕ) → IsThreaded end slots links head count vacant → length slots ≤ head → vacant ≡ []
     vacant_none [] t past = refl
-    vacant_none (v ∷ vs) t past = absurd (omega (arith, past, t.row.starts, vacant_inside (v ∷ vs) t v (Contains-here v vs)))
+    vacant_none (v ∷ vs) t past = absurd (omega (arith, past, t.linked.starts, vacant_inside (v ∷ vs) t v (Contains-here v vs)))
 
     pub vacant_some : (vacant : List ℕ) → IsThreaded end slots links head count vacant → head < length slots → (rest : List ℕ) × (vacant ≡ head ∷ rest)
-    vacant_some [] t within = absurd (omega (arith, within, t.row.starts, t.few))
-    vacant_some (v ∷ vs) t within = (vs, ap (λ z. z ∷ vs) (sym t.row.starts))
+    vacant_some [] t within = absurd (omega (arith, within, t.linked.starts, t.few))
+    vacant_some (v ∷ vs) t within = (vs, ap (λ z. z ∷ vs) (sym t.linked.starts))
 
     pub vacant_is : (vacant : List ℕ) → IsThreaded end slots links head count vacant → follow links (length links) head ≡ vacant
-    vacant_is vacant t = row_is end head links vacant t.row (omega (arith, t.long, t.few))
+    vacant_is vacant t = row_is end head links vacant t.linked (omega (arith, t.long, t.few))
 
     pub counted_full : IsThreaded end slots links head count [] → count ≡ length slots
     counted_full t = t.counted ∙ count_full slots (full_from slots [] (record { exact = t.exact; once = tt }) refl)
@@ -98,16 +98,16 @@ module _ {A : Type 0} where
     -- other links, which are the same at vacant slots
     pub rethreaded : (vacant : List ℕ) → IsThreaded end slots links head count vacant → (links' : List ℕ) → length links' ≡ length links → ((f : ℕ) → Contains vacant f → slice_get links' f ≡ slice_get links f) → IsThreaded end slots links' head count vacant
     rethreaded vacant t links' same_length kept =
-        record { row = IsRow-kept end links links' head vacant t.row kept; exact = t.exact; counted = t.counted; long = same_length ∙ t.long; few = t.few }
+        record { linked = IsLinkedList-kept end links links' head vacant t.linked kept; exact = t.exact; counted = t.counted; long = same_length ∙ t.long; few = t.few }
 
     pub made : IsThreaded end slots links head count [] → (x : A) → length slots < end → (links' : List ℕ) → length links' ≡ suc (length slots) → IsThreaded end (slots ++ Some x ∷ []) links' head (suc count) []
-    made t x room links' long =
+    made t x index_left links' long =
         record {
-          row = record { starts = t.row.starts; distinct = tt; goes_on = λ e p. absurd (Contains-nil e p) };
+          linked = record { starts = t.linked.starts; distinct = tt; goes_on = λ e p. absurd (Contains-nil e p) };
           exact = λ i. (λ p. absurd (Contains-nil i p), λ q. absurd (never i q));
           counted = ap suc t.counted ∙ sym (count_push slots x);
           long = omega (arith, long, length_push slots (Some x));
-          few = omega (arith, room, length_push slots (Some x));
+          few = omega (arith, index_left, length_push slots (Some x));
         }
       where
         never : (i : ℕ) → slice_get (slots ++ Some x ∷ []) i ≡ Some None → ⊥
@@ -120,13 +120,13 @@ module _ {A : Type 0} where
     pub filled : (v : ℕ) (vs : List ℕ) → IsThreaded end slots links head count (v ∷ vs) → (x : A) (links' : List ℕ) (head' : ℕ) → length links' ≡ length links → ((f : ℕ) → Contains vs f → slice_get links' f ≡ slice_get links f) → slice_get links v ≡ Some head'
         → IsThreaded end (set slots v (Some x)) links' head' (suc count) vs
     filled v vs t x links' head' same_length kept goes =
-        let at_v : IsRow end links v (v ∷ vs) = subst (λ z. IsRow end links z (v ∷ vs)) t.row.starts t.row in
-        let is : first_of end vs ≡ head' = same_Some _ head' (ap Some (sym (after_here end v vs)) ∙ sym (t.row.goes_on v (Contains-here v vs)) ∙ goes) in
+        let at_v : IsLinkedList end links v (v ∷ vs) = subst (λ z. IsLinkedList end links z (v ∷ vs)) t.linked.starts t.linked in
+        let is : first_of end vs ≡ head' = same_Some _ head' (ap Some (sym (after_here end v vs)) ∙ sym (t.linked.goes_on v (Contains-here v vs)) ∙ goes) in
         let vacant_v : slice_get slots v ≡ Some None = (t.exact v).0 (Contains-here v vs) in
         record {
-          row = IsRow-kept end links links' head' vs (subst (λ z. IsRow end links z vs) is (IsRow-tail end links v vs at_v)) kept;
+          linked = IsLinkedList-kept end links links' head' vs (subst (λ z. IsLinkedList end links z vs) is (IsLinkedList-tail end links v vs at_v)) kept;
           exact = λ i. (
-            λ p. slice_get-set_other slots v i (Some x) (λ same. t.row.distinct.0 (subst (Contains vs) same p)) ∙ (t.exact i).0 (Contains-there v i vs p),
+            λ p. slice_get-set_other slots v i (Some x) (λ same. t.linked.distinct.0 (subst (Contains vs) same p)) ∙ (t.exact i).0 (Contains-there v i vs p),
             λ q. elim (cases_eq i v) [
               | inl same ↦ absurd (none-some x (sym (same_Some (Some x) None (sym (slice_get-set_same slots v (Some x) (slice_get_within slots v _ vacant_v)) ∙ ap (slice_get (set slots v (Some x))) (sym same) ∙ q))))
               | inr other ↦ Contains-tail v vs i (λ same. other (sym same)) ((t.exact i).1 (sym (slice_get-set_other slots v i (Some x) other) ∙ q))
@@ -144,15 +144,15 @@ module _ {A : Type 0} where
       pub vacated : (links' : List ℕ) (count' : ℕ) → length links' ≡ length links → slice_get links' e ≡ Some head → ((f : ℕ) → Contains vacant f → slice_get links' f ≡ slice_get links f) → count ≡ suc count' → IsThreaded end (set slots e None) links' e count' (e ∷ vacant)
       vacated links' count' same_length goes kept count_is =
           record {
-            row = record {
+            linked = record {
               starts = refl;
-              distinct = (not_listed, t.row.distinct);
+              distinct = (not_listed, t.linked.distinct);
               goes_on = λ f p.
                   elim (cases_eq e f) [
-                    | inl same ↦ subst (λ z. slice_get links' z ≡ Some (after end (e ∷ vacant) z)) same (goes ∙ ap Some (t.row.starts ∙ sym (after_here end e vacant)))
+                    | inl same ↦ subst (λ z. slice_get links' z ≡ Some (after end (e ∷ vacant) z)) same (goes ∙ ap Some (t.linked.starts ∙ sym (after_here end e vacant)))
                     | inr other ↦
                         let there = Contains-tail e vacant f other p in
-                        kept f there ∙ t.row.goes_on f there ∙ ap Some (sym (after_there end e f vacant other))
+                        kept f there ∙ t.linked.goes_on f there ∙ ap Some (sym (after_there end e f vacant other))
                   ];
             };
             exact = λ i. (
@@ -174,7 +174,7 @@ module _ {A : Type 0} where
       cut links' count' last links_long kept count_is =
           let short : length (take e slots) ≡ e = length-take-le e slots (omega (arith, last)) in
           record {
-            row = IsRow-kept end links links' head vacant t.row kept;
+            linked = IsLinkedList-kept end links links' head vacant t.linked kept;
             exact = λ i. (
               λ p.
                   let here = (t.exact i).0 p in
@@ -194,7 +194,7 @@ module _ {A : Type 0} where
       pub renewed : (y : A) → IsThreaded end (set slots e (Some y)) links head count vacant
       renewed y =
           record {
-            row = t.row;
+            linked = t.linked;
             exact = λ i. (
               λ p. slice_get-set_other slots e i (Some y) (λ same. not_listed (subst (Contains vacant) same p)) ∙ (t.exact i).0 p,
               λ q. elim (cases_eq i e) [

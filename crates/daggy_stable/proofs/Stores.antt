@@ -12,14 +12,14 @@ use Rattle.daggy_base.specs.Look.{IsLook}
 use Rattle.daggy_base.specs.WellFormed.{IsWellFormed}
 use Rattle.daggy_cells.specs.declared.cell.Node.{Node}
 use Rattle.daggy_cells.specs.declared.cell.Edge.{Edge}
-use Rattle.daggy_cells.specs.Links.{row, IsRow}
+use Rattle.daggy_cells.specs.Links.{nth_list, IsLinkedList}
 use Rattle.daggy_cells.specs.Raw.{raw_first, raw_next}
 use Rattle.daggy_cells.specs.Fields.{end_at, firsts_of, nexts_of, lists_at}
 use Rattle.daggy_base.proofs.Lists.{Contains-nil, Contains-here, slice_get_mapped}
-use Rattle.daggy_cells.proofs.Threads.{row_within, row_past, rows_are, linked_within}
+use Rattle.daggy_cells.proofs.LinkedListChanges.{row_within, row_past, rows_are, linked_within}
 use Rattle.daggy_cells.proofs.FieldLemmas.{same_graph, firsts_as_many}
 use Rattle.daggy_base.proofs.MappedSlots.{slot_read, slot_beyond}
-use Rattle.daggy_stable.specs.Stored.{weight_of, plain, plain_edge, row_firsts, end_of, stored_graph, IsThreaded, Stores}
+use Rattle.daggy_stable.specs.Stored.{weight_of, plain, plain_edge, list_firsts, end_of, stored_graph, IsThreaded, Stores}
 use Rattle.daggy_stable.proofs.Slots.{vacant_is}
 use Rattle.daggy_stable.proofs.Shown.{length-shown, shown_some, shown_none}
 
@@ -57,7 +57,7 @@ module _ {N E Ix : Type 0} {end : ℕ} {nodes : List (Node (Option N) Ix)} {edge
   pub nexts_few : (dir : Direction) → length (nexts_of dir edges) ≤ end
   nexts_few dir = omega (arith, length-map edges (raw_next dir), edges_long, s.edge_slots.few)
 
-  pub firsts_long : (dir : Direction) → length (row_firsts end dir nodes) ≡ length nodes
+  pub firsts_long : (dir : Direction) → length (list_firsts end dir nodes) ≡ length nodes
   firsts_long dir =
       let same = firsts_as_many weight_of dir nodes in
       length-shown end (map weight_of nodes) (firsts_of dir nodes) same ∙ length-map nodes weight_of
@@ -82,17 +82,17 @@ module _ {N E Ix : Type 0} {end : ℕ} {nodes : List (Node (Option N) Ix)} {edge
   pub edge_read : (e : ℕ) (x : Edge (Option E) Ix) → e < length edges → x ≡ get_or edges e x → edge_at g e ≡ plain_edge x
   edge_read e x within is = ap (λ l. slot l e) s.edges_are ∙ slot_read plain_edge edges e x within is
 
-  -- the row of a node
-  pub listed_within : (dir : Direction) (n e : ℕ) → Contains (row (lists_at dir g) n) e → n < length nodes
+  -- the list of a node
+  pub listed_within : (dir : Direction) (n e : ℕ) → Contains (nth_list (lists_at dir g) n) e → n < length nodes
   listed_within dir n e p = omega (arith, row_within (lists_at dir g) n e p, (s.linked dir).rows, firsts_long dir)
 
   -- only nodes that exist have edges
-  pub near_exists : (dir : Direction) (n e : ℕ) → Contains (row (lists_at dir g) n) e → (w : N) × (slot g.nodes n ≡ Some w)
+  pub near_exists : (dir : Direction) (n e : ℕ) → Contains (nth_list (lists_at dir g) n) e → (w : N) × (slot g.nodes n ≡ Some w)
   near_exists dir n e p =
       let within = listed_within dir n e p in
       let r = (s.linked dir).each n (omega (arith, within, firsts_long dir)) in
-      let first : first_of end (row (lists_at dir g) n) < end =
-      omega (arith, linked_within end _ _ (lists_at dir g) n _ (s.linked dir) (first_in end (row (lists_at dir g) n) e p), nexts_few dir) in
+      let first : first_of end (nth_list (lists_at dir g) n) < end =
+      omega (arith, linked_within end _ _ (lists_at dir g) n _ (s.linked dir) (first_in end (nth_list (lists_at dir g) n) e p), nexts_few dir) in
       slot_vacant_or g.nodes n ((w : N) × (slot g.nodes n ≡ Some w))
       (λ none.
       let at : slot (map weight_of nodes) n ≡ None = ap (λ l. slot l n) (sym s.nodes_are) ∙ none in
@@ -101,24 +101,24 @@ module _ {N E Ix : Type 0} {end : ℕ} {nodes : List (Node (Option N) Ix)} {edge
       absurd (omega (arith, first, sym r.starts ∙ is_end)))
       (λ w at. (w, at))
 
-  pub none_shown : (dir : Direction) (n : ℕ) → slot g.nodes n ≡ None → row (lists_at dir g) n ≡ []
-  none_shown dir n none = go (row (lists_at dir g) n) refl
+  pub none_shown : (dir : Direction) (n : ℕ) → slot g.nodes n ≡ None → nth_list (lists_at dir g) n ≡ []
+  none_shown dir n none = go (nth_list (lists_at dir g) n) refl
     where
-      go : (l : List ℕ) → row (lists_at dir g) n ≡ l → row (lists_at dir g) n ≡ []
+      go : (l : List ℕ) → nth_list (lists_at dir g) n ≡ l → nth_list (lists_at dir g) n ≡ []
       go [] is = is
       go (x ∷ xs) is =
           let found = near_exists dir n x (subst (λ l. Contains l x) (sym is) (Contains-here x xs)) in
           absurd (none-some found.0 (sym none ∙ found.1))
 
-  pub first_shown : (dir : Direction) (n : ℕ) (w : N) → slot g.nodes n ≡ Some w → get_or (firsts_of dir nodes) n 0 ≡ first_of end (row (lists_at dir g) n)
+  pub first_shown : (dir : Direction) (n : ℕ) (w : N) → slot g.nodes n ≡ Some w → get_or (firsts_of dir nodes) n 0 ≡ first_of end (nth_list (lists_at dir g) n)
   first_shown dir n w at =
       let at' : slot (map weight_of nodes) n ≡ Some w = ap (λ l. slot l n) (sym s.nodes_are) ∙ at in
       let same = firsts_as_many weight_of dir nodes in
       let within : n < length nodes = elim (cases_lt n (length nodes)) [ inl p ↦ p | inr past ↦ absurd (none-some w (sym (node_beyond n past) ∙ at)) ] in
       sym (shown_some end (map weight_of nodes) (firsts_of dir nodes) n w same at') ∙ ((s.linked dir).each n (omega (arith, within, firsts_long dir))).starts
 
-  -- the row of a node as a row that begins with its first
-  pub row_from : (dir : Direction) (n : ℕ) → IsRow end (nexts_of dir edges) (first_of end (row (lists_at dir g) n)) (row (lists_at dir g) n)
+  -- the list of a node as a list that begins with its first
+  pub row_from : (dir : Direction) (n : ℕ) → IsLinkedList end (nexts_of dir edges) (first_of end (nth_list (lists_at dir g) n)) (nth_list (lists_at dir g) n)
   row_from dir n =
       elim (cases_lt n (length nodes)) [
         | inl within ↦
@@ -126,7 +126,7 @@ module _ {N E Ix : Type 0} {end : ℕ} {nodes : List (Node (Option N) Ix)} {edge
             record { starts = refl; distinct = r.distinct; goes_on = r.goes_on }
         | inr past ↦
             let none = row_past (lists_at dir g) n (omega (arith, past, (s.linked dir).rows, firsts_long dir)) in
-            subst (λ l. IsRow end (nexts_of dir edges) (first_of end l) l) (sym none) (record { starts = refl; distinct = tt; goes_on = λ e p. absurd (Contains-nil e p) })
+            subst (λ l. IsLinkedList end (nexts_of dir edges) (first_of end l) l) (sym none) (record { starts = refl; distinct = tt; goes_on = λ e p. absurd (Contains-nil e p) })
       ]
 
   near_end_is : (dir : Direction) (x : Edge (Option E) Ix) (w : E) → near_end dir (plain x w) ≡ end_at dir x
@@ -149,17 +149,17 @@ module _ {N E Ix : Type 0} {end : ℕ} {nodes : List (Node (Option N) Ix)} {edge
       let found = cell_of e y x at within is in
       sym (near_end_is dir x found.0) ∙ ap (near_end dir) found.2
 
-  -- an edge stands in the row of its end
-  pub stands : (dir : Direction) (e : ℕ) (y : PlainEdge E) → edge_at g e ≡ Some y → Contains (row (lists_at dir g) (near_end dir y)) e
+  -- an edge stands in the list of its end
+  pub stands : (dir : Direction) (e : ℕ) (y : PlainEdge E) → edge_at g e ≡ Some y → Contains (nth_list (lists_at dir g) (near_end dir y)) e
   stands dir e y at = (s.listed dir (near_end dir y) e).1 (ap (option_map (near_end dir)) at)
 
-  pub next_shown : (dir : Direction) (e : ℕ) (y : PlainEdge E) (x : Edge (Option E) Ix) → edge_at g e ≡ Some y → e < length edges → x ≡ get_or edges e x → raw_next dir x ≡ after end (row (lists_at dir g) (near_end dir y)) e
+  pub next_shown : (dir : Direction) (e : ℕ) (y : PlainEdge E) (x : Edge (Option E) Ix) → edge_at g e ≡ Some y → e < length edges → x ≡ get_or edges e x → raw_next dir x ≡ after end (nth_list (lists_at dir g) (near_end dir y)) e
   next_shown dir e y x at within is =
       let there = stands dir e y at in
-      let n_in : near_end dir y < length (row_firsts end dir nodes) = omega (arith, listed_within dir (near_end dir y) e there, firsts_long dir) in
+      let n_in : near_end dir y < length (list_firsts end dir nodes) = omega (arith, listed_within dir (near_end dir y) e there, firsts_long dir) in
       same_Some _ _ (sym (slice_get_mapped (raw_next dir) edges e x within is) ∙ ((s.linked dir).each (near_end dir y) n_in).goes_on e there)
 
-  cursor_seen : (dir : Direction) (e : ℕ) (y : PlainEdge E) → after end (row (lists_at dir g) (near_end dir y)) e ≡ cursor_after dir end g e (Some y)
+  cursor_seen : (dir : Direction) (e : ℕ) (y : PlainEdge E) → after end (nth_list (lists_at dir g) (near_end dir y)) e ≡ cursor_after dir end g e (Some y)
   cursor_seen Outgoing e y = refl
   cursor_seen Incoming e y = refl
 
@@ -177,7 +177,7 @@ module _ {N E Ix : Type 0} {end : ℕ} {nodes : List (Node (Option N) Ix)} {edge
         next_is = next_is ∙ next_shown Outgoing e found.0 x found.1 within is;
       }
 
-  pub list_seen : (dir : Direction) (n : ℕ) → row (lists_at dir g) n ≡ list_at dir g n
+  pub list_seen : (dir : Direction) (n : ℕ) → nth_list (lists_at dir g) n ≡ list_at dir g n
   list_seen Outgoing n = refl
   list_seen Incoming n = refl
 
@@ -199,8 +199,8 @@ module _ {N E Ix : Type 0} {end : ℕ} {nodes : List (Node (Option N) Ix)} {edge
   pub well_formed : IsWellFormed end g
   well_formed =
       record {
-        out_rows = (s.linked Outgoing).rows ∙ firsts_long Outgoing ∙ sym nodes_long;
-        in_rows = (s.linked Incoming).rows ∙ firsts_long Incoming ∙ sym nodes_long;
+        out_list_count = (s.linked Outgoing).rows ∙ firsts_long Outgoing ∙ sym nodes_long;
+        in_list_count = (s.linked Incoming).rows ∙ firsts_long Incoming ∙ sym nodes_long;
         parents = λ e x at. let found = near_exists Outgoing x.parent e (stands Outgoing e x at) in is_some_at _ found.0 found.1;
         children = λ e x at. let found = near_exists Incoming x.child e (stands Incoming e x at) in is_some_at _ found.0 found.1;
         out_of = record {
@@ -211,8 +211,8 @@ module _ {N E Ix : Type 0} {end : ℕ} {nodes : List (Node (Option N) Ix)} {edge
           exact = λ n e. (λ p. end_back Incoming n e ((s.listed Incoming n e).0 p), λ q. (s.listed Incoming n e).1 (ap (option_map (near_end Incoming)) q.1 ∙ ap Some q.2));
           once = λ n. (row_from Incoming n).distinct;
         };
-        node_slots = record { exact = s.node_slots.exact; once = s.node_slots.row.distinct };
-        edge_slots = record { exact = s.edge_slots.exact; once = s.edge_slots.row.distinct };
+        node_slots = record { exact = s.node_slots.exact; once = s.node_slots.linked.distinct };
+        edge_slots = record { exact = s.edge_slots.exact; once = s.edge_slots.linked.distinct };
         few_nodes = s.node_slots.few;
         few_edges = s.edge_slots.few;
       }
@@ -220,7 +220,7 @@ module _ {N E Ix : Type 0} {end : ℕ} {nodes : List (Node (Option N) Ix)} {edge
 pub no_slots : (A : Type 0) (end head : ℕ) → head ≡ end → IsThreaded {A = A} end [] [] head 0 []
 no_slots A end head is =
     record {
-      row = record { starts = is; distinct = tt; goes_on = λ e p. absurd (Contains-nil e p) };
+      linked = record { starts = is; distinct = tt; goes_on = λ e p. absurd (Contains-nil e p) };
       exact = λ i. (λ p. absurd (Contains-nil i p), λ q. absurd (none-some None q));
       counted = refl;
       long = refl;

@@ -6,25 +6,26 @@ use Rattle.daggy_base.specs.Weights.{with_node_weight, with_edge_weight}
 use Rattle.daggy_base.specs.IndexMembers.{IndexMembers}
 use Rattle.daggy_stable.specs.contracts.stable_graph.StableDiGraph.{the_row}
 
--- the row of a graph
-abbrev pub graph_row : (N E Ix : RattleType) → IndexMembers Ix.Denot → RattleType
-graph_row N E Ix m =
+-- the type of a graph
+abbrev pub graph_type : (N E Ix : RattleType) → IndexMembers Ix.Denot → RattleType
+graph_type N E Ix m =
     the_row N E Ix (record { number = m.number; of = m.of; greatest = m.greatest; of_number = m.of_number }) (record { cmp = m.cmp }) (record { eq = m.eq }) (record { partial_cmp = m.partial_cmp })
     (record { hash_input = m.hash_input }) (record { debug_output = m.debug_output })
 
 module _ (N E Ix : RattleType) (m : IndexMembers Ix.Denot) (s : MutBor (State N.Denot E.Denot)) (n : Ix.Denot) where
   -- once the borrow r ends, the node has the last weight written through r
   abbrev pub lends_node : MutBor N.Denot → Fml
-  lends_node r = Lends (graph_row N E Ix m) N s r (λ w. with_graph s.now (with_node_weight s.now.graph (m.number n) w))
+  lends_node r = Lends (graph_type N E Ix m) N s r (λ w. with_graph s.now (with_node_weight s.now.graph (m.number n) w))
 
   -- the same where r is a reference, and at `None` the graph stays as it is
   abbrev pub lends_node_if : Option (MutBor N.Denot) → Fml
-  lends_node_if r = LendsIf (graph_row N E Ix m) N s r (λ w. with_graph s.now (with_node_weight s.now.graph (m.number n) w)) s.now
+  lends_node_if r = LendsIf (graph_type N E Ix m) N s r (λ w. with_graph s.now (with_node_weight s.now.graph (m.number n) w)) s.now
 
 module _ (N E Ix : RattleType) (m : IndexMembers Ix.Denot) (s : MutBor (State N.Denot E.Denot)) (e : Ix.Denot) where
   -- the same for an edge
   abbrev pub lends_edge : MutBor E.Denot → Fml
-  lends_edge r = Lends (graph_row N E Ix m) E s r (λ w. with_graph s.now (with_edge_weight s.now.graph (m.number e) w))
+  lends_edge r = Lends (graph_type N E Ix m) E s r (λ w. with_graph s.now (with_edge_weight s.now.graph (m.number e) w))
 
+  -- the same where r is a reference, and at `None` the graph stays as it is
   abbrev pub lends_edge_if : Option (MutBor E.Denot) → Fml
-  lends_edge_if r = LendsIf (graph_row N E Ix m) E s r (λ w. with_graph s.now (with_edge_weight s.now.graph (m.number e) w)) s.now
+  lends_edge_if r = LendsIf (graph_type N E Ix m) E s r (λ w. with_graph s.now (with_edge_weight s.now.graph (m.number e) w)) s.now

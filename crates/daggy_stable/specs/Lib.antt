@@ -1,8 +1,8 @@
 pub mod Stored
 pub mod Lends
-pub mod Room
+pub mod SlottedCells
 pub mod Building
 pub mod Ordering
 pub mod Cells
-pub mod Slots
+pub mod FullSlots
 pub mod Rest

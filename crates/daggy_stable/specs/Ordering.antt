@@ -1,11 +1,11 @@
--- The rows that other orders make of what is stored. No public clause cites this module.
+-- The lists that other orders make of what is stored. No public clause cites this module.
 use Rattle.std.specs.Prelude.{ℕ, Option, List, map}
 use Rattle.daggy_base.specs.declared.index.Direction.{Direction}
-use Rattle.daggy_base.specs.Orders.{rows_by_slots}
+use Rattle.daggy_base.specs.Orders.{lists_by_slots}
 use Rattle.daggy_cells.specs.declared.cell.Node.{Node}
 use Rattle.daggy_cells.specs.Fields.{order_at}
 use Rattle.daggy_stable.specs.Stored.{weight_of}
 
--- a row for each slot of a node, of the lists of that direction
-abbrev pub new_rows : {N Ix : Type 0} → Direction → List (Node (Option N) Ix) → List (List ℕ × List ℕ) → List (List ℕ)
-new_rows dir nodes orders = rows_by_slots (map weight_of nodes) (map (order_at dir) orders)
+-- a list for each slot of a node, of the lists of that direction
+abbrev pub new_lists : {N Ix : Type 0} → Direction → List (Node (Option N) Ix) → List (List ℕ × List ℕ) → List (List ℕ)
+new_lists dir nodes orders = lists_by_slots (map weight_of nodes) (map (order_at dir) orders)

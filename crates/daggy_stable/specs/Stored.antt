@@ -6,15 +6,18 @@ use Rattle.daggy_base.specs.declared.index.Direction.TheVariants.{Outgoing, Inco
 use Rattle.daggy_base.specs.Graph.{Graph, Edge as PlainEdge, edge_at, near_end}
 use Rattle.daggy_cells.specs.declared.cell.Node.{Node}
 use Rattle.daggy_cells.specs.declared.cell.Edge.{Edge}
-use Rattle.daggy_cells.specs.Links.{follow, rows_of, IsRow, IsLinked, ListsBy}
+use Rattle.daggy_cells.specs.Links.{follow, linked_lists, IsLinkedList, AreLinkedLists, ListsBy}
 use Rattle.daggy_cells.specs.Fields.{firsts_of, nexts_of, lists_at}
 
+-- the weight of a stored node, if its slot is not vacant
 abbrev pub weight_of : {N Ix : Type 0} → Node (Option N) Ix → Option N
 weight_of x = x.weight
 
+-- a stored edge without its links, with the weight w
 abbrev pub plain : {E Ix : Type 0} → Edge (Option E) Ix → E → PlainEdge E
 plain x w = record { parent = x.parent; child = x.child; weight = w }
 
+-- the edge that a slot shows, if it is not vacant
 abbrev pub plain_edge : {E Ix : Type 0} → Edge (Option E) Ix → Option (PlainEdge E)
 plain_edge x = option_map (plain x) x.weight
 
@@ -26,8 +29,8 @@ shown end (None ∷ xs) (l ∷ links) = end ∷ shown end xs links
 shown end (Some x ∷ xs) (l ∷ links) = l ∷ shown end xs links
 
 -- the first edge of each node's list
-abbrev pub row_firsts : {N Ix : Type 0} → (end : ℕ) → Direction → List (Node (Option N) Ix) → List ℕ
-row_firsts end dir nodes = shown end (map weight_of nodes) (firsts_of dir nodes)
+abbrev pub list_firsts : {N Ix : Type 0} → (end : ℕ) → Direction → List (Node (Option N) Ix) → List ℕ
+list_firsts end dir nodes = shown end (map weight_of nodes) (firsts_of dir nodes)
 
 -- the end of an edge by which it stands in a list of that direction
 abbrev pub end_of : {N E : Type 0} → Direction → Graph N E → ℕ → Option ℕ
@@ -40,23 +43,24 @@ stored_graph end nodes edges node_head edge_head =
     record {
       nodes = map weight_of nodes;
       edges = map plain_edge edges;
-      out_lists = rows_of (row_firsts end Outgoing nodes) (nexts_of Outgoing edges);
-      in_lists = rows_of (row_firsts end Incoming nodes) (nexts_of Incoming edges);
+      out_lists = linked_lists (list_firsts end Outgoing nodes) (nexts_of Outgoing edges);
+      in_lists = linked_lists (list_firsts end Incoming nodes) (nexts_of Incoming edges);
       vacant_nodes = follow (firsts_of Outgoing nodes) (length (firsts_of Outgoing nodes)) node_head;
       vacant_edges = follow (nexts_of Outgoing edges) (length (nexts_of Outgoing edges)) edge_head;
     }
 
 -- the node, if it exists, with empty lists
-abbrev pub links_emptied : {N Ix : Type 0} → (end : ℕ) → Option N → Node (Option N) Ix → Node (Option N) Ix
-links_emptied end None x = x
-links_emptied end (Some w) x = record x { first_out = end; first_in = end }
+abbrev pub with_links_emptied : {N Ix : Type 0} → (end : ℕ) → Option N → Node (Option N) Ix → Node (Option N) Ix
+with_links_emptied end None x = x
+with_links_emptied end (Some w) x = record x { first_out = end; first_in = end }
 
-abbrev pub emptied : {N Ix : Type 0} → (end : ℕ) → Node (Option N) Ix → Node (Option N) Ix
-emptied end x = links_emptied end x.weight x
+-- the node with empty lists, if its slot is not vacant
+abbrev pub with_lists_emptied : {N Ix : Type 0} → (end : ℕ) → Node (Option N) Ix → Node (Option N) Ix
+with_lists_emptied end x = with_links_emptied end x.weight x
 
 -- the links thread the vacant slots, and so many of the slots are not vacant
 pub record IsThreaded {A : Type 0} (end : ℕ) (slots : List (Option A)) (links : List ℕ) (head count : ℕ) (vacant : List ℕ) : Type 0 where
-  pub row : IsRow end links head vacant
+  pub linked : IsLinkedList end links head vacant
   pub exact : (i : ℕ) → Contains vacant i ↔ (slice_get slots i ≡ Some None)
   pub counted : count ≡ count_by is_some slots
   pub long : length links ≡ length slots
@@ -66,7 +70,7 @@ pub record IsThreaded {A : Type 0} (end : ℕ) (slots : List (Option A)) (links 
 pub record Stores {N E Ix : Type 0} (end : ℕ) (nodes : List (Node (Option N) Ix)) (edges : List (Edge (Option E) Ix)) (node_head edge_head nodes_counted edges_counted : ℕ) (g : Graph N E) : Type 0 where
   pub nodes_are : g.nodes ≡ map weight_of nodes
   pub edges_are : g.edges ≡ map plain_edge edges
-  pub linked : (dir : Direction) → IsLinked end (row_firsts end dir nodes) (nexts_of dir edges) (lists_at dir g)
+  pub linked : (dir : Direction) → AreLinkedLists end (list_firsts end dir nodes) (nexts_of dir edges) (lists_at dir g)
   pub listed : (dir : Direction) → ListsBy (end_of dir g) (lists_at dir g)
   pub node_slots : IsThreaded end g.nodes (firsts_of Outgoing nodes) node_head nodes_counted g.vacant_nodes
   pub edge_slots : IsThreaded end g.edges (nexts_of Outgoing edges) edge_head edges_counted g.vacant_edges

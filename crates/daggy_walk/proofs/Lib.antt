@@ -1,4 +1,4 @@
 pub mod Flags
-pub mod Leading
-pub mod Pairs
-pub mod Stepping
+pub mod RecursiveSteps
+pub mod MatrixRows
+pub mod AdapterSteps

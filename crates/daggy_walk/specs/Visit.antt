@@ -14,5 +14,6 @@ HasPair matrix a b = IsVisited (slice_index_or matrix a []) b
 abbrev pub row_of : ℕ → List Bool → ℕ → List Bool
 row_of bound flags a = map (λ b. slice_index_or flags (a * bound + b) false) (range_with_len 0 bound)
 
+-- the matrix of these flags, with as many rows and columns as the bound
 abbrev pub rows : ℕ → List Bool → List (List Bool)
 rows bound flags = map (row_of bound flags) (range_with_len 0 bound)

@@ -3,6 +3,6 @@ mod copies;
 pub mod cursors;
 mod iterators;
 mod map;
-mod pairs;
 pub mod raw;
 mod rewriting;
+mod two_weights;

@@ -1,13 +1,13 @@
 //! Whether two dags have the same reachability.
 ghost use Rattle.std.specs.Prelude.{◌≡◌, ℕ, ◌<◌, ◌≤◌, ◌↔◌, map, Contains, IfOk, IsTrue};
 ghost use Rattle.daggy_base.specs.Graph.{node_count as node_count_of};
-ghost use Rattle.daggy_reduction.specs.Comparing.{HaveSameReachability, IsReducedShape};
+ghost use Rattle.daggy_reduction.specs.Comparison.{HaveSameReachability, IsReducedShape};
 
 use crate::acyclic::Dag;
 use daggy_base::index::{IndexType, NodeIndex};
 use daggy_base::search::{EdgeSource, Marks};
 use daggy_graph::graph::DiGraph;
-use daggy_reduction::pairs::join_same_pairs;
+use daggy_reduction::joined_pairs::join_same_pairs;
 use std::alloc::{AllocError, Global};
 
 // The nodes below a number.

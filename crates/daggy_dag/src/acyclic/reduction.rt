@@ -4,7 +4,7 @@ ghost use Rattle.daggy_base.specs.Graph.{node_count as node_count_of, edge_count
 ghost use Rattle.daggy_base.specs.Path.{IsAcyclic};
 ghost use Rattle.daggy_base.specs.Removal.{Stable, KeepsIndices};
 ghost use Rattle.daggy_base.specs.Reduction.{IsReduction};
-ghost use Rattle.daggy_reduction.specs.Comparing.{HaveSameReachability, JoinsCovers, JoinsOthers, IsLeast, HasNoneRedundant, IsCanonical};
+ghost use Rattle.daggy_reduction.specs.Comparison.{HaveSameReachability, JoinsCovers, JoinsOthers, IsLeast, HasNoneRedundant, IsCanonical};
 
 use crate::acyclic::Acyclic;
 use daggy_base::index::{IndexType, NodeIndex};

@@ -3,4 +3,4 @@ mod convert;
 mod copies;
 mod iterators;
 mod map;
-mod pairs;
+mod two_weights;

@@ -3,7 +3,7 @@ ghost use Rattle.std.specs.Prelude.{◌≡◌, length};
 ghost use Rattle.std.specs.Option.{option_map};
 ghost use Rattle.std.specs.Iterator.{at_most, YieldsFirstBy};
 ghost use Rattle.daggy_base.specs.Graph.{pair_of};
-ghost use Rattle.daggy_base.specs.Cursor.{IsStep};
+ghost use Rattle.daggy_base.specs.Cursor.{IsWalkStep};
 ghost use Rattle.daggy_base.specs.declared.index.Direction.TheVariants.{Outgoing, Incoming};
 ghost use Rattle.daggy_dag.specs.Walks.{rest_of_walk};
 
@@ -61,7 +61,7 @@ where
     type Item = (EdgeIndex<Ix>, NodeIndex<Ix>);
 
     ghost walk_gives = { λ w d r after.
-        IsStep Outgoing Ix.greatest d.graph (Ix.number w) (option_map (pair_of Ix.number) r) (Ix.number after)
+        IsWalkStep Outgoing Ix.greatest d.graph (Ix.number w) (option_map (pair_of Ix.number) r) (Ix.number after)
         × YieldsFirstBy (λ x. Ix.number x.0) (λ v. rest_of_walk Outgoing d.graph (Ix.number v)) w r after };
 
     ghost items_left = { λ w d. at_most (length (rest_of_walk Outgoing d.graph (Ix.number w))) };
@@ -137,7 +137,7 @@ where
     type Item = (EdgeIndex<Ix>, NodeIndex<Ix>);
 
     ghost walk_gives = { λ w d r after.
-        IsStep Incoming Ix.greatest d.graph (Ix.number w) (option_map (pair_of Ix.number) r) (Ix.number after)
+        IsWalkStep Incoming Ix.greatest d.graph (Ix.number w) (option_map (pair_of Ix.number) r) (Ix.number after)
         × YieldsFirstBy (λ x. Ix.number x.0) (λ v. rest_of_walk Incoming d.graph (Ix.number v)) w r after };
 
     ghost items_left = { λ w d. at_most (length (rest_of_walk Incoming d.graph (Ix.number w))) };

@@ -4,7 +4,7 @@ ghost use Rattle.daggy_base.specs.declared.index.Direction.TheVariants.{Outgoing
 ghost use Rattle.daggy_base.specs.Graph.{Graph, node_weight, out_list, in_list};
 ghost use Rattle.daggy_base.specs.Adding.{next_node, next_edge, with_node, with_neighbor};
 ghost use Rattle.daggy_base.specs.Removal.{Stable, without_node, without_all_edges};
-ghost use Rattle.daggy_base.specs.Taking.{node_taken_back};
+ghost use Rattle.daggy_base.specs.TakingBack.{with_node_taken_back};
 ghost use Rattle.daggy_base.specs.Weights.{with_node_weight, with_edge_weight, edge_weight};
 ghost use Rattle.daggy_definitions.specs.Examples.{line, one_node, pair, fan, diamond};
 
@@ -45,6 +45,6 @@ pub fn clearing_edges_keeps_nodes()
 
 /// Taking back the node that was added last gives the graph before, whether its slot was new or vacant.
 pub fn taking_a_node_back_gives_the_graph_before()
-    ensures made { node_taken_back true (with_node fan 9) 4 ≡ fan }
-    ensures reused { let g = without_node Stable fan 2 in node_taken_back false (with_node g 9) 2 ≡ g }
+    ensures made { with_node_taken_back true (with_node fan 9) 4 ≡ fan }
+    ensures reused { let g = without_node Stable fan 2 in with_node_taken_back false (with_node g 9) 2 ≡ g }
 {}

@@ -4,7 +4,7 @@ ghost use Rattle.std.specs.Borrow.{Bor};
 ghost use Rattle.daggy_base.specs.Graph.{Graph, out_list, in_list, node_count};
 ghost use Rattle.daggy_base.specs.Adding.{next_node, next_edge, with_edge};
 ghost use Rattle.daggy_base.specs.FilteringInPlace.{IsFilteredInPlace};
-ghost use Rattle.daggy_base.specs.FromSlots.{of_slots};
+ghost use Rattle.daggy_base.specs.FromSlots.{graph_of_slots};
 ghost use Rattle.daggy_definitions.specs.Examples.{line, nothing, pair, triangle, diamond, shortcuts, with_lines};
 ghost use Rattle.daggy_definitions.specs.Keeping.{drops_ten, numbers_its_calls, kept};
 
@@ -18,14 +18,14 @@ pub fn slots_make_lists_from_the_greatest_index_down()
     ensures next_edge { next_edge kept ≡ 1 }
     ensures second { next_edge (with_edge kept 1 2 7) ≡ 0 }
     ensures third { next_edge (with_lines (line 1 2 7 ∷ line 1 2 8 ∷ []) kept) ≡ 3 }
-    ensures parallel { out_list (of_slots pair.nodes pair.edges) 0 ≡ 1 ∷ 0 ∷ [] }
+    ensures parallel { out_list (graph_of_slots pair.nodes pair.edges) 0 ≡ 1 ∷ 0 ∷ [] }
 {}
 
 /// Where all was added one after another and nothing was removed, the slots make the graph again.
 pub fn slots_of_what_was_added_make_it_again()
-    ensures none { of_slots nothing.nodes nothing.edges ≡ nothing }
-    ensures four { of_slots diamond.nodes diamond.edges ≡ diamond }
-    ensures five { of_slots shortcuts.nodes shortcuts.edges ≡ shortcuts }
+    ensures none { graph_of_slots nothing.nodes nothing.edges ≡ nothing }
+    ensures four { graph_of_slots diamond.nodes diamond.edges ≡ diamond }
+    ensures five { graph_of_slots shortcuts.nodes shortcuts.edges ≡ shortcuts }
 {}
 
 /// The first node of three is dropped. The other two and the edge between them keep their indices, and that edge is the

@@ -2,7 +2,7 @@
 ghost use Rattle.std.specs.Prelude.{◌≡◌, ◌+◌, ◌-◌, ◌<◌, length, map, vec_len, vec_capacity};
 ghost use Rattle.daggy_base.specs.declared.index.Direction.TheVariants.{Outgoing, Incoming};
 ghost use Rattle.daggy_base.specs.Adding.{with_node, with_edge};
-ghost use Rattle.daggy_cells.specs.Fields.{reowned, plain_edge};
+ghost use Rattle.daggy_cells.specs.Fields.{with_end_renamed, plain_edge};
 ghost use Rattle.daggy_graph.specs.Stored.{stored_graph, IsDetached, Stores};
 
 use daggy_base::index::{Direction, IndexType};
@@ -10,7 +10,7 @@ use daggy_base::link::Link;
 use daggy_cells::cell::{Edge, Node};
 use daggy_cells::links::{self, put_first, redirect, reown};
 
-// Adds a node, in the room that it has.
+// Adds a node, within the capacity that is there.
 #[inline]
 pub(super) fn put_node<N, E, Ix: IndexType>(
     nodes: &mut Vec<Node<N, Ix>>,
@@ -18,8 +18,8 @@ pub(super) fn put_node<N, E, Ix: IndexType>(
     weight: N,
 ) -> Link<Ix>
     requires stored { Stores Ix.greatest nodes.old.items edges.now.items (stored_graph nodes.old.items edges.now.items) }
-    requires left { length nodes.old.items < Ix.greatest }
-    requires room { vec_len nodes.old < vec_capacity nodes.old }
+    requires index_left { length nodes.old.items < Ix.greatest }
+    requires capacity { vec_len nodes.old < vec_capacity nodes.old }
     ensures index { result ≡ length nodes.old.items }
     ensures stored { Stores Ix.greatest nodes.new.items edges.now.items (with_node (stored_graph nodes.old.items edges.now.items) weight) }
     ensures len { length nodes.new.items ≡ length nodes.old.items + 1 }
@@ -31,7 +31,7 @@ pub(super) fn put_node<N, E, Ix: IndexType>(
     n
 }
 
-// Adds an edge from a to b, in the room that it has.
+// Adds an edge from a to b, within the capacity that is there.
 #[inline]
 pub(super) fn put_edge<N, E, Ix: IndexType>(
     nodes: &mut Vec<Node<N, Ix>>,
@@ -43,8 +43,8 @@ pub(super) fn put_edge<N, E, Ix: IndexType>(
     requires stored { Stores Ix.greatest nodes.old.items edges.old.items (stored_graph nodes.old.items edges.old.items) }
     requires parent { a < length nodes.old.items }
     requires child { b < length nodes.old.items }
-    requires left { length edges.old.items < Ix.greatest }
-    requires room { vec_len edges.old < vec_capacity edges.old }
+    requires index_left { length edges.old.items < Ix.greatest }
+    requires capacity { vec_len edges.old < vec_capacity edges.old }
     ensures index { result ≡ length edges.old.items }
     ensures stored { Stores Ix.greatest nodes.new.items edges.new.items (with_edge (stored_graph nodes.old.items edges.old.items) a b weight) }
     ensures len { length edges.new.items ≡ length edges.old.items + 1 }
@@ -57,7 +57,8 @@ pub(super) fn put_edge<N, E, Ix: IndexType>(
     e
 }
 
-// Takes `e` out of its two rows, and leads the links to the last edge to `e`, whose place it takes next.
+// Takes `e` out of its two lists, and leads the links to the last edge to `e`, whose place it takes
+// next.
 pub(super) fn detach<N, E, Ix: IndexType>(
     nodes: &mut Vec<Node<N, Ix>>,
     edges: &mut Vec<Edge<E, Ix>>,
@@ -90,7 +91,7 @@ pub(super) fn reown_last<N, E, Ix: IndexType>(
     requires stored { Stores Ix.greatest nodes.now.items edges.old.items (stored_graph nodes.now.items edges.old.items) }
     requires node { n < length nodes.now.items }
     ensures { let last = length nodes.now.items - 1 in
-        edges.new.items ≡ map (reowned Incoming last n) (map (reowned Outgoing last n) edges.old.items) }
+        edges.new.items ≡ map (with_end_renamed Incoming last n) (map (with_end_renamed Outgoing last n) edges.old.items) }
 {
     let i = n.index();
     let last = nodes.len() - 1;

@@ -11,7 +11,7 @@ impl<N, E, Ix: IndexType> DiGraph<N, E, Ix> {
     #[inline]
     pub fn node_count(&self) -> usize
         ensures count { result ≡ node_count_of self.now.graph }
-        ensures slots { result ≡ length self.now.graph.nodes }
+        ensures slot_count { result ≡ length self.now.graph.nodes }
         ensures well_formed { IsWellFormed Ix.greatest self.now.graph }
         ensures compact { IsCompact self.now.graph }
     {
@@ -22,7 +22,7 @@ impl<N, E, Ix: IndexType> DiGraph<N, E, Ix> {
     #[inline]
     pub fn edge_count(&self) -> usize
         ensures count { result ≡ edge_count_of self.now.graph }
-        ensures slots { result ≡ length self.now.graph.edges }
+        ensures slot_count { result ≡ length self.now.graph.edges }
         ensures well_formed { IsWellFormed Ix.greatest self.now.graph }
         ensures compact { IsCompact self.now.graph }
     {

@@ -3,7 +3,7 @@ ghost use Rattle.std.specs.Prelude.{◌≡◌, ◌+◌, ◌<◌, ◌≤◌, [], 
 ghost use Rattle.daggy_base.specs.Graph.{empty, slot};
 ghost use Rattle.daggy_graph.specs.Stored.{stored_graph, Stores};
 ghost use Rattle.daggy_cells.specs.Fields.{weight_of, plain_edge};
-ghost use Rattle.daggy_base.specs.Filtering.{kept_node, named, kept_edge, both, FiltersNodes, FiltersEdges, IsFiltered, ListsDescend, HaveSameEnds};
+ghost use Rattle.daggy_base.specs.Filtering.{with_kept_node, named, with_kept_edge, both, FiltersNodes, FiltersEdges, IsFiltered, ListsDescend, HaveSameEnds};
 ghost use Rattle.daggy_graph.specs.Names.{AreNamesBelow, IsFilteredAs};
 
 use crate::graph::changes::{put_edge, put_node};
@@ -22,10 +22,10 @@ fn keep_node<N, E, Ix: IndexType>(
     answer: Option<N>,
 )
     requires stored { Stores Ix.greatest nodes.old.items edges.now.items (stored_graph nodes.old.items edges.now.items) }
-    requires left { length nodes.old.items < Ix.greatest }
-    requires room { vec_len nodes.old < vec_capacity nodes.old }
+    requires index_left { length nodes.old.items < Ix.greatest }
+    requires capacity { vec_len nodes.old < vec_capacity nodes.old }
     requires room_for_name { vec_len names.old < vec_capacity names.old }
-    ensures stored { Stores Ix.greatest nodes.new.items edges.now.items (kept_node (stored_graph nodes.old.items edges.now.items) answer) }
+    ensures stored { Stores Ix.greatest nodes.new.items edges.now.items (with_kept_node (stored_graph nodes.old.items edges.now.items) answer) }
     ensures names { names.new.items ≡ names.old.items ++ named (stored_graph nodes.old.items edges.now.items) answer ∷ [] }
     ensures len { length nodes.new.items ≤ length nodes.old.items + 1 }
     ensures below { AreNamesBelow (length nodes.old.items) names.old.items → AreNamesBelow (length nodes.new.items) names.new.items }
@@ -41,7 +41,7 @@ fn keep_node<N, E, Ix: IndexType>(
     }
 }
 
-// Adds the nodes that f keeps, in the room that they have.
+// Adds the nodes that f keeps, within the capacity that is there.
 fn filter_nodes<N, V, W, Ix: IndexType, F: FnMut(NodeIndex<Ix>, &N) -> Option<V>>(
     nodes: &[Node<N, Ix>],
     new: &mut Vec<Node<V, Ix>>,
@@ -51,7 +51,7 @@ fn filter_nodes<N, V, W, Ix: IndexType, F: FnMut(NodeIndex<Ix>, &N) -> Option<V>
 )
     requires callable { F.IsAlwaysCallable f }
     requires few { length nodes.now ≤ Ix.greatest }
-    requires room { length nodes.now ≤ vec_capacity new.old }
+    requires capacity { length nodes.now ≤ vec_capacity new.old }
     requires room_for_names { length nodes.now ≤ vec_capacity names.old }
     requires empty { new.old.items ≡ [] }
     requires no_names { names.old.items ≡ [] }
@@ -103,9 +103,9 @@ fn keep_edge<N, E, Ix: IndexType>(
     requires stored { Stores Ix.greatest nodes.old.items edges.old.items (stored_graph nodes.old.items edges.old.items) }
     requires parent { ends.0 < length nodes.old.items }
     requires child { ends.1 < length nodes.old.items }
-    requires left { length edges.old.items < Ix.greatest }
-    requires room { vec_len edges.old < vec_capacity edges.old }
-    ensures stored { Stores Ix.greatest nodes.new.items edges.new.items (kept_edge (stored_graph nodes.old.items edges.old.items) ends answer) }
+    requires index_left { length edges.old.items < Ix.greatest }
+    requires capacity { vec_len edges.old < vec_capacity edges.old }
+    ensures stored { Stores Ix.greatest nodes.new.items edges.new.items (with_kept_edge (stored_graph nodes.old.items edges.old.items) ends answer) }
     ensures len { length edges.new.items ≤ length edges.old.items + 1 }
     ensures nodes { length nodes.new.items ≡ length nodes.old.items }
     ensures capacity { vec_capacity edges.new ≡ vec_capacity edges.old }
@@ -115,7 +115,7 @@ fn keep_edge<N, E, Ix: IndexType>(
     }
 }
 
-// Adds the edges that g keeps of those whose ends both stayed, in the room that they have.
+// Adds the edges that g keeps of those whose ends both stayed, within the capacity that is there.
 fn filter_edges<N, E, W, Ix: IndexType, G: FnMut(EdgeIndex<Ix>, &E) -> Option<W>>(
     edges: &[Edge<E, Ix>],
     names: &Vec<Option<Link<Ix>>>,
@@ -125,7 +125,7 @@ fn filter_edges<N, E, W, Ix: IndexType, G: FnMut(EdgeIndex<Ix>, &E) -> Option<W>
 )
     requires callable { G.IsAlwaysCallable g }
     requires few { length edges.now ≤ Ix.greatest }
-    requires room { length edges.now ≤ vec_capacity new.old }
+    requires capacity { length edges.now ≤ vec_capacity new.old }
     requires empty { new.old.items ≡ [] }
     requires below { AreNamesBelow (length nodes.old.items) names.now.items }
     requires stored { Stores Ix.greatest nodes.old.items new.old.items (stored_graph nodes.old.items new.old.items) }

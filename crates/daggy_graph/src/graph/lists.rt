@@ -25,13 +25,13 @@ pub struct Edges<'a, E, Ix: IndexType = DefaultIx> {
 impl<'a, E, Ix: IndexType> Model for Edges<'a, E, Ix> {
     ghost use Rattle.std.specs.Prelude.{ℕ, List};
     ghost use Rattle.daggy_base.specs.Graph.{Edge as PlainEdge};
-    ghost use Rattle.daggy_cells.specs.Rest.{edges_left, IsOnRow};
+    ghost use Rattle.daggy_cells.specs.Rest.{edges_left, IsOnList};
 
     ghost Value = { List (ℕ × PlainEdge E) };
 
     ghost view = { λ it. edges_left it.dir it.edges.now it.next };
 
-    ghost invariant = { λ it. IsOnRow Ix.greatest it.dir it.edges.now it.next };
+    ghost invariant = { λ it. IsOnList Ix.greatest it.dir it.edges.now it.next };
 }
 
 impl<'a, E, Ix: IndexType> Iterator for Edges<'a, E, Ix> {

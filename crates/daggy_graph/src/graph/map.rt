@@ -9,7 +9,7 @@ use daggy_base::search::Looks;
 use daggy_cells::links;
 use std::alloc::AllocError;
 
-// Makes the nodes of the new graph, in the room that they have.
+// Makes the nodes of the new graph, within the capacity that is there.
 fn map_nodes<N, V, Ix: IndexType, F: FnMut(NodeIndex<Ix>, &N) -> V>(
     nodes: &[Node<N, Ix>],
     new: &mut Vec<Node<V, Ix>>,
@@ -17,7 +17,7 @@ fn map_nodes<N, V, Ix: IndexType, F: FnMut(NodeIndex<Ix>, &N) -> V>(
 )
     requires callable { F.IsAlwaysCallable f }
     requires few { length nodes.now ≤ Ix.greatest }
-    requires room { length nodes.now ≤ vec_capacity new.old }
+    requires capacity { length nodes.now ≤ vec_capacity new.old }
     requires empty { new.old.items ≡ [] }
     ensures { MapsCells F.step Ix.of node_weight_in node_with f 0 nodes.now new.new.items }
 {
@@ -28,7 +28,7 @@ fn map_nodes<N, V, Ix: IndexType, F: FnMut(NodeIndex<Ix>, &N) -> V>(
     }
 }
 
-// Makes the edges of the new graph, in the room that they have.
+// Makes the edges of the new graph, within the capacity that is there.
 fn map_edges<E, V, Ix: IndexType, G: FnMut(EdgeIndex<Ix>, &E) -> V>(
     edges: &[Edge<E, Ix>],
     new: &mut Vec<Edge<V, Ix>>,
@@ -36,7 +36,7 @@ fn map_edges<E, V, Ix: IndexType, G: FnMut(EdgeIndex<Ix>, &E) -> V>(
 )
     requires callable { G.IsAlwaysCallable g }
     requires few { length edges.now ≤ Ix.greatest }
-    requires room { length edges.now ≤ vec_capacity new.old }
+    requires capacity { length edges.now ≤ vec_capacity new.old }
     requires empty { new.old.items ≡ [] }
     ensures { MapsCells G.step Ix.of edge_weight_in edge_with g 0 edges.now new.new.items }
 {

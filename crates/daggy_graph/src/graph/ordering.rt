@@ -4,7 +4,7 @@ ghost use Rattle.daggy_base.specs.declared.index.Direction.{Direction};
 ghost use Rattle.daggy_base.specs.Orders.{numbers_of, with_orders, AreOrders};
 ghost use Rattle.daggy_base.specs.State.{with_graph};
 ghost use Rattle.daggy_cells.specs.Fields.{weight_of, plain_edge, firsts_of, nexts_of, order_at};
-ghost use Rattle.daggy_cells.specs.Links.{IsLinked, CanThreadAll};
+ghost use Rattle.daggy_cells.specs.Links.{AreLinkedLists, CanThreadAll};
 
 use crate::graph::{DiGraph, Edge, Node};
 use daggy_base::index::{EdgeIndex, IndexType};
@@ -18,7 +18,7 @@ fn thread_nodes<N, E, Ix: IndexType>(
 )
     requires count { length orders.now ≡ length nodes.old.items }
     requires lists { (dir : Direction) → CanThreadAll (length edges.old.items) (map (order_at dir) (map (numbers_of Ix.number) orders.now)) }
-    ensures linked { (dir : Direction) → IsLinked Ix.greatest (firsts_of dir nodes.new.items) (nexts_of dir edges.new.items) (map (order_at dir) (map (numbers_of Ix.number) orders.now)) }
+    ensures linked { (dir : Direction) → AreLinkedLists Ix.greatest (firsts_of dir nodes.new.items) (nexts_of dir edges.new.items) (map (order_at dir) (map (numbers_of Ix.number) orders.now)) }
     ensures nodes { map weight_of nodes.new.items ≡ map weight_of nodes.old.items }
     ensures edges { map plain_edge edges.new.items ≡ map plain_edge edges.old.items }
 {

@@ -3,7 +3,7 @@ ghost use Rattle.std.specs.Prelude.{◌≡◌, ℕ, ◌≤◌, length, OnSome, I
 ghost use Rattle.std.specs.Option.{option_map};
 ghost use Rattle.daggy_base.specs.declared.index.Direction.{Direction};
 ghost use Rattle.daggy_base.specs.Graph.{empty, node_weight, edge_at, HasNode, list_at};
-ghost use Rattle.daggy_base.specs.Removal.{Compact, without_edge, without_front, without_node, isolated, dropped_node, without_all_edges};
+ghost use Rattle.daggy_base.specs.Removal.{Compact, without_edge, without_front, without_node, with_node_isolated, with_node_dropped, without_all_edges};
 ghost use Rattle.daggy_base.specs.WellFormed.{IsIsolated};
 ghost use Rattle.daggy_base.specs.State.{with_graph};
 
@@ -44,9 +44,9 @@ impl<N, E, Ix: IndexType> DiGraph<N, E, Ix> {
         E: Drop,
         ensures value { result ≡ node_weight self.old.graph (Ix.number n) }
         ensures removed { OnSome result (self.new ≡ with_graph self.old (without_node Compact self.old.graph (Ix.number n))) }
-        ensures between { OnSome result (IsIsolated Ix.greatest (isolated Compact self.old.graph (Ix.number n)) (Ix.number n)) }
+        ensures between { OnSome result (IsIsolated Ix.greatest (with_node_isolated Compact self.old.graph (Ix.number n)) (Ix.number n)) }
         ensures missing { IfNone result (self.new ≡ self.old) }
-        ensures slots { length self.new.graph.nodes ≤ length self.old.graph.nodes }
+        ensures no_more_slots { length self.new.graph.nodes ≤ length self.old.graph.nodes }
     {
         if self.node_weight(n).is_none() {
             return None;
@@ -80,8 +80,8 @@ impl<N, E, Ix: IndexType> DiGraph<N, E, Ix> {
         requires node { HasNode self.old.graph (Ix.number n) }
         requires no_edges { (d : Direction) → list_at d self.old.graph (Ix.number n) ≡ [] }
         ensures value { node_weight self.old.graph (Ix.number n) ≡ Some result }
-        ensures dropped { self.new ≡ with_graph self.old (dropped_node Compact self.old.graph (Ix.number n)) }
-        ensures slots { length self.new.graph.nodes ≤ length self.old.graph.nodes }
+        ensures dropped { self.new ≡ with_graph self.old (with_node_dropped Compact self.old.graph (Ix.number n)) }
+        ensures no_more_slots { length self.new.graph.nodes ≤ length self.old.graph.nodes }
     {
         let i = n.index();
         reown_last(&self.nodes, &mut self.edges, Link::of_node(n));

@@ -8,10 +8,10 @@ ghost use Rattle.daggy_base.specs.Cursor.{first_of, cursor_after};
 ghost use Rattle.daggy_base.specs.Adding.{next_node, next_edge, with_node, with_edge};
 ghost use Rattle.daggy_base.specs.Finding.{find_edge as edge_between};
 ghost use Rattle.daggy_base.specs.Weights.{edge_weight, with_node_weight, with_edge_weight};
-ghost use Rattle.daggy_base.specs.FromSlots.{of_slots, edges_by, MakeGraph};
+ghost use Rattle.daggy_base.specs.FromSlots.{graph_of_slots, edges_by, MakeGraph};
 ghost use Rattle.daggy_base.specs.Orders.{numbers_of, with_orders, AreOrders};
-ghost use Rattle.daggy_base.specs.Taking.{taken_back, node_taken_back};
-ghost use Rattle.daggy_base.specs.Removal.{Compact, without_edge, without_node, without_all_edges, isolated};
+ghost use Rattle.daggy_base.specs.TakingBack.{with_edge_taken_back, with_node_taken_back};
+ghost use Rattle.daggy_base.specs.Removal.{Compact, without_edge, without_node, without_all_edges, with_node_isolated};
 ghost use Rattle.daggy_base.specs.State.{with_graph};
 ghost use Rattle.daggy_graph.specs.Lends.{lends_node, lends_edge};
 ghost use Rattle.daggy_base.specs.declared.index.Direction.{Direction};
@@ -52,9 +52,9 @@ impl<N: Drop, E: Drop, Ix: IndexType> Store<Ix> for DiGraph<N, E, Ix> {
         nodes: Vec<Option<N>>,
         edges: Vec<Option<(NodeIndex<Ix>, NodeIndex<Ix>, E)>>,
     ) -> Result<Self, AllocError>
-        requires slots { MakeGraph Ix.greatest nodes.items (edges_by Ix.number edges.items) }
-        requires compact { Compact ≡ Compact → IsCompact (of_slots nodes.items (edges_by Ix.number edges.items)) }
-        ensures graph { IfOk result (λ s. s.graph ≡ of_slots nodes.items (edges_by Ix.number edges.items)) }
+        requires makes_graph { MakeGraph Ix.greatest nodes.items (edges_by Ix.number edges.items) }
+        requires compact { Compact ≡ Compact → IsCompact (graph_of_slots nodes.items (edges_by Ix.number edges.items)) }
+        ensures graph { IfOk result (λ s. s.graph ≡ graph_of_slots nodes.items (edges_by Ix.number edges.items)) }
         ensures looks { IfOk result (λ s. s.looks ≡ 0) }
     {
         DiGraph::from_slots(alloc, nodes, edges)
@@ -204,7 +204,7 @@ impl<N: Drop, E: Drop, Ix: IndexType> Store<Ix> for DiGraph<N, E, Ix> {
     ) -> Result<EdgeIndex<Ix>, EdgeError<E>>
         requires parent { HasNode self.old.graph (Ix.number a) }
         requires child { HasNode self.old.graph (Ix.number b) }
-        requires room { edge_count_of self.old.graph < Ix.greatest }
+        requires index_left { edge_count_of self.old.graph < Ix.greatest }
         ensures index { IfOk result (λ e. Ix.number e ≡ next_edge self.old.graph) }
         ensures added { OnOk result (self.new.graph ≡ with_edge self.old.graph (Ix.number a) (Ix.number b) weight) }
         ensures refusal { IfErr result (λ e. e ≡ EdgeMemory weight) }
@@ -229,7 +229,7 @@ impl<N: Drop, E: Drop, Ix: IndexType> Store<Ix> for DiGraph<N, E, Ix> {
         requires compact { Compact ≡ Compact → IsTrue made }
         requires last { IsTrue made → Ix.number e + 1 ≡ length self.old.graph.edges }
         ensures gives { edge_weight self.old.graph (Ix.number e) ≡ Some result }
-        ensures taken { self.new.graph ≡ taken_back made self.old.graph (Ix.number e) }
+        ensures removed { self.new.graph ≡ with_edge_taken_back made self.old.graph (Ix.number e) }
         ensures counted { self.new.looks ≡ self.old.looks }
     {
         let _always = made;
@@ -242,7 +242,7 @@ impl<N: Drop, E: Drop, Ix: IndexType> Store<Ix> for DiGraph<N, E, Ix> {
         requires compact { Compact ≡ Compact → IsTrue made }
         requires last { IsTrue made → Ix.number n + 1 ≡ length self.old.graph.nodes }
         ensures gives { node_weight self.old.graph (Ix.number n) ≡ Some result }
-        ensures taken { self.new.graph ≡ node_taken_back made self.old.graph (Ix.number n) }
+        ensures removed { self.new.graph ≡ with_node_taken_back made self.old.graph (Ix.number n) }
         ensures counted { self.new.looks ≡ self.old.looks }
     {
         let _well_formed = self.node_count();
@@ -262,7 +262,7 @@ impl<N: Drop, E: Drop, Ix: IndexType> Store<Ix> for DiGraph<N, E, Ix> {
     fn remove_node(&mut self, n: NodeIndex<Ix>) -> Option<N>
         ensures gives { result ≡ node_weight self.old.graph (Ix.number n) }
         ensures removed { OnSome result (self.new.graph ≡ without_node Compact self.old.graph (Ix.number n)) }
-        ensures between { OnSome result (IsIsolated Ix.greatest (isolated Compact self.old.graph (Ix.number n)) (Ix.number n)) }
+        ensures between { OnSome result (IsIsolated Ix.greatest (with_node_isolated Compact self.old.graph (Ix.number n)) (Ix.number n)) }
         ensures missing { IfNone result (self.new.graph ≡ self.old.graph) }
         ensures bound { node_bound_of self.new.graph ≤ node_bound_of self.old.graph }
         ensures counted { self.new.looks ≡ self.old.looks }

@@ -3,7 +3,7 @@ ghost use Rattle.std.specs.Prelude.{◌≡◌, ◌≤◌, ◌⊎◌, [], false, 
 ghost use Rattle.std.specs.Option.{option_map};
 ghost use Rattle.serde_json.specs.View.{view};
 ghost use Rattle.daggy_base.specs.Graph.{Graph};
-ghost use Rattle.daggy_base.specs.FromSlots.{of_slots, edges_by};
+ghost use Rattle.daggy_base.specs.FromSlots.{graph_of_slots, edges_by};
 ghost use Rattle.daggy_base.specs.Orders.{AreOrders, numbers_of};
 ghost use Rattle.daggy_json.specs.Document.{vacant_from};
 ghost use Rattle.daggy_json.specs.Reading.{IsOrdered, IsRead, IsTested};
@@ -32,14 +32,14 @@ fn read_orders<N, E, Ix: IndexType>(
 ) -> Result<Option<Vec<Row<Ix>>>, ReadError>
     requires ends { EndsExist nodes.now.items (edges_by Ix.number edges.now.items) }
     requires few { vec_len edges.now ≤ Ix.greatest }
-    ensures ok { IfOk result (λ o. IsOrdered (of_slots nodes.now.items (edges_by Ix.number edges.now.items))
+    ensures ok { IfOk result (λ o. IsOrdered (graph_of_slots nodes.now.items (edges_by Ix.number edges.now.items))
         (option_map (λ d. view d.now) orders.entry)
-        (Ok (ordered (of_slots nodes.now.items (edges_by Ix.number edges.now.items)) (orders_by Ix.number o)))) }
+        (Ok (ordered (graph_of_slots nodes.now.items (edges_by Ix.number edges.now.items)) (orders_by Ix.number o)))) }
     ensures orders { IfOk result (λ o. IfSome o (λ v.
-        AreOrders (of_slots nodes.now.items (edges_by Ix.number edges.now.items))
+        AreOrders (graph_of_slots nodes.now.items (edges_by Ix.number edges.now.items))
         (map (numbers_of Ix.number) v.items))) }
     ensures err { IfErr result (λ e. (e ≡ Memory)
-        ⊎ IsOrdered (of_slots nodes.now.items (edges_by Ix.number edges.now.items))
+        ⊎ IsOrdered (graph_of_slots nodes.now.items (edges_by Ix.number edges.now.items))
         (option_map (λ d. view d.now) orders.entry) (Err e)) }
 {
     let Some(value) = orders else {
@@ -99,7 +99,7 @@ pub(crate) fn gather<
     requires nodes { F.IsAlwaysCallable fn_node.now }
     requires edges { G.IsAlwaysCallable fn_edge.now }
     ensures ok { IfOk result (λ s. (r : Result (Graph N E) ReadError)
-        → IsTested (ordered (of_slots s.nodes.items (edges_by Ix.number s.edges.items))
+        → IsTested (ordered (graph_of_slots s.nodes.items (edges_by Ix.number s.edges.items))
         (orders_by Ix.number s.orders)) r
         → IsRead Ix.greatest stable (ReadsAs F.Fn fn_node.now) (ReadsAs G.Fn fn_edge.now) (view value.now) r) }
     ensures few_nodes { IfOk result (λ s. length s.nodes.items ≤ Ix.greatest) }
@@ -108,7 +108,7 @@ pub(crate) fn gather<
     ensures full_nodes { IfOk result (λ s. stable ≡ false → vacant_from 0 s.nodes.items ≡ []) }
     ensures full_edges { IfOk result (λ s. stable ≡ false → vacant_from 0 s.edges.items ≡ []) }
     ensures orders { IfOk result (λ s. IfSome s.orders (λ v.
-        AreOrders (of_slots s.nodes.items (edges_by Ix.number s.edges.items)) (map (numbers_of Ix.number) v.items))) }
+        AreOrders (graph_of_slots s.nodes.items (edges_by Ix.number s.edges.items)) (map (numbers_of Ix.number) v.items))) }
     ensures err { IfErr result (λ e. (e ≡ Memory) ⊎ IsRead {N = N} {E = E} Ix.greatest stable (ReadsAs F.Fn fn_node.now)
         (ReadsAs G.Fn fn_edge.now) (view value.now) (Err e)) }
 {

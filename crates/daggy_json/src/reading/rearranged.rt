@@ -1,6 +1,6 @@
 //! Whether the orders of a document are rearrangements of the lists of its graph.
 ghost use Rattle.std.specs.Prelude.{◌≡◌, ◌≤◌, ◌↔◌, IsTrue, ℕ, length, map, vec_len, slice_index_or, false, OnOk, IfOk};
-ghost use Rattle.daggy_base.specs.FromSlots.{of_slots, has_end, edges_by};
+ghost use Rattle.daggy_base.specs.FromSlots.{graph_of_slots, has_end, edges_by};
 ghost use Rattle.daggy_base.specs.Orders.{AreOrders, numbers_of};
 ghost use Rattle.daggy_json.specs.Found.{chosen, Marked, marked_with, AllMarked, marked_by, LeavesNone, AreRearranged, EndsExist};
 
@@ -130,7 +130,7 @@ pub(super) fn are_orders<N, E, Ix: IndexType>(
     rows: &Vec<Row<Ix>>,
 ) -> Result<bool, AllocError>
     requires { EndsExist nodes.now.items (edges_by Ix.number edges.now.items) }
-    ensures { IfOk result (λ b. IsTrue b ↔ AreOrders (of_slots nodes.now.items (edges_by Ix.number edges.now.items))
+    ensures { IfOk result (λ b. IsTrue b ↔ AreOrders (graph_of_slots nodes.now.items (edges_by Ix.number edges.now.items))
         (map (numbers_of Ix.number) rows.now.items)) }
 {
     let mut marks = Marks::new(alloc);

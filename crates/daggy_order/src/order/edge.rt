@@ -34,7 +34,7 @@ pub fn order_edge<Ix: IndexType, S: EdgeSource<Ix>>(
     requires parent { HasNode (S.graph source.old) (Ix.number a) }
     requires child { HasNode (S.graph source.old) (Ix.number b) }
     requires ordered { IsOrderOf (S.graph source.old) order.old }
-    requires room { node_bound (S.graph source.old) ≤ scratch.old.nodes }
+    requires scratch_fits { node_bound (S.graph source.old) ≤ scratch.old.nodes }
     ensures decided { result ≡ false ↔ Reaches (S.graph source.old) (Ix.number b) (Ix.number a) }
     ensures refused { result ≡ false → order.new ≡ order.old }
     ensures ordered { IsOrderOf (S.graph source.old) order.new }
@@ -48,7 +48,7 @@ pub fn order_edge<Ix: IndexType, S: EdgeSource<Ix>>(
         (stretch order.old (place order.old (Ix.number b)) (place order.old (Ix.number a))) }
     ensures unlooked { place order.old (Ix.number a) ≤ place order.old (Ix.number b)
         → S.looks source.new ≡ S.looks source.old }
-    ensures room { scratch.new ≡ scratch.old }
+    ensures same_capacity { scratch.new ≡ scratch.old }
 {
     // Asked for its contract alone: what exists is in the order.
     let _exists = source.contains_node(b);
@@ -72,7 +72,7 @@ fn order_written<Ix: IndexType, S: EdgeSource<Ix>>(
     requires parent { HasNode (S.graph source.old) (Ix.number a) }
     requires child { HasNode (S.graph source.old) (Ix.number b) }
     requires ordered { IsOrderOf (S.graph source.old) written.old.nodes }
-    requires room { node_bound (S.graph source.old) ≤ scratch.old.nodes }
+    requires scratch_fits { node_bound (S.graph source.old) ≤ scratch.old.nodes }
     ensures decided { result ≡ false ↔ Reaches (S.graph source.old) (Ix.number b) (Ix.number a) }
     ensures refused { result ≡ false → written.new.nodes ≡ written.old.nodes }
     ensures ordered { IsOrderOf (S.graph source.old) written.new.nodes }
@@ -85,7 +85,7 @@ fn order_written<Ix: IndexType, S: EdgeSource<Ix>>(
         (stretch written.old.nodes (place written.old.nodes (Ix.number b)) (place written.old.nodes (Ix.number a))) }
     ensures unlooked { place written.old.nodes (Ix.number a) ≤ place written.old.nodes (Ix.number b)
         → S.looks source.new ≡ S.looks source.old }
-    ensures room { scratch.new ≡ scratch.old }
+    ensures same_capacity { scratch.new ≡ scratch.old }
 {
     scratch.marks.clear();
     write_out(&mut scratch.stack, scratch.marks.len(), Link::end());

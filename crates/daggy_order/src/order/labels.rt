@@ -1,7 +1,7 @@
 //! Labels that ascend along an order.
 ghost use Rattle.std.specs.Prelude.{◌≡◌, ℕ, ◌≢◌, ◌+◌, ◌-◌, ◌*◌, ◌<◌, ◌≤◌, ◌^◌, List, Contains, IsTrue, slice_index, vec_len};
 ghost use Rattle.daggy_base.specs.WellFormed.{AreDistinct};
-ghost use Rattle.daggy_order.specs.Links.{IsAscending, IsLabelled, IsRun, HasRun, HasGap, HasFirst, HasLast};
+ghost use Rattle.daggy_order.specs.Links.{LabelsAscend, IsLabelled, IsSegment, HasSegment, HasGap, HasFirst, HasLast};
 
 use crate::order::links::Links;
 use daggy_base::index::IndexType;
@@ -26,13 +26,13 @@ fn number<Ix: IndexType>(
     gap: u64,
 )
     requires distinct { AreDistinct links.now.nodes }
-    requires run { HasRun Ix.greatest links.now.nodes from count }
+    requires run { HasSegment Ix.greatest links.now.nodes from count }
     requires numbered { (n : ℕ) → Contains links.now.nodes n → n < vec_len labels.old }
     requires some { 0 < gap }
     requires fits { low + gap * count < 2 ^ 64 }
-    ensures ascending { (before run behind : List ℕ) → IsRun Ix.greatest links.now.nodes from count before run behind
-        → IsAscending labels.new.items low run (low + gap * count + 1) }
-    ensures others { (before run behind : List ℕ) → IsRun Ix.greatest links.now.nodes from count before run behind
+    ensures ascending { (before run behind : List ℕ) → IsSegment Ix.greatest links.now.nodes from count before run behind
+        → LabelsAscend labels.new.items low run (low + gap * count + 1) }
+    ensures others { (before run behind : List ℕ) → IsSegment Ix.greatest links.now.nodes from count before run behind
         → (n : ℕ) → ¬ Contains run n → slice_index labels.new.items n ≡ slice_index labels.old.items n }
     ensures sized { vec_len labels.new ≡ vec_len labels.old }
 {
@@ -76,7 +76,7 @@ fn gap_between(low: u64, high: u64, count: usize) -> u64
 #[inline(never)]
 pub(crate) fn label_all<Ix: IndexType>(links: &Links<Ix>, labels: &mut Vec<u64>)
     requires numbered { (n : ℕ) → Contains links.now.nodes n → n < vec_len labels.old }
-    ensures ascending { IsAscending labels.new.items 0 links.now.nodes (2 ^ 64) }
+    ensures ascending { LabelsAscend labels.new.items 0 links.now.nodes (2 ^ 64) }
     ensures others { (n : ℕ) → ¬ Contains links.now.nodes n
         → slice_index labels.new.items n ≡ slice_index labels.old.items n }
     ensures sized { vec_len labels.new ≡ vec_len labels.old }
@@ -100,7 +100,7 @@ fn number_window<Ix: IndexType>(
 ) -> bool
     requires gap { HasGap Ix.greatest labels.old.items links.now.nodes a from count after }
     requires numbered { (n : ℕ) → Contains links.now.nodes n → n < vec_len labels.old }
-    ensures ascending { IsTrue result → IsAscending labels.new.items 0 links.now.nodes (2 ^ 64) }
+    ensures ascending { IsTrue result → LabelsAscend labels.new.items 0 links.now.nodes (2 ^ 64) }
     ensures others { (n : ℕ) → ¬ Contains links.now.nodes n
         → slice_index labels.new.items n ≡ slice_index labels.old.items n }
     ensures sized { vec_len labels.new ≡ vec_len labels.old }
@@ -135,7 +135,7 @@ pub(crate) fn spread<Ix: IndexType>(
 )
     requires gap { HasGap Ix.greatest labels.old.items links.now.nodes a from count after }
     requires numbered { (n : ℕ) → Contains links.now.nodes n → n < vec_len labels.old }
-    ensures ascending { IsAscending labels.new.items 0 links.now.nodes (2 ^ 64) }
+    ensures ascending { LabelsAscend labels.new.items 0 links.now.nodes (2 ^ 64) }
     ensures others { (n : ℕ) → ¬ Contains links.now.nodes n
         → slice_index labels.new.items n ≡ slice_index labels.old.items n }
 {
@@ -154,7 +154,7 @@ pub(crate) fn label_last<Ix: IndexType>(
 )
     requires before { HasLast labels.old.items links.now.nodes last n }
     requires numbered { (k : ℕ) → Contains links.now.nodes k → k < vec_len labels.old }
-    ensures ascending { IsAscending labels.new.items 0 links.now.nodes (2 ^ 64) }
+    ensures ascending { LabelsAscend labels.new.items 0 links.now.nodes (2 ^ 64) }
     ensures others { (k : ℕ) → ¬ Contains links.now.nodes k
         → slice_index labels.new.items k ≡ slice_index labels.old.items k }
     ensures sized { vec_len labels.new ≡ vec_len labels.old }
@@ -181,7 +181,7 @@ pub(crate) fn label_first<Ix: IndexType>(
 )
     requires behind { HasFirst Ix.greatest labels.old.items links.now.nodes first n }
     requires numbered { (k : ℕ) → Contains links.now.nodes k → k < vec_len labels.old }
-    ensures ascending { IsAscending labels.new.items 0 links.now.nodes (2 ^ 64) }
+    ensures ascending { LabelsAscend labels.new.items 0 links.now.nodes (2 ^ 64) }
     ensures others { (k : ℕ) → ¬ Contains links.now.nodes k
         → slice_index labels.new.items k ≡ slice_index labels.old.items k }
 {

@@ -25,13 +25,13 @@ pub(crate) struct Links<Ix: IndexType> {
 
 impl<Ix: IndexType> Model for Links<Ix> {
     ghost use Rattle.std.specs.Prelude.{length, min, vec_capacity};
-    ghost use Rattle.daggy_order.specs.Links.{Listed, IsLinked, walk};
+    ghost use Rattle.daggy_order.specs.Links.{Listed, AreLinksOf, nodes_from};
 
     ghost Value = { Listed };
 
-    ghost view = { λ l. record { nodes = walk Ix.greatest l.next.items l.first l.count; room = length l.previous.items; capacity = min (vec_capacity l.next) (vec_capacity l.previous) } };
+    ghost view = { λ l. record { nodes = nodes_from Ix.greatest l.next.items l.first l.count; index_bound = length l.previous.items; capacity = min (vec_capacity l.next) (vec_capacity l.previous) } };
 
-    ghost invariant = { λ l. IsLinked Ix.greatest l.next.items l.previous.items l.first l.last (walk Ix.greatest l.next.items l.first l.count) };
+    ghost invariant = { λ l. AreLinksOf Ix.greatest l.next.items l.previous.items l.first l.last (nodes_from Ix.greatest l.next.items l.first l.count) };
 }
 
 // How many elements a list is made longer by at most, so that they are still near when they are
@@ -49,8 +49,12 @@ pub(crate) fn grow<T: Copy + Drop>(list: &mut Vec<T>, n: usize, value: T) -> Res
 {
     if list.len() <= n {
         let more = list.len().saturating_mul(2).min(n.saturating_add(STRETCH));
-        let room = list.capacity();
-        let most = if n < room && room < more { room } else { more };
+        let capacity = list.capacity();
+        let most = if n < capacity && capacity < more {
+            capacity
+        } else {
+            more
+        };
         let len = if n < most { most } else { n + 1 };
         lengthen(list, len, value)?;
     }
@@ -156,7 +160,7 @@ impl<Ix: IndexType> Links<Ix> {
     pub(crate) fn len(&self) -> usize
         ensures value { result ≡ length self.now.nodes }
         ensures distinct { AreDistinct (Ix.greatest ∷ self.now.nodes) }
-        ensures within { (n : ℕ) → Contains self.now.nodes n → n < self.now.room }
+        ensures within { (n : ℕ) → Contains self.now.nodes n → n < self.now.index_bound }
         ensures small { length self.now.nodes < 2 ^ 63 }
     {
         self.count
@@ -191,7 +195,7 @@ impl<Ix: IndexType> Links<Ix> {
     #[inline]
     pub(crate) fn make_room(&mut self, n: usize) -> Result<(), AllocError>
         requires { n + 1 < 2 ^ 64 }
-        ensures ok { OnOk result (n < self.new.room) }
+        ensures ok { OnOk result (n < self.new.index_bound) }
         ensures same { self.new.nodes ≡ self.old.nodes }
     {
         grow(&mut self.next, n, Link::end())?;
@@ -206,7 +210,7 @@ impl<Ix: IndexType> Links<Ix> {
     // there is. Writes nothing.
     pub(crate) fn reserve(&mut self, bound: usize) -> Result<usize, AllocError>
         ensures ok { OnOk result (bound ≤ self.new.capacity) }
-        ensures room { IfOk result (λ room. room ≡ self.new.capacity) }
+        ensures index_bound { IfOk result (λ index_bound. index_bound ≡ self.new.capacity) }
         ensures larger { self.old.capacity ≤ self.new.capacity }
         ensures same { self.new.nodes ≡ self.old.nodes }
     {
@@ -218,7 +222,7 @@ impl<Ix: IndexType> Links<Ix> {
     // Makes room for nodes below `bound`, for which there is memory.
     pub(crate) fn use_memory(&mut self, bound: usize)
         requires { bound ≤ self.old.capacity }
-        ensures room { bound ≤ self.new.room }
+        ensures index_bound { bound ≤ self.new.index_bound }
         ensures same { self.new.nodes ≡ self.old.nodes }
     {
         if self.previous.len() < bound {
@@ -233,8 +237,8 @@ impl<Ix: IndexType> Links<Ix> {
     pub(crate) fn put_first(&mut self, n: Link<Ix>)
         requires real { n ≢ Ix.greatest }
         requires absent { ¬ Contains self.old.nodes n }
-        requires numbered { n < self.old.room }
-        ensures { self.new ≡ record { nodes = n ∷ self.old.nodes; room = self.old.room; capacity = self.old.capacity } }
+        requires numbered { n < self.old.index_bound }
+        ensures { self.new ≡ record { nodes = n ∷ self.old.nodes; index_bound = self.old.index_bound; capacity = self.old.capacity } }
     {
         let q = self.first;
         lead(&mut self.next, &mut self.first, Link::end(), n);
@@ -250,9 +254,9 @@ impl<Ix: IndexType> Links<Ix> {
         requires held { Contains self.old.nodes p }
         requires real { n ≢ Ix.greatest }
         requires absent { ¬ Contains self.old.nodes n }
-        requires numbered { n < self.old.room }
+        requires numbered { n < self.old.index_bound }
         ensures nodes { (ns ms : List ℕ) → self.old.nodes ≡ ns ++ p ∷ ms → self.new.nodes ≡ ns ++ p ∷ (n ∷ ms) }
-        ensures room { self.new.room ≡ self.old.room }
+        ensures index_bound { self.new.index_bound ≡ self.old.index_bound }
         ensures capacity { self.new.capacity ≡ self.old.capacity }
     {
         let q = self.next[p.index()];
@@ -268,8 +272,8 @@ impl<Ix: IndexType> Links<Ix> {
     pub(crate) fn put_last(&mut self, n: Link<Ix>)
         requires real { n ≢ Ix.greatest }
         requires absent { ¬ Contains self.old.nodes n }
-        requires numbered { n < self.old.room }
-        ensures { self.new ≡ record { nodes = self.old.nodes ++ n ∷ []; room = self.old.room; capacity = self.old.capacity } }
+        requires numbered { n < self.old.index_bound }
+        ensures { self.new ≡ record { nodes = self.old.nodes ++ n ∷ []; index_bound = self.old.index_bound; capacity = self.old.capacity } }
     {
         if self.count == 0 {
             self.put_first(n);
@@ -283,7 +287,7 @@ impl<Ix: IndexType> Links<Ix> {
     #[inline]
     pub(crate) fn remove(&mut self, n: Link<Ix>)
         requires { Contains self.old.nodes n }
-        ensures { self.new ≡ record { nodes = without n self.old.nodes; room = self.old.room; capacity = self.old.capacity } }
+        ensures { self.new ≡ record { nodes = without n self.old.nodes; index_bound = self.old.index_bound; capacity = self.old.capacity } }
     {
         let p = self.previous[n.index()];
         let q = self.next[n.index()];

@@ -2,7 +2,7 @@
 ghost use Rattle.std.specs.Prelude.{◌≡◌, ℕ, ◌<◌, ◌≤◌, ◌++◌, ◌∷◌, List, Contains, length, slice_index, vec_len};
 ghost use Rattle.std.specs.List.Sorted.{IsPermutation, IsNonDecreasingBy};
 ghost use Rattle.daggy_base.specs.WellFormed.{AreDistinct};
-ghost use Rattle.daggy_order.specs.Links.{IsAscending, IsRun, StandBefore, without_all};
+ghost use Rattle.daggy_order.specs.Links.{LabelsAscend, IsSegment, StandBefore, without_all};
 
 use crate::order::labels::spread;
 use crate::order::links::Links;
@@ -33,7 +33,7 @@ pub(crate) fn move_behind<Ix: IndexType>(links: &mut Links<Ix>, a: Link<Ix>, nod
     ensures moved { (before behind : List ℕ) → links.old.nodes ≡ before ++ a ∷ behind
         → ((n : ℕ) → Contains nodes.now n → Contains before n)
         → links.new.nodes ≡ without_all nodes.now before ++ a ∷ (nodes.now ++ behind) }
-    ensures room { links.new.room ≡ links.old.room }
+    ensures index_bound { links.new.index_bound ≡ links.old.index_bound }
 {
     let _count = links.len();
     let mut at = a;

@@ -24,11 +24,11 @@ pub struct Nodes<'a, Ix: IndexType = DefaultIx> {
 impl<'a, Ix: IndexType> Model for Nodes<'a, Ix> {
     ghost use Rattle.std.specs.Prelude.{ℕ, List, ◌++◌};
     ghost use Rattle.std.specs.List.{range_with_len};
-    ghost use Rattle.daggy_order.specs.Links.{last_few, IsAmong};
+    ghost use Rattle.daggy_order.specs.Links.{last_nodes, IsAmong};
 
     ghost Value = { List ℕ };
 
-    ghost view = { λ it. last_few it.left it.written.now.nodes ++ range_with_len it.from it.count };
+    ghost view = { λ it. last_nodes it.left it.written.now.nodes ++ range_with_len it.from it.count };
 
     ghost invariant = { λ it. IsAmong Ix.greatest it.written.now.nodes it.left it.at it.from it.count };
 }

@@ -36,12 +36,12 @@ impl<Ix: IndexType> Model for Written<Ix> {
 }
 
 /// The nodes behind the written ones: `count` of them, whose indices follow one another from `from`
-/// on. Nodes below `room` can be written without new memory.
+/// on. Nodes below `index_bound` can be written without new memory.
 #[derive(Clone, Copy)]
 pub(crate) struct Tail {
     pub(super) from: usize,
     pub(super) count: usize,
-    pub(super) room: usize,
+    pub(super) index_bound: usize,
 }
 
 // Puts a node last, for which there is room.
@@ -50,11 +50,11 @@ fn put_last<Ix: IndexType>(links: &mut Links<Ix>, labels: &mut Vec<u64>, n: Link
     requires labelled { IsLabelled labels.old.items links.old.nodes }
     requires real { n < Ix.greatest }
     requires absent { ¬ Contains links.old.nodes n }
-    requires room { n < links.old.room }
+    requires index_bound { n < links.old.index_bound }
     requires labels_fit { n < vec_len labels.old }
     ensures nodes { links.new.nodes ≡ links.old.nodes ++ n ∷ [] }
     ensures labelled { IsLabelled labels.new.items links.new.nodes }
-    ensures room { links.new.room ≡ links.old.room }
+    ensures index_bound { links.new.index_bound ≡ links.old.index_bound }
     ensures sized { vec_len labels.new ≡ vec_len labels.old }
 {
     let last = links.last();
@@ -72,7 +72,7 @@ fn put_in_turn<Ix: IndexType>(
     requires labelled { IsLabelled labels.old.items links.old.nodes }
     requires below { (n : ℕ) → Contains links.old.nodes n → n < from }
     requires real { from + count ≤ Ix.greatest }
-    requires room { from + count ≤ links.old.room }
+    requires index_bound { from + count ≤ links.old.index_bound }
     requires labels_fit { from + count ≤ vec_len labels.old }
     ensures nodes { links.new.nodes ≡ links.old.nodes ++ range_with_len from count }
     ensures labelled { IsLabelled labels.new.items links.new.nodes }
@@ -137,24 +137,24 @@ impl<Ix: IndexType> Written<Ix> {
     // Takes memory for nodes below `bound`, and says below which number there is memory for nodes.
     // Writes nothing.
     pub(crate) fn reserve(&mut self, bound: usize) -> Result<usize, AllocError>
-        ensures ok { IfOk result (λ room. bound ≤ room) }
-        ensures room { IfOk result (λ room. room ≡ self.new.capacity) }
+        ensures ok { IfOk result (λ index_bound. bound ≤ index_bound) }
+        ensures index_bound { IfOk result (λ index_bound. index_bound ≡ self.new.capacity) }
         ensures larger { self.old.capacity ≤ self.new.capacity }
         ensures same { self.new.nodes ≡ self.old.nodes }
     {
         reserve_to(&mut self.labels, bound)?;
-        let room = self.links.reserve(bound)?;
-        Ok(room.min(self.labels.capacity()))
+        let index_bound = self.links.reserve(bound)?;
+        Ok(index_bound.min(self.labels.capacity()))
     }
 
     // Writes the nodes of a tail. There is memory for them. The tail that is left is empty.
     #[inline]
     pub(crate) fn settle(&mut self, tail: Tail) -> Tail
-        requires { IsTailed Ix.greatest self.old.nodes self.old.capacity tail.from tail.count tail.room }
+        requires { IsTailed Ix.greatest self.old.nodes self.old.capacity tail.from tail.count tail.index_bound }
         ensures nodes { self.new.nodes ≡ self.old.nodes ++ range_with_len tail.from tail.count }
         ensures from { result.from ≡ tail.from + tail.count }
         ensures count { result.count ≡ 0 }
-        ensures room { result.room ≡ 0 }
+        ensures index_bound { result.index_bound ≡ 0 }
     {
         if tail.count > 0 {
             self.write_tail(tail);
@@ -162,14 +162,14 @@ impl<Ix: IndexType> Written<Ix> {
         Tail {
             from: tail.from + tail.count,
             count: 0,
-            room: 0,
+            index_bound: 0,
         }
     }
 
     #[inline(never)]
     fn write_tail(&mut self, tail: Tail)
         requires some { 0 < tail.count }
-        requires tailed { IsTailed Ix.greatest self.old.nodes self.old.capacity tail.from tail.count tail.room }
+        requires tailed { IsTailed Ix.greatest self.old.nodes self.old.capacity tail.from tail.count tail.index_bound }
         ensures { self.new.nodes ≡ self.old.nodes ++ range_with_len tail.from tail.count }
     {
         let end = tail.from + tail.count;

@@ -16,7 +16,7 @@ ghost use Rattle.daggy_base.specs.declared.index.Direction.TheVariants.{Outgoing
 ghost use Rattle.daggy_base.specs.declared.error.NodeError.TheVariants.{Memory as NodeMemory};
 ghost use Rattle.daggy_base.specs.declared.error.EdgeError.TheVariants.{WouldCycle as ByCycle, Memory as EdgeMemory};
 ghost use Rattle.daggy_base.specs.declared.error.ChildError.TheVariants.{Memory as ChildMemory};
-ghost use Rattle.daggy_guard.specs.Series.{by_numbers};
+ghost use Rattle.daggy_guard.specs.EdgeBatch.{by_numbers};
 ghost use Rattle.daggy_run.specs.Kinds.{kind_of};
 ghost use Rattle.daggy_run.specs.declared.guarded.Kind.{Kind as DagKind};
 ghost use Rattle.daggy_run.specs.declared.guarded.Kind.TheVariants.{Compact, Stable};
@@ -145,7 +145,7 @@ where
     ) -> Result<EdgeIndex<Ix>, EdgeError<E>>
         requires parent { HasNode self.old.graph (Ix.number a) }
         requires child { HasNode self.old.graph (Ix.number b) }
-        requires room { edge_count_of self.old.graph < Ix.greatest }
+        requires index_left { edge_count_of self.old.graph < Ix.greatest }
         ensures cycle { (result ≡ Err (ByCycle (record { 0 = weight })))
             ↔ Reaches self.old.graph (Ix.number b) (Ix.number a) }
         ensures refusal { IfErr result (λ e. (e ≡ ByCycle (record { 0 = weight })) ⊎ (e ≡ EdgeMemory weight)) }
@@ -166,7 +166,7 @@ where
     ) -> Result<EdgeIndex<Ix>, EdgeError<E>>
         requires parent { HasNode self.old.graph (Ix.number a) }
         requires child { HasNode self.old.graph (Ix.number b) }
-        requires room { edge_between self.old.graph (Ix.number a) (Ix.number b) ≡ None
+        requires index_left { edge_between self.old.graph (Ix.number a) (Ix.number b) ≡ None
             → edge_count_of self.old.graph < Ix.greatest }
         ensures replaced { IfSome (edge_between self.old.graph (Ix.number a) (Ix.number b)) (λ e.
             IsOkAnd result (λ updated. Ix.number updated ≡ e)

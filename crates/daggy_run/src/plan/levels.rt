@@ -55,7 +55,7 @@ fn raise_children<N, E, Ix: IndexType, D: GuardedDag<N, E, Ix>>(
     requires levels { vec_len levels.old ≡ node_bound_of (D.graph dag.now) }
     requires parents { vec_len parents.old ≡ node_bound_of (D.graph dag.now) }
     requires within { (k : ℕ) → k < vec_len parents.old → slice_index parents.old.items k < vec_len parents.old }
-    requires room { slice_index levels.old.items (Ix.number n) + 1 < 2 ^ 64 }
+    requires level_fits { slice_index levels.old.items (Ix.number n) + 1 < 2 ^ 64 }
     ensures raised { (waiting : List ℕ) (most : ℕ) → IsNext (D.graph dag.now) (Ix.number n) waiting
         → AreLevels (IsPassed (D.graph dag.now) (Ix.number n ∷ waiting)) most levels.old.items parents.old.items
         → AreLevels (IsPassed (D.graph dag.now) waiting) (most + 1) levels.new.items parents.new.items }

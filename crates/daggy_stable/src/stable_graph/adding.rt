@@ -51,7 +51,7 @@ impl<N: Drop, E: Drop, Ix: IndexType> StableDiGraph<N, E, Ix> {
     #[inline]
     fn make_node(&mut self, weight: N) -> Result<NodeIndex<Ix>, NodeError<N>>
         requires none { self.old.graph.vacant_nodes ≡ [] }
-        requires room { node_count_of self.old.graph < Ix.greatest }
+        requires index_left { node_count_of self.old.graph < Ix.greatest }
         ensures index { IfOk result (λ n. Ix.number n ≡ next_node self.old.graph) }
         ensures added { OnOk result (self.new ≡ with_graph self.old (with_node self.old.graph weight)) }
         ensures refusal { IfErr result (λ e. e ≡ NodeMemory weight) }
@@ -80,7 +80,7 @@ impl<N: Drop, E: Drop, Ix: IndexType> StableDiGraph<N, E, Ix> {
     ) -> Result<EdgeIndex<Ix>, EdgeError<E>>
         requires parent { HasNode self.old.graph (Ix.number a) }
         requires child { HasNode self.old.graph (Ix.number b) }
-        requires room { edge_count_of self.old.graph < Ix.greatest }
+        requires index_left { edge_count_of self.old.graph < Ix.greatest }
         ensures index { IfOk result (λ e. Ix.number e ≡ next_edge_of self.old.graph) }
         ensures added { OnOk result (self.new ≡ with_graph self.old (with_edge self.old.graph (Ix.number a) (Ix.number b) weight)) }
         ensures refusal { IfErr result (λ e. e ≡ EdgeMemory weight) }
@@ -127,7 +127,7 @@ impl<N: Drop, E: Drop, Ix: IndexType> StableDiGraph<N, E, Ix> {
         requires none { self.old.graph.vacant_edges ≡ [] }
         requires parent { HasNode self.old.graph (Ix.number a) }
         requires child { HasNode self.old.graph (Ix.number b) }
-        requires room { edge_count_of self.old.graph < Ix.greatest }
+        requires index_left { edge_count_of self.old.graph < Ix.greatest }
         ensures index { IfOk result (λ e. Ix.number e ≡ next_edge_of self.old.graph) }
         ensures added { OnOk result (self.new ≡ with_graph self.old (with_edge self.old.graph (Ix.number a) (Ix.number b) weight)) }
         ensures refusal { IfErr result (λ e. e ≡ EdgeMemory weight) }

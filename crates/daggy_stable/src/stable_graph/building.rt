@@ -2,7 +2,7 @@
 ghost use Rattle.std.specs.Prelude.{◌≡◌, ◌<◌, ◌≤◌, None, [], ◌∷◌, ◌++◌, map, length, vec_len, vec_capacity, IsSome, IfOk};
 ghost use Rattle.std.specs.Option.{option_map};
 ghost use Rattle.daggy_base.specs.Graph.{slot};
-ghost use Rattle.daggy_base.specs.FromSlots.{of_slots};
+ghost use Rattle.daggy_base.specs.FromSlots.{graph_of_slots};
 ghost use Rattle.daggy_stable.specs.Stored.{weight_of, plain_edge};
 ghost use Rattle.daggy_stable.specs.Building.{IsBuilt, between};
 
@@ -16,20 +16,20 @@ use std::alloc::{AllocError, Global};
 
 // Slots that are made one by one, and which of them was made vacant last.
 #[derive(Drop)]
-pub(super) struct Slots<T, Ix: IndexType> {
+pub(super) struct SlotBuilder<T, Ix: IndexType> {
     pub(super) cells: Vec<T>,
     pub(super) first_vacant: Link<Ix>,
     pub(super) count: usize,
 }
 
-impl<T: Drop, Ix: IndexType> Slots<T, Ix> {
+impl<T: Drop, Ix: IndexType> SlotBuilder<T, Ix> {
     pub(super) fn with_capacity(alloc: Global, slots: usize) -> Result<Self, AllocError>
         ensures empty { IfOk result (λ s. s.cells.items ≡ []) }
         ensures end { IfOk result (λ s. s.first_vacant ≡ Ix.greatest) }
         ensures none { IfOk result (λ s. s.count ≡ 0) }
-        ensures room { IfOk result (λ s. slots ≤ vec_capacity s.cells) }
+        ensures capacity { IfOk result (λ s. slots ≤ vec_capacity s.cells) }
     {
-        Ok(Slots {
+        Ok(SlotBuilder {
             cells: Vec::with_capacity(alloc, slots)?,
             first_vacant: Link::end(),
             count: 0,
@@ -39,14 +39,14 @@ impl<T: Drop, Ix: IndexType> Slots<T, Ix> {
 
 // Makes the next slot of a node, which is vacant if there is no weight for it.
 pub(super) fn keep_node<N, E, Ix: IndexType>(
-    nodes: &mut Slots<Node<Option<N>, Ix>, Ix>,
-    edges: &Slots<Edge<Option<E>, Ix>, Ix>,
+    nodes: &mut SlotBuilder<Node<Option<N>, Ix>, Ix>,
+    edges: &SlotBuilder<Edge<Option<E>, Ix>, Ix>,
     answer: Option<N>,
 )
     requires no_edges { edges.now.cells.items ≡ [] }
     requires stored { IsBuilt Ix.greatest nodes.old edges.now }
-    requires left { length nodes.old.cells.items < Ix.greatest }
-    requires room { vec_len nodes.old.cells < vec_capacity nodes.old.cells }
+    requires index_left { length nodes.old.cells.items < Ix.greatest }
+    requires capacity { vec_len nodes.old.cells < vec_capacity nodes.old.cells }
     ensures stored { IsBuilt Ix.greatest nodes.new edges.now }
     ensures weights { map weight_of nodes.new.cells.items ≡ map weight_of nodes.old.cells.items ++ answer ∷ [] }
     ensures capacity { vec_capacity nodes.new.cells ≡ vec_capacity nodes.old.cells }
@@ -68,12 +68,12 @@ pub(super) fn keep_node<N, E, Ix: IndexType>(
 
 // Makes the next slot of an edge, which is vacant.
 pub(super) fn leave_edge<N, E, Ix: IndexType>(
-    nodes: &Slots<Node<Option<N>, Ix>, Ix>,
-    edges: &mut Slots<Edge<Option<E>, Ix>, Ix>,
+    nodes: &SlotBuilder<Node<Option<N>, Ix>, Ix>,
+    edges: &mut SlotBuilder<Edge<Option<E>, Ix>, Ix>,
 )
     requires stored { IsBuilt Ix.greatest nodes.now edges.old }
-    requires left { length edges.old.cells.items < Ix.greatest }
-    requires room { vec_len edges.old.cells < vec_capacity edges.old.cells }
+    requires index_left { length edges.old.cells.items < Ix.greatest }
+    requires capacity { vec_len edges.old.cells < vec_capacity edges.old.cells }
     ensures stored { IsBuilt Ix.greatest nodes.now edges.new }
     ensures edges { map plain_edge edges.new.cells.items ≡ map plain_edge edges.old.cells.items ++ None ∷ [] }
     ensures capacity { vec_capacity edges.new.cells ≡ vec_capacity edges.old.cells }
@@ -88,8 +88,8 @@ pub(super) fn leave_edge<N, E, Ix: IndexType>(
 
 // Makes the next slot of an edge from `a` to `b`, which is vacant if there is no weight for it.
 pub(super) fn keep_edge<N, E, Ix: IndexType>(
-    nodes: &mut Slots<Node<Option<N>, Ix>, Ix>,
-    edges: &mut Slots<Edge<Option<E>, Ix>, Ix>,
+    nodes: &mut SlotBuilder<Node<Option<N>, Ix>, Ix>,
+    edges: &mut SlotBuilder<Edge<Option<E>, Ix>, Ix>,
     a: Link<Ix>,
     b: Link<Ix>,
     answer: Option<E>,
@@ -97,8 +97,8 @@ pub(super) fn keep_edge<N, E, Ix: IndexType>(
     requires stored { IsBuilt Ix.greatest nodes.old edges.old }
     requires parent { IsSome (slot (map weight_of nodes.old.cells.items) a) }
     requires child { IsSome (slot (map weight_of nodes.old.cells.items) b) }
-    requires left { length edges.old.cells.items < Ix.greatest }
-    requires room { vec_len edges.old.cells < vec_capacity edges.old.cells }
+    requires index_left { length edges.old.cells.items < Ix.greatest }
+    requires capacity { vec_len edges.old.cells < vec_capacity edges.old.cells }
     ensures stored { IsBuilt Ix.greatest nodes.new edges.new }
     ensures nodes { map weight_of nodes.new.cells.items ≡ map weight_of nodes.old.cells.items }
     ensures edges { map plain_edge edges.new.cells.items ≡ map plain_edge edges.old.cells.items ++ option_map (between a b) answer ∷ [] }
@@ -119,11 +119,11 @@ pub(super) fn keep_edge<N, E, Ix: IndexType>(
 
 // The graph of all the slots.
 pub(super) fn built<N, E, Ix: IndexType>(
-    nodes: Slots<Node<Option<N>, Ix>, Ix>,
-    edges: Slots<Edge<Option<E>, Ix>, Ix>,
+    nodes: SlotBuilder<Node<Option<N>, Ix>, Ix>,
+    edges: SlotBuilder<Edge<Option<E>, Ix>, Ix>,
 ) -> StableDiGraph<N, E, Ix>
     requires { IsBuilt Ix.greatest nodes edges }
-    ensures { result ≡ record { graph = of_slots (map weight_of nodes.cells.items) (map plain_edge edges.cells.items); looks = 0 } }
+    ensures { result ≡ record { graph = graph_of_slots (map weight_of nodes.cells.items) (map plain_edge edges.cells.items); looks = 0 } }
 {
     StableDiGraph {
         nodes: nodes.cells,

@@ -4,28 +4,28 @@ ghost use Rattle.std.specs.Option.{option_map};
 ghost use Rattle.daggy_base.specs.Graph.{slot};
 ghost use Rattle.daggy_base.specs.Mapping.{weight_in, with_weight};
 ghost use Rattle.daggy_base.specs.Filtering.{ListsDescend};
-ghost use Rattle.daggy_base.specs.FilteringInPlace.{KeepsSlots, if_joined, IsFilteredInPlace};
+ghost use Rattle.daggy_base.specs.FilteringInPlace.{KeepsSlots, if_ends_exist, IsFilteredInPlace};
 ghost use Rattle.daggy_stable.specs.Stored.{weight_of, plain_edge};
 ghost use Rattle.daggy_stable.specs.Building.{IsBuilt};
 
 use crate::stable_graph::StableDiGraph;
-use crate::stable_graph::building::{Slots, built, keep_edge, keep_node, leave_edge};
+use crate::stable_graph::building::{SlotBuilder, built, keep_edge, keep_node, leave_edge};
 use daggy_base::index::{Direction, EdgeIndex, IndexType, NodeIndex};
 use daggy_base::link::Link;
 use daggy_cells::cell::{Edge, Node};
 use daggy_cells::links;
 use std::alloc::AllocError;
 
-// Makes the slots of the nodes that f keeps, in the room that they have.
+// Makes the slots of the nodes that f keeps, within the capacity that is there.
 fn filter_nodes<N, V, W, Ix: IndexType, F: FnMut(NodeIndex<Ix>, &N) -> Option<V>>(
     nodes: &[Node<Option<N>, Ix>],
-    new: &mut Slots<Node<Option<V>, Ix>, Ix>,
-    edges: &Slots<Edge<Option<W>, Ix>, Ix>,
+    new: &mut SlotBuilder<Node<Option<V>, Ix>, Ix>,
+    edges: &SlotBuilder<Edge<Option<W>, Ix>, Ix>,
     mut f: F,
 )
     requires callable { F.IsAlwaysCallable f }
     requires few { length nodes.now ≤ Ix.greatest }
-    requires room { length nodes.now ≤ vec_capacity new.old.cells }
+    requires capacity { length nodes.now ≤ vec_capacity new.old.cells }
     requires empty { new.old.cells.items ≡ [] }
     requires no_edges { edges.now.cells.items ≡ [] }
     requires stored { IsBuilt Ix.greatest new.old edges.now }
@@ -47,7 +47,7 @@ fn filter_nodes<N, V, W, Ix: IndexType, F: FnMut(NodeIndex<Ix>, &N) -> Option<V>
 }
 
 #[inline]
-fn stayed<N, Ix: IndexType>(nodes: &Slots<Node<Option<N>, Ix>, Ix>, n: Link<Ix>) -> bool
+fn stayed<N, Ix: IndexType>(nodes: &SlotBuilder<Node<Option<N>, Ix>, Ix>, n: Link<Ix>) -> bool
     ensures { result ≡ is_some (slot (map weight_of nodes.now.cells.items) n) }
 {
     match nodes.cells.get(n.index()) {
@@ -59,10 +59,10 @@ fn stayed<N, Ix: IndexType>(nodes: &Slots<Node<Option<N>, Ix>, Ix>, n: Link<Ix>)
 // The weight of an edge, if the edge exists and both its ends stayed.
 #[inline]
 fn joined_weight<'a, N, E, Ix: IndexType>(
-    nodes: &Slots<Node<Option<N>, Ix>, Ix>,
+    nodes: &SlotBuilder<Node<Option<N>, Ix>, Ix>,
     x: &'a Edge<Option<E>, Ix>,
 ) -> Option<&'a E>
-    ensures { option_copied result ≡ option_map weight_in (if_joined (map weight_of nodes.now.cells.items) (plain_edge x.now)) }
+    ensures { option_copied result ≡ option_map weight_in (if_ends_exist (map weight_of nodes.now.cells.items) (plain_edge x.now)) }
 {
     if !stayed(nodes, links::end(x, Direction::Outgoing)) {
         return None;
@@ -73,21 +73,22 @@ fn joined_weight<'a, N, E, Ix: IndexType>(
     x.weight.as_ref()
 }
 
-// Makes the slots of the edges that g keeps of those whose ends both stayed, in the room that they have.
+// Makes the slots of the edges that g keeps of those whose ends both stayed, within the capacity
+// that is there.
 fn filter_edges<N, E, W, Ix: IndexType, G: FnMut(EdgeIndex<Ix>, &E) -> Option<W>>(
     edges: &[Edge<Option<E>, Ix>],
-    nodes: &mut Slots<Node<Option<N>, Ix>, Ix>,
-    new: &mut Slots<Edge<Option<W>, Ix>, Ix>,
+    nodes: &mut SlotBuilder<Node<Option<N>, Ix>, Ix>,
+    new: &mut SlotBuilder<Edge<Option<W>, Ix>, Ix>,
     mut g: G,
 )
     requires callable { G.IsAlwaysCallable g }
     requires few { length edges.now ≤ Ix.greatest }
-    requires room { length edges.now ≤ vec_capacity new.old.cells }
+    requires capacity { length edges.now ≤ vec_capacity new.old.cells }
     requires empty { new.old.cells.items ≡ [] }
     requires stored { IsBuilt Ix.greatest nodes.old new.old }
     ensures stored { IsBuilt Ix.greatest nodes.new new.new }
     ensures nodes { map weight_of nodes.new.cells.items ≡ map weight_of nodes.old.cells.items }
-    ensures kept { KeepsSlots G.step Ix.of weight_in with_weight g 0 (map (λ x. if_joined (map weight_of nodes.old.cells.items) (plain_edge x)) edges.now) (map plain_edge new.new.cells.items) }
+    ensures kept { KeepsSlots G.step Ix.of weight_in with_weight g 0 (map (λ x. if_ends_exist (map weight_of nodes.old.cells.items) (plain_edge x)) edges.now) (map plain_edge new.new.cells.items) }
 {
     'each: for i in 0..edges.len() {
         let x = &edges[i];
@@ -129,8 +130,8 @@ impl<N, E, Ix: IndexType> StableDiGraph<N, E, Ix> {
         let alloc = *self.nodes.allocator();
         let node_bound = self.node_bound();
         let edge_bound = self.edge_bound();
-        let mut nodes = Slots::with_capacity(alloc, node_bound)?;
-        let mut edges = Slots::with_capacity(alloc, edge_bound)?;
+        let mut nodes = SlotBuilder::with_capacity(alloc, node_bound)?;
+        let mut edges = SlotBuilder::with_capacity(alloc, edge_bound)?;
         filter_nodes(&self.nodes[..node_bound], &mut nodes, &edges, f);
         filter_edges(&self.edges[..edge_bound], &mut nodes, &mut edges, g);
         Ok(built(nodes, edges))

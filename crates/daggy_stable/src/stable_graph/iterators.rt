@@ -7,7 +7,7 @@ ghost use Rattle.daggy_stable.specs.Rest.{numbered_edge};
 ghost use Rattle.daggy_stable.specs.Stored.{plain_edge};
 
 use crate::stable_graph::StableDiGraph;
-use crate::stable_graph::slots::Slots;
+use crate::stable_graph::full_slots::FullSlots;
 use daggy_base::index::{DefaultIx, Direction, EdgeIndex, IndexType, NodeIndex};
 use daggy_cells::cell::{Edge, Node};
 use daggy_cells::links;
@@ -20,7 +20,7 @@ use std::marker::Model;
 /// The nodes by ascending index, each with its weight. A step costs the vacant slots that it goes past.
 #[derive(Drop)]
 pub struct NodeReferences<'a, N, Ix: IndexType = DefaultIx> {
-    slots: Slots<'a, Node<Option<N>, Ix>>,
+    slots: FullSlots<'a, Node<Option<N>, Ix>>,
 }
 
 impl<'a, N, Ix: IndexType> Model for NodeReferences<'a, N, Ix> {
@@ -62,7 +62,7 @@ impl<'a, N, Ix: IndexType> Clone for NodeReferences<'a, N, Ix> {
 
     fn clone(&self) -> Result<Self, AllocError> {
         Ok(NodeReferences {
-            slots: Slots {
+            slots: FullSlots {
                 cells: self.slots.cells,
                 index: self.slots.index,
             },
@@ -199,7 +199,7 @@ pub(super) fn reference<'a, E, Ix: IndexType>(
 /// The edges, by ascending index. A step costs the vacant slots that it goes past.
 #[derive(Drop)]
 pub struct EdgeReferences<'a, E, Ix: IndexType = DefaultIx> {
-    slots: Slots<'a, Edge<Option<E>, Ix>>,
+    slots: FullSlots<'a, Edge<Option<E>, Ix>>,
 }
 
 impl<'a, E, Ix: IndexType> Model for EdgeReferences<'a, E, Ix> {
@@ -243,7 +243,7 @@ impl<'a, E, Ix: IndexType> Clone for EdgeReferences<'a, E, Ix> {
 
     fn clone(&self) -> Result<Self, AllocError> {
         Ok(EdgeReferences {
-            slots: Slots {
+            slots: FullSlots {
                 cells: self.slots.cells,
                 index: self.slots.index,
             },
@@ -349,7 +349,7 @@ impl<N, E, Ix: IndexType> StableDiGraph<N, E, Ix> {
         ensures fits { length result < 2 ^ 64 }
     {
         NodeReferences {
-            slots: Slots {
+            slots: FullSlots {
                 cells: self.nodes.as_slice(),
                 index: 0,
             },
@@ -363,7 +363,7 @@ impl<N, E, Ix: IndexType> StableDiGraph<N, E, Ix> {
         ensures fits { length result < 2 ^ 64 }
     {
         EdgeReferences {
-            slots: Slots {
+            slots: FullSlots {
                 cells: self.edges.as_slice(),
                 index: 0,
             },

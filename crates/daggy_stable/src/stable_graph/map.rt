@@ -12,7 +12,7 @@ use daggy_cells::cell::{Edge, Node};
 use daggy_cells::links;
 use std::alloc::AllocError;
 
-// Makes the nodes of the new graph, in the room that they have.
+// Makes the nodes of the new graph, within the capacity that is there.
 fn map_nodes<N, V, Ix: IndexType, F: FnMut(NodeIndex<Ix>, &N) -> V>(
     nodes: &[Node<Option<N>, Ix>],
     new: &mut Vec<Node<Option<V>, Ix>>,
@@ -20,7 +20,7 @@ fn map_nodes<N, V, Ix: IndexType, F: FnMut(NodeIndex<Ix>, &N) -> V>(
 )
     requires callable { F.IsAlwaysCallable f }
     requires few { length nodes.now ≤ Ix.greatest }
-    requires room { length nodes.now ≤ vec_capacity new.old }
+    requires capacity { length nodes.now ≤ vec_capacity new.old }
     requires empty { new.old.items ≡ [] }
     ensures mapped { MapsSlots F.step Ix.of (λ w. w) (λ w v. v) f 0 (map weight_of nodes.now) (map weight_of new.new.items) }
     ensures links { (dir : Direction) → firsts_of dir new.new.items ≡ firsts_of dir nodes.now }
@@ -39,7 +39,7 @@ fn map_nodes<N, V, Ix: IndexType, F: FnMut(NodeIndex<Ix>, &N) -> V>(
     }
 }
 
-// Makes the edges of the new graph, in the room that they have.
+// Makes the edges of the new graph, within the capacity that is there.
 fn map_edges<E, W, Ix: IndexType, G: FnMut(EdgeIndex<Ix>, &E) -> W>(
     edges: &[Edge<Option<E>, Ix>],
     new: &mut Vec<Edge<Option<W>, Ix>>,
@@ -47,7 +47,7 @@ fn map_edges<E, W, Ix: IndexType, G: FnMut(EdgeIndex<Ix>, &E) -> W>(
 )
     requires callable { G.IsAlwaysCallable g }
     requires few { length edges.now ≤ Ix.greatest }
-    requires room { length edges.now ≤ vec_capacity new.old }
+    requires capacity { length edges.now ≤ vec_capacity new.old }
     requires empty { new.old.items ≡ [] }
     ensures mapped { MapsSlots G.step Ix.of weight_in with_weight g 0 (map plain_edge edges.now) (map plain_edge new.new.items) }
     ensures links { (dir : Direction) → nexts_of dir new.new.items ≡ nexts_of dir edges.now }

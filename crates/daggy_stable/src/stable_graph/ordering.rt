@@ -6,9 +6,9 @@ ghost use Rattle.daggy_base.specs.Graph.{slot};
 ghost use Rattle.daggy_base.specs.Orders.{numbers_of, with_orders, AreOrders};
 ghost use Rattle.daggy_base.specs.State.{with_graph};
 ghost use Rattle.daggy_cells.specs.Fields.{firsts_of, nexts_of};
-ghost use Rattle.daggy_cells.specs.Links.{row, IsLinked, CanThreadAll};
-ghost use Rattle.daggy_stable.specs.Stored.{weight_of, plain_edge, row_firsts};
-ghost use Rattle.daggy_stable.specs.Ordering.{new_rows};
+ghost use Rattle.daggy_cells.specs.Links.{nth_list, AreLinkedLists, CanThreadAll};
+ghost use Rattle.daggy_stable.specs.Stored.{weight_of, plain_edge, list_firsts};
+ghost use Rattle.daggy_stable.specs.Ordering.{new_lists};
 
 use crate::stable_graph::StableDiGraph;
 use daggy_base::index::{EdgeIndex, IndexType};
@@ -22,13 +22,13 @@ fn thread_nodes<N, E, Ix: IndexType>(
     orders: &[(Vec<EdgeIndex<Ix>>, Vec<EdgeIndex<Ix>>)],
 )
     requires count { length orders.now ≡ count_by is_some (map weight_of nodes.old.items) }
-    requires lists { (dir : Direction) → CanThreadAll (length edges.old.items) (new_rows dir nodes.old.items (map (numbers_of Ix.number) orders.now)) }
-    ensures linked { (dir : Direction) → IsLinked Ix.greatest (row_firsts Ix.greatest dir nodes.new.items) (nexts_of dir edges.new.items) (new_rows dir nodes.old.items (map (numbers_of Ix.number) orders.now)) }
+    requires lists { (dir : Direction) → CanThreadAll (length edges.old.items) (new_lists dir nodes.old.items (map (numbers_of Ix.number) orders.now)) }
+    ensures linked { (dir : Direction) → AreLinkedLists Ix.greatest (list_firsts Ix.greatest dir nodes.new.items) (nexts_of dir edges.new.items) (new_lists dir nodes.old.items (map (numbers_of Ix.number) orders.now)) }
     ensures nodes { map weight_of nodes.new.items ≡ map weight_of nodes.old.items }
     ensures edges { map plain_edge edges.new.items ≡ map plain_edge edges.old.items }
     ensures vacant_nodes { (n : ℕ) → slot (map weight_of nodes.old.items) n ≡ None
         → slice_get (firsts_of Outgoing nodes.new.items) n ≡ slice_get (firsts_of Outgoing nodes.old.items) n }
-    ensures other_edges { (e : ℕ) → ((n : ℕ) → ¬ Contains (row (new_rows Outgoing nodes.old.items (map (numbers_of Ix.number) orders.now)) n) e)
+    ensures other_edges { (e : ℕ) → ((n : ℕ) → ¬ Contains (nth_list (new_lists Outgoing nodes.old.items (map (numbers_of Ix.number) orders.now)) n) e)
         → slice_get (nexts_of Outgoing edges.new.items) e ≡ slice_get (nexts_of Outgoing edges.old.items) e }
     ensures as_many { length (nexts_of Outgoing edges.new.items) ≡ length (nexts_of Outgoing edges.old.items) }
 {

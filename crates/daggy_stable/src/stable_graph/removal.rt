@@ -3,11 +3,11 @@ ghost use Rattle.std.specs.Prelude.{◌≡◌, ℕ, ◌<◌, length, map, slice_
 ghost use Rattle.std.specs.Option.{option_map};
 ghost use Rattle.daggy_base.specs.declared.index.Direction.{Direction};
 ghost use Rattle.daggy_base.specs.Graph.{empty, node_weight, edge_at, HasNode, HasEdge, list_at};
-ghost use Rattle.daggy_base.specs.Removal.{Stable, without_edge, without_front, without_node, isolated, dropped_node, without_all_edges};
+ghost use Rattle.daggy_base.specs.Removal.{Stable, without_edge, without_front, without_node, with_node_isolated, with_node_dropped, without_all_edges};
 ghost use Rattle.daggy_base.specs.WellFormed.{IsIsolated};
 ghost use Rattle.daggy_base.specs.State.{with_graph};
 ghost use Rattle.daggy_cells.specs.Fields.{weight_of as stored_weight, plain_edge as stored_edge, nexts_of, IsReady, Redirects};
-ghost use Rattle.daggy_stable.specs.Stored.{emptied};
+ghost use Rattle.daggy_stable.specs.Stored.{with_lists_emptied};
 
 use crate::stable_graph::StableDiGraph;
 use daggy_base::index::{Direction, EdgeIndex, IndexType, NodeIndex};
@@ -56,7 +56,7 @@ impl<N, E, Ix: IndexType> StableDiGraph<N, E, Ix> {
         E: Drop,
         ensures value { result ≡ node_weight self.old.graph (Ix.number n) }
         ensures removed { OnSome result (self.new ≡ with_graph self.old (without_node Stable self.old.graph (Ix.number n))) }
-        ensures between { OnSome result (IsIsolated Ix.greatest (isolated Stable self.old.graph (Ix.number n)) (Ix.number n)) }
+        ensures between { OnSome result (IsIsolated Ix.greatest (with_node_isolated Stable self.old.graph (Ix.number n)) (Ix.number n)) }
         ensures missing { IfNone result (self.new ≡ self.old) }
     {
         if self.node_weight(n).is_none() {
@@ -91,7 +91,7 @@ impl<N, E, Ix: IndexType> StableDiGraph<N, E, Ix> {
         requires node { HasNode self.old.graph (Ix.number n) }
         requires no_edges { (d : Direction) → list_at d self.old.graph (Ix.number n) ≡ [] }
         ensures value { result ≡ node_weight self.old.graph (Ix.number n) }
-        ensures dropped { self.new ≡ with_graph self.old (dropped_node Stable self.old.graph (Ix.number n)) }
+        ensures dropped { self.new ≡ with_graph self.old (with_node_dropped Stable self.old.graph (Ix.number n)) }
     {
         let link = Link::of_node(n);
         let x = &mut self.nodes[link.index()];
@@ -154,7 +154,7 @@ pub(super) fn unlink<N, E, Ix: IndexType>(
 
 // Empties the lists of every node.
 fn empty_lists<N, Ix: IndexType>(nodes: &mut Vec<Node<Option<N>, Ix>>)
-    ensures { nodes.new.items ≡ map (emptied Ix.greatest) nodes.old.items }
+    ensures { nodes.new.items ≡ map (with_lists_emptied Ix.greatest) nodes.old.items }
 {
     for i in 0..nodes.len() {
         empty_both(&mut nodes[i]);
@@ -163,7 +163,7 @@ fn empty_lists<N, Ix: IndexType>(nodes: &mut Vec<Node<Option<N>, Ix>>)
 
 // Empties the lists of a node, if it exists.
 fn empty_both<N, Ix: IndexType>(x: &mut Node<Option<N>, Ix>)
-    ensures { x.new ≡ emptied Ix.greatest x.old }
+    ensures { x.new ≡ with_lists_emptied Ix.greatest x.old }
 {
     if x.weight.is_none() {
         return;

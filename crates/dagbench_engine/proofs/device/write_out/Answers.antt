@@ -1,6 +1,6 @@
 use Rattle.std.proofs.Common.{◌≡◌, [], rules, drop_of_length-le}
 use Rattle.std.proofs.KnownBytes.{Keeps-refl}
-use Rattle.dagbench_engine.proofs.Writing.{piece_put, front_put, all_put}
+use Rattle.dagbench_engine.proofs.WrittenBytes.{piece_put, front_put, all_put}
 use Rattle.dagbench_engine.proofs.device.write_out.Goals as goal
 
 pub returns-in_default : goal.returns-in_default

@@ -1,5 +1,5 @@
 use Rattle.std.proofs.Common.{length}
-use Rattle.dagbench_engine.proofs.Writing.{IsPut}
+use Rattle.dagbench_engine.proofs.WrittenBytes.{IsPut}
 use Rattle.dagbench_engine.proofs.device.write_out.Given as goal
 
 abbrev pub invariant-writes : goal.invariant-writes

@@ -1,4 +1,4 @@
-use Rattle.dagbench_engine.proofs.Answering.{none_answered, no_room_answered}
+use Rattle.dagbench_engine.proofs.AnswersAtOnce.{none_answered, no_room_answered}
 use Rattle.dagbench_engine.proofs.engine.answer.Goals as goal
 
 pub returns-in-Ok-None-clause-answered : goal.returns-in-Ok-None-clause-answered

@@ -1,6 +1,6 @@
 use Rattle.std.proofs.Common.{rules}
 use Rattle.dagbench_engine.specs.Commands.{listing_by_name}
-use Rattle.dagbench_engine.proofs.Parsing.{edges_by_numbers}
+use Rattle.dagbench_engine.proofs.ParsedLines.{edges_by_numbers}
 use Rattle.dagbench_engine.proofs.parse.listing.Goals as goal
 
 pub returns-in_ok-into_edges-clause-said : goal.returns-in_ok-into_edges-clause-said

@@ -3,7 +3,7 @@ use Rattle.daggy.specs.Requests.{request_of}
 use Rattle.daggy.specs.declared.run.Command.TheVariants.{ClearEdges, Clear}
 use Rattle.dagbench_engine.specs.Cutting.{words_of}
 use Rattle.dagbench_engine.specs.Commands.{removing_by_name}
-use Rattle.dagbench_engine.proofs.Parsing.{done_map}
+use Rattle.dagbench_engine.proofs.ParsedLines.{done_map}
 use Rattle.dagbench_engine.proofs.parse.removing.Goals as goal
 
 pub returns-then-eq-3 : goal.returns-then-eq-3

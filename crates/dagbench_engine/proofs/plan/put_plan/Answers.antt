@@ -1,4 +1,4 @@
-use Rattle.dagbench_engine.proofs.Planning.{no_plan_told, plan_told}
+use Rattle.dagbench_engine.proofs.PlanText.{no_plan_told, plan_told}
 use Rattle.dagbench_engine.proofs.plan.put_plan.Goals as goal
 
 pub returns-in_default-clause-text : goal.returns-in_default-clause-text

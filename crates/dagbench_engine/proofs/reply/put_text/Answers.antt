@@ -1,4 +1,4 @@
-use Rattle.dagbench_engine.proofs.Parsing.{walk_told}
+use Rattle.dagbench_engine.proofs.ParsedLines.{walk_told}
 use Rattle.dagbench_engine.proofs.reply.put_text.Goals as goal
 
 pub returns-in-Walk-clause-text : goal.returns-in-Walk-clause-text

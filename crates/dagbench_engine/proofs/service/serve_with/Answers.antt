@@ -26,8 +26,8 @@ returns-in_default-new-clause-replied g c = λ e. absurd (cc)
 pub returns-in_default-new-clause-memory : goal.returns-in_default-new-clause-memory
 returns-in_default-new-clause-memory g c = λ e. (refl, refl)
 
-pub run-requires-clause-room : goal.run-requires-clause-room
-run-requires-clause-room g c = omega (arith, c.in-Ok.ensures.len, c.as_mut_slice.ensures.len)
+pub run-requires-clause-block_not_empty : goal.run-requires-clause-block_not_empty
+run-requires-clause-block_not_empty g c = omega (arith, c.in-Ok.ensures.len, c.as_mut_slice.ensures.len)
 
 pub run-requires-clause-graph : goal.run-requires-clause-graph
 run-requires-clause-graph g c = ap g.D.GuardedDag.graph c.in-Ok-new.ensures.dag ∙ c.requires

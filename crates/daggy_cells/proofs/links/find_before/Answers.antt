@@ -1,14 +1,14 @@
 use Rattle.std.proofs.Common.{◌≡◌, ◌<◌, length, get_or, slice_get, Some, Contains, sym, ap, subst, ◌∙◌, arith}
 use Rattle.std.proofs.lemmas.List.{length-map}
 use Rattle.daggy_cells.specs.Raw.{raw_next}
-use Rattle.daggy_cells.specs.Fields.{nexts_of, walk}
-use Rattle.daggy_cells.proofs.Rows.{IsRest-start, IsRest-step, IsRest-within, IsRest-found, IsRest-shorter}
+use Rattle.daggy_cells.specs.Fields.{nexts_of, list_from}
+use Rattle.daggy_cells.proofs.LinkedLists.{IsRest-start, IsRest-step, IsRest-within, IsRest-found, IsRest-shorter}
 use Rattle.daggy_base.proofs.Lists.{slice_get_mapped}
 use Rattle.daggy_cells.proofs.links.find_before.Goals as goal
 
 pub along-init : goal.along-init
 along-init g c =
-    IsRest-start _ _ _ _ _ c.requires.row (subst (Contains (walk c.args.dir c.args.edges.now c.args.first)) (sym c.index-target.ensures.value) c.requires.listed) (λ q. c.requires.later (q ∙ c.index-target.ensures.value))
+    IsRest-start _ _ _ _ _ c.requires.linked (subst (Contains (list_from c.args.dir c.args.edges.now c.args.first)) (sym c.index-target.ensures.value) c.requires.listed) (λ q. c.requires.later (q ∙ c.index-target.ensures.value))
 
 pub offset_bounds-edges-i : goal.offset_bounds-edges-i
 offset_bounds-edges-i g c = omega (arith, IsRest-within _ _ _ _ _ c.along.invariant, length-map c.args.edges.now (raw_next c.args.dir), c.index-i.ensures.value)

@@ -1,5 +1,5 @@
 use Rattle.std.proofs.Common.{◌<◌, ◌≤◌, length, arith}
-use Rattle.daggy_cells.proofs.Reowning.{reowning_done, reowning_code}
+use Rattle.daggy_cells.proofs.EndsRenamed.{reowning_done, reowning_code}
 use Rattle.daggy_cells.proofs.links.reown.Goals as goal
 
 pub returns-then-i-len : goal.returns-then-i-len

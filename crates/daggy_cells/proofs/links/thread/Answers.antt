@@ -1,6 +1,6 @@
 use Rattle.std.proofs.Common.{◌<◌, ◌-◌, length, sym, arith}
 use Rattle.std.proofs.lemmas.List.{length-map}
-use Rattle.daggy_cells.proofs.Threading.{threading_start, threading_step, threading_within, threading_done, number_read}
+use Rattle.daggy_cells.proofs.RethreadedLists.{threading_start, threading_step, threading_within, threading_done, number_read}
 use Rattle.daggy_cells.proofs.links.thread.Goals as goal
 
 pub back-init : goal.back-init

@@ -1,5 +1,5 @@
 use Rattle.std.proofs.Common.{map}
-use Rattle.daggy_cells.proofs.Threading.{IsThreading}
+use Rattle.daggy_cells.proofs.RethreadedLists.{IsThreading}
 use Rattle.daggy_cells.proofs.links.thread.Given as goal
 
 abbrev pub invariant-back : goal.invariant-back

@@ -4,7 +4,7 @@ use Rattle.daggy_base.specs.declared.index.Direction.TheVariants.{Outgoing, Inco
 use Rattle.daggy_base.specs.Orders.{numbers_of}
 use Rattle.daggy_cells.specs.Fields.{weight_of, plain_edge}
 use Rattle.daggy_cells.specs.Links.{CanThread}
-use Rattle.daggy_cells.proofs.Threading.{CanThread-as_long, threads_both}
+use Rattle.daggy_cells.proofs.RethreadedLists.{CanThread-as_long, threads_both}
 use Rattle.daggy_cells.proofs.links.thread_both.Goals as goal
 
 pub thread-requires-clause-list : goal.thread-requires-clause-list

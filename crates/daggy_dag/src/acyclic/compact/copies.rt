@@ -73,8 +73,8 @@ impl<N: Drop, E: Drop, Ix: IndexType> Acyclic<N, E, Ix, DiGraph<N, E, Ix>> {
         self.clone()
     }
 
-    /// Makes room for so many more nodes, for their order and for the searches among them, and for some more than that,
-    /// so that a later call seldom makes room again.
+    /// Reserves capacity for so many more nodes, for their order and for the searches among them,
+    /// and for some more than that, so that a later call seldom reserves again.
     ///
     /// The error says that memory was refused, or that no machine can have so much. The dag is as it was.
     pub fn reserve_nodes(&mut self, additional: usize) -> Result<(), AllocError>
@@ -87,7 +87,7 @@ impl<N: Drop, E: Drop, Ix: IndexType> Acyclic<N, E, Ix, DiGraph<N, E, Ix>> {
         self.scratch.reserve(nodes, 0)
     }
 
-    /// Makes room for so many more nodes, for their order and for the searches among them.
+    /// Reserves capacity for so many more nodes, for their order and for the searches among them.
     ///
     /// The error says that memory was refused, or that no machine can have so much. The dag is as it was.
     pub fn reserve_exact_nodes(&mut self, additional: usize) -> Result<(), AllocError>
@@ -100,7 +100,8 @@ impl<N: Drop, E: Drop, Ix: IndexType> Acyclic<N, E, Ix, DiGraph<N, E, Ix>> {
         self.scratch.reserve(nodes, 0)
     }
 
-    /// Makes room for so many more edges, and for some more than that, so that a later call seldom makes room again.
+    /// Reserves capacity for so many more edges, and for some more than that, so that a later call
+    /// seldom reserves again.
     ///
     /// The error says that memory was refused, or that no machine can have so much. The dag is as it was.
     pub fn reserve_edges(&mut self, additional: usize) -> Result<(), AllocError>
@@ -110,7 +111,7 @@ impl<N: Drop, E: Drop, Ix: IndexType> Acyclic<N, E, Ix, DiGraph<N, E, Ix>> {
         self.store.reserve_edges(additional)
     }
 
-    /// Makes room for so many more edges.
+    /// Reserves capacity for so many more edges.
     ///
     /// The error says that memory was refused, or that no machine can have so much. The dag is as it was.
     pub fn reserve_exact_edges(&mut self, additional: usize) -> Result<(), AllocError>

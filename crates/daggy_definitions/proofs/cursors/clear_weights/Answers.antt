@@ -1,5 +1,5 @@
 use Rattle.std.proofs.Common.{arith, refl, rules}
-use Rattle.daggy_definitions.proofs.Clearing.{cleared_starts, cleared_within, cleared_more, cleared_ends}
+use Rattle.daggy_definitions.proofs.ClearedWeights.{cleared_starts, cleared_within, cleared_more, cleared_ends}
 use Rattle.daggy_definitions.proofs.cursors.clear_weights.Goals as goal
 
 pub each-init : goal.each-init

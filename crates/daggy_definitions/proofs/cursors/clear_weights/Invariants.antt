@@ -1,5 +1,5 @@
 use Rattle.std.proofs.Common.{◌≡◌, length, ◌-◌}
-use Rattle.daggy_definitions.proofs.Clearing.{IsClearedBelow}
+use Rattle.daggy_definitions.proofs.ClearedWeights.{IsClearedBelow}
 use Rattle.daggy_definitions.proofs.cursors.clear_weights.Given as goal
 
 abbrev pub invariant-each : goal.invariant-each

@@ -1,7 +1,7 @@
 use Rattle.std.proofs.Common.{rules}
 use Rattle.std.specs.Iterator.{Yields}
-use Rattle.daggy_guard.proofs.Iterating.{yields_more}
-use Rattle.daggy_guard.proofs.Making.{making_starts, making_on, unmade}
+use Rattle.daggy_guard.proofs.ItemsSoFar.{yields_more}
+use Rattle.daggy_guard.proofs.ElementsLoop.{making_starts, making_on, unmade}
 use Rattle.daggy_guard.proofs.elements.add_all.Goals as goal
 
 pub items-init : goal.items-init

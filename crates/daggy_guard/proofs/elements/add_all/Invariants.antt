@@ -1,4 +1,4 @@
-use Rattle.daggy_guard.proofs.Making.{Making}
+use Rattle.daggy_guard.proofs.ElementsLoop.{Making}
 use Rattle.daggy_guard.proofs.elements.add_all.Given as goal
 
 abbrev pub invariant-items : goal.invariant-items

@@ -4,7 +4,7 @@ use Rattle.daggy_base.specs.Path.{Reaches}
 use Rattle.daggy_base.specs.Finding.{find_edge}
 use Rattle.daggy_base.specs.declared.error.EdgeError.{EdgeError}
 use Rattle.daggy_guard.specs.Elements.{IsEdgeRefused}
-use Rattle.daggy_guard.proofs.Stopping.{none_found, searched, mapped_none, renamed_refusal}
+use Rattle.daggy_guard.proofs.RefusedEdge.{none_found, searched, mapped_none, renamed_refusal}
 use Rattle.daggy_guard.proofs.elements.join.Goals.{else-is_none-via-then-is_none+else-not-can_add_edge, else-is_none-via-else-is_none}
 use Rattle.daggy_guard.proofs.elements.join.Goals as goal
 

@@ -1,6 +1,6 @@
 use Rattle.std.proofs.Common.{arith}
-use Rattle.daggy_base.proofs.Nodes.{bound_low}
-use Rattle.daggy_base.proofs.Reading.{below_bound}
+use Rattle.daggy_base.proofs.PathsWithNode.{bound_low}
+use Rattle.daggy_base.proofs.OutEdgesRead.{below_bound}
 use Rattle.daggy_guard.proofs.elements.node_at.Goals as goal
 
 pub returns-then-bound-position : goal.returns-then-bound-position

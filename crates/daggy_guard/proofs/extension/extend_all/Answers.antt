@@ -1,7 +1,7 @@
 use Rattle.std.proofs.Common.{rules}
 use Rattle.std.specs.Iterator.{Yields}
-use Rattle.daggy_guard.proofs.Iterating.{yields_more}
-use Rattle.daggy_guard.proofs.Extending.{extending_starts, extending_on, stops, no_looks, few_more, few_last, few_all}
+use Rattle.daggy_guard.proofs.ItemsSoFar.{yields_more}
+use Rattle.daggy_guard.proofs.ExtendAllLoop.{extending_starts, extending_on, stops, no_looks, few_more, few_last, few_all}
 use Rattle.daggy_guard.proofs.extension.extend_all.Goals as goal
 
 pub items-init : goal.items-init

@@ -1,5 +1,5 @@
 use Rattle.daggy_base.specs.Graph.{edge_count}
-use Rattle.daggy_guard.proofs.Extending.{Extending, FewLooks}
+use Rattle.daggy_guard.proofs.ExtendAllLoop.{Extending, FewLooks}
 use Rattle.daggy_guard.proofs.extension.extend_all.Given as goal
 
 abbrev pub invariant-items : goal.invariant-items

@@ -1,13 +1,13 @@
 use Rattle.std.proofs.Common.{◌+◌, ◌<◌, ◌∙◌, max, ap, rules, arith}
 use Rattle.daggy_base.specs.Graph.{HasNode, edge_count}
 use Rattle.daggy_guard.specs.Extension.{IsFilled, HasIndices}
-use Rattle.daggy_guard.proofs.Filling.{edges_kept}
-use Rattle.daggy_guard.proofs.Accepting.{count_with_edge}
-use Rattle.daggy_guard.proofs.Stopping.{stopped_after}
+use Rattle.daggy_guard.proofs.FillLoop.{edges_kept}
+use Rattle.daggy_guard.proofs.AcceptedEdges.{count_with_edge}
+use Rattle.daggy_guard.proofs.RefusedEdge.{stopped_after}
 use Rattle.daggy_guard.proofs.extension.extend_by.Goals as goal
 
-pub add_edge-requires-clause-room : goal.add_edge-requires-clause-room
-add_edge-requires-clause-room g c =
+pub add_edge-requires-clause-index_left : goal.add_edge-requires-clause-index_left
+add_edge-requires-clause-index_left g c =
     let filled : IsFilled g.S.NodeWeight.Default.is_default c.max.result (g.S.EdgeSource.graph c.args.store.now) (g.S.EdgeSource.graph c.fill.new.store) = search rules in
     let left : edge_count (g.S.EdgeSource.graph c.args.store.now) < g.Ix.IndexType.greatest = search rules in
     omega (arith, ap edge_count filled.added, edges_kept (g.S.EdgeSource.graph c.args.store.now) filled.weights, left)

@@ -1,6 +1,6 @@
 use Rattle.std.proofs.Common.{◌∙◌, ap, refl, arith}
 use Rattle.daggy_base.specs.Graph.{edge_count}
-use Rattle.daggy_guard.proofs.Filling.{filling_starts, filling_on, fewer_missing, is_part_filled, edges_kept}
+use Rattle.daggy_guard.proofs.FillLoop.{filling_starts, filling_on, fewer_missing, is_part_filled, edges_kept}
 use Rattle.daggy_guard.proofs.extension.fill.Goals as goal
 
 pub nodes-init : goal.nodes-init

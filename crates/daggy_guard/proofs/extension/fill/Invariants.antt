@@ -1,6 +1,6 @@
 use Rattle.std.proofs.Common.{◌≡◌, ◌+◌, ◌-◌}
 use Rattle.daggy_base.specs.Graph.{node_count}
-use Rattle.daggy_guard.proofs.Filling.{Filling}
+use Rattle.daggy_guard.proofs.FillLoop.{Filling}
 use Rattle.daggy_guard.proofs.extension.fill.Given as goal
 
 abbrev pub invariant-nodes : goal.invariant-nodes

@@ -1,8 +1,8 @@
 use Rattle.std.proofs.Common.{◌≡◌, ◌∙◌, true, rules, arith}
 use Rattle.daggy_order.specs.Ordered.{place}
 use Rattle.daggy_order.proofs.OrderLaws.{acyclic_from_order}
-use Rattle.daggy_guard.proofs.Guarding.{first_edge}
-use Rattle.daggy_guard.proofs.Ordering.{acyclic_by, few_edges, no_later, order_of_edge}
+use Rattle.daggy_guard.proofs.GuardedChange.{first_edge}
+use Rattle.daggy_guard.proofs.OrderAfterChange.{acyclic_by, few_edges, no_later, order_of_edge}
 use Rattle.daggy_guard.proofs.guard.add_edge.Goals as goal
 
 pub returns-then-not-order_edge-clause-acyclic : goal.returns-then-not-order_edge-clause-acyclic

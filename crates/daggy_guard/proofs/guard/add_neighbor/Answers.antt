@@ -4,25 +4,25 @@ use Rattle.daggy_base.specs.Adding.{with_node, with_link}
 use Rattle.daggy_base.specs.Errors.{edge_weight_of}
 use Rattle.daggy_order.proofs.OrderLaws.{acyclic_from_order}
 use Rattle.daggy_guard.proofs.NewNode.{added_node, new_exists, old_exists}
-use Rattle.daggy_guard.proofs.Ordering.{acyclic_by, order_of_node, order_of_neighbor, order_of_taken}
+use Rattle.daggy_guard.proofs.OrderAfterChange.{acyclic_by, order_of_node, order_of_neighbor, order_of_taken}
 use Rattle.daggy_guard.proofs.guard.add_neighbor.Goals as goal
 
 pub link-requires-clause-node : goal.link-requires-clause-node
 link-requires-clause-node g c =
-    old_exists (added_node c.args.weight c.node_count-well_formed.ensures.well_formed c.node_slots-slots.ensures.compact c.node_slots-slots.ensures.value c.in-Ok.ensures.index c.in-Ok.ensures.added) _ c.requires.node
+    old_exists (added_node c.args.weight c.node_count-well_formed.ensures.well_formed c.node_slots-slot_count.ensures.compact c.node_slots-slot_count.ensures.value c.in-Ok.ensures.index c.in-Ok.ensures.added) _ c.requires.node
 
 pub link-requires-clause-new : goal.link-requires-clause-new
 link-requires-clause-new g c =
-    new_exists (added_node c.args.weight c.node_count-well_formed.ensures.well_formed c.node_slots-slots.ensures.compact c.node_slots-slots.ensures.value c.in-Ok.ensures.index c.in-Ok.ensures.added)
+    new_exists (added_node c.args.weight c.node_count-well_formed.ensures.well_formed c.node_slots-slot_count.ensures.compact c.node_slots-slot_count.ensures.value c.in-Ok.ensures.index c.in-Ok.ensures.added)
 
 pub remove-requires : goal.remove-requires
 remove-requires g c =
-    let there = new_exists (added_node c.args.weight c.node_count-well_formed.ensures.well_formed c.node_slots-slots.ensures.compact c.node_slots-slots.ensures.value c.in-Ok.ensures.index c.in-Ok.ensures.added) in
+    let there = new_exists (added_node c.args.weight c.node_count-well_formed.ensures.well_formed c.node_slots-slot_count.ensures.compact c.node_slots-slot_count.ensures.value c.in-Ok.ensures.index c.in-Ok.ensures.added) in
     ((order_of_node c.node_count-well_formed.ensures.well_formed c.args.weight c.requires.ordered _ c.in-Ok.ensures.added c.args.dir c.in-Ok.ensures.put).exact _).1 there
 
 pub take_back-weight-requires : goal.take_back-weight-requires
 take_back-weight-requires g c =
-    record { added = (_, c.args.weight, added_node c.args.weight c.node_count-well_formed.ensures.well_formed c.node_slots-slots.ensures.compact c.node_slots-slots.ensures.value c.in-Ok.ensures.index (c.in-Err-link.ensures.unchanged ∙ c.in-Ok.ensures.added)) }
+    record { added = (_, c.args.weight, added_node c.args.weight c.node_count-well_formed.ensures.well_formed c.node_slots-slot_count.ensures.compact c.node_slots-slot_count.ensures.value c.in-Ok.ensures.index (c.in-Err-link.ensures.unchanged ∙ c.in-Ok.ensures.added)) }
 
 pub returns-in-Err-clause-acyclic : goal.returns-in-Err-clause-acyclic
 returns-in-Err-clause-acyclic g c = acyclic_by c.requires.ordered c.in-Err.ensures.unchanged
@@ -41,12 +41,12 @@ returns-in-Ok-link-clause-acyclic g c = acyclic_from_order _ (returns-in-Ok-link
 pub returns-in-Err-link-clause-refusal : goal.returns-in-Err-link-clause-refusal
 returns-in-Err-link-clause-refusal g c =
     let edge_is : c.into_weight-in-Err-link.result ≡ c.args.edge = c.into_weight-in-Err-link.ensures ∙ ap edge_weight_of c.in-Err-link.ensures.refusal in
-    let weight_same : c.take_back-weight.result ≡ c.args.weight = c.take_back-weight.ensures.returned _ _ (added_node c.args.weight c.node_count-well_formed.ensures.well_formed c.node_slots-slots.ensures.compact c.node_slots-slots.ensures.value c.in-Ok.ensures.index (c.in-Err-link.ensures.unchanged ∙ c.in-Ok.ensures.added)) in
+    let weight_same : c.take_back-weight.result ≡ c.args.weight = c.take_back-weight.ensures.returned _ _ (added_node c.args.weight c.node_count-well_formed.ensures.well_formed c.node_slots-slot_count.ensures.compact c.node_slots-slot_count.ensures.value c.in-Ok.ensures.index (c.in-Err-link.ensures.unchanged ∙ c.in-Ok.ensures.added)) in
     cc
 
 pub returns-in-Err-link-clause-unchanged : goal.returns-in-Err-link-clause-unchanged
 returns-in-Err-link-clause-unchanged g c =
-    c.take_back-weight.ensures.undone _ _ (added_node c.args.weight c.node_count-well_formed.ensures.well_formed c.node_slots-slots.ensures.compact c.node_slots-slots.ensures.value c.in-Ok.ensures.index (c.in-Err-link.ensures.unchanged ∙ c.in-Ok.ensures.added))
+    c.take_back-weight.ensures.undone _ _ (added_node c.args.weight c.node_count-well_formed.ensures.well_formed c.node_slots-slot_count.ensures.compact c.node_slots-slot_count.ensures.value c.in-Ok.ensures.index (c.in-Err-link.ensures.unchanged ∙ c.in-Ok.ensures.added))
 
 pub returns-in-Err-link-clause-ordered : goal.returns-in-Err-link-clause-ordered
 returns-in-Err-link-clause-ordered g c =
@@ -60,4 +60,4 @@ returns-in-Err-link-clause-acyclic g c = acyclic_by c.requires.ordered (returns-
 pub returns-in-Err-link-clause-fits : goal.returns-in-Err-link-clause-fits
 returns-in-Err-link-clause-fits g c =
     let same = ap node_bound (returns-in-Err-link-clause-unchanged g c) in
-    omega (arith, same, c.requires.fits, c.in-Ok.ensures.room)
+    omega (arith, same, c.requires.fits, c.in-Ok.ensures.capacity_kept)

@@ -1,5 +1,5 @@
 use Rattle.daggy_order.proofs.OrderLaws.{acyclic_from_order}
-use Rattle.daggy_guard.proofs.Ordering.{order_of_added}
+use Rattle.daggy_guard.proofs.OrderAfterChange.{order_of_added}
 use Rattle.daggy_guard.proofs.guard.add_node.Goals as goal
 
 pub returns-clause-ordered : goal.returns-clause-ordered

@@ -1,9 +1,9 @@
 use Rattle.std.proofs.Common.{◌≤◌, ap, rules, arith}
 use Rattle.daggy_base.specs.Graph.{node_bound}
 use Rattle.daggy_base.specs.declared.error.NodeError.TheVariants.{Memory}
-use Rattle.daggy_guard.proofs.Guarding.{node_fits}
+use Rattle.daggy_guard.proofs.GuardedChange.{node_fits}
 use Rattle.daggy_guard.proofs.NewNode.{added_node, new_low}
-use Rattle.daggy_guard.proofs.Ordering.{not_listed_yet}
+use Rattle.daggy_guard.proofs.OrderAfterChange.{not_listed_yet}
 use Rattle.daggy_guard.proofs.guard.put_node.Goals as goal
 
 pub put-requires-clause-real : goal.put-requires-clause-real
@@ -19,8 +19,8 @@ take_back-weight-requires g c =
 
 pub returns-in-Ok-clause-fits : goal.returns-in-Ok-clause-fits
 returns-in-Ok-clause-fits g c =
-    let room : c.slots_with_node-slots.result ≤ c.reserve.new.self.nodes = search rules in
-    node_fits c.add_node.result _ _ c.args.weight _ _ _ c.slots_with_node-slots.ensures c.requires.fits c.reserve.ensures.kept.0 room c.add_node.ensures.added c.add_node.ensures.unchanged
+    let capacity : c.slots_with_node-slot_count.result ≤ c.reserve.new.self.nodes = search rules in
+    node_fits c.add_node.result _ _ c.args.weight _ _ _ c.slots_with_node-slot_count.ensures c.requires.fits c.reserve.ensures.kept.0 capacity c.add_node.ensures.added c.add_node.ensures.unchanged
 
 pub returns-in-Err-clause-refusal : goal.returns-in-Err-clause-refusal
 returns-in-Err-clause-refusal g c =

@@ -1,5 +1,5 @@
-use Rattle.daggy_guard.proofs.Guarding.{acyclic_edge_gone, bound_edge_gone}
-use Rattle.daggy_guard.proofs.Ordering.{order_edge_gone}
+use Rattle.daggy_guard.proofs.GuardedChange.{acyclic_edge_gone, bound_edge_gone}
+use Rattle.daggy_guard.proofs.OrderAfterChange.{order_edge_gone}
 use Rattle.daggy_guard.proofs.guard.remove_edge.Goals as goal
 
 pub returns-clause-acyclic : goal.returns-clause-acyclic

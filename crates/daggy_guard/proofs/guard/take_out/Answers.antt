@@ -1,7 +1,7 @@
 use Rattle.std.proofs.Common.{◌∙◌, inl, sym, subst, ℕ}
 use Rattle.std.specs.List.{Contains}
 use Rattle.std.proofs.lemmas.Bool.{false≢true}
-use Rattle.daggy_guard.proofs.Ordering.{not_there, still_there, nothing_renamed}
+use Rattle.daggy_guard.proofs.OrderAfterChange.{not_there, still_there, nothing_renamed}
 use Rattle.daggy_guard.proofs.guard.take_out.Goals.{else-moved-via-then-moved+else-index-last, else-moved-via-else-moved}
 use Rattle.daggy_guard.proofs.guard.take_out.Goals as goal
 

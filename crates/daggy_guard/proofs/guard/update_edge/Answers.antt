@@ -1,8 +1,8 @@
 use Rattle.std.proofs.Common.{sym}
-use Rattle.daggy_base.proofs.Adding.{no_round}
-use Rattle.daggy_base.proofs.Finding.{found_between, joined_between, edge_between_exists}
+use Rattle.daggy_base.proofs.PathsWithEdge.{no_round}
+use Rattle.daggy_base.proofs.FoundEdge.{found_between, joined_between, edge_between_exists}
 use Rattle.daggy_order.proofs.OrderLaws.{acyclic_from_order, order_with_edge_weight}
-use Rattle.daggy_guard.proofs.Ordering.{order_kept}
+use Rattle.daggy_guard.proofs.OrderAfterChange.{order_kept}
 use Rattle.daggy_guard.proofs.guard.update_edge.Goals as goal
 
 pub replace_edge_weight-old-requires : goal.replace_edge_weight-old-requires

@@ -1,4 +1,4 @@
-use Rattle.daggy_guard.proofs.Joining.{HasEdgesBelow}
+use Rattle.daggy_guard.proofs.FilledMatrix.{HasEdgesBelow}
 use Rattle.daggy_guard.proofs.matrix.adjacency_matrix.Given as goal
 
 abbrev pub invariant-edges : goal.invariant-edges

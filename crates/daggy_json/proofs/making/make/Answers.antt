@@ -7,8 +7,8 @@ use Rattle.daggy_json.proofs.Cycles.{of_some, tested_made, tested_cyclic}
 use Rattle.daggy_json.proofs.GivenSlots.{slots_fit, compact_slots}
 use Rattle.daggy_json.proofs.making.make.Goals as goal
 
-pub from_slots-requires-clause-slots : goal.from_slots-requires-clause-slots
-from_slots-requires-clause-slots g c = slots_fit _ c.args.found.nodes.items c.args.found.edges.items g.Ix.IndexType.greatest c.requires.few_nodes c.requires.few_edges c.requires.ends
+pub from_slots-requires-clause-makes_graph : goal.from_slots-requires-clause-makes_graph
+from_slots-requires-clause-makes_graph g c = slots_fit _ c.args.found.nodes.items c.args.found.edges.items g.Ix.IndexType.greatest c.requires.few_nodes c.requires.few_edges c.requires.ends
 
 pub from_slots-requires-clause-compact : goal.from_slots-requires-clause-compact
 from_slots-requires-clause-compact g c = λ k. compact_slots _ c.args.found.nodes.items c.args.found.edges.items (c.requires.full_nodes k) (c.requires.full_edges k)

@@ -1,6 +1,6 @@
 use Rattle.std.proofs.Common.{◌≡◌, ◌≢◌, ◌+◌, [], ◌∷◌, length-append, is_some, length, ap, ◌∙◌, arith}
 use Rattle.daggy_json.specs.Document.{whole}
-use Rattle.daggy_json.proofs.Listing.{listed_more, listed_whole, listed_edge, listed_next}
+use Rattle.daggy_json.proofs.WrittenLists.{listed_more, listed_whole, listed_edge, listed_next}
 use Rattle.daggy_json.proofs.writing.write_list.Goals as goal
 
 pub next_edge-e-requires : goal.next_edge-e-requires

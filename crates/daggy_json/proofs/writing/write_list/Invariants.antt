@@ -1,6 +1,6 @@
 use Rattle.std.proofs.Common.{◌-◌, length}
 use Rattle.daggy_base.specs.Graph.{list_at}
-use Rattle.daggy_json.proofs.Listing.{Listed}
+use Rattle.daggy_json.proofs.WrittenLists.{Listed}
 use Rattle.daggy_json.proofs.writing.write_list.Given as goal
 
 abbrev pub invariant-edges : goal.invariant-edges

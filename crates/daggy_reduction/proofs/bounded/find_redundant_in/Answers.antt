@@ -1,10 +1,10 @@
 use Rattle.std.proofs.Common.{◌↔◌, ◌<◌, ℕ, List, map, sym, subst, arith, Contains}
 use Rattle.daggy_base.specs.Reduction.{IsRedundant}
-use Rattle.daggy_base.proofs.Nodes.{bound_low}
-use Rattle.daggy_reduction.specs.Comparing.{IsAscending}
+use Rattle.daggy_base.proofs.PathsWithNode.{bound_low}
+use Rattle.daggy_reduction.specs.Comparison.{IsAscending}
 use Rattle.daggy_reduction.specs.Flags.{IsFlagged, flagged_below}
-use Rattle.daggy_reduction.proofs.Gathering.{gathered_ascend, gathered_exactly}
-use Rattle.daggy_reduction.proofs.Sweeping.{redundant_low}
+use Rattle.daggy_reduction.proofs.GatheredFlags.{gathered_ascend, gathered_exactly}
+use Rattle.daggy_reduction.proofs.SweptNodes.{redundant_low}
 use Rattle.daggy_reduction.proofs.bounded.find_redundant_in.Goals as goal
 
 pub gather_flagged-requires-clause-real : goal.gather_flagged-requires-clause-real

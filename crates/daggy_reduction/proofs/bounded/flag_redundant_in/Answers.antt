@@ -1,9 +1,9 @@
 use Rattle.std.proofs.Common.{◌≡◌, ◌<◌, ◌≤◌, length, map, take, get_or, sym, ap, ◌∙◌, arith, Contains}
 use Rattle.std.proofs.lemmas.List.{length-take-le, get_or-take}
 use Rattle.daggy_base.specs.Graph.{Graph}
-use Rattle.daggy_reduction.specs.Stretching.{edges_spanned}
-use Rattle.daggy_reduction.proofs.Sweeping.{sweep_on, below_exists, flags_redundant, looks_few, looks_total}
-use Rattle.daggy_reduction.proofs.Spanning.{spanned_few, total_spanned}
+use Rattle.daggy_reduction.specs.SearchSpan.{edges_spanned}
+use Rattle.daggy_reduction.proofs.SweptNodes.{sweep_on, below_exists, flags_redundant, looks_few, looks_total}
+use Rattle.daggy_reduction.proofs.SpannedLooks.{spanned_few, total_spanned}
 use Rattle.daggy_reduction.proofs.bounded.flag_redundant_in.Goals as goal
 
 pub flag_round_in-requires-clause-exists : goal.flag_round_in-requires-clause-exists

@@ -1,6 +1,6 @@
 use Rattle.std.proofs.Common.{◌≡◌, ◌-◌, ◌≤◌, length, map, take}
-use Rattle.daggy_reduction.specs.Stretching.{edges_spanned}
-use Rattle.daggy_reduction.proofs.Sweeping.{Sweeping}
+use Rattle.daggy_reduction.specs.SearchSpan.{edges_spanned}
+use Rattle.daggy_reduction.proofs.SweptNodes.{Sweeping}
 use Rattle.daggy_reduction.proofs.bounded.flag_redundant_in.Given as goal
 
 abbrev pub invariant-nodes : goal.invariant-nodes

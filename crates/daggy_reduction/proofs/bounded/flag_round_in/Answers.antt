@@ -2,9 +2,9 @@ use Rattle.std.proofs.Common.{◌≡◌, ◌↔◌, ◌⊎◌, Bool, List, ℕ, 
 use Rattle.std.proofs.lemmas.List.{length-replicate}
 use Rattle.daggy_base.specs.Graph.{Graph, out_list}
 use Rattle.daggy_base.specs.Path.{AreJoined}
-use Rattle.daggy_base.specs.Reduction.{ReachesRound}
+use Rattle.daggy_base.specs.Reduction.{ReachesIndirectly}
 use Rattle.daggy_reduction.specs.Flags.{FlagsMarked}
-use Rattle.daggy_reduction.proofs.Flagged.{unmarked, flags_met}
+use Rattle.daggy_reduction.proofs.FlaggedRedundant.{unmarked, flags_met}
 use Rattle.daggy_reduction.proofs.bounded.flag_round_in.Goals as goal
 
 pub meet_round-requires-clause-cleared : goal.meet_round-requires-clause-cleared
@@ -15,7 +15,7 @@ returns-clause-flagged g c =
     let graph = g.S.EdgeSource.graph c.args.source.now in
     let n = g.Ix.IndexType.number c.args.u in
     let marks = c.meet_round.new.met in
-    let M : List Bool → Type 0 = λ z. (v : ℕ) → AreJoined graph n v → (get_or marks v false ≡ true) ↔ ((get_or z v false ≡ true) ⊎ ReachesRound graph n v) in
+    let M : List Bool → Type 0 = λ z. (v : ℕ) → AreJoined graph n v → (get_or marks v false ≡ true) ↔ ((get_or z v false ≡ true) ⊎ ReachesIndirectly graph n v) in
     let met = subst M c.clear-2.ensures c.meet_round.ensures.met in
     let flags = map g.Ix.IndexType.number in
     let F : Graph g.row.S-NodeWeight.Denot g.row.S-EdgeWeight.Denot → Type 0 = λ z. FlagsMarked g.Ix.IndexType.greatest z n marks (flags c.args.flags.now) (flags c.flag_marked.new.flags) in

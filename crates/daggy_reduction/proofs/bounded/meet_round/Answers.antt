@@ -2,11 +2,11 @@ use Rattle.std.proofs.Common.{rules, ◌≡◌, ◌≢◌, ◌+◌, ◌<◌, ◌
 use Rattle.std.proofs.lemmas.Bool.{false≢true}
 use Rattle.daggy_base.specs.Graph.{out_list}
 use Rattle.daggy_base.specs.Cursor.{first_of}
-use Rattle.daggy_base.specs.Reduction.{ReachesRound}
+use Rattle.daggy_base.specs.Reduction.{ReachesIndirectly}
 use Rattle.daggy_order.specs.Ordered.{place}
-use Rattle.daggy_reduction.proofs.Beginning.{begins_here, last_exists, edge_there, passed_less, low_node, has_room, put, child_there, put_last, put_child, last_again, none_queued, none_listed}
-use Rattle.daggy_reduction.proofs.Bounding.{Inside, Beyond, steps_start, few_spanned, round_met}
-use Rattle.daggy_reduction.proofs.Draining.{Entered, few, looked_once, edge_here, head_low, child_low, child_exists_here, room_here, entered, left_out, visited, next_here}
+use Rattle.daggy_reduction.proofs.QueuedChildren.{begins_here, last_exists, edge_there, passed_less, low_node, has_room, put, child_there, put_last, put_child, last_again, none_queued, none_listed}
+use Rattle.daggy_reduction.proofs.BoundedQueue.{Inside, Beyond, steps_start, few_spanned, round_met}
+use Rattle.daggy_reduction.proofs.QueueState.{Entered, few, looked_once, edge_here, head_low, child_low, child_exists_here, room_here, entered, left_out, visited, next_here}
 use Rattle.daggy_reduction.proofs.bounded.meet_round.Goals as goal
 use Rattle.daggy_reduction.proofs.bounded.meet_round.Goals.{then-stands_before-3, else-stands_before-3}
 
@@ -38,8 +38,8 @@ enter-len-requires-clause-mark g c =
     let s = c.children.invariant in
     low_node c.requires.well_formed c.requires.ordered c.requires.exists s _ (last_exists c.requires.well_formed c.requires.ordered c.requires.exists s)
 
-pub enter-len-requires-clause-room : goal.enter-len-requires-clause-room
-enter-len-requires-clause-room g c unseen =
+pub enter-len-requires-clause-queue_fits : goal.enter-len-requires-clause-queue_fits
+enter-len-requires-clause-queue_fits g c unseen =
     let s = c.children.invariant in
     has_room c.requires.well_formed c.requires.ordered c.requires.exists s _ (last_exists c.requires.well_formed c.requires.ordered c.requires.exists s) unseen
 
@@ -61,9 +61,9 @@ enter-len-requires-then-stands_before-2-clause-mark g c =
     let here : g.Ix.IndexType.number c.children.e ≢ g.Ix.IndexType.greatest = λ h. c.children-test.true cc in
     low_node c.requires.well_formed c.requires.ordered c.requires.exists s _ (child_there c.requires.well_formed c.requires.ordered c.requires.exists s here c.look-v.ensures.gives)
 
-pub enter-len-requires-then-stands_before-2-clause-room :
-    goal.enter-len-requires-then-stands_before-2-clause-room
-enter-len-requires-then-stands_before-2-clause-room g c unseen =
+pub enter-len-requires-then-stands_before-2-clause-queue_fits :
+    goal.enter-len-requires-then-stands_before-2-clause-queue_fits
+enter-len-requires-then-stands_before-2-clause-queue_fits g c unseen =
     let s = c.children.invariant in
     let here : g.Ix.IndexType.number c.children.e ≢ g.Ix.IndexType.greatest = λ h. c.children-test.true cc in
     has_room c.requires.well_formed c.requires.ordered c.requires.exists s _ (child_there c.requires.well_formed c.requires.ordered c.requires.exists s here c.look-v.ensures.gives) unseen
@@ -186,12 +186,12 @@ enter-len-requires-then-stands_before-3-clause-mark g c =
     let s = c.steps.invariant in
     omega (arith, child_low c.requires.well_formed s here c.look-v-else-index-end.ensures.gives, s.fits)
 
-pub enter-len-requires-then-stands_before-3-clause-room :
-    goal.enter-len-requires-then-stands_before-3-clause-room
-enter-len-requires-then-stands_before-3-clause-room g c unseen =
+pub enter-len-requires-then-stands_before-3-clause-queue_fits :
+    goal.enter-len-requires-then-stands_before-3-clause-queue_fits
+enter-len-requires-then-stands_before-3-clause-queue_fits g c unseen =
     let here : g.Ix.IndexType.number c.steps.e ≢ g.Ix.IndexType.greatest = λ h. c.if-index-end.false cc in
     let s = c.steps.invariant in
-    omega (arith, room_here c.requires.well_formed s here c.look-v-else-index-end.ensures.gives unseen, s.room)
+    omega (arith, room_here c.requires.well_formed s here c.look-v-else-index-end.ensures.gives unseen, s.capacity)
 
 pub mark_unless_first-requires : goal.mark_unless_first-requires
 mark_unless_first-requires g c =

@@ -1,8 +1,8 @@
 use Rattle.std.proofs.Common.{◌+◌, ◌-◌, ◌*◌, ◌∷◌, [], length}
 use Rattle.daggy_base.specs.Graph.{out_list, edge_count}
-use Rattle.daggy_reduction.proofs.Beginning.{Beginning}
-use Rattle.daggy_reduction.proofs.Bounding.{Inside, Beyond}
-use Rattle.daggy_reduction.proofs.Draining.{Draining}
+use Rattle.daggy_reduction.proofs.QueuedChildren.{Beginning}
+use Rattle.daggy_reduction.proofs.BoundedQueue.{Inside, Beyond}
+use Rattle.daggy_reduction.proofs.QueueState.{Draining}
 use Rattle.daggy_reduction.proofs.bounded.meet_round.Given as goal
 
 abbrev pub invariant-children : goal.invariant-children

@@ -1,7 +1,7 @@
 use Rattle.std.proofs.Common.{rules, ◌≡◌, ◌≢◌, ◌+◌, ◌≤◌, ◌∙◌, sym, ap, refl, arith, length}
 use Rattle.daggy_base.specs.Graph.{out_list}
 use Rattle.daggy_base.specs.Cursor.{first_of}
-use Rattle.daggy_reduction.proofs.Draining.{few, looked_once, edge_here, head_low, child_low, room_here, entered, visited, next_here, is_closure, meets_children, starts_here}
+use Rattle.daggy_reduction.proofs.QueueState.{few, looked_once, edge_here, head_low, child_low, room_here, entered, visited, next_here, is_closure, meets_children, starts_here}
 use Rattle.daggy_reduction.proofs.closure.close.Goals as goal
 
 pub steps-init : goal.steps-init
@@ -62,11 +62,11 @@ enter-len-requires-clause-mark g c =
     let s = c.steps.invariant in
     omega (arith, child_low c.requires.well_formed s here c.look-v.ensures.gives, s.fits)
 
-pub enter-len-requires-clause-room : goal.enter-len-requires-clause-room
-enter-len-requires-clause-room g c unseen =
+pub enter-len-requires-clause-queue_fits : goal.enter-len-requires-clause-queue_fits
+enter-len-requires-clause-queue_fits g c unseen =
     let here : g.Ix.IndexType.number c.steps.e ≢ g.Ix.IndexType.greatest = λ h. c.if-index-end.false cc in
     let s = c.steps.invariant in
-    omega (arith, room_here c.requires.well_formed s here c.look-v.ensures.gives unseen, s.room)
+    omega (arith, room_here c.requires.well_formed s here c.look-v.ensures.gives unseen, s.capacity)
 
 pub mark_unless_first-requires : goal.mark_unless_first-requires
 mark_unless_first-requires g c =

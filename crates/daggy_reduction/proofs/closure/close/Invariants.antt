@@ -1,7 +1,7 @@
 use Rattle.std.proofs.Common.{◌+◌, ◌-◌, ◌*◌, length, take}
 use Rattle.daggy_base.specs.Graph.{edge_count}
-use Rattle.daggy_reduction.proofs.Draining.{Draining}
-use Rattle.daggy_reduction.proofs.Queueing.{Anywhere, Nowhere}
+use Rattle.daggy_reduction.proofs.QueueState.{Draining}
+use Rattle.daggy_reduction.proofs.QueueProgress.{Anywhere, Nowhere}
 use Rattle.daggy_reduction.proofs.closure.close.Given as goal
 
 abbrev pub invariant-steps : goal.invariant-steps

@@ -1,6 +1,6 @@
 use Rattle.std.proofs.Common.{◌≡◌, ◌≢◌, arith, map}
 use Rattle.std.proofs.lemmas.List.{length-map}
-use Rattle.daggy_reduction.proofs.Flagging.{flags_start, edge_here, looked_whole, passed_less, child_low, edge_low, flags_on, flags_marked}
+use Rattle.daggy_reduction.proofs.FlaggedChildren.{flags_start, edge_here, looked_whole, passed_less, child_low, edge_low, flags_on, flags_marked}
 use Rattle.daggy_reduction.proofs.flags.flag_marked.Goals as goal
 
 pub edges-init : goal.edges-init

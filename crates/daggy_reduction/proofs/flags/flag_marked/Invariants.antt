@@ -1,6 +1,6 @@
 use Rattle.std.proofs.Common.{◌+◌, ◌-◌, length, map}
 use Rattle.daggy_base.specs.Graph.{out_list}
-use Rattle.daggy_reduction.proofs.Flagging.{Flagging}
+use Rattle.daggy_reduction.proofs.FlaggedChildren.{Flagging}
 use Rattle.daggy_reduction.proofs.flags.flag_marked.Given as goal
 
 abbrev pub invariant-edges : goal.invariant-edges

@@ -1,5 +1,5 @@
 use Rattle.std.proofs.Common.{◌-◌, ◌≡◌, ◌≤◌, length, map}
-use Rattle.daggy_reduction.proofs.Gathering.{Gathering}
+use Rattle.daggy_reduction.proofs.GatheredFlags.{Gathering}
 use Rattle.daggy_reduction.proofs.flags.gather_flagged.Given as goal
 
 abbrev pub invariant-places : goal.invariant-places

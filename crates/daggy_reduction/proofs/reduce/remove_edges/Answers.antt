@@ -1,6 +1,6 @@
 use Rattle.std.proofs.Common.{◌≡◌, ◌-◌, ◌<◌, length, map, get_or, sym, ap, ◌∙◌, arith}
 use Rattle.std.proofs.lemmas.List.{length-map, get_or-map}
-use Rattle.daggy_reduction.proofs.Descending.{remove_on}
+use Rattle.daggy_reduction.proofs.EdgesRemovedDownward.{remove_on}
 use Rattle.daggy_reduction.proofs.reduce.remove_edges.Goals as goal
 
 pub edges-preserved : goal.edges-preserved

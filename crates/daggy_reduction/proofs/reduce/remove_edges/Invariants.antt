@@ -1,4 +1,4 @@
-use Rattle.daggy_reduction.proofs.Descending.{Removing}
+use Rattle.daggy_reduction.proofs.EdgesRemovedDownward.{Removing}
 use Rattle.std.proofs.Common.{map}
 use Rattle.daggy_reduction.proofs.reduce.remove_edges.Given as goal
 

@@ -5,8 +5,8 @@ use Rattle.daggy_base.specs.Graph.{Graph, Edge, HasEdge}
 use Rattle.daggy_base.specs.Removal.{Kind, without_edges}
 use Rattle.daggy_base.specs.Reduction.{IsReduction, IsRedundant}
 use Rattle.daggy_order.proofs.OrderLaws.{acyclic_from_order}
-use Rattle.daggy_reduction.specs.Comparing.{IsAscending}
-use Rattle.daggy_reduction.proofs.Descending.{reduced, nodes_kept}
+use Rattle.daggy_reduction.specs.Comparison.{IsAscending}
+use Rattle.daggy_reduction.proofs.EdgesRemovedDownward.{reduced, nodes_kept}
 use Rattle.daggy_reduction.proofs.Laws.{law_fewer}
 use Rattle.daggy_reduction.proofs.reduce.transitive_reduce.Goals as goal
 

@@ -1,7 +1,7 @@
 use Rattle.std.proofs.Common.{◌≡◌, ◌<◌, ◌≤◌, length, map, take, get_or, sym, ap, ◌∙◌, arith, Contains}
 use Rattle.std.proofs.lemmas.List.{length-take-le, get_or-take}
 use Rattle.daggy_base.specs.Graph.{edge_count}
-use Rattle.daggy_reduction.proofs.Sweeping.{sweep_on, below_exists, flags_redundant, looks_few}
+use Rattle.daggy_reduction.proofs.SweptNodes.{sweep_on, below_exists, flags_redundant, looks_few}
 use Rattle.daggy_reduction.proofs.redundant.flag_redundant.Goals as goal
 
 pub flag_round-requires-clause-exists : goal.flag_round-requires-clause-exists

@@ -1,6 +1,6 @@
 use Rattle.std.proofs.Common.{◌≡◌, ◌-◌, ◌≤◌, length, map, take}
 use Rattle.daggy_base.specs.Graph.{edge_count}
-use Rattle.daggy_reduction.proofs.Sweeping.{Sweeping}
+use Rattle.daggy_reduction.proofs.SweptNodes.{Sweeping}
 use Rattle.daggy_reduction.proofs.redundant.flag_redundant.Given as goal
 
 abbrev pub invariant-nodes : goal.invariant-nodes

@@ -1,5 +1,5 @@
 use Rattle.std.proofs.Common.{map, take}
-use Rattle.daggy_reduction.proofs.Rooting.{closure_below}
+use Rattle.daggy_reduction.proofs.QueuedRoots.{closure_below}
 use Rattle.daggy_reduction.proofs.roots.enter_below.Goals as goal
 
 pub returns-clause-below : goal.returns-clause-below

@@ -1,7 +1,7 @@
 use Rattle.std.proofs.Common.{◌≡◌, ◌<◌, ◌≤◌, ◌∙◌, sym, ap, arith, length, map, get_or}
 use Rattle.std.proofs.lemmas.List.{length-map, get_or-map}
 use Rattle.std.proofs.lemmas.Bool.{false≢true}
-use Rattle.daggy_reduction.proofs.Rooting.{rooting_start, root_missing, root_low, root_room, root_entered, all_rooted}
+use Rattle.daggy_reduction.proofs.QueuedRoots.{rooting_start, root_missing, root_low, root_room, root_entered, all_rooted}
 use Rattle.daggy_reduction.proofs.roots.enter_roots.Goals.{then-contains_node, else-contains_node}
 use Rattle.daggy_reduction.proofs.roots.enter_roots.Goals as goal
 
@@ -18,8 +18,8 @@ enter-len-requires-clause-mark g c =
     ap number c.index-roots-k.is ∙ sym (get_or-map number roots c.roots.k c.index-roots-k.result (number c.index-roots-k.result) c.roots-test.true) in
     root_low c.roots.invariant within (number c.index-roots-k.result) is (c.if-contains_node.ensures.exists.0 cc)
 
-pub enter-len-requires-clause-room : goal.enter-len-requires-clause-room
-enter-len-requires-clause-room g c unseen =
+pub enter-len-requires-clause-queue_fits : goal.enter-len-requires-clause-queue_fits
+enter-len-requires-clause-queue_fits g c unseen =
     let number = g.Ix.IndexType.number in
     let roots = c.args.roots.now in
     let within : c.roots.k < length (map number roots) = omega (arith, c.roots-test.true, length-map roots number) in

@@ -1,5 +1,5 @@
 use Rattle.std.proofs.Common.{◌-◌, length, map}
-use Rattle.daggy_reduction.proofs.Rooting.{Rooting}
+use Rattle.daggy_reduction.proofs.QueuedRoots.{Rooting}
 use Rattle.daggy_reduction.proofs.roots.enter_roots.Given as goal
 
 abbrev pub invariant-roots : goal.invariant-roots

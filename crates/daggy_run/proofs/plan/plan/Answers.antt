@@ -1,7 +1,7 @@
 use Rattle.std.proofs.Common.{ap, arith}
 use Rattle.daggy_run.specs.Plans.{stages_of}
-use Rattle.daggy_run.proofs.Staging.{stages_long}
-use Rattle.daggy_run.proofs.Planning.{last_some, last_within, planned}
+use Rattle.daggy_run.proofs.StagedNodes.{stages_long}
+use Rattle.daggy_run.proofs.PlanByLevels.{last_some, last_within, planned}
 use Rattle.daggy_run.proofs.plan.plan.Goals as goal
 
 pub chain_back-requires-clause-full : goal.chain_back-requires-clause-full

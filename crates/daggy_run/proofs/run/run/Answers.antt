@@ -1,8 +1,8 @@
 use Rattle.std.proofs.Common.{◌∙◌, arith}
 use Rattle.std.proofs.lemmas.Iterator.Adapters.{YieldsList-from_vec}
 use Rattle.std.proofs.lemmas.Iterator.Consumers.{YieldsList-end}
-use Rattle.daggy_run.proofs.Running.{run_on, run_begins, run_whole, unless_err}
-use Rattle.daggy_run.proofs.Agreeing.{as_compact}
+use Rattle.daggy_run.proofs.RunSteps.{run_on, run_begins, run_whole, unless_err}
+use Rattle.daggy_run.proofs.OneAnswer.{as_compact}
 use Rattle.daggy_run.proofs.run.run.Goals as goal
 
 pub commands-init : goal.commands-init
@@ -10,7 +10,7 @@ commands-init g c = record {
   can = tt;
   ends = tt;
   run = run_begins g.D.GuardedDag.kind g.Ix.IndexType.greatest _ _ _ (c.reserve.ensures.items ∙ c.new-replies.ensures.items);
-  room = omega (arith, unless_err c.reserve.result c.reserve.ensures.ok c.if-is_err.ensures.value, c.len.ensures, c.into_iter-command-iterator.ensures.into_iter_gives.1);
+  capacity = omega (arith, unless_err c.reserve.result c.reserve.ensures.ok c.if-is_err.ensures.value, c.len.ensures, c.into_iter-command-iterator.ensures.into_iter_gives.1);
   acyclic = c.can_add_node-acyclic.ensures.dag.acyclic;
 }
 
@@ -19,7 +19,7 @@ commands-preserved g c = record {
   can = tt;
   ends = tt;
   run = run_on g.D.GuardedDag.kind g.Ix.IndexType.greatest _ _ _ _ _ _ _ _ _ _ c.commands.invariant.run c.perform-reply.ensures.step c.push_reserved.ensures.items;
-  room = omega (arith, c.in-Some.ensures.steps.1, c.push_reserved.ensures.len, c.push_reserved.ensures.capacity, c.commands.invariant.room);
+  capacity = omega (arith, c.in-Some.ensures.steps.1, c.push_reserved.ensures.len, c.push_reserved.ensures.capacity, c.commands.invariant.capacity);
   acyclic = c.perform-reply.ensures.acyclic;
 }
 

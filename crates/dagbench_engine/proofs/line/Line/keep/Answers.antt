@@ -1,5 +1,5 @@
 use Rattle.std.proofs.Common.{arith, IsOk, ◌∙◌}
-use Rattle.dagbench_engine.proofs.Keeping.{kept_more}
+use Rattle.dagbench_engine.proofs.KeptFront.{kept_more}
 use Rattle.dagbench_engine.proofs.line.Line.keep.Goals as goal
 
 pub returns : goal.returns

@@ -1,4 +1,4 @@
-use Rattle.dagbench_engine.proofs.Serving.{last_ended, last_unended, nothing_there, something_there}
+use Rattle.dagbench_engine.proofs.ServedSoFar.{last_ended, last_unended, nothing_there, something_there}
 use Rattle.dagbench_engine.proofs.session.Session.end_last_line.Goals as goal
 
 pub returns-then-is_empty-clause-done : goal.returns-then-is_empty-clause-done

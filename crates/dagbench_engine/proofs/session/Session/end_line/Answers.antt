@@ -1,5 +1,5 @@
 use Rattle.std.proofs.Common.{◌∙◌}
-use Rattle.dagbench_engine.proofs.Serving.{at_once, at_last, nothing_there}
+use Rattle.dagbench_engine.proofs.ServedSoFar.{at_once, at_last, nothing_there}
 use Rattle.dagbench_engine.proofs.session.Session.end_line.Goals as goal
 
 pub returns-then-is_empty-clause-served : goal.returns-then-is_empty-clause-served

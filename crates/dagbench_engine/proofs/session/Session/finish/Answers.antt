@@ -1,4 +1,4 @@
-use Rattle.dagbench_engine.proofs.Serving.{finished}
+use Rattle.dagbench_engine.proofs.ServedSoFar.{finished}
 use Rattle.dagbench_engine.proofs.session.Session.finish.Goals as goal
 
 pub returns-clause-served : goal.returns-clause-served

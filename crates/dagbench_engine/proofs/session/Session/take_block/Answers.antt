@@ -1,5 +1,5 @@
 use Rattle.std.proofs.Common.{refl, ◌∙◌}
-use Rattle.dagbench_engine.proofs.Serving.{none_passed, line_passed, block_passed}
+use Rattle.dagbench_engine.proofs.ServedSoFar.{none_passed, line_passed, block_passed}
 use Rattle.dagbench_engine.proofs.session.Session.take_block.Goals as goal
 
 pub lines-init : goal.lines-init

@@ -1,5 +1,5 @@
 use Rattle.std.proofs.Common.{◌≡◌, ◌++◌, length}
-use Rattle.dagbench_engine.proofs.Serving.{Passed}
+use Rattle.dagbench_engine.proofs.ServedSoFar.{Passed}
 use Rattle.dagbench_engine.proofs.session.Session.take_block.Given as goal
 
 abbrev pub invariant-lines : goal.invariant-lines

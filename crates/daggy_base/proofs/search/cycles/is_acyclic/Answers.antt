@@ -1,6 +1,6 @@
 use Rattle.std.proofs.Common.{ℕ, IsTrue, ◌↔◌, Option, Some, None, IfSome, IfNone, is_some, refl}
 use Rattle.std.proofs.lemmas.Bool.{false≢true}
-use Rattle.daggy_base.proofs.Leaving.{acyclic_from_sorted}
+use Rattle.daggy_base.proofs.FinishingOrder.{acyclic_from_sorted}
 use Rattle.daggy_base.proofs.search.cycles.is_acyclic.Goals as goal
 
 told_by : {A : Type 0} (P : ℕ → Type 0) (found : Option ℕ) → IfSome found P → IfNone found (¬ A) → ((top : ℕ) → P top → A) → IsTrue (is_some found) ↔ A

@@ -1,5 +1,5 @@
 use Rattle.daggy_order.proofs.OrderLaws.{acyclic_from_order}
-use Rattle.daggy_dag.proofs.Kept.{kept_empty}
+use Rattle.daggy_dag.proofs.OrderKept.{kept_empty}
 use Rattle.daggy_dag.proofs.acyclic.Acyclic.clear.Goals as goal
 
 pub invariant_of-self : goal.invariant_of-self

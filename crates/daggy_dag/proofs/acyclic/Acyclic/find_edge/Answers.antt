@@ -1,6 +1,6 @@
 use Rattle.std.proofs.Common.{OnSome, subst}
 use Rattle.daggy_base.specs.Graph.{HasNode}
-use Rattle.daggy_base.proofs.Finding.{ends_exist}
+use Rattle.daggy_base.proofs.FoundEdge.{ends_exist}
 use Rattle.daggy_dag.proofs.acyclic.Acyclic.find_edge.Goals as goal
 
 pub returns-clause-ends : goal.returns-clause-ends

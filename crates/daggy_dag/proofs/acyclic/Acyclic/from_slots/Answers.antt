@@ -1,10 +1,10 @@
 use Rattle.std.proofs.Common.{◌≡◌, ◌≤◌, Option, Some, None, IfSome, IfNone, sym, subst, ap, arith}
 use Rattle.daggy_base.specs.Graph.{Graph, node_bound}
 use Rattle.daggy_base.specs.Path.{IsAcyclic}
-use Rattle.daggy_base.specs.Room.{Room}
-use Rattle.daggy_base.proofs.Nodes.{bound_low}
+use Rattle.daggy_base.specs.Capacity.{Capacity}
+use Rattle.daggy_base.proofs.PathsWithNode.{bound_low}
 use Rattle.daggy_order.proofs.OrderLaws.{acyclic_from_order}
-use Rattle.daggy_dag.proofs.Kept.{stays_so}
+use Rattle.daggy_dag.proofs.OrderKept.{stays_so}
 use Rattle.daggy_dag.proofs.acyclic.Acyclic.from_slots.Goals as goal
 
 pub sorted-requires : goal.sorted-requires
@@ -22,9 +22,9 @@ pub invariant_of-result : goal.invariant_of-result
 invariant_of-result g c =
     let low = bound_low (g.S.EdgeSource.graph c.in-Ok.store).nodes in
     let fits : node_bound (g.S.EdgeSource.graph c.in-Ok.store) ≤ c.reserve.new.self.nodes = omega (arith, low, c.node_slots.ensures.value, c.in-Ok-reserve.ensures.ok.0) in
-    let room : c.sorted.new.scratch.nodes ≡ c.reserve.new.self.nodes = ap (λ (z : Room). z.nodes) c.sorted.ensures.room in
+    let capacity : c.sorted.new.scratch.nodes ≡ c.reserve.new.self.nodes = ap (λ (z : Capacity). z.nodes) c.sorted.ensures.same_capacity in
     let ordered = found _ c.in-Ok-Some.field-0 c.in-Ok-Some.order c.in-Ok-Some.field-0-is c.in-Ok-Some.ensures.ordered in
-    stays_so c.in-Ok-Some.order c.sorted.new.scratch.nodes _ _ c.sorted.ensures.same (ordered, omega (arith, fits, room))
+    stays_so c.in-Ok-Some.order c.sorted.new.scratch.nodes _ _ c.sorted.ensures.same (ordered, omega (arith, fits, capacity))
 
 pub returns-in-Ok-Some-clause-acyclic : goal.returns-in-Ok-Some-clause-acyclic
 returns-in-Ok-Some-clause-acyclic g c =

@@ -1,4 +1,4 @@
-use Rattle.daggy_dag.proofs.Kept.{kept_empty}
+use Rattle.daggy_dag.proofs.OrderKept.{kept_empty}
 use Rattle.daggy_dag.proofs.acyclic.Acyclic.new.Goals as goal
 
 pub invariant_of-result : goal.invariant_of-result

@@ -4,7 +4,7 @@ use Rattle.daggy_base.specs.Graph.{list_at}
 use Rattle.daggy_base.specs.WellFormed.{IsWellFormed}
 use Rattle.daggy_base.specs.Cursor.{first_of}
 use Rattle.daggy_dag.specs.Walks.{rest_of_walk}
-use Rattle.daggy_dag.proofs.Walking.{whole_walk, few_in}
+use Rattle.daggy_dag.proofs.WalkSteps.{whole_walk, few_in}
 use Rattle.daggy_dag.proofs.acyclic.Acyclic.parents.Goals as goal
 
 pub returns : goal.returns

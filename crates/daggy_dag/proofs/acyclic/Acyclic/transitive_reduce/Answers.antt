@@ -2,7 +2,7 @@ use Rattle.std.proofs.Common.{◌≡◌, ℕ, List, map, ap, subst, OnOk}
 use Rattle.daggy_base.specs.State.{State}
 use Rattle.daggy_base.specs.Removal.{Stable, KeepsIndices}
 use Rattle.daggy_base.specs.Reduction.{IsReduction}
-use Rattle.daggy_reduction.specs.Comparing.{HaveSameReachability, JoinsCovers, JoinsOthers, IsLeast, IsCanonical}
+use Rattle.daggy_reduction.specs.Comparison.{HaveSameReachability, JoinsCovers, JoinsOthers, IsLeast, IsCanonical}
 use Rattle.daggy_reduction.proofs.Laws.{law_reachability, law_covers, law_others, law_least, law_none, law_canonical, law_indices}
 use Rattle.daggy_order.proofs.OrderLaws.{acyclic_from_order}
 use Rattle.daggy_dag.proofs.Reduced.{on_ok, kept_fewer}
@@ -106,7 +106,7 @@ returns-clause-keeps g c =
 pub invariant_of-self : goal.invariant_of-self
 invariant_of-self g c =
     let reduce = c.transitive_reduce.ensures in
-    kept_fewer c.self.inside.order c.self.inside.scratch.nodes c.transitive_reduce.new.scratch.nodes (g.S.EdgeSource.graph c.self.inside.store) (g.S.EdgeSource.graph c.transitive_reduce.new.store) reduce.nodes reduce.fewer c.self.invariant reduce.room
+    kept_fewer c.self.inside.order c.self.inside.scratch.nodes c.transitive_reduce.new.scratch.nodes (g.S.EdgeSource.graph c.self.inside.store) (g.S.EdgeSource.graph c.transitive_reduce.new.store) reduce.nodes reduce.fewer c.self.invariant reduce.capacity
 
 pub returns-clause-acyclic : goal.returns-clause-acyclic
 returns-clause-acyclic g c = acyclic_from_order _ (invariant_of-self g c).0

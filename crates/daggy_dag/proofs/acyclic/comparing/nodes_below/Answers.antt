@@ -1,5 +1,5 @@
 use Rattle.std.proofs.Common.{arith}
-use Rattle.daggy_dag.proofs.Shaped.{nodes_more}
+use Rattle.daggy_dag.proofs.NodesBelow.{nodes_more}
 use Rattle.daggy_dag.proofs.acyclic.comparing.nodes_below.Goals as goal
 
 pub nodes-preserved : goal.nodes-preserved

@@ -1,9 +1,9 @@
 use Rattle.std.proofs.Common.{◌≡◌, ℕ, Option, None, Some, List, [], ◌∷◌, map, refl, sym, ap, subst, ◌∙◌}
 use Rattle.std.specs.Option.{option_map}
 use Rattle.daggy_base.specs.Graph.{Edge}
-use Rattle.daggy_base.specs.FilteringInPlace.{KeepsSlots, if_joined}
+use Rattle.daggy_base.specs.FilteringInPlace.{KeepsSlots, if_ends_exist}
 use Rattle.daggy_base.specs.Mapping.{CalledAt, weight_in, with_weight}
-use Rattle.daggy_base.specs.FromSlots.{of_slots}
+use Rattle.daggy_base.specs.FromSlots.{graph_of_slots}
 use Rattle.daggy_definitions.specs.Examples.{line, triangle}
 use Rattle.daggy_definitions.specs.Keeping.{unless_ten, drops_ten, numbers_its_calls}
 use Rattle.daggy_definitions.proofs.definitions.keeping.what_is_kept_stays_in_its_slot.Goals as goal
@@ -23,8 +23,8 @@ kept_edges new (l, is, (l', is', (r, next, c, l'', is'', last))) =
 pub returns-clause-no_other : goal.returns-clause-no_other
 returns-clause-no_other c h filtered =
     let nodes = kept_nodes filtered.nodes filtered.keeps_nodes in
-    let edges = kept_edges filtered.edges (subst (λ l. KeepsSlots numbers_its_calls (λ n. n) weight_in with_weight 0 0 (map (if_joined l) triangle.edges) filtered.edges) nodes filtered.keeps_edges) in
-    filtered.is ∙ ap (λ l. of_slots l filtered.edges) nodes ∙ ap (of_slots (None ∷ Some 20 ∷ Some 30 ∷ [])) edges
+    let edges = kept_edges filtered.edges (subst (λ l. KeepsSlots numbers_its_calls (λ n. n) weight_in with_weight 0 0 (map (if_ends_exist l) triangle.edges) filtered.edges) nodes filtered.keeps_edges) in
+    filtered.is ∙ ap (λ l. graph_of_slots l filtered.edges) nodes ∙ ap (graph_of_slots (None ∷ Some 20 ∷ Some 30 ∷ [])) edges
 
 pub returns-clause-this : goal.returns-clause-this
 returns-clause-this c shown shows =

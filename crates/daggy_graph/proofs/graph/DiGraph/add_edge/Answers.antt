@@ -24,9 +24,9 @@ pub put_edge-e-requires-clause-child : goal.put_edge-e-requires-clause-child
 put_edge-e-requires-clause-child g c =
     let within = slot_within (λ x. x.weight) c.self.inside.nodes.items _ (rw (← c.self.view_is) at c.requires.child) in omega (arith, within, c.of_node-2.ensures)
 
-pub put_edge-e-requires-clause-left : goal.put_edge-e-requires-clause-left
-put_edge-e-requires-clause-left g c =
-    omega (arith, c.requires.room, ap (λ s. edge_count s.graph) c.self.view_is, count-slots plain c.self.inside.edges.items, ap length c.reserve.ensures.items)
+pub put_edge-e-requires-clause-index_left : goal.put_edge-e-requires-clause-index_left
+put_edge-e-requires-clause-index_left g c =
+    omega (arith, c.requires.index_left, ap (λ s. edge_count s.graph) c.self.view_is, count-slots plain c.self.inside.edges.items, ap length c.reserve.ensures.items)
 
 pub invariant_of-self-2 : goal.invariant_of-self-2
 invariant_of-self-2 g c = Stores-itself _ _ _ _ c.put_edge-e.ensures.stored

@@ -7,12 +7,12 @@ use Rattle.daggy_cells.proofs.States.{state_changed}
 use Rattle.daggy_base.proofs.MappedSlots.{count-slots}
 use Rattle.daggy_graph.proofs.graph.DiGraph.add_node.Goals as goal
 
-pub put_node-n-requires-clause-left : goal.put_node-n-requires-clause-left
-put_node-n-requires-clause-left g c =
+pub put_node-n-requires-clause-index_left : goal.put_node-n-requires-clause-index_left
+put_node-n-requires-clause-index_left g c =
     omega (arith, c.requires, ap (λ s. node_count s.graph) c.self.view_is, count-slots (λ x. x.weight) c.self.inside.nodes.items, ap length c.reserve.ensures.items)
 
-pub put_node-n-requires-clause-room : goal.put_node-n-requires-clause-room
-put_node-n-requires-clause-room g c = search rules
+pub put_node-n-requires-clause-capacity : goal.put_node-n-requires-clause-capacity
+put_node-n-requires-clause-capacity g c = search rules
 
 pub invariant_of-self-2 : goal.invariant_of-self-2
 invariant_of-self-2 g c = Stores-itself _ _ _ _ c.put_node-n.ensures.stored

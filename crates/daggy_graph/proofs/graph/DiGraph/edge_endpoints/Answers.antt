@@ -1,7 +1,7 @@
 use Rattle.std.proofs.Common.{Some, ap, ◌∙◌}
 use Rattle.std.specs.Option.{option_map}
 use Rattle.daggy_base.specs.Graph.{ends_of}
-use Rattle.daggy_graph.proofs.Reading.{got, got_none, edge_got}
+use Rattle.daggy_graph.proofs.StoredLists.{got, got_none, edge_got}
 use Rattle.daggy_graph.proofs.graph.DiGraph.edge_endpoints.Goals as goal
 
 pub returns-in-Some : goal.returns-in-Some

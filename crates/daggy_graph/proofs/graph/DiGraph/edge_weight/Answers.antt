@@ -1,6 +1,6 @@
 use Rattle.std.proofs.Common.{ap}
 use Rattle.std.specs.Option.{option_map}
-use Rattle.daggy_graph.proofs.Reading.{got, got_none, edge_got}
+use Rattle.daggy_graph.proofs.StoredLists.{got, got_none, edge_got}
 use Rattle.daggy_graph.proofs.graph.DiGraph.edge_weight.Goals as goal
 
 pub returns-in-Some : goal.returns-in-Some

@@ -2,8 +2,8 @@ use Rattle.std.proofs.Common.{sym, ap, subst, ◌∙◌, arith}
 use Rattle.daggy_base.specs.Cursor.{first_of}
 use Rattle.daggy_base.specs.Graph.{list_at}
 use Rattle.daggy_base.specs.Iterating.{edges_at}
-use Rattle.daggy_cells.specs.Rest.{edges_left, IsOnRow}
-use Rattle.daggy_graph.proofs.RestLemmas.{IsOnRow-begins, edges_begin}
+use Rattle.daggy_cells.specs.Rest.{edges_left, IsOnList}
+use Rattle.daggy_graph.proofs.RestLemmas.{IsOnList-begins, edges_begin}
 use Rattle.daggy_cells.proofs.RestLemmas.{edges_few}
 use Rattle.daggy_graph.proofs.graph.DiGraph.edges_directed.Goals as goal
 
@@ -12,7 +12,7 @@ invariant_of-result g c =
     let end = g.Ix.IndexType.greatest in
     let n = g.Ix.IndexType.number c.args.n in
     let first = c.of_edge.ensures ∙ c.first_edge-first.ensures ∙ ap (λ s. first_of end (list_at c.args.dir s.graph n)) (sym c.self.view_is) in
-    subst (λ l. IsOnRow end c.args.dir l c.of_edge.result) (sym c.as_slice.ensures.value) (IsOnRow-begins end c.self.inside.nodes.items c.self.inside.edges.items c.self.invariant c.args.dir n c.of_edge.result first)
+    subst (λ l. IsOnList end c.args.dir l c.of_edge.result) (sym c.as_slice.ensures.value) (IsOnList-begins end c.self.inside.nodes.items c.self.inside.edges.items c.self.invariant c.args.dir n c.of_edge.result first)
 
 pub returns-clause-rest : goal.returns-clause-rest
 returns-clause-rest g c =

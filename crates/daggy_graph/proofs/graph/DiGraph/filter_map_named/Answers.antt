@@ -4,7 +4,7 @@ use Rattle.daggy_graph.specs.Stored.{stored_graph}
 use Rattle.daggy_cells.specs.Fields.{weight_of, plain_edge}
 use Rattle.daggy_base.specs.Filtering.{FiltersNodes, FiltersEdges}
 use Rattle.daggy_graph.specs.Names.{IsFilteredAs}
-use Rattle.daggy_graph.proofs.Keeping.{ListsDescend-filtered, HaveSameEnds-filtered}
+use Rattle.daggy_graph.proofs.KeptParts.{ListsDescend-filtered, HaveSameEnds-filtered}
 use Rattle.daggy_graph.proofs.graph.DiGraph.filter_map_named.Goals as goal
 
 pub returns-clause-filtered : goal.returns-clause-filtered

@@ -6,7 +6,7 @@ use Rattle.daggy_base.specs.declared.index.Direction.TheVariants.{Outgoing}
 use Rattle.daggy_cells.specs.Raw.{raw_next}
 use Rattle.daggy_cells.specs.Fields.{nexts_of}
 use Rattle.daggy_graph.specs.Stored.{stored_graph}
-use Rattle.daggy_cells.proofs.Rows.{IsScan-done, IsScan-here, IsScan-step, IsScan-shorter}
+use Rattle.daggy_cells.proofs.LinkedLists.{IsScan-done, IsScan-here, IsScan-step, IsScan-shorter}
 use Rattle.daggy_graph.proofs.StoredLemmas.{leads_to_read}
 use Rattle.daggy_base.proofs.Lists.{slice_get_mapped}
 use Rattle.daggy_graph.proofs.graph.DiGraph.find_edge.Goals as goal

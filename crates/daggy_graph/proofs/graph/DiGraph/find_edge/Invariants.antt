@@ -1,9 +1,9 @@
 use Rattle.std.proofs.Common.{length}
 use Rattle.daggy_base.specs.Finding.{leads_to, find_edge}
 use Rattle.daggy_base.specs.declared.index.Direction.TheVariants.{Outgoing}
-use Rattle.daggy_cells.specs.Fields.{nexts_of, walk}
+use Rattle.daggy_cells.specs.Fields.{nexts_of, list_from}
 use Rattle.daggy_graph.specs.Stored.{stored_graph}
-use Rattle.daggy_cells.proofs.Rows.{IsScan}
+use Rattle.daggy_cells.proofs.LinkedLists.{IsScan}
 use Rattle.daggy_graph.proofs.graph.DiGraph.find_edge.Given as goal
 
 abbrev pub invariant-along : goal.invariant-along
@@ -12,4 +12,4 @@ invariant-along g l =
     IsScan g.Ix.IndexType.greatest (nexts_of Outgoing l.self-inside.edges.items) (leads_to seen l.v) l.e (find_edge seen l.u l.v)
 
 abbrev pub decreases-along : goal.decreases-along
-decreases-along g l = length (walk Outgoing l.self-inside.edges.items l.e)
+decreases-along g l = length (list_from Outgoing l.self-inside.edges.items l.e)

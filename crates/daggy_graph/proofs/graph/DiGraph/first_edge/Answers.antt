@@ -1,5 +1,5 @@
 use Rattle.std.proofs.Common.{◌∙◌}
-use Rattle.daggy_graph.proofs.Reading.{got, first_got, no_first_got}
+use Rattle.daggy_graph.proofs.StoredLists.{got, first_got, no_first_got}
 use Rattle.daggy_graph.proofs.graph.DiGraph.first_edge.Goals as goal
 
 pub returns-in-Some : goal.returns-in-Some

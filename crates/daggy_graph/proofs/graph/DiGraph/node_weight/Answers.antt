@@ -1,4 +1,4 @@
-use Rattle.daggy_graph.proofs.Reading.{got, got_none, node_got}
+use Rattle.daggy_graph.proofs.StoredLists.{got, got_none, node_got}
 use Rattle.daggy_graph.proofs.graph.DiGraph.node_weight.Goals as goal
 
 pub returns-in-Some : goal.returns-in-Some

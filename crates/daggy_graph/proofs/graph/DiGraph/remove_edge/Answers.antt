@@ -7,7 +7,7 @@ use Rattle.daggy_base.specs.Removal.{Compact, without_edge}
 use Rattle.daggy_cells.specs.Fields.{plain, plain_edge}
 use Rattle.daggy_graph.specs.Stored.{stored_graph, Stores}
 use Rattle.daggy_cells.proofs.States.{state_changed}
-use Rattle.daggy_graph.proofs.Reading.{got_none, edge_got}
+use Rattle.daggy_graph.proofs.StoredLists.{got_none, edge_got}
 use Rattle.daggy_graph.proofs.StoredLemmas.{stored_is, Stores-itself}
 use Rattle.daggy_base.proofs.MappedSlots.{slot_is}
 use Rattle.daggy_graph.proofs.graph.DiGraph.remove_edge.Goals as goal

@@ -3,7 +3,7 @@ use Rattle.std.proofs.lemmas.List.{length-map}
 use Rattle.daggy_base.specs.Orders.{numbers_of, with_orders, AreOrders}
 use Rattle.daggy_cells.proofs.States.{state_changed}
 use Rattle.daggy_graph.proofs.StoredLemmas.{stored_is, Stores-itself}
-use Rattle.daggy_graph.proofs.Ordering.{as_many, can_thread, ordered}
+use Rattle.daggy_graph.proofs.ListOrdersKept.{as_many, can_thread, ordered}
 use Rattle.daggy_graph.proofs.graph.DiGraph.set_orders.Goals as goal
 
 pub thread_nodes-requires-clause-count : goal.thread_nodes-requires-clause-count

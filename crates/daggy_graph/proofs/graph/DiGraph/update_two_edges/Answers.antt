@@ -5,7 +5,7 @@ use Rattle.daggy_graph.specs.Stored.{stored_graph}
 use Rattle.daggy_graph.proofs.StoredLemmas.{stored_is, Stores-itself}
 use Rattle.daggy_base.proofs.MappedSlots.{slot_within}
 use Rattle.daggy_cells.proofs.States.{state_changed}
-use Rattle.daggy_graph.proofs.PairLemmas.{edges_updated, edge_shown}
+use Rattle.daggy_graph.proofs.TwoWeightLemmas.{edges_updated, edge_shown}
 use Rattle.daggy_cells.proofs.CellLemmas.{called_at}
 use Rattle.daggy_graph.proofs.graph.DiGraph.update_two_edges.Goals as goal
 

@@ -2,7 +2,7 @@ use Rattle.std.proofs.Common.{◌<◌, ◌+◌, Some, map, length, sym, ap, subs
 use Rattle.std.proofs.lemmas.List.{length-map, get_or-map, length_push}
 use Rattle.daggy_graph.specs.Stored.{stored_graph}
 use Rattle.daggy_cells.specs.Fields.{weight_of}
-use Rattle.daggy_base.specs.Filtering.{named, kept_node}
+use Rattle.daggy_base.specs.Filtering.{named, with_kept_node}
 use Rattle.daggy_graph.proofs.StoredLemmas.{stored_is, Stores-itself}
 use Rattle.daggy_cells.proofs.MappingLemmas.{CalledAt-from_step}
 use Rattle.daggy_graph.proofs.FilterLemmas.{FilteredBelow, FilteredBelow-called, FilteredBelow-done}
@@ -19,7 +19,7 @@ each-preserved g c =
     let slots : c.each.i < length (map weight_of nodes) = omega (arith, within, length-map nodes weight_of) in
     let next = FilteredBelow-called (goal.F-step g) g.Ix.IndexType.of c.args.f (map weight_of nodes) c.each.f c.f-answer.new.self c.each.names.items h c.each.i x.weight c.f-answer.result slots read called c.each.invariant.7 in
     let shown = stored_is _ _ _ _ c.keep_node.ensures.stored in
-    let one = subst (λ ns. FilteredBelow (goal.F-step g) g.Ix.IndexType.of c.args.f (map weight_of nodes) c.f-answer.new.self ns (kept_node h c.f-answer.result) (c.each.i + 1)) (sym c.keep_node.ensures.names) next in
+    let one = subst (λ ns. FilteredBelow (goal.F-step g) g.Ix.IndexType.of c.args.f (map weight_of nodes) c.f-answer.new.self ns (with_kept_node h c.f-answer.result) (c.each.i + 1)) (sym c.keep_node.ensures.names) next in
     let both = subst (λ z. FilteredBelow (goal.F-step g) g.Ix.IndexType.of c.args.f (map weight_of nodes) c.f-answer.new.self c.keep_node.new.names.items z (c.each.i + 1)) (sym shown) one in (
       search of_calls,
       omega (arith, c.keep_node.ensures.capacity, c.each.invariant.1),

@@ -4,8 +4,8 @@ use Rattle.daggy_base.specs.Orders.{numbers_of}
 use Rattle.daggy_cells.specs.Fields.{weight_of, plain_edge, firsts_of, order_at}
 use Rattle.daggy_cells.specs.Raw.{raw_first}
 use Rattle.daggy_cells.specs.Links.{CanThread}
-use Rattle.daggy_cells.proofs.Ordering.{order_read}
-use Rattle.daggy_cells.proofs.Threading.{CanThread-as_long, none_below, below_threaded, all_threaded}
+use Rattle.daggy_cells.proofs.ListOrders.{order_read}
+use Rattle.daggy_cells.proofs.RethreadedLists.{CanThread-as_long, none_below, below_threaded, all_threaded}
 use Rattle.daggy_graph.proofs.graph.ordering.thread_nodes.Goals as goal
 
 pub each-init : goal.each-init

@@ -1,5 +1,5 @@
 use Rattle.std.proofs.Common.{Some, rules}
-use Rattle.daggy_json.proofs.Finding.{no_triple, triple_found}
+use Rattle.daggy_json.proofs.FoundParts.{no_triple, triple_found}
 use Rattle.daggy_json.proofs.reading.entries.find_triple.Goals as goal
 
 pub returns-then-len-ne3 : goal.returns-then-len-ne3

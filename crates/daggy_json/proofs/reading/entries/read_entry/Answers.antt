@@ -1,6 +1,6 @@
 use Rattle.std.proofs.Common.{inr}
 use Rattle.daggy_json.specs.Weight.{ReadsAs}
-use Rattle.daggy_json.proofs.Finding.{reads_as}
+use Rattle.daggy_json.proofs.FoundParts.{reads_as}
 use Rattle.daggy_json.proofs.Stages.{entry_some, entry_refused}
 use Rattle.daggy_json.proofs.reading.entries.read_entry.Goals as goal
 

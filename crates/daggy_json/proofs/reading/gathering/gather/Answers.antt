@@ -6,7 +6,7 @@ use Rattle.std.proofs.lemmas.Result.{err_from_is_err_and}
 use Rattle.serde_json.specs.View.{view}
 use Rattle.daggy_json.specs.Found.{edge_of}
 use Rattle.daggy_json.specs.Weight.{ReadsAs}
-use Rattle.daggy_json.proofs.Composing.{nodes_fault, entry_fault, orders_fault, is_read, placed_long, ends_exist, full_entries}
+use Rattle.daggy_json.proofs.ComposedStages.{nodes_fault, entry_fault, orders_fault, is_read, placed_long, ends_exist, full_entries}
 use Rattle.daggy_json.proofs.reading.gathering.gather.Goals as goal
 
 pub returns-in_err-nodes-clause-err : goal.returns-in_err-nodes-clause-err

@@ -5,8 +5,8 @@ use Rattle.std.proofs.lemmas.List.{length-map}
 use Rattle.serde_json.specs.View.{view}
 use Rattle.daggy_base.specs.Orders.{numbers_of}
 use Rattle.daggy_json.specs.Found.{edge_of}
-use Rattle.daggy_json.proofs.Bounding.{orders_some, orders_none}
-use Rattle.daggy_json.proofs.Composing.{ordered_fault, ordered_with, not_these}
+use Rattle.daggy_json.proofs.OrderBounds.{orders_some, orders_none}
+use Rattle.daggy_json.proofs.ComposedStages.{ordered_fault, ordered_with, not_these}
 use Rattle.daggy_json.proofs.reading.gathering.read_orders.Goals as goal
 
 pub returns-in_default-2-clause-err : goal.returns-in_default-2-clause-err

@@ -1,5 +1,5 @@
 use Rattle.std.proofs.Common.{sym}
-use Rattle.daggy_json.proofs.Finding.{all_none, all_whole, all_none_in, all_found}
+use Rattle.daggy_json.proofs.FoundParts.{all_none, all_whole, all_none_in, all_found}
 use Rattle.daggy_json.proofs.reading.orders.read_list.Goals as goal
 
 pub returns-in_default-find_index : goal.returns-in_default-find_index

@@ -1,6 +1,6 @@
 use Rattle.std.proofs.Common.{map}
 use Rattle.daggy_json.specs.Found.{index_in}
-use Rattle.daggy_json.proofs.Finding.{AllSoFar}
+use Rattle.daggy_json.proofs.FoundParts.{AllSoFar}
 use Rattle.daggy_json.proofs.reading.orders.read_list.Given as goal
 
 abbrev pub invariant-loop-item : goal.invariant-loop-item

@@ -1,5 +1,5 @@
 use Rattle.std.proofs.Common.{rules}
-use Rattle.daggy_json.proofs.Finding.{no_row}
+use Rattle.daggy_json.proofs.FoundParts.{no_row}
 use Rattle.daggy_json.proofs.reading.orders.read_row.Goals as goal
 
 pub returns-then-len-ne2 : goal.returns-then-len-ne2

@@ -2,7 +2,7 @@ use Rattle.std.proofs.Common.{sym, ap, map, ◌∙◌}
 use Rattle.std.specs.Option.{option_map}
 use Rattle.daggy_base.specs.Orders.{numbers_of}
 use Rattle.std.proofs.lemmas.List.{map-append}
-use Rattle.daggy_json.proofs.Finding.{all_none, all_more, all_whole, all_none_in, all_found}
+use Rattle.daggy_json.proofs.FoundParts.{all_none, all_more, all_whole, all_none_in, all_found}
 use Rattle.daggy_json.proofs.reading.orders.read_rows.Goals as goal
 
 pub returns-in_default-2 : goal.returns-in_default-2

@@ -2,7 +2,7 @@ use Rattle.std.proofs.Common.{sym, ap, ◌∙◌}
 use Rattle.std.specs.Prelude.{option_and_then}
 use Rattle.std.proofs.lemmas.Result.{IfOk-weaker}
 use Rattle.daggy_json.specs.Reading.{all_in, whole_in, holes_in}
-use Rattle.daggy_json.proofs.Finding.{array_some}
+use Rattle.daggy_json.proofs.FoundParts.{array_some}
 use Rattle.daggy_json.proofs.reading.parts.read_holes.Goals as goal
 
 pub returns : goal.returns

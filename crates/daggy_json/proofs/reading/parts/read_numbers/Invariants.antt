@@ -1,5 +1,5 @@
 use Rattle.daggy_json.specs.Reading.{whole_in}
-use Rattle.daggy_json.proofs.Finding.{AllSoFar}
+use Rattle.daggy_json.proofs.FoundParts.{AllSoFar}
 use Rattle.daggy_json.proofs.reading.parts.read_numbers.Given as goal
 
 abbrev pub invariant-loop-value : goal.invariant-loop-value

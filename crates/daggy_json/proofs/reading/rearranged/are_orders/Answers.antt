@@ -1,7 +1,7 @@
 use Rattle.std.proofs.Common.{sym, ◌∙◌}
 use Rattle.std.proofs.lemmas.Bool.{false≢true}
 use Rattle.daggy_base.specs.declared.index.Direction.TheVariants.{Outgoing, Incoming}
-use Rattle.daggy_json.proofs.Rearranging.{are_orders_from, rearranged_from}
+use Rattle.daggy_json.proofs.RearrangedLists.{are_orders_from, rearranged_from}
 use Rattle.daggy_json.proofs.reading.rearranged.are_orders.Goals as goal
 use Rattle.daggy_json.proofs.reading.rearranged.are_orders.Goals.{then-is_rearranged, else-is_rearranged}
 

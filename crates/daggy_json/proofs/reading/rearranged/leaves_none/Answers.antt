@@ -4,7 +4,7 @@ use Rattle.std.proofs.lemmas.Bool.{false≢true, cases_lt}
 use Rattle.std.proofs.lemmas.List.{length-map}
 use Rattle.daggy_base.specs.Graph.{slot}
 use Rattle.daggy_json.specs.Found.{edge_of}
-use Rattle.daggy_json.proofs.Marking.{slot_mapped, slot_within}
+use Rattle.daggy_json.proofs.MarkedLists.{slot_mapped, slot_within}
 use Rattle.daggy_json.proofs.reading.rearranged.leaves_none.Goals as goal
 use Rattle.daggy_json.proofs.reading.rearranged.leaves_none.Goals.{else-is_some-via-then-is_some+else-not-is_marked, else-is_some-via-else-is_some}
 

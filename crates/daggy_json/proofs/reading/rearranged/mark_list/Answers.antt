@@ -3,8 +3,8 @@ use Rattle.std.specs.Option.{option_map}
 use Rattle.std.proofs.lemmas.Bool.{false≢true}
 use Rattle.std.proofs.lemmas.List.{length-map}
 use Rattle.daggy_json.specs.Found.{edge_of}
-use Rattle.daggy_json.proofs.Marking.{marked_on, marked_wrong, read_mapped}
-use Rattle.daggy_json.proofs.Rearranging.{end_below}
+use Rattle.daggy_json.proofs.MarkedLists.{marked_on, marked_wrong, read_mapped}
+use Rattle.daggy_json.proofs.RearrangedLists.{end_below}
 use Rattle.daggy_json.proofs.reading.rearranged.mark_list.Goals as goal
 use Rattle.daggy_json.proofs.reading.rearranged.mark_list.Goals.{then-not-is_at-via-then-not-is_at, then-not-is_at-via-else-not-is_at+then-is_marked}
 

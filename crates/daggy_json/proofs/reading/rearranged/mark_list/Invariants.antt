@@ -2,7 +2,7 @@ use Rattle.std.proofs.Common.{map}
 use Rattle.std.specs.Option.{option_map}
 use Rattle.daggy_base.specs.FromSlots.{has_end}
 use Rattle.daggy_json.specs.Found.{edge_of}
-use Rattle.daggy_json.proofs.Marking.{MarkedSoFar}
+use Rattle.daggy_json.proofs.MarkedLists.{MarkedSoFar}
 use Rattle.daggy_json.proofs.reading.rearranged.mark_list.Given as goal
 
 abbrev pub invariant-loop-e : goal.invariant-loop-e

@@ -5,7 +5,7 @@ use Rattle.std.proofs.lemmas.List.{length-map}
 use Rattle.daggy_base.specs.FromSlots.{has_end}
 use Rattle.daggy_base.specs.Orders.{numbers_of}
 use Rattle.daggy_json.specs.Found.{edge_of, chosen, Marked}
-use Rattle.daggy_json.proofs.Marking.{lists_skipped, lists_passed, lists_wrong, lists_whole, read_twice, same_read}
+use Rattle.daggy_json.proofs.MarkedLists.{lists_skipped, lists_passed, lists_wrong, lists_whole, read_twice, same_read}
 use Rattle.daggy_json.proofs.reading.rearranged.mark_lists.Goals as goal
 use Rattle.daggy_json.proofs.reading.rearranged.mark_lists.Goals.{then-passed-len-via-then-passed-len, then-passed-len-via-else-passed-len+then-not-mark_list, then-is_some+else-passed-len+else-not-mark_list, else-is_some}
 

@@ -3,7 +3,7 @@ use Rattle.std.specs.Option.{option_map}
 use Rattle.daggy_base.specs.FromSlots.{has_end}
 use Rattle.daggy_base.specs.Orders.{numbers_of}
 use Rattle.daggy_json.specs.Found.{edge_of, chosen}
-use Rattle.daggy_json.proofs.Marking.{ListsSoFar}
+use Rattle.daggy_json.proofs.MarkedLists.{ListsSoFar}
 use Rattle.daggy_json.proofs.reading.rearranged.mark_lists.Given as goal
 
 abbrev pub invariant-loop-n : goal.invariant-loop-n

@@ -1,7 +1,7 @@
 use Rattle.std.proofs.Common.{◌≡◌, ◌<◌, None, length, get_or, sym, ap, ◌∙◌, arith, rules}
 use Rattle.std.proofs.lemmas.List.{get_or_read}
 use Rattle.std.specs.Vec.Iter.{into_iter_items}
-use Rattle.daggy_json.proofs.Placing.{none_left, counted_on, starts_at, hole_placed, weight_placed, placed_whole}
+use Rattle.daggy_json.proofs.PlacedSlots.{none_left, counted_on, starts_at, hole_placed, weight_placed, placed_whole}
 use Rattle.daggy_json.proofs.reading.weights.place_weights.Goals as goal
 use Rattle.daggy_json.proofs.reading.weights.place_weights.Goals.{else-passed-len-via-then-passed-len+else-index-len, else-passed-len-via-else-passed-len}
 

@@ -1,6 +1,6 @@
 use Rattle.std.proofs.Common.{◌≡◌, ◌-◌, length}
 use Rattle.std.specs.Vec.Iter.{into_iter_items, into_iter_len}
-use Rattle.daggy_json.proofs.Placing.{Placed}
+use Rattle.daggy_json.proofs.PlacedSlots.{Placed}
 use Rattle.daggy_json.proofs.reading.weights.place_weights.Given as goal
 
 abbrev pub invariant-slots : goal.invariant-slots

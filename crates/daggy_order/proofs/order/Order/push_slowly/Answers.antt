@@ -9,7 +9,7 @@ invariant_of-self g c =
 
 pub invariant_of-self-then-i-self : goal.invariant_of-self-then-i-self
 invariant_of-self-then-i-self g c =
-    let roomy = tailed_roomy c.self.invariant c.reserve.new.self.nodes c.reserve.new.self.capacity c.in_ok-self-inside.field-0 c.reserve.ensures.same c.in_ok-self-inside.ensures.room c.reserve.ensures.larger in
+    let roomy = tailed_roomy c.self.invariant c.reserve.new.self.nodes c.reserve.new.self.capacity c.in_ok-self-inside.field-0 c.reserve.ensures.same c.in_ok-self-inside.ensures.index_bound c.reserve.ensures.larger in
     tailed_more roomy (c.self.inside.tail.count + 1) refl (omega (arith, c.if-i-self.true, c.index-i.ensures.value, c.requires.real)) (omega (arith, c.if-i-self.true, c.in_ok-self-inside.ensures.ok))
 
 pub returns-then-i-self-clause-ok : goal.returns-then-i-self-clause-ok

@@ -16,7 +16,7 @@ overflow_add-index g c =
 pub invariant_of-self-else-self-gt0 : goal.invariant_of-self-else-self-gt0
 invariant_of-self-else-self-gt0 g c =
     let n : ℕ = g.Ix.IndexType.number c.args.n in
-    tailed_after c.self.invariant c.remove.new.self.nodes c.remove.new.self.capacity c.settle-self-inside.result.from c.settle-self-inside.result.count c.settle-self-inside.result.room c.settle-self-inside.ensures.count c.settle-self-inside.ensures.room (omega (arith, c.settle-self-inside.ensures.from)) (omega (arith, c.settle-self-inside.ensures.from, c.self.invariant.real)) (λ k m.
+    tailed_after c.self.invariant c.remove.new.self.nodes c.remove.new.self.capacity c.settle-self-inside.result.from c.settle-self-inside.result.count c.settle-self-inside.result.index_bound c.settle-self-inside.ensures.count c.settle-self-inside.ensures.index_bound (omega (arith, c.settle-self-inside.ensures.from)) (omega (arith, c.settle-self-inside.ensures.from, c.self.invariant.real)) (λ k m.
     let P : List ℕ → Type 0 = λ z. Mem k z in
     inl (subst P c.settle-self-inside.ensures.nodes (filter_mem (λ x. not (eqb x n)) c.settle-self-inside.new.self.nodes k (subst P c.remove.ensures m)).0))
 

@@ -4,7 +4,7 @@ use Rattle.daggy_base.specs.Graph.{slot}
 use Rattle.daggy_base.specs.Removal.{without, renamed}
 use Rattle.std.specs.List.{Contains, filter_map}
 use Rattle.daggy_base.proofs.Lists.{mem_contains, contains_mem}
-use Rattle.daggy_order.proofs.Naming.{slot_read, names_to, named_start, named_end, named_past, named_step, named_gone, name_free}
+use Rattle.daggy_order.proofs.RenumberedNodes.{slot_read, names_to, named_start, named_end, named_past, named_step, named_gone, name_free}
 use Rattle.daggy_order.proofs.order.Order.rename_all.Goals as goal
 use Rattle.daggy_order.proofs.order.Order.rename_all.Goals.{then-holds+in-Some, then-holds+in-None, else-holds}
 

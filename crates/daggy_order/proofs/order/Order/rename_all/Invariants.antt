@@ -1,6 +1,6 @@
 use Rattle.std.proofs.Common.{◌≡◌}
 use Rattle.std.specs.List.{filter_map}
-use Rattle.daggy_order.proofs.Naming.{names_to}
+use Rattle.daggy_order.proofs.RenumberedNodes.{names_to}
 use Rattle.daggy_order.proofs.order.Order.rename_all.Given as goal
 
 abbrev pub invariant-nodes : goal.invariant-nodes

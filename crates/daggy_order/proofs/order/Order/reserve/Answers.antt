@@ -7,4 +7,4 @@ invariant_of-self g c =
 
 pub invariant_of-self-2 : goal.invariant_of-self-2
 invariant_of-self-2 g c =
-    tailed_roomy c.self.invariant c.reserve.new.self.nodes c.reserve.new.self.capacity c.in_ok-self-inside.field-0 c.reserve.ensures.same c.in_ok-self-inside.ensures.room c.reserve.ensures.larger
+    tailed_roomy c.self.invariant c.reserve.new.self.nodes c.reserve.new.self.capacity c.in_ok-self-inside.field-0 c.reserve.ensures.same c.in_ok-self-inside.ensures.index_bound c.reserve.ensures.larger

@@ -1,6 +1,6 @@
 use Rattle.std.proofs.Common.{◌≡◌, ◌+◌, ◌<◌, ◌≤◌, ℕ, List, ◌++◌, ◌∙◌, sym, subst, arith}
 use Rattle.std.proofs.lemmas.Bool.{false≢true}
-use Rattle.daggy_base.proofs.Going.{reaches_stays}
+use Rattle.daggy_base.proofs.SearchProgress.{reaches_stays}
 use Rattle.daggy_order.specs.Ordered.{IsOrderOf, IsParted, place, stretch, edges_from}
 use Rattle.daggy_base.proofs.Lists.{Mem, contains_mem, mem_contains}
 use Rattle.std.specs.List.{range_with_len}
@@ -28,7 +28,7 @@ pub invariant_of-order : goal.invariant_of-order
 invariant_of-order g c =
     let ord = c.order_written.ensures.ordered in
     let old = c.requires.ordered in
-    tailed_bare g.Ix.IndexType.greatest c.order_written.new.written.nodes c.order_written.new.written.capacity c.settle-order-inside.result.from c.settle-order-inside.result.count c.settle-order-inside.result.room c.settle-order-inside.ensures.count c.settle-order-inside.ensures.room (omega (arith, c.settle-order-inside.ensures.from, c.order.invariant.real)) (λ k m.
+    tailed_bare g.Ix.IndexType.greatest c.order_written.new.written.nodes c.order_written.new.written.capacity c.settle-order-inside.result.from c.settle-order-inside.result.count c.settle-order-inside.result.index_bound c.settle-order-inside.ensures.count c.settle-order-inside.ensures.index_bound (omega (arith, c.settle-order-inside.ensures.from, c.order.invariant.real)) (λ k m.
     let held = contains_mem c.args.order.now k ((old.exact k).1 ((ord.exact k).0 (mem_contains c.order_written.new.written.nodes k m))) in
     let P : List ℕ → Type 0 = λ z. Mem k z in
     omega (arith, c.settle-order-inside.ensures.from, high c.order.invariant k (subst P (sym c.order.view_is) held)))

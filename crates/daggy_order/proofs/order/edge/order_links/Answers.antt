@@ -7,7 +7,7 @@ use Rattle.daggy_base.specs.Graph.{HasNode}
 use Rattle.daggy_base.specs.Path.{AreJoined, Reaches}
 use Rattle.daggy_order.specs.Ordered.{place, stretch}
 use Rattle.daggy_order.specs.Links.{IsMoved, StandBefore}
-use Rattle.daggy_order.proofs.Reordering.{stands_in, ascending, placed, no_earlier, stood_before, same_node, between, found_before, new_order, new_before, new_parted}
+use Rattle.daggy_order.proofs.OrderEdgeResult.{stands_in, ascending, placed, no_earlier, stood_before, same_node, between, found_before, new_order, new_before, new_parted}
 use Rattle.daggy_order.proofs.order.edge.order_links.Goals as goal
 
 pub index-low-requires : goal.index-low-requires

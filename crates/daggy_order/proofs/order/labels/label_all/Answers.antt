@@ -1,7 +1,7 @@
 use Rattle.std.proofs.Common.{◌^◌, ◌<◌, ℕ, List, [], sym, ap, ◌∙◌, arith, append-nil}
 use Rattle.daggy_base.specs.Cursor.{first_of}
-use Rattle.daggy_order.specs.Links.{IsRun}
-use Rattle.daggy_order.proofs.Ascending.{asc_lower, asc_higher}
+use Rattle.daggy_order.specs.Links.{IsSegment}
+use Rattle.daggy_order.proofs.AscendingLabels.{asc_lower, asc_higher}
 use Rattle.daggy_order.proofs.order.labels.label_all.Goals as goal
 
 pub number-requires : goal.number-requires
@@ -10,7 +10,7 @@ number-requires g c =
     let fits = c.gap_between-gap.ensures.fits some in
     let E : ℕ = g.Ix.IndexType.greatest in
     let nodes : List ℕ = c.args.links.now.nodes in
-    let whole : IsRun E nodes c.first-first.result c.len-count.result [] nodes [] = record {
+    let whole : IsSegment E nodes c.first-first.result c.len-count.result [] nodes [] = record {
       is = sym (append-nil nodes);
       counted = sym c.len-count.ensures.value;
       begins = c.first-first.ensures ∙ ap (λ (z : List ℕ). first_of E z) (sym (append-nil nodes));
@@ -29,7 +29,7 @@ returns g c =
     let fits = c.gap_between-gap.ensures.fits some in
     let E : ℕ = g.Ix.IndexType.greatest in
     let nodes : List ℕ = c.args.links.now.nodes in
-    let whole : IsRun E nodes c.first-first.result c.len-count.result [] nodes [] = record {
+    let whole : IsSegment E nodes c.first-first.result c.len-count.result [] nodes [] = record {
       is = sym (append-nil nodes);
       counted = sym c.len-count.ensures.value;
       begins = c.first-first.ensures ∙ ap (λ (z : List ℕ). first_of E z) (sym (append-nil nodes));

@@ -1,8 +1,8 @@
 use Rattle.std.proofs.Common.{◌≡◌, ◌+◌, ◌^◌, ◌<◌, ℕ, List, [], ◌∷◌, length, get_or, set, subst, sym, ap, inl, refl, ◌∙◌, arith}
 use Rattle.std.proofs.lemmas.List.{get_or_read, get_or-set_other}
 use Rattle.daggy_base.proofs.Lists.{Mem, mem_right, unique_from_distinct, mem_contains}
-use Rattle.daggy_order.specs.Links.{IsAscending}
-use Rattle.daggy_order.proofs.Ascending.{last_labelled, last_in}
+use Rattle.daggy_order.specs.Links.{LabelsAscend}
+use Rattle.daggy_order.proofs.AscendingLabels.{last_labelled, last_in}
 use Rattle.daggy_order.proofs.order.labels.label_last.Goals as goal
 use Rattle.daggy_order.proofs.order.labels.label_last.Goals.{then-len-eq1, else-len-eq1}
 
@@ -33,7 +33,7 @@ returns-then-low-clause-ascending g c =
           let in_labels : w.index.result < length labels = omega (arith, last, w.index.ensures.value, c.args.labels.now.ok.0) in
           let low_is : c.if-len-eq1.low ≡ get_or labels c.args.last 0 = w.low-is ∙ (get_or_read labels _ _ in_labels w.index-else-len-eq1.ensures 0 ∙ ap (λ z. get_or labels z 0) w.index.ensures.value) in
           let once = unique_from_distinct (g.Ix.IndexType.greatest ∷ c.args.links.now.nodes) c.len.ensures.distinct in
-          let Q : ℕ → Type 0 = λ z. IsAscending (set labels z (c.if-len-eq1.low + 4294967296)) 0 c.args.links.now.nodes (2 ^ 64) in
+          let Q : ℕ → Type 0 = λ z. LabelsAscend (set labels z (c.if-len-eq1.low + 4294967296)) 0 c.args.links.now.nodes (2 ^ 64) in
           subst Q (sym c.index-then-low.ensures.value) (last_labelled g.Ix.IndexType.greatest b once.1 once.0 more (omega (arith, here, c.args.labels.now.ok.0)) (c.if-len-eq1.low + 4294967296) (omega (arith, low_is)) (omega (arith, c.if-low.true)))
           )
     ]

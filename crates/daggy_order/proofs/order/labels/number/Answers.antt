@@ -1,9 +1,9 @@
 use Rattle.std.proofs.Common.{rules, ◌≡◌, ◌+◌, ◌*◌, ◌^◌, ◌<◌, ℕ, List, ◌++◌, ◌∷◌, length, sym, ap, subst, ◌∙◌, refl, arith, append_assoc}
 use Rattle.std.proofs.lemmas.Nat.{column_fits}
 use Rattle.daggy_base.proofs.Lists.{Mem, Unique, mem_left, mem_right, mem_contains, unique_from_distinct, unique_right}
-use Rattle.daggy_order.specs.Links.{IsAscending}
+use Rattle.daggy_order.specs.Links.{LabelsAscend}
 use Rattle.daggy_order.proofs.Sorted.{unique_left}
-use Rattle.daggy_order.proofs.Ascending.{numbers_none, node_in, numbers_more, all_numbered}
+use Rattle.daggy_order.proofs.AscendingLabels.{numbers_none, node_in, numbers_more, all_numbered}
 use Rattle.daggy_order.proofs.order.labels.number.Goals as goal
 
 mul_more : (a i : ℕ) → a * (i + 1) ≡ a * i + a
@@ -64,7 +64,7 @@ returns-clause-ascending g c =
     let s = c.run.invariant.2 before run behind r in
     let ended : c.run._i ≡ c.args.count = omega (arith, c.run-test.false, c.run.auto._i-end) in
     let all : length run ≡ c.run._i = r.counted ∙ sym ended in
-    let P : ℕ → Type 0 = λ z. IsAscending c.run.labels.items c.args.low run (z + 1) in
+    let P : ℕ → Type 0 = λ z. LabelsAscend c.run.labels.items c.args.low run (z + 1) in
     subst P (c.run.invariant.0 ∙ ap (λ z. c.args.low + c.args.gap * z) ended) (all_numbered s all)
 
 pub returns-clause-others : goal.returns-clause-others

@@ -2,8 +2,8 @@ use Rattle.std.proofs.Common.{Vec, Global, ◌≡◌, ◌≢◌, ◌+◌, ◌*�
 use Rattle.std.proofs.lemmas.Bool.{cases_eq}
 use Rattle.std.proofs.lemmas.List.{get_or_read}
 use Rattle.daggy_base.proofs.Lists.{Mem, mem_left, mem_right, contains_mem, mem_contains, unique_from_distinct}
-use Rattle.daggy_order.specs.Links.{IsAscending}
-use Rattle.daggy_order.proofs.Ascending.{gap_a, gap_run, gap_low, gap_after, gap_high, gap_more, gap_filled}
+use Rattle.daggy_order.specs.Links.{LabelsAscend}
+use Rattle.daggy_order.proofs.AscendingLabels.{gap_a, gap_run, gap_low, gap_after, gap_high, gap_more, gap_filled}
 use Rattle.daggy_order.proofs.order.labels.number_window.Goals as goal
 
 pub index-low-requires : goal.index-low-requires
@@ -50,7 +50,7 @@ returns-then-size-gap-clause-ascending g c =
     let others = c.number.ensures.others (s.before ++ c.args.a ∷ []) s.run s.behind (gap_run s) in
     let once = unique_from_distinct (E ∷ c.args.links.now.nodes) c.len-size-end.ensures.distinct in
     let mid : ℕ = c.index-low.result.now + c.gap_between-gap.result * c.window.size in
-    let P : ℕ → Type 0 = λ z. IsAscending c.number.new.labels.items z s.run (mid + 1) in
+    let P : ℕ → Type 0 = λ z. LabelsAscend c.number.new.labels.items z s.run (mid + 1) in
     λ _. gap_filled s c.number.new.labels.items mid c.label_or_end-high.result once.1 (subst P low_is run) (λ k d. others k (λ m. d (contains_mem s.run k m)) ∙ ap (λ (v : Vec ℕ Global). get_or v.items k 0) c.window.invariant.0) (c.gap_between-gap.ensures.fits c.if-gap-gt0.true) (λ is. omega (arith, c.label_or_end-high.ensures.end is)) at_node once.0
 
 pub returns-then-size-gap-clause-others : goal.returns-then-size-gap-clause-others

@@ -5,7 +5,7 @@ use Rattle.daggy_base.specs.Removal.{without}
 use Rattle.daggy_base.proofs.Lists.{Mem, Unique, mem_left, mem_at, contains_mem, mem_contains, unique_from_distinct}
 use Rattle.daggy_order.specs.Links.{Listed, without_all}
 use Rattle.daggy_order.proofs.Sorted.{unique_cross}
-use Rattle.daggy_order.proofs.Moving.{Moving, moves_none, moves_in, moves_at, moves_absent, moves_more}
+use Rattle.daggy_order.proofs.MovedNodes.{Moving, moves_none, moves_in, moves_at, moves_absent, moves_more}
 use Rattle.daggy_order.proofs.order.moving.move_behind.Goals as goal
 
 -- what stands at a place of a list of differing elements stands not before it
@@ -94,11 +94,11 @@ put_behind-requires-clause-numbered g c =
     let in_old : Mem n c.args.links.now.nodes = subst O (sym h.is) (mem_left h.before (c.args.a ∷ h.behind) n in_before) in
     let fresh = not_taken c.args.nodes.now c.nodes.i n (unique_from_distinct c.args.nodes.now c.requires.distinct) c.nodes-test.true c.index-nodes-i.is in
     let s = c.nodes.invariant.1 h.before h.behind h.is h.stand in
-    omega (arith, c.len-count.ensures.within n (mem_contains c.args.links.now.nodes n in_old), c.nodes.invariant.0, ap (λ (z : Listed). z.room) c.remove.ensures)
+    omega (arith, c.len-count.ensures.within n (mem_contains c.args.links.now.nodes n in_old), c.nodes.invariant.0, ap (λ (z : Listed). z.index_bound) c.remove.ensures)
 
 pub nodes-preserved : goal.nodes-preserved
 nodes-preserved g c = (
-  c.put_behind.ensures.room ∙ (ap (λ (z : Listed). z.room) c.remove.ensures ∙ c.nodes.invariant.0),
+  c.put_behind.ensures.index_bound ∙ (ap (λ (z : Listed). z.index_bound) c.remove.ensures ∙ c.nodes.invariant.0),
   λ before behind is stand.
       let n : ℕ = c.index-nodes-i.result in
       let U : List ℕ → Type 0 = λ z. Unique z in
@@ -120,5 +120,5 @@ returns g c =
           let s = c.nodes.invariant.1 before behind is stand in
           let all : take c.nodes.i c.args.nodes.now ≡ c.args.nodes.now = take_all c.nodes.i c.args.nodes.now (omega (arith, c.nodes-test.false)) in
           s.is ∙ ap (λ (z : List ℕ). without_all z before ++ c.args.a ∷ (z ++ behind)) all;
-      room = c.nodes.invariant.0;
+      index_bound = c.nodes.invariant.0;
     }

@@ -5,9 +5,9 @@ use Rattle.daggy_order.proofs.Sorted.{distinct_from_unique}
 use Rattle.daggy_base.specs.Graph.{out_list}
 use Rattle.daggy_base.specs.Path.{Reaches}
 use Rattle.daggy_base.specs.Cursor.{first_of}
-use Rattle.daggy_base.proofs.Reading.{below_bound}
-use Rattle.daggy_base.proofs.Searching.{starts, edge_here, popped_here, child_low, room_here, child_found, moves_on, pushes, looked_once, room_marks}
-use Rattle.daggy_order.proofs.Bounded.{Below, Beyond, finds_first, finds_room, finds_more, few_below, looked_below, missed, exactly, child_placed}
+use Rattle.daggy_base.proofs.OutEdgesRead.{below_bound}
+use Rattle.daggy_base.proofs.SearchState.{starts, edge_here, popped_here, child_low, room_here, child_found, moves_on, pushes, looked_once, room_marks}
+use Rattle.daggy_order.proofs.BoundedSearch.{Below, Beyond, finds_first, finds_room, finds_more, few_below, looked_below, missed, exactly, child_placed}
 use Rattle.daggy_order.proofs.order.search.reaches_below.Goals as goal
 
 pub mark-requires : goal.mark-requires
@@ -34,7 +34,7 @@ returns-then-len-eq0-clause-found g c =
     let at_end : g.Ix.IndexType.number c.steps.e ≡ g.Ix.IndexType.greatest = cc in
     let f = c.steps.invariant.1 in
     let is = exactly c.requires.well_formed c.args.labels.now c.args.limit (g.Ix.IndexType.number c.args.to) c.requires.ascending c.steps.invariant.0 at_end c.if-len-eq0.true c.requires.limit_is in (
-      omega (arith, f.fits, f.room),
+      omega (arith, f.fits, f.capacity),
       (distinct_from_unique (take c.steps.count c.steps.found) f.once, λ n. (λ h. (is n).0 ((f.exact n).1 (contains_mem (take c.steps.count c.steps.found) n h)), λ h. mem_contains (take c.steps.count c.steps.found) n ((f.exact n).0 ((is n).1 h)))),
     )
 
@@ -93,7 +93,7 @@ write-requires-then-not-is_marked-2 g c =
     let here : g.Ix.IndexType.number c.steps.e ≢ g.Ix.IndexType.greatest = λ h. c.if-index-end.false cc in
     let unseen : get_or c.steps.marks (g.Ix.IndexType.number c.look-v.result.0) false ≡ false = cc in
     let f = c.steps.invariant.1 in
-    omega (arith, f.room, finds_room f (g.Ix.IndexType.number c.look-v.result.0) (child_low c.requires.well_formed c.steps.invariant.0 here c.look-v.ensures.gives) unseen)
+    omega (arith, f.capacity, finds_room f (g.Ix.IndexType.number c.look-v.result.0) (child_low c.requires.well_formed c.steps.invariant.0 here c.look-v.ensures.gives) unseen)
 
 pub overflow_add-count : goal.overflow_add-count
 overflow_add-count g c =

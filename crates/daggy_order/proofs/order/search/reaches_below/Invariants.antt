@@ -1,6 +1,6 @@
 use Rattle.std.proofs.Common.{◌+◌, ◌-◌, ◌*◌, length}
 use Rattle.daggy_base.specs.Graph.{edge_count}
-use Rattle.daggy_order.proofs.Bounded.{SearchingBelow, Finding}
+use Rattle.daggy_order.proofs.BoundedSearch.{SearchingBelow, Finding}
 use Rattle.daggy_order.proofs.order.search.reaches_below.Given as goal
 
 abbrev pub invariant-steps : goal.invariant-steps

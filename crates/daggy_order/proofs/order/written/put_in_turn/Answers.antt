@@ -19,9 +19,9 @@ put_last-requires-clause-absent g c =
       | inr b ↦ absurd (omega (arith, c.new.ensures, turn_high c.args.from c.nodes.i n b))
     ]
 
-pub put_last-requires-clause-room : goal.put_last-requires-clause-room
-put_last-requires-clause-room g c =
-    omega (arith, c.new.ensures, c.requires.room, c.nodes-test.true, c.nodes.invariant.1.1.0)
+pub put_last-requires-clause-index_bound : goal.put_last-requires-clause-index_bound
+put_last-requires-clause-index_bound g c =
+    omega (arith, c.new.ensures, c.requires.index_bound, c.nodes-test.true, c.nodes.invariant.1.1.0)
 
 pub nodes-preserved : goal.nodes-preserved
 nodes-preserved g c =
@@ -32,7 +32,7 @@ nodes-preserved g c =
             ∙ (ap (λ (z : List ℕ). z ++ c.new.result ∷ []) c.nodes.invariant.1.0
             ∙ (append_assoc c.args.links.now.nodes (range_with_len c.args.from c.nodes.i) (c.new.result ∷ [])
             ∙ ap (λ (z : List ℕ). c.args.links.now.nodes ++ z) (sym (turn_more c.args.from c.nodes.i more c.new.result refl c.new.ensures)))),
-        (c.put_last.ensures.room ∙ c.nodes.invariant.1.1.0, c.put_last.ensures.sized ∙ c.nodes.invariant.1.1.1),
+        (c.put_last.ensures.index_bound ∙ c.nodes.invariant.1.1.0, c.put_last.ensures.sized ∙ c.nodes.invariant.1.1.1),
       ),
     )
 

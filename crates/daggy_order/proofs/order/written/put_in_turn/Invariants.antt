@@ -7,4 +7,4 @@ abbrev pub invariant-nodes : goal.invariant-nodes
 invariant-nodes g l =
     IsLabelled l.labels.items l.links.nodes
     × ((l.links.nodes ≡ l.fn.links.nodes ++ range_with_len l.from l.i)
-    × ((l.links.room ≡ l.fn.links.room) × (l.labels.len ≡ l.fn.labels.len)))
+    × ((l.links.index_bound ≡ l.fn.links.index_bound) × (l.labels.len ≡ l.fn.labels.len)))

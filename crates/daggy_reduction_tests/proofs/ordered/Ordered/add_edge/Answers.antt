@@ -1,10 +1,10 @@
 use Rattle.std.proofs.Common.{◌≤◌, ap, arith}
 use Rattle.daggy_base.specs.Graph.{node_bound}
-use Rattle.daggy_base.specs.Room.{Room}
+use Rattle.daggy_base.specs.Capacity.{Capacity}
 use Rattle.daggy_order_tests.proofs.Changes.{on_ok, edge_added}
 use Rattle.daggy_reduction_tests.proofs.ordered.Ordered.add_edge.Goals as goal
 
 pub invariant_of-self : goal.invariant_of-self
 invariant_of-self g c =
-    let fits : node_bound c.self.inside.graph.graph ≤ c.order_edge-fine.new.scratch.nodes = omega (arith, ap (λ (z : Room). z.nodes) c.order_edge-fine.ensures.room, c.self.invariant.1) in
+    let fits : node_bound c.self.inside.graph.graph ≤ c.order_edge-fine.new.scratch.nodes = omega (arith, ap (λ (z : Capacity). z.nodes) c.order_edge-fine.ensures.same_capacity, c.self.invariant.1) in
     edge_added c.self.inside.graph.graph c.order_edge-fine.new.source c.add_edge.new.self c.order_edge-fine.new.order _ _ _ c.order_edge-fine.ensures.ordered (c.order_edge-fine.ensures.before c.if-fine.true) fits c.order_edge-fine.ensures.same (on_ok _ _ c.made.ensures c.add_edge.ensures.added)

@@ -1,4 +1,4 @@
-use Rattle.daggy_run.proofs.Walking.{all_left, grows, fewer_left}
+use Rattle.daggy_run.proofs.ListedNeighbors.{all_left, grows, fewer_left}
 use Rattle.daggy_run.proofs.guarded.acyclic.walk_along.Goals as goal
 
 pub edges-init : goal.edges-init

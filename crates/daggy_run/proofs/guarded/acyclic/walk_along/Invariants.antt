@@ -2,7 +2,7 @@ use Rattle.std.proofs.Common.{◌≡◌, ◌++◌, map, length}
 use Rattle.daggy_base.specs.Graph.{pair_of}
 use Rattle.daggy_dag.specs.Walks.{rest_of_walk}
 use Rattle.daggy_run.specs.Steps.{walk_of}
-use Rattle.daggy_run.proofs.Walking.{items_of}
+use Rattle.daggy_run.proofs.ListedNeighbors.{items_of}
 use Rattle.daggy_run.proofs.guarded.acyclic.walk_along.Given as goal
 
 abbrev pub invariant-edges : goal.invariant-edges

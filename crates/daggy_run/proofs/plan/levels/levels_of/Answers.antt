@@ -1,5 +1,5 @@
 use Rattle.std.proofs.Common.{◌≡◌, ◌∙◌, ℕ, List, replicate, sym, ap, subst, arith}
-use Rattle.daggy_run.proofs.Raising.{Leveling, AreInside, resized, zeros_inside, leveling_starts, next_exists, leveling_on, leveling_ends}
+use Rattle.daggy_run.proofs.RaisedNodes.{Leveling, AreInside, resized, zeros_inside, leveling_starts, next_exists, leveling_on, leveling_ends}
 use Rattle.daggy_run.proofs.plan.levels.levels_of.Goals as goal
 
 pub nodes-init : goal.nodes-init

@@ -1,6 +1,6 @@
 use Rattle.std.proofs.Common.{◌≡◌, length, vec_len}
 use Rattle.daggy_base.specs.Graph.{node_bound}
-use Rattle.daggy_run.proofs.Raising.{Leveling, AreInside}
+use Rattle.daggy_run.proofs.RaisedNodes.{Leveling, AreInside}
 use Rattle.daggy_run.proofs.plan.levels.levels_of.Given as goal
 
 abbrev pub invariant-nodes : goal.invariant-nodes

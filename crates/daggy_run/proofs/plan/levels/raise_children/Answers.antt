@@ -1,8 +1,8 @@
 use Rattle.std.proofs.Common.{◌≡◌, ◌≢◌, ◌+◌, ◌∙◌, ℕ, get_or, slice_index, sym, ap, subst, arith}
 use Rattle.std.proofs.lemmas.List.{get_or_read}
-use Rattle.daggy_base.proofs.Reading.{below_bound, has_edge}
+use Rattle.daggy_base.proofs.OutEdgesRead.{below_bound, has_edge}
 use Rattle.daggy_run.specs.Levels.{IsRaised}
-use Rattle.daggy_run.proofs.Raising.{raising_starts, child_low, raising_on, raising_ends, fewer_left}
+use Rattle.daggy_run.proofs.RaisedNodes.{raising_starts, child_low, raising_on, raising_ends, fewer_left}
 use Rattle.daggy_run.proofs.plan.levels.raise_children.Goals as goal
 
 pub index-requires-2 : goal.index-requires-2
@@ -15,7 +15,7 @@ overflow_add-level g c =
     let low = below_bound (g.D.GuardedDag.graph c.args.dag.now).nodes _ c.requires.exists in
     let is : c.index-2.result.now ≡ get_or c.args.levels.now.items c.index.result 0 = get_or_read c.args.levels.now.items c.index.result c.index-2.result.now (omega (arith, low, c.requires.levels, c.args.levels.now.ok.0, c.index.ensures.value)) c.index-2.ensures 0 in
     let at : c.index-2.result.now ≡ slice_index c.args.levels.now.items (g.Ix.IndexType.number c.args.n) = is ∙ ap (slice_index c.args.levels.now.items) c.index.ensures.value in
-    omega (arith, at, c.requires.room)
+    omega (arith, at, c.requires.level_fits)
 
 pub edges-init : goal.edges-init
 edges-init g c =

@@ -1,7 +1,7 @@
 use Rattle.std.proofs.Common.{length}
 use Rattle.daggy_base.specs.declared.index.Direction.TheVariants.{Outgoing}
 use Rattle.daggy_dag.specs.Walks.{rest_of_walk}
-use Rattle.daggy_run.proofs.Raising.{Raising}
+use Rattle.daggy_run.proofs.RaisedNodes.{Raising}
 use Rattle.daggy_run.proofs.plan.levels.raise_children.Given as goal
 
 abbrev pub invariant-edges : goal.invariant-edges

@@ -3,7 +3,7 @@ use Rattle.daggy_base.specs.Removal.{without_all_edges}
 use Rattle.daggy_cells.proofs.States.{state_changed}
 use Rattle.daggy_stable.specs.Stored.{stored_graph}
 use Rattle.daggy_stable.proofs.Stores.{stored_is, Stores-itself}
-use Rattle.daggy_stable.proofs.Removing.{Stores-emptied}
+use Rattle.daggy_stable.proofs.StoredRemoval.{Stores-emptied}
 use Rattle.daggy_stable.proofs.stable_graph.StableDiGraph.clear_edges.Goals as goal
 
 pub invariant_of-self : goal.invariant_of-self

@@ -1,7 +1,7 @@
 use Rattle.std.proofs.Common.{length}
 use Rattle.daggy_base.specs.Graph.{list_at}
 use Rattle.daggy_base.specs.Removal.{Stable}
-use Rattle.daggy_cells.proofs.Isolation.{IsClearing}
+use Rattle.daggy_cells.proofs.IsolatedNode.{IsClearing}
 use Rattle.daggy_stable.proofs.stable_graph.StableDiGraph.clear_front.Given as goal
 
 abbrev pub invariant-front : goal.invariant-front

@@ -2,12 +2,12 @@ use Rattle.std.proofs.Common.{◌≡◌, ◌+◌, true, length, sym, ap, ◌∙�
 use Rattle.std.specs.Option.{option_map}
 use Rattle.std.proofs.lemmas.List.{length-map}
 use Rattle.daggy_base.specs.Graph.{edge_at}
-use Rattle.daggy_base.specs.Taking.{taken_back}
+use Rattle.daggy_base.specs.TakingBack.{with_edge_taken_back}
 use Rattle.daggy_cells.proofs.States.{state_changed}
 use Rattle.daggy_cells.specs.Fields.{plain_edge as stored_edge}
 use Rattle.daggy_stable.specs.Stored.{stored_graph}
 use Rattle.daggy_stable.proofs.Stores.{stored_is, Stores-itself, edges_long}
-use Rattle.daggy_stable.proofs.Removing.{edges_some, ready_code, cell_weight, edge_cut_code, popped, popped_last}
+use Rattle.daggy_stable.proofs.StoredRemoval.{edges_some, ready_code, cell_weight, edge_cut_code, popped, popped_last}
 use Rattle.daggy_stable.proofs.stable_graph.StableDiGraph.cut_edge.Goals as goal
 
 pub unlink-requires : goal.unlink-requires
@@ -44,8 +44,8 @@ returns-clause-value g c =
     cell_weight c.self.invariant c.of_edge.result has _ _ c.unlink.ensures.nodes c.unlink.ensures.edges c.unwrap-x.result reads
     ∙ ap (λ s. option_map (λ z. z.weight) (edge_at s.graph c.of_edge.result)) c.self.view_is ∙ ap (λ z. option_map (λ z. z.weight) (edge_at c.args.self.now.graph z)) c.of_edge.ensures
 
-pub returns-clause-taken : goal.returns-clause-taken
-returns-clause-taken g c =
+pub returns-clause-removed : goal.returns-clause-removed
+returns-clause-removed g c =
     let has = rw (← c.self.view_is, ← c.of_edge.ensures) at c.requires.exists in
     let end = g.Ix.IndexType.greatest in
     let was = stored_graph end c.self.inside.nodes.items c.self.inside.edges.items c.self.inside.first_vacant_node c.self.inside.first_vacant_edge in
@@ -53,5 +53,5 @@ returns-clause-taken g c =
     let same : length c.unlink.new.edges.items ≡ length c.self.inside.edges.items = sym (length-map c.unlink.new.edges.items stored_edge) ∙ ap length c.unlink.ensures.edges ∙ length-map c.self.inside.edges.items stored_edge in
     let left = c.pop.ensures.rest ∙ popped c.unlink.new.edges.items c.of_edge.result _ (omega (arith, last, same)) in
     let stored = edge_cut_code c.self.invariant c.of_edge.result has _ _ c.unlink.ensures.nodes c.unlink.ensures.edges c.unlink.ensures.links last in
-    state_changed _ was _ _ (λ h. taken_back true h (g.Ix.IndexType.number c.args.e)) c.self.view_is
-    (ap (λ l. stored_graph end c.unlink.new.nodes.items l c.self.inside.first_vacant_node c.self.inside.first_vacant_edge) left ∙ stored_is stored ∙ ap (taken_back true was) c.of_edge.ensures)
+    state_changed _ was _ _ (λ h. with_edge_taken_back true h (g.Ix.IndexType.number c.args.e)) c.self.view_is
+    (ap (λ l. stored_graph end c.unlink.new.nodes.items l c.self.inside.first_vacant_node c.self.inside.first_vacant_edge) left ∙ stored_is stored ∙ ap (with_edge_taken_back true was) c.of_edge.ensures)

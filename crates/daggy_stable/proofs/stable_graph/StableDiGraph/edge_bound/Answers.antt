@@ -2,7 +2,7 @@ use Rattle.std.proofs.Common.{length, sym, ap, ◌∙◌, arith}
 use Rattle.daggy_base.specs.Graph.{edge_bound}
 use Rattle.daggy_stable.specs.Stored.{plain_edge}
 use Rattle.daggy_stable.proofs.Stores.{edges_long}
-use Rattle.daggy_stable.proofs.Scanning.{plain_some, back_start, back_step, back_found, back_all}
+use Rattle.daggy_stable.proofs.ListSearches.{plain_some, back_start, back_step, back_found, back_all}
 use Rattle.daggy_stable.proofs.stable_graph.StableDiGraph.edge_bound.Goals as goal
 
 pub back-init : goal.back-init

@@ -1,7 +1,7 @@
 use Rattle.std.proofs.Common.{Some, not, sym, ap, ◌∙◌}
 use Rattle.std.specs.Option.{option_map}
 use Rattle.daggy_base.specs.Graph.{ends_of}
-use Rattle.daggy_stable.proofs.Reading.{plain_none, plain_ends, edge_got, no_edge_got}
+use Rattle.daggy_stable.proofs.StoredLists.{plain_none, plain_ends, edge_got, no_edge_got}
 use Rattle.daggy_stable.proofs.stable_graph.StableDiGraph.edge_endpoints.Goals as goal
 
 pub returns-then-is_none : goal.returns-then-is_none

@@ -5,8 +5,8 @@ use Rattle.daggy_base.specs.Weights.{with_edge_weight}
 use Rattle.daggy_cells.proofs.States.{state_changed}
 use Rattle.daggy_stable.specs.Stored.{stored_graph}
 use Rattle.daggy_stable.proofs.Stores.{stored_is, Stores-itself, some_is, edge_within, edge_read, cell_of}
-use Rattle.daggy_stable.proofs.Removing.{weight_plain}
-use Rattle.daggy_stable.proofs.Weighing.{edge_weighed}
+use Rattle.daggy_stable.proofs.StoredRemoval.{weight_plain}
+use Rattle.daggy_stable.proofs.StoredWeights.{edge_weighed}
 use Rattle.daggy_stable.proofs.stable_graph.StableDiGraph.edge_mut.Goals as goal
 
 pub unwrap-requires : goal.unwrap-requires

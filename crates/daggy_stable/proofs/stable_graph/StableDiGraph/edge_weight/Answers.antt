@@ -1,7 +1,7 @@
 use Rattle.std.proofs.Common.{sym, ap, ◌∙◌}
 use Rattle.std.specs.Option.{option_map}
-use Rattle.daggy_stable.proofs.Reading.{edge_got, no_edge_got}
-use Rattle.daggy_stable.proofs.Removing.{weight_plain}
+use Rattle.daggy_stable.proofs.StoredLists.{edge_got, no_edge_got}
+use Rattle.daggy_stable.proofs.StoredRemoval.{weight_plain}
 use Rattle.daggy_stable.proofs.stable_graph.StableDiGraph.edge_weight.Goals as goal
 
 pub returns-in-Some : goal.returns-in-Some

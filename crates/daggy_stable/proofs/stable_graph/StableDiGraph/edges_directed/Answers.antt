@@ -2,8 +2,8 @@ use Rattle.std.proofs.Common.{sym, ap, subst, ◌∙◌, arith}
 use Rattle.daggy_base.specs.Cursor.{first_of}
 use Rattle.daggy_base.specs.Graph.{list_at}
 use Rattle.daggy_base.specs.Iterating.{edges_at}
-use Rattle.daggy_stable.specs.Rest.{edges_left, IsOnFullRow}
-use Rattle.daggy_stable.proofs.Listing.{IsOnFullRow-begins, left_begins, left_few}
+use Rattle.daggy_stable.specs.Rest.{edges_left, IsOnFullList}
+use Rattle.daggy_stable.proofs.RestOfList.{IsOnFullList-begins, left_begins, left_few}
 use Rattle.daggy_stable.proofs.stable_graph.StableDiGraph.edges_directed.Goals as goal
 
 pub invariant_of-result : goal.invariant_of-result
@@ -11,7 +11,7 @@ invariant_of-result g c =
     let end = g.Ix.IndexType.greatest in
     let n = g.Ix.IndexType.number c.args.n in
     let first = c.of_edge.ensures ∙ c.first_edge-first.ensures ∙ ap (λ s. first_of end (list_at c.args.dir s.graph n)) (sym c.self.view_is) in
-    subst (λ l. IsOnFullRow end c.args.dir l c.of_edge.result) (sym c.as_slice.ensures.value) (IsOnFullRow-begins c.self.invariant c.args.dir n c.of_edge.result first)
+    subst (λ l. IsOnFullList end c.args.dir l c.of_edge.result) (sym c.as_slice.ensures.value) (IsOnFullList-begins c.self.invariant c.args.dir n c.of_edge.result first)
 
 pub returns-clause-rest : goal.returns-clause-rest
 returns-clause-rest g c =

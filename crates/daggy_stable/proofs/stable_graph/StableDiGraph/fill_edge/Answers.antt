@@ -3,7 +3,7 @@ use Rattle.daggy_base.specs.Adding.{next_slot, next_edge, with_edge}
 use Rattle.daggy_cells.proofs.States.{state_changed}
 use Rattle.daggy_stable.proofs.Stores.{stored_is, Stores-itself}
 use Rattle.daggy_stable.proofs.Changes.{edge_next, node_inside, edge_filled_code}
-use Rattle.daggy_stable.proofs.Removing.{weights_seen}
+use Rattle.daggy_stable.proofs.StoredRemoval.{weights_seen}
 use Rattle.daggy_stable.proofs.stable_graph.StableDiGraph.fill_edge.Goals as goal
 
 pub index-requires : goal.index-requires

@@ -6,7 +6,7 @@ use Rattle.daggy_base.specs.Mapping.{weight_in, with_weight}
 use Rattle.daggy_stable.specs.Stored.{weight_of, plain_edge, stored_graph}
 use Rattle.daggy_stable.proofs.Stores.{nodes_long, edges_long, Stores-empty}
 use Rattle.daggy_base.proofs.SlotLists.{of_slots_descend}
-use Rattle.daggy_stable.proofs.Keeping.{slice_long, slice_few, slice_read, slice_joined}
+use Rattle.daggy_stable.proofs.KeptSlots.{slice_long, slice_few, slice_read, slice_joined}
 use Rattle.daggy_stable.proofs.stable_graph.StableDiGraph.filter_map.Goals as goal
 
 pub slice_bounds-filter_nodes-end : goal.slice_bounds-filter_nodes-end

@@ -7,10 +7,10 @@ use Rattle.daggy_base.specs.Graph.{out_list}
 use Rattle.daggy_base.specs.declared.index.Direction.TheVariants.{Outgoing}
 use Rattle.daggy_cells.specs.Raw.{raw_next}
 use Rattle.daggy_cells.specs.Fields.{nexts_of}
-use Rattle.daggy_cells.proofs.Rows.{IsScan, IsScan-done, IsScan-here, IsScan-step, IsScan-shorter}
+use Rattle.daggy_cells.proofs.LinkedLists.{IsScan, IsScan-done, IsScan-here, IsScan-step, IsScan-shorter}
 use Rattle.daggy_base.proofs.Lists.{slice_get_mapped}
 use Rattle.daggy_stable.proofs.Stores.{nexts_few}
-use Rattle.daggy_stable.proofs.Scanning.{child_is, child_seen, scan_start}
+use Rattle.daggy_stable.proofs.ListSearches.{child_is, child_seen, scan_start}
 use Rattle.daggy_stable.proofs.stable_graph.StableDiGraph.find_edge.Goals as goal
 
 pub along-init : goal.along-init

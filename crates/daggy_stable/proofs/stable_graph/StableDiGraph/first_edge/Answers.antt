@@ -2,7 +2,7 @@ use Rattle.std.proofs.Common.{◌≡◌, ◌<◌, ◌≤◌, length, get_or, not
 use Rattle.daggy_base.specs.Graph.{list_at}
 use Rattle.daggy_base.specs.Cursor.{first_of}
 use Rattle.daggy_stable.proofs.Stores.{node_read, node_beyond, first_listed, none_listed}
-use Rattle.daggy_stable.proofs.Scanning.{none_from, some_from}
+use Rattle.daggy_stable.proofs.ListSearches.{none_from, some_from}
 use Rattle.daggy_stable.proofs.stable_graph.StableDiGraph.first_edge.Goals as goal
 
 pub returns-then-is_none : goal.returns-then-is_none

@@ -4,7 +4,7 @@ use Rattle.daggy_base.specs.Adding.{with_edge}
 use Rattle.daggy_cells.proofs.States.{state_changed}
 use Rattle.daggy_stable.proofs.Stores.{stored_is, Stores-itself, edges_long}
 use Rattle.daggy_stable.proofs.Changes.{node_inside, edge_made_code}
-use Rattle.daggy_stable.proofs.Removing.{weights_seen}
+use Rattle.daggy_stable.proofs.StoredRemoval.{weights_seen}
 use Rattle.daggy_stable.proofs.stable_graph.StableDiGraph.make_edge.Goals as goal
 
 pub invariant_of-self : goal.invariant_of-self
@@ -25,7 +25,7 @@ pub invariant_of-self-2 : goal.invariant_of-self-2
 invariant_of-self-2 g c =
     let a_in = rw (← c.self.view_is) at c.requires.parent in
     let b_in = rw (← c.self.view_is) at c.requires.child in
-    let few : c.self.inside.edge_count < g.Ix.IndexType.greatest = omega (arith, c.requires.room, ap (λ s. edge_count s.graph) c.self.view_is, c.self.invariant.edge_slots.counted) in
+    let few : c.self.inside.edge_count < g.Ix.IndexType.greatest = omega (arith, c.requires.index_left, ap (λ s. edge_count s.graph) c.self.view_is, c.self.invariant.edge_slots.counted) in
     let new : c.new-e.result ≡ length c.self.inside.edges.items = omega (arith, c.new-e.ensures, c.len.ensures, ap length c.reserve.ensures.items) in
     Stores-itself (edge_made_code c.self.invariant _ _ c.args.weight a_in b_in _ _ _ _ c.of_node.ensures c.of_node-2.ensures c.put_first-x.ensures.edge (weights_seen _ _ c.put_first-x.ensures.weights) _ c.put_first-x.ensures.out c.put_first-x.ensures.into
     _ _ new (ap (λ s. s.graph.vacant_edges) c.self.view_is ∙ c.requires.none) few c.reserve.ensures.items c.push_reserved.ensures.items)
@@ -34,7 +34,7 @@ pub returns-clause-added : goal.returns-clause-added
 returns-clause-added g c =
     let a_in = rw (← c.self.view_is) at c.requires.parent in
     let b_in = rw (← c.self.view_is) at c.requires.child in
-    let few : c.self.inside.edge_count < g.Ix.IndexType.greatest = omega (arith, c.requires.room, ap (λ s. edge_count s.graph) c.self.view_is, c.self.invariant.edge_slots.counted) in
+    let few : c.self.inside.edge_count < g.Ix.IndexType.greatest = omega (arith, c.requires.index_left, ap (λ s. edge_count s.graph) c.self.view_is, c.self.invariant.edge_slots.counted) in
     let new : c.new-e.result ≡ length c.self.inside.edges.items = omega (arith, c.new-e.ensures, c.len.ensures, ap length c.reserve.ensures.items) in
     state_changed _ _ _ _ (λ h. with_edge h (g.Ix.IndexType.number c.args.a) (g.Ix.IndexType.number c.args.b) c.args.weight) c.self.view_is
     (stored_is (edge_made_code c.self.invariant _ _ c.args.weight a_in b_in _ _ _ _ c.of_node.ensures c.of_node-2.ensures c.put_first-x.ensures.edge (weights_seen _ _ c.put_first-x.ensures.weights) _ c.put_first-x.ensures.out c.put_first-x.ensures.into

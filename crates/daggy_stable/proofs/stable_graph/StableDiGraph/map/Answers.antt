@@ -3,7 +3,7 @@ use Rattle.daggy_base.specs.Mapping.{MapsSlots, IsMapped, weight_in, with_weight
 use Rattle.daggy_cells.specs.Fields.{firsts_of, nexts_of}
 use Rattle.daggy_stable.specs.Stored.{weight_of, plain_edge, stored_graph}
 use Rattle.daggy_stable.proofs.Stores.{edges_long}
-use Rattle.daggy_stable.proofs.Mapping.{Stores-mapped, IsMapped-stored}
+use Rattle.daggy_stable.proofs.MappedSlots.{Stores-mapped, IsMapped-stored}
 use Rattle.daggy_stable.proofs.stable_graph.StableDiGraph.map.Goals as goal
 
 pub map_edges-requires-clause-few : goal.map_edges-requires-clause-few

@@ -2,7 +2,7 @@ use Rattle.std.proofs.Common.{length, ap, ◌∙◌, arith}
 use Rattle.daggy_base.specs.Graph.{node_bound}
 use Rattle.daggy_stable.specs.Stored.{weight_of}
 use Rattle.daggy_stable.proofs.Stores.{nodes_long}
-use Rattle.daggy_stable.proofs.Scanning.{back_start, back_step, back_found, back_all}
+use Rattle.daggy_stable.proofs.ListSearches.{back_start, back_step, back_found, back_all}
 use Rattle.daggy_stable.proofs.stable_graph.StableDiGraph.node_bound.Goals as goal
 
 pub back-init : goal.back-init

@@ -6,8 +6,8 @@ use Rattle.daggy_cells.proofs.States.{state_changed}
 use Rattle.daggy_stable.specs.Stored.{weight_of, stored_graph}
 use Rattle.daggy_stable.proofs.Stores.{stored_is, Stores-itself, some_is, nodes_long, node_read}
 use Rattle.daggy_stable.proofs.Slots.{slot_inside}
-use Rattle.daggy_stable.proofs.Removing.{node_weight_read}
-use Rattle.daggy_stable.proofs.Weighing.{node_weighed}
+use Rattle.daggy_stable.proofs.StoredRemoval.{node_weight_read}
+use Rattle.daggy_stable.proofs.StoredWeights.{node_weighed}
 use Rattle.daggy_stable.proofs.stable_graph.StableDiGraph.node_mut.Goals as goal
 
 pub invariant_of-self-lent : goal.invariant_of-self-lent

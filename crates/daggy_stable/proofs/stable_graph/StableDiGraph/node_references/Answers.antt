@@ -1,7 +1,7 @@
 use Rattle.std.proofs.Common.{map, arith}
 use Rattle.std.proofs.lemmas.List.{length-map}
 use Rattle.daggy_stable.specs.Stored.{weight_of}
-use Rattle.daggy_stable.proofs.Passing.{numbered_few}
+use Rattle.daggy_stable.proofs.VacantPassed.{numbered_few}
 use Rattle.daggy_stable.proofs.stable_graph.StableDiGraph.node_references.Goals as goal
 
 pub returns-clause-fits : goal.returns-clause-fits

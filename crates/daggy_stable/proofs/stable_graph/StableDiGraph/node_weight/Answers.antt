@@ -1,5 +1,5 @@
 use Rattle.std.proofs.Common.{◌∙◌}
-use Rattle.daggy_stable.proofs.Reading.{node_got, no_node_got}
+use Rattle.daggy_stable.proofs.StoredLists.{node_got, no_node_got}
 use Rattle.daggy_stable.proofs.stable_graph.StableDiGraph.node_weight.Goals as goal
 
 pub returns-in-Some : goal.returns-in-Some

@@ -1,4 +1,4 @@
-use Rattle.daggy_stable.proofs.Removing.{on_some_is, none_not}
+use Rattle.daggy_stable.proofs.StoredRemoval.{on_some_is, none_not}
 use Rattle.daggy_stable.proofs.stable_graph.StableDiGraph.remove_edge.Goals as goal
 
 pub returns-clause-removed : goal.returns-clause-removed

@@ -5,7 +5,7 @@ use Rattle.daggy_cells.proofs.CellLemmas.{called_at}
 use Rattle.daggy_cells.proofs.States.{state_changed}
 use Rattle.daggy_stable.specs.Stored.{stored_graph}
 use Rattle.daggy_stable.proofs.Stores.{stored_is, Stores-itself}
-use Rattle.daggy_stable.proofs.Pairing.{edges_updated, edge_has, edge_stands, edge_seen, edge_weighs}
+use Rattle.daggy_stable.proofs.TwoCells.{edges_updated, edge_has, edge_stands, edge_seen, edge_weighs}
 use Rattle.daggy_stable.proofs.stable_graph.StableDiGraph.update_two_edges.Goals as goal
 
 pub at_edges-requires-clause-first : goal.at_edges-requires-clause-first

@@ -5,7 +5,7 @@ use Rattle.daggy_cells.proofs.CellLemmas.{called_at}
 use Rattle.daggy_cells.proofs.States.{state_changed}
 use Rattle.daggy_stable.specs.Stored.{stored_graph}
 use Rattle.daggy_stable.proofs.Stores.{stored_is, Stores-itself}
-use Rattle.daggy_stable.proofs.Pairing.{nodes_updated, node_has, node_stands, node_seen}
+use Rattle.daggy_stable.proofs.TwoCells.{nodes_updated, node_has, node_stands, node_seen}
 use Rattle.daggy_stable.proofs.stable_graph.StableDiGraph.update_two_nodes.Goals as goal
 
 pub at_nodes-requires-clause-first : goal.at_nodes-requires-clause-first

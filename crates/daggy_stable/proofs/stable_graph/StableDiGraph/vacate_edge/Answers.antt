@@ -5,7 +5,7 @@ use Rattle.daggy_base.specs.Removal.{Stable, without_edge}
 use Rattle.daggy_cells.proofs.States.{state_changed}
 use Rattle.daggy_stable.specs.Stored.{stored_graph}
 use Rattle.daggy_stable.proofs.Stores.{stored_is, Stores-itself}
-use Rattle.daggy_stable.proofs.Removing.{edges_some, ready_code, edge_inside, removed_weight, edge_removed_code}
+use Rattle.daggy_stable.proofs.StoredRemoval.{edges_some, ready_code, edge_inside, removed_weight, edge_removed_code}
 use Rattle.daggy_stable.proofs.stable_graph.StableDiGraph.vacate_edge.Goals as goal
 
 pub unlink-requires : goal.unlink-requires

@@ -1,12 +1,12 @@
 use Rattle.std.proofs.Common.{◌≡◌, [], ap, ◌∙◌, arith}
 use Rattle.daggy_base.specs.declared.index.Direction.{Direction}
 use Rattle.daggy_base.specs.Graph.{node_weight, list_at}
-use Rattle.daggy_base.specs.Removal.{Stable, dropped_node}
+use Rattle.daggy_base.specs.Removal.{Stable, with_node_dropped}
 use Rattle.daggy_cells.proofs.States.{state_changed}
 use Rattle.daggy_stable.specs.Stored.{stored_graph}
 use Rattle.daggy_stable.proofs.Stores.{stored_is, Stores-itself}
 use Rattle.daggy_stable.proofs.Changes.{node_inside}
-use Rattle.daggy_stable.proofs.Removing.{nodes_some, node_dropped_code, node_weight_read}
+use Rattle.daggy_stable.proofs.StoredRemoval.{nodes_some, node_dropped_code, node_weight_read}
 use Rattle.daggy_stable.proofs.stable_graph.StableDiGraph.vacate_node.Goals as goal
 
 pub overflow_sub-self : goal.overflow_sub-self
@@ -34,7 +34,7 @@ returns-clause-dropped g c =
     let was = stored_graph g.Ix.IndexType.greatest c.self.inside.nodes.items c.self.inside.edges.items c.self.inside.first_vacant_node c.self.inside.first_vacant_edge in
     let empty : (d : Direction) → list_at d was c.of_node-link.result ≡ [] = λ d. ap (λ s. list_at d s.graph c.of_node-link.result) c.self.view_is ∙ ap (list_at d c.args.self.now.graph) c.of_node-link.ensures ∙ c.requires.no_edges d in
     let stored = node_dropped_code c.self.invariant c.of_node-link.result has empty _ c.index_mut-x.result.now c.set_first.new.x c.take-weight.new.self c.index.ensures.value c.set_first.ensures c.take-weight.ensures.after in
-    state_changed _ was _ _ (λ h. dropped_node Stable h (g.Ix.IndexType.number c.args.n)) c.self.view_is (stored_is stored ∙ ap (dropped_node Stable was) c.of_node-link.ensures)
+    state_changed _ was _ _ (λ h. with_node_dropped Stable h (g.Ix.IndexType.number c.args.n)) c.self.view_is (stored_is stored ∙ ap (with_node_dropped Stable was) c.of_node-link.ensures)
 
 pub index_mut-x-requires : goal.index_mut-x-requires
 index_mut-x-requires g c =

@@ -2,7 +2,7 @@ use Rattle.std.proofs.Common.{◌≡◌, ◌<◌, ◌+◌, [], ◌∷◌, ◌++�
 use Rattle.std.proofs.lemmas.List.{length-map, get_or-map}
 use Rattle.daggy_cells.proofs.MappingLemmas.{CalledAt-from_step}
 use Rattle.daggy_stable.specs.Stored.{weight_of}
-use Rattle.daggy_stable.proofs.Keeping.{KeptSlots-passed, KeptSlots-called, KeptSlots-done, option_map_same, one_longer}
+use Rattle.daggy_stable.proofs.KeptSlots.{KeptSlots-passed, KeptSlots-called, KeptSlots-done, option_map_same, one_longer}
 use Rattle.daggy_stable.proofs.stable_graph.filter.filter_nodes.Goals as goal
 
 pub each-preserved-in-None : goal.each-preserved-in-None
@@ -14,7 +14,7 @@ each-preserved-in-None g c =
     let read : get_or (map weight_of nodes) c.each.i None ≡ None = get_or-map weight_of nodes c.each.i x None within ∙ ap weight_of (sym c.index-nodes-i.is) ∙ sym c.in-None.ensures.value in
     record {
       callable = c.each.invariant.callable;
-      room = omega (arith, c.keep_node.ensures.capacity, c.each.invariant.room);
+      capacity = omega (arith, c.keep_node.ensures.capacity, c.each.invariant.capacity);
       count = one_longer weight_of c.each.new.cells.items c.keep_node.new.nodes.cells.items None c.keep_node.ensures.weights ∙ ap (λ n. n + 1) c.each.invariant.count;
       stored = c.keep_node.ensures.stored;
       kept = KeptSlots-passed (goal.F-step g) g.Ix.IndexType.of (λ w. w) (λ w v. v) c.args.f (map weight_of nodes) c.each.f _ _ c.each.i slots read c.keep_node.ensures.weights c.each.invariant.kept;
@@ -32,7 +32,7 @@ each-preserved g c =
     let called = CalledAt-from_step (goal.F-step g) g.Ix.IndexType.of c.each.f c.each.i _ r c.f-answer.new.self (rw c.new.ensures.value at c.f-answer.ensures) in
     record {
       callable = search of_calls;
-      room = omega (arith, c.keep_node-in-each.ensures.capacity, c.each.invariant.room);
+      capacity = omega (arith, c.keep_node-in-each.ensures.capacity, c.each.invariant.capacity);
       count = one_longer weight_of c.each.new.cells.items c.keep_node-in-each.new.nodes.cells.items r c.keep_node-in-each.ensures.weights ∙ ap (λ n. n + 1) c.each.invariant.count;
       stored = c.keep_node-in-each.ensures.stored;
       kept = KeptSlots-called (goal.F-step g) g.Ix.IndexType.of (λ w. w) (λ w v. v) c.args.f (map weight_of nodes) c.each.f c.f-answer.new.self old _ c.each.i c.in-Some.old.now r slots read called

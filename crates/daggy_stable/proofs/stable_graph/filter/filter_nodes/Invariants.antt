@@ -1,14 +1,14 @@
 use Rattle.std.proofs.Common.{◌≡◌, ◌≤◌, map, length, vec_capacity}
 use Rattle.daggy_stable.specs.Stored.{weight_of}
 use Rattle.daggy_stable.specs.Building.{IsBuilt}
-use Rattle.daggy_stable.proofs.Keeping.{KeptSlots}
+use Rattle.daggy_stable.proofs.KeptSlots.{KeptSlots}
 use Rattle.daggy_stable.proofs.stable_graph.filter.filter_nodes.Given as goal
 
 abbrev pub invariant-each : goal.invariant-each
 invariant-each g l =
     record {
       callable : goal.F-IsAlwaysCallable g l.f;
-      room : length l.nodes ≤ vec_capacity l.new.cells;
+      capacity : length l.nodes ≤ vec_capacity l.new.cells;
       count : length l.new.cells.items ≡ l.i;
       stored : IsBuilt g.Ix.IndexType.greatest l.new l.edges;
       kept : KeptSlots (goal.F-step g) g.Ix.IndexType.of (λ w. w) (λ w v. v) l.fn.f (map weight_of l.nodes) l.f (map weight_of l.new.cells.items) l.i;

@@ -4,7 +4,7 @@ use Rattle.daggy_cells.specs.Raw.{raw_first}
 use Rattle.daggy_cells.specs.Fields.{firsts_of}
 use Rattle.daggy_cells.proofs.MappingLemmas.{CalledAt-from_step}
 use Rattle.daggy_stable.specs.Stored.{weight_of}
-use Rattle.daggy_stable.proofs.Mapping.{MappedSlots-pass, MappedSlots-call, MappedSlots-done, kept_more, kept_all, node_like_links}
+use Rattle.daggy_stable.proofs.MappedSlots.{MappedSlots-pass, MappedSlots-call, MappedSlots-done, kept_more, kept_all, node_like_links}
 use Rattle.daggy_stable.proofs.stable_graph.map.map_nodes.Goals as goal
 
 pub each-preserved-in-None : goal.each-preserved-in-None
@@ -15,7 +15,7 @@ each-preserved-in-None g c =
     let within : c.each.i < length nodes = omega arith in
     record {
       callable = c.each.invariant.callable;
-      room = omega (arith, c.push_reserved.ensures.capacity, c.each.invariant.room);
+      capacity = omega (arith, c.push_reserved.ensures.capacity, c.each.invariant.capacity);
       count = ap length c.push_reserved.ensures.items ∙ length_push c.each.new.items y ∙ ap (λ n. n + 1) c.each.invariant.count;
       mapped = rw c.push_reserved.ensures.items (MappedSlots-pass (goal.F-step g) g.Ix.IndexType.of (λ w. w) (λ w v. v) weight_of weight_of c.args.f nodes c.each.new.items c.each.f c.each.i x y within c.index-nodes-i.is (sym c.in-None.ensures.value) (ap weight_of c.node_like.ensures) c.each.invariant.mapped);
       links = λ dir. ap (firsts_of dir) c.push_reserved.ensures.items ∙ kept_more (raw_first dir) (raw_first dir) nodes c.each.new.items c.each.i x y within c.index-nodes-i.is (ap (raw_first dir) c.node_like.ensures ∙ node_like_links dir x None) (c.each.invariant.links dir);
@@ -31,7 +31,7 @@ each-preserved g c =
     let called = CalledAt-from_step (goal.F-step g) g.Ix.IndexType.of c.each.f c.each.i _ v c.f-weight.new.self (rw c.new.ensures.value at c.f-weight.ensures) in
     record {
       callable = search of_calls;
-      room = omega (arith, c.push_reserved-in-each.ensures.capacity, c.each.invariant.room);
+      capacity = omega (arith, c.push_reserved-in-each.ensures.capacity, c.each.invariant.capacity);
       count = ap length c.push_reserved-in-each.ensures.items ∙ length_push c.each.new.items y ∙ ap (λ n. n + 1) c.each.invariant.count;
       mapped = rw c.push_reserved-in-each.ensures.items (MappedSlots-call (goal.F-step g) g.Ix.IndexType.of (λ w. w) (λ w v. v) weight_of weight_of c.args.f nodes c.each.new.items c.each.f c.each.i x y within c.index-nodes-i.is c.f-weight.new.self c.in-Some.old.now v (sym c.in-Some.ensures.value) (ap weight_of c.node_like-in-each.ensures) called c.each.invariant.mapped);
       links = λ dir. ap (firsts_of dir) c.push_reserved-in-each.ensures.items ∙ kept_more (raw_first dir) (raw_first dir) nodes c.each.new.items c.each.i x y within c.index-nodes-i.is (ap (raw_first dir) c.node_like-in-each.ensures ∙ node_like_links dir x (Some v)) (c.each.invariant.links dir);

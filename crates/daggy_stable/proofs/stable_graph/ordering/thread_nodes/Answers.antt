@@ -3,10 +3,10 @@ use Rattle.std.proofs.lemmas.List.{length-map}
 use Rattle.daggy_base.specs.declared.index.Direction.TheVariants.{Outgoing}
 use Rattle.daggy_base.specs.Orders.{numbers_of}
 use Rattle.daggy_cells.specs.Links.{CanThread}
-use Rattle.daggy_cells.proofs.Ordering.{order_read}
-use Rattle.daggy_cells.proofs.Threading.{CanThread-as_long}
-use Rattle.daggy_stable.proofs.Scanning.{none_from, some_from}
-use Rattle.daggy_stable.proofs.Ordering.{ordering_start, ordering_vacant, ordering_step, ordering_done, order_left, row_is, read_slot, as_many_nodes, as_many_edges}
+use Rattle.daggy_cells.proofs.ListOrders.{order_read}
+use Rattle.daggy_cells.proofs.RethreadedLists.{CanThread-as_long}
+use Rattle.daggy_stable.proofs.ListSearches.{none_from, some_from}
+use Rattle.daggy_stable.proofs.ListOrdersKept.{ordering_start, ordering_vacant, ordering_step, ordering_done, order_left, row_is, read_slot, as_many_nodes, as_many_edges}
 use Rattle.daggy_stable.proofs.stable_graph.ordering.thread_nodes.Goals as goal
 
 pub each-init : goal.each-init

@@ -2,7 +2,7 @@ use Rattle.std.proofs.Common.{◌≡◌, get_or, ◌∙◌, arith}
 use Rattle.daggy_base.specs.declared.index.Direction.TheVariants.{Outgoing, Incoming}
 use Rattle.daggy_cells.specs.Fields.{nexts_of}
 use Rattle.daggy_cells.proofs.RedirectLemmas.{next_is}
-use Rattle.daggy_stable.proofs.Removing.{ready_kept, both_redirected}
+use Rattle.daggy_stable.proofs.StoredRemoval.{ready_kept, both_redirected}
 use Rattle.daggy_stable.proofs.stable_graph.removal.unlink.Goals as goal
 
 pub index-requires : goal.index-requires

@@ -4,7 +4,7 @@ use Rattle.std.proofs.lemmas.Bool.{false≢true, cases_Bool}
 use Rattle.daggy_base.specs.Graph.{node_weight}
 use Rattle.daggy_base.specs.Removal.{without}
 use Rattle.daggy_base.proofs.Lists.{mem_contains}
-use Rattle.daggy_dag.proofs.Staying.{stays_to, stays_start, stays_end, stays_past, stays_not}
+use Rattle.daggy_dag.proofs.OrderOfExisting.{stays_to, stays_start, stays_end, stays_past, stays_not}
 use Rattle.daggy_dag.proofs.acyclic.stable.map.keep_existing.Goals as goal
 use Rattle.daggy_dag.proofs.acyclic.stable.map.keep_existing.Goals.{then-holds+then-not-contains_node, else-holds, else-holds-via-then-holds+else-not-contains_node, else-holds-via-else-holds}
 

@@ -1,7 +1,7 @@
 use Rattle.std.proofs.Common.{◌≡◌}
 use Rattle.std.specs.List.{filter}
 use Rattle.daggy_base.specs.Graph.{node_weight}
-use Rattle.daggy_dag.proofs.Staying.{stays_to}
+use Rattle.daggy_dag.proofs.OrderOfExisting.{stays_to}
 use Rattle.daggy_dag.proofs.acyclic.stable.map.keep_existing.Given as goal
 
 abbrev pub invariant-nodes : goal.invariant-nodes

@@ -1,6 +1,6 @@
 use Rattle.std.proofs.Common.{ap, arith}
 use Rattle.daggy_base.specs.Graph.{node_bound}
-use Rattle.daggy_base.proofs.Nodes.{bound_low}
+use Rattle.daggy_base.proofs.PathsWithNode.{bound_low}
 use Rattle.daggy_dag.proofs.acyclic.visit.AcyclicNodeIndexable.node_bound.Goals as goal
 
 pub returns-clause-fits : goal.returns-clause-fits

@@ -1,6 +1,6 @@
 use Rattle.std.proofs.Common.{◌≡◌}
 use Rattle.daggy_base.specs.declared.index.Direction.TheVariants.{Outgoing}
-use Rattle.daggy_dag.proofs.Walking.{steps, falls}
+use Rattle.daggy_dag.proofs.WalkSteps.{steps, falls}
 use Rattle.daggy_dag.proofs.acyclic.walkers.ChildrenWalkerAcyclic.walk_next.Goals as goal
 
 pub returns : goal.returns

@@ -1,5 +1,5 @@
-use Rattle.daggy_dag.proofs.Kept.{stays_so}
-use Rattle.daggy_dag.proofs.Writing.{edge_written}
+use Rattle.daggy_dag.proofs.OrderKept.{stays_so}
+use Rattle.daggy_dag.proofs.OrderWithWeights.{edge_written}
 use Rattle.daggy_dag.proofs.acyclic.weights.AcyclicIndexMutEdgeIndex.index_mut.Goals as goal
 
 pub invariant_of-self-lent : goal.invariant_of-self-lent

@@ -1,7 +1,7 @@
 use Rattle.std.proofs.Common.{sym, subst}
 use Rattle.daggy_base.specs.Graph.{HasNode}
-use Rattle.daggy_dag.proofs.Kept.{stays_so}
-use Rattle.daggy_dag.proofs.Writing.{node_written}
+use Rattle.daggy_dag.proofs.OrderKept.{stays_so}
+use Rattle.daggy_dag.proofs.OrderWithWeights.{node_written}
 use Rattle.daggy_dag.proofs.acyclic.weights.AcyclicIndexMutNodeIndex.index_mut.Goals as goal
 
 pub invariant_of-self-lent : goal.invariant_of-self-lent

@@ -2,8 +2,8 @@ use Rattle.std.proofs.Common.{◌≡◌, ◌∷◌, ◌<◌, length, get_or, sym
 use Rattle.daggy_cells.specs.Raw.{raw_next}
 use Rattle.daggy_cells.specs.Referring.{referred}
 use Rattle.daggy_cells.specs.Fields.{plain}
-use Rattle.daggy_cells.specs.Rest.{edges_left, IsOnRow}
-use Rattle.daggy_cells.proofs.RestLemmas.{edges_past, IsOnRow-step, at_index, edges_step}
+use Rattle.daggy_cells.specs.Rest.{edges_left, IsOnList}
+use Rattle.daggy_cells.proofs.RestLemmas.{edges_past, IsOnList-step, at_index, edges_step}
 use Rattle.daggy_graph.proofs.graph.lists.EdgesIterator.next.Goals as goal
 
 pub returns-then-i-self-clause-steps : goal.returns-then-i-self-clause-steps
@@ -15,7 +15,7 @@ invariant_of-self g c =
     let within : c.self.inside.next < length c.self.inside.edges.now = omega (arith, c.if-i-self.false, c.index-i.ensures.value) in
     let reads : c.index-self-i.result ≡ get_or c.self.inside.edges.now c.self.inside.next c.index-self-i.result = c.index-self-i.is ∙ ap (λ z. get_or c.self.inside.edges.now z c.index-self-i.result) c.index-i.ensures.value in
     let next : c.next-self-inside.result ≡ raw_next c.self.inside.dir c.index-self-i.result = c.next-self-inside.ensures ∙ ap (raw_next c.self.inside.dir) (sym c.index-self-i.is) in
-    subst (IsOnRow g.Ix.IndexType.greatest c.self.inside.dir c.self.inside.edges.now) (sym next) (IsOnRow-step _ _ _ _ c.index-self-i.result within reads c.self.invariant)
+    subst (IsOnList g.Ix.IndexType.greatest c.self.inside.dir c.self.inside.edges.now) (sym next) (IsOnList-step _ _ _ _ c.index-self-i.result within reads c.self.invariant)
 
 pub returns-clause-steps : goal.returns-clause-steps
 returns-clause-steps g c =

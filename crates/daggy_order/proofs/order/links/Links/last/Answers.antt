@@ -1,6 +1,6 @@
 use Rattle.std.proofs.Common.{◌∙◌, ap}
 use Rattle.daggy_order.specs.Links.{Listed}
-use Rattle.daggy_order.proofs.Linking.{last_is}
+use Rattle.daggy_order.proofs.LinkedNodes.{last_is}
 use Rattle.daggy_order.proofs.order.links.Links.last.Goals as goal
 
 pub returns : goal.returns

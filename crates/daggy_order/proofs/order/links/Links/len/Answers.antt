@@ -1,7 +1,7 @@
 use Rattle.std.proofs.Common.{ℕ, ◌<◌, ◌∙◌, sym, ap, subst, length, arith}
 use Rattle.std.specs.List.{Contains}
 use Rattle.daggy_order.specs.Links.{Listed}
-use Rattle.daggy_order.proofs.Linking.{length_walk, few}
+use Rattle.daggy_order.proofs.LinkedNodes.{length_walk, few}
 use Rattle.daggy_order.proofs.order.links.Links.len.Goals as goal
 
 pub returns-clause-value : goal.returns-clause-value
@@ -10,7 +10,7 @@ returns-clause-value g c =
 
 pub returns-clause-within : goal.returns-clause-within
 returns-clause-within g c =
-    let P : Listed → Type 0 = λ z. (n : ℕ) → Contains z.nodes n → n < z.room in
+    let P : Listed → Type 0 = λ z. (n : ℕ) → Contains z.nodes n → n < z.index_bound in
     subst P c.self.view_is c.self.invariant.within
 
 pub returns-clause-small : goal.returns-clause-small

@@ -1,13 +1,13 @@
 use Rattle.std.proofs.Common.{◌≡◌, ℕ, ◌∙◌, sym, ap, subst, refl, arith, get_or, length}
-use Rattle.daggy_order.specs.Links.{Listed, walk}
-use Rattle.daggy_order.proofs.Linking.{length_walk, grown_walked, grown_linked}
+use Rattle.daggy_order.specs.Links.{Listed, nodes_from}
+use Rattle.daggy_order.proofs.LinkedNodes.{length_walk, grown_walked, grown_linked}
 use Rattle.daggy_order.proofs.order.links.Links.make_room.Goals as goal
 
 pub invariant_of-self : goal.invariant_of-self
 invariant_of-self g c =
     let E : ℕ = g.Ix.IndexType.greatest in
     let s = c.self.invariant in
-    let count : c.self.inside.count ≡ length (walk E c.self.inside.next.items c.self.inside.first c.self.inside.count) = sym (length_walk E c.self.inside.next.items c.self.inside.first c.self.inside.count) in
+    let count : c.self.inside.count ≡ length (nodes_from E c.self.inside.next.items c.self.inside.first c.self.inside.count) = sym (length_walk E c.self.inside.next.items c.self.inside.first c.self.inside.count) in
     let end_is : c.end.result ≡ E = c.end.ensures.value in
     let P : ℕ → Type 0 = λ e. (k : ℕ) → get_or c.grow.new.list.items k e ≡ get_or c.self.inside.next.items k e in
     let same = subst P end_is c.grow.ensures.same in
@@ -18,7 +18,7 @@ pub invariant_of-self-in-Continue-branch-2 : goal.invariant_of-self-in-Continue-
 invariant_of-self-in-Continue-branch-2 g c =
     let E : ℕ = g.Ix.IndexType.greatest in
     let s = c.self.invariant in
-    let count : c.self.inside.count ≡ length (walk E c.self.inside.next.items c.self.inside.first c.self.inside.count) = sym (length_walk E c.self.inside.next.items c.self.inside.first c.self.inside.count) in
+    let count : c.self.inside.count ≡ length (nodes_from E c.self.inside.next.items c.self.inside.first c.self.inside.count) = sym (length_walk E c.self.inside.next.items c.self.inside.first c.self.inside.count) in
     let end_is : c.end.result ≡ E = c.end.ensures.value in
     let P : ℕ → Type 0 = λ e. (k : ℕ) → get_or c.grow.new.list.items k e ≡ get_or c.self.inside.next.items k e in
     let same = subst P end_is c.grow.ensures.same in
@@ -32,7 +32,7 @@ pub invariant_of-self-in_err-lengthen : goal.invariant_of-self-in_err-lengthen
 invariant_of-self-in_err-lengthen g c =
     let E : ℕ = g.Ix.IndexType.greatest in
     let s = c.self.invariant in
-    let count : c.self.inside.count ≡ length (walk E c.self.inside.next.items c.self.inside.first c.self.inside.count) = sym (length_walk E c.self.inside.next.items c.self.inside.first c.self.inside.count) in
+    let count : c.self.inside.count ≡ length (nodes_from E c.self.inside.next.items c.self.inside.first c.self.inside.count) = sym (length_walk E c.self.inside.next.items c.self.inside.first c.self.inside.count) in
     let end_is : c.end.result ≡ E = c.end.ensures.value in
     let P : ℕ → Type 0 = λ e. (k : ℕ) → get_or c.grow.new.list.items k e ≡ get_or c.self.inside.next.items k e in
     let same = subst P end_is c.grow.ensures.same in
@@ -46,7 +46,7 @@ pub returns-in_err-lengthen-clause-same : goal.returns-in_err-lengthen-clause-sa
 returns-in_err-lengthen-clause-same g c =
     let E : ℕ = g.Ix.IndexType.greatest in
     let s = c.self.invariant in
-    let count : c.self.inside.count ≡ length (walk E c.self.inside.next.items c.self.inside.first c.self.inside.count) = sym (length_walk E c.self.inside.next.items c.self.inside.first c.self.inside.count) in
+    let count : c.self.inside.count ≡ length (nodes_from E c.self.inside.next.items c.self.inside.first c.self.inside.count) = sym (length_walk E c.self.inside.next.items c.self.inside.first c.self.inside.count) in
     let end_is : c.end.result ≡ E = c.end.ensures.value in
     let P : ℕ → Type 0 = λ e. (k : ℕ) → get_or c.grow.new.list.items k e ≡ get_or c.self.inside.next.items k e in
     let same = subst P end_is c.grow.ensures.same in
@@ -60,7 +60,7 @@ pub invariant_of-self-else-len-n : goal.invariant_of-self-else-len-n
 invariant_of-self-else-len-n g c =
     let E : ℕ = g.Ix.IndexType.greatest in
     let s = c.self.invariant in
-    let count : c.self.inside.count ≡ length (walk E c.self.inside.next.items c.self.inside.first c.self.inside.count) = sym (length_walk E c.self.inside.next.items c.self.inside.first c.self.inside.count) in
+    let count : c.self.inside.count ≡ length (nodes_from E c.self.inside.next.items c.self.inside.first c.self.inside.count) = sym (length_walk E c.self.inside.next.items c.self.inside.first c.self.inside.count) in
     let end_is : c.end.result ≡ E = c.end.ensures.value in
     let P : ℕ → Type 0 = λ e. (k : ℕ) → get_or c.grow.new.list.items k e ≡ get_or c.self.inside.next.items k e in
     let same = subst P end_is c.grow.ensures.same in
@@ -71,7 +71,7 @@ pub returns-in_ok-lengthen-clause-same : goal.returns-in_ok-lengthen-clause-same
 returns-in_ok-lengthen-clause-same g c =
     let E : ℕ = g.Ix.IndexType.greatest in
     let s = c.self.invariant in
-    let count : c.self.inside.count ≡ length (walk E c.self.inside.next.items c.self.inside.first c.self.inside.count) = sym (length_walk E c.self.inside.next.items c.self.inside.first c.self.inside.count) in
+    let count : c.self.inside.count ≡ length (nodes_from E c.self.inside.next.items c.self.inside.first c.self.inside.count) = sym (length_walk E c.self.inside.next.items c.self.inside.first c.self.inside.count) in
     let end_is : c.end.result ≡ E = c.end.ensures.value in
     let P : ℕ → Type 0 = λ e. (k : ℕ) → get_or c.grow.new.list.items k e ≡ get_or c.self.inside.next.items k e in
     let same = subst P end_is c.grow.ensures.same in
@@ -85,7 +85,7 @@ pub returns-else-len-n-clause-same : goal.returns-else-len-n-clause-same
 returns-else-len-n-clause-same g c =
     let E : ℕ = g.Ix.IndexType.greatest in
     let s = c.self.invariant in
-    let count : c.self.inside.count ≡ length (walk E c.self.inside.next.items c.self.inside.first c.self.inside.count) = sym (length_walk E c.self.inside.next.items c.self.inside.first c.self.inside.count) in
+    let count : c.self.inside.count ≡ length (nodes_from E c.self.inside.next.items c.self.inside.first c.self.inside.count) = sym (length_walk E c.self.inside.next.items c.self.inside.first c.self.inside.count) in
     let end_is : c.end.result ≡ E = c.end.ensures.value in
     let P : ℕ → Type 0 = λ e. (k : ℕ) → get_or c.grow.new.list.items k e ≡ get_or c.self.inside.next.items k e in
     let same = subst P end_is c.grow.ensures.same in

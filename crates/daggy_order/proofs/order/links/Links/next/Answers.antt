@@ -2,7 +2,7 @@ use Rattle.std.proofs.Common.{◌<◌, ◌∙◌, sym, ap, subst, arith, get_or,
 use Rattle.std.proofs.lemmas.List.{get_or_read}
 use Rattle.daggy_base.proofs.Lists.{Mem, contains_mem}
 use Rattle.daggy_order.specs.Links.{Listed}
-use Rattle.daggy_order.proofs.Linking.{inside, next_is}
+use Rattle.daggy_order.proofs.LinkedNodes.{inside, next_is}
 use Rattle.daggy_order.proofs.order.links.Links.next.Goals as goal
 
 pub index-requires-2 : goal.index-requires-2

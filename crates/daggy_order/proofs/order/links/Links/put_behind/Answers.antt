@@ -1,17 +1,17 @@
 use Rattle.std.proofs.Common.{rules, ◌≡◌, ◌≢◌, ℕ, ◌+◌, ◌<◌, ◌≤◌, inl, inr, List, ◌^◌, [], ◌∷◌, ◌++◌, ◌∙◌, sym, ap, subst, arith, get_or, length}
 use Rattle.std.proofs.lemmas.List.{get_or_read}
 use Rattle.daggy_base.proofs.Lists.{Mem, mem_cases, contains_mem, mem_contains}
-use Rattle.daggy_order.specs.Links.{Listed, walk, neighbor}
-use Rattle.daggy_order.proofs.Bounded.{split_at}
+use Rattle.daggy_order.specs.Links.{Listed, nodes_from, neighbor}
+use Rattle.daggy_order.proofs.BoundedSearch.{split_at}
 use Rattle.daggy_order.proofs.Chains.{neighbor_node}
-use Rattle.daggy_order.proofs.Linking.{few, once, inside, length_walk, is_put, next_leads, leads_within, put_walked, put_linked, same_lesser}
+use Rattle.daggy_order.proofs.LinkedNodes.{few, once, inside, length_walk, is_put, next_leads, leads_within, put_walked, put_linked, same_lesser}
 use Rattle.daggy_order.proofs.order.links.Links.put_behind.Goals as goal
 
 pub index-q-requires : goal.index-q-requires
 index-q-requires g c =
     let E : ℕ = g.Ix.IndexType.greatest in
     let s = c.self.invariant in
-    let xs = walk E c.self.inside.next.items c.self.inside.first c.self.inside.count in
+    let xs = nodes_from E c.self.inside.next.items c.self.inside.first c.self.inside.count in
     let nodes : xs ≡ c.args.self.now.nodes = ap (λ (z : Listed). z.nodes) c.self.view_is in
     let Bp : List ℕ → Type 0 = λ z. Mem c.args.p z in
     let held : Mem c.args.p xs = subst Bp (sym nodes) (contains_mem c.args.self.now.nodes c.args.p c.requires.held) in
@@ -21,7 +21,7 @@ pub lead-requires : goal.lead-requires
 lead-requires g c =
     let E : ℕ = g.Ix.IndexType.greatest in
     let s = c.self.invariant in
-    let xs = walk E c.self.inside.next.items c.self.inside.first c.self.inside.count in
+    let xs = nodes_from E c.self.inside.next.items c.self.inside.first c.self.inside.count in
     let nodes : xs ≡ c.args.self.now.nodes = ap (λ (z : Listed). z.nodes) c.self.view_is in
     let Bp : List ℕ → Type 0 = λ z. Mem c.args.p z in
     let held : Mem c.args.p xs = subst Bp (sym nodes) (contains_mem c.args.self.now.nodes c.args.p c.requires.held) in
@@ -31,7 +31,7 @@ pub lead-requires-4 : goal.lead-requires-4
 lead-requires-4 g c =
     let E : ℕ = g.Ix.IndexType.greatest in
     let s = c.self.invariant in
-    let xs = walk E c.self.inside.next.items c.self.inside.first c.self.inside.count in
+    let xs = nodes_from E c.self.inside.next.items c.self.inside.first c.self.inside.count in
     let nodes : xs ≡ c.args.self.now.nodes = ap (λ (z : Listed). z.nodes) c.self.view_is in
     let Bp : List ℕ → Type 0 = λ z. Mem c.args.p z in
     let held : Mem c.args.p xs = subst Bp (sym nodes) (contains_mem c.args.self.now.nodes c.args.p c.requires.held) in
@@ -57,11 +57,11 @@ pub invariant_of-self : goal.invariant_of-self
 invariant_of-self g c =
     let E : ℕ = g.Ix.IndexType.greatest in
     let s = c.self.invariant in
-    let xs = walk E c.self.inside.next.items c.self.inside.first c.self.inside.count in
+    let xs = nodes_from E c.self.inside.next.items c.self.inside.first c.self.inside.count in
     let nodes : xs ≡ c.args.self.now.nodes = ap (λ (z : Listed). z.nodes) c.self.view_is in
     let A : List ℕ → Type 0 = λ z. Mem c.args.n z in
     let fresh : Mem c.args.n (E ∷ xs) → ⊥ = λ m. elim m [ inl e ↦ c.requires.real e | inr b ↦ c.requires.absent (mem_contains c.args.self.now.nodes c.args.n (subst A nodes b)) ] in
-    let low : c.args.n < length c.self.inside.previous.items = omega (arith, c.requires.numbered, ap (λ (z : Listed). z.room) c.self.view_is) in
+    let low : c.args.n < length c.self.inside.previous.items = omega (arith, c.requires.numbered, ap (λ (z : Listed). z.index_bound) c.self.view_is) in
     let Bp : List ℕ → Type 0 = λ z. Mem c.args.p z in
     let held : Mem c.args.p xs = subst Bp (sym nodes) (contains_mem c.args.self.now.nodes c.args.p c.requires.held) in
     let in_next : c.index.result < length c.self.inside.next.items = omega (arith, c.index.ensures.value, inside s c.args.p held, s.sized) in
@@ -85,11 +85,11 @@ pub returns-clause-nodes : goal.returns-clause-nodes
 returns-clause-nodes g c =
     let E : ℕ = g.Ix.IndexType.greatest in
     let s = c.self.invariant in
-    let xs = walk E c.self.inside.next.items c.self.inside.first c.self.inside.count in
+    let xs = nodes_from E c.self.inside.next.items c.self.inside.first c.self.inside.count in
     let nodes : xs ≡ c.args.self.now.nodes = ap (λ (z : Listed). z.nodes) c.self.view_is in
     let A : List ℕ → Type 0 = λ z. Mem c.args.n z in
     let fresh : Mem c.args.n (E ∷ xs) → ⊥ = λ m. elim m [ inl e ↦ c.requires.real e | inr b ↦ c.requires.absent (mem_contains c.args.self.now.nodes c.args.n (subst A nodes b)) ] in
-    let low : c.args.n < length c.self.inside.previous.items = omega (arith, c.requires.numbered, ap (λ (z : Listed). z.room) c.self.view_is) in
+    let low : c.args.n < length c.self.inside.previous.items = omega (arith, c.requires.numbered, ap (λ (z : Listed). z.index_bound) c.self.view_is) in
     let Bp : List ℕ → Type 0 = λ z. Mem c.args.p z in
     let held : Mem c.args.p xs = subst Bp (sym nodes) (contains_mem c.args.self.now.nodes c.args.p c.requires.held) in
     let in_next : c.index.result < length c.self.inside.next.items = omega (arith, c.index.ensures.value, inside s c.args.p held, s.sized) in
@@ -108,11 +108,11 @@ returns-clause-nodes g c =
     let put = is_put (neighbor E c.self.inside.first c.self.inside.next.items) (neighbor E c.self.inside.last c.self.inside.previous.items) (neighbor E c.lead.new.outer c.lead.new.links.items) (neighbor E c.lead-2.new.outer c.lead-2.new.links.items) (neighbor E c.lead-3.new.outer c.lead-3.new.links.items) (neighbor E c.lead-4.new.outer c.lead-4.new.links.items) c.args.p c.args.n c.index-q.result.now not_p (not_led c.index-q.result.now q_leads) (q_is ∙ sym (neighbor_node E c.self.inside.first c.self.inside.next.items c.args.p real_p)) c.lead.ensures.led c.lead.ensures.others c.lead-2.ensures.led c.lead-2.ensures.others c.lead-3.ensures.led c.lead-3.ensures.others c.lead-4.ensures.led c.lead-4.ensures.others in
     λ ns ms is. put_walked s c.lead-2.new.links.items c.lead-4.new.links.items c.lead-2.new.outer c.lead-4.new.outer c.args.n fresh low sized (omega (arith, long)) c.args.p put (c.self.inside.count + 1) count ns ms (nodes ∙ is)
 
-pub returns-clause-room : goal.returns-clause-room
-returns-clause-room g c =
+pub returns-clause-index_bound : goal.returns-clause-index_bound
+returns-clause-index_bound g c =
     let s = c.self.invariant in
     let long : length c.self.inside.previous.items ≡ length c.lead-4.new.links.items = omega (arith, c.lead-3.ensures.sized, c.lead-4.ensures.sized, c.self.inside.previous.ok.0, c.lead-4.new.links.ok.0) in
-    sym long ∙ ap (λ (z : Listed). z.room) c.self.view_is
+    sym long ∙ ap (λ (z : Listed). z.index_bound) c.self.view_is
 
 pub returns-clause-capacity : goal.returns-clause-capacity
 returns-clause-capacity g c =

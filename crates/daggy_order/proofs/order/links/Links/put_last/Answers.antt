@@ -1,8 +1,8 @@
 use Rattle.std.proofs.Common.{◌≡◌, ℕ, List, [], ◌∷◌, ◌++◌, ◌∙◌, sym, ap, subst, arith, length, append_assoc}
 use Rattle.daggy_base.proofs.Lists.{Mem, mem_contains}
 use Rattle.daggy_order.specs.Links.{Listed}
-use Rattle.daggy_order.proofs.Linking.{listed}
-use Rattle.daggy_order.proofs.Linking.{ended, length_walk, last_in, last_is}
+use Rattle.daggy_order.proofs.LinkedNodes.{listed}
+use Rattle.daggy_order.proofs.LinkedNodes.{ended, length_walk, last_in, last_is}
 use Rattle.daggy_order.proofs.order.links.Links.put_last.Goals as goal
 
 pub put_behind-requires-clause-held : goal.put_behind-requires-clause-held
@@ -20,4 +20,4 @@ returns-else-self-eq0 g c =
     let e = ended c.args.self.now.nodes (omega (arith, count, c.if-self-eq0.false, ap (λ (z : List ℕ). length z) nodes)) in
     let last = last_is s e.0 e.1 (nodes ∙ e.2) in
     let split : c.args.self.now.nodes ≡ e.0 ++ c.self.inside.last ∷ [] = e.2 ∙ ap (λ (z : ℕ). e.0 ++ z ∷ []) (sym last) in
-    listed (c.put_behind.ensures.nodes e.0 [] split ∙ (sym (append_assoc e.0 (c.self.inside.last ∷ []) (c.args.n ∷ [])) ∙ ap (λ (z : List ℕ). z ++ c.args.n ∷ []) (sym split))) c.put_behind.ensures.room c.put_behind.ensures.capacity
+    listed (c.put_behind.ensures.nodes e.0 [] split ∙ (sym (append_assoc e.0 (c.self.inside.last ∷ []) (c.args.n ∷ [])) ∙ ap (λ (z : List ℕ). z ++ c.args.n ∷ []) (sym split))) c.put_behind.ensures.index_bound c.put_behind.ensures.capacity

@@ -2,18 +2,18 @@ use Rattle.std.proofs.Common.{◌≡◌, ◌≢◌, ℕ, suc, ◌+◌, ◌-◌, 
 use Rattle.std.proofs.lemmas.List.{get_or_read, length-append}
 use Rattle.daggy_base.proofs.Lists.{Mem, contains_mem}
 use Rattle.daggy_base.specs.Removal.{without}
-use Rattle.daggy_order.specs.Links.{Listed, walk, neighbor}
-use Rattle.daggy_order.proofs.Bounded.{split_at}
-use Rattle.daggy_order.proofs.Linking.{listed, same_lesser}
+use Rattle.daggy_order.specs.Links.{Listed, nodes_from, neighbor}
+use Rattle.daggy_order.proofs.BoundedSearch.{split_at}
+use Rattle.daggy_order.proofs.LinkedNodes.{listed, same_lesser}
 use Rattle.daggy_order.proofs.Chains.{IsTaken, neighbor_node}
-use Rattle.daggy_order.proofs.Linking.{once, inside, length_walk, previous_leads, next_leads, leads_within, taken_walked, taken_linked}
+use Rattle.daggy_order.proofs.LinkedNodes.{once, inside, length_walk, previous_leads, next_leads, leads_within, taken_walked, taken_linked}
 use Rattle.daggy_order.proofs.order.links.Links.remove.Goals as goal
 
 pub index-p-requires : goal.index-p-requires
 index-p-requires g c =
     let E : ℕ = g.Ix.IndexType.greatest in
     let s = c.self.invariant in
-    let xs = walk E c.self.inside.next.items c.self.inside.first c.self.inside.count in
+    let xs = nodes_from E c.self.inside.next.items c.self.inside.first c.self.inside.count in
     let nodes : xs ≡ c.args.self.now.nodes = ap (λ (z : Listed). z.nodes) c.self.view_is in
     let Bp : List ℕ → Type 0 = λ z. Mem c.args.n z in
     let held : Mem c.args.n xs = subst Bp (sym nodes) (contains_mem c.args.self.now.nodes c.args.n c.requires) in
@@ -23,7 +23,7 @@ pub index-q-requires : goal.index-q-requires
 index-q-requires g c =
     let E : ℕ = g.Ix.IndexType.greatest in
     let s = c.self.invariant in
-    let xs = walk E c.self.inside.next.items c.self.inside.first c.self.inside.count in
+    let xs = nodes_from E c.self.inside.next.items c.self.inside.first c.self.inside.count in
     let nodes : xs ≡ c.args.self.now.nodes = ap (λ (z : Listed). z.nodes) c.self.view_is in
     let Bp : List ℕ → Type 0 = λ z. Mem c.args.n z in
     let held : Mem c.args.n xs = subst Bp (sym nodes) (contains_mem c.args.self.now.nodes c.args.n c.requires) in
@@ -33,7 +33,7 @@ pub lead-requires : goal.lead-requires
 lead-requires g c =
     let E : ℕ = g.Ix.IndexType.greatest in
     let s = c.self.invariant in
-    let xs = walk E c.self.inside.next.items c.self.inside.first c.self.inside.count in
+    let xs = nodes_from E c.self.inside.next.items c.self.inside.first c.self.inside.count in
     let nodes : xs ≡ c.args.self.now.nodes = ap (λ (z : Listed). z.nodes) c.self.view_is in
     let Bp : List ℕ → Type 0 = λ z. Mem c.args.n z in
     let held : Mem c.args.n xs = subst Bp (sym nodes) (contains_mem c.args.self.now.nodes c.args.n c.requires) in
@@ -48,7 +48,7 @@ pub lead-requires-2 : goal.lead-requires-2
 lead-requires-2 g c =
     let E : ℕ = g.Ix.IndexType.greatest in
     let s = c.self.invariant in
-    let xs = walk E c.self.inside.next.items c.self.inside.first c.self.inside.count in
+    let xs = nodes_from E c.self.inside.next.items c.self.inside.first c.self.inside.count in
     let nodes : xs ≡ c.args.self.now.nodes = ap (λ (z : Listed). z.nodes) c.self.view_is in
     let Bp : List ℕ → Type 0 = λ z. Mem c.args.n z in
     let held : Mem c.args.n xs = subst Bp (sym nodes) (contains_mem c.args.self.now.nodes c.args.n c.requires) in
@@ -64,7 +64,7 @@ pub invariant_of-self : goal.invariant_of-self
 invariant_of-self g c =
     let E : ℕ = g.Ix.IndexType.greatest in
     let s = c.self.invariant in
-    let xs = walk E c.self.inside.next.items c.self.inside.first c.self.inside.count in
+    let xs = nodes_from E c.self.inside.next.items c.self.inside.first c.self.inside.count in
     let nodes : xs ≡ c.args.self.now.nodes = ap (λ (z : Listed). z.nodes) c.self.view_is in
     let Bp : List ℕ → Type 0 = λ z. Mem c.args.n z in
     let held : Mem c.args.n xs = subst Bp (sym nodes) (contains_mem c.args.self.now.nodes c.args.n c.requires) in
@@ -93,7 +93,7 @@ pub returns : goal.returns
 returns g c =
     let E : ℕ = g.Ix.IndexType.greatest in
     let s = c.self.invariant in
-    let xs = walk E c.self.inside.next.items c.self.inside.first c.self.inside.count in
+    let xs = nodes_from E c.self.inside.next.items c.self.inside.first c.self.inside.count in
     let nodes : xs ≡ c.args.self.now.nodes = ap (λ (z : Listed). z.nodes) c.self.view_is in
     let Bp : List ℕ → Type 0 = λ z. Mem c.args.n z in
     let held : Mem c.args.n xs = subst Bp (sym nodes) (contains_mem c.args.self.now.nodes c.args.n c.requires) in
@@ -117,4 +117,4 @@ returns g c =
       back = λ k d. c.lead-2.ensures.others k (λ e. d (e ∙ q_n));
     } in
     let is = taken_walked s c.lead.new.links.items c.lead-2.new.links.items c.lead.new.outer c.lead-2.new.outer c.args.n at.0 at.1 at.2 taken sized (omega (arith, long)) (c.self.inside.count - 1) count in
-    listed (is ∙ ap (without c.args.n) nodes) (sym long ∙ ap (λ (z : Listed). z.room) c.self.view_is) (same_lesser c.lead.ensures.capacity c.lead-2.ensures.capacity (ap (λ (z : Listed). z.capacity) c.self.view_is))
+    listed (is ∙ ap (without c.args.n) nodes) (sym long ∙ ap (λ (z : Listed). z.index_bound) c.self.view_is) (same_lesser c.lead.ensures.capacity c.lead-2.ensures.capacity (ap (λ (z : Listed). z.capacity) c.self.view_is))

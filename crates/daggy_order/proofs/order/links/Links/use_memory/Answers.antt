@@ -1,13 +1,13 @@
 use Rattle.std.proofs.Common.{◌≡◌, ◌≤◌, ℕ, ◌∙◌, sym, ap, subst, arith, get_or, length}
-use Rattle.daggy_order.specs.Links.{Listed, walk}
-use Rattle.daggy_order.proofs.Linking.{length_walk, grown_walked, grown_linked}
+use Rattle.daggy_order.specs.Links.{Listed, nodes_from}
+use Rattle.daggy_order.proofs.LinkedNodes.{length_walk, grown_walked, grown_linked}
 use Rattle.daggy_order.proofs.order.links.Links.use_memory.Goals as goal
 
 pub invariant_of-self : goal.invariant_of-self
 invariant_of-self g c =
     let E : ℕ = g.Ix.IndexType.greatest in
     let s = c.self.invariant in
-    let count : c.self.inside.count ≡ length (walk E c.self.inside.next.items c.self.inside.first c.self.inside.count) = sym (length_walk E c.self.inside.next.items c.self.inside.first c.self.inside.count) in
+    let count : c.self.inside.count ≡ length (nodes_from E c.self.inside.next.items c.self.inside.first c.self.inside.count) = sym (length_walk E c.self.inside.next.items c.self.inside.first c.self.inside.count) in
     let P : ℕ → Type 0 = λ e. (k : ℕ) → get_or c.lengthen_within.new.list.items k e ≡ get_or c.self.inside.next.items k e in
     let same = subst P c.end.ensures.value c.lengthen_within.ensures.same in
     let Q : ℕ → Type 0 = λ e. (k : ℕ) → get_or c.lengthen_within-then-len-bound.new.list.items k e ≡ get_or c.self.inside.previous.items k e in
@@ -20,7 +20,7 @@ pub returns-then-len-bound-clause-same : goal.returns-then-len-bound-clause-same
 returns-then-len-bound-clause-same g c =
     let E : ℕ = g.Ix.IndexType.greatest in
     let s = c.self.invariant in
-    let count : c.self.inside.count ≡ length (walk E c.self.inside.next.items c.self.inside.first c.self.inside.count) = sym (length_walk E c.self.inside.next.items c.self.inside.first c.self.inside.count) in
+    let count : c.self.inside.count ≡ length (nodes_from E c.self.inside.next.items c.self.inside.first c.self.inside.count) = sym (length_walk E c.self.inside.next.items c.self.inside.first c.self.inside.count) in
     let P : ℕ → Type 0 = λ e. (k : ℕ) → get_or c.lengthen_within.new.list.items k e ≡ get_or c.self.inside.next.items k e in
     let same = subst P c.end.ensures.value c.lengthen_within.ensures.same in
     let Q : ℕ → Type 0 = λ e. (k : ℕ) → get_or c.lengthen_within-then-len-bound.new.list.items k e ≡ get_or c.self.inside.previous.items k e in

@@ -1,6 +1,6 @@
 use Rattle.std.proofs.Common.{◌≡◌, ℕ, List, length, get_or, ap, ◌∙◌, arith}
 use Rattle.daggy_base.proofs.Lists.{mem_contains}
-use Rattle.daggy_order.proofs.Going.{goes_none, goes_in, goes_more, goes_at}
+use Rattle.daggy_order.proofs.OrderSteps.{goes_none, goes_in, goes_more, goes_at}
 use Rattle.daggy_order.specs.Links.{Stored}
 use Rattle.daggy_order.proofs.order.written.Written.at.Goals as goal
 

@@ -1,4 +1,4 @@
-use Rattle.daggy_order.proofs.Going.{GoingOn}
+use Rattle.daggy_order.proofs.OrderSteps.{GoingOn}
 use Rattle.daggy_order.proofs.order.written.Written.at.Given as goal
 
 abbrev pub invariant-nodes : goal.invariant-nodes

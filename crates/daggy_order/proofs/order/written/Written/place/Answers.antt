@@ -1,7 +1,7 @@
 use Rattle.std.proofs.Common.{ℕ, List, sym, ap, subst, ◌∙◌, arith}
 use Rattle.daggy_base.proofs.Lists.{Mem, contains_mem, mem_contains}
 use Rattle.daggy_order.specs.Ordered.{place}
-use Rattle.daggy_order.proofs.Going.{seeks_none, goes_in, sought, seeks_more, sought_all}
+use Rattle.daggy_order.proofs.OrderSteps.{seeks_none, goes_in, sought, seeks_more, sought_all}
 use Rattle.daggy_order.specs.Links.{Stored}
 use Rattle.daggy_order.proofs.order.written.Written.place.Goals as goal
 

@@ -1,4 +1,4 @@
-use Rattle.daggy_order.proofs.Going.{Seeking}
+use Rattle.daggy_order.proofs.OrderSteps.{Seeking}
 use Rattle.daggy_order.proofs.order.written.Written.place.Given as goal
 
 abbrev pub invariant-nodes : goal.invariant-nodes

@@ -4,8 +4,8 @@ use Rattle.std.proofs.lemmas.List.{get_or_read}
 use Rattle.daggy_base.specs.Removal.{without, renamed}
 use Rattle.daggy_base.proofs.Lists.{Mem, mem_left, mem_right, mem_mid, contains_mem, mem_contains}
 use Rattle.daggy_order.specs.Links.{Listed, Stored}
-use Rattle.daggy_order.proofs.Bounded.{split_at}
-use Rattle.daggy_order.proofs.Linking.{without_mid}
+use Rattle.daggy_order.proofs.BoundedSearch.{split_at}
+use Rattle.daggy_order.proofs.LinkedNodes.{without_mid}
 use Rattle.daggy_order.proofs.Labelled.{label_within, label_once, labelled_renamed, renamed_mid}
 use Rattle.daggy_order.proofs.order.written.Written.rename.Goals as goal
 

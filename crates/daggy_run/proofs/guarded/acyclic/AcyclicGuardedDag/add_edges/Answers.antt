@@ -1,5 +1,5 @@
 use Rattle.std.proofs.Common.{◌∙◌}
-use Rattle.daggy_run.proofs.Listing.{all_added, none_added}
+use Rattle.daggy_run.proofs.EdgesFromVec.{all_added, none_added}
 use Rattle.daggy_run.proofs.guarded.acyclic.AcyclicGuardedDag.add_edges.Goals as goal
 
 pub returns-in-Ok-clause-added : goal.returns-in-Ok-clause-added

@@ -1,7 +1,7 @@
 use Rattle.std.proofs.Common.{ap}
 use Rattle.std.specs.Option.{option_map}
 use Rattle.daggy_base.specs.Graph.{pair_of}
-use Rattle.daggy_run.proofs.Walking.{looked}
+use Rattle.daggy_run.proofs.ListedNeighbors.{looked}
 use Rattle.daggy_run.proofs.guarded.acyclic.AcyclicGuardedDag.child_edge.Goals as goal
 
 pub returns : goal.returns

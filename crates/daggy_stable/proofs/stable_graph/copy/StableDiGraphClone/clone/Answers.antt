@@ -1,6 +1,6 @@
 use Rattle.daggy_base.specs.Copying.{clone_step}
-use Rattle.daggy_stable.proofs.Copying.{node_slots_cloned, edge_slots_cloned, firsts_cloned, nexts_cloned}
-use Rattle.daggy_stable.proofs.Mapping.{Stores-mapped, IsMapped-stored}
+use Rattle.daggy_stable.proofs.CopiedSlots.{node_slots_cloned, edge_slots_cloned, firsts_cloned, nexts_cloned}
+use Rattle.daggy_stable.proofs.MappedSlots.{Stores-mapped, IsMapped-stored}
 use Rattle.daggy_stable.proofs.stable_graph.copy.StableDiGraphClone.clone.Goals as goal
 
 pub invariant_of-result : goal.invariant_of-result

@@ -4,8 +4,8 @@ use Rattle.daggy_base.specs.Iterating.{numbered}
 use Rattle.daggy_cells.specs.Referring.{referred}
 use Rattle.daggy_stable.specs.Rest.{numbered_edge}
 use Rattle.daggy_stable.specs.Stored.{plain_edge}
-use Rattle.daggy_stable.proofs.Passing.{found, none_left, plain_vacant}
-use Rattle.daggy_stable.proofs.Scanning.{plain_some}
+use Rattle.daggy_stable.proofs.VacantPassed.{found, none_left, plain_vacant}
+use Rattle.daggy_stable.proofs.ListSearches.{plain_some}
 use Rattle.daggy_stable.proofs.stable_graph.iterators.EdgeReferencesIterator.next.Goals as goal
 
 pub returns-in_err-i-clause-steps : goal.returns-in_err-i-clause-steps

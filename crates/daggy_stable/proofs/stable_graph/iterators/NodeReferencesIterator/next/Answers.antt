@@ -3,7 +3,7 @@ use Rattle.std.specs.Option.{option_copied}
 use Rattle.std.proofs.lemmas.Option.{same_Some}
 use Rattle.daggy_base.specs.Iterating.{numbered}
 use Rattle.daggy_stable.specs.Stored.{weight_of}
-use Rattle.daggy_stable.proofs.Passing.{found, none_left}
+use Rattle.daggy_stable.proofs.VacantPassed.{found, none_left}
 use Rattle.daggy_stable.proofs.stable_graph.iterators.NodeReferencesIterator.next.Goals as goal
 
 pub returns-in_err-i-clause-steps : goal.returns-in_err-i-clause-steps

@@ -1,5 +1,5 @@
 use Rattle.std.proofs.Common.{rules, ◌<◌, [], false, get_or, ap, ◌∙◌}
-use Rattle.daggy_walk.proofs.Pairs.{pair_tested, pair_within}
+use Rattle.daggy_walk.proofs.MatrixRows.{pair_tested, pair_within}
 use Rattle.daggy_walk.proofs.visit.adj_matrix.AdjMatrix.has.Goals as goal
 use Rattle.daggy_walk.proofs.visit.adj_matrix.AdjMatrix.has.Goals.{then-row-self, else-row-self}
 

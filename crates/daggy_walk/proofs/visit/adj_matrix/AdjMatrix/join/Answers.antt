@@ -1,5 +1,5 @@
 use Rattle.std.proofs.Common.{◌<◌, length, ap, arith}
-use Rattle.daggy_walk.proofs.Pairs.{length-rows, pair_set}
+use Rattle.daggy_walk.proofs.MatrixRows.{length-rows, pair_set}
 use Rattle.daggy_walk.proofs.visit.adj_matrix.AdjMatrix.join.Goals as goal
 
 pub place-i-requires-clause-row : goal.place-i-requires-clause-row

@@ -1,6 +1,6 @@
 use Rattle.std.proofs.Common.{false, [], get_or, ap, ◌∙◌, sym}
 use Rattle.daggy_walk.specs.Visit.{rows}
-use Rattle.daggy_walk.proofs.Pairs.{length-rows, no_pair}
+use Rattle.daggy_walk.proofs.MatrixRows.{length-rows, no_pair}
 use Rattle.daggy_walk.proofs.visit.adj_matrix.AdjMatrix.new.Goals as goal
 
 pub returns-clause-bound : goal.returns-clause-bound

@@ -1,5 +1,5 @@
 use Rattle.std.proofs.Common.{rules, true, false, refl}
-use Rattle.daggy_walk.proofs.Stepping.{said, went_on, served, on_item, on_none, calls_item, passed_none, passed_more, passed_then, lowers}
+use Rattle.daggy_walk.proofs.AdapterSteps.{said, went_on, served, on_item, on_none, calls_item, passed_none, passed_more, passed_then, lowers}
 use Rattle.daggy_walk.proofs.walker.filter.FilterWalker.walk_next.Goals as goal
 
 pub loop-item-init : goal.loop-item-init

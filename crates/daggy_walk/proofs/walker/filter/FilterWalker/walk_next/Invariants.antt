@@ -1,7 +1,7 @@
 use Rattle.std.proofs.Common.{Bool, false}
 use Rattle.std.specs.Iterator.{size}
 use Rattle.daggy_walk.specs.Walking.{CallableAlong, CallsItem, TakesItem}
-use Rattle.daggy_walk.proofs.Stepping.{Passed}
+use Rattle.daggy_walk.proofs.AdapterSteps.{Passed}
 use Rattle.daggy_walk.proofs.walker.filter.FilterWalker.walk_next.Given as goal
 
 abbrev pub invariant-loop-item : goal.invariant-loop-item

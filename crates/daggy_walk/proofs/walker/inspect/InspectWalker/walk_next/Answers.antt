@@ -1,5 +1,5 @@
 use Rattle.std.proofs.Common.{rules, refl, sym, ◌∙◌}
-use Rattle.daggy_walk.proofs.Stepping.{said, went_on, served, on_item, on_none, calls_item}
+use Rattle.daggy_walk.proofs.AdapterSteps.{said, went_on, served, on_item, on_none, calls_item}
 use Rattle.daggy_walk.proofs.walker.inspect.InspectWalker.walk_next.Goals as goal
 
 pub returns-in_err-item-clause-goes : goal.returns-in_err-item-clause-goes

@@ -1,5 +1,5 @@
 use Rattle.std.proofs.Common.{rules, Some, None, [], refl, sym, ◌∙◌}
-use Rattle.daggy_walk.proofs.Leading.{calls_node, stays_there, leads_on}
+use Rattle.daggy_walk.proofs.RecursiveSteps.{calls_node, stays_there, leads_on}
 use Rattle.daggy_walk.proofs.walker.recursive.Led+G+G+NodeId+F.next.Goals as goal
 
 pub f-requires : goal.f-requires

@@ -1,5 +1,5 @@
 use Rattle.std.proofs.Common.{◌+◌, arith}
-use Rattle.daggy_walk.proofs.Stepping.{went_none, went_more, went_then}
+use Rattle.daggy_walk.proofs.AdapterSteps.{went_none, went_more, went_then}
 use Rattle.daggy_walk.proofs.walker.skip.SkipWalker.walk_next.Goals as goal
 
 pub skipped-init : goal.skipped-init

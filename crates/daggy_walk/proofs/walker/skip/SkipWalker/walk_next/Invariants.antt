@@ -1,5 +1,5 @@
 use Rattle.std.proofs.Common.{◌≡◌, ℕ, ◌+◌}
-use Rattle.daggy_walk.proofs.Stepping.{Went}
+use Rattle.daggy_walk.proofs.AdapterSteps.{Went}
 use Rattle.daggy_walk.proofs.walker.skip.SkipWalker.walk_next.Given as goal
 
 abbrev pub invariant-skipped : goal.invariant-skipped

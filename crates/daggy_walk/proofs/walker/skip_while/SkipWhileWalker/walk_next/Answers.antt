@@ -1,5 +1,5 @@
 use Rattle.std.proofs.Common.{rules, sym, ◌∙◌}
-use Rattle.daggy_walk.proofs.Stepping.{said, went_on, served, on_item, calls_item, passed_none, passed_more, passed_then, tell_some, some_of_none}
+use Rattle.daggy_walk.proofs.AdapterSteps.{said, went_on, served, on_item, calls_item, passed_none, passed_more, passed_then, tell_some, some_of_none}
 use Rattle.daggy_walk.proofs.walker.skip_while.SkipWhileWalker.walk_next.Goals as goal
 
 pub loop-item-init : goal.loop-item-init

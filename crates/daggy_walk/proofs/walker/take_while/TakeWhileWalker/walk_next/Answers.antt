@@ -1,5 +1,5 @@
 use Rattle.std.proofs.Common.{rules, true, false, Some, refl, sym, ◌∙◌}
-use Rattle.daggy_walk.proofs.Stepping.{said, went_on, served, on_item, on_none, calls_item, tell_some, falls_kept, at_kept}
+use Rattle.daggy_walk.proofs.AdapterSteps.{said, went_on, served, on_item, on_none, calls_item, tell_some, falls_kept, at_kept}
 use Rattle.daggy_walk.specs.Walking.{CallsItem, TakesItem, CallableAlong}
 use Rattle.daggy_walk.proofs.walker.take_while.TakeWhileWalker.walk_next.Goals as goal
 

@@ -8,5 +8,5 @@ invariant_of-result g c =
     let edges = clone_step g.E.Clone.is_clone in
     let copy = c.in_ok-store.ensures.cases.0 in (
       order_mapped (λ i. i) nodes edges tt tt _ _ copy _ _ c.in_ok-order.ensures c.self.invariant.0,
-      fits_mapped (λ i. i) nodes edges tt tt _ _ copy _ _ c.node_count.ensures.slots c.in_ok-reserve.ensures.ok.0,
+      fits_mapped (λ i. i) nodes edges tt tt _ _ copy _ _ c.node_count.ensures.slot_count c.in_ok-reserve.ensures.ok.0,
     )

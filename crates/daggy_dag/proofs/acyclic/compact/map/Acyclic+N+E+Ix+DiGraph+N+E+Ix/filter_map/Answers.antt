@@ -25,7 +25,7 @@ pub invariant_of-result : goal.invariant_of-result
 invariant_of-result g c =
     let made = c.in_ok-store.ensures.filtered in (
       order_renamed _ _ _ _ _ _ _ made.0 _ (made.1 ∙ sym c.as_slice.ensures.value) _ _ _ c.in_ok-order.ensures c.rename_all.ensures c.self.invariant.0,
-      fits_filtered _ _ _ _ _ _ _ made.0 _ _ c.node_count.ensures.slots c.in_ok-reserve.ensures.ok.0,
+      fits_filtered _ _ _ _ _ _ _ made.0 _ _ c.node_count.ensures.slot_count c.in_ok-reserve.ensures.ok.0,
     )
 
 pub returns-clause-filtered : goal.returns-clause-filtered

@@ -1,5 +1,5 @@
 use Rattle.std.proofs.Common.{ap, ◌∙◌}
-use Rattle.daggy_dag.proofs.Kept.{kept_empty}
+use Rattle.daggy_dag.proofs.OrderKept.{kept_empty}
 use Rattle.daggy_dag.proofs.acyclic.stable.copies.Acyclic+N+E+Ix+StableDiGraph+N+E+Ix.with_capacity.Goals as goal
 
 pub invariant_of-result : goal.invariant_of-result

@@ -1,5 +1,5 @@
 use Rattle.daggy_order.proofs.OrderLaws.{acyclic_from_order}
-use Rattle.daggy_dag.proofs.Kept.{order_below}
+use Rattle.daggy_dag.proofs.OrderKept.{order_below}
 use Rattle.daggy_dag.proofs.KeptInPlace.{order_kept, fits_kept}
 use Rattle.daggy_dag.proofs.acyclic.stable.map.Acyclic+N+E+Ix+StableDiGraph+N+E+Ix.filter_map.Goals as goal
 

@@ -1,0 +1,47 @@
+//! Lists for which memory is reserved first, and which are written when they are needed.
+ghost use Rattle.std.specs.Prelude.{◌≡◌, ℕ, ◌-◌, ◌≤◌, ◌++◌, replicate, vec_len, vec_capacity, OnOk, IsOk};
+
+use std::alloc::AllocError;
+
+/// Reserves memory for so many items, and writes none of it.
+pub(crate) fn reserve<T>(list: &mut Vec<T>, len: usize) -> Result<(), AllocError>
+    ensures ok { OnOk result (len ≤ vec_capacity list.new) }
+    ensures capacity { vec_capacity list.old ≤ vec_capacity list.new }
+    ensures items { list.new.items ≡ list.old.items }
+    ensures len { vec_len list.new ≡ vec_len list.old }
+    ensures succeeds { len ≤ vec_capacity list.old → IsOk result }
+{
+    if list.capacity() < len {
+        list.reserve(len - list.len())?;
+    }
+    Ok(())
+}
+
+/// Makes a list at least so long, with a value at the places that were not written yet. Memory for
+/// them was reserved before.
+#[doc(hidden)]
+#[inline]
+pub fn write_out<T: Copy>(list: &mut Vec<T>, len: usize, value: T)
+    requires { len ≤ vec_capacity list.old }
+    ensures long { len ≤ vec_len list.new }
+    ensures capacity { vec_capacity list.old ≤ vec_capacity list.new }
+    ensures items { list.new.items ≡ list.old.items ++ replicate (len - vec_len list.old) value }
+{
+    if list.len() < len {
+        fill(list, len, value);
+    }
+}
+
+// Apart, so that what is inlined stays small.
+#[cold]
+#[inline(never)]
+fn fill<T: Copy>(list: &mut Vec<T>, len: usize, value: T)
+    requires capacity { len ≤ vec_capacity list.old }
+    requires longer { vec_len list.old ≤ len }
+    ensures long { vec_len list.new ≡ len }
+    ensures capacity { vec_capacity list.old ≤ vec_capacity list.new }
+    ensures items { list.new.items ≡ list.old.items ++ replicate (len - vec_len list.old) value }
+{
+    // It fits what was reserved, so it is not refused.
+    let _filled = list.resize(len, value);
+}

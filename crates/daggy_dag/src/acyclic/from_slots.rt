@@ -1,0 +1,71 @@
+//! Dags made of given slots, and other orders of their lists.
+ghost use Rattle.std.specs.Prelude.{◌≡◌, ◌≤◌, Err, map, IfOk};
+ghost use Rattle.daggy_base.specs.Graph.{edge_count as edge_count_of, IsCompact};
+ghost use Rattle.daggy_base.specs.Path.{IsAcyclic};
+ghost use Rattle.daggy_base.specs.Removal.{Compact};
+ghost use Rattle.daggy_base.specs.FromSlots.{graph_of_slots, edges_by, MakeGraph};
+ghost use Rattle.daggy_base.specs.Orders.{AreOrders, with_orders, numbers_of};
+ghost use Rattle.daggy_base.specs.State.{with_graph};
+ghost use Rattle.daggy_base.specs.declared.error.SlotsError.TheVariants.{Cycle};
+
+use crate::acyclic::Acyclic;
+use daggy_base::error::SlotsError;
+use daggy_base::index::{EdgeIndex, IndexType, NodeIndex};
+use daggy_base::search::Scratch;
+use daggy_base::store::Store;
+use daggy_order::order::Order;
+use std::alloc::Global;
+use std::marker::PhantomData;
+
+impl<N: Drop, E: Drop, Ix: IndexType, S> Acyclic<N, E, Ix, S>
+where
+    S: Store<Ix, NodeWeight = N, EdgeWeight = E>,
+{
+    /// A dag of given slots: for each index the weight of a node, and for each index the two ends and the weight of an
+    /// edge, or nothing, which leaves the slot vacant. No slot of a [`Dag`](crate::acyclic::Dag) may be vacant.
+    ///
+    /// Each list has the edge with the greatest index first. Of the vacant slots the one with the greatest index is taken
+    /// first. The refusal `Cycle` says that the edges close a cycle, `Memory` that there was no memory for the dag. The
+    /// cost is that of all slots.
+    pub fn from_slots(
+        alloc: Global,
+        nodes: Vec<Option<N>>,
+        edges: Vec<Option<(NodeIndex<Ix>, NodeIndex<Ix>, E)>>,
+    ) -> Result<Self, SlotsError>
+        requires makes_graph { MakeGraph Ix.greatest nodes.items (edges_by Ix.number edges.items) }
+        requires compact { S.kind ≡ Compact → IsCompact (graph_of_slots nodes.items (edges_by Ix.number edges.items)) }
+        ensures made { IfOk result (λ d. d.graph ≡ graph_of_slots nodes.items (edges_by Ix.number edges.items)) }
+        ensures cycle { result ≡ Err Cycle → ¬ IsAcyclic (graph_of_slots nodes.items (edges_by Ix.number edges.items)) }
+        ensures acyclic { IfOk result (λ d. IsAcyclic d.graph) }
+        ensures counted { IfOk result (λ d. d.looks ≤ edge_count_of d.graph) }
+    {
+        let Ok(mut store) = S::from_slots(alloc, nodes, edges) else {
+            return Err(SlotsError::Memory);
+        };
+        let mut scratch = Scratch::new(alloc);
+        let Ok(()) = scratch.reserve(store.node_slots(), 0) else {
+            return Err(SlotsError::Memory);
+        };
+        match Order::sorted(alloc, &mut store, &mut scratch) {
+            Ok(Some(order)) => Ok(Acyclic {
+                store,
+                order,
+                scratch,
+                node_weight: PhantomData,
+                edge_weight: PhantomData,
+            }),
+            Ok(None) => Err(SlotsError::Cycle),
+            Err(_) => Err(SlotsError::Memory),
+        }
+    }
+
+    /// Puts the lists of all nodes in other orders: for each node that exists, by ascending index, its out list and its in
+    /// list as they are to be. Nothing else changes. The cost is that of all nodes and edges.
+    pub fn set_orders(&mut self, orders: &[(Vec<EdgeIndex<Ix>>, Vec<EdgeIndex<Ix>>)])
+        requires { AreOrders self.old.graph (map (numbers_of Ix.number) orders.now) }
+        ensures ordered { self.new ≡ with_graph self.old (with_orders self.old.graph (map (numbers_of Ix.number) orders.now)) }
+        ensures acyclic { IsAcyclic self.new.graph }
+    {
+        self.store.set_orders(orders);
+    }
+}

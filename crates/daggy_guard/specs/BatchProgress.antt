@@ -1,0 +1,38 @@
+-- How far a batch of edges has come.
+use Rattle.std.specs.Prelude.{◌≡◌, ℕ, ◌<◌, List, [], length, take, Vec, Result, Ok, Err}
+use Rattle.std.specs.declared.alloc.Global.{Global}
+use Rattle.daggy_base.specs.Graph.{Graph}
+use Rattle.daggy_base.specs.Removal.{Kind, Compact}
+use Rattle.daggy_base.specs.WellFormed.{IsWellFormed}
+use Rattle.daggy_base.specs.declared.error.EdgesError.{EdgesError}
+use Rattle.daggy_base.specs.declared.error.EdgesError.TheVariants as edges
+use Rattle.daggy_guard.specs.EdgeBatch.{NewEdge, with_edges, new_edges, LacksEnd, LacksIndex, LacksMemory}
+use Rattle.daggy_guard.specs.declared.edge_batch.Fault.{Fault}
+use Rattle.daggy_guard.specs.declared.edge_batch.Fault.TheVariants.{BadEndpoint, Full, Memory}
+
+-- now is before with the edges xs, which got these indices; slot_count is how many slots of edges there were before
+pub record IsBatchSoFar {N E : Type 0} (limit : ℕ) (kind : Kind) (before now : Graph N E) (xs : List (NewEdge E)) (indices : List ℕ) (slot_count : ℕ) : Type 0 where
+  pub now_is : now ≡ with_edges before xs
+  pub indices_are : indices ≡ new_edges before xs
+  pub well_formed : (k : ℕ) → k < length xs → IsWellFormed limit (with_edges before (take k xs))
+  pub compact : kind ≡ Compact → before.vacant_edges ≡ []
+  pub slot_count_is : slot_count ≡ length before.edges
+
+-- what keeps an edge from being added
+abbrev pub IsFault : {N E : Type 0} → (limit : ℕ) → Graph N E → NewEdge E → Fault E → Type 0
+IsFault limit g x (BadEndpoint w) = (w ≡ x.2) × LacksEnd g x
+IsFault limit g x (Full w) = (w ≡ x.2) × LacksIndex limit g x
+IsFault limit g x (Memory w) = (w ≡ x.2) × LacksMemory limit g x
+
+-- the refusal of the whole batch
+abbrev pub refusal : {E : Type 0} → Fault E → Vec E Global → EdgesError E
+refusal (BadEndpoint w) before = edges.BadEndpoint w before
+refusal (Full w) before = edges.Full w before
+refusal (Memory w) before = edges.Memory w before
+
+-- how many edges were looked at, at most, for one edge more: only a missing end or index is seen before way is made for it
+abbrev pub item_looks : {R E : Type 0} → (edges : ℕ) → Result R (Fault E) → ℕ
+item_looks edges (Ok r) = edges
+item_looks edges (Err (BadEndpoint w)) = 0
+item_looks edges (Err (Full w)) = 0
+item_looks edges (Err (Memory w)) = edges

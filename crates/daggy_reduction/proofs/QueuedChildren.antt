@@ -1,0 +1,343 @@
+-- The children of a node put into a queue behind it, but for the one that stands last in an order.
+use Rattle.std.proofs.Common.{◌≡◌, ◌≢◌, ℕ, zero, suc, ◌+◌, ◌<◌, ◌≤◌, Bool, true, false, ◌⊎◌, ◌↔◌, inl, inr, List, [], ◌∷◌, ◌++◌, length, get_or, drop, take, set, refl, sym, ap, subst, ◌∙◌, arith, length-set}
+use Rattle.std.proofs.lemmas.List.{take_more_set, length-take-le}
+use Rattle.std.proofs.lemmas.Bool.{false≢true, cases_eq}
+use Rattle.daggy_base.specs.Graph.{Graph, HasNode, HasEdge, out_list, node_bound}
+use Rattle.daggy_base.specs.Path.{AreJoined}
+use Rattle.daggy_base.specs.Cursor.{first_of}
+use Rattle.daggy_base.specs.WellFormed.{IsWellFormed}
+use Rattle.daggy_base.specs.Look.{IsLook}
+use Rattle.daggy_base.proofs.Lists.{Mem, Unique, mem_left, mem_right, mem_cases, unique_append, contains_mem, mem_at}
+use Rattle.daggy_base.proofs.OutEdgesRead.{leaves, joins, LookedTo, all_read, read_part, read_whole, has_edge, child_exists, child_joined, next_cursor, looked_more, below_bound}
+use Rattle.daggy_base.proofs.SearchProgress.{marked_within, set_marked, fewer_than}
+use Rattle.daggy_order.specs.Ordered.{IsOrderOf, place}
+use Rattle.daggy_order.proofs.Sorted.{place_same, place_other}
+use Rattle.daggy_reduction.proofs.QueueProgress.{take_none}
+
+pub record Beginning {N E : Type 0} (end marks_size queue_size : ℕ) (g₀ g : Graph N E) (order : List ℕ) (u : ℕ) (marks : List Bool) (queue : List ℕ) (len last e looks₀ looks : ℕ) : Type 0 where
+  pub same : g ≡ g₀
+  pub marks_sized : length marks ≡ marks_size
+  pub queue_sized : length queue ≡ queue_size
+  pub fits : node_bound g₀ ≤ length marks
+  pub capacity : length marks ≤ length queue
+  pub high : len ≤ length queue
+  -- how much of the node's list was read
+  pub passed : ℕ
+  pub cursor : e ≡ first_of end (drop passed (out_list g₀ u))
+  pub within : passed ≤ length (out_list g₀ u)
+  pub counted : looks ≡ looks₀ + passed
+  -- the queue
+  pub q : List ℕ
+  pub is : take len queue ≡ q
+  pub once : Unique q
+  pub marked : (n : ℕ) → (get_or marks n false ≡ true) ↔ Mem n q
+  pub before : (n : ℕ) → Mem n q → place order n < place order last
+  pub from : (n : ℕ) → Mem n q → (n ≡ u) ⊎ AreJoined g₀ u n
+  pub last_from : (last ≡ u) ⊎ AreJoined g₀ u last
+  pub found : LookedTo end g₀ (λ v. Mem v q ⊎ (v ≡ last)) u passed
+  pub front : ((q ≡ []) × (last ≡ u)) ⊎ ((others : List ℕ) × (q ≡ u ∷ others))
+
+pub begins_here : {N E : Type 0} (end : ℕ) (g : Graph N E) (order : List ℕ) (u : ℕ) (marks : List Bool) (queue : List ℕ) (e looks : ℕ) → ((n : ℕ) → get_or marks n false ≡ false) → node_bound g ≤ length marks → length marks ≤ length queue → e ≡ first_of end (out_list g u) → Beginning end (length marks) (length queue) g g order u marks queue 0 u e looks looks
+begins_here end g order u marks queue e looks cleared fits capacity first =
+    record {
+      same = refl;
+      marks_sized = refl;
+      queue_sized = refl;
+      fits = fits;
+      capacity = capacity;
+      high = omega arith;
+      passed = 0;
+      cursor = first;
+      within = omega arith;
+      counted = omega arith;
+      q = [];
+      is = take_none queue;
+      once = tt;
+      marked = λ n. (λ m. absurd (false≢true (sym (cleared n) ∙ m)), λ m. absurd m);
+      before = λ n m. absurd m;
+      from = λ n m. absurd m;
+      last_from = inl refl;
+      found = λ j x lt a. absurd (omega (arith, lt));
+      front = inl (refl, refl);
+    }
+
+-- places tell nodes apart
+pub place_apart : (xs : List ℕ) (a b : ℕ) → Mem a xs → Mem b xs → place xs a ≡ place xs b → a ≡ b
+place_apart [] a b m n h = absurd m
+place_apart (x ∷ xs) a b m n h =
+    elim (cases_eq x a) [
+      | inl e ↦ elim (cases_eq x b) [
+        | inl f ↦ sym e ∙ f
+        | inr d ↦ absurd (omega (arith, h, place_same x a xs e, place_other x b xs d))
+      ]
+      | inr c ↦ elim (cases_eq x b) [
+        | inl f ↦ absurd (omega (arith, h, place_other x a xs c, place_same x b xs f))
+        | inr d ↦ place_apart xs a b (rest a c m) (rest b d n) (omega (arith, h, place_other x a xs c, place_other x b xs d))
+      ]
+    ]
+  where
+    rest : (k : ℕ) → (x ≡ k → ⊥) → Mem k (x ∷ xs) → Mem k xs
+    rest k c m = elim m [ inl e ↦ absurd (c (sym e)) | inr b ↦ b ]
+
+module _ {N E : Type 0} {end marks_size queue_size : ℕ} {g₀ g : Graph N E} (w : IsWellFormed end g₀) {order : List ℕ} (ord : IsOrderOf g₀ order) {u : ℕ} (exists : HasNode g₀ u) {marks : List Bool} {queue : List ℕ} {len last e looks₀ looks : ℕ} (s : Beginning end marks_size queue_size g₀ g order u marks queue len last e looks₀ looks) where
+  pub last_exists : HasNode g₀ last
+  last_exists =
+      let P : ℕ → Type 0 = λ z. HasNode g₀ z in
+      elim s.last_from [ inl eq ↦ subst P (sym eq) exists | inr j ↦ w.children j.0 _ j.2 ]
+
+  pub edge_there : e ≢ end → HasEdge g e
+  edge_there here =
+      let P : Graph N E → Type 0 = λ z. HasEdge z e in
+      subst P (sym s.same) (has_edge end g₀ w u s.passed e s.cursor here)
+
+  pub passed_less : e ≢ end → s.passed < length (out_list g₀ u)
+  passed_less here = (read_part end g₀ w u s.passed e s.cursor here).0
+
+  pub low_node : (x : ℕ) → HasNode g₀ x → x < length marks
+  low_node x has = omega (arith, below_bound g₀.nodes x has, s.fits)
+
+  pub has_room : (x : ℕ) → HasNode g₀ x → get_or marks x false ≡ false → len < length queue
+  has_room x has unseen =
+      let absent : Mem x s.q → ⊥ = λ m. false≢true (sym unseen ∙ (s.marked x).1 m) in
+      let low_all : (y : ℕ) → Mem y (x ∷ s.q) → y < length marks = λ y m.
+      elim m [
+        | inl eq ↦ omega (arith, eq, low_node x has)
+        | inr b ↦ marked_within marks y ((s.marked y).1 b)
+      ] in
+      let few = fewer_than (x ∷ s.q) (length marks) (absent, s.once) low_all in
+      omega (arith, few, s.capacity, length-take-le len queue s.high, ap length s.is)
+
+  -- a node put behind unless it is there
+  pub record Put (x : ℕ) (marks' : List Bool) (queue' : List ℕ) (len' : ℕ) : Type 0 where
+    pub q' : List ℕ
+    pub is' : take len' queue' ≡ q'
+    pub marks_size_kept : length marks' ≡ length marks
+    pub queue_size_kept : length queue' ≡ length queue
+    pub high' : len' ≤ length queue'
+    pub once' : Unique q'
+    pub marked' : (n : ℕ) → (get_or marks' n false ≡ true) ↔ Mem n q'
+    pub old : (n : ℕ) → Mem n s.q → Mem n q'
+    pub here : Mem x q'
+    pub out : (n : ℕ) → Mem n q' → Mem n s.q ⊎ (n ≡ x)
+    pub front' : (q' ≡ s.q) ⊎ (q' ≡ s.q ++ x ∷ [])
+
+  pub put : (x : ℕ) → HasNode g₀ x → {marks' : List Bool} {queue' : List ℕ} {len' : ℕ}
+      → (get_or marks x false ≡ true → (marks' ≡ marks) × (queue' ≡ queue) × (len' ≡ len))
+      → (get_or marks x false ≡ false → (marks' ≡ set marks x true) × (queue' ≡ set queue len x) × (len' ≡ len + 1))
+      → Put x marks' queue' len'
+  put x has {marks'} {queue'} {len'} there new = go (get_or marks x false) refl
+    where
+      go : (b : Bool) → b ≡ get_or marks x false → Put x marks' queue' len'
+      go true at =
+          let h = there (sym at) in
+          let same : Put x marks queue len = record {
+            q' = s.q;
+            is' = s.is;
+            marks_size_kept = refl;
+            queue_size_kept = refl;
+            high' = s.high;
+            once' = s.once;
+            marked' = s.marked;
+            old = λ n m. m;
+            here = (s.marked x).0 (sym at);
+            out = λ n m. inl m;
+            front' = inl refl;
+          } in
+          rw (h.0, h.1, h.2) same
+      go false at =
+          let h = new (sym at) in
+          let more = has_room x has (sym at) in
+          let low = low_node x has in
+          let absent : Mem x s.q → ⊥ = λ m. false≢true (at ∙ (s.marked x).1 m) in
+          let cases : (n : ℕ) → Mem n (s.q ++ x ∷ []) → Mem n s.q ⊎ (n ≡ x) = λ n m.
+          elim (mem_cases s.q (x ∷ []) n m) [
+            | inl a ↦ inl a
+            | inr b ↦ elim b [ inl eq ↦ inr eq | inr none ↦ absurd none ]
+          ] in
+          let at_end : Mem x (s.q ++ x ∷ []) = mem_right s.q (x ∷ []) x (inl refl) in
+          let grown : Put x (set marks x true) (set queue len x) (len + 1) = record {
+            q' = s.q ++ x ∷ [];
+            is' = take_more_set queue len x more ∙ ap (λ z. z ++ x ∷ []) s.is;
+            marks_size_kept = length-set marks x true;
+            queue_size_kept = length-set queue len x;
+            high' = omega (arith, length-set queue len x, more);
+            once' = unique_append s.q (x ∷ []) s.once (λ m. m, tt) (λ y a b. elim b [
+              | inl eq ↦ (let P : ℕ → Type 0 = λ z. Mem z s.q in absent (subst P eq a))
+              | inr none ↦ none
+            ]);
+            marked' = λ n. (
+              λ k. elim ((set_marked marks x n low).0 k) [
+                | inl eq ↦ (let P : ℕ → Type 0 = λ z. Mem z (s.q ++ x ∷ []) in subst P (sym eq) at_end)
+                | inr m ↦ mem_left s.q (x ∷ []) n ((s.marked n).0 m)
+              ],
+              λ m. (set_marked marks x n low).1 (elim (cases n m) [ inl a ↦ inr ((s.marked n).1 a) | inr eq ↦ inl eq ]),
+            );
+            old = λ n m. mem_left s.q (x ∷ []) n m;
+            here = at_end;
+            out = cases;
+            front' = inr refl;
+          } in
+          rw (h.0, h.1, h.2) grown
+
+  module _ (here : e ≢ end) {v next : ℕ} (look : IsLook end g e v next) where
+    look₀ : IsLook end g₀ e v next
+    look₀ = let P : Graph N E → Type 0 = λ z. IsLook end z e v next in subst P s.same look
+
+    pub child_there : HasNode g₀ v
+    child_there = child_exists end g₀ w u s.passed e s.cursor here v next look₀
+
+    child_of : AreJoined g₀ u v
+    child_of = child_joined end g₀ w u s.passed e s.cursor here v next look₀
+
+    module _ {g' : Graph N E} (kept : g' ≡ g) {looks' : ℕ} (one_more : looks' ≡ looks + 1) where
+      -- the child stands last so far
+      pub put_last : {marks' : List Bool} {queue' : List ℕ} {len' : ℕ} → Put last marks' queue' len' → place order last < place order v → Beginning end marks_size queue_size g₀ g' order u marks' queue' len' v next looks₀ looks'
+      put_last p later =
+          record {
+            same = kept ∙ s.same;
+            marks_sized = p.marks_size_kept ∙ s.marks_sized;
+            queue_sized = p.queue_size_kept ∙ s.queue_sized;
+            fits = omega (arith, s.fits, p.marks_size_kept);
+            capacity = omega (arith, s.capacity, p.marks_size_kept, p.queue_size_kept);
+            high = p.high';
+            passed = suc s.passed;
+            cursor = next_cursor end g₀ w u s.passed e s.cursor here v next look₀;
+            within = omega (arith, passed_less here);
+            counted = omega (arith, s.counted, one_more);
+            q = p.q';
+            is = p.is';
+            once = p.once';
+            marked = p.marked';
+            before = λ n m.
+                elim (p.out n m) [
+                  | inl a ↦ omega (arith, s.before n a, later)
+                  | inr eq ↦ (let P : ℕ → Type 0 = λ z. place order z < place order v in subst P (sym eq) later)
+                ];
+            from = λ n m.
+                elim (p.out n m) [
+                  | inl a ↦ s.from n a
+                  | inr eq ↦ (let P : ℕ → Type 0 = λ z. (z ≡ u) ⊎ AreJoined g₀ u z in subst P (sym eq) s.last_from)
+                ];
+            last_from = inr child_of;
+            found = looked_more end g₀ w u s.passed e s.cursor here v next look₀ (λ z. Mem z p.q' ⊎ (z ≡ v)) (λ j x lt a.
+                elim (s.found j x lt a) [
+                  | inl m ↦ inl (p.old x.child m)
+                  | inr eq ↦ (let P : ℕ → Type 0 = λ z. Mem z p.q' in inl (subst P (sym eq) p.here))
+                ]) (inr refl);
+            front = inr (elim s.front [
+              | inl none ↦ elim p.front' [
+                | inl eq ↦ (let P : List ℕ → Type 0 = λ z. Mem last z in absurd (subst P (eq ∙ none.0) p.here))
+                | inr eq ↦ ([], eq ∙ ap (λ z. z ++ last ∷ []) none.0 ∙ ap (λ (z : ℕ). z ∷ []) none.1)
+              ]
+              | inr o ↦ elim p.front' [
+                | inl eq ↦ (o.0, eq ∙ o.1)
+                | inr eq ↦ (o.0 ++ last ∷ [], eq ∙ ap (λ z. z ++ last ∷ []) o.1)
+              ]
+            ]);
+          }
+
+      -- the child stands before another
+      pub put_child : {marks' : List Bool} {queue' : List ℕ} {len' : ℕ} → Put v marks' queue' len' → place order v < place order last → Beginning end marks_size queue_size g₀ g' order u marks' queue' len' last next looks₀ looks'
+      put_child p earlier =
+          record {
+            same = kept ∙ s.same;
+            marks_sized = p.marks_size_kept ∙ s.marks_sized;
+            queue_sized = p.queue_size_kept ∙ s.queue_sized;
+            fits = omega (arith, s.fits, p.marks_size_kept);
+            capacity = omega (arith, s.capacity, p.marks_size_kept, p.queue_size_kept);
+            high = p.high';
+            passed = suc s.passed;
+            cursor = next_cursor end g₀ w u s.passed e s.cursor here v next look₀;
+            within = omega (arith, passed_less here);
+            counted = omega (arith, s.counted, one_more);
+            q = p.q';
+            is = p.is';
+            once = p.once';
+            marked = p.marked';
+            before = λ n m.
+                elim (p.out n m) [
+                  | inl a ↦ s.before n a
+                  | inr eq ↦ (let P : ℕ → Type 0 = λ z. place order z < place order last in subst P (sym eq) earlier)
+                ];
+            from = λ n m.
+                elim (p.out n m) [
+                  | inl a ↦ s.from n a
+                  | inr eq ↦ (let P : ℕ → Type 0 = λ z. AreJoined g₀ u z in inr (subst P (sym eq) child_of))
+                ];
+            last_from = s.last_from;
+            found = looked_more end g₀ w u s.passed e s.cursor here v next look₀ (λ z. Mem z p.q' ⊎ (z ≡ last)) (λ j x lt a.
+                elim (s.found j x lt a) [
+                  | inl m ↦ inl (p.old x.child m)
+                  | inr eq ↦ inr eq
+                ]) (inl p.here);
+            front = elim s.front [
+              | inl none ↦ (
+                  let P : ℕ → Type 0 = λ z. place order v < place order z in
+                  let late = subst P none.1 earlier in
+                  absurd (omega (arith, late, ord.sorted u v child_of))
+                  )
+              | inr o ↦ inr (elim p.front' [
+                | inl eq ↦ (o.0, eq ∙ o.1)
+                | inr eq ↦ (o.0 ++ v ∷ [], eq ∙ ap (λ z. z ++ v ∷ []) o.1)
+              ])
+            ];
+          }
+
+      -- the child is the last one again
+      pub last_again : (place order last < place order v → ⊥) → (place order v < place order last → ⊥) → Beginning end marks_size queue_size g₀ g' order u marks queue len last next looks₀ looks'
+      last_again no_later no_earlier =
+          let one : v ≡ last = place_apart order v last (contains_mem order v ((ord.exact v).1 child_there)) (contains_mem order last ((ord.exact last).1 last_exists)) (omega (arith, no_later, no_earlier)) in
+          record {
+            same = kept ∙ s.same;
+            marks_sized = s.marks_sized;
+            queue_sized = s.queue_sized;
+            fits = s.fits;
+            capacity = s.capacity;
+            high = s.high;
+            passed = suc s.passed;
+            cursor = next_cursor end g₀ w u s.passed e s.cursor here v next look₀;
+            within = omega (arith, passed_less here);
+            counted = omega (arith, s.counted, one_more);
+            q = s.q;
+            is = s.is;
+            once = s.once;
+            marked = s.marked;
+            before = s.before;
+            from = s.from;
+            last_from = s.last_from;
+            found = looked_more end g₀ w u s.passed e s.cursor here v next look₀ (λ z. Mem z s.q ⊎ (z ≡ last)) s.found (inr one);
+            front = s.front;
+          }
+
+  -- the list was read whole
+  module _ (ended : e ≡ end) where
+    pub children_found : (v : ℕ) → AreJoined g₀ u v → Mem v s.q ⊎ (v ≡ last)
+    children_found v j = all_read end g₀ w u s.passed e s.cursor s.within ended (λ z. Mem z s.q ⊎ (z ≡ last)) s.found v j
+
+    pub all_passed : s.passed ≡ length (out_list g₀ u)
+    all_passed = read_whole end g₀ w u s.passed e s.cursor s.within ended
+
+    pub none_queued : len ≡ 0 → (v : ℕ) → AreJoined g₀ u v → ⊥
+    none_queued empty v j =
+        elim s.front [
+          | inl none ↦ (
+              let M : List ℕ → Type 0 = λ z. Mem v z in
+              elim (children_found v j) [
+                | inl m ↦ subst M none.0 m
+                | inr eq ↦ (let P : ℕ → Type 0 = λ z. place order u < place order z in absurd (omega (arith, subst P (eq ∙ none.1) (ord.sorted u v j))))
+              ]
+              )
+          | inr o ↦ absurd (omega (arith, empty, ap length s.is, ap length o.1, length-take-le len queue s.high))
+        ]
+
+    -- an empty queue is that of a node without edges
+    pub none_listed : len ≡ 0 → s.passed ≡ 0
+    none_listed empty = go s.passed refl
+      where
+        go : (k : ℕ) → k ≡ s.passed → s.passed ≡ 0
+        go zero is = sym is
+        go (suc k) is =
+            let low : 0 < length (out_list g₀ u) = omega (arith, is, s.within) in
+            let e₀ = get_or (out_list g₀ u) 0 end in
+            let p = leaves end g₀ w u e₀ (mem_at (out_list g₀ u) 0 end low) in
+            absurd (none_queued empty p.0.child (joins end g₀ w e₀ u p.0 p.1 p.2))

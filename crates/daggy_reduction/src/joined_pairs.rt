@@ -1,0 +1,102 @@
+//! The joined pairs of two graphs.
+ghost use Rattle.std.specs.Prelude.{◌≡◌, ℕ, ◌≤◌, ◌↔◌, ◌⊎◌, true, false, length, slice_index_or, IsTrue};
+ghost use Rattle.daggy_base.specs.Graph.{node_bound};
+ghost use Rattle.daggy_base.specs.Path.{AreJoined};
+ghost use Rattle.daggy_base.specs.WellFormed.{IsWellFormed};
+ghost use Rattle.daggy_reduction.specs.Comparison.{JoinsAll, JoinSamePairs};
+
+use daggy_base::index::{EdgeIndex, IndexType, NodeIndex};
+use daggy_base::search::{EdgeSource, Marks};
+
+// Marks the children of a node.
+fn mark_children<Ix: IndexType, S: EdgeSource<Ix>>(
+    source: &mut S,
+    u: NodeIndex<Ix>,
+    marks: &mut Marks,
+)
+    requires well_formed { IsWellFormed Ix.greatest (S.graph source.old) }
+    requires fits { node_bound (S.graph source.old) ≤ length marks.old }
+    ensures same { S.graph source.new ≡ S.graph source.old }
+    ensures marked { (n : ℕ) → (slice_index_or marks.new n false ≡ true)
+        ↔ ((slice_index_or marks.old n false ≡ true) ⊎ AreJoined (S.graph source.old) (Ix.number u) n) }
+    ensures kept { length marks.new ≡ length marks.old }
+{
+    let end = EdgeIndex::<Ix>::end().index();
+    let mut e = source.first(u);
+    'edges: while e.index() != end {
+        let (v, next) = source.look(e);
+        marks.mark(v.index());
+        e = next;
+    }
+}
+
+// Whether all children of a node are marked.
+fn are_children_marked<Ix: IndexType, S: EdgeSource<Ix>>(
+    source: &mut S,
+    u: NodeIndex<Ix>,
+    marks: &Marks,
+) -> bool
+    requires well_formed { IsWellFormed Ix.greatest (S.graph source.old) }
+    requires fits { node_bound (S.graph source.old) ≤ length marks.now }
+    ensures same { S.graph source.new ≡ S.graph source.old }
+    ensures decided { IsTrue result ↔ ((n : ℕ) → AreJoined (S.graph source.old) (Ix.number u) n → slice_index_or marks.now n false ≡ true) }
+{
+    let end = EdgeIndex::<Ix>::end().index();
+    let mut e = source.first(u);
+    'edges: while e.index() != end {
+        let (v, next) = source.look(e);
+        if !marks.is_marked(v.index()) {
+            return false;
+        }
+        e = next;
+    }
+    true
+}
+
+// Whether one graph joins all pairs of nodes that another joins.
+fn joins_all<Ix: IndexType, A: EdgeSource<Ix>, B: EdgeSource<Ix>>(
+    a: &mut A,
+    b: &mut B,
+    marks: &mut Marks,
+) -> bool
+    requires fits { node_bound (A.graph a.old) ≤ length marks.old }
+    requires other_fits { node_bound (B.graph b.old) ≤ length marks.old }
+    ensures decided { IsTrue result ↔ JoinsAll (A.graph a.old) (B.graph b.old) }
+    ensures same { A.graph a.new ≡ A.graph a.old }
+    ensures other_same { B.graph b.new ≡ B.graph b.old }
+    ensures kept { length marks.new ≡ length marks.old }
+{
+    let bound = a.node_bound();
+    let _well_formed = b.node_bound();
+    let mut n = 0;
+    'nodes: while n < bound {
+        let u = NodeIndex::new(n);
+        marks.clear();
+        mark_children(b, u, marks);
+        if !are_children_marked(a, u, marks) {
+            return false;
+        }
+        n += 1;
+    }
+    true
+}
+
+/// Whether two graphs join the same pairs of nodes. The marks are as long as the bounds of both.
+///
+/// It cannot fail for want of memory. The cost is that of going through both graphs twice.
+pub fn join_same_pairs<Ix: IndexType, A: EdgeSource<Ix>, B: EdgeSource<Ix>>(
+    a: &mut A,
+    b: &mut B,
+    marks: &mut Marks,
+) -> bool
+    requires fits { node_bound (A.graph a.old) ≤ length marks.old }
+    requires other_fits { node_bound (B.graph b.old) ≤ length marks.old }
+    ensures decided { IsTrue result ↔ JoinSamePairs (A.graph a.old) (B.graph b.old) }
+    ensures same { A.graph a.new ≡ A.graph a.old }
+    ensures other_same { B.graph b.new ≡ B.graph b.old }
+{
+    if !joins_all(a, b, marks) {
+        return false;
+    }
+    joins_all(b, a, marks)
+}

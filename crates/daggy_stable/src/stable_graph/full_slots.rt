@@ -1,0 +1,62 @@
+//! Going past vacant slots.
+ghost use Rattle.std.specs.Prelude.{◌≡◌, ◌+◌, ◌<◌, ◌≤◌, ◌^◌, Bool, Some, None, [], is_none, length, IfSome, IfNone};
+ghost use Rattle.daggy_stable.specs.FullSlots.{next_full as next_full_of};
+
+use daggy_base::index::IndexType;
+use daggy_cells::cell::{Edge, Node};
+
+// What is stored in a slot.
+pub(super) trait Slot {
+    ghost vacant: { Self → Bool };
+
+    fn is_vacant(&self) -> bool
+        ensures { result ≡ vacant self.now };
+}
+
+impl<N, Ix: IndexType> Slot for Node<Option<N>, Ix> {
+    ghost vacant = { λ x. is_none x.weight };
+
+    #[inline]
+    fn is_vacant(&self) -> bool {
+        self.weight.is_none()
+    }
+}
+
+impl<E, Ix: IndexType> Slot for Edge<Option<E>, Ix> {
+    ghost vacant = { λ x. is_none x.weight };
+
+    #[inline]
+    fn is_vacant(&self) -> bool {
+        self.weight.is_none()
+    }
+}
+
+// The slots that are still to be gone through, and the index of the first of them.
+#[derive(Drop)]
+pub(super) struct FullSlots<'a, C> {
+    pub(super) cells: &'a [C],
+    pub(super) index: usize,
+}
+
+impl<'a, C: Slot> FullSlots<'a, C> {
+    // The next slot that is not vacant, with its index.
+    #[inline]
+    pub(super) fn next_full(&mut self) -> Option<(usize, &'a C)>
+        requires { self.old.index + length self.old.cells.now < 2 ^ 64 }
+        ensures found { IfSome result (λ p. next_full_of C.vacant self.old.index self.old.cells.now ≡ Some (p.0, (p.1.now, self.new.cells.now))) }
+        ensures index { IfSome result (λ p. self.new.index ≡ p.0 + 1) }
+        ensures bound { self.new.index + length self.new.cells.now ≤ self.old.index + length self.old.cells.now }
+        ensures none { IfNone result (next_full_of C.vacant self.old.index self.old.cells.now ≡ None) }
+        ensures ended { IfNone result (self.new.cells.now ≡ []) }
+    {
+        'along: while let Some((x, rest)) = self.cells.split_first() {
+            let i = self.index;
+            self.cells = rest;
+            self.index += 1;
+            if !x.is_vacant() {
+                return Some((i, x));
+            }
+        }
+        None
+    }
+}

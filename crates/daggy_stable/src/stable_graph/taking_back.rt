@@ -1,0 +1,77 @@
+//! Undoing the adding of nodes and edges.
+ghost use Rattle.std.specs.Prelude.{◌≡◌, ◌+◌, IsTrue, true, Some, [], length};
+ghost use Rattle.daggy_base.specs.declared.index.Direction.{Direction};
+ghost use Rattle.daggy_base.specs.Graph.{node_weight, HasNode, HasEdge, list_at};
+ghost use Rattle.daggy_base.specs.Weights.{edge_weight};
+ghost use Rattle.daggy_base.specs.TakingBack.{with_edge_taken_back, with_node_taken_back, UndoesEdge, UndoesNode};
+ghost use Rattle.daggy_base.specs.State.{with_graph};
+
+use crate::stable_graph::StableDiGraph;
+use crate::stable_graph::removal::unlink;
+use daggy_base::index::{EdgeIndex, IndexType, NodeIndex};
+use daggy_base::link::Link;
+
+impl<N, E, Ix: IndexType> StableDiGraph<N, E, Ix> {
+    /// Undoes the adding of an edge, and hands back its weight. The slot is cut off if it was made for the edge, else
+    /// vacated.
+    ///
+    /// The cost grows with the number of edges before it in its two lists, and is constant for the edge that was added
+    /// last. It cannot fail for want of memory.
+    pub fn take_back_edge(&mut self, e: EdgeIndex<Ix>, made: bool) -> E
+        requires exists { HasEdge self.old.graph (Ix.number e) }
+        requires last { IsTrue made → Ix.number e + 1 ≡ length self.old.graph.edges }
+        ensures gives { edge_weight self.old.graph (Ix.number e) ≡ Some result }
+        ensures removed { self.new ≡ with_graph self.old (with_edge_taken_back made self.old.graph (Ix.number e)) }
+        ensures undone { UndoesEdge Ix.greatest made self.old.graph (Ix.number e) self.new.graph }
+    {
+        if made {
+            return self.cut_edge(e).unwrap();
+        }
+        self.vacate_edge(e).unwrap()
+    }
+
+    // Takes the edge in the last slot out of its lists, and cuts the slot off.
+    fn cut_edge(&mut self, e: EdgeIndex<Ix>) -> Option<E>
+        requires exists { HasEdge self.old.graph (Ix.number e) }
+        requires last { Ix.number e + 1 ≡ length self.old.graph.edges }
+        ensures value { result ≡ edge_weight self.old.graph (Ix.number e) }
+        ensures removed { self.new ≡ with_graph self.old (with_edge_taken_back true self.old.graph (Ix.number e)) }
+    {
+        unlink(&mut self.nodes, &mut self.edges, Link::of_edge(e));
+        self.edge_count -= 1;
+        let x = self.edges.pop().unwrap();
+        x.weight
+    }
+
+    /// Undoes the adding of a node that has no edges, and hands back its weight. The slot is cut off if it was made for
+    /// the node, else vacated.
+    ///
+    /// It cannot fail for want of memory.
+    pub fn take_back_node(&mut self, n: NodeIndex<Ix>, made: bool) -> N
+        requires exists { HasNode self.old.graph (Ix.number n) }
+        requires no_edges { (dir : Direction) → list_at dir self.old.graph (Ix.number n) ≡ [] }
+        requires last { IsTrue made → Ix.number n + 1 ≡ length self.old.graph.nodes }
+        ensures gives { node_weight self.old.graph (Ix.number n) ≡ Some result }
+        ensures removed { self.new ≡ with_graph self.old (with_node_taken_back made self.old.graph (Ix.number n)) }
+        ensures undone { UndoesNode Ix.greatest made self.old.graph (Ix.number n) self.new.graph }
+    {
+        if made {
+            return self.cut_node(n).unwrap();
+        }
+        self.vacate_node(n).unwrap()
+    }
+
+    // Cuts off the last slot, which is that of a node that has no edges.
+    fn cut_node(&mut self, n: NodeIndex<Ix>) -> Option<N>
+        requires exists { HasNode self.old.graph (Ix.number n) }
+        requires no_edges { (dir : Direction) → list_at dir self.old.graph (Ix.number n) ≡ [] }
+        requires last { Ix.number n + 1 ≡ length self.old.graph.nodes }
+        ensures value { result ≡ node_weight self.old.graph (Ix.number n) }
+        ensures removed { self.new ≡ with_graph self.old (with_node_taken_back true self.old.graph (Ix.number n)) }
+    {
+        let _number = n.index();
+        self.node_count -= 1;
+        let x = self.nodes.pop().unwrap();
+        x.weight
+    }
+}
