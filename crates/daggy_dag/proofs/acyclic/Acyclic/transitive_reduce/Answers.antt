@@ -106,7 +106,7 @@ returns-clause-keeps g c =
 pub invariant_of-self : goal.invariant_of-self
 invariant_of-self g c =
     let reduce = c.transitive_reduce.ensures in
-    kept_fewer c.self.inside.order c.self.inside.scratch.nodes c.transitive_reduce.new.scratch.nodes (g.S.EdgeSource.graph c.self.inside.store) (g.S.EdgeSource.graph c.transitive_reduce.new.store) reduce.nodes reduce.fewer c.self.invariant reduce.capacity
+    kept_fewer c.self.inside.order c.self.inside.scratch.nodes c.transitive_reduce.new.scratch.nodes (g.S.EdgeSource.graph c.self.inside.store) (g.S.EdgeSource.graph c.transitive_reduce.new.store) reduce.nodes reduce.fewer c.self.invariant reduce.capacity_kept
 
 pub returns-clause-acyclic : goal.returns-clause-acyclic
 returns-clause-acyclic g c = acyclic_from_order _ (invariant_of-self g c).0
