@@ -38,7 +38,9 @@ fn put<Ix: IndexType>(
 }
 
 // Takes back a node that was just added, and hands its weight back. There were so many slots before.
-#[inline]
+// Apart, so that what is inlined stays small.
+#[cold]
+#[inline(never)]
 fn take_back<Ix: IndexType, S: Store<Ix>>(
     store: &mut S,
     n: NodeIndex<Ix>,

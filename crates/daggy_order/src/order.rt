@@ -186,7 +186,7 @@ impl<Ix: IndexType> Order<Ix> {
     }
 
     /// Puts a node first. The cost is that of `push`.
-    #[inline]
+    #[inline(never)]
     pub fn push_first(&mut self, n: NodeIndex<Ix>) -> Result<(), AllocError>
         requires real { Ix.number n < Ix.greatest }
         requires absent { ¬ Contains self.old (Ix.number n) }

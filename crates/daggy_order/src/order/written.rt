@@ -195,7 +195,7 @@ impl<Ix: IndexType> Written<Ix> {
     }
 
     // Takes a node out. Constant time.
-    #[inline]
+    #[inline(never)]
     pub(crate) fn remove(&mut self, n: NodeIndex<Ix>)
         requires { Contains self.old.nodes (Ix.number n) }
         ensures { self.new.nodes ≡ without (Ix.number n) self.old.nodes }
