@@ -9,7 +9,7 @@ use Rattle.dagbench_engine.specs.declared.stop.Stop.TheVariants.{Read, Write, Me
 use Rattle.dagbench_engine.specs.Cutting.{lines_of, ended_lines_of}
 use Rattle.dagbench_engine.specs.Serving.{Serves}
 use Rattle.dagbench_engine.specs.Progress.{IsServed, GoesOn}
-use Rattle.dagbench_engine.specs.Ends.{IsRun}
+use Rattle.dagbench_engine.specs.Ends.{Exchange, IsRun}
 use Rattle.dagbench_engine.proofs.ServedSoFar.{fails, starts}
 
 -- what was pending is taken
@@ -63,31 +63,31 @@ met old new count buffer is is_zero room =
     is ∙ (ap (λ b. old || b) (ap (λ n. n == 0 && nat_lt 0 (length buffer)) is_zero ∙ lt-ltb 0 (length buffer) room) ∙ or_true old)
 
 -- the clauses of a run
-module _ (kind : Kind) (plans : Bool) (given_old given_new taken_old taken_new : List ℕ) (is_ended : Bool) (reads_old reads_new writes_old writes_new : ℕ) where
+module _ (kind : Kind) (plans : Bool) (old new : Exchange) (is_ended : Bool) where
   abbrev pub Is : Result (Unit {0}) Stop → Type 0
-  Is r = IsRun kind plans r given_old given_new taken_old taken_new is_ended reads_old reads_new writes_old writes_new
+  Is r = IsRun kind plans r old new is_ended
 
   pub run_ends : (r : Result (Unit {0}) Stop) → Is r → OnOk r (is_ended ≡ true)
   run_ends (Ok done) is = is.1
   run_ends (Err stop) is = tt
 
-  pub run_serves : (r : Result (Unit {0}) Stop) → Is r → OnOk r (Serves kind plans lines_of given_old given_new taken_old taken_new)
+  pub run_serves : (r : Result (Unit {0}) Stop) → Is r → OnOk r (Serves kind plans lines_of old.given new.given old.taken new.taken)
   run_serves (Ok done) is = is.0
   run_serves (Err stop) is = tt
 
-  pub run_tells_read : (r : Result (Unit {0}) Stop) → Is r → (r ≡ Err Read) ↔ (reads_old < reads_new)
+  pub run_tells_read : (r : Result (Unit {0}) Stop) → Is r → (r ≡ Err Read) ↔ (old.failed_reads < new.failed_reads)
   run_tells_read (Ok done) is = (λ e. absurd (cc), λ h. absurd (omega arith))
   run_tells_read (Err Read) is = (λ e. omega arith, λ h. refl)
   run_tells_read (Err Write) is = (λ e. absurd (cc), λ h. absurd (omega arith))
   run_tells_read (Err Memory) is = absurd is
 
-  pub run_tells_write : (r : Result (Unit {0}) Stop) → Is r → (r ≡ Err Write) ↔ (writes_old < writes_new)
+  pub run_tells_write : (r : Result (Unit {0}) Stop) → Is r → (r ≡ Err Write) ↔ (old.failed_writes < new.failed_writes)
   run_tells_write (Ok done) is = (λ e. absurd (cc), λ h. absurd (omega arith))
   run_tells_write (Err Read) is = (λ e. absurd (cc), λ h. absurd (omega arith))
   run_tells_write (Err Write) is = (λ e. omega arith, λ h. refl)
   run_tells_write (Err Memory) is = absurd is
 
-  pub run_replies : (r : Result (Unit {0}) Stop) → Is r → r ≡ Err Read → Serves kind false ended_lines_of given_old given_new taken_old taken_new
+  pub run_replies : (r : Result (Unit {0}) Stop) → Is r → r ≡ Err Read → Serves kind false ended_lines_of old.given new.given old.taken new.taken
   run_replies (Ok done) is e = absurd (cc)
   run_replies (Err Read) is e = is.0
   run_replies (Err Write) is e = absurd (cc)

@@ -6,13 +6,22 @@ use Rattle.dagbench_engine.specs.declared.stop.Stop.TheVariants.{Read, Write, Me
 use Rattle.dagbench_engine.specs.Cutting.{lines_of, ended_lines_of}
 use Rattle.dagbench_engine.specs.Serving.{Serves}
 
+-- What a run has exchanged with its devices: the bytes that the source gave and that the sink took, and how many calls of each failed.
+pub record Exchange : Type 0 where
+  pub given : List ℕ
+  pub taken : List ℕ
+  pub failed_reads : ℕ
+  pub failed_writes : ℕ
+
 -- The run of a new session: at most one call failed, the one that is told, and want of memory is not told. There is no plan
 -- where the source failed.
-abbrev pub IsRun : Kind → (plans : Bool) → Result (Unit {0}) Stop → (given_old given_new taken_old taken_new : List ℕ) (is_ended : Bool) (reads_old reads_new writes_old writes_new : ℕ) → Type 0
-IsRun kind plans (Ok done) given_old given_new taken_old taken_new is_ended reads_old reads_new writes_old writes_new =
-    Serves kind plans lines_of given_old given_new taken_old taken_new × (is_ended ≡ true) × (reads_new ≡ reads_old) × (writes_new ≡ writes_old)
-IsRun kind plans (Err Read) given_old given_new taken_old taken_new is_ended reads_old reads_new writes_old writes_new =
-    Serves kind false ended_lines_of given_old given_new taken_old taken_new × (reads_new ≡ reads_old + 1) × (writes_new ≡ writes_old)
-IsRun kind plans (Err Write) given_old given_new taken_old taken_new is_ended reads_old reads_new writes_old writes_new =
-    (reads_new ≡ reads_old) × (writes_new ≡ writes_old + 1)
-IsRun kind plans (Err Memory) given_old given_new taken_old taken_new is_ended reads_old reads_new writes_old writes_new = ⊥
+abbrev pub IsRun : Kind → (plans : Bool) → Result (Unit {0}) Stop → (old new : Exchange) → (is_ended : Bool) → Type 0
+IsRun kind plans (Ok done) old new is_ended =
+    Serves kind plans lines_of old.given new.given old.taken new.taken × (is_ended ≡ true)
+    × (new.failed_reads ≡ old.failed_reads) × (new.failed_writes ≡ old.failed_writes)
+IsRun kind plans (Err Read) old new is_ended =
+    Serves kind false ended_lines_of old.given new.given old.taken new.taken
+    × (new.failed_reads ≡ old.failed_reads + 1) × (new.failed_writes ≡ old.failed_writes)
+IsRun kind plans (Err Write) old new is_ended =
+    (new.failed_reads ≡ old.failed_reads) × (new.failed_writes ≡ old.failed_writes + 1)
+IsRun kind plans (Err Memory) old new is_ended = ⊥

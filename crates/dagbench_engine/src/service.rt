@@ -91,9 +91,10 @@ fn run<D: Documented, S: Source, K: Sink>(
     requires block_not_empty { 0 < length block.old }
     requires graph { D.graph session.dag ≡ empty }
     requires nothing { (session.line ≡ []) × (session.output ≡ []) }
-    ensures { IsRun D.kind plans result (S.given source.old) (S.given source.new)
-        (K.taken sink.old) (K.taken sink.new) (S.is_ended source.new)
-        (S.failures source.old) (S.failures source.new) (K.failures sink.old) (K.failures sink.new) }
+    ensures { IsRun D.kind plans result
+        (record { given = S.given source.old; taken = K.taken sink.old; failed_reads = S.failures source.old; failed_writes = K.failures sink.old })
+        (record { given = S.given source.new; taken = K.taken sink.new; failed_reads = S.failures source.new; failed_writes = K.failures sink.new })
+        (S.is_ended source.new) }
 {
     'reads: loop {
         let Ok(()) = session.output.flush(sink) else {

@@ -36,19 +36,19 @@ pub run-requires-clause-nothing : goal.run-requires-clause-nothing
 run-requires-clause-nothing g c = c.in-Ok-new.ensures.nothing
 
 pub returns-clause-end : goal.returns-clause-end
-returns-clause-end g c = run_ends _ _ _ _ _ _ _ _ _ _ _ _ c.run.ensures
+returns-clause-end g c = run_ends _ _ _ _ _ _ c.run.ensures
 
 pub returns-clause-served : goal.returns-clause-served
-returns-clause-served g c = run_serves _ _ _ _ _ _ _ _ _ _ _ _ c.run.ensures
+returns-clause-served g c = run_serves _ _ _ _ _ _ c.run.ensures
 
 pub returns-clause-read : goal.returns-clause-read
-returns-clause-read g c = run_tells_read _ _ _ _ _ _ _ _ _ _ _ _ c.run.ensures
+returns-clause-read g c = run_tells_read _ _ _ _ _ _ c.run.ensures
 
 pub returns-clause-write : goal.returns-clause-write
-returns-clause-write g c = run_tells_write _ _ _ _ _ _ _ _ _ _ _ _ c.run.ensures
+returns-clause-write g c = run_tells_write _ _ _ _ _ _ c.run.ensures
 
 pub returns-clause-replied : goal.returns-clause-replied
-returns-clause-replied g c = run_replies _ _ _ _ _ _ _ _ _ _ _ _ c.run.ensures
+returns-clause-replied g c = run_replies _ _ _ _ _ _ c.run.ensures
 
 pub returns-clause-memory : goal.returns-clause-memory
-returns-clause-memory g c = run_has_room _ _ _ _ _ _ _ _ _ _ _ _ _ c.run.ensures
+returns-clause-memory g c = run_has_room _ _ _ _ _ _ _ c.run.ensures
