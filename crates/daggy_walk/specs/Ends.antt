@@ -5,6 +5,7 @@ use Rattle.daggy_walk.specs.Adapters.{chain_left}
 use lib.Dec.{T}
 use mathlib.Core.Bool.{cond}
 
+-- where both tests pass, `a and b` does
 both_on : (a b : Bool) → T a → T b → T (cond a b false)
 both_on true b h k = k
 both_on false b h k = absurd h
