@@ -130,8 +130,8 @@ last_removed g e last =
     let h = with_edge_taken_back true g e in
     let same : (n : ℕ) → renamed (length g.edges - 1) e n ≡ n = λ n.
     ap (λ z. renamed z e n) from ∙ renamed_itself e n in
-    same_graph h refl (cut_last g.edges e None last) (rows_itself _ same h.out_lists) (rows_itself _ same h.in_lists)
-    refl refl
+    same_graph h refl (cut_last g.edges e None last) (rows_itself _ same h.out_lists)
+    (rows_itself _ same h.in_lists) refl refl
 
 -- taking back the edge that was added last gives the graph from before
 pub undoes_edge : {N E : Type 0} (end : ℕ) (made : Bool) (old : Graph N E) (e : ℕ) (new : Graph N E)

@@ -200,8 +200,8 @@ module _ {N E : Type 0} (nodes : List (Option N)) where
       ≡ graph_of_slots nodes (edges ++ None ∷ [])
   of_slots_left edges last is =
       same_graph (graph_of_slots nodes (edges ++ None ∷ [])) refl refl
-      (sym (lists_down-vacant Outgoing (length nodes) edges)) (sym (lists_down-vacant Incoming (length nodes) edges))
-      refl
+      (sym (lists_down-vacant Outgoing (length nodes) edges))
+      (sym (lists_down-vacant Incoming (length nodes) edges)) refl
       (ap (λ k. k ∷ vacant_down edges) is ∙ sym (vacant_down_more edges None))
 
   pub of_slots_taken : (edges : List (Option (Edge E))) (a b : ℕ) (w : E) (last : ℕ)

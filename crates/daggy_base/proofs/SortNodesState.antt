@@ -94,10 +94,10 @@ pub rests : {N E : Type 0} {end : ℕ} (g : Graph N E) (discovered finished : Li
     → node_bound g ≤ length discovered → length discovered ≤ length finished → length discovered ≤ length stack
     → length discovered ≤ length cursors → ((n : ℕ) → get_or discovered n false ≡ false)
     → ((n : ℕ) → get_or finished n false ≡ false)
-    → Resting end (length discovered) (length finished) g g discovered finished stack cursors 0 (length stack) before
-    before
-rests {N} {E} {end} g discovered finished stack cursors before bounded finished_fits stack_fits cursors_fit clear
-    empty =
+    → Resting end (length discovered) (length finished) g g discovered finished stack cursors 0 (length stack)
+    before before
+rests {N} {E} {end} g discovered finished stack cursors before bounded finished_fits stack_fits cursors_fit
+    clear empty =
     record {
       sizes = record {
         same = refl;
@@ -332,8 +332,8 @@ module _ {N E : Type 0} {end size finished_size : ℕ} {g₀ g : Graph N E} (w :
     -- the walk goes on at the node before it
     pub steps_back : len ≢ 0 → (k : ℕ) → k ≡ len - 1 → (u c n' e' : ℕ) → u ≡ get_or (set stack at n) k u
         → c ≡ get_or cursors k c → n' ≡ u → e' ≡ c
-        → Walking end size finished_size g₀ g discovered (set finished m true) (set stack at n) cursors i at k n' e'
-        before now
+        → Walking end size finished_size g₀ g discovered (set finished m true) (set stack at n) cursors i at k n'
+        e' before now
     steps_back some k last u c n' e' is_node is_cursor node_is edge_is =
         on s.way (omega (arith, s.deep)) after
         (kept_stack end g₀ stack cursors at n s.way (omega (arith, place_free, s.deep)) s.kept)
@@ -341,8 +341,8 @@ module _ {N E : Type 0} {end size finished_size : ℕ} {g₀ g : Graph N E} (w :
         on : (ss : List Stop)
             → length (nodes_of ss) ≡ k + 1 → Leaving end g₀ discovered (set finished n true) ss (n ∷ s.order) s.looked
             → AreKept end g₀ (set stack at n) cursors ss
-            → Walking end size finished_size g₀ g discovered (set finished m true) (set stack at n) cursors i at k n' e'
-            before now
+            → Walking end size finished_size g₀ g discovered (set finished m true) (set stack at n) cursors i at k n'
+            e' before now
         on [] more l kept = absurd (omega arith)
         on (t ∷ ss) more l kept =
             let deep : k ≡ length (nodes_of ss) = omega arith in
@@ -354,8 +354,8 @@ module _ {N E : Type 0} {end size finished_size : ℕ} {g₀ g : Graph N E} (w :
             Leaving end g₀ discovered (set finished z true) (record { node = t.node; passed = t.passed } ∷ ss)
             (n ∷ s.order) s.looked in
             let Q : ℕ → Type 0 = λ z.
-            Leaving end g₀ discovered (set finished m true) (record { node = z; passed = t.passed } ∷ ss) (n ∷ s.order)
-            s.looked in
+            Leaving end g₀ discovered (set finished m true) (record { node = z; passed = t.passed } ∷ ss)
+            (n ∷ s.order) s.looked in
             record {
               sizes = sizes;
               visited = s.visited;
@@ -417,8 +417,8 @@ module _ {N E : Type 0} {end size finished_size : ℕ} {g₀ g : Graph N E} (w :
             passed = suc s.passed;
             behind = s.behind;
             state =
-                passes end g₀ w discovered finished n s.passed s.way s.order s.looked s.state e s.cursor here v next
-                look₀ seen;
+                passes end g₀ w discovered finished n s.passed s.way s.order s.looked s.state e s.cursor here v
+                next look₀ seen;
             cursor = next_cursor end g₀ w n s.passed e s.cursor here v next look₀;
             deep = s.deep;
             high = s.high;
@@ -433,8 +433,8 @@ module _ {N E : Type 0} {end size finished_size : ℕ} {g₀ g : Graph N E} (w :
           let low = child_low in
           let more = room_here unseen in
           let on =
-          enters end g₀ w discovered finished n s.passed s.way s.order s.looked s.state e s.cursor here v next look₀ low
-          unseen in
+          enters end g₀ w discovered finished n s.passed s.way s.order s.looked s.state e s.cursor here v next look₀
+          low unseen in
           let P : ℕ → Type 0 = λ z.
           Leaving end g₀ (set discovered z true) finished
           (record { node = v; passed = 0 } ∷ record { node = n; passed = suc s.passed } ∷ s.way) s.order
