@@ -1,11 +1,13 @@
 -- A copy is equal where each weight's clone is.
-use Rattle.std.proofs.Common.{subst, sym, ◌≡◌, ℕ, ◌+◌, Option, Some, None, List, [], ◌∷◌, refl, ap, ◌∙◌, Result, Ok, Err, MatchResult, IfOk}
+use Rattle.std.proofs.Common.{subst, sym, ◌≡◌, ℕ, ◌+◌, Option, Some, None, List, [], ◌∷◌, refl, ap, ◌∙◌, Result, Ok}
+use Rattle.std.proofs.Common.{Err, MatchResult, IfOk}
 use Rattle.daggy_base.specs.Graph.{Graph, Edge}
 use Rattle.daggy_base.specs.State.{State}
 use Rattle.daggy_base.specs.Mapping.{MapsSlots, weight_in, with_weight}
 use Rattle.daggy_base.specs.Copying.{clone_step, IsCopy}
 
-slots_same : {A W : Type 0} (is : W → W → Type 0) (weight : A → W) (with : A → W → A) → ((x : A) → with x (weight x) ≡ x) → ((x y : W) → is x y → y ≡ x)
+slots_same : {A W : Type 0} (is : W → W → Type 0) (weight : A → W) (with : A → W → A)
+    → ((x : A) → with x (weight x) ≡ x) → ((x y : W) → is x y → y ≡ x)
     → (i : ℕ) (xs ys : List (Option A)) → MapsSlots (clone_step is) (λ i. i) weight with tt i xs ys → ys ≡ xs
 slots_same is weight with again same i [] ys m = m
 slots_same is weight with again same i (None ∷ xs) ys (later, is_later, more) =
@@ -15,7 +17,8 @@ slots_same is weight with again same i (Some x ∷ xs) ys (v, next, called, late
     is_later ∙ ap (λ z. Some (with x z) ∷ later) clone ∙ ap (λ z. Some z ∷ later) (again x)
     ∙ ap (λ l. Some x ∷ l) (slots_same is weight with again same (i + 1) xs later more)
 
-pub copy_same : {N E : Type 0} (node_clone : N → N → Type 0) (edge_clone : E → E → Type 0) → ((x y : N) → node_clone x y → y ≡ x) → ((x y : E) → edge_clone x y → y ≡ x)
+pub copy_same : {N E : Type 0} (node_clone : N → N → Type 0) (edge_clone : E → E → Type 0)
+    → ((x y : N) → node_clone x y → y ≡ x) → ((x y : E) → edge_clone x y → y ≡ x)
     → (old new : Graph N E) → IsCopy node_clone edge_clone old new → new ≡ old
 copy_same {N} {E} node_clone edge_clone nodes edges old new copy =
     let mk : List (Option N) → List (Option (Edge E)) → List (List ℕ) → List (List ℕ) → List ℕ → List ℕ → Graph N E =
@@ -30,14 +33,18 @@ copy_same {N} {E} node_clone edge_clone nodes edges old new copy =
     ∙ ap (mk old.nodes old.edges old.out_lists old.in_lists old.vacant_nodes) copy.vacant_edges
 
 -- what a clone is where each weight's clone is equal
-pub copies_same : {N E X : Type 0} (node_clone : N → N → Type 0) (edge_clone : E → E → Type 0) → ((x y : N) → node_clone x y → y ≡ x) → ((x y : E) → edge_clone x y → y ≡ x)
-    → (s : State N E) (r : Result (State N E) X) (Q : X → Type 0) → MatchResult r (λ copy. IsCopy node_clone edge_clone s.graph copy.graph × (copy.looks ≡ 0)) Q → IfOk r (λ copy. copy ≡ record { graph = s.graph; looks = 0 })
+pub copies_same : {N E X : Type 0} (node_clone : N → N → Type 0) (edge_clone : E → E → Type 0)
+    → ((x y : N) → node_clone x y → y ≡ x) → ((x y : E) → edge_clone x y → y ≡ x)
+    → (s : State N E) (r : Result (State N E) X) (Q : X → Type 0)
+    → MatchResult r (λ copy. IsCopy node_clone edge_clone s.graph copy.graph × (copy.looks ≡ 0)) Q
+    → IfOk r (λ copy. copy ≡ record { graph = s.graph; looks = 0 })
 copies_same {N} {E} node_clone edge_clone nodes edges s (Ok copy) Q c =
     let mk : Graph N E → ℕ → State N E = λ g k. record { graph = g; looks = k } in
     ap (λ g. mk g copy.looks) (copy_same node_clone edge_clone nodes edges s.graph copy.graph c.0) ∙ ap (mk s.graph) c.1
 copies_same node_clone edge_clone nodes edges s (Err x) Q c = tt
 
 -- what holds of a graph holds of an equal one
-pub copies_hold : {N E X : Type 0} (P : Graph N E → Type 0) (s : State N E) (r : Result (State N E) X) → IfOk r (λ copy. copy ≡ record { graph = s.graph; looks = 0 }) → P s.graph → IfOk r (λ copy. P copy.graph)
+pub copies_hold : {N E X : Type 0} (P : Graph N E → Type 0) (s : State N E) (r : Result (State N E) X)
+    → IfOk r (λ copy. copy ≡ record { graph = s.graph; looks = 0 }) → P s.graph → IfOk r (λ copy. P copy.graph)
 copies_hold P s (Ok copy) same h = subst P (sym (ap (λ z. z.graph) same)) h
 copies_hold P s (Err x) same h = tt

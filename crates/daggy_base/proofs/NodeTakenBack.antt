@@ -1,5 +1,6 @@
 -- A node that is taken back leaves the graph from before.
-use Rattle.std.proofs.Common.{◌≡◌, ℕ, Bool, ◌+◌, ◌-◌, true, List, [], ◌∷◌, length, map, get_or, set, Option, Some, None, slice_get, inl, refl, sym, ap, subst, ◌∙◌, arith}
+use Rattle.std.proofs.Common.{◌≡◌, ℕ, Bool, ◌+◌, ◌-◌, true, List, [], ◌∷◌, length, map, get_or, set, Option, Some, None}
+use Rattle.std.proofs.Common.{slice_get, inl, refl, sym, ap, subst, ◌∙◌, arith}
 use Rattle.std.specs.Option.{option_map}
 use Rattle.std.proofs.lemmas.Bool.{false≢true}
 use Rattle.std.proofs.lemmas.List.{set-get_or}
@@ -24,12 +25,15 @@ abbrev VacantRowEmpty : List (List ℕ) → List ℕ → Type 0
 VacantRowEmpty rows [] = Unit {0}
 VacantRowEmpty rows (v ∷ vs) = get_or rows v [] ≡ []
 
-rows_undone : {A : Type 0} (nodes : List A) (rows : List (List ℕ)) (vacant : List ℕ) → length rows ≡ length nodes → VacantRowEmpty rows vacant
+rows_undone : {A : Type 0} (nodes : List A) (rows : List (List ℕ)) (vacant : List ℕ)
+    → length rows ≡ length nodes → VacantRowEmpty rows vacant
     → lists_taken_back (is_slot_made vacant) (with_slot_filled rows vacant []) (next_slot nodes vacant) ≡ rows
 rows_undone nodes rows [] same empty = rw (← same) (take-append_seam rows ([] ∷ []))
 rows_undone nodes rows (v ∷ vs) same empty = ap (set rows v) (sym empty) ∙ set-get_or rows v []
 
-vacant_empty : {A : Type 0} (nodes : List (Option A)) (rows : List (List ℕ)) (vacant : List ℕ) → ((i : ℕ) → slot nodes i ≡ None → get_or rows i [] ≡ []) → ((v : ℕ) (vs : List ℕ) → vacant ≡ v ∷ vs → slice_get nodes v ≡ Some None) → VacantRowEmpty rows vacant
+vacant_empty : {A : Type 0} (nodes : List (Option A)) (rows : List (List ℕ)) (vacant : List ℕ)
+    → ((i : ℕ) → slot nodes i ≡ None → get_or rows i [] ≡ [])
+    → ((v : ℕ) (vs : List ℕ) → vacant ≡ v ∷ vs → slice_get nodes v ≡ Some None) → VacantRowEmpty rows vacant
 vacant_empty nodes rows [] none there = tt
 vacant_empty nodes rows (v ∷ vs) none there = none v (slot_vacant nodes v (there v vs refl))
 
@@ -52,11 +56,14 @@ module _ {N E : Type 0} (end : ℕ) (g : Graph N E) (f : IsWellFormed end g) whe
   first_vacant : (v : ℕ) (vs : List ℕ) → g.vacant_nodes ≡ v ∷ vs → slice_get g.nodes v ≡ Some None
   first_vacant v vs is = free_slots g.nodes (v ∷ vs) (rw is at f.node_slots)
 
-  pub node_taken_back_undoes : (w : N) → with_node_taken_back (is_slot_made g.vacant_nodes) (with_node g w) (next_node g) ≡ g
+  pub node_taken_back_undoes : (w : N)
+      → with_node_taken_back (is_slot_made g.vacant_nodes) (with_node g w) (next_node g) ≡ g
   node_taken_back_undoes w =
       same_graph g (slots_undone g.nodes g.vacant_nodes w (free_slots _ _ f.node_slots)) refl
-      (rows_undone g.nodes g.out_lists g.vacant_nodes f.out_list_count (vacant_empty g.nodes g.out_lists g.vacant_nodes out_empty first_vacant))
-      (rows_undone g.nodes g.in_lists g.vacant_nodes f.in_list_count (vacant_empty g.nodes g.in_lists g.vacant_nodes in_empty first_vacant))
+      (rows_undone g.nodes g.out_lists g.vacant_nodes f.out_list_count
+      (vacant_empty g.nodes g.out_lists g.vacant_nodes out_empty first_vacant))
+      (rows_undone g.nodes g.in_lists g.vacant_nodes f.in_list_count
+      (vacant_empty g.nodes g.in_lists g.vacant_nodes in_empty first_vacant))
       (vacant_undone g.nodes g.vacant_nodes) refl
 
 -- the last node of a compact store is taken back by dropping it
@@ -68,9 +75,13 @@ ends_itself {E} n x =
 edges_itself : {E : Type 0} (n : ℕ) (xs : List (Option (Edge E))) → map (option_map (with_ends_renamed n n)) xs ≡ xs
 edges_itself n [] = refl
 edges_itself n (None ∷ xs) = ap (λ z. None ∷ z) (edges_itself n xs)
-edges_itself n (Some x ∷ xs) = ap (λ z. Some z ∷ map (option_map (with_ends_renamed n n)) xs) (ends_itself n x) ∙ ap (λ z. Some x ∷ z) (edges_itself n xs)
+edges_itself n (Some x ∷ xs) =
+    ap (λ z. Some z ∷ map (option_map (with_ends_renamed n n)) xs) (ends_itself n x)
+    ∙ ap (λ z. Some x ∷ z) (edges_itself n xs)
 
-pub last_node_dropped : {N E : Type 0} (g : Graph N E) (n : ℕ) → length g.out_lists ≡ length g.nodes → length g.in_lists ≡ length g.nodes → n + 1 ≡ length g.nodes → with_node_dropped Compact g n ≡ with_node_taken_back true g n
+pub last_node_dropped : {N E : Type 0} (g : Graph N E) (n : ℕ)
+    → length g.out_lists ≡ length g.nodes → length g.in_lists ≡ length g.nodes → n + 1 ≡ length g.nodes
+    → with_node_dropped Compact g n ≡ with_node_taken_back true g n
 last_node_dropped g n outs ins last =
     let from : length g.nodes - 1 ≡ n = omega (arith, last) in
     same_graph (with_node_taken_back true g n) (cut_last g.nodes n None last)
@@ -78,8 +89,10 @@ last_node_dropped g n outs ins last =
     (cut_last g.out_lists n [] (last ∙ sym outs)) (cut_last g.in_lists n [] (last ∙ sym ins)) refl refl
 
 -- taking back the node that was added last gives the graph from before
-pub undoes_node : {N E : Type 0} (end : ℕ) (made : Bool) (old : Graph N E) (n : ℕ) (new : Graph N E) → new ≡ with_node_taken_back made old n → UndoesNode end made old n new
+pub undoes_node : {N E : Type 0} (end : ℕ) (made : Bool) (old : Graph N E) (n : ℕ) (new : Graph N E)
+    → new ≡ with_node_taken_back made old n → UndoesNode end made old n new
 undoes_node end made old n new taken = λ before w well_formed added slot fresh.
-    taken ∙ ap (λ b. with_node_taken_back b old n) fresh ∙ ap (λ g. with_node_taken_back (is_slot_made before.vacant_nodes) g n) added
+    taken ∙ ap (λ b. with_node_taken_back b old n) fresh
+    ∙ ap (λ g. with_node_taken_back (is_slot_made before.vacant_nodes) g n) added
     ∙ ap (with_node_taken_back (is_slot_made before.vacant_nodes) (with_node before w)) slot
     ∙ node_taken_back_undoes end before well_formed w

@@ -13,7 +13,8 @@ pub bound_low : {A : Type 0} (xs : List (Option A)) → bound_of xs ≤ length x
 bound_low [] = omega arith
 bound_low (x ∷ xs) = step_low x (bound_of xs) (length xs) (bound_low xs)
 
-pub fits_after : {N E : Type 0} (old new : Graph N E) (w : N) (slots capacity : ℕ) → new ≡ with_node old w → ((w : N) → length (with_node old w).nodes ≡ slots) → slots ≤ capacity → node_bound new ≤ capacity
+pub fits_after : {N E : Type 0} (old new : Graph N E) (w : N) (slots capacity : ℕ) → new ≡ with_node old w
+    → ((w : N) → length (with_node old w).nodes ≡ slots) → slots ≤ capacity → node_bound new ≤ capacity
 fits_after old new w slots capacity is many h =
     let low = bound_low new.nodes in
     let size : length new.nodes ≡ length (with_node old w).nodes = ap (λ z. length z.nodes) is in

@@ -1,7 +1,9 @@
 -- A search that is on its way.
-use Rattle.std.proofs.Common.{◌≡◌, ◌≢◌, ℕ, suc, ◌+◌, ◌<◌, ◌≤◌, Bool, true, false, ◌⊎◌, ◌↔◌, inl, inr, List, [], ◌∷◌, ◌++◌, length, get_or, drop, set, refl, sym, subst, ◌∙◌, arith, replicate, append_assoc}
+use Rattle.std.proofs.Common.{◌≡◌, ◌≢◌, ℕ, suc, ◌+◌, ◌<◌, ◌≤◌, Bool, true, false, ◌⊎◌, ◌↔◌, inl, inr, List, [], ◌∷◌}
+use Rattle.std.proofs.Common.{◌++◌, length, get_or, drop, set, refl, sym, subst, ◌∙◌, arith, replicate, append_assoc}
 use Rattle.std.specs.List.{count_by}
-use Rattle.std.proofs.lemmas.List.{get_or-set_other, get_or-set_same, get_or_past, length-append, get_or-replicate, length-replicate}
+use Rattle.std.proofs.lemmas.List.{get_or-set_other, get_or-set_same, get_or_past, length-append, get_or-replicate}
+use Rattle.std.proofs.lemmas.List.{length-replicate}
 use Rattle.std.proofs.lemmas.List.Sums.{count_by-le-length}
 use Rattle.std.proofs.lemmas.Bool.{false≢true, cases_lt, cases_eq}
 use Rattle.daggy_base.specs.Graph.{Graph, HasNode, HasEdge, out_list, edge_count}
@@ -10,22 +12,28 @@ use Rattle.daggy_base.specs.Cursor.{first_of}
 use Rattle.daggy_base.specs.WellFormed.{IsWellFormed}
 use Rattle.daggy_base.specs.Look.{IsLook}
 use Rattle.daggy_base.proofs.Lists.{Mem, Unique, mem_out, mem_into, mem_mid, unique_mid, unique_right, pigeon}
-use Rattle.daggy_base.proofs.OutEdgesRead.{lists_of, lists_few, LookedTo, read_whole, all_read, read_part, has_edge, child_exists, child_joined, next_cursor, looked_more}
+use Rattle.daggy_base.proofs.OutEdgesRead.{lists_of, lists_few, LookedTo, read_whole, all_read, read_part, has_edge}
+use Rattle.daggy_base.proofs.OutEdgesRead.{child_exists, child_joined, next_cursor, looked_more}
 
 -- paths
-pub path_more : {N E : Type 0} (g : Graph N E) (u : ℕ) (rest : List ℕ) (v w : ℕ) → IsPath g (u ∷ rest) → end_of u rest ≡ v → AreJoined g v w → HasNode g w → IsPath g (u ∷ (rest ++ w ∷ [])) × (end_of u (rest ++ w ∷ []) ≡ w)
+pub path_more : {N E : Type 0} (g : Graph N E) (u : ℕ) (rest : List ℕ) (v w : ℕ)
+    → IsPath g (u ∷ rest) → end_of u rest ≡ v → AreJoined g v w → HasNode g w
+    → IsPath g (u ∷ (rest ++ w ∷ [])) × (end_of u (rest ++ w ∷ []) ≡ w)
 path_more g u [] v w p e j h = let P : ℕ → Type 0 = λ z. AreJoined g z w in ((p, subst P (sym e) j, h), refl)
 path_more g u (x ∷ rest) v w p e j h = let more = path_more g x rest v w p.2 e j h in ((p.0, p.1, more.0), more.1)
 
-pub reaches_more : {N E : Type 0} (g : Graph N E) (u v w : ℕ) → Reaches g u v → AreJoined g v w → HasNode g w → Reaches g u w
+pub reaches_more : {N E : Type 0} (g : Graph N E) (u v w : ℕ)
+    → Reaches g u v → AreJoined g v w → HasNode g w → Reaches g u w
 reaches_more g u v w r j h = let more = path_more g u r.0 v w r.1 r.2 j h in (r.0 ++ w ∷ [], more.0, more.1)
 
 -- a set of nodes that no edge leads out of has all that its members reach
-pub path_stays : {N E : Type 0} (g : Graph N E) (P : ℕ → Type 0) → ((u v : ℕ) → P u → AreJoined g u v → P v) → (u : ℕ) (rest : List ℕ) → IsPath g (u ∷ rest) → P u → P (end_of u rest)
+pub path_stays : {N E : Type 0} (g : Graph N E) (P : ℕ → Type 0) → ((u v : ℕ) → P u → AreJoined g u v → P v)
+    → (u : ℕ) (rest : List ℕ) → IsPath g (u ∷ rest) → P u → P (end_of u rest)
 path_stays g P closed u [] p here = here
 path_stays g P closed u (v ∷ rest) p here = path_stays g P closed v rest p.2 (closed u v here p.1)
 
-pub reaches_stays : {N E : Type 0} (g : Graph N E) (P : ℕ → Type 0) → ((u v : ℕ) → P u → AreJoined g u v → P v) → (u v : ℕ) → Reaches g u v → P u → P v
+pub reaches_stays : {N E : Type 0} (g : Graph N E) (P : ℕ → Type 0)
+    → ((u v : ℕ) → P u → AreJoined g u v → P v) → (u v : ℕ) → Reaches g u v → P u → P v
 reaches_stays g P closed u v r here = subst P r.2 (path_stays g P closed u r.0 r.1 here)
 
 -- marked, or passed over
@@ -33,7 +41,8 @@ abbrev pub Met : (marks : List Bool) → (Skip : ℕ → Type 0) → ℕ → Typ
 Met marks Skip n = (get_or marks n false ≡ true) ⊎ Skip n
 
 -- each node that is marked is kept, and each child that is not marked is skipped
-pub record Going {N E : Type 0} (end : ℕ) (g : Graph N E) (Keep Skip : ℕ → Type 0) (from : ℕ) (marks : List Bool) (st : List ℕ) (e looked : ℕ) : Type 0 where
+pub record Going {N E : Type 0} (end : ℕ) (g : Graph N E) (Keep Skip : ℕ → Type 0) (from : ℕ) (marks : List Bool)
+    (st : List ℕ) (e looked : ℕ) : Type 0 where
   -- the node whose list is read, how much of that list was read, and the nodes whose lists were read whole
   pub at : ℕ
   pub passed : ℕ
@@ -53,17 +62,23 @@ pub marked_within : (marks : List Bool) (n : ℕ) → get_or marks n false ≡ t
 marked_within marks n h =
     elim (cases_lt n (length marks)) [ inl a ↦ a | inr b ↦ absurd (false≢true (sym (get_or_past marks n false b) ∙ h)) ]
 
-pub set_marked : (marks : List Bool) (v n : ℕ) → v < length marks → (get_or (set marks v true) n false ≡ true) ↔ ((n ≡ v) ⊎ (get_or marks n false ≡ true))
+pub set_marked : (marks : List Bool) (v n : ℕ)
+    → v < length marks → (get_or (set marks v true) n false ≡ true) ↔ ((n ≡ v) ⊎ (get_or marks n false ≡ true))
 set_marked marks v n h =
     elim (cases_eq n v) [
-      | inl e ↦ (λ _. inl e, λ _. let P : ℕ → Type 0 = λ z. get_or (set marks v true) z false ≡ true in subst P (sym e) (get_or-set_same marks v true false h))
+      | inl e ↦ (
+        λ _. inl e,
+        λ _. let P : ℕ → Type 0 = λ z. get_or (set marks v true) z false ≡ true in
+            subst P (sym e) (get_or-set_same marks v true false h),
+      )
       | inr d ↦ (
         λ k. inr (sym (get_or-set_other marks v n true false d) ∙ k),
         λ k. elim k [ inl e ↦ absurd (d e) | inr m ↦ get_or-set_other marks v n true false d ∙ m ],
       )
     ]
 
-met_more : (marks : List Bool) (Skip : ℕ → Type 0) (v n : ℕ) → v < length marks → Met marks Skip n → Met (set marks v true) Skip n
+met_more : (marks : List Bool) (Skip : ℕ → Type 0) (v n : ℕ)
+    → v < length marks → Met marks Skip n → Met (set marks v true) Skip n
 met_more marks Skip v n low met =
     elim met [ inl m ↦ inl ((set_marked marks v n low).1 (inr m)) | inr s ↦ inr s ]
 
@@ -74,7 +89,8 @@ fewer_than xs n u h =
     omega (arith, count_by-le-length (λ (b : Bool). b) (replicate n true), length-replicate n true)
 
 -- what is known of a search that is on its way
-module _ {N E : Type 0} (end : ℕ) (g : Graph N E) (w : IsWellFormed end g) (Keep Skip : ℕ → Type 0) (from : ℕ) (marks : List Bool) (st : List ℕ) (e looked : ℕ) (s : Going end g Keep Skip from marks st e looked) where
+module _ {N E : Type 0} (end : ℕ) (g : Graph N E) (w : IsWellFormed end g) (Keep Skip : ℕ → Type 0) (from : ℕ)
+    (marks : List Bool) (st : List ℕ) (e looked : ℕ) (s : Going end g Keep Skip from marks st e looked) where
   -- the edges that were looked at are few, were all of the list read or a part of it
   read_few : (k : ℕ) → k ≤ length (out_list g s.at) → k + length (lists_of g s.done) ≤ edge_count g
   read_few k within =
@@ -97,7 +113,8 @@ module _ {N E : Type 0} (end : ℕ) (g : Graph N E) (w : IsWellFormed end g) (Ke
 
     pub child_reached : Reaches g from v
     child_reached =
-        reaches_more g from s.at v (s.reached s.at (mem_mid st s.done s.at)) (child_joined end g w s.at s.passed e s.cursor here v next look) found_exists
+        reaches_more g from s.at v (s.reached s.at (mem_mid st s.done s.at))
+        (child_joined end g w s.at s.passed e s.cursor here v next look) found_exists
 
     -- the cursor moves on from a child that is marked or skipped
     pub moved : Met marks Skip v → Going end g Keep Skip from marks st next (looked + 1)
@@ -119,12 +136,16 @@ module _ {N E : Type 0} (end : ℕ) (g : Graph N E) (w : IsWellFormed end g) (Ke
         }
 
     -- a child that is not marked goes on the stack
-    pub pushed : v < length marks → Keep v → get_or marks v false ≡ false → Going end g Keep Skip from (set marks v true) (st ++ v ∷ []) e looked
+    pub pushed : v < length marks → Keep v → get_or marks v false ≡ false
+        → Going end g Keep Skip from (set marks v true) (st ++ v ∷ []) e looked
     pushed low keep unseen =
         let D = s.at ∷ s.done in
         let is : (st ++ v ∷ []) ++ D ≡ st ++ v ∷ D = append_assoc st (v ∷ []) D in
-        let into : (n : ℕ) → Mem n (st ++ v ∷ D) → Mem n ((st ++ v ∷ []) ++ D) = λ n m. let P : List ℕ → Type 0 = λ z. Mem n z in subst P (sym is) m in
-        let out : (n : ℕ) → Mem n ((st ++ v ∷ []) ++ D) → (n ≡ v) ⊎ Mem n (st ++ D) = λ n m. mem_out st D v n (let P : List ℕ → Type 0 = λ z. Mem n z in subst P is m) in
+        let into : (n : ℕ) → Mem n (st ++ v ∷ D) → Mem n ((st ++ v ∷ []) ++ D) = λ n m.
+        let P : List ℕ → Type 0 = λ z. Mem n z in
+        subst P (sym is) m in
+        let out : (n : ℕ) → Mem n ((st ++ v ∷ []) ++ D) → (n ≡ v) ⊎ Mem n (st ++ D) = λ n m.
+        mem_out st D v n (let P : List ℕ → Type 0 = λ z. Mem n z in subst P is m) in
         let absent : Mem v (st ++ D) → ⊥ = λ m. false≢true (sym unseen ∙ (s.marked v).1 m) in
         record {
           at = s.at;
@@ -170,13 +191,16 @@ module _ {N E : Type 0} (end : ℕ) (g : Graph N E) (w : IsWellFormed end g) (Ke
   pub closed_now : e ≡ end → (u v : ℕ) → Mem u (s.at ∷ s.done) → AreJoined g u v → Met marks Skip v
   closed_now h u v m j =
       elim m [
-        | inl eq ↦ all_read end g w s.at s.passed e s.cursor s.within h (Met marks Skip) s.half v (let P : ℕ → Type 0 = λ z. AreJoined g z v in subst P eq j)
+        | inl eq ↦
+            all_read end g w s.at s.passed e s.cursor s.within h (Met marks Skip) s.half v (let P : ℕ → Type 0 = λ z.
+            AreJoined g z v in subst P eq j)
         | inr b ↦ s.closed u v b j
       ]
 
 module _ {N E : Type 0} (end : ℕ) (g : Graph N E) (w : IsWellFormed end g) (Keep Skip : ℕ → Type 0) (from : ℕ) where
   -- the start
-  pub started : (marks : List Bool) → HasNode g from → ((n : ℕ) → get_or marks n false ≡ false) → Keep from → from < length marks → Going end g Keep Skip from (set marks from true) [] (first_of end (out_list g from)) 0
+  pub started : (marks : List Bool) → HasNode g from → ((n : ℕ) → get_or marks n false ≡ false) → Keep from
+      → from < length marks → Going end g Keep Skip from (set marks from true) [] (first_of end (out_list g from)) 0
   started marks exists clear keep low =
       record {
         at = from;
@@ -186,7 +210,10 @@ module _ {N E : Type 0} (end : ℕ) (g : Graph N E) (w : IsWellFormed end g) (Ke
         within = omega arith;
         once = (λ m. m, tt);
         marked = λ n. (
-          λ k. elim ((set_marked marks from n low).0 k) [ inl eq ↦ inl eq | inr m ↦ absurd (false≢true (sym (clear n) ∙ m)) ],
+          λ k. elim ((set_marked marks from n low).0 k) [
+            | inl eq ↦ inl eq
+            | inr m ↦ absurd (false≢true (sym (clear n) ∙ m))
+          ],
           λ m. (set_marked marks from n low).1 (elim m [ inl eq ↦ inl eq | inr b ↦ absurd b ]),
         );
         reached = λ n m.
@@ -202,12 +229,18 @@ module _ {N E : Type 0} (end : ℕ) (g : Graph N E) (w : IsWellFormed end g) (Ke
       }
 
   -- the next node is taken from the stack
-  pub popped : (marks : List Bool) (front : List ℕ) (u e looked : ℕ) → Going end g Keep Skip from marks (front ++ u ∷ []) e looked → e ≡ end → Going end g Keep Skip from marks front (first_of end (out_list g u)) looked
+  pub popped : (marks : List Bool) (front : List ℕ) (u e looked : ℕ)
+      → Going end g Keep Skip from marks (front ++ u ∷ []) e looked → e ≡ end
+      → Going end g Keep Skip from marks front (first_of end (out_list g u)) looked
   popped marks front u e looked s h =
       let D = s.at ∷ s.done in
       let is : (front ++ u ∷ []) ++ D ≡ front ++ u ∷ D = append_assoc front (u ∷ []) D in
-      let into : (n : ℕ) → Mem n ((front ++ u ∷ []) ++ D) → Mem n (front ++ u ∷ D) = λ n m. let P : List ℕ → Type 0 = λ z. Mem n z in subst P is m in
-      let out : (n : ℕ) → Mem n (front ++ u ∷ D) → Mem n ((front ++ u ∷ []) ++ D) = λ n m. let P : List ℕ → Type 0 = λ z. Mem n z in subst P (sym is) m in
+      let into : (n : ℕ) → Mem n ((front ++ u ∷ []) ++ D) → Mem n (front ++ u ∷ D) = λ n m.
+      let P : List ℕ → Type 0 = λ z. Mem n z in
+      subst P is m in
+      let out : (n : ℕ) → Mem n (front ++ u ∷ D) → Mem n ((front ++ u ∷ []) ++ D) = λ n m.
+      let P : List ℕ → Type 0 = λ z. Mem n z in
+      subst P (sym is) m in
       record {
         at = u;
         passed = 0;
@@ -221,13 +254,20 @@ module _ {N E : Type 0} (end : ℕ) (g : Graph N E) (w : IsWellFormed end g) (Ke
         kept = λ n m. s.kept n (out n m);
         closed = closed_now end g w Keep Skip from marks (front ++ u ∷ []) e looked s h;
         half = λ j x lt a. absurd (omega arith);
-        counted = omega (arith, s.counted, read_whole end g w s.at s.passed e s.cursor s.within h, length-append (out_list g s.at) (lists_of g s.done));
+        counted = omega (
+          arith,
+          s.counted,
+          read_whole end g w s.at s.passed e s.cursor s.within h,
+          length-append (out_list g s.at) (lists_of g s.done),
+        );
       }
 
   -- nothing is left to read: a set that has the first node, and that no edge to a node that was met leads out of, has
   -- all that is reached
-  pub all_met : (marks : List Bool) (e looked : ℕ) → Going end g Keep Skip from marks [] e looked → e ≡ end → (u v : ℕ) → get_or marks u false ≡ true → AreJoined g u v → Met marks Skip v
+  pub all_met : (marks : List Bool) (e looked : ℕ) → Going end g Keep Skip from marks [] e looked → e ≡ end
+      → (u v : ℕ) → get_or marks u false ≡ true → AreJoined g u v → Met marks Skip v
   all_met marks e looked s h u v m j = closed_now end g w Keep Skip from marks [] e looked s h u v ((s.marked u).0 m) j
 
-  pub from_met : (marks : List Bool) (st : List ℕ) (e looked : ℕ) → Going end g Keep Skip from marks st e looked → get_or marks from false ≡ true
+  pub from_met : (marks : List Bool) (st : List ℕ) (e looked : ℕ)
+      → Going end g Keep Skip from marks st e looked → get_or marks from false ≡ true
   from_met marks st e looked s = (s.marked from).1 s.start

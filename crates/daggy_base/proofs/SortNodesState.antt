@@ -1,5 +1,6 @@
 -- The state of `sort_nodes`, by the variables of its code.
-use Rattle.std.proofs.Common.{◌≡◌, ◌≢◌, ℕ, suc, ◌+◌, ◌-◌, ◌<◌, ◌≤◌, Bool, true, false, inl, inr, List, [], ◌∷◌, length, get_or, drop, set, refl, sym, ap, subst, ◌∙◌, arith, length-set}
+use Rattle.std.proofs.Common.{◌≡◌, ◌≢◌, ℕ, suc, ◌+◌, ◌-◌, ◌<◌, ◌≤◌, Bool, true, false, inl, inr, List, [], ◌∷◌, length}
+use Rattle.std.proofs.Common.{get_or, drop, set, refl, sym, ap, subst, ◌∙◌, arith, length-set}
 use Rattle.std.proofs.lemmas.List.{get_or-set_other, get_or-set_same, drop-set, drop-set-lt, drop_all}
 use Rattle.std.proofs.lemmas.Bool.{cases_lt}
 use Rattle.daggy_base.specs.Graph.{Graph, HasNode, HasEdge, out_list, node_bound, edge_count}
@@ -10,15 +11,21 @@ use Rattle.daggy_base.specs.WellFormed.{IsWellFormed}
 use Rattle.daggy_base.specs.Look.{IsLook}
 use Rattle.daggy_base.proofs.OutEdgesRead.{below_bound, has_edge, child_exists, next_cursor}
 use Rattle.daggy_base.proofs.SearchProgress.{marked_within, set_marked}
-use Rattle.daggy_base.proofs.FinishingOrder.{Stop, nodes_of, Leaving, none_discovered, entered_root, all_sorted, entered_few, has_room, looked_within, leaves_node, look_within, passes, enters, closes}
+use Rattle.daggy_base.proofs.FinishingOrder.{Stop, nodes_of, Leaving, none_discovered, entered_root, all_sorted}
+use Rattle.daggy_base.proofs.FinishingOrder.{entered_few, has_room, looked_within, leaves_node, look_within, passes}
+use Rattle.daggy_base.proofs.FinishingOrder.{enters, closes}
 
 -- the stack has the nodes of a way, first node first, each with a cursor at the edge that is next to be looked at
 abbrev pub AreKept : {N E : Type 0} → (end : ℕ) → Graph N E → (stack cursors : List ℕ) → List Stop → Type 0
 AreKept end g stack cursors [] = Unit {0}
-AreKept end g stack cursors (s ∷ ss) = ((d : ℕ) → get_or stack (length (nodes_of ss)) d ≡ s.node) × ((d : ℕ) → get_or cursors (length (nodes_of ss)) d ≡ first_of end (drop s.passed (out_list g s.node))) × AreKept end g stack cursors ss
+AreKept end g stack cursors (s ∷ ss) =
+    ((d : ℕ) → get_or stack (length (nodes_of ss)) d ≡ s.node)
+    × ((d : ℕ) → get_or cursors (length (nodes_of ss)) d ≡ first_of end (drop s.passed (out_list g s.node)))
+    × AreKept end g stack cursors ss
 
 -- what stands above them does not matter
-kept_stack : {N E : Type 0} (end : ℕ) (g : Graph N E) (stack cursors : List ℕ) (k n : ℕ) (ss : List Stop) → length (nodes_of ss) ≤ k → AreKept end g stack cursors ss → AreKept end g (set stack k n) cursors ss
+kept_stack : {N E : Type 0} (end : ℕ) (g : Graph N E) (stack cursors : List ℕ) (k n : ℕ) (ss : List Stop)
+    → length (nodes_of ss) ≤ k → AreKept end g stack cursors ss → AreKept end g (set stack k n) cursors ss
 kept_stack end g stack cursors k n [] low kept = tt
 kept_stack end g stack cursors k n (s ∷ ss) low kept =
     let apart : length (nodes_of ss) ≢ k = λ eq. absurd (omega arith) in (
@@ -27,7 +34,8 @@ kept_stack end g stack cursors k n (s ∷ ss) low kept =
       kept_stack end g stack cursors k n ss (omega arith) kept.2,
     )
 
-kept_cursors : {N E : Type 0} (end : ℕ) (g : Graph N E) (stack cursors : List ℕ) (k e : ℕ) (ss : List Stop) → length (nodes_of ss) ≤ k → AreKept end g stack cursors ss → AreKept end g stack (set cursors k e) ss
+kept_cursors : {N E : Type 0} (end : ℕ) (g : Graph N E) (stack cursors : List ℕ) (k e : ℕ) (ss : List Stop)
+    → length (nodes_of ss) ≤ k → AreKept end g stack cursors ss → AreKept end g stack (set cursors k e) ss
 kept_cursors end g stack cursors k e [] low kept = tt
 kept_cursors end g stack cursors k e (s ∷ ss) low kept =
     let apart : length (nodes_of ss) ≢ k = λ eq. absurd (omega arith) in (
@@ -37,7 +45,8 @@ kept_cursors end g stack cursors k e (s ∷ ss) low kept =
     )
 
 -- what stays: g is the graph now
-pub record ScratchSizes {N E : Type 0} (size finished_size : ℕ) (g₀ g : Graph N E) (discovered finished : List Bool) (stack cursors : List ℕ) : Type 0 where
+pub record ScratchSizes {N E : Type 0} (size finished_size : ℕ) (g₀ g : Graph N E) (discovered finished : List Bool)
+    (stack cursors : List ℕ) : Type 0 where
   pub same : g ≡ g₀
   pub discovered_sized : length discovered ≡ size
   pub finished_sized : length finished ≡ finished_size
@@ -52,7 +61,8 @@ pub record StandBehind (stack : List ℕ) (top : ℕ) (order : List ℕ) : Type 
   pub are : drop top stack ≡ order
 
 -- Between two roots: the nodes below i were visited. The counts of looks are before and now.
-pub record Resting {N E : Type 0} (end size finished_size : ℕ) (g₀ g : Graph N E) (discovered finished : List Bool) (stack cursors : List ℕ) (i top before now : ℕ) : Type 0 where
+pub record Resting {N E : Type 0} (end size finished_size : ℕ) (g₀ g : Graph N E) (discovered finished : List Bool)
+    (stack cursors : List ℕ) (i top before now : ℕ) : Type 0 where
   pub sizes : ScratchSizes size finished_size g₀ g discovered finished stack cursors
   pub visited : (m : ℕ) → m < i → HasNode g₀ m → get_or discovered m false ≡ true
   pub looked : ℕ
@@ -62,7 +72,8 @@ pub record Resting {N E : Type 0} (end size finished_size : ℕ) (g₀ g : Graph
   pub state : Leaving end g₀ discovered finished [] order looked
 
 -- on a walk from a root, at a node n and an edge e of its list
-pub record Walking {N E : Type 0} (end size finished_size : ℕ) (g₀ g : Graph N E) (discovered finished : List Bool) (stack cursors : List ℕ) (i top len n e before now : ℕ) : Type 0 where
+pub record Walking {N E : Type 0} (end size finished_size : ℕ) (g₀ g : Graph N E) (discovered finished : List Bool)
+    (stack cursors : List ℕ) (i top len n e before now : ℕ) : Type 0 where
   pub sizes : ScratchSizes size finished_size g₀ g discovered finished stack cursors
   pub visited : (m : ℕ) → m < i → HasNode g₀ m → get_or discovered m false ≡ true
   pub looked : ℕ
@@ -78,10 +89,15 @@ pub record Walking {N E : Type 0} (end size finished_size : ℕ) (g₀ g : Graph
   pub high_cursors : len ≤ length cursors
   pub kept : AreKept end g₀ stack cursors way
 
-pub rests : {N E : Type 0} {end : ℕ} (g : Graph N E) (discovered finished : List Bool) (stack cursors : List ℕ) (before : ℕ)
-    → node_bound g ≤ length discovered → length discovered ≤ length finished → length discovered ≤ length stack → length discovered ≤ length cursors → ((n : ℕ) → get_or discovered n false ≡ false) → ((n : ℕ) → get_or finished n false ≡ false)
-    → Resting end (length discovered) (length finished) g g discovered finished stack cursors 0 (length stack) before before
-rests {N} {E} {end} g discovered finished stack cursors before bounded finished_fits stack_fits cursors_fit clear empty =
+pub rests : {N E : Type 0} {end : ℕ} (g : Graph N E) (discovered finished : List Bool) (stack cursors : List ℕ)
+    (before : ℕ)
+    → node_bound g ≤ length discovered → length discovered ≤ length finished → length discovered ≤ length stack
+    → length discovered ≤ length cursors → ((n : ℕ) → get_or discovered n false ≡ false)
+    → ((n : ℕ) → get_or finished n false ≡ false)
+    → Resting end (length discovered) (length finished) g g discovered finished stack cursors 0 (length stack)
+    before before
+rests {N} {E} {end} g discovered finished stack cursors before bounded finished_fits stack_fits cursors_fit
+    clear empty =
     record {
       sizes = record {
         same = refl;
@@ -100,7 +116,8 @@ rests {N} {E} {end} g discovered finished stack cursors before bounded finished_
       state = none_discovered end g discovered finished clear empty;
     }
 
-module _ {N E : Type 0} {size finished_size : ℕ} {g₀ g : Graph N E} {discovered finished : List Bool} {stack cursors : List ℕ} (r : ScratchSizes size finished_size g₀ g discovered finished stack cursors) where
+module _ {N E : Type 0} {size finished_size : ℕ} {g₀ g : Graph N E} {discovered finished : List Bool}
+    {stack cursors : List ℕ} (r : ScratchSizes size finished_size g₀ g discovered finished stack cursors) where
   exists_now : (m : ℕ) → HasNode g₀ m → HasNode g m
   exists_now m h = let P : Graph N E → Type 0 = λ z. HasNode z m in subst P (sym r.same) h
 
@@ -173,10 +190,13 @@ module _ {N E : Type 0} {size finished_size : ℕ} {g₀ g : Graph N E} {discove
       }
 
   -- an entered node stays entered
-  visited_more : (v i : ℕ) → v < length discovered → ((m : ℕ) → m < i → HasNode g₀ m → get_or discovered m false ≡ true) → (m : ℕ) → m < i → HasNode g₀ m → get_or (set discovered v true) m false ≡ true
+  visited_more : (v i : ℕ) → v < length discovered → ((m : ℕ) → m < i → HasNode g₀ m → get_or discovered m false ≡ true)
+      → (m : ℕ) → m < i → HasNode g₀ m → get_or (set discovered v true) m false ≡ true
   visited_more v i low before m below exists = (set_marked discovered v m low).1 (inr (before m below exists))
 
-module _ {N E : Type 0} {end size finished_size : ℕ} {g₀ g : Graph N E} (w : IsWellFormed end g₀) {discovered finished : List Bool} {stack cursors : List ℕ} {i top before now : ℕ} (s : Resting end size finished_size g₀ g discovered finished stack cursors i top before now) where
+module _ {N E : Type 0} {end size finished_size : ℕ} {g₀ g : Graph N E} (w : IsWellFormed end g₀)
+    {discovered finished : List Bool} {stack cursors : List ℕ} {i top before now : ℕ}
+    (s : Resting end size finished_size g₀ g discovered finished stack cursors i top before now) where
   pub few_rested : now ≤ before + edge_count g₀
   few_rested = omega (arith, s.counted, looked_within end g₀ _ _ _ _ _ s.state w)
 
@@ -184,13 +204,15 @@ module _ {N E : Type 0} {end size finished_size : ℕ} {g₀ g : Graph N E} (w :
   pub all_found : node_bound g₀ ≤ i → IsSorted g₀ (drop top stack)
   all_found all =
       let P : List ℕ → Type 0 = λ z. IsSorted g₀ z in
-      subst P (sym s.behind.are) (all_sorted end g₀ discovered finished s.order s.looked s.state (λ m h. s.visited m (omega (arith, below_bound g₀.nodes m h)) h))
+      subst P (sym s.behind.are) (all_sorted end g₀ discovered finished s.order s.looked s.state
+      (λ m h. s.visited m (omega (arith, below_bound g₀.nodes m h)) h))
 
   pub top_within : top ≤ length stack
   top_within = omega (arith, s.behind.at_top)
 
   -- a root that does not exist, or was discovered on an earlier walk
-  pub skipped : (HasNode g i → get_or discovered i false ≡ true) → Resting end size finished_size g₀ g discovered finished stack cursors (i + 1) top before now
+  pub skipped : (HasNode g i → get_or discovered i false ≡ true)
+      → Resting end size finished_size g₀ g discovered finished stack cursors (i + 1) top before now
   skipped here =
       record {
         sizes = s.sizes;
@@ -210,11 +232,13 @@ module _ {N E : Type 0} {end size finished_size : ℕ} {g₀ g : Graph N E} (w :
         state = s.state;
       }
 
-  pub begins : (n e : ℕ) → HasNode g n → get_or discovered i false ≡ false → n ≡ i → e ≡ first_of end (out_list g n) → Walking end size finished_size g₀ g (set discovered i true) finished stack cursors (i + 1) top 0 n e before now
+  pub begins : (n e : ℕ) → HasNode g n → get_or discovered i false ≡ false → n ≡ i → e ≡ first_of end (out_list g n)
+      → Walking end size finished_size g₀ g (set discovered i true) finished stack cursors (i + 1) top 0 n e before now
   begins n e exists unseen is first =
       let there : HasNode g i = let P : ℕ → Type 0 = λ z. HasNode g z in subst P is exists in
       let low : i < length discovered = below_entered s.sizes i (exists_then s.sizes i there) in
-      let on = entered_root end g₀ discovered finished s.order s.looked i s.state (exists_then s.sizes i there) low unseen in
+      let on =
+      entered_root end g₀ discovered finished s.order s.looked i s.state (exists_then s.sizes i there) low unseen in
       record {
         sizes = rooms_entered s.sizes i;
         visited = λ m below real.
@@ -228,7 +252,10 @@ module _ {N E : Type 0} {end size finished_size : ℕ} {g₀ g : Graph N E} (w :
         way = [];
         passed = 0;
         behind = s.behind;
-        state = let P : ℕ → Type 0 = λ z. Leaving end g₀ (set discovered i true) finished (record { node = z; passed = 0 } ∷ []) s.order s.looked in subst P (sym is) on;
+        state =
+            let P : ℕ → Type 0 = λ z.
+            Leaving end g₀ (set discovered i true) finished (record { node = z; passed = 0 } ∷ []) s.order s.looked in
+            subst P (sym is) on;
         cursor = first ∙ ap (λ (z : Graph N E). first_of end (out_list z n)) s.sizes.same;
         deep = refl;
         high = omega arith;
@@ -236,7 +263,9 @@ module _ {N E : Type 0} {end size finished_size : ℕ} {g₀ g : Graph N E} (w :
         kept = tt;
       }
 
-module _ {N E : Type 0} {end size finished_size : ℕ} {g₀ g : Graph N E} (w : IsWellFormed end g₀) {discovered finished : List Bool} {stack cursors : List ℕ} {i top len n e before now : ℕ} (s : Walking end size finished_size g₀ g discovered finished stack cursors i top len n e before now) where
+module _ {N E : Type 0} {end size finished_size : ℕ} {g₀ g : Graph N E} (w : IsWellFormed end g₀)
+    {discovered finished : List Bool} {stack cursors : List ℕ} {i top len n e before now : ℕ}
+    (s : Walking end size finished_size g₀ g discovered finished stack cursors i top len n e before now) where
   pub looked_once : e ≢ end → {now' : ℕ} → now' ≡ now + 1 → now' ≤ before + edge_count g₀
   looked_once here one_more =
       omega (arith, s.counted, look_within end g₀ w _ _ _ _ _ _ _ s.state e s.cursor here)
@@ -253,7 +282,13 @@ module _ {N E : Type 0} {end size finished_size : ℕ} {g₀ g : Graph N E} (w :
   -- there is a place between the way and the nodes that were finished
   pub place_free : len < top
   place_free =
-      omega (arith, entered_few end g₀ discovered finished _ s.order s.looked s.state, s.deep, s.behind.at_top, s.sizes.stack_fits)
+      omega (
+        arith,
+        entered_few end g₀ discovered finished _ s.order s.looked s.state,
+        s.deep,
+        s.behind.at_top,
+        s.sizes.stack_fits,
+      )
 
   -- the node is left, and put before the nodes that were finished
   module _ (h : e ≡ end) (m : ℕ) (is : m ≡ n) (at : ℕ) (free : at + 1 ≡ top) where
@@ -265,14 +300,17 @@ module _ {N E : Type 0} {end size finished_size : ℕ} {g₀ g : Graph N E} (w :
         let within : at < length stack = omega (arith, s.behind.at_top) in
         record {
           at_top = omega (arith, s.behind.at_top, length-set stack at n);
-          are = drop-set stack at n within ∙ ap (λ (z : List ℕ). n ∷ z) (ap (λ (z : ℕ). drop z stack) free ∙ s.behind.are);
+          are =
+              drop-set stack at n within
+              ∙ ap (λ (z : List ℕ). n ∷ z) (ap (λ (z : ℕ). drop z stack) free ∙ s.behind.are);
         }
 
     sizes : ScratchSizes size finished_size g₀ g discovered (set finished m true) (set stack at n) cursors
     sizes = rooms_written (rooms_left s.sizes m) at n
 
     -- it was the last of the way
-    pub walked : len ≡ 0 → Resting end size finished_size g₀ g discovered (set finished m true) (set stack at n) cursors i at before now
+    pub walked : len ≡ 0
+        → Resting end size finished_size g₀ g discovered (set finished m true) (set stack at n) cursors i at before now
     walked empty =
         let none : s.way ≡ [] = nothing s.way (omega (arith, s.deep)) in
         let P : List Stop → Type 0 = λ z. Leaving end g₀ discovered (set finished n true) z (n ∷ s.order) s.looked in
@@ -292,18 +330,32 @@ module _ {N E : Type 0} {end size finished_size : ℕ} {g₀ g : Graph N E} (w :
         nothing (t ∷ ss) k = absurd (omega arith)
 
     -- the walk goes on at the node before it
-    pub steps_back : len ≢ 0 → (k : ℕ) → k ≡ len - 1 → (u c n' e' : ℕ) → u ≡ get_or (set stack at n) k u → c ≡ get_or cursors k c → n' ≡ u → e' ≡ c → Walking end size finished_size g₀ g discovered (set finished m true) (set stack at n) cursors i at k n' e' before now
+    pub steps_back : len ≢ 0 → (k : ℕ) → k ≡ len - 1 → (u c n' e' : ℕ) → u ≡ get_or (set stack at n) k u
+        → c ≡ get_or cursors k c → n' ≡ u → e' ≡ c
+        → Walking end size finished_size g₀ g discovered (set finished m true) (set stack at n) cursors i at k n'
+        e' before now
     steps_back some k last u c n' e' is_node is_cursor node_is edge_is =
-        on s.way (omega (arith, s.deep)) after (kept_stack end g₀ stack cursors at n s.way (omega (arith, place_free, s.deep)) s.kept)
+        on s.way (omega (arith, s.deep)) after
+        (kept_stack end g₀ stack cursors at n s.way (omega (arith, place_free, s.deep)) s.kept)
       where
-        on : (ss : List Stop) → length (nodes_of ss) ≡ k + 1 → Leaving end g₀ discovered (set finished n true) ss (n ∷ s.order) s.looked → AreKept end g₀ (set stack at n) cursors ss → Walking end size finished_size g₀ g discovered (set finished m true) (set stack at n) cursors i at k n' e' before now
+        on : (ss : List Stop)
+            → length (nodes_of ss) ≡ k + 1 → Leaving end g₀ discovered (set finished n true) ss (n ∷ s.order) s.looked
+            → AreKept end g₀ (set stack at n) cursors ss
+            → Walking end size finished_size g₀ g discovered (set finished m true) (set stack at n) cursors i at k n'
+            e' before now
         on [] more l kept = absurd (omega arith)
         on (t ∷ ss) more l kept =
             let deep : k ≡ length (nodes_of ss) = omega arith in
-            let same_node : n' ≡ t.node = node_is ∙ (is_node ∙ (ap (λ (z : ℕ). get_or (set stack at n) z u) deep ∙ kept.0 u)) in
-            let same_edge : e' ≡ first_of end (drop t.passed (out_list g₀ t.node)) = edge_is ∙ (is_cursor ∙ (ap (λ (z : ℕ). get_or cursors z c) deep ∙ kept.1 c)) in
-            let P : ℕ → Type 0 = λ z. Leaving end g₀ discovered (set finished z true) (record { node = t.node; passed = t.passed } ∷ ss) (n ∷ s.order) s.looked in
-            let Q : ℕ → Type 0 = λ z. Leaving end g₀ discovered (set finished m true) (record { node = z; passed = t.passed } ∷ ss) (n ∷ s.order) s.looked in
+            let same_node : n' ≡ t.node =
+            node_is ∙ (is_node ∙ (ap (λ (z : ℕ). get_or (set stack at n) z u) deep ∙ kept.0 u)) in
+            let same_edge : e' ≡ first_of end (drop t.passed (out_list g₀ t.node)) =
+            edge_is ∙ (is_cursor ∙ (ap (λ (z : ℕ). get_or cursors z c) deep ∙ kept.1 c)) in
+            let P : ℕ → Type 0 = λ z.
+            Leaving end g₀ discovered (set finished z true) (record { node = t.node; passed = t.passed } ∷ ss)
+            (n ∷ s.order) s.looked in
+            let Q : ℕ → Type 0 = λ z.
+            Leaving end g₀ discovered (set finished m true) (record { node = z; passed = t.passed } ∷ ss)
+            (n ∷ s.order) s.looked in
             record {
               sizes = sizes;
               visited = s.visited;
@@ -339,13 +391,21 @@ module _ {N E : Type 0} {end size finished_size : ℕ} {g₀ g : Graph N E} (w :
     -- also below the nodes that were finished
     below_top : get_or discovered v false ≡ false → len < top
     below_top unseen =
-        omega (arith, has_room end g₀ discovered finished _ s.order s.looked s.state v child_low unseen, s.deep, s.behind.at_top, s.sizes.stack_fits)
+        omega (
+          arith,
+          has_room end g₀ discovered finished _ s.order s.looked s.state v child_low unseen,
+          s.deep,
+          s.behind.at_top,
+          s.sizes.stack_fits,
+        )
 
     pub way_round : get_or discovered v false ≡ true → get_or finished v false ≡ false → IsAcyclic g₀ → ⊥
-    way_round = closes end g₀ w discovered finished n s.passed s.way s.order s.looked s.state e s.cursor here v next look₀
+    way_round =
+        closes end g₀ w discovered finished n s.passed s.way s.order s.looked s.state e s.cursor here v next look₀
 
     module _ {g' : Graph N E} (unchanged : g' ≡ g) {now' : ℕ} (one_more : now' ≡ now + 1) where
-      pub steps_over : get_or finished v false ≡ true → Walking end size finished_size g₀ g' discovered finished stack cursors i top len n next before now'
+      pub steps_over : get_or finished v false ≡ true
+          → Walking end size finished_size g₀ g' discovered finished stack cursors i top len n next before now'
       steps_over seen =
           record {
             sizes = rooms_looked s.sizes unchanged;
@@ -356,7 +416,9 @@ module _ {N E : Type 0} {end size finished_size : ℕ} {g₀ g : Graph N E} (w :
             way = s.way;
             passed = suc s.passed;
             behind = s.behind;
-            state = passes end g₀ w discovered finished n s.passed s.way s.order s.looked s.state e s.cursor here v next look₀ seen;
+            state =
+                passes end g₀ w discovered finished n s.passed s.way s.order s.looked s.state e s.cursor here v
+                next look₀ seen;
             cursor = next_cursor end g₀ w n s.passed e s.cursor here v next look₀;
             deep = s.deep;
             high = s.high;
@@ -364,12 +426,19 @@ module _ {N E : Type 0} {end size finished_size : ℕ} {g₀ g : Graph N E} (w :
             kept = s.kept;
           }
 
-      pub steps_in : (m e' : ℕ) → m ≡ v → get_or discovered v false ≡ false → e' ≡ first_of end (out_list g' v) → Walking end size finished_size g₀ g' (set discovered m true) finished (set stack len n) (set cursors len next) i top (len + 1) v e' before now'
+      pub steps_in : (m e' : ℕ) → m ≡ v → get_or discovered v false ≡ false → e' ≡ first_of end (out_list g' v)
+          → Walking end size finished_size g₀ g' (set discovered m true) finished (set stack len n)
+          (set cursors len next) i top (len + 1) v e' before now'
       steps_in m e' is unseen first =
           let low = child_low in
           let more = room_here unseen in
-          let on = enters end g₀ w discovered finished n s.passed s.way s.order s.looked s.state e s.cursor here v next look₀ low unseen in
-          let P : ℕ → Type 0 = λ z. Leaving end g₀ (set discovered z true) finished (record { node = v; passed = 0 } ∷ record { node = n; passed = suc s.passed } ∷ s.way) s.order (s.looked + 1) in
+          let on =
+          enters end g₀ w discovered finished n s.passed s.way s.order s.looked s.state e s.cursor here v next look₀
+          low unseen in
+          let P : ℕ → Type 0 = λ z.
+          Leaving end g₀ (set discovered z true) finished
+          (record { node = v; passed = 0 } ∷ record { node = n; passed = suc s.passed } ∷ s.way) s.order
+          (s.looked + 1) in
           let within : len < length stack = omega (arith, more, s.sizes.stack_fits) in
           let within_cursors : len < length cursors = omega (arith, more, s.sizes.cursors_fit) in
           let same : g' ≡ g₀ = unchanged ∙ s.sizes.same in
@@ -394,7 +463,11 @@ module _ {N E : Type 0} {end size finished_size : ℕ} {g₀ g : Graph N E} (w :
             high_cursors = omega (arith, within_cursors, length-set cursors len next);
             kept = (
               λ d. ap (λ (z : ℕ). get_or (set stack len n) z d) (sym s.deep) ∙ get_or-set_same stack len n d within,
-              λ d. ap (λ (z : ℕ). get_or (set cursors len next) z d) (sym s.deep) ∙ (get_or-set_same cursors len next d within_cursors ∙ next_cursor end g₀ w n s.passed e s.cursor here v next look₀),
-              kept_cursors end g₀ (set stack len n) cursors len next s.way (omega (arith, s.deep)) (kept_stack end g₀ stack cursors len n s.way (omega (arith, s.deep)) s.kept),
+              λ d.
+                  ap (λ (z : ℕ). get_or (set cursors len next) z d) (sym s.deep)
+                  ∙ (get_or-set_same cursors len next d within_cursors
+                  ∙ next_cursor end g₀ w n s.passed e s.cursor here v next look₀),
+              kept_cursors end g₀ (set stack len n) cursors len next s.way (omega (arith, s.deep))
+                  (kept_stack end g₀ stack cursors len n s.way (omega (arith, s.deep)) s.kept),
             );
           }

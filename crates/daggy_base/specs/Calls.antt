@@ -3,7 +3,8 @@ use Rattle.std.specs.Prelude.{◌≡◌, Option, Some}
 use Rattle.std.specs.Borrow.{MutBor}
 use Rattle.std.specs.Fn.{Once}
 
-module _ {F X Y R : Type 0} (g : Once F (MutBor X × (MutBor Y × Unit {0})) (R × (MutBor X × (MutBor Y × Unit {0})))) (f : F) (x : Option X) (y : Option Y) where
+module _ {F X Y R : Type 0} (g : Once F (MutBor X × (MutBor Y × Unit {0})) (R × (MutBor X × (MutBor Y × Unit {0}))))
+    (f : F) (x : Option X) (y : Option Y) where
   -- f may be called at a `&mut` to x and one to y
   abbrev pub TakesAtTwo : Type 0
   TakesAtTwo = (p : MutBor X) (q : MutBor Y) → x ≡ Some p.now → y ≡ Some q.now → g.pre f (p, (q, tt))

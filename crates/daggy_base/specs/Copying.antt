@@ -9,5 +9,6 @@ abbrev pub clone_step : {W : Type 0} → (is_clone : W → W → Type 0) → Uni
 clone_step is_clone state i shown w next = is_clone shown.now w
 
 -- new has the shape of old, and for each weight what its clone may be
-abbrev pub IsCopy : {N E : Type 0} → (node_clone : N → N → Type 0) → (edge_clone : E → E → Type 0) → (old new : Graph N E) → Type 0
+abbrev pub IsCopy : {N E : Type 0}
+    → (node_clone : N → N → Type 0) → (edge_clone : E → E → Type 0) → (old new : Graph N E) → Type 0
 IsCopy node_clone edge_clone old new = IsMapped (λ i. i) (clone_step node_clone) (clone_step edge_clone) tt tt old new

@@ -39,23 +39,29 @@ module _ {N V W F I : Type 0} (step : F → I → Bor N → Option V → F → T
   -- index of each slot's node
   abbrev pub FiltersNodes : F → ℕ → List (Option N) → Graph V W → List (Option ℕ) → Graph V W → Type 0
   FiltersNodes f i [] h names new = (names ≡ []) × (new ≡ h)
-  FiltersNodes f i (None ∷ xs) h names new = (rest : List (Option ℕ)) × (names ≡ None ∷ rest) × FiltersNodes f (i + 1) xs h rest new
+  FiltersNodes f i (None ∷ xs) h names new =
+      (rest : List (Option ℕ)) × (names ≡ None ∷ rest) × FiltersNodes f (i + 1) xs h rest new
   FiltersNodes f i (Some x ∷ xs) h names new =
-      (r : Option V) × (next : F) × CalledAt step of f i x r next × (rest : List (Option ℕ)) × (names ≡ named h r ∷ rest) × FiltersNodes next (i + 1) xs (with_kept_node h r) rest new
+      (r : Option V) × (next : F) × CalledAt step of f i x r next × (rest : List (Option ℕ))
+      × (names ≡ named h r ∷ rest) × FiltersNodes next (i + 1) xs (with_kept_node h r) rest new
 
-module _ {E V W G I : Type 0} (step : G → I → Bor E → Option W → G → Type 0) (of : ℕ → I) (names : List (Option ℕ)) where
+module _ {E V W G I : Type 0} (step : G → I → Bor E → Option W → G → Type 0) (of : ℕ → I)
+    (names : List (Option ℕ)) where
   -- at an edge that lost an end g was not called, at another it was
   abbrev pub FiltersEdge : G → ℕ → E → Option (ℕ × ℕ) → Graph V W → (G → Graph V W → Type 0) → Type 0
   FiltersEdge g e w None h later = later g h
-  FiltersEdge g e w (Some ends) h later = (r : Option W) × (next : G) × CalledAt step of g e w r next × later next (with_kept_edge h ends r)
+  FiltersEdge g e w (Some ends) h later =
+      (r : Option W) × (next : G) × CalledAt step of g e w r next × later next (with_kept_edge h ends r)
 
   -- what g keeps of the edges from the index e on was added to h, which made new
   abbrev pub FiltersEdges : G → ℕ → List (Option (Edge E)) → Graph V W → Graph V W → Type 0
   FiltersEdges g e [] h new = new ≡ h
   FiltersEdges g e (None ∷ xs) h new = FiltersEdges g (e + 1) xs h new
-  FiltersEdges g e (Some x ∷ xs) h new = FiltersEdge g e x.weight (new_ends names x) h (λ next mid. FiltersEdges next (e + 1) xs mid new)
+  FiltersEdges g e (Some x ∷ xs) h new =
+      FiltersEdge g e x.weight (new_ends names x) h (λ next mid. FiltersEdges next (e + 1) xs mid new)
 
-module _ {N E V W F G I : Type 0} (of : ℕ → I) (step_f : F → I → Bor N → Option V → F → Type 0) (step_g : G → I → Bor E → Option W → G → Type 0) where
+module _ {N E V W F G I : Type 0} (of : ℕ → I) (step_f : F → I → Bor N → Option V → F → Type 0)
+    (step_g : G → I → Bor E → Option W → G → Type 0) where
   -- new has the nodes that f keeps, and of the edges whose ends both stayed those that g keeps
   pub record IsFiltered (f : F) (g : G) (old : Graph N E) (new : Graph V W) : Type 0 where
     pub names : List (Option ℕ)

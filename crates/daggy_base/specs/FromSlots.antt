@@ -1,5 +1,6 @@
 -- The graph that given slots make.
-use Rattle.std.specs.Prelude.{◌≡◌, ℕ, zero, suc, ◌≤◌, ◌==◌, Bool, false, not, Option, Some, IsSome, is_some, List, [], ◌∷◌, length, map, unwrap_or, if◌then◌else◌}
+use Rattle.std.specs.Prelude.{◌≡◌, ℕ, zero, suc, ◌≤◌, ◌==◌, Bool, false, not, Option, Some, IsSome, is_some, List, []}
+use Rattle.std.specs.Prelude.{◌∷◌, length, map, unwrap_or, if◌then◌else◌}
 use Rattle.std.specs.List.{range_with_len}
 use Rattle.std.specs.Option.{option_map}
 use Rattle.daggy_base.specs.declared.index.Direction.{Direction}
@@ -44,7 +45,8 @@ abbrev pub edges_by : {I E : Type 0} → (number : I → ℕ) → List (Option (
 edges_by number edges = map (option_map (edge_of number)) edges
 
 -- slots that make a graph: there is an index for each, and both ends of each edge are nodes
-pub record MakeGraph {N E : Type 0} (limit : ℕ) (nodes : List (Option N)) (edges : List (Option (Edge E))) : Type 0 where
+pub record MakeGraph {N E : Type 0} (limit : ℕ) (nodes : List (Option N))
+    (edges : List (Option (Edge E))) : Type 0 where
   pub few_nodes : length nodes ≤ limit
   pub few_edges : length edges ≤ limit
   pub parents : (e : ℕ) (x : Edge E) → slot edges e ≡ Some x → IsSome (slot nodes x.parent)

@@ -12,11 +12,14 @@ module _ {F I W V : Type 0} (step : F → I → Bor W → V → F → Type 0) (o
     pub called : step f (of i) shown v next
 
   -- f was called at each slot in turn that is not vacant, from the index i on, and new has what it gave
-  abbrev pub MapsSlots : {A B : Type 0} → (weight : A → W) (with : A → V → B) → F → ℕ → List (Option A) → List (Option B) → Type 0
+  abbrev pub MapsSlots : {A B : Type 0}
+      → (weight : A → W) (with : A → V → B) → F → ℕ → List (Option A) → List (Option B) → Type 0
   MapsSlots weight with f i [] new = new ≡ []
-  MapsSlots {A} {B} weight with f i (None ∷ xs) new = (later : List (Option B)) × (new ≡ None ∷ later) × MapsSlots weight with f (i + 1) xs later
+  MapsSlots {A} {B} weight with f i (None ∷ xs) new =
+      (later : List (Option B)) × (new ≡ None ∷ later) × MapsSlots weight with f (i + 1) xs later
   MapsSlots {A} {B} weight with f i (Some x ∷ xs) new =
-      (v : V) × (next : F) × CalledAt f i (weight x) v next × (later : List (Option B)) × (new ≡ Some (with x v) ∷ later) × MapsSlots weight with next (i + 1) xs later
+      (v : V) × (next : F) × CalledAt f i (weight x) v next × (later : List (Option B))
+      × (new ≡ Some (with x v) ∷ later) × MapsSlots weight with next (i + 1) xs later
 
 -- the weight of an edge
 abbrev pub weight_in : {E : Type 0} → Edge E → E
@@ -26,7 +29,8 @@ weight_in x = x.weight
 abbrev pub with_weight : {E V : Type 0} → Edge E → V → Edge V
 with_weight x v = record { parent = x.parent; child = x.child; weight = v }
 
-module _ {N E V W F G I : Type 0} (of : ℕ → I) (step_f : F → I → Bor N → V → F → Type 0) (step_g : G → I → Bor E → W → G → Type 0) where
+module _ {N E V W F G I : Type 0} (of : ℕ → I) (step_f : F → I → Bor N → V → F → Type 0)
+    (step_g : G → I → Bor E → W → G → Type 0) where
   -- new has the shape of old, and the weights that f and g gave, which were called by ascending index
   pub record IsMapped (f : F) (g : G) (old : Graph N E) (new : Graph V W) : Type 0 where
     pub nodes : MapsSlots step_f of (λ w. w) (λ w v. v) f 0 old.nodes new.nodes

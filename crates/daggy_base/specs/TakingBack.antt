@@ -51,13 +51,15 @@ with_node_taken_back made g n =
     }
 
 -- new is whatever graph old was made of by adding an edge at e, in a slot that was made for it or was vacant
-abbrev pub UndoesEdge : {N E : Type 0} → (limit : ℕ) → (made : Bool) → (old : Graph N E) → ℕ → (new : Graph N E) → Type 0
+abbrev pub UndoesEdge : {N E : Type 0}
+    → (limit : ℕ) → (made : Bool) → (old : Graph N E) → ℕ → (new : Graph N E) → Type 0
 UndoesEdge {N} {E} limit made old e new =
     (before : Graph N E) (u v : ℕ) (w : E) → IsWellFormed limit before → old ≡ with_edge before u v w
     → e ≡ next_edge before → made ≡ is_slot_made before.vacant_edges → new ≡ before
 
 -- new is whatever graph old was made of by adding a node at n, in a slot that was made for it or was vacant
-abbrev pub UndoesNode : {N E : Type 0} → (limit : ℕ) → (made : Bool) → (old : Graph N E) → ℕ → (new : Graph N E) → Type 0
+abbrev pub UndoesNode : {N E : Type 0}
+    → (limit : ℕ) → (made : Bool) → (old : Graph N E) → ℕ → (new : Graph N E) → Type 0
 UndoesNode {N} {E} limit made old n new =
     (before : Graph N E) (w : N) → IsWellFormed limit before → old ≡ with_node before w
     → n ≡ next_node before → made ≡ is_slot_made before.vacant_nodes → new ≡ before

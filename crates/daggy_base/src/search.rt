@@ -1,5 +1,6 @@
 //! Searches over any graph whose edges can be looked at.
-ghost use Rattle.std.specs.Prelude.{◌≡◌, ℕ, ◌+◌, ◌<◌, ◌≤◌, ◌↔◌, IsTrue, false, length, slice_index_or, slice_set};
+ghost use Rattle.std.specs.Prelude.{◌≡◌, ℕ, ◌+◌, ◌<◌, ◌≤◌, ◌↔◌, IsTrue, false, length};
+ghost use Rattle.std.specs.Prelude.{slice_index_or, slice_set};
 ghost use Rattle.daggy_base.specs.Graph.{HasNode, node_bound, edge_count};
 ghost use Rattle.daggy_base.specs.Path.{Reaches};
 
@@ -21,8 +22,8 @@ pub use reserved::write_out;
 pub use scratch::Scratch;
 pub use source::EdgeSource;
 
-/// Whether a path leads from `from` to `to`. The path of one node counts, so an existing node reaches itself; a missing
-/// one reaches nothing.
+/// Whether a path leads from `from` to `to`. The path of one node counts, so an existing node
+/// reaches itself; a missing one reaches nothing.
 ///
 /// It takes no more looks than there are edges and cannot fail for want of memory. The cost is that
 /// of the nodes and edges visited, and of room in the scratch that no search wrote before.
@@ -56,7 +57,8 @@ fn put<Ix: IndexType>(stack: &mut [Link<Ix>], at: usize, n: NodeIndex<Ix>)
     stack[at] = Link::of_node(n);
 }
 
-// Whether `from` reaches `to`, over marks that are all cleared: depth first, each node put on the stack once.
+// Whether `from` reaches `to`, over marks that are all cleared: depth first, each node put on the
+// stack once.
 fn search<Ix: IndexType, S: EdgeSource<Ix>>(
     source: &mut S,
     from: NodeIndex<Ix>,

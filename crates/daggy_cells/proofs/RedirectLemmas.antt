@@ -6,10 +6,13 @@ use Rattle.daggy_cells.specs.declared.cell.Edge.{Edge}
 use Rattle.daggy_base.specs.declared.index.Direction.{Direction}
 use Rattle.daggy_cells.specs.Links.{nth_list, IsLinkedList, AreLinkedLists, Redirected}
 use Rattle.daggy_cells.specs.Raw.{raw_first, raw_next}
-use Rattle.daggy_cells.specs.Fields.{firsts_of, nexts_of, ends_of, list_from, KeepsNodes, KeepsEdges, IsReady, Redirects}
+use Rattle.daggy_cells.specs.Fields.{firsts_of, nexts_of, ends_of, list_from, KeepsNodes, KeepsEdges, IsReady}
+use Rattle.daggy_cells.specs.Fields.{Redirects}
 use Rattle.daggy_cells.proofs.LinkedLists.{row_is}
 
-module _ {N E Ix : Type 0} (end : ℕ) (dir : Direction) (nodes : List (Node N Ix)) (edges : List (Edge E Ix)) (l : List ℕ) (old n : ℕ) (r : IsLinkedList end (nexts_of dir edges) (get_or (firsts_of dir nodes) n 0) l) (n_is : get_or (ends_of dir edges) old 0 ≡ n) (few : length edges ≤ end) where
+module _ {N E Ix : Type 0} (end : ℕ) (dir : Direction) (nodes : List (Node N Ix)) (edges : List (Edge E Ix))
+    (l : List ℕ) (old n : ℕ) (r : IsLinkedList end (nexts_of dir edges) (get_or (firsts_of dir nodes) n 0) l)
+    (n_is : get_or (ends_of dir edges) old 0 ≡ n) (few : length edges ≤ end) where
   -- l is the list of n
   walked : list_from dir edges (get_or (firsts_of dir nodes) n 0) ≡ l
   walked = row_is end _ (nexts_of dir edges) l r (omega (arith, few, length-map edges (raw_next dir)))
@@ -17,37 +20,62 @@ module _ {N E Ix : Type 0} (end : ℕ) (dir : Direction) (nodes : List (Node N I
   -- and old, which n is an end of, stands in it
   pub Ready-row : n < length nodes → old < length edges → Contains l old → IsReady end dir nodes edges old
   Ready-row n_in old_in there =
-      let row_w : IsLinkedList end (nexts_of dir edges) (get_or (firsts_of dir nodes) n 0) (list_from dir edges (get_or (firsts_of dir nodes) n 0)) = subst (IsLinkedList end (nexts_of dir edges) (get_or (firsts_of dir nodes) n 0)) (sym walked) r in
+      let row_w : IsLinkedList end (nexts_of dir edges) (get_or (firsts_of dir nodes) n 0)
+      (list_from dir edges (get_or (firsts_of dir nodes) n 0)) =
+      subst (IsLinkedList end (nexts_of dir edges) (get_or (firsts_of dir nodes) n 0)) (sym walked) r in
       record {
         edge = old_in;
         node = omega (arith, n_in, n_is);
-        linked = subst (λ z. IsLinkedList end (nexts_of dir edges) (get_or (firsts_of dir nodes) z 0) (list_from dir edges (get_or (firsts_of dir nodes) z 0))) (sym n_is) row_w;
-        listed = subst (λ z. Contains (list_from dir edges (get_or (firsts_of dir nodes) z 0)) old) (sym n_is) (subst (λ z. Contains z old) (sym walked) there);
+        linked =
+            subst (λ z. IsLinkedList end (nexts_of dir edges) (get_or (firsts_of dir nodes) z 0)
+            (list_from dir edges (get_or (firsts_of dir nodes) z 0))) (sym n_is) row_w;
+        listed =
+            subst (λ z. Contains (list_from dir edges (get_or (firsts_of dir nodes) z 0)) old) (sym n_is)
+            (subst (λ z. Contains z old) (sym walked) there);
         few = few;
       }
 
-  pub Redirected-list_from : (new : ℕ) (nodes' : List (Node N Ix)) (edges' : List (Edge E Ix)) → Redirects dir nodes edges old new nodes' edges' → Redirected l n old new (firsts_of dir nodes) (nexts_of dir edges) (firsts_of dir nodes') (nexts_of dir edges')
+  pub Redirected-list_from : (new : ℕ) (nodes' : List (Node N Ix)) (edges' : List (Edge E Ix))
+      → Redirects dir nodes edges old new nodes' edges'
+      → Redirected l n old new (firsts_of dir nodes) (nexts_of dir edges) (firsts_of dir nodes') (nexts_of dir edges')
   Redirected-list_from new nodes' edges' red =
-      let at_n : Redirected (list_from dir edges (get_or (firsts_of dir nodes) n 0)) n old new (firsts_of dir nodes) (nexts_of dir edges) (firsts_of dir nodes') (nexts_of dir edges') =
-      subst (λ z. Redirected (list_from dir edges (get_or (firsts_of dir nodes) z 0)) z old new (firsts_of dir nodes) (nexts_of dir edges) (firsts_of dir nodes') (nexts_of dir edges')) n_is red in
-      subst (λ z. Redirected z n old new (firsts_of dir nodes) (nexts_of dir edges) (firsts_of dir nodes') (nexts_of dir edges')) walked at_n
+      let at_n : Redirected (list_from dir edges (get_or (firsts_of dir nodes) n 0)) n old new (firsts_of dir nodes)
+      (nexts_of dir edges) (firsts_of dir nodes') (nexts_of dir edges') =
+      subst (λ z. Redirected (list_from dir edges (get_or (firsts_of dir nodes) z 0)) z old new (firsts_of dir nodes)
+      (nexts_of dir edges) (firsts_of dir nodes') (nexts_of dir edges')) n_is red in
+      subst (λ z. Redirected z n old new (firsts_of dir nodes) (nexts_of dir edges) (firsts_of dir nodes')
+      (nexts_of dir edges')) walked at_n
 
-module _ {N E Ix : Type 0} (end : ℕ) (dir : Direction) (nodes : List (Node N Ix)) (edges : List (Edge E Ix)) (lists : List (List ℕ)) (old n : ℕ) where
+module _ {N E Ix : Type 0} (end : ℕ) (dir : Direction) (nodes : List (Node N Ix)) (edges : List (Edge E Ix))
+    (lists : List (List ℕ)) (old n : ℕ) where
   -- the lists are linked, and old stands in that of its node
-  row_at : AreLinkedLists end (firsts_of dir nodes) (nexts_of dir edges) lists → n < length nodes → IsLinkedList end (nexts_of dir edges) (get_or (firsts_of dir nodes) n 0) (nth_list lists n)
+  row_at : AreLinkedLists end (firsts_of dir nodes) (nexts_of dir edges) lists → n < length nodes
+      → IsLinkedList end (nexts_of dir edges) (get_or (firsts_of dir nodes) n 0) (nth_list lists n)
   row_at linked n_in = linked.each n (omega (arith, n_in, length-map nodes (raw_first dir)))
 
-  pub Ready-from : AreLinkedLists end (firsts_of dir nodes) (nexts_of dir edges) lists → get_or (ends_of dir edges) old 0 ≡ n → n < length nodes → old < length edges → length edges ≤ end → Contains (nth_list lists n) old → IsReady end dir nodes edges old
-  Ready-from linked n_is n_in old_in few there = Ready-row end dir nodes edges (nth_list lists n) old n (row_at linked n_in) n_is few n_in old_in there
+  pub Ready-from : AreLinkedLists end (firsts_of dir nodes) (nexts_of dir edges) lists
+      → get_or (ends_of dir edges) old 0 ≡ n → n < length nodes → old < length edges → length edges ≤ end
+      → Contains (nth_list lists n) old → IsReady end dir nodes edges old
+  Ready-from linked n_is n_in old_in few there =
+      Ready-row end dir nodes edges (nth_list lists n) old n (row_at linked n_in) n_is few n_in old_in there
 
-  pub Redirected-row : (new : ℕ) (nodes' : List (Node N Ix)) (edges' : List (Edge E Ix)) → AreLinkedLists end (firsts_of dir nodes) (nexts_of dir edges) lists → get_or (ends_of dir edges) old 0 ≡ n → n < length nodes → length edges ≤ end → Redirects dir nodes edges old new nodes' edges' → Redirected (nth_list lists n) n old new (firsts_of dir nodes) (nexts_of dir edges) (firsts_of dir nodes') (nexts_of dir edges')
-  Redirected-row new nodes' edges' linked n_is n_in few red = Redirected-list_from end dir nodes edges (nth_list lists n) old n (row_at linked n_in) n_is few new nodes' edges' red
+  pub Redirected-row : (new : ℕ) (nodes' : List (Node N Ix)) (edges' : List (Edge E Ix))
+      → AreLinkedLists end (firsts_of dir nodes) (nexts_of dir edges) lists → get_or (ends_of dir edges) old 0 ≡ n
+      → n < length nodes → length edges ≤ end → Redirects dir nodes edges old new nodes' edges'
+      → Redirected (nth_list lists n) n old new (firsts_of dir nodes) (nexts_of dir edges) (firsts_of dir nodes')
+      (nexts_of dir edges')
+  Redirected-row new nodes' edges' linked n_is n_in few red =
+      Redirected-list_from end dir nodes edges (nth_list lists n) old n (row_at linked n_in) n_is few new nodes' edges'
+      red
 
 -- one call of `redirect`
-pub record Step {N E Ix : Type 0} (dir : Direction) (nodes : List (Node N Ix)) (edges : List (Edge E Ix)) (old new : ℕ) (nodes' : List (Node N Ix)) (edges' : List (Edge E Ix)) : Type 0 where
+pub record Step {N E Ix : Type 0} (dir : Direction) (nodes : List (Node N Ix)) (edges : List (Edge E Ix)) (old new : ℕ)
+    (nodes' : List (Node N Ix)) (edges' : List (Edge E Ix)) : Type 0 where
   pub links : Redirects dir nodes edges old new nodes' edges'
   pub keeps : KeepsNodes dir nodes nodes'
   pub keeps_edges : KeepsEdges dir edges edges'
 
-pub next_is : {E Ix : Type 0} (dir : Direction) (edges : List (Edge E Ix)) (i e : ℕ) (x : Edge E Ix) → x ≡ get_or edges i x → i ≡ e → e < length edges → raw_next dir x ≡ get_or (nexts_of dir edges) e 0
-next_is dir edges i e x is i_is e_in = ap (raw_next dir) (is ∙ ap (λ z. get_or edges z x) i_is) ∙ sym (get_or-map (raw_next dir) edges e x 0 e_in)
+pub next_is : {E Ix : Type 0} (dir : Direction) (edges : List (Edge E Ix)) (i e : ℕ) (x : Edge E Ix)
+    → x ≡ get_or edges i x → i ≡ e → e < length edges → raw_next dir x ≡ get_or (nexts_of dir edges) e 0
+next_is dir edges i e x is i_is e_in =
+    ap (raw_next dir) (is ∙ ap (λ z. get_or edges z x) i_is) ∙ sym (get_or-map (raw_next dir) edges e x 0 e_in)

@@ -1,5 +1,6 @@
 -- What an iterator has left, before and after a step.
-use Rattle.std.proofs.Common.{◌≡◌, ℕ, zero, suc, ◌+◌, ◌-◌, ◌<◌, ◌≤◌, List, [], ◌∷◌, map, length, get_or, Option, Some, None, slice_get, unwrap_or, refl, sym, ap, subst, ◌∙◌, arith}
+use Rattle.std.proofs.Common.{◌≡◌, ℕ, zero, suc, ◌+◌, ◌-◌, ◌<◌, ◌≤◌, List, [], ◌∷◌, map, length, get_or, Option, Some}
+use Rattle.std.proofs.Common.{None, slice_get, unwrap_or, refl, sym, ap, subst, ◌∙◌, arith}
 use Rattle.std.proofs.lemmas.List.{length-map}
 use Rattle.std.proofs.lemmas.Option.{same_Some, slice_get_past, slice_get_read}
 use Rattle.std.specs.List.{filter_map, cons_option, range_with_len}
@@ -18,15 +19,18 @@ use Rattle.daggy_base.proofs.Lists.{Contains-here, slice_get_mapped}
 
 -- no slot is vacant
 
-pub length-numbered : {A B : Type 0} (f : A → B) (i : ℕ) (xs : List A) → length (numbered i (map (λ x. Some (f x)) xs)) ≡ length xs
+pub length-numbered : {A B : Type 0} (f : A → B) (i : ℕ) (xs : List A)
+    → length (numbered i (map (λ x. Some (f x)) xs)) ≡ length xs
 length-numbered f i [] = refl
 length-numbered f i (x ∷ xs) = ap suc (length-numbered f (i + 1) xs)
 
-pub numbers_are : {A B : Type 0} (f : A → B) (i : ℕ) (xs : List A) → map (λ p. p.0) (numbered i (map (λ x. Some (f x)) xs)) ≡ range_with_len i (length xs)
+pub numbers_are : {A B : Type 0} (f : A → B) (i : ℕ) (xs : List A)
+    → map (λ p. p.0) (numbered i (map (λ x. Some (f x)) xs)) ≡ range_with_len i (length xs)
 numbers_are f i [] = refl
 numbers_are f i (x ∷ xs) = ap (λ l. i ∷ l) (numbers_are f (i + 1) xs)
 
-pub values_are : {A B C : Type 0} (f : A → B) (h : B → C) (i : ℕ) (xs : List A) → map (λ p. h p.1) (numbered i (map (λ x. Some (f x)) xs)) ≡ map (λ x. h (f x)) xs
+pub values_are : {A B C : Type 0} (f : A → B) (h : B → C) (i : ℕ) (xs : List A)
+    → map (λ p. h p.1) (numbered i (map (λ x. Some (f x)) xs)) ≡ map (λ x. h (f x)) xs
 values_are f h i [] = refl
 values_are f h i (x ∷ xs) = ap (λ l. h (f x) ∷ l) (values_are f h (i + 1) xs)
 
@@ -45,10 +49,13 @@ follow_past nexts (suc k) e past = rw (slice_get_past nexts e past) refl
 module _ {E Ix : Type 0} (end : ℕ) (dir : Direction) (edges : List (Edge E Ix)) where
   pub edges_past : (e : ℕ) → length edges ≤ e → edges_left dir edges e ≡ []
   edges_past e past =
-      ap (filter_map (λ i. option_map (λ x. at_index i (plain x)) (slice_get edges i))) (follow_past (nexts_of dir edges) (length (nexts_of dir edges)) e (omega (arith, past, length-map edges (raw_next dir))))
+      ap (filter_map (λ i. option_map (λ x. at_index i (plain x)) (slice_get edges i))) (follow_past
+      (nexts_of dir edges) (length (nexts_of dir edges)) e (omega (arith, past, length-map edges (raw_next dir))))
 
   -- the walk from an edge that is there
-  pub step_on : (e : ℕ) (x : Edge E Ix) → e < length edges → x ≡ get_or edges e x → IsOnList end dir edges e → (list_from dir edges e ≡ e ∷ list_from dir edges (raw_next dir x)) × IsLinkedList end (nexts_of dir edges) (raw_next dir x) (list_from dir edges (raw_next dir x))
+  pub step_on : (e : ℕ) (x : Edge E Ix) → e < length edges → x ≡ get_or edges e x → IsOnList end dir edges e
+      → (list_from dir edges e ≡ e ∷ list_from dir edges (raw_next dir x))
+      × IsLinkedList end (nexts_of dir edges) (raw_next dir x) (list_from dir edges (raw_next dir x))
   step_on e x within is s =
       let nexts = nexts_of dir edges in
       let long : length nexts ≡ length edges = length-map edges (raw_next dir) in
@@ -56,15 +63,21 @@ module _ {E Ix : Type 0} (end : ℕ) (dir : Direction) (edges : List (Edge E Ix)
       let split = row_splits end nexts e (list_from dir edges e) s.linked (omega (arith, within, long)) limit in
       let row_e : IsLinkedList end nexts e (e ∷ split.0) = subst (IsLinkedList end nexts e) split.1 s.linked in
       let goes = slice_get_mapped (raw_next dir) edges e x within is in
-      let next : first_of end split.0 ≡ raw_next dir x = same_Some _ _ (ap Some (sym (after_here end e split.0)) ∙ sym (row_e.goes_on e (Contains-here e split.0)) ∙ goes) in
-      let tail : IsLinkedList end nexts (raw_next dir x) split.0 = subst (λ z. IsLinkedList end nexts z split.0) next (IsLinkedList-tail end nexts e split.0 row_e) in
-      let rest : list_from dir edges (raw_next dir x) ≡ split.0 = row_is end (raw_next dir x) nexts split.0 tail limit in
+      let next : first_of end split.0 ≡ raw_next dir x =
+      same_Some _ _
+      (ap Some (sym (after_here end e split.0)) ∙ sym (row_e.goes_on e (Contains-here e split.0)) ∙ goes) in
+      let tail : IsLinkedList end nexts (raw_next dir x) split.0 =
+      subst (λ z. IsLinkedList end nexts z split.0) next (IsLinkedList-tail end nexts e split.0 row_e) in
+      let rest : list_from dir edges (raw_next dir x) ≡ split.0 =
+      row_is end (raw_next dir x) nexts split.0 tail limit in
       (split.1 ∙ ap (λ l. e ∷ l) (sym rest), subst (IsLinkedList end nexts (raw_next dir x)) (sym rest) tail)
 
-  pub IsOnList-step : (e : ℕ) (x : Edge E Ix) → e < length edges → x ≡ get_or edges e x → IsOnList end dir edges e → IsOnList end dir edges (raw_next dir x)
+  pub IsOnList-step : (e : ℕ) (x : Edge E Ix)
+      → e < length edges → x ≡ get_or edges e x → IsOnList end dir edges e → IsOnList end dir edges (raw_next dir x)
   IsOnList-step e x within is s = record { linked = (step_on e x within is s).1; few = s.few }
 
-  pub edges_step : (e : ℕ) (x : Edge E Ix) → e < length edges → x ≡ get_or edges e x → IsOnList end dir edges e → edges_left dir edges e ≡ (e, plain x) ∷ edges_left dir edges (raw_next dir x)
+  pub edges_step : (e : ℕ) (x : Edge E Ix) → e < length edges → x ≡ get_or edges e x → IsOnList end dir edges e
+      → edges_left dir edges e ≡ (e, plain x) ∷ edges_left dir edges (raw_next dir x)
   edges_step e x within is s =
       let h : ℕ → Option (ℕ × PlainEdge E) = λ i. option_map (λ y. at_index i (plain y)) (slice_get edges i) in
       let reads : slice_get edges e ≡ Some x = slice_get_read edges (length edges) e x refl within is in
@@ -72,7 +85,8 @@ module _ {E Ix : Type 0} (end : ℕ) (dir : Direction) (edges : List (Edge E Ix)
 
 -- no more is left than there are edges
 
-go_few : (nexts : List ℕ) (k e : ℕ) → ((next : ℕ) → length (follow nexts k next) ≤ k) → (o : Option ℕ) → length (unwrap_or (option_map (λ next. e ∷ follow nexts k next) o) []) ≤ suc k
+go_few : (nexts : List ℕ) (k e : ℕ) → ((next : ℕ) → length (follow nexts k next) ≤ k)
+    → (o : Option ℕ) → length (unwrap_or (option_map (λ next. e ∷ follow nexts k next) o) []) ≤ suc k
 go_few nexts k e few None = omega arith
 go_few nexts k e few (Some next) = omega (arith, few next)
 
@@ -88,8 +102,10 @@ pub filter_map_few : {A : Type 0} (h : ℕ → Option A) (xs : List ℕ) → len
 filter_map_few h [] = omega arith
 filter_map_few h (x ∷ xs) = let more = filter_map_few h xs in omega (arith, more, cons_few (h x) (filter_map h xs))
 
-pub edges_few : {E Ix : Type 0} (dir : Direction) (edges : List (Edge E Ix)) (e : ℕ) → length (edges_left dir edges e) ≤ length edges
+pub edges_few : {E Ix : Type 0} (dir : Direction) (edges : List (Edge E Ix)) (e : ℕ)
+    → length (edges_left dir edges e) ≤ length edges
 edges_few dir edges e =
-    let one = filter_map_few (λ i. option_map (λ x. at_index i (plain x)) (slice_get edges i)) (list_from dir edges e) in
+    let one =
+    filter_map_few (λ i. option_map (λ x. at_index i (plain x)) (slice_get edges i)) (list_from dir edges e) in
     let two = follow_few (nexts_of dir edges) (length (nexts_of dir edges)) e in
     omega (arith, one, two, length-map edges (raw_next dir))

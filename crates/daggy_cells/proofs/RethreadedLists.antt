@@ -1,17 +1,21 @@
 -- Threading lists anew.
-use Rattle.std.proofs.Common.{◌≡◌, ℕ, zero, suc, ◌+◌, ◌<◌, ◌≤◌, List, [], ◌∷◌, map, length, get_or, set, drop, Some, slice_get, refl, sym, ap, subst, ◌∙◌, inl, inr, arith, Contains}
+use Rattle.std.proofs.Common.{◌≡◌, ℕ, zero, suc, ◌+◌, ◌<◌, ◌≤◌, List, [], ◌∷◌, map, length, get_or, set, drop, Some}
+use Rattle.std.proofs.Common.{slice_get, refl, sym, ap, subst, ◌∙◌, inl, inr, arith, Contains}
 use Rattle.std.proofs.lemmas.Bool.{cases_eq}
-use Rattle.std.proofs.lemmas.List.{length-map, length-set, get_or-map, get_or-set_same, get_or-set_other, drop_more, drop_all}
+use Rattle.std.proofs.lemmas.List.{length-map, length-set, get_or-map, get_or-set_same, get_or-set_other, drop_more}
+use Rattle.std.proofs.lemmas.List.{drop_all}
 use Rattle.daggy_base.specs.declared.index.Direction.{Direction}
 use Rattle.daggy_base.specs.declared.index.Direction.TheVariants.{Outgoing, Incoming}
 use Rattle.daggy_base.specs.Cursor.{first_of, after}
 use Rattle.daggy_base.specs.WellFormed.{AreDistinct}
-use Rattle.daggy_base.proofs.Lists.{Contains-nil, Contains-here, Contains-there, Contains-cases, slice_get-set_same, slice_get-set_other}
+use Rattle.daggy_base.proofs.Lists.{Contains-nil, Contains-here, Contains-there, Contains-cases, slice_get-set_same}
+use Rattle.daggy_base.proofs.Lists.{slice_get-set_other}
 use Rattle.daggy_cells.specs.declared.cell.Node.{Node}
 use Rattle.daggy_cells.specs.declared.cell.Edge.{Edge}
 use Rattle.daggy_cells.specs.Links.{nth_list, AreLinkedLists, CanThread, Rethreads, CanThreadAll, AreThreadedBelow}
 use Rattle.daggy_cells.specs.Raw.{raw_next}
-use Rattle.daggy_cells.specs.Fields.{firsts_of, nexts_of, with_first, with_next, KeepsNodes, KeepsEdges, Threads, order_at}
+use Rattle.daggy_cells.specs.Fields.{firsts_of, nexts_of, with_first, with_next, KeepsNodes, KeepsEdges, Threads}
+use Rattle.daggy_cells.specs.Fields.{order_at}
 use Rattle.daggy_cells.proofs.LinkedLists.{after_here, after_there}
 use Rattle.daggy_cells.proofs.FieldLemmas.{KeepsNodes-set, KeepsEdges-set, firsts_of-set, nexts_of-set}
 use Rattle.daggy_cells.proofs.LinkedListChanges.{IsLinkedList-at}
@@ -31,27 +35,42 @@ AreDistinct-drop (suc k) (y ∷ ys) d = AreDistinct-drop k ys d.1
 -- one more element in front
 
 Rethreads-none : (end : ℕ) (nexts : List ℕ) → Rethreads end [] nexts nexts
-Rethreads-none end nexts = record { same_length = refl; inside = λ e p. absurd (Contains-nil e p); outside = λ e p. refl }
+Rethreads-none end nexts = record {
+  same_length = refl;
+  inside = λ e p. absurd (Contains-nil e p);
+  outside = λ e p. refl;
+}
 
-Rethreads-front : (end e : ℕ) (rest nexts nexts' : List ℕ) → ¬ Contains rest e → e < length nexts' → Rethreads end rest nexts nexts' → Rethreads end (e ∷ rest) nexts (set nexts' e (first_of end rest))
+Rethreads-front : (end e : ℕ) (rest nexts nexts' : List ℕ) → ¬ Contains rest e → e < length nexts'
+    → Rethreads end rest nexts nexts' → Rethreads end (e ∷ rest) nexts (set nexts' e (first_of end rest))
 Rethreads-front end e rest nexts nexts' out within r =
     record {
       same_length = length-set nexts' e (first_of end rest) ∙ r.same_length;
       inside = λ f p.
           elim (cases_eq e f) [
-            | inl same ↦ subst (λ z. slice_get (set nexts' e (first_of end rest)) z ≡ Some (after end (e ∷ rest) z)) same (slice_get-set_same nexts' e (first_of end rest) within ∙ ap Some (sym (after_here end e rest)))
+            | inl same ↦
+                subst (λ z. slice_get (set nexts' e (first_of end rest)) z ≡ Some (after end (e ∷ rest) z)) same
+                (slice_get-set_same nexts' e (first_of end rest) within ∙ ap Some (sym (after_here end e rest)))
             | inr other ↦ elim (Contains-cases e f rest p) [
               | inl here ↦ absurd (other here)
-              | inr there ↦ slice_get-set_other nexts' e f (first_of end rest) (λ q. other (sym q)) ∙ r.inside f there ∙ ap Some (sym (after_there end e f rest other))
+              | inr there ↦
+                  slice_get-set_other nexts' e f (first_of end rest) (λ q. other (sym q)) ∙ r.inside f there
+                  ∙ ap Some (sym (after_there end e f rest other))
             ]
           ];
       outside = λ f p.
-          slice_get-set_other nexts' e f (first_of end rest) (λ same. p (subst (Contains (e ∷ rest)) (sym same) (Contains-here e rest)))
+          slice_get-set_other nexts' e f (first_of end rest)
+          (λ same. p (subst (Contains (e ∷ rest)) (sym same) (Contains-here e rest)))
           ∙ r.outside f (λ q. p (Contains-there e f rest q));
     }
 
-KeepsEdges-both : {E Ix : Type 0} (dir : Direction) (old now new : List (Edge E Ix)) → KeepsEdges dir old now → KeepsEdges dir now new → KeepsEdges dir old new
-KeepsEdges-both dir old now new k l = record { edges = l.edges ∙ k.edges; ends = λ d. l.ends d ∙ k.ends d; nexts = l.nexts ∙ k.nexts }
+KeepsEdges-both : {E Ix : Type 0} (dir : Direction) (old now new : List (Edge E Ix))
+    → KeepsEdges dir old now → KeepsEdges dir now new → KeepsEdges dir old new
+KeepsEdges-both dir old now new k l = record {
+  edges = l.edges ∙ k.edges;
+  ends = λ d. l.ends d ∙ k.ends d;
+  nexts = l.nexts ∙ k.nexts;
+}
 
 -- the list from the place `left` on is threaded, and begins with `after`
 module _ {E Ix : Type 0} (end : ℕ) (dir : Direction) (list : List ℕ) (old : List (Edge E Ix)) where
@@ -67,12 +86,16 @@ module _ {E Ix : Type 0} (end : ℕ) (dir : Direction) (list : List ℕ) (old : 
       record {
         bound = omega (arith, left_is);
         first = after_is ∙ sym (ap (first_of end) nothing);
-        nexts = subst (λ l. Rethreads end l (nexts_of dir old) (nexts_of dir old)) (sym nothing) (Rethreads-none end (nexts_of dir old));
+        nexts =
+            subst (λ l. Rethreads end l (nexts_of dir old) (nexts_of dir old)) (sym nothing)
+            (Rethreads-none end (nexts_of dir old));
         keeps = record { edges = refl; ends = λ d. refl; nexts = refl };
       }
 
   -- the element before is threaded too
-  pub threading_step : CanThread (length old) list → (now : List (Edge E Ix)) (left k after i e : ℕ) (x x' : Edge E Ix) → IsThreading now left after → left ≡ suc k → e ≡ get_or list k e → i ≡ e → x ≡ get_or now i x → x' ≡ with_next dir x after → IsThreading (set now i x') k e
+  pub threading_step : CanThread (length old) list
+      → (now : List (Edge E Ix)) (left k after i e : ℕ) (x x' : Edge E Ix) → IsThreading now left after → left ≡ suc k
+      → e ≡ get_or list k e → i ≡ e → x ≡ get_or now i x → x' ≡ with_next dir x after → IsThreading (set now i x') k e
   threading_step can now left k after i e x x' t left_is e_is i_is x_is x'_is =
       let k_in : k < length list = omega (arith, left_is, t.bound) in
       let rest = drop (k + 1) list in
@@ -80,78 +103,119 @@ module _ {E Ix : Type 0} (end : ℕ) (dir : Direction) (list : List ℕ) (old : 
       let split : drop k list ≡ e ∷ rest = drop_more list k e k_in ∙ ap (λ z. z ∷ rest) (sym e_is) in
       let out = (subst AreDistinct split (AreDistinct-drop k list can.once)).0 in
       let within : e < length old = can.within e (k, k_in, sym e_is) in
-      let t_rest : Rethreads end rest (nexts_of dir old) (nexts_of dir now) = subst (λ l. Rethreads end l (nexts_of dir old) (nexts_of dir now)) from t.nexts in
-      let e_in : e < length (nexts_of dir now) = omega (arith, within, t_rest.same_length, length-map old (raw_next dir)) in
+      let t_rest : Rethreads end rest (nexts_of dir old) (nexts_of dir now) =
+      subst (λ l. Rethreads end l (nexts_of dir old) (nexts_of dir now)) from t.nexts in
+      let e_in : e < length (nexts_of dir now) =
+      omega (arith, within, t_rest.same_length, length-map old (raw_next dir)) in
       let more = Rethreads-front end e rest (nexts_of dir old) (nexts_of dir now) out e_in t_rest in
       let written : nexts_of dir (set now i x') ≡ set (nexts_of dir now) e (first_of end rest) =
-      ap (λ z. nexts_of dir (set now i z)) x'_is ∙ nexts_of-set now i x after x_is dir ∙ ap (λ z. set (nexts_of dir now) z after) i_is ∙ ap (set (nexts_of dir now) e) (t.first ∙ ap (first_of end) from) in
+      ap (λ z. nexts_of dir (set now i z)) x'_is ∙ nexts_of-set now i x after x_is dir
+      ∙ ap (λ z. set (nexts_of dir now) z after) i_is
+      ∙ ap (set (nexts_of dir now) e) (t.first ∙ ap (first_of end) from) in
       record {
         bound = omega (arith, k_in);
         first = sym (ap (first_of end) split);
-        nexts = subst (λ l. Rethreads end l (nexts_of dir old) (nexts_of dir (set now i x'))) (sym split) (subst (Rethreads end (e ∷ rest) (nexts_of dir old)) (sym written) more);
-        keeps = KeepsEdges-both dir old now (set now i x') t.keeps (subst (λ z. KeepsEdges dir now (set now i z)) (sym x'_is) (KeepsEdges-set now i x after x_is dir));
+        nexts =
+            subst (λ l. Rethreads end l (nexts_of dir old) (nexts_of dir (set now i x'))) (sym split)
+            (subst (Rethreads end (e ∷ rest) (nexts_of dir old)) (sym written) more);
+        keeps =
+            KeepsEdges-both dir old now (set now i x') t.keeps
+            (subst (λ z. KeepsEdges dir now (set now i z)) (sym x'_is) (KeepsEdges-set now i x after x_is dir));
       }
 
-  pub threading_within : CanThread (length old) list → (now : List (Edge E Ix)) (left k after e : ℕ) → IsThreading now left after → left ≡ suc k → e ≡ get_or list k e → e < length now
+  pub threading_within : CanThread (length old) list → (now : List (Edge E Ix)) (left k after e : ℕ)
+      → IsThreading now left after → left ≡ suc k → e ≡ get_or list k e → e < length now
   threading_within can now left k after e t left_is e_is =
       let within : e < length old = can.within e (k, omega (arith, left_is, t.bound), sym e_is) in
       omega (arith, within, t.nexts.same_length, length-map old (raw_next dir), length-map now (raw_next dir))
 
-  pub threading_done : {N : Type 0} (nodes : List (Node N Ix)) (now : List (Edge E Ix)) (left after n : ℕ) (x x' : Node N Ix) → IsThreading now left after → left ≡ 0 → x ≡ get_or nodes n x → x' ≡ with_first dir x after
+  pub threading_done : {N : Type 0} (nodes : List (Node N Ix)) (now : List (Edge E Ix)) (left after n : ℕ)
+      (x x' : Node N Ix)
+      → IsThreading now left after → left ≡ 0 → x ≡ get_or nodes n x → x' ≡ with_first dir x after
       → Threads end dir nodes old n list (set nodes n x') now × KeepsNodes dir nodes (set nodes n x')
   threading_done nodes now left after n x x' t left_is x_is x'_is =
       let whole : drop left list ≡ list = ap (λ k. drop k list) left_is in (
         record {
-          first = ap (λ z. firsts_of dir (set nodes n z)) x'_is ∙ firsts_of-set nodes n x after x_is dir ∙ ap (set (firsts_of dir nodes) n) (t.first ∙ ap (first_of end) whole);
+          first =
+              ap (λ z. firsts_of dir (set nodes n z)) x'_is ∙ firsts_of-set nodes n x after x_is dir
+              ∙ ap (set (firsts_of dir nodes) n) (t.first ∙ ap (first_of end) whole);
           nexts = subst (λ l. Rethreads end l (nexts_of dir old) (nexts_of dir now)) whole t.nexts;
         },
         subst (λ z. KeepsNodes dir nodes (set nodes n z)) (sym x'_is) (KeepsNodes-set nodes n x after x_is dir),
       )
 
 -- the place that is read, in a list of numbers
-pub number_read : {I : Type 0} (number : I → ℕ) (items : List I) (k e : ℕ) (x : I) → k < length items → x ≡ get_or items k x → e ≡ number x → e ≡ get_or (map number items) k e
-number_read number items k e x within x_is e_is = sym (get_or-map number items k x e within ∙ ap number (sym x_is) ∙ sym e_is)
+pub number_read : {I : Type 0} (number : I → ℕ) (items : List I) (k e : ℕ) (x : I)
+    → k < length items → x ≡ get_or items k x → e ≡ number x → e ≡ get_or (map number items) k e
+number_read number items k e x within x_is e_is =
+    sym (get_or-map number items k x e within ∙ ap number (sym x_is) ∙ sym e_is)
 
-pub CanThread-as_long : (count count' : ℕ) (list : List ℕ) → CanThread count list → count' ≡ count → CanThread count' list
-CanThread-as_long count count' list can same = record { once = can.once; within = λ e p. let below = can.within e p in omega (arith, below, same) }
+pub CanThread-as_long : (count count' : ℕ) (list : List ℕ)
+    → CanThread count list → count' ≡ count → CanThread count' list
+CanThread-as_long count count' list can same = record {
+  once = can.once;
+  within = λ e p. let below = can.within e p in omega (arith, below, same);
+}
 
 -- both directions
 
-module _ {N E Ix : Type 0} (end n : ℕ) (nodes middle nodes' : List (Node N Ix)) (edges between edges' : List (Edge E Ix)) where
+module _ {N E Ix : Type 0} (end n : ℕ) (nodes middle nodes' : List (Node N Ix))
+    (edges between edges' : List (Edge E Ix)) where
   -- a list of each direction, one after the other
-  pub threads_both : (order : List ℕ × List ℕ) (out into : List ℕ) → out ≡ order.0 → into ≡ order.1 → Threads end Outgoing nodes edges n out middle between → KeepsNodes Outgoing nodes middle → KeepsEdges Outgoing edges between
-      → Threads end Incoming middle between n into nodes' edges' → KeepsNodes Incoming middle nodes' → KeepsEdges Incoming between edges' → (dir : Direction) → Threads end dir nodes edges n (order_at dir order) nodes' edges'
+  pub threads_both : (order : List ℕ × List ℕ) (out into : List ℕ)
+      → out ≡ order.0 → into ≡ order.1 → Threads end Outgoing nodes edges n out middle between
+      → KeepsNodes Outgoing nodes middle → KeepsEdges Outgoing edges between
+      → Threads end Incoming middle between n into nodes' edges' → KeepsNodes Incoming middle nodes'
+      → KeepsEdges Incoming between edges'
+      → (dir : Direction) → Threads end dir nodes edges n (order_at dir order) nodes' edges'
   threads_both order out into out_is into_is t k l t' k' l' =
       elim [
         | Outgoing ↦ record {
           first = k'.firsts ∙ t.first ∙ ap (λ z. set (firsts_of Outgoing nodes) n (first_of end z)) out_is;
-          nexts = subst (λ z. Rethreads end z (nexts_of Outgoing edges) (nexts_of Outgoing edges')) out_is (subst (Rethreads end out (nexts_of Outgoing edges)) (sym l'.nexts) t.nexts);
+          nexts =
+              subst (λ z. Rethreads end z (nexts_of Outgoing edges) (nexts_of Outgoing edges')) out_is
+              (subst (Rethreads end out (nexts_of Outgoing edges)) (sym l'.nexts) t.nexts);
         }
         | Incoming ↦ record {
-          first = t'.first ∙ ap (λ l. set l n (first_of end into)) k.firsts ∙ ap (λ z. set (firsts_of Incoming nodes) n (first_of end z)) into_is;
-          nexts = subst (λ z. Rethreads end z (nexts_of Incoming edges) (nexts_of Incoming edges')) into_is (subst (λ m. Rethreads end into m (nexts_of Incoming edges')) l.nexts t'.nexts);
+          first =
+              t'.first ∙ ap (λ l. set l n (first_of end into)) k.firsts
+              ∙ ap (λ z. set (firsts_of Incoming nodes) n (first_of end z)) into_is;
+          nexts =
+              subst (λ z. Rethreads end z (nexts_of Incoming edges) (nexts_of Incoming edges')) into_is
+              (subst (λ m. Rethreads end into m (nexts_of Incoming edges')) l.nexts t'.nexts);
         }
       ]
 
 -- the lists in turn
 
-pub none_below : (end : ℕ) (nexts firsts : List ℕ) (lists : List (List ℕ)) → AreThreadedBelow 0 end nexts firsts nexts lists
-none_below end nexts firsts lists = record { same_length = refl; rows = λ n within. absurd (omega (arith, within)); others = λ e p. refl }
+pub none_below : (end : ℕ) (nexts firsts : List ℕ) (lists : List (List ℕ))
+    → AreThreadedBelow 0 end nexts firsts nexts lists
+none_below end nexts firsts lists = record {
+  same_length = refl;
+  rows = λ n within. absurd (omega (arith, within));
+  others = λ e p. refl;
+}
 
-module _ (i end : ℕ) (nexts firsts nexts' : List ℕ) (lists : List (List ℕ)) (t : AreThreadedBelow i end nexts firsts nexts' lists) where
-  pub below_empty : get_or firsts i 0 ≡ end → nth_list lists i ≡ [] → AreThreadedBelow (i + 1) end nexts firsts nexts' lists
+module _ (i end : ℕ) (nexts firsts nexts' : List ℕ) (lists : List (List ℕ))
+    (t : AreThreadedBelow i end nexts firsts nexts' lists) where
+  pub below_empty : get_or firsts i 0 ≡ end → nth_list lists i ≡ []
+      → AreThreadedBelow (i + 1) end nexts firsts nexts' lists
   below_empty first_is empty =
       record {
         same_length = t.same_length;
         rows = λ n within.
             elim (cases_eq n i) [
-              | inl same ↦ IsLinkedList-at end _ [] _ (ap (λ z. get_or firsts z 0) same ∙ first_is) (ap (nth_list lists) same ∙ empty) (record { starts = refl; distinct = tt; goes_on = λ e p. absurd (Contains-nil e p) })
+              | inl same ↦
+                  IsLinkedList-at end _ [] _ (ap (λ z. get_or firsts z 0) same ∙ first_is) (ap (nth_list lists) same
+                  ∙ empty) (record { starts = refl; distinct = tt; goes_on = λ e p. absurd (Contains-nil e p) })
               | inr other ↦ t.rows n (omega (arith, within, other))
             ];
         others = t.others;
       }
 
-  pub below_threaded : (count : ℕ) → CanThreadAll count lists → i < length firsts → (list firsts' nexts'' : List ℕ) → nth_list lists i ≡ list → firsts' ≡ set firsts i (first_of end list) → Rethreads end list nexts' nexts'' → AreThreadedBelow (i + 1) end nexts firsts' nexts'' lists
+  pub below_threaded : (count : ℕ) → CanThreadAll count lists → i < length firsts
+      → (list firsts' nexts'' : List ℕ) → nth_list lists i ≡ list → firsts' ≡ set firsts i (first_of end list)
+      → Rethreads end list nexts' nexts'' → AreThreadedBelow (i + 1) end nexts firsts' nexts'' lists
   below_threaded count can inside list firsts' nexts'' list_is first_is r =
       record {
         same_length = r.same_length ∙ t.same_length;
@@ -159,12 +223,22 @@ module _ (i end : ℕ) (nexts firsts nexts' : List ℕ) (lists : List (List ℕ)
             elim (cases_eq n i) [
               | inl same ↦
                   let d = subst AreDistinct list_is (can.each i).once in
-                  IsLinkedList-at (first_of end list) _ list _ (ap (λ z. get_or firsts' z 0) same ∙ ap (λ l. get_or l i 0) first_is ∙ get_or-set_same firsts i (first_of end list) 0 inside) (ap (nth_list lists) same ∙ list_is)
+                  IsLinkedList-at (first_of end list) _ list _ (ap (λ z. get_or firsts' z 0) same
+                  ∙ ap (λ l. get_or l i 0) first_is ∙ get_or-set_same firsts i (first_of end list) 0 inside)
+                  (ap (nth_list lists) same ∙ list_is)
                   (record { starts = refl; distinct = d; goes_on = r.inside })
               | inr other ↦
                   let old = t.rows n (omega (arith, within, other)) in
-                  IsLinkedList-at (get_or firsts n 0) _ (nth_list lists n) _ (ap (λ l. get_or l n 0) first_is ∙ get_or-set_other firsts i n (first_of end list) 0 other) refl
-                  (record { starts = old.starts; distinct = old.distinct; goes_on = λ e p. r.outside e (λ q. other (can.apart n i e p (subst (λ l. Contains l e) (sym list_is) q))) ∙ old.goes_on e p })
+                  IsLinkedList-at (get_or firsts n 0) _ (nth_list lists n) _
+                  (ap (λ l. get_or l n 0) first_is ∙ get_or-set_other firsts i n (first_of end list) 0 other) refl
+                  (record {
+                    starts = old.starts;
+                    distinct = old.distinct;
+                    goes_on =
+                        λ e p.
+                        r.outside e (λ q. other (can.apart n i e p (subst (λ l. Contains l e) (sym list_is) q)))
+                        ∙ old.goes_on e p;
+                  })
             ];
         others = λ e p. r.outside e (λ q. p i (subst (λ l. Contains l e) (sym list_is) q)) ∙ t.others e p;
       }

@@ -92,21 +92,27 @@ pub record KeepsEdges {E Ix : Type 0} (dir : Direction) (old new : List (Edge E 
   pub nexts : nexts_of (other dir) new ≡ nexts_of (other dir) old
 
 -- what `redirect` asks of its caller
-pub record IsReady {N E Ix : Type 0} (end : ℕ) (dir : Direction) (nodes : List (Node N Ix)) (edges : List (Edge E Ix)) (old : ℕ) : Type 0 where
+pub record IsReady {N E Ix : Type 0} (end : ℕ) (dir : Direction) (nodes : List (Node N Ix)) (edges : List (Edge E Ix))
+    (old : ℕ) : Type 0 where
   pub edge : old < length edges
   pub node : slice_index (ends_of dir edges) old < length nodes
-  pub linked : let first = slice_index (firsts_of dir nodes) (slice_index (ends_of dir edges) old) in IsLinkedList end (nexts_of dir edges) first (list_from dir edges first)
-  pub listed : let first = slice_index (firsts_of dir nodes) (slice_index (ends_of dir edges) old) in Contains (list_from dir edges first) old
+  pub linked : let first = slice_index (firsts_of dir nodes) (slice_index (ends_of dir edges) old) in
+      IsLinkedList end (nexts_of dir edges) first (list_from dir edges first)
+  pub listed : let first = slice_index (firsts_of dir nodes) (slice_index (ends_of dir edges) old) in
+      Contains (list_from dir edges first) old
   pub few : length edges ≤ end
 
 -- what `redirect` promises
-abbrev pub Redirects : {N E Ix : Type 0} → Direction → List (Node N Ix) → List (Edge E Ix) → (old new : ℕ) → List (Node N Ix) → List (Edge E Ix) → Type 0
+abbrev pub Redirects : {N E Ix : Type 0}
+    → Direction → List (Node N Ix) → List (Edge E Ix) → (old new : ℕ) → List (Node N Ix) → List (Edge E Ix) → Type 0
 Redirects dir nodes edges old new nodes' edges' =
     let n = slice_index (ends_of dir edges) old in
-    Redirected (list_from dir edges (slice_index (firsts_of dir nodes) n)) n old new (firsts_of dir nodes) (nexts_of dir edges) (firsts_of dir nodes') (nexts_of dir edges')
+    Redirected (list_from dir edges (slice_index (firsts_of dir nodes) n)) n old new (firsts_of dir nodes)
+    (nexts_of dir edges) (firsts_of dir nodes') (nexts_of dir edges')
 
 -- what `thread` promises: the list is threaded as that of n
-pub record Threads {N E Ix : Type 0} (end : ℕ) (dir : Direction) (nodes : List (Node N Ix)) (edges : List (Edge E Ix)) (n : ℕ) (list : List ℕ) (nodes' : List (Node N Ix)) (edges' : List (Edge E Ix)) : Type 0 where
+pub record Threads {N E Ix : Type 0} (end : ℕ) (dir : Direction) (nodes : List (Node N Ix)) (edges : List (Edge E Ix))
+    (n : ℕ) (list : List ℕ) (nodes' : List (Node N Ix)) (edges' : List (Edge E Ix)) : Type 0 where
   pub first : firsts_of dir nodes' ≡ slice_set (firsts_of dir nodes) n (first_of end list)
   pub nexts : Rethreads end list (nexts_of dir edges) (nexts_of dir edges')
 

@@ -1,5 +1,6 @@
 -- Lists threaded through numbers: a list has a first element, and each element names the next.
-use Rattle.std.specs.Prelude.{◌≡◌, ℕ, zero, suc, ◌<◌, ◌↔◌, Option, Some, List, [], ◌∷◌, length, map, slice_get, slice_set, slice_index, unwrap_or, Contains}
+use Rattle.std.specs.Prelude.{◌≡◌, ℕ, zero, suc, ◌<◌, ◌↔◌, Option, Some, List, [], ◌∷◌, length, map, slice_get}
+use Rattle.std.specs.Prelude.{slice_set, slice_index, unwrap_or, Contains}
 use Rattle.std.specs.Option.{option_map}
 use Rattle.daggy_base.specs.Cursor.{first_of, after}
 use Rattle.daggy_base.specs.WellFormed.{AreDistinct}

@@ -5,12 +5,14 @@ use Rattle.daggy_cells.specs.declared.cell.Node.{Node}
 use Rattle.daggy_cells.specs.declared.cell.Edge.{Edge}
 use Rattle.daggy_base.specs.Mapping.{CalledAt}
 
-module _ {F I W V A B : Type 0} (step : F → I → Bor W → V → F → Type 0) (of : ℕ → I) (weight : A → W) (with : A → V → B) where
+module _ {F I W V A B : Type 0} (step : F → I → Bor W → V → F → Type 0) (of : ℕ → I) (weight : A → W)
+    (with : A → V → B) where
   -- f was called at each element in turn, from the index i on, and new has what it gave
   abbrev pub MapsCells : F → ℕ → List A → List B → Type 0
   MapsCells f i [] new = new ≡ []
   MapsCells f i (x ∷ xs) new =
-      (v : V) × (next : F) × CalledAt step of f i (weight x) v next × (later : List B) × (new ≡ with x v ∷ later) × MapsCells next (i + 1) xs later
+      (v : V) × (next : F) × CalledAt step of f i (weight x) v next × (later : List B) × (new ≡ with x v ∷ later)
+      × MapsCells next (i + 1) xs later
 
 -- the weight of a stored node
 abbrev pub node_weight_in : {N Ix : Type 0} → Node N Ix → N

@@ -29,11 +29,14 @@ raw_next Incoming x = x.next_in
 pub record ShowsNodes {N E Ix : Type 0} (end : ℕ) (g : Graph N E) (nodes : List (Node N Ix)) : Type 0 where
   pub count : length nodes ≡ length g.nodes
   pub weight : (n : ℕ) (x : Node N Ix) → slice_get nodes n ≡ Some x → node_weight g n ≡ Some x.weight
-  pub first : (dir : Direction) (n : ℕ) (x : Node N Ix) → slice_get nodes n ≡ Some x → raw_first dir x ≡ first_of end (list_at dir g n)
+  pub first : (dir : Direction) (n : ℕ) (x : Node N Ix)
+      → slice_get nodes n ≡ Some x → raw_first dir x ≡ first_of end (list_at dir g n)
 
 -- the e-th of the stored edges has the ends and the weight of the edge e, and names the edge after it in each of its
 -- lists, or `end`
 pub record ShowsEdges {N E Ix : Type 0} (end : ℕ) (g : Graph N E) (edges : List (Edge E Ix)) : Type 0 where
   pub count : length edges ≡ length g.edges
-  pub edge : (e : ℕ) (x : Edge E Ix) → slice_get edges e ≡ Some x → edge_at g e ≡ Some (record { parent = raw_parent x; child = raw_child x; weight = x.weight })
-  pub next : (dir : Direction) (e : ℕ) (x : Edge E Ix) → slice_get edges e ≡ Some x → raw_next dir x ≡ cursor_after dir end g e (edge_at g e)
+  pub edge : (e : ℕ) (x : Edge E Ix) → slice_get edges e ≡ Some x
+      → edge_at g e ≡ Some (record { parent = raw_parent x; child = raw_child x; weight = x.weight })
+  pub next : (dir : Direction) (e : ℕ) (x : Edge E Ix)
+      → slice_get edges e ≡ Some x → raw_next dir x ≡ cursor_after dir end g e (edge_at g e)

@@ -53,7 +53,8 @@ impl<E, Ix: IndexType> Edge<E, Ix> {
         self.child.node()
     }
 
-    /// The edge after this one among those that leave its source, or among those that enter its target, or `end`.
+    /// The edge after this one among those that leave its source, or among those that enter its
+    /// target, or `end`.
     #[inline]
     pub fn next_edge(&self, dir: Direction) -> EdgeIndex<Ix>
         ensures { Ix.number result ≡ raw_next dir self.now }

@@ -1,12 +1,16 @@
 //! The links between stored nodes and edges, and changes to them, for the stores that keep them.
-ghost use Rattle.std.specs.Prelude.{◌≡◌, ◌≢◌, ℕ, ◌<◌, ◌≤◌, ◌↔◌, length, map, slice_get, slice_set, slice_index, Contains, Some};
+ghost use Rattle.std.specs.Prelude.{◌≡◌, ◌≢◌, ℕ, ◌<◌, ◌≤◌, ◌↔◌, length, map, slice_get, slice_set};
+ghost use Rattle.std.specs.Prelude.{slice_index, Contains, Some};
 ghost use Rattle.daggy_base.specs.declared.index.Direction.{Direction};
 ghost use Rattle.daggy_base.specs.declared.index.Direction.TheVariants.{Outgoing, Incoming};
 ghost use Rattle.daggy_base.specs.Cursor.{after};
 ghost use Rattle.daggy_base.specs.Orders.{numbers_of};
 ghost use Rattle.daggy_cells.specs.Links.{IsLinkedList, CanThread};
 ghost use Rattle.daggy_cells.specs.Raw.{raw_first, raw_next};
-ghost use Rattle.daggy_cells.specs.Fields.{weight_of, plain_edge, with_first, end_at, with_next, with_end, with_end_renamed, firsts_of, nexts_of, ends_of, list_from, with_lists_emptied, KeepsNodes, KeepsEdges, IsReady, Redirects, Threads, order_at};
+ghost use Rattle.daggy_cells.specs.Fields.{weight_of, plain_edge, with_first, end_at, with_next};
+ghost use Rattle.daggy_cells.specs.Fields.{with_end, with_end_renamed, firsts_of, nexts_of};
+ghost use Rattle.daggy_cells.specs.Fields.{ends_of, list_from, with_lists_emptied, KeepsNodes};
+ghost use Rattle.daggy_cells.specs.Fields.{KeepsEdges, IsReady, Redirects, Threads, order_at};
 ghost use Rattle.daggy_cells.specs.MappedCells.{node_with, edge_with};
 
 use crate::cell::{Edge, Node};
@@ -68,7 +72,13 @@ pub fn new_edge<E, Ix: IndexType>(
     next_out: Link<Ix>,
     next_in: Link<Ix>,
 ) -> Edge<E, Ix>
-    ensures { result ≡ record { weight = weight; parent = parent; child = child; next_out = next_out; next_in = next_in } }
+    ensures { result ≡ record {
+      weight = weight;
+      parent = parent;
+      child = child;
+      next_out = next_out;
+      next_in = next_in;
+    } }
 {
     Edge {
         weight,
@@ -157,8 +167,10 @@ pub fn put_first<N, E, Ix: IndexType>(
     } }
     ensures len { length nodes.new.items ≡ length nodes.old.items }
     ensures weights { map weight_of nodes.new.items ≡ map weight_of nodes.old.items }
-    ensures out { firsts_of Outgoing nodes.new.items ≡ slice_set (firsts_of Outgoing nodes.old.items) a e }
-    ensures into { firsts_of Incoming nodes.new.items ≡ slice_set (firsts_of Incoming nodes.old.items) b e }
+    ensures out { firsts_of Outgoing nodes.new.items
+        ≡ slice_set (firsts_of Outgoing nodes.old.items) a e }
+    ensures into { firsts_of Incoming nodes.new.items
+        ≡ slice_set (firsts_of Incoming nodes.old.items) b e }
 {
     let u = a.index();
     let v = b.index();
@@ -176,7 +188,8 @@ fn find_before<E, Ix: IndexType>(
     first: Link<Ix>,
     old: Link<Ix>,
 ) -> Link<Ix>
-    requires linked { IsLinkedList Ix.greatest (nexts_of dir edges.now) first (list_from dir edges.now first) }
+    requires linked { IsLinkedList Ix.greatest (nexts_of dir edges.now) first
+        (list_from dir edges.now first) }
     requires listed { Contains (list_from dir edges.now first) old }
     requires later { first ≢ old }
     requires few { length edges.now ≤ Ix.greatest }
@@ -206,7 +219,8 @@ pub fn redirect<N, E, Ix: IndexType>(
     new: Link<Ix>,
 )
     requires { IsReady Ix.greatest dir nodes.old.items edges.old.items old }
-    ensures links { Redirects dir nodes.old.items edges.old.items old new nodes.new.items edges.new.items }
+    ensures links { Redirects dir nodes.old.items edges.old.items old new nodes.new.items
+        edges.new.items }
     ensures nodes { KeepsNodes dir nodes.old.items nodes.new.items }
     ensures edges { KeepsEdges dir edges.old.items edges.new.items }
 {
@@ -232,8 +246,11 @@ pub fn reown<E, Ix: IndexType>(
     from: Link<Ix>,
     to: Link<Ix>,
 )
-    requires linked { IsLinkedList Ix.greatest (nexts_of dir edges.old.items) first (list_from dir edges.old.items first) }
-    requires exact { (e : ℕ) → Contains (list_from dir edges.old.items first) e ↔ (slice_get (ends_of dir edges.old.items) e ≡ Some from) }
+    requires linked { IsLinkedList Ix.greatest (nexts_of dir edges.old.items) first
+        (list_from dir edges.old.items first) }
+    requires exact { (e : ℕ)
+        → Contains (list_from dir edges.old.items first) e
+        ↔ (slice_get (ends_of dir edges.old.items) e ≡ Some from) }
     requires differ { from ≢ to }
     requires few { length edges.old.items ≤ Ix.greatest }
     ensures { edges.new.items ≡ map (with_end_renamed dir from to) edges.old.items }
@@ -260,7 +277,8 @@ pub fn thread<N, E, Ix: IndexType>(
 )
     requires node { n < length nodes.old.items }
     requires list { CanThread (length edges.old.items) (map Ix.number list.now) }
-    ensures links { Threads Ix.greatest dir nodes.old.items edges.old.items n (map Ix.number list.now) nodes.new.items edges.new.items }
+    ensures links { Threads Ix.greatest dir nodes.old.items edges.old.items n
+        (map Ix.number list.now) nodes.new.items edges.new.items }
     ensures nodes { KeepsNodes dir nodes.old.items nodes.new.items }
     ensures edges { KeepsEdges dir edges.old.items edges.new.items }
 {
@@ -284,8 +302,11 @@ pub fn thread_both<N, E, Ix: IndexType>(
     order: &(Vec<EdgeIndex<Ix>>, Vec<EdgeIndex<Ix>>),
 )
     requires node { n < length nodes.old.items }
-    requires lists { (dir : Direction) → CanThread (length edges.old.items) (order_at dir (numbers_of Ix.number order.now)) }
-    ensures links { (dir : Direction) → Threads Ix.greatest dir nodes.old.items edges.old.items n (order_at dir (numbers_of Ix.number order.now)) nodes.new.items edges.new.items }
+    requires lists { (dir : Direction)
+        → CanThread (length edges.old.items) (order_at dir (numbers_of Ix.number order.now)) }
+    ensures links { (dir : Direction)
+        → Threads Ix.greatest dir nodes.old.items edges.old.items n
+        (order_at dir (numbers_of Ix.number order.now)) nodes.new.items edges.new.items }
     ensures nodes { map weight_of nodes.new.items ≡ map weight_of nodes.old.items }
     ensures edges { map plain_edge edges.new.items ≡ map plain_edge edges.old.items }
 {

@@ -25,7 +25,11 @@ impl<'a, E, Ix: IndexType> EdgeReference<'a, E, Ix> {
         target: NodeIndex<Ix>,
         weight: &'a E,
     ) -> Self
-        ensures { referred Ix.number result ≡ (Ix.number id, record { parent = Ix.number source; child = Ix.number target; weight = weight.now }) }
+        ensures { referred Ix.number result
+            ≡ (
+              Ix.number id,
+              record { parent = Ix.number source; child = Ix.number target; weight = weight.now },
+            ) }
     {
         EdgeReference {
             id: Ix::new(id.index()),

@@ -1,5 +1,6 @@
 -- What is stored once all edges are gone.
-use Rattle.std.proofs.Common.{◌≡◌, ℕ, zero, suc, ◌<◌, List, [], ◌∷◌, map, length, get_or, slice_get, refl, sym, ap, ◌∙◌, arith}
+use Rattle.std.proofs.Common.{◌≡◌, ℕ, zero, suc, ◌<◌, List, [], ◌∷◌, map, length, get_or, slice_get, refl, sym, ap, ◌∙◌}
+use Rattle.std.proofs.Common.{arith}
 use Rattle.std.proofs.lemmas.List.{length-map}
 use Rattle.daggy_base.specs.declared.index.Direction.{Direction}
 use Rattle.daggy_base.specs.declared.index.Direction.TheVariants.{Outgoing, Incoming}
@@ -13,8 +14,10 @@ use Rattle.daggy_cells.specs.Fields.{weight_of, with_lists_emptied, firsts_of, l
 use Rattle.daggy_graph.specs.Stored.{Stores}
 use Rattle.daggy_cells.proofs.LinkedListChanges.{AreLinkedLists-none, ListsBy-none}
 
-module _ {N E Ix : Type 0} (end : ℕ) (nodes : List (Node N Ix)) (edges : List (Edge E Ix)) (g : Graph N E) (s : Stores end nodes edges g) where
-  first_bare : (dir : Direction) (xs : List (Node N Ix)) → firsts_of dir (map (with_lists_emptied end) xs) ≡ map (λ _. end) xs
+module _ {N E Ix : Type 0} (end : ℕ) (nodes : List (Node N Ix)) (edges : List (Edge E Ix)) (g : Graph N E)
+    (s : Stores end nodes edges g) where
+  first_bare : (dir : Direction) (xs : List (Node N Ix))
+      → firsts_of dir (map (with_lists_emptied end) xs) ≡ map (λ _. end) xs
   first_bare dir [] = refl
   first_bare Outgoing (x ∷ xs) = ap (λ l. end ∷ l) (first_bare Outgoing xs)
   first_bare Incoming (x ∷ xs) = ap (λ l. end ∷ l) (first_bare Incoming xs)
@@ -26,9 +29,11 @@ module _ {N E Ix : Type 0} (end : ℕ) (nodes : List (Node N Ix)) (edges : List 
   long : (dir : Direction) → length (firsts_of dir (map (with_lists_emptied end) nodes)) ≡ length nodes
   long dir = length-map (map (with_lists_emptied end) nodes) (raw_first dir) ∙ length-map nodes (with_lists_emptied end)
 
-  linked_none : (dir : Direction) → AreLinkedLists end (firsts_of dir (map (with_lists_emptied end) nodes)) [] (map (λ _. []) (lists_at dir g))
+  linked_none : (dir : Direction)
+      → AreLinkedLists end (firsts_of dir (map (with_lists_emptied end) nodes)) [] (map (λ _. []) (lists_at dir g))
   linked_none dir =
-      AreLinkedLists-none end (firsts_of dir (map (with_lists_emptied end) nodes)) (lists_at dir g) ((s.linked dir).rows ∙ length-map nodes (raw_first dir) ∙ sym (long dir))
+      AreLinkedLists-none end (firsts_of dir (map (with_lists_emptied end) nodes)) (lists_at dir g)
+      ((s.linked dir).rows ∙ length-map nodes (raw_first dir) ∙ sym (long dir))
       (λ n within. ap (λ l. get_or l n 0) (first_bare dir nodes) ∙ ends_all nodes n (omega (arith, within, long dir)))
     where
       ends_all : (xs : List (Node N Ix)) (n : ℕ) → n < length xs → get_or (map (λ _. end) xs) n 0 ≡ end

@@ -1,5 +1,7 @@
 -- What holds of a graph to which nodes and then edges were added again.
-use Rattle.std.proofs.Common.{◌≡◌, ℕ, zero, suc, ◌+◌, ◌≤◌, List, [], ◌∷◌, ◌++◌, map, length, Option, Some, None, slice_get, slice_set, unwrap_or, refl, sym, ap, subst, ◌∙◌, arith, append_assoc, append-nil}
+use Rattle.std.proofs.Common.{◌≡◌, ℕ, zero, suc, ◌+◌, ◌≤◌, List, [], ◌∷◌, ◌++◌, map, length, Option, Some, None}
+use Rattle.std.proofs.Common.{slice_get, slice_set, unwrap_or, refl, sym, ap, subst, ◌∙◌, arith, append_assoc}
+use Rattle.std.proofs.Common.{append-nil}
 use Rattle.std.proofs.lemmas.List.{length_push, map_push}
 use Rattle.std.proofs.lemmas.Option.{same_Some, none-some}
 use Rattle.std.specs.Borrow.{Bor}
@@ -9,7 +11,8 @@ use Rattle.daggy_base.specs.declared.index.Direction.TheVariants.{Outgoing, Inco
 use Rattle.daggy_base.specs.Graph.{Graph, Edge, empty, slot, ends_of}
 use Rattle.daggy_base.specs.Adding.{with_node, with_edge, next_node}
 use Rattle.daggy_base.specs.Reduction.{IsDescending}
-use Rattle.daggy_base.specs.Filtering.{with_kept_node, with_kept_edge, new_ends, FiltersNodes, FiltersEdge, FiltersEdges, IsFiltered, ListsDescend, HaveSameEnds}
+use Rattle.daggy_base.specs.Filtering.{with_kept_node, with_kept_edge, new_ends, FiltersNodes, FiltersEdge}
+use Rattle.daggy_base.specs.Filtering.{FiltersEdges, IsFiltered, ListsDescend, HaveSameEnds}
 use Rattle.daggy_graph.proofs.FilterLemmas.{both_are}
 
 -- lists that descend from below k
@@ -30,7 +33,8 @@ descend_with_row : (k : ℕ) (rs : List (List ℕ)) → DescendBelow k rs → De
 descend_with_row k [] d = (tt, tt)
 descend_with_row k (r ∷ rs) d = (d.0, descend_with_row k rs d.1)
 
-descend_with_first : (k : ℕ) (rs : List (List ℕ)) (u : ℕ) → DescendBelow k rs → DescendBelow (k + 1) (slice_set rs u (k ∷ unwrap_or (slice_get rs u) []))
+descend_with_first : (k : ℕ) (rs : List (List ℕ)) (u : ℕ)
+    → DescendBelow k rs → DescendBelow (k + 1) (slice_set rs u (k ∷ unwrap_or (slice_get rs u) []))
 descend_with_first k [] u d = tt
 descend_with_first k (r ∷ rs) zero d = ((omega arith, d.0), all_raised k rs d.1)
 descend_with_first k (r ∷ rs) (suc u) d = (raised k r d.0, descend_with_first k rs u d.1)
@@ -73,8 +77,14 @@ module _ {V W : Type 0} where
       record {
         no_vacant_node = t.no_vacant_node;
         no_vacant_edge = refl;
-        out_lists = subst (λ k. DescendBelow k (slice_set h.out_lists a (length h.edges ∷ unwrap_or (slice_get h.out_lists a) []))) longer (descend_with_first (length h.edges) h.out_lists a t.out_lists);
-        in_lists = subst (λ k. DescendBelow k (slice_set h.in_lists b (length h.edges ∷ unwrap_or (slice_get h.in_lists b) []))) longer (descend_with_first (length h.edges) h.in_lists b t.in_lists);
+        out_lists =
+            subst
+            (λ k. DescendBelow k (slice_set h.out_lists a (length h.edges ∷ unwrap_or (slice_get h.out_lists a) [])))
+            longer (descend_with_first (length h.edges) h.out_lists a t.out_lists);
+        in_lists =
+            subst
+            (λ k. DescendBelow k (slice_set h.in_lists b (length h.edges ∷ unwrap_or (slice_get h.in_lists b) [])))
+            longer (descend_with_first (length h.edges) h.in_lists b t.in_lists);
       })
 
   pub tidy_kept_node : (h : Graph V W) (r : Option V) → IsTidy h → IsTidy (with_kept_node h r)
@@ -94,25 +104,34 @@ module _ {V W : Type 0} where
   with_node_nodes : (h : Graph V W) (v : V) → IsTidy h → (with_node h v).nodes ≡ h.nodes ++ Some v ∷ []
   with_node_nodes h v t = rw t.no_vacant_node refl
 
-  with_edge_edges : (h : Graph V W) (a b : ℕ) (w : W) → IsTidy h → (with_edge h a b w).edges ≡ h.edges ++ Some (record { parent = a; child = b; weight = w }) ∷ []
+  with_edge_edges : (h : Graph V W) (a b : ℕ) (w : W)
+      → IsTidy h → (with_edge h a b w).edges ≡ h.edges ++ Some (record { parent = a; child = b; weight = w }) ∷ []
   with_edge_edges h a b w t = rw t.no_vacant_edge refl
 
 module _ {N V W F I : Type 0} (step : F → I → Bor N → Option V → F → Type 0) (of : ℕ → I) where
-  pub tidy_nodes : (f : F) (i : ℕ) (xs : List (Option N)) (h : Graph V W) (names : List (Option ℕ)) (new : Graph V W) → IsTidy h → FiltersNodes step of f i xs h names new → IsTidy new
+  pub tidy_nodes : (f : F) (i : ℕ) (xs : List (Option N)) (h : Graph V W) (names : List (Option ℕ)) (new : Graph V W)
+      → IsTidy h → FiltersNodes step of f i xs h names new → IsTidy new
   tidy_nodes f i [] h names new t p = subst IsTidy (sym p.1) t
   tidy_nodes f i (None ∷ xs) h names new t (rest, is, more) = tidy_nodes f (i + 1) xs h rest new t more
-  tidy_nodes f i (Some x ∷ xs) h names new t (r, next, called, rest, is, more) = tidy_nodes next (i + 1) xs (with_kept_node h r) rest new (tidy_kept_node h r t) more
+  tidy_nodes f i (Some x ∷ xs) h names new t (r, next, called, rest, is, more) =
+      tidy_nodes next (i + 1) xs (with_kept_node h r) rest new (tidy_kept_node h r t) more
 
-module _ {E V W G I : Type 0} (step : G → I → Bor E → Option W → G → Type 0) (of : ℕ → I) (names : List (Option ℕ)) where
-  tidy_edge : (g : G) (e : ℕ) (w : E) (o : Option (ℕ × ℕ)) (h new : Graph V W) (later : G → Graph V W → Type 0) → IsTidy h → ((next : G) (mid : Graph V W) → IsTidy mid → later next mid → IsTidy new) → FiltersEdge step of names g e w o h later → IsTidy new
+module _ {E V W G I : Type 0} (step : G → I → Bor E → Option W → G → Type 0) (of : ℕ → I)
+    (names : List (Option ℕ)) where
+  tidy_edge : (g : G) (e : ℕ) (w : E) (o : Option (ℕ × ℕ)) (h new : Graph V W) (later : G → Graph V W → Type 0)
+      → IsTidy h → ((next : G) (mid : Graph V W) → IsTidy mid → later next mid → IsTidy new)
+      → FiltersEdge step of names g e w o h later → IsTidy new
   tidy_edge g e w None h new later t on p = on g h t p
-  tidy_edge g e w (Some ends) h new later t on (r, next, called, more) = on next (with_kept_edge h ends r) (tidy_kept_edge h ends r t) more
+  tidy_edge g e w (Some ends) h new later t on (r, next, called, more) =
+      on next (with_kept_edge h ends r) (tidy_kept_edge h ends r t) more
 
-  pub tidy_edges : (g : G) (e : ℕ) (xs : List (Option (Edge E))) (h new : Graph V W) → IsTidy h → FiltersEdges step of names g e xs h new → IsTidy new
+  pub tidy_edges : (g : G) (e : ℕ) (xs : List (Option (Edge E))) (h new : Graph V W)
+      → IsTidy h → FiltersEdges step of names g e xs h new → IsTidy new
   tidy_edges g e [] h new t p = subst IsTidy (sym p) t
   tidy_edges g e (None ∷ xs) h new t p = tidy_edges g (e + 1) xs h new t p
   tidy_edges g e (Some x ∷ xs) h new t p =
-      tidy_edge g e x.weight (new_ends names x) h new (λ next mid. FiltersEdges step of names next (e + 1) xs mid new) t (λ next mid u q. tidy_edges next (e + 1) xs mid new u q) p
+      tidy_edge g e x.weight (new_ends names x) h new (λ next mid. FiltersEdges step of names next (e + 1) xs mid new) t
+      (λ next mid u q. tidy_edges next (e + 1) xs mid new u q) p
 
 -- nothing was left out
 
@@ -122,68 +141,109 @@ named_itself b (suc n) zero a p = omega (arith, same_Some b a p)
 named_itself b (suc n) (suc i) a p = omega (arith, named_itself (b + 1) n i a p)
 
 module _ {N V W F I : Type 0} (step : F → I → Bor N → Option V → F → Type 0) (of : ℕ → I) where
-  pub nodes_keep_edges : (f : F) (i : ℕ) (xs : List (Option N)) (h : Graph V W) (names : List (Option ℕ)) (new : Graph V W) → FiltersNodes step of f i xs h names new → new.edges ≡ h.edges
+  pub nodes_keep_edges : (f : F) (i : ℕ) (xs : List (Option N)) (h : Graph V W) (names : List (Option ℕ))
+      (new : Graph V W)
+      → FiltersNodes step of f i xs h names new → new.edges ≡ h.edges
   nodes_keep_edges f i [] h names new p = ap (λ z. z.edges) p.1
   nodes_keep_edges f i (None ∷ xs) h names new (rest, is, more) = nodes_keep_edges f (i + 1) xs h rest new more
-  nodes_keep_edges f i (Some x ∷ xs) h names new (None, next, called, rest, is, more) = nodes_keep_edges next (i + 1) xs h rest new more
-  nodes_keep_edges f i (Some x ∷ xs) h names new (Some v, next, called, rest, is, more) = nodes_keep_edges next (i + 1) xs (with_node h v) rest new more
+  nodes_keep_edges f i (Some x ∷ xs) h names new (None, next, called, rest, is, more) =
+      nodes_keep_edges next (i + 1) xs h rest new more
+  nodes_keep_edges f i (Some x ∷ xs) h names new (Some v, next, called, rest, is, more) =
+      nodes_keep_edges next (i + 1) xs (with_node h v) rest new more
 
   longer_by_node : (h : Graph V W) (v : V) → IsTidy h → length (with_node h v).nodes ≡ length h.nodes + 1
   longer_by_node h v t = ap length (with_node_nodes h v t) ∙ length_push h.nodes (Some v)
 
-  pub nodes_few : (f : F) (i : ℕ) (xs : List (Option N)) (h : Graph V W) (names : List (Option ℕ)) (new : Graph V W) → IsTidy h → FiltersNodes step of f i xs h names new → length new.nodes ≤ length h.nodes + length xs
+  pub nodes_few : (f : F) (i : ℕ) (xs : List (Option N)) (h : Graph V W) (names : List (Option ℕ)) (new : Graph V W)
+      → IsTidy h → FiltersNodes step of f i xs h names new → length new.nodes ≤ length h.nodes + length xs
   nodes_few f i [] h names new t p = omega (arith, ap (λ z. length z.nodes) p.1)
   nodes_few f i (None ∷ xs) h names new t (rest, is, more) = omega (arith, nodes_few f (i + 1) xs h rest new t more)
-  nodes_few f i (Some x ∷ xs) h names new t (None, next, called, rest, is, more) = omega (arith, nodes_few next (i + 1) xs h rest new t more)
+  nodes_few f i (Some x ∷ xs) h names new t (None, next, called, rest, is, more) =
+      omega (arith, nodes_few next (i + 1) xs h rest new t more)
   nodes_few f i (Some x ∷ xs) h names new t (Some v, next, called, rest, is, more) =
-      omega (arith, nodes_few next (i + 1) xs (with_node h v) rest new (tidy_with_node h v t) more, longer_by_node h v t)
+      omega (
+        arith,
+        nodes_few next (i + 1) xs (with_node h v) rest new (tidy_with_node h v t) more,
+        longer_by_node h v t,
+      )
 
-  pub names_whole : (f : F) (i : ℕ) (xs : List (Option N)) (h : Graph V W) (names : List (Option ℕ)) (new : Graph V W) → IsTidy h → length new.nodes ≡ length h.nodes + length xs → FiltersNodes step of f i xs h names new
+  pub names_whole : (f : F) (i : ℕ) (xs : List (Option N)) (h : Graph V W) (names : List (Option ℕ)) (new : Graph V W)
+      → IsTidy h → length new.nodes ≡ length h.nodes + length xs → FiltersNodes step of f i xs h names new
       → names ≡ map (λ k. Some k) (range_with_len (length h.nodes) (length xs))
   names_whole f i [] h names new t all p = p.0
-  names_whole f i (None ∷ xs) h names new t all (rest, is, more) = let few = nodes_few f (i + 1) xs h rest new t more in absurd (omega (arith, few, all))
-  names_whole f i (Some x ∷ xs) h names new t all (None, next, called, rest, is, more) = let few = nodes_few next (i + 1) xs h rest new t more in absurd (omega (arith, few, all))
+  names_whole f i (None ∷ xs) h names new t all (rest, is, more) = let few = nodes_few f (i + 1) xs h rest new t more in
+      absurd (omega (arith, few, all))
+  names_whole f i (Some x ∷ xs) h names new t all (None, next, called, rest, is, more) =
+      let few = nodes_few next (i + 1) xs h rest new t more in
+      absurd (omega (arith, few, all))
   names_whole f i (Some x ∷ xs) h names new t all (Some v, next, called, rest, is, more) =
       let long = longer_by_node h v t in
-      let later = names_whole next (i + 1) xs (with_node h v) rest new (tidy_with_node h v t) (omega (arith, all, long)) more in
+      let later =
+      names_whole next (i + 1) xs (with_node h v) rest new (tidy_with_node h v t) (omega (arith, all, long)) more in
       let first : next_node h ≡ length h.nodes = rw t.no_vacant_node refl in
-      is ∙ ap (λ k. Some k ∷ rest) first ∙ ap (λ l. Some (length h.nodes) ∷ l) later ∙ ap (λ b. Some (length h.nodes) ∷ map (λ k. Some k) (range_with_len b (length xs))) long
+      is ∙ ap (λ k. Some k ∷ rest) first ∙ ap (λ l. Some (length h.nodes) ∷ l) later
+      ∙ ap (λ b. Some (length h.nodes) ∷ map (λ k. Some k) (range_with_len b (length xs))) long
 
-module _ {E V W G I : Type 0} (step : G → I → Bor E → Option W → G → Type 0) (of : ℕ → I) (names : List (Option ℕ)) where
+module _ {E V W G I : Type 0} (step : G → I → Bor E → Option W → G → Type 0) (of : ℕ → I)
+    (names : List (Option ℕ)) where
   longer_by_edge : (h : Graph V W) (a b : ℕ) (w : W) → IsTidy h → length (with_edge h a b w).edges ≡ length h.edges + 1
-  longer_by_edge h a b w t = let x : Edge W = record { parent = a; child = b; weight = w } in ap length (with_edge_edges h a b w t) ∙ length_push h.edges (Some x)
+  longer_by_edge h a b w t = let x : Edge W = record { parent = a; child = b; weight = w } in
+      ap length (with_edge_edges h a b w t) ∙ length_push h.edges (Some x)
 
-  few_by_edge : (n : ℕ) (g : G) (e : ℕ) (w : E) (o : Option (ℕ × ℕ)) (h new : Graph V W) (later : G → Graph V W → Type 0) → IsTidy h
-      → ((next : G) (mid : Graph V W) → IsTidy mid → later next mid → length new.edges ≤ length mid.edges + n) → FiltersEdge step of names g e w o h later → length new.edges ≤ length h.edges + suc n
+  few_by_edge : (n : ℕ) (g : G) (e : ℕ) (w : E) (o : Option (ℕ × ℕ)) (h new : Graph V W)
+      (later : G → Graph V W → Type 0)
+      → IsTidy h
+      → ((next : G) (mid : Graph V W) → IsTidy mid → later next mid → length new.edges ≤ length mid.edges + n)
+      → FiltersEdge step of names g e w o h later → length new.edges ≤ length h.edges + suc n
   few_by_edge n g e w None h new later t on p = omega (arith, on g h t p)
   few_by_edge n g e w (Some ends) h new later t on (None, next, called, more) = omega (arith, on next h t more)
   few_by_edge n g e w (Some ends) h new later t on (Some v, next, called, more) =
-      omega (arith, on next (with_edge h ends.0 ends.1 v) (tidy_with_edge h ends.0 ends.1 v t) more, longer_by_edge h ends.0 ends.1 v t)
+      omega (
+        arith,
+        on next (with_edge h ends.0 ends.1 v) (tidy_with_edge h ends.0 ends.1 v t) more,
+        longer_by_edge h ends.0 ends.1 v t,
+      )
 
-  nodes_by_edge : (g : G) (e : ℕ) (w : E) (o : Option (ℕ × ℕ)) (h new : Graph V W) (later : G → Graph V W → Type 0) → ((next : G) (mid : Graph V W) → later next mid → new.nodes ≡ mid.nodes) → FiltersEdge step of names g e w o h later → new.nodes ≡ h.nodes
+  nodes_by_edge : (g : G) (e : ℕ) (w : E) (o : Option (ℕ × ℕ)) (h new : Graph V W) (later : G → Graph V W → Type 0)
+      → ((next : G) (mid : Graph V W) → later next mid → new.nodes ≡ mid.nodes)
+      → FiltersEdge step of names g e w o h later → new.nodes ≡ h.nodes
   nodes_by_edge g e w None h new later on p = on g h p
   nodes_by_edge g e w (Some ends) h new later on (None, next, called, more) = on next h more
-  nodes_by_edge g e w (Some ends) h new later on (Some v, next, called, more) = on next (with_edge h ends.0 ends.1 v) more
+  nodes_by_edge g e w (Some ends) h new later on (Some v, next, called, more) =
+      on next (with_edge h ends.0 ends.1 v) more
 
-  pub edges_keep_nodes : (g : G) (e : ℕ) (xs : List (Option (Edge E))) (h new : Graph V W) → FiltersEdges step of names g e xs h new → new.nodes ≡ h.nodes
+  pub edges_keep_nodes : (g : G) (e : ℕ) (xs : List (Option (Edge E))) (h new : Graph V W)
+      → FiltersEdges step of names g e xs h new → new.nodes ≡ h.nodes
   edges_keep_nodes g e [] h new p = ap (λ z. z.nodes) p
   edges_keep_nodes g e (None ∷ xs) h new p = edges_keep_nodes g (e + 1) xs h new p
   edges_keep_nodes g e (Some x ∷ xs) h new p =
-      nodes_by_edge g e x.weight (new_ends names x) h new (λ next mid. FiltersEdges step of names next (e + 1) xs mid new) (λ next mid q. edges_keep_nodes next (e + 1) xs mid new q) p
+      nodes_by_edge g e x.weight (new_ends names x) h new
+      (λ next mid. FiltersEdges step of names next (e + 1) xs mid new)
+      (λ next mid q. edges_keep_nodes next (e + 1) xs mid new q) p
 
-  edges_few : (g : G) (e : ℕ) (xs : List (Option (Edge E))) (h new : Graph V W) → IsTidy h → FiltersEdges step of names g e xs h new → length new.edges ≤ length h.edges + length xs
+  edges_few : (g : G) (e : ℕ) (xs : List (Option (Edge E))) (h new : Graph V W)
+      → IsTidy h → FiltersEdges step of names g e xs h new → length new.edges ≤ length h.edges + length xs
   edges_few g e [] h new t p = omega (arith, ap (λ z. length z.edges) p)
   edges_few g e (None ∷ xs) h new t p = omega (arith, edges_few g (e + 1) xs h new t p)
   edges_few g e (Some x ∷ xs) h new t p =
-      few_by_edge (length xs) g e x.weight (new_ends names x) h new (λ next mid. FiltersEdges step of names next (e + 1) xs mid new) t (λ next mid u q. edges_few next (e + 1) xs mid new u q) p
+      few_by_edge (length xs) g e x.weight (new_ends names x) h new
+      (λ next mid. FiltersEdges step of names next (e + 1) xs mid new) t
+      (λ next mid u q. edges_few next (e + 1) xs mid new u q) p
 
   module _ (itself : (i a : ℕ) → slot names i ≡ Some a → a ≡ i) where
-    ends_by_edge : (n : ℕ) (rest : List (Option (ℕ × ℕ))) (g : G) (e : ℕ) (x : Edge E) (o : Option (ℕ × ℕ)) → o ≡ new_ends names x → (h new : Graph V W) (later : G → Graph V W → Type 0) → IsTidy h → length new.edges ≡ length h.edges + suc n
+    ends_by_edge : (n : ℕ) (rest : List (Option (ℕ × ℕ))) (g : G) (e : ℕ) (x : Edge E) (o : Option (ℕ × ℕ))
+        → o ≡ new_ends names x → (h new : Graph V W) (later : G → Graph V W → Type 0) → IsTidy h
+        → length new.edges ≡ length h.edges + suc n
         → ((next : G) (mid : Graph V W) → IsTidy mid → later next mid → length new.edges ≤ length mid.edges + n)
-        → ((next : G) (mid : Graph V W) → IsTidy mid → length new.edges ≡ length mid.edges + n → later next mid → map (option_map ends_of) new.edges ≡ map (option_map ends_of) mid.edges ++ rest)
-        → FiltersEdge step of names g e x.weight o h later → map (option_map ends_of) new.edges ≡ map (option_map ends_of) h.edges ++ Some (x.parent, x.child) ∷ rest
-    ends_by_edge n rest g e x None are h new later t all few on p = let short = few g h t p in absurd (omega (arith, short, all))
-    ends_by_edge n rest g e x (Some ends) are h new later t all few on (None, next, called, more) = let short = few next h t more in absurd (omega (arith, short, all))
+        → ((next : G) (mid : Graph V W) → IsTidy mid → length new.edges ≡ length mid.edges + n → later next mid
+        → map (option_map ends_of) new.edges ≡ map (option_map ends_of) mid.edges ++ rest)
+        → FiltersEdge step of names g e x.weight o h later
+        → map (option_map ends_of) new.edges ≡ map (option_map ends_of) h.edges ++ Some (x.parent, x.child) ∷ rest
+    ends_by_edge n rest g e x None are h new later t all few on p = let short = few g h t p in
+        absurd (omega (arith, short, all))
+    ends_by_edge n rest g e x (Some ends) are h new later t all few on (None, next, called, more) =
+        let short = few next h t more in
+        absurd (omega (arith, short, all))
     ends_by_edge n rest g e x (Some ends) are h new later t all few on (Some v, next, called, more) =
         let mid = with_edge h ends.0 ends.1 v in
         let y : Edge W = record { parent = ends.0; child = ends.1; weight = v } in
@@ -191,30 +251,49 @@ module _ {E V W G I : Type 0} (step : G → I → Bor E → Option W → G → T
         let parts = both_are _ _ ends.0 ends.1 are in
         let parent_is = itself x.parent ends.0 parts.0 in
         let child_is = itself x.child ends.1 parts.1 in
-        let so_far : map (option_map ends_of) mid.edges ≡ map (option_map ends_of) h.edges ++ Some (ends.0, ends.1) ∷ [] = ap (map (option_map ends_of)) (with_edge_edges h ends.0 ends.1 v t) ∙ map_push (option_map ends_of) h.edges (Some y) in
+        let so_far : map (option_map ends_of) mid.edges
+        ≡ map (option_map ends_of) h.edges ++ Some (ends.0, ends.1) ∷ [] =
+        ap (map (option_map ends_of)) (with_edge_edges h ends.0 ends.1 v t)
+        ∙ map_push (option_map ends_of) h.edges (Some y) in
         on next mid (tidy_with_edge h ends.0 ends.1 v t) (omega (arith, all, long)) more
         ∙ ap (λ l. l ++ rest) so_far
         ∙ append_assoc (map (option_map ends_of) h.edges) (Some (ends.0, ends.1) ∷ []) rest
         ∙ ap (λ a. map (option_map ends_of) h.edges ++ Some (a, ends.1) ∷ rest) parent_is
         ∙ ap (λ b. map (option_map ends_of) h.edges ++ Some (x.parent, b) ∷ rest) child_is
 
-    pub ends_whole : (g : G) (e : ℕ) (xs : List (Option (Edge E))) (h new : Graph V W) → IsTidy h → length new.edges ≡ length h.edges + length xs → FiltersEdges step of names g e xs h new
+    pub ends_whole : (g : G) (e : ℕ) (xs : List (Option (Edge E))) (h new : Graph V W)
+        → IsTidy h → length new.edges ≡ length h.edges + length xs → FiltersEdges step of names g e xs h new
         → map (option_map ends_of) new.edges ≡ map (option_map ends_of) h.edges ++ map (option_map ends_of) xs
-    ends_whole g e [] h new t all p = ap (λ z. map (option_map ends_of) z.edges) p ∙ sym (append-nil (map (option_map ends_of) h.edges))
-    ends_whole g e (None ∷ xs) h new t all p = let few = edges_few g (e + 1) xs h new t p in absurd (omega (arith, few, all))
+    ends_whole g e [] h new t all p =
+        ap (λ z. map (option_map ends_of) z.edges) p ∙ sym (append-nil (map (option_map ends_of) h.edges))
+    ends_whole g e (None ∷ xs) h new t all p = let few = edges_few g (e + 1) xs h new t p in
+        absurd (omega (arith, few, all))
     ends_whole g e (Some x ∷ xs) h new t all p =
-        ends_by_edge (length xs) (map (option_map ends_of) xs) g e x (new_ends names x) refl h new (λ next mid. FiltersEdges step of names next (e + 1) xs mid new) t all (λ next mid u q. edges_few next (e + 1) xs mid new u q) (λ next mid u same q. ends_whole next (e + 1) xs mid new u same q) p
+        ends_by_edge (length xs) (map (option_map ends_of) xs) g e x (new_ends names x) refl h new
+        (λ next mid. FiltersEdges step of names next (e + 1) xs mid new) t all
+        (λ next mid u q. edges_few next (e + 1) xs mid new u q)
+        (λ next mid u same q. ends_whole next (e + 1) xs mid new u same q) p
 
-module _ {N E V W F G I : Type 0} (of : ℕ → I) (step_f : F → I → Bor N → Option V → F → Type 0) (step_g : G → I → Bor E → Option W → G → Type 0) (f : F) (g : G) (old : Graph N E) (new : Graph V W) (p : IsFiltered of step_f step_g f g old new) where
+module _ {N E V W F G I : Type 0} (of : ℕ → I) (step_f : F → I → Bor N → Option V → F → Type 0)
+    (step_g : G → I → Bor E → Option W → G → Type 0) (f : F) (g : G) (old : Graph N E) (new : Graph V W)
+    (p : IsFiltered of step_f step_g f g old new) where
   pub ListsDescend-filtered : ListsDescend new
   ListsDescend-filtered =
-      ListsDescend-tidy new (tidy_edges step_g of p.names g 0 old.edges p.middle new (tidy_nodes step_f of f 0 old.nodes empty p.names p.middle tidy_empty p.nodes) p.edges)
+      ListsDescend-tidy new (tidy_edges step_g of p.names g 0 old.edges p.middle new
+      (tidy_nodes step_f of f 0 old.nodes empty p.names p.middle tidy_empty p.nodes) p.edges)
 
-  pub HaveSameEnds-filtered : length new.nodes ≡ length old.nodes → length new.edges ≡ length old.edges → HaveSameEnds old new
+  pub HaveSameEnds-filtered : length new.nodes ≡ length old.nodes → length new.edges ≡ length old.edges
+      → HaveSameEnds old new
   HaveSameEnds-filtered all all_edges =
       let tidy = tidy_nodes step_f of f 0 old.nodes empty p.names p.middle tidy_empty p.nodes in
       let none : p.middle.edges ≡ [] = nodes_keep_edges step_f of f 0 old.nodes empty p.names p.middle p.nodes in
-      let same_nodes : new.nodes ≡ p.middle.nodes = edges_keep_nodes step_g of p.names g 0 old.edges p.middle new p.edges in
-      let are = names_whole step_f of f 0 old.nodes empty p.names p.middle tidy_empty (omega (arith, all, ap length same_nodes)) p.nodes in
-      let itself : (i a : ℕ) → slot p.names i ≡ Some a → a ≡ i = λ i a q. omega (arith, named_itself 0 (length old.nodes) i a (subst (λ l. slot l i ≡ Some a) are q)) in
-      ends_whole step_g of p.names itself g 0 old.edges p.middle new tidy (omega (arith, all_edges, ap length none)) p.edges ∙ ap (λ l. map (option_map ends_of) l ++ map (option_map ends_of) old.edges) none
+      let same_nodes : new.nodes ≡ p.middle.nodes =
+      edges_keep_nodes step_g of p.names g 0 old.edges p.middle new p.edges in
+      let are =
+      names_whole step_f of f 0 old.nodes empty p.names p.middle tidy_empty (omega (arith, all, ap length same_nodes))
+      p.nodes in
+      let itself : (i a : ℕ) → slot p.names i ≡ Some a → a ≡ i = λ i a q.
+      omega (arith, named_itself 0 (length old.nodes) i a (subst (λ l. slot l i ≡ Some a) are q)) in
+      ends_whole step_g of p.names itself g 0 old.edges p.middle new tidy (omega (arith, all_edges, ap length none))
+      p.edges
+      ∙ ap (λ l. map (option_map ends_of) l ++ map (option_map ends_of) old.edges) none

@@ -10,7 +10,8 @@ use Rattle.daggy_cells.specs.Fields.{weight_of, plain, plain_edge}
 use Rattle.daggy_graph.specs.Stored.{stored_graph, Stores}
 use Rattle.daggy_graph.proofs.WellFormedLemmas.{first_listed, cursor_shown}
 
-slot_shown : {A B : Type 0} (f : A → B) (xs : List A) (i : ℕ) (x : A) → slice_get xs i ≡ Some x → slot (map (λ x. Some (f x)) xs) i ≡ Some (f x)
+slot_shown : {A B : Type 0} (f : A → B) (xs : List A) (i : ℕ) (x : A)
+    → slice_get xs i ≡ Some x → slot (map (λ x. Some (f x)) xs) i ≡ Some (f x)
 slot_shown f [] i x p = absurd (none-some x p)
 slot_shown f (y ∷ ys) zero x p = ap (λ z. Some (f z)) (same_Some y x p)
 slot_shown f (y ∷ ys) (suc i) x p = slot_shown f ys i x p
@@ -20,7 +21,8 @@ read [] i x p = refl
 read (y ∷ ys) zero x p = sym (same_Some y x p)
 read (y ∷ ys) (suc i) x p = read ys i x p
 
-module _ {N E Ix : Type 0} (end : ℕ) (nodes : List (Node N Ix)) (edges : List (Edge E Ix)) (s : Stores end nodes edges (stored_graph nodes edges)) where
+module _ {N E Ix : Type 0} (end : ℕ) (nodes : List (Node N Ix)) (edges : List (Edge E Ix))
+    (s : Stores end nodes edges (stored_graph nodes edges)) where
   pub ShowsNodes-stored : ShowsNodes end (stored_graph nodes edges) nodes
   ShowsNodes-stored =
       record {

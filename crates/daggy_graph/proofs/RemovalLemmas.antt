@@ -1,5 +1,6 @@
 -- How an edge is taken out: out of its two lists, and the last edge into its place.
-use Rattle.std.proofs.Common.{◌≡◌, ◌≢◌, ℕ, suc, ◌-◌, ◌<◌, ◌≤◌, List, map, length, get_or, set, take, Some, None, slice_get, refl, sym, ap, subst, ◌∙◌, arith, Contains}
+use Rattle.std.proofs.Common.{◌≡◌, ◌≢◌, ℕ, suc, ◌-◌, ◌<◌, ◌≤◌, List, map, length, get_or, set, take, Some, None}
+use Rattle.std.proofs.Common.{slice_get, refl, sym, ap, subst, ◌∙◌, arith, Contains}
 use Rattle.std.specs.List.{swap_remove}
 use Rattle.std.proofs.lemmas.List.{length-map, length-set, length-take-le}
 use Rattle.std.proofs.lemmas.Option.{slice_get-get_or, same_Some}
@@ -11,14 +12,18 @@ use Rattle.daggy_base.specs.declared.index.Direction.{Direction}
 use Rattle.daggy_base.specs.declared.index.Direction.TheVariants.{Outgoing, Incoming}
 use Rattle.daggy_cells.specs.Links.{nth_list, AreLinkedLists, ListsEach}
 use Rattle.daggy_cells.specs.Raw.{raw_first, raw_next}
-use Rattle.daggy_cells.specs.Fields.{weight_of, plain_edge, end_at, firsts_of, nexts_of, ends_of, lists_at, IsReady, Redirects}
+use Rattle.daggy_cells.specs.Fields.{weight_of, plain_edge, end_at, firsts_of, nexts_of, ends_of, lists_at, IsReady}
+use Rattle.daggy_cells.specs.Fields.{Redirects}
 use Rattle.daggy_graph.specs.Stored.{Stores, IsDetached}
 use Rattle.daggy_cells.proofs.LinkedLists.{Contains-from_without, Contains-without}
-use Rattle.daggy_cells.proofs.LinkedListChanges.{row-map, row_within, AreLinkedLists-with_edge_unlinked, AreLinkedLists-renamed, AreLinkedLists-cut, ListsEach-removed}
+use Rattle.daggy_cells.proofs.LinkedListChanges.{row-map, row_within, AreLinkedLists-with_edge_unlinked}
+use Rattle.daggy_cells.proofs.LinkedListChanges.{AreLinkedLists-renamed, AreLinkedLists-cut, ListsEach-removed}
 use Rattle.daggy_base.proofs.Lists.{IsSwapRemoved, IsSwapRemoved-from, IsSwapRemoved-mapped, map-swap_remove}
 use Rattle.daggy_cells.proofs.RedirectLemmas.{Ready-from, Redirected-row, Step}
 
-module _ {N E Ix : Type 0} (end : ℕ) (nodes : List (Node N Ix)) (edges : List (Edge E Ix)) (g : Graph N E) (s : Stores end nodes edges g) (e last : ℕ) (e_in : e < length edges) (long : length edges ≡ suc last) (dir : Direction) where
+module _ {N E Ix : Type 0} (end : ℕ) (nodes : List (Node N Ix)) (edges : List (Edge E Ix)) (g : Graph N E)
+    (s : Stores end nodes edges g) (e last : ℕ) (e_in : e < length edges) (long : length edges ≡ suc last)
+    (dir : Direction) where
   stands : (f : ℕ) → f < length edges → slice_get (ends_of dir edges) f ≡ Some (get_or (ends_of dir edges) f 0)
   stands f f_in = slice_get-get_or (ends_of dir edges) f 0 (omega (arith, f_in, length-map edges (end_at dir)))
 
@@ -26,84 +31,151 @@ module _ {N E Ix : Type 0} (end : ℕ) (nodes : List (Node N Ix)) (edges : List 
   there f f_in = (s.listed dir (get_or (ends_of dir edges) f 0) f).1 (stands f f_in)
 
   n_in : (f : ℕ) → f < length edges → get_or (ends_of dir edges) f 0 < length nodes
-  n_in f f_in = omega (arith, row_within (lists_at dir g) _ f (there f f_in), (s.linked dir).rows, length-map nodes (raw_first dir))
+  n_in f f_in =
+      omega (
+        arith,
+        row_within (lists_at dir g) _ f (there f f_in),
+        (s.linked dir).rows,
+        length-map nodes (raw_first dir),
+      )
 
-  module _ (nodes' : List (Node N Ix)) (edges' : List (Edge E Ix)) (ends_same : ends_of dir edges' ≡ ends_of dir edges) where
+  module _ (nodes' : List (Node N Ix)) (edges' : List (Edge E Ix))
+      (ends_same : ends_of dir edges' ≡ ends_of dir edges) where
     long' : length edges' ≡ length edges
     long' = sym (length-map edges' (end_at dir)) ∙ ap length ends_same ∙ length-map edges (end_at dir)
 
-    module _ (firsts_same : firsts_of dir nodes' ≡ firsts_of dir nodes) (nexts_same : nexts_of dir edges' ≡ nexts_of dir edges) where
+    module _ (firsts_same : firsts_of dir nodes' ≡ firsts_of dir nodes)
+        (nexts_same : nexts_of dir edges' ≡ nexts_of dir edges) where
       nodes_long : length nodes' ≡ length nodes
       nodes_long = sym (length-map nodes' (raw_first dir)) ∙ ap length firsts_same ∙ length-map nodes (raw_first dir)
 
       linked' : AreLinkedLists end (firsts_of dir nodes') (nexts_of dir edges') (lists_at dir g)
-      linked' = subst (λ z. AreLinkedLists end z (nexts_of dir edges') (lists_at dir g)) (sym firsts_same) (subst (λ z. AreLinkedLists end (firsts_of dir nodes) z (lists_at dir g)) (sym nexts_same) (s.linked dir))
+      linked' =
+          subst (λ z. AreLinkedLists end z (nexts_of dir edges') (lists_at dir g)) (sym firsts_same)
+          (subst (λ z. AreLinkedLists end (firsts_of dir nodes) z (lists_at dir g)) (sym nexts_same) (s.linked dir))
 
       -- before e is taken out of its list
       pub unlink_ready : IsReady end dir nodes' edges' e
-      unlink_ready = Ready-from end dir nodes' edges' (lists_at dir g) e _ linked' (ap (λ l. get_or l e 0) ends_same) (omega (arith, n_in e e_in, nodes_long)) (omega (arith, e_in, long')) (omega (arith, s.few_edges, long')) (there e e_in)
+      unlink_ready =
+          Ready-from end dir nodes' edges' (lists_at dir g) e _ linked' (ap (λ l. get_or l e 0) ends_same)
+          (omega (arith, n_in e e_in, nodes_long)) (omega (arith, e_in, long')) (omega (arith, s.few_edges, long'))
+          (there e e_in)
 
-      pub unlinked_links : (new : ℕ) (nodes'' : List (Node N Ix)) (edges'' : List (Edge E Ix)) → new ≡ get_or (nexts_of dir edges) e 0 → Redirects dir nodes' edges' e new nodes'' edges'' → AreLinkedLists end (firsts_of dir nodes'') (nexts_of dir edges'') (map (without e) (lists_at dir g))
+      pub unlinked_links : (new : ℕ) (nodes'' : List (Node N Ix)) (edges'' : List (Edge E Ix))
+          → new ≡ get_or (nexts_of dir edges) e 0 → Redirects dir nodes' edges' e new nodes'' edges''
+          → AreLinkedLists end (firsts_of dir nodes'') (nexts_of dir edges'') (map (without e) (lists_at dir g))
       unlinked_links new nodes'' edges'' new_is red =
           let n_in' : get_or (ends_of dir edges) e 0 < length nodes' = omega (arith, n_in e e_in, nodes_long) in
-          let goes : slice_get (nexts_of dir edges') e ≡ Some new = ap (λ l. slice_get l e) nexts_same ∙ slice_get-get_or (nexts_of dir edges) e 0 (omega (arith, e_in, length-map edges (raw_next dir))) ∙ ap Some (sym new_is) in
-          AreLinkedLists-with_edge_unlinked end (firsts_of dir nodes') (nexts_of dir edges') _ _ (slice_get (ends_of dir edges)) (lists_at dir g) (get_or (ends_of dir edges) e 0) e new linked' (s.listed dir) (stands e e_in)
+          let goes : slice_get (nexts_of dir edges') e ≡ Some new =
+          ap (λ l. slice_get l e) nexts_same
+          ∙ slice_get-get_or (nexts_of dir edges) e 0 (omega (arith, e_in, length-map edges (raw_next dir)))
+          ∙ ap Some (sym new_is) in
+          AreLinkedLists-with_edge_unlinked end (firsts_of dir nodes') (nexts_of dir edges') _ _
+          (slice_get (ends_of dir edges)) (lists_at dir g) (get_or (ends_of dir edges) e 0) e new linked' (s.listed dir)
+          (stands e e_in)
           (omega (arith, n_in', length-map nodes' (raw_first dir))) (omega (arith, e_in, s.few_edges)) goes
-          (Redirected-row end dir nodes' edges' (lists_at dir g) e _ new nodes'' edges'' linked' (ap (λ l. get_or l e 0) ends_same) n_in' (omega (arith, s.few_edges, long')) red)
+          (Redirected-row end dir nodes' edges' (lists_at dir g) e _ new nodes'' edges'' linked'
+          (ap (λ l. get_or l e 0) ends_same) n_in' (omega (arith, s.few_edges, long')) red)
 
-    module _ (with_edge_unlinked : AreLinkedLists end (firsts_of dir nodes') (nexts_of dir edges') (map (without e) (lists_at dir g))) where
+    module _ (with_edge_unlinked : AreLinkedLists end (firsts_of dir nodes') (nexts_of dir edges')
+        (map (without e) (lists_at dir g))) where
       nodes_kept : length nodes' ≡ length nodes
-      nodes_kept = sym (length-map nodes' (raw_first dir)) ∙ sym with_edge_unlinked.rows ∙ length-map (lists_at dir g) (without e) ∙ (s.linked dir).rows ∙ length-map nodes (raw_first dir)
+      nodes_kept =
+          sym (length-map nodes' (raw_first dir)) ∙ sym with_edge_unlinked.rows
+          ∙ length-map (lists_at dir g) (without e) ∙ (s.linked dir).rows ∙ length-map nodes (raw_first dir)
 
-      kept_row : (m f : ℕ) → Contains (nth_list (map (without e) (lists_at dir g)) m) f → Contains (nth_list (lists_at dir g) m) f × (f ≢ e)
-      kept_row m f p = Contains-from_without e f (nth_list (lists_at dir g) m) (subst (λ l. Contains l f) (row-map (without e) refl (lists_at dir g) m) p)
+      kept_row : (m f : ℕ) → Contains (nth_list (map (without e) (lists_at dir g)) m) f
+          → Contains (nth_list (lists_at dir g) m) f × (f ≢ e)
+      kept_row m f p =
+          Contains-from_without e f (nth_list (lists_at dir g) m)
+          (subst (λ l. Contains l f) (row-map (without e) refl (lists_at dir g) m) p)
 
-      apart_rows : (m k f : ℕ) → Contains (nth_list (map (without e) (lists_at dir g)) m) f → Contains (nth_list (map (without e) (lists_at dir g)) k) f → m ≡ k
-      apart_rows m k f p q = same_Some m k (sym ((s.listed dir m f).0 (kept_row m f p).0) ∙ (s.listed dir k f).0 (kept_row k f q).0)
+      apart_rows : (m k f : ℕ) → Contains (nth_list (map (without e) (lists_at dir g)) m) f
+          → Contains (nth_list (map (without e) (lists_at dir g)) k) f → m ≡ k
+      apart_rows m k f p q =
+          same_Some m k (sym ((s.listed dir m f).0 (kept_row m f p).0) ∙ (s.listed dir k f).0 (kept_row k f q).0)
 
       no_e : (m : ℕ) → ¬ Contains (nth_list (map (without e) (lists_at dir g)) m) e
       no_e m p = (kept_row m e p).1 refl
 
-      last_there : e ≢ last → Contains (nth_list (map (without e) (lists_at dir g)) (get_or (ends_of dir edges) last 0)) last
-      last_there differs = subst (λ l. Contains l last) (sym (row-map (without e) refl (lists_at dir g) _)) (Contains-without e last _ (λ q. differs (sym q)) (there last (omega (arith, long))))
+      last_there : e ≢ last
+          → Contains (nth_list (map (without e) (lists_at dir g)) (get_or (ends_of dir edges) last 0)) last
+      last_there differs =
+          subst (λ l. Contains l last) (sym (row-map (without e) refl (lists_at dir g) _))
+          (Contains-without e last _ (λ q. differs (sym q)) (there last (omega (arith, long))))
 
       -- before the last edge is renamed
       pub rename_ready : e ≢ last → IsReady end dir nodes' edges' last
       rename_ready differs =
-          Ready-from end dir nodes' edges' (map (without e) (lists_at dir g)) last _ with_edge_unlinked (ap (λ l. get_or l last 0) ends_same) (omega (arith, n_in last (omega (arith, long)), nodes_kept)) (omega (arith, long, long')) (omega (arith, s.few_edges, long')) (last_there differs)
+          Ready-from end dir nodes' edges' (map (without e) (lists_at dir g)) last _ with_edge_unlinked
+          (ap (λ l. get_or l last 0) ends_same) (omega (arith, n_in last (omega (arith, long)), nodes_kept))
+          (omega (arith, long, long')) (omega (arith, s.few_edges, long')) (last_there differs)
 
-      pub renamed_links : (nodes'' : List (Node N Ix)) (edges'' : List (Edge E Ix)) (nexts : List ℕ) → e ≢ last → Redirects dir nodes' edges' last e nodes'' edges'' → IsSwapRemoved (nexts_of dir edges'') nexts e last
-          → AreLinkedLists end (firsts_of dir nodes'') nexts (map (map (renamed last e)) (map (without e) (lists_at dir g)))
+      pub renamed_links : (nodes'' : List (Node N Ix)) (edges'' : List (Edge E Ix)) (nexts : List ℕ) → e ≢ last
+          → Redirects dir nodes' edges' last e nodes'' edges'' → IsSwapRemoved (nexts_of dir edges'') nexts e last
+          → AreLinkedLists end (firsts_of dir nodes'') nexts
+          (map (map (renamed last e)) (map (without e) (lists_at dir g)))
       renamed_links nodes'' edges'' nexts differs red moves =
-          let n_in' : get_or (ends_of dir edges) last 0 < length nodes' = omega (arith, n_in last (omega (arith, long)), nodes_kept) in
-          AreLinkedLists-renamed end (firsts_of dir nodes') (nexts_of dir edges') _ _ nexts (map (without e) (lists_at dir g)) (get_or (ends_of dir edges) last 0) e last with_edge_unlinked apart_rows no_e (last_there differs)
-          (omega (arith, n_in', length-map nodes' (raw_first dir))) (omega (arith, long, long', length-map edges' (raw_next dir))) (omega (arith, long, s.few_edges)) differs
-          (Redirected-row end dir nodes' edges' (map (without e) (lists_at dir g)) last _ e nodes'' edges'' with_edge_unlinked (ap (λ l. get_or l last 0) ends_same) n_in' (omega (arith, s.few_edges, long')) red) moves
+          let n_in' : get_or (ends_of dir edges) last 0 < length nodes' =
+          omega (arith, n_in last (omega (arith, long)), nodes_kept) in
+          AreLinkedLists-renamed end (firsts_of dir nodes') (nexts_of dir edges') _ _ nexts
+          (map (without e) (lists_at dir g)) (get_or (ends_of dir edges) last 0) e last with_edge_unlinked apart_rows
+          no_e (last_there differs)
+          (omega (arith, n_in', length-map nodes' (raw_first dir)))
+          (omega (arith, long, long', length-map edges' (raw_next dir))) (omega (arith, long, s.few_edges)) differs
+          (Redirected-row end dir nodes' edges' (map (without e) (lists_at dir g)) last _ e nodes'' edges''
+          with_edge_unlinked (ap (λ l. get_or l last 0) ends_same) n_in' (omega (arith, s.few_edges, long')) red) moves
 
       -- e is the last edge
-      pub cut_links : (nexts : List ℕ) → e ≡ last → IsSwapRemoved (nexts_of dir edges') nexts e last → AreLinkedLists end (firsts_of dir nodes') nexts (map (map (renamed last e)) (map (without e) (lists_at dir g)))
-      cut_links nexts same moves = AreLinkedLists-cut end _ _ nexts _ e last with_edge_unlinked no_e (omega (arith, long, long', length-map edges' (raw_next dir))) same moves
+      pub cut_links : (nexts : List ℕ) → e ≡ last → IsSwapRemoved (nexts_of dir edges') nexts e last
+          → AreLinkedLists end (firsts_of dir nodes') nexts
+          (map (map (renamed last e)) (map (without e) (lists_at dir g)))
+      cut_links nexts same moves =
+          AreLinkedLists-cut end _ _ nexts _ e last with_edge_unlinked no_e
+          (omega (arith, long, long', length-map edges' (raw_next dir))) same moves
 
 -- all of it
-pub IsDetached-from : {N E Ix : Type 0} (end : ℕ) (nodes : List (Node N Ix)) (edges : List (Edge E Ix)) (g : Graph N E) (s : Stores end nodes edges g) (e last : ℕ) → e < length edges → length edges ≡ suc last
-    → (nodes' : List (Node N Ix)) (edges' : List (Edge E Ix)) → map weight_of nodes' ≡ map weight_of nodes → map plain_edge edges' ≡ map plain_edge edges → ((d : Direction) → ends_of d edges' ≡ ends_of d edges)
-    → ((d : Direction) (nexts : List ℕ) → IsSwapRemoved (nexts_of d edges') nexts e last → AreLinkedLists end (firsts_of d nodes') nexts (map (map (renamed last e)) (map (without e) (lists_at d g))))
+pub IsDetached-from : {N E Ix : Type 0} (end : ℕ) (nodes : List (Node N Ix)) (edges : List (Edge E Ix)) (g : Graph N E)
+    (s : Stores end nodes edges g) (e last : ℕ)
+    → e < length edges → length edges ≡ suc last
+    → (nodes' : List (Node N Ix)) (edges' : List (Edge E Ix)) → map weight_of nodes' ≡ map weight_of nodes
+    → map plain_edge edges' ≡ map plain_edge edges → ((d : Direction) → ends_of d edges' ≡ ends_of d edges)
+    → ((d : Direction) (nexts : List ℕ) → IsSwapRemoved (nexts_of d edges') nexts e last
+    → AreLinkedLists end (firsts_of d nodes') nexts (map (map (renamed last e)) (map (without e) (lists_at d g))))
     → IsDetached end g e nodes' edges'
 IsDetached-from end nodes edges g s e last e_in long nodes' edges' weights plain ends links x =
-    let edges_long : length edges' ≡ length edges = sym (length-map edges' plain_edge) ∙ ap length plain ∙ length-map edges plain_edge in
-    let nodes_long : length nodes' ≡ length nodes = sym (length-map nodes' weight_of) ∙ ap length weights ∙ length-map nodes weight_of in
+    let edges_long : length edges' ≡ length edges =
+    sym (length-map edges' plain_edge) ∙ ap length plain ∙ length-map edges plain_edge in
+    let nodes_long : length nodes' ≡ length nodes =
+    sym (length-map nodes' weight_of) ∙ ap length weights ∙ length-map nodes weight_of in
     let moves = IsSwapRemoved-from edges' e last x (omega (arith, e_in, edges_long)) (edges_long ∙ long) in
     let count : length g.edges - 1 ≡ last = omega (arith, ap length s.edges_are, length-map edges plain_edge, long) in
-    let listed : (d : Direction) → ListsEach (ends_of d (swap_remove edges' e x)) (map (map (renamed last e)) (map (without e) (lists_at d g))) =
-    λ d. ListsEach-removed (ends_of d edges') (ends_of d (swap_remove edges' e x)) (lists_at d g) e last (subst (λ l. ListsEach l (lists_at d g)) (sym (ends d)) (s.listed d)) (omega (arith, e_in, edges_long, length-map edges' (end_at d)))
+    let listed : (d : Direction)
+    → ListsEach (ends_of d (swap_remove edges' e x)) (map (map (renamed last e)) (map (without e) (lists_at d g))) =
+    λ d.
+    ListsEach-removed (ends_of d edges') (ends_of d (swap_remove edges' e x)) (lists_at d g) e last
+    (subst (λ l. ListsEach l (lists_at d g)) (sym (ends d)) (s.listed d))
+    (omega (arith, e_in, edges_long, length-map edges' (end_at d)))
     (IsSwapRemoved-mapped (end_at d) edges' (swap_remove edges' e x) e last moves) in
-    let linked : (d : Direction) → AreLinkedLists end (firsts_of d nodes') (nexts_of d (swap_remove edges' e x)) (map (map (renamed last e)) (map (without e) (lists_at d g))) =
-    λ d. links d (nexts_of d (swap_remove edges' e x)) (IsSwapRemoved-mapped (raw_next d) edges' (swap_remove edges' e x) e last moves) in
-    let shorter : length (swap_remove edges' e x) ≤ length edges' = omega (arith, length-take-le (length edges' - 1) (set edges' e (get_or edges' (length edges' - 1) x)) (omega (arith, length-set edges' e (get_or edges' (length edges' - 1) x)))) in
+    let linked : (d : Direction)
+    → AreLinkedLists end (firsts_of d nodes') (nexts_of d (swap_remove edges' e x))
+    (map (map (renamed last e)) (map (without e) (lists_at d g))) =
+    λ d.
+    links d (nexts_of d (swap_remove edges' e x))
+    (IsSwapRemoved-mapped (raw_next d) edges' (swap_remove edges' e x) e last moves) in
+    let shorter : length (swap_remove edges' e x) ≤ length edges' =
+    omega (
+      arith,
+      length-take-le (length edges' - 1) (set edges' e (get_or edges' (length edges' - 1) x))
+          (omega (arith, length-set edges' e (get_or edges' (length edges' - 1) x))),
+    ) in
     rw count (
     record {
       nodes_are = s.nodes_are ∙ sym weights;
-      edges_are = ap (λ k. take k (set g.edges e (get_or g.edges k None))) (sym count) ∙ ap (λ l. swap_remove l e None) (s.edges_are ∙ sym plain) ∙ sym (map-swap_remove plain_edge edges' e x None (omega (arith, e_in, edges_long)));
+      edges_are =
+          ap (λ k. take k (set g.edges e (get_or g.edges k None))) (sym count)
+          ∙ ap (λ l. swap_remove l e None) (s.edges_are ∙ sym plain)
+          ∙ sym (map-swap_remove plain_edge edges' e x None (omega (arith, e_in, edges_long)));
       no_vacant_node = s.no_vacant_node;
       no_vacant_edge = s.no_vacant_edge;
       linked = elim [ Outgoing ↦ linked Outgoing | Incoming ↦ linked Incoming ];
@@ -112,22 +184,30 @@ IsDetached-from end nodes edges g s e last e_in long nodes' edges' weights plain
       few_edges = omega (arith, s.few_edges, edges_long, shorter);
     })
 
-AreLinkedLists-seen : {end : ℕ} {lists : List (List ℕ)} (firsts firsts' nexts nexts' : List ℕ) → firsts' ≡ firsts → nexts' ≡ nexts → AreLinkedLists end firsts nexts lists → AreLinkedLists end firsts' nexts' lists
+AreLinkedLists-seen : {end : ℕ} {lists : List (List ℕ)} (firsts firsts' nexts nexts' : List ℕ) → firsts' ≡ firsts
+    → nexts' ≡ nexts → AreLinkedLists end firsts nexts lists → AreLinkedLists end firsts' nexts' lists
 AreLinkedLists-seen firsts firsts' nexts nexts' p q l = rw (p, q) l
 
 -- the calls that `detach` makes, in turn
-module _ {N E Ix : Type 0} (end : ℕ) (nodes : List (Node N Ix)) (edges : List (Edge E Ix)) (g : Graph N E) (s : Stores end nodes edges g) (e last : ℕ) (e_in : e < length edges) (long : length edges ≡ suc last) where
+module _ {N E Ix : Type 0} (end : ℕ) (nodes : List (Node N Ix)) (edges : List (Edge E Ix)) (g : Graph N E)
+    (s : Stores end nodes edges g) (e last : ℕ) (e_in : e < length edges) (long : length edges ≡ suc last) where
   pub ready_1 : IsReady end Outgoing nodes edges e
   ready_1 = unlink_ready end nodes edges g s e last e_in long Outgoing nodes edges refl refl refl
 
-  module _ (out : ℕ) (out_is : out ≡ get_or (nexts_of Outgoing edges) e 0) (n1 : List (Node N Ix)) (e1 : List (Edge E Ix)) (s1 : Step Outgoing nodes edges e out n1 e1) where
+  module _ (out : ℕ) (out_is : out ≡ get_or (nexts_of Outgoing edges) e 0) (n1 : List (Node N Ix))
+      (e1 : List (Edge E Ix)) (s1 : Step Outgoing nodes edges e out n1 e1) where
     out_1 : AreLinkedLists end (firsts_of Outgoing n1) (nexts_of Outgoing e1) (map (without e) (lists_at Outgoing g))
-    out_1 = unlinked_links end nodes edges g s e last e_in long Outgoing nodes edges refl refl refl out n1 e1 out_is s1.links
+    out_1 =
+        unlinked_links end nodes edges g s e last e_in long Outgoing nodes edges refl refl refl out n1 e1 out_is
+        s1.links
 
     pub ready_2 : IsReady end Incoming n1 e1 e
-    ready_2 = unlink_ready end nodes edges g s e last e_in long Incoming n1 e1 (s1.keeps_edges.ends Incoming) s1.keeps.firsts s1.keeps_edges.nexts
+    ready_2 =
+        unlink_ready end nodes edges g s e last e_in long Incoming n1 e1 (s1.keeps_edges.ends Incoming) s1.keeps.firsts
+        s1.keeps_edges.nexts
 
-    module _ (into : ℕ) (into_is : into ≡ get_or (nexts_of Incoming edges) e 0) (n2 : List (Node N Ix)) (e2 : List (Edge E Ix)) (s2 : Step Incoming n1 e1 e into n2 e2) where
+    module _ (into : ℕ) (into_is : into ≡ get_or (nexts_of Incoming edges) e 0) (n2 : List (Node N Ix))
+        (e2 : List (Edge E Ix)) (s2 : Step Incoming n1 e1 e into n2 e2) where
       ends_2 : (d : Direction) → ends_of d e2 ≡ ends_of d edges
       ends_2 d = s2.keeps_edges.ends d ∙ s1.keeps_edges.ends d
 
@@ -135,16 +215,21 @@ module _ {N E Ix : Type 0} (end : ℕ) (nodes : List (Node N Ix)) (edges : List 
       out_2 = AreLinkedLists-seen _ _ _ _ s2.keeps.firsts s2.keeps_edges.nexts out_1
 
       in_2 : AreLinkedLists end (firsts_of Incoming n2) (nexts_of Incoming e2) (map (without e) (lists_at Incoming g))
-      in_2 = unlinked_links end nodes edges g s e last e_in long Incoming n1 e1 (s1.keeps_edges.ends Incoming) s1.keeps.firsts s1.keeps_edges.nexts into n2 e2 into_is s2.links
+      in_2 =
+          unlinked_links end nodes edges g s e last e_in long Incoming n1 e1 (s1.keeps_edges.ends Incoming)
+          s1.keeps.firsts s1.keeps_edges.nexts into n2 e2 into_is s2.links
 
       pub ready_3 : e ≢ last → IsReady end Outgoing n2 e2 last
       ready_3 differs = rename_ready end nodes edges g s e last e_in long Outgoing n2 e2 (ends_2 Outgoing) out_2 differs
 
       pub detached_last : e ≡ last → IsDetached end g e n2 e2
       detached_last same =
-          IsDetached-from end nodes edges g s e last e_in long n2 e2 (s2.keeps.weights ∙ s1.keeps.weights) (s2.keeps_edges.edges ∙ s1.keeps_edges.edges) ends_2 (elim [
-            | Outgoing ↦ λ nexts moves. cut_links end nodes edges g s e last e_in long Outgoing n2 e2 (ends_2 Outgoing) out_2 nexts same moves
-            | Incoming ↦ λ nexts moves. cut_links end nodes edges g s e last e_in long Incoming n2 e2 (ends_2 Incoming) in_2 nexts same moves
+          IsDetached-from end nodes edges g s e last e_in long n2 e2 (s2.keeps.weights ∙ s1.keeps.weights)
+          (s2.keeps_edges.edges ∙ s1.keeps_edges.edges) ends_2 (elim [
+            | Outgoing ↦ λ nexts moves.
+                cut_links end nodes edges g s e last e_in long Outgoing n2 e2 (ends_2 Outgoing) out_2 nexts same moves
+            | Incoming ↦ λ nexts moves.
+                cut_links end nodes edges g s e last e_in long Incoming n2 e2 (ends_2 Incoming) in_2 nexts same moves
           ])
 
       module _ (n3 : List (Node N Ix)) (e3 : List (Edge E Ix)) (s3 : Step Outgoing n2 e2 last e n3 e3) where
@@ -155,15 +240,22 @@ module _ {N E Ix : Type 0} (end : ℕ) (nodes : List (Node N Ix)) (edges : List 
         in_3 = AreLinkedLists-seen _ _ _ _ s3.keeps.firsts s3.keeps_edges.nexts in_2
 
         pub ready_4 : e ≢ last → IsReady end Incoming n3 e3 last
-        ready_4 differs = rename_ready end nodes edges g s e last e_in long Incoming n3 e3 (ends_3 Incoming) in_3 differs
+        ready_4 differs =
+            rename_ready end nodes edges g s e last e_in long Incoming n3 e3 (ends_3 Incoming) in_3 differs
 
         module _ (n4 : List (Node N Ix)) (e4 : List (Edge E Ix)) (s4 : Step Incoming n3 e3 last e n4 e4) where
           pub detached_other : e ≢ last → IsDetached end g e n4 e4
           detached_other differs =
-              IsDetached-from end nodes edges g s e last e_in long n4 e4 (s4.keeps.weights ∙ s3.keeps.weights ∙ s2.keeps.weights ∙ s1.keeps.weights) (s4.keeps_edges.edges ∙ s3.keeps_edges.edges ∙ s2.keeps_edges.edges ∙ s1.keeps_edges.edges)
+              IsDetached-from end nodes edges g s e last e_in long n4 e4
+              (s4.keeps.weights ∙ s3.keeps.weights ∙ s2.keeps.weights ∙ s1.keeps.weights)
+              (s4.keeps_edges.edges ∙ s3.keeps_edges.edges ∙ s2.keeps_edges.edges ∙ s1.keeps_edges.edges)
               (λ d. s4.keeps_edges.ends d ∙ ends_3 d) (elim [
                 | Outgoing ↦ λ nexts moves.
-                    let at_3 = renamed_links end nodes edges g s e last e_in long Outgoing n2 e2 (ends_2 Outgoing) out_2 n3 e3 nexts differs s3.links (subst (λ l. IsSwapRemoved l nexts e last) s4.keeps_edges.nexts moves) in
+                    let at_3 =
+                    renamed_links end nodes edges g s e last e_in long Outgoing n2 e2 (ends_2 Outgoing) out_2 n3 e3
+                    nexts differs s3.links (subst (λ l. IsSwapRemoved l nexts e last) s4.keeps_edges.nexts moves) in
                     AreLinkedLists-seen _ _ _ _ s4.keeps.firsts refl at_3
-                | Incoming ↦ λ nexts moves. renamed_links end nodes edges g s e last e_in long Incoming n3 e3 (ends_3 Incoming) in_3 n4 e4 nexts differs s4.links moves
+                | Incoming ↦ λ nexts moves.
+                    renamed_links end nodes edges g s e last e_in long Incoming n3 e3 (ends_3 Incoming) in_3 n4 e4 nexts
+                    differs s4.links moves
               ])

@@ -1,5 +1,6 @@
 -- What an iterator has left, before and after a step.
-use Rattle.std.proofs.Common.{◌≡◌, ℕ, zero, suc, List, [], ◌∷◌, map, length, Option, slice_get, refl, sym, ap, subst, ◌∙◌, inl, inr, arith}
+use Rattle.std.proofs.Common.{◌≡◌, ℕ, zero, suc, List, [], ◌∷◌, map, length, Option, slice_get, refl, sym, ap, subst}
+use Rattle.std.proofs.Common.{◌∙◌, inl, inr, arith}
 use Rattle.std.proofs.lemmas.List.{length-map}
 use Rattle.std.proofs.lemmas.Bool.{cases_lt}
 use Rattle.std.specs.List.{filter_map}
@@ -21,20 +22,25 @@ use Rattle.daggy_base.proofs.Lists.{Contains-nil}
 use Rattle.daggy_cells.proofs.LinkedListChanges.{row_past}
 use Rattle.daggy_cells.proofs.RestLemmas.{at_index}
 
-same_edge : {E Ix : Type 0} (edges : List (Edge E Ix)) (j i : ℕ) → option_map (λ x. at_index j (plain x)) (slice_get edges i) ≡ option_map (λ x. at_index j x) (slot (map plain_edge edges) i)
+same_edge : {E Ix : Type 0} (edges : List (Edge E Ix)) (j i : ℕ)
+    → option_map (λ x. at_index j (plain x)) (slice_get edges i)
+    ≡ option_map (λ x. at_index j x) (slot (map plain_edge edges) i)
 same_edge [] j i = refl
 same_edge (y ∷ ys) j zero = refl
 same_edge (y ∷ ys) j (suc i) = same_edge ys j i
 
-filter_map_same : {A : Type 0} (h k : ℕ → Option A) → ((i : ℕ) → h i ≡ k i) → (xs : List ℕ) → filter_map h xs ≡ filter_map k xs
+filter_map_same : {A : Type 0} (h k : ℕ → Option A)
+    → ((i : ℕ) → h i ≡ k i) → (xs : List ℕ) → filter_map h xs ≡ filter_map k xs
 filter_map_same h k same [] = refl
 filter_map_same h k same (x ∷ xs) = rw (same x, filter_map_same h k same xs) refl
 
-list_is : {N E Ix : Type 0} (nodes : List (Node N Ix)) (edges : List (Edge E Ix)) (dir : Direction) (n : ℕ) → nth_list (lists_at dir (stored_graph nodes edges)) n ≡ list_at dir (stored_graph nodes edges) n
+list_is : {N E Ix : Type 0} (nodes : List (Node N Ix)) (edges : List (Edge E Ix)) (dir : Direction) (n : ℕ)
+    → nth_list (lists_at dir (stored_graph nodes edges)) n ≡ list_at dir (stored_graph nodes edges) n
 list_is nodes edges Outgoing n = refl
 list_is nodes edges Incoming n = refl
 
-module _ {N E Ix : Type 0} (end : ℕ) (nodes : List (Node N Ix)) (edges : List (Edge E Ix)) (s : Stores end nodes edges (stored_graph nodes edges)) (dir : Direction) (n e : ℕ)
+module _ {N E Ix : Type 0} (end : ℕ) (nodes : List (Node N Ix)) (edges : List (Edge E Ix))
+    (s : Stores end nodes edges (stored_graph nodes edges)) (dir : Direction) (n e : ℕ)
     (is : e ≡ first_of end (list_at dir (stored_graph nodes edges) n)) where
   long : length (nexts_of dir edges) ≡ length edges
   long = length-map edges (raw_next dir)
@@ -46,21 +52,35 @@ module _ {N E Ix : Type 0} (end : ℕ) (nodes : List (Node N Ix)) (edges : List 
   begins : IsLinkedList end (nexts_of dir edges) e (nth_list (lists_at dir (stored_graph nodes edges)) n)
   begins =
       elim (cases_lt n (length (firsts_of dir nodes))) [
-        | inl within ↦ subst (λ z. IsLinkedList end (nexts_of dir edges) z (nth_list (lists_at dir (stored_graph nodes edges)) n)) (((s.linked dir).each n within).starts ∙ sym first) ((s.linked dir).each n within)
-        | inr past ↦ none (row_past (lists_at dir (stored_graph nodes edges)) n (omega (arith, past, (s.linked dir).rows)))
+        | inl within ↦
+            subst (λ z. IsLinkedList end (nexts_of dir edges) z (nth_list (lists_at dir (stored_graph nodes edges)) n))
+            (((s.linked dir).each n within).starts ∙ sym first) ((s.linked dir).each n within)
+        | inr past ↦
+            none (row_past (lists_at dir (stored_graph nodes edges)) n (omega (arith, past, (s.linked dir).rows)))
       ]
     where
-      none : nth_list (lists_at dir (stored_graph nodes edges)) n ≡ [] → IsLinkedList end (nexts_of dir edges) e (nth_list (lists_at dir (stored_graph nodes edges)) n)
+      none : nth_list (lists_at dir (stored_graph nodes edges)) n ≡ []
+          → IsLinkedList end (nexts_of dir edges) e (nth_list (lists_at dir (stored_graph nodes edges)) n)
       none empty =
-          subst (IsLinkedList end (nexts_of dir edges) e) (sym empty) (record { starts = first ∙ ap (first_of end) empty; distinct = tt; goes_on = λ f p. absurd (Contains-nil f p) })
+          subst (IsLinkedList end (nexts_of dir edges) e) (sym empty) (record {
+            starts = first ∙ ap (first_of end) empty;
+            distinct = tt;
+            goes_on = λ f p. absurd (Contains-nil f p);
+          })
 
   walk_begins : list_from dir edges e ≡ nth_list (lists_at dir (stored_graph nodes edges)) n
   walk_begins = row_is end e (nexts_of dir edges) _ begins (omega (arith, s.few_edges, long))
 
   pub IsOnList-begins : IsOnList end dir edges e
-  IsOnList-begins = record { linked = subst (IsLinkedList end (nexts_of dir edges) e) (sym walk_begins) begins; few = s.few_edges }
+  IsOnList-begins = record {
+    linked = subst (IsLinkedList end (nexts_of dir edges) e) (sym walk_begins) begins;
+    few = s.few_edges;
+  }
 
   pub edges_begin : edges_left dir edges e ≡ edges_at dir (stored_graph nodes edges) n
   edges_begin =
-      ap (filter_map (λ i. option_map (λ x. at_index i (plain x)) (slice_get edges i))) (walk_begins ∙ list_is nodes edges dir n)
-      ∙ filter_map_same (λ i. option_map (λ x. at_index i (plain x)) (slice_get edges i)) (λ i. option_map (λ x. at_index i x) (slot (map plain_edge edges) i)) (λ i. same_edge edges i i) (list_at dir (stored_graph nodes edges) n)
+      ap (filter_map (λ i. option_map (λ x. at_index i (plain x)) (slice_get edges i)))
+      (walk_begins ∙ list_is nodes edges dir n)
+      ∙ filter_map_same (λ i. option_map (λ x. at_index i (plain x)) (slice_get edges i))
+      (λ i. option_map (λ x. at_index i x) (slot (map plain_edge edges) i)) (λ i. same_edge edges i i)
+      (list_at dir (stored_graph nodes edges) n)

@@ -1,5 +1,6 @@
 -- How each change keeps what a graph stores.
-use Rattle.std.proofs.Common.{◌≡◌, ℕ, ◌<◌, List, [], ◌∷◌, ◌++◌, map, length, get_or, set, Some, unwrap_or, eqb, false, refl, sym, ap, subst, ◌∙◌, arith}
+use Rattle.std.proofs.Common.{◌≡◌, ℕ, ◌<◌, List, [], ◌∷◌, ◌++◌, map, length, get_or, set, Some, unwrap_or, eqb, false}
+use Rattle.std.proofs.Common.{refl, sym, ap, subst, ◌∙◌, arith}
 use Rattle.std.proofs.lemmas.List.{length-set, length_push, length-map, map-set, map_push}
 use Rattle.daggy_base.specs.Graph.{Graph, Edge as PlainEdge, slot}
 use Rattle.daggy_base.specs.Finding.{leads_to}
@@ -12,7 +13,8 @@ use Rattle.daggy_base.specs.Weights.{edge_with_weight}
 use Rattle.daggy_cells.specs.Raw.{raw_first, raw_next}
 use Rattle.daggy_cells.specs.Fields.{weight_of, plain_edge, end_at, firsts_of, lists_from}
 use Rattle.daggy_graph.specs.Stored.{stored_graph, Stores}
-use Rattle.daggy_cells.proofs.LinkedListChanges.{rows_are, AreLinkedLists-node, ListsEach-node, AreLinkedLists-edge, ListsEach-edge}
+use Rattle.daggy_cells.proofs.LinkedListChanges.{rows_are, AreLinkedLists-node, ListsEach-node, AreLinkedLists-edge}
+use Rattle.daggy_cells.proofs.LinkedListChanges.{ListsEach-edge}
 use Rattle.daggy_base.proofs.Lists.{map-set_same}
 use Rattle.daggy_base.proofs.MappedSlots.{slot_is}
 use Rattle.daggy_cells.proofs.FieldLemmas.{same_graph}
@@ -21,16 +23,20 @@ module _ {N E Ix : Type 0} (end : ℕ) (nodes : List (Node N Ix)) (edges : List 
   -- what is stored is what the view shows
   pub stored_is : (g : Graph N E) → Stores end nodes edges g → stored_graph nodes edges ≡ g
   stored_is g s =
-      let out : lists_from Outgoing nodes edges ≡ g.out_lists = rows_are end _ _ _ (s.linked Outgoing) (omega (arith, s.few_edges, length-map edges (raw_next Outgoing))) in
-      let into : lists_from Incoming nodes edges ≡ g.in_lists = rows_are end _ _ _ (s.linked Incoming) (omega (arith, s.few_edges, length-map edges (raw_next Incoming))) in
+      let out : lists_from Outgoing nodes edges ≡ g.out_lists =
+      rows_are end _ _ _ (s.linked Outgoing) (omega (arith, s.few_edges, length-map edges (raw_next Outgoing))) in
+      let into : lists_from Incoming nodes edges ≡ g.in_lists =
+      rows_are end _ _ _ (s.linked Incoming) (omega (arith, s.few_edges, length-map edges (raw_next Incoming))) in
       same_graph g (sym s.nodes_are) (sym s.edges_are) out into (sym s.no_vacant_node) (sym s.no_vacant_edge)
 
   pub Stores-itself : (g : Graph N E) → Stores end nodes edges g → Stores end nodes edges (stored_graph nodes edges)
   Stores-itself g s = subst (Stores end nodes edges) (sym (stored_is g s)) s
 
 -- one side of a graph
-module _ {N E Ix : Type 0} (end : ℕ) (nodes : List (Node N Ix)) (edges : List (Edge E Ix)) (g : Graph N E) (s : Stores end nodes edges g) where
-  pub Stores-node : (w : N) → length nodes < end → Stores end (nodes ++ (record { weight = w; first_out = end; first_in = end }) ∷ []) edges (with_node g w)
+module _ {N E Ix : Type 0} (end : ℕ) (nodes : List (Node N Ix)) (edges : List (Edge E Ix)) (g : Graph N E)
+    (s : Stores end nodes edges g) where
+  pub Stores-node : (w : N) → length nodes < end
+      → Stores end (nodes ++ (record { weight = w; first_out = end; first_in = end }) ∷ []) edges (with_node g w)
   Stores-node w few =
       let x : Node N Ix = record { weight = w; first_out = end; first_in = end } in
       rw s.no_vacant_node (
@@ -55,11 +61,24 @@ module _ {N E Ix : Type 0} (end : ℕ) (nodes : List (Node N Ix)) (edges : List 
       → (nodes' : List (Node N Ix)) → map weight_of nodes' ≡ map weight_of nodes
       → firsts_of Outgoing nodes' ≡ set (firsts_of Outgoing nodes) u (length edges)
       → firsts_of Incoming nodes' ≡ set (firsts_of Incoming nodes) v (length edges)
-      → Stores end nodes' (edges ++ (record { weight = w; parent = u; child = v; next_out = get_or (firsts_of Outgoing nodes) u 0; next_in = get_or (firsts_of Incoming nodes) v 0 }) ∷ []) (with_edge g u v w)
+      → Stores end nodes' (edges ++ (record {
+        weight = w;
+        parent = u;
+        child = v;
+        next_out = get_or (firsts_of Outgoing nodes) u 0;
+        next_in = get_or (firsts_of Incoming nodes) v 0;
+      }) ∷ []) (with_edge g u v w)
   Stores-edge u v w u_in v_in few nodes' same_weights outs ins =
-      let x : Edge E Ix = record { weight = w; parent = u; child = v; next_out = get_or (firsts_of Outgoing nodes) u 0; next_in = get_or (firsts_of Incoming nodes) v 0 } in
+      let x : Edge E Ix = record {
+        weight = w;
+        parent = u;
+        child = v;
+        next_out = get_or (firsts_of Outgoing nodes) u 0;
+        next_in = get_or (firsts_of Incoming nodes) v 0;
+      } in
       let index : length g.edges ≡ length edges = ap length s.edges_are ∙ length-map edges plain_edge in
-      let same_nodes : length nodes' ≡ length nodes = sym (length-map nodes' weight_of) ∙ ap length same_weights ∙ length-map nodes weight_of in
+      let same_nodes : length nodes' ≡ length nodes =
+      sym (length-map nodes' weight_of) ∙ ap length same_weights ∙ length-map nodes weight_of in
       rw (s.no_vacant_edge, index) (
       record {
         nodes_are = s.nodes_are ∙ sym same_weights;
@@ -67,18 +86,39 @@ module _ {N E Ix : Type 0} (end : ℕ) (nodes : List (Node N Ix)) (edges : List 
         no_vacant_node = s.no_vacant_node;
         no_vacant_edge = refl;
         linked = elim [
-          | Outgoing ↦ rw (outs, map_push (raw_next Outgoing) edges x) (AreLinkedLists-edge end _ _ _ u (length edges) (sym (length-map edges (raw_next Outgoing))) (s.linked Outgoing) (omega (arith, u_in, length-map nodes (raw_first Outgoing))))
-          | Incoming ↦ rw (ins, map_push (raw_next Incoming) edges x) (AreLinkedLists-edge end _ _ _ v (length edges) (sym (length-map edges (raw_next Incoming))) (s.linked Incoming) (omega (arith, v_in, length-map nodes (raw_first Incoming))))
+          | Outgoing ↦
+              rw (outs, map_push (raw_next Outgoing) edges x)
+              (AreLinkedLists-edge end _ _ _ u (length edges) (sym (length-map edges (raw_next Outgoing)))
+              (s.linked Outgoing) (omega (arith, u_in, length-map nodes (raw_first Outgoing))))
+          | Incoming ↦
+              rw (ins, map_push (raw_next Incoming) edges x)
+              (AreLinkedLists-edge end _ _ _ v (length edges) (sym (length-map edges (raw_next Incoming)))
+              (s.linked Incoming) (omega (arith, v_in, length-map nodes (raw_first Incoming))))
         ];
         listed = elim [
-          | Outgoing ↦ rw (map_push (end_at Outgoing) edges x) (ListsEach-edge _ _ u (length edges) (sym (length-map edges (end_at Outgoing))) (omega (arith, u_in, length-map nodes (raw_first Outgoing), (s.linked Outgoing).rows)) (s.listed Outgoing))
-          | Incoming ↦ rw (map_push (end_at Incoming) edges x) (ListsEach-edge _ _ v (length edges) (sym (length-map edges (end_at Incoming))) (omega (arith, v_in, length-map nodes (raw_first Incoming), (s.linked Incoming).rows)) (s.listed Incoming))
+          | Outgoing ↦
+              rw (map_push (end_at Outgoing) edges x)
+              (ListsEach-edge _ _ u (length edges) (sym (length-map edges (end_at Outgoing))) (omega (
+                arith,
+                u_in,
+                length-map nodes (raw_first Outgoing),
+                (s.linked Outgoing).rows,
+              )) (s.listed Outgoing))
+          | Incoming ↦
+              rw (map_push (end_at Incoming) edges x)
+              (ListsEach-edge _ _ v (length edges) (sym (length-map edges (end_at Incoming))) (omega (
+                arith,
+                v_in,
+                length-map nodes (raw_first Incoming),
+                (s.linked Incoming).rows,
+              )) (s.listed Incoming))
         ];
         few_nodes = omega (arith, s.few_nodes, same_nodes);
         few_edges = omega (arith, few, length_push edges x);
       })
 
-  pub Stores-weight : (n : ℕ) (w : N) (x : Node N Ix) → x ≡ get_or nodes n x → Stores end (set nodes n (record x { weight = w })) edges (record g { nodes = set g.nodes n (Some w) })
+  pub Stores-weight : (n : ℕ) (w : N) (x : Node N Ix) → x ≡ get_or nodes n x
+      → Stores end (set nodes n (record x { weight = w })) edges (record g { nodes = set g.nodes n (Some w) })
   Stores-weight n w x is =
       record {
         nodes_are = ap (λ l. set l n (Some w)) s.nodes_are ∙ sym (map-set weight_of nodes n _);
@@ -86,8 +126,10 @@ module _ {N E Ix : Type 0} (end : ℕ) (nodes : List (Node N Ix)) (edges : List 
         no_vacant_node = s.no_vacant_node;
         no_vacant_edge = s.no_vacant_edge;
         linked = elim [
-          | Outgoing ↦ rw (map-set_same (raw_first Outgoing) nodes n x (record x { weight = w }) is refl) (s.linked Outgoing)
-          | Incoming ↦ rw (map-set_same (raw_first Incoming) nodes n x (record x { weight = w }) is refl) (s.linked Incoming)
+          | Outgoing ↦
+              rw (map-set_same (raw_first Outgoing) nodes n x (record x { weight = w }) is refl) (s.linked Outgoing)
+          | Incoming ↦
+              rw (map-set_same (raw_first Incoming) nodes n x (record x { weight = w }) is refl) (s.linked Incoming)
         ];
         listed = elim [ Outgoing ↦ s.listed Outgoing | Incoming ↦ s.listed Incoming ];
         few_nodes = omega (arith, s.few_nodes, length-set nodes n (record x { weight = w }));
@@ -95,37 +137,55 @@ module _ {N E Ix : Type 0} (end : ℕ) (nodes : List (Node N Ix)) (edges : List 
       }
 
   -- in the words of the code
-  pub Stores-edge_code : (a b e : ℕ) (w : E) → e ≡ length edges → a < length nodes → b < length nodes → length edges < end
+  pub Stores-edge_code : (a b e : ℕ) (w : E)
+      → e ≡ length edges → a < length nodes → b < length nodes → length edges < end
       → (nodes' : List (Node N Ix)) → map weight_of nodes' ≡ map weight_of nodes
-      → firsts_of Outgoing nodes' ≡ set (firsts_of Outgoing nodes) a e → firsts_of Incoming nodes' ≡ set (firsts_of Incoming nodes) b e
-      → (x : Edge E Ix) → x ≡ record { weight = w; parent = a; child = b; next_out = get_or (firsts_of Outgoing nodes) a 0; next_in = get_or (firsts_of Incoming nodes) b 0 }
+      → firsts_of Outgoing nodes' ≡ set (firsts_of Outgoing nodes) a e
+      → firsts_of Incoming nodes' ≡ set (firsts_of Incoming nodes) b e
+      → (x : Edge E Ix) → x ≡ record {
+        weight = w;
+        parent = a;
+        child = b;
+        next_out = get_or (firsts_of Outgoing nodes) a 0;
+        next_in = get_or (firsts_of Incoming nodes) b 0;
+      }
       → (edges' : List (Edge E Ix)) → edges' ≡ edges ++ x ∷ [] → Stores end nodes' edges' (with_edge g a b w)
   Stores-edge_code a b e w e_is a_in b_in few nodes' weights outs ins x x_is edges' pushed =
-      rw (pushed, x_is) (Stores-edge a b w a_in b_in few nodes' weights (outs ∙ ap (set (firsts_of Outgoing nodes) a) e_is) (ins ∙ ap (set (firsts_of Incoming nodes) b) e_is))
+      rw (pushed, x_is) (Stores-edge a b w a_in b_in few nodes' weights
+      (outs ∙ ap (set (firsts_of Outgoing nodes) a) e_is) (ins ∙ ap (set (firsts_of Incoming nodes) b) e_is))
 
-  pub Stores-node_code : (w : N) → length nodes < end → (x : Node N Ix) → x ≡ record { weight = w; first_out = end; first_in = end }
+  pub Stores-node_code : (w : N)
+      → length nodes < end → (x : Node N Ix) → x ≡ record { weight = w; first_out = end; first_in = end }
       → (nodes' : List (Node N Ix)) → nodes' ≡ nodes ++ x ∷ [] → Stores end nodes' edges (with_node g w)
   Stores-node_code w few x x_is nodes' pushed = rw (pushed, x_is) (Stores-node w few)
 
 module _ {N E Ix : Type 0} (nodes : List (Node N Ix)) (edges : List (Edge E Ix)) where
-  pub leads_to_read : (v e : ℕ) (x : Edge E Ix) → e < length edges → x ≡ get_or edges e x → leads_to (stored_graph nodes edges) v e ≡ eqb x.child v
+  pub leads_to_read : (v e : ℕ) (x : Edge E Ix)
+      → e < length edges → x ≡ get_or edges e x → leads_to (stored_graph nodes edges) v e ≡ eqb x.child v
   leads_to_read v e x within is =
       let P : Edge E Ix → PlainEdge E = λ z. record { parent = z.parent; child = z.child; weight = z.weight } in
       ap (λ o. unwrap_or (option_map (λ z. eqb z.child v) o) false) (slot_is P edges e x within is)
 
-pub Stores-edge_weight : {N E Ix : Type 0} (end : ℕ) (nodes : List (Node N Ix)) (edges : List (Edge E Ix)) (g : Graph N E) → Stores end nodes edges g → (e : ℕ) (w : E) (x : Edge E Ix) → e < length edges → x ≡ get_or edges e x
-    → Stores end nodes (set edges e (record x { weight = w })) (record g { edges = set g.edges e (option_map (edge_with_weight w) (slot g.edges e)) })
+pub Stores-edge_weight : {N E Ix : Type 0} (end : ℕ) (nodes : List (Node N Ix)) (edges : List (Edge E Ix))
+    (g : Graph N E)
+    → Stores end nodes edges g → (e : ℕ) (w : E) (x : Edge E Ix) → e < length edges → x ≡ get_or edges e x
+    → Stores end nodes (set edges e (record x { weight = w }))
+    (record g { edges = set g.edges e (option_map (edge_with_weight w) (slot g.edges e)) })
 Stores-edge_weight {N} {E} {Ix} end nodes edges g s e w x within is =
     let P : Edge E Ix → PlainEdge E = λ z. record { parent = z.parent; child = z.child; weight = z.weight } in
     let slot_e : slot g.edges e ≡ Some (P x) = ap (λ l. slot l e) s.edges_are ∙ slot_is P edges e x within is in
     record {
       nodes_are = s.nodes_are;
-      edges_are = ap (λ o. set g.edges e (option_map (edge_with_weight w) o)) slot_e ∙ ap (λ l. set l e (plain_edge (record x { weight = w }))) s.edges_are ∙ sym (map-set plain_edge edges e _);
+      edges_are =
+          ap (λ o. set g.edges e (option_map (edge_with_weight w) o)) slot_e
+          ∙ ap (λ l. set l e (plain_edge (record x { weight = w }))) s.edges_are ∙ sym (map-set plain_edge edges e _);
       no_vacant_node = s.no_vacant_node;
       no_vacant_edge = s.no_vacant_edge;
       linked = elim [
-        | Outgoing ↦ rw (map-set_same (raw_next Outgoing) edges e x (record x { weight = w }) is refl) (s.linked Outgoing)
-        | Incoming ↦ rw (map-set_same (raw_next Incoming) edges e x (record x { weight = w }) is refl) (s.linked Incoming)
+        | Outgoing ↦
+            rw (map-set_same (raw_next Outgoing) edges e x (record x { weight = w }) is refl) (s.linked Outgoing)
+        | Incoming ↦
+            rw (map-set_same (raw_next Incoming) edges e x (record x { weight = w }) is refl) (s.linked Incoming)
       ];
       listed = elim [
         | Outgoing ↦ rw (map-set_same (end_at Outgoing) edges e x (record x { weight = w }) is refl) (s.listed Outgoing)
@@ -136,7 +196,9 @@ Stores-edge_weight {N} {E} {Ix} end nodes edges g s e w x within is =
     }
 
 -- the graph with one more edge, in other words
-pub added_same : {N E Ix : Type 0} (nodes : List (Node N Ix)) (edges edges' : List (Edge E Ix)) (p q a b : ℕ) (w : E) → edges' ≡ edges → p ≡ a → q ≡ b
+pub added_same : {N E Ix : Type 0} (nodes : List (Node N Ix)) (edges edges' : List (Edge E Ix)) (p q a b : ℕ) (w : E)
+    → edges' ≡ edges → p ≡ a → q ≡ b
     → with_edge (stored_graph nodes edges') p q w ≡ with_edge (stored_graph nodes edges) a b w
 added_same nodes edges edges' p q a b w same p_is q_is =
-    ap (λ l. with_edge (stored_graph nodes l) p q w) same ∙ ap (λ u. with_edge (stored_graph nodes edges) u q w) p_is ∙ ap (λ v. with_edge (stored_graph nodes edges) a v w) q_is
+    ap (λ l. with_edge (stored_graph nodes l) p q w) same ∙ ap (λ u. with_edge (stored_graph nodes edges) u q w) p_is
+    ∙ ap (λ v. with_edge (stored_graph nodes edges) a v w) q_is

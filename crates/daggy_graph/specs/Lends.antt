@@ -9,7 +9,8 @@ use Rattle.daggy_base.specs.IndexMembers.{IndexMembers}
 -- the type of a graph
 abbrev pub graph_type : (N E Ix : RattleType) → IndexMembers Ix.Denot → RattleType
 graph_type N E Ix m =
-    the_row N E Ix (record { number = m.number; of = m.of; greatest = m.greatest; of_number = m.of_number }) (record { cmp = m.cmp }) (record { eq = m.eq }) (record { partial_cmp = m.partial_cmp })
+    the_row N E Ix (record { number = m.number; of = m.of; greatest = m.greatest; of_number = m.of_number })
+    (record { cmp = m.cmp }) (record { eq = m.eq }) (record { partial_cmp = m.partial_cmp })
     (record { hash_input = m.hash_input }) (record { debug_output = m.debug_output })
 
 module _ (N E Ix : RattleType) (m : IndexMembers Ix.Denot) (s : MutBor (State N.Denot E.Denot)) (n : Ix.Denot) where
@@ -19,7 +20,8 @@ module _ (N E Ix : RattleType) (m : IndexMembers Ix.Denot) (s : MutBor (State N.
 
   -- the same where r is a reference, and at `None` the graph stays as it is
   abbrev pub lends_node_if : Option (MutBor N.Denot) → Fml
-  lends_node_if r = LendsIf (graph_type N E Ix m) N s r (λ w. with_graph s.now (with_node_weight s.now.graph (m.number n) w)) s.now
+  lends_node_if r =
+      LendsIf (graph_type N E Ix m) N s r (λ w. with_graph s.now (with_node_weight s.now.graph (m.number n) w)) s.now
 
 module _ (N E Ix : RattleType) (m : IndexMembers Ix.Denot) (s : MutBor (State N.Denot E.Denot)) (e : Ix.Denot) where
   -- the same for an edge
@@ -28,4 +30,5 @@ module _ (N E Ix : RattleType) (m : IndexMembers Ix.Denot) (s : MutBor (State N.
 
   -- the same where r is a reference, and at `None` the graph stays as it is
   abbrev pub lends_edge_if : Option (MutBor E.Denot) → Fml
-  lends_edge_if r = LendsIf (graph_type N E Ix m) E s r (λ w. with_graph s.now (with_edge_weight s.now.graph (m.number e) w)) s.now
+  lends_edge_if r =
+      LendsIf (graph_type N E Ix m) E s r (λ w. with_graph s.now (with_edge_weight s.now.graph (m.number e) w)) s.now

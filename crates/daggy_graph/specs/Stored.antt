@@ -24,7 +24,8 @@ stored_graph nodes edges =
     }
 
 -- this graph is what the nodes and the edges store
-pub record Stores {N E Ix : Type 0} (end : ℕ) (nodes : List (Node N Ix)) (edges : List (Edge E Ix)) (g : Graph N E) : Type 0 where
+pub record Stores {N E Ix : Type 0} (end : ℕ) (nodes : List (Node N Ix)) (edges : List (Edge E Ix))
+    (g : Graph N E) : Type 0 where
   pub nodes_are : g.nodes ≡ map weight_of nodes
   pub edges_are : g.edges ≡ map plain_edge edges
   pub no_vacant_node : g.vacant_nodes ≡ []
@@ -36,7 +37,8 @@ pub record Stores {N E Ix : Type 0} (end : ℕ) (nodes : List (Node N Ix)) (edge
 
 -- once the last edge takes the place of e, what is stored is the graph without e
 abbrev pub IsDetached : {N E Ix : Type 0} → (end : ℕ) → Graph N E → ℕ → List (Node N Ix) → List (Edge E Ix) → Type 0
-IsDetached {N} {E} {Ix} end g e nodes edges = (x : Edge E Ix) → Stores end nodes (swap_remove edges e x) (without_edge Compact g e)
+IsDetached {N} {E} {Ix} end g e nodes edges =
+    (x : Edge E Ix) → Stores end nodes (swap_remove edges e x) (without_edge Compact g e)
 
 -- what is stored is the graph that these slots make
 abbrev pub IsBuilt : {N E Ix : Type 0} → (end : ℕ) → List (Node N Ix) → List (Edge E Ix) → Type 0

@@ -1,8 +1,11 @@
 //! A directed graph whose nodes and edges fill the indices from 0 on.
 ghost use Rattle.std.specs.Prelude.{◌≡◌, ℕ, ◌<◌, ◌↔◌, IsTrue, IfOk, OnOk, IfErr, OnErr};
 ghost use Rattle.std.specs.Option.{option_map};
-ghost use Rattle.daggy_base.specs.Graph.{empty, edge_at, HasNode, HasEdge, node_count as node_count_of, edge_count as edge_count_of, list_at, ends_of, pair_of};
-ghost use Rattle.daggy_base.specs.Adding.{next_node, next_edge as next_edge_of, with_node, with_edge};
+ghost use Rattle.daggy_base.specs.Graph.{empty, edge_at, HasNode, HasEdge};
+ghost use Rattle.daggy_base.specs.Graph.{node_count as node_count_of, edge_count as edge_count_of};
+ghost use Rattle.daggy_base.specs.Graph.{list_at, ends_of, pair_of};
+ghost use Rattle.daggy_base.specs.Adding.{next_node, next_edge as next_edge_of, with_node};
+ghost use Rattle.daggy_base.specs.Adding.{with_edge};
 ghost use Rattle.daggy_base.specs.Finding.{find_edge as edge_between};
 ghost use Rattle.daggy_base.specs.Cursor.{first_of, cursor_after};
 ghost use Rattle.daggy_base.specs.State.{with_graph};
@@ -41,14 +44,16 @@ pub use daggy_cells::reference::EdgeReference;
 use std::alloc::Global;
 use std::marker::Model;
 
-/// A directed graph. Any number of edges may lead from one node to another, and an edge may lead from a node to
-/// itself.
+/// A directed graph. Any number of edges may lead from one node to another, and an edge may lead
+/// from a node to itself.
 ///
-/// The indices of its nodes are the numbers below the count of its nodes, and so are those of its edges. A removal
-/// gives the index of what it removed to the node or the edge with the last index, and so changes that index.
-/// Adding is constant time, as are all calls that read, but for those that say otherwise.
+/// The indices of its nodes are the numbers below the count of its nodes, and so are those of its
+/// edges. A removal gives the index of what it removed to the node or the edge with the last index,
+/// and so changes that index. Adding is constant time, as are all calls that read, but for those
+/// that say otherwise.
 ///
-/// `Ix` is the number type that indices are kept in. It bounds how many nodes and how many edges there may be.
+/// `Ix` is the number type that indices are kept in. It bounds how many nodes and how many edges
+/// there may be.
 #[derive(Drop)]
 pub struct DiGraph<N, E, Ix: IndexType = DefaultIx> {
     nodes: Vec<Node<N, Ix>>,
@@ -62,9 +67,11 @@ impl<N, E, Ix: IndexType> Model for DiGraph<N, E, Ix> {
 
     ghost Value = { State N E };
 
-    ghost view = { λ a. record { graph = stored_graph a.nodes.items a.edges.items; looks = a.looks.count } };
+    ghost view = { λ a.
+        record { graph = stored_graph a.nodes.items a.edges.items; looks = a.looks.count } };
 
-    ghost invariant = { λ a. Stores Ix.greatest a.nodes.items a.edges.items (stored_graph a.nodes.items a.edges.items) };
+    ghost invariant = { λ a.
+        Stores Ix.greatest a.nodes.items a.edges.items (stored_graph a.nodes.items a.edges.items) };
 }
 
 impl<N, E, Ix: IndexType> DiGraph<N, E, Ix> {
@@ -97,13 +104,14 @@ impl<N, E, Ix: IndexType> DiGraph<N, E, Ix> {
 
     /// Adds a node, whose index is the number of nodes before.
     ///
-    /// The error says that memory for it was refused. It holds the weight, and the graph is as it was. The cost is
-    /// constant, taken over many calls.
+    /// The error says that memory for it was refused. It holds the weight, and the graph is as it
+    /// was. The cost is constant, taken over many calls.
     #[inline]
     pub fn add_node(&mut self, weight: N) -> Result<NodeIndex<Ix>, NodeError<N>>
         requires { node_count_of self.old.graph < Ix.greatest }
         ensures index { IfOk result (λ n. Ix.number n ≡ next_node self.old.graph) }
-        ensures added { OnOk result (self.new ≡ with_graph self.old (with_node self.old.graph weight)) }
+        ensures added { OnOk result
+            (self.new ≡ with_graph self.old (with_node self.old.graph weight)) }
         ensures refusal { IfErr result (λ e. e ≡ NodeMemory weight) }
         ensures unchanged { OnErr result (self.new ≡ self.old) }
     {
@@ -114,11 +122,11 @@ impl<N, E, Ix: IndexType> DiGraph<N, E, Ix> {
         Ok(n.node())
     }
 
-    /// Adds an edge from `a` to `b`, whose index is the number of edges before. It is then the first edge that leaves
-    /// `a`, and the first that enters `b`.
+    /// Adds an edge from `a` to `b`, whose index is the number of edges before. It is then the
+    /// first edge that leaves `a`, and the first that enters `b`.
     ///
-    /// The error says that memory for it was refused. It holds the weight, and the graph is as it was. The cost is
-    /// constant, taken over many calls.
+    /// The error says that memory for it was refused. It holds the weight, and the graph is as it
+    /// was. The cost is constant, taken over many calls.
     #[inline]
     pub fn add_edge(
         &mut self,
@@ -130,7 +138,8 @@ impl<N, E, Ix: IndexType> DiGraph<N, E, Ix> {
         requires child { HasNode self.old.graph (Ix.number b) }
         requires index_left { edge_count_of self.old.graph < Ix.greatest }
         ensures index { IfOk result (λ e. Ix.number e ≡ next_edge_of self.old.graph) }
-        ensures added { OnOk result (self.new ≡ with_graph self.old (with_edge self.old.graph (Ix.number a) (Ix.number b) weight)) }
+        ensures added { OnOk result (self.new
+            ≡ with_graph self.old (with_edge self.old.graph (Ix.number a) (Ix.number b) weight)) }
         ensures refusal { IfErr result (λ e. e ≡ EdgeMemory weight) }
         ensures unchanged { OnErr result (self.new ≡ self.old) }
     {
@@ -150,7 +159,8 @@ impl<N, E, Ix: IndexType> DiGraph<N, E, Ix> {
     /// The parent and the child of an edge, if the edge exists.
     #[inline]
     pub fn edge_endpoints(&self, e: EdgeIndex<Ix>) -> Option<(NodeIndex<Ix>, NodeIndex<Ix>)>
-        ensures { option_map (pair_of Ix.number) result ≡ option_map ends_of (edge_at self.now.graph (Ix.number e)) }
+        ensures { option_map (pair_of Ix.number) result
+            ≡ option_map ends_of (edge_at self.now.graph (Ix.number e)) }
     {
         match self.edges.get(e.index()) {
             Some(x) => Some((x.source(), x.target())),
@@ -161,7 +171,8 @@ impl<N, E, Ix: IndexType> DiGraph<N, E, Ix> {
     /// The first edge of those that leave the node, or of those that enter it, or `end`.
     #[inline]
     pub fn first_edge(&self, n: NodeIndex<Ix>, dir: Direction) -> EdgeIndex<Ix>
-        ensures { Ix.number result ≡ first_of Ix.greatest (list_at dir self.now.graph (Ix.number n)) }
+        ensures { Ix.number result
+            ≡ first_of Ix.greatest (list_at dir self.now.graph (Ix.number n)) }
     {
         match self.nodes.get(n.index()) {
             Some(x) => links::first(x, dir).edge(),
@@ -169,11 +180,14 @@ impl<N, E, Ix: IndexType> DiGraph<N, E, Ix> {
         }
     }
 
-    /// The edge after this one among those that leave its parent, or among those that enter its child, or `end`.
+    /// The edge after this one among those that leave its parent, or among those that enter its
+    /// child, or `end`.
     #[inline]
     pub fn next_edge(&self, e: EdgeIndex<Ix>, dir: Direction) -> EdgeIndex<Ix>
         requires { HasEdge self.now.graph (Ix.number e) }
-        ensures { Ix.number result ≡ cursor_after dir Ix.greatest self.now.graph (Ix.number e) (edge_at self.now.graph (Ix.number e)) }
+        ensures { Ix.number result
+            ≡ cursor_after dir Ix.greatest self.now.graph (Ix.number e)
+            (edge_at self.now.graph (Ix.number e)) }
     {
         let x = &self.edges[e.index()];
         links::next(x, dir).edge()
@@ -183,7 +197,8 @@ impl<N, E, Ix: IndexType> DiGraph<N, E, Ix> {
     ///
     /// The cost grows with the number of edges that leave `a`.
     pub fn find_edge(&self, a: NodeIndex<Ix>, b: NodeIndex<Ix>) -> Option<EdgeIndex<Ix>>
-        ensures { option_map Ix.number result ≡ edge_between self.now.graph (Ix.number a) (Ix.number b) }
+        ensures { option_map Ix.number result
+            ≡ edge_between self.now.graph (Ix.number a) (Ix.number b) }
     {
         let u = a.index();
         let v = b.index();

@@ -1,5 +1,7 @@
 -- Edges taken back, the last one first.
-use Rattle.std.proofs.Common.{◌≡◌, ℕ, zero, suc, ◌+◌, ◌<◌, ◌≤◌, ◌↔◌, Bool, true, false, leb, IsTrue, List, [], ◌∷◌, ◌++◌, map, length, take, drop, reverse, get_or, Some, None, is_some, refl, sym, ap, subst, ◌∙◌, arith}
+use Rattle.std.proofs.Common.{◌≡◌, ℕ, zero, suc, ◌+◌, ◌<◌, ◌≤◌, ◌↔◌, Bool, true, false, leb, IsTrue, List, [], ◌∷◌}
+use Rattle.std.proofs.Common.{◌++◌, map, length, take, drop, reverse, get_or, Some, None, is_some, refl, sym, ap, subst}
+use Rattle.std.proofs.Common.{◌∙◌, arith}
 use Rattle.std.specs.List.{Contains}
 use Rattle.std.specs.Option.{option_map}
 use Rattle.std.proofs.lemmas.Bool.{false≢true, leb-true, le-leb}
@@ -56,32 +58,37 @@ record Slots {N E : Type 0} (n : ℕ) (g : Graph N E) : Type 0 where
 
 slots_here : {N E : Type 0} (limit : ℕ) (g : Graph N E) → IsWellFormed limit g → Slots (length g.edges) g
 slots_here limit g f = record {
-  below = below_all (length g.edges) g.vacant_edges (λ v p. slice_get_within g.edges v None ((f.edge_slots.exact v).0 p));
+  below =
+      below_all (length g.edges) g.vacant_edges (λ v p. slice_get_within g.edges v None ((f.edge_slots.exact v).0 p));
   many = omega arith;
 }
 
 slots_more : {N E : Type 0} (n : ℕ) (g : Graph N E) (u v : ℕ) (w : E) → Slots n g → Slots n (with_edge g u v w)
 slots_more n g u v w s = record {
   below = below_rest n g.vacant_edges s.below;
-  many = omega (arith, s.many, length-taken g.edges g.vacant_edges (Some (record { parent = u; child = v; weight = w })));
+  many =
+      omega (arith, s.many, length-taken g.edges g.vacant_edges (Some (record { parent = u; child = v; weight = w })));
 }
 
 slots_along : {N E : Type 0} (n : ℕ) (g : Graph N E) (xs : List (NewEdge E)) → Slots n g → Slots n (with_edges g xs)
 slots_along n g [] s = s
 slots_along n g (x ∷ xs) s = slots_along n (with_edge g x.0 x.1 x.2) xs (slots_more n g x.0 x.1 x.2 s)
 
-none_along : {N E : Type 0} (g : Graph N E) (xs : List (NewEdge E)) → g.vacant_edges ≡ [] → (with_edges g xs).vacant_edges ≡ []
+none_along : {N E : Type 0} (g : Graph N E) (xs : List (NewEdge E))
+    → g.vacant_edges ≡ [] → (with_edges g xs).vacant_edges ≡ []
 none_along g [] h = h
 none_along g (x ∷ xs) h = none_along (with_edge g x.0 x.1 x.2) xs (ap remaining_vacant h)
 
 -- whether the slot was made, by the index alone
-made_by_index : {A : Type 0} (n : ℕ) (slots : List A) (vacant : List ℕ) (made : Bool) → AreBelow n vacant → n ≤ length slots → (IsTrue made ↔ (n ≤ next_slot slots vacant)) → made ≡ is_slot_made vacant
+made_by_index : {A : Type 0} (n : ℕ) (slots : List A) (vacant : List ℕ) (made : Bool)
+    → AreBelow n vacant → n ≤ length slots → (IsTrue made ↔ (n ≤ next_slot slots vacant)) → made ≡ is_slot_made vacant
 made_by_index n slots [] true b m h = refl
 made_by_index n slots [] false b m h = absurd (false≢true (h.1 m))
 made_by_index n slots (v ∷ vs) true b m h = let low = h.0 refl in absurd (omega (arith, low, b.0))
 made_by_index n slots (v ∷ vs) false b m h = refl
 
-made_last : {A : Type 0} (slots : List A) (vacant : List ℕ) (x : A) → IsTrue (is_slot_made vacant) → next_slot slots vacant + 1 ≡ length (with_slot_filled slots vacant x)
+made_last : {A : Type 0} (slots : List A) (vacant : List ℕ) (x : A)
+    → IsTrue (is_slot_made vacant) → next_slot slots vacant + 1 ≡ length (with_slot_filled slots vacant x)
 made_last slots [] x h = omega (arith, length-append slots (x ∷ []))
 made_last slots (v ∷ vs) x h = absurd (false≢true h)
 
@@ -90,7 +97,8 @@ made_none [] h = refl
 made_none (v ∷ vs) h = absurd cc
 
 -- the loop of `roll_back`: the edges of the first `left` items are there
-pub record Rolling {N E : Type 0} (limit : ℕ) (kind : Kind) (before now : Graph N E) (xs : List (NewEdge E)) (edges : List ℕ) (slots left : ℕ) (weights : List E) (len capacity looks₀ looks : ℕ) : Type 0 where
+pub record Rolling {N E : Type 0} (limit : ℕ) (kind : Kind) (before now : Graph N E) (xs : List (NewEdge E))
+    (edges : List ℕ) (slots left : ℕ) (weights : List E) (len capacity looks₀ looks : ℕ) : Type 0 where
   pub within : left ≤ length xs
   pub graph_is : now ≡ with_edges before (take left xs)
   pub returned : weights ≡ reverse (drop left (map (λ (x : NewEdge E). x.2) xs))
@@ -121,13 +129,21 @@ drop_none : {A : Type 0} (xs : List A) → drop 0 xs ≡ xs
 drop_none [] = refl
 drop_none (x ∷ xs) = refl
 
-pub rolling_starts : {N E : Type 0} {limit : ℕ} {kind : Kind} {before now : Graph N E} {xs : List (NewEdge E)} {edges : List ℕ} {slots : ℕ} → IsBatchSoFar limit kind before now xs edges slots → (left : ℕ) (weights : List E) (len capacity looks : ℕ) → left ≡ length edges → weights ≡ [] → len + length edges ≤ capacity → Rolling limit kind before now xs edges slots left weights len capacity looks looks
-rolling_starts {N} {E} {limit} {kind} {before} {now} {xs} {edges} {slots} s left weights len capacity looks all empty weights_fit =
+pub rolling_starts : {N E : Type 0} {limit : ℕ} {kind : Kind} {before now : Graph N E} {xs : List (NewEdge E)}
+    {edges : List ℕ} {slots : ℕ}
+    → IsBatchSoFar limit kind before now xs edges slots
+    → (left : ℕ) (weights : List E) (len capacity looks : ℕ) → left ≡ length edges → weights ≡ []
+    → len + length edges ≤ capacity → Rolling limit kind before now xs edges slots left weights len capacity looks looks
+rolling_starts {N} {E} {limit} {kind} {before} {now} {xs} {edges} {slots} s left weights len capacity looks all empty
+    weights_fit =
     let many : left ≡ length xs = all ∙ ap length s.indices_are ∙ length-new_edges before xs in
     record {
       within = omega (arith, many);
       graph_is = s.now_is ∙ ap (with_edges before) (sym (ap (λ k. take k xs) many ∙ take_all xs));
-      returned = empty ∙ ap reverse (sym (ap (λ k. drop k (map (λ (x : NewEdge E). x.2) xs)) many ∙ drop_all (λ (x : NewEdge E). x.2) xs));
+      returned =
+          empty
+          ∙ ap reverse
+          (sym (ap (λ k. drop k (map (λ (x : NewEdge E). x.2) xs)) many ∙ drop_all (λ (x : NewEdge E). x.2) xs));
       weights_fit = omega (arith, weights_fit, all);
       uncounted = refl;
       indices_are = s.indices_are;
@@ -136,18 +152,25 @@ rolling_starts {N} {E} {limit} {kind} {before} {now} {xs} {edges} {slots} s left
       slot_count_is = s.slot_count_is;
     }
 
-module _ {N E : Type 0} {limit : ℕ} {kind : Kind} {before now : Graph N E} {xs : List (NewEdge E)} {edges : List ℕ} {slots left : ℕ} {weights : List E} {len capacity looks₀ looks : ℕ} (s : Rolling limit kind before now xs edges slots left weights len capacity looks₀ looks) where
+module _ {N E : Type 0} {limit : ℕ} {kind : Kind} {before now : Graph N E} {xs : List (NewEdge E)} {edges : List ℕ}
+    {slots left : ℕ} {weights : List E} {len capacity looks₀ looks : ℕ}
+    (s : Rolling limit kind before now xs edges slots left weights len capacity looks₀ looks) where
   pub rolled_graph : left ≡ 0 → now ≡ before
   rolled_graph none = s.graph_is ∙ ap (λ k. with_edges before (take k xs)) none ∙ ap (with_edges before) (take_none xs)
 
   pub rolled_weights : left ≡ 0 → weights ≡ reverse (map (λ (x : NewEdge E). x.2) xs)
-  rolled_weights none = s.returned ∙ ap (λ k. reverse (drop k (map (λ (x : NewEdge E). x.2) xs))) none ∙ ap reverse (drop_none (map (λ (x : NewEdge E). x.2) xs))
+  rolled_weights none =
+      s.returned ∙ ap (λ k. reverse (drop k (map (λ (x : NewEdge E). x.2) xs))) none
+      ∙ ap reverse (drop_none (map (λ (x : NewEdge E). x.2) xs))
 
   pub left_within : left ≤ length edges
   left_within = omega (arith, s.within, ap length s.indices_are, length-new_edges before xs)
 
 -- one step: k is left after it, and e is the index that stands there
-module _ {N E : Type 0} {limit : ℕ} {kind : Kind} {before now : Graph N E} {xs : List (NewEdge E)} {edges : List ℕ} {slots left : ℕ} {weights : List E} {len capacity looks₀ looks : ℕ} (s : Rolling limit kind before now xs edges slots left weights len capacity looks₀ looks) (k e : ℕ) (one : left ≡ suc k) (is : e ≡ get_or edges k e) where
+module _ {N E : Type 0} {limit : ℕ} {kind : Kind} {before now : Graph N E} {xs : List (NewEdge E)} {edges : List ℕ}
+    {slots left : ℕ} {weights : List E} {len capacity looks₀ looks : ℕ}
+    (s : Rolling limit kind before now xs edges slots left weights len capacity looks₀ looks) (k e : ℕ)
+    (one : left ≡ suc k) (is : e ≡ get_or edges k e) where
   here : ItemAt before xs k
   here = item_at before xs k (omega (arith, s.within, one))
 
@@ -171,8 +194,11 @@ module _ {N E : Type 0} {limit : ℕ} {kind : Kind} {before now : Graph N E} {xs
 
   edge_there : edge_at now e ≡ Some (record { parent = here.item.0; child = here.item.1; weight = here.item.2 })
   edge_there =
-      let P : Graph N E → Type 0 = λ z. edge_at z e ≡ Some (record { parent = here.item.0; child = here.item.1; weight = here.item.2 }) in
-      let Q : ℕ → Type 0 = λ z. edge_at (with_edge at_k here.item.0 here.item.1 here.item.2) z ≡ Some (record { parent = here.item.0; child = here.item.1; weight = here.item.2 }) in
+      let P : Graph N E → Type 0 = λ z.
+      edge_at z e ≡ Some (record { parent = here.item.0; child = here.item.1; weight = here.item.2 }) in
+      let Q : ℕ → Type 0 = λ z.
+      edge_at (with_edge at_k here.item.0 here.item.1 here.item.2) z
+      ≡ Some (record { parent = here.item.0; child = here.item.1; weight = here.item.2 }) in
       subst P (sym now_is) (subst Q (sym e_is) (slot_taken_new at_k.edges at_k.vacant_edges _ free_k))
 
   pub has_edge : HasEdge now e
@@ -181,11 +207,15 @@ module _ {N E : Type 0} {limit : ℕ} {kind : Kind} {before now : Graph N E} {xs
   module _ (made : Bool) (by_index : IsTrue made ↔ (slots ≤ e)) where
     made_is : made ≡ is_slot_made at_k.vacant_edges
     made_is =
-        let fine₀ : IsWellFormed limit before = let P : List (NewEdge E) → Type 0 = λ z. IsWellFormed limit (with_edges before z) in subst P (take_none xs) (s.well_formed 0 (omega (arith, s.within, one))) in
-        let at : Slots (length before.edges) at_k = slots_along (length before.edges) before (take k xs) (slots_here limit before fine₀) in
+        let fine₀ : IsWellFormed limit before =
+        let P : List (NewEdge E) → Type 0 = λ z. IsWellFormed limit (with_edges before z) in
+        subst P (take_none xs) (s.well_formed 0 (omega (arith, s.within, one))) in
+        let at : Slots (length before.edges) at_k =
+        slots_along (length before.edges) before (take k xs) (slots_here limit before fine₀) in
         let low : ℕ → Type 0 = λ z. IsTrue made ↔ (z ≤ e) in
         let high : ℕ → Type 0 = λ z. IsTrue made ↔ (length before.edges ≤ z) in
-        made_by_index (length before.edges) at_k.edges at_k.vacant_edges made at.below at.many (subst high e_is (subst low s.slot_count_is by_index))
+        made_by_index (length before.edges) at_k.edges at_k.vacant_edges made at.below at.many
+        (subst high e_is (subst low s.slot_count_is by_index))
 
     pub made_where_compact : kind ≡ Compact → IsTrue made
     made_where_compact c =
@@ -195,20 +225,29 @@ module _ {N E : Type 0} {limit : ℕ} {kind : Kind} {before now : Graph N E} {xs
     pub made_at_end : IsTrue made → e + 1 ≡ length now.edges
     made_at_end m =
         let P : Bool → Type 0 = λ z. IsTrue z in
-        let last = made_last at_k.edges at_k.vacant_edges (Some (record { parent = here.item.0; child = here.item.1; weight = here.item.2 })) (subst P made_is m) in
-        let many : length now.edges ≡ length (with_edge at_k here.item.0 here.item.1 here.item.2).edges = ap (λ (z : Graph N E). length z.edges) now_is in
+        let last =
+        made_last at_k.edges at_k.vacant_edges
+        (Some (record { parent = here.item.0; child = here.item.1; weight = here.item.2 })) (subst P made_is m) in
+        let many : length now.edges ≡ length (with_edge at_k here.item.0 here.item.1 here.item.2).edges =
+        ap (λ (z : Graph N E). length z.edges) now_is in
         omega (arith, last, many, e_is)
 
-    pub rolls_on : (w : E) (new : Graph N E) (looks' : ℕ) → Some w ≡ option_map (λ x. x.weight) (edge_at now e) → new ≡ with_edge_taken_back made now e → looks' ≡ looks → (weights' : List E) → weights' ≡ weights ++ w ∷ [] → (len' : ℕ) → len' ≡ len + 1 → (k' : ℕ) → k' ≡ k → (capacity' : ℕ) → capacity' ≡ capacity → Rolling limit kind before new xs edges slots k' weights' len' capacity' looks₀ looks'
+    pub rolls_on : (w : E) (new : Graph N E) (looks' : ℕ) → Some w ≡ option_map (λ x. x.weight) (edge_at now e)
+        → new ≡ with_edge_taken_back made now e → looks' ≡ looks → (weights' : List E) → weights' ≡ weights ++ w ∷ []
+        → (len' : ℕ) → len' ≡ len + 1 → (k' : ℕ) → k' ≡ k → (capacity' : ℕ) → capacity' ≡ capacity
+        → Rolling limit kind before new xs edges slots k' weights' len' capacity' looks₀ looks'
     rolls_on w new looks' gives is_back same weights' more len' longer k' k'_is capacity' capacity'_is =
         let w_is : w ≡ here.item.2 = same_Some _ _ (gives ∙ ap (option_map (λ (x : Edge E). x.weight)) edge_there) in
         let undone : new ≡ at_k =
-        is_back ∙ ap (λ z. with_edge_taken_back made z e) now_is ∙ ap (with_edge_taken_back made (with_edge at_k here.item.0 here.item.1 here.item.2)) e_is
-        ∙ ap (λ z. with_edge_taken_back z (with_edge at_k here.item.0 here.item.1 here.item.2) (next_edge at_k)) made_is ∙ taken_back_undoes limit at_k fine_k here.item.0 here.item.1 here.item.2 in
+        is_back ∙ ap (λ z. with_edge_taken_back made z e) now_is
+        ∙ ap (with_edge_taken_back made (with_edge at_k here.item.0 here.item.1 here.item.2)) e_is
+        ∙ ap (λ z. with_edge_taken_back z (with_edge at_k here.item.0 here.item.1 here.item.2) (next_edge at_k)) made_is
+        ∙ taken_back_undoes limit at_k fine_k here.item.0 here.item.1 here.item.2 in
         let ws = map (λ (x : NewEdge E). x.2) xs in
         let before_it : weights ≡ reverse (drop (suc k) ws) = s.returned ∙ ap (λ z. reverse (drop z ws)) one in
         let with_it : weights ++ w ∷ [] ≡ reverse (drop k ws) =
-        ap (λ z. z ++ w ∷ []) before_it ∙ ap (λ z. reverse (drop (suc k) ws) ++ z ∷ []) w_is ∙ sym (reverse-append (here.item.2 ∷ []) (drop (suc k) ws)) ∙ ap reverse (sym here.weights_are) in
+        ap (λ z. z ++ w ∷ []) before_it ∙ ap (λ z. reverse (drop (suc k) ws) ++ z ∷ []) w_is
+        ∙ sym (reverse-append (here.item.2 ∷ []) (drop (suc k) ws)) ∙ ap reverse (sym here.weights_are) in
         record {
           within = omega (arith, s.within, one, k'_is);
           graph_is = undone ∙ ap (λ z. with_edges before (take z xs)) (sym k'_is);
@@ -226,7 +265,8 @@ pub by_test : (n e i : ℕ) → i ≡ e → IsTrue (leb n i) ↔ (n ≤ e)
 by_test n e i is = (λ t. omega (arith, leb-true n i t, is), λ h. le-leb n i (omega (arith, h, is)))
 
 -- the number of what stands in a list stands in the list of the numbers
-pub numbered_at : {I : Type 0} (number : I → ℕ) (xs : List I) (k : ℕ) (x : I) → x ≡ get_or xs k x → number x ≡ get_or (map number xs) k (number x)
+pub numbered_at : {I : Type 0} (number : I → ℕ) (xs : List I) (k : ℕ) (x : I)
+    → x ≡ get_or xs k x → number x ≡ get_or (map number xs) k (number x)
 numbered_at number [] k x h = refl
 numbered_at number (y ∷ ys) zero x h = ap number h
 numbered_at number (y ∷ ys) (suc k) x h = numbered_at number ys k x h

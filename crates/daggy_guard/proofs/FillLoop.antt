@@ -10,11 +10,13 @@ use Rattle.daggy_order.specs.Ordered.{IsOrderOf}
 use Rattle.daggy_guard.specs.Extension.{with_nodes, missing, IsFilled, IsPartFilled}
 use Rattle.daggy_guard.proofs.AcceptedEdges.{count_taken}
 
-nodes_more : {N E : Type 0} (g : Graph N E) (ws : List N) (w : N) → with_nodes g (ws ++ w ∷ []) ≡ with_node (with_nodes g ws) w
+nodes_more : {N E : Type 0} (g : Graph N E) (ws : List N) (w : N)
+    → with_nodes g (ws ++ w ∷ []) ≡ with_node (with_nodes g ws) w
 nodes_more g [] w = refl
 nodes_more g (v ∷ vs) w = nodes_more (with_node g v) vs w
 
-all_more : {A : Type 0} (P : A → Type 0) (xs : List A) (x : A) → AllByRecursion P xs → P x → AllByRecursion P (xs ++ x ∷ [])
+all_more : {A : Type 0} (P : A → Type 0) (xs : List A) (x : A)
+    → AllByRecursion P xs → P x → AllByRecursion P (xs ++ x ∷ [])
 all_more P [] x all here = (here, tt)
 all_more P (y ∷ ys) x all here = (all.0, all_more P ys x all.1 here)
 
@@ -22,7 +24,8 @@ pub edges_kept : {N E : Type 0} (g : Graph N E) (ws : List N) → edge_count (wi
 edges_kept g [] = refl
 edges_kept g (w ∷ ws) = edges_kept (with_node g w) ws
 
-pub record Filling {N E : Type 0} (IsDefault : N → Type 0) (last : ℕ) (old now : Graph N E) (order : List ℕ) (capacity : ℕ) : Type 0 where
+pub record Filling {N E : Type 0} (IsDefault : N → Type 0) (last : ℕ) (old now : Graph N E) (order : List ℕ)
+    (capacity : ℕ) : Type 0 where
   pub weights : List N
   pub defaults : AllByRecursion IsDefault weights
   pub added : now ≡ with_nodes old weights
@@ -31,15 +34,28 @@ pub record Filling {N E : Type 0} (IsDefault : N → Type 0) (last : ℕ) (old n
   pub ordered : IsOrderOf now order
   pub fits : node_bound now ≤ capacity
 
-pub filling_starts : {N E : Type 0} (IsDefault : N → Type 0) (last : ℕ) (g : Graph N E) (order : List ℕ) (capacity : ℕ) → IsOrderOf g order → node_bound g ≤ capacity → Filling IsDefault last g g order capacity
+pub filling_starts : {N E : Type 0} (IsDefault : N → Type 0) (last : ℕ) (g : Graph N E) (order : List ℕ) (capacity : ℕ)
+    → IsOrderOf g order → node_bound g ≤ capacity → Filling IsDefault last g g order capacity
 filling_starts IsDefault last g order capacity ordered fits =
-    record { weights = []; defaults = tt; added = refl; within = omega arith; count = omega arith; ordered = ordered; fits = fits }
+    record {
+      weights = [];
+      defaults = tt;
+      added = refl;
+      within = omega arith;
+      count = omega arith;
+      ordered = ordered;
+      fits = fits;
+    }
 
-module _ {N E : Type 0} {IsDefault : N → Type 0} {last : ℕ} {old now : Graph N E} {order : List ℕ} {capacity : ℕ} (s : Filling IsDefault last old now order capacity) where
-  pub filling_on : (limit : ℕ) → IsWellFormed limit now → node_count now ≤ last → (w : N) → IsDefault w → (new : Graph N E) → new ≡ with_node now w → (order' : List ℕ) → IsOrderOf new order' → (capacity' : ℕ) → node_bound new ≤ capacity'
+module _ {N E : Type 0} {IsDefault : N → Type 0} {last : ℕ} {old now : Graph N E} {order : List ℕ} {capacity : ℕ}
+    (s : Filling IsDefault last old now order capacity) where
+  pub filling_on : (limit : ℕ) → IsWellFormed limit now → node_count now ≤ last → (w : N) → IsDefault w
+      → (new : Graph N E) → new ≡ with_node now w → (order' : List ℕ) → IsOrderOf new order'
+      → (capacity' : ℕ) → node_bound new ≤ capacity'
       → Filling IsDefault last old new order' capacity'
   filling_on limit f few w default new is order' ordered capacity' fits =
-      let one : node_count (with_node now w) ≡ node_count now + 1 = omega (arith, count_taken now.nodes now.vacant_nodes w (free_slots now.nodes now.vacant_nodes f.node_slots)) in
+      let one : node_count (with_node now w) ≡ node_count now + 1 =
+      omega (arith, count_taken now.nodes now.vacant_nodes w (free_slots now.nodes now.vacant_nodes f.node_slots)) in
       record {
         weights = s.weights ++ w ∷ [];
         defaults = all_more IsDefault s.weights w s.defaults default;
@@ -50,11 +66,22 @@ module _ {N E : Type 0} {IsDefault : N → Type 0} {last : ℕ} {old now : Graph
         fits = fits;
       }
 
-  pub fewer_missing : (limit : ℕ) → IsWellFormed limit now → (w : N) → (new : Graph N E) → new ≡ with_node now w → node_count new ≡ node_count now + 1
-  fewer_missing limit f w new is = omega (arith, ap node_count is, count_taken now.nodes now.vacant_nodes w (free_slots now.nodes now.vacant_nodes f.node_slots))
+  pub fewer_missing : (limit : ℕ) → IsWellFormed limit now → (w : N) → (new : Graph N E) → new ≡ with_node now w
+      → node_count new ≡ node_count now + 1
+  fewer_missing limit f w new is =
+      omega (
+        arith,
+        ap node_count is,
+        count_taken now.nodes now.vacant_nodes w (free_slots now.nodes now.vacant_nodes f.node_slots),
+      )
 
   pub is_filled : last < node_count now → IsFilled IsDefault last old now
-  is_filled many = record { weights = s.weights; defaults = s.defaults; as_many = omega (arith, s.within, s.count, many); added = s.added }
+  is_filled many = record {
+    weights = s.weights;
+    defaults = s.defaults;
+    as_many = omega (arith, s.within, s.count, many);
+    added = s.added;
+  }
 
   pub is_part_filled : node_count now ≤ last → (new : Graph N E) → new ≡ now → IsPartFilled IsDefault last old new
   is_part_filled few new same = (

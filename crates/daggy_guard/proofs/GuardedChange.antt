@@ -1,5 +1,6 @@
 -- What a guard keeps, whether a change succeeded or left the graph as it was.
-use Rattle.std.proofs.Common.{◌≡◌, ℕ, ◌≤◌, length, Result, Ok, Err, OnOk, OnErr, IfOk, Option, Some, None, OnSome, IfNone, sym, ap, subst, ◌∙◌, arith}
+use Rattle.std.proofs.Common.{◌≡◌, ℕ, ◌≤◌, length, Result, Ok, Err, OnOk, OnErr, IfOk, Option, Some, None, OnSome}
+use Rattle.std.proofs.Common.{IfNone, sym, ap, subst, ◌∙◌, arith}
 use Rattle.daggy_base.specs.Graph.{Graph, HasNode, node_bound}
 use Rattle.daggy_base.specs.Path.{IsAcyclic}
 use Rattle.daggy_base.specs.Adding.{with_node, with_edge, next_edge, ComesFirst}
@@ -12,26 +13,35 @@ use Rattle.daggy_base.proofs.PathsWithNode.{fits_after}
 acyclic_kept : {N E : Type 0} (old new : Graph N E) → IsAcyclic old → new ≡ old → IsAcyclic new
 acyclic_kept {N} {E} old new acyclic same = let P : Graph N E → Type 0 = λ z. IsAcyclic z in subst P (sym same) acyclic
 
-pub node_fits : {R F N E : Type 0} (r : Result R F) (old new : Graph N E) (w : N) (slots before after : ℕ) → ((w : N) → length (with_node old w).nodes ≡ slots)
-    → node_bound old ≤ before → before ≤ after → slots ≤ after → OnOk r (new ≡ with_node old w) → OnErr r (new ≡ old) → node_bound new ≤ after
-node_fits (Ok n) old new w slots before after many had more capacity added kept = fits_after old new w slots after added many capacity
+pub node_fits : {R F N E : Type 0} (r : Result R F) (old new : Graph N E) (w : N) (slots before after : ℕ)
+    → ((w : N) → length (with_node old w).nodes ≡ slots)
+    → node_bound old ≤ before → before ≤ after → slots ≤ after → OnOk r (new ≡ with_node old w) → OnErr r (new ≡ old)
+    → node_bound new ≤ after
+node_fits (Ok n) old new w slots before after many had more capacity added kept =
+    fits_after old new w slots after added many capacity
 node_fits {R} {F} {N} {E} (Err e) old new w slots before after many had more capacity added kept =
     let P : Graph N E → Type 0 = λ z. node_bound z ≤ after in
     subst P (sym kept) (omega arith)
 
 -- a graph without the edge, whether it was there or not
 module _ {A N E : Type 0} (kind : Kind) (old new : Graph N E) (e : ℕ) where
-  pub acyclic_edge_gone : (r : Option A) → OnSome r (new ≡ without_edge kind old e) → IfNone r (new ≡ old) → IsAcyclic old → IsAcyclic new
+  pub acyclic_edge_gone : (r : Option A)
+      → OnSome r (new ≡ without_edge kind old e) → IfNone r (new ≡ old) → IsAcyclic old → IsAcyclic new
   acyclic_edge_gone None removed missing acyclic = acyclic_kept old new acyclic missing
-  acyclic_edge_gone (Some a) removed missing acyclic = acyclic_kept (without_edge kind old e) new (acyclic_without_edge kind old e acyclic) removed
+  acyclic_edge_gone (Some a) removed missing acyclic =
+      acyclic_kept (without_edge kind old e) new (acyclic_without_edge kind old e acyclic) removed
 
-  pub bound_edge_gone : (r : Option A) → OnSome r (new ≡ without_edge kind old e) → IfNone r (new ≡ old) → node_bound new ≡ node_bound old
+  pub bound_edge_gone : (r : Option A)
+      → OnSome r (new ≡ without_edge kind old e) → IfNone r (new ≡ old) → node_bound new ≡ node_bound old
   bound_edge_gone None removed missing = ap node_bound missing
   bound_edge_gone (Some a) removed missing = ap node_bound removed ∙ bound_same kind old e
 
 -- the edge that was added comes first in its two lists
-pub first_edge : {I F N E : Type 0} (number : I → ℕ) (end : ℕ) (r : Result I F) (old at new : Graph N E) (a b : ℕ) (w : E) → IsWellFormed end old → HasNode old a → HasNode old b → at ≡ old
-    → IfOk r (λ e. number e ≡ next_edge at) → OnOk r (new ≡ with_edge at a b w) → IfOk r (λ e. ComesFirst old new a b (number e))
+pub first_edge : {I F N E : Type 0} (number : I → ℕ) (end : ℕ) (r : Result I F) (old at new : Graph N E) (a b : ℕ)
+    (w : E)
+    → IsWellFormed end old → HasNode old a → HasNode old b → at ≡ old
+    → IfOk r (λ e. number e ≡ next_edge at) → OnOk r (new ≡ with_edge at a b w)
+    → IfOk r (λ e. ComesFirst old new a b (number e))
 first_edge {I} {F} {N} {E} number end (Ok e) old at new a b w f parent child same index added =
     let P : Graph N E → Type 0 = λ z. ComesFirst old z a b (number e) in
     let Q : ℕ → Type 0 = λ n. ComesFirst old (with_edge old a b w) a b n in

@@ -4,7 +4,8 @@ use Rattle.std.specs.List.{AllZip}
 use Rattle.std.specs.Iterator.{Yields, Drains}
 
 -- one item more
-pub yields_more : {S A : Type 0} (gives : S → Option A → S → Type 0) (s t u : S) (xs : List A) (x : A) (r : Option A) → Yields gives s xs t → gives t r u → r ≡ Some x → Yields gives s (xs ++ x ∷ []) u
+pub yields_more : {S A : Type 0} (gives : S → Option A → S → Type 0) (s t u : S) (xs : List A) (x : A) (r : Option A)
+    → Yields gives s xs t → gives t r u → r ≡ Some x → Yields gives s (xs ++ x ∷ []) u
 yields_more {S} {A} gives s t u [] x r y k is =
     let P : Option A → Type 0 = λ z. gives t z u in
     let Q : S → Type 0 = λ z. gives z (Some x) u in
@@ -12,11 +13,13 @@ yields_more {S} {A} gives s t u [] x r y k is =
 yields_more gives s t u (z ∷ zs) x r y k is = (y.0, y.1, yields_more gives y.0 t u zs x r y.2 k is)
 
 -- and none after that
-pub drained : {S A : Type 0} (gives : S → Option A → S → Type 0) (s t u : S) (ys : List A) (r : Option A) → Yields gives s ys t → gives t r u → r ≡ None → Drains gives s ys
+pub drained : {S A : Type 0} (gives : S → Option A → S → Type 0) (s t u : S) (ys : List A) (r : Option A)
+    → Yields gives s ys t → gives t r u → r ≡ None → Drains gives s ys
 drained {S} {A} gives s t u ys r y k is = (u, (t, y, (let P : Option A → Type 0 = λ z. gives t z u in subst P is k)))
 
 -- and what each item became
-pub zip_more : {A B : Type 0} (R : A → B → Type 0) (xs : List A) (ys : List B) (x : A) (y : B) → AllZip R xs ys → R x y → AllZip R (xs ++ x ∷ []) (ys ++ y ∷ [])
+pub zip_more : {A B : Type 0} (R : A → B → Type 0) (xs : List A) (ys : List B) (x : A) (y : B)
+    → AllZip R xs ys → R x y → AllZip R (xs ++ x ∷ []) (ys ++ y ∷ [])
 zip_more R [] [] x y all here = (here, tt)
 zip_more R [] (z ∷ zs) x y all here = absurd all
 zip_more R (z ∷ zs) [] x y all here = absurd all

@@ -1,5 +1,6 @@
 -- Why an edge is refused after a search, in the words of the code that asks for one.
-use Rattle.std.proofs.Common.{◌≡◌, ℕ, max, ◌↔◌, ◌⊎◌, inl, inr, Option, Some, None, IfSome, is_some, true, Result, Err, refl, sym, ap, subst, ◌∙◌}
+use Rattle.std.proofs.Common.{◌≡◌, ℕ, max, ◌↔◌, ◌⊎◌, inl, inr, Option, Some, None, IfSome, is_some, true, Result, Err}
+use Rattle.std.proofs.Common.{refl, sym, ap, subst, ◌∙◌}
 use Rattle.std.specs.Option.{option_map}
 use Rattle.std.proofs.lemmas.Bool.{false≢true}
 use Rattle.daggy_base.specs.Graph.{Graph}
@@ -10,12 +11,16 @@ use Rattle.daggy_guard.specs.EdgeBatch.{NewEdge, HasEnds}
 use Rattle.daggy_guard.specs.Elements.{IsEdgeRefused}
 use Rattle.daggy_guard.specs.Extension.{IsFilled, HasIndices, IsStopped}
 
-memory_no_cycle : {R E : Type 0} (result : Result R (EdgeError E)) (w : E) → result ≡ Err (Memory w) → result ≡ Err (WouldCycle (record { 0 = w })) → ⊥
+memory_no_cycle : {R E : Type 0} (result : Result R (EdgeError E)) (w : E)
+    → result ≡ Err (Memory w) → result ≡ Err (WouldCycle (record { 0 = w })) → ⊥
 memory_no_cycle result w a b = cc
 
 -- a refusal by a guard: want of memory, or a cycle exactly if a path leads back
-pub searched : {R E : Type 0} (result : Result R (EdgeError E)) (error : EdgeError E) (w : E) (P : EdgeError E → Type 0) (Back : Type 0) → result ≡ Err error
-    → ((result ≡ Err (WouldCycle (record { 0 = w }))) ↔ Back) → (error ≡ WouldCycle (record { 0 = w })) ⊎ (error ≡ Memory w)
+pub searched : {R E : Type 0} (result : Result R (EdgeError E)) (error : EdgeError E) (w : E) (P : EdgeError E → Type 0)
+    (Back : Type 0)
+    → result ≡ Err error
+    → ((result ≡ Err (WouldCycle (record { 0 = w }))) ↔ Back)
+    → (error ≡ WouldCycle (record { 0 = w })) ⊎ (error ≡ Memory w)
     → (Back → P (WouldCycle (record { 0 = w }))) → ((Back → ⊥) → P (Memory w)) → P error
 searched result error w P Back is cycle refusal by_cycle by_memory =
     elim refusal [
@@ -23,14 +28,23 @@ searched result error w P Back is cycle refusal by_cycle by_memory =
       | inr m ↦ subst P (sym m) (by_memory (λ back. memory_no_cycle result w (is ∙ ap Err m) (cycle.1 back)))
     ]
 
-pub stopped_after : {R N E : Type 0} (IsDefault : N → Type 0) (limit : ℕ) (old filled new : Graph N E) (x : NewEdge E) (result : Result R (EdgeError E)) (error : EdgeError E) → result ≡ Err error → new ≡ filled
+pub stopped_after : {R N E : Type 0} (IsDefault : N → Type 0) (limit : ℕ) (old filled new : Graph N E) (x : NewEdge E)
+    (result : Result R (EdgeError E)) (error : EdgeError E)
+    → result ≡ Err error → new ≡ filled
     → HasIndices IsDefault limit old x → IsFilled IsDefault (max x.0 x.1) old filled → HasEnds filled x
-    → ((result ≡ Err (WouldCycle (record { 0 = x.2 }))) ↔ Reaches filled x.1 x.0) → (error ≡ WouldCycle (record { 0 = x.2 })) ⊎ (error ≡ Memory x.2)
+    → ((result ≡ Err (WouldCycle (record { 0 = x.2 }))) ↔ Reaches filled x.1 x.0)
+    → (error ≡ WouldCycle (record { 0 = x.2 })) ⊎ (error ≡ Memory x.2)
     → IsStopped IsDefault limit old x error new
 stopped_after {R} {N} {E} IsDefault limit old filled new x result error is same indices nodes ends cycle refusal =
     let P : Graph N E → Type 0 = λ z. IsStopped IsDefault limit old x error z in
     let Q : EdgeError E → Type 0 = λ z. IsStopped IsDefault limit old x z filled in
-    subst P (sym same) (searched result error x.2 Q (Reaches filled x.1 x.0) is cycle refusal (λ back. (refl, indices, nodes, ends, back)) (λ apart. (refl, indices, nodes, ends, apart)))
+    subst P (sym same) (searched result error x.2 Q (Reaches filled x.1 x.0) is cycle refusal (λ back. (
+      refl,
+      indices,
+      nodes,
+      ends,
+      back,
+    )) (λ apart. (refl, indices, nodes, ends, apart)))
 
 -- where no found edge can have that property none is found
 pub none_found : (found : Option ℕ) (P : ℕ → Type 0) → IfSome found P → ((e : ℕ) → P e → ⊥) → found ≡ None
@@ -42,7 +56,8 @@ mapped_none f None none some = false≢true some
 mapped_none f (Some x) none some = cc
 
 -- the same edge by two names of its ends
-pub renamed_refusal : {N E : Type 0} (limit : ℕ) (g : Graph N E) (a b source target : ℕ) (w : E) (error : EdgeError E) → a ≡ source → b ≡ target → IsEdgeRefused limit g (a, b, w) error → IsEdgeRefused limit g (source, target, w) error
+pub renamed_refusal : {N E : Type 0} (limit : ℕ) (g : Graph N E) (a b source target : ℕ) (w : E) (error : EdgeError E)
+    → a ≡ source → b ≡ target → IsEdgeRefused limit g (a, b, w) error → IsEdgeRefused limit g (source, target, w) error
 renamed_refusal limit g a b source target w error a_is b_is refused =
     let P : ℕ → Type 0 = λ z. IsEdgeRefused limit g (z, b, w) error in
     let Q : ℕ → Type 0 = λ z. IsEdgeRefused limit g (source, z, w) error in

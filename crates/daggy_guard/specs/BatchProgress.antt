@@ -11,7 +11,8 @@ use Rattle.daggy_guard.specs.declared.edge_batch.Fault.{Fault}
 use Rattle.daggy_guard.specs.declared.edge_batch.Fault.TheVariants.{BadEndpoint, Full, Memory}
 
 -- now is before with the edges xs, which got these indices; slot_count is how many slots of edges there were before
-pub record IsBatchSoFar {N E : Type 0} (limit : ℕ) (kind : Kind) (before now : Graph N E) (xs : List (NewEdge E)) (indices : List ℕ) (slot_count : ℕ) : Type 0 where
+pub record IsBatchSoFar {N E : Type 0} (limit : ℕ) (kind : Kind) (before now : Graph N E) (xs : List (NewEdge E))
+    (indices : List ℕ) (slot_count : ℕ) : Type 0 where
   pub now_is : now ≡ with_edges before xs
   pub indices_are : indices ≡ new_edges before xs
   pub well_formed : (k : ℕ) → k < length xs → IsWellFormed limit (with_edges before (take k xs))
@@ -30,7 +31,8 @@ refusal (BadEndpoint w) before = edges.BadEndpoint w before
 refusal (Full w) before = edges.Full w before
 refusal (Memory w) before = edges.Memory w before
 
--- how many edges were looked at, at most, for one edge more: only a missing end or index is seen before way is made for it
+-- how many edges were looked at, at most, for one edge more: only a missing end or index is seen before way is made for
+-- it
 abbrev pub item_looks : {R E : Type 0} → (edges : ℕ) → Result R (Fault E) → ℕ
 item_looks edges (Ok r) = edges
 item_looks edges (Err (BadEndpoint w)) = 0

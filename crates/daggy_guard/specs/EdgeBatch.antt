@@ -1,5 +1,6 @@
 -- Batches of edges: all are added in their order, or none is.
-use Rattle.std.specs.Prelude.{◌≡◌, ℕ, zero, suc, ◌+◌, ◌<◌, ◌≤◌, List, [], ◌∷◌, ◌++◌, length, map, reverse, Option, Result, Ok, Err}
+use Rattle.std.specs.Prelude.{◌≡◌, ℕ, zero, suc, ◌+◌, ◌<◌, ◌≤◌, List, [], ◌∷◌, ◌++◌, length, map, reverse, Option}
+use Rattle.std.specs.Prelude.{Result, Ok, Err}
 use Rattle.std.specs.Iterator.{Yields, Drains}
 use Rattle.daggy_base.specs.Graph.{Graph, HasNode, edge_count}
 use Rattle.daggy_base.specs.Path.{Reaches, IsAcyclic}
@@ -66,7 +67,8 @@ module _ {I N E S : Type 0} (number : I → ℕ) (limit : ℕ) (gives : S → Op
     pub accepted : AreAccepted old (map (by_numbers number) given)
 
   -- the first edge at fault, which was the last that was asked for
-  pub record IsFirstFault (IsCause : Graph N E → NewEdge E → Type 0) (g : Graph N E) (last : E) (before : List E) : Type 0 where
+  pub record IsFirstFault (IsCause : Graph N E → NewEdge E → Type 0) (g : Graph N E) (last : E)
+      (before : List E) : Type 0 where
     pub given : List (I × I × E)
     pub at : I × I × E
     pub rest : S
@@ -97,7 +99,8 @@ abbrev pub ordering_looks : (edges count : ℕ) → ℕ
 ordering_looks edges zero = 0
 ordering_looks edges (suc count) = ordering_looks edges count + (edges + count)
 
--- how many edges were looked at, at most. Where memory is missing it may be missing after way was made for the last edge
+-- how many edges were looked at, at most. Where memory is missing it may be missing after way was made for the last
+-- edge
 abbrev pub most_looks : {N E : Type 0} → Graph N E → Result (List ℕ) (EdgesError E) → ℕ
 most_looks g (Ok edges) = ordering_looks (edge_count g) (length edges)
 most_looks g (Err (WouldCycle w)) = ordering_looks (edge_count g) (length w.0.items)

@@ -51,13 +51,15 @@ module _ {N E : Type 0} (IsDefault : N → Type 0) where
   abbrev pub IsStopped : (limit : ℕ) → (old : Graph N E) → NewEdge E → EdgeError E → (new : Graph N E) → Type 0
   IsStopped limit old x (Full w) new = (w ≡ x.2) × (HasIndices limit old x → ⊥) × (new ≡ old)
   IsStopped limit old x (NodeMemory w) new = (w ≡ x.2) × HasIndices limit old x × IsPartFilled (max x.0 x.1) old new
-  IsStopped limit old x (BadEndpoint w) new = (w ≡ x.2) × HasIndices limit old x × IsFilled (max x.0 x.1) old new × LacksEnd new x
+  IsStopped limit old x (BadEndpoint w) new =
+      (w ≡ x.2) × HasIndices limit old x × IsFilled (max x.0 x.1) old new × LacksEnd new x
   IsStopped limit old x (WouldCycle w) new =
       (w.0 ≡ x.2) × HasIndices limit old x × IsFilled (max x.0 x.1) old new × HasEnds new x × Reaches new x.1 x.0
   IsStopped limit old x (Memory w) new =
       (w ≡ x.2) × HasIndices limit old x × IsFilled (max x.0 x.1) old new × HasEnds new x × (Reaches new x.1 x.0 → ⊥)
 
-  module _ {I A S : Type 0} (number : I → ℕ) (limit : ℕ) (becomes : A → I × I × E → Type 0) (gives : S → Option A → S → Type 0) (items : S) where
+  module _ {I A S : Type 0} (number : I → ℕ) (limit : ℕ) (becomes : A → I × I × E → Type 0)
+      (gives : S → Option A → S → Type 0) (items : S) where
     -- extended by all the edges that the items become
     pub record Extends (old new : Graph N E) : Type 0 where
       pub given : List A

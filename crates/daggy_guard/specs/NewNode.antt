@@ -8,7 +8,8 @@ use Rattle.daggy_base.specs.declared.index.Direction.{Direction}
 use Rattle.daggy_base.specs.declared.index.Direction.TheVariants.{Outgoing, Incoming}
 
 -- now is old with the node n of weight w; slot_count is how many slots of nodes there were before
-pub record IsAddedNode {N E : Type 0} (limit : ℕ) (kind : Kind) (old now : Graph N E) (w : N) (n slot_count : ℕ) : Type 0 where
+pub record IsAddedNode {N E : Type 0} (limit : ℕ) (kind : Kind) (old now : Graph N E) (w : N)
+    (n slot_count : ℕ) : Type 0 where
   pub well_formed : IsWellFormed limit old
   pub compact : kind ≡ Compact → old.vacant_nodes ≡ []
   pub now_is : now ≡ with_node old w

@@ -1,12 +1,15 @@
 //! Many edges at once: all or none.
-ghost use Rattle.std.specs.Prelude.{◌≡◌, ℕ, ◌+◌, ◌<◌, ◌≤◌, true, false, List, [], ◌∷◌, ◌++◌, length, map, reverse, vec_len, vec_capacity, IfOk, OnOk, IfErr, OnErr};
+ghost use Rattle.std.specs.Prelude.{◌≡◌, ℕ, ◌+◌, ◌<◌, ◌≤◌, true, false, List, [], ◌∷◌, ◌++◌};
+ghost use Rattle.std.specs.Prelude.{length, map, reverse, vec_len, vec_capacity, IfOk, OnOk, IfErr};
+ghost use Rattle.std.specs.Prelude.{OnErr};
 ghost use Rattle.std.specs.Iterator.{IsFinite, IsFiniteIterable};
 ghost use Rattle.daggy_base.specs.Graph.{Graph, HasNode, node_bound, edge_count};
 ghost use Rattle.daggy_base.specs.Path.{Reaches, IsAcyclic};
 ghost use Rattle.daggy_base.specs.Adding.{with_edge, next_edge};
 ghost use Rattle.daggy_base.specs.WellFormed.{IsWellFormed};
 ghost use Rattle.daggy_order.specs.Ordered.{IsOrderOf, place};
-ghost use Rattle.daggy_guard.specs.EdgeBatch.{NewEdge, by_numbers, HasEnds, IsAdded, IsRefused, most_looks};
+ghost use Rattle.daggy_guard.specs.EdgeBatch.{NewEdge, by_numbers, HasEnds, IsAdded, IsRefused};
+ghost use Rattle.daggy_guard.specs.EdgeBatch.{most_looks};
 ghost use Rattle.daggy_guard.specs.BatchProgress.{IsBatchSoFar, IsFault, item_looks, refusal};
 
 use crate::edge_indices::EdgeIndices;
@@ -45,13 +48,17 @@ fn roll_back<Ix: IndexType, S: Store<Ix>>(
     weights: &mut Vec<S::EdgeWeight>,
 )
     requires batch { (before : Graph S.NodeWeight S.EdgeWeight) × (xs : List (NewEdge S.EdgeWeight))
-        × IsBatchSoFar Ix.greatest S.kind before (S.graph store.old) xs (map Ix.number edges.now) slot_count }
+        × IsBatchSoFar Ix.greatest S.kind before (S.graph store.old) xs (map Ix.number edges.now)
+        slot_count }
     requires empty { weights.old.items ≡ [] }
     requires capacity { vec_len weights.old + length edges.now ≤ vec_capacity weights.old }
     ensures undone { (before : Graph S.NodeWeight S.EdgeWeight) (xs : List (NewEdge S.EdgeWeight))
-        → IsBatchSoFar Ix.greatest S.kind before (S.graph store.old) xs (map Ix.number edges.now) slot_count → S.graph store.new ≡ before }
+        → IsBatchSoFar Ix.greatest S.kind before (S.graph store.old) xs (map Ix.number edges.now)
+        slot_count
+        → S.graph store.new ≡ before }
     ensures returned { (before : Graph S.NodeWeight S.EdgeWeight) (xs : List (NewEdge S.EdgeWeight))
-        → IsBatchSoFar Ix.greatest S.kind before (S.graph store.old) xs (map Ix.number edges.now) slot_count
+        → IsBatchSoFar Ix.greatest S.kind before (S.graph store.old) xs (map Ix.number edges.now)
+        slot_count
         → weights.new.items ≡ reverse (map (λ x. x.2) xs) }
     ensures counted { S.looks store.new ≡ S.looks store.old }
 {
@@ -81,8 +88,10 @@ fn order_item<Ix: IndexType, S: Store<Ix>>(
     requires ordered { cyclic ≡ false → IsOrderOf (S.graph store.old) order.old }
     ensures stays { cyclic ≡ true → (result ≡ true) × (order.new ≡ order.old) }
     ensures ordered { cyclic ≡ false → IsOrderOf (S.graph store.old) order.new }
-    ensures before { result ≡ false → place order.new (Ix.number a) < place order.new (Ix.number b) }
-    ensures closed { cyclic ≡ false → result ≡ true → Reaches (S.graph store.old) (Ix.number b) (Ix.number a) }
+    ensures before { result ≡ false
+        → place order.new (Ix.number a) < place order.new (Ix.number b) }
+    ensures closed { cyclic ≡ false → result ≡ true
+        → Reaches (S.graph store.old) (Ix.number b) (Ix.number a) }
     ensures same { S.graph store.new ≡ S.graph store.old }
     ensures counted { S.looks store.new ≤ S.looks store.old + edge_count (S.graph store.old) }
     ensures same_capacity { scratch.new ≡ scratch.old }
@@ -105,22 +114,27 @@ fn add_item<Ix: IndexType, S: Store<Ix>>(
     requires capacity { vec_len weights.old + vec_len edges.old ≤ vec_capacity weights.old }
     requires fits { node_bound (S.graph store.old) ≤ scratch.old.nodes }
     requires ordered { cyclic.old ≡ false → IsOrderOf (S.graph store.old) order.old }
-    ensures refused { IfErr result (λ fault. IsFault Ix.greatest (S.graph store.old) (by_numbers Ix.number item) fault) }
+    ensures refused { IfErr result (λ fault.
+        IsFault Ix.greatest (S.graph store.old) (by_numbers Ix.number item) fault) }
     ensures well_formed { IsWellFormed Ix.greatest (S.graph store.old) }
     ensures unchanged { OnErr result (S.graph store.new ≡ S.graph store.old) }
     ensures kept { OnErr result (edges.new.items ≡ edges.old.items) }
     ensures ends { OnOk result (HasEnds (S.graph store.old) (by_numbers Ix.number item)) }
     ensures index_left { OnOk result (edge_count (S.graph store.old) < Ix.greatest) }
-    ensures added { OnOk result (S.graph store.new ≡ with_edge (S.graph store.old) (Ix.number item.0) (Ix.number item.1) item.2) }
-    ensures noted { OnOk result (map Ix.number edges.new.items ≡ map Ix.number edges.old.items ++ next_edge (S.graph store.old) ∷ []) }
+    ensures added { OnOk result (S.graph store.new
+        ≡ with_edge (S.graph store.old) (Ix.number item.0) (Ix.number item.1) item.2) }
+    ensures noted { OnOk result (map Ix.number edges.new.items
+        ≡ map Ix.number edges.old.items ++ next_edge (S.graph store.old) ∷ []) }
     ensures weights { weights.new.items ≡ weights.old.items }
     ensures capacity { vec_len weights.new + vec_len edges.new ≤ vec_capacity weights.new }
     ensures stays { cyclic.old ≡ true → (cyclic.new ≡ true) × (order.new ≡ order.old) }
     ensures ordered { cyclic.old ≡ false → IsOrderOf (S.graph store.old) order.new }
-    ensures before { OnOk result (cyclic.new ≡ false → place order.new (Ix.number item.0) < place order.new (Ix.number item.1)) }
+    ensures before { OnOk result (cyclic.new ≡ false
+        → place order.new (Ix.number item.0) < place order.new (Ix.number item.1)) }
     ensures closed { OnOk result (cyclic.old ≡ false → cyclic.new ≡ true
         → Reaches (S.graph store.old) (Ix.number item.1) (Ix.number item.0)) }
-    ensures counted { S.looks store.new ≤ S.looks store.old + item_looks (edge_count (S.graph store.old)) result }
+    ensures counted { S.looks store.new
+        ≤ S.looks store.old + item_looks (edge_count (S.graph store.old)) result }
     ensures scratch_kept { scratch.new ≡ scratch.old }
 {
     let _well_formed = store.node_count();
@@ -159,13 +173,16 @@ fn add_all<
     requires ends { IsFinite (I.remaining items) }
     requires fits { node_bound (S.graph store.old) ≤ scratch.old.nodes }
     requires ordered { IsOrderOf (S.graph store.old) order.old }
-    ensures added { IfOk result (λ edges. IsAdded Ix.number Ix.greatest I.next_gives items (S.graph store.old) (S.graph store.new) edges) }
-    ensures refused { IfErr result (λ error. IsRefused Ix.number Ix.greatest I.next_gives items (S.graph store.old) error) }
+    ensures added { IfOk result (λ edges. IsAdded Ix.number Ix.greatest I.next_gives items
+        (S.graph store.old) (S.graph store.new) edges) }
+    ensures refused { IfErr result (λ error.
+        IsRefused Ix.number Ix.greatest I.next_gives items (S.graph store.old) error) }
     ensures unchanged { OnErr result (S.graph store.new ≡ S.graph store.old) }
     ensures ordered { IsOrderOf (S.graph store.new) order.new }
     ensures fits { node_bound (S.graph store.new) ≤ scratch.new.nodes }
     ensures same_capacity { scratch.new ≡ scratch.old }
-    ensures counted { S.looks store.new ≤ S.looks store.old + most_looks (S.graph store.old) result }
+    ensures counted { S.looks store.new
+        ≤ S.looks store.old + most_looks (S.graph store.old) result }
 {
     let alloc = scratch.allocator();
     let slot_count = store.edge_slots();
@@ -207,11 +224,13 @@ pub fn add_edges<
     scratch: &mut Scratch<Ix>,
     items: I,
 ) -> Result<EdgeIndices<Ix>, EdgesError<S::EdgeWeight>>
-    requires ends { IsFiniteIterable I.into_iter_gives I.IntoIter.can_next I.IntoIter.remaining items }
+    requires ends { IsFiniteIterable I.into_iter_gives I.IntoIter.can_next I.IntoIter.remaining
+        items }
     requires fits { node_bound (S.graph store.old) ≤ scratch.old.nodes }
     requires ordered { IsOrderOf (S.graph store.old) order.old }
     ensures added { IfOk result (λ edges. (it : I.IntoIter) × I.into_iter_gives items it
-        × IsAdded Ix.number Ix.greatest I.IntoIter.next_gives it (S.graph store.old) (S.graph store.new) edges) }
+        × IsAdded Ix.number Ix.greatest I.IntoIter.next_gives it (S.graph store.old)
+        (S.graph store.new) edges) }
     ensures refused { IfErr result (λ error. (it : I.IntoIter) × I.into_iter_gives items it
         × IsRefused Ix.number Ix.greatest I.IntoIter.next_gives it (S.graph store.old) error) }
     ensures unchanged { OnErr result (S.graph store.new ≡ S.graph store.old) }
@@ -219,7 +238,8 @@ pub fn add_edges<
     ensures ordered { IsOrderOf (S.graph store.new) order.new }
     ensures fits { node_bound (S.graph store.new) ≤ scratch.new.nodes }
     ensures same_capacity { scratch.new ≡ scratch.old }
-    ensures counted { S.looks store.new ≤ S.looks store.old + most_looks (S.graph store.old) result }
+    ensures counted { S.looks store.new
+        ≤ S.looks store.old + most_looks (S.graph store.old) result }
 {
     add_all(store, order, scratch, items.into_iter())
 }

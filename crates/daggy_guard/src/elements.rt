@@ -4,7 +4,8 @@ ghost use Rattle.std.specs.Iterator.{IsFinite, IsFiniteIterable};
 ghost use Rattle.daggy_base.specs.Graph.{HasNode, node_bound};
 ghost use Rattle.daggy_base.specs.Path.{IsAcyclic};
 ghost use Rattle.daggy_order.specs.Ordered.{IsOrderOf};
-ghost use Rattle.daggy_guard.specs.Elements.{IsJoined, IsEdgeRefused, WithElement, IsElementRefused, IsMade, IsUnmade};
+ghost use Rattle.daggy_guard.specs.Elements.{IsJoined, IsEdgeRefused, WithElement};
+ghost use Rattle.daggy_guard.specs.Elements.{IsElementRefused, IsMade, IsUnmade};
 
 use crate::guard::{add_node, update_edge};
 use daggy_base::element::Element;
@@ -42,8 +43,10 @@ fn join<Ix: IndexType, S: Store<Ix>>(
 ) -> Result<(), EdgeError<S::EdgeWeight>>
     requires fits { node_bound (S.graph store.old) ≤ scratch.old.nodes }
     requires ordered { IsOrderOf (S.graph store.old) order.old }
-    ensures joined { OnOk result (IsJoined Ix.greatest (S.graph store.old) (source, target, weight) (S.graph store.new)) }
-    ensures refused { IfErr result (λ error. IsEdgeRefused Ix.greatest (S.graph store.old) (source, target, weight) error) }
+    ensures joined { OnOk result
+        (IsJoined Ix.greatest (S.graph store.old) (source, target, weight) (S.graph store.new)) }
+    ensures refused { IfErr result (λ error.
+        IsEdgeRefused Ix.greatest (S.graph store.old) (source, target, weight) error) }
     ensures unchanged { OnErr result (S.graph store.new ≡ S.graph store.old) }
     ensures ordered { IsOrderOf (S.graph store.new) order.new }
     ensures fits { node_bound (S.graph store.new) ≤ scratch.new.nodes }
@@ -72,8 +75,10 @@ fn add_element<Ix: IndexType, S: Store<Ix>>(
 ) -> Result<(), ElementError<S::NodeWeight, S::EdgeWeight>>
     requires fits { node_bound (S.graph store.old) ≤ scratch.old.nodes }
     requires ordered { IsOrderOf (S.graph store.old) order.old }
-    ensures added { OnOk result (WithElement Ix.greatest (S.graph store.old) element (S.graph store.new)) }
-    ensures refused { IfErr result (λ error. IsElementRefused Ix.greatest (S.graph store.old) element error) }
+    ensures added { OnOk result
+        (WithElement Ix.greatest (S.graph store.old) element (S.graph store.new)) }
+    ensures refused { IfErr result (λ error.
+        IsElementRefused Ix.greatest (S.graph store.old) element error) }
     ensures unchanged { OnErr result (S.graph store.new ≡ S.graph store.old) }
     ensures ordered { IsOrderOf (S.graph store.new) order.new }
     ensures fits { node_bound (S.graph store.new) ≤ scratch.new.nodes }
@@ -110,8 +115,10 @@ fn add_all<Ix: IndexType, S: Store<Ix>, I: Iterator<Item = Element<S::NodeWeight
     requires ends { IsFinite (I.remaining items) }
     requires fits { node_bound (S.graph store.old) ≤ scratch.old.nodes }
     requires ordered { IsOrderOf (S.graph store.old) order.old }
-    ensures made { OnOk result (IsMade Ix.greatest I.next_gives items (S.graph store.old) (S.graph store.new)) }
-    ensures refused { IfErr result (λ error. IsUnmade Ix.greatest I.next_gives items (S.graph store.old) error) }
+    ensures made { OnOk result
+        (IsMade Ix.greatest I.next_gives items (S.graph store.old) (S.graph store.new)) }
+    ensures refused { IfErr result (λ error.
+        IsUnmade Ix.greatest I.next_gives items (S.graph store.old) error) }
     ensures ordered { IsOrderOf (S.graph store.new) order.new }
     ensures fits { node_bound (S.graph store.new) ≤ scratch.new.nodes }
 {
@@ -135,7 +142,8 @@ pub fn add_elements<
     scratch: &mut Scratch<Ix>,
     items: I,
 ) -> Result<(), ElementError<S::NodeWeight, S::EdgeWeight>>
-    requires ends { IsFiniteIterable I.into_iter_gives I.IntoIter.can_next I.IntoIter.remaining items }
+    requires ends { IsFiniteIterable I.into_iter_gives I.IntoIter.can_next I.IntoIter.remaining
+        items }
     requires fits { node_bound (S.graph store.old) ≤ scratch.old.nodes }
     requires ordered { IsOrderOf (S.graph store.old) order.old }
     ensures made { OnOk result ((it : I.IntoIter) × I.into_iter_gives items it

@@ -4,7 +4,8 @@ ghost use Rattle.std.specs.Iterator.{IsFinite, IsFiniteIterable};
 ghost use Rattle.daggy_base.specs.Graph.{node_bound, edge_count};
 ghost use Rattle.daggy_base.specs.Path.{IsAcyclic};
 ghost use Rattle.daggy_order.specs.Ordered.{IsOrderOf};
-ghost use Rattle.daggy_guard.specs.Extension.{IsFilled, IsPartFilled, IsExtended, IsStopped, Extends, Stops, extension_looks};
+ghost use Rattle.daggy_guard.specs.Extension.{IsFilled, IsPartFilled, IsExtended, IsStopped};
+ghost use Rattle.daggy_guard.specs.Extension.{Extends, Stops, extension_looks};
 
 use crate::guard::{add_edge, add_node};
 use daggy_base::element::IntoWeightedEdge;
@@ -27,8 +28,10 @@ where
     requires low { last < Ix.greatest }
     requires fits { node_bound (S.graph store.old) ≤ scratch.old.nodes }
     requires ordered { IsOrderOf (S.graph store.old) order.old }
-    ensures filled { OnOk result (IsFilled S.NodeWeight.is_default last (S.graph store.old) (S.graph store.new)) }
-    ensures part { OnErr result (IsPartFilled S.NodeWeight.is_default last (S.graph store.old) (S.graph store.new)) }
+    ensures filled { OnOk result
+        (IsFilled S.NodeWeight.is_default last (S.graph store.old) (S.graph store.new)) }
+    ensures part { OnErr result
+        (IsPartFilled S.NodeWeight.is_default last (S.graph store.old) (S.graph store.new)) }
     ensures ordered { IsOrderOf (S.graph store.new) order.new }
     ensures fits { node_bound (S.graph store.new) ≤ scratch.new.nodes }
     ensures edges { edge_count (S.graph store.new) ≡ edge_count (S.graph store.old) }
@@ -56,13 +59,17 @@ where
     S::NodeWeight: Default,
     requires fits { node_bound (S.graph store.old) ≤ scratch.old.nodes }
     requires ordered { IsOrderOf (S.graph store.old) order.old }
-    ensures extended { OnOk result (IsExtended S.NodeWeight.is_default Ix.greatest (S.graph store.old) (Ix.number a, Ix.number b, weight) (S.graph store.new)) }
-    ensures stopped { IfErr result (λ error. IsStopped S.NodeWeight.is_default Ix.greatest (S.graph store.old) (Ix.number a, Ix.number b, weight) error (S.graph store.new)) }
+    ensures extended { OnOk result (IsExtended S.NodeWeight.is_default Ix.greatest
+        (S.graph store.old) (Ix.number a, Ix.number b, weight) (S.graph store.new)) }
+    ensures stopped { IfErr result (λ error. IsStopped S.NodeWeight.is_default Ix.greatest
+        (S.graph store.old) (Ix.number a, Ix.number b, weight) error (S.graph store.new)) }
     ensures ordered { IsOrderOf (S.graph store.new) order.new }
     ensures fits { node_bound (S.graph store.new) ≤ scratch.new.nodes }
     ensures counted { S.looks store.new ≤ S.looks store.old + edge_count (S.graph store.new) }
-    ensures more { OnOk result (edge_count (S.graph store.new) ≡ edge_count (S.graph store.old) + 1) }
-    ensures as_many { OnErr result (edge_count (S.graph store.new) ≡ edge_count (S.graph store.old)) }
+    ensures more { OnOk result
+        (edge_count (S.graph store.new) ≡ edge_count (S.graph store.old) + 1) }
+    ensures as_many { OnErr result
+        (edge_count (S.graph store.new) ≡ edge_count (S.graph store.old)) }
 {
     let end = NodeIndex::<Ix>::end().index();
     let u = a.index();
@@ -100,11 +107,14 @@ where
     requires ends { IsFinite (I.remaining items) }
     requires fits { node_bound (S.graph store.old) ≤ scratch.old.nodes }
     requires ordered { IsOrderOf (S.graph store.old) order.old }
-    ensures extended { OnOk result (Extends S.NodeWeight.is_default Ix.number Ix.greatest T.edge_gives I.next_gives items (S.graph store.old) (S.graph store.new)) }
-    ensures stopped { IfErr result (λ error. Stops S.NodeWeight.is_default Ix.number Ix.greatest T.edge_gives I.next_gives items (S.graph store.old) error (S.graph store.new)) }
+    ensures extended { OnOk result (Extends S.NodeWeight.is_default Ix.number Ix.greatest
+        T.edge_gives I.next_gives items (S.graph store.old) (S.graph store.new)) }
+    ensures stopped { IfErr result (λ error. Stops S.NodeWeight.is_default Ix.number Ix.greatest
+        T.edge_gives I.next_gives items (S.graph store.old) error (S.graph store.new)) }
     ensures ordered { IsOrderOf (S.graph store.new) order.new }
     ensures fits { node_bound (S.graph store.new) ≤ scratch.new.nodes }
-    ensures counted { S.looks store.new ≤ S.looks store.old + extension_looks (S.graph store.old) (S.graph store.new) }
+    ensures counted { S.looks store.new
+        ≤ S.looks store.old + extension_looks (S.graph store.old) (S.graph store.new) }
 {
     'items: for item in items {
         let (a, b, weight) = item.into_weighted_edge();
@@ -116,7 +126,8 @@ where
     Ok(())
 }
 
-/// Adds the edges that `items` gives, one by one, up to the first one that is refused. What was added stays.
+/// Adds the edges that `items` gives, one by one, up to the first one that is refused. What was
+/// added stays.
 pub fn extend_with_edges<
     Ix: IndexType,
     S: Store<Ix>,
@@ -130,17 +141,21 @@ pub fn extend_with_edges<
 ) -> Result<(), EdgeError<S::EdgeWeight>>
 where
     S::NodeWeight: Default,
-    requires ends { IsFiniteIterable I.into_iter_gives I.IntoIter.can_next I.IntoIter.remaining items }
+    requires ends { IsFiniteIterable I.into_iter_gives I.IntoIter.can_next I.IntoIter.remaining
+        items }
     requires fits { node_bound (S.graph store.old) ≤ scratch.old.nodes }
     requires ordered { IsOrderOf (S.graph store.old) order.old }
     ensures extended { OnOk result ((it : I.IntoIter) × I.into_iter_gives items it
-        × Extends S.NodeWeight.is_default Ix.number Ix.greatest T.edge_gives I.IntoIter.next_gives it (S.graph store.old) (S.graph store.new)) }
+        × Extends S.NodeWeight.is_default Ix.number Ix.greatest T.edge_gives I.IntoIter.next_gives
+        it (S.graph store.old) (S.graph store.new)) }
     ensures stopped { IfErr result (λ error. (it : I.IntoIter) × I.into_iter_gives items it
-        × Stops S.NodeWeight.is_default Ix.number Ix.greatest T.edge_gives I.IntoIter.next_gives it (S.graph store.old) error (S.graph store.new)) }
+        × Stops S.NodeWeight.is_default Ix.number Ix.greatest T.edge_gives I.IntoIter.next_gives it
+        (S.graph store.old) error (S.graph store.new)) }
     ensures acyclic { IsAcyclic (S.graph store.new) }
     ensures ordered { IsOrderOf (S.graph store.new) order.new }
     ensures fits { node_bound (S.graph store.new) ≤ scratch.new.nodes }
-    ensures counted { S.looks store.new ≤ S.looks store.old + extension_looks (S.graph store.old) (S.graph store.new) }
+    ensures counted { S.looks store.new
+        ≤ S.looks store.old + extension_looks (S.graph store.old) (S.graph store.new) }
 {
     extend_all(store, order, scratch, items.into_iter())
 }

@@ -1,15 +1,20 @@
 //! The changes that keep any store acyclic. Both kinds of dag are made of them.
-ghost use Rattle.std.specs.Prelude.{◌≡◌, ℕ, ◌+◌, ◌<◌, ◌≤◌, ◌↔◌, ◌⊎◌, true, false, List, Contains, map, Err, None, IfOk, OnOk, IfErr, OnErr, OnSome, IfSome, IfNone, IsOkAnd};
-ghost use Rattle.daggy_base.specs.Graph.{Graph, HasNode, node_weight, node_count, edge_count, node_bound};
+ghost use Rattle.std.specs.Prelude.{◌≡◌, ℕ, ◌+◌, ◌<◌, ◌≤◌, ◌↔◌, ◌⊎◌, true, false, List, Contains};
+ghost use Rattle.std.specs.Prelude.{map, Err, None, IfOk, OnOk, IfErr, OnErr, OnSome, IfSome};
+ghost use Rattle.std.specs.Prelude.{IfNone, IsOkAnd};
+ghost use Rattle.daggy_base.specs.Graph.{Graph, HasNode, node_weight, node_count, edge_count};
+ghost use Rattle.daggy_base.specs.Graph.{node_bound};
 ghost use Rattle.daggy_base.specs.Path.{Reaches, IsAcyclic};
-ghost use Rattle.daggy_base.specs.Adding.{next_node, next_edge, with_node, with_edge, with_link, with_neighbor, ComesFirst};
+ghost use Rattle.daggy_base.specs.Adding.{next_node, next_edge, with_node, with_edge, with_link};
+ghost use Rattle.daggy_base.specs.Adding.{with_neighbor, ComesFirst};
 ghost use Rattle.daggy_base.specs.Finding.{find_edge as edge_between};
 ghost use Rattle.daggy_base.specs.Weights.{edge_weight, with_edge_weight};
 ghost use Rattle.daggy_base.specs.Removal.{without, renamed, without_edge, without_node};
 ghost use Rattle.daggy_order.specs.Ordered.{IsOrderOf};
 ghost use Rattle.daggy_guard.specs.NewNode.{IsAddedNode, with_end};
 ghost use Rattle.daggy_base.specs.declared.error.NodeError.TheVariants.{Memory as NodeMemory};
-ghost use Rattle.daggy_base.specs.declared.error.EdgeError.TheVariants.{WouldCycle as ByCycle, Memory as EdgeMemory};
+ghost use Rattle.daggy_base.specs.declared.error.EdgeError.TheVariants.{WouldCycle as ByCycle};
+ghost use Rattle.daggy_base.specs.declared.error.EdgeError.TheVariants.{Memory as EdgeMemory};
 ghost use Rattle.daggy_base.specs.declared.error.ChildError.TheVariants.{Memory as ChildMemory};
 
 use daggy_base::error::{ChildError, EdgeError, NodeError, WouldCycle};
@@ -19,7 +24,8 @@ use daggy_base::store::Store;
 use daggy_order::order::{Order, order_edge};
 use std::alloc::AllocError;
 
-// Puts a new node last in an order, where edges are to lead to it, or first, where they are to leave it.
+// Puts a new node last in an order, where edges are to lead to it, or first, where they are to
+// leave it.
 #[inline]
 fn put<Ix: IndexType>(
     order: &mut Order<Ix>,
@@ -37,8 +43,8 @@ fn put<Ix: IndexType>(
     }
 }
 
-// Takes back a node that was just added, and hands its weight back. There were so many slots before.
-// Apart, so that what is inlined stays small.
+// Takes back a node that was just added, and hands its weight back. There were so many slots
+// before. Apart, so that what is inlined stays small.
 #[cold]
 #[inline(never)]
 fn take_back<Ix: IndexType, S: Store<Ix>>(
@@ -49,15 +55,18 @@ fn take_back<Ix: IndexType, S: Store<Ix>>(
     requires added { (old : Graph S.NodeWeight S.EdgeWeight) × (w : S.NodeWeight)
         × IsAddedNode Ix.greatest S.kind old (S.graph store.old) w (Ix.number n) slot_count }
     ensures undone { (old : Graph S.NodeWeight S.EdgeWeight) (w : S.NodeWeight)
-        → IsAddedNode Ix.greatest S.kind old (S.graph store.old) w (Ix.number n) slot_count → S.graph store.new ≡ old }
+        → IsAddedNode Ix.greatest S.kind old (S.graph store.old) w (Ix.number n) slot_count
+        → S.graph store.new ≡ old }
     ensures returned { (old : Graph S.NodeWeight S.EdgeWeight) (w : S.NodeWeight)
-        → IsAddedNode Ix.greatest S.kind old (S.graph store.old) w (Ix.number n) slot_count → result ≡ w }
+        → IsAddedNode Ix.greatest S.kind old (S.graph store.old) w (Ix.number n) slot_count
+        → result ≡ w }
     ensures counted { S.looks store.new ≡ S.looks store.old }
 {
     store.take_back_node(n, slot_count <= n.index())
 }
 
-// Adds a node, and puts it last in the order, or first. The scratch fits a search of the graph with that node then.
+// Adds a node, and puts it last in the order, or first. The scratch fits a search of the graph with
+// that node then.
 #[inline]
 fn put_node<Ix: IndexType, S: Store<Ix>>(
     store: &mut S,
@@ -96,7 +105,8 @@ fn put_node<Ix: IndexType, S: Store<Ix>>(
     }
 }
 
-/// Adds a node, which stands last in the order, after the scratch fits a search of the graph with that node.
+/// Adds a node, which stands last in the order, after the scratch fits a search of the graph with
+/// that node.
 #[inline]
 pub fn add_node<Ix: IndexType, S: Store<Ix>>(
     store: &mut S,
@@ -136,16 +146,20 @@ pub fn add_edge<Ix: IndexType, S: Store<Ix>>(
     requires index_left { edge_count (S.graph store.old) < Ix.greatest }
     requires fits { node_bound (S.graph store.old) ≤ scratch.old.nodes }
     requires ordered { IsOrderOf (S.graph store.old) order.old }
-    ensures cycle { (result ≡ Err (ByCycle (record { 0 = weight }))) ↔ Reaches (S.graph store.old) (Ix.number b) (Ix.number a) }
-    ensures refusal { IfErr result (λ e. (e ≡ ByCycle (record { 0 = weight })) ⊎ (e ≡ EdgeMemory weight)) }
+    ensures cycle { (result ≡ Err (ByCycle (record { 0 = weight })))
+        ↔ Reaches (S.graph store.old) (Ix.number b) (Ix.number a) }
+    ensures refusal { IfErr result (λ e.
+        (e ≡ ByCycle (record { 0 = weight })) ⊎ (e ≡ EdgeMemory weight)) }
     ensures added { IfOk result (λ e. (Ix.number e ≡ next_edge (S.graph store.old))
         × (S.graph store.new ≡ with_edge (S.graph store.old) (Ix.number a) (Ix.number b) weight)) }
-    ensures first { IfOk result (λ e. ComesFirst (S.graph store.old) (S.graph store.new) (Ix.number a) (Ix.number b) (Ix.number e)) }
+    ensures first { IfOk result (λ e. ComesFirst (S.graph store.old) (S.graph store.new)
+        (Ix.number a) (Ix.number b) (Ix.number e)) }
     ensures unchanged { OnErr result (S.graph store.new ≡ S.graph store.old) }
     ensures acyclic { IsAcyclic (S.graph store.new) }
     ensures ordered { IsOrderOf (S.graph store.new) order.new }
     ensures counted { S.looks store.new ≤ S.looks store.old + edge_count (S.graph store.old) }
-    ensures ready { Reaches (S.graph store.old) (Ix.number a) (Ix.number b) → S.looks store.new ≡ S.looks store.old }
+    ensures ready { Reaches (S.graph store.old) (Ix.number a) (Ix.number b)
+        → S.looks store.new ≡ S.looks store.old }
     ensures same_capacity { scratch.new ≡ scratch.old }
 {
     let _well_formed = store.node_count();
@@ -155,7 +169,8 @@ pub fn add_edge<Ix: IndexType, S: Store<Ix>>(
     store.add_edge(a, b, weight)
 }
 
-/// Writes the weight of the edge that is found between `a` and `b`, or adds an edge as [`add_edge`] if there is none.
+/// Writes the weight of the edge that is found between `a` and `b`, or adds an edge as [`add_edge`]
+/// if there is none.
 pub fn update_edge<Ix: IndexType, S: Store<Ix>>(
     store: &mut S,
     order: &mut Order<Ix>,
@@ -166,22 +181,28 @@ pub fn update_edge<Ix: IndexType, S: Store<Ix>>(
 ) -> Result<EdgeIndex<Ix>, EdgeError<S::EdgeWeight>>
     requires parent { HasNode (S.graph store.old) (Ix.number a) }
     requires child { HasNode (S.graph store.old) (Ix.number b) }
-    requires index_left { edge_between (S.graph store.old) (Ix.number a) (Ix.number b) ≡ None → edge_count (S.graph store.old) < Ix.greatest }
+    requires index_left { edge_between (S.graph store.old) (Ix.number a) (Ix.number b) ≡ None
+        → edge_count (S.graph store.old) < Ix.greatest }
     requires fits { node_bound (S.graph store.old) ≤ scratch.old.nodes }
     requires ordered { IsOrderOf (S.graph store.old) order.old }
     ensures replaced { IfSome (edge_between (S.graph store.old) (Ix.number a) (Ix.number b)) (λ e.
-        IsOkAnd result (λ updated. Ix.number updated ≡ e) × (S.graph store.new ≡ with_edge_weight (S.graph store.old) e weight)
+        IsOkAnd result (λ updated. Ix.number updated ≡ e)
+        × (S.graph store.new ≡ with_edge_weight (S.graph store.old) e weight)
         × (S.looks store.new ≡ S.looks store.old)) }
-    ensures cycle { (result ≡ Err (ByCycle (record { 0 = weight }))) ↔ Reaches (S.graph store.old) (Ix.number b) (Ix.number a) }
-    ensures refusal { IfErr result (λ e. (e ≡ ByCycle (record { 0 = weight })) ⊎ (e ≡ EdgeMemory weight)) }
-    ensures added { edge_between (S.graph store.old) (Ix.number a) (Ix.number b) ≡ None → IfOk result (λ e.
+    ensures cycle { (result ≡ Err (ByCycle (record { 0 = weight })))
+        ↔ Reaches (S.graph store.old) (Ix.number b) (Ix.number a) }
+    ensures refusal { IfErr result (λ e.
+        (e ≡ ByCycle (record { 0 = weight })) ⊎ (e ≡ EdgeMemory weight)) }
+    ensures added { edge_between (S.graph store.old) (Ix.number a) (Ix.number b) ≡ None
+        → IfOk result (λ e.
         (Ix.number e ≡ next_edge (S.graph store.old))
         × (S.graph store.new ≡ with_edge (S.graph store.old) (Ix.number a) (Ix.number b) weight)) }
     ensures unchanged { OnErr result (S.graph store.new ≡ S.graph store.old) }
     ensures acyclic { IsAcyclic (S.graph store.new) }
     ensures ordered { IsOrderOf (S.graph store.new) order.new }
     ensures counted { S.looks store.new ≤ S.looks store.old + edge_count (S.graph store.old) }
-    ensures ready { Reaches (S.graph store.old) (Ix.number a) (Ix.number b) → S.looks store.new ≡ S.looks store.old }
+    ensures ready { Reaches (S.graph store.old) (Ix.number a) (Ix.number b)
+        → S.looks store.new ≡ S.looks store.old }
     ensures fits { node_bound (S.graph store.new) ≤ scratch.new.nodes }
 {
     let _well_formed = store.node_count();
@@ -207,7 +228,8 @@ fn link<Ix: IndexType, S: Store<Ix>>(
     requires new { HasNode (S.graph store.old) (Ix.number new) }
     requires index_left { edge_count (S.graph store.old) < Ix.greatest }
     ensures index { IfOk result (λ e. Ix.number e ≡ next_edge (S.graph store.old)) }
-    ensures added { OnOk result (S.graph store.new ≡ with_link dir (S.graph store.old) (Ix.number n) (Ix.number new) edge) }
+    ensures added { OnOk result
+        (S.graph store.new ≡ with_link dir (S.graph store.old) (Ix.number n) (Ix.number new) edge) }
     ensures refusal { IfErr result (λ e. e ≡ EdgeMemory edge) }
     ensures unchanged { OnErr result (S.graph store.new ≡ S.graph store.old) }
     ensures counted { S.looks store.new ≡ S.looks store.old }
@@ -218,8 +240,8 @@ fn link<Ix: IndexType, S: Store<Ix>>(
     }
 }
 
-/// Adds a node, and an edge from `n` to it or from it to `n`, or neither. A new child stands last in the order, a new
-/// parent first.
+/// Adds a node, and an edge from `n` to it or from it to `n`, or neither. A new child stands last
+/// in the order, a new parent first.
 #[inline]
 pub fn add_neighbor<Ix: IndexType, S: Store<Ix>>(
     store: &mut S,
@@ -235,7 +257,8 @@ pub fn add_neighbor<Ix: IndexType, S: Store<Ix>>(
     requires node_room { node_count (S.graph store.old) < Ix.greatest }
     requires fits { node_bound (S.graph store.old) ≤ scratch.old.nodes }
     requires ordered { IsOrderOf (S.graph store.old) order.old }
-    ensures added { IfOk result (λ r. (Ix.number r.0 ≡ next_edge (S.graph store.old)) × (Ix.number r.1 ≡ next_node (S.graph store.old))
+    ensures added { IfOk result (λ r. (Ix.number r.0 ≡ next_edge (S.graph store.old))
+        × (Ix.number r.1 ≡ next_node (S.graph store.old))
         × (S.graph store.new ≡ with_neighbor dir (S.graph store.old) (Ix.number n) edge weight)) }
     ensures refusal { IfErr result (λ e. e ≡ ChildMemory edge weight) }
     ensures unchanged { OnErr result (S.graph store.new ≡ S.graph store.old) }
@@ -266,24 +289,28 @@ pub fn remove_edge<Ix: IndexType, S: Store<Ix>>(
     e: EdgeIndex<Ix>,
 ) -> Option<S::EdgeWeight>
     ensures gives { result ≡ edge_weight (S.graph store.old) (Ix.number e) }
-    ensures removed { OnSome result (S.graph store.new ≡ without_edge S.kind (S.graph store.old) (Ix.number e)) }
+    ensures removed { OnSome result
+        (S.graph store.new ≡ without_edge S.kind (S.graph store.old) (Ix.number e)) }
     ensures missing { IfNone result (S.graph store.new ≡ S.graph store.old) }
     ensures acyclic { IsAcyclic (S.graph store.old) → IsAcyclic (S.graph store.new) }
-    ensures ordered { (order : List ℕ) → IsOrderOf (S.graph store.old) order → IsOrderOf (S.graph store.new) order }
+    ensures ordered { (order : List ℕ)
+        → IsOrderOf (S.graph store.old) order → IsOrderOf (S.graph store.new) order }
     ensures bound { node_bound (S.graph store.new) ≡ node_bound (S.graph store.old) }
     ensures counted { S.looks store.new ≡ S.looks store.old }
 {
     store.remove_edge(e)
 }
 
-// Takes a removed node out of an order. If the node of the index `last` was moved to its index, it is renamed.
+// Takes a removed node out of an order. If the node of the index `last` was moved to its index, it
+// is renamed.
 #[inline]
 fn take_out<Ix: IndexType>(order: &mut Order<Ix>, n: NodeIndex<Ix>, last: usize, moved: bool)
     requires held { Contains order.old (Ix.number n) }
     requires last { moved ≡ true → Contains order.old last }
     requires real { last < Ix.greatest }
     requires lower { Ix.number n ≤ last }
-    ensures moved { moved ≡ true → order.new ≡ map (renamed last (Ix.number n)) (without (Ix.number n) order.old) }
+    ensures moved { moved ≡ true
+        → order.new ≡ map (renamed last (Ix.number n)) (without (Ix.number n) order.old) }
     ensures stayed { moved ≡ false → order.new ≡ without (Ix.number n) order.old }
 {
     order.remove(n);
@@ -300,7 +327,8 @@ pub fn remove_node<Ix: IndexType, S: Store<Ix>>(
 ) -> Option<S::NodeWeight>
     requires ordered { IsOrderOf (S.graph store.old) order.old }
     ensures gives { result ≡ node_weight (S.graph store.old) (Ix.number n) }
-    ensures removed { OnSome result (S.graph store.new ≡ without_node S.kind (S.graph store.old) (Ix.number n)) }
+    ensures removed { OnSome result
+        (S.graph store.new ≡ without_node S.kind (S.graph store.old) (Ix.number n)) }
     ensures missing { IfNone result (S.graph store.new ≡ S.graph store.old) }
     ensures acyclic { IsAcyclic (S.graph store.new) }
     ensures ordered { IsOrderOf (S.graph store.new) order.new }

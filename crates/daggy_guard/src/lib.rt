@@ -1,4 +1,5 @@
-//! The changes that keep any store acyclic, one at a time and many at once, and what both kinds of dag read the same way.
+//! The changes that keep any store acyclic, one at a time and many at once, and what both kinds of
+//! dag read the same way.
 #![tactic(auto)]
 
 pub mod edge_batch;

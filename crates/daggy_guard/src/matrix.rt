@@ -10,12 +10,14 @@ use std::alloc::{AllocError, Global};
 
 /// The pairs of nodes that an edge of the store joins. `Err` says that there is no memory.
 ///
-/// Takes time in proportion to the bound of the edges, and to a 64th of the square of the bound of the nodes.
+/// Takes time in proportion to the bound of the edges, and to a 64th of the square of the bound of
+/// the nodes.
 pub fn adjacency_matrix<Ix: IndexType, S: Store<Ix>>(
     store: &S,
     alloc: Global,
 ) -> Result<AdjMatrix<Ix>, AllocError>
-    ensures { IfOk result (λ matrix. (a b : ℕ) → HasPair matrix a b ↔ AreJoined (S.graph store.now) a b) }
+    ensures { IfOk result (λ matrix.
+        (a b : ℕ) → HasPair matrix a b ↔ AreJoined (S.graph store.now) a b) }
 {
     let mut matrix = AdjMatrix::new(alloc, store.node_bound())?;
     'edges: for e in 0..store.edge_bound() {

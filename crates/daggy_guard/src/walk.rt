@@ -7,8 +7,8 @@ ghost use Rattle.daggy_base.specs.Cursor.{IsWalkStep};
 use daggy_base::index::{Direction, EdgeIndex, IndexType, NodeIndex};
 use daggy_base::store::Store;
 
-/// Gives the edge that the cursor names with its far end, if that edge exists, and moves the cursor to the edge after
-/// it in its list.
+/// Gives the edge that the cursor names with its far end, if that edge exists, and moves the cursor
+/// to the edge after it in its list.
 #[inline]
 pub fn step<Ix: IndexType, S: Store<Ix>>(
     store: &S,

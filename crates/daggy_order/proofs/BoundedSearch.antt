@@ -1,5 +1,6 @@
 -- A search among nodes whose positions are below a limit.
-use Rattle.std.proofs.Common.{◌≡◌, ◌≢◌, ℕ, ◌+◌, ◌<◌, ◌≤◌, Bool, true, false, ◌↔◌, inl, inr, List, [], ◌∷◌, ◌++◌, length, get_or, set, take, refl, sym, ap, subst, ◌∙◌, arith}
+use Rattle.std.proofs.Common.{◌≡◌, ◌≢◌, ℕ, ◌+◌, ◌<◌, ◌≤◌, Bool, true, false, ◌↔◌, inl, inr, List, [], ◌∷◌, ◌++◌, length}
+use Rattle.std.proofs.Common.{get_or, set, take, refl, sym, ap, subst, ◌∙◌, arith}
 use Rattle.std.specs.List.{Contains}
 use Rattle.std.proofs.lemmas.Bool.{false≢true}
 use Rattle.std.proofs.lemmas.List.{length-append, length-set, length-take-le, take_more_set}
@@ -8,7 +9,8 @@ use Rattle.daggy_base.specs.Path.{AreJoined, IsPath, Reaches, end_of}
 use Rattle.daggy_order.specs.Ordered.{edges_from}
 use Rattle.daggy_base.specs.WellFormed.{IsWellFormed}
 use Rattle.daggy_base.specs.Look.{IsLook}
-use Rattle.daggy_base.proofs.Lists.{Mem, Unique, mem_out, mem_left, mem_right, mem_cases, unique_append, unique_right, contains_mem}
+use Rattle.daggy_base.proofs.Lists.{Mem, Unique, mem_out, mem_left, mem_right, mem_cases, unique_append, unique_right}
+use Rattle.daggy_base.proofs.Lists.{contains_mem}
 use Rattle.daggy_base.proofs.OutEdgesRead.{lists_of, read_part}
 use Rattle.daggy_base.proofs.SearchProgress.{Met, reaches_stays, fewer_than, marked_within, set_marked}
 use Rattle.daggy_base.proofs.SearchState.{Searching, all_met_here, from_marked, only_reached, child_found}
@@ -22,12 +24,14 @@ split_at (y ∷ ys) x m =
       | inr b ↦ let r = split_at ys x b in (y ∷ r.0, r.1, ap (λ (z : List ℕ). y ∷ z) r.2)
     ]
 
-edges_mid : {N E : Type 0} (g : Graph N E) (p : List ℕ) (x : ℕ) (q : List ℕ) → edges_from g (p ++ x ∷ q) ≡ length (out_list g x) + edges_from g (p ++ q)
+edges_mid : {N E : Type 0} (g : Graph N E) (p : List ℕ) (x : ℕ) (q : List ℕ)
+    → edges_from g (p ++ x ∷ q) ≡ length (out_list g x) + edges_from g (p ++ q)
 edges_mid g [] x q = refl
 edges_mid g (y ∷ p) x q = let rest = edges_mid g p x q in omega arith
 
 -- differing members of a list have no more edges than all of it
-pub edges_few : {N E : Type 0} (g : Graph N E) (xs ys : List ℕ) → Unique xs → ((x : ℕ) → Mem x xs → Mem x ys) → edges_from g xs ≤ edges_from g ys
+pub edges_few : {N E : Type 0} (g : Graph N E) (xs ys : List ℕ)
+    → Unique xs → ((x : ℕ) → Mem x xs → Mem x ys) → edges_from g xs ≤ edges_from g ys
 edges_few g [] ys u h = omega arith
 edges_few {N} {E} g (x ∷ xs) ys u h =
     let s = split_at ys x (h x (inl refl)) in
@@ -37,7 +41,8 @@ edges_few {N} {E} g (x ∷ xs) ys u h =
       | inl e ↦ absurd (u.0 (let Q : ℕ → Type 0 = λ z. Mem z xs in subst Q e m))
       | inr b ↦ b
     ]) in
-    let whole : edges_from g ys ≡ length (out_list g x) + edges_from g (s.0 ++ s.1) = ap (edges_from g) s.2 ∙ edges_mid g s.0 x s.1 in
+    let whole : edges_from g ys ≡ length (out_list g x) + edges_from g (s.0 ++ s.1) =
+    ap (edges_from g) s.2 ∙ edges_mid g s.0 x s.1 in
     omega arith
 
 -- so many edges stand in their lists
@@ -60,7 +65,9 @@ pub record Finding (marks : List Bool) (found : List ℕ) (size count : ℕ) : T
   pub capacity : length marks ≤ length found
   pub sized : length found ≡ size
 
-pub finds_first : (marks : List Bool) (found : List ℕ) (n k m : ℕ) → ((i : ℕ) → get_or marks i false ≡ false) → n < length marks → length marks ≤ length found → k ≡ n → m ≡ n → Finding (set marks k true) (set found 0 m) (length found) 1
+pub finds_first : (marks : List Bool) (found : List ℕ) (n k m : ℕ)
+    → ((i : ℕ) → get_or marks i false ≡ false) → n < length marks → length marks ≤ length found → k ≡ n → m ≡ n
+    → Finding (set marks k true) (set found 0 m) (length found) 1
 finds_first marks found n k m clear low capacity is is' =
     let some : 0 < length found = omega (arith, low, capacity) in
     let one : take 1 (set found 0 m) ≡ m ∷ [] = take_more_set found 0 m some in
@@ -74,7 +81,10 @@ finds_first marks found n k m clear low capacity is is' =
         ],
         λ h. (
             let M : List ℕ → Type 0 = λ z. Mem i z in
-            elim (subst M one h) [ inl e ↦ (set_marked marks k i (omega (arith, low, is))).1 (inl (e ∙ (is' ∙ sym is))) | inr none ↦ absurd none ]
+            elim (subst M one h) [
+              | inl e ↦ (set_marked marks k i (omega (arith, low, is))).1 (inl (e ∙ (is' ∙ sym is)))
+              | inr none ↦ absurd none
+            ]
             ),
       );
       fits = omega (arith, low, length-set marks k true);
@@ -82,7 +92,8 @@ finds_first marks found n k m clear low capacity is is' =
       sized = length-set found 0 m;
     }
 
-module _ {marks : List Bool} {found : List ℕ} {size count : ℕ} (s : Finding marks found size count) (v : ℕ) (low : v < length marks) (unseen : get_or marks v false ≡ false) where
+module _ {marks : List Bool} {found : List ℕ} {size count : ℕ} (s : Finding marks found size count) (v : ℕ)
+    (low : v < length marks) (unseen : get_or marks v false ≡ false) where
   new_found : Mem v (take count found) → ⊥
   new_found m = false≢true (sym unseen ∙ (s.exact v).1 m)
 
@@ -99,7 +110,8 @@ module _ {marks : List Bool} {found : List ℕ} {size count : ℕ} (s : Finding 
   pub finds_more : (k m : ℕ) → k ≡ v → m ≡ v → Finding (set marks k true) (set found count m) size (count + 1)
   finds_more k m is is' =
       let capacity = finds_room in
-      let more : take (count + 1) (set found count m) ≡ take count found ++ m ∷ [] = take_more_set found count m (omega (arith, capacity, s.capacity)) in
+      let more : take (count + 1) (set found count m) ≡ take count found ++ m ∷ [] =
+      take_more_set found count m (omega (arith, capacity, s.capacity)) in
       let U : List ℕ → Type 0 = λ z. Unique z in
       record {
         once = subst U (sym more) (unique_append (take count found) (m ∷ []) s.once (λ h. h, tt) (λ x a b. elim b [
@@ -118,7 +130,10 @@ module _ {marks : List Bool} {found : List ℕ} {size count : ℕ} (s : Finding 
               let M : List ℕ → Type 0 = λ z. Mem i z in
               elim (mem_cases (take count found) (m ∷ []) i (subst M more h)) [
                 | inl a ↦ (set_marked marks k i (omega (arith, low, is))).1 (inr ((s.exact i).1 a))
-                | inr b ↦ elim b [ inl e ↦ (set_marked marks k i (omega (arith, low, is))).1 (inl (e ∙ (is' ∙ sym is))) | inr none ↦ absurd none ]
+                | inr b ↦ elim b [
+                  | inl e ↦ (set_marked marks k i (omega (arith, low, is))).1 (inl (e ∙ (is' ∙ sym is)))
+                  | inr none ↦ absurd none
+                ]
               ]
               ),
         );
@@ -134,25 +149,34 @@ Below positions limit n = get_or positions n 0 < limit
 abbrev pub Beyond : (positions : List ℕ) → (limit to : ℕ) → ℕ → Type 0
 Beyond positions limit to n = (limit ≤ get_or positions n 0) × (n ≢ to)
 
-abbrev pub SearchingBelow : {N E : Type 0} → (end size : ℕ) → (g₀ g : Graph N E) → (positions : List ℕ) → (limit from to : ℕ) → (marks : List Bool) → (stack : List ℕ) → (len e before now : ℕ) → Type 0
-SearchingBelow end size g₀ g positions limit from to = Searching end size g₀ g (Below positions limit) (Beyond positions limit to) from
+abbrev pub SearchingBelow : {N E : Type 0} → (end size : ℕ) → (g₀ g : Graph N E) → (positions : List ℕ)
+    → (limit from to : ℕ) → (marks : List Bool) → (stack : List ℕ) → (len e before now : ℕ) → Type 0
+SearchingBelow end size g₀ g positions limit from to =
+    Searching end size g₀ g (Below positions limit) (Beyond positions limit to) from
 
-module _ {N E : Type 0} {end size : ℕ} {g₀ g : Graph N E} (w : IsWellFormed end g₀) (positions : List ℕ) (limit to : ℕ) {from : ℕ} {marks : List Bool} {stack : List ℕ} {len e before now : ℕ} (ascending : (u v : ℕ) → AreJoined g₀ u v → get_or positions u 0 < get_or positions v 0) (s : Searching end size g₀ g (Below positions limit) (Beyond positions limit to) from marks stack len e before now) where
+module _ {N E : Type 0} {end size : ℕ} {g₀ g : Graph N E} (w : IsWellFormed end g₀) (positions : List ℕ) (limit to : ℕ)
+    {from : ℕ} {marks : List Bool} {stack : List ℕ} {len e before now : ℕ}
+    (ascending : (u v : ℕ) → AreJoined g₀ u v → get_or positions u 0 < get_or positions v 0) (s : Searching end size g₀
+    g (Below positions limit) (Beyond positions limit to) from marks stack len e before now) where
   -- what is reached stands no earlier
   pub later : (n : ℕ) → Reaches g₀ from n → get_or positions from 0 ≤ get_or positions n 0
   later n r =
       let P : ℕ → Type 0 = λ z. get_or positions from 0 ≤ get_or positions z 0 in
       reaches_stays g₀ P (λ u v h j. omega (arith, h, ascending u v j)) from n r (omega arith)
 
-  pub child_placed : ((n : ℕ) → HasNode g₀ n → n < length positions) → e ≢ end → {v next : ℕ} → IsLook end g e v next → v < length positions
+  pub child_placed : ((n : ℕ) → HasNode g₀ n → n < length positions) → e ≢ end → {v next : ℕ} → IsLook end g e v next
+      → v < length positions
   child_placed placed here {v} look = placed v (reached_exists g₀ from v (child_found w s here look))
 
   -- the count of looks
-  module _ (ns : List ℕ) (all : (n : ℕ) → HasNode g₀ n → get_or positions from 0 ≤ get_or positions n 0 → get_or positions n 0 < limit → Contains ns n) where
+  module _ (ns : List ℕ) (all : (n : ℕ) → HasNode g₀ n → get_or positions from 0 ≤ get_or positions n 0
+      → get_or positions n 0 < limit → Contains ns n) where
     few_reads : length (out_list g₀ s.going.at) + edges_from g₀ s.going.done ≤ edges_from g₀ ns
     few_reads =
-        edges_few g₀ (s.going.at ∷ s.going.done) ns (unique_right (take len stack) (s.going.at ∷ s.going.done) s.going.once) (λ x m.
-        let here = only_reached w s x ((s.going.marked x).1 (mem_right (take len stack) (s.going.at ∷ s.going.done) x m)) in
+        edges_few g₀ (s.going.at ∷ s.going.done) ns
+        (unique_right (take len stack) (s.going.at ∷ s.going.done) s.going.once) (λ x m.
+        let here =
+        only_reached w s x ((s.going.marked x).1 (mem_right (take len stack) (s.going.at ∷ s.going.done) x m)) in
         contains_mem ns x (all x (reached_exists g₀ from x here.0) (later x here.0) here.1))
 
     pub few_below : now ≤ before + edges_from g₀ ns
@@ -160,7 +184,14 @@ module _ {N E : Type 0} {end size : ℕ} {g₀ g : Graph N E} (w : IsWellFormed 
 
     pub looked_below : e ≢ end → {now' : ℕ} → now' ≡ now + 1 → now' ≤ before + edges_from g₀ ns
     looked_below here one_more =
-        omega (arith, few_reads, s.counted, s.going.counted, lists_length g₀ s.going.done, (read_part end g₀ w s.going.at s.going.passed e s.going.cursor here).0)
+        omega (
+          arith,
+          few_reads,
+          s.counted,
+          s.going.counted,
+          lists_length g₀ s.going.done,
+          (read_part end g₀ w s.going.at s.going.passed e s.going.cursor here).0,
+        )
 
   -- at the end
   module _ (ended : e ≡ end) (empty : len ≡ 0) (limit_is : get_or positions to 0 ≡ limit) where
@@ -192,6 +223,7 @@ module _ {N E : Type 0} {end size : ℕ} {g₀ g : Graph N E} (w : IsWellFormed 
       λ m. only_reached w s n m,
       λ r. elim (met n r.0) [
         | inl m ↦ m
-        | inr past ↦ let low : limit ≤ get_or positions n 0 = past.0 in let high : get_or positions n 0 < limit = r.1 in absurd (omega arith)
+        | inr past ↦ let low : limit ≤ get_or positions n 0 = past.0 in
+            let high : get_or positions n 0 < limit = r.1 in absurd (omega arith)
       ],
     )

@@ -1,20 +1,24 @@
 -- Chains of nodes that lead to one another, and how a node is put in or taken out.
-use Rattle.std.proofs.Common.{◌≡◌, ◌≢◌, ℕ, suc, inl, inr, List, [], ◌∷◌, ◌++◌, length, get_or, eqb, refl, sym, ap, subst, ◌∙◌}
+use Rattle.std.proofs.Common.{◌≡◌, ◌≢◌, ℕ, suc, inl, inr, List, [], ◌∷◌, ◌++◌, length, get_or, eqb, refl, sym, ap}
+use Rattle.std.proofs.Common.{subst, ◌∙◌}
 use Rattle.std.proofs.lemmas.Bool.{eq-eqb, ne_eqb, cond-true, cond-false}
 use Rattle.daggy_base.proofs.Lists.{Mem, Unique, mem_left, mem_right, mem_cases, mem_mid, unique_right}
 use Rattle.daggy_order.specs.Links.{IsLinkChain, nodes_from, neighbor}
 use Rattle.daggy_order.proofs.Sorted.{unique_cross}
 
 module _ (N P : ℕ → ℕ) where
-  pub chain_append : (p : ℕ) (xs : List ℕ) (y : ℕ) (ys : List ℕ) (q : ℕ) → IsLinkChain N P p xs y → IsLinkChain N P y ys q → IsLinkChain N P p (xs ++ y ∷ ys) q
+  pub chain_append : (p : ℕ) (xs : List ℕ) (y : ℕ) (ys : List ℕ) (q : ℕ)
+      → IsLinkChain N P p xs y → IsLinkChain N P y ys q → IsLinkChain N P p (xs ++ y ∷ ys) q
   chain_append p [] y ys q c d = (c.0, c.1, d)
   chain_append p (x ∷ xs) y ys q c d = (c.0, c.1, chain_append x xs y ys q c.2 d)
 
-  pub chain_left : (p : ℕ) (xs : List ℕ) (y : ℕ) (ys : List ℕ) (q : ℕ) → IsLinkChain N P p (xs ++ y ∷ ys) q → IsLinkChain N P p xs y
+  pub chain_left : (p : ℕ) (xs : List ℕ) (y : ℕ) (ys : List ℕ) (q : ℕ)
+      → IsLinkChain N P p (xs ++ y ∷ ys) q → IsLinkChain N P p xs y
   chain_left p [] y ys q c = (c.0, c.1)
   chain_left p (x ∷ xs) y ys q c = (c.0, c.1, chain_left x xs y ys q c.2)
 
-  pub chain_right : (p : ℕ) (xs : List ℕ) (y : ℕ) (ys : List ℕ) (q : ℕ) → IsLinkChain N P p (xs ++ y ∷ ys) q → IsLinkChain N P y ys q
+  pub chain_right : (p : ℕ) (xs : List ℕ) (y : ℕ) (ys : List ℕ) (q : ℕ)
+      → IsLinkChain N P p (xs ++ y ∷ ys) q → IsLinkChain N P y ys q
   chain_right p [] y ys q c = c.2
   chain_right p (x ∷ xs) y ys q c = chain_right x xs y ys q c.2
 
@@ -28,7 +32,8 @@ module _ (N P : ℕ → ℕ) where
   after_in p (x ∷ xs) q c = inl c.0
 
 module _ (N P M Q : ℕ → ℕ) where
-  pub chain_same : (p : ℕ) (xs : List ℕ) (q : ℕ) → ((k : ℕ) → Mem k (p ∷ xs) → M k ≡ N k) → ((k : ℕ) → Mem k (xs ++ q ∷ []) → Q k ≡ P k) → IsLinkChain N P p xs q → IsLinkChain M Q p xs q
+  pub chain_same : (p : ℕ) (xs : List ℕ) (q : ℕ) → ((k : ℕ) → Mem k (p ∷ xs) → M k ≡ N k)
+      → ((k : ℕ) → Mem k (xs ++ q ∷ []) → Q k ≡ P k) → IsLinkChain N P p xs q → IsLinkChain M Q p xs q
   chain_same p [] q ahead back c = (ahead p (inl refl) ∙ c.0, back q (inl refl) ∙ c.1)
   chain_same p (x ∷ xs) q ahead back c = (
     ahead p (inl refl) ∙ c.0,
@@ -45,7 +50,8 @@ module _ (N P M Q : ℕ → ℕ) where
     pub back_to : Q (N p) ≡ n
     pub back : (k : ℕ) → k ≢ n → k ≢ N p → Q k ≡ P k
 
-  pub put_behind_start : (p n : ℕ) (vs : List ℕ) (e : ℕ) → IsPut p n → IsLinkChain N P p vs e → (Mem n (vs ++ e ∷ []) → ⊥) → (Mem p vs → ⊥) → Unique (vs ++ e ∷ []) → IsLinkChain M Q p (n ∷ vs) e
+  pub put_behind_start : (p n : ℕ) (vs : List ℕ) (e : ℕ) → IsPut p n → IsLinkChain N P p vs e
+      → (Mem n (vs ++ e ∷ []) → ⊥) → (Mem p vs → ⊥) → Unique (vs ++ e ∷ []) → IsLinkChain M Q p (n ∷ vs) e
   put_behind_start p n [] e w c fresh apart u = (w.to, w.from, (w.on ∙ c.0, ap Q (sym c.0) ∙ w.back_to))
   put_behind_start p n (v ∷ vs) e w c fresh apart u = (
     w.to,
@@ -61,7 +67,8 @@ module _ (N P M Q : ℕ → ℕ) where
     ),
   )
 
-  pub put_behind_member : (p n : ℕ) (us vs : List ℕ) (e : ℕ) → IsPut p n → IsLinkChain N P e (us ++ p ∷ vs) e → Unique (e ∷ (us ++ p ∷ vs)) → (Mem n (e ∷ (us ++ p ∷ vs)) → ⊥) → IsLinkChain M Q e (us ++ p ∷ (n ∷ vs)) e
+  pub put_behind_member : (p n : ℕ) (us vs : List ℕ) (e : ℕ) → IsPut p n → IsLinkChain N P e (us ++ p ∷ vs) e
+      → Unique (e ∷ (us ++ p ∷ vs)) → (Mem n (e ∷ (us ++ p ∷ vs)) → ⊥) → IsLinkChain M Q e (us ++ p ∷ (n ∷ vs)) e
   put_behind_member p n us vs e w c u fresh =
       let left = chain_left N P e us p vs e c in
       let right = chain_right N P e us p vs e c in
@@ -120,7 +127,8 @@ module _ (N P M Q : ℕ → ℕ) where
     pub from : Q (N n) ≡ P n
     pub back : (k : ℕ) → k ≢ N n → Q k ≡ P k
 
-  taken_between : (s : ℕ) (us : List ℕ) (n : ℕ) (vs : List ℕ) (e : ℕ) → IsTaken n → IsLinkChain N P s us n → IsLinkChain N P n vs e → Unique (s ∷ (us ++ vs)) → (Mem e (us ++ vs) → ⊥) → IsLinkChain M Q s (us ++ vs) e
+  taken_between : (s : ℕ) (us : List ℕ) (n : ℕ) (vs : List ℕ) (e : ℕ) → IsTaken n → IsLinkChain N P s us n
+      → IsLinkChain N P n vs e → Unique (s ∷ (us ++ vs)) → (Mem e (us ++ vs) → ⊥) → IsLinkChain M Q s (us ++ vs) e
   taken_between s [] n [] e w c d u apart = (ap M (sym c.1) ∙ (w.to ∙ d.0), ap Q (sym d.0) ∙ (w.from ∙ c.1))
   taken_between s [] n (v ∷ vs) e w c d u apart = (
     ap M (sym c.1) ∙ (w.to ∙ d.0),
@@ -147,8 +155,10 @@ module _ (N P M Q : ℕ → ℕ) where
     taken_between t us n vs e w c.2 d u.1 (λ m. apart (inr m)),
   )
 
-  pub take_member : (n : ℕ) (us vs : List ℕ) (e : ℕ) → IsTaken n → IsLinkChain N P e (us ++ n ∷ vs) e → Unique (e ∷ (us ++ vs)) → IsLinkChain M Q e (us ++ vs) e
-  take_member n us vs e w c u = taken_between e us n vs e w (chain_left N P e us n vs e c) (chain_right N P e us n vs e c) u u.0
+  pub take_member : (n : ℕ) (us vs : List ℕ) (e : ℕ)
+      → IsTaken n → IsLinkChain N P e (us ++ n ∷ vs) e → Unique (e ∷ (us ++ vs)) → IsLinkChain M Q e (us ++ vs) e
+  take_member n us vs e w c u =
+      taken_between e us n vs e w (chain_left N P e us n vs e c) (chain_right N P e us n vs e c) u u.0
 
 -- where a node leads
 pub neighbor_end : (end outer : ℕ) (links : List ℕ) → neighbor end outer links end ≡ outer
@@ -157,11 +167,18 @@ neighbor_end end outer links = cond-true {A = ℕ} (eqb end end) outer (get_or l
 pub neighbor_node : (end outer : ℕ) (links : List ℕ) (n : ℕ) → n ≢ end → neighbor end outer links n ≡ get_or links n end
 neighbor_node end outer links n real = cond-false {A = ℕ} (eqb n end) outer (get_or links n end) (ne_eqb n end real)
 
-walk_on : (end first : ℕ) (next : List ℕ) (P : ℕ → ℕ) (p : ℕ) (xs : List ℕ) (q : ℕ) → IsLinkChain (neighbor end first next) P p xs q → (Mem end xs → ⊥) → nodes_from end next (neighbor end first next p) (length xs) ≡ xs
+walk_on : (end first : ℕ) (next : List ℕ) (P : ℕ → ℕ) (p : ℕ) (xs : List ℕ) (q : ℕ)
+    → IsLinkChain (neighbor end first next) P p xs q → (Mem end xs → ⊥)
+    → nodes_from end next (neighbor end first next p) (length xs) ≡ xs
 walk_on end first next P p [] q c real = refl
 walk_on end first next P p (x ∷ xs) q c real =
     let on : neighbor end first next x ≡ get_or next x end = neighbor_node end first next x (λ e. real (inl (sym e))) in
-    ap (λ z. nodes_from end next z (suc (length xs))) c.0 ∙ ap (λ (z : List ℕ). x ∷ z) (ap (λ z. nodes_from end next z (length xs)) (sym on) ∙ walk_on end first next P x xs q c.2 (λ m. real (inr m)))
+    ap (λ z. nodes_from end next z (suc (length xs))) c.0
+    ∙ ap (λ (z : List ℕ). x ∷ z)
+    (ap (λ z. nodes_from end next z (length xs)) (sym on) ∙ walk_on end first next P x xs q c.2 (λ m. real (inr m)))
 
-pub walk_is : (end first : ℕ) (next : List ℕ) (P : ℕ → ℕ) (xs : List ℕ) → IsLinkChain (neighbor end first next) P end xs end → (Mem end xs → ⊥) → nodes_from end next first (length xs) ≡ xs
-walk_is end first next P xs c real = ap (λ z. nodes_from end next z (length xs)) (sym (neighbor_end end first next)) ∙ walk_on end first next P end xs end c real
+pub walk_is : (end first : ℕ) (next : List ℕ) (P : ℕ → ℕ) (xs : List ℕ)
+    → IsLinkChain (neighbor end first next) P end xs end → (Mem end xs → ⊥) → nodes_from end next first (length xs) ≡ xs
+walk_is end first next P xs c real =
+    ap (λ z. nodes_from end next z (length xs)) (sym (neighbor_end end first next))
+    ∙ walk_on end first next P end xs end c real

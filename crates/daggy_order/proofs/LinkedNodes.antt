@@ -1,19 +1,25 @@
 -- What the links of a list keep, as nodes are put in and taken out.
-use Rattle.std.proofs.Common.{◌≡◌, ◌≢◌, ℕ, zero, suc, ◌+◌, ◌<◌, ◌≤◌, ◌⊎◌, inl, inr, List, [], ◌∷◌, ◌++◌, length, get_or, min, not, eqb, cond, refl, sym, ap, subst, ◌∙◌, arith}
+use Rattle.std.proofs.Common.{◌≡◌, ◌≢◌, ℕ, zero, suc, ◌+◌, ◌<◌, ◌≤◌, ◌⊎◌, inl, inr, List, [], ◌∷◌, ◌++◌, length, get_or}
+use Rattle.std.proofs.Common.{min, not, eqb, cond, refl, sym, ap, subst, ◌∙◌, arith}
 use Rattle.std.proofs.lemmas.Bool.{eq-eqb}
 use Rattle.std.proofs.lemmas.List.{length-append}
 use Rattle.std.proofs.lemmas.List.Elements.{filter-append}
 use Rattle.daggy_base.specs.Cursor.{first_of}
 use Rattle.daggy_base.specs.Removal.{without}
-use Rattle.daggy_base.proofs.Lists.{Mem, Unique, mem_left, mem_right, mem_cases, mem_into, mem_mid, unique_right, contains_mem, mem_contains, unique_from_distinct}
+use Rattle.daggy_base.proofs.Lists.{Mem, Unique, mem_left, mem_right, mem_cases, mem_into, mem_mid, unique_right}
+use Rattle.daggy_base.proofs.Lists.{contains_mem, mem_contains, unique_from_distinct}
 use Rattle.daggy_base.proofs.SearchProgress.{fewer_than}
 use Rattle.daggy_order.specs.Links.{Listed, IsLinkChain, AreLinksOf, nodes_from, neighbor}
 use Rattle.daggy_order.proofs.Sorted.{distinct_from_unique, unique_cross}
 use Rattle.daggy_order.proofs.ListParts.{filter_yes, filter_no, is_held}
 use Rattle.daggy_order.proofs.BoundedSearch.{split_at}
-use Rattle.daggy_order.proofs.Chains.{chain_same, IsPut, IsTaken, chain_left, chain_right, after_in, before_in, put_behind_start, put_behind_member, take_member, neighbor_end, neighbor_node, walk_is}
+use Rattle.daggy_order.proofs.Chains.{chain_same, IsPut, IsTaken, chain_left, chain_right, after_in, before_in}
+use Rattle.daggy_order.proofs.Chains.{put_behind_start, put_behind_member, take_member, neighbor_end, neighbor_node}
+use Rattle.daggy_order.proofs.Chains.{walk_is}
 
-pub listed : {xs ys : List ℕ} {r s k l : ℕ} → xs ≡ ys → r ≡ s → k ≡ l → ◌≡◌ {A = Listed} (record { nodes = xs; index_bound = r; capacity = k }) (record { nodes = ys; index_bound = s; capacity = l })
+pub listed : {xs ys : List ℕ} {r s k l : ℕ} → xs ≡ ys → r ≡ s → k ≡ l
+    → ◌≡◌ {A = Listed} (record { nodes = xs; index_bound = r; capacity = k })
+    (record { nodes = ys; index_bound = s; capacity = l })
 listed {xs} {ys} {r} {s} {k} {l} e f h =
     ap (λ (z : List ℕ). listing z r k) e ∙ (ap (λ (z : ℕ). listing ys z k) f ∙ ap (λ (z : ℕ). listing ys s z) h)
   where
@@ -37,11 +43,15 @@ length_walk end next from (suc count) = ap suc (length_walk end next (get_or nex
 pub without_none : (n : ℕ) (xs : List ℕ) → (Mem n xs → ⊥) → without n xs ≡ xs
 without_none n [] d = refl
 without_none n (x ∷ xs) d =
-    filter_yes (λ z. not (eqb z n)) x xs (is_held n x (λ e. d (inl (sym e)))) ∙ ap (λ (z : List ℕ). x ∷ z) (without_none n xs (λ m. d (inr m)))
+    filter_yes (λ z. not (eqb z n)) x xs (is_held n x (λ e. d (inl (sym e))))
+    ∙ ap (λ (z : List ℕ). x ∷ z) (without_none n xs (λ m. d (inr m)))
 
 pub without_mid : (n : ℕ) (xs ys : List ℕ) → (Mem n xs → ⊥) → (Mem n ys → ⊥) → without n (xs ++ n ∷ ys) ≡ xs ++ ys
 without_mid n xs ys d e =
-    filter-append (λ z. not (eqb z n)) xs (n ∷ ys) ∙ (ap (λ (z : List ℕ). z ++ without n (n ∷ ys)) (without_none n xs d) ∙ ap (λ (z : List ℕ). xs ++ z) (filter_no (λ z. not (eqb z n)) n ys (ap not (eq-eqb n n refl)) ∙ without_none n ys e))
+    filter-append (λ z. not (eqb z n)) xs (n ∷ ys)
+    ∙ (ap (λ (z : List ℕ). z ++ without n (n ∷ ys)) (without_none n xs d)
+    ∙ ap (λ (z : List ℕ). xs ++ z)
+    (filter_no (λ z. not (eqb z n)) n ys (ap not (eq-eqb n n refl)) ∙ without_none n ys e))
 
 -- of differing elements, one that stands in the middle stands nowhere else
 pub not_before : (us : List ℕ) (x : ℕ) (vs : List ℕ) → Unique (us ++ x ∷ vs) → Mem x us → ⊥
@@ -55,11 +65,15 @@ unique_without [] x vs u = u.1
 unique_without (y ∷ us) x vs u = (λ m. u.0 (mem_into us vs x y m), unique_without us x vs u.1)
 
 -- the list that links keep
-module _ (end : ℕ) (next previous : List ℕ) (first last : ℕ) (xs : List ℕ) (chain : IsLinkChain (neighbor end first next) (neighbor end last previous) end xs end) (once : Unique (end ∷ xs)) (within : (n : ℕ) → Mem n xs → n < length previous) (sized : length previous ≤ length next) where
+module _ (end : ℕ) (next previous : List ℕ) (first last : ℕ) (xs : List ℕ)
+    (chain : IsLinkChain (neighbor end first next) (neighbor end last previous) end xs end) (once : Unique (end ∷ xs))
+    (within : (n : ℕ) → Mem n xs → n < length previous) (sized : length previous ≤ length next) where
   pub walked : (count : ℕ) → count ≡ length xs → nodes_from end next first count ≡ xs
-  walked count is = ap (nodes_from end next first) is ∙ walk_is end first next (neighbor end last previous) xs chain once.0
+  walked count is =
+      ap (nodes_from end next first) is ∙ walk_is end first next (neighbor end last previous) xs chain once.0
 
-  pub linked : (count : ℕ) → count ≡ length xs → AreLinksOf end next previous first last (nodes_from end next first count)
+  pub linked : (count : ℕ)
+      → count ≡ length xs → AreLinksOf end next previous first last (nodes_from end next first count)
   linked count is =
       let P : List ℕ → Type 0 = λ z. AreLinksOf end next previous first last z in
       subst P (sym (walked count is)) (record {
@@ -70,7 +84,8 @@ module _ (end : ℕ) (next previous : List ℕ) (first last : ℕ) (xs : List �
       })
 
 -- writes that put n behind p
-pub is_put : (N P N' M P' Q : ℕ → ℕ) (p n q : ℕ) → n ≢ p → n ≢ q → q ≡ N p → N' p ≡ n → ((k : ℕ) → k ≢ p → N' k ≡ N k) → M n ≡ q → ((k : ℕ) → k ≢ n → M k ≡ N' k)
+pub is_put : (N P N' M P' Q : ℕ → ℕ) (p n q : ℕ)
+    → n ≢ p → n ≢ q → q ≡ N p → N' p ≡ n → ((k : ℕ) → k ≢ p → N' k ≡ N k) → M n ≡ q → ((k : ℕ) → k ≢ n → M k ≡ N' k)
     → P' n ≡ p → ((k : ℕ) → k ≢ n → P' k ≡ P k) → Q q ≡ n → ((k : ℕ) → k ≢ q → Q k ≡ P' k) → IsPut N P M Q p n
 is_put N P N' M P' Q p n q not_p not_q is to ahead on ahead' from back back_to back' =
     record {
@@ -82,7 +97,8 @@ is_put N P N' M P' Q p n q not_p not_q is to ahead on ahead' from back back_to b
       back = λ k a b. back' k (λ e. b (e ∙ is)) ∙ back k a;
     }
 
-module _ {end : ℕ} {next previous : List ℕ} {first last : ℕ} {xs : List ℕ} (s : AreLinksOf end next previous first last xs) where
+module _ {end : ℕ} {next previous : List ℕ} {first last : ℕ} {xs : List ℕ}
+    (s : AreLinksOf end next previous first last xs) where
   pub once : Unique (end ∷ xs)
   once = unique_from_distinct (end ∷ xs) s.distinct
 
@@ -93,28 +109,37 @@ module _ {end : ℕ} {next previous : List ℕ} {first last : ℕ} {xs : List �
   few = fewer_than xs (length previous) once.1 inside
 
   -- more room
-  module _ (next' previous' : List ℕ) (same : (k : ℕ) → get_or next' k end ≡ get_or next k end) (same_back : (k : ℕ) → get_or previous' k end ≡ get_or previous k end) (sized : length previous' ≤ length next') (long : length previous ≤ length previous') where
+  module _ (next' previous' : List ℕ) (same : (k : ℕ) → get_or next' k end ≡ get_or next k end)
+      (same_back : (k : ℕ) → get_or previous' k end ≡ get_or previous k end) (sized : length previous' ≤ length next')
+      (long : length previous ≤ length previous') where
     grown_chain : IsLinkChain (neighbor end first next') (neighbor end last previous') end xs end
     grown_chain =
-        chain_same (neighbor end first next) (neighbor end last previous) (neighbor end first next') (neighbor end last previous') end xs end (λ k m. ap (λ z. cond (eqb k end) first z) (same k)) (λ k m. ap (λ z. cond (eqb k end) last z) (same_back k)) s.chained
+        chain_same (neighbor end first next) (neighbor end last previous) (neighbor end first next')
+        (neighbor end last previous') end xs end (λ k m. ap (λ z. cond (eqb k end) first z) (same k))
+        (λ k m. ap (λ z. cond (eqb k end) last z) (same_back k)) s.chained
 
     pub grown_walked : (count : ℕ) → count ≡ length xs → nodes_from end next' first count ≡ xs
-    grown_walked = walked end next' previous' first last xs grown_chain once (λ n m. omega (arith, inside n m, long)) sized
+    grown_walked =
+        walked end next' previous' first last xs grown_chain once (λ n m. omega (arith, inside n m, long)) sized
 
-    pub grown_linked : (count : ℕ) → count ≡ length xs → AreLinksOf end next' previous' first last (nodes_from end next' first count)
-    grown_linked = linked end next' previous' first last xs grown_chain once (λ n m. omega (arith, inside n m, long)) sized
+    pub grown_linked : (count : ℕ)
+        → count ≡ length xs → AreLinksOf end next' previous' first last (nodes_from end next' first count)
+    grown_linked =
+        linked end next' previous' first last xs grown_chain once (λ n m. omega (arith, inside n m, long)) sized
 
   pub first_is : first ≡ first_of end xs
   first_is = sym (neighbor_end end first next) ∙ head xs s.chained
     where
-      head : (ys : List ℕ) → IsLinkChain (neighbor end first next) (neighbor end last previous) end ys end → neighbor end first next end ≡ first_of end ys
+      head : (ys : List ℕ) → IsLinkChain (neighbor end first next) (neighbor end last previous) end ys end
+          → neighbor end first next end ≡ first_of end ys
       head [] c = c.0
       head (y ∷ ys) c = c.0
 
   pub last_is : (ns : List ℕ) (n : ℕ) → xs ≡ ns ++ n ∷ [] → last ≡ n
   last_is ns n is =
       let P : List ℕ → Type 0 = λ z. IsLinkChain (neighbor end first next) (neighbor end last previous) end z end in
-      let c = chain_right (neighbor end first next) (neighbor end last previous) end ns n [] end (subst P is s.chained) in
+      let c =
+      chain_right (neighbor end first next) (neighbor end last previous) end ns n [] end (subst P is s.chained) in
       sym (neighbor_end end last previous) ∙ c.1
 
   pub last_in : 0 < length xs → Mem last xs
@@ -129,11 +154,14 @@ module _ {end : ℕ} {next previous : List ℕ} {first last : ℕ} {xs : List �
   next_is us n vs is =
       let P : List ℕ → Type 0 = λ z. IsLinkChain (neighbor end first next) (neighbor end last previous) end z end in
       let Q : List ℕ → Type 0 = λ z. Mem n z in
-      let c = chain_right (neighbor end first next) (neighbor end last previous) end us n vs end (subst P is s.chained) in
-      let real : n ≢ end = λ e. once.0 (let A : ℕ → Type 0 = λ z. Mem z xs in subst A e (subst Q (sym is) (mem_mid us vs n))) in
+      let c =
+      chain_right (neighbor end first next) (neighbor end last previous) end us n vs end (subst P is s.chained) in
+      let real : n ≢ end = λ e.
+      once.0 (let A : ℕ → Type 0 = λ z. Mem z xs in subst A e (subst Q (sym is) (mem_mid us vs n))) in
       sym (neighbor_node end first next n real) ∙ head n vs c
     where
-      head : (p : ℕ) (ys : List ℕ) → IsLinkChain (neighbor end first next) (neighbor end last previous) p ys end → neighbor end first next p ≡ first_of end ys
+      head : (p : ℕ) (ys : List ℕ) → IsLinkChain (neighbor end first next) (neighbor end last previous) p ys end
+          → neighbor end first next p ≡ first_of end ys
       head p [] c = c.0
       head p (y ∷ ys) c = c.0
 
@@ -148,7 +176,8 @@ module _ {end : ℕ} {next previous : List ℕ} {first last : ℕ} {xs : List �
   pub first_leads : Mem first (xs ++ end ∷ [])
   first_leads =
       let P : ℕ → Type 0 = λ z. Mem z (xs ++ end ∷ []) in
-      subst P (neighbor_end end first next) (after_in (neighbor end first next) (neighbor end last previous) end xs end s.chained)
+      subst P (neighbor_end end first next)
+      (after_in (neighbor end first next) (neighbor end last previous) end xs end s.chained)
 
   module _ (n : ℕ) (m : Mem n xs) where
     real_node : n ≢ end
@@ -158,11 +187,14 @@ module _ {end : ℕ} {next previous : List ℕ} {first last : ℕ} {xs : List �
     next_leads =
         let at = split_at xs n m in
         let P : List ℕ → Type 0 = λ z. IsLinkChain (neighbor end first next) (neighbor end last previous) end z end in
-        let c = chain_right (neighbor end first next) (neighbor end last previous) end at.0 n at.1 end (subst P at.2 s.chained) in
+        let c =
+        chain_right (neighbor end first next) (neighbor end last previous) end at.0 n at.1 end
+        (subst P at.2 s.chained) in
         let found = after_in (neighbor end first next) (neighbor end last previous) n at.1 end c in
         let Q : ℕ → Type 0 = λ z. Mem z (xs ++ end ∷ []) in
         let R : List ℕ → Type 0 = λ z. Mem (neighbor end first next n) (z ++ end ∷ []) in
-        subst Q (neighbor_node end first next n real_node) (subst R (sym at.2) (elim (mem_cases at.1 (end ∷ []) _ found) [
+        subst Q (neighbor_node end first next n real_node)
+        (subst R (sym at.2) (elim (mem_cases at.1 (end ∷ []) _ found) [
           | inl a ↦ mem_left (at.0 ++ n ∷ at.1) (end ∷ []) _ (mem_right at.0 (n ∷ at.1) _ (inr a))
           | inr b ↦ mem_right (at.0 ++ n ∷ at.1) (end ∷ []) _ b
         ]))
@@ -171,7 +203,9 @@ module _ {end : ℕ} {next previous : List ℕ} {first last : ℕ} {xs : List �
     previous_leads =
         let at = split_at xs n m in
         let P : List ℕ → Type 0 = λ z. IsLinkChain (neighbor end first next) (neighbor end last previous) end z end in
-        let c = chain_left (neighbor end first next) (neighbor end last previous) end at.0 n at.1 end (subst P at.2 s.chained) in
+        let c =
+        chain_left (neighbor end first next) (neighbor end last previous) end at.0 n at.1 end
+        (subst P at.2 s.chained) in
         let found = before_in (neighbor end first next) (neighbor end last previous) end at.0 n c in
         let Q : ℕ → Type 0 = λ z. Mem z (end ∷ xs) in
         let R : List ℕ → Type 0 = λ z. Mem (neighbor end last previous n) (end ∷ z) in
@@ -181,7 +215,9 @@ module _ {end : ℕ} {next previous : List ℕ} {first last : ℕ} {xs : List �
         ]))
 
   -- n is put behind p, which is a node or the end
-  module _ (next' previous' : List ℕ) (first' last' : ℕ) (n : ℕ) (fresh : Mem n (end ∷ xs) → ⊥) (low : n < length previous) (sized : length previous' ≤ length next') (long : length previous ≤ length previous') where
+  module _ (next' previous' : List ℕ) (first' last' : ℕ) (n : ℕ) (fresh : Mem n (end ∷ xs) → ⊥)
+      (low : n < length previous) (sized : length previous' ≤ length next')
+      (long : length previous ≤ length previous') where
     put_within : (ys : List ℕ) → ((m : ℕ) → Mem m ys → (m ≡ n) ⊎ Mem m xs) → (m : ℕ) → Mem m ys → m < length previous'
     put_within ys from m h =
         elim (from m h) [
@@ -189,7 +225,9 @@ module _ {end : ℕ} {next previous : List ℕ} {first last : ℕ} {xs : List �
           | inr old ↦ omega (arith, inside m old, long)
         ]
 
-    pub put_first_chain : IsPut (neighbor end first next) (neighbor end last previous) (neighbor end first' next') (neighbor end last' previous') end n → IsLinkChain (neighbor end first' next') (neighbor end last' previous') end (n ∷ xs) end
+    pub put_first_chain : IsPut (neighbor end first next) (neighbor end last previous) (neighbor end first' next')
+        (neighbor end last' previous') end n
+        → IsLinkChain (neighbor end first' next') (neighbor end last' previous') end (n ∷ xs) end
     put_first_chain w =
         put_behind_start _ _ _ _ end n xs end w s.chained (λ h. elim (mem_cases xs (end ∷ []) n h) [
           | inl a ↦ fresh (inr a)
@@ -206,7 +244,8 @@ module _ {end : ℕ} {next previous : List ℕ} {first last : ℕ} {xs : List �
           unique_last ys y u.1 (λ m. d (inr m)),
         )
 
-    module _ (w : IsPut (neighbor end first next) (neighbor end last previous) (neighbor end first' next') (neighbor end last' previous') end n) (count : ℕ) (is : count ≡ length xs + 1) where
+    module _ (w : IsPut (neighbor end first next) (neighbor end last previous) (neighbor end first' next')
+        (neighbor end last' previous') end n) (count : ℕ) (is : count ≡ length xs + 1) where
       once_first : Unique (end ∷ (n ∷ xs))
       once_first = (λ m. elim m [ inl e ↦ fresh (inl (sym e)) | inr b ↦ once.0 b ], (λ m. fresh (inr m), once.1))
 
@@ -214,12 +253,18 @@ module _ {end : ℕ} {next previous : List ℕ} {first last : ℕ} {xs : List �
       count_first = omega (arith, is)
 
       pub put_first_walked : nodes_from end next' first' count ≡ n ∷ xs
-      put_first_walked = walked end next' previous' first' last' (n ∷ xs) (put_first_chain w) once_first (put_within (n ∷ xs) (λ m h. h)) sized count count_first
+      put_first_walked =
+          walked end next' previous' first' last' (n ∷ xs) (put_first_chain w) once_first
+          (put_within (n ∷ xs) (λ m h. h)) sized count count_first
 
       pub put_first_linked : AreLinksOf end next' previous' first' last' (nodes_from end next' first' count)
-      put_first_linked = linked end next' previous' first' last' (n ∷ xs) (put_first_chain w) once_first (put_within (n ∷ xs) (λ m h. h)) sized count count_first
+      put_first_linked =
+          linked end next' previous' first' last' (n ∷ xs) (put_first_chain w) once_first
+          (put_within (n ∷ xs) (λ m h. h)) sized count count_first
 
-    module _ (p : ℕ) (w : IsPut (neighbor end first next) (neighbor end last previous) (neighbor end first' next') (neighbor end last' previous') p n) (count : ℕ) (is : count ≡ length xs + 1) (us vs : List ℕ) (at : xs ≡ us ++ p ∷ vs) where
+    module _ (p : ℕ) (w : IsPut (neighbor end first next) (neighbor end last previous) (neighbor end first' next')
+        (neighbor end last' previous') p n) (count : ℕ) (is : count ≡ length xs + 1) (us vs : List ℕ)
+        (at : xs ≡ us ++ p ∷ vs) where
       put_chain : IsLinkChain (neighbor end first' next') (neighbor end last' previous') end (us ++ p ∷ (n ∷ vs)) end
       put_chain =
           let A : List ℕ → Type 0 = λ z. IsLinkChain (neighbor end first next) (neighbor end last previous) end z end in
@@ -234,7 +279,10 @@ module _ {end : ℕ} {next previous : List ℕ} {first last : ℕ} {xs : List �
             | inl a ↦ inr (subst A (sym at) (mem_left us (p ∷ vs) m a))
             | inr b ↦ elim b [
               | inl is_p ↦ inr (subst A (sym at) (mem_right us (p ∷ vs) m (inl is_p)))
-              | inr c ↦ elim c [ inl is_n ↦ inl is_n | inr d ↦ inr (subst A (sym at) (mem_right us (p ∷ vs) m (inr d))) ]
+              | inr c ↦ elim c [
+                | inl is_n ↦ inl is_n
+                | inr d ↦ inr (subst A (sym at) (mem_right us (p ∷ vs) m (inr d)))
+              ]
             ]
           ]
 
@@ -248,7 +296,8 @@ module _ {end : ℕ} {next previous : List ℕ} {first last : ℕ} {xs : List �
             spread_out us p vs n u.1 not_in,
           )
         where
-          spread_out : (rest : List ℕ) (x : ℕ) (bs : List ℕ) (y : ℕ) → Unique (rest ++ x ∷ bs) → (Mem y (rest ++ x ∷ bs) → ⊥) → Unique (rest ++ x ∷ (y ∷ bs))
+          spread_out : (rest : List ℕ) (x : ℕ) (bs : List ℕ) (y : ℕ)
+              → Unique (rest ++ x ∷ bs) → (Mem y (rest ++ x ∷ bs) → ⊥) → Unique (rest ++ x ∷ (y ∷ bs))
           spread_out [] x bs y u d = (λ m. elim m [ inl e ↦ d (inl (sym e)) | inr b ↦ u.0 b ], (λ m. d (inr m), u.1))
           spread_out (a ∷ rest) x bs y u d = (
             λ m. elim (mem_cases rest (x ∷ (y ∷ bs)) a m) [
@@ -262,16 +311,30 @@ module _ {end : ℕ} {next previous : List ℕ} {first last : ℕ} {xs : List �
           )
 
       count_put : count ≡ length (us ++ p ∷ (n ∷ vs))
-      count_put = omega (arith, is, ap (λ (z : List ℕ). length z) at, length-append us (p ∷ vs), length-append us (p ∷ (n ∷ vs)))
+      count_put =
+          omega (
+            arith,
+            is,
+            ap (λ (z : List ℕ). length z) at,
+            length-append us (p ∷ vs),
+            length-append us (p ∷ (n ∷ vs)),
+          )
 
       pub put_walked : nodes_from end next' first' count ≡ us ++ p ∷ (n ∷ vs)
-      put_walked = walked end next' previous' first' last' (us ++ p ∷ (n ∷ vs)) put_chain once_put (put_within (us ++ p ∷ (n ∷ vs)) from_put) sized count count_put
+      put_walked =
+          walked end next' previous' first' last' (us ++ p ∷ (n ∷ vs)) put_chain once_put
+          (put_within (us ++ p ∷ (n ∷ vs)) from_put) sized count count_put
 
       pub put_linked : AreLinksOf end next' previous' first' last' (nodes_from end next' first' count)
-      put_linked = linked end next' previous' first' last' (us ++ p ∷ (n ∷ vs)) put_chain once_put (put_within (us ++ p ∷ (n ∷ vs)) from_put) sized count count_put
+      put_linked =
+          linked end next' previous' first' last' (us ++ p ∷ (n ∷ vs)) put_chain once_put
+          (put_within (us ++ p ∷ (n ∷ vs)) from_put) sized count count_put
 
   -- n is taken out
-  module _ (next' previous' : List ℕ) (first' last' : ℕ) (n : ℕ) (us vs : List ℕ) (at : xs ≡ us ++ n ∷ vs) (w : IsTaken (neighbor end first next) (neighbor end last previous) (neighbor end first' next') (neighbor end last' previous') n) (sized : length previous' ≤ length next') (long : length previous ≤ length previous') (count : ℕ) (is : count + 1 ≡ length xs) where
+  module _ (next' previous' : List ℕ) (first' last' : ℕ) (n : ℕ) (us vs : List ℕ) (at : xs ≡ us ++ n ∷ vs)
+      (w : IsTaken (neighbor end first next) (neighbor end last previous) (neighbor end first' next')
+      (neighbor end last' previous') n) (sized : length previous' ≤ length next')
+      (long : length previous ≤ length previous') (count : ℕ) (is : count + 1 ≡ length xs) where
     once_at : Unique (end ∷ (us ++ n ∷ vs))
     once_at = let A : List ℕ → Type 0 = λ z. Unique (end ∷ z) in subst A at once
 
@@ -297,4 +360,5 @@ module _ {end : ℕ} {next previous : List ℕ} {first last : ℕ} {xs : List �
         ∙ sym (ap (without n) at ∙ without_mid n us vs (not_before us n vs once_at.1) (not_behind us n vs once_at.1))
 
     pub taken_linked : AreLinksOf end next' previous' first' last' (nodes_from end next' first' count)
-    taken_linked = linked end next' previous' first' last' (us ++ vs) chain_taken once_left within_taken sized count count_taken
+    taken_linked =
+        linked end next' previous' first' last' (us ++ vs) chain_taken once_left within_taken sized count count_taken

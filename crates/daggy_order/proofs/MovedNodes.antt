@@ -1,12 +1,14 @@
 -- Nodes that are put behind another, one behind the other.
-use Rattle.std.proofs.Common.{◌≡◌, ℕ, suc, ◌<◌, ◌≤◌, ◌⊎◌, ◌↔◌, inl, inr, Bool, true, false, List, [], ◌∷◌, ◌++◌, length, get_or, not, eqb, cond, refl, sym, ap, subst, ◌∙◌, arith, append_assoc}
+use Rattle.std.proofs.Common.{◌≡◌, ℕ, suc, ◌<◌, ◌≤◌, ◌⊎◌, ◌↔◌, inl, inr, Bool, true, false, List, [], ◌∷◌, ◌++◌, length}
+use Rattle.std.proofs.Common.{get_or, not, eqb, cond, refl, sym, ap, subst, ◌∙◌, arith, append_assoc}
 use Rattle.std.specs.List.{filter}
 use Rattle.std.specs.List.Sorted.{IsNonDecreasingBy}
 use Rattle.std.proofs.lemmas.Bool.{cases_eq, cases_lt, cases_Bool, false≢true, eq-eqb, ne_eqb, cond-true, cond-false}
 use Rattle.std.proofs.lemmas.List.{length-append}
 use Rattle.std.proofs.lemmas.List.Elements.{filter-append}
 use Rattle.daggy_base.specs.Removal.{without}
-use Rattle.daggy_base.proofs.Lists.{Mem, Unique, mem_left, mem_right, mem_cases, mem_mid, mem_out, mem_into, unique_right}
+use Rattle.daggy_base.proofs.Lists.{Mem, Unique, mem_left, mem_right, mem_cases, mem_mid, mem_out, mem_into}
+use Rattle.daggy_base.proofs.Lists.{unique_right}
 use Rattle.daggy_order.specs.Links.{without_all, LabelsAscend}
 use Rattle.daggy_order.proofs.Sorted.{mem_filter, filter_mem, unique_cross}
 use Rattle.daggy_order.proofs.ListParts.{filter_yes, filter_no, is_held, held_is}
@@ -14,13 +16,16 @@ use Rattle.daggy_order.proofs.LinkedNodes.{without_none, unique_without}
 use Rattle.daggy_order.proofs.BoundedSearch.{split_at}
 use Rattle.daggy_order.proofs.AscendingLabels.{asc_above, asc_lower}
 
-without_all_more : (done : List ℕ) (n : ℕ) (xs : List ℕ) → without_all (done ++ n ∷ []) xs ≡ without n (without_all done xs)
+without_all_more : (done : List ℕ) (n : ℕ) (xs : List ℕ)
+    → without_all (done ++ n ∷ []) xs ≡ without n (without_all done xs)
 without_all_more [] n xs = refl
 without_all_more (d ∷ done) n xs = without_all_more done n (without d xs)
 
 mem_without_all : (done : List ℕ) (n : ℕ) (xs : List ℕ) → Mem n xs → (Mem n done → ⊥) → Mem n (without_all done xs)
 mem_without_all [] n xs m d = m
-mem_without_all (e ∷ done) n xs m d = mem_without_all done n (without e xs) (mem_filter (λ z. not (eqb z e)) xs n m (is_held e n (λ is. d (inl is)))) (λ h. d (inr h))
+mem_without_all (e ∷ done) n xs m d =
+    mem_without_all done n (without e xs) (mem_filter (λ z. not (eqb z e)) xs n m (is_held e n (λ is. d (inl is))))
+    (λ h. d (inr h))
 
 without_all_mem : (done : List ℕ) (n : ℕ) (xs : List ℕ) → Mem n (without_all done xs) → Mem n xs
 without_all_mem [] n xs m = m
@@ -35,9 +40,12 @@ pub record Moving (a at : ℕ) (done before behind now : List ℕ) : Type 0 wher
 pub moves_none : (a : ℕ) (before behind now : List ℕ) → now ≡ before ++ a ∷ behind → Moving a a [] before behind now
 moves_none a before behind now is = record { front = []; ends = refl; is = is }
 
-module _ {a at : ℕ} {done before behind now : List ℕ} (s : Moving a at done before behind now) (once : Unique (before ++ a ∷ behind)) (n : ℕ) (m : Mem n before) (new : Mem n done → ⊥) where
+module _ {a at : ℕ} {done before behind now : List ℕ} (s : Moving a at done before behind now)
+    (once : Unique (before ++ a ∷ behind)) (n : ℕ) (m : Mem n before) (new : Mem n done → ⊥) where
   pub moves_in : Mem n now
-  moves_in = let P : List ℕ → Type 0 = λ z. Mem n z in subst P (sym s.is) (mem_left (without_all done before) ((a ∷ done) ++ behind) n (mem_without_all done n before m new))
+  moves_in = let P : List ℕ → Type 0 = λ z. Mem n z in
+      subst P (sym s.is)
+      (mem_left (without_all done before) ((a ∷ done) ++ behind) n (mem_without_all done n before m new))
 
   not_later : Mem n ((a ∷ done) ++ behind) → ⊥
   not_later h =
@@ -53,17 +61,20 @@ module _ {a at : ℕ} {done before behind now : List ℕ} (s : Moving a at done 
       ∙ (filter-append (λ z. not (eqb z n)) (without_all done before) ((a ∷ done) ++ behind)
       ∙ (ap (λ (z : List ℕ). z ++ without n ((a ∷ done) ++ behind)) (sym (without_all_more done n before))
       ∙ (ap (λ (z : List ℕ). without_all (done ++ n ∷ []) before ++ z) (without_none n ((a ∷ done) ++ behind) not_later)
-      ∙ ap (λ (z : List ℕ). without_all (done ++ n ∷ []) before ++ z) (ap (λ (z : List ℕ). z ++ behind) s.ends ∙ append_assoc s.front (at ∷ []) behind))))
+      ∙ ap (λ (z : List ℕ). without_all (done ++ n ∷ []) before ++ z)
+      (ap (λ (z : List ℕ). z ++ behind) s.ends ∙ append_assoc s.front (at ∷ []) behind))))
 
   pub moves_at : Mem at (without n now)
   moves_at =
       let P : List ℕ → Type 0 = λ z. Mem at z in
-      subst P (sym moves_left) (mem_right (without_all (done ++ n ∷ []) before) (s.front ++ at ∷ behind) at (mem_mid s.front behind at))
+      subst P (sym moves_left)
+      (mem_right (without_all (done ++ n ∷ []) before) (s.front ++ at ∷ behind) at (mem_mid s.front behind at))
 
   pub moves_absent : Mem n (without n now) → ⊥
   moves_absent h = held_is n n (filter_mem (λ z. not (eqb z n)) now n h).1 refl
 
-  pub moves_more : (now' : List ℕ) → ((ns ms : List ℕ) → without n now ≡ ns ++ at ∷ ms → now' ≡ ns ++ at ∷ (n ∷ ms)) → Moving a n (done ++ n ∷ []) before behind now'
+  pub moves_more : (now' : List ℕ) → ((ns ms : List ℕ) → without n now ≡ ns ++ at ∷ ms → now' ≡ ns ++ at ∷ (n ∷ ms))
+      → Moving a n (done ++ n ∷ []) before behind now'
   moves_more now' on =
       let left = without_all (done ++ n ∷ []) before in
       record {
@@ -71,7 +82,8 @@ module _ {a at : ℕ} {done before behind now : List ℕ} (s : Moving a at done 
         ends = ap (λ (z : List ℕ). z ++ n ∷ []) s.ends;
         is = on (left ++ s.front) behind (moves_left ∙ sym (append_assoc left s.front (at ∷ behind)))
             ∙ (append_assoc left s.front (at ∷ (n ∷ behind))
-            ∙ ap (λ (z : List ℕ). left ++ z) (sym (append_assoc s.front (at ∷ []) (n ∷ behind)) ∙ (ap (λ (z : List ℕ). z ++ n ∷ behind) (sym s.ends) ∙ sym (append_assoc (a ∷ done) (n ∷ []) behind))));
+            ∙ ap (λ (z : List ℕ). left ++ z) (sym (append_assoc s.front (at ∷ []) (n ∷ behind))
+            ∙ (ap (λ (z : List ℕ). z ++ n ∷ behind) (sym s.ends) ∙ sym (append_assoc (a ∷ done) (n ∷ []) behind))));
       }
 
 -- whether a number is in a list
@@ -85,14 +97,16 @@ stands_exact (x ∷ xs) n =
     elim (cases_eq x n) [
       | inl e ↦ (λ h. inl (sym e), λ m. cond-true (eqb x n) true (stands_in xs n) (eq-eqb x n e))
       | inr d ↦ (
-          let is : cond (eqb x n) true (stands_in xs n) ≡ stands_in xs n = cond-false (eqb x n) true (stands_in xs n) (ne_eqb x n d) in (
+          let is : cond (eqb x n) true (stands_in xs n) ≡ stands_in xs n =
+          cond-false (eqb x n) true (stands_in xs n) (ne_eqb x n d) in (
             λ h. inr ((stands_exact xs n).0 (sym is ∙ h)),
             λ m. is ∙ (stands_exact xs n).1 (elim m [ inl e ↦ absurd (d (sym e)) | inr b ↦ b ]),
           )
           )
     ]
 
-filter_both : (p q r : ℕ → Bool) (xs : List ℕ) → ((x : ℕ) → q x ≡ false → r x ≡ false) → ((x : ℕ) → q x ≡ true → r x ≡ p x) → filter p (filter q xs) ≡ filter r xs
+filter_both : (p q r : ℕ → Bool) (xs : List ℕ)
+    → ((x : ℕ) → q x ≡ false → r x ≡ false) → ((x : ℕ) → q x ≡ true → r x ≡ p x) → filter p (filter q xs) ≡ filter r xs
 filter_both p q r [] fails passes = refl
 filter_both p q r (x ∷ xs) fails passes =
     let rest = filter_both p q r xs fails passes in
@@ -100,7 +114,8 @@ filter_both p q r (x ∷ xs) fails passes =
       | inl t ↦ (
           let same = passes x t in
           ap (filter p) (filter_yes q x xs t) ∙ elim (cases_Bool (p x)) [
-            | inl u ↦ filter_yes p x (filter q xs) u ∙ (ap (λ (z : List ℕ). x ∷ z) rest ∙ sym (filter_yes r x xs (same ∙ u)))
+            | inl u ↦
+                filter_yes p x (filter q xs) u ∙ (ap (λ (z : List ℕ). x ∷ z) rest ∙ sym (filter_yes r x xs (same ∙ u)))
             | inr u ↦ filter_no p x (filter q xs) u ∙ (rest ∙ sym (filter_no r x xs (same ∙ u)))
           ]
           )
@@ -113,30 +128,38 @@ without_all_is [] xs = sym (all xs) where
   all [] = refl
   all (y ∷ ys) = ap (λ (z : List ℕ). y ∷ z) (all ys)
 without_all_is (m ∷ ns) xs =
-    without_all_is ns (without m xs) ∙ filter_both (λ n. not (stands_in ns n)) (λ n. not (eqb n m)) (λ n. not (stands_in (m ∷ ns) n)) xs (λ x f. ap not (elim (cases_eq x m) [
+    without_all_is ns (without m xs)
+    ∙ filter_both (λ n. not (stands_in ns n)) (λ n. not (eqb n m)) (λ n. not (stands_in (m ∷ ns) n)) xs
+    (λ x f. ap not (elim (cases_eq x m) [
       | inl e ↦ cond-true (eqb m x) true (stands_in ns x) (eq-eqb m x (sym e))
       | inr d ↦ absurd (false≢true (sym f ∙ is_held m x d))
     ])) (λ x t. ap not (cond-false (eqb m x) true (stands_in ns x) (ne_eqb m x (λ e. held_is m x t (sym e)))))
 
 -- ascending lists of the same members are one
 module _ (labels : List ℕ) where
-  pub asc_filter : (test : ℕ → Bool) (low : ℕ) (xs : List ℕ) (high : ℕ) → LabelsAscend labels low xs high → LabelsAscend labels low (filter test xs) high
+  pub asc_filter : (test : ℕ → Bool) (low : ℕ) (xs : List ℕ) (high : ℕ)
+      → LabelsAscend labels low xs high → LabelsAscend labels low (filter test xs) high
   asc_filter test low [] high c = c
   asc_filter test low (x ∷ xs) high c =
       let rest = asc_filter test (get_or labels x 0) xs high c.1 in
       let P : List ℕ → Type 0 = λ z. LabelsAscend labels low z high in
       elim (cases_Bool (test x)) [
         | inl t ↦ subst P (sym (filter_yes test x xs t)) (c.0, rest)
-        | inr f ↦ subst P (sym (filter_no test x xs f)) (asc_lower labels (get_or labels x 0) low (filter test xs) high (omega (arith, c.0)) rest)
+        | inr f ↦
+            subst P (sym (filter_no test x xs f))
+            (asc_lower labels (get_or labels x 0) low (filter test xs) high (omega (arith, c.0)) rest)
       ]
 
-  pub asc_equal : (low : ℕ) (xs ys : List ℕ) (high : ℕ) → LabelsAscend labels low xs high → LabelsAscend labels low ys high → ((n : ℕ) → Mem n xs → Mem n ys) → ((n : ℕ) → Mem n ys → Mem n xs) → xs ≡ ys
+  pub asc_equal : (low : ℕ) (xs ys : List ℕ) (high : ℕ) → LabelsAscend labels low xs high
+      → LabelsAscend labels low ys high → ((n : ℕ) → Mem n xs → Mem n ys) → ((n : ℕ) → Mem n ys → Mem n xs) → xs ≡ ys
   asc_equal low [] [] high c d in_ys in_xs = refl
   asc_equal low [] (y ∷ ys) high c d in_ys in_xs = absurd (in_xs y (inl refl))
   asc_equal low (x ∷ xs) [] high c d in_ys in_xs = absurd (in_ys x (inl refl))
   asc_equal low (x ∷ xs) (y ∷ ys) high c d in_ys in_xs =
-      let above_x : (n : ℕ) → Mem n xs → get_or labels x 0 < get_or labels n 0 = asc_above labels (get_or labels x 0) xs high c.1 in
-      let above_y : (n : ℕ) → Mem n ys → get_or labels y 0 < get_or labels n 0 = asc_above labels (get_or labels y 0) ys high d.1 in
+      let above_x : (n : ℕ) → Mem n xs → get_or labels x 0 < get_or labels n 0 =
+      asc_above labels (get_or labels x 0) xs high c.1 in
+      let above_y : (n : ℕ) → Mem n ys → get_or labels y 0 < get_or labels n 0 =
+      asc_above labels (get_or labels y 0) ys high d.1 in
       let head : x ≡ y = elim (in_ys x (inl refl)) [
         | inl e ↦ e
         | inr m ↦ elim (in_xs y (inl refl)) [
@@ -155,7 +178,10 @@ module _ (labels : List ℕ) where
       ]) in
       ap (λ (z : ℕ). z ∷ xs) head ∙ ap (λ (z : List ℕ). y ∷ z) rest
 
-  pub asc_sorted : (low : ℕ) (xs : List ℕ) (high : ℕ) → Unique xs → IsNonDecreasingBy (λ n. get_or labels n 0) xs → ((n : ℕ) → Mem n xs → low < get_or labels n 0) → ((n : ℕ) → Mem n xs → get_or labels n 0 < high) → low < high → ((u v : ℕ) → Mem u xs → Mem v xs → get_or labels u 0 ≡ get_or labels v 0 → u ≡ v) → LabelsAscend labels low xs high
+  pub asc_sorted : (low : ℕ) (xs : List ℕ) (high : ℕ) → Unique xs → IsNonDecreasingBy (λ n. get_or labels n 0) xs
+      → ((n : ℕ) → Mem n xs → low < get_or labels n 0) → ((n : ℕ) → Mem n xs → get_or labels n 0 < high) → low < high
+      → ((u v : ℕ) → Mem u xs → Mem v xs → get_or labels u 0 ≡ get_or labels v 0 → u ≡ v)
+      → LabelsAscend labels low xs high
   asc_sorted low [] high u s above below between one = between
   asc_sorted low (x ∷ xs) high u s above below between one = (
     above x (inl refl),
@@ -163,10 +189,14 @@ module _ (labels : List ℕ) where
         let up = least n xs m (λ j w. s 0 (suc j) 0 (omega arith) (omega arith)) in
         elim (cases_lt (get_or labels x 0) (get_or labels n 0)) [
           | inl l ↦ l
-          | inr h ↦ absurd (u.0 (let P : ℕ → Type 0 = λ z. Mem z xs in subst P (sym (one x n (inl refl) (inr m) (omega (arith, up, h)))) m))
+          | inr h ↦
+              absurd (u.0 (let P : ℕ → Type 0 = λ z. Mem z xs in
+              subst P (sym (one x n (inl refl) (inr m) (omega (arith, up, h)))) m))
         ]) (λ n m. below n (inr m)) (below x (inl refl)) (λ a b m k. one a b (inr m) (inr k)),
   ) where
-    least : (n : ℕ) (ys : List ℕ) → Mem n ys → ((j : ℕ) → j < length ys → get_or labels x 0 ≤ get_or labels (get_or ys j 0) 0) → get_or labels x 0 ≤ get_or labels n 0
+    least : (n : ℕ) (ys : List ℕ)
+        → Mem n ys → ((j : ℕ) → j < length ys → get_or labels x 0 ≤ get_or labels (get_or ys j 0) 0)
+        → get_or labels x 0 ≤ get_or labels n 0
     least n [] m h = absurd m
     least n (y ∷ ys) m h =
         elim m [
@@ -214,7 +244,8 @@ unique_same xs (y ∷ ys) u short h =
                 | inr b ↦ b
               ]),
             ),
-            unique_same (s.0 ++ s.1) ys (unique_without s.0 y s.1 u') (omega (arith, short, long, length-append s.0 (y ∷ s.1), length-append s.0 s.1)) (λ x k.
+            unique_same (s.0 ++ s.1) ys (unique_without s.0 y s.1 u')
+                (omega (arith, short, long, length-append s.0 (y ∷ s.1), length-append s.0 s.1)) (λ x k.
                 let P : List ℕ → Type 0 = λ z. Mem x z in
                 elim (h x (subst P (sym s.2) (mem_into s.0 s.1 y x k))) [
                   | inl e ↦ absurd (apart s.0 y s.1 u' (let Q : ℕ → Type 0 = λ z. Mem z (s.0 ++ s.1) in subst Q e k))
@@ -236,5 +267,8 @@ unique_same xs (y ∷ ys) u short h =
     member x (z ∷ zs) =
         elim (cases_eq x z) [
           | inl e ↦ inl (inl e)
-          | inr d ↦ elim (member x zs) [ inl m ↦ inl (inr m) | inr none ↦ inr (λ m. elim m [ inl e ↦ d e | inr b ↦ none b ]) ]
+          | inr d ↦ elim (member x zs) [
+            | inl m ↦ inl (inr m)
+            | inr none ↦ inr (λ m. elim m [ inl e ↦ d e | inr b ↦ none b ])
+          ]
         ]

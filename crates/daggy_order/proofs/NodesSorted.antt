@@ -1,5 +1,6 @@
 -- The nodes that a search for cycles sorted.
-use Rattle.std.proofs.Common.{◌≡◌, ℕ, zero, suc, ◌<◌, ◌-◌, ◌∙◌, inl, inr, List, [], ◌∷◌, length, take, drop, get_or, sym, ap, subst, arith}
+use Rattle.std.proofs.Common.{◌≡◌, ℕ, zero, suc, ◌<◌, ◌-◌, ◌∙◌, inl, inr, List, [], ◌∷◌, length, take, drop, get_or}
+use Rattle.std.proofs.Common.{sym, ap, subst, arith}
 use Rattle.std.proofs.lemmas.List.{length-drop, take_all}
 use Rattle.std.specs.List.{Contains}
 use Rattle.daggy_base.specs.Graph.{Graph}
@@ -14,10 +15,13 @@ use Rattle.daggy_order.proofs.Sorted.{place_same, place_other}
 
 -- what stands from a place on, read as a slice
 pub whole_back : (t : ℕ) (xs : List ℕ) → take (length xs - t) (drop t xs) ≡ drop t xs
-whole_back t xs = ap (λ (z : ℕ). take z (drop t xs)) (sym (length-drop t xs)) ∙ take_all (length (drop t xs)) (drop t xs) (omega arith)
+whole_back t xs =
+    ap (λ (z : ℕ). take z (drop t xs)) (sym (length-drop t xs))
+    ∙ take_all (length (drop t xs)) (drop t xs) (omega arith)
 
 -- a node of a list does not stand before itself
-pub not_before : (xs : List ℕ) → AreDistinct xs → (i d x : ℕ) → i < length xs → x ≡ get_or xs i d → Mem x (take i xs) → ⊥
+pub not_before : (xs : List ℕ)
+    → AreDistinct xs → (i d x : ℕ) → i < length xs → x ≡ get_or xs i d → Mem x (take i xs) → ⊥
 not_before xs distinct i d x low is m = go xs (unique_from_distinct xs distinct) i low is m
   where
     go : (xs : List ℕ) → Unique xs → (i : ℕ) → i < length xs → x ≡ get_or xs i d → Mem x (take i xs) → ⊥
@@ -34,20 +38,30 @@ not_before xs distinct i d x low is m = go xs (unique_from_distinct xs distinct)
         ]
 
 -- each leads to later ones alone, so each stands before its children
-onward_places : {N E : Type 0} (g : Graph N E) (xs : List ℕ) → Unique xs → LeadsOnward g xs → (u v : ℕ) → Mem u xs → AreJoined g u v → place xs u < place xs v
+onward_places : {N E : Type 0} (g : Graph N E) (xs : List ℕ)
+    → Unique xs → LeadsOnward g xs → (u v : ℕ) → Mem u xs → AreJoined g u v → place xs u < place xs v
 onward_places g [] once onward u v m j = absurd m
 onward_places g (x ∷ xs) once onward u v m j =
     elim m [
       | inl e ↦ (
           let P : ℕ → Type 0 = λ z. AreJoined g z v in
           let later : Mem v xs = contains_mem xs v (onward.0 v (subst P e j)) in
-          omega (arith, place_same x u xs (sym e), place_other x v xs (λ same. once.0 (let Q : ℕ → Type 0 = λ z. Mem z xs in subst Q (sym same) later)))
+          omega (
+            arith,
+            place_same x u xs (sym e),
+            place_other x v xs (λ same. once.0 (let Q : ℕ → Type 0 = λ z. Mem z xs in subst Q (sym same) later)),
+          )
           )
       | inr b ↦ (
           let differs : x ≡ u → ⊥ = λ same. once.0 (let Q : ℕ → Type 0 = λ z. Mem z xs in subst Q (sym same) b) in
           let later : Mem v xs = stays xs onward.1 b in
           let other : x ≡ v → ⊥ = λ same. once.0 (let Q : ℕ → Type 0 = λ z. Mem z xs in subst Q (sym same) later) in
-          omega (arith, place_other x u xs differs, place_other x v xs other, onward_places g xs once.1 onward.1 u v b j)
+          omega (
+            arith,
+            place_other x u xs differs,
+            place_other x v xs other,
+            onward_places g xs once.1 onward.1 u v b j,
+          )
           )
     ]
   where
@@ -59,15 +73,19 @@ onward_places g (x ∷ xs) once onward u v m j =
           | inr b ↦ inr (stays ys o.1 b)
         ]
 
-pub order_from_sorted : {N E : Type 0} {end : ℕ} {g : Graph N E} → IsWellFormed end g → (nodes : List ℕ) → IsSorted g nodes → IsOrderOf g nodes
+pub order_from_sorted : {N E : Type 0} {end : ℕ} {g : Graph N E}
+    → IsWellFormed end g → (nodes : List ℕ) → IsSorted g nodes → IsOrderOf g nodes
 order_from_sorted {N} {E} {end} {g} w nodes s =
     record {
       exact = s.exact;
       once = s.once;
-      sorted = λ u v j. onward_places g nodes (unique_from_distinct nodes s.once) s.onward u v (contains_mem nodes u ((s.exact u).1 (w.parents j.0 _ j.2))) j;
+      sorted = λ u v j.
+          onward_places g nodes (unique_from_distinct nodes s.once) s.onward u v
+          (contains_mem nodes u ((s.exact u).1 (w.parents j.0 _ j.2))) j;
     }
 
 -- its nodes have indices
-pub sorted_real : {N E : Type 0} {end : ℕ} {g : Graph N E} → IsWellFormed end g → (nodes : List ℕ) → IsSorted g nodes → (n : ℕ) → Contains nodes n → n < end
+pub sorted_real : {N E : Type 0} {end : ℕ} {g : Graph N E}
+    → IsWellFormed end g → (nodes : List ℕ) → IsSorted g nodes → (n : ℕ) → Contains nodes n → n < end
 sorted_real {N} {E} {end} {g} w nodes s n c =
     omega (arith, below_bound g.nodes n ((s.exact n).0 c), bound_low g.nodes, w.few_nodes)

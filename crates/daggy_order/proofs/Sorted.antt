@@ -1,10 +1,12 @@
 -- Lists in which no relation leads back, and how they are parted.
-use Rattle.std.proofs.Common.{◌≡◌, ℕ, suc, ◌+◌, ◌<◌, Bool, true, not, inl, inr, List, [], ◌∷◌, ◌++◌, length, refl, sym, ap, subst, ◌∙◌, arith, eqb, append_assoc}
+use Rattle.std.proofs.Common.{◌≡◌, ℕ, suc, ◌+◌, ◌<◌, Bool, true, not, inl, inr, List, [], ◌∷◌, ◌++◌, length, refl, sym}
+use Rattle.std.proofs.Common.{ap, subst, ◌∙◌, arith, eqb, append_assoc}
 use Rattle.std.specs.List.{filter}
 use Rattle.std.proofs.lemmas.Bool.{false≢true, cases_eq, cases_Bool, eq-eqb, ne_eqb, cond-true, cond-false}
 use Rattle.daggy_order.specs.Ordered.{place}
 use Rattle.daggy_base.specs.WellFormed.{AreDistinct}
-use Rattle.daggy_base.proofs.Lists.{Mem, Unique, mem_left, mem_right, mem_cases, unique_append, unique_right, contains_mem}
+use Rattle.daggy_base.proofs.Lists.{Mem, Unique, mem_left, mem_right, mem_cases, unique_append, unique_right}
+use Rattle.daggy_base.proofs.Lists.{contains_mem}
 
 pub distinct_from_unique : (xs : List ℕ) → Unique xs → AreDistinct xs
 distinct_from_unique [] u = tt
@@ -32,7 +34,8 @@ filter_mem test (y ∷ ys) x m =
     let P : List ℕ → Type 0 = λ z. Mem x z in
     elim (cases_Bool (test y)) [
       | inl t ↦ (
-          let here : Mem x (y ∷ filter test ys) = subst P (cond-true (test y) (y ∷ filter test ys) (filter test ys) t) m in
+          let here : Mem x (y ∷ filter test ys) =
+          subst P (cond-true (test y) (y ∷ filter test ys) (filter test ys) t) m in
           elim here [ inl e ↦ (inl e, ap test e ∙ t) | inr b ↦ let r = filter_mem test ys x b in (inr r.0, r.1) ]
           )
       | inr f ↦ (
@@ -46,7 +49,9 @@ unique_filter test [] u = tt
 unique_filter test (y ∷ ys) u =
     let P : List ℕ → Type 0 = λ z. Unique z in
     elim (cases_Bool (test y)) [
-      | inl t ↦ subst P (sym (cond-true (test y) (y ∷ filter test ys) (filter test ys) t)) (λ m. u.0 (filter_mem test ys y m).0, unique_filter test ys u.1)
+      | inl t ↦
+          subst P (sym (cond-true (test y) (y ∷ filter test ys) (filter test ys) t))
+          (λ m. u.0 (filter_mem test ys y m).0, unique_filter test ys u.1)
       | inr f ↦ subst P (sym (cond-false (test y) (y ∷ filter test ys) (filter test ys) f)) (unique_filter test ys u.1)
     ]
 
@@ -92,7 +97,8 @@ Sorted R [] = Unit {0}
 Sorted R (x ∷ xs) = ((y : ℕ) → Mem y (x ∷ xs) → R y x → ⊥) × Sorted R xs
 
 module _ (R : ℕ → ℕ → Type 0) where
-  pub sorted_append : (xs ys : List ℕ) → Sorted R xs → Sorted R ys → ((x y : ℕ) → Mem x xs → Mem y ys → R y x → ⊥) → Sorted R (xs ++ ys)
+  pub sorted_append : (xs ys : List ℕ)
+      → Sorted R xs → Sorted R ys → ((x y : ℕ) → Mem x xs → Mem y ys → R y x → ⊥) → Sorted R (xs ++ ys)
   sorted_append [] ys s t c = t
   sorted_append (x ∷ xs) ys s t c = (
     λ y m r. elim m [
@@ -130,11 +136,13 @@ module _ (R : ℕ → ℕ → Type 0) where
           λ y m r. elim m [ inl e ↦ s.0 y (inl e) r | inr b ↦ s.0 y (inr (filter_mem test xs y b).0) r ],
           sorted_filter test xs s.1,
         )
-        | inr f ↦ subst P (sym (cond-false (test x) (x ∷ filter test xs) (filter test xs) f)) (sorted_filter test xs s.1)
+        | inr f ↦
+            subst P (sym (cond-false (test x) (x ∷ filter test xs) (filter test xs) f)) (sorted_filter test xs s.1)
       ]
 
   -- by places
-  pub sorted_from_places : (xs : List ℕ) → Unique xs → ((u v : ℕ) → Mem u xs → Mem v xs → R u v → place xs u < place xs v) → Sorted R xs
+  pub sorted_from_places : (xs : List ℕ)
+      → Unique xs → ((u v : ℕ) → Mem u xs → Mem v xs → R u v → place xs u < place xs v) → Sorted R xs
   sorted_from_places [] u h = tt
   sorted_from_places (x ∷ xs) u h = (
     λ y m r. let low = h y x m (inl refl) r in absurd (omega (arith, low, place_same x x xs refl)),
@@ -145,7 +153,8 @@ module _ (R : ℕ → ℕ → Type 0) where
         omega (arith, low, place_other x y xs apart_y, place_other x z xs apart_z)),
   )
 
-  pub places_from_sorted : (xs : List ℕ) → Sorted R xs → (u v : ℕ) → Mem u xs → Mem v xs → R u v → place xs u < place xs v
+  pub places_from_sorted : (xs : List ℕ)
+      → Sorted R xs → (u v : ℕ) → Mem u xs → Mem v xs → R u v → place xs u < place xs v
   places_from_sorted [] s u v m n r = absurd m
   places_from_sorted (x ∷ xs) s u v m n r =
       elim (cases_eq x v) [
@@ -205,8 +214,12 @@ module _ (test : ℕ → Bool) (pre seg post : List ℕ) where
       let fails = filter (λ n. not (test n)) seg in
       let passes = filter test seg in
       let v = unique_right pre (seg ++ post) u in
-      let inner : Unique (passes ++ post) = unique_append passes post (unique_filter test seg (unique_left seg post v)) (unique_right seg post v) (λ x t z. unique_cross seg post v x (filter_mem test seg x t).0 z) in
-      let rest : Unique (fails ++ (passes ++ post)) = unique_append fails (passes ++ post) (unique_filter (λ n. not (test n)) seg (unique_left seg post v)) inner (λ x f q.
+      let inner : Unique (passes ++ post) =
+      unique_append passes post (unique_filter test seg (unique_left seg post v)) (unique_right seg post v)
+      (λ x t z. unique_cross seg post v x (filter_mem test seg x t).0 z) in
+      let rest : Unique (fails ++ (passes ++ post)) =
+      unique_append fails (passes ++ post) (unique_filter (λ n. not (test n)) seg (unique_left seg post v)) inner
+      (λ x f q.
       let h = filter_mem (λ n. not (test n)) seg x f in
       elim (mem_cases passes post x q) [
         | inl t ↦ apart test x h.1 (filter_mem test seg x t).1
@@ -222,13 +235,19 @@ module _ (test : ℕ → Bool) (pre seg post : List ℕ) where
       ]))
 
   -- what passes leads to nothing that fails
-  pub parts_sorted : (R : ℕ → ℕ → Type 0) → Sorted R (pre ++ (seg ++ post)) → ((x y : ℕ) → Mem x seg → Mem y seg → not (test x) ≡ true → test y ≡ true → R y x → ⊥) → Sorted R (parts test pre seg post)
+  pub parts_sorted : (R : ℕ → ℕ → Type 0) → Sorted R (pre ++ (seg ++ post))
+      → ((x y : ℕ) → Mem x seg → Mem y seg → not (test x) ≡ true → test y ≡ true → R y x → ⊥)
+      → Sorted R (parts test pre seg post)
   parts_sorted R s closed =
       let fails = filter (λ n. not (test n)) seg in
       let passes = filter test seg in
       let v = sorted_right R pre (seg ++ post) s in
-      let inner : Sorted R (passes ++ post) = sorted_append R passes post (sorted_filter R test seg (sorted_left R seg post v)) (sorted_right R seg post v) (λ x y t z r. sorted_cross R seg post v x y (filter_mem test seg x t).0 z r) in
-      let rest : Sorted R (fails ++ (passes ++ post)) = sorted_append R fails (passes ++ post) (sorted_filter R (λ n. not (test n)) seg (sorted_left R seg post v)) inner (λ x y f q r.
+      let inner : Sorted R (passes ++ post) =
+      sorted_append R passes post (sorted_filter R test seg (sorted_left R seg post v)) (sorted_right R seg post v)
+      (λ x y t z r. sorted_cross R seg post v x y (filter_mem test seg x t).0 z r) in
+      let rest : Sorted R (fails ++ (passes ++ post)) =
+      sorted_append R fails (passes ++ post) (sorted_filter R (λ n. not (test n)) seg (sorted_left R seg post v)) inner
+      (λ x y f q r.
       let h = filter_mem (λ n. not (test n)) seg x f in
       elim (mem_cases passes post y q) [
         | inl t ↦ (let k = filter_mem test seg y t in closed x y h.0 k.0 h.1 k.1 r)
@@ -244,12 +263,14 @@ module _ (test : ℕ → Bool) (pre seg post : List ℕ) where
       ]) r)
 
   -- what fails stands before what passes
-  pub parts_before : Unique (pre ++ (seg ++ post)) → (x y : ℕ) → Mem x seg → Mem y seg → not (test x) ≡ true → test y ≡ true → place (parts test pre seg post) x < place (parts test pre seg post) y
+  pub parts_before : Unique (pre ++ (seg ++ post)) → (x y : ℕ) → Mem x seg → Mem y seg → not (test x) ≡ true
+      → test y ≡ true → place (parts test pre seg post) x < place (parts test pre seg post) y
   parts_before u x y m n f t =
       let fails = filter (λ n. not (test n)) seg in
       let passes = filter test seg in
       let is : (pre ++ fails) ++ (passes ++ post) ≡ parts test pre seg post = append_assoc pre fails (passes ++ post) in
-      let early : place ((pre ++ fails) ++ (passes ++ post)) x < length (pre ++ fails) = place_left (pre ++ fails) (passes ++ post) x (mem_right pre fails x (mem_filter (λ n. not (test n)) seg x m f)) in
+      let early : place ((pre ++ fails) ++ (passes ++ post)) x < length (pre ++ fails) =
+      place_left (pre ++ fails) (passes ++ post) x (mem_right pre fails x (mem_filter (λ n. not (test n)) seg x m f)) in
       let absent : Mem y (pre ++ fails) → ⊥ = λ h. elim (mem_cases pre fails y h) [
         | inl p ↦ unique_cross pre (seg ++ post) u y p (mem_left seg post y n)
         | inr q ↦ apart test y (filter_mem (λ n. not (test n)) seg y q).1 t

@@ -1,5 +1,6 @@
 -- Lists sorted by a relation, and the changes that leave one.
-use Rattle.std.proofs.Common.{◌≡◌, ℕ, ◌⊎◌, ◌↔◌, inl, inr, Bool, true, List, [], ◌∷◌, ◌++◌, Option, Some, None, map, refl, sym, ap, subst, ◌∙◌}
+use Rattle.std.proofs.Common.{◌≡◌, ℕ, ◌⊎◌, ◌↔◌, inl, inr, Bool, true, List, [], ◌∷◌, ◌++◌, Option, Some, None, map}
+use Rattle.std.proofs.Common.{refl, sym, ap, subst, ◌∙◌}
 use Rattle.std.specs.List.{filter, filter_map, cons_option}
 use Rattle.std.proofs.lemmas.Option.{same_Some}
 use Rattle.daggy_base.proofs.Lists.{Mem, Unique, mem_left, mem_right, mem_cases, unique_append}
@@ -11,7 +12,8 @@ pub record Lists (Has : ℕ → Type 0) (R : ℕ → ℕ → Type 0) (xs : List 
   pub once : Unique xs
   pub sorted : Sorted R xs
 
-pub sorted_fewer : (R S : ℕ → ℕ → Type 0) (xs : List ℕ) → ((u v : ℕ) → Mem u xs → Mem v xs → S u v → R u v) → Sorted R xs → Sorted S xs
+pub sorted_fewer : (R S : ℕ → ℕ → Type 0) (xs : List ℕ)
+    → ((u v : ℕ) → Mem u xs → Mem v xs → S u v → R u v) → Sorted R xs → Sorted S xs
 sorted_fewer R S [] fewer s = tt
 sorted_fewer R S (x ∷ xs) fewer s = (
   λ y m r. s.0 y m (fewer y x m (inl refl) r),
@@ -31,11 +33,13 @@ named_later : (o : Option ℕ) (xs : List ℕ) (k : ℕ) → Mem k xs → Mem k 
 named_later None xs k m = m
 named_later (Some x) xs k m = inr m
 
-unique_named : (o : Option ℕ) (xs : List ℕ) → ((k : ℕ) → o ≡ Some k → Mem k xs → ⊥) → Unique xs → Unique (cons_option o xs)
+unique_named : (o : Option ℕ) (xs : List ℕ)
+    → ((k : ℕ) → o ≡ Some k → Mem k xs → ⊥) → Unique xs → Unique (cons_option o xs)
 unique_named None xs new u = u
 unique_named (Some x) xs new u = (new x refl, u)
 
-sorted_named : (R : ℕ → ℕ → Type 0) (o : Option ℕ) (xs : List ℕ) → ((k y : ℕ) → o ≡ Some k → Mem y (k ∷ xs) → R y k → ⊥) → Sorted R xs → Sorted R (cons_option o xs)
+sorted_named : (R : ℕ → ℕ → Type 0) (o : Option ℕ) (xs : List ℕ)
+    → ((k y : ℕ) → o ≡ Some k → Mem y (k ∷ xs) → R y k → ⊥) → Sorted R xs → Sorted R (cons_option o xs)
 sorted_named R None xs first s = s
 sorted_named R (Some x) xs first s = (λ y m r. first x y refl m r, s)
 
@@ -66,9 +70,12 @@ module _ (name : ℕ → Option ℕ) where
       unique_named (name x) (filter_map name xs) (λ k is m.
       let w = was_named xs k m in
       let P : ℕ → Type 0 = λ z. Mem z xs in
-      u.0 (subst P (one w.0 x k (inr w.1) (inl refl) w.2 is) w.1)) (unique_names xs (λ a b k m n. one a b k (inr m) (inr n)) u.1)
+      u.0 (subst P (one w.0 x k (inr w.1) (inl refl) w.2 is) w.1))
+      (unique_names xs (λ a b k m n. one a b k (inr m) (inr n)) u.1)
 
-  sorted_names : (R S : ℕ → ℕ → Type 0) (xs : List ℕ) → ((u v k l : ℕ) → Mem u xs → Mem v xs → name u ≡ Some k → name v ≡ Some l → S k l → R u v) → Sorted R xs → Sorted S (filter_map name xs)
+  sorted_names : (R S : ℕ → ℕ → Type 0) (xs : List ℕ)
+      → ((u v k l : ℕ) → Mem u xs → Mem v xs → name u ≡ Some k → name v ≡ Some l → S k l → R u v) → Sorted R xs
+      → Sorted S (filter_map name xs)
   sorted_names R S [] back s = tt
   sorted_names R S (x ∷ xs) back s =
       sorted_named S (name x) (filter_map name xs) (λ k y is m r.
@@ -91,7 +98,8 @@ module _ {Has Had : ℕ → Type 0} {R S : ℕ → ℕ → Type 0} (xs : List �
       }
 
   -- those that pass a test
-  pub lists_filtered : (test : ℕ → Bool) → ((n : ℕ) → Has n ↔ (Had n × (test n ≡ true))) → ((u v : ℕ) → R u v → S u v) → Lists Has R (filter test xs)
+  pub lists_filtered : (test : ℕ → Bool)
+      → ((n : ℕ) → Has n ↔ (Had n × (test n ≡ true))) → ((u v : ℕ) → R u v → S u v) → Lists Has R (filter test xs)
   lists_filtered test kept fewer =
       record {
         exact = λ n. (
@@ -103,8 +111,10 @@ module _ {Has Had : ℕ → Type 0} {R S : ℕ → ℕ → Type 0} (xs : List �
       }
 
   -- those that have a name, by their names
-  pub lists_named : (name : ℕ → Option ℕ) → ((u v k : ℕ) → Had u → Had v → name u ≡ Some k → name v ≡ Some k → u ≡ v) → ((k : ℕ) → Has k ↔ ((n : ℕ) × Had n × (name n ≡ Some k)))
-      → ((u v k l : ℕ) → Had u → Had v → name u ≡ Some k → name v ≡ Some l → R k l → S u v) → Lists Has R (filter_map name xs)
+  pub lists_named : (name : ℕ → Option ℕ) → ((u v k : ℕ) → Had u → Had v → name u ≡ Some k → name v ≡ Some k → u ≡ v)
+      → ((k : ℕ) → Has k ↔ ((n : ℕ) × Had n × (name n ≡ Some k)))
+      → ((u v k l : ℕ) → Had u → Had v → name u ≡ Some k → name v ≡ Some l → R k l → S u v)
+      → Lists Has R (filter_map name xs)
   lists_named name one names back =
       record {
         exact = λ k. (
@@ -116,7 +126,9 @@ module _ {Has Had : ℕ → Type 0} {R S : ℕ → ℕ → Type 0} (xs : List �
       }
 
   -- one more, that leads to none
-  pub lists_last : (n : ℕ) → (Had n → ⊥) → ((m : ℕ) → Has m ↔ (Had m ⊎ (m ≡ n))) → ((u v : ℕ) → R u v → S u v ⊎ (Had u × (v ≡ n))) → ((u v : ℕ) → S u v → Had u × Had v) → Lists Has R (xs ++ n ∷ [])
+  pub lists_last : (n : ℕ)
+      → (Had n → ⊥) → ((m : ℕ) → Has m ↔ (Had m ⊎ (m ≡ n))) → ((u v : ℕ) → R u v → S u v ⊎ (Had u × (v ≡ n)))
+      → ((u v : ℕ) → S u v → Had u × Had v) → Lists Has R (xs ++ n ∷ [])
   lists_last n absent more into ends =
       let not_here : Mem n xs → ⊥ = λ m. absent ((s.exact n).0 m) in
       let old : (u v : ℕ) → Mem v xs → R u v → S u v = λ u v m r. elim (into u v r) [
@@ -155,7 +167,8 @@ module _ {Has Had : ℕ → Type 0} {R S : ℕ → ℕ → Type 0} (xs : List �
       }
 
   -- one more, to which none leads
-  pub lists_first : (n : ℕ) → (Had n → ⊥) → ((m : ℕ) → Has m ↔ (Had m ⊎ (m ≡ n))) → ((u v : ℕ) → R u v → S u v ⊎ ((u ≡ n) × Had v)) → ((u v : ℕ) → S u v → Had u × Had v) → Lists Has R (n ∷ xs)
+  pub lists_first : (n : ℕ) → (Had n → ⊥) → ((m : ℕ) → Has m ↔ (Had m ⊎ (m ≡ n)))
+      → ((u v : ℕ) → R u v → S u v ⊎ ((u ≡ n) × Had v)) → ((u v : ℕ) → S u v → Had u × Had v) → Lists Has R (n ∷ xs)
   lists_first n absent more out ends =
       let not_here : Mem n xs → ⊥ = λ m. absent ((s.exact n).0 m) in
       let old : (u v : ℕ) → Mem u xs → R u v → S u v = λ u v m r. elim (out u v r) [

@@ -1,5 +1,6 @@
 -- How the nodes of an order lead to one another, and their labels.
-use Rattle.std.specs.Prelude.{◌≡◌, ℕ, zero, suc, ◌+◌, ◌-◌, ◌<◌, ◌≤◌, ◌==◌, ◌^◌, List, [], ◌∷◌, ◌++◌, length, drop, filter, not, Bool, true, ◌↔◌, slice_index, slice_index_or, Contains, if◌then◌else◌}
+use Rattle.std.specs.Prelude.{◌≡◌, ℕ, zero, suc, ◌+◌, ◌-◌, ◌<◌, ◌≤◌, ◌==◌, ◌^◌, List, [], ◌∷◌, ◌++◌, length, drop}
+use Rattle.std.specs.Prelude.{filter, not, Bool, true, ◌↔◌, slice_index, slice_index_or, Contains, if◌then◌else◌}
 use Rattle.daggy_base.specs.Cursor.{first_of}
 use Rattle.daggy_base.specs.Removal.{without}
 use Rattle.daggy_base.specs.WellFormed.{AreDistinct}
@@ -39,7 +40,8 @@ pub record AreLinksOf (end : ℕ) (next previous : List ℕ) (first last : ℕ) 
 -- labels that ascend along a list, all above `low` and below `high`
 abbrev pub LabelsAscend : (labels : List ℕ) → (low : ℕ) → List ℕ → (high : ℕ) → Type 0
 LabelsAscend labels low [] high = low < high
-LabelsAscend labels low (n ∷ nodes) high = (low < slice_index labels n) × LabelsAscend labels (slice_index labels n) nodes high
+LabelsAscend labels low (n ∷ nodes) high =
+    (low < slice_index labels n) × LabelsAscend labels (slice_index labels n) nodes high
 
 -- labels that ascend along an order, and are 0 for what is not in it
 pub record IsLabelled (labels nodes : List ℕ) : Type 0 where
@@ -59,8 +61,8 @@ pub record HasSegment (end : ℕ) (nodes : List ℕ) (from count : ℕ) : Type 0
   pub behind : List ℕ
   pub is_run : IsSegment end nodes from count before run behind
 
--- labels that ascend along a list but for `count` nodes behind a, of which the first is `from`, and `after` what follows
--- the last
+-- labels that ascend along a list but for `count` nodes behind a, of which the first is `from`, and `after` what
+-- follows the last
 pub record HasGap (end : ℕ) (labels nodes : List ℕ) (a from count after : ℕ) : Type 0 where
   pub before : List ℕ
   pub run : List ℕ
@@ -115,8 +117,8 @@ abbrev pub without_all : List ℕ → List ℕ → List ℕ
 without_all [] nodes = nodes
 without_all (n ∷ ns) nodes = without_all ns (without n nodes)
 
--- nodes that are written, behind which stand nodes in turn that are not: these are above all others, and there is memory
--- to write them
+-- nodes that are written, behind which stand nodes in turn that are not: these are above all others, and there is
+-- memory to write them
 pub record IsTailed (end : ℕ) (nodes : List ℕ) (capacity from count index_bound : ℕ) : Type 0 where
   pub below : (n : ℕ) → Contains nodes n → n < from
   pub real : from + count ≤ end

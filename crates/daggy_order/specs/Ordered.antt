@@ -1,5 +1,6 @@
 -- Orders of the nodes of a graph in which every parent stands before its children.
-use Rattle.std.specs.Prelude.{◌≡◌, ℕ, suc, ◌+◌, ◌<◌, ◌==◌, ◌↔◌, Bool, true, not, List, [], ◌∷◌, ◌++◌, length, take, drop, filter, Contains, if◌then◌else◌}
+use Rattle.std.specs.Prelude.{◌≡◌, ℕ, suc, ◌+◌, ◌<◌, ◌==◌, ◌↔◌, Bool, true, not, List, [], ◌∷◌, ◌++◌, length, take}
+use Rattle.std.specs.Prelude.{drop, filter, Contains, if◌then◌else◌}
 use Rattle.daggy_base.specs.Graph.{Graph, HasNode, out_list}
 use Rattle.daggy_base.specs.Path.{AreJoined, Reaches}
 use Rattle.daggy_base.specs.WellFormed.{AreDistinct}
@@ -28,7 +29,9 @@ stretch order low high = drop low (take high order)
 -- each group in its old order.
 abbrev pub parted : (ℕ → Bool) → List ℕ → (low high : ℕ) → List ℕ
 parted test order low high =
-    take low order ++ (filter (λ n. not (test n)) (stretch order low high) ++ (filter test (stretch order low high) ++ drop high order))
+    take low order
+    ++ (filter (λ n. not (test n)) (stretch order low high)
+    ++ (filter test (stretch order low high) ++ drop high order))
 
 -- from b's place to a's: first the nodes that b does not reach, then those that it does
 pub record IsParted {N E : Type 0} (g : Graph N E) (a b : ℕ) (old new : List ℕ) : Type 0 where

@@ -1,5 +1,6 @@
 //! An order of nodes.
-ghost use Rattle.std.specs.Prelude.{◌≡◌, ℕ, ◌<◌, ◌≤◌, ◌↔◌, ◌⊎◌, [], ◌∷◌, ◌++◌, length, slice_index, map, IsTrue, Contains, OnOk, OnErr, IfOk};
+ghost use Rattle.std.specs.Prelude.{◌≡◌, ℕ, ◌<◌, ◌≤◌, ◌↔◌, ◌⊎◌, [], ◌∷◌, ◌++◌, length, slice_index};
+ghost use Rattle.std.specs.Prelude.{map, IsTrue, Contains, OnOk, OnErr, IfOk};
 ghost use Rattle.daggy_base.specs.Removal.{without, renamed};
 ghost use Rattle.daggy_base.specs.WellFormed.{AreDistinct};
 ghost use Rattle.daggy_order.specs.Ordered.{place};
@@ -42,7 +43,9 @@ impl<Ix: IndexType> Model for Order<Ix> {
 
     ghost view = { λ o. o.written.nodes ++ range_with_len o.tail.from o.tail.count };
 
-    ghost invariant = { λ o. IsTailed Ix.greatest o.written.nodes o.written.capacity o.tail.from o.tail.count o.tail.index_bound };
+    ghost invariant = { λ o.
+        IsTailed Ix.greatest o.written.nodes o.written.capacity o.tail.from o.tail.count
+        o.tail.index_bound };
 }
 
 impl<Ix: IndexType> Order<Ix> {

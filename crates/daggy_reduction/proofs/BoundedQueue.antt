@@ -1,5 +1,6 @@
 -- A queue of nodes that stand before the last child of the first one.
-use Rattle.std.proofs.Common.{◌≡◌, ◌≢◌, ℕ, zero, suc, ◌+◌, ◌<◌, ◌≤◌, max, Bool, true, false, ◌⊎◌, ◌↔◌, inl, inr, Option, Some, List, [], ◌∷◌, ◌++◌, length, get_or, take, refl, sym, ap, subst, ◌∙◌, arith}
+use Rattle.std.proofs.Common.{◌≡◌, ◌≢◌, ℕ, zero, suc, ◌+◌, ◌<◌, ◌≤◌, max, Bool, true, false, ◌⊎◌, ◌↔◌, inl, inr, Option}
+use Rattle.std.proofs.Common.{Some, List, [], ◌∷◌, ◌++◌, length, get_or, take, refl, sym, ap, subst, ◌∙◌, arith}
 use Rattle.std.proofs.Math.Nat.{le-max_left, le-max_right}
 use Rattle.std.proofs.lemmas.Bool.{cases_eq}
 use Rattle.std.proofs.lemmas.List.{length-take-le}
@@ -52,7 +53,8 @@ latest_from g order k (e ∷ es) =
     let c = child_place order (edge_at g e) in
     omega (arith, latest_from g order (max k c) es, le-max_left k c)
 
-latest_over : {N E : Type 0} (g : Graph N E) (order : List ℕ) (k : ℕ) (es : List ℕ) (e : ℕ) (x : Edge E) → Mem e es → edge_at g e ≡ Some x → place order x.child ≤ latest g order k es
+latest_over : {N E : Type 0} (g : Graph N E) (order : List ℕ) (k : ℕ) (es : List ℕ) (e : ℕ) (x : Edge E)
+    → Mem e es → edge_at g e ≡ Some x → place order x.child ≤ latest g order k es
 latest_over g order k [] e x m at = absurd m
 latest_over g order k (f ∷ es) e x m at =
     let c = child_place order (edge_at g f) in
@@ -64,8 +66,10 @@ latest_over g order k (f ∷ es) e x m at =
       | inr b ↦ latest_over g order (max k c) es e x b at
     ]
 
-last_over : {N E : Type 0} (end : ℕ) (g : Graph N E) → IsWellFormed end g → (order : List ℕ) (u v : ℕ) → AreJoined g u v → place order v ≤ last_place g order u
-last_over end g w order u v j = latest_over g order (place order u) (out_list g u) j.0 _ (listed end g w u j.0 _ j.2 refl) j.2
+last_over : {N E : Type 0} (end : ℕ) (g : Graph N E)
+    → IsWellFormed end g → (order : List ℕ) (u v : ℕ) → AreJoined g u v → place order v ≤ last_place g order u
+last_over end g w order u v j =
+    latest_over g order (place order u) (out_list g u) j.0 _ (listed end g w u j.0 _ j.2 refl) j.2
 
 abbrev pub Inside : (order : List ℕ) (last : ℕ) → ℕ → Type 0
 Inside order last n = place order n < place order last
@@ -73,7 +77,10 @@ Inside order last n = place order n < place order last
 abbrev pub Beyond : (order : List ℕ) (last : ℕ) → ℕ → Type 0
 Beyond order last n = place order last ≤ place order n
 
-module _ {N E : Type 0} {end marks_size queue_size : ℕ} {g₀ g : Graph N E} (w : IsWellFormed end g₀) {order : List ℕ} (ord : IsOrderOf g₀ order) {u : ℕ} (exists : HasNode g₀ u) {marks : List Bool} {queue : List ℕ} {len last e looks₀ looks : ℕ} (s : Beginning end marks_size queue_size g₀ g order u marks queue len last e looks₀ looks) (ended : e ≡ end) where
+module _ {N E : Type 0} {end marks_size queue_size : ℕ} {g₀ g : Graph N E} (w : IsWellFormed end g₀) {order : List ℕ}
+    (ord : IsOrderOf g₀ order) {u : ℕ} (exists : HasNode g₀ u) {marks : List Bool} {queue : List ℕ}
+    {len last e looks₀ looks : ℕ}
+    (s : Beginning end marks_size queue_size g₀ g order u marks queue len last e looks₀ looks) (ended : e ≡ end) where
   children_low : (v : ℕ) → AreJoined g₀ u v → place order v ≤ place order last
   children_low v j =
       elim (children_found w ord exists s ended v j) [
@@ -89,7 +96,9 @@ module _ {N E : Type 0} {end marks_size queue_size : ℕ} {g₀ g : Graph N E} (
       ]
 
   -- the rest of the search starts
-  pub steps_start : len ≢ 0 → (met : List Bool) → node_bound g₀ ≤ length met → Draining end marks_size (length met) queue_size g₀ g (Inside order last) (Beyond order last) (u ∷ []) met marks met queue len 0 e looks₀ looks
+  pub steps_start : len ≢ 0 → (met : List Bool) → node_bound g₀ ≤ length met
+      → Draining end marks_size (length met) queue_size g₀ g (Inside order last) (Beyond order last) (u ∷ []) met marks
+      met queue len 0 e looks₀ looks
   steps_start some met met_fits =
       let others : (os : List ℕ) × (s.q ≡ u ∷ os) =
       elim s.front [
@@ -97,7 +106,8 @@ module _ {N E : Type 0} {end marks_size queue_size : ℕ} {g₀ g : Graph N E} (
         | inr o ↦ o
       ] in
       let first : Mem u s.q = let P : List ℕ → Type 0 = λ z. Mem u z in subst P (sym others.1) (inl refl) in
-      let going : Queueing end g₀ (Inside order last) (Beyond order last) (u ∷ []) met marks met s.q 0 e s.passed = record {
+      let going : Queueing end g₀ (Inside order last) (Beyond order last) (u ∷ []) met marks met s.q 0 e s.passed =
+      record {
         done = [];
         at = u;
         rest = others.0;
@@ -116,19 +126,26 @@ module _ {N E : Type 0} {end marks_size queue_size : ℕ} {g₀ g : Graph N E} (
             | inr j ↦ reaches_one g₀ u n exists (w.children j.0 _ j.2) j
           ],
         );
-        start = λ n m. elim m [ inl eq ↦ (let P : ℕ → Type 0 = λ z. Mem z s.q in subst P (sym eq) first) | inr none ↦ absurd none ];
+        start = λ n m. elim m [
+          | inl eq ↦ (let P : ℕ → Type 0 = λ z. Mem z s.q in subst P (sym eq) first)
+          | inr none ↦ absurd none
+        ];
         later = others.0;
         begins = others.1;
         inside = s.before;
         closed = λ a b m j. absurd m;
-        half = λ j x lt a. elim (s.found j x lt a) [ inl m ↦ inl m | inr eq ↦ inr (omega (arith, ap (place order) eq)) ];
+        half = λ j x lt a. elim (s.found j x lt a) [
+          | inl m ↦ inl m
+          | inr eq ↦ inr (omega (arith, ap (place order) eq))
+        ];
         met_only = λ n m. inl m;
         met_before = λ n m. m;
         met_closed = λ a b m j. absurd m;
         met_half = λ k. absurd (k refl);
         counted = omega arith;
       } in
-      let P : List ℕ → Type 0 = λ z. Queueing end g₀ (Inside order last) (Beyond order last) (u ∷ []) met marks met z 0 e s.passed in
+      let P : List ℕ → Type 0 = λ z.
+      Queueing end g₀ (Inside order last) (Beyond order last) (u ∷ []) met marks met z 0 e s.passed in
       record {
         same = s.same;
         marks_sized = s.marks_sized;
@@ -143,7 +160,9 @@ module _ {N E : Type 0} {end marks_size queue_size : ℕ} {g₀ g : Graph N E} (
         going = subst P (sym s.is) going;
       }
 
-  module _ {met_size : ℕ} {g₁ : Graph N E} {before marks' met : List Bool} {queue' : List ℕ} {len' head e' looks' : ℕ} (t : Draining end marks_size met_size queue_size g₀ g₁ (Inside order last) (Beyond order last) (u ∷ []) before marks' met queue' len' head e' looks₀ looks') where
+  module _ {met_size : ℕ} {g₁ : Graph N E} {before marks' met : List Bool} {queue' : List ℕ} {len' head e' looks' : ℕ}
+      (t : Draining end marks_size met_size queue_size g₀ g₁ (Inside order last) (Beyond order last) (u ∷ []) before
+      marks' met queue' len' head e' looks₀ looks') where
     reached_here : (n : ℕ) → Mem n (take len' queue') → Reaches g₀ u n
     reached_here n m =
         let r = t.going.reached n m in
@@ -153,11 +172,17 @@ module _ {N E : Type 0} {end marks_size queue_size : ℕ} {g₀ g : Graph N E} (
     -- the count of looks
     pub few_spanned : looks' ≤ looks₀ + edges_spanned g₀ order u
     few_spanned =
-        let few = looked_from end g₀ w _ _ _ _ _ _ _ _ _ _ t.going (stretch order (place order u) (last_place g₀ order u)) (λ n m.
+        let few =
+        looked_from end g₀ w _ _ _ _ _ _ _ _ _ _ t.going (stretch order (place order u) (last_place g₀ order u)) (λ n m.
         let P : ℕ → Type 0 = λ z. place order u ≤ place order z in
         let r = reached_here n m in
         let above = reaches_stays g₀ P (λ a b h j. omega (arith, h, ord.sorted a b j)) u n r (omega arith) in
-        in_places order (place order u) (last_place g₀ order u) n (contains_mem order n ((ord.exact n).1 (reached_exists g₀ u n r))) above (omega (arith, t.going.inside n m, last_low))) in
+        in_places order (place order u) (last_place g₀ order u) n
+        (contains_mem order n ((ord.exact n).1 (reached_exists g₀ u n r))) above (omega (
+          arith,
+          t.going.inside n m,
+          last_low,
+        ))) in
         omega (arith, few, t.counted)
 
     -- the children that got marks
@@ -188,7 +213,9 @@ module _ {N E : Type 0} {end marks_size queue_size : ℕ} {g₀ g : Graph N E} (
           let Q : ℕ → Type 0 = λ z. AreJoined g₀ m z in
           let j : AreJoined g₀ m v = subst Q r.4 step.2 in
           let from_u : Reaches g₀ u m = reaches_before g₀ u x m r.3.0 r.3.1 step.1 in
-          let other : m ≢ u = λ eq. (let P : ℕ → Type 0 = λ z. Reaches g₀ x z in no_round g₀ (acyclic_from_order order ord) u x r.3.0 r.3.1 (subst P eq step.1)) in
+          let other : m ≢ u = λ eq.
+          (let P : ℕ → Type 0 = λ z. Reaches g₀ x z in
+          no_round g₀ (acyclic_from_order order ord) u x r.3.0 r.3.1 (subst P eq step.1)) in
           let near : place order m < place order last = omega (arith, ord.sorted m v j, children_low v child) in
           let P : List ℕ → Type 0 = λ z. Mem m z in
           let queued : Mem m (take len' queue') =
@@ -196,10 +223,15 @@ module _ {N E : Type 0} {end marks_size queue_size : ℕ} {g₀ g : Graph N E} (
             | inl q ↦ q
             | inr past ↦ absurd (omega (arith, past, near))
           ] in
-          let later : Mem m t.going.later = elim (subst P t.going.begins queued) [ inl eq ↦ absurd (other eq) | inr b ↦ b ] in
-          (all_met end g₀ w _ _ _ _ _ _ _ _ _ _ t.going h (rest_nothing w t done) v).1 (inr (m, subst P (sym behind_is) later, j))
+          let later : Mem m t.going.later = elim (subst P t.going.begins queued) [
+            | inl eq ↦ absurd (other eq)
+            | inr b ↦ b
+          ] in
+          (all_met end g₀ w _ _ _ _ _ _ _ _ _ _ t.going h (rest_nothing w t done) v).1
+          (inr (m, subst P (sym behind_is) later, j))
 
-      pub round_met : (v : ℕ) → AreJoined g₀ u v → (get_or met v false ≡ true) ↔ ((get_or before v false ≡ true) ⊎ ReachesIndirectly g₀ u v)
+      pub round_met : (v : ℕ)
+          → AreJoined g₀ u v → (get_or met v false ≡ true) ↔ ((get_or before v false ≡ true) ⊎ ReachesIndirectly g₀ u v)
       round_met v child = (
         λ m. elim (t.going.met_only v m) [ inl a ↦ inl a | inr c ↦ inr (there v c.0 c.1 c.2) ],
         λ k. elim k [ inl a ↦ t.going.met_before v a | inr r ↦ back v child r ],

@@ -3,7 +3,8 @@ use Rattle.std.proofs.Common.{ℕ, ◌↔◌, List, [], ◌∷◌}
 use Rattle.daggy_base.specs.Graph.{Graph, HasNode}
 use Rattle.daggy_base.specs.Path.{AreJoined, IsPath, IsAcyclic}
 use Rattle.daggy_base.specs.Reduction.{IsBelow, ReachesIndirectly}
-use Rattle.daggy_reduction.specs.Comparison.{LosesRoundPairs, HaveSameNodes, JoinSamePairs, HaveSameReachability, ReachAll}
+use Rattle.daggy_reduction.specs.Comparison.{LosesRoundPairs, HaveSameNodes, JoinSamePairs, HaveSameReachability}
+use Rattle.daggy_reduction.specs.Comparison.{ReachAll}
 use Rattle.daggy_reduction.proofs.ReachabilityKept.{reached_before, reached_after}
 use Rattle.daggy_reduction.proofs.CoverPairs.{cover_joined, cover_same, joined_cover, cover_kept}
 
@@ -12,21 +13,26 @@ abbrev pub Ends : {N E : Type 0} → Graph N E → Type 0
 Ends g = (u v : ℕ) → AreJoined g u v → HasNode g u × HasNode g v
 
 -- a path over the same nodes and joined pairs
-path_same : {N E M F : Type 0} (g : Graph N E) (h : Graph M F) → ((n : ℕ) → HasNode g n → HasNode h n) → ((u v : ℕ) → AreJoined g u v → AreJoined h u v) → (us : List ℕ) → IsPath g us → IsPath h us
+path_same : {N E M F : Type 0} (g : Graph N E) (h : Graph M F) → ((n : ℕ) → HasNode g n → HasNode h n)
+    → ((u v : ℕ) → AreJoined g u v → AreJoined h u v) → (us : List ℕ) → IsPath g us → IsPath h us
 path_same g h nodes pairs [] p = p
 path_same g h nodes pairs (u ∷ []) p = nodes u p
 path_same g h nodes pairs (u ∷ v ∷ rest) p = (nodes u p.0, pairs u v p.1, path_same g h nodes pairs (v ∷ rest) p.2)
 
-pub reach_same : {N E M F : Type 0} (g : Graph N E) (h : Graph M F) → HaveSameNodes g h → JoinSamePairs g h → HaveSameReachability g h
+pub reach_same : {N E M F : Type 0} (g : Graph N E) (h : Graph M F)
+    → HaveSameNodes g h → JoinSamePairs g h → HaveSameReachability g h
 reach_same g h nodes pairs u v = (
   λ r. (r.0, path_same g h (λ n. (nodes n).0) (λ a b. (pairs a b).0) (u ∷ r.0) r.1, r.2),
   λ r. (r.0, path_same h g (λ n. (nodes n).1) (λ a b. (pairs a b).1) (u ∷ r.0) r.1, r.2),
 )
 
-module _ {N E : Type 0} (roots : List ℕ) (old new : Graph N E) (acyclic : IsAcyclic old) (s : LosesRoundPairs roots old new) (ends : Ends old) where
+module _ {N E : Type 0} (roots : List ℕ) (old new : Graph N E) (acyclic : IsAcyclic old)
+    (s : LosesRoundPairs roots old new) (ends : Ends old) where
   -- each graph of the same reachability joins what is still joined below a root
-  pub least : {M F : Type 0} (h : Graph M F) → HaveSameReachability old h → (u v : ℕ) → IsBelow old roots u → AreJoined new u v → AreJoined h u v
-  least h same u v below j = cover_joined h u v (cover_same old h same u v (joined_cover roots old new acyclic s ends u v below j))
+  pub least : {M F : Type 0} (h : Graph M F)
+      → HaveSameReachability old h → (u v : ℕ) → IsBelow old roots u → AreJoined new u v → AreJoined h u v
+  least h same u v below j =
+      cover_joined h u v (cover_same old h same u v (joined_cover roots old new acyclic s ends u v below j))
 
   below_before : (n : ℕ) → IsBelow new roots n → IsBelow old roots n
   below_before n b = (b.0, b.1, (s.nodes b.0).1 b.2, reached_before roots old new acyclic s b.0 n b.3)
@@ -34,19 +40,36 @@ module _ {N E : Type 0} (roots : List ℕ) (old new : Graph N E) (acyclic : IsAc
   -- no joined pair is redundant any more
   pub nothing_left : (u v : ℕ) → AreJoined new u v → IsBelow new roots u → ReachesIndirectly new u v → ⊥
   nothing_left u v j below round =
-      s.lost u v j (below_before u below) (round.0, round.1, round.2, path_same new old (λ n. (s.nodes n).1) s.joined (u ∷ round.0 ∷ round.1 ∷ round.2) round.3, round.4)
+      s.lost u v j (below_before u below) (
+        round.0,
+        round.1,
+        round.2,
+        path_same new old (λ n. (s.nodes n).1) s.joined (u ∷ round.0 ∷ round.1 ∷ round.2) round.3,
+        round.4,
+      )
 
-module _ {N E M F : Type 0} (roots : List ℕ) (old new : Graph N E) (acyclic : IsAcyclic old) (s : LosesRoundPairs roots old new) (ends : Ends old) (all : ReachAll old roots) (roots' : List ℕ) (old' new' : Graph M F) (acyclic' : IsAcyclic old') (s' : LosesRoundPairs roots' old' new') (ends' : Ends old') (all' : ReachAll old' roots') (nodes : HaveSameNodes old old') where
+module _ {N E M F : Type 0} (roots : List ℕ) (old new : Graph N E) (acyclic : IsAcyclic old)
+    (s : LosesRoundPairs roots old new) (ends : Ends old) (all : ReachAll old roots) (roots' : List ℕ)
+    (old' new' : Graph M F) (acyclic' : IsAcyclic old') (s' : LosesRoundPairs roots' old' new') (ends' : Ends old')
+    (all' : ReachAll old' roots') (nodes : HaveSameNodes old old') where
   pub pairs_kept : HaveSameReachability old old' → (u v : ℕ) → AreJoined new u v → AreJoined new' u v
   pairs_kept same u v j =
       let below = all u (ends u v (s.joined u v j)).0 in
-      cover_kept roots' old' new' acyclic' s' ends' u v (cover_same old old' same u v (joined_cover roots old new acyclic s ends u v below j))
+      cover_kept roots' old' new' acyclic' s' ends' u v
+      (cover_same old old' same u v (joined_cover roots old new acyclic s ends u v below j))
 
 -- two reductions join the same pairs exactly if the graphs had the same reachability
-pub alike_exactly : {N E M F : Type 0} (roots : List ℕ) (old new : Graph N E) (acyclic : IsAcyclic old) (s : LosesRoundPairs roots old new) (ends : Ends old) (all : ReachAll old roots) (roots' : List ℕ) (old' new' : Graph M F) (acyclic' : IsAcyclic old') (s' : LosesRoundPairs roots' old' new') (ends' : Ends old') (all' : ReachAll old' roots') (nodes : HaveSameNodes old old') → JoinSamePairs new new' ↔ HaveSameReachability old old'
+pub alike_exactly : {N E M F : Type 0} (roots : List ℕ) (old new : Graph N E) (acyclic : IsAcyclic old)
+    (s : LosesRoundPairs roots old new) (ends : Ends old) (all : ReachAll old roots) (roots' : List ℕ)
+    (old' new' : Graph M F) (acyclic' : IsAcyclic old') (s' : LosesRoundPairs roots' old' new') (ends' : Ends old')
+    (all' : ReachAll old' roots') (nodes : HaveSameNodes old old')
+    → JoinSamePairs new new' ↔ HaveSameReachability old old'
 alike_exactly roots old new acyclic s ends all roots' old' new' acyclic' s' ends' all' nodes = (
   λ pairs u v. (
-      let after : HaveSameNodes new new' = λ n. (λ h. (s'.nodes n).0 ((nodes n).0 ((s.nodes n).1 h)), λ h. (s.nodes n).0 ((nodes n).1 ((s'.nodes n).1 h))) in
+      let after : HaveSameNodes new new' = λ n. (
+        λ h. (s'.nodes n).0 ((nodes n).0 ((s.nodes n).1 h)),
+        λ h. (s.nodes n).0 ((nodes n).1 ((s'.nodes n).1 h)),
+      ) in
       let alike = reach_same new new' after pairs u v in (
         λ r. reached_before roots' old' new' acyclic' s' u v (alike.0 (reached_after roots old new acyclic s u v r)),
         λ r. reached_before roots old new acyclic s u v (alike.1 (reached_after roots' old' new' acyclic' s' u v r)),

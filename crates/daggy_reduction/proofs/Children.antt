@@ -1,12 +1,14 @@
 -- The children of a node gone through, edge by edge.
-use Rattle.std.proofs.Common.{◌≡◌, ◌≢◌, ℕ, suc, ◌+◌, ◌<◌, ◌≤◌, Bool, true, false, ◌⊎◌, ◌↔◌, inl, inr, List, length, get_or, drop, set, refl, sym, subst, ◌∙◌, arith, length-set, replicate}
+use Rattle.std.proofs.Common.{◌≡◌, ◌≢◌, ℕ, suc, ◌+◌, ◌<◌, ◌≤◌, Bool, true, false, ◌⊎◌, ◌↔◌, inl, inr, List, length}
+use Rattle.std.proofs.Common.{get_or, drop, set, refl, sym, subst, ◌∙◌, arith, length-set, replicate}
 use Rattle.std.proofs.lemmas.Bool.{false≢true, cases_lt}
 use Rattle.daggy_base.specs.Graph.{Graph, HasEdge, out_list, node_bound}
 use Rattle.daggy_base.specs.Path.{AreJoined}
 use Rattle.daggy_base.specs.Cursor.{first_of}
 use Rattle.daggy_base.specs.WellFormed.{IsWellFormed}
 use Rattle.daggy_base.specs.Look.{IsLook}
-use Rattle.daggy_base.proofs.OutEdgesRead.{LookedTo, below_bound, read_part, all_read, has_edge, child_exists, child_joined, next_cursor, looked_more}
+use Rattle.daggy_base.proofs.OutEdgesRead.{LookedTo, below_bound, read_part, all_read, has_edge, child_exists}
+use Rattle.daggy_base.proofs.OutEdgesRead.{child_joined, next_cursor, looked_more}
 use Rattle.daggy_base.proofs.SearchProgress.{set_marked}
 use Rattle.daggy_reduction.specs.Comparison.{JoinsAll}
 use Rattle.daggy_reduction.proofs.FlaggedRedundant.{unmarked}
@@ -20,7 +22,8 @@ pub record Looking {N E : Type 0} (end : ℕ) (g₀ g : Graph N E) (u e looks₀
   pub counted : looks ≡ looks₀ + passed
   pub looked : LookedTo end g₀ P u passed
 
-pub looking_starts : {N E : Type 0} {end : ℕ} {g : Graph N E} {u e looks : ℕ} (P : ℕ → Type 0) → e ≡ first_of end (out_list g u) → Looking end g g u e looks looks P
+pub looking_starts : {N E : Type 0} {end : ℕ} {g : Graph N E} {u e looks : ℕ} (P : ℕ → Type 0)
+    → e ≡ first_of end (out_list g u) → Looking end g g u e looks looks P
 looking_starts {N} {E} {end} {g} {u} P first =
     record {
       same = refl;
@@ -31,7 +34,8 @@ looking_starts {N} {E} {end} {g} {u} P first =
       looked = λ j x lt a. absurd (omega (arith, lt));
     }
 
-module _ {N E : Type 0} {end : ℕ} {g₀ g : Graph N E} (w : IsWellFormed end g₀) {u e looks₀ looks : ℕ} {P : ℕ → Type 0} (s : Looking end g₀ g u e looks₀ looks P) where
+module _ {N E : Type 0} {end : ℕ} {g₀ g : Graph N E} (w : IsWellFormed end g₀) {u e looks₀ looks : ℕ} {P : ℕ → Type 0}
+    (s : Looking end g₀ g u e looks₀ looks P) where
   pub looking_edge : e ≢ end → HasEdge g e
   looking_edge here =
       let H : Graph N E → Type 0 = λ z. HasEdge z e in
@@ -54,7 +58,8 @@ module _ {N E : Type 0} {end : ℕ} {g₀ g : Graph N E} (w : IsWellFormed end g
     pub looked_low : v < node_bound g₀
     looked_low = below_bound g₀.nodes v (child_exists end g₀ w u s.passed e s.cursor here v next look₀)
 
-    pub looking_on : {g' : Graph N E} {looks' : ℕ} (Q : ℕ → Type 0) → g' ≡ g → looks' ≡ looks + 1 → ((n : ℕ) → P n → Q n) → Q v → Looking end g₀ g' u next looks₀ looks' Q
+    pub looking_on : {g' : Graph N E} {looks' : ℕ} (Q : ℕ → Type 0)
+        → g' ≡ g → looks' ≡ looks + 1 → ((n : ℕ) → P n → Q n) → Q v → Looking end g₀ g' u next looks₀ looks' Q
     looking_on Q same' more holds this =
         record {
           same = same' ∙ s.same;
@@ -62,7 +67,9 @@ module _ {N E : Type 0} {end : ℕ} {g₀ g : Graph N E} (w : IsWellFormed end g
           cursor = next_cursor end g₀ w u s.passed e s.cursor here v next look₀;
           within = let less = looking_less here in omega (arith, less);
           counted = let counted = s.counted in omega (arith, counted, more);
-          looked = looked_more end g₀ w u s.passed e s.cursor here v next look₀ Q (λ j x lt a. holds x.child (s.looked j x lt a)) this;
+          looked =
+              looked_more end g₀ w u s.passed e s.cursor here v next look₀ Q
+              (λ j x lt a. holds x.child (s.looked j x lt a)) this;
         }
 
 -- marked since are children alone
@@ -74,7 +81,8 @@ pub record Marking {N E : Type 0} (g : Graph N E) (u : ℕ) (before marks : List
 pub none_marked : {N E : Type 0} {g : Graph N E} {u : ℕ} {marks : List Bool} → Marking g u marks marks
 none_marked = record { sized = refl; only = λ n m. inl m; kept = λ n m. m }
 
-pub mark_one : {N E : Type 0} {g : Graph N E} {u : ℕ} {before marks : List Bool} → Marking g u before marks → (v : ℕ) → v < length marks → AreJoined g u v → Marking g u before (set marks v true)
+pub mark_one : {N E : Type 0} {g : Graph N E} {u : ℕ} {before marks : List Bool}
+    → Marking g u before marks → (v : ℕ) → v < length marks → AreJoined g u v → Marking g u before (set marks v true)
 mark_one {N} {E} {g} {u} {before} {marks} s v low joined =
     record {
       sized = length-set marks v true ∙ s.sized;
@@ -86,23 +94,29 @@ mark_one {N} {E} {g} {u} {before} {marks} s v low joined =
     }
 
 -- a marked node stays marked, and the new one is
-pub marks_grow : (marks : List Bool) (v : ℕ) → v < length marks → ((n : ℕ) → get_or marks n false ≡ true → get_or (set marks v true) n false ≡ true) × (get_or (set marks v true) v false ≡ true)
+pub marks_grow : (marks : List Bool) (v : ℕ) → v < length marks
+    → ((n : ℕ) → get_or marks n false ≡ true → get_or (set marks v true) n false ≡ true)
+    × (get_or (set marks v true) v false ≡ true)
 marks_grow marks v low = (λ n m. (set_marked marks v n low).1 (inr m), (set_marked marks v v low).1 (inl refl))
 
 -- up to a node, h joins all that g joins
-pub record Comparing {N E M F : Type 0} (g₀ g : Graph N E) (h₀ h : Graph M F) (marks₀ marks : List Bool) (bound n : ℕ) : Type 0 where
+pub record Comparing {N E M F : Type 0} (g₀ g : Graph N E) (h₀ h : Graph M F) (marks₀ marks : List Bool)
+    (bound n : ℕ) : Type 0 where
   pub same : g ≡ g₀
   pub other_same : h ≡ h₀
   pub within : n ≤ bound
   pub sized : length marks ≡ length marks₀
   pub joined : (u v : ℕ) → u < n → AreJoined g₀ u v → AreJoined h₀ u v
 
-module _ {N E M F : Type 0} {g₀ g : Graph N E} {h₀ h : Graph M F} {marks₀ marks : List Bool} {bound n : ℕ} (s : Comparing g₀ g h₀ h marks₀ marks bound n) where
+module _ {N E M F : Type 0} {g₀ g : Graph N E} {h₀ h : Graph M F} {marks₀ marks : List Bool} {bound n : ℕ}
+    (s : Comparing g₀ g h₀ h marks₀ marks bound n) where
   both_join : (v : ℕ) → AreJoined h n v → AreJoined h₀ n v
   both_join v j = let J : Graph M F → Type 0 = λ z. AreJoined z n v in subst J s.other_same j
 
-  module _ (size : ℕ) (marks' : List Bool) (marked : (k : ℕ) → (get_or marks' k false ≡ true) ↔ ((get_or (replicate size false) k false ≡ true) ⊎ AreJoined h n k)) where
-    pub compare_on : n < bound → length marks' ≡ length marks → {g' : Graph N E} {h' : Graph M F} → g' ≡ g → h' ≡ h → ((k : ℕ) → AreJoined g n k → get_or marks' k false ≡ true) → Comparing g₀ g' h₀ h' marks₀ marks' bound (n + 1)
+  module _ (size : ℕ) (marks' : List Bool) (marked : (k : ℕ)
+      → (get_or marks' k false ≡ true) ↔ ((get_or (replicate size false) k false ≡ true) ⊎ AreJoined h n k)) where
+    pub compare_on : n < bound → length marks' ≡ length marks → {g' : Graph N E} {h' : Graph M F} → g' ≡ g → h' ≡ h
+        → ((k : ℕ) → AreJoined g n k → get_or marks' k false ≡ true) → Comparing g₀ g' h₀ h' marks₀ marks' bound (n + 1)
     compare_on low sized {g'} {h'} same other_same all =
         record {
           same = same ∙ s.same;

@@ -22,12 +22,17 @@ cover_joined g u v c = go c.reached.0 c.reached.1 c.reached.2
           | inl here ↦ subst P here p.1
           | inr other ↦ elim (cases_eq w u) [
             | inl back ↦ go rest (subst Q back p.2) (subst R back e)
-            | inr apart ↦ absurd (c.nothing_between w apart other (reaches_one g u w p.0 (has_first g w rest p.2) p.1) (rest, p.2, e))
+            | inr apart ↦ absurd (c.nothing_between w apart other (reaches_one g u w p.0 (has_first g w rest p.2) p.1) (
+              rest,
+              p.2,
+              e,
+            ))
           ]
         ]
 
 -- covers are told by reachability alone
-pub cover_same : {N E M F : Type 0} (g : Graph N E) (h : Graph M F) → HaveSameReachability g h → (u v : ℕ) → Covers g u v → Covers h u v
+pub cover_same : {N E M F : Type 0} (g : Graph N E) (h : Graph M F)
+    → HaveSameReachability g h → (u v : ℕ) → Covers g u v → Covers h u v
 cover_same g h same u v c =
     record {
       apart = c.apart;
@@ -35,7 +40,8 @@ cover_same g h same u v c =
       nothing_between = λ w from to a b. c.nothing_between w from to ((same u w).1 a) ((same w v).1 b);
     }
 
-module _ {N E : Type 0} (roots : List ℕ) (old new : Graph N E) (acyclic : IsAcyclic old) (s : LosesRoundPairs roots old new) (ends : (u v : ℕ) → AreJoined old u v → HasNode old u × HasNode old v) where
+module _ {N E : Type 0} (roots : List ℕ) (old new : Graph N E) (acyclic : IsAcyclic old)
+    (s : LosesRoundPairs roots old new) (ends : (u v : ℕ) → AreJoined old u v → HasNode old u × HasNode old v) where
   -- what is still joined below a root is a cover
   pub joined_cover : (u v : ℕ) → IsBelow old roots u → AreJoined new u v → Covers old u v
   joined_cover u v below j =

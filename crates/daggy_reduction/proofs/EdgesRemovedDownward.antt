@@ -1,5 +1,7 @@
 -- The edges of an ascending list removed one by one, the last one first.
-use Rattle.std.proofs.Common.{◌≡◌, ℕ, zero, suc, ◌+◌, ◌<◌, ◌≤◌, ◌↔◌, inl, inr, List, [], ◌∷◌, ◌++◌, length, get_or, drop, reverse, Option, Some, None, refl, sym, ap, subst, ◌∙◌, arith, Contains, IsSome, OnSome, option_map}
+use Rattle.std.proofs.Common.{◌≡◌, ℕ, zero, suc, ◌+◌, ◌<◌, ◌≤◌, ◌↔◌, inl, inr, List, [], ◌∷◌, ◌++◌, length, get_or}
+use Rattle.std.proofs.Common.{drop, reverse, Option, Some, None, refl, sym, ap, subst, ◌∙◌, arith, Contains, IsSome}
+use Rattle.std.proofs.Common.{OnSome, option_map}
 use Rattle.std.proofs.lemmas.List.{drop_more, reverse-append}
 use Rattle.std.proofs.Math.Seq.{drop-length}
 use Rattle.daggy_base.specs.Graph.{Graph, Edge, HasEdge, slot, edge_at}
@@ -54,7 +56,8 @@ turned_descends [] up = tt
 turned_descends (x ∷ xs) up =
     let P : List ℕ → Type 0 = λ z. IsDescending z in
     subst P (sym (reverse-append (x ∷ []) xs))
-    (descending_more (reverse xs) x (turned_descends xs (ascending_rest x xs up)) (λ y m. first_least x xs up y (turned_mem y xs m)))
+    (descending_more (reverse xs) x (turned_descends xs (ascending_rest x xs up))
+    (λ y m. first_least x xs up y (turned_mem y xs m)))
 
 ascending_drop : (k : ℕ) (xs : List ℕ) → IsAscending xs → IsAscending (drop k xs)
 ascending_drop zero [] up = up
@@ -69,12 +72,14 @@ mem_dropped (suc k) x [] m = absurd m
 mem_dropped (suc k) x (y ∷ xs) m = inr (mem_dropped k x xs m)
 
 module _ {N E : Type 0} (kind : Kind) where
-  without_last : (ds : List ℕ) (g : Graph N E) (d : ℕ) → without_edges kind g (ds ++ d ∷ []) ≡ without_edge kind (without_edges kind g ds) d
+  without_last : (ds : List ℕ) (g : Graph N E) (d : ℕ)
+      → without_edges kind g (ds ++ d ∷ []) ≡ without_edge kind (without_edges kind g ds) d
   without_last [] g d = refl
   without_last (e ∷ ds) g d = without_last ds (without_edge kind g e) d
 
   -- below all removed ones each edge stands where it stood
-  still_there : (ds : List ℕ) (g : Graph N E) → IsDescending ds → ((d : ℕ) → Mem d ds → HasEdge g d) → (y : ℕ) → ((d : ℕ) → Mem d ds → y < d) → edge_at (without_edges kind g ds) y ≡ edge_at g y
+  still_there : (ds : List ℕ) (g : Graph N E) → IsDescending ds → ((d : ℕ) → Mem d ds → HasEdge g d)
+      → (y : ℕ) → ((d : ℕ) → Mem d ds → y < d) → edge_at (without_edges kind g ds) y ≡ edge_at g y
   still_there [] g down exist y low = refl
   still_there (d ∷ ds) g down exist y low =
       let inside : d < length g.edges = has_inside g.edges d (exist d (inl refl)) in
@@ -82,7 +87,8 @@ module _ {N E : Type 0} (kind : Kind) where
       let P : Option (Edge E) → Type 0 = λ z. IsSome z in
       subst P (sym (left_below g d kind e inside (below_first d ds down e m))) (exist e (inr m))
       ) in
-      still_there ds (without_edge kind g d) (descending_rest d ds down) still y (λ e m. low e (inr m)) ∙ left_below g d kind y inside (low d (inl refl))
+      still_there ds (without_edge kind g d) (descending_rest d ds down) still y (λ e m. low e (inr m))
+      ∙ left_below g d kind y inside (low d (inl refl))
     where
       has_inside : {A : Type 0} (xs : List (Option A)) (i : ℕ) → IsSome (slot xs i) → i < length xs
       has_inside xs i h = let low = below_bound xs i h in let all = bound_low xs in omega (arith, low, all)
@@ -113,28 +119,36 @@ on_some : {A : Type 0} (o : Option A) (x : A) (P : Type 0) → o ≡ Some x → 
 on_some {A} o x P is h = let Q : Option A → Type 0 = λ z. OnSome z P in subst Q is h
 
 -- the edges from a place of the list on are removed
-pub record Removing {N E : Type 0} (kind : Kind) (g₀ g : Graph N E) (edges : List ℕ) (left looks₀ looks : ℕ) : Type 0 where
+pub record Removing {N E : Type 0} (kind : Kind) (g₀ g : Graph N E) (edges : List ℕ)
+    (left looks₀ looks : ℕ) : Type 0 where
   pub within : left ≤ length edges
   pub removed : g ≡ without_edges kind g₀ (reverse (drop left edges))
   pub counted : looks ≡ looks₀
 
-pub none_removed : {N E : Type 0} (kind : Kind) (g : Graph N E) (edges : List ℕ) (left looks : ℕ) → left ≡ length edges → Removing kind g g edges left looks looks
+pub none_removed : {N E : Type 0} (kind : Kind) (g : Graph N E) (edges : List ℕ) (left looks : ℕ)
+    → left ≡ length edges → Removing kind g g edges left looks looks
 none_removed kind g edges left looks is =
     record {
       within = omega (arith, is);
-      removed = sym (ap (λ z. without_edges kind g (reverse (drop z edges))) is ∙ ap (λ z. without_edges kind g (reverse z)) (drop-length edges));
+      removed =
+          sym (ap (λ z. without_edges kind g (reverse (drop z edges))) is
+          ∙ ap (λ z. without_edges kind g (reverse z)) (drop-length edges));
       counted = refl;
     }
 
-module _ {N E : Type 0} {kind : Kind} {g₀ g : Graph N E} {edges : List ℕ} {left looks₀ looks : ℕ} (s : Removing kind g₀ g edges left looks₀ looks) where
+module _ {N E : Type 0} {kind : Kind} {g₀ g : Graph N E} {edges : List ℕ} {left looks₀ looks : ℕ}
+    (s : Removing kind g₀ g edges left looks₀ looks) where
   pub all_removed : left ≡ 0 → g ≡ without_edges kind g₀ (reverse edges)
-  all_removed none = s.removed ∙ ap (λ z. without_edges kind g₀ (reverse (drop z edges))) none ∙ ap (λ z. without_edges kind g₀ (reverse z)) (whole edges)
+  all_removed none =
+      s.removed ∙ ap (λ z. without_edges kind g₀ (reverse (drop z edges))) none
+      ∙ ap (λ z. without_edges kind g₀ (reverse z)) (whole edges)
     where
       whole : (xs : List ℕ) → drop 0 xs ≡ xs
       whole [] = refl
       whole (x ∷ xs) = refl
 
-  module _ (up : IsAscending edges) (exist : (e : ℕ) → Contains edges e → HasEdge g₀ e) (at y : ℕ) (next : at + 1 ≡ left) (is : y ≡ get_or edges at y) where
+  module _ (up : IsAscending edges) (exist : (e : ℕ) → Contains edges e → HasEdge g₀ e) (at y : ℕ)
+      (next : at + 1 ≡ left) (is : y ≡ get_or edges at y) where
     low : at < length edges
     low = let within = s.within in omega (arith, within, next)
 
@@ -160,7 +174,8 @@ module _ {N E : Type 0} {kind : Kind} {g₀ g : Graph N E} {edges : List ℕ} {l
         let M : ℕ → Type 0 = λ z. Mem z edges in
         subst P (sym was_there) (exist y (mem_contains edges y (subst M (sym is) (mem_at edges at y low))))
 
-    pub remove_on : {g' : Graph N E} {looks' : ℕ} (gone : Option E) → gone ≡ edge_weight g y → OnSome gone (g' ≡ without_edge kind g y) → looks' ≡ looks → Removing kind g₀ g' edges at looks₀ looks'
+    pub remove_on : {g' : Graph N E} {looks' : ℕ} (gone : Option E) → gone ≡ edge_weight g y
+        → OnSome gone (g' ≡ without_edge kind g y) → looks' ≡ looks → Removing kind g₀ g' edges at looks₀ looks'
     remove_on {g'} {looks'} gone gives taken counted' =
         let x = some_of (edge_at g y) there in
         let weighs : gone ≡ Some x.0.weight = gives ∙ ap (option_map (λ (z : Edge E). z.weight)) x.1 in
@@ -175,7 +190,9 @@ module _ {N E : Type 0} {kind : Kind} {g₀ g : Graph N E} {edges : List ℕ} {l
         }
 
 -- removed like that, the redundant edges leave the reduction
-pub reduced : {N E : Type 0} (kind : Kind) (roots edges : List ℕ) (old new : Graph N E) → IsAscending edges → ((e : ℕ) → Contains edges e ↔ IsRedundant old roots e) → new ≡ without_edges kind old (reverse edges) → IsReduction kind roots old new
+pub reduced : {N E : Type 0} (kind : Kind) (roots edges : List ℕ) (old new : Graph N E)
+    → IsAscending edges → ((e : ℕ) → Contains edges e ↔ IsRedundant old roots e)
+    → new ≡ without_edges kind old (reverse edges) → IsReduction kind roots old new
 reduced kind roots edges old new up exact removed =
     record {
       redundant = reverse edges;

@@ -1,5 +1,6 @@
 -- Edges flagged by marks are those that a longer way makes redundant.
-use Rattle.std.proofs.Common.{◌≡◌, ℕ, suc, ◌+◌, ◌<◌, Bool, true, false, ◌⊎◌, ◌↔◌, inl, inr, List, [], ◌∷◌, length, get_or, take, set, sym, ap, subst, ◌∙◌, arith, replicate}
+use Rattle.std.proofs.Common.{◌≡◌, ℕ, suc, ◌+◌, ◌<◌, Bool, true, false, ◌⊎◌, ◌↔◌, inl, inr, List, [], ◌∷◌, length}
+use Rattle.std.proofs.Common.{get_or, take, set, sym, ap, subst, ◌∙◌, arith, replicate}
 use Rattle.std.proofs.lemmas.List.{get_or-replicate, length-replicate}
 use Rattle.std.proofs.lemmas.Bool.{false≢true, cases_lt}
 use Rattle.std.proofs.lemmas.List.{get_or_past}
@@ -22,11 +23,13 @@ unmarked k n =
       | inr past ↦ get_or_past (replicate k false) n false (omega (arith, past, length-replicate k false))
     ]
 
-pub joined_exist : {N E : Type 0} (end : ℕ) (g : Graph N E) → IsWellFormed end g → (u v : ℕ) → AreJoined g u v → HasNode g u × HasNode g v
+pub joined_exist : {N E : Type 0} (end : ℕ) (g : Graph N E)
+    → IsWellFormed end g → (u v : ℕ) → AreJoined g u v → HasNode g u × HasNode g v
 joined_exist end g w u v j = (w.parents j.0 _ j.2, w.children j.0 _ j.2)
 
 -- one node in the queue
-pub one_queued : {N E : Type 0} (g : Graph N E) (u k : ℕ) (queue : List ℕ) → HasNode g u → u < k → IsQueue g (set (replicate k false) u true) (u ∷ [])
+pub one_queued : {N E : Type 0} (g : Graph N E) (u k : ℕ) (queue : List ℕ)
+    → HasNode g u → u < k → IsQueue g (set (replicate k false) u true) (u ∷ [])
 one_queued g u k queue exists low =
     record {
       exist = λ n c. elim (contains_mem (u ∷ []) n c) [
@@ -36,29 +39,50 @@ one_queued g u k queue exists low =
       once = (λ c. contains_mem [] u c, tt);
       marked = λ n. (
           let all = set_marked (replicate k false) u n (omega (arith, low, length-replicate k false)) in (
-            λ m. elim (all.0 m) [ inl e ↦ mem_contains (u ∷ []) n (inl e) | inr before ↦ absurd (false≢true (sym (unmarked k n) ∙ before)) ],
+            λ m. elim (all.0 m) [
+              | inl e ↦ mem_contains (u ∷ []) n (inl e)
+              | inr before ↦ absurd (false≢true (sym (unmarked k n) ∙ before))
+            ],
             λ c. all.1 (elim (contains_mem (u ∷ []) n c) [ inl e ↦ inl e | inr none ↦ absurd none ]),
           )
           );
     }
 
-pub flags_round : {N E : Type 0} (end : ℕ) (g : Graph N E) → IsWellFormed end g → IsAcyclic g → (u : ℕ) (closure : List ℕ) → IsClosure g (u ∷ []) closure → (k : ℕ) (marks : List Bool) → MeetsChildren g closure (replicate k false) marks → (old new : List ℕ) → FlagsMarked end g u marks old new → FlagsRound end g u old new
+pub flags_round : {N E : Type 0} (end : ℕ) (g : Graph N E)
+    → IsWellFormed end g → IsAcyclic g → (u : ℕ) (closure : List ℕ) → IsClosure g (u ∷ []) closure
+    → (k : ℕ) (marks : List Bool) → MeetsChildren g closure (replicate k false) marks
+    → (old new : List ℕ) → FlagsMarked end g u marks old new → FlagsRound end g u old new
 flags_round end g w acyclic u closure c k marks meets old new flags e = (
   λ f. elim ((flags e).0 f) [
     | inl a ↦ inl a
     | inr l ↦ elim ((meets l.edge.child).0 l.child) [
       | inl before ↦ absurd (false≢true (sym (unmarked k l.edge.child) ∙ before))
-      | inr child ↦ inr (record { edge = l.edge; at = l.at; parent = l.parent; round = (child_round g acyclic (joined_exist end g w) u closure c l.edge.child).0 child })
+      | inr child ↦ inr (record {
+        edge = l.edge;
+        at = l.at;
+        parent = l.parent;
+        round = (child_round g acyclic (joined_exist end g w) u closure c l.edge.child).0 child;
+      })
     ]
   ],
   λ f. (flags e).1 (elim f [
     | inl a ↦ inl a
-    | inr r ↦ inr (record { edge = r.edge; at = r.at; parent = r.parent; child = (meets r.edge.child).1 (inr ((child_round g acyclic (joined_exist end g w) u closure c r.edge.child).1 r.round)) })
+    | inr r ↦ inr (record {
+      edge = r.edge;
+      at = r.at;
+      parent = r.parent;
+      child =
+          (meets r.edge.child).1
+          (inr ((child_round g acyclic (joined_exist end g w) u closure c r.edge.child).1 r.round));
+    })
   ]),
 )
 
 -- the same by marks that are right for the children of the node alone
-pub flags_met : {N E : Type 0} (end : ℕ) (g : Graph N E) → IsWellFormed end g → (u k : ℕ) (marks : List Bool) → ((v : ℕ) → AreJoined g u v → (get_or marks v false ≡ true) ↔ ((get_or (replicate k false) v false ≡ true) ⊎ ReachesIndirectly g u v)) → (old new : List ℕ) → FlagsMarked end g u marks old new → FlagsRound end g u old new
+pub flags_met : {N E : Type 0} (end : ℕ) (g : Graph N E) → IsWellFormed end g → (u k : ℕ) (marks : List Bool)
+    → ((v : ℕ) → AreJoined g u v
+    → (get_or marks v false ≡ true) ↔ ((get_or (replicate k false) v false ≡ true) ⊎ ReachesIndirectly g u v))
+    → (old new : List ℕ) → FlagsMarked end g u marks old new → FlagsRound end g u old new
 flags_met end g w u k marks met old new flags e = (
   λ f. elim ((flags e).0 f) [
     | inl a ↦ inl a
@@ -69,12 +93,18 @@ flags_met end g w u k marks met old new flags e = (
   ],
   λ f. (flags e).1 (elim f [
     | inl a ↦ inl a
-    | inr r ↦ inr (record { edge = r.edge; at = r.at; parent = r.parent; child = (met r.edge.child (joins end g w e u r.edge r.at r.parent)).1 (inr r.round) })
+    | inr r ↦ inr (record {
+      edge = r.edge;
+      at = r.at;
+      parent = r.parent;
+      child = (met r.edge.child (joins end g w e u r.edge r.at r.parent)).1 (inr r.round);
+    })
   ]),
 )
 
 -- the first place of a list written, and that alone taken
-pub first_put : (queue queue' : List ℕ) (n len : ℕ) → 0 < length queue → queue' ≡ set queue 0 n → len ≡ 0 + 1 → take len queue' ≡ n ∷ []
+pub first_put : (queue queue' : List ℕ) (n len : ℕ)
+    → 0 < length queue → queue' ≡ set queue 0 n → len ≡ 0 + 1 → take len queue' ≡ n ∷ []
 first_put [] queue' n len some put is = absurd (omega (arith, some))
 first_put (x ∷ xs) queue' n len some put is =
     let one : len ≡ suc 0 = omega (arith, is) in

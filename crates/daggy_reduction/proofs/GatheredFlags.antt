@@ -1,5 +1,6 @@
 -- The flagged ones of a list, put in front of it.
-use Rattle.std.proofs.Common.{◌≡◌, ◌≢◌, ℕ, zero, suc, ◌+◌, ◌<◌, ◌≤◌, ◌↔◌, inl, inr, List, [], ◌∷◌, ◌++◌, length, get_or, set, take, refl, sym, ap, subst, ◌∙◌, arith, length-set, eqb, Contains}
+use Rattle.std.proofs.Common.{◌≡◌, ◌≢◌, ℕ, zero, suc, ◌+◌, ◌<◌, ◌≤◌, ◌↔◌, inl, inr, List, [], ◌∷◌, ◌++◌, length, get_or}
+use Rattle.std.proofs.Common.{set, take, refl, sym, ap, subst, ◌∙◌, arith, length-set, eqb, Contains}
 use Rattle.std.proofs.lemmas.List.{take_more_set, get_or-set_other}
 use Rattle.std.proofs.lemmas.Bool.{cases_eq, eq-eqb, ne_eqb, cond-true, cond-false}
 use Rattle.daggy_base.proofs.Lists.{Mem, mem_left, mem_right, mem_cases, mem_contains, contains_mem}
@@ -22,13 +23,15 @@ module _ (end : ℕ) (flags : List ℕ) (i : ℕ) where
   below_passed is =
       let more : i + 1 ≡ suc i = omega arith in
       ap (λ z. flagged_below end flags z) more
-      ∙ cond-true {A = List ℕ} (eqb (get_or flags i end) end) (flagged_below end flags i) (flagged_below end flags i ++ i ∷ []) (eq-eqb (get_or flags i end) end is)
+      ∙ cond-true {A = List ℕ} (eqb (get_or flags i end) end) (flagged_below end flags i)
+      (flagged_below end flags i ++ i ∷ []) (eq-eqb (get_or flags i end) end is)
 
   below_more : get_or flags i end ≢ end → flagged_below end flags (i + 1) ≡ flagged_below end flags i ++ i ∷ []
   below_more other =
       let more : i + 1 ≡ suc i = omega arith in
       ap (λ z. flagged_below end flags z) more
-      ∙ cond-false {A = List ℕ} (eqb (get_or flags i end) end) (flagged_below end flags i) (flagged_below end flags i ++ i ∷ []) (ne_eqb (get_or flags i end) end other)
+      ∙ cond-false {A = List ℕ} (eqb (get_or flags i end) end) (flagged_below end flags i)
+      (flagged_below end flags i ++ i ∷ []) (ne_eqb (get_or flags i end) end other)
 
 module _ {end : ℕ} {flags₀ flags : List ℕ} {len i : ℕ} (s : Gathering end flags₀ flags len i) where
   pub gather_passed : get_or flags i end ≡ end → Gathering end flags₀ flags len (i + 1)
@@ -41,7 +44,8 @@ module _ {end : ℕ} {flags₀ flags : List ℕ} {len i : ℕ} (s : Gathering en
         rest = λ j h. s.rest j (omega (arith, h));
       }
 
-  pub gather_put : i < length flags → get_or flags i end ≢ end → Gathering end flags₀ (set flags len i) (len + 1) (i + 1)
+  pub gather_put : i < length flags → get_or flags i end ≢ end
+      → Gathering end flags₀ (set flags len i) (len + 1) (i + 1)
   gather_put low other =
       let few = s.few in
       record {
@@ -61,14 +65,18 @@ module _ (end : ℕ) (flags : List ℕ) where
       let more : k + 1 ≡ suc k = omega arith in
       let here = subst (λ z. Mem e (flagged_below end flags z)) (sym more) m in
       elim (cases_eq (get_or flags k end) end) [
-        | inl is ↦ (let before = gathered_within k e (subst M (below_passed end flags k is) here) in (omega (arith, before.0), before.1))
-        | inr other ↦ elim (mem_cases (flagged_below end flags k) (k ∷ []) e (subst M (below_more end flags k other) here)) [
-          | inl a ↦ (let before = gathered_within k e a in (omega (arith, before.0), before.1))
-          | inr b ↦ elim b [
-            | inl same ↦ (let F : ℕ → Type 0 = λ z. IsFlagged end flags z in (omega (arith, same), subst F (sym same) other))
-            | inr none ↦ absurd none
-          ]
-        ]
+        | inl is ↦
+            (let before = gathered_within k e (subst M (below_passed end flags k is) here) in
+            (omega (arith, before.0), before.1))
+        | inr other ↦
+            elim (mem_cases (flagged_below end flags k) (k ∷ []) e (subst M (below_more end flags k other) here)) [
+              | inl a ↦ (let before = gathered_within k e a in (omega (arith, before.0), before.1))
+              | inr b ↦ elim b [
+                | inl same ↦
+                    (let F : ℕ → Type 0 = λ z. IsFlagged end flags z in (omega (arith, same), subst F (sym same) other))
+                | inr none ↦ absurd none
+              ]
+            ]
       ]
 
   gathered_all : (bound e : ℕ) → e < bound → IsFlagged end flags e → Mem e (flagged_below end flags bound)
@@ -79,19 +87,22 @@ module _ (end : ℕ) (flags : List ℕ) where
       let goal : Mem e (flagged_below end flags (k + 1)) = elim (cases_eq e k) [
         | inl last ↦ (
             let F : ℕ → Type 0 = λ z. IsFlagged end flags z in
-            subst M (sym (below_more end flags k (subst F last flagged))) (mem_right (flagged_below end flags k) (k ∷ []) e (inl last))
+            subst M (sym (below_more end flags k (subst F last flagged)))
+            (mem_right (flagged_below end flags k) (k ∷ []) e (inl last))
             )
         | inr other ↦ (
             let before = gathered_all k e (omega (arith, low, other)) flagged in
             elim (cases_eq (get_or flags k end) end) [
               | inl is ↦ subst M (sym (below_passed end flags k is)) before
-              | inr not ↦ subst M (sym (below_more end flags k not)) (mem_left (flagged_below end flags k) (k ∷ []) e before)
+              | inr not ↦
+                  subst M (sym (below_more end flags k not)) (mem_left (flagged_below end flags k) (k ∷ []) e before)
             ]
             )
       ] in
       subst (λ z. Mem e (flagged_below end flags z)) more goal
 
-  pub gathered_exactly : (bound : ℕ) → ((e : ℕ) → IsFlagged end flags e → e < bound) → (e : ℕ) → Contains (flagged_below end flags bound) e ↔ IsFlagged end flags e
+  pub gathered_exactly : (bound : ℕ) → ((e : ℕ) → IsFlagged end flags e → e < bound)
+      → (e : ℕ) → Contains (flagged_below end flags bound) e ↔ IsFlagged end flags e
   gathered_exactly bound within e = (
     λ c. (gathered_within bound e (contains_mem (flagged_below end flags bound) e c)).1,
     λ f. mem_contains (flagged_below end flags bound) e (gathered_all bound e (within e f) f),

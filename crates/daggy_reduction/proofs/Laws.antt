@@ -5,7 +5,8 @@ use Rattle.daggy_base.specs.Path.{IsAcyclic}
 use Rattle.daggy_base.specs.Removal.{Kind, Stable, KeepsIndices, without_edges}
 use Rattle.daggy_base.specs.WellFormed.{IsWellFormed}
 use Rattle.daggy_base.specs.Reduction.{IsReduction}
-use Rattle.daggy_reduction.specs.Comparison.{LosesRoundPairs, JoinsAll, HaveSameReachability, JoinsCovers, JoinsOthers, IsLeast, HasNoneRedundant, IsCanonical}
+use Rattle.daggy_reduction.specs.Comparison.{LosesRoundPairs, JoinsAll, HaveSameReachability, JoinsCovers, JoinsOthers}
+use Rattle.daggy_reduction.specs.Comparison.{IsLeast, HasNoneRedundant, IsCanonical}
 use Rattle.daggy_reduction.proofs.RemainingEdges.{reduction_loses}
 use Rattle.daggy_reduction.proofs.ReachabilityKept.{same_reachability}
 use Rattle.daggy_reduction.proofs.CoverPairs.{joined_exactly}
@@ -13,7 +14,8 @@ use Rattle.daggy_reduction.proofs.Canonical.{least, nothing_left, alike_exactly}
 use Rattle.daggy_reduction.proofs.FlaggedRedundant.{joined_exist}
 use Rattle.daggy_reduction.proofs.EdgesRemovedDownward.{keeps_indices}
 
-module _ {N E : Type 0} {limit : ℕ} (kind : Kind) (roots : List ℕ) (old new : Graph N E) (acyclic : IsAcyclic old) (w : IsWellFormed limit old) (r : IsReduction kind roots old new) where
+module _ {N E : Type 0} {limit : ℕ} (kind : Kind) (roots : List ℕ) (old new : Graph N E) (acyclic : IsAcyclic old)
+    (w : IsWellFormed limit old) (r : IsReduction kind roots old new) where
   loses : LosesRoundPairs roots old new
   loses = reduction_loses kind roots old new r
 
@@ -36,14 +38,18 @@ module _ {N E : Type 0} {limit : ℕ} (kind : Kind) (roots : List ℕ) (old new 
   law_least h same u v below j = least roots old new acyclic loses (joined_exist limit old w) h same u v below j
 
   pub law_none : HasNoneRedundant roots new
-  law_none e red = nothing_left roots old new acyclic loses (joined_exist limit old w) red.edge.parent red.edge.child (e, red.edge.weight, red.at) red.below red.round
+  law_none e red =
+      nothing_left roots old new acyclic loses (joined_exist limit old w) red.edge.parent red.edge.child
+      (e, red.edge.weight, red.at) red.below red.round
 
   pub law_canonical : IsCanonical limit roots old new
   law_canonical all h h' other =
       alike_exactly roots old new acyclic loses (joined_exist limit old w) all other.roots h h' other.dag.acyclic
-      (reduction_loses other.kind other.roots h h' other.reduced) (joined_exist limit h other.dag.well_formed) other.all other.nodes
+      (reduction_loses other.kind other.roots h h' other.reduced) (joined_exist limit h other.dag.well_formed) other.all
+      other.nodes
 
-pub law_indices : {N E : Type 0} (kind : Kind) (roots : List ℕ) (old new : Graph N E) → IsReduction kind roots old new → kind ≡ Stable → KeepsIndices old new
+pub law_indices : {N E : Type 0} (kind : Kind) (roots : List ℕ) (old new : Graph N E)
+    → IsReduction kind roots old new → kind ≡ Stable → KeepsIndices old new
 law_indices {N} {E} kind roots old new r stable =
     let P : Graph N E → Type 0 = λ z. KeepsIndices old z in
     let Q : Kind → Type 0 = λ z. new ≡ without_edges z old r.redundant in

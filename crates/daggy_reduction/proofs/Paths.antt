@@ -23,12 +23,14 @@ module _ {N E : Type 0} (g : Graph N E) where
   has_last u (v ∷ rest) p = has_last v rest p.2
 
   -- a path on from the end of another
-  pub path_append : (u : ℕ) (rest more : List ℕ) → IsPath g (u ∷ rest) → IsPath g (end_of u rest ∷ more) → IsPath g (u ∷ (rest ++ more))
+  pub path_append : (u : ℕ) (rest more : List ℕ)
+      → IsPath g (u ∷ rest) → IsPath g (end_of u rest ∷ more) → IsPath g (u ∷ (rest ++ more))
   path_append u [] more p q = q
   path_append u (v ∷ rest) more p q = (p.0, p.1, path_append v rest more p.2 q)
 
   -- the part of a path up to one of its nodes
-  path_to : (u : ℕ) (rest : List ℕ) (x : ℕ) → IsPath g (u ∷ rest) → Mem x rest → (v : ℕ) × (front : List ℕ) × IsPath g (u ∷ v ∷ front) × (end_of v front ≡ x)
+  path_to : (u : ℕ) (rest : List ℕ) (x : ℕ)
+      → IsPath g (u ∷ rest) → Mem x rest → (v : ℕ) × (front : List ℕ) × IsPath g (u ∷ v ∷ front) × (end_of v front ≡ x)
   path_to u [] x p m = absurd m
   path_to u (v ∷ rest) x p m =
       elim m [
@@ -55,14 +57,16 @@ module _ {N E : Type 0} (g : Graph N E) where
   -- a path has no more nodes than there are slots
   pub path_short : IsAcyclic g → (u : ℕ) (rest : List ℕ) → IsPath g (u ∷ rest) → length (u ∷ rest) ≤ length g.nodes
   path_short acyclic u rest p =
-      let low : (x : ℕ) → Mem x (u ∷ rest) → x < length g.nodes = λ x m. omega (arith, below_bound g.nodes x (path_nodes u rest p x m), bound_low g.nodes) in
+      let low : (x : ℕ) → Mem x (u ∷ rest) → x < length g.nodes = λ x m.
+      omega (arith, below_bound g.nodes x (path_nodes u rest p x m), bound_low g.nodes) in
       fewer_than (u ∷ rest) (length g.nodes) (unique_path acyclic u rest p) low
 
   -- the first step of a path between two nodes that differ
   pub first_step : (u v : ℕ) → Reaches g u v → u ≢ v → (w : ℕ) × HasNode g u × AreJoined g u w × Reaches g w v
   first_step u v r apart = go r.0 r.1 r.2
     where
-      go : (rest : List ℕ) → IsPath g (u ∷ rest) → end_of u rest ≡ v → (w : ℕ) × HasNode g u × AreJoined g u w × Reaches g w v
+      go : (rest : List ℕ)
+          → IsPath g (u ∷ rest) → end_of u rest ≡ v → (w : ℕ) × HasNode g u × AreJoined g u w × Reaches g w v
       go [] p e = absurd (apart e)
       go (w ∷ rest) p e = (w, p.0, p.1, (rest, p.2, e))
 
@@ -70,7 +74,8 @@ module _ {N E : Type 0} (g : Graph N E) where
   reaches_one u v a b j = (v ∷ [], (a, j, b), refl)
 
   -- a longer way passes another node
-  pub round_parts : (u v : ℕ) → ReachesIndirectly g u v → (w x : ℕ) × AreJoined g u w × AreJoined g w x × Reaches g w v × Reaches g x v
+  pub round_parts : (u v : ℕ)
+      → ReachesIndirectly g u v → (w x : ℕ) × AreJoined g u w × AreJoined g w x × Reaches g w v × Reaches g x v
   round_parts u v r = (r.0, r.1, r.3.1, r.3.2.1, (r.1 ∷ r.2, r.3.2, r.4), (r.2, r.3.2.2, r.4))
 
   -- and a way that passes another node is longer
@@ -80,7 +85,8 @@ module _ {N E : Type 0} (g : Graph N E) where
       let t = reaches_on g s.0 w v s.3 b in
       go s.0 s.1 s.2 s.3 t.0 t.1 t.2
     where
-      go : (x : ℕ) → HasNode g u → AreJoined g u x → Reaches g x w → (rest : List ℕ) → IsPath g (x ∷ rest) → end_of x rest ≡ v → ReachesIndirectly g u v
+      go : (x : ℕ) → HasNode g u → AreJoined g u x → Reaches g x w → (rest : List ℕ) → IsPath g (x ∷ rest)
+          → end_of x rest ≡ v → ReachesIndirectly g u v
       go x has j xw (y ∷ rest) p e = (x, y, rest, (has, j, p), e)
       go x has j xw [] p e =
           let s = first_step w v b to in

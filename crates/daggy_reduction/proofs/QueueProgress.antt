@@ -1,5 +1,7 @@
 -- A queue of nodes that is read from its front, while the children that are new to it are put behind.
-use Rattle.std.proofs.Common.{◌≡◌, ◌≢◌, ℕ, suc, ◌+◌, ◌<◌, ◌≤◌, Bool, true, false, ◌⊎◌, ◌↔◌, inl, inr, List, [], ◌∷◌, ◌++◌, length, get_or, drop, set, take, refl, sym, ap, subst, ◌∙◌, arith, append_assoc, append-nil}
+use Rattle.std.proofs.Common.{◌≡◌, ◌≢◌, ℕ, suc, ◌+◌, ◌<◌, ◌≤◌, Bool, true, false, ◌⊎◌, ◌↔◌, inl, inr, List, [], ◌∷◌}
+use Rattle.std.proofs.Common.{◌++◌, length, get_or, drop, set, take, refl, sym, ap, subst, ◌∙◌, arith, append_assoc}
+use Rattle.std.proofs.Common.{append-nil}
 use Rattle.std.proofs.lemmas.List.{length-append}
 use Rattle.std.proofs.lemmas.Bool.{false≢true}
 use Rattle.daggy_base.specs.Graph.{Graph, HasNode, HasEdge, out_list, edge_count}
@@ -8,7 +10,8 @@ use Rattle.daggy_base.specs.Cursor.{first_of}
 use Rattle.daggy_base.specs.WellFormed.{IsWellFormed}
 use Rattle.daggy_base.specs.Look.{IsLook}
 use Rattle.daggy_base.proofs.Lists.{Mem, Unique, mem_left, mem_right, mem_cases, mem_mid, unique_append}
-use Rattle.daggy_base.proofs.OutEdgesRead.{lists_of, lists_few, LookedTo, read_whole, all_read, read_part, has_edge, child_exists, child_joined, next_cursor, looked_more}
+use Rattle.daggy_base.proofs.OutEdgesRead.{lists_of, lists_few, LookedTo, read_whole, all_read, read_part, has_edge}
+use Rattle.daggy_base.proofs.OutEdgesRead.{child_exists, child_joined, next_cursor, looked_more}
 use Rattle.daggy_base.proofs.SearchProgress.{reaches_more, reaches_stays, marked_within, set_marked, fewer_than}
 use Rattle.daggy_order.specs.Ordered.{edges_from}
 use Rattle.daggy_order.proofs.BoundedSearch.{edges_few, lists_length}
@@ -25,9 +28,10 @@ Anywhere n = Unit {0}
 abbrev pub Nowhere : ℕ → Type 0
 Nowhere n = ⊥
 
--- A queue that is read, with marks for its nodes and marks for the children of all but its first node. Its nodes are all
--- inside, and the children that are beyond are not put into it.
-pub record Queueing {N E : Type 0} (end : ℕ) (g : Graph N E) (Inside Beyond : ℕ → Type 0) (starts : List ℕ) (before marks met : List Bool) (queue : List ℕ) (head e looked : ℕ) : Type 0 where
+-- A queue that is read, with marks for its nodes and marks for the children of all but its first node. Its nodes are
+-- all inside, and the children that are beyond are not put into it.
+pub record Queueing {N E : Type 0} (end : ℕ) (g : Graph N E) (Inside Beyond : ℕ → Type 0) (starts : List ℕ)
+    (before marks met : List Bool) (queue : List ℕ) (head e looked : ℕ) : Type 0 where
   -- the nodes that were read, the one whose list is read, those behind it, and how much of that list was read
   pub done : List ℕ
   pub at : ℕ
@@ -46,18 +50,25 @@ pub record Queueing {N E : Type 0} (end : ℕ) (g : Graph N E) (Inside Beyond : 
   pub inside : (n : ℕ) → Mem n queue → Inside n
   pub closed : (u v : ℕ) → Mem u done → AreJoined g u v → Mem v queue ⊎ Beyond v
   pub half : LookedTo end g (λ v. Mem v queue ⊎ Beyond v) at passed
-  pub met_only : (n : ℕ) → get_or met n false ≡ true → (get_or before n false ≡ true) ⊎ ((m : ℕ) × Mem m (behind queue) × AreJoined g m n)
+  pub met_only : (n : ℕ)
+      → get_or met n false ≡ true → (get_or before n false ≡ true) ⊎ ((m : ℕ) × Mem m (behind queue) × AreJoined g m n)
   pub met_before : (n : ℕ) → get_or before n false ≡ true → get_or met n false ≡ true
   pub met_closed : (u v : ℕ) → Mem u (behind done) → AreJoined g u v → get_or met v false ≡ true
   pub met_half : head ≢ 0 → LookedTo end g (λ v. get_or met v false ≡ true) at passed
   pub counted : looked ≡ passed + length (lists_of g done)
 
 -- lists of lists
-pub lists_append : {N E : Type 0} (g : Graph N E) (us : List ℕ) (u : ℕ) → length (lists_of g (us ++ u ∷ [])) ≡ length (lists_of g us) + length (out_list g u)
+pub lists_append : {N E : Type 0} (g : Graph N E) (us : List ℕ) (u : ℕ)
+    → length (lists_of g (us ++ u ∷ [])) ≡ length (lists_of g us) + length (out_list g u)
 lists_append g [] u = omega (arith, length-append (out_list g u) [])
 lists_append g (x ∷ us) u =
     let later = lists_append g us u in
-    omega (arith, later, length-append (out_list g x) (lists_of g (us ++ u ∷ [])), length-append (out_list g x) (lists_of g us))
+    omega (
+      arith,
+      later,
+      length-append (out_list g x) (lists_of g (us ++ u ∷ [])),
+      length-append (out_list g x) (lists_of g us),
+    )
 
 unique_left : (xs ys : List ℕ) → Unique (xs ++ ys) → Unique xs
 unique_left [] ys u = tt
@@ -80,7 +91,9 @@ behind_last (x ∷ xs) y m h =
     ]
 
 -- what is known of a queue
-module _ {N E : Type 0} (end : ℕ) (g : Graph N E) (w : IsWellFormed end g) (Inside Beyond : ℕ → Type 0) (starts : List ℕ) (before marks met : List Bool) (queue : List ℕ) (head e looked : ℕ) (s : Queueing end g Inside Beyond starts before marks met queue head e looked) where
+module _ {N E : Type 0} (end : ℕ) (g : Graph N E) (w : IsWellFormed end g) (Inside Beyond : ℕ → Type 0)
+    (starts : List ℕ) (before marks met : List Bool) (queue : List ℕ) (head e looked : ℕ)
+    (s : Queueing end g Inside Beyond starts before marks met queue head e looked) where
   once_to_here : Unique (s.done ++ s.at ∷ [])
   once_to_here =
       let P : List ℕ → Type 0 = λ z. Unique z in
@@ -143,7 +156,8 @@ module _ {N E : Type 0} (end : ℕ) (g : Graph N E) (w : IsWellFormed end g) (In
     joined_here = child_joined end g w s.at s.passed e s.cursor here v next look
 
     -- the cursor moves on from a child that is in the queue
-    pub moved : Mem v queue ⊎ Beyond v → (head ≢ 0 → get_or met v false ≡ true) → Queueing end g Inside Beyond starts before marks met queue head next (looked + 1)
+    pub moved : Mem v queue ⊎ Beyond v → (head ≢ 0 → get_or met v false ≡ true)
+        → Queueing end g Inside Beyond starts before marks met queue head next (looked + 1)
     moved seen meets =
         record {
           done = s.done;
@@ -162,23 +176,28 @@ module _ {N E : Type 0} (end : ℕ) (g : Graph N E) (w : IsWellFormed end g) (In
           begins = s.begins;
           inside = s.inside;
           closed = s.closed;
-          half = looked_more end g w s.at s.passed e s.cursor here v next look (λ z. Mem z queue ⊎ Beyond z) s.half seen;
+          half =
+              looked_more end g w s.at s.passed e s.cursor here v next look (λ z. Mem z queue ⊎ Beyond z) s.half seen;
           met_only = s.met_only;
           met_before = s.met_before;
           met_closed = s.met_closed;
-          met_half = λ some. looked_more end g w s.at s.passed e s.cursor here v next look (λ z. get_or met z false ≡ true) (s.met_half some) (meets some);
+          met_half = λ some.
+              looked_more end g w s.at s.passed e s.cursor here v next look (λ z. get_or met z false ≡ true)
+              (s.met_half some) (meets some);
           counted = omega (arith, s.counted);
         }
 
     -- a child of a node behind the first is met
-    pub meets_child : head ≢ 0 → v < length met → Queueing end g Inside Beyond starts before marks (set met v true) queue head e looked
+    pub meets_child : head ≢ 0 → v < length met
+        → Queueing end g Inside Beyond starts before marks (set met v true) queue head e looked
     meets_child some low =
         let at_behind : Mem s.at (behind queue) = (
         let P : List ℕ → Type 0 = λ z. Mem s.at (behind z) in
         let longer : length s.done ≢ 0 = λ k. some (sym s.read ∙ k) in
         subst P (sym s.split) (behind_mid s.done s.at s.rest longer)
         ) in
-        let stays : (n : ℕ) → get_or met n false ≡ true → get_or (set met v true) n false ≡ true = λ n m. (set_marked met v n low).1 (inr m) in
+        let stays : (n : ℕ) → get_or met n false ≡ true → get_or (set met v true) n false ≡ true = λ n m.
+        (set_marked met v n low).1 (inr m) in
         record {
           done = s.done;
           at = s.at;
@@ -199,7 +218,9 @@ module _ {N E : Type 0} (end : ℕ) (g : Graph N E) (w : IsWellFormed end g) (In
           half = s.half;
           met_only = λ n m.
               elim ((set_marked met v n low).0 m) [
-                | inl eq ↦ (let P : ℕ → Type 0 = λ z. AreJoined g s.at z in inr (s.at, at_behind, subst P (sym eq) joined_here))
+                | inl eq ↦
+                    (let P : ℕ → Type 0 = λ z. AreJoined g s.at z in
+                    inr (s.at, at_behind, subst P (sym eq) joined_here))
                 | inr old ↦ s.met_only n old
               ];
           met_before = λ n m. stays n (s.met_before n m);
@@ -209,7 +230,8 @@ module _ {N E : Type 0} (end : ℕ) (g : Graph N E) (w : IsWellFormed end g) (In
         }
 
     -- a child that is new goes behind
-    pub pushed : Inside v → v < length marks → get_or marks v false ≡ false → Queueing end g Inside Beyond starts before (set marks v true) met (queue ++ v ∷ []) head e looked
+    pub pushed : Inside v → v < length marks → get_or marks v false ≡ false
+        → Queueing end g Inside Beyond starts before (set marks v true) met (queue ++ v ∷ []) head e looked
     pushed within low unseen =
         let absent : Mem v queue → ⊥ = λ m. false≢true (sym unseen ∙ (s.marked v).1 m) in
         let old : (n : ℕ) → Mem n queue → Mem n (queue ++ v ∷ []) = λ n m. mem_left queue (v ∷ []) n m in
@@ -234,7 +256,9 @@ module _ {N E : Type 0} (end : ℕ) (g : Graph N E) (w : IsWellFormed end g) (In
           ]);
           marked = λ n. (
             λ k. elim ((set_marked marks v n low).0 k) [
-              | inl eq ↦ (let P : ℕ → Type 0 = λ z. Mem z (queue ++ v ∷ []) in subst P (sym eq) (mem_right queue (v ∷ []) v (inl refl)))
+              | inl eq ↦
+                  (let P : ℕ → Type 0 = λ z. Mem z (queue ++ v ∷ []) in
+                  subst P (sym eq) (mem_right queue (v ∷ []) v (inl refl)))
               | inr m ↦ old n ((s.marked n).0 m)
             ],
             λ m. (set_marked marks v n low).1 (elim (out n m) [ inl a ↦ inr ((s.marked n).1 a) | inr eq ↦ inl eq ]),
@@ -274,7 +298,10 @@ module _ {N E : Type 0} (end : ℕ) (g : Graph N E) (w : IsWellFormed end g) (In
       elim (mem_cases s.done (s.at ∷ []) u m) [
         | inl a ↦ s.closed u v a j
         | inr b ↦ elim b [
-          | inl eq ↦ (let P : ℕ → Type 0 = λ z. AreJoined g z v in all_read end g w s.at s.passed e s.cursor s.within h (λ z. Mem z queue ⊎ Beyond z) s.half v (subst P eq j))
+          | inl eq ↦
+              (let P : ℕ → Type 0 = λ z. AreJoined g z v in
+              all_read end g w s.at s.passed e s.cursor s.within h (λ z. Mem z queue ⊎ Beyond z) s.half v
+              (subst P eq j))
           | inr none ↦ absurd none
         ]
       ]
@@ -286,12 +313,14 @@ module _ {N E : Type 0} (end : ℕ) (g : Graph N E) (w : IsWellFormed end g) (In
         | inr last ↦ (
             let P : ℕ → Type 0 = λ z. AreJoined g z v in
             let some : head ≢ 0 = λ k. last.1 (s.read ∙ k) in
-            all_read end g w s.at s.passed e s.cursor s.within h (λ z. get_or met z false ≡ true) (s.met_half some) v (subst P last.0 j)
+            all_read end g w s.at s.passed e s.cursor s.within h (λ z. get_or met z false ≡ true) (s.met_half some) v
+            (subst P last.0 j)
             )
       ]
 
   -- the next node of the queue
-  pub next_node : e ≡ end → (y : ℕ) (ys : List ℕ) → s.rest ≡ y ∷ ys → Queueing end g Inside Beyond starts before marks met queue (head + 1) (first_of end (out_list g y)) looked
+  pub next_node : e ≡ end → (y : ℕ) (ys : List ℕ) → s.rest ≡ y ∷ ys
+      → Queueing end g Inside Beyond starts before marks met queue (head + 1) (first_of end (out_list g y)) looked
   next_node h y ys more =
       record {
         done = s.done ++ s.at ∷ [];
@@ -315,7 +344,12 @@ module _ {N E : Type 0} (end : ℕ) (g : Graph N E) (w : IsWellFormed end g) (In
         met_before = s.met_before;
         met_closed = met_here h;
         met_half = λ k j x lt a. absurd (omega (arith, lt));
-        counted = omega (arith, s.counted, read_whole end g w s.at s.passed e s.cursor s.within h, lists_append g s.done s.at);
+        counted = omega (
+          arith,
+          s.counted,
+          read_whole end g w s.at s.passed e s.cursor s.within h,
+          lists_append g s.done s.at,
+        );
       }
 
   -- nothing is behind the node that was read
@@ -333,7 +367,9 @@ module _ {N E : Type 0} (end : ℕ) (g : Graph N E) (w : IsWellFormed end g) (In
       pub all_reached : (n s : ℕ) → Mem s starts → Reaches g s n → Mem n queue ⊎ Beyond n
       all_reached n s' m r = reaches_stays g (λ z. Mem z queue ⊎ Beyond z) stays s' n r (inl (s.start s' m))
 
-    pub all_met : (n : ℕ) → (get_or met n false ≡ true) ↔ ((get_or before n false ≡ true) ⊎ ((m : ℕ) × Mem m (behind queue) × AreJoined g m n))
+    pub all_met : (n : ℕ)
+        → (get_or met n false ≡ true)
+        ↔ ((get_or before n false ≡ true) ⊎ ((m : ℕ) × Mem m (behind queue) × AreJoined g m n))
     all_met n = (
       s.met_only n,
       λ k. elim k [
@@ -343,7 +379,10 @@ module _ {N E : Type 0} (end : ℕ) (g : Graph N E) (w : IsWellFormed end g) (In
     )
 
 -- the start
-pub started : {N E : Type 0} (end : ℕ) (g : Graph N E) (marks met : List Bool) (x : ℕ) (xs : List ℕ) → ((n : ℕ) → Mem n (x ∷ xs) → HasNode g n) → Unique (x ∷ xs) → ((n : ℕ) → (get_or marks n false ≡ true) ↔ Mem n (x ∷ xs)) → Queueing end g Anywhere Nowhere (x ∷ xs) met marks met (x ∷ xs) 0 (first_of end (out_list g x)) 0
+pub started : {N E : Type 0} (end : ℕ) (g : Graph N E) (marks met : List Bool) (x : ℕ) (xs : List ℕ)
+    → ((n : ℕ) → Mem n (x ∷ xs) → HasNode g n) → Unique (x ∷ xs)
+    → ((n : ℕ) → (get_or marks n false ≡ true) ↔ Mem n (x ∷ xs))
+    → Queueing end g Anywhere Nowhere (x ∷ xs) met marks met (x ∷ xs) 0 (first_of end (out_list g x)) 0
 started end g marks met x xs exist once marked =
     record {
       done = [];

@@ -1,5 +1,6 @@
 -- The children of a node put into a queue behind it, but for the one that stands last in an order.
-use Rattle.std.proofs.Common.{◌≡◌, ◌≢◌, ℕ, zero, suc, ◌+◌, ◌<◌, ◌≤◌, Bool, true, false, ◌⊎◌, ◌↔◌, inl, inr, List, [], ◌∷◌, ◌++◌, length, get_or, drop, take, set, refl, sym, ap, subst, ◌∙◌, arith, length-set}
+use Rattle.std.proofs.Common.{◌≡◌, ◌≢◌, ℕ, zero, suc, ◌+◌, ◌<◌, ◌≤◌, Bool, true, false, ◌⊎◌, ◌↔◌, inl, inr, List, []}
+use Rattle.std.proofs.Common.{◌∷◌, ◌++◌, length, get_or, drop, take, set, refl, sym, ap, subst, ◌∙◌, arith, length-set}
 use Rattle.std.proofs.lemmas.List.{take_more_set, length-take-le}
 use Rattle.std.proofs.lemmas.Bool.{false≢true, cases_eq}
 use Rattle.daggy_base.specs.Graph.{Graph, HasNode, HasEdge, out_list, node_bound}
@@ -8,13 +9,15 @@ use Rattle.daggy_base.specs.Cursor.{first_of}
 use Rattle.daggy_base.specs.WellFormed.{IsWellFormed}
 use Rattle.daggy_base.specs.Look.{IsLook}
 use Rattle.daggy_base.proofs.Lists.{Mem, Unique, mem_left, mem_right, mem_cases, unique_append, contains_mem, mem_at}
-use Rattle.daggy_base.proofs.OutEdgesRead.{leaves, joins, LookedTo, all_read, read_part, read_whole, has_edge, child_exists, child_joined, next_cursor, looked_more, below_bound}
+use Rattle.daggy_base.proofs.OutEdgesRead.{leaves, joins, LookedTo, all_read, read_part, read_whole, has_edge}
+use Rattle.daggy_base.proofs.OutEdgesRead.{child_exists, child_joined, next_cursor, looked_more, below_bound}
 use Rattle.daggy_base.proofs.SearchProgress.{marked_within, set_marked, fewer_than}
 use Rattle.daggy_order.specs.Ordered.{IsOrderOf, place}
 use Rattle.daggy_order.proofs.Sorted.{place_same, place_other}
 use Rattle.daggy_reduction.proofs.QueueProgress.{take_none}
 
-pub record Beginning {N E : Type 0} (end marks_size queue_size : ℕ) (g₀ g : Graph N E) (order : List ℕ) (u : ℕ) (marks : List Bool) (queue : List ℕ) (len last e looks₀ looks : ℕ) : Type 0 where
+pub record Beginning {N E : Type 0} (end marks_size queue_size : ℕ) (g₀ g : Graph N E) (order : List ℕ) (u : ℕ)
+    (marks : List Bool) (queue : List ℕ) (len last e looks₀ looks : ℕ) : Type 0 where
   pub same : g ≡ g₀
   pub marks_sized : length marks ≡ marks_size
   pub queue_sized : length queue ≡ queue_size
@@ -37,7 +40,11 @@ pub record Beginning {N E : Type 0} (end marks_size queue_size : ℕ) (g₀ g : 
   pub found : LookedTo end g₀ (λ v. Mem v q ⊎ (v ≡ last)) u passed
   pub front : ((q ≡ []) × (last ≡ u)) ⊎ ((others : List ℕ) × (q ≡ u ∷ others))
 
-pub begins_here : {N E : Type 0} (end : ℕ) (g : Graph N E) (order : List ℕ) (u : ℕ) (marks : List Bool) (queue : List ℕ) (e looks : ℕ) → ((n : ℕ) → get_or marks n false ≡ false) → node_bound g ≤ length marks → length marks ≤ length queue → e ≡ first_of end (out_list g u) → Beginning end (length marks) (length queue) g g order u marks queue 0 u e looks looks
+pub begins_here : {N E : Type 0} (end : ℕ) (g : Graph N E) (order : List ℕ) (u : ℕ) (marks : List Bool) (queue : List ℕ)
+    (e looks : ℕ)
+    → ((n : ℕ) → get_or marks n false ≡ false) → node_bound g ≤ length marks → length marks ≤ length queue
+    → e ≡ first_of end (out_list g u)
+    → Beginning end (length marks) (length queue) g g order u marks queue 0 u e looks looks
 begins_here end g order u marks queue e looks cleared fits capacity first =
     record {
       same = refl;
@@ -72,14 +79,18 @@ place_apart (x ∷ xs) a b m n h =
       ]
       | inr c ↦ elim (cases_eq x b) [
         | inl f ↦ absurd (omega (arith, h, place_other x a xs c, place_same x b xs f))
-        | inr d ↦ place_apart xs a b (rest a c m) (rest b d n) (omega (arith, h, place_other x a xs c, place_other x b xs d))
+        | inr d ↦
+            place_apart xs a b (rest a c m) (rest b d n) (omega (arith, h, place_other x a xs c, place_other x b xs d))
       ]
     ]
   where
     rest : (k : ℕ) → (x ≡ k → ⊥) → Mem k (x ∷ xs) → Mem k xs
     rest k c m = elim m [ inl e ↦ absurd (c (sym e)) | inr b ↦ b ]
 
-module _ {N E : Type 0} {end marks_size queue_size : ℕ} {g₀ g : Graph N E} (w : IsWellFormed end g₀) {order : List ℕ} (ord : IsOrderOf g₀ order) {u : ℕ} (exists : HasNode g₀ u) {marks : List Bool} {queue : List ℕ} {len last e looks₀ looks : ℕ} (s : Beginning end marks_size queue_size g₀ g order u marks queue len last e looks₀ looks) where
+module _ {N E : Type 0} {end marks_size queue_size : ℕ} {g₀ g : Graph N E} (w : IsWellFormed end g₀) {order : List ℕ}
+    (ord : IsOrderOf g₀ order) {u : ℕ} (exists : HasNode g₀ u) {marks : List Bool} {queue : List ℕ}
+    {len last e looks₀ looks : ℕ}
+    (s : Beginning end marks_size queue_size g₀ g order u marks queue len last e looks₀ looks) where
   pub last_exists : HasNode g₀ last
   last_exists =
       let P : ℕ → Type 0 = λ z. HasNode g₀ z in
@@ -191,7 +202,9 @@ module _ {N E : Type 0} {end marks_size queue_size : ℕ} {g₀ g : Graph N E} (
 
     module _ {g' : Graph N E} (kept : g' ≡ g) {looks' : ℕ} (one_more : looks' ≡ looks + 1) where
       -- the child stands last so far
-      pub put_last : {marks' : List Bool} {queue' : List ℕ} {len' : ℕ} → Put last marks' queue' len' → place order last < place order v → Beginning end marks_size queue_size g₀ g' order u marks' queue' len' v next looks₀ looks'
+      pub put_last : {marks' : List Bool} {queue' : List ℕ} {len' : ℕ}
+          → Put last marks' queue' len' → place order last < place order v
+          → Beginning end marks_size queue_size g₀ g' order u marks' queue' len' v next looks₀ looks'
       put_last p later =
           record {
             same = kept ∙ s.same;
@@ -219,7 +232,8 @@ module _ {N E : Type 0} {end marks_size queue_size : ℕ} {g₀ g : Graph N E} (
                   | inr eq ↦ (let P : ℕ → Type 0 = λ z. (z ≡ u) ⊎ AreJoined g₀ u z in subst P (sym eq) s.last_from)
                 ];
             last_from = inr child_of;
-            found = looked_more end g₀ w u s.passed e s.cursor here v next look₀ (λ z. Mem z p.q' ⊎ (z ≡ v)) (λ j x lt a.
+            found =
+                looked_more end g₀ w u s.passed e s.cursor here v next look₀ (λ z. Mem z p.q' ⊎ (z ≡ v)) (λ j x lt a.
                 elim (s.found j x lt a) [
                   | inl m ↦ inl (p.old x.child m)
                   | inr eq ↦ (let P : ℕ → Type 0 = λ z. Mem z p.q' in inl (subst P (sym eq) p.here))
@@ -237,7 +251,9 @@ module _ {N E : Type 0} {end marks_size queue_size : ℕ} {g₀ g : Graph N E} (
           }
 
       -- the child stands before another
-      pub put_child : {marks' : List Bool} {queue' : List ℕ} {len' : ℕ} → Put v marks' queue' len' → place order v < place order last → Beginning end marks_size queue_size g₀ g' order u marks' queue' len' last next looks₀ looks'
+      pub put_child : {marks' : List Bool} {queue' : List ℕ} {len' : ℕ}
+          → Put v marks' queue' len' → place order v < place order last
+          → Beginning end marks_size queue_size g₀ g' order u marks' queue' len' last next looks₀ looks'
       put_child p earlier =
           record {
             same = kept ∙ s.same;
@@ -265,7 +281,8 @@ module _ {N E : Type 0} {end marks_size queue_size : ℕ} {g₀ g : Graph N E} (
                   | inr eq ↦ (let P : ℕ → Type 0 = λ z. AreJoined g₀ u z in inr (subst P (sym eq) child_of))
                 ];
             last_from = s.last_from;
-            found = looked_more end g₀ w u s.passed e s.cursor here v next look₀ (λ z. Mem z p.q' ⊎ (z ≡ last)) (λ j x lt a.
+            found =
+                looked_more end g₀ w u s.passed e s.cursor here v next look₀ (λ z. Mem z p.q' ⊎ (z ≡ last)) (λ j x lt a.
                 elim (s.found j x lt a) [
                   | inl m ↦ inl (p.old x.child m)
                   | inr eq ↦ inr eq
@@ -284,9 +301,12 @@ module _ {N E : Type 0} {end marks_size queue_size : ℕ} {g₀ g : Graph N E} (
           }
 
       -- the child is the last one again
-      pub last_again : (place order last < place order v → ⊥) → (place order v < place order last → ⊥) → Beginning end marks_size queue_size g₀ g' order u marks queue len last next looks₀ looks'
+      pub last_again : (place order last < place order v → ⊥) → (place order v < place order last → ⊥)
+          → Beginning end marks_size queue_size g₀ g' order u marks queue len last next looks₀ looks'
       last_again no_later no_earlier =
-          let one : v ≡ last = place_apart order v last (contains_mem order v ((ord.exact v).1 child_there)) (contains_mem order last ((ord.exact last).1 last_exists)) (omega (arith, no_later, no_earlier)) in
+          let one : v ≡ last =
+          place_apart order v last (contains_mem order v ((ord.exact v).1 child_there))
+          (contains_mem order last ((ord.exact last).1 last_exists)) (omega (arith, no_later, no_earlier)) in
           record {
             same = kept ∙ s.same;
             marks_sized = s.marks_sized;
@@ -305,14 +325,17 @@ module _ {N E : Type 0} {end marks_size queue_size : ℕ} {g₀ g : Graph N E} (
             before = s.before;
             from = s.from;
             last_from = s.last_from;
-            found = looked_more end g₀ w u s.passed e s.cursor here v next look₀ (λ z. Mem z s.q ⊎ (z ≡ last)) s.found (inr one);
+            found =
+                looked_more end g₀ w u s.passed e s.cursor here v next look₀ (λ z. Mem z s.q ⊎ (z ≡ last)) s.found
+                (inr one);
             front = s.front;
           }
 
   -- the list was read whole
   module _ (ended : e ≡ end) where
     pub children_found : (v : ℕ) → AreJoined g₀ u v → Mem v s.q ⊎ (v ≡ last)
-    children_found v j = all_read end g₀ w u s.passed e s.cursor s.within ended (λ z. Mem z s.q ⊎ (z ≡ last)) s.found v j
+    children_found v j =
+        all_read end g₀ w u s.passed e s.cursor s.within ended (λ z. Mem z s.q ⊎ (z ≡ last)) s.found v j
 
     pub all_passed : s.passed ≡ length (out_list g₀ u)
     all_passed = read_whole end g₀ w u s.passed e s.cursor s.within ended
@@ -324,7 +347,9 @@ module _ {N E : Type 0} {end marks_size queue_size : ℕ} {g₀ g : Graph N E} (
               let M : List ℕ → Type 0 = λ z. Mem v z in
               elim (children_found v j) [
                 | inl m ↦ subst M none.0 m
-                | inr eq ↦ (let P : ℕ → Type 0 = λ z. place order u < place order z in absurd (omega (arith, subst P (eq ∙ none.1) (ord.sorted u v j))))
+                | inr eq ↦
+                    (let P : ℕ → Type 0 = λ z. place order u < place order z in
+                    absurd (omega (arith, subst P (eq ∙ none.1) (ord.sorted u v j))))
               ]
               )
           | inr o ↦ absurd (omega (arith, empty, ap length s.is, ap length o.1, length-take-le len queue s.high))

@@ -1,17 +1,20 @@
 -- Roots put into a queue one by one, and what they reach.
-use Rattle.std.proofs.Common.{◌≡◌, ℕ, ◌+◌, ◌<◌, ◌≤◌, Bool, true, false, ◌⊎◌, ◌↔◌, inl, inr, List, [], ◌∷◌, ◌++◌, length, get_or, take, set, refl, sym, ap, subst, ◌∙◌, arith, length-set, Contains}
+use Rattle.std.proofs.Common.{◌≡◌, ℕ, ◌+◌, ◌<◌, ◌≤◌, Bool, true, false, ◌⊎◌, ◌↔◌, inl, inr, List, [], ◌∷◌, ◌++◌, length}
+use Rattle.std.proofs.Common.{get_or, take, set, refl, sym, ap, subst, ◌∙◌, arith, length-set, Contains}
 use Rattle.std.proofs.lemmas.List.{take_more, take_more_set, length-take-le, take_all}
 use Rattle.std.proofs.lemmas.Bool.{false≢true}
 use Rattle.daggy_base.specs.Graph.{Graph, HasNode, node_bound}
 use Rattle.daggy_base.specs.Reduction.{IsBelow}
-use Rattle.daggy_base.proofs.Lists.{Mem, Unique, mem_left, mem_right, mem_cases, mem_contains, contains_mem, unique_append}
+use Rattle.daggy_base.proofs.Lists.{Mem, Unique, mem_left, mem_right, mem_cases, mem_contains, contains_mem}
+use Rattle.daggy_base.proofs.Lists.{unique_append}
 use Rattle.daggy_base.proofs.OutEdgesRead.{below_bound}
 use Rattle.daggy_base.proofs.SearchProgress.{marked_within, set_marked, fewer_than}
 use Rattle.daggy_reduction.specs.Closure.{IsQueue, IsClosure}
 use Rattle.daggy_reduction.proofs.QueueProgress.{take_none}
 use Rattle.daggy_reduction.proofs.QueueState.{distinct_from_unique}
 
-pub record Rooting {N E : Type 0} (g : Graph N E) (marks_size queue_size : ℕ) (roots : List ℕ) (marks : List Bool) (queue : List ℕ) (len k : ℕ) : Type 0 where
+pub record Rooting {N E : Type 0} (g : Graph N E) (marks_size queue_size : ℕ) (roots : List ℕ) (marks : List Bool)
+    (queue : List ℕ) (len k : ℕ) : Type 0 where
   pub marks_sized : length marks ≡ marks_size
   pub queue_sized : length queue ≡ queue_size
   pub fits : node_bound g ≤ length marks
@@ -21,7 +24,9 @@ pub record Rooting {N E : Type 0} (g : Graph N E) (marks_size queue_size : ℕ) 
   pub marked : (n : ℕ) → (get_or marks n false ≡ true) ↔ Mem n (take len queue)
   pub exact : (n : ℕ) → Mem n (take len queue) ↔ (Mem n (take k roots) × HasNode g n)
 
-pub rooting_start : {N E : Type 0} (g : Graph N E) (roots : List ℕ) (marks : List Bool) (queue : List ℕ) → node_bound g ≤ length marks → length marks ≤ length queue → ((n : ℕ) → get_or marks n false ≡ false) → Rooting g (length marks) (length queue) roots marks queue 0 0
+pub rooting_start : {N E : Type 0} (g : Graph N E) (roots : List ℕ) (marks : List Bool) (queue : List ℕ)
+    → node_bound g ≤ length marks → length marks ≤ length queue → ((n : ℕ) → get_or marks n false ≡ false)
+    → Rooting g (length marks) (length queue) roots marks queue 0 0
 rooting_start g roots marks queue fits capacity cleared =
     record {
       marks_sized = refl;
@@ -40,7 +45,9 @@ rooting_start g roots marks queue fits capacity cleared =
       );
     }
 
-module _ {N E : Type 0} {g : Graph N E} {marks_size queue_size : ℕ} {roots : List ℕ} {marks : List Bool} {queue : List ℕ} {len k : ℕ} (s : Rooting g marks_size queue_size roots marks queue len k) (within : k < length roots) where
+module _ {N E : Type 0} {g : Graph N E} {marks_size queue_size : ℕ} {roots : List ℕ} {marks : List Bool}
+    {queue : List ℕ} {len k : ℕ} (s : Rooting g marks_size queue_size roots marks queue len k)
+    (within : k < length roots) where
   more_roots : (r : ℕ) → r ≡ get_or roots k r → take (k + 1) roots ≡ take k roots ++ r ∷ []
   more_roots r is = take_more roots k r within ∙ ap (λ z. take k roots ++ z ∷ []) (sym is)
 
@@ -53,13 +60,16 @@ module _ {N E : Type 0} {g : Graph N E} {marks_size queue_size : ℕ} {roots : L
       ]
 
   still_in : (r n : ℕ) → r ≡ get_or roots k r → Mem n (take k roots) → Mem n (take (k + 1) roots)
-  still_in r n is m = let P : List ℕ → Type 0 = λ z. Mem n z in subst P (sym (more_roots r is)) (mem_left (take k roots) (r ∷ []) n m)
+  still_in r n is m = let P : List ℕ → Type 0 = λ z. Mem n z in
+      subst P (sym (more_roots r is)) (mem_left (take k roots) (r ∷ []) n m)
 
   now_in : (r : ℕ) → r ≡ get_or roots k r → Mem r (take (k + 1) roots)
-  now_in r is = let P : List ℕ → Type 0 = λ z. Mem r z in subst P (sym (more_roots r is)) (mem_right (take k roots) (r ∷ []) r (inl refl))
+  now_in r is = let P : List ℕ → Type 0 = λ z. Mem r z in
+      subst P (sym (more_roots r is)) (mem_right (take k roots) (r ∷ []) r (inl refl))
 
   -- a missing root is passed by
-  pub root_missing : (r : ℕ) → r ≡ get_or roots k r → (HasNode g r → ⊥) → Rooting g marks_size queue_size roots marks queue len (k + 1)
+  pub root_missing : (r : ℕ)
+      → r ≡ get_or roots k r → (HasNode g r → ⊥) → Rooting g marks_size queue_size roots marks queue len (k + 1)
   root_missing r is missing =
       record {
         marks_sized = s.marks_sized;
@@ -131,9 +141,11 @@ module _ {N E : Type 0} {g : Graph N E} {marks_size queue_size : ℕ} {roots : L
               | inl a ↦ inl a
               | inr b ↦ elim b [ inl e ↦ inr e | inr none ↦ absurd none ]
             ] in
-            let here : (n : ℕ) → n ≡ r → Mem n (q ++ r ∷ []) = λ n e. (let P : ℕ → Type 0 = λ z. Mem z (q ++ r ∷ []) in subst P (sym e) (mem_right q (r ∷ []) r (inl refl))) in
+            let here : (n : ℕ) → n ≡ r → Mem n (q ++ r ∷ []) = λ n e.
+            (let P : ℕ → Type 0 = λ z. Mem z (q ++ r ∷ []) in subst P (sym e) (mem_right q (r ∷ []) r (inl refl))) in
             let Q : List ℕ → Type 0 = λ z. Unique z in
-            let grown : Rooting g marks_size queue_size roots (set marks r true) (set queue len r) (len + 1) (k + 1) = record {
+            let grown : Rooting g marks_size queue_size roots (set marks r true) (set queue len r) (len + 1) (k + 1) =
+            record {
               marks_sized = length-set marks r true ∙ s.marks_sized;
               queue_sized = length-set queue len r ∙ s.queue_sized;
               fits = omega (arith, s.fits, length-set marks r true);
@@ -145,8 +157,14 @@ module _ {N E : Type 0} {g : Graph N E} {marks_size queue_size : ℕ} {roots : L
               ]));
               marked = λ n. (
                   let P : List ℕ → Type 0 = λ z. Mem n z in (
-                    λ m. subst P (sym longer) (elim ((set_marked marks r n root_low).0 m) [ inl e ↦ here n e | inr before ↦ mem_left q (r ∷ []) n ((s.marked n).0 before) ]),
-                    λ m. (set_marked marks r n root_low).1 (elim (out n (subst P longer m)) [ inl a ↦ inr ((s.marked n).1 a) | inr e ↦ inl e ]),
+                    λ m. subst P (sym longer) (elim ((set_marked marks r n root_low).0 m) [
+                      | inl e ↦ here n e
+                      | inr before ↦ mem_left q (r ∷ []) n ((s.marked n).0 before)
+                    ]),
+                    λ m. (set_marked marks r n root_low).1 (elim (out n (subst P longer m)) [
+                      | inl a ↦ inr ((s.marked n).1 a)
+                      | inr e ↦ inl e
+                    ]),
                   )
                   );
               exact = λ n. (
@@ -159,13 +177,19 @@ module _ {N E : Type 0} {g : Graph N E} {marks_size queue_size : ℕ} {roots : L
                           (subst M (sym e) (now_in r is), subst H (sym e) exists)
                           )
                     ],
-                    λ both. subst P (sym longer) (elim (in_more r n is both.0) [ inl a ↦ mem_left q (r ∷ []) n ((s.exact n).1 (a, both.1)) | inr e ↦ here n e ]),
+                    λ both. subst P (sym longer) (elim (in_more r n is both.0) [
+                      | inl a ↦ mem_left q (r ∷ []) n ((s.exact n).1 (a, both.1))
+                      | inr e ↦ here n e
+                    ]),
                   )
                   );
             } in
             rw (h.0, h.1, h.2) grown
 
-pub all_rooted : {N E : Type 0} {g : Graph N E} {marks_size queue_size : ℕ} {roots : List ℕ} {marks : List Bool} {queue : List ℕ} {len k : ℕ} → Rooting g marks_size queue_size roots marks queue len k → length roots ≤ k → IsQueue g marks (take len queue) × ((n : ℕ) → Contains (take len queue) n ↔ (Contains roots n × HasNode g n))
+pub all_rooted : {N E : Type 0} {g : Graph N E} {marks_size queue_size : ℕ} {roots : List ℕ} {marks : List Bool}
+    {queue : List ℕ} {len k : ℕ}
+    → Rooting g marks_size queue_size roots marks queue len k → length roots ≤ k
+    → IsQueue g marks (take len queue) × ((n : ℕ) → Contains (take len queue) n ↔ (Contains roots n × HasNode g n))
 all_rooted {N} {E} {g} {marks_size} {queue_size} {roots} {marks} {queue} {len} {k} s past =
     let whole : take k roots ≡ roots = take_all k roots past in
     let q = take len queue in (
@@ -176,14 +200,18 @@ all_rooted {N} {E} {g} {marks_size} {queue_size} {roots} {marks} {queue} {len} {
       },
       λ n. (
           let P : List ℕ → Type 0 = λ z. Mem n z in (
-            λ c. (let both = (s.exact n).0 (contains_mem q n c) in (mem_contains roots n (subst P whole both.0), both.1)),
+            λ c.
+                (let both = (s.exact n).0 (contains_mem q n c) in
+                (mem_contains roots n (subst P whole both.0), both.1)),
             λ both. mem_contains q n ((s.exact n).1 (subst P (sym whole) (contains_mem roots n both.0), both.1)),
           )
           ),
     )
 
 -- what the existing roots reach is what is below them
-pub closure_below : {N E : Type 0} (g : Graph N E) (roots first closure : List ℕ) → ((n : ℕ) → Contains first n ↔ (Contains roots n × HasNode g n)) → IsClosure g first closure → (n : ℕ) → Contains closure n ↔ IsBelow g roots n
+pub closure_below : {N E : Type 0} (g : Graph N E) (roots first closure : List ℕ)
+    → ((n : ℕ) → Contains first n ↔ (Contains roots n × HasNode g n)) → IsClosure g first closure
+    → (n : ℕ) → Contains closure n ↔ IsBelow g roots n
 closure_below g roots first closure exact c n = (
   λ k. (let r = (c.exact n).0 k in let both = (exact r.0).0 r.1 in (r.0, both.0, both.1, r.2)),
   λ b. (c.exact n).1 (b.0, (exact b.0).1 (b.1, b.2), b.3),

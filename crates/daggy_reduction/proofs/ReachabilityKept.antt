@@ -1,5 +1,6 @@
 -- A graph without its round pairs reaches what it reached.
-use Rattle.std.proofs.Common.{◌≡◌, ℕ, zero, suc, ◌+◌, ◌<◌, ◌≤◌, ◌⊎◌, inl, inr, List, [], ◌∷◌, ◌++◌, length, sym, ap, subst, ◌∙◌, arith}
+use Rattle.std.proofs.Common.{◌≡◌, ℕ, zero, suc, ◌+◌, ◌<◌, ◌≤◌, ◌⊎◌, inl, inr, List, [], ◌∷◌, ◌++◌, length, sym, ap}
+use Rattle.std.proofs.Common.{subst, ◌∙◌, arith}
 use Rattle.std.proofs.lemmas.List.{length-append}
 use Rattle.daggy_base.specs.Graph.{Graph}
 use Rattle.daggy_base.specs.Path.{IsPath, Reaches, IsAcyclic, end_of}
@@ -7,7 +8,8 @@ use Rattle.daggy_base.proofs.PathsWithEdge.{reaches_itself, reaches_before}
 use Rattle.daggy_reduction.specs.Comparison.{LosesRoundPairs, HaveSameReachability}
 use Rattle.daggy_reduction.proofs.Paths.{path_append, end_append, path_short}
 
-module _ {N E : Type 0} (roots : List ℕ) (old new : Graph N E) (acyclic : IsAcyclic old) (s : LosesRoundPairs roots old new) where
+module _ {N E : Type 0} (roots : List ℕ) (old new : Graph N E) (acyclic : IsAcyclic old)
+    (s : LosesRoundPairs roots old new) where
   pub path_before : (us : List ℕ) → IsPath new us → IsPath old us
   path_before [] p = p
   path_before (u ∷ []) p = (s.nodes u).1 p
@@ -51,7 +53,8 @@ module _ {N E : Type 0} (roots : List ℕ) (old new : Graph N E) (acyclic : IsAc
       let more = l.more in
       omega (arith, short, more, near)
 
-  reached_within : (k u : ℕ) (rest : List ℕ) → IsPath old (u ∷ rest) → length old.nodes ≤ k + length rest → Reaches new u (end_of u rest)
+  reached_within : (k u : ℕ) (rest : List ℕ)
+      → IsPath old (u ∷ rest) → length old.nodes ≤ k + length rest → Reaches new u (end_of u rest)
   reached_within zero u rest p near =
       elim (kept_or_longer u rest p) [ inl r ↦ r | inr l ↦ absurd (no_longer u rest (omega (arith, near)) l) ]
   reached_within (suc k) u rest p near =

@@ -1,5 +1,6 @@
 -- What removing edges from the highest index down leaves: below the index just removed no edge was renamed.
-use Rattle.std.proofs.Common.{◌≡◌, ◌≢◌, ℕ, zero, suc, ◌-◌, ◌<◌, ◌⊎◌, ◌↔◌, inl, inr, List, [], ◌∷◌, length, get_or, set, take, Option, Some, None, refl, sym, ap, subst, ◌∙◌, arith}
+use Rattle.std.proofs.Common.{◌≡◌, ◌≢◌, ℕ, zero, suc, ◌-◌, ◌<◌, ◌⊎◌, ◌↔◌, inl, inr, List, [], ◌∷◌, length, get_or, set}
+use Rattle.std.proofs.Common.{take, Option, Some, None, refl, sym, ap, subst, ◌∙◌, arith}
 use Rattle.std.proofs.lemmas.Bool.{cases_eq}
 use Rattle.std.proofs.lemmas.Option.{same_Some}
 use Rattle.daggy_base.specs.Graph.{Graph, Edge, HasNode, edge_at, slot}
@@ -33,7 +34,8 @@ slot_set_same [] i o within = absurd (omega arith)
 slot_set_same (x ∷ xs) zero o within = refl
 slot_set_same (x ∷ xs) (suc i) o within = slot_set_same xs i o (omega arith)
 
-pub slot_set_other : {A : Type 0} (xs : List (Option A)) (i f : ℕ) (o : Option A) → f ≢ i → slot (set xs i o) f ≡ slot xs f
+pub slot_set_other : {A : Type 0} (xs : List (Option A)) (i f : ℕ) (o : Option A)
+    → f ≢ i → slot (set xs i o) f ≡ slot xs f
 slot_set_other [] zero f o other = refl
 slot_set_other [] (suc i) f o other = refl
 slot_set_other (x ∷ xs) zero zero o other = absurd (other refl)
@@ -55,10 +57,13 @@ slot_emptied (x ∷ xs) (suc i) y h = slot_emptied xs i y h
 
 module _ {N E : Type 0} (g : Graph N E) (d : ℕ) where
   -- an edge that is left stood where it stands, or came from behind
-  left_before : (kind : Kind) (i : ℕ) (x : Edge E) → edge_at (without_edge kind g d) i ≡ Some x → (j : ℕ) × (edge_at g j ≡ Some x) × (j ≢ d) × ((j ≡ i) ⊎ (d < j))
+  left_before : (kind : Kind) (i : ℕ) (x : Edge E)
+      → edge_at (without_edge kind g d) i ≡ Some x → (j : ℕ) × (edge_at g j ≡ Some x) × (j ≢ d) × ((j ≡ i) ⊎ (d < j))
   left_before Stable i x h =
       elim (cases_eq i d) [
-        | inl e ↦ (let P : ℕ → Type 0 = λ z. edge_at (without_edge Stable g d) z ≡ Some x in absurd (slot_emptied g.edges d x (subst P e h)))
+        | inl e ↦
+            (let P : ℕ → Type 0 = λ z. edge_at (without_edge Stable g d) z ≡ Some x in
+            absurd (slot_emptied g.edges d x (subst P e h)))
         | inr other ↦ (i, sym (slot_set_other g.edges d i None other) ∙ h, other, inl refl)
       ]
   left_before Compact i x h =
@@ -77,7 +82,8 @@ module _ {N E : Type 0} (g : Graph N E) (d : ℕ) where
       ]
 
   -- another edge is left where it stood, or in the place of the removed one
-  left_after : (kind : Kind) (j : ℕ) (x : Edge E) → d < length g.edges → edge_at g j ≡ Some x → j ≢ d → (i : ℕ) × (edge_at (without_edge kind g d) i ≡ Some x) × ((i ≡ j) ⊎ (i ≡ d))
+  left_after : (kind : Kind) (j : ℕ) (x : Edge E) → d < length g.edges → edge_at g j ≡ Some x → j ≢ d
+      → (i : ℕ) × (edge_at (without_edge kind g d) i ≡ Some x) × ((i ≡ j) ⊎ (i ≡ d))
   left_after Stable j x low h other = (j, slot_set_other g.edges d j None other ∙ h, inl refl)
   left_after Compact j x low h other =
       let last = length g.edges - 1 in
@@ -103,7 +109,8 @@ module _ {N E : Type 0} (g : Graph N E) (d : ℕ) where
   left_below Compact e low under =
       let last = length g.edges - 1 in
       let moved = get_or g.edges last None in
-      slot_front (set g.edges d moved) last e (omega (arith, low, under)) ∙ slot_set_other g.edges d e moved (λ k. omega (arith, under, k))
+      slot_front (set g.edges d moved) last e (omega (arith, low, under))
+      ∙ slot_set_other g.edges d e moved (λ k. omega (arith, under, k))
 
   node_left : (kind : Kind) (n : ℕ) → HasNode (without_edge kind g d) n ↔ HasNode g n
   node_left Compact n = (λ h. h, λ h. h)
@@ -122,7 +129,8 @@ descending_rest d [] s = tt
 descending_rest d (e ∷ ds) s = s.1
 
 module _ {N E : Type 0} (kind : Kind) where
-  pub survivor_before : (ds : List ℕ) (g : Graph N E) → IsDescending ds → (i : ℕ) (x : Edge E) → edge_at (without_edges kind g ds) i ≡ Some x → (j : ℕ) × (edge_at g j ≡ Some x) × (Mem j ds → ⊥)
+  pub survivor_before : (ds : List ℕ) (g : Graph N E) → IsDescending ds → (i : ℕ) (x : Edge E)
+      → edge_at (without_edges kind g ds) i ≡ Some x → (j : ℕ) × (edge_at g j ≡ Some x) × (Mem j ds → ⊥)
   survivor_before [] g s i x h = (i, h, λ m. m)
   survivor_before (d ∷ ds) g s i x h =
       let later = survivor_before ds (without_edge kind g d) (descending_rest d ds s) i x h in
@@ -139,7 +147,9 @@ module _ {N E : Type 0} (kind : Kind) where
         ],
       )
 
-  pub survivor_after : (ds : List ℕ) (g : Graph N E) → IsDescending ds → ((d : ℕ) → Mem d ds → (x : Edge E) × (edge_at g d ≡ Some x)) → (j : ℕ) (x : Edge E) → edge_at g j ≡ Some x → (Mem j ds → ⊥) → (i : ℕ) × (edge_at (without_edges kind g ds) i ≡ Some x)
+  pub survivor_after : (ds : List ℕ) (g : Graph N E) → IsDescending ds
+      → ((d : ℕ) → Mem d ds → (x : Edge E) × (edge_at g d ≡ Some x)) → (j : ℕ) (x : Edge E) → edge_at g j ≡ Some x
+      → (Mem j ds → ⊥) → (i : ℕ) × (edge_at (without_edges kind g ds) i ≡ Some x)
   survivor_after [] g s exist j x h out = (j, h)
   survivor_after (d ∷ ds) g s exist j x h out =
       let first = exist d (inl refl) in
@@ -177,7 +187,8 @@ mem_or_not x (y ∷ ys) =
     ]
 
 -- a reduction loses exactly the pairs that a longer way makes redundant
-pub reduction_loses : {N E : Type 0} (kind : Kind) (roots : List ℕ) (old new : Graph N E) → IsReduction kind roots old new → LosesRoundPairs roots old new
+pub reduction_loses : {N E : Type 0} (kind : Kind) (roots : List ℕ) (old new : Graph N E)
+    → IsReduction kind roots old new → LosesRoundPairs roots old new
 reduction_loses {N} {E} kind roots old new r =
     let ds = r.redundant in
     let P : Graph N E → Type 0 = λ z. LosesRoundPairs roots old z in
@@ -187,16 +198,19 @@ reduction_loses {N} {E} kind roots old new r =
       kept = λ u v j. elim (mem_or_not j.0 ds) [
         | inl m ↦ (
             let redundant = (r.exact j.0).0 (mem_contains ds j.0 m) in
-            let same : redundant.edge ≡ record { parent = u; child = v; weight = j.1 } = same_Some _ _ (sym redundant.at ∙ j.2) in
+            let same : redundant.edge ≡ record { parent = u; child = v; weight = j.1 } =
+            same_Some _ _ (sym redundant.at ∙ j.2) in
             let B : Edge E → Type 0 = λ x. IsBelow old roots x.parent in
             let R : Edge E → Type 0 = λ x. ReachesIndirectly old x.parent x.child in
             inr (subst B same redundant.below, subst R same redundant.round)
             )
-        | inr out ↦ (let after = survivor_after kind ds old r.descending exist j.0 _ j.2 out in inl (after.0, j.1, after.1))
+        | inr out ↦
+            (let after = survivor_after kind ds old r.descending exist j.0 _ j.2 out in inl (after.0, j.1, after.1))
       ];
       lost = λ u v j below round. (
           let before = survivor_before kind ds old r.descending j.0 _ j.2 in
-          before.2 (contains_mem ds before.0 ((r.exact before.0).1 (record { edge = _; at = before.1; below = below; round = round })))
+          before.2 (contains_mem ds before.0
+          ((r.exact before.0).1 (record { edge = _; at = before.1; below = below; round = round })))
           );
     })
   where

@@ -1,11 +1,13 @@
 -- The nodes below the roots swept one by one, while their redundant edges are flagged.
-use Rattle.std.proofs.Common.{◌≡◌, ℕ, zero, suc, ◌+◌, ◌*◌, ◌<◌, ◌≤◌, true, ◌↔◌, inl, inr, Option, None, IsSome, is_some, List, [], ◌∷◌, ◌++◌, length, get_or, take, refl, sym, ap, subst, ◌∙◌, arith, Contains}
+use Rattle.std.proofs.Common.{◌≡◌, ℕ, zero, suc, ◌+◌, ◌*◌, ◌<◌, ◌≤◌, true, ◌↔◌, inl, inr, Option, None, IsSome, is_some}
+use Rattle.std.proofs.Common.{List, [], ◌∷◌, ◌++◌, length, get_or, take, refl, sym, ap, subst, ◌∙◌, arith, Contains}
 use Rattle.std.proofs.Math.Nat.{suc-mul, zero-mul}
 use Rattle.std.proofs.lemmas.List.{take_more, take_all}
 use Rattle.daggy_base.specs.Graph.{Graph, Edge, HasNode, slot, out_list, node_count, edge_count, edge_bound}
 use Rattle.daggy_base.specs.Reduction.{IsBelow, IsRedundant, ReachesIndirectly}
 use Rattle.daggy_base.specs.WellFormed.{IsWellFormed, AreDistinct}
-use Rattle.daggy_base.proofs.Lists.{Mem, mem_left, mem_right, mem_cases, mem_contains, contains_mem, unique_from_distinct, pigeon}
+use Rattle.daggy_base.proofs.Lists.{Mem, mem_left, mem_right, mem_cases, mem_contains, contains_mem}
+use Rattle.daggy_base.proofs.Lists.{unique_from_distinct, pigeon}
 use Rattle.daggy_base.proofs.OutEdgesRead.{lists_of, lists_few, below_bound}
 use Rattle.daggy_reduction.specs.Flags.{IsFlagged, LeavesRound, FlagsRound}
 use Rattle.daggy_reduction.proofs.Paths.{has_last}
@@ -21,7 +23,8 @@ total_append cost [] x = omega arith
 total_append cost (y ∷ ys) x = omega (arith, total_append cost ys x)
 
 -- where a search from a node has that cost
-pub record Sweeping {N E : Type 0} (end : ℕ) (g₀ g : Graph N E) (cost : ℕ → ℕ) (below flags : List ℕ) (k looks₀ looks : ℕ) : Type 0 where
+pub record Sweeping {N E : Type 0} (end : ℕ) (g₀ g : Graph N E) (cost : ℕ → ℕ) (below flags : List ℕ)
+    (k looks₀ looks : ℕ) : Type 0 where
   pub same : g ≡ g₀
   pub only : (e : ℕ) → IsFlagged end flags e → (u : ℕ) × Mem u (take k below) × LeavesRound g₀ u e
   pub all : (u e : ℕ) → Mem u (take k below) → LeavesRound g₀ u e → IsFlagged end flags e
@@ -30,9 +33,12 @@ pub record Sweeping {N E : Type 0} (end : ℕ) (g₀ g : Graph N E) (cost : ℕ 
 more_times : (a b m : ℕ) → a ≤ b → a * m ≤ b * m
 more_times zero b m h = omega (arith, zero-mul m)
 more_times (suc a) zero m h = absurd (omega (arith, h))
-more_times (suc a) (suc b) m h = let less = more_times a b m (omega (arith, h)) in omega (arith, less, suc-mul a m, suc-mul b m)
+more_times (suc a) (suc b) m h = let less = more_times a b m (omega (arith, h)) in
+    omega (arith, less, suc-mul a m, suc-mul b m)
 
-pub sweep_start : {N E : Type 0} (end : ℕ) (g₀ g : Graph N E) (cost : ℕ → ℕ) (below flags : List ℕ) (looks₀ looks : ℕ) → g ≡ g₀ → ((e : ℕ) → IsFlagged end flags e → ⊥) → looks ≤ looks₀ + edge_count g₀ → Sweeping end g₀ g cost below flags 0 looks₀ looks
+pub sweep_start : {N E : Type 0} (end : ℕ) (g₀ g : Graph N E) (cost : ℕ → ℕ) (below flags : List ℕ) (looks₀ looks : ℕ)
+    → g ≡ g₀ → ((e : ℕ) → IsFlagged end flags e → ⊥) → looks ≤ looks₀ + edge_count g₀
+    → Sweeping end g₀ g cost below flags 0 looks₀ looks
 sweep_start end g₀ g cost below flags looks₀ looks same none counted =
     record {
       same = same;
@@ -41,10 +47,14 @@ sweep_start end g₀ g cost below flags looks₀ looks same none counted =
       counted = omega (arith, counted, ap (total cost) (take_none below));
     }
 
-module _ {N E : Type 0} {end : ℕ} {g₀ g : Graph N E} {cost : ℕ → ℕ} {below flags : List ℕ} {k looks₀ looks : ℕ} (s : Sweeping end g₀ g cost below flags k looks₀ looks) where
-  pub sweep_on : k < length below → (u : ℕ) → u ≡ get_or below k u → {g' : Graph N E} {flags' : List ℕ} {looks' : ℕ} → g' ≡ g → FlagsRound end g u flags flags' → looks' ≤ looks + cost u + length (out_list g u) → Sweeping end g₀ g' cost below flags' (k + 1) looks₀ looks'
+module _ {N E : Type 0} {end : ℕ} {g₀ g : Graph N E} {cost : ℕ → ℕ} {below flags : List ℕ} {k looks₀ looks : ℕ}
+    (s : Sweeping end g₀ g cost below flags k looks₀ looks) where
+  pub sweep_on : k < length below → (u : ℕ) → u ≡ get_or below k u
+      → {g' : Graph N E} {flags' : List ℕ} {looks' : ℕ} → g' ≡ g → FlagsRound end g u flags flags'
+      → looks' ≤ looks + cost u + length (out_list g u) → Sweeping end g₀ g' cost below flags' (k + 1) looks₀ looks'
   sweep_on low u is {g'} {flags'} {looks'} same' round counted' =
-      let longer : take (k + 1) below ≡ take k below ++ u ∷ [] = take_more below k u low ∙ ap (λ z. take k below ++ z ∷ []) (sym is) in
+      let longer : take (k + 1) below ≡ take k below ++ u ∷ [] =
+      take_more below k u low ∙ ap (λ z. take k below ++ z ∷ []) (sym is) in
       let R : Graph N E → Type 0 = λ z. FlagsRound end z u flags flags' in
       let C : Graph N E → Type 0 = λ z. looks' ≤ looks + cost u + length (out_list z u) in
       let flagged = subst R s.same round in
@@ -53,8 +63,12 @@ module _ {N E : Type 0} {end : ℕ} {g₀ g : Graph N E} {cost : ℕ → ℕ} {b
         same = same' ∙ s.same;
         only = λ e f. (
             elim ((flagged e).0 f) [
-              | inl a ↦ (let o = s.only e a in let P : List ℕ → Type 0 = λ z. Mem o.0 z in (o.0, subst P (sym longer) (mem_left (take k below) (u ∷ []) o.0 o.1), o.2))
-              | inr l ↦ (let P : List ℕ → Type 0 = λ z. Mem u z in (u, subst P (sym longer) (mem_right (take k below) (u ∷ []) u (inl refl)), l))
+              | inl a ↦
+                  (let o = s.only e a in let P : List ℕ → Type 0 = λ z. Mem o.0 z in
+                  (o.0, subst P (sym longer) (mem_left (take k below) (u ∷ []) o.0 o.1), o.2))
+              | inr l ↦
+                  (let P : List ℕ → Type 0 = λ z. Mem u z in
+                  (u, subst P (sym longer) (mem_right (take k below) (u ∷ []) u (inl refl)), l))
             ]
             );
         all = λ v e m l. (
@@ -65,12 +79,21 @@ module _ {N E : Type 0} {end : ℕ} {g₀ g : Graph N E} {cost : ℕ → ℕ} {b
               | inr b ↦ elim b [ inl here ↦ inr (subst L here l) | inr none ↦ absurd none ]
             ])
             );
-        counted = omega (arith, s.counted, few, ap (total cost) longer, total_append cost (take k below) u, ap (λ z. length (lists_of g₀ z)) longer, lists_append g₀ (take k below) u);
+        counted = omega (
+          arith,
+          s.counted,
+          few,
+          ap (total cost) longer,
+          total_append cost (take k below) u,
+          ap (λ z. length (lists_of g₀ z)) longer,
+          lists_append g₀ (take k below) u,
+        );
       }
 
 pub total_few : (cost : ℕ → ℕ) (m : ℕ) (us : List ℕ) → ((u : ℕ) → Mem u us → cost u ≤ m) → total cost us ≤ length us * m
 total_few cost m [] each = omega (arith, zero-mul m)
-total_few cost m (u ∷ us) each = omega (arith, each u (inl refl), total_few cost m us (λ v h. each v (inr h)), suc-mul (length us) m)
+total_few cost m (u ∷ us) each =
+    omega (arith, each u (inl refl), total_few cost m us (λ v h. each v (inr h)), suc-mul (length us) m)
 
 some_there : {A : Type 0} (xs : List (Option A)) (x : ℕ) → IsSome (slot xs x) → is_some (get_or xs x None) ≡ true
 some_there [] x h = absurd cc
@@ -80,7 +103,10 @@ some_there (y ∷ xs) (suc x) h = some_there xs x h
 pub below_exists : {N E : Type 0} (g : Graph N E) (roots : List ℕ) (n : ℕ) → IsBelow g roots n → HasNode g n
 below_exists g roots n b = let P : ℕ → Type 0 = λ z. HasNode g z in subst P b.3.2 (has_last g b.0 b.3.0 b.3.1)
 
-module _ {N E : Type 0} {end : ℕ} {g₀ g : Graph N E} (w : IsWellFormed end g₀) (roots : List ℕ) {cost : ℕ → ℕ} {below flags : List ℕ} {k looks₀ looks : ℕ} (s : Sweeping end g₀ g cost below flags k looks₀ looks) (past : length below ≤ k) (exact : (n : ℕ) → Contains below n ↔ IsBelow g₀ roots n) (distinct : AreDistinct below) where
+module _ {N E : Type 0} {end : ℕ} {g₀ g : Graph N E} (w : IsWellFormed end g₀) (roots : List ℕ) {cost : ℕ → ℕ}
+    {below flags : List ℕ} {k looks₀ looks : ℕ} (s : Sweeping end g₀ g cost below flags k looks₀ looks)
+    (past : length below ≤ k) (exact : (n : ℕ) → Contains below n ↔ IsBelow g₀ roots n)
+    (distinct : AreDistinct below) where
   whole : take k below ≡ below
   whole = take_all k below past
 
@@ -93,7 +119,12 @@ module _ {N E : Type 0} {end : ℕ} {g₀ g : Graph N E} (w : IsWellFormed end g
         let under = (exact o.0).0 (mem_contains below o.0 (subst M whole o.1)) in
         let B : ℕ → Type 0 = λ z. IsBelow g₀ roots z in
         let R : ℕ → Type 0 = λ z. ReachesIndirectly g₀ z l.edge.child in
-        record { edge = l.edge; at = l.at; below = subst B (sym l.parent) under; round = subst R (sym l.parent) l.round }
+        record {
+          edge = l.edge;
+          at = l.at;
+          below = subst B (sym l.parent) under;
+          round = subst R (sym l.parent) l.round;
+        }
         ),
     λ r. (
         let u = r.edge.parent in
@@ -120,13 +151,17 @@ module _ {N E : Type 0} {end : ℕ} {g₀ g : Graph N E} (w : IsWellFormed end g
       omega (arith, s.counted, ap (λ z. length (lists_of g₀ z)) whole, ap (total cost) whole, lists)
 
   -- no search takes more looks than there are edges
-  pub looks_few : ((u : ℕ) → Mem u below → cost u ≤ edge_count g₀) → looks ≤ looks₀ + (node_count g₀ + 2) * edge_count g₀
+  pub looks_few : ((u : ℕ) → Mem u below → cost u ≤ edge_count g₀)
+      → looks ≤ looks₀ + (node_count g₀ + 2) * edge_count g₀
   looks_few each =
       let m = edge_count g₀ in
       let more = more_times (length below + 2) (node_count g₀ + 2) m (omega (arith, few_nodes)) in
-      let last : (length below + 2) * m ≡ (length below + 1) * m + m = ap (λ z. z * m) (omega arith) ∙ suc-mul (length below + 1) m in
-      let last' : (length below + 1) * m ≡ length below * m + m = ap (λ z. z * m) (omega arith) ∙ suc-mul (length below) m in
+      let last : (length below + 2) * m ≡ (length below + 1) * m + m =
+      ap (λ z. z * m) (omega arith) ∙ suc-mul (length below + 1) m in
+      let last' : (length below + 1) * m ≡ length below * m + m =
+      ap (λ z. z * m) (omega arith) ∙ suc-mul (length below) m in
       omega (arith, looks_total, total_few cost m below each, more, last, last')
 
 pub redundant_low : {N E : Type 0} (g : Graph N E) (roots : List ℕ) (e : ℕ) → IsRedundant g roots e → e < edge_bound g
-redundant_low {N} {E} g roots e r = let P : Option (Edge E) → Type 0 = λ z. IsSome z in below_bound g.edges e (subst P (sym r.at) cc)
+redundant_low {N} {E} g roots e r = let P : Option (Edge E) → Type 0 = λ z. IsSome z in
+    below_bound g.edges e (subst P (sym r.at) cc)

@@ -70,7 +70,8 @@ pub record IsReducedFrom {N E : Type 0} (limit : ℕ) (old : Graph N E) (h h' : 
 -- reachability, where the roots reach all nodes.
 abbrev pub IsCanonical : {N E : Type 0} → (limit : ℕ) (roots : List ℕ) (old new : Graph N E) → Type 0
 IsCanonical {N} {E} limit roots old new =
-    ReachAll old roots → (h h' : Graph N E) → IsReducedFrom limit old h h' → JoinSamePairs new h' ↔ HaveSameReachability old h
+    ReachAll old roots → (h h' : Graph N E) → IsReducedFrom limit old h h'
+    → JoinSamePairs new h' ↔ HaveSameReachability old h
 
 -- a dag with the nodes and the reachability of g, reduced from roots that reach all of its nodes
 pub record IsReducedShape {N E M F : Type 0} (limit : ℕ) (g : Graph N E) (shape : Graph M F) : Type 0 where

@@ -1,5 +1,6 @@
 -- Edges that are flagged in a list: the flag of an edge is its own index, and `end` where there is none.
-use Rattle.std.specs.Prelude.{◌≡◌, ◌≢◌, ℕ, zero, suc, ◌==◌, ◌↔◌, ◌⊎◌, Bool, true, false, Some, List, [], ◌∷◌, ◌++◌, slice_index_or, if◌then◌else◌}
+use Rattle.std.specs.Prelude.{◌≡◌, ◌≢◌, ℕ, zero, suc, ◌==◌, ◌↔◌, ◌⊎◌, Bool, true, false, Some, List, [], ◌∷◌, ◌++◌}
+use Rattle.std.specs.Prelude.{slice_index_or, if◌then◌else◌}
 use Rattle.daggy_base.specs.Graph.{Graph, Edge, edge_at}
 use Rattle.daggy_base.specs.Reduction.{ReachesIndirectly}
 
@@ -21,7 +22,8 @@ pub record LeavesToMarked {N E : Type 0} (g : Graph N E) (u : ℕ) (marks : List
   pub child : slice_index_or marks edge.child false ≡ true
 
 -- those edges got flags, and the flags from before stay
-abbrev pub FlagsMarked : {N E : Type 0} → (end : ℕ) → Graph N E → (u : ℕ) (marks : List Bool) (old new : List ℕ) → Type 0
+abbrev pub FlagsMarked : {N E : Type 0}
+    → (end : ℕ) → Graph N E → (u : ℕ) (marks : List Bool) (old new : List ℕ) → Type 0
 FlagsMarked end g u marks old new = (e : ℕ) → IsFlagged end new e ↔ (IsFlagged end old e ⊎ LeavesToMarked g u marks e)
 
 -- e leaves u, and a longer way leads to its child too

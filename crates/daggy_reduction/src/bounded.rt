@@ -1,6 +1,8 @@
 //! Which edges a longer way makes redundant, by an order of the nodes.
-ghost use Rattle.std.specs.Prelude.{◌≡◌, ℕ, ◌+◌, ◌*◌, ◌≤◌, ◌↔◌, ◌⊎◌, true, false, map, length, take, slice_index_or, Contains};
-ghost use Rattle.daggy_base.specs.Graph.{HasNode, out_list, node_bound, edge_bound, node_count, edge_count};
+ghost use Rattle.std.specs.Prelude.{◌≡◌, ℕ, ◌+◌, ◌*◌, ◌≤◌, ◌↔◌, ◌⊎◌, true, false, map, length};
+ghost use Rattle.std.specs.Prelude.{take, slice_index_or, Contains};
+ghost use Rattle.daggy_base.specs.Graph.{HasNode, out_list, node_bound, edge_bound, node_count};
+ghost use Rattle.daggy_base.specs.Graph.{edge_count};
 ghost use Rattle.daggy_base.specs.Path.{AreJoined};
 ghost use Rattle.daggy_base.specs.WellFormed.{IsWellFormed};
 ghost use Rattle.daggy_base.specs.Reduction.{IsRedundant, ReachesIndirectly};
@@ -17,8 +19,8 @@ use daggy_base::link::Link;
 use daggy_base::search::{EdgeSource, Marks, Scratch, write_out};
 use daggy_order::order::Order;
 
-// Gives marks in `met` to those children of `u` to which a longer way leads. Such a way stays before the last child, so
-// only nodes that stand before it are entered.
+// Gives marks in `met` to those children of `u` to which a longer way leads. Such a way stays
+// before the last child, so only nodes that stand before it are entered.
 pub(crate) fn meet_round<Ix: IndexType, S: EdgeSource<Ix>>(
     source: &mut S,
     order: &Order<Ix>,
@@ -35,9 +37,12 @@ pub(crate) fn meet_round<Ix: IndexType, S: EdgeSource<Ix>>(
     requires met_fit { node_bound (S.graph source.old) ≤ length met.old }
     requires queue_fits { length entered.old ≤ length queue.old }
     ensures same { S.graph source.new ≡ S.graph source.old }
-    ensures met { (v : ℕ) → AreJoined (S.graph source.old) (Ix.number u) v → (slice_index_or met.new v false ≡ true)
-        ↔ ((slice_index_or met.old v false ≡ true) ⊎ ReachesIndirectly (S.graph source.old) (Ix.number u) v) }
-    ensures counted { S.looks source.new ≤ S.looks source.old + edges_spanned (S.graph source.old) order.now (Ix.number u) }
+    ensures met { (v : ℕ)
+        → AreJoined (S.graph source.old) (Ix.number u) v → (slice_index_or met.new v false ≡ true)
+        ↔ ((slice_index_or met.old v false ≡ true)
+        ⊎ ReachesIndirectly (S.graph source.old) (Ix.number u) v) }
+    ensures counted { S.looks source.new
+        ≤ S.looks source.old + edges_spanned (S.graph source.old) order.now (Ix.number u) }
     ensures entered_kept { length entered.new ≡ length entered.old }
     ensures met_kept { length met.new ≡ length met.old }
     ensures queue_kept { length queue.new ≡ length queue.old }
@@ -96,7 +101,8 @@ fn flag_round_in<Ix: IndexType, S: EdgeSource<Ix>>(
     requires queue_fits { length entered.old ≤ length queue.old }
     requires flags_fit { edge_bound (S.graph source.old) ≤ length flags.old }
     ensures same { S.graph source.new ≡ S.graph source.old }
-    ensures flagged { FlagsRound Ix.greatest (S.graph source.old) (Ix.number u) (map Ix.number flags.old) (map Ix.number flags.new) }
+    ensures flagged { FlagsRound Ix.greatest (S.graph source.old) (Ix.number u)
+        (map Ix.number flags.old) (map Ix.number flags.new) }
     ensures counted { S.looks source.new ≤ S.looks source.old
         + edges_spanned (S.graph source.old) order.now (Ix.number u)
         + length (out_list (S.graph source.old) (Ix.number u)) }
@@ -111,8 +117,8 @@ fn flag_round_in<Ix: IndexType, S: EdgeSource<Ix>>(
     flag_marked(source, u, met, flags);
 }
 
-// Flags the edges that are redundant below some roots: at the places of those edges `flags` has an index, and at all
-// other places `end`.
+// Flags the edges that are redundant below some roots: at the places of those edges `flags` has an
+// index, and at all other places `end`.
 fn flag_redundant_in<Ix: IndexType, S: EdgeSource<Ix>>(
     source: &mut S,
     order: &Order<Ix>,
@@ -135,7 +141,8 @@ fn flag_redundant_in<Ix: IndexType, S: EdgeSource<Ix>>(
     ensures counted { S.looks source.new ≤ S.looks source.old
         + (node_count (S.graph source.old) + 2) * edge_count (S.graph source.old) }
     ensures spanned { S.looks source.new ≤ S.looks source.old
-        + 2 * edge_count (S.graph source.old) + all_spanned (S.graph source.old) order.now order.now }
+        + 2 * edge_count (S.graph source.old)
+        + all_spanned (S.graph source.old) order.now order.now }
     ensures entered_kept { length entered.new ≡ length entered.old }
     ensures met_kept { length met.new ≡ length met.old }
     ensures below_kept { length below.new ≡ length below.old }
@@ -152,7 +159,8 @@ fn flag_redundant_in<Ix: IndexType, S: EdgeSource<Ix>>(
     }
 }
 
-// Puts the edges that are redundant below some roots in front of a list, and gives how many there are.
+// Puts the edges that are redundant below some roots in front of a list, and gives how many there
+// are.
 pub(crate) fn find_redundant_in<Ix: IndexType, S: EdgeSource<Ix>>(
     source: &mut S,
     order: &Order<Ix>,
@@ -177,7 +185,8 @@ pub(crate) fn find_redundant_in<Ix: IndexType, S: EdgeSource<Ix>>(
     ensures counted { S.looks source.new ≤ S.looks source.old
         + (node_count (S.graph source.old) + 2) * edge_count (S.graph source.old) }
     ensures spanned { S.looks source.new ≤ S.looks source.old
-        + 2 * edge_count (S.graph source.old) + all_spanned (S.graph source.old) order.now order.now }
+        + 2 * edge_count (S.graph source.old)
+        + all_spanned (S.graph source.old) order.now order.now }
     ensures entered_kept { length entered.new ≡ length entered.old }
     ensures met_kept { length met.new ≡ length met.old }
     ensures below_kept { length below.new ≡ length below.old }
@@ -190,10 +199,11 @@ pub(crate) fn find_redundant_in<Ix: IndexType, S: EdgeSource<Ix>>(
     gather_flagged(edges, bound)
 }
 
-/// [`redundant_edges`](crate::redundant::redundant_edges) by an order in which every parent stands before its children.
+/// [`redundant_edges`](crate::redundant::redundant_edges) by an order in which every parent stands
+/// before its children.
 ///
-/// The search from a node enters only nodes that stand before its last child. A longer way to a child passes through no
-/// others.
+/// The search from a node enters only nodes that stand before its last child. A longer way to a
+/// child passes through no others.
 pub fn redundant_edges_in<Ix: IndexType, S: EdgeSource<Ix>>(
     source: &mut S,
     order: &Order<Ix>,
@@ -212,7 +222,8 @@ pub fn redundant_edges_in<Ix: IndexType, S: EdgeSource<Ix>>(
     ensures counted { S.looks source.new ≤ S.looks source.old
         + (node_count (S.graph source.old) + 2) * edge_count (S.graph source.old) }
     ensures spanned { S.looks source.new ≤ S.looks source.old
-        + 2 * edge_count (S.graph source.old) + all_spanned (S.graph source.old) order.now order.now }
+        + 2 * edge_count (S.graph source.old)
+        + all_spanned (S.graph source.old) order.now order.now }
     ensures same_capacity { scratch.new ≡ scratch.old }
     ensures edges_kept { length edges.new ≡ length edges.old }
 {

@@ -1,5 +1,6 @@
 //! All that some nodes reach.
-ghost use Rattle.std.specs.Prelude.{◌≡◌, ◌≢◌, ℕ, ◌+◌, ◌<◌, ◌≤◌, ◌^◌, true, false, length, take, slice_set, slice_index_or};
+ghost use Rattle.std.specs.Prelude.{◌≡◌, ◌≢◌, ℕ, ◌+◌, ◌<◌, ◌≤◌, ◌^◌, true, false, length, take};
+ghost use Rattle.std.specs.Prelude.{slice_set, slice_index_or};
 ghost use Rattle.daggy_base.specs.Graph.{node_bound, edge_count};
 ghost use Rattle.daggy_base.specs.WellFormed.{IsWellFormed};
 ghost use Rattle.daggy_reduction.specs.Closure.{IsQueue, IsClosure, MeetsChildren};
@@ -17,13 +18,15 @@ pub(crate) fn enter<Ix: IndexType>(
     n: NodeIndex<Ix>,
 ) -> usize
     requires mark { Ix.number n < length entered.old }
-    requires queue_fits { slice_index_or entered.old (Ix.number n) false ≡ false → len < length queue.old }
+    requires queue_fits { slice_index_or entered.old (Ix.number n) false ≡ false
+        → len < length queue.old }
     requires fits { length queue.old < 2 ^ 64 }
     ensures most { result ≤ len + 1 }
     ensures there { slice_index_or entered.old (Ix.number n) false ≡ true
         → (entered.new ≡ entered.old) × (queue.new ≡ queue.old) × (result ≡ len) }
     ensures put { slice_index_or entered.old (Ix.number n) false ≡ false
-        → (entered.new ≡ slice_set entered.old (Ix.number n) true) × (queue.new ≡ slice_set queue.old len (Ix.number n)) × (result ≡ len + 1) }
+        → (entered.new ≡ slice_set entered.old (Ix.number n) true)
+        × (queue.new ≡ slice_set queue.old len (Ix.number n)) × (result ≡ len + 1) }
 {
     let i = n.index();
     if entered.is_marked(i) {
@@ -45,8 +48,9 @@ pub(crate) fn mark_unless_first(met: &mut Marks, head: usize, i: usize)
     }
 }
 
-// Goes on from the first `len` nodes of a queue to all that they reach, and gives how many nodes the queue then has.
-// Marked in `entered` are the nodes of the queue. In `met` the children of all of them but the first get marks too.
+// Goes on from the first `len` nodes of a queue to all that they reach, and gives how many nodes
+// the queue then has. Marked in `entered` are the nodes of the queue. In `met` the children of all
+// of them but the first get marks too.
 pub(crate) fn close<Ix: IndexType, S: EdgeSource<Ix>>(
     source: &mut S,
     entered: &mut Marks,

@@ -1,5 +1,6 @@
 //! Flags of edges, kept in a list of indices: each flag is the edge's own index.
-ghost use Rattle.std.specs.Prelude.{◌≡◌, ℕ, ◌+◌, ◌<◌, ◌≤◌, true, false, map, length, take, slice_set, slice_index_or};
+ghost use Rattle.std.specs.Prelude.{◌≡◌, ℕ, ◌+◌, ◌<◌, ◌≤◌, true, false, map, length, take};
+ghost use Rattle.std.specs.Prelude.{slice_set, slice_index_or};
 ghost use Rattle.daggy_base.specs.Graph.{out_list, node_bound, edge_bound};
 ghost use Rattle.daggy_base.specs.WellFormed.{IsWellFormed};
 ghost use Rattle.daggy_reduction.specs.Flags.{IsFlagged, FlagsMarked, flagged_below};
@@ -30,7 +31,8 @@ fn flag_if_marked<Ix: IndexType>(
     requires edge { Ix.number e < length flags.old }
     requires child { Ix.number child < length marks.now }
     ensures flagged { slice_index_or marks.now (Ix.number child) false ≡ true
-        → map Ix.number flags.new ≡ slice_set (map Ix.number flags.old) (Ix.number e) (Ix.number e) }
+        → map Ix.number flags.new
+        ≡ slice_set (map Ix.number flags.old) (Ix.number e) (Ix.number e) }
     ensures passed { slice_index_or marks.now (Ix.number child) false ≡ false
         → map Ix.number flags.new ≡ map Ix.number flags.old }
     ensures kept { length flags.new ≡ length flags.old }
@@ -51,8 +53,10 @@ pub(crate) fn flag_marked<Ix: IndexType, S: EdgeSource<Ix>>(
     requires marks_fit { node_bound (S.graph source.old) ≤ length marks.now }
     requires flags_fit { edge_bound (S.graph source.old) ≤ length flags.old }
     ensures same { S.graph source.new ≡ S.graph source.old }
-    ensures flagged { FlagsMarked Ix.greatest (S.graph source.old) (Ix.number u) marks.now (map Ix.number flags.old) (map Ix.number flags.new) }
-    ensures counted { S.looks source.new ≡ S.looks source.old + length (out_list (S.graph source.old) (Ix.number u)) }
+    ensures flagged { FlagsMarked Ix.greatest (S.graph source.old) (Ix.number u) marks.now
+        (map Ix.number flags.old) (map Ix.number flags.new) }
+    ensures counted { S.looks source.new
+        ≡ S.looks source.old + length (out_list (S.graph source.old) (Ix.number u)) }
     ensures kept { length flags.new ≡ length flags.old }
 {
     let end = EdgeIndex::<Ix>::end().index();
@@ -64,11 +68,13 @@ pub(crate) fn flag_marked<Ix: IndexType, S: EdgeSource<Ix>>(
     }
 }
 
-// Puts the edges that have flags in front, in ascending order, and gives how many there are. The flags are lost.
+// Puts the edges that have flags in front, in ascending order, and gives how many there are. The
+// flags are lost.
 pub(crate) fn gather_flagged<Ix: IndexType>(flags: &mut [EdgeIndex<Ix>], bound: usize) -> usize
     requires within { bound ≤ length flags.old }
     requires real { bound ≤ Ix.greatest }
-    ensures gathered { take result (map Ix.number flags.new) ≡ flagged_below Ix.greatest (map Ix.number flags.old) bound }
+    ensures gathered { take result (map Ix.number flags.new)
+        ≡ flagged_below Ix.greatest (map Ix.number flags.old) bound }
     ensures within { result ≤ bound }
     ensures kept { length flags.new ≡ length flags.old }
 {

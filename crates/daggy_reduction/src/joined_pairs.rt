@@ -1,5 +1,6 @@
 //! The joined pairs of two graphs.
-ghost use Rattle.std.specs.Prelude.{◌≡◌, ℕ, ◌≤◌, ◌↔◌, ◌⊎◌, true, false, length, slice_index_or, IsTrue};
+ghost use Rattle.std.specs.Prelude.{◌≡◌, ℕ, ◌≤◌, ◌↔◌, ◌⊎◌, true, false, length, slice_index_or};
+ghost use Rattle.std.specs.Prelude.{IsTrue};
 ghost use Rattle.daggy_base.specs.Graph.{node_bound};
 ghost use Rattle.daggy_base.specs.Path.{AreJoined};
 ghost use Rattle.daggy_base.specs.WellFormed.{IsWellFormed};
@@ -18,7 +19,8 @@ fn mark_children<Ix: IndexType, S: EdgeSource<Ix>>(
     requires fits { node_bound (S.graph source.old) ≤ length marks.old }
     ensures same { S.graph source.new ≡ S.graph source.old }
     ensures marked { (n : ℕ) → (slice_index_or marks.new n false ≡ true)
-        ↔ ((slice_index_or marks.old n false ≡ true) ⊎ AreJoined (S.graph source.old) (Ix.number u) n) }
+        ↔ ((slice_index_or marks.old n false ≡ true)
+        ⊎ AreJoined (S.graph source.old) (Ix.number u) n) }
     ensures kept { length marks.new ≡ length marks.old }
 {
     let end = EdgeIndex::<Ix>::end().index();
@@ -39,7 +41,9 @@ fn are_children_marked<Ix: IndexType, S: EdgeSource<Ix>>(
     requires well_formed { IsWellFormed Ix.greatest (S.graph source.old) }
     requires fits { node_bound (S.graph source.old) ≤ length marks.now }
     ensures same { S.graph source.new ≡ S.graph source.old }
-    ensures decided { IsTrue result ↔ ((n : ℕ) → AreJoined (S.graph source.old) (Ix.number u) n → slice_index_or marks.now n false ≡ true) }
+    ensures decided { IsTrue result
+        ↔ ((n : ℕ) → AreJoined (S.graph source.old) (Ix.number u) n
+        → slice_index_or marks.now n false ≡ true) }
 {
     let end = EdgeIndex::<Ix>::end().index();
     let mut e = source.first(u);

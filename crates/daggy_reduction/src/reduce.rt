@@ -19,8 +19,10 @@ use std::alloc::AllocError;
 // Removes the edges of a list, the last one first.
 fn remove_edges<Ix: IndexType, S: Store<Ix>>(store: &mut S, edges: &[EdgeIndex<Ix>])
     requires ascending { IsAscending (map Ix.number edges.now) }
-    requires exist { (e : ℕ) → Contains (map Ix.number edges.now) e → HasEdge (S.graph store.old) e }
-    ensures removed { S.graph store.new ≡ without_edges S.kind (S.graph store.old) (reverse (map Ix.number edges.now)) }
+    requires exist { (e : ℕ)
+        → Contains (map Ix.number edges.now) e → HasEdge (S.graph store.old) e }
+    ensures removed { S.graph store.new
+        ≡ without_edges S.kind (S.graph store.old) (reverse (map Ix.number edges.now)) }
     ensures counted { S.looks store.new ≡ S.looks store.old }
 {
     let mut left = edges.len();
@@ -30,8 +32,8 @@ fn remove_edges<Ix: IndexType, S: Store<Ix>>(store: &mut S, edges: &[EdgeIndex<I
     }
 }
 
-/// Removes the edges that are redundant below some roots: first it decides which these are, and then it removes them, the
-/// one with the highest index first.
+/// Removes the edges that are redundant below some roots: first it decides which these are, and
+/// then it removes them, the one with the highest index first.
 ///
 /// The only refusal is that the scratch cannot grow to the bounds of the graph.
 pub fn transitive_reduce<Ix: IndexType, S: Store<Ix>>(
@@ -41,7 +43,8 @@ pub fn transitive_reduce<Ix: IndexType, S: Store<Ix>>(
     roots: &[NodeIndex<Ix>],
 ) -> Result<(), AllocError>
     requires { IsOrderOf (S.graph store.old) order.now }
-    ensures reduced { OnOk result (IsReduction S.kind (map Ix.number roots.now) (S.graph store.old) (S.graph store.new)) }
+    ensures reduced { OnOk result
+        (IsReduction S.kind (map Ix.number roots.now) (S.graph store.old) (S.graph store.new)) }
     ensures well_formed { IsWellFormed Ix.greatest (S.graph store.old) }
     ensures unchanged { OnErr result (S.graph store.new ≡ S.graph store.old) }
     ensures nodes { (S.graph store.new).nodes ≡ (S.graph store.old).nodes }
@@ -49,7 +52,8 @@ pub fn transitive_reduce<Ix: IndexType, S: Store<Ix>>(
     ensures counted { OnOk result (S.looks store.new ≤ S.looks store.old
         + (node_count (S.graph store.old) + 2) * edge_count (S.graph store.old)) }
     ensures spanned { OnOk result (S.looks store.new ≤ S.looks store.old
-        + 2 * edge_count (S.graph store.old) + all_spanned (S.graph store.old) order.now order.now) }
+        + 2 * edge_count (S.graph store.old)
+        + all_spanned (S.graph store.old) order.now order.now) }
     ensures unlooked { OnErr result (S.looks store.new ≡ S.looks store.old) }
     ensures capacity_kept { scratch.old.nodes ≤ scratch.new.nodes }
 {

@@ -1,6 +1,7 @@
 //! Which edges a longer way makes redundant.
 ghost use Rattle.std.specs.Prelude.{◌≡◌, ℕ, ◌+◌, ◌*◌, ◌≤◌, ◌↔◌, map, length, take, Contains};
-ghost use Rattle.daggy_base.specs.Graph.{HasNode, out_list, node_bound, edge_bound, node_count, edge_count};
+ghost use Rattle.daggy_base.specs.Graph.{HasNode, out_list, node_bound, edge_bound, node_count};
+ghost use Rattle.daggy_base.specs.Graph.{edge_count};
 ghost use Rattle.daggy_base.specs.Path.{IsAcyclic};
 ghost use Rattle.daggy_base.specs.WellFormed.{IsWellFormed};
 ghost use Rattle.daggy_base.specs.Reduction.{IsRedundant};
@@ -31,7 +32,8 @@ fn flag_round<Ix: IndexType, S: EdgeSource<Ix>>(
     requires queue_fits { length entered.old ≤ length queue.old }
     requires flags_fit { edge_bound (S.graph source.old) ≤ length flags.old }
     ensures same { S.graph source.new ≡ S.graph source.old }
-    ensures flagged { FlagsRound Ix.greatest (S.graph source.old) (Ix.number u) (map Ix.number flags.old) (map Ix.number flags.new) }
+    ensures flagged { FlagsRound Ix.greatest (S.graph source.old) (Ix.number u)
+        (map Ix.number flags.old) (map Ix.number flags.new) }
     ensures counted { S.looks source.new ≤ S.looks source.old + edge_count (S.graph source.old)
         + length (out_list (S.graph source.old) (Ix.number u)) }
     ensures entered_kept { length entered.new ≡ length entered.old }
@@ -46,8 +48,8 @@ fn flag_round<Ix: IndexType, S: EdgeSource<Ix>>(
     flag_marked(source, u, met, flags);
 }
 
-// Flags the edges that are redundant below some roots: at the places of those edges `flags` has an index, and at all
-// other places `end`.
+// Flags the edges that are redundant below some roots: at the places of those edges `flags` has an
+// index, and at all other places `end`.
 fn flag_redundant<Ix: IndexType, S: EdgeSource<Ix>>(
     source: &mut S,
     roots: &[NodeIndex<Ix>],
@@ -84,7 +86,8 @@ fn flag_redundant<Ix: IndexType, S: EdgeSource<Ix>>(
     }
 }
 
-// Puts the edges that are redundant below some roots in front of a list, and gives how many there are.
+// Puts the edges that are redundant below some roots in front of a list, and gives how many there
+// are.
 pub(crate) fn find_redundant<Ix: IndexType, S: EdgeSource<Ix>>(
     source: &mut S,
     roots: &[NodeIndex<Ix>],
@@ -119,10 +122,11 @@ pub(crate) fn find_redundant<Ix: IndexType, S: EdgeSource<Ix>>(
     gather_flagged(edges, bound)
 }
 
-/// Puts the edges that are redundant below some roots in front of `edges`, each once, in ascending order, and gives how
-/// many there are.
+/// Puts the edges that are redundant below some roots in front of `edges`, each once, in ascending
+/// order, and gives how many there are.
 ///
-/// It cannot fail for want of memory. The cost is that of one search for each node that the roots reach.
+/// It cannot fail for want of memory. The cost is that of one search for each node that the roots
+/// reach.
 pub fn redundant_edges<Ix: IndexType, S: EdgeSource<Ix>>(
     source: &mut S,
     roots: &[NodeIndex<Ix>],

@@ -1,5 +1,6 @@
 //! All that some roots reach.
-ghost use Rattle.std.specs.Prelude.{◌≡◌, ℕ, ◌+◌, ◌≤◌, ◌↔◌, false, map, length, take, slice_index_or, Contains};
+ghost use Rattle.std.specs.Prelude.{◌≡◌, ℕ, ◌+◌, ◌≤◌, ◌↔◌, false, map, length, take};
+ghost use Rattle.std.specs.Prelude.{slice_index_or, Contains};
 ghost use Rattle.daggy_base.specs.Graph.{HasNode, node_bound, edge_count};
 ghost use Rattle.daggy_base.specs.Reduction.{IsBelow};
 ghost use Rattle.daggy_base.specs.WellFormed.{IsWellFormed, AreDistinct};
@@ -52,7 +53,9 @@ pub(crate) fn enter_below<Ix: IndexType, S: EdgeSource<Ix>>(
     requires met_fit { node_bound (S.graph source.old) ≤ length met.old }
     requires queue_fits { length entered.old ≤ length queue.old }
     ensures same { S.graph source.new ≡ S.graph source.old }
-    ensures below { (n : ℕ) → Contains (take result queue.new) n ↔ IsBelow (S.graph source.old) (map Ix.number roots.now) n }
+    ensures below { (n : ℕ)
+        → Contains (take result queue.new) n
+        ↔ IsBelow (S.graph source.old) (map Ix.number roots.now) n }
     ensures distinct { AreDistinct (take result queue.new) }
     ensures counted { S.looks source.new ≤ S.looks source.old + edge_count (S.graph source.old) }
     ensures within { result ≤ length queue.new }

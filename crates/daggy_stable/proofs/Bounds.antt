@@ -1,5 +1,6 @@
 -- How many slots there are, and where the last that is not vacant is.
-use Rattle.std.proofs.Common.{◌≡◌, ◌≢◌, ℕ, zero, suc, ◌+◌, ◌≤◌, List, [], ◌∷◌, length, set, Option, Some, None, OnSome, IfNone, refl, ap, ◌∙◌, arith}
+use Rattle.std.proofs.Common.{◌≡◌, ◌≢◌, ℕ, zero, suc, ◌+◌, ◌≤◌, List, [], ◌∷◌, length, set, Option, Some, None, OnSome}
+use Rattle.std.proofs.Common.{IfNone, refl, ap, ◌∙◌, arith}
 use Rattle.std.proofs.lemmas.List.{length-set, length_push}
 use Rattle.daggy_base.specs.declared.index.Direction.{Direction}
 use Rattle.daggy_base.specs.declared.index.Direction.TheVariants.{Outgoing, Incoming}
@@ -8,11 +9,13 @@ use Rattle.daggy_base.specs.Adding.{with_slot_filled}
 use Rattle.daggy_base.specs.Removal.{Stable, without_first, without_front, with_node_isolated, without_node}
 use Rattle.daggy_base.specs.State.{State, with_graph}
 
-pub taken_filled : {A : Type 0} (xs : List (Option A)) (vacant : List ℕ) (x : Option A) → vacant ≢ [] → length (with_slot_filled xs vacant x) ≡ length xs
+pub taken_filled : {A : Type 0} (xs : List (Option A)) (vacant : List ℕ) (x : Option A)
+    → vacant ≢ [] → length (with_slot_filled xs vacant x) ≡ length xs
 taken_filled xs [] x some = absurd (some refl)
 taken_filled xs (v ∷ vs) x some = length-set xs v x
 
-pub taken_made : {A : Type 0} (xs : List (Option A)) (vacant : List ℕ) (x : Option A) → vacant ≡ [] → length (with_slot_filled xs vacant x) ≡ length xs + 1
+pub taken_made : {A : Type 0} (xs : List (Option A)) (vacant : List ℕ) (x : Option A)
+    → vacant ≡ [] → length (with_slot_filled xs vacant x) ≡ length xs + 1
 taken_made xs [] x none = length_push xs x
 taken_made xs (v ∷ vs) x none = absurd (omega (arith, ap length none))
 
@@ -42,7 +45,8 @@ module _ {N E : Type 0} where
 
   nodes_front : (dir : Direction) (k : ℕ) (g : Graph N E) (n : ℕ) → (without_front Stable dir k g n).nodes ≡ g.nodes
   nodes_front dir zero g n = refl
-  nodes_front dir (suc k) g n = nodes_front dir k (without_first Stable g (list_at dir g n)) n ∙ nodes_first g (list_at dir g n)
+  nodes_front dir (suc k) g n =
+      nodes_front dir k (without_first Stable g (list_at dir g n)) n ∙ nodes_first g (list_at dir g n)
 
   nodes_isolated : (g : Graph N E) (n : ℕ) → (with_node_isolated Stable g n).nodes ≡ g.nodes
   nodes_isolated g n =
@@ -50,8 +54,11 @@ module _ {N E : Type 0} where
       nodes_front Incoming (length (in_list h n)) h n ∙ nodes_front Outgoing (length (out_list g n)) g n
 
   -- a removal leaves no node with a greater index
-  pub bound_left : {A : Type 0} (n : ℕ) (old new : State N E) (r : Option A) → OnSome r (new ≡ with_graph old (without_node Stable old.graph n)) → IfNone r (new ≡ old) → node_bound new.graph ≤ node_bound old.graph
+  pub bound_left : {A : Type 0} (n : ℕ) (old new : State N E) (r : Option A)
+      → OnSome r (new ≡ with_graph old (without_node Stable old.graph n)) → IfNone r (new ≡ old)
+      → node_bound new.graph ≤ node_bound old.graph
   bound_left n old new None removed missing = let same = ap (λ s. node_bound s.graph) missing in omega (arith, same)
   bound_left n old new (Some x) removed missing =
-      let same : node_bound new.graph ≡ bound_of (set old.graph.nodes n None) = ap (λ s. node_bound s.graph) removed ∙ ap (λ l. bound_of (set l n None)) (nodes_isolated old.graph n) in
+      let same : node_bound new.graph ≡ bound_of (set old.graph.nodes n None) =
+      ap (λ s. node_bound s.graph) removed ∙ ap (λ l. bound_of (set l n None)) (nodes_isolated old.graph n) in
       omega (arith, same, bound_vacate old.graph.nodes n)

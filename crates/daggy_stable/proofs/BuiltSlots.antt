@@ -1,5 +1,7 @@
 -- What one more slot makes of what is stored.
-use Rattle.std.proofs.Common.{◌≡◌, ◌≢◌, ℕ, ◌+◌, ◌<◌, not, cond, List, [], ◌∷◌, ◌++◌, map, length, get_or, set, Option, Some, None, IsSome, is_some, slice_get, refl, sym, ap, subst, ◌∙◌, inl, inr, arith, Contains}
+use Rattle.std.proofs.Common.{◌≡◌, ◌≢◌, ℕ, ◌+◌, ◌<◌, not, cond, List, [], ◌∷◌, ◌++◌, map, length, get_or, set, Option}
+use Rattle.std.proofs.Common.{Some, None, IsSome, is_some, slice_get, refl, sym, ap, subst, ◌∙◌, inl, inr, arith}
+use Rattle.std.proofs.Common.{Contains}
 use Rattle.std.specs.List.{count_by}
 use Rattle.std.specs.Option.{option_map}
 use Rattle.std.proofs.lemmas.Bool.{cases_eq}
@@ -16,12 +18,15 @@ use Rattle.daggy_cells.specs.Links.{nth_list, AreLinkedLists, ListsBy}
 use Rattle.daggy_cells.specs.Raw.{raw_first, raw_next}
 use Rattle.daggy_base.specs.FromSlots.{graph_of_slots, vacant_down}
 use Rattle.daggy_cells.specs.Fields.{firsts_of, nexts_of, lists_at}
-use Rattle.daggy_base.proofs.Lists.{Contains-here, Contains-there, slice_get-push_old, slice_get-push_new, slice_get-push_other, slice_get-set_other}
+use Rattle.daggy_base.proofs.Lists.{Contains-here, Contains-there, slice_get-push_old, slice_get-push_new}
+use Rattle.daggy_base.proofs.Lists.{slice_get-push_other, slice_get-set_other}
 use Rattle.daggy_cells.proofs.LinkedLists.{after_here, after_there}
-use Rattle.daggy_cells.proofs.LinkedListChanges.{row_push, linked_within, IsLinkedList-kept, AreLinkedLists-node, AreLinkedLists-put, AreLinkedLists-kept, ListsBy-put}
+use Rattle.daggy_cells.proofs.LinkedListChanges.{row_push, linked_within, IsLinkedList-kept, AreLinkedLists-node}
+use Rattle.daggy_cells.proofs.LinkedListChanges.{AreLinkedLists-put, AreLinkedLists-kept, ListsBy-put}
 use Rattle.daggy_cells.proofs.FieldLemmas.{firsts_as_many}
 use Rattle.daggy_stable.specs.Stored.{weight_of, plain_edge, shown, list_firsts, end_of, IsThreaded, Stores}
-use Rattle.daggy_base.proofs.SlotLists.{slot_push_new, slot_push_other, none_past, vacant_down_more, of_slots_node, of_slots_left, of_slots_taken}
+use Rattle.daggy_base.proofs.SlotLists.{slot_push_new, slot_push_other, none_past, vacant_down_more, of_slots_node}
+use Rattle.daggy_base.proofs.SlotLists.{of_slots_left, of_slots_taken}
 use Rattle.daggy_stable.proofs.Shown.{shown_some, shown-set, shown_push}
 use Rattle.daggy_base.proofs.Slots.{count_cons}
 use Rattle.daggy_stable.proofs.Slots.{count_push, vacant_inside, rethreaded, slot_not_vacant, slot_inside}
@@ -39,18 +44,23 @@ module _ {A : Type 0} where
   slot_push_vacant : (xs : List (Option A)) (i : ℕ) → slot (xs ++ None ∷ []) i ≡ slot xs i
   slot_push_vacant xs i =
       elim (cases_eq i (length xs)) [
-        | inl last ↦ ap (slot (xs ++ None ∷ [])) last ∙ slot_push_new xs None ∙ sym (none_past xs i (omega (arith, last)))
+        | inl last ↦
+            ap (slot (xs ++ None ∷ [])) last ∙ slot_push_new xs None ∙ sym (none_past xs i (omega (arith, last)))
         | inr other ↦ slot_push_other xs None i other
       ]
 
-  shown_push_vacant : (end : ℕ) (slots : List (Option A)) (links : List ℕ) (new : ℕ) → length links ≡ length slots → shown end (slots ++ None ∷ []) (links ++ new ∷ []) ≡ shown end slots links ++ end ∷ []
+  shown_push_vacant : (end : ℕ) (slots : List (Option A)) (links : List ℕ) (new : ℕ) → length links ≡ length slots
+      → shown end (slots ++ None ∷ []) (links ++ new ∷ []) ≡ shown end slots links ++ end ∷ []
   shown_push_vacant end [] [] new long = refl
   shown_push_vacant end [] (l ∷ links) new long = absurd (omega (arith, long))
   shown_push_vacant end (z ∷ zs) [] new long = absurd (omega (arith, long))
-  shown_push_vacant end (None ∷ zs) (l ∷ links) new long = ap (λ ls. end ∷ ls) (shown_push_vacant end zs links new (omega (arith, long)))
-  shown_push_vacant end (Some z ∷ zs) (l ∷ links) new long = ap (λ ls. l ∷ ls) (shown_push_vacant end zs links new (omega (arith, long)))
+  shown_push_vacant end (None ∷ zs) (l ∷ links) new long =
+      ap (λ ls. end ∷ ls) (shown_push_vacant end zs links new (omega (arith, long)))
+  shown_push_vacant end (Some z ∷ zs) (l ∷ links) new long =
+      ap (λ ls. l ∷ ls) (shown_push_vacant end zs links new (omega (arith, long)))
 
-  module _ (end : ℕ) (slots : List (Option A)) (links : List ℕ) (head count : ℕ) (vacant : List ℕ) (t : IsThreaded end slots links head count vacant) (index_left : length slots < end) where
+  module _ (end : ℕ) (slots : List (Option A)) (links : List ℕ) (head count : ℕ) (vacant : List ℕ)
+      (t : IsThreaded end slots links head count vacant) (index_left : length slots < end) where
     inside : (f : ℕ) → Contains vacant f → f < length slots
     inside = vacant_inside end slots links head count vacant t
 
@@ -61,14 +71,17 @@ module _ {A : Type 0} where
     as_long x l = omega (arith, length_push links l, length_push slots x, t.long)
 
     -- a slot that is not vacant
-    pub threaded_taken : (x : A) (l : ℕ) → IsThreaded end (slots ++ Some x ∷ []) (links ++ l ∷ []) head (count + 1) vacant
+    pub threaded_taken : (x : A) (l : ℕ)
+        → IsThreaded end (slots ++ Some x ∷ []) (links ++ l ∷ []) head (count + 1) vacant
     threaded_taken x l =
         record {
           linked = IsLinkedList-kept end links (links ++ l ∷ []) head vacant t.linked (old_link l);
           exact = λ i. (
             λ p. slice_get-push_other slots (Some x) i (λ same. omega (arith, same, inside i p)) ∙ (t.exact i).0 p,
             λ q. elim (cases_eq i (length slots)) [
-              | inl last ↦ absurd (none-some x (sym (same_Some (Some x) None (sym (slice_get-push_new slots (Some x)) ∙ ap (slice_get (slots ++ Some x ∷ [])) (sym last) ∙ q))))
+              | inl last ↦
+                  absurd (none-some x (sym (same_Some (Some x) None
+                  (sym (slice_get-push_new slots (Some x)) ∙ ap (slice_get (slots ++ Some x ∷ [])) (sym last) ∙ q))))
               | inr other ↦ (t.exact i).1 (sym (slice_get-push_other slots (Some x) i other) ∙ q)
             ],
           );
@@ -78,7 +91,8 @@ module _ {A : Type 0} where
         }
 
     -- a vacant one
-    pub threaded_vacant : IsThreaded end (slots ++ None ∷ []) (links ++ head ∷ []) (length slots) count (length slots ∷ vacant)
+    pub threaded_vacant : IsThreaded end (slots ++ None ∷ []) (links ++ head ∷ []) (length slots) count
+        (length slots ∷ vacant)
     threaded_vacant =
         let e = length slots in
         record {
@@ -89,20 +103,27 @@ module _ {A : Type 0} where
                 elim (cases_eq e f) [
                   | inl same ↦
                       subst (λ z. slice_get (links ++ head ∷ []) z ≡ Some (after end (e ∷ vacant) z)) same
-                      (ap (slice_get (links ++ head ∷ [])) (sym t.long) ∙ slice_get-push_new links head ∙ ap Some (t.linked.starts ∙ sym (after_here end e vacant)))
+                      (ap (slice_get (links ++ head ∷ [])) (sym t.long) ∙ slice_get-push_new links head
+                      ∙ ap Some (t.linked.starts ∙ sym (after_here end e vacant)))
                   | inr other ↦
                       let there = Contains-tail e vacant f other p in
-                      old_link head f there ∙ t.linked.goes_on f there ∙ ap Some (sym (after_there end e f vacant other))
+                      old_link head f there ∙ t.linked.goes_on f there
+                      ∙ ap Some (sym (after_there end e f vacant other))
                 ];
           };
           exact = λ i. (
             λ p. elim (cases_eq e i) [
-              | inl same ↦ subst (λ z. slice_get (slots ++ None ∷ []) z ≡ Some None) same (slice_get-push_new slots None)
-              | inr other ↦ slice_get-push_other slots None i (λ same. other (sym same)) ∙ (t.exact i).0 (Contains-tail e vacant i other p)
+              | inl same ↦
+                  subst (λ z. slice_get (slots ++ None ∷ []) z ≡ Some None) same (slice_get-push_new slots None)
+              | inr other ↦
+                  slice_get-push_other slots None i (λ same. other (sym same))
+                  ∙ (t.exact i).0 (Contains-tail e vacant i other p)
             ],
             λ q. elim (cases_eq e i) [
               | inl same ↦ subst (Contains (e ∷ vacant)) same (Contains-here e vacant)
-              | inr other ↦ Contains-there e i vacant ((t.exact i).1 (sym (slice_get-push_other slots None i (λ same. other (sym same))) ∙ q))
+              | inr other ↦
+                  Contains-there e i vacant
+                  ((t.exact i).1 (sym (slice_get-push_other slots None i (λ same. other (sym same))) ∙ q))
             ],
           );
           counted = t.counted ∙ sym (count_push_vacant slots);
@@ -110,15 +131,30 @@ module _ {A : Type 0} where
           few = omega (arith, index_left, length_push slots None);
         }
 
-module _ {N E Ix : Type 0} {end : ℕ} {nodes : List (Node (Option N) Ix)} {edges : List (Edge (Option E) Ix)} {node_head edge_head nodes_counted edges_counted : ℕ} {g : Graph N E} (s : Stores end nodes edges node_head edge_head nodes_counted edges_counted g) where
+module _ {N E Ix : Type 0} {end : ℕ} {nodes : List (Node (Option N) Ix)} {edges : List (Edge (Option E) Ix)}
+    {node_head edge_head nodes_counted edges_counted : ℕ} {g : Graph N E}
+    (s : Stores end nodes edges node_head edge_head nodes_counted edges_counted g) where
   -- one more slot of a node
   module _ (x : Node (Option N) Ix) where
-    pub node_slot : ((dir : Direction) → list_firsts end dir (nodes ++ x ∷ []) ≡ list_firsts end dir nodes ++ end ∷ []) → (head' count' : ℕ) (vacant : List ℕ) → IsThreaded end (g.nodes ++ x.weight ∷ []) (firsts_of Outgoing (nodes ++ x ∷ [])) head' count' vacant
-        → Stores end (nodes ++ x ∷ []) edges head' edge_head count' edges_counted (record { nodes = g.nodes ++ x.weight ∷ []; edges = g.edges; out_lists = g.out_lists ++ [] ∷ []; in_lists = g.in_lists ++ [] ∷ []; vacant_nodes = vacant; vacant_edges = g.vacant_edges })
+    pub node_slot : ((dir : Direction) → list_firsts end dir (nodes ++ x ∷ []) ≡ list_firsts end dir nodes ++ end ∷ [])
+        → (head' count' : ℕ) (vacant : List ℕ)
+        → IsThreaded end (g.nodes ++ x.weight ∷ []) (firsts_of Outgoing (nodes ++ x ∷ [])) head' count' vacant
+        → Stores end (nodes ++ x ∷ []) edges head' edge_head count' edges_counted (record {
+          nodes = g.nodes ++ x.weight ∷ [];
+          edges = g.edges;
+          out_lists = g.out_lists ++ [] ∷ [];
+          in_lists = g.in_lists ++ [] ∷ [];
+          vacant_nodes = vacant;
+          vacant_edges = g.vacant_edges;
+        })
     node_slot firsts head' count' vacant threaded =
-        let links : (dir : Direction) → AreLinkedLists end (list_firsts end dir (nodes ++ x ∷ [])) (nexts_of dir edges) (lists_at dir g ++ [] ∷ []) =
-        λ dir. subst (λ z. AreLinkedLists end z (nexts_of dir edges) (lists_at dir g ++ [] ∷ [])) (sym (firsts dir)) (AreLinkedLists-node end _ _ _ (s.linked dir)) in
-        let lists : (dir : Direction) → ListsBy (end_of dir g) (lists_at dir g ++ [] ∷ []) = λ dir n e. rw (row_push (lists_at dir g) n) (s.listed dir n e) in
+        let links : (dir : Direction)
+        → AreLinkedLists end (list_firsts end dir (nodes ++ x ∷ [])) (nexts_of dir edges) (lists_at dir g ++ [] ∷ []) =
+        λ dir.
+        subst (λ z. AreLinkedLists end z (nexts_of dir edges) (lists_at dir g ++ [] ∷ [])) (sym (firsts dir))
+        (AreLinkedLists-node end _ _ _ (s.linked dir)) in
+        let lists : (dir : Direction) → ListsBy (end_of dir g) (lists_at dir g ++ [] ∷ []) = λ dir n e.
+        rw (row_push (lists_at dir g) n) (s.listed dir n e) in
         record {
           nodes_are = ap (λ l. l ++ x.weight ∷ []) s.nodes_are ∙ sym (map_push weight_of nodes x);
           edges_are = s.edges_are;
@@ -134,156 +170,309 @@ module _ {N E Ix : Type 0} {end : ℕ} {nodes : List (Node (Option N) Ix)} {edge
     weights_more : map weight_of (nodes ++ x ∷ []) ≡ map weight_of nodes ++ x.weight ∷ []
     weights_more = map_push weight_of nodes x
 
-    shown_more : (dir : Direction) → list_firsts end dir (nodes ++ x ∷ []) ≡ shown end (map weight_of nodes ++ x.weight ∷ []) (firsts_of dir nodes ++ raw_first dir x ∷ [])
-    shown_more dir = ap (λ l. shown end l (firsts_of dir (nodes ++ x ∷ []))) weights_more ∙ ap (shown end (map weight_of nodes ++ x.weight ∷ [])) (firsts_more dir)
+    shown_more : (dir : Direction)
+        → list_firsts end dir (nodes ++ x ∷ [])
+        ≡ shown end (map weight_of nodes ++ x.weight ∷ []) (firsts_of dir nodes ++ raw_first dir x ∷ [])
+    shown_more dir =
+        ap (λ l. shown end l (firsts_of dir (nodes ++ x ∷ []))) weights_more
+        ∙ ap (shown end (map weight_of nodes ++ x.weight ∷ [])) (firsts_more dir)
 
     pub node_taken : (w : N) → x ≡ record { weight = Some w; first_out = end; first_in = end } → length nodes < end
-        → Stores end (nodes ++ x ∷ []) edges node_head edge_head (nodes_counted + 1) edges_counted (record { nodes = g.nodes ++ x.weight ∷ []; edges = g.edges; out_lists = g.out_lists ++ [] ∷ []; in_lists = g.in_lists ++ [] ∷ []; vacant_nodes = g.vacant_nodes; vacant_edges = g.vacant_edges })
+        → Stores end (nodes ++ x ∷ []) edges node_head edge_head (nodes_counted + 1) edges_counted (record {
+          nodes = g.nodes ++ x.weight ∷ [];
+          edges = g.edges;
+          out_lists = g.out_lists ++ [] ∷ [];
+          in_lists = g.in_lists ++ [] ∷ [];
+          vacant_nodes = g.vacant_nodes;
+          vacant_edges = g.vacant_edges;
+        })
     node_taken w is index_left =
         let some : x.weight ≡ Some w = ap weight_of is in
-        let at_end : (dir : Direction) → raw_first dir x ≡ end = elim [ Outgoing ↦ ap (raw_first Outgoing) is | Incoming ↦ ap (raw_first Incoming) is ] in
+        let at_end : (dir : Direction) → raw_first dir x ≡ end =
+        elim [ Outgoing ↦ ap (raw_first Outgoing) is | Incoming ↦ ap (raw_first Incoming) is ] in
         let firsts : (dir : Direction) → list_firsts end dir (nodes ++ x ∷ []) ≡ list_firsts end dir nodes ++ end ∷ [] =
-        λ dir. shown_more dir ∙ ap (λ o. shown end (map weight_of nodes ++ o ∷ []) (firsts_of dir nodes ++ raw_first dir x ∷ [])) some ∙ ap (λ z. shown end (map weight_of nodes ++ Some w ∷ []) (firsts_of dir nodes ++ z ∷ [])) (at_end dir) ∙ shown_push end (map weight_of nodes) (firsts_of dir nodes) w end (firsts_as_many weight_of dir nodes) in
-        let threaded = threaded_taken end g.nodes (firsts_of Outgoing nodes) node_head nodes_counted g.vacant_nodes s.node_slots (omega (arith, index_left, nodes_long s)) w (raw_first Outgoing x) in
-        let moved = subst (λ l. IsThreaded end (g.nodes ++ Some w ∷ []) l node_head (nodes_counted + 1) g.vacant_nodes) (sym (firsts_more Outgoing)) threaded in
-        node_slot firsts node_head (nodes_counted + 1) g.vacant_nodes (subst (λ o. IsThreaded end (g.nodes ++ o ∷ []) (firsts_of Outgoing (nodes ++ x ∷ [])) node_head (nodes_counted + 1) g.vacant_nodes) (sym some) moved)
+        λ dir.
+        shown_more dir
+        ∙ ap (λ o. shown end (map weight_of nodes ++ o ∷ []) (firsts_of dir nodes ++ raw_first dir x ∷ [])) some
+        ∙ ap (λ z. shown end (map weight_of nodes ++ Some w ∷ []) (firsts_of dir nodes ++ z ∷ [])) (at_end dir)
+        ∙ shown_push end (map weight_of nodes) (firsts_of dir nodes) w end (firsts_as_many weight_of dir nodes) in
+        let threaded =
+        threaded_taken end g.nodes (firsts_of Outgoing nodes) node_head nodes_counted g.vacant_nodes s.node_slots
+        (omega (arith, index_left, nodes_long s)) w (raw_first Outgoing x) in
+        let moved =
+        subst (λ l. IsThreaded end (g.nodes ++ Some w ∷ []) l node_head (nodes_counted + 1) g.vacant_nodes)
+        (sym (firsts_more Outgoing)) threaded in
+        node_slot firsts node_head (nodes_counted + 1) g.vacant_nodes (subst (λ o. IsThreaded end (g.nodes ++ o ∷ [])
+        (firsts_of Outgoing (nodes ++ x ∷ [])) node_head (nodes_counted + 1) g.vacant_nodes) (sym some) moved)
 
     pub node_left : x ≡ record { weight = None; first_out = node_head; first_in = end } → length nodes < end
-        → Stores end (nodes ++ x ∷ []) edges (length nodes) edge_head nodes_counted edges_counted (record { nodes = g.nodes ++ x.weight ∷ []; edges = g.edges; out_lists = g.out_lists ++ [] ∷ []; in_lists = g.in_lists ++ [] ∷ []; vacant_nodes = length nodes ∷ g.vacant_nodes; vacant_edges = g.vacant_edges })
+        → Stores end (nodes ++ x ∷ []) edges (length nodes) edge_head nodes_counted edges_counted (record {
+          nodes = g.nodes ++ x.weight ∷ [];
+          edges = g.edges;
+          out_lists = g.out_lists ++ [] ∷ [];
+          in_lists = g.in_lists ++ [] ∷ [];
+          vacant_nodes = length nodes ∷ g.vacant_nodes;
+          vacant_edges = g.vacant_edges;
+        })
     node_left is index_left =
         let none : x.weight ≡ None = ap weight_of is in
         let firsts : (dir : Direction) → list_firsts end dir (nodes ++ x ∷ []) ≡ list_firsts end dir nodes ++ end ∷ [] =
-        λ dir. shown_more dir ∙ ap (λ o. shown end (map weight_of nodes ++ o ∷ []) (firsts_of dir nodes ++ raw_first dir x ∷ [])) none ∙ shown_push_vacant end (map weight_of nodes) (firsts_of dir nodes) (raw_first dir x) (firsts_as_many weight_of dir nodes) in
-        let threaded = threaded_vacant end g.nodes (firsts_of Outgoing nodes) node_head nodes_counted g.vacant_nodes s.node_slots (omega (arith, index_left, nodes_long s)) in
-        let links : firsts_of Outgoing nodes ++ node_head ∷ [] ≡ firsts_of Outgoing (nodes ++ x ∷ []) = ap (λ z. firsts_of Outgoing nodes ++ z ∷ []) (sym (ap (raw_first Outgoing) is)) ∙ sym (firsts_more Outgoing) in
-        let moved = subst (λ l. IsThreaded end (g.nodes ++ None ∷ []) l (length g.nodes) nodes_counted (length g.nodes ∷ g.vacant_nodes)) links threaded in
-        let at = subst (λ k. IsThreaded end (g.nodes ++ None ∷ []) (firsts_of Outgoing (nodes ++ x ∷ [])) k nodes_counted (k ∷ g.vacant_nodes)) (nodes_long s) moved in
-        node_slot firsts (length nodes) nodes_counted (length nodes ∷ g.vacant_nodes) (subst (λ o. IsThreaded end (g.nodes ++ o ∷ []) (firsts_of Outgoing (nodes ++ x ∷ [])) (length nodes) nodes_counted (length nodes ∷ g.vacant_nodes)) (sym none) at)
+        λ dir.
+        shown_more dir
+        ∙ ap (λ o. shown end (map weight_of nodes ++ o ∷ []) (firsts_of dir nodes ++ raw_first dir x ∷ [])) none
+        ∙ shown_push_vacant end (map weight_of nodes) (firsts_of dir nodes) (raw_first dir x)
+        (firsts_as_many weight_of dir nodes) in
+        let threaded =
+        threaded_vacant end g.nodes (firsts_of Outgoing nodes) node_head nodes_counted g.vacant_nodes s.node_slots
+        (omega (arith, index_left, nodes_long s)) in
+        let links : firsts_of Outgoing nodes ++ node_head ∷ [] ≡ firsts_of Outgoing (nodes ++ x ∷ []) =
+        ap (λ z. firsts_of Outgoing nodes ++ z ∷ []) (sym (ap (raw_first Outgoing) is)) ∙ sym (firsts_more Outgoing) in
+        let moved =
+        subst
+        (λ l. IsThreaded end (g.nodes ++ None ∷ []) l (length g.nodes) nodes_counted (length g.nodes ∷ g.vacant_nodes))
+        links threaded in
+        let at =
+        subst (λ k. IsThreaded end (g.nodes ++ None ∷ []) (firsts_of Outgoing (nodes ++ x ∷ [])) k nodes_counted
+        (k ∷ g.vacant_nodes)) (nodes_long s) moved in
+        node_slot firsts (length nodes) nodes_counted (length nodes ∷ g.vacant_nodes)
+        (subst (λ o. IsThreaded end (g.nodes ++ o ∷ []) (firsts_of Outgoing (nodes ++ x ∷ [])) (length nodes)
+        nodes_counted (length nodes ∷ g.vacant_nodes)) (sym none) at)
 
   -- one more slot of an edge, which is vacant
   pub edge_left : (y : Edge (Option E) Ix) → y.weight ≡ None → y.next_out ≡ edge_head → length edges < end
-      → Stores end nodes (edges ++ y ∷ []) node_head (length edges) nodes_counted edges_counted (record { nodes = g.nodes; edges = g.edges ++ None ∷ []; out_lists = g.out_lists; in_lists = g.in_lists; vacant_nodes = g.vacant_nodes; vacant_edges = length edges ∷ g.vacant_edges })
+      → Stores end nodes (edges ++ y ∷ []) node_head (length edges) nodes_counted edges_counted (record {
+        nodes = g.nodes;
+        edges = g.edges ++ None ∷ [];
+        out_lists = g.out_lists;
+        in_lists = g.in_lists;
+        vacant_nodes = g.vacant_nodes;
+        vacant_edges = length edges ∷ g.vacant_edges;
+      })
   edge_left y none head_is index_left =
-      let more : (dir : Direction) → nexts_of dir (edges ++ y ∷ []) ≡ nexts_of dir edges ++ raw_next dir y ∷ [] = λ dir. map_push (raw_next dir) edges y in
-      let links : (dir : Direction) → AreLinkedLists end (list_firsts end dir nodes) (nexts_of dir (edges ++ y ∷ [])) (lists_at dir g) =
-      λ dir. AreLinkedLists-kept end _ _ (nexts_of dir edges) _ (lists_at dir g) (s.linked dir) refl (λ n f p. ap (λ l. slice_get l f) (more dir) ∙ slice_get-push_old (nexts_of dir edges) (raw_next dir y) f (linked_within end _ _ (lists_at dir g) n f (s.linked dir) p)) in
-      let lists : (dir : Direction) → ListsBy (λ e. option_map (near_end dir) (slot (g.edges ++ None ∷ []) e)) (lists_at dir g) =
-      λ dir n e. let same = ap (option_map (near_end dir)) (slot_push_vacant g.edges e) in (λ p. same ∙ (s.listed dir n e).0 p, λ q. (s.listed dir n e).1 (sym same ∙ q)) in
-      let threaded = threaded_vacant end g.edges (nexts_of Outgoing edges) edge_head edges_counted g.vacant_edges s.edge_slots (omega (arith, index_left, edges_long s)) in
-      let thread : nexts_of Outgoing edges ++ edge_head ∷ [] ≡ nexts_of Outgoing (edges ++ y ∷ []) = ap (λ z. nexts_of Outgoing edges ++ z ∷ []) (sym head_is) ∙ sym (more Outgoing) in
-      let moved = subst (λ l. IsThreaded end (g.edges ++ None ∷ []) l (length g.edges) edges_counted (length g.edges ∷ g.vacant_edges)) thread threaded in
+      let more : (dir : Direction) → nexts_of dir (edges ++ y ∷ []) ≡ nexts_of dir edges ++ raw_next dir y ∷ [] = λ dir.
+      map_push (raw_next dir) edges y in
+      let links : (dir : Direction)
+      → AreLinkedLists end (list_firsts end dir nodes) (nexts_of dir (edges ++ y ∷ [])) (lists_at dir g) =
+      λ dir.
+      AreLinkedLists-kept end _ _ (nexts_of dir edges) _ (lists_at dir g) (s.linked dir) refl
+      (λ n f p. ap (λ l. slice_get l f) (more dir) ∙ slice_get-push_old (nexts_of dir edges) (raw_next dir y) f
+      (linked_within end _ _ (lists_at dir g) n f (s.linked dir) p)) in
+      let lists : (dir : Direction)
+      → ListsBy (λ e. option_map (near_end dir) (slot (g.edges ++ None ∷ []) e)) (lists_at dir g) =
+      λ dir n e. let same = ap (option_map (near_end dir)) (slot_push_vacant g.edges e) in
+      (λ p. same ∙ (s.listed dir n e).0 p, λ q. (s.listed dir n e).1 (sym same ∙ q)) in
+      let threaded =
+      threaded_vacant end g.edges (nexts_of Outgoing edges) edge_head edges_counted g.vacant_edges s.edge_slots
+      (omega (arith, index_left, edges_long s)) in
+      let thread : nexts_of Outgoing edges ++ edge_head ∷ [] ≡ nexts_of Outgoing (edges ++ y ∷ []) =
+      ap (λ z. nexts_of Outgoing edges ++ z ∷ []) (sym head_is) ∙ sym (more Outgoing) in
+      let moved =
+      subst
+      (λ l. IsThreaded end (g.edges ++ None ∷ []) l (length g.edges) edges_counted (length g.edges ∷ g.vacant_edges))
+      thread threaded in
       record {
         nodes_are = s.nodes_are;
-        edges_are = ap (λ l. l ++ None ∷ []) s.edges_are ∙ ap (λ o. map plain_edge edges ++ o ∷ []) (sym (plain_none none)) ∙ sym (map_push plain_edge edges y);
+        edges_are =
+            ap (λ l. l ++ None ∷ []) s.edges_are ∙ ap (λ o. map plain_edge edges ++ o ∷ []) (sym (plain_none none))
+            ∙ sym (map_push plain_edge edges y);
         linked = elim [ Outgoing ↦ links Outgoing | Incoming ↦ links Incoming ];
         listed = elim [ Outgoing ↦ lists Outgoing | Incoming ↦ lists Incoming ];
         node_slots = s.node_slots;
-        edge_slots = subst (λ k. IsThreaded end (g.edges ++ None ∷ []) (nexts_of Outgoing (edges ++ y ∷ [])) k edges_counted (k ∷ g.vacant_edges)) (edges_long s) moved;
+        edge_slots =
+            subst (λ k. IsThreaded end (g.edges ++ None ∷ []) (nexts_of Outgoing (edges ++ y ∷ [])) k edges_counted
+            (k ∷ g.vacant_edges)) (edges_long s) moved;
       }
     where
       plain_none : y.weight ≡ None → plain_edge y ≡ None
       plain_none p = ap (option_map (λ (w : E). record { parent = y.parent; child = y.child; weight = w })) p
 
   -- one that is taken
-  module _ (a b : ℕ) (w : E) (from into : N) (at_a : slot g.nodes a ≡ Some from) (at_b : slot g.nodes b ≡ Some into) (index_left : length edges < end) (nodes' : List (Node (Option N) Ix)) (weights : map weight_of nodes' ≡ map weight_of nodes)
-      (outs : firsts_of Outgoing nodes' ≡ set (firsts_of Outgoing nodes) a (length edges)) (ins : firsts_of Incoming nodes' ≡ set (firsts_of Incoming nodes) b (length edges)) where
+  module _ (a b : ℕ) (w : E) (from into : N) (at_a : slot g.nodes a ≡ Some from) (at_b : slot g.nodes b ≡ Some into)
+      (index_left : length edges < end) (nodes' : List (Node (Option N) Ix))
+      (weights : map weight_of nodes' ≡ map weight_of nodes)
+      (outs : firsts_of Outgoing nodes' ≡ set (firsts_of Outgoing nodes) a (length edges))
+      (ins : firsts_of Incoming nodes' ≡ set (firsts_of Incoming nodes) b (length edges)) where
     abbrev cell : Edge (Option E) Ix
-    cell = record { weight = Some w; parent = a; child = b; next_out = get_or (firsts_of Outgoing nodes) a 0; next_in = get_or (firsts_of Incoming nodes) b 0 }
+    cell = record {
+      weight = Some w;
+      parent = a;
+      child = b;
+      next_out = get_or (firsts_of Outgoing nodes) a 0;
+      next_in = get_or (firsts_of Incoming nodes) b 0;
+    }
 
     abbrev line : PlainEdge E
     line = record { parent = a; child = b; weight = w }
 
     node_slots' : IsThreaded end g.nodes (firsts_of Outgoing nodes') node_head nodes_counted g.vacant_nodes
     node_slots' =
-        rethreaded end g.nodes (firsts_of Outgoing nodes) node_head nodes_counted g.vacant_nodes s.node_slots (firsts_of Outgoing nodes') (ap length outs ∙ length-set (firsts_of Outgoing nodes) a (length edges)) (λ f p.
-        let other : f ≢ a = λ same. slot_not_vacant g.nodes a from at_a ((s.node_slots.exact a).0 (subst (Contains g.vacant_nodes) same p)) in
+        rethreaded end g.nodes (firsts_of Outgoing nodes) node_head nodes_counted g.vacant_nodes s.node_slots
+        (firsts_of Outgoing nodes') (ap length outs ∙ length-set (firsts_of Outgoing nodes) a (length edges)) (λ f p.
+        let other : f ≢ a = λ same.
+        slot_not_vacant g.nodes a from at_a ((s.node_slots.exact a).0 (subst (Contains g.vacant_nodes) same p)) in
         ap (λ l. slice_get l f) outs ∙ slice_get-set_other (firsts_of Outgoing nodes) a f (length edges) other)
 
     vacant_yet : edge_at g (length edges) ≡ None
     vacant_yet = none_past g.edges (length edges) (omega (arith, edges_long s))
 
-    side_linked : (dir : Direction) (n : ℕ) (wn : N) → slot g.nodes n ≡ Some wn → firsts_of dir nodes' ≡ set (firsts_of dir nodes) n (length edges) → raw_next dir cell ≡ get_or (firsts_of dir nodes) n 0
-        → AreLinkedLists end (list_firsts end dir nodes') (nexts_of dir (edges ++ cell ∷ [])) (set (lists_at dir g) n (length edges ∷ nth_list (lists_at dir g) n))
+    side_linked : (dir : Direction) (n : ℕ) (wn : N)
+        → slot g.nodes n ≡ Some wn → firsts_of dir nodes' ≡ set (firsts_of dir nodes) n (length edges)
+        → raw_next dir cell ≡ get_or (firsts_of dir nodes) n 0
+        → AreLinkedLists end (list_firsts end dir nodes') (nexts_of dir (edges ++ cell ∷ []))
+        (set (lists_at dir g) n (length edges ∷ nth_list (lists_at dir g) n))
     side_linked dir n wn at firsts next =
         let at' : slot (map weight_of nodes) n ≡ Some wn = ap (λ l. slot l n) (sym s.nodes_are) ∙ at in
         let is : set (list_firsts end dir nodes) n (length edges) ≡ list_firsts end dir nodes' =
-        sym (shown-set end (map weight_of nodes) (firsts_of dir nodes) n (length edges) wn at') ∙ ap (shown end (map weight_of nodes)) (sym firsts) ∙ ap (λ l. shown end l (firsts_of dir nodes')) (sym weights) in
-        let more : nexts_of dir (edges ++ cell ∷ []) ≡ nexts_of dir edges ++ raw_next dir cell ∷ [] = map_push (raw_next dir) edges cell in
+        sym (shown-set end (map weight_of nodes) (firsts_of dir nodes) n (length edges) wn at')
+        ∙ ap (shown end (map weight_of nodes)) (sym firsts)
+        ∙ ap (λ l. shown end l (firsts_of dir nodes')) (sym weights) in
+        let more : nexts_of dir (edges ++ cell ∷ []) ≡ nexts_of dir edges ++ raw_next dir cell ∷ [] =
+        map_push (raw_next dir) edges cell in
         let long : length (nexts_of dir edges) ≡ length edges = length-map edges (raw_next dir) in
-        let within : n < length (list_firsts end dir nodes) = omega (arith, firsts_long s dir, slot_inside g.nodes n wn at, nodes_long s) in
-        subst (λ z. AreLinkedLists end z (nexts_of dir (edges ++ cell ∷ [])) (set (lists_at dir g) n (length edges ∷ nth_list (lists_at dir g) n))) is
-        (AreLinkedLists-put end (list_firsts end dir nodes) (nexts_of dir edges) (nexts_of dir (edges ++ cell ∷ [])) (lists_at dir g) n (length edges) (s.linked dir) within
+        let within : n < length (list_firsts end dir nodes) =
+        omega (arith, firsts_long s dir, slot_inside g.nodes n wn at, nodes_long s) in
+        subst (λ z. AreLinkedLists end z (nexts_of dir (edges ++ cell ∷ []))
+        (set (lists_at dir g) n (length edges ∷ nth_list (lists_at dir g) n))) is
+        (AreLinkedLists-put end (list_firsts end dir nodes) (nexts_of dir edges) (nexts_of dir (edges ++ cell ∷ []))
+        (lists_at dir g) n (length edges) (s.linked dir) within
         (λ m p. none-some m (sym (ap (option_map (near_end dir)) vacant_yet) ∙ (s.listed dir m (length edges)).0 p))
-        (ap (slice_get (nexts_of dir (edges ++ cell ∷ []))) (sym long) ∙ ap (λ l. slice_get l (length (nexts_of dir edges))) more ∙ slice_get-push_new (nexts_of dir edges) (raw_next dir cell)
-        ∙ ap Some (next ∙ sym (shown_some end (map weight_of nodes) (firsts_of dir nodes) n wn (firsts_as_many weight_of dir nodes) at')))
-        (λ f other within_f. ap (λ l. slice_get l f) more ∙ slice_get-push_old (nexts_of dir edges) (raw_next dir cell) f within_f))
+        (ap (slice_get (nexts_of dir (edges ++ cell ∷ []))) (sym long)
+        ∙ ap (λ l. slice_get l (length (nexts_of dir edges))) more
+        ∙ slice_get-push_new (nexts_of dir edges) (raw_next dir cell)
+        ∙ ap Some (next ∙ sym
+        (shown_some end (map weight_of nodes) (firsts_of dir nodes) n wn (firsts_as_many weight_of dir nodes) at')))
+        (λ f other within_f.
+        ap (λ l. slice_get l f) more ∙ slice_get-push_old (nexts_of dir edges) (raw_next dir cell) f within_f))
 
-    side_listed : (dir : Direction) (n : ℕ) (wn : N) → slot g.nodes n ≡ Some wn → near_end dir line ≡ n → ListsBy (λ e. option_map (near_end dir) (slot (g.edges ++ Some line ∷ []) e)) (set (lists_at dir g) n (length edges ∷ nth_list (lists_at dir g) n))
+    side_listed : (dir : Direction) (n : ℕ) (wn : N) → slot g.nodes n ≡ Some wn → near_end dir line ≡ n
+        → ListsBy (λ e. option_map (near_end dir) (slot (g.edges ++ Some line ∷ []) e))
+        (set (lists_at dir g) n (length edges ∷ nth_list (lists_at dir g) n))
     side_listed dir n wn at is =
-        let within : n < length (lists_at dir g) = omega (arith, (s.linked dir).rows, firsts_long s dir, slot_inside g.nodes n wn at, nodes_long s) in
-        ListsBy-put (end_of dir g) _ (lists_at dir g) n (length edges) (s.listed dir) within (ap (option_map (near_end dir)) vacant_yet)
-        (ap (option_map (near_end dir)) (ap (slot (g.edges ++ Some line ∷ [])) (sym (edges_long s)) ∙ slot_push_new g.edges (Some line)) ∙ ap Some is)
-        (λ f other. ap (option_map (near_end dir)) (slot_push_other g.edges (Some line) f (λ same. other (same ∙ edges_long s))))
+        let within : n < length (lists_at dir g) =
+        omega (arith, (s.linked dir).rows, firsts_long s dir, slot_inside g.nodes n wn at, nodes_long s) in
+        ListsBy-put (end_of dir g) _ (lists_at dir g) n (length edges) (s.listed dir) within
+        (ap (option_map (near_end dir)) vacant_yet)
+        (ap (option_map (near_end dir))
+        (ap (slot (g.edges ++ Some line ∷ [])) (sym (edges_long s)) ∙ slot_push_new g.edges (Some line))
+        ∙ ap Some is)
+        (λ f other.
+        ap (option_map (near_end dir)) (slot_push_other g.edges (Some line) f (λ same. other (same ∙ edges_long s))))
 
     pub edge_taken : Stores end nodes' (edges ++ cell ∷ []) node_head edge_head nodes_counted (edges_counted + 1)
-        (record { nodes = g.nodes; edges = g.edges ++ Some line ∷ []; out_lists = set g.out_lists a (length edges ∷ nth_list g.out_lists a); in_lists = set g.in_lists b (length edges ∷ nth_list g.in_lists b); vacant_nodes = g.vacant_nodes; vacant_edges = g.vacant_edges })
+        (record {
+          nodes = g.nodes;
+          edges = g.edges ++ Some line ∷ [];
+          out_lists = set g.out_lists a (length edges ∷ nth_list g.out_lists a);
+          in_lists = set g.in_lists b (length edges ∷ nth_list g.in_lists b);
+          vacant_nodes = g.vacant_nodes;
+          vacant_edges = g.vacant_edges;
+        })
     edge_taken =
-        let threaded = threaded_taken end g.edges (nexts_of Outgoing edges) edge_head edges_counted g.vacant_edges s.edge_slots (omega (arith, index_left, edges_long s)) line (raw_next Outgoing cell) in
+        let threaded =
+        threaded_taken end g.edges (nexts_of Outgoing edges) edge_head edges_counted g.vacant_edges s.edge_slots
+        (omega (arith, index_left, edges_long s)) line (raw_next Outgoing cell) in
         record {
           nodes_are = s.nodes_are ∙ sym weights;
           edges_are = ap (λ l. l ++ Some line ∷ []) s.edges_are ∙ sym (map_push plain_edge edges cell);
-          linked = elim [ Outgoing ↦ side_linked Outgoing a from at_a outs refl | Incoming ↦ side_linked Incoming b into at_b ins refl ];
-          listed = elim [ Outgoing ↦ side_listed Outgoing a from at_a refl | Incoming ↦ side_listed Incoming b into at_b refl ];
+          linked = elim [
+            | Outgoing ↦ side_linked Outgoing a from at_a outs refl
+            | Incoming ↦ side_linked Incoming b into at_b ins refl
+          ];
+          listed = elim [
+            | Outgoing ↦ side_listed Outgoing a from at_a refl
+            | Incoming ↦ side_listed Incoming b into at_b refl
+          ];
           node_slots = node_slots';
-          edge_slots = subst (λ l. IsThreaded end (g.edges ++ Some line ∷ []) l edge_head (edges_counted + 1) g.vacant_edges) (sym (map_push (raw_next Outgoing) edges cell)) threaded;
+          edge_slots =
+              subst (λ l. IsThreaded end (g.edges ++ Some line ∷ []) l edge_head (edges_counted + 1) g.vacant_edges)
+              (sym (map_push (raw_next Outgoing) edges cell)) threaded;
         }
 
 -- what is stored is the graph that the slots make, in the words of the code
 module _ {N E Ix : Type 0} (end : ℕ) where
-  abbrev Built : List (Node (Option N) Ix) → List (Edge (Option E) Ix) → (node_head edge_head nodes_counted edges_counted : ℕ) → Type 0
-  Built nodes edges node_head edge_head n m = Stores end nodes edges node_head edge_head n m (graph_of_slots (map weight_of nodes) (map plain_edge edges))
+  abbrev Built : List (Node (Option N) Ix) → List (Edge (Option E) Ix)
+      → (node_head edge_head nodes_counted edges_counted : ℕ) → Type 0
+  Built nodes edges node_head edge_head n m =
+      Stores end nodes edges node_head edge_head n m (graph_of_slots (map weight_of nodes) (map plain_edge edges))
 
-  module _ (nodes : List (Node (Option N) Ix)) (edges : List (Edge (Option E) Ix)) (node_head edge_head n m : ℕ) (s : Built nodes edges node_head edge_head n m) where
-    pub built_node_taken : edges ≡ [] → (x : Node (Option N) Ix) (w : N) → x ≡ record { weight = Some w; first_out = end; first_in = end } → length nodes < end → Built (nodes ++ x ∷ []) edges node_head edge_head (n + 1) m
+  module _ (nodes : List (Node (Option N) Ix)) (edges : List (Edge (Option E) Ix)) (node_head edge_head n m : ℕ)
+      (s : Built nodes edges node_head edge_head n m) where
+    pub built_node_taken : edges ≡ []
+        → (x : Node (Option N) Ix) (w : N) → x ≡ record { weight = Some w; first_out = end; first_in = end }
+        → length nodes < end → Built (nodes ++ x ∷ []) edges node_head edge_head (n + 1) m
     built_node_taken none x w is index_left =
         let weights = map weight_of nodes in
         let some : x.weight ≡ Some w = ap weight_of is in
-        let vacant : vacant_down weights ≡ vacant_down (weights ++ x.weight ∷ []) = sym (vacant_down_more weights x.weight ∙ ap (λ o. cond (not (is_some o)) (length weights ∷ vacant_down weights) (vacant_down weights)) some) in
+        let vacant : vacant_down weights ≡ vacant_down (weights ++ x.weight ∷ []) =
+        sym (vacant_down_more weights x.weight
+        ∙ ap (λ o. cond (not (is_some o)) (length weights ∷ vacant_down weights) (vacant_down weights)) some) in
         subst (Stores end (nodes ++ x ∷ []) edges node_head edge_head (n + 1) m)
-        (of_slots_node weights x.weight (map plain_edge edges) (ap (map plain_edge) none) (vacant_down weights) vacant ∙ ap (λ l. graph_of_slots l (map plain_edge edges)) (sym (map_push weight_of nodes x)))
+        (of_slots_node weights x.weight (map plain_edge edges) (ap (map plain_edge) none) (vacant_down weights) vacant
+        ∙ ap (λ l. graph_of_slots l (map plain_edge edges)) (sym (map_push weight_of nodes x)))
         (node_taken s x w is index_left)
 
-    pub built_node_left : edges ≡ [] → (x : Node (Option N) Ix) (head : ℕ) → x ≡ record { weight = None; first_out = node_head; first_in = end } → head ≡ length nodes → length nodes < end → Built (nodes ++ x ∷ []) edges head edge_head n m
+    pub built_node_left : edges ≡ []
+        → (x : Node (Option N) Ix) (head : ℕ) → x ≡ record { weight = None; first_out = node_head; first_in = end }
+        → head ≡ length nodes → length nodes < end → Built (nodes ++ x ∷ []) edges head edge_head n m
     built_node_left none x head is head_is index_left =
         let weights = map weight_of nodes in
         let gone : x.weight ≡ None = ap weight_of is in
         let vacant : length nodes ∷ vacant_down weights ≡ vacant_down (weights ++ x.weight ∷ []) =
-        ap (λ k. k ∷ vacant_down weights) (sym (length-map nodes weight_of)) ∙ sym (vacant_down_more weights x.weight ∙ ap (λ o. cond (not (is_some o)) (length weights ∷ vacant_down weights) (vacant_down weights)) gone) in
+        ap (λ k. k ∷ vacant_down weights) (sym (length-map nodes weight_of))
+        ∙ sym (vacant_down_more weights x.weight
+        ∙ ap (λ o. cond (not (is_some o)) (length weights ∷ vacant_down weights) (vacant_down weights)) gone) in
         rw head_is (
         subst (Stores end (nodes ++ x ∷ []) edges (length nodes) edge_head n m)
-        (of_slots_node weights x.weight (map plain_edge edges) (ap (map plain_edge) none) (length nodes ∷ vacant_down weights) vacant ∙ ap (λ l. graph_of_slots l (map plain_edge edges)) (sym (map_push weight_of nodes x)))
+        (of_slots_node weights x.weight (map plain_edge edges) (ap (map plain_edge) none)
+        (length nodes ∷ vacant_down weights) vacant
+        ∙ ap (λ l. graph_of_slots l (map plain_edge edges)) (sym (map_push weight_of nodes x)))
         (node_left s x is index_left))
 
-    pub built_edge_left : (y : Edge (Option E) Ix) (head : ℕ) → y.weight ≡ None → y.next_out ≡ edge_head → head ≡ length edges → length edges < end → Built nodes (edges ++ y ∷ []) node_head head n m
+    pub built_edge_left : (y : Edge (Option E) Ix) (head : ℕ) → y.weight ≡ None → y.next_out ≡ edge_head
+        → head ≡ length edges → length edges < end → Built nodes (edges ++ y ∷ []) node_head head n m
     built_edge_left y head none next head_is index_left =
         let weights = map weight_of nodes in
-        let shown_as : map plain_edge edges ++ None ∷ [] ≡ map plain_edge (edges ++ y ∷ []) = ap (λ o. map plain_edge edges ++ o ∷ []) (sym (ap (option_map (λ (w : E). record { parent = y.parent; child = y.child; weight = w })) none)) ∙ sym (map_push plain_edge edges y) in
+        let shown_as : map plain_edge edges ++ None ∷ [] ≡ map plain_edge (edges ++ y ∷ []) =
+        ap (λ o. map plain_edge edges ++ o ∷ [])
+        (sym (ap (option_map (λ (w : E). record { parent = y.parent; child = y.child; weight = w })) none))
+        ∙ sym (map_push plain_edge edges y) in
         rw head_is (
         subst (Stores end nodes (edges ++ y ∷ []) node_head (length edges) n m)
-        (of_slots_left weights (map plain_edge edges) (length edges) (sym (length-map edges plain_edge)) ∙ ap (graph_of_slots weights) shown_as)
+        (of_slots_left weights (map plain_edge edges) (length edges) (sym (length-map edges plain_edge))
+        ∙ ap (graph_of_slots weights) shown_as)
         (edge_left s y none next index_left))
 
-    pub built_edge_taken : (a b : ℕ) (w : E) (y : Edge (Option E) Ix) (e : ℕ) (nodes' : List (Node (Option N) Ix)) → IsSome (slot (map weight_of nodes) a) → IsSome (slot (map weight_of nodes) b) → length edges < end → e ≡ length edges
-        → y ≡ record { weight = Some w; parent = a; child = b; next_out = get_or (firsts_of Outgoing nodes) a 0; next_in = get_or (firsts_of Incoming nodes) b 0 }
-        → map weight_of nodes' ≡ map weight_of nodes → firsts_of Outgoing nodes' ≡ set (firsts_of Outgoing nodes) a e → firsts_of Incoming nodes' ≡ set (firsts_of Incoming nodes) b e → Built nodes' (edges ++ y ∷ []) node_head edge_head n (m + 1)
+    pub built_edge_taken : (a b : ℕ) (w : E) (y : Edge (Option E) Ix) (e : ℕ) (nodes' : List (Node (Option N) Ix))
+        → IsSome (slot (map weight_of nodes) a) → IsSome (slot (map weight_of nodes) b) → length edges < end
+        → e ≡ length edges
+        → y ≡ record {
+          weight = Some w;
+          parent = a;
+          child = b;
+          next_out = get_or (firsts_of Outgoing nodes) a 0;
+          next_in = get_or (firsts_of Incoming nodes) b 0;
+        }
+        → map weight_of nodes' ≡ map weight_of nodes → firsts_of Outgoing nodes' ≡ set (firsts_of Outgoing nodes) a e
+        → firsts_of Incoming nodes' ≡ set (firsts_of Incoming nodes) b e
+        → Built nodes' (edges ++ y ∷ []) node_head edge_head n (m + 1)
     built_edge_taken a b w y e nodes' has_a has_b index_left e_is is weights outs ins =
         let old = map weight_of nodes in
-        let cell : Edge (Option E) Ix = record { weight = Some w; parent = a; child = b; next_out = get_or (firsts_of Outgoing nodes) a 0; next_in = get_or (firsts_of Incoming nodes) b 0 } in
+        let cell : Edge (Option E) Ix = record {
+          weight = Some w;
+          parent = a;
+          child = b;
+          next_out = get_or (firsts_of Outgoing nodes) a 0;
+          next_in = get_or (firsts_of Incoming nodes) b 0;
+        } in
         let from = some_is (slot old a) has_a in
         let into = some_is (slot old b) has_b in
-        let whole = edge_taken s a b w from.0 into.0 from.1 into.1 index_left nodes' weights (outs ∙ ap (set (firsts_of Outgoing nodes) a) e_is) (ins ∙ ap (set (firsts_of Incoming nodes) b) e_is) in
+        let whole =
+        edge_taken s a b w from.0 into.0 from.1 into.1 index_left nodes' weights
+        (outs ∙ ap (set (firsts_of Outgoing nodes) a) e_is) (ins ∙ ap (set (firsts_of Incoming nodes) b) e_is) in
         rw is (
         subst (Stores end nodes' (edges ++ cell ∷ []) node_head edge_head n (m + 1))
-        (of_slots_taken old (map plain_edge edges) a b w (length edges) (sym (length-map edges plain_edge)) (slot_inside old a from.0 from.1) (slot_inside old b into.0 into.1)
-        ∙ ap (graph_of_slots old) (sym (map_push plain_edge edges cell)) ∙ ap (λ l. graph_of_slots l (map plain_edge (edges ++ cell ∷ []))) (sym weights))
+        (of_slots_taken old (map plain_edge edges) a b w (length edges) (sym (length-map edges plain_edge))
+        (slot_inside old a from.0 from.1) (slot_inside old b into.0 into.1)
+        ∙ ap (graph_of_slots old) (sym (map_push plain_edge edges cell))
+        ∙ ap (λ l. graph_of_slots l (map plain_edge (edges ++ cell ∷ []))) (sym weights))
         whole)

@@ -1,5 +1,6 @@
 -- What each change of nodes and edges makes of what is stored.
-use Rattle.std.proofs.Common.{◌≡◌, ◌≢◌, ℕ, zero, suc, ◌+◌, ◌<◌, ◌≤◌, List, [], ◌∷◌, ◌++◌, map, length, get_or, set, Option, Some, None, IsSome, slice_get, refl, sym, ap, subst, ◌∙◌, arith, Contains}
+use Rattle.std.proofs.Common.{◌≡◌, ◌≢◌, ℕ, zero, suc, ◌+◌, ◌<◌, ◌≤◌, List, [], ◌∷◌, ◌++◌, map, length, get_or, set}
+use Rattle.std.proofs.Common.{Option, Some, None, IsSome, slice_get, refl, sym, ap, subst, ◌∙◌, arith, Contains}
 use Rattle.std.specs.Option.{option_map, option_and_then}
 use Rattle.std.proofs.lemmas.List.{length-set, length_push, length-map, map-set, map_push, set-get_or}
 use Rattle.std.proofs.lemmas.Option.{none-some, unwrap_or-slice_get}
@@ -14,11 +15,13 @@ use Rattle.daggy_cells.specs.declared.cell.Edge.{Edge}
 use Rattle.daggy_cells.specs.Links.{nth_list, AreLinkedLists, ListsBy}
 use Rattle.daggy_cells.specs.Raw.{raw_first, raw_next}
 use Rattle.daggy_cells.specs.Fields.{firsts_of, nexts_of, lists_at}
-use Rattle.daggy_base.proofs.Lists.{slice_get-set_other, slice_get-set_same, slice_get-push_other, slice_get-push_old, slice_get-push_new, slice_get_mapped}
+use Rattle.daggy_base.proofs.Lists.{slice_get-set_other, slice_get-set_same, slice_get-push_other, slice_get-push_old}
+use Rattle.daggy_base.proofs.Lists.{slice_get-push_new, slice_get_mapped}
 use Rattle.daggy_cells.proofs.LinkedListChanges.{row_push, AreLinkedLists-node, AreLinkedLists-put, ListsBy-put}
 use Rattle.daggy_cells.proofs.FieldLemmas.{firsts_as_many}
 use Rattle.daggy_stable.specs.Stored.{weight_of, plain_edge, shown, list_firsts, end_of, IsThreaded, Stores}
-use Rattle.daggy_stable.proofs.Slots.{made, filled, rethreaded, slot_not_vacant, counted_full, vacant_none, vacant_some, vacant_inside}
+use Rattle.daggy_stable.proofs.Slots.{made, filled, rethreaded, slot_not_vacant, counted_full, vacant_none, vacant_some}
+use Rattle.daggy_stable.proofs.Slots.{vacant_inside}
 use Rattle.daggy_stable.proofs.Shown.{shown_some, shown-set, shown-fill, shown_push}
 use Rattle.daggy_stable.proofs.Stores.{nodes_long, edges_long, firsts_long, none_shown, some_is}
 
@@ -26,252 +29,440 @@ use Rattle.daggy_stable.proofs.Stores.{nodes_long, edges_long, firsts_long, none
 abbrev pub fresh_node : {N Ix : Type 0} → (end : ℕ) → N → Node (Option N) Ix
 fresh_node end w = record { weight = Some w; first_out = end; first_in = end }
 
-raw_fresh : {N : Type 0} (Ix : Type 0) (dir : Direction) (end : ℕ) (w : N) → raw_first {N = Option N} {Ix = Ix} dir (fresh_node end w) ≡ end
+raw_fresh : {N : Type 0} (Ix : Type 0) (dir : Direction) (end : ℕ) (w : N)
+    → raw_first {N = Option N} {Ix = Ix} dir (fresh_node end w) ≡ end
 raw_fresh Ix Outgoing end w = refl
 raw_fresh Ix Incoming end w = refl
 
 set_empty : (lists : List (List ℕ)) (n : ℕ) → nth_list lists n ≡ [] → set lists n [] ≡ lists
 set_empty lists n empty = ap (set lists n) (sym empty ∙ unwrap_or-slice_get lists n []) ∙ set-get_or lists n []
 
-slot_taken_other : {A : Type 0} (xs : List (Option A)) (vacant : List ℕ) (x : A) (i : ℕ) → i ≢ next_slot xs vacant → slot (with_slot_filled xs vacant (Some x)) i ≡ slot xs i
+slot_taken_other : {A : Type 0} (xs : List (Option A)) (vacant : List ℕ) (x : A) (i : ℕ)
+    → i ≢ next_slot xs vacant → slot (with_slot_filled xs vacant (Some x)) i ≡ slot xs i
 slot_taken_other xs [] x i other = ap (option_and_then (λ z. z)) (slice_get-push_other xs (Some x) i other)
 slot_taken_other xs (v ∷ vs) x i other = ap (option_and_then (λ z. z)) (slice_get-set_other xs v i (Some x) other)
 
-slot_in : {N Ix : Type 0} (cells : List (Node (Option N) Ix)) (i : ℕ) (y : N) → slot (map weight_of cells) i ≡ Some y → i < length cells
+slot_in : {N Ix : Type 0} (cells : List (Node (Option N) Ix)) (i : ℕ) (y : N)
+    → slot (map weight_of cells) i ≡ Some y → i < length cells
 slot_in [] i y p = absurd (none-some y p)
 slot_in (c ∷ cs) zero y p = omega arith
 slot_in (c ∷ cs) (suc i) y p = let more = slot_in cs i y p in omega (arith, more)
 
-module _ {N E Ix : Type 0} {end : ℕ} {nodes : List (Node (Option N) Ix)} {edges : List (Edge (Option E) Ix)} {node_head edge_head nodes_counted edges_counted : ℕ} {g : Graph N E} (s : Stores end nodes edges node_head edge_head nodes_counted edges_counted g) where
+module _ {N E Ix : Type 0} {end : ℕ} {nodes : List (Node (Option N) Ix)} {edges : List (Edge (Option E) Ix)}
+    {node_head edge_head nodes_counted edges_counted : ℕ} {g : Graph N E}
+    (s : Stores end nodes edges node_head edge_head nodes_counted edges_counted g) where
   -- one more node, in a new slot
-  pub node_made : (w : N) → g.vacant_nodes ≡ [] → nodes_counted < end → Stores end (nodes ++ fresh_node end w ∷ []) edges node_head edge_head (suc nodes_counted) edges_counted (with_node g w)
+  pub node_made : (w : N) → g.vacant_nodes ≡ [] → nodes_counted < end
+      → Stores end (nodes ++ fresh_node end w ∷ []) edges node_head edge_head (suc nodes_counted) edges_counted
+      (with_node g w)
   node_made w none index_left =
       let x : Node (Option N) Ix = fresh_node end w in
-      let t : IsThreaded end g.nodes (firsts_of Outgoing nodes) node_head nodes_counted [] = subst (IsThreaded end g.nodes (firsts_of Outgoing nodes) node_head nodes_counted) none s.node_slots in
+      let t : IsThreaded end g.nodes (firsts_of Outgoing nodes) node_head nodes_counted [] =
+      subst (IsThreaded end g.nodes (firsts_of Outgoing nodes) node_head nodes_counted) none s.node_slots in
       let full = counted_full end g.nodes (firsts_of Outgoing nodes) node_head nodes_counted t in
       let firsts : (dir : Direction) → list_firsts end dir nodes ++ end ∷ [] ≡ list_firsts end dir (nodes ++ x ∷ []) =
-      λ dir. sym (ap (λ l. shown end l (firsts_of dir (nodes ++ x ∷ []))) (map_push weight_of nodes x) ∙ ap (shown end (map weight_of nodes ++ Some w ∷ [])) (map_push (raw_first dir) nodes x ∙ ap (λ z. firsts_of dir nodes ++ z ∷ []) (raw_fresh Ix dir end w))
+      λ dir.
+      sym (ap (λ l. shown end l (firsts_of dir (nodes ++ x ∷ []))) (map_push weight_of nodes x)
+      ∙ ap (shown end (map weight_of nodes ++ Some w ∷ []))
+      (map_push (raw_first dir) nodes x ∙ ap (λ z. firsts_of dir nodes ++ z ∷ []) (raw_fresh Ix dir end w))
       ∙ shown_push end (map weight_of nodes) (firsts_of dir nodes) w end (firsts_as_many weight_of dir nodes)) in
-      let links : (dir : Direction) → AreLinkedLists end (list_firsts end dir (nodes ++ x ∷ [])) (nexts_of dir edges) (lists_at dir g ++ [] ∷ []) =
-      λ dir. subst (λ z. AreLinkedLists end z (nexts_of dir edges) (lists_at dir g ++ [] ∷ [])) (firsts dir) (AreLinkedLists-node end _ _ _ (s.linked dir)) in
-      let lists : (dir : Direction) → ListsBy (end_of dir g) (lists_at dir g ++ [] ∷ []) = λ dir n e. rw (row_push (lists_at dir g) n) (s.listed dir n e) in
-      let long : length (firsts_of Outgoing (nodes ++ x ∷ [])) ≡ suc (length g.nodes) = omega (arith, length-map (nodes ++ x ∷ []) (raw_first Outgoing), length_push nodes x, nodes_long s) in
+      let links : (dir : Direction)
+      → AreLinkedLists end (list_firsts end dir (nodes ++ x ∷ [])) (nexts_of dir edges) (lists_at dir g ++ [] ∷ []) =
+      λ dir.
+      subst (λ z. AreLinkedLists end z (nexts_of dir edges) (lists_at dir g ++ [] ∷ [])) (firsts dir)
+      (AreLinkedLists-node end _ _ _ (s.linked dir)) in
+      let lists : (dir : Direction) → ListsBy (end_of dir g) (lists_at dir g ++ [] ∷ []) = λ dir n e.
+      rw (row_push (lists_at dir g) n) (s.listed dir n e) in
+      let long : length (firsts_of Outgoing (nodes ++ x ∷ [])) ≡ suc (length g.nodes) =
+      omega (arith, length-map (nodes ++ x ∷ []) (raw_first Outgoing), length_push nodes x, nodes_long s) in
       rw none (
       record {
         nodes_are = ap (λ l. l ++ Some w ∷ []) s.nodes_are ∙ sym (map_push weight_of nodes x);
         edges_are = s.edges_are;
         linked = elim [ Outgoing ↦ links Outgoing | Incoming ↦ links Incoming ];
         listed = elim [ Outgoing ↦ lists Outgoing | Incoming ↦ lists Incoming ];
-        node_slots = made end g.nodes (firsts_of Outgoing nodes) node_head nodes_counted t w (omega (arith, index_left, full)) (firsts_of Outgoing (nodes ++ x ∷ [])) long;
+        node_slots =
+            made end g.nodes (firsts_of Outgoing nodes) node_head nodes_counted t w (omega (arith, index_left, full))
+            (firsts_of Outgoing (nodes ++ x ∷ [])) long;
         edge_slots = s.edge_slots;
       })
 
   -- one more node, in the slot vacated last
-  pub node_filled : (w : N) (v : ℕ) (vs : List ℕ) (head' : ℕ) → g.vacant_nodes ≡ v ∷ vs → slice_get (firsts_of Outgoing nodes) v ≡ Some head'
-      → Stores end (set nodes v (fresh_node end w)) edges head' edge_head (suc nodes_counted) edges_counted (with_node g w)
+  pub node_filled : (w : N) (v : ℕ) (vs : List ℕ) (head' : ℕ)
+      → g.vacant_nodes ≡ v ∷ vs → slice_get (firsts_of Outgoing nodes) v ≡ Some head'
+      → Stores end (set nodes v (fresh_node end w)) edges head' edge_head (suc nodes_counted) edges_counted
+      (with_node g w)
   node_filled w v vs head' some goes =
       let x : Node (Option N) Ix = fresh_node end w in
-      let t : IsThreaded end g.nodes (firsts_of Outgoing nodes) node_head nodes_counted (v ∷ vs) = subst (IsThreaded end g.nodes (firsts_of Outgoing nodes) node_head nodes_counted) some s.node_slots in
+      let t : IsThreaded end g.nodes (firsts_of Outgoing nodes) node_head nodes_counted (v ∷ vs) =
+      subst (IsThreaded end g.nodes (firsts_of Outgoing nodes) node_head nodes_counted) some s.node_slots in
       let vacant : slice_get g.nodes v ≡ Some None = (t.exact v).0 (0, omega arith, refl) in
-      let vacant' : slice_get (map weight_of nodes) v ≡ Some None = ap (λ l. slice_get l v) (sym s.nodes_are) ∙ vacant in
-      let written : (dir : Direction) → firsts_of dir (set nodes v x) ≡ set (firsts_of dir nodes) v end = λ dir. map-set (raw_first dir) nodes v x ∙ ap (set (firsts_of dir nodes) v) (raw_fresh Ix dir end w) in
+      let vacant' : slice_get (map weight_of nodes) v ≡ Some None =
+      ap (λ l. slice_get l v) (sym s.nodes_are) ∙ vacant in
+      let written : (dir : Direction) → firsts_of dir (set nodes v x) ≡ set (firsts_of dir nodes) v end = λ dir.
+      map-set (raw_first dir) nodes v x ∙ ap (set (firsts_of dir nodes) v) (raw_fresh Ix dir end w) in
       let firsts : (dir : Direction) → list_firsts end dir nodes ≡ list_firsts end dir (set nodes v x) =
-      λ dir. sym (ap (λ l. shown end l (firsts_of dir (set nodes v x))) (map-set weight_of nodes v x) ∙ ap (shown end (set (map weight_of nodes) v (Some w))) (written dir) ∙ shown-fill end (map weight_of nodes) (firsts_of dir nodes) v w vacant') in
-      let empty : (dir : Direction) → lists_at dir g ≡ set (lists_at dir g) v [] = λ dir. sym (set_empty (lists_at dir g) v (none_shown s dir v (ap (option_and_then (λ z. z)) vacant))) in
-      let links : (dir : Direction) → AreLinkedLists end (list_firsts end dir (set nodes v x)) (nexts_of dir edges) (set (lists_at dir g) v []) =
-      λ dir. subst (λ z. AreLinkedLists end z (nexts_of dir edges) (set (lists_at dir g) v [])) (firsts dir) (subst (AreLinkedLists end (list_firsts end dir nodes) (nexts_of dir edges)) (empty dir) (s.linked dir)) in
-      let lists : (dir : Direction) → ListsBy (end_of dir g) (set (lists_at dir g) v []) = λ dir. subst (ListsBy (end_of dir g)) (empty dir) (s.listed dir) in
-      let kept : (f : ℕ) → Contains vs f → slice_get (firsts_of Outgoing (set nodes v x)) f ≡ slice_get (firsts_of Outgoing nodes) f =
-      λ f p. ap (λ l. slice_get l f) (written Outgoing) ∙ slice_get-set_other (firsts_of Outgoing nodes) v f end (λ same. t.linked.distinct.0 (subst (Contains vs) same p)) in
-      let long : length (firsts_of Outgoing (set nodes v x)) ≡ length (firsts_of Outgoing nodes) = ap length (written Outgoing) ∙ length-set (firsts_of Outgoing nodes) v end in
+      λ dir.
+      sym (ap (λ l. shown end l (firsts_of dir (set nodes v x))) (map-set weight_of nodes v x)
+      ∙ ap (shown end (set (map weight_of nodes) v (Some w))) (written dir)
+      ∙ shown-fill end (map weight_of nodes) (firsts_of dir nodes) v w vacant') in
+      let empty : (dir : Direction) → lists_at dir g ≡ set (lists_at dir g) v [] = λ dir.
+      sym (set_empty (lists_at dir g) v (none_shown s dir v (ap (option_and_then (λ z. z)) vacant))) in
+      let links : (dir : Direction)
+      → AreLinkedLists end (list_firsts end dir (set nodes v x)) (nexts_of dir edges) (set (lists_at dir g) v []) =
+      λ dir.
+      subst (λ z. AreLinkedLists end z (nexts_of dir edges) (set (lists_at dir g) v [])) (firsts dir)
+      (subst (AreLinkedLists end (list_firsts end dir nodes) (nexts_of dir edges)) (empty dir) (s.linked dir)) in
+      let lists : (dir : Direction) → ListsBy (end_of dir g) (set (lists_at dir g) v []) = λ dir.
+      subst (ListsBy (end_of dir g)) (empty dir) (s.listed dir) in
+      let kept : (f : ℕ)
+      → Contains vs f → slice_get (firsts_of Outgoing (set nodes v x)) f ≡ slice_get (firsts_of Outgoing nodes) f =
+      λ f p.
+      ap (λ l. slice_get l f) (written Outgoing)
+      ∙ slice_get-set_other (firsts_of Outgoing nodes) v f end
+      (λ same. t.linked.distinct.0 (subst (Contains vs) same p)) in
+      let long : length (firsts_of Outgoing (set nodes v x)) ≡ length (firsts_of Outgoing nodes) =
+      ap length (written Outgoing) ∙ length-set (firsts_of Outgoing nodes) v end in
       rw some (
       record {
         nodes_are = ap (λ l. set l v (Some w)) s.nodes_are ∙ sym (map-set weight_of nodes v x);
         edges_are = s.edges_are;
         linked = elim [ Outgoing ↦ links Outgoing | Incoming ↦ links Incoming ];
         listed = elim [ Outgoing ↦ lists Outgoing | Incoming ↦ lists Incoming ];
-        node_slots = filled end g.nodes (firsts_of Outgoing nodes) node_head nodes_counted v vs t w (firsts_of Outgoing (set nodes v x)) head' long kept goes;
+        node_slots =
+            filled end g.nodes (firsts_of Outgoing nodes) node_head nodes_counted v vs t w
+            (firsts_of Outgoing (set nodes v x)) head' long kept goes;
         edge_slots = s.edge_slots;
       })
 
   -- one more edge
   module _ (u v : ℕ) (w : E) (from into : N) (at_u : slot g.nodes u ≡ Some from) (at_v : slot g.nodes v ≡ Some into)
-      (nodes' : List (Node (Option N) Ix)) (weights : map weight_of nodes' ≡ map weight_of nodes) (outs : firsts_of Outgoing nodes' ≡ set (firsts_of Outgoing nodes) u (next_edge g)) (ins : firsts_of Incoming nodes' ≡ set (firsts_of Incoming nodes) v (next_edge g)) where
+      (nodes' : List (Node (Option N) Ix)) (weights : map weight_of nodes' ≡ map weight_of nodes)
+      (outs : firsts_of Outgoing nodes' ≡ set (firsts_of Outgoing nodes) u (next_edge g))
+      (ins : firsts_of Incoming nodes' ≡ set (firsts_of Incoming nodes) v (next_edge g)) where
     abbrev new : PlainEdge E
     new = record { parent = u; child = v; weight = w }
 
     edge_slots_vacant : slot g.edges (next_edge g) ≡ None
-    edge_slots_vacant = next_is_free g.edges g.vacant_edges (free_slots g.edges g.vacant_edges (record { exact = s.edge_slots.exact; once = s.edge_slots.linked.distinct }))
+    edge_slots_vacant =
+        next_is_free g.edges g.vacant_edges
+        (free_slots g.edges g.vacant_edges (record { exact = s.edge_slots.exact; once = s.edge_slots.linked.distinct }))
 
     node_slots' : IsThreaded end g.nodes (firsts_of Outgoing nodes') node_head nodes_counted g.vacant_nodes
     node_slots' =
-        rethreaded end g.nodes (firsts_of Outgoing nodes) node_head nodes_counted g.vacant_nodes s.node_slots (firsts_of Outgoing nodes') (ap length outs ∙ length-set (firsts_of Outgoing nodes) u (next_edge g)) (λ f p.
-        let other : f ≢ u = λ same. slot_not_vacant g.nodes u from at_u ((s.node_slots.exact u).0 (subst (Contains g.vacant_nodes) same p)) in
+        rethreaded end g.nodes (firsts_of Outgoing nodes) node_head nodes_counted g.vacant_nodes s.node_slots
+        (firsts_of Outgoing nodes') (ap length outs ∙ length-set (firsts_of Outgoing nodes) u (next_edge g)) (λ f p.
+        let other : f ≢ u = λ same.
+        slot_not_vacant g.nodes u from at_u ((s.node_slots.exact u).0 (subst (Contains g.vacant_nodes) same p)) in
         ap (λ l. slice_get l f) outs ∙ slice_get-set_other (firsts_of Outgoing nodes) u f (next_edge g) other)
 
-    module _ (edges' : List (Edge (Option E) Ix)) (edges_are' : map plain_edge edges' ≡ with_slot_filled g.edges g.vacant_edges (Some (record { parent = u; child = v; weight = w })))
-        (old_links : (dir : Direction) (f : ℕ) → f ≢ next_edge g → f < length edges → slice_get (nexts_of dir edges') f ≡ slice_get (nexts_of dir edges) f) where
-      one_side : (dir : Direction) (n : ℕ) (wn : N) → slot g.nodes n ≡ Some wn → firsts_of dir nodes' ≡ set (firsts_of dir nodes) n (next_edge g) → slice_get (nexts_of dir edges') (next_edge g) ≡ Some (get_or (firsts_of dir nodes) n 0)
-          → AreLinkedLists end (list_firsts end dir nodes') (nexts_of dir edges') (set (lists_at dir g) n (next_edge g ∷ nth_list (lists_at dir g) n))
+    module _ (edges' : List (Edge (Option E) Ix)) (edges_are' : map plain_edge edges'
+        ≡ with_slot_filled g.edges g.vacant_edges (Some (record { parent = u; child = v; weight = w })))
+        (old_links : (dir : Direction) (f : ℕ) → f ≢ next_edge g → f < length edges
+        → slice_get (nexts_of dir edges') f ≡ slice_get (nexts_of dir edges) f) where
+      one_side : (dir : Direction) (n : ℕ) (wn : N)
+          → slot g.nodes n ≡ Some wn → firsts_of dir nodes' ≡ set (firsts_of dir nodes) n (next_edge g)
+          → slice_get (nexts_of dir edges') (next_edge g) ≡ Some (get_or (firsts_of dir nodes) n 0)
+          → AreLinkedLists end (list_firsts end dir nodes') (nexts_of dir edges')
+          (set (lists_at dir g) n (next_edge g ∷ nth_list (lists_at dir g) n))
       one_side dir n wn at firsts new_link =
           let at' : slot (map weight_of nodes) n ≡ Some wn = ap (λ l. slot l n) (sym s.nodes_are) ∙ at in
           let is : set (list_firsts end dir nodes) n (next_edge g) ≡ list_firsts end dir nodes' =
-          sym (shown-set end (map weight_of nodes) (firsts_of dir nodes) n (next_edge g) wn at') ∙ ap (shown end (map weight_of nodes)) (sym firsts) ∙ ap (λ l. shown end l (firsts_of dir nodes')) (sym weights) in
-          let within : n < length (list_firsts end dir nodes) = omega (arith, firsts_long s dir, slot_in nodes n wn at') in
-          subst (λ z. AreLinkedLists end z (nexts_of dir edges') (set (lists_at dir g) n (next_edge g ∷ nth_list (lists_at dir g) n))) is
-          (AreLinkedLists-put end (list_firsts end dir nodes) (nexts_of dir edges) (nexts_of dir edges') (lists_at dir g) n (next_edge g) (s.linked dir) within
-          (λ m p. none-some m (sym (ap (option_map (near_end dir)) edge_slots_vacant) ∙ (s.listed dir m (next_edge g)).0 p))
-          (new_link ∙ ap Some (sym (shown_some end (map weight_of nodes) (firsts_of dir nodes) n wn (firsts_as_many weight_of dir nodes) at')))
+          sym (shown-set end (map weight_of nodes) (firsts_of dir nodes) n (next_edge g) wn at')
+          ∙ ap (shown end (map weight_of nodes)) (sym firsts)
+          ∙ ap (λ l. shown end l (firsts_of dir nodes')) (sym weights) in
+          let within : n < length (list_firsts end dir nodes) =
+          omega (arith, firsts_long s dir, slot_in nodes n wn at') in
+          subst (λ z. AreLinkedLists end z (nexts_of dir edges')
+          (set (lists_at dir g) n (next_edge g ∷ nth_list (lists_at dir g) n))) is
+          (AreLinkedLists-put end (list_firsts end dir nodes) (nexts_of dir edges) (nexts_of dir edges')
+          (lists_at dir g) n (next_edge g) (s.linked dir) within
+          (λ m p.
+          none-some m (sym (ap (option_map (near_end dir)) edge_slots_vacant) ∙ (s.listed dir m (next_edge g)).0 p))
+          (new_link
+          ∙ ap Some (sym
+          (shown_some end (map weight_of nodes) (firsts_of dir nodes) n wn (firsts_as_many weight_of dir nodes) at')))
           (λ f other inside. old_links dir f other (omega (arith, inside, length-map edges (raw_next dir)))))
 
-      side_listed : (dir : Direction) (n : ℕ) (wn : N) → slot g.nodes n ≡ Some wn → near_end dir new ≡ n → ListsBy (λ e. option_map (near_end dir) (slot (with_slot_filled g.edges g.vacant_edges (Some (record { parent = u; child = v; weight = w }))) e)) (set (lists_at dir g) n (next_edge g ∷ nth_list (lists_at dir g) n))
+      side_listed : (dir : Direction) (n : ℕ) (wn : N) → slot g.nodes n ≡ Some wn → near_end dir new ≡ n
+          → ListsBy (λ e. option_map (near_end dir)
+          (slot (with_slot_filled g.edges g.vacant_edges (Some (record { parent = u; child = v; weight = w }))) e))
+          (set (lists_at dir g) n (next_edge g ∷ nth_list (lists_at dir g) n))
       side_listed dir n wn at is =
-          let free = free_slots g.edges g.vacant_edges (record { exact = s.edge_slots.exact; once = s.edge_slots.linked.distinct }) in
-          let within : n < length (lists_at dir g) = omega (arith, (s.linked dir).rows, firsts_long s dir, slot_in nodes n wn (ap (λ l. slot l n) (sym s.nodes_are) ∙ at)) in
-          ListsBy-put (end_of dir g) _ (lists_at dir g) n (next_edge g) (s.listed dir) within (ap (option_map (near_end dir)) edge_slots_vacant)
-          (ap (option_map (near_end dir)) (slot_taken_new g.edges g.vacant_edges new free) ∙ ap Some is) (λ f other. ap (option_map (near_end dir)) (slot_taken_other g.edges g.vacant_edges new f other))
+          let free =
+          free_slots g.edges g.vacant_edges
+          (record { exact = s.edge_slots.exact; once = s.edge_slots.linked.distinct }) in
+          let within : n < length (lists_at dir g) =
+          omega (
+            arith,
+            (s.linked dir).rows,
+            firsts_long s dir,
+            slot_in nodes n wn (ap (λ l. slot l n) (sym s.nodes_are) ∙ at),
+          ) in
+          ListsBy-put (end_of dir g) _ (lists_at dir g) n (next_edge g) (s.listed dir) within
+          (ap (option_map (near_end dir)) edge_slots_vacant)
+          (ap (option_map (near_end dir)) (slot_taken_new g.edges g.vacant_edges new free) ∙ ap Some is)
+          (λ f other. ap (option_map (near_end dir)) (slot_taken_other g.edges g.vacant_edges new f other))
 
-      pub edge_put : slice_get (nexts_of Outgoing edges') (next_edge g) ≡ Some (get_or (firsts_of Outgoing nodes) u 0) → slice_get (nexts_of Incoming edges') (next_edge g) ≡ Some (get_or (firsts_of Incoming nodes) v 0)
-          → (edge_head' edges_counted' : ℕ) → IsThreaded end (with_slot_filled g.edges g.vacant_edges (Some (record { parent = u; child = v; weight = w }))) (nexts_of Outgoing edges') edge_head' edges_counted' (remaining_vacant g.vacant_edges)
+      pub edge_put : slice_get (nexts_of Outgoing edges') (next_edge g) ≡ Some (get_or (firsts_of Outgoing nodes) u 0)
+          → slice_get (nexts_of Incoming edges') (next_edge g) ≡ Some (get_or (firsts_of Incoming nodes) v 0)
+          → (edge_head' edges_counted' : ℕ)
+          → IsThreaded end
+          (with_slot_filled g.edges g.vacant_edges (Some (record { parent = u; child = v; weight = w })))
+          (nexts_of Outgoing edges') edge_head' edges_counted' (remaining_vacant g.vacant_edges)
           → Stores end nodes' edges' node_head edge_head' nodes_counted edges_counted' (with_edge g u v w)
       edge_put out_link in_link edge_head' edges_counted' threaded =
           record {
             nodes_are = s.nodes_are ∙ sym weights;
             edges_are = sym edges_are';
-            linked = elim [ Outgoing ↦ one_side Outgoing u from at_u outs out_link | Incoming ↦ one_side Incoming v into at_v ins in_link ];
-            listed = elim [ Outgoing ↦ side_listed Outgoing u from at_u refl | Incoming ↦ side_listed Incoming v into at_v refl ];
+            linked = elim [
+              | Outgoing ↦ one_side Outgoing u from at_u outs out_link
+              | Incoming ↦ one_side Incoming v into at_v ins in_link
+            ];
+            listed = elim [
+              | Outgoing ↦ side_listed Outgoing u from at_u refl
+              | Incoming ↦ side_listed Incoming v into at_v refl
+            ];
             node_slots = node_slots';
             edge_slots = threaded;
           }
 
 -- in the words of the code
 
-module _ {N E Ix : Type 0} {end : ℕ} {nodes : List (Node (Option N) Ix)} {edges : List (Edge (Option E) Ix)} {node_head edge_head nodes_counted edges_counted : ℕ} {g : Graph N E} (s : Stores end nodes edges node_head edge_head nodes_counted edges_counted g) where
+module _ {N E Ix : Type 0} {end : ℕ} {nodes : List (Node (Option N) Ix)} {edges : List (Edge (Option E) Ix)}
+    {node_head edge_head nodes_counted edges_counted : ℕ} {g : Graph N E}
+    (s : Stores end nodes edges node_head edge_head nodes_counted edges_counted g) where
   pub node_none : length nodes ≤ node_head → g.vacant_nodes ≡ []
-  node_none past = vacant_none end g.nodes (firsts_of Outgoing nodes) node_head nodes_counted g.vacant_nodes s.node_slots (omega (arith, past, nodes_long s))
+  node_none past =
+      vacant_none end g.nodes (firsts_of Outgoing nodes) node_head nodes_counted g.vacant_nodes s.node_slots
+      (omega (arith, past, nodes_long s))
 
   pub edge_none : length edges ≤ edge_head → g.vacant_edges ≡ []
-  edge_none past = vacant_none end g.edges (nexts_of Outgoing edges) edge_head edges_counted g.vacant_edges s.edge_slots (omega (arith, past, edges_long s))
+  edge_none past =
+      vacant_none end g.edges (nexts_of Outgoing edges) edge_head edges_counted g.vacant_edges s.edge_slots
+      (omega (arith, past, edges_long s))
 
   pub node_some : node_head < length nodes → g.vacant_nodes ≢ []
   node_some within q =
-      let found = vacant_some end g.nodes (firsts_of Outgoing nodes) node_head nodes_counted g.vacant_nodes s.node_slots (omega (arith, within, nodes_long s)) in
+      let found =
+      vacant_some end g.nodes (firsts_of Outgoing nodes) node_head nodes_counted g.vacant_nodes s.node_slots
+      (omega (arith, within, nodes_long s)) in
       omega (arith, ap length (sym found.1 ∙ q))
 
   pub edge_some : edge_head < length edges → g.vacant_edges ≢ []
   edge_some within q =
-      let found = vacant_some end g.edges (nexts_of Outgoing edges) edge_head edges_counted g.vacant_edges s.edge_slots (omega (arith, within, edges_long s)) in
+      let found =
+      vacant_some end g.edges (nexts_of Outgoing edges) edge_head edges_counted g.vacant_edges s.edge_slots
+      (omega (arith, within, edges_long s)) in
       omega (arith, ap length (sym found.1 ∙ q))
 
   pub node_next : g.vacant_nodes ≢ [] → (vs : List ℕ) × (g.vacant_nodes ≡ node_head ∷ vs) × (node_head < length nodes)
   node_next some = go g.vacant_nodes refl
     where
-      go : (vacant : List ℕ) → g.vacant_nodes ≡ vacant → (vs : List ℕ) × (g.vacant_nodes ≡ node_head ∷ vs) × (node_head < length nodes)
+      go : (vacant : List ℕ)
+          → g.vacant_nodes ≡ vacant → (vs : List ℕ) × (g.vacant_nodes ≡ node_head ∷ vs) × (node_head < length nodes)
       go [] is = absurd (some is)
       go (v ∷ vs) is =
           let t = subst (IsThreaded end g.nodes (firsts_of Outgoing nodes) node_head nodes_counted) is s.node_slots in
-          let within = vacant_inside end g.nodes (firsts_of Outgoing nodes) node_head nodes_counted (v ∷ vs) t v (0, omega arith, refl) in
+          let within =
+          vacant_inside end g.nodes (firsts_of Outgoing nodes) node_head nodes_counted (v ∷ vs) t v
+          (0, omega arith, refl) in
           (vs, is ∙ ap (λ z. z ∷ vs) (sym t.linked.starts), omega (arith, within, t.linked.starts, nodes_long s))
 
   pub edge_next : g.vacant_edges ≢ [] → (vs : List ℕ) × (g.vacant_edges ≡ edge_head ∷ vs) × (edge_head < length edges)
   edge_next some = go g.vacant_edges refl
     where
-      go : (vacant : List ℕ) → g.vacant_edges ≡ vacant → (vs : List ℕ) × (g.vacant_edges ≡ edge_head ∷ vs) × (edge_head < length edges)
+      go : (vacant : List ℕ)
+          → g.vacant_edges ≡ vacant → (vs : List ℕ) × (g.vacant_edges ≡ edge_head ∷ vs) × (edge_head < length edges)
       go [] is = absurd (some is)
       go (v ∷ vs) is =
           let t = subst (IsThreaded end g.edges (nexts_of Outgoing edges) edge_head edges_counted) is s.edge_slots in
-          let within = vacant_inside end g.edges (nexts_of Outgoing edges) edge_head edges_counted (v ∷ vs) t v (0, omega arith, refl) in
+          let within =
+          vacant_inside end g.edges (nexts_of Outgoing edges) edge_head edges_counted (v ∷ vs) t v
+          (0, omega arith, refl) in
           (vs, is ∙ ap (λ z. z ∷ vs) (sym t.linked.starts), omega (arith, within, t.linked.starts, edges_long s))
 
-  pub node_filled_code : (w : N) (i head' : ℕ) (x y : Node (Option N) Ix) → g.vacant_nodes ≢ [] → i ≡ node_head → x ≡ get_or nodes i x → head' ≡ raw_first Outgoing x → y ≡ fresh_node end w
+  pub node_filled_code : (w : N) (i head' : ℕ) (x y : Node (Option N) Ix)
+      → g.vacant_nodes ≢ [] → i ≡ node_head → x ≡ get_or nodes i x → head' ≡ raw_first Outgoing x → y ≡ fresh_node end w
       → Stores end (set nodes i y) edges head' edge_head (nodes_counted + 1) edges_counted (with_node g w)
   node_filled_code w i head' x y some i_is reads head_is y_is =
       let found = node_next some in
       let more : suc nodes_counted ≡ nodes_counted + 1 = omega arith in
       let at_head : x ≡ get_or nodes node_head x = reads ∙ ap (λ z. get_or nodes z x) i_is in
       let goes = slice_get_mapped (raw_first Outgoing) nodes node_head x found.2 at_head ∙ ap Some (sym head_is) in
-      rw (i_is, y_is) (subst (λ k. Stores end (set nodes node_head (fresh_node end w)) edges head' edge_head k edges_counted (with_node g w)) more (node_filled s w node_head found.0 head' found.1 goes))
+      rw (i_is, y_is) (subst
+      (λ k. Stores end (set nodes node_head (fresh_node end w)) edges head' edge_head k edges_counted (with_node g w))
+      more (node_filled s w node_head found.0 head' found.1 goes))
 
-  pub node_made_code : (w : N) (y : Node (Option N) Ix) (reserved_cells nodes' : List (Node (Option N) Ix)) → g.vacant_nodes ≡ [] → nodes_counted < end → y ≡ fresh_node end w → reserved_cells ≡ nodes → nodes' ≡ reserved_cells ++ y ∷ []
+  pub node_made_code : (w : N) (y : Node (Option N) Ix) (reserved_cells nodes' : List (Node (Option N) Ix))
+      → g.vacant_nodes ≡ [] → nodes_counted < end → y ≡ fresh_node end w → reserved_cells ≡ nodes
+      → nodes' ≡ reserved_cells ++ y ∷ []
       → Stores end nodes' edges node_head edge_head (nodes_counted + 1) edges_counted (with_node g w)
   node_made_code w y reserved_cells nodes' none few y_is reserved pushed =
       let more : suc nodes_counted ≡ nodes_counted + 1 = omega arith in
-      rw (pushed, reserved, y_is) (subst (λ k. Stores end (nodes ++ fresh_node end w ∷ []) edges node_head edge_head k edges_counted (with_node g w)) more (node_made s w none few))
+      rw (pushed, reserved, y_is) (subst
+      (λ k. Stores end (nodes ++ fresh_node end w ∷ []) edges node_head edge_head k edges_counted (with_node g w)) more
+      (node_made s w none few))
 
   module _ (a b : ℕ) (w : E) (a_in : IsSome (slot g.nodes a)) (b_in : IsSome (slot g.nodes b)) where
     -- what is stored of the new edge
     abbrev cell : Edge (Option E) Ix
-    cell = record { weight = Some w; parent = a; child = b; next_out = get_or (firsts_of Outgoing nodes) a 0; next_in = get_or (firsts_of Incoming nodes) b 0 }
+    cell = record {
+      weight = Some w;
+      parent = a;
+      child = b;
+      next_out = get_or (firsts_of Outgoing nodes) a 0;
+      next_in = get_or (firsts_of Incoming nodes) b 0;
+    }
 
     abbrev new_edge : PlainEdge E
     new_edge = record { parent = a; child = b; weight = w }
 
-    edge_filled : (vs : List ℕ) (head' : ℕ) (nodes' : List (Node (Option N) Ix)) → g.vacant_edges ≡ edge_head ∷ vs → edge_head < length edges → slice_get (nexts_of Outgoing edges) edge_head ≡ Some head'
-        → map weight_of nodes' ≡ map weight_of nodes → firsts_of Outgoing nodes' ≡ set (firsts_of Outgoing nodes) a edge_head → firsts_of Incoming nodes' ≡ set (firsts_of Incoming nodes) b edge_head
-        → Stores end nodes' (set edges edge_head cell) node_head head' nodes_counted (suc edges_counted) (with_edge g a b w)
+    edge_filled : (vs : List ℕ) (head' : ℕ) (nodes' : List (Node (Option N) Ix)) → g.vacant_edges ≡ edge_head ∷ vs
+        → edge_head < length edges → slice_get (nexts_of Outgoing edges) edge_head ≡ Some head'
+        → map weight_of nodes' ≡ map weight_of nodes
+        → firsts_of Outgoing nodes' ≡ set (firsts_of Outgoing nodes) a edge_head
+        → firsts_of Incoming nodes' ≡ set (firsts_of Incoming nodes) b edge_head
+        → Stores end nodes' (set edges edge_head cell) node_head head' nodes_counted (suc edges_counted)
+        (with_edge g a b w)
     edge_filled vs head' nodes' some within goes weights outs ins =
         let e_is : next_edge g ≡ edge_head = ap (next_slot g.edges) some in
         let found_a = some_is _ a_in in
         let found_b = some_is _ b_in in
-        let t : IsThreaded end g.edges (nexts_of Outgoing edges) edge_head edges_counted (edge_head ∷ vs) = subst (IsThreaded end g.edges (nexts_of Outgoing edges) edge_head edges_counted) some s.edge_slots in
-        let written : (dir : Direction) → nexts_of dir (set edges edge_head cell) ≡ set (nexts_of dir edges) edge_head (raw_next dir cell) = λ dir. map-set (raw_next dir) edges edge_head cell in
-        let link : (dir : Direction) → slice_get (nexts_of dir (set edges edge_head cell)) (next_edge g) ≡ Some (raw_next dir cell) =
-        λ dir. ap (slice_get (nexts_of dir (set edges edge_head cell))) e_is ∙ ap (λ l. slice_get l edge_head) (written dir) ∙ slice_get-set_same (nexts_of dir edges) edge_head (raw_next dir cell) (omega (arith, within, length-map edges (raw_next dir))) in
-        let others : (dir : Direction) (f : ℕ) → f ≢ edge_head → slice_get (nexts_of dir (set edges edge_head cell)) f ≡ slice_get (nexts_of dir edges) f =
-        λ dir f other. ap (λ l. slice_get l f) (written dir) ∙ slice_get-set_other (nexts_of dir edges) edge_head f (raw_next dir cell) other in
-        let long : length (nexts_of Outgoing (set edges edge_head cell)) ≡ length (nexts_of Outgoing edges) = ap length (written Outgoing) ∙ length-set (nexts_of Outgoing edges) edge_head (raw_next Outgoing cell) in
-        let threaded = filled end g.edges (nexts_of Outgoing edges) edge_head edges_counted edge_head vs t new_edge (nexts_of Outgoing (set edges edge_head cell)) head' long
+        let t : IsThreaded end g.edges (nexts_of Outgoing edges) edge_head edges_counted (edge_head ∷ vs) =
+        subst (IsThreaded end g.edges (nexts_of Outgoing edges) edge_head edges_counted) some s.edge_slots in
+        let written : (dir : Direction)
+        → nexts_of dir (set edges edge_head cell) ≡ set (nexts_of dir edges) edge_head (raw_next dir cell) =
+        λ dir.
+        map-set (raw_next dir) edges edge_head cell in
+        let link : (dir : Direction)
+        → slice_get (nexts_of dir (set edges edge_head cell)) (next_edge g) ≡ Some (raw_next dir cell) =
+        λ dir.
+        ap (slice_get (nexts_of dir (set edges edge_head cell))) e_is ∙ ap (λ l. slice_get l edge_head) (written dir)
+        ∙ slice_get-set_same (nexts_of dir edges) edge_head (raw_next dir cell)
+        (omega (arith, within, length-map edges (raw_next dir))) in
+        let others : (dir : Direction) (f : ℕ)
+        → f ≢ edge_head → slice_get (nexts_of dir (set edges edge_head cell)) f ≡ slice_get (nexts_of dir edges) f =
+        λ dir f other.
+        ap (λ l. slice_get l f) (written dir)
+        ∙ slice_get-set_other (nexts_of dir edges) edge_head f (raw_next dir cell) other in
+        let long : length (nexts_of Outgoing (set edges edge_head cell)) ≡ length (nexts_of Outgoing edges) =
+        ap length (written Outgoing) ∙ length-set (nexts_of Outgoing edges) edge_head (raw_next Outgoing cell) in
+        let threaded =
+        filled end g.edges (nexts_of Outgoing edges) edge_head edges_counted edge_head vs t new_edge
+        (nexts_of Outgoing (set edges edge_head cell)) head' long
         (λ f p. others Outgoing f (λ same. t.linked.distinct.0 (subst (Contains vs) same p))) goes in
-        edge_put s a b w found_a.0 found_b.0 found_a.1 found_b.1 nodes' weights (outs ∙ ap (set (firsts_of Outgoing nodes) a) (sym e_is)) (ins ∙ ap (set (firsts_of Incoming nodes) b) (sym e_is))
-        (set edges edge_head cell) (map-set plain_edge edges edge_head cell ∙ ap (λ l. set l edge_head (Some new_edge)) (sym s.edges_are) ∙ sym (ap (λ z. with_slot_filled g.edges z (Some new_edge)) some))
-        (λ dir f other inside. others dir f (λ same. other (same ∙ sym e_is))) (link Outgoing) (link Incoming) head' (suc edges_counted)
-        (subst (λ z. IsThreaded end (with_slot_filled g.edges z (Some new_edge)) (nexts_of Outgoing (set edges edge_head cell)) head' (suc edges_counted) (remaining_vacant z)) (sym some) threaded)
+        edge_put s a b w found_a.0 found_b.0 found_a.1 found_b.1 nodes' weights (outs
+        ∙ ap (set (firsts_of Outgoing nodes) a) (sym e_is)) (ins ∙ ap (set (firsts_of Incoming nodes) b) (sym e_is))
+        (set edges edge_head cell)
+        (map-set plain_edge edges edge_head cell ∙ ap (λ l. set l edge_head (Some new_edge)) (sym s.edges_are)
+        ∙ sym (ap (λ z. with_slot_filled g.edges z (Some new_edge)) some))
+        (λ dir f other inside. others dir f (λ same. other (same ∙ sym e_is))) (link Outgoing) (link Incoming) head'
+        (suc edges_counted)
+        (subst (λ z. IsThreaded end (with_slot_filled g.edges z (Some new_edge))
+        (nexts_of Outgoing (set edges edge_head cell)) head' (suc edges_counted) (remaining_vacant z)) (sym some)
+        threaded)
 
     edge_made : (nodes' : List (Node (Option N) Ix)) → g.vacant_edges ≡ [] → edges_counted < end
-        → map weight_of nodes' ≡ map weight_of nodes → firsts_of Outgoing nodes' ≡ set (firsts_of Outgoing nodes) a (length edges) → firsts_of Incoming nodes' ≡ set (firsts_of Incoming nodes) b (length edges)
-        → Stores end nodes' (edges ++ cell ∷ []) node_head edge_head nodes_counted (suc edges_counted) (with_edge g a b w)
+        → map weight_of nodes' ≡ map weight_of nodes
+        → firsts_of Outgoing nodes' ≡ set (firsts_of Outgoing nodes) a (length edges)
+        → firsts_of Incoming nodes' ≡ set (firsts_of Incoming nodes) b (length edges)
+        → Stores end nodes' (edges ++ cell ∷ []) node_head edge_head nodes_counted (suc edges_counted)
+        (with_edge g a b w)
     edge_made nodes' none few weights outs ins =
         let e_is : next_edge g ≡ length edges = ap (next_slot g.edges) none ∙ edges_long s in
         let found_a = some_is _ a_in in
         let found_b = some_is _ b_in in
-        let t : IsThreaded end g.edges (nexts_of Outgoing edges) edge_head edges_counted [] = subst (IsThreaded end g.edges (nexts_of Outgoing edges) edge_head edges_counted) none s.edge_slots in
+        let t : IsThreaded end g.edges (nexts_of Outgoing edges) edge_head edges_counted [] =
+        subst (IsThreaded end g.edges (nexts_of Outgoing edges) edge_head edges_counted) none s.edge_slots in
         let full = counted_full end g.edges (nexts_of Outgoing edges) edge_head edges_counted t in
-        let written : (dir : Direction) → nexts_of dir (edges ++ cell ∷ []) ≡ nexts_of dir edges ++ raw_next dir cell ∷ [] = λ dir. map_push (raw_next dir) edges cell in
-        let link : (dir : Direction) → slice_get (nexts_of dir (edges ++ cell ∷ [])) (next_edge g) ≡ Some (raw_next dir cell) =
-        λ dir. ap (slice_get (nexts_of dir (edges ++ cell ∷ []))) (e_is ∙ sym (length-map edges (raw_next dir))) ∙ ap (λ l. slice_get l (length (nexts_of dir edges))) (written dir) ∙ slice_get-push_new (nexts_of dir edges) (raw_next dir cell) in
-        let long : length (nexts_of Outgoing (edges ++ cell ∷ [])) ≡ suc (length g.edges) = omega (arith, ap length (written Outgoing), length_push (nexts_of Outgoing edges) (raw_next Outgoing cell), t.long) in
-        let threaded = made end g.edges (nexts_of Outgoing edges) edge_head edges_counted t new_edge (omega (arith, few, full)) (nexts_of Outgoing (edges ++ cell ∷ [])) long in
-        edge_put s a b w found_a.0 found_b.0 found_a.1 found_b.1 nodes' weights (outs ∙ ap (set (firsts_of Outgoing nodes) a) (sym e_is)) (ins ∙ ap (set (firsts_of Incoming nodes) b) (sym e_is))
-        (edges ++ cell ∷ []) (map_push plain_edge edges cell ∙ ap (λ l. l ++ Some new_edge ∷ []) (sym s.edges_are) ∙ sym (ap (λ z. with_slot_filled g.edges z (Some new_edge)) none))
-        (λ dir f other inside. ap (λ l. slice_get l f) (written dir) ∙ slice_get-push_old (nexts_of dir edges) (raw_next dir cell) f (omega (arith, inside, length-map edges (raw_next dir)))) (link Outgoing) (link Incoming) edge_head (suc edges_counted)
-        (subst (λ z. IsThreaded end (with_slot_filled g.edges z (Some new_edge)) (nexts_of Outgoing (edges ++ cell ∷ [])) edge_head (suc edges_counted) (remaining_vacant z)) (sym none) threaded)
+        let written : (dir : Direction)
+        → nexts_of dir (edges ++ cell ∷ []) ≡ nexts_of dir edges ++ raw_next dir cell ∷ [] =
+        λ dir.
+        map_push (raw_next dir) edges cell in
+        let link : (dir : Direction)
+        → slice_get (nexts_of dir (edges ++ cell ∷ [])) (next_edge g) ≡ Some (raw_next dir cell) =
+        λ dir.
+        ap (slice_get (nexts_of dir (edges ++ cell ∷ []))) (e_is ∙ sym (length-map edges (raw_next dir)))
+        ∙ ap (λ l. slice_get l (length (nexts_of dir edges))) (written dir)
+        ∙ slice_get-push_new (nexts_of dir edges) (raw_next dir cell) in
+        let long : length (nexts_of Outgoing (edges ++ cell ∷ [])) ≡ suc (length g.edges) =
+        omega (
+          arith,
+          ap length (written Outgoing),
+          length_push (nexts_of Outgoing edges) (raw_next Outgoing cell),
+          t.long,
+        ) in
+        let threaded =
+        made end g.edges (nexts_of Outgoing edges) edge_head edges_counted t new_edge (omega (arith, few, full))
+        (nexts_of Outgoing (edges ++ cell ∷ [])) long in
+        edge_put s a b w found_a.0 found_b.0 found_a.1 found_b.1 nodes' weights (outs
+        ∙ ap (set (firsts_of Outgoing nodes) a) (sym e_is)) (ins ∙ ap (set (firsts_of Incoming nodes) b) (sym e_is))
+        (edges ++ cell ∷ []) (map_push plain_edge edges cell ∙ ap (λ l. l ++ Some new_edge ∷ []) (sym s.edges_are)
+        ∙ sym (ap (λ z. with_slot_filled g.edges z (Some new_edge)) none))
+        (λ dir f other inside. ap (λ l. slice_get l f) (written dir)
+        ∙ slice_get-push_old (nexts_of dir edges) (raw_next dir cell) f (omega (
+          arith,
+          inside,
+          length-map edges (raw_next dir),
+        )))
+        (link Outgoing) (link Incoming) edge_head (suc edges_counted)
+        (subst (λ z. IsThreaded end (with_slot_filled g.edges z (Some new_edge))
+        (nexts_of Outgoing (edges ++ cell ∷ [])) edge_head (suc edges_counted) (remaining_vacant z)) (sym none)
+        threaded)
 
     module _ (u v : ℕ) (y : Edge (Option E) Ix) (nodes' : List (Node (Option N) Ix)) (u_is : u ≡ a) (v_is : v ≡ b)
-        (y_is : y ≡ record { weight = Some w; parent = u; child = v; next_out = get_or (firsts_of Outgoing nodes) u 0; next_in = get_or (firsts_of Incoming nodes) v 0 }) (weights : map weight_of nodes' ≡ map weight_of nodes) (e : ℕ)
-        (outs : firsts_of Outgoing nodes' ≡ set (firsts_of Outgoing nodes) u e) (ins : firsts_of Incoming nodes' ≡ set (firsts_of Incoming nodes) v e) where
-      y_cell : y ≡ record { weight = Some w; parent = a; child = b; next_out = get_or (firsts_of Outgoing nodes) a 0; next_in = get_or (firsts_of Incoming nodes) b 0 }
+        (y_is : y ≡ record {
+          weight = Some w;
+          parent = u;
+          child = v;
+          next_out = get_or (firsts_of Outgoing nodes) u 0;
+          next_in = get_or (firsts_of Incoming nodes) v 0;
+        })
+        (weights : map weight_of nodes' ≡ map weight_of nodes) (e : ℕ)
+        (outs : firsts_of Outgoing nodes' ≡ set (firsts_of Outgoing nodes) u e)
+        (ins : firsts_of Incoming nodes' ≡ set (firsts_of Incoming nodes) v e) where
+      y_cell : y ≡ record {
+        weight = Some w;
+        parent = a;
+        child = b;
+        next_out = get_or (firsts_of Outgoing nodes) a 0;
+        next_in = get_or (firsts_of Incoming nodes) b 0;
+      }
       y_cell =
-          let mk : ℕ → ℕ → Edge (Option E) Ix = λ p q. record { weight = Some w; parent = p; child = q; next_out = get_or (firsts_of Outgoing nodes) p 0; next_in = get_or (firsts_of Incoming nodes) q 0 } in
+          let mk : ℕ → ℕ → Edge (Option E) Ix = λ p q. record {
+            weight = Some w;
+            parent = p;
+            child = q;
+            next_out = get_or (firsts_of Outgoing nodes) p 0;
+            next_in = get_or (firsts_of Incoming nodes) q 0;
+          } in
           y_is ∙ ap (λ z. mk z v) u_is ∙ ap (mk a) v_is
 
-      pub edge_filled_code : (i head' : ℕ) (x : Edge (Option E) Ix) → e ≡ edge_head → g.vacant_edges ≢ [] → i ≡ edge_head → x ≡ get_or edges i x → head' ≡ raw_next Outgoing x
+      pub edge_filled_code : (i head' : ℕ) (x : Edge (Option E) Ix)
+          → e ≡ edge_head → g.vacant_edges ≢ [] → i ≡ edge_head → x ≡ get_or edges i x → head' ≡ raw_next Outgoing x
           → Stores end nodes' (set edges i y) node_head head' nodes_counted (edges_counted + 1) (with_edge g a b w)
       edge_filled_code i head' x e_is some i_is reads head_is =
           let found = edge_next some in
           let more : suc edges_counted ≡ edges_counted + 1 = omega arith in
           let at_head : x ≡ get_or edges edge_head x = reads ∙ ap (λ z. get_or edges z x) i_is in
           let goes = slice_get_mapped (raw_next Outgoing) edges edge_head x found.2 at_head ∙ ap Some (sym head_is) in
-          let outs' : firsts_of Outgoing nodes' ≡ set (firsts_of Outgoing nodes) a edge_head = outs ∙ ap (λ z. set (firsts_of Outgoing nodes) z e) u_is ∙ ap (set (firsts_of Outgoing nodes) a) e_is in
-          let ins' : firsts_of Incoming nodes' ≡ set (firsts_of Incoming nodes) b edge_head = ins ∙ ap (λ z. set (firsts_of Incoming nodes) z e) v_is ∙ ap (set (firsts_of Incoming nodes) b) e_is in
+          let outs' : firsts_of Outgoing nodes' ≡ set (firsts_of Outgoing nodes) a edge_head =
+          outs ∙ ap (λ z. set (firsts_of Outgoing nodes) z e) u_is ∙ ap (set (firsts_of Outgoing nodes) a) e_is in
+          let ins' : firsts_of Incoming nodes' ≡ set (firsts_of Incoming nodes) b edge_head =
+          ins ∙ ap (λ z. set (firsts_of Incoming nodes) z e) v_is ∙ ap (set (firsts_of Incoming nodes) b) e_is in
           let whole = edge_filled found.0 head' nodes' found.1 found.2 goes weights outs' ins' in
           rw (i_is, y_cell, ← more) whole
 
-      pub edge_made_code : (reserved_cells edges' : List (Edge (Option E) Ix)) → e ≡ length edges → g.vacant_edges ≡ [] → edges_counted < end → reserved_cells ≡ edges → edges' ≡ reserved_cells ++ y ∷ []
+      pub edge_made_code : (reserved_cells edges' : List (Edge (Option E) Ix)) → e ≡ length edges → g.vacant_edges ≡ []
+          → edges_counted < end → reserved_cells ≡ edges → edges' ≡ reserved_cells ++ y ∷ []
           → Stores end nodes' edges' node_head edge_head nodes_counted (edges_counted + 1) (with_edge g a b w)
       edge_made_code reserved_cells edges' e_is none few reserved pushed =
           let more : suc edges_counted ≡ edges_counted + 1 = omega arith in
-          let outs' : firsts_of Outgoing nodes' ≡ set (firsts_of Outgoing nodes) a (length edges) = outs ∙ ap (λ z. set (firsts_of Outgoing nodes) z e) u_is ∙ ap (set (firsts_of Outgoing nodes) a) e_is in
-          let ins' : firsts_of Incoming nodes' ≡ set (firsts_of Incoming nodes) b (length edges) = ins ∙ ap (λ z. set (firsts_of Incoming nodes) z e) v_is ∙ ap (set (firsts_of Incoming nodes) b) e_is in
+          let outs' : firsts_of Outgoing nodes' ≡ set (firsts_of Outgoing nodes) a (length edges) =
+          outs ∙ ap (λ z. set (firsts_of Outgoing nodes) z e) u_is ∙ ap (set (firsts_of Outgoing nodes) a) e_is in
+          let ins' : firsts_of Incoming nodes' ≡ set (firsts_of Incoming nodes) b (length edges) =
+          ins ∙ ap (λ z. set (firsts_of Incoming nodes) z e) v_is ∙ ap (set (firsts_of Incoming nodes) b) e_is in
           let whole = edge_made nodes' none few weights outs' ins' in
           rw (pushed, reserved, y_cell, ← more) whole
 

@@ -18,13 +18,22 @@ use Rattle.daggy_stable.specs.Stored.{weight_of, plain_edge}
 
 -- R says what the clone of a slot may be: one of the weight in it, and only vacant slots give vacant ones
 module _ {W : Type 0} (R : Option W → Option W → Type 0) (is : W → W → Type 0)
-    (some : (x y : W) → R (Some x) (Some y) → is x y) (more : (x : W) → R None (Some x) → ⊥) (fewer : (x : W) → R (Some x) None → ⊥) where
-  node_slot : (i : ℕ) (x y : Option W) (xs ys : List (Option W)) → R x y → MapsSlots (clone_step is) (λ n. n) (λ w. w) (λ w v. v) tt (i + 1) xs ys
+    (some : (x y : W) → R (Some x) (Some y) → is x y) (more : (x : W) → R None (Some x) → ⊥)
+    (fewer : (x : W) → R (Some x) None → ⊥) where
+  node_slot : (i : ℕ) (x y : Option W) (xs ys : List (Option W))
+      → R x y → MapsSlots (clone_step is) (λ n. n) (λ w. w) (λ w v. v) tt (i + 1) xs ys
       → MapsSlots (clone_step is) (λ n. n) (λ w. w) (λ w v. v) tt i (x ∷ xs) (y ∷ ys)
   node_slot i None None xs ys r m = (ys, refl, m)
   node_slot i None (Some y) xs ys r m = absurd (more y r)
   node_slot i (Some x) None xs ys r m = absurd (fewer x r)
-  node_slot i (Some x) (Some y) xs ys r m = (y, tt, record { shown = record { ref_ptr = (0, 0); now = x }; shows = refl; called = some x y r }, ys, refl, m)
+  node_slot i (Some x) (Some y) xs ys r m = (
+    y,
+    tt,
+    record { shown = record { ref_ptr = (0, 0); now = x }; shows = refl; called = some x y r },
+    ys,
+    refl,
+    m,
+  )
 
   pub node_slots_cloned : {Ix : Type 0} (i : ℕ) (xs ys : List (Node (Option W) Ix)) → AllZip (IsNodeClone R) xs ys
       → MapsSlots (clone_step is) (λ n. n) (λ w. w) (λ w v. v) tt i (map weight_of xs) (map weight_of ys)
@@ -37,8 +46,10 @@ module _ {W : Type 0} (R : Option W → Option W → Type 0) (is : W → W → T
   abbrev edge_of : ℕ → ℕ → W → PlainEdge W
   edge_of a b w = record { parent = a; child = b; weight = w }
 
-  edge_slot : (i a b a' b' : ℕ) → a ≡ a' → b ≡ b' → (x y : Option W) (xs ys : List (Option (PlainEdge W))) → R x y → MapsSlots (clone_step is) (λ n. n) weight_in with_weight tt (i + 1) xs ys
-      → MapsSlots (clone_step is) (λ n. n) weight_in with_weight tt i (option_map (edge_of a b) x ∷ xs) (option_map (edge_of a' b') y ∷ ys)
+  edge_slot : (i a b a' b' : ℕ) → a ≡ a' → b ≡ b' → (x y : Option W) (xs ys : List (Option (PlainEdge W))) → R x y
+      → MapsSlots (clone_step is) (λ n. n) weight_in with_weight tt (i + 1) xs ys
+      → MapsSlots (clone_step is) (λ n. n) weight_in with_weight tt i (option_map (edge_of a b) x ∷ xs)
+      (option_map (edge_of a' b') y ∷ ys)
   edge_slot i a b a' b' p q None None xs ys r m = (ys, refl, m)
   edge_slot i a b a' b' p q None (Some y) xs ys r m = absurd (more y r)
   edge_slot i a b a' b' p q (Some x) None xs ys r m = absurd (fewer x r)
@@ -57,16 +68,27 @@ module _ {W : Type 0} (R : Option W → Option W → Type 0) (is : W → W → T
   edge_slots_cloned i [] (y ∷ ys) z = absurd z
   edge_slots_cloned i (x ∷ xs) [] z = absurd z
   edge_slots_cloned i (x ∷ xs) (y ∷ ys) z =
-      edge_slot i x.parent x.child y.parent y.child z.0.1.0 z.0.1.1.0 x.weight y.weight (map plain_edge xs) (map plain_edge ys) z.0.0 (edge_slots_cloned (i + 1) xs ys z.1)
+      edge_slot i x.parent x.child y.parent y.child z.0.1.0 z.0.1.1.0 x.weight y.weight (map plain_edge xs)
+      (map plain_edge ys) z.0.0 (edge_slots_cloned (i + 1) xs ys z.1)
 
-  pub firsts_cloned : {Ix : Type 0} (xs ys : List (Node (Option W) Ix)) → AllZip (IsNodeClone R) xs ys → (dir : Direction) → firsts_of dir ys ≡ firsts_of dir xs
+  pub firsts_cloned : {Ix : Type 0} (xs ys : List (Node (Option W) Ix))
+      → AllZip (IsNodeClone R) xs ys → (dir : Direction) → firsts_of dir ys ≡ firsts_of dir xs
   firsts_cloned xs ys z = elim [
-    | Outgoing ↦ maps_keep (clone_step R) (λ n. n) node_weight_in node_with (raw_first Outgoing) (raw_first Outgoing) (λ x v. refl) tt 0 xs ys (nodes_cloned R 0 xs ys z)
-    | Incoming ↦ maps_keep (clone_step R) (λ n. n) node_weight_in node_with (raw_first Incoming) (raw_first Incoming) (λ x v. refl) tt 0 xs ys (nodes_cloned R 0 xs ys z)
+    | Outgoing ↦
+        maps_keep (clone_step R) (λ n. n) node_weight_in node_with (raw_first Outgoing) (raw_first Outgoing)
+        (λ x v. refl) tt 0 xs ys (nodes_cloned R 0 xs ys z)
+    | Incoming ↦
+        maps_keep (clone_step R) (λ n. n) node_weight_in node_with (raw_first Incoming) (raw_first Incoming)
+        (λ x v. refl) tt 0 xs ys (nodes_cloned R 0 xs ys z)
   ]
 
-  pub nexts_cloned : {Ix : Type 0} (xs ys : List (Edge (Option W) Ix)) → AllZip (IsEdgeClone R) xs ys → (dir : Direction) → nexts_of dir ys ≡ nexts_of dir xs
+  pub nexts_cloned : {Ix : Type 0} (xs ys : List (Edge (Option W) Ix))
+      → AllZip (IsEdgeClone R) xs ys → (dir : Direction) → nexts_of dir ys ≡ nexts_of dir xs
   nexts_cloned xs ys z = elim [
-    | Outgoing ↦ maps_keep (clone_step R) (λ n. n) edge_weight_in edge_with (raw_next Outgoing) (raw_next Outgoing) (λ x v. refl) tt 0 xs ys (edges_cloned R 0 xs ys z)
-    | Incoming ↦ maps_keep (clone_step R) (λ n. n) edge_weight_in edge_with (raw_next Incoming) (raw_next Incoming) (λ x v. refl) tt 0 xs ys (edges_cloned R 0 xs ys z)
+    | Outgoing ↦
+        maps_keep (clone_step R) (λ n. n) edge_weight_in edge_with (raw_next Outgoing) (raw_next Outgoing) (λ x v. refl)
+        tt 0 xs ys (edges_cloned R 0 xs ys z)
+    | Incoming ↦
+        maps_keep (clone_step R) (λ n. n) edge_weight_in edge_with (raw_next Incoming) (raw_next Incoming) (λ x v. refl)
+        tt 0 xs ys (edges_cloned R 0 xs ys z)
   ]

@@ -1,5 +1,7 @@
 -- Searching a list for an edge, and slots for the last that is not vacant.
-use Rattle.std.proofs.Common.{◌≡◌, ℕ, zero, suc, ◌-◌, ◌<◌, ◌≤◌, Bool, true, false, eqb, List, [], ◌∷◌, map, length, get_or, take, Option, Some, None, is_some, true≢false, unwrap_or, refl, sym, ap, ◌∙◌, arith, Contains}
+use Rattle.std.proofs.Common.{◌≡◌, ℕ, zero, suc, ◌-◌, ◌<◌, ◌≤◌, Bool, true, false, eqb, List, [], ◌∷◌, map, length}
+use Rattle.std.proofs.Common.{get_or, take, Option, Some, None, is_some, true≢false, unwrap_or, refl, sym, ap, ◌∙◌}
+use Rattle.std.proofs.Common.{arith, Contains}
 use Rattle.std.specs.List.{find}
 use Rattle.std.specs.Option.{option_map}
 use Rattle.std.proofs.lemmas.List.{length-map, get_or-map, take_all}
@@ -22,14 +24,18 @@ use Rattle.daggy_stable.proofs.Stores.{reads_itself, end_back, edge_within, end_
 abbrev pub child_is : {E Ix : Type 0} → List (Edge (Option E) Ix) → ℕ → ℕ → Bool
 child_is edges v e = eqb (get_or (ends_of Incoming edges) e 0) v
 
-pub child_seen : {E Ix : Type 0} (v : ℕ) (edges : List (Edge (Option E) Ix)) (e : ℕ) (x : Edge (Option E) Ix) → e < length edges → x ≡ get_or edges e x → child_is edges v e ≡ eqb (end_at Incoming x) v
-child_seen v edges e x within is = ap (λ z. eqb z v) (get_or-map (end_at Incoming) edges e x 0 within ∙ ap (end_at Incoming) (sym is))
+pub child_seen : {E Ix : Type 0} (v : ℕ) (edges : List (Edge (Option E) Ix)) (e : ℕ) (x : Edge (Option E) Ix)
+    → e < length edges → x ≡ get_or edges e x → child_is edges v e ≡ eqb (end_at Incoming x) v
+child_seen v edges e x within is =
+    ap (λ z. eqb z v) (get_or-map (end_at Incoming) edges e x 0 within ∙ ap (end_at Incoming) (sym is))
 
 find_same : (p q : ℕ → Bool) (l : List ℕ) → ((e : ℕ) → Contains l e → p e ≡ q e) → find p l ≡ find q l
 find_same p q [] h = refl
 find_same p q (x ∷ xs) h = rw (h x (Contains-here x xs), find_same p q xs (λ e k. h e (Contains-there x e xs k))) refl
 
-module _ {N E Ix : Type 0} {end : ℕ} {nodes : List (Node (Option N) Ix)} {edges : List (Edge (Option E) Ix)} {node_head edge_head nodes_counted edges_counted : ℕ} {g : Graph N E} (s : Stores end nodes edges node_head edge_head nodes_counted edges_counted g) where
+module _ {N E Ix : Type 0} {end : ℕ} {nodes : List (Node (Option N) Ix)} {edges : List (Edge (Option E) Ix)}
+    {node_head edge_head nodes_counted edges_counted : ℕ} {g : Graph N E}
+    (s : Stores end nodes edges node_head edge_head nodes_counted edges_counted g) where
   child_read : (v e : ℕ) (y : PlainEdge E) → edge_at g e ≡ Some y → child_is edges v e ≡ leads_to g v e
   child_read v e y at =
       let within = edge_within s e y at in
@@ -41,10 +47,13 @@ module _ {N E Ix : Type 0} {end : ℕ} {nodes : List (Node (Option N) Ix)} {edge
           let inside : e < length edges = omega (arith, p, ap length is) in
           let x = get_or edges e d in
           let reads : x ≡ get_or edges e x = reads_itself edges e d inside in
-          ap (λ z. eqb z v) (get_or-map (end_at Incoming) edges e d 0 inside ∙ end_stored s Incoming e y x at inside reads)
+          ap (λ z. eqb z v)
+          (get_or-map (end_at Incoming) edges e d 0 inside ∙ end_stored s Incoming e y x at inside reads)
           ∙ sym (ap (λ o. unwrap_or (option_map (λ z. eqb z.child v) o) false) at)
 
-  pub scan_start : (n v : ℕ) → IsScan end (nexts_of Outgoing edges) (child_is edges v) (first_of end (nth_list (lists_at Outgoing g) n)) (find_edge g n v)
+  pub scan_start : (n v : ℕ)
+      → IsScan end (nexts_of Outgoing edges) (child_is edges v) (first_of end (nth_list (lists_at Outgoing g) n))
+      (find_edge g n v)
   scan_start n v =
       record {
         rest = nth_list (lists_at Outgoing g) n;
@@ -56,19 +65,22 @@ module _ {N E Ix : Type 0} {end : ℕ} {nodes : List (Node (Option N) Ix)} {edge
 
 -- the last slot that is not vacant
 
-pub bound_found : {A : Type 0} (xs : List (Option A)) (n : ℕ) (x : A) → slot xs n ≡ Some x → bound_of (take (suc n) xs) ≡ suc n
+pub bound_found : {A : Type 0} (xs : List (Option A)) (n : ℕ) (x : A)
+    → slot xs n ≡ Some x → bound_of (take (suc n) xs) ≡ suc n
 bound_found [] n x at = absurd (none-some x at)
 bound_found (None ∷ zs) zero x at = absurd (none-some x at)
 bound_found (Some z ∷ zs) zero x at = refl
 bound_found (z ∷ zs) (suc n) x at = ap (bound_step z) (bound_found zs n x at)
 
-pub bound_back : {A : Type 0} (xs : List (Option A)) (n : ℕ) → n < length xs → slot xs n ≡ None → bound_of (take (suc n) xs) ≡ bound_of (take n xs)
+pub bound_back : {A : Type 0} (xs : List (Option A)) (n : ℕ)
+    → n < length xs → slot xs n ≡ None → bound_of (take (suc n) xs) ≡ bound_of (take n xs)
 bound_back [] n within at = absurd (omega (arith, within))
 bound_back (None ∷ zs) zero within at = refl
 bound_back (Some z ∷ zs) zero within at = absurd (none-some z (sym at))
 bound_back (z ∷ zs) (suc n) within at = ap (bound_step z) (bound_back zs n (omega (arith, within)) at)
 
-module _ {A B : Type 0} (f : A → Option B) (cells : List A) (n : ℕ) (x : A) (some : Bool) (within : n ≤ length cells) (reads : x ≡ get_or cells (n - 1) x) (is : some ≡ is_some (f x)) where
+module _ {A B : Type 0} (f : A → Option B) (cells : List A) (n : ℕ) (x : A) (some : Bool) (within : n ≤ length cells)
+    (reads : x ≡ get_or cells (n - 1) x) (is : some ≡ is_some (f x)) where
   seen : 0 < n → slot (map f cells) (n - 1) ≡ f x
   seen positive = slot_read f cells (n - 1) x (omega (arith, within, positive)) reads
 
@@ -76,27 +88,34 @@ module _ {A B : Type 0} (f : A → Option B) (cells : List A) (n : ℕ) (x : A) 
   one_less positive = omega (arith, positive)
 
   -- in the words of the code: the slot before n is vacant
-  pub back_step : 0 < n → some ≡ false → bound_of (take n (map f cells)) ≡ bound_of (map f cells) → bound_of (take (n - 1) (map f cells)) ≡ bound_of (map f cells)
+  pub back_step : 0 < n → some ≡ false → bound_of (take n (map f cells)) ≡ bound_of (map f cells)
+      → bound_of (take (n - 1) (map f cells)) ≡ bound_of (map f cells)
   back_step positive fails same = go (f x) refl
     where
       go : (o : Option B) → f x ≡ o → bound_of (take (n - 1) (map f cells)) ≡ bound_of (map f cells)
       go (Some y) at = absurd (true≢false (sym (is ∙ ap is_some at) ∙ fails))
       go None at =
           let inside : n - 1 < length (map f cells) = omega (arith, positive, within, length-map cells f) in
-          sym (bound_back (map f cells) (n - 1) inside (seen positive ∙ at)) ∙ ap (λ k. bound_of (take k (map f cells))) (one_less positive) ∙ same
+          sym (bound_back (map f cells) (n - 1) inside (seen positive ∙ at))
+          ∙ ap (λ k. bound_of (take k (map f cells))) (one_less positive) ∙ same
 
   -- and it is not
-  pub back_found : 0 < n → some ≡ true → bound_of (take n (map f cells)) ≡ bound_of (map f cells) → n ≡ bound_of (map f cells)
+  pub back_found : 0 < n → some ≡ true → bound_of (take n (map f cells)) ≡ bound_of (map f cells)
+      → n ≡ bound_of (map f cells)
   back_found positive passes same = go (f x) refl
     where
       go : (o : Option B) → f x ≡ o → n ≡ bound_of (map f cells)
       go None at = absurd (true≢false (sym passes ∙ is ∙ ap is_some at))
-      go (Some y) at = sym (one_less positive) ∙ sym (bound_found (map f cells) (n - 1) y (seen positive ∙ at)) ∙ ap (λ k. bound_of (take k (map f cells))) (one_less positive) ∙ same
+      go (Some y) at =
+          sym (one_less positive) ∙ sym (bound_found (map f cells) (n - 1) y (seen positive ∙ at))
+          ∙ ap (λ k. bound_of (take k (map f cells))) (one_less positive) ∙ same
 
-pub back_start : {A B : Type 0} (f : A → Option B) (cells : List A) (n : ℕ) → n ≡ length cells → bound_of (take n (map f cells)) ≡ bound_of (map f cells)
+pub back_start : {A B : Type 0} (f : A → Option B) (cells : List A) (n : ℕ)
+    → n ≡ length cells → bound_of (take n (map f cells)) ≡ bound_of (map f cells)
 back_start f cells n is = ap bound_of (take_all n (map f cells) (omega (arith, is, length-map cells f)))
 
-pub back_all : {A : Type 0} (xs : List (Option A)) (n : ℕ) → n ≤ 0 → bound_of (take n xs) ≡ bound_of xs → 0 ≡ bound_of xs
+pub back_all : {A : Type 0} (xs : List (Option A)) (n : ℕ)
+    → n ≤ 0 → bound_of (take n xs) ≡ bound_of xs → 0 ≡ bound_of xs
 back_all xs n none same = let is : n ≡ 0 = omega (arith, none) in ap (λ k. bound_of (take k xs)) (sym is) ∙ same
 
 pub plain_some : {E Ix : Type 0} (x : Edge (Option E) Ix) → is_some (plain_edge x) ≡ is_some x.weight

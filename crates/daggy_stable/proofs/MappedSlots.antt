@@ -1,5 +1,7 @@
 -- How a loop maps the slots in turn, and what of a stored graph stays.
-use Rattle.std.proofs.Common.{◌≡◌, ℕ, zero, suc, ◌+◌, ◌<◌, ◌≤◌, ◌↔◌, List, [], ◌∷◌, ◌++◌, map, length, take, drop, get_or, Option, Some, None, is_some, slice_get, refl, sym, ap, subst, ◌∙◌, arith, append-nil, append_assoc, Contains}
+use Rattle.std.proofs.Common.{◌≡◌, ℕ, zero, suc, ◌+◌, ◌<◌, ◌≤◌, ◌↔◌, List, [], ◌∷◌, ◌++◌, map, length, take, drop}
+use Rattle.std.proofs.Common.{get_or, Option, Some, None, is_some, slice_get, refl, sym, ap, subst, ◌∙◌, arith}
+use Rattle.std.proofs.Common.{append-nil, append_assoc, Contains}
 use Rattle.std.proofs.lemmas.List.{length-map, get_or-map, map_push, drop_more, drop_all, take_more, take_all}
 use Rattle.std.proofs.lemmas.Option.{same_Some, none-some}
 use Rattle.std.specs.Borrow.{Bor}
@@ -16,74 +18,117 @@ use Rattle.daggy_cells.specs.MappedCells.{node_with, edge_with}
 use Rattle.daggy_cells.specs.Raw.{raw_first, raw_next}
 use Rattle.daggy_cells.specs.Fields.{firsts_of, nexts_of}
 use Rattle.daggy_cells.proofs.MappingLemmas.{mapped_length}
-use Rattle.daggy_stable.specs.Stored.{weight_of, plain_edge, shown, list_firsts, end_of, stored_graph, IsThreaded, Stores}
+use Rattle.daggy_stable.specs.Stored.{weight_of, plain_edge, shown, list_firsts, end_of, stored_graph, IsThreaded}
+use Rattle.daggy_stable.specs.Stored.{Stores}
 use Rattle.daggy_base.proofs.Slots.{count_cons}
 
-module _ {F I W V A B : Type 0} (step : F → I → Bor W → V → F → Type 0) (of : ℕ → I) (weight : A → W) (with : A → V → B) where
+module _ {F I W V A B : Type 0} (step : F → I → Bor W → V → F → Type 0) (of : ℕ → I) (weight : A → W)
+    (with : A → V → B) where
   -- what is left maps as the whole did
   abbrev pub MappedSlots : F → List (Option A) → F → List (Option B) → ℕ → Type 0
-  MappedSlots first old f new i = (later : List (Option B)) → MapsSlots step of weight with f i (drop i old) later → MapsSlots step of weight with first 0 old (new ++ later)
+  MappedSlots first old f new i =
+      (later : List (Option B))
+      → MapsSlots step of weight with f i (drop i old) later → MapsSlots step of weight with first 0 old (new ++ later)
 
-  MappedSlots-passed : (first : F) (old : List (Option A)) (f : F) (new : List (Option B)) (i : ℕ) → i < length old → get_or old i None ≡ None → MappedSlots first old f new i → MappedSlots first old f (new ++ None ∷ []) (i + 1)
+  MappedSlots-passed : (first : F) (old : List (Option A)) (f : F) (new : List (Option B)) (i : ℕ) → i < length old
+      → get_or old i None ≡ None → MappedSlots first old f new i → MappedSlots first old f (new ++ None ∷ []) (i + 1)
   MappedSlots-passed first old f new i within read kept later more =
-      let rest : drop i old ≡ None ∷ drop (i + 1) old = drop_more old i None within ∙ ap (λ y. y ∷ drop (i + 1) old) read in
+      let rest : drop i old ≡ None ∷ drop (i + 1) old =
+      drop_more old i None within ∙ ap (λ y. y ∷ drop (i + 1) old) read in
       rw (append_assoc) (kept (None ∷ later) (rw rest (later, refl, more)))
 
-  MappedSlots-called : (first : F) (old : List (Option A)) (f next : F) (new : List (Option B)) (i : ℕ) (x : A) (v : V) → i < length old → get_or old i None ≡ Some x → CalledAt step of f i (weight x) v next → MappedSlots first old f new i → MappedSlots first old next (new ++ Some (with x v) ∷ []) (i + 1)
+  MappedSlots-called : (first : F) (old : List (Option A)) (f next : F) (new : List (Option B)) (i : ℕ) (x : A) (v : V)
+      → i < length old → get_or old i None ≡ Some x → CalledAt step of f i (weight x) v next
+      → MappedSlots first old f new i → MappedSlots first old next (new ++ Some (with x v) ∷ []) (i + 1)
   MappedSlots-called first old f next new i x v within read called kept later more =
-      let rest : drop i old ≡ Some x ∷ drop (i + 1) old = drop_more old i None within ∙ ap (λ y. y ∷ drop (i + 1) old) read in
+      let rest : drop i old ≡ Some x ∷ drop (i + 1) old =
+      drop_more old i None within ∙ ap (λ y. y ∷ drop (i + 1) old) read in
       rw (append_assoc) (kept (Some (with x v) ∷ later) (rw rest (v, next, called, later, refl, more)))
 
-  pub MappedSlots-done : (first : F) (old : List (Option A)) (f : F) (new : List (Option B)) (i : ℕ) → length old ≤ i → MappedSlots first old f new i → MapsSlots step of weight with first 0 old new
+  pub MappedSlots-done : (first : F) (old : List (Option A)) (f : F) (new : List (Option B)) (i : ℕ)
+      → length old ≤ i → MappedSlots first old f new i → MapsSlots step of weight with first 0 old new
   MappedSlots-done first old f new i past kept = rw (append-nil new) at (kept [] (rw (drop_all i old past) refl))
 
   -- the same by cells, of which read and read' are the slots
-  module _ {C D : Type 0} (read : C → Option A) (read' : D → Option B) (first : F) (cells : List C) (new : List D) (f : F) (i : ℕ) (x : C) (y : D) (within : i < length cells) (is : x ≡ get_or cells i x) where
+  module _ {C D : Type 0} (read : C → Option A) (read' : D → Option B) (first : F) (cells : List C) (new : List D)
+      (f : F) (i : ℕ) (x : C) (y : D) (within : i < length cells) (is : x ≡ get_or cells i x) where
     slots_within : i < length (map read cells)
     slots_within = omega (arith, within, length-map cells read)
 
     slot_is : get_or (map read cells) i None ≡ read x
     slot_is = get_or-map read cells i x None within ∙ ap read (sym is)
 
-    pub MappedSlots-pass : read x ≡ None → read' y ≡ None → MappedSlots first (map read cells) f (map read' new) i → MappedSlots first (map read cells) f (map read' (new ++ y ∷ [])) (i + 1)
+    pub MappedSlots-pass : read x ≡ None → read' y ≡ None → MappedSlots first (map read cells) f (map read' new) i
+        → MappedSlots first (map read cells) f (map read' (new ++ y ∷ [])) (i + 1)
     MappedSlots-pass none none' kept =
-        subst (λ l. MappedSlots first (map read cells) f l (i + 1)) (sym (map_push read' new y ∙ ap (λ z. map read' new ++ z ∷ []) none'))
+        subst (λ l. MappedSlots first (map read cells) f l (i + 1))
+        (sym (map_push read' new y ∙ ap (λ z. map read' new ++ z ∷ []) none'))
         (MappedSlots-passed first (map read cells) f (map read' new) i slots_within (slot_is ∙ none) kept)
 
-    pub MappedSlots-call : (next : F) (a : A) (v : V) → read x ≡ Some a → read' y ≡ Some (with a v) → CalledAt step of f i (weight a) v next → MappedSlots first (map read cells) f (map read' new) i → MappedSlots first (map read cells) next (map read' (new ++ y ∷ [])) (i + 1)
+    pub MappedSlots-call : (next : F) (a : A) (v : V) → read x ≡ Some a → read' y ≡ Some (with a v)
+        → CalledAt step of f i (weight a) v next → MappedSlots first (map read cells) f (map read' new) i
+        → MappedSlots first (map read cells) next (map read' (new ++ y ∷ [])) (i + 1)
     MappedSlots-call next a v some some' called kept =
-        subst (λ l. MappedSlots first (map read cells) next l (i + 1)) (sym (map_push read' new y ∙ ap (λ z. map read' new ++ z ∷ []) some'))
-        (MappedSlots-called first (map read cells) f next (map read' new) i a v slots_within (slot_is ∙ some) called kept)
+        subst (λ l. MappedSlots first (map read cells) next l (i + 1))
+        (sym (map_push read' new y ∙ ap (λ z. map read' new ++ z ∷ []) some'))
+        (MappedSlots-called first (map read cells) f next (map read' new) i a v slots_within (slot_is ∙ some) called
+        kept)
 
 -- what each cell keeps of its own
 module _ {C D X : Type 0} (keep : C → X) (keep' : D → X) where
-  pub kept_more : (cells : List C) (new : List D) (i : ℕ) (x : C) (y : D) → i < length cells → x ≡ get_or cells i x → keep' y ≡ keep x → map keep' new ≡ take i (map keep cells) → map keep' (new ++ y ∷ []) ≡ take (i + 1) (map keep cells)
+  pub kept_more : (cells : List C) (new : List D) (i : ℕ) (x : C) (y : D)
+      → i < length cells → x ≡ get_or cells i x → keep' y ≡ keep x → map keep' new ≡ take i (map keep cells)
+      → map keep' (new ++ y ∷ []) ≡ take (i + 1) (map keep cells)
   kept_more cells new i x y within is same kept =
       let inside : i < length (map keep cells) = omega (arith, within, length-map cells keep) in
       map_push keep' new y ∙ ap (λ l. l ++ keep' y ∷ []) kept
-      ∙ ap (λ z. take i (map keep cells) ++ z ∷ []) (same ∙ ap keep is ∙ sym (get_or-map keep cells i x (keep x) within)) ∙ sym (take_more (map keep cells) i (keep x) inside)
+      ∙ ap (λ z. take i (map keep cells) ++ z ∷ [])
+      (same ∙ ap keep is ∙ sym (get_or-map keep cells i x (keep x) within))
+      ∙ sym (take_more (map keep cells) i (keep x) inside)
 
-  pub kept_all : (cells : List C) (new : List D) (i : ℕ) → length cells ≤ i → map keep' new ≡ take i (map keep cells) → map keep' new ≡ map keep cells
+  pub kept_all : (cells : List C) (new : List D) (i : ℕ)
+      → length cells ≤ i → map keep' new ≡ take i (map keep cells) → map keep' new ≡ map keep cells
   kept_all cells new i past kept = kept ∙ take_all i (map keep cells) (omega (arith, past, length-map cells keep))
 
-pub node_like_links : {N V Ix : Type 0} (dir : Direction) (x : Node N Ix) (v : V) → raw_first dir (node_with x v) ≡ raw_first dir x
+pub node_like_links : {N V Ix : Type 0} (dir : Direction) (x : Node N Ix) (v : V)
+    → raw_first dir (node_with x v) ≡ raw_first dir x
 node_like_links Outgoing x v = refl
 node_like_links Incoming x v = refl
 
-pub edge_like_links : {E W Ix : Type 0} (dir : Direction) (x : Edge E Ix) (w : W) → raw_next dir (edge_with x w) ≡ raw_next dir x
+pub edge_like_links : {E W Ix : Type 0} (dir : Direction) (x : Edge E Ix) (w : W)
+    → raw_next dir (edge_with x w) ≡ raw_next dir x
 edge_like_links Outgoing x w = refl
 edge_like_links Incoming x w = refl
 
 -- what mapped slots have in common with the old
-module _ {F I W V A B : Type 0} (step : F → I → Bor W → V → F → Type 0) (of : ℕ → I) (weight : A → W) (with : A → V → B) where
-  mapped_count : (f : F) (i : ℕ) (xs : List (Option A)) (ys : List (Option B)) → MapsSlots step of weight with f i xs ys → count_by is_some ys ≡ count_by is_some xs
+module _ {F I W V A B : Type 0} (step : F → I → Bor W → V → F → Type 0) (of : ℕ → I) (weight : A → W)
+    (with : A → V → B) where
+  mapped_count : (f : F) (i : ℕ) (xs : List (Option A)) (ys : List (Option B))
+      → MapsSlots step of weight with f i xs ys → count_by is_some ys ≡ count_by is_some xs
   mapped_count f i [] ys m = ap (count_by is_some) m
-  mapped_count f i (None ∷ xs) ys (later, is, more) = omega (arith, ap (count_by is_some) is, count_cons None later, count_cons None xs, mapped_count f (i + 1) xs later more)
+  mapped_count f i (None ∷ xs) ys (later, is, more) =
+      omega (
+        arith,
+        ap (count_by is_some) is,
+        count_cons None later,
+        count_cons None xs,
+        mapped_count f (i + 1) xs later more,
+      )
   mapped_count f i (Some x ∷ xs) ys (v, next, called, later, is, more) =
-      omega (arith, ap (count_by is_some) is, count_cons (Some (with x v)) later, count_cons (Some x) xs, mapped_count next (i + 1) xs later more)
+      omega (
+        arith,
+        ap (count_by is_some) is,
+        count_cons (Some (with x v)) later,
+        count_cons (Some x) xs,
+        mapped_count next (i + 1) xs later more,
+      )
 
-  mapped_vacant : (f : F) (i : ℕ) (xs : List (Option A)) (ys : List (Option B)) → MapsSlots step of weight with f i xs ys → (k : ℕ) → slice_get ys k ≡ Some None ↔ slice_get xs k ≡ Some None
-  mapped_vacant f i [] ys m k = (λ p. absurd (none-some None (sym (ap (λ l. slice_get l k) m) ∙ p)), λ q. absurd (none-some None q))
+  mapped_vacant : (f : F) (i : ℕ) (xs : List (Option A)) (ys : List (Option B))
+      → MapsSlots step of weight with f i xs ys → (k : ℕ) → slice_get ys k ≡ Some None ↔ slice_get xs k ≡ Some None
+  mapped_vacant f i [] ys m k = (
+    λ p. absurd (none-some None (sym (ap (λ l. slice_get l k) m) ∙ p)),
+    λ q. absurd (none-some None q),
+  )
   mapped_vacant f i (None ∷ xs) ys (later, is, more) zero = (λ p. refl, λ q. ap (λ l. slice_get l 0) is)
   mapped_vacant f i (None ∷ xs) ys (later, is, more) (suc k) =
       let rest = mapped_vacant f (i + 1) xs later more k in
@@ -96,41 +141,60 @@ module _ {F I W V A B : Type 0} (step : F → I → Bor W → V → F → Type 0
       let rest = mapped_vacant next (i + 1) xs later more k in
       (λ p. rest.0 (sym (ap (λ l. slice_get l (suc k)) is) ∙ p), λ q. ap (λ l. slice_get l (suc k)) is ∙ rest.1 q)
 
-  mapped_shown : (end : ℕ) (f : F) (i : ℕ) (xs : List (Option A)) (ys : List (Option B)) (links : List ℕ) → MapsSlots step of weight with f i xs ys → shown end ys links ≡ shown end xs links
+  mapped_shown : (end : ℕ) (f : F) (i : ℕ) (xs : List (Option A)) (ys : List (Option B)) (links : List ℕ)
+      → MapsSlots step of weight with f i xs ys → shown end ys links ≡ shown end xs links
   mapped_shown end f i [] ys links m = ap (λ l. shown end l links) m
   mapped_shown end f i (None ∷ xs) ys [] (later, is, more) = ap (λ l. shown end l []) is
-  mapped_shown end f i (None ∷ xs) ys (l ∷ links) (later, is, more) = ap (λ z. shown end z (l ∷ links)) is ∙ ap (λ z. end ∷ z) (mapped_shown end f (i + 1) xs later links more)
+  mapped_shown end f i (None ∷ xs) ys (l ∷ links) (later, is, more) =
+      ap (λ z. shown end z (l ∷ links)) is ∙ ap (λ z. end ∷ z) (mapped_shown end f (i + 1) xs later links more)
   mapped_shown end f i (Some x ∷ xs) ys [] (v, next, called, later, is, more) = ap (λ l. shown end l []) is
-  mapped_shown end f i (Some x ∷ xs) ys (l ∷ links) (v, next, called, later, is, more) = ap (λ z. shown end z (l ∷ links)) is ∙ ap (λ z. l ∷ z) (mapped_shown end next (i + 1) xs later links more)
+  mapped_shown end f i (Some x ∷ xs) ys (l ∷ links) (v, next, called, later, is, more) =
+      ap (λ z. shown end z (l ∷ links)) is ∙ ap (λ z. l ∷ z) (mapped_shown end next (i + 1) xs later links more)
 
   -- what the answers do not touch of what stands in a slot
-  mapped_keep : {X : Type 0} (h : A → X) (k : B → X) → ((x : A) (v : V) → k (with x v) ≡ h x) → (f : F) (i : ℕ) (xs : List (Option A)) (ys : List (Option B)) → MapsSlots step of weight with f i xs ys → (e : ℕ) → option_map k (slot ys e) ≡ option_map h (slot xs e)
+  mapped_keep : {X : Type 0} (h : A → X) (k : B → X) → ((x : A) (v : V) → k (with x v) ≡ h x)
+      → (f : F) (i : ℕ) (xs : List (Option A)) (ys : List (Option B)) → MapsSlots step of weight with f i xs ys
+      → (e : ℕ) → option_map k (slot ys e) ≡ option_map h (slot xs e)
   mapped_keep h k same f i [] ys m e = ap (λ l. option_map k (slot l e)) m
   mapped_keep h k same f i (None ∷ xs) ys (later, is, more) zero = ap (λ l. option_map k (slot l 0)) is
-  mapped_keep h k same f i (None ∷ xs) ys (later, is, more) (suc e) = ap (λ l. option_map k (slot l (suc e))) is ∙ mapped_keep h k same f (i + 1) xs later more e
-  mapped_keep h k same f i (Some x ∷ xs) ys (v, next, called, later, is, more) zero = ap (λ l. option_map k (slot l 0)) is ∙ ap Some (same x v)
-  mapped_keep h k same f i (Some x ∷ xs) ys (v, next, called, later, is, more) (suc e) = ap (λ l. option_map k (slot l (suc e))) is ∙ mapped_keep h k same next (i + 1) xs later more e
+  mapped_keep h k same f i (None ∷ xs) ys (later, is, more) (suc e) =
+      ap (λ l. option_map k (slot l (suc e))) is ∙ mapped_keep h k same f (i + 1) xs later more e
+  mapped_keep h k same f i (Some x ∷ xs) ys (v, next, called, later, is, more) zero =
+      ap (λ l. option_map k (slot l 0)) is ∙ ap Some (same x v)
+  mapped_keep h k same f i (Some x ∷ xs) ys (v, next, called, later, is, more) (suc e) =
+      ap (λ l. option_map k (slot l (suc e))) is ∙ mapped_keep h k same next (i + 1) xs later more e
 
   -- they are threaded as the old
-  mapped_threaded : (end : ℕ) (f : F) (xs : List (Option A)) (ys : List (Option B)) (links links' : List ℕ) (head count : ℕ) (vacant : List ℕ) → MapsSlots step of weight with f 0 xs ys → links' ≡ links → IsThreaded end xs links head count vacant → IsThreaded end ys links' head count vacant
+  mapped_threaded : (end : ℕ) (f : F) (xs : List (Option A)) (ys : List (Option B)) (links links' : List ℕ)
+      (head count : ℕ) (vacant : List ℕ)
+      → MapsSlots step of weight with f 0 xs ys → links' ≡ links → IsThreaded end xs links head count vacant
+      → IsThreaded end ys links' head count vacant
   mapped_threaded end f xs ys links links' head count vacant m same t =
       let long = mapped_length step of weight with f 0 xs ys m in
       record {
         linked = subst (λ l. IsLinkedList end l head vacant) (sym same) t.linked;
-        exact = λ i. (λ p. (mapped_vacant f 0 xs ys m i).1 ((t.exact i).0 p), λ q. (t.exact i).1 ((mapped_vacant f 0 xs ys m i).0 q));
+        exact = λ i. (
+          λ p. (mapped_vacant f 0 xs ys m i).1 ((t.exact i).0 p),
+          λ q. (t.exact i).1 ((mapped_vacant f 0 xs ys m i).0 q),
+        );
         counted = t.counted ∙ sym (mapped_count f 0 xs ys m);
         long = ap length same ∙ t.long ∙ sym long;
         few = omega (arith, t.few, long);
       }
 
-near_end_kept : {E W : Type 0} (dir : Direction) (x : PlainEdge E) (w : W) → near_end dir (with_weight x w) ≡ near_end dir x
+near_end_kept : {E W : Type 0} (dir : Direction) (x : PlainEdge E) (w : W)
+    → near_end dir (with_weight x w) ≡ near_end dir x
 near_end_kept Outgoing x w = refl
 near_end_kept Incoming x w = refl
 
-module _ {N E V W Ix F G I : Type 0} (of : ℕ → I) (step_f : F → I → Bor N → V → F → Type 0) (step_g : G → I → Bor E → W → G → Type 0) (f : F) (g : G) (end : ℕ)
-    (nodes : List (Node (Option N) Ix)) (edges : List (Edge (Option E) Ix)) (nodes' : List (Node (Option V) Ix)) (edges' : List (Edge (Option W) Ix)) (node_head edge_head : ℕ)
-    (mapped : MapsSlots step_f of (λ w. w) (λ w v. v) f 0 (map weight_of nodes) (map weight_of nodes')) (firsts : (dir : Direction) → firsts_of dir nodes' ≡ firsts_of dir nodes)
-    (mapped' : MapsSlots step_g of weight_in with_weight g 0 (map plain_edge edges) (map plain_edge edges')) (nexts : (dir : Direction) → nexts_of dir edges' ≡ nexts_of dir edges) where
+module _ {N E V W Ix F G I : Type 0} (of : ℕ → I) (step_f : F → I → Bor N → V → F → Type 0)
+    (step_g : G → I → Bor E → W → G → Type 0) (f : F) (g : G) (end : ℕ)
+    (nodes : List (Node (Option N) Ix)) (edges : List (Edge (Option E) Ix)) (nodes' : List (Node (Option V) Ix))
+    (edges' : List (Edge (Option W) Ix)) (node_head edge_head : ℕ)
+    (mapped : MapsSlots step_f of (λ w. w) (λ w v. v) f 0 (map weight_of nodes) (map weight_of nodes'))
+    (firsts : (dir : Direction) → firsts_of dir nodes' ≡ firsts_of dir nodes)
+    (mapped' : MapsSlots step_g of weight_in with_weight g 0 (map plain_edge edges) (map plain_edge edges'))
+    (nexts : (dir : Direction) → nexts_of dir edges' ≡ nexts_of dir edges) where
   abbrev old : Graph N E
   old = stored_graph end nodes edges node_head edge_head
 
@@ -139,35 +203,62 @@ module _ {N E V W Ix F G I : Type 0} (of : ℕ → I) (step_f : F → I → Bor 
 
   same_firsts : (dir : Direction) → list_firsts end dir nodes' ≡ list_firsts end dir nodes
   same_firsts dir =
-      mapped_shown step_f of (λ w. w) (λ w v. v) end f 0 (map weight_of nodes) (map weight_of nodes') (firsts_of dir nodes') mapped ∙ ap (shown end (map weight_of nodes)) (firsts dir)
+      mapped_shown step_f of (λ w. w) (λ w v. v) end f 0 (map weight_of nodes) (map weight_of nodes')
+      (firsts_of dir nodes') mapped
+      ∙ ap (shown end (map weight_of nodes)) (firsts dir)
 
-  same_rows : (dir : Direction) → linked_lists (list_firsts end dir nodes') (nexts_of dir edges') ≡ linked_lists (list_firsts end dir nodes) (nexts_of dir edges)
-  same_rows dir = ap (λ z. linked_lists z (nexts_of dir edges')) (same_firsts dir) ∙ ap (linked_lists (list_firsts end dir nodes)) (nexts dir)
+  same_rows : (dir : Direction)
+      → linked_lists (list_firsts end dir nodes') (nexts_of dir edges')
+      ≡ linked_lists (list_firsts end dir nodes) (nexts_of dir edges)
+  same_rows dir =
+      ap (λ z. linked_lists z (nexts_of dir edges')) (same_firsts dir)
+      ∙ ap (linked_lists (list_firsts end dir nodes)) (nexts dir)
 
-  linked_again : (dir : Direction) → AreLinkedLists end (list_firsts end dir nodes) (nexts_of dir edges) (linked_lists (list_firsts end dir nodes) (nexts_of dir edges)) → AreLinkedLists end (list_firsts end dir nodes') (nexts_of dir edges') (linked_lists (list_firsts end dir nodes') (nexts_of dir edges'))
+  linked_again : (dir : Direction)
+      → AreLinkedLists end (list_firsts end dir nodes) (nexts_of dir edges)
+      (linked_lists (list_firsts end dir nodes) (nexts_of dir edges))
+      → AreLinkedLists end (list_firsts end dir nodes') (nexts_of dir edges')
+      (linked_lists (list_firsts end dir nodes') (nexts_of dir edges'))
   linked_again dir s =
-      let one = subst (λ z. AreLinkedLists end z (nexts_of dir edges) (linked_lists z (nexts_of dir edges))) (sym (same_firsts dir)) s in
-      subst (λ z. AreLinkedLists end (list_firsts end dir nodes') z (linked_lists (list_firsts end dir nodes') z)) (sym (nexts dir)) one
+      let one =
+      subst (λ z. AreLinkedLists end z (nexts_of dir edges) (linked_lists z (nexts_of dir edges)))
+      (sym (same_firsts dir)) s in
+      subst (λ z. AreLinkedLists end (list_firsts end dir nodes') z (linked_lists (list_firsts end dir nodes') z))
+      (sym (nexts dir)) one
 
-  listed_again : (dir : Direction) → ListsBy (end_of dir old) (linked_lists (list_firsts end dir nodes) (nexts_of dir edges)) → ListsBy (end_of dir new) (linked_lists (list_firsts end dir nodes') (nexts_of dir edges'))
+  listed_again : (dir : Direction)
+      → ListsBy (end_of dir old) (linked_lists (list_firsts end dir nodes) (nexts_of dir edges))
+      → ListsBy (end_of dir new) (linked_lists (list_firsts end dir nodes') (nexts_of dir edges'))
   listed_again dir s n e =
-      let same = mapped_keep step_g of weight_in with_weight (near_end dir) (near_end dir) (near_end_kept dir) g 0 (map plain_edge edges) (map plain_edge edges') mapped' e in
+      let same =
+      mapped_keep step_g of weight_in with_weight (near_end dir) (near_end dir) (near_end_kept dir) g 0
+      (map plain_edge edges) (map plain_edge edges') mapped' e in
       let one = subst (λ z. Contains (nth_list z n) e ↔ (end_of dir old e ≡ Some n)) (sym (same_rows dir)) (s n e) in
       (λ p. same ∙ one.0 p, λ q. one.1 (sym same ∙ q))
 
-  pub Stores-mapped : (nodes_counted edges_counted : ℕ) → Stores end nodes edges node_head edge_head nodes_counted edges_counted old → Stores end nodes' edges' node_head edge_head nodes_counted edges_counted new
+  pub Stores-mapped : (nodes_counted edges_counted : ℕ)
+      → Stores end nodes edges node_head edge_head nodes_counted edges_counted old
+      → Stores end nodes' edges' node_head edge_head nodes_counted edges_counted new
   Stores-mapped nodes_counted edges_counted s =
       let vacant : new.vacant_nodes ≡ old.vacant_nodes = ap (λ l. follow l (length l) node_head) (firsts Outgoing) in
       let vacant' : new.vacant_edges ≡ old.vacant_edges = ap (λ l. follow l (length l) edge_head) (nexts Outgoing) in
       record {
         nodes_are = refl;
         edges_are = refl;
-        linked = elim [ Outgoing ↦ linked_again Outgoing (s.linked Outgoing) | Incoming ↦ linked_again Incoming (s.linked Incoming) ];
-        listed = elim [ Outgoing ↦ listed_again Outgoing (s.listed Outgoing) | Incoming ↦ listed_again Incoming (s.listed Incoming) ];
+        linked = elim [
+          | Outgoing ↦ linked_again Outgoing (s.linked Outgoing)
+          | Incoming ↦ linked_again Incoming (s.linked Incoming)
+        ];
+        listed = elim [
+          | Outgoing ↦ listed_again Outgoing (s.listed Outgoing)
+          | Incoming ↦ listed_again Incoming (s.listed Incoming)
+        ];
         node_slots = subst (IsThreaded end new.nodes (firsts_of Outgoing nodes') node_head nodes_counted) (sym vacant)
-            (mapped_threaded step_f of (λ w. w) (λ w v. v) end f old.nodes new.nodes (firsts_of Outgoing nodes) (firsts_of Outgoing nodes') node_head nodes_counted old.vacant_nodes mapped (firsts Outgoing) s.node_slots);
+            (mapped_threaded step_f of (λ w. w) (λ w v. v) end f old.nodes new.nodes (firsts_of Outgoing nodes)
+            (firsts_of Outgoing nodes') node_head nodes_counted old.vacant_nodes mapped (firsts Outgoing) s.node_slots);
         edge_slots = subst (IsThreaded end new.edges (nexts_of Outgoing edges') edge_head edges_counted) (sym vacant')
-            (mapped_threaded step_g of weight_in with_weight end g old.edges new.edges (nexts_of Outgoing edges) (nexts_of Outgoing edges') edge_head edges_counted old.vacant_edges mapped' (nexts Outgoing) s.edge_slots);
+            (mapped_threaded step_g of weight_in with_weight end g old.edges new.edges (nexts_of Outgoing edges)
+            (nexts_of Outgoing edges') edge_head edges_counted old.vacant_edges mapped' (nexts Outgoing) s.edge_slots);
       }
 
   pub IsMapped-stored : IsMapped of step_f step_g f g old new

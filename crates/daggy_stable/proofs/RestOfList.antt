@@ -1,5 +1,6 @@
 -- What is left of a list of a node's edges, before and after a step.
-use Rattle.std.proofs.Common.{◌≡◌, ℕ, ◌<◌, ◌≤◌, List, [], ◌∷◌, map, length, get_or, Option, Some, IsSome, is_some, sym, ap, subst, ◌∙◌, arith, Contains}
+use Rattle.std.proofs.Common.{◌≡◌, ℕ, ◌<◌, ◌≤◌, List, [], ◌∷◌, map, length, get_or, Option, Some, IsSome, is_some, sym}
+use Rattle.std.proofs.Common.{ap, subst, ◌∙◌, arith, Contains}
 use Rattle.std.specs.List.{filter_map, cons_option}
 use Rattle.std.proofs.lemmas.List.{length-map}
 use Rattle.daggy_base.specs.declared.index.Direction.{Direction}
@@ -25,7 +26,12 @@ module _ {E Ix : Type 0} (dir : Direction) (edges : List (Edge (Option E) Ix)) w
   held i = numbered_edge i (slot (map plain_edge edges) i)
 
   pub left_past : (e : ℕ) → length edges ≤ e → edges_left dir edges e ≡ []
-  left_past e past = ap (filter_map held) (follow_past (nexts_of dir edges) (length (nexts_of dir edges)) e (omega (arith, past, length-map edges (raw_next dir))))
+  left_past e past =
+      ap (filter_map held) (follow_past (nexts_of dir edges) (length (nexts_of dir edges)) e (omega (
+        arith,
+        past,
+        length-map edges (raw_next dir),
+      )))
 
   -- no more is left than there are slots
   pub left_few : (e : ℕ) → length (edges_left dir edges e) ≤ length edges
@@ -35,36 +41,50 @@ module _ {E Ix : Type 0} (dir : Direction) (edges : List (Edge (Option E) Ix)) w
       omega (arith, one, two, length-map edges (raw_next dir))
 
   -- a step from an edge that is there
-  module _ (end e : ℕ) (x : Edge (Option E) Ix) (within : e < length edges) (is : x ≡ get_or edges e x) (s : IsOnFullList end dir edges e) where
+  module _ (end e : ℕ) (x : Edge (Option E) Ix) (within : e < length edges) (is : x ≡ get_or edges e x)
+      (s : IsOnFullList end dir edges e) where
     goes : list_from dir edges e ≡ e ∷ list_from dir edges (raw_next dir x)
     goes = (step_on end dir edges e x within is s.on_list).0
 
     pub weight_there : IsSome x.weight
-    weight_there = sym (plain_some x) ∙ ap is_some (sym (slot_read plain_edge edges e x within is)) ∙ s.full e (subst (λ l. Contains l e) (sym goes) (Contains-here e (list_from dir edges (raw_next dir x))))
+    weight_there =
+        sym (plain_some x) ∙ ap is_some (sym (slot_read plain_edge edges e x within is))
+        ∙ s.full e (subst (λ l. Contains l e) (sym goes) (Contains-here e (list_from dir edges (raw_next dir x))))
 
     pub IsOnFullList-step : IsOnFullList end dir edges (raw_next dir x)
     IsOnFullList-step = record {
       on_list = IsOnList-step end dir edges e x within is s.on_list;
-      full = λ i p. s.full i (subst (λ l. Contains l i) (sym goes) (Contains-there e i (list_from dir edges (raw_next dir x)) p));
+      full = λ i p.
+          s.full i (subst (λ l. Contains l i) (sym goes) (Contains-there e i (list_from dir edges (raw_next dir x)) p));
     }
 
-    pub left_step : (p : ℕ × PlainEdge E) → numbered_edge e (plain_edge x) ≡ Some p → edges_left dir edges e ≡ p ∷ edges_left dir edges (raw_next dir x)
+    pub left_step : (p : ℕ × PlainEdge E)
+        → numbered_edge e (plain_edge x) ≡ Some p → edges_left dir edges e ≡ p ∷ edges_left dir edges (raw_next dir x)
     left_step p at =
         let rest = edges_left dir edges (raw_next dir x) in
-        ap (filter_map held) goes ∙ ap (λ o. cons_option (numbered_edge e o) rest) (slot_read plain_edge edges e x within is) ∙ ap (λ o. cons_option o rest) at
+        ap (filter_map held) goes
+        ∙ ap (λ o. cons_option (numbered_edge e o) rest) (slot_read plain_edge edges e x within is)
+        ∙ ap (λ o. cons_option o rest) at
 
 -- the list of a node
-module _ {N E Ix : Type 0} {end : ℕ} {nodes : List (Node (Option N) Ix)} {edges : List (Edge (Option E) Ix)} {node_head edge_head nodes_counted edges_counted : ℕ} {g : Graph N E} (s : Stores end nodes edges node_head edge_head nodes_counted edges_counted g)
+module _ {N E Ix : Type 0} {end : ℕ} {nodes : List (Node (Option N) Ix)} {edges : List (Edge (Option E) Ix)}
+    {node_head edge_head nodes_counted edges_counted : ℕ} {g : Graph N E}
+    (s : Stores end nodes edges node_head edge_head nodes_counted edges_counted g)
     (dir : Direction) (n e : ℕ) (is : e ≡ first_of end (list_at dir g n)) where
   begins : IsLinkedList end (nexts_of dir edges) e (nth_list (lists_at dir g) n)
-  begins = subst (λ z. IsLinkedList end (nexts_of dir edges) z (nth_list (lists_at dir g) n)) (ap (first_of end) (list_seen s dir n) ∙ sym is) (row_from s dir n)
+  begins =
+      subst (λ z. IsLinkedList end (nexts_of dir edges) z (nth_list (lists_at dir g) n))
+      (ap (first_of end) (list_seen s dir n) ∙ sym is) (row_from s dir n)
 
   walk_begins : list_from dir edges e ≡ nth_list (lists_at dir g) n
   walk_begins = row_is end e (nexts_of dir edges) _ begins (nexts_few s dir)
 
   pub IsOnFullList-begins : IsOnFullList end dir edges e
   IsOnFullList-begins = record {
-    on_list = record { linked = subst (IsLinkedList end (nexts_of dir edges) e) (sym walk_begins) begins; few = omega (arith, edges_long s, s.edge_slots.few) };
+    on_list = record {
+      linked = subst (IsLinkedList end (nexts_of dir edges) e) (sym walk_begins) begins;
+      few = omega (arith, edges_long s, s.edge_slots.few);
+    };
     full = λ i p.
         let found = end_back s dir n i ((s.listed dir n i).0 (subst (λ l. Contains l i) walk_begins p)) in
         is_some_at _ found.0 (ap (λ l. slot l i) (sym s.edges_are) ∙ found.1);

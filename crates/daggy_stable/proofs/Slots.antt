@@ -1,5 +1,6 @@
 -- Slots: one made, one filled, one vacated, one cut off.
-use Rattle.std.proofs.Common.{◌≡◌, ◌≢◌, ℕ, zero, suc, ◌+◌, ◌<◌, ◌≤◌, List, [], ◌∷◌, ◌++◌, length, set, take, Option, Some, None, is_some, slice_get, refl, sym, ap, subst, ◌∙◌, inl, inr, arith, Contains}
+use Rattle.std.proofs.Common.{◌≡◌, ◌≢◌, ℕ, zero, suc, ◌+◌, ◌<◌, ◌≤◌, List, [], ◌∷◌, ◌++◌, length, set, take, Option}
+use Rattle.std.proofs.Common.{Some, None, is_some, slice_get, refl, sym, ap, subst, ◌∙◌, inl, inr, arith, Contains}
 use Rattle.std.specs.List.{count_by}
 use Rattle.std.proofs.lemmas.Bool.{cases_eq, cases_lt}
 use Rattle.std.proofs.lemmas.List.{length-set, length_push, length-take-le}
@@ -11,7 +12,9 @@ use Rattle.daggy_base.specs.Cursor.{first_of, after}
 use Rattle.daggy_base.proofs.OutEdgesRead.{slot_get}
 use Rattle.daggy_base.proofs.FullSlots.{count_full, full_from}
 use Rattle.daggy_cells.specs.Links.{follow, IsLinkedList}
-use Rattle.daggy_base.proofs.Lists.{Contains-nil, Contains-here, Contains-there, slice_get-set_same, slice_get-set_other, slice_get-push_new, slice_get-push_other, slice_get-take, slice_get-take_past}
+use Rattle.daggy_base.proofs.Lists.{Contains-nil, Contains-here, Contains-there, slice_get-set_same}
+use Rattle.daggy_base.proofs.Lists.{slice_get-set_other, slice_get-push_new, slice_get-push_other, slice_get-take}
+use Rattle.daggy_base.proofs.Lists.{slice_get-take_past}
 use Rattle.daggy_cells.proofs.LinkedLists.{after_here, after_there, row_is, IsLinkedList-tail}
 use Rattle.daggy_cells.proofs.LinkedListChanges.{IsLinkedList-kept}
 use Rattle.daggy_stable.specs.Stored.{IsThreaded}
@@ -27,9 +30,11 @@ module _ {A : Type 0} where
       let right = count_cons z zs in
       omega (arith, more, left, right)
 
-  pub count_fill : (xs : List (Option A)) (v : ℕ) (x : A) → slice_get xs v ≡ Some None → count_by is_some (set xs v (Some x)) ≡ suc (count_by is_some xs)
+  pub count_fill : (xs : List (Option A)) (v : ℕ) (x : A)
+      → slice_get xs v ≡ Some None → count_by is_some (set xs v (Some x)) ≡ suc (count_by is_some xs)
   count_fill [] v x h = absurd (none-some None h)
-  count_fill (None ∷ zs) zero x h = let left = count_cons (Some x) zs in let right = count_cons None zs in omega (arith, left, right)
+  count_fill (None ∷ zs) zero x h = let left = count_cons (Some x) zs in
+      let right = count_cons None zs in omega (arith, left, right)
   count_fill (Some y ∷ zs) zero x h = absurd (none-some y (sym (same_Some (Some y) None h)))
   count_fill (z ∷ zs) (suc v) x h =
       let more = count_fill zs v x h in
@@ -37,27 +42,32 @@ module _ {A : Type 0} where
       let right = count_cons z zs in
       omega (arith, more, left, right)
 
-  pub count_vacate : (xs : List (Option A)) (e : ℕ) (x : A) → slot xs e ≡ Some x → count_by is_some xs ≡ suc (count_by is_some (set xs e None))
+  pub count_vacate : (xs : List (Option A)) (e : ℕ) (x : A)
+      → slot xs e ≡ Some x → count_by is_some xs ≡ suc (count_by is_some (set xs e None))
   count_vacate [] e x h = absurd (none-some x h)
   count_vacate (None ∷ zs) zero x h = absurd (none-some x h)
-  count_vacate (Some y ∷ zs) zero x h = let left = count_cons (Some y) zs in let right = count_cons None zs in omega (arith, left, right)
+  count_vacate (Some y ∷ zs) zero x h = let left = count_cons (Some y) zs in
+      let right = count_cons None zs in omega (arith, left, right)
   count_vacate (z ∷ zs) (suc e) x h =
       let more = count_vacate zs e x h in
       let left = count_cons z (set zs e None) in
       let right = count_cons z zs in
       omega (arith, more, left, right)
 
-  pub count_keep : (xs : List (Option A)) (e : ℕ) (x y : A) → slot xs e ≡ Some x → count_by is_some (set xs e (Some y)) ≡ count_by is_some xs
+  pub count_keep : (xs : List (Option A)) (e : ℕ) (x y : A)
+      → slot xs e ≡ Some x → count_by is_some (set xs e (Some y)) ≡ count_by is_some xs
   count_keep [] e x y h = refl
   count_keep (None ∷ zs) zero x y h = absurd (none-some x h)
-  count_keep (Some z ∷ zs) zero x y h = let left = count_cons (Some y) zs in let right = count_cons (Some z) zs in omega (arith, left, right)
+  count_keep (Some z ∷ zs) zero x y h = let left = count_cons (Some y) zs in
+      let right = count_cons (Some z) zs in omega (arith, left, right)
   count_keep (z ∷ zs) (suc e) x y h =
       let more = count_keep zs e x y h in
       let left = count_cons z (set zs e (Some y)) in
       let right = count_cons z zs in
       omega (arith, more, left, right)
 
-  pub count_take : (xs : List (Option A)) (e : ℕ) (x : A) → slot xs e ≡ Some x → e + 1 ≡ length xs → count_by is_some xs ≡ suc (count_by is_some (take e xs))
+  pub count_take : (xs : List (Option A)) (e : ℕ) (x : A)
+      → slot xs e ≡ Some x → e + 1 ≡ length xs → count_by is_some xs ≡ suc (count_by is_some (take e xs))
   count_take [] e x h last = absurd (none-some x h)
   count_take (None ∷ zs) zero x h last = absurd (none-some x h)
   count_take (Some y ∷ []) zero x h last = let step = count_cons (Some y) [] in omega (arith, step)
@@ -77,30 +87,44 @@ module _ {A : Type 0} where
   slot_inside xs e x h = slice_get_within xs e _ (slot_get xs e x h)
 
   module _ (end : ℕ) (slots : List (Option A)) (links : List ℕ) (head count : ℕ) where
-    pub vacant_inside : (vacant : List ℕ) → IsThreaded end slots links head count vacant → (i : ℕ) → Contains vacant i → i < length slots
+    pub vacant_inside : (vacant : List ℕ)
+        → IsThreaded end slots links head count vacant → (i : ℕ) → Contains vacant i → i < length slots
     vacant_inside vacant t i p = slice_get_within slots i _ ((t.exact i).0 p)
 
     -- where the head leads
-    pub vacant_none : (vacant : List ℕ) → IsThreaded end slots links head count vacant → length slots ≤ head → vacant ≡ []
+    pub vacant_none : (vacant : List ℕ)
+        → IsThreaded end slots links head count vacant → length slots ≤ head → vacant ≡ []
     vacant_none [] t past = refl
-    vacant_none (v ∷ vs) t past = absurd (omega (arith, past, t.linked.starts, vacant_inside (v ∷ vs) t v (Contains-here v vs)))
+    vacant_none (v ∷ vs) t past =
+        absurd (omega (arith, past, t.linked.starts, vacant_inside (v ∷ vs) t v (Contains-here v vs)))
 
-    pub vacant_some : (vacant : List ℕ) → IsThreaded end slots links head count vacant → head < length slots → (rest : List ℕ) × (vacant ≡ head ∷ rest)
+    pub vacant_some : (vacant : List ℕ)
+        → IsThreaded end slots links head count vacant → head < length slots → (rest : List ℕ) × (vacant ≡ head ∷ rest)
     vacant_some [] t within = absurd (omega (arith, within, t.linked.starts, t.few))
     vacant_some (v ∷ vs) t within = (vs, ap (λ z. z ∷ vs) (sym t.linked.starts))
 
-    pub vacant_is : (vacant : List ℕ) → IsThreaded end slots links head count vacant → follow links (length links) head ≡ vacant
+    pub vacant_is : (vacant : List ℕ)
+        → IsThreaded end slots links head count vacant → follow links (length links) head ≡ vacant
     vacant_is vacant t = row_is end head links vacant t.linked (omega (arith, t.long, t.few))
 
     pub counted_full : IsThreaded end slots links head count [] → count ≡ length slots
     counted_full t = t.counted ∙ count_full slots (full_from slots [] (record { exact = t.exact; once = tt }) refl)
 
     -- other links, which are the same at vacant slots
-    pub rethreaded : (vacant : List ℕ) → IsThreaded end slots links head count vacant → (links' : List ℕ) → length links' ≡ length links → ((f : ℕ) → Contains vacant f → slice_get links' f ≡ slice_get links f) → IsThreaded end slots links' head count vacant
+    pub rethreaded : (vacant : List ℕ) → IsThreaded end slots links head count vacant → (links' : List ℕ)
+        → length links' ≡ length links → ((f : ℕ) → Contains vacant f → slice_get links' f ≡ slice_get links f)
+        → IsThreaded end slots links' head count vacant
     rethreaded vacant t links' same_length kept =
-        record { linked = IsLinkedList-kept end links links' head vacant t.linked kept; exact = t.exact; counted = t.counted; long = same_length ∙ t.long; few = t.few }
+        record {
+          linked = IsLinkedList-kept end links links' head vacant t.linked kept;
+          exact = t.exact;
+          counted = t.counted;
+          long = same_length ∙ t.long;
+          few = t.few;
+        }
 
-    pub made : IsThreaded end slots links head count [] → (x : A) → length slots < end → (links' : List ℕ) → length links' ≡ suc (length slots) → IsThreaded end (slots ++ Some x ∷ []) links' head (suc count) []
+    pub made : IsThreaded end slots links head count [] → (x : A) → length slots < end → (links' : List ℕ)
+        → length links' ≡ suc (length slots) → IsThreaded end (slots ++ Some x ∷ []) links' head (suc count) []
     made t x index_left links' long =
         record {
           linked = record { starts = t.linked.starts; distinct = tt; goes_on = λ e p. absurd (Contains-nil e p) };
@@ -113,23 +137,39 @@ module _ {A : Type 0} where
         never : (i : ℕ) → slice_get (slots ++ Some x ∷ []) i ≡ Some None → ⊥
         never i q =
             elim (cases_eq i (length slots)) [
-              | inl same ↦ none-some x (sym (same_Some (Some x) None (sym (slice_get-push_new slots (Some x)) ∙ ap (slice_get (slots ++ Some x ∷ [])) (sym same) ∙ q)))
+              | inl same ↦
+                  none-some x (sym (same_Some (Some x) None
+                  (sym (slice_get-push_new slots (Some x)) ∙ ap (slice_get (slots ++ Some x ∷ [])) (sym same) ∙ q)))
               | inr other ↦ Contains-nil i ((t.exact i).1 (sym (slice_get-push_other slots (Some x) i other) ∙ q))
             ]
 
-    pub filled : (v : ℕ) (vs : List ℕ) → IsThreaded end slots links head count (v ∷ vs) → (x : A) (links' : List ℕ) (head' : ℕ) → length links' ≡ length links → ((f : ℕ) → Contains vs f → slice_get links' f ≡ slice_get links f) → slice_get links v ≡ Some head'
+    pub filled : (v : ℕ) (vs : List ℕ) → IsThreaded end slots links head count (v ∷ vs)
+        → (x : A) (links' : List ℕ) (head' : ℕ) → length links' ≡ length links
+        → ((f : ℕ) → Contains vs f → slice_get links' f ≡ slice_get links f) → slice_get links v ≡ Some head'
         → IsThreaded end (set slots v (Some x)) links' head' (suc count) vs
     filled v vs t x links' head' same_length kept goes =
-        let at_v : IsLinkedList end links v (v ∷ vs) = subst (λ z. IsLinkedList end links z (v ∷ vs)) t.linked.starts t.linked in
-        let is : first_of end vs ≡ head' = same_Some _ head' (ap Some (sym (after_here end v vs)) ∙ sym (t.linked.goes_on v (Contains-here v vs)) ∙ goes) in
+        let at_v : IsLinkedList end links v (v ∷ vs) =
+        subst (λ z. IsLinkedList end links z (v ∷ vs)) t.linked.starts t.linked in
+        let is : first_of end vs ≡ head' =
+        same_Some _ head'
+        (ap Some (sym (after_here end v vs)) ∙ sym (t.linked.goes_on v (Contains-here v vs)) ∙ goes) in
         let vacant_v : slice_get slots v ≡ Some None = (t.exact v).0 (Contains-here v vs) in
         record {
-          linked = IsLinkedList-kept end links links' head' vs (subst (λ z. IsLinkedList end links z vs) is (IsLinkedList-tail end links v vs at_v)) kept;
+          linked =
+              IsLinkedList-kept end links links' head' vs
+              (subst (λ z. IsLinkedList end links z vs) is (IsLinkedList-tail end links v vs at_v)) kept;
           exact = λ i. (
-            λ p. slice_get-set_other slots v i (Some x) (λ same. t.linked.distinct.0 (subst (Contains vs) same p)) ∙ (t.exact i).0 (Contains-there v i vs p),
+            λ p.
+                slice_get-set_other slots v i (Some x) (λ same. t.linked.distinct.0 (subst (Contains vs) same p))
+                ∙ (t.exact i).0 (Contains-there v i vs p),
             λ q. elim (cases_eq i v) [
-              | inl same ↦ absurd (none-some x (sym (same_Some (Some x) None (sym (slice_get-set_same slots v (Some x) (slice_get_within slots v _ vacant_v)) ∙ ap (slice_get (set slots v (Some x))) (sym same) ∙ q))))
-              | inr other ↦ Contains-tail v vs i (λ same. other (sym same)) ((t.exact i).1 (sym (slice_get-set_other slots v i (Some x) other) ∙ q))
+              | inl same ↦
+                  absurd (none-some x (sym (same_Some (Some x) None
+                  (sym (slice_get-set_same slots v (Some x) (slice_get_within slots v _ vacant_v))
+                  ∙ ap (slice_get (set slots v (Some x))) (sym same) ∙ q))))
+              | inr other ↦
+                  Contains-tail v vs i (λ same. other (sym same))
+                  ((t.exact i).1 (sym (slice_get-set_other slots v i (Some x) other) ∙ q))
             ],
           );
           counted = ap suc t.counted ∙ sym (count_fill slots v x vacant_v);
@@ -137,11 +177,14 @@ module _ {A : Type 0} where
           few = omega (arith, t.few, length-set slots v (Some x));
         }
 
-    module _ (vacant : List ℕ) (t : IsThreaded end slots links head count vacant) (e : ℕ) (x : A) (at : slot slots e ≡ Some x) where
+    module _ (vacant : List ℕ) (t : IsThreaded end slots links head count vacant) (e : ℕ) (x : A)
+        (at : slot slots e ≡ Some x) where
       pub not_listed : ¬ Contains vacant e
       not_listed p = slot_not_vacant slots e x at ((t.exact e).0 p)
 
-      pub vacated : (links' : List ℕ) (count' : ℕ) → length links' ≡ length links → slice_get links' e ≡ Some head → ((f : ℕ) → Contains vacant f → slice_get links' f ≡ slice_get links f) → count ≡ suc count' → IsThreaded end (set slots e None) links' e count' (e ∷ vacant)
+      pub vacated : (links' : List ℕ) (count' : ℕ) → length links' ≡ length links → slice_get links' e ≡ Some head
+          → ((f : ℕ) → Contains vacant f → slice_get links' f ≡ slice_get links f) → count ≡ suc count'
+          → IsThreaded end (set slots e None) links' e count' (e ∷ vacant)
       vacated links' count' same_length goes kept count_is =
           record {
             linked = record {
@@ -149,7 +192,9 @@ module _ {A : Type 0} where
               distinct = (not_listed, t.linked.distinct);
               goes_on = λ f p.
                   elim (cases_eq e f) [
-                    | inl same ↦ subst (λ z. slice_get links' z ≡ Some (after end (e ∷ vacant) z)) same (goes ∙ ap Some (t.linked.starts ∙ sym (after_here end e vacant)))
+                    | inl same ↦
+                        subst (λ z. slice_get links' z ≡ Some (after end (e ∷ vacant) z)) same
+                        (goes ∙ ap Some (t.linked.starts ∙ sym (after_here end e vacant)))
                     | inr other ↦
                         let there = Contains-tail e vacant f other p in
                         kept f there ∙ t.linked.goes_on f there ∙ ap Some (sym (after_there end e f vacant other))
@@ -157,12 +202,18 @@ module _ {A : Type 0} where
             };
             exact = λ i. (
               λ p. elim (cases_eq e i) [
-                | inl same ↦ subst (λ z. slice_get (set slots e None) z ≡ Some None) same (slice_get-set_same slots e None (slot_inside slots e x at))
-                | inr other ↦ slice_get-set_other slots e i None (λ same. other (sym same)) ∙ (t.exact i).0 (Contains-tail e vacant i other p)
+                | inl same ↦
+                    subst (λ z. slice_get (set slots e None) z ≡ Some None) same
+                    (slice_get-set_same slots e None (slot_inside slots e x at))
+                | inr other ↦
+                    slice_get-set_other slots e i None (λ same. other (sym same))
+                    ∙ (t.exact i).0 (Contains-tail e vacant i other p)
               ],
               λ q. elim (cases_eq e i) [
                 | inl same ↦ subst (Contains (e ∷ vacant)) same (Contains-here e vacant)
-                | inr other ↦ Contains-there e i vacant ((t.exact i).1 (sym (slice_get-set_other slots e i None (λ same. other (sym same))) ∙ q))
+                | inr other ↦
+                    Contains-there e i vacant
+                    ((t.exact i).1 (sym (slice_get-set_other slots e i None (λ same. other (sym same))) ∙ q))
               ],
             );
             counted = let step = count_vacate slots e x at in omega (arith, step, count_is, t.counted);
@@ -170,7 +221,9 @@ module _ {A : Type 0} where
             few = omega (arith, t.few, length-set slots e None);
           }
 
-      pub cut : (links' : List ℕ) (count' : ℕ) → e + 1 ≡ length slots → length links' ≡ e → ((f : ℕ) → Contains vacant f → slice_get links' f ≡ slice_get links f) → count ≡ suc count' → IsThreaded end (take e slots) links' head count' vacant
+      pub cut : (links' : List ℕ) (count' : ℕ) → e + 1 ≡ length slots → length links' ≡ e
+          → ((f : ℕ) → Contains vacant f → slice_get links' f ≡ slice_get links f) → count ≡ suc count'
+          → IsThreaded end (take e slots) links' head count' vacant
       cut links' count' last links_long kept count_is =
           let short : length (take e slots) ≡ e = length-take-le e slots (omega (arith, last)) in
           record {
@@ -196,9 +249,14 @@ module _ {A : Type 0} where
           record {
             linked = t.linked;
             exact = λ i. (
-              λ p. slice_get-set_other slots e i (Some y) (λ same. not_listed (subst (Contains vacant) same p)) ∙ (t.exact i).0 p,
+              λ p.
+                  slice_get-set_other slots e i (Some y) (λ same. not_listed (subst (Contains vacant) same p))
+                  ∙ (t.exact i).0 p,
               λ q. elim (cases_eq i e) [
-                | inl same ↦ absurd (none-some y (sym (same_Some (Some y) None (sym (slice_get-set_same slots e (Some y) (slot_inside slots e x at)) ∙ ap (slice_get (set slots e (Some y))) (sym same) ∙ q))))
+                | inl same ↦
+                    absurd (none-some y
+                    (sym (same_Some (Some y) None (sym (slice_get-set_same slots e (Some y) (slot_inside slots e x at))
+                    ∙ ap (slice_get (set slots e (Some y))) (sym same) ∙ q))))
                 | inr other ↦ (t.exact i).1 (sym (slice_get-set_other slots e i (Some y) other) ∙ q)
               ],
             );

@@ -1,5 +1,6 @@
 -- What is left once the vacant slots in front are passed over.
-use Rattle.std.proofs.Common.{◌≡◌, ℕ, ◌+◌, ◌≤◌, Bool, true, false, cond, List, [], ◌∷◌, map, length, Option, Some, None, is_some, is_none, refl, sym, ap, ◌∙◌, arith}
+use Rattle.std.proofs.Common.{◌≡◌, ℕ, ◌+◌, ◌≤◌, Bool, true, false, cond, List, [], ◌∷◌, map, length, Option, Some, None}
+use Rattle.std.proofs.Common.{is_some, is_none, refl, sym, ap, ◌∙◌, arith}
 use Rattle.std.specs.Option.{option_map}
 use Rattle.std.proofs.lemmas.Bool.{not-true, not-false}
 use Rattle.std.proofs.lemmas.Option.{same_Some, none-some}
@@ -26,7 +27,9 @@ module _ {C B : Type 0} (f : C → Option B) (vacant : C → Bool) (agree : (x :
     pub left : numbered i (map f cells) ≡ (j, held) ∷ numbered (j + 1) (map f rest)
     pub within : j + 1 + length rest ≤ i + length cells
 
-  found_after : (i : ℕ) (y : C) (ys : List C) (j : ℕ) (x : C) (rest : List C) → (next_full vacant (i + 1) ys ≡ Some (j, (x, rest)) → Finds (i + 1) ys j x rest) → (b : Bool) → vacant y ≡ b → (if_vacant vacant i y ys b) ≡ Some (j, (x, rest)) → Finds i (y ∷ ys) j x rest
+  found_after : (i : ℕ) (y : C) (ys : List C) (j : ℕ) (x : C) (rest : List C)
+      → (next_full vacant (i + 1) ys ≡ Some (j, (x, rest)) → Finds (i + 1) ys j x rest) → (b : Bool) → vacant y ≡ b
+      → (if_vacant vacant i y ys b) ≡ Some (j, (x, rest)) → Finds i (y ∷ ys) j x rest
   found_after i y ys j x rest later true v is =
       let next = later is in
       let none : f y ≡ None = none_from (f y) (not-true (is_some (f y)) (sym (agree y) ∙ v)) in
@@ -40,15 +43,19 @@ module _ {C B : Type 0} (f : C → Option B) (vacant : C → Bool) (agree : (x :
       record {
         held = some.0;
         holds = ap f (sym same_cell) ∙ some.1;
-        left = ap (λ z. numbered i (z ∷ map f ys)) some.1 ∙ ap (λ k. (k, some.0) ∷ numbered (k + 1) (map f ys)) same_index ∙ ap (λ l. (j, some.0) ∷ numbered (j + 1) (map f l)) same_rest;
+        left =
+            ap (λ z. numbered i (z ∷ map f ys)) some.1 ∙ ap (λ k. (k, some.0) ∷ numbered (k + 1) (map f ys)) same_index
+            ∙ ap (λ l. (j, some.0) ∷ numbered (j + 1) (map f l)) same_rest;
         within = omega (arith, same_index, ap length same_rest);
       }
 
-  pub found : (i : ℕ) (cells : List C) (j : ℕ) (x : C) (rest : List C) → next_full vacant i cells ≡ Some (j, (x, rest)) → Finds i cells j x rest
+  pub found : (i : ℕ) (cells : List C) (j : ℕ) (x : C) (rest : List C)
+      → next_full vacant i cells ≡ Some (j, (x, rest)) → Finds i cells j x rest
   found i [] j x rest is = absurd (none-some _ is)
   found i (y ∷ ys) j x rest is = found_after i y ys j x rest (found (i + 1) ys j x rest) (vacant y) refl is
 
-  none_after : (i : ℕ) (y : C) (ys : List C) → (next_full vacant (i + 1) ys ≡ None → numbered (i + 1) (map f ys) ≡ []) → (b : Bool) → vacant y ≡ b → (if_vacant vacant i y ys b) ≡ None → numbered i (map f (y ∷ ys)) ≡ []
+  none_after : (i : ℕ) (y : C) (ys : List C) → (next_full vacant (i + 1) ys ≡ None → numbered (i + 1) (map f ys) ≡ [])
+      → (b : Bool) → vacant y ≡ b → (if_vacant vacant i y ys b) ≡ None → numbered i (map f (y ∷ ys)) ≡ []
   none_after i y ys later true v is =
       let none : f y ≡ None = none_from (f y) (not-true (is_some (f y)) (sym (agree y) ∙ v)) in
       rw none (later is)

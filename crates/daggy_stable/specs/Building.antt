@@ -8,9 +8,11 @@ use Rattle.daggy_stable.specs.declared.stable_graph.building.SlotBuilder.{SlotBu
 use Rattle.daggy_stable.specs.Stored.{weight_of, plain_edge, Stores}
 
 -- what is stored is the graph that these slots make
-abbrev pub IsBuilt : {N E Ix : Type 0} → (end : ℕ) → SlotBuilder (Node (Option N) Ix) Ix → SlotBuilder (Edge (Option E) Ix) Ix → Type 0
+abbrev pub IsBuilt : {N E Ix : Type 0}
+    → (end : ℕ) → SlotBuilder (Node (Option N) Ix) Ix → SlotBuilder (Edge (Option E) Ix) Ix → Type 0
 IsBuilt end nodes edges =
-    Stores end nodes.cells.items edges.cells.items nodes.first_vacant edges.first_vacant nodes.count edges.count (graph_of_slots (map weight_of nodes.cells.items) (map plain_edge edges.cells.items))
+    Stores end nodes.cells.items edges.cells.items nodes.first_vacant edges.first_vacant nodes.count edges.count
+    (graph_of_slots (map weight_of nodes.cells.items) (map plain_edge edges.cells.items))
 
 -- an edge between two nodes
 abbrev pub between : {E : Type 0} → ℕ → ℕ → E → PlainEdge E

@@ -16,9 +16,11 @@ abbrev pub edge_weight_in : {E Ix : Type 0} → List (Edge (Option E) Ix) → �
 edge_weight_in edges i = option_map (λ x. x.weight) (slot (map plain_edge edges) i)
 
 -- v in the slot a, and then w in the slot b
-abbrev pub with_node_weights : {N Ix : Type 0} → List (Node (Option N) Ix) → (a b : ℕ) → N → N → List (Node (Option N) Ix)
+abbrev pub with_node_weights : {N Ix : Type 0}
+    → List (Node (Option N) Ix) → (a b : ℕ) → N → N → List (Node (Option N) Ix)
 with_node_weights nodes a b v w = changed_at (node_of_weight (Some w)) (changed_at (node_of_weight (Some v)) nodes a) b
 
 -- the same in slots of edges
-abbrev pub with_edge_weights : {E Ix : Type 0} → List (Edge (Option E) Ix) → (a b : ℕ) → E → E → List (Edge (Option E) Ix)
+abbrev pub with_edge_weights : {E Ix : Type 0}
+    → List (Edge (Option E) Ix) → (a b : ℕ) → E → E → List (Edge (Option E) Ix)
 with_edge_weights edges a b v w = changed_at (edge_of_weight (Some w)) (changed_at (edge_of_weight (Some v)) edges a) b

@@ -18,6 +18,7 @@ abbrev pub edges_left : {E Ix : Type 0} → Direction → List (Edge (Option E) 
 edges_left dir edges e = filter_map (λ i. numbered_edge i (slot (map plain_edge edges) i)) (list_from dir edges e)
 
 -- no slot of the list is vacant
-pub record IsOnFullList {E Ix : Type 0} (end : ℕ) (dir : Direction) (edges : List (Edge (Option E) Ix)) (e : ℕ) : Type 0 where
+pub record IsOnFullList {E Ix : Type 0} (end : ℕ) (dir : Direction) (edges : List (Edge (Option E) Ix))
+    (e : ℕ) : Type 0 where
   pub on_list : IsOnList end dir edges e
   pub full : (i : ℕ) → Contains (list_from dir edges e) i → IsSome (slot (map plain_edge edges) i)

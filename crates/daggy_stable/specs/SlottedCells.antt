@@ -9,4 +9,10 @@ slotted_node x = record { weight = Some x.weight; first_out = x.first_out; first
 
 -- a stored edge of a compact graph, put into a slot
 abbrev pub slotted_edge : {E Ix : Type 0} → Edge E Ix → Edge (Option E) Ix
-slotted_edge x = record { weight = Some x.weight; parent = x.parent; child = x.child; next_out = x.next_out; next_in = x.next_in }
+slotted_edge x = record {
+  weight = Some x.weight;
+  parent = x.parent;
+  child = x.child;
+  next_out = x.next_out;
+  next_in = x.next_in;
+}

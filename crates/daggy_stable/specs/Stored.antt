@@ -1,5 +1,6 @@
 -- How a graph with vacant slots is stored. No public clause cites this module.
-use Rattle.std.specs.Prelude.{◌≡◌, ℕ, ◌≤◌, ◌↔◌, Option, Some, None, is_some, List, [], ◌∷◌, length, map, count_by, slice_get, Contains}
+use Rattle.std.specs.Prelude.{◌≡◌, ℕ, ◌≤◌, ◌↔◌, Option, Some, None, is_some, List, [], ◌∷◌, length, map, count_by}
+use Rattle.std.specs.Prelude.{slice_get, Contains}
 use Rattle.std.specs.Option.{option_map}
 use Rattle.daggy_base.specs.declared.index.Direction.{Direction}
 use Rattle.daggy_base.specs.declared.index.Direction.TheVariants.{Outgoing, Incoming}
@@ -38,7 +39,8 @@ end_of dir g e = option_map (near_end dir) (edge_at g e)
 
 -- the links of vacant slots thread them from the head on: a node's link to its first edge that leaves it, and an
 -- edge's link to the next that leaves its parent
-abbrev pub stored_graph : {N E Ix : Type 0} → (end : ℕ) → List (Node (Option N) Ix) → List (Edge (Option E) Ix) → (node_head edge_head : ℕ) → Graph N E
+abbrev pub stored_graph : {N E Ix : Type 0}
+    → (end : ℕ) → List (Node (Option N) Ix) → List (Edge (Option E) Ix) → (node_head edge_head : ℕ) → Graph N E
 stored_graph end nodes edges node_head edge_head =
     record {
       nodes = map weight_of nodes;
@@ -59,7 +61,8 @@ abbrev pub with_lists_emptied : {N Ix : Type 0} → (end : ℕ) → Node (Option
 with_lists_emptied end x = with_links_emptied end x.weight x
 
 -- the links thread the vacant slots, and so many of the slots are not vacant
-pub record IsThreaded {A : Type 0} (end : ℕ) (slots : List (Option A)) (links : List ℕ) (head count : ℕ) (vacant : List ℕ) : Type 0 where
+pub record IsThreaded {A : Type 0} (end : ℕ) (slots : List (Option A)) (links : List ℕ) (head count : ℕ)
+    (vacant : List ℕ) : Type 0 where
   pub linked : IsLinkedList end links head vacant
   pub exact : (i : ℕ) → Contains vacant i ↔ (slice_get slots i ≡ Some None)
   pub counted : count ≡ count_by is_some slots
@@ -67,7 +70,8 @@ pub record IsThreaded {A : Type 0} (end : ℕ) (slots : List (Option A)) (links 
   pub few : length slots ≤ end
 
 -- this graph is what the nodes and the edges store
-pub record Stores {N E Ix : Type 0} (end : ℕ) (nodes : List (Node (Option N) Ix)) (edges : List (Edge (Option E) Ix)) (node_head edge_head nodes_counted edges_counted : ℕ) (g : Graph N E) : Type 0 where
+pub record Stores {N E Ix : Type 0} (end : ℕ) (nodes : List (Node (Option N) Ix)) (edges : List (Edge (Option E) Ix))
+    (node_head edge_head nodes_counted edges_counted : ℕ) (g : Graph N E) : Type 0 where
   pub nodes_are : g.nodes ≡ map weight_of nodes
   pub edges_are : g.edges ≡ map plain_edge edges
   pub linked : (dir : Direction) → AreLinkedLists end (list_firsts end dir nodes) (nexts_of dir edges) (lists_at dir g)

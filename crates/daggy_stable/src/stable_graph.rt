@@ -1,7 +1,8 @@
 //! A directed graph in slots, whose indices outlive removals.
 ghost use Rattle.std.specs.Prelude.{◌≡◌, ◌<◌, ◌↔◌, IsTrue};
 ghost use Rattle.std.specs.Option.{option_map};
-ghost use Rattle.daggy_base.specs.Graph.{empty, edge_at, HasNode, HasEdge, list_at, ends_of, pair_of};
+ghost use Rattle.daggy_base.specs.Graph.{empty, edge_at, HasNode, HasEdge, list_at, ends_of};
+ghost use Rattle.daggy_base.specs.Graph.{pair_of};
 ghost use Rattle.daggy_base.specs.Finding.{find_edge as edge_between};
 ghost use Rattle.daggy_base.specs.Cursor.{first_of, cursor_after};
 
@@ -35,14 +36,15 @@ pub use slot_capacity::Room;
 use std::alloc::Global;
 use std::marker::Model;
 
-/// A directed graph whose indices outlive removals. Any number of edges may lead from one node to another, and an
-/// edge may lead from a node to itself.
+/// A directed graph whose indices outlive removals. Any number of edges may lead from one node to
+/// another, and an edge may lead from a node to itself.
 ///
-/// A removal leaves the slot of what it removed vacant, and changes no other index. Adding reuses the slot that was
-/// vacated last, and makes a new slot, behind the others, only when none is vacant. Adding is constant time, as are
-/// all calls that read, but for those that say otherwise.
+/// A removal leaves the slot of what it removed vacant, and changes no other index. Adding reuses
+/// the slot that was vacated last, and makes a new slot, behind the others, only when none is
+/// vacant. Adding is constant time, as are all calls that read, but for those that say otherwise.
 ///
-/// `Ix` is the number type that indices are kept in. It bounds how many nodes and how many edges there may be.
+/// `Ix` is the number type that indices are kept in. It bounds how many nodes and how many edges
+/// there may be.
 #[derive(Drop)]
 pub struct StableDiGraph<N, E, Ix: IndexType = DefaultIx> {
     nodes: Vec<Node<Option<N>, Ix>>,
@@ -60,9 +62,17 @@ impl<N, E, Ix: IndexType> Model for StableDiGraph<N, E, Ix> {
 
     ghost Value = { State N E };
 
-    ghost view = { λ a. record { graph = stored_graph Ix.greatest a.nodes.items a.edges.items a.first_vacant_node a.first_vacant_edge; looks = a.looks.count } };
+    ghost view = { λ a. record {
+      graph =
+          stored_graph Ix.greatest a.nodes.items a.edges.items a.first_vacant_node
+          a.first_vacant_edge;
+      looks = a.looks.count;
+    } };
 
-    ghost invariant = { λ a. Stores Ix.greatest a.nodes.items a.edges.items a.first_vacant_node a.first_vacant_edge a.node_count a.edge_count (stored_graph Ix.greatest a.nodes.items a.edges.items a.first_vacant_node a.first_vacant_edge) };
+    ghost invariant = { λ a.
+        Stores Ix.greatest a.nodes.items a.edges.items a.first_vacant_node a.first_vacant_edge
+        a.node_count a.edge_count (stored_graph Ix.greatest a.nodes.items a.edges.items
+        a.first_vacant_node a.first_vacant_edge) };
 }
 
 impl<N, E, Ix: IndexType> StableDiGraph<N, E, Ix> {
@@ -100,7 +110,8 @@ impl<N, E, Ix: IndexType> StableDiGraph<N, E, Ix> {
     /// The parent and the child of an edge, if the edge exists.
     #[inline]
     pub fn edge_endpoints(&self, e: EdgeIndex<Ix>) -> Option<(NodeIndex<Ix>, NodeIndex<Ix>)>
-        ensures { option_map (pair_of Ix.number) result ≡ option_map ends_of (edge_at self.now.graph (Ix.number e)) }
+        ensures { option_map (pair_of Ix.number) result
+            ≡ option_map ends_of (edge_at self.now.graph (Ix.number e)) }
     {
         match self.edges.get(e.index()) {
             Some(x) => {
@@ -118,7 +129,8 @@ impl<N, E, Ix: IndexType> StableDiGraph<N, E, Ix> {
     /// The first edge of those that leave the node, or of those that enter it, or `end`.
     #[inline]
     pub fn first_edge(&self, n: NodeIndex<Ix>, dir: Direction) -> EdgeIndex<Ix>
-        ensures { Ix.number result ≡ first_of Ix.greatest (list_at dir self.now.graph (Ix.number n)) }
+        ensures { Ix.number result
+            ≡ first_of Ix.greatest (list_at dir self.now.graph (Ix.number n)) }
     {
         match self.nodes.get(n.index()) {
             Some(x) => {
@@ -131,11 +143,14 @@ impl<N, E, Ix: IndexType> StableDiGraph<N, E, Ix> {
         }
     }
 
-    /// The edge after this one among those that leave its parent, or among those that enter its child, or `end`.
+    /// The edge after this one among those that leave its parent, or among those that enter its
+    /// child, or `end`.
     #[inline]
     pub fn next_edge(&self, e: EdgeIndex<Ix>, dir: Direction) -> EdgeIndex<Ix>
         requires { HasEdge self.now.graph (Ix.number e) }
-        ensures { Ix.number result ≡ cursor_after dir Ix.greatest self.now.graph (Ix.number e) (edge_at self.now.graph (Ix.number e)) }
+        ensures { Ix.number result
+            ≡ cursor_after dir Ix.greatest self.now.graph (Ix.number e)
+            (edge_at self.now.graph (Ix.number e)) }
     {
         let x = &self.edges[e.index()];
         links::next(x, dir).edge()
@@ -145,7 +160,8 @@ impl<N, E, Ix: IndexType> StableDiGraph<N, E, Ix> {
     ///
     /// The cost grows with the number of edges that leave `a`.
     pub fn find_edge(&self, a: NodeIndex<Ix>, b: NodeIndex<Ix>) -> Option<EdgeIndex<Ix>>
-        ensures { option_map Ix.number result ≡ edge_between self.now.graph (Ix.number a) (Ix.number b) }
+        ensures { option_map Ix.number result
+            ≡ edge_between self.now.graph (Ix.number a) (Ix.number b) }
     {
         let v = b.index();
         let mut e = Link::of_edge(self.first_edge(a, Direction::Outgoing));

@@ -1,8 +1,10 @@
 -- Flags in words: reading, setting and clearing one.
-use Rattle.std.proofs.Common.{◌≡◌, ◌≢◌, ℕ, ◌*◌, ◌/◌, ◌%◌, ◌^◌, ◌==◌, ◌<◌, ◌≤◌, true, false, not, List, length, get_or, set, replicate, sym, ap, ◌∙◌, inl, inr, arith, w64}
+use Rattle.std.proofs.Common.{◌≡◌, ◌≢◌, ℕ, ◌*◌, ◌/◌, ◌%◌, ◌^◌, ◌==◌, ◌<◌, ◌≤◌, true, false, not, List, length, get_or}
+use Rattle.std.proofs.Common.{set, replicate, sym, ap, ◌∙◌, inl, inr, arith, w64}
 use Rattle.std.proofs.lemmas.Bool.{cases_eq, cases_lt}
 use Rattle.std.proofs.lemmas.Bool.Decides.{nat_tests}
-use Rattle.std.proofs.lemmas.List.{ext_get_or, get_or-set_same, get_or-set_other, get_or-replicate, get_or_past, get_or_default, length-set, length-replicate}
+use Rattle.std.proofs.lemmas.List.{ext_get_or, get_or-set_same, get_or-set_other, get_or-replicate, get_or_past}
+use Rattle.std.proofs.lemmas.List.{get_or_default, length-set, length-replicate}
 use Rattle.std.proofs.lemmas.List.FromFn.{length-map-range_with_len, get_or-map-range_with_len}
 use Rattle.std.proofs.lemmas.Nat.Bits.{shr_and_one, bit_at-lt, bit_at-zero, bit_at_set_same, bit_at_set_other}
 use Rattle.std.specs.Prelude.{bit_and, bit_or}
@@ -16,7 +18,8 @@ pub flag_of : (words : List ℕ) (n i : ℕ) → i < n → get_or (flags words n
 flag_of words n i within = get_or-map-range_with_len (flag_at words) 0 n i i false within (omega arith)
 
 -- a word that was read, and the flag in it
-pub word_read : (words : List ℕ) (i word : ℕ) → i / 64 < length words → word ≡ get_or words (i / 64) word → word ≡ get_or words (i / 64) 0
+pub word_read : (words : List ℕ) (i word : ℕ)
+    → i / 64 < length words → word ≡ get_or words (i / 64) word → word ≡ get_or words (i / 64) 0
 word_read words i word within is = is ∙ get_or_default words (i / 64) word 0 within
 
 pub flag_read : (words : List ℕ) (n i word : ℕ) → i < n → n ≤ 64 * length words → word ≡ get_or words (i / 64) word
@@ -41,19 +44,26 @@ abbrev pub set_in : ℕ → ℕ → ℕ
 set_in word i = bit_or word (1 * 2 ^ (i % 64) % 2 ^ 64)
 
 -- a flag after another, or the same, was set
-same_flag : (words : List ℕ) (i j : ℕ) → j ≡ i → i / 64 < length words → flag_at (set words (i / 64) (set_in (get_or words (i / 64) 0) i)) j ≡ true
+same_flag : (words : List ℕ) (i j : ℕ)
+    → j ≡ i → i / 64 < length words → flag_at (set words (i / 64) (set_in (get_or words (i / 64) 0) i)) j ≡ true
 same_flag words i j same within =
-    let here : get_or (set words (i / 64) (set_in (get_or words (i / 64) 0) i)) (i / 64) 0 ≡ set_in (get_or words (i / 64) 0) i = get_or-set_same words (i / 64) _ 0 within in
-    let bit : bit_at (set_in (get_or words (i / 64) 0) i) (i % 64) ≡ 1 = bit_at_set_same w64 (get_or words (i / 64) 0) (i % 64) (omega arith) in
+    let here : get_or (set words (i / 64) (set_in (get_or words (i / 64) 0) i)) (i / 64) 0
+    ≡ set_in (get_or words (i / 64) 0) i =
+    get_or-set_same words (i / 64) _ 0 within in
+    let bit : bit_at (set_in (get_or words (i / 64) 0) i) (i % 64) ≡ 1 =
+    bit_at_set_same w64 (get_or words (i / 64) 0) (i % 64) (omega arith) in
     ap (λ k. flag_at (set words (i / 64) (set_in (get_or words (i / 64) 0) i)) k) same
     ∙ ap (λ w. bit_at w (i % 64) == 1) here ∙ ap (λ b. b == 1) bit
 
-other_flag : (words : List ℕ) (i j : ℕ) → j ≢ i → i / 64 < length words → flag_at (set words (i / 64) (set_in (get_or words (i / 64) 0) i)) j ≡ flag_at words j
+other_flag : (words : List ℕ) (i j : ℕ) → j ≢ i → i / 64 < length words
+    → flag_at (set words (i / 64) (set_in (get_or words (i / 64) 0) i)) j ≡ flag_at words j
 other_flag words i j other within =
     elim (cases_eq (j / 64) (i / 64)) [
       | inl word ↦
           let apart : j % 64 ≢ i % 64 = λ h. other (omega (arith, h, word)) in
-          let here : get_or (set words (i / 64) (set_in (get_or words (i / 64) 0) i)) (i / 64) 0 ≡ set_in (get_or words (i / 64) 0) i = get_or-set_same words (i / 64) _ 0 within in
+          let here : get_or (set words (i / 64) (set_in (get_or words (i / 64) 0) i)) (i / 64) 0
+          ≡ set_in (get_or words (i / 64) 0) i =
+          get_or-set_same words (i / 64) _ 0 within in
           ap (λ k. bit_at (get_or (set words (i / 64) (set_in (get_or words (i / 64) 0) i)) k 0) (j % 64) == 1) word
           ∙ ap (λ w. bit_at w (j % 64) == 1) here
           ∙ ap (λ b. b == 1) (bit_at_set_other w64 (get_or words (i / 64) 0) (i % 64) (omega arith) (j % 64) apart)
@@ -74,7 +84,8 @@ set_here words n i within fits =
     elim (cases_eq j i) [
       | inl same ↦
           flag_of new n j low ∙ same_flag words i j same word
-          ∙ sym (ap (λ k. get_or (set (flags words n) i true) k false) same ∙ get_or-set_same (flags words n) i true false inside)
+          ∙ sym (ap (λ k. get_or (set (flags words n) i true) k false) same
+          ∙ get_or-set_same (flags words n) i true false inside)
       | inr other ↦
           flag_of new n j low ∙ other_flag words i j other word
           ∙ sym (get_or-set_other (flags words n) i j true false other ∙ flag_of words n j low)
@@ -84,13 +95,19 @@ set_here words n i within fits =
 pub flag_set : (words : List ℕ) (n i word : ℕ) → i < n → n ≤ 64 * length words → word ≡ get_or words (i / 64) word
     → flags (set words (i / 64) (set_in word i)) n ≡ set (flags words n) i true
 flag_set words n i word within fits is =
-    ap (λ w. flags (set words (i / 64) (set_in w i)) n) (word_read words i word (omega arith) is) ∙ set_here words n i within fits
+    ap (λ w. flags (set words (i / 64) (set_in w i)) n) (word_read words i word (omega arith) is)
+    ∙ set_here words n i within fits
 
 no_flag : (words i : ℕ) → flag_at (replicate words 0) i ≡ false
 no_flag words i =
     elim (cases_lt (i / 64) words) [
-      | inl within ↦ ap (λ w. bit_at w (i % 64) == 1) (get_or-replicate words (i / 64) 0 0 within) ∙ ap (λ b. b == 1) (bit_at-zero (i % 64))
-      | inr past ↦ ap (λ w. bit_at w (i % 64) == 1) (get_or_past (replicate words 0) (i / 64) 0 (omega (arith, length-replicate {A = ℕ} words 0, past))) ∙ ap (λ b. b == 1) (bit_at-zero (i % 64))
+      | inl within ↦
+          ap (λ w. bit_at w (i % 64) == 1) (get_or-replicate words (i / 64) 0 0 within)
+          ∙ ap (λ b. b == 1) (bit_at-zero (i % 64))
+      | inr past ↦
+          ap (λ w. bit_at w (i % 64) == 1)
+          (get_or_past (replicate words 0) (i / 64) 0 (omega (arith, length-replicate {A = ℕ} words 0, past)))
+          ∙ ap (λ b. b == 1) (bit_at-zero (i % 64))
     ]
 
 -- words of zeros have no flag set

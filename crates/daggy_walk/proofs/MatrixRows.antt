@@ -1,5 +1,6 @@
 -- Matrices out of their rows one after another.
-use Rattle.std.proofs.Common.{◌≡◌, ℕ, ◌+◌, ◌*◌, ◌<◌, ◌≤◌, ◌⊎◌, Bool, true, false, List, [], length, get_or, set, replicate, sym, ap, ◌∙◌, inl, inr, arith}
+use Rattle.std.proofs.Common.{◌≡◌, ℕ, ◌+◌, ◌*◌, ◌<◌, ◌≤◌, ◌⊎◌, Bool, true, false, List, [], length, get_or, set}
+use Rattle.std.proofs.Common.{replicate, sym, ap, ◌∙◌, inl, inr, arith}
 use Rattle.std.proofs.Math.Nat.{mul-le-mul_right}
 use Rattle.std.proofs.lemmas.Bool.{cases_eq, cases_lt, false≢true}
 use Rattle.std.proofs.lemmas.List.{get_or-set_same, get_or-set_other, get_or-replicate, get_or_past, length-replicate}
@@ -11,7 +12,8 @@ pub length-rows : (n : ℕ) (flags : List Bool) → length (rows n flags) ≡ n
 length-rows n flags = length-map-range_with_len (row_of n flags) 0 n
 
 -- the flag of a pair within
-pub flag_of_pair : (n : ℕ) (flags : List Bool) (a b : ℕ) → a < n → b < n → get_or (get_or (rows n flags) a []) b false ≡ get_or flags (a * n + b) false
+pub flag_of_pair : (n : ℕ) (flags : List Bool) (a b : ℕ)
+    → a < n → b < n → get_or (get_or (rows n flags) a []) b false ≡ get_or flags (a * n + b) false
 flag_of_pair n flags a b row column =
     ap (λ xs. get_or xs b false) (get_or-map-range_with_len (row_of n flags) 0 n a a [] row (omega arith))
     ∙ get_or-map-range_with_len (λ k. get_or flags (a * n + k) false) 0 n b b false column (omega arith)
@@ -23,9 +25,12 @@ pair_within n flags a b has =
       | inl row ↦ elim (cases_lt b n) [
         | inl column ↦ (row, column)
         | inr past ↦
-            let here : get_or (rows n flags) a [] ≡ row_of n flags a = get_or-map-range_with_len (row_of n flags) 0 n a a [] row (omega arith) in
-            let short : length (row_of n flags a) ≤ b = omega (arith, past, length-map-range_with_len (λ k. get_or flags (a * n + k) false) 0 n) in
-            absurd (false≢true (sym (ap (λ xs. get_or xs b false) here ∙ get_or_past (row_of n flags a) b false short) ∙ has))
+            let here : get_or (rows n flags) a [] ≡ row_of n flags a =
+            get_or-map-range_with_len (row_of n flags) 0 n a a [] row (omega arith) in
+            let short : length (row_of n flags a) ≤ b =
+            omega (arith, past, length-map-range_with_len (λ k. get_or flags (a * n + k) false) 0 n) in
+            absurd (false≢true
+            (sym (ap (λ xs. get_or xs b false) here ∙ get_or_past (row_of n flags a) b false short) ∙ has))
       ]
       | inr past ↦
           let short : length (rows n flags) ≤ a = omega (arith, past, length-rows n flags) in
@@ -34,12 +39,14 @@ pair_within n flags a b has =
 
 -- what the test of a pair within tells, in the words of the code
 pub pair_tested : (n : ℕ) (flags : List Bool) (matrix : List (List Bool)) (a b row column i : ℕ) (answer : Bool)
-    → rows n flags ≡ matrix → row ≡ a → column ≡ b → row < n → column < n → i ≡ row * n + column → answer ≡ get_or flags i false
+    → rows n flags ≡ matrix → row ≡ a → column ≡ b → row < n → column < n → i ≡ row * n + column
+    → answer ≡ get_or flags i false
     → IsTrue answer ↔ HasPair matrix a b
 pair_tested n flags matrix a b row column i answer is row_is column_is row_low column_low at gives =
     let same : answer ≡ get_or (get_or matrix a []) b false =
     gives ∙ ap (λ k. get_or flags k false) at ∙ sym (flag_of_pair n flags row column row_low column_low)
-    ∙ ap (λ k. get_or (get_or (rows n flags) k []) column false) row_is ∙ ap (λ k. get_or (get_or (rows n flags) a []) k false) column_is
+    ∙ ap (λ k. get_or (get_or (rows n flags) k []) column false) row_is
+    ∙ ap (λ k. get_or (get_or (rows n flags) a []) k false) column_is
     ∙ ap (λ m. get_or (get_or m a []) b false) is in
     (λ h. sym same ∙ h, λ h. same ∙ h)
 
@@ -47,9 +54,13 @@ pair_tested n flags matrix a b row column i answer is row_is column_is row_low c
 apart : (n a b u v : ℕ) → b < n → v < n → u * n + v ≡ a * n + b → (u ≡ a) × (v ≡ b)
 apart n a b u v b_low v_low same =
     elim (cases_lt u a) [
-      | inl less ↦ absurd (let h : (u + 1) * n ≤ a * n = mul-le-mul_right n (omega (arith, less)) in omega (arith, h, same, b_low, v_low))
+      | inl less ↦
+          absurd (let h : (u + 1) * n ≤ a * n = mul-le-mul_right n (omega (arith, less)) in
+          omega (arith, h, same, b_low, v_low))
       | inr more ↦ elim (cases_lt a u) [
-        | inl less ↦ absurd (let h : (a + 1) * n ≤ u * n = mul-le-mul_right n (omega (arith, less)) in omega (arith, h, same, b_low, v_low))
+        | inl less ↦
+            absurd (let h : (a + 1) * n ≤ u * n = mul-le-mul_right n (omega (arith, less)) in
+            omega (arith, h, same, b_low, v_low))
         | inr same_row ↦
             let row : u ≡ a = omega arith in
             (row, omega (arith, same, ap (λ k. k * n) row))
@@ -57,15 +68,18 @@ apart n a b u v b_low v_low same =
     ]
 
 -- the pairs after one was set, in the words of the code
-pub pair_set : (n : ℕ) (flags : List Bool) (matrix : List (List Bool)) (a b row column i : ℕ) → rows n flags ≡ matrix → length flags ≡ n * n
+pub pair_set : (n : ℕ) (flags : List Bool) (matrix : List (List Bool)) (a b row column i : ℕ)
+    → rows n flags ≡ matrix → length flags ≡ n * n
     → row ≡ a → column ≡ b → row < n → column < n → i ≡ row * n + column → i < n * n
     → (u v : ℕ) → HasPair (rows n (set flags i true)) u v ↔ (((u ≡ a) × (v ≡ b)) ⊎ HasPair matrix u v)
 pair_set n flags matrix a b row column i is sized row_is column_is row_low column_low at within u v = (
   λ has.
       let low = pair_within n (set flags i true) u v has in
-      let flag : get_or (set flags i true) (u * n + v) false ≡ true = sym (flag_of_pair n (set flags i true) u v low.0 low.1) ∙ has in
+      let flag : get_or (set flags i true) (u * n + v) false ≡ true =
+      sym (flag_of_pair n (set flags i true) u v low.0 low.1) ∙ has in
       elim (cases_eq (u * n + v) i) [
-        | inl same ↦ let here = apart n row column u v column_low low.1 (same ∙ at) in inl (here.0 ∙ row_is, here.1 ∙ column_is)
+        | inl same ↦ let here = apart n row column u v column_low low.1 (same ∙ at) in
+            inl (here.0 ∙ row_is, here.1 ∙ column_is)
         | inr other ↦ inr (
             sym (ap (λ m. get_or (get_or m u []) v false) is) ∙ flag_of_pair n flags u v low.0 low.1
             ∙ sym (get_or-set_other flags i (u * n + v) true false other) ∙ flag)
@@ -75,15 +89,21 @@ pair_set n flags matrix a b row column i is sized row_is column_is row_low colum
         let same_row : u ≡ row = here.0 ∙ sym row_is in
         let same_column : v ≡ column = here.1 ∙ sym column_is in
         let place : u * n + v ≡ i = ap (λ k. k * n + v) same_row ∙ ap (λ k. row * n + k) same_column ∙ sym at in
-        flag_of_pair n (set flags i true) u v (omega (arith, same_row, row_low)) (omega (arith, same_column, column_low))
-        ∙ ap (λ k. get_or (set flags i true) k false) place ∙ get_or-set_same flags i true false (omega (arith, sized, within))
+        flag_of_pair n (set flags i true) u v (omega (arith, same_row, row_low))
+        (omega (arith, same_column, column_low))
+        ∙ ap (λ k. get_or (set flags i true) k false) place
+        ∙ get_or-set_same flags i true false (omega (arith, sized, within))
     | inr had ↦
         let before : HasPair (rows n flags) u v = ap (λ m. get_or (get_or m u []) v false) is ∙ had in
         let low = pair_within n flags u v before in
         flag_of_pair n (set flags i true) u v low.0 low.1
         ∙ elim (cases_eq (u * n + v) i) [
-          | inl same ↦ ap (λ k. get_or (set flags i true) k false) same ∙ get_or-set_same flags i true false (omega (arith, sized, within))
-          | inr other ↦ get_or-set_other flags i (u * n + v) true false other ∙ sym (flag_of_pair n flags u v low.0 low.1) ∙ before
+          | inl same ↦
+              ap (λ k. get_or (set flags i true) k false) same
+              ∙ get_or-set_same flags i true false (omega (arith, sized, within))
+          | inr other ↦
+              get_or-set_other flags i (u * n + v) true false other ∙ sym (flag_of_pair n flags u v low.0 low.1)
+              ∙ before
         ]
   ],
 )
@@ -92,7 +112,8 @@ clear : (count i : ℕ) → get_or (replicate count false) i false ≡ false
 clear count i =
     elim (cases_lt i count) [
       | inl within ↦ get_or-replicate count i false false within
-      | inr past ↦ get_or_past (replicate count false) i false (omega (arith, past, length-replicate {A = Bool} count false))
+      | inr past ↦
+          get_or_past (replicate count false) i false (omega (arith, past, length-replicate {A = Bool} count false))
     ]
 
 -- clear flags have no pair

@@ -1,5 +1,6 @@
 -- One step of each adapter, over the steps of the walkers inside, all over the same graph g.
-use Rattle.std.specs.Prelude.{◌≡◌, ℕ, ◌+◌, ◌<◌, ◌≤◌, Bool, true, false, Option, Some, None, List, length, MatchOption, ⊤}
+use Rattle.std.specs.Prelude.{◌≡◌, ℕ, ◌+◌, ◌<◌, ◌≤◌, Bool, true, false, Option, Some, None, List, length, MatchOption}
+use Rattle.std.specs.Prelude.{⊤}
 use Rattle.std.specs.Bool.{MatchBool}
 use Rattle.std.specs.Iterator.{Count, IsFinite, size, count_add, YieldsThen}
 use Rattle.std.specs.Option.{option_len}
@@ -37,10 +38,12 @@ module _ {W A : Type 0} (steps : W → Option A → W → Type 0) where
     pub empties : held' ≡ None
 
   -- A look ahead: where nothing is held, what the walker answers is held. The bound with what is held does not rise.
-  pub record Peeks (can : W → Type 0) (left : W → Count) (w : W) (held : Option A) (w' : W) (held' : Option A) : Type 0 where
+  pub record Peeks (can : W → Type 0) (left : W → Count) (w : W) (held : Option A) (w' : W)
+      (held' : Option A) : Type 0 where
     pub holds : MatchOption held (steps w held' w') (λ x. (held' ≡ Some x) × (w' ≡ w))
     pub stays : can w'
-    pub falls : IsFinite (left w) → IsFinite (left w') × (size (left w') + option_len held' ≤ size (left w) + option_len held)
+    pub falls : IsFinite (left w)
+        → IsFinite (left w') × (size (left w') + option_len held' ≤ size (left w) + option_len held)
 
   module _ {V : Type 0} (others : V → Option A → V → Type 0) where
     -- The first walker answers while it is kept. At its first `None` it is dropped, and the second answers.
@@ -51,7 +54,8 @@ module _ {W A : Type 0} (steps : W → Option A → W → Type 0) where
           (λ x. (r ≡ Some x) × (first' ≡ Some w') × (second' ≡ second)))
 
   module _ {F G : Type 0} (m : Mut F (Bor G × (Bor A × Unit {0})) Bool) (g : G) where
-    -- Items that the predicate refuses are passed over. The first that it accepts comes, or `None` where the walker says so.
+    -- Items that the predicate refuses are passed over. The first that it accepts comes, or `None` where the walker
+    -- says so.
     pub record FilterStep (w : W) (f : F) (r : Option A) (w' : W) (f' : F) : Type 0 where
       pub refused : List A
       pub between : F
@@ -59,8 +63,8 @@ module _ {W A : Type 0} (steps : W → Option A → W → Type 0) where
       pub refuses : FoldsTo {P = F} {A = A} (λ p x q. CallsItem m p g x false q) f refused between
       pub accepts : MatchOption r (f' ≡ between) (λ x. CallsItem m between g x true f')
 
-    -- While the predicate is kept: items that it accepts are passed over, and the first that it refuses comes, or `None`
-    -- where the walker says so. It is dropped with this call, and from then on the walker answers.
+    -- While the predicate is kept: items that it accepts are passed over, and the first that it refuses comes, or
+    -- `None` where the walker says so. It is dropped with this call, and from then on the walker answers.
     pub record SkipWhileStep (w : W) (f : Option F) (r : Option A) (w' : W) (f' : Option F) : Type 0 where
       pub gives : MatchOption f (steps w r w')
           (λ p. (accepted : List A) × (between : F) × YieldsThen steps w accepted r w'

@@ -11,7 +11,8 @@ both_on true b h k = k
 both_on false b h k = absurd h
 
 -- the walk of a chain is bounded where both are
-pub chain_ends : {W : Type 0} (left : W → Count) (others : Count) → IsFinite others → (first : Option W) → ((w : W) → IsFinite (left w))
+pub chain_ends : {W : Type 0} (left : W → Count) (others : Count)
+    → IsFinite others → (first : Option W) → ((w : W) → IsFinite (left w))
     → IsFinite (chain_left left others first)
 chain_ends left others h None k = h
 chain_ends left others h (Some w) k = both_on (left w).bounded others.bounded (k w) h

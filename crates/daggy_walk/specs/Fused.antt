@@ -1,12 +1,14 @@
 -- That an adapter gives nothing any more once it gave nothing, where its walkers do so.
-use Rattle.std.specs.Prelude.{◌≡◌, ℕ, zero, suc, Bool, true, false, Option, Some, None, List, [], ◌∷◌, length, MatchOption, ⊤}
+use Rattle.std.specs.Prelude.{◌≡◌, ℕ, zero, suc, Bool, true, false, Option, Some, None, List, [], ◌∷◌, length}
+use Rattle.std.specs.Prelude.{MatchOption, ⊤}
 use Rattle.std.specs.Bool.{MatchBool}
 use Rattle.std.specs.Iterator.{YieldsThen, YieldsFirstBy}
 use denote.Ref.{Bor}
 use denote.Param.Members.{Mut}
 use native.Mathlib.Nat.{zero-lt-suc}
 use mathlib.Core.Path.{refl, sym, subst, ◌∙◌}
-use Rattle.daggy_walk.specs.Adapters.{TakeStep, SkipStep, PeekableStep, ChainStep, FilterStep, SkipWhileStep, TakeWhileStep, InspectStep}
+use Rattle.daggy_walk.specs.Adapters.{TakeStep, SkipStep, PeekableStep, ChainStep, FilterStep, SkipWhileStep}
+use Rattle.daggy_walk.specs.Adapters.{TakeWhileStep, InspectStep}
 use Rattle.daggy_walk.specs.Walking.{Answers, CallsItem}
 
 -- after a step that gave nothing, the next one gives nothing
@@ -34,12 +36,14 @@ above zero = ⊥
 above (suc n) = ⊤
 
 module _ {W A : Type 0} (steps : W → Option A → W → Type 0) (h : Rests steps) where
-  pub take_rests : (w t u : W) (n m k : ℕ) (r : Option A) → TakeStep steps w n None t m → TakeStep steps t m r u k → r ≡ None
+  pub take_rests : (w t u : W) (n m k : ℕ) (r : Option A)
+      → TakeStep steps w n None t m → TakeStep steps t m r u k → r ≡ None
   take_rests w t u n zero k r a b = (b.ended refl).0
   take_rests w t u zero (suc m) k r a b = (b.ended (a.ended refl).2).0
   take_rests w t u (suc n) (suc m) k r a b = h w t u r (a.taken (zero-lt-suc n)).0 (b.taken (zero-lt-suc m)).0
 
-  pub skip_rests : (w t u : W) (n m k : ℕ) (r : Option A) → SkipStep steps w n None t m → SkipStep steps t m r u k → r ≡ None
+  pub skip_rests : (w t u : W) (n m k : ℕ) (r : Option A)
+      → SkipStep steps w n None t m → SkipStep steps t m r u k → r ≡ None
   skip_rests w t u n m k r a b = go b.skipped (b.all ∙ a.spent) b.passes
     where
       go : (xs : List (Option A)) → length xs ≡ 0 → Answers steps t xs b.between → r ≡ None
@@ -62,12 +66,15 @@ module _ {W A : Type 0} (steps : W → Option A → W → Type 0) (h : Rests ste
         over : steps w None t × (f' ≡ None) → r ≡ None
         over e = h w t u r e.0 (subst (λ o. ChainStep firsts steps o t r f'' u) e.1 b).gives.0
 
-        turn : (o : Option A) (v : V) → MatchOption o (steps w None t × (f' ≡ None)) (λ x. (None ≡ Some x) × (f' ≡ Some v) × (t ≡ w)) → r ≡ None
+        turn : (o : Option A) (v : V)
+            → MatchOption o (steps w None t × (f' ≡ None)) (λ x. (None ≡ Some x) × (f' ≡ Some v) × (t ≡ w)) → r ≡ None
         turn None v e = over e
         turn (Some x) v e = differ (r ≡ None) x (sym e.0)
 
-        go : (o : Option V) → MatchOption o (steps w None t × (f' ≡ None)) (λ v. (answer : Option A) × (v' : V) × firsts v answer v'
-            × MatchOption answer (steps w None t × (f' ≡ None)) (λ x. (None ≡ Some x) × (f' ≡ Some v') × (t ≡ w))) → r ≡ None
+        go : (o : Option V)
+            → MatchOption o (steps w None t × (f' ≡ None)) (λ v. (answer : Option A) × (v' : V) × firsts v answer v'
+            × MatchOption answer (steps w None t × (f' ≡ None)) (λ x. (None ≡ Some x) × (f' ≡ Some v') × (t ≡ w)))
+            → r ≡ None
         go None e = over e
         go (Some v) e = turn e.0 e.1 e.3
 
@@ -77,11 +84,13 @@ module _ {W A : Type 0} (steps : W → Option A → W → Type 0) (h : Rests ste
   then_rests s t u (x ∷ xs) r a b = differ (r ≡ None) x (h s t b.1.0 (Some x) a b.1.1)
 
   module _ {F G : Type 0} (m : Mut F (Bor G × (Bor A × Unit {0})) (Unit {0})) (g : G) where
-    pub inspect_rests : (w t u : W) (f f' f'' : F) (r : Option A) → InspectStep steps m g w f None t f' → InspectStep steps m g t f' r u f'' → r ≡ None
+    pub inspect_rests : (w t u : W) (f f' f'' : F) (r : Option A)
+        → InspectStep steps m g w f None t f' → InspectStep steps m g t f' r u f'' → r ≡ None
     inspect_rests w t u f f' f'' r a b = h w t u r a.gives b.gives
 
   module _ {F G : Type 0} (m : Mut F (Bor G × (Bor A × Unit {0})) Bool) (g : G) where
-    pub filter_rests : (w t u : W) (f f' f'' : F) (r : Option A) → FilterStep steps m g w f None t f' → FilterStep steps m g t f' r u f'' → r ≡ None
+    pub filter_rests : (w t u : W) (f f' f'' : F) (r : Option A)
+        → FilterStep steps m g w f None t f' → FilterStep steps m g t f' r u f'' → r ≡ None
     filter_rests w t u f f' f'' r a b = then_rests a.gives.0 t u b.refused r a.gives.2 b.gives
 
     pub skip_while_rests : (w t u : W) (f f' f'' : Option F) (r : Option A)
@@ -102,8 +111,12 @@ module _ {W A : Type 0} (steps : W → Option A → W → Type 0) (h : Rests ste
         over : t ≡ None → r ≡ None
         over e = (subst (λ o. TakeWhileStep steps m g o f' r u f'') e b).gives.0
 
-        then_none : (v : W) (answer : Option A) (v' : W) → answer ≡ None → MatchOption answer ((r ≡ None) × (u ≡ Some v') × (f'' ≡ f'))
-            (λ x. (c : Bool) × CallsItem m f' g x c f'' × MatchBool c ((r ≡ Some x) × (u ≡ Some v')) ((r ≡ None) × (u ≡ None))) → r ≡ None
+        then_none : (v : W) (answer : Option A) (v' : W)
+            → answer ≡ None → MatchOption answer ((r ≡ None) × (u ≡ Some v') × (f'' ≡ f'))
+            (λ x.
+            (c : Bool) × CallsItem m f' g x c f''
+            × MatchBool c ((r ≡ Some x) × (u ≡ Some v')) ((r ≡ None) × (u ≡ None)))
+            → r ≡ None
         then_none v None v' e k = k.0
         then_none v (Some x) v' e k = differ (r ≡ None) x e
 
@@ -112,17 +125,31 @@ module _ {W A : Type 0} (steps : W → Option A → W → Type 0) (h : Rests ste
             let k = (subst (λ o. TakeWhileStep steps m g o f' r u f'') e b).gives in
             then_none v' k.0 k.1 (h v v' k.1 k.0 s k.2) k.3
 
-        refused : (c : Bool) (x : A) (v : W) → MatchBool c ((◌≡◌ {A = Option A} None (Some x)) × (t ≡ Some v)) ((◌≡◌ {A = Option A} None None) × (t ≡ None)) → r ≡ None
+        refused : (c : Bool) (x : A) (v : W)
+            → MatchBool c ((◌≡◌ {A = Option A} None (Some x)) × (t ≡ Some v))
+            ((◌≡◌ {A = Option A} None None) × (t ≡ None))
+            → r ≡ None
         refused true x v e = differ (r ≡ None) x (sym e.0)
         refused false x v e = over e.1
 
-        turn : (v : W) (answer : Option A) (v' : W) → steps v answer v' → MatchOption answer ((◌≡◌ {A = Option A} None None) × (t ≡ Some v') × (f' ≡ f))
-            (λ x. (c : Bool) × CallsItem m f g x c f' × MatchBool c ((◌≡◌ {A = Option A} None (Some x)) × (t ≡ Some v')) ((◌≡◌ {A = Option A} None None) × (t ≡ None))) → r ≡ None
+        turn : (v : W) (answer : Option A) (v' : W)
+            → steps v answer v' → MatchOption answer ((◌≡◌ {A = Option A} None None) × (t ≡ Some v') × (f' ≡ f))
+            (λ x.
+            (c : Bool) × CallsItem m f g x c f'
+            × MatchBool c ((◌≡◌ {A = Option A} None (Some x)) × (t ≡ Some v'))
+            ((◌≡◌ {A = Option A} None None) × (t ≡ None)))
+            → r ≡ None
         turn v None v' s e = kept v v' s e.1
         turn v (Some x) v' s e = refused e.0 x v' e.2
 
-        go : (o : Option W) → MatchOption o ((◌≡◌ {A = Option A} None None) × (t ≡ None) × (f' ≡ f)) (λ v. (answer : Option A) × (v' : W) × steps v answer v'
+        go : (o : Option W)
+            → MatchOption o ((◌≡◌ {A = Option A} None None) × (t ≡ None) × (f' ≡ f))
+            (λ v. (answer : Option A) × (v' : W) × steps v answer v'
             × MatchOption answer ((◌≡◌ {A = Option A} None None) × (t ≡ Some v') × (f' ≡ f))
-            (λ x. (c : Bool) × CallsItem m f g x c f' × MatchBool c ((◌≡◌ {A = Option A} None (Some x)) × (t ≡ Some v')) ((◌≡◌ {A = Option A} None None) × (t ≡ None)))) → r ≡ None
+            (λ x.
+            (c : Bool) × CallsItem m f g x c f'
+            × MatchBool c ((◌≡◌ {A = Option A} None (Some x)) × (t ≡ Some v'))
+            ((◌≡◌ {A = Option A} None None) × (t ≡ None))))
+            → r ≡ None
         go None e = over e.1
         go (Some v) e = turn v e.0 e.1 e.2 e.3

@@ -16,7 +16,8 @@ module _ {F G N E : Type 0} (m : Mut F (Bor G × (N × Unit {0})) (Option (E × 
     pub shows : graph.now ≡ g
     pub called : Called m f (graph, (n, tt)) r f'
 
-  -- The function is asked at the current node. Where it gives an edge and a node, the walk moves to that node; else it stays.
+  -- The function is asked at the current node. Where it gives an edge and a node, the walk moves to that node; else it
+  -- stays.
   pub record RecursiveStep (n : N) (f : F) (r : Option (E × N)) (n' : N) (f' : F) : Type 0 where
     pub asked : CallsNode f n r f'
     pub moves : MatchOption r (n' ≡ n) (λ x. n' ≡ x.1)
@@ -24,4 +25,5 @@ module _ {F G N E : Type 0} (m : Mut F (Bor G × (N × Unit {0})) (Option (E × 
   -- wherever such steps lead, the function may be called at the node there
   pub record LeadsOn (n : N) (f : F) : Type 0 where
     pub at : (rs : List (Option (E × N))) (n' : N) (f' : F)
-        → FoldsTo {P = N × F} {A = Option (E × N)} (λ s r t. RecursiveStep s.0 s.1 r t.0 t.1) (n, f) rs (n', f') → TakesNode f' n'
+        → FoldsTo {P = N × F} {A = Option (E × N)} (λ s r t. RecursiveStep s.0 s.1 r t.0 t.1) (n, f) rs (n', f')
+        → TakesNode f' n'

@@ -7,8 +7,8 @@ use Rattle.std.specs.Fn.{Called, Takes}
 use denote.Ref.{Bor}
 use denote.Param.Members.{Mut}
 
--- A step over one graph led from s to t and gave r. Where a step could be taken, the next one can. The bound, if it is a
--- number, falls by one at least where an item came, and does not rise.
+-- A step over one graph led from s to t and gave r. Where a step could be taken, the next one can. The bound, if it is
+-- a number, falls by one at least where an item came, and does not rise.
 pub record Proceeds {W A : Type 0} (can : W → Type 0) (left : W → Count) (s : W) (r : Option A) (t : W) : Type 0 where
   pub stays : can t
   pub falls : IsFinite (left s) → IsFinite (left t) × (size (left t) + option_len r ≤ size (left s))

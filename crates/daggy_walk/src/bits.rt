@@ -1,5 +1,6 @@
 //! Flags in a row, a bit each.
-ghost use Rattle.std.specs.Prelude.{◌≡◌, ℕ, ◌<◌, ◌≤◌, List, Bool, true, false, not, length, slice_set, slice_index_or, replicate, OnOk, OnErr, IfOk, IsOk};
+ghost use Rattle.std.specs.Prelude.{◌≡◌, ℕ, ◌<◌, ◌≤◌, List, Bool, true, false, not, length};
+ghost use Rattle.std.specs.Prelude.{slice_set, slice_index_or, replicate, OnOk, OnErr, IfOk, IsOk};
 
 use std::alloc::{AllocError, Global};
 use std::marker::Model;

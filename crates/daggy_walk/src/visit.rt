@@ -1,6 +1,7 @@
 //! What generic code may ask of a graph, and the sets that it keeps.
 //!
-//! A trait here says what it does in the words of a graph by whole lists, which each kind of graph can be seen as.
+//! A trait here says what it does in the words of a graph by whole lists, which each kind of graph
+//! can be seen as.
 mod adj_matrix;
 mod data;
 mod indexed;

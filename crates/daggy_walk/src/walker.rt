@@ -32,13 +32,14 @@ pub use take_while::TakeWhile;
 
 /// A walk over a graph of type `G`.
 ///
-/// A walker works like an iterator, but it is handed the graph anew for each step. So the graph may change between two
-/// steps, and the weights that a step leads to may be written.
+/// A walker works like an iterator, but it is handed the graph anew for each step. So the graph may
+/// change between two steps, and the weights that a step leads to may be written.
 pub trait Walker<G>: Drop {
     /// What a step gives.
     type Item;
 
-    // Whether this walker may take a step over this graph. A walker that calls no closure always may.
+    // Whether this walker may take a step over this graph. A walker that calls no closure always
+    // may.
     ghost can_walk: { Self → G → Type 0 } = { λ _ _. ⊤ };
 
     // Whether a step from this walker over this graph may give this item and leave that walker.
@@ -51,7 +52,8 @@ pub trait Walker<G>: Drop {
     fn walk_next(&mut self, graph: &G) -> Option<Self::Item>
         requires { can_walk self.old graph.now }
         ensures steps { walk_gives self.old graph.now result self.new }
-        ensures goes { Proceeds (λ w. can_walk w graph.now) (λ w. items_left w graph.now) self.old result self.new };
+        ensures goes { Proceeds (λ w. can_walk w graph.now) (λ w. items_left w graph.now) self.old
+            result self.new };
 
     /// How many items may still come at most, where that is known without a walk.
     #[inline]
@@ -90,7 +92,8 @@ pub trait FiniteWalker<G>: Walker<G> {
 
 /// A walker that gives nothing any more once it gave nothing, as long as the graph does not change.
 pub trait FusedWalker<G>: Walker<G> {
-    /// Does nothing. It is called for its contract alone: once the walk gave nothing, the next step gives nothing.
+    /// Does nothing. It is called for its contract alone: once the walk gave nothing, the next step
+    /// gives nothing.
     #[inline]
     fn rests_over(&self, graph: &G)
         ensures { (t u : Self) (r : Option Self.Item) → Self.walk_gives self.now graph.now None t

@@ -1,5 +1,6 @@
 //! Lists for which memory is reserved first, and which are written when they are needed.
-ghost use Rattle.std.specs.Prelude.{◌≡◌, ℕ, ◌-◌, ◌≤◌, ◌++◌, replicate, vec_len, vec_capacity, OnOk, IsOk};
+ghost use Rattle.std.specs.Prelude.{◌≡◌, ℕ, ◌-◌, ◌≤◌, ◌++◌, replicate, vec_len, vec_capacity, OnOk};
+ghost use Rattle.std.specs.Prelude.{IsOk};
 
 use std::alloc::AllocError;
 

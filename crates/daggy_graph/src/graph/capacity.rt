@@ -10,8 +10,8 @@ use std::alloc::{AllocError, Global};
 impl<N, E, Ix: IndexType> DiGraph<N, E, Ix> {
     /// A graph with no node and no edge, and with memory for so many of each.
     ///
-    /// The error says that memory was refused, or that no machine can have so much. There may later be more nodes and
-    /// edges than that.
+    /// The error says that memory was refused, or that no machine can have so much. There may later
+    /// be more nodes and edges than that.
     pub fn with_capacity(alloc: Global, nodes: usize, edges: usize) -> Result<Self, AllocError>
     where
         N: Drop,
@@ -30,7 +30,8 @@ impl<N, E, Ix: IndexType> DiGraph<N, E, Ix> {
     /// Reserves capacity for so many more nodes, and for some more than that, so that a later call
     /// seldom reserves again.
     ///
-    /// The error says that memory was refused, or that no machine can have so much. The graph is as it was.
+    /// The error says that memory was refused, or that no machine can have so much. The graph is as
+    /// it was.
     pub fn reserve_nodes(&mut self, additional: usize) -> Result<(), AllocError>
         ensures same { self.new ≡ self.old }
         ensures fits { OnOk result (length self.new.graph.nodes + additional < 2 ^ 63) }
@@ -40,7 +41,8 @@ impl<N, E, Ix: IndexType> DiGraph<N, E, Ix> {
 
     /// Reserves capacity for so many more nodes.
     ///
-    /// The error says that memory was refused, or that no machine can have so much. The graph is as it was.
+    /// The error says that memory was refused, or that no machine can have so much. The graph is as
+    /// it was.
     pub fn reserve_exact_nodes(&mut self, additional: usize) -> Result<(), AllocError>
         ensures same { self.new ≡ self.old }
         ensures fits { OnOk result (length self.new.graph.nodes + additional < 2 ^ 63) }
@@ -51,7 +53,8 @@ impl<N, E, Ix: IndexType> DiGraph<N, E, Ix> {
     /// Reserves capacity for so many more edges, and for some more than that, so that a later call
     /// seldom reserves again.
     ///
-    /// The error says that memory was refused, or that no machine can have so much. The graph is as it was.
+    /// The error says that memory was refused, or that no machine can have so much. The graph is as
+    /// it was.
     pub fn reserve_edges(&mut self, additional: usize) -> Result<(), AllocError>
         ensures same { self.new ≡ self.old }
         ensures fits { OnOk result (length self.new.graph.edges + additional < 2 ^ 63) }
@@ -61,7 +64,8 @@ impl<N, E, Ix: IndexType> DiGraph<N, E, Ix> {
 
     /// Reserves capacity for so many more edges.
     ///
-    /// The error says that memory was refused, or that no machine can have so much. The graph is as it was.
+    /// The error says that memory was refused, or that no machine can have so much. The graph is as
+    /// it was.
     pub fn reserve_exact_edges(&mut self, additional: usize) -> Result<(), AllocError>
         ensures same { self.new ≡ self.old }
         ensures fits { OnOk result (length self.new.graph.edges + additional < 2 ^ 63) }
@@ -71,7 +75,8 @@ impl<N, E, Ix: IndexType> DiGraph<N, E, Ix> {
 
     /// Gives memory back that no node and no edge needs.
     ///
-    /// The error says that a smaller block was refused. The graph is as it was, and so is the memory of that block.
+    /// The error says that a smaller block was refused. The graph is as it was, and so is the
+    /// memory of that block.
     pub fn shrink_to_fit(&mut self) -> Result<(), AllocError>
         ensures { self.new ≡ self.old }
     {
@@ -83,7 +88,8 @@ impl<N, E, Ix: IndexType> DiGraph<N, E, Ix> {
 
     /// Gives memory back that no node needs.
     ///
-    /// The error says that a smaller block was refused. The graph is as it was, and keeps the block that it had.
+    /// The error says that a smaller block was refused. The graph is as it was, and keeps the block
+    /// that it had.
     pub fn shrink_to_fit_nodes(&mut self) -> Result<(), AllocError>
         ensures { self.new ≡ self.old }
     {
@@ -96,7 +102,8 @@ impl<N, E, Ix: IndexType> DiGraph<N, E, Ix> {
 
     /// Gives memory back that no edge needs.
     ///
-    /// The error says that a smaller block was refused. The graph is as it was, and keeps the block that it had.
+    /// The error says that a smaller block was refused. The graph is as it was, and keeps the block
+    /// that it had.
     pub fn shrink_to_fit_edges(&mut self) -> Result<(), AllocError>
         ensures { self.new ≡ self.old }
     {

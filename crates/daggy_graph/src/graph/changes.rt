@@ -17,11 +17,13 @@ pub(super) fn put_node<N, E, Ix: IndexType>(
     edges: &Vec<Edge<E, Ix>>,
     weight: N,
 ) -> Link<Ix>
-    requires stored { Stores Ix.greatest nodes.old.items edges.now.items (stored_graph nodes.old.items edges.now.items) }
+    requires stored { Stores Ix.greatest nodes.old.items edges.now.items
+        (stored_graph nodes.old.items edges.now.items) }
     requires index_left { length nodes.old.items < Ix.greatest }
     requires capacity { vec_len nodes.old < vec_capacity nodes.old }
     ensures index { result ≡ length nodes.old.items }
-    ensures stored { Stores Ix.greatest nodes.new.items edges.now.items (with_node (stored_graph nodes.old.items edges.now.items) weight) }
+    ensures stored { Stores Ix.greatest nodes.new.items edges.now.items
+        (with_node (stored_graph nodes.old.items edges.now.items) weight) }
     ensures len { length nodes.new.items ≡ length nodes.old.items + 1 }
     ensures capacity { vec_capacity nodes.new ≡ vec_capacity nodes.old }
 {
@@ -40,13 +42,15 @@ pub(super) fn put_edge<N, E, Ix: IndexType>(
     b: Link<Ix>,
     weight: E,
 ) -> Link<Ix>
-    requires stored { Stores Ix.greatest nodes.old.items edges.old.items (stored_graph nodes.old.items edges.old.items) }
+    requires stored { Stores Ix.greatest nodes.old.items edges.old.items
+        (stored_graph nodes.old.items edges.old.items) }
     requires parent { a < length nodes.old.items }
     requires child { b < length nodes.old.items }
     requires index_left { length edges.old.items < Ix.greatest }
     requires capacity { vec_len edges.old < vec_capacity edges.old }
     ensures index { result ≡ length edges.old.items }
-    ensures stored { Stores Ix.greatest nodes.new.items edges.new.items (with_edge (stored_graph nodes.old.items edges.old.items) a b weight) }
+    ensures stored { Stores Ix.greatest nodes.new.items edges.new.items
+        (with_edge (stored_graph nodes.old.items edges.old.items) a b weight) }
     ensures len { length edges.new.items ≡ length edges.old.items + 1 }
     ensures nodes { length nodes.new.items ≡ length nodes.old.items }
     ensures capacity { vec_capacity edges.new ≡ vec_capacity edges.old }
@@ -64,9 +68,11 @@ pub(super) fn detach<N, E, Ix: IndexType>(
     edges: &mut Vec<Edge<E, Ix>>,
     e: Link<Ix>,
 )
-    requires stored { Stores Ix.greatest nodes.old.items edges.old.items (stored_graph nodes.old.items edges.old.items) }
+    requires stored { Stores Ix.greatest nodes.old.items edges.old.items
+        (stored_graph nodes.old.items edges.old.items) }
     requires edge { e < length edges.old.items }
-    ensures detached { IsDetached Ix.greatest (stored_graph nodes.old.items edges.old.items) e nodes.new.items edges.new.items }
+    ensures detached { IsDetached Ix.greatest (stored_graph nodes.old.items edges.old.items) e
+        nodes.new.items edges.new.items }
     ensures edges { map plain_edge edges.new.items ≡ map plain_edge edges.old.items }
 {
     let i = e.index();
@@ -88,10 +94,13 @@ pub(super) fn reown_last<N, E, Ix: IndexType>(
     edges: &mut Vec<Edge<E, Ix>>,
     n: Link<Ix>,
 )
-    requires stored { Stores Ix.greatest nodes.now.items edges.old.items (stored_graph nodes.now.items edges.old.items) }
+    requires stored { Stores Ix.greatest nodes.now.items edges.old.items
+        (stored_graph nodes.now.items edges.old.items) }
     requires node { n < length nodes.now.items }
     ensures { let last = length nodes.now.items - 1 in
-        edges.new.items ≡ map (with_end_renamed Incoming last n) (map (with_end_renamed Outgoing last n) edges.old.items) }
+        edges.new.items
+        ≡ map (with_end_renamed Incoming last n)
+        (map (with_end_renamed Outgoing last n) edges.old.items) }
 {
     let i = n.index();
     let last = nodes.len() - 1;

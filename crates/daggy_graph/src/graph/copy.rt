@@ -7,9 +7,11 @@ use daggy_base::index::IndexType;
 use daggy_base::search::Looks;
 use std::alloc::AllocError;
 
-/// Gives a graph with the same nodes and edges under the same indices, and in the same lists, with a clone of each weight.
+/// Gives a graph with the same nodes and edges under the same indices, and in the same lists, with
+/// a clone of each weight.
 impl<N: Clone + Drop, E: Clone + Drop, Ix: IndexType> Clone for DiGraph<N, E, Ix> {
-    ghost is_clone = { λ g copy. IsCopy N.is_clone E.is_clone g.graph copy.graph × (copy.looks ≡ 0) };
+    ghost is_clone = { λ g copy.
+        IsCopy N.is_clone E.is_clone g.graph copy.graph × (copy.looks ≡ 0) };
 
     fn clone(&self) -> Result<Self, AllocError> {
         Ok(DiGraph {
@@ -23,7 +25,8 @@ impl<N: Clone + Drop, E: Clone + Drop, Ix: IndexType> Clone for DiGraph<N, E, Ix
 impl<N, E, Ix: IndexType> DiGraph<N, E, Ix> {
     /// A graph with the same nodes and edges under the same indices, and in the same lists.
     ///
-    /// The error says that memory for it was refused. The cost grows with the number of nodes and edges.
+    /// The error says that memory for it was refused. The cost grows with the number of nodes and
+    /// edges.
     pub fn try_clone(&self) -> Result<Self, AllocError>
     where
         N: Clone + Drop,

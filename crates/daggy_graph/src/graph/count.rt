@@ -1,6 +1,7 @@
 //! How many nodes and edges there are, and whether there is room for more.
 ghost use Rattle.std.specs.Prelude.{◌≡◌, ◌<◌, ◌↔◌, length, IsTrue};
-ghost use Rattle.daggy_base.specs.Graph.{node_count as node_count_of, edge_count as edge_count_of, IsCompact};
+ghost use Rattle.daggy_base.specs.Graph.{node_count as node_count_of, edge_count as edge_count_of};
+ghost use Rattle.daggy_base.specs.Graph.{IsCompact};
 ghost use Rattle.daggy_base.specs.WellFormed.{IsWellFormed};
 
 use crate::graph::DiGraph;

@@ -1,9 +1,12 @@
 //! The part of a graph that closures keep.
-ghost use Rattle.std.specs.Prelude.{◌≡◌, ◌+◌, ◌<◌, ◌≤◌, [], ◌∷◌, ◌++◌, map, length, vec_len, vec_capacity, IfOk};
+ghost use Rattle.std.specs.Prelude.{◌≡◌, ◌+◌, ◌<◌, ◌≤◌, [], ◌∷◌, ◌++◌, map, length, vec_len};
+ghost use Rattle.std.specs.Prelude.{vec_capacity, IfOk};
 ghost use Rattle.daggy_base.specs.Graph.{empty, slot};
 ghost use Rattle.daggy_graph.specs.Stored.{stored_graph, Stores};
 ghost use Rattle.daggy_cells.specs.Fields.{weight_of, plain_edge};
-ghost use Rattle.daggy_base.specs.Filtering.{with_kept_node, named, with_kept_edge, both, FiltersNodes, FiltersEdges, IsFiltered, ListsDescend, HaveSameEnds};
+ghost use Rattle.daggy_base.specs.Filtering.{with_kept_node, named, with_kept_edge, both};
+ghost use Rattle.daggy_base.specs.Filtering.{FiltersNodes, FiltersEdges, IsFiltered, ListsDescend};
+ghost use Rattle.daggy_base.specs.Filtering.{HaveSameEnds};
 ghost use Rattle.daggy_graph.specs.Names.{AreNamesBelow, IsFilteredAs};
 
 use crate::graph::changes::{put_edge, put_node};
@@ -21,14 +24,18 @@ fn keep_node<N, E, Ix: IndexType>(
     names: &mut Vec<Option<Link<Ix>>>,
     answer: Option<N>,
 )
-    requires stored { Stores Ix.greatest nodes.old.items edges.now.items (stored_graph nodes.old.items edges.now.items) }
+    requires stored { Stores Ix.greatest nodes.old.items edges.now.items
+        (stored_graph nodes.old.items edges.now.items) }
     requires index_left { length nodes.old.items < Ix.greatest }
     requires capacity { vec_len nodes.old < vec_capacity nodes.old }
     requires room_for_name { vec_len names.old < vec_capacity names.old }
-    ensures stored { Stores Ix.greatest nodes.new.items edges.now.items (with_kept_node (stored_graph nodes.old.items edges.now.items) answer) }
-    ensures names { names.new.items ≡ names.old.items ++ named (stored_graph nodes.old.items edges.now.items) answer ∷ [] }
+    ensures stored { Stores Ix.greatest nodes.new.items edges.now.items
+        (with_kept_node (stored_graph nodes.old.items edges.now.items) answer) }
+    ensures names { names.new.items
+        ≡ names.old.items ++ named (stored_graph nodes.old.items edges.now.items) answer ∷ [] }
     ensures len { length nodes.new.items ≤ length nodes.old.items + 1 }
-    ensures below { AreNamesBelow (length nodes.old.items) names.old.items → AreNamesBelow (length nodes.new.items) names.new.items }
+    ensures below { AreNamesBelow (length nodes.old.items) names.old.items
+        → AreNamesBelow (length nodes.new.items) names.new.items }
     ensures capacity { vec_capacity nodes.new ≡ vec_capacity nodes.old }
     ensures capacity_for_names { vec_capacity names.new ≡ vec_capacity names.old }
 {
@@ -56,9 +63,11 @@ fn filter_nodes<N, V, W, Ix: IndexType, F: FnMut(NodeIndex<Ix>, &N) -> Option<V>
     requires empty { new.old.items ≡ [] }
     requires no_names { names.old.items ≡ [] }
     requires no_edges { edges.now.items ≡ [] }
-    ensures stored { Stores Ix.greatest new.new.items edges.now.items (stored_graph new.new.items edges.now.items) }
+    ensures stored { Stores Ix.greatest new.new.items edges.now.items
+        (stored_graph new.new.items edges.now.items) }
     ensures below { AreNamesBelow (length new.new.items) names.new.items }
-    ensures filtered { FiltersNodes F.step Ix.of f 0 (map weight_of nodes.now) empty names.new.items (stored_graph new.new.items edges.now.items) }
+    ensures filtered { FiltersNodes F.step Ix.of f 0 (map weight_of nodes.now) empty names.new.items
+        (stored_graph new.new.items edges.now.items) }
 {
     'each: for i in 0..nodes.len() {
         let x = &nodes[i];
@@ -100,12 +109,14 @@ fn keep_edge<N, E, Ix: IndexType>(
     ends: (Link<Ix>, Link<Ix>),
     answer: Option<E>,
 )
-    requires stored { Stores Ix.greatest nodes.old.items edges.old.items (stored_graph nodes.old.items edges.old.items) }
+    requires stored { Stores Ix.greatest nodes.old.items edges.old.items
+        (stored_graph nodes.old.items edges.old.items) }
     requires parent { ends.0 < length nodes.old.items }
     requires child { ends.1 < length nodes.old.items }
     requires index_left { length edges.old.items < Ix.greatest }
     requires capacity { vec_len edges.old < vec_capacity edges.old }
-    ensures stored { Stores Ix.greatest nodes.new.items edges.new.items (with_kept_edge (stored_graph nodes.old.items edges.old.items) ends answer) }
+    ensures stored { Stores Ix.greatest nodes.new.items edges.new.items
+        (with_kept_edge (stored_graph nodes.old.items edges.old.items) ends answer) }
     ensures len { length edges.new.items ≤ length edges.old.items + 1 }
     ensures nodes { length nodes.new.items ≡ length nodes.old.items }
     ensures capacity { vec_capacity edges.new ≡ vec_capacity edges.old }
@@ -128,9 +139,12 @@ fn filter_edges<N, E, W, Ix: IndexType, G: FnMut(EdgeIndex<Ix>, &E) -> Option<W>
     requires capacity { length edges.now ≤ vec_capacity new.old }
     requires empty { new.old.items ≡ [] }
     requires below { AreNamesBelow (length nodes.old.items) names.now.items }
-    requires stored { Stores Ix.greatest nodes.old.items new.old.items (stored_graph nodes.old.items new.old.items) }
-    ensures stored { Stores Ix.greatest nodes.new.items new.new.items (stored_graph nodes.new.items new.new.items) }
-    ensures filtered { FiltersEdges G.step Ix.of names.now.items g 0 (map plain_edge edges.now) (stored_graph nodes.old.items new.old.items) (stored_graph nodes.new.items new.new.items) }
+    requires stored { Stores Ix.greatest nodes.old.items new.old.items
+        (stored_graph nodes.old.items new.old.items) }
+    ensures stored { Stores Ix.greatest nodes.new.items new.new.items
+        (stored_graph nodes.new.items new.new.items) }
+    ensures filtered { FiltersEdges G.step Ix.of names.now.items g 0 (map plain_edge edges.now)
+        (stored_graph nodes.old.items new.old.items) (stored_graph nodes.new.items new.new.items) }
 {
     'each: for i in 0..edges.len() {
         let x = &edges[i];
@@ -144,15 +158,15 @@ fn filter_edges<N, E, W, Ix: IndexType, G: FnMut(EdgeIndex<Ix>, &E) -> Option<W>
 }
 
 impl<N, E, Ix: IndexType> DiGraph<N, E, Ix> {
-    /// A graph of the nodes and edges that the closures give a weight for: `f` is called with each node by ascending
-    /// index, and then `g` with each edge whose ends both stayed.
+    /// A graph of the nodes and edges that the closures give a weight for: `f` is called with each
+    /// node by ascending index, and then `g` with each edge whose ends both stayed.
     ///
-    /// The nodes that stay keep their order and get new indices from 0 on. The edges that stay are added again by
-    /// ascending index, so each list has the edge with the greatest index first. Where nothing is left out, each node
-    /// and edge keeps its index.
+    /// The nodes that stay keep their order and get new indices from 0 on. The edges that stay are
+    /// added again by ascending index, so each list has the edge with the greatest index first.
+    /// Where nothing is left out, each node and edge keeps its index.
     ///
-    /// The error says that memory for it was refused. Then no closure was called. The cost grows with the number of
-    /// nodes and edges, besides that of the calls.
+    /// The error says that memory for it was refused. Then no closure was called. The cost grows
+    /// with the number of nodes and edges, besides that of the calls.
     pub fn filter_map<
         N2: Drop,
         E2: Drop,
@@ -161,17 +175,20 @@ impl<N, E, Ix: IndexType> DiGraph<N, E, Ix> {
     >(&self, f: F, g: G) -> Result<DiGraph<N2, E2, Ix>, AllocError>
         requires nodes { F.IsAlwaysCallable f }
         requires edges { G.IsAlwaysCallable g }
-        ensures filtered { IfOk result (λ h. IsFiltered Ix.of F.step G.step f g self.now.graph h.graph) }
+        ensures filtered { IfOk result (λ h.
+            IsFiltered Ix.of F.step G.step f g self.now.graph h.graph) }
         ensures descending { IfOk result (λ h. ListsDescend h.graph) }
         ensures whole { IfOk result (λ h. length h.graph.nodes ≡ length self.now.graph.nodes
-            → length h.graph.edges ≡ length self.now.graph.edges → HaveSameEnds self.now.graph h.graph) }
+            → length h.graph.edges ≡ length self.now.graph.edges
+            → HaveSameEnds self.now.graph h.graph) }
         ensures looks { IfOk result (λ h. h.looks ≡ 0) }
     {
         let (graph, _names) = self.filter_map_named(f, g)?;
         Ok(graph)
     }
 
-    /// What [`filter_map`](DiGraph::filter_map) gives, and for each node of this graph its new index, if it stayed.
+    /// What [`filter_map`](DiGraph::filter_map) gives, and for each node of this graph its new
+    /// index, if it stayed.
     #[doc(hidden)]
     pub fn filter_map_named<
         N2: Drop,
@@ -181,10 +198,12 @@ impl<N, E, Ix: IndexType> DiGraph<N, E, Ix> {
     >(&self, f: F, g: G) -> Result<(DiGraph<N2, E2, Ix>, Vec<Option<Link<Ix>>>), AllocError>
         requires nodes { F.IsAlwaysCallable f }
         requires edges { G.IsAlwaysCallable g }
-        ensures filtered { IfOk result (λ made. IsFilteredAs Ix.of F.step G.step f g made.1.items self.now.graph made.0.graph) }
+        ensures filtered { IfOk result (λ made.
+            IsFilteredAs Ix.of F.step G.step f g made.1.items self.now.graph made.0.graph) }
         ensures descending { IfOk result (λ made. ListsDescend made.0.graph) }
         ensures whole { IfOk result (λ made. length made.0.graph.nodes ≡ length self.now.graph.nodes
-            → length made.0.graph.edges ≡ length self.now.graph.edges → HaveSameEnds self.now.graph made.0.graph) }
+            → length made.0.graph.edges ≡ length self.now.graph.edges
+            → HaveSameEnds self.now.graph made.0.graph) }
         ensures looks { IfOk result (λ made. made.0.looks ≡ 0) }
     {
         let alloc = *self.nodes.allocator();

@@ -2,7 +2,8 @@
 ghost use Rattle.std.specs.Prelude.{◌≡◌, ◌≤◌, [], map, length, vec_capacity, IfOk};
 ghost use Rattle.std.specs.Option.{option_map};
 ghost use Rattle.daggy_base.specs.Graph.{IsCompact};
-ghost use Rattle.daggy_base.specs.FromSlots.{vacant_down, graph_of_slots, edge_of, edges_by, MakeGraph};
+ghost use Rattle.daggy_base.specs.FromSlots.{vacant_down, graph_of_slots, edge_of, edges_by};
+ghost use Rattle.daggy_base.specs.FromSlots.{MakeGraph};
 ghost use Rattle.daggy_cells.specs.Fields.{weight_of, plain_edge};
 ghost use Rattle.daggy_graph.specs.Stored.{IsBuilt};
 
@@ -43,14 +44,16 @@ fn make_edges<N, E: Drop, Ix: IndexType>(
     nodes: &mut Vec<Node<N, Ix>>,
     edges: &mut Vec<Edge<E, Ix>>,
 )
-    requires makes_graph { MakeGraph Ix.greatest (map weight_of nodes.old.items) (map (option_map (edge_of Ix.number)) given.items) }
+    requires makes_graph { MakeGraph Ix.greatest (map weight_of nodes.old.items)
+        (map (option_map (edge_of Ix.number)) given.items) }
     requires full { vacant_down (map (option_map (edge_of Ix.number)) given.items) ≡ [] }
     requires capacity { length given.items ≤ vec_capacity edges.old }
     requires empty { edges.old.items ≡ [] }
     requires stored { IsBuilt Ix.greatest nodes.old.items edges.old.items }
     ensures stored { IsBuilt Ix.greatest nodes.new.items edges.new.items }
     ensures nodes { map weight_of nodes.new.items ≡ map weight_of nodes.old.items }
-    ensures made { map plain_edge edges.new.items ≡ map (option_map (edge_of Ix.number)) given.items }
+    ensures made { map plain_edge edges.new.items
+        ≡ map (option_map (edge_of Ix.number)) given.items }
 {
     'each: for x in given {
         let edge = match x {
@@ -65,10 +68,11 @@ fn make_edges<N, E: Drop, Ix: IndexType>(
 }
 
 impl<N, E, Ix: IndexType> DiGraph<N, E, Ix> {
-    /// The graph with these slots, none of them vacant, where an edge names its parent and its child.
+    /// The graph with these slots, none of them vacant, where an edge names its parent and its
+    /// child.
     ///
-    /// Each list has the edge with the greatest index first. The error says that memory for the graph was refused. The
-    /// cost grows with the number of nodes and edges.
+    /// Each list has the edge with the greatest index first. The error says that memory for the
+    /// graph was refused. The cost grows with the number of nodes and edges.
     pub fn from_slots(
         alloc: Global,
         nodes: Vec<Option<N>>,
@@ -79,7 +83,10 @@ impl<N, E, Ix: IndexType> DiGraph<N, E, Ix> {
         E: Drop,
         requires makes_graph { MakeGraph Ix.greatest nodes.items (edges_by Ix.number edges.items) }
         requires full { IsCompact (graph_of_slots nodes.items (edges_by Ix.number edges.items)) }
-        ensures { IfOk result (λ g. g ≡ record { graph = graph_of_slots nodes.items (edges_by Ix.number edges.items); looks = 0 }) }
+        ensures { IfOk result (λ g. g ≡ record {
+          graph = graph_of_slots nodes.items (edges_by Ix.number edges.items);
+          looks = 0;
+        }) }
     {
         let mut new_nodes = Vec::with_capacity(alloc, nodes.len())?;
         let mut new_edges = Vec::with_capacity(alloc, edges.len())?;

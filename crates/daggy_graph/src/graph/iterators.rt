@@ -3,7 +3,11 @@ ghost use Rattle.std.specs.Prelude.{◌≡◌, ◌<◌, ◌^◌, length};
 ghost use Rattle.std.specs.Iterator.{YieldsFirstRef, YieldsFirstBy, item_count};
 ghost use Rattle.daggy_cells.specs.Referring.{referred};
 ghost use Rattle.daggy_cells.specs.Fields.{plain};
-ghost use Rattle.daggy_base.specs.Iterating.{node_weights as node_weights_of, edge_weights as edge_weights_of, node_identifiers as node_identifiers_of, node_references as node_references_of, edge_references as edge_references_of};
+ghost use Rattle.daggy_base.specs.Iterating.{node_weights as node_weights_of};
+ghost use Rattle.daggy_base.specs.Iterating.{edge_weights as edge_weights_of};
+ghost use Rattle.daggy_base.specs.Iterating.{node_identifiers as node_identifiers_of};
+ghost use Rattle.daggy_base.specs.Iterating.{node_references as node_references_of};
+ghost use Rattle.daggy_base.specs.Iterating.{edge_references as edge_references_of};
 
 use crate::graph::{DiGraph, Edge, Node};
 use daggy_base::index::{DefaultIx, EdgeIndex, IndexType, NodeIndex};
@@ -220,7 +224,9 @@ impl<'a, N, Ix: IndexType> Model for NodeReferences<'a, N, Ix> {
 
     ghost view = { λ it. numbered it.index (map weight_of it.nodes.now) };
 
-    ghost invariant = { λ it. (it.index + length it.nodes.now ≤ Ix.greatest) × (it.index + length it.nodes.now < 2 ^ 64) };
+    ghost invariant = { λ it.
+        (it.index + length it.nodes.now ≤ Ix.greatest)
+        × (it.index + length it.nodes.now < 2 ^ 64) };
 }
 
 impl<'a, N, Ix: IndexType> Iterator for NodeReferences<'a, N, Ix> {
@@ -302,7 +308,9 @@ impl<'a, E, Ix: IndexType> Model for EdgeReferences<'a, E, Ix> {
 
     ghost view = { λ it. numbered it.index (map plain_edge it.edges.now) };
 
-    ghost invariant = { λ it. (it.index + length it.edges.now ≤ Ix.greatest) × (it.index + length it.edges.now < 2 ^ 64) };
+    ghost invariant = { λ it.
+        (it.index + length it.edges.now ≤ Ix.greatest)
+        × (it.index + length it.edges.now < 2 ^ 64) };
 }
 
 impl<'a, E, Ix: IndexType> Iterator for EdgeReferences<'a, E, Ix> {

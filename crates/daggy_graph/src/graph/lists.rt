@@ -138,7 +138,8 @@ impl<N, E, Ix: IndexType> DiGraph<N, E, Ix> {
         self.edges_directed(n, Direction::Outgoing)
     }
 
-    /// The edges that leave a node, or those that enter it, newest first, or none if the node does not exist.
+    /// The edges that leave a node, or those that enter it, newest first, or none if the node does
+    /// not exist.
     #[inline]
     pub fn edges_directed(&self, n: NodeIndex<Ix>, dir: Direction) -> Edges<'_, E, Ix>
         ensures rest { result ≡ edges_at dir self.now.graph (Ix.number n) }
@@ -152,7 +153,8 @@ impl<N, E, Ix: IndexType> DiGraph<N, E, Ix> {
         }
     }
 
-    /// The children of a node, one for each edge that leaves it, newest first, or none if the node does not exist.
+    /// The children of a node, one for each edge that leaves it, newest first, or none if the node
+    /// does not exist.
     #[inline]
     pub fn neighbors(&self, n: NodeIndex<Ix>) -> Neighbors<'_, E, Ix>
         ensures rest { result ≡ neighbors_at Outgoing self.now.graph (Ix.number n) }
@@ -161,8 +163,8 @@ impl<N, E, Ix: IndexType> DiGraph<N, E, Ix> {
         self.neighbors_directed(n, Direction::Outgoing)
     }
 
-    /// The children of a node, or its parents, one for each edge that leaves it, or that enters it, newest first, or
-    /// none if the node does not exist.
+    /// The children of a node, or its parents, one for each edge that leaves it, or that enters it,
+    /// newest first, or none if the node does not exist.
     #[inline]
     pub fn neighbors_directed(&self, n: NodeIndex<Ix>, dir: Direction) -> Neighbors<'_, E, Ix>
         ensures rest { result ≡ neighbors_at dir self.now.graph (Ix.number n) }

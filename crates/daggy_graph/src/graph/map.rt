@@ -1,7 +1,8 @@
 //! The same graph with other weights.
 ghost use Rattle.std.specs.Prelude.{◌≡◌, ◌≤◌, [], length, vec_capacity, IfOk};
 ghost use Rattle.daggy_base.specs.Mapping.{IsMapped};
-ghost use Rattle.daggy_cells.specs.MappedCells.{MapsCells, node_weight_in, node_with, edge_weight_in, edge_with};
+ghost use Rattle.daggy_cells.specs.MappedCells.{MapsCells, node_weight_in, node_with};
+ghost use Rattle.daggy_cells.specs.MappedCells.{edge_weight_in, edge_with};
 
 use crate::graph::{DiGraph, Edge, Node};
 use daggy_base::index::{EdgeIndex, IndexType, NodeIndex};
@@ -48,11 +49,12 @@ fn map_edges<E, V, Ix: IndexType, G: FnMut(EdgeIndex<Ix>, &E) -> V>(
 }
 
 impl<N, E, Ix: IndexType> DiGraph<N, E, Ix> {
-    /// A graph with the same nodes and edges under the same indices, and in the same lists, whose weights are what the
-    /// closures give: `f` is called with each node by ascending index, and then `g` with each edge.
+    /// A graph with the same nodes and edges under the same indices, and in the same lists, whose
+    /// weights are what the closures give: `f` is called with each node by ascending index, and
+    /// then `g` with each edge.
     ///
-    /// The error says that memory for it was refused. Then no closure was called. The cost grows with the number of
-    /// nodes and edges, besides that of the calls.
+    /// The error says that memory for it was refused. Then no closure was called. The cost grows
+    /// with the number of nodes and edges, besides that of the calls.
     pub fn map<
         N2: Drop,
         E2: Drop,
@@ -61,7 +63,8 @@ impl<N, E, Ix: IndexType> DiGraph<N, E, Ix> {
     >(&self, f: F, g: G) -> Result<DiGraph<N2, E2, Ix>, AllocError>
         requires nodes { F.IsAlwaysCallable f }
         requires edges { G.IsAlwaysCallable g }
-        ensures mapped { IfOk result (λ h. IsMapped Ix.of F.step G.step f g self.now.graph h.graph) }
+        ensures mapped { IfOk result (λ h.
+            IsMapped Ix.of F.step G.step f g self.now.graph h.graph) }
         ensures looks { IfOk result (λ h. h.looks ≡ 0) }
     {
         let alloc = *self.nodes.allocator();

@@ -17,8 +17,12 @@ fn thread_nodes<N, E, Ix: IndexType>(
     orders: &[(Vec<EdgeIndex<Ix>>, Vec<EdgeIndex<Ix>>)],
 )
     requires count { length orders.now ≡ length nodes.old.items }
-    requires lists { (dir : Direction) → CanThreadAll (length edges.old.items) (map (order_at dir) (map (numbers_of Ix.number) orders.now)) }
-    ensures linked { (dir : Direction) → AreLinkedLists Ix.greatest (firsts_of dir nodes.new.items) (nexts_of dir edges.new.items) (map (order_at dir) (map (numbers_of Ix.number) orders.now)) }
+    requires lists { (dir : Direction)
+        → CanThreadAll (length edges.old.items)
+        (map (order_at dir) (map (numbers_of Ix.number) orders.now)) }
+    ensures linked { (dir : Direction)
+        → AreLinkedLists Ix.greatest (firsts_of dir nodes.new.items) (nexts_of dir edges.new.items)
+        (map (order_at dir) (map (numbers_of Ix.number) orders.now)) }
     ensures nodes { map weight_of nodes.new.items ≡ map weight_of nodes.old.items }
     ensures edges { map plain_edge edges.new.items ≡ map plain_edge edges.old.items }
 {
@@ -29,13 +33,15 @@ fn thread_nodes<N, E, Ix: IndexType>(
 }
 
 impl<N, E, Ix: IndexType> DiGraph<N, E, Ix> {
-    /// Puts the edges of each list into another order: for each node, by ascending index, first those that leave it and
-    /// then those that enter it.
+    /// Puts the edges of each list into another order: for each node, by ascending index, first
+    /// those that leave it and then those that enter it.
     ///
     /// It takes no memory. The cost grows with the number of nodes and edges.
     pub fn set_orders(&mut self, orders: &[(Vec<EdgeIndex<Ix>>, Vec<EdgeIndex<Ix>>)])
         requires { AreOrders self.old.graph (map (numbers_of Ix.number) orders.now) }
-        ensures { self.new ≡ with_graph self.old (with_orders self.old.graph (map (numbers_of Ix.number) orders.now)) }
+        ensures { self.new
+            ≡ with_graph self.old
+            (with_orders self.old.graph (map (numbers_of Ix.number) orders.now)) }
     {
         thread_nodes(&mut self.nodes, &mut self.edges, orders);
     }

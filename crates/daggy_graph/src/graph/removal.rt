@@ -3,7 +3,9 @@ ghost use Rattle.std.specs.Prelude.{◌≡◌, ℕ, ◌≤◌, length, OnSome, I
 ghost use Rattle.std.specs.Option.{option_map};
 ghost use Rattle.daggy_base.specs.declared.index.Direction.{Direction};
 ghost use Rattle.daggy_base.specs.Graph.{empty, node_weight, edge_at, HasNode, list_at};
-ghost use Rattle.daggy_base.specs.Removal.{Compact, without_edge, without_front, without_node, with_node_isolated, with_node_dropped, without_all_edges};
+ghost use Rattle.daggy_base.specs.Removal.{Compact, without_edge, without_front, without_node};
+ghost use Rattle.daggy_base.specs.Removal.{with_node_isolated, with_node_dropped};
+ghost use Rattle.daggy_base.specs.Removal.{without_all_edges};
 ghost use Rattle.daggy_base.specs.WellFormed.{IsIsolated};
 ghost use Rattle.daggy_base.specs.State.{with_graph};
 
@@ -14,12 +16,15 @@ use daggy_base::link::Link;
 use daggy_cells::links::unlink_all;
 
 impl<N, E, Ix: IndexType> DiGraph<N, E, Ix> {
-    /// Removes an edge and hands back its weight, if the edge exists. The edge with the last index gets its index.
+    /// Removes an edge and hands back its weight, if the edge exists. The edge with the last index
+    /// gets its index.
     ///
-    /// The cost grows with the number of edges in the lists that the two edges stand in. It cannot fail for want of memory.
+    /// The cost grows with the number of edges in the lists that the two edges stand in. It cannot
+    /// fail for want of memory.
     pub fn remove_edge(&mut self, e: EdgeIndex<Ix>) -> Option<E>
         ensures value { result ≡ option_map (λ x. x.weight) (edge_at self.old.graph (Ix.number e)) }
-        ensures removed { OnSome result (self.new ≡ with_graph self.old (without_edge Compact self.old.graph (Ix.number e))) }
+        ensures removed { OnSome result
+            (self.new ≡ with_graph self.old (without_edge Compact self.old.graph (Ix.number e))) }
         ensures missing { IfNone result (self.new ≡ self.old) }
     {
         let i = e.index();
@@ -33,18 +38,20 @@ impl<N, E, Ix: IndexType> DiGraph<N, E, Ix> {
 
     /// Removes a node with its edges and hands back its weight, if the node exists.
     ///
-    /// First the edges that leave it are removed, the first of the list each time, and then those that enter it. Each
-    /// removal gives the index of the removed edge to the edge with the last index. At last the node with the last
-    /// index gets the index of this node.
+    /// First the edges that leave it are removed, the first of the list each time, and then those
+    /// that enter it. Each removal gives the index of the removed edge to the edge with the last
+    /// index. At last the node with the last index gets the index of this node.
     ///
-    /// The cost is that of removing each of those edges, and grows besides with the number of edges of the node with
-    /// the last index. It cannot fail for want of memory.
+    /// The cost is that of removing each of those edges, and grows besides with the number of edges
+    /// of the node with the last index. It cannot fail for want of memory.
     pub fn remove_node(&mut self, n: NodeIndex<Ix>) -> Option<N>
     where
         E: Drop,
         ensures value { result ≡ node_weight self.old.graph (Ix.number n) }
-        ensures removed { OnSome result (self.new ≡ with_graph self.old (without_node Compact self.old.graph (Ix.number n))) }
-        ensures between { OnSome result (IsIsolated Ix.greatest (with_node_isolated Compact self.old.graph (Ix.number n)) (Ix.number n)) }
+        ensures removed { OnSome result
+            (self.new ≡ with_graph self.old (without_node Compact self.old.graph (Ix.number n))) }
+        ensures between { OnSome result (IsIsolated Ix.greatest
+            (with_node_isolated Compact self.old.graph (Ix.number n)) (Ix.number n)) }
         ensures missing { IfNone result (self.new ≡ self.old) }
         ensures no_more_slots { length self.new.graph.nodes ≤ length self.old.graph.nodes }
     {
@@ -61,9 +68,12 @@ impl<N, E, Ix: IndexType> DiGraph<N, E, Ix> {
     fn clear_front(&mut self, n: NodeIndex<Ix>, dir: Direction)
     where
         E: Drop,
-        ensures cleared { self.new ≡ with_graph self.old (without_front Compact dir (length (list_at dir self.old.graph (Ix.number n))) self.old.graph (Ix.number n)) }
+        ensures cleared { self.new
+            ≡ with_graph self.old (without_front Compact dir
+            (length (list_at dir self.old.graph (Ix.number n))) self.old.graph (Ix.number n)) }
         ensures emptied { list_at dir self.new.graph (Ix.number n) ≡ [] }
-        ensures empty_stays { (d : Direction) → list_at d self.old.graph (Ix.number n) ≡ [] → list_at d self.new.graph (Ix.number n) ≡ [] }
+        ensures empty_stays { (d : Direction) → list_at d self.old.graph (Ix.number n) ≡ []
+            → list_at d self.new.graph (Ix.number n) ≡ [] }
         ensures nodes { self.new.graph.nodes ≡ self.old.graph.nodes }
     {
         'front: loop {
@@ -80,7 +90,8 @@ impl<N, E, Ix: IndexType> DiGraph<N, E, Ix> {
         requires node { HasNode self.old.graph (Ix.number n) }
         requires no_edges { (d : Direction) → list_at d self.old.graph (Ix.number n) ≡ [] }
         ensures value { node_weight self.old.graph (Ix.number n) ≡ Some result }
-        ensures dropped { self.new ≡ with_graph self.old (with_node_dropped Compact self.old.graph (Ix.number n)) }
+        ensures dropped { self.new
+            ≡ with_graph self.old (with_node_dropped Compact self.old.graph (Ix.number n)) }
         ensures no_more_slots { length self.new.graph.nodes ≤ length self.old.graph.nodes }
     {
         let i = n.index();

@@ -1,7 +1,8 @@
 //! All weights to write, one after another.
 ghost use Rattle.std.specs.Prelude.{◌≡◌, ◌≤◌, length};
 ghost use Rattle.daggy_base.specs.Rewriting.{Leaves, RewritesNodes, RewritesEdges};
-ghost use Rattle.daggy_cells.specs.MappedCells.{MapsCells, node_weight_in, node_with, edge_weight_in, edge_with};
+ghost use Rattle.daggy_cells.specs.MappedCells.{MapsCells, node_weight_in, node_with};
+ghost use Rattle.daggy_cells.specs.MappedCells.{edge_weight_in, edge_with};
 
 use crate::graph::{DiGraph, Edge, Node};
 use daggy_base::index::{EdgeIndex, IndexType, NodeIndex};
@@ -37,7 +38,8 @@ fn write_nodes<N, Ix: IndexType, F: FnMut(NodeIndex<Ix>, &mut N)>(
 )
     requires callable { F.IsAlwaysCallable f }
     requires few { length nodes.old.items ≤ Ix.greatest }
-    ensures { MapsCells (Leaves F.step) Ix.of node_weight_in node_with f 0 nodes.old.items nodes.new.items }
+    ensures { MapsCells (Leaves F.step) Ix.of node_weight_in node_with f 0 nodes.old.items
+        nodes.new.items }
 {
     'each: for i in 0..nodes.len() {
         let x = &mut nodes[i];
@@ -52,7 +54,8 @@ fn write_edges<E, Ix: IndexType, F: FnMut(EdgeIndex<Ix>, &mut E)>(
 )
     requires callable { F.IsAlwaysCallable f }
     requires few { length edges.old.items ≤ Ix.greatest }
-    ensures { MapsCells (Leaves F.step) Ix.of edge_weight_in edge_with f 0 edges.old.items edges.new.items }
+    ensures { MapsCells (Leaves F.step) Ix.of edge_weight_in edge_with f 0 edges.old.items
+        edges.new.items }
 {
     'each: for i in 0..edges.len() {
         let x = &mut edges[i];

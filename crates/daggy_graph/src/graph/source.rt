@@ -1,6 +1,7 @@
 //! The compact store as a graph that searches read.
 ghost use Rattle.std.specs.Prelude.{◌≡◌, ◌+◌, ◌↔◌, IsTrue};
-ghost use Rattle.daggy_base.specs.Graph.{HasNode, HasEdge, out_list, node_bound as node_bound_of, edge_bound as edge_bound_of};
+ghost use Rattle.daggy_base.specs.Graph.{HasNode, HasEdge, out_list, node_bound as node_bound_of};
+ghost use Rattle.daggy_base.specs.Graph.{edge_bound as edge_bound_of};
 ghost use Rattle.daggy_base.specs.WellFormed.{IsWellFormed};
 ghost use Rattle.daggy_base.specs.Cursor.{first_of};
 ghost use Rattle.daggy_base.specs.Look.{IsLook};
@@ -52,7 +53,8 @@ impl<N: Drop, E: Drop, Ix: IndexType> EdgeSource<Ix> for DiGraph<N, E, Ix> {
     #[inline]
     fn look(&mut self, e: EdgeIndex<Ix>) -> (NodeIndex<Ix>, EdgeIndex<Ix>)
         requires { HasEdge self.old.graph (Ix.number e) }
-        ensures gives { IsLook Ix.greatest self.old.graph (Ix.number e) (Ix.number result.0) (Ix.number result.1) }
+        ensures gives { IsLook Ix.greatest self.old.graph (Ix.number e) (Ix.number result.0)
+            (Ix.number result.1) }
         ensures same { self.new.graph ≡ self.old.graph }
         ensures counted { self.new.looks ≡ self.old.looks + 1 }
     {

@@ -2,9 +2,11 @@
 ghost use Rattle.std.specs.Prelude.{◌≢◌, ◌<◌, length};
 ghost use Rattle.daggy_base.specs.Graph.{node_weight as weight_at, HasNode, HasEdge};
 ghost use Rattle.daggy_base.specs.State.{with_graph};
-ghost use Rattle.daggy_base.specs.Weights.{edge_weight as edge_weight_of, with_node_weight, with_edge_weight};
+ghost use Rattle.daggy_base.specs.Weights.{edge_weight as edge_weight_of, with_node_weight};
+ghost use Rattle.daggy_base.specs.Weights.{with_edge_weight};
 ghost use Rattle.daggy_base.specs.Calls.{TakesAtTwo, CalledAtTwo};
-ghost use Rattle.daggy_cells.specs.Cells.{node_weight_at, edge_weight_at, with_node_weights, with_edge_weights};
+ghost use Rattle.daggy_cells.specs.Cells.{node_weight_at, edge_weight_at, with_node_weights};
+ghost use Rattle.daggy_cells.specs.Cells.{with_edge_weights};
 
 use crate::graph::{DiGraph, Edge, Node};
 use daggy_base::index::{EdgeIndex, IndexType, NodeIndex};
@@ -23,9 +25,13 @@ impl<N, E, Ix: IndexType> DiGraph<N, E, Ix> {
         requires first { HasNode self.old.graph (Ix.number a) }
         requires second { HasNode self.old.graph (Ix.number b) }
         requires different { Ix.number a ≢ Ix.number b }
-        requires callable { TakesAtTwo F.FnOnce f (weight_at self.old.graph (Ix.number a)) (weight_at self.old.graph (Ix.number b)) }
-        ensures { CalledAtTwo F.FnOnce f (weight_at self.old.graph (Ix.number a)) (weight_at self.old.graph (Ix.number b)) result
-            (λ v w. with_graph self.old (with_node_weight (with_node_weight self.old.graph (Ix.number a) v) (Ix.number b) w)) self.new }
+        requires callable { TakesAtTwo F.FnOnce f (weight_at self.old.graph (Ix.number a))
+            (weight_at self.old.graph (Ix.number b)) }
+        ensures { CalledAtTwo F.FnOnce f (weight_at self.old.graph (Ix.number a))
+            (weight_at self.old.graph (Ix.number b)) result
+            (λ v w. with_graph self.old
+            (with_node_weight (with_node_weight self.old.graph (Ix.number a) v) (Ix.number b) w))
+            self.new }
     {
         at_nodes(self.nodes.as_mut_slice(), a.index(), b.index(), f)
     }
@@ -43,14 +49,19 @@ impl<N, E, Ix: IndexType> DiGraph<N, E, Ix> {
         requires first { HasEdge self.old.graph (Ix.number a) }
         requires second { HasEdge self.old.graph (Ix.number b) }
         requires different { Ix.number a ≢ Ix.number b }
-        requires callable { TakesAtTwo F.FnOnce f (edge_weight_of self.old.graph (Ix.number a)) (edge_weight_of self.old.graph (Ix.number b)) }
-        ensures { CalledAtTwo F.FnOnce f (edge_weight_of self.old.graph (Ix.number a)) (edge_weight_of self.old.graph (Ix.number b)) result
-            (λ v w. with_graph self.old (with_edge_weight (with_edge_weight self.old.graph (Ix.number a) v) (Ix.number b) w)) self.new }
+        requires callable { TakesAtTwo F.FnOnce f (edge_weight_of self.old.graph (Ix.number a))
+            (edge_weight_of self.old.graph (Ix.number b)) }
+        ensures { CalledAtTwo F.FnOnce f (edge_weight_of self.old.graph (Ix.number a))
+            (edge_weight_of self.old.graph (Ix.number b)) result
+            (λ v w. with_graph self.old
+            (with_edge_weight (with_edge_weight self.old.graph (Ix.number a) v) (Ix.number b) w))
+            self.new }
     {
         at_edges(self.edges.as_mut_slice(), a.index(), b.index(), f)
     }
 
-    /// Calls `f` with the weights of a node and an edge, both to be written, and gives what `f` gives.
+    /// Calls `f` with the weights of a node and an edge, both to be written, and gives what `f`
+    /// gives.
     ///
     /// The cost is constant, besides that of `f`.
     #[inline]
@@ -62,9 +73,13 @@ impl<N, E, Ix: IndexType> DiGraph<N, E, Ix> {
     ) -> R
         requires node { HasNode self.old.graph (Ix.number n) }
         requires edge { HasEdge self.old.graph (Ix.number e) }
-        requires callable { TakesAtTwo F.FnOnce f (weight_at self.old.graph (Ix.number n)) (edge_weight_of self.old.graph (Ix.number e)) }
-        ensures { CalledAtTwo F.FnOnce f (weight_at self.old.graph (Ix.number n)) (edge_weight_of self.old.graph (Ix.number e)) result
-            (λ v w. with_graph self.old (with_edge_weight (with_node_weight self.old.graph (Ix.number n) v) (Ix.number e) w)) self.new }
+        requires callable { TakesAtTwo F.FnOnce f (weight_at self.old.graph (Ix.number n))
+            (edge_weight_of self.old.graph (Ix.number e)) }
+        ensures { CalledAtTwo F.FnOnce f (weight_at self.old.graph (Ix.number n))
+            (edge_weight_of self.old.graph (Ix.number e)) result
+            (λ v w. with_graph self.old
+            (with_edge_weight (with_node_weight self.old.graph (Ix.number n) v) (Ix.number e) w))
+            self.new }
     {
         let x = &mut self.nodes[n.index()];
         let y = &mut self.edges[e.index()];
@@ -82,8 +97,10 @@ fn at_nodes<N, R, Ix: IndexType, F: FnOnce(&mut N, &mut N) -> R>(
     requires first { a < length nodes.old }
     requires second { b < length nodes.old }
     requires different { a ≢ b }
-    requires callable { TakesAtTwo F.FnOnce f (node_weight_at nodes.old a) (node_weight_at nodes.old b) }
-    ensures { CalledAtTwo F.FnOnce f (node_weight_at nodes.old a) (node_weight_at nodes.old b) result (with_node_weights nodes.old a b) nodes.new }
+    requires callable { TakesAtTwo F.FnOnce f (node_weight_at nodes.old a)
+        (node_weight_at nodes.old b) }
+    ensures { CalledAtTwo F.FnOnce f (node_weight_at nodes.old a) (node_weight_at nodes.old b)
+        result (with_node_weights nodes.old a b) nodes.new }
 {
     if a < b {
         let (front, back) = nodes.split_at_mut(b);
@@ -108,8 +125,10 @@ fn at_edges<E, R, Ix: IndexType, F: FnOnce(&mut E, &mut E) -> R>(
     requires first { a < length edges.old }
     requires second { b < length edges.old }
     requires different { a ≢ b }
-    requires callable { TakesAtTwo F.FnOnce f (edge_weight_at edges.old a) (edge_weight_at edges.old b) }
-    ensures { CalledAtTwo F.FnOnce f (edge_weight_at edges.old a) (edge_weight_at edges.old b) result (with_edge_weights edges.old a b) edges.new }
+    requires callable { TakesAtTwo F.FnOnce f (edge_weight_at edges.old a)
+        (edge_weight_at edges.old b) }
+    ensures { CalledAtTwo F.FnOnce f (edge_weight_at edges.old a) (edge_weight_at edges.old b)
+        result (with_edge_weights edges.old a b) edges.new }
 {
     if a < b {
         let (front, back) = edges.split_at_mut(b);

@@ -27,7 +27,8 @@ impl<N, E, Ix: IndexType> DiGraph<N, E, Ix> {
     /// The weight of an edge, if the edge exists.
     #[inline]
     pub fn edge_weight(&self, e: EdgeIndex<Ix>) -> Option<&E>
-        ensures { option_copied result ≡ option_map (λ x. x.weight) (edge_at self.now.graph (Ix.number e)) }
+        ensures { option_copied result
+            ≡ option_map (λ x. x.weight) (edge_at self.now.graph (Ix.number e)) }
     {
         match self.edges.get(e.index()) {
             Some(x) => Some(&x.weight),
@@ -38,7 +39,8 @@ impl<N, E, Ix: IndexType> DiGraph<N, E, Ix> {
     /// The weight of a node, to be written, if the node exists.
     #[inline]
     pub fn node_weight_mut(&mut self, n: NodeIndex<Ix>) -> Option<&mut N>
-        ensures* writes_back { sem 𝓛 (lends_node_if N.row E.row Ix.row Ix.IndexType self.entry n result) }
+        ensures* writes_back { sem 𝓛
+            (lends_node_if N.row E.row Ix.row Ix.IndexType self.entry n result) }
         ensures value { option_copied_mut result ≡ weight_at self.old.graph (Ix.number n) }
     {
         if self.contains_node(n) {
@@ -51,8 +53,10 @@ impl<N, E, Ix: IndexType> DiGraph<N, E, Ix> {
     /// The weight of an edge, to be written, if the edge exists.
     #[inline]
     pub fn edge_weight_mut(&mut self, e: EdgeIndex<Ix>) -> Option<&mut E>
-        ensures* writes_back { sem 𝓛 (lends_edge_if N.row E.row Ix.row Ix.IndexType self.entry e result) }
-        ensures value { option_copied_mut result ≡ option_map (λ x. x.weight) (edge_at self.old.graph (Ix.number e)) }
+        ensures* writes_back { sem 𝓛
+            (lends_edge_if N.row E.row Ix.row Ix.IndexType self.entry e result) }
+        ensures value { option_copied_mut result
+            ≡ option_map (λ x. x.weight) (edge_at self.old.graph (Ix.number e)) }
     {
         if self.contains_edge(e) {
             Some(self.edge_mut(e))
@@ -64,7 +68,8 @@ impl<N, E, Ix: IndexType> DiGraph<N, E, Ix> {
     #[inline]
     fn node_mut(&mut self, n: NodeIndex<Ix>) -> &mut N
         requires { HasNode self.old.graph (Ix.number n) }
-        ensures* writes_back { sem 𝓛 (lends_node N.row E.row Ix.row Ix.IndexType self.entry n result) }
+        ensures* writes_back { sem 𝓛
+            (lends_node N.row E.row Ix.row Ix.IndexType self.entry n result) }
         ensures value { weight_at self.old.graph (Ix.number n) ≡ Some result.now }
     {
         let x = &mut self.nodes[n.index()];
@@ -74,8 +79,10 @@ impl<N, E, Ix: IndexType> DiGraph<N, E, Ix> {
     #[inline]
     fn edge_mut(&mut self, e: EdgeIndex<Ix>) -> &mut E
         requires { HasEdge self.old.graph (Ix.number e) }
-        ensures* writes_back { sem 𝓛 (lends_edge N.row E.row Ix.row Ix.IndexType self.entry e result) }
-        ensures value { option_map (λ x. x.weight) (edge_at self.old.graph (Ix.number e)) ≡ Some result.now }
+        ensures* writes_back { sem 𝓛
+            (lends_edge N.row E.row Ix.row Ix.IndexType self.entry e result) }
+        ensures value { option_map (λ x. x.weight) (edge_at self.old.graph (Ix.number e))
+            ≡ Some result.now }
     {
         let x = &mut self.edges[e.index()];
         &mut x.weight
@@ -85,8 +92,10 @@ impl<N, E, Ix: IndexType> DiGraph<N, E, Ix> {
     #[inline]
     pub(super) fn replace_edge_weight(&mut self, e: EdgeIndex<Ix>, weight: E) -> E
         requires { HasEdge self.old.graph (Ix.number e) }
-        ensures value { option_map (λ x. x.weight) (edge_at self.old.graph (Ix.number e)) ≡ Some result }
-        ensures replaced { self.new ≡ with_graph self.old (with_edge_weight self.old.graph (Ix.number e) weight) }
+        ensures value { option_map (λ x. x.weight) (edge_at self.old.graph (Ix.number e))
+            ≡ Some result }
+        ensures replaced { self.new
+            ≡ with_graph self.old (with_edge_weight self.old.graph (Ix.number e) weight) }
     {
         mem::replace(self.edge_mut(e), weight)
     }
@@ -110,7 +119,8 @@ impl<N, E, Ix: IndexType> Index<EdgeIndex<Ix>> for DiGraph<N, E, Ix> {
 
     ghost can_index = { λ s e. HasEdge s.graph (Ix.number e) };
 
-    ghost index_gives = { λ s e w. option_map (λ x. x.weight) (edge_at s.graph (Ix.number e)) ≡ Some w };
+    ghost index_gives = { λ s e w.
+        option_map (λ x. x.weight) (edge_at s.graph (Ix.number e)) ≡ Some w };
 
     #[inline]
     fn index(&self, e: EdgeIndex<Ix>) -> &E {
@@ -122,7 +132,8 @@ impl<N, E, Ix: IndexType> IndexMut<NodeIndex<Ix>> for DiGraph<N, E, Ix> {
     #[inline]
     fn index_mut(&mut self, n: NodeIndex<Ix>) -> &mut N
         requires { HasNode self.old.graph (Ix.number n) }
-        ensures* writes_back { sem 𝓛 (lends_node N.row E.row Ix.row Ix.IndexType self.entry n result) }
+        ensures* writes_back { sem 𝓛
+            (lends_node N.row E.row Ix.row Ix.IndexType self.entry n result) }
         ensures value { weight_at self.old.graph (Ix.number n) ≡ Some result.now }
     {
         self.node_mut(n)
@@ -133,8 +144,10 @@ impl<N, E, Ix: IndexType> IndexMut<EdgeIndex<Ix>> for DiGraph<N, E, Ix> {
     #[inline]
     fn index_mut(&mut self, e: EdgeIndex<Ix>) -> &mut E
         requires { HasEdge self.old.graph (Ix.number e) }
-        ensures* writes_back { sem 𝓛 (lends_edge N.row E.row Ix.row Ix.IndexType self.entry e result) }
-        ensures value { option_map (λ x. x.weight) (edge_at self.old.graph (Ix.number e)) ≡ Some result.now }
+        ensures* writes_back { sem 𝓛
+            (lends_edge N.row E.row Ix.row Ix.IndexType self.entry e result) }
+        ensures value { option_map (λ x. x.weight) (edge_at self.old.graph (Ix.number e))
+            ≡ Some result.now }
     {
         self.edge_mut(e)
     }

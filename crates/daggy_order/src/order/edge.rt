@@ -1,5 +1,6 @@
 //! How an order makes way for an edge.
-ghost use Rattle.std.specs.Prelude.{◌≡◌, ℕ, ◌+◌, ◌<◌, ◌≤◌, ◌↔◌, ◌^◌, ◌++◌, ◌∷◌, List, Contains, true, false, length, slice_index_or};
+ghost use Rattle.std.specs.Prelude.{◌≡◌, ℕ, ◌+◌, ◌<◌, ◌≤◌, ◌↔◌, ◌^◌, ◌++◌, ◌∷◌, List, Contains};
+ghost use Rattle.std.specs.Prelude.{true, false, length, slice_index_or};
 ghost use Rattle.daggy_base.specs.Graph.{HasNode, node_bound};
 ghost use Rattle.daggy_base.specs.Path.{Reaches};
 ghost use Rattle.daggy_base.specs.WellFormed.{AreDistinct};
@@ -39,7 +40,8 @@ pub fn order_edge<Ix: IndexType, S: EdgeSource<Ix>>(
     ensures refused { result ≡ false → order.new ≡ order.old }
     ensures ordered { IsOrderOf (S.graph source.old) order.new }
     ensures before { result ≡ true → place order.new (Ix.number a) < place order.new (Ix.number b) }
-    ensures kept { place order.old (Ix.number a) < place order.old (Ix.number b) → order.new ≡ order.old }
+    ensures kept { place order.old (Ix.number a) < place order.old (Ix.number b)
+        → order.new ≡ order.old }
     ensures moved { result ≡ true → place order.old (Ix.number b) < place order.old (Ix.number a)
         → IsParted (S.graph source.old) (Ix.number a) (Ix.number b) order.old order.new }
     ensures same { S.graph source.new ≡ S.graph source.old }
@@ -76,13 +78,17 @@ fn order_written<Ix: IndexType, S: EdgeSource<Ix>>(
     ensures decided { result ≡ false ↔ Reaches (S.graph source.old) (Ix.number b) (Ix.number a) }
     ensures refused { result ≡ false → written.new.nodes ≡ written.old.nodes }
     ensures ordered { IsOrderOf (S.graph source.old) written.new.nodes }
-    ensures before { result ≡ true → place written.new.nodes (Ix.number a) < place written.new.nodes (Ix.number b) }
-    ensures moved { result ≡ true → place written.old.nodes (Ix.number b) < place written.old.nodes (Ix.number a)
-        → IsParted (S.graph source.old) (Ix.number a) (Ix.number b) written.old.nodes written.new.nodes }
+    ensures before { result ≡ true
+        → place written.new.nodes (Ix.number a) < place written.new.nodes (Ix.number b) }
+    ensures moved { result ≡ true
+        → place written.old.nodes (Ix.number b) < place written.old.nodes (Ix.number a)
+        → IsParted (S.graph source.old) (Ix.number a) (Ix.number b) written.old.nodes
+        written.new.nodes }
     ensures same { S.graph source.new ≡ S.graph source.old }
     ensures counted { S.looks source.new ≤ S.looks source.old
         + edges_from (S.graph source.old)
-        (stretch written.old.nodes (place written.old.nodes (Ix.number b)) (place written.old.nodes (Ix.number a))) }
+        (stretch written.old.nodes (place written.old.nodes (Ix.number b))
+        (place written.old.nodes (Ix.number a))) }
     ensures unlooked { place written.old.nodes (Ix.number a) ≤ place written.old.nodes (Ix.number b)
         → S.looks source.new ≡ S.looks source.old }
     ensures same_capacity { scratch.new ≡ scratch.old }
@@ -124,15 +130,19 @@ fn order_links<Ix: IndexType, S: EdgeSource<Ix>>(
     ensures decided { result ≡ false ↔ Reaches (S.graph source.old) (Ix.number b) (Ix.number a) }
     ensures refused { result ≡ false → links.new.nodes ≡ links.old.nodes }
     ensures ordered { IsOrderOf (S.graph source.old) links.new.nodes }
-    ensures before { result ≡ true → place links.new.nodes (Ix.number a) < place links.new.nodes (Ix.number b) }
+    ensures before { result ≡ true
+        → place links.new.nodes (Ix.number a) < place links.new.nodes (Ix.number b) }
     ensures kept { place links.old.nodes (Ix.number a) < place links.old.nodes (Ix.number b)
         → links.new.nodes ≡ links.old.nodes }
-    ensures moved { result ≡ true → place links.old.nodes (Ix.number b) < place links.old.nodes (Ix.number a)
-        → IsParted (S.graph source.old) (Ix.number a) (Ix.number b) links.old.nodes links.new.nodes }
+    ensures moved { result ≡ true
+        → place links.old.nodes (Ix.number b) < place links.old.nodes (Ix.number a)
+        → IsParted (S.graph source.old) (Ix.number a) (Ix.number b) links.old.nodes
+        links.new.nodes }
     ensures same { S.graph source.new ≡ S.graph source.old }
     ensures counted { S.looks source.new ≤ S.looks source.old
         + edges_from (S.graph source.old)
-        (stretch links.old.nodes (place links.old.nodes (Ix.number b)) (place links.old.nodes (Ix.number a))) }
+        (stretch links.old.nodes (place links.old.nodes (Ix.number b))
+        (place links.old.nodes (Ix.number a))) }
     ensures unlooked { place links.old.nodes (Ix.number a) ≤ place links.old.nodes (Ix.number b)
         → S.looks source.new ≡ S.looks source.old }
     ensures labelled { IsLabelled labels.new.items links.new.nodes }

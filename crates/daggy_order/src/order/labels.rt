@@ -1,7 +1,9 @@
 //! Labels that ascend along an order.
-ghost use Rattle.std.specs.Prelude.{◌≡◌, ℕ, ◌≢◌, ◌+◌, ◌-◌, ◌*◌, ◌<◌, ◌≤◌, ◌^◌, List, Contains, IsTrue, slice_index, vec_len};
+ghost use Rattle.std.specs.Prelude.{◌≡◌, ℕ, ◌≢◌, ◌+◌, ◌-◌, ◌*◌, ◌<◌, ◌≤◌, ◌^◌, List, Contains};
+ghost use Rattle.std.specs.Prelude.{IsTrue, slice_index, vec_len};
 ghost use Rattle.daggy_base.specs.WellFormed.{AreDistinct};
-ghost use Rattle.daggy_order.specs.Links.{LabelsAscend, IsLabelled, IsSegment, HasSegment, HasGap, HasFirst, HasLast};
+ghost use Rattle.daggy_order.specs.Links.{LabelsAscend, IsLabelled, IsSegment, HasSegment, HasGap};
+ghost use Rattle.daggy_order.specs.Links.{HasFirst, HasLast};
 
 use crate::order::links::Links;
 use daggy_base::index::IndexType;
@@ -30,10 +32,13 @@ fn number<Ix: IndexType>(
     requires numbered { (n : ℕ) → Contains links.now.nodes n → n < vec_len labels.old }
     requires some { 0 < gap }
     requires fits { low + gap * count < 2 ^ 64 }
-    ensures ascending { (before run behind : List ℕ) → IsSegment Ix.greatest links.now.nodes from count before run behind
+    ensures ascending { (before run behind : List ℕ)
+        → IsSegment Ix.greatest links.now.nodes from count before run behind
         → LabelsAscend labels.new.items low run (low + gap * count + 1) }
-    ensures others { (before run behind : List ℕ) → IsSegment Ix.greatest links.now.nodes from count before run behind
-        → (n : ℕ) → ¬ Contains run n → slice_index labels.new.items n ≡ slice_index labels.old.items n }
+    ensures others { (before run behind : List ℕ)
+        → IsSegment Ix.greatest links.now.nodes from count before run behind
+        → (n : ℕ) → ¬ Contains run n
+        → slice_index labels.new.items n ≡ slice_index labels.old.items n }
     ensures sized { vec_len labels.new ≡ vec_len labels.old }
 {
     let mut n = from;

@@ -1,5 +1,7 @@
 //! A list of nodes, each of which leads to the next and to the one before it.
-ghost use Rattle.std.specs.Prelude.{◌≡◌, ◌≢◌, ℕ, ◌+◌, ◌<◌, ◌≤◌, ◌⊎◌, ◌^◌, [], ◌∷◌, ◌++◌, List, Contains, length, vec_len, vec_capacity, slice_index_or, max, IfOk, IsOk, OnOk, OnErr};
+ghost use Rattle.std.specs.Prelude.{◌≡◌, ◌≢◌, ℕ, ◌+◌, ◌<◌, ◌≤◌, ◌⊎◌, ◌^◌, [], ◌∷◌, ◌++◌, List};
+ghost use Rattle.std.specs.Prelude.{Contains, length, vec_len, vec_capacity, slice_index_or, max};
+ghost use Rattle.std.specs.Prelude.{IfOk, IsOk, OnOk, OnErr};
 ghost use Rattle.daggy_base.specs.Cursor.{first_of};
 ghost use Rattle.daggy_base.specs.Removal.{without};
 ghost use Rattle.daggy_base.specs.WellFormed.{AreDistinct};
@@ -29,9 +31,15 @@ impl<Ix: IndexType> Model for Links<Ix> {
 
     ghost Value = { Listed };
 
-    ghost view = { λ l. record { nodes = nodes_from Ix.greatest l.next.items l.first l.count; index_bound = length l.previous.items; capacity = min (vec_capacity l.next) (vec_capacity l.previous) } };
+    ghost view = { λ l. record {
+      nodes = nodes_from Ix.greatest l.next.items l.first l.count;
+      index_bound = length l.previous.items;
+      capacity = min (vec_capacity l.next) (vec_capacity l.previous);
+    } };
 
-    ghost invariant = { λ l. AreLinksOf Ix.greatest l.next.items l.previous.items l.first l.last (nodes_from Ix.greatest l.next.items l.first l.count) };
+    ghost invariant = { λ l.
+        AreLinksOf Ix.greatest l.next.items l.previous.items l.first l.last
+        (nodes_from Ix.greatest l.next.items l.first l.count) };
 }
 
 // How many elements a list is made longer by at most, so that they are still near when they are
@@ -45,7 +53,8 @@ pub(crate) fn grow<T: Copy + Drop>(list: &mut Vec<T>, n: usize, value: T) -> Res
     requires { n + 1 < 2 ^ 64 }
     ensures ok { OnOk result (n < vec_len list.new) }
     ensures longer { vec_len list.old ≤ vec_len list.new }
-    ensures same { (k : ℕ) → slice_index_or list.new.items k value ≡ slice_index_or list.old.items k value }
+    ensures same { (k : ℕ)
+        → slice_index_or list.new.items k value ≡ slice_index_or list.old.items k value }
 {
     if list.len() <= n {
         let more = list.len().saturating_mul(2).min(n.saturating_add(STRETCH));
@@ -68,7 +77,8 @@ fn lengthen<T: Copy + Drop>(list: &mut Vec<T>, len: usize, value: T) -> Result<(
     ensures ok { OnOk result (vec_len list.new ≡ len) }
     ensures err { OnErr result (vec_len list.new ≡ vec_len list.old) }
     ensures succeeds { len ≤ vec_capacity list.old → IsOk result }
-    ensures same { (k : ℕ) → slice_index_or list.new.items k value ≡ slice_index_or list.old.items k value }
+    ensures same { (k : ℕ)
+        → slice_index_or list.new.items k value ≡ slice_index_or list.old.items k value }
 {
     list.resize(len, value)
 }
@@ -89,7 +99,8 @@ fn lengthen_within<T: Copy + Drop>(list: &mut Vec<T>, len: usize, value: T)
     requires { len ≤ vec_capacity list.old }
     ensures longer { len ≤ vec_len list.new }
     ensures sized { vec_len list.new ≡ max (vec_len list.old) len }
-    ensures same { (k : ℕ) → slice_index_or list.new.items k value ≡ slice_index_or list.old.items k value }
+    ensures same { (k : ℕ)
+        → slice_index_or list.new.items k value ≡ slice_index_or list.old.items k value }
 {
     if list.len() < len {
         // Within its memory this cannot fail.
@@ -112,7 +123,8 @@ fn stretched(bound: usize, capacity: usize) -> usize
 pub(crate) fn lengthen_for<T: Copy + Drop>(list: &mut Vec<T>, bound: usize, value: T)
     requires { bound ≤ vec_capacity list.old }
     ensures longer { bound ≤ vec_len list.new }
-    ensures same { (k : ℕ) → slice_index_or list.new.items k value ≡ slice_index_or list.old.items k value }
+    ensures same { (k : ℕ)
+        → slice_index_or list.new.items k value ≡ slice_index_or list.old.items k value }
 {
     if list.len() < bound {
         let len = stretched(bound, list.capacity());
@@ -131,7 +143,8 @@ fn lead<Ix: IndexType>(
     requires { (from ≡ Ix.greatest) ⊎ (from < vec_len links.old) }
     ensures led { neighbor Ix.greatest outer.new links.new.items from ≡ to }
     ensures others { (k : ℕ) → k ≢ from
-        → neighbor Ix.greatest outer.new links.new.items k ≡ neighbor Ix.greatest outer.old links.old.items k }
+        → neighbor Ix.greatest outer.new links.new.items k
+        ≡ neighbor Ix.greatest outer.old links.old.items k }
     ensures sized { vec_len links.new ≡ vec_len links.old }
     ensures capacity { vec_capacity links.new ≡ vec_capacity links.old }
 {
@@ -186,7 +199,8 @@ impl<Ix: IndexType> Links<Ix> {
     #[inline]
     pub(crate) fn next(&self, n: Link<Ix>) -> Link<Ix>
         requires { Contains self.now.nodes n }
-        ensures { (ns ms : List ℕ) → self.now.nodes ≡ ns ++ n ∷ ms → result ≡ first_of Ix.greatest ms }
+        ensures { (ns ms : List ℕ)
+            → self.now.nodes ≡ ns ++ n ∷ ms → result ≡ first_of Ix.greatest ms }
     {
         self.next[n.index()]
     }
@@ -238,7 +252,11 @@ impl<Ix: IndexType> Links<Ix> {
         requires real { n ≢ Ix.greatest }
         requires absent { ¬ Contains self.old.nodes n }
         requires numbered { n < self.old.index_bound }
-        ensures { self.new ≡ record { nodes = n ∷ self.old.nodes; index_bound = self.old.index_bound; capacity = self.old.capacity } }
+        ensures { self.new ≡ record {
+          nodes = n ∷ self.old.nodes;
+          index_bound = self.old.index_bound;
+          capacity = self.old.capacity;
+        } }
     {
         let q = self.first;
         lead(&mut self.next, &mut self.first, Link::end(), n);
@@ -255,7 +273,8 @@ impl<Ix: IndexType> Links<Ix> {
         requires real { n ≢ Ix.greatest }
         requires absent { ¬ Contains self.old.nodes n }
         requires numbered { n < self.old.index_bound }
-        ensures nodes { (ns ms : List ℕ) → self.old.nodes ≡ ns ++ p ∷ ms → self.new.nodes ≡ ns ++ p ∷ (n ∷ ms) }
+        ensures nodes { (ns ms : List ℕ)
+            → self.old.nodes ≡ ns ++ p ∷ ms → self.new.nodes ≡ ns ++ p ∷ (n ∷ ms) }
         ensures index_bound { self.new.index_bound ≡ self.old.index_bound }
         ensures capacity { self.new.capacity ≡ self.old.capacity }
     {
@@ -273,7 +292,11 @@ impl<Ix: IndexType> Links<Ix> {
         requires real { n ≢ Ix.greatest }
         requires absent { ¬ Contains self.old.nodes n }
         requires numbered { n < self.old.index_bound }
-        ensures { self.new ≡ record { nodes = self.old.nodes ++ n ∷ []; index_bound = self.old.index_bound; capacity = self.old.capacity } }
+        ensures { self.new ≡ record {
+          nodes = self.old.nodes ++ n ∷ [];
+          index_bound = self.old.index_bound;
+          capacity = self.old.capacity;
+        } }
     {
         if self.count == 0 {
             self.put_first(n);
@@ -287,7 +310,11 @@ impl<Ix: IndexType> Links<Ix> {
     #[inline]
     pub(crate) fn remove(&mut self, n: Link<Ix>)
         requires { Contains self.old.nodes n }
-        ensures { self.new ≡ record { nodes = without n self.old.nodes; index_bound = self.old.index_bound; capacity = self.old.capacity } }
+        ensures { self.new ≡ record {
+          nodes = without n self.old.nodes;
+          index_bound = self.old.index_bound;
+          capacity = self.old.capacity;
+        } }
     {
         let p = self.previous[n.index()];
         let q = self.next[n.index()];

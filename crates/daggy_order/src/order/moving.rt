@@ -1,5 +1,6 @@
 //! How nodes of an order are moved behind another.
-ghost use Rattle.std.specs.Prelude.{◌≡◌, ℕ, ◌<◌, ◌≤◌, ◌++◌, ◌∷◌, List, Contains, length, slice_index, vec_len};
+ghost use Rattle.std.specs.Prelude.{◌≡◌, ℕ, ◌<◌, ◌≤◌, ◌++◌, ◌∷◌, List, Contains, length};
+ghost use Rattle.std.specs.Prelude.{slice_index, vec_len};
 ghost use Rattle.std.specs.List.Sorted.{IsPermutation, IsNonDecreasingBy};
 ghost use Rattle.daggy_base.specs.WellFormed.{AreDistinct};
 ghost use Rattle.daggy_order.specs.Links.{LabelsAscend, IsSegment, StandBefore, without_all};

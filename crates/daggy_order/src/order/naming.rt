@@ -16,7 +16,8 @@ impl<Ix: IndexType> Order<Ix> {
         requires few { length names.now ≤ Ix.greatest }
         requires covered { (n : ℕ) → Contains self.old n → n < length names.now }
         requires lower { (n k : ℕ) → slot names.now n ≡ Some k → k ≤ n }
-        requires distinct { (a b k : ℕ) → slot names.now a ≡ Some k → slot names.now b ≡ Some k → a ≡ b }
+        requires distinct { (a b k : ℕ)
+            → slot names.now a ≡ Some k → slot names.now b ≡ Some k → a ≡ b }
         ensures { self.new ≡ filter_map (slot names.now) self.old }
     {
         'nodes: for i in 0..names.len() {

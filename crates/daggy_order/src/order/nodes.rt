@@ -28,9 +28,11 @@ impl<'a, Ix: IndexType> Model for Nodes<'a, Ix> {
 
     ghost Value = { List ℕ };
 
-    ghost view = { λ it. last_nodes it.left it.written.now.nodes ++ range_with_len it.from it.count };
+    ghost view = { λ it.
+        last_nodes it.left it.written.now.nodes ++ range_with_len it.from it.count };
 
-    ghost invariant = { λ it. IsAmong Ix.greatest it.written.now.nodes it.left it.at it.from it.count };
+    ghost invariant = { λ it.
+        IsAmong Ix.greatest it.written.now.nodes it.left it.at it.from it.count };
 }
 
 impl<Ix: IndexType> Order<Ix> {

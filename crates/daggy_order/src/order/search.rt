@@ -1,5 +1,7 @@
 //! A search that stays before a place of an order.
-ghost use Rattle.std.specs.Prelude.{◌≡◌, ℕ, ◌+◌, ◌<◌, ◌≤◌, ◌↔◌, List, None, false, true, take, length, slice_index, slice_index_or, slice_set, Contains, IfSome};
+ghost use Rattle.std.specs.Prelude.{◌≡◌, ℕ, ◌+◌, ◌<◌, ◌≤◌, ◌↔◌, List, None, false, true, take};
+ghost use Rattle.std.specs.Prelude.{length, slice_index, slice_index_or, slice_set, Contains};
+ghost use Rattle.std.specs.Prelude.{IfSome};
 ghost use Rattle.daggy_base.specs.Graph.{HasNode, node_bound};
 ghost use Rattle.daggy_base.specs.Path.{AreJoined, Reaches};
 ghost use Rattle.daggy_base.specs.WellFormed.{IsWellFormed, AreDistinct};
@@ -42,10 +44,12 @@ pub(crate) fn reaches_below<Ix: IndexType, S: EdgeSource<Ix>>(
     requires stack_fits { length marks.old ≤ length stack.old }
     requires found_fits { length marks.old ≤ length found.old }
     requires cleared { (n : ℕ) → slice_index_or marks.old n false ≡ false }
-    ensures decided { (result ≡ None) ↔ Reaches (S.graph source.old) (Ix.number from) (Ix.number to) }
+    ensures decided { (result ≡ None)
+        ↔ Reaches (S.graph source.old) (Ix.number from) (Ix.number to) }
     ensures found { IfSome result (λ k. (k ≤ length found.new) × (AreDistinct (take k found.new)
         × ((n : ℕ) → Contains (take k found.new) n
-        ↔ (Reaches (S.graph source.old) (Ix.number from) n × (slice_index labels.now n < limit))))) }
+        ↔ (Reaches (S.graph source.old) (Ix.number from) n
+        × (slice_index labels.now n < limit))))) }
     ensures same { S.graph source.new ≡ S.graph source.old }
     ensures counted { (ns : List ℕ)
         → ((n : ℕ) → HasNode (S.graph source.old) n

@@ -1,5 +1,6 @@
 //! The nodes of an order that are written, as links and labels.
-ghost use Rattle.std.specs.Prelude.{◌≡◌, ℕ, ◌+◌, ◌<◌, ◌≤◌, ◌↔◌, [], ◌∷◌, ◌++◌, List, length, slice_index, map, vec_len, IsTrue, Contains, OnOk, OnErr, IfOk};
+ghost use Rattle.std.specs.Prelude.{◌≡◌, ℕ, ◌+◌, ◌<◌, ◌≤◌, ◌↔◌, [], ◌∷◌, ◌++◌, List, length};
+ghost use Rattle.std.specs.Prelude.{slice_index, map, vec_len, IsTrue, Contains, OnOk, OnErr, IfOk};
 ghost use Rattle.daggy_base.specs.Cursor.{first_of};
 ghost use Rattle.daggy_base.specs.Removal.{without, renamed};
 ghost use Rattle.daggy_base.specs.WellFormed.{AreDistinct};
@@ -30,7 +31,8 @@ impl<Ix: IndexType> Model for Written<Ix> {
 
     ghost Value = { Stored };
 
-    ghost view = { λ o. record { nodes = o.links.nodes; capacity = min o.links.capacity (vec_capacity o.labels) } };
+    ghost view = { λ o.
+        record { nodes = o.links.nodes; capacity = min o.links.capacity (vec_capacity o.labels) } };
 
     ghost invariant = { λ o. IsLabelled o.labels.items o.links.nodes };
 }
@@ -112,7 +114,8 @@ impl<Ix: IndexType> Written<Ix> {
     #[inline]
     pub(crate) fn next(&self, n: Link<Ix>) -> Link<Ix>
         requires { Contains self.now.nodes n }
-        ensures { (ns ms : List ℕ) → self.now.nodes ≡ ns ++ n ∷ ms → result ≡ first_of Ix.greatest ms }
+        ensures { (ns ms : List ℕ)
+            → self.now.nodes ≡ ns ++ n ∷ ms → result ≡ first_of Ix.greatest ms }
     {
         self.links.next(n)
     }
@@ -129,7 +132,8 @@ impl<Ix: IndexType> Written<Ix> {
     pub(crate) fn stands_before(&self, a: NodeIndex<Ix>, b: NodeIndex<Ix>) -> bool
         requires first { Contains self.now.nodes (Ix.number a) }
         requires second { Contains self.now.nodes (Ix.number b) }
-        ensures { IsTrue result ↔ (place self.now.nodes (Ix.number a) < place self.now.nodes (Ix.number b)) }
+        ensures { IsTrue result
+            ↔ (place self.now.nodes (Ix.number a) < place self.now.nodes (Ix.number b)) }
     {
         self.labels[a.index()] < self.labels[b.index()]
     }
@@ -150,7 +154,8 @@ impl<Ix: IndexType> Written<Ix> {
     // Writes the nodes of a tail. There is memory for them. The tail that is left is empty.
     #[inline]
     pub(crate) fn settle(&mut self, tail: Tail) -> Tail
-        requires { IsTailed Ix.greatest self.old.nodes self.old.capacity tail.from tail.count tail.index_bound }
+        requires { IsTailed Ix.greatest self.old.nodes self.old.capacity tail.from tail.count
+            tail.index_bound }
         ensures nodes { self.new.nodes ≡ self.old.nodes ++ range_with_len tail.from tail.count }
         ensures from { result.from ≡ tail.from + tail.count }
         ensures count { result.count ≡ 0 }
@@ -169,7 +174,8 @@ impl<Ix: IndexType> Written<Ix> {
     #[inline(never)]
     fn write_tail(&mut self, tail: Tail)
         requires some { 0 < tail.count }
-        requires tailed { IsTailed Ix.greatest self.old.nodes self.old.capacity tail.from tail.count tail.index_bound }
+        requires tailed { IsTailed Ix.greatest self.old.nodes self.old.capacity tail.from tail.count
+            tail.index_bound }
         ensures { self.new.nodes ≡ self.old.nodes ++ range_with_len tail.from tail.count }
     {
         let end = tail.from + tail.count;

@@ -1,7 +1,9 @@
 //! Adding nodes and edges.
 ghost use Rattle.std.specs.Prelude.{◌≡◌, ◌≢◌, ◌<◌, [], IfOk, OnOk, IfErr, OnErr};
-ghost use Rattle.daggy_base.specs.Graph.{HasNode, node_count as node_count_of, edge_count as edge_count_of};
-ghost use Rattle.daggy_base.specs.Adding.{next_node, next_edge as next_edge_of, with_node, with_edge};
+ghost use Rattle.daggy_base.specs.Graph.{HasNode, node_count as node_count_of};
+ghost use Rattle.daggy_base.specs.Graph.{edge_count as edge_count_of};
+ghost use Rattle.daggy_base.specs.Adding.{next_node, next_edge as next_edge_of, with_node};
+ghost use Rattle.daggy_base.specs.Adding.{with_edge};
 ghost use Rattle.daggy_base.specs.State.{with_graph};
 ghost use Rattle.daggy_base.specs.declared.error.NodeError.TheVariants.{Memory as NodeMemory};
 ghost use Rattle.daggy_base.specs.declared.error.EdgeError.TheVariants.{Memory as EdgeMemory};
@@ -13,16 +15,17 @@ use daggy_base::link::Link;
 use daggy_cells::links::{self, put_first};
 
 impl<N: Drop, E: Drop, Ix: IndexType> StableDiGraph<N, E, Ix> {
-    /// Adds a node. Its index is that of the slot that was vacated last. If no slot is vacant, it is the number of nodes
-    /// before.
+    /// Adds a node. Its index is that of the slot that was vacated last. If no slot is vacant, it
+    /// is the number of nodes before.
     ///
-    /// The error says that memory for it was refused. It holds the weight, and the graph is as it was. The cost is
-    /// constant, taken over many calls.
+    /// The error says that memory for it was refused. It holds the weight, and the graph is as it
+    /// was. The cost is constant, taken over many calls.
     #[inline]
     pub fn add_node(&mut self, weight: N) -> Result<NodeIndex<Ix>, NodeError<N>>
         requires { node_count_of self.old.graph < Ix.greatest }
         ensures index { IfOk result (λ n. Ix.number n ≡ next_node self.old.graph) }
-        ensures added { OnOk result (self.new ≡ with_graph self.old (with_node self.old.graph weight)) }
+        ensures added { OnOk result
+            (self.new ≡ with_graph self.old (with_node self.old.graph weight)) }
         ensures refusal { IfErr result (λ e. e ≡ NodeMemory weight) }
         ensures unchanged { OnErr result (self.new ≡ self.old) }
     {
@@ -53,7 +56,8 @@ impl<N: Drop, E: Drop, Ix: IndexType> StableDiGraph<N, E, Ix> {
         requires none { self.old.graph.vacant_nodes ≡ [] }
         requires index_left { node_count_of self.old.graph < Ix.greatest }
         ensures index { IfOk result (λ n. Ix.number n ≡ next_node self.old.graph) }
-        ensures added { OnOk result (self.new ≡ with_graph self.old (with_node self.old.graph weight)) }
+        ensures added { OnOk result
+            (self.new ≡ with_graph self.old (with_node self.old.graph weight)) }
         ensures refusal { IfErr result (λ e. e ≡ NodeMemory weight) }
         ensures unchanged { OnErr result (self.new ≡ self.old) }
     {
@@ -66,11 +70,12 @@ impl<N: Drop, E: Drop, Ix: IndexType> StableDiGraph<N, E, Ix> {
         Ok(n)
     }
 
-    /// Adds an edge from `a` to `b`. It is then the first edge that leaves `a`, and the first that enters `b`. Its index
-    /// is that of the slot that was vacated last. If no slot is vacant, it is the number of edges before.
+    /// Adds an edge from `a` to `b`. It is then the first edge that leaves `a`, and the first that
+    /// enters `b`. Its index is that of the slot that was vacated last. If no slot is vacant, it is
+    /// the number of edges before.
     ///
-    /// The error says that memory for it was refused. It holds the weight, and the graph is as it was. The cost is
-    /// constant, taken over many calls.
+    /// The error says that memory for it was refused. It holds the weight, and the graph is as it
+    /// was. The cost is constant, taken over many calls.
     #[inline]
     pub fn add_edge(
         &mut self,
@@ -82,7 +87,8 @@ impl<N: Drop, E: Drop, Ix: IndexType> StableDiGraph<N, E, Ix> {
         requires child { HasNode self.old.graph (Ix.number b) }
         requires index_left { edge_count_of self.old.graph < Ix.greatest }
         ensures index { IfOk result (λ e. Ix.number e ≡ next_edge_of self.old.graph) }
-        ensures added { OnOk result (self.new ≡ with_graph self.old (with_edge self.old.graph (Ix.number a) (Ix.number b) weight)) }
+        ensures added { OnOk result (self.new
+            ≡ with_graph self.old (with_edge self.old.graph (Ix.number a) (Ix.number b) weight)) }
         ensures refusal { IfErr result (λ e. e ≡ EdgeMemory weight) }
         ensures unchanged { OnErr result (self.new ≡ self.old) }
     {
@@ -99,7 +105,8 @@ impl<N: Drop, E: Drop, Ix: IndexType> StableDiGraph<N, E, Ix> {
         requires parent { HasNode self.old.graph (Ix.number a) }
         requires child { HasNode self.old.graph (Ix.number b) }
         ensures index { Ix.number result ≡ next_edge_of self.old.graph }
-        ensures added { self.new ≡ with_graph self.old (with_edge self.old.graph (Ix.number a) (Ix.number b) weight) }
+        ensures added { self.new
+            ≡ with_graph self.old (with_edge self.old.graph (Ix.number a) (Ix.number b) weight) }
     {
         let e = self.first_vacant_edge;
         let i = e.index();
@@ -129,7 +136,8 @@ impl<N: Drop, E: Drop, Ix: IndexType> StableDiGraph<N, E, Ix> {
         requires child { HasNode self.old.graph (Ix.number b) }
         requires index_left { edge_count_of self.old.graph < Ix.greatest }
         ensures index { IfOk result (λ e. Ix.number e ≡ next_edge_of self.old.graph) }
-        ensures added { OnOk result (self.new ≡ with_graph self.old (with_edge self.old.graph (Ix.number a) (Ix.number b) weight)) }
+        ensures added { OnOk result (self.new
+            ≡ with_graph self.old (with_edge self.old.graph (Ix.number a) (Ix.number b) weight)) }
         ensures refusal { IfErr result (λ e. e ≡ EdgeMemory weight) }
         ensures unchanged { OnErr result (self.new ≡ self.old) }
     {

@@ -1,5 +1,6 @@
 //! Slots that are made one by one, and the graph of them.
-ghost use Rattle.std.specs.Prelude.{◌≡◌, ◌<◌, ◌≤◌, None, [], ◌∷◌, ◌++◌, map, length, vec_len, vec_capacity, IsSome, IfOk};
+ghost use Rattle.std.specs.Prelude.{◌≡◌, ◌<◌, ◌≤◌, None, [], ◌∷◌, ◌++◌, map, length, vec_len};
+ghost use Rattle.std.specs.Prelude.{vec_capacity, IsSome, IfOk};
 ghost use Rattle.std.specs.Option.{option_map};
 ghost use Rattle.daggy_base.specs.Graph.{slot};
 ghost use Rattle.daggy_base.specs.FromSlots.{graph_of_slots};
@@ -48,7 +49,8 @@ pub(super) fn keep_node<N, E, Ix: IndexType>(
     requires index_left { length nodes.old.cells.items < Ix.greatest }
     requires capacity { vec_len nodes.old.cells < vec_capacity nodes.old.cells }
     ensures stored { IsBuilt Ix.greatest nodes.new edges.now }
-    ensures weights { map weight_of nodes.new.cells.items ≡ map weight_of nodes.old.cells.items ++ answer ∷ [] }
+    ensures weights { map weight_of nodes.new.cells.items
+        ≡ map weight_of nodes.old.cells.items ++ answer ∷ [] }
     ensures capacity { vec_capacity nodes.new.cells ≡ vec_capacity nodes.old.cells }
 {
     let n = Link::new(nodes.cells.len());
@@ -75,7 +77,8 @@ pub(super) fn leave_edge<N, E, Ix: IndexType>(
     requires index_left { length edges.old.cells.items < Ix.greatest }
     requires capacity { vec_len edges.old.cells < vec_capacity edges.old.cells }
     ensures stored { IsBuilt Ix.greatest nodes.now edges.new }
-    ensures edges { map plain_edge edges.new.cells.items ≡ map plain_edge edges.old.cells.items ++ None ∷ [] }
+    ensures edges { map plain_edge edges.new.cells.items
+        ≡ map plain_edge edges.old.cells.items ++ None ∷ [] }
     ensures capacity { vec_capacity edges.new.cells ≡ vec_capacity edges.old.cells }
 {
     let e = Link::new(edges.cells.len());
@@ -101,7 +104,8 @@ pub(super) fn keep_edge<N, E, Ix: IndexType>(
     requires capacity { vec_len edges.old.cells < vec_capacity edges.old.cells }
     ensures stored { IsBuilt Ix.greatest nodes.new edges.new }
     ensures nodes { map weight_of nodes.new.cells.items ≡ map weight_of nodes.old.cells.items }
-    ensures edges { map plain_edge edges.new.cells.items ≡ map plain_edge edges.old.cells.items ++ option_map (between a b) answer ∷ [] }
+    ensures edges { map plain_edge edges.new.cells.items
+        ≡ map plain_edge edges.old.cells.items ++ option_map (between a b) answer ∷ [] }
     ensures capacity { vec_capacity edges.new.cells ≡ vec_capacity edges.old.cells }
 {
     let weight = match answer {
@@ -123,7 +127,12 @@ pub(super) fn built<N, E, Ix: IndexType>(
     edges: SlotBuilder<Edge<Option<E>, Ix>, Ix>,
 ) -> StableDiGraph<N, E, Ix>
     requires { IsBuilt Ix.greatest nodes edges }
-    ensures { result ≡ record { graph = graph_of_slots (map weight_of nodes.cells.items) (map plain_edge edges.cells.items); looks = 0 } }
+    ensures { result
+        ≡ record {
+          graph =
+              graph_of_slots (map weight_of nodes.cells.items) (map plain_edge edges.cells.items);
+          looks = 0;
+        } }
 {
     StableDiGraph {
         nodes: nodes.cells,

@@ -11,8 +11,8 @@ use std::alloc::{AllocError, Global};
 impl<N, E, Ix: IndexType> StableDiGraph<N, E, Ix> {
     /// A graph with no node and no edge, and with memory for so many of each.
     ///
-    /// The error says that memory was refused, or that no machine can have so much. There may later be more nodes and
-    /// edges than that.
+    /// The error says that memory was refused, or that no machine can have so much. There may later
+    /// be more nodes and edges than that.
     pub fn with_capacity(alloc: Global, nodes: usize, edges: usize) -> Result<Self, AllocError>
     where
         N: Drop,

@@ -9,7 +9,8 @@ use std::alloc::AllocError;
 
 /// Gives a graph with the same slots, lists and vacant slots, with a clone of each weight.
 impl<N: Clone + Drop, E: Clone + Drop, Ix: IndexType> Clone for StableDiGraph<N, E, Ix> {
-    ghost is_clone = { λ g copy. IsCopy N.is_clone E.is_clone g.graph copy.graph × (copy.looks ≡ 0) };
+    ghost is_clone = { λ g copy.
+        IsCopy N.is_clone E.is_clone g.graph copy.graph × (copy.looks ≡ 0) };
 
     fn clone(&self) -> Result<Self, AllocError> {
         Ok(StableDiGraph {
@@ -25,8 +26,8 @@ impl<N: Clone + Drop, E: Clone + Drop, Ix: IndexType> Clone for StableDiGraph<N,
 }
 
 impl<N, E, Ix: IndexType> StableDiGraph<N, E, Ix> {
-    /// A graph with the same nodes and edges under the same indices, in the same lists, and with the same vacant slots,
-    /// which are taken in the same order.
+    /// A graph with the same nodes and edges under the same indices, in the same lists, and with
+    /// the same vacant slots, which are taken in the same order.
     ///
     /// The error says that memory for it was refused. The cost grows with the number of slots.
     pub fn try_clone(&self) -> Result<Self, AllocError>

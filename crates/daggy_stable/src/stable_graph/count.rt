@@ -1,6 +1,7 @@
 //! How many nodes, edges and slots there are, and whether there is room for more.
 ghost use Rattle.std.specs.Prelude.{◌≡◌, ◌<◌, ◌↔◌, length, IsTrue};
-ghost use Rattle.daggy_base.specs.Graph.{node_count as node_count_of, edge_count as edge_count_of, node_bound as node_bound_of, edge_bound as edge_bound_of};
+ghost use Rattle.daggy_base.specs.Graph.{node_count as node_count_of, edge_count as edge_count_of};
+ghost use Rattle.daggy_base.specs.Graph.{node_bound as node_bound_of, edge_bound as edge_bound_of};
 ghost use Rattle.daggy_base.specs.WellFormed.{IsWellFormed};
 
 use crate::stable_graph::StableDiGraph;

@@ -1,5 +1,6 @@
 //! The part of a graph that closures keep, under the same indices.
-ghost use Rattle.std.specs.Prelude.{◌≡◌, ◌≤◌, [], map, length, vec_capacity, is_some, option_copied, IfOk};
+ghost use Rattle.std.specs.Prelude.{◌≡◌, ◌≤◌, [], map, length, vec_capacity, is_some};
+ghost use Rattle.std.specs.Prelude.{option_copied, IfOk};
 ghost use Rattle.std.specs.Option.{option_map};
 ghost use Rattle.daggy_base.specs.Graph.{slot};
 ghost use Rattle.daggy_base.specs.Mapping.{weight_in, with_weight};
@@ -30,7 +31,8 @@ fn filter_nodes<N, V, W, Ix: IndexType, F: FnMut(NodeIndex<Ix>, &N) -> Option<V>
     requires no_edges { edges.now.cells.items ≡ [] }
     requires stored { IsBuilt Ix.greatest new.old edges.now }
     ensures stored { IsBuilt Ix.greatest new.new edges.now }
-    ensures kept { KeepsSlots F.step Ix.of (λ w. w) (λ w v. v) f 0 (map weight_of nodes.now) (map weight_of new.new.cells.items) }
+    ensures kept { KeepsSlots F.step Ix.of (λ w. w) (λ w v. v) f 0 (map weight_of nodes.now)
+        (map weight_of new.new.cells.items) }
 {
     'each: for i in 0..nodes.len() {
         let x = &nodes[i];
@@ -62,7 +64,9 @@ fn joined_weight<'a, N, E, Ix: IndexType>(
     nodes: &SlotBuilder<Node<Option<N>, Ix>, Ix>,
     x: &'a Edge<Option<E>, Ix>,
 ) -> Option<&'a E>
-    ensures { option_copied result ≡ option_map weight_in (if_ends_exist (map weight_of nodes.now.cells.items) (plain_edge x.now)) }
+    ensures { option_copied result
+        ≡ option_map weight_in
+        (if_ends_exist (map weight_of nodes.now.cells.items) (plain_edge x.now)) }
 {
     if !stayed(nodes, links::end(x, Direction::Outgoing)) {
         return None;
@@ -88,7 +92,9 @@ fn filter_edges<N, E, W, Ix: IndexType, G: FnMut(EdgeIndex<Ix>, &E) -> Option<W>
     requires stored { IsBuilt Ix.greatest nodes.old new.old }
     ensures stored { IsBuilt Ix.greatest nodes.new new.new }
     ensures nodes { map weight_of nodes.new.cells.items ≡ map weight_of nodes.old.cells.items }
-    ensures kept { KeepsSlots G.step Ix.of weight_in with_weight g 0 (map (λ x. if_ends_exist (map weight_of nodes.old.cells.items) (plain_edge x)) edges.now) (map plain_edge new.new.cells.items) }
+    ensures kept { KeepsSlots G.step Ix.of weight_in with_weight g 0
+        (map (λ x. if_ends_exist (map weight_of nodes.old.cells.items) (plain_edge x)) edges.now)
+        (map plain_edge new.new.cells.items) }
 {
     'each: for i in 0..edges.len() {
         let x = &edges[i];
@@ -107,14 +113,16 @@ fn filter_edges<N, E, W, Ix: IndexType, G: FnMut(EdgeIndex<Ix>, &E) -> Option<W>
 }
 
 impl<N, E, Ix: IndexType> StableDiGraph<N, E, Ix> {
-    /// A graph of the nodes and edges that the closures give a weight for, under the same indices: `f` is called with
-    /// each node by ascending index, and then `g` with each edge whose ends both stayed.
+    /// A graph of the nodes and edges that the closures give a weight for, under the same indices:
+    /// `f` is called with each node by ascending index, and then `g` with each edge whose ends both
+    /// stayed.
     ///
-    /// The slots behind the last node and behind the last edge of this graph are not there. Each list has the edge with
-    /// the greatest index first. Of the vacant slots the one with the greatest index is taken first.
+    /// The slots behind the last node and behind the last edge of this graph are not there. Each
+    /// list has the edge with the greatest index first. Of the vacant slots the one with the
+    /// greatest index is taken first.
     ///
-    /// The error says that memory for it was refused. Then no closure was called. The cost grows with the number of
-    /// slots, besides that of the calls.
+    /// The error says that memory for it was refused. Then no closure was called. The cost grows
+    /// with the number of slots, besides that of the calls.
     pub fn filter_map<
         N2: Drop,
         E2: Drop,
@@ -123,7 +131,8 @@ impl<N, E, Ix: IndexType> StableDiGraph<N, E, Ix> {
     >(&self, f: F, g: G) -> Result<StableDiGraph<N2, E2, Ix>, AllocError>
         requires nodes { F.IsAlwaysCallable f }
         requires edges { G.IsAlwaysCallable g }
-        ensures filtered { IfOk result (λ h. IsFilteredInPlace Ix.of F.step G.step f g self.now.graph h.graph) }
+        ensures filtered { IfOk result (λ h.
+            IsFilteredInPlace Ix.of F.step G.step f g self.now.graph h.graph) }
         ensures descending { IfOk result (λ h. ListsDescend h.graph) }
         ensures looks { IfOk result (λ h. h.looks ≡ 0) }
     {

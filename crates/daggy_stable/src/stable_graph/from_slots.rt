@@ -37,13 +37,15 @@ fn make_edges<N, E: Drop, Ix: IndexType>(
     nodes: &mut SlotBuilder<Node<Option<N>, Ix>, Ix>,
     edges: &mut SlotBuilder<Edge<Option<E>, Ix>, Ix>,
 )
-    requires makes_graph { MakeGraph Ix.greatest (map weight_of nodes.old.cells.items) (map (option_map (edge_of Ix.number)) given.items) }
+    requires makes_graph { MakeGraph Ix.greatest (map weight_of nodes.old.cells.items)
+        (map (option_map (edge_of Ix.number)) given.items) }
     requires capacity { length given.items ≤ vec_capacity edges.old.cells }
     requires empty { edges.old.cells.items ≡ [] }
     requires stored { IsBuilt Ix.greatest nodes.old edges.old }
     ensures stored { IsBuilt Ix.greatest nodes.new edges.new }
     ensures nodes { map weight_of nodes.new.cells.items ≡ map weight_of nodes.old.cells.items }
-    ensures made { map plain_edge edges.new.cells.items ≡ map (option_map (edge_of Ix.number)) given.items }
+    ensures made { map plain_edge edges.new.cells.items
+        ≡ map (option_map (edge_of Ix.number)) given.items }
 {
     'each: for x in given {
         let edge = match x {
@@ -63,8 +65,9 @@ fn make_edges<N, E: Drop, Ix: IndexType>(
 impl<N, E, Ix: IndexType> StableDiGraph<N, E, Ix> {
     /// The graph with these slots, where an edge names its parent and its child.
     ///
-    /// Each list has the edge with the greatest index first. Of the vacant slots the one with the greatest index is
-    /// taken first. The error says that memory for the graph was refused. The cost grows with the number of slots.
+    /// Each list has the edge with the greatest index first. Of the vacant slots the one with the
+    /// greatest index is taken first. The error says that memory for the graph was refused. The
+    /// cost grows with the number of slots.
     pub fn from_slots(
         alloc: Global,
         nodes: Vec<Option<N>>,
@@ -74,7 +77,10 @@ impl<N, E, Ix: IndexType> StableDiGraph<N, E, Ix> {
         N: Drop,
         E: Drop,
         requires { MakeGraph Ix.greatest nodes.items (edges_by Ix.number edges.items) }
-        ensures { IfOk result (λ g. g ≡ record { graph = graph_of_slots nodes.items (edges_by Ix.number edges.items); looks = 0 }) }
+        ensures { IfOk result (λ g. g ≡ record {
+          graph = graph_of_slots nodes.items (edges_by Ix.number edges.items);
+          looks = 0;
+        }) }
     {
         let mut node_slots = SlotBuilder::with_capacity(alloc, nodes.len())?;
         let mut edge_slots = SlotBuilder::with_capacity(alloc, edges.len())?;

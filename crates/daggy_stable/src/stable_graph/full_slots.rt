@@ -1,5 +1,6 @@
 //! Going past vacant slots.
-ghost use Rattle.std.specs.Prelude.{◌≡◌, ◌+◌, ◌<◌, ◌≤◌, ◌^◌, Bool, Some, None, [], is_none, length, IfSome, IfNone};
+ghost use Rattle.std.specs.Prelude.{◌≡◌, ◌+◌, ◌<◌, ◌≤◌, ◌^◌, Bool, Some, None, [], is_none, length};
+ghost use Rattle.std.specs.Prelude.{IfSome, IfNone};
 ghost use Rattle.daggy_stable.specs.FullSlots.{next_full as next_full_of};
 
 use daggy_base::index::IndexType;
@@ -43,10 +44,13 @@ impl<'a, C: Slot> FullSlots<'a, C> {
     #[inline]
     pub(super) fn next_full(&mut self) -> Option<(usize, &'a C)>
         requires { self.old.index + length self.old.cells.now < 2 ^ 64 }
-        ensures found { IfSome result (λ p. next_full_of C.vacant self.old.index self.old.cells.now ≡ Some (p.0, (p.1.now, self.new.cells.now))) }
+        ensures found { IfSome result (λ p. next_full_of C.vacant self.old.index self.old.cells.now
+            ≡ Some (p.0, (p.1.now, self.new.cells.now))) }
         ensures index { IfSome result (λ p. self.new.index ≡ p.0 + 1) }
-        ensures bound { self.new.index + length self.new.cells.now ≤ self.old.index + length self.old.cells.now }
-        ensures none { IfNone result (next_full_of C.vacant self.old.index self.old.cells.now ≡ None) }
+        ensures bound { self.new.index + length self.new.cells.now
+            ≤ self.old.index + length self.old.cells.now }
+        ensures none { IfNone result
+            (next_full_of C.vacant self.old.index self.old.cells.now ≡ None) }
         ensures ended { IfNone result (self.new.cells.now ≡ []) }
     {
         'along: while let Some((x, rest)) = self.cells.split_first() {

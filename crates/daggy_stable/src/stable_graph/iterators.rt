@@ -1,7 +1,11 @@
 //! Going over all nodes, or over all edges.
 ghost use Rattle.std.specs.Prelude.{◌≡◌, ◌<◌, ◌^◌, length, Some, IsSome};
 ghost use Rattle.std.specs.Iterator.{YieldsFirstRef, YieldsFirstBy, item_count};
-ghost use Rattle.daggy_base.specs.Iterating.{node_weights as node_weights_of, edge_weights as edge_weights_of, node_identifiers as node_identifiers_of, node_references as node_references_of, edge_references as edge_references_of};
+ghost use Rattle.daggy_base.specs.Iterating.{node_weights as node_weights_of};
+ghost use Rattle.daggy_base.specs.Iterating.{edge_weights as edge_weights_of};
+ghost use Rattle.daggy_base.specs.Iterating.{node_identifiers as node_identifiers_of};
+ghost use Rattle.daggy_base.specs.Iterating.{node_references as node_references_of};
+ghost use Rattle.daggy_base.specs.Iterating.{edge_references as edge_references_of};
 ghost use Rattle.daggy_cells.specs.Referring.{referred};
 ghost use Rattle.daggy_stable.specs.Rest.{numbered_edge};
 ghost use Rattle.daggy_stable.specs.Stored.{plain_edge};
@@ -17,7 +21,8 @@ use std::fmt;
 use std::iter::FusedIterator;
 use std::marker::Model;
 
-/// The nodes by ascending index, each with its weight. A step costs the vacant slots that it goes past.
+/// The nodes by ascending index, each with its weight. A step costs the vacant slots that it goes
+/// past.
 #[derive(Drop)]
 pub struct NodeReferences<'a, N, Ix: IndexType = DefaultIx> {
     slots: FullSlots<'a, Node<Option<N>, Ix>>,
@@ -32,7 +37,9 @@ impl<'a, N, Ix: IndexType> Model for NodeReferences<'a, N, Ix> {
 
     ghost view = { λ it. numbered it.slots.index (map weight_of it.slots.cells.now) };
 
-    ghost invariant = { λ it. (it.slots.index + length it.slots.cells.now ≤ Ix.greatest) × (it.slots.index + length it.slots.cells.now < 2 ^ 64) };
+    ghost invariant = { λ it.
+        (it.slots.index + length it.slots.cells.now ≤ Ix.greatest)
+        × (it.slots.index + length it.slots.cells.now < 2 ^ 64) };
 }
 
 impl<'a, N, Ix: IndexType> Iterator for NodeReferences<'a, N, Ix> {
@@ -212,7 +219,9 @@ impl<'a, E, Ix: IndexType> Model for EdgeReferences<'a, E, Ix> {
 
     ghost view = { λ it. numbered it.slots.index (map plain_edge it.slots.cells.now) };
 
-    ghost invariant = { λ it. (it.slots.index + length it.slots.cells.now ≤ Ix.greatest) × (it.slots.index + length it.slots.cells.now < 2 ^ 64) };
+    ghost invariant = { λ it.
+        (it.slots.index + length it.slots.cells.now ≤ Ix.greatest)
+        × (it.slots.index + length it.slots.cells.now < 2 ^ 64) };
 }
 
 impl<'a, E, Ix: IndexType> Iterator for EdgeReferences<'a, E, Ix> {
@@ -309,7 +318,8 @@ impl<'a, E, Ix: IndexType> fmt::Debug for EdgeWeights<'a, E, Ix> {
 }
 
 impl<N, E, Ix: IndexType> StableDiGraph<N, E, Ix> {
-    /// The weights of the nodes, by ascending index. Going over all of them costs all slots, vacant ones too.
+    /// The weights of the nodes, by ascending index. Going over all of them costs all slots, vacant
+    /// ones too.
     #[inline]
     pub fn node_weights(&self) -> NodeWeights<'_, N, Ix>
         ensures rest { result ≡ node_weights_of self.now.graph }
@@ -320,7 +330,8 @@ impl<N, E, Ix: IndexType> StableDiGraph<N, E, Ix> {
         }
     }
 
-    /// The weights of the edges, by ascending index. Going over all of them costs all slots, vacant ones too.
+    /// The weights of the edges, by ascending index. Going over all of them costs all slots, vacant
+    /// ones too.
     #[inline]
     pub fn edge_weights(&self) -> EdgeWeights<'_, E, Ix>
         ensures rest { result ≡ edge_weights_of self.now.graph }
@@ -331,7 +342,8 @@ impl<N, E, Ix: IndexType> StableDiGraph<N, E, Ix> {
         }
     }
 
-    /// The indices of the nodes, in ascending order. Going over all of them costs all slots, vacant ones too.
+    /// The indices of the nodes, in ascending order. Going over all of them costs all slots, vacant
+    /// ones too.
     #[inline]
     pub fn node_identifiers(&self) -> NodeIdentifiers<'_, N, Ix>
         ensures rest { result ≡ node_identifiers_of self.now.graph }
@@ -342,7 +354,8 @@ impl<N, E, Ix: IndexType> StableDiGraph<N, E, Ix> {
         }
     }
 
-    /// The nodes by ascending index, each with its weight. Going over all of them costs all slots, vacant ones too.
+    /// The nodes by ascending index, each with its weight. Going over all of them costs all slots,
+    /// vacant ones too.
     #[inline]
     pub fn node_references(&self) -> NodeReferences<'_, N, Ix>
         ensures rest { result ≡ node_references_of self.now.graph }

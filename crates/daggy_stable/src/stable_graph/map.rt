@@ -22,7 +22,8 @@ fn map_nodes<N, V, Ix: IndexType, F: FnMut(NodeIndex<Ix>, &N) -> V>(
     requires few { length nodes.now ≤ Ix.greatest }
     requires capacity { length nodes.now ≤ vec_capacity new.old }
     requires empty { new.old.items ≡ [] }
-    ensures mapped { MapsSlots F.step Ix.of (λ w. w) (λ w v. v) f 0 (map weight_of nodes.now) (map weight_of new.new.items) }
+    ensures mapped { MapsSlots F.step Ix.of (λ w. w) (λ w v. v) f 0 (map weight_of nodes.now)
+        (map weight_of new.new.items) }
     ensures links { (dir : Direction) → firsts_of dir new.new.items ≡ firsts_of dir nodes.now }
 {
     'each: for i in 0..nodes.len() {
@@ -49,7 +50,8 @@ fn map_edges<E, W, Ix: IndexType, G: FnMut(EdgeIndex<Ix>, &E) -> W>(
     requires few { length edges.now ≤ Ix.greatest }
     requires capacity { length edges.now ≤ vec_capacity new.old }
     requires empty { new.old.items ≡ [] }
-    ensures mapped { MapsSlots G.step Ix.of weight_in with_weight g 0 (map plain_edge edges.now) (map plain_edge new.new.items) }
+    ensures mapped { MapsSlots G.step Ix.of weight_in with_weight g 0 (map plain_edge edges.now)
+        (map plain_edge new.new.items) }
     ensures links { (dir : Direction) → nexts_of dir new.new.items ≡ nexts_of dir edges.now }
 {
     'each: for i in 0..edges.len() {
@@ -67,12 +69,12 @@ fn map_edges<E, W, Ix: IndexType, G: FnMut(EdgeIndex<Ix>, &E) -> W>(
 }
 
 impl<N, E, Ix: IndexType> StableDiGraph<N, E, Ix> {
-    /// A graph with the same nodes and edges under the same indices, in the same lists, and with the same vacant slots,
-    /// whose weights are what the closures give: `f` is called with each node by ascending index, and then `g` with
-    /// each edge.
+    /// A graph with the same nodes and edges under the same indices, in the same lists, and with
+    /// the same vacant slots, whose weights are what the closures give: `f` is called with each
+    /// node by ascending index, and then `g` with each edge.
     ///
-    /// The error says that memory for it was refused. Then no closure was called. The cost grows with the number of
-    /// slots, besides that of the calls.
+    /// The error says that memory for it was refused. Then no closure was called. The cost grows
+    /// with the number of slots, besides that of the calls.
     pub fn map<
         N2: Drop,
         E2: Drop,
@@ -81,7 +83,8 @@ impl<N, E, Ix: IndexType> StableDiGraph<N, E, Ix> {
     >(&self, f: F, g: G) -> Result<StableDiGraph<N2, E2, Ix>, AllocError>
         requires nodes { F.IsAlwaysCallable f }
         requires edges { G.IsAlwaysCallable g }
-        ensures mapped { IfOk result (λ h. IsMapped Ix.of F.step G.step f g self.now.graph h.graph) }
+        ensures mapped { IfOk result (λ h.
+            IsMapped Ix.of F.step G.step f g self.now.graph h.graph) }
         ensures looks { IfOk result (λ h. h.looks ≡ 0) }
     {
         let alloc = *self.nodes.allocator();

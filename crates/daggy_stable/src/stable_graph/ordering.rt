@@ -1,5 +1,6 @@
 //! Other orders of the lists of a graph.
-ghost use Rattle.std.specs.Prelude.{◌≡◌, ℕ, ◌≤◌, None, is_some, map, length, count_by, slice_get, Contains};
+ghost use Rattle.std.specs.Prelude.{◌≡◌, ℕ, ◌≤◌, None, is_some, map, length, count_by, slice_get};
+ghost use Rattle.std.specs.Prelude.{Contains};
 ghost use Rattle.daggy_base.specs.declared.index.Direction.{Direction};
 ghost use Rattle.daggy_base.specs.declared.index.Direction.TheVariants.{Outgoing};
 ghost use Rattle.daggy_base.specs.Graph.{slot};
@@ -22,15 +23,26 @@ fn thread_nodes<N, E, Ix: IndexType>(
     orders: &[(Vec<EdgeIndex<Ix>>, Vec<EdgeIndex<Ix>>)],
 )
     requires count { length orders.now ≡ count_by is_some (map weight_of nodes.old.items) }
-    requires lists { (dir : Direction) → CanThreadAll (length edges.old.items) (new_lists dir nodes.old.items (map (numbers_of Ix.number) orders.now)) }
-    ensures linked { (dir : Direction) → AreLinkedLists Ix.greatest (list_firsts Ix.greatest dir nodes.new.items) (nexts_of dir edges.new.items) (new_lists dir nodes.old.items (map (numbers_of Ix.number) orders.now)) }
+    requires lists { (dir : Direction)
+        → CanThreadAll (length edges.old.items)
+        (new_lists dir nodes.old.items (map (numbers_of Ix.number) orders.now)) }
+    ensures linked { (dir : Direction)
+        → AreLinkedLists Ix.greatest (list_firsts Ix.greatest dir nodes.new.items)
+        (nexts_of dir edges.new.items)
+        (new_lists dir nodes.old.items (map (numbers_of Ix.number) orders.now)) }
     ensures nodes { map weight_of nodes.new.items ≡ map weight_of nodes.old.items }
     ensures edges { map plain_edge edges.new.items ≡ map plain_edge edges.old.items }
     ensures vacant_nodes { (n : ℕ) → slot (map weight_of nodes.old.items) n ≡ None
-        → slice_get (firsts_of Outgoing nodes.new.items) n ≡ slice_get (firsts_of Outgoing nodes.old.items) n }
-    ensures other_edges { (e : ℕ) → ((n : ℕ) → ¬ Contains (nth_list (new_lists Outgoing nodes.old.items (map (numbers_of Ix.number) orders.now)) n) e)
-        → slice_get (nexts_of Outgoing edges.new.items) e ≡ slice_get (nexts_of Outgoing edges.old.items) e }
-    ensures as_many { length (nexts_of Outgoing edges.new.items) ≡ length (nexts_of Outgoing edges.old.items) }
+        → slice_get (firsts_of Outgoing nodes.new.items) n
+        ≡ slice_get (firsts_of Outgoing nodes.old.items) n }
+    ensures other_edges { (e : ℕ)
+        → ((n : ℕ)
+        → ¬ Contains
+        (nth_list (new_lists Outgoing nodes.old.items (map (numbers_of Ix.number) orders.now)) n) e)
+        → slice_get (nexts_of Outgoing edges.new.items) e
+        ≡ slice_get (nexts_of Outgoing edges.old.items) e }
+    ensures as_many { length (nexts_of Outgoing edges.new.items)
+        ≡ length (nexts_of Outgoing edges.old.items) }
 {
     let mut next = 0;
     'each: for i in 0..nodes.len() {
@@ -44,13 +56,15 @@ fn thread_nodes<N, E, Ix: IndexType>(
 }
 
 impl<N, E, Ix: IndexType> StableDiGraph<N, E, Ix> {
-    /// Puts the edges of each list into another order: for each node that exists, by ascending index, first those that
-    /// leave it and then those that enter it.
+    /// Puts the edges of each list into another order: for each node that exists, by ascending
+    /// index, first those that leave it and then those that enter it.
     ///
     /// It takes no memory. The cost grows with the number of slots of nodes and with that of edges.
     pub fn set_orders(&mut self, orders: &[(Vec<EdgeIndex<Ix>>, Vec<EdgeIndex<Ix>>)])
         requires { AreOrders self.old.graph (map (numbers_of Ix.number) orders.now) }
-        ensures { self.new ≡ with_graph self.old (with_orders self.old.graph (map (numbers_of Ix.number) orders.now)) }
+        ensures { self.new
+            ≡ with_graph self.old
+            (with_orders self.old.graph (map (numbers_of Ix.number) orders.now)) }
     {
         thread_nodes(&mut self.nodes, &mut self.edges, orders);
     }

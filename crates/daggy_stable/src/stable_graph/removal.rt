@@ -1,12 +1,16 @@
 //! Removing edges and nodes.
-ghost use Rattle.std.specs.Prelude.{◌≡◌, ℕ, ◌<◌, length, map, slice_index, OnSome, IfNone, Some, []};
+ghost use Rattle.std.specs.Prelude.{◌≡◌, ℕ, ◌<◌, length, map, slice_index, OnSome, IfNone, Some};
+ghost use Rattle.std.specs.Prelude.{[]};
 ghost use Rattle.std.specs.Option.{option_map};
 ghost use Rattle.daggy_base.specs.declared.index.Direction.{Direction};
 ghost use Rattle.daggy_base.specs.Graph.{empty, node_weight, edge_at, HasNode, HasEdge, list_at};
-ghost use Rattle.daggy_base.specs.Removal.{Stable, without_edge, without_front, without_node, with_node_isolated, with_node_dropped, without_all_edges};
+ghost use Rattle.daggy_base.specs.Removal.{Stable, without_edge, without_front, without_node};
+ghost use Rattle.daggy_base.specs.Removal.{with_node_isolated, with_node_dropped};
+ghost use Rattle.daggy_base.specs.Removal.{without_all_edges};
 ghost use Rattle.daggy_base.specs.WellFormed.{IsIsolated};
 ghost use Rattle.daggy_base.specs.State.{with_graph};
-ghost use Rattle.daggy_cells.specs.Fields.{weight_of as stored_weight, plain_edge as stored_edge, nexts_of, IsReady, Redirects};
+ghost use Rattle.daggy_cells.specs.Fields.{weight_of as stored_weight, plain_edge as stored_edge};
+ghost use Rattle.daggy_cells.specs.Fields.{nexts_of, IsReady, Redirects};
 ghost use Rattle.daggy_stable.specs.Stored.{with_lists_emptied};
 
 use crate::stable_graph::StableDiGraph;
@@ -18,10 +22,12 @@ use daggy_cells::links::{self, redirect};
 impl<N, E, Ix: IndexType> StableDiGraph<N, E, Ix> {
     /// Removes an edge and hands back its weight, if the edge exists. No other index changes.
     ///
-    /// The cost grows with the number of edges before it in its two lists. It cannot fail for want of memory.
+    /// The cost grows with the number of edges before it in its two lists. It cannot fail for want
+    /// of memory.
     pub fn remove_edge(&mut self, e: EdgeIndex<Ix>) -> Option<E>
         ensures value { result ≡ option_map (λ x. x.weight) (edge_at self.old.graph (Ix.number e)) }
-        ensures removed { OnSome result (self.new ≡ with_graph self.old (without_edge Stable self.old.graph (Ix.number e))) }
+        ensures removed { OnSome result
+            (self.new ≡ with_graph self.old (without_edge Stable self.old.graph (Ix.number e))) }
         ensures missing { IfNone result (self.new ≡ self.old) }
     {
         if !self.contains_edge(e) {
@@ -34,7 +40,8 @@ impl<N, E, Ix: IndexType> StableDiGraph<N, E, Ix> {
     pub(super) fn vacate_edge(&mut self, e: EdgeIndex<Ix>) -> Option<E>
         requires { HasEdge self.old.graph (Ix.number e) }
         ensures value { result ≡ option_map (λ x. x.weight) (edge_at self.old.graph (Ix.number e)) }
-        ensures removed { self.new ≡ with_graph self.old (without_edge Stable self.old.graph (Ix.number e)) }
+        ensures removed { self.new
+            ≡ with_graph self.old (without_edge Stable self.old.graph (Ix.number e)) }
     {
         let link = Link::of_edge(e);
         unlink(&mut self.nodes, &mut self.edges, link);
@@ -46,17 +53,21 @@ impl<N, E, Ix: IndexType> StableDiGraph<N, E, Ix> {
         weight
     }
 
-    /// Removes a node with its edges and hands back its weight, if the node exists. No other index changes.
+    /// Removes a node with its edges and hands back its weight, if the node exists. No other index
+    /// changes.
     ///
-    /// First the edges that leave it are removed, the first of the list each time, and then those that enter it.
+    /// First the edges that leave it are removed, the first of the list each time, and then those
+    /// that enter it.
     ///
     /// The cost is that of removing each of those edges. It cannot fail for want of memory.
     pub fn remove_node(&mut self, n: NodeIndex<Ix>) -> Option<N>
     where
         E: Drop,
         ensures value { result ≡ node_weight self.old.graph (Ix.number n) }
-        ensures removed { OnSome result (self.new ≡ with_graph self.old (without_node Stable self.old.graph (Ix.number n))) }
-        ensures between { OnSome result (IsIsolated Ix.greatest (with_node_isolated Stable self.old.graph (Ix.number n)) (Ix.number n)) }
+        ensures removed { OnSome result
+            (self.new ≡ with_graph self.old (without_node Stable self.old.graph (Ix.number n))) }
+        ensures between { OnSome result (IsIsolated Ix.greatest
+            (with_node_isolated Stable self.old.graph (Ix.number n)) (Ix.number n)) }
         ensures missing { IfNone result (self.new ≡ self.old) }
     {
         if self.node_weight(n).is_none() {
@@ -72,9 +83,12 @@ impl<N, E, Ix: IndexType> StableDiGraph<N, E, Ix> {
     fn clear_front(&mut self, n: NodeIndex<Ix>, dir: Direction)
     where
         E: Drop,
-        ensures cleared { self.new ≡ with_graph self.old (without_front Stable dir (length (list_at dir self.old.graph (Ix.number n))) self.old.graph (Ix.number n)) }
+        ensures cleared { self.new
+            ≡ with_graph self.old (without_front Stable dir
+            (length (list_at dir self.old.graph (Ix.number n))) self.old.graph (Ix.number n)) }
         ensures emptied { list_at dir self.new.graph (Ix.number n) ≡ [] }
-        ensures empty_stays { (d : Direction) → list_at d self.old.graph (Ix.number n) ≡ [] → list_at d self.new.graph (Ix.number n) ≡ [] }
+        ensures empty_stays { (d : Direction) → list_at d self.old.graph (Ix.number n) ≡ []
+            → list_at d self.new.graph (Ix.number n) ≡ [] }
         ensures nodes { self.new.graph.nodes ≡ self.old.graph.nodes }
     {
         'front: loop {
@@ -91,7 +105,8 @@ impl<N, E, Ix: IndexType> StableDiGraph<N, E, Ix> {
         requires node { HasNode self.old.graph (Ix.number n) }
         requires no_edges { (d : Direction) → list_at d self.old.graph (Ix.number n) ≡ [] }
         ensures value { result ≡ node_weight self.old.graph (Ix.number n) }
-        ensures dropped { self.new ≡ with_graph self.old (with_node_dropped Stable self.old.graph (Ix.number n)) }
+        ensures dropped { self.new
+            ≡ with_graph self.old (with_node_dropped Stable self.old.graph (Ix.number n)) }
     {
         let link = Link::of_node(n);
         let x = &mut self.nodes[link.index()];
@@ -119,7 +134,8 @@ impl<N, E, Ix: IndexType> StableDiGraph<N, E, Ix> {
         self.edge_count = 0;
     }
 
-    /// Removes all edges, and all slots of edges. It keeps the nodes, and the memory for later edges.
+    /// Removes all edges, and all slots of edges. It keeps the nodes, and the memory for later
+    /// edges.
     ///
     /// The cost grows with the number of slots.
     pub fn clear_edges(&mut self)
@@ -141,7 +157,9 @@ pub(super) fn unlink<N, E, Ix: IndexType>(
     e: Link<Ix>,
 )
     requires { (dir : Direction) → IsReady Ix.greatest dir nodes.old.items edges.old.items e }
-    ensures links { (dir : Direction) → Redirects dir nodes.old.items edges.old.items e (slice_index (nexts_of dir edges.old.items) e) nodes.new.items edges.new.items }
+    ensures links { (dir : Direction)
+        → Redirects dir nodes.old.items edges.old.items e
+        (slice_index (nexts_of dir edges.old.items) e) nodes.new.items edges.new.items }
     ensures nodes { map stored_weight nodes.new.items ≡ map stored_weight nodes.old.items }
     ensures edges { map stored_edge edges.new.items ≡ map stored_edge edges.old.items }
 {

@@ -13,7 +13,8 @@ use daggy_graph::graph::DiGraph;
 use std::alloc::{AllocError, Global};
 use std::marker::Model;
 
-/// Memory for a graph of so many nodes and edges, to make a stable graph of a compact one where nothing may fail.
+/// Memory for a graph of so many nodes and edges, to make a stable graph of a compact one where
+/// nothing may fail.
 #[derive(Drop)]
 pub struct Room<N, E, Ix: IndexType = DefaultIx> {
     nodes: Vec<Node<Option<N>, Ix>>,
@@ -47,7 +48,8 @@ impl<N, E, Ix: IndexType> Room<N, E, Ix> {
         })
     }
 
-    /// The graph in slots, none of them vacant: the same nodes and edges under the same indices, and in the same lists.
+    /// The graph in slots, none of them vacant: the same nodes and edges under the same indices,
+    /// and in the same lists.
     ///
     /// It cannot fail for want of memory, and the cost grows with the number of nodes and edges.
     pub fn fill(self, graph: DiGraph<N, E, Ix>) -> StableDiGraph<N, E, Ix>

@@ -1,8 +1,13 @@
 //! The stable store as one that a dag stands on.
-ghost use Rattle.std.specs.Prelude.{◌≡◌, ℕ, ◌+◌, ◌<◌, ◌↔◌, IsTrue, IfOk, OnOk, IfErr, OnErr, OnSome, IfNone, Some, [], ◌≤◌, length, map, option_copied, refl};
+ghost use Rattle.std.specs.Prelude.{◌≡◌, ℕ, ◌+◌, ◌<◌, ◌↔◌, IsTrue, IfOk, OnOk, IfErr, OnErr};
+ghost use Rattle.std.specs.Prelude.{OnSome, IfNone, Some, [], ◌≤◌, length, map, option_copied};
+ghost use Rattle.std.specs.Prelude.{refl};
 ghost use Rattle.std.specs.Borrow.{sem};
 ghost use Rattle.std.specs.Option.{option_map};
-ghost use Rattle.daggy_base.specs.Graph.{empty, HasNode, HasEdge, node_weight, edge_at, list_at, ends_of, pair_of, node_bound as node_bound_of, node_count as node_count_of, edge_count as edge_count_of, IsCompact};
+ghost use Rattle.daggy_base.specs.Graph.{empty, HasNode, HasEdge, node_weight, edge_at, list_at};
+ghost use Rattle.daggy_base.specs.Graph.{ends_of, pair_of, node_bound as node_bound_of};
+ghost use Rattle.daggy_base.specs.Graph.{node_count as node_count_of, edge_count as edge_count_of};
+ghost use Rattle.daggy_base.specs.Graph.{IsCompact};
 ghost use Rattle.daggy_base.specs.WellFormed.{IsWellFormed, IsIsolated};
 ghost use Rattle.daggy_base.specs.Cursor.{first_of, cursor_after};
 ghost use Rattle.daggy_base.specs.Adding.{next_node, next_edge, with_node, with_edge};
@@ -11,7 +16,8 @@ ghost use Rattle.daggy_base.specs.Weights.{edge_weight, with_node_weight, with_e
 ghost use Rattle.daggy_base.specs.FromSlots.{graph_of_slots, edges_by, MakeGraph};
 ghost use Rattle.daggy_base.specs.Orders.{numbers_of, with_orders, AreOrders};
 ghost use Rattle.daggy_base.specs.TakingBack.{with_edge_taken_back, with_node_taken_back};
-ghost use Rattle.daggy_base.specs.Removal.{Compact, Stable, without_edge, without_node, without_all_edges, with_node_isolated};
+ghost use Rattle.daggy_base.specs.Removal.{Compact, Stable, without_edge, without_node};
+ghost use Rattle.daggy_base.specs.Removal.{without_all_edges, with_node_isolated};
 ghost use Rattle.daggy_base.specs.State.{with_graph};
 ghost use Rattle.daggy_stable.specs.Lends.{lends_node, lends_edge};
 ghost use Rattle.daggy_base.specs.declared.index.Direction.{Direction};
@@ -53,8 +59,10 @@ impl<N: Drop, E: Drop, Ix: IndexType> Store<Ix> for StableDiGraph<N, E, Ix> {
         edges: Vec<Option<(NodeIndex<Ix>, NodeIndex<Ix>, E)>>,
     ) -> Result<Self, AllocError>
         requires makes_graph { MakeGraph Ix.greatest nodes.items (edges_by Ix.number edges.items) }
-        requires compact { Stable ≡ Compact → IsCompact (graph_of_slots nodes.items (edges_by Ix.number edges.items)) }
-        ensures graph { IfOk result (λ s. s.graph ≡ graph_of_slots nodes.items (edges_by Ix.number edges.items)) }
+        requires compact { Stable ≡ Compact
+            → IsCompact (graph_of_slots nodes.items (edges_by Ix.number edges.items)) }
+        ensures graph { IfOk result (λ s.
+            s.graph ≡ graph_of_slots nodes.items (edges_by Ix.number edges.items)) }
         ensures looks { IfOk result (λ s. s.looks ≡ 0) }
     {
         StableDiGraph::from_slots(alloc, nodes, edges)
@@ -116,7 +124,8 @@ impl<N: Drop, E: Drop, Ix: IndexType> Store<Ix> for StableDiGraph<N, E, Ix> {
     #[inline]
     fn node_mut(&mut self, n: NodeIndex<Ix>) -> &mut N
         requires { HasNode self.old.graph (Ix.number n) }
-        ensures* writes_back { sem 𝓛 (lends_node N.row E.row Ix.row Ix.IndexType self.entry n result) }
+        ensures* writes_back { sem 𝓛
+            (lends_node N.row E.row Ix.row Ix.IndexType self.entry n result) }
         ensures value { node_weight self.old.graph (Ix.number n) ≡ Some result.now }
     {
         &mut self[n]
@@ -125,7 +134,8 @@ impl<N: Drop, E: Drop, Ix: IndexType> Store<Ix> for StableDiGraph<N, E, Ix> {
     #[inline]
     fn edge_mut(&mut self, e: EdgeIndex<Ix>) -> &mut E
         requires { HasEdge self.old.graph (Ix.number e) }
-        ensures* writes_back { sem 𝓛 (lends_edge N.row E.row Ix.row Ix.IndexType self.entry e result) }
+        ensures* writes_back { sem 𝓛
+            (lends_edge N.row E.row Ix.row Ix.IndexType self.entry e result) }
         ensures value { edge_weight self.old.graph (Ix.number e) ≡ Some result.now }
     {
         &mut self[e]
@@ -160,7 +170,8 @@ impl<N: Drop, E: Drop, Ix: IndexType> Store<Ix> for StableDiGraph<N, E, Ix> {
 
     #[inline]
     fn first_edge(&self, n: NodeIndex<Ix>, dir: Direction) -> EdgeIndex<Ix>
-        ensures { Ix.number result ≡ first_of Ix.greatest (list_at dir self.now.graph (Ix.number n)) }
+        ensures { Ix.number result
+            ≡ first_of Ix.greatest (list_at dir self.now.graph (Ix.number n)) }
     {
         self.first_edge(n, dir)
     }
@@ -168,21 +179,25 @@ impl<N: Drop, E: Drop, Ix: IndexType> Store<Ix> for StableDiGraph<N, E, Ix> {
     #[inline]
     fn next_edge(&self, e: EdgeIndex<Ix>, dir: Direction) -> EdgeIndex<Ix>
         requires { HasEdge self.now.graph (Ix.number e) }
-        ensures { Ix.number result ≡ cursor_after dir Ix.greatest self.now.graph (Ix.number e) (edge_at self.now.graph (Ix.number e)) }
+        ensures { Ix.number result
+            ≡ cursor_after dir Ix.greatest self.now.graph (Ix.number e)
+            (edge_at self.now.graph (Ix.number e)) }
     {
         self.next_edge(e, dir)
     }
 
     #[inline]
     fn edge_endpoints(&self, e: EdgeIndex<Ix>) -> Option<(NodeIndex<Ix>, NodeIndex<Ix>)>
-        ensures { option_map (pair_of Ix.number) result ≡ option_map ends_of (edge_at self.now.graph (Ix.number e)) }
+        ensures { option_map (pair_of Ix.number) result
+            ≡ option_map ends_of (edge_at self.now.graph (Ix.number e)) }
     {
         self.edge_endpoints(e)
     }
 
     #[inline]
     fn find_edge(&self, a: NodeIndex<Ix>, b: NodeIndex<Ix>) -> Option<EdgeIndex<Ix>>
-        ensures { option_map Ix.number result ≡ edge_between self.now.graph (Ix.number a) (Ix.number b) }
+        ensures { option_map Ix.number result
+            ≡ edge_between self.now.graph (Ix.number a) (Ix.number b) }
     {
         self.find_edge(a, b)
     }
@@ -210,7 +225,8 @@ impl<N: Drop, E: Drop, Ix: IndexType> Store<Ix> for StableDiGraph<N, E, Ix> {
         requires child { HasNode self.old.graph (Ix.number b) }
         requires index_left { edge_count_of self.old.graph < Ix.greatest }
         ensures index { IfOk result (λ e. Ix.number e ≡ next_edge self.old.graph) }
-        ensures added { OnOk result (self.new.graph ≡ with_edge self.old.graph (Ix.number a) (Ix.number b) weight) }
+        ensures added { OnOk result
+            (self.new.graph ≡ with_edge self.old.graph (Ix.number a) (Ix.number b) weight) }
         ensures refusal { IfErr result (λ e. e ≡ EdgeMemory weight) }
         ensures unchanged { OnErr result (self.new.graph ≡ self.old.graph) }
         ensures counted { self.new.looks ≡ self.old.looks }
@@ -253,7 +269,8 @@ impl<N: Drop, E: Drop, Ix: IndexType> Store<Ix> for StableDiGraph<N, E, Ix> {
 
     fn remove_edge(&mut self, e: EdgeIndex<Ix>) -> Option<E>
         ensures gives { result ≡ edge_weight self.old.graph (Ix.number e) }
-        ensures removed { OnSome result (self.new.graph ≡ without_edge Stable self.old.graph (Ix.number e)) }
+        ensures removed { OnSome result
+            (self.new.graph ≡ without_edge Stable self.old.graph (Ix.number e)) }
         ensures missing { IfNone result (self.new.graph ≡ self.old.graph) }
         ensures counted { self.new.looks ≡ self.old.looks }
     {
@@ -262,8 +279,10 @@ impl<N: Drop, E: Drop, Ix: IndexType> Store<Ix> for StableDiGraph<N, E, Ix> {
 
     fn remove_node(&mut self, n: NodeIndex<Ix>) -> Option<N>
         ensures gives { result ≡ node_weight self.old.graph (Ix.number n) }
-        ensures removed { OnSome result (self.new.graph ≡ without_node Stable self.old.graph (Ix.number n)) }
-        ensures between { OnSome result (IsIsolated Ix.greatest (with_node_isolated Stable self.old.graph (Ix.number n)) (Ix.number n)) }
+        ensures removed { OnSome result
+            (self.new.graph ≡ without_node Stable self.old.graph (Ix.number n)) }
+        ensures between { OnSome result (IsIsolated Ix.greatest
+            (with_node_isolated Stable self.old.graph (Ix.number n)) (Ix.number n)) }
         ensures missing { IfNone result (self.new.graph ≡ self.old.graph) }
         ensures bound { node_bound_of self.new.graph ≤ node_bound_of self.old.graph }
         ensures counted { self.new.looks ≡ self.old.looks }
@@ -273,7 +292,8 @@ impl<N: Drop, E: Drop, Ix: IndexType> Store<Ix> for StableDiGraph<N, E, Ix> {
 
     fn set_orders(&mut self, orders: &[(Vec<EdgeIndex<Ix>>, Vec<EdgeIndex<Ix>>)])
         requires { AreOrders self.old.graph (map (numbers_of Ix.number) orders.now) }
-        ensures ordered { self.new.graph ≡ with_orders self.old.graph (map (numbers_of Ix.number) orders.now) }
+        ensures ordered { self.new.graph
+            ≡ with_orders self.old.graph (map (numbers_of Ix.number) orders.now) }
         ensures counted { self.new.looks ≡ self.old.looks }
     {
         StableDiGraph::set_orders(self, orders)

@@ -3,7 +3,8 @@ ghost use Rattle.std.specs.Prelude.{◌≡◌, ◌+◌, IsTrue, true, Some, [], 
 ghost use Rattle.daggy_base.specs.declared.index.Direction.{Direction};
 ghost use Rattle.daggy_base.specs.Graph.{node_weight, HasNode, HasEdge, list_at};
 ghost use Rattle.daggy_base.specs.Weights.{edge_weight};
-ghost use Rattle.daggy_base.specs.TakingBack.{with_edge_taken_back, with_node_taken_back, UndoesEdge, UndoesNode};
+ghost use Rattle.daggy_base.specs.TakingBack.{with_edge_taken_back, with_node_taken_back};
+ghost use Rattle.daggy_base.specs.TakingBack.{UndoesEdge, UndoesNode};
 ghost use Rattle.daggy_base.specs.State.{with_graph};
 
 use crate::stable_graph::StableDiGraph;
@@ -12,16 +13,17 @@ use daggy_base::index::{EdgeIndex, IndexType, NodeIndex};
 use daggy_base::link::Link;
 
 impl<N, E, Ix: IndexType> StableDiGraph<N, E, Ix> {
-    /// Undoes the adding of an edge, and hands back its weight. The slot is cut off if it was made for the edge, else
-    /// vacated.
+    /// Undoes the adding of an edge, and hands back its weight. The slot is cut off if it was made
+    /// for the edge, else vacated.
     ///
-    /// The cost grows with the number of edges before it in its two lists, and is constant for the edge that was added
-    /// last. It cannot fail for want of memory.
+    /// The cost grows with the number of edges before it in its two lists, and is constant for the
+    /// edge that was added last. It cannot fail for want of memory.
     pub fn take_back_edge(&mut self, e: EdgeIndex<Ix>, made: bool) -> E
         requires exists { HasEdge self.old.graph (Ix.number e) }
         requires last { IsTrue made → Ix.number e + 1 ≡ length self.old.graph.edges }
         ensures gives { edge_weight self.old.graph (Ix.number e) ≡ Some result }
-        ensures removed { self.new ≡ with_graph self.old (with_edge_taken_back made self.old.graph (Ix.number e)) }
+        ensures removed { self.new
+            ≡ with_graph self.old (with_edge_taken_back made self.old.graph (Ix.number e)) }
         ensures undone { UndoesEdge Ix.greatest made self.old.graph (Ix.number e) self.new.graph }
     {
         if made {
@@ -35,7 +37,8 @@ impl<N, E, Ix: IndexType> StableDiGraph<N, E, Ix> {
         requires exists { HasEdge self.old.graph (Ix.number e) }
         requires last { Ix.number e + 1 ≡ length self.old.graph.edges }
         ensures value { result ≡ edge_weight self.old.graph (Ix.number e) }
-        ensures removed { self.new ≡ with_graph self.old (with_edge_taken_back true self.old.graph (Ix.number e)) }
+        ensures removed { self.new
+            ≡ with_graph self.old (with_edge_taken_back true self.old.graph (Ix.number e)) }
     {
         unlink(&mut self.nodes, &mut self.edges, Link::of_edge(e));
         self.edge_count -= 1;
@@ -43,8 +46,8 @@ impl<N, E, Ix: IndexType> StableDiGraph<N, E, Ix> {
         x.weight
     }
 
-    /// Undoes the adding of a node that has no edges, and hands back its weight. The slot is cut off if it was made for
-    /// the node, else vacated.
+    /// Undoes the adding of a node that has no edges, and hands back its weight. The slot is cut
+    /// off if it was made for the node, else vacated.
     ///
     /// It cannot fail for want of memory.
     pub fn take_back_node(&mut self, n: NodeIndex<Ix>, made: bool) -> N
@@ -52,7 +55,8 @@ impl<N, E, Ix: IndexType> StableDiGraph<N, E, Ix> {
         requires no_edges { (dir : Direction) → list_at dir self.old.graph (Ix.number n) ≡ [] }
         requires last { IsTrue made → Ix.number n + 1 ≡ length self.old.graph.nodes }
         ensures gives { node_weight self.old.graph (Ix.number n) ≡ Some result }
-        ensures removed { self.new ≡ with_graph self.old (with_node_taken_back made self.old.graph (Ix.number n)) }
+        ensures removed { self.new
+            ≡ with_graph self.old (with_node_taken_back made self.old.graph (Ix.number n)) }
         ensures undone { UndoesNode Ix.greatest made self.old.graph (Ix.number n) self.new.graph }
     {
         if made {
@@ -67,7 +71,8 @@ impl<N, E, Ix: IndexType> StableDiGraph<N, E, Ix> {
         requires no_edges { (dir : Direction) → list_at dir self.old.graph (Ix.number n) ≡ [] }
         requires last { Ix.number n + 1 ≡ length self.old.graph.nodes }
         ensures value { result ≡ node_weight self.old.graph (Ix.number n) }
-        ensures removed { self.new ≡ with_graph self.old (with_node_taken_back true self.old.graph (Ix.number n)) }
+        ensures removed { self.new
+            ≡ with_graph self.old (with_node_taken_back true self.old.graph (Ix.number n)) }
     {
         let _number = n.index();
         self.node_count -= 1;

@@ -2,9 +2,11 @@
 ghost use Rattle.std.specs.Prelude.{◌≢◌, ◌<◌, Option, IsSome, Some, length};
 ghost use Rattle.daggy_base.specs.Graph.{node_weight as weight_at, HasNode, HasEdge};
 ghost use Rattle.daggy_base.specs.State.{with_graph};
-ghost use Rattle.daggy_base.specs.Weights.{edge_weight as edge_weight_of, with_node_weight, with_edge_weight};
+ghost use Rattle.daggy_base.specs.Weights.{edge_weight as edge_weight_of, with_node_weight};
+ghost use Rattle.daggy_base.specs.Weights.{with_edge_weight};
 ghost use Rattle.daggy_base.specs.Calls.{TakesAtTwo, CalledAtTwo};
-ghost use Rattle.daggy_stable.specs.Cells.{node_weight_in, edge_weight_in, with_node_weights, with_edge_weights};
+ghost use Rattle.daggy_stable.specs.Cells.{node_weight_in, edge_weight_in, with_node_weights};
+ghost use Rattle.daggy_stable.specs.Cells.{with_edge_weights};
 
 use crate::stable_graph::StableDiGraph;
 use daggy_base::index::{EdgeIndex, IndexType, NodeIndex};
@@ -24,9 +26,13 @@ impl<N, E, Ix: IndexType> StableDiGraph<N, E, Ix> {
         requires first { HasNode self.old.graph (Ix.number a) }
         requires second { HasNode self.old.graph (Ix.number b) }
         requires different { Ix.number a ≢ Ix.number b }
-        requires callable { TakesAtTwo F.FnOnce f (weight_at self.old.graph (Ix.number a)) (weight_at self.old.graph (Ix.number b)) }
-        ensures { CalledAtTwo F.FnOnce f (weight_at self.old.graph (Ix.number a)) (weight_at self.old.graph (Ix.number b)) result
-            (λ v w. with_graph self.old (with_node_weight (with_node_weight self.old.graph (Ix.number a) v) (Ix.number b) w)) self.new }
+        requires callable { TakesAtTwo F.FnOnce f (weight_at self.old.graph (Ix.number a))
+            (weight_at self.old.graph (Ix.number b)) }
+        ensures { CalledAtTwo F.FnOnce f (weight_at self.old.graph (Ix.number a))
+            (weight_at self.old.graph (Ix.number b)) result
+            (λ v w. with_graph self.old
+            (with_node_weight (with_node_weight self.old.graph (Ix.number a) v) (Ix.number b) w))
+            self.new }
     {
         at_nodes(self.nodes.as_mut_slice(), a.index(), b.index(), f)
     }
@@ -44,14 +50,19 @@ impl<N, E, Ix: IndexType> StableDiGraph<N, E, Ix> {
         requires first { HasEdge self.old.graph (Ix.number a) }
         requires second { HasEdge self.old.graph (Ix.number b) }
         requires different { Ix.number a ≢ Ix.number b }
-        requires callable { TakesAtTwo F.FnOnce f (edge_weight_of self.old.graph (Ix.number a)) (edge_weight_of self.old.graph (Ix.number b)) }
-        ensures { CalledAtTwo F.FnOnce f (edge_weight_of self.old.graph (Ix.number a)) (edge_weight_of self.old.graph (Ix.number b)) result
-            (λ v w. with_graph self.old (with_edge_weight (with_edge_weight self.old.graph (Ix.number a) v) (Ix.number b) w)) self.new }
+        requires callable { TakesAtTwo F.FnOnce f (edge_weight_of self.old.graph (Ix.number a))
+            (edge_weight_of self.old.graph (Ix.number b)) }
+        ensures { CalledAtTwo F.FnOnce f (edge_weight_of self.old.graph (Ix.number a))
+            (edge_weight_of self.old.graph (Ix.number b)) result
+            (λ v w. with_graph self.old
+            (with_edge_weight (with_edge_weight self.old.graph (Ix.number a) v) (Ix.number b) w))
+            self.new }
     {
         at_edges(self.edges.as_mut_slice(), a.index(), b.index(), f)
     }
 
-    /// Calls `f` with the weights of a node and an edge, both to be written, and gives what `f` gives.
+    /// Calls `f` with the weights of a node and an edge, both to be written, and gives what `f`
+    /// gives.
     ///
     /// The cost is constant, besides that of `f`.
     #[inline]
@@ -63,9 +74,13 @@ impl<N, E, Ix: IndexType> StableDiGraph<N, E, Ix> {
     ) -> R
         requires node { HasNode self.old.graph (Ix.number n) }
         requires edge { HasEdge self.old.graph (Ix.number e) }
-        requires callable { TakesAtTwo F.FnOnce f (weight_at self.old.graph (Ix.number n)) (edge_weight_of self.old.graph (Ix.number e)) }
-        ensures { CalledAtTwo F.FnOnce f (weight_at self.old.graph (Ix.number n)) (edge_weight_of self.old.graph (Ix.number e)) result
-            (λ v w. with_graph self.old (with_edge_weight (with_node_weight self.old.graph (Ix.number n) v) (Ix.number e) w)) self.new }
+        requires callable { TakesAtTwo F.FnOnce f (weight_at self.old.graph (Ix.number n))
+            (edge_weight_of self.old.graph (Ix.number e)) }
+        ensures { CalledAtTwo F.FnOnce f (weight_at self.old.graph (Ix.number n))
+            (edge_weight_of self.old.graph (Ix.number e)) result
+            (λ v w. with_graph self.old
+            (with_edge_weight (with_node_weight self.old.graph (Ix.number n) v) (Ix.number e) w))
+            self.new }
     {
         let x = &mut self.nodes[n.index()];
         let y = &mut self.edges[e.index()];
@@ -85,8 +100,10 @@ fn at_nodes<N, R, Ix: IndexType, F: FnOnce(&mut N, &mut N) -> R>(
     requires first_held { IsSome (node_weight_in nodes.old a) }
     requires second_held { IsSome (node_weight_in nodes.old b) }
     requires different { a ≢ b }
-    requires callable { TakesAtTwo F.FnOnce f (node_weight_in nodes.old a) (node_weight_in nodes.old b) }
-    ensures { CalledAtTwo F.FnOnce f (node_weight_in nodes.old a) (node_weight_in nodes.old b) result (with_node_weights nodes.old a b) nodes.new }
+    requires callable { TakesAtTwo F.FnOnce f (node_weight_in nodes.old a)
+        (node_weight_in nodes.old b) }
+    ensures { CalledAtTwo F.FnOnce f (node_weight_in nodes.old a) (node_weight_in nodes.old b)
+        result (with_node_weights nodes.old a b) nodes.new }
 {
     if a < b {
         let (front, back) = nodes.split_at_mut(b);
@@ -113,8 +130,10 @@ fn at_edges<E, R, Ix: IndexType, F: FnOnce(&mut E, &mut E) -> R>(
     requires first_held { IsSome (edge_weight_in edges.old a) }
     requires second_held { IsSome (edge_weight_in edges.old b) }
     requires different { a ≢ b }
-    requires callable { TakesAtTwo F.FnOnce f (edge_weight_in edges.old a) (edge_weight_in edges.old b) }
-    ensures { CalledAtTwo F.FnOnce f (edge_weight_in edges.old a) (edge_weight_in edges.old b) result (with_edge_weights edges.old a b) edges.new }
+    requires callable { TakesAtTwo F.FnOnce f (edge_weight_in edges.old a)
+        (edge_weight_in edges.old b) }
+    ensures { CalledAtTwo F.FnOnce f (edge_weight_in edges.old a) (edge_weight_in edges.old b)
+        result (with_edge_weights edges.old a b) edges.new }
 {
     if a < b {
         let (front, back) = edges.split_at_mut(b);
@@ -139,20 +158,23 @@ fn at_slots<V, W, R, F: FnOnce(&mut V, &mut W) -> R>(
     requires first { IsSome x.old }
     requires second { IsSome y.old }
     requires callable { TakesAtTwo F.FnOnce f x.old y.old }
-    ensures { CalledAtTwo F.FnOnce f x.old y.old {S = Option V × Option W} result (λ v w. (Some v, Some w)) (x.new, y.new) }
+    ensures { CalledAtTwo F.FnOnce f x.old y.old {S = Option V × Option W} result
+        (λ v w. (Some v, Some w)) (x.new, y.new) }
 {
     let v = x.as_mut().unwrap();
     let w = y.as_mut().unwrap();
     f(v, w)
 }
 
-// The same where both slots are of one type: a closure over one type is not taken for a bound over two.
+// The same where both slots are of one type: a closure over one type is not taken for a bound over
+// two.
 #[inline]
 fn at_pair<W, R, F: FnOnce(&mut W, &mut W) -> R>(x: &mut Option<W>, y: &mut Option<W>, f: F) -> R
     requires first { IsSome x.old }
     requires second { IsSome y.old }
     requires callable { TakesAtTwo F.FnOnce f x.old y.old }
-    ensures { CalledAtTwo F.FnOnce f x.old y.old {S = Option W × Option W} result (λ v w. (Some v, Some w)) (x.new, y.new) }
+    ensures { CalledAtTwo F.FnOnce f x.old y.old {S = Option W × Option W} result
+        (λ v w. (Some v, Some w)) (x.new, y.new) }
 {
     let v = x.as_mut().unwrap();
     let w = y.as_mut().unwrap();

@@ -1,5 +1,6 @@
 //! A matrix of pairs of nodes.
-ghost use Rattle.std.specs.Prelude.{◌≡◌, ℕ, ◌+◌, ◌*◌, ◌^◌, ◌<◌, ◌↔◌, ◌⊎◌, length, IsTrue, IfOk, OnOk};
+ghost use Rattle.std.specs.Prelude.{◌≡◌, ℕ, ◌+◌, ◌*◌, ◌^◌, ◌<◌, ◌↔◌, ◌⊎◌, length, IsTrue, IfOk};
+ghost use Rattle.std.specs.Prelude.{OnOk};
 ghost use Rattle.daggy_walk.specs.Visit.{HasPair};
 
 use crate::bits::Bits;
@@ -42,8 +43,8 @@ fn place(bound: usize, a: usize, b: usize) -> usize
 }
 
 impl<Ix: IndexType> AdjMatrix<Ix> {
-    /// A matrix without pairs for the indices below a bound. `Err` says that there is no memory, or that no memory
-    /// could be large enough.
+    /// A matrix without pairs for the indices below a bound. `Err` says that there is no memory, or
+    /// that no memory could be large enough.
     ///
     /// Takes time in proportion to a 64th of the square of the bound.
     pub fn new(alloc: Global, bound: usize) -> Result<AdjMatrix<Ix>, AllocError>

@@ -2,8 +2,10 @@
 ghost use Rattle.std.specs.Prelude.{◌≡◌, ℕ, Bool, option_copied};
 ghost use Rattle.std.specs.Borrow.{sem, LendsIf};
 ghost use Rattle.std.specs.Option.{option_copied_mut};
-ghost use Rattle.daggy_base.specs.Graph.{Graph, node_weight as weight_at, node_count as node_count_of};
-ghost use Rattle.daggy_base.specs.Weights.{edge_weight as edge_weight_at, with_node_weight, with_edge_weight};
+ghost use Rattle.daggy_base.specs.Graph.{Graph, node_weight as weight_at};
+ghost use Rattle.daggy_base.specs.Graph.{node_count as node_count_of};
+ghost use Rattle.daggy_base.specs.Weights.{edge_weight as edge_weight_at, with_node_weight};
+ghost use Rattle.daggy_base.specs.Weights.{with_edge_weight};
 
 /// What names the nodes and the edges of a graph.
 pub trait GraphBase {
@@ -61,7 +63,8 @@ pub trait DataMap: Data {
 
     /// The weight of an edge, or `None` if there is no such edge.
     fn edge_weight(&self, id: Self::EdgeId) -> Option<&Self::EdgeWeight>
-        ensures { option_copied result ≡ edge_weight_at (Self.graph self.now) (Self.edge_number id) };
+        ensures { option_copied result
+            ≡ edge_weight_at (Self.graph self.now) (Self.edge_number id) };
 }
 
 /// A graph whose weights can be written.
@@ -75,18 +78,22 @@ pub trait DataMapMut: DataMap {
     fn node_weight_mut(&mut self, id: Self::NodeId) -> Option<&mut Self::NodeWeight>
         ensures* writes_back { sem 𝓛 (LendsIf Self.row Self.NodeWeight.row self.entry result
             (node_written self.entry.now id) self.entry.now) }
-        ensures value { option_copied_mut result ≡ weight_at (Self.graph self.old) (Self.node_number id) };
+        ensures value { option_copied_mut result
+            ≡ weight_at (Self.graph self.old) (Self.node_number id) };
 
     /// The weight of an edge, to be written, or `None` if there is no such edge.
     fn edge_weight_mut(&mut self, id: Self::EdgeId) -> Option<&mut Self::EdgeWeight>
         ensures* writes_back { sem 𝓛 (LendsIf Self.row Self.EdgeWeight.row self.entry result
             (edge_written self.entry.now id) self.entry.now) }
-        ensures value { option_copied_mut result ≡ edge_weight_at (Self.graph self.old) (Self.edge_number id) };
+        ensures value { option_copied_mut result
+            ≡ edge_weight_at (Self.graph self.old) (Self.edge_number id) };
 
     // Nothing but that weight changes.
     ghost node_written_is: { (g : Self) (n : Self.NodeId) (w : Self.NodeWeight)
-        → Self.graph (node_written g n w) ≡ with_node_weight (Self.graph g) (Self.node_number n) w };
+        → Self.graph (node_written g n w)
+        ≡ with_node_weight (Self.graph g) (Self.node_number n) w };
 
     ghost edge_written_is: { (g : Self) (e : Self.EdgeId) (w : Self.EdgeWeight)
-        → Self.graph (edge_written g e w) ≡ with_edge_weight (Self.graph g) (Self.edge_number e) w };
+        → Self.graph (edge_written g e w)
+        ≡ with_edge_weight (Self.graph g) (Self.edge_number e) w };
 }

@@ -1,5 +1,6 @@
 //! Sets of nodes and matrices of pairs that fit a graph.
-ghost use Rattle.std.specs.Prelude.{◌≡◌, ℕ, ◌<◌, ◌↔◌, ◌⊎◌, List, Bool, length, IsTrue, IsFalse, IfOk, OnOk, OnErr};
+ghost use Rattle.std.specs.Prelude.{◌≡◌, ℕ, ◌<◌, ◌↔◌, ◌⊎◌, List, Bool, length, IsTrue, IsFalse};
+ghost use Rattle.std.specs.Prelude.{IfOk, OnOk, OnErr};
 ghost use Rattle.daggy_base.specs.Graph.{node_bound as node_bound_of};
 ghost use Rattle.daggy_base.specs.Path.{AreJoined};
 ghost use Rattle.daggy_walk.specs.Visit.{IsVisited, HasPair};
@@ -38,7 +39,8 @@ pub trait Visitable: Data {
             length (Self.Map.visited map) ≡ node_bound_of (Self.graph self.now)) }
         ensures empty { IfOk result (λ map. (n : ℕ) → ¬ IsVisited (Self.Map.visited map) n) };
 
-    /// Empties a set and gives it room for the nodes of the graph. `Err` says that there is no memory for it.
+    /// Empties a set and gives it room for the nodes of the graph. `Err` says that there is no
+    /// memory for it.
     fn reset_map(&self, map: &mut Self::Map) -> Result<(), AllocError>
         ensures bound { OnOk result
             (length (Self.Map.visited map.new) ≡ node_bound_of (Self.graph self.now)) }

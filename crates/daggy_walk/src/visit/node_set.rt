@@ -1,5 +1,6 @@
 //! A set of nodes.
-ghost use Rattle.std.specs.Prelude.{◌≡◌, ℕ, ◌<◌, ◌≤◌, ◌↔◌, ◌⊎◌, length, IsTrue, IsFalse, IfOk, OnOk, OnErr, IsOk};
+ghost use Rattle.std.specs.Prelude.{◌≡◌, ℕ, ◌<◌, ◌≤◌, ◌↔◌, ◌⊎◌, length, IsTrue, IsFalse, IfOk};
+ghost use Rattle.std.specs.Prelude.{OnOk, OnErr, IsOk};
 ghost use Rattle.daggy_walk.specs.Visit.{IsVisited};
 
 use crate::bits::Bits;

@@ -37,12 +37,15 @@ impl<G, A: Walker<G>, B: Walker<G, Item = A::Item>> Walker<G> for Chain<G, A, B>
 
     type Item = A::Item;
 
-    ghost can_walk = { λ s g. ForSome (chain_first s) (λ w. A.can_walk w g) × B.can_walk (chain_second s) g };
+    ghost can_walk = { λ s g.
+        ForSome (chain_first s) (λ w. A.can_walk w g) × B.can_walk (chain_second s) g };
 
-    ghost walk_gives = { λ s g r t. ChainStep (λ w o v. A.walk_gives w g o v) (λ w o v. B.walk_gives w g o v)
+    ghost walk_gives = { λ s g r t.
+        ChainStep (λ w o v. A.walk_gives w g o v) (λ w o v. B.walk_gives w g o v)
         (chain_first s) (chain_second s) r (chain_first t) (chain_second t) };
 
-    ghost items_left = { λ s g. chain_left (λ w. A.items_left w g) (B.items_left (chain_second s) g) (chain_first s) };
+    ghost items_left = { λ s g.
+        chain_left (λ w. A.items_left w g) (B.items_left (chain_second s) g) (chain_first s) };
 
     #[inline]
     fn walk_next(&mut self, graph: &G) -> Option<A::Item> {
@@ -68,7 +71,8 @@ impl<G, A: Walker<G>, B: Walker<G, Item = A::Item>> Walker<G> for Chain<G, A, B>
 impl<G, A: FiniteWalker<G>, B: FiniteWalker<G, Item = A::Item>> FiniteWalker<G> for Chain<G, A, B> {
     ghost use Rattle.daggy_walk.specs.Ends.{chain_ends};
 
-    ghost ends = { λ w g. chain_ends _ _ (B.ends (chain_second w) g) (chain_first w) (λ v. A.ends v g) };
+    ghost ends = { λ w g.
+        chain_ends _ _ (B.ends (chain_second w) g) (chain_first w) (λ v. A.ends v g) };
 }
 
 impl<G, A: Walker<G>, B: FusedWalker<G, Item = A::Item>> FusedWalker<G> for Chain<G, A, B> {

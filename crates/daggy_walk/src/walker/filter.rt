@@ -39,7 +39,8 @@ where
 
     type Item = W::Item;
 
-    ghost can_walk = { λ s g. W.can_walk (filter_walker s) g × CallableAlong (λ w o v. W.walk_gives w g o v)
+    ghost can_walk = { λ s g.
+        W.can_walk (filter_walker s) g × CallableAlong (λ w o v. W.walk_gives w g o v)
         (λ f x h. (b : Bool) × CallsItem P.FnMut f g x b h) (λ f x. TakesItem P.FnMut f g x)
         (filter_walker s) (filter_predicate s) };
 

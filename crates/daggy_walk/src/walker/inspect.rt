@@ -28,7 +28,8 @@ impl<G, W: Walker<G>, F: FnMut(&G, &W::Item)> Walker<G> for Inspect<W, F> {
 
     type Item = W::Item;
 
-    ghost can_walk = { λ s g. W.can_walk (inspect_walker s) g × CallableAlong (λ w o v. W.walk_gives w g o v)
+    ghost can_walk = { λ s g.
+        W.can_walk (inspect_walker s) g × CallableAlong (λ w o v. W.walk_gives w g o v)
         (λ f x h. CallsItem F.FnMut f g x tt h) (λ f x. TakesItem F.FnMut f g x)
         (inspect_walker s) (inspect_function s) };
 

@@ -19,10 +19,13 @@ where
     #[inline]
     pub fn peek(&mut self, graph: &G) -> Option<&W::Item>
         requires { W.can_walk (peekable_walker self.old) graph.now }
-        ensures* peeks { sem 𝓛 (follows_so (the_row G.row W.row W.Item.row) (the_row G.row W.row W.Item.row) self.entry.ghost_name none
-            (λ _ _. ⊤) (λ v. (peekable_held v ≡ option_copied result) × Peeks (λ w o u. W.walk_gives w graph.now o u)
+        ensures* peeks { sem 𝓛 (follows_so (the_row G.row W.row W.Item.row)
+            (the_row G.row W.row W.Item.row) self.entry.ghost_name none
+            (λ _ _. ⊤) (λ v. (peekable_held v ≡ option_copied result)
+            × Peeks (λ w o u. W.walk_gives w graph.now o u)
             (λ w. W.can_walk w graph.now) (λ w. W.items_left w graph.now)
-            (peekable_walker self.entry.now) (peekable_held self.entry.now) (peekable_walker v) (peekable_held v))) }
+            (peekable_walker self.entry.now) (peekable_held self.entry.now) (peekable_walker v)
+            (peekable_held v))) }
     {
         self.fill(graph);
         self.held.as_ref()
@@ -32,7 +35,8 @@ where
         requires { W.can_walk (peekable_walker self.old) graph.now }
         ensures { Peeks (λ w o u. W.walk_gives w graph.now o u)
             (λ w. W.can_walk w graph.now) (λ w. W.items_left w graph.now)
-            (peekable_walker self.old) (peekable_held self.old) (peekable_walker self.new) (peekable_held self.new) }
+            (peekable_walker self.old) (peekable_held self.old) (peekable_walker self.new)
+            (peekable_held self.new) }
     {
         if self.held.is_none() {
             self.held = self.walker.walk_next(graph);

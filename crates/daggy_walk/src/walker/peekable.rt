@@ -48,7 +48,8 @@ where
     ghost walk_gives = { λ s g r t. PeekableStep (λ w o v. W.walk_gives w g o v)
         (peekable_walker s) (peekable_held s) r (peekable_walker t) (peekable_held t) };
 
-    ghost items_left = { λ s g. count_map (λ n. n + option_len (peekable_held s)) (W.items_left (peekable_walker s) g) };
+    ghost items_left = { λ s g.
+        count_map (λ n. n + option_len (peekable_held s)) (W.items_left (peekable_walker s) g) };
 
     #[inline]
     fn walk_next(&mut self, graph: &G) -> Option<W::Item> {

@@ -9,8 +9,8 @@ use std::marker::PhantomData;
 
 /// A walk that goes from a node to the one that a function names, and so on.
 ///
-/// Where the function names none, the walk stays, and asks there again at its next step. It may have no end, so it is no
-/// [`FiniteWalker`](crate::walker::FiniteWalker).
+/// Where the function names none, the walk stays, and asks there again at its next step. It may
+/// have no end, so it is no [`FiniteWalker`](crate::walker::FiniteWalker).
 pub type Recursive<G, F> = Led<G, <G as GraphBase>::NodeId, F>;
 
 /// A [`Recursive`] walk, whose nodes are named by `N`.
@@ -44,10 +44,13 @@ where
     /// Takes one step, as [`Walker::walk_next`].
     #[inline]
     pub fn next(&mut self, graph: &G) -> Option<(G::EdgeId, G::NodeId)>
-        requires { LeadsOn F.FnMut graph.now (recursive_node self.old) (recursive_function self.old) }
+        requires { LeadsOn F.FnMut graph.now (recursive_node self.old)
+            (recursive_function self.old) }
         ensures step { RecursiveStep F.FnMut graph.now
-            (recursive_node self.old) (recursive_function self.old) result (recursive_node self.new) (recursive_function self.new) }
-        ensures can { LeadsOn F.FnMut graph.now (recursive_node self.new) (recursive_function self.new) }
+            (recursive_node self.old) (recursive_function self.old) result (recursive_node self.new)
+            (recursive_function self.new) }
+        ensures can { LeadsOn F.FnMut graph.now (recursive_node self.new)
+            (recursive_function self.new) }
     {
         let (edge, node) = (self.f)(graph, self.node)?;
         self.node = node;

@@ -7,7 +7,8 @@ use std::marker::PhantomData;
 
 /// A walk without its first steps, which are all taken in the first step of this.
 ///
-/// So the first step takes time in proportion to the number of skipped steps, also where the walk ends before.
+/// So the first step takes time in proportion to the number of skipped steps, also where the walk
+/// ends before.
 #[derive(Drop)]
 #[derive_where(Clone, Copy, Debug; W)]
 pub struct Skip<G, W> {

@@ -43,11 +43,13 @@ where
     type Item = W::Item;
 
     ghost can_walk = { λ s g. W.can_walk (skip_while_walker s) g × ForSome (skip_while_predicate s)
-        (λ p. CallableAlong (λ w o v. W.walk_gives w g o v) (λ f x h. CallsItem P.FnMut f g x true h)
+        (λ p.
+        CallableAlong (λ w o v. W.walk_gives w g o v) (λ f x h. CallsItem P.FnMut f g x true h)
         (λ f x. TakesItem P.FnMut f g x) (skip_while_walker s) p) };
 
     ghost walk_gives = { λ s g r t. SkipWhileStep (λ w o v. W.walk_gives w g o v) P.FnMut g
-        (skip_while_walker s) (skip_while_predicate s) r (skip_while_walker t) (skip_while_predicate t) };
+        (skip_while_walker s) (skip_while_predicate s) r (skip_while_walker t)
+        (skip_while_predicate t) };
 
     ghost items_left = { λ s g. W.items_left (skip_while_walker s) g };
 

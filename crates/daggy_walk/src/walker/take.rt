@@ -5,7 +5,8 @@ ghost use Rattle.daggy_walk.specs.Parts.{take_walker, take_count};
 use crate::walker::{FiniteWalker, FusedWalker, Walker};
 use std::marker::PhantomData;
 
-/// The first steps of a walk. After so many steps it gives nothing, and its walker is asked no more.
+/// The first steps of a walk. After so many steps it gives nothing, and its walker is asked no
+/// more.
 ///
 /// Each step counts, also one that gives nothing.
 #[derive(Drop)]
@@ -42,7 +43,8 @@ impl<G, W: Walker<G>> Walker<G> for Take<G, W> {
     ghost walk_gives = { λ s g r t. TakeStep (λ w o v. W.walk_gives w g o v)
         (take_walker s) (take_count s) r (take_walker t) (take_count t) };
 
-    ghost items_left = { λ s g. count_min (at_most (take_count s)) (W.items_left (take_walker s) g) };
+    ghost items_left = { λ s g.
+        count_min (at_most (take_count s)) (W.items_left (take_walker s) g) };
 
     #[inline]
     fn walk_next(&mut self, graph: &G) -> Option<W::Item> {

@@ -45,12 +45,15 @@ where
 
     ghost can_walk = { λ s g. ForSome (take_while_walker s) (λ w. W.can_walk w g
         × CallableAlong (λ w o v. W.walk_gives w g o v)
-        (λ f x h. CallsItem P.FnMut f g x true h) (λ f x. TakesItem P.FnMut f g x) w (take_while_predicate s)) };
+        (λ f x h. CallsItem P.FnMut f g x true h) (λ f x. TakesItem P.FnMut f g x) w
+        (take_while_predicate s)) };
 
     ghost walk_gives = { λ s g r t. TakeWhileStep (λ w o v. W.walk_gives w g o v) P.FnMut g
-        (take_while_walker s) (take_while_predicate s) r (take_while_walker t) (take_while_predicate t) };
+        (take_while_walker s) (take_while_predicate s) r (take_while_walker t)
+        (take_while_predicate t) };
 
-    ghost items_left = { λ s g. chain_left (λ w. W.items_left w g) (at_most 0) (take_while_walker s) };
+    ghost items_left = { λ s g.
+        chain_left (λ w. W.items_left w g) (at_most 0) (take_while_walker s) };
 
     #[inline]
     fn walk_next(&mut self, graph: &G) -> Option<W::Item> {

@@ -8,50 +8,79 @@ use Rattle.daggy_cells.proofs.links.find_before.Goals as goal
 
 pub along-init : goal.along-init
 along-init g c =
-    IsRest-start _ _ _ _ _ c.requires.linked (subst (Contains (list_from c.args.dir c.args.edges.now c.args.first)) (sym c.index-target.ensures.value) c.requires.listed) (λ q. c.requires.later (q ∙ c.index-target.ensures.value))
+    IsRest-start _ _ _ _ _ c.requires.linked (subst (Contains (list_from c.args.dir c.args.edges.now c.args.first))
+    (sym c.index-target.ensures.value) c.requires.listed) (λ q. c.requires.later (q ∙ c.index-target.ensures.value))
 
 pub offset_bounds-edges-i : goal.offset_bounds-edges-i
-offset_bounds-edges-i g c = omega (arith, IsRest-within _ _ _ _ _ c.along.invariant, length-map c.args.edges.now (raw_next c.args.dir), c.index-i.ensures.value)
+offset_bounds-edges-i g c =
+    omega (
+      arith,
+      IsRest-within _ _ _ _ _ c.along.invariant,
+      length-map c.args.edges.now (raw_next c.args.dir),
+      c.index-i.ensures.value,
+    )
 
 pub bounds-edges-i : goal.bounds-edges-i
-bounds-edges-i g c = omega (arith, IsRest-within _ _ _ _ _ c.along.invariant, length-map c.args.edges.now (raw_next c.args.dir), c.index-i.ensures.value)
+bounds-edges-i g c =
+    omega (
+      arith,
+      IsRest-within _ _ _ _ _ c.along.invariant,
+      length-map c.args.edges.now (raw_next c.args.dir),
+      c.index-i.ensures.value,
+    )
 
 pub returns-then-index-target-clause-listed : goal.returns-then-index-target-clause-listed
 returns-then-index-target-clause-listed g c =
-    let within : c.along.e < length (nexts_of c.args.dir c.args.edges.now) = IsRest-within _ _ _ _ _ c.along.invariant in
+    let within : c.along.e < length (nexts_of c.args.dir c.args.edges.now) =
+    IsRest-within _ _ _ _ _ c.along.invariant in
     let same = length-map c.args.edges.now (raw_next c.args.dir) in
-    let reads : c.index-edges-i.result ≡ get_or c.args.edges.now c.along.e c.index-edges-i.result = c.index-edges-i.is ∙ ap (λ z. get_or c.args.edges.now z c.index-edges-i.result) c.index-i.ensures.value in
+    let reads : c.index-edges-i.result ≡ get_or c.args.edges.now c.along.e c.index-edges-i.result =
+    c.index-edges-i.is ∙ ap (λ z. get_or c.args.edges.now z c.index-edges-i.result) c.index-i.ensures.value in
     let inside : c.along.e < length c.args.edges.now = omega (arith, within, same) in
-    let goes : slice_get (nexts_of c.args.dir c.args.edges.now) c.along.e ≡ Some c.next-next.result = slice_get_mapped (raw_next c.args.dir) c.args.edges.now c.along.e c.index-edges-i.result inside reads ∙ ap Some (sym c.next-next.ensures) in
+    let goes : slice_get (nexts_of c.args.dir c.args.edges.now) c.along.e ≡ Some c.next-next.result =
+    slice_get_mapped (raw_next c.args.dir) c.args.edges.now c.along.e c.index-edges-i.result inside reads
+    ∙ ap Some (sym c.next-next.ensures) in
     let met = sym c.index.ensures.value ∙ c.if-index-target.true in
     let found = IsRest-found _ _ _ _ _ c.along.invariant (goes ∙ ap Some met) in
     found.0
 
 pub returns-then-index-target-clause-before : goal.returns-then-index-target-clause-before
 returns-then-index-target-clause-before g c =
-    let within : c.along.e < length (nexts_of c.args.dir c.args.edges.now) = IsRest-within _ _ _ _ _ c.along.invariant in
+    let within : c.along.e < length (nexts_of c.args.dir c.args.edges.now) =
+    IsRest-within _ _ _ _ _ c.along.invariant in
     let same = length-map c.args.edges.now (raw_next c.args.dir) in
-    let reads : c.index-edges-i.result ≡ get_or c.args.edges.now c.along.e c.index-edges-i.result = c.index-edges-i.is ∙ ap (λ z. get_or c.args.edges.now z c.index-edges-i.result) c.index-i.ensures.value in
+    let reads : c.index-edges-i.result ≡ get_or c.args.edges.now c.along.e c.index-edges-i.result =
+    c.index-edges-i.is ∙ ap (λ z. get_or c.args.edges.now z c.index-edges-i.result) c.index-i.ensures.value in
     let inside : c.along.e < length c.args.edges.now = omega (arith, within, same) in
-    let goes : slice_get (nexts_of c.args.dir c.args.edges.now) c.along.e ≡ Some c.next-next.result = slice_get_mapped (raw_next c.args.dir) c.args.edges.now c.along.e c.index-edges-i.result inside reads ∙ ap Some (sym c.next-next.ensures) in
+    let goes : slice_get (nexts_of c.args.dir c.args.edges.now) c.along.e ≡ Some c.next-next.result =
+    slice_get_mapped (raw_next c.args.dir) c.args.edges.now c.along.e c.index-edges-i.result inside reads
+    ∙ ap Some (sym c.next-next.ensures) in
     let met = sym c.index.ensures.value ∙ c.if-index-target.true in
     let found = IsRest-found _ _ _ _ _ c.along.invariant (goes ∙ ap Some met) in
     found.1 ∙ c.index-target.ensures.value
 
 pub along-smaller : goal.along-smaller
 along-smaller g c =
-    let within : c.along.e < length (nexts_of c.args.dir c.args.edges.now) = IsRest-within _ _ _ _ _ c.along.invariant in
+    let within : c.along.e < length (nexts_of c.args.dir c.args.edges.now) =
+    IsRest-within _ _ _ _ _ c.along.invariant in
     let same = length-map c.args.edges.now (raw_next c.args.dir) in
-    let reads : c.index-edges-i.result ≡ get_or c.args.edges.now c.along.e c.index-edges-i.result = c.index-edges-i.is ∙ ap (λ z. get_or c.args.edges.now z c.index-edges-i.result) c.index-i.ensures.value in
+    let reads : c.index-edges-i.result ≡ get_or c.args.edges.now c.along.e c.index-edges-i.result =
+    c.index-edges-i.is ∙ ap (λ z. get_or c.args.edges.now z c.index-edges-i.result) c.index-i.ensures.value in
     let inside : c.along.e < length c.args.edges.now = omega (arith, within, same) in
-    let goes : slice_get (nexts_of c.args.dir c.args.edges.now) c.along.e ≡ Some c.next-next.result = slice_get_mapped (raw_next c.args.dir) c.args.edges.now c.along.e c.index-edges-i.result inside reads ∙ ap Some (sym c.next-next.ensures) in
+    let goes : slice_get (nexts_of c.args.dir c.args.edges.now) c.along.e ≡ Some c.next-next.result =
+    slice_get_mapped (raw_next c.args.dir) c.args.edges.now c.along.e c.index-edges-i.result inside reads
+    ∙ ap Some (sym c.next-next.ensures) in
     IsRest-shorter _ _ _ _ _ _ c.along.invariant goes (omega (arith, same, c.requires.few))
 
 pub along-preserved : goal.along-preserved
 along-preserved g c =
-    let within : c.along.e < length (nexts_of c.args.dir c.args.edges.now) = IsRest-within _ _ _ _ _ c.along.invariant in
+    let within : c.along.e < length (nexts_of c.args.dir c.args.edges.now) =
+    IsRest-within _ _ _ _ _ c.along.invariant in
     let same = length-map c.args.edges.now (raw_next c.args.dir) in
-    let reads : c.index-edges-i.result ≡ get_or c.args.edges.now c.along.e c.index-edges-i.result = c.index-edges-i.is ∙ ap (λ z. get_or c.args.edges.now z c.index-edges-i.result) c.index-i.ensures.value in
+    let reads : c.index-edges-i.result ≡ get_or c.args.edges.now c.along.e c.index-edges-i.result =
+    c.index-edges-i.is ∙ ap (λ z. get_or c.args.edges.now z c.index-edges-i.result) c.index-i.ensures.value in
     let inside : c.along.e < length c.args.edges.now = omega (arith, within, same) in
-    let goes : slice_get (nexts_of c.args.dir c.args.edges.now) c.along.e ≡ Some c.next-next.result = slice_get_mapped (raw_next c.args.dir) c.args.edges.now c.along.e c.index-edges-i.result inside reads ∙ ap Some (sym c.next-next.ensures) in
+    let goes : slice_get (nexts_of c.args.dir c.args.edges.now) c.along.e ≡ Some c.next-next.result =
+    slice_get_mapped (raw_next c.args.dir) c.args.edges.now c.along.e c.index-edges-i.result inside reads
+    ∙ ap Some (sym c.next-next.ensures) in
     IsRest-step _ _ _ _ _ _ c.along.invariant goes (λ q. c.if-index-target.false (c.index.ensures.value ∙ q))

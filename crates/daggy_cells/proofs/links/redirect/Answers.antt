@@ -11,54 +11,93 @@ use Rattle.daggy_cells.proofs.links.redirect.Goals as goal
 
 pub find_before-before-requires-clause-listed : goal.find_before-before-requires-clause-listed
 find_before-before-requires-clause-listed g c =
-    let reads = redirect_reads c.args.nodes.now.items c.args.edges.now.items c.args.dir c.args.old _ _ _ _ _ _ c.requires.edge c.requires.node c.index-o.ensures.value c.index.ensures c.end-n.ensures c.index-i.ensures.value c.index-2.ensures c.first-first.ensures in
-    subst (λ z. Contains (list_from c.args.dir z c.first-first.result) c.args.old) (sym c.as_slice.ensures.value) (subst (λ z. Contains (list_from c.args.dir c.args.edges.now.items z) c.args.old) (sym reads.1) c.requires.listed)
+    let reads =
+    redirect_reads c.args.nodes.now.items c.args.edges.now.items c.args.dir c.args.old _ _ _ _ _ _ c.requires.edge
+    c.requires.node c.index-o.ensures.value c.index.ensures c.end-n.ensures c.index-i.ensures.value c.index-2.ensures
+    c.first-first.ensures in
+    subst (λ z. Contains (list_from c.args.dir z c.first-first.result) c.args.old) (sym c.as_slice.ensures.value)
+    (subst (λ z. Contains (list_from c.args.dir c.args.edges.now.items z) c.args.old) (sym reads.1) c.requires.listed)
 
 pub index_mut-requires-else-index-o : goal.index_mut-requires-else-index-o
 index_mut-requires-else-index-o g c =
-    let reads = redirect_reads c.args.nodes.now.items c.args.edges.now.items c.args.dir c.args.old _ _ _ _ _ _ c.requires.edge c.requires.node c.index-o.ensures.value c.index.ensures c.end-n.ensures c.index-i.ensures.value c.index-2.ensures c.first-first.ensures in
+    let reads =
+    redirect_reads c.args.nodes.now.items c.args.edges.now.items c.args.dir c.args.old _ _ _ _ _ _ c.requires.edge
+    c.requires.node c.index-o.ensures.value c.index.ensures c.end-n.ensures c.index-i.ensures.value c.index-2.ensures
+    c.first-first.ensures in
     let n = get_or (ends_of c.args.dir c.args.edges.now.items) c.args.old 0 in
     let first = get_or (firsts_of c.args.dir c.args.nodes.now.items) n 0 in
     let list = list_from c.args.dir c.args.edges.now.items first in
     let inside : c.args.old ≢ g.Ix.IndexType.greatest = omega (arith, c.requires.edge, c.requires.few) in
-    let listed = subst (λ z. Contains (list_from c.args.dir z c.first-first.result) c.find_before-before.result) c.as_slice.ensures.value c.find_before-before.ensures.listed in
-    let listed' = subst (λ z. Contains (list_from c.args.dir c.args.edges.now.items z) c.find_before-before.result) reads.1 listed in
-    let within : c.find_before-before.result < length (nexts_of c.args.dir c.args.edges.now.items) = slice_get_within (nexts_of c.args.dir c.args.edges.now.items) _ _ (c.requires.linked.goes_on _ listed') in
+    let listed =
+    subst (λ z. Contains (list_from c.args.dir z c.first-first.result) c.find_before-before.result)
+    c.as_slice.ensures.value c.find_before-before.ensures.listed in
+    let listed' =
+    subst (λ z. Contains (list_from c.args.dir c.args.edges.now.items z) c.find_before-before.result) reads.1 listed in
+    let within : c.find_before-before.result < length (nexts_of c.args.dir c.args.edges.now.items) =
+    slice_get_within (nexts_of c.args.dir c.args.edges.now.items) _ _ (c.requires.linked.goes_on _ listed') in
     omega (arith, within, length-map c.args.edges.now.items (raw_next c.args.dir), c.index-j.ensures.value)
 
 pub returns-then-index-o-clause-links : goal.returns-then-index-o-clause-links
 returns-then-index-o-clause-links g c =
-    let reads = redirect_reads c.args.nodes.now.items c.args.edges.now.items c.args.dir c.args.old _ _ _ _ _ _ c.requires.edge c.requires.node c.index-o.ensures.value c.index.ensures c.end-n.ensures c.index-i.ensures.value c.index-2.ensures c.first-first.ensures in
+    let reads =
+    redirect_reads c.args.nodes.now.items c.args.edges.now.items c.args.dir c.args.old _ _ _ _ _ _ c.requires.edge
+    c.requires.node c.index-o.ensures.value c.index.ensures c.end-n.ensures c.index-i.ensures.value c.index-2.ensures
+    c.first-first.ensures in
     let n = get_or (ends_of c.args.dir c.args.edges.now.items) c.args.old 0 in
     let first = get_or (firsts_of c.args.dir c.args.nodes.now.items) n 0 in
     let list = list_from c.args.dir c.args.edges.now.items first in
     let inside : c.args.old ≢ g.Ix.IndexType.greatest = omega (arith, c.requires.edge, c.requires.few) in
-    let here : first ≡ c.args.old = sym reads.1 ∙ sym c.index-3.ensures.value ∙ c.if-index-o.true ∙ c.index-o.ensures.value in
-    let written : firsts_of c.args.dir (set c.args.nodes.now.items c.index-i.result c.set_first.new.x) ≡ set (firsts_of c.args.dir c.args.nodes.now.items) n c.args.new =
-    ap (λ z. firsts_of c.args.dir (set c.args.nodes.now.items c.index-i.result z)) c.set_first.ensures ∙ firsts_of-set c.args.nodes.now.items c.index-i.result c.index_mut.result.now c.args.new c.index_mut.ensures.value c.args.dir ∙ ap (λ z. set (firsts_of c.args.dir c.args.nodes.now.items) z c.args.new) reads.0 in
-    subst (λ z. Redirected list n c.args.old c.args.new (firsts_of c.args.dir c.args.nodes.now.items) (nexts_of c.args.dir c.args.edges.now.items) z (nexts_of c.args.dir c.args.edges.now.items)) (sym written)
+    let here : first ≡ c.args.old =
+    sym reads.1 ∙ sym c.index-3.ensures.value ∙ c.if-index-o.true ∙ c.index-o.ensures.value in
+    let written : firsts_of c.args.dir (set c.args.nodes.now.items c.index-i.result c.set_first.new.x)
+    ≡ set (firsts_of c.args.dir c.args.nodes.now.items) n c.args.new =
+    ap (λ z. firsts_of c.args.dir (set c.args.nodes.now.items c.index-i.result z)) c.set_first.ensures
+    ∙ firsts_of-set c.args.nodes.now.items c.index-i.result c.index_mut.result.now c.args.new c.index_mut.ensures.value
+    c.args.dir
+    ∙ ap (λ z. set (firsts_of c.args.dir c.args.nodes.now.items) z c.args.new) reads.0 in
+    subst (λ z. Redirected list n c.args.old c.args.new (firsts_of c.args.dir c.args.nodes.now.items)
+    (nexts_of c.args.dir c.args.edges.now.items) z (nexts_of c.args.dir c.args.edges.now.items)) (sym written)
     (Redirected-first g.Ix.IndexType.greatest _ _ list n c.args.old c.args.new c.requires.linked here inside)
 
 pub returns-then-index-o-clause-nodes : goal.returns-then-index-o-clause-nodes
 returns-then-index-o-clause-nodes g c =
-    subst (λ z. KeepsNodes c.args.dir c.args.nodes.now.items (set c.args.nodes.now.items c.index-i.result z)) (sym c.set_first.ensures) (KeepsNodes-set c.args.nodes.now.items c.index-i.result c.index_mut.result.now c.args.new c.index_mut.ensures.value c.args.dir)
+    subst (λ z. KeepsNodes c.args.dir c.args.nodes.now.items (set c.args.nodes.now.items c.index-i.result z))
+    (sym c.set_first.ensures) (KeepsNodes-set c.args.nodes.now.items c.index-i.result c.index_mut.result.now c.args.new
+    c.index_mut.ensures.value c.args.dir)
 
 pub returns-else-index-o-clause-links : goal.returns-else-index-o-clause-links
 returns-else-index-o-clause-links g c =
-    let reads = redirect_reads c.args.nodes.now.items c.args.edges.now.items c.args.dir c.args.old _ _ _ _ _ _ c.requires.edge c.requires.node c.index-o.ensures.value c.index.ensures c.end-n.ensures c.index-i.ensures.value c.index-2.ensures c.first-first.ensures in
+    let reads =
+    redirect_reads c.args.nodes.now.items c.args.edges.now.items c.args.dir c.args.old _ _ _ _ _ _ c.requires.edge
+    c.requires.node c.index-o.ensures.value c.index.ensures c.end-n.ensures c.index-i.ensures.value c.index-2.ensures
+    c.first-first.ensures in
     let n = get_or (ends_of c.args.dir c.args.edges.now.items) c.args.old 0 in
     let first = get_or (firsts_of c.args.dir c.args.nodes.now.items) n 0 in
     let list = list_from c.args.dir c.args.edges.now.items first in
     let inside : c.args.old ≢ g.Ix.IndexType.greatest = omega (arith, c.requires.edge, c.requires.few) in
-    let later : first ≢ c.args.old = λ q. c.if-index-o.false (c.index-3.ensures.value ∙ reads.1 ∙ q ∙ sym c.index-o.ensures.value) in
-    let seen : list_from c.args.dir c.as_slice.result.now c.first-first.result ≡ list = ap (λ z. list_from c.args.dir z c.first-first.result) c.as_slice.ensures.value ∙ ap (list_from c.args.dir c.args.edges.now.items) reads.1 in
-    let listed : Contains list c.find_before-before.result = subst (λ z. Contains z c.find_before-before.result) seen c.find_before-before.ensures.listed in
-    let before : after g.Ix.IndexType.greatest list c.find_before-before.result ≡ c.args.old = ap (λ z. after g.Ix.IndexType.greatest z c.find_before-before.result) (sym seen) ∙ c.find_before-before.ensures.before in
-    let written : nexts_of c.args.dir (set c.args.edges.now.items c.index-j.result c.set_next.new.x) ≡ set (nexts_of c.args.dir c.args.edges.now.items) c.find_before-before.result c.args.new =
-    ap (λ z. nexts_of c.args.dir (set c.args.edges.now.items c.index-j.result z)) c.set_next.ensures ∙ nexts_of-set c.args.edges.now.items c.index-j.result c.index_mut-else-index-o.result.now c.args.new c.index_mut-else-index-o.ensures.value c.args.dir ∙ ap (λ z. set (nexts_of c.args.dir c.args.edges.now.items) z c.args.new) c.index-j.ensures.value in
-    subst (λ z. Redirected list n c.args.old c.args.new (firsts_of c.args.dir c.args.nodes.now.items) (nexts_of c.args.dir c.args.edges.now.items) (firsts_of c.args.dir c.args.nodes.now.items) z) (sym written)
-    (Redirected-later g.Ix.IndexType.greatest _ _ list n c.find_before-before.result c.args.old c.args.new c.requires.linked later listed before inside)
+    let later : first ≢ c.args.old = λ q.
+    c.if-index-o.false (c.index-3.ensures.value ∙ reads.1 ∙ q ∙ sym c.index-o.ensures.value) in
+    let seen : list_from c.args.dir c.as_slice.result.now c.first-first.result ≡ list =
+    ap (λ z. list_from c.args.dir z c.first-first.result) c.as_slice.ensures.value
+    ∙ ap (list_from c.args.dir c.args.edges.now.items) reads.1 in
+    let listed : Contains list c.find_before-before.result =
+    subst (λ z. Contains z c.find_before-before.result) seen c.find_before-before.ensures.listed in
+    let before : after g.Ix.IndexType.greatest list c.find_before-before.result ≡ c.args.old =
+    ap (λ z. after g.Ix.IndexType.greatest z c.find_before-before.result) (sym seen)
+    ∙ c.find_before-before.ensures.before in
+    let written : nexts_of c.args.dir (set c.args.edges.now.items c.index-j.result c.set_next.new.x)
+    ≡ set (nexts_of c.args.dir c.args.edges.now.items) c.find_before-before.result c.args.new =
+    ap (λ z. nexts_of c.args.dir (set c.args.edges.now.items c.index-j.result z)) c.set_next.ensures
+    ∙ nexts_of-set c.args.edges.now.items c.index-j.result c.index_mut-else-index-o.result.now c.args.new
+    c.index_mut-else-index-o.ensures.value c.args.dir
+    ∙ ap (λ z. set (nexts_of c.args.dir c.args.edges.now.items) z c.args.new) c.index-j.ensures.value in
+    subst (λ z. Redirected list n c.args.old c.args.new (firsts_of c.args.dir c.args.nodes.now.items)
+    (nexts_of c.args.dir c.args.edges.now.items) (firsts_of c.args.dir c.args.nodes.now.items) z) (sym written)
+    (Redirected-later g.Ix.IndexType.greatest _ _ list n c.find_before-before.result c.args.old c.args.new
+    c.requires.linked later listed before inside)
 
 pub returns-else-index-o-clause-edges : goal.returns-else-index-o-clause-edges
 returns-else-index-o-clause-edges g c =
-    subst (λ z. KeepsEdges c.args.dir c.args.edges.now.items (set c.args.edges.now.items c.index-j.result z)) (sym c.set_next.ensures) (KeepsEdges-set c.args.edges.now.items c.index-j.result c.index_mut-else-index-o.result.now c.args.new c.index_mut-else-index-o.ensures.value c.args.dir)
+    subst (λ z. KeepsEdges c.args.dir c.args.edges.now.items (set c.args.edges.now.items c.index-j.result z))
+    (sym c.set_next.ensures) (KeepsEdges-set c.args.edges.now.items c.index-j.result c.index_mut-else-index-o.result.now
+    c.args.new c.index_mut-else-index-o.ensures.value c.args.dir)

@@ -3,7 +3,9 @@ use Rattle.daggy_cells.proofs.RethreadedLists.{IsThreading}
 use Rattle.daggy_cells.proofs.links.thread.Given as goal
 
 abbrev pub invariant-back : goal.invariant-back
-invariant-back g l = IsThreading g.Ix.IndexType.greatest l.dir (map g.Ix.IndexType.number l.list) l.fn.edges.items l.edges.items l.left l.after
+invariant-back g l =
+    IsThreading g.Ix.IndexType.greatest l.dir (map g.Ix.IndexType.number l.list) l.fn.edges.items l.edges.items l.left
+    l.after
 
 abbrev pub decreases-back : goal.decreases-back
 decreases-back g l = l.left

@@ -9,22 +9,39 @@ use Rattle.daggy_cells.proofs.links.thread_both.Goals as goal
 
 pub thread-requires-clause-list : goal.thread-requires-clause-list
 thread-requires-clause-list g c =
-    subst (λ l. CanThread (length c.args.edges.now.items) (map g.Ix.IndexType.number l)) (sym c.as_slice.ensures.value) (c.requires.lists Outgoing)
+    subst (λ l. CanThread (length c.args.edges.now.items) (map g.Ix.IndexType.number l)) (sym c.as_slice.ensures.value)
+    (c.requires.lists Outgoing)
 
 pub thread-requires-2-clause-node : goal.thread-requires-2-clause-node
 thread-requires-2-clause-node g c =
-    omega (arith, c.requires.node, ap length c.thread.ensures.nodes.weights, length-map c.args.nodes.now.items weight_of, length-map c.thread.new.nodes.items weight_of)
+    omega (
+      arith,
+      c.requires.node,
+      ap length c.thread.ensures.nodes.weights,
+      length-map c.args.nodes.now.items weight_of,
+      length-map c.thread.new.nodes.items weight_of,
+    )
 
 pub thread-requires-2-clause-list : goal.thread-requires-2-clause-list
 thread-requires-2-clause-list g c =
     let as_many = ap length c.thread.ensures.edges.edges in
-    let can = CanThread-as_long _ (length c.thread.new.edges.items) _ (c.requires.lists Incoming) (omega (arith, as_many, length-map c.args.edges.now.items plain_edge, length-map c.thread.new.edges.items plain_edge)) in
-    subst (λ l. CanThread (length c.thread.new.edges.items) (map g.Ix.IndexType.number l)) (sym c.as_slice-2.ensures.value) can
+    let can =
+    CanThread-as_long _ (length c.thread.new.edges.items) _ (c.requires.lists Incoming) (omega (
+      arith,
+      as_many,
+      length-map c.args.edges.now.items plain_edge,
+      length-map c.thread.new.edges.items plain_edge,
+    )) in
+    subst (λ l. CanThread (length c.thread.new.edges.items) (map g.Ix.IndexType.number l))
+    (sym c.as_slice-2.ensures.value) can
 
 pub returns-clause-links : goal.returns-clause-links
 returns-clause-links g c =
-    threads_both _ _ _ _ _ _ _ _ (numbers_of g.Ix.IndexType.number c.args.order.now) _ _ (ap (map g.Ix.IndexType.number) c.as_slice.ensures.value) (ap (map g.Ix.IndexType.number) c.as_slice-2.ensures.value)
-    c.thread.ensures.links c.thread.ensures.nodes c.thread.ensures.edges c.thread-2.ensures.links c.thread-2.ensures.nodes c.thread-2.ensures.edges
+    threads_both _ _ _ _ _ _ _ _ (numbers_of g.Ix.IndexType.number c.args.order.now) _ _
+    (ap (map g.Ix.IndexType.number) c.as_slice.ensures.value)
+    (ap (map g.Ix.IndexType.number) c.as_slice-2.ensures.value)
+    c.thread.ensures.links c.thread.ensures.nodes c.thread.ensures.edges c.thread-2.ensures.links
+    c.thread-2.ensures.nodes c.thread-2.ensures.edges
 
 pub returns-clause-nodes : goal.returns-clause-nodes
 returns-clause-nodes g c = c.thread-2.ensures.nodes.weights ∙ c.thread.ensures.nodes.weights

@@ -1,14 +1,17 @@
 use Rattle.std.proofs.Common.{rules}
 use Rattle.std.specs.Iterator.{Yields}
 use Rattle.daggy_guard.proofs.ItemsSoFar.{yields_more}
-use Rattle.daggy_guard.proofs.ExtendAllLoop.{extending_starts, extending_on, stops, no_looks, few_more, few_last, few_all}
+use Rattle.daggy_guard.proofs.ExtendAllLoop.{extending_starts, extending_on, stops, no_looks, few_more, few_last}
+use Rattle.daggy_guard.proofs.ExtendAllLoop.{few_all}
 use Rattle.daggy_guard.proofs.extension.extend_all.Goals as goal
 
 pub items-init : goal.items-init
 items-init g c = record {
   can = search rules;
   ends = search rules;
-  extending = extending_starts g.S.NodeWeight.Default.is_default g.Ix.IndexType.number _ _ _ _ _ c.requires.ordered c.requires.fits;
+  extending =
+      extending_starts g.S.NodeWeight.Default.is_default g.Ix.IndexType.number _ _ _ _ _ c.requires.ordered
+      c.requires.fits;
   few = no_looks _ _;
 }
 
@@ -16,15 +19,20 @@ pub items-preserved : goal.items-preserved
 items-preserved g c = record {
   can = search rules;
   ends = search rules;
-  extending = extending_on c.items.invariant.extending c.in-Some.item _ c.into_weighted_edge-a.ensures _ c.in-Ok.ensures.extended _ c.extend_by.ensures.ordered _ c.extend_by.ensures.fits;
+  extending =
+      extending_on c.items.invariant.extending c.in-Some.item _ c.into_weighted_edge-a.ensures _
+      c.in-Ok.ensures.extended _ c.extend_by.ensures.ordered _ c.extend_by.ensures.fits;
   few = few_more _ _ _ _ _ _ c.items.invariant.few c.in-Ok.ensures.more c.extend_by.ensures.counted;
 }
 
 pub returns-in-Err-clause-stopped : goal.returns-in-Err-clause-stopped
 returns-in-Err-clause-stopped g c =
     let so_far : Yields g.I.Iterator.next_gives c.args.items c.items.yielded c.items.item-iterator = search rules in
-    let asked = yields_more g.I.Iterator.next_gives c.args.items c.items.item-iterator c.next.new.self c.items.yielded c.in-Some.item c.next.result so_far c.next.ensures.steps c.in-Some.is in
-    stops c.items.invariant.extending g.I.Iterator.next_gives c.args.items _ c.in-Some.item _ c.into_weighted_edge-a.ensures asked _ _ c.in-Err.ensures.stopped
+    let asked =
+    yields_more g.I.Iterator.next_gives c.args.items c.items.item-iterator c.next.new.self c.items.yielded
+    c.in-Some.item c.next.result so_far c.next.ensures.steps c.in-Some.is in
+    stops c.items.invariant.extending g.I.Iterator.next_gives c.args.items _ c.in-Some.item _
+    c.into_weighted_edge-a.ensures asked _ _ c.in-Err.ensures.stopped
 
 pub returns-in-Err-clause-counted : goal.returns-in-Err-clause-counted
 returns-in-Err-clause-counted g c =

@@ -8,7 +8,9 @@ use Rattle.daggy_guard.proofs.extension.extend_by.Goals as goal
 
 pub add_edge-requires-clause-index_left : goal.add_edge-requires-clause-index_left
 add_edge-requires-clause-index_left g c =
-    let filled : IsFilled g.S.NodeWeight.Default.is_default c.max.result (g.S.EdgeSource.graph c.args.store.now) (g.S.EdgeSource.graph c.fill.new.store) = search rules in
+    let filled : IsFilled g.S.NodeWeight.Default.is_default c.max.result (g.S.EdgeSource.graph c.args.store.now)
+    (g.S.EdgeSource.graph c.fill.new.store) =
+    search rules in
     let left : edge_count (g.S.EdgeSource.graph c.args.store.now) < g.Ix.IndexType.greatest = search rules in
     omega (arith, ap edge_count filled.added, edges_kept (g.S.EdgeSource.graph c.args.store.now) filled.weights, left)
 
@@ -16,11 +18,16 @@ pub returns-in-Err-clause-stopped : goal.returns-in-Err-clause-stopped
 returns-in-Err-clause-stopped g c =
     let a = g.Ix.IndexType.number c.args.a in
     let b = g.Ix.IndexType.number c.args.b in
-    let filled : IsFilled g.S.NodeWeight.Default.is_default (max a b) (g.S.EdgeSource.graph c.args.store.now) (g.S.EdgeSource.graph c.fill.new.store) = search rules in
-    let indices : HasIndices g.S.NodeWeight.Default.is_default g.Ix.IndexType.greatest (g.S.EdgeSource.graph c.args.store.now) (a, b, c.args.weight) = search rules in
+    let filled : IsFilled g.S.NodeWeight.Default.is_default (max a b) (g.S.EdgeSource.graph c.args.store.now)
+    (g.S.EdgeSource.graph c.fill.new.store) =
+    search rules in
+    let indices : HasIndices g.S.NodeWeight.Default.is_default g.Ix.IndexType.greatest
+    (g.S.EdgeSource.graph c.args.store.now) (a, b, c.args.weight) =
+    search rules in
     let parent : HasNode (g.S.EdgeSource.graph c.fill.new.store) a = search rules in
     let child : HasNode (g.S.EdgeSource.graph c.fill.new.store) b = search rules in
-    stopped_after g.S.NodeWeight.Default.is_default _ (g.S.EdgeSource.graph c.args.store.now) (g.S.EdgeSource.graph c.fill.new.store) _ (a, b, c.args.weight) _ _ c.in-Err.is c.in-Err.ensures.unchanged
+    stopped_after g.S.NodeWeight.Default.is_default _ (g.S.EdgeSource.graph c.args.store.now)
+    (g.S.EdgeSource.graph c.fill.new.store) _ (a, b, c.args.weight) _ _ c.in-Err.is c.in-Err.ensures.unchanged
     indices filled (parent, child) c.add_edge.ensures.cycle c.in-Err.ensures.refusal
 
 pub returns-then-is_err-clause-as_many : goal.returns-then-is_err-clause-as_many

@@ -8,7 +8,8 @@ nodes-init g c = record { filling = filling_starts _ _ _ _ _ c.requires.ordered 
 
 pub returns-in-Err-clause-part : goal.returns-in-Err-clause-part
 returns-in-Err-clause-part g c =
-    is_part_filled c.nodes.invariant.filling (omega (arith, c.nodes-test.true, c.node_count.ensures.count)) _ c.in-Err.ensures.unchanged
+    is_part_filled c.nodes.invariant.filling (omega (arith, c.nodes-test.true, c.node_count.ensures.count)) _
+    c.in-Err.ensures.unchanged
 
 pub nodes-smaller : goal.nodes-smaller
 nodes-smaller g c =
@@ -17,13 +18,17 @@ nodes-smaller g c =
 
 pub nodes-preserved : goal.nodes-preserved
 nodes-preserved g c = record {
-  filling = filling_on c.nodes.invariant.filling _ c.node_count.ensures.well_formed (omega (arith, c.nodes-test.true, c.node_count.ensures.count)) _ c.default.ensures _ c.in-Ok.ensures.added.1 _ c.add_node.ensures.ordered _ c.add_node.ensures.fits;
+  filling =
+      filling_on c.nodes.invariant.filling _ c.node_count.ensures.well_formed
+      (omega (arith, c.nodes-test.true, c.node_count.ensures.count)) _ c.default.ensures _ c.in-Ok.ensures.added.1 _
+      c.add_node.ensures.ordered _ c.add_node.ensures.fits;
   counted = c.add_node.ensures.counted ∙ c.nodes.invariant.counted;
 }
 
 pub returns-in-Err-clause-edges : goal.returns-in-Err-clause-edges
 returns-in-Err-clause-edges g c =
-    ap edge_count (c.in-Err.ensures.unchanged ∙ c.nodes.invariant.filling.added) ∙ edges_kept _ c.nodes.invariant.filling.weights
+    ap edge_count (c.in-Err.ensures.unchanged ∙ c.nodes.invariant.filling.added)
+    ∙ edges_kept _ c.nodes.invariant.filling.weights
 
 pub returns-clause-edges : goal.returns-clause-edges
 returns-clause-edges g c =

@@ -5,7 +5,8 @@ use Rattle.daggy_guard.proofs.extension.fill.Given as goal
 
 abbrev pub invariant-nodes : goal.invariant-nodes
 invariant-nodes g l = record {
-  filling : Filling g.S.NodeWeight.Default.is_default l.last (g.S.EdgeSource.graph l.fn.store) (g.S.EdgeSource.graph l.store) l.order l.scratch.nodes;
+  filling : Filling g.S.NodeWeight.Default.is_default l.last (g.S.EdgeSource.graph l.fn.store)
+      (g.S.EdgeSource.graph l.store) l.order l.scratch.nodes;
   counted : g.S.EdgeSource.looks l.store ≡ g.S.EdgeSource.looks l.fn.store;
 }
 

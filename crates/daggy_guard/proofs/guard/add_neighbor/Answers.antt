@@ -9,20 +9,36 @@ use Rattle.daggy_guard.proofs.guard.add_neighbor.Goals as goal
 
 pub link-requires-clause-node : goal.link-requires-clause-node
 link-requires-clause-node g c =
-    old_exists (added_node c.args.weight c.node_count-well_formed.ensures.well_formed c.node_slots-slot_count.ensures.compact c.node_slots-slot_count.ensures.value c.in-Ok.ensures.index c.in-Ok.ensures.added) _ c.requires.node
+    old_exists
+    (added_node c.args.weight c.node_count-well_formed.ensures.well_formed c.node_slots-slot_count.ensures.compact
+    c.node_slots-slot_count.ensures.value c.in-Ok.ensures.index c.in-Ok.ensures.added) _ c.requires.node
 
 pub link-requires-clause-new : goal.link-requires-clause-new
 link-requires-clause-new g c =
-    new_exists (added_node c.args.weight c.node_count-well_formed.ensures.well_formed c.node_slots-slot_count.ensures.compact c.node_slots-slot_count.ensures.value c.in-Ok.ensures.index c.in-Ok.ensures.added)
+    new_exists
+    (added_node c.args.weight c.node_count-well_formed.ensures.well_formed c.node_slots-slot_count.ensures.compact
+    c.node_slots-slot_count.ensures.value c.in-Ok.ensures.index c.in-Ok.ensures.added)
 
 pub remove-requires : goal.remove-requires
 remove-requires g c =
-    let there = new_exists (added_node c.args.weight c.node_count-well_formed.ensures.well_formed c.node_slots-slot_count.ensures.compact c.node_slots-slot_count.ensures.value c.in-Ok.ensures.index c.in-Ok.ensures.added) in
-    ((order_of_node c.node_count-well_formed.ensures.well_formed c.args.weight c.requires.ordered _ c.in-Ok.ensures.added c.args.dir c.in-Ok.ensures.put).exact _).1 there
+    let there =
+    new_exists
+    (added_node c.args.weight c.node_count-well_formed.ensures.well_formed c.node_slots-slot_count.ensures.compact
+    c.node_slots-slot_count.ensures.value c.in-Ok.ensures.index c.in-Ok.ensures.added) in
+    ((order_of_node c.node_count-well_formed.ensures.well_formed c.args.weight c.requires.ordered _
+    c.in-Ok.ensures.added c.args.dir c.in-Ok.ensures.put).exact _).1 there
 
 pub take_back-weight-requires : goal.take_back-weight-requires
 take_back-weight-requires g c =
-    record { added = (_, c.args.weight, added_node c.args.weight c.node_count-well_formed.ensures.well_formed c.node_slots-slot_count.ensures.compact c.node_slots-slot_count.ensures.value c.in-Ok.ensures.index (c.in-Err-link.ensures.unchanged ∙ c.in-Ok.ensures.added)) }
+    record {
+      added = (
+        _,
+        c.args.weight,
+        added_node c.args.weight c.node_count-well_formed.ensures.well_formed c.node_slots-slot_count.ensures.compact
+            c.node_slots-slot_count.ensures.value c.in-Ok.ensures.index
+            (c.in-Err-link.ensures.unchanged ∙ c.in-Ok.ensures.added),
+      );
+    }
 
 pub returns-in-Err-clause-acyclic : goal.returns-in-Err-clause-acyclic
 returns-in-Err-clause-acyclic g c = acyclic_by c.requires.ordered c.in-Err.ensures.unchanged
@@ -31,28 +47,39 @@ pub returns-in-Ok-link-clause-ordered : goal.returns-in-Ok-link-clause-ordered
 returns-in-Ok-link-clause-ordered g c =
     let n = g.Ix.IndexType.number c.args.n in
     let old = g.S.EdgeSource.graph c.args.store.now in
-    let added = c.in-Ok-link.ensures.added ∙ ap (λ z. with_link c.args.dir z n (g.Ix.IndexType.number c.in-Ok.new) c.args.edge) c.in-Ok.ensures.added
+    let added =
+    c.in-Ok-link.ensures.added
+    ∙ ap (λ z. with_link c.args.dir z n (g.Ix.IndexType.number c.in-Ok.new) c.args.edge) c.in-Ok.ensures.added
     ∙ ap (λ z. with_link c.args.dir (with_node old c.args.weight) n z c.args.edge) c.in-Ok.ensures.index in
-    order_of_neighbor c.node_count-well_formed.ensures.well_formed c.args.weight c.requires.ordered _ n c.args.edge c.requires.node c.args.dir added c.in-Ok.ensures.put
+    order_of_neighbor c.node_count-well_formed.ensures.well_formed c.args.weight c.requires.ordered _ n c.args.edge
+    c.requires.node c.args.dir added c.in-Ok.ensures.put
 
 pub returns-in-Ok-link-clause-acyclic : goal.returns-in-Ok-link-clause-acyclic
 returns-in-Ok-link-clause-acyclic g c = acyclic_from_order _ (returns-in-Ok-link-clause-ordered g c)
 
 pub returns-in-Err-link-clause-refusal : goal.returns-in-Err-link-clause-refusal
 returns-in-Err-link-clause-refusal g c =
-    let edge_is : c.into_weight-in-Err-link.result ≡ c.args.edge = c.into_weight-in-Err-link.ensures ∙ ap edge_weight_of c.in-Err-link.ensures.refusal in
-    let weight_same : c.take_back-weight.result ≡ c.args.weight = c.take_back-weight.ensures.returned _ _ (added_node c.args.weight c.node_count-well_formed.ensures.well_formed c.node_slots-slot_count.ensures.compact c.node_slots-slot_count.ensures.value c.in-Ok.ensures.index (c.in-Err-link.ensures.unchanged ∙ c.in-Ok.ensures.added)) in
+    let edge_is : c.into_weight-in-Err-link.result ≡ c.args.edge =
+    c.into_weight-in-Err-link.ensures ∙ ap edge_weight_of c.in-Err-link.ensures.refusal in
+    let weight_same : c.take_back-weight.result ≡ c.args.weight =
+    c.take_back-weight.ensures.returned _ _ (added_node c.args.weight c.node_count-well_formed.ensures.well_formed
+    c.node_slots-slot_count.ensures.compact c.node_slots-slot_count.ensures.value c.in-Ok.ensures.index
+    (c.in-Err-link.ensures.unchanged ∙ c.in-Ok.ensures.added)) in
     cc
 
 pub returns-in-Err-link-clause-unchanged : goal.returns-in-Err-link-clause-unchanged
 returns-in-Err-link-clause-unchanged g c =
-    c.take_back-weight.ensures.undone _ _ (added_node c.args.weight c.node_count-well_formed.ensures.well_formed c.node_slots-slot_count.ensures.compact c.node_slots-slot_count.ensures.value c.in-Ok.ensures.index (c.in-Err-link.ensures.unchanged ∙ c.in-Ok.ensures.added))
+    c.take_back-weight.ensures.undone _ _ (added_node c.args.weight c.node_count-well_formed.ensures.well_formed
+    c.node_slots-slot_count.ensures.compact c.node_slots-slot_count.ensures.value c.in-Ok.ensures.index
+    (c.in-Err-link.ensures.unchanged ∙ c.in-Ok.ensures.added))
 
 pub returns-in-Err-link-clause-ordered : goal.returns-in-Err-link-clause-ordered
 returns-in-Err-link-clause-ordered g c =
     let f = c.node_count-well_formed.ensures.well_formed in
-    let full = order_of_node f c.args.weight c.requires.ordered _ c.in-Ok.ensures.added c.args.dir c.in-Ok.ensures.put in
-    order_of_taken f c.args.weight full c.in-Ok.ensures.added _ c.in-Ok.ensures.index _ c.remove.ensures (returns-in-Err-link-clause-unchanged g c)
+    let full =
+    order_of_node f c.args.weight c.requires.ordered _ c.in-Ok.ensures.added c.args.dir c.in-Ok.ensures.put in
+    order_of_taken f c.args.weight full c.in-Ok.ensures.added _ c.in-Ok.ensures.index _ c.remove.ensures
+    (returns-in-Err-link-clause-unchanged g c)
 
 pub returns-in-Err-link-clause-acyclic : goal.returns-in-Err-link-clause-acyclic
 returns-in-Err-link-clause-acyclic g c = acyclic_by c.requires.ordered (returns-in-Err-link-clause-unchanged g c)

@@ -1,12 +1,16 @@
-use Rattle.std.proofs.Common.{rules, ◌≡◌, ◌≢◌, ◌+◌, ◌<◌, ◌≤◌, ◌↔◌, ◌⊎◌, ℕ, Bool, List, [], ◌∷◌, true, false, inl, inr, ◌∙◌, sym, ap, subst, refl, arith, length, get_or}
+use Rattle.std.proofs.Common.{rules, ◌≡◌, ◌≢◌, ◌+◌, ◌<◌, ◌≤◌, ◌↔◌, ◌⊎◌, ℕ, Bool, List, [], ◌∷◌, true, false, inl, inr}
+use Rattle.std.proofs.Common.{◌∙◌, sym, ap, subst, refl, arith, length, get_or}
 use Rattle.std.proofs.lemmas.Bool.{false≢true}
 use Rattle.daggy_base.specs.Graph.{out_list}
 use Rattle.daggy_base.specs.Cursor.{first_of}
 use Rattle.daggy_base.specs.Reduction.{ReachesIndirectly}
 use Rattle.daggy_order.specs.Ordered.{place}
-use Rattle.daggy_reduction.proofs.QueuedChildren.{begins_here, last_exists, edge_there, passed_less, low_node, has_room, put, child_there, put_last, put_child, last_again, none_queued, none_listed}
+use Rattle.daggy_reduction.proofs.QueuedChildren.{begins_here, last_exists, edge_there, passed_less, low_node, has_room}
+use Rattle.daggy_reduction.proofs.QueuedChildren.{put, child_there, put_last, put_child, last_again, none_queued}
+use Rattle.daggy_reduction.proofs.QueuedChildren.{none_listed}
 use Rattle.daggy_reduction.proofs.BoundedQueue.{Inside, Beyond, steps_start, few_spanned, round_met}
-use Rattle.daggy_reduction.proofs.QueueState.{Entered, few, looked_once, edge_here, head_low, child_low, child_exists_here, room_here, entered, left_out, visited, next_here}
+use Rattle.daggy_reduction.proofs.QueueState.{Entered, few, looked_once, edge_here, head_low, child_low}
+use Rattle.daggy_reduction.proofs.QueueState.{child_exists_here, room_here, entered, left_out, visited, next_here}
 use Rattle.daggy_reduction.proofs.bounded.meet_round.Goals as goal
 use Rattle.daggy_reduction.proofs.bounded.meet_round.Goals.{then-stands_before-3, else-stands_before-3}
 
@@ -16,7 +20,8 @@ not_before h = omega (arith, h)
 pub children-init : goal.children-init
 children-init g c =
     let graph = g.S.EdgeSource.graph c.args.source.now in
-    begins_here g.Ix.IndexType.greatest graph c.args.order.now (g.Ix.IndexType.number c.args.u) c.args.entered.now c.args.queue.now (g.Ix.IndexType.number c.first-e.result) (g.S.EdgeSource.looks c.args.source.now)
+    begins_here g.Ix.IndexType.greatest graph c.args.order.now (g.Ix.IndexType.number c.args.u) c.args.entered.now
+    c.args.queue.now (g.Ix.IndexType.number c.first-e.result) (g.S.EdgeSource.looks c.args.source.now)
     c.requires.cleared c.requires.entered_fit c.requires.queue_fits c.first-e.ensures
 
 pub look-v-requires : goal.look-v-requires
@@ -26,104 +31,139 @@ look-v-requires g c =
 
 pub stands_before-requires-clause-first : goal.stands_before-requires-clause-first
 stands_before-requires-clause-first g c =
-    (c.requires.ordered.exact _).1 (last_exists c.requires.well_formed c.requires.ordered c.requires.exists c.children.invariant)
+    (c.requires.ordered.exact _).1
+    (last_exists c.requires.well_formed c.requires.ordered c.requires.exists c.children.invariant)
 
 pub stands_before-requires-clause-second : goal.stands_before-requires-clause-second
 stands_before-requires-clause-second g c =
     let here : g.Ix.IndexType.number c.children.e ≢ g.Ix.IndexType.greatest = λ h. c.children-test.true cc in
-    (c.requires.ordered.exact _).1 (child_there c.requires.well_formed c.requires.ordered c.requires.exists c.children.invariant here c.look-v.ensures.gives)
+    (c.requires.ordered.exact _).1 (child_there c.requires.well_formed c.requires.ordered c.requires.exists
+    c.children.invariant here c.look-v.ensures.gives)
 
 pub enter-len-requires-clause-mark : goal.enter-len-requires-clause-mark
 enter-len-requires-clause-mark g c =
     let s = c.children.invariant in
-    low_node c.requires.well_formed c.requires.ordered c.requires.exists s _ (last_exists c.requires.well_formed c.requires.ordered c.requires.exists s)
+    low_node c.requires.well_formed c.requires.ordered c.requires.exists s _
+    (last_exists c.requires.well_formed c.requires.ordered c.requires.exists s)
 
 pub enter-len-requires-clause-queue_fits : goal.enter-len-requires-clause-queue_fits
 enter-len-requires-clause-queue_fits g c unseen =
     let s = c.children.invariant in
-    has_room c.requires.well_formed c.requires.ordered c.requires.exists s _ (last_exists c.requires.well_formed c.requires.ordered c.requires.exists s) unseen
+    has_room c.requires.well_formed c.requires.ordered c.requires.exists s _
+    (last_exists c.requires.well_formed c.requires.ordered c.requires.exists s) unseen
 
 pub stands_before-requires-else-stands_before-clause-first :
     goal.stands_before-requires-else-stands_before-clause-first
 stands_before-requires-else-stands_before-clause-first g c =
     let here : g.Ix.IndexType.number c.children.e ≢ g.Ix.IndexType.greatest = λ h. c.children-test.true cc in
-    (c.requires.ordered.exact _).1 (child_there c.requires.well_formed c.requires.ordered c.requires.exists c.children.invariant here c.look-v.ensures.gives)
+    (c.requires.ordered.exact _).1 (child_there c.requires.well_formed c.requires.ordered c.requires.exists
+    c.children.invariant here c.look-v.ensures.gives)
 
 pub stands_before-requires-else-stands_before-clause-second :
     goal.stands_before-requires-else-stands_before-clause-second
 stands_before-requires-else-stands_before-clause-second g c =
-    (c.requires.ordered.exact _).1 (last_exists c.requires.well_formed c.requires.ordered c.requires.exists c.children.invariant)
+    (c.requires.ordered.exact _).1
+    (last_exists c.requires.well_formed c.requires.ordered c.requires.exists c.children.invariant)
 
 pub enter-len-requires-then-stands_before-2-clause-mark :
     goal.enter-len-requires-then-stands_before-2-clause-mark
 enter-len-requires-then-stands_before-2-clause-mark g c =
     let s = c.children.invariant in
     let here : g.Ix.IndexType.number c.children.e ≢ g.Ix.IndexType.greatest = λ h. c.children-test.true cc in
-    low_node c.requires.well_formed c.requires.ordered c.requires.exists s _ (child_there c.requires.well_formed c.requires.ordered c.requires.exists s here c.look-v.ensures.gives)
+    low_node c.requires.well_formed c.requires.ordered c.requires.exists s _
+    (child_there c.requires.well_formed c.requires.ordered c.requires.exists s here c.look-v.ensures.gives)
 
 pub enter-len-requires-then-stands_before-2-clause-queue_fits :
     goal.enter-len-requires-then-stands_before-2-clause-queue_fits
 enter-len-requires-then-stands_before-2-clause-queue_fits g c unseen =
     let s = c.children.invariant in
     let here : g.Ix.IndexType.number c.children.e ≢ g.Ix.IndexType.greatest = λ h. c.children-test.true cc in
-    has_room c.requires.well_formed c.requires.ordered c.requires.exists s _ (child_there c.requires.well_formed c.requires.ordered c.requires.exists s here c.look-v.ensures.gives) unseen
+    has_room c.requires.well_formed c.requires.ordered c.requires.exists s _
+    (child_there c.requires.well_formed c.requires.ordered c.requires.exists s here c.look-v.ensures.gives) unseen
 
 pub children-smaller-then-stands_before : goal.children-smaller-then-stands_before
 children-smaller-then-stands_before g c =
     let here : g.Ix.IndexType.number c.children.e ≢ g.Ix.IndexType.greatest = λ h. c.children-test.true cc in
     let s = c.children.invariant in
-    omega (arith, passed_less c.requires.well_formed c.requires.ordered c.requires.exists s here, s.counted, c.look-v.ensures.counted)
+    omega (
+      arith,
+      passed_less c.requires.well_formed c.requires.ordered c.requires.exists s here,
+      s.counted,
+      c.look-v.ensures.counted,
+    )
 
 pub children-preserved-then-stands_before : goal.children-preserved-then-stands_before
 children-preserved-then-stands_before g c =
     let here : g.Ix.IndexType.number c.children.e ≢ g.Ix.IndexType.greatest = λ h. c.children-test.true cc in
     let s = c.children.invariant in
-    put_last c.requires.well_formed c.requires.ordered c.requires.exists s here c.look-v.ensures.gives c.look-v.ensures.same c.look-v.ensures.counted
-    (put c.requires.well_formed c.requires.ordered c.requires.exists s _ (last_exists c.requires.well_formed c.requires.ordered c.requires.exists s) c.enter-len.ensures.there c.enter-len.ensures.put)
+    put_last c.requires.well_formed c.requires.ordered c.requires.exists s here c.look-v.ensures.gives
+    c.look-v.ensures.same c.look-v.ensures.counted
+    (put c.requires.well_formed c.requires.ordered c.requires.exists s _
+    (last_exists c.requires.well_formed c.requires.ordered c.requires.exists s) c.enter-len.ensures.there
+    c.enter-len.ensures.put)
     (c.stands_before.ensures.0 c.if-stands_before.true)
 
 pub children-smaller-then-stands_before-2 : goal.children-smaller-then-stands_before-2
 children-smaller-then-stands_before-2 g c =
     let here : g.Ix.IndexType.number c.children.e ≢ g.Ix.IndexType.greatest = λ h. c.children-test.true cc in
     let s = c.children.invariant in
-    omega (arith, passed_less c.requires.well_formed c.requires.ordered c.requires.exists s here, s.counted, c.look-v.ensures.counted)
+    omega (
+      arith,
+      passed_less c.requires.well_formed c.requires.ordered c.requires.exists s here,
+      s.counted,
+      c.look-v.ensures.counted,
+    )
 
 pub children-preserved-then-stands_before-2 : goal.children-preserved-then-stands_before-2
 children-preserved-then-stands_before-2 g c =
     let here : g.Ix.IndexType.number c.children.e ≢ g.Ix.IndexType.greatest = λ h. c.children-test.true cc in
     let s = c.children.invariant in
-    put_child c.requires.well_formed c.requires.ordered c.requires.exists s here c.look-v.ensures.gives c.look-v.ensures.same c.look-v.ensures.counted
-    (put c.requires.well_formed c.requires.ordered c.requires.exists s _ (child_there c.requires.well_formed c.requires.ordered c.requires.exists s here c.look-v.ensures.gives) c.enter-len-then-stands_before-2.ensures.there c.enter-len-then-stands_before-2.ensures.put)
+    put_child c.requires.well_formed c.requires.ordered c.requires.exists s here c.look-v.ensures.gives
+    c.look-v.ensures.same c.look-v.ensures.counted
+    (put c.requires.well_formed c.requires.ordered c.requires.exists s _
+    (child_there c.requires.well_formed c.requires.ordered c.requires.exists s here c.look-v.ensures.gives)
+    c.enter-len-then-stands_before-2.ensures.there c.enter-len-then-stands_before-2.ensures.put)
     (c.stands_before-else-stands_before.ensures.0 c.if-stands_before-2.true)
 
 pub children-smaller : goal.children-smaller
 children-smaller g c =
     let here : g.Ix.IndexType.number c.children.e ≢ g.Ix.IndexType.greatest = λ h. c.children-test.true cc in
     let s = c.children.invariant in
-    omega (arith, passed_less c.requires.well_formed c.requires.ordered c.requires.exists s here, s.counted, c.look-v.ensures.counted)
+    omega (
+      arith,
+      passed_less c.requires.well_formed c.requires.ordered c.requires.exists s here,
+      s.counted,
+      c.look-v.ensures.counted,
+    )
 
 pub children-preserved : goal.children-preserved
 children-preserved g c =
     let here : g.Ix.IndexType.number c.children.e ≢ g.Ix.IndexType.greatest = λ h. c.children-test.true cc in
     let s = c.children.invariant in
-    last_again c.requires.well_formed c.requires.ordered c.requires.exists s here c.look-v.ensures.gives c.look-v.ensures.same c.look-v.ensures.counted
+    last_again c.requires.well_formed c.requires.ordered c.requires.exists s here c.look-v.ensures.gives
+    c.look-v.ensures.same c.look-v.ensures.counted
     (λ h. false≢true (c.if-stands_before.ensures.1 h)) (λ h. false≢true (c.if-stands_before-2.ensures.1 h))
 
 pub returns-then-len-eq0-clause-met : goal.returns-then-len-eq0-clause-met
 returns-then-len-eq0-clause-met g c =
     let at_end : g.Ix.IndexType.number c.children.e ≡ g.Ix.IndexType.greatest = cc in
-    λ v j. absurd (none_queued c.requires.well_formed c.requires.ordered c.requires.exists c.children.invariant at_end c.if-len-eq0.true v j)
+    λ v j.
+    absurd (none_queued c.requires.well_formed c.requires.ordered c.requires.exists c.children.invariant at_end
+    c.if-len-eq0.true v j)
 
 pub returns-then-len-eq0-clause-counted : goal.returns-then-len-eq0-clause-counted
 returns-then-len-eq0-clause-counted g c =
     let at_end : g.Ix.IndexType.number c.children.e ≡ g.Ix.IndexType.greatest = cc in
-    let none = none_listed c.requires.well_formed c.requires.ordered c.requires.exists c.children.invariant at_end c.if-len-eq0.true in
+    let none =
+    none_listed c.requires.well_formed c.requires.ordered c.requires.exists c.children.invariant at_end
+    c.if-len-eq0.true in
     omega (arith, c.children.invariant.counted, none)
 
 pub steps-init : goal.steps-init
 steps-init g c =
     let at_end : g.Ix.IndexType.number c.children.e ≡ g.Ix.IndexType.greatest = cc in
-    steps_start c.requires.well_formed c.requires.ordered c.requires.exists c.children.invariant at_end c.if-len-eq0.false c.args.met.now c.requires.met_fit
+    steps_start c.requires.well_formed c.requires.ordered c.requires.exists c.children.invariant at_end
+    c.if-len-eq0.false c.args.met.now c.requires.met_fit
 
 pub overflow_add-head : goal.overflow_add-head
 overflow_add-head g c =
@@ -135,12 +175,14 @@ pub returns-then-head-len-clause-met : goal.returns-then-head-len-clause-met
 returns-then-head-len-clause-met g c =
     let first_end : g.Ix.IndexType.number c.children.e ≡ g.Ix.IndexType.greatest = cc in
     let at_end : g.Ix.IndexType.number c.steps.e ≡ g.Ix.IndexType.greatest = cc in
-    round_met c.requires.well_formed c.requires.ordered c.requires.exists c.children.invariant first_end c.steps.invariant at_end c.if-head-len.true
+    round_met c.requires.well_formed c.requires.ordered c.requires.exists c.children.invariant first_end
+    c.steps.invariant at_end c.if-head-len.true
 
 pub returns-then-head-len-clause-counted : goal.returns-then-head-len-clause-counted
 returns-then-head-len-clause-counted g c =
     let first_end : g.Ix.IndexType.number c.children.e ≡ g.Ix.IndexType.greatest = cc in
-    few_spanned c.requires.well_formed c.requires.ordered c.requires.exists c.children.invariant first_end c.steps.invariant
+    few_spanned c.requires.well_formed c.requires.ordered c.requires.exists c.children.invariant first_end
+    c.steps.invariant
 
 pub bounds-queue-head : goal.bounds-queue-head
 bounds-queue-head g c =
@@ -160,8 +202,11 @@ steps-smaller-then-index-end g c = omega (arith, head_low c.requires.well_formed
 pub steps-preserved-then-index-end : goal.steps-preserved-then-index-end
 steps-preserved-then-index-end g c =
     let at_end : g.Ix.IndexType.number c.steps.e ≡ g.Ix.IndexType.greatest = cc in
-    next_here c.requires.well_formed c.steps.invariant at_end (c.steps.head + 1) c.index-queue-head.result _ refl c.if-head-len.false c.index-queue-head.is
-    (c.first-e-then-index-end.ensures ∙ ap (λ n. first_of g.Ix.IndexType.greatest (out_list (g.S.EdgeSource.graph c.steps.source) n)) c.node.ensures.value)
+    next_here c.requires.well_formed c.steps.invariant at_end (c.steps.head + 1) c.index-queue-head.result _ refl
+    c.if-head-len.false c.index-queue-head.is
+    (c.first-e-then-index-end.ensures
+    ∙ ap (λ n. first_of g.Ix.IndexType.greatest (out_list (g.S.EdgeSource.graph c.steps.source) n))
+    c.node.ensures.value)
 
 pub look-v-requires-else-index-end : goal.look-v-requires-else-index-end
 look-v-requires-else-index-end g c =
@@ -172,12 +217,14 @@ pub stands_before-requires-else-index-end-clause-first :
     goal.stands_before-requires-else-index-end-clause-first
 stands_before-requires-else-index-end-clause-first g c =
     let here : g.Ix.IndexType.number c.steps.e ≢ g.Ix.IndexType.greatest = λ h. c.if-index-end.false cc in
-    (c.requires.ordered.exact _).1 (child_exists_here c.requires.well_formed c.steps.invariant here c.look-v-else-index-end.ensures.gives)
+    (c.requires.ordered.exact _).1
+    (child_exists_here c.requires.well_formed c.steps.invariant here c.look-v-else-index-end.ensures.gives)
 
 pub stands_before-requires-else-index-end-clause-second :
     goal.stands_before-requires-else-index-end-clause-second
 stands_before-requires-else-index-end-clause-second g c =
-    (c.requires.ordered.exact _).1 (last_exists c.requires.well_formed c.requires.ordered c.requires.exists c.children.invariant)
+    (c.requires.ordered.exact _).1
+    (last_exists c.requires.well_formed c.requires.ordered c.requires.exists c.children.invariant)
 
 pub enter-len-requires-then-stands_before-3-clause-mark :
     goal.enter-len-requires-then-stands_before-3-clause-mark
@@ -197,7 +244,12 @@ pub mark_unless_first-requires : goal.mark_unless_first-requires
 mark_unless_first-requires g c =
     let here : g.Ix.IndexType.number c.steps.e ≢ g.Ix.IndexType.greatest = λ h. c.if-index-end.false cc in
     let s = c.steps.invariant in
-    omega (arith, child_low c.requires.well_formed s here c.look-v-else-index-end.ensures.gives, s.met_fits, c.index-else-index-end.ensures.value)
+    omega (
+      arith,
+      child_low c.requires.well_formed s here c.look-v-else-index-end.ensures.gives,
+      s.met_fits,
+      c.index-else-index-end.ensures.value,
+    )
 
 pub steps-smaller : goal.steps-smaller
 steps-smaller g c =
@@ -208,7 +260,13 @@ steps-smaller g c =
       | then-stands_before-3 b ↦ omega (arith, b.len-is, b.enter-len-then-stands_before-3.ensures.most)
       | else-stands_before-3 b ↦ omega (arith, b.len-is)
     ] in
-    omega (arith, looked_once c.requires.well_formed s here c.look-v-else-index-end.ensures.counted, c.look-v-else-index-end.ensures.counted, most, head_low c.requires.well_formed s)
+    omega (
+      arith,
+      looked_once c.requires.well_formed s here c.look-v-else-index-end.ensures.counted,
+      c.look-v-else-index-end.ensures.counted,
+      most,
+      head_low c.requires.well_formed s,
+    )
 
 pub steps-preserved : goal.steps-preserved
 steps-preserved g c =
@@ -216,10 +274,19 @@ steps-preserved g c =
     let s = c.steps.invariant in
     let at = c.index-else-index-end.ensures.value in
     let look = c.look-v-else-index-end.ensures.gives in
-    let entry : Entered c.requires.well_formed s here look c.if-stands_before-3.entered c.if-stands_before-3.queue c.if-stands_before-3.len =
+    let entry : Entered c.requires.well_formed s here look c.if-stands_before-3.entered c.if-stands_before-3.queue
+    c.if-stands_before-3.len =
     elim c.if-stands_before-3.branch [
-      | then-stands_before-3 b ↦ rw (b.entered-is, b.queue-is, b.len-is) (entered c.requires.well_formed s here look (b.if-stands_before-3.ensures.0 refl) b.enter-len-then-stands_before-3.ensures.there b.enter-len-then-stands_before-3.ensures.put)
-      | else-stands_before-3 b ↦ rw (b.entered-is, b.queue-is, b.len-is) (left_out c.requires.well_formed s here look (not_before (λ h. false≢true (b.if-stands_before-3.ensures.1 h))))
+      | then-stands_before-3 b ↦
+          rw (b.entered-is, b.queue-is, b.len-is)
+          (entered c.requires.well_formed s here look (b.if-stands_before-3.ensures.0 refl)
+          b.enter-len-then-stands_before-3.ensures.there b.enter-len-then-stands_before-3.ensures.put)
+      | else-stands_before-3 b ↦ rw (
+        b.entered-is,
+        b.queue-is,
+        b.len-is,
+      ) (left_out c.requires.well_formed s here look (not_before (λ h. false≢true (b.if-stands_before-3.ensures.1 h))))
     ] in
-    visited c.requires.well_formed s here look c.look-v-else-index-end.ensures.same c.look-v-else-index-end.ensures.counted
+    visited c.requires.well_formed s here look c.look-v-else-index-end.ensures.same
+    c.look-v-else-index-end.ensures.counted
     entry (rw (sym at) c.mark_unless_first.ensures.later) c.mark_unless_first.ensures.first

@@ -1,13 +1,15 @@
 use Rattle.std.proofs.Common.{rules, ◌≡◌, ◌≢◌, ◌+◌, ◌≤◌, ◌∙◌, sym, ap, refl, arith, length}
 use Rattle.daggy_base.specs.Graph.{out_list}
 use Rattle.daggy_base.specs.Cursor.{first_of}
-use Rattle.daggy_reduction.proofs.QueueState.{few, looked_once, edge_here, head_low, child_low, room_here, entered, visited, next_here, is_closure, meets_children, starts_here}
+use Rattle.daggy_reduction.proofs.QueueState.{few, looked_once, edge_here, head_low, child_low, room_here, entered}
+use Rattle.daggy_reduction.proofs.QueueState.{visited, next_here, is_closure, meets_children, starts_here}
 use Rattle.daggy_reduction.proofs.closure.close.Goals as goal
 
 pub steps-init : goal.steps-init
 steps-init g c =
     let graph = g.S.EdgeSource.graph c.args.source.now in
-    starts_here g.Ix.IndexType.greatest graph c.args.entered.now c.args.met.now c.args.queue.now c.args.len c.requires.queued c.requires.some c.requires.within c.requires.entered_fit c.requires.met_fit c.requires.queue_fits
+    starts_here g.Ix.IndexType.greatest graph c.args.entered.now c.args.met.now c.args.queue.now c.args.len
+    c.requires.queued c.requires.some c.requires.within c.requires.entered_fit c.requires.met_fit c.requires.queue_fits
     c.index-queue-0.result (g.Ix.IndexType.number c.first-e.result) _ c.index-queue-0.is
     (c.first-e.ensures ∙ ap (λ n. first_of g.Ix.IndexType.greatest (out_list graph n)) c.node.ensures.value)
 
@@ -48,8 +50,11 @@ steps-smaller-then-index-end g c = omega (arith, head_low c.requires.well_formed
 pub steps-preserved-then-index-end : goal.steps-preserved-then-index-end
 steps-preserved-then-index-end g c =
     let at_end : g.Ix.IndexType.number c.steps.e ≡ g.Ix.IndexType.greatest = cc in
-    next_here c.requires.well_formed c.steps.invariant at_end (c.steps.head + 1) c.index-queue-head.result _ refl c.if-head-len.false c.index-queue-head.is
-    (c.first-e-then-index-end.ensures ∙ ap (λ n. first_of g.Ix.IndexType.greatest (out_list (g.S.EdgeSource.graph c.steps.source) n)) c.node-then-index-end.ensures.value)
+    next_here c.requires.well_formed c.steps.invariant at_end (c.steps.head + 1) c.index-queue-head.result _ refl
+    c.if-head-len.false c.index-queue-head.is
+    (c.first-e-then-index-end.ensures
+    ∙ ap (λ n. first_of g.Ix.IndexType.greatest (out_list (g.S.EdgeSource.graph c.steps.source) n))
+    c.node-then-index-end.ensures.value)
 
 pub look-v-requires : goal.look-v-requires
 look-v-requires g c =
@@ -72,13 +77,24 @@ pub mark_unless_first-requires : goal.mark_unless_first-requires
 mark_unless_first-requires g c =
     let here : g.Ix.IndexType.number c.steps.e ≢ g.Ix.IndexType.greatest = λ h. c.if-index-end.false cc in
     let s = c.steps.invariant in
-    omega (arith, child_low c.requires.well_formed s here c.look-v.ensures.gives, s.met_fits, c.index-else-index-end.ensures.value)
+    omega (
+      arith,
+      child_low c.requires.well_formed s here c.look-v.ensures.gives,
+      s.met_fits,
+      c.index-else-index-end.ensures.value,
+    )
 
 pub steps-smaller : goal.steps-smaller
 steps-smaller g c =
     let here : g.Ix.IndexType.number c.steps.e ≢ g.Ix.IndexType.greatest = λ h. c.if-index-end.false cc in
     let s = c.steps.invariant in
-    omega (arith, looked_once c.requires.well_formed s here c.look-v.ensures.counted, c.look-v.ensures.counted, c.enter-len.ensures.most, head_low c.requires.well_formed s)
+    omega (
+      arith,
+      looked_once c.requires.well_formed s here c.look-v.ensures.counted,
+      c.look-v.ensures.counted,
+      c.enter-len.ensures.most,
+      head_low c.requires.well_formed s,
+    )
 
 pub steps-preserved : goal.steps-preserved
 steps-preserved g c =
@@ -86,4 +102,5 @@ steps-preserved g c =
     let s = c.steps.invariant in
     let at = c.index-else-index-end.ensures.value in
     visited c.requires.well_formed s here c.look-v.ensures.gives c.look-v.ensures.same c.look-v.ensures.counted
-    (entered c.requires.well_formed s here c.look-v.ensures.gives tt c.enter-len.ensures.there c.enter-len.ensures.put) (rw (sym at) c.mark_unless_first.ensures.later) c.mark_unless_first.ensures.first
+    (entered c.requires.well_formed s here c.look-v.ensures.gives tt c.enter-len.ensures.there c.enter-len.ensures.put)
+    (rw (sym at) c.mark_unless_first.ensures.later) c.mark_unless_first.ensures.first

@@ -1,13 +1,17 @@
 use Rattle.std.proofs.Common.{◌≡◌, ◌≢◌, arith, map}
 use Rattle.std.proofs.lemmas.List.{length-map}
-use Rattle.daggy_reduction.proofs.FlaggedChildren.{flags_start, edge_here, looked_whole, passed_less, child_low, edge_low, flags_on, flags_marked}
+use Rattle.daggy_reduction.proofs.FlaggedChildren.{flags_start, edge_here, looked_whole, passed_less, child_low}
+use Rattle.daggy_reduction.proofs.FlaggedChildren.{edge_low, flags_on, flags_marked}
 use Rattle.daggy_reduction.proofs.flags.flag_marked.Goals as goal
 
 pub edges-init : goal.edges-init
 edges-init g c =
     let graph = g.S.EdgeSource.graph c.args.source.now in
-    flags_start g.Ix.IndexType.greatest graph (g.Ix.IndexType.number c.args.u) c.args.marks.now (map g.Ix.IndexType.number c.args.flags.now) (g.Ix.IndexType.number c.first-e.result) (g.S.EdgeSource.looks c.args.source.now)
-    (omega (arith, c.requires.flags_fit, length-map c.args.flags.now g.Ix.IndexType.number)) c.requires.marks_fit c.first-e.ensures
+    flags_start g.Ix.IndexType.greatest graph (g.Ix.IndexType.number c.args.u) c.args.marks.now
+    (map g.Ix.IndexType.number c.args.flags.now) (g.Ix.IndexType.number c.first-e.result)
+    (g.S.EdgeSource.looks c.args.source.now)
+    (omega (arith, c.requires.flags_fit, length-map c.args.flags.now g.Ix.IndexType.number)) c.requires.marks_fit
+    c.first-e.ensures
 
 pub look-v-requires : goal.look-v-requires
 look-v-requires g c =
@@ -17,7 +21,11 @@ look-v-requires g c =
 pub flag_if_marked-requires-clause-edge : goal.flag_if_marked-requires-clause-edge
 flag_if_marked-requires-clause-edge g c =
     let here : g.Ix.IndexType.number c.edges.e ≢ g.Ix.IndexType.greatest = λ h. c.edges-test.true cc in
-    omega (arith, edge_low c.requires.well_formed c.edges.invariant here c.look-v.ensures.gives, length-map c.edges.flags g.Ix.IndexType.number)
+    omega (
+      arith,
+      edge_low c.requires.well_formed c.edges.invariant here c.look-v.ensures.gives,
+      length-map c.edges.flags g.Ix.IndexType.number,
+    )
 
 pub flag_if_marked-requires-clause-child : goal.flag_if_marked-requires-clause-child
 flag_if_marked-requires-clause-child g c =
@@ -33,7 +41,8 @@ edges-smaller g c =
 pub edges-preserved : goal.edges-preserved
 edges-preserved g c =
     let here : g.Ix.IndexType.number c.edges.e ≢ g.Ix.IndexType.greatest = λ h. c.edges-test.true cc in
-    flags_on c.requires.well_formed c.edges.invariant here c.look-v.ensures.gives c.look-v.ensures.same c.look-v.ensures.counted c.flag_if_marked.ensures.flagged c.flag_if_marked.ensures.passed
+    flags_on c.requires.well_formed c.edges.invariant here c.look-v.ensures.gives c.look-v.ensures.same
+    c.look-v.ensures.counted c.flag_if_marked.ensures.flagged c.flag_if_marked.ensures.passed
 
 pub returns-clause-flagged : goal.returns-clause-flagged
 returns-clause-flagged g c =
@@ -47,4 +56,9 @@ returns-clause-counted g c =
 
 pub returns-clause-kept : goal.returns-clause-kept
 returns-clause-kept g c =
-    omega (arith, c.edges.invariant.sized, length-map c.edges.flags g.Ix.IndexType.number, length-map c.args.flags.now g.Ix.IndexType.number)
+    omega (
+      arith,
+      c.edges.invariant.sized,
+      length-map c.edges.flags g.Ix.IndexType.number,
+      length-map c.args.flags.now g.Ix.IndexType.number,
+    )

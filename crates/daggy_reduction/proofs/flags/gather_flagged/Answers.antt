@@ -19,9 +19,12 @@ places-preserved g c =
     let sized : length c.if-index-end.flags ≡ length c.args.flags.now = c.if-index-end.auto.flags ∙ inv.sized in
     elim c.if-index-end.branch [
       | then-index-end w ↦ (
-          let other : number c.index-flags-i.result ≢ end = λ e. w.if-index-end.true (c.index.ensures.value ∙ e ∙ sym c.end.ensures.number ∙ sym c.index-end.ensures.value) in
+          let other : number c.index-flags-i.result ≢ end = λ e.
+          w.if-index-end.true
+          (c.index.ensures.value ∙ e ∙ sym c.end.ensures.number ∙ sym c.index-end.ensures.value) in
           let written : map number c.if-index-end.flags ≡ set (map number flags) c.places.len i =
-          ap (map number) w.flags-is ∙ map-set number flags c.places.len w.new.result ∙ ap (λ z. set (map number flags) c.places.len z) w.new.ensures.number in
+          ap (map number) w.flags-is ∙ map-set number flags c.places.len w.new.result
+          ∙ ap (λ z. set (map number flags) c.places.len z) w.new.ensures.number in
           let put = gather_put moved (omega (arith, low, length-map flags number)) (λ e. other (sym at ∙ e)) in
           let P : List ℕ → Type 0 = λ z. Kept z (c.places.len + 1) in
           let Q : ℕ → Type 0 = λ z. Kept (map number c.if-index-end.flags) z in
@@ -32,7 +35,8 @@ places-preserved g c =
           }
           )
       | else-index-end w ↦ (
-          let is : number c.index-flags-i.result ≡ end = sym c.index.ensures.value ∙ w.if-index-end.false ∙ c.index-end.ensures.value ∙ c.end.ensures.number in
+          let is : number c.index-flags-i.result ≡ end =
+          sym c.index.ensures.value ∙ w.if-index-end.false ∙ c.index-end.ensures.value ∙ c.end.ensures.number in
           let passed = gather_passed moved (at ∙ is) in
           let P : List ℕ → Type 0 = λ z. Kept z c.places.len in
           let Q : ℕ → Type 0 = λ z. Kept (map number c.if-index-end.flags) z in

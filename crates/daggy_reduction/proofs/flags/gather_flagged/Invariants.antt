@@ -7,7 +7,8 @@ invariant-places g l =
     record {
       within : l.i ≤ l.fn.bound;
       sized : length l.flags ≡ length l.fn.flags;
-      gathered : Gathering g.Ix.IndexType.greatest (map g.Ix.IndexType.number l.fn.flags) (map g.Ix.IndexType.number l.flags) l.len l.i;
+      gathered : Gathering g.Ix.IndexType.greatest (map g.Ix.IndexType.number l.fn.flags)
+          (map g.Ix.IndexType.number l.flags) l.len l.i;
     }
 
 abbrev pub decreases-places : goal.decreases-places

@@ -14,7 +14,11 @@ places-preserved g c =
     record {
       same_length = length-set flags i c.end.result ∙ c.places.invariant.same_length;
       ended = λ j lt. ap (λ z. get_or z j end) written ∙ elim (cases_eq j i) [
-        | inl here ↦ ap (λ z. get_or (set (map number flags) i end) z end) here ∙ get_or-set_same (map number flags) i end end low
-        | inr other ↦ get_or-set_other (map number flags) i j end end other ∙ c.places.invariant.ended j (omega (arith, lt, other))
+        | inl here ↦
+            ap (λ z. get_or (set (map number flags) i end) z end) here
+            ∙ get_or-set_same (map number flags) i end end low
+        | inr other ↦
+            get_or-set_other (map number flags) i j end end other
+            ∙ c.places.invariant.ended j (omega (arith, lt, other))
       ];
     }

@@ -15,9 +15,11 @@ returns-clause-decided g c =
     let a = g.A.EdgeSource.graph c.args.a.now in
     let b = g.B.EdgeSource.graph c.args.b.now in
     let back = c.joins_all-2.result in
-    let P : Graph g.row.A-NodeWeight.Denot g.row.A-EdgeWeight.Denot → Type 0 = λ z. IsTrue back ↔ JoinsAll (g.B.EdgeSource.graph c.joins_all.new.b) z in
+    let P : Graph g.row.A-NodeWeight.Denot g.row.A-EdgeWeight.Denot → Type 0 = λ z.
+    IsTrue back ↔ JoinsAll (g.B.EdgeSource.graph c.joins_all.new.b) z in
     let Q : Graph g.row.B-NodeWeight.Denot g.row.B-EdgeWeight.Denot → Type 0 = λ z. IsTrue back ↔ JoinsAll z a in
-    let decided = subst Q c.joins_all.ensures.other_same (subst P c.joins_all.ensures.same c.joins_all-2.ensures.decided) in
+    let decided =
+    subst Q c.joins_all.ensures.other_same (subst P c.joins_all.ensures.same c.joins_all-2.ensures.decided) in
     let there = c.joins_all.ensures.decided.0 c.if-not-joins_all.false in (
       λ t u v. (there u v, decided.0 t u v),
       λ same. decided.1 (λ u v. (same u v).1),

@@ -6,9 +6,13 @@ use Rattle.daggy_reduction.proofs.joined_pairs.mark_children.Given as goal
 abbrev pub invariant-edges : goal.invariant-edges
 invariant-edges g l =
     record {
-      looking : Looking g.Ix.IndexType.greatest (g.S.EdgeSource.graph l.fn.source) (g.S.EdgeSource.graph l.source) (g.Ix.IndexType.number l.fn.u) (g.Ix.IndexType.number l.e) (g.S.EdgeSource.looks l.fn.source) (g.S.EdgeSource.looks l.source) (λ n. get_or l.marks n false ≡ true);
+      looking : Looking g.Ix.IndexType.greatest (g.S.EdgeSource.graph l.fn.source) (g.S.EdgeSource.graph l.source)
+          (g.Ix.IndexType.number l.fn.u) (g.Ix.IndexType.number l.e) (g.S.EdgeSource.looks l.fn.source)
+          (g.S.EdgeSource.looks l.source) (λ n. get_or l.marks n false ≡ true);
       marking : Marking (g.S.EdgeSource.graph l.fn.source) (g.Ix.IndexType.number l.fn.u) l.fn.marks l.marks;
     }
 
 abbrev pub decreases-edges : goal.decreases-edges
-decreases-edges g l = length (out_list (g.S.EdgeSource.graph l.fn.source) (g.Ix.IndexType.number l.fn.u)) + g.S.EdgeSource.looks l.fn.source - g.S.EdgeSource.looks l.source
+decreases-edges g l =
+    length (out_list (g.S.EdgeSource.graph l.fn.source) (g.Ix.IndexType.number l.fn.u))
+    + g.S.EdgeSource.looks l.fn.source - g.S.EdgeSource.looks l.source

@@ -11,9 +11,11 @@ edges-preserved g c =
     let y = number c.index-edges-left.result in
     let within = c.edges.invariant.within in
     let low : at < length edges = omega (arith, c.edges-test.true, within, length-map edges number) in
-    let is : y ≡ get_or (map number edges) at y = sym (get_or-map number edges at c.index-edges-left.result y low ∙ ap number (sym c.index-edges-left.is)) in
+    let is : y ≡ get_or (map number edges) at y =
+    sym (get_or-map number edges at c.index-edges-left.result y low ∙ ap number (sym c.index-edges-left.is)) in
     let ens = c.remove_edge-weight.ensures in
-    remove_on c.edges.invariant c.requires.ascending c.requires.exist at y (omega (arith, c.edges-test.true)) is c.remove_edge-weight.result ens.gives ens.removed ens.counted
+    remove_on c.edges.invariant c.requires.ascending c.requires.exist at y (omega (arith, c.edges-test.true)) is
+    c.remove_edge-weight.result ens.gives ens.removed ens.counted
 
 pub edges-preserved-in-edges : goal.edges-preserved-in-edges
 edges-preserved-in-edges g c =
@@ -23,6 +25,8 @@ edges-preserved-in-edges g c =
     let y = number c.index-edges-left.result in
     let within = c.edges.invariant.within in
     let low : at < length edges = omega (arith, c.edges-test.true, within, length-map edges number) in
-    let is : y ≡ get_or (map number edges) at y = sym (get_or-map number edges at c.index-edges-left.result y low ∙ ap number (sym c.index-edges-left.is)) in
+    let is : y ≡ get_or (map number edges) at y =
+    sym (get_or-map number edges at c.index-edges-left.result y low ∙ ap number (sym c.index-edges-left.is)) in
     let ens = c.remove_edge-weight.ensures in
-    remove_on c.edges.invariant c.requires.ascending c.requires.exist at y (omega (arith, c.edges-test.true)) is c.remove_edge-weight.result ens.gives ens.removed ens.counted
+    remove_on c.edges.invariant c.requires.ascending c.requires.exist at y (omega (arith, c.edges-test.true)) is
+    c.remove_edge-weight.result ens.gives ens.removed ens.counted

@@ -10,13 +10,19 @@ use Rattle.daggy_reduction.proofs.redundant.find_redundant.Goals as goal
 pub gather_flagged-requires-clause-real : goal.gather_flagged-requires-clause-real
 gather_flagged-requires-clause-real g c =
     let graph = g.S.EdgeSource.graph c.args.source.now in
-    omega (arith, c.edge_bound-bound.ensures, bound_low graph.edges, c.node_bound-well_formed.ensures.well_formed.few_edges)
+    omega (
+      arith,
+      c.edge_bound-bound.ensures,
+      bound_low graph.edges,
+      c.node_bound-well_formed.ensures.well_formed.few_edges,
+    )
 
 pub returns-clause-ascending : goal.returns-clause-ascending
 returns-clause-ascending g c =
     let P : List ℕ → Type 0 = λ z. IsAscending z in
     let flags = map g.Ix.IndexType.number c.flag_redundant.new.flags in
-    subst P (sym c.gather_flagged.ensures.gathered) (gathered_ascend g.Ix.IndexType.greatest flags c.edge_bound-bound.result)
+    subst P (sym c.gather_flagged.ensures.gathered)
+    (gathered_ascend g.Ix.IndexType.greatest flags c.edge_bound-bound.result)
 
 pub returns-clause-exact : goal.returns-clause-exact
 returns-clause-exact g c =

@@ -11,7 +11,9 @@ invariant-nodes g l =
       met : length l.met ≡ length l.fn.met;
       queue : length l.queue ≡ length l.fn.queue;
       flags : length l.flags ≡ length l.fn.flags;
-      sweep : Sweeping g.Ix.IndexType.greatest (g.S.EdgeSource.graph l.fn.source) (g.S.EdgeSource.graph l.source) (λ _. edge_count (g.S.EdgeSource.graph l.fn.source)) (take l.count l.below) (map g.Ix.IndexType.number l.flags) l.k (g.S.EdgeSource.looks l.fn.source) (g.S.EdgeSource.looks l.source);
+      sweep : Sweeping g.Ix.IndexType.greatest (g.S.EdgeSource.graph l.fn.source) (g.S.EdgeSource.graph l.source)
+          (λ _. edge_count (g.S.EdgeSource.graph l.fn.source)) (take l.count l.below)
+          (map g.Ix.IndexType.number l.flags) l.k (g.S.EdgeSource.looks l.fn.source) (g.S.EdgeSource.looks l.source);
     }
 
 abbrev pub decreases-nodes : goal.decreases-nodes

@@ -9,7 +9,13 @@ use Rattle.daggy_graph.proofs.graph.DiGraph.add_node.Goals as goal
 
 pub put_node-n-requires-clause-index_left : goal.put_node-n-requires-clause-index_left
 put_node-n-requires-clause-index_left g c =
-    omega (arith, c.requires, ap (λ s. node_count s.graph) c.self.view_is, count-slots (λ x. x.weight) c.self.inside.nodes.items, ap length c.reserve.ensures.items)
+    omega (
+      arith,
+      c.requires,
+      ap (λ s. node_count s.graph) c.self.view_is,
+      count-slots (λ x. x.weight) c.self.inside.nodes.items,
+      ap length c.reserve.ensures.items,
+    )
 
 pub put_node-n-requires-clause-capacity : goal.put_node-n-requires-clause-capacity
 put_node-n-requires-clause-capacity g c = search rules
@@ -20,4 +26,5 @@ invariant_of-self-2 g c = Stores-itself _ _ _ _ c.put_node-n.ensures.stored
 pub returns-clause-added : goal.returns-clause-added
 returns-clause-added g c =
     state_changed _ _ _ _ (λ h. with_node h c.args.weight) c.self.view_is
-    (stored_is _ _ _ _ c.put_node-n.ensures.stored ∙ ap (λ l. with_node (stored_graph l c.self.inside.edges.items) c.args.weight) c.reserve.ensures.items)
+    (stored_is _ _ _ _ c.put_node-n.ensures.stored
+    ∙ ap (λ l. with_node (stored_graph l c.self.inside.edges.items) c.args.weight) c.reserve.ensures.items)

@@ -5,4 +5,5 @@ use Rattle.daggy_graph.proofs.graph.DiGraph.contains_edge.Goals as goal
 
 pub returns : goal.returns
 returns g c =
-    rw (← c.self.view_is) (holds_iff plain c.self.inside.edges.items _ _ _ c.index.ensures.value (omega (arith, c.len.ensures)))
+    rw (← c.self.view_is)
+    (holds_iff plain c.self.inside.edges.items _ _ _ c.index.ensures.value (omega (arith, c.len.ensures)))

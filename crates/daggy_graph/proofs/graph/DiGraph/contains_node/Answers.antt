@@ -4,4 +4,5 @@ use Rattle.daggy_graph.proofs.graph.DiGraph.contains_node.Goals as goal
 
 pub returns : goal.returns
 returns g c =
-    rw (← c.self.view_is) (holds_iff (λ x. x.weight) c.self.inside.nodes.items _ _ _ c.index.ensures.value (omega (arith, c.len.ensures)))
+    rw (← c.self.view_is)
+    (holds_iff (λ x. x.weight) c.self.inside.nodes.items _ _ _ c.index.ensures.value (omega (arith, c.len.ensures)))

@@ -11,17 +11,24 @@ pub invariant_of-result : goal.invariant_of-result
 invariant_of-result g c =
     let end = g.Ix.IndexType.greatest in
     let n = g.Ix.IndexType.number c.args.n in
-    let first = c.of_edge.ensures ∙ c.first_edge-first.ensures ∙ ap (λ s. first_of end (list_at c.args.dir s.graph n)) (sym c.self.view_is) in
-    subst (λ l. IsOnList end c.args.dir l c.of_edge.result) (sym c.as_slice.ensures.value) (IsOnList-begins end c.self.inside.nodes.items c.self.inside.edges.items c.self.invariant c.args.dir n c.of_edge.result first)
+    let first =
+    c.of_edge.ensures ∙ c.first_edge-first.ensures
+    ∙ ap (λ s. first_of end (list_at c.args.dir s.graph n)) (sym c.self.view_is) in
+    subst (λ l. IsOnList end c.args.dir l c.of_edge.result) (sym c.as_slice.ensures.value) (IsOnList-begins end
+    c.self.inside.nodes.items c.self.inside.edges.items c.self.invariant c.args.dir n c.of_edge.result first)
 
 pub returns-clause-rest : goal.returns-clause-rest
 returns-clause-rest g c =
     let end = g.Ix.IndexType.greatest in
     let n = g.Ix.IndexType.number c.args.n in
-    let first = c.of_edge.ensures ∙ c.first_edge-first.ensures ∙ ap (λ s. first_of end (list_at c.args.dir s.graph n)) (sym c.self.view_is) in
+    let first =
+    c.of_edge.ensures ∙ c.first_edge-first.ensures
+    ∙ ap (λ s. first_of end (list_at c.args.dir s.graph n)) (sym c.self.view_is) in
     ap (λ l. edges_left c.args.dir l c.of_edge.result) c.as_slice.ensures.value
-    ∙ edges_begin end c.self.inside.nodes.items c.self.inside.edges.items c.self.invariant c.args.dir n c.of_edge.result first
+    ∙ edges_begin end c.self.inside.nodes.items c.self.inside.edges.items c.self.invariant c.args.dir n c.of_edge.result
+    first
     ∙ ap (λ s. edges_at c.args.dir s.graph n) c.self.view_is
 
 pub returns-clause-fits : goal.returns-clause-fits
-returns-clause-fits g c = omega (arith, edges_few c.args.dir c.as_slice.result.now c.of_edge.result, c.as_slice.ensures.len)
+returns-clause-fits g c =
+    omega (arith, edges_few c.args.dir c.as_slice.result.now c.of_edge.result, c.as_slice.ensures.len)

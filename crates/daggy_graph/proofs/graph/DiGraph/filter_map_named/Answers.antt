@@ -12,9 +12,14 @@ returns-clause-filtered g c =
     let names = c.filter_nodes.new.names.items in
     let middle = stored_graph c.filter_nodes.new.new.items c.in_ok-edges.edges.items in
     let new = stored_graph c.filter_edges.new.nodes.items c.filter_edges.new.new.items in
-    let nodes_are = subst (λ l. FiltersNodes (goal.F-step g) g.Ix.IndexType.of c.args.f 0 (map weight_of l) empty names middle) c.as_slice.ensures.value c.filter_nodes.ensures.filtered in
-    let edges_are = subst (λ l. FiltersEdges (goal.G-step g) g.Ix.IndexType.of names c.args.g 0 (map plain_edge l) middle new) c.as_slice-2.ensures.value c.filter_edges.ensures.filtered in
-    subst (λ s. IsFilteredAs g.Ix.IndexType.of (goal.F-step g) (goal.G-step g) c.args.f c.args.g names s.graph new) c.self.view_is (record { names = names; middle = middle; nodes = nodes_are; edges = edges_are }, refl)
+    let nodes_are =
+    subst (λ l. FiltersNodes (goal.F-step g) g.Ix.IndexType.of c.args.f 0 (map weight_of l) empty names middle)
+    c.as_slice.ensures.value c.filter_nodes.ensures.filtered in
+    let edges_are =
+    subst (λ l. FiltersEdges (goal.G-step g) g.Ix.IndexType.of names c.args.g 0 (map plain_edge l) middle new)
+    c.as_slice-2.ensures.value c.filter_edges.ensures.filtered in
+    subst (λ s. IsFilteredAs g.Ix.IndexType.of (goal.F-step g) (goal.G-step g) c.args.f c.args.g names s.graph new)
+    c.self.view_is (record { names = names; middle = middle; nodes = nodes_are; edges = edges_are }, refl)
 
 pub returns-clause-descending : goal.returns-clause-descending
 returns-clause-descending g c = ListsDescend-filtered _ _ _ _ _ _ _ (returns-clause-filtered g c).0

@@ -18,5 +18,9 @@ returns g c =
     let mk : _ → State g.row.N.Denot g.row.E.Denot = λ h. record { graph = h; looks = c.new.result.count } in
     let read = option_map (edge_of {E = g.row.E.Denot} g.Ix.IndexType.number) in
     let shown = stored_is _ _ _ _ c.make_edges.ensures.stored
-    ∙ ap (λ l. graph_of_slots l (map plain_edge c.make_edges.new.edges.items)) (c.make_edges.ensures.nodes ∙ c.make_nodes.ensures.made) ∙ ap (graph_of_slots c.args.nodes.items) c.make_edges.ensures.made in
-    ap mk shown ∙ ap (λ k. record { graph = graph_of_slots c.args.nodes.items (map read c.args.edges.items); looks = k }) c.new.ensures
+    ∙ ap (λ l. graph_of_slots l (map plain_edge c.make_edges.new.edges.items))
+    (c.make_edges.ensures.nodes ∙ c.make_nodes.ensures.made)
+    ∙ ap (graph_of_slots c.args.nodes.items) c.make_edges.ensures.made in
+    ap mk shown
+    ∙ ap (λ k. record { graph = graph_of_slots c.args.nodes.items (map read c.args.edges.items); looks = k })
+    c.new.ensures

@@ -10,6 +10,11 @@ returns g c =
     let edges = c.self.inside.edges.items in
     let end = g.Ix.IndexType.greatest in
     let e = g.Ix.IndexType.number c.args.e in
-    let within = slot_within (λ z. record { parent = z.parent; child = z.child; weight = z.weight }) edges e (rw (← c.self.view_is) at c.requires) in
-    let reads : c.index-x.result.now ≡ get_or edges e c.index-x.result.now = c.index-x.ensures ∙ ap (λ z. get_or edges z c.index-x.result.now) c.index.ensures.value in
-    c.edge.ensures.value ∙ c.next.ensures ∙ cursor_shown end c.self.inside.nodes.items edges c.args.dir c.self.invariant e c.index-x.result.now within reads ∙ ap (λ s. cursor_after c.args.dir end s.graph e (edge_at s.graph e)) c.self.view_is
+    let within =
+    slot_within (λ z. record { parent = z.parent; child = z.child; weight = z.weight }) edges e
+    (rw (← c.self.view_is) at c.requires) in
+    let reads : c.index-x.result.now ≡ get_or edges e c.index-x.result.now =
+    c.index-x.ensures ∙ ap (λ z. get_or edges z c.index-x.result.now) c.index.ensures.value in
+    c.edge.ensures.value ∙ c.next.ensures
+    ∙ cursor_shown end c.self.inside.nodes.items edges c.args.dir c.self.invariant e c.index-x.result.now within reads
+    ∙ ap (λ s. cursor_after c.args.dir end s.graph e (edge_at s.graph e)) c.self.view_is

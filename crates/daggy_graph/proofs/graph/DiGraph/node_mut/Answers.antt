@@ -9,7 +9,8 @@ use Rattle.daggy_graph.proofs.graph.DiGraph.node_mut.Goals as goal
 
 pub index_mut-x-requires : goal.index_mut-x-requires
 index_mut-x-requires g c =
-    let within = slot_within (λ x. x.weight) c.self.inside.nodes.items _ (rw (← c.self.view_is) at c.requires) in omega (arith, within, c.index.ensures.value)
+    let within = slot_within (λ x. x.weight) c.self.inside.nodes.items _ (rw (← c.self.view_is) at c.requires) in
+    omega (arith, within, c.index.ensures.value)
 
 pub invariant_of-self-lent : goal.invariant_of-self-lent
 invariant_of-self-lent g c w =
@@ -22,7 +23,18 @@ returns g c =
     let n = g.Ix.IndexType.number c.args.n in
     let within = slot_within (λ x. x.weight) c.self.inside.nodes.items n (rw (← c.self.view_is) at c.requires) in
     let inside : c.index.result < length c.self.inside.nodes.items = omega (arith, within, c.index.ensures.value) in
-    let value = ap (λ i. node_weight (stored_graph c.self.inside.nodes.items c.self.inside.edges.items) i) (sym c.index.ensures.value) ∙ slot_is (λ x. x.weight) c.self.inside.nodes.items _ _ inside c.index_mut-x.ensures.value in (
-      (refl, λ w. state_changed _ (stored_graph c.self.inside.nodes.items c.self.inside.edges.items) _ _ (λ h. with_node_weight h n w) c.self.view_is (stored_is _ _ _ _ (Stores-weight _ _ _ _ c.self.invariant _ w _ c.index_mut-x.ensures.value) ∙ ap (λ i. with_node_weight (stored_graph c.self.inside.nodes.items c.self.inside.edges.items) i w) c.index.ensures.value)),
+    let value =
+    ap (λ i. node_weight (stored_graph c.self.inside.nodes.items c.self.inside.edges.items) i)
+    (sym c.index.ensures.value)
+    ∙ slot_is (λ x. x.weight) c.self.inside.nodes.items _ _ inside c.index_mut-x.ensures.value in (
+      (
+        refl,
+        λ w.
+            state_changed _ (stored_graph c.self.inside.nodes.items c.self.inside.edges.items) _ _
+            (λ h. with_node_weight h n w) c.self.view_is
+            (stored_is _ _ _ _ (Stores-weight _ _ _ _ c.self.invariant _ w _ c.index_mut-x.ensures.value)
+            ∙ ap (λ i. with_node_weight (stored_graph c.self.inside.nodes.items c.self.inside.edges.items) i w)
+            c.index.ensures.value),
+      ),
       record { writes_back = tt; value = ap (λ s. node_weight s.graph n) (sym c.self.view_is) ∙ value },
     )

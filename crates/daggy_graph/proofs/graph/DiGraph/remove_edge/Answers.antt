@@ -14,45 +14,59 @@ use Rattle.daggy_graph.proofs.graph.DiGraph.remove_edge.Goals as goal
 
 pub invariant_of-self : goal.invariant_of-self
 invariant_of-self g c =
-    let same : c.swap_remove-weight.new.self.items ≡ swap_remove c.detach.new.edges.items c.of_edge.result c.swap_remove-weight.result =
-    c.swap_remove-weight.ensures.items ∙ ap (λ z. swap_remove c.detach.new.edges.items z c.swap_remove-weight.result) (c.index-i.ensures.value ∙ sym c.of_edge.ensures) in
+    let same : c.swap_remove-weight.new.self.items
+    ≡ swap_remove c.detach.new.edges.items c.of_edge.result c.swap_remove-weight.result =
+    c.swap_remove-weight.ensures.items
+    ∙ ap (λ z. swap_remove c.detach.new.edges.items z c.swap_remove-weight.result)
+    (c.index-i.ensures.value ∙ sym c.of_edge.ensures) in
     let stored = c.detach.ensures.detached c.swap_remove-weight.result in
-    subst (λ z. Stores g.Ix.IndexType.greatest c.detach.new.nodes.items z (stored_graph c.detach.new.nodes.items z)) (sym same) (Stores-itself _ _ _ _ stored)
+    subst (λ z. Stores g.Ix.IndexType.greatest c.detach.new.nodes.items z (stored_graph c.detach.new.nodes.items z))
+    (sym same) (Stores-itself _ _ _ _ stored)
 
 pub returns-clause-value : goal.returns-clause-value
 returns-clause-value g c =
     let e = g.Ix.IndexType.number c.args.e in
     let left = c.detach.new.edges.items in
     let was = c.self.inside.edges.items in
-    let long : length left ≡ length was = sym (length-map left plain_edge) ∙ ap length c.detach.ensures.edges ∙ length-map was plain_edge in
+    let long : length left ≡ length was =
+    sym (length-map left plain_edge) ∙ ap length c.detach.ensures.edges ∙ length-map was plain_edge in
     let within : c.index-i.result < length left = omega (arith, long, c.if-i-len.false, c.len.ensures) in
-    let there = slot_is plain left c.index-i.result c.swap_remove-weight.result within c.swap_remove-weight.ensures.value in
+    let there =
+    slot_is plain left c.index-i.result c.swap_remove-weight.result within c.swap_remove-weight.ensures.value in
     sym (ap (option_map (λ x. x.weight)) (
-    ap (λ s. edge_at s.graph e) (sym c.self.view_is) ∙ ap (λ l. slot l e) (sym c.detach.ensures.edges) ∙ ap (slot (map plain_edge left)) (sym c.index-i.ensures.value) ∙ there))
+    ap (λ s. edge_at s.graph e) (sym c.self.view_is) ∙ ap (λ l. slot l e) (sym c.detach.ensures.edges)
+    ∙ ap (slot (map plain_edge left)) (sym c.index-i.ensures.value) ∙ there))
 
 pub returns-clause-removed : goal.returns-clause-removed
 returns-clause-removed g c =
-    let same : c.swap_remove-weight.new.self.items ≡ swap_remove c.detach.new.edges.items c.of_edge.result c.swap_remove-weight.result =
-    c.swap_remove-weight.ensures.items ∙ ap (λ z. swap_remove c.detach.new.edges.items z c.swap_remove-weight.result) (c.index-i.ensures.value ∙ sym c.of_edge.ensures) in
+    let same : c.swap_remove-weight.new.self.items
+    ≡ swap_remove c.detach.new.edges.items c.of_edge.result c.swap_remove-weight.result =
+    c.swap_remove-weight.ensures.items
+    ∙ ap (λ z. swap_remove c.detach.new.edges.items z c.swap_remove-weight.result)
+    (c.index-i.ensures.value ∙ sym c.of_edge.ensures) in
     let stored = c.detach.ensures.detached c.swap_remove-weight.result in
     let was = stored_graph c.self.inside.nodes.items c.self.inside.edges.items in
     state_changed _ was _ _ (λ h. without_edge Compact h (g.Ix.IndexType.number c.args.e)) c.self.view_is
-    (ap (stored_graph c.detach.new.nodes.items) same ∙ stored_is _ _ _ _ stored ∙ ap (without_edge Compact was) c.of_edge.ensures)
+    (ap (stored_graph c.detach.new.nodes.items) same ∙ stored_is _ _ _ _ stored
+    ∙ ap (without_edge Compact was) c.of_edge.ensures)
 
 pub returns-then-i-len-clause-value : goal.returns-then-i-len-clause-value
 returns-then-i-len-clause-value g c =
     let past : length c.self.inside.edges.items ≤ c.index-i.result = omega (arith, c.if-i-len.true, c.len.ensures) in
-    ap (option_map (λ x. x.weight)) (edge_got _ _ _ c.args.self.now c.self.view_is _ _ c.index-i.ensures.value _ _ refl (got_none _ _ past))
+    ap (option_map (λ x. x.weight))
+    (edge_got _ _ _ c.args.self.now c.self.view_is _ _ c.index-i.ensures.value _ _ refl (got_none _ _ past))
 
 pub detach-requires-clause-stored : goal.detach-requires-clause-stored
 detach-requires-clause-stored g c = c.self.invariant
 
 pub detach-requires-clause-edge : goal.detach-requires-clause-edge
-detach-requires-clause-edge g c = omega (arith, c.if-i-len.false, c.len.ensures, c.of_edge.ensures, c.index-i.ensures.value)
+detach-requires-clause-edge g c =
+    omega (arith, c.if-i-len.false, c.len.ensures, c.of_edge.ensures, c.index-i.ensures.value)
 
 pub swap_remove-weight-requires : goal.swap_remove-weight-requires
 swap_remove-weight-requires g c =
     let left = c.detach.new.edges.items in
     let was = c.self.inside.edges.items in
-    let long : length left ≡ length was = sym (length-map left plain_edge) ∙ ap length c.detach.ensures.edges ∙ length-map was plain_edge in
+    let long : length left ≡ length was =
+    sym (length-map left plain_edge) ∙ ap length c.detach.ensures.edges ∙ length-map was plain_edge in
     omega (arith, long, c.if-i-len.false, c.len.ensures)

@@ -22,11 +22,14 @@ pub invariant_of-self : goal.invariant_of-self
 invariant_of-self g c =
     let orders = map (numbers_of g.Ix.IndexType.number) c.args.orders.now in
     let are = subst (λ s. AreOrders s.graph orders) (sym c.self.view_is) c.requires in
-    Stores-itself _ _ _ _ (ordered c.self.invariant orders are _ _ c.thread_nodes.ensures.nodes c.thread_nodes.ensures.edges c.thread_nodes.ensures.linked)
+    Stores-itself _ _ _ _ (ordered c.self.invariant orders are _ _ c.thread_nodes.ensures.nodes
+    c.thread_nodes.ensures.edges c.thread_nodes.ensures.linked)
 
 pub returns : goal.returns
 returns g c =
     let orders = map (numbers_of g.Ix.IndexType.number) c.args.orders.now in
     let are = subst (λ s. AreOrders s.graph orders) (sym c.self.view_is) c.requires in
-    let stored = ordered c.self.invariant orders are _ _ c.thread_nodes.ensures.nodes c.thread_nodes.ensures.edges c.thread_nodes.ensures.linked in
+    let stored =
+    ordered c.self.invariant orders are _ _ c.thread_nodes.ensures.nodes c.thread_nodes.ensures.edges
+    c.thread_nodes.ensures.linked in
     state_changed _ _ _ _ (λ h. with_orders h orders) c.self.view_is (stored_is _ _ _ _ stored)

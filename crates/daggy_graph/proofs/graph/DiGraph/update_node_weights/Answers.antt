@@ -6,7 +6,8 @@ use Rattle.daggy_graph.proofs.graph.DiGraph.update_node_weights.Goals as goal
 
 pub invariant_of-self : goal.invariant_of-self
 invariant_of-self g c =
-    Stores-nodes_rewritten (goal.F-step g) g.Ix.IndexType.of c.args.f _ _ _ c.write_nodes.ensures g.Ix.IndexType.greatest c.self.invariant
+    Stores-nodes_rewritten (goal.F-step g) g.Ix.IndexType.of c.args.f _ _ _ c.write_nodes.ensures
+    g.Ix.IndexType.greatest c.self.invariant
 
 pub returns-clause-written : goal.returns-clause-written
 returns-clause-written g c =

@@ -20,18 +20,24 @@ at_edges-requires-clause-second g c =
     omega (arith, within, c.index-2.ensures.value, ap length c.as_mut_slice.ensures.value)
 
 pub at_edges-requires-clause-different : goal.at_edges-requires-clause-different
-at_edges-requires-clause-different g c same = c.requires.different (sym c.index.ensures.value ∙ same ∙ c.index-2.ensures.value)
+at_edges-requires-clause-different g c same =
+    c.requires.different (sym c.index.ensures.value ∙ same ∙ c.index-2.ensures.value)
 
 pub at_edges-requires-clause-callable : goal.at_edges-requires-clause-callable
 at_edges-requires-clause-callable g c p q first second =
     let shown = edge_shown c.self.inside.nodes.items c.self.inside.edges.items _ c.args.self.now c.self.view_is in
     let lent_is = c.as_mut_slice.ensures.value in
-    c.requires.callable p q (shown _ _ c.index.ensures.value _ _ lent_is first) (shown _ _ c.index-2.ensures.value _ _ lent_is second)
+    c.requires.callable p q (shown _ _ c.index.ensures.value _ _ lent_is first)
+    (shown _ _ c.index-2.ensures.value _ _ lent_is second)
 
 pub invariant_of-self : goal.invariant_of-self
 invariant_of-self g c =
     let r = c.at_edges.ensures in
-    Stores-itself _ _ _ _ (edges_updated _ _ _ _ c.self.invariant _ _ _ _ _ c.index.ensures.value c.index-2.ensures.value _ _ r.first_left.now r.second_left.now (slot_within plain c.self.inside.edges.items _ (rw (← c.self.view_is) at c.requires.first)) (slot_within plain c.self.inside.edges.items _ (rw (← c.self.view_is) at c.requires.second)) c.self.inside.edges.ok.0 c.as_mut_slice.ensures.value r.leaves)
+    Stores-itself _ _ _ _
+    (edges_updated _ _ _ _ c.self.invariant _ _ _ _ _ c.index.ensures.value c.index-2.ensures.value _ _ r.first_left.now
+    r.second_left.now (slot_within plain c.self.inside.edges.items _ (rw (← c.self.view_is) at c.requires.first))
+    (slot_within plain c.self.inside.edges.items _ (rw (← c.self.view_is) at c.requires.second))
+    c.self.inside.edges.ok.0 c.as_mut_slice.ensures.value r.leaves)
 
 pub returns : goal.returns
 returns g c =
@@ -41,7 +47,15 @@ returns g c =
     let nodes = c.self.inside.nodes.items in
     let edges = c.self.inside.edges.items in
     called_at g.F.FnOnce c.args.f _ _ _ _ _ r.first r.second r.first_left r.second_left
-    (edge_shown nodes edges _ c.args.self.now c.self.view_is a c.index.result c.index.ensures.value _ _ c.as_mut_slice.ensures.value r.shows.0)
-    (edge_shown nodes edges _ c.args.self.now c.self.view_is b c.index-2.result c.index-2.ensures.value _ _ c.as_mut_slice.ensures.value r.shows.1)
+    (edge_shown nodes edges _ c.args.self.now c.self.view_is a c.index.result c.index.ensures.value _ _
+    c.as_mut_slice.ensures.value r.shows.0)
+    (edge_shown nodes edges _ c.args.self.now c.self.view_is b c.index-2.result c.index-2.ensures.value _ _
+    c.as_mut_slice.ensures.value r.shows.1)
     r.called
-    (state_changed _ (stored_graph nodes edges) _ _ (λ h. with_edge_weight (with_edge_weight h a r.first_left.now) b r.second_left.now) c.self.view_is (stored_is _ _ _ _ (edges_updated _ _ _ _ c.self.invariant _ _ _ _ _ c.index.ensures.value c.index-2.ensures.value _ _ r.first_left.now r.second_left.now (slot_within plain c.self.inside.edges.items _ (rw (← c.self.view_is) at c.requires.first)) (slot_within plain c.self.inside.edges.items _ (rw (← c.self.view_is) at c.requires.second)) c.self.inside.edges.ok.0 c.as_mut_slice.ensures.value r.leaves)))
+    (state_changed _ (stored_graph nodes edges) _ _
+    (λ h. with_edge_weight (with_edge_weight h a r.first_left.now) b r.second_left.now) c.self.view_is
+    (stored_is _ _ _ _
+    (edges_updated _ _ _ _ c.self.invariant _ _ _ _ _ c.index.ensures.value c.index-2.ensures.value _ _ r.first_left.now
+    r.second_left.now (slot_within plain c.self.inside.edges.items _ (rw (← c.self.view_is) at c.requires.first))
+    (slot_within plain c.self.inside.edges.items _ (rw (← c.self.view_is) at c.requires.second))
+    c.self.inside.edges.ok.0 c.as_mut_slice.ensures.value r.leaves)))

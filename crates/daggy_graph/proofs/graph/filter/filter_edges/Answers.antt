@@ -6,7 +6,8 @@ use Rattle.daggy_cells.specs.Fields.{plain_edge}
 use Rattle.daggy_base.specs.Filtering.{new_ends}
 use Rattle.daggy_graph.proofs.StoredLemmas.{stored_is, Stores-itself}
 use Rattle.daggy_cells.proofs.MappingLemmas.{CalledAt-from_step}
-use Rattle.daggy_graph.proofs.FilterLemmas.{EdgesBelow, EdgesBelow-passed, EdgesBelow-called, EdgesBelow-done, both_are, named_within}
+use Rattle.daggy_graph.proofs.FilterLemmas.{EdgesBelow, EdgesBelow-passed, EdgesBelow-called, EdgesBelow-done, both_are}
+use Rattle.daggy_graph.proofs.FilterLemmas.{named_within}
 use Rattle.daggy_graph.proofs.graph.filter.filter_edges.Goals as goal
 
 pub each-preserved-in-None : goal.each-preserved-in-None
@@ -23,7 +24,8 @@ each-preserved-in-None g c =
       omega (arith, c.each.invariant.2),
       c.each.invariant.3,
       c.each.invariant.4,
-      EdgesBelow-passed (goal.G-step g) g.Ix.IndexType.of c.args.names.now.items c.args.g (map plain_edge edges) _ c.each.g _ c.each.i p slots read lost c.each.invariant.5,
+      EdgesBelow-passed (goal.G-step g) g.Ix.IndexType.of c.args.names.now.items c.args.g (map plain_edge edges) _
+          c.each.g _ c.each.i p slots read lost c.each.invariant.5,
     )
 
 pub keep_edge-requires-clause-parent : goal.keep_edge-requires-clause-parent
@@ -48,17 +50,24 @@ each-preserved g c =
     let within : c.each.i < length edges = omega arith in
     let read = get_or-map plain_edge edges c.each.i x (Some p) within ∙ ap plain_edge (sym c.index-edges-i.is) in
     let slots : c.each.i < length (map plain_edge edges) = omega (arith, within, length-map edges plain_edge) in
-    let called = CalledAt-from_step (goal.G-step g) g.Ix.IndexType.of c.each.g c.each.i _ c.g-answer.result c.g-answer.new.self (rw c.new.ensures.value at c.g-answer.ensures) in
-    let next = EdgesBelow-called (goal.G-step g) g.Ix.IndexType.of c.args.names.now.items c.args.g (map plain_edge edges) start c.each.g c.g-answer.new.self h c.each.i p c.in-Some.ends.0 c.in-Some.ends.1 c.g-answer.result slots read (sym c.in-Some.ensures) called c.each.invariant.5 in
+    let called =
+    CalledAt-from_step (goal.G-step g) g.Ix.IndexType.of c.each.g c.each.i _ c.g-answer.result c.g-answer.new.self
+    (rw c.new.ensures.value at c.g-answer.ensures) in
+    let next =
+    EdgesBelow-called (goal.G-step g) g.Ix.IndexType.of c.args.names.now.items c.args.g (map plain_edge edges) start
+    c.each.g c.g-answer.new.self h c.each.i p c.in-Some.ends.0 c.in-Some.ends.1 c.g-answer.result slots read
+    (sym c.in-Some.ensures) called c.each.invariant.5 in
     let shown = stored_is _ _ _ _ c.keep_edge.ensures.stored in (
       search of_calls,
       omega (arith, c.keep_edge.ensures.capacity, c.each.invariant.1),
       omega (arith, c.keep_edge.ensures.len, c.each.invariant.2),
       c.keep_edge.ensures.nodes ∙ c.each.invariant.3,
       Stores-itself _ _ _ _ c.keep_edge.ensures.stored,
-      subst (λ z. EdgesBelow (goal.G-step g) g.Ix.IndexType.of c.args.names.now.items c.args.g (map plain_edge edges) start c.g-answer.new.self z (c.each.i + 1)) (sym shown) next,
+      subst (λ z. EdgesBelow (goal.G-step g) g.Ix.IndexType.of c.args.names.now.items c.args.g (map plain_edge edges)
+          start c.g-answer.new.self z (c.each.i + 1)) (sym shown) next,
     )
 
 pub returns-clause-filtered : goal.returns-clause-filtered
 returns-clause-filtered g c =
-    EdgesBelow-done (goal.G-step g) g.Ix.IndexType.of c.args.names.now.items _ _ _ _ _ c.each.i (omega (arith, length-map c.args.edges.now plain_edge)) c.each.invariant.5
+    EdgesBelow-done (goal.G-step g) g.Ix.IndexType.of c.args.names.now.items _ _ _ _ _ c.each.i
+    (omega (arith, length-map c.args.edges.now plain_edge)) c.each.invariant.5

@@ -11,4 +11,5 @@ invariant-each g l =
     × (length l.new.items ≤ l.i)
     × (length l.nodes.items ≡ length l.fn.nodes.items)
     × Stores g.Ix.IndexType.greatest l.nodes.items l.new.items (stored_graph l.nodes.items l.new.items)
-    × EdgesBelow (goal.G-step g) g.Ix.IndexType.of l.names.items l.fn.g (map plain_edge l.edges) (stored_graph l.fn.nodes.items l.fn.new.items) l.g (stored_graph l.nodes.items l.new.items) l.i
+    × EdgesBelow (goal.G-step g) g.Ix.IndexType.of l.names.items l.fn.g (map plain_edge l.edges)
+    (stored_graph l.fn.nodes.items l.fn.new.items) l.g (stored_graph l.nodes.items l.new.items) l.i

@@ -15,17 +15,26 @@ each-preserved g c =
     let h = stored_graph c.each.new.items c.args.edges.now.items in
     let within : c.each.i < length nodes = omega arith in
     let read = get_or-map weight_of nodes c.each.i x (Some x.weight) within ∙ ap weight_of (sym c.index-nodes-i.is) in
-    let called = CalledAt-from_step (goal.F-step g) g.Ix.IndexType.of c.each.f c.each.i _ c.f-answer.result c.f-answer.new.self (rw c.new.ensures.value at c.f-answer.ensures) in
+    let called =
+    CalledAt-from_step (goal.F-step g) g.Ix.IndexType.of c.each.f c.each.i _ c.f-answer.result c.f-answer.new.self
+    (rw c.new.ensures.value at c.f-answer.ensures) in
     let slots : c.each.i < length (map weight_of nodes) = omega (arith, within, length-map nodes weight_of) in
-    let next = FilteredBelow-called (goal.F-step g) g.Ix.IndexType.of c.args.f (map weight_of nodes) c.each.f c.f-answer.new.self c.each.names.items h c.each.i x.weight c.f-answer.result slots read called c.each.invariant.7 in
+    let next =
+    FilteredBelow-called (goal.F-step g) g.Ix.IndexType.of c.args.f (map weight_of nodes) c.each.f c.f-answer.new.self
+    c.each.names.items h c.each.i x.weight c.f-answer.result slots read called c.each.invariant.7 in
     let shown = stored_is _ _ _ _ c.keep_node.ensures.stored in
-    let one = subst (λ ns. FilteredBelow (goal.F-step g) g.Ix.IndexType.of c.args.f (map weight_of nodes) c.f-answer.new.self ns (with_kept_node h c.f-answer.result) (c.each.i + 1)) (sym c.keep_node.ensures.names) next in
-    let both = subst (λ z. FilteredBelow (goal.F-step g) g.Ix.IndexType.of c.args.f (map weight_of nodes) c.f-answer.new.self c.keep_node.new.names.items z (c.each.i + 1)) (sym shown) one in (
+    let one =
+    subst (λ ns. FilteredBelow (goal.F-step g) g.Ix.IndexType.of c.args.f (map weight_of nodes) c.f-answer.new.self ns
+    (with_kept_node h c.f-answer.result) (c.each.i + 1)) (sym c.keep_node.ensures.names) next in
+    let both =
+    subst (λ z. FilteredBelow (goal.F-step g) g.Ix.IndexType.of c.args.f (map weight_of nodes) c.f-answer.new.self
+    c.keep_node.new.names.items z (c.each.i + 1)) (sym shown) one in (
       search of_calls,
       omega (arith, c.keep_node.ensures.capacity, c.each.invariant.1),
       omega (arith, c.keep_node.ensures.capacity_for_names, c.each.invariant.2),
       omega (arith, c.keep_node.ensures.len, c.each.invariant.3),
-      ap length c.keep_node.ensures.names ∙ length_push c.each.names.items (named h c.f-answer.result) ∙ ap (λ n. n + 1) c.each.invariant.4,
+      ap length c.keep_node.ensures.names ∙ length_push c.each.names.items (named h c.f-answer.result)
+          ∙ ap (λ n. n + 1) c.each.invariant.4,
       c.keep_node.ensures.below c.each.invariant.5,
       Stores-itself _ _ _ _ c.keep_node.ensures.stored,
       both,
@@ -33,4 +42,5 @@ each-preserved g c =
 
 pub returns-clause-filtered : goal.returns-clause-filtered
 returns-clause-filtered g c =
-    FilteredBelow-done (goal.F-step g) g.Ix.IndexType.of _ _ _ _ _ c.each.i (omega (arith, length-map c.args.nodes.now weight_of)) c.each.invariant.7
+    FilteredBelow-done (goal.F-step g) g.Ix.IndexType.of _ _ _ _ _ c.each.i
+    (omega (arith, length-map c.args.nodes.now weight_of)) c.each.invariant.7

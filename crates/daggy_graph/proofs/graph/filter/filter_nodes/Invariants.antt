@@ -14,4 +14,5 @@ invariant-each g l =
     × (length l.names.items ≡ l.i)
     × AreNamesBelow (length l.new.items) l.names.items
     × Stores g.Ix.IndexType.greatest l.new.items l.edges.items (stored_graph l.new.items l.edges.items)
-    × FilteredBelow (goal.F-step g) g.Ix.IndexType.of l.fn.f (map weight_of l.nodes) l.f l.names.items (stored_graph l.new.items l.edges.items) l.i
+    × FilteredBelow (goal.F-step g) g.Ix.IndexType.of l.fn.f (map weight_of l.nodes) l.f l.names.items
+    (stored_graph l.new.items l.edges.items) l.i

@@ -16,7 +16,9 @@ each-preserved-in-None-x g c =
     let read = option_map (edge_of {E = g.row.E.Denot} g.Ix.IndexType.number) in
     let made = map plain_edge c.each.edges.items in
     let later = map read (into_iter_items c.next.new.self) in
-    let is : made ++ None ∷ later ≡ map read c.args.given.items = ap (λ o. made ++ o ∷ later) (sym (ap read c.in-None-x.is)) ∙ ap (λ l. made ++ map read l) (sym c.in-Some.ensures.steps.0) ∙ c.each.invariant.5 in
+    let is : made ++ None ∷ later ≡ map read c.args.given.items =
+    ap (λ o. made ++ o ∷ later) (sym (ap read c.in-None-x.is))
+    ∙ ap (λ l. made ++ map read l) (sym c.in-Some.ensures.steps.0) ∙ c.each.invariant.5 in
     absurd (vacant_is_listed made later (map read c.args.given.items) (sym is) c.requires.full)
 
 pub put_edge-e-requires-clause-stored : goal.put_edge-e-requires-clause-stored
@@ -28,7 +30,9 @@ put_edge-e-requires-clause-parent g c =
     let y = edge_of g.Ix.IndexType.number c.in-Some-x.edge in
     let made = map plain_edge c.each.edges.items in
     let later = map read (into_iter_items c.next.new.self) in
-    let is : made ++ Some y ∷ later ≡ map read c.args.given.items = ap (λ o. made ++ o ∷ later) (sym (ap read c.in-Some-x.is)) ∙ ap (λ l. made ++ map read l) (sym c.in-Some.ensures.steps.0) ∙ c.each.invariant.5 in
+    let is : made ++ Some y ∷ later ≡ map read c.args.given.items =
+    ap (λ o. made ++ o ∷ later) (sym (ap read c.in-Some-x.is))
+    ∙ ap (λ l. made ++ map read l) (sym c.in-Some.ensures.steps.0) ∙ c.each.invariant.5 in
     let within = ends_within _ _ _ made later y c.each.nodes.items c.requires.makes_graph is c.each.invariant.4 in
     omega (arith, within.0, c.of_node-parent.ensures)
 
@@ -38,7 +42,9 @@ put_edge-e-requires-clause-child g c =
     let y = edge_of g.Ix.IndexType.number c.in-Some-x.edge in
     let made = map plain_edge c.each.edges.items in
     let later = map read (into_iter_items c.next.new.self) in
-    let is : made ++ Some y ∷ later ≡ map read c.args.given.items = ap (λ o. made ++ o ∷ later) (sym (ap read c.in-Some-x.is)) ∙ ap (λ l. made ++ map read l) (sym c.in-Some.ensures.steps.0) ∙ c.each.invariant.5 in
+    let is : made ++ Some y ∷ later ≡ map read c.args.given.items =
+    ap (λ o. made ++ o ∷ later) (sym (ap read c.in-Some-x.is))
+    ∙ ap (λ l. made ++ map read l) (sym c.in-Some.ensures.steps.0) ∙ c.each.invariant.5 in
     let within = ends_within _ _ _ made later y c.each.nodes.items c.requires.makes_graph is c.each.invariant.4 in
     omega (arith, within.1, c.of_node-child.ensures)
 
@@ -46,15 +52,23 @@ pub put_edge-e-requires-clause-index_left : goal.put_edge-e-requires-clause-inde
 put_edge-e-requires-clause-index_left g c =
     let read = option_map (edge_of {E = g.row.E.Denot} g.Ix.IndexType.number) in
     let made = map plain_edge c.each.edges.items in
-    let is : made ++ read c.in-Some.x ∷ map read (into_iter_items c.next.new.self) ≡ map read c.args.given.items = ap (λ l. made ++ map read l) (sym c.in-Some.ensures.steps.0) ∙ c.each.invariant.5 in
+    let is : made ++ read c.in-Some.x ∷ map read (into_iter_items c.next.new.self) ≡ map read c.args.given.items =
+    ap (λ l. made ++ map read l) (sym c.in-Some.ensures.steps.0) ∙ c.each.invariant.5 in
     omega (arith, one_left _ _ _ _ is, length-map c.each.edges.items plain_edge, c.requires.makes_graph.few_edges)
 
 pub put_edge-e-requires-clause-capacity : goal.put_edge-e-requires-clause-capacity
 put_edge-e-requires-clause-capacity g c =
     let read = option_map (edge_of {E = g.row.E.Denot} g.Ix.IndexType.number) in
     let made = map plain_edge c.each.edges.items in
-    let is : made ++ read c.in-Some.x ∷ map read (into_iter_items c.next.new.self) ≡ map read c.args.given.items = ap (λ l. made ++ map read l) (sym c.in-Some.ensures.steps.0) ∙ c.each.invariant.5 in
-    omega (arith, one_left _ _ _ _ is, length-map c.each.edges.items plain_edge, length-map c.args.given.items read, c.each.invariant.2)
+    let is : made ++ read c.in-Some.x ∷ map read (into_iter_items c.next.new.self) ≡ map read c.args.given.items =
+    ap (λ l. made ++ map read l) (sym c.in-Some.ensures.steps.0) ∙ c.each.invariant.5 in
+    omega (
+      arith,
+      one_left _ _ _ _ is,
+      length-map c.each.edges.items plain_edge,
+      length-map c.args.given.items read,
+      c.each.invariant.2,
+    )
 
 pub each-preserved : goal.each-preserved
 each-preserved g c =
@@ -63,11 +77,17 @@ each-preserved g c =
     let y = edge_of g.Ix.IndexType.number c.in-Some-x.edge in
     let made = map plain_edge c.each.edges.items in
     let later = map read (into_iter_items c.next.new.self) in
-    let is : made ++ Some y ∷ later ≡ map read c.args.given.items = ap (λ o. made ++ o ∷ later) (sym (ap read c.in-Some-x.is)) ∙ ap (λ l. made ++ map read l) (sym c.in-Some.ensures.steps.0) ∙ c.each.invariant.5 in
+    let is : made ++ Some y ∷ later ≡ map read c.args.given.items =
+    ap (λ o. made ++ o ∷ later) (sym (ap read c.in-Some-x.is))
+    ∙ ap (λ l. made ++ map read l) (sym c.in-Some.ensures.steps.0) ∙ c.each.invariant.5 in
     let mk : _ → _ → Edge g.row.E.Denot = λ a b. record { parent = a; child = b; weight = w } in
     let within = ends_within _ _ _ made later y c.each.nodes.items c.requires.makes_graph is c.each.invariant.4 in
-    let built = edge_built _ _ _ c.each.invariant.3 _ _ w (omega (arith, within.0, c.of_node-parent.ensures)) (omega (arith, within.1, c.of_node-child.ensures)) _ _ c.put_edge-e.ensures.stored in
-    let pushed = ap (λ a. made ++ Some (mk a c.of_node-child.result) ∷ []) c.of_node-parent.ensures ∙ ap (λ b. made ++ Some (mk y.parent b) ∷ []) c.of_node-child.ensures in (
+    let built =
+    edge_built _ _ _ c.each.invariant.3 _ _ w (omega (arith, within.0, c.of_node-parent.ensures))
+    (omega (arith, within.1, c.of_node-child.ensures)) _ _ c.put_edge-e.ensures.stored in
+    let pushed =
+    ap (λ a. made ++ Some (mk a c.of_node-child.result) ∷ []) c.of_node-parent.ensures
+    ∙ ap (λ b. made ++ Some (mk y.parent b) ∷ []) c.of_node-child.ensures in (
       tt,
       tt,
       omega (arith, c.put_edge-e.ensures.capacity, c.each.invariant.2),

@@ -13,4 +13,5 @@ invariant-each g l =
     × (length l.fn.given.items ≤ vec_capacity l.edges)
     × IsBuilt g.Ix.IndexType.greatest l.nodes.items l.edges.items
     × (map weight_of l.nodes.items ≡ map weight_of l.fn.nodes.items)
-    × (map plain_edge l.edges.items ++ map (option_map (edge_of g.Ix.IndexType.number)) (into_iter_items l.x-iterator) ≡ map (option_map (edge_of g.Ix.IndexType.number)) l.fn.given.items)
+    × (map plain_edge l.edges.items ++ map (option_map (edge_of g.Ix.IndexType.number)) (into_iter_items l.x-iterator)
+    ≡ map (option_map (edge_of g.Ix.IndexType.number)) l.fn.given.items)

@@ -5,12 +5,18 @@ use Rattle.daggy_graph.proofs.graph.map.map_nodes.Goals as goal
 
 pub each-preserved : goal.each-preserved
 each-preserved g c =
-    let called = CalledAt-from_step (goal.F-step g) g.Ix.IndexType.of c.each.f c.each.i _ c.f-weight.result c.f-weight.new.self (rw c.new.ensures.value at c.f-weight.ensures) in
+    let called =
+    CalledAt-from_step (goal.F-step g) g.Ix.IndexType.of c.each.f c.each.i _ c.f-weight.result c.f-weight.new.self
+    (rw c.new.ensures.value at c.f-weight.ensures) in
     let within : c.each.i < length c.args.nodes.now = omega arith in (
       search of_calls,
       omega (arith, c.push_reserved.ensures.capacity, c.each.invariant.1),
-      rw (c.push_reserved.ensures.items, c.node_like.ensures) (MappedBelow-called (goal.F-step g) g.Ix.IndexType.of node_weight_in node_with c.args.f c.args.nodes.now c.each.f c.f-weight.new.self c.each.new.items c.each.i c.index-nodes-i.result c.f-weight.result within c.index-nodes-i.is called c.each.invariant.2),
+      rw (c.push_reserved.ensures.items, c.node_like.ensures) (MappedBelow-called (goal.F-step g) g.Ix.IndexType.of
+          node_weight_in node_with c.args.f c.args.nodes.now c.each.f c.f-weight.new.self c.each.new.items c.each.i
+          c.index-nodes-i.result c.f-weight.result within c.index-nodes-i.is called c.each.invariant.2),
     )
 
 pub returns : goal.returns
-returns g c = MappedBelow-done (goal.F-step g) g.Ix.IndexType.of node_weight_in node_with _ _ _ _ _ (omega arith) c.each.invariant.2
+returns g c =
+    MappedBelow-done (goal.F-step g) g.Ix.IndexType.of node_weight_in node_with _ _ _ _ _ (omega arith)
+    c.each.invariant.2

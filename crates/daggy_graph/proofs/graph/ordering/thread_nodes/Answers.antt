@@ -13,27 +13,56 @@ each-init g c = record { weights = refl; lines = refl; rows = λ dir. none_below
 
 pub thread_both-requires-clause-node : goal.thread_both-requires-clause-node
 thread_both-requires-clause-node g c =
-    omega (arith, c.each-test.true, c.len-i-end.ensures, ap length c.each.invariant.weights, length-map c.args.nodes.now.items weight_of, length-map c.each.nodes.items weight_of)
+    omega (
+      arith,
+      c.each-test.true,
+      c.len-i-end.ensures,
+      ap length c.each.invariant.weights,
+      length-map c.args.nodes.now.items weight_of,
+      length-map c.each.nodes.items weight_of,
+    )
 
 pub thread_both-requires-clause-lists : goal.thread_both-requires-clause-lists
 thread_both-requires-clause-lists g c =
-    let within : c.each.i < length c.args.orders.now = omega (arith, c.each-test.true, c.len-i-end.ensures, c.requires.count) in
-    let as_many : length c.each.edges.items ≡ length c.args.edges.now.items = omega (arith, ap length c.each.invariant.lines, length-map c.args.edges.now.items plain_edge, length-map c.each.edges.items plain_edge) in
+    let within : c.each.i < length c.args.orders.now =
+    omega (arith, c.each-test.true, c.len-i-end.ensures, c.requires.count) in
+    let as_many : length c.each.edges.items ≡ length c.args.edges.now.items =
+    omega (
+      arith,
+      ap length c.each.invariant.lines,
+      length-map c.args.edges.now.items plain_edge,
+      length-map c.each.edges.items plain_edge,
+    ) in
     λ dir.
-    let read = order_read g.Ix.IndexType.number dir c.args.orders.now c.each.i c.index-orders-i.result within c.index-orders-i.is in
-    CanThread-as_long _ _ _ (subst (CanThread (length c.args.edges.now.items)) read ((c.requires.lists dir).each c.each.i)) as_many
+    let read =
+    order_read g.Ix.IndexType.number dir c.args.orders.now c.each.i c.index-orders-i.result within
+    c.index-orders-i.is in
+    CanThread-as_long _ _ _
+    (subst (CanThread (length c.args.edges.now.items)) read ((c.requires.lists dir).each c.each.i)) as_many
 
 pub each-preserved : goal.each-preserved
 each-preserved g c =
-    let within : c.each.i < length c.args.orders.now = omega (arith, c.each-test.true, c.len-i-end.ensures, c.requires.count) in
-    let inside : c.each.i < length c.each.nodes.items = omega (arith, c.each-test.true, c.len-i-end.ensures, ap length c.each.invariant.weights, length-map c.args.nodes.now.items weight_of, length-map c.each.nodes.items weight_of) in
+    let within : c.each.i < length c.args.orders.now =
+    omega (arith, c.each-test.true, c.len-i-end.ensures, c.requires.count) in
+    let inside : c.each.i < length c.each.nodes.items =
+    omega (
+      arith,
+      c.each-test.true,
+      c.len-i-end.ensures,
+      ap length c.each.invariant.weights,
+      length-map c.args.nodes.now.items weight_of,
+      length-map c.each.nodes.items weight_of,
+    ) in
     record {
       weights = c.thread_both.ensures.nodes ∙ c.each.invariant.weights;
       lines = c.thread_both.ensures.edges ∙ c.each.invariant.lines;
       rows = λ dir.
-          let read = order_read g.Ix.IndexType.number dir c.args.orders.now c.each.i c.index-orders-i.result within c.index-orders-i.is in
+          let read =
+          order_read g.Ix.IndexType.number dir c.args.orders.now c.each.i c.index-orders-i.result within
+          c.index-orders-i.is in
           let made = c.thread_both.ensures.links dir in
-          below_threaded _ _ _ _ _ _ (c.each.invariant.rows dir) _ (c.requires.lists dir) (omega (arith, inside, length-map c.each.nodes.items (raw_first dir))) _ _ _ read made.first made.nexts;
+          below_threaded _ _ _ _ _ _ (c.each.invariant.rows dir) _ (c.requires.lists dir)
+          (omega (arith, inside, length-map c.each.nodes.items (raw_first dir))) _ _ _ read made.first made.nexts;
     }
 
 pub returns-clause-linked : goal.returns-clause-linked
@@ -41,6 +70,16 @@ returns-clause-linked g c =
     let number = g.Ix.IndexType.number in
     λ dir.
     let firsts : length (firsts_of dir c.each.nodes.items) ≡ length c.args.nodes.now.items =
-    omega (arith, ap length c.each.invariant.weights, length-map c.args.nodes.now.items weight_of, length-map c.each.nodes.items weight_of, length-map c.each.nodes.items (raw_first dir)) in
-    let lists : length (map (order_at dir) (map (numbers_of number) c.args.orders.now)) ≡ length c.args.orders.now = length-map (map (numbers_of number) c.args.orders.now) (order_at dir) ∙ length-map c.args.orders.now (numbers_of number) in
-    all_threaded _ _ _ _ _ _ (c.each.invariant.rows dir) (omega (arith, firsts, c.each-test.false, c.each.auto.i-end, c.len-i-end.ensures)) (omega (arith, firsts, lists, c.requires.count))
+    omega (
+      arith,
+      ap length c.each.invariant.weights,
+      length-map c.args.nodes.now.items weight_of,
+      length-map c.each.nodes.items weight_of,
+      length-map c.each.nodes.items (raw_first dir),
+    ) in
+    let lists : length (map (order_at dir) (map (numbers_of number) c.args.orders.now)) ≡ length c.args.orders.now =
+    length-map (map (numbers_of number) c.args.orders.now) (order_at dir)
+    ∙ length-map c.args.orders.now (numbers_of number) in
+    all_threaded _ _ _ _ _ _ (c.each.invariant.rows dir)
+    (omega (arith, firsts, c.each-test.false, c.each.auto.i-end, c.len-i-end.ensures))
+    (omega (arith, firsts, lists, c.requires.count))

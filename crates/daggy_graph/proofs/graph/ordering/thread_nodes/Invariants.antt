@@ -10,5 +10,7 @@ invariant-each g l =
     record {
       weights : map weight_of l.nodes.items ≡ map weight_of l.fn.nodes.items;
       lines : map plain_edge l.edges.items ≡ map plain_edge l.fn.edges.items;
-      rows : (dir : Direction) → AreThreadedBelow l.i g.Ix.IndexType.greatest (nexts_of dir l.fn.edges.items) (firsts_of dir l.nodes.items) (nexts_of dir l.edges.items) (map (order_at dir) (map (numbers_of g.Ix.IndexType.number) l.orders));
+      rows : (dir : Direction)
+          → AreThreadedBelow l.i g.Ix.IndexType.greatest (nexts_of dir l.fn.edges.items) (firsts_of dir l.nodes.items)
+          (nexts_of dir l.edges.items) (map (order_at dir) (map (numbers_of g.Ix.IndexType.number) l.orders));
     }

@@ -12,7 +12,13 @@ each-init g c = (c.requires.callable, [], refl, (refl, λ later more. more))
 pub index_mut-x-requires : goal.index_mut-x-requires
 index_mut-x-requires g c =
     let (callable, done, is, below) = c.each.invariant in
-    omega (arith, below.0, ap length is, length-append done (drop c.each.i c.args.edges.now.items), length-drop c.each.i c.args.edges.now.items)
+    omega (
+      arith,
+      below.0,
+      ap length is,
+      length-append done (drop c.each.i c.args.edges.now.items),
+      length-drop c.each.i c.args.edges.now.items,
+    )
 
 pub each-preserved : goal.each-preserved
 each-preserved g c =
@@ -20,16 +26,23 @@ each-preserved g c =
     let within : c.each.i < length c.args.edges.now.items = omega arith in
     let x = c.index_mut-x.result.now in
     let y = edge_with x c.f.new.arg3 in
-    let called = left_at (goal.F-step g) g.Ix.IndexType.of c.each.f c.f.new.self c.each.i _ _ (rw c.new.ensures.value at c.f.ensures) in (
+    let called =
+    left_at (goal.F-step g) g.Ix.IndexType.of c.each.f c.f.new.self c.each.i _ _
+    (rw c.new.ensures.value at c.f.ensures) in (
       search of_calls,
       done ++ y ∷ [],
       written done c.args.edges.now.items c.each.edges.items c.each.i x below.0 within is y,
-      MappedBelow-called (Leaves (goal.F-step g)) g.Ix.IndexType.of edge_weight_in edge_with c.args.f c.args.edges.now.items c.each.f c.f.new.self done c.each.i x c.f.new.arg3 within (read_old done c.args.edges.now.items c.each.edges.items c.each.i x below.0 within is c.index_mut-x.ensures.value) called below,
+      MappedBelow-called (Leaves (goal.F-step g)) g.Ix.IndexType.of edge_weight_in edge_with c.args.f
+          c.args.edges.now.items c.each.f c.f.new.self done c.each.i x c.f.new.arg3 within (read_old done
+          c.args.edges.now.items c.each.edges.items c.each.i x below.0 within is c.index_mut-x.ensures.value) called
+          below,
     )
 
 pub returns : goal.returns
 returns g c =
     let (callable, done, is, below) = c.each.invariant in
     let past : length c.args.edges.now.items ≤ c.each.i = omega arith in
-    let all : c.each.edges.items ≡ done = is ∙ ap (λ l. done ++ l) (drop_all c.each.i c.args.edges.now.items past) ∙ append-nil done in
-    rw all (MappedBelow-done (Leaves (goal.F-step g)) g.Ix.IndexType.of edge_weight_in edge_with _ _ _ _ c.each.i past below)
+    let all : c.each.edges.items ≡ done =
+    is ∙ ap (λ l. done ++ l) (drop_all c.each.i c.args.edges.now.items past) ∙ append-nil done in
+    rw all
+    (MappedBelow-done (Leaves (goal.F-step g)) g.Ix.IndexType.of edge_weight_in edge_with _ _ _ _ c.each.i past below)

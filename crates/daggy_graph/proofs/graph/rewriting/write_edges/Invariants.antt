@@ -10,4 +10,5 @@ invariant-each g l =
     goal.F-IsAlwaysCallable g l.f
     × (done : List (Edge g.row.E.Denot g.row.Ix.Denot))
     × (l.edges.items ≡ done ++ drop l.i l.fn.edges.items)
-    × MappedBelow (Leaves (goal.F-step g)) g.Ix.IndexType.of edge_weight_in edge_with l.fn.f l.fn.edges.items l.f done l.i
+    × MappedBelow (Leaves (goal.F-step g)) g.Ix.IndexType.of edge_weight_in edge_with l.fn.f l.fn.edges.items l.f done
+    l.i

@@ -10,4 +10,5 @@ invariant-each g l =
     goal.F-IsAlwaysCallable g l.f
     × (done : List (Node g.row.N.Denot g.row.Ix.Denot))
     × (l.nodes.items ≡ done ++ drop l.i l.fn.nodes.items)
-    × MappedBelow (Leaves (goal.F-step g)) g.Ix.IndexType.of node_weight_in node_with l.fn.f l.fn.nodes.items l.f done l.i
+    × MappedBelow (Leaves (goal.F-step g)) g.Ix.IndexType.of node_weight_in node_with l.fn.f l.fn.nodes.items l.f done
+    l.i

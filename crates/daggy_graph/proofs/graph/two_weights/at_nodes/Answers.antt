@@ -18,14 +18,18 @@ f-requires g c =
     let y = c.index-back-0 in
     let old = c.args.nodes.now in
     c.requires.callable _ _
-    (weight_left (λ z. z.weight) old front back c.args.a x.result _ cut.value (omega (arith, c.if-a-b.true, cut.front_len)) x.is (ap (λ z. z.weight) (sym x.is)))
-    (weight_right (λ z. z.weight) old front back c.args.b y.result _ cut.value cut.front_len (more (λ z. z.weight) old front back c.args.b cut.value cut.front_len c.requires.second) y.is (ap (λ z. z.weight) (sym y.is)))
+    (weight_left (λ z. z.weight) old front back c.args.a x.result _ cut.value
+    (omega (arith, c.if-a-b.true, cut.front_len)) x.is (ap (λ z. z.weight) (sym x.is)))
+    (weight_right (λ z. z.weight) old front back c.args.b y.result _ cut.value cut.front_len
+    (more (λ z. z.weight) old front back c.args.b cut.value cut.front_len c.requires.second) y.is
+    (ap (λ z. z.weight) (sym y.is)))
 
 pub split_at_mut-front-requires-else-a-b : goal.split_at_mut-front-requires-else-a-b
 split_at_mut-front-requires-else-a-b g c = omega (arith, c.requires.first)
 
 pub bounds-front-b : goal.bounds-front-b
-bounds-front-b g c = omega (arith, c.if-a-b.false, c.requires.different, c.split_at_mut-front-else-a-b.ensures.front_len)
+bounds-front-b g c =
+    omega (arith, c.if-a-b.false, c.requires.different, c.split_at_mut-front-else-a-b.ensures.front_len)
 
 pub f-requires-else-a-b : goal.f-requires-else-a-b
 f-requires-else-a-b g c =
@@ -36,8 +40,11 @@ f-requires-else-a-b g c =
     let y = c.index-front-b in
     let old = c.args.nodes.now in
     c.requires.callable _ _
-    (weight_right (λ z. z.weight) old front back c.args.a x.result _ cut.value cut.front_len (more (λ z. z.weight) old front back c.args.a cut.value cut.front_len c.requires.first) x.is (ap (λ z. z.weight) (sym x.is)))
-    (weight_left (λ z. z.weight) old front back c.args.b y.result _ cut.value (omega (arith, c.if-a-b.false, c.requires.different, cut.front_len)) y.is (ap (λ z. z.weight) (sym y.is)))
+    (weight_right (λ z. z.weight) old front back c.args.a x.result _ cut.value cut.front_len
+    (more (λ z. z.weight) old front back c.args.a cut.value cut.front_len c.requires.first) x.is
+    (ap (λ z. z.weight) (sym x.is)))
+    (weight_left (λ z. z.weight) old front back c.args.b y.result _ cut.value
+    (omega (arith, c.if-a-b.false, c.requires.different, cut.front_len)) y.is (ap (λ z. z.weight) (sym y.is)))
 
 pub returns-then-a-b : goal.returns-then-a-b
 returns-then-a-b g c =
@@ -45,8 +52,10 @@ returns-then-a-b g c =
     let x = c.index-front-a in
     let y = c.index-back-0 in
     rw (← x.is, ← y.is)
-    (called_in_order (λ z. z.weight) node_of_weight g.F.FnOnce c.args.f c.args.nodes.now cut.result.0.now cut.result.1.now c.f.result c.args.a c.args.b x.result y.result _ _ _ _ cut.ensures.value cut.ensures.front_len
-    c.if-a-b.true c.requires.second x.is y.is (ap (λ z. z.weight) (sym x.is)) (ap (λ z. z.weight) (sym y.is)) c.f.ensures)
+    (called_in_order (λ z. z.weight) node_of_weight g.F.FnOnce c.args.f c.args.nodes.now cut.result.0.now
+    cut.result.1.now c.f.result c.args.a c.args.b x.result y.result _ _ _ _ cut.ensures.value cut.ensures.front_len
+    c.if-a-b.true c.requires.second x.is y.is (ap (λ z. z.weight) (sym x.is)) (ap (λ z. z.weight) (sym y.is))
+    c.f.ensures)
 
 pub returns-else-a-b : goal.returns-else-a-b
 returns-else-a-b g c =
@@ -54,5 +63,7 @@ returns-else-a-b g c =
     let x = c.index-back-0-else-a-b in
     let y = c.index-front-b in
     rw (← x.is, ← y.is)
-    (called_turned (λ z. z.weight) node_of_weight g.F.FnOnce c.args.f c.args.nodes.now cut.result.0.now cut.result.1.now c.f-else-a-b.result c.args.a c.args.b x.result y.result _ _ _ _ cut.ensures.value cut.ensures.front_len
-    (omega (arith, c.if-a-b.false, c.requires.different)) c.requires.first x.is y.is (ap (λ z. z.weight) (sym x.is)) (ap (λ z. z.weight) (sym y.is)) c.f-else-a-b.ensures)
+    (called_turned (λ z. z.weight) node_of_weight g.F.FnOnce c.args.f c.args.nodes.now cut.result.0.now cut.result.1.now
+    c.f-else-a-b.result c.args.a c.args.b x.result y.result _ _ _ _ cut.ensures.value cut.ensures.front_len
+    (omega (arith, c.if-a-b.false, c.requires.different)) c.requires.first x.is y.is (ap (λ z. z.weight) (sym x.is))
+    (ap (λ z. z.weight) (sym y.is)) c.f-else-a-b.ensures)

@@ -13,7 +13,10 @@ invariant_of-result g c =
     record {
       written = record {
         within = omega (arith, c.len.ensures.value);
-        here = c.first.ensures ∙ ap (λ (z : List ℕ). first_of g.Ix.IndexType.greatest z) (sym (few_all nodes c.len.result c.len.ensures.value));
+        here =
+            c.first.ensures
+            ∙ ap (λ (z : List ℕ). first_of g.Ix.IndexType.greatest z)
+            (sym (few_all nodes c.len.result c.len.ensures.value));
       };
       real = c.self.invariant.real;
       few = omega (arith, few, c.len.ensures.value);
@@ -23,5 +26,7 @@ pub returns-clause-fits : goal.returns-clause-fits
 returns-clause-fits g c =
     let nodes : List ℕ = c.self.inside.written.nodes in
     let few = few_written c.self.invariant (unique_from_distinct nodes c.len.ensures.distinct) in
-    let whole = ap (λ (z : List ℕ). length (z ++ range_with_len c.self.inside.tail.from c.self.inside.tail.count)) (few_all nodes c.len.result c.len.ensures.value) in
+    let whole =
+    ap (λ (z : List ℕ). length (z ++ range_with_len c.self.inside.tail.from c.self.inside.tail.count))
+    (few_all nodes c.len.result c.len.ensures.value) in
     omega (arith, whole, tail_length c.self.invariant, few, c.self.invariant.real, g.met.Ix.IndexType.fits)

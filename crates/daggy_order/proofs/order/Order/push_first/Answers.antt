@@ -5,7 +5,11 @@ use Rattle.daggy_order.proofs.order.Order.push_first.Goals as goal
 
 pub invariant_of-self : goal.invariant_of-self
 invariant_of-self g c =
-    tailed_after c.self.invariant c.push_first.new.self.nodes c.push_first.new.self.capacity c.settle-self-inside.result.from c.settle-self-inside.result.count c.settle-self-inside.result.index_bound c.settle-self-inside.ensures.count c.settle-self-inside.ensures.index_bound (omega (arith, c.settle-self-inside.ensures.from)) (omega (arith, c.settle-self-inside.ensures.from, c.self.invariant.real)) (λ k m.
+    tailed_after c.self.invariant c.push_first.new.self.nodes c.push_first.new.self.capacity
+    c.settle-self-inside.result.from c.settle-self-inside.result.count c.settle-self-inside.result.index_bound
+    c.settle-self-inside.ensures.count c.settle-self-inside.ensures.index_bound
+    (omega (arith, c.settle-self-inside.ensures.from))
+    (omega (arith, c.settle-self-inside.ensures.from, c.self.invariant.real)) (λ k m.
     let P : List ℕ → Type 0 = λ z. Mem k z in
     inl (subst P (c.in_err-push_first.ensures.err ∙ c.settle-self-inside.ensures.nodes) m))
 
@@ -13,6 +17,19 @@ pub invariant_of-self-2 : goal.invariant_of-self-2
 invariant_of-self-2 g c =
     let n : ℕ = g.Ix.IndexType.number c.args.n in
     let is : c.push_first.new.self.nodes ≡ n ∷ c.settle-self-inside.new.self.nodes = c.in_ok-push_first.ensures.ok in
-    tailed_after c.self.invariant c.push_first.new.self.nodes c.push_first.new.self.capacity c.max-self-inside.result c.settle-self-inside.result.count c.settle-self-inside.result.index_bound c.settle-self-inside.ensures.count c.settle-self-inside.ensures.index_bound (omega (arith, c.settle-self-inside.ensures.from, c.max-self-inside.ensures)) (omega (arith, c.settle-self-inside.ensures.from, c.max-self-inside.ensures, c.index.ensures.value, c.self.invariant.real, c.requires.real)) (λ k m.
+    tailed_after c.self.invariant c.push_first.new.self.nodes c.push_first.new.self.capacity c.max-self-inside.result
+    c.settle-self-inside.result.count c.settle-self-inside.result.index_bound c.settle-self-inside.ensures.count
+    c.settle-self-inside.ensures.index_bound
+    (omega (arith, c.settle-self-inside.ensures.from, c.max-self-inside.ensures)) (omega (
+      arith,
+      c.settle-self-inside.ensures.from,
+      c.max-self-inside.ensures,
+      c.index.ensures.value,
+      c.self.invariant.real,
+      c.requires.real,
+    )) (λ k m.
     let P : List ℕ → Type 0 = λ z. Mem k z in
-    elim (subst P is m) [ inl e ↦ inr (omega (arith, e, c.max-self-inside.ensures, c.index.ensures.value)) | inr a ↦ inl (subst P c.settle-self-inside.ensures.nodes a) ])
+    elim (subst P is m) [
+      | inl e ↦ inr (omega (arith, e, c.max-self-inside.ensures, c.index.ensures.value))
+      | inr a ↦ inl (subst P c.settle-self-inside.ensures.nodes a)
+    ])

@@ -18,16 +18,26 @@ pub returns-else-index : goal.returns-else-index
 returns-else-index g c =
     let n : ℕ = g.Ix.IndexType.number c.args.n in
     let m : ℕ = g.Ix.IndexType.number c.args.m in
-    sym (renamed_self n m c.args.self.now (sym c.index-2.ensures.value ∙ (sym c.if-index.false ∙ c.index.ensures.value)))
+    sym
+    (renamed_self n m c.args.self.now (sym c.index-2.ensures.value ∙ (sym c.if-index.false ∙ c.index.ensures.value)))
 
 pub invariant_of-self : goal.invariant_of-self
 invariant_of-self g c =
     let n : ℕ = g.Ix.IndexType.number c.args.n in
     let m : ℕ = g.Ix.IndexType.number c.args.m in
     let N : List ℕ → Type 0 = λ z. Mem n z in
-    let within = high c.self.invariant n (subst N (sym c.self.view_is) (contains_mem c.args.self.now n c.requires.held)) in
-    tailed_after c.self.invariant c.rename.new.self.nodes c.rename.new.self.capacity c.settle-self-inside.result.from c.settle-self-inside.result.count c.settle-self-inside.result.index_bound c.settle-self-inside.ensures.count c.settle-self-inside.ensures.index_bound (omega (arith, c.settle-self-inside.ensures.from)) (omega (arith, c.settle-self-inside.ensures.from, c.self.invariant.real)) (λ k h.
+    let within =
+    high c.self.invariant n (subst N (sym c.self.view_is) (contains_mem c.args.self.now n c.requires.held)) in
+    tailed_after c.self.invariant c.rename.new.self.nodes c.rename.new.self.capacity c.settle-self-inside.result.from
+    c.settle-self-inside.result.count c.settle-self-inside.result.index_bound c.settle-self-inside.ensures.count
+    c.settle-self-inside.ensures.index_bound (omega (arith, c.settle-self-inside.ensures.from))
+    (omega (arith, c.settle-self-inside.ensures.from, c.self.invariant.real)) (λ k h.
     let P : List ℕ → Type 0 = λ z. Mem k z in
-    inr (renamed_below n m c.settle-self-inside.result.from c.settle-self-inside.new.self.nodes (omega (arith, within, c.requires.lower, c.settle-self-inside.ensures.from)) (λ j i.
+    inr (renamed_below n m c.settle-self-inside.result.from c.settle-self-inside.new.self.nodes
+    (omega (arith, within, c.requires.lower, c.settle-self-inside.ensures.from)) (λ j i.
     let Q : List ℕ → Type 0 = λ z. Mem j z in
-    omega (arith, high c.self.invariant j (subst Q c.settle-self-inside.ensures.nodes i), c.settle-self-inside.ensures.from)) k (subst P c.rename.ensures h)))
+    omega (
+      arith,
+      high c.self.invariant j (subst Q c.settle-self-inside.ensures.nodes i),
+      c.settle-self-inside.ensures.from,
+    )) k (subst P c.rename.ensures h)))

@@ -8,7 +8,8 @@ of_nodes-requires-clause-distinct g c = rw (whole_back _ c.sort_nodes.new.stack)
 
 pub of_nodes-requires-clause-real : goal.of_nodes-requires-clause-real
 of_nodes-requires-clause-real g c =
-    rw (whole_back _ c.sort_nodes.new.stack) (sorted_real c.node_bound-well_formed.ensures.well_formed _ c.in-Some.ensures.sorted)
+    rw (whole_back _ c.sort_nodes.new.stack)
+    (sorted_real c.node_bound-well_formed.ensures.well_formed _ c.in-Some.ensures.sorted)
 
 pub returns-clause-ordered : goal.returns-clause-ordered
 returns-clause-ordered g c =

@@ -9,13 +9,17 @@ pub stands_before-requires-clause-first : goal.stands_before-requires-clause-fir
 stands_before-requires-clause-first g c =
     let a : ℕ = g.Ix.IndexType.number c.args.a in
     let P : List ℕ → Type 0 = λ z. Mem a z in
-    mem_contains c.self.inside.written.nodes a (in_written c.self.invariant a (omega (arith, c.if-i-self.true, c.index-i.ensures.value)) (subst P (sym c.self.view_is) (contains_mem c.args.self.now a c.requires.first)))
+    mem_contains c.self.inside.written.nodes a
+    (in_written c.self.invariant a (omega (arith, c.if-i-self.true, c.index-i.ensures.value))
+    (subst P (sym c.self.view_is) (contains_mem c.args.self.now a c.requires.first)))
 
 pub stands_before-requires-clause-second : goal.stands_before-requires-clause-second
 stands_before-requires-clause-second g c =
     let b : ℕ = g.Ix.IndexType.number c.args.b in
     let P : List ℕ → Type 0 = λ z. Mem b z in
-    mem_contains c.self.inside.written.nodes b (in_written c.self.invariant b (omega (arith, c.if-j-self.true, c.index-j.ensures.value)) (subst P (sym c.self.view_is) (contains_mem c.args.self.now b c.requires.second)))
+    mem_contains c.self.inside.written.nodes b
+    (in_written c.self.invariant b (omega (arith, c.if-j-self.true, c.index-j.ensures.value))
+    (subst P (sym c.self.view_is) (contains_mem c.args.self.now b c.requires.second)))
 
 pub returns-then-i-self : goal.returns-then-i-self
 returns-then-i-self g c =
@@ -24,8 +28,12 @@ returns-then-i-self g c =
     let A : List ℕ → Type 0 = λ z. Mem a z in
     let B : List ℕ → Type 0 = λ z. Mem b z in
     let s = c.self.invariant in
-    let at_a = place_written s a (in_written s a (omega (arith, c.if-i-self.true, c.index-i.ensures.value)) (subst A (sym c.self.view_is) (contains_mem c.args.self.now a c.requires.first))) in
-    let at_b = place_written s b (in_written s b (omega (arith, c.if-j-self.true, c.index-j.ensures.value)) (subst B (sym c.self.view_is) (contains_mem c.args.self.now b c.requires.second))) in
+    let at_a =
+    place_written s a (in_written s a (omega (arith, c.if-i-self.true, c.index-i.ensures.value))
+    (subst A (sym c.self.view_is) (contains_mem c.args.self.now a c.requires.first))) in
+    let at_b =
+    place_written s b (in_written s b (omega (arith, c.if-j-self.true, c.index-j.ensures.value))
+    (subst B (sym c.self.view_is) (contains_mem c.args.self.now b c.requires.second))) in
     let Q : List ℕ → Type 0 = λ z. place z a < place z b in (
       λ e. subst Q c.self.view_is (omega (arith, at_a, at_b, c.stands_before.ensures.0 e)),
       λ h. c.stands_before.ensures.1 (omega (arith, at_a, at_b, subst Q (sym c.self.view_is) h)),
@@ -39,7 +47,14 @@ returns-else-i-self g c =
     let B : List ℕ → Type 0 = λ z. Mem b z in
     let Q : List ℕ → Type 0 = λ z. place z a < place z b in (
       λ e. absurd (omega (arith, ltb-true _ _ e, c.if-i-self.false)),
-      λ h. absurd (not_before_early c.self.invariant a b (subst A (sym c.self.view_is) (contains_mem c.args.self.now a c.requires.first)) (subst B (sym c.self.view_is) (contains_mem c.args.self.now b c.requires.second)) (omega (arith, c.if-j-self.true, c.index-j.ensures.value)) (omega (arith, c.if-i-self.false, c.index-i.ensures.value)) (subst Q (sym c.self.view_is) h)),
+      λ h.
+          absurd (not_before_early c.self.invariant a b
+          (subst A (sym c.self.view_is) (contains_mem c.args.self.now a c.requires.first))
+          (subst B (sym c.self.view_is) (contains_mem c.args.self.now b c.requires.second)) (omega (
+            arith,
+            c.if-j-self.true,
+            c.index-j.ensures.value,
+          )) (omega (arith, c.if-i-self.false, c.index-i.ensures.value)) (subst Q (sym c.self.view_is) h)),
     )
 
 pub returns-else-j-self : goal.returns-else-j-self
@@ -49,7 +64,14 @@ returns-else-j-self g c =
     let A : List ℕ → Type 0 = λ z. Mem a z in
     let B : List ℕ → Type 0 = λ z. Mem b z in
     let Q : List ℕ → Type 0 = λ z. place z a < place z b in
-    let both = before_late c.self.invariant a b (subst A (sym c.self.view_is) (contains_mem c.args.self.now a c.requires.first)) (subst B (sym c.self.view_is) (contains_mem c.args.self.now b c.requires.second)) (omega (arith, c.if-j-self.false, c.index-j.ensures.value)) in (
-      λ e. subst Q c.self.view_is (both.0 (omega (arith, ltb-true _ _ e, c.index-i.ensures.value, c.index-j.ensures.value))),
-      λ h. lt-ltb _ _ (omega (arith, both.1 (subst Q (sym c.self.view_is) h), c.index-i.ensures.value, c.index-j.ensures.value)),
+    let both =
+    before_late c.self.invariant a b (subst A (sym c.self.view_is) (contains_mem c.args.self.now a c.requires.first))
+    (subst B (sym c.self.view_is) (contains_mem c.args.self.now b c.requires.second))
+    (omega (arith, c.if-j-self.false, c.index-j.ensures.value)) in (
+      λ e.
+          subst Q c.self.view_is
+          (both.0 (omega (arith, ltb-true _ _ e, c.index-i.ensures.value, c.index-j.ensures.value))),
+      λ h.
+          lt-ltb _ _
+          (omega (arith, both.1 (subst Q (sym c.self.view_is) h), c.index-i.ensures.value, c.index-j.ensures.value)),
     )

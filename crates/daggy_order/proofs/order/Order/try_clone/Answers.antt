@@ -14,12 +14,19 @@ invariant_of-result g c =
     elim c.if-count-eq0.branch [
       | then-count-eq0 w ↦ (
           let same = ap (λ (z : Stored). z.nodes) w.written-is ∙ c.in_ok-written.ensures in
-          tailed_bare E c.if-count-eq0.written.nodes c.if-count-eq0.written.capacity from count c.if-count-eq0.index_bound w.if-count-eq0.true w.index_bound-is (omega (arith, s.real)) (λ k m.
+          tailed_bare E c.if-count-eq0.written.nodes c.if-count-eq0.written.capacity from count
+          c.if-count-eq0.index_bound w.if-count-eq0.true w.index_bound-is (omega (arith, s.real)) (λ k m.
           let P : List ℕ → Type 0 = λ z. Mem k z in
           below s k (subst P same m))
           )
       | else-count-eq0+in_ok-index_bound w ↦ (
           let same = ap (λ (z : Stored). z.nodes) w.written-is ∙ (w.reserve.ensures.same ∙ c.in_ok-written.ensures) in
-          tailed_room s c.if-count-eq0.written.nodes c.if-count-eq0.written.capacity c.if-count-eq0.index_bound same (omega (arith, w.index_bound-is, w.in_ok-index_bound.ensures.index_bound, ap (λ (z : Stored). z.capacity) w.written-is)) (omega (arith, w.index_bound-is, w.in_ok-index_bound.ensures.ok))
+          tailed_room s c.if-count-eq0.written.nodes c.if-count-eq0.written.capacity c.if-count-eq0.index_bound same
+          (omega (
+            arith,
+            w.index_bound-is,
+            w.in_ok-index_bound.ensures.index_bound,
+            ap (λ (z : Stored). z.capacity) w.written-is,
+          )) (omega (arith, w.index_bound-is, w.in_ok-index_bound.ensures.ok))
           )
     ]

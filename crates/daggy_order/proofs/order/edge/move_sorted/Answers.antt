@@ -4,7 +4,8 @@ use Rattle.daggy_base.specs.Cursor.{first_of}
 use Rattle.daggy_base.proofs.Lists.{Mem, mem_mid, contains_mem, mem_contains, unique_from_distinct}
 use Rattle.daggy_order.proofs.Sorted.{distinct_from_unique}
 use Rattle.daggy_order.proofs.Labelled.{label_within}
-use Rattle.daggy_order.proofs.SortedByLabel.{once_sorted, sorted_in, sorted_stand, sorted_moved, sorted_gap, sorted_labelled, from_moved, first_of_run, first_of_none}
+use Rattle.daggy_order.proofs.SortedByLabel.{once_sorted, sorted_in, sorted_stand, sorted_moved, sorted_gap}
+use Rattle.daggy_order.proofs.SortedByLabel.{sorted_labelled, from_moved, first_of_run, first_of_none}
 use Rattle.daggy_order.proofs.order.edge.move_sorted.Goals as goal
 use Rattle.daggy_order.proofs.order.edge.move_sorted.Goals.{then-count-eq0, else-count-eq0}
 
@@ -39,14 +40,18 @@ spread-requires-clause-gap g c =
     let ys : List ℕ = c.sort_by_label.new.nodes in
     let L : List ℕ → Type 0 = λ z. IsNonDecreasingBy (λ n. get_or z n 0) ys in
     let sorted = subst L c.as_slice.ensures.value c.sort_by_label.ensures.sorted in
-    let is = c.move_behind.ensures.moved h.before h.behind h.is (sorted_in c.requires.labelled h once ys c.sort_by_label.ensures.same sorted) in
+    let is =
+    c.move_behind.ensures.moved h.before h.behind h.is
+    (sorted_in c.requires.labelled h once ys c.sort_by_label.ensures.same sorted) in
     let E : ℕ = g.Ix.IndexType.greatest in
     let after = c.next-after.ensures h.before h.behind h.is in
     let from : c.if-count-eq0.from ≡ first_of E (ys ++ h.behind) = elim c.if-count-eq0.branch [
       | then-count-eq0 w ↦ w.from-is ∙ first_of_none E ys h.behind c.next-after.result w.if-count-eq0.true after
-      | else-count-eq0 w ↦ w.from-is ∙ first_of_run E ys h.behind w.index-nodes-0.result w.if-count-eq0.false w.index-nodes-0.is
+      | else-count-eq0 w ↦
+          w.from-is ∙ first_of_run E ys h.behind w.index-nodes-0.result w.if-count-eq0.false w.index-nodes-0.is
     ] in
-    sorted_gap c.requires.labelled h once ys c.sort_by_label.ensures.same sorted c.move_behind.new.links.nodes is E c.if-count-eq0.from (length ys) c.next-after.result refl from after
+    sorted_gap c.requires.labelled h once ys c.sort_by_label.ensures.same sorted c.move_behind.new.links.nodes is E
+    c.if-count-eq0.from (length ys) c.next-after.result refl from after
 
 pub spread-requires-clause-numbered : goal.spread-requires-clause-numbered
 spread-requires-clause-numbered g c =
@@ -55,8 +60,15 @@ spread-requires-clause-numbered g c =
     let ys : List ℕ = c.sort_by_label.new.nodes in
     let L : List ℕ → Type 0 = λ z. IsNonDecreasingBy (λ n. get_or z n 0) ys in
     let sorted = subst L c.as_slice.ensures.value c.sort_by_label.ensures.sorted in
-    let is = c.move_behind.ensures.moved h.before h.behind h.is (sorted_in c.requires.labelled h once ys c.sort_by_label.ensures.same sorted) in
-    λ n m. omega (arith, label_within c.requires.labelled n (from_moved c.requires.labelled h once ys c.sort_by_label.ensures.same sorted c.move_behind.new.links.nodes is n (contains_mem c.move_behind.new.links.nodes n m)), c.args.labels.now.ok.0)
+    let is =
+    c.move_behind.ensures.moved h.before h.behind h.is
+    (sorted_in c.requires.labelled h once ys c.sort_by_label.ensures.same sorted) in
+    λ n m. omega (
+      arith,
+      label_within c.requires.labelled n (from_moved c.requires.labelled h once ys c.sort_by_label.ensures.same sorted
+          c.move_behind.new.links.nodes is n (contains_mem c.move_behind.new.links.nodes n m)),
+      c.args.labels.now.ok.0,
+    )
 
 pub returns-clause-labelled : goal.returns-clause-labelled
 returns-clause-labelled g c =
@@ -65,8 +77,11 @@ returns-clause-labelled g c =
     let ys : List ℕ = c.sort_by_label.new.nodes in
     let L : List ℕ → Type 0 = λ z. IsNonDecreasingBy (λ n. get_or z n 0) ys in
     let sorted = subst L c.as_slice.ensures.value c.sort_by_label.ensures.sorted in
-    let is = c.move_behind.ensures.moved h.before h.behind h.is (sorted_in c.requires.labelled h once ys c.sort_by_label.ensures.same sorted) in
-    sorted_labelled c.requires.labelled h once ys c.sort_by_label.ensures.same sorted c.move_behind.new.links.nodes is c.spread.new.labels.items c.spread.ensures.ascending c.spread.ensures.others
+    let is =
+    c.move_behind.ensures.moved h.before h.behind h.is
+    (sorted_in c.requires.labelled h once ys c.sort_by_label.ensures.same sorted) in
+    sorted_labelled c.requires.labelled h once ys c.sort_by_label.ensures.same sorted c.move_behind.new.links.nodes is
+    c.spread.new.labels.items c.spread.ensures.ascending c.spread.ensures.others
 
 pub returns-clause-moved : goal.returns-clause-moved
 returns-clause-moved g c =
@@ -75,5 +90,7 @@ returns-clause-moved g c =
     let ys : List ℕ = c.sort_by_label.new.nodes in
     let L : List ℕ → Type 0 = λ z. IsNonDecreasingBy (λ n. get_or z n 0) ys in
     let sorted = subst L c.as_slice.ensures.value c.sort_by_label.ensures.sorted in
-    let is = c.move_behind.ensures.moved h.before h.behind h.is (sorted_in c.requires.labelled h once ys c.sort_by_label.ensures.same sorted) in
+    let is =
+    c.move_behind.ensures.moved h.before h.behind h.is
+    (sorted_in c.requires.labelled h once ys c.sort_by_label.ensures.same sorted) in
     sorted_moved c.requires.labelled h once ys c.sort_by_label.ensures.same sorted c.move_behind.new.links.nodes is

@@ -15,12 +15,18 @@ returns-then-stands_before-clause-decided g c =
     let P : ℕ → Type 0 = λ z. place order b ≤ place order z in
     let before : place order a < place order b = c.stands_before.ensures.0 c.if-stands_before.true in (
       λ e. absurd (false≢true (sym e)),
-      λ r. absurd (omega (arith, before, reaches_stays (g.S.EdgeSource.graph c.args.source.now) P (λ x y h j. omega (arith, h, c.requires.ordered.sorted x y j)) b a r (omega arith))),
+      λ r. absurd (omega (
+        arith,
+        before,
+        reaches_stays (g.S.EdgeSource.graph c.args.source.now) P
+            (λ x y h j. omega (arith, h, c.requires.ordered.sorted x y j)) b a r (omega arith),
+      )),
     )
 
 pub order_written-requires-clause-ordered : goal.order_written-requires-clause-ordered
 order_written-requires-clause-ordered g c =
-    let was : c.settle-order-inside.new.self.nodes ≡ c.args.order.now = c.settle-order-inside.ensures.nodes ∙ c.order.view_is in
+    let was : c.settle-order-inside.new.self.nodes ≡ c.args.order.now =
+    c.settle-order-inside.ensures.nodes ∙ c.order.view_is in
     let P : List ℕ → Type 0 = λ z. IsOrderOf (g.S.EdgeSource.graph c.args.source.now) z in
     subst P (sym was) c.requires.ordered
 
@@ -28,8 +34,13 @@ pub invariant_of-order : goal.invariant_of-order
 invariant_of-order g c =
     let ord = c.order_written.ensures.ordered in
     let old = c.requires.ordered in
-    tailed_bare g.Ix.IndexType.greatest c.order_written.new.written.nodes c.order_written.new.written.capacity c.settle-order-inside.result.from c.settle-order-inside.result.count c.settle-order-inside.result.index_bound c.settle-order-inside.ensures.count c.settle-order-inside.ensures.index_bound (omega (arith, c.settle-order-inside.ensures.from, c.order.invariant.real)) (λ k m.
-    let held = contains_mem c.args.order.now k ((old.exact k).1 ((ord.exact k).0 (mem_contains c.order_written.new.written.nodes k m))) in
+    tailed_bare g.Ix.IndexType.greatest c.order_written.new.written.nodes c.order_written.new.written.capacity
+    c.settle-order-inside.result.from c.settle-order-inside.result.count c.settle-order-inside.result.index_bound
+    c.settle-order-inside.ensures.count c.settle-order-inside.ensures.index_bound
+    (omega (arith, c.settle-order-inside.ensures.from, c.order.invariant.real)) (λ k m.
+    let held =
+    contains_mem c.args.order.now k
+    ((old.exact k).1 ((ord.exact k).0 (mem_contains c.order_written.new.written.nodes k m))) in
     let P : List ℕ → Type 0 = λ z. Mem k z in
     omega (arith, c.settle-order-inside.ensures.from, high c.order.invariant k (subst P (sym c.order.view_is) held)))
 
@@ -38,20 +49,34 @@ returns-clause-decided g c = c.order_written.ensures.decided
 
 pub returns-clause-refused : goal.returns-clause-refused
 returns-clause-refused g c =
-    let was : c.settle-order-inside.new.self.nodes ≡ c.args.order.now = c.settle-order-inside.ensures.nodes ∙ c.order.view_is in
-    let is : c.order_written.new.written.nodes ++ range_with_len c.settle-order-inside.result.from c.settle-order-inside.result.count ≡ c.order_written.new.written.nodes = bare_is c.order_written.new.written.nodes c.settle-order-inside.result.from c.settle-order-inside.result.count c.settle-order-inside.ensures.count in
+    let was : c.settle-order-inside.new.self.nodes ≡ c.args.order.now =
+    c.settle-order-inside.ensures.nodes ∙ c.order.view_is in
+    let is : c.order_written.new.written.nodes
+    ++ range_with_len c.settle-order-inside.result.from c.settle-order-inside.result.count
+    ≡ c.order_written.new.written.nodes =
+    bare_is c.order_written.new.written.nodes c.settle-order-inside.result.from c.settle-order-inside.result.count
+    c.settle-order-inside.ensures.count in
     λ e. is ∙ (c.order_written.ensures.refused e ∙ was)
 
 pub returns-clause-ordered : goal.returns-clause-ordered
 returns-clause-ordered g c =
-    let is : c.order_written.new.written.nodes ++ range_with_len c.settle-order-inside.result.from c.settle-order-inside.result.count ≡ c.order_written.new.written.nodes = bare_is c.order_written.new.written.nodes c.settle-order-inside.result.from c.settle-order-inside.result.count c.settle-order-inside.ensures.count in
+    let is : c.order_written.new.written.nodes
+    ++ range_with_len c.settle-order-inside.result.from c.settle-order-inside.result.count
+    ≡ c.order_written.new.written.nodes =
+    bare_is c.order_written.new.written.nodes c.settle-order-inside.result.from c.settle-order-inside.result.count
+    c.settle-order-inside.ensures.count in
     let P : List ℕ → Type 0 = λ z. IsOrderOf (g.S.EdgeSource.graph c.args.source.now) z in
     subst P (sym is) c.order_written.ensures.ordered
 
 pub returns-clause-before : goal.returns-clause-before
 returns-clause-before g c =
-    let is : c.order_written.new.written.nodes ++ range_with_len c.settle-order-inside.result.from c.settle-order-inside.result.count ≡ c.order_written.new.written.nodes = bare_is c.order_written.new.written.nodes c.settle-order-inside.result.from c.settle-order-inside.result.count c.settle-order-inside.ensures.count in
-    let P : List ℕ → Type 0 = λ z. place z (g.Ix.IndexType.number c.args.a) < place z (g.Ix.IndexType.number c.args.b) in
+    let is : c.order_written.new.written.nodes
+    ++ range_with_len c.settle-order-inside.result.from c.settle-order-inside.result.count
+    ≡ c.order_written.new.written.nodes =
+    bare_is c.order_written.new.written.nodes c.settle-order-inside.result.from c.settle-order-inside.result.count
+    c.settle-order-inside.ensures.count in
+    let P : List ℕ → Type 0 = λ z.
+    place z (g.Ix.IndexType.number c.args.a) < place z (g.Ix.IndexType.number c.args.b) in
     λ t. subst P (sym is) (c.order_written.ensures.before t)
 
 pub returns-clause-kept : goal.returns-clause-kept
@@ -60,11 +85,21 @@ returns-clause-kept g c =
 
 pub returns-clause-moved : goal.returns-clause-moved
 returns-clause-moved g c =
-    let was : c.settle-order-inside.new.self.nodes ≡ c.args.order.now = c.settle-order-inside.ensures.nodes ∙ c.order.view_is in
-    let is : c.order_written.new.written.nodes ++ range_with_len c.settle-order-inside.result.from c.settle-order-inside.result.count ≡ c.order_written.new.written.nodes = bare_is c.order_written.new.written.nodes c.settle-order-inside.result.from c.settle-order-inside.result.count c.settle-order-inside.ensures.count in
-    let Q : List ℕ → Type 0 = λ z. place z (g.Ix.IndexType.number c.args.b) < place z (g.Ix.IndexType.number c.args.a) in
-    let R : List ℕ → Type 0 = λ z. IsParted (g.S.EdgeSource.graph c.args.source.now) (g.Ix.IndexType.number c.args.a) (g.Ix.IndexType.number c.args.b) z c.order_written.new.written.nodes in
-    let T : List ℕ → Type 0 = λ z. IsParted (g.S.EdgeSource.graph c.args.source.now) (g.Ix.IndexType.number c.args.a) (g.Ix.IndexType.number c.args.b) c.args.order.now z in
+    let was : c.settle-order-inside.new.self.nodes ≡ c.args.order.now =
+    c.settle-order-inside.ensures.nodes ∙ c.order.view_is in
+    let is : c.order_written.new.written.nodes
+    ++ range_with_len c.settle-order-inside.result.from c.settle-order-inside.result.count
+    ≡ c.order_written.new.written.nodes =
+    bare_is c.order_written.new.written.nodes c.settle-order-inside.result.from c.settle-order-inside.result.count
+    c.settle-order-inside.ensures.count in
+    let Q : List ℕ → Type 0 = λ z.
+    place z (g.Ix.IndexType.number c.args.b) < place z (g.Ix.IndexType.number c.args.a) in
+    let R : List ℕ → Type 0 = λ z.
+    IsParted (g.S.EdgeSource.graph c.args.source.now) (g.Ix.IndexType.number c.args.a) (g.Ix.IndexType.number c.args.b)
+    z c.order_written.new.written.nodes in
+    let T : List ℕ → Type 0 = λ z.
+    IsParted (g.S.EdgeSource.graph c.args.source.now) (g.Ix.IndexType.number c.args.a) (g.Ix.IndexType.number c.args.b)
+    c.args.order.now z in
     λ t after. subst T (sym is) (subst R was (c.order_written.ensures.moved t (subst Q (sym was) after)))
 
 pub returns-clause-same : goal.returns-clause-same
@@ -72,12 +107,19 @@ returns-clause-same g c = c.order_written.ensures.same
 
 pub returns-clause-counted : goal.returns-clause-counted
 returns-clause-counted g c =
-    let was : c.settle-order-inside.new.self.nodes ≡ c.args.order.now = c.settle-order-inside.ensures.nodes ∙ c.order.view_is in
-    let P : List ℕ → Type 0 = λ z. g.S.EdgeSource.looks c.order_written.new.source ≤ g.S.EdgeSource.looks c.args.source.now + edges_from (g.S.EdgeSource.graph c.args.source.now) (stretch z (place z (g.Ix.IndexType.number c.args.b)) (place z (g.Ix.IndexType.number c.args.a))) in
+    let was : c.settle-order-inside.new.self.nodes ≡ c.args.order.now =
+    c.settle-order-inside.ensures.nodes ∙ c.order.view_is in
+    let P : List ℕ → Type 0 = λ z.
+    g.S.EdgeSource.looks c.order_written.new.source
+    ≤ g.S.EdgeSource.looks c.args.source.now
+    + edges_from (g.S.EdgeSource.graph c.args.source.now)
+    (stretch z (place z (g.Ix.IndexType.number c.args.b)) (place z (g.Ix.IndexType.number c.args.a))) in
     subst P was c.order_written.ensures.counted
 
 pub returns-clause-unlooked : goal.returns-clause-unlooked
 returns-clause-unlooked g c =
-    let was : c.settle-order-inside.new.self.nodes ≡ c.args.order.now = c.settle-order-inside.ensures.nodes ∙ c.order.view_is in
-    let P : List ℕ → Type 0 = λ z. place z (g.Ix.IndexType.number c.args.a) ≤ place z (g.Ix.IndexType.number c.args.b) in
+    let was : c.settle-order-inside.new.self.nodes ≡ c.args.order.now =
+    c.settle-order-inside.ensures.nodes ∙ c.order.view_is in
+    let P : List ℕ → Type 0 = λ z.
+    place z (g.Ix.IndexType.number c.args.a) ≤ place z (g.Ix.IndexType.number c.args.b) in
     λ h. c.order_written.ensures.unlooked (subst P (sym was) h)

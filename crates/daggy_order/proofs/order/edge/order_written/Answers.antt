@@ -1,4 +1,5 @@
-use Rattle.std.proofs.Common.{◌+◌, ◌<◌, ◌≤◌, ℕ, false, List, length, get_or, replicate, inl, inr, ◌∙◌, sym, ap, subst, arith}
+use Rattle.std.proofs.Common.{◌+◌, ◌<◌, ◌≤◌, ℕ, false, List, length, get_or, replicate, inl, inr, ◌∙◌, sym, ap, subst}
+use Rattle.std.proofs.Common.{arith}
 use Rattle.std.proofs.lemmas.Bool.{cases_lt}
 use Rattle.std.proofs.lemmas.List.{get_or-replicate, get_or_past, length-replicate}
 use Rattle.daggy_order.specs.Ordered.{IsOrderOf, IsParted, place, stretch, edges_from}
@@ -38,19 +39,29 @@ returns-clause-before g c = c.order_links.ensures.before
 
 pub returns-clause-moved : goal.returns-clause-moved
 returns-clause-moved g c =
-    let Q : List ℕ → Type 0 = λ z. place z (g.Ix.IndexType.number c.args.b) < place z (g.Ix.IndexType.number c.args.a) in
-    let R : List ℕ → Type 0 = λ z. IsParted (g.S.EdgeSource.graph c.args.source.now) (g.Ix.IndexType.number c.args.a) (g.Ix.IndexType.number c.args.b) z c.order_links.new.links.nodes in
-    λ t after. subst R (ap (λ (z : Stored). z.nodes) c.written.view_is) (c.order_links.ensures.moved t (subst Q (sym (ap (λ (z : Stored). z.nodes) c.written.view_is)) after))
+    let Q : List ℕ → Type 0 = λ z.
+    place z (g.Ix.IndexType.number c.args.b) < place z (g.Ix.IndexType.number c.args.a) in
+    let R : List ℕ → Type 0 = λ z.
+    IsParted (g.S.EdgeSource.graph c.args.source.now) (g.Ix.IndexType.number c.args.a) (g.Ix.IndexType.number c.args.b)
+    z c.order_links.new.links.nodes in
+    λ t after.
+    subst R (ap (λ (z : Stored). z.nodes) c.written.view_is)
+    (c.order_links.ensures.moved t (subst Q (sym (ap (λ (z : Stored). z.nodes) c.written.view_is)) after))
 
 pub returns-clause-same : goal.returns-clause-same
 returns-clause-same g c = c.order_links.ensures.same
 
 pub returns-clause-counted : goal.returns-clause-counted
 returns-clause-counted g c =
-    let P : List ℕ → Type 0 = λ z. g.S.EdgeSource.looks c.order_links.new.source ≤ g.S.EdgeSource.looks c.args.source.now + edges_from (g.S.EdgeSource.graph c.args.source.now) (stretch z (place z (g.Ix.IndexType.number c.args.b)) (place z (g.Ix.IndexType.number c.args.a))) in
+    let P : List ℕ → Type 0 = λ z.
+    g.S.EdgeSource.looks c.order_links.new.source
+    ≤ g.S.EdgeSource.looks c.args.source.now
+    + edges_from (g.S.EdgeSource.graph c.args.source.now)
+    (stretch z (place z (g.Ix.IndexType.number c.args.b)) (place z (g.Ix.IndexType.number c.args.a))) in
     subst P (ap (λ (z : Stored). z.nodes) c.written.view_is) c.order_links.ensures.counted
 
 pub returns-clause-unlooked : goal.returns-clause-unlooked
 returns-clause-unlooked g c =
-    let P : List ℕ → Type 0 = λ z. place z (g.Ix.IndexType.number c.args.a) ≤ place z (g.Ix.IndexType.number c.args.b) in
+    let P : List ℕ → Type 0 = λ z.
+    place z (g.Ix.IndexType.number c.args.a) ≤ place z (g.Ix.IndexType.number c.args.b) in
     λ h. c.order_links.ensures.unlooked (subst P (sym (ap (λ (z : Stored). z.nodes) c.written.view_is)) h)

@@ -6,7 +6,8 @@ use Rattle.daggy_order.proofs.order.labels.label_all.Goals as goal
 
 pub number-requires : goal.number-requires
 number-requires g c =
-    let some : 0 < c.gap_between-gap.result = c.gap_between-gap.ensures.some (omega (arith, c.len-count.ensures.small, c.len-count.ensures.value)) in
+    let some : 0 < c.gap_between-gap.result =
+    c.gap_between-gap.ensures.some (omega (arith, c.len-count.ensures.small, c.len-count.ensures.value)) in
     let fits = c.gap_between-gap.ensures.fits some in
     let E : ℕ = g.Ix.IndexType.greatest in
     let nodes : List ℕ = c.args.links.now.nodes in
@@ -25,7 +26,8 @@ number-requires g c =
 
 pub returns : goal.returns
 returns g c =
-    let some : 0 < c.gap_between-gap.result = c.gap_between-gap.ensures.some (omega (arith, c.len-count.ensures.small, c.len-count.ensures.value)) in
+    let some : 0 < c.gap_between-gap.result =
+    c.gap_between-gap.ensures.some (omega (arith, c.len-count.ensures.small, c.len-count.ensures.value)) in
     let fits = c.gap_between-gap.ensures.fits some in
     let E : ℕ = g.Ix.IndexType.greatest in
     let nodes : List ℕ = c.args.links.now.nodes in
@@ -36,7 +38,9 @@ returns g c =
     } in
     let new : List ℕ = c.number.new.labels.items in
     record {
-      ascending = asc_lower new 2305843009213693952 0 nodes (2 ^ 64) (omega arith) (asc_higher new 2305843009213693952 nodes _ (2 ^ 64) (omega (arith, fits)) (c.number.ensures.ascending [] nodes [] whole));
+      ascending =
+          asc_lower new 2305843009213693952 0 nodes (2 ^ 64) (omega arith) (asc_higher new 2305843009213693952 nodes _
+          (2 ^ 64) (omega (arith, fits)) (c.number.ensures.ascending [] nodes [] whole));
       others = λ n d. c.number.ensures.others [] nodes [] whole n d;
       sized = c.number.ensures.sized;
     }

@@ -1,4 +1,5 @@
-use Rattle.std.proofs.Common.{rules, ◌≡◌, ◌+◌, ◌*◌, ◌^◌, ◌<◌, ℕ, List, ◌++◌, ◌∷◌, length, sym, ap, subst, ◌∙◌, refl, arith, append_assoc}
+use Rattle.std.proofs.Common.{rules, ◌≡◌, ◌+◌, ◌*◌, ◌^◌, ◌<◌, ℕ, List, ◌++◌, ◌∷◌, length, sym, ap, subst, ◌∙◌, refl}
+use Rattle.std.proofs.Common.{arith, append_assoc}
 use Rattle.std.proofs.lemmas.Nat.{column_fits}
 use Rattle.daggy_base.proofs.Lists.{Mem, Unique, mem_left, mem_right, mem_contains, unique_from_distinct, unique_right}
 use Rattle.daggy_order.specs.Links.{LabelsAscend}
@@ -13,7 +14,12 @@ mul_none : (a : ℕ) → a * 0 ≡ 0
 mul_none a = search arith
 
 pub run-init : goal.run-init
-run-init g c = (omega (arith, mul_none c.args.gap), refl, λ before run behind r. numbers_none g.Ix.IndexType.greatest c.args.labels.now.items run behind c.args.low c.args.from r.begins)
+run-init g c = (
+  omega (arith, mul_none c.args.gap),
+  refl,
+  λ before run behind r.
+      numbers_none g.Ix.IndexType.greatest c.args.labels.now.items run behind c.args.low c.args.from r.begins,
+)
 
 pub overflow_add-label : goal.overflow_add-label
 overflow_add-label g c =
@@ -27,8 +33,14 @@ index_mut-requires g c =
     let s = c.run.invariant.2 h.before h.run h.behind h.is_run in
     let m = node_in s (omega (arith, h.is_run.counted, c.run-test.true)) in
     let P : List ℕ → Type 0 = λ z. Mem c.run.n z in
-    let here : Mem c.run.n c.args.links.now.nodes = subst P (sym h.is_run.is) (mem_right h.before (h.run ++ h.behind) c.run.n (mem_left h.run h.behind c.run.n m)) in
-    omega (arith, c.requires.numbered c.run.n (mem_contains c.args.links.now.nodes c.run.n here), c.run.invariant.1, c.index.ensures.value)
+    let here : Mem c.run.n c.args.links.now.nodes =
+    subst P (sym h.is_run.is) (mem_right h.before (h.run ++ h.behind) c.run.n (mem_left h.run h.behind c.run.n m)) in
+    omega (
+      arith,
+      c.requires.numbered c.run.n (mem_contains c.args.links.now.nodes c.run.n here),
+      c.run.invariant.1,
+      c.index.ensures.value,
+    )
 
 pub next-n-requires : goal.next-n-requires
 next-n-requires g c =
@@ -36,7 +48,8 @@ next-n-requires g c =
     let s = c.run.invariant.2 h.before h.run h.behind h.is_run in
     let m = node_in s (omega (arith, h.is_run.counted, c.run-test.true)) in
     let P : List ℕ → Type 0 = λ z. Mem c.run.n z in
-    mem_contains c.args.links.now.nodes c.run.n (subst P (sym h.is_run.is) (mem_right h.before (h.run ++ h.behind) c.run.n (mem_left h.run h.behind c.run.n m)))
+    mem_contains c.args.links.now.nodes c.run.n
+    (subst P (sym h.is_run.is) (mem_right h.before (h.run ++ h.behind) c.run.n (mem_left h.run h.behind c.run.n m)))
 
 pub run-preserved : goal.run-preserved
 run-preserved g c =
@@ -52,10 +65,21 @@ run-preserved g c =
           let once_run = unique_left run behind (unique_right before (run ++ behind) once) in
           let m = node_in s left in
           let P : List ℕ → Type 0 = λ z. Mem c.run.n z in
-          let here : Mem c.run.n c.args.links.now.nodes = subst P (sym r.is) (mem_right before (run ++ behind) c.run.n (mem_left run behind c.run.n m)) in
-          let within : c.run.n < length c.run.labels.items = omega (arith, c.requires.numbered c.run.n (mem_contains c.args.links.now.nodes c.run.n here), c.run.invariant.1, c.run.labels.ok.0) in
-          rw c.index.ensures.value (numbers_more s left once_run within c.args.gap c.next-n.result c.requires.some (λ ms is.
-          c.next-n.ensures (before ++ s.done) (ms ++ behind) (r.is ∙ (ap (λ (z : List ℕ). before ++ (z ++ behind)) (s.split ∙ ap (λ (z : List ℕ). s.done ++ z) is) ∙ (ap (λ (z : List ℕ). before ++ z) (append_assoc s.done (c.run.n ∷ ms) behind) ∙ sym (append_assoc before s.done (c.run.n ∷ (ms ++ behind)))))))),
+          let here : Mem c.run.n c.args.links.now.nodes =
+          subst P (sym r.is) (mem_right before (run ++ behind) c.run.n (mem_left run behind c.run.n m)) in
+          let within : c.run.n < length c.run.labels.items =
+          omega (
+            arith,
+            c.requires.numbered c.run.n (mem_contains c.args.links.now.nodes c.run.n here),
+            c.run.invariant.1,
+            c.run.labels.ok.0,
+          ) in
+          rw c.index.ensures.value
+          (numbers_more s left once_run within c.args.gap c.next-n.result c.requires.some (λ ms is.
+          c.next-n.ensures (before ++ s.done) (ms ++ behind)
+          (r.is ∙ (ap (λ (z : List ℕ). before ++ (z ++ behind)) (s.split ∙ ap (λ (z : List ℕ). s.done ++ z) is)
+          ∙ (ap (λ (z : List ℕ). before ++ z) (append_assoc s.done (c.run.n ∷ ms) behind)
+          ∙ sym (append_assoc before s.done (c.run.n ∷ (ms ++ behind)))))))),
     )
 
 pub returns-clause-ascending : goal.returns-clause-ascending
@@ -68,4 +92,5 @@ returns-clause-ascending g c =
     subst P (c.run.invariant.0 ∙ ap (λ z. c.args.low + c.args.gap * z) ended) (all_numbered s all)
 
 pub returns-clause-others : goal.returns-clause-others
-returns-clause-others g c = λ before run behind r n d. (c.run.invariant.2 before run behind r).others n (λ m. d (mem_contains run n m))
+returns-clause-others g c = λ before run behind r n d.
+    (c.run.invariant.2 before run behind r).others n (λ m. d (mem_contains run n m))

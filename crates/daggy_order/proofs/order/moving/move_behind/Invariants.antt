@@ -6,4 +6,6 @@ use Rattle.daggy_order.proofs.order.moving.move_behind.Given as goal
 abbrev pub invariant-nodes : goal.invariant-nodes
 invariant-nodes g l =
     (l.links.index_bound ≡ l.fn.links.index_bound)
-    × ((before behind : List ℕ) → l.fn.links.nodes ≡ before ++ l.fn.a ∷ behind → ((n : ℕ) → Contains l.nodes n → Contains before n) → Moving l.fn.a l.at (take l.i l.nodes) before behind l.links.nodes)
+    × ((before behind : List ℕ) → l.fn.links.nodes ≡ before ++ l.fn.a ∷ behind
+    → ((n : ℕ) → Contains l.nodes n → Contains before n)
+    → Moving l.fn.a l.at (take l.i l.nodes) before behind l.links.nodes)

@@ -1,4 +1,5 @@
-use Rattle.std.proofs.Common.{◌≡◌, ◌+◌, ℕ, List, [], ◌∷◌, ◌++◌, sym, ap, subst, inl, inr, refl, ◌∙◌, arith, append_assoc, append-nil}
+use Rattle.std.proofs.Common.{◌≡◌, ◌+◌, ℕ, List, [], ◌∷◌, ◌++◌, sym, ap, subst, inl, inr, refl, ◌∙◌, arith}
+use Rattle.std.proofs.Common.{append_assoc, append-nil}
 use Rattle.std.specs.List.{range_with_len}
 use Rattle.daggy_base.proofs.Lists.{Mem, mem_cases, contains_mem, mem_contains}
 use Rattle.daggy_order.proofs.Tails.{turn_high, turn_more}
@@ -14,7 +15,9 @@ pub put_last-requires-clause-absent : goal.put_last-requires-clause-absent
 put_last-requires-clause-absent g c =
     let n : ℕ = c.new.result in
     let P : List ℕ → Type 0 = λ z. Mem n z in
-    λ h. elim (mem_cases c.args.links.now.nodes (range_with_len c.args.from c.nodes.i) n (subst P c.nodes.invariant.1.0 (contains_mem c.nodes.links.nodes n h))) [
+    λ h.
+    elim (mem_cases c.args.links.now.nodes (range_with_len c.args.from c.nodes.i) n
+    (subst P c.nodes.invariant.1.0 (contains_mem c.nodes.links.nodes n h))) [
       | inl a ↦ absurd (omega (arith, c.new.ensures, c.requires.below n (mem_contains c.args.links.now.nodes n a)))
       | inr b ↦ absurd (omega (arith, c.new.ensures, turn_high c.args.from c.nodes.i n b))
     ]
@@ -31,7 +34,8 @@ nodes-preserved g c =
         c.put_last.ensures.nodes
             ∙ (ap (λ (z : List ℕ). z ++ c.new.result ∷ []) c.nodes.invariant.1.0
             ∙ (append_assoc c.args.links.now.nodes (range_with_len c.args.from c.nodes.i) (c.new.result ∷ [])
-            ∙ ap (λ (z : List ℕ). c.args.links.now.nodes ++ z) (sym (turn_more c.args.from c.nodes.i more c.new.result refl c.new.ensures)))),
+            ∙ ap (λ (z : List ℕ). c.args.links.now.nodes ++ z)
+            (sym (turn_more c.args.from c.nodes.i more c.new.result refl c.new.ensures)))),
         (c.put_last.ensures.index_bound ∙ c.nodes.invariant.1.1.0, c.put_last.ensures.sized ∙ c.nodes.invariant.1.1.1),
       ),
     )

@@ -23,35 +23,83 @@ overflow_sub-self g c =
 
 pub unwrap-x-requires : goal.unwrap-x-requires
 unwrap-x-requires g c =
-    let last : c.of_edge.result + 1 ≡ length c.self.inside.edges.items = omega (arith, c.requires.last, c.of_edge.ensures, ap (λ s. length s.graph.edges) c.self.view_is, edges_long c.self.invariant) in
-    let same : length c.unlink.new.edges.items ≡ length c.self.inside.edges.items = sym (length-map c.unlink.new.edges.items stored_edge) ∙ ap length c.unlink.ensures.edges ∙ length-map c.self.inside.edges.items stored_edge in
+    let last : c.of_edge.result + 1 ≡ length c.self.inside.edges.items =
+    omega (
+      arith,
+      c.requires.last,
+      c.of_edge.ensures,
+      ap (λ s. length s.graph.edges) c.self.view_is,
+      edges_long c.self.invariant,
+    ) in
+    let same : length c.unlink.new.edges.items ≡ length c.self.inside.edges.items =
+    sym (length-map c.unlink.new.edges.items stored_edge) ∙ ap length c.unlink.ensures.edges
+    ∙ length-map c.self.inside.edges.items stored_edge in
     c.pop.ensures.variant.1 (omega (arith, last, same))
 
 pub invariant_of-self : goal.invariant_of-self
 invariant_of-self g c =
     let has = rw (← c.self.view_is, ← c.of_edge.ensures) at c.requires.exists in
-    let last : c.of_edge.result + 1 ≡ length c.self.inside.edges.items = omega (arith, c.requires.last, c.of_edge.ensures, ap (λ s. length s.graph.edges) c.self.view_is, edges_long c.self.invariant) in
-    let same : length c.unlink.new.edges.items ≡ length c.self.inside.edges.items = sym (length-map c.unlink.new.edges.items stored_edge) ∙ ap length c.unlink.ensures.edges ∙ length-map c.self.inside.edges.items stored_edge in
+    let last : c.of_edge.result + 1 ≡ length c.self.inside.edges.items =
+    omega (
+      arith,
+      c.requires.last,
+      c.of_edge.ensures,
+      ap (λ s. length s.graph.edges) c.self.view_is,
+      edges_long c.self.invariant,
+    ) in
+    let same : length c.unlink.new.edges.items ≡ length c.self.inside.edges.items =
+    sym (length-map c.unlink.new.edges.items stored_edge) ∙ ap length c.unlink.ensures.edges
+    ∙ length-map c.self.inside.edges.items stored_edge in
     let left = c.pop.ensures.rest ∙ popped c.unlink.new.edges.items c.of_edge.result _ (omega (arith, last, same)) in
-    rw left (Stores-itself (edge_cut_code c.self.invariant c.of_edge.result has _ _ c.unlink.ensures.nodes c.unlink.ensures.edges c.unlink.ensures.links last))
+    rw left (Stores-itself (edge_cut_code c.self.invariant c.of_edge.result has _ _ c.unlink.ensures.nodes
+    c.unlink.ensures.edges c.unlink.ensures.links last))
 
 pub returns-clause-value : goal.returns-clause-value
 returns-clause-value g c =
     let has = rw (← c.self.view_is, ← c.of_edge.ensures) at c.requires.exists in
-    let last : c.of_edge.result + 1 ≡ length c.self.inside.edges.items = omega (arith, c.requires.last, c.of_edge.ensures, ap (λ s. length s.graph.edges) c.self.view_is, edges_long c.self.invariant) in
-    let same : length c.unlink.new.edges.items ≡ length c.self.inside.edges.items = sym (length-map c.unlink.new.edges.items stored_edge) ∙ ap length c.unlink.ensures.edges ∙ length-map c.self.inside.edges.items stored_edge in
-    let reads = popped_last c.unlink.new.edges.items c.of_edge.result _ _ c.unwrap-x.result (omega (arith, last, same)) (c.pop.ensures.value c.unwrap-x.result (omega (arith, last, same))) c.unwrap-x.ensures in
-    cell_weight c.self.invariant c.of_edge.result has _ _ c.unlink.ensures.nodes c.unlink.ensures.edges c.unwrap-x.result reads
-    ∙ ap (λ s. option_map (λ z. z.weight) (edge_at s.graph c.of_edge.result)) c.self.view_is ∙ ap (λ z. option_map (λ z. z.weight) (edge_at c.args.self.now.graph z)) c.of_edge.ensures
+    let last : c.of_edge.result + 1 ≡ length c.self.inside.edges.items =
+    omega (
+      arith,
+      c.requires.last,
+      c.of_edge.ensures,
+      ap (λ s. length s.graph.edges) c.self.view_is,
+      edges_long c.self.invariant,
+    ) in
+    let same : length c.unlink.new.edges.items ≡ length c.self.inside.edges.items =
+    sym (length-map c.unlink.new.edges.items stored_edge) ∙ ap length c.unlink.ensures.edges
+    ∙ length-map c.self.inside.edges.items stored_edge in
+    let reads =
+    popped_last c.unlink.new.edges.items c.of_edge.result _ _ c.unwrap-x.result (omega (arith, last, same))
+    (c.pop.ensures.value c.unwrap-x.result (omega (arith, last, same))) c.unwrap-x.ensures in
+    cell_weight c.self.invariant c.of_edge.result has _ _ c.unlink.ensures.nodes c.unlink.ensures.edges
+    c.unwrap-x.result reads
+    ∙ ap (λ s. option_map (λ z. z.weight) (edge_at s.graph c.of_edge.result)) c.self.view_is
+    ∙ ap (λ z. option_map (λ z. z.weight) (edge_at c.args.self.now.graph z)) c.of_edge.ensures
 
 pub returns-clause-removed : goal.returns-clause-removed
 returns-clause-removed g c =
     let has = rw (← c.self.view_is, ← c.of_edge.ensures) at c.requires.exists in
     let end = g.Ix.IndexType.greatest in
-    let was = stored_graph end c.self.inside.nodes.items c.self.inside.edges.items c.self.inside.first_vacant_node c.self.inside.first_vacant_edge in
-    let last : c.of_edge.result + 1 ≡ length c.self.inside.edges.items = omega (arith, c.requires.last, c.of_edge.ensures, ap (λ s. length s.graph.edges) c.self.view_is, edges_long c.self.invariant) in
-    let same : length c.unlink.new.edges.items ≡ length c.self.inside.edges.items = sym (length-map c.unlink.new.edges.items stored_edge) ∙ ap length c.unlink.ensures.edges ∙ length-map c.self.inside.edges.items stored_edge in
+    let was =
+    stored_graph end c.self.inside.nodes.items c.self.inside.edges.items c.self.inside.first_vacant_node
+    c.self.inside.first_vacant_edge in
+    let last : c.of_edge.result + 1 ≡ length c.self.inside.edges.items =
+    omega (
+      arith,
+      c.requires.last,
+      c.of_edge.ensures,
+      ap (λ s. length s.graph.edges) c.self.view_is,
+      edges_long c.self.invariant,
+    ) in
+    let same : length c.unlink.new.edges.items ≡ length c.self.inside.edges.items =
+    sym (length-map c.unlink.new.edges.items stored_edge) ∙ ap length c.unlink.ensures.edges
+    ∙ length-map c.self.inside.edges.items stored_edge in
     let left = c.pop.ensures.rest ∙ popped c.unlink.new.edges.items c.of_edge.result _ (omega (arith, last, same)) in
-    let stored = edge_cut_code c.self.invariant c.of_edge.result has _ _ c.unlink.ensures.nodes c.unlink.ensures.edges c.unlink.ensures.links last in
+    let stored =
+    edge_cut_code c.self.invariant c.of_edge.result has _ _ c.unlink.ensures.nodes c.unlink.ensures.edges
+    c.unlink.ensures.links last in
     state_changed _ was _ _ (λ h. with_edge_taken_back true h (g.Ix.IndexType.number c.args.e)) c.self.view_is
-    (ap (λ l. stored_graph end c.unlink.new.nodes.items l c.self.inside.first_vacant_node c.self.inside.first_vacant_edge) left ∙ stored_is stored ∙ ap (with_edge_taken_back true was) c.of_edge.ensures)
+    (ap
+    (λ l. stored_graph end c.unlink.new.nodes.items l c.self.inside.first_vacant_node c.self.inside.first_vacant_edge)
+    left
+    ∙ stored_is stored ∙ ap (with_edge_taken_back true was) c.of_edge.ensures)

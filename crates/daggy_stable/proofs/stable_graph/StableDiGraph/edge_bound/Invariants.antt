@@ -7,7 +7,8 @@ abbrev pub invariant-back : goal.invariant-back
 invariant-back g l =
     record {
       within : l.n ≤ length l.self-inside.edges.items;
-      same : bound_of (take l.n (map plain_edge l.self-inside.edges.items)) ≡ bound_of (map plain_edge l.self-inside.edges.items);
+      same : bound_of (take l.n (map plain_edge l.self-inside.edges.items))
+          ≡ bound_of (map plain_edge l.self-inside.edges.items);
     }
 
 abbrev pub decreases-back : goal.decreases-back

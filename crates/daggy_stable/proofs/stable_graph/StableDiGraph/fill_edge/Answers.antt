@@ -8,38 +8,50 @@ use Rattle.daggy_stable.proofs.stable_graph.StableDiGraph.fill_edge.Goals as goa
 
 pub index-requires : goal.index-requires
 index-requires g c =
-    let found = edge_next c.self.invariant (λ q. c.requires.some (ap (λ s. s.graph.vacant_edges) (sym c.self.view_is) ∙ q)) in
+    let found =
+    edge_next c.self.invariant (λ q. c.requires.some (ap (λ s. s.graph.vacant_edges) (sym c.self.view_is) ∙ q)) in
     omega (arith, found.2, c.index-i.ensures.value)
 
 pub put_first-x-requires-clause-parent : goal.put_first-x-requires-clause-parent
 put_first-x-requires-clause-parent g c =
-    let within = node_inside c.self.invariant _ (rw (← c.self.view_is) at c.requires.parent) in omega (arith, within, c.of_node.ensures)
+    let within = node_inside c.self.invariant _ (rw (← c.self.view_is) at c.requires.parent) in
+    omega (arith, within, c.of_node.ensures)
 
 pub put_first-x-requires-clause-child : goal.put_first-x-requires-clause-child
 put_first-x-requires-clause-child g c =
-    let within = node_inside c.self.invariant _ (rw (← c.self.view_is) at c.requires.child) in omega (arith, within, c.of_node-2.ensures)
+    let within = node_inside c.self.invariant _ (rw (← c.self.view_is) at c.requires.child) in
+    omega (arith, within, c.of_node-2.ensures)
 
 pub index_mut-requires : goal.index_mut-requires
 index_mut-requires g c =
-    let found = edge_next c.self.invariant (λ q. c.requires.some (ap (λ s. s.graph.vacant_edges) (sym c.self.view_is) ∙ q)) in
+    let found =
+    edge_next c.self.invariant (λ q. c.requires.some (ap (λ s. s.graph.vacant_edges) (sym c.self.view_is) ∙ q)) in
     omega (arith, found.2, c.index-i.ensures.value)
 
 pub invariant_of-self : goal.invariant_of-self
 invariant_of-self g c =
     let a_in = rw (← c.self.view_is) at c.requires.parent in
     let b_in = rw (← c.self.view_is) at c.requires.child in
-    Stores-itself (edge_filled_code c.self.invariant _ _ c.args.weight a_in b_in _ _ _ _ c.of_node.ensures c.of_node-2.ensures c.put_first-x.ensures.edge (weights_seen _ _ c.put_first-x.ensures.weights) _ c.put_first-x.ensures.out c.put_first-x.ensures.into
-    _ _ _ refl (λ q. c.requires.some (ap (λ s. s.graph.vacant_edges) (sym c.self.view_is) ∙ q)) c.index-i.ensures.value c.index.ensures c.next-self-inside.ensures)
+    Stores-itself (edge_filled_code c.self.invariant _ _ c.args.weight a_in b_in _ _ _ _ c.of_node.ensures
+    c.of_node-2.ensures c.put_first-x.ensures.edge (weights_seen _ _ c.put_first-x.ensures.weights) _
+    c.put_first-x.ensures.out c.put_first-x.ensures.into
+    _ _ _ refl (λ q. c.requires.some (ap (λ s. s.graph.vacant_edges) (sym c.self.view_is) ∙ q)) c.index-i.ensures.value
+    c.index.ensures c.next-self-inside.ensures)
 
 pub returns-clause-index : goal.returns-clause-index
 returns-clause-index g c =
-    let found = edge_next c.self.invariant (λ q. c.requires.some (ap (λ s. s.graph.vacant_edges) (sym c.self.view_is) ∙ q)) in
+    let found =
+    edge_next c.self.invariant (λ q. c.requires.some (ap (λ s. s.graph.vacant_edges) (sym c.self.view_is) ∙ q)) in
     c.edge.ensures.value ∙ sym (ap (λ s. next_edge s.graph) (sym c.self.view_is) ∙ ap (next_slot _) found.1)
 
 pub returns-clause-added : goal.returns-clause-added
 returns-clause-added g c =
     let a_in = rw (← c.self.view_is) at c.requires.parent in
     let b_in = rw (← c.self.view_is) at c.requires.child in
-    state_changed _ _ _ _ (λ h. with_edge h (g.Ix.IndexType.number c.args.a) (g.Ix.IndexType.number c.args.b) c.args.weight) c.self.view_is
-    (stored_is (edge_filled_code c.self.invariant _ _ c.args.weight a_in b_in _ _ _ _ c.of_node.ensures c.of_node-2.ensures c.put_first-x.ensures.edge (weights_seen _ _ c.put_first-x.ensures.weights) _ c.put_first-x.ensures.out c.put_first-x.ensures.into
-    _ _ _ refl (λ q. c.requires.some (ap (λ s. s.graph.vacant_edges) (sym c.self.view_is) ∙ q)) c.index-i.ensures.value c.index.ensures c.next-self-inside.ensures))
+    state_changed _ _ _ _
+    (λ h. with_edge h (g.Ix.IndexType.number c.args.a) (g.Ix.IndexType.number c.args.b) c.args.weight) c.self.view_is
+    (stored_is (edge_filled_code c.self.invariant _ _ c.args.weight a_in b_in _ _ _ _ c.of_node.ensures
+    c.of_node-2.ensures c.put_first-x.ensures.edge (weights_seen _ _ c.put_first-x.ensures.weights) _
+    c.put_first-x.ensures.out c.put_first-x.ensures.into
+    _ _ _ refl (λ q. c.requires.some (ap (λ s. s.graph.vacant_edges) (sym c.self.view_is) ∙ q)) c.index-i.ensures.value
+    c.index.ensures c.next-self-inside.ensures))

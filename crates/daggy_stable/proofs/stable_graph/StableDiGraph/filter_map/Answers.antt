@@ -11,23 +11,34 @@ use Rattle.daggy_stable.proofs.stable_graph.StableDiGraph.filter_map.Goals as go
 
 pub slice_bounds-filter_nodes-end : goal.slice_bounds-filter_nodes-end
 slice_bounds-filter_nodes-end g c =
-    slice_long weight_of c.self.inside.nodes.items c.deref.result.now _ (c.node_bound-node_bound.ensures ∙ sym (ap (λ s. node_bound s.graph) c.self.view_is)) c.deref.ensures.value
+    slice_long weight_of c.self.inside.nodes.items c.deref.result.now _
+    (c.node_bound-node_bound.ensures ∙ sym (ap (λ s. node_bound s.graph) c.self.view_is)) c.deref.ensures.value
 
 pub filter_nodes-requires-clause-few : goal.filter_nodes-requires-clause-few
 filter_nodes-requires-clause-few g c =
-    slice_few weight_of c.self.inside.nodes.items c.deref.result.now _ (c.node_bound-node_bound.ensures ∙ sym (ap (λ s. node_bound s.graph) c.self.view_is)) c.deref.ensures.value _ (omega (arith, nodes_long c.self.invariant, c.self.invariant.node_slots.few))
+    slice_few weight_of c.self.inside.nodes.items c.deref.result.now _
+    (c.node_bound-node_bound.ensures ∙ sym (ap (λ s. node_bound s.graph) c.self.view_is)) c.deref.ensures.value _
+    (omega (arith, nodes_long c.self.invariant, c.self.invariant.node_slots.few))
 
 pub filter_nodes-requires-clause-stored : goal.filter_nodes-requires-clause-stored
 filter_nodes-requires-clause-stored g c =
-    rw (c.in_ok-nodes.ensures.empty, c.in_ok-edges.ensures.empty, c.in_ok-nodes.ensures.none, c.in_ok-edges.ensures.none) (Stores-empty _ _ _ c.in_ok-nodes.ensures.end c.in_ok-edges.ensures.end)
+    rw (
+      c.in_ok-nodes.ensures.empty,
+      c.in_ok-edges.ensures.empty,
+      c.in_ok-nodes.ensures.none,
+      c.in_ok-edges.ensures.none,
+    ) (Stores-empty _ _ _ c.in_ok-nodes.ensures.end c.in_ok-edges.ensures.end)
 
 pub slice_bounds-filter_edges-end : goal.slice_bounds-filter_edges-end
 slice_bounds-filter_edges-end g c =
-    slice_long plain_edge c.self.inside.edges.items c.deref-2.result.now _ (c.edge_bound-edge_bound.ensures ∙ sym (ap (λ s. edge_bound s.graph) c.self.view_is)) c.deref-2.ensures.value
+    slice_long plain_edge c.self.inside.edges.items c.deref-2.result.now _
+    (c.edge_bound-edge_bound.ensures ∙ sym (ap (λ s. edge_bound s.graph) c.self.view_is)) c.deref-2.ensures.value
 
 pub filter_edges-requires-clause-few : goal.filter_edges-requires-clause-few
 filter_edges-requires-clause-few g c =
-    slice_few plain_edge c.self.inside.edges.items c.deref-2.result.now _ (c.edge_bound-edge_bound.ensures ∙ sym (ap (λ s. edge_bound s.graph) c.self.view_is)) c.deref-2.ensures.value _ (omega (arith, edges_long c.self.invariant, c.self.invariant.edge_slots.few))
+    slice_few plain_edge c.self.inside.edges.items c.deref-2.result.now _
+    (c.edge_bound-edge_bound.ensures ∙ sym (ap (λ s. edge_bound s.graph) c.self.view_is)) c.deref-2.ensures.value _
+    (omega (arith, edges_long c.self.invariant, c.self.invariant.edge_slots.few))
 
 pub returns-clause-filtered : goal.returns-clause-filtered
 returns-clause-filtered g c =
@@ -37,13 +48,31 @@ returns-clause-filtered g c =
     let edges = map plain_edge c.filter_edges.new.new.cells.items in
     let cells = c.self.inside.nodes.items in
     let rows = c.self.inside.edges.items in
-    let old = stored_graph g.Ix.IndexType.greatest cells rows c.self.inside.first_vacant_node c.self.inside.first_vacant_edge in
-    let nodes_read = slice_read weight_of cells c.deref.result.now _ (c.node_bound-node_bound.ensures ∙ sym (ap (λ s. node_bound s.graph) c.self.view_is)) c.deref.ensures.value in
-    let edges_read = slice_joined before nodes rows c.deref-2.result.now _ c.filter_edges.ensures.nodes (c.edge_bound-edge_bound.ensures ∙ sym (ap (λ s. edge_bound s.graph) c.self.view_is)) c.deref-2.ensures.value in
-    let kept = subst (λ l. KeepsSlots (goal.F-step g) of (λ w. w) (λ w v. v) c.args.f 0 l before) nodes_read c.filter_nodes.ensures.kept in
-    let kept_nodes = subst (λ l. KeepsSlots (goal.F-step g) of (λ w. w) (λ w v. v) c.args.f 0 (take (bound_of (map weight_of cells)) (map weight_of cells)) l) (sym c.filter_edges.ensures.nodes) kept in
-    let kept_edges = subst (λ l. KeepsSlots (goal.G-step g) of weight_in with_weight c.args.g 0 l edges) edges_read c.filter_edges.ensures.kept in
-    subst (λ s. IsFilteredInPlace of (goal.F-step g) (goal.G-step g) c.args.f c.args.g s.graph c.built.result.graph) c.self.view_is (record { nodes = nodes; edges = edges; keeps_nodes = kept_nodes; keeps_edges = kept_edges; is = ap (λ s. s.graph) c.built.ensures })
+    let old =
+    stored_graph g.Ix.IndexType.greatest cells rows c.self.inside.first_vacant_node c.self.inside.first_vacant_edge in
+    let nodes_read =
+    slice_read weight_of cells c.deref.result.now _
+    (c.node_bound-node_bound.ensures ∙ sym (ap (λ s. node_bound s.graph) c.self.view_is)) c.deref.ensures.value in
+    let edges_read =
+    slice_joined before nodes rows c.deref-2.result.now _ c.filter_edges.ensures.nodes
+    (c.edge_bound-edge_bound.ensures ∙ sym (ap (λ s. edge_bound s.graph) c.self.view_is)) c.deref-2.ensures.value in
+    let kept =
+    subst (λ l. KeepsSlots (goal.F-step g) of (λ w. w) (λ w v. v) c.args.f 0 l before) nodes_read
+    c.filter_nodes.ensures.kept in
+    let kept_nodes =
+    subst (λ l. KeepsSlots (goal.F-step g) of (λ w. w) (λ w v. v) c.args.f 0
+    (take (bound_of (map weight_of cells)) (map weight_of cells)) l) (sym c.filter_edges.ensures.nodes) kept in
+    let kept_edges =
+    subst (λ l. KeepsSlots (goal.G-step g) of weight_in with_weight c.args.g 0 l edges) edges_read
+    c.filter_edges.ensures.kept in
+    subst (λ s. IsFilteredInPlace of (goal.F-step g) (goal.G-step g) c.args.f c.args.g s.graph c.built.result.graph)
+    c.self.view_is (record {
+      nodes = nodes;
+      edges = edges;
+      keeps_nodes = kept_nodes;
+      keeps_edges = kept_edges;
+      is = ap (λ s. s.graph) c.built.ensures;
+    })
 
 pub returns-clause-descending : goal.returns-clause-descending
 returns-clause-descending g c =

@@ -15,34 +15,63 @@ returns-then-is_err-clause-unchanged g c = rw c.reserve.ensures.items c.self.vie
 
 pub put_first-x-requires-clause-parent : goal.put_first-x-requires-clause-parent
 put_first-x-requires-clause-parent g c =
-    let within = node_inside c.self.invariant _ (rw (← c.self.view_is) at c.requires.parent) in omega (arith, within, c.of_node.ensures)
+    let within = node_inside c.self.invariant _ (rw (← c.self.view_is) at c.requires.parent) in
+    omega (arith, within, c.of_node.ensures)
 
 pub put_first-x-requires-clause-child : goal.put_first-x-requires-clause-child
 put_first-x-requires-clause-child g c =
-    let within = node_inside c.self.invariant _ (rw (← c.self.view_is) at c.requires.child) in omega (arith, within, c.of_node-2.ensures)
+    let within = node_inside c.self.invariant _ (rw (← c.self.view_is) at c.requires.child) in
+    omega (arith, within, c.of_node-2.ensures)
 
 pub invariant_of-self-2 : goal.invariant_of-self-2
 invariant_of-self-2 g c =
     let a_in = rw (← c.self.view_is) at c.requires.parent in
     let b_in = rw (← c.self.view_is) at c.requires.child in
-    let few : c.self.inside.edge_count < g.Ix.IndexType.greatest = omega (arith, c.requires.index_left, ap (λ s. edge_count s.graph) c.self.view_is, c.self.invariant.edge_slots.counted) in
-    let new : c.new-e.result ≡ length c.self.inside.edges.items = omega (arith, c.new-e.ensures, c.len.ensures, ap length c.reserve.ensures.items) in
-    Stores-itself (edge_made_code c.self.invariant _ _ c.args.weight a_in b_in _ _ _ _ c.of_node.ensures c.of_node-2.ensures c.put_first-x.ensures.edge (weights_seen _ _ c.put_first-x.ensures.weights) _ c.put_first-x.ensures.out c.put_first-x.ensures.into
-    _ _ new (ap (λ s. s.graph.vacant_edges) c.self.view_is ∙ c.requires.none) few c.reserve.ensures.items c.push_reserved.ensures.items)
+    let few : c.self.inside.edge_count < g.Ix.IndexType.greatest =
+    omega (
+      arith,
+      c.requires.index_left,
+      ap (λ s. edge_count s.graph) c.self.view_is,
+      c.self.invariant.edge_slots.counted,
+    ) in
+    let new : c.new-e.result ≡ length c.self.inside.edges.items =
+    omega (arith, c.new-e.ensures, c.len.ensures, ap length c.reserve.ensures.items) in
+    Stores-itself (edge_made_code c.self.invariant _ _ c.args.weight a_in b_in _ _ _ _ c.of_node.ensures
+    c.of_node-2.ensures c.put_first-x.ensures.edge (weights_seen _ _ c.put_first-x.ensures.weights) _
+    c.put_first-x.ensures.out c.put_first-x.ensures.into
+    _ _ new (ap (λ s. s.graph.vacant_edges) c.self.view_is ∙ c.requires.none) few c.reserve.ensures.items
+    c.push_reserved.ensures.items)
 
 pub returns-clause-added : goal.returns-clause-added
 returns-clause-added g c =
     let a_in = rw (← c.self.view_is) at c.requires.parent in
     let b_in = rw (← c.self.view_is) at c.requires.child in
-    let few : c.self.inside.edge_count < g.Ix.IndexType.greatest = omega (arith, c.requires.index_left, ap (λ s. edge_count s.graph) c.self.view_is, c.self.invariant.edge_slots.counted) in
-    let new : c.new-e.result ≡ length c.self.inside.edges.items = omega (arith, c.new-e.ensures, c.len.ensures, ap length c.reserve.ensures.items) in
-    state_changed _ _ _ _ (λ h. with_edge h (g.Ix.IndexType.number c.args.a) (g.Ix.IndexType.number c.args.b) c.args.weight) c.self.view_is
-    (stored_is (edge_made_code c.self.invariant _ _ c.args.weight a_in b_in _ _ _ _ c.of_node.ensures c.of_node-2.ensures c.put_first-x.ensures.edge (weights_seen _ _ c.put_first-x.ensures.weights) _ c.put_first-x.ensures.out c.put_first-x.ensures.into
-    _ _ new (ap (λ s. s.graph.vacant_edges) c.self.view_is ∙ c.requires.none) few c.reserve.ensures.items c.push_reserved.ensures.items))
+    let few : c.self.inside.edge_count < g.Ix.IndexType.greatest =
+    omega (
+      arith,
+      c.requires.index_left,
+      ap (λ s. edge_count s.graph) c.self.view_is,
+      c.self.invariant.edge_slots.counted,
+    ) in
+    let new : c.new-e.result ≡ length c.self.inside.edges.items =
+    omega (arith, c.new-e.ensures, c.len.ensures, ap length c.reserve.ensures.items) in
+    state_changed _ _ _ _
+    (λ h. with_edge h (g.Ix.IndexType.number c.args.a) (g.Ix.IndexType.number c.args.b) c.args.weight) c.self.view_is
+    (stored_is (edge_made_code c.self.invariant _ _ c.args.weight a_in b_in _ _ _ _ c.of_node.ensures
+    c.of_node-2.ensures c.put_first-x.ensures.edge (weights_seen _ _ c.put_first-x.ensures.weights) _
+    c.put_first-x.ensures.out c.put_first-x.ensures.into
+    _ _ new (ap (λ s. s.graph.vacant_edges) c.self.view_is ∙ c.requires.none) few c.reserve.ensures.items
+    c.push_reserved.ensures.items))
 
 pub new-e-requires : goal.new-e-requires
 new-e-requires g c =
-    omega (arith, c.len.ensures, ap length c.reserve.ensures.items, edges_long c.self.invariant, c.self.invariant.edge_slots.few)
+    omega (
+      arith,
+      c.len.ensures,
+      ap length c.reserve.ensures.items,
+      edges_long c.self.invariant,
+      c.self.invariant.edge_slots.few,
+    )
 
 pub push_reserved-requires : goal.push_reserved-requires
 push_reserved-requires g c = search (rules, c.reserve.ensures.ok, c.is_err.ensures, c.if-is_err.false)

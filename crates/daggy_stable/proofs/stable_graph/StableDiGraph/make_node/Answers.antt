@@ -11,11 +11,25 @@ push_reserved-requires g c = search (rules, c.reserve.ensures.ok, c.is_err.ensur
 
 pub invariant_of-self-2 : goal.invariant_of-self-2
 invariant_of-self-2 g c =
-    let few : c.self.inside.node_count < g.Ix.IndexType.greatest = omega (arith, c.requires.index_left, ap (λ s. node_count s.graph) c.self.view_is, c.self.invariant.node_slots.counted) in
-    Stores-itself (node_made_code c.self.invariant c.args.weight _ _ _ (ap (λ s. s.graph.vacant_nodes) c.self.view_is ∙ c.requires.none) few c.new_node.ensures c.reserve.ensures.items c.push_reserved.ensures.items)
+    let few : c.self.inside.node_count < g.Ix.IndexType.greatest =
+    omega (
+      arith,
+      c.requires.index_left,
+      ap (λ s. node_count s.graph) c.self.view_is,
+      c.self.invariant.node_slots.counted,
+    ) in
+    Stores-itself (node_made_code c.self.invariant c.args.weight _ _ _ (ap (λ s. s.graph.vacant_nodes) c.self.view_is
+    ∙ c.requires.none) few c.new_node.ensures c.reserve.ensures.items c.push_reserved.ensures.items)
 
 pub returns-clause-added : goal.returns-clause-added
 returns-clause-added g c =
-    let few : c.self.inside.node_count < g.Ix.IndexType.greatest = omega (arith, c.requires.index_left, ap (λ s. node_count s.graph) c.self.view_is, c.self.invariant.node_slots.counted) in
+    let few : c.self.inside.node_count < g.Ix.IndexType.greatest =
+    omega (
+      arith,
+      c.requires.index_left,
+      ap (λ s. node_count s.graph) c.self.view_is,
+      c.self.invariant.node_slots.counted,
+    ) in
     state_changed _ _ _ _ (λ h. with_node h c.args.weight) c.self.view_is
-    (stored_is (node_made_code c.self.invariant c.args.weight _ _ _ (ap (λ s. s.graph.vacant_nodes) c.self.view_is ∙ c.requires.none) few c.new_node.ensures c.reserve.ensures.items c.push_reserved.ensures.items))
+    (stored_is (node_made_code c.self.invariant c.args.weight _ _ _ (ap (λ s. s.graph.vacant_nodes) c.self.view_is
+    ∙ c.requires.none) few c.new_node.ensures c.reserve.ensures.items c.push_reserved.ensures.items))

@@ -9,8 +9,11 @@ returns g c =
     let edges = c.self.inside.edges.items in
     let e = g.Ix.IndexType.number c.args.e in
     let found = some_is _ (rw (← c.self.view_is) at c.requires) in
-    let reads : c.index-x.result.now ≡ get_or edges e c.index-x.result.now = c.index-x.ensures ∙ ap (λ z. get_or edges z c.index-x.result.now) c.index.ensures.value in
-    c.edge.ensures.value ∙ c.next.ensures ∙ cursor_shown c.self.invariant c.args.dir e found.0 c.index-x.result.now found.1 (edge_within c.self.invariant e found.0 found.1) reads
+    let reads : c.index-x.result.now ≡ get_or edges e c.index-x.result.now =
+    c.index-x.ensures ∙ ap (λ z. get_or edges z c.index-x.result.now) c.index.ensures.value in
+    c.edge.ensures.value ∙ c.next.ensures
+    ∙ cursor_shown c.self.invariant c.args.dir e found.0 c.index-x.result.now found.1
+    (edge_within c.self.invariant e found.0 found.1) reads
     ∙ ap (λ s. cursor_after c.args.dir g.Ix.IndexType.greatest s.graph e (edge_at s.graph e)) c.self.view_is
 
 pub index-x-requires : goal.index-x-requires

@@ -7,7 +7,8 @@ abbrev pub invariant-back : goal.invariant-back
 invariant-back g l =
     record {
       within : l.n ≤ length l.self-inside.nodes.items;
-      same : bound_of (take l.n (map weight_of l.self-inside.nodes.items)) ≡ bound_of (map weight_of l.self-inside.nodes.items);
+      same : bound_of (take l.n (map weight_of l.self-inside.nodes.items))
+          ≡ bound_of (map weight_of l.self-inside.nodes.items);
     }
 
 abbrev pub decreases-back : goal.decreases-back

@@ -5,4 +5,10 @@ use Rattle.daggy_stable.proofs.VacantPassed.{numbered_few}
 use Rattle.daggy_stable.proofs.stable_graph.StableDiGraph.node_references.Goals as goal
 
 pub returns-clause-fits : goal.returns-clause-fits
-returns-clause-fits g c = omega (arith, numbered_few 0 (map weight_of c.as_slice.result.now), length-map c.as_slice.result.now weight_of, c.as_slice.ensures.len)
+returns-clause-fits g c =
+    omega (
+      arith,
+      numbered_few 0 (map weight_of c.as_slice.result.now),
+      length-map c.as_slice.result.now weight_of,
+      c.as_slice.ensures.len,
+    )

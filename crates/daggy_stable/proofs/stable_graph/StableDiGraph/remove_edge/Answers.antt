@@ -5,4 +5,5 @@ pub returns-clause-removed : goal.returns-clause-removed
 returns-clause-removed g c = on_some_is _ _ c.vacate_edge.ensures.removed
 
 pub returns-clause-missing : goal.returns-clause-missing
-returns-clause-missing g c = none_not (λ x. x.weight) _ _ _ (c.contains_edge.ensures.0 c.if-not-contains_edge.false) c.vacate_edge.ensures.value
+returns-clause-missing g c =
+    none_not (λ x. x.weight) _ _ _ (c.contains_edge.ensures.0 c.if-not-contains_edge.false) c.vacate_edge.ensures.value

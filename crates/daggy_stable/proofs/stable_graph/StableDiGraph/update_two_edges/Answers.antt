@@ -13,36 +13,56 @@ at_edges-requires-clause-first g c =
     let nodes = c.self.inside.nodes.items in
     let edges = c.self.inside.edges.items in
     let lent_is = c.as_mut_slice.ensures.value in
-    omega (arith, edge_stands _ nodes edges _ _ _ _ c.self.invariant _ c.args.self.now c.self.view_is (g.Ix.IndexType.number c.args.a) c.index.result c.index.ensures.value c.requires.first, ap length lent_is)
+    omega (
+      arith,
+      edge_stands _ nodes edges _ _ _ _ c.self.invariant _ c.args.self.now c.self.view_is
+          (g.Ix.IndexType.number c.args.a) c.index.result c.index.ensures.value c.requires.first,
+      ap length lent_is,
+    )
 
 pub at_edges-requires-clause-second : goal.at_edges-requires-clause-second
 at_edges-requires-clause-second g c =
     let nodes = c.self.inside.nodes.items in
     let edges = c.self.inside.edges.items in
     let lent_is = c.as_mut_slice.ensures.value in
-    omega (arith, edge_stands _ nodes edges _ _ _ _ c.self.invariant _ c.args.self.now c.self.view_is (g.Ix.IndexType.number c.args.b) c.index-2.result c.index-2.ensures.value c.requires.second, ap length lent_is)
+    omega (
+      arith,
+      edge_stands _ nodes edges _ _ _ _ c.self.invariant _ c.args.self.now c.self.view_is
+          (g.Ix.IndexType.number c.args.b) c.index-2.result c.index-2.ensures.value c.requires.second,
+      ap length lent_is,
+    )
 
 pub at_edges-requires-clause-first_held : goal.at_edges-requires-clause-first_held
 at_edges-requires-clause-first_held g c =
     let nodes = c.self.inside.nodes.items in
     let edges = c.self.inside.edges.items in
     let lent_is = c.as_mut_slice.ensures.value in
-    subst (λ o. IsSome o) (edge_seen _ nodes edges _ _ _ _ c.self.invariant _ c.args.self.now c.self.view_is (g.Ix.IndexType.number c.args.a) c.index.result c.index.ensures.value _ lent_is) (edge_weighs _ nodes edges _ _ _ _ c.self.invariant _ c.args.self.now c.self.view_is (g.Ix.IndexType.number c.args.a) c.index.result c.index.ensures.value c.requires.first)
+    subst (λ o. IsSome o) (edge_seen _ nodes edges _ _ _ _ c.self.invariant _ c.args.self.now c.self.view_is
+    (g.Ix.IndexType.number c.args.a) c.index.result c.index.ensures.value _ lent_is)
+    (edge_weighs _ nodes edges _ _ _ _ c.self.invariant _ c.args.self.now c.self.view_is
+    (g.Ix.IndexType.number c.args.a) c.index.result c.index.ensures.value c.requires.first)
 
 pub at_edges-requires-clause-second_held : goal.at_edges-requires-clause-second_held
 at_edges-requires-clause-second_held g c =
     let nodes = c.self.inside.nodes.items in
     let edges = c.self.inside.edges.items in
     let lent_is = c.as_mut_slice.ensures.value in
-    subst (λ o. IsSome o) (edge_seen _ nodes edges _ _ _ _ c.self.invariant _ c.args.self.now c.self.view_is (g.Ix.IndexType.number c.args.b) c.index-2.result c.index-2.ensures.value _ lent_is) (edge_weighs _ nodes edges _ _ _ _ c.self.invariant _ c.args.self.now c.self.view_is (g.Ix.IndexType.number c.args.b) c.index-2.result c.index-2.ensures.value c.requires.second)
+    subst (λ o. IsSome o) (edge_seen _ nodes edges _ _ _ _ c.self.invariant _ c.args.self.now c.self.view_is
+    (g.Ix.IndexType.number c.args.b) c.index-2.result c.index-2.ensures.value _ lent_is)
+    (edge_weighs _ nodes edges _ _ _ _ c.self.invariant _ c.args.self.now c.self.view_is
+    (g.Ix.IndexType.number c.args.b) c.index-2.result c.index-2.ensures.value c.requires.second)
 
 pub at_edges-requires-clause-callable : goal.at_edges-requires-clause-callable
 at_edges-requires-clause-callable g c =
     let nodes = c.self.inside.nodes.items in
     let edges = c.self.inside.edges.items in
     let lent_is = c.as_mut_slice.ensures.value in
-    let first_seen = edge_seen _ nodes edges _ _ _ _ c.self.invariant _ c.args.self.now c.self.view_is (g.Ix.IndexType.number c.args.a) c.index.result c.index.ensures.value _ lent_is in
-    let second_seen = edge_seen _ nodes edges _ _ _ _ c.self.invariant _ c.args.self.now c.self.view_is (g.Ix.IndexType.number c.args.b) c.index-2.result c.index-2.ensures.value _ lent_is in
+    let first_seen =
+    edge_seen _ nodes edges _ _ _ _ c.self.invariant _ c.args.self.now c.self.view_is (g.Ix.IndexType.number c.args.a)
+    c.index.result c.index.ensures.value _ lent_is in
+    let second_seen =
+    edge_seen _ nodes edges _ _ _ _ c.self.invariant _ c.args.self.now c.self.view_is (g.Ix.IndexType.number c.args.b)
+    c.index-2.result c.index-2.ensures.value _ lent_is in
     λ p q p_is q_is. c.requires.callable p q (first_seen ∙ p_is) (second_seen ∙ q_is)
 
 pub invariant_of-self : goal.invariant_of-self
@@ -53,9 +73,15 @@ invariant_of-self g c =
     let r = c.at_edges.ensures in
     let a = g.Ix.IndexType.number c.args.a in
     let b = g.Ix.IndexType.number c.args.b in
-    let first = edge_has _ nodes edges _ _ _ _ c.self.invariant _ c.args.self.now c.self.view_is (g.Ix.IndexType.number c.args.a) c.index.result c.index.ensures.value c.requires.first in
-    let second = edge_has _ nodes edges _ _ _ _ c.self.invariant _ c.args.self.now c.self.view_is (g.Ix.IndexType.number c.args.b) c.index-2.result c.index-2.ensures.value c.requires.second in
-    let stored = edges_updated c.self.invariant a b _ _ c.index.ensures.value c.index-2.ensures.value _ _ _ r.first_left.now r.second_left.now first second c.self.inside.edges.ok.0 lent_is r.leaves in
+    let first =
+    edge_has _ nodes edges _ _ _ _ c.self.invariant _ c.args.self.now c.self.view_is (g.Ix.IndexType.number c.args.a)
+    c.index.result c.index.ensures.value c.requires.first in
+    let second =
+    edge_has _ nodes edges _ _ _ _ c.self.invariant _ c.args.self.now c.self.view_is (g.Ix.IndexType.number c.args.b)
+    c.index-2.result c.index-2.ensures.value c.requires.second in
+    let stored =
+    edges_updated c.self.invariant a b _ _ c.index.ensures.value c.index-2.ensures.value _ _ _ r.first_left.now
+    r.second_left.now first second c.self.inside.edges.ok.0 lent_is r.leaves in
     Stores-itself stored
 
 pub returns : goal.returns
@@ -66,12 +92,24 @@ returns g c =
     let r = c.at_edges.ensures in
     let a = g.Ix.IndexType.number c.args.a in
     let b = g.Ix.IndexType.number c.args.b in
-    let first = edge_has _ nodes edges _ _ _ _ c.self.invariant _ c.args.self.now c.self.view_is (g.Ix.IndexType.number c.args.a) c.index.result c.index.ensures.value c.requires.first in
-    let second = edge_has _ nodes edges _ _ _ _ c.self.invariant _ c.args.self.now c.self.view_is (g.Ix.IndexType.number c.args.b) c.index-2.result c.index-2.ensures.value c.requires.second in
-    let stored = edges_updated c.self.invariant a b _ _ c.index.ensures.value c.index-2.ensures.value _ _ _ r.first_left.now r.second_left.now first second c.self.inside.edges.ok.0 lent_is r.leaves in
-    let was = stored_graph g.Ix.IndexType.greatest nodes edges c.self.inside.first_vacant_node c.self.inside.first_vacant_edge in
+    let first =
+    edge_has _ nodes edges _ _ _ _ c.self.invariant _ c.args.self.now c.self.view_is (g.Ix.IndexType.number c.args.a)
+    c.index.result c.index.ensures.value c.requires.first in
+    let second =
+    edge_has _ nodes edges _ _ _ _ c.self.invariant _ c.args.self.now c.self.view_is (g.Ix.IndexType.number c.args.b)
+    c.index-2.result c.index-2.ensures.value c.requires.second in
+    let stored =
+    edges_updated c.self.invariant a b _ _ c.index.ensures.value c.index-2.ensures.value _ _ _ r.first_left.now
+    r.second_left.now first second c.self.inside.edges.ok.0 lent_is r.leaves in
+    let was =
+    stored_graph g.Ix.IndexType.greatest nodes edges c.self.inside.first_vacant_node c.self.inside.first_vacant_edge in
     called_at g.F.FnOnce c.args.f _ _ _ _ _ r.first r.second r.first_left r.second_left
-    (edge_seen _ nodes edges _ _ _ _ c.self.invariant _ c.args.self.now c.self.view_is (g.Ix.IndexType.number c.args.a) c.index.result c.index.ensures.value _ lent_is ∙ r.shows.0)
-    (edge_seen _ nodes edges _ _ _ _ c.self.invariant _ c.args.self.now c.self.view_is (g.Ix.IndexType.number c.args.b) c.index-2.result c.index-2.ensures.value _ lent_is ∙ r.shows.1)
+    (edge_seen _ nodes edges _ _ _ _ c.self.invariant _ c.args.self.now c.self.view_is (g.Ix.IndexType.number c.args.a)
+    c.index.result c.index.ensures.value _ lent_is
+    ∙ r.shows.0)
+    (edge_seen _ nodes edges _ _ _ _ c.self.invariant _ c.args.self.now c.self.view_is (g.Ix.IndexType.number c.args.b)
+    c.index-2.result c.index-2.ensures.value _ lent_is
+    ∙ r.shows.1)
     r.called
-    (state_changed _ was _ _ (λ h. with_edge_weight (with_edge_weight h a r.first_left.now) b r.second_left.now) c.self.view_is (stored_is stored))
+    (state_changed _ was _ _ (λ h. with_edge_weight (with_edge_weight h a r.first_left.now) b r.second_left.now)
+    c.self.view_is (stored_is stored))

@@ -13,36 +13,52 @@ at_nodes-requires-clause-first g c =
     let nodes = c.self.inside.nodes.items in
     let edges = c.self.inside.edges.items in
     let lent_is = c.as_mut_slice.ensures.value in
-    omega (arith, node_stands _ nodes edges _ _ _ _ c.self.invariant _ c.args.self.now c.self.view_is (g.Ix.IndexType.number c.args.a) c.index.result c.index.ensures.value c.requires.first, ap length lent_is)
+    omega (
+      arith,
+      node_stands _ nodes edges _ _ _ _ c.self.invariant _ c.args.self.now c.self.view_is
+          (g.Ix.IndexType.number c.args.a) c.index.result c.index.ensures.value c.requires.first,
+      ap length lent_is,
+    )
 
 pub at_nodes-requires-clause-second : goal.at_nodes-requires-clause-second
 at_nodes-requires-clause-second g c =
     let nodes = c.self.inside.nodes.items in
     let edges = c.self.inside.edges.items in
     let lent_is = c.as_mut_slice.ensures.value in
-    omega (arith, node_stands _ nodes edges _ _ _ _ c.self.invariant _ c.args.self.now c.self.view_is (g.Ix.IndexType.number c.args.b) c.index-2.result c.index-2.ensures.value c.requires.second, ap length lent_is)
+    omega (
+      arith,
+      node_stands _ nodes edges _ _ _ _ c.self.invariant _ c.args.self.now c.self.view_is
+          (g.Ix.IndexType.number c.args.b) c.index-2.result c.index-2.ensures.value c.requires.second,
+      ap length lent_is,
+    )
 
 pub at_nodes-requires-clause-first_held : goal.at_nodes-requires-clause-first_held
 at_nodes-requires-clause-first_held g c =
     let nodes = c.self.inside.nodes.items in
     let edges = c.self.inside.edges.items in
     let lent_is = c.as_mut_slice.ensures.value in
-    subst (λ o. IsSome o) (node_seen _ nodes edges _ _ _ _ c.self.invariant _ c.args.self.now c.self.view_is (g.Ix.IndexType.number c.args.a) c.index.result c.index.ensures.value _ lent_is) c.requires.first
+    subst (λ o. IsSome o) (node_seen _ nodes edges _ _ _ _ c.self.invariant _ c.args.self.now c.self.view_is
+    (g.Ix.IndexType.number c.args.a) c.index.result c.index.ensures.value _ lent_is) c.requires.first
 
 pub at_nodes-requires-clause-second_held : goal.at_nodes-requires-clause-second_held
 at_nodes-requires-clause-second_held g c =
     let nodes = c.self.inside.nodes.items in
     let edges = c.self.inside.edges.items in
     let lent_is = c.as_mut_slice.ensures.value in
-    subst (λ o. IsSome o) (node_seen _ nodes edges _ _ _ _ c.self.invariant _ c.args.self.now c.self.view_is (g.Ix.IndexType.number c.args.b) c.index-2.result c.index-2.ensures.value _ lent_is) c.requires.second
+    subst (λ o. IsSome o) (node_seen _ nodes edges _ _ _ _ c.self.invariant _ c.args.self.now c.self.view_is
+    (g.Ix.IndexType.number c.args.b) c.index-2.result c.index-2.ensures.value _ lent_is) c.requires.second
 
 pub at_nodes-requires-clause-callable : goal.at_nodes-requires-clause-callable
 at_nodes-requires-clause-callable g c =
     let nodes = c.self.inside.nodes.items in
     let edges = c.self.inside.edges.items in
     let lent_is = c.as_mut_slice.ensures.value in
-    let first_seen = node_seen _ nodes edges _ _ _ _ c.self.invariant _ c.args.self.now c.self.view_is (g.Ix.IndexType.number c.args.a) c.index.result c.index.ensures.value _ lent_is in
-    let second_seen = node_seen _ nodes edges _ _ _ _ c.self.invariant _ c.args.self.now c.self.view_is (g.Ix.IndexType.number c.args.b) c.index-2.result c.index-2.ensures.value _ lent_is in
+    let first_seen =
+    node_seen _ nodes edges _ _ _ _ c.self.invariant _ c.args.self.now c.self.view_is (g.Ix.IndexType.number c.args.a)
+    c.index.result c.index.ensures.value _ lent_is in
+    let second_seen =
+    node_seen _ nodes edges _ _ _ _ c.self.invariant _ c.args.self.now c.self.view_is (g.Ix.IndexType.number c.args.b)
+    c.index-2.result c.index-2.ensures.value _ lent_is in
     λ p q p_is q_is. c.requires.callable p q (first_seen ∙ p_is) (second_seen ∙ q_is)
 
 pub invariant_of-self : goal.invariant_of-self
@@ -53,9 +69,15 @@ invariant_of-self g c =
     let r = c.at_nodes.ensures in
     let a = g.Ix.IndexType.number c.args.a in
     let b = g.Ix.IndexType.number c.args.b in
-    let first = node_has _ nodes edges _ _ _ _ c.self.invariant _ c.args.self.now c.self.view_is (g.Ix.IndexType.number c.args.a) c.index.result c.index.ensures.value c.requires.first in
-    let second = node_has _ nodes edges _ _ _ _ c.self.invariant _ c.args.self.now c.self.view_is (g.Ix.IndexType.number c.args.b) c.index-2.result c.index-2.ensures.value c.requires.second in
-    let stored = nodes_updated c.self.invariant a b _ _ c.index.ensures.value c.index-2.ensures.value _ _ _ r.first_left.now r.second_left.now first second c.self.inside.nodes.ok.0 lent_is r.leaves in
+    let first =
+    node_has _ nodes edges _ _ _ _ c.self.invariant _ c.args.self.now c.self.view_is (g.Ix.IndexType.number c.args.a)
+    c.index.result c.index.ensures.value c.requires.first in
+    let second =
+    node_has _ nodes edges _ _ _ _ c.self.invariant _ c.args.self.now c.self.view_is (g.Ix.IndexType.number c.args.b)
+    c.index-2.result c.index-2.ensures.value c.requires.second in
+    let stored =
+    nodes_updated c.self.invariant a b _ _ c.index.ensures.value c.index-2.ensures.value _ _ _ r.first_left.now
+    r.second_left.now first second c.self.inside.nodes.ok.0 lent_is r.leaves in
     Stores-itself stored
 
 pub returns : goal.returns
@@ -66,12 +88,24 @@ returns g c =
     let r = c.at_nodes.ensures in
     let a = g.Ix.IndexType.number c.args.a in
     let b = g.Ix.IndexType.number c.args.b in
-    let first = node_has _ nodes edges _ _ _ _ c.self.invariant _ c.args.self.now c.self.view_is (g.Ix.IndexType.number c.args.a) c.index.result c.index.ensures.value c.requires.first in
-    let second = node_has _ nodes edges _ _ _ _ c.self.invariant _ c.args.self.now c.self.view_is (g.Ix.IndexType.number c.args.b) c.index-2.result c.index-2.ensures.value c.requires.second in
-    let stored = nodes_updated c.self.invariant a b _ _ c.index.ensures.value c.index-2.ensures.value _ _ _ r.first_left.now r.second_left.now first second c.self.inside.nodes.ok.0 lent_is r.leaves in
-    let was = stored_graph g.Ix.IndexType.greatest nodes edges c.self.inside.first_vacant_node c.self.inside.first_vacant_edge in
+    let first =
+    node_has _ nodes edges _ _ _ _ c.self.invariant _ c.args.self.now c.self.view_is (g.Ix.IndexType.number c.args.a)
+    c.index.result c.index.ensures.value c.requires.first in
+    let second =
+    node_has _ nodes edges _ _ _ _ c.self.invariant _ c.args.self.now c.self.view_is (g.Ix.IndexType.number c.args.b)
+    c.index-2.result c.index-2.ensures.value c.requires.second in
+    let stored =
+    nodes_updated c.self.invariant a b _ _ c.index.ensures.value c.index-2.ensures.value _ _ _ r.first_left.now
+    r.second_left.now first second c.self.inside.nodes.ok.0 lent_is r.leaves in
+    let was =
+    stored_graph g.Ix.IndexType.greatest nodes edges c.self.inside.first_vacant_node c.self.inside.first_vacant_edge in
     called_at g.F.FnOnce c.args.f _ _ _ _ _ r.first r.second r.first_left r.second_left
-    (node_seen _ nodes edges _ _ _ _ c.self.invariant _ c.args.self.now c.self.view_is (g.Ix.IndexType.number c.args.a) c.index.result c.index.ensures.value _ lent_is ∙ r.shows.0)
-    (node_seen _ nodes edges _ _ _ _ c.self.invariant _ c.args.self.now c.self.view_is (g.Ix.IndexType.number c.args.b) c.index-2.result c.index-2.ensures.value _ lent_is ∙ r.shows.1)
+    (node_seen _ nodes edges _ _ _ _ c.self.invariant _ c.args.self.now c.self.view_is (g.Ix.IndexType.number c.args.a)
+    c.index.result c.index.ensures.value _ lent_is
+    ∙ r.shows.0)
+    (node_seen _ nodes edges _ _ _ _ c.self.invariant _ c.args.self.now c.self.view_is (g.Ix.IndexType.number c.args.b)
+    c.index-2.result c.index-2.ensures.value _ lent_is
+    ∙ r.shows.1)
     r.called
-    (state_changed _ was _ _ (λ h. with_node_weight (with_node_weight h a r.first_left.now) b r.second_left.now) c.self.view_is (stored_is stored))
+    (state_changed _ was _ _ (λ h. with_node_weight (with_node_weight h a r.first_left.now) b r.second_left.now)
+    c.self.view_is (stored_is stored))

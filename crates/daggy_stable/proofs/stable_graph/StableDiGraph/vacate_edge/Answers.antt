@@ -16,7 +16,8 @@ unlink-requires g c =
 pub index_mut-x-requires : goal.index_mut-x-requires
 index_mut-x-requires g c =
     let has = rw (← c.self.view_is, ← c.of_edge-link.ensures) at c.requires in
-    let within = edge_inside c.self.invariant c.of_edge-link.result has _ _ c.unlink.ensures.nodes c.unlink.ensures.edges in
+    let within =
+    edge_inside c.self.invariant c.of_edge-link.result has _ _ c.unlink.ensures.nodes c.unlink.ensures.edges in
     omega (arith, within, c.index.ensures.value)
 
 pub overflow_sub-self : goal.overflow_sub-self
@@ -28,17 +29,28 @@ overflow_sub-self g c =
 pub invariant_of-self : goal.invariant_of-self
 invariant_of-self g c =
     let has = rw (← c.self.view_is, ← c.of_edge-link.ensures) at c.requires in
-    Stores-itself (edge_removed_code c.self.invariant c.of_edge-link.result has _ _ c.unlink.ensures.nodes c.unlink.ensures.edges c.unlink.ensures.links _ c.index_mut-x.result.now c.set_next.new.x c.take-weight.new.self c.index.ensures.value c.set_next.ensures c.take-weight.ensures.after)
+    Stores-itself (edge_removed_code c.self.invariant c.of_edge-link.result has _ _ c.unlink.ensures.nodes
+    c.unlink.ensures.edges c.unlink.ensures.links _ c.index_mut-x.result.now c.set_next.new.x c.take-weight.new.self
+    c.index.ensures.value c.set_next.ensures c.take-weight.ensures.after)
 
 pub returns-clause-value : goal.returns-clause-value
 returns-clause-value g c =
     let has = rw (← c.self.view_is, ← c.of_edge-link.ensures) at c.requires in
-    removed_weight c.self.invariant c.of_edge-link.result has _ _ c.unlink.ensures.nodes c.unlink.ensures.edges _ c.index_mut-x.result.now c.set_next.new.x c.take-weight.result c.take-weight.new.self c.index.ensures.value c.index_mut-x.ensures.value c.set_next.ensures c.take-weight.ensures.value
-    ∙ ap (λ s. option_map (λ z. z.weight) (edge_at s.graph c.of_edge-link.result)) c.self.view_is ∙ ap (λ z. option_map (λ z. z.weight) (edge_at c.args.self.now.graph z)) c.of_edge-link.ensures
+    removed_weight c.self.invariant c.of_edge-link.result has _ _ c.unlink.ensures.nodes c.unlink.ensures.edges _
+    c.index_mut-x.result.now c.set_next.new.x c.take-weight.result c.take-weight.new.self c.index.ensures.value
+    c.index_mut-x.ensures.value c.set_next.ensures c.take-weight.ensures.value
+    ∙ ap (λ s. option_map (λ z. z.weight) (edge_at s.graph c.of_edge-link.result)) c.self.view_is
+    ∙ ap (λ z. option_map (λ z. z.weight) (edge_at c.args.self.now.graph z)) c.of_edge-link.ensures
 
 pub returns-clause-removed : goal.returns-clause-removed
 returns-clause-removed g c =
     let has = rw (← c.self.view_is, ← c.of_edge-link.ensures) at c.requires in
-    let was = stored_graph g.Ix.IndexType.greatest c.self.inside.nodes.items c.self.inside.edges.items c.self.inside.first_vacant_node c.self.inside.first_vacant_edge in
-    let stored = edge_removed_code c.self.invariant c.of_edge-link.result has _ _ c.unlink.ensures.nodes c.unlink.ensures.edges c.unlink.ensures.links _ c.index_mut-x.result.now c.set_next.new.x c.take-weight.new.self c.index.ensures.value c.set_next.ensures c.take-weight.ensures.after in
-    state_changed _ was _ _ (λ h. without_edge Stable h (g.Ix.IndexType.number c.args.e)) c.self.view_is (stored_is stored ∙ ap (without_edge Stable was) c.of_edge-link.ensures)
+    let was =
+    stored_graph g.Ix.IndexType.greatest c.self.inside.nodes.items c.self.inside.edges.items
+    c.self.inside.first_vacant_node c.self.inside.first_vacant_edge in
+    let stored =
+    edge_removed_code c.self.invariant c.of_edge-link.result has _ _ c.unlink.ensures.nodes c.unlink.ensures.edges
+    c.unlink.ensures.links _ c.index_mut-x.result.now c.set_next.new.x c.take-weight.new.self c.index.ensures.value
+    c.set_next.ensures c.take-weight.ensures.after in
+    state_changed _ was _ _ (λ h. without_edge Stable h (g.Ix.IndexType.number c.args.e)) c.self.view_is
+    (stored_is stored ∙ ap (without_edge Stable was) c.of_edge-link.ensures)

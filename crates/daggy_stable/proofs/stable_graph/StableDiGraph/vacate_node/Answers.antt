@@ -18,23 +18,38 @@ overflow_sub-self g c =
 pub invariant_of-self : goal.invariant_of-self
 invariant_of-self g c =
     let has = rw (← c.self.view_is, ← c.of_node-link.ensures) at c.requires.node in
-    let was = stored_graph g.Ix.IndexType.greatest c.self.inside.nodes.items c.self.inside.edges.items c.self.inside.first_vacant_node c.self.inside.first_vacant_edge in
-    let empty : (d : Direction) → list_at d was c.of_node-link.result ≡ [] = λ d. ap (λ s. list_at d s.graph c.of_node-link.result) c.self.view_is ∙ ap (list_at d c.args.self.now.graph) c.of_node-link.ensures ∙ c.requires.no_edges d in
-    Stores-itself (node_dropped_code c.self.invariant c.of_node-link.result has empty _ c.index_mut-x.result.now c.set_first.new.x c.take-weight.new.self c.index.ensures.value c.set_first.ensures c.take-weight.ensures.after)
+    let was =
+    stored_graph g.Ix.IndexType.greatest c.self.inside.nodes.items c.self.inside.edges.items
+    c.self.inside.first_vacant_node c.self.inside.first_vacant_edge in
+    let empty : (d : Direction) → list_at d was c.of_node-link.result ≡ [] = λ d.
+    ap (λ s. list_at d s.graph c.of_node-link.result) c.self.view_is
+    ∙ ap (list_at d c.args.self.now.graph) c.of_node-link.ensures ∙ c.requires.no_edges d in
+    Stores-itself (node_dropped_code c.self.invariant c.of_node-link.result has empty _ c.index_mut-x.result.now
+    c.set_first.new.x c.take-weight.new.self c.index.ensures.value c.set_first.ensures c.take-weight.ensures.after)
 
 pub returns-clause-value : goal.returns-clause-value
 returns-clause-value g c =
     let has = rw (← c.self.view_is, ← c.of_node-link.ensures) at c.requires.node in
-    c.take-weight.ensures.value ∙ ap (λ z. z.weight) c.set_first.ensures ∙ node_weight_read c.self.invariant c.of_node-link.result c.index.result c.index_mut-x.result.now has c.index.ensures.value c.index_mut-x.ensures.value
-    ∙ ap (λ s. node_weight s.graph c.of_node-link.result) c.self.view_is ∙ ap (node_weight c.args.self.now.graph) c.of_node-link.ensures
+    c.take-weight.ensures.value ∙ ap (λ z. z.weight) c.set_first.ensures
+    ∙ node_weight_read c.self.invariant c.of_node-link.result c.index.result c.index_mut-x.result.now has
+    c.index.ensures.value c.index_mut-x.ensures.value
+    ∙ ap (λ s. node_weight s.graph c.of_node-link.result) c.self.view_is
+    ∙ ap (node_weight c.args.self.now.graph) c.of_node-link.ensures
 
 pub returns-clause-dropped : goal.returns-clause-dropped
 returns-clause-dropped g c =
     let has = rw (← c.self.view_is, ← c.of_node-link.ensures) at c.requires.node in
-    let was = stored_graph g.Ix.IndexType.greatest c.self.inside.nodes.items c.self.inside.edges.items c.self.inside.first_vacant_node c.self.inside.first_vacant_edge in
-    let empty : (d : Direction) → list_at d was c.of_node-link.result ≡ [] = λ d. ap (λ s. list_at d s.graph c.of_node-link.result) c.self.view_is ∙ ap (list_at d c.args.self.now.graph) c.of_node-link.ensures ∙ c.requires.no_edges d in
-    let stored = node_dropped_code c.self.invariant c.of_node-link.result has empty _ c.index_mut-x.result.now c.set_first.new.x c.take-weight.new.self c.index.ensures.value c.set_first.ensures c.take-weight.ensures.after in
-    state_changed _ was _ _ (λ h. with_node_dropped Stable h (g.Ix.IndexType.number c.args.n)) c.self.view_is (stored_is stored ∙ ap (with_node_dropped Stable was) c.of_node-link.ensures)
+    let was =
+    stored_graph g.Ix.IndexType.greatest c.self.inside.nodes.items c.self.inside.edges.items
+    c.self.inside.first_vacant_node c.self.inside.first_vacant_edge in
+    let empty : (d : Direction) → list_at d was c.of_node-link.result ≡ [] = λ d.
+    ap (λ s. list_at d s.graph c.of_node-link.result) c.self.view_is
+    ∙ ap (list_at d c.args.self.now.graph) c.of_node-link.ensures ∙ c.requires.no_edges d in
+    let stored =
+    node_dropped_code c.self.invariant c.of_node-link.result has empty _ c.index_mut-x.result.now c.set_first.new.x
+    c.take-weight.new.self c.index.ensures.value c.set_first.ensures c.take-weight.ensures.after in
+    state_changed _ was _ _ (λ h. with_node_dropped Stable h (g.Ix.IndexType.number c.args.n)) c.self.view_is
+    (stored_is stored ∙ ap (with_node_dropped Stable was) c.of_node-link.ensures)
 
 pub index_mut-x-requires : goal.index_mut-x-requires
 index_mut-x-requires g c =

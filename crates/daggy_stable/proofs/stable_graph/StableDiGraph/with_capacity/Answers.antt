@@ -3,4 +3,5 @@ use Rattle.daggy_stable.proofs.stable_graph.StableDiGraph.with_capacity.Goals as
 
 pub invariant_of-result : goal.invariant_of-result
 invariant_of-result g c =
-    rw (c.in_ok-with_capacity.ensures.items, c.in_ok-with_capacity-2.ensures.items) (Stores-itself (Stores-empty _ _ _ c.end.ensures.value c.end-2.ensures.value))
+    rw (c.in_ok-with_capacity.ensures.items, c.in_ok-with_capacity-2.ensures.items)
+    (Stores-itself (Stores-empty _ _ _ c.end.ensures.value c.end-2.ensures.value))

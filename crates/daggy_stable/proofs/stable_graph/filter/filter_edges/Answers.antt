@@ -1,4 +1,5 @@
-use Rattle.std.proofs.Common.{◌≡◌, ◌<◌, ◌+◌, [], ◌∷◌, ◌++◌, Option, Some, None, IsSome, map, length, get_or, sym, ap, subst, ◌∙◌, of_calls, arith}
+use Rattle.std.proofs.Common.{◌≡◌, ◌<◌, ◌+◌, [], ◌∷◌, ◌++◌, Option, Some, None, IsSome, map, length, get_or, sym, ap}
+use Rattle.std.proofs.Common.{subst, ◌∙◌, of_calls, arith}
 use Rattle.std.proofs.lemmas.List.{length-map, get_or-map}
 use Rattle.std.specs.Option.{option_map}
 use Rattle.daggy_base.specs.Graph.{slot}
@@ -8,7 +9,8 @@ use Rattle.daggy_base.specs.Mapping.{weight_in, with_weight}
 use Rattle.daggy_cells.proofs.MappingLemmas.{CalledAt-from_step}
 use Rattle.daggy_stable.specs.Stored.{weight_of, plain, plain_edge}
 use Rattle.daggy_stable.specs.Building.{between}
-use Rattle.daggy_stable.proofs.KeptSlots.{KeptSlots-passed, KeptSlots-called, KeptSlots-done, one_longer, joined_is, lost_is}
+use Rattle.daggy_stable.proofs.KeptSlots.{KeptSlots-passed, KeptSlots-called, KeptSlots-done, one_longer, joined_is}
+use Rattle.daggy_stable.proofs.KeptSlots.{lost_is}
 use Rattle.daggy_stable.proofs.stable_graph.filter.filter_edges.Goals as goal
 
 pub each-preserved-in-None : goal.each-preserved-in-None
@@ -19,15 +21,23 @@ each-preserved-in-None g c =
     let x = c.index-edges-i.result in
     let within : c.each.i < length edges = omega arith in
     let slots : c.each.i < length (map read edges) = omega (arith, within, length-map edges read) in
-    let lost : read x ≡ None = lost_is stayed x (c.in-None.ensures ∙ ap (λ l. option_map weight_in (if_ends_exist l (plain_edge x))) c.each.invariant.nodes) in
-    let reads : get_or (map read edges) c.each.i None ≡ None = get_or-map read edges c.each.i x None within ∙ ap read (sym c.index-edges-i.is) ∙ lost in
+    let lost : read x ≡ None =
+    lost_is stayed x
+    (c.in-None.ensures ∙ ap (λ l. option_map weight_in (if_ends_exist l (plain_edge x))) c.each.invariant.nodes) in
+    let reads : get_or (map read edges) c.each.i None ≡ None =
+    get_or-map read edges c.each.i x None within ∙ ap read (sym c.index-edges-i.is) ∙ lost in
     record {
       callable = c.each.invariant.callable;
       capacity = omega (arith, c.leave_edge.ensures.capacity, c.each.invariant.capacity);
-      count = one_longer plain_edge c.each.new.cells.items c.leave_edge.new.edges.cells.items None c.leave_edge.ensures.edges ∙ ap (λ n. n + 1) c.each.invariant.count;
+      count =
+          one_longer plain_edge c.each.new.cells.items c.leave_edge.new.edges.cells.items None
+          c.leave_edge.ensures.edges
+          ∙ ap (λ n. n + 1) c.each.invariant.count;
       stored = c.leave_edge.ensures.stored;
       nodes = c.each.invariant.nodes;
-      kept = KeptSlots-passed (goal.G-step g) g.Ix.IndexType.of weight_in with_weight c.args.g (map read edges) c.each.g _ _ c.each.i slots reads c.leave_edge.ensures.edges c.each.invariant.kept;
+      kept =
+          KeptSlots-passed (goal.G-step g) g.Ix.IndexType.of weight_in with_weight c.args.g (map read edges) c.each.g _
+          _ c.each.i slots reads c.leave_edge.ensures.edges c.each.invariant.kept;
     }
 
 pub keep_edge-requires-clause-parent : goal.keep_edge-requires-clause-parent
@@ -53,20 +63,34 @@ each-preserved g c =
     let before = map plain_edge c.each.new.cells.items in
     let within : c.each.i < length edges = omega arith in
     let slots : c.each.i < length (map read edges) = omega (arith, within, length-map edges read) in
-    let j = joined_is stayed x old (c.in-Some.ensures ∙ ap (λ l. option_map weight_in (if_ends_exist l (plain_edge x))) c.each.invariant.nodes) in
-    let reads : get_or (map read edges) c.each.i None ≡ Some (plain x old) = get_or-map read edges c.each.i x None within ∙ ap read (sym c.index-edges-i.is) ∙ j.edge in
-    let called = CalledAt-from_step (goal.G-step g) g.Ix.IndexType.of c.each.g c.each.i _ r c.g-answer.new.self (rw c.new.ensures.value at c.g-answer.ensures) in
-    let made = ap (λ a. before ++ option_map (between a c.end-b.result) r ∷ []) c.end-a.ensures ∙ ap (λ b. before ++ option_map (between x.parent b) r ∷ []) c.end-b.ensures in
+    let j =
+    joined_is stayed x old
+    (c.in-Some.ensures ∙ ap (λ l. option_map weight_in (if_ends_exist l (plain_edge x))) c.each.invariant.nodes) in
+    let reads : get_or (map read edges) c.each.i None ≡ Some (plain x old) =
+    get_or-map read edges c.each.i x None within ∙ ap read (sym c.index-edges-i.is) ∙ j.edge in
+    let called =
+    CalledAt-from_step (goal.G-step g) g.Ix.IndexType.of c.each.g c.each.i _ r c.g-answer.new.self
+    (rw c.new.ensures.value at c.g-answer.ensures) in
+    let made =
+    ap (λ a. before ++ option_map (between a c.end-b.result) r ∷ []) c.end-a.ensures
+    ∙ ap (λ b. before ++ option_map (between x.parent b) r ∷ []) c.end-b.ensures in
     record {
       callable = search of_calls;
       capacity = omega (arith, c.keep_edge.ensures.capacity, c.each.invariant.capacity);
-      count = one_longer plain_edge c.each.new.cells.items c.keep_edge.new.edges.cells.items _ c.keep_edge.ensures.edges ∙ ap (λ n. n + 1) c.each.invariant.count;
+      count =
+          one_longer plain_edge c.each.new.cells.items c.keep_edge.new.edges.cells.items _ c.keep_edge.ensures.edges
+          ∙ ap (λ n. n + 1) c.each.invariant.count;
       stored = c.keep_edge.ensures.stored;
       nodes = c.keep_edge.ensures.nodes ∙ c.each.invariant.nodes;
-      kept = KeptSlots-called (goal.G-step g) g.Ix.IndexType.of weight_in with_weight c.args.g (map read edges) c.each.g c.g-answer.new.self before _ c.each.i (plain x old) r slots reads called (c.keep_edge.ensures.edges ∙ made) c.each.invariant.kept;
+      kept =
+          KeptSlots-called (goal.G-step g) g.Ix.IndexType.of weight_in with_weight c.args.g (map read edges) c.each.g
+          c.g-answer.new.self before _ c.each.i (plain x old) r slots reads called (c.keep_edge.ensures.edges ∙ made)
+          c.each.invariant.kept;
     }
 
 pub returns-clause-kept : goal.returns-clause-kept
 returns-clause-kept g c =
-    let read = λ (y : Edge (Option g.row.E.Denot) g.row.Ix.Denot). if_ends_exist (map weight_of c.args.nodes.now.cells.items) (plain_edge y) in
-    KeptSlots-done (goal.G-step g) g.Ix.IndexType.of weight_in with_weight _ (map read c.args.edges.now) _ _ c.each.i (omega (arith, length-map c.args.edges.now read)) c.each.invariant.kept
+    let read = λ (y : Edge (Option g.row.E.Denot) g.row.Ix.Denot).
+    if_ends_exist (map weight_of c.args.nodes.now.cells.items) (plain_edge y) in
+    KeptSlots-done (goal.G-step g) g.Ix.IndexType.of weight_in with_weight _ (map read c.args.edges.now) _ _ c.each.i
+    (omega (arith, length-map c.args.edges.now read)) c.each.invariant.kept

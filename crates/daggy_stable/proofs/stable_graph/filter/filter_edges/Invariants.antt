@@ -14,5 +14,7 @@ invariant-each g l =
       count : length l.new.cells.items ≡ l.i;
       stored : IsBuilt g.Ix.IndexType.greatest l.nodes l.new;
       nodes : map weight_of l.nodes.cells.items ≡ map weight_of l.fn.nodes.cells.items;
-      kept : KeptSlots (goal.G-step g) g.Ix.IndexType.of weight_in with_weight l.fn.g (map (λ x. if_ends_exist (map weight_of l.fn.nodes.cells.items) (plain_edge x)) l.edges) l.g (map plain_edge l.new.cells.items) l.i;
+      kept : KeptSlots (goal.G-step g) g.Ix.IndexType.of weight_in with_weight l.fn.g
+          (map (λ x. if_ends_exist (map weight_of l.fn.nodes.cells.items) (plain_edge x)) l.edges) l.g
+          (map plain_edge l.new.cells.items) l.i;
     }

@@ -11,5 +11,6 @@ invariant-each g l =
       capacity : length l.nodes ≤ vec_capacity l.new.cells;
       count : length l.new.cells.items ≡ l.i;
       stored : IsBuilt g.Ix.IndexType.greatest l.new l.edges;
-      kept : KeptSlots (goal.F-step g) g.Ix.IndexType.of (λ w. w) (λ w v. v) l.fn.f (map weight_of l.nodes) l.f (map weight_of l.new.cells.items) l.i;
+      kept : KeptSlots (goal.F-step g) g.Ix.IndexType.of (λ w. w) (λ w v. v) l.fn.f (map weight_of l.nodes) l.f
+          (map weight_of l.new.cells.items) l.i;
     }

@@ -14,22 +14,32 @@ pub leave_edge-requires-clause-index_left : goal.leave_edge-requires-clause-inde
 leave_edge-requires-clause-index_left g c =
     let read = option_map (edge_of {E = g.row.E.Denot} g.Ix.IndexType.number) in
     let made = map plain_edge c.each.edges.cells.items in
-    let is : made ++ read c.in-Some.x ∷ map read (into_iter_items c.next.new.self) ≡ map read c.args.given.items = ap (λ l. made ++ map read l) (sym c.in-Some.ensures.steps.0) ∙ c.each.invariant.5 in
+    let is : made ++ read c.in-Some.x ∷ map read (into_iter_items c.next.new.self) ≡ map read c.args.given.items =
+    ap (λ l. made ++ map read l) (sym c.in-Some.ensures.steps.0) ∙ c.each.invariant.5 in
     omega (arith, one_left _ _ _ _ is, length-map c.each.edges.cells.items plain_edge, c.requires.makes_graph.few_edges)
 
 pub leave_edge-requires-clause-capacity : goal.leave_edge-requires-clause-capacity
 leave_edge-requires-clause-capacity g c =
     let read = option_map (edge_of {E = g.row.E.Denot} g.Ix.IndexType.number) in
     let made = map plain_edge c.each.edges.cells.items in
-    let is : made ++ read c.in-Some.x ∷ map read (into_iter_items c.next.new.self) ≡ map read c.args.given.items = ap (λ l. made ++ map read l) (sym c.in-Some.ensures.steps.0) ∙ c.each.invariant.5 in
-    omega (arith, one_left _ _ _ _ is, length-map c.each.edges.cells.items plain_edge, length-map c.args.given.items read, c.each.invariant.2)
+    let is : made ++ read c.in-Some.x ∷ map read (into_iter_items c.next.new.self) ≡ map read c.args.given.items =
+    ap (λ l. made ++ map read l) (sym c.in-Some.ensures.steps.0) ∙ c.each.invariant.5 in
+    omega (
+      arith,
+      one_left _ _ _ _ is,
+      length-map c.each.edges.cells.items plain_edge,
+      length-map c.args.given.items read,
+      c.each.invariant.2,
+    )
 
 pub each-preserved-in-None-x : goal.each-preserved-in-None-x
 each-preserved-in-None-x g c =
     let read = option_map (edge_of {E = g.row.E.Denot} g.Ix.IndexType.number) in
     let made = map plain_edge c.each.edges.cells.items in
     let later = map read (into_iter_items c.next.new.self) in
-    let is : made ++ None ∷ later ≡ map read c.args.given.items = ap (λ o. made ++ o ∷ later) (sym (ap read c.in-None-x.is)) ∙ ap (λ l. made ++ map read l) (sym c.in-Some.ensures.steps.0) ∙ c.each.invariant.5 in (
+    let is : made ++ None ∷ later ≡ map read c.args.given.items =
+    ap (λ o. made ++ o ∷ later) (sym (ap read c.in-None-x.is))
+    ∙ ap (λ l. made ++ map read l) (sym c.in-Some.ensures.steps.0) ∙ c.each.invariant.5 in (
       tt,
       tt,
       omega (arith, c.leave_edge.ensures.capacity, c.each.invariant.2),
@@ -44,9 +54,13 @@ keep_edge-requires-clause-parent g c =
     let y = edge_of g.Ix.IndexType.number c.in-Some-x.edge in
     let made = map plain_edge c.each.edges.cells.items in
     let later = map read (into_iter_items c.next.new.self) in
-    let is : made ++ Some y ∷ later ≡ map read c.args.given.items = ap (λ o. made ++ o ∷ later) (sym (ap read c.in-Some-x.is)) ∙ ap (λ l. made ++ map read l) (sym c.in-Some.ensures.steps.0) ∙ c.each.invariant.5 in
-    let there = c.requires.makes_graph.parents _ y (ap (λ l. slot l (length made)) (sym is) ∙ slot_between made (Some y) later) in
-    subst (λ n. IsSome (slot (map weight_of c.each.nodes.cells.items) n)) (sym c.of_node-parent.ensures) (subst (λ l. IsSome (slot l y.parent)) (sym c.each.invariant.4) there)
+    let is : made ++ Some y ∷ later ≡ map read c.args.given.items =
+    ap (λ o. made ++ o ∷ later) (sym (ap read c.in-Some-x.is))
+    ∙ ap (λ l. made ++ map read l) (sym c.in-Some.ensures.steps.0) ∙ c.each.invariant.5 in
+    let there =
+    c.requires.makes_graph.parents _ y (ap (λ l. slot l (length made)) (sym is) ∙ slot_between made (Some y) later) in
+    subst (λ n. IsSome (slot (map weight_of c.each.nodes.cells.items) n)) (sym c.of_node-parent.ensures)
+    (subst (λ l. IsSome (slot l y.parent)) (sym c.each.invariant.4) there)
 
 pub keep_edge-requires-clause-child : goal.keep_edge-requires-clause-child
 keep_edge-requires-clause-child g c =
@@ -54,23 +68,35 @@ keep_edge-requires-clause-child g c =
     let y = edge_of g.Ix.IndexType.number c.in-Some-x.edge in
     let made = map plain_edge c.each.edges.cells.items in
     let later = map read (into_iter_items c.next.new.self) in
-    let is : made ++ Some y ∷ later ≡ map read c.args.given.items = ap (λ o. made ++ o ∷ later) (sym (ap read c.in-Some-x.is)) ∙ ap (λ l. made ++ map read l) (sym c.in-Some.ensures.steps.0) ∙ c.each.invariant.5 in
-    let there = c.requires.makes_graph.children _ y (ap (λ l. slot l (length made)) (sym is) ∙ slot_between made (Some y) later) in
-    subst (λ n. IsSome (slot (map weight_of c.each.nodes.cells.items) n)) (sym c.of_node-child.ensures) (subst (λ l. IsSome (slot l y.child)) (sym c.each.invariant.4) there)
+    let is : made ++ Some y ∷ later ≡ map read c.args.given.items =
+    ap (λ o. made ++ o ∷ later) (sym (ap read c.in-Some-x.is))
+    ∙ ap (λ l. made ++ map read l) (sym c.in-Some.ensures.steps.0) ∙ c.each.invariant.5 in
+    let there =
+    c.requires.makes_graph.children _ y (ap (λ l. slot l (length made)) (sym is) ∙ slot_between made (Some y) later) in
+    subst (λ n. IsSome (slot (map weight_of c.each.nodes.cells.items) n)) (sym c.of_node-child.ensures)
+    (subst (λ l. IsSome (slot l y.child)) (sym c.each.invariant.4) there)
 
 pub keep_edge-requires-clause-index_left : goal.keep_edge-requires-clause-index_left
 keep_edge-requires-clause-index_left g c =
     let read = option_map (edge_of {E = g.row.E.Denot} g.Ix.IndexType.number) in
     let made = map plain_edge c.each.edges.cells.items in
-    let is : made ++ read c.in-Some.x ∷ map read (into_iter_items c.next.new.self) ≡ map read c.args.given.items = ap (λ l. made ++ map read l) (sym c.in-Some.ensures.steps.0) ∙ c.each.invariant.5 in
+    let is : made ++ read c.in-Some.x ∷ map read (into_iter_items c.next.new.self) ≡ map read c.args.given.items =
+    ap (λ l. made ++ map read l) (sym c.in-Some.ensures.steps.0) ∙ c.each.invariant.5 in
     omega (arith, one_left _ _ _ _ is, length-map c.each.edges.cells.items plain_edge, c.requires.makes_graph.few_edges)
 
 pub keep_edge-requires-clause-capacity : goal.keep_edge-requires-clause-capacity
 keep_edge-requires-clause-capacity g c =
     let read = option_map (edge_of {E = g.row.E.Denot} g.Ix.IndexType.number) in
     let made = map plain_edge c.each.edges.cells.items in
-    let is : made ++ read c.in-Some.x ∷ map read (into_iter_items c.next.new.self) ≡ map read c.args.given.items = ap (λ l. made ++ map read l) (sym c.in-Some.ensures.steps.0) ∙ c.each.invariant.5 in
-    omega (arith, one_left _ _ _ _ is, length-map c.each.edges.cells.items plain_edge, length-map c.args.given.items read, c.each.invariant.2)
+    let is : made ++ read c.in-Some.x ∷ map read (into_iter_items c.next.new.self) ≡ map read c.args.given.items =
+    ap (λ l. made ++ map read l) (sym c.in-Some.ensures.steps.0) ∙ c.each.invariant.5 in
+    omega (
+      arith,
+      one_left _ _ _ _ is,
+      length-map c.each.edges.cells.items plain_edge,
+      length-map c.args.given.items read,
+      c.each.invariant.2,
+    )
 
 pub each-preserved : goal.each-preserved
 each-preserved g c =
@@ -79,8 +105,12 @@ each-preserved g c =
     let y = edge_of g.Ix.IndexType.number c.in-Some-x.edge in
     let made = map plain_edge c.each.edges.cells.items in
     let later = map read (into_iter_items c.next.new.self) in
-    let is : made ++ Some y ∷ later ≡ map read c.args.given.items = ap (λ o. made ++ o ∷ later) (sym (ap read c.in-Some-x.is)) ∙ ap (λ l. made ++ map read l) (sym c.in-Some.ensures.steps.0) ∙ c.each.invariant.5 in
-    let pushed = ap (λ a. made ++ Some (between a c.of_node-child.result w) ∷ []) c.of_node-parent.ensures ∙ ap (λ b. made ++ Some (between y.parent b w) ∷ []) c.of_node-child.ensures in (
+    let is : made ++ Some y ∷ later ≡ map read c.args.given.items =
+    ap (λ o. made ++ o ∷ later) (sym (ap read c.in-Some-x.is))
+    ∙ ap (λ l. made ++ map read l) (sym c.in-Some.ensures.steps.0) ∙ c.each.invariant.5 in
+    let pushed =
+    ap (λ a. made ++ Some (between a c.of_node-child.result w) ∷ []) c.of_node-parent.ensures
+    ∙ ap (λ b. made ++ Some (between y.parent b w) ∷ []) c.of_node-child.ensures in (
       tt,
       tt,
       omega (arith, c.keep_edge.ensures.capacity, c.each.invariant.2),

@@ -13,4 +13,6 @@ invariant-each g l =
     × (length l.fn.given.items ≤ vec_capacity l.edges.cells)
     × IsBuilt g.Ix.IndexType.greatest l.nodes l.edges
     × (map weight_of l.nodes.cells.items ≡ map weight_of l.fn.nodes.cells.items)
-    × (map plain_edge l.edges.cells.items ++ map (option_map (edge_of g.Ix.IndexType.number)) (into_iter_items l.x-iterator) ≡ map (option_map (edge_of g.Ix.IndexType.number)) l.fn.given.items)
+    × (map plain_edge l.edges.cells.items
+    ++ map (option_map (edge_of g.Ix.IndexType.number)) (into_iter_items l.x-iterator)
+    ≡ map (option_map (edge_of g.Ix.IndexType.number)) l.fn.given.items)

@@ -12,6 +12,7 @@ invariant-each g l =
       callable : goal.G-IsAlwaysCallable g l.g;
       capacity : length l.edges ≤ vec_capacity l.new;
       count : length l.new.items ≡ l.i;
-      mapped : MappedSlots (goal.G-step g) g.Ix.IndexType.of weight_in with_weight l.fn.g (map plain_edge l.edges) l.g (map plain_edge l.new.items) l.i;
+      mapped : MappedSlots (goal.G-step g) g.Ix.IndexType.of weight_in with_weight l.fn.g (map plain_edge l.edges) l.g
+          (map plain_edge l.new.items) l.i;
       links : (dir : Direction) → nexts_of dir l.new.items ≡ take l.i (nexts_of dir l.edges);
     }

@@ -4,7 +4,8 @@ use Rattle.daggy_cells.specs.Raw.{raw_first}
 use Rattle.daggy_cells.specs.Fields.{firsts_of}
 use Rattle.daggy_cells.proofs.MappingLemmas.{CalledAt-from_step}
 use Rattle.daggy_stable.specs.Stored.{weight_of}
-use Rattle.daggy_stable.proofs.MappedSlots.{MappedSlots-pass, MappedSlots-call, MappedSlots-done, kept_more, kept_all, node_like_links}
+use Rattle.daggy_stable.proofs.MappedSlots.{MappedSlots-pass, MappedSlots-call, MappedSlots-done, kept_more, kept_all}
+use Rattle.daggy_stable.proofs.MappedSlots.{node_like_links}
 use Rattle.daggy_stable.proofs.stable_graph.map.map_nodes.Goals as goal
 
 pub each-preserved-in-None : goal.each-preserved-in-None
@@ -16,9 +17,17 @@ each-preserved-in-None g c =
     record {
       callable = c.each.invariant.callable;
       capacity = omega (arith, c.push_reserved.ensures.capacity, c.each.invariant.capacity);
-      count = ap length c.push_reserved.ensures.items ∙ length_push c.each.new.items y ∙ ap (λ n. n + 1) c.each.invariant.count;
-      mapped = rw c.push_reserved.ensures.items (MappedSlots-pass (goal.F-step g) g.Ix.IndexType.of (λ w. w) (λ w v. v) weight_of weight_of c.args.f nodes c.each.new.items c.each.f c.each.i x y within c.index-nodes-i.is (sym c.in-None.ensures.value) (ap weight_of c.node_like.ensures) c.each.invariant.mapped);
-      links = λ dir. ap (firsts_of dir) c.push_reserved.ensures.items ∙ kept_more (raw_first dir) (raw_first dir) nodes c.each.new.items c.each.i x y within c.index-nodes-i.is (ap (raw_first dir) c.node_like.ensures ∙ node_like_links dir x None) (c.each.invariant.links dir);
+      count =
+          ap length c.push_reserved.ensures.items ∙ length_push c.each.new.items y
+          ∙ ap (λ n. n + 1) c.each.invariant.count;
+      mapped =
+          rw c.push_reserved.ensures.items (MappedSlots-pass (goal.F-step g) g.Ix.IndexType.of (λ w. w) (λ w v. v)
+          weight_of weight_of c.args.f nodes c.each.new.items c.each.f c.each.i x y within c.index-nodes-i.is
+          (sym c.in-None.ensures.value) (ap weight_of c.node_like.ensures) c.each.invariant.mapped);
+      links = λ dir.
+          ap (firsts_of dir) c.push_reserved.ensures.items
+          ∙ kept_more (raw_first dir) (raw_first dir) nodes c.each.new.items c.each.i x y within c.index-nodes-i.is
+          (ap (raw_first dir) c.node_like.ensures ∙ node_like_links dir x None) (c.each.invariant.links dir);
     }
 
 pub each-preserved : goal.each-preserved
@@ -28,17 +37,33 @@ each-preserved g c =
     let y = c.node_like-in-each.result in
     let v = c.f-weight.result in
     let within : c.each.i < length nodes = omega arith in
-    let called = CalledAt-from_step (goal.F-step g) g.Ix.IndexType.of c.each.f c.each.i _ v c.f-weight.new.self (rw c.new.ensures.value at c.f-weight.ensures) in
+    let called =
+    CalledAt-from_step (goal.F-step g) g.Ix.IndexType.of c.each.f c.each.i _ v c.f-weight.new.self
+    (rw c.new.ensures.value at c.f-weight.ensures) in
     record {
       callable = search of_calls;
       capacity = omega (arith, c.push_reserved-in-each.ensures.capacity, c.each.invariant.capacity);
-      count = ap length c.push_reserved-in-each.ensures.items ∙ length_push c.each.new.items y ∙ ap (λ n. n + 1) c.each.invariant.count;
-      mapped = rw c.push_reserved-in-each.ensures.items (MappedSlots-call (goal.F-step g) g.Ix.IndexType.of (λ w. w) (λ w v. v) weight_of weight_of c.args.f nodes c.each.new.items c.each.f c.each.i x y within c.index-nodes-i.is c.f-weight.new.self c.in-Some.old.now v (sym c.in-Some.ensures.value) (ap weight_of c.node_like-in-each.ensures) called c.each.invariant.mapped);
-      links = λ dir. ap (firsts_of dir) c.push_reserved-in-each.ensures.items ∙ kept_more (raw_first dir) (raw_first dir) nodes c.each.new.items c.each.i x y within c.index-nodes-i.is (ap (raw_first dir) c.node_like-in-each.ensures ∙ node_like_links dir x (Some v)) (c.each.invariant.links dir);
+      count =
+          ap length c.push_reserved-in-each.ensures.items ∙ length_push c.each.new.items y
+          ∙ ap (λ n. n + 1) c.each.invariant.count;
+      mapped =
+          rw c.push_reserved-in-each.ensures.items
+          (MappedSlots-call (goal.F-step g) g.Ix.IndexType.of (λ w. w) (λ w v. v) weight_of weight_of c.args.f nodes
+          c.each.new.items c.each.f c.each.i x y within c.index-nodes-i.is c.f-weight.new.self c.in-Some.old.now v
+          (sym c.in-Some.ensures.value) (ap weight_of c.node_like-in-each.ensures) called c.each.invariant.mapped);
+      links = λ dir.
+          ap (firsts_of dir) c.push_reserved-in-each.ensures.items
+          ∙ kept_more (raw_first dir) (raw_first dir) nodes c.each.new.items c.each.i x y within c.index-nodes-i.is
+          (ap (raw_first dir) c.node_like-in-each.ensures ∙ node_like_links dir x (Some v))
+          (c.each.invariant.links dir);
     }
 
 pub returns-clause-mapped : goal.returns-clause-mapped
-returns-clause-mapped g c = MappedSlots-done (goal.F-step g) g.Ix.IndexType.of (λ w. w) (λ w v. v) _ _ _ _ c.each.i (omega (arith, length-map c.args.nodes.now weight_of)) c.each.invariant.mapped
+returns-clause-mapped g c =
+    MappedSlots-done (goal.F-step g) g.Ix.IndexType.of (λ w. w) (λ w v. v) _ _ _ _ c.each.i
+    (omega (arith, length-map c.args.nodes.now weight_of)) c.each.invariant.mapped
 
 pub returns-clause-links : goal.returns-clause-links
-returns-clause-links g c dir = kept_all (raw_first dir) (raw_first dir) c.args.nodes.now c.each.new.items c.each.i (omega arith) (c.each.invariant.links dir)
+returns-clause-links g c dir =
+    kept_all (raw_first dir) (raw_first dir) c.args.nodes.now c.each.new.items c.each.i (omega arith)
+    (c.each.invariant.links dir)

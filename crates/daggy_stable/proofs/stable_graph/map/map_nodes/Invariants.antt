@@ -11,6 +11,7 @@ invariant-each g l =
       callable : goal.F-IsAlwaysCallable g l.f;
       capacity : length l.nodes ≤ vec_capacity l.new;
       count : length l.new.items ≡ l.i;
-      mapped : MappedSlots (goal.F-step g) g.Ix.IndexType.of (λ w. w) (λ w v. v) l.fn.f (map weight_of l.nodes) l.f (map weight_of l.new.items) l.i;
+      mapped : MappedSlots (goal.F-step g) g.Ix.IndexType.of (λ w. w) (λ w v. v) l.fn.f (map weight_of l.nodes) l.f
+          (map weight_of l.new.items) l.i;
       links : (dir : Direction) → firsts_of dir l.new.items ≡ take l.i (firsts_of dir l.nodes);
     }

@@ -4,4 +4,6 @@ use Rattle.daggy_stable.proofs.ListOrdersKept.{IsOrdering}
 use Rattle.daggy_stable.proofs.stable_graph.ordering.thread_nodes.Given as goal
 
 abbrev pub invariant-each : goal.invariant-each
-invariant-each g l = IsOrdering g.Ix.IndexType.greatest l.fn.nodes.items l.fn.edges.items (map (numbers_of g.Ix.IndexType.number) l.orders) l.nodes.items l.edges.items l.i l.next
+invariant-each g l =
+    IsOrdering g.Ix.IndexType.greatest l.fn.nodes.items l.fn.edges.items
+    (map (numbers_of g.Ix.IndexType.number) l.orders) l.nodes.items l.edges.items l.i l.next

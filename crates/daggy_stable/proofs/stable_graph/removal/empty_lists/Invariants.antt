@@ -3,4 +3,6 @@ use Rattle.daggy_stable.specs.Stored.{with_lists_emptied}
 use Rattle.daggy_stable.proofs.stable_graph.removal.empty_lists.Given as goal
 
 abbrev pub invariant-loop-i : goal.invariant-loop-i
-invariant-loop-i g l = l.nodes.items ≡ map (with_lists_emptied g.Ix.IndexType.greatest) (take l.i l.fn.nodes.items) ++ drop l.i l.fn.nodes.items
+invariant-loop-i g l =
+    l.nodes.items
+    ≡ map (with_lists_emptied g.Ix.IndexType.greatest) (take l.i l.fn.nodes.items) ++ drop l.i l.fn.nodes.items

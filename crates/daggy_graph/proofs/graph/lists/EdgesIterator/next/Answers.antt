@@ -8,24 +8,37 @@ use Rattle.daggy_graph.proofs.graph.lists.EdgesIterator.next.Goals as goal
 
 pub returns-then-i-self-clause-steps : goal.returns-then-i-self-clause-steps
 returns-then-i-self-clause-steps g c =
-    let none = sym c.self.view_is ∙ edges_past g.Ix.IndexType.greatest c.self.inside.dir c.self.inside.edges.now c.self.inside.next (omega (arith, c.if-i-self.true, c.index-i.ensures.value)) in (none, none)
+    let none =
+    sym c.self.view_is
+    ∙ edges_past g.Ix.IndexType.greatest c.self.inside.dir c.self.inside.edges.now c.self.inside.next
+    (omega (arith, c.if-i-self.true, c.index-i.ensures.value)) in
+    (none, none)
 
 pub invariant_of-self : goal.invariant_of-self
 invariant_of-self g c =
-    let within : c.self.inside.next < length c.self.inside.edges.now = omega (arith, c.if-i-self.false, c.index-i.ensures.value) in
-    let reads : c.index-self-i.result ≡ get_or c.self.inside.edges.now c.self.inside.next c.index-self-i.result = c.index-self-i.is ∙ ap (λ z. get_or c.self.inside.edges.now z c.index-self-i.result) c.index-i.ensures.value in
-    let next : c.next-self-inside.result ≡ raw_next c.self.inside.dir c.index-self-i.result = c.next-self-inside.ensures ∙ ap (raw_next c.self.inside.dir) (sym c.index-self-i.is) in
-    subst (IsOnList g.Ix.IndexType.greatest c.self.inside.dir c.self.inside.edges.now) (sym next) (IsOnList-step _ _ _ _ c.index-self-i.result within reads c.self.invariant)
+    let within : c.self.inside.next < length c.self.inside.edges.now =
+    omega (arith, c.if-i-self.false, c.index-i.ensures.value) in
+    let reads : c.index-self-i.result ≡ get_or c.self.inside.edges.now c.self.inside.next c.index-self-i.result =
+    c.index-self-i.is ∙ ap (λ z. get_or c.self.inside.edges.now z c.index-self-i.result) c.index-i.ensures.value in
+    let next : c.next-self-inside.result ≡ raw_next c.self.inside.dir c.index-self-i.result =
+    c.next-self-inside.ensures ∙ ap (raw_next c.self.inside.dir) (sym c.index-self-i.is) in
+    subst (IsOnList g.Ix.IndexType.greatest c.self.inside.dir c.self.inside.edges.now) (sym next)
+    (IsOnList-step _ _ _ _ c.index-self-i.result within reads c.self.invariant)
 
 pub returns-clause-steps : goal.returns-clause-steps
 returns-clause-steps g c =
-    let within : c.self.inside.next < length c.self.inside.edges.now = omega (arith, c.if-i-self.false, c.index-i.ensures.value) in
-    let reads : c.index-self-i.result ≡ get_or c.self.inside.edges.now c.self.inside.next c.index-self-i.result = c.index-self-i.is ∙ ap (λ z. get_or c.self.inside.edges.now z c.index-self-i.result) c.index-i.ensures.value in
-    let next : c.next-self-inside.result ≡ raw_next c.self.inside.dir c.index-self-i.result = c.next-self-inside.ensures ∙ ap (raw_next c.self.inside.dir) (sym c.index-self-i.is) in
+    let within : c.self.inside.next < length c.self.inside.edges.now =
+    omega (arith, c.if-i-self.false, c.index-i.ensures.value) in
+    let reads : c.index-self-i.result ≡ get_or c.self.inside.edges.now c.self.inside.next c.index-self-i.result =
+    c.index-self-i.is ∙ ap (λ z. get_or c.self.inside.edges.now z c.index-self-i.result) c.index-i.ensures.value in
+    let next : c.next-self-inside.result ≡ raw_next c.self.inside.dir c.index-self-i.result =
+    c.next-self-inside.ensures ∙ ap (raw_next c.self.inside.dir) (sym c.index-self-i.is) in
     let rest = edges_left c.self.inside.dir c.self.inside.edges.now in
     sym c.self.view_is
-    ∙ edges_step g.Ix.IndexType.greatest c.self.inside.dir c.self.inside.edges.now c.self.inside.next c.index-self-i.result within reads c.self.invariant
-    ∙ ap (λ x. at_index c.self.inside.next (plain x) ∷ rest (raw_next c.self.inside.dir c.index-self-i.result)) c.index-self-i.is
+    ∙ edges_step g.Ix.IndexType.greatest c.self.inside.dir c.self.inside.edges.now c.self.inside.next
+    c.index-self-i.result within reads c.self.invariant
+    ∙ ap (λ x. at_index c.self.inside.next (plain x) ∷ rest (raw_next c.self.inside.dir c.index-self-i.result))
+    c.index-self-i.is
     ∙ ap (λ p. p ∷ rest (raw_next c.self.inside.dir c.index-self-i.result)) (sym c.reference.ensures)
     ∙ ap (λ n. referred g.Ix.IndexType.number c.reference.result ∷ rest n) (sym next)
 

@@ -6,4 +6,9 @@ use Rattle.daggy_graph.proofs.graph.source.DiGraphEdgeSource.edge_bound.Goals as
 
 pub returns : goal.returns
 returns g c =
-    omega (arith, c.len.ensures, bound-slots (plain) c.self.inside.edges.items, ap (λ s. edge_bound s.graph) c.self.view_is)
+    omega (
+      arith,
+      c.len.ensures,
+      bound-slots (plain) c.self.inside.edges.items,
+      ap (λ s. edge_bound s.graph) c.self.view_is,
+    )

@@ -9,8 +9,10 @@ returns-clause-gives g c =
     let edges = c.self.inside.edges.items in
     let e = g.Ix.IndexType.number c.args.e in
     let within = slot_within plain edges e (rw (← c.self.view_is) at c.requires) in
-    let reads : c.index-x.result.now ≡ get_or edges e c.index-x.result.now = c.index-x.ensures ∙ ap (λ z. get_or edges z c.index-x.result.now) c.index.ensures.value in
-    rw (← c.self.view_is) (look_shown g.Ix.IndexType.greatest c.self.inside.nodes.items edges c.self.invariant e _ _ c.index-x.result.now within reads c.target.ensures c.next_edge.ensures)
+    let reads : c.index-x.result.now ≡ get_or edges e c.index-x.result.now =
+    c.index-x.ensures ∙ ap (λ z. get_or edges z c.index-x.result.now) c.index.ensures.value in
+    rw (← c.self.view_is) (look_shown g.Ix.IndexType.greatest c.self.inside.nodes.items edges c.self.invariant e _ _
+    c.index-x.result.now within reads c.target.ensures c.next_edge.ensures)
 
 pub index-x-requires : goal.index-x-requires
 index-x-requires g c =

@@ -7,8 +7,14 @@ use Rattle.daggy_graph.proofs.graph.source.DiGraphEdgeSource.node_bound.Goals as
 
 pub returns-clause-value : goal.returns-clause-value
 returns-clause-value g c =
-    omega (arith, c.len.ensures, bound-slots (λ x. x.weight) c.self.inside.nodes.items, ap (λ s. node_bound s.graph) c.self.view_is)
+    omega (
+      arith,
+      c.len.ensures,
+      bound-slots (λ x. x.weight) c.self.inside.nodes.items,
+      ap (λ s. node_bound s.graph) c.self.view_is,
+    )
 
 pub returns-clause-well_formed : goal.returns-clause-well_formed
 returns-clause-well_formed g c =
-    subst (λ s. IsWellFormed g.Ix.IndexType.greatest s.graph) c.self.view_is (IsWellFormed-stored _ _ _ _ c.self.invariant)
+    subst (λ s. IsWellFormed g.Ix.IndexType.greatest s.graph) c.self.view_is
+    (IsWellFormed-stored _ _ _ _ c.self.invariant)

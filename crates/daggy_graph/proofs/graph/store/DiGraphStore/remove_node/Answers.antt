@@ -6,4 +6,9 @@ pub returns-clause-bound : goal.returns-clause-bound
 returns-clause-bound g c =
     let before = c.node_count-compact.ensures in
     let after = c.node_count-still_compact.ensures in
-    omega (arith, node_bound_full _ _ before.well_formed before.compact.nodes, node_bound_full _ _ after.well_formed after.compact.nodes, c.remove_node-weight.ensures.no_more_slots)
+    omega (
+      arith,
+      node_bound_full _ _ before.well_formed before.compact.nodes,
+      node_bound_full _ _ after.well_formed after.compact.nodes,
+      c.remove_node-weight.ensures.no_more_slots,
+    )

@@ -11,4 +11,5 @@ returns-clause-removed g c =
     let graph = c.args.self.now.graph in
     let e = g.Ix.IndexType.number c.args.e in
     let removed : c.remove_edge.new.self ≡ with_graph c.args.self.now (without_edge Compact graph e) = search rules in
-    ap (λ s. s.graph) removed ∙ last_removed graph e (c.requires.last made) ∙ ap (λ b. with_edge_taken_back b graph e) (sym made)
+    ap (λ s. s.graph) removed ∙ last_removed graph e (c.requires.last made)
+    ∙ ap (λ b. with_edge_taken_back b graph e) (sym made)

@@ -9,4 +9,6 @@ returns-clause-removed g c =
     let f = c.node_count-well_formed.ensures.well_formed in
     let graph = c.args.self.now.graph in
     let n = g.Ix.IndexType.number c.args.n in
-    ap (λ s. s.graph) c.drop_node.ensures.dropped ∙ last_node_dropped graph n f.out_list_count f.in_list_count (c.requires.last made) ∙ ap (λ b. with_node_taken_back b graph n) (sym made)
+    ap (λ s. s.graph) c.drop_node.ensures.dropped
+    ∙ last_node_dropped graph n f.out_list_count f.in_list_count (c.requires.last made)
+    ∙ ap (λ b. with_node_taken_back b graph n) (sym made)

@@ -6,7 +6,8 @@ use Rattle.daggy_order.proofs.order.links.Links.len.Goals as goal
 
 pub returns-clause-value : goal.returns-clause-value
 returns-clause-value g c =
-    sym (length_walk g.Ix.IndexType.greatest c.self.inside.next.items c.self.inside.first c.self.inside.count) ∙ ap (λ (z : Listed). length z.nodes) c.self.view_is
+    sym (length_walk g.Ix.IndexType.greatest c.self.inside.next.items c.self.inside.first c.self.inside.count)
+    ∙ ap (λ (z : Listed). length z.nodes) c.self.view_is
 
 pub returns-clause-within : goal.returns-clause-within
 returns-clause-within g c =
@@ -15,4 +16,10 @@ returns-clause-within g c =
 
 pub returns-clause-small : goal.returns-clause-small
 returns-clause-small g c =
-    omega (arith, few c.self.invariant, c.self.inside.previous.small, c.self.inside.previous.ok, ap (λ (z : Listed). length z.nodes) c.self.view_is)
+    omega (
+      arith,
+      few c.self.invariant,
+      c.self.inside.previous.small,
+      c.self.inside.previous.ok,
+      ap (λ (z : Listed). length z.nodes) c.self.view_is,
+    )

@@ -17,6 +17,10 @@ returns g c =
     let s = c.self.invariant in
     let P : Listed → Type 0 = λ z. Mem c.args.n z.nodes in
     let m = subst P (sym c.self.view_is) (contains_mem c.args.self.now.nodes c.args.n c.requires) in
-    let low : c.index.result < length c.self.inside.next.items = omega (arith, c.index.ensures.value, inside s c.args.n m, s.sized) in
+    let low : c.index.result < length c.self.inside.next.items =
+    omega (arith, c.index.ensures.value, inside s c.args.n m, s.sized) in
     let read = get_or_read c.self.inside.next.items _ _ low c.index-2.ensures g.Ix.IndexType.greatest in
-    λ ns ms is. read ∙ (ap (λ z. get_or c.self.inside.next.items z g.Ix.IndexType.greatest) c.index.ensures.value ∙ next_is s ns c.args.n ms (ap (λ (z : Listed). z.nodes) c.self.view_is ∙ is))
+    λ ns ms is.
+    read
+    ∙ (ap (λ z. get_or c.self.inside.next.items z g.Ix.IndexType.greatest) c.index.ensures.value
+    ∙ next_is s ns c.args.n ms (ap (λ (z : Listed). z.nodes) c.self.view_is ∙ is))

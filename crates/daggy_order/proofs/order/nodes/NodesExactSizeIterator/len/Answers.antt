@@ -10,4 +10,10 @@ pub returns-clause-value : goal.returns-clause-value
 returns-clause-value g c =
     let ahead : List ℕ = range_with_len c.self.inside.from c.self.inside.count in
     let rest : List ℕ = last_nodes c.self.inside.left c.self.inside.written.now.nodes in
-    omega (arith, length-append rest ahead, length-range_with_len c.self.inside.from c.self.inside.count, length_few c.self.invariant.written, ap (λ (z : List ℕ). length z) c.self.view_is)
+    omega (
+      arith,
+      length-append rest ahead,
+      length-range_with_len c.self.inside.from c.self.inside.count,
+      length_few c.self.invariant.written,
+      ap (λ (z : List ℕ). length z) c.self.view_is,
+    )

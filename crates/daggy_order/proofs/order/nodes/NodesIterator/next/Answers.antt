@@ -7,7 +7,8 @@ use Rattle.daggy_order.proofs.Tails.{few_none, turn_first}
 use Rattle.daggy_order.proofs.order.nodes.NodesIterator.next.Goals as goal
 
 pub next-self-inside-requires : goal.next-self-inside-requires
-next-self-inside-requires g c = mem_contains c.self.inside.written.now.nodes c.self.inside.at (at_in c.self.invariant.written c.if-self-eq0.false)
+next-self-inside-requires g c =
+    mem_contains c.self.inside.written.now.nodes c.self.inside.at (at_in c.self.invariant.written c.if-self-eq0.false)
 
 pub invariant_of-self : goal.invariant_of-self
 invariant_of-self g c =
@@ -20,7 +21,8 @@ invariant_of-self g c =
 pub invariant_of-self-2 : goal.invariant_of-self-2
 invariant_of-self-2 g c =
     record {
-      written = at_next c.self.invariant.written c.if-self-eq0.false c.next-self-inside.result c.next-self-inside.ensures;
+      written =
+          at_next c.self.invariant.written c.if-self-eq0.false c.next-self-inside.result c.next-self-inside.ensures;
       real = c.self.invariant.real;
       few = omega (arith, c.self.invariant.few);
     }
@@ -33,10 +35,13 @@ returns-then-self-eq0-clause-steps g c =
     sym c.self.view_is
     ∙ (ap (λ (z : List ℕ). z ++ range_with_len c.self.inside.from c.self.inside.count) none
     ∙ (turn_first c.self.inside.from c.self.inside.count c.if-self-eq0-2.false
-    ∙ (ap (λ (z : ℕ). z ∷ ahead) (sym c.new-n.ensures.number) ∙ ap (λ (z : List ℕ). g.Ix.IndexType.number c.new-n.result ∷ (z ++ ahead)) (sym none))))
+    ∙ (ap (λ (z : ℕ). z ∷ ahead) (sym c.new-n.ensures.number)
+    ∙ ap (λ (z : List ℕ). g.Ix.IndexType.number c.new-n.result ∷ (z ++ ahead)) (sym none))))
 
 pub returns-clause-steps : goal.returns-clause-steps
 returns-clause-steps g c =
     sym c.self.view_is
-    ∙ (ap (λ (z : List ℕ). z ++ range_with_len c.self.inside.from c.self.inside.count) (at_rest c.self.invariant.written c.if-self-eq0.false)
-    ∙ ap (λ (z : ℕ). z ∷ (last_nodes (c.self.inside.left - 1) c.self.inside.written.now.nodes ++ range_with_len c.self.inside.from c.self.inside.count)) (sym c.node.ensures.value))
+    ∙ (ap (λ (z : List ℕ). z ++ range_with_len c.self.inside.from c.self.inside.count)
+    (at_rest c.self.invariant.written c.if-self-eq0.false)
+    ∙ ap (λ (z : ℕ). z ∷ (last_nodes (c.self.inside.left - 1) c.self.inside.written.now.nodes ++ range_with_len
+    c.self.inside.from c.self.inside.count)) (sym c.node.ensures.value))

@@ -9,14 +9,29 @@ nodes-init g c = goes_none g.Ix.IndexType.greatest c.self.inside.links.nodes c.f
 
 pub next-at-requires : goal.next-at-requires
 next-at-requires g c =
-    mem_contains c.self.inside.links.nodes c.nodes.at (goes_in c.nodes.invariant (omega (arith, c.nodes-test.true, c.requires, ap (λ (z : List ℕ). length z) (ap (λ (z : Stored). z.nodes) c.self.view_is))))
+    mem_contains c.self.inside.links.nodes c.nodes.at (goes_in c.nodes.invariant (omega (
+      arith,
+      c.nodes-test.true,
+      c.requires,
+      ap (λ (z : List ℕ). length z) (ap (λ (z : Stored). z.nodes) c.self.view_is),
+    )))
 
 pub nodes-preserved : goal.nodes-preserved
 nodes-preserved g c =
-    goes_more c.nodes.invariant (omega (arith, c.nodes-test.true, c.requires, ap (λ (z : List ℕ). length z) (ap (λ (z : Stored). z.nodes) c.self.view_is))) c.next-at.result c.next-at.ensures
+    goes_more c.nodes.invariant (omega (
+      arith,
+      c.nodes-test.true,
+      c.requires,
+      ap (λ (z : List ℕ). length z) (ap (λ (z : Stored). z.nodes) c.self.view_is),
+    )) c.next-at.result c.next-at.ensures
 
 pub returns : goal.returns
 returns g c =
     let ended : c.nodes._i ≡ c.args.place = omega (arith, c.nodes-test.false, c.nodes.auto._i-end) in
-    let here = goes_at c.nodes.invariant (omega (arith, ended, c.requires, ap (λ (z : List ℕ). length z) (ap (λ (z : Stored). z.nodes) c.self.view_is))) in
-    c.node.ensures.value ∙ (here ∙ (ap (λ k. get_or c.self.inside.links.nodes k 0) ended ∙ ap (λ (z : List ℕ). get_or z c.args.place 0) (ap (λ (z : Stored). z.nodes) c.self.view_is)))
+    let here =
+    goes_at c.nodes.invariant
+    (omega (arith, ended, c.requires, ap (λ (z : List ℕ). length z) (ap (λ (z : Stored). z.nodes) c.self.view_is))) in
+    c.node.ensures.value
+    ∙ (here
+    ∙ (ap (λ k. get_or c.self.inside.links.nodes k 0) ended
+    ∙ ap (λ (z : List ℕ). get_or z c.args.place 0) (ap (λ (z : Stored). z.nodes) c.self.view_is)))

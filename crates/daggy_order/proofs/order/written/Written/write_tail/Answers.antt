@@ -6,7 +6,8 @@ use Rattle.daggy_order.proofs.order.written.Written.write_tail.Goals as goal
 
 pub put_in_turn-requires-clause-labelled : goal.put_in_turn-requires-clause-labelled
 put_in_turn-requires-clause-labelled g c =
-    labelled_grown c.self.invariant c.lengthen_for.new.list.items c.use_memory.new.self.nodes c.use_memory.ensures.same c.lengthen_for.ensures.same
+    labelled_grown c.self.invariant c.lengthen_for.new.list.items c.use_memory.new.self.nodes c.use_memory.ensures.same
+    c.lengthen_for.ensures.same
 
 pub put_in_turn-requires-clause-below : goal.put_in_turn-requires-clause-below
 put_in_turn-requires-clause-below g c =

@@ -8,31 +8,53 @@ use Rattle.daggy_stable.proofs.stable_graph.lists.EdgesIterator.next.Goals as go
 
 pub returns-then-i-self-clause-steps : goal.returns-then-i-self-clause-steps
 returns-then-i-self-clause-steps g c =
-    let none = sym c.self.view_is ∙ left_past c.self.inside.dir c.self.inside.edges.now c.self.inside.next (omega (arith, c.if-i-self.true, c.index-i.ensures.value)) in (none, none)
+    let none =
+    sym c.self.view_is
+    ∙ left_past c.self.inside.dir c.self.inside.edges.now c.self.inside.next
+    (omega (arith, c.if-i-self.true, c.index-i.ensures.value)) in
+    (none, none)
 
 pub reference-requires : goal.reference-requires
 reference-requires g c =
-    let within : c.self.inside.next < length c.self.inside.edges.now = omega (arith, c.if-i-self.false, c.index-i.ensures.value) in
-    let reads : c.index-self-i.result ≡ get_or c.self.inside.edges.now c.self.inside.next c.index-self-i.result = c.index-self-i.is ∙ ap (λ z. get_or c.self.inside.edges.now z c.index-self-i.result) c.index-i.ensures.value in
-    subst (λ x. IsSome x.weight) c.index-self-i.is (weight_there c.self.inside.dir c.self.inside.edges.now g.Ix.IndexType.greatest c.self.inside.next c.index-self-i.result within reads c.self.invariant)
+    let within : c.self.inside.next < length c.self.inside.edges.now =
+    omega (arith, c.if-i-self.false, c.index-i.ensures.value) in
+    let reads : c.index-self-i.result ≡ get_or c.self.inside.edges.now c.self.inside.next c.index-self-i.result =
+    c.index-self-i.is ∙ ap (λ z. get_or c.self.inside.edges.now z c.index-self-i.result) c.index-i.ensures.value in
+    subst (λ x. IsSome x.weight) c.index-self-i.is (weight_there c.self.inside.dir c.self.inside.edges.now
+    g.Ix.IndexType.greatest c.self.inside.next c.index-self-i.result within reads c.self.invariant)
 
 pub invariant_of-self : goal.invariant_of-self
 invariant_of-self g c =
-    let within : c.self.inside.next < length c.self.inside.edges.now = omega (arith, c.if-i-self.false, c.index-i.ensures.value) in
-    let reads : c.index-self-i.result ≡ get_or c.self.inside.edges.now c.self.inside.next c.index-self-i.result = c.index-self-i.is ∙ ap (λ z. get_or c.self.inside.edges.now z c.index-self-i.result) c.index-i.ensures.value in
-    let next : c.next-self-inside.result ≡ raw_next c.self.inside.dir c.index-self-i.result = c.next-self-inside.ensures ∙ ap (raw_next c.self.inside.dir) (sym c.index-self-i.is) in
-    subst (IsOnFullList g.Ix.IndexType.greatest c.self.inside.dir c.self.inside.edges.now) (sym next) (IsOnFullList-step c.self.inside.dir c.self.inside.edges.now g.Ix.IndexType.greatest c.self.inside.next c.index-self-i.result within reads c.self.invariant)
+    let within : c.self.inside.next < length c.self.inside.edges.now =
+    omega (arith, c.if-i-self.false, c.index-i.ensures.value) in
+    let reads : c.index-self-i.result ≡ get_or c.self.inside.edges.now c.self.inside.next c.index-self-i.result =
+    c.index-self-i.is ∙ ap (λ z. get_or c.self.inside.edges.now z c.index-self-i.result) c.index-i.ensures.value in
+    let next : c.next-self-inside.result ≡ raw_next c.self.inside.dir c.index-self-i.result =
+    c.next-self-inside.ensures ∙ ap (raw_next c.self.inside.dir) (sym c.index-self-i.is) in
+    subst (IsOnFullList g.Ix.IndexType.greatest c.self.inside.dir c.self.inside.edges.now) (sym next)
+    (IsOnFullList-step c.self.inside.dir c.self.inside.edges.now g.Ix.IndexType.greatest c.self.inside.next
+    c.index-self-i.result within reads c.self.invariant)
 
 pub returns-clause-steps : goal.returns-clause-steps
 returns-clause-steps g c =
-    let within : c.self.inside.next < length c.self.inside.edges.now = omega (arith, c.if-i-self.false, c.index-i.ensures.value) in
-    let reads : c.index-self-i.result ≡ get_or c.self.inside.edges.now c.self.inside.next c.index-self-i.result = c.index-self-i.is ∙ ap (λ z. get_or c.self.inside.edges.now z c.index-self-i.result) c.index-i.ensures.value in
-    let next : c.next-self-inside.result ≡ raw_next c.self.inside.dir c.index-self-i.result = c.next-self-inside.ensures ∙ ap (raw_next c.self.inside.dir) (sym c.index-self-i.is) in
-    let at : numbered_edge c.self.inside.next (plain_edge c.index-self-i.result) ≡ Some (referred g.Ix.IndexType.number c.reference.result) =
-    ap (λ x. numbered_edge c.self.inside.next (plain_edge x)) c.index-self-i.is ∙ ap (λ i. numbered_edge i (plain_edge (get_or c.self.inside.edges.now c.index-i.result c.index-self-i.result))) (sym c.edge.ensures.value) ∙ c.reference.ensures in
+    let within : c.self.inside.next < length c.self.inside.edges.now =
+    omega (arith, c.if-i-self.false, c.index-i.ensures.value) in
+    let reads : c.index-self-i.result ≡ get_or c.self.inside.edges.now c.self.inside.next c.index-self-i.result =
+    c.index-self-i.is ∙ ap (λ z. get_or c.self.inside.edges.now z c.index-self-i.result) c.index-i.ensures.value in
+    let next : c.next-self-inside.result ≡ raw_next c.self.inside.dir c.index-self-i.result =
+    c.next-self-inside.ensures ∙ ap (raw_next c.self.inside.dir) (sym c.index-self-i.is) in
+    let at : numbered_edge c.self.inside.next (plain_edge c.index-self-i.result)
+    ≡ Some (referred g.Ix.IndexType.number c.reference.result) =
+    ap (λ x. numbered_edge c.self.inside.next (plain_edge x)) c.index-self-i.is
+    ∙ ap (λ i. numbered_edge i (plain_edge (get_or c.self.inside.edges.now c.index-i.result c.index-self-i.result)))
+    (sym c.edge.ensures.value)
+    ∙ c.reference.ensures in
     sym c.self.view_is
-    ∙ left_step c.self.inside.dir c.self.inside.edges.now g.Ix.IndexType.greatest c.self.inside.next c.index-self-i.result within reads c.self.invariant (referred g.Ix.IndexType.number c.reference.result) at
-    ∙ ap (λ n. referred g.Ix.IndexType.number c.reference.result ∷ edges_left c.self.inside.dir c.self.inside.edges.now n) (sym next)
+    ∙ left_step c.self.inside.dir c.self.inside.edges.now g.Ix.IndexType.greatest c.self.inside.next
+    c.index-self-i.result within reads c.self.invariant (referred g.Ix.IndexType.number c.reference.result) at
+    ∙ ap
+    (λ n. referred g.Ix.IndexType.number c.reference.result ∷ edges_left c.self.inside.dir c.self.inside.edges.now n)
+    (sym next)
 
 pub returns-clause-goes : goal.returns-clause-goes
 returns-clause-goes g c = let steps = returns-clause-steps g c in search (rules, steps)

@@ -9,7 +9,8 @@ returns-clause-gives g c =
     let has = rw (← c.self.view_is) at c.requires in
     let x = c.index-x.result.now in
     let reads : x ≡ get_or edges e x = c.index-x.ensures ∙ ap (λ z. get_or edges z x) c.index.ensures.value in
-    rw (← c.self.view_is) (look_shown c.self.invariant e _ _ x has reads (c.node.ensures.value ∙ c.end-child.ensures) (c.edge.ensures.value ∙ c.next-next.ensures))
+    rw (← c.self.view_is) (look_shown c.self.invariant e _ _ x has reads (c.node.ensures.value ∙ c.end-child.ensures)
+    (c.edge.ensures.value ∙ c.next-next.ensures))
 
 pub index-x-requires : goal.index-x-requires
 index-x-requires g c =

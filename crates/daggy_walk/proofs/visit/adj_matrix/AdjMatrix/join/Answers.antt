@@ -4,18 +4,44 @@ use Rattle.daggy_walk.proofs.visit.adj_matrix.AdjMatrix.join.Goals as goal
 
 pub place-i-requires-clause-row : goal.place-i-requires-clause-row
 place-i-requires-clause-row g c =
-    omega (arith, c.requires.source, c.index.ensures.value, ap length c.self.view_is, length-rows c.self.inside.bound c.self.inside.bits)
+    omega (
+      arith,
+      c.requires.source,
+      c.index.ensures.value,
+      ap length c.self.view_is,
+      length-rows c.self.inside.bound c.self.inside.bits,
+    )
 
 pub place-i-requires-clause-column : goal.place-i-requires-clause-column
 place-i-requires-clause-column g c =
-    omega (arith, c.requires.target, c.index-2.ensures.value, ap length c.self.view_is, length-rows c.self.inside.bound c.self.inside.bits)
+    omega (
+      arith,
+      c.requires.target,
+      c.index-2.ensures.value,
+      ap length c.self.view_is,
+      length-rows c.self.inside.bound c.self.inside.bits,
+    )
 
 pub returns-clause-joined : goal.returns-clause-joined
 returns-clause-joined g c =
     let row : c.index.result < c.self.inside.bound =
-    omega (arith, c.requires.source, c.index.ensures.value, ap length c.self.view_is, length-rows c.self.inside.bound c.self.inside.bits) in
+    omega (
+      arith,
+      c.requires.source,
+      c.index.ensures.value,
+      ap length c.self.view_is,
+      length-rows c.self.inside.bound c.self.inside.bits,
+    ) in
     let column : c.index-2.result < c.self.inside.bound =
-    omega (arith, c.requires.target, c.index-2.ensures.value, ap length c.self.view_is, length-rows c.self.inside.bound c.self.inside.bits) in
+    omega (
+      arith,
+      c.requires.target,
+      c.index-2.ensures.value,
+      ap length c.self.view_is,
+      length-rows c.self.inside.bound c.self.inside.bits,
+    ) in
     rw c.set.ensures.after
-    (pair_set c.self.inside.bound c.self.inside.bits c.args.self.now (g.Ix.IndexType.number c.args.a) (g.Ix.IndexType.number c.args.b) c.index.result c.index-2.result c.place-i.result
-    c.self.view_is c.self.invariant.0 c.index.ensures.value c.index-2.ensures.value row column c.place-i.ensures.value c.place-i.ensures.within)
+    (pair_set c.self.inside.bound c.self.inside.bits c.args.self.now (g.Ix.IndexType.number c.args.a)
+    (g.Ix.IndexType.number c.args.b) c.index.result c.index-2.result c.place-i.result
+    c.self.view_is c.self.invariant.0 c.index.ensures.value c.index-2.ensures.value row column c.place-i.ensures.value
+    c.place-i.ensures.within)

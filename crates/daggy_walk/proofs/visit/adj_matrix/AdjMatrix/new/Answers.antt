@@ -7,4 +7,6 @@ pub returns-clause-bound : goal.returns-clause-bound
 returns-clause-bound g c = length-rows c.args.bound _
 
 pub returns-clause-empty : goal.returns-clause-empty
-returns-clause-empty g c = λ a b has. no_pair c.args.bound c.in-Some.count a b (ap (λ flags. get_or (get_or (rows c.args.bound flags) a []) b false) (sym c.in_ok-bits.ensures) ∙ has)
+returns-clause-empty g c = λ a b has.
+    no_pair c.args.bound c.in-Some.count a b
+    (ap (λ flags. get_or (get_or (rows c.args.bound flags) a []) b false) (sym c.in_ok-bits.ensures) ∙ has)

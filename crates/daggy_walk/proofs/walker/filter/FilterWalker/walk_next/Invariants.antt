@@ -8,7 +8,8 @@ abbrev pub invariant-loop-item : goal.invariant-loop-item
 invariant-loop-item g l =
     let w = g.W.Walker in
     Passed (λ v. w.can_walk v l.graph) (λ v. w.items_left v l.graph) (λ v o u. w.walk_gives v l.graph o u)
-    (λ f x h. CallsItem g.P.FnMut f l.graph x false h) l.initial.self.walker l.initial.self.predicate l.self.walker l.self.predicate
+    (λ f x h. CallsItem g.P.FnMut f l.graph x false h) l.initial.self.walker l.initial.self.predicate l.self.walker
+    l.self.predicate
     × CallableAlong (λ v o u. w.walk_gives v l.graph o u) (λ f x h. (b : Bool) × CallsItem g.P.FnMut f l.graph x b h)
     (λ f x. TakesItem g.P.FnMut f l.graph x) l.self.walker l.self.predicate
 

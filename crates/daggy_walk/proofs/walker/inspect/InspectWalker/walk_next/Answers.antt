@@ -9,7 +9,12 @@ returns-in_err-item-clause-goes g c =
     record { stays = (a.stays, on_none c.requires.1 _ e); falls = a.falls }
 
 pub f-requires : goal.f-requires
-f-requires g c = search (rules, served c.requires.1 c.in_ok-item.item _ (said (λ v o u. g.W.Walker.walk_gives v c.args.graph.now o u) c.in_ok-item.was c.walk_next.ensures.steps))
+f-requires g c =
+    search (
+      rules,
+      served c.requires.1 c.in_ok-item.item _
+          (said (λ v o u. g.W.Walker.walk_gives v c.args.graph.now o u) c.in_ok-item.was c.walk_next.ensures.steps),
+    )
 
 pub returns-clause-goes : goal.returns-clause-goes
 returns-clause-goes g c =

@@ -6,10 +6,18 @@ pub skipped-init : goal.skipped-init
 skipped-init g c = (0, went_none c.requires, omega arith)
 
 pub skipped-preserved : goal.skipped-preserved
-skipped-preserved g c = (c.skipped.invariant.0 + 1, went_more c.skipped.invariant.1 c.walk_next.ensures.steps c.walk_next.ensures.goes, omega (arith, c.skipped.invariant.2, c.skipped-test.true))
+skipped-preserved g c = (
+  c.skipped.invariant.0 + 1,
+  went_more c.skipped.invariant.1 c.walk_next.ensures.steps c.walk_next.ensures.goes,
+  omega (arith, c.skipped.invariant.2, c.skipped-test.true),
+)
 
 pub skipped-preserved-in-skipped : goal.skipped-preserved-in-skipped
-skipped-preserved-in-skipped g c = (c.skipped.invariant.0 + 1, went_more c.skipped.invariant.1 c.walk_next.ensures.steps c.walk_next.ensures.goes, omega (arith, c.skipped.invariant.2, c.skipped-test.true))
+skipped-preserved-in-skipped g c = (
+  c.skipped.invariant.0 + 1,
+  went_more c.skipped.invariant.1 c.walk_next.ensures.steps c.walk_next.ensures.goes,
+  omega (arith, c.skipped.invariant.2, c.skipped-test.true),
+)
 
 pub returns : goal.returns
 returns g c =

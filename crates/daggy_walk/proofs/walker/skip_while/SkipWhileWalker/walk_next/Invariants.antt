@@ -8,7 +8,8 @@ abbrev pub invariant-loop-item : goal.invariant-loop-item
 invariant-loop-item g l =
     let w = g.W.Walker in
     Passed (λ v. w.can_walk v l.graph) (λ v. w.items_left v l.graph) (λ v o u. w.walk_gives v l.graph o u)
-    (λ f x h. CallsItem g.P.FnMut f l.graph x true h) l.initial.self.walker l.initial.predicate l.self.walker l.predicate
+    (λ f x h. CallsItem g.P.FnMut f l.graph x true h) l.initial.self.walker l.initial.predicate l.self.walker
+    l.predicate
     × CallableAlong (λ v o u. w.walk_gives v l.graph o u) (λ f x h. CallsItem g.P.FnMut f l.graph x true h)
     (λ f x. TakesItem g.P.FnMut f l.graph x) l.self.walker l.predicate
     × (l.self.predicate ≡ None)
