@@ -293,8 +293,8 @@ where
         node: N,
     ) -> Result<(EdgeIndex<Ix>, NodeIndex<Ix>), ChildError<N, E>>
         requires parent { HasNode self.old.graph (Ix.number parent) }
-        requires edge_room { edge_count_of self.old.graph < Ix.greatest }
-        requires node_room { node_count_of self.old.graph < Ix.greatest }
+        requires edge_index_left { edge_count_of self.old.graph < Ix.greatest }
+        requires node_index_left { node_count_of self.old.graph < Ix.greatest }
         ensures added { IfOk result (λ r. (Ix.number r.0 ≡ next_edge self.old.graph) × (Ix.number r.1 ≡ next_node self.old.graph)
             × (self.new ≡ with_graph self.old (with_neighbor Outgoing self.old.graph (Ix.number parent) edge node))) }
         ensures refusal { IfErr result (λ e. e ≡ ChildMemory edge node) }
@@ -323,8 +323,8 @@ where
         node: N,
     ) -> Result<(EdgeIndex<Ix>, NodeIndex<Ix>), ChildError<N, E>>
         requires child { HasNode self.old.graph (Ix.number child) }
-        requires edge_room { edge_count_of self.old.graph < Ix.greatest }
-        requires node_room { node_count_of self.old.graph < Ix.greatest }
+        requires edge_index_left { edge_count_of self.old.graph < Ix.greatest }
+        requires node_index_left { node_count_of self.old.graph < Ix.greatest }
         ensures added { IfOk result (λ r. (Ix.number r.0 ≡ next_edge self.old.graph) × (Ix.number r.1 ≡ next_node self.old.graph)
             × (self.new ≡ with_graph self.old (with_neighbor Incoming self.old.graph (Ix.number child) edge node))) }
         ensures refusal { IfErr result (λ e. e ≡ ChildMemory edge node) }

@@ -253,8 +253,8 @@ pub fn add_neighbor<Ix: IndexType, S: Store<Ix>>(
     weight: S::NodeWeight,
 ) -> Result<(EdgeIndex<Ix>, NodeIndex<Ix>), ChildError<S::NodeWeight, S::EdgeWeight>>
     requires node { HasNode (S.graph store.old) (Ix.number n) }
-    requires edge_room { edge_count (S.graph store.old) < Ix.greatest }
-    requires node_room { node_count (S.graph store.old) < Ix.greatest }
+    requires edge_index_left { edge_count (S.graph store.old) < Ix.greatest }
+    requires node_index_left { node_count (S.graph store.old) < Ix.greatest }
     requires fits { node_bound (S.graph store.old) ≤ scratch.old.nodes }
     requires ordered { IsOrderOf (S.graph store.old) order.old }
     ensures added { IfOk result (λ r. (Ix.number r.0 ≡ next_edge (S.graph store.old))

@@ -138,8 +138,8 @@ pub trait GuardedDag<N, E, Ix: IndexType> {
         node: N,
     ) -> Result<Neighbor<Ix>, ChildError<N, E>>
         requires parent { HasNode (graph self.old) (Ix.number parent) }
-        requires edge_room { edge_count_of (graph self.old) < Ix.greatest }
-        requires node_room { node_count_of (graph self.old) < Ix.greatest }
+        requires edge_index_left { edge_count_of (graph self.old) < Ix.greatest }
+        requires node_index_left { node_count_of (graph self.old) < Ix.greatest }
         ensures added { IfOk result (λ r. (Ix.number r.0 ≡ next_edge (graph self.old))
             × (Ix.number r.1 ≡ next_node (graph self.old))
             × (graph self.new ≡ with_neighbor Outgoing (graph self.old) (Ix.number parent) edge node)) }
@@ -155,8 +155,8 @@ pub trait GuardedDag<N, E, Ix: IndexType> {
         node: N,
     ) -> Result<Neighbor<Ix>, ChildError<N, E>>
         requires child { HasNode (graph self.old) (Ix.number child) }
-        requires edge_room { edge_count_of (graph self.old) < Ix.greatest }
-        requires node_room { node_count_of (graph self.old) < Ix.greatest }
+        requires edge_index_left { edge_count_of (graph self.old) < Ix.greatest }
+        requires node_index_left { node_count_of (graph self.old) < Ix.greatest }
         ensures added { IfOk result (λ r. (Ix.number r.0 ≡ next_edge (graph self.old))
             × (Ix.number r.1 ≡ next_node (graph self.old))
             × (graph self.new ≡ with_neighbor Incoming (graph self.old) (Ix.number child) edge node)) }
