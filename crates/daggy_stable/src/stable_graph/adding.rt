@@ -35,8 +35,8 @@ impl<N: Drop, E: Drop, Ix: IndexType> StableDiGraph<N, E, Ix> {
         self.make_node(weight)
     }
 
-    // Adds a node in the slot that was vacated last.
-    #[inline]
+    // Adds a node in the slot that was vacated last. Apart, so that what is inlined stays small.
+    #[inline(never)]
     fn fill_node(&mut self, weight: N) -> NodeIndex<Ix>
         requires { self.old.graph.vacant_nodes ≢ [] }
         ensures index { Ix.number result ≡ next_node self.old.graph }
@@ -98,8 +98,8 @@ impl<N: Drop, E: Drop, Ix: IndexType> StableDiGraph<N, E, Ix> {
         self.make_edge(a, b, weight)
     }
 
-    // Adds an edge in the slot that was vacated last.
-    #[inline]
+    // Adds an edge in the slot that was vacated last. Apart, as `fill_node` is.
+    #[inline(never)]
     fn fill_edge(&mut self, a: NodeIndex<Ix>, b: NodeIndex<Ix>, weight: E) -> EdgeIndex<Ix>
         requires some { self.old.graph.vacant_edges ≢ [] }
         requires parent { HasNode self.old.graph (Ix.number a) }
