@@ -1,5 +1,6 @@
 -- Nodes without an edge in one direction, found by their first links and gone through by index.
-use Rattle.std.proofs.Common.{◌≡◌, ℕ, ◌+◌, ◌-◌, ◌<◌, ◌≤◌, ◌==◌, true, false, Option, Some, None, IsSome, is_some, List, [], ◌∷◌, length, refl, ap, sym, ◌∙◌, arith, inl}
+use Rattle.std.proofs.Common.{◌≡◌, ℕ, ◌+◌, ◌-◌, ◌<◌, ◌≤◌, ◌==◌, true, false, Option, Some, None, IsSome, is_some, List}
+use Rattle.std.proofs.Common.{[], ◌∷◌, length, refl, ap, sym, ◌∙◌, arith, inl}
 use Rattle.std.specs.List.{filter, range_with_len}
 use Rattle.std.proofs.Math.Dec.{eqb-suc-zero}
 use Rattle.std.proofs.lemmas.List.FromFn.{length-range_with_len}
@@ -17,7 +18,8 @@ use Rattle.daggy_cells.proofs.RestLemmas.{range_step}
 
 first_none : (end : ℕ) (xs : List ℕ) → ((e : ℕ) → Mem e xs → e < end) → (first_of end xs == end) ≡ (length xs == 0)
 first_none end [] low = eq-eqb end end refl
-first_none end (x ∷ xs) low = ne_eqb x end (λ h. let here = low x (inl refl) in absurd (omega (arith, here, h))) ∙ sym (eqb-suc-zero (length xs))
+first_none end (x ∷ xs) low =
+    ne_eqb x end (λ h. let here = low x (inl refl) in absurd (omega (arith, here, h))) ∙ sym (eqb-suc-zero (length xs))
 
 module _ {N E : Type 0} (end : ℕ) (g : Graph N E) (w : IsWellFormed end g) where
   below : (dir : Direction) (n e : ℕ) → Mem e (list_at dir g n) → e < end
@@ -25,7 +27,8 @@ module _ {N E : Type 0} (end : ℕ) (g : Graph N E) (w : IsWellFormed end g) whe
   below Incoming n e m = let x = (w.in_of.exact n e).0 (mem_contains _ _ m) in edge_below end g w e x.0 x.1
 
   -- a list whose first link is `end` is empty
-  pub empty_if_ended : (dir : Direction) (n : ℕ) → (first_of end (list_at dir g n) == end) ≡ (length (list_at dir g n) == 0)
+  pub empty_if_ended : (dir : Direction) (n : ℕ)
+      → (first_of end (list_at dir g n) == end) ≡ (length (list_at dir g n) == 0)
   empty_if_ended dir n = first_none end (list_at dir g n) (below dir n)
 
 pub is_some_of : {A : Type 0} (o : Option A) → IsSome o → is_some o ≡ true
@@ -33,16 +36,23 @@ is_some_of None h = absurd cc
 is_some_of (Some x) h = refl
 
 module _ {N E : Type 0} (dir : Direction) (g : Graph N E) (i : ℕ) where
-  pub taken : i < length g.nodes → is_external dir g i ≡ true → externals_from dir g i ≡ i ∷ externals_from dir g (i + 1)
+  pub taken : i < length g.nodes → is_external dir g i ≡ true
+      → externals_from dir g i ≡ i ∷ externals_from dir g (i + 1)
   taken within is = ap (filter (is_external dir g)) (range_step i (length g.nodes) within) ∙ rw is refl
 
   pub passed : i < length g.nodes → is_external dir g i ≡ false → externals_from dir g i ≡ externals_from dir g (i + 1)
   passed within is = ap (filter (is_external dir g)) (range_step i (length g.nodes) within) ∙ rw is refl
 
   pub ended : length g.nodes ≤ i → externals_from dir g i ≡ []
-  ended past = let none : length g.nodes - i ≡ 0 = omega (arith, past) in ap (λ k. filter (is_external dir g) (range_with_len i k)) none
+  ended past = let none : length g.nodes - i ≡ 0 = omega (arith, past) in
+      ap (λ k. filter (is_external dir g) (range_with_len i k)) none
 
 pub few : {N E : Type 0} (dir : Direction) (g : Graph N E) → length (externals_from dir g 0) ≤ length g.nodes
 few dir g =
     let range = range_with_len 0 (length g.nodes - 0) in
-    omega (arith, length-filter (is_external dir g) range, count_by-le-length (is_external dir g) range, length-range_with_len 0 (length g.nodes - 0))
+    omega (
+      arith,
+      length-filter (is_external dir g) range,
+      count_by-le-length (is_external dir g) range,
+      length-range_with_len 0 (length g.nodes - 0),
+    )

@@ -1,5 +1,6 @@
 -- Keeping some of the nodes and edges of a dag keeps the order of its nodes, under their new names.
-use Rattle.std.proofs.Common.{◌≡◌, ℕ, zero, suc, ◌+◌, ◌<◌, ◌≤◌, ◌⊎◌, ◌↔◌, inl, inr, List, [], ◌∷◌, length, Contains, Option, Some, None, IsSome, is_some, refl, sym, ap, subst, ◌∙◌, arith}
+use Rattle.std.proofs.Common.{◌≡◌, ℕ, zero, suc, ◌+◌, ◌<◌, ◌≤◌, ◌⊎◌, ◌↔◌, inl, inr, List, [], ◌∷◌, length, Contains}
+use Rattle.std.proofs.Common.{Option, Some, None, IsSome, is_some, refl, sym, ap, subst, ◌∙◌, arith}
 use Rattle.std.specs.List.{filter_map}
 use Rattle.std.specs.Borrow.{Bor}
 use Rattle.std.proofs.lemmas.Option.{same_Some, none-some}
@@ -9,16 +10,19 @@ use Rattle.daggy_base.specs.Path.{AreJoined}
 use Rattle.daggy_base.specs.Adding.{with_slot_filled, next_slot, remaining_vacant, with_node, next_node}
 use Rattle.daggy_base.proofs.PathsWithNode.{bound_low}
 use Rattle.daggy_base.proofs.Slots.{IsFree, slot_taken, slot_taken_kept, slot_taken_new}
-use Rattle.daggy_base.specs.Filtering.{with_kept_node, named, with_kept_edge, both, new_ends, FiltersNodes, FiltersEdge, FiltersEdges, IsFiltered}
+use Rattle.daggy_base.specs.Filtering.{with_kept_node, named, with_kept_edge, both, new_ends, FiltersNodes, FiltersEdge}
+use Rattle.daggy_base.specs.Filtering.{FiltersEdges, IsFiltered}
 use Rattle.daggy_order.specs.Ordered.{IsOrderOf}
 use Rattle.daggy_order.proofs.OrderLaws.{HasEnds, order_named, some_is}
 use Rattle.daggy_dag.proofs.OrderKept.{order_below}
 
 module _ {V W : Type 0} where
   -- where no slot is vacant, a node goes behind the others
-  more_nodes : (h : Graph V W) (r : Option V) → h.vacant_nodes ≡ [] → length (with_kept_node h r).nodes ≤ length h.nodes + 1
+  more_nodes : (h : Graph V W) (r : Option V)
+      → h.vacant_nodes ≡ [] → length (with_kept_node h r).nodes ≤ length h.nodes + 1
   more_nodes h None none = omega arith
-  more_nodes h (Some v) none = omega (arith, ap (λ z. length (with_slot_filled h.nodes z (Some v))) none, length_push h.nodes (Some v))
+  more_nodes h (Some v) none =
+      omega (arith, ap (λ z. length (with_slot_filled h.nodes z (Some v))) none, length_push h.nodes (Some v))
 
   as_many_nodes : (h : Graph V W) (v : V) → h.vacant_nodes ≡ [] → length (with_node h v).nodes ≡ length h.nodes + 1
   as_many_nodes h v none = ap (λ z. length (with_slot_filled h.nodes z (Some v))) none ∙ length_push h.nodes (Some v)
@@ -31,7 +35,8 @@ module _ {V W : Type 0} where
   edges_stay h None = refl
   edges_stay h (Some v) = refl
 
-  named_next : (h : Graph V W) (r : Option V) (k : ℕ) → h.vacant_nodes ≡ [] → named h r ≡ Some k → (k ≡ length h.nodes) × (length (with_kept_node h r).nodes ≡ k + 1)
+  named_next : (h : Graph V W) (r : Option V) (k : ℕ)
+      → h.vacant_nodes ≡ [] → named h r ≡ Some k → (k ≡ length h.nodes) × (length (with_kept_node h r).nodes ≡ k + 1)
   named_next h None k none is = absurd (none-some k is)
   named_next h (Some v) k none is =
       let next : k ≡ length h.nodes = same_Some k (next_node h) (sym is) ∙ ap (next_slot h.nodes) none in
@@ -44,11 +49,13 @@ module _ {V W : Type 0} where
   none_taken : (h : Graph V W) → h.vacant_nodes ≡ [] → IsFree h.nodes h.vacant_nodes
   none_taken h none = let P : List ℕ → Type 0 = λ z. IsFree h.nodes z in subst P (sym none) tt
 
-  node_remains : (h : Graph V W) (r : Option V) → h.vacant_nodes ≡ [] → (k : ℕ) (y : V) → slot h.nodes k ≡ Some y → slot (with_kept_node h r).nodes k ≡ Some y
+  node_remains : (h : Graph V W) (r : Option V)
+      → h.vacant_nodes ≡ [] → (k : ℕ) (y : V) → slot h.nodes k ≡ Some y → slot (with_kept_node h r).nodes k ≡ Some y
   node_remains h None none k y at = at
   node_remains h (Some v) none k y at = slot_taken_kept h.nodes h.vacant_nodes v k y (none_taken h none) at
 
-  node_came : (h : Graph V W) (r : Option V) (k : ℕ) (y : V) → slot (with_kept_node h r).nodes k ≡ Some y → (named h r ≡ Some k) ⊎ (slot h.nodes k ≡ Some y)
+  node_came : (h : Graph V W) (r : Option V) (k : ℕ) (y : V)
+      → slot (with_kept_node h r).nodes k ≡ Some y → (named h r ≡ Some k) ⊎ (slot h.nodes k ≡ Some y)
   node_came h None k y at = inr at
   node_came h (Some v) k y at =
       elim (slot_taken h.nodes h.vacant_nodes v k y at) [
@@ -58,64 +65,106 @@ module _ {V W : Type 0} where
 
 module _ {N V W F I : Type 0} (step : F → I → Bor N → Option V → F → Type 0) (of : ℕ → I) where
   -- each name is the index of a node that was added
-  names_from : (f : F) (i : ℕ) (xs : List (Option N)) (h : Graph V W) (names : List (Option ℕ)) (new : Graph V W) → h.vacant_nodes ≡ [] → FiltersNodes step of f i xs h names new
+  names_from : (f : F) (i : ℕ) (xs : List (Option N)) (h : Graph V W) (names : List (Option ℕ)) (new : Graph V W)
+      → h.vacant_nodes ≡ [] → FiltersNodes step of f i xs h names new
       → (a k : ℕ) → slot names a ≡ Some k → length h.nodes ≤ k
   names_from f i [] h names new none (nil, same) a k at = absurd (none-some k (ap (λ z. slot z a) (sym nil) ∙ at))
-  names_from f i (None ∷ xs) h names new none (rest, is, more) zero k at = absurd (none-some k (ap (λ z. slot z zero) (sym is) ∙ at))
-  names_from f i (None ∷ xs) h names new none (rest, is, more) (suc a) k at = names_from f (i + 1) xs h rest new none more a k (ap (λ z. slot z (suc a)) (sym is) ∙ at)
-  names_from f i (Some x ∷ xs) h names new none (r, next, called, rest, is, more) zero k at = omega (arith, (named_next h r k none (ap (λ z. slot z zero) (sym is) ∙ at)).0)
+  names_from f i (None ∷ xs) h names new none (rest, is, more) zero k at =
+      absurd (none-some k (ap (λ z. slot z zero) (sym is) ∙ at))
+  names_from f i (None ∷ xs) h names new none (rest, is, more) (suc a) k at =
+      names_from f (i + 1) xs h rest new none more a k (ap (λ z. slot z (suc a)) (sym is) ∙ at)
+  names_from f i (Some x ∷ xs) h names new none (r, next, called, rest, is, more) zero k at =
+      omega (arith, (named_next h r k none (ap (λ z. slot z zero) (sym is) ∙ at)).0)
   names_from f i (Some x ∷ xs) h names new none (r, next, called, rest, is, more) (suc a) k at =
-      omega (arith, not_fewer h r none, names_from next (i + 1) xs (with_kept_node h r) rest new (none_vacant h r none) more a k (ap (λ z. slot z (suc a)) (sym is) ∙ at))
+      omega (
+        arith,
+        not_fewer h r none,
+        names_from next (i + 1) xs (with_kept_node h r) rest new (none_vacant h r none) more a k
+            (ap (λ z. slot z (suc a)) (sym is) ∙ at),
+      )
 
   -- no two nodes got one name
-  one_name : (f : F) (i : ℕ) (xs : List (Option N)) (h : Graph V W) (names : List (Option ℕ)) (new : Graph V W) → h.vacant_nodes ≡ [] → FiltersNodes step of f i xs h names new
+  one_name : (f : F) (i : ℕ) (xs : List (Option N)) (h : Graph V W) (names : List (Option ℕ)) (new : Graph V W)
+      → h.vacant_nodes ≡ [] → FiltersNodes step of f i xs h names new
       → (k a b : ℕ) → slot names a ≡ Some k → slot names b ≡ Some k → a ≡ b
   one_name f i [] h names new none (nil, same) k a b p q = absurd (none-some k (ap (λ z. slot z a) (sym nil) ∙ p))
-  one_name f i (None ∷ xs) h names new none (rest, is, more) k zero b p q = absurd (none-some k (ap (λ z. slot z zero) (sym is) ∙ p))
-  one_name f i (None ∷ xs) h names new none (rest, is, more) k (suc a) zero p q = absurd (none-some k (ap (λ z. slot z zero) (sym is) ∙ q))
+  one_name f i (None ∷ xs) h names new none (rest, is, more) k zero b p q =
+      absurd (none-some k (ap (λ z. slot z zero) (sym is) ∙ p))
+  one_name f i (None ∷ xs) h names new none (rest, is, more) k (suc a) zero p q =
+      absurd (none-some k (ap (λ z. slot z zero) (sym is) ∙ q))
   one_name f i (None ∷ xs) h names new none (rest, is, more) k (suc a) (suc b) p q =
-      ap suc (one_name f (i + 1) xs h rest new none more k a b (ap (λ z. slot z (suc a)) (sym is) ∙ p) (ap (λ z. slot z (suc b)) (sym is) ∙ q))
+      ap suc (one_name f (i + 1) xs h rest new none more k a b (ap (λ z. slot z (suc a)) (sym is) ∙ p)
+      (ap (λ z. slot z (suc b)) (sym is) ∙ q))
   one_name f i (Some x ∷ xs) h names new none (r, next, called, rest, is, more) k zero zero p q = refl
   one_name f i (Some x ∷ xs) h names new none (r, next, called, rest, is, more) k zero (suc b) p q =
-      absurd (omega (arith, (named_next h r k none (ap (λ z. slot z zero) (sym is) ∙ p)).1, names_from next (i + 1) xs (with_kept_node h r) rest new (none_vacant h r none) more b k (ap (λ z. slot z (suc b)) (sym is) ∙ q)))
+      absurd (omega (
+        arith,
+        (named_next h r k none (ap (λ z. slot z zero) (sym is) ∙ p)).1,
+        names_from next (i + 1) xs (with_kept_node h r) rest new (none_vacant h r none) more b k
+            (ap (λ z. slot z (suc b)) (sym is) ∙ q),
+      ))
   one_name f i (Some x ∷ xs) h names new none (r, next, called, rest, is, more) k (suc a) zero p q =
-      absurd (omega (arith, (named_next h r k none (ap (λ z. slot z zero) (sym is) ∙ q)).1, names_from next (i + 1) xs (with_kept_node h r) rest new (none_vacant h r none) more a k (ap (λ z. slot z (suc a)) (sym is) ∙ p)))
+      absurd (omega (
+        arith,
+        (named_next h r k none (ap (λ z. slot z zero) (sym is) ∙ q)).1,
+        names_from next (i + 1) xs (with_kept_node h r) rest new (none_vacant h r none) more a k
+            (ap (λ z. slot z (suc a)) (sym is) ∙ p),
+      ))
   one_name f i (Some x ∷ xs) h names new none (r, next, called, rest, is, more) k (suc a) (suc b) p q =
-      ap suc (one_name next (i + 1) xs (with_kept_node h r) rest new (none_vacant h r none) more k a b (ap (λ z. slot z (suc a)) (sym is) ∙ p) (ap (λ z. slot z (suc b)) (sym is) ∙ q))
+      ap suc (one_name next (i + 1) xs (with_kept_node h r) rest new (none_vacant h r none) more k a b
+      (ap (λ z. slot z (suc a)) (sym is) ∙ p) (ap (λ z. slot z (suc b)) (sym is) ∙ q))
 
   -- there is a name for each slot, vacant or not
-  names_long : (f : F) (i : ℕ) (xs : List (Option N)) (h : Graph V W) (names : List (Option ℕ)) (new : Graph V W) → FiltersNodes step of f i xs h names new → length names ≡ length xs
+  names_long : (f : F) (i : ℕ) (xs : List (Option N)) (h : Graph V W) (names : List (Option ℕ)) (new : Graph V W)
+      → FiltersNodes step of f i xs h names new → length names ≡ length xs
   names_long f i [] h names new (nil, same) = ap length nil
-  names_long f i (None ∷ xs) h names new (rest, is, more) = ap length is ∙ ap suc (names_long f (i + 1) xs h rest new more)
-  names_long f i (Some x ∷ xs) h names new (r, next, called, rest, is, more) = ap length is ∙ ap suc (names_long next (i + 1) xs (with_kept_node h r) rest new more)
+  names_long f i (None ∷ xs) h names new (rest, is, more) =
+      ap length is ∙ ap suc (names_long f (i + 1) xs h rest new more)
+  names_long f i (Some x ∷ xs) h names new (r, next, called, rest, is, more) =
+      ap length is ∙ ap suc (names_long next (i + 1) xs (with_kept_node h r) rest new more)
 
   -- what was added stays
-  nodes_remain : (f : F) (i : ℕ) (xs : List (Option N)) (h : Graph V W) (names : List (Option ℕ)) (new : Graph V W) → h.vacant_nodes ≡ [] → FiltersNodes step of f i xs h names new
+  nodes_remain : (f : F) (i : ℕ) (xs : List (Option N)) (h : Graph V W) (names : List (Option ℕ)) (new : Graph V W)
+      → h.vacant_nodes ≡ [] → FiltersNodes step of f i xs h names new
       → (k : ℕ) (y : V) → slot h.nodes k ≡ Some y → slot new.nodes k ≡ Some y
   nodes_remain f i [] h names new none (nil, same) k y at = ap (λ (z : Graph V W). slot z.nodes k) same ∙ at
-  nodes_remain f i (None ∷ xs) h names new none (rest, is, more) k y at = nodes_remain f (i + 1) xs h rest new none more k y at
-  nodes_remain f i (Some x ∷ xs) h names new none (r, next, called, rest, is, more) k y at = nodes_remain next (i + 1) xs (with_kept_node h r) rest new (none_vacant h r none) more k y (node_remains h r none k y at)
+  nodes_remain f i (None ∷ xs) h names new none (rest, is, more) k y at =
+      nodes_remain f (i + 1) xs h rest new none more k y at
+  nodes_remain f i (Some x ∷ xs) h names new none (r, next, called, rest, is, more) k y at =
+      nodes_remain next (i + 1) xs (with_kept_node h r) rest new (none_vacant h r none) more k y
+      (node_remains h r none k y at)
 
   -- a node that got a name existed, and the name is the index of one that exists
-  named_at : (f : F) (i : ℕ) (xs : List (Option N)) (h : Graph V W) (names : List (Option ℕ)) (new : Graph V W) → h.vacant_nodes ≡ [] → FiltersNodes step of f i xs h names new
+  named_at : (f : F) (i : ℕ) (xs : List (Option N)) (h : Graph V W) (names : List (Option ℕ)) (new : Graph V W)
+      → h.vacant_nodes ≡ [] → FiltersNodes step of f i xs h names new
       → (a k : ℕ) → slot names a ≡ Some k → IsSome (slot xs a) × IsSome (slot new.nodes k) × (k ≤ length h.nodes + a)
   named_at f i [] h names new none (nil, same) a k at = absurd (none-some k (ap (λ z. slot z a) (sym nil) ∙ at))
-  named_at f i (None ∷ xs) h names new none (rest, is, more) zero k at = absurd (none-some k (ap (λ z. slot z zero) (sym is) ∙ at))
+  named_at f i (None ∷ xs) h names new none (rest, is, more) zero k at =
+      absurd (none-some k (ap (λ z. slot z zero) (sym is) ∙ at))
   named_at f i (None ∷ xs) h names new none (rest, is, more) (suc a) k at =
-      let later = named_at f (i + 1) xs h rest new none more a k (ap (λ z. slot z (suc a)) (sym is) ∙ at) in (later.0, later.1, omega (arith, later.2))
-  named_at f i (Some x ∷ xs) h names new none (None, next, called, rest, is, more) zero k at = absurd (none-some k (ap (λ z. slot z zero) (sym is) ∙ at))
+      let later = named_at f (i + 1) xs h rest new none more a k (ap (λ z. slot z (suc a)) (sym is) ∙ at) in
+      (later.0, later.1, omega (arith, later.2))
+  named_at f i (Some x ∷ xs) h names new none (None, next, called, rest, is, more) zero k at =
+      absurd (none-some k (ap (λ z. slot z zero) (sym is) ∙ at))
   named_at f i (Some x ∷ xs) h names new none (Some v, next, called, rest, is, more) zero k at =
       let here : named h (Some v) ≡ Some k = ap (λ z. slot z zero) (sym is) ∙ at in
       let index : k ≡ length h.nodes = (named_next h (Some v) k none here).0 in
       let P : ℕ → Type 0 = λ z. slot (with_node h v).nodes z ≡ Some v in
-      let added : slot (with_node h v).nodes k ≡ Some v = subst P (same_Some (next_node h) k here) (slot_taken_new h.nodes h.vacant_nodes v (none_taken h none)) in
-      (refl, ap is_some (nodes_remain next (i + 1) xs (with_node h v) rest new (none_vacant h (Some v) none) more k v added), omega (arith, index))
+      let added : slot (with_node h v).nodes k ≡ Some v =
+      subst P (same_Some (next_node h) k here) (slot_taken_new h.nodes h.vacant_nodes v (none_taken h none)) in (
+        refl,
+        ap is_some (nodes_remain next (i + 1) xs (with_node h v) rest new (none_vacant h (Some v) none) more k v added),
+        omega (arith, index),
+      )
   named_at f i (Some x ∷ xs) h names new none (r, next, called, rest, is, more) (suc a) k at =
-      let later = named_at next (i + 1) xs (with_kept_node h r) rest new (none_vacant h r none) more a k (ap (λ z. slot z (suc a)) (sym is) ∙ at) in
+      let later =
+      named_at next (i + 1) xs (with_kept_node h r) rest new (none_vacant h r none) more a k
+      (ap (λ z. slot z (suc a)) (sym is) ∙ at) in
       (later.0, later.1, omega (arith, later.2, more_nodes h r none))
 
   -- each node got its index as a name, or was there before
-  came_from : (f : F) (i : ℕ) (xs : List (Option N)) (h : Graph V W) (names : List (Option ℕ)) (new : Graph V W) → FiltersNodes step of f i xs h names new
+  came_from : (f : F) (i : ℕ) (xs : List (Option N)) (h : Graph V W) (names : List (Option ℕ)) (new : Graph V W)
+      → FiltersNodes step of f i xs h names new
       → (k : ℕ) (y : V) → slot new.nodes k ≡ Some y → ((a : ℕ) × (slot names a ≡ Some k)) ⊎ (slot h.nodes k ≡ Some y)
   came_from f i [] h names new (nil, same) k y at = inr (ap (λ (z : Graph V W). slot z.nodes k) (sym same) ∙ at)
   came_from f i (None ∷ xs) h names new (rest, is, more) k y at =
@@ -133,29 +182,42 @@ module _ {N V W F I : Type 0} (step : F → I → Bor N → Option V → F → T
       ]
 
   -- no edge was added, and no more nodes than there were
-  no_edges : (f : F) (i : ℕ) (xs : List (Option N)) (h : Graph V W) (names : List (Option ℕ)) (new : Graph V W) → FiltersNodes step of f i xs h names new → new.edges ≡ h.edges
+  no_edges : (f : F) (i : ℕ) (xs : List (Option N)) (h : Graph V W) (names : List (Option ℕ)) (new : Graph V W)
+      → FiltersNodes step of f i xs h names new → new.edges ≡ h.edges
   no_edges f i [] h names new (nil, same) = ap (λ (z : Graph V W). z.edges) same
   no_edges f i (None ∷ xs) h names new (rest, is, more) = no_edges f (i + 1) xs h rest new more
-  no_edges f i (Some x ∷ xs) h names new (r, next, called, rest, is, more) = no_edges next (i + 1) xs (with_kept_node h r) rest new more ∙ edges_stay h r
+  no_edges f i (Some x ∷ xs) h names new (r, next, called, rest, is, more) =
+      no_edges next (i + 1) xs (with_kept_node h r) rest new more ∙ edges_stay h r
 
-  few_nodes : (f : F) (i : ℕ) (xs : List (Option N)) (h : Graph V W) (names : List (Option ℕ)) (new : Graph V W) → h.vacant_nodes ≡ [] → FiltersNodes step of f i xs h names new → length new.nodes ≤ length h.nodes + length xs
+  few_nodes : (f : F) (i : ℕ) (xs : List (Option N)) (h : Graph V W) (names : List (Option ℕ)) (new : Graph V W)
+      → h.vacant_nodes ≡ [] → FiltersNodes step of f i xs h names new → length new.nodes ≤ length h.nodes + length xs
   few_nodes f i [] h names new none (nil, same) = omega (arith, ap (λ (z : Graph V W). length z.nodes) same)
-  few_nodes f i (None ∷ xs) h names new none (rest, is, more) = omega (arith, few_nodes f (i + 1) xs h rest new none more)
+  few_nodes f i (None ∷ xs) h names new none (rest, is, more) =
+      omega (arith, few_nodes f (i + 1) xs h rest new none more)
   few_nodes f i (Some x ∷ xs) h names new none (r, next, called, rest, is, more) =
-      omega (arith, more_nodes h r none, few_nodes next (i + 1) xs (with_kept_node h r) rest new (none_vacant h r none) more)
+      omega (
+        arith,
+        more_nodes h r none,
+        few_nodes next (i + 1) xs (with_kept_node h r) rest new (none_vacant h r none) more,
+      )
 
 -- an old edge whose ends got these names
-pub record CameFrom {E : Type 0} (names : List (Option ℕ)) (xs : List (Option (Edge E))) (parent child : ℕ) : Type 0 where
+pub record CameFrom {E : Type 0} (names : List (Option ℕ)) (xs : List (Option (Edge E)))
+    (parent child : ℕ) : Type 0 where
   pub index : ℕ
   pub edge : Edge E
   pub at : slot xs index ≡ Some edge
   pub ends : new_ends names edge ≡ Some (parent, child)
 
-later_edge : {E : Type 0} (names : List (Option ℕ)) (x : Option (Edge E)) (xs : List (Option (Edge E))) (a b : ℕ) → CameFrom names xs a b → CameFrom names (x ∷ xs) a b
+later_edge : {E : Type 0} (names : List (Option ℕ)) (x : Option (Edge E)) (xs : List (Option (Edge E))) (a b : ℕ)
+    → CameFrom names xs a b → CameFrom names (x ∷ xs) a b
 later_edge names x xs a b c = record { index = suc c.index; edge = c.edge; at = c.at; ends = c.ends }
 
-module _ {E V W G I : Type 0} (step : G → I → Bor E → Option W → G → Type 0) (of : ℕ → I) (names : List (Option ℕ)) where
-  kept_from : (h : Graph V W) (ends : ℕ × ℕ) (r : Option W) (k : ℕ) (y : Edge W) → edge_at (with_kept_edge h ends r) k ≡ Some y → ((y.parent ≡ ends.0) × (y.child ≡ ends.1)) ⊎ (edge_at h k ≡ Some y)
+module _ {E V W G I : Type 0} (step : G → I → Bor E → Option W → G → Type 0) (of : ℕ → I)
+    (names : List (Option ℕ)) where
+  kept_from : (h : Graph V W) (ends : ℕ × ℕ) (r : Option W) (k : ℕ) (y : Edge W)
+      → edge_at (with_kept_edge h ends r) k ≡ Some y
+      → ((y.parent ≡ ends.0) × (y.child ≡ ends.1)) ⊎ (edge_at h k ≡ Some y)
   kept_from h ends None k y at = inr at
   kept_from h ends (Some w) k y at =
       elim (slot_taken h.edges h.vacant_edges (record { parent = ends.0; child = ends.1; weight = w }) k y at) [
@@ -169,11 +231,14 @@ module _ {E V W G I : Type 0} (step : G → I → Bor E → Option W → G → T
 
   -- each edge is one of the old graph, or was there before
   abbrev ComesFrom : List (Option (Edge E)) → Graph V W → Graph V W → Type 0
-  ComesFrom xs h new = (k : ℕ) (y : Edge W) → edge_at new k ≡ Some y → CameFrom names xs y.parent y.child ⊎ (edge_at h k ≡ Some y)
+  ComesFrom xs h new =
+      (k : ℕ) (y : Edge W) → edge_at new k ≡ Some y → CameFrom names xs y.parent y.child ⊎ (edge_at h k ≡ Some y)
 
-  edge_from : (g : G) (e : ℕ) (x : Edge E) (xs : List (Option (Edge E))) (ends : Option (ℕ × ℕ)) (h new : Graph V W) → new_ends names x ≡ ends
+  edge_from : (g : G) (e : ℕ) (x : Edge E) (xs : List (Option (Edge E))) (ends : Option (ℕ × ℕ)) (h new : Graph V W)
+      → new_ends names x ≡ ends
       → ((next : G) (mid : Graph V W) → FiltersEdges step of names next (e + 1) xs mid new → ComesFrom xs mid new)
-      → FiltersEdge step of names g e x.weight ends h (λ next mid. FiltersEdges step of names next (e + 1) xs mid new) → ComesFrom (Some x ∷ xs) h new
+      → FiltersEdge step of names g e x.weight ends h (λ next mid. FiltersEdges step of names next (e + 1) xs mid new)
+      → ComesFrom (Some x ∷ xs) h new
   edge_from g e x xs None h new is later more k y at =
       elim (later g h more k y at) [
         | inl c ↦ inl (later_edge names (Some x) xs y.parent y.child c)
@@ -183,12 +248,18 @@ module _ {E V W G I : Type 0} (step : G → I → Bor E → Option W → G → T
       elim (later next (with_kept_edge h ends r) more k y at) [
         | inl c ↦ inl (later_edge names (Some x) xs y.parent y.child c)
         | inr q ↦ elim (kept_from h ends r k y q) [
-          | inl s ↦ inl (record { index = 0; edge = x; at = refl; ends = is ∙ ap (λ z. Some (z, ends.1)) (sym s.0) ∙ ap (λ z. Some (y.parent, z)) (sym s.1) })
+          | inl s ↦ inl (record {
+            index = 0;
+            edge = x;
+            at = refl;
+            ends = is ∙ ap (λ z. Some (z, ends.1)) (sym s.0) ∙ ap (λ z. Some (y.parent, z)) (sym s.1);
+          })
           | inr t ↦ inr t
         ]
       ]
 
-  edges_from : (g : G) (e : ℕ) (xs : List (Option (Edge E))) (h new : Graph V W) → FiltersEdges step of names g e xs h new → ComesFrom xs h new
+  edges_from : (g : G) (e : ℕ) (xs : List (Option (Edge E))) (h new : Graph V W)
+      → FiltersEdges step of names g e xs h new → ComesFrom xs h new
   edges_from g e [] h new is k y at = inr (ap (λ (z : Graph V W). edge_at z k) (sym is) ∙ at)
   edges_from g e (None ∷ xs) h new more k y at =
       elim (edges_from g (e + 1) xs h new more k y at) [
@@ -200,30 +271,38 @@ module _ {E V W G I : Type 0} (step : G → I → Bor E → Option W → G → T
 
   nodes_after : (g : G) (e : ℕ) (w : E) (xs : List (Option (Edge E))) (ends : Option (ℕ × ℕ)) (h new : Graph V W)
       → ((next : G) (mid : Graph V W) → FiltersEdges step of names next (e + 1) xs mid new → new.nodes ≡ mid.nodes)
-      → FiltersEdge step of names g e w ends h (λ next mid. FiltersEdges step of names next (e + 1) xs mid new) → new.nodes ≡ h.nodes
+      → FiltersEdge step of names g e w ends h (λ next mid. FiltersEdges step of names next (e + 1) xs mid new)
+      → new.nodes ≡ h.nodes
   nodes_after g e w xs None h new later more = later g h more
-  nodes_after g e w xs (Some ends) h new later (r, next, called, more) = later next (with_kept_edge h ends r) more ∙ nodes_stay h ends r
+  nodes_after g e w xs (Some ends) h new later (r, next, called, more) =
+      later next (with_kept_edge h ends r) more ∙ nodes_stay h ends r
 
-  same_nodes : (g : G) (e : ℕ) (xs : List (Option (Edge E))) (h new : Graph V W) → FiltersEdges step of names g e xs h new → new.nodes ≡ h.nodes
+  same_nodes : (g : G) (e : ℕ) (xs : List (Option (Edge E))) (h new : Graph V W)
+      → FiltersEdges step of names g e xs h new → new.nodes ≡ h.nodes
   same_nodes g e [] h new is = ap (λ (z : Graph V W). z.nodes) is
   same_nodes g e (None ∷ xs) h new more = same_nodes g (e + 1) xs h new more
-  same_nodes g e (Some x ∷ xs) h new more = nodes_after g e x.weight xs (new_ends names x) h new (λ next mid m. same_nodes next (e + 1) xs mid new m) more
+  same_nodes g e (Some x ∷ xs) h new more =
+      nodes_after g e x.weight xs (new_ends names x) h new (λ next mid m. same_nodes next (e + 1) xs mid new m) more
 
 both_named : (p q : Option ℕ) (a b : ℕ) → both p q ≡ Some (a, b) → (p ≡ Some a) × (q ≡ Some b)
 both_named None q a b is = absurd (none-some (a, b) is)
 both_named (Some x) None a b is = absurd (none-some (a, b) is)
 both_named (Some x) (Some y) a b is = let s = same_Some (x, y) (a, b) is in (ap (λ z. Some z.0) s, ap (λ z. Some z.1) s)
 
-module _ {N E V W F G I : Type 0} (of : ℕ → I) (step_f : F → I → Bor N → Option V → F → Type 0) (step_g : G → I → Bor E → Option W → G → Type 0) (f : F) (g : G) (old : Graph N E) (new : Graph V W)
+module _ {N E V W F G I : Type 0} (of : ℕ → I) (step_f : F → I → Bor N → Option V → F → Type 0)
+    (step_g : G → I → Bor E → Option W → G → Type 0) (f : F) (g : G) (old : Graph N E) (new : Graph V W)
     (filtered : IsFiltered of step_f step_g f g old new) where
-  was_joined : (k l : ℕ) → AreJoined new k l → (u v : ℕ) × (slot filtered.names u ≡ Some k) × (slot filtered.names v ≡ Some l) × AreJoined old u v
+  was_joined : (k l : ℕ) → AreJoined new k l
+      → (u v : ℕ) × (slot filtered.names u ≡ Some k) × (slot filtered.names v ≡ Some l) × AreJoined old u v
   was_joined k l j =
       elim (edges_from step_g of filtered.names g 0 old.edges filtered.middle new filtered.edges j.0 _ j.2) [
         | inl c ↦ (
             let b = both_named (slot filtered.names c.edge.parent) (slot filtered.names c.edge.child) k l c.ends in
             (c.edge.parent, c.edge.child, b.0, b.1, (c.index, c.edge.weight, c.at))
             )
-        | inr q ↦ absurd (none-some _ (ap (λ z. slot z j.0) (sym (no_edges step_f of f 0 old.nodes empty filtered.names filtered.middle filtered.nodes)) ∙ q))
+        | inr q ↦
+            absurd (none-some _ (ap (λ z. slot z j.0)
+            (sym (no_edges step_f of f 0 old.nodes empty filtered.names filtered.middle filtered.nodes)) ∙ q))
       ]
 
   nodes_are : new.nodes ≡ filtered.middle.nodes
@@ -239,7 +318,8 @@ module _ {N E V W F G I : Type 0} (of : ℕ → I) (step_f : F → I → Bor N �
   has_node k = (
     λ h.
         let w = some_is (slot new.nodes k) h in
-        elim (came_from step_f of f 0 old.nodes empty filtered.names filtered.middle filtered.nodes k w.0 (ap (λ z. slot z k) (sym nodes_are) ∙ w.1)) [
+        elim (came_from step_f of f 0 old.nodes empty filtered.names filtered.middle filtered.nodes k w.0
+        (ap (λ z. slot z k) (sym nodes_are) ∙ w.1)) [
           | inl c ↦ (c.0, (has_name c.0 k c.1).0, c.1)
           | inr none ↦ absurd (none-some w.0 none)
         ],
@@ -258,19 +338,25 @@ module _ {N E V W F G I : Type 0} (of : ℕ → I) (step_f : F → I → Bor N �
 
     pub names_differ : (a b k : ℕ) → slot names a ≡ Some k → slot names b ≡ Some k → a ≡ b
     names_differ a b k p q =
-        one_name step_f of f 0 old.nodes empty filtered.names filtered.middle refl filtered.nodes k a b (ap (λ z. slot z a) same ∙ p) (ap (λ z. slot z b) same ∙ q)
+        one_name step_f of f 0 old.nodes empty filtered.names filtered.middle refl filtered.nodes k a b
+        (ap (λ z. slot z a) same ∙ p) (ap (λ z. slot z b) same ∙ q)
 
     pub names_many : length names ≡ length old.nodes
-    names_many = ap length (sym same) ∙ names_long step_f of f 0 old.nodes empty filtered.names filtered.middle filtered.nodes
+    names_many =
+        ap length (sym same) ∙ names_long step_f of f 0 old.nodes empty filtered.names filtered.middle filtered.nodes
 
-    pub names_cover : (order copy : List ℕ) → copy ≡ order → IsOrderOf old order → (n : ℕ) → Contains copy n → n < length names
+    pub names_cover : (order copy : List ℕ)
+        → copy ≡ order → IsOrderOf old order → (n : ℕ) → Contains copy n → n < length names
     names_cover order copy is ord = order_below old order copy (length names) names_many is ord
 
-    pub order_renamed : (order copy left : List ℕ) → copy ≡ order → left ≡ filter_map (slot names) copy → IsOrderOf old order → IsOrderOf new left
+    pub order_renamed : (order copy left : List ℕ)
+        → copy ≡ order → left ≡ filter_map (slot names) copy → IsOrderOf old order → IsOrderOf new left
     order_renamed order copy left is named_so ord =
         let P : List ℕ → Type 0 = λ z. IsOrderOf new z in
-        let whole : left ≡ filter_map (slot filtered.names) order = named_so ∙ (ap (λ z. filter_map (slot z) copy) (sym same) ∙ ap (filter_map (slot filtered.names)) is) in
-        subst P (sym whole) (order_named order ord ends_named (slot filtered.names) (λ u v k p q. one_name step_f of f 0 old.nodes empty filtered.names filtered.middle refl filtered.nodes k u v p q) has_node was_joined)
+        let whole : left ≡ filter_map (slot filtered.names) order =
+        named_so ∙ (ap (λ z. filter_map (slot z) copy) (sym same) ∙ ap (filter_map (slot filtered.names)) is) in
+        subst P (sym whole) (order_named order ord ends_named (slot filtered.names) (λ u v k p q. one_name step_f of f 0
+        old.nodes empty filtered.names filtered.middle refl filtered.nodes k u v p q) has_node was_joined)
 
   pub fits_filtered : (slots capacity : ℕ) → slots ≡ length old.nodes → slots ≤ capacity → node_bound new ≤ capacity
   fits_filtered slots capacity many fits =

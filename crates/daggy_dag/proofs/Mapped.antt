@@ -1,5 +1,6 @@
 -- Mapping the weights of a dag keeps its order.
-use Rattle.std.proofs.Common.{◌≡◌, ℕ, zero, suc, ◌+◌, ◌≤◌, ◌↔◌, List, [], ◌∷◌, length, Option, Some, None, IsSome, is_some, refl, sym, ap, subst, ◌∙◌, arith}
+use Rattle.std.proofs.Common.{◌≡◌, ℕ, zero, suc, ◌+◌, ◌≤◌, ◌↔◌, List, [], ◌∷◌, length, Option, Some, None, IsSome}
+use Rattle.std.proofs.Common.{is_some, refl, sym, ap, subst, ◌∙◌, arith}
 use Rattle.std.specs.Borrow.{Bor}
 use Rattle.std.proofs.lemmas.Option.{same_Some, none-some}
 use Rattle.daggy_base.specs.Graph.{Graph, Edge, slot, bound_of, bound_step, node_bound}
@@ -12,16 +13,27 @@ use Rattle.daggy_reduction.proofs.Canonical.{reach_same}
 use Rattle.daggy_order.specs.Ordered.{IsOrderOf}
 use Rattle.daggy_order.proofs.OrderLaws.{order_fewer}
 
-module _ {F I W V A B : Type 0} (step : F → I → Bor W → V → F → Type 0) (of : ℕ → I) (weight : A → W) (with : A → V → B) where
-  mapped_slot : (f : F) (i : ℕ) (xs : List (Option A)) (new : List (Option B)) → MapsSlots step of weight with f i xs new
+module _ {F I W V A B : Type 0} (step : F → I → Bor W → V → F → Type 0) (of : ℕ → I) (weight : A → W)
+    (with : A → V → B) where
+  mapped_slot : (f : F) (i : ℕ) (xs : List (Option A)) (new : List (Option B))
+      → MapsSlots step of weight with f i xs new
       → (k : ℕ) (y : B) → slot new k ≡ Some y → (x : A) × (v : V) × (slot xs k ≡ Some x) × (with x v ≡ y)
   mapped_slot f i [] new is k y at = absurd (none-some y (ap (λ z. slot z k) (sym is) ∙ at))
-  mapped_slot f i (None ∷ xs) new (later, is, more) zero y at = absurd (none-some y (ap (λ z. slot z zero) (sym is) ∙ at))
-  mapped_slot f i (None ∷ xs) new (later, is, more) (suc k) y at = mapped_slot f (i + 1) xs later more k y (ap (λ z. slot z (suc k)) (sym is) ∙ at)
-  mapped_slot f i (Some x ∷ xs) new (v, next, called, later, is, more) zero y at = (x, v, refl, same_Some (with x v) y (ap (λ z. slot z zero) (sym is) ∙ at))
-  mapped_slot f i (Some x ∷ xs) new (v, next, called, later, is, more) (suc k) y at = mapped_slot next (i + 1) xs later more k y (ap (λ z. slot z (suc k)) (sym is) ∙ at)
+  mapped_slot f i (None ∷ xs) new (later, is, more) zero y at =
+      absurd (none-some y (ap (λ z. slot z zero) (sym is) ∙ at))
+  mapped_slot f i (None ∷ xs) new (later, is, more) (suc k) y at =
+      mapped_slot f (i + 1) xs later more k y (ap (λ z. slot z (suc k)) (sym is) ∙ at)
+  mapped_slot f i (Some x ∷ xs) new (v, next, called, later, is, more) zero y at = (
+    x,
+    v,
+    refl,
+    same_Some (with x v) y (ap (λ z. slot z zero) (sym is) ∙ at),
+  )
+  mapped_slot f i (Some x ∷ xs) new (v, next, called, later, is, more) (suc k) y at =
+      mapped_slot next (i + 1) xs later more k y (ap (λ z. slot z (suc k)) (sym is) ∙ at)
 
-  mapped_after : (f : F) (i : ℕ) (xs : List (Option A)) (new : List (Option B)) → MapsSlots step of weight with f i xs new
+  mapped_after : (f : F) (i : ℕ) (xs : List (Option A)) (new : List (Option B))
+      → MapsSlots step of weight with f i xs new
       → (k : ℕ) (x : A) → slot xs k ≡ Some x → (v : V) × (slot new k ≡ Some (with x v))
   mapped_after f i [] new is k x at = absurd (none-some x at)
   mapped_after f i (None ∷ xs) new (later, is, more) zero x at = absurd (none-some x at)
@@ -33,12 +45,15 @@ module _ {F I W V A B : Type 0} (step : F → I → Bor W → V → F → Type 0
       let m = mapped_after next (i + 1) xs later more k x at in (m.0, ap (λ z. slot z (suc k)) is ∙ m.1)
 
   -- no slot is vacated, and none is filled
-  pub mapped_there : (f : F) (i : ℕ) (xs : List (Option A)) (new : List (Option B)) → MapsSlots step of weight with f i xs new → (k : ℕ) → is_some (slot new k) ≡ is_some (slot xs k)
+  pub mapped_there : (f : F) (i : ℕ) (xs : List (Option A)) (new : List (Option B))
+      → MapsSlots step of weight with f i xs new → (k : ℕ) → is_some (slot new k) ≡ is_some (slot xs k)
   mapped_there f i [] new is k = ap (λ z. is_some (slot z k)) is
   mapped_there f i (None ∷ xs) new (later, is, more) zero = ap (λ z. is_some (slot z zero)) is
-  mapped_there f i (None ∷ xs) new (later, is, more) (suc k) = ap (λ z. is_some (slot z (suc k))) is ∙ mapped_there f (i + 1) xs later more k
+  mapped_there f i (None ∷ xs) new (later, is, more) (suc k) =
+      ap (λ z. is_some (slot z (suc k))) is ∙ mapped_there f (i + 1) xs later more k
   mapped_there f i (Some x ∷ xs) new (v, next, called, later, is, more) zero = ap (λ z. is_some (slot z zero)) is
-  mapped_there f i (Some x ∷ xs) new (v, next, called, later, is, more) (suc k) = ap (λ z. is_some (slot z (suc k))) is ∙ mapped_there next (i + 1) xs later more k
+  mapped_there f i (Some x ∷ xs) new (v, next, called, later, is, more) (suc k) =
+      ap (λ z. is_some (slot z (suc k))) is ∙ mapped_there next (i + 1) xs later more k
 
   none_mapped : (n : ℕ) → bound_step {A = B} None n ≡ bound_step {A = A} None n
   none_mapped zero = refl
@@ -48,13 +63,18 @@ module _ {F I W V A B : Type 0} (step : F → I → Bor W → V → F → Type 0
   step_mapped x y zero = refl
   step_mapped x y (suc n) = refl
 
-  pub mapped_bound : (f : F) (i : ℕ) (xs : List (Option A)) (new : List (Option B)) → MapsSlots step of weight with f i xs new → bound_of new ≡ bound_of xs
+  pub mapped_bound : (f : F) (i : ℕ) (xs : List (Option A)) (new : List (Option B))
+      → MapsSlots step of weight with f i xs new → bound_of new ≡ bound_of xs
   mapped_bound f i [] new is = ap bound_of is
-  mapped_bound f i (None ∷ xs) new (later, is, more) = ap bound_of is ∙ ap (bound_step {A = B} None) (mapped_bound f (i + 1) xs later more) ∙ none_mapped (bound_of xs)
-  mapped_bound f i (Some x ∷ xs) new (v, next, called, later, is, more) = ap bound_of is ∙ ap (bound_step (Some (with x v))) (mapped_bound next (i + 1) xs later more) ∙ step_mapped x (with x v) (bound_of xs)
+  mapped_bound f i (None ∷ xs) new (later, is, more) =
+      ap bound_of is ∙ ap (bound_step {A = B} None) (mapped_bound f (i + 1) xs later more) ∙ none_mapped (bound_of xs)
+  mapped_bound f i (Some x ∷ xs) new (v, next, called, later, is, more) =
+      ap bound_of is ∙ ap (bound_step (Some (with x v))) (mapped_bound next (i + 1) xs later more)
+      ∙ step_mapped x (with x v) (bound_of xs)
 
 -- the edges of a graph that has other weights there are between the same nodes
-module _ {N E V W G I : Type 0} (of : ℕ → I) (step : G → I → Bor E → W → G → Type 0) (g : G) (old : Graph N E) (new : Graph V W)
+module _ {N E V W G I : Type 0} (of : ℕ → I) (step : G → I → Bor E → W → G → Type 0) (g : G) (old : Graph N E)
+    (new : Graph V W)
     (mapped : MapsSlots step of weight_in with_weight g 0 old.edges new.edges) where
   pub joined_reweighed : (u v : ℕ) → AreJoined new u v → AreJoined old u v
   joined_reweighed u v j =
@@ -69,24 +89,35 @@ module _ {N E V W G I : Type 0} (of : ℕ → I) (step : G → I → Bor E → W
       (j.0, m.0, m.1)
 
 -- a graph whose slots hold other weights has the same nodes
-pub same_nodes : {F I W V A B : Type 0} (step : F → I → Bor W → V → F → Type 0) (of : ℕ → I) (weight : A → W) (with : A → V → B) (f : F) (xs : List (Option A)) (new : List (Option B))
+pub same_nodes : {F I W V A B : Type 0} (step : F → I → Bor W → V → F → Type 0) (of : ℕ → I) (weight : A → W)
+    (with : A → V → B) (f : F) (xs : List (Option A)) (new : List (Option B))
     → MapsSlots step of weight with f 0 xs new → (n : ℕ) → IsSome (slot new n) ↔ IsSome (slot xs n)
 same_nodes step of weight with f xs new mapped n =
     let same = mapped_there step of weight with f 0 xs new mapped n in
     (λ h. sym same ∙ h, λ h. same ∙ h)
 
-module _ {N E V W F G I : Type 0} (of : ℕ → I) (step_f : F → I → Bor N → V → F → Type 0) (step_g : G → I → Bor E → W → G → Type 0) (f : F) (g : G) (old : Graph N E) (new : Graph V W)
+module _ {N E V W F G I : Type 0} (of : ℕ → I) (step_f : F → I → Bor N → V → F → Type 0)
+    (step_g : G → I → Bor E → W → G → Type 0) (f : F) (g : G) (old : Graph N E) (new : Graph V W)
     (mapped : IsMapped of step_f step_g f g old new) where
   pub order_mapped : (order copy : List ℕ) → copy ≡ order → IsOrderOf old order → IsOrderOf new copy
   order_mapped order copy same ord =
-      subst (IsOrderOf new) (sym same) (order_fewer order ord (same_nodes step_f of (λ w. w) (λ w v. v) f old.nodes new.nodes mapped.nodes) (joined_reweighed of step_g g old new mapped.edges))
+      subst (IsOrderOf new) (sym same)
+      (order_fewer order ord (same_nodes step_f of (λ w. w) (λ w v. v) f old.nodes new.nodes mapped.nodes)
+      (joined_reweighed of step_g g old new mapped.edges))
 
   pub fits_mapped : (slots capacity : ℕ) → slots ≡ length old.nodes → slots ≤ capacity → node_bound new ≤ capacity
   fits_mapped slots capacity many fits =
-      omega (arith, bound_low new.nodes, mapped_length step_f of (λ w. w) (λ w v. v) f 0 old.nodes new.nodes mapped.nodes, many, fits)
+      omega (
+        arith,
+        bound_low new.nodes,
+        mapped_length step_f of (λ w. w) (λ w v. v) f 0 old.nodes new.nodes mapped.nodes,
+        many,
+        fits,
+      )
 
   pub nodes_mapped : HaveSameNodes old new
-  nodes_mapped n = let same = same_nodes step_f of (λ w. w) (λ w v. v) f old.nodes new.nodes mapped.nodes n in (same.1, same.0)
+  nodes_mapped n = let same = same_nodes step_f of (λ w. w) (λ w v. v) f old.nodes new.nodes mapped.nodes n in
+      (same.1, same.0)
 
   pub reach_mapped : HaveSameReachability old new
   reach_mapped =

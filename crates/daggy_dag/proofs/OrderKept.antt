@@ -13,30 +13,37 @@ abbrev pub IsKept : {N E : Type 0} → Graph N E → List ℕ → ℕ → Type 0
 IsKept g order capacity = IsOrderOf g order × (node_bound g ≤ capacity)
 
 -- the same of an equal graph
-pub stays_so : {N E : Type 0} (order : List ℕ) (capacity : ℕ) (new h : Graph N E) → new ≡ h → IsKept h order capacity → IsKept new order capacity
+pub stays_so : {N E : Type 0} (order : List ℕ) (capacity : ℕ) (new h : Graph N E)
+    → new ≡ h → IsKept h order capacity → IsKept new order capacity
 stays_so {N} {E} order capacity new h is kept =
     let P : Graph N E → Type 0 = λ z. IsKept z order capacity in
     subst P (sym is) kept
 
 -- no nodes
-pub kept_empty : {N E : Type 0} (order : List ℕ) (capacity : ℕ) (new : Graph N E) → new ≡ empty → order ≡ [] → IsKept new order capacity
+pub kept_empty : {N E : Type 0} (order : List ℕ) (capacity : ℕ) (new : Graph N E)
+    → new ≡ empty → order ≡ [] → IsKept new order capacity
 kept_empty {N} {E} order capacity new is none =
     let P : List ℕ → Type 0 = λ z. IsOrderOf (empty {N = N} {E = E}) z in
     stays_so order capacity new empty is (subst P (sym none) order_empty, omega arith)
 
 -- no edges
-pub kept_without_edges : {N E : Type 0} (order : List ℕ) (capacity : ℕ) (old new : Graph N E) → new ≡ without_all_edges old → IsKept old order capacity → IsKept new order capacity
+pub kept_without_edges : {N E : Type 0} (order : List ℕ) (capacity : ℕ) (old new : Graph N E)
+    → new ≡ without_all_edges old → IsKept old order capacity → IsKept new order capacity
 kept_without_edges order capacity old new is kept =
     stays_so order capacity new (without_all_edges old) is (order_without_all_edges old order kept.0, kept.1)
 
 -- a copy
-pub kept_copied : {N E : Type 0} (order copy : List ℕ) (slots capacity : ℕ) (old : Graph N E) (new : State N E) (looks : ℕ)
-    → new ≡ record { graph = old; looks = looks } → copy ≡ order → slots ≡ length old.nodes → slots ≤ capacity → IsOrderOf old order → IsKept new.graph copy capacity
+pub kept_copied : {N E : Type 0} (order copy : List ℕ) (slots capacity : ℕ) (old : Graph N E)
+    (new : State N E) (looks : ℕ)
+    → new ≡ record { graph = old; looks = looks } → copy ≡ order → slots ≡ length old.nodes → slots ≤ capacity
+    → IsOrderOf old order → IsKept new.graph copy capacity
 kept_copied {N} {E} order copy slots capacity old new looks is same many fits ord =
-    stays_so copy capacity new.graph old (ap (λ (z : State N E). z.graph) is) (subst (IsOrderOf old) (sym same) ord, omega (arith, bound_low old.nodes, many, fits))
+    stays_so copy capacity new.graph old (ap (λ (z : State N E). z.graph) is)
+    (subst (IsOrderOf old) (sym same) ord, omega (arith, bound_low old.nodes, many, fits))
 
 -- each node of the order is below the number of slots
-pub order_below : {N E : Type 0} (g : Graph N E) (order copy : List ℕ) (slots : ℕ) → slots ≡ length g.nodes → copy ≡ order → IsOrderOf g order → (n : ℕ) → Contains copy n → n < slots
+pub order_below : {N E : Type 0} (g : Graph N E) (order copy : List ℕ) (slots : ℕ)
+    → slots ≡ length g.nodes → copy ≡ order → IsOrderOf g order → (n : ℕ) → Contains copy n → n < slots
 order_below g order copy slots many same ord n h =
     let P : List ℕ → Type 0 = λ z. Contains z n in
     let there : HasNode g n = (ord.exact n).0 (subst P same h) in

@@ -10,7 +10,8 @@ on_ok (Ok x) f p = f p
 on_ok (Err e) f p = p
 
 -- the order of the nodes stays one
-pub kept_fewer : {N E : Type 0} (order : List ℕ) (capacity capacity' : ℕ) (old new : Graph N E) → new.nodes ≡ old.nodes → JoinsAll new old → IsKept old order capacity → capacity ≤ capacity' → IsKept new order capacity'
+pub kept_fewer : {N E : Type 0} (order : List ℕ) (capacity capacity' : ℕ) (old new : Graph N E) → new.nodes ≡ old.nodes
+    → JoinsAll new old → IsKept old order capacity → capacity ≤ capacity' → IsKept new order capacity'
 kept_fewer {N} order capacity capacity' old new nodes joined kept more =
     let P : ℕ → List (Option N) → Type 0 = λ n z. IsSome (slot z n) in
     let there : (n : ℕ) → HasNode new n ↔ HasNode old n = λ n. (subst (P n) nodes, subst (P n) (sym nodes)) in

@@ -14,26 +14,46 @@ use Rattle.daggy_dag.specs.contracts.acyclic.compact.cursors.EdgeWeightsMut.{the
 -- the type of a cursor, whose lifetime is the second of the signature
 abbrev pub node_cursor_type : (N E Ix : RattleType) → IndexMembers Ix.Denot → CloneMembers Ix.Denot → RattleType
 node_cursor_type N E Ix m k =
-    node_weights_type (record { mir = named 1; lft = [] }) N E Ix (record { number = m.number; of = m.of; greatest = m.greatest; of_number = m.of_number }) k (record { cmp = m.cmp }) (record {}) (record { eq = m.eq })
-    (record { partial_cmp = m.partial_cmp }) (record { hash_input = m.hash_input }) (record { debug_output = m.debug_output })
+    node_weights_type (record { mir = named 1; lft = [] }) N E Ix
+    (record { number = m.number; of = m.of; greatest = m.greatest; of_number = m.of_number }) k (record { cmp = m.cmp })
+    (record {}) (record { eq = m.eq })
+    (record { partial_cmp = m.partial_cmp }) (record { hash_input = m.hash_input })
+    (record { debug_output = m.debug_output })
 
 -- the type of a cursor over the weights of edges
 abbrev pub edge_cursor_type : (N E Ix : RattleType) → IndexMembers Ix.Denot → CloneMembers Ix.Denot → RattleType
 edge_cursor_type N E Ix m k =
-    edge_weights_type (record { mir = named 1; lft = [] }) N E Ix (record { number = m.number; of = m.of; greatest = m.greatest; of_number = m.of_number }) k (record { cmp = m.cmp }) (record {}) (record { eq = m.eq })
-    (record { partial_cmp = m.partial_cmp }) (record { hash_input = m.hash_input }) (record { debug_output = m.debug_output })
+    edge_weights_type (record { mir = named 1; lft = [] }) N E Ix
+    (record { number = m.number; of = m.of; greatest = m.greatest; of_number = m.of_number }) k (record { cmp = m.cmp })
+    (record {}) (record { eq = m.eq })
+    (record { partial_cmp = m.partial_cmp }) (record { hash_input = m.hash_input })
+    (record { debug_output = m.debug_output })
 
 -- the cursor one step further, with this weight at the index that it was at
 abbrev pub nodes_moved : {N E Ix : Type 0} → NodeWeightsMut N E Ix → N → NodeWeightsMut N E Ix
-nodes_moved c w = record { dag = record { ref_ptr = c.dag.ref_ptr; ghost_name = c.dag.ghost_name; now = with_graph c.dag.now (with_node_weight c.dag.now.graph c.index w) }; index = c.index + 1 }
+nodes_moved c w = record {
+  dag = record {
+    ref_ptr = c.dag.ref_ptr;
+    ghost_name = c.dag.ghost_name;
+    now = with_graph c.dag.now (with_node_weight c.dag.now.graph c.index w);
+  };
+  index = c.index + 1;
+}
 
 -- the same of a cursor over the weights of edges
 abbrev pub edges_moved : {N E Ix : Type 0} → EdgeWeightsMut N E Ix → E → EdgeWeightsMut N E Ix
-edges_moved c w = record { dag = record { ref_ptr = c.dag.ref_ptr; ghost_name = c.dag.ghost_name; now = with_graph c.dag.now (with_edge_weight c.dag.now.graph c.index w) }; index = c.index + 1 }
+edges_moved c w = record {
+  dag = record {
+    ref_ptr = c.dag.ref_ptr;
+    ghost_name = c.dag.ghost_name;
+    now = with_graph c.dag.now (with_edge_weight c.dag.now.graph c.index w);
+  };
+  index = c.index + 1;
+}
 
 module _ (N E Ix : RattleType) (m : IndexMembers Ix.Denot) (k : CloneMembers Ix.Denot) where
-  -- once the loan of the next node ends, the cursor is one step further and the node has the weight that was left; at `None`
-  -- all is as it was
+  -- once the loan of the next node ends, the cursor is one step further and the node has the weight that was left; at
+  -- `None` all is as it was
   abbrev pub nodes_lend_next : MutBor (NodeWeightsMut N.Denot E.Denot Ix.Denot) → Option (MutBor N.Denot) → Fml
   nodes_lend_next c r = LendsIf (node_cursor_type N E Ix m k) N c r (nodes_moved c.now) c.now
 

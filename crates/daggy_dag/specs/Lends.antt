@@ -20,26 +20,35 @@ StoreMembers N E S =
     }
 
 -- the type of a dag
-abbrev pub dag_type : (N E Ix S : RattleType) → IndexMembers Ix.Denot → StoreMembers N.Denot E.Denot S.Denot → RattleType
+abbrev pub dag_type : (N E Ix S : RattleType)
+    → IndexMembers Ix.Denot → StoreMembers N.Denot E.Denot S.Denot → RattleType
 dag_type N E Ix S m t =
-    the_row N E Ix S (record { number = m.number; of = m.of; greatest = m.greatest; of_number = m.of_number }) (record { cmp = m.cmp }) (record { eq = m.eq }) (record { partial_cmp = m.partial_cmp })
+    the_row N E Ix S (record { number = m.number; of = m.of; greatest = m.greatest; of_number = m.of_number })
+    (record { cmp = m.cmp }) (record { eq = m.eq }) (record { partial_cmp = m.partial_cmp })
     (record { hash_input = m.hash_input }) (record { debug_output = m.debug_output })
-    (record { kind = t.kind; node_written = t.node_written; edge_written = t.edge_written }) (record { graph = t.graph; looks = t.looks })
+    (record { kind = t.kind; node_written = t.node_written; edge_written = t.edge_written })
+    (record { graph = t.graph; looks = t.looks })
 
-module _ (N E Ix S : RattleType) (m : IndexMembers Ix.Denot) (t : StoreMembers N.Denot E.Denot S.Denot) (s : MutBor (State N.Denot E.Denot)) (n : Ix.Denot) where
+module _ (N E Ix S : RattleType) (m : IndexMembers Ix.Denot) (t : StoreMembers N.Denot E.Denot S.Denot)
+    (s : MutBor (State N.Denot E.Denot)) (n : Ix.Denot) where
   -- once the borrow r ends, the node has the last weight written through r
   abbrev pub lends_node : MutBor N.Denot → Fml
-  lends_node r = Lends (dag_type N E Ix S m t) N s r (λ w. with_graph s.now (with_node_weight s.now.graph (m.number n) w))
+  lends_node r =
+      Lends (dag_type N E Ix S m t) N s r (λ w. with_graph s.now (with_node_weight s.now.graph (m.number n) w))
 
   -- the same where r is a reference, and at `None` the graph stays as it is
   abbrev pub lends_node_if : Option (MutBor N.Denot) → Fml
-  lends_node_if r = LendsIf (dag_type N E Ix S m t) N s r (λ w. with_graph s.now (with_node_weight s.now.graph (m.number n) w)) s.now
+  lends_node_if r =
+      LendsIf (dag_type N E Ix S m t) N s r (λ w. with_graph s.now (with_node_weight s.now.graph (m.number n) w)) s.now
 
-module _ (N E Ix S : RattleType) (m : IndexMembers Ix.Denot) (t : StoreMembers N.Denot E.Denot S.Denot) (s : MutBor (State N.Denot E.Denot)) (e : Ix.Denot) where
+module _ (N E Ix S : RattleType) (m : IndexMembers Ix.Denot) (t : StoreMembers N.Denot E.Denot S.Denot)
+    (s : MutBor (State N.Denot E.Denot)) (e : Ix.Denot) where
   -- the same for an edge
   abbrev pub lends_edge : MutBor E.Denot → Fml
-  lends_edge r = Lends (dag_type N E Ix S m t) E s r (λ w. with_graph s.now (with_edge_weight s.now.graph (m.number e) w))
+  lends_edge r =
+      Lends (dag_type N E Ix S m t) E s r (λ w. with_graph s.now (with_edge_weight s.now.graph (m.number e) w))
 
   -- the same where r is a reference, and at `None` the dag stays as it is
   abbrev pub lends_edge_if : Option (MutBor E.Denot) → Fml
-  lends_edge_if r = LendsIf (dag_type N E Ix S m t) E s r (λ w. with_graph s.now (with_edge_weight s.now.graph (m.number e) w)) s.now
+  lends_edge_if r =
+      LendsIf (dag_type N E Ix S m t) E s r (λ w. with_graph s.now (with_edge_weight s.now.graph (m.number e) w)) s.now

@@ -13,7 +13,7 @@ abbrev pub rest_with : {N E : Type 0} → Direction → Graph N E → ℕ → Op
 rest_with dir g e None = []
 rest_with dir g e (Some x) = from_on e (list_at dir g (near_end dir x))
 
--- The edges that a walker at a cursor still gives, as long as the graph does not change: the edge that the cursor names,
--- and those after it in its list. Nothing, if there is no such edge.
+-- The edges that a walker at a cursor still gives, as long as the graph does not change: the edge that the cursor
+-- names, and those after it in its list. Nothing, if there is no such edge.
 abbrev pub rest_of_walk : {N E : Type 0} → Direction → Graph N E → ℕ → List ℕ
 rest_of_walk dir g e = rest_with dir g e (edge_at g e)

@@ -1,18 +1,25 @@
 //! The dag over any store, of which `Dag` and `StableDag` are the two kinds.
-ghost use Rattle.std.specs.Prelude.{◌≡◌, ℕ, ◌+◌, ◌^◌, ◌<◌, ◌≤◌, ◌↔◌, ◌⊎◌, IsTrue, Err, None, IfOk, IfErr, OnErr, OnSome, IfSome, IfNone, IsOkAnd, length, option_copied};
+ghost use Rattle.std.specs.Prelude.{◌≡◌, ℕ, ◌+◌, ◌^◌, ◌<◌, ◌≤◌, ◌↔◌, ◌⊎◌, IsTrue, Err, None, IfOk};
+ghost use Rattle.std.specs.Prelude.{IfErr, OnErr, OnSome, IfSome, IfNone, IsOkAnd, length};
+ghost use Rattle.std.specs.Prelude.{option_copied};
 ghost use Rattle.std.specs.Option.{option_map};
-ghost use Rattle.daggy_base.specs.Graph.{empty, HasNode, node_weight as weight_at, edge_at, ends_of, pair_of, node_count as node_count_of, edge_count as edge_count_of, out_list, in_list, IsCompact};
+ghost use Rattle.daggy_base.specs.Graph.{empty, HasNode, node_weight as weight_at, edge_at};
+ghost use Rattle.daggy_base.specs.Graph.{ends_of, pair_of, node_count as node_count_of};
+ghost use Rattle.daggy_base.specs.Graph.{edge_count as edge_count_of, out_list, in_list, IsCompact};
 ghost use Rattle.daggy_base.specs.Path.{Reaches, IsAcyclic};
 ghost use Rattle.daggy_base.specs.WellFormed.{IsDag};
-ghost use Rattle.daggy_base.specs.Adding.{next_node, next_edge, with_node, with_edge, with_neighbor, ComesFirst};
-ghost use Rattle.daggy_base.specs.Removal.{Compact, Stable, KeepsIndices, without_edge, without_node, without_all_edges};
+ghost use Rattle.daggy_base.specs.Adding.{next_node, next_edge, with_node, with_edge};
+ghost use Rattle.daggy_base.specs.Adding.{with_neighbor, ComesFirst};
+ghost use Rattle.daggy_base.specs.Removal.{Compact, Stable, KeepsIndices, without_edge};
+ghost use Rattle.daggy_base.specs.Removal.{without_node, without_all_edges};
 ghost use Rattle.daggy_base.specs.Weights.{edge_weight as edge_weight_at, with_edge_weight};
 ghost use Rattle.daggy_base.specs.Finding.{find_edge as edge_between};
 ghost use Rattle.daggy_base.specs.Cursor.{first_of};
 ghost use Rattle.daggy_base.specs.State.{with_graph};
 ghost use Rattle.daggy_base.specs.declared.index.Direction.TheVariants.{Outgoing, Incoming};
 ghost use Rattle.daggy_base.specs.declared.error.NodeError.TheVariants.{Memory as NodeMemory};
-ghost use Rattle.daggy_base.specs.declared.error.EdgeError.TheVariants.{WouldCycle as ByCycle, Memory as EdgeMemory};
+ghost use Rattle.daggy_base.specs.declared.error.EdgeError.TheVariants.{WouldCycle as ByCycle};
+ghost use Rattle.daggy_base.specs.declared.error.EdgeError.TheVariants.{Memory as EdgeMemory};
 ghost use Rattle.daggy_base.specs.declared.error.ChildError.TheVariants.{Memory as ChildMemory};
 ghost use Rattle.daggy_dag.specs.Walks.{rest_of_walk};
 
@@ -50,15 +57,15 @@ pub use recursive::RecursiveWalk;
 pub use topological::TopologicalOrder;
 pub use walkers::{Children, Parents};
 
-/// A directed graph that never has a cycle, with weights of type `N` at its nodes and of type `E` at its edges, over a
-/// store `S`.
+/// A directed graph that never has a cycle, with weights of type `N` at its nodes and of type `E`
+/// at its edges, over a store `S`.
 ///
-/// [`Dag`] and [`StableDag`] are this over the two stores. Parallel edges are allowed. An edge that would close a cycle is
-/// refused, and its weight comes back.
+/// [`Dag`] and [`StableDag`] are this over the two stores. Parallel edges are allowed. An edge that
+/// would close a cycle is refused, and its weight comes back.
 ///
-/// It keeps an order of its nodes in which every parent stands before its children, so an edge that leads forward in it
-/// needs no search. Each node adds a little to the room that the search for cycles works in, so that search cannot fail
-/// for want of memory.
+/// It keeps an order of its nodes in which every parent stands before its children, so an edge that
+/// leads forward in it needs no search. Each node adds a little to the room that the search for
+/// cycles works in, so that search cannot fail for want of memory.
 #[derive(Drop)]
 pub struct Acyclic<N, E, Ix: IndexType, S: Store<Ix, NodeWeight = N, EdgeWeight = E>> {
     store: S,
@@ -68,15 +75,18 @@ pub struct Acyclic<N, E, Ix: IndexType, S: Store<Ix, NodeWeight = N, EdgeWeight 
     edge_weight: PhantomData<E>,
 }
 
-/// A dag whose indices are compact: the nodes are numbered from 0 to their count, and so are the edges.
+/// A dag whose indices are compact: the nodes are numbered from 0 to their count, and so are the
+/// edges.
 ///
-/// A removal moves the last index to the gap. Where indices have to outlive removals, [`StableDag`] keeps them.
+/// A removal moves the last index to the gap. Where indices have to outlive removals, [`StableDag`]
+/// keeps them.
 pub type Dag<N, E, Ix = DefaultIx> = Acyclic<N, E, Ix, DiGraph<N, E, Ix>>;
 
 /// A dag whose indices outlive removals.
 ///
-/// Nodes and edges stand in slots. A removal vacates a slot and changes no other index, and the slot that was vacated last
-/// is the first to be used again. Where indices need not last, [`Dag`] keeps its nodes and edges closer together.
+/// Nodes and edges stand in slots. A removal vacates a slot and changes no other index, and the
+/// slot that was vacated last is the first to be used again. Where indices need not last, [`Dag`]
+/// keeps its nodes and edges closer together.
 pub type StableDag<N, E, Ix = DefaultIx> = Acyclic<N, E, Ix, StableDiGraph<N, E, Ix>>;
 
 impl<N, E, Ix: IndexType, S> Model for Acyclic<N, E, Ix, S>
@@ -92,7 +102,8 @@ where
 
     ghost view = { λ d. record { graph = S.graph d.store; looks = S.looks d.store } };
 
-    ghost invariant = { λ d. IsOrderOf (S.graph d.store) d.order × (node_bound (S.graph d.store) ≤ d.scratch.nodes) };
+    ghost invariant = { λ d.
+        IsOrderOf (S.graph d.store) d.order × (node_bound (S.graph d.store) ≤ d.scratch.nodes) };
 }
 
 impl<N: Drop, E: Drop, Ix: IndexType, S> Acyclic<N, E, Ix, S>
@@ -179,15 +190,19 @@ where
     /// The parent and the child of an edge, or `None` if there is no such edge.
     #[inline]
     pub fn edge_endpoints(&self, e: EdgeIndex<Ix>) -> Option<(NodeIndex<Ix>, NodeIndex<Ix>)>
-        ensures { option_map (pair_of Ix.number) result ≡ option_map ends_of (edge_at self.now.graph (Ix.number e)) }
+        ensures { option_map (pair_of Ix.number) result
+            ≡ option_map ends_of (edge_at self.now.graph (Ix.number e)) }
     {
         self.store.edge_endpoints(e)
     }
 
-    /// The newest edge from `a` to `b`, or `None` if there is none. It looks through the children of `a`.
+    /// The newest edge from `a` to `b`, or `None` if there is none. It looks through the children
+    /// of `a`.
     pub fn find_edge(&self, a: NodeIndex<Ix>, b: NodeIndex<Ix>) -> Option<EdgeIndex<Ix>>
-        ensures found { option_map Ix.number result ≡ edge_between self.now.graph (Ix.number a) (Ix.number b) }
-        ensures ends { OnSome result (HasNode self.now.graph (Ix.number a) × HasNode self.now.graph (Ix.number b)) }
+        ensures found { option_map Ix.number result
+            ≡ edge_between self.now.graph (Ix.number a) (Ix.number b) }
+        ensures ends { OnSome result
+            (HasNode self.now.graph (Ix.number a) × HasNode self.now.graph (Ix.number b)) }
     {
         let store = &self.store;
         // Asked for its contract alone: both ends of an edge exist.
@@ -197,7 +212,8 @@ where
 
     /// Adds a node without edges, and gives its index.
     ///
-    /// The refusal `Memory` says that there was no memory for the node, or for the searches that it takes part in.
+    /// The refusal `Memory` says that there was no memory for the node, or for the searches that it
+    /// takes part in.
     #[inline]
     pub fn add_node(&mut self, weight: N) -> Result<NodeIndex<Ix>, NodeError<N>>
         requires { node_count_of self.old.graph < Ix.greatest }
@@ -213,10 +229,10 @@ where
 
     /// Adds an edge from `a` to `b`, and gives its index.
     ///
-    /// The refusal `WouldCycle` says that a path leads from `b` to `a`, so the edge would close a cycle. It is decided
-    /// first, and cannot fail: where `a` stands before `b` in the order that the dag keeps, no edge is looked at, and
-    /// otherwise a search from `b` goes no further than the place of `a`. The refusal `Memory` says that there was no
-    /// memory for the edge.
+    /// The refusal `WouldCycle` says that a path leads from `b` to `a`, so the edge would close a
+    /// cycle. It is decided first, and cannot fail: where `a` stands before `b` in the order that
+    /// the dag keeps, no edge is looked at, and otherwise a search from `b` goes no further than
+    /// the place of `a`. The refusal `Memory` says that there was no memory for the edge.
     #[inline]
     pub fn add_edge(
         &mut self,
@@ -227,15 +243,19 @@ where
         requires parent { HasNode self.old.graph (Ix.number a) }
         requires child { HasNode self.old.graph (Ix.number b) }
         requires index_left { edge_count_of self.old.graph < Ix.greatest }
-        ensures cycle { (result ≡ Err (ByCycle (record { 0 = weight }))) ↔ Reaches self.old.graph (Ix.number b) (Ix.number a) }
-        ensures refusal { IfErr result (λ e. (e ≡ ByCycle (record { 0 = weight })) ⊎ (e ≡ EdgeMemory weight)) }
+        ensures cycle { (result ≡ Err (ByCycle (record { 0 = weight })))
+            ↔ Reaches self.old.graph (Ix.number b) (Ix.number a) }
+        ensures refusal { IfErr result (λ e.
+            (e ≡ ByCycle (record { 0 = weight })) ⊎ (e ≡ EdgeMemory weight)) }
         ensures added { IfOk result (λ e. (Ix.number e ≡ next_edge self.old.graph)
             × (self.new.graph ≡ with_edge self.old.graph (Ix.number a) (Ix.number b) weight)) }
-        ensures first { IfOk result (λ e. ComesFirst self.old.graph self.new.graph (Ix.number a) (Ix.number b) (Ix.number e)) }
+        ensures first { IfOk result (λ e.
+            ComesFirst self.old.graph self.new.graph (Ix.number a) (Ix.number b) (Ix.number e)) }
         ensures unchanged { OnErr result (self.new.graph ≡ self.old.graph) }
         ensures acyclic { IsAcyclic self.new.graph }
         ensures counted { self.new.looks ≤ self.old.looks + edge_count_of self.old.graph }
-        ensures ready { Reaches self.old.graph (Ix.number a) (Ix.number b) → self.new.looks ≡ self.old.looks }
+        ensures ready { Reaches self.old.graph (Ix.number a) (Ix.number b)
+            → self.new.looks ≡ self.old.looks }
     {
         guard::add_edge(
             &mut self.store,
@@ -247,8 +267,9 @@ where
         )
     }
 
-    /// Writes the weight of the edge that [`find_edge`](Acyclic::find_edge) gives between `a` and `b`, or adds an edge as
-    /// [`add_edge`](Acyclic::add_edge) if there is none. It gives the index of that edge.
+    /// Writes the weight of the edge that [`find_edge`](Acyclic::find_edge) gives between `a` and
+    /// `b`, or adds an edge as [`add_edge`](Acyclic::add_edge) if there is none. It gives the index
+    /// of that edge.
     ///
     /// Where the two nodes are joined it cannot fail, and the weight from before is dropped.
     pub fn update_edge(
@@ -259,18 +280,24 @@ where
     ) -> Result<EdgeIndex<Ix>, EdgeError<E>>
         requires parent { HasNode self.old.graph (Ix.number a) }
         requires child { HasNode self.old.graph (Ix.number b) }
-        requires index_left { edge_between self.old.graph (Ix.number a) (Ix.number b) ≡ None → edge_count_of self.old.graph < Ix.greatest }
+        requires index_left { edge_between self.old.graph (Ix.number a) (Ix.number b) ≡ None
+            → edge_count_of self.old.graph < Ix.greatest }
         ensures replaced { IfSome (edge_between self.old.graph (Ix.number a) (Ix.number b)) (λ e.
-            IsOkAnd result (λ updated. Ix.number updated ≡ e) × (self.new ≡ with_graph self.old (with_edge_weight self.old.graph e weight))) }
-        ensures cycle { (result ≡ Err (ByCycle (record { 0 = weight }))) ↔ Reaches self.old.graph (Ix.number b) (Ix.number a) }
-        ensures refusal { IfErr result (λ e. (e ≡ ByCycle (record { 0 = weight })) ⊎ (e ≡ EdgeMemory weight)) }
-        ensures added { edge_between self.old.graph (Ix.number a) (Ix.number b) ≡ None → IfOk result (λ e.
+            IsOkAnd result (λ updated. Ix.number updated ≡ e)
+            × (self.new ≡ with_graph self.old (with_edge_weight self.old.graph e weight))) }
+        ensures cycle { (result ≡ Err (ByCycle (record { 0 = weight })))
+            ↔ Reaches self.old.graph (Ix.number b) (Ix.number a) }
+        ensures refusal { IfErr result (λ e.
+            (e ≡ ByCycle (record { 0 = weight })) ⊎ (e ≡ EdgeMemory weight)) }
+        ensures added { edge_between self.old.graph (Ix.number a) (Ix.number b) ≡ None
+            → IfOk result (λ e.
             (Ix.number e ≡ next_edge self.old.graph)
             × (self.new.graph ≡ with_edge self.old.graph (Ix.number a) (Ix.number b) weight)) }
         ensures unchanged { OnErr result (self.new.graph ≡ self.old.graph) }
         ensures acyclic { IsAcyclic self.new.graph }
         ensures counted { self.new.looks ≤ self.old.looks + edge_count_of self.old.graph }
-        ensures ready { Reaches self.old.graph (Ix.number a) (Ix.number b) → self.new.looks ≡ self.old.looks }
+        ensures ready { Reaches self.old.graph (Ix.number a) (Ix.number b)
+            → self.new.looks ≡ self.old.looks }
     {
         guard::update_edge(
             &mut self.store,
@@ -284,7 +311,8 @@ where
 
     /// Adds a node and an edge from `parent` to it, or neither. It gives both indices.
     ///
-    /// It needs no search, so it costs less than adding the one and then the other. The refusal hands both weights back.
+    /// It needs no search, so it costs less than adding the one and then the other. The refusal
+    /// hands both weights back.
     #[inline]
     pub fn add_child(
         &mut self,
@@ -295,8 +323,10 @@ where
         requires parent { HasNode self.old.graph (Ix.number parent) }
         requires edge_index_left { edge_count_of self.old.graph < Ix.greatest }
         requires node_index_left { node_count_of self.old.graph < Ix.greatest }
-        ensures added { IfOk result (λ r. (Ix.number r.0 ≡ next_edge self.old.graph) × (Ix.number r.1 ≡ next_node self.old.graph)
-            × (self.new ≡ with_graph self.old (with_neighbor Outgoing self.old.graph (Ix.number parent) edge node))) }
+        ensures added { IfOk result (λ r. (Ix.number r.0 ≡ next_edge self.old.graph)
+            × (Ix.number r.1 ≡ next_node self.old.graph)
+            × (self.new ≡ with_graph self.old
+            (with_neighbor Outgoing self.old.graph (Ix.number parent) edge node))) }
         ensures refusal { IfErr result (λ e. e ≡ ChildMemory edge node) }
         ensures unchanged { OnErr result (self.new ≡ self.old) }
         ensures acyclic { IsAcyclic self.new.graph }
@@ -314,7 +344,8 @@ where
 
     /// Adds a node and an edge from it to `child`, or neither. It gives both indices.
     ///
-    /// It needs no search, so it costs less than adding the one and then the other. The refusal hands both weights back.
+    /// It needs no search, so it costs less than adding the one and then the other. The refusal
+    /// hands both weights back.
     #[inline]
     pub fn add_parent(
         &mut self,
@@ -325,8 +356,10 @@ where
         requires child { HasNode self.old.graph (Ix.number child) }
         requires edge_index_left { edge_count_of self.old.graph < Ix.greatest }
         requires node_index_left { node_count_of self.old.graph < Ix.greatest }
-        ensures added { IfOk result (λ r. (Ix.number r.0 ≡ next_edge self.old.graph) × (Ix.number r.1 ≡ next_node self.old.graph)
-            × (self.new ≡ with_graph self.old (with_neighbor Incoming self.old.graph (Ix.number child) edge node))) }
+        ensures added { IfOk result (λ r. (Ix.number r.0 ≡ next_edge self.old.graph)
+            × (Ix.number r.1 ≡ next_node self.old.graph)
+            × (self.new ≡ with_graph self.old
+            (with_neighbor Incoming self.old.graph (Ix.number child) edge node))) }
         ensures refusal { IfErr result (λ e. e ≡ ChildMemory edge node) }
         ensures unchanged { OnErr result (self.new ≡ self.old) }
         ensures acyclic { IsAcyclic self.new.graph }
@@ -344,11 +377,12 @@ where
 
     /// Removes an edge and hands its weight back, or gives `None` if there is no such edge.
     ///
-    /// In a [`Dag`] the edge with the last index gets its index. In a [`StableDag`] no other index changes, and the next
-    /// edge that is added gets this one.
+    /// In a [`Dag`] the edge with the last index gets its index. In a [`StableDag`] no other index
+    /// changes, and the next edge that is added gets this one.
     pub fn remove_edge(&mut self, e: EdgeIndex<Ix>) -> Option<E>
         ensures value { result ≡ edge_weight_at self.old.graph (Ix.number e) }
-        ensures removed { OnSome result (self.new ≡ with_graph self.old (without_edge S.kind self.old.graph (Ix.number e))) }
+        ensures removed { OnSome result
+            (self.new ≡ with_graph self.old (without_edge S.kind self.old.graph (Ix.number e))) }
         ensures missing { IfNone result (self.new ≡ self.old) }
         ensures keeps { S.kind ≡ Stable → KeepsIndices self.old.graph self.new.graph }
         ensures acyclic { IsAcyclic self.new.graph }
@@ -356,14 +390,17 @@ where
         guard::remove_edge(&mut self.store, e)
     }
 
-    /// Removes a node with its edges and hands its weight back, or gives `None` if there is no such node.
+    /// Removes a node with its edges and hands its weight back, or gives `None` if there is no such
+    /// node.
     ///
-    /// The edges go one by one, those to its children first, each as [`remove_edge`](Acyclic::remove_edge) removes it.
-    /// In a [`Dag`] the node with the last index then gets the index of this node. In a [`StableDag`] no other index
-    /// changes, and the next node that is added gets this one.
+    /// The edges go one by one, those to its children first, each as
+    /// [`remove_edge`](Acyclic::remove_edge) removes it. In a [`Dag`] the node with the last index
+    /// then gets the index of this node. In a [`StableDag`] no other index changes, and the next
+    /// node that is added gets this one.
     pub fn remove_node(&mut self, n: NodeIndex<Ix>) -> Option<N>
         ensures value { result ≡ weight_at self.old.graph (Ix.number n) }
-        ensures removed { OnSome result (self.new ≡ with_graph self.old (without_node S.kind self.old.graph (Ix.number n))) }
+        ensures removed { OnSome result
+            (self.new ≡ with_graph self.old (without_node S.kind self.old.graph (Ix.number n))) }
         ensures missing { IfNone result (self.new ≡ self.old) }
         ensures keeps { S.kind ≡ Stable → KeepsIndices self.old.graph self.new.graph }
         ensures acyclic { IsAcyclic self.new.graph }
@@ -388,11 +425,14 @@ where
         self.store.clear_edges();
     }
 
-    /// A walker over the children of a node, newest edge first. Over a missing node it gives nothing.
+    /// A walker over the children of a node, newest edge first. Over a missing node it gives
+    /// nothing.
     #[inline]
     pub fn children(&self, n: NodeIndex<Ix>) -> Children<N, E, Ix>
-        ensures first { Ix.number result ≡ first_of Ix.greatest (out_list self.now.graph (Ix.number n)) }
-        ensures whole { rest_of_walk Outgoing self.now.graph (Ix.number result) ≡ out_list self.now.graph (Ix.number n) }
+        ensures first { Ix.number result
+            ≡ first_of Ix.greatest (out_list self.now.graph (Ix.number n)) }
+        ensures whole { rest_of_walk Outgoing self.now.graph (Ix.number result)
+            ≡ out_list self.now.graph (Ix.number n) }
         ensures fits { length (rest_of_walk Outgoing self.now.graph (Ix.number result)) < 2 ^ 64 }
     {
         // Asked for its contract alone: an edge comes once in its list.
@@ -404,11 +444,14 @@ where
         }
     }
 
-    /// A walker over the parents of a node, newest edge first. Over a missing node it gives nothing.
+    /// A walker over the parents of a node, newest edge first. Over a missing node it gives
+    /// nothing.
     #[inline]
     pub fn parents(&self, n: NodeIndex<Ix>) -> Parents<N, E, Ix>
-        ensures first { Ix.number result ≡ first_of Ix.greatest (in_list self.now.graph (Ix.number n)) }
-        ensures whole { rest_of_walk Incoming self.now.graph (Ix.number result) ≡ in_list self.now.graph (Ix.number n) }
+        ensures first { Ix.number result
+            ≡ first_of Ix.greatest (in_list self.now.graph (Ix.number n)) }
+        ensures whole { rest_of_walk Incoming self.now.graph (Ix.number result)
+            ≡ in_list self.now.graph (Ix.number n) }
         ensures fits { length (rest_of_walk Incoming self.now.graph (Ix.number result)) < 2 ^ 64 }
     {
         // Asked for its contract alone: an edge comes once in its list.

@@ -31,12 +31,14 @@ module _ {N E : Type 0} (g : Graph N E) where
   cyclic_ordered (Some orders) h = λ u v rest p. h u v rest (path_there orders (u ∷ v ∷ rest) p)
 
   -- what the graph with its orders is told to be
-  pub tested_plain : (h : Graph N E) (o : Option (List (List ℕ × List ℕ))) → o ≡ None → h ≡ g → IsAcyclic g → IsTested (ordered g o) (Ok h)
+  pub tested_plain : (h : Graph N E) (o : Option (List (List ℕ × List ℕ)))
+      → o ≡ None → h ≡ g → IsAcyclic g → IsTested (ordered g o) (Ok h)
   tested_plain h o is same acyclic =
       let P : Option (List (List ℕ × List ℕ)) → Type 0 = λ z. IsTested (ordered g z) (Ok h) in
       subst P (sym is) (acyclic, same)
 
-  pub tested_with : (h : Graph N E) (o : Option (List (List ℕ × List ℕ))) (rows : List (List ℕ × List ℕ)) → o ≡ Some rows → h ≡ with_orders g rows → IsAcyclic g → IsTested (ordered g o) (Ok h)
+  pub tested_with : (h : Graph N E) (o : Option (List (List ℕ × List ℕ))) (rows : List (List ℕ × List ℕ))
+      → o ≡ Some rows → h ≡ with_orders g rows → IsAcyclic g → IsTested (ordered g o) (Ok h)
   tested_with h o rows is same acyclic =
       let P : Option (List (List ℕ × List ℕ)) → Type 0 = λ z. IsTested (ordered g z) (Ok h) in
       subst P (sym is) (acyclic_ordered (Some rows) acyclic, same)
@@ -45,9 +47,13 @@ module _ {N E : Type 0} (g : Graph N E) where
   tested_cyclic o cyclic = (λ a. cyclic (cyclic_ordered o a), refl)
 
 -- the same in the words of the code: the dag that was made, and the lists that were handed to it
-pub tested_made : {N E A : Type 0} (g made new : Graph N E) (o : Option (List (List ℕ × List ℕ))) (rows slice : List A) (f : List A → List (List ℕ × List ℕ))
-    → o ≡ Some (f rows) → made ≡ g → slice ≡ rows → new ≡ with_orders made (f slice) → IsAcyclic made → IsTested (ordered g o) (Ok new)
+pub tested_made : {N E A : Type 0} (g made new : Graph N E) (o : Option (List (List ℕ × List ℕ))) (rows slice : List A)
+    (f : List A → List (List ℕ × List ℕ))
+    → o ≡ Some (f rows) → made ≡ g → slice ≡ rows → new ≡ with_orders made (f slice) → IsAcyclic made
+    → IsTested (ordered g o) (Ok new)
 tested_made {N} {E} g made new o rows slice f is same_graph same_rows ordered_is acyclic =
     let P : Graph N E → Type 0 = λ z. IsAcyclic z in
-    let same : new ≡ with_orders g (f rows) = ordered_is ∙ (ap (λ (z : Graph N E). with_orders z (f slice)) same_graph ∙ ap (λ z. with_orders g (f z)) same_rows) in
+    let same : new ≡ with_orders g (f rows) =
+    ordered_is
+    ∙ (ap (λ (z : Graph N E). with_orders z (f slice)) same_graph ∙ ap (λ z. with_orders g (f z)) same_rows) in
     tested_with g new o (f rows) is same (subst P same_graph acyclic)

@@ -1,5 +1,7 @@
 -- Orders that can be marked are rearrangements of the lists of a graph of slots.
-use Rattle.std.proofs.Common.{◌≡◌, ℕ, zero, suc, ◌+◌, ◌<◌, inl, inr, Bool, true, false, eqb, Option, Some, None, IsSome, is_some, List, [], ◌∷◌, length, get_or, map, replicate, count_by, unwrap_or, refl, sym, ap, subst, ◌∙◌, arith, cond}
+use Rattle.std.proofs.Common.{◌≡◌, ℕ, zero, suc, ◌+◌, ◌<◌, inl, inr, Bool, true, false, eqb, Option, Some, None, IsSome}
+use Rattle.std.proofs.Common.{is_some, List, [], ◌∷◌, length, get_or, map, replicate, count_by, unwrap_or, refl, sym}
+use Rattle.std.proofs.Common.{ap, subst, ◌∙◌, arith, cond}
 use Rattle.std.proofs.lemmas.List.{length-replicate, length-map}
 use Rattle.std.specs.Prelude.{Contains}
 use Rattle.std.specs.Option.{option_map}
@@ -18,7 +20,8 @@ use Rattle.daggy_json.proofs.MarkedLists.{row, rows_count, rows_are, stands_in, 
 
 -- ---- numbers below k that pass
 
-down_has_at : (l : List ℕ) (p : ℕ → Bool) (k e : ℕ) (b : Bool) → p k ≡ b → e < suc k → p e ≡ true → (e < k → Contains l e) → Contains (cond b (k ∷ l) l) e
+down_has_at : (l : List ℕ) (p : ℕ → Bool) (k e : ℕ) (b : Bool)
+    → p k ≡ b → e < suc k → p e ≡ true → (e < k → Contains l e) → Contains (cond b (k ∷ l) l) e
 down_has_at l p k e true is low h before =
     elim (cases_eq e k) [
       | inl same ↦ subst (λ z. Contains (k ∷ l) z) (sym same) (Contains-here k l)
@@ -34,8 +37,12 @@ pub down_has : (p : ℕ → Bool) (k e : ℕ) → e < k → p e ≡ true → Con
 down_has p zero e low h = absurd (omega arith)
 down_has p (suc k) e low h = down_has_at (down_from p k) p k e (p k) refl low h (λ q. down_has p k e q h)
 
-down_passes_at : (l : List ℕ) (p : ℕ → Bool) (k e : ℕ) (b : Bool) → p k ≡ b → (Contains l e → p e ≡ true) → Contains (cond b (k ∷ l) l) e → p e ≡ true
-down_passes_at l p k e true is before c = elim (Contains-cases k e l c) [ inl same ↦ ap p (sym same) ∙ is | inr there ↦ before there ]
+down_passes_at : (l : List ℕ) (p : ℕ → Bool) (k e : ℕ) (b : Bool)
+    → p k ≡ b → (Contains l e → p e ≡ true) → Contains (cond b (k ∷ l) l) e → p e ≡ true
+down_passes_at l p k e true is before c = elim (Contains-cases k e l c) [
+  | inl same ↦ ap p (sym same) ∙ is
+  | inr there ↦ before there
+]
 down_passes_at l p k e false is before c = before c
 
 pub down_passes : (p : ℕ → Bool) (k e : ℕ) → Contains (down_from p k) e → p e ≡ true
@@ -45,15 +52,19 @@ down_passes p (suc k) e c = down_passes_at (down_from p k) p k e (p k) refl (dow
 -- ---- ends
 
 module _ {E : Type 0} (dir : Direction) (edges : List (Option (Edge E))) where
-  pub end_some : (n e : ℕ) → has_end dir edges n e ≡ true → (x : Edge E) × (slot edges e ≡ Some x) × (near_end dir x ≡ n)
+  pub end_some : (n e : ℕ)
+      → has_end dir edges n e ≡ true → (x : Edge E) × (slot edges e ≡ Some x) × (near_end dir x ≡ n)
   end_some n e h = at (slot edges e) refl h
     where
-      at : (o : Option (Edge E)) → slot edges e ≡ o → unwrap_or (option_map (λ x. eqb (near_end dir x) n) o) false ≡ true → (x : Edge E) × (slot edges e ≡ Some x) × (near_end dir x ≡ n)
+      at : (o : Option (Edge E))
+          → slot edges e ≡ o → unwrap_or (option_map (λ x. eqb (near_end dir x) n) o) false ≡ true
+          → (x : Edge E) × (slot edges e ≡ Some x) × (near_end dir x ≡ n)
       at None is q = absurd (false≢true q)
       at (Some x) is q = (x, is, eqb-true _ _ q)
 
   pub end_is : (e : ℕ) (x : Edge E) → slot edges e ≡ Some x → has_end dir edges (near_end dir x) e ≡ true
-  end_is e x is = ap (λ o. unwrap_or (option_map (λ z. eqb (near_end dir z) (near_end dir x)) o) false) is ∙ eq-eqb _ _ refl
+  end_is e x is =
+      ap (λ o. unwrap_or (option_map (λ z. eqb (near_end dir z) (near_end dir x)) o) false) is ∙ eq-eqb _ _ refl
 
   pub one_end : (k k' e : ℕ) → has_end dir edges k e ≡ true → has_end dir edges k' e ≡ true → k ≡ k'
   one_end k k' e h h' =
@@ -68,23 +79,32 @@ module _ {E : Type 0} (dir : Direction) (edges : List (Option (Edge E))) where
 
   -- the list of a node
   module _ {N : Type 0} (nodes : List (Option N)) where
-    lists_at : (n : ℕ) → n < length nodes → row (lists_down dir (length nodes) edges) n ≡ down_from (has_end dir edges n) (length edges)
+    lists_at : (n : ℕ) → n < length nodes
+        → row (lists_down dir (length nodes) edges) n ≡ down_from (has_end dir edges n) (length edges)
     lists_at n low =
-        unwrap_or-slice_get (lists_down dir (length nodes) edges) n [] ∙ get_or-map-range_with_len (λ k. down_from (has_end dir edges k) (length edges)) 0 (length nodes) n n [] low (omega arith)
+        unwrap_or-slice_get (lists_down dir (length nodes) edges) n []
+        ∙ get_or-map-range_with_len (λ k. down_from (has_end dir edges k) (length edges)) 0 (length nodes) n n [] low
+        (omega arith)
 
-    at_dir : (d : Direction) (n : ℕ) → list_at d (graph_of_slots nodes edges) n ≡ row (lists_down d (length nodes) edges) n
+    at_dir : (d : Direction) (n : ℕ)
+        → list_at d (graph_of_slots nodes edges) n ≡ row (lists_down d (length nodes) edges) n
     at_dir Outgoing n = refl
     at_dir Incoming n = refl
 
-    pub in_list_has : (n e : ℕ) → n < length nodes → has_end dir edges n e ≡ true → Contains (list_at dir (graph_of_slots nodes edges) n) e
+    pub in_list_has : (n e : ℕ)
+        → n < length nodes → has_end dir edges n e ≡ true → Contains (list_at dir (graph_of_slots nodes edges) n) e
     in_list_has n e low h =
-        subst (λ k. Contains k e) (sym (at_dir dir n ∙ lists_at n low)) (down_has (has_end dir edges n) (length edges) e (end_below n e h) h)
+        subst (λ k. Contains k e) (sym (at_dir dir n ∙ lists_at n low))
+        (down_has (has_end dir edges n) (length edges) e (end_below n e h) h)
 
-    pub in_list_ends : (n e : ℕ) → n < length nodes → Contains (list_at dir (graph_of_slots nodes edges) n) e → has_end dir edges n e ≡ true
+    pub in_list_ends : (n e : ℕ)
+        → n < length nodes → Contains (list_at dir (graph_of_slots nodes edges) n) e → has_end dir edges n e ≡ true
     in_list_ends n e low c =
         down_passes (has_end dir edges n) (length edges) e (subst (λ k. Contains k e) (at_dir dir n ∙ lists_at n low) c)
 
-    pub ordered_at : (d : Direction) (rows : List (List ℕ × List ℕ)) (n : ℕ) → list_at d (with_orders (graph_of_slots nodes edges) rows) n ≡ row (lists_by_slots nodes (map (chosen d) rows)) n
+    pub ordered_at : (d : Direction) (rows : List (List ℕ × List ℕ)) (n : ℕ)
+        → list_at d (with_orders (graph_of_slots nodes edges) rows) n
+        ≡ row (lists_by_slots nodes (map (chosen d) rows)) n
     ordered_at Outgoing rows n = refl
     ordered_at Incoming rows n = refl
 
@@ -102,21 +122,27 @@ module _ {E : Type 0} (dir : Direction) (edges : List (Option (Edge E))) where
     low_marks k e h = omega (arith, end_below k e h, length-replicate (length edges) false)
 
     module _ (rows : List (List ℕ × List ℕ)) where
-      pub orders_from_marks : AreRearranged dir nodes edges rows → (n : ℕ) → IsSome (slot nodes n) → IsOrder (list_at dir (graph_of_slots nodes edges) n) (list_at dir (with_orders (graph_of_slots nodes edges) rows) n)
+      pub orders_from_marks : AreRearranged dir nodes edges rows → (n : ℕ) → IsSome (slot nodes n)
+          → IsOrder (list_at dir (graph_of_slots nodes edges) n)
+          (list_at dir (with_orders (graph_of_slots nodes edges) rows) n)
       orders_from_marks h n exists =
           let lists = map (chosen dir) rows in
           let none = replicate (length edges) false in
           let r = rows_are (has_end dir edges) 0 none nodes lists low_marks h.0 in
           let low = slot_low nodes n exists in
           let P : List ℕ → Type 0 = λ k. IsOrder (list_at dir (graph_of_slots nodes edges) n) k in
-          let start : (e : ℕ) → has_end dir edges (0 + n) e ≡ true → has_end dir edges n e ≡ true = λ e q. ap (λ k. has_end dir edges k e) (let z : n ≡ 0 + n = omega arith in z) ∙ q in
-          let found : (e : ℕ) → Contains (list_at dir (graph_of_slots nodes edges) n) e → Contains (row (lists_by_slots nodes lists) n) e =
+          let start : (e : ℕ) → has_end dir edges (0 + n) e ≡ true → has_end dir edges n e ≡ true = λ e q.
+          ap (λ k. has_end dir edges k e) (let z : n ≡ 0 + n = omega arith in z) ∙ q in
+          let found : (e : ℕ)
+          → Contains (list_at dir (graph_of_slots nodes edges) n) e → Contains (row (lists_by_slots nodes lists) n) e =
           λ e c. let here = in_list_ends n e low c in
           let x = end_some n e here in
           elim (stands_in (has_end dir edges) none nodes lists e (h.1 e (ap is_some x.1))) [
             | inl old ↦ absurd (none_marked (length edges) e old)
             | inr new ↦ (
-                let there : has_end dir edges new.0 e ≡ true = ap (λ k. has_end dir edges k e) (let z : new.0 ≡ 0 + new.0 = omega arith in z) ∙ r.pass new.0 new.1 e new.2 in
+                let there : has_end dir edges new.0 e ≡ true =
+                ap (λ k. has_end dir edges k e) (let z : new.0 ≡ 0 + new.0 = omega arith in z)
+                ∙ r.pass new.0 new.1 e new.2 in
                 subst (λ k. Contains (row (lists_by_slots nodes lists) k) e) (one_end new.0 n e there here) new.2
                 )
           ] in
@@ -128,21 +154,30 @@ module _ {E : Type 0} (dir : Direction) (edges : List (Option (Edge E))) where
       pub rows_from_marks : AreRearranged dir nodes edges rows → length (map (chosen dir) rows) ≡ count_by is_some nodes
       rows_from_marks h = rows_count (has_end dir edges) 0 _ nodes _ h.0
 
-      pub marks_from_orders : length (map (chosen dir) rows) ≡ count_by is_some nodes → ((n : ℕ) → IsSome (slot nodes n) → IsOrder (list_at dir (graph_of_slots nodes edges) n) (list_at dir (with_orders (graph_of_slots nodes edges) rows) n))
-          → ((e : ℕ) (x : Edge E) → slot edges e ≡ Some x → IsSome (slot nodes (near_end dir x))) → AreRearranged dir nodes edges rows
+      pub marks_from_orders : length (map (chosen dir) rows) ≡ count_by is_some nodes
+          → ((n : ℕ) → IsSome (slot nodes n)
+          → IsOrder (list_at dir (graph_of_slots nodes edges) n)
+          (list_at dir (with_orders (graph_of_slots nodes edges) rows) n))
+          → ((e : ℕ) (x : Edge E) → slot edges e ≡ Some x → IsSome (slot nodes (near_end dir x)))
+          → AreRearranged dir nodes edges rows
       marks_from_orders count orders ends = (all, none_left)
         where
           lists : List (List ℕ)
           lists = map (chosen dir) rows
 
-          order_of : (n : ℕ) → IsSome (slot nodes n) → IsOrder (list_at dir (graph_of_slots nodes edges) n) (row (lists_by_slots nodes (map (chosen dir) rows)) n)
-          order_of n s = let P : List ℕ → Type 0 = λ k. IsOrder (list_at dir (graph_of_slots nodes edges) n) k in subst P (ordered_at dir rows n) (orders n s)
+          order_of : (n : ℕ) → IsSome (slot nodes n)
+              → IsOrder (list_at dir (graph_of_slots nodes edges) n)
+              (row (lists_by_slots nodes (map (chosen dir) rows)) n)
+          order_of n s = let P : List ℕ → Type 0 = λ k. IsOrder (list_at dir (graph_of_slots nodes edges) n) k in
+              subst P (ordered_at dir rows n) (orders n s)
 
           all : AllMarked (has_end dir edges) 0 (replicate (length edges) false) nodes (map (chosen dir) rows)
           all =
               all_from (has_end dir edges) one_end 0 _ nodes _ count
               (record {
-                pass = λ n s e c. ap (λ k. has_end dir edges k e) (let z : 0 + n ≡ n = omega arith in z) ∙ in_list_ends n e (slot_low nodes n s) (((order_of n s).exact e).0 c);
+                pass = λ n s e c.
+                    ap (λ k. has_end dir edges k e) (let z : 0 + n ≡ n = omega arith in z)
+                    ∙ in_list_ends n e (slot_low nodes n s) (((order_of n s).exact e).0 c);
                 once = λ n s. (order_of n s).once;
               }) (λ e h. absurd (none_marked (length edges) e h))
 
@@ -152,7 +187,8 @@ module _ {E : Type 0} (dir : Direction) (edges : List (Option (Edge E))) where
               let n = near_end dir x.0 in
               let exists = ends e x.0 x.1 in
               let here = in_list_has n e (slot_low nodes n exists) (end_is e x.0 x.1) in
-              gets_marked (has_end dir edges) 0 _ nodes _ low_marks all n exists e (((order_of n exists).exact e).1 here)
+              gets_marked (has_end dir edges) 0 _ nodes _ low_marks all n exists e
+              (((order_of n exists).exact e).1 here)
             where
               some_edge : (o : Option (Edge E)) → is_some o ≡ true → (x : Edge E) × (o ≡ Some x)
               some_edge None t = absurd (false≢true t)
@@ -160,16 +196,23 @@ module _ {E : Type 0} (dir : Direction) (edges : List (Option (Edge E))) where
 
 -- ---- both directions
 
-pub are_orders_from : {N E : Type 0} (nodes : List (Option N)) (edges : List (Option (Edge E))) (rows : List (List ℕ × List ℕ)) → AreRearranged Outgoing nodes edges rows → AreRearranged Incoming nodes edges rows → AreOrders (graph_of_slots nodes edges) rows
+pub are_orders_from : {N E : Type 0} (nodes : List (Option N)) (edges : List (Option (Edge E)))
+    (rows : List (List ℕ × List ℕ))
+    → AreRearranged Outgoing nodes edges rows → AreRearranged Incoming nodes edges rows
+    → AreOrders (graph_of_slots nodes edges) rows
 are_orders_from nodes edges rows out into =
     record {
       count = sym (length-map rows (chosen Outgoing)) ∙ rows_from_marks Outgoing edges nodes rows out;
-      each = λ dir. elim dir as (λ dir. (n : ℕ) → IsSome (slot nodes n) → IsOrder (list_at dir (graph_of_slots nodes edges) n) (list_at dir (with_orders (graph_of_slots nodes edges) rows) n)) [
-        | Outgoing ↦ orders_from_marks Outgoing edges nodes rows out
-        | Incoming ↦ orders_from_marks Incoming edges nodes rows into
-      ];
+      each = λ dir.
+          elim dir as (λ dir. (n : ℕ) → IsSome (slot nodes n) → IsOrder (list_at dir (graph_of_slots nodes edges) n)
+          (list_at dir (with_orders (graph_of_slots nodes edges) rows) n)) [
+            | Outgoing ↦ orders_from_marks Outgoing edges nodes rows out
+            | Incoming ↦ orders_from_marks Incoming edges nodes rows into
+          ];
     }
 
-pub rearranged_from : {N E : Type 0} (dir : Direction) (nodes : List (Option N)) (edges : List (Option (Edge E))) (rows : List (List ℕ × List ℕ)) → EndsExist nodes edges → AreOrders (graph_of_slots nodes edges) rows → AreRearranged dir nodes edges rows
+pub rearranged_from : {N E : Type 0} (dir : Direction) (nodes : List (Option N)) (edges : List (Option (Edge E)))
+    (rows : List (List ℕ × List ℕ))
+    → EndsExist nodes edges → AreOrders (graph_of_slots nodes edges) rows → AreRearranged dir nodes edges rows
 rearranged_from dir nodes edges rows ends h =
     marks_from_orders dir edges nodes rows (length-map rows (chosen dir) ∙ h.count) (h.each dir) (ends dir)

@@ -1,5 +1,6 @@
 -- Weights and entries that were read so far.
-use Rattle.std.proofs.Common.{◌≡◌, ℕ, suc, ◌+◌, ◌<◌, ◌≤◌, Bool, IsSome, Option, Some, None, List, [], ◌∷◌, ◌++◌, length, get_or, take, drop, map, sym, ap, subst, ◌∙◌, add-one, drop-cons}
+use Rattle.std.proofs.Common.{◌≡◌, ℕ, suc, ◌+◌, ◌<◌, ◌≤◌, Bool, IsSome, Option, Some, None, List, [], ◌∷◌, ◌++◌, length}
+use Rattle.std.proofs.Common.{get_or, take, drop, map, sym, ap, subst, ◌∙◌, add-one, drop-cons}
 use Rattle.std.specs.Prelude.{Result, Ok, Err}
 use Rattle.std.specs.List.{AllZip}
 use Rattle.std.proofs.lemmas.List.{map-append, take_more, take_all, drop_all, take-append-drop}
@@ -12,9 +13,12 @@ use Rattle.daggy_json.specs.declared.error.ReadError.{ReadError}
 use Rattle.daggy_json.specs.declared.error.ReadError.TheVariants.{Weight}
 use Rattle.daggy_json.proofs.Parts.{zip_more}
 
-split_at : (vs : List Value) (i : ℕ) (v : Value) → i < length vs → v ≡ get_or vs i v → map view vs ≡ map view (take i vs) ++ view v ∷ map view (drop (suc i) vs)
+split_at : (vs : List Value) (i : ℕ) (v : Value)
+    → i < length vs → v ≡ get_or vs i v → map view vs ≡ map view (take i vs) ++ view v ∷ map view (drop (suc i) vs)
 split_at vs i v low is =
-    let whole : vs ≡ take i vs ++ v ∷ drop (suc i) vs = sym (take-append-drop i vs) ∙ ap (λ k. take i vs ++ k) (drop-cons vs i v low ∙ ap (λ k. k ∷ drop (suc i) vs) (sym is)) in
+    let whole : vs ≡ take i vs ++ v ∷ drop (suc i) vs =
+    sym (take-append-drop i vs)
+    ∙ ap (λ k. take i vs ++ k) (drop-cons vs i v low ∙ ap (λ k. k ∷ drop (suc i) vs) (sym is)) in
     ap (map view) whole ∙ map-append view (take i vs) (v ∷ drop (suc i) vs)
 
 module _ {A : Type 0} (reads : Data → Result A ReadError → Type 0) where
@@ -26,21 +30,27 @@ module _ {A : Type 0} (reads : Data → Result A ReadError → Type 0) where
   each_starts vs = record { each = tt }
 
   module _ {vs : List Value} {i : ℕ} {xs : List A} (s : EachSoFar vs i xs) where
-    pub each_more : (v : Value) (x : A) (xs' : List A) → i < length vs → v ≡ get_or vs i v → reads (view v) (Ok x) → xs' ≡ xs ++ x ∷ [] → EachSoFar vs (i + 1) xs'
+    pub each_more : (v : Value) (x : A) (xs' : List A)
+        → i < length vs → v ≡ get_or vs i v → reads (view v) (Ok x) → xs' ≡ xs ++ x ∷ [] → EachSoFar vs (i + 1) xs'
     each_more v x xs' low is gives more =
         let e : map view (take (i + 1) vs) ≡ map view (take i vs) ++ view v ∷ [] =
-        ap (map view) (take_more vs i v low ∙ ap (λ k. take i vs ++ k ∷ []) (sym is)) ∙ map-append view (take i vs) (v ∷ []) in
+        ap (map view) (take_more vs i v low ∙ ap (λ k. take i vs ++ k ∷ []) (sym is))
+        ∙ map-append view (take i vs) (v ∷ []) in
         let P : List Data → Type 0 = λ k. AllZip (λ d x. reads d (Ok x)) k xs' in
         let Q : List A → Type 0 = λ k. AllZip (λ d x. reads d (Ok x)) (map view (take i vs) ++ view v ∷ []) k in
-        record { each = subst P (sym e) (subst Q (sym more) (zip_more (λ d x. reads d (Ok x)) _ xs (view v) x s.each gives)) }
+        record {
+          each = subst P (sym e) (subst Q (sym more) (zip_more (λ d x. reads d (Ok x)) _ xs (view v) x s.each gives));
+        }
 
-    pub each_fault : (v : Value) (e : ReadError) → i < length vs → v ≡ get_or vs i v → reads (view v) (Err e) → ReadsEach reads (map view vs) (Err e)
+    pub each_fault : (v : Value) (e : ReadError)
+        → i < length vs → v ≡ get_or vs i v → reads (view v) (Err e) → ReadsEach reads (map view vs) (Err e)
     each_fault v e low is gives =
         (map view (take i vs), view v, map view (drop (suc i) vs), xs, split_at vs i v low is, s.each, gives)
 
     pub each_whole : length vs ≤ i → ReadsEach reads (map view vs) (Ok xs)
     each_whole past =
-        let P : List Value → Type 0 = λ k. AllZip (λ d x. reads d (Ok x)) (map view k) xs in subst P (take_all i vs past) s.each
+        let P : List Value → Type 0 = λ k. AllZip (λ d x. reads d (Ok x)) (map view k) xs in
+        subst P (take_all i vs past) s.each
 
 -- ---- holes
 
@@ -59,13 +69,15 @@ module _ {high : ℕ} {hs : List ℕ} {i low : ℕ} (s : AscendSoFar high hs i l
   at : i < length hs → (h : ℕ) → h ≡ get_or hs i 0 → drop i hs ≡ h ∷ drop (i + 1) hs
   at within h is = here within ∙ ap (λ k. k ∷ drop (i + 1) hs) (sym is)
 
-  pub ascend_more : i < length hs → (h : ℕ) → h ≡ get_or hs i 0 → low ≤ h → h < high → AscendSoFar high hs (i + 1) (h + 1)
+  pub ascend_more : i < length hs → (h : ℕ) → h ≡ get_or hs i 0 → low ≤ h → h < high
+      → AscendSoFar high hs (i + 1) (h + 1)
   ascend_more within h is above below =
       let P : List ℕ → Type 0 = λ k. Ascend low high k in
       let e = at within h is in
       record {
         forth = λ all. let p : Ascend low high (h ∷ drop (i + 1) hs) = subst P e (s.forth all) in p.2;
-        back = λ rest. let p : Ascend low high (h ∷ drop (i + 1) hs) = (above, below, rest) in s.back (subst P (sym e) p);
+        back = λ rest. let p : Ascend low high (h ∷ drop (i + 1) hs) = (above, below, rest) in
+            s.back (subst P (sym e) p);
       }
 
   pub ascend_wrong : i < length hs → (h : ℕ) → h ≡ get_or hs i 0 → ((low ≤ h) × (h < high) → ⊥) → Ascend 0 high hs → ⊥
@@ -79,11 +91,18 @@ module _ {high : ℕ} {hs : List ℕ} {i low : ℕ} (s : AscendSoFar high hs i l
 
 -- ---- entries
 
-module _ {N E : Type 0} (stable : Bool) (nodes : List (Option N)) (answers : Data → Option E → Type 0) (d : Data) (p q : ℕ) (w : Data) (found : Some (p, q, w) ≡ triple_in d) (parent : IsSome (slot nodes p)) (child : IsSome (slot nodes q)) where
-  pub entry_some : (p' q' : ℕ) (x : E) → p' ≡ p → q' ≡ q → answers w (Some x) → IsEntryRead stable nodes answers d (Ok (Some (record { parent = p'; child = q'; weight = x })))
+module _ {N E : Type 0} (stable : Bool) (nodes : List (Option N)) (answers : Data → Option E → Type 0) (d : Data)
+    (p q : ℕ) (w : Data) (found : Some (p, q, w) ≡ triple_in d) (parent : IsSome (slot nodes p))
+    (child : IsSome (slot nodes q)) where
+  pub entry_some : (p' q' : ℕ) (x : E) → p' ≡ p → q' ≡ q → answers w (Some x)
+      → IsEntryRead stable nodes answers d (Ok (Some (record { parent = p'; child = q'; weight = x })))
   entry_some p' q' x is is' says =
-      let P : ℕ → Type 0 = λ k. IsSome (slot nodes k) in
-      (w, sym found ∙ (ap (λ k. Some (k, q, w)) (sym is) ∙ ap (λ k. Some (p', k, w)) (sym is')), (subst P (sym is) parent, subst P (sym is') child), says)
+      let P : ℕ → Type 0 = λ k. IsSome (slot nodes k) in (
+        w,
+        sym found ∙ (ap (λ k. Some (k, q, w)) (sym is) ∙ ap (λ k. Some (p', k, w)) (sym is')),
+        (subst P (sym is) parent, subst P (sym is') child),
+        says,
+      )
 
   pub entry_refused : answers w None → IsEntryRead stable nodes answers d (Err Weight)
   entry_refused says = ((p, q, w), sym found, (parent, child), says)

@@ -1,5 +1,6 @@
 -- Slots up to the bound.
-use Rattle.std.proofs.Common.{◌≡◌, ℕ, zero, suc, ◌+◌, ◌≤◌, Option, Some, None, is_some, List, [], ◌∷◌, length, take, map, count_by, refl, sym, ap, ◌∙◌, arith}
+use Rattle.std.proofs.Common.{◌≡◌, ℕ, zero, suc, ◌+◌, ◌≤◌, Option, Some, None, is_some, List, [], ◌∷◌, length, take}
+use Rattle.std.proofs.Common.{map, count_by, refl, sym, ap, ◌∙◌, arith}
 use Rattle.std.proofs.lemmas.List.{take_all}
 use Rattle.daggy_base.specs.Graph.{slot, bound_of, bound_step}
 use Rattle.daggy_base.specs.Iterating.{numbered}
@@ -12,7 +13,8 @@ use Rattle.daggy_json.proofs.GivenSlots.{full_from as all_there}
 use Rattle.daggy_json.specs.Reading.{Ascend}
 
 -- nothing is left behind the bound
-step_slot : {A : Type 0} (x : Option A) (xs : List (Option A)) (b : ℕ) → ((k : ℕ) → slot (take b xs) k ≡ slot xs k) → (k : ℕ) → slot (take (bound_step x b) (x ∷ xs)) k ≡ slot (x ∷ xs) k
+step_slot : {A : Type 0} (x : Option A) (xs : List (Option A)) (b : ℕ)
+    → ((k : ℕ) → slot (take b xs) k ≡ slot xs k) → (k : ℕ) → slot (take (bound_step x b) (x ∷ xs)) k ≡ slot (x ∷ xs) k
 step_slot None xs zero h zero = refl
 step_slot (Some x) xs zero h zero = refl
 step_slot x xs (suc b) h zero = refl
@@ -25,17 +27,20 @@ slot_bounded [] k = refl
 slot_bounded (x ∷ xs) k = step_slot x xs (bound_of xs) (slot_bounded xs) k
 
 -- the vacant places ascend
-pub vacant_ascend : {A : Type 0} (i high : ℕ) (xs : List (Option A)) → i + length xs ≤ high → Ascend i high (vacant_from i xs)
+pub vacant_ascend : {A : Type 0} (i high : ℕ) (xs : List (Option A))
+    → i + length xs ≤ high → Ascend i high (vacant_from i xs)
 vacant_ascend i high [] fits = tt
 vacant_ascend i high (None ∷ xs) fits = (omega arith, omega arith, vacant_ascend (i + 1) high xs (omega (arith, fits)))
-vacant_ascend i high (Some x ∷ xs) fits = lower (vacant_from (i + 1) xs) (vacant_ascend (i + 1) high xs (omega (arith, fits)))
+vacant_ascend i high (Some x ∷ xs) fits =
+    lower (vacant_from (i + 1) xs) (vacant_ascend (i + 1) high xs (omega (arith, fits)))
   where
     lower : (hs : List ℕ) → Ascend (i + 1) high hs → Ascend i high hs
     lower [] a = tt
     lower (h ∷ hs) a = (omega (arith, a.0), a.1, a.2)
 
 -- each slot is vacant or holds something
-pub slots_split : {A : Type 0} (i : ℕ) (xs : List (Option A)) → length (numbered i xs) + length (vacant_from i xs) ≡ length xs
+pub slots_split : {A : Type 0} (i : ℕ) (xs : List (Option A))
+    → length (numbered i xs) + length (vacant_from i xs) ≡ length xs
 slots_split i [] = refl
 slots_split i (None ∷ xs) = omega (arith, slots_split (i + 1) xs)
 slots_split i (Some x ∷ xs) = omega (arith, slots_split (i + 1) xs)
@@ -52,16 +57,20 @@ low_first k i [] l e = absurd cc
 low_first k i (None ∷ ys) l e = let same : k ≡ i = cc in omega arith
 low_first k i (Some y ∷ ys) l e = let more = low_first (k + 1) i ys l e in omega arith
 
-pub same_slots : {A : Type 0} (i : ℕ) (xs ys : List (Option A)) → vacant_from i xs ≡ vacant_from i ys → map (λ p. p.1) (numbered i xs) ≡ map (λ p. p.1) (numbered i ys) → xs ≡ ys
+pub same_slots : {A : Type 0} (i : ℕ) (xs ys : List (Option A))
+    → vacant_from i xs ≡ vacant_from i ys → map (λ p. p.1) (numbered i xs) ≡ map (λ p. p.1) (numbered i ys) → xs ≡ ys
 same_slots i [] [] e f = refl
 same_slots i [] (None ∷ ys) e f = absurd cc
 same_slots i [] (Some y ∷ ys) e f = absurd cc
 same_slots i (None ∷ xs) [] e f = absurd cc
 same_slots i (Some x ∷ xs) [] e f = absurd cc
 same_slots i (None ∷ xs) (None ∷ ys) e f =
-    ap (λ k. None ∷ k) (same_slots (i + 1) xs ys (let tail : vacant_from (i + 1) xs ≡ vacant_from (i + 1) ys = cc in tail) f)
-same_slots i (None ∷ xs) (Some y ∷ ys) e f = absurd (let low = low_first (i + 1) i ys (vacant_from (i + 1) xs) (sym e) in omega arith)
-same_slots i (Some x ∷ xs) (None ∷ ys) e f = absurd (let low = low_first (i + 1) i xs (vacant_from (i + 1) ys) e in omega arith)
+    ap (λ k. None ∷ k)
+    (same_slots (i + 1) xs ys (let tail : vacant_from (i + 1) xs ≡ vacant_from (i + 1) ys = cc in tail) f)
+same_slots i (None ∷ xs) (Some y ∷ ys) e f =
+    absurd (let low = low_first (i + 1) i ys (vacant_from (i + 1) xs) (sym e) in omega arith)
+same_slots i (Some x ∷ xs) (None ∷ ys) e f =
+    absurd (let low = low_first (i + 1) i xs (vacant_from (i + 1) ys) e in omega arith)
 same_slots i (Some x ∷ xs) (Some y ∷ ys) e f =
     let head : x ≡ y = cc in
     let tail : map (λ p. p.1) (numbered (i + 1) xs) ≡ map (λ p. p.1) (numbered (i + 1) ys) = cc in
@@ -75,7 +84,8 @@ module _ {A : Type 0} where
   vacant_full i (None ∷ xs) h = absurd (h 0 refl)
   vacant_full i (Some x ∷ xs) h = vacant_full (i + 1) xs (λ k e. h (suc k) e)
 
-  pub take_full : {B : Type 0} (xs : List (Option A)) (ys : List B) → IsFull xs → length ys ≡ length xs → take (bound_of xs) ys ≡ ys
+  pub take_full : {B : Type 0} (xs : List (Option A)) (ys : List B)
+      → IsFull xs → length ys ≡ length xs → take (bound_of xs) ys ≡ ys
   take_full xs ys h long = take_all (bound_of xs) ys (omega (arith, bound_full xs h, long))
 
   pub down_full : (xs : List (Option A)) → IsFull xs → vacant_down xs ≡ []

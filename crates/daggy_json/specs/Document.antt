@@ -41,12 +41,14 @@ IsEntry edge_as (Some x) d = (w : Data) × edge_as x.weight w × (d ≡ listed (
 abbrev pub document_of : (entries holes weights orders : List Data) → Data
 document_of entries holes weights orders =
     object (member (codes "edge_property") (string (codes "directed")) (member (codes "edges") (listed entries)
-    (member (codes "node_holes") (listed holes) (member (codes "nodes") (listed weights) (member (codes "orders") (listed orders) no_members)))))
+    (member (codes "node_holes") (listed holes)
+    (member (codes "nodes") (listed weights) (member (codes "orders") (listed orders) no_members)))))
 
--- The value is the document of the graph: its edge slots and its nodes' weights by ascending index, the vacant ones as far
--- as the greatest index that is in use, and the lists of each node that exists, by ascending index. node_as and edge_as
--- say what stands for a weight.
-pub record IsDocumentOf {N E : Type 0} (node_as : N → Data → Type 0) (edge_as : E → Data → Type 0) (g : Graph N E) (d : Data) : Type 0 where
+-- The value is the document of the graph: its edge slots and its nodes' weights by ascending index, the vacant ones as
+-- far as the greatest index that is in use, and the lists of each node that exists, by ascending index. node_as and
+-- edge_as say what stands for a weight.
+pub record IsDocumentOf {N E : Type 0} (node_as : N → Data → Type 0) (edge_as : E → Data → Type 0) (g : Graph N E)
+    (d : Data) : Type 0 where
   pub entries : List Data
   pub weights : List Data
   pub edges : AllZip (IsEntry edge_as) (take (edge_bound g) g.edges) entries

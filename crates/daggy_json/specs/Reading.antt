@@ -1,5 +1,6 @@
 -- What a value is read as: a graph, or its first fault.
-use Rattle.std.specs.Prelude.{◌≡◌, ℕ, ◌+◌, ◌<◌, ◌≤◌, Bool, true, false, Option, Some, None, IsSome, option_and_then, Result, Ok, Err, List, [], ◌∷◌, ◌++◌, length, map, codes, MatchOption, MatchResult}
+use Rattle.std.specs.Prelude.{◌≡◌, ℕ, ◌+◌, ◌<◌, ◌≤◌, Bool, true, false, Option, Some, None, IsSome, option_and_then}
+use Rattle.std.specs.Prelude.{Result, Ok, Err, List, [], ◌∷◌, ◌++◌, length, map, codes, MatchOption, MatchResult}
 use Rattle.std.specs.List.{AllZip}
 use Rattle.std.specs.Option.{option_map}
 use Rattle.serde_json.specs.Data.{Data, null, Items, no_items, item}
@@ -11,7 +12,8 @@ use Rattle.daggy_base.specs.Path.{IsAcyclic}
 use Rattle.daggy_json.specs.Document.{vacant_from}
 use Rattle.daggy_base.specs.Orders.{AreOrders, with_orders}
 use Rattle.daggy_json.specs.declared.error.ReadError.{ReadError}
-use Rattle.daggy_json.specs.declared.error.ReadError.TheVariants.{Shape, Property, Holes, Full, Weight, BadEndpoint, Orders, Cycle}
+use Rattle.daggy_json.specs.declared.error.ReadError.TheVariants.{Shape, Property, Holes, Full, Weight, BadEndpoint}
+use Rattle.daggy_json.specs.declared.error.ReadError.TheVariants.{Orders, Cycle}
 
 -- ---- the parts of a document
 
@@ -36,7 +38,8 @@ all_in one (d ∷ ds) = option_and_then (λ x. option_map (λ xs. x ∷ xs) (all
 abbrev pub numbers_in : Data → Option (List ℕ)
 numbers_in d = option_and_then (all_in whole_in) (array_in d)
 
--- what stands for the weights of the nodes, the holes, the property, the entries of the edges, and the orders if there are any
+-- what stands for the weights of the nodes, the holes, the property, the entries of the edges, and the orders if there
+-- are any
 pub record Parts : Type 0 where
   pub nodes : List Data
   pub holes : List ℕ
@@ -59,7 +62,13 @@ parts_in d =
     option_and_then
     (λ nodes. option_and_then
     (λ holes. option_and_then
-    (λ property. option_map (λ edges. record { nodes = nodes; holes = holes; property = property; edges = edges; orders = get (codes "orders") d }) (array_at (codes "edges") d))
+    (λ property. option_map (λ edges. record {
+      nodes = nodes;
+      holes = holes;
+      property = property;
+      edges = edges;
+      orders = get (codes "orders") d;
+    }) (array_at (codes "edges") d))
     (option_and_then as_str (get (codes "edge_property") d)))
     (holes_in (get (codes "node_holes") d)))
     (array_at (codes "nodes") d)
@@ -96,10 +105,12 @@ IsLaidOut limit stable p (Some _) = ⊥
 -- ---- weights and entries
 
 -- each of a list is read in turn, or they are read up to the first fault
-abbrev pub ReadsEach : {A : Type 0} → (Data → Result A ReadError → Type 0) → List Data → Result (List A) ReadError → Type 0
+abbrev pub ReadsEach : {A : Type 0}
+    → (Data → Result A ReadError → Type 0) → List Data → Result (List A) ReadError → Type 0
 ReadsEach reads ds (Ok xs) = AllZip (λ d x. reads d (Ok x)) ds xs
 ReadsEach {A} reads ds (Err e) =
-    (before : List Data) × (at : Data) × (after : List Data) × (xs : List A) × (ds ≡ before ++ at ∷ after) × AllZip (λ d x. reads d (Ok x)) before xs × reads at (Err e)
+    (before : List Data) × (at : Data) × (after : List Data) × (xs : List A) × (ds ≡ before ++ at ∷ after)
+    × AllZip (λ d x. reads d (Ok x)) before xs × reads at (Err e)
 
 -- a weight, by what the function that is handed in may answer at that data
 abbrev pub IsWeight : {W : Type 0} → (answers : Data → Option W → Type 0) → Data → Result W ReadError → Type 0
@@ -125,12 +136,16 @@ abbrev pub HasEnds : {N : Type 0} → List (Option N) → ℕ × ℕ × Data →
 HasEnds nodes t = IsSome (slot nodes t.0) × IsSome (slot nodes t.1)
 
 -- the entry of an edge slot, its shape, its ends and its weight tested in this order
-abbrev pub IsEntryRead : {N E : Type 0} → (stable : Bool) → (nodes : List (Option N)) → (answers : Data → Option E → Type 0) → Data → Result (Option (Edge E)) ReadError → Type 0
+abbrev pub IsEntryRead : {N E : Type 0} → (stable : Bool) → (nodes : List (Option N))
+    → (answers : Data → Option E → Type 0) → Data → Result (Option (Edge E)) ReadError → Type 0
 IsEntryRead stable nodes answers d (Ok None) = (stable ≡ true) × (d ≡ null)
-IsEntryRead stable nodes answers d (Ok (Some x)) = (w : Data) × (triple_in d ≡ Some (x.parent, x.child, w)) × HasEnds nodes (x.parent, x.child, w) × answers w (Some x.weight)
+IsEntryRead stable nodes answers d (Ok (Some x)) =
+    (w : Data) × (triple_in d ≡ Some (x.parent, x.child, w)) × HasEnds nodes (x.parent, x.child, w)
+    × answers w (Some x.weight)
 IsEntryRead stable nodes answers d (Err Shape) = (triple_in d ≡ None) × ¬ ((stable ≡ true) × (d ≡ null))
 IsEntryRead stable nodes answers d (Err BadEndpoint) = (t : ℕ × ℕ × Data) × (triple_in d ≡ Some t) × ¬ HasEnds nodes t
-IsEntryRead stable nodes answers d (Err Weight) = (t : ℕ × ℕ × Data) × (triple_in d ≡ Some t) × HasEnds nodes t × answers t.2 None
+IsEntryRead stable nodes answers d (Err Weight) =
+    (t : ℕ × ℕ × Data) × (triple_in d ≡ Some t) × HasEnds nodes t × answers t.2 None
 IsEntryRead stable nodes answers d (Err _) = ⊥
 
 -- ---- orders and cycles
@@ -151,8 +166,10 @@ orders_in d = option_and_then (all_in pair_in) (array_in d)
 -- the graph with the lists that the orders give, if there are orders
 abbrev pub IsOrdered : {N E : Type 0} → Graph N E → Option Data → Result (Graph N E) ReadError → Type 0
 IsOrdered g None r = r ≡ Ok g
-IsOrdered g (Some d) (Ok h) = (orders : List (List ℕ × List ℕ)) × (orders_in d ≡ Some orders) × AreOrders g orders × (h ≡ with_orders g orders)
-IsOrdered g (Some d) (Err e) = ((orders : List (List ℕ × List ℕ)) → orders_in d ≡ Some orders → ¬ AreOrders g orders) × (e ≡ Orders)
+IsOrdered g (Some d) (Ok h) =
+    (orders : List (List ℕ × List ℕ)) × (orders_in d ≡ Some orders) × AreOrders g orders × (h ≡ with_orders g orders)
+IsOrdered g (Some d) (Err e) =
+    ((orders : List (List ℕ × List ℕ)) → orders_in d ≡ Some orders → ¬ AreOrders g orders) × (e ≡ Orders)
 
 -- the graph itself if it is acyclic, else the fault `Cycle`
 abbrev pub IsTested : {N E : Type 0} → Graph N E → Result (Graph N E) ReadError → Type 0
@@ -162,20 +179,26 @@ IsTested g (Err e) = ¬ IsAcyclic g × (e ≡ Cycle)
 -- ---- the whole
 
 -- what one stage gives is handed to the next; its fault is the answer
-abbrev pub Then : {A B : Type 0} → (Result A ReadError → Type 0) → (A → Result B ReadError → Type 0) → Result B ReadError → Type 0
+abbrev pub Then : {A B : Type 0}
+    → (Result A ReadError → Type 0) → (A → Result B ReadError → Type 0) → Result B ReadError → Type 0
 Then {A} first next r = (x : Result A ReadError) × first x × MatchResult x (λ a. next a r) (λ e. r ≡ Err e)
 
-module _ {N E : Type 0} (limit : ℕ) (stable : Bool) (node_answers : Data → Option N → Type 0) (edge_answers : Data → Option E → Type 0) where
+module _ {N E : Type 0} (limit : ℕ) (stable : Bool) (node_answers : Data → Option N → Type 0)
+    (edge_answers : Data → Option E → Type 0) where
   -- the edges over these nodes, the orders, and whether there is a cycle
   abbrev pub IsLinked : Parts → List (Option N) → Result (Graph N E) ReadError → Type 0
   IsLinked p nodes =
-      Then (ReadsEach (IsEntryRead stable nodes edge_answers) p.edges) (λ edges. Then (IsOrdered (graph_of_slots nodes edges) p.orders) IsTested)
+      Then (ReadsEach (IsEntryRead stable nodes edge_answers) p.edges)
+      (λ edges. Then (IsOrdered (graph_of_slots nodes edges) p.orders) IsTested)
 
   -- the weights of the nodes, put into slots, and then what stands on them
   abbrev pub IsFilled : Parts → Result (Graph N E) ReadError → Type 0
-  IsFilled p = Then (ReadsEach (IsWeight node_answers) p.nodes) (λ weights r. (nodes : List (Option N)) × AreSlots nodes p.holes weights × IsLinked p nodes r)
+  IsFilled p =
+      Then (ReadsEach (IsWeight node_answers) p.nodes)
+      (λ weights r. (nodes : List (Option N)) × AreSlots nodes p.holes weights × IsLinked p nodes r)
 
   -- The value is read as this graph, or this is its first fault. Slots may be vacant if the kind is the stable one.
   abbrev pub IsRead : Data → Result (Graph N E) ReadError → Type 0
   IsRead d r =
-      MatchOption (parts_in d) (r ≡ Err Shape) (λ p. (fault : Option ReadError) × IsLaidOut limit stable p fault × MatchOption fault (IsFilled p r) (λ e. r ≡ Err e))
+      MatchOption (parts_in d) (r ≡ Err Shape) (λ p.
+      (fault : Option ReadError) × IsLaidOut limit stable p fault × MatchOption fault (IsFilled p r) (λ e. r ≡ Err e))

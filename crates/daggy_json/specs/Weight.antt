@@ -12,5 +12,6 @@ abbrev pub WritesAs : {F W : Type 0} → Shared F (Bor W × Unit {0}) (Result Va
 WritesAs g f w d = (v : Value) × FnReturnsAt g f w (Ok v) × (view v ≡ d)
 
 -- the function may answer a value of this data with a weight, or refuse it
-abbrev pub ReadsAs : {F W : Type 0} → Shared F (Bor Value × Unit {0}) (Result (Option W) AllocError) → F → Data → Option W → Type 0
+abbrev pub ReadsAs : {F W : Type 0}
+    → Shared F (Bor Value × Unit {0}) (Result (Option W) AllocError) → F → Data → Option W → Type 0
 ReadsAs g f d o = (v : Value) × FnReturnsAt g f v (Ok o) × (view v ≡ d)

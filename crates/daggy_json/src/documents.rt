@@ -29,16 +29,19 @@ fn write<
 >(alloc: Global, dag: &Acyclic<N, E, Ix, S>, fn_node: &F, fn_edge: &G) -> Result<Value, WriteError>
     requires nodes { F.IsAlwaysCallable fn_node.now }
     requires edges { G.IsAlwaysCallable fn_edge.now }
-    ensures { IfOk result (λ v. IsDocumentOf (WritesAs F.Fn fn_node.now) (WritesAs G.Fn fn_edge.now) dag.now.graph
+    ensures { IfOk result
+        (λ v. IsDocumentOf (WritesAs F.Fn fn_node.now) (WritesAs G.Fn fn_edge.now) dag.now.graph
         (view v)) }
 {
     Ok(write_document(alloc, dag.graph(), fn_node, fn_edge)?)
 }
 
-/// The document of a dag: an object with the weights of its nodes, its edges, and the orders of its lists.
+/// The document of a dag: an object with the weights of its nodes, its edges, and the orders of its
+/// lists.
 ///
-/// `fn_node` gives the value that stands for the weight of a node, and `fn_edge` that of an edge. The error says that
-/// there was no memory. The cost grows with the number of nodes and edges, besides that of the calls.
+/// `fn_node` gives the value that stands for the weight of a node, and `fn_edge` that of an edge.
+/// The error says that there was no memory. The cost grows with the number of nodes and edges,
+/// besides that of the calls.
 pub fn dag_to_json<
     N: Drop,
     E: Drop,
@@ -48,13 +51,15 @@ pub fn dag_to_json<
 >(alloc: Global, dag: &Dag<N, E, Ix>, fn_node: F, fn_edge: G) -> Result<Value, WriteError>
     requires nodes { F.IsAlwaysCallable fn_node }
     requires edges { G.IsAlwaysCallable fn_edge }
-    ensures { IfOk result (λ v. IsDocumentOf (WritesAs F.Fn fn_node) (WritesAs G.Fn fn_edge) dag.now.graph (view v)) }
+    ensures { IfOk result (λ v.
+        IsDocumentOf (WritesAs F.Fn fn_node) (WritesAs G.Fn fn_edge) dag.now.graph (view v)) }
 {
     write(alloc, dag, &fn_node, &fn_edge)
 }
 
-/// The document of a stable dag, as [`dag_to_json`] gives it. It also names the vacant slots of nodes, and has `null`
-/// for a vacant slot of an edge, both as far as the greatest index that is in use.
+/// The document of a stable dag, as [`dag_to_json`] gives it. It also names the vacant slots of
+/// nodes, and has `null` for a vacant slot of an edge, both as far as the greatest index that is in
+/// use.
 pub fn stable_to_json<
     N: Drop,
     E: Drop,
@@ -64,18 +69,20 @@ pub fn stable_to_json<
 >(alloc: Global, dag: &StableDag<N, E, Ix>, fn_node: F, fn_edge: G) -> Result<Value, WriteError>
     requires nodes { F.IsAlwaysCallable fn_node }
     requires edges { G.IsAlwaysCallable fn_edge }
-    ensures { IfOk result (λ v. IsDocumentOf (WritesAs F.Fn fn_node) (WritesAs G.Fn fn_edge) dag.now.graph (view v)) }
+    ensures { IfOk result (λ v.
+        IsDocumentOf (WritesAs F.Fn fn_node) (WritesAs G.Fn fn_edge) dag.now.graph (view v)) }
 {
     write(alloc, dag, &fn_node, &fn_edge)
 }
 
-/// The dag that a value is read as: an object as [`dag_to_json`] gives it. Other members are ignored. Without `orders`
-/// the edges are linked by ascending index, so each list has the edge with the greatest index first. The document of a
-/// dag gives this dag back, if each of its weights is read as it was.
+/// The dag that a value is read as: an object as [`dag_to_json`] gives it. Other members are
+/// ignored. Without `orders` the edges are linked by ascending index, so each list has the edge
+/// with the greatest index first. The document of a dag gives this dag back, if each of its weights
+/// is read as it was.
 ///
-/// `fn_node` and `fn_edge` read the weights, and give `None` for one that they refuse. The error is the first fault of
-/// the value, or says that there was no memory. The cost grows with the number of nodes and edges, besides that of the
-/// calls.
+/// `fn_node` and `fn_edge` read the weights, and give `None` for one that they refuse. The error is
+/// the first fault of the value, or says that there was no memory. The cost grows with the number
+/// of nodes and edges, besides that of the calls.
 pub fn dag_from_json<
     N: Drop,
     E: Drop,
@@ -86,20 +93,24 @@ pub fn dag_from_json<
     requires nodes { F.IsAlwaysCallable fn_node }
     requires edges { G.IsAlwaysCallable fn_edge }
     ensures ok { IfOk result (λ d.
-        IsRead Ix.greatest false (ReadsAs F.Fn fn_node) (ReadsAs G.Fn fn_edge) (view value.now) (Ok d.graph)) }
-    ensures err { IfErr result (λ e. (e ≡ Memory) ⊎ IsRead {N = N} {E = E} Ix.greatest false (ReadsAs F.Fn fn_node)
+        IsRead Ix.greatest false (ReadsAs F.Fn fn_node) (ReadsAs G.Fn fn_edge) (view value.now)
+        (Ok d.graph)) }
+    ensures err { IfErr result
+        (λ e. (e ≡ Memory) ⊎ IsRead {N = N} {E = E} Ix.greatest false (ReadsAs F.Fn fn_node)
         (ReadsAs G.Fn fn_edge) (view value.now) (Err e)) }
     // The document of a dag, if each of its weights is read as it was.
     ensures restored { (g : Graph N E) → IsDag Ix.greatest g → IsCompact g
-        → IsDocumentOf (ReadsOnly (ReadsAs F.Fn fn_node)) (ReadsOnly (ReadsAs G.Fn fn_edge)) g (view value.now)
+        → IsDocumentOf (ReadsOnly (ReadsAs F.Fn fn_node)) (ReadsOnly (ReadsAs G.Fn fn_edge)) g
+        (view value.now)
         → MatchResult result (λ d. d.graph ≡ g) (λ e. e ≡ Memory) }
 {
     read(alloc, value, false, &fn_node, &fn_edge)
 }
 
-/// The stable dag that a value is read as, as [`dag_from_json`] reads a dag. Slots of nodes are vacant at the holes,
-/// and slots of edges at `null`; of the vacant slots the one with the greatest index is taken first. So the document of
-/// a dag gives back all of it but the order of its vacant slots, and those past the greatest index that is in use.
+/// The stable dag that a value is read as, as [`dag_from_json`] reads a dag. Slots of nodes are
+/// vacant at the holes, and slots of edges at `null`; of the vacant slots the one with the greatest
+/// index is taken first. So the document of a dag gives back all of it but the order of its vacant
+/// slots, and those past the greatest index that is in use.
 pub fn stable_from_json<
     N: Drop,
     E: Drop,
@@ -110,12 +121,15 @@ pub fn stable_from_json<
     requires nodes { F.IsAlwaysCallable fn_node }
     requires edges { G.IsAlwaysCallable fn_edge }
     ensures ok { IfOk result (λ d.
-        IsRead Ix.greatest true (ReadsAs F.Fn fn_node) (ReadsAs G.Fn fn_edge) (view value.now) (Ok d.graph)) }
-    ensures err { IfErr result (λ e. (e ≡ Memory) ⊎ IsRead {N = N} {E = E} Ix.greatest true (ReadsAs F.Fn fn_node)
+        IsRead Ix.greatest true (ReadsAs F.Fn fn_node) (ReadsAs G.Fn fn_edge) (view value.now)
+        (Ok d.graph)) }
+    ensures err { IfErr result
+        (λ e. (e ≡ Memory) ⊎ IsRead {N = N} {E = E} Ix.greatest true (ReadsAs F.Fn fn_node)
         (ReadsAs G.Fn fn_edge) (view value.now) (Err e)) }
     // The document of a dag, if each of its weights is read as it was.
     ensures restored { (g : Graph N E) → IsDag Ix.greatest g
-        → IsDocumentOf (ReadsOnly (ReadsAs F.Fn fn_node)) (ReadsOnly (ReadsAs G.Fn fn_edge)) g (view value.now)
+        → IsDocumentOf (ReadsOnly (ReadsAs F.Fn fn_node)) (ReadsOnly (ReadsAs G.Fn fn_edge)) g
+        (view value.now)
         → MatchResult result (λ d. d.graph ≡ trimmed g) (λ e. e ≡ Memory) }
 {
     read(alloc, value, true, &fn_node, &fn_edge)

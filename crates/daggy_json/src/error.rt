@@ -14,19 +14,20 @@ pub enum WriteError {
     Memory,
 }
 
-/// A value was not read. It is the first fault of the value, in the order of this list; the entries of the edges are
-/// tested one after the other, and each for its shape, its ends and its weight.
+/// A value was not read. It is the first fault of the value, in the order of this list; the entries
+/// of the edges are tested one after the other, and each for its shape, its ends and its weight.
 #[derive(Debug, Drop, Error)]
 pub enum ReadError {
-    /// It is no object, `nodes` or `edges` is no array, `edge_property` is no text, or `node_holes` is no array of
-    /// whole numbers. Or an entry of an edge is no array of two whole numbers and a weight, nor `null` for a vacant
-    /// slot.
+    /// It is no object, `nodes` or `edges` is no array, `edge_property` is no text, or `node_holes`
+    /// is no array of whole numbers. Or an entry of an edge is no array of two whole numbers and a
+    /// weight, nor `null` for a vacant slot.
     #[error("wrong shape")]
     Shape,
     /// `edge_property` is not `directed`.
     #[error("not directed")]
     Property,
-    /// The holes do not ascend, or one is past the number of nodes and holes. A compact dag has no holes.
+    /// The holes do not ascend, or one is past the number of nodes and holes. A compact dag has no
+    /// holes.
     #[error("wrong holes")]
     Holes,
     /// The index type has too few indices.

@@ -1,5 +1,6 @@
 //! The dag of a document without a fault.
-ghost use Rattle.std.specs.Prelude.{◌≡◌, ◌≤◌, ◌⊎◌, [], false, Ok, Err, map, length, IfOk, IfErr, IfSome};
+ghost use Rattle.std.specs.Prelude.{◌≡◌, ◌≤◌, ◌⊎◌, [], false, Ok, Err, map, length, IfOk, IfErr};
+ghost use Rattle.std.specs.Prelude.{IfSome};
 ghost use Rattle.std.specs.Option.{option_map};
 ghost use Rattle.serde_json.specs.View.{view};
 ghost use Rattle.daggy_base.specs.FromSlots.{graph_of_slots, edges_by};
@@ -33,10 +34,12 @@ fn make<N: Drop, E: Drop, Ix: IndexType, S: Store<Ix, NodeWeight = N, EdgeWeight
     requires orders { IfSome found.orders (λ v.
         AreOrders (graph_of_slots found.nodes.items (edges_by Ix.number found.edges.items))
         (map (numbers_of Ix.number) v.items)) }
-    ensures ok { IfOk result (λ d. IsTested (ordered (graph_of_slots found.nodes.items (edges_by Ix.number found.edges.items))
+    ensures ok { IfOk result (λ d.
+        IsTested (ordered (graph_of_slots found.nodes.items (edges_by Ix.number found.edges.items))
         (orders_by Ix.number found.orders)) (Ok d.graph)) }
     ensures err { IfErr result (λ e. (e ≡ Memory)
-        ⊎ IsTested (ordered (graph_of_slots found.nodes.items (edges_by Ix.number found.edges.items))
+        ⊎ IsTested
+        (ordered (graph_of_slots found.nodes.items (edges_by Ix.number found.edges.items))
         (orders_by Ix.number found.orders)) (Err e)) }
 {
     let Gathered {
@@ -75,8 +78,10 @@ pub(crate) fn read<
     requires edges { G.IsAlwaysCallable fn_edge.now }
     requires kind { S.kind ≡ Compact → stable ≡ false }
     ensures ok { IfOk result (λ d.
-        IsRead Ix.greatest stable (ReadsAs F.Fn fn_node.now) (ReadsAs G.Fn fn_edge.now) (view value.now) (Ok d.graph)) }
-    ensures err { IfErr result (λ e. (e ≡ Memory) ⊎ IsRead {N = N} {E = E} Ix.greatest stable (ReadsAs F.Fn fn_node.now)
+        IsRead Ix.greatest stable (ReadsAs F.Fn fn_node.now) (ReadsAs G.Fn fn_edge.now)
+        (view value.now) (Ok d.graph)) }
+    ensures err { IfErr result
+        (λ e. (e ≡ Memory) ⊎ IsRead {N = N} {E = E} Ix.greatest stable (ReadsAs F.Fn fn_node.now)
         (ReadsAs G.Fn fn_edge.now) (view value.now) (Err e)) }
 {
     make(alloc, gather(alloc, value, stable, fn_node, fn_edge)?)

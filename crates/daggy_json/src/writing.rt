@@ -4,7 +4,8 @@ ghost use Rattle.std.specs.List.{AllZip};
 ghost use Rattle.serde_json.specs.View.{view};
 ghost use Rattle.daggy_base.specs.Graph.{edge_at, edge_bound, list_at};
 ghost use Rattle.daggy_base.specs.Iterating.{node_identifiers, node_weights};
-ghost use Rattle.daggy_json.specs.Document.{whole, listed, document_of, holes_of, row_of, IsEntry, IsDocumentOf};
+ghost use Rattle.daggy_json.specs.Document.{whole, listed, document_of, holes_of, row_of, IsEntry};
+ghost use Rattle.daggy_json.specs.Document.{IsDocumentOf};
 ghost use Rattle.daggy_json.specs.Weight.{WritesAs};
 
 use daggy_base::index::{Direction, EdgeIndex, IndexType, NodeIndex};
@@ -19,7 +20,8 @@ fn write_weights<Ix: IndexType, S: Store<Ix>, F: Fn(&S::NodeWeight) -> Result<Va
     fn_node: &F,
 ) -> Result<Vec<Value>, AllocError>
     requires { F.IsAlwaysCallable fn_node.now }
-    ensures { IfOk result (λ v. AllZip (WritesAs F.Fn fn_node.now) (node_weights (S.graph store.now))
+    ensures { IfOk result
+        (λ v. AllZip (WritesAs F.Fn fn_node.now) (node_weights (S.graph store.now))
         (map view v.items)) }
 {
     let bound = store.node_bound();
@@ -77,7 +79,8 @@ fn write_entry<Ix: IndexType, S: Store<Ix>, G: Fn(&S::EdgeWeight) -> Result<Valu
     fn_edge: &G,
 ) -> Result<Value, AllocError>
     requires { G.IsAlwaysCallable fn_edge.now }
-    ensures { IfOk result (λ v. IsEntry (WritesAs G.Fn fn_edge.now) (edge_at (S.graph store.now) (Ix.number e))
+    ensures { IfOk result
+        (λ v. IsEntry (WritesAs G.Fn fn_edge.now) (edge_at (S.graph store.now) (Ix.number e))
         (view v)) }
 {
     let Some(ends) = store.edge_endpoints(e) else {
@@ -120,7 +123,8 @@ fn write_list<Ix: IndexType, S: Store<Ix>>(
     n: NodeIndex<Ix>,
     dir: Direction,
 ) -> Result<Vec<Value>, AllocError>
-    ensures { IfOk result (λ v. map view v.items ≡ map whole (list_at dir (S.graph store.now) (Ix.number n))) }
+    ensures { IfOk result (λ v.
+        map view v.items ≡ map whole (list_at dir (S.graph store.now) (Ix.number n))) }
 {
     // Asked for its contract alone: the list has the edges of the node, each once.
     let _well_formed = store.edge_count();
@@ -201,7 +205,8 @@ pub(crate) fn write_document<
 >(alloc: Global, store: &S, fn_node: &F, fn_edge: &G) -> Result<Value, AllocError>
     requires nodes { F.IsAlwaysCallable fn_node.now }
     requires edges { G.IsAlwaysCallable fn_edge.now }
-    ensures { IfOk result (λ v. IsDocumentOf (WritesAs F.Fn fn_node.now) (WritesAs G.Fn fn_edge.now) (S.graph store.now)
+    ensures { IfOk result (λ v.
+        IsDocumentOf (WritesAs F.Fn fn_node.now) (WritesAs G.Fn fn_edge.now) (S.graph store.now)
         (view v)) }
 {
     let entries = write_entries(alloc, store, fn_edge)?;

@@ -1,5 +1,6 @@
 -- A node's edges with their far ends, listed step by step.
-use Rattle.std.proofs.Common.{◌≡◌, ℕ, ◌<◌, List, [], ◌∷◌, ◌++◌, length, map, Option, Some, None, refl, sym, ap, ◌∙◌, append_assoc, append-nil, arith}
+use Rattle.std.proofs.Common.{◌≡◌, ℕ, ◌<◌, List, [], ◌∷◌, ◌++◌, length, map, Option, Some, None, refl, sym, ap, ◌∙◌}
+use Rattle.std.proofs.Common.{append_assoc, append-nil, arith}
 use Rattle.std.specs.List.{filter_map}
 use Rattle.std.specs.Option.{option_map}
 use Rattle.std.proofs.lemmas.List.{map-append}
@@ -15,14 +16,17 @@ use Rattle.daggy_run.specs.Steps.{walk_of}
 
 -- edges with their far ends
 abbrev pub items_of : {N E : Type 0} → Direction → Graph N E → List ℕ → List (ℕ × ℕ)
-items_of {N} {E} dir g es = map (λ (p : ℕ × Edge E). (p.0, far_end dir p.1)) (filter_map (λ e. option_map (λ x. (e, x)) (edge_at g e)) es)
+items_of {N} {E} dir g es =
+    map (λ (p : ℕ × Edge E). (p.0, far_end dir p.1)) (filter_map (λ e. option_map (λ x. (e, x)) (edge_at g e)) es)
 
 module _ {N E : Type 0} (dir : Direction) (end : ℕ) (g : Graph N E) (w : IsWellFormed end g) where
   -- all are left where the walk begins
-  pub all_left : (n cursor : ℕ) → cursor ≡ first_of end (list_at dir g n) → items_of dir g (rest_of_walk dir g cursor) ≡ walk_of dir g n
+  pub all_left : (n cursor : ℕ)
+      → cursor ≡ first_of end (list_at dir g n) → items_of dir g (rest_of_walk dir g cursor) ≡ walk_of dir g n
   all_left n cursor first = ap (items_of dir g) (ap (rest_of_walk dir g) first ∙ whole_walk end g w dir n)
 
-  one_item : (e : ℕ) (x : Edge E) (es : List ℕ) → edge_at g e ≡ Some x → items_of dir g (e ∷ es) ≡ (e, far_end dir x) ∷ items_of dir g es
+  one_item : (e : ℕ) (x : Edge E) (es : List ℕ)
+      → edge_at g e ≡ Some x → items_of dir g (e ∷ es) ≡ (e, far_end dir x) ∷ items_of dir g es
   one_item e x es at = rw at refl
 
   -- what a step does
@@ -41,7 +45,9 @@ module _ {N E : Type 0} (dir : Direction) (end : ℕ) (g : Graph N E) (w : IsWel
           let first : item.0 ≡ cursor = ap (λ p. p.0) same in
           record {
             rest = rest;
-            items = ap (items_of dir g) (rest ∙ ap (λ e. e ∷ rest_of_walk dir g next) first) ∙ one_item cursor x _ at ∙ ap (λ p. p ∷ items_of dir g (rest_of_walk dir g next)) (sym same);
+            items =
+                ap (items_of dir g) (rest ∙ ap (λ e. e ∷ rest_of_walk dir g next) first) ∙ one_item cursor x _ at
+                ∙ ap (λ p. p ∷ items_of dir g (rest_of_walk dir g next)) (sym same);
           }
 
   pub nothing_left : (cursor next : ℕ) → IsWalkStep dir end g cursor None next → rest_of_walk dir g cursor ≡ []
@@ -49,28 +55,41 @@ module _ {N E : Type 0} (dir : Direction) (end : ℕ) (g : Graph N E) (w : IsWel
 
   -- the same of a list that grows by the items
   module _ {I : Type 0} (number : I → ℕ) where
-    pub grows : (cursor next : ℕ) (item : I × I) (listed more : List (I × I)) (whole : List (ℕ × ℕ)) → IsWalkStep dir end g cursor (Some (pair_of number item)) next → more ≡ listed ++ item ∷ []
-        → map (pair_of number) listed ++ items_of dir g (rest_of_walk dir g cursor) ≡ whole → map (pair_of number) more ++ items_of dir g (rest_of_walk dir g next) ≡ whole
+    pub grows : (cursor next : ℕ) (item : I × I) (listed more : List (I × I)) (whole : List (ℕ × ℕ))
+        → IsWalkStep dir end g cursor (Some (pair_of number item)) next → more ≡ listed ++ item ∷ []
+        → map (pair_of number) listed ++ items_of dir g (rest_of_walk dir g cursor) ≡ whole
+        → map (pair_of number) more ++ items_of dir g (rest_of_walk dir g next) ≡ whole
     grows cursor next item listed more whole s more_is so_far =
         let step = steps cursor next (pair_of number item) s in
         let left = items_of dir g (rest_of_walk dir g next) in
-        ap (λ xs. map (pair_of number) xs ++ left) more_is ∙ ap (λ xs. xs ++ left) (map-append (pair_of number) listed (item ∷ []))
-        ∙ append_assoc (map (pair_of number) listed) (pair_of number item ∷ []) left ∙ ap (λ xs. map (pair_of number) listed ++ xs) (sym step.items) ∙ so_far
+        ap (λ xs. map (pair_of number) xs ++ left) more_is
+        ∙ ap (λ xs. xs ++ left) (map-append (pair_of number) listed (item ∷ []))
+        ∙ append_assoc (map (pair_of number) listed) (pair_of number item ∷ []) left
+        ∙ ap (λ xs. map (pair_of number) listed ++ xs) (sym step.items) ∙ so_far
 
-    pub fewer_left : (cursor next : ℕ) (item : I × I) → IsWalkStep dir end g cursor (Some (pair_of number item)) next → length (rest_of_walk dir g next) < length (rest_of_walk dir g cursor)
-    fewer_left cursor next item s = let step = steps cursor next (pair_of number item) s in omega (arith, ap length step.rest)
+    pub fewer_left : (cursor next : ℕ) (item : I × I) → IsWalkStep dir end g cursor (Some (pair_of number item)) next
+        → length (rest_of_walk dir g next) < length (rest_of_walk dir g cursor)
+    fewer_left cursor next item s = let step = steps cursor next (pair_of number item) s in
+        omega (arith, ap length step.rest)
 
-    pub all_listed : (cursor next : ℕ) (listed : List (I × I)) (whole : List (ℕ × ℕ)) → IsWalkStep dir end g cursor None next
-        → map (pair_of number) listed ++ items_of dir g (rest_of_walk dir g cursor) ≡ whole → map (pair_of number) listed ≡ whole
+    pub all_listed : (cursor next : ℕ) (listed : List (I × I)) (whole : List (ℕ × ℕ))
+        → IsWalkStep dir end g cursor None next
+        → map (pair_of number) listed ++ items_of dir g (rest_of_walk dir g cursor) ≡ whole
+        → map (pair_of number) listed ≡ whole
     all_listed cursor next listed whole s so_far =
-        sym (append-nil (map (pair_of number) listed)) ∙ ap (λ es. map (pair_of number) listed ++ items_of dir g es) (sym (nothing_left cursor next s)) ∙ so_far
+        sym (append-nil (map (pair_of number) listed))
+        ∙ ap (λ es. map (pair_of number) listed ++ items_of dir g es) (sym (nothing_left cursor next s)) ∙ so_far
 
 -- the ends of an edge, and the edge behind it, are what a look at it tells
-pub looked : {N E : Type 0} (end : ℕ) (g h : Graph N E) (e next : ℕ) (ends : Option (ℕ × ℕ)) (p : ℕ × ℕ) → h ≡ g → ends ≡ Some p → ends ≡ option_map ends_of (edge_at h e)
+pub looked : {N E : Type 0} (end : ℕ) (g h : Graph N E) (e next : ℕ) (ends : Option (ℕ × ℕ)) (p : ℕ × ℕ)
+    → h ≡ g → ends ≡ Some p → ends ≡ option_map ends_of (edge_at h e)
     → next ≡ cursor_after Outgoing end h e (edge_at h e) → IsLook end g e p.1 next
 looked {N} {E} end g h e next ends p same there ends_are next_is =
-    go (edge_at g e) refl (sym there ∙ ends_are ∙ ap (λ k. option_map ends_of (edge_at k e)) same) (next_is ∙ ap (λ k. cursor_after Outgoing end k e (edge_at k e)) same)
+    go (edge_at g e) refl (sym there ∙ ends_are ∙ ap (λ k. option_map ends_of (edge_at k e)) same)
+    (next_is ∙ ap (λ k. cursor_after Outgoing end k e (edge_at k e)) same)
   where
-    go : (o : Option (Edge E)) → edge_at g e ≡ o → Some p ≡ option_map ends_of o → next ≡ cursor_after Outgoing end g e o → IsLook end g e p.1 next
+    go : (o : Option (Edge E)) → edge_at g e ≡ o → Some p ≡ option_map ends_of o
+        → next ≡ cursor_after Outgoing end g e o → IsLook end g e p.1 next
     go None at is after = absurd cc
-    go (Some x) at is after = let same_ends : p ≡ ends_of x = cc in record { edge = x; at = at; child_is = ap (λ q. q.1) same_ends; next_is = after }
+    go (Some x) at is after = let same_ends : p ≡ ends_of x = cc in
+        record { edge = x; at = at; child_is = ap (λ q. q.1) same_ends; next_is = after }

@@ -1,5 +1,6 @@
 -- Where memory is found, a request has one answer, and leaves one graph.
-use Rattle.std.proofs.Common.{◌≡◌, ℕ, ◌<◌, ◌≤◌, ◌⊎◌, List, [], ◌∷◌, ◌++◌, Option, Some, None, refl, sym, ap, subst, ◌∙◌, inl, inr, arith}
+use Rattle.std.proofs.Common.{◌≡◌, ℕ, ◌<◌, ◌≤◌, ◌⊎◌, List, [], ◌∷◌, ◌++◌, Option, Some, None, refl, sym, ap, subst, ◌∙◌}
+use Rattle.std.proofs.Common.{inl, inr, arith}
 use Rattle.std.specs.List.{AllByRecursion}
 use Rattle.daggy_base.specs.declared.index.Direction.{Direction}
 use Rattle.daggy_base.specs.declared.index.Direction.TheVariants.{Outgoing, Incoming}
@@ -11,7 +12,8 @@ use Rattle.daggy_guard.specs.EdgeBatch.{NewEdge, with_edges, HasEnds, IsFaultles
 use Rattle.daggy_run.specs.EdgeLists.{StopsAt}
 use Rattle.daggy_run.specs.Requests as request
 use Rattle.daggy_run.specs.Requests.{Request}
-use Rattle.daggy_run.specs.Answers.{Answer, Node, Edge, EdgeNode, Edges, Found, Ends, Walk, Done, Missing, Full, Cycle, CycleAll, Memory, OfNode, OfEdge, OfEdgeNode, OfEdges}
+use Rattle.daggy_run.specs.Answers.{Answer, Node, Edge, EdgeNode, Edges, Found, Ends, Walk, Done, Missing, Full, Cycle}
+use Rattle.daggy_run.specs.Answers.{CycleAll, Memory, OfNode, OfEdge, OfEdgeNode, OfEdges}
 use Rattle.daggy_run.specs.Steps.{IsStep, IsEdgeStep, IsUpdateStep, IsNeighborStep, IsBatchStep}
 use Rattle.daggy_run.specs.Runs.{IsRun, IsForBothKinds, FindsMemory, IsAsCompact}
 use Rattle.daggy_run.proofs.RunSteps.{compact_run}
@@ -32,7 +34,8 @@ module _ {N E : Type 0} (limit : ℕ) where
 
   -- ---- a node
   same_node : (g : Graph N E) (weight : N) (a b : Answer N E) (h k : Graph N E) → FindsMemory a → FindsMemory b
-      → IsStep Compact limit g (request.Node weight) a h → IsStep Compact limit g (request.Node weight) b k → Agree a b h k
+      → IsStep Compact limit g (request.Node weight) a h → IsStep Compact limit g (request.Node weight) b k
+      → Agree a b h k
   same_node g weight (Memory w) b h k fa fb s t = absurd fa
   same_node g weight (Node n) (Memory w) h k fa fb s t = absurd fb
   same_node g weight (Node n) (Node m) h k fa fb s t = (ap Node (s.1 ∙ sym t.1), s.2 ∙ sym t.2)
@@ -40,7 +43,10 @@ module _ {N E : Type 0} (limit : ℕ) where
   same_node g weight (Node n) other h k fa fb s t = absurd t
   same_node g weight (Full (OfNode v)) (Memory w) h k fa fb s t = absurd fb
   same_node g weight (Full (OfNode v)) (Node m) h k fa fb s t = absurd (omega (arith, s.0, t.0))
-  same_node g weight (Full (OfNode v)) (Full (OfNode w)) h k fa fb s t = (ap (λ x. Full (OfNode x)) (s.1 ∙ sym t.1), s.2 ∙ sym t.2)
+  same_node g weight (Full (OfNode v)) (Full (OfNode w)) h k fa fb s t = (
+    ap (λ x. Full (OfNode x)) (s.1 ∙ sym t.1),
+    s.2 ∙ sym t.2,
+  )
   same_node g weight (Full (OfNode v)) other h k fa fb s t = absurd t
   same_node g weight other b h k fa fb s t = absurd s
 
@@ -56,14 +62,20 @@ module _ {N E : Type 0} (limit : ℕ) where
   same_edge g x (Edge e) other h k fa fb s t = absurd t
   same_edge g x (Missing (OfEdge v)) (Memory w) h k fa fb s t = absurd fb
   same_edge g x (Missing (OfEdge v)) (Edge f) h k fa fb s t = absurd (s.0 t.0.0)
-  same_edge g x (Missing (OfEdge v)) (Missing (OfEdge w)) h k fa fb s t = (ap (λ y. Missing (OfEdge y)) (s.1 ∙ sym t.1), s.2 ∙ sym t.2)
+  same_edge g x (Missing (OfEdge v)) (Missing (OfEdge w)) h k fa fb s t = (
+    ap (λ y. Missing (OfEdge y)) (s.1 ∙ sym t.1),
+    s.2 ∙ sym t.2,
+  )
   same_edge g x (Missing (OfEdge v)) (Full (OfEdge w)) h k fa fb s t = absurd (s.0 t.0.0)
   same_edge g x (Missing (OfEdge v)) (Cycle w) h k fa fb s t = absurd (s.0 t.0)
   same_edge g x (Missing (OfEdge v)) other h k fa fb s t = absurd t
   same_edge g x (Full (OfEdge v)) (Memory w) h k fa fb s t = absurd fb
   same_edge g x (Full (OfEdge v)) (Edge f) h k fa fb s t = absurd (omega (arith, s.0.1, t.0.1))
   same_edge g x (Full (OfEdge v)) (Missing (OfEdge w)) h k fa fb s t = absurd (t.0 s.0.0)
-  same_edge g x (Full (OfEdge v)) (Full (OfEdge w)) h k fa fb s t = (ap (λ y. Full (OfEdge y)) (s.1 ∙ sym t.1), s.2 ∙ sym t.2)
+  same_edge g x (Full (OfEdge v)) (Full (OfEdge w)) h k fa fb s t = (
+    ap (λ y. Full (OfEdge y)) (s.1 ∙ sym t.1),
+    s.2 ∙ sym t.2,
+  )
   same_edge g x (Full (OfEdge v)) (Cycle w) h k fa fb s t = absurd (omega (arith, s.0.1, t.1))
   same_edge g x (Full (OfEdge v)) other h k fa fb s t = absurd t
   same_edge g x (Cycle v) (Memory w) h k fa fb s t = absurd fb
@@ -74,7 +86,8 @@ module _ {N E : Type 0} (limit : ℕ) where
   same_edge g x (Cycle v) other h k fa fb s t = absurd t
   same_edge g x other b h k fa fb s t = absurd s
 
-  same_update : (g : Graph N E) (found : Option ℕ) (x : NewEdge E) (a b : Answer N E) (h k : Graph N E) → FindsMemory a → FindsMemory b
+  same_update : (g : Graph N E) (found : Option ℕ) (x : NewEdge E) (a b : Answer N E) (h k : Graph N E)
+      → FindsMemory a → FindsMemory b
       → IsUpdateStep limit found g x a h → IsUpdateStep limit found g x b k → Agree a b h k
   same_update g None x a b h k fa fb s t = same_edge g x a b h k fa fb s t
   same_update g (Some found) x (Edge e) (Edge f) h k fa fb s t = (ap Edge (s.0 ∙ sym t.0), s.1 ∙ sym t.1)
@@ -82,26 +95,34 @@ module _ {N E : Type 0} (limit : ℕ) where
   same_update g (Some found) x other b h k fa fb s t = absurd s
 
   -- ---- a node with an edge
-  same_neighbor : (dir : Direction) (g : Graph N E) (n : ℕ) (edge : E) (node : N) (a b : Answer N E) (h k : Graph N E) → FindsMemory a → FindsMemory b
+  same_neighbor : (dir : Direction) (g : Graph N E) (n : ℕ) (edge : E) (node : N) (a b : Answer N E) (h k : Graph N E)
+      → FindsMemory a → FindsMemory b
       → IsNeighborStep dir limit g n edge node a h → IsNeighborStep dir limit g n edge node b k → Agree a b h k
   same_neighbor dir g n edge node (Memory w) b h k fa fb s t = absurd fa
   same_neighbor dir g n edge node (EdgeNode e m) (Memory w) h k fa fb s t = absurd fb
   same_neighbor dir g n edge node (EdgeNode e m) (EdgeNode f o) h k fa fb s t =
-      let one : e ≡ f = s.1 ∙ sym t.1 in let other : m ≡ o = s.2 ∙ sym t.2 in (ap (λ y. EdgeNode y m) one ∙ ap (EdgeNode f) other, s.3 ∙ sym t.3)
+      let one : e ≡ f = s.1 ∙ sym t.1 in
+      let other : m ≡ o = s.2 ∙ sym t.2 in (ap (λ y. EdgeNode y m) one ∙ ap (EdgeNode f) other, s.3 ∙ sym t.3)
   same_neighbor dir g n edge node (EdgeNode e m) (Missing (OfEdgeNode f w)) h k fa fb s t = absurd (t.0 s.0.0)
-  same_neighbor dir g n edge node (EdgeNode e m) (Full (OfEdgeNode f w)) h k fa fb s t = absurd (no_room limit _ _ s.0.1 s.0.2 t.1)
+  same_neighbor dir g n edge node (EdgeNode e m) (Full (OfEdgeNode f w)) h k fa fb s t =
+      absurd (no_room limit _ _ s.0.1 s.0.2 t.1)
   same_neighbor dir g n edge node (EdgeNode e m) other h k fa fb s t = absurd t
   same_neighbor dir g n edge node (Missing (OfEdgeNode e v)) (Memory w) h k fa fb s t = absurd fb
   same_neighbor dir g n edge node (Missing (OfEdgeNode e v)) (EdgeNode f o) h k fa fb s t = absurd (s.0 t.0.0)
   same_neighbor dir g n edge node (Missing (OfEdgeNode e v)) (Missing (OfEdgeNode f w)) h k fa fb s t =
-      let one : e ≡ f = s.1 ∙ sym t.1 in let other : v ≡ w = s.2 ∙ sym t.2 in (ap (λ y. Missing (OfEdgeNode y v)) one ∙ ap (λ y. Missing (OfEdgeNode f y)) other, s.3 ∙ sym t.3)
+      let one : e ≡ f = s.1 ∙ sym t.1 in
+      let other : v ≡ w = s.2 ∙ sym t.2 in
+      (ap (λ y. Missing (OfEdgeNode y v)) one ∙ ap (λ y. Missing (OfEdgeNode f y)) other, s.3 ∙ sym t.3)
   same_neighbor dir g n edge node (Missing (OfEdgeNode e v)) (Full (OfEdgeNode f w)) h k fa fb s t = absurd (s.0 t.0)
   same_neighbor dir g n edge node (Missing (OfEdgeNode e v)) other h k fa fb s t = absurd t
   same_neighbor dir g n edge node (Full (OfEdgeNode e v)) (Memory w) h k fa fb s t = absurd fb
-  same_neighbor dir g n edge node (Full (OfEdgeNode e v)) (EdgeNode f o) h k fa fb s t = absurd (no_room limit _ _ t.0.1 t.0.2 s.1)
+  same_neighbor dir g n edge node (Full (OfEdgeNode e v)) (EdgeNode f o) h k fa fb s t =
+      absurd (no_room limit _ _ t.0.1 t.0.2 s.1)
   same_neighbor dir g n edge node (Full (OfEdgeNode e v)) (Missing (OfEdgeNode f w)) h k fa fb s t = absurd (t.0 s.0)
   same_neighbor dir g n edge node (Full (OfEdgeNode e v)) (Full (OfEdgeNode f w)) h k fa fb s t =
-      let one : e ≡ f = s.2 ∙ sym t.2 in let other : v ≡ w = s.3 ∙ sym t.3 in (ap (λ y. Full (OfEdgeNode y v)) one ∙ ap (λ y. Full (OfEdgeNode f y)) other, s.4 ∙ sym t.4)
+      let one : e ≡ f = s.2 ∙ sym t.2 in
+      let other : v ≡ w = s.3 ∙ sym t.3 in
+      (ap (λ y. Full (OfEdgeNode y v)) one ∙ ap (λ y. Full (OfEdgeNode f y)) other, s.4 ∙ sym t.4)
   same_neighbor dir g n edge node (Full (OfEdgeNode e v)) other h k fa fb s t = absurd t
   same_neighbor dir g n edge node other b h k fa fb s t = absurd s
 
@@ -116,8 +137,10 @@ module _ {N E : Type 0} (limit : ℕ) where
   by_index : (g : Graph N E) (x : NewEdge E) → LacksIndex limit g x → IsFaulty g x
   by_index g x lacks ends few = omega (arith, lacks.1)
 
-  one_fault : (g : Graph N E) (front other behind rest : List (NewEdge E)) (at it : NewEdge E) → front ++ at ∷ behind ≡ other ++ it ∷ rest
-      → IsFaultless limit g front → IsFaultless limit g other → IsFaulty (with_edges g front) at → IsFaulty (with_edges g other) it → AreOne front other at it
+  one_fault : (g : Graph N E) (front other behind rest : List (NewEdge E)) (at it : NewEdge E)
+      → front ++ at ∷ behind ≡ other ++ it ∷ rest
+      → IsFaultless limit g front → IsFaultless limit g other → IsFaulty (with_edges g front) at
+      → IsFaulty (with_edges g other) it → AreOne front other at it
   one_fault g [] [] behind rest at it same f o a b = record { fronts = refl; ats = cc }
   one_fault g [] (y ∷ other) behind rest at it same f o a b =
       let here : at ≡ y = cc in absurd (subst (IsFaulty g) here a o.0 o.1)
@@ -128,10 +151,13 @@ module _ {N E : Type 0} (limit : ℕ) where
       let there : front ++ at ∷ behind ≡ other ++ it ∷ rest = cc in
       let P : NewEdge E → Type 0 = λ z. IsFaultless limit (with_edge g z.0 z.1 z.2) other in
       let Q : NewEdge E → Type 0 = λ z. IsFaulty (with_edges (with_edge g z.0 z.1 z.2) other) it in
-      let r = one_fault (with_edge g x.0 x.1 x.2) front other behind rest at it there f.2 (subst P (sym here) o.2) a (subst Q (sym here) b) in
+      let r =
+      one_fault (with_edge g x.0 x.1 x.2) front other behind rest at it there f.2 (subst P (sym here) o.2) a
+      (subst Q (sym here) b) in
       record { fronts = ap (λ z. z ∷ front) here ∙ ap (λ zs. y ∷ zs) r.fronts; ats = r.ats }
 
-  no_fault : (g : Graph N E) (edges front behind : List (NewEdge E)) (at : NewEdge E) → edges ≡ front ++ at ∷ behind → IsFaultless limit g edges → IsFaulty (with_edges g front) at → ⊥
+  no_fault : (g : Graph N E) (edges front behind : List (NewEdge E)) (at : NewEdge E)
+      → edges ≡ front ++ at ∷ behind → IsFaultless limit g edges → IsFaulty (with_edges g front) at → ⊥
   no_fault g [] [] behind at same f a = absurd cc
   no_fault g [] (y ∷ front) behind at same f a = absurd cc
   no_fault g (x ∷ edges) [] behind at same f a = let here : at ≡ x = cc in subst (IsFaulty g) here a f.0 f.1
@@ -143,17 +169,25 @@ module _ {N E : Type 0} (limit : ℕ) where
 
   module _ (g : Graph N E) (edges : List (NewEdge E)) where
     -- two stops are at the same edge
-    same_stop : (C D : Graph N E → NewEdge E → Type 0) → ((h : Graph N E) (x : NewEdge E) → C h x → IsFaulty h x) → ((h : Graph N E) (x : NewEdge E) → D h x → IsFaulty h x)
-        → (l m : E) (ls bs : List E) (s : StopsAt limit g edges C l ls) (t : StopsAt limit g edges D m bs) → AreOne s.front t.front s.at t.at
+    same_stop : (C D : Graph N E → NewEdge E → Type 0) → ((h : Graph N E) (x : NewEdge E) → C h x → IsFaulty h x)
+        → ((h : Graph N E) (x : NewEdge E) → D h x → IsFaulty h x)
+        → (l m : E) (ls bs : List E) (s : StopsAt limit g edges C l ls) (t : StopsAt limit g edges D m bs)
+        → AreOne s.front t.front s.at t.at
     same_stop C D c d l m ls bs s t =
-        one_fault g s.front t.front s.behind t.behind s.at t.at (sym s.edges_are ∙ t.edges_are) s.faultless t.faultless (c _ _ s.cause) (d _ _ t.cause)
+        one_fault g s.front t.front s.behind t.behind s.at t.at (sym s.edges_are ∙ t.edges_are) s.faultless t.faultless
+        (c _ _ s.cause) (d _ _ t.cause)
 
-    same_weights : (C D : Graph N E → NewEdge E → Type 0) (l m : E) (ls bs : List E) (s : StopsAt limit g edges C l ls) (t : StopsAt limit g edges D m bs) → AreOne s.front t.front s.at t.at → (l ≡ m) × (ls ≡ bs)
-    same_weights C D l m ls bs s t one =
-        (s.last_is ∙ ap (λ (x : NewEdge E). x.2) one.ats ∙ sym t.last_is, s.before_is ∙ ap weights_back one.fronts ∙ sym t.before_is)
+    same_weights : (C D : Graph N E → NewEdge E → Type 0) (l m : E) (ls bs : List E) (s : StopsAt limit g edges C l ls)
+        (t : StopsAt limit g edges D m bs)
+        → AreOne s.front t.front s.at t.at → (l ≡ m) × (ls ≡ bs)
+    same_weights C D l m ls bs s t one = (
+      s.last_is ∙ ap (λ (x : NewEdge E). x.2) one.ats ∙ sym t.last_is,
+      s.before_is ∙ ap weights_back one.fronts ∙ sym t.before_is,
+    )
 
     -- an end and an index are not missing at one edge
-    apart : (l m : E) (ls bs : List E) → StopsAt limit g edges LacksEnd l ls → StopsAt limit g edges (LacksIndex limit) m bs → ⊥
+    apart : (l m : E) (ls bs : List E)
+        → StopsAt limit g edges LacksEnd l ls → StopsAt limit g edges (LacksIndex limit) m bs → ⊥
     apart l m ls bs s t =
         let one = same_stop LacksEnd (LacksIndex limit) by_end by_index l m ls bs s t in
         let P : List (NewEdge E) → Type 0 = λ front. LacksEnd (with_edges g front) s.at in
@@ -161,15 +195,22 @@ module _ {N E : Type 0} (limit : ℕ) where
         subst Q one.ats (subst P one.fronts s.cause) t.cause.0
 
     faultless_no_end : (l : E) (ls : List E) → IsFaultless limit g edges → StopsAt limit g edges LacksEnd l ls → ⊥
-    faultless_no_end l ls f s = no_fault g edges s.front s.behind s.at s.edges_are f (by_end (with_edges g s.front) s.at s.cause)
+    faultless_no_end l ls f s =
+        no_fault g edges s.front s.behind s.at s.edges_are f (by_end (with_edges g s.front) s.at s.cause)
 
-    faultless_no_index : (l : E) (ls : List E) → IsFaultless limit g edges → StopsAt limit g edges (LacksIndex limit) l ls → ⊥
-    faultless_no_index l ls f s = no_fault g edges s.front s.behind s.at s.edges_are f (by_index (with_edges g s.front) s.at s.cause)
+    faultless_no_index : (l : E) (ls : List E)
+        → IsFaultless limit g edges → StopsAt limit g edges (LacksIndex limit) l ls → ⊥
+    faultless_no_index l ls f s =
+        no_fault g edges s.front s.behind s.at s.edges_are f (by_index (with_edges g s.front) s.at s.cause)
 
-    same_series : (a b : Answer N E) (h k : Graph N E) → FindsMemory a → FindsMemory b → IsBatchStep limit g edges a h → IsBatchStep limit g edges b k → Agree a b h k
+    same_series : (a b : Answer N E) (h k : Graph N E)
+        → FindsMemory a → FindsMemory b → IsBatchStep limit g edges a h → IsBatchStep limit g edges b k → Agree a b h k
     same_series (Memory w) b h k fa fb s t = absurd fa
     same_series (Edges es) (Memory w) h k fa fb s t = absurd fb
-    same_series (Edges es) (Edges fs) h k fa fb s t = (ap Edges (s.indices_are ∙ sym t.indices_are), s.added ∙ sym t.added)
+    same_series (Edges es) (Edges fs) h k fa fb s t = (
+      ap Edges (s.indices_are ∙ sym t.indices_are),
+      s.added ∙ sym t.added,
+    )
     same_series (Edges es) (Missing (OfEdges l ls)) h k fa fb s t = absurd (faultless_no_end l ls s.faultless t.0)
     same_series (Edges es) (Full (OfEdges l ls)) h k fa fb s t = absurd (faultless_no_index l ls s.faultless t.0)
     same_series (Edges es) (CycleAll ws) h k fa fb s t = absurd (t.0.cyclic s.acyclic)
@@ -177,7 +218,9 @@ module _ {N E : Type 0} (limit : ℕ) where
     same_series (Missing (OfEdges l ls)) (Memory w) h k fa fb s t = absurd fb
     same_series (Missing (OfEdges l ls)) (Edges es) h k fa fb s t = absurd (faultless_no_end l ls t.faultless s.0)
     same_series (Missing (OfEdges l ls)) (Missing (OfEdges m bs)) h k fa fb s t =
-        let same = same_weights LacksEnd LacksEnd l m ls bs s.0 t.0 (same_stop LacksEnd LacksEnd by_end by_end l m ls bs s.0 t.0) in
+        let same =
+        same_weights LacksEnd LacksEnd l m ls bs s.0 t.0
+        (same_stop LacksEnd LacksEnd by_end by_end l m ls bs s.0 t.0) in
         (ap (λ y. Missing (OfEdges y ls)) same.0 ∙ ap (λ ys. Missing (OfEdges m ys)) same.1, s.1 ∙ sym t.1)
     same_series (Missing (OfEdges l ls)) (Full (OfEdges m bs)) h k fa fb s t = absurd (apart l m ls bs s.0 t.0)
     same_series (Missing (OfEdges l ls)) (CycleAll ws) h k fa fb s t = absurd (faultless_no_end l ls t.0.faultless s.0)
@@ -186,7 +229,9 @@ module _ {N E : Type 0} (limit : ℕ) where
     same_series (Full (OfEdges l ls)) (Edges es) h k fa fb s t = absurd (faultless_no_index l ls t.faultless s.0)
     same_series (Full (OfEdges l ls)) (Missing (OfEdges m bs)) h k fa fb s t = absurd (apart m l bs ls t.0 s.0)
     same_series (Full (OfEdges l ls)) (Full (OfEdges m bs)) h k fa fb s t =
-        let same = same_weights (LacksIndex limit) (LacksIndex limit) l m ls bs s.0 t.0 (same_stop (LacksIndex limit) (LacksIndex limit) by_index by_index l m ls bs s.0 t.0) in
+        let same =
+        same_weights (LacksIndex limit) (LacksIndex limit) l m ls bs s.0 t.0
+        (same_stop (LacksIndex limit) (LacksIndex limit) by_index by_index l m ls bs s.0 t.0) in
         (ap (λ y. Full (OfEdges y ls)) same.0 ∙ ap (λ ys. Full (OfEdges m ys)) same.1, s.1 ∙ sym t.1)
     same_series (Full (OfEdges l ls)) (CycleAll ws) h k fa fb s t = absurd (faultless_no_index l ls t.0.faultless s.0)
     same_series (Full (OfEdges l ls)) other h k fa fb s t = absurd t
@@ -194,23 +239,29 @@ module _ {N E : Type 0} (limit : ℕ) where
     same_series (CycleAll vs) (Edges es) h k fa fb s t = absurd (s.0.cyclic t.acyclic)
     same_series (CycleAll vs) (Missing (OfEdges l ls)) h k fa fb s t = absurd (faultless_no_end l ls s.0.faultless t.0)
     same_series (CycleAll vs) (Full (OfEdges l ls)) h k fa fb s t = absurd (faultless_no_index l ls s.0.faultless t.0)
-    same_series (CycleAll vs) (CycleAll ws) h k fa fb s t = (ap CycleAll (s.0.weights_are ∙ sym t.0.weights_are), s.1 ∙ sym t.1)
+    same_series (CycleAll vs) (CycleAll ws) h k fa fb s t = (
+      ap CycleAll (s.0.weights_are ∙ sym t.0.weights_are),
+      s.1 ∙ sym t.1,
+    )
     same_series (CycleAll vs) other h k fa fb s t = absurd t
     same_series other b h k fa fb s t = absurd s
 
   -- ---- what is asked alone
-  same_find : (g : Graph N E) (u v : ℕ) (a b : Answer N E) (h k : Graph N E) → IsStep Compact limit g (request.Find u v) a h → IsStep Compact limit g (request.Find u v) b k → Agree a b h k
+  same_find : (g : Graph N E) (u v : ℕ) (a b : Answer N E) (h k : Graph N E)
+      → IsStep Compact limit g (request.Find u v) a h → IsStep Compact limit g (request.Find u v) b k → Agree a b h k
   same_find g u v (Found e) (Found f) h k s t = (ap Found (s.0 ∙ sym t.0), s.1 ∙ sym t.1)
   same_find g u v (Found e) other h k s t = absurd t
   same_find g u v other b h k s t = absurd s
 
-  same_ends : (g : Graph N E) (e : ℕ) (a b : Answer N E) (h k : Graph N E) → IsStep Compact limit g (request.Ends e) a h → IsStep Compact limit g (request.Ends e) b k → Agree a b h k
+  same_ends : (g : Graph N E) (e : ℕ) (a b : Answer N E) (h k : Graph N E)
+      → IsStep Compact limit g (request.Ends e) a h → IsStep Compact limit g (request.Ends e) b k → Agree a b h k
   same_ends g e (Ends x) (Ends y) h k s t = (ap Ends (s.0 ∙ sym t.0), s.1 ∙ sym t.1)
   same_ends g e (Ends x) other h k s t = absurd t
   same_ends g e other b h k s t = absurd s
 
   same_children : (g : Graph N E) (n : ℕ) (a b : Answer N E) (h k : Graph N E) → FindsMemory a → FindsMemory b
-      → IsStep Compact limit g (request.Children n) a h → IsStep Compact limit g (request.Children n) b k → Agree a b h k
+      → IsStep Compact limit g (request.Children n) a h → IsStep Compact limit g (request.Children n) b k
+      → Agree a b h k
   same_children g n (Memory w) b h k fa fb s t = absurd fa
   same_children g n (Walk xs) (Memory w) h k fa fb s t = absurd fb
   same_children g n (Walk xs) (Walk ys) h k fa fb s t = (ap Walk (s.0 ∙ sym t.0), s.1 ∙ sym t.1)
@@ -225,24 +276,29 @@ module _ {N E : Type 0} (limit : ℕ) where
   same_parents g n (Walk xs) other h k fa fb s t = absurd t
   same_parents g n other b h k fa fb s t = absurd s
 
-  same_clear_edges : (g : Graph N E) (a b : Answer N E) (h k : Graph N E) → IsStep Compact limit g request.ClearEdges a h → IsStep Compact limit g request.ClearEdges b k → Agree a b h k
+  same_clear_edges : (g : Graph N E) (a b : Answer N E) (h k : Graph N E)
+      → IsStep Compact limit g request.ClearEdges a h → IsStep Compact limit g request.ClearEdges b k → Agree a b h k
   same_clear_edges g Done Done h k s t = (refl, s ∙ sym t)
   same_clear_edges g Done other h k s t = absurd t
   same_clear_edges g other b h k s t = absurd s
 
-  same_clear : (g : Graph N E) (a b : Answer N E) (h k : Graph N E) → IsStep Compact limit g request.Clear a h → IsStep Compact limit g request.Clear b k → Agree a b h k
+  same_clear : (g : Graph N E) (a b : Answer N E) (h k : Graph N E)
+      → IsStep Compact limit g request.Clear a h → IsStep Compact limit g request.Clear b k → Agree a b h k
   same_clear g Done Done h k s t = (refl, s ∙ sym t)
   same_clear g Done other h k s t = absurd t
   same_clear g other b h k s t = absurd s
 
   -- ---- a step, and a run
-  same_step : (g : Graph N E) (q : Request N E) (a b : Answer N E) (h k : Graph N E) → IsForBothKinds q → FindsMemory a → FindsMemory b
+  same_step : (g : Graph N E) (q : Request N E) (a b : Answer N E) (h k : Graph N E)
+      → IsForBothKinds q → FindsMemory a → FindsMemory b
       → IsStep Compact limit g q a h → IsStep Compact limit g q b k → Agree a b h k
   same_step g (request.Node weight) a b h k both fa fb s t = same_node g weight a b h k fa fb s t
   same_step g (request.Edge x) a b h k both fa fb s t = same_edge g x a b h k fa fb s t
   same_step g (request.Update x) a b h k both fa fb s t = same_update g (find_edge g x.0 x.1) x a b h k fa fb s t
-  same_step g (request.Child n edge node) a b h k both fa fb s t = same_neighbor Outgoing g n edge node a b h k fa fb s t
-  same_step g (request.Parent n edge node) a b h k both fa fb s t = same_neighbor Incoming g n edge node a b h k fa fb s t
+  same_step g (request.Child n edge node) a b h k both fa fb s t =
+      same_neighbor Outgoing g n edge node a b h k fa fb s t
+  same_step g (request.Parent n edge node) a b h k both fa fb s t =
+      same_neighbor Incoming g n edge node a b h k fa fb s t
   same_step g (request.Edges edges) a b h k both fa fb s t = same_series g edges a b h k fa fb s t
   same_step g (request.Find u v) a b h k both fa fb s t = same_find g u v a b h k s t
   same_step g (request.Ends e) a b h k both fa fb s t = same_ends g e a b h k s t
@@ -256,7 +312,8 @@ module _ {N E : Type 0} (limit : ℕ) where
 
   pub same_run : (g : Graph N E) (requests : List (Request N E)) (answers others : List (Answer N E)) (h k : Graph N E)
       → AllByRecursion IsForBothKinds requests → AllByRecursion FindsMemory answers → AllByRecursion FindsMemory others
-      → IsRun Compact limit g requests answers h → IsRun Compact limit g requests others k → (others ≡ answers) × (k ≡ h)
+      → IsRun Compact limit g requests answers h → IsRun Compact limit g requests others k
+      → (others ≡ answers) × (k ≡ h)
   same_run g [] [] [] h k both fa fb s t = (refl, t ∙ sym s)
   same_run g (q ∷ requests) (a ∷ answers) (b ∷ others) h k both fa fb s t =
       let here = same_step g q b a t.0 s.0 both.0 fb.0 fa.0 t.1 s.1 in
@@ -269,10 +326,13 @@ module _ {N E : Type 0} (limit : ℕ) where
   same_run g (q ∷ requests) (a ∷ answers) [] h k both fa fb s t = absurd t
 
   -- what a run of a kind says, where memory is found, is what the compact kind says
-  pub as_compact : (kind : Kind) (g : Graph N E) (requests : List (Request N E)) (answers : List (Answer N E)) (h : Graph N E) → IsRun kind limit g requests answers h → IsAsCompact limit g requests answers h
+  pub as_compact : (kind : Kind) (g : Graph N E) (requests : List (Request N E)) (answers : List (Answer N E))
+      (h : Graph N E)
+      → IsRun kind limit g requests answers h → IsAsCompact limit g requests answers h
   as_compact kind g requests answers h run both found =
       let compact = compact_run kind limit g h requests answers both run in
       record {
         run = compact;
-        only = λ others end other_run other_found. same_run g requests answers others h end both found other_found compact other_run;
+        only = λ others end other_run other_found.
+            same_run g requests answers others h end both found other_found compact other_run;
       }

@@ -1,5 +1,6 @@
 -- Levels, stages by levels and the chain back through them make a plan, and none is shorter.
-use Rattle.std.proofs.Common.{◌≡◌, ◌≢◌, ℕ, zero, suc, ◌+◌, ◌-◌, ◌<◌, ◌≤◌, ◌⊎◌, inl, inr, List, [], ◌∷◌, ◌++◌, length, slice_index, slice_index_or, Contains, refl, sym, ap, subst, ◌∙◌, arith}
+use Rattle.std.proofs.Common.{◌≡◌, ◌≢◌, ℕ, zero, suc, ◌+◌, ◌-◌, ◌<◌, ◌≤◌, ◌⊎◌, inl, inr, List, [], ◌∷◌, ◌++◌, length}
+use Rattle.std.proofs.Common.{slice_index, slice_index_or, Contains, refl, sym, ap, subst, ◌∙◌, arith}
 use Rattle.std.proofs.lemmas.List.{get_or_past, length-append}
 use Rattle.std.proofs.lemmas.Bool.{cases_lt}
 use Rattle.daggy_base.specs.Graph.{Graph, HasNode, node_bound}
@@ -34,11 +35,16 @@ first_least x xs a m (inr b) = omega (arith, first_less x xs a m b)
 
 pub first_lowest : (xs : List ℕ) → xs ≢ [] → IsAscending xs → IsLowest (Contains xs) (slice_index xs 0)
 first_lowest [] some a = absurd (some refl)
-first_lowest (x ∷ xs) some a = record { here = Contains-here x xs; least = λ m h. first_least x xs a m (contains_mem (x ∷ xs) m h) }
+first_lowest (x ∷ xs) some a = record {
+  here = Contains-here x xs;
+  least = λ m h. first_least x xs a m (contains_mem (x ∷ xs) m h);
+}
 
 -- a path from its nodes
-path_of : {N E : Type 0} (g : Graph N E) (x : ℕ) (cs : List ℕ) → ((k : ℕ) → k < length (x ∷ cs) → HasNode g (slice_index (x ∷ cs) k))
-    → ((k : ℕ) → suc k < length (x ∷ cs) → AreJoined g (slice_index (x ∷ cs) k) (slice_index (x ∷ cs) (suc k))) → IsPath g (x ∷ cs)
+path_of : {N E : Type 0} (g : Graph N E) (x : ℕ) (cs : List ℕ)
+    → ((k : ℕ) → k < length (x ∷ cs) → HasNode g (slice_index (x ∷ cs) k))
+    → ((k : ℕ) → suc k < length (x ∷ cs) → AreJoined g (slice_index (x ∷ cs) k) (slice_index (x ∷ cs) (suc k)))
+    → IsPath g (x ∷ cs)
 path_of g x [] exists joined = exists zero (omega arith)
 path_of g x (y ∷ cs) exists joined = (
   exists zero (omega arith),
@@ -54,11 +60,14 @@ stands_within : (stages : List (List ℕ)) (k n : ℕ) → StandsIn stages k n �
 stands_within stages k n h =
     elim (cases_lt k (length stages)) [
       | inl low ↦ low
-      | inr high ↦ (let P : List ℕ → Type 0 = λ z. Contains z n in absurd (Contains-nil n (subst P (get_or_past stages k [] high) h)))
+      | inr high ↦
+          (let P : List ℕ → Type 0 = λ z. Contains z n in
+          absurd (Contains-nil n (subst P (get_or_past stages k [] high) h)))
     ]
 
 -- a path goes from stage to stage
-later_on : {N E : Type 0} (g : Graph N E) (stages : List (List ℕ)) → IsPlan g stages → (x : ℕ) (cs : List ℕ) → IsPath g (x ∷ cs) → (j : ℕ) → StandsIn stages j x
+later_on : {N E : Type 0} (g : Graph N E) (stages : List (List ℕ))
+    → IsPlan g stages → (x : ℕ) (cs : List ℕ) → IsPath g (x ∷ cs) → (j : ℕ) → StandsIn stages j x
     → (k : ℕ) × StandsIn stages k (end_of x cs) × (j + length cs ≤ k)
 later_on g stages o x [] p j a = (j, a, omega arith)
 later_on g stages o x (y ∷ cs) p j a =
@@ -66,8 +75,10 @@ later_on g stages o x (y ∷ cs) p j a =
     let far = later_on g stages o y cs p.2 next.0 next.1 in
     (far.0, far.1, omega (arith, far.2, o.later x y j next.0 p.1 a next.1))
 
-module _ {N E : Type 0} (end : ℕ) (g : Graph N E) (w : IsWellFormed end g) (levels parents : List ℕ) (most : ℕ) (f : AreLevels (AreJoined g) most levels parents) where
-  level_path : (k v : ℕ) → HasNode g v → slice_index levels v ≡ k → (u : ℕ) × (rest : List ℕ) × IsPath g (u ∷ rest) × (end_of u rest ≡ v) × (length rest ≡ k)
+module _ {N E : Type 0} (end : ℕ) (g : Graph N E) (w : IsWellFormed end g) (levels parents : List ℕ) (most : ℕ)
+    (f : AreLevels (AreJoined g) most levels parents) where
+  level_path : (k v : ℕ) → HasNode g v → slice_index levels v ≡ k
+      → (u : ℕ) × (rest : List ℕ) × IsPath g (u ∷ rest) × (end_of u rest ≡ v) × (length rest ≡ k)
   level_path zero v exists is = (v, [], exists, refl, refl)
   level_path (suc k) v exists is =
       let low = f.noted v (omega arith) in
@@ -77,7 +88,8 @@ module _ {N E : Type 0} (end : ℕ) (g : Graph N E) (w : IsWellFormed end g) (le
       let more = path_more g before.0 before.1 p v before.2 before.3 j exists in
       (before.0, before.1 ++ v ∷ [], more.0, more.1, omega (arith, before.4, length-append before.1 (v ∷ [])))
 
-  rises : (u : ℕ) (rest : List ℕ) → IsPath g (u ∷ rest) → slice_index levels u + length rest ≤ slice_index levels (end_of u rest)
+  rises : (u : ℕ) (rest : List ℕ)
+      → IsPath g (u ∷ rest) → slice_index levels u + length rest ≤ slice_index levels (end_of u rest)
   rises u [] p = omega arith
   rises u (v ∷ rest) p = omega (arith, f.above u v p.1, rises v rest p.2)
 
@@ -96,7 +108,8 @@ module _ {N E : Type 0} (end : ℕ) (g : Graph N E) (w : IsWellFormed end g) (le
       let j = low.here.0 in
       down d (slice_index parents v) k (w.parents j.0 _ j.2) (omega (arith, low.here.1))
 
-  module _ (bound : ℕ) (whole : bound ≡ node_bound g) (stages : List (List ℕ)) (s : AreStaged g levels bound stages) where
+  module _ (bound : ℕ) (whole : bound ≡ node_bound g) (stages : List (List ℕ))
+      (s : AreStaged g levels bound stages) where
     stands : (n k : ℕ) → HasNode g n → slice_index levels n ≡ k → StandsIn stages k n
     stands n k exists is = (s.exact k n).1 (omega (arith, below_bound g.nodes n exists), exists, is)
 
@@ -106,7 +119,8 @@ module _ {N E : Type 0} (end : ℕ) (g : Graph N E) (w : IsWellFormed end g) (le
           exact = λ n. (λ h. (slice_index levels n, stands n _ h refl), λ p. let q = (s.exact p.0 n).0 p.1 in q.1);
           once = λ n j k a b. let p = (s.exact j n).0 a in let q = (s.exact k n).0 b in sym p.2 ∙ q.2;
           distinct = λ k. ascending_distinct (slice_index_or stages k []) (s.ascending k);
-          later = λ u v j k joined a b. let p = (s.exact j u).0 a in let q = (s.exact k v).0 b in omega (arith, f.above u v joined, p.2, q.2);
+          later = λ u v j k joined a b. let p = (s.exact j u).0 a in
+              let q = (s.exact k v).0 b in omega (arith, f.above u v joined, p.2, q.2);
         }
 
     full : (k : ℕ) → k < length stages → slice_index_or stages k [] ≢ []
@@ -119,7 +133,8 @@ module _ {N E : Type 0} (end : ℕ) (g : Graph N E) (w : IsWellFormed end g) (le
     pub by_levels : IsByLevels g stages
     by_levels =
         record {
-          levels = λ n k a. let p = (s.exact k n).0 a in let P : ℕ → Type 0 = λ z. IsLevel g n z in subst P p.2 (level_is n p.1);
+          levels = λ n k a. let p = (s.exact k n).0 a in
+              let P : ℕ → Type 0 = λ z. IsLevel g n z in subst P p.2 (level_is n p.1);
           full = full;
           ascending = s.ascending;
         }
@@ -162,7 +177,8 @@ module _ {N E : Type 0} (end : ℕ) (g : Graph N E) (w : IsWellFormed end g) (le
       chain_stands : (k : ℕ) → k < length stages → StandsIn stages k (slice_index chain k)
       chain_stands k low = on (length stages - suc k) k (omega arith)
 
-      chain_parents : (k : ℕ) → k + 1 < length stages → IsLowest (λ n. StandsIn stages k n × AreJoined g n (slice_index chain (k + 1))) (slice_index chain k)
+      chain_parents : (k : ℕ) → k + 1 < length stages
+          → IsLowest (λ n. StandsIn stages k n × AreJoined g n (slice_index chain (k + 1))) (slice_index chain k)
       chain_parents k low = before k low (chain_stands (k + 1) low)
 
       whole_path : (cs : List ℕ) → chain ≡ cs → (cs ≡ []) ⊎ IsPath g cs
@@ -181,7 +197,8 @@ module _ {N E : Type 0} (end : ℕ) (g : Graph N E) (w : IsWellFormed end g) (le
       pub is_chain : IsChain g stages chain
       is_chain = record { as_long = b.as_long; path = whole_path chain refl; last = last_is; parents = chain_parents }
 
-      shortest_by : (cs : List ℕ) → chain ≡ cs → (cs ≡ []) ⊎ IsPath g cs → (others : List (List ℕ)) → IsPlan g others → length stages ≤ length others
+      shortest_by : (cs : List ℕ) → chain ≡ cs → (cs ≡ []) ⊎ IsPath g cs → (others : List (List ℕ)) → IsPlan g others
+          → length stages ≤ length others
       shortest_by [] is p others o = omega (arith, b.as_long, ap length is)
       shortest_by (x ∷ cs) is (inl none) others o = absurd (omega (arith, ap length none))
       shortest_by (x ∷ cs) is (inr p) others o =
@@ -199,20 +216,24 @@ pub record Planned {N E : Type 0} (g : Graph N E) (stages : List (List ℕ)) (ch
   pub path : IsChain g stages chain
   pub shortest : IsShortest g stages
 
-module _ {N E : Type 0} (end : ℕ) (g : Graph N E) (w : IsWellFormed end g) (levels parents levels' : List ℕ) (found : (most : ℕ) × AreLevels (AreJoined g) most levels parents) (same_levels : levels' ≡ levels)
-    (stages stages' : List (List ℕ)) (same_stages : stages' ≡ stages) (staged : AreStaged g levels' (node_bound g) stages) where
+module _ {N E : Type 0} (end : ℕ) (g : Graph N E) (w : IsWellFormed end g) (levels parents levels' : List ℕ)
+    (found : (most : ℕ) × AreLevels (AreJoined g) most levels parents) (same_levels : levels' ≡ levels)
+    (stages stages' : List (List ℕ)) (same_stages : stages' ≡ stages)
+    (staged : AreStaged g levels' (node_bound g) stages) where
   by_found : AreStaged g levels (node_bound g) stages
   by_found = subst (λ (z : List ℕ). AreStaged g z (node_bound g) stages) same_levels staged
 
   pub last_some : (k : ℕ) → k + 1 ≡ length stages' → slice_index_or stages' k [] ≢ []
   last_some k last =
       let P : List (List ℕ) → Type 0 = λ z. slice_index_or z k [] ≢ [] in
-      subst P (sym same_stages) (last_full end g w levels parents found.0 found.1 (node_bound g) refl stages by_found k (omega (arith, ap length same_stages)))
+      subst P (sym same_stages) (last_full end g w levels parents found.0 found.1 (node_bound g) refl stages by_found k
+      (omega (arith, ap length same_stages)))
 
   pub last_within : (k : ℕ) → k + 1 ≡ length stages' → slice_index (slice_index_or stages' k []) 0 < node_bound g
   last_within k last =
       let P : List (List ℕ) → Type 0 = λ z. slice_index (slice_index_or z k []) 0 < node_bound g in
-      subst P (sym same_stages) (last_low end g w levels parents found.0 found.1 (node_bound g) refl stages by_found k (omega (arith, ap length same_stages)))
+      subst P (sym same_stages) (last_low end g w levels parents found.0 found.1 (node_bound g) refl stages by_found k
+      (omega (arith, ap length same_stages)))
 
   pub planned : (parents' chain : List ℕ) → parents' ≡ parents → IsBack parents' stages' chain → Planned g stages chain
   planned parents' chain same_parents back =

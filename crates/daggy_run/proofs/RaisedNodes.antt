@@ -1,5 +1,7 @@
 -- Nodes put above their parents, one edge after the other.
-use Rattle.std.proofs.Common.{◌≡◌, ◌≢◌, ℕ, zero, suc, ◌+◌, ◌-◌, ◌<◌, ◌≤◌, ◌^◌, ◌⊎◌, inl, inr, List, [], ◌∷◌, ◌++◌, length, take, drop, set, slice_index, Contains, replicate, Some, refl, sym, ap, subst, ◌∙◌, append_assoc, arith}
+use Rattle.std.proofs.Common.{◌≡◌, ◌≢◌, ℕ, zero, suc, ◌+◌, ◌-◌, ◌<◌, ◌≤◌, ◌^◌, ◌⊎◌, inl, inr, List, [], ◌∷◌, ◌++◌}
+use Rattle.std.proofs.Common.{length, take, drop, set, slice_index, Contains, replicate, Some, refl, sym, ap, subst}
+use Rattle.std.proofs.Common.{◌∙◌, append_assoc, arith}
 use Rattle.std.proofs.lemmas.List.{get_or-set_same, get_or-set_other, length-set, length-append, take_all}
 use Rattle.std.proofs.lemmas.Bool.{cases_eq}
 use Rattle.daggy_base.specs.Graph.{Graph, HasNode, edge_at, out_list, node_bound}
@@ -8,8 +10,10 @@ use Rattle.daggy_base.specs.Cursor.{first_of, item_at, cursor_after}
 use Rattle.daggy_base.specs.declared.index.Direction.TheVariants.{Outgoing}
 use Rattle.daggy_base.specs.Look.{IsLook}
 use Rattle.daggy_base.specs.WellFormed.{IsWellFormed}
-use Rattle.daggy_base.proofs.Lists.{Mem, mem_cases, mem_contains, contains_mem, unique_from_distinct, unique_right, mem_mid, Contains-there, Contains-cases, Contains-nil}
-use Rattle.daggy_base.proofs.OutEdgesRead.{LookedTo, read_part, all_read, next_cursor, looked_more, child_joined, child_exists, below_bound}
+use Rattle.daggy_base.proofs.Lists.{Mem, mem_cases, mem_contains, contains_mem, unique_from_distinct, unique_right}
+use Rattle.daggy_base.proofs.Lists.{mem_mid, Contains-there, Contains-cases, Contains-nil}
+use Rattle.daggy_base.proofs.OutEdgesRead.{LookedTo, read_part, all_read, next_cursor, looked_more, child_joined}
+use Rattle.daggy_base.proofs.OutEdgesRead.{child_exists, below_bound}
 use Rattle.daggy_dag.specs.Walks.{rest_of_walk}
 use Rattle.daggy_dag.proofs.WalkSteps.{step_gives}
 use Rattle.daggy_order.specs.Ordered.{IsOrderOf, place}
@@ -31,24 +35,43 @@ record Child (pairs : ℕ → ℕ → Type 0) (most level c : ℕ) (old levels p
   few : slice_index levels c ≤ most
   noted : IsLowest (λ u. pairs u c × (slice_index levels u + 1 ≡ slice_index levels c)) (slice_index parents c)
 
-module _ (R R' : ℕ → ℕ → Type 0) (n c : ℕ) (keeps : (u v : ℕ) → R u v → R' u v) (here : R' n c) (cases : (u v : ℕ) → R' u v → R u v ⊎ ((u ≡ n) × (v ≡ c))) (leaf : (v : ℕ) → R' c v → ⊥) where
+module _ (R R' : ℕ → ℕ → Type 0) (n c : ℕ) (keeps : (u v : ℕ) → R u v → R' u v) (here : R' n c)
+    (cases : (u v : ℕ) → R' u v → R u v ⊎ ((u ≡ n) × (v ≡ c))) (leaf : (v : ℕ) → R' c v → ⊥) where
   no_parent : (u v : ℕ) → R' u v → u ≡ c → ⊥
   no_parent u v r e = leaf v (subst (λ (z : ℕ). R' z v) e r)
 
   module _ (most level : ℕ) (levels parents levels' parents' : List ℕ) (f : Found R most level n levels parents)
-      (same_levels : (v : ℕ) → (v ≡ c → ⊥) → slice_index levels' v ≡ slice_index levels v) (same_parents : (v : ℕ) → (v ≡ c → ⊥) → slice_index parents' v ≡ slice_index parents v) where
+      (same_levels : (v : ℕ) → (v ≡ c → ⊥) → slice_index levels' v ≡ slice_index levels v)
+      (same_parents : (v : ℕ) → (v ≡ c → ⊥) → slice_index parents' v ≡ slice_index parents v) where
     module _ (t : Child R' most level c levels levels' parents') where
-      above : (u v : ℕ) → R' u v → R u v ⊎ ((u ≡ n) × (v ≡ c)) → (v ≡ c) ⊎ (v ≡ c → ⊥) → slice_index levels' u < slice_index levels' v
+      above : (u v : ℕ)
+          → R' u v → R u v ⊎ ((u ≡ n) × (v ≡ c)) → (v ≡ c) ⊎ (v ≡ c → ⊥) → slice_index levels' u < slice_index levels' v
       above u v r (inl old) (inl e) =
-          omega (arith, f.found.above u v old, same_levels u (no_parent u v r), t.up, ap (slice_index levels) e, ap (slice_index levels') e)
-      above u v r (inl old) (inr d) = omega (arith, f.found.above u v old, same_levels u (no_parent u v r), same_levels v d)
+          omega (
+            arith,
+            f.found.above u v old,
+            same_levels u (no_parent u v r),
+            t.up,
+            ap (slice_index levels) e,
+            ap (slice_index levels') e,
+          )
+      above u v r (inl old) (inr d) =
+          omega (arith, f.found.above u v old, same_levels u (no_parent u v r), same_levels v d)
       above u v r (inr p) k =
-          omega (arith, f.level_is, t.reach, same_levels u (no_parent u v r), ap (slice_index levels) p.0, ap (slice_index levels') p.1)
+          omega (
+            arith,
+            f.level_is,
+            t.reach,
+            same_levels u (no_parent u v r),
+            ap (slice_index levels) p.0,
+            ap (slice_index levels') p.1,
+          )
 
       noted : (v : ℕ) → 0 < slice_index levels' v → (v ≡ c) ⊎ (v ≡ c → ⊥)
           → IsLowest (λ u. R' u v × (slice_index levels' u + 1 ≡ slice_index levels' v)) (slice_index parents' v)
       noted v high (inl e) =
-          let P : ℕ → Type 0 = λ z. IsLowest (λ u. R' u z × (slice_index levels' u + 1 ≡ slice_index levels' z)) (slice_index parents' z) in
+          let P : ℕ → Type 0 = λ z.
+          IsLowest (λ u. R' u z × (slice_index levels' u + 1 ≡ slice_index levels' z)) (slice_index parents' z) in
           subst P (sym e) t.noted
       noted v high (inr d) =
           let same = same_levels v d in
@@ -80,15 +103,18 @@ module _ (R R' : ℕ → ℕ → Type 0) (n c : ℕ) (keeps : (u v : ℕ) → R 
             low = f.low;
           }
 
-  pub raised_more : (most level : ℕ) (levels parents levels' parents' : List ℕ) → c < length levels → c < length parents → Found R most level n levels parents
+  pub raised_more : (most level : ℕ) (levels parents levels' parents' : List ℕ)
+      → c < length levels → c < length parents → Found R most level n levels parents
       → IsRaised n level c levels parents levels' parents' → Found R' most level n levels' parents'
   raised_more most level levels parents levels' parents' low low_parent f (inl h) =
       let now = set levels c level in
       let at : slice_index now c ≡ level = get_or-set_same levels c level 0 low in
-      let others : (v : ℕ) → (v ≡ c → ⊥) → slice_index now v ≡ slice_index levels v = λ v d. get_or-set_other levels c v level 0 d in
+      let others : (v : ℕ) → (v ≡ c → ⊥) → slice_index now v ≡ slice_index levels v = λ v d.
+      get_or-set_other levels c v level 0 d in
       let is : slice_index (set parents c n) c ≡ n = get_or-set_same parents c n 0 low_parent in
       let P : ℕ → Type 0 = λ z. IsLowest (λ u. R' u c × (slice_index now u + 1 ≡ slice_index now c)) z in
-      rw (h.1, h.2) (together most level levels parents now (set parents c n) f others (λ v d. get_or-set_other parents c v n 0 d) (record {
+      rw (h.1, h.2) (together most level levels parents now (set parents c n) f others
+      (λ v d. get_or-set_other parents c v n 0 d) (record {
         up = omega (arith, h.0);
         reach = omega arith;
         few = omega (arith, f.low);
@@ -104,7 +130,8 @@ module _ (R R' : ℕ → ℕ → Type 0) (n c : ℕ) (keeps : (u v : ℕ) → R 
       let is : slice_index (set parents c n) c ≡ n = get_or-set_same parents c n 0 low_parent in
       let P : ℕ → Type 0 = λ z. IsLowest (λ u. R' u c × (slice_index levels u + 1 ≡ slice_index levels c)) z in
       let old = f.found.noted c (omega (arith, f.level_is, h.0)) in
-      rw (h.2, h.3) (together most level levels parents levels (set parents c n) f (λ v d. refl) (λ v d. get_or-set_other parents c v n 0 d) (record {
+      rw (h.2, h.3) (together most level levels parents levels (set parents c n) f (λ v d. refl)
+      (λ v d. get_or-set_other parents c v n 0 d) (record {
         up = omega arith;
         reach = omega (arith, h.0);
         few = f.found.few c;
@@ -126,13 +153,16 @@ module _ (R R' : ℕ → ℕ → Type 0) (n c : ℕ) (keeps : (u v : ℕ) → R 
           here = (keeps _ c old.here.0, old.here.1);
           least = λ m k. elim (cases m c k.0) [
             | inl r ↦ old.least m (r, k.1)
-            | inr q ↦ (let lower = h.1 (omega (arith, f.level_is, k.1, ap (slice_index levels) q.0)) in omega (arith, lower, q.0))
+            | inr q ↦
+                (let lower = h.1 (omega (arith, f.level_is, k.1, ap (slice_index levels) q.0)) in
+                omega (arith, lower, q.0))
           ];
         };
       }))
 
 -- pairs under another name
-pub same_pairs : (R R' : ℕ → ℕ → Type 0) → ((u v : ℕ) → R u v → R' u v) → ((u v : ℕ) → R' u v → R u v) → (most : ℕ) (levels parents : List ℕ) → AreLevels R most levels parents → AreLevels R' most levels parents
+pub same_pairs : (R R' : ℕ → ℕ → Type 0) → ((u v : ℕ) → R u v → R' u v) → ((u v : ℕ) → R' u v → R u v)
+    → (most : ℕ) (levels parents : List ℕ) → AreLevels R most levels parents → AreLevels R' most levels parents
 same_pairs R R' to from most levels parents f =
     record {
       above = λ u v r. f.above u v (from u v r);
@@ -143,12 +173,14 @@ same_pairs R R' to from most levels parents f =
       few = f.few;
     }
 
-pub more_room : (R : ℕ → ℕ → Type 0) (most : ℕ) (levels parents : List ℕ) → AreLevels R most levels parents → AreLevels R (most + 1) levels parents
+pub more_room : (R : ℕ → ℕ → Type 0) (most : ℕ) (levels parents : List ℕ)
+    → AreLevels R most levels parents → AreLevels R (most + 1) levels parents
 more_room R most levels parents f =
     record { above = f.above; noted = f.noted; few = λ v. omega (arith, f.few v) }
 
 -- how long the lists are, and what the parents are below
-raised_levels : (n level c : ℕ) (levels parents levels' parents' : List ℕ) → IsRaised n level c levels parents levels' parents' → length levels' ≡ length levels
+raised_levels : (n level c : ℕ) (levels parents levels' parents' : List ℕ)
+    → IsRaised n level c levels parents levels' parents' → length levels' ≡ length levels
 raised_levels n level c levels parents levels' parents' (inl h) = ap length h.1 ∙ length-set levels c level
 raised_levels n level c levels parents levels' parents' (inr (inl h)) = ap length h.2
 raised_levels n level c levels parents levels' parents' (inr (inr h)) = ap length h.2
@@ -156,7 +188,8 @@ raised_levels n level c levels parents levels' parents' (inr (inr h)) = ap lengt
 abbrev pub AreInside : List ℕ → Type 0
 AreInside parents = (k : ℕ) → k < length parents → slice_index parents k < length parents
 
-set_inside : (parents : List ℕ) (c n : ℕ) → c < length parents → n < length parents → AreInside parents → AreInside (set parents c n)
+set_inside : (parents : List ℕ) (c n : ℕ)
+    → c < length parents → n < length parents → AreInside parents → AreInside (set parents c n)
 set_inside parents c n low real inside k within =
     let size : length (set parents c n) ≡ length parents = length-set parents c n in
     elim (cases_eq k c) [
@@ -164,10 +197,13 @@ set_inside parents c n low real inside k within =
       | inr d ↦ omega (arith, get_or-set_other parents c k n 0 d, inside k (omega arith))
     ]
 
-raised_parents : (n level c : ℕ) (levels parents levels' parents' : List ℕ) → c < length parents → n < length parents → AreInside parents → IsRaised n level c levels parents levels' parents'
+raised_parents : (n level c : ℕ) (levels parents levels' parents' : List ℕ)
+    → c < length parents → n < length parents → AreInside parents → IsRaised n level c levels parents levels' parents'
     → (length parents' ≡ length parents) × AreInside parents'
-raised_parents n level c levels parents levels' parents' low real inside (inl h) = rw h.2 (length-set parents c n, set_inside parents c n low real inside)
-raised_parents n level c levels parents levels' parents' low real inside (inr (inl h)) = rw h.3 (length-set parents c n, set_inside parents c n low real inside)
+raised_parents n level c levels parents levels' parents' low real inside (inl h) =
+    rw h.2 (length-set parents c n, set_inside parents c n low real inside)
+raised_parents n level c levels parents levels' parents' low real inside (inr (inl h)) =
+    rw h.3 (length-set parents c n, set_inside parents c n low real inside)
 raised_parents n level c levels parents levels' parents' low real inside (inr (inr h)) = rw h.3 (refl, inside)
 
 -- ---- the children of a node, one after the other
@@ -176,21 +212,25 @@ raised_parents n level c levels parents levels' parents' low real inside (inr (i
 abbrev pub Half : {N E : Type 0} → Graph N E → (n : ℕ) (waiting met : List ℕ) → ℕ → ℕ → Type 0
 Half g n waiting met u v = IsPassed g (n ∷ waiting) u v ⊎ ((u ≡ n) × Mem v met)
 
-pub record Raising {N E : Type 0} (end : ℕ) (g : Graph N E) (n level : ℕ) (levels₀ parents₀ levels parents : List ℕ) (e : ℕ) : Type 0 where
+pub record Raising {N E : Type 0} (end : ℕ) (g : Graph N E) (n level : ℕ) (levels₀ parents₀ levels parents : List ℕ)
+    (e : ℕ) : Type 0 where
   pub passed : ℕ
   pub met : List ℕ
   pub cursor : e ≡ first_of end (drop passed (out_list g n))
   pub within : passed ≤ length (out_list g n)
   pub looked : LookedTo end g (λ v. Mem v met) n passed
   pub real : (v : ℕ) → Mem v met → AreJoined g n v
-  pub found : (waiting : List ℕ) (most : ℕ) → IsNext g n waiting → AreLevels (IsPassed g (n ∷ waiting)) most levels₀ parents₀
+  pub found : (waiting : List ℕ) (most : ℕ)
+      → IsNext g n waiting → AreLevels (IsPassed g (n ∷ waiting)) most levels₀ parents₀
       → Found (Half g n waiting met) (most + 1) level n levels parents
   pub levels_fit : length levels ≡ node_bound g
   pub parents_fit : length parents ≡ node_bound g
   pub inside : AreInside parents
 
-module _ {N E : Type 0} (end : ℕ) (g : Graph N E) (w : IsWellFormed end g) (n level : ℕ) (exists : HasNode g n) (levels₀ parents₀ : List ℕ) where
-  pub raising_starts : (e : ℕ) → e ≡ first_of end (out_list g n) → level ≡ slice_index levels₀ n + 1 → length levels₀ ≡ node_bound g → length parents₀ ≡ node_bound g → AreInside parents₀
+module _ {N E : Type 0} (end : ℕ) (g : Graph N E) (w : IsWellFormed end g) (n level : ℕ) (exists : HasNode g n)
+    (levels₀ parents₀ : List ℕ) where
+  pub raising_starts : (e : ℕ) → e ≡ first_of end (out_list g n) → level ≡ slice_index levels₀ n + 1
+      → length levels₀ ≡ node_bound g → length parents₀ ≡ node_bound g → AreInside parents₀
       → Raising end g n level levels₀ parents₀ levels₀ parents₀ e
   raising_starts e first is levels_fit parents_fit inside =
       record {
@@ -201,7 +241,11 @@ module _ {N E : Type 0} (end : ℕ) (g : Graph N E) (w : IsWellFormed end g) (n 
         looked = λ j x lt a. absurd (omega arith);
         real = λ v m. absurd m;
         found = λ waiting most next before. record {
-          found = more_room _ most levels₀ parents₀ (same_pairs _ (Half g n waiting []) (λ u v r. inl r) (λ u v r. elim r [ inl p ↦ p | inr q ↦ absurd q.1 ]) most levels₀ parents₀ before);
+          found =
+              more_room _ most levels₀ parents₀ (same_pairs _ (Half g n waiting []) (λ u v r. inl r) (λ u v r. elim r [
+                | inl p ↦ p
+                | inr q ↦ absurd q.1
+              ]) most levels₀ parents₀ before);
           level_is = is;
           low = omega (arith, before.few n);
         };
@@ -214,13 +258,16 @@ module _ {N E : Type 0} (end : ℕ) (g : Graph N E) (w : IsWellFormed end g) (n 
     pub child_low : e ≢ end → (v next : ℕ) → IsLook end g e v next → v < node_bound g
     child_low here v next look = below_bound g.nodes v (child_exists end g w n s.passed e s.cursor here v next look)
 
-    pub raising_on : e ≢ end → (v next : ℕ) → IsLook end g e v next → (levels' parents' : List ℕ) → IsRaised n level v levels parents levels' parents'
+    pub raising_on : e ≢ end → (v next : ℕ) → IsLook end g e v next
+        → (levels' parents' : List ℕ) → IsRaised n level v levels parents levels' parents'
         → Raising end g n level levels₀ parents₀ levels' parents' next
     raising_on here v next look levels' parents' raised =
         let joined : AreJoined g n v = child_joined end g w n s.passed e s.cursor here v next look in
         let low = child_low here v next look in
         let low_n : n < node_bound g = below_bound g.nodes n exists in
-        let sizes = raised_parents n level v levels parents levels' parents' (omega (arith, s.parents_fit)) (omega (arith, s.parents_fit)) s.inside raised in
+        let sizes =
+        raised_parents n level v levels parents levels' parents' (omega (arith, s.parents_fit))
+        (omega (arith, s.parents_fit)) s.inside raised in
         let P : ℕ → Type 0 = λ z. Mem z (v ∷ s.met) in
         let Q : ℕ → Type 0 = λ z. AreJoined g n z in
         record {
@@ -228,10 +275,13 @@ module _ {N E : Type 0} (end : ℕ) (g : Graph N E) (w : IsWellFormed end g) (n 
           met = v ∷ s.met;
           cursor = next_cursor end g w n s.passed e s.cursor here v next look;
           within = (let r = read_part end g w n s.passed e s.cursor here in omega (arith, r.0));
-          looked = looked_more end g w n s.passed e s.cursor here v next look P (λ j x lt a. inr (s.looked j x lt a)) (inl refl);
+          looked =
+              looked_more end g w n s.passed e s.cursor here v next look P
+              (λ j x lt a. inr (s.looked j x lt a)) (inl refl);
           real = λ z m. elim m [ inl q ↦ subst Q (sym q) joined | inr b ↦ s.real z b ];
           found = λ waiting most nx before.
-              raised_more (Half g n waiting s.met) (Half g n waiting (v ∷ s.met)) n v (λ a b r. elim r [ inl p ↦ inl p | inr q ↦ inr (q.0, inr q.1) ]) (inr (refl, inl refl))
+              raised_more (Half g n waiting s.met) (Half g n waiting (v ∷ s.met)) n v
+              (λ a b r. elim r [ inl p ↦ inl p | inr q ↦ inr (q.0, inr q.1) ]) (inr (refl, inl refl))
               (λ a b r. elim r [
                 | inl p ↦ inl (inl p)
                 | inr q ↦ elim q.1 [ inl k ↦ inr (q.0, k) | inr m ↦ inl (inr (q.0, m)) ]
@@ -241,18 +291,21 @@ module _ {N E : Type 0} (end : ℕ) (g : Graph N E) (w : IsWellFormed end g) (n 
                 | inl p ↦ p.1 (Contains-there n v waiting waits)
                 | inr q ↦ nx.once (let W : ℕ → Type 0 = λ z. Contains waiting z in subst W q.0 waits)
               ])
-              (most + 1) level levels parents levels' parents' (omega (arith, s.levels_fit)) (omega (arith, s.parents_fit)) (s.found waiting most nx before) raised;
+              (most + 1) level levels parents levels' parents' (omega (arith, s.levels_fit))
+              (omega (arith, s.parents_fit)) (s.found waiting most nx before) raised;
           levels_fit = raised_levels n level v levels parents levels' parents' raised ∙ s.levels_fit;
           parents_fit = sizes.0 ∙ s.parents_fit;
           inside = sizes.1;
         }
 
-    pub raising_ends : e ≡ end → (waiting : List ℕ) (most : ℕ) → IsNext g n waiting → AreLevels (IsPassed g (n ∷ waiting)) most levels₀ parents₀
+    pub raising_ends : e ≡ end → (waiting : List ℕ) (most : ℕ) → IsNext g n waiting
+        → AreLevels (IsPassed g (n ∷ waiting)) most levels₀ parents₀
         → AreLevels (IsPassed g waiting) (most + 1) levels parents
     raising_ends at waiting most nx before =
         let f = s.found waiting most nx before in
         let P : ℕ → Type 0 = λ z. Mem z s.met in
-        let all : (v : ℕ) → AreJoined g n v → Mem v s.met = all_read end g w n s.passed e s.cursor s.within at P s.looked in
+        let all : (v : ℕ) → AreJoined g n v → Mem v s.met =
+        all_read end g w n s.passed e s.cursor s.within at P s.looked in
         same_pairs (Half g n waiting s.met) (IsPassed g waiting) (λ u v r. elim r [
           | inl p ↦ (p.0, λ k. p.1 (Contains-there n u waiting k))
           | inr q ↦ (
@@ -265,9 +318,11 @@ module _ {N E : Type 0} (end : ℕ) (g : Graph N E) (w : IsWellFormed end g) (n 
         ]) (most + 1) levels parents f.found
 
 -- a look at an edge is a step of a walk, which leaves fewer edges
-pub fewer_left : {N E : Type 0} (end : ℕ) (g : Graph N E) → IsWellFormed end g → (e v next : ℕ) → IsLook end g e v next → length (rest_of_walk Outgoing g next) < length (rest_of_walk Outgoing g e)
+pub fewer_left : {N E : Type 0} (end : ℕ) (g : Graph N E) → IsWellFormed end g → (e v next : ℕ) → IsLook end g e v next
+    → length (rest_of_walk Outgoing g next) < length (rest_of_walk Outgoing g e)
 fewer_left {N} {E} end g w e v next look =
-    let item_is : Some (e, v) ≡ item_at Outgoing g e (edge_at g e) = rw look.at (ap (λ (z : ℕ). Some (e, z)) look.child_is) in
+    let item_is : Some (e, v) ≡ item_at Outgoing g e (edge_at g e) =
+    rw look.at (ap (λ (z : ℕ). Some (e, z)) look.child_is) in
     let next_is : next ≡ cursor_after Outgoing end g e (edge_at g e) = rw look.at look.next_is in
     let step = step_gives end g w Outgoing e (Some (e, v)) next (record { item_is = item_is; next_is = next_is }) in
     omega (arith, ap length step)
@@ -289,13 +344,15 @@ pub zeros_inside : (k : ℕ) → AreInside (replicate k 0)
 zeros_inside k v low = omega (arith, zeros k v)
 
 -- what a list is resized to that was empty
-pub resized : {A : Type 0} (new old : List A) (k len : ℕ) (x : A) → old ≡ [] → len ≡ 0 → new ≡ take k old ++ replicate (k - len) x → new ≡ replicate k x
+pub resized : {A : Type 0} (new old : List A) (k len : ℕ) (x : A)
+    → old ≡ [] → len ≡ 0 → new ≡ take k old ++ replicate (k - len) x → new ≡ replicate k x
 resized {A} new old k len x none empty is =
     let nothing : take k old ≡ [] = take_all k old (omega (arith, ap length none)) ∙ none in
     let size : k - len ≡ k = omega arith in
     is ∙ (ap (λ (z : List A). z ++ replicate (k - len) x) nothing ∙ ap (λ (n : ℕ). replicate n x) size)
 
-pub leveling_starts : {N E : Type 0} (end : ℕ) (g : Graph N E) → IsWellFormed end g → (order parents : List ℕ) (k : ℕ) → IsOrderOf g order → length order < 2 ^ 64 → Leveling g (replicate k 0) parents order
+pub leveling_starts : {N E : Type 0} (end : ℕ) (g : Graph N E) → IsWellFormed end g → (order parents : List ℕ) (k : ℕ)
+    → IsOrderOf g order → length order < 2 ^ 64 → Leveling g (replicate k 0) parents order
 leveling_starts end g w order parents k ordered fits =
     record {
       done = [];
@@ -308,7 +365,8 @@ leveling_starts end g w order parents k ordered fits =
       };
     }
 
-module _ {N E : Type 0} (end : ℕ) (g : Graph N E) (w : IsWellFormed end g) (levels parents waiting : List ℕ) (n : ℕ) (rest : List ℕ) (is : waiting ≡ n ∷ rest) (before : Leveling g levels parents waiting) where
+module _ {N E : Type 0} (end : ℕ) (g : Graph N E) (w : IsWellFormed end g) (levels parents waiting : List ℕ) (n : ℕ)
+    (rest : List ℕ) (is : waiting ≡ n ∷ rest) (before : Leveling g levels parents waiting) where
   s : Leveling g levels parents (n ∷ rest)
   s = subst (λ (z : List ℕ). Leveling g levels parents z) is before
 
@@ -323,7 +381,8 @@ module _ {N E : Type 0} (end : ℕ) (g : Graph N E) (w : IsWellFormed end g) (le
       let once = unique_from_distinct _ s.ordered.once in
       let absent : Mem n s.done → ⊥ = λ m. unique_cross s.done (n ∷ rest) once n m (inl refl) in
       let behind = unique_right s.done (n ∷ rest) once in
-      let at : place (s.done ++ n ∷ rest) n ≡ length s.done + place (n ∷ rest) n = place_right s.done (n ∷ rest) n absent in
+      let at : place (s.done ++ n ∷ rest) n ≡ length s.done + place (n ∷ rest) n =
+      place_right s.done (n ∷ rest) n absent in
       record {
         once = λ k. behind.0 (contains_mem rest n k);
         children = λ v j.
@@ -338,7 +397,9 @@ module _ {N E : Type 0} (end : ℕ) (g : Graph N E) (w : IsWellFormed end g) (le
             ]);
       }
 
-  pub leveling_on : (levels' parents' : List ℕ) → ((waiting : List ℕ) (most : ℕ) → IsNext g n waiting → AreLevels (IsPassed g (n ∷ waiting)) most levels parents → AreLevels (IsPassed g waiting) (most + 1) levels' parents')
+  pub leveling_on : (levels' parents' : List ℕ)
+      → ((waiting : List ℕ) (most : ℕ) → IsNext g n waiting → AreLevels (IsPassed g (n ∷ waiting)) most levels parents
+      → AreLevels (IsPassed g waiting) (most + 1) levels' parents')
       → Leveling g levels' parents' rest
   leveling_on levels' parents' raised =
       let same : (s.done ++ n ∷ []) ++ rest ≡ s.done ++ n ∷ rest = append_assoc s.done (n ∷ []) rest in
@@ -352,7 +413,11 @@ module _ {N E : Type 0} (end : ℕ) (g : Graph N E) (w : IsWellFormed end g) (le
         found = subst Q more (raised rest (length s.done) is_next s.found);
       }
 
-pub leveling_ends : {N E : Type 0} (g : Graph N E) (levels parents waiting : List ℕ) → waiting ≡ [] → Leveling g levels parents waiting → (most : ℕ) × AreLevels (AreJoined g) most levels parents
+pub leveling_ends : {N E : Type 0} (g : Graph N E) (levels parents waiting : List ℕ)
+    → waiting ≡ [] → Leveling g levels parents waiting → (most : ℕ) × AreLevels (AreJoined g) most levels parents
 leveling_ends g levels parents waiting none before =
-    let s : Leveling g levels parents [] = subst (λ (z : List ℕ). Leveling g levels parents z) none before in
-    (length s.done, same_pairs (IsPassed g []) (AreJoined g) (λ u v p. p.0) (λ u v j. (j, λ k. Contains-nil u k)) (length s.done) levels parents s.found)
+    let s : Leveling g levels parents [] = subst (λ (z : List ℕ). Leveling g levels parents z) none before in (
+      length s.done,
+      same_pairs (IsPassed g []) (AreJoined g) (λ u v p. p.0) (λ u v j. (j, λ k. Contains-nil u k)) (length s.done)
+          levels parents s.found,
+    )

@@ -1,17 +1,21 @@
 -- A run goes on by one step, and a run of either kind is one of the compact kind.
-use Rattle.std.proofs.Common.{◌≡◌, ℕ, List, [], ◌∷◌, ◌++◌, map, Result, Ok, Err, OnOk, is_err, false, refl, sym, ap, subst, ◌∙◌, rules}
+use Rattle.std.proofs.Common.{◌≡◌, ℕ, List, [], ◌∷◌, ◌++◌, map, Result, Ok, Err, OnOk, is_err, false, refl, sym, ap}
+use Rattle.std.proofs.Common.{subst, ◌∙◌, rules}
 use Rattle.std.specs.List.{AllByRecursion}
 use Rattle.std.proofs.lemmas.List.{map-append, map-id}
 use Rattle.daggy_base.specs.Graph.{Graph}
 use Rattle.daggy_base.specs.Removal.{Kind, Compact}
-use Rattle.daggy_run.specs.Requests.{Request, Node, Edge, Update, Child, Parent, Edges, Find, Ends, RemoveNode, RemoveEdge, Children, Parents, ClearEdges, Clear, Reduce}
+use Rattle.daggy_run.specs.Requests.{Request, Node, Edge, Update, Child, Parent, Edges, Find, Ends, RemoveNode}
+use Rattle.daggy_run.specs.Requests.{RemoveEdge, Children, Parents, ClearEdges, Clear, Reduce}
 use Rattle.daggy_run.specs.Answers.{Answer}
 use Rattle.daggy_run.specs.Steps.{IsStep}
 use Rattle.daggy_run.specs.Runs.{IsRun, IsForBothKinds}
 
 module _ {N E : Type 0} (kind : Kind) (limit : ℕ) where
-  pub run_more : (old mid new : Graph N E) (requests : List (Request N E)) (answers : List (Answer N E)) (asked : Request N E) (said : Answer N E)
-      → IsRun kind limit old requests answers mid → IsStep kind limit mid asked said new → IsRun kind limit old (requests ++ asked ∷ []) (answers ++ said ∷ []) new
+  pub run_more : (old mid new : Graph N E) (requests : List (Request N E)) (answers : List (Answer N E))
+      (asked : Request N E) (said : Answer N E)
+      → IsRun kind limit old requests answers mid → IsStep kind limit mid asked said new
+      → IsRun kind limit old (requests ++ asked ∷ []) (answers ++ said ∷ []) new
   run_more old mid new [] [] asked said run step =
       let P : Graph N E → Type 0 = λ g. IsStep kind limit g asked said new in (new, subst P run step, refl)
   run_more old mid new (q ∷ requests) (a ∷ answers) asked said run step =
@@ -20,7 +24,8 @@ module _ {N E : Type 0} (kind : Kind) (limit : ℕ) where
   run_more old mid new (q ∷ requests) [] asked said run step = absurd run
 
   -- requests that are for both kinds are answered as by the compact kind
-  compact_step : (old new : Graph N E) (asked : Request N E) (said : Answer N E) → IsForBothKinds asked → IsStep kind limit old asked said new → IsStep Compact limit old asked said new
+  compact_step : (old new : Graph N E) (asked : Request N E) (said : Answer N E)
+      → IsForBothKinds asked → IsStep kind limit old asked said new → IsStep Compact limit old asked said new
   compact_step old new (Node weight) said both step = step
   compact_step old new (Edge x) said both step = step
   compact_step old new (Update x) said both step = step
@@ -37,7 +42,9 @@ module _ {N E : Type 0} (kind : Kind) (limit : ℕ) where
   compact_step old new Clear said both step = step
   compact_step old new (Reduce roots) said both step = absurd both
 
-  pub compact_run : (old new : Graph N E) (requests : List (Request N E)) (answers : List (Answer N E)) → AllByRecursion IsForBothKinds requests → IsRun kind limit old requests answers new → IsRun Compact limit old requests answers new
+  pub compact_run : (old new : Graph N E) (requests : List (Request N E)) (answers : List (Answer N E))
+      → AllByRecursion IsForBothKinds requests → IsRun kind limit old requests answers new
+      → IsRun Compact limit old requests answers new
   compact_run old new [] [] both run = run
   compact_run old new (q ∷ requests) (a ∷ answers) both run =
       (run.0, compact_step old run.0 q a both.0 run.1, compact_run run.0 new requests answers both.1 run.2)
@@ -45,8 +52,10 @@ module _ {N E : Type 0} (kind : Kind) (limit : ℕ) where
   compact_run old new (q ∷ requests) [] both run = absurd run
 
 -- one command more, and its reply
-pub run_on : {N E C R : Type 0} (kind : Kind) (limit : ℕ) (f : C → Request N E) (h : R → Answer N E) (old mid new : Graph N E) (commands : List C) (replies whole : List R) (command : C) (reply : R)
-    → IsRun kind limit old (map f commands) (map h replies) mid → IsStep kind limit mid (f command) (h reply) new → whole ≡ replies ++ reply ∷ []
+pub run_on : {N E C R : Type 0} (kind : Kind) (limit : ℕ) (f : C → Request N E) (h : R → Answer N E)
+    (old mid new : Graph N E) (commands : List C) (replies whole : List R) (command : C) (reply : R)
+    → IsRun kind limit old (map f commands) (map h replies) mid → IsStep kind limit mid (f command) (h reply) new
+    → whole ≡ replies ++ reply ∷ []
     → IsRun kind limit old (map f (commands ++ command ∷ [])) (map h whole) new
 run_on kind limit f h old mid new commands replies whole command reply run step whole_is =
     let more = run_more kind limit old mid new (map f commands) (map h replies) (f command) (h reply) run step in
@@ -60,11 +69,14 @@ unless_err (Ok x) holds none = search rules
 unless_err (Err e) holds none = absurd cc
 
 -- nothing was asked yet
-pub run_begins : {N E R : Type 0} (kind : Kind) (limit : ℕ) (h : R → Answer N E) (old : Graph N E) (replies : List R) → replies ≡ [] → IsRun kind limit old [] (map h replies) old
+pub run_begins : {N E R : Type 0} (kind : Kind) (limit : ℕ) (h : R → Answer N E) (old : Graph N E) (replies : List R)
+    → replies ≡ [] → IsRun kind limit old [] (map h replies) old
 run_begins kind limit h old replies none = rw none refl
 
 -- all was asked
-pub run_whole : {N E C R : Type 0} (kind : Kind) (limit : ℕ) (f : C → Request N E) (h : R → Answer N E) (old new : Graph N E) (asked commands : List C) (replies : List R) → map (λ x. x) asked ≡ commands
+pub run_whole : {N E C R : Type 0} (kind : Kind) (limit : ℕ) (f : C → Request N E) (h : R → Answer N E)
+    (old new : Graph N E) (asked commands : List C) (replies : List R)
+    → map (λ x. x) asked ≡ commands
     → IsRun kind limit old (map f asked) (map h replies) new → IsRun kind limit old (map f commands) (map h replies) new
 run_whole {C = C} kind limit f h old new asked commands replies all run =
     let P : List C → Type 0 = λ xs. IsRun kind limit old (map f xs) (map h replies) new in

@@ -4,7 +4,8 @@ use Rattle.daggy_base.specs.Graph.{Graph}
 use Rattle.daggy_base.specs.Path.{IsAcyclic}
 use Rattle.daggy_base.specs.declared.error.EdgesError.{EdgesError}
 use Rattle.daggy_base.specs.declared.error.EdgesError.TheVariants.{BadEndpoint, Full, Memory, WouldCycle}
-use Rattle.daggy_guard.specs.EdgeBatch.{NewEdge, with_edges, new_edges, IsFaultless, LacksEnd, LacksIndex, LacksMemory, weights_back}
+use Rattle.daggy_guard.specs.EdgeBatch.{NewEdge, with_edges, new_edges, IsFaultless, LacksEnd, LacksIndex, LacksMemory}
+use Rattle.daggy_guard.specs.EdgeBatch.{weights_back}
 
 module _ {N E : Type 0} (limit : ℕ) (g : Graph N E) (edges : List (NewEdge E)) where
   -- no edge is at fault, and with all of them there is no cycle, so all are added
@@ -14,8 +15,8 @@ module _ {N E : Type 0} (limit : ℕ) (g : Graph N E) (edges : List (NewEdge E))
     pub indices_are : indices ≡ new_edges g edges
     pub added : new ≡ with_edges g edges
 
-  -- the edges begin with some that are not at fault, and with one that has this cause to be refused. The weights are its
-  -- own, and those of the edges before it, the last one first
+  -- the edges begin with some that are not at fault, and with one that has this cause to be refused. The weights are
+  -- its own, and those of the edges before it, the last one first
   pub record StopsAt (IsCause : Graph N E → NewEdge E → Type 0) (last : E) (before : List E) : Type 0 where
     pub front : List (NewEdge E)
     pub at : NewEdge E

@@ -1,5 +1,6 @@
 -- Plans: nodes in stages, each node in a later stage than its parents.
-use Rattle.std.specs.Prelude.{◌≡◌, ◌≢◌, ℕ, ◌<◌, ◌≤◌, ◌+◌, ◌↔◌, ◌⊎◌, List, [], ◌∷◌, length, map, Contains, slice_index_or, Vec}
+use Rattle.std.specs.Prelude.{◌≡◌, ◌≢◌, ℕ, ◌<◌, ◌≤◌, ◌+◌, ◌↔◌, ◌⊎◌, List, [], ◌∷◌, length, map, Contains}
+use Rattle.std.specs.Prelude.{slice_index_or, Vec}
 use Rattle.std.specs.declared.alloc.Global.{Global}
 use Rattle.daggy_base.specs.Graph.{Graph, HasNode}
 use Rattle.daggy_base.specs.Path.{AreJoined, IsPath, end_of}
@@ -42,8 +43,8 @@ pub record IsLowest (holds : ℕ → Type 0) (n : ℕ) : Type 0 where
   pub here : holds n
   pub least : (m : ℕ) → holds m → n ≤ m
 
--- A path with a node in each stage, or nothing if there is no stage. It ends with the lowest node of the last stage, and
--- before each node stands the lowest of its parents in the stage just before.
+-- A path with a node in each stage, or nothing if there is no stage. It ends with the lowest node of the last stage,
+-- and before each node stands the lowest of its parents in the stage just before.
 pub record IsChain {N E : Type 0} (g : Graph N E) (stages : List (List ℕ)) (chain : List ℕ) : Type 0 where
   pub as_long : length chain ≡ length stages
   pub path : (chain ≡ []) ⊎ IsPath g chain

@@ -8,7 +8,8 @@ use Rattle.daggy_run.specs.Answers.{Answer, Memory}
 use Rattle.daggy_run.specs.Steps.{IsStep}
 
 -- each request is answered once, in order, each from the graph that the one before left
-abbrev pub IsRun : {N E : Type 0} → Kind → (limit : ℕ) → Graph N E → List (Request N E) → List (Answer N E) → Graph N E → Type 0
+abbrev pub IsRun : {N E : Type 0}
+    → Kind → (limit : ℕ) → Graph N E → List (Request N E) → List (Answer N E) → Graph N E → Type 0
 IsRun kind limit old [] [] new = new ≡ old
 IsRun {N} {E} kind limit old (asked ∷ requests) (said ∷ answers) new =
     (mid : Graph N E) × IsStep kind limit old asked said mid × IsRun kind limit mid requests answers new
@@ -28,12 +29,15 @@ FindsMemory (Memory weights) = ⊥
 FindsMemory other = Unit {0}
 
 -- the compact kind may give these answers, and where it finds memory no others, and leave no other graph
-pub record IsCompactRun {N E : Type 0} (limit : ℕ) (old : Graph N E) (requests : List (Request N E)) (answers : List (Answer N E)) (new : Graph N E) : Type 0 where
+pub record IsCompactRun {N E : Type 0} (limit : ℕ) (old : Graph N E) (requests : List (Request N E))
+    (answers : List (Answer N E)) (new : Graph N E) : Type 0 where
   pub run : IsRun Compact limit old requests answers new
   pub only : (others : List (Answer N E)) (end : Graph N E) → IsRun Compact limit old requests others end
       → AllByRecursion FindsMemory others → (others ≡ answers) × (end ≡ new)
 
 -- where all requests are for both kinds and memory is found, the answers are those of the compact kind
-abbrev pub IsAsCompact : {N E : Type 0} → (limit : ℕ) → Graph N E → List (Request N E) → List (Answer N E) → Graph N E → Type 0
+abbrev pub IsAsCompact : {N E : Type 0}
+    → (limit : ℕ) → Graph N E → List (Request N E) → List (Answer N E) → Graph N E → Type 0
 IsAsCompact limit old requests answers new =
-    AllByRecursion IsForBothKinds requests → AllByRecursion FindsMemory answers → IsCompactRun limit old requests answers new
+    AllByRecursion IsForBothKinds requests → AllByRecursion FindsMemory answers
+    → IsCompactRun limit old requests answers new

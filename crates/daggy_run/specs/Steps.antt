@@ -3,7 +3,8 @@ use Rattle.std.specs.Prelude.{◌≡◌, ℕ, ◌<◌, ◌≤◌, ◌⊎◌, Opt
 use Rattle.std.specs.Option.{option_map}
 use Rattle.daggy_base.specs.declared.index.Direction.{Direction}
 use Rattle.daggy_base.specs.declared.index.Direction.TheVariants.{Outgoing, Incoming}
-use Rattle.daggy_base.specs.Graph.{Graph, empty, HasNode, node_weight, edge_at, ends_of, far_end, node_count, edge_count}
+use Rattle.daggy_base.specs.Graph.{Graph, empty, HasNode, node_weight, edge_at, ends_of, far_end, node_count}
+use Rattle.daggy_base.specs.Graph.{edge_count}
 use Rattle.daggy_base.specs.Path.{Reaches}
 use Rattle.daggy_base.specs.Adding.{next_node, next_edge, with_node, with_edge, with_neighbor}
 use Rattle.daggy_base.specs.Removal.{Kind, without_edge, without_node, without_all_edges}
@@ -38,7 +39,8 @@ IsEdgeStep limit old x (answer.Memory (OfEdge back)) new = IsAddable limit old x
 IsEdgeStep limit old x other new = ⊥
 
 -- writing the weight of the edge that is found between the two nodes, or adding one if none is
-abbrev pub IsUpdateStep : {N E : Type 0} → (limit : ℕ) → (found : Option ℕ) → Graph N E → NewEdge E → Answer N E → Graph N E → Type 0
+abbrev pub IsUpdateStep : {N E : Type 0}
+    → (limit : ℕ) → (found : Option ℕ) → Graph N E → NewEdge E → Answer N E → Graph N E → Type 0
 IsUpdateStep limit None old x said new = IsEdgeStep limit old x said new
 IsUpdateStep limit (Some found) old x (answer.Edge e) new = (e ≡ found) × (new ≡ with_edge_weight old found x.2)
 IsUpdateStep limit (Some found) old x other new = ⊥
@@ -48,7 +50,8 @@ abbrev pub HasIndicesAt : {N E : Type 0} → (limit : ℕ) → Graph N E → ℕ
 HasIndicesAt limit g n = HasNode g n × (edge_count g < limit) × (node_count g < limit)
 
 -- adding a node with an edge to it, or from it
-abbrev pub IsNeighborStep : {N E : Type 0} → Direction → (limit : ℕ) → Graph N E → ℕ → E → N → Answer N E → Graph N E → Type 0
+abbrev pub IsNeighborStep : {N E : Type 0}
+    → Direction → (limit : ℕ) → Graph N E → ℕ → E → N → Answer N E → Graph N E → Type 0
 IsNeighborStep dir limit old n edge node (answer.EdgeNode e m) new =
     HasIndicesAt limit old n × (e ≡ next_edge old) × (m ≡ next_node old) × (new ≡ with_neighbor dir old n edge node)
 IsNeighborStep dir limit old n edge node (answer.Missing (OfEdgeNode e w)) new =
@@ -71,8 +74,8 @@ IsBatchStep limit old edges (answer.Memory (OfEdges last before)) new =
 IsBatchStep limit old edges (answer.CycleAll weights) new = ClosesCycle limit old edges weights × (new ≡ old)
 IsBatchStep limit old edges other new = ⊥
 
--- What a request may be answered over a graph, and the graph after it. What is missing comes before what is full, and that
--- before a cycle. Where there was no memory, nothing else stands in the way, and nothing has changed.
+-- What a request may be answered over a graph, and the graph after it. What is missing comes before what is full, and
+-- that before a cycle. Where there was no memory, nothing else stands in the way, and nothing has changed.
 abbrev pub IsStep : {N E : Type 0} → Kind → (limit : ℕ) → Graph N E → Request N E → Answer N E → Graph N E → Type 0
 IsStep kind limit old (request.Node weight) (answer.Node n) new =
     (node_count old < limit) × (n ≡ next_node old) × (new ≡ with_node old weight)
@@ -83,12 +86,15 @@ IsStep kind limit old (request.Node weight) (answer.Memory (OfNode back)) new =
 IsStep kind limit old (request.Node weight) other new = ⊥
 IsStep kind limit old (request.Edge x) said new = IsEdgeStep limit old x said new
 IsStep kind limit old (request.Update x) said new = IsUpdateStep limit (find_edge old x.0 x.1) old x said new
-IsStep kind limit old (request.Child parent edge node) said new = IsNeighborStep Outgoing limit old parent edge node said new
-IsStep kind limit old (request.Parent child edge node) said new = IsNeighborStep Incoming limit old child edge node said new
+IsStep kind limit old (request.Child parent edge node) said new =
+    IsNeighborStep Outgoing limit old parent edge node said new
+IsStep kind limit old (request.Parent child edge node) said new =
+    IsNeighborStep Incoming limit old child edge node said new
 IsStep kind limit old (request.Edges edges) said new = IsBatchStep limit old edges said new
 IsStep kind limit old (request.Find parent child) (answer.Found e) new = (e ≡ find_edge old parent child) × (new ≡ old)
 IsStep kind limit old (request.Find parent child) other new = ⊥
-IsStep kind limit old (request.Ends e) (answer.Ends ends) new = (ends ≡ option_map ends_of (edge_at old e)) × (new ≡ old)
+IsStep kind limit old (request.Ends e) (answer.Ends ends) new =
+    (ends ≡ option_map ends_of (edge_at old e)) × (new ≡ old)
 IsStep kind limit old (request.Ends e) other new = ⊥
 IsStep kind limit old (request.RemoveNode n) (answer.NodeGone weight) new =
     (weight ≡ node_weight old n) × OnSome weight (new ≡ without_node kind old n) × IfNone weight (new ≡ old)

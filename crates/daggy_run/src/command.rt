@@ -66,7 +66,8 @@ pub enum Reply<N, E, Ix = DefaultIx> {
     Full(Back<N, E>),
     /// The edge of this weight would close a cycle. Nothing has changed.
     Cycle(E),
-    /// All these edges together would close a cycle. Nothing has changed. The weights come last one first.
+    /// All these edges together would close a cycle. Nothing has changed. The weights come last one
+    /// first.
     CycleAll(Vec<E>),
     /// There was no memory. Nothing has changed.
     Memory(Back<N, E>),

@@ -1,11 +1,18 @@
 //! What lists of commands ask of a dag.
-ghost use Rattle.std.specs.Prelude.{◌≡◌, ℕ, ◌<◌, ◌≤◌, ◌^◌, ◌↔◌, ◌⊎◌, IsTrue, Err, None, IfOk, IfErr, OnOk, OnErr, OnSome, IfSome, IfNone, IsOkAnd, length, map};
+ghost use Rattle.std.specs.Prelude.{◌≡◌, ℕ, ◌<◌, ◌≤◌, ◌^◌, ◌↔◌, ◌⊎◌, IsTrue, Err, None, IfOk};
+ghost use Rattle.std.specs.Prelude.{IfErr, OnOk, OnErr, OnSome, IfSome, IfNone, IsOkAnd, length};
+ghost use Rattle.std.specs.Prelude.{map};
 ghost use Rattle.std.specs.Option.{option_map};
-ghost use Rattle.daggy_base.specs.Graph.{Graph, empty, HasNode, HasEdge, node_weight as weight_at, edge_at, ends_of, pair_of, node_count as node_count_of, edge_count as edge_count_of, node_bound as node_bound_of, out_list};
+ghost use Rattle.daggy_base.specs.Graph.{Graph, empty, HasNode, HasEdge, node_weight as weight_at};
+ghost use Rattle.daggy_base.specs.Graph.{edge_at, ends_of, pair_of, node_count as node_count_of};
+ghost use Rattle.daggy_base.specs.Graph.{edge_count as edge_count_of, node_bound as node_bound_of};
+ghost use Rattle.daggy_base.specs.Graph.{out_list};
 ghost use Rattle.daggy_base.specs.Path.{Reaches, IsAcyclic};
 ghost use Rattle.daggy_base.specs.WellFormed.{IsDag};
-ghost use Rattle.daggy_base.specs.Adding.{next_node, next_edge, with_node, with_edge, with_neighbor};
-ghost use Rattle.daggy_base.specs.Removal.{Kind as SlotKind, without_edge, without_node, without_all_edges};
+ghost use Rattle.daggy_base.specs.Adding.{next_node, next_edge, with_node, with_edge};
+ghost use Rattle.daggy_base.specs.Adding.{with_neighbor};
+ghost use Rattle.daggy_base.specs.Removal.{Kind as SlotKind, without_edge, without_node};
+ghost use Rattle.daggy_base.specs.Removal.{without_all_edges};
 ghost use Rattle.daggy_base.specs.Reduction.{IsReduction};
 ghost use Rattle.daggy_base.specs.Weights.{edge_weight as edge_weight_at, with_edge_weight};
 ghost use Rattle.daggy_base.specs.Finding.{find_edge as edge_between};
@@ -14,7 +21,8 @@ ghost use Rattle.daggy_base.specs.Look.{IsLook};
 ghost use Rattle.daggy_order.specs.Ordered.{IsOrderOf};
 ghost use Rattle.daggy_base.specs.declared.index.Direction.TheVariants.{Outgoing, Incoming};
 ghost use Rattle.daggy_base.specs.declared.error.NodeError.TheVariants.{Memory as NodeMemory};
-ghost use Rattle.daggy_base.specs.declared.error.EdgeError.TheVariants.{WouldCycle as ByCycle, Memory as EdgeMemory};
+ghost use Rattle.daggy_base.specs.declared.error.EdgeError.TheVariants.{WouldCycle as ByCycle};
+ghost use Rattle.daggy_base.specs.declared.error.EdgeError.TheVariants.{Memory as EdgeMemory};
 ghost use Rattle.daggy_base.specs.declared.error.ChildError.TheVariants.{Memory as ChildMemory};
 ghost use Rattle.daggy_guard.specs.EdgeBatch.{by_numbers};
 ghost use Rattle.daggy_run.specs.Kinds.{kind_of};
@@ -48,8 +56,8 @@ pub type NewEdge<E, Ix> = (NodeIndex<Ix>, NodeIndex<Ix>, E);
 
 /// A dag that takes commands. Both kinds do.
 ///
-/// A call that adds asks that the nodes that it names exist and that an index is left. The tests for that are
-/// [`has_node`](GuardedDag::has_node), [`can_add_node`](GuardedDag::can_add_node) and
+/// A call that adds asks that the nodes that it names exist and that an index is left. The tests
+/// for that are [`has_node`](GuardedDag::has_node), [`can_add_node`](GuardedDag::can_add_node) and
 /// [`can_add_edge`](GuardedDag::can_add_edge). A call that is refused changes nothing.
 pub trait GuardedDag<N, E, Ix: IndexType> {
     // The graph.
@@ -87,8 +95,8 @@ pub trait GuardedDag<N, E, Ix: IndexType> {
         ensures unchanged { OnErr result (graph self.new ≡ graph self.old) }
         ensures acyclic { IsAcyclic (graph self.new) };
 
-    /// Adds an edge from `a` to `b`, and gives its index. It is refused exactly if it would close a cycle,
-    /// memory aside.
+    /// Adds an edge from `a` to `b`, and gives its index. It is refused exactly if it would close a
+    /// cycle, memory aside.
     fn add_edge(
         &mut self,
         a: NodeIndex<Ix>,
@@ -100,14 +108,16 @@ pub trait GuardedDag<N, E, Ix: IndexType> {
         requires index_left { edge_count_of (graph self.old) < Ix.greatest }
         ensures cycle { (result ≡ Err (ByCycle (record { 0 = weight })))
             ↔ Reaches (graph self.old) (Ix.number b) (Ix.number a) }
-        ensures refusal { IfErr result (λ e. (e ≡ ByCycle (record { 0 = weight })) ⊎ (e ≡ EdgeMemory weight)) }
+        ensures refusal { IfErr result (λ e.
+            (e ≡ ByCycle (record { 0 = weight })) ⊎ (e ≡ EdgeMemory weight)) }
         ensures added { IfOk result (λ e. (Ix.number e ≡ next_edge (graph self.old))
             × (graph self.new ≡ with_edge (graph self.old) (Ix.number a) (Ix.number b) weight)) }
         ensures unchanged { OnErr result (graph self.new ≡ graph self.old) }
         ensures acyclic { IsAcyclic (graph self.new) };
 
-    /// Writes the weight of the edge that [`find_edge`](GuardedDag::find_edge) gives between `a` and `b`, or adds an
-    /// edge as [`add_edge`](GuardedDag::add_edge) if there is none. Where the two nodes are joined it cannot fail.
+    /// Writes the weight of the edge that [`find_edge`](GuardedDag::find_edge) gives between `a`
+    /// and `b`, or adds an edge as [`add_edge`](GuardedDag::add_edge) if there is none. Where the
+    /// two nodes are joined it cannot fail.
     fn update_edge(
         &mut self,
         a: NodeIndex<Ix>,
@@ -123,8 +133,10 @@ pub trait GuardedDag<N, E, Ix: IndexType> {
             × (graph self.new ≡ with_edge_weight (graph self.old) e weight)) }
         ensures cycle { (result ≡ Err (ByCycle (record { 0 = weight })))
             ↔ Reaches (graph self.old) (Ix.number b) (Ix.number a) }
-        ensures refusal { IfErr result (λ e. (e ≡ ByCycle (record { 0 = weight })) ⊎ (e ≡ EdgeMemory weight)) }
-        ensures added { edge_between (graph self.old) (Ix.number a) (Ix.number b) ≡ None → IfOk result (λ e.
+        ensures refusal { IfErr result (λ e.
+            (e ≡ ByCycle (record { 0 = weight })) ⊎ (e ≡ EdgeMemory weight)) }
+        ensures added { edge_between (graph self.old) (Ix.number a) (Ix.number b) ≡ None
+            → IfOk result (λ e.
             (Ix.number e ≡ next_edge (graph self.old))
             × (graph self.new ≡ with_edge (graph self.old) (Ix.number a) (Ix.number b) weight)) }
         ensures unchanged { OnErr result (graph self.new ≡ graph self.old) }
@@ -142,7 +154,8 @@ pub trait GuardedDag<N, E, Ix: IndexType> {
         requires node_index_left { node_count_of (graph self.old) < Ix.greatest }
         ensures added { IfOk result (λ r. (Ix.number r.0 ≡ next_edge (graph self.old))
             × (Ix.number r.1 ≡ next_node (graph self.old))
-            × (graph self.new ≡ with_neighbor Outgoing (graph self.old) (Ix.number parent) edge node)) }
+            × (graph self.new
+            ≡ with_neighbor Outgoing (graph self.old) (Ix.number parent) edge node)) }
         ensures refusal { IfErr result (λ e. e ≡ ChildMemory edge node) }
         ensures unchanged { OnErr result (graph self.new ≡ graph self.old) }
         ensures acyclic { IsAcyclic (graph self.new) };
@@ -159,15 +172,18 @@ pub trait GuardedDag<N, E, Ix: IndexType> {
         requires node_index_left { node_count_of (graph self.old) < Ix.greatest }
         ensures added { IfOk result (λ r. (Ix.number r.0 ≡ next_edge (graph self.old))
             × (Ix.number r.1 ≡ next_node (graph self.old))
-            × (graph self.new ≡ with_neighbor Incoming (graph self.old) (Ix.number child) edge node)) }
+            × (graph self.new
+            ≡ with_neighbor Incoming (graph self.old) (Ix.number child) edge node)) }
         ensures refusal { IfErr result (λ e. e ≡ ChildMemory edge node) }
         ensures unchanged { OnErr result (graph self.new ≡ graph self.old) }
         ensures acyclic { IsAcyclic (graph self.new) };
 
-    /// Adds all the edges, or none of them. It gives their indices in the order in which they were given.
+    /// Adds all the edges, or none of them. It gives their indices in the order in which they were
+    /// given.
     fn add_edges(&mut self, edges: Vec<NewEdge<E, Ix>>) -> Result<Vec<EdgeIndex<Ix>>, EdgesError<E>>
         ensures added { IfOk result (λ indices. AddsAll Ix.greatest (graph self.old)
-            (map (by_numbers Ix.number) edges.items) (map Ix.number indices.items) (graph self.new)) }
+            (map (by_numbers Ix.number) edges.items) (map Ix.number indices.items)
+            (graph self.new)) }
         ensures refused { IfErr result (λ error. IsRefused Ix.greatest (graph self.old)
             (map (by_numbers Ix.number) edges.items) error) }
         ensures unchanged { OnErr result (graph self.new ≡ graph self.old) }
@@ -175,25 +191,30 @@ pub trait GuardedDag<N, E, Ix: IndexType> {
 
     /// The newest edge from `a` to `b`, or `None` if there is none.
     fn find_edge(&self, a: NodeIndex<Ix>, b: NodeIndex<Ix>) -> Option<EdgeIndex<Ix>>
-        ensures found { option_map Ix.number result ≡ edge_between (graph self.now) (Ix.number a) (Ix.number b) }
+        ensures found { option_map Ix.number result
+            ≡ edge_between (graph self.now) (Ix.number a) (Ix.number b) }
         ensures ends { OnSome result (HasNode (graph self.now) (Ix.number a)
             × HasNode (graph self.now) (Ix.number b)) };
 
     /// The parent and the child of an edge, or `None` if there is no such edge.
     fn edge_endpoints(&self, e: EdgeIndex<Ix>) -> Option<(NodeIndex<Ix>, NodeIndex<Ix>)>
-        ensures { option_map (pair_of Ix.number) result ≡ option_map ends_of (edge_at (graph self.now) (Ix.number e)) };
+        ensures { option_map (pair_of Ix.number) result
+            ≡ option_map ends_of (edge_at (graph self.now) (Ix.number e)) };
 
-    /// Removes a node with its edges and hands its weight back, or gives `None` if there is no such node.
+    /// Removes a node with its edges and hands its weight back, or gives `None` if there is no such
+    /// node.
     fn remove_node(&mut self, n: NodeIndex<Ix>) -> Option<N>
         ensures value { result ≡ weight_at (graph self.old) (Ix.number n) }
-        ensures removed { OnSome result (graph self.new ≡ without_node kind (graph self.old) (Ix.number n)) }
+        ensures removed { OnSome result
+            (graph self.new ≡ without_node kind (graph self.old) (Ix.number n)) }
         ensures missing { IfNone result (graph self.new ≡ graph self.old) }
         ensures acyclic { IsAcyclic (graph self.new) };
 
     /// Removes an edge and hands its weight back, or gives `None` if there is no such edge.
     fn remove_edge(&mut self, e: EdgeIndex<Ix>) -> Option<E>
         ensures value { result ≡ edge_weight_at (graph self.old) (Ix.number e) }
-        ensures removed { OnSome result (graph self.new ≡ without_edge kind (graph self.old) (Ix.number e)) }
+        ensures removed { OnSome result
+            (graph self.new ≡ without_edge kind (graph self.old) (Ix.number e)) }
         ensures missing { IfNone result (graph self.new ≡ graph self.old) }
         ensures acyclic { IsAcyclic (graph self.new) };
 
@@ -225,7 +246,8 @@ pub trait GuardedDag<N, E, Ix: IndexType> {
     ///
     /// The error says that there was no memory to search in.
     fn transitive_reduce(&mut self, roots: Vec<NodeIndex<Ix>>) -> Result<(), AllocError>
-        ensures reduced { OnOk result (IsReduction kind (map Ix.number roots.items) (graph self.old) (graph self.new)) }
+        ensures reduced { OnOk result
+            (IsReduction kind (map Ix.number roots.items) (graph self.old) (graph self.new)) }
         ensures unchanged { OnErr result (graph self.new ≡ graph self.old) }
         ensures acyclic { IsAcyclic (graph self.new) };
 
@@ -237,12 +259,15 @@ pub trait GuardedDag<N, E, Ix: IndexType> {
 
     /// The newest edge that leaves a node, or `end` if there is none.
     fn first_child(&self, n: NodeIndex<Ix>) -> EdgeIndex<Ix>
-        ensures { Ix.number result ≡ first_of Ix.greatest (out_list (graph self.now) (Ix.number n)) };
+        ensures { Ix.number result
+            ≡ first_of Ix.greatest (out_list (graph self.now) (Ix.number n)) };
 
-    /// The child of an edge, and the edge that left its parent before it, or `end` if there is none.
+    /// The child of an edge, and the edge that left its parent before it, or `end` if there is
+    /// none.
     fn child_edge(&self, e: EdgeIndex<Ix>) -> (NodeIndex<Ix>, EdgeIndex<Ix>)
         requires { HasEdge (graph self.now) (Ix.number e) }
-        ensures { IsLook Ix.greatest (graph self.now) (Ix.number e) (Ix.number result.0) (Ix.number result.1) };
+        ensures { IsLook Ix.greatest (graph self.now) (Ix.number e) (Ix.number result.0)
+            (Ix.number result.1) };
 
     /// The nodes, every parent before its children. Going over all of them costs the nodes alone.
     fn topological_order(&self) -> TopologicalOrder<'_, Ix>

@@ -13,16 +13,20 @@ pub mod stages;
 
 /// Plans the nodes of a dag in stages.
 ///
-/// The error says that there was no memory for the plan. The cost is that of all slots of nodes and of all edges.
+/// The error says that there was no memory for the plan. The cost is that of all slots of nodes and
+/// of all edges.
 pub fn plan<N, E, Ix: IndexType, D: GuardedDag<N, E, Ix>>(
     alloc: Global,
     dag: &D,
 ) -> Result<Plan<Ix>, AllocError>
-    ensures plan { IfOk result (λ p. IsPlan (D.graph dag.now) (stages_of Ix.number p.stages.items)) }
-    ensures by_levels { IfOk result (λ p. IsByLevels (D.graph dag.now) (stages_of Ix.number p.stages.items)) }
+    ensures plan { IfOk result (λ p.
+        IsPlan (D.graph dag.now) (stages_of Ix.number p.stages.items)) }
+    ensures by_levels { IfOk result (λ p.
+        IsByLevels (D.graph dag.now) (stages_of Ix.number p.stages.items)) }
     ensures chain { IfOk result (λ p. IsChain (D.graph dag.now)
         (stages_of Ix.number p.stages.items) (map Ix.number p.chain.items)) }
-    ensures shortest { IfOk result (λ p. IsShortest (D.graph dag.now) (stages_of Ix.number p.stages.items)) }
+    ensures shortest { IfOk result (λ p.
+        IsShortest (D.graph dag.now) (stages_of Ix.number p.stages.items)) }
 {
     let found = levels_of(alloc, dag)?;
     let stages = stages_by(alloc, dag, found.levels.as_slice())?;

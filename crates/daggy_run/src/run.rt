@@ -11,19 +11,22 @@ use crate::step::perform;
 use daggy_base::index::IndexType;
 use std::alloc::Global;
 
-/// Carries out commands in order, and gives one reply to each. A refused command changes nothing, and those behind it
-/// are carried out all the same.
+/// Carries out commands in order, and gives one reply to each. A refused command changes nothing,
+/// and those behind it are carried out all the same.
 ///
-/// The error hands the commands back: there was no memory for the replies, and no command was carried out.
+/// The error hands the commands back: there was no memory for the replies, and no command was
+/// carried out.
 pub fn run<N: Drop, E: Drop, Ix: IndexType, D: GuardedDag<N, E, Ix>>(
     alloc: Global,
     dag: &mut D,
     commands: Vec<Command<N, E, Ix>>,
 ) -> Result<Vec<Reply<N, E, Ix>>, Vec<Command<N, E, Ix>>>
     ensures run { IfOk result (λ replies. IsRun D.kind Ix.greatest (D.graph dag.old)
-        (map (request_of Ix.number) commands.items) (map (answer_of Ix.number) replies.items) (D.graph dag.new)) }
+        (map (request_of Ix.number) commands.items) (map (answer_of Ix.number) replies.items)
+        (D.graph dag.new)) }
     ensures as_compact { IfOk result (λ replies. IsAsCompact Ix.greatest (D.graph dag.old)
-        (map (request_of Ix.number) commands.items) (map (answer_of Ix.number) replies.items) (D.graph dag.new)) }
+        (map (request_of Ix.number) commands.items) (map (answer_of Ix.number) replies.items)
+        (D.graph dag.new)) }
     ensures handed_back { IfErr result (λ back. back.items ≡ commands.items) }
     ensures unchanged { OnErr result (D.graph dag.new ≡ D.graph dag.old) }
     ensures acyclic { IsAcyclic (D.graph dag.new) }

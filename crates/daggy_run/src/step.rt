@@ -5,7 +5,8 @@ ghost use Rattle.daggy_base.specs.Finding.{find_edge as edge_between};
 ghost use Rattle.daggy_guard.specs.EdgeBatch.{by_numbers};
 ghost use Rattle.daggy_run.specs.Requests.{request_of, Node, Children, Parents, Reduce};
 ghost use Rattle.daggy_run.specs.Answers.{answer_of};
-ghost use Rattle.daggy_run.specs.Steps.{IsStep, IsEdgeStep, IsUpdateStep, IsNeighborStep, IsBatchStep};
+ghost use Rattle.daggy_run.specs.Steps.{IsStep, IsEdgeStep, IsUpdateStep, IsNeighborStep};
+ghost use Rattle.daggy_run.specs.Steps.{IsBatchStep};
 
 use crate::command::{Back, Command, Reply};
 use crate::guarded::{GuardedDag, Neighbor, NewEdge};
@@ -61,8 +62,10 @@ fn update_edge<N: Drop, E: Drop, Ix: IndexType, D: GuardedDag<N, E, Ix>>(
     b: NodeIndex<Ix>,
     weight: E,
 ) -> Reply<N, E, Ix>
-    ensures step { IsUpdateStep Ix.greatest (edge_between (D.graph dag.old) (Ix.number a) (Ix.number b))
-        (D.graph dag.old) (by_numbers Ix.number (a, b, weight)) (answer_of Ix.number result) (D.graph dag.new) }
+    ensures step { IsUpdateStep Ix.greatest
+        (edge_between (D.graph dag.old) (Ix.number a) (Ix.number b))
+        (D.graph dag.old) (by_numbers Ix.number (a, b, weight)) (answer_of Ix.number result)
+        (D.graph dag.new) }
     ensures acyclic { IsAcyclic (D.graph dag.new) }
 {
     let Some(e) = dag.find_edge(a, b) else {
@@ -105,7 +108,8 @@ fn add_edges<N: Drop, E: Drop, Ix: IndexType, D: GuardedDag<N, E, Ix>>(
     dag: &mut D,
     edges: Vec<NewEdge<E, Ix>>,
 ) -> Reply<N, E, Ix>
-    ensures step { IsBatchStep Ix.greatest (D.graph dag.old) (map (by_numbers Ix.number) edges.items)
+    ensures step { IsBatchStep Ix.greatest (D.graph dag.old)
+        (map (by_numbers Ix.number) edges.items)
         (answer_of Ix.number result) (D.graph dag.new) }
     ensures acyclic { IsAcyclic (D.graph dag.new) }
 {
@@ -135,8 +139,9 @@ fn walk<N: Drop, E: Drop, Ix: IndexType>(
 
 /// Carries out one command. A refused command changes nothing.
 ///
-/// Where a node that an edge is added to does not exist, the reply is `Missing`. Otherwise, where no index is left, it
-/// is `Full`, and only then `Cycle` or `CycleAll`, where a cycle would be closed.
+/// Where a node that an edge is added to does not exist, the reply is `Missing`. Otherwise, where
+/// no index is left, it is `Full`, and only then `Cycle` or `CycleAll`, where a cycle would be
+/// closed.
 pub fn perform<N: Drop, E: Drop, Ix: IndexType, D: GuardedDag<N, E, Ix>>(
     dag: &mut D,
     command: Command<N, E, Ix>,

@@ -38,15 +38,16 @@ fn reduced_shape<N: Drop, E: Drop, Ix: IndexType>(
 
 /// Whether two dags have as many nodes, and the same nodes reach each other.
 ///
-/// It reduces a copy of each, without weights, from all nodes, and compares which nodes are joined then. Both dags stay as
-/// they are. The error says that there was no memory for the copies. The cost is that of one search for each node in
-/// both dags.
+/// It reduces a copy of each, without weights, from all nodes, and compares which nodes are joined
+/// then. Both dags stay as they are. The error says that there was no memory for the copies. The
+/// cost is that of one search for each node in both dags.
 pub fn same_reachability<N: Drop, E: Drop, M: Drop, F: Drop, Ix: IndexType>(
     a: &Dag<N, E, Ix>,
     b: &Dag<M, F, Ix>,
 ) -> Result<bool, AllocError>
     ensures { IfOk result (λ same. IsTrue same
-        ↔ ((node_count_of a.now.graph ≡ node_count_of b.now.graph) × HaveSameReachability a.now.graph b.now.graph)) }
+        ↔ ((node_count_of a.now.graph ≡ node_count_of b.now.graph)
+        × HaveSameReachability a.now.graph b.now.graph)) }
 {
     if a.node_count() != b.node_count() {
         return Ok(false);

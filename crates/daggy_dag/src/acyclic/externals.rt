@@ -35,8 +35,8 @@ impl<N: Drop, E: Drop, Ix: IndexType, S> Acyclic<N, E, Ix, S>
 where
     S: Store<Ix, NodeWeight = N, EdgeWeight = E>,
 {
-    /// The nodes that no edge enters (`Incoming`), which are the roots, or those that no edge leaves (`Outgoing`), by
-    /// ascending index.
+    /// The nodes that no edge enters (`Incoming`), which are the roots, or those that no edge
+    /// leaves (`Outgoing`), by ascending index.
     ///
     /// Going over all of them costs all nodes.
     #[inline]

@@ -21,21 +21,25 @@ impl<N: Drop, E: Drop, Ix: IndexType, S> Acyclic<N, E, Ix, S>
 where
     S: Store<Ix, NodeWeight = N, EdgeWeight = E>,
 {
-    /// A dag of given slots: for each index the weight of a node, and for each index the two ends and the weight of an
-    /// edge, or nothing, which leaves the slot vacant. No slot of a [`Dag`](crate::acyclic::Dag) may be vacant.
+    /// A dag of given slots: for each index the weight of a node, and for each index the two ends
+    /// and the weight of an edge, or nothing, which leaves the slot vacant. No slot of a
+    /// [`Dag`](crate::acyclic::Dag) may be vacant.
     ///
-    /// Each list has the edge with the greatest index first. Of the vacant slots the one with the greatest index is taken
-    /// first. The refusal `Cycle` says that the edges close a cycle, `Memory` that there was no memory for the dag. The
-    /// cost is that of all slots.
+    /// Each list has the edge with the greatest index first. Of the vacant slots the one with the
+    /// greatest index is taken first. The refusal `Cycle` says that the edges close a cycle,
+    /// `Memory` that there was no memory for the dag. The cost is that of all slots.
     pub fn from_slots(
         alloc: Global,
         nodes: Vec<Option<N>>,
         edges: Vec<Option<(NodeIndex<Ix>, NodeIndex<Ix>, E)>>,
     ) -> Result<Self, SlotsError>
         requires makes_graph { MakeGraph Ix.greatest nodes.items (edges_by Ix.number edges.items) }
-        requires compact { S.kind ≡ Compact → IsCompact (graph_of_slots nodes.items (edges_by Ix.number edges.items)) }
-        ensures made { IfOk result (λ d. d.graph ≡ graph_of_slots nodes.items (edges_by Ix.number edges.items)) }
-        ensures cycle { result ≡ Err Cycle → ¬ IsAcyclic (graph_of_slots nodes.items (edges_by Ix.number edges.items)) }
+        requires compact { S.kind ≡ Compact
+            → IsCompact (graph_of_slots nodes.items (edges_by Ix.number edges.items)) }
+        ensures made { IfOk result (λ d.
+            d.graph ≡ graph_of_slots nodes.items (edges_by Ix.number edges.items)) }
+        ensures cycle { result ≡ Err Cycle
+            → ¬ IsAcyclic (graph_of_slots nodes.items (edges_by Ix.number edges.items)) }
         ensures acyclic { IfOk result (λ d. IsAcyclic d.graph) }
         ensures counted { IfOk result (λ d. d.looks ≤ edge_count_of d.graph) }
     {
@@ -59,11 +63,14 @@ where
         }
     }
 
-    /// Puts the lists of all nodes in other orders: for each node that exists, by ascending index, its out list and its in
-    /// list as they are to be. Nothing else changes. The cost is that of all nodes and edges.
+    /// Puts the lists of all nodes in other orders: for each node that exists, by ascending index,
+    /// its out list and its in list as they are to be. Nothing else changes. The cost is that of
+    /// all nodes and edges.
     pub fn set_orders(&mut self, orders: &[(Vec<EdgeIndex<Ix>>, Vec<EdgeIndex<Ix>>)])
         requires { AreOrders self.old.graph (map (numbers_of Ix.number) orders.now) }
-        ensures ordered { self.new ≡ with_graph self.old (with_orders self.old.graph (map (numbers_of Ix.number) orders.now)) }
+        ensures ordered { self.new
+            ≡ with_graph self.old
+            (with_orders self.old.graph (map (numbers_of Ix.number) orders.now)) }
         ensures acyclic { IsAcyclic self.new.graph }
     {
         self.store.set_orders(orders);

@@ -44,8 +44,8 @@ where
 }
 
 impl<N: Drop, E: Drop, Ix: IndexType> Acyclic<N, E, Ix, DiGraph<N, E, Ix>> {
-    /// The graph, which need not stay acyclic from then on, and an order of its nodes in which every parent stands before
-    /// its children. Nothing is copied.
+    /// The graph, which need not stay acyclic from then on, and an order of its nodes in which
+    /// every parent stands before its children. Nothing is copied.
     #[inline]
     pub fn into_parts(self) -> (DiGraph<N, E, Ix>, Order<Ix>)
         ensures graph { result.0.graph ≡ self.graph }

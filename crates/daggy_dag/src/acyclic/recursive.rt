@@ -14,10 +14,11 @@ impl<N: Drop, E: Drop, Ix: IndexType, S> Acyclic<N, E, Ix, S>
 where
     S: Store<Ix, NodeWeight = N, EdgeWeight = E>,
 {
-    /// A walk from `start` on, which `f` leads: it is handed the dag and the current node, and names an edge and the node to
-    /// go to.
+    /// A walk from `start` on, which `f` leads: it is handed the dag and the current node, and
+    /// names an edge and the node to go to.
     ///
-    /// Where `f` names none the walk stays, and asks there again at its next step. So it has an end only if `f` sees to it.
+    /// Where `f` names none the walk stays, and asks there again at its next step. So it has an end
+    /// only if `f` sees to it.
     #[inline]
     pub fn recursive_walk<F>(&self, start: NodeIndex<Ix>, f: F) -> Led<Self, NodeIndex<Ix>, F>
         ensures node { recursive_node result ≡ start }

@@ -32,8 +32,8 @@ impl<N: Drop, E: Drop, Ix: IndexType, S> Acyclic<N, E, Ix, S>
 where
     S: Store<Ix, NodeWeight = N, EdgeWeight = E>,
 {
-    /// The nodes in an order in which every parent comes before its children: the one that the dag keeps, so none is
-    /// searched for.
+    /// The nodes in an order in which every parent comes before its children: the one that the dag
+    /// keeps, so none is searched for.
     ///
     /// An edge that is added may change it, and so may a node.
     #[inline]

@@ -1,11 +1,14 @@
 //! What generic code may ask of a dag.
-ghost use Rattle.std.specs.Prelude.{◌≡◌, ℕ, ◌≤◌, ◌↔◌, List, Bool, length, true, IsTrue, IfOk, OnOk, OnErr, option_copied, refl};
+ghost use Rattle.std.specs.Prelude.{◌≡◌, ℕ, ◌≤◌, ◌↔◌, List, Bool, length, true, IsTrue, IfOk, OnOk};
+ghost use Rattle.std.specs.Prelude.{OnErr, option_copied, refl};
 ghost use Rattle.std.specs.Borrow.{sem};
 ghost use Rattle.std.specs.Option.{option_copied_mut};
-ghost use Rattle.daggy_base.specs.Graph.{node_weight as weight_at, node_count as node_count_of, node_bound as node_bound_of};
+ghost use Rattle.daggy_base.specs.Graph.{node_weight as weight_at, node_count as node_count_of};
+ghost use Rattle.daggy_base.specs.Graph.{node_bound as node_bound_of};
 ghost use Rattle.daggy_base.specs.Path.{AreJoined};
 ghost use Rattle.daggy_base.specs.State.{with_graph};
-ghost use Rattle.daggy_base.specs.Weights.{edge_weight as edge_weight_at, with_node_weight, with_edge_weight};
+ghost use Rattle.daggy_base.specs.Weights.{edge_weight as edge_weight_at, with_node_weight};
+ghost use Rattle.daggy_base.specs.Weights.{with_edge_weight};
 ghost use Rattle.daggy_walk.specs.Visit.{IsVisited, HasPair};
 ghost use Rattle.daggy_dag.specs.Lends.{lends_node_if, lends_edge_if};
 
@@ -161,7 +164,8 @@ where
 
     #[inline]
     fn node_weight_mut(&mut self, id: NodeIndex<Ix>) -> Option<&mut N>
-        ensures* writes_back { sem 𝓛 (lends_node_if N.row E.row Ix.row S.row Ix.IndexType S.Store self.entry id result) }
+        ensures* writes_back { sem 𝓛
+            (lends_node_if N.row E.row Ix.row S.row Ix.IndexType S.Store self.entry id result) }
         ensures value { option_copied_mut result ≡ weight_at self.old.graph (Ix.number id) }
     {
         self.node_weight_mut(id)
@@ -169,7 +173,8 @@ where
 
     #[inline]
     fn edge_weight_mut(&mut self, id: EdgeIndex<Ix>) -> Option<&mut E>
-        ensures* writes_back { sem 𝓛 (lends_edge_if N.row E.row Ix.row S.row Ix.IndexType S.Store self.entry id result) }
+        ensures* writes_back { sem 𝓛
+            (lends_edge_if N.row E.row Ix.row S.row Ix.IndexType S.Store self.entry id result) }
         ensures value { option_copied_mut result ≡ edge_weight_at self.old.graph (Ix.number id) }
     {
         self.edge_weight_mut(id)
@@ -185,7 +190,8 @@ where
     ghost pairs = { λ matrix. matrix };
 
     fn adjacency_matrix(&self) -> Result<AdjMatrix<Ix>, AllocError>
-        ensures { IfOk result (λ matrix. (a b : ℕ) → HasPair matrix a b ↔ AreJoined self.now.graph a b) }
+        ensures { IfOk result (λ matrix.
+            (a b : ℕ) → HasPair matrix a b ↔ AreJoined self.now.graph a b) }
     {
         matrix::adjacency_matrix(&self.store, self.scratch.allocator())
     }

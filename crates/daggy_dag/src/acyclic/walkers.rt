@@ -17,8 +17,8 @@ use std::marker::{Model, PhantomData};
 
 /// A walker over the children of a node. It gives each edge with its child.
 ///
-/// It holds no borrow of the dag. If the edge that comes next was removed, it gives nothing from then on, unless an edge
-/// gets that index again.
+/// It holds no borrow of the dag. If the edge that comes next was removed, it gives nothing from
+/// then on, unless an edge gets that index again.
 #[derive_where(Debug; Ix)]
 pub struct Children<N, E, Ix = DefaultIx> {
     pub(super) edge: EdgeIndex<Ix>,
@@ -61,8 +61,10 @@ where
     type Item = (EdgeIndex<Ix>, NodeIndex<Ix>);
 
     ghost walk_gives = { λ w d r after.
-        IsWalkStep Outgoing Ix.greatest d.graph (Ix.number w) (option_map (pair_of Ix.number) r) (Ix.number after)
-        × YieldsFirstBy (λ x. Ix.number x.0) (λ v. rest_of_walk Outgoing d.graph (Ix.number v)) w r after };
+        IsWalkStep Outgoing Ix.greatest d.graph (Ix.number w) (option_map (pair_of Ix.number) r)
+        (Ix.number after)
+        × YieldsFirstBy (λ x. Ix.number x.0) (λ v. rest_of_walk Outgoing d.graph (Ix.number v))
+        w r after };
 
     ghost items_left = { λ w d. at_most (length (rest_of_walk Outgoing d.graph (Ix.number w))) };
 
@@ -87,14 +89,15 @@ where
 {
     ghost use Rattle.daggy_walk.specs.Fused.{list_rests};
 
-    ghost rests = { λ d w t u r a b. list_rests (λ x. Ix.number x.0) (λ v. rest_of_walk Outgoing d.graph (Ix.number v))
+    ghost rests = { λ d w t u r a b.
+        list_rests (λ x. Ix.number x.0) (λ v. rest_of_walk Outgoing d.graph (Ix.number v))
         w t u r a.1 b.1 };
 }
 
 /// A walker over the parents of a node. It gives each edge with its parent.
 ///
-/// It holds no borrow of the dag. If the edge that comes next was removed, it gives nothing from then on, unless an edge
-/// gets that index again.
+/// It holds no borrow of the dag. If the edge that comes next was removed, it gives nothing from
+/// then on, unless an edge gets that index again.
 #[derive_where(Debug; Ix)]
 pub struct Parents<N, E, Ix = DefaultIx> {
     pub(super) edge: EdgeIndex<Ix>,
@@ -137,8 +140,10 @@ where
     type Item = (EdgeIndex<Ix>, NodeIndex<Ix>);
 
     ghost walk_gives = { λ w d r after.
-        IsWalkStep Incoming Ix.greatest d.graph (Ix.number w) (option_map (pair_of Ix.number) r) (Ix.number after)
-        × YieldsFirstBy (λ x. Ix.number x.0) (λ v. rest_of_walk Incoming d.graph (Ix.number v)) w r after };
+        IsWalkStep Incoming Ix.greatest d.graph (Ix.number w) (option_map (pair_of Ix.number) r)
+        (Ix.number after)
+        × YieldsFirstBy (λ x. Ix.number x.0) (λ v. rest_of_walk Incoming d.graph (Ix.number v))
+        w r after };
 
     ghost items_left = { λ w d. at_most (length (rest_of_walk Incoming d.graph (Ix.number w))) };
 
@@ -163,6 +168,7 @@ where
 {
     ghost use Rattle.daggy_walk.specs.Fused.{list_rests};
 
-    ghost rests = { λ d w t u r a b. list_rests (λ x. Ix.number x.0) (λ v. rest_of_walk Incoming d.graph (Ix.number v))
+    ghost rests = { λ d w t u r a b.
+        list_rests (λ x. Ix.number x.0) (λ v. rest_of_walk Incoming d.graph (Ix.number v))
         w t u r a.1 b.1 };
 }

@@ -19,7 +19,8 @@ where
     /// The weight of a node, to be written, or `None` if there is no such node.
     #[inline]
     pub fn node_weight_mut(&mut self, n: NodeIndex<Ix>) -> Option<&mut N>
-        ensures* writes_back { sem 𝓛 (lends_node_if N.row E.row Ix.row S.row Ix.IndexType S.Store self.entry n result) }
+        ensures* writes_back { sem 𝓛
+            (lends_node_if N.row E.row Ix.row S.row Ix.IndexType S.Store self.entry n result) }
         ensures value { option_copied_mut result ≡ weight_at self.old.graph (Ix.number n) }
     {
         if self.contains_node(n) {
@@ -32,7 +33,8 @@ where
     /// The weight of an edge, to be written, or `None` if there is no such edge.
     #[inline]
     pub fn edge_weight_mut(&mut self, e: EdgeIndex<Ix>) -> Option<&mut E>
-        ensures* writes_back { sem 𝓛 (lends_edge_if N.row E.row Ix.row S.row Ix.IndexType S.Store self.entry e result) }
+        ensures* writes_back { sem 𝓛
+            (lends_edge_if N.row E.row Ix.row S.row Ix.IndexType S.Store self.entry e result) }
         ensures value { option_copied_mut result ≡ edge_weight_at self.old.graph (Ix.number e) }
     {
         if self.store.contains_edge(e) {
@@ -82,7 +84,8 @@ where
     #[inline]
     fn index_mut(&mut self, n: NodeIndex<Ix>) -> &mut N
         requires { HasNode self.old.graph (Ix.number n) }
-        ensures* writes_back { sem 𝓛 (lends_node N.row E.row Ix.row S.row Ix.IndexType S.Store self.entry n result) }
+        ensures* writes_back { sem 𝓛
+            (lends_node N.row E.row Ix.row S.row Ix.IndexType S.Store self.entry n result) }
         ensures value { weight_at self.old.graph (Ix.number n) ≡ Some result.now }
     {
         let _well_formed = self.store.node_count();
@@ -97,7 +100,8 @@ where
     #[inline]
     fn index_mut(&mut self, e: EdgeIndex<Ix>) -> &mut E
         requires { HasEdge self.old.graph (Ix.number e) }
-        ensures* writes_back { sem 𝓛 (lends_edge N.row E.row Ix.row S.row Ix.IndexType S.Store self.entry e result) }
+        ensures* writes_back { sem 𝓛
+            (lends_edge N.row E.row Ix.row S.row Ix.IndexType S.Store self.entry e result) }
         ensures value { edge_weight_at self.old.graph (Ix.number e) ≡ Some result.now }
     {
         let _well_formed = self.store.node_count();

@@ -1,5 +1,6 @@
 //! The edges of a document.
-ghost use Rattle.std.specs.Prelude.{◌≡◌, ◌⊎◌, ◌≤◌, ◌↔◌, IsTrue, IsSome, Ok, Err, map, length, vec_len, IfOk, IfErr};
+ghost use Rattle.std.specs.Prelude.{◌≡◌, ◌⊎◌, ◌≤◌, ◌↔◌, IsTrue, IsSome, Ok, Err, map, length};
+ghost use Rattle.std.specs.Prelude.{vec_len, IfOk, IfErr};
 ghost use Rattle.std.specs.Option.{option_map};
 ghost use Rattle.serde_json.specs.View.{view};
 ghost use Rattle.daggy_base.specs.Graph.{slot};
@@ -44,7 +45,8 @@ fn read_entry<N, E: Drop, Ix: IndexType, G: Fn(&Value) -> Result<Option<E>, Allo
 ) -> Result<Option<(NodeIndex<Ix>, NodeIndex<Ix>, E)>, ReadError>
     requires callable { G.IsAlwaysCallable fn_edge.now }
     requires few { vec_len nodes.now ≤ Ix.greatest }
-    ensures ok { IfOk result (λ x. IsEntryRead stable nodes.now.items (ReadsAs G.Fn fn_edge.now) (view value.now)
+    ensures ok { IfOk result
+        (λ x. IsEntryRead stable nodes.now.items (ReadsAs G.Fn fn_edge.now) (view value.now)
         (Ok (option_map (edge_of Ix.number) x))) }
     ensures err { IfErr result (λ e. (e ≡ Memory)
         ⊎ IsEntryRead stable nodes.now.items (ReadsAs G.Fn fn_edge.now) (view value.now) (Err e)) }
@@ -80,10 +82,12 @@ pub(super) fn read_entries<
 ) -> Result<Vec<Option<(NodeIndex<Ix>, NodeIndex<Ix>, E)>>, ReadError>
     requires callable { G.IsAlwaysCallable fn_edge.now }
     requires few { vec_len nodes.now ≤ Ix.greatest }
-    ensures ok { IfOk result (λ v. ReadsEach (IsEntryRead stable nodes.now.items (ReadsAs G.Fn fn_edge.now))
+    ensures ok { IfOk result
+        (λ v. ReadsEach (IsEntryRead stable nodes.now.items (ReadsAs G.Fn fn_edge.now))
         (map view list.now.items) (Ok (edges_by Ix.number v.items))) }
     ensures err { IfErr result (λ e. (e ≡ Memory)
-        ⊎ ReadsEach (IsEntryRead stable nodes.now.items (ReadsAs G.Fn fn_edge.now)) (map view list.now.items) (Err e)) }
+        ⊎ ReadsEach (IsEntryRead stable nodes.now.items (ReadsAs G.Fn fn_edge.now))
+        (map view list.now.items) (Err e)) }
 {
     let mut edges = Vec::new(alloc);
     edges.reserve(list.len())?;

@@ -1,5 +1,6 @@
 //! The slots and the orders of a document, before a dag is made of them.
-ghost use Rattle.std.specs.Prelude.{◌≡◌, ◌≤◌, ◌⊎◌, [], false, IfSome, Result, Ok, Err, map, length, vec_len, IfOk, IfErr};
+ghost use Rattle.std.specs.Prelude.{◌≡◌, ◌≤◌, ◌⊎◌, [], false, IfSome, Result, Ok, Err, map, length};
+ghost use Rattle.std.specs.Prelude.{vec_len, IfOk, IfErr};
 ghost use Rattle.std.specs.Option.{option_map};
 ghost use Rattle.serde_json.specs.View.{view};
 ghost use Rattle.daggy_base.specs.Graph.{Graph};
@@ -7,7 +8,8 @@ ghost use Rattle.daggy_base.specs.FromSlots.{graph_of_slots, edges_by};
 ghost use Rattle.daggy_base.specs.Orders.{AreOrders, numbers_of};
 ghost use Rattle.daggy_json.specs.Document.{vacant_from};
 ghost use Rattle.daggy_json.specs.Reading.{IsOrdered, IsRead, IsTested};
-ghost use Rattle.daggy_json.specs.Found.{ordered, orders_by, EndsExist, parts_of, AreNodesRead, IsNodesFault};
+ghost use Rattle.daggy_json.specs.Found.{ordered, orders_by, EndsExist, parts_of, AreNodesRead};
+ghost use Rattle.daggy_json.specs.Found.{IsNodesFault};
 ghost use Rattle.daggy_json.specs.Weight.{ReadsAs};
 ghost use Rattle.daggy_json.specs.declared.error.ReadError.TheVariants.{Memory};
 ghost use Rattle.daggy_json.specs.declared.error.ReadError.{ReadError};
@@ -32,9 +34,11 @@ fn read_orders<N, E, Ix: IndexType>(
 ) -> Result<Option<Vec<Row<Ix>>>, ReadError>
     requires ends { EndsExist nodes.now.items (edges_by Ix.number edges.now.items) }
     requires few { vec_len edges.now ≤ Ix.greatest }
-    ensures ok { IfOk result (λ o. IsOrdered (graph_of_slots nodes.now.items (edges_by Ix.number edges.now.items))
+    ensures ok { IfOk result
+        (λ o. IsOrdered (graph_of_slots nodes.now.items (edges_by Ix.number edges.now.items))
         (option_map (λ d. view d.now) orders.entry)
-        (Ok (ordered (graph_of_slots nodes.now.items (edges_by Ix.number edges.now.items)) (orders_by Ix.number o)))) }
+        (Ok (ordered (graph_of_slots nodes.now.items (edges_by Ix.number edges.now.items))
+        (orders_by Ix.number o)))) }
     ensures orders { IfOk result (λ o. IfSome o (λ v.
         AreOrders (graph_of_slots nodes.now.items (edges_by Ix.number edges.now.items))
         (map (numbers_of Ix.number) v.items))) }
@@ -73,7 +77,8 @@ fn gather_nodes<N: Drop, Ix: IndexType, F: Fn(&Value) -> Result<Option<N>, Alloc
     ensures ok { IfOk result (λ v. AreNodesRead Ix.greatest stable (ReadsAs F.Fn fn_node.now)
         (parts_of parts.now.nodes.now.items parts.now.holes.items parts.now.property.now
         parts.now.edges.now.items parts.now.orders) v.items) }
-    ensures err { IfErr result (λ e. (e ≡ Memory) ⊎ IsNodesFault Ix.greatest stable (ReadsAs F.Fn fn_node.now)
+    ensures err { IfErr result
+        (λ e. (e ≡ Memory) ⊎ IsNodesFault Ix.greatest stable (ReadsAs F.Fn fn_node.now)
         (parts_of parts.now.nodes.now.items parts.now.holes.items parts.now.property.now
         parts.now.edges.now.items parts.now.orders) e) }
 {
@@ -101,15 +106,18 @@ pub(crate) fn gather<
     ensures ok { IfOk result (λ s. (r : Result (Graph N E) ReadError)
         → IsTested (ordered (graph_of_slots s.nodes.items (edges_by Ix.number s.edges.items))
         (orders_by Ix.number s.orders)) r
-        → IsRead Ix.greatest stable (ReadsAs F.Fn fn_node.now) (ReadsAs G.Fn fn_edge.now) (view value.now) r) }
+        → IsRead Ix.greatest stable (ReadsAs F.Fn fn_node.now) (ReadsAs G.Fn fn_edge.now)
+        (view value.now) r) }
     ensures few_nodes { IfOk result (λ s. length s.nodes.items ≤ Ix.greatest) }
     ensures few_edges { IfOk result (λ s. length s.edges.items ≤ Ix.greatest) }
     ensures ends { IfOk result (λ s. EndsExist s.nodes.items (edges_by Ix.number s.edges.items)) }
     ensures full_nodes { IfOk result (λ s. stable ≡ false → vacant_from 0 s.nodes.items ≡ []) }
     ensures full_edges { IfOk result (λ s. stable ≡ false → vacant_from 0 s.edges.items ≡ []) }
     ensures orders { IfOk result (λ s. IfSome s.orders (λ v.
-        AreOrders (graph_of_slots s.nodes.items (edges_by Ix.number s.edges.items)) (map (numbers_of Ix.number) v.items))) }
-    ensures err { IfErr result (λ e. (e ≡ Memory) ⊎ IsRead {N = N} {E = E} Ix.greatest stable (ReadsAs F.Fn fn_node.now)
+        AreOrders (graph_of_slots s.nodes.items (edges_by Ix.number s.edges.items))
+        (map (numbers_of Ix.number) v.items))) }
+    ensures err { IfErr result
+        (λ e. (e ≡ Memory) ⊎ IsRead {N = N} {E = E} Ix.greatest stable (ReadsAs F.Fn fn_node.now)
         (ReadsAs G.Fn fn_edge.now) (view value.now) (Err e)) }
 {
     let parts = read_parts(alloc, value)?;

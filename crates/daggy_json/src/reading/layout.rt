@@ -1,5 +1,6 @@
 //! The holes of a document, and the numbers of its slots.
-ghost use Rattle.std.specs.Prelude.{◌≡◌, ◌+◌, ◌<◌, ◌^◌, ◌↔◌, IsTrue, Some, None, length, OnOk, IfErr};
+ghost use Rattle.std.specs.Prelude.{◌≡◌, ◌+◌, ◌<◌, ◌^◌, ◌↔◌, IsTrue, Some, None, length, OnOk};
+ghost use Rattle.std.specs.Prelude.{IfErr};
 ghost use Rattle.daggy_json.specs.Reading.{Ascend, AreHoles, IsLaidOut};
 ghost use Rattle.daggy_json.specs.Found.{parts_of};
 

@@ -31,7 +31,8 @@ fn read_list<Ix: IndexType>(
     bound: usize,
 ) -> Result<Option<Vec<EdgeIndex<Ix>>>, AllocError>
     requires { bound ≤ Ix.greatest }
-    ensures { IfOk result (λ o. option_map (λ v. map Ix.number v.items) o ≡ indices_in bound (view value.now)) }
+    ensures { IfOk result (λ o.
+        option_map (λ v. map Ix.number v.items) o ≡ indices_in bound (view value.now)) }
 {
     let Some(list) = value.as_array() else {
         return Ok(None);
@@ -54,7 +55,8 @@ fn read_row<Ix: IndexType>(
     bound: usize,
 ) -> Result<Option<Row<Ix>>, AllocError>
     requires { bound ≤ Ix.greatest }
-    ensures { IfOk result (λ o. option_map (numbers_of Ix.number) o ≡ row_in bound (view value.now)) }
+    ensures { IfOk result (λ o.
+        option_map (numbers_of Ix.number) o ≡ row_in bound (view value.now)) }
 {
     let Some(lists) = value.as_array() else {
         return Ok(None);

@@ -3,7 +3,8 @@ ghost use Rattle.std.specs.Prelude.{◌≡◌, ◌⊎◌, Some, None, map, codes
 ghost use Rattle.std.specs.Option.{option_map};
 ghost use Rattle.serde_json.specs.View.{view};
 ghost use Rattle.serde_json.specs.Find.{get};
-ghost use Rattle.daggy_json.specs.Reading.{array_at, all_in, whole_in, numbers_in, holes_in, parts_in};
+ghost use Rattle.daggy_json.specs.Reading.{array_at, all_in, whole_in, numbers_in, holes_in};
+ghost use Rattle.daggy_json.specs.Reading.{parts_in};
 ghost use Rattle.daggy_json.specs.Found.{parts_of};
 ghost use Rattle.daggy_json.specs.declared.error.ReadError.TheVariants.{Shape, Memory};
 
@@ -29,7 +30,8 @@ fn find_array<'v>(value: &'v Value, key: &str) -> Option<&'v Vec<Value>>
 
 // Whole numbers, if each value is one.
 fn read_numbers(alloc: Global, list: &Vec<Value>) -> Result<Option<Vec<usize>>, AllocError>
-    ensures { IfOk result (λ o. option_map (λ v. v.items) o ≡ all_in whole_in (map view list.now.items)) }
+    ensures { IfOk result (λ o.
+        option_map (λ v. v.items) o ≡ all_in whole_in (map view list.now.items)) }
 {
     let mut numbers = Vec::new(alloc);
     numbers.reserve(list.len())?;
@@ -44,7 +46,8 @@ fn read_numbers(alloc: Global, list: &Vec<Value>) -> Result<Option<Vec<usize>>, 
 
 // The vacant slots of nodes. There is none without the key.
 fn read_holes(alloc: Global, value: &Value) -> Result<Option<Vec<usize>>, AllocError>
-    ensures { IfOk result (λ o. option_map (λ v. v.items) o ≡ holes_in (get (codes "node_holes") (view value.now))) }
+    ensures { IfOk result (λ o.
+        option_map (λ v. v.items) o ≡ holes_in (get (codes "node_holes") (view value.now))) }
 {
     let Some(holes) = value.get("node_holes") else {
         return Ok(Some(Vec::new(alloc)));
@@ -58,8 +61,10 @@ fn read_holes(alloc: Global, value: &Value) -> Result<Option<Vec<usize>>, AllocE
 // The parts of the document.
 pub(super) fn read_parts<'v>(alloc: Global, value: &'v Value) -> Result<Parts<'v>, ReadError>
     ensures ok { IfOk result (λ p. parts_in (view value.now)
-        ≡ Some (parts_of p.nodes.now.items p.holes.items p.property.now p.edges.now.items p.orders)) }
-    ensures err { IfErr result (λ e. (e ≡ Memory) ⊎ ((e ≡ Shape) × (parts_in (view value.now) ≡ None))) }
+        ≡ Some
+        (parts_of p.nodes.now.items p.holes.items p.property.now p.edges.now.items p.orders)) }
+    ensures err { IfErr result (λ e.
+        (e ≡ Memory) ⊎ ((e ≡ Shape) × (parts_in (view value.now) ≡ None))) }
 {
     let Some(nodes) = find_array(value, "nodes") else {
         return Err(ReadError::Shape);

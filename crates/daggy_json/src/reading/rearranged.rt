@@ -1,8 +1,10 @@
 //! Whether the orders of a document are rearrangements of the lists of its graph.
-ghost use Rattle.std.specs.Prelude.{◌≡◌, ◌≤◌, ◌↔◌, IsTrue, ℕ, length, map, vec_len, slice_index_or, false, OnOk, IfOk};
+ghost use Rattle.std.specs.Prelude.{◌≡◌, ◌≤◌, ◌↔◌, IsTrue, ℕ, length, map, vec_len, slice_index_or};
+ghost use Rattle.std.specs.Prelude.{false, OnOk, IfOk};
 ghost use Rattle.daggy_base.specs.FromSlots.{graph_of_slots, has_end, edges_by};
 ghost use Rattle.daggy_base.specs.Orders.{AreOrders, numbers_of};
-ghost use Rattle.daggy_json.specs.Found.{chosen, Marked, marked_with, AllMarked, marked_by, LeavesNone, AreRearranged, EndsExist};
+ghost use Rattle.daggy_json.specs.Found.{chosen, Marked, marked_with, AllMarked, marked_by};
+ghost use Rattle.daggy_json.specs.Found.{LeavesNone, AreRearranged, EndsExist};
 
 use crate::reading::orders::Row;
 use daggy_base::index::{Direction, EdgeIndex, IndexType, NodeIndex};
@@ -37,8 +39,10 @@ fn mark_list<E, Ix: IndexType>(
 ) -> bool
     requires fits { vec_len edges.now ≤ length marks.old }
     ensures decided { IsTrue result
-        ↔ Marked (has_end dir (edges_by Ix.number edges.now.items) n) marks.old (map Ix.number list.now.items) }
-    ensures marked { IsTrue result → marks.new ≡ marked_with marks.old (map Ix.number list.now.items) }
+        ↔ Marked (has_end dir (edges_by Ix.number edges.now.items) n) marks.old
+        (map Ix.number list.now.items) }
+    ensures marked { IsTrue result
+        → marks.new ≡ marked_with marks.old (map Ix.number list.now.items) }
     ensures kept { length marks.new ≡ length marks.old }
 {
     for e in list {
@@ -61,8 +65,8 @@ fn list_of<Ix: IndexType>(row: &Row<Ix>, dir: Direction) -> &Vec<EdgeIndex<Ix>>
     }
 }
 
-// Marks the edges of all lists of one direction. False if a list has an edge that is not at its node, or one twice, or
-// if there are not as many lists as nodes.
+// Marks the edges of all lists of one direction. False if a list has an edge that is not at its
+// node, or one twice, or if there are not as many lists as nodes.
 fn mark_lists<N, E, Ix: IndexType>(
     nodes: &Vec<Option<N>>,
     edges: &Vec<Slot<E, Ix>>,
@@ -75,7 +79,8 @@ fn mark_lists<N, E, Ix: IndexType>(
         ↔ AllMarked (has_end dir (edges_by Ix.number edges.now.items)) 0 marks.old nodes.now.items
         (map (chosen dir) (map (numbers_of Ix.number) rows.now.items)) }
     ensures marked { IsTrue result → marks.new
-        ≡ marked_by marks.old nodes.now.items (map (chosen dir) (map (numbers_of Ix.number) rows.now.items)) }
+        ≡ marked_by marks.old nodes.now.items
+        (map (chosen dir) (map (numbers_of Ix.number) rows.now.items)) }
     ensures kept { length marks.new ≡ length marks.old }
 {
     let mut passed = 0;
@@ -114,7 +119,8 @@ fn is_rearranged<N, E, Ix: IndexType>(
     marks: &mut Marks,
 ) -> bool
     requires fits { length marks.old ≡ vec_len edges.now }
-    ensures decided { IsTrue result ↔ AreRearranged dir nodes.now.items (edges_by Ix.number edges.now.items)
+    ensures decided { IsTrue result
+        ↔ AreRearranged dir nodes.now.items (edges_by Ix.number edges.now.items)
         (map (numbers_of Ix.number) rows.now.items) }
     ensures kept { length marks.new ≡ length marks.old }
 {
@@ -130,7 +136,8 @@ pub(super) fn are_orders<N, E, Ix: IndexType>(
     rows: &Vec<Row<Ix>>,
 ) -> Result<bool, AllocError>
     requires { EndsExist nodes.now.items (edges_by Ix.number edges.now.items) }
-    ensures { IfOk result (λ b. IsTrue b ↔ AreOrders (graph_of_slots nodes.now.items (edges_by Ix.number edges.now.items))
+    ensures { IfOk result (λ b. IsTrue b
+        ↔ AreOrders (graph_of_slots nodes.now.items (edges_by Ix.number edges.now.items))
         (map (numbers_of Ix.number) rows.now.items)) }
 {
     let mut marks = Marks::new(alloc);

@@ -1,5 +1,6 @@
 //! The nodes of a document.
-ghost use Rattle.std.specs.Prelude.{◌≡◌, ◌+◌, ◌^◌, ◌<◌, ◌⊎◌, Ok, Err, map, length, vec_len, IfOk, IfErr};
+ghost use Rattle.std.specs.Prelude.{◌≡◌, ◌+◌, ◌^◌, ◌<◌, ◌⊎◌, Ok, Err, map, length, vec_len, IfOk};
+ghost use Rattle.std.specs.Prelude.{IfErr};
 ghost use Rattle.serde_json.specs.View.{view};
 ghost use Rattle.daggy_json.specs.Reading.{Ascend, AreSlots, ReadsEach, IsWeight};
 ghost use Rattle.daggy_json.specs.Weight.{ReadsAs};
@@ -16,7 +17,8 @@ fn read_weight<W: Drop, F: Fn(&Value) -> Result<Option<W>, AllocError>>(
 ) -> Result<W, ReadError>
     requires { F.IsAlwaysCallable read.now }
     ensures ok { IfOk result (λ w. IsWeight (ReadsAs F.Fn read.now) (view value.now) (Ok w)) }
-    ensures err { IfErr result (λ e. (e ≡ Memory) ⊎ IsWeight (ReadsAs F.Fn read.now) (view value.now) (Err e)) }
+    ensures err { IfErr result (λ e.
+        (e ≡ Memory) ⊎ IsWeight (ReadsAs F.Fn read.now) (view value.now) (Err e)) }
 {
     match read(value) {
         Ok(Some(weight)) => Ok(weight),
@@ -32,7 +34,8 @@ pub(super) fn read_weights<N: Drop, F: Fn(&Value) -> Result<Option<N>, AllocErro
     fn_node: &F,
 ) -> Result<Vec<N>, ReadError>
     requires { F.IsAlwaysCallable fn_node.now }
-    ensures ok { IfOk result (λ v. ReadsEach (IsWeight (ReadsAs F.Fn fn_node.now)) (map view list.now.items)
+    ensures ok { IfOk result
+        (λ v. ReadsEach (IsWeight (ReadsAs F.Fn fn_node.now)) (map view list.now.items)
         (Ok v.items)) }
     ensures err { IfErr result (λ e. (e ≡ Memory)
         ⊎ ReadsEach (IsWeight (ReadsAs F.Fn fn_node.now)) (map view list.now.items) (Err e)) }

@@ -1,11 +1,18 @@
 //! Both kinds of dag as dags that take commands.
-ghost use Rattle.std.specs.Prelude.{◌≡◌, ℕ, ◌<◌, ◌≤◌, ◌^◌, ◌↔◌, ◌⊎◌, IsTrue, Err, None, IfOk, IfErr, OnOk, OnErr, OnSome, IfSome, IfNone, IsOkAnd, length, map, refl};
+ghost use Rattle.std.specs.Prelude.{◌≡◌, ℕ, ◌<◌, ◌≤◌, ◌^◌, ◌↔◌, ◌⊎◌, IsTrue, Err, None, IfOk};
+ghost use Rattle.std.specs.Prelude.{IfErr, OnOk, OnErr, OnSome, IfSome, IfNone, IsOkAnd, length};
+ghost use Rattle.std.specs.Prelude.{map, refl};
 ghost use Rattle.std.specs.Option.{option_map};
-ghost use Rattle.daggy_base.specs.Graph.{Graph, empty, HasNode, HasEdge, node_weight as weight_at, edge_at, ends_of, pair_of, node_count as node_count_of, edge_count as edge_count_of, node_bound as node_bound_of, out_list};
+ghost use Rattle.daggy_base.specs.Graph.{Graph, empty, HasNode, HasEdge, node_weight as weight_at};
+ghost use Rattle.daggy_base.specs.Graph.{edge_at, ends_of, pair_of, node_count as node_count_of};
+ghost use Rattle.daggy_base.specs.Graph.{edge_count as edge_count_of, node_bound as node_bound_of};
+ghost use Rattle.daggy_base.specs.Graph.{out_list};
 ghost use Rattle.daggy_base.specs.Path.{Reaches, IsAcyclic};
 ghost use Rattle.daggy_base.specs.WellFormed.{IsDag};
-ghost use Rattle.daggy_base.specs.Adding.{next_node, next_edge, with_node, with_edge, with_neighbor};
-ghost use Rattle.daggy_base.specs.Removal.{Kind as SlotKind, without_edge, without_node, without_all_edges};
+ghost use Rattle.daggy_base.specs.Adding.{next_node, next_edge, with_node, with_edge};
+ghost use Rattle.daggy_base.specs.Adding.{with_neighbor};
+ghost use Rattle.daggy_base.specs.Removal.{Kind as SlotKind, without_edge, without_node};
+ghost use Rattle.daggy_base.specs.Removal.{without_all_edges};
 ghost use Rattle.daggy_base.specs.Reduction.{IsReduction};
 ghost use Rattle.daggy_base.specs.Weights.{edge_weight as edge_weight_at, with_edge_weight};
 ghost use Rattle.daggy_base.specs.Finding.{find_edge as edge_between};
@@ -14,7 +21,8 @@ ghost use Rattle.daggy_base.specs.Look.{IsLook};
 ghost use Rattle.daggy_order.specs.Ordered.{IsOrderOf};
 ghost use Rattle.daggy_base.specs.declared.index.Direction.TheVariants.{Outgoing, Incoming};
 ghost use Rattle.daggy_base.specs.declared.error.NodeError.TheVariants.{Memory as NodeMemory};
-ghost use Rattle.daggy_base.specs.declared.error.EdgeError.TheVariants.{WouldCycle as ByCycle, Memory as EdgeMemory};
+ghost use Rattle.daggy_base.specs.declared.error.EdgeError.TheVariants.{WouldCycle as ByCycle};
+ghost use Rattle.daggy_base.specs.declared.error.EdgeError.TheVariants.{Memory as EdgeMemory};
 ghost use Rattle.daggy_base.specs.declared.error.ChildError.TheVariants.{Memory as ChildMemory};
 ghost use Rattle.daggy_guard.specs.EdgeBatch.{by_numbers};
 ghost use Rattle.daggy_run.specs.Kinds.{kind_of};
@@ -148,7 +156,8 @@ where
         requires index_left { edge_count_of self.old.graph < Ix.greatest }
         ensures cycle { (result ≡ Err (ByCycle (record { 0 = weight })))
             ↔ Reaches self.old.graph (Ix.number b) (Ix.number a) }
-        ensures refusal { IfErr result (λ e. (e ≡ ByCycle (record { 0 = weight })) ⊎ (e ≡ EdgeMemory weight)) }
+        ensures refusal { IfErr result (λ e.
+            (e ≡ ByCycle (record { 0 = weight })) ⊎ (e ≡ EdgeMemory weight)) }
         ensures added { IfOk result (λ e. (Ix.number e ≡ next_edge self.old.graph)
             × (self.new.graph ≡ with_edge self.old.graph (Ix.number a) (Ix.number b) weight)) }
         ensures unchanged { OnErr result (self.new.graph ≡ self.old.graph) }
@@ -173,8 +182,10 @@ where
             × (self.new.graph ≡ with_edge_weight self.old.graph e weight)) }
         ensures cycle { (result ≡ Err (ByCycle (record { 0 = weight })))
             ↔ Reaches self.old.graph (Ix.number b) (Ix.number a) }
-        ensures refusal { IfErr result (λ e. (e ≡ ByCycle (record { 0 = weight })) ⊎ (e ≡ EdgeMemory weight)) }
-        ensures added { edge_between self.old.graph (Ix.number a) (Ix.number b) ≡ None → IfOk result (λ e.
+        ensures refusal { IfErr result (λ e.
+            (e ≡ ByCycle (record { 0 = weight })) ⊎ (e ≡ EdgeMemory weight)) }
+        ensures added { edge_between self.old.graph (Ix.number a) (Ix.number b) ≡ None
+            → IfOk result (λ e.
             (Ix.number e ≡ next_edge self.old.graph)
             × (self.new.graph ≡ with_edge self.old.graph (Ix.number a) (Ix.number b) weight)) }
         ensures unchanged { OnErr result (self.new.graph ≡ self.old.graph) }
@@ -195,7 +206,8 @@ where
         requires node_index_left { node_count_of self.old.graph < Ix.greatest }
         ensures added { IfOk result (λ r. (Ix.number r.0 ≡ next_edge self.old.graph)
             × (Ix.number r.1 ≡ next_node self.old.graph)
-            × (self.new.graph ≡ with_neighbor Outgoing self.old.graph (Ix.number parent) edge node)) }
+            × (self.new.graph
+            ≡ with_neighbor Outgoing self.old.graph (Ix.number parent) edge node)) }
         ensures refusal { IfErr result (λ e. e ≡ ChildMemory edge node) }
         ensures unchanged { OnErr result (self.new.graph ≡ self.old.graph) }
         ensures acyclic { IsAcyclic self.new.graph }
@@ -215,7 +227,8 @@ where
         requires node_index_left { node_count_of self.old.graph < Ix.greatest }
         ensures added { IfOk result (λ r. (Ix.number r.0 ≡ next_edge self.old.graph)
             × (Ix.number r.1 ≡ next_node self.old.graph)
-            × (self.new.graph ≡ with_neighbor Incoming self.old.graph (Ix.number child) edge node)) }
+            × (self.new.graph
+            ≡ with_neighbor Incoming self.old.graph (Ix.number child) edge node)) }
         ensures refusal { IfErr result (λ e. e ≡ ChildMemory edge node) }
         ensures unchanged { OnErr result (self.new.graph ≡ self.old.graph) }
         ensures acyclic { IsAcyclic self.new.graph }
@@ -239,7 +252,8 @@ where
 
     #[inline]
     fn find_edge(&self, a: NodeIndex<Ix>, b: NodeIndex<Ix>) -> Option<EdgeIndex<Ix>>
-        ensures found { option_map Ix.number result ≡ edge_between self.now.graph (Ix.number a) (Ix.number b) }
+        ensures found { option_map Ix.number result
+            ≡ edge_between self.now.graph (Ix.number a) (Ix.number b) }
         ensures ends { OnSome result (HasNode self.now.graph (Ix.number a)
             × HasNode self.now.graph (Ix.number b)) }
     {
@@ -248,7 +262,8 @@ where
 
     #[inline]
     fn edge_endpoints(&self, e: EdgeIndex<Ix>) -> Option<(NodeIndex<Ix>, NodeIndex<Ix>)>
-        ensures { option_map (pair_of Ix.number) result ≡ option_map ends_of (edge_at self.now.graph (Ix.number e)) }
+        ensures { option_map (pair_of Ix.number) result
+            ≡ option_map ends_of (edge_at self.now.graph (Ix.number e)) }
     {
         self.edge_endpoints(e)
     }
@@ -256,7 +271,8 @@ where
     #[inline]
     fn remove_node(&mut self, n: NodeIndex<Ix>) -> Option<N>
         ensures value { result ≡ weight_at self.old.graph (Ix.number n) }
-        ensures removed { OnSome result (self.new.graph ≡ without_node S.kind self.old.graph (Ix.number n)) }
+        ensures removed { OnSome result
+            (self.new.graph ≡ without_node S.kind self.old.graph (Ix.number n)) }
         ensures missing { IfNone result (self.new.graph ≡ self.old.graph) }
         ensures acyclic { IsAcyclic self.new.graph }
     {
@@ -266,7 +282,8 @@ where
     #[inline]
     fn remove_edge(&mut self, e: EdgeIndex<Ix>) -> Option<E>
         ensures value { result ≡ edge_weight_at self.old.graph (Ix.number e) }
-        ensures removed { OnSome result (self.new.graph ≡ without_edge S.kind self.old.graph (Ix.number e)) }
+        ensures removed { OnSome result
+            (self.new.graph ≡ without_edge S.kind self.old.graph (Ix.number e)) }
         ensures missing { IfNone result (self.new.graph ≡ self.old.graph) }
         ensures acyclic { IsAcyclic self.new.graph }
     {
@@ -305,7 +322,8 @@ where
 
     #[inline]
     fn transitive_reduce(&mut self, roots: Vec<NodeIndex<Ix>>) -> Result<(), AllocError>
-        ensures reduced { OnOk result (IsReduction S.kind (map Ix.number roots.items) self.old.graph self.new.graph) }
+        ensures reduced { OnOk result
+            (IsReduction S.kind (map Ix.number roots.items) self.old.graph self.new.graph) }
         ensures unchanged { OnErr result (self.new.graph ≡ self.old.graph) }
         ensures acyclic { IsAcyclic self.new.graph }
     {
@@ -333,7 +351,8 @@ where
     #[inline]
     fn child_edge(&self, e: EdgeIndex<Ix>) -> (NodeIndex<Ix>, EdgeIndex<Ix>)
         requires { HasEdge self.now.graph (Ix.number e) }
-        ensures { IsLook Ix.greatest self.now.graph (Ix.number e) (Ix.number result.0) (Ix.number result.1) }
+        ensures { IsLook Ix.greatest self.now.graph (Ix.number e) (Ix.number result.0)
+            (Ix.number result.1) }
     {
         let store = self.graph();
         let next = store.next_edge(e, Direction::Outgoing);

@@ -18,8 +18,8 @@ pub(crate) struct Levels<Ix: IndexType> {
     pub(crate) parents: Vec<Link<Ix>>,
 }
 
-// The level of each node, found along the dag's order: a node's level is known once its parents were
-// gone through.
+// The level of each node, found along the dag's order: a node's level is known once its parents
+// were gone through.
 pub(crate) fn levels_of<N, E, Ix: IndexType, D: GuardedDag<N, E, Ix>>(
     alloc: Global,
     dag: &D,
@@ -54,14 +54,18 @@ fn raise_children<N, E, Ix: IndexType, D: GuardedDag<N, E, Ix>>(
     requires exists { HasNode (D.graph dag.now) (Ix.number n) }
     requires levels { vec_len levels.old ≡ node_bound_of (D.graph dag.now) }
     requires parents { vec_len parents.old ≡ node_bound_of (D.graph dag.now) }
-    requires within { (k : ℕ) → k < vec_len parents.old → slice_index parents.old.items k < vec_len parents.old }
+    requires within { (k : ℕ)
+        → k < vec_len parents.old → slice_index parents.old.items k < vec_len parents.old }
     requires level_fits { slice_index levels.old.items (Ix.number n) + 1 < 2 ^ 64 }
     ensures raised { (waiting : List ℕ) (most : ℕ) → IsNext (D.graph dag.now) (Ix.number n) waiting
-        → AreLevels (IsPassed (D.graph dag.now) (Ix.number n ∷ waiting)) most levels.old.items parents.old.items
-        → AreLevels (IsPassed (D.graph dag.now) waiting) (most + 1) levels.new.items parents.new.items }
+        → AreLevels (IsPassed (D.graph dag.now) (Ix.number n ∷ waiting)) most levels.old.items
+        parents.old.items
+        → AreLevels (IsPassed (D.graph dag.now) waiting) (most + 1) levels.new.items
+        parents.new.items }
     ensures levels { vec_len levels.new ≡ vec_len levels.old }
     ensures parents { vec_len parents.new ≡ vec_len parents.old }
-    ensures within { (k : ℕ) → k < vec_len parents.new → slice_index parents.new.items k < vec_len parents.new }
+    ensures within { (k : ℕ)
+        → k < vec_len parents.new → slice_index parents.new.items k < vec_len parents.new }
 {
     // Asked for its contract alone: the graph is well formed.
     let _bound = dag.node_bound();

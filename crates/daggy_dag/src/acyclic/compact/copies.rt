@@ -12,10 +12,12 @@ use daggy_order::order::Order;
 use std::alloc::{AllocError, Global};
 use std::marker::PhantomData;
 
-/// Gives a dag with the same nodes and edges under the same indices, and in the same lists, with a clone of each weight.
+/// Gives a dag with the same nodes and edges under the same indices, and in the same lists, with a
+/// clone of each weight.
 impl<N: Clone + Drop, E: Clone + Drop, Ix: IndexType> Clone
     for Acyclic<N, E, Ix, DiGraph<N, E, Ix>> {
-    ghost is_clone = { λ d copy. IsCopy N.is_clone E.is_clone d.graph copy.graph × (copy.looks ≡ 0) };
+    ghost is_clone = { λ d copy.
+        IsCopy N.is_clone E.is_clone d.graph copy.graph × (copy.looks ≡ 0) };
 
     fn clone(&self) -> Result<Self, AllocError> {
         let mut scratch = Scratch::new(self.scratch.allocator());
@@ -33,10 +35,11 @@ impl<N: Clone + Drop, E: Clone + Drop, Ix: IndexType> Clone
 }
 
 impl<N: Drop, E: Drop, Ix: IndexType> Acyclic<N, E, Ix, DiGraph<N, E, Ix>> {
-    /// An empty dag with memory for so many nodes and edges, for their order, and for the searches among them.
+    /// An empty dag with memory for so many nodes and edges, for their order, and for the searches
+    /// among them.
     ///
-    /// The error says that memory was refused, or that no machine can have so much. There may later be more nodes and
-    /// edges than that.
+    /// The error says that memory was refused, or that no machine can have so much. There may later
+    /// be more nodes and edges than that.
     pub fn with_capacity(alloc: Global, nodes: usize, edges: usize) -> Result<Self, AllocError>
         ensures value { IfOk result (λ d. d ≡ record { graph = empty; looks = 0 }) }
         ensures nodes_fit { OnOk result (nodes < 2 ^ 63) }
@@ -58,7 +61,8 @@ impl<N: Drop, E: Drop, Ix: IndexType> Acyclic<N, E, Ix, DiGraph<N, E, Ix>> {
 
     /// A dag with the same nodes and edges under the same indices, and in the same lists.
     ///
-    /// The error says that memory for it was refused. The cost grows with the number of nodes and edges.
+    /// The error says that memory for it was refused. The cost grows with the number of nodes and
+    /// edges.
     pub fn try_clone(&self) -> Result<Self, AllocError>
     where
         N: Clone,
@@ -76,7 +80,8 @@ impl<N: Drop, E: Drop, Ix: IndexType> Acyclic<N, E, Ix, DiGraph<N, E, Ix>> {
     /// Reserves capacity for so many more nodes, for their order and for the searches among them,
     /// and for some more than that, so that a later call seldom reserves again.
     ///
-    /// The error says that memory was refused, or that no machine can have so much. The dag is as it was.
+    /// The error says that memory was refused, or that no machine can have so much. The dag is as
+    /// it was.
     pub fn reserve_nodes(&mut self, additional: usize) -> Result<(), AllocError>
         ensures same { self.new ≡ self.old }
         ensures fits { OnOk result (length self.new.graph.nodes + additional < 2 ^ 63) }
@@ -89,7 +94,8 @@ impl<N: Drop, E: Drop, Ix: IndexType> Acyclic<N, E, Ix, DiGraph<N, E, Ix>> {
 
     /// Reserves capacity for so many more nodes, for their order and for the searches among them.
     ///
-    /// The error says that memory was refused, or that no machine can have so much. The dag is as it was.
+    /// The error says that memory was refused, or that no machine can have so much. The dag is as
+    /// it was.
     pub fn reserve_exact_nodes(&mut self, additional: usize) -> Result<(), AllocError>
         ensures same { self.new ≡ self.old }
         ensures fits { OnOk result (length self.new.graph.nodes + additional < 2 ^ 63) }
@@ -103,7 +109,8 @@ impl<N: Drop, E: Drop, Ix: IndexType> Acyclic<N, E, Ix, DiGraph<N, E, Ix>> {
     /// Reserves capacity for so many more edges, and for some more than that, so that a later call
     /// seldom reserves again.
     ///
-    /// The error says that memory was refused, or that no machine can have so much. The dag is as it was.
+    /// The error says that memory was refused, or that no machine can have so much. The dag is as
+    /// it was.
     pub fn reserve_edges(&mut self, additional: usize) -> Result<(), AllocError>
         ensures same { self.new ≡ self.old }
         ensures fits { OnOk result (length self.new.graph.edges + additional < 2 ^ 63) }
@@ -113,7 +120,8 @@ impl<N: Drop, E: Drop, Ix: IndexType> Acyclic<N, E, Ix, DiGraph<N, E, Ix>> {
 
     /// Reserves capacity for so many more edges.
     ///
-    /// The error says that memory was refused, or that no machine can have so much. The dag is as it was.
+    /// The error says that memory was refused, or that no machine can have so much. The dag is as
+    /// it was.
     pub fn reserve_exact_edges(&mut self, additional: usize) -> Result<(), AllocError>
         ensures same { self.new ≡ self.old }
         ensures fits { OnOk result (length self.new.graph.edges + additional < 2 ^ 63) }
@@ -123,7 +131,8 @@ impl<N: Drop, E: Drop, Ix: IndexType> Acyclic<N, E, Ix, DiGraph<N, E, Ix>> {
 
     /// Gives memory back that no node and no edge needs. The room for searches stays.
     ///
-    /// The error says that a smaller block was refused. The dag is as it was, and so is the memory of that block.
+    /// The error says that a smaller block was refused. The dag is as it was, and so is the memory
+    /// of that block.
     pub fn shrink_to_fit(&mut self) -> Result<(), AllocError>
         ensures { self.new ≡ self.old }
     {
@@ -132,7 +141,8 @@ impl<N: Drop, E: Drop, Ix: IndexType> Acyclic<N, E, Ix, DiGraph<N, E, Ix>> {
 
     /// Gives memory back that no node needs. The room for searches stays.
     ///
-    /// The error says that a smaller block was refused. The dag is as it was, and keeps the block that it had.
+    /// The error says that a smaller block was refused. The dag is as it was, and keeps the block
+    /// that it had.
     pub fn shrink_to_fit_nodes(&mut self) -> Result<(), AllocError>
         ensures { self.new ≡ self.old }
     {
@@ -141,7 +151,8 @@ impl<N: Drop, E: Drop, Ix: IndexType> Acyclic<N, E, Ix, DiGraph<N, E, Ix>> {
 
     /// Gives memory back that no edge needs.
     ///
-    /// The error says that a smaller block was refused. The dag is as it was, and keeps the block that it had.
+    /// The error says that a smaller block was refused. The dag is as it was, and keeps the block
+    /// that it had.
     pub fn shrink_to_fit_edges(&mut self) -> Result<(), AllocError>
         ensures { self.new ≡ self.old }
     {

@@ -62,7 +62,8 @@ impl<'a, N: Drop, E: Drop, Ix: IndexType> NodeWeightsMut<'a, N, E, Ix> {
     /// The weight of the next node, or `None` if there is none left.
     #[inline]
     pub fn next(&mut self) -> Option<&mut N>
-        ensures* writes_back { sem 𝓛 (nodes_lend_next N.row E.row Ix.row Ix.IndexType Ix.Clone self.entry result) }
+        ensures* writes_back { sem 𝓛
+            (nodes_lend_next N.row E.row Ix.row Ix.IndexType Ix.Clone self.entry result) }
         ensures value { option_copied_mut result ≡ weight_at self.old.dag.now.graph self.old.index }
     {
         let i = self.index;
@@ -79,8 +80,10 @@ impl<'a, N: Drop, E: Drop, Ix: IndexType> EdgeWeightsMut<'a, N, E, Ix> {
     /// The weight of the next edge, or `None` if there is none left.
     #[inline]
     pub fn next(&mut self) -> Option<&mut E>
-        ensures* writes_back { sem 𝓛 (edges_lend_next N.row E.row Ix.row Ix.IndexType Ix.Clone self.entry result) }
-        ensures value { option_copied_mut result ≡ edge_weight_at self.old.dag.now.graph self.old.index }
+        ensures* writes_back { sem 𝓛
+            (edges_lend_next N.row E.row Ix.row Ix.IndexType Ix.Clone self.entry result) }
+        ensures value { option_copied_mut result
+            ≡ edge_weight_at self.old.dag.now.graph self.old.index }
     {
         let i = self.index;
         if i < self.dag.graph().edge_count() {

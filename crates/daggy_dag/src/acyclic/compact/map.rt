@@ -12,11 +12,12 @@ use std::alloc::AllocError;
 use std::marker::PhantomData;
 
 impl<N: Drop, E: Drop, Ix: IndexType> Acyclic<N, E, Ix, DiGraph<N, E, Ix>> {
-    /// A dag with the same nodes and edges under the same indices, and in the same lists, whose weights are what the
-    /// closures give: `f` is called with each node by ascending index, and then `g` with each edge.
+    /// A dag with the same nodes and edges under the same indices, and in the same lists, whose
+    /// weights are what the closures give: `f` is called with each node by ascending index, and
+    /// then `g` with each edge.
     ///
-    /// The error says that memory for it, or for its searches, was refused. Then no closure was called. The cost grows
-    /// with the number of nodes and edges, besides that of the calls.
+    /// The error says that memory for it, or for its searches, was refused. Then no closure was
+    /// called. The cost grows with the number of nodes and edges, besides that of the calls.
     pub fn map<
         N2: Drop,
         E2: Drop,
@@ -25,7 +26,8 @@ impl<N: Drop, E: Drop, Ix: IndexType> Acyclic<N, E, Ix, DiGraph<N, E, Ix>> {
     >(&self, f: F, g: G) -> Result<Dag<N2, E2, Ix>, AllocError>
         requires nodes { F.IsAlwaysCallable f }
         requires edges { G.IsAlwaysCallable g }
-        ensures mapped { IfOk result (λ d. IsMapped Ix.of F.step G.step f g self.now.graph d.graph) }
+        ensures mapped { IfOk result (λ d.
+            IsMapped Ix.of F.step G.step f g self.now.graph d.graph) }
         ensures acyclic { IfOk result (λ d. IsAcyclic d.graph) }
         ensures looks { IfOk result (λ d. d.looks ≡ 0) }
     {
@@ -42,15 +44,15 @@ impl<N: Drop, E: Drop, Ix: IndexType> Acyclic<N, E, Ix, DiGraph<N, E, Ix>> {
         })
     }
 
-    /// A dag of the nodes and edges that the closures give a weight for: `f` is called with each node by ascending
-    /// index, and then `g` with each edge whose ends both stayed.
+    /// A dag of the nodes and edges that the closures give a weight for: `f` is called with each
+    /// node by ascending index, and then `g` with each edge whose ends both stayed.
     ///
-    /// The nodes that stay keep their order and get new indices from 0 on. The edges that stay are added again by
-    /// ascending index, so each list has the edge with the greatest index first. Where nothing is left out, each node
-    /// and edge keeps its index.
+    /// The nodes that stay keep their order and get new indices from 0 on. The edges that stay are
+    /// added again by ascending index, so each list has the edge with the greatest index first.
+    /// Where nothing is left out, each node and edge keeps its index.
     ///
-    /// The error says that memory for it, or for its searches, was refused. Then no closure was called. The cost grows
-    /// with the number of nodes and edges, besides that of the calls.
+    /// The error says that memory for it, or for its searches, was refused. Then no closure was
+    /// called. The cost grows with the number of nodes and edges, besides that of the calls.
     pub fn filter_map<
         N2: Drop,
         E2: Drop,
@@ -59,10 +61,12 @@ impl<N: Drop, E: Drop, Ix: IndexType> Acyclic<N, E, Ix, DiGraph<N, E, Ix>> {
     >(&self, f: F, g: G) -> Result<Dag<N2, E2, Ix>, AllocError>
         requires nodes { F.IsAlwaysCallable f }
         requires edges { G.IsAlwaysCallable g }
-        ensures filtered { IfOk result (λ d. IsFiltered Ix.of F.step G.step f g self.now.graph d.graph) }
+        ensures filtered { IfOk result (λ d.
+            IsFiltered Ix.of F.step G.step f g self.now.graph d.graph) }
         ensures descending { IfOk result (λ d. ListsDescend d.graph) }
         ensures whole { IfOk result (λ d. length d.graph.nodes ≡ length self.now.graph.nodes
-            → length d.graph.edges ≡ length self.now.graph.edges → HaveSameEnds self.now.graph d.graph) }
+            → length d.graph.edges ≡ length self.now.graph.edges
+            → HaveSameEnds self.now.graph d.graph) }
         ensures acyclic { IfOk result (λ d. IsAcyclic d.graph) }
         ensures looks { IfOk result (λ d. d.looks ≡ 0) }
     {

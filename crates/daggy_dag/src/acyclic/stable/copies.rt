@@ -15,7 +15,8 @@ use std::marker::PhantomData;
 /// Gives a dag with the same slots, lists and vacant slots, with a clone of each weight.
 impl<N: Clone + Drop, E: Clone + Drop, Ix: IndexType> Clone
     for Acyclic<N, E, Ix, StableDiGraph<N, E, Ix>> {
-    ghost is_clone = { λ d copy. IsCopy N.is_clone E.is_clone d.graph copy.graph × (copy.looks ≡ 0) };
+    ghost is_clone = { λ d copy.
+        IsCopy N.is_clone E.is_clone d.graph copy.graph × (copy.looks ≡ 0) };
 
     fn clone(&self) -> Result<Self, AllocError> {
         let mut scratch = Scratch::new(self.scratch.allocator());
@@ -33,10 +34,11 @@ impl<N: Clone + Drop, E: Clone + Drop, Ix: IndexType> Clone
 }
 
 impl<N: Drop, E: Drop, Ix: IndexType> Acyclic<N, E, Ix, StableDiGraph<N, E, Ix>> {
-    /// An empty dag with memory for so many nodes and edges, for their order, and for the searches among them.
+    /// An empty dag with memory for so many nodes and edges, for their order, and for the searches
+    /// among them.
     ///
-    /// The error says that memory was refused, or that no machine can have so much. There may later be more nodes and
-    /// edges than that.
+    /// The error says that memory was refused, or that no machine can have so much. There may later
+    /// be more nodes and edges than that.
     pub fn with_capacity(alloc: Global, nodes: usize, edges: usize) -> Result<Self, AllocError>
         ensures value { IfOk result (λ d. d ≡ record { graph = empty; looks = 0 }) }
         ensures nodes_fit { OnOk result (nodes < 2 ^ 63) }
@@ -56,8 +58,8 @@ impl<N: Drop, E: Drop, Ix: IndexType> Acyclic<N, E, Ix, StableDiGraph<N, E, Ix>>
         })
     }
 
-    /// A dag with the same nodes and edges under the same indices, in the same lists, and with the same vacant slots, which
-    /// are taken in the same order.
+    /// A dag with the same nodes and edges under the same indices, in the same lists, and with the
+    /// same vacant slots, which are taken in the same order.
     ///
     /// The error says that memory for it was refused. The cost grows with the number of slots.
     pub fn try_clone(&self) -> Result<Self, AllocError>

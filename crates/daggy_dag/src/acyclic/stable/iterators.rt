@@ -1,7 +1,10 @@
 //! Going over all nodes, over all edges, and over the edges of one node.
 ghost use Rattle.std.specs.Prelude.{◌≡◌, ◌<◌, ◌^◌, length};
 ghost use Rattle.daggy_base.specs.declared.index.Direction.TheVariants.{Outgoing};
-ghost use Rattle.daggy_base.specs.Iterating.{node_identifiers as node_identifiers_of, node_references as node_references_of, edge_references as edge_references_of, edges_at, neighbors_at};
+ghost use Rattle.daggy_base.specs.Iterating.{node_identifiers as node_identifiers_of};
+ghost use Rattle.daggy_base.specs.Iterating.{node_references as node_references_of};
+ghost use Rattle.daggy_base.specs.Iterating.{edge_references as edge_references_of, edges_at};
+ghost use Rattle.daggy_base.specs.Iterating.{neighbors_at};
 
 use crate::acyclic::Acyclic;
 use daggy_base::index::{Direction, IndexType, NodeIndex};
@@ -46,8 +49,8 @@ impl<N: Drop, E: Drop, Ix: IndexType> Acyclic<N, E, Ix, StableDiGraph<N, E, Ix>>
         self.store.edges(n)
     }
 
-    /// The edges from a node to its children, or those from its parents to it, newest first, or none if the node does
-    /// not exist.
+    /// The edges from a node to its children, or those from its parents to it, newest first, or
+    /// none if the node does not exist.
     #[inline]
     pub fn edges_directed(&self, n: NodeIndex<Ix>, dir: Direction) -> Edges<'_, E, Ix>
         ensures rest { result ≡ edges_at dir self.now.graph (Ix.number n) }
@@ -56,7 +59,8 @@ impl<N: Drop, E: Drop, Ix: IndexType> Acyclic<N, E, Ix, StableDiGraph<N, E, Ix>>
         self.store.edges_directed(n, dir)
     }
 
-    /// The children of a node, one for each edge that leaves it, newest first, or none if the node does not exist.
+    /// The children of a node, one for each edge that leaves it, newest first, or none if the node
+    /// does not exist.
     #[inline]
     pub fn neighbors(&self, n: NodeIndex<Ix>) -> Neighbors<'_, E, Ix>
         ensures rest { result ≡ neighbors_at Outgoing self.now.graph (Ix.number n) }
@@ -65,8 +69,8 @@ impl<N: Drop, E: Drop, Ix: IndexType> Acyclic<N, E, Ix, StableDiGraph<N, E, Ix>>
         self.store.neighbors(n)
     }
 
-    /// The children of a node, or its parents, one for each edge that leaves it, or that enters it, newest first, or
-    /// none if the node does not exist.
+    /// The children of a node, or its parents, one for each edge that leaves it, or that enters it,
+    /// newest first, or none if the node does not exist.
     #[inline]
     pub fn neighbors_directed(&self, n: NodeIndex<Ix>, dir: Direction) -> Neighbors<'_, E, Ix>
         ensures rest { result ≡ neighbors_at dir self.now.graph (Ix.number n) }

@@ -30,11 +30,12 @@ fn keep_existing<Ix: IndexType, S: Store<Ix>>(store: &S, order: &mut Order<Ix>, 
 }
 
 impl<N: Drop, E: Drop, Ix: IndexType> Acyclic<N, E, Ix, StableDiGraph<N, E, Ix>> {
-    /// A dag with the same nodes and edges under the same indices, in the same lists and with the same vacant slots, whose
-    /// weights are what the closures give: `f` is called with each node by ascending index, and then `g` with each edge.
+    /// A dag with the same nodes and edges under the same indices, in the same lists and with the
+    /// same vacant slots, whose weights are what the closures give: `f` is called with each node by
+    /// ascending index, and then `g` with each edge.
     ///
-    /// The error says that memory for it, or for its searches, was refused. Then no closure was called. The cost grows
-    /// with the number of nodes and edges, besides that of the calls.
+    /// The error says that memory for it, or for its searches, was refused. Then no closure was
+    /// called. The cost grows with the number of nodes and edges, besides that of the calls.
     pub fn map<
         N2: Drop,
         E2: Drop,
@@ -43,7 +44,8 @@ impl<N: Drop, E: Drop, Ix: IndexType> Acyclic<N, E, Ix, StableDiGraph<N, E, Ix>>
     >(&self, f: F, g: G) -> Result<StableDag<N2, E2, Ix>, AllocError>
         requires nodes { F.IsAlwaysCallable f }
         requires edges { G.IsAlwaysCallable g }
-        ensures mapped { IfOk result (λ d. IsMapped Ix.of F.step G.step f g self.now.graph d.graph) }
+        ensures mapped { IfOk result (λ d.
+            IsMapped Ix.of F.step G.step f g self.now.graph d.graph) }
         ensures acyclic { IfOk result (λ d. IsAcyclic d.graph) }
         ensures looks { IfOk result (λ d. d.looks ≡ 0) }
     {
@@ -61,14 +63,15 @@ impl<N: Drop, E: Drop, Ix: IndexType> Acyclic<N, E, Ix, StableDiGraph<N, E, Ix>>
         })
     }
 
-    /// A dag of the nodes and edges that the closures give a weight for: `f` is called with each node by ascending
-    /// index, and then `g` with each edge whose ends both stayed.
+    /// A dag of the nodes and edges that the closures give a weight for: `f` is called with each
+    /// node by ascending index, and then `g` with each edge whose ends both stayed.
     ///
-    /// What stays keeps its index. There are slots up to the last node and up to the last edge of this dag, those of what
-    /// was left out are vacant, and the highest is used again first. Each list has the edge with the greatest index first.
+    /// What stays keeps its index. There are slots up to the last node and up to the last edge of
+    /// this dag, those of what was left out are vacant, and the highest is used again first. Each
+    /// list has the edge with the greatest index first.
     ///
-    /// The error says that memory for it, or for its searches, was refused. Then no closure was called. The cost grows
-    /// with the number of nodes and edges, besides that of the calls.
+    /// The error says that memory for it, or for its searches, was refused. Then no closure was
+    /// called. The cost grows with the number of nodes and edges, besides that of the calls.
     pub fn filter_map<
         N2: Drop,
         E2: Drop,
@@ -77,7 +80,8 @@ impl<N: Drop, E: Drop, Ix: IndexType> Acyclic<N, E, Ix, StableDiGraph<N, E, Ix>>
     >(&self, f: F, g: G) -> Result<StableDag<N2, E2, Ix>, AllocError>
         requires nodes { F.IsAlwaysCallable f }
         requires edges { G.IsAlwaysCallable g }
-        ensures filtered { IfOk result (λ d. IsFilteredInPlace Ix.of F.step G.step f g self.now.graph d.graph) }
+        ensures filtered { IfOk result (λ d.
+            IsFilteredInPlace Ix.of F.step G.step f g self.now.graph d.graph) }
         ensures descending { IfOk result (λ d. ListsDescend d.graph) }
         ensures acyclic { IfOk result (λ d. IsAcyclic d.graph) }
         ensures looks { IfOk result (λ d. d.looks ≡ 0) }

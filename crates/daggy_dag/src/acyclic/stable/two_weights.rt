@@ -3,7 +3,8 @@ ghost use Rattle.std.specs.Prelude.{◌≢◌};
 ghost use Rattle.daggy_base.specs.Graph.{node_weight as weight_at, HasNode, HasEdge};
 ghost use Rattle.daggy_base.specs.Path.{IsAcyclic};
 ghost use Rattle.daggy_base.specs.State.{with_graph};
-ghost use Rattle.daggy_base.specs.Weights.{edge_weight as edge_weight_at, with_node_weight, with_edge_weight};
+ghost use Rattle.daggy_base.specs.Weights.{edge_weight as edge_weight_at, with_node_weight};
+ghost use Rattle.daggy_base.specs.Weights.{with_edge_weight};
 ghost use Rattle.daggy_base.specs.Calls.{TakesAtTwo, CalledAtTwo};
 
 use crate::acyclic::Acyclic;
@@ -24,9 +25,13 @@ impl<N: Drop, E: Drop, Ix: IndexType> Acyclic<N, E, Ix, StableDiGraph<N, E, Ix>>
         requires first { HasNode self.old.graph (Ix.number a) }
         requires second { HasNode self.old.graph (Ix.number b) }
         requires different { Ix.number a ≢ Ix.number b }
-        requires callable { TakesAtTwo F.FnOnce f (weight_at self.old.graph (Ix.number a)) (weight_at self.old.graph (Ix.number b)) }
-        ensures called { CalledAtTwo F.FnOnce f (weight_at self.old.graph (Ix.number a)) (weight_at self.old.graph (Ix.number b)) result
-            (λ v w. with_graph self.old (with_node_weight (with_node_weight self.old.graph (Ix.number a) v) (Ix.number b) w)) self.new }
+        requires callable { TakesAtTwo F.FnOnce f (weight_at self.old.graph (Ix.number a))
+            (weight_at self.old.graph (Ix.number b)) }
+        ensures called { CalledAtTwo F.FnOnce f (weight_at self.old.graph (Ix.number a))
+            (weight_at self.old.graph (Ix.number b)) result
+            (λ v w. with_graph self.old
+            (with_node_weight (with_node_weight self.old.graph (Ix.number a) v) (Ix.number b) w))
+            self.new }
         ensures acyclic { IsAcyclic self.new.graph }
     {
         let _well_formed = self.store.node_count();
@@ -46,16 +51,21 @@ impl<N: Drop, E: Drop, Ix: IndexType> Acyclic<N, E, Ix, StableDiGraph<N, E, Ix>>
         requires first { HasEdge self.old.graph (Ix.number a) }
         requires second { HasEdge self.old.graph (Ix.number b) }
         requires different { Ix.number a ≢ Ix.number b }
-        requires callable { TakesAtTwo F.FnOnce f (edge_weight_at self.old.graph (Ix.number a)) (edge_weight_at self.old.graph (Ix.number b)) }
-        ensures called { CalledAtTwo F.FnOnce f (edge_weight_at self.old.graph (Ix.number a)) (edge_weight_at self.old.graph (Ix.number b)) result
-            (λ v w. with_graph self.old (with_edge_weight (with_edge_weight self.old.graph (Ix.number a) v) (Ix.number b) w)) self.new }
+        requires callable { TakesAtTwo F.FnOnce f (edge_weight_at self.old.graph (Ix.number a))
+            (edge_weight_at self.old.graph (Ix.number b)) }
+        ensures called { CalledAtTwo F.FnOnce f (edge_weight_at self.old.graph (Ix.number a))
+            (edge_weight_at self.old.graph (Ix.number b)) result
+            (λ v w. with_graph self.old
+            (with_edge_weight (with_edge_weight self.old.graph (Ix.number a) v) (Ix.number b) w))
+            self.new }
         ensures acyclic { IsAcyclic self.new.graph }
     {
         let _well_formed = self.store.node_count();
         self.store.update_two_edges(a, b, f)
     }
 
-    /// Calls `f` with the weights of a node and an edge, both to be written, and gives what `f` gives.
+    /// Calls `f` with the weights of a node and an edge, both to be written, and gives what `f`
+    /// gives.
     ///
     /// The cost is constant, besides that of `f`.
     #[inline]
@@ -67,9 +77,13 @@ impl<N: Drop, E: Drop, Ix: IndexType> Acyclic<N, E, Ix, StableDiGraph<N, E, Ix>>
     ) -> R
         requires node { HasNode self.old.graph (Ix.number n) }
         requires edge { HasEdge self.old.graph (Ix.number e) }
-        requires callable { TakesAtTwo F.FnOnce f (weight_at self.old.graph (Ix.number n)) (edge_weight_at self.old.graph (Ix.number e)) }
-        ensures called { CalledAtTwo F.FnOnce f (weight_at self.old.graph (Ix.number n)) (edge_weight_at self.old.graph (Ix.number e)) result
-            (λ v w. with_graph self.old (with_edge_weight (with_node_weight self.old.graph (Ix.number n) v) (Ix.number e) w)) self.new }
+        requires callable { TakesAtTwo F.FnOnce f (weight_at self.old.graph (Ix.number n))
+            (edge_weight_at self.old.graph (Ix.number e)) }
+        ensures called { CalledAtTwo F.FnOnce f (weight_at self.old.graph (Ix.number n))
+            (edge_weight_at self.old.graph (Ix.number e)) result
+            (λ v w. with_graph self.old
+            (with_edge_weight (with_node_weight self.old.graph (Ix.number n) v) (Ix.number e) w))
+            self.new }
         ensures acyclic { IsAcyclic self.new.graph }
     {
         let _well_formed = self.store.node_count();

@@ -9,7 +9,8 @@ abbrev pub invariant-edges : goal.invariant-edges
 invariant-edges g l =
     record {
       within : l.i ≤ l.bound;
-      written : AllZip (IsEntry (WritesAs g.G.Fn l.fn_edge)) (take l.i (g.S.EdgeSource.graph l.store).edges) (map view l.entries.items);
+      written : AllZip (IsEntry (WritesAs g.G.Fn l.fn_edge)) (take l.i (g.S.EdgeSource.graph l.store).edges)
+          (map view l.entries.items);
     }
 
 abbrev pub decreases-edges : goal.decreases-edges

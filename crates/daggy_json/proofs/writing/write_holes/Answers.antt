@@ -6,7 +6,11 @@ use Rattle.daggy_json.proofs.writing.write_holes.Goals.{then-not-contains_node+i
 
 pub new-requires : goal.new-requires
 new-requires g c =
-    omega (arith, below_length (g.S.EdgeSource.graph c.args.store.now).nodes _ _ c.node_bound-bound.ensures.value c.nodes-test.true, c.node_bound-bound.ensures.well_formed.few_nodes)
+    omega (
+      arith,
+      below_length (g.S.EdgeSource.graph c.args.store.now).nodes _ _ c.node_bound-bound.ensures.value c.nodes-test.true,
+      c.node_bound-bound.ensures.well_formed.few_nodes,
+    )
 
 pub nodes-preserved : goal.nodes-preserved
 nodes-preserved g c =
@@ -15,7 +19,12 @@ nodes-preserved g c =
     record {
       within = omega (arith, c.nodes-test.true);
       written = elim c.if-not-contains_node.branch [
-        | then-not-contains_node+in_ok-push w ↦ hole_more slots _ _ c.new.ensures.number _ _ _ c.nodes.invariant.written low (λ h. false≢true (sym w.if-not-contains_node.true ∙ c.contains_node.ensures.exists.1 h)) w.from.ensures (ap (λ v. v.items) w.holes-is ∙ w.in_ok-push.ensures.items)
-        | else-not-contains_node w ↦ hole_kept slots _ _ c.new.ensures.number _ _ c.nodes.invariant.written (c.contains_node.ensures.exists.0 w.if-not-contains_node.false) (ap (λ v. v.items) w.holes-is)
+        | then-not-contains_node+in_ok-push w ↦
+            hole_more slots _ _ c.new.ensures.number _ _ _ c.nodes.invariant.written low
+            (λ h. false≢true (sym w.if-not-contains_node.true ∙ c.contains_node.ensures.exists.1 h)) w.from.ensures
+            (ap (λ v. v.items) w.holes-is ∙ w.in_ok-push.ensures.items)
+        | else-not-contains_node w ↦
+            hole_kept slots _ _ c.new.ensures.number _ _ c.nodes.invariant.written
+            (c.contains_node.ensures.exists.0 w.if-not-contains_node.false) (ap (λ v. v.items) w.holes-is)
       ];
     }

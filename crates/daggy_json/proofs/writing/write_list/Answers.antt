@@ -11,12 +11,14 @@ next_edge-e-requires g c =
 pub edges-preserved : goal.edges-preserved
 edges-preserved g c =
     let here : g.Ix.IndexType.number c.edges.e ≢ g.Ix.IndexType.greatest = λ h. c.edges-test.true cc in
-    listed_next _ _ c.edge_count-well_formed.ensures.well_formed _ _ c.edges.invariant here c.from.result _ _ (c.from.ensures ∙ ap whole c.index-in-edges.ensures.value) c.in_ok-push.ensures.items c.next_edge-e.ensures
+    listed_next _ _ c.edge_count-well_formed.ensures.well_formed _ _ c.edges.invariant here c.from.result _ _
+    (c.from.ensures ∙ ap whole c.index-in-edges.ensures.value) c.in_ok-push.ensures.items c.next_edge-e.ensures
 
 pub edges-smaller : goal.edges-smaller
 edges-smaller g c =
     let here : g.Ix.IndexType.number c.edges.e ≢ g.Ix.IndexType.greatest = λ h. c.edges-test.true cc in
-    let more : length c.push.new.self.items ≡ length c.edges.list.items + 1 = ap length c.in_ok-push.ensures.items ∙ length-append c.edges.list.items (c.from.result ∷ []) in
+    let more : length c.push.new.self.items ≡ length c.edges.list.items + 1 =
+    ap length c.in_ok-push.ensures.items ∙ length-append c.edges.list.items (c.from.result ∷ []) in
     omega (arith, listed_more _ _ c.edge_count-well_formed.ensures.well_formed _ _ c.edges.invariant here, more)
 
 pub returns : goal.returns

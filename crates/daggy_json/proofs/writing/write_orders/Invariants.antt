@@ -8,7 +8,9 @@ abbrev pub invariant-nodes : goal.invariant-nodes
 invariant-nodes g l =
     record {
       within : l.i ≤ l.bound;
-      written : map view l.rows.items ≡ map (row_of (g.S.EdgeSource.graph l.store)) (map (λ p. p.0) (numbered 0 (take l.i (g.S.EdgeSource.graph l.store).nodes)));
+      written : map view l.rows.items
+          ≡ map (row_of (g.S.EdgeSource.graph l.store))
+          (map (λ p. p.0) (numbered 0 (take l.i (g.S.EdgeSource.graph l.store).nodes)));
     }
 
 abbrev pub decreases-nodes : goal.decreases-nodes

@@ -6,7 +6,11 @@ use Rattle.daggy_json.proofs.writing.write_weights.Goals.{in-Some+in_ok-fn_node+
 
 pub new-requires : goal.new-requires
 new-requires g c =
-    omega (arith, below_length (g.S.EdgeSource.graph c.args.store.now).nodes _ _ c.node_bound-bound.ensures.value c.nodes-test.true, c.node_bound-bound.ensures.well_formed.few_nodes)
+    omega (
+      arith,
+      below_length (g.S.EdgeSource.graph c.args.store.now).nodes _ _ c.node_bound-bound.ensures.value c.nodes-test.true,
+      c.node_bound-bound.ensures.well_formed.few_nodes,
+    )
 
 pub nodes-preserved : goal.nodes-preserved
 nodes-preserved g c =
@@ -15,12 +19,18 @@ nodes-preserved g c =
       within = omega (arith, c.nodes-test.true);
       written = elim c.match-node_weight.branch [
         | in-Some+in_ok-fn_node+in_ok-push w ↦ (
-            weight_more slots _ _ c.new.ensures.number _ _ _ w.in_ok-fn_node.field-0 c.nodes.invariant.written w.in-Some.weight.now w.in-Some.ensures (writes_as _ _ w.in-Some.weight _ w.in_ok-fn_node.ensures) (ap (λ v. v.items) w.weights-is ∙ w.in_ok-push.ensures.items)
+            weight_more slots _ _ c.new.ensures.number _ _ _ w.in_ok-fn_node.field-0 c.nodes.invariant.written
+            w.in-Some.weight.now w.in-Some.ensures (writes_as _ _ w.in-Some.weight _ w.in_ok-fn_node.ensures)
+            (ap (λ v. v.items) w.weights-is ∙ w.in_ok-push.ensures.items)
             )
-        | in_default w ↦ weight_kept slots _ _ c.new.ensures.number _ _ _ c.nodes.invariant.written (sym (ap option_copied w.in_default.is) ∙ c.node_weight.ensures) (ap (λ v. v.items) w.weights-is)
+        | in_default w ↦
+            weight_kept slots _ _ c.new.ensures.number _ _ _ c.nodes.invariant.written
+            (sym (ap option_copied w.in_default.is) ∙ c.node_weight.ensures) (ap (λ v. v.items) w.weights-is)
       ];
     }
 
 pub returns : goal.returns
 returns g c =
-    weights_whole (g.S.EdgeSource.graph c.args.store.now).nodes _ _ _ (at_bound _ _ _ c.nodes.invariant.within c.nodes-test.false c.node_bound-bound.ensures.value) c.nodes.invariant.written
+    weights_whole (g.S.EdgeSource.graph c.args.store.now).nodes _ _ _
+    (at_bound _ _ _ c.nodes.invariant.within c.nodes-test.false c.node_bound-bound.ensures.value)
+    c.nodes.invariant.written

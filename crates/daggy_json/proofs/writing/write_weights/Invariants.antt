@@ -9,7 +9,8 @@ abbrev pub invariant-nodes : goal.invariant-nodes
 invariant-nodes g l =
     record {
       within : l.i ≤ l.bound;
-      written : AllZip (WritesAs g.F.Fn l.fn_node) (map (λ p. p.1) (numbered 0 (take l.i (g.S.EdgeSource.graph l.store).nodes))) (map view l.weights.items);
+      written : AllZip (WritesAs g.F.Fn l.fn_node)
+          (map (λ p. p.1) (numbered 0 (take l.i (g.S.EdgeSource.graph l.store).nodes))) (map view l.weights.items);
     }
 
 abbrev pub decreases-nodes : goal.decreases-nodes

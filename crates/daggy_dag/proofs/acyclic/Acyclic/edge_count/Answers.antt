@@ -6,4 +6,7 @@ use Rattle.daggy_dag.proofs.acyclic.Acyclic.edge_count.Goals as goal
 pub returns-clause-dag : goal.returns-clause-dag
 returns-clause-dag g c =
     subst (λ s. IsDag g.Ix.IndexType.greatest s.graph) c.self.view_is
-    (record { acyclic = acyclic_from_order c.self.inside.order c.self.invariant.0; well_formed = c.edge_count.ensures.well_formed })
+    (record {
+      acyclic = acyclic_from_order c.self.inside.order c.self.invariant.0;
+      well_formed = c.edge_count.ensures.well_formed;
+    })

@@ -5,5 +5,8 @@ use Rattle.daggy_dag.proofs.acyclic.Acyclic.find_edge.Goals as goal
 
 pub returns-clause-ends : goal.returns-clause-ends
 returns-clause-ends g c =
-    subst (λ state. OnSome c.find_edge.result (HasNode state.graph (g.Ix.IndexType.number c.args.a) × HasNode state.graph (g.Ix.IndexType.number c.args.b))) c.self.view_is
-    (ends_exist (g.S.EdgeSource.graph c.self.inside.store) _ _ g.Ix.IndexType.number c.find_edge.result c.edge_count-well_formed.ensures.well_formed c.find_edge.ensures)
+    subst (λ state. OnSome c.find_edge.result
+    (HasNode state.graph (g.Ix.IndexType.number c.args.a) × HasNode state.graph (g.Ix.IndexType.number c.args.b)))
+    c.self.view_is
+    (ends_exist (g.S.EdgeSource.graph c.self.inside.store) _ _ g.Ix.IndexType.number c.find_edge.result
+    c.edge_count-well_formed.ensures.well_formed c.find_edge.ensures)

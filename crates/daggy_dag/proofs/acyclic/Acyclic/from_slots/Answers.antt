@@ -9,7 +9,12 @@ use Rattle.daggy_dag.proofs.acyclic.Acyclic.from_slots.Goals as goal
 
 pub sorted-requires : goal.sorted-requires
 sorted-requires g c =
-    omega (arith, bound_low (g.S.EdgeSource.graph c.in-Ok.store).nodes, c.node_slots.ensures.value, c.in-Ok-reserve.ensures.ok.0)
+    omega (
+      arith,
+      bound_low (g.S.EdgeSource.graph c.in-Ok.store).nodes,
+      c.node_slots.ensures.value,
+      c.in-Ok-reserve.ensures.ok.0,
+    )
 
 -- what holds of what was found
 found : {A : Type 0} (P : A → Type 0) (o : Option A) (x : A) → o ≡ Some x → IfSome o P → P x
@@ -21,18 +26,25 @@ missed {A} {B} o is h = subst (λ (z : Option A). IfNone z B) is h
 pub invariant_of-result : goal.invariant_of-result
 invariant_of-result g c =
     let low = bound_low (g.S.EdgeSource.graph c.in-Ok.store).nodes in
-    let fits : node_bound (g.S.EdgeSource.graph c.in-Ok.store) ≤ c.reserve.new.self.nodes = omega (arith, low, c.node_slots.ensures.value, c.in-Ok-reserve.ensures.ok.0) in
-    let capacity : c.sorted.new.scratch.nodes ≡ c.reserve.new.self.nodes = ap (λ (z : Capacity). z.nodes) c.sorted.ensures.same_capacity in
-    let ordered = found _ c.in-Ok-Some.field-0 c.in-Ok-Some.order c.in-Ok-Some.field-0-is c.in-Ok-Some.ensures.ordered in
-    stays_so c.in-Ok-Some.order c.sorted.new.scratch.nodes _ _ c.sorted.ensures.same (ordered, omega (arith, fits, capacity))
+    let fits : node_bound (g.S.EdgeSource.graph c.in-Ok.store) ≤ c.reserve.new.self.nodes =
+    omega (arith, low, c.node_slots.ensures.value, c.in-Ok-reserve.ensures.ok.0) in
+    let capacity : c.sorted.new.scratch.nodes ≡ c.reserve.new.self.nodes =
+    ap (λ (z : Capacity). z.nodes) c.sorted.ensures.same_capacity in
+    let ordered =
+    found _ c.in-Ok-Some.field-0 c.in-Ok-Some.order c.in-Ok-Some.field-0-is c.in-Ok-Some.ensures.ordered in
+    stays_so c.in-Ok-Some.order c.sorted.new.scratch.nodes _ _ c.sorted.ensures.same
+    (ordered, omega (arith, fits, capacity))
 
 pub returns-in-Ok-Some-clause-acyclic : goal.returns-in-Ok-Some-clause-acyclic
 returns-in-Ok-Some-clause-acyclic g c =
     let P : Graph _ _ → Type 0 = λ z. IsAcyclic z in
-    let ordered = found _ c.in-Ok-Some.field-0 c.in-Ok-Some.order c.in-Ok-Some.field-0-is c.in-Ok-Some.ensures.ordered in
+    let ordered =
+    found _ c.in-Ok-Some.field-0 c.in-Ok-Some.order c.in-Ok-Some.field-0-is c.in-Ok-Some.ensures.ordered in
     subst P (sym c.sorted.ensures.same) (acyclic_from_order c.in-Ok-Some.order ordered)
 
 pub returns-in-Ok-None-clause-cycle : goal.returns-in-Ok-None-clause-cycle
 returns-in-Ok-None-clause-cycle g c =
     let P : Graph _ _ → Type 0 = λ z. IsAcyclic z in
-    λ _ a. missed c.in-Ok-None.field-0 c.in-Ok-None.field-0-is c.in-Ok-None.ensures.cyclic (subst P (sym c.in-Ok.ensures.graph) a)
+    λ _ a.
+    missed c.in-Ok-None.field-0 c.in-Ok-None.field-0-is c.in-Ok-None.ensures.cyclic
+    (subst P (sym c.in-Ok.ensures.graph) a)

@@ -16,4 +16,13 @@ returns g c =
     let well_formed = subst (IsWellFormed end) graph c.edge_count-well_formed.ensures.well_formed in
     let first = c.first_edge.ensures ∙ ap (λ k. first_of end (list_at Incoming k (number c.args.n))) graph in
     let whole = ap (rest_of_walk Incoming now) first ∙ whole_walk end now well_formed Incoming (number c.args.n) in
-    record { first = first; whole = whole; fits = omega (arith, ap length whole, few_in end now well_formed Incoming (number c.args.n), g.met.Ix.IndexType.fits) }
+    record {
+      first = first;
+      whole = whole;
+      fits = omega (
+        arith,
+        ap length whole,
+        few_in end now well_formed Incoming (number c.args.n),
+        g.met.Ix.IndexType.fits,
+      );
+    }

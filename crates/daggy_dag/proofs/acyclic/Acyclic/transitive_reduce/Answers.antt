@@ -3,7 +3,8 @@ use Rattle.daggy_base.specs.State.{State}
 use Rattle.daggy_base.specs.Removal.{Stable, KeepsIndices}
 use Rattle.daggy_base.specs.Reduction.{IsReduction}
 use Rattle.daggy_reduction.specs.Comparison.{HaveSameReachability, JoinsCovers, JoinsOthers, IsLeast, IsCanonical}
-use Rattle.daggy_reduction.proofs.Laws.{law_reachability, law_covers, law_others, law_least, law_none, law_canonical, law_indices}
+use Rattle.daggy_reduction.proofs.Laws.{law_reachability, law_covers, law_others, law_least, law_none, law_canonical}
+use Rattle.daggy_reduction.proofs.Laws.{law_indices}
 use Rattle.daggy_order.proofs.OrderLaws.{acyclic_from_order}
 use Rattle.daggy_dag.proofs.Reduced.{on_ok, kept_fewer}
 use Rattle.daggy_dag.proofs.acyclic.Acyclic.transitive_reduce.Goals as goal
@@ -16,7 +17,8 @@ returns-clause-reachability g c =
     let new = g.S.EdgeSource.graph c.transitive_reduce.new.store in
     let r = c.transitive_reduce.result in
     let R : List ℕ → Type 0 = λ z. OnOk r (IsReduction kind z old new) in
-    let reduced : R roots = subst R (ap (map g.Ix.IndexType.number) c.as_slice.ensures.value) c.transitive_reduce.ensures.reduced in
+    let reduced : R roots =
+    subst R (ap (map g.Ix.IndexType.number) c.as_slice.ensures.value) c.transitive_reduce.ensures.reduced in
     let acyclic = acyclic_from_order _ c.self.invariant.0 in
     let formed = c.transitive_reduce.ensures.well_formed in
     let P : State g.row.N.Denot g.row.E.Denot → Type 0 = λ s. OnOk r (HaveSameReachability s.graph new) in
@@ -30,7 +32,8 @@ returns-clause-covers g c =
     let new = g.S.EdgeSource.graph c.transitive_reduce.new.store in
     let r = c.transitive_reduce.result in
     let R : List ℕ → Type 0 = λ z. OnOk r (IsReduction kind z old new) in
-    let reduced : R roots = subst R (ap (map g.Ix.IndexType.number) c.as_slice.ensures.value) c.transitive_reduce.ensures.reduced in
+    let reduced : R roots =
+    subst R (ap (map g.Ix.IndexType.number) c.as_slice.ensures.value) c.transitive_reduce.ensures.reduced in
     let acyclic = acyclic_from_order _ c.self.invariant.0 in
     let formed = c.transitive_reduce.ensures.well_formed in
     let P : State g.row.N.Denot g.row.E.Denot → Type 0 = λ s. OnOk r (JoinsCovers roots s.graph new) in
@@ -44,7 +47,8 @@ returns-clause-others g c =
     let new = g.S.EdgeSource.graph c.transitive_reduce.new.store in
     let r = c.transitive_reduce.result in
     let R : List ℕ → Type 0 = λ z. OnOk r (IsReduction kind z old new) in
-    let reduced : R roots = subst R (ap (map g.Ix.IndexType.number) c.as_slice.ensures.value) c.transitive_reduce.ensures.reduced in
+    let reduced : R roots =
+    subst R (ap (map g.Ix.IndexType.number) c.as_slice.ensures.value) c.transitive_reduce.ensures.reduced in
     let acyclic = acyclic_from_order _ c.self.invariant.0 in
     let formed = c.transitive_reduce.ensures.well_formed in
     let P : State g.row.N.Denot g.row.E.Denot → Type 0 = λ s. OnOk r (JoinsOthers roots s.graph new) in
@@ -58,7 +62,8 @@ returns-clause-least g c =
     let new = g.S.EdgeSource.graph c.transitive_reduce.new.store in
     let r = c.transitive_reduce.result in
     let R : List ℕ → Type 0 = λ z. OnOk r (IsReduction kind z old new) in
-    let reduced : R roots = subst R (ap (map g.Ix.IndexType.number) c.as_slice.ensures.value) c.transitive_reduce.ensures.reduced in
+    let reduced : R roots =
+    subst R (ap (map g.Ix.IndexType.number) c.as_slice.ensures.value) c.transitive_reduce.ensures.reduced in
     let acyclic = acyclic_from_order _ c.self.invariant.0 in
     let formed = c.transitive_reduce.ensures.well_formed in
     let P : State g.row.N.Denot g.row.E.Denot → Type 0 = λ s. OnOk r (IsLeast roots s.graph new) in
@@ -72,7 +77,8 @@ returns-clause-none_left g c =
     let new = g.S.EdgeSource.graph c.transitive_reduce.new.store in
     let r = c.transitive_reduce.result in
     let R : List ℕ → Type 0 = λ z. OnOk r (IsReduction kind z old new) in
-    let reduced : R roots = subst R (ap (map g.Ix.IndexType.number) c.as_slice.ensures.value) c.transitive_reduce.ensures.reduced in
+    let reduced : R roots =
+    subst R (ap (map g.Ix.IndexType.number) c.as_slice.ensures.value) c.transitive_reduce.ensures.reduced in
     let acyclic = acyclic_from_order _ c.self.invariant.0 in
     let formed = c.transitive_reduce.ensures.well_formed in
     on_ok r (λ red. law_none kind roots old new acyclic formed red) reduced
@@ -85,10 +91,12 @@ returns-clause-canonical g c =
     let new = g.S.EdgeSource.graph c.transitive_reduce.new.store in
     let r = c.transitive_reduce.result in
     let R : List ℕ → Type 0 = λ z. OnOk r (IsReduction kind z old new) in
-    let reduced : R roots = subst R (ap (map g.Ix.IndexType.number) c.as_slice.ensures.value) c.transitive_reduce.ensures.reduced in
+    let reduced : R roots =
+    subst R (ap (map g.Ix.IndexType.number) c.as_slice.ensures.value) c.transitive_reduce.ensures.reduced in
     let acyclic = acyclic_from_order _ c.self.invariant.0 in
     let formed = c.transitive_reduce.ensures.well_formed in
-    let P : State g.row.N.Denot g.row.E.Denot → Type 0 = λ s. OnOk r (IsCanonical g.Ix.IndexType.greatest roots s.graph new) in
+    let P : State g.row.N.Denot g.row.E.Denot → Type 0 = λ s.
+    OnOk r (IsCanonical g.Ix.IndexType.greatest roots s.graph new) in
     subst P c.self.view_is (on_ok r (λ red. law_canonical kind roots old new acyclic formed red) reduced)
 
 pub returns-clause-keeps : goal.returns-clause-keeps
@@ -99,14 +107,17 @@ returns-clause-keeps g c =
     let new = g.S.EdgeSource.graph c.transitive_reduce.new.store in
     let r = c.transitive_reduce.result in
     let R : List ℕ → Type 0 = λ z. OnOk r (IsReduction kind z old new) in
-    let reduced : R roots = subst R (ap (map g.Ix.IndexType.number) c.as_slice.ensures.value) c.transitive_reduce.ensures.reduced in
+    let reduced : R roots =
+    subst R (ap (map g.Ix.IndexType.number) c.as_slice.ensures.value) c.transitive_reduce.ensures.reduced in
     let P : State g.row.N.Denot g.row.E.Denot → Type 0 = λ s. OnOk r (kind ≡ Stable → KeepsIndices s.graph new) in
     subst P c.self.view_is (on_ok r (λ red. law_indices kind roots old new red) reduced)
 
 pub invariant_of-self : goal.invariant_of-self
 invariant_of-self g c =
     let reduce = c.transitive_reduce.ensures in
-    kept_fewer c.self.inside.order c.self.inside.scratch.nodes c.transitive_reduce.new.scratch.nodes (g.S.EdgeSource.graph c.self.inside.store) (g.S.EdgeSource.graph c.transitive_reduce.new.store) reduce.nodes reduce.fewer c.self.invariant reduce.capacity_kept
+    kept_fewer c.self.inside.order c.self.inside.scratch.nodes c.transitive_reduce.new.scratch.nodes
+    (g.S.EdgeSource.graph c.self.inside.store) (g.S.EdgeSource.graph c.transitive_reduce.new.store) reduce.nodes
+    reduce.fewer c.self.invariant reduce.capacity_kept
 
 pub returns-clause-acyclic : goal.returns-clause-acyclic
 returns-clause-acyclic g c = acyclic_from_order _ (invariant_of-self g c).0

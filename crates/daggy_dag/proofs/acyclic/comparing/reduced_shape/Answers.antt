@@ -11,7 +11,8 @@ returns g c =
     let whole = c.in_ok-shape.shape.graph in
     let roots = map g.Ix.IndexType.number c.in_ok-nodes.nodes.items in
     let dag = c.node_count.ensures.dag in
-    let below : (n : ℕ) → n < node_count whole → n < c.node_count.result = λ n low. omega (arith, low, c.node_count.ensures.value) in
+    let below : (n : ℕ) → n < node_count whole → n < c.node_count.result = λ n low.
+    omega (arith, low, c.node_count.ensures.value) in
     let P : Graph (Unit {0}) (Unit {0}) → Type 0 = λ z. IsReduction Compact roots whole z in
     record {
       whole = whole;

@@ -6,7 +6,9 @@ use Rattle.daggy_json.proofs.reading.entries.read_entries.Goals as goal
 
 pub loop-value-preserved : goal.loop-value-preserved
 loop-value-preserved g c =
-    each_more _ c.loop-value.invariant c.value-item.result _ _ (omega (arith, c.deref-value-items.ensures.len)) (rw c.deref-value-items.ensures.value at c.value-item.is) c.in_ok-read_entry.ensures.ok (ap (map _) c.in_ok-push.ensures.items ∙ map-append _ _ _)
+    each_more _ c.loop-value.invariant c.value-item.result _ _ (omega (arith, c.deref-value-items.ensures.len))
+    (rw c.deref-value-items.ensures.value at c.value-item.is) c.in_ok-read_entry.ensures.ok
+    (ap (map _) c.in_ok-push.ensures.items ∙ map-append _ _ _)
 
 pub returns-in_err-read_entry-clause-err : goal.returns-in_err-read_entry-clause-err
 returns-in_err-read_entry-clause-err g c =
@@ -14,5 +16,7 @@ returns-in_err-read_entry-clause-err g c =
     rw (p.1, p.2)
     elim c.in_err-read_entry.ensures.err [
       | inl h ↦ inl h
-      | inr h ↦ inr (each_fault _ c.loop-value.invariant c.value-item.result _ (omega (arith, c.deref-value-items.ensures.len)) (rw c.deref-value-items.ensures.value at c.value-item.is) h)
+      | inr h ↦
+          inr (each_fault _ c.loop-value.invariant c.value-item.result _
+          (omega (arith, c.deref-value-items.ensures.len)) (rw c.deref-value-items.ensures.value at c.value-item.is) h)
     ]

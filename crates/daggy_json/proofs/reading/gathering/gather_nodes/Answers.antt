@@ -10,6 +10,8 @@ place_weights-requires-clause-ascend g c =
     let long = AllZip-long _ _ _ c.in_ok-weights.ensures.ok in
     let size : vec_len c.in_ok-weights.weights ≡ length c.in_ok-weights.weights.items = search rules in
     let holes : vec_len c.args.parts.now.holes ≡ length c.args.parts.now.holes.items = search rules in
-    let same : length (map view c.args.parts.now.nodes.now.items) + length c.args.parts.now.holes.items ≡ vec_len c.in_ok-weights.weights + vec_len c.args.parts.now.holes = omega (arith, long, size, holes) in
+    let same : length (map view c.args.parts.now.nodes.now.items) + length c.args.parts.now.holes.items
+    ≡ vec_len c.in_ok-weights.weights + vec_len c.args.parts.now.holes =
+    omega (arith, long, size, holes) in
     let P : ℕ → Type 0 = λ k. Ascend 0 k c.args.parts.now.holes.items in
     subst P same laid.1.ascend

@@ -7,4 +7,6 @@ use Rattle.daggy_json.proofs.reading.parts.read_holes.Goals as goal
 
 pub returns : goal.returns
 returns c =
-    IfOk-weaker c.read_numbers.result _ _ (λ o e. e ∙ (ap (option_and_then (all_in whole_in)) (sym (array_some _ _ c.in-Some-as_array.ensures)) ∙ ap holes_in c.in-Some.ensures)) c.read_numbers.ensures
+    IfOk-weaker c.read_numbers.result _ _
+    (λ o e. e ∙ (ap (option_and_then (all_in whole_in)) (sym (array_some _ _ c.in-Some-as_array.ensures))
+    ∙ ap holes_in c.in-Some.ensures)) c.read_numbers.ensures

@@ -9,11 +9,17 @@ pub returns : goal.returns
 returns g c =
     elim c.if-is_rearranged.branch [
       | then-is_rearranged w ↦ (
-        λ t. are_orders_from _ _ _ (c.is_rearranged.ensures.decided.0 w.if-is_rearranged.true) (w.is_rearranged-then-is_rearranged.ensures.decided.0 (sym w.result-is ∙ t)),
-        λ h. w.result-is ∙ w.is_rearranged-then-is_rearranged.ensures.decided.1 (rearranged_from Incoming _ _ _ c.requires h),
+        λ t.
+            are_orders_from _ _ _ (c.is_rearranged.ensures.decided.0 w.if-is_rearranged.true)
+            (w.is_rearranged-then-is_rearranged.ensures.decided.0 (sym w.result-is ∙ t)),
+        λ h.
+            w.result-is
+            ∙ w.is_rearranged-then-is_rearranged.ensures.decided.1 (rearranged_from Incoming _ _ _ c.requires h),
       )
       | else-is_rearranged w ↦ (
         λ t. absurd (false≢true (sym w.if-is_rearranged.false ∙ (sym w.result-is ∙ t))),
-        λ h. absurd (false≢true (sym w.if-is_rearranged.false ∙ c.is_rearranged.ensures.decided.1 (rearranged_from Outgoing _ _ _ c.requires h))),
+        λ h.
+            absurd (false≢true (sym w.if-is_rearranged.false
+            ∙ c.is_rearranged.ensures.decided.1 (rearranged_from Outgoing _ _ _ c.requires h))),
       )
     ]

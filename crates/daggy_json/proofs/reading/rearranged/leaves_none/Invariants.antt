@@ -6,4 +6,5 @@ use Rattle.daggy_json.proofs.reading.rearranged.leaves_none.Given as goal
 
 abbrev pub invariant-loop-e : goal.invariant-loop-e
 invariant-loop-e g l =
-    (k : ℕ) → k < l.e → IsSome (slot (map (option_map (edge_of g.Ix.IndexType.number)) l.edges.items) k) → get_or l.marks k false ≡ true
+    (k : ℕ) → k < l.e → IsSome (slot (map (option_map (edge_of g.Ix.IndexType.number)) l.edges.items) k)
+    → get_or l.marks k false ≡ true

@@ -8,4 +8,5 @@ use Rattle.daggy_json.proofs.reading.rearranged.mark_lists.Given as goal
 
 abbrev pub invariant-loop-n : goal.invariant-loop-n
 invariant-loop-n g l =
-    ListsSoFar (has_end l.dir (map (option_map (edge_of g.Ix.IndexType.number)) l.edges.items)) l.initial.marks l.nodes.items (map (chosen l.dir) (map (numbers_of g.Ix.IndexType.number) l.rows.items)) l.n l.passed l.marks
+    ListsSoFar (has_end l.dir (map (option_map (edge_of g.Ix.IndexType.number)) l.edges.items)) l.initial.marks
+    l.nodes.items (map (chosen l.dir) (map (numbers_of g.Ix.IndexType.number) l.rows.items)) l.n l.passed l.marks

@@ -14,7 +14,9 @@ returns-then-is_external-clause-steps g c =
     let test = c.if-is_external.ensures in
     let within : at.next < length graph.nodes = omega (arith, c.along-test.true, c.node_slots-slots.ensures.value) in
     let is : is_external from.direction graph at.next ≡ true = cc in
-    let moved : externals_from from.direction graph (at.next + 1) ≡ externals_from at.direction (g.S.EdgeSource.graph at.store.now) (at.next + 1) = cc in
+    let moved : externals_from from.direction graph (at.next + 1)
+    ≡ externals_from at.direction (g.S.EdgeSource.graph at.store.now) (at.next + 1) =
+    cc in
     sym c.self.view_is
     ∙ c.along.invariant.same
     ∙ taken from.direction graph at.next within is
@@ -22,7 +24,8 @@ returns-then-is_external-clause-steps g c =
     ∙ ap (λ rest. g.Ix.IndexType.number c.new-n.result ∷ rest) moved
 
 pub returns-then-is_external-clause-goes : goal.returns-then-is_external-clause-goes
-returns-then-is_external-clause-goes g c = let steps = returns-then-is_external-clause-steps g c in search (rules, steps)
+returns-then-is_external-clause-goes g c = let steps = returns-then-is_external-clause-steps g c in
+    search (rules, steps)
 
 pub along-preserved : goal.along-preserved
 along-preserved g c =

@@ -9,5 +9,16 @@ returns g c =
     let store = g.S.EdgeSource.graph c.dag.inside.store in
     let graph : store ≡ c.args.dag.now.graph = cc in
     let cursor : number c.self.inside.edge ≡ number c.args.self.now = cc in
-    let stepped = steps number Outgoing _ c.step.result _ c.edge_count-well_formed.ensures.well_formed graph cursor c.step.ensures in
-    record { steps = stepped; goes = record { stays = tt; falls = λ h. (tt, falls number Outgoing c.args.dag.now.graph (number c.args.self.now) c.step.result (number c.step.new.cursor) stepped.1) } }
+    let stepped =
+    steps number Outgoing _ c.step.result _ c.edge_count-well_formed.ensures.well_formed graph cursor c.step.ensures in
+    record {
+      steps = stepped;
+      goes = record {
+        stays = tt;
+        falls = λ h. (
+          tt,
+          falls number Outgoing c.args.dag.now.graph (number c.args.self.now) c.step.result
+              (number c.step.new.cursor) stepped.1,
+        );
+      };
+    }

@@ -4,7 +4,8 @@ use Rattle.daggy_dag.proofs.acyclic.compact.rewriting.Acyclic+N+E+Ix+DiGraph+N+E
 
 pub invariant_of-self : goal.invariant_of-self
 invariant_of-self g c =
-    nodes_rewritten _ g.Ix.IndexType.of c.args.f _ _ _ c.self.invariant (goal.F-step g) c.update_node_weights.ensures.written
+    nodes_rewritten _ g.Ix.IndexType.of c.args.f _ _ _ c.self.invariant (goal.F-step g)
+    c.update_node_weights.ensures.written
 
 pub returns-clause-written : goal.returns-clause-written
 returns-clause-written g c = rw (← c.self.view_is) c.update_node_weights.ensures.written

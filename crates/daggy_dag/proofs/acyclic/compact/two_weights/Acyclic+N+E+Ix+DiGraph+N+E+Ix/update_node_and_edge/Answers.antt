@@ -12,7 +12,9 @@ invariant_of-self g c =
     let n = g.Ix.IndexType.number c.args.n in
     let e = g.Ix.IndexType.number c.args.e in
     let there : HasNode s.graph n = subst (λ z. HasNode z.graph n) (sym c.self.view_is) c.requires.node in
-    stays_dag c.self.inside.order c.self.inside.scratch.nodes s _ (with_edge_weight (with_node_weight s.graph n r.first_left.now) e r.second_left.now) r.leaves (node_and_edge_written _ s.graph _ c.self.invariant n e r.first_left.now r.second_left.now there)
+    stays_dag c.self.inside.order c.self.inside.scratch.nodes s _
+    (with_edge_weight (with_node_weight s.graph n r.first_left.now) e r.second_left.now) r.leaves
+    (node_and_edge_written _ s.graph _ c.self.invariant n e r.first_left.now r.second_left.now there)
 
 pub returns-clause-called : goal.returns-clause-called
 returns-clause-called g c = rw (← c.self.view_is) c.update_node_and_edge.ensures

@@ -9,7 +9,9 @@ invariant_of-self g c =
     let s = c.self.inside.store in
     let a = g.Ix.IndexType.number c.args.a in
     let b = g.Ix.IndexType.number c.args.b in
-    stays_dag c.self.inside.order c.self.inside.scratch.nodes s _ (with_edge_weight (with_edge_weight s.graph a r.first_left.now) b r.second_left.now) r.leaves (edges_written _ s.graph _ c.self.invariant a b r.first_left.now r.second_left.now)
+    stays_dag c.self.inside.order c.self.inside.scratch.nodes s _
+    (with_edge_weight (with_edge_weight s.graph a r.first_left.now) b r.second_left.now) r.leaves
+    (edges_written _ s.graph _ c.self.invariant a b r.first_left.now r.second_left.now)
 
 pub returns-clause-called : goal.returns-clause-called
 returns-clause-called g c = rw (← c.self.view_is) c.update_two_edges.ensures

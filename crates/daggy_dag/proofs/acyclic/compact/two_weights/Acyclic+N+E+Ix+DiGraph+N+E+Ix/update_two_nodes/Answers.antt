@@ -13,7 +13,9 @@ invariant_of-self g c =
     let b = g.Ix.IndexType.number c.args.b in
     let first : HasNode s.graph a = subst (λ z. HasNode z.graph a) (sym c.self.view_is) c.requires.first in
     let second : HasNode s.graph b = subst (λ z. HasNode z.graph b) (sym c.self.view_is) c.requires.second in
-    stays_dag c.self.inside.order c.self.inside.scratch.nodes s _ (with_node_weight (with_node_weight s.graph a r.first_left.now) b r.second_left.now) r.leaves (nodes_written _ s.graph _ c.self.invariant a b r.first_left.now r.second_left.now first second)
+    stays_dag c.self.inside.order c.self.inside.scratch.nodes s _
+    (with_node_weight (with_node_weight s.graph a r.first_left.now) b r.second_left.now) r.leaves
+    (nodes_written _ s.graph _ c.self.invariant a b r.first_left.now r.second_left.now first second)
 
 pub returns-clause-called : goal.returns-clause-called
 returns-clause-called g c = rw (← c.self.view_is) c.update_two_nodes.ensures

@@ -8,7 +8,8 @@ pub invariant_of-result : goal.invariant_of-result
 invariant_of-result g c =
     let parts = c.into_parts-graph in
     let many : c.node_count-nodes.result ≡ length parts.result.0.graph.nodes =
-    c.node_count-nodes.ensures.slot_count ∙ ap (λ s. length s.nodes) (c.graph.ensures.graph ∙ sym parts.ensures.graph) in
+    c.node_count-nodes.ensures.slot_count
+    ∙ ap (λ s. length s.nodes) (c.graph.ensures.graph ∙ sym parts.ensures.graph) in
     kept_copied _ _ _ _ _ _ _ c.fill-store.ensures refl many c.in-Ok.ensures.searches parts.ensures.ordered
 
 pub returns-in-Ok-clause-acyclic : goal.returns-in-Ok-clause-acyclic

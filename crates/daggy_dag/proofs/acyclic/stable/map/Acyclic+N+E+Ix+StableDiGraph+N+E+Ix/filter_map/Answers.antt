@@ -4,11 +4,13 @@ use Rattle.daggy_dag.proofs.KeptInPlace.{order_kept, fits_kept}
 use Rattle.daggy_dag.proofs.acyclic.stable.map.Acyclic+N+E+Ix+StableDiGraph+N+E+Ix.filter_map.Goals as goal
 
 pub keep_existing-requires-clause-below : goal.keep_existing-requires-clause-below
-keep_existing-requires-clause-below g c = order_below _ _ _ _ c.node_slots-slots.ensures c.in_ok-order.ensures c.self.invariant.0
+keep_existing-requires-clause-below g c =
+    order_below _ _ _ _ c.node_slots-slots.ensures c.in_ok-order.ensures c.self.invariant.0
 
 pub invariant_of-result : goal.invariant_of-result
 invariant_of-result g c = (
-  order_kept _ _ _ _ _ _ _ c.in_ok-store.ensures.filtered _ _ _ _ c.node_count-joined_nodes.ensures.well_formed c.in_ok-order.ensures c.keep_existing.ensures c.self.invariant.0,
+  order_kept _ _ _ _ _ _ _ c.in_ok-store.ensures.filtered _ _ _ _ c.node_count-joined_nodes.ensures.well_formed
+      c.in_ok-order.ensures c.keep_existing.ensures c.self.invariant.0,
   fits_kept _ _ _ _ _ _ _ c.in_ok-store.ensures.filtered _ _ c.node_slots-slots.ensures c.in_ok-reserve.ensures.ok.0,
 )
 

@@ -1,7 +1,8 @@
 use Rattle.daggy_base.specs.Weights.{with_edge_weight}
 use Rattle.daggy_order.proofs.OrderLaws.{acyclic_from_order}
 use Rattle.daggy_dag.proofs.OrderWithWeights.{edges_written, stays_dag}
-use Rattle.daggy_dag.proofs.acyclic.stable.two_weights.Acyclic+N+E+Ix+StableDiGraph+N+E+Ix.update_two_edges.Goals as goal
+use Rattle.daggy_dag.proofs.acyclic.stable.two_weights.Acyclic+N+E+Ix+StableDiGraph+N+E+Ix.update_two_edges.Goals
+    as goal
 
 pub invariant_of-self : goal.invariant_of-self
 invariant_of-self g c =
@@ -9,7 +10,9 @@ invariant_of-self g c =
     let s = c.self.inside.store in
     let a = g.Ix.IndexType.number c.args.a in
     let b = g.Ix.IndexType.number c.args.b in
-    stays_dag c.self.inside.order c.self.inside.scratch.nodes s _ (with_edge_weight (with_edge_weight s.graph a r.first_left.now) b r.second_left.now) r.leaves (edges_written _ s.graph _ c.self.invariant a b r.first_left.now r.second_left.now)
+    stays_dag c.self.inside.order c.self.inside.scratch.nodes s _
+    (with_edge_weight (with_edge_weight s.graph a r.first_left.now) b r.second_left.now) r.leaves
+    (edges_written _ s.graph _ c.self.invariant a b r.first_left.now r.second_left.now)
 
 pub returns-clause-called : goal.returns-clause-called
 returns-clause-called g c = rw (← c.self.view_is) c.update_two_edges.ensures

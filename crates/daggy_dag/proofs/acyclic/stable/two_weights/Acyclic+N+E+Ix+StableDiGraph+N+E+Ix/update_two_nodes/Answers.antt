@@ -3,7 +3,8 @@ use Rattle.std.proofs.Common.{sym, subst}
 use Rattle.daggy_base.specs.Graph.{HasNode}
 use Rattle.daggy_order.proofs.OrderLaws.{acyclic_from_order}
 use Rattle.daggy_dag.proofs.OrderWithWeights.{nodes_written, stays_dag}
-use Rattle.daggy_dag.proofs.acyclic.stable.two_weights.Acyclic+N+E+Ix+StableDiGraph+N+E+Ix.update_two_nodes.Goals as goal
+use Rattle.daggy_dag.proofs.acyclic.stable.two_weights.Acyclic+N+E+Ix+StableDiGraph+N+E+Ix.update_two_nodes.Goals
+    as goal
 
 pub invariant_of-self : goal.invariant_of-self
 invariant_of-self g c =
@@ -13,7 +14,9 @@ invariant_of-self g c =
     let b = g.Ix.IndexType.number c.args.b in
     let first : HasNode s.graph a = subst (λ z. HasNode z.graph a) (sym c.self.view_is) c.requires.first in
     let second : HasNode s.graph b = subst (λ z. HasNode z.graph b) (sym c.self.view_is) c.requires.second in
-    stays_dag c.self.inside.order c.self.inside.scratch.nodes s _ (with_node_weight (with_node_weight s.graph a r.first_left.now) b r.second_left.now) r.leaves (nodes_written _ s.graph _ c.self.invariant a b r.first_left.now r.second_left.now first second)
+    stays_dag c.self.inside.order c.self.inside.scratch.nodes s _
+    (with_node_weight (with_node_weight s.graph a r.first_left.now) b r.second_left.now) r.leaves
+    (nodes_written _ s.graph _ c.self.invariant a b r.first_left.now r.second_left.now first second)
 
 pub returns-clause-called : goal.returns-clause-called
 returns-clause-called g c = rw (← c.self.view_is) c.update_two_nodes.ensures
