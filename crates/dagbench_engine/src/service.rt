@@ -17,11 +17,11 @@ use std::alloc::Global;
 /// How many bytes are read at once.
 const BLOCK: usize = 0x1_0000;
 
-/// Reads lines until the end of the source, and writes the answer to each. What was answered is handed
-/// to the sink before more is read.
+/// Reads lines until the end of the source, and writes the answer to each. What was answered is
+/// handed to the sink before more is read.
 ///
-/// The mode says which kind of graph is served, and whether at the end of the source a plan of it is
-/// written: each stage as a line, and then the chain, or that there was no memory for one.
+/// The mode says which kind of graph is served, and whether at the end of the source a plan of it
+/// is written: each stage as a line, and then the chain, or that there was no memory for one.
 pub fn serve<S: Source, K: Sink>(
     alloc: Global,
     mode: Mode,
@@ -93,7 +93,8 @@ fn run<D: Documented, S: Source, K: Sink>(
     requires nothing { (session.line ≡ []) × (session.output ≡ []) }
     ensures { IsRun D.kind plans result (S.given source.old) (S.given source.new)
         (K.taken sink.old) (K.taken sink.new) (S.is_ended source.new)
-        (S.failures source.old) (S.failures source.new) (K.failures sink.old) (K.failures sink.new) }
+        (S.failures source.old) (S.failures source.new) (K.failures sink.old)
+        (K.failures sink.new) }
 {
     'reads: loop {
         let Ok(()) = session.output.flush(sink) else {
