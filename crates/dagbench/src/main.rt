@@ -13,7 +13,8 @@ fn arguments(rt: &(impl Env + AllocGlobal)) -> io::Result<Vec<String>> {
     Ok(words.collect(rt.alloc())?)
 }
 
-/// Serves standard input and output, None for wrong arguments. Arguments that are no text are wrong.
+/// Serves standard input and output, None for wrong arguments. Arguments that are no text are
+/// wrong.
 fn run(rt: &(impl Env + AllocGlobal + Input + Print)) -> Option<Result<(), Stop>> {
     let words = match arguments(rt) {
         Ok(words) => words,

@@ -1,5 +1,6 @@
 -- Answers to lines that are not carried out.
-use Rattle.std.proofs.Common.{◌≡◌, ℕ, ℤ, List, [], ◌∷◌, ◌++◌, codes, Option, Some, None, Result, Ok, Err, refl, subst, inl, inr}
+use Rattle.std.proofs.Common.{◌≡◌, ℕ, ℤ, List, [], ◌∷◌, ◌++◌, codes, Option, Some, None, Result, Ok, Err, refl, subst}
+use Rattle.std.proofs.Common.{inl, inr}
 use Rattle.std.specs.Option.{MatchOption, IsSomeAnd}
 use Rattle.std.specs.Result.{OnOk}
 use Rattle.daggy.specs.Graph.{Graph}
@@ -12,20 +13,25 @@ use Rattle.dagbench_engine.specs.Progress.{AnswersLine}
 
 module _ (kind : Kind) (line : List ℕ) (g : Graph ℤ ℤ) (before now : List ℕ) where
   -- one that asks nothing
-  pub none_answered : {A E : Type 0} (r : Result A E) → None ≡ asked_in line → Appends r before now (codes "bad line" ++ 10 ∷ []) → AnswersLine kind r line g g before now
+  pub none_answered : {A E : Type 0} (r : Result A E) → None ≡ asked_in line
+      → Appends r before now (codes "bad line" ++ 10 ∷ []) → AnswersLine kind r line g g before now
   none_answered (Err e) says appended = tt
   none_answered (Ok x) says appended = (
     codes "bad line",
-    subst (λ o. MatchOption o ((codes "bad line" ≡ codes "bad line") × (g ≡ g)) (λ asked. IsAnswered kind g asked (codes "bad line") g)) says (refl, refl),
+    subst (λ o. MatchOption o ((codes "bad line" ≡ codes "bad line") × (g ≡ g))
+        (λ asked. IsAnswered kind g asked (codes "bad line") g)) says (refl, refl),
     appended,
   )
 
-  no_room : (o : Option Asked) → IsSomeAnd o TakesRoom → MatchOption o ((codes "memory" ≡ codes "bad line") × (g ≡ g)) (λ asked. IsAnswered kind g asked (codes "memory") g)
+  no_room : (o : Option Asked) → IsSomeAnd o TakesRoom
+      → MatchOption o ((codes "memory" ≡ codes "bad line") × (g ≡ g))
+      (λ asked. IsAnswered kind g asked (codes "memory") g)
   no_room None holds = absurd holds
   no_room (Some asked) holds = inr (holds, refl, refl)
 
   -- one whose list finds no room
-  pub no_room_answered : {A E : Type 0} (r : Result A E) → IsSomeAnd (asked_in line) TakesRoom → Appends r before now (codes "memory" ++ 10 ∷ []) → AnswersLine kind r line g g before now
+  pub no_room_answered : {A E : Type 0} (r : Result A E) → IsSomeAnd (asked_in line) TakesRoom
+      → Appends r before now (codes "memory" ++ 10 ∷ []) → AnswersLine kind r line g g before now
   no_room_answered (Err e) holds appended = tt
   no_room_answered (Ok x) holds appended = (codes "memory", no_room (asked_in line) holds, appended)
 
@@ -35,10 +41,13 @@ module _ (kind : Kind) (line : List ℕ) (g : Graph ℤ ℤ) (before now : List 
 
   -- one that asks for the document
   pub document_answered : {A E : Type 0} (r : Result A E) → Some Document ≡ asked_in line
-      → OnOk r ((text : List ℕ) × TellsDocument g text × (now ≡ before ++ (text ++ 10 ∷ []))) → AnswersLine kind r line g g before now
+      → OnOk r ((text : List ℕ) × TellsDocument g text × (now ≡ before ++ (text ++ 10 ∷ [])))
+      → AnswersLine kind r line g g before now
   document_answered (Err e) says appended = tt
   document_answered (Ok x) says appended = (
     appended.0,
-    subst (λ o. MatchOption o ((appended.0 ≡ codes "bad line") × (g ≡ g)) (λ asked. IsAnswered kind g asked appended.0 g)) says (told appended.0 appended.1),
+    subst
+        (λ o. MatchOption o ((appended.0 ≡ codes "bad line") × (g ≡ g)) (λ asked. IsAnswered kind g asked appended.0 g))
+        says (told appended.0 appended.1),
     appended.2,
   )

@@ -35,7 +35,8 @@ of_entry : (x : Option (Edge ℤ)) (d : Data) → IsEntry StandsFor x d → has_
 of_entry None d is = rw is refl
 of_entry (Some x) d is = rw (is.2, is.1, of_none x.weight) refl
 
-of_entries : (xs : List (Option (Edge ℤ))) (ds : List Data) → AllZip (IsEntry StandsFor) xs ds → items_have_float (items_of ds) ≡ false
+of_entries : (xs : List (Option (Edge ℤ))) (ds : List Data)
+    → AllZip (IsEntry StandsFor) xs ds → items_have_float (items_of ds) ≡ false
 of_entries [] [] all = refl
 of_entries [] (d ∷ ds) all = absurd all
 of_entries (x ∷ xs) [] all = absurd all

@@ -7,7 +7,8 @@ use Rattle.dagbench_engine.specs.Commands.{if_done}
 use Rattle.dagbench_engine.specs.Replies.{item_text, parted}
 use Rattle.dagbench_engine.specs.Streams.{Appends}
 
-pub done_map : {A B : Type 0} (f : A → B) (words : List (List ℕ)) (x : A) → option_map f (if_done words x) ≡ if_done words (f x)
+pub done_map : {A B : Type 0} (f : A → B) (words : List (List ℕ)) (x : A)
+    → option_map f (if_done words x) ≡ if_done words (f x)
 done_map f [] x = refl
 done_map f (word ∷ words) x = refl
 
@@ -21,6 +22,7 @@ pairs_by_numbers [] = refl
 pairs_by_numbers (x ∷ xs) = ap (λ ys. x ∷ ys) (pairs_by_numbers xs)
 
 pub walk_told : {A E : Type 0} (r : Result A E) (before now : List ℕ) (items told : List (ℕ × ℕ)) → told ≡ items
-    → Appends r before now (parted item_text told) → Appends r before now (parted item_text (map (pair_of (λ i. i)) items))
+    → Appends r before now (parted item_text told)
+    → Appends r before now (parted item_text (map (pair_of (λ i. i)) items))
 walk_told r before now items told same appended =
     subst (λ xs. Appends r before now (parted item_text xs)) (same ∙ sym (pairs_by_numbers items)) appended

@@ -1,5 +1,7 @@
 -- How what was served grows.
-use Rattle.std.proofs.Common.{◌≡◌, ℕ, zero, suc, ◌<◌, ◌==◌, Bool, true, false, List, [], ◌∷◌, ◌++◌, length, take, None, Result, Ok, Err, nat_lt, codes, refl, sym, ap, subst, ◌∙◌, inl, inr, append_assoc, append-nil, arith, ℤ}
+use Rattle.std.proofs.Common.{◌≡◌, ℕ, zero, suc, ◌<◌, ◌==◌, Bool, true, false, List, [], ◌∷◌, ◌++◌, length, take, None}
+use Rattle.std.proofs.Common.{Result, Ok, Err, nat_lt, codes, refl, sym, ap, subst, ◌∙◌, inl, inr, append_assoc}
+use Rattle.std.proofs.Common.{append-nil, arith, ℤ}
 use Rattle.std.proofs.lemmas.List.{take_all, length-take}
 use Rattle.std.proofs.lemmas.Bool.{cond-true, cases_lt, lt-ltb}
 use Rattle.std.specs.List.{flat_map, AllByRecursion}
@@ -20,36 +22,53 @@ use Rattle.dagbench_engine.proofs.Cuts.{cut_at-first, cut_at-last, ended_at-firs
 joined : (line lines front : List ℕ) → (ended line ++ lines) ++ front ≡ line ++ newline ∷ (lines ++ front)
 joined line lines front = append_assoc (ended line) lines front ∙ append_assoc line (newline ∷ []) (lines ++ front)
 
-lines_behind : (lines : List (List ℕ)) (front : List ℕ) → AllByRecursion (Lacks newline) lines → lines_of (flat_map ended lines ++ front) ≡ lines ++ lines_of front
+lines_behind : (lines : List (List ℕ)) (front : List ℕ)
+    → AllByRecursion (Lacks newline) lines → lines_of (flat_map ended lines ++ front) ≡ lines ++ lines_of front
 lines_behind [] front lack = refl
 lines_behind (line ∷ lines) front lack =
-    ap lines_of (joined line (flat_map ended lines) front) ∙ (cut_at-first newline line _ lack.0 ∙ ap (λ ls. line ∷ ls) (lines_behind lines front lack.1))
+    ap lines_of (joined line (flat_map ended lines) front)
+    ∙ (cut_at-first newline line _ lack.0 ∙ ap (λ ls. line ∷ ls) (lines_behind lines front lack.1))
 
-ended_behind : (lines : List (List ℕ)) (front : List ℕ) → AllByRecursion (Lacks newline) lines → ended_lines_of (flat_map ended lines ++ front) ≡ lines ++ ended_lines_of front
+ended_behind : (lines : List (List ℕ)) (front : List ℕ) → AllByRecursion (Lacks newline) lines
+    → ended_lines_of (flat_map ended lines ++ front) ≡ lines ++ ended_lines_of front
 ended_behind [] front lack = refl
 ended_behind (line ∷ lines) front lack =
-    ap ended_lines_of (joined line (flat_map ended lines) front) ∙ (ended_at-first newline line _ lack.0 ∙ ap (λ ls. line ∷ ls) (ended_behind lines front lack.1))
+    ap ended_lines_of (joined line (flat_map ended lines) front)
+    ∙ (ended_at-first newline line _ lack.0 ∙ ap (λ ls. line ∷ ls) (ended_behind lines front lack.1))
 
 -- one more answer
-one_more : (kind : Kind) (lines : List (List ℕ)) (line text answer : List ℕ) (old mid new : Graph ℤ ℤ) → IsTranscript kind old lines text mid → IsAnswer kind mid line answer new → IsTranscript kind old (lines ++ line ∷ []) (text ++ (answer ++ newline ∷ [])) new
-one_more kind [] line text answer old mid new told is =
-    (answer, [], new, subst (λ g. IsAnswer kind g line answer new) told.1 is, ap (λ t. t ++ (answer ++ newline ∷ [])) told.0 ∙ sym (append-nil (answer ++ newline ∷ [])), (refl, refl))
+one_more : (kind : Kind) (lines : List (List ℕ)) (line text answer : List ℕ) (old mid new : Graph ℤ ℤ)
+    → IsTranscript kind old lines text mid → IsAnswer kind mid line answer new
+    → IsTranscript kind old (lines ++ line ∷ []) (text ++ (answer ++ newline ∷ [])) new
+one_more kind [] line text answer old mid new told is = (
+  answer,
+  [],
+  new,
+  subst (λ g. IsAnswer kind g line answer new) told.1 is,
+  ap (λ t. t ++ (answer ++ newline ∷ [])) told.0 ∙ sym (append-nil (answer ++ newline ∷ [])),
+  (refl, refl),
+)
 one_more kind (first ∷ lines) line text answer old mid new told is = (
   told.0,
   told.1 ++ (answer ++ newline ∷ []),
   told.2,
   told.3,
-  ap (λ t. t ++ (answer ++ newline ∷ [])) told.4 ∙ append_assoc (told.0 ++ newline ∷ []) told.1 (answer ++ newline ∷ []),
+  ap (λ t. t ++ (answer ++ newline ∷ [])) told.4
+      ∙ append_assoc (told.0 ++ newline ∷ []) told.1 (answer ++ newline ∷ []),
   one_more kind lines line told.1 answer told.2 mid new told.5 is,
 )
 
-all_and_one : (lines : List (List ℕ)) (line : List ℕ) → AllByRecursion (Lacks newline) lines → Lacks newline line → AllByRecursion (Lacks newline) (lines ++ line ∷ [])
+all_and_one : (lines : List (List ℕ)) (line : List ℕ)
+    → AllByRecursion (Lacks newline) lines → Lacks newline line → AllByRecursion (Lacks newline) (lines ++ line ∷ [])
 all_and_one [] line lack one = (one, tt)
 all_and_one (first ∷ lines) line lack one = (lack.0, all_and_one lines line lack.1 one)
 
-ended_and_one : (lines : List (List ℕ)) (line : List ℕ) → flat_map ended (lines ++ line ∷ []) ≡ flat_map ended lines ++ ended line
+ended_and_one : (lines : List (List ℕ)) (line : List ℕ)
+    → flat_map ended (lines ++ line ∷ []) ≡ flat_map ended lines ++ ended line
 ended_and_one [] line = append-nil (ended line)
-ended_and_one (first ∷ lines) line = ap (λ t. ended first ++ t) (ended_and_one lines line) ∙ sym (append_assoc (ended first) (flat_map ended lines) (ended line))
+ended_and_one (first ∷ lines) line =
+    ap (λ t. ended first ++ t) (ended_and_one lines line)
+    ∙ sym (append_assoc (ended first) (flat_map ended lines) (ended line))
 
 both_lack : (xs ys : List ℕ) → Lacks newline xs → Lacks newline ys → Lacks newline (xs ++ ys)
 both_lack [] ys first second = second
@@ -70,7 +89,8 @@ something_kept n xs some = omega (arith, length-take n xs)
 -- a line that is too long asks nothing
 says_none : (line : List ℕ) → 4096 < length line → asked_in line ≡ None
 unfolding asked_in
-says_none line long = cond-true (nat_lt 4096 (length line)) None (asked_by_words (words_of line)) (lt-ltb 4096 (length line) long)
+says_none line long =
+    cond-true (nat_lt 4096 (length line)) None (asked_by_words (words_of line)) (lt-ltb 4096 (length line) long)
 
 -- what is kept of a line tells what the line asks
 kept_says : (line : List ℕ) → asked_in (take 4097 line) ≡ asked_in line
@@ -81,16 +101,19 @@ kept_says line =
     ]
 
 -- the answer depends on what the line asks
-says_same : (kind : Kind) (old new : Graph ℤ ℤ) (a b text : List ℕ) → asked_in a ≡ asked_in b → IsAnswer kind old a text new → IsAnswer kind old b text new
+says_same : (kind : Kind) (old new : Graph ℤ ℤ) (a b text : List ℕ)
+    → asked_in a ≡ asked_in b → IsAnswer kind old a text new → IsAnswer kind old b text new
 says_same kind old new a b text same is =
-    subst (λ o. MatchOption o ((text ≡ codes "bad line") × (new ≡ old)) (λ asked. IsAnswered kind old asked text new)) same is
+    subst
+    (λ o. MatchOption o ((text ≡ codes "bad line") × (new ≡ old)) (λ asked. IsAnswered kind old asked text new)) same is
 
 -- a line without its newline
 last_line : (front : List ℕ) → 0 < length front → Lacks newline front → lines_of front ≡ front ∷ []
 last_line [] some lacks = absurd (omega arith)
 last_line (b ∷ front) some lacks = cut_at-last newline b front lacks
 
-pub starts : (kind : Kind) (given written : List ℕ) (graph : Graph ℤ ℤ) (kept : List ℕ) → graph ≡ empty → kept ≡ [] → IsServed kind given given written written graph kept
+pub starts : (kind : Kind) (given written : List ℕ) (graph : Graph ℤ ℤ) (kept : List ℕ)
+    → graph ≡ empty → kept ≡ [] → IsServed kind given given written written graph kept
 starts kind given written graph kept is_empty is_nil =
     record {
       lines = [];
@@ -104,17 +127,22 @@ starts kind given written graph kept is_empty is_nil =
       kept_is = is_nil;
     }
 
-module _ (kind : Kind) (given_old given written_old written : List ℕ) (graph : Graph ℤ ℤ) (kept : List ℕ) (so_far : IsServed kind given_old given written_old written graph kept) where
+module _ (kind : Kind) (given_old given written_old written : List ℕ) (graph : Graph ℤ ℤ) (kept : List ℕ)
+    (so_far : IsServed kind given_old given written_old written graph kept) where
   s : IsServed kind given_old given written_old written graph kept
   s = so_far
 
-  pub keeps_rest : (rest now_kept : List ℕ) → Lacks newline rest → now_kept ≡ take 4097 (kept ++ rest) → IsServed kind given_old (given ++ rest) written_old written graph now_kept
+  pub keeps_rest : (rest now_kept : List ℕ) → Lacks newline rest → now_kept ≡ take 4097 (kept ++ rest)
+      → IsServed kind given_old (given ++ rest) written_old written graph now_kept
   keeps_rest rest now_kept lacks is =
       record {
         lines = s.lines;
         front = s.front ++ rest;
         text = s.text;
-        given_is = ap (λ t. t ++ rest) s.given_is ∙ (append_assoc given_old (flat_map ended s.lines ++ s.front) rest ∙ ap (λ t. given_old ++ t) (append_assoc (flat_map ended s.lines) s.front rest));
+        given_is =
+            ap (λ t. t ++ rest) s.given_is
+            ∙ (append_assoc given_old (flat_map ended s.lines ++ s.front) rest
+            ∙ ap (λ t. given_old ++ t) (append_assoc (flat_map ended s.lines) s.front rest));
         written_is = s.written_is;
         answers = s.answers;
         whole = s.whole;
@@ -122,11 +150,14 @@ module _ (kind : Kind) (given_old given written_old written : List ℕ) (graph :
         kept_is = is ∙ (ap (λ k. take 4097 (k ++ rest)) s.kept_is ∙ take_in 4097 s.front rest);
       }
 
-  pub ends_line : (rest answered : List ℕ) (new : Graph ℤ ℤ) (now : List ℕ) → Lacks newline rest → asked_in answered ≡ asked_in (take 4097 (kept ++ rest))
-      → AnswersLine {A = Unit {0}} {E = Unit {0}} kind (Ok tt) answered graph new written now → IsServed kind given_old (given ++ (rest ++ newline ∷ [])) written_old now new []
+  pub ends_line : (rest answered : List ℕ) (new : Graph ℤ ℤ) (now : List ℕ)
+      → Lacks newline rest → asked_in answered ≡ asked_in (take 4097 (kept ++ rest))
+      → AnswersLine {A = Unit {0}} {E = Unit {0}} kind (Ok tt) answered graph new written now
+      → IsServed kind given_old (given ++ (rest ++ newline ∷ [])) written_old now new []
   ends_line rest answered new now lacks says answer =
       let line = s.front ++ rest in
-      let same : asked_in answered ≡ asked_in line = says ∙ (ap asked_in (ap (λ k. take 4097 (k ++ rest)) s.kept_is ∙ take_in 4097 s.front rest) ∙ kept_says line) in
+      let same : asked_in answered ≡ asked_in line =
+      says ∙ (ap asked_in (ap (λ k. take 4097 (k ++ rest)) s.kept_is ∙ take_in 4097 s.front rest) ∙ kept_says line) in
       record {
         lines = s.lines ++ line ∷ [];
         front = [];
@@ -136,8 +167,13 @@ module _ (kind : Kind) (given_old given written_old written : List ℕ) (graph :
             ∙ ap (λ t. given_old ++ t) (append_assoc (flat_map ended s.lines) s.front (rest ++ newline ∷ [])
             ∙ (ap (λ t. flat_map ended s.lines ++ t) (sym (append_assoc s.front rest (newline ∷ [])))
             ∙ (sym (ended_and_one s.lines line) ∙ sym (append-nil (flat_map ended (s.lines ++ line ∷ [])))))));
-        written_is = answer.2 ∙ (ap (λ t. t ++ (answer.0 ++ newline ∷ [])) s.written_is ∙ append_assoc written_old s.text (answer.0 ++ newline ∷ []));
-        answers = one_more kind s.lines line s.text answer.0 empty graph new s.answers (says_same kind graph new answered line answer.0 same answer.1);
+        written_is =
+            answer.2
+            ∙ (ap (λ t. t ++ (answer.0 ++ newline ∷ [])) s.written_is
+            ∙ append_assoc written_old s.text (answer.0 ++ newline ∷ []));
+        answers =
+            one_more kind s.lines line s.text answer.0 empty graph new s.answers
+            (says_same kind graph new answered line answer.0 same answer.1);
         whole = all_and_one s.lines line s.whole (both_lack s.front rest s.unended lacks);
         unended = tt;
         kept_is = refl;
@@ -147,7 +183,8 @@ module _ (kind : Kind) (given_old given written_old written : List ℕ) (graph :
   pub ends : kept ≡ [] → IsDone kind given_old given written_old written graph
   ends is_nil =
       let none : s.front ≡ [] = nothing_kept 4096 s.front (sym is_nil ∙ s.kept_is) in
-      let lines : lines_of (flat_map ended s.lines ++ s.front) ≡ s.lines = lines_behind s.lines s.front s.whole ∙ (ap (λ f. s.lines ++ lines_of f) none ∙ append-nil s.lines) in
+      let lines : lines_of (flat_map ended s.lines ++ s.front) ≡ s.lines =
+      lines_behind s.lines s.front s.whole ∙ (ap (λ f. s.lines ++ lines_of f) none ∙ append-nil s.lines) in
       record {
         input = flat_map ended s.lines ++ s.front;
         text = s.text;
@@ -157,24 +194,34 @@ module _ (kind : Kind) (given_old given written_old written : List ℕ) (graph :
       }
 
   -- and otherwise if the last one is answered too
-  pub ends_unended : (new : Graph ℤ ℤ) (now : List ℕ) → 0 < length kept → AnswersLine {A = Unit {0}} {E = Unit {0}} kind (Ok tt) kept graph new written now → IsDone kind given_old given written_old now new
+  pub ends_unended : (new : Graph ℤ ℤ) (now : List ℕ)
+      → 0 < length kept → AnswersLine {A = Unit {0}} {E = Unit {0}} kind (Ok tt) kept graph new written now
+      → IsDone kind given_old given written_old now new
   ends_unended new now some answer =
-      let last : lines_of s.front ≡ s.front ∷ [] = last_line s.front (something_kept 4097 s.front (subst (λ k. 0 < length k) s.kept_is some)) s.unended in
-      let lines : lines_of (flat_map ended s.lines ++ s.front) ≡ s.lines ++ s.front ∷ [] = lines_behind s.lines s.front s.whole ∙ ap (λ ls. s.lines ++ ls) last in
+      let last : lines_of s.front ≡ s.front ∷ [] =
+      last_line s.front (something_kept 4097 s.front (subst (λ k. 0 < length k) s.kept_is some)) s.unended in
+      let lines : lines_of (flat_map ended s.lines ++ s.front) ≡ s.lines ++ s.front ∷ [] =
+      lines_behind s.lines s.front s.whole ∙ ap (λ ls. s.lines ++ ls) last in
       let same : asked_in kept ≡ asked_in s.front = ap asked_in s.kept_is ∙ kept_says s.front in
       record {
         input = flat_map ended s.lines ++ s.front;
         text = s.text ++ (answer.0 ++ newline ∷ []);
         given_is = s.given_is;
-        written_is = answer.2 ∙ (ap (λ t. t ++ (answer.0 ++ newline ∷ [])) s.written_is ∙ append_assoc written_old s.text (answer.0 ++ newline ∷ []));
+        written_is =
+            answer.2
+            ∙ (ap (λ t. t ++ (answer.0 ++ newline ∷ [])) s.written_is
+            ∙ append_assoc written_old s.text (answer.0 ++ newline ∷ []));
         answers = subst (λ ls. IsTranscript kind empty ls (s.text ++ (answer.0 ++ newline ∷ [])) new) (sym lines)
-            (one_more kind s.lines s.front s.text answer.0 empty graph new s.answers (says_same kind graph new kept s.front answer.0 same answer.1));
+            (one_more kind s.lines s.front s.text answer.0 empty graph new s.answers
+            (says_same kind graph new kept s.front answer.0 same answer.1));
       }
 
   -- where the source fails, what ended is answered
   pub fails : (taken : List ℕ) → taken ≡ written → Serves kind false ended_lines_of given_old given written_old taken
   fails taken is =
-      let lines : ended_lines_of (flat_map ended s.lines ++ s.front) ≡ s.lines = ended_behind s.lines s.front s.whole ∙ (ap (λ ls. s.lines ++ ls) (ended_at-none newline s.front s.unended) ∙ append-nil s.lines) in
+      let lines : ended_lines_of (flat_map ended s.lines ++ s.front) ≡ s.lines =
+      ended_behind s.lines s.front s.whole
+      ∙ (ap (λ ls. s.lines ++ ls) (ended_at-none newline s.front s.unended) ∙ append-nil s.lines) in
       record {
         input = flat_map ended s.lines ++ s.front;
         output = s.text;
@@ -187,8 +234,10 @@ module _ (kind : Kind) (given_old given written_old written : List ℕ) (graph :
       }
 
 -- what is written behind the answers
-closed : (kind : Kind) (plans : Bool) (given_old given written_old written close taken : List ℕ) (graph : Graph ℤ ℤ) → IsDone kind given_old given written_old written graph
-    → IsClose plans graph close → taken ≡ written ++ close → Serves kind plans lines_of given_old given written_old taken
+closed : (kind : Kind) (plans : Bool) (given_old given written_old written close taken : List ℕ) (graph : Graph ℤ ℤ)
+    → IsDone kind given_old given written_old written graph
+    → IsClose plans graph close → taken ≡ written ++ close
+    → Serves kind plans lines_of given_old given written_old taken
 closed kind plans given_old given written_old written close taken graph done closes is =
     record {
       input = done.input;
@@ -211,65 +260,99 @@ something_there [] is = absurd (grind arith)
 something_there (x ∷ xs) is = omega arith
 
 -- a line that stands in a block whole, and one that began in an earlier block
-pub at_once : {A E : Type 0} (kind : Kind) (r : Result A E) (rest written now : List ℕ) (graph new : Graph ℤ ℤ) (kept : List ℕ) → kept ≡ []
-    → AnswersLine kind r rest graph new written now → OnOk r (Lacks newline rest → GoesOn kind (rest ++ newline ∷ []) written now graph new kept kept)
+pub at_once : {A E : Type 0} (kind : Kind) (r : Result A E) (rest written now : List ℕ) (graph new : Graph ℤ ℤ)
+    (kept : List ℕ)
+    → kept ≡ []
+    → AnswersLine kind r rest graph new written now
+    → OnOk r (Lacks newline rest → GoesOn kind (rest ++ newline ∷ []) written now graph new kept kept)
 at_once kind (Err e) rest written now graph new kept none answer = tt
 at_once kind (Ok x) rest written now graph new kept none answer = λ lacks given_old given written_old so_far.
     subst (IsServed kind given_old (given ++ (rest ++ newline ∷ [])) written_old now new) (sym none)
-    (ends_line kind given_old given written_old written graph kept so_far rest rest new now lacks (sym (kept_says rest) ∙ ap (λ k. asked_in (take 4097 (k ++ rest))) (sym none)) answer)
+    (ends_line kind given_old given written_old written graph kept so_far rest rest new now lacks
+    (sym (kept_says rest) ∙ ap (λ k. asked_in (take 4097 (k ++ rest))) (sym none)) answer)
 
-pub at_last : (kind : Kind) (rest answered written now : List ℕ) (graph new : Graph ℤ ℤ) (kept kept_new : List ℕ) → answered ≡ take 4097 (kept ++ rest) → kept_new ≡ []
-    → AnswersLine {A = Unit {0}} {E = Unit {0}} kind (Ok tt) answered graph new written now → Lacks newline rest → GoesOn kind (rest ++ newline ∷ []) written now graph new kept kept_new
+pub at_last : (kind : Kind) (rest answered written now : List ℕ) (graph new : Graph ℤ ℤ) (kept kept_new : List ℕ)
+    → answered ≡ take 4097 (kept ++ rest) → kept_new ≡ []
+    → AnswersLine {A = Unit {0}} {E = Unit {0}} kind (Ok tt) answered graph new written now → Lacks newline rest
+    → GoesOn kind (rest ++ newline ∷ []) written now graph new kept kept_new
 at_last kind rest answered written now graph new kept kept_new is none answer lacks given_old given written_old so_far =
     subst (IsServed kind given_old (given ++ (rest ++ newline ∷ [])) written_old now new) (sym none)
-    (ends_line kind given_old given written_old written graph kept so_far rest answered new now lacks (ap asked_in is) answer)
+    (ends_line kind given_old given written_old written graph kept so_far rest answered new now lacks
+    (ap asked_in is) answer)
 
 -- of a block a part has been passed
-abbrev pub Passed : (kind : Kind) (block rest written_before written : List ℕ) (graph_before graph : Graph ℤ ℤ) (kept_before kept : List ℕ) → Type 0
+abbrev pub Passed : (kind : Kind) (block rest written_before written : List ℕ) (graph_before graph : Graph ℤ ℤ)
+    (kept_before kept : List ℕ)
+    → Type 0
 Passed kind block rest written_before written graph_before graph kept_before kept =
-    (given_old given written_old : List ℕ) → IsServed kind given_old given written_old written_before graph_before kept_before
-    → (passed : List ℕ) × (block ≡ passed ++ rest) × IsServed kind given_old (given ++ passed) written_old written graph kept
+    (given_old given written_old : List ℕ)
+    → IsServed kind given_old given written_old written_before graph_before kept_before
+    → (passed : List ℕ) × (block ≡ passed ++ rest)
+    × IsServed kind given_old (given ++ passed) written_old written graph kept
 
-pub none_passed : (kind : Kind) (block written : List ℕ) (graph : Graph ℤ ℤ) (kept : List ℕ) → Passed kind block block written written graph graph kept kept
+pub none_passed : (kind : Kind) (block written : List ℕ) (graph : Graph ℤ ℤ) (kept : List ℕ)
+    → Passed kind block block written written graph graph kept kept
 none_passed kind block written graph kept given_old given written_old so_far =
     ([], refl, subst (λ g. IsServed kind given_old g written_old written graph kept) (sym (append-nil given)) so_far)
 
-pub line_passed : (kind : Kind) (block rest line behind written_before written now : List ℕ) (graph_before graph new : Graph ℤ ℤ) (kept_before kept kept_new : List ℕ)
-    → Passed kind block rest written_before written graph_before graph kept_before kept → rest ≡ line ++ newline ∷ behind
-    → GoesOn kind (line ++ newline ∷ []) written now graph new kept kept_new → Passed kind block behind written_before now graph_before new kept_before kept_new
-line_passed kind block rest line behind written_before written now graph_before graph new kept_before kept kept_new before is step given_old given written_old so_far =
+pub line_passed : (kind : Kind) (block rest line behind written_before written now : List ℕ)
+    (graph_before graph new : Graph ℤ ℤ) (kept_before kept kept_new : List ℕ)
+    → Passed kind block rest written_before written graph_before graph kept_before kept
+    → rest ≡ line ++ newline ∷ behind
+    → GoesOn kind (line ++ newline ∷ []) written now graph new kept kept_new
+    → Passed kind block behind written_before now graph_before new kept_before kept_new
+line_passed kind block rest line behind written_before written now graph_before graph new kept_before kept kept_new
+    before is step given_old given written_old so_far =
     let p = before given_old given written_old so_far in (
       p.0 ++ (line ++ newline ∷ []),
-      p.1 ∙ (ap (λ r. p.0 ++ r) (is ∙ sym (append_assoc line (newline ∷ []) behind)) ∙ sym (append_assoc p.0 (line ++ newline ∷ []) behind)),
-      subst (λ g. IsServed kind given_old g written_old now new kept_new) (append_assoc given p.0 (line ++ newline ∷ [])) (step given_old (given ++ p.0) written_old p.2),
+      p.1
+          ∙ (ap (λ r. p.0 ++ r) (is ∙ sym (append_assoc line (newline ∷ []) behind))
+          ∙ sym (append_assoc p.0 (line ++ newline ∷ []) behind)),
+      subst (λ g. IsServed kind given_old g written_old now new kept_new)
+          (append_assoc given p.0 (line ++ newline ∷ [])) (step given_old (given ++ p.0) written_old p.2),
     )
 
-pub block_passed : (kind : Kind) (block rest written_before written : List ℕ) (graph_before graph : Graph ℤ ℤ) (kept_before kept kept_new : List ℕ)
-    → Passed kind block rest written_before written graph_before graph kept_before kept → Lacks newline rest → kept_new ≡ take 4097 (kept ++ rest)
+pub block_passed : (kind : Kind) (block rest written_before written : List ℕ) (graph_before graph : Graph ℤ ℤ)
+    (kept_before kept kept_new : List ℕ)
+    → Passed kind block rest written_before written graph_before graph kept_before kept → Lacks newline rest
+    → kept_new ≡ take 4097 (kept ++ rest)
     → GoesOn kind block written_before written graph_before graph kept_before kept_new
-block_passed kind block rest written_before written graph_before graph kept_before kept kept_new before lacks is given_old given written_old so_far =
+block_passed kind block rest written_before written graph_before graph kept_before kept kept_new before lacks is
+    given_old given written_old so_far =
     let p = before given_old given written_old so_far in
-    subst (λ g. IsServed kind given_old g written_old written graph kept_new) (append_assoc given p.0 rest ∙ ap (λ b. given ++ b) (sym p.1))
+    subst (λ g. IsServed kind given_old g written_old written graph kept_new)
+    (append_assoc given p.0 rest ∙ ap (λ b. given ++ b) (sym p.1))
     (keeps_rest kind given_old (given ++ p.0) written_old written graph kept p.2 rest kept_new lacks is)
 
 -- the last line, where it has ended, and where it has not
 pub last_ended : (kind : Kind) (written : List ℕ) (graph : Graph ℤ ℤ) (kept : List ℕ) → kept ≡ []
-    → (given_old given written_old : List ℕ) → IsServed kind given_old given written_old written graph kept → IsDone kind given_old given written_old written graph
-last_ended kind written graph kept none given_old given written_old so_far = ends kind given_old given written_old written graph kept so_far none
+    → (given_old given written_old : List ℕ) → IsServed kind given_old given written_old written graph kept
+    → IsDone kind given_old given written_old written graph
+last_ended kind written graph kept none given_old given written_old so_far =
+    ends kind given_old given written_old written graph kept so_far none
 
-pub last_unended : {A E : Type 0} (kind : Kind) (r : Result A E) (written now : List ℕ) (graph new : Graph ℤ ℤ) (kept answered : List ℕ) → 0 < length kept → answered ≡ kept
+pub last_unended : {A E : Type 0} (kind : Kind) (r : Result A E) (written now : List ℕ) (graph new : Graph ℤ ℤ)
+    (kept answered : List ℕ)
+    → 0 < length kept → answered ≡ kept
     → AnswersLine kind r answered graph new written now
-    → OnOk r ((given_old given written_old : List ℕ) → IsServed kind given_old given written_old written graph kept → IsDone kind given_old given written_old now new)
+    → OnOk r ((given_old given written_old : List ℕ) → IsServed kind given_old given written_old written graph kept
+    → IsDone kind given_old given written_old now new)
 last_unended kind (Err e) written now graph new kept answered some is answer = tt
 last_unended kind (Ok x) written now graph new kept answered some is answer = λ given_old given written_old so_far.
     ends_unended kind given_old given written_old written graph kept so_far new now some
     (subst (λ line. AnswersLine {A = Unit {0}} {E = Unit {0}} kind (Ok tt) line graph new written now) is answer)
 
 -- the end
-pub finished : {A E : Type 0} (kind : Kind) (plans : Bool) (r : Result A E) (written between taken output taken_new : List ℕ) (graph new : Graph ℤ ℤ) (kept : List ℕ)
-    → ((given_old given written_old : List ℕ) → IsServed kind given_old given written_old written graph kept → IsDone kind given_old given written_old between new)
-    → ((close : List ℕ) × IsClose plans new close × (taken ++ output ≡ between ++ close)) → Appends r taken taken_new output
-    → OnOk r ((given_old given written_old : List ℕ) → IsServed kind given_old given written_old written graph kept → Serves kind plans lines_of given_old given written_old taken_new)
+pub finished : {A E : Type 0} (kind : Kind) (plans : Bool) (r : Result A E)
+    (written between taken output taken_new : List ℕ) (graph new : Graph ℤ ℤ) (kept : List ℕ)
+    → ((given_old given written_old : List ℕ) → IsServed kind given_old given written_old written graph kept
+    → IsDone kind given_old given written_old between new)
+    → ((close : List ℕ) × IsClose plans new close × (taken ++ output ≡ between ++ close))
+    → Appends r taken taken_new output
+    → OnOk r ((given_old given written_old : List ℕ) → IsServed kind given_old given written_old written graph kept
+    → Serves kind plans lines_of given_old given written_old taken_new)
 finished kind plans (Err e) written between taken output taken_new graph new kept done close appended = tt
-finished kind plans (Ok x) written between taken output taken_new graph new kept done close appended = λ given_old given written_old so_far.
-    closed kind plans given_old given written_old between close.0 taken_new new (done given_old given written_old so_far) close.1 (appended ∙ close.2)
+finished kind plans (Ok x) written between taken output taken_new graph new kept done close appended =
+    λ given_old given written_old so_far.
+    closed kind plans given_old given written_old between close.0 taken_new new
+    (done given_old given written_old so_far) close.1 (appended ∙ close.2)

@@ -14,7 +14,8 @@ unit_value = vstruct vnil
 abbrev pub no_fields : RattleType
 no_fields = Struct (record { name = []; args = []; types = []; fields = [] })
 
-pub makes_unit : {M : Type 1} {𝓤 : Ura M} {𝓛 : Logic 𝓤} {K : Type 0} {Γ : List (Item 𝓤)} {G : Goal 𝓤 𝓛.H} → K → Step K 𝓛 (‵ (no_fields.own_val tt (unit_value ∷ [])) ∷ Γ) G Γ G
+pub makes_unit : {M : Type 1} {𝓤 : Ura M} {𝓛 : Logic 𝓤} {K : Type 0} {Γ : List (Item 𝓤)} {G : Goal 𝓤 𝓛.H}
+    → K → Step K 𝓛 (‵ (no_fields.own_val tt (unit_value ∷ [])) ∷ Γ) G Γ G
 makes_unit t = step (λ s.
     nothing t $ feq_i t (List Val) (unit_value ∷ []) (unit_value ∷ []) refl $ fjoin t $
     fpack t (Valss []) (within (record { name = []; args = []; types = []; fields = [] }) tt (unit_value ∷ [])) tt $ s)

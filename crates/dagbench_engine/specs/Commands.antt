@@ -2,7 +2,8 @@
 use Rattle.std.specs.Prelude.{ℕ, nat_lt, Option, Some, None, List, [], ◌∷◌, length, codes, ℤ, if◌then◌else◌}
 use Rattle.std.specs.Option.{option_map}
 use Rattle.std.specs.Str.{bytes_eq}
-use Rattle.daggy.specs.Requests.{Request, Node, Edge, Update, Child, Parent, Edges, Find, Ends, RemoveNode, RemoveEdge, Children, Parents, ClearEdges, Clear, Reduce}
+use Rattle.daggy.specs.Requests.{Request, Node, Edge, Update, Child, Parent, Edges, Find, Ends, RemoveNode, RemoveEdge}
+use Rattle.daggy.specs.Requests.{Children, Parents, ClearEdges, Clear, Reduce}
 use Rattle.dagbench_engine.specs.Cutting.{words_of}
 use Rattle.dagbench_engine.specs.Listing.{◌>>=◌, first_by, edges_by_words, indices_by_words}
 use Rattle.dagbench_engine.specs.Numbers.{index_of, weight_of}

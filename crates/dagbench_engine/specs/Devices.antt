@@ -1,5 +1,6 @@
 -- What a clause sees of the program's devices.
-use Rattle.std.specs.Prelude.{◌≡◌, ℕ, ◌+◌, ◌<◌, ◌≤◌, ◌^◌, ◌⊎◌, Bool, false, Option, List, [], length, take, Result, Ok, Err}
+use Rattle.std.specs.Prelude.{◌≡◌, ℕ, ◌+◌, ◌<◌, ◌≤◌, ◌^◌, ◌⊎◌, Bool, false, Option, List, [], length, take, Result, Ok}
+use Rattle.std.specs.Prelude.{Err}
 use Rattle.std.specs.Io.KnownBytes.{Appends, Consumes, IsAtEnd, Keeps}
 
 -- what went through a device: the bytes, whether its end was met, and how many calls failed
@@ -32,13 +33,16 @@ pub record DeviceState (D : Type 0) : Type 0 where
   pub given : Passed
   pub taken : Passed
 
--- What a call on a source took from the reader behind it. At an Ok of n the reader lost the first n bytes of the buffer, and
--- none only if it had none left or there was no room. At an Err it lost nothing, or more than a source may give.
-abbrev pub TakesFrom : {E : Type 0} → (left_old left_new : Option (List ℕ)) → (given : List ℕ) → Result ℕ E → (buffer : List ℕ) → Type 0
+-- What a call on a source took from the reader behind it. At an Ok of n the reader lost the first n bytes of the
+-- buffer, and none only if it had none left or there was no room. At an Err it lost nothing, or more than a source may
+-- give.
+abbrev pub TakesFrom : {E : Type 0}
+    → (left_old left_new : Option (List ℕ)) → (given : List ℕ) → Result ℕ E → (buffer : List ℕ) → Type 0
 TakesFrom left_old left_new given (Ok n) buffer =
     Consumes left_old left_new (take n buffer) × (n ≡ 0 → 0 < length buffer → IsAtEnd left_new)
 TakesFrom left_old left_new given (Err e) buffer =
-    Keeps left_old left_new ⊎ ((n : ℕ) × Consumes left_old left_new (take n buffer) × (2 ^ 64 ≤ length given + length (take n buffer)))
+    Keeps left_old left_new
+    ⊎ ((n : ℕ) × Consumes left_old left_new (take n buffer) × (2 ^ 64 ≤ length given + length (take n buffer)))
 
 -- What a call on a sink put into the writer behind it: at an Ok all the bytes, at an Err some front of them.
 abbrev pub PutsInto : {A E : Type 0} → (held_old held_new : Option (List ℕ)) → Result A E → (bytes : List ℕ) → Type 0

@@ -6,15 +6,16 @@ use Rattle.dagbench_engine.specs.declared.stop.Stop.TheVariants.{Read, Write, Me
 use Rattle.dagbench_engine.specs.Cutting.{lines_of, ended_lines_of}
 use Rattle.dagbench_engine.specs.Serving.{Serves}
 
--- What a run has exchanged with its devices: the bytes that the source gave and that the sink took, and how many calls of each failed.
+-- What a run has exchanged with its devices: the bytes that the source gave and that the sink took, and how many calls
+-- of each failed.
 pub record Exchange : Type 0 where
   pub given : List ℕ
   pub taken : List ℕ
   pub failed_reads : ℕ
   pub failed_writes : ℕ
 
--- The run of a new session: at most one call failed, the one that is told, and want of memory is not told. There is no plan
--- where the source failed.
+-- The run of a new session: at most one call failed, the one that is told, and want of memory is not told. There is no
+-- plan where the source failed.
 abbrev pub IsRun : Kind → (plans : Bool) → Result (Unit {0}) Stop → (old new : Exchange) → (is_ended : Bool) → Type 0
 IsRun kind plans (Ok done) old new is_ended =
     Serves kind plans lines_of old.given new.given old.taken new.taken × (is_ended ≡ true)

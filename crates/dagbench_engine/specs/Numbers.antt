@@ -1,5 +1,6 @@
 -- The numbers that words spell.
-use Rattle.std.specs.Prelude.{ℕ, ◌+◌, ◌-◌, ◌*◌, ◌==◌, ◌&&◌, nat_le, Bool, Option, Some, None, List, [], ◌∷◌, length, ℤ, pos, neg_ℤ, if◌then◌else◌}
+use Rattle.std.specs.Prelude.{ℕ, ◌+◌, ◌-◌, ◌*◌, ◌==◌, ◌&&◌, nat_le, Bool, Option, Some, None, List, [], ◌∷◌, length, ℤ}
+use Rattle.std.specs.Prelude.{pos, neg_ℤ, if◌then◌else◌}
 use Rattle.std.specs.Option.{option_map}
 
 abbrev pub is_digit : ℕ → Bool

@@ -7,7 +7,8 @@ use Rattle.dagbench_engine.specs.Cutting.{newline, Lacks, lines_of}
 use Rattle.dagbench_engine.specs.Transcripts.{IsAnswer, IsTranscript}
 
 -- after an Ok the line was answered behind what had been written
-abbrev pub AnswersLine : {A E : Type 0} → Kind → Result A E → (line : List ℕ) → (old new : Graph ℤ ℤ) → (written_old written_new : List ℕ) → Type 0
+abbrev pub AnswersLine : {A E : Type 0}
+    → Kind → Result A E → (line : List ℕ) → (old new : Graph ℤ ℤ) → (written_old written_new : List ℕ) → Type 0
 AnswersLine kind (Ok x) line old new written_old written_new =
     (text : List ℕ) × IsAnswer kind old line text new × (written_new ≡ written_old ++ (text ++ newline ∷ []))
 AnswersLine kind (Err e) line old new written_old written_new = Unit {0}
@@ -22,7 +23,8 @@ kept_count = 4097
 
 -- So far: what was given are whole lines and the front of one more. The whole ones are answered. Of the front, what
 -- tells what it says is kept.
-pub record IsServed (kind : Kind) (given_old given written_old written : List ℕ) (graph : Graph ℤ ℤ) (kept : List ℕ) : Type 0 where
+pub record IsServed (kind : Kind) (given_old given written_old written : List ℕ) (graph : Graph ℤ ℤ)
+    (kept : List ℕ) : Type 0 where
   pub lines : List (List ℕ)
   pub front : List ℕ
   pub text : List ℕ
@@ -34,9 +36,12 @@ pub record IsServed (kind : Kind) (given_old given written_old written : List �
   pub kept_is : kept ≡ take kept_count front
 
 -- whatever was served before, the rest of the input is served now
-abbrev pub GoesOn : Kind → (given_more written_old written_new : List ℕ) (graph_old graph_new : Graph ℤ ℤ) (kept_old kept_new : List ℕ) → Type 0
+abbrev pub GoesOn : Kind
+    → (given_more written_old written_new : List ℕ) (graph_old graph_new : Graph ℤ ℤ) (kept_old kept_new : List ℕ)
+    → Type 0
 GoesOn kind given_more written_old written_new graph_old graph_new kept_old kept_new =
-    (given_start given written_start : List ℕ) → IsServed kind given_start given written_start written_old graph_old kept_old
+    (given_start given written_start : List ℕ)
+    → IsServed kind given_start given written_start written_old graph_old kept_old
     → IsServed kind given_start (given ++ given_more) written_start written_new graph_new kept_new
 
 -- all lines of what was given are answered, also one whose newline did not come

@@ -1,5 +1,6 @@
 -- What calls on devices do to their counts of failures and to their bytes.
-use Rattle.std.specs.Prelude.{◌≡◌, ℕ, ◌+◌, ◌≤◌, ◌==◌, ◌||◌, ◌&&◌, nat_lt, Bool, List, ◌++◌, length, take, Result, Ok, Err}
+use Rattle.std.specs.Prelude.{◌≡◌, ℕ, ◌+◌, ◌≤◌, ◌==◌, ◌||◌, ◌&&◌, nat_lt, Bool, List, ◌++◌, length, take, Result, Ok}
+use Rattle.std.specs.Prelude.{Err}
 
 -- a call is an Err exactly if it failed, and each failure is counted
 abbrev pub CountsFaults : {A E : Type 0} → Result A E → (old new : ℕ) → Type 0

@@ -8,7 +8,8 @@ use crate::stream::{Fault, Sink, Source};
 use std::io::{Read, Write};
 use std::marker::Model;
 
-/// A reader or a writer. Each of its errors is a failure, and so is the byte behind the first 2^64 - 1 that are read.
+/// A reader or a writer. Each of its errors is a failure, and so is the byte behind the first 2^64
+/// - 1 that are read.
 #[derive(Drop)]
 pub struct Device<D> {
     device: D,
@@ -26,8 +27,16 @@ impl<D> Model for Device<D> {
     ghost view = { λ s. record {
       device = s.device;
       left = s.left;
-      given = record { bytes = s.given.bytes; is_ended = s.given.is_ended; failures = s.given.failures };
-      taken = record { bytes = s.taken.bytes; is_ended = s.taken.is_ended; failures = s.taken.failures };
+      given = record {
+        bytes = s.given.bytes;
+        is_ended = s.given.is_ended;
+        failures = s.given.failures;
+      };
+      taken = record {
+        bytes = s.taken.bytes;
+        is_ended = s.taken.is_ended;
+        failures = s.taken.failures;
+      };
     } };
 
     ghost invariant = { λ s. length s.given.bytes + s.left + 1 ≡ 2 ^ 64 };
@@ -85,7 +94,8 @@ impl<R: Read> Source for Device<R> {
         ensures counted { CountsFaults result self.old.given.failures self.new.given.failures }
 
         // Where the reader tells its bytes, they are what was given.
-        ensures reader { TakesFrom (R.remaining self.old.device) (R.remaining self.new.device) self.old.given.bytes result buffer.new }
+        ensures reader { TakesFrom (R.remaining self.old.device) (R.remaining self.new.device)
+            self.old.given.bytes result buffer.new }
     {
         let Ok(count) = self.device.read(buffer) else {
             self.given = self.given.and_failure();
@@ -129,7 +139,8 @@ impl<W: Write> Sink for Device<W> {
         ensures counted { CountsFaults result self.old.taken.failures self.new.taken.failures }
 
         // Where the writer tells its bytes, they are what was taken.
-        ensures writer { PutsInto (W.contents self.old.device) (W.contents self.new.device) result bytes.now }
+        ensures writer { PutsInto (W.contents self.old.device) (W.contents self.new.device)
+            result bytes.now }
     {
         let written = write_out(&mut self.device, bytes);
         self.taken = match written {

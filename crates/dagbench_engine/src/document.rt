@@ -17,7 +17,8 @@ use std::alloc::{AllocError, Global};
 pub trait Documented: GuardedDag<i64, i64, u32> + Drop {
     /// The document of the dag, with weights as numbers. `None` says that there was no memory.
     fn to_json(&self, alloc: Global) -> Option<Value>
-        ensures { IfSome result (λ v. IsDocumentOf StandsFor StandsFor (Self.graph self.now) (view v)) };
+        ensures { IfSome result (λ v.
+            IsDocumentOf StandsFor StandsFor (Self.graph self.now) (view v)) };
 }
 
 /// A weight as it stands in a document.
@@ -55,7 +56,8 @@ pub fn put_document<D: Documented, K: Sink>(
     sink: &mut K,
 ) -> Result<(), Fault>
     ensures text { OnOk result ((text : List ℕ) × TellsDocument (D.graph dag.now) text
-        × (K.taken sink.new ++ output.new ≡ (K.taken sink.old ++ output.old) ++ (text ++ 10 ∷ []))) }
+        × (K.taken sink.new ++ output.new
+        ≡ (K.taken sink.old ++ output.old) ++ (text ++ 10 ∷ []))) }
     ensures counted { CountsFaults result (K.failures sink.old) (K.failures sink.new) }
 {
     let Some(text) = document_text(alloc, dag) else {

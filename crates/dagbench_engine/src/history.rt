@@ -26,21 +26,30 @@ impl History {
 
     /// Then these bytes went through.
     pub fn and_bytes(&self, _bytes: &[u8]) -> History
-        ensures { result ≡ record { bytes = self.now.bytes ++ _bytes.now; is_ended = self.now.is_ended; failures = self.now.failures } }
+        ensures { result ≡ record {
+          bytes = self.now.bytes ++ _bytes.now;
+          is_ended = self.now.is_ended;
+          failures = self.now.failures;
+        } }
     {
         History {}
     }
 
     /// Then the end was met.
     pub fn and_end(&self) -> History
-        ensures { result ≡ record { bytes = self.now.bytes; is_ended = true; failures = self.now.failures } }
+        ensures { result
+            ≡ record { bytes = self.now.bytes; is_ended = true; failures = self.now.failures } }
     {
         History {}
     }
 
     /// Then a call failed.
     pub fn and_failure(&self) -> History
-        ensures { result ≡ record { bytes = self.now.bytes; is_ended = self.now.is_ended; failures = self.now.failures + 1 } }
+        ensures { result ≡ record {
+          bytes = self.now.bytes;
+          is_ended = self.now.is_ended;
+          failures = self.now.failures + 1;
+        } }
     {
         History {}
     }

@@ -30,7 +30,8 @@ impl<'a> Model for Items<'a> {
 /// The edge that the first three words say, and what stands behind them.
 #[tactic(auto, unfolding(crate::specs::Listing::first_edge_of))]
 fn first_edge(words: &[u8]) -> Option<((u32, u32, i64), &[u8])>
-    ensures { option_map (λ parts. (parts.0, words_of parts.1.now)) result ≡ first_edge_of (words_of words.now) }
+    ensures { option_map (λ parts. (parts.0, words_of parts.1.now)) result
+        ≡ first_edge_of (words_of words.now) }
 {
     let (parent, rest) = first_index(words)?;
     let (child, rest) = first_index(rest)?;

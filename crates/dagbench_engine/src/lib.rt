@@ -1,7 +1,7 @@
 //! A graph that is driven by lines of commands: what the line program does between its devices.
 //!
-//! [`serve`] reads lines from a [`Source`] and writes the answers to a [`Sink`]. A [`Device`] makes one of a reader or a
-//! writer, and [`MemorySource`] and [`MemorySink`] hold their bytes.
+//! [`serve`] reads lines from a [`Source`] and writes the answers to a [`Sink`]. A [`Device`] makes
+//! one of a reader or a writer, and [`MemorySource`] and [`MemorySink`] hold their bytes.
 #![tactic(auto)]
 
 mod device;

@@ -1,5 +1,6 @@
 //! A source and a sink that hold their bytes, and fail where they are told to.
-ghost use Rattle.std.specs.Prelude.{◌≡◌, ◌≢◌, ◌↔◌, ℕ, ◌≤◌, ◌<◌, ◌^◌, ◌++◌, ◌-◌, min, List, [], None, Some, false, take, length, IsOk, IsErr, IfOk, OnOk};
+ghost use Rattle.std.specs.Prelude.{◌≡◌, ◌≢◌, ◌↔◌, ℕ, ◌≤◌, ◌<◌, ◌^◌, ◌++◌, ◌-◌, min, List, []};
+ghost use Rattle.std.specs.Prelude.{None, Some, false, take, length, IsOk, IsErr, IfOk, OnOk};
 ghost use Rattle.dagbench_engine.specs.Streams.{CountsFaults, Appends, Gives, MeetsEnd};
 ghost use Rattle.dagbench_engine.specs.Failing.{passes_after};
 
@@ -51,15 +52,28 @@ impl Model for MemorySource {
 
     ghost Value = { SourceState };
 
-    ghost view = { λ s. record { bytes = s.bytes.items; at = s.at; passes = s.passes; is_ended = s.history.is_ended; failures = s.history.failures } };
+    ghost view = { λ s. record {
+      bytes = s.bytes.items;
+      at = s.at;
+      passes = s.passes;
+      is_ended = s.history.is_ended;
+      failures = s.history.failures;
+    } };
 
     ghost invariant = { λ s. s.at ≤ vec_len s.bytes };
 }
 
 impl MemorySource {
-    /// Gives these bytes, and then the end. If `passes` is some number, the call behind so many ones fails.
+    /// Gives these bytes, and then the end. If `passes` is some number, the call behind so many
+    /// ones fails.
     pub fn new(bytes: Vec<u8>, passes: Option<usize>) -> MemorySource
-        ensures { result ≡ record { bytes = bytes.items; at = 0; passes = passes; is_ended = false; failures = 0 } }
+        ensures { result ≡ record {
+          bytes = bytes.items;
+          at = 0;
+          passes = passes;
+          is_ended = false;
+          failures = 0;
+        } }
     {
         MemorySource {
             bytes,
@@ -72,8 +86,10 @@ impl MemorySource {
     /// Gives the bytes that come next, as many as the buffer has room for, and their number.
     fn give(&mut self, buffer: &mut [u8]) -> usize
         ensures count { result ≡ min (length self.old.bytes - self.old.at) (length buffer.new) }
-        ensures bytes { take self.new.at self.new.bytes ≡ take self.old.at self.old.bytes ++ take result buffer.new }
-        ensures others { (self.new.is_ended ≡ self.old.is_ended) × (self.new.failures ≡ self.old.failures) × (self.new.passes ≡ self.old.passes) }
+        ensures bytes { take self.new.at self.new.bytes
+            ≡ take self.old.at self.old.bytes ++ take result buffer.new }
+        ensures others { (self.new.is_ended ≡ self.old.is_ended)
+            × (self.new.failures ≡ self.old.failures) × (self.new.passes ≡ self.old.passes) }
     {
         let count = copy_front(&self.bytes[self.at..], buffer);
         self.at += count;
@@ -89,13 +105,15 @@ impl Source for MemorySource {
     ghost failures = { λ s. s.failures };
 
     fn read(&mut self, buffer: &mut [u8]) -> Result<usize, Fault>
-        ensures bytes { Gives result (take self.old.at self.old.bytes) (take self.new.at self.new.bytes) buffer.new }
+        ensures bytes { Gives result (take self.old.at self.old.bytes)
+            (take self.new.at self.new.bytes) buffer.new }
         ensures few { OnOk result (length (take self.new.at self.new.bytes) < 2 ^ 64) }
         ensures end { MeetsEnd result self.old.is_ended self.new.is_ended buffer.new }
         ensures counted { CountsFaults result self.old.failures self.new.failures }
 
         // It gives as much as there is and as there is room for.
-        ensures count { IfOk result (λ n. n ≡ min (length self.old.bytes - self.old.at) (length buffer.new)) }
+        ensures count { IfOk result (λ n.
+            n ≡ min (length self.old.bytes - self.old.at) (length buffer.new)) }
 
         // It fails where it was told to, and nowhere else.
         ensures fault { IsOk result ↔ (self.old.passes ≢ Some 0) }
@@ -126,7 +144,8 @@ impl Model for MemorySink {
 
     ghost Value = { SinkState };
 
-    ghost view = { λ s. record { taken = s.taken.items; passes = s.passes; failures = s.history.failures } };
+    ghost view = { λ s.
+        record { taken = s.taken.items; passes = s.passes; failures = s.history.failures } };
 }
 
 impl MemorySink {

@@ -46,7 +46,8 @@ impl Output {
 
     /// Writes text behind what is pending.
     pub fn put<K: Sink>(&mut self, sink: &mut K, text: &[u8]) -> Result<(), Fault>
-        ensures text { Appends result (K.taken sink.old ++ self.old) (K.taken sink.new ++ self.new) text.now }
+        ensures text { Appends result (K.taken sink.old ++ self.old)
+            (K.taken sink.new ++ self.new) text.now }
         ensures counted { CountsFaults result (K.failures sink.old) (K.failures sink.new) }
     {
         if BLOCK - self.pending.len().min(BLOCK) < text.len() {

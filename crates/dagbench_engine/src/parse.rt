@@ -4,7 +4,15 @@ ghost use Rattle.std.specs.Option.{option_map};
 ghost use Rattle.daggy.specs.Requests.{request_of};
 ghost use Rattle.dagbench_engine.specs.Cutting.{words_of};
 ghost use Rattle.dagbench_engine.specs.Saying.{asked_of};
-ghost use Rattle.dagbench_engine.specs.Commands.{asked_in, asked_by_words, document_by_name, Step, TakesRoom, listing_by_name, single_by_name, adding_by_name, removing_by_name, asking_by_name, if_done as if_done_of, weight_alone as weight_alone_of, index_alone as index_alone_of, two_indices as two_indices_of, ends_and_weight as ends_and_weight_of, index_and_weights as index_and_weights_of};
+ghost use Rattle.dagbench_engine.specs.Commands.{asked_in, asked_by_words, document_by_name, Step};
+ghost use Rattle.dagbench_engine.specs.Commands.{TakesRoom, listing_by_name, single_by_name};
+ghost use Rattle.dagbench_engine.specs.Commands.{adding_by_name, removing_by_name, asking_by_name};
+ghost use Rattle.dagbench_engine.specs.Commands.{if_done as if_done_of};
+ghost use Rattle.dagbench_engine.specs.Commands.{weight_alone as weight_alone_of};
+ghost use Rattle.dagbench_engine.specs.Commands.{index_alone as index_alone_of};
+ghost use Rattle.dagbench_engine.specs.Commands.{two_indices as two_indices_of};
+ghost use Rattle.dagbench_engine.specs.Commands.{ends_and_weight as ends_and_weight_of};
+ghost use Rattle.dagbench_engine.specs.Commands.{index_and_weights as index_and_weights_of};
 
 use crate::items::Items;
 use crate::roots::Roots;
@@ -39,7 +47,8 @@ pub fn parse(alloc: Global, line: &[u8]) -> Result<Option<Asked>, AllocError>
 }
 
 fn by_words(alloc: Global, line: &[u8]) -> Result<Option<Asked>, AllocError>
-    ensures asked { IfOk result (λ asked. option_map asked_of asked ≡ asked_by_words (words_of line.now)) }
+    ensures asked { IfOk result (λ asked.
+        option_map asked_of asked ≡ asked_by_words (words_of line.now)) }
     ensures no_room { OnErr result (IsSomeAnd (asked_by_words (words_of line.now)) TakesRoom) }
 {
     let Some((name, rest)) = first_word(line) else {
@@ -91,7 +100,8 @@ fn listing(
 }
 
 fn single(name: &[u8], rest: &[u8]) -> Option<Command<i64, i64, u32>>
-    ensures { option_map (request_of (λ i. i)) result ≡ single_by_name name.now (words_of rest.now) }
+    ensures { option_map (request_of (λ i. i)) result
+        ≡ single_by_name name.now (words_of rest.now) }
 {
     let adding = adding(name, rest);
     if adding.is_some() {
@@ -106,7 +116,8 @@ fn single(name: &[u8], rest: &[u8]) -> Option<Command<i64, i64, u32>>
 
 #[tactic(auto, unfolding(crate::specs::Commands::adding_by_name))]
 fn adding(name: &[u8], rest: &[u8]) -> Option<Command<i64, i64, u32>>
-    ensures { option_map (request_of (λ i. i)) result ≡ adding_by_name name.now (words_of rest.now) }
+    ensures { option_map (request_of (λ i. i)) result
+        ≡ adding_by_name name.now (words_of rest.now) }
 {
     if name == b"node".as_slice() {
         Some(Command::Node(weight_alone(rest)?))
@@ -129,7 +140,8 @@ fn adding(name: &[u8], rest: &[u8]) -> Option<Command<i64, i64, u32>>
 
 #[tactic(auto, unfolding(crate::specs::Commands::removing_by_name))]
 fn removing(name: &[u8], rest: &[u8]) -> Option<Command<i64, i64, u32>>
-    ensures { option_map (request_of (λ i. i)) result ≡ removing_by_name name.now (words_of rest.now) }
+    ensures { option_map (request_of (λ i. i)) result
+        ≡ removing_by_name name.now (words_of rest.now) }
 {
     if name == b"rmnode".as_slice() {
         Some(Command::RemoveNode(node(index_alone(rest)?)))
@@ -146,7 +158,8 @@ fn removing(name: &[u8], rest: &[u8]) -> Option<Command<i64, i64, u32>>
 
 #[tactic(auto, unfolding(crate::specs::Commands::asking_by_name))]
 fn asking(name: &[u8], rest: &[u8]) -> Option<Command<i64, i64, u32>>
-    ensures { option_map (request_of (λ i. i)) result ≡ asking_by_name name.now (words_of rest.now) }
+    ensures { option_map (request_of (λ i. i)) result
+        ≡ asking_by_name name.now (words_of rest.now) }
 {
     if name == b"find".as_slice() {
         let (parent, child) = two_indices(rest)?;

@@ -2,7 +2,8 @@
 ghost use Rattle.std.specs.Prelude.{◌≡◌, ℕ, List, ◌++◌, decimal, codes};
 ghost use Rattle.std.specs.Fmt.{signed_decimal};
 ghost use Rattle.dagbench_engine.specs.Streams.{CountsFaults, Appends};
-ghost use Rattle.dagbench_engine.specs.Replies.{node_text, edge_text, ends_text, item_text, if_any, spaced, parted};
+ghost use Rattle.dagbench_engine.specs.Replies.{node_text, edge_text, ends_text, item_text, if_any};
+ghost use Rattle.dagbench_engine.specs.Replies.{spaced, parted};
 
 use crate::output::Output;
 use crate::stream::{Fault, Sink};
@@ -17,13 +18,15 @@ pub trait Piece: Copy {
 
     /// Writes its text.
     fn put<K: Sink>(self, output: &mut Output, sink: &mut K) -> Result<(), Fault>
-        ensures text { Appends result (K.taken sink.old ++ output.old) (K.taken sink.new ++ output.new) (text self) }
+        ensures text { Appends result (K.taken sink.old ++ output.old)
+            (K.taken sink.new ++ output.new) (text self) }
         ensures counted { CountsFaults result (K.failures sink.old) (K.failures sink.new) };
 }
 
 /// An index in decimal.
 fn put_index<K: Sink>(index: usize, output: &mut Output, sink: &mut K) -> Result<(), Fault>
-    ensures text { Appends result (K.taken sink.old ++ output.old) (K.taken sink.new ++ output.new) (decimal index) }
+    ensures text { Appends result (K.taken sink.old ++ output.old) (K.taken sink.new ++ output.new)
+        (decimal index) }
     ensures counted { CountsFaults result (K.failures sink.old) (K.failures sink.new) }
 {
     let mut digits = Buffer::new();

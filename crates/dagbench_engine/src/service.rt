@@ -17,11 +17,11 @@ use std::alloc::Global;
 /// How many bytes are read at once.
 const BLOCK: usize = 0x1_0000;
 
-/// Reads lines until the end of the source, and writes the answer to each. What was answered is handed
-/// to the sink before more is read.
+/// Reads lines until the end of the source, and writes the answer to each. What was answered is
+/// handed to the sink before more is read.
 ///
-/// The mode says which kind of graph is served, and whether at the end of the source a plan of it is
-/// written: each stage as a line, and then the chain, or that there was no memory for one.
+/// The mode says which kind of graph is served, and whether at the end of the source a plan of it
+/// is written: each stage as a line, and then the chain, or that there was no memory for one.
 pub fn serve<S: Source, K: Sink>(
     alloc: Global,
     mode: Mode,
@@ -92,8 +92,18 @@ fn run<D: Documented, S: Source, K: Sink>(
     requires graph { D.graph session.dag ≡ empty }
     requires nothing { (session.line ≡ []) × (session.output ≡ []) }
     ensures { IsRun D.kind plans result
-        (record { given = S.given source.old; taken = K.taken sink.old; failed_reads = S.failures source.old; failed_writes = K.failures sink.old })
-        (record { given = S.given source.new; taken = K.taken sink.new; failed_reads = S.failures source.new; failed_writes = K.failures sink.new })
+        (record {
+          given = S.given source.old;
+          taken = K.taken sink.old;
+          failed_reads = S.failures source.old;
+          failed_writes = K.failures sink.old;
+        })
+        (record {
+          given = S.given source.new;
+          taken = K.taken sink.new;
+          failed_reads = S.failures source.new;
+          failed_writes = K.failures sink.new;
+        })
         (S.is_ended source.new) }
 {
     'reads: loop {

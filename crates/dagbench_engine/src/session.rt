@@ -44,7 +44,8 @@ impl<D: Documented> Session<D> {
 
     /// Answers the line that ends with this rest.
     fn end_line<K: Sink>(&mut self, rest: &[u8], sink: &mut K) -> Result<(), Fault>
-        ensures served { OnOk result (Lacks newline rest.now → GoesOn D.kind (rest.now ++ newline ∷ [])
+        ensures served { OnOk result
+            (Lacks newline rest.now → GoesOn D.kind (rest.now ++ newline ∷ [])
             (K.taken sink.old ++ self.old.output) (K.taken sink.new ++ self.new.output)
             (D.graph self.old.dag) (D.graph self.new.dag) self.old.line self.new.line) }
         ensures counted { CountsFaults result (K.failures sink.old) (K.failures sink.new) }

@@ -17,8 +17,8 @@ pub trait Source {
     /// How many calls failed so far.
     ghost failures: { Self → ℕ };
 
-    /// Reads bytes to the front of the buffer and gives their number, 0 only at the end or where there is no room.
-    /// A source has fewer than 2^64 bytes.
+    /// Reads bytes to the front of the buffer and gives their number, 0 only at the end or where
+    /// there is no room. A source has fewer than 2^64 bytes.
     fn read(&mut self, buffer: &mut [u8]) -> Result<usize, Fault>
         ensures bytes { Gives result (given self.old) (given self.new) buffer.new }
         ensures few { OnOk result (length (given self.new) < 2 ^ 64) }

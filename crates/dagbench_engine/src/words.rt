@@ -11,7 +11,8 @@ use memchr::memchr;
 /// What stands before the first separator, and what stands behind it.
 pub fn split_at_byte(separator: u8, bytes: &[u8]) -> Option<(&[u8], &[u8])>
     ensures { MatchOption result (Lacks separator bytes.now)
-        (λ parts. Lacks separator parts.0.now × (bytes.now ≡ parts.0.now ++ separator ∷ parts.1.now)) }
+        (λ parts.
+        Lacks separator parts.0.now × (bytes.now ≡ parts.0.now ++ separator ∷ parts.1.now)) }
 {
     match memchr(separator, bytes) {
         Some(at) => {
@@ -111,7 +112,8 @@ pub fn edge(index: u32) -> EdgeIndex<u32>
 
 /// The index at the front of a line's words, and the rest of the line.
 pub fn first_index(line: &[u8]) -> Option<(u32, &[u8])>
-    ensures { option_map (λ parts. (parts.0, words_of parts.1.now)) result ≡ first_by index_of (words_of line.now) }
+    ensures { option_map (λ parts. (parts.0, words_of parts.1.now)) result
+        ≡ first_by index_of (words_of line.now) }
 {
     let (word, rest) = first_word(line)?;
     Some((index(word)?, rest))
@@ -119,7 +121,8 @@ pub fn first_index(line: &[u8]) -> Option<(u32, &[u8])>
 
 /// The weight at the front of a line's words, and the rest of the line.
 pub fn first_weight(line: &[u8]) -> Option<(i64, &[u8])>
-    ensures { option_map (λ parts. (parts.0, words_of parts.1.now)) result ≡ first_by weight_of (words_of line.now) }
+    ensures { option_map (λ parts. (parts.0, words_of parts.1.now)) result
+        ≡ first_by weight_of (words_of line.now) }
 {
     let (word, rest) = first_word(line)?;
     Some((weight(word)?, rest))

@@ -1,8 +1,9 @@
 //! Directed acyclic graphs with weights at nodes and edges.
 //!
-//! A [`Dag`] stays acyclic: an edge is refused exactly if a path leads from its child to its parent, and its weight comes
-//! back in the error. [`NodeIndex`] and [`EdgeIndex`] name nodes and edges. A [`Walker`], such as [`Children`], goes along a
-//! node's edges and borrows the dag only while it takes a step.
+//! A [`Dag`] stays acyclic: an edge is refused exactly if a path leads from its child to its
+//! parent, and its weight comes back in the error. [`NodeIndex`] and [`EdgeIndex`] name nodes and
+//! edges. A [`Walker`], such as [`Children`], goes along a node's edges and borrows the dag only
+//! while it takes a step.
 //!
 //! ```
 //! let mut dag: Dag<&'static str, u32> = Dag::new(rt.alloc());
@@ -12,11 +13,12 @@
 //! assert!(rt; dag.children(sow).walk_next(&dag) == Some((days, reap)));
 //! ```
 //!
-//! In a `Dag` a removal moves the last index to the gap. The dag of [`stable_dag`] keeps what stays under its index.
+//! In a `Dag` a removal moves the last index to the gap. The dag of [`stable_dag`] keeps what stays
+//! under its index.
 //!
-//! [`graph`] and [`stable_graph`] are the stores below, which may hold cycles, [`search`] finds paths in any graph that can be
-//! looked at, and [`visit`] is what generic code may ask of a graph. [`run`] carries out lists of commands over a dag of
-//! either kind.
+//! [`graph`] and [`stable_graph`] are the stores below, which may hold cycles, [`search`] finds
+//! paths in any graph that can be looked at, and [`visit`] is what generic code may ask of a graph.
+//! [`run`] carries out lists of commands over a dag of either kind.
 #![tactic(auto)]
 
 pub mod graph;

@@ -1,4 +1,5 @@
-//! Lists of commands over a dag of either kind, each with its reply, and plans of its nodes in stages.
+//! Lists of commands over a dag of either kind, each with its reply, and plans of its nodes in
+//! stages.
 pub use daggy_run::command::{Back, Command, Reply};
 pub use daggy_run::guarded::{GuardedDag, Kind, Neighbor, NewEdge, TellsKind};
 pub use daggy_run::plan::plan;

@@ -3,7 +3,8 @@ use std::io;
 use std::rt::CpuClock;
 use std::time::Duration;
 
-/// How many seconds of a processor it took, and a number that another program which did the same has too.
+/// How many seconds of a processor it took, and a number that another program which did the same
+/// has too.
 #[derive(Clone, Copy)]
 pub struct Figures {
     pub seconds: f64,

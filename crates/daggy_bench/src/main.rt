@@ -1,5 +1,6 @@
-//! Times one workload: `daggy_bench NAME NODES EDGES` prints `NAME NODES SECONDS`, and a check value on standard
-//! error. With `--kind stable` behind these the workload is one of the stable dag.
+//! Times one workload: `daggy_bench NAME NODES EDGES` prints `NAME NODES SECONDS`, and a check
+//! value on standard error. With `--kind stable` behind these the workload is one of the stable
+//! dag.
 #![tactic(auto)]
 
 mod builds;

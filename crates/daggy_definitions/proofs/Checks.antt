@@ -1,5 +1,6 @@
 -- Facts about all edges of a small graph, from tests that compute.
-use Rattle.std.proofs.Common.{◌≡◌, ℕ, zero, suc, Bool, true, false, List, [], ◌∷◌, Option, Some, None, refl, sym, ap, subst, ◌∙◌}
+use Rattle.std.proofs.Common.{◌≡◌, ℕ, zero, suc, Bool, true, false, List, [], ◌∷◌, Option, Some, None, refl, sym, ap}
+use Rattle.std.proofs.Common.{subst, ◌∙◌}
 use Rattle.std.proofs.lemmas.Bool.{false≢true}
 use Rattle.daggy_base.specs.Graph.{Graph, Edge, slot, edge_at}
 use Rattle.daggy_base.specs.Path.{AreJoined, Reaches, IsAcyclic, end_of}
@@ -62,7 +63,8 @@ so : (a b : Bool) → if_so a b ≡ true → a ≡ true → b ≡ true
 so true b h e = h
 so false b h e = absurd (false≢true e)
 
-pub each_at : (t : Edge ℕ → Bool) (xs : List (Option (Edge ℕ))) → each t xs ≡ true → (e : ℕ) (x : Edge ℕ) → slot xs e ≡ Some x → t x ≡ true
+pub each_at : (t : Edge ℕ → Bool) (xs : List (Option (Edge ℕ)))
+    → each t xs ≡ true → (e : ℕ) (x : Edge ℕ) → slot xs e ≡ Some x → t x ≡ true
 each_at t [] h e x at = cc
 each_at t (None ∷ xs) h zero x at = cc
 each_at t (None ∷ xs) h (suc e) x at = each_at t xs h e x at
@@ -79,7 +81,8 @@ ascends g = each (λ x. before x.parent x.child) g.edges
 
 -- whether each second step from u leads beyond c
 abbrev pub passes : ℕ → ℕ → Graph ℕ ℕ → Bool
-passes u c g = each (λ a. if_so (same a.parent u) (each (λ b. if_so (same b.parent a.child) (before c b.child)) g.edges)) g.edges
+passes u c g =
+    each (λ a. if_so (same a.parent u) (each (λ b. if_so (same b.parent a.child) (before c b.child)) g.edges)) g.edges
 
 module _ (g : Graph ℕ ℕ) where
   abbrev Beyond : ℕ → ℕ → Type 0
@@ -87,7 +90,8 @@ module _ (g : Graph ℕ ℕ) where
 
   beyond_on : (c : ℕ) → keeps_beyond c g ≡ true → (u v : ℕ) → Beyond c u → AreJoined g u v → Beyond c v
   beyond_on c h u v here j =
-      so (before c u) (before c v) (each_at (λ x. if_so (before c x.parent) (before c x.child)) g.edges h j.0 (line u v j.1) j.2) here
+      so (before c u) (before c v)
+      (each_at (λ x. if_so (before c x.parent) (before c x.child)) g.edges h j.0 (line u v j.1) j.2) here
 
   pub not_reached : (c u v : ℕ) → keeps_beyond c g ≡ true → before c u ≡ true → before c v ≡ false → Reaches g u v → ⊥
   not_reached c u v h here there r = false≢true (sym there ∙ reaches_stays g (Beyond c) (beyond_on c h) u v r here)
@@ -97,7 +101,8 @@ module _ (g : Graph ℕ ℕ) where
 
   pub acyclic_if_ascending : ascends g ≡ true → IsAcyclic g
   acyclic_if_ascending h u v rest p e =
-      let on : (a b : ℕ) → Beyond u a → AreJoined g a b → Beyond u b = λ a b here j. before_trans u a b here (climbs h a b j) in
+      let on : (a b : ℕ) → Beyond u a → AreJoined g a b → Beyond u b = λ a b here j.
+      before_trans u a b here (climbs h a b j) in
       let there : Beyond u (end_of v rest) = path_stays g (Beyond u) on v rest p.2 (climbs h u v p.1) in
       false≢true (sym (before_itself u) ∙ subst (Beyond u) e there)
 
@@ -105,9 +110,11 @@ module _ (g : Graph ℕ ℕ) where
   second u c h w x j k =
       let first : each (λ b. if_so (same b.parent w) (before c b.child)) g.edges ≡ true =
       so (same u u) (each (λ b. if_so (same b.parent w) (before c b.child)) g.edges)
-      (each_at (λ a. if_so (same a.parent u) (each (λ b. if_so (same b.parent a.child) (before c b.child)) g.edges)) g.edges h j.0 (line u w j.1) j.2)
+      (each_at (λ a. if_so (same a.parent u) (each (λ b. if_so (same b.parent a.child) (before c b.child)) g.edges))
+      g.edges h j.0 (line u w j.1) j.2)
       (same_itself u) in
-      so (same w w) (before c x) (each_at (λ b. if_so (same b.parent w) (before c b.child)) g.edges first k.0 (line w x k.1) k.2) (same_itself w)
+      so (same w w) (before c x)
+      (each_at (λ b. if_so (same b.parent w) (before c b.child)) g.edges first k.0 (line w x k.1) k.2) (same_itself w)
 
   no_round : (u c : ℕ) → keeps_beyond c g ≡ true → passes u c g ≡ true → ReachesIndirectly g u c → ⊥
   no_round u c h s r =
@@ -115,7 +122,8 @@ module _ (g : Graph ℕ ℕ) where
       path_stays g (Beyond c) (beyond_on c h) r.1 r.2 r.3.2.2 (second u c s r.0 r.1 r.3.1 r.3.2.1) in
       false≢true (sym (before_itself c) ∙ subst (Beyond c) r.4 there)
 
-  pub not_redundant : (roots : List ℕ) (e u c w : ℕ) → edge_at g e ≡ Some (line u c w) → keeps_beyond c g ≡ true → passes u c g ≡ true → IsRedundant g roots e → ⊥
+  pub not_redundant : (roots : List ℕ) (e u c w : ℕ)
+      → edge_at g e ≡ Some (line u c w) → keeps_beyond c g ≡ true → passes u c g ≡ true → IsRedundant g roots e → ⊥
   not_redundant roots e u c w at h s r =
       let there : Some (line u c w) ≡ Some r.edge = sym at ∙ r.at in
       let it : line u c w ≡ r.edge = cc in

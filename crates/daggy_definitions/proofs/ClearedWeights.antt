@@ -1,5 +1,6 @@
 -- A dag whose first nodes have the weight 0.
-use Rattle.std.proofs.Common.{◌≡◌, ℕ, zero, suc, ◌+◌, ◌<◌, ◌≤◌, Option, Some, None, is_some, List, [], ◌∷◌, length, map, set, refl, sym, ap, ◌∙◌, add-one, arith}
+use Rattle.std.proofs.Common.{◌≡◌, ℕ, zero, suc, ◌+◌, ◌<◌, ◌≤◌, Option, Some, None, is_some, List, [], ◌∷◌, length, map}
+use Rattle.std.proofs.Common.{set, refl, sym, ap, ◌∙◌, add-one, arith}
 use Rattle.std.proofs.lemmas.Bool.{false≢true}
 use Rattle.daggy_base.specs.Graph.{slot, node_weight, IsCompact}
 use Rattle.daggy_base.specs.State.{State, with_graph}
@@ -52,19 +53,24 @@ pub record IsClearedBelow {E : Type 0} (old now : State ℕ E) (i : ℕ) : Type 
   pub now_is : now ≡ with_zeros old i
   pub full : IsFull old.graph.nodes
 
-pub cleared_starts : {E : Type 0} (end : ℕ) (old now : State ℕ E) (i : ℕ) → now ≡ old → i ≡ 0 → IsWellFormed end old.graph → IsCompact old.graph
+pub cleared_starts : {E : Type 0} (end : ℕ) (old now : State ℕ E) (i : ℕ)
+    → now ≡ old → i ≡ 0 → IsWellFormed end old.graph → IsCompact old.graph
     → IsClearedBelow old now i
 cleared_starts end old now i now_is start w compact =
     record {
-      now_is = now_is ∙ ap (λ l. with_graph old (record old.graph { nodes = l })) (sym (zeros_none old.graph.nodes)) ∙ ap (λ k. with_zeros old k) (sym start);
+      now_is =
+          now_is ∙ ap (λ l. with_graph old (record old.graph { nodes = l })) (sym (zeros_none old.graph.nodes))
+          ∙ ap (λ k. with_zeros old k) (sym start);
       full = full_from _ _ w.node_slots compact.nodes;
     }
 
 module _ {E : Type 0} (old now : State ℕ E) (i : ℕ) (c : IsClearedBelow old now i) where
   pub cleared_within : (v : ℕ) → Some v ≡ node_weight now.graph i → i < length old.graph.nodes
-  cleared_within v is = there old.graph.nodes i v (is ∙ ap (λ s. node_weight s.graph i) c.now_is ∙ next_slot old.graph.nodes i)
+  cleared_within v is =
+      there old.graph.nodes i v (is ∙ ap (λ s. node_weight s.graph i) c.now_is ∙ next_slot old.graph.nodes i)
 
-  pub cleared_more : (v : ℕ) → Some v ≡ node_weight now.graph i → IsClearedBelow old (with_graph now (with_node_weight now.graph i 0)) (i + 1)
+  pub cleared_more : (v : ℕ)
+      → Some v ≡ node_weight now.graph i → IsClearedBelow old (with_graph now (with_node_weight now.graph i 0)) (i + 1)
   cleared_more v is = record {
     now_is =
         ap (λ s. with_graph s (with_node_weight s.graph i 0)) c.now_is
@@ -75,5 +81,6 @@ module _ {E : Type 0} (old now : State ℕ E) (i : ℕ) (c : IsClearedBelow old 
 
   pub cleared_ends : None ≡ node_weight now.graph i → now ≡ with_graph old (with_all_nodes 0 old.graph)
   cleared_ends is =
-      let none_left = past old.graph.nodes i c.full (is ∙ ap (λ s. node_weight s.graph i) c.now_is ∙ next_slot old.graph.nodes i) in
+      let none_left =
+      past old.graph.nodes i c.full (is ∙ ap (λ s. node_weight s.graph i) c.now_is ∙ next_slot old.graph.nodes i) in
       c.now_is ∙ ap (λ l. with_graph old (record old.graph { nodes = l })) (zeros_all old.graph.nodes i none_left)

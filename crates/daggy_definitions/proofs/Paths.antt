@@ -3,7 +3,8 @@ use Rattle.std.proofs.Common.{ℕ, List, [], ◌∷◌, refl}
 use Rattle.std.proofs.lemmas.Bool.{false≢true}
 use Rattle.daggy_base.specs.Graph.{Graph, HasNode}
 use Rattle.daggy_base.specs.Path.{IsPath, Reaches, IsAcyclic}
-use Rattle.daggy_definitions.specs.Examples.{line, nothing, one_node, self_loop, with_lines, fan, chain, ring, shortcuts, diamond}
+use Rattle.daggy_definitions.specs.Examples.{line, nothing, one_node, self_loop, with_lines, fan, chain, ring}
+use Rattle.daggy_definitions.specs.Examples.{shortcuts, diamond}
 use Rattle.daggy_definitions.proofs.Checks.{not_reached, acyclic_if_ascending}
 
 first_exists : (g : Graph ℕ ℕ) (u : ℕ) (rest : List ℕ) → IsPath g (u ∷ rest) → HasNode g u

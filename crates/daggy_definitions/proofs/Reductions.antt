@@ -1,5 +1,6 @@
 -- The reductions of small graphs.
-use Rattle.std.proofs.Common.{◌≡◌, ◌≢◌, ℕ, zero, suc, ◌↔◌, inl, inr, List, [], ◌∷◌, Some, None, refl, sym, subst, lit<, arith}
+use Rattle.std.proofs.Common.{◌≡◌, ◌≢◌, ℕ, zero, suc, ◌↔◌, inl, inr, List, [], ◌∷◌, Some, None, refl, sym, subst, lit<}
+use Rattle.std.proofs.Common.{arith}
 use Rattle.std.specs.List.{Contains}
 use Rattle.std.proofs.lemmas.Bool.{false≢true}
 use Rattle.daggy_base.specs.Graph.{Graph, Edge, HasNode, edge_at}
@@ -12,10 +13,12 @@ use Rattle.daggy_definitions.proofs.Checks.{not_redundant, not_reached}
 
 module _ (g : Graph ℕ ℕ) (roots : List ℕ) where
   -- by members in place of places
-  exactly : (es : List ℕ) → ((e : ℕ) → Mem e es → IsRedundant g roots e) → ((e : ℕ) → IsRedundant g roots e → Mem e es) → (e : ℕ) → Contains es e ↔ IsRedundant g roots e
+  exactly : (es : List ℕ) → ((e : ℕ) → Mem e es → IsRedundant g roots e) → ((e : ℕ) → IsRedundant g roots e → Mem e es)
+      → (e : ℕ) → Contains es e ↔ IsRedundant g roots e
   exactly es f h e = (λ c. f e (contains_mem _ _ c), λ r. mem_contains _ _ (h e r))
 
-  redundant_at : (e u v w : ℕ) → edge_at g e ≡ Some (line u v w) → IsBelow g roots u → ReachesIndirectly g u v → IsRedundant g roots e
+  redundant_at : (e u v w : ℕ)
+      → edge_at g e ≡ Some (line u v w) → IsBelow g roots u → ReachesIndirectly g u v → IsRedundant g roots e
   redundant_at e u v w at below round = record { edge = line u v w; at = at; below = below; round = round }
 
   here : (e k : ℕ) → e ≡ k → IsRedundant g roots k → IsRedundant g roots e
@@ -36,13 +39,19 @@ module _ where
   below_two = (0, root_only, refl, (2 ∷ [], (refl, (1, 2, refl), refl), refl))
 
   second_redundant : IsRedundant shortcuts (0 ∷ []) 2
-  second_redundant = redundant_at shortcuts (0 ∷ []) 2 0 3 3 refl below_root (1, 3, [], (refl, (0, 1, refl), (refl, (4, 5, refl), refl)), refl)
+  second_redundant =
+      redundant_at shortcuts (0 ∷ []) 2 0 3 3 refl below_root
+      (1, 3, [], (refl, (0, 1, refl), (refl, (4, 5, refl), refl)), refl)
 
   third_redundant : IsRedundant shortcuts (0 ∷ []) 3
-  third_redundant = redundant_at shortcuts (0 ∷ []) 3 0 4 4 refl below_root (3, 4, [], (refl, (2, 3, refl), (refl, (7, 8, refl), refl)), refl)
+  third_redundant =
+      redundant_at shortcuts (0 ∷ []) 3 0 4 4 refl below_root
+      (3, 4, [], (refl, (2, 3, refl), (refl, (7, 8, refl), refl)), refl)
 
   sixth_redundant : IsRedundant shortcuts (0 ∷ []) 6
-  sixth_redundant = redundant_at shortcuts (0 ∷ []) 6 2 4 7 refl below_two (3, 4, [], (refl, (5, 6, refl), (refl, (7, 8, refl), refl)), refl)
+  sixth_redundant =
+      redundant_at shortcuts (0 ∷ []) 6 2 4 7 refl below_two
+      (3, 4, [], (refl, (5, 6, refl), (refl, (7, 8, refl), refl)), refl)
 
   those : (e : ℕ) → Mem e (6 ∷ 3 ∷ 2 ∷ []) → IsRedundant shortcuts (0 ∷ []) e
   those e m =
@@ -65,7 +74,8 @@ module _ where
   no_others (suc (suc (suc (suc zero)))) r = absurd (not_redundant shortcuts (0 ∷ []) 4 1 3 5 refl refl refl r)
   no_others (suc (suc (suc (suc (suc zero))))) r = absurd (not_redundant shortcuts (0 ∷ []) 5 2 3 6 refl refl refl r)
   no_others (suc (suc (suc (suc (suc (suc zero)))))) r = inl refl
-  no_others (suc (suc (suc (suc (suc (suc (suc zero))))))) r = absurd (not_redundant shortcuts (0 ∷ []) 7 3 4 8 refl refl refl r)
+  no_others (suc (suc (suc (suc (suc (suc (suc zero))))))) r =
+      absurd (not_redundant shortcuts (0 ∷ []) 7 3 4 8 refl refl refl r)
   no_others (suc (suc (suc (suc (suc (suc (suc (suc e)))))))) r = absurd (no_edge r.edge r.at)
 
 pub shortcuts_reduced : IsReduction Compact (0 ∷ []) shortcuts (without_edges Compact shortcuts (6 ∷ 3 ∷ 2 ∷ []))
@@ -150,11 +160,14 @@ module _ where
       let P : Edge ℕ → Type 0 = λ x. IsBelow turned_triangle roots x.parent in
       subst P (sym it) r.below
 
-  none_left : (roots : List ℕ) → (IsBelow turned_triangle roots 0 → ⊥) → IsReduction Compact roots turned_triangle turned_triangle
+  none_left : (roots : List ℕ)
+      → (IsBelow turned_triangle roots 0 → ⊥) → IsReduction Compact roots turned_triangle turned_triangle
   none_left roots above = record {
     redundant = [];
     descending = tt;
-    exact = exactly turned_triangle roots [] (λ e m. absurd m) (λ e r. absurd (above (top_below roots (here turned_triangle roots 2 e (sym (steps_stay roots e r)) r))));
+    exact =
+        exactly turned_triangle roots [] (λ e m. absurd m)
+        (λ e r. absurd (above (top_below roots (here turned_triangle roots 2 e (sym (steps_stay roots e r)) r))));
     removed = refl;
   }
 

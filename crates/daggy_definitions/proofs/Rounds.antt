@@ -12,8 +12,10 @@ no_edge : (x : Edge ℕ) → None ≡ Some x → ⊥
 no_edge x h = cc
 
 parts : (e : ℕ) (x : Edge ℕ) → edge_at round e ≡ Some x → (HasNode round x.parent) × (HasNode round x.child)
-parts zero x h = let is : line 0 1 0 ≡ x = cc in let P : Edge ℕ → Type 0 = λ z. (HasNode round z.parent) × (HasNode round z.child) in subst P is (refl, refl)
-parts (suc zero) x h = let is : line 1 0 0 ≡ x = cc in let P : Edge ℕ → Type 0 = λ z. (HasNode round z.parent) × (HasNode round z.child) in subst P is (refl, refl)
+parts zero x h = let is : line 0 1 0 ≡ x = cc in
+    let P : Edge ℕ → Type 0 = λ z. (HasNode round z.parent) × (HasNode round z.child) in subst P is (refl, refl)
+parts (suc zero) x h = let is : line 1 0 0 ≡ x = cc in
+    let P : Edge ℕ → Type 0 = λ z. (HasNode round z.parent) × (HasNode round z.child) in subst P is (refl, refl)
 parts (suc (suc e)) x h = cc
 
 -- the list of one edge has what its row names
@@ -37,13 +39,25 @@ abbrev Enters : ℕ → ℕ → Type 0
 Enters n e = (x : Edge ℕ) × (edge_at round e ≡ Some x) × (x.child ≡ n)
 
 outs : (n e : ℕ) → Mem e (out_list round n) → Leaves n e
-outs zero e m = elim m [ inl h ↦ (let P : ℕ → Type 0 = Leaves 0 in subst P (sym h) (line 0 1 0, refl, refl)) | inr a ↦ absurd a ]
-outs (suc zero) e m = elim m [ inl h ↦ (let P : ℕ → Type 0 = Leaves 1 in subst P (sym h) (line 1 0 0, refl, refl)) | inr a ↦ absurd a ]
+outs zero e m = elim m [
+  | inl h ↦ (let P : ℕ → Type 0 = Leaves 0 in subst P (sym h) (line 0 1 0, refl, refl))
+  | inr a ↦ absurd a
+]
+outs (suc zero) e m = elim m [
+  | inl h ↦ (let P : ℕ → Type 0 = Leaves 1 in subst P (sym h) (line 1 0 0, refl, refl))
+  | inr a ↦ absurd a
+]
 outs (suc (suc n)) e m = absurd m
 
 ins : (n e : ℕ) → Mem e (in_list round n) → Enters n e
-ins zero e m = elim m [ inl h ↦ (let P : ℕ → Type 0 = Enters 0 in subst P (sym h) (line 1 0 0, refl, refl)) | inr a ↦ absurd a ]
-ins (suc zero) e m = elim m [ inl h ↦ (let P : ℕ → Type 0 = Enters 1 in subst P (sym h) (line 0 1 0, refl, refl)) | inr a ↦ absurd a ]
+ins zero e m = elim m [
+  | inl h ↦ (let P : ℕ → Type 0 = Enters 0 in subst P (sym h) (line 1 0 0, refl, refl))
+  | inr a ↦ absurd a
+]
+ins (suc zero) e m = elim m [
+  | inl h ↦ (let P : ℕ → Type 0 = Enters 1 in subst P (sym h) (line 0 1 0, refl, refl))
+  | inr a ↦ absurd a
+]
 ins (suc (suc n)) e m = absurd m
 
 outs_back : (n e : ℕ) → Leaves n e → Mem e (out_list round n)
@@ -92,8 +106,20 @@ round_is_well_formed = record {
   in_list_count = refl;
   parents = λ e x h. (parts e x h).0;
   children = λ e x h. (parts e x h).1;
-  out_of = record { exact = λ n e. (λ k. outs n e (contains_mem (out_list round n) e k), λ l. mem_contains (out_list round n) e (outs_back n e l)); once = outs_once };
-  in_of = record { exact = λ n e. (λ k. ins n e (contains_mem (in_list round n) e k), λ l. mem_contains (in_list round n) e (ins_back n e l)); once = ins_once };
+  out_of = record {
+    exact = λ n e. (
+      λ k. outs n e (contains_mem (out_list round n) e k),
+      λ l. mem_contains (out_list round n) e (outs_back n e l),
+    );
+    once = outs_once;
+  };
+  in_of = record {
+    exact = λ n e. (
+      λ k. ins n e (contains_mem (in_list round n) e k),
+      λ l. mem_contains (in_list round n) e (ins_back n e l),
+    );
+    once = ins_once;
+  };
   node_slots = record { exact = λ i. (λ k. absurd (contains_mem [] i k), λ k. absurd (full_nodes i k)); once = tt };
   edge_slots = record { exact = λ i. (λ k. absurd (contains_mem [] i k), λ k. absurd (full_edges i k)); once = tt };
   few_nodes = omega arith;

@@ -74,7 +74,9 @@ two_children = with_lines (line 0 1 4 ∷ line 0 2 5 ∷ []) three_nodes
 -- five nodes, three of whose edges go where longer paths lead
 abbrev pub shortcuts : Graph ℕ ℕ
 shortcuts =
-    with_lines (line 0 1 1 ∷ line 0 2 2 ∷ line 0 3 3 ∷ line 0 4 4 ∷ line 1 3 5 ∷ line 2 3 6 ∷ line 2 4 7 ∷ line 3 4 8 ∷ []) five_nodes
+    with_lines
+    (line 0 1 1 ∷ line 0 2 2 ∷ line 0 3 3 ∷ line 0 4 4 ∷ line 1 3 5 ∷ line 2 3 6 ∷ line 2 4 7 ∷ line 3 4 8 ∷ [])
+    five_nodes
 
 -- a shortcut beside two edges of one pair, which is no shortcut
 abbrev pub doubled_step : Graph ℕ ℕ

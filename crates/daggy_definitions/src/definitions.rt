@@ -1,4 +1,5 @@
-//! Functions without code, each of whose contracts says what the definitions give on one small graph.
+//! Functions without code, each of whose contracts says what the definitions give on one small
+//! graph.
 
 pub mod adding;
 pub mod changing;

@@ -1,6 +1,7 @@
 //! A graph of its own that searches read.
 ghost use Rattle.std.specs.Prelude.{◌≡◌, ℕ, ◌+◌, ◌↔◌, IsTrue};
-ghost use Rattle.daggy_base.specs.Graph.{HasNode, HasEdge, out_list, node_bound as node_bound_of, edge_bound as edge_bound_of};
+ghost use Rattle.daggy_base.specs.Graph.{HasNode, HasEdge, out_list, node_bound as node_bound_of};
+ghost use Rattle.daggy_base.specs.Graph.{edge_bound as edge_bound_of};
 ghost use Rattle.daggy_base.specs.WellFormed.{IsWellFormed};
 ghost use Rattle.daggy_base.specs.Cursor.{first_of};
 ghost use Rattle.daggy_base.specs.Look.{IsLook};
@@ -10,7 +11,8 @@ use daggy::search::{EdgeSource, Looks};
 use daggy::{EdgeIndex, NodeIndex};
 use std::marker::Model;
 
-/// Two nodes, each with an edge to the other, in two arrays: the edge that leaves each node, and the child of each edge.
+/// Two nodes, each with an edge to the other, in two arrays: the edge that leaves each node, and
+/// the child of each edge.
 #[derive(Drop)]
 pub struct Round {
     firsts: [u8; 2],

@@ -6,6 +6,7 @@ use Rattle.serde_json.specs.declared.value.Value.{Value}
 use Rattle.daggy_json.specs.Document.{whole}
 use Rattle.daggy_json.specs.Reading.{whole_in}
 
-pub read_again : (w n : ℕ) (d : Data) (v u p : Value) (o : Option ℕ) → view v ≡ whole n → n ≡ w → view v ≡ d → o ≡ whole_in (view p) → p ≡ u → view u ≡ d → o ≡ Some w
+pub read_again : (w n : ℕ) (d : Data) (v u p : Value) (o : Option ℕ)
+    → view v ≡ whole n → n ≡ w → view v ≡ d → o ≡ whole_in (view p) → p ≡ u → view u ≡ d → o ≡ Some w
 read_again w n d v u p o written shown is read seen same =
     read ∙ ap (λ k. whole_in (view k)) seen ∙ ap whole_in (same ∙ sym is ∙ written) ∙ ap Some shown

@@ -36,7 +36,8 @@ pub fn edge(rt: &impl Abort, e: usize) -> EdgeIndex<u8> {
     EdgeIndex::new(e)
 }
 
-// A dag with nodes of these weights and these edges, each with its parent, its child and its weight.
+// A dag with nodes of these weights and these edges, each with its parent, its child and its
+// weight.
 pub fn dag_of<S: Store<u8, NodeWeight = u64, EdgeWeight = u64>>(
     rt: &impl Abort,
     alloc: Global,

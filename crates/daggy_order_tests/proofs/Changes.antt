@@ -14,15 +14,22 @@ on_ok {A} {E} {X} r x is said = let P : Result A E → Type 0 = λ z. OnOk z X i
 pub if_ok : {A E : Type 0} (P : A → Type 0) (r : Result A E) (x : A) → r ≡ Ok x → IfOk r P → P x
 if_ok {A} {E} P r x is said = let Q : Result A E → Type 0 = λ z. IfOk z P in subst Q is said
 
-pub edge_added : (old : Graph ℕ ℕ) (mid new : State ℕ ℕ) (order : List ℕ) (a b capacity : ℕ) → IsOrderOf old order → place order a < place order b → node_bound old ≤ capacity
-    → mid.graph ≡ old → new ≡ with_graph mid (with_edge mid.graph a b 0) → IsOrderOf new.graph order × (node_bound new.graph ≤ capacity)
+pub edge_added : (old : Graph ℕ ℕ) (mid new : State ℕ ℕ) (order : List ℕ) (a b capacity : ℕ)
+    → IsOrderOf old order → place order a < place order b → node_bound old ≤ capacity
+    → mid.graph ≡ old → new ≡ with_graph mid (with_edge mid.graph a b 0)
+    → IsOrderOf new.graph order × (node_bound new.graph ≤ capacity)
 edge_added old mid new order a b capacity ord before fits same added =
-    let P : Graph ℕ ℕ → Type 0 = λ z. IsOrderOf (with_edge z a b 0) order × (node_bound (with_edge z a b 0) ≤ capacity) in
+    let P : Graph ℕ ℕ → Type 0 = λ z.
+    IsOrderOf (with_edge z a b 0) order × (node_bound (with_edge z a b 0) ≤ capacity) in
     let Q : Graph ℕ ℕ → Type 0 = λ z. IsOrderOf z order × (node_bound z ≤ capacity) in
-    subst Q (sym (ap (λ (z : State ℕ ℕ). z.graph) added)) (subst P (sym same) (order_with_edge order ord a b 0 before, fits))
+    subst Q (sym (ap (λ (z : State ℕ ℕ). z.graph) added))
+    (subst P (sym same) (order_with_edge order ord a b 0 before, fits))
 
-module _ (old new : State ℕ ℕ) (order later : List ℕ) (n : ℕ) (f : IsWellFormed 255 old.graph) (ord : IsOrderOf old.graph order) (is : n ≡ next_node old.graph) (added : new ≡ with_graph old (with_node old.graph 0)) where
-  module _ (put : List ℕ → ℕ → List ℕ) (there : later ≡ put order n) (fine : IsOrderOf (with_node old.graph 0) (put order (next_node old.graph))) where
+module _ (old new : State ℕ ℕ) (order later : List ℕ) (n : ℕ) (f : IsWellFormed 255 old.graph)
+    (ord : IsOrderOf old.graph order) (is : n ≡ next_node old.graph)
+    (added : new ≡ with_graph old (with_node old.graph 0)) where
+  module _ (put : List ℕ → ℕ → List ℕ) (there : later ≡ put order n)
+      (fine : IsOrderOf (with_node old.graph 0) (put order (next_node old.graph))) where
     node_put : IsOrderOf new.graph later
     node_put =
         let P : Graph ℕ ℕ → Type 0 = λ z. IsOrderOf z later in

@@ -1,6 +1,7 @@
 //! A graph that counts, at run time, how often it is looked at.
 ghost use Rattle.std.specs.Prelude.{◌≡◌, ℕ, ◌+◌, ◌<◌, ◌↔◌, IsTrue, OnOk, OnErr, IfOk};
-ghost use Rattle.daggy_base.specs.Graph.{empty, HasNode, HasEdge, out_list, node_count, edge_count, node_bound as node_bound_of, edge_bound as edge_bound_of};
+ghost use Rattle.daggy_base.specs.Graph.{empty, HasNode, HasEdge, out_list, node_count, edge_count};
+ghost use Rattle.daggy_base.specs.Graph.{node_bound as node_bound_of, edge_bound as edge_bound_of};
 ghost use Rattle.daggy_base.specs.WellFormed.{IsWellFormed};
 ghost use Rattle.daggy_base.specs.Adding.{with_node, with_edge, next_node};
 ghost use Rattle.daggy_base.specs.Cursor.{first_of};
@@ -73,7 +74,8 @@ impl Counted {
         requires parent { HasNode self.old.graph a }
         requires child { HasNode self.old.graph b }
         requires index_left { edge_count self.old.graph < 255 }
-        ensures added { OnOk result (self.new ≡ with_graph self.old (with_edge self.old.graph a b 0)) }
+        ensures added { OnOk result
+            (self.new ≡ with_graph self.old (with_edge self.old.graph a b 0)) }
         ensures err { OnErr result (self.new ≡ self.old) }
     {
         match self.graph.add_edge(a, b, 0) {

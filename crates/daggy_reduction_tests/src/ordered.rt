@@ -29,7 +29,8 @@ impl Model for Ordered {
 
     ghost view = { λ k. k.graph };
 
-    ghost invariant = { λ k. IsOrderOf k.graph.graph k.order × (node_bound k.graph.graph ≤ k.scratch.nodes) };
+    ghost invariant = { λ k.
+        IsOrderOf k.graph.graph k.order × (node_bound k.graph.graph ≤ k.scratch.nodes) };
 }
 
 impl Ordered {

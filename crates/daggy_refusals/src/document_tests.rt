@@ -1,5 +1,5 @@
-//! Documents that are written and read while memory is refused once: the answer is that there was none. The same call
-//! then succeeds.
+//! Documents that are written and read while memory is refused once: the answer is that there was
+//! none. The same call then succeeds.
 use crate::support::{holds, made, refuse};
 use daggy::json::{
     ReadError, WriteError, dag_from_json, dag_to_json, stable_from_json, stable_to_json,

@@ -1,5 +1,6 @@
-//! Calls of the dag while memory is refused once. Run it by `rt try daggy_refusals --test --fail-alloc N`, for each N
-//! from 1 on: the Nth allocation then fails.
+//! Calls of the dag while memory is refused once. Run it by
+//! `rt try daggy_refusals --test --fail-alloc N`, for each N from 1 on: the Nth allocation then
+//! fails.
 #![tactic(auto)]
 
 #[cfg(test)]

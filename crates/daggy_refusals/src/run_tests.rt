@@ -1,5 +1,5 @@
-//! Commands that are run while memory is refused once: they come back, or the reply says so and nothing has changed.
-//! Run again they must succeed.
+//! Commands that are run while memory is refused once: they come back, or the reply says so and
+//! nothing has changed. Run again they must succeed.
 use crate::support::{holds, made, refuse, same};
 use daggy::run::{Back, Command, GuardedDag, Reply, plan, run};
 use daggy::{Dag, EdgeIndex, NodeIndex, StableDag};
@@ -58,7 +58,8 @@ fn run_again<D: GuardedDag<usize, usize, u32>>(
     replies.pop()
 }
 
-// The weights of the command came back. Of a list of edges weighing 1, 2 and so on, those up to the one at fault.
+// The weights of the command came back. Of a list of edges weighing 1, 2 and so on, those up to the
+// one at fault.
 fn came_back(rt: &impl Abort, back: HandedBack, wanted: HandedBack) {
     match back {
         Back::Edges { last, before } => same(rt, before.len(), last.wrapping_sub(1)),
@@ -66,8 +67,8 @@ fn came_back(rt: &impl Abort, back: HandedBack, wanted: HandedBack) {
     }
 }
 
-// Runs a command alone, and again if that was refused. The weights are what comes back, and the reply is what is
-// wanted.
+// Runs a command alone, and again if that was refused. The weights are what comes back, and the
+// reply is what is wanted.
 fn replies<D: GuardedDag<usize, usize, u32>>(
     rt: &impl Abort,
     alloc: Global,

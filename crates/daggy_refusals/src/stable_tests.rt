@@ -1,5 +1,5 @@
-//! The calls of the stable dag, each made again after a refusal. It must then succeed, in the slots that it would have
-//! taken at first.
+//! The calls of the stable dag, each made again after a refusal. It must then succeed, in the slots
+//! that it would have taken at first.
 use crate::support::{holds, made, refuse, same};
 use daggy::graph::Element;
 use daggy::index::Direction;

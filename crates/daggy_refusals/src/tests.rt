@@ -10,7 +10,8 @@ use std::process::Abort;
 
 type Plain = Dag<usize, usize>;
 
-// Asserts that the dag is a root with so many children, in order, and nothing else. The edges weigh 100 and more.
+// Asserts that the dag is a root with so many children, in order, and nothing else. The edges weigh
+// 100 and more.
 fn is_fan(rt: &impl Abort, dag: &Plain, nodes: usize, edges: usize) {
     counts(rt, dag, nodes, edges);
     let mut walker = dag.children(NodeIndex::new(0));
@@ -221,7 +222,8 @@ fn extend(rt: &impl Abort, dag: &mut Plain, edges: usize) -> Result<(), EdgeErro
     dag.extend_with_edges([(NodeIndex::new(0), NodeIndex::new(edges + 1), edges + 100)])
 }
 
-// Adds an edge from the root to a node that is made for it, likewise. What was made before a refusal stays.
+// Adds an edge from the root to a node that is made for it, likewise. What was made before a
+// refusal stays.
 fn extend_again(rt: &impl Abort, dag: &mut Plain, refused: &mut bool) {
     let edges = dag.edge_count();
     assert!(rt; edges < 100);
@@ -495,7 +497,8 @@ fn refused_room_is_asked_again(rt: HostRuntime) {
     fill(&rt, &mut dag, 19);
 }
 
-// Adds the edge from the first child to the second, which makes the one from the root to the second redundant.
+// Adds the edge from the first child to the second, which makes the one from the root to the second
+// redundant.
 fn join_children(rt: &impl Abort, dag: &mut Plain, refused: &mut bool) {
     let (a, b) = (NodeIndex::new(1), NodeIndex::new(2));
     assert!(rt; dag.contains_node(a) && dag.contains_node(b) && dag.can_add_edge());

@@ -1,5 +1,5 @@
-//! What no contract says: that commands succeed where there is memory, at a concrete type, and that the examples
-//! come out as they should.
+//! What no contract says: that commands succeed where there is memory, at a concrete type, and that
+//! the examples come out as they should.
 
 mod adding;
 mod asking;

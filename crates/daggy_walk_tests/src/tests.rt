@@ -1,4 +1,5 @@
-//! What no contract says: that the examples come out as they should, and how often predicates are asked.
+//! What no contract says: that the examples come out as they should, and how often predicates are
+//! asked.
 
 mod adapters;
 mod asked;

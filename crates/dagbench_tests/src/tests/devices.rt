@@ -8,7 +8,8 @@ use std::io::{ErrorKind, Read, Write};
 use std::process::Abort;
 use std::test::Fail;
 
-/// Gives so many bytes a read. Its call behind so many ones is an error, and it goes on behind that.
+/// Gives so many bytes a read. Its call behind so many ones is an error, and it goes on behind
+/// that.
 #[derive(Drop)]
 struct Reader<'a> {
     rest: &'a [u8],

@@ -1,10 +1,12 @@
 //! Adding nodes and edges.
 ghost use Rattle.std.specs.Prelude.{◌≡◌, ℕ, List, [], ◌∷◌, Some, None};
 ghost use Rattle.daggy_base.specs.declared.index.Direction.TheVariants.{Outgoing, Incoming};
-ghost use Rattle.daggy_base.specs.Graph.{Graph, node_weight, edge_at, out_list, in_list, node_count, edge_count, node_bound, edge_bound};
+ghost use Rattle.daggy_base.specs.Graph.{Graph, node_weight, edge_at, out_list, in_list};
+ghost use Rattle.daggy_base.specs.Graph.{node_count, edge_count, node_bound, edge_bound};
 ghost use Rattle.daggy_base.specs.Adding.{next_node, next_edge, with_node};
 ghost use Rattle.daggy_base.specs.Cursor.{first_of, cursor_after};
-ghost use Rattle.daggy_definitions.specs.Examples.{line, end, nothing, one_node, self_loop, fan, triangle, pair};
+ghost use Rattle.daggy_definitions.specs.Examples.{line, end, nothing, one_node, self_loop, fan};
+ghost use Rattle.daggy_definitions.specs.Examples.{triangle, pair};
 
 /// The first node is node 0, and has no edges.
 pub fn the_first_node_is_node_0()
@@ -63,7 +65,8 @@ pub fn each_edge_names_the_next()
     ensures last_in { cursor_after Incoming end triangle 1 (edge_at triangle 1) ≡ end }
 {}
 
-/// An edge from a node to itself stands in both lists of that node. A graph that is no dag may have one.
+/// An edge from a node to itself stands in both lists of that node. A graph that is no dag may have
+/// one.
 pub fn a_self_loop_stands_in_both_lists()
     ensures leaves { out_list self_loop 0 ≡ 0 ∷ [] }
     ensures enters { in_list self_loop 0 ≡ 0 ∷ [] }

@@ -35,7 +35,8 @@ pub fn a_node_is_added_with_an_edge()
 
 /// Clearing the edges keeps nodes and vacant slots of nodes, and forgets vacant slots of edges.
 pub fn clearing_edges_keeps_nodes()
-    ensures nodes { (without_all_edges (without_node Stable diamond 1)).nodes ≡ Some 10 ∷ None ∷ Some 30 ∷ Some 40 ∷ [] }
+    ensures nodes { (without_all_edges (without_node Stable diamond 1)).nodes
+        ≡ Some 10 ∷ None ∷ Some 30 ∷ Some 40 ∷ [] }
     ensures edges { (without_all_edges (without_node Stable diamond 1)).edges ≡ [] }
     ensures next_node { next_node (without_all_edges (without_node Stable diamond 1)) ≡ 1 }
     ensures next_edge { next_edge (without_all_edges (without_node Stable diamond 1)) ≡ 0 }
@@ -43,8 +44,10 @@ pub fn clearing_edges_keeps_nodes()
     ensures entering { in_list (without_all_edges (without_node Stable diamond 1)) 3 ≡ [] }
 {}
 
-/// Taking back the node that was added last gives the graph before, whether its slot was new or vacant.
+/// Taking back the node that was added last gives the graph before, whether its slot was new or
+/// vacant.
 pub fn taking_a_node_back_gives_the_graph_before()
     ensures made { with_node_taken_back true (with_node fan 9) 4 ≡ fan }
-    ensures reused { let g = without_node Stable fan 2 in with_node_taken_back false (with_node g 9) 2 ≡ g }
+    ensures reused { let g = without_node Stable fan 2 in
+        with_node_taken_back false (with_node g 9) 2 ≡ g }
 {}

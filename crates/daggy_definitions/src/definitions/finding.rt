@@ -10,7 +10,8 @@ pub fn the_newest_of_parallel_edges_is_found()
     ensures others_between { find_edge doubled 0 1 ≡ Some 2 }
 {}
 
-/// After the first edge was removed, the edge that took its index is found, though it stands behind others.
+/// After the first edge was removed, the edge that took its index is found, though it stands behind
+/// others.
 pub fn the_edge_that_moved_is_found()
     ensures { find_edge (without_edge Compact doubled 0) 0 1 ≡ Some 0 }
 {}

@@ -5,10 +5,12 @@ ghost use Rattle.daggy_base.specs.Graph.{Graph, out_list, in_list, node_count};
 ghost use Rattle.daggy_base.specs.Adding.{next_node, next_edge, with_edge};
 ghost use Rattle.daggy_base.specs.FilteringInPlace.{IsFilteredInPlace};
 ghost use Rattle.daggy_base.specs.FromSlots.{graph_of_slots};
-ghost use Rattle.daggy_definitions.specs.Examples.{line, nothing, pair, triangle, diamond, shortcuts, with_lines};
+ghost use Rattle.daggy_definitions.specs.Examples.{line, nothing, pair, triangle, diamond};
+ghost use Rattle.daggy_definitions.specs.Examples.{shortcuts, with_lines};
 ghost use Rattle.daggy_definitions.specs.Keeping.{drops_ten, numbers_its_calls, kept};
 
-/// A graph of given slots: each list begins with the greatest index, and of the vacant slots the greatest is taken next.
+/// A graph of given slots: each list begins with the greatest index, and of the vacant slots the
+/// greatest is taken next.
 pub fn slots_make_lists_from_the_greatest_index_down()
     ensures count { node_count kept ≡ 2 }
     ensures leaving { out_list kept 1 ≡ 2 ∷ [] }
@@ -28,9 +30,11 @@ pub fn slots_of_what_was_added_make_it_again()
     ensures five { graph_of_slots shortcuts.nodes shortcuts.edges ≡ shortcuts }
 {}
 
-/// The first node of three is dropped. The other two and the edge between them keep their indices, and that edge is the
-/// only one that the second closure was called with.
+/// The first node of three is dropped. The other two and the edge between them keep their indices,
+/// and that edge is the only one that the second closure was called with.
 pub fn what_is_kept_stays_in_its_slot()
-    ensures this { (shown : ℕ → Bor ℕ) → ((w : ℕ) → (shown w).now ≡ w) → IsFilteredInPlace (λ n. n) drops_ten numbers_its_calls 0 0 triangle kept }
-    ensures no_other { (h : Graph ℕ ℕ) → IsFilteredInPlace (λ n. n) drops_ten numbers_its_calls 0 0 triangle h → h ≡ kept }
+    ensures this { (shown : ℕ → Bor ℕ) → ((w : ℕ) → (shown w).now ≡ w)
+        → IsFilteredInPlace (λ n. n) drops_ten numbers_its_calls 0 0 triangle kept }
+    ensures no_other { (h : Graph ℕ ℕ)
+        → IsFilteredInPlace (λ n. n) drops_ten numbers_its_calls 0 0 triangle h → h ≡ kept }
 {}

@@ -1,7 +1,8 @@
 //! Paths, reachability and cycles.
 ghost use Rattle.std.specs.Prelude.{List, [], ◌∷◌};
 ghost use Rattle.daggy_base.specs.Path.{Reaches, IsAcyclic};
-ghost use Rattle.daggy_definitions.specs.Examples.{line, nothing, one_node, self_loop, with_lines, fan, chain, ring, shortcuts, diamond};
+ghost use Rattle.daggy_definitions.specs.Examples.{line, nothing, one_node, self_loop, with_lines};
+ghost use Rattle.daggy_definitions.specs.Examples.{fan, chain, ring, shortcuts, diamond};
 
 /// A node that exists reaches itself, by the path of one node. A missing one does not.
 pub fn only_existing_nodes_reach_themselves()

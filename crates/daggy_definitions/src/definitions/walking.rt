@@ -6,7 +6,8 @@ ghost use Rattle.daggy_base.specs.Adding.{with_edge};
 ghost use Rattle.daggy_base.specs.Removal.{Compact, Stable, without_edge, without_edges};
 ghost use Rattle.daggy_base.specs.Cursor.{first_of, IsWalkStep};
 ghost use Rattle.daggy_base.specs.Look.{IsLook};
-ghost use Rattle.daggy_definitions.specs.Examples.{end, fan, triangle, shortcuts, two_children, nothing, self_loop};
+ghost use Rattle.daggy_definitions.specs.Examples.{end, fan, triangle, shortcuts, two_children};
+ghost use Rattle.daggy_definitions.specs.Examples.{nothing, self_loop};
 
 /// A walk over the children of a node gives its edges newest first, and then nothing.
 pub fn a_walk_over_children_goes_newest_first()
@@ -17,18 +18,23 @@ pub fn a_walk_over_children_goes_newest_first()
     ensures over { IsWalkStep Outgoing end fan end None end }
 {}
 
-/// A walk over the parents of a node gives its edges newest first, here after a removal that moved edges.
+/// A walk over the parents of a node gives its edges newest first, here after a removal that moved
+/// edges.
 pub fn a_walk_over_parents_goes_newest_first()
     ensures starts { first_of end (in_list (without_edge Compact triangle 0) 2) ≡ 0 }
     ensures newest { IsWalkStep Incoming end (without_edge Compact triangle 0) 0 (Some (0, 1)) 1 }
     ensures oldest { IsWalkStep Incoming end (without_edge Compact triangle 0) 1 (Some (1, 0)) end }
 {}
 
-/// After three of eight edges went, the two edges that enter a node are met in the order of their age.
+/// After three of eight edges went, the two edges that enter a node are met in the order of their
+/// age.
 pub fn a_walk_over_parents_after_removals()
-    ensures starts { first_of end (in_list (without_edges Compact shortcuts (6 ∷ 3 ∷ 2 ∷ [])) 3) ≡ 2 }
-    ensures newest { IsWalkStep Incoming end (without_edges Compact shortcuts (6 ∷ 3 ∷ 2 ∷ [])) 2 (Some (2, 2)) 4 }
-    ensures oldest { IsWalkStep Incoming end (without_edges Compact shortcuts (6 ∷ 3 ∷ 2 ∷ [])) 4 (Some (4, 1)) end }
+    ensures starts { first_of end (in_list (without_edges Compact shortcuts (6 ∷ 3 ∷ 2 ∷ [])) 3)
+        ≡ 2 }
+    ensures newest { IsWalkStep Incoming end (without_edges Compact shortcuts (6 ∷ 3 ∷ 2 ∷ [])) 2
+        (Some (2, 2)) 4 }
+    ensures oldest { IsWalkStep Incoming end (without_edges Compact shortcuts (6 ∷ 3 ∷ 2 ∷ [])) 4
+        (Some (4, 1)) end }
 {}
 
 /// Over a missing node there is no step.
@@ -37,12 +43,13 @@ pub fn a_missing_node_has_no_children()
     ensures over { IsWalkStep Outgoing end nothing end None end }
 {}
 
-/// A walker whose edge was removed stays where it is. Once its index is an edge again, it goes on along the list of that
-/// edge.
+/// A walker whose edge was removed stays where it is. Once its index is an edge again, it goes on
+/// along the list of that edge.
 pub fn a_stale_walker_waits_for_its_index()
     ensures starts { first_of end (out_list two_children 0) ≡ 1 }
     ensures stays { IsWalkStep Outgoing end (without_edge Compact two_children 1) 1 None 1 }
-    ensures goes_on { IsWalkStep Outgoing end (with_edge (without_edge Compact two_children 1) 1 2 7) 1 (Some (1, 2)) end }
+    ensures goes_on { IsWalkStep Outgoing end
+        (with_edge (without_edge Compact two_children 1) 1 2 7) 1 (Some (1, 2)) end }
 {}
 
 /// A walker whose edge moved to another index follows the edge that took its place.

@@ -8,8 +8,9 @@ use daggy_walk::walker::{
 use std::alloc::Global;
 use std::process::Abort;
 
-/// Nodes 0 to 2 and edges from 0 to 1 and from 0 to 2. A walk over the children of 0 is begun; its edge is removed, and one step
-/// is taken. Then the edge from 1 to 2 gets that index, and two steps are taken.
+/// Nodes 0 to 2 and edges from 0 to 1 and from 0 to 2. A walk over the children of 0 is begun; its
+/// edge is removed, and one step is taken. Then the edge from 1 to 2 gets that index, and two steps
+/// are taken.
 fn over_an_edge_that_changes<S, W>(
     rt: &impl Abort,
     mut dag: Plain<S>,

@@ -1,7 +1,7 @@
 //! The assertions, dags of numbers, and walks as numbers.
 //!
-//! Each `assert_eq!` is proved where it stands, so it stands here once, and tests call it. What is generic over the store
-//! serves both kinds of dag.
+//! Each `assert_eq!` is proved where it stands, so it stands here once, and tests call it. What is
+//! generic over the store serves both kinds of dag.
 ghost use Rattle.std.specs.Prelude.{◌≡◌, IsTrue, Ok};
 
 use daggy_base::index::{EdgeIndex, NodeIndex};

@@ -9,9 +9,11 @@ use Rattle.dagbench_engine.proofs.parse.removing.Goals as goal
 pub returns-then-eq-3 : goal.returns-then-eq-3
 unfolding removing_by_name
 returns-then-eq-3 c =
-    let done = done_map (request_of {N = ℤ} {E = ℤ} (λ i. i)) (words_of c.args.rest.now) ClearEdges in rw (c.if_done.ensures, done) (search rules)
+    let done = done_map (request_of {N = ℤ} {E = ℤ} (λ i. i)) (words_of c.args.rest.now) ClearEdges in
+    rw (c.if_done.ensures, done) (search rules)
 
 pub returns-then-eq-4 : goal.returns-then-eq-4
 unfolding removing_by_name
 returns-then-eq-4 c =
-    let done = done_map (request_of {N = ℤ} {E = ℤ} (λ i. i)) (words_of c.args.rest.now) Clear in rw (c.if_done-then-eq-4.ensures, done) (search rules)
+    let done = done_map (request_of {N = ℤ} {E = ℤ} (λ i. i)) (words_of c.args.rest.now) Clear in
+    rw (c.if_done-then-eq-4.ensures, done) (search rules)

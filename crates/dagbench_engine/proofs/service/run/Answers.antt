@@ -16,7 +16,8 @@ returns-in_default g c =
 
 pub returns-in_default-read : goal.returns-in_default-read
 returns-in_default-read g c = (
-  read_failed _ _ _ _ _ (g.K.Sink.taken c.reads.sink) c.reads.session.output _ _ _ c.reads.invariant.served c.in-Ok.ensures.text c.in_default-read.ensures.bytes,
+  read_failed _ _ _ _ _ (g.K.Sink.taken c.reads.sink) c.reads.session.output _ _ _ c.reads.invariant.served
+      c.in-Ok.ensures.text c.in_default-read.ensures.bytes,
   c.in_default-read.ensures.counted ∙ ap (λ n. n + 1) c.reads.invariant.no_read_fault,
   c.in-Ok.ensures.counted ∙ c.reads.invariant.no_write_fault,
 )
@@ -29,11 +30,15 @@ slice_bounds-take_block-end-in-reads g c = sym (length-take-le _ _ c.in-Ok-read.
 
 pub reads-smaller : goal.reads-smaller
 reads-smaller g c =
-    comes_nearer _ _ _ _ c.in-Ok-read.ensures.bytes.1 c.in-Ok-read.ensures.bytes.0 (omega arith) c.in-Ok-read.ensures.few
+    comes_nearer _ _ _ _ c.in-Ok-read.ensures.bytes.1 c.in-Ok-read.ensures.bytes.0 (omega arith)
+    c.in-Ok-read.ensures.few
 
 pub reads-preserved : goal.reads-preserved
 reads-preserved g c = record {
-  served = read_on _ _ _ _ _ (g.K.Sink.taken c.reads.sink) c.reads.session.output _ _ _ _ _ _ _ _ _ _ c.reads.invariant.served c.in-Ok.ensures.text c.in-Ok.ensures.empty c.in-Ok-read.ensures.bytes.1 refl c.in-Ok-take_block.ensures.served;
+  served =
+      read_on _ _ _ _ _ (g.K.Sink.taken c.reads.sink) c.reads.session.output _ _ _ _ _ _ _ _ _ _
+      c.reads.invariant.served c.in-Ok.ensures.text c.in-Ok.ensures.empty c.in-Ok-read.ensures.bytes.1 refl
+      c.in-Ok-take_block.ensures.served;
   no_read_fault = c.in-Ok-read.ensures.counted ∙ c.reads.invariant.no_read_fault;
   no_write_fault = c.in-Ok-take_block.ensures.counted ∙ (c.in-Ok.ensures.counted ∙ c.reads.invariant.no_write_fault);
 }
@@ -41,7 +46,8 @@ reads-preserved g c = record {
 pub returns-in_default-take_block : goal.returns-in_default-take_block
 returns-in_default-take_block g c = (
   c.in-Ok-read.ensures.counted ∙ c.reads.invariant.no_read_fault,
-  c.in_default-take_block.ensures.counted ∙ ap (λ n. n + 1) (c.in-Ok.ensures.counted ∙ c.reads.invariant.no_write_fault),
+  c.in_default-take_block.ensures.counted
+      ∙ ap (λ n. n + 1) (c.in-Ok.ensures.counted ∙ c.reads.invariant.no_write_fault),
 )
 
 pub returns-in_default-finish : goal.returns-in_default-finish
@@ -53,7 +59,9 @@ returns-in_default-finish g c = (
 pub returns : goal.returns
 returns g c =
     let room : 0 < length c.read.new.buffer = omega arith in (
-      read_all _ _ _ _ _ _ (g.K.Sink.taken c.reads.sink) c.reads.session.output _ _ _ _ _ _ _ c.reads.invariant.served c.in-Ok.ensures.text c.in-Ok.ensures.empty c.in-Ok-read.ensures.bytes.1 c.if-count-eq0.true c.in-Ok-finish.ensures.served,
+      read_all _ _ _ _ _ _ (g.K.Sink.taken c.reads.sink) c.reads.session.output _ _ _ _ _ _ _ c.reads.invariant.served
+          c.in-Ok.ensures.text c.in-Ok.ensures.empty c.in-Ok-read.ensures.bytes.1 c.if-count-eq0.true
+          c.in-Ok-finish.ensures.served,
       met _ _ _ _ c.in-Ok-read.ensures.end c.if-count-eq0.true room,
       c.in-Ok-read.ensures.counted ∙ c.reads.invariant.no_read_fault,
       c.in-Ok-finish.ensures.counted ∙ (c.in-Ok.ensures.counted ∙ c.reads.invariant.no_write_fault),

@@ -1,5 +1,6 @@
 use Rattle.std.proofs.Common.{refl, ap, ◌∙◌, arith}
-use Rattle.dagbench_engine.proofs.Runs.{run_ends, run_serves, run_tells_read, run_tells_write, run_replies, run_has_room}
+use Rattle.dagbench_engine.proofs.Runs.{run_ends, run_serves, run_tells_read, run_tells_write, run_replies}
+use Rattle.dagbench_engine.proofs.Runs.{run_has_room}
 use Rattle.dagbench_engine.proofs.service.serve_with.Goals as goal
 
 pub returns-in_default-clause-read : goal.returns-in_default-clause-read

@@ -4,10 +4,12 @@ use Rattle.dagbench_engine.proofs.words.number.Goals as goal
 
 pub overflow_mul-number : goal.overflow_mul-number
 overflow_mul-number c =
-    let small : c.loop-byte.number < 10 ^ 18 = few_digits _ c.loop-byte.byte-index c.loop-byte.invariant.below (omega arith) in
+    let small : c.loop-byte.number < 10 ^ 18 =
+    few_digits _ c.loop-byte.byte-index c.loop-byte.invariant.below (omega arith) in
     omega arith
 
 pub overflow_add-number : goal.overflow_add-number
 overflow_add-number c =
-    let small : c.loop-byte.number < 10 ^ 18 = few_digits _ c.loop-byte.byte-index c.loop-byte.invariant.below (omega arith) in
+    let small : c.loop-byte.number < 10 ^ 18 =
+    few_digits _ c.loop-byte.byte-index c.loop-byte.invariant.below (omega arith) in
     omega arith

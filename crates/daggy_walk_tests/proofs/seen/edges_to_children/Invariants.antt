@@ -8,5 +8,6 @@ use Rattle.daggy_walk_tests.proofs.seen.edges_to_children.Given as goal
 abbrev pub invariant-loop-step : goal.invariant-loop-step
 invariant-loop-step g l =
     let number = g.Ix.IndexType.number in
-    (map number l.seen.items ++ rest_of_walk Outgoing l.dag.graph (number (iter_walker l.step-iterator)) ≡ out_list l.dag.graph (number l.fn.n))
+    (map number l.seen.items ++ rest_of_walk Outgoing l.dag.graph (number (iter_walker l.step-iterator))
+    ≡ out_list l.dag.graph (number l.fn.n))
     × ((iter_graph l.step-iterator).now ≡ l.dag)

@@ -30,10 +30,13 @@ and_end_spec 𝓤 𝓛 𝓜 𝓡 wired =
     proved 𝓛 f.ended stayed c 𝓜 𝓡 (goes, tt) f.Key.name code.function (code.unfolded 𝓤 𝓛.H 𝓜 𝓡 wired)
     (λ κs. (shr_vals, tt)) (λ κs. (shr_Tells (named 0) κs.0 History.the_row, tt)) (λ κs qs bounds a g are.
     let y : W.Ghost = ((κs, qs, bounds, a, (shr_vals a.0, tt)), g) in
-    qed 𝓛 ((raw (alive 𝓛 f.signature κs qs) ⊛ ‵ (owns (types_at f.signature.params κs) a (shr_vals a.0, tt))) ∷ raw ((c κs a).requires g) ∷ []) ∵
+    qed 𝓛 ((raw (alive 𝓛 f.signature κs qs) ⊛ ‵ (owns (types_at f.signature.params κs) a (shr_vals a.0, tt))) ∷ raw
+    ((c κs a).requires g) ∷ []) ∵
     keep ! (0 ∷ []) $ split ! $ keep ! (0 ∷ []) $
     enter ! _ _ _ _ _ $ alloc_all ! (λ l. pass_all ! refl ((tt, tt), tt) $
     sets ! (agg ! (no_more !)) refl (tt, tt) $ nothing ! $ makes_unit ! $ fjoin ! $
     returns ! (look_at ! 0 refl) $ free_all ! refl $
-    suffices ! _ (ends_at 𝓛 f.ended stayed c y unit_value (record { bytes = a.0.now.bytes; is_ended = true; failures = a.0.now.failures }) (tt, tt) (tt, tt)) $ says ! refl $
+    suffices ! _ (ends_at 𝓛 f.ended stayed c y unit_value
+    (record { bytes = a.0.now.bytes; is_ended = true; failures = a.0.now.failures }) (tt, tt) (tt, tt))
+    $ says ! refl $
     nothing ! $ nothing ! $ fjoin ! $ move ! (2 ∷ 0 ∷ 1 ∷ []) $ done !))

@@ -11,7 +11,9 @@ edges-smaller c = shorter_rest (words_of c.edges.rest.now) (words_of c.in-Some.b
 
 pub edges-preserved : goal.edges-preserved
 edges-preserved c =
-    let there = first_listed (words_of c.edges.rest.now) (words_of c.in-Some.behind.now) _ (sym c.in-Some.ensures) c.edges.invariant.some in
+    let there =
+    first_listed (words_of c.edges.rest.now) (words_of c.in-Some.behind.now) _ (sym c.in-Some.ensures)
+    c.edges.invariant.some in
     let rest = unwrap_or (edges_by_words (words_of c.in-Some.behind.now)) [] in
     let fits : SFits w64 c.in-Some.weight = search rules in
     let first : c.new_edge.result ≡ (c.in-Some.parent, c.in-Some.child, c.in-Some.weight) =
@@ -27,4 +29,5 @@ edges-preserved c =
 pub returns : goal.returns
 returns c =
     let none = none_listed (words_of c.edges.rest.now) (sym c.in_default.ensures) c.edges.invariant.some in
-    sym (append-nil c.edges.edges.items) ∙ ap (λ words. c.edges.edges.items ++ unwrap_or (edges_by_words words) []) (sym none) ∙ c.edges.invariant.whole
+    sym (append-nil c.edges.edges.items)
+    ∙ ap (λ words. c.edges.edges.items ++ unwrap_or (edges_by_words words) []) (sym none) ∙ c.edges.invariant.whole

@@ -5,4 +5,5 @@ pub returns-then-is_empty-clause-done : goal.returns-then-is_empty-clause-done
 returns-then-is_empty-clause-done g c = last_ended _ _ _ _ (nothing_there _ c.if-is_empty.ensures)
 
 pub returns-clause-done : goal.returns-clause-done
-returns-clause-done g c = last_unended _ _ _ _ _ _ _ _ (something_there _ c.if-is_empty.ensures) c.as_slice.ensures c.answer.ensures.answered
+returns-clause-done g c =
+    last_unended _ _ _ _ _ _ _ _ (something_there _ c.if-is_empty.ensures) c.as_slice.ensures c.answer.ensures.answered

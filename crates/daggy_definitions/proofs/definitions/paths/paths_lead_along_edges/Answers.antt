@@ -1,4 +1,5 @@
-use Rattle.daggy_definitions.proofs.Paths.{chain_reaches_its_end, ring_reaches_round, chain_reaches_no_start, siblings_reach_not}
+use Rattle.daggy_definitions.proofs.Paths.{chain_reaches_its_end, ring_reaches_round, chain_reaches_no_start}
+use Rattle.daggy_definitions.proofs.Paths.{siblings_reach_not}
 use Rattle.daggy_definitions.proofs.definitions.paths.paths_lead_along_edges.Goals as goal
 
 pub returns-clause-along : goal.returns-clause-along
