@@ -2,7 +2,6 @@
 //! order closures are called.
 
 mod calling;
-mod graphs;
 mod iterating;
 mod keeping;
 mod many_edges;

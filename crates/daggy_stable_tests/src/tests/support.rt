@@ -4,7 +4,7 @@
 ghost use Rattle.std.specs.Prelude.{◌≡◌, IsTrue, Ok};
 ghost use Rattle.std.specs.Iterator.{IsFinite};
 
-use daggy::index::{Direction, IndexType};
+use daggy::index::IndexType;
 use daggy::stable_dag::StableDag;
 use daggy::stable_graph::StableDiGraph;
 use daggy::{EdgeError, EdgeIndex, NodeIndex, Walker};
@@ -196,13 +196,6 @@ pub fn triangle(rt: &impl Abort, alloc: Global) -> Plain {
     )
 }
 
-/// Adds a node to a graph, and asserts which index it gets.
-pub fn put_node(rt: &impl Abort, graph: &mut PlainGraph, weight: u32, index: usize) {
-    assert!(rt; graph.can_add_node());
-    let n = made(rt, graph.add_node(weight));
-    same(rt, n.index(), index);
-}
-
 /// Adds an edge to a graph, with or without which it may have cycles, and asserts which index it gets.
 pub fn put_edge(
     rt: &impl Abort,
@@ -216,23 +209,6 @@ pub fn put_edge(
     assert!(rt; graph.can_add_edge());
     let e = made(rt, graph.add_edge(a, b, weight));
     same(rt, e.index(), index);
-}
-
-/// A graph of nodes with these weights, and of edges with these ends and weights.
-pub fn graph_of(
-    rt: &impl Abort,
-    alloc: Global,
-    nodes: &[u32],
-    edges: &[(usize, usize, u32)],
-) -> PlainGraph {
-    let mut graph = StableDiGraph::new(alloc);
-    for (i, weight) in nodes.iter().enumerate() {
-        put_node(rt, &mut graph, *weight, i);
-    }
-    for (i, (a, b, weight)) in edges.iter().enumerate() {
-        put_edge(rt, &mut graph, (*a, *b), *weight, i);
-    }
-    graph
 }
 
 /// Asserts which nodes there are, with their weights, and which edges, with their ends and weights.
@@ -264,16 +240,6 @@ pub fn shape(
 /// Asserts how many nodes and edges a dag has.
 pub fn counts(rt: &impl Abort, dag: &Plain, nodes: usize, edges: usize) {
     same(rt, (dag.node_count(), dag.edge_count()), (nodes, edges));
-}
-
-/// Asserts how many slots a graph has, taken or vacant.
-pub fn slots(rt: &impl Abort, graph: &PlainGraph, nodes: usize, edges: usize) {
-    same(rt, (graph.node_slots(), graph.edge_slots()), (nodes, edges));
-}
-
-/// Asserts which edge a node's list begins with, where no edge is the end.
-pub fn first(rt: &impl Abort, graph: &PlainGraph, n: usize, dir: Direction, wanted: EdgeIndex) {
-    same(rt, graph.first_edge(node(rt, n), dir), wanted);
 }
 
 fn numbers(step: Option<(EdgeIndex, NodeIndex)>) -> Option<(usize, usize)> {

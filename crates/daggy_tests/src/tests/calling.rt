@@ -1,5 +1,5 @@
 //! In which order the closures of a call are called, and how often.
-use super::support::{Plain, dag_of, graph_of, made, refuse_edge, same, shape};
+use super::support::{Plain, dag_of, made, refuse_edge, same, shape};
 use daggy::NodeIndex;
 use std::alloc::Global;
 use std::cell::Cell;
@@ -96,12 +96,4 @@ fn an_update_shows_each_edge(rt: HostRuntime) {
         &[(0, 1, 101), (0, 2, 102), (1, 2, 103)],
     );
     refuse_edge(&rt, &mut dag, NodeIndex::new(2), NodeIndex::new(0), 7);
-}
-
-#[test]
-fn an_update_of_a_graph_writes_all_weights(rt: HostRuntime) {
-    let mut graph = graph_of(&rt, rt.alloc(), &[10, 11], &[(0, 1, 100), (0, 1, 101)]);
-    graph.update_node_weights(|_, weight| *weight = 1);
-    graph.update_edge_weights(|_, weight| *weight = 2);
-    shape(&rt, &graph, &[1, 1], &[(0, 1, 2), (0, 1, 2)]);
 }

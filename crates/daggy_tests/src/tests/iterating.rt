@@ -1,5 +1,5 @@
-//! Iterators over all of a graph and over the lists of a node, of the dag and of its store.
-use super::support::{dag_of, gives, graph_of, holds, made, same};
+//! Iterators over all of a graph and over the lists of a node, of the dag.
+use super::support::{dag_of, gives, holds, same};
 use daggy::NodeIndex;
 use daggy::graph::{EdgeReference, NodeReferences};
 use daggy::index::Direction;
@@ -34,45 +34,6 @@ fn index(n: NodeIndex) -> usize {
 const EDGES: [(usize, usize, u32); 3] = [(0, 1, 100), (0, 2, 101), (1, 2, 102)];
 
 const LINES: [Line; 3] = [(0, 0, 1, 100), (1, 0, 2, 101), (2, 1, 2, 102)];
-
-#[test]
-fn nodes_of_a_graph_are_gone_through(rt: HostRuntime) {
-    let graph = graph_of(&rt, rt.alloc(), &[10, 11, 12], &EDGES);
-    gives(&rt, graph.node_weights().copied(), &[10, 11, 12]);
-    gives(&rt, graph.node_identifiers().map(index), &[0, 1, 2]);
-    weighted(&rt, graph.node_references(), &[(0, 10), (1, 11), (2, 12)]);
-}
-
-#[test]
-fn edges_of_a_graph_are_gone_through(rt: HostRuntime) {
-    let graph = graph_of(&rt, rt.alloc(), &[10, 11, 12], &EDGES);
-    gives(&rt, graph.edge_weights().copied(), &[100, 101, 102]);
-    gives(&rt, graph.edge_references().map(line), &LINES);
-}
-
-#[test]
-fn lists_of_a_graph_are_gone_through(rt: HostRuntime) {
-    let edges = [(0, 1, 100), (0, 2, 101), (1, 2, 102), (0, 2, 103)];
-    let graph = graph_of(&rt, rt.alloc(), &[10, 11, 12], &edges);
-    let (a, c) = (NodeIndex::new(0), NodeIndex::new(2));
-    gives(&rt, graph.neighbors(a).map(index), &[2, 2, 1]);
-    gives(
-        &rt,
-        graph.neighbors_directed(c, Direction::Incoming).map(index),
-        &[0, 1, 0],
-    );
-    gives(
-        &rt,
-        graph.edges(a).map(line),
-        &[(3, 0, 2, 103), (1, 0, 2, 101), (0, 0, 1, 100)],
-    );
-    gives(
-        &rt,
-        graph.edges_directed(c, Direction::Incoming).map(line),
-        &[(3, 0, 2, 103), (2, 1, 2, 102), (1, 0, 2, 101)],
-    );
-    gives(&rt, graph.neighbors(NodeIndex::new(9)).map(index), &[]);
-}
 
 #[test]
 fn all_nodes_and_edges_of_a_dag_are_gone_through(rt: HostRuntime) {
@@ -119,45 +80,3 @@ fn roots_and_leaves_are_found(rt: HostRuntime) {
     dag.clear();
     gives(&rt, dag.externals(Direction::Incoming).map(index), &[]);
 }
-
-#[test]
-fn iterators_know_how_much_is_left(rt: HostRuntime) {
-    let graph = graph_of(&rt, rt.alloc(), &[10, 11, 12], &EDGES);
-    let mut nodes = graph.node_references();
-    holds(&rt, nodes.next().is_some());
-    let left = [
-        nodes.len(),
-        graph.node_identifiers().len(),
-        graph.node_weights().len(),
-        graph.edge_references().len(),
-        graph.edge_weights().len(),
-    ];
-    same(&rt, left, [2, 3, 3, 3, 3]);
-}
-
-#[test]
-fn a_graph_is_printed_by_its_counts_or_whole(rt: HostRuntime) {
-    let graph = graph_of(&rt, rt.alloc(), &[10, 11], &[(0, 1, 100)]);
-    let short = made(&rt, format!(in rt.alloc(); "{graph:?}"));
-    holds(
-        &rt,
-        short.as_str() == "DiGraph { node_count: 2, edge_count: 1 }",
-    );
-    let long = made(&rt, format!(in rt.alloc(); "{graph:#?}"));
-    holds(&rt, long.as_str() == WHOLE);
-}
-
-const WHOLE: &str = "DiGraph {
-    nodes: {
-        NodeIndex(0): 10,
-        NodeIndex(1): 11,
-    },
-    edges: [
-        EdgeReference {
-            id: 0,
-            source: 0,
-            target: 1,
-            weight: 100,
-        },
-    ],
-}";

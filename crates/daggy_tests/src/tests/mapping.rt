@@ -1,9 +1,8 @@
-//! Copies, maps and parts of a dag and of its store, and room.
+//! Copies and maps of a dag, and room.
 use super::support::{
-    Plain, add_edge, add_node, children, counts, dag_of, graph_of, holds, made, parents,
-    refuse_edge, same, shape,
+    Plain, add_edge, add_node, children, counts, dag_of, holds, made, parents, refuse_edge, same,
+    shape,
 };
-use daggy::index::Direction;
 use daggy::{Dag, EdgeIndex, NodeIndex};
 use std::alloc::Global;
 use std::process::Abort;
@@ -48,43 +47,6 @@ fn a_mapped_dag_still_refuses_cycles(rt: HostRuntime) {
     same(&rt, numbered.node_weight(last).copied(), Some(2));
     refuse_edge(&rt, &mut numbered, last, first, 9);
     same(&rt, add_edge(&rt, &mut numbered, first, last, 9).index(), 3);
-}
-
-#[test]
-fn weights_of_a_graph_are_mapped_to_another_type(rt: HostRuntime) {
-    let graph = graph_of(&rt, rt.alloc(), &[10, 11, 12], &EDGES);
-    let mapped = made(
-        &rt,
-        graph.map(|n, w| (n.index(), *w > 10), |e, w| (e.index(), *w > 101)),
-    );
-    same(&rt, (mapped.node_count(), mapped.edge_count()), (3, 3));
-    same(
-        &rt,
-        mapped.node_weight(NodeIndex::new(2)).copied(),
-        Some((2, true)),
-    );
-    same(
-        &rt,
-        mapped.edge_weight(EdgeIndex::new(1)).copied(),
-        Some((1, false)),
-    );
-    let first = mapped.first_edge(NodeIndex::new(2), Direction::Incoming);
-    same(&rt, first, EdgeIndex::new(2));
-}
-
-#[test]
-fn the_part_of_a_graph_without_a_node_is_kept(rt: HostRuntime) {
-    let graph = graph_of(&rt, rt.alloc(), &[10, 11, 12], &EDGES);
-    let part = made(
-        &rt,
-        graph.filter_map(
-            |_, w| if *w == 10 { None } else { Some(*w) },
-            |_, w| Some(*w),
-        ),
-    );
-    shape(&rt, &part, &[11, 12], &[(0, 1, 102)]);
-    let (a, b) = (NodeIndex::new(0), NodeIndex::new(1));
-    same(&rt, part.find_edge(a, b), Some(EdgeIndex::new(0)));
 }
 
 #[test]

@@ -8,7 +8,7 @@ use daggy::graph::DiGraph;
 use daggy::index::IndexType;
 use daggy::{ChildError, Dag, EdgeError, EdgeIndex, NodeIndex, Walker};
 use std::alloc::Global;
-use std::fmt::{Debug, Display};
+use std::fmt::Debug;
 use std::process::Abort;
 
 /// A dag whose weights are numbers.
@@ -30,12 +30,6 @@ pub fn holds(rt: &impl Abort, fact: bool)
     ensures { IsTrue fact }
 {
     assert!(rt; fact);
-}
-
-/// Asserts that a value is printed as this text.
-pub fn prints<T: Display>(rt: &impl Abort, alloc: Global, value: &T, wanted: &str) {
-    let text = made(rt, format!(in alloc; "{value}"));
-    assert_eq!(rt; text.as_str(), wanted);
 }
 
 /// Asserts that a value is shown as this text where a program is debugged.
@@ -198,24 +192,6 @@ pub fn connect<N: Drop, E: Drop, Ix: IndexType>(
     assert!(rt; graph.contains_node(b));
     assert!(rt; graph.can_add_edge());
     made(rt, graph.add_edge(a, b, weight))
-}
-
-/// A graph of nodes with these weights, and of edges with these ends and weights.
-pub fn graph_of(
-    rt: &impl Abort,
-    alloc: Global,
-    nodes: &[u32],
-    edges: &[(usize, usize, u32)],
-) -> PlainGraph {
-    let mut graph = DiGraph::new(alloc);
-    for weight in nodes {
-        assert!(rt; graph.can_add_node());
-        made(rt, graph.add_node(*weight));
-    }
-    for (a, b, weight) in edges {
-        connect(rt, &mut graph, node(rt, *a), node(rt, *b), *weight);
-    }
-    graph
 }
 
 /// The index of a node.

@@ -1,9 +1,8 @@
 //! The compact store: nodes, edges and lists of a graph that may have cycles.
 use super::support::{PlainGraph, connect, graph_of, holds, made, same, shape};
-use daggy::graph::DiGraph;
-use daggy::index::Direction;
-use daggy::search::EdgeSource;
-use daggy::{EdgeIndex, NodeIndex};
+use daggy_base::index::{Direction, EdgeIndex, NodeIndex};
+use daggy_base::search::EdgeSource;
+use daggy_graph::graph::DiGraph;
 use std::process::Abort;
 
 // Asserts which edge a node's list begins with, where no edge is the end.

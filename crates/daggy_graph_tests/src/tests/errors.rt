@@ -1,5 +1,5 @@
 use super::support::{holds, prints, same, shows};
-use daggy::{ChildError, EdgeError, EdgesError, ElementError, NodeError, WouldCycle};
+use daggy_base::error::{ChildError, EdgeError, EdgesError, ElementError, NodeError, WouldCycle};
 use std::error::Error;
 
 #[derive(Drop)]

@@ -2,12 +2,11 @@
 use super::support::{
     PlainGraph, first, graph_of, holds, made, put_edge, put_node, same, shape, slots,
 };
-use daggy::graph::DiGraph;
-use daggy::index::Direction;
-use daggy::search::EdgeSource;
-use daggy::stable_graph::{Room, StableDiGraph};
-use daggy::{EdgeIndex, NodeIndex};
+use daggy_base::index::{Direction, EdgeIndex, NodeIndex};
+use daggy_base::search::EdgeSource;
 use daggy_base::store::Store;
+use daggy_graph::graph::DiGraph;
+use daggy_stable::stable_graph::{Room, StableDiGraph};
 use std::alloc::Global;
 use std::process::Abort;
 

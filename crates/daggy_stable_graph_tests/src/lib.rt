@@ -1,0 +1,5 @@
+//! The stable store by example.
+#![tactic(auto)]
+
+#[cfg(test)]
+mod tests;
