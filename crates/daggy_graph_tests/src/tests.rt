@@ -1,4 +1,5 @@
-//! What no contract says: that calls succeed, at concrete types, what is printed, and that the examples come out as they should.
+//! What no contract says: that calls succeed, at concrete types, what is printed, and that the
+//! examples come out as they should.
 
 mod errors;
 mod graphs;

@@ -1,4 +1,5 @@
-//! What no contract says: that calls succeed, at concrete types, and that the examples come out as they should.
+//! What no contract says: that calls succeed, at concrete types, and that the examples come out as
+//! they should.
 
 mod graphs;
 mod iterating;

@@ -1,5 +1,5 @@
-//! What no contract says: that calls succeed, at concrete types, that the examples come out as they should, and in which
-//! order closures are called.
+//! What no contract says: that calls succeed, at concrete types, that the examples come out as they
+//! should, and in which order closures are called.
 
 mod calling;
 mod iterating;

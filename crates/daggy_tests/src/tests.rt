@@ -1,5 +1,5 @@
-//! What no contract says: that calls succeed, what is printed, in which order closures are called, and that large graphs
-//! are no trouble.
+//! What no contract says: that calls succeed, what is printed, in which order closures are called,
+//! and that large graphs are no trouble.
 
 mod adding;
 mod calling;

@@ -197,7 +197,8 @@ fn room_is_made_and_given_back(rt: HostRuntime) {
     shape(&rt, &graph, &[10], &[(0, 0, 100)]);
 }
 
-// Nodes of weights 10, 11 and 12, with edges 0 -> 1, 0 -> 2 and 1 -> 2, of which the first was removed.
+// Nodes of weights 10, 11 and 12, with edges 0 -> 1, 0 -> 2 and 1 -> 2, of which the first was
+// removed.
 fn turned(rt: &impl Abort, alloc: std::alloc::Global) -> PlainGraph {
     let mut graph = graph_of(
         rt,

@@ -89,7 +89,8 @@ fn adding_is_taken_back(rt: HostRuntime) {
     first(&rt, &graph, 0, Direction::Incoming, EdgeIndex::end());
 }
 
-// Nodes 0, 1 and 2, the edges 0 -> 1 and 0 -> 2, and in the list of the node 0 the first of them first.
+// Nodes 0, 1 and 2, the edges 0 -> 1 and 0 -> 2, and in the list of the node 0 the first of them
+// first.
 fn turned(rt: &impl Abort, alloc: Global) -> DiGraph<u32, u32> {
     let mut graph = DiGraph::new(alloc);
     for weight in 10..13 {
@@ -214,7 +215,8 @@ fn what_is_kept_keeps_its_index(rt: HostRuntime) {
     put_edge(&rt, &mut part, (1, 2), 107, 3);
 }
 
-// Two nodes and the edges 1 and 0 between them, of which the second was added last, with vacant slots behind them.
+// Two nodes and the edges 1 and 0 between them, of which the second was added last, with vacant
+// slots behind them.
 fn reused(rt: &impl Abort, alloc: Global) -> PlainGraph {
     let mut graph = graph_of(rt, alloc, &[10, 11, 12], &TRIANGLE);
     for (e, weight) in [(2, 102), (0, 100), (1, 101)] {

@@ -30,7 +30,8 @@ fn index(n: NodeIndex) -> usize {
     n.index()
 }
 
-// The nodes 1, 3 and 4 and the edges 1 -> 4 and 1 -> 3, with vacant slots before, between and behind them.
+// The nodes 1, 3 and 4 and the edges 1 -> 4 and 1 -> 3, with vacant slots before, between and
+// behind them.
 fn gappy(rt: &impl Abort, alloc: Global) -> PlainGraph {
     let mut graph = graph_of(rt, alloc, &[10, 11, 12, 13, 14, 15], &[]);
     for (n, weight) in [(5, 15), (0, 10), (2, 12)] {

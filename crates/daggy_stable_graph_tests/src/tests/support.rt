@@ -71,7 +71,8 @@ pub fn put_node(rt: &impl Abort, graph: &mut PlainGraph, weight: u32, index: usi
     same(rt, n.index(), index);
 }
 
-/// Adds an edge to a graph, with or without which it may have cycles, and asserts which index it gets.
+/// Adds an edge to a graph, with or without which it may have cycles, and asserts which index it
+/// gets.
 pub fn put_edge(
     rt: &impl Abort,
     graph: &mut PlainGraph,

@@ -9,7 +9,8 @@ use daggy::{Dag, EdgeIndex, NodeIndex};
 use std::alloc::Global;
 use std::process::Abort;
 
-// The nodes 0, 1 and 2, and below the first the edges 0 and 1, of which the first stands first, though it was added last.
+// The nodes 0, 1 and 2, and below the first the edges 0 and 1, of which the first stands first,
+// though it was added last.
 fn turned(rt: &impl Abort, alloc: Global) -> Dag<u32, u32> {
     let mut dag = Dag::new(alloc);
     for weight in 0..3 {

@@ -196,7 +196,8 @@ pub fn triangle(rt: &impl Abort, alloc: Global) -> Plain {
     )
 }
 
-/// Adds an edge to a graph, with or without which it may have cycles, and asserts which index it gets.
+/// Adds an edge to a graph, with or without which it may have cycles, and asserts which index it
+/// gets.
 pub fn put_edge(
     rt: &impl Abort,
     graph: &mut PlainGraph,
