@@ -66,8 +66,8 @@ fn take_back<Ix: IndexType, S: Store<Ix>>(
 }
 
 // Adds a node, and puts it last in the order, or first. The scratch fits a search of the graph with
-// that node then.
-#[inline]
+// that node then. Inlined always, since a loop of additions takes a fifth less time so.
+#[inline(always)]
 fn put_node<Ix: IndexType, S: Store<Ix>>(
     store: &mut S,
     order: &mut Order<Ix>,
