@@ -189,6 +189,7 @@ impl<Ix: IndexType> Order<Ix> {
     }
 
     /// Puts a node first. The cost is that of `push`.
+    // Apart, so that what adds a node on either side stays small where it is inlined.
     #[inline(never)]
     pub fn push_first(&mut self, n: NodeIndex<Ix>) -> Result<(), AllocError>
         requires real { Ix.number n < Ix.greatest }
