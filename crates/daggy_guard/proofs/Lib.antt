@@ -10,3 +10,4 @@ pub mod ItemsSoFar
 pub mod ExtendAllLoop
 pub mod ElementsLoop
 pub mod FilledMatrix
+pub mod ParentsAsked

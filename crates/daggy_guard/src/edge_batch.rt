@@ -13,11 +13,12 @@ ghost use Rattle.daggy_guard.specs.EdgeBatch.{most_looks};
 ghost use Rattle.daggy_guard.specs.BatchProgress.{IsBatchSoFar, IsFault, item_looks, refusal};
 
 use crate::edge_indices::EdgeIndices;
+use crate::guard::make_way;
 use daggy_base::error::{EdgesError, WouldCycle};
 use daggy_base::index::{EdgeIndex, IndexType, NodeIndex};
 use daggy_base::search::Scratch;
 use daggy_base::store::Store;
-use daggy_order::order::{Order, order_edge};
+use daggy_order::order::Order;
 
 // What keeps an edge from being added, with its weight.
 #[derive(Drop)]
@@ -97,7 +98,7 @@ fn order_item<Ix: IndexType, S: Store<Ix>>(
     ensures same_capacity { scratch.new ≡ scratch.old }
 {
     let _well_formed = store.node_count();
-    cyclic || !order_edge(store, order, a, b, scratch)
+    cyclic || !make_way(store, order, scratch, a, b)
 }
 
 // Adds one edge of a batch, and notes its index. Room for its weight is taken first, for when it is

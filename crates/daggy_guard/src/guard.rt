@@ -1,22 +1,23 @@
 //! The changes that keep any store acyclic. Both kinds of dag are made of them.
 ghost use Rattle.std.specs.Prelude.{◌≡◌, ℕ, ◌+◌, ◌<◌, ◌≤◌, ◌↔◌, ◌⊎◌, true, false, List, Contains};
 ghost use Rattle.std.specs.Prelude.{map, Err, None, IfOk, OnOk, IfErr, OnErr, OnSome, IfSome};
-ghost use Rattle.std.specs.Prelude.{IfNone, IsOkAnd};
+ghost use Rattle.std.specs.Prelude.{IfNone, IsOkAnd, IsTrue};
 ghost use Rattle.daggy_base.specs.Graph.{Graph, HasNode, node_weight, node_count, edge_count};
 ghost use Rattle.daggy_base.specs.Graph.{node_bound};
-ghost use Rattle.daggy_base.specs.Path.{Reaches, IsAcyclic};
+ghost use Rattle.daggy_base.specs.Path.{AreJoined, Reaches, IsAcyclic};
 ghost use Rattle.daggy_base.specs.Adding.{next_node, next_edge, with_node, with_edge, with_link};
 ghost use Rattle.daggy_base.specs.Adding.{with_neighbor, ComesFirst};
 ghost use Rattle.daggy_base.specs.Finding.{find_edge as edge_between};
 ghost use Rattle.daggy_base.specs.Weights.{edge_weight, with_edge_weight};
 ghost use Rattle.daggy_base.specs.Removal.{without, renamed, without_edge, without_node};
-ghost use Rattle.daggy_order.specs.Ordered.{IsOrderOf};
+ghost use Rattle.daggy_order.specs.Ordered.{IsOrderOf, place};
 ghost use Rattle.daggy_guard.specs.NewNode.{IsAddedNode, with_end};
 ghost use Rattle.daggy_base.specs.declared.error.NodeError.TheVariants.{Memory as NodeMemory};
 ghost use Rattle.daggy_base.specs.declared.error.EdgeError.TheVariants.{WouldCycle as ByCycle};
 ghost use Rattle.daggy_base.specs.declared.error.EdgeError.TheVariants.{Memory as EdgeMemory};
 ghost use Rattle.daggy_base.specs.declared.error.ChildError.TheVariants.{Memory as ChildMemory};
 
+use crate::walk::step;
 use daggy_base::error::{ChildError, EdgeError, NodeError, WouldCycle};
 use daggy_base::index::{Direction, EdgeIndex, IndexType, NodeIndex};
 use daggy_base::search::Scratch;
@@ -131,6 +132,71 @@ pub fn add_node<Ix: IndexType, S: Store<Ix>>(
     put_node(store, order, scratch, Direction::Outgoing, weight)
 }
 
+// Of how many parents a node is asked before a search is begun in place of that.
+const FEW_PARENTS: usize = 4;
+
+// Whether all parents of `a` stand before `b`. Where there are many, the answer may be false though
+// they do.
+fn parents_stand_before<Ix: IndexType, S: Store<Ix>>(
+    store: &S,
+    order: &Order<Ix>,
+    a: NodeIndex<Ix>,
+    b: NodeIndex<Ix>,
+) -> bool
+    requires exists { HasNode (S.graph store.now) (Ix.number b) }
+    requires ordered { IsOrderOf (S.graph store.now) order.now }
+    ensures { IsTrue result → (u : ℕ) → AreJoined (S.graph store.now) u (Ix.number a)
+        → place order.now u < place order.now (Ix.number b) }
+{
+    let _well_formed = store.node_count();
+    let mut cursor = store.first_edge(a, Direction::Incoming);
+    'parents: for _i in 0..FEW_PARENTS {
+        let Some((_e, parent)) = step(store, Direction::Incoming, &mut cursor) else {
+            return true;
+        };
+        if !order.stands_before(parent, b) {
+            return false;
+        }
+    }
+    false
+}
+
+// Makes way in the order for an edge from `a` to `b`, unless a path leads from `b` to `a`.
+//
+// Where the parents of `a` all stand before `b`, `a` is put right before `b`, without a search. So
+// nodes that are added after their children, as where each one depends on older ones, cost no search.
+#[inline]
+pub(crate) fn make_way<Ix: IndexType, S: Store<Ix>>(
+    store: &mut S,
+    order: &mut Order<Ix>,
+    scratch: &mut Scratch<Ix>,
+    a: NodeIndex<Ix>,
+    b: NodeIndex<Ix>,
+) -> bool
+    requires parent { HasNode (S.graph store.old) (Ix.number a) }
+    requires child { HasNode (S.graph store.old) (Ix.number b) }
+    requires fits { node_bound (S.graph store.old) ≤ scratch.old.nodes }
+    requires ordered { IsOrderOf (S.graph store.old) order.old }
+    ensures decided { result ≡ false ↔ Reaches (S.graph store.old) (Ix.number b) (Ix.number a) }
+    ensures ordered { IsOrderOf (S.graph store.old) order.new }
+    ensures before { result ≡ true → place order.new (Ix.number a) < place order.new (Ix.number b) }
+    ensures same { S.graph store.new ≡ S.graph store.old }
+    ensures counted { S.looks store.new ≤ S.looks store.old + edge_count (S.graph store.old) }
+    ensures ready { Reaches (S.graph store.old) (Ix.number a) (Ix.number b)
+        → S.looks store.new ≡ S.looks store.old }
+    ensures same_capacity { scratch.new ≡ scratch.old }
+{
+    let _well_formed = store.node_count();
+    if order.stands_before(a, b) {
+        return true;
+    }
+    if a.index() != b.index() && parents_stand_before(store, order, a, b) {
+        order.move_before(a, b);
+        return true;
+    }
+    order_edge(store, order, a, b, scratch)
+}
+
 /// Adds an edge from `a` to `b`, unless a path leads from `b` to `a`. The order makes way for it.
 #[inline]
 pub fn add_edge<Ix: IndexType, S: Store<Ix>>(
@@ -163,7 +229,7 @@ pub fn add_edge<Ix: IndexType, S: Store<Ix>>(
     ensures same_capacity { scratch.new ≡ scratch.old }
 {
     let _well_formed = store.node_count();
-    if !order_edge(store, order, a, b, scratch) {
+    if !make_way(store, order, scratch, a, b) {
         return Err(EdgeError::WouldCycle(WouldCycle(weight)));
     }
     store.add_edge(a, b, weight)

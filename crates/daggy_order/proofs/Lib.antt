@@ -12,5 +12,6 @@ pub mod OrderSteps
 pub mod BoundedSearch
 pub mod SortedListChanges
 pub mod OrderLaws
+pub mod MovedForward
 pub mod RenumberedNodes
 pub mod Tails

@@ -1,6 +1,6 @@
 -- What the links of a list keep, as nodes are put in and taken out.
 use Rattle.std.proofs.Common.{◌≡◌, ◌≢◌, ℕ, zero, suc, ◌+◌, ◌<◌, ◌≤◌, ◌⊎◌, inl, inr, List, [], ◌∷◌, ◌++◌, length, get_or}
-use Rattle.std.proofs.Common.{min, not, eqb, cond, refl, sym, ap, subst, ◌∙◌, arith}
+use Rattle.std.proofs.Common.{min, not, eqb, cond, refl, sym, ap, subst, ◌∙◌, arith, append_assoc}
 use Rattle.std.proofs.lemmas.Bool.{eq-eqb}
 use Rattle.std.proofs.lemmas.List.{length-append}
 use Rattle.std.proofs.lemmas.List.Elements.{filter-append}
@@ -35,6 +35,39 @@ pub ended : (xs : List ℕ) → 0 < length xs → (ns : List ℕ) × (m : ℕ) �
 ended [] some = absurd (omega arith)
 ended (x ∷ []) some = ([], x, refl)
 ended (x ∷ (y ∷ ys)) some = let e = ended (y ∷ ys) (omega arith) in (x ∷ e.0, e.1, ap (λ (z : List ℕ). x ∷ z) e.2)
+
+-- what stands before an element
+pub before_cases : {xs : List ℕ} (ns : List ℕ) (b : ℕ) (ms : List ℕ) → xs ≡ ns ++ b ∷ ms
+    → ((ns ≡ []) × (xs ≡ b ∷ ms))
+    ⊎ ((ks : List ℕ) × (k : ℕ) × (ns ≡ ks ++ k ∷ []) × (xs ≡ ks ++ k ∷ (b ∷ ms)))
+before_cases [] b ms is = inl (refl, is)
+before_cases (x ∷ ns) b ms is =
+    let e = ended (x ∷ ns) (omega arith) in
+    inr (e.0, e.1, e.2, is ∙ (ap (λ (z : List ℕ). z ++ b ∷ ms) e.2 ∙ append_assoc e.0 (e.1 ∷ []) (b ∷ ms)))
+
+-- p stands before b, and n is put behind p
+module _ {end : ℕ} {old : List ℕ} {b p : ℕ} (none : (ms : List ℕ) → old ≡ b ∷ ms → p ≡ end)
+    (some : (ns ms : List ℕ) (m : ℕ) → old ≡ ns ++ m ∷ (b ∷ ms) → p ≡ m) (real : p ≢ end) where
+  pub before_it : (ns ms : List ℕ) → old ≡ ns ++ b ∷ ms
+      → (ks : List ℕ) × (ns ≡ ks ++ p ∷ []) × (old ≡ ks ++ p ∷ (b ∷ ms))
+  before_it ns ms is =
+      elim (before_cases ns b ms is) [
+        | inl first ↦ absurd (real (none ms first.1))
+        | inr c ↦ (
+            let p_is : c.1 ≡ p = sym (some c.0 ms c.1 c.3) in (
+              c.0,
+              c.2 ∙ ap (λ (z : ℕ). c.0 ++ z ∷ []) p_is,
+              c.3 ∙ ap (λ (z : ℕ). c.0 ++ z ∷ (b ∷ ms)) p_is,
+            )
+            )
+      ]
+
+  pub put_is : {new : List ℕ} {n : ℕ} → ((ns ms : List ℕ) → old ≡ ns ++ p ∷ ms → new ≡ ns ++ p ∷ (n ∷ ms))
+      → (ns ms : List ℕ) → old ≡ ns ++ b ∷ ms → new ≡ ns ++ n ∷ (b ∷ ms)
+  put_is {new} {n} put ns ms is =
+      let w = before_it ns ms is in
+      put w.0 (b ∷ ms) w.2
+      ∙ (sym (append_assoc w.0 (p ∷ []) (n ∷ (b ∷ ms))) ∙ ap (λ (z : List ℕ). z ++ n ∷ (b ∷ ms)) (sym w.1))
 
 pub length_walk : (end : ℕ) (next : List ℕ) (from count : ℕ) → length (nodes_from end next from count) ≡ count
 length_walk end next from zero = refl
@@ -164,6 +197,25 @@ module _ {end : ℕ} {next previous : List ℕ} {first last : ℕ} {xs : List �
           → neighbor end first next p ≡ first_of end ys
       head p [] c = c.0
       head p (y ∷ ys) c = c.0
+
+  -- what stands before a node
+  pub previous_none : (n : ℕ) (vs : List ℕ) → xs ≡ n ∷ vs → get_or previous n end ≡ end
+  previous_none n vs is =
+      let P : List ℕ → Type 0 = λ z. IsLinkChain (neighbor end first next) (neighbor end last previous) end z end in
+      let Q : List ℕ → Type 0 = λ z. Mem n z in
+      let real : n ≢ end = λ e.
+      once.0 (let A : ℕ → Type 0 = λ z. Mem z xs in subst A e (subst Q (sym is) (inl refl))) in
+      sym (neighbor_node end last previous n real) ∙ (subst P is s.chained).1
+
+  pub previous_is : (us : List ℕ) (m n : ℕ) (vs : List ℕ) → xs ≡ us ++ m ∷ (n ∷ vs) → get_or previous n end ≡ m
+  previous_is us m n vs is =
+      let P : List ℕ → Type 0 = λ z. IsLinkChain (neighbor end first next) (neighbor end last previous) end z end in
+      let Q : List ℕ → Type 0 = λ z. Mem n z in
+      let c =
+      chain_right (neighbor end first next) (neighbor end last previous) end us m (n ∷ vs) end (subst P is s.chained) in
+      let real : n ≢ end = λ e. once.0
+      (let A : ℕ → Type 0 = λ z. Mem z xs in subst A e (subst Q (sym is) (mem_right us (m ∷ (n ∷ vs)) n (inr (inl refl))))) in
+      sym (neighbor_node end last previous n real) ∙ c.1
 
   -- the links of a node lead to nodes, or to the end
   pub leads_within : (m : ℕ) → Mem m (xs ++ end ∷ []) → (m ≡ end) ⊎ (m < length previous)

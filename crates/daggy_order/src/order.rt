@@ -1,5 +1,5 @@
 //! An order of nodes.
-ghost use Rattle.std.specs.Prelude.{◌≡◌, ℕ, ◌<◌, ◌≤◌, ◌↔◌, ◌⊎◌, [], ◌∷◌, ◌++◌, length, slice_index};
+ghost use Rattle.std.specs.Prelude.{◌≡◌, ◌≢◌, ℕ, List, ◌<◌, ◌≤◌, ◌↔◌, ◌⊎◌, [], ◌∷◌, ◌++◌, length, slice_index};
 ghost use Rattle.std.specs.Prelude.{map, IsTrue, Contains, OnOk, OnErr, IfOk};
 ghost use Rattle.daggy_base.specs.Removal.{without, renamed};
 ghost use Rattle.daggy_base.specs.WellFormed.{AreDistinct};
@@ -201,6 +201,20 @@ impl<Ix: IndexType> Order<Ix> {
         self.written.push_first(n)?;
         self.tail.from = self.tail.from.max(n.index() + 1);
         Ok(())
+    }
+
+    /// Puts a node of it right before another. Constant time, but for nodes that are still to be
+    /// written, and where there is no room for its label.
+    #[inline(never)]
+    pub fn move_before(&mut self, n: NodeIndex<Ix>, b: NodeIndex<Ix>)
+        requires held { Contains self.old (Ix.number n) }
+        requires there { Contains self.old (Ix.number b) }
+        requires differ { Ix.number n ≢ Ix.number b }
+        ensures { (ns ms : List ℕ) → without (Ix.number n) self.old ≡ ns ++ Ix.number b ∷ ms
+            → self.new ≡ ns ++ Ix.number n ∷ (Ix.number b ∷ ms) }
+    {
+        self.tail = self.written.settle(self.tail);
+        self.written.move_before(n, b);
     }
 
     /// At which place a node of it stands. The nodes before it are counted.

@@ -205,6 +205,17 @@ impl<Ix: IndexType> Links<Ix> {
         self.next[n.index()]
     }
 
+    // The node that stands before a node, or `end`.
+    #[inline]
+    pub(crate) fn previous(&self, n: Link<Ix>) -> Link<Ix>
+        requires { Contains self.now.nodes n }
+        ensures none { (ms : List ℕ) → self.now.nodes ≡ n ∷ ms → result ≡ Ix.greatest }
+        ensures some { (ns ms : List ℕ) (m : ℕ)
+            → self.now.nodes ≡ ns ++ m ∷ (n ∷ ms) → result ≡ m }
+    {
+        self.previous[n.index()]
+    }
+
     // Makes room for a node. Memory that is refused leaves the nodes as they were.
     #[inline]
     pub(crate) fn make_room(&mut self, n: usize) -> Result<(), AllocError>

@@ -1,5 +1,5 @@
 //! The nodes of an order that are written, as links and labels.
-ghost use Rattle.std.specs.Prelude.{◌≡◌, ℕ, ◌+◌, ◌<◌, ◌≤◌, ◌↔◌, [], ◌∷◌, ◌++◌, List, length};
+ghost use Rattle.std.specs.Prelude.{◌≡◌, ◌≢◌, ℕ, ◌+◌, ◌<◌, ◌≤◌, ◌↔◌, [], ◌∷◌, ◌++◌, List, length};
 ghost use Rattle.std.specs.Prelude.{slice_index, map, vec_len, IsTrue, Contains, OnOk, OnErr, IfOk};
 ghost use Rattle.daggy_base.specs.Cursor.{first_of};
 ghost use Rattle.daggy_base.specs.Removal.{without, renamed};
@@ -8,7 +8,7 @@ ghost use Rattle.daggy_order.specs.Ordered.{place};
 ghost use Rattle.std.specs.List.{range_with_len};
 ghost use Rattle.daggy_order.specs.Links.{IsLabelled, IsTailed};
 
-use crate::order::labels::{label_first, label_last};
+use crate::order::labels::{label_first, label_last, spread};
 use crate::order::links::{Links, grow, lengthen_for, reserve_to};
 use daggy_base::index::{IndexType, NodeIndex};
 use daggy_base::link::Link;
@@ -62,6 +62,61 @@ fn put_last<Ix: IndexType>(links: &mut Links<Ix>, labels: &mut Vec<u64>, n: Link
     let last = links.last();
     links.put_last(n);
     label_last(links, labels, last, n);
+}
+
+// Puts a node first, for which there is room.
+#[inline]
+fn put_first<Ix: IndexType>(links: &mut Links<Ix>, labels: &mut Vec<u64>, n: Link<Ix>)
+    requires labelled { IsLabelled labels.old.items links.old.nodes }
+    requires real { n ≢ Ix.greatest }
+    requires absent { ¬ Contains links.old.nodes n }
+    requires index_bound { n < links.old.index_bound }
+    requires labels_fit { n < vec_len labels.old }
+    ensures nodes { links.new.nodes ≡ n ∷ links.old.nodes }
+    ensures labelled { IsLabelled labels.new.items links.new.nodes }
+{
+    let first = links.first();
+    links.put_first(n);
+    label_first(links, labels, first, n);
+}
+
+// Puts a node before another, for which there is room.
+fn put_before<Ix: IndexType>(links: &mut Links<Ix>, labels: &mut Vec<u64>, b: Link<Ix>, n: Link<Ix>)
+    requires labelled { IsLabelled labels.old.items links.old.nodes }
+    requires held { Contains links.old.nodes b }
+    requires real { n ≢ Ix.greatest }
+    requires absent { ¬ Contains links.old.nodes n }
+    requires index_bound { n < links.old.index_bound }
+    requires labels_fit { n < vec_len labels.old }
+    ensures nodes { (ns ms : List ℕ)
+        → links.old.nodes ≡ ns ++ b ∷ ms → links.new.nodes ≡ ns ++ n ∷ (b ∷ ms) }
+    ensures labelled { IsLabelled labels.new.items links.new.nodes }
+{
+    let _count = links.len();
+    let p = links.previous(b);
+    if p.index() == Link::<Ix>::end().index() {
+        put_first(links, labels, n);
+    } else {
+        links.put_behind(p, n);
+        spread(links, labels, p, n, 1, b);
+    }
+}
+
+// Takes a node out.
+#[inline]
+fn take_out<Ix: IndexType>(links: &mut Links<Ix>, labels: &mut Vec<u64>, n: NodeIndex<Ix>)
+    requires labelled { IsLabelled labels.old.items links.old.nodes }
+    requires held { Contains links.old.nodes (Ix.number n) }
+    ensures nodes { links.new.nodes ≡ without (Ix.number n) links.old.nodes }
+    ensures labelled { IsLabelled labels.new.items links.new.nodes }
+    ensures absent { ¬ Contains links.new.nodes (Ix.number n) }
+    ensures real { Ix.number n ≢ Ix.greatest }
+    ensures index_bound { Ix.number n < links.new.index_bound }
+    ensures labels_fit { Ix.number n < vec_len labels.new }
+{
+    let _count = links.len();
+    labels[n.index()] = 0;
+    links.remove(Link::of_node(n));
 }
 
 // Puts nodes in turn last, for which there is room.
@@ -207,8 +262,7 @@ impl<Ix: IndexType> Written<Ix> {
         requires { Contains self.old.nodes (Ix.number n) }
         ensures { self.new.nodes ≡ without (Ix.number n) self.old.nodes }
     {
-        self.labels[n.index()] = 0;
-        self.links.remove(Link::of_node(n));
+        take_out(&mut self.links, &mut self.labels, n);
     }
 
     // Gives a node the index `m` in its place, as where a graph moves its last node into a gap.
@@ -241,11 +295,25 @@ impl<Ix: IndexType> Written<Ix> {
         let i = n.index();
         self.links.make_room(i)?;
         grow(&mut self.labels, i, 0)?;
-        let first = self.links.first();
-        let n = Link::of_node(n);
-        self.links.put_first(n);
-        label_first(&self.links, &mut self.labels, first, n);
+        put_first(&mut self.links, &mut self.labels, Link::of_node(n));
         Ok(())
+    }
+
+    // Puts a node of it before another. Constant time, but where labels leave no room.
+    pub(crate) fn move_before(&mut self, n: NodeIndex<Ix>, b: NodeIndex<Ix>)
+        requires held { Contains self.old.nodes (Ix.number n) }
+        requires there { Contains self.old.nodes (Ix.number b) }
+        requires differ { Ix.number n ≢ Ix.number b }
+        ensures { (ns ms : List ℕ) → without (Ix.number n) self.old.nodes ≡ ns ++ Ix.number b ∷ ms
+            → self.new.nodes ≡ ns ++ Ix.number n ∷ (Ix.number b ∷ ms) }
+    {
+        take_out(&mut self.links, &mut self.labels, n);
+        put_before(
+            &mut self.links,
+            &mut self.labels,
+            Link::of_node(b),
+            Link::of_node(n),
+        );
     }
 
     // At which place a node of it stands. The nodes before it are counted.

@@ -1,0 +1,66 @@
+use Rattle.std.proofs.Common.{◌≢◌, ◌≤◌, ◌∙◌, inl, inr, sym, arith}
+use Rattle.std.proofs.lemmas.Bool.{false≢true, cases_lt}
+use Rattle.daggy_order.specs.Ordered.{place}
+use Rattle.daggy_order.proofs.MovedForward.{order_moved_before}
+use Rattle.daggy_guard.proofs.OrderAfterChange.{few_edges, no_later}
+use Rattle.daggy_guard.proofs.ParentsAsked.{not_reached}
+use Rattle.daggy_guard.proofs.guard.make_way.Goals as goal
+
+pub returns-then-stands_before-clause-decided : goal.returns-then-stands_before-clause-decided
+returns-then-stands_before-clause-decided g c = (
+  λ h. absurd (false≢true (sym h)),
+  λ r. absurd (omega (arith, c.stands_before.ensures.0 c.if-stands_before.true, no_later c.requires.ordered _ _ r)),
+)
+
+pub returns-then-parents_stand_before-clause-decided : goal.returns-then-parents_stand_before-clause-decided
+returns-then-parents_stand_before-clause-decided g c =
+    let a = g.Ix.IndexType.number c.args.a in
+    let b = g.Ix.IndexType.number c.args.b in
+    let differs : b ≢ a = λ e.
+    c.if-index.true (c.index.ensures.value ∙ (sym e ∙ sym c.index-2.ensures.value)) in
+    let parents = c.parents_stand_before.ensures c.if-parents_stand_before.true in (
+      λ h. absurd (false≢true (sym h)),
+      λ r. absurd (not_reached (g.S.EdgeSource.graph c.args.store.now) c.args.order.now a b c.requires.ordered differs
+          parents r),
+    )
+
+pub returns-then-parents_stand_before-clause-ordered : goal.returns-then-parents_stand_before-clause-ordered
+returns-then-parents_stand_before-clause-ordered g c =
+    let a = g.Ix.IndexType.number c.args.a in
+    let b = g.Ix.IndexType.number c.args.b in
+    let differs : a ≢ b = λ e. c.if-index.true (c.index.ensures.value ∙ (e ∙ sym c.index-2.ensures.value)) in
+    let behind : place c.args.order.now b ≤ place c.args.order.now a =
+    elim (cases_lt (place c.args.order.now a) (place c.args.order.now b)) [
+      | inl l ↦ absurd (false≢true (sym c.if-stands_before.false ∙ c.stands_before.ensures.1 l))
+      | inr h ↦ h
+    ] in
+    (order_moved_before c.node_count-well_formed.ensures.well_formed c.args.order.now a b c.requires.ordered differs behind
+    (c.parents_stand_before.ensures c.if-parents_stand_before.true) c.requires.parent c.requires.child
+    c.move_before.new.self c.move_before.ensures).0
+
+pub returns-then-parents_stand_before-clause-before : goal.returns-then-parents_stand_before-clause-before
+returns-then-parents_stand_before-clause-before g c t =
+    let a = g.Ix.IndexType.number c.args.a in
+    let b = g.Ix.IndexType.number c.args.b in
+    let differs : a ≢ b = λ e. c.if-index.true (c.index.ensures.value ∙ (e ∙ sym c.index-2.ensures.value)) in
+    let behind : place c.args.order.now b ≤ place c.args.order.now a =
+    elim (cases_lt (place c.args.order.now a) (place c.args.order.now b)) [
+      | inl l ↦ absurd (false≢true (sym c.if-stands_before.false ∙ c.stands_before.ensures.1 l))
+      | inr h ↦ h
+    ] in
+    (order_moved_before c.node_count-well_formed.ensures.well_formed c.args.order.now a b c.requires.ordered differs behind
+    (c.parents_stand_before.ensures c.if-parents_stand_before.true) c.requires.parent c.requires.child
+    c.move_before.new.self c.move_before.ensures).1
+
+pub returns-clause-counted : goal.returns-clause-counted
+returns-clause-counted g c =
+    let low = place c.args.order.now (g.Ix.IndexType.number c.args.b) in
+    let high = place c.args.order.now (g.Ix.IndexType.number c.args.a) in
+    omega (
+      arith,
+      few_edges c.node_count-well_formed.ensures.well_formed c.requires.ordered low high,
+      c.order_edge.ensures.counted,
+    )
+
+pub returns-clause-ready : goal.returns-clause-ready
+returns-clause-ready g c r = c.order_edge.ensures.unlooked (no_later c.requires.ordered _ _ r)
