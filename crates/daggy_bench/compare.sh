@@ -64,6 +64,7 @@ workload 11 build_sorted 100000 500000
 workload 5 build_random 10000 100000
 workload 3 build_lowhigh 3000 100000
 workload 3 build_mixed 10000 100000
+workload 15 build_older 100000 500000
 workload 21 add_edges 100000 500000
 workload 21 add_child_tree 1000000 0
 workload 21 walk_children 100000 500000

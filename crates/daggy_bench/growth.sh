@@ -22,11 +22,11 @@ grow() { # NAME NODES EDGES NODE_FACTOR EDGE_FACTOR ..: three sizes
 
 echo "| Workload | first nodes, edges | first, s | doubled | doubled again | growth | growth again |"
 echo "|---|---|---|---|---|---|---|"
-for name in build_sorted build_random build_lowhigh build_mixed add_edges walk_children fold_children take_even edge_list \
+for name in build_sorted build_random build_lowhigh build_older build_mixed add_edges walk_children fold_children take_even edge_list \
   map_weights copy remove_edges remove_nodes plan json_write json_read; do
   case $name in
     build_mixed) grow $name 5000 50000 2 2 ;;
-    build_random | build_lowhigh) grow $name 25000 250000 2 2 ;;
+    build_random | build_lowhigh | build_older) grow $name 25000 250000 2 2 ;;
     *) grow $name 50000 250000 2 2 ;;
   esac
 done

@@ -1,7 +1,9 @@
 //! Dags that are made of lists of edges.
 use crate::figures::{Figures, since};
 use crate::graph::{Graph, weight_of};
-use crate::inputs::{Pairs, Sizes, low_high_pairs, mixed_pairs, random_pairs, sorted_pairs};
+use crate::inputs::{
+    Pairs, Sizes, low_high_pairs, mixed_pairs, older_pairs, random_pairs, sorted_pairs,
+};
 use crate::random::Random;
 use std::alloc::{AllocError, Global};
 use std::io;
@@ -13,6 +15,7 @@ pub enum Input {
     Random,
     LowHigh,
     Sorted,
+    Older,
     Mixed,
 }
 
@@ -22,6 +25,7 @@ impl Input {
             Input::Random => random_pairs(alloc, sizes),
             Input::LowHigh => low_high_pairs(alloc, sizes),
             Input::Sorted => sorted_pairs(alloc, sizes),
+            Input::Older => older_pairs(alloc, sizes),
             Input::Mixed => mixed_pairs(alloc, sizes),
         }
     }

@@ -71,6 +71,18 @@ pub fn sorted_pairs(alloc: Global, sizes: Sizes) -> Result<Pairs, AllocError> {
     Ok(pairs)
 }
 
+/// Edges from each node in turn to older ones, as where each depends on what was there before it.
+pub fn older_pairs(alloc: Global, sizes: Sizes) -> Result<Pairs, AllocError> {
+    let mut random = Random::new(1);
+    let mut pairs = Vec::new(alloc);
+    for i in 1..sizes.nodes {
+        for _ in 0..sizes.edges / sizes.nodes {
+            pairs.push((i, random.below(i)))?;
+        }
+    }
+    Ok(pairs)
+}
+
 /// Edges between any two nodes. About half of them close a cycle.
 pub fn mixed_pairs(alloc: Global, sizes: Sizes) -> Result<Pairs, AllocError> {
     let mut random = Random::new(1);

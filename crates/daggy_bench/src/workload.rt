@@ -41,6 +41,7 @@ impl Workload {
             "build_random" => Some(Workload::Build(Input::Random)),
             "build_lowhigh" => Some(Workload::Build(Input::LowHigh)),
             "build_sorted" => Some(Workload::Build(Input::Sorted)),
+            "build_older" => Some(Workload::Build(Input::Older)),
             "build_mixed" => Some(Workload::Build(Input::Mixed)),
             "add_edges" => Some(Workload::AddEdges),
             "add_child_tree" => Some(Workload::AddChildTree),

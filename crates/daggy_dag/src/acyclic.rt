@@ -230,8 +230,9 @@ where
     /// Adds an edge from `a` to `b`, and gives its index.
     ///
     /// The refusal `WouldCycle` says that a path leads from `b` to `a`, so the edge would close a
-    /// cycle. It is decided first, and cannot fail: where `a` stands before `b` in the order that
-    /// the dag keeps, no edge is looked at, and otherwise a search from `b` goes no further than
+    /// cycle. It is decided first, and cannot fail. Constant time if `a` stands before `b` in the
+    /// order that the dag keeps, or if few edges lead to `a`, all of them from nodes that stand
+    /// before `b`, as where `a` was just added. Otherwise a search from `b` goes no further than
     /// the place of `a`. The refusal `Memory` says that there was no memory for the edge.
     #[inline]
     pub fn add_edge(

@@ -29,6 +29,14 @@ fn rename(rt: &impl Abort, order: &mut Order<u8>, n: usize, m: usize) {
     order.rename(n, m);
 }
 
+fn move_before(rt: &impl Abort, order: &mut Order<u8>, n: usize, m: usize) {
+    holds(rt, n < 255 && m < 255 && n != m);
+    let (n, m) = (NodeIndex::new(n), NodeIndex::new(m));
+    holds(rt, order.holds(n));
+    holds(rt, order.holds(m));
+    order.move_before(n, m);
+}
+
 #[test]
 fn nodes_come_and_go(rt: HostRuntime) {
     let mut order: Order<u8> = Order::new(rt.alloc());
@@ -93,4 +101,31 @@ fn many_nodes_are_taken_out(rt: HostRuntime) {
         remove(&rt, &mut order, n);
     }
     lists(&rt, &order, &[198, 197, 199]);
+}
+
+#[test]
+fn a_node_is_put_before_another(rt: HostRuntime) {
+    let mut order: Order<u8> = Order::new(rt.alloc());
+    for n in 0..5 {
+        push(&rt, &mut order, n, false);
+    }
+    for (n, m) in [(4, 1), (3, 0), (0, 2), (2, 0)] {
+        move_before(&rt, &mut order, n, m);
+    }
+    lists(&rt, &order, &[3, 4, 1, 2, 0]);
+}
+
+#[test]
+fn many_nodes_are_put_before_one(rt: HostRuntime) {
+    let mut order: Order<u8> = Order::new(rt.alloc());
+    for n in 0..200 {
+        push(&rt, &mut order, n, false);
+    }
+    for n in 2..200 {
+        move_before(&rt, &mut order, n, 1);
+    }
+    for n in 0..196 {
+        remove(&rt, &mut order, if n == 1 { 196 } else { n });
+    }
+    lists(&rt, &order, &[197, 198, 199, 1]);
 }
