@@ -1,5 +1,5 @@
 -- A node that is asked for its parents, one by one.
-use Rattle.std.proofs.Common.{◌≡◌, ◌≢◌, ℕ, suc, ◌<◌, ◌≤◌, inl, inr, Some, None, Option, List, length, get_or, drop}
+use Rattle.std.proofs.Common.{◌≡◌, ◌≢◌, ℕ, suc, ◌<◌, ◌≤◌, inl, inr, Some, None, Option, List, [], ◌∷◌, length, get_or, drop}
 use Rattle.std.proofs.Common.{refl, sym, subst, ap, ◌∙◌, arith}
 use Rattle.std.proofs.lemmas.Bool.{cases_lt}
 use Rattle.std.proofs.lemmas.Option.{same_Some}
@@ -102,6 +102,18 @@ module _ {N E : Type 0} {end : ℕ} {g : Graph N E} (f : IsWellFormed end g) {or
               )
         ];
       }
+
+-- no parent is left from the start
+pub no_parent : {N E : Type 0} {end : ℕ} {g : Graph N E} → IsWellFormed end g → (n : ℕ)
+    → first_of end (in_list g n) ≡ end → (u : ℕ) → AreJoined g u n → ⊥
+no_parent {N} {E} {end} {g} f n is u j =
+    let m = contains_mem (in_list g n) j.0 ((f.in_of.exact n j.0).1 (_, j.2, refl)) in
+    let x = (f.in_of.exact n end).0 (mem_contains (in_list g n) end (at_end (in_list g n) m is)) in
+    absurd (omega (arith, edge_below end g f end x.0 x.1))
+  where
+    at_end : (xs : List ℕ) → Mem j.0 xs → first_of end xs ≡ end → Mem end xs
+    at_end [] h e = absurd h
+    at_end (x ∷ xs) h e = inl (sym e)
 
 -- a node is not reached from where all its parents stand before
 pub not_reached : {N E : Type 0} (g : Graph N E) (order : List ℕ) (a b : ℕ) → IsOrderOf g order → b ≢ a

@@ -132,6 +132,15 @@ pub fn add_node<Ix: IndexType, S: Store<Ix>>(
     put_node(store, order, scratch, Direction::Outgoing, weight)
 }
 
+// Whether an edge leads to a node.
+#[inline]
+fn has_parents<Ix: IndexType, S: Store<Ix>>(store: &S, n: NodeIndex<Ix>) -> bool
+    ensures { result ≡ false → (u : ℕ) → ¬ AreJoined (S.graph store.now) u (Ix.number n) }
+{
+    let _well_formed = store.node_count();
+    store.first_edge(n, Direction::Incoming).index() != EdgeIndex::<Ix>::end().index()
+}
+
 // Of how many parents a node is asked before a search is begun in place of that.
 const FEW_PARENTS: usize = 4;
 
@@ -163,8 +172,9 @@ fn parents_stand_before<Ix: IndexType, S: Store<Ix>>(
 
 // Makes way in the order for an edge from `a` to `b`, unless a path leads from `b` to `a`.
 //
-// Where the parents of `a` all stand before `b`, `a` is put right before `b`, without a search. So
-// nodes that are added after their children, as where each one depends on older ones, cost no search.
+// Where no edge leads to `a` it is put first, and where its parents all stand before `b` it is put
+// right before `b`, without a search. So nodes that are added after their children, as where each
+// one depends on older ones, cost no search.
 #[inline]
 pub(crate) fn make_way<Ix: IndexType, S: Store<Ix>>(
     store: &mut S,
@@ -190,9 +200,15 @@ pub(crate) fn make_way<Ix: IndexType, S: Store<Ix>>(
     if order.stands_before(a, b) {
         return true;
     }
-    if a.index() != b.index() && parents_stand_before(store, order, a, b) {
-        order.move_before(a, b);
-        return true;
+    if a.index() != b.index() {
+        if !has_parents(store, a) {
+            order.move_first(a);
+            return true;
+        }
+        if parents_stand_before(store, order, a, b) {
+            order.move_before(a, b);
+            return true;
+        }
     }
     order_edge(store, order, a, b, scratch)
 }

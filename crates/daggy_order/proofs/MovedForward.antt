@@ -1,6 +1,7 @@
--- A node that is put in front of another, where an order stays one.
-use Rattle.std.proofs.Common.{◌≡◌, ◌≢◌, ℕ, ◌<◌, ◌≤◌, inl, inr, List, ◌∷◌, ◌++◌}
+-- A node that is put first, or right before another, where an order stays one.
+use Rattle.std.proofs.Common.{◌≡◌, ◌≢◌, ℕ, ◌<◌, ◌≤◌, inl, inr, Bool, true, not, eqb, List, ◌∷◌, ◌++◌}
 use Rattle.std.proofs.Common.{refl, sym, ap, subst, ◌∙◌, arith, append_assoc}
+use Rattle.std.proofs.lemmas.Bool.{cases_eq}
 use Rattle.daggy_base.specs.Graph.{Graph, HasNode}
 use Rattle.daggy_base.specs.Path.{AreJoined}
 use Rattle.daggy_base.specs.Removal.{without}
@@ -9,9 +10,34 @@ use Rattle.daggy_base.proofs.Lists.{Mem, Unique, mem_mid, mem_into, mem_out, mem
 use Rattle.daggy_order.specs.Ordered.{IsOrderOf, place}
 use Rattle.daggy_order.proofs.Sorted.{Sorted, place_same, place_other, place_left, place_right, unique_cross}
 use Rattle.daggy_order.proofs.Sorted.{sorted_append, sorted_left, sorted_right, sorted_cross}
+use Rattle.daggy_order.proofs.ListParts.{is_held, held_is}
+use Rattle.daggy_order.proofs.SortedListChanges.{Lists, lists_filtered, lists_first}
 use Rattle.daggy_order.proofs.BoundedSearch.{split_at}
 use Rattle.daggy_order.proofs.LinkedNodes.{without_mid, unique_without, not_before, not_behind}
 use Rattle.daggy_order.proofs.OrderLaws.{ends_exist, lists_from_order, order_from_lists}
+
+-- a node to which no edge leads is put first
+pub order_moved_first : {N E : Type 0} {end : ℕ} {g : Graph N E} → IsWellFormed end g → (order : List ℕ) (n : ℕ)
+    → IsOrderOf g order → HasNode g n → ((u : ℕ) → AreJoined g u n → ⊥) → IsOrderOf g (n ∷ without n order)
+order_moved_first {N} {E} {end} {g} f order n ord exists parentless =
+    let test : ℕ → Bool = λ m. not (eqb m n) in
+    let Other : ℕ → Type 0 = λ m. HasNode g m × (test m ≡ true) in
+    let Apart : ℕ → ℕ → Type 0 = λ u v. AreJoined g u v × ((test u ≡ true) × (test v ≡ true)) in
+    let ends = ends_exist f in
+    let others : Lists Other Apart (without n order) =
+    lists_filtered order (lists_from_order order ord) test (λ m. (λ h. h, λ h. h)) (λ u v j. j.0) in
+    let child : (u v : ℕ) → AreJoined g u v → test v ≡ true = λ u v j.
+    is_held n v (λ e. parentless u (let P : ℕ → Type 0 = λ z. AreJoined g u z in subst P e j)) in
+    order_from_lists (n ∷ without n order) ends (lists_first (without n order) others n (λ h. held_is n n h.1 refl) (λ m. (
+      λ h. elim (cases_eq m n) [ inl e ↦ inr e | inr d ↦ inl (h, is_held n m d) ],
+      λ h. elim h [
+        | inl o ↦ o.0
+        | inr e ↦ (let P : ℕ → Type 0 = λ z. HasNode g z in subst P (sym e) exists)
+      ],
+    )) (λ u v j. elim (cases_eq u n) [
+      | inl e ↦ inr (e, ((ends u v j).1, child u v j))
+      | inr d ↦ inl (j, (is_held n u d, child u v j))
+    ]) (λ u v s. let both = ends u v s.0 in ((both.0, s.1.0), (both.1, s.1.1))))
 
 -- a node whose parents all stand before another is put right before that one
 module _ {N E : Type 0} {end : ℕ} {g : Graph N E} (f : IsWellFormed end g) (order : List ℕ) (a b : ℕ)

@@ -203,6 +203,17 @@ impl<Ix: IndexType> Order<Ix> {
         Ok(())
     }
 
+    /// Puts a node of it first. Constant time, but for nodes that are still to be written, and where
+    /// labels reach the start of their range.
+    #[inline(never)]
+    pub fn move_first(&mut self, n: NodeIndex<Ix>)
+        requires { Contains self.old (Ix.number n) }
+        ensures { self.new ≡ Ix.number n ∷ without (Ix.number n) self.old }
+    {
+        self.tail = self.written.settle(self.tail);
+        self.written.move_first(n);
+    }
+
     /// Puts a node of it right before another. Constant time, but for nodes that are still to be
     /// written, and where there is no room for its label.
     #[inline(never)]

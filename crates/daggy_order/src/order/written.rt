@@ -299,6 +299,15 @@ impl<Ix: IndexType> Written<Ix> {
         Ok(())
     }
 
+    // Puts a node of it first. Constant time, but where labels reach the start of their range.
+    pub(crate) fn move_first(&mut self, n: NodeIndex<Ix>)
+        requires { Contains self.old.nodes (Ix.number n) }
+        ensures { self.new.nodes ≡ Ix.number n ∷ without (Ix.number n) self.old.nodes }
+    {
+        take_out(&mut self.links, &mut self.labels, n);
+        put_first(&mut self.links, &mut self.labels, Link::of_node(n));
+    }
+
     // Puts a node of it before another. Constant time, but where labels leave no room.
     pub(crate) fn move_before(&mut self, n: NodeIndex<Ix>, b: NodeIndex<Ix>)
         requires held { Contains self.old.nodes (Ix.number n) }

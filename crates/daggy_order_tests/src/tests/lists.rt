@@ -29,6 +29,13 @@ fn rename(rt: &impl Abort, order: &mut Order<u8>, n: usize, m: usize) {
     order.rename(n, m);
 }
 
+fn move_first(rt: &impl Abort, order: &mut Order<u8>, n: usize) {
+    holds(rt, n < 255);
+    let n = NodeIndex::new(n);
+    holds(rt, order.holds(n));
+    order.move_first(n);
+}
+
 fn move_before(rt: &impl Abort, order: &mut Order<u8>, n: usize, m: usize) {
     holds(rt, n < 255 && m < 255 && n != m);
     let (n, m) = (NodeIndex::new(n), NodeIndex::new(m));
@@ -113,6 +120,11 @@ fn a_node_is_put_before_another(rt: HostRuntime) {
         move_before(&rt, &mut order, n, m);
     }
     lists(&rt, &order, &[3, 4, 1, 2, 0]);
+    move_first(&rt, &mut order, 2);
+    move_first(&rt, &mut order, 2);
+    push(&rt, &mut order, 5, false);
+    move_first(&rt, &mut order, 5);
+    lists(&rt, &order, &[5, 2, 3, 4, 1, 0]);
 }
 
 #[test]

@@ -1,7 +1,7 @@
 use Rattle.std.proofs.Common.{◌≢◌, ◌≤◌, ◌∙◌, inl, inr, sym, arith}
 use Rattle.std.proofs.lemmas.Bool.{false≢true, cases_lt}
 use Rattle.daggy_order.specs.Ordered.{place}
-use Rattle.daggy_order.proofs.MovedForward.{order_moved_before}
+use Rattle.daggy_order.proofs.MovedForward.{order_moved_before, order_moved_first}
 use Rattle.daggy_guard.proofs.OrderAfterChange.{few_edges, no_later}
 use Rattle.daggy_guard.proofs.ParentsAsked.{not_reached}
 use Rattle.daggy_guard.proofs.guard.make_way.Goals as goal
@@ -11,6 +11,23 @@ returns-then-stands_before-clause-decided g c = (
   λ h. absurd (false≢true (sym h)),
   λ r. absurd (omega (arith, c.stands_before.ensures.0 c.if-stands_before.true, no_later c.requires.ordered _ _ r)),
 )
+
+pub returns-then-not-has_parents-clause-decided : goal.returns-then-not-has_parents-clause-decided
+returns-then-not-has_parents-clause-decided g c =
+    let a = g.Ix.IndexType.number c.args.a in
+    let b = g.Ix.IndexType.number c.args.b in
+    let differs : b ≢ a = λ e.
+    c.if-index.true (c.index.ensures.value ∙ (sym e ∙ sym c.index-2.ensures.value)) in
+    let none = c.has_parents.ensures c.if-not-has_parents.true in (
+      λ h. absurd (false≢true (sym h)),
+      λ r. absurd (not_reached (g.S.EdgeSource.graph c.args.store.now) c.args.order.now a b c.requires.ordered differs
+          (λ u j. absurd (none u j)) r),
+    )
+
+pub returns-then-not-has_parents-clause-ordered : goal.returns-then-not-has_parents-clause-ordered
+returns-then-not-has_parents-clause-ordered g c =
+    rw c.move_first.ensures (order_moved_first c.node_count-well_formed.ensures.well_formed c.args.order.now _
+    c.requires.ordered c.requires.parent (c.has_parents.ensures c.if-not-has_parents.true))
 
 pub returns-then-parents_stand_before-clause-decided : goal.returns-then-parents_stand_before-clause-decided
 returns-then-parents_stand_before-clause-decided g c =
