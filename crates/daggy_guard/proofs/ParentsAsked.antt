@@ -1,6 +1,6 @@
 -- A node that is asked for its parents, one by one.
-use Rattle.std.proofs.Common.{◌≡◌, ◌≢◌, ℕ, suc, ◌<◌, ◌≤◌, inl, inr, Some, None, Option, List, [], ◌∷◌, length, get_or, drop}
-use Rattle.std.proofs.Common.{refl, sym, subst, ap, ◌∙◌, arith}
+use Rattle.std.proofs.Common.{◌≡◌, ◌≢◌, ℕ, suc, ◌<◌, ◌≤◌, inl, inr, Some, None, Option, List, [], ◌∷◌, length}
+use Rattle.std.proofs.Common.{get_or, drop, refl, sym, subst, ap, ◌∙◌, arith}
 use Rattle.std.proofs.lemmas.Bool.{cases_lt}
 use Rattle.std.proofs.lemmas.Option.{same_Some}
 use Rattle.daggy_base.specs.declared.index.Direction.TheVariants.{Incoming}
@@ -97,7 +97,8 @@ module _ {N E : Type 0} {end : ℕ} {g : Graph N E} (f : IsWellFormed end g) {or
           | inr l ↦ (
               let last : k ≡ s.passed = omega (arith, h, l) in
               let z_is : z ≡ x.0 =
-              same_Some _ _ (sym is ∙ (ap (λ i. edge_at g (get_or list i end)) last ∙ (ap (edge_at g) (sym at) ∙ x.1))) in
+              same_Some _ _
+              (sym is ∙ (ap (λ i. edge_at g (get_or list i end)) last ∙ (ap (edge_at g) (sym at) ∙ x.1))) in
               omega (arith, before, ap (place order) x.2, ap (λ (w : Edge E). place order w.parent) z_is)
               )
         ];

@@ -214,7 +214,8 @@ module _ {end : ℕ} {next previous : List ℕ} {first last : ℕ} {xs : List �
       let c =
       chain_right (neighbor end first next) (neighbor end last previous) end us m (n ∷ vs) end (subst P is s.chained) in
       let real : n ≢ end = λ e. once.0
-      (let A : ℕ → Type 0 = λ z. Mem z xs in subst A e (subst Q (sym is) (mem_right us (m ∷ (n ∷ vs)) n (inr (inl refl))))) in
+      (let A : ℕ → Type 0 = λ z. Mem z xs in
+      subst A e (subst Q (sym is) (mem_right us (m ∷ (n ∷ vs)) n (inr (inl refl))))) in
       sym (neighbor_node end last previous n real) ∙ c.1
 
   -- the links of a node lead to nodes, or to the end

@@ -6,7 +6,8 @@ use Rattle.daggy_base.specs.Graph.{Graph, HasNode}
 use Rattle.daggy_base.specs.Path.{AreJoined}
 use Rattle.daggy_base.specs.Removal.{without}
 use Rattle.daggy_base.specs.WellFormed.{IsWellFormed}
-use Rattle.daggy_base.proofs.Lists.{Mem, Unique, mem_mid, mem_into, mem_out, mem_cases, unique_mid, unique_from_distinct}
+use Rattle.daggy_base.proofs.Lists.{Mem, Unique, mem_mid, mem_into, mem_out, mem_cases, unique_mid}
+use Rattle.daggy_base.proofs.Lists.{unique_from_distinct}
 use Rattle.daggy_order.specs.Ordered.{IsOrderOf, place}
 use Rattle.daggy_order.proofs.Sorted.{Sorted, place_same, place_other, place_left, place_right, unique_cross}
 use Rattle.daggy_order.proofs.Sorted.{sorted_append, sorted_left, sorted_right, sorted_cross}
@@ -28,7 +29,8 @@ order_moved_first {N} {E} {end} {g} f order n ord exists parentless =
     lists_filtered order (lists_from_order order ord) test (λ m. (λ h. h, λ h. h)) (λ u v j. j.0) in
     let child : (u v : ℕ) → AreJoined g u v → test v ≡ true = λ u v j.
     is_held n v (λ e. parentless u (let P : ℕ → Type 0 = λ z. AreJoined g u z in subst P e j)) in
-    order_from_lists (n ∷ without n order) ends (lists_first (without n order) others n (λ h. held_is n n h.1 refl) (λ m. (
+    order_from_lists (n ∷ without n order) ends (lists_first (without n order) others n (λ h. held_is n n h.1 refl)
+    (λ m. (
       λ h. elim (cases_eq m n) [ inl e ↦ inr e | inr d ↦ inl (h, is_held n m d) ],
       λ h. elim h [
         | inl o ↦ o.0

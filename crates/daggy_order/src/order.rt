@@ -1,6 +1,6 @@
 //! An order of nodes.
-ghost use Rattle.std.specs.Prelude.{◌≡◌, ◌≢◌, ℕ, List, ◌<◌, ◌≤◌, ◌↔◌, ◌⊎◌, [], ◌∷◌, ◌++◌, length, slice_index};
-ghost use Rattle.std.specs.Prelude.{map, IsTrue, Contains, OnOk, OnErr, IfOk};
+ghost use Rattle.std.specs.Prelude.{◌≡◌, ◌≢◌, ℕ, List, ◌<◌, ◌≤◌, ◌↔◌, ◌⊎◌, [], ◌∷◌, ◌++◌, length};
+ghost use Rattle.std.specs.Prelude.{slice_index, map, IsTrue, Contains, OnOk, OnErr, IfOk};
 ghost use Rattle.daggy_base.specs.Removal.{without, renamed};
 ghost use Rattle.daggy_base.specs.WellFormed.{AreDistinct};
 ghost use Rattle.daggy_order.specs.Ordered.{place};
@@ -203,8 +203,8 @@ impl<Ix: IndexType> Order<Ix> {
         Ok(())
     }
 
-    /// Puts a node of it first. Constant time, but for nodes that are still to be written, and where
-    /// labels reach the start of their range.
+    /// Puts a node of it first. Constant time, but for nodes that are still to be written, and
+    /// where labels reach the start of their range.
     #[inline(never)]
     pub fn move_first(&mut self, n: NodeIndex<Ix>)
         requires { Contains self.old (Ix.number n) }

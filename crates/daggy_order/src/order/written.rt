@@ -255,8 +255,8 @@ impl<Ix: IndexType> Written<Ix> {
         Ok(())
     }
 
-    // Takes a node out. Constant time. Apart, as `write_tail` is, so that `Order::remove` stays small
-    // where it is inlined.
+    // Takes a node out. Constant time. Apart, as `write_tail` is, so that `Order::remove` stays
+    // small where it is inlined.
     #[inline(never)]
     pub(crate) fn remove(&mut self, n: NodeIndex<Ix>)
         requires { Contains self.old.nodes (Ix.number n) }

@@ -51,8 +51,8 @@ returns-then-parents_stand_before-clause-ordered g c =
       | inl l ↦ absurd (false≢true (sym c.if-stands_before.false ∙ c.stands_before.ensures.1 l))
       | inr h ↦ h
     ] in
-    (order_moved_before c.node_count-well_formed.ensures.well_formed c.args.order.now a b c.requires.ordered differs behind
-    (c.parents_stand_before.ensures c.if-parents_stand_before.true) c.requires.parent c.requires.child
+    (order_moved_before c.node_count-well_formed.ensures.well_formed c.args.order.now a b c.requires.ordered differs
+    behind (c.parents_stand_before.ensures c.if-parents_stand_before.true) c.requires.parent c.requires.child
     c.move_before.new.self c.move_before.ensures).0
 
 pub returns-then-parents_stand_before-clause-before : goal.returns-then-parents_stand_before-clause-before
@@ -65,8 +65,8 @@ returns-then-parents_stand_before-clause-before g c t =
       | inl l ↦ absurd (false≢true (sym c.if-stands_before.false ∙ c.stands_before.ensures.1 l))
       | inr h ↦ h
     ] in
-    (order_moved_before c.node_count-well_formed.ensures.well_formed c.args.order.now a b c.requires.ordered differs behind
-    (c.parents_stand_before.ensures c.if-parents_stand_before.true) c.requires.parent c.requires.child
+    (order_moved_before c.node_count-well_formed.ensures.well_formed c.args.order.now a b c.requires.ordered differs
+    behind (c.parents_stand_before.ensures c.if-parents_stand_before.true) c.requires.parent c.requires.child
     c.move_before.new.self c.move_before.ensures).1
 
 pub returns-clause-counted : goal.returns-clause-counted

@@ -15,13 +15,15 @@ returns-then-index-clause-nodes g c ns ms is =
     elim (before_cases ns c.args.b ms is) [
       | inl none ↦ (
           c.put_first.ensures.nodes
-          ∙ (ap (λ (z : List ℕ). c.args.n ∷ z) none.1 ∙ ap (λ (z : List ℕ). z ++ c.args.n ∷ (c.args.b ∷ ms)) (sym none.0))
+          ∙ (ap (λ (z : List ℕ). c.args.n ∷ z) none.1
+          ∙ ap (λ (z : List ℕ). z ++ c.args.n ∷ (c.args.b ∷ ms)) (sym none.0))
           )
       | inr some ↦ (
           let P : List ℕ → Type 0 = λ z. Mem some.1 z in
           let Q : ℕ → Type 0 = λ z. Contains nodes z in
           let there : Mem some.1 nodes = subst P (sym some.3) (mem_mid some.0 (c.args.b ∷ ms) some.1) in
-          absurd (c.len-count.ensures.distinct.0 (subst Q (sym (c.previous-p.ensures.some some.0 ms some.1 some.3) ∙ ended)
+          absurd (c.len-count.ensures.distinct.0
+          (subst Q (sym (c.previous-p.ensures.some some.0 ms some.1 some.3) ∙ ended)
           (mem_contains nodes some.1 there)))
           )
     ]
