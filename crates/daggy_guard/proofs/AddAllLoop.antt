@@ -1,28 +1,32 @@
 -- The loop of `add_all`: the edges that were given so far are there.
-use Rattle.std.proofs.Common.{◌≡◌, ℕ, suc, ◌+◌, ◌<◌, ◌≤◌, inl, inr, Bool, true, false, Err, add-one, List, [], ◌∷◌}
+use Rattle.std.proofs.Common.{◌≡◌, ℕ, suc, ◌+◌, ◌<◌, ◌≤◌, ◌⊎◌, inl, inr, Err, add-one, List, [], ◌∷◌}
 use Rattle.std.proofs.Common.{◌++◌, map, length, take, reverse, Option, Vec, refl, sym, ap, subst, ◌∙◌, arith}
-use Rattle.std.proofs.lemmas.Bool.{false≢true, cases_lt, cases_Bool}
+use Rattle.std.proofs.lemmas.Bool.{cases_lt}
 use Rattle.std.proofs.lemmas.List.{length-append, length_push, length-map, length-reverse, map-append, take-append-le}
 use Rattle.std.specs.Iterator.{Yields, Drains}
-use Rattle.daggy_base.specs.Graph.{Graph, node_bound, edge_count}
-use Rattle.daggy_base.specs.Path.{Reaches, IsAcyclic}
+use Rattle.std.specs.Prelude.{◌↔◌, Contains}
+use Rattle.daggy_base.specs.Graph.{Graph, HasNode, node_bound, edge_count}
+use Rattle.daggy_base.specs.Path.{IsAcyclic}
 use Rattle.daggy_base.specs.Adding.{with_edge, next_edge}
 use Rattle.daggy_base.specs.Removal.{Kind, Compact}
 use Rattle.daggy_base.specs.Graph.{IsCompact}
 use Rattle.daggy_base.specs.WellFormed.{IsWellFormed}
 use Rattle.std.specs.declared.alloc.Global.{Global}
 use Rattle.daggy_base.proofs.PathsWithEdge.{free_edge, still_cyclic, cyclic_with_edge}
-use Rattle.daggy_order.specs.Ordered.{IsOrderOf, place}
+use Rattle.daggy_order.specs.Ordered.{IsOrderOf}
 use Rattle.daggy_order.proofs.OrderLaws.{order_with_edge}
 use Rattle.daggy_guard.specs.EdgeBatch.{NewEdge, by_numbers, with_edges, new_edges, HasEnds, IsFaultless, IsAdded}
 use Rattle.daggy_guard.specs.EdgeBatch.{IsFirstFault, ClosesCycle, IsRefused, LacksEnd, LacksIndex, LacksMemory}
 use Rattle.daggy_guard.specs.EdgeBatch.{weights_back, ordering_looks, most_looks}
-use Rattle.daggy_guard.specs.BatchProgress.{IsBatchSoFar, IsFault, item_looks, refusal}
+use Rattle.daggy_guard.specs.BatchProgress.{IsBatchSoFar, IsFault, IsKept, IsStep, item_looks, looks_left, refusal}
 use Rattle.daggy_guard.specs.declared.edge_batch.Fault.{Fault}
 use Rattle.daggy_guard.specs.declared.edge_batch.Fault.TheVariants.{BadEndpoint, Full, Memory}
+use Rattle.daggy_guard.specs.declared.edge_batch.Standing.{Standing}
+use Rattle.daggy_guard.specs.declared.edge_batch.Standing.TheVariants.{Kept, Left, Closed}
 use Rattle.daggy_guard.proofs.AcceptedEdges.{accepted_if_acyclic, acyclic_if_accepted, order_before_edges}
-use Rattle.daggy_guard.proofs.AcceptedEdges.{count_with_edges}
+use Rattle.daggy_guard.proofs.AcceptedEdges.{count_with_edge, count_with_edges}
 use Rattle.daggy_guard.proofs.OrderAfterChange.{order_kept}
+use Rattle.daggy_guard.proofs.StandingAfterEdge.{step_order, step_kept, step_closed, step_left}
 
 -- one edge more
 edges_more : {N E : Type 0} (g : Graph N E) (xs : List (NewEdge E)) (x : NewEdge E)
@@ -43,6 +47,12 @@ fault_more limit g (y ∷ ys) x f h r = (f.0, f.1, fault_more limit (with_edge g
 length-new_edges : {N E : Type 0} (g : Graph N E) (xs : List (NewEdge E)) → length (new_edges g xs) ≡ length xs
 length-new_edges g [] = refl
 length-new_edges g (x ∷ xs) = ap suc (length-new_edges (with_edge g x.0 x.1 x.2) xs)
+
+-- the same nodes
+same_nodes : {N E : Type 0} (g : Graph N E) (xs : List (NewEdge E)) (n : ℕ) {A : Type 0}
+    → A ↔ HasNode g n → A ↔ HasNode (with_edges g xs) n
+same_nodes g [] n h = h
+same_nodes g (x ∷ xs) n h = same_nodes (with_edge g x.0 x.1 x.2) xs n h
 
 take_front : {A : Type 0} (xs : List A) (x : A) (k : ℕ) → k ≤ length xs → take k (xs ++ x ∷ []) ≡ take k xs
 take_front xs x k h = take-append-le k xs (x ∷ []) h
@@ -83,24 +93,26 @@ module _ {N E : Type 0} {limit : ℕ} {kind : Kind} {before now : Graph N E} {xs
 
 pub record Adding {I N E : Type 0} (number : I → ℕ) (limit : ℕ) (kind : Kind) (before now : Graph N E)
     (given : List (I × I × E)) (edges : List ℕ) (slots : ℕ) (weights : List E)
-    (len₀ len₁ capacity node_capacity looks₀ looks : ℕ) (order : List ℕ) (cyclic : Bool) : Type 0 where
+    (len₀ len₁ capacity node_capacity looks₀ looks : ℕ) (order : List ℕ) (standing : Standing) : Type 0 where
   pub series : IsBatchSoFar limit kind before now (map (by_numbers number) given) edges slots
   pub faultless : IsFaultless limit before (map (by_numbers number) given)
   pub empty : weights ≡ []
   pub spare : len₀ + len₁ ≤ capacity
   pub fits : node_bound now ≤ node_capacity
-  pub few_looks : looks ≤ looks₀ + ordering_looks (edge_count before) (length given)
+  pub few_looks : looks + looks_left (edge_count now) standing
+      ≤ looks₀ + ordering_looks (edge_count before) (length given)
   pub ordered_before : IsOrderOf before order
-  pub ordered_now : cyclic ≡ false → IsOrderOf now order
-  pub closed : cyclic ≡ true → IsAcyclic now → ⊥
+  pub ordered_now : IsKept standing → IsOrderOf now order
+  pub left : standing ≡ Left → 0 < length given
+  pub closed : standing ≡ Closed → IsAcyclic now → ⊥
 
 pub adding_starts : {I N E : Type 0} {number : I → ℕ} {limit : ℕ} {kind : Kind} (g : Graph N E) (edges : List ℕ)
-    (slots : ℕ) (weights : List E) (len₀ len₁ capacity node_capacity looks : ℕ) (order : List ℕ) (cyclic : Bool)
+    (slots : ℕ) (weights : List E) (len₀ len₁ capacity node_capacity looks : ℕ) (order : List ℕ)
     → edges ≡ [] → slots ≡ length g.edges → (kind ≡ Compact → IsCompact g) → weights ≡ [] → len₀ ≡ 0 → len₁ ≡ 0
-    → node_bound g ≤ node_capacity → IsOrderOf g order → cyclic ≡ false
-    → Adding number limit kind g g [] edges slots weights len₀ len₁ capacity node_capacity looks looks order cyclic
-adding_starts g edges slots weights len₀ len₁ capacity node_capacity looks order cyclic none many compact empty zero₀
-    zero₁ fits ordered start =
+    → node_bound g ≤ node_capacity → IsOrderOf g order
+    → Adding number limit kind g g [] edges slots weights len₀ len₁ capacity node_capacity looks looks order Kept
+adding_starts g edges slots weights len₀ len₁ capacity node_capacity looks order none many compact empty zero₀ zero₁
+    fits ordered =
     record {
       series = record {
         now_is = refl;
@@ -115,14 +127,15 @@ adding_starts g edges slots weights len₀ len₁ capacity node_capacity looks o
       fits = fits;
       few_looks = omega arith;
       ordered_before = ordered;
-      ordered_now = λ f. ordered;
-      closed = λ t. absurd (false≢true (sym start ∙ t));
+      ordered_now = λ k. ordered;
+      left = λ is. absurd cc;
+      closed = λ is. absurd cc;
     }
 
 module _ {I N E : Type 0} {number : I → ℕ} {limit : ℕ} {kind : Kind} {before now : Graph N E} {given : List (I × I × E)}
     {edges : List ℕ} {slots : ℕ} {weights : List E} {len₀ len₁ capacity node_capacity looks₀ looks : ℕ} {order : List ℕ}
-    {cyclic : Bool} (s : Adding number limit kind before now given edges slots weights len₀ len₁ capacity node_capacity
-    looks₀ looks order cyclic) where
+    {standing : Standing} (s : Adding number limit kind before now given edges slots weights len₀ len₁ capacity
+    node_capacity looks₀ looks order standing) where
   abbrev all : List (NewEdge E)
   all = map (by_numbers number) given
 
@@ -140,27 +153,29 @@ module _ {I N E : Type 0} {number : I → ℕ} {limit : ℕ} {kind : Kind} {befo
   as_many = ap length s.series.indices_are ∙ length-new_edges before all ∙ length-map given (by_numbers number)
 
   -- the order after way was made for an edge more, whatever became of it
-  pub order_then : (order' : List ℕ) (cyclic' : Bool) → (cyclic ≡ true → (cyclic' ≡ true) × (order' ≡ order))
-      → (cyclic ≡ false → IsOrderOf now order') → IsOrderOf before order'
-  order_then order' cyclic' stays sorts =
-      elim (cases_Bool cyclic) [
-        | inl t ↦ (let P : List ℕ → Type 0 = λ z. IsOrderOf before z in subst P (sym (stays t).1) s.ordered_before)
-        | inr f ↦
-            order_before_edges limit before all s.series.well_formed order' (order_kept (sorts f) (sym s.series.now_is))
+  pub order_then : (order' : List ℕ) → (order' ≡ order) ⊎ IsOrderOf now order' → IsOrderOf before order'
+  order_then order' is =
+      elim is [
+        | inl e ↦ (let P : List ℕ → Type 0 = λ z. IsOrderOf before z in subst P (sym e) s.ordered_before)
+        | inr o ↦ order_before_edges limit before all s.series.well_formed order' (order_kept o (sym s.series.now_is))
       ]
+
+  -- it holds the nodes that exist now
+  pub held_now : (n : ℕ) → Contains order n ↔ HasNode now n
+  held_now n =
+      let P : Graph N E → Type 0 = λ z. Contains order n ↔ HasNode z n in
+      subst P (sym s.series.now_is) (same_nodes before all n (s.ordered_before.exact n))
 
   pub adding_on : (x : I × I × E) (new : Graph N E) → IsWellFormed limit now → HasEnds now (by_numbers number x)
       → edge_count now < limit → new ≡ with_edge now (number x.0) (number x.1) x.2
       → (edges' : List ℕ) → edges' ≡ edges ++ next_edge now ∷ [] → (weights' : List E) → weights' ≡ weights
-      → (len₀' len₁' capacity' : ℕ) → len₀' + len₁' ≤ capacity' → (looks' : ℕ) → looks' ≤ looks + edge_count now
-      → (order' : List ℕ) (cyclic' : Bool) → (cyclic ≡ true → (cyclic' ≡ true) × (order' ≡ order))
-      → (cyclic ≡ false → IsOrderOf now order')
-      → (cyclic' ≡ false → place order' (number x.0) < place order' (number x.1))
-      → (cyclic ≡ false → cyclic' ≡ true → Reaches now (number x.1) (number x.0))
+      → (len₀' len₁' capacity' : ℕ) → len₀' + len₁' ≤ capacity' → (count looks' : ℕ) → count ≡ length edges
+      → (order' : List ℕ) (standing' : Standing)
+      → IsStep now (number x.0) (number x.1) count standing order order' looks looks' standing'
       → Adding number limit kind before new (given ++ x ∷ []) edges' slots weights' len₀' len₁' capacity' node_capacity
-      looks₀ looks' order' cyclic'
-  adding_on x new f ends left is edges' noted weights' same len₀' len₁' capacity' spare looks' few order' cyclic' stays
-      sorts placed closes =
+      looks₀ looks' order' standing'
+  adding_on x new f ends index_left is edges' noted weights' same len₀' len₁' capacity' spare count looks' counted
+      order' standing' step =
       let now_is = s.series.now_is in
       let P : Graph N E → Type 0 = λ z. HasEnds z (by_numbers number x) in
       let Q : Graph N E → Type 0 = λ z. edge_count z < limit in
@@ -174,25 +189,35 @@ module _ {I N E : Type 0} {number : I → ℕ} {limit : ℕ} {kind : Kind} {befo
       ap (ordering_looks (edge_count before)) (length_push given x ∙ add-one (length given)) in
       let free = free_edge now (number x.0) (number x.1) x.2 limit f in
       let C : Graph N E → Type 0 = λ z. IsAcyclic z in
+      let edges_then : edge_count new ≡ suc (edge_count now) =
+      ap edge_count is ∙ (count_with_edge limit now (number x.0) (number x.1) x.2 f ∙ add-one (edge_count now)) in
+      let few =
+      step_left now (number x.0) (number x.1) count standing order order' looks looks' standing' step
+      (looks₀ + ordering_looks (edge_count before) (length given)) s.few_looks
+      (λ at. omega (arith, counted, as_many, s.left at)) (omega (arith, counted, as_many, count_now)) in
       record {
         series = subst R longer (series_on s.series (by_numbers number x) new f is edges' noted);
         faultless =
             subst S longer
-            (fault_more limit before all (by_numbers number x) s.faultless (subst P now_is ends) (subst Q now_is left));
+            (fault_more limit before all (by_numbers number x) s.faultless (subst P now_is ends)
+            (subst Q now_is index_left));
         empty = same ∙ s.empty;
         spare = spare;
         fits = (let B : Graph N E → Type 0 = λ z. node_bound z ≤ node_capacity in subst B (sym is) s.fits);
-        few_looks = omega (arith, one_more, few, s.few_looks, count_now);
-        ordered_before = order_then order' cyclic' stays sorts;
-        ordered_now = λ unshut.
-            elim (cases_Bool cyclic) [
-              | inl t ↦ absurd (false≢true (sym unshut ∙ (stays t).0))
-              | inr f ↦ order_kept (order_with_edge order' (sorts f) (number x.0) (number x.1) x.2 (placed unshut)) is
-            ];
-        closed = λ shut a.
-            elim (cases_Bool cyclic) [
+        few_looks = omega (arith, one_more, few, count_now, ap (λ n. looks_left n standing') edges_then);
+        ordered_before =
+            order_then order'
+            (step_order now (number x.0) (number x.1) count standing order order' looks looks' standing' step);
+        ordered_now = λ kept.
+            let k =
+            step_kept now (number x.0) (number x.1) count standing order order' looks looks' standing' step kept in
+            order_kept (order_with_edge order' k.1 (number x.0) (number x.1) x.2 k.2) is;
+        left = λ at. omega (arith, length_push given x);
+        closed = λ at a.
+            elim
+            (step_closed now (number x.0) (number x.1) count standing order order' looks looks' standing' step at) [
               | inl t ↦ s.closed t (still_cyclic now (number x.0) (number x.1) x.2 free (subst C is a))
-              | inr f ↦ cyclic_with_edge now (number x.0) (number x.1) x.2 free ends.0 (closes f shut) (subst C is a)
+              | inr r ↦ cyclic_with_edge now (number x.0) (number x.1) x.2 free ends.0 r (subst C is a)
             ];
       }
 
@@ -284,14 +309,17 @@ module _ {I N E : Type 0} {number : I → ℕ} {limit : ℕ} {kind : Kind} {befo
         length-map given (by_numbers number),
       )
 
-  pub few_added : (edges' : List ℕ)
-      → edges' ≡ edges → looks ≤ looks₀ + ordering_looks (edge_count before) (length edges')
-  few_added edges' kept = omega (arith, s.few_looks, ap (ordering_looks (edge_count before)) (ap length kept ∙ as_many))
+  pub few_added : (edges' : List ℕ) → edges' ≡ edges → (looks' : ℕ)
+      → looks' ≤ looks + looks_left (edge_count now) standing
+      → looks' ≤ looks₀ + ordering_looks (edge_count before) (length edges')
+  few_added edges' kept looks' few =
+      omega (arith, s.few_looks, few, ap (ordering_looks (edge_count before)) (ap length kept ∙ as_many))
 
   pub few_in_cycle : {back : List E} → back ≡ reverse (map (λ (x : NewEdge E). x.2) (map (by_numbers number) given))
-      → (looks' : ℕ) → looks' ≡ looks → looks' ≤ looks₀ + ordering_looks (edge_count before) (length back)
-  few_in_cycle returned looks' same =
-      omega (arith, s.few_looks, ap (ordering_looks (edge_count before)) (as_many_back returned), same)
+      → (looks' looks″ : ℕ) → looks' ≤ looks + looks_left (edge_count now) standing → looks″ ≡ looks'
+      → looks″ ≤ looks₀ + ordering_looks (edge_count before) (length back)
+  few_in_cycle returned looks' looks″ few same =
+      omega (arith, s.few_looks, ap (ordering_looks (edge_count before)) (as_many_back returned), few, same)
 
   pub few_at_fault : (fault : Fault E) (back : Vec E Global)
       → back.items ≡ reverse (map (λ (x : NewEdge E). x.2) (map (by_numbers number) given))

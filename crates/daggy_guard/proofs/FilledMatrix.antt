@@ -56,7 +56,7 @@ same_edge : {E : Type 0} (x : Edge E) (u v : ℕ)
     → u ≡ x.parent → v ≡ x.child → x ≡ record { parent = u; child = v; weight = x.weight }
 same_edge x u v parent child = λ i. record { parent = sym parent i; child = sym child i; weight = x.weight }
 
-is_there : {A : Type 0} (o : Option A) (x : A) → o ≡ Some x → IsSome o
+pub is_there : {A : Type 0} (o : Option A) (x : A) → o ≡ Some x → IsSome o
 is_there (Some y) x h = refl
 is_there None x h = absurd (cc)
 

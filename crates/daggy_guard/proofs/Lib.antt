@@ -10,4 +10,6 @@ pub mod ItemsSoFar
 pub mod ExtendAllLoop
 pub mod ElementsLoop
 pub mod FilledMatrix
+pub mod PackedSort
+pub mod StandingAfterEdge
 pub mod ParentsAsked

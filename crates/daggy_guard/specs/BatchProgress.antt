@@ -1,14 +1,18 @@
 -- How far a batch of edges has come.
-use Rattle.std.specs.Prelude.{◌≡◌, ℕ, ◌<◌, List, [], length, take, Vec, Result, Ok, Err}
+use Rattle.std.specs.Prelude.{◌≡◌, ℕ, ◌+◌, ◌<◌, ◌≤◌, ◌⊎◌, List, [], length, take, Vec, Result, Ok, Err}
 use Rattle.std.specs.declared.alloc.Global.{Global}
-use Rattle.daggy_base.specs.Graph.{Graph}
+use Rattle.daggy_base.specs.Graph.{Graph, edge_count}
+use Rattle.daggy_base.specs.Path.{Reaches}
 use Rattle.daggy_base.specs.Removal.{Kind, Compact}
 use Rattle.daggy_base.specs.WellFormed.{IsWellFormed}
 use Rattle.daggy_base.specs.declared.error.EdgesError.{EdgesError}
 use Rattle.daggy_base.specs.declared.error.EdgesError.TheVariants as edges
+use Rattle.daggy_order.specs.Ordered.{IsOrderOf, place}
 use Rattle.daggy_guard.specs.EdgeBatch.{NewEdge, with_edges, new_edges, LacksEnd, LacksIndex, LacksMemory}
 use Rattle.daggy_guard.specs.declared.edge_batch.Fault.{Fault}
 use Rattle.daggy_guard.specs.declared.edge_batch.Fault.TheVariants.{BadEndpoint, Full, Memory}
+use Rattle.daggy_guard.specs.declared.edge_batch.Standing.{Standing}
+use Rattle.daggy_guard.specs.declared.edge_batch.Standing.TheVariants.{Kept, Spared, Left, Closed}
 
 -- now is before with the edges xs, which got these indices; slot_count is how many slots of edges there were before
 pub record IsBatchSoFar {N E : Type 0} (limit : ℕ) (kind : Kind) (before now : Graph N E) (xs : List (NewEdge E))
@@ -38,3 +42,33 @@ item_looks edges (Ok r) = edges
 item_looks edges (Err (BadEndpoint w)) = 0
 item_looks edges (Err (Full w)) = 0
 item_looks edges (Err (Memory w)) = edges
+
+-- the order agrees with all edges of the batch so far
+abbrev pub IsKept : Standing → Type 0
+IsKept Kept = Unit {0}
+IsKept Spared = Unit {0}
+IsKept Left = ⊥
+IsKept Closed = ⊥
+
+-- how the order stands after one edge more, from a to b, which `count` others come before; what it is then, and what
+-- the looks are
+abbrev pub IsStep : {N E : Type 0} → Graph N E → (a b count : ℕ) → (old : Standing) → (order order' : List ℕ)
+    → (looks looks' : ℕ) → (new : Standing) → Type 0
+IsStep g a b count old order order' looks looks' Kept =
+    IsKept old × IsOrderOf g order' × (place order' a < place order' b) × (looks' ≤ looks + edge_count g)
+IsStep g a b count old order order' looks looks' Spared =
+    IsKept old × IsOrderOf g order' × (place order' a < place order' b)
+    × (((0 < count) × (looks' ≡ looks)) ⊎ ((old ≡ Spared) × (looks' ≤ looks + edge_count g)))
+IsStep g a b count old order order' looks looks' Left =
+    ((old ≡ Spared) ⊎ (old ≡ Left)) × (order' ≡ order) × (looks' ≡ looks)
+IsStep g a b count old order order' looks looks' Closed =
+    ((old ≡ Closed) × (order' ≡ order) × (looks' ≡ looks))
+    ⊎ (IsKept old × IsOrderOf g order' × Reaches g b a × (looks' ≤ looks + edge_count g))
+
+-- how many looks at least are left for what is still to be done: those of sorting, where that is, or the one that was
+-- spared
+abbrev pub looks_left : (edges : ℕ) → Standing → ℕ
+looks_left edges Kept = 0
+looks_left edges Spared = 1
+looks_left edges Left = edges
+looks_left edges Closed = 0

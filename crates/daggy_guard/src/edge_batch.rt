@@ -1,19 +1,22 @@
 //! Many edges at once: all or none.
-ghost use Rattle.std.specs.Prelude.{◌≡◌, ℕ, ◌+◌, ◌<◌, ◌≤◌, true, false, List, [], ◌∷◌, ◌++◌};
-ghost use Rattle.std.specs.Prelude.{length, map, reverse, vec_len, vec_capacity, IfOk, OnOk, IfErr};
-ghost use Rattle.std.specs.Prelude.{OnErr};
+ghost use Rattle.std.specs.Prelude.{◌≡◌, ℕ, ◌+◌, ◌<◌, ◌≤◌, ◌↔◌, ◌⊎◌, true, false, List, [], ◌∷◌};
+ghost use Rattle.std.specs.Prelude.{◌++◌, length, map, reverse, vec_len, vec_capacity, Contains};
+ghost use Rattle.std.specs.Prelude.{IfOk, OnOk, IfErr, OnErr};
 ghost use Rattle.std.specs.Iterator.{IsFinite, IsFiniteIterable};
 ghost use Rattle.daggy_base.specs.Graph.{Graph, HasNode, node_bound, edge_count};
-ghost use Rattle.daggy_base.specs.Path.{Reaches, IsAcyclic};
+ghost use Rattle.daggy_base.specs.Path.{IsAcyclic};
 ghost use Rattle.daggy_base.specs.Adding.{with_edge, next_edge};
 ghost use Rattle.daggy_base.specs.WellFormed.{IsWellFormed};
-ghost use Rattle.daggy_order.specs.Ordered.{IsOrderOf, place};
+ghost use Rattle.daggy_order.specs.Ordered.{IsOrderOf};
 ghost use Rattle.daggy_guard.specs.EdgeBatch.{NewEdge, by_numbers, HasEnds, IsAdded, IsRefused};
 ghost use Rattle.daggy_guard.specs.EdgeBatch.{most_looks};
-ghost use Rattle.daggy_guard.specs.BatchProgress.{IsBatchSoFar, IsFault, item_looks, refusal};
+ghost use Rattle.daggy_guard.specs.BatchProgress.{IsBatchSoFar, IsFault, IsKept, IsStep};
+ghost use Rattle.daggy_guard.specs.BatchProgress.{item_looks, looks_left, refusal};
+ghost use Rattle.daggy_guard.specs.declared.edge_batch.Standing.TheVariants.{Closed};
 
 use crate::edge_indices::EdgeIndices;
 use crate::guard::make_way;
+use crate::packed::sort;
 use daggy_base::error::{EdgesError, WouldCycle};
 use daggy_base::index::{EdgeIndex, IndexType, NodeIndex};
 use daggy_base::search::Scratch;
@@ -73,32 +76,74 @@ fn roll_back<Ix: IndexType, S: Store<Ix>>(
     }
 }
 
-// Makes way for an edge of a batch, unless an edge before it closed a cycle. Whether one closes a
-// cycle now.
+// How the order stands to the edges of a batch that were added so far.
+#[derive(Clone, Copy)]
+pub(crate) enum Standing {
+    // It agrees with each of them.
+    Kept,
+    // It agrees with each of them, and one after the first took no look.
+    Spared,
+    // It was left as it is at one that it does not agree with. All nodes are sorted at the end.
+    Left,
+    // One of them closed a cycle.
+    Closed,
+}
+
+// A batch of fewer edges is never long.
+const LONG: usize = 32;
+
+// The graph has at most so many times as many nodes as a long batch has edges, and as many edges.
+const SHARE: usize = 16;
+
+// Whether sorting all nodes costs no more than a small multiple of a batch of so many edges.
+fn is_long(count: usize, nodes: usize, edges: usize) -> bool {
+    count >= LONG && count >= nodes / SHARE && count >= edges / SHARE
+}
+
+// Makes way for an edge of a batch that `count` others come before.
+//
+// Once one closed a cycle no way is made. A search for each edge would cost more than sorting all
+// nodes once, where the batch is long beside the graph: the order is left then. It is not where no
+// look was spared yet, so that there are no more looks than if way were made for each.
 fn order_item<Ix: IndexType, S: Store<Ix>>(
     store: &mut S,
     order: &mut Order<Ix>,
     scratch: &mut Scratch<Ix>,
     a: NodeIndex<Ix>,
     b: NodeIndex<Ix>,
-    cyclic: bool,
-) -> bool
+    count: usize,
+    standing: Standing,
+) -> Standing
     requires parent { HasNode (S.graph store.old) (Ix.number a) }
     requires child { HasNode (S.graph store.old) (Ix.number b) }
     requires fits { node_bound (S.graph store.old) ≤ scratch.old.nodes }
-    requires ordered { cyclic ≡ false → IsOrderOf (S.graph store.old) order.old }
-    ensures stays { cyclic ≡ true → (result ≡ true) × (order.new ≡ order.old) }
-    ensures ordered { cyclic ≡ false → IsOrderOf (S.graph store.old) order.new }
-    ensures before { result ≡ false
-        → place order.new (Ix.number a) < place order.new (Ix.number b) }
-    ensures closed { cyclic ≡ false → result ≡ true
-        → Reaches (S.graph store.old) (Ix.number b) (Ix.number a) }
+    requires ordered { IsKept standing → IsOrderOf (S.graph store.old) order.old }
+    ensures step { IsStep (S.graph store.old) (Ix.number a) (Ix.number b) count standing order.old
+        order.new (S.looks store.old) (S.looks store.new) result }
     ensures same { S.graph store.new ≡ S.graph store.old }
-    ensures counted { S.looks store.new ≤ S.looks store.old + edge_count (S.graph store.old) }
     ensures same_capacity { scratch.new ≡ scratch.old }
 {
     let _well_formed = store.node_count();
-    cyclic || !make_way(store, order, scratch, a, b)
+    let spared = match standing {
+        Standing::Kept => false,
+        Standing::Spared => true,
+        Standing::Left | Standing::Closed => return standing,
+    };
+    if order.stands_before(a, b) {
+        return if count > 0 {
+            Standing::Spared
+        } else {
+            Standing::Kept
+        };
+    }
+    if spared && is_long(count, store.node_slots(), store.edge_slots()) {
+        return Standing::Left;
+    }
+    if make_way(store, order, scratch, a, b) {
+        standing
+    } else {
+        Standing::Closed
+    }
 }
 
 // Adds one edge of a batch, and notes its index. Room for its weight is taken first, for when it is
@@ -108,13 +153,13 @@ fn add_item<Ix: IndexType, S: Store<Ix>>(
     order: &mut Order<Ix>,
     scratch: &mut Scratch<Ix>,
     item: (NodeIndex<Ix>, NodeIndex<Ix>, S::EdgeWeight),
-    cyclic: &mut bool,
+    standing: &mut Standing,
     edges: &mut Vec<EdgeIndex<Ix>>,
     weights: &mut Vec<S::EdgeWeight>,
 ) -> Result<(), Fault<S::EdgeWeight>>
     requires capacity { vec_len weights.old + vec_len edges.old ≤ vec_capacity weights.old }
     requires fits { node_bound (S.graph store.old) ≤ scratch.old.nodes }
-    requires ordered { cyclic.old ≡ false → IsOrderOf (S.graph store.old) order.old }
+    requires ordered { IsKept standing.old → IsOrderOf (S.graph store.old) order.old }
     ensures refused { IfErr result (λ fault.
         IsFault Ix.greatest (S.graph store.old) (by_numbers Ix.number item) fault) }
     ensures well_formed { IsWellFormed Ix.greatest (S.graph store.old) }
@@ -128,12 +173,10 @@ fn add_item<Ix: IndexType, S: Store<Ix>>(
         ≡ map Ix.number edges.old.items ++ next_edge (S.graph store.old) ∷ []) }
     ensures weights { weights.new.items ≡ weights.old.items }
     ensures capacity { vec_len weights.new + vec_len edges.new ≤ vec_capacity weights.new }
-    ensures stays { cyclic.old ≡ true → (cyclic.new ≡ true) × (order.new ≡ order.old) }
-    ensures ordered { cyclic.old ≡ false → IsOrderOf (S.graph store.old) order.new }
-    ensures before { OnOk result (cyclic.new ≡ false
-        → place order.new (Ix.number item.0) < place order.new (Ix.number item.1)) }
-    ensures closed { OnOk result (cyclic.old ≡ false → cyclic.new ≡ true
-        → Reaches (S.graph store.old) (Ix.number item.1) (Ix.number item.0)) }
+    ensures step { OnOk result (IsStep (S.graph store.old) (Ix.number item.0) (Ix.number item.1)
+        (vec_len edges.old) standing.old order.old order.new (S.looks store.old)
+        (S.looks store.new) standing.new) }
+    ensures ordered { (order.new ≡ order.old) ⊎ IsOrderOf (S.graph store.old) order.new }
     ensures counted { S.looks store.new
         ≤ S.looks store.old + item_looks (edge_count (S.graph store.old)) result }
     ensures scratch_kept { scratch.new ≡ scratch.old }
@@ -149,13 +192,40 @@ fn add_item<Ix: IndexType, S: Store<Ix>>(
     if edges.reserve(1).is_err() || weights.reserve(edges.len() + 1).is_err() {
         return Err(Fault::Memory(weight));
     }
-    *cyclic = order_item(store, order, scratch, a, b, *cyclic);
+    *standing = order_item(store, order, scratch, a, b, edges.len(), *standing);
     match store.add_edge(a, b, weight) {
         Ok(e) => {
             edges.push_reserved(e);
             Ok(())
         }
         Err(error) => Err(Fault::Memory(error.into_weight())),
+    }
+}
+
+// Brings the order to agree with all edges of a batch. Whether it can: it stays where one of them
+// closes a cycle.
+fn settle<Ix: IndexType, S: Store<Ix>>(
+    store: &mut S,
+    order: &mut Order<Ix>,
+    scratch: &mut Scratch<Ix>,
+    standing: Standing,
+) -> bool
+    requires fits { node_bound (S.graph store.old) ≤ scratch.old.nodes }
+    requires held { (n : ℕ) → Contains order.old n ↔ HasNode (S.graph store.old) n }
+    requires ordered { IsKept standing → IsOrderOf (S.graph store.old) order.old }
+    requires closed { standing ≡ Closed → ¬ IsAcyclic (S.graph store.old) }
+    ensures ordered { result ≡ true → IsOrderOf (S.graph store.old) order.new }
+    ensures cyclic { result ≡ false → ¬ IsAcyclic (S.graph store.old) }
+    ensures kept { result ≡ false → order.new ≡ order.old }
+    ensures same { S.graph store.new ≡ S.graph store.old }
+    ensures counted { S.looks store.new
+        ≤ S.looks store.old + looks_left (edge_count (S.graph store.old)) standing }
+    ensures same_capacity { scratch.new ≡ scratch.old }
+{
+    match standing {
+        Standing::Kept | Standing::Spared => true,
+        Standing::Left => sort(store, order, scratch),
+        Standing::Closed => false,
     }
 }
 
@@ -189,14 +259,14 @@ fn add_all<
     let slot_count = store.edge_slots();
     let mut edges = Vec::new(alloc);
     let mut weights = Vec::new(alloc);
-    let mut cyclic = false;
+    let mut standing = Standing::Kept;
     'items: for item in items {
         match add_item(
             store,
             order,
             scratch,
             item,
-            &mut cyclic,
+            &mut standing,
             &mut edges,
             &mut weights,
         ) {
@@ -207,7 +277,7 @@ fn add_all<
             }
         }
     }
-    if cyclic {
+    if !settle(store, order, scratch, standing) {
         roll_back(store, edges.as_slice(), slot_count, &mut weights);
         return Err(EdgesError::WouldCycle(WouldCycle(weights)));
     }

@@ -8,4 +8,5 @@ pub mod elements;
 pub mod extension;
 pub mod guard;
 pub mod matrix;
+mod packed;
 pub mod walk;

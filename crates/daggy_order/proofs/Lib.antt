@@ -1,6 +1,7 @@
 pub mod Sorted
 pub mod NodesSorted
 pub mod ListParts
+pub mod NodesFirst
 pub mod Chains
 pub mod LinkedNodes
 pub mod AscendingLabels

@@ -3,9 +3,10 @@ ghost use Rattle.std.specs.Prelude.{◌≡◌, ◌≢◌, ℕ, List, ◌<◌, �
 ghost use Rattle.std.specs.Prelude.{slice_index, map, IsTrue, Contains, OnOk, OnErr, IfOk};
 ghost use Rattle.daggy_base.specs.Removal.{without, renamed};
 ghost use Rattle.daggy_base.specs.WellFormed.{AreDistinct};
-ghost use Rattle.daggy_order.specs.Ordered.{place};
+ghost use Rattle.daggy_order.specs.Ordered.{place, with_first};
 
 use daggy_base::index::{DefaultIx, IndexType, NodeIndex};
+use daggy_base::link::Link;
 use std::alloc::{AllocError, Global};
 use std::marker::Model;
 use written::{Tail, Written};
@@ -226,6 +227,19 @@ impl<Ix: IndexType> Order<Ix> {
     {
         self.tail = self.written.settle(self.tail);
         self.written.move_before(n, b);
+    }
+
+    /// Puts nodes of it first, in the order of a list. The others stand as they stood, behind them.
+    /// The cost for each is that of `move_first`.
+    pub fn move_all_first(&mut self, nodes: &[Link<Ix>])
+        requires { (n : ℕ) → Contains nodes.now n → Contains self.old n }
+        ensures { self.new ≡ with_first nodes.now self.old }
+    {
+        let mut left = nodes.len();
+        'nodes: while left > 0 {
+            left -= 1;
+            self.move_first(nodes[left].node());
+        }
     }
 
     /// At which place a node of it stands. The nodes before it are counted.

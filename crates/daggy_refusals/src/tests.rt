@@ -317,6 +317,34 @@ fn a_refused_series_comes_back_whole(rt: HostRuntime) {
     same(&rt, none.len(), 0);
 }
 
+// Forty edges from 0 to 1, and one that leads to an older node, for which all nodes are sorted.
+fn add_long_series(dag: &mut Plain) -> Result<EdgeIndices<u32>, EdgesError<usize>> {
+    dag.add_edges((0usize..41).map(|i| {
+        let ends = if i < 40 { (0, 1) } else { (2, 0) };
+        (NodeIndex::new(ends.0), NodeIndex::new(ends.1), i)
+    }))
+}
+
+#[test]
+fn a_long_series_is_sorted_where_memory_is_refused(rt: HostRuntime) {
+    let mut dag = Dag::new(rt.alloc());
+    let mut refused = false;
+    for _ in 0..3 {
+        add_node_again(&rt, &mut dag, &mut refused);
+    }
+    let added = match add_long_series(&mut dag) {
+        Ok(added) => added,
+        Err(_) => {
+            refuse(&rt, &mut refused);
+            counts(&rt, &dag, 3, 0);
+            made(&rt, add_long_series(&mut dag))
+        }
+    };
+    same(&rt, added.len(), 41);
+    let first = dag.topological_order().next().map(|n| n.index());
+    same(&rt, first, Some(2));
+}
+
 #[test]
 fn a_refused_extension_keeps_what_it_made(rt: HostRuntime) {
     let mut dag = Dag::new(rt.alloc());

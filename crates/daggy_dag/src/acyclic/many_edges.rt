@@ -24,7 +24,9 @@ where
     /// of the items.
     ///
     /// The dag's order makes way for each edge in turn, as for [`add_edge`](Acyclic::add_edge),
-    /// which cannot fail. Once an edge closes a cycle no further way is made.
+    /// which cannot fail. Once an edge closes a cycle no further way is made. Where the items are
+    /// many beside what the dag holds and do not agree with its order, all nodes are sorted once at
+    /// the end instead, in time in proportion to all nodes and edges.
     ///
     /// The first item that is at fault by itself ends it, and none behind that item is asked for.
     /// All weights that were asked for come back.

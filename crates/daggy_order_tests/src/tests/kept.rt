@@ -63,6 +63,11 @@ impl Kept {
         made(rt, Order::sorted(alloc, &mut self.graph, &mut self.scratch))
     }
 
+    /// Sorts its order anew.
+    pub fn sort(&mut self) -> bool {
+        self.order.sort(&mut self.graph, &mut self.scratch)
+    }
+
     /// Whether the order can make way for an edge.
     pub fn makes_way(&mut self, rt: &impl Abort, a: NodeIndex<u8>, b: NodeIndex<u8>) -> bool
         ensures { result ≡ false ↔ Reaches self.old.graph b a }

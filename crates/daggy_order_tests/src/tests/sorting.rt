@@ -22,6 +22,8 @@ fn each_node_is_sorted_before_its_children(rt: HostRuntime) {
         Some(order) => lists(&rt, &order, &[3, 2, 1, 0]),
         None => holds(&rt, false),
     }
+    holds(&rt, kept.sort());
+    lists(&rt, &kept.order, &[3, 2, 1, 0]);
 }
 
 #[test]

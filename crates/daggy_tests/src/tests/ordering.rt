@@ -1,6 +1,6 @@
 //! The order of its nodes that a dag keeps, where its edges allow but one.
-use super::support::{Plain, dag_of, made, same};
-use daggy::NodeIndex;
+use super::support::{Plain, dag_of, made, node, same};
+use daggy::{EdgesError, NodeIndex, WouldCycle};
 use std::alloc::Global;
 use std::process::Abort;
 
@@ -64,4 +64,44 @@ fn a_dag_gives_its_order_away(rt: HostRuntime) {
     same(&rt, graph.edge_count(), 3);
     same(&rt, order.len(), 4);
     same(&rt, order.nodes().next().map(|n| n.index()), Some(3));
+}
+
+// So many edges that they are sorted at the end: one beside the other from 0 to 1, and then a path
+// through all nodes, which leads to older ones.
+fn long_path(rt: &impl Abort, alloc: Global) -> Vec<(NodeIndex, NodeIndex, u32)> {
+    let mut items = Vec::new(alloc);
+    for weight in 0..40 {
+        made(
+            rt,
+            items.push((NodeIndex::new(0), NodeIndex::new(1), weight)),
+        );
+    }
+    for (a, b) in [(2, 0), (3, 2), (4, 3), (5, 4), (6, 5), (7, 6)] {
+        made(rt, items.push((node(rt, a), node(rt, b), 50)));
+    }
+    items
+}
+
+#[test]
+fn a_long_series_is_sorted_at_its_end(rt: HostRuntime) {
+    let mut dag = dag_of(&rt, rt.alloc(), &[0, 1, 2, 3, 4, 5, 6, 7], &[]);
+    let items = long_path(&rt, rt.alloc());
+    same(&rt, made(&rt, dag.add_edges(items)).len(), 46);
+    ordered(&rt, &dag, &[7, 6, 5, 4, 3, 2, 0, 1]);
+}
+
+#[test]
+fn a_long_series_that_closes_a_cycle_comes_back(rt: HostRuntime) {
+    let mut dag = dag_of(&rt, rt.alloc(), &[0, 1, 2, 3, 4, 5, 6, 7], &[(1, 2, 9)]);
+    let items = long_path(&rt, rt.alloc());
+    match dag.add_edges(items) {
+        Err(EdgesError::WouldCycle(WouldCycle(back))) => {
+            same(&rt, back.len(), 46);
+            same(&rt, back.first().copied(), Some(50));
+            same(&rt, back.last().copied(), Some(0));
+        }
+        _ => panic!(&rt; "the series closes a cycle"),
+    }
+    same(&rt, dag.edge_count(), 1);
+    same(&rt, dag.topological_order().len(), 8);
 }

@@ -1,10 +1,11 @@
-use Rattle.std.proofs.Common.{◌∙◌, map, ap, refl, rules}
+use Rattle.std.proofs.Common.{◌∙◌, map, ap, inl, sym, rules}
+use Rattle.std.proofs.lemmas.List.{length-map}
 use Rattle.std.specs.Iterator.{Yields}
 use Rattle.daggy_order.proofs.OrderLaws.{acyclic_from_order}
 use Rattle.daggy_guard.proofs.ItemsSoFar.{yields_more, drained}
 use Rattle.daggy_guard.proofs.OrderAfterChange.{order_kept}
 use Rattle.daggy_guard.proofs.AddAllLoop.{adding_on, order_then, refused_at, closes_cycle, is_added, series_kept}
-use Rattle.daggy_guard.proofs.AddAllLoop.{few_added, few_in_cycle, few_at_fault}
+use Rattle.daggy_guard.proofs.AddAllLoop.{held_now, few_added, few_in_cycle, few_at_fault}
 use Rattle.daggy_guard.proofs.edge_batch.add_all.Goals as goal
 
 pub items-preserved : goal.items-preserved
@@ -15,8 +16,9 @@ items-preserved g c = record {
   adding =
       adding_on c.items.invariant.adding c.in-Some.item _ c.add_item.ensures.well_formed c.in-Ok.ensures.ends
       c.in-Ok.ensures.index_left c.in-Ok.ensures.added _ c.in-Ok.ensures.noted _ c.add_item.ensures.weights _ _ _
-      c.add_item.ensures.capacity _ c.in-Ok.ensures.counted _ _ c.add_item.ensures.stays c.add_item.ensures.ordered
-      c.in-Ok.ensures.before c.in-Ok.ensures.closed;
+      c.add_item.ensures.capacity _ _
+      (c.items.edges.ok.0 ∙ sym (length-map c.items.edges.items g.Ix.IndexType.number)) _ _
+      c.in-Ok.ensures.step;
 }
 
 pub returns-in-Err-clause-refused : goal.returns-in-Err-clause-refused
@@ -38,7 +40,7 @@ returns-in-Err-clause-ordered g c =
     let undone =
     c.roll_back.ensures.undone _ _ (series_kept s _ _ c.in-Err.ensures.unchanged
     (ap (map g.Ix.IndexType.number) (c.as_slice.ensures.value ∙ c.in-Err.ensures.kept))) in
-    order_kept (order_then s _ _ c.add_item.ensures.stays c.add_item.ensures.ordered) undone
+    order_kept (order_then s _ c.add_item.ensures.ordered) undone
 
 pub returns-in-Err-clause-counted : goal.returns-in-Err-clause-counted
 returns-in-Err-clause-counted g c =
@@ -48,32 +50,35 @@ returns-in-Err-clause-counted g c =
     (ap (map g.Ix.IndexType.number) (c.as_slice.ensures.value ∙ c.in-Err.ensures.kept))) in
     rw c.after.ensures (few_at_fault s c.in-Err.fault _ back _ _ c.in-Err.ensures.counted c.roll_back.ensures.counted)
 
-pub returns-then-cyclic-clause-refused : goal.returns-then-cyclic-clause-refused
-returns-then-cyclic-clause-refused g c =
+pub returns-then-not-settle-clause-refused : goal.returns-then-not-settle-clause-refused
+returns-then-not-settle-clause-refused g c =
     let so_far : Yields g.I.Iterator.next_gives c.args.items c.items.yielded c.items.item-iterator = search rules in
     let asked =
     drained g.I.Iterator.next_gives c.args.items c.items.item-iterator c.next.new.self c.items.yielded c.next.result
     so_far c.next.ensures.steps c.in-None.is in
     let s = c.items.invariant.adding in
     let back =
-    c.roll_back-then-cyclic.ensures.returned _ _
-    (series_kept s _ _ refl (ap (map g.Ix.IndexType.number) c.as_slice-then-cyclic.ensures.value)) in
+    c.roll_back-then-not-settle.ensures.returned _ _
+    (series_kept s _ _ c.settle.ensures.same
+    (ap (map g.Ix.IndexType.number) c.as_slice-then-not-settle.ensures.value)) in
     closes_cycle s g.I.Iterator.next_gives c.args.items _ asked (acyclic_from_order _ c.requires.ordered)
-    (s.closed c.if-cyclic.true) back
+    (c.settle.ensures.cyclic c.if-not-settle.true) back
 
-pub returns-then-cyclic-clause-ordered : goal.returns-then-cyclic-clause-ordered
-returns-then-cyclic-clause-ordered g c =
+pub returns-then-not-settle-clause-ordered : goal.returns-then-not-settle-clause-ordered
+returns-then-not-settle-clause-ordered g c =
     let s = c.items.invariant.adding in
-    order_kept s.ordered_before (c.roll_back-then-cyclic.ensures.undone _ _
-    (series_kept s _ _ refl (ap (map g.Ix.IndexType.number) c.as_slice-then-cyclic.ensures.value)))
+    order_kept (order_then s _ (inl (c.settle.ensures.kept c.if-not-settle.true)))
+    (c.roll_back-then-not-settle.ensures.undone _ _
+    (series_kept s _ _ c.settle.ensures.same (ap (map g.Ix.IndexType.number) c.as_slice-then-not-settle.ensures.value)))
 
-pub returns-then-cyclic-clause-counted : goal.returns-then-cyclic-clause-counted
-returns-then-cyclic-clause-counted g c =
+pub returns-then-not-settle-clause-counted : goal.returns-then-not-settle-clause-counted
+returns-then-not-settle-clause-counted g c =
     let s = c.items.invariant.adding in
     let back =
-    c.roll_back-then-cyclic.ensures.returned _ _
-    (series_kept s _ _ refl (ap (map g.Ix.IndexType.number) c.as_slice-then-cyclic.ensures.value)) in
-    few_in_cycle s back _ c.roll_back-then-cyclic.ensures.counted
+    c.roll_back-then-not-settle.ensures.returned _ _
+    (series_kept s _ _ c.settle.ensures.same
+    (ap (map g.Ix.IndexType.number) c.as_slice-then-not-settle.ensures.value)) in
+    few_in_cycle s back _ _ c.settle.ensures.counted c.roll_back-then-not-settle.ensures.counted
 
 pub returns-clause-added : goal.returns-clause-added
 returns-clause-added g c =
@@ -82,11 +87,15 @@ returns-clause-added g c =
     drained g.I.Iterator.next_gives c.args.items c.items.item-iterator c.next.new.self c.items.yielded c.next.result
     so_far c.next.ensures.steps c.in-None.is in
     let s = c.items.invariant.adding in
-    is_added s g.I.Iterator.next_gives c.args.items asked (acyclic_from_order _ (s.ordered_now c.if-cyclic.false)) _
-    refl _ c.new.ensures.indices
+    is_added s g.I.Iterator.next_gives c.args.items asked
+    (acyclic_from_order _ (c.settle.ensures.ordered c.if-not-settle.false)) _ c.settle.ensures.same _
+    c.new.ensures.indices
 
 pub returns-clause-ordered : goal.returns-clause-ordered
-returns-clause-ordered g c = c.items.invariant.adding.ordered_now c.if-cyclic.false
+returns-clause-ordered g c = order_kept (c.settle.ensures.ordered c.if-not-settle.false) c.settle.ensures.same
 
 pub returns-clause-counted : goal.returns-clause-counted
-returns-clause-counted g c = few_added c.items.invariant.adding _ c.new.ensures.indices
+returns-clause-counted g c = few_added c.items.invariant.adding _ c.new.ensures.indices _ c.settle.ensures.counted
+
+pub settle-requires-clause-held : goal.settle-requires-clause-held
+settle-requires-clause-held g c = held_now c.items.invariant.adding

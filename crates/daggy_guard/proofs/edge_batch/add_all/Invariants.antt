@@ -10,5 +10,5 @@ invariant-items g l = record {
   adding : Adding g.Ix.IndexType.number g.Ix.IndexType.greatest g.S.Store.kind (g.S.EdgeSource.graph l.fn.store)
       (g.S.EdgeSource.graph l.store) l.yielded (map g.Ix.IndexType.number l.edges.items) l.slot_count l.weights.items
       (vec_len l.weights) (vec_len l.edges) (vec_capacity l.weights) l.fn.scratch.nodes
-      (g.S.EdgeSource.looks l.fn.store) (g.S.EdgeSource.looks l.store) l.order l.cyclic;
+      (g.S.EdgeSource.looks l.fn.store) (g.S.EdgeSource.looks l.store) l.order l.standing;
 }
