@@ -1,6 +1,7 @@
 //! The graph in slots that a [`StableDag`](crate::StableDag) stands on. It may hold cycles.
+pub use daggy_slots::slot_capacity::Room;
+pub use daggy_stable::stable_graph::StableDiGraph;
 pub use daggy_stable::stable_graph::iterators::{
     EdgeReferences, EdgeWeights, NodeIdentifiers, NodeReferences, NodeWeights,
 };
 pub use daggy_stable::stable_graph::lists::{Edges, Neighbors};
-pub use daggy_stable::stable_graph::{Room, StableDiGraph};

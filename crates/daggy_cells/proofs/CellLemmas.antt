@@ -1,133 +1,14 @@
--- A call at the weights of two items of a list, which is cut between them.
-use Rattle.std.proofs.Common.{◌≡◌, ℕ, zero, suc, ◌<◌, List, [], ◌∷◌, ◌++◌, length, get_or, set, slice_get, Some, refl}
-use Rattle.std.proofs.Common.{sym, ap, ◌∙◌, arith, Option}
-use Rattle.std.proofs.lemmas.List.{length-append}
+-- Two items of a list at once: the list cut between them, a call at both, and a call at the weights that they hold.
+use Rattle.std.proofs.Common.{◌≡◌, ◌≢◌, ℕ, zero, suc, ◌<◌, List, [], ◌∷◌, ◌++◌, take, drop, length, get_or, set}
+use Rattle.std.proofs.Common.{slice_get, Option, Some, refl, sym, ap, ◌∙◌, arith}
+use Rattle.std.proofs.Math.Seq.{take-append_seam}
+use Rattle.std.proofs.lemmas.List.{length-set, get_or_append_left, get_or-append-add, set-append_left}
+use Rattle.std.proofs.lemmas.List.{set-append_right}
+use Rattle.std.proofs.lemmas.Option.{same_Some, slice_get_read, get_or_from_slice_get}
 use Rattle.std.specs.Borrow.{MutBor}
 use Rattle.std.specs.Fn.{Once}
-use Rattle.std.specs.Option.{option_map}
 use Rattle.daggy_base.specs.Calls.{CalledAtTwo}
 use Rattle.daggy_cells.specs.Cells.{changed_at}
-
-module _ {C : Type 0} where
-  pub changed_is_set : (k : C → C) (xs : List C) (i : ℕ) (x : C)
-      → x ≡ get_or xs i x → changed_at k xs i ≡ set xs i (k x)
-  changed_is_set k [] i x is = refl
-  changed_is_set k (y ∷ ys) zero x is = ap (λ z. k z ∷ ys) (sym is)
-  changed_is_set k (y ∷ ys) (suc i) x is = ap (λ l. y ∷ l) (changed_is_set k ys i x is)
-
-  pub length-changed : (k : C → C) (xs : List C) (i : ℕ) → length (changed_at k xs i) ≡ length xs
-  length-changed k [] i = refl
-  length-changed k (y ∷ ys) zero = refl
-  length-changed k (y ∷ ys) (suc i) = ap suc (length-changed k ys i)
-
-  changed_left : (k : C → C) (front back : List C) (i : ℕ)
-      → i < length front → changed_at k (front ++ back) i ≡ changed_at k front i ++ back
-  changed_left k [] back i p = absurd (omega arith)
-  changed_left k (x ∷ xs) back zero p = refl
-  changed_left k (x ∷ xs) back (suc i) p = ap (λ l. x ∷ l) (changed_left k xs back i (omega arith))
-
-  changed_right : (k : C → C) (front back : List C)
-      → changed_at k (front ++ back) (length front) ≡ front ++ changed_at k back 0
-  changed_right k [] back = refl
-  changed_right k (x ∷ xs) back = ap (λ l. x ∷ l) (changed_right k xs back)
-
-  get_left : (front back : List C) (i : ℕ) (x : C)
-      → i < length front → x ≡ get_or front i x → slice_get (front ++ back) i ≡ Some x
-  get_left [] back i x p is = absurd (omega arith)
-  get_left (y ∷ ys) back zero x p is = ap Some (sym is)
-  get_left (y ∷ ys) back (suc i) x p is = get_left ys back i x (omega arith) is
-
-  get_right : (front back : List C) (x : C)
-      → 0 < length back → x ≡ get_or back 0 x → slice_get (front ++ back) (length front) ≡ Some x
-  get_right [] [] x p is = absurd (omega arith)
-  get_right [] (y ∷ ys) x p is = ap Some (sym is)
-  get_right (z ∷ zs) back x p is = get_right zs back x p is
-
-  module _ (j k : C → C) (front back : List C) (i : ℕ) (x y : C) (within : i < length front)
-      (x_is : x ≡ get_or front i x) (y_is : y ≡ get_or back 0 y) where
-    both_set : changed_at j front i ++ changed_at k back 0 ≡ set front i (j x) ++ set back 0 (k y)
-    both_set =
-        ap (λ l. l ++ changed_at k back 0) (changed_is_set j front i x x_is)
-        ∙ ap (λ l. set front i (j x) ++ l) (changed_is_set k back 0 y y_is)
-
-    left_first : set front i (j x) ++ set back 0 (k y) ≡ changed_at k (changed_at j (front ++ back) i) (length front)
-    left_first =
-        sym both_set ∙ sym (changed_right k (changed_at j front i) back)
-        ∙ ap (changed_at k (changed_at j front i ++ back)) (length-changed j front i)
-        ∙ ap (λ l. changed_at k l (length front)) (sym (changed_left j front back i within))
-
-    right_first : set front i (j x) ++ set back 0 (k y) ≡ changed_at j (changed_at k (front ++ back) (length front)) i
-    right_first =
-        sym both_set ∙ sym (changed_left j front (changed_at k back 0) i within)
-        ∙ ap (λ l. changed_at j l i) (sym (changed_right k front back))
-
-module _ {C W : Type 0} (weight : C → W) (old front back : List C) where
-  pub weight_left : (i : ℕ) (x : C) (w : W) → old ≡ front ++ back → i < length front → x ≡ get_or front i x
-      → w ≡ weight x → option_map weight (slice_get old i) ≡ Some w
-  weight_left i x w is p x_is w_is =
-      ap (λ l. option_map weight (slice_get l i)) is ∙ ap (option_map weight) (get_left front back i x p x_is)
-      ∙ ap Some (sym w_is)
-
-  pub weight_right : (i : ℕ) (x : C) (w : W) → old ≡ front ++ back → length front ≡ i → 0 < length back
-      → x ≡ get_or back 0 x → w ≡ weight x → option_map weight (slice_get old i) ≡ Some w
-  weight_right i x w is at p x_is w_is =
-      ap (λ l. option_map weight (slice_get l i)) is
-      ∙ ap (λ n. option_map weight (slice_get (front ++ back) n)) (sym at)
-      ∙ ap (option_map weight) (get_right front back x p x_is) ∙ ap Some (sym w_is)
-
-  pub more : (i : ℕ) → old ≡ front ++ back → length front ≡ i → i < length old → 0 < length back
-  more i is at within = omega (arith, at, within, ap length is, length-append front back)
-
-module _ {C W F R : Type 0} (weight : C → W) (put : W → C → C)
-    (g : Once F (MutBor W × (MutBor W × Unit {0})) (R × (MutBor W × (MutBor W × Unit {0})))) (f : F)
-    (old front back : List C) (r : R) where
-  -- the item at a is before the one at b
-  pub called_in_order : (a b : ℕ) (x y : C) (p q p' q' : MutBor W) → old ≡ front ++ back → length front ≡ b → a < b
-      → b < length old → x ≡ get_or front a x → y ≡ get_or back 0 y → p.now ≡ weight x → q.now ≡ weight y
-      → g.post f (p, (q, tt)) (r, (p', (q', tt)))
-      → CalledAtTwo g f (option_map weight (slice_get old a)) (option_map weight (slice_get old b)) r
-      (λ v w. changed_at (put w) (changed_at (put v) old a) b) (set front a (put p'.now x) ++ set back 0 (put q'.now y))
-  called_in_order a b x y p q p' q' is at order within x_is y_is p_is q_is called =
-      let first : a < length front = omega (arith, at, order) in
-      record {
-        first = p;
-        second = q;
-        first_left = p';
-        second_left = q';
-        shows = (
-          weight_left weight old front back a x p.now is first x_is p_is,
-          weight_right weight old front back b y q.now is at (more weight old front back b is at within) y_is q_is,
-        );
-        called = called;
-        leaves =
-            left_first (put p'.now) (put q'.now) front back a x y first x_is y_is
-            ∙ ap (changed_at (put q'.now) (changed_at (put p'.now) (front ++ back) a)) at
-            ∙ ap (λ l. changed_at (put q'.now) (changed_at (put p'.now) l a) b) (sym is);
-      }
-
-  -- the item at a is after the one at b
-  pub called_turned : (a b : ℕ) (x y : C) (p q p' q' : MutBor W) → old ≡ front ++ back → length front ≡ a → b < a
-      → a < length old → x ≡ get_or back 0 x → y ≡ get_or front b y → p.now ≡ weight x → q.now ≡ weight y
-      → g.post f (p, (q, tt)) (r, (p', (q', tt)))
-      → CalledAtTwo g f (option_map weight (slice_get old a)) (option_map weight (slice_get old b)) r
-      (λ v w. changed_at (put w) (changed_at (put v) old a) b) (set front b (put q'.now y) ++ set back 0 (put p'.now x))
-  called_turned a b x y p q p' q' is at order within x_is y_is p_is q_is called =
-      let second : b < length front = omega (arith, at, order) in
-      record {
-        first = p;
-        second = q;
-        first_left = p';
-        second_left = q';
-        shows = (
-          weight_right weight old front back a x p.now is at (more weight old front back a is at within) x_is p_is,
-          weight_left weight old front back b y q.now is second y_is q_is,
-        );
-        called = called;
-        leaves =
-            right_first (put q'.now) (put p'.now) front back b y x second y_is x_is
-            ∙ ap (λ n. changed_at (put q'.now) (changed_at (put p'.now) (front ++ back) n) b) at
-            ∙ ap (λ l. changed_at (put q'.now) (changed_at (put p'.now) l a) b) (sym is);
-      }
 
 pub called_at : {F X Y R S : Type 0}
     (g : Once F (MutBor X × (MutBor Y × Unit {0})) (R × (MutBor X × (MutBor Y × Unit {0})))) (f : F) (x : Option X)
@@ -143,3 +24,87 @@ called_at g f x y r put new p q p' q' p_is q_is called leaves = record {
   called = called;
   leaves = leaves;
 }
+
+module _ {C : Type 0} where
+  -- an item of the list, read in one of its parts
+  module _ (old front back : List C) (is : old ≡ front ++ back) (i : ℕ) (x : C) where
+    pub item_left : i < length old → i < length front → x ≡ get_or front i x → slice_get old i ≡ Some x
+    item_left within first reads =
+        slice_get_read old (length old) i x refl within
+        (reads ∙ sym (get_or_append_left front back x i first) ∙ ap (λ l. get_or l i x) (sym is))
+
+    pub item_right : i < length old → length front ≡ i → x ≡ get_or back 0 x → slice_get old i ≡ Some x
+    item_right within at reads =
+        slice_get_read old (length old) i x refl within
+        (reads ∙ sym (get_or-append-add front back 0 x) ∙ ap (λ n. get_or (front ++ back) n x) (omega (arith, at))
+        ∙ ap (λ l. get_or l i x) (sym is))
+
+  -- two items written in the parts: the one at i in front of the cut, and the first one behind it
+  module _ (old front back : List C) (is : old ≡ front ++ back) (i n : ℕ) (x y : C) (at : length front ≡ n)
+      (within : i < n) where
+    right_set : (l : List C) → length l ≡ n → set (l ++ back) n y ≡ l ++ set back 0 y
+    right_set l long = set-append_right l back n n y long (omega arith) ∙ ap (λ k. l ++ set back k y) (omega arith)
+
+    pub left_first : set front i x ++ set back 0 y ≡ set (set old i x) n y
+    left_first =
+        sym (right_set (set front i x) (length-set front i x ∙ at))
+        ∙ ap (λ l. set l n y) (sym (set-append_left front back i x (omega (arith, at, within))))
+        ∙ ap (λ l. set (set l i x) n y) (sym is)
+
+    pub right_first : set front i x ++ set back 0 y ≡ set (set old n y) i x
+    right_first =
+        sym (set-append_left front (set back 0 y) i x (omega (arith, at, within)))
+        ∙ ap (λ l. set l i x) (sym (right_set front at)) ∙ ap (λ l. set (set l n y) i x) (sym is)
+
+  pub changed_is_set : (k : C → C) (xs : List C) (i : ℕ) (x : C)
+      → x ≡ get_or xs i x → changed_at k xs i ≡ set xs i (k x)
+  changed_is_set k [] i x is = refl
+  changed_is_set k (y ∷ ys) zero x is = ap (λ z. k z ∷ ys) (sym is)
+  changed_is_set k (y ∷ ys) (suc i) x is = ap (λ l. y ∷ l) (changed_is_set k ys i x is)
+
+  pub length-changed : (k : C → C) (xs : List C) (i : ℕ) → length (changed_at k xs i) ≡ length xs
+  length-changed k [] i = refl
+  length-changed k (y ∷ ys) zero = refl
+  length-changed k (y ∷ ys) (suc i) = ap suc (length-changed k ys i)
+
+  -- an item of a list that is long enough
+  pub item_at : (xs : List C) (i : ℕ) → i < length xs → (x : C) × (x ≡ get_or xs i x)
+  item_at [] i p = absurd (omega arith)
+  item_at (x ∷ xs) zero p = (x, refl)
+  item_at (x ∷ xs) (suc i) p = item_at xs i (omega arith)
+
+  -- a whole list that was lent and comes back
+  pub refilled : (n : ℕ) (xs ys : List C)
+      → n ≡ length xs → length ys ≡ length xs → ys ≡ take n (ys ++ drop (length ys) xs)
+  refilled n xs ys n_is same =
+      sym (ap (λ k. take k (ys ++ drop (length ys) xs)) (n_is ∙ sym same) ∙ take-append_seam ys (drop (length ys) xs))
+
+  -- items that are changed are written
+  set_once : (k : C → C) (xs : List C) (i : ℕ) (x : C) → slice_get xs i ≡ Some x → set xs i (k x) ≡ changed_at k xs i
+  set_once k xs i x is = sym (changed_is_set k xs i x (sym (get_or_from_slice_get xs i x x is)))
+
+  set_twice : (j k : C → C) (xs : List C) (a b : ℕ) (x y : C)
+      → a ≢ b → slice_get xs a ≡ Some x → slice_get xs b ≡ Some y
+      → set (set xs a (j x)) b (k y) ≡ changed_at k (changed_at j xs a) b
+  set_twice j k [] a b x y other x_is y_is = refl
+  set_twice j k (z ∷ zs) zero zero x y other x_is y_is = absurd (other refl)
+  set_twice j k (z ∷ zs) zero (suc b) x y other x_is y_is =
+      ap (λ v. j v ∷ set zs b (k y)) (sym (same_Some z x x_is)) ∙ ap (λ l. j z ∷ l) (set_once k zs b y y_is)
+  set_twice j k (z ∷ zs) (suc a) zero x y other x_is y_is =
+      ap (λ v. k v ∷ set zs a (j x)) (sym (same_Some z y y_is)) ∙ ap (λ l. k z ∷ l) (set_once j zs a x x_is)
+  set_twice j k (z ∷ zs) (suc a) (suc b) x y other x_is y_is =
+      ap (λ l. z ∷ l) (set_twice j k zs a b x y (λ e. other (ap suc e)) x_is y_is)
+
+-- A call at two items that hands their weights on. A cell c shows weight c, and put v c is c with the weight v.
+module _ {C W F R : Type 0} (weight : C → Option W) (put : W → C → C)
+    (g : Once F (MutBor W × (MutBor W × Unit {0})) (R × (MutBor W × (MutBor W × Unit {0})))) (f : F) (old new : List C)
+    (a b : ℕ) (other : a ≢ b) (r : R) where
+  pub called_through : (x y x' y' : C) (v w : Option W) → slice_get old a ≡ Some x → slice_get old b ≡ Some y
+      → new ≡ set (set old a x') b y' → v ≡ weight x → w ≡ weight y
+      → CalledAtTwo g f (weight x) (weight y) {S = C × C} r (λ p q. (put p x, put q y)) (x', y')
+      → CalledAtTwo g f v w r (λ p q. changed_at (put q) (changed_at (put p) old a) b) new
+  called_through x y x' y' v w x_is y_is new_is v_is w_is call =
+      called_at g f v w r _ new call.first call.second call.first_left call.second_left (v_is ∙ call.shows.0)
+      (w_is ∙ call.shows.1) call.called
+      (new_is ∙ ap (λ z. set (set old a z.0) b z.1) call.leaves
+      ∙ set_twice (put call.first_left.now) (put call.second_left.now) old a b x y other x_is y_is)

@@ -4,3 +4,4 @@
 pub mod cell;
 pub mod links;
 pub mod reference;
+pub mod two_cells;

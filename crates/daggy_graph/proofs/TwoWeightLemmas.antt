@@ -1,7 +1,6 @@
 -- Another weight at two places at once.
 use Rattle.std.proofs.Common.{◌≡◌, ℕ, zero, suc, ◌<◌, List, [], ◌∷◌, ◌++◌, map, take, drop, length, get_or, set}
 use Rattle.std.proofs.Common.{slice_get, Option, Some, None, refl, sym, ap, subst, ◌∙◌, arith}
-use Rattle.std.proofs.Math.Seq.{take-append_seam}
 use Rattle.std.proofs.lemmas.Option.{slice_get_read}
 use Rattle.std.specs.Option.{option_map}
 use Rattle.daggy_base.specs.Graph.{Graph, slot, node_weight}
@@ -13,13 +12,8 @@ use Rattle.daggy_cells.specs.Fields.{plain}
 use Rattle.daggy_graph.specs.Stored.{stored_graph, Stores}
 use Rattle.daggy_cells.specs.Cells.{changed_at, node_of_weight, edge_of_weight, node_weight_at, edge_weight_at}
 use Rattle.daggy_cells.specs.Cells.{with_node_weights, with_edge_weights}
-use Rattle.daggy_cells.proofs.CellLemmas.{changed_is_set, length-changed}
+use Rattle.daggy_cells.proofs.CellLemmas.{changed_is_set, length-changed, item_at, refilled}
 use Rattle.daggy_graph.proofs.StoredLemmas.{Stores-weight, Stores-edge_weight}
-
-item_at : {C : Type 0} (xs : List C) (i : ℕ) → i < length xs → (x : C) × (x ≡ get_or xs i x)
-item_at [] i p = absurd (omega arith)
-item_at (x ∷ xs) zero p = (x, refl)
-item_at (x ∷ xs) (suc i) p = item_at xs i (omega arith)
 
 pub slots_read : {A B : Type 0} (f : A → B) (xs : List A) (i : ℕ)
     → slot (map (λ x. Some (f x)) xs) i ≡ option_map f (slice_get xs i)
@@ -31,11 +25,6 @@ mapped_twice : {A B C : Type 0} (f : A → B) (h : B → C) (o : Option A)
     → option_map h (option_map f o) ≡ option_map (λ x. h (f x)) o
 mapped_twice f h None = refl
 mapped_twice f h (Some x) = refl
-
-refilled : {C : Type 0} (n : ℕ) (xs ys : List C)
-    → n ≡ length xs → length ys ≡ length xs → ys ≡ take n (ys ++ drop (length ys) xs)
-refilled n xs ys n_is same =
-    sym (ap (λ k. take k (ys ++ drop (length ys) xs)) (n_is ∙ sym same) ∙ take-append_seam ys (drop (length ys) xs))
 
 module _ {N E Ix : Type 0} (end : ℕ) (nodes : List (Node N Ix)) (edges : List (Edge E Ix)) (g : Graph N E)
     (s : Stores end nodes edges g) where

@@ -5,9 +5,9 @@ pub mod ListSearches
 pub mod Changes
 pub mod StoredRemoval
 pub mod StoredWeights
-pub mod TwoCells
+pub mod TwoWeightLemmas
 pub mod Bounds
-pub mod SlottedGraph
+pub mod HeldGraph
 pub mod CopiedSlots
 pub mod MappedSlots
 pub mod BuiltSlots

@@ -1,6 +1,6 @@
 pub mod Stored
+pub mod Held
 pub mod Lends
-pub mod SlottedCells
 pub mod Building
 pub mod Ordering
 pub mod Cells

@@ -1,15 +1,17 @@
 //! Two weights to write at once.
-ghost use Rattle.std.specs.Prelude.{◌≢◌, ◌<◌, length};
+ghost use Rattle.std.specs.Prelude.{◌≢◌, Some};
 ghost use Rattle.daggy_base.specs.Graph.{node_weight as weight_at, HasNode, HasEdge};
 ghost use Rattle.daggy_base.specs.State.{with_graph};
 ghost use Rattle.daggy_base.specs.Weights.{edge_weight as edge_weight_of, with_node_weight};
 ghost use Rattle.daggy_base.specs.Weights.{with_edge_weight};
 ghost use Rattle.daggy_base.specs.Calls.{TakesAtTwo, CalledAtTwo};
-ghost use Rattle.daggy_cells.specs.Cells.{node_weight_at, edge_weight_at, with_node_weights};
-ghost use Rattle.daggy_cells.specs.Cells.{with_edge_weights};
+ghost use Rattle.daggy_cells.specs.declared.cell.Node.{Node};
+ghost use Rattle.daggy_cells.specs.declared.cell.Edge.{Edge};
+ghost use Rattle.daggy_cells.specs.Cells.{node_of_weight, edge_of_weight};
 
 use crate::graph::{DiGraph, Edge, Node};
 use daggy_base::index::{EdgeIndex, IndexType, NodeIndex};
+use daggy_cells::two_cells::at_two;
 
 impl<N, E, Ix: IndexType> DiGraph<N, E, Ix> {
     /// Calls `f` with the weights of two nodes, both to be written, and gives what `f` gives.
@@ -33,7 +35,17 @@ impl<N, E, Ix: IndexType> DiGraph<N, E, Ix> {
             (with_node_weight (with_node_weight self.old.graph (Ix.number a) v) (Ix.number b) w))
             self.new }
     {
-        at_nodes(self.nodes.as_mut_slice(), a.index(), b.index(), f)
+        at_two(
+            self.nodes.as_mut_slice(),
+            a.index(),
+            b.index(),
+            |x: &mut Node<N, Ix>, y: &mut Node<N, Ix>|
+                requires { TakesAtTwo F.FnOnce f (Some x.old.weight) (Some y.old.weight) }
+                ensures { CalledAtTwo F.FnOnce f (Some x.old.weight) (Some y.old.weight)
+                    {S = Node N Ix × Node N Ix} result
+                    (λ v w. (node_of_weight v x.old, node_of_weight w y.old)) (x.new, y.new) }
+            { f(&mut x.weight, &mut y.weight) },
+        )
     }
 
     /// Calls `f` with the weights of two edges, both to be written, and gives what `f` gives.
@@ -57,7 +69,17 @@ impl<N, E, Ix: IndexType> DiGraph<N, E, Ix> {
             (with_edge_weight (with_edge_weight self.old.graph (Ix.number a) v) (Ix.number b) w))
             self.new }
     {
-        at_edges(self.edges.as_mut_slice(), a.index(), b.index(), f)
+        at_two(
+            self.edges.as_mut_slice(),
+            a.index(),
+            b.index(),
+            |x: &mut Edge<E, Ix>, y: &mut Edge<E, Ix>|
+                requires { TakesAtTwo F.FnOnce f (Some x.old.weight) (Some y.old.weight) }
+                ensures { CalledAtTwo F.FnOnce f (Some x.old.weight) (Some y.old.weight)
+                    {S = Edge E Ix × Edge E Ix} result
+                    (λ v w. (edge_of_weight v x.old, edge_of_weight w y.old)) (x.new, y.new) }
+            { f(&mut x.weight, &mut y.weight) },
+        )
     }
 
     /// Calls `f` with the weights of a node and an edge, both to be written, and gives what `f`
@@ -83,62 +105,6 @@ impl<N, E, Ix: IndexType> DiGraph<N, E, Ix> {
     {
         let x = &mut self.nodes[n.index()];
         let y = &mut self.edges[e.index()];
-        f(&mut x.weight, &mut y.weight)
-    }
-}
-
-// Calls f with the weights of two of the nodes.
-fn at_nodes<N, R, Ix: IndexType, F: FnOnce(&mut N, &mut N) -> R>(
-    nodes: &mut [Node<N, Ix>],
-    a: usize,
-    b: usize,
-    f: F,
-) -> R
-    requires first { a < length nodes.old }
-    requires second { b < length nodes.old }
-    requires different { a ≢ b }
-    requires callable { TakesAtTwo F.FnOnce f (node_weight_at nodes.old a)
-        (node_weight_at nodes.old b) }
-    ensures { CalledAtTwo F.FnOnce f (node_weight_at nodes.old a) (node_weight_at nodes.old b)
-        result (with_node_weights nodes.old a b) nodes.new }
-{
-    if a < b {
-        let (front, back) = nodes.split_at_mut(b);
-        let x = &mut front[a];
-        let y = &mut back[0];
-        f(&mut x.weight, &mut y.weight)
-    } else {
-        let (front, back) = nodes.split_at_mut(a);
-        let x = &mut back[0];
-        let y = &mut front[b];
-        f(&mut x.weight, &mut y.weight)
-    }
-}
-
-// Calls f with the weights of two of the edges.
-fn at_edges<E, R, Ix: IndexType, F: FnOnce(&mut E, &mut E) -> R>(
-    edges: &mut [Edge<E, Ix>],
-    a: usize,
-    b: usize,
-    f: F,
-) -> R
-    requires first { a < length edges.old }
-    requires second { b < length edges.old }
-    requires different { a ≢ b }
-    requires callable { TakesAtTwo F.FnOnce f (edge_weight_at edges.old a)
-        (edge_weight_at edges.old b) }
-    ensures { CalledAtTwo F.FnOnce f (edge_weight_at edges.old a) (edge_weight_at edges.old b)
-        result (with_edge_weights edges.old a b) edges.new }
-{
-    if a < b {
-        let (front, back) = edges.split_at_mut(b);
-        let x = &mut front[a];
-        let y = &mut back[0];
-        f(&mut x.weight, &mut y.weight)
-    } else {
-        let (front, back) = edges.split_at_mut(a);
-        let x = &mut back[0];
-        let y = &mut front[b];
         f(&mut x.weight, &mut y.weight)
     }
 }

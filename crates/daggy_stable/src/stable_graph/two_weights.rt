@@ -1,16 +1,16 @@
 //! Two weights to write at once.
-ghost use Rattle.std.specs.Prelude.{◌≢◌, ◌<◌, Option, IsSome, Some, length};
+ghost use Rattle.std.specs.Prelude.{◌≡◌, ◌≢◌, Option, IsSome, Some};
 ghost use Rattle.daggy_base.specs.Graph.{node_weight as weight_at, HasNode, HasEdge};
 ghost use Rattle.daggy_base.specs.State.{with_graph};
 ghost use Rattle.daggy_base.specs.Weights.{edge_weight as edge_weight_of, with_node_weight};
 ghost use Rattle.daggy_base.specs.Weights.{with_edge_weight};
 ghost use Rattle.daggy_base.specs.Calls.{TakesAtTwo, CalledAtTwo};
-ghost use Rattle.daggy_stable.specs.Cells.{node_weight_in, edge_weight_in, with_node_weights};
-ghost use Rattle.daggy_stable.specs.Cells.{with_edge_weights};
+ghost use Rattle.daggy_cells.specs.Cells.{node_of_weight, edge_of_weight};
 
 use crate::stable_graph::StableDiGraph;
 use daggy_base::index::{EdgeIndex, IndexType, NodeIndex};
 use daggy_cells::cell::{Edge, Node};
+use daggy_cells::two_cells::at_two;
 
 impl<N, E, Ix: IndexType> StableDiGraph<N, E, Ix> {
     /// Calls `f` with the weights of two nodes, both to be written, and gives what `f` gives.
@@ -34,7 +34,20 @@ impl<N, E, Ix: IndexType> StableDiGraph<N, E, Ix> {
             (with_node_weight (with_node_weight self.old.graph (Ix.number a) v) (Ix.number b) w))
             self.new }
     {
-        at_nodes(self.nodes.as_mut_slice(), a.index(), b.index(), f)
+        at_two(
+            self.nodes.as_mut_slice(),
+            a.index(),
+            b.index(),
+            |x: &mut Node<Option<N>, Ix>, y: &mut Node<Option<N>, Ix>|
+                requires { IsSome x.old.weight × IsSome y.old.weight
+                    × TakesAtTwo F.FnOnce f x.old.weight y.old.weight }
+                ensures { CalledAtTwo F.FnOnce f x.old.weight y.old.weight
+                    {S = Option N × Option N} result (λ v w. (Some v, Some w))
+                    (x.new.weight, y.new.weight)
+                    × (x.new ≡ node_of_weight x.new.weight x.old)
+                    × (y.new ≡ node_of_weight y.new.weight y.old) }
+            { at_pair(&mut x.weight, &mut y.weight, f) },
+        )
     }
 
     /// Calls `f` with the weights of two edges, both to be written, and gives what `f` gives.
@@ -58,7 +71,20 @@ impl<N, E, Ix: IndexType> StableDiGraph<N, E, Ix> {
             (with_edge_weight (with_edge_weight self.old.graph (Ix.number a) v) (Ix.number b) w))
             self.new }
     {
-        at_edges(self.edges.as_mut_slice(), a.index(), b.index(), f)
+        at_two(
+            self.edges.as_mut_slice(),
+            a.index(),
+            b.index(),
+            |x: &mut Edge<Option<E>, Ix>, y: &mut Edge<Option<E>, Ix>|
+                requires { IsSome x.old.weight × IsSome y.old.weight
+                    × TakesAtTwo F.FnOnce f x.old.weight y.old.weight }
+                ensures { CalledAtTwo F.FnOnce f x.old.weight y.old.weight
+                    {S = Option E × Option E} result (λ v w. (Some v, Some w))
+                    (x.new.weight, y.new.weight)
+                    × (x.new ≡ edge_of_weight x.new.weight x.old)
+                    × (y.new ≡ edge_of_weight y.new.weight y.old) }
+            { at_pair(&mut x.weight, &mut y.weight, f) },
+        )
     }
 
     /// Calls `f` with the weights of a node and an edge, both to be written, and gives what `f`
@@ -85,66 +111,6 @@ impl<N, E, Ix: IndexType> StableDiGraph<N, E, Ix> {
         let x = &mut self.nodes[n.index()];
         let y = &mut self.edges[e.index()];
         at_slots(&mut x.weight, &mut y.weight, f)
-    }
-}
-
-// Calls f with the weights of two of the nodes.
-fn at_nodes<N, R, Ix: IndexType, F: FnOnce(&mut N, &mut N) -> R>(
-    nodes: &mut [Node<Option<N>, Ix>],
-    a: usize,
-    b: usize,
-    f: F,
-) -> R
-    requires first { a < length nodes.old }
-    requires second { b < length nodes.old }
-    requires first_held { IsSome (node_weight_in nodes.old a) }
-    requires second_held { IsSome (node_weight_in nodes.old b) }
-    requires different { a ≢ b }
-    requires callable { TakesAtTwo F.FnOnce f (node_weight_in nodes.old a)
-        (node_weight_in nodes.old b) }
-    ensures { CalledAtTwo F.FnOnce f (node_weight_in nodes.old a) (node_weight_in nodes.old b)
-        result (with_node_weights nodes.old a b) nodes.new }
-{
-    if a < b {
-        let (front, back) = nodes.split_at_mut(b);
-        let x = &mut front[a];
-        let y = &mut back[0];
-        at_pair(&mut x.weight, &mut y.weight, f)
-    } else {
-        let (front, back) = nodes.split_at_mut(a);
-        let x = &mut back[0];
-        let y = &mut front[b];
-        at_pair(&mut x.weight, &mut y.weight, f)
-    }
-}
-
-// Calls f with the weights of two of the edges.
-fn at_edges<E, R, Ix: IndexType, F: FnOnce(&mut E, &mut E) -> R>(
-    edges: &mut [Edge<Option<E>, Ix>],
-    a: usize,
-    b: usize,
-    f: F,
-) -> R
-    requires first { a < length edges.old }
-    requires second { b < length edges.old }
-    requires first_held { IsSome (edge_weight_in edges.old a) }
-    requires second_held { IsSome (edge_weight_in edges.old b) }
-    requires different { a ≢ b }
-    requires callable { TakesAtTwo F.FnOnce f (edge_weight_in edges.old a)
-        (edge_weight_in edges.old b) }
-    ensures { CalledAtTwo F.FnOnce f (edge_weight_in edges.old a) (edge_weight_in edges.old b)
-        result (with_edge_weights edges.old a b) edges.new }
-{
-    if a < b {
-        let (front, back) = edges.split_at_mut(b);
-        let x = &mut front[a];
-        let y = &mut back[0];
-        at_pair(&mut x.weight, &mut y.weight, f)
-    } else {
-        let (front, back) = edges.split_at_mut(a);
-        let x = &mut back[0];
-        let y = &mut front[b];
-        at_pair(&mut x.weight, &mut y.weight, f)
     }
 }
 

@@ -6,7 +6,8 @@ use daggy_base::index::{Direction, EdgeIndex, NodeIndex};
 use daggy_base::search::EdgeSource;
 use daggy_base::store::Store;
 use daggy_graph::graph::DiGraph;
-use daggy_stable::stable_graph::{Room, StableDiGraph};
+use daggy_slots::slot_capacity::Room;
+use daggy_stable::stable_graph::StableDiGraph;
 use std::alloc::Global;
 use std::process::Abort;
 

@@ -6,7 +6,8 @@ ghost use Rattle.daggy_base.specs.Path.{IsAcyclic};
 use crate::acyclic::{Acyclic, Dag};
 use daggy_base::index::IndexType;
 use daggy_base::search::Scratch;
-use daggy_stable::stable_graph::{Room, StableDiGraph};
+use daggy_slots::slot_capacity::Room;
+use daggy_stable::stable_graph::StableDiGraph;
 use std::alloc::{AllocError, Global};
 use std::marker::PhantomData;
 

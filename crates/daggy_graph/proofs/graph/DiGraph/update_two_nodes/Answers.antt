@@ -1,37 +1,46 @@
-use Rattle.std.proofs.Common.{length, sym, ap, ◌∙◌, arith}
+use Rattle.std.proofs.Common.{length, Some, sym, ap, ◌∙◌, arith}
+use Rattle.std.specs.Option.{option_map}
 use Rattle.daggy_base.specs.Weights.{with_node_weight}
 use Rattle.daggy_graph.specs.Stored.{stored_graph}
 use Rattle.daggy_graph.proofs.StoredLemmas.{stored_is, Stores-itself}
 use Rattle.daggy_base.proofs.MappedSlots.{slot_within}
+use Rattle.daggy_cells.specs.Cells.{node_of_weight}
 use Rattle.daggy_cells.proofs.States.{state_changed}
 use Rattle.daggy_graph.proofs.TwoWeightLemmas.{nodes_updated, node_shown}
-use Rattle.daggy_cells.proofs.CellLemmas.{called_at}
+use Rattle.daggy_cells.proofs.CellLemmas.{called_at, called_through}
 use Rattle.daggy_graph.proofs.graph.DiGraph.update_two_nodes.Goals as goal
 
-pub at_nodes-requires-clause-first : goal.at_nodes-requires-clause-first
-at_nodes-requires-clause-first g c =
+pub at_two-requires-clause-first : goal.at_two-requires-clause-first
+at_two-requires-clause-first g c =
     let within = slot_within (λ x. x.weight) c.self.inside.nodes.items _ (rw (← c.self.view_is) at c.requires.first) in
     omega (arith, within, c.index.ensures.value, ap length c.as_mut_slice.ensures.value)
 
-pub at_nodes-requires-clause-second : goal.at_nodes-requires-clause-second
-at_nodes-requires-clause-second g c =
+pub at_two-requires-clause-second : goal.at_two-requires-clause-second
+at_two-requires-clause-second g c =
     let within = slot_within (λ x. x.weight) c.self.inside.nodes.items _ (rw (← c.self.view_is) at c.requires.second) in
     omega (arith, within, c.index-2.ensures.value, ap length c.as_mut_slice.ensures.value)
 
-pub at_nodes-requires-clause-different : goal.at_nodes-requires-clause-different
-at_nodes-requires-clause-different g c same =
+pub at_two-requires-clause-different : goal.at_two-requires-clause-different
+at_two-requires-clause-different g c same =
     c.requires.different (sym c.index.ensures.value ∙ same ∙ c.index-2.ensures.value)
 
-pub at_nodes-requires-clause-callable : goal.at_nodes-requires-clause-callable
-at_nodes-requires-clause-callable g c p q first second =
+pub at_two-requires-clause-callable : goal.at_two-requires-clause-callable
+at_two-requires-clause-callable g c p q first second =
     let shown = node_shown c.self.inside.nodes.items c.self.inside.edges.items _ c.args.self.now c.self.view_is in
     let lent_is = c.as_mut_slice.ensures.value in
-    c.requires.callable p q (shown _ _ c.index.ensures.value _ _ lent_is first)
-    (shown _ _ c.index-2.ensures.value _ _ lent_is second)
+    λ v w v_is w_is.
+    c.requires.callable v w
+    (shown _ _ c.index.ensures.value _ _ lent_is (ap (option_map (λ z. z.weight)) first ∙ v_is))
+    (shown _ _ c.index-2.ensures.value _ _ lent_is (ap (option_map (λ z. z.weight)) second ∙ w_is))
 
 pub invariant_of-self : goal.invariant_of-self
 invariant_of-self g c =
-    let r = c.at_nodes.ensures in
+    let sent = c.at_two.ensures in
+    let r =
+    called_through (λ z. Some z.weight) node_of_weight g.F.FnOnce c.args.f _ _ _ _
+    (λ same. c.requires.different (sym c.index.ensures.value ∙ same ∙ c.index-2.ensures.value)) _ sent.first.now
+    sent.second.now sent.first_left.now sent.second_left.now _ _ sent.shows.0 sent.shows.1 sent.leaves
+    (ap (option_map (λ z. z.weight)) sent.shows.0) (ap (option_map (λ z. z.weight)) sent.shows.1) sent.called in
     Stores-itself _ _ _ _ (nodes_updated _ _ _ _ c.self.invariant _ _ _ _ _ c.index.ensures.value
     c.index-2.ensures.value _ _ r.first_left.now r.second_left.now
     (slot_within (λ x. x.weight) c.self.inside.nodes.items _ (rw (← c.self.view_is) at c.requires.first))
@@ -40,7 +49,12 @@ invariant_of-self g c =
 
 pub returns : goal.returns
 returns g c =
-    let r = c.at_nodes.ensures in
+    let sent = c.at_two.ensures in
+    let r =
+    called_through (λ z. Some z.weight) node_of_weight g.F.FnOnce c.args.f _ _ _ _
+    (λ same. c.requires.different (sym c.index.ensures.value ∙ same ∙ c.index-2.ensures.value)) _ sent.first.now
+    sent.second.now sent.first_left.now sent.second_left.now _ _ sent.shows.0 sent.shows.1 sent.leaves
+    (ap (option_map (λ z. z.weight)) sent.shows.0) (ap (option_map (λ z. z.weight)) sent.shows.1) sent.called in
     let a = g.Ix.IndexType.number c.args.a in
     let b = g.Ix.IndexType.number c.args.b in
     let nodes = c.self.inside.nodes.items in

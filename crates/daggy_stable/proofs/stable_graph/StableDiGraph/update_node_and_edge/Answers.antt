@@ -4,8 +4,8 @@ use Rattle.daggy_cells.proofs.CellLemmas.{called_at}
 use Rattle.daggy_cells.proofs.States.{state_changed}
 use Rattle.daggy_stable.specs.Stored.{stored_graph}
 use Rattle.daggy_stable.proofs.Stores.{stored_is, Stores-itself}
-use Rattle.daggy_stable.proofs.TwoCells.{both_updated, node_has, edge_has, edge_stands, node_cell, edge_cell}
-use Rattle.daggy_stable.proofs.TwoCells.{edge_weighs}
+use Rattle.daggy_stable.proofs.TwoWeightLemmas.{both_updated, node_has, edge_has, edge_stands, node_cell, edge_cell}
+use Rattle.daggy_stable.proofs.TwoWeightLemmas.{edge_weighs}
 use Rattle.daggy_stable.proofs.stable_graph.StableDiGraph.update_node_and_edge.Goals as goal
 
 pub index_mut-y-requires : goal.index_mut-y-requires

@@ -1,15 +1,17 @@
-use Rattle.std.proofs.Common.{IsSome, ap, subst, ◌∙◌, arith}
+use Rattle.std.proofs.Common.{Some, IsSome, sym, ap, subst, ◌∙◌, arith}
 use Rattle.std.specs.Prelude.{length}
 use Rattle.daggy_base.specs.Weights.{with_edge_weight}
-use Rattle.daggy_cells.proofs.CellLemmas.{called_at}
+use Rattle.daggy_cells.specs.Cells.{edge_of_weight}
+use Rattle.daggy_cells.proofs.CellLemmas.{called_at, called_through}
 use Rattle.daggy_cells.proofs.States.{state_changed}
 use Rattle.daggy_stable.specs.Stored.{stored_graph}
 use Rattle.daggy_stable.proofs.Stores.{stored_is, Stores-itself}
-use Rattle.daggy_stable.proofs.TwoCells.{edges_updated, edge_has, edge_stands, edge_seen, edge_weighs}
+use Rattle.daggy_stable.proofs.TwoWeightLemmas.{edges_updated, edge_has, edge_stands, edge_seen, edge_weighs}
+use Rattle.daggy_stable.proofs.TwoWeightLemmas.{called_in_slots, edge_weight_got}
 use Rattle.daggy_stable.proofs.stable_graph.StableDiGraph.update_two_edges.Goals as goal
 
-pub at_edges-requires-clause-first : goal.at_edges-requires-clause-first
-at_edges-requires-clause-first g c =
+pub at_two-requires-clause-first : goal.at_two-requires-clause-first
+at_two-requires-clause-first g c =
     let nodes = c.self.inside.nodes.items in
     let edges = c.self.inside.edges.items in
     let lent_is = c.as_mut_slice.ensures.value in
@@ -20,8 +22,8 @@ at_edges-requires-clause-first g c =
       ap length lent_is,
     )
 
-pub at_edges-requires-clause-second : goal.at_edges-requires-clause-second
-at_edges-requires-clause-second g c =
+pub at_two-requires-clause-second : goal.at_two-requires-clause-second
+at_two-requires-clause-second g c =
     let nodes = c.self.inside.nodes.items in
     let edges = c.self.inside.edges.items in
     let lent_is = c.as_mut_slice.ensures.value in
@@ -32,28 +34,8 @@ at_edges-requires-clause-second g c =
       ap length lent_is,
     )
 
-pub at_edges-requires-clause-first_held : goal.at_edges-requires-clause-first_held
-at_edges-requires-clause-first_held g c =
-    let nodes = c.self.inside.nodes.items in
-    let edges = c.self.inside.edges.items in
-    let lent_is = c.as_mut_slice.ensures.value in
-    subst (λ o. IsSome o) (edge_seen _ nodes edges _ _ _ _ c.self.invariant _ c.args.self.now c.self.view_is
-    (g.Ix.IndexType.number c.args.a) c.index.result c.index.ensures.value _ lent_is)
-    (edge_weighs _ nodes edges _ _ _ _ c.self.invariant _ c.args.self.now c.self.view_is
-    (g.Ix.IndexType.number c.args.a) c.index.result c.index.ensures.value c.requires.first)
-
-pub at_edges-requires-clause-second_held : goal.at_edges-requires-clause-second_held
-at_edges-requires-clause-second_held g c =
-    let nodes = c.self.inside.nodes.items in
-    let edges = c.self.inside.edges.items in
-    let lent_is = c.as_mut_slice.ensures.value in
-    subst (λ o. IsSome o) (edge_seen _ nodes edges _ _ _ _ c.self.invariant _ c.args.self.now c.self.view_is
-    (g.Ix.IndexType.number c.args.b) c.index-2.result c.index-2.ensures.value _ lent_is)
-    (edge_weighs _ nodes edges _ _ _ _ c.self.invariant _ c.args.self.now c.self.view_is
-    (g.Ix.IndexType.number c.args.b) c.index-2.result c.index-2.ensures.value c.requires.second)
-
-pub at_edges-requires-clause-callable : goal.at_edges-requires-clause-callable
-at_edges-requires-clause-callable g c =
+pub at_two-requires-clause-callable : goal.at_two-requires-clause-callable
+at_two-requires-clause-callable g c =
     let nodes = c.self.inside.nodes.items in
     let edges = c.self.inside.edges.items in
     let lent_is = c.as_mut_slice.ensures.value in
@@ -63,14 +45,32 @@ at_edges-requires-clause-callable g c =
     let second_seen =
     edge_seen _ nodes edges _ _ _ _ c.self.invariant _ c.args.self.now c.self.view_is (g.Ix.IndexType.number c.args.b)
     c.index-2.result c.index-2.ensures.value _ lent_is in
-    λ p q p_is q_is. c.requires.callable p q (first_seen ∙ p_is) (second_seen ∙ q_is)
+    λ p q p_is q_is.
+    let first_at = first_seen ∙ edge_weight_got c.as_mut_slice.result.now c.index.result p.now p_is in
+    let second_at = second_seen ∙ edge_weight_got c.as_mut_slice.result.now c.index-2.result q.now q_is in (
+      subst (λ o. IsSome o) first_at (edge_weighs _ nodes edges _ _ _ _ c.self.invariant _ c.args.self.now
+          c.self.view_is
+          (g.Ix.IndexType.number c.args.a) c.index.result c.index.ensures.value c.requires.first),
+      subst (λ o. IsSome o) second_at (edge_weighs _ nodes edges _ _ _ _ c.self.invariant _ c.args.self.now
+          c.self.view_is
+          (g.Ix.IndexType.number c.args.b) c.index-2.result c.index-2.ensures.value c.requires.second),
+      λ v w v_is w_is. c.requires.callable v w (first_at ∙ v_is) (second_at ∙ w_is),
+    )
 
 pub invariant_of-self : goal.invariant_of-self
 invariant_of-self g c =
     let nodes = c.self.inside.nodes.items in
     let edges = c.self.inside.edges.items in
     let lent_is = c.as_mut_slice.ensures.value in
-    let r = c.at_edges.ensures in
+    let sent = c.at_two.ensures in
+    let r =
+    called_through (λ z. z.weight) (λ v x. edge_of_weight (Some v) x) g.F.FnOnce c.args.f _ _ _ _
+    (λ same. c.requires.different (sym c.index.ensures.value ∙ same ∙ c.index-2.ensures.value)) _ sent.first.now
+    sent.second.now sent.first_left.now sent.second_left.now _ _ sent.shows.0 sent.shows.1 sent.leaves
+    (edge_weight_got c.as_mut_slice.result.now c.index.result sent.first.now sent.shows.0)
+    (edge_weight_got c.as_mut_slice.result.now c.index-2.result sent.second.now sent.shows.1)
+    (called_in_slots (λ z. z.weight) edge_of_weight g.F.FnOnce c.args.f _ _ _ _ _ sent.called.0 sent.called.1
+    sent.called.2) in
     let a = g.Ix.IndexType.number c.args.a in
     let b = g.Ix.IndexType.number c.args.b in
     let first =
@@ -89,7 +89,15 @@ returns g c =
     let nodes = c.self.inside.nodes.items in
     let edges = c.self.inside.edges.items in
     let lent_is = c.as_mut_slice.ensures.value in
-    let r = c.at_edges.ensures in
+    let sent = c.at_two.ensures in
+    let r =
+    called_through (λ z. z.weight) (λ v x. edge_of_weight (Some v) x) g.F.FnOnce c.args.f _ _ _ _
+    (λ same. c.requires.different (sym c.index.ensures.value ∙ same ∙ c.index-2.ensures.value)) _ sent.first.now
+    sent.second.now sent.first_left.now sent.second_left.now _ _ sent.shows.0 sent.shows.1 sent.leaves
+    (edge_weight_got c.as_mut_slice.result.now c.index.result sent.first.now sent.shows.0)
+    (edge_weight_got c.as_mut_slice.result.now c.index-2.result sent.second.now sent.shows.1)
+    (called_in_slots (λ z. z.weight) edge_of_weight g.F.FnOnce c.args.f _ _ _ _ _ sent.called.0 sent.called.1
+    sent.called.2) in
     let a = g.Ix.IndexType.number c.args.a in
     let b = g.Ix.IndexType.number c.args.b in
     let first =

@@ -1,15 +1,17 @@
-use Rattle.std.proofs.Common.{IsSome, ap, subst, ◌∙◌, arith}
+use Rattle.std.proofs.Common.{Some, IsSome, sym, ap, subst, ◌∙◌, arith}
 use Rattle.std.specs.Prelude.{length}
 use Rattle.daggy_base.specs.Weights.{with_node_weight}
-use Rattle.daggy_cells.proofs.CellLemmas.{called_at}
+use Rattle.daggy_cells.specs.Cells.{node_of_weight}
+use Rattle.daggy_cells.proofs.CellLemmas.{called_at, called_through}
 use Rattle.daggy_cells.proofs.States.{state_changed}
-use Rattle.daggy_stable.specs.Stored.{stored_graph}
+use Rattle.daggy_stable.specs.Stored.{weight_of, stored_graph}
 use Rattle.daggy_stable.proofs.Stores.{stored_is, Stores-itself}
-use Rattle.daggy_stable.proofs.TwoCells.{nodes_updated, node_has, node_stands, node_seen}
+use Rattle.daggy_stable.proofs.TwoWeightLemmas.{nodes_updated, node_has, node_stands, node_seen}
+use Rattle.daggy_stable.proofs.TwoWeightLemmas.{called_in_slots, slot_got}
 use Rattle.daggy_stable.proofs.stable_graph.StableDiGraph.update_two_nodes.Goals as goal
 
-pub at_nodes-requires-clause-first : goal.at_nodes-requires-clause-first
-at_nodes-requires-clause-first g c =
+pub at_two-requires-clause-first : goal.at_two-requires-clause-first
+at_two-requires-clause-first g c =
     let nodes = c.self.inside.nodes.items in
     let edges = c.self.inside.edges.items in
     let lent_is = c.as_mut_slice.ensures.value in
@@ -20,8 +22,8 @@ at_nodes-requires-clause-first g c =
       ap length lent_is,
     )
 
-pub at_nodes-requires-clause-second : goal.at_nodes-requires-clause-second
-at_nodes-requires-clause-second g c =
+pub at_two-requires-clause-second : goal.at_two-requires-clause-second
+at_two-requires-clause-second g c =
     let nodes = c.self.inside.nodes.items in
     let edges = c.self.inside.edges.items in
     let lent_is = c.as_mut_slice.ensures.value in
@@ -32,24 +34,8 @@ at_nodes-requires-clause-second g c =
       ap length lent_is,
     )
 
-pub at_nodes-requires-clause-first_held : goal.at_nodes-requires-clause-first_held
-at_nodes-requires-clause-first_held g c =
-    let nodes = c.self.inside.nodes.items in
-    let edges = c.self.inside.edges.items in
-    let lent_is = c.as_mut_slice.ensures.value in
-    subst (λ o. IsSome o) (node_seen _ nodes edges _ _ _ _ c.self.invariant _ c.args.self.now c.self.view_is
-    (g.Ix.IndexType.number c.args.a) c.index.result c.index.ensures.value _ lent_is) c.requires.first
-
-pub at_nodes-requires-clause-second_held : goal.at_nodes-requires-clause-second_held
-at_nodes-requires-clause-second_held g c =
-    let nodes = c.self.inside.nodes.items in
-    let edges = c.self.inside.edges.items in
-    let lent_is = c.as_mut_slice.ensures.value in
-    subst (λ o. IsSome o) (node_seen _ nodes edges _ _ _ _ c.self.invariant _ c.args.self.now c.self.view_is
-    (g.Ix.IndexType.number c.args.b) c.index-2.result c.index-2.ensures.value _ lent_is) c.requires.second
-
-pub at_nodes-requires-clause-callable : goal.at_nodes-requires-clause-callable
-at_nodes-requires-clause-callable g c =
+pub at_two-requires-clause-callable : goal.at_two-requires-clause-callable
+at_two-requires-clause-callable g c =
     let nodes = c.self.inside.nodes.items in
     let edges = c.self.inside.edges.items in
     let lent_is = c.as_mut_slice.ensures.value in
@@ -59,14 +45,28 @@ at_nodes-requires-clause-callable g c =
     let second_seen =
     node_seen _ nodes edges _ _ _ _ c.self.invariant _ c.args.self.now c.self.view_is (g.Ix.IndexType.number c.args.b)
     c.index-2.result c.index-2.ensures.value _ lent_is in
-    λ p q p_is q_is. c.requires.callable p q (first_seen ∙ p_is) (second_seen ∙ q_is)
+    λ p q p_is q_is.
+    let first_at = first_seen ∙ slot_got weight_of c.as_mut_slice.result.now c.index.result p.now p_is in
+    let second_at = second_seen ∙ slot_got weight_of c.as_mut_slice.result.now c.index-2.result q.now q_is in (
+      subst (λ o. IsSome o) first_at c.requires.first,
+      subst (λ o. IsSome o) second_at c.requires.second,
+      λ v w v_is w_is. c.requires.callable v w (first_at ∙ v_is) (second_at ∙ w_is),
+    )
 
 pub invariant_of-self : goal.invariant_of-self
 invariant_of-self g c =
     let nodes = c.self.inside.nodes.items in
     let edges = c.self.inside.edges.items in
     let lent_is = c.as_mut_slice.ensures.value in
-    let r = c.at_nodes.ensures in
+    let sent = c.at_two.ensures in
+    let r =
+    called_through weight_of (λ v x. node_of_weight (Some v) x) g.F.FnOnce c.args.f _ _ _ _
+    (λ same. c.requires.different (sym c.index.ensures.value ∙ same ∙ c.index-2.ensures.value)) _ sent.first.now
+    sent.second.now sent.first_left.now sent.second_left.now _ _ sent.shows.0 sent.shows.1 sent.leaves
+    (slot_got weight_of c.as_mut_slice.result.now c.index.result sent.first.now sent.shows.0)
+    (slot_got weight_of c.as_mut_slice.result.now c.index-2.result sent.second.now sent.shows.1)
+    (called_in_slots weight_of node_of_weight g.F.FnOnce c.args.f _ _ _ _ _ sent.called.0 sent.called.1 sent.called.2)
+    in
     let a = g.Ix.IndexType.number c.args.a in
     let b = g.Ix.IndexType.number c.args.b in
     let first =
@@ -85,7 +85,15 @@ returns g c =
     let nodes = c.self.inside.nodes.items in
     let edges = c.self.inside.edges.items in
     let lent_is = c.as_mut_slice.ensures.value in
-    let r = c.at_nodes.ensures in
+    let sent = c.at_two.ensures in
+    let r =
+    called_through weight_of (λ v x. node_of_weight (Some v) x) g.F.FnOnce c.args.f _ _ _ _
+    (λ same. c.requires.different (sym c.index.ensures.value ∙ same ∙ c.index-2.ensures.value)) _ sent.first.now
+    sent.second.now sent.first_left.now sent.second_left.now _ _ sent.shows.0 sent.shows.1 sent.leaves
+    (slot_got weight_of c.as_mut_slice.result.now c.index.result sent.first.now sent.shows.0)
+    (slot_got weight_of c.as_mut_slice.result.now c.index-2.result sent.second.now sent.shows.1)
+    (called_in_slots weight_of node_of_weight g.F.FnOnce c.args.f _ _ _ _ _ sent.called.0 sent.called.1 sent.called.2)
+    in
     let a = g.Ix.IndexType.number c.args.a in
     let b = g.Ix.IndexType.number c.args.b in
     let first =

@@ -1,7 +1,7 @@
 use Rattle.std.proofs.Common.{◌≡◌, ◌++◌, ◌+◌, ◌≤◌, length, map, vec_capacity}
 use Rattle.std.specs.Vec.Iter.{into_iter_items}
-use Rattle.daggy_stable.specs.SlottedCells.{slotted_node}
-use Rattle.daggy_stable.proofs.stable_graph.slot_capacity.put_nodes.Given as goal
+use Rattle.daggy_slots.specs.SlottedCells.{slotted_node}
+use Rattle.daggy_slots.proofs.slot_capacity.put_nodes.Given as goal
 
 abbrev pub invariant-each : goal.invariant-each
 invariant-each g l =

@@ -1,15 +1,13 @@
 //! Memory that is taken first, and a compact graph that is then put into it.
 ghost use Rattle.std.specs.Prelude.{◌≡◌, ◌≤◌, [], length, map, vec_capacity, IfOk};
 ghost use Rattle.daggy_base.specs.Graph.{node_count as node_count_of, edge_count as edge_count_of};
-ghost use Rattle.daggy_stable.specs.SlottedCells.{slotted_node, slotted_edge};
+ghost use Rattle.daggy_slots.specs.SlottedCells.{slotted_node, slotted_edge};
 
-use crate::stable_graph::StableDiGraph;
 use daggy_base::index::{DefaultIx, Direction, IndexType};
-use daggy_base::link::Link;
-use daggy_base::search::Looks;
 use daggy_cells::cell::{Edge, Node};
 use daggy_cells::links;
 use daggy_graph::graph::DiGraph;
+use daggy_stable::stable_graph::StableDiGraph;
 use std::alloc::{AllocError, Global};
 use std::marker::Model;
 
@@ -60,22 +58,15 @@ impl<N, E, Ix: IndexType> Room<N, E, Ix> {
         requires edges { edge_count_of graph.graph ≤ self.edges }
         ensures { result ≡ record { graph = graph.graph; looks = 0 } }
     {
-        let node_count = graph.node_count();
-        let edge_count = graph.edge_count();
+        // No slot is vacant, and the parts of the graph agree.
+        let _compact = graph.node_count();
+        let _many = graph.edge_count();
         let (old_nodes, old_edges) = graph.into_raw();
         let mut nodes = self.nodes;
         let mut edges = self.edges;
         put_nodes(old_nodes, &mut nodes);
         put_edges(old_edges, &mut edges);
-        StableDiGraph {
-            nodes,
-            edges,
-            first_vacant_node: Link::end(),
-            first_vacant_edge: Link::end(),
-            node_count,
-            edge_count,
-            looks: Looks::new(),
-        }
+        StableDiGraph::from_cells(nodes, edges)
     }
 }
 

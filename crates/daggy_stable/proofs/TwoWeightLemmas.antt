@@ -1,9 +1,7 @@
--- Two cells of a list at once, and the list cut between them.
-use Rattle.std.proofs.Common.{◌≡◌, ◌≢◌, ℕ, zero, suc, ◌<◌, List, [], ◌∷◌, ◌++◌, map, take, drop, length, get_or, set}
-use Rattle.std.proofs.Common.{Option, Some, None, IsSome, refl, sym, ap, subst, ◌∙◌, arith}
-use Rattle.std.proofs.Math.Seq.{take-append_seam}
-use Rattle.std.proofs.lemmas.List.{length-set, get_or_append_left, get_or-append-add, get_or-set_other, set-append_left}
-use Rattle.std.proofs.lemmas.List.{set-append_right}
+-- Another weight in two slots at once.
+use Rattle.std.proofs.Common.{◌≡◌, ℕ, zero, suc, ◌<◌, List, [], ◌∷◌, ◌++◌, map, take, drop, length, get_or, set}
+use Rattle.std.proofs.Common.{slice_get, Option, Some, None, IsSome, refl, sym, ap, subst, ◌∙◌, arith}
+use Rattle.std.proofs.lemmas.Option.{same_Some, none-some}
 use Rattle.std.specs.Borrow.{MutBor}
 use Rattle.std.specs.Fn.{Once}
 use Rattle.std.specs.Option.{option_map}
@@ -14,7 +12,7 @@ use Rattle.daggy_cells.specs.declared.cell.Node.{Node}
 use Rattle.daggy_cells.specs.declared.cell.Edge.{Edge}
 use Rattle.daggy_base.specs.Calls.{CalledAtTwo}
 use Rattle.daggy_cells.specs.Cells.{changed_at, node_of_weight, edge_of_weight}
-use Rattle.daggy_cells.proofs.CellLemmas.{changed_is_set, length-changed, called_at}
+use Rattle.daggy_cells.proofs.CellLemmas.{changed_is_set, length-changed, item_at, refilled, called_at}
 use Rattle.daggy_base.proofs.MappedSlots.{slot_read}
 use Rattle.daggy_stable.specs.Cells.{node_weight_in, edge_weight_in, with_node_weights, with_edge_weights}
 use Rattle.daggy_stable.specs.Stored.{weight_of, plain_edge, stored_graph, Stores}
@@ -23,104 +21,35 @@ use Rattle.daggy_stable.proofs.StoredRemoval.{weight_plain}
 use Rattle.daggy_stable.proofs.Stores.{some_is, edge_within}
 use Rattle.daggy_stable.proofs.StoredWeights.{node_weighed, edge_weighed}
 
-module _ {C : Type 0} where
-  changed_both : (j k : C → C) (xs : List C) (a b : ℕ) (x y : C) → a ≢ b → x ≡ get_or xs a x → y ≡ get_or xs b y
-      → changed_at k (changed_at j xs a) b ≡ set (set xs a (j x)) b (k y)
-  changed_both j k xs a b x y other x_is y_is =
-      ap (λ l. changed_at k l b) (changed_is_set j xs a x x_is)
-      ∙ changed_is_set k (set xs a (j x)) b y (y_is ∙ sym (get_or-set_other xs a b (j x) y (λ e. other (sym e))))
+-- A call at what two slots hold, which leaves all but the weights as it was. A cell c shows weight c, and put o c is c
+-- with o in place of its weight.
+module _ {C W F R : Type 0} (weight : C → Option W) (put : Option W → C → C)
+    (g : Once F (MutBor W × (MutBor W × Unit {0})) (R × (MutBor W × (MutBor W × Unit {0})))) (f : F) where
+  pub called_in_slots : (x y x' y' : C) (r : R)
+      → CalledAtTwo g f (weight x) (weight y) {S = Option W × Option W} r (λ v w. (Some v, Some w))
+      (weight x', weight y')
+      → x' ≡ put (weight x') x → y' ≡ put (weight y') y
+      → CalledAtTwo g f (weight x) (weight y) {S = C × C} r (λ v w. (put (Some v) x, put (Some w) y)) (x', y')
+  called_in_slots x y x' y' r call x_is y_is =
+      called_at g f (weight x) (weight y) r (λ v w. (put (Some v) x, put (Some w) y)) (x', y') call.first call.second
+      call.first_left call.second_left call.shows.0 call.shows.1 call.called
+      (ap (λ z. (z, y')) x_is ∙ ap (λ z. (put (weight x') x, z)) y_is
+      ∙ ap (λ z. (put z.0 x, put z.1 y)) call.leaves)
 
-  module _ (old front back : List C) (is : old ≡ front ++ back) where
-    -- a cell of the list, read in one of its parts
-    front_reads : (i : ℕ) (x : C) → i < length front → x ≡ get_or front i x → x ≡ get_or old i x
-    front_reads i x within reads =
-        reads ∙ sym (get_or_append_left front back x i within) ∙ ap (λ l. get_or l i x) (sym is)
+pub slot_got : {A B : Type 0} (f : A → Option B) (xs : List A) (i : ℕ) (x : A)
+    → slice_get xs i ≡ Some x → slot (map f xs) i ≡ f x
+slot_got f [] i x at = absurd (none-some x at)
+slot_got f (y ∷ ys) zero x at = ap f (same_Some y x at)
+slot_got f (y ∷ ys) (suc i) x at = slot_got f ys i x at
 
-    back_reads : (i : ℕ) (x : C) → length front ≡ i → x ≡ get_or back 0 x → x ≡ get_or old i x
-    back_reads i x at reads =
-        reads ∙ sym (get_or-append-add front back 0 x) ∙ ap (λ n. get_or (front ++ back) n x) (omega (arith, at))
-        ∙ ap (λ l. get_or l i x) (sym is)
-
-    back_set : (i : ℕ) (x : C) (l : List C) → length l ≡ i → set (l ++ back) i x ≡ l ++ set back 0 x
-    back_set i x l at = set-append_right l back i i x at (omega arith) ∙ ap (λ n. l ++ set back n x) (omega arith)
-
-    module _ (j k : C → C) (a b : ℕ) (x y : C) where
-      -- the cell at a is before the one at b
-      set_in_order : length front ≡ b → a < b → x ≡ get_or front a x → y ≡ get_or back 0 y
-          → set front a (j x) ++ set back 0 (k y) ≡ changed_at k (changed_at j old a) b
-      set_in_order at order x_is y_is =
-          let within : a < length front = omega (arith, at, order) in
-          let long : length (set front a (j x)) ≡ b = length-set front a (j x) ∙ at in
-          let cut : set (set (front ++ back) a (j x)) b (k y) ≡ set front a (j x) ++ set back 0 (k y) =
-          ap (λ l. set l b (k y)) (set-append_left front back a (j x) within)
-          ∙ back_set b (k y) (set front a (j x)) long in
-          sym cut ∙ ap (λ l. set (set l a (j x)) b (k y)) (sym is)
-          ∙ sym
-          (changed_both j k old a b x y (omega (arith, order)) (front_reads a x within x_is) (back_reads b y at y_is))
-
-      -- it is after the one at b
-      set_turned : length front ≡ a → b < a → x ≡ get_or back 0 x → y ≡ get_or front b y
-          → set front b (k y) ++ set back 0 (j x) ≡ changed_at k (changed_at j old a) b
-      set_turned at order x_is y_is =
-          let within : b < length front = omega (arith, at, order) in
-          let cut : set (set (front ++ back) a (j x)) b (k y) ≡ set front b (k y) ++ set back 0 (j x) =
-          ap (λ l. set l b (k y)) (back_set a (j x) front at)
-          ∙ set-append_left front (set back 0 (j x)) b (k y) within in
-          sym cut ∙ ap (λ l. set (set l a (j x)) b (k y)) (sym is)
-          ∙ sym
-          (changed_both j k old a b x y (omega (arith, order)) (back_reads a x at x_is) (front_reads b y within y_is))
-
--- What places of the whole list show is said by shows, what a cell holds by weight.
-module _ {C W : Type 0} (weight : C → Option W) (old front back : List C) (is : old ≡ front ++ back)
-    (shows : ℕ → Option W) (read : (i : ℕ) (z : C) → i < length old → z ≡ get_or old i z → shows i ≡ weight z) where
-  pub front_shows : (i : ℕ) (x : C) → i < length old → i < length front → x ≡ get_or front i x → shows i ≡ weight x
-  front_shows i x i_in within reads = read i x i_in (front_reads old front back is i x within reads)
-
-  pub back_shows : (i : ℕ) (x : C) → i < length old → length front ≡ i → x ≡ get_or back 0 x → shows i ≡ weight x
-  back_shows i x i_in at reads = read i x i_in (back_reads old front back is i x at reads)
-
-  -- A call at what two cells hold, one in front of the cut and one right behind it. What is left is put there by put.
-  module _ {F R : Type 0} (put : Option W → C → C)
-      (g : Once F (MutBor W × (MutBor W × Unit {0})) (R × (MutBor W × (MutBor W × Unit {0})))) (f : F) (a b : ℕ)
-      (a_in : a < length old) (b_in : b < length old) (x y : C) (v w v' w' : Option W) (v_is : v ≡ weight x)
-      (w_is : w ≡ weight y) (r : R) where
-    -- the cell at a is before the one at b
-    pub called_in_order : CalledAtTwo g f v w {S = Option W × Option W} r (λ p q. (Some p, Some q)) (v', w')
-        → length front ≡ b → a < b → x ≡ get_or front a x → y ≡ get_or back 0 y
-        → CalledAtTwo g f (shows a) (shows b) r (λ p q. changed_at (put (Some q)) (changed_at (put (Some p)) old a) b)
-        (set front a (put v' x) ++ set back 0 (put w' y))
-    called_in_order call at order x_is y_is =
-        called_at g f (shows a) (shows b) r _ _ call.first call.second call.first_left call.second_left
-        (front_shows a x a_in (omega (arith, at, order)) x_is ∙ sym v_is ∙ call.shows.0)
-        (back_shows b y b_in at y_is ∙ sym w_is ∙ call.shows.1)
-        call.called
-        (ap (λ z. set front a (put z.0 x) ++ set back 0 (put z.1 y)) call.leaves
-        ∙ set_in_order old front back is (put (Some call.first_left.now)) (put (Some call.second_left.now)) a b x y at
-        order x_is y_is)
-
-    -- it is after the one at b
-    pub called_turned : CalledAtTwo g f v w {S = Option W × Option W} r (λ p q. (Some p, Some q)) (v', w')
-        → length front ≡ a → b < a → x ≡ get_or back 0 x → y ≡ get_or front b y
-        → CalledAtTwo g f (shows a) (shows b) r (λ p q. changed_at (put (Some q)) (changed_at (put (Some p)) old a) b)
-        (set front b (put w' y) ++ set back 0 (put v' x))
-    called_turned call at order x_is y_is =
-        called_at g f (shows a) (shows b) r _ _ call.first call.second call.first_left call.second_left
-        (back_shows a x a_in at x_is ∙ sym v_is ∙ call.shows.0)
-        (front_shows b y b_in (omega (arith, at, order)) y_is ∙ sym w_is ∙ call.shows.1)
-        call.called
-        (ap (λ z. set front b (put z.1 y) ++ set back 0 (put z.0 x)) call.leaves
-        ∙ set_turned old front back is (put (Some call.first_left.now)) (put (Some call.second_left.now)) a b x y at
-        order x_is y_is)
+pub edge_weight_got : {E Ix : Type 0} (edges : List (Edge (Option E) Ix)) (e : ℕ) (x : Edge (Option E) Ix)
+    → slice_get edges e ≡ Some x → edge_weight_in edges e ≡ x.weight
+edge_weight_got edges e x at = ap (option_map (λ z. z.weight)) (slot_got plain_edge edges e x at) ∙ weight_plain x
 
 pub edge_weight_read : {E Ix : Type 0} (edges : List (Edge (Option E) Ix)) (e : ℕ) (x : Edge (Option E) Ix)
     → e < length edges → x ≡ get_or edges e x → edge_weight_in edges e ≡ x.weight
 edge_weight_read edges e x within is =
     ap (option_map (λ z. z.weight)) (slot_read plain_edge edges e x within is) ∙ weight_plain x
-
-item_at : {C : Type 0} (xs : List C) (i : ℕ) → i < length xs → (x : C) × (x ≡ get_or xs i x)
-item_at [] i p = absurd (omega arith)
-item_at (x ∷ xs) zero p = (x, refl)
-item_at (x ∷ xs) (suc i) p = item_at xs i (omega arith)
 
 still_some : {A B : Type 0} (f : A → B) (o : Option A) → IsSome o → IsSome (option_map f o)
 still_some f None has = has
@@ -133,11 +62,6 @@ still_there (x ∷ xs) zero zero o some there = some
 still_there (x ∷ xs) zero (suc b) o some there = there
 still_there (x ∷ xs) (suc a) zero o some there = there
 still_there (x ∷ xs) (suc a) (suc b) o some there = still_there xs a b o some there
-
-refilled : {C : Type 0} (n : ℕ) (xs ys : List C)
-    → n ≡ length xs → length ys ≡ length xs → ys ≡ take n (ys ++ drop (length ys) xs)
-refilled n xs ys n_is same =
-    sym (ap (λ k. take k (ys ++ drop (length ys) xs)) (n_is ∙ sym same) ∙ take-append_seam ys (drop (length ys) xs))
 
 module _ {N E Ix : Type 0} {end : ℕ} {nodes : List (Node (Option N) Ix)} {edges : List (Edge (Option E) Ix)}
     {node_head edge_head nodes_counted edges_counted : ℕ} {g : Graph N E}

@@ -1,0 +1,33 @@
+//! A graph of cells that were made elsewhere.
+ghost use Rattle.std.specs.Prelude.{◌≡◌};
+ghost use Rattle.daggy_base.specs.Graph.{Graph};
+ghost use Rattle.daggy_stable.specs.Held.{HoldsGraph};
+
+use crate::stable_graph::StableDiGraph;
+use daggy_base::index::IndexType;
+use daggy_base::link::Link;
+use daggy_base::search::Looks;
+use daggy_cells::cell::{Edge, Node};
+
+impl<N, E, Ix: IndexType> StableDiGraph<N, E, Ix> {
+    /// The graph that these cells hold, in which no slot is vacant.
+    ///
+    /// Constant time. It takes no memory.
+    pub fn from_cells(nodes: Vec<Node<Option<N>, Ix>>, edges: Vec<Edge<Option<E>, Ix>>) -> Self
+        requires { (graph : Graph N E) × HoldsGraph Ix.greatest nodes.items edges.items graph }
+        ensures { (graph : Graph N E) → HoldsGraph Ix.greatest nodes.items edges.items graph
+            → result ≡ record { graph = graph; looks = 0 } }
+    {
+        let node_count = nodes.len();
+        let edge_count = edges.len();
+        StableDiGraph {
+            nodes,
+            edges,
+            first_vacant_node: Link::end(),
+            first_vacant_edge: Link::end(),
+            node_count,
+            edge_count,
+            looks: Looks::new(),
+        }
+    }
+}
