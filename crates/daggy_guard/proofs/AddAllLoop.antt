@@ -8,8 +8,7 @@ use Rattle.std.specs.Prelude.{◌↔◌, Contains}
 use Rattle.daggy_base.specs.Graph.{Graph, HasNode, node_bound, edge_count}
 use Rattle.daggy_base.specs.Path.{IsAcyclic}
 use Rattle.daggy_base.specs.Adding.{with_edge, next_edge}
-use Rattle.daggy_base.specs.Removal.{Kind, Compact}
-use Rattle.daggy_base.specs.Graph.{IsCompact}
+use Rattle.daggy_base.specs.Removal.{Kind}
 use Rattle.daggy_base.specs.WellFormed.{IsWellFormed}
 use Rattle.std.specs.declared.alloc.Global.{Global}
 use Rattle.daggy_base.proofs.PathsWithEdge.{free_edge, still_cyclic, cyclic_with_edge}
@@ -22,11 +21,11 @@ use Rattle.daggy_guard.specs.BatchProgress.{IsBatchSoFar, IsFault, IsKept, IsSte
 use Rattle.daggy_guard.specs.declared.edge_batch.Fault.{Fault}
 use Rattle.daggy_guard.specs.declared.edge_batch.Fault.TheVariants.{BadEndpoint, Full, Memory}
 use Rattle.daggy_guard.specs.declared.edge_batch.Standing.{Standing}
-use Rattle.daggy_guard.specs.declared.edge_batch.Standing.TheVariants.{Kept, Left, Closed}
+use Rattle.daggy_guard.specs.declared.edge_batch.Standing.TheVariants.{Left, Closed}
 use Rattle.daggy_guard.proofs.AcceptedEdges.{accepted_if_acyclic, acyclic_if_accepted, order_before_edges}
 use Rattle.daggy_guard.proofs.AcceptedEdges.{count_with_edge, count_with_edges}
 use Rattle.daggy_guard.proofs.OrderAfterChange.{order_kept}
-use Rattle.daggy_guard.proofs.StandingAfterEdge.{step_order, step_kept, step_closed, step_left}
+use Rattle.daggy_guard.proofs.StandingAfterEdge.{stepped}
 
 -- one edge more
 edges_more : {N E : Type 0} (g : Graph N E) (xs : List (NewEdge E)) (x : NewEdge E)
@@ -91,139 +90,158 @@ module _ {N E : Type 0} {limit : ℕ} {kind : Kind} {before now : Graph N E} {xs
         slot_count_is = s.slot_count_is;
       }
 
-pub record Adding {I N E : Type 0} (number : I → ℕ) (limit : ℕ) (kind : Kind) (before now : Graph N E)
-    (given : List (I × I × E)) (edges : List ℕ) (slots : ℕ) (weights : List E)
-    (len₀ len₁ capacity node_capacity looks₀ looks : ℕ) (order : List ℕ) (standing : Standing) : Type 0 where
-  pub series : IsBatchSoFar limit kind before now (map (by_numbers number) given) edges slots
-  pub faultless : IsFaultless limit before (map (by_numbers number) given)
-  pub empty : weights ≡ []
-  pub spare : len₀ + len₁ ≤ capacity
-  pub fits : node_bound now ≤ node_capacity
-  pub few_looks : looks + looks_left (edge_count now) standing
-      ≤ looks₀ + ordering_looks (edge_count before) (length given)
-  pub ordered_before : IsOrderOf before order
-  pub ordered_now : IsKept standing → IsOrderOf now order
-  pub left : standing ≡ Left → 0 < length given
-  pub closed : standing ≡ Closed → IsAcyclic now → ⊥
+-- what a batch begins with: the graph, for how many nodes the scratch memory has room, and how often edges were looked
+-- at till then
+pub record Start (N E : Type 0) : Type 0 where
+  pub graph : Graph N E
+  pub room : ℕ
+  pub looks : ℕ
 
-pub adding_starts : {I N E : Type 0} {number : I → ℕ} {limit : ℕ} {kind : Kind} (g : Graph N E) (edges : List ℕ)
-    (slots : ℕ) (weights : List E) (len₀ len₁ capacity node_capacity looks : ℕ) (order : List ℕ)
-    → edges ≡ [] → slots ≡ length g.edges → (kind ≡ Compact → IsCompact g) → weights ≡ [] → len₀ ≡ 0 → len₁ ≡ 0
-    → node_bound g ≤ node_capacity → IsOrderOf g order
-    → Adding number limit kind g g [] edges slots weights len₀ len₁ capacity node_capacity looks looks order Kept
-adding_starts g edges slots weights len₀ len₁ capacity node_capacity looks order none many compact empty zero₀ zero₁
-    fits ordered =
-    record {
-      series = record {
-        now_is = refl;
-        indices_are = none;
-        well_formed = λ k h. absurd (omega arith);
-        compact = λ c. (compact c).edges;
-        slot_count_is = many;
-      };
-      faultless = tt;
-      empty = empty;
-      spare = omega (arith, zero₀, zero₁);
-      fits = fits;
-      few_looks = omega arith;
-      ordered_before = ordered;
-      ordered_now = λ k. ordered;
-      left = λ is. absurd cc;
-      closed = λ is. absurd cc;
-    }
+-- what a batch has so far: the graph with its edges, the items that were given, the indices of its edges, how many
+-- slots of edges there were before it, the weights that were taken back, how many weights and how many indices are held
+-- and for how many weights there is room, how often edges were looked at, the order, and how that stands to the edges
+pub record Batch (I N E : Type 0) : Type 0 where
+  pub graph : Graph N E
+  pub given : List (I × I × E)
+  pub edges : List ℕ
+  pub slots : ℕ
+  pub weights : List E
+  pub weights_held : ℕ
+  pub edges_held : ℕ
+  pub capacity : ℕ
+  pub looks : ℕ
+  pub order : List ℕ
+  pub standing : Standing
 
-module _ {I N E : Type 0} {number : I → ℕ} {limit : ℕ} {kind : Kind} {before now : Graph N E} {given : List (I × I × E)}
-    {edges : List ℕ} {slots : ℕ} {weights : List E} {len₀ len₁ capacity node_capacity looks₀ looks : ℕ} {order : List ℕ}
-    {standing : Standing} (s : Adding number limit kind before now given edges slots weights len₀ len₁ capacity
-    node_capacity looks₀ looks order standing) where
+-- the edges of the items that were given are all there, none of them is at fault, and the order is one of the graph
+-- before them, and of the graph with them as long as it is kept
+pub record Adding {I N E : Type 0} (number : I → ℕ) (limit : ℕ) (kind : Kind) (before : Start N E)
+    (batch : Batch I N E) : Type 0 where
+  pub series : IsBatchSoFar limit kind before.graph batch.graph (map (by_numbers number) batch.given) batch.edges
+      batch.slots
+  pub faultless : IsFaultless limit before.graph (map (by_numbers number) batch.given)
+  pub empty : batch.weights ≡ []
+  pub spare : batch.weights_held + batch.edges_held ≤ batch.capacity
+  pub fits : node_bound batch.graph ≤ before.room
+  pub few_looks : batch.looks + looks_left (edge_count batch.graph) batch.standing
+      ≤ before.looks + ordering_looks (edge_count before.graph) (length batch.given)
+  pub ordered_before : IsOrderOf before.graph batch.order
+  pub ordered_now : IsKept batch.standing → IsOrderOf batch.graph batch.order
+  pub left : batch.standing ≡ Left → 0 < length batch.given
+  pub closed : batch.standing ≡ Closed → IsAcyclic batch.graph → ⊥
+
+module _ {I N E : Type 0} {number : I → ℕ} {limit : ℕ} {kind : Kind} {before : Start N E} {batch : Batch I N E}
+    (s : Adding number limit kind before batch) where
   abbrev all : List (NewEdge E)
-  all = map (by_numbers number) given
+  all = map (by_numbers number) batch.given
 
   -- how many edges there are now
-  count_now : edge_count now ≡ edge_count before + length given
+  count_now : edge_count batch.graph ≡ edge_count before.graph + length batch.given
   count_now =
       omega (
         arith,
         ap edge_count s.series.now_is,
-        count_with_edges limit before all s.series.well_formed,
-        length-map given (by_numbers number),
+        count_with_edges limit before.graph all s.series.well_formed,
+        length-map batch.given (by_numbers number),
       )
 
-  as_many : length edges ≡ length given
-  as_many = ap length s.series.indices_are ∙ length-new_edges before all ∙ length-map given (by_numbers number)
+  as_many : length batch.edges ≡ length batch.given
+  as_many =
+      ap length s.series.indices_are ∙ length-new_edges before.graph all ∙ length-map batch.given (by_numbers number)
 
   -- the order after way was made for an edge more, whatever became of it
-  pub order_then : (order' : List ℕ) → (order' ≡ order) ⊎ IsOrderOf now order' → IsOrderOf before order'
+  pub order_then : (order' : List ℕ)
+      → (order' ≡ batch.order) ⊎ IsOrderOf batch.graph order' → IsOrderOf before.graph order'
   order_then order' is =
       elim is [
-        | inl e ↦ (let P : List ℕ → Type 0 = λ z. IsOrderOf before z in subst P (sym e) s.ordered_before)
-        | inr o ↦ order_before_edges limit before all s.series.well_formed order' (order_kept o (sym s.series.now_is))
+        | inl e ↦ (let P : List ℕ → Type 0 = λ z. IsOrderOf before.graph z in subst P (sym e) s.ordered_before)
+        | inr o ↦
+            order_before_edges limit before.graph all s.series.well_formed order' (order_kept o (sym s.series.now_is))
       ]
 
   -- it holds the nodes that exist now
-  pub held_now : (n : ℕ) → Contains order n ↔ HasNode now n
+  pub held_now : (n : ℕ) → Contains batch.order n ↔ HasNode batch.graph n
   held_now n =
-      let P : Graph N E → Type 0 = λ z. Contains order n ↔ HasNode z n in
-      subst P (sym s.series.now_is) (same_nodes before all n (s.ordered_before.exact n))
+      let P : Graph N E → Type 0 = λ z. Contains batch.order n ↔ HasNode z n in
+      subst P (sym s.series.now_is) (same_nodes before.graph all n (s.ordered_before.exact n))
 
-  pub adding_on : (x : I × I × E) (new : Graph N E) → IsWellFormed limit now → HasEnds now (by_numbers number x)
-      → edge_count now < limit → new ≡ with_edge now (number x.0) (number x.1) x.2
-      → (edges' : List ℕ) → edges' ≡ edges ++ next_edge now ∷ [] → (weights' : List E) → weights' ≡ weights
-      → (len₀' len₁' capacity' : ℕ) → len₀' + len₁' ≤ capacity' → (count looks' : ℕ) → count ≡ length edges
-      → (order' : List ℕ) (standing' : Standing)
-      → IsStep now (number x.0) (number x.1) count standing order order' looks looks' standing'
-      → Adding number limit kind before new (given ++ x ∷ []) edges' slots weights' len₀' len₁' capacity' node_capacity
-      looks₀ looks' order' standing'
-  adding_on x new f ends index_left is edges' noted weights' same len₀' len₁' capacity' spare count looks' counted
-      order' standing' step =
-      let now_is = s.series.now_is in
+  -- the batch `after` is this one with the edge of the item x more
+  pub record IsNext (x : I × I × E) (after : Batch I N E) : Type 0 where
+    pub well_formed : IsWellFormed limit batch.graph
+    pub ends : HasEnds batch.graph (by_numbers number x)
+    pub index_left : edge_count batch.graph < limit
+    pub added : after.graph ≡ with_edge batch.graph (number x.0) (number x.1) x.2
+    pub given : after.given ≡ batch.given ++ x ∷ []
+    pub noted : after.edges ≡ batch.edges ++ next_edge batch.graph ∷ []
+    pub same_slots : after.slots ≡ batch.slots
+    pub same_weights : after.weights ≡ batch.weights
+    pub spare : after.weights_held + after.edges_held ≤ after.capacity
+    pub count : ℕ
+    pub counted : count ≡ length batch.edges
+    pub step : IsStep batch.graph (number x.0) (number x.1) count batch.standing batch.order after.order batch.looks
+        after.looks after.standing
+
+  pub adding_on : (x : I × I × E) (after : Batch I N E) → IsNext x after → Adding number limit kind before after
+  adding_on x after m =
+      let a = number x.0 in
+      let b = number x.1 in
+      let g = batch.graph in
       let P : Graph N E → Type 0 = λ z. HasEnds z (by_numbers number x) in
       let Q : Graph N E → Type 0 = λ z. edge_count z < limit in
-      let longer : map (by_numbers number) given ++ by_numbers number x ∷ []
-      ≡ map (by_numbers number) (given ++ x ∷ []) =
-      sym (map-append (by_numbers number) given (x ∷ [])) in
-      let R : List (NewEdge E) → Type 0 = λ z. IsBatchSoFar limit kind before new z edges' slots in
-      let S : List (NewEdge E) → Type 0 = λ z. IsFaultless limit before z in
-      let one_more : ordering_looks (edge_count before) (length (given ++ x ∷ []))
-      ≡ ordering_looks (edge_count before) (suc (length given)) =
-      ap (ordering_looks (edge_count before)) (length_push given x ∙ add-one (length given)) in
-      let free = free_edge now (number x.0) (number x.1) x.2 limit f in
+      let longer : map (by_numbers number) batch.given ++ by_numbers number x ∷ []
+      ≡ map (by_numbers number) after.given =
+      sym (map-append (by_numbers number) batch.given (x ∷ [])) ∙ ap (map (by_numbers number)) (sym m.given) in
+      let R : List (NewEdge E) → Type 0 = λ z.
+      IsBatchSoFar limit kind before.graph after.graph z after.edges after.slots in
+      let T : ℕ → Type 0 = λ z.
+      IsBatchSoFar limit kind before.graph after.graph (all ++ by_numbers number x ∷ []) after.edges z in
+      let S : List (NewEdge E) → Type 0 = λ z. IsFaultless limit before.graph z in
+      let more : length after.given ≡ suc (length batch.given) =
+      ap length m.given ∙ length_push batch.given x ∙ add-one (length batch.given) in
+      let free = free_edge g a b x.2 limit m.well_formed in
       let C : Graph N E → Type 0 = λ z. IsAcyclic z in
-      let edges_then : edge_count new ≡ suc (edge_count now) =
-      ap edge_count is ∙ (count_with_edge limit now (number x.0) (number x.1) x.2 f ∙ add-one (edge_count now)) in
+      let edges_then : edge_count after.graph ≡ suc (edge_count g) =
+      ap edge_count m.added ∙ (count_with_edge limit g a b x.2 m.well_formed ∙ add-one (edge_count g)) in
+      let t =
+      stepped g a b m.count batch.standing batch.order after.order batch.looks after.looks after.standing m.step in
       let few =
-      step_left now (number x.0) (number x.1) count standing order order' looks looks' standing' step
-      (looks₀ + ordering_looks (edge_count before) (length given)) s.few_looks
-      (λ at. omega (arith, counted, as_many, s.left at)) (omega (arith, counted, as_many, count_now)) in
+      t.left (before.looks + ordering_looks (edge_count before.graph) (length batch.given)) s.few_looks
+      (λ at. omega (arith, m.counted, as_many, s.left at)) (omega (arith, m.counted, as_many, count_now)) in
       record {
-        series = subst R longer (series_on s.series (by_numbers number x) new f is edges' noted);
+        series =
+            subst R longer
+            (subst T (sym m.same_slots)
+            (series_on s.series (by_numbers number x) after.graph m.well_formed m.added after.edges m.noted));
         faultless =
             subst S longer
-            (fault_more limit before all (by_numbers number x) s.faultless (subst P now_is ends)
-            (subst Q now_is index_left));
-        empty = same ∙ s.empty;
-        spare = spare;
-        fits = (let B : Graph N E → Type 0 = λ z. node_bound z ≤ node_capacity in subst B (sym is) s.fits);
-        few_looks = omega (arith, one_more, few, count_now, ap (λ n. looks_left n standing') edges_then);
-        ordered_before =
-            order_then order'
-            (step_order now (number x.0) (number x.1) count standing order order' looks looks' standing' step);
+            (fault_more limit before.graph all (by_numbers number x) s.faultless (subst P s.series.now_is m.ends)
+            (subst Q s.series.now_is m.index_left));
+        empty = m.same_weights ∙ s.empty;
+        spare = m.spare;
+        fits = (let B : Graph N E → Type 0 = λ z. node_bound z ≤ before.room in subst B (sym m.added) s.fits);
+        few_looks =
+            omega (
+              arith,
+              ap (ordering_looks (edge_count before.graph)) more,
+              few,
+              count_now,
+              ap (λ n. looks_left n after.standing) edges_then,
+            );
+        ordered_before = order_then after.order t.orders;
         ordered_now = λ kept.
-            let k =
-            step_kept now (number x.0) (number x.1) count standing order order' looks looks' standing' step kept in
-            order_kept (order_with_edge order' k.1 (number x.0) (number x.1) x.2 k.2) is;
-        left = λ at. omega (arith, length_push given x);
-        closed = λ at a.
-            elim
-            (step_closed now (number x.0) (number x.1) count standing order order' looks looks' standing' step at) [
-              | inl t ↦ s.closed t (still_cyclic now (number x.0) (number x.1) x.2 free (subst C is a))
-              | inr r ↦ cyclic_with_edge now (number x.0) (number x.1) x.2 free ends.0 r (subst C is a)
+            let k = t.kept kept in
+            order_kept (order_with_edge after.order k.1 a b x.2 k.2) m.added;
+        left = λ at. omega (arith, more);
+        closed = λ at acyclic.
+            elim (t.closed at) [
+              | inl was ↦ s.closed was (still_cyclic g a b x.2 free (subst C m.added acyclic))
+              | inr r ↦ cyclic_with_edge g a b x.2 free m.ends.0 r (subst C m.added acyclic)
             ];
       }
 
   -- the same batch, where nothing changed
-  pub series_kept : (new : Graph N E) (edges' : List ℕ)
-      → new ≡ now → edges' ≡ edges → IsBatchSoFar limit kind before new (map (by_numbers number) given) edges' slots
+  pub series_kept : (new : Graph N E) (edges' : List ℕ) → new ≡ batch.graph → edges' ≡ batch.edges
+      → IsBatchSoFar limit kind before.graph new (map (by_numbers number) batch.given) edges' batch.slots
   series_kept new edges' same kept = record {
     now_is = same ∙ s.series.now_is;
     indices_are = kept ∙ s.series.indices_are;
@@ -233,18 +251,19 @@ module _ {I N E : Type 0} {number : I → ℕ} {limit : ℕ} {kind : Kind} {befo
   }
 
   pub handed_back : {back : List E}
-      → back ≡ reverse (map (λ (x : NewEdge E). x.2) (map (by_numbers number) given)) → back ≡ weights_back given
-  handed_back is = is ∙ ap reverse (weights_numbered number given)
+      → back ≡ reverse (map (λ (x : NewEdge E). x.2) (map (by_numbers number) batch.given))
+      → back ≡ weights_back batch.given
+  handed_back is = is ∙ ap reverse (weights_numbered number batch.given)
 
   first_fault : {S : Type 0} (gives : S → Option (I × I × E) → S → Type 0) (items rest : S) (x : I × I × E)
       (IsCause : Graph N E → NewEdge E → Type 0) (last : E) (back : List E)
-      → Yields gives items (given ++ x ∷ []) rest → IsCause now (by_numbers number x) → last ≡ x.2
-      → back ≡ reverse (map (λ (x : NewEdge E). x.2) (map (by_numbers number) given))
-      → IsFirstFault number limit gives items IsCause before last back
+      → Yields gives items (batch.given ++ x ∷ []) rest → IsCause batch.graph (by_numbers number x) → last ≡ x.2
+      → back ≡ reverse (map (λ (x : NewEdge E). x.2) (map (by_numbers number) batch.given))
+      → IsFirstFault number limit gives items IsCause before.graph last back
   first_fault gives items rest x IsCause last back asked at last_is returned =
       let P : Graph N E → Type 0 = λ z. IsCause z (by_numbers number x) in
       record {
-        given = given;
+        given = batch.given;
         at = x;
         rest = rest;
         asked = asked;
@@ -256,9 +275,9 @@ module _ {I N E : Type 0} {number : I → ℕ} {limit : ℕ} {kind : Kind} {befo
 
   pub refused_at : {S : Type 0} (gives : S → Option (I × I × E) → S → Type 0) (items rest : S) (x : I × I × E)
       (fault : Fault E) (back : Vec E Global)
-      → Yields gives items (given ++ x ∷ []) rest → IsFault limit now (by_numbers number x) fault
-      → back.items ≡ reverse (map (λ (x : NewEdge E). x.2) (map (by_numbers number) given))
-      → IsRefused number limit gives items before (refusal fault back)
+      → Yields gives items (batch.given ++ x ∷ []) rest → IsFault limit batch.graph (by_numbers number x) fault
+      → back.items ≡ reverse (map (λ (x : NewEdge E). x.2) (map (by_numbers number) batch.given))
+      → IsRefused number limit gives items before.graph (refusal fault back)
   refused_at gives items rest x (BadEndpoint w) back asked at returned =
       first_fault gives items rest x LacksEnd w back.items asked at.1 at.0 returned
   refused_at gives items rest x (Full w) back asked at returned =
@@ -267,74 +286,77 @@ module _ {I N E : Type 0} {number : I → ℕ} {limit : ℕ} {kind : Kind} {befo
       first_fault gives items rest x (LacksMemory limit) w back.items asked at.1 at.0 returned
 
   pub closes_cycle : {S : Type 0} (gives : S → Option (I × I × E) → S → Type 0) (items : S) (back : List E)
-      → Drains gives items given → IsAcyclic before → (IsAcyclic now → ⊥)
-      → back ≡ reverse (map (λ (x : NewEdge E). x.2) (map (by_numbers number) given))
-      → ClosesCycle number limit gives items before back
+      → Drains gives items batch.given → IsAcyclic before.graph → (IsAcyclic batch.graph → ⊥)
+      → back ≡ reverse (map (λ (x : NewEdge E). x.2) (map (by_numbers number) batch.given))
+      → ClosesCycle number limit gives items before.graph back
   closes_cycle gives items back asked acyclic cyclic returned =
       let P : Graph N E → Type 0 = λ z. IsAcyclic z in
-      let not_with_all : IsAcyclic (with_edges before all) → ⊥ = λ a. cyclic (subst P (sym s.series.now_is) a) in
+      let not_with_all : IsAcyclic (with_edges before.graph all) → ⊥ = λ a. cyclic (subst P (sym s.series.now_is) a) in
       record {
-        given = given;
+        given = batch.given;
         drained = asked;
         faultless = s.faultless;
         cyclic = not_with_all;
-        refused = λ accepted. not_with_all (acyclic_if_accepted limit before all s.faultless acyclic accepted);
+        refused = λ accepted. not_with_all (acyclic_if_accepted limit before.graph all s.faultless acyclic accepted);
         weights_are = handed_back returned;
       }
 
   pub is_added : {S : Type 0} (gives : S → Option (I × I × E) → S → Type 0) (items : S)
-      → Drains gives items given → IsAcyclic now → (new : Graph N E) → new ≡ now → (edges' : List ℕ) → edges' ≡ edges
-      → IsAdded number limit gives items before new edges'
+      → Drains gives items batch.given → IsAcyclic batch.graph → (new : Graph N E) → new ≡ batch.graph
+      → (edges' : List ℕ) → edges' ≡ batch.edges → IsAdded number limit gives items before.graph new edges'
   is_added gives items asked acyclic new same edges' kept =
       let P : Graph N E → Type 0 = λ z. IsAcyclic z in
       record {
-        given = given;
+        given = batch.given;
         drained = asked;
         faultless = s.faultless;
         added = same ∙ s.series.now_is;
         indices = kept ∙ s.series.indices_are;
         accepted =
-            accepted_if_acyclic limit before all s.series.well_formed s.faultless (subst P s.series.now_is acyclic);
+            accepted_if_acyclic limit before.graph all s.series.well_formed s.faultless
+            (subst P s.series.now_is acyclic);
       }
 
   -- how many weights are handed back, and how often was looked then
   as_many_back : {back : List E}
-      → back ≡ reverse (map (λ (x : NewEdge E). x.2) (map (by_numbers number) given)) → length back ≡ length given
+      → back ≡ reverse (map (λ (x : NewEdge E). x.2) (map (by_numbers number) batch.given))
+      → length back ≡ length batch.given
   as_many_back is =
       omega (
         arith,
         ap length is,
         length-reverse (map (λ (x : NewEdge E). x.2) all),
         length-map all (λ (x : NewEdge E). x.2),
-        length-map given (by_numbers number),
+        length-map batch.given (by_numbers number),
       )
 
-  pub few_added : (edges' : List ℕ) → edges' ≡ edges → (looks' : ℕ)
-      → looks' ≤ looks + looks_left (edge_count now) standing
-      → looks' ≤ looks₀ + ordering_looks (edge_count before) (length edges')
+  pub few_added : (edges' : List ℕ) → edges' ≡ batch.edges → (looks' : ℕ)
+      → looks' ≤ batch.looks + looks_left (edge_count batch.graph) batch.standing
+      → looks' ≤ before.looks + ordering_looks (edge_count before.graph) (length edges')
   few_added edges' kept looks' few =
-      omega (arith, s.few_looks, few, ap (ordering_looks (edge_count before)) (ap length kept ∙ as_many))
+      omega (arith, s.few_looks, few, ap (ordering_looks (edge_count before.graph)) (ap length kept ∙ as_many))
 
-  pub few_in_cycle : {back : List E} → back ≡ reverse (map (λ (x : NewEdge E). x.2) (map (by_numbers number) given))
-      → (looks' looks″ : ℕ) → looks' ≤ looks + looks_left (edge_count now) standing → looks″ ≡ looks'
-      → looks″ ≤ looks₀ + ordering_looks (edge_count before) (length back)
+  pub few_in_cycle : {back : List E}
+      → back ≡ reverse (map (λ (x : NewEdge E). x.2) (map (by_numbers number) batch.given))
+      → (looks' looks″ : ℕ) → looks' ≤ batch.looks + looks_left (edge_count batch.graph) batch.standing
+      → looks″ ≡ looks' → looks″ ≤ before.looks + ordering_looks (edge_count before.graph) (length back)
   few_in_cycle returned looks' looks″ few same =
-      omega (arith, s.few_looks, ap (ordering_looks (edge_count before)) (as_many_back returned), few, same)
+      omega (arith, s.few_looks, ap (ordering_looks (edge_count before.graph)) (as_many_back returned), few, same)
 
   pub few_at_fault : (fault : Fault E) (back : Vec E Global)
-      → back.items ≡ reverse (map (λ (x : NewEdge E). x.2) (map (by_numbers number) given))
-      → (looks' looks″ : ℕ) → looks' ≤ looks + item_looks {R = Unit {0}} (edge_count now) (Err fault) → looks″ ≡ looks'
-      → looks″ ≤ looks₀ + most_looks before (Err (refusal fault back))
+      → back.items ≡ reverse (map (λ (x : NewEdge E). x.2) (map (by_numbers number) batch.given))
+      → (looks' looks″ : ℕ) → looks' ≤ batch.looks + item_looks {R = Unit {0}} (edge_count batch.graph) (Err fault)
+      → looks″ ≡ looks' → looks″ ≤ before.looks + most_looks before.graph (Err (refusal fault back))
   few_at_fault (BadEndpoint w) back returned looks' looks″ few same =
-      omega (arith, s.few_looks, ap (ordering_looks (edge_count before)) (as_many_back returned), few, same)
+      omega (arith, s.few_looks, ap (ordering_looks (edge_count before.graph)) (as_many_back returned), few, same)
   few_at_fault (Full w) back returned looks' looks″ few same =
-      omega (arith, s.few_looks, ap (ordering_looks (edge_count before)) (as_many_back returned), few, same)
+      omega (arith, s.few_looks, ap (ordering_looks (edge_count before.graph)) (as_many_back returned), few, same)
   few_at_fault (Memory w) back returned looks' looks″ few same =
       omega (
         arith,
         s.few_looks,
         count_now,
-        ap (λ k. ordering_looks (edge_count before) (suc k)) (as_many_back returned),
+        ap (λ k. ordering_looks (edge_count before.graph) (suc k)) (as_many_back returned),
         few,
         same,
       )

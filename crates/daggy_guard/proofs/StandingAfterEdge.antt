@@ -23,7 +23,7 @@ all_left edges looks most Closed is few = absurd cc
 module _ {N E : Type 0} (g : Graph N E) (a b count : ℕ) (old : Standing) (order order' : List ℕ)
     (looks looks' : ℕ) where
   -- the order stays, or is one of the graph
-  pub step_order : (new : Standing) → IsStep g a b count old order order' looks looks' new
+  step_order : (new : Standing) → IsStep g a b count old order order' looks looks' new
       → (order' ≡ order) ⊎ IsOrderOf g order'
   step_order Kept s = inr s.1
   step_order Spared s = inr s.1
@@ -31,7 +31,7 @@ module _ {N E : Type 0} (g : Graph N E) (a b count : ℕ) (old : Standing) (orde
   step_order Closed s = elim s [ inl c ↦ inl c.1 | inr r ↦ inr r.1 ]
 
   -- where the order is kept it agrees with the edge too
-  pub step_kept : (new : Standing) → IsStep g a b count old order order' looks looks' new → IsKept new
+  step_kept : (new : Standing) → IsStep g a b count old order order' looks looks' new → IsKept new
       → IsKept old × IsOrderOf g order' × (place order' a < place order' b)
   step_kept Kept s k = (s.0, s.1, s.2)
   step_kept Spared s k = (s.0, s.1, s.2)
@@ -39,7 +39,7 @@ module _ {N E : Type 0} (g : Graph N E) (a b count : ℕ) (old : Standing) (orde
   step_kept Closed s k = absurd k
 
   -- where a cycle is closed it was, or the edge closes it
-  pub step_closed : (new : Standing) → IsStep g a b count old order order' looks looks' new → new ≡ Closed
+  step_closed : (new : Standing) → IsStep g a b count old order order' looks looks' new → new ≡ Closed
       → (old ≡ Closed) ⊎ Reaches g b a
   step_closed Kept s is = absurd cc
   step_closed Spared s is = absurd cc
@@ -47,7 +47,7 @@ module _ {N E : Type 0} (g : Graph N E) (a b count : ℕ) (old : Standing) (orde
   step_closed Closed s is = elim s [ inl c ↦ inl c.0 | inr r ↦ inr r.2 ]
 
   -- where there are as many looks for each edge as there are edges then, so many are left
-  pub step_left : (new : Standing) → IsStep g a b count old order order' looks looks' new
+  step_left : (new : Standing) → IsStep g a b count old order order' looks looks' new
       → (most : ℕ) → looks + looks_left (edge_count g) old ≤ most → (old ≡ Left → 0 < count) → count ≤ edge_count g
       → looks' + looks_left (suc (edge_count g)) new ≤ most + edge_count g
   step_left Kept s most few some within = omega (arith, few, s.3)
@@ -63,3 +63,19 @@ module _ {N E : Type 0} (g : Graph N E) (a b count : ℕ) (old : Standing) (orde
       ]
   step_left Closed s most few some within =
       elim s [ inl c ↦ omega (arith, few, c.2) | inr r ↦ omega (arith, few, r.3) ]
+
+  -- what an edge more means for the order, however that stands then
+  pub record Stepped (new : Standing) : Type 0 where
+    pub orders : (order' ≡ order) ⊎ IsOrderOf g order'
+    pub kept : IsKept new → IsKept old × IsOrderOf g order' × (place order' a < place order' b)
+    pub closed : new ≡ Closed → (old ≡ Closed) ⊎ Reaches g b a
+    pub left : (most : ℕ) → looks + looks_left (edge_count g) old ≤ most → (old ≡ Left → 0 < count)
+        → count ≤ edge_count g → looks' + looks_left (suc (edge_count g)) new ≤ most + edge_count g
+
+  pub stepped : (new : Standing) → IsStep g a b count old order order' looks looks' new → Stepped new
+  stepped new s = record {
+    orders = step_order new s;
+    kept = step_kept new s;
+    closed = step_closed new s;
+    left = step_left new s;
+  }

@@ -1,6 +1,6 @@
 -- A queue of nodes that stand before the last child of the first one.
-use Rattle.std.proofs.Common.{◌≡◌, ◌≢◌, ℕ, zero, suc, ◌+◌, ◌<◌, ◌≤◌, max, Bool, true, false, ◌⊎◌, ◌↔◌, inl, inr, Option}
-use Rattle.std.proofs.Common.{Some, List, [], ◌∷◌, ◌++◌, length, get_or, take, refl, sym, ap, subst, ◌∙◌, arith}
+use Rattle.std.proofs.Common.{◌≡◌, ◌≢◌, ℕ, ◌+◌, ◌<◌, ◌≤◌, max, Bool, true, false, ◌⊎◌, ◌↔◌, inl, inr}
+use Rattle.std.proofs.Common.{Some, List, [], ◌∷◌, length, get_or, take, refl, sym, ap, subst, ◌∙◌, arith}
 use Rattle.std.proofs.Math.Nat.{le-max_left, le-max_right}
 use Rattle.std.proofs.lemmas.Bool.{cases_eq}
 use Rattle.std.proofs.lemmas.List.{length-take-le}
@@ -12,18 +12,18 @@ use Rattle.daggy_base.proofs.Lists.{Mem, Unique, contains_mem}
 use Rattle.daggy_base.proofs.PathsWithEdge.{reaches_itself, reaches_before, no_round}
 use Rattle.daggy_base.proofs.SearchProgress.{reaches_stays}
 use Rattle.daggy_base.proofs.OutEdgesRead.{listed}
-use Rattle.daggy_order.specs.Ordered.{IsOrderOf, place, stretch, edges_from}
+use Rattle.daggy_order.specs.Ordered.{IsOrderOf, place, stretch}
 use Rattle.daggy_order.proofs.BoundedSearch.{reached_exists}
 use Rattle.daggy_order.proofs.OrderLaws.{acyclic_from_order}
 use Rattle.daggy_order.proofs.Sorted.{place_same, place_other}
 use Rattle.daggy_order.proofs.ListParts.{in_stretch}
 use Rattle.daggy_reduction.specs.Closure.{behind}
 use Rattle.daggy_reduction.specs.SearchSpan.{child_place, latest, last_place, edges_spanned}
-use Rattle.daggy_reduction.proofs.QueuedChildren.{Beginning, children_found}
-use Rattle.daggy_reduction.proofs.QueueState.{Draining, rest_nothing}
+use Rattle.daggy_reduction.proofs.QueuedChildren.{First, Children, Beginning, children_found}
+use Rattle.daggy_reduction.proofs.QueueState.{Start, Reading, Draining, rest_nothing}
 use Rattle.daggy_reduction.proofs.FlaggedRedundant.{joined_exist}
 use Rattle.daggy_reduction.proofs.Paths.{reaches_one, round_through}
-use Rattle.daggy_reduction.proofs.QueueProgress.{Queueing, looked_from, all_reached, all_met}
+use Rattle.daggy_reduction.proofs.QueueProgress.{Task, Queueing, looked_from, all_reached, all_met}
 use Rattle.daggy_reduction.proofs.LongerWays.{last_step}
 
 -- where a node stands in the order, and what stands there
@@ -77,37 +77,81 @@ Inside order last n = place order n < place order last
 abbrev pub Beyond : (order : List ℕ) (last : ℕ) → ℕ → Type 0
 Beyond order last n = place order last ≤ place order n
 
-module _ {N E : Type 0} {end marks_size queue_size : ℕ} {g₀ g : Graph N E} (w : IsWellFormed end g₀) {order : List ℕ}
-    (ord : IsOrderOf g₀ order) {u : ℕ} (exists : HasNode g₀ u) {marks : List Bool} {queue : List ℕ}
-    {len last e looks₀ looks : ℕ}
-    (s : Beginning end marks_size queue_size g₀ g order u marks queue len last e looks₀ looks) (ended : e ≡ end) where
-  children_low : (v : ℕ) → AreJoined g₀ u v → place order v ≤ place order last
+module _ {N E : Type 0} {first : First N E} (w : IsWellFormed first.end first.graph)
+    (ord : IsOrderOf first.graph first.order) (exists : HasNode first.graph first.node) {now : Children N E}
+    (s : Beginning first now) (ended : now.edge ≡ first.end) where
+  abbrev end : ℕ
+  end = first.end
+
+  abbrev g₀ : Graph N E
+  g₀ = first.graph
+
+  abbrev order : List ℕ
+  order = first.order
+
+  abbrev u : ℕ
+  u = first.node
+
+  -- the search from the node, among those before its last child
+  abbrev bounded : List Bool → Task N E
+  bounded before = record {
+    end = first.end;
+    graph = first.graph;
+    Inside = Inside first.order now.last;
+    Beyond = Beyond first.order now.last;
+    starts = first.node ∷ [];
+    before = before;
+  }
+
+  children_low : (v : ℕ) → AreJoined g₀ u v → place order v ≤ place order now.last
   children_low v j =
       elim (children_found w ord exists s ended v j) [
         | inl m ↦ omega (arith, s.before v m)
         | inr eq ↦ omega (arith, ap (place order) eq)
       ]
 
-  last_low : place order last ≤ last_place g₀ order u
+  last_low : place order now.last ≤ last_place g₀ order u
   last_low =
       elim s.last_from [
         | inl eq ↦ omega (arith, ap (place order) eq, latest_from g₀ order (place order u) (out_list g₀ u))
-        | inr j ↦ last_over end g₀ w order u last j
+        | inr j ↦ last_over end g₀ w order u now.last j
       ]
 
   -- the rest of the search starts
-  pub steps_start : len ≢ 0 → (met : List Bool) → node_bound g₀ ≤ length met
-      → Draining end marks_size (length met) queue_size g₀ g (Inside order last) (Beyond order last) (u ∷ []) met marks
-      met queue len 0 e looks₀ looks
+  pub steps_start : now.len ≢ 0 → (met : List Bool) → node_bound g₀ ≤ length met
+      → Draining (bounded met) record {
+        marks = first.marks;
+        met = length met;
+        places = first.places;
+        looks = first.looks;
+      } record {
+        graph = now.graph;
+        marks = now.marks;
+        met = met;
+        queue = now.queue;
+        len = now.len;
+        head = 0;
+        edge = now.edge;
+        looks = now.looks;
+      }
   steps_start some met met_fits =
       let others : (os : List ℕ) × (s.q ≡ u ∷ os) =
       elim s.front [
-        | inl none ↦ absurd (some (omega (arith, ap length s.is, ap length none.0, length-take-le len queue s.high)))
+        | inl none ↦
+            absurd (some (omega (arith, ap length s.is, ap length none.0, length-take-le now.len now.queue s.high)))
         | inr o ↦ o
       ] in
-      let first : Mem u s.q = let P : List ℕ → Type 0 = λ z. Mem u z in subst P (sym others.1) (inl refl) in
-      let going : Queueing end g₀ (Inside order last) (Beyond order last) (u ∷ []) met marks met s.q 0 e s.passed =
-      record {
+      let front : Mem u s.q = let P : List ℕ → Type 0 = λ z. Mem u z in subst P (sym others.1) (inl refl) in
+      let Q : List ℕ → Type 0 = λ z.
+      Queueing (bounded met) record {
+        marks = now.marks;
+        met = met;
+        nodes = z;
+        head = 0;
+        edge = now.edge;
+        looked = s.passed;
+      } in
+      let going : Q s.q = record {
         done = [];
         at = u;
         rest = others.0;
@@ -127,7 +171,7 @@ module _ {N E : Type 0} {end marks_size queue_size : ℕ} {g₀ g : Graph N E} (
           ],
         );
         start = λ n m. elim m [
-          | inl eq ↦ (let P : ℕ → Type 0 = λ z. Mem z s.q in subst P (sym eq) first)
+          | inl eq ↦ (let P : ℕ → Type 0 = λ z. Mem z s.q in subst P (sym eq) front)
           | inr none ↦ absurd none
         ];
         later = others.0;
@@ -144,8 +188,6 @@ module _ {N E : Type 0} {end marks_size queue_size : ℕ} {g₀ g : Graph N E} (
         met_half = λ k. absurd (k refl);
         counted = omega arith;
       } in
-      let P : List ℕ → Type 0 = λ z.
-      Queueing end g₀ (Inside order last) (Beyond order last) (u ∷ []) met marks met z 0 e s.passed in
       record {
         same = s.same;
         marks_sized = s.marks_sized;
@@ -157,23 +199,22 @@ module _ {N E : Type 0} {end marks_size queue_size : ℕ} {g₀ g : Graph N E} (
         high = s.high;
         looked = s.passed;
         counted = s.counted;
-        going = subst P (sym s.is) going;
+        going = subst Q (sym s.is) going;
       }
 
-  module _ {met_size : ℕ} {g₁ : Graph N E} {before marks' met : List Bool} {queue' : List ℕ} {len' head e' looks' : ℕ}
-      (t : Draining end marks_size met_size queue_size g₀ g₁ (Inside order last) (Beyond order last) (u ∷ []) before
-      marks' met queue' len' head e' looks₀ looks') where
-    reached_here : (n : ℕ) → Mem n (take len' queue') → Reaches g₀ u n
+  module _ {before : List Bool} {start : Start} {after : Reading N E}
+      (t : Draining (bounded before) start after) where
+    reached_here : (n : ℕ) → Mem n (take after.len after.queue) → Reaches g₀ u n
     reached_here n m =
         let r = t.going.reached n m in
         let P : ℕ → Type 0 = λ z. Reaches g₀ z n in
         elim r.1 [ inl eq ↦ subst P eq r.2 | inr none ↦ absurd none ]
 
     -- the count of looks
-    pub few_spanned : looks' ≤ looks₀ + edges_spanned g₀ order u
+    pub few_spanned : after.looks ≤ start.looks + edges_spanned g₀ order u
     few_spanned =
         let few =
-        looked_from end g₀ w _ _ _ _ _ _ _ _ _ _ t.going (stretch order (place order u) (last_place g₀ order u)) (λ n m.
+        looked_from w t.going (stretch order (place order u) (last_place g₀ order u)) (λ n m.
         let P : ℕ → Type 0 = λ z. place order u ≤ place order z in
         let r = reached_here n m in
         let above = reaches_stays g₀ P (λ a b h j. omega (arith, h, ord.sorted a b j)) u n r (omega arith) in
@@ -186,26 +227,26 @@ module _ {N E : Type 0} {end marks_size queue_size : ℕ} {g₀ g : Graph N E} (
         omega (arith, few, t.counted)
 
     -- the children that got marks
-    module _ (h : e' ≡ end) (done : head + 1 ≡ len') where
-      behind_is : behind (take len' queue') ≡ t.going.later
+    module _ (h : after.edge ≡ end) (done : after.head + 1 ≡ after.len) where
+      behind_is : behind (take after.len after.queue) ≡ t.going.later
       behind_is = ap behind t.going.begins
 
-      far : (a b : ℕ) → Beyond order last a → AreJoined g₀ a b → Beyond order last b
+      far : (a b : ℕ) → Beyond order now.last a → AreJoined g₀ a b → Beyond order now.last b
       far a b past j = omega (arith, past, ord.sorted a b j)
 
-      there : (v m : ℕ) → Mem m (behind (take len' queue')) → AreJoined g₀ m v → ReachesIndirectly g₀ u v
+      there : (v m : ℕ) → Mem m (behind (take after.len after.queue)) → AreJoined g₀ m v → ReachesIndirectly g₀ u v
       there v m k j =
           let P : List ℕ → Type 0 = λ z. Mem m z in
           let U : List ℕ → Type 0 = λ z. Unique z in
           let later = subst P behind_is k in
-          let inside : Mem m (take len' queue') = subst P (sym t.going.begins) (inr later) in
+          let inside : Mem m (take after.len after.queue) = subst P (sym t.going.begins) (inr later) in
           let Q : ℕ → Type 0 = λ z. Mem z t.going.later in
           let apart : m ≢ u = λ eq. (subst U t.going.begins t.going.once).0 (subst Q eq later) in
           let has = joined_exist end g₀ w m v j in
           let to : m ≢ v = λ eq. absurd (omega (arith, ord.sorted m v j, ap (place order) eq)) in
           round_through g₀ u m v (reached_here m inside) (reaches_one g₀ m v has.0 has.1 j) apart to
 
-      back : (v : ℕ) → AreJoined g₀ u v → ReachesIndirectly g₀ u v → get_or met v false ≡ true
+      back : (v : ℕ) → AreJoined g₀ u v → ReachesIndirectly g₀ u v → get_or after.met v false ≡ true
       back v child r =
           let x = r.0 in
           let step = last_step g₀ x r.1 r.2 r.3.2 in
@@ -216,10 +257,10 @@ module _ {N E : Type 0} {end marks_size queue_size : ℕ} {g₀ g : Graph N E} (
           let other : m ≢ u = λ eq.
           (let P : ℕ → Type 0 = λ z. Reaches g₀ x z in
           no_round g₀ (acyclic_from_order order ord) u x r.3.0 r.3.1 (subst P eq step.1)) in
-          let near : place order m < place order last = omega (arith, ord.sorted m v j, children_low v child) in
+          let near : place order m < place order now.last = omega (arith, ord.sorted m v j, children_low v child) in
           let P : List ℕ → Type 0 = λ z. Mem m z in
-          let queued : Mem m (take len' queue') =
-          elim (all_reached end g₀ w _ _ _ _ _ _ _ _ _ _ t.going h (rest_nothing w t done) far m u (inl refl) from_u) [
+          let queued : Mem m (take after.len after.queue) =
+          elim (all_reached w t.going h (rest_nothing w t done) far m u (inl refl) from_u) [
             | inl q ↦ q
             | inr past ↦ absurd (omega (arith, past, near))
           ] in
@@ -227,11 +268,10 @@ module _ {N E : Type 0} {end marks_size queue_size : ℕ} {g₀ g : Graph N E} (
             | inl eq ↦ absurd (other eq)
             | inr b ↦ b
           ] in
-          (all_met end g₀ w _ _ _ _ _ _ _ _ _ _ t.going h (rest_nothing w t done) v).1
-          (inr (m, subst P (sym behind_is) later, j))
+          (all_met w t.going h (rest_nothing w t done) v).1 (inr (m, subst P (sym behind_is) later, j))
 
-      pub round_met : (v : ℕ)
-          → AreJoined g₀ u v → (get_or met v false ≡ true) ↔ ((get_or before v false ≡ true) ⊎ ReachesIndirectly g₀ u v)
+      pub round_met : (v : ℕ) → AreJoined g₀ u v
+          → (get_or after.met v false ≡ true) ↔ ((get_or before v false ≡ true) ⊎ ReachesIndirectly g₀ u v)
       round_met v child = (
         λ m. elim (t.going.met_only v m) [ inl a ↦ inl a | inr c ↦ inr (there v c.0 c.1 c.2) ],
         λ k. elim k [ inl a ↦ t.going.met_before v a | inr r ↦ back v child r ],

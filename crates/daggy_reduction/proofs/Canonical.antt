@@ -48,38 +48,41 @@ module _ {N E : Type 0} (roots : List ℕ) (old new : Graph N E) (acyclic : IsAc
         round.4,
       )
 
-module _ {N E M F : Type 0} (roots : List ℕ) (old new : Graph N E) (acyclic : IsAcyclic old)
-    (s : LosesRoundPairs roots old new) (ends : Ends old) (all : ReachAll old roots) (roots' : List ℕ)
-    (old' new' : Graph M F) (acyclic' : IsAcyclic old') (s' : LosesRoundPairs roots' old' new') (ends' : Ends old')
-    (all' : ReachAll old' roots') (nodes : HaveSameNodes old old') where
-  pub pairs_kept : HaveSameReachability old old' → (u v : ℕ) → AreJoined new u v → AreJoined new' u v
-  pairs_kept same u v j =
-      let below = all u (ends u v (s.joined u v j)).0 in
-      cover_kept roots' old' new' acyclic' s' ends' u v
-      (cover_same old old' same u v (joined_cover roots old new acyclic s ends u v below j))
+-- a reduction: the nodes that it begins at, the graphs before and after it, and what is known of them
+pub record Reduced (N E : Type 0) : Type 0 where
+  pub roots : List ℕ
+  pub old : Graph N E
+  pub new : Graph N E
+  pub acyclic : IsAcyclic old
+  pub loses : LosesRoundPairs roots old new
+  pub ends : Ends old
+  pub all : ReachAll old roots
+
+pub pairs_kept : {N E M F : Type 0} (a : Reduced N E) (b : Reduced M F)
+    → HaveSameReachability a.old b.old → (u v : ℕ) → AreJoined a.new u v → AreJoined b.new u v
+pairs_kept a b same u v j =
+    let below = a.all u (a.ends u v (a.loses.joined u v j)).0 in
+    cover_kept b.roots b.old b.new b.acyclic b.loses b.ends u v
+    (cover_same a.old b.old same u v (joined_cover a.roots a.old a.new a.acyclic a.loses a.ends u v below j))
 
 -- two reductions join the same pairs exactly if the graphs had the same reachability
-pub alike_exactly : {N E M F : Type 0} (roots : List ℕ) (old new : Graph N E) (acyclic : IsAcyclic old)
-    (s : LosesRoundPairs roots old new) (ends : Ends old) (all : ReachAll old roots) (roots' : List ℕ)
-    (old' new' : Graph M F) (acyclic' : IsAcyclic old') (s' : LosesRoundPairs roots' old' new') (ends' : Ends old')
-    (all' : ReachAll old' roots') (nodes : HaveSameNodes old old')
-    → JoinSamePairs new new' ↔ HaveSameReachability old old'
-alike_exactly roots old new acyclic s ends all roots' old' new' acyclic' s' ends' all' nodes = (
+pub alike_exactly : {N E M F : Type 0} (a : Reduced N E) (b : Reduced M F)
+    → HaveSameNodes a.old b.old → JoinSamePairs a.new b.new ↔ HaveSameReachability a.old b.old
+alike_exactly a b nodes = (
   λ pairs u v. (
-      let after : HaveSameNodes new new' = λ n. (
-        λ h. (s'.nodes n).0 ((nodes n).0 ((s.nodes n).1 h)),
-        λ h. (s.nodes n).0 ((nodes n).1 ((s'.nodes n).1 h)),
+      let after : HaveSameNodes a.new b.new = λ n. (
+        λ h. (b.loses.nodes n).0 ((nodes n).0 ((a.loses.nodes n).1 h)),
+        λ h. (a.loses.nodes n).0 ((nodes n).1 ((b.loses.nodes n).1 h)),
       ) in
-      let alike = reach_same new new' after pairs u v in (
-        λ r. reached_before roots' old' new' acyclic' s' u v (alike.0 (reached_after roots old new acyclic s u v r)),
-        λ r. reached_before roots old new acyclic s u v (alike.1 (reached_after roots' old' new' acyclic' s' u v r)),
+      let alike = reach_same a.new b.new after pairs u v in
+      let before_a = reached_before a.roots a.old a.new a.acyclic a.loses u v in
+      let before_b = reached_before b.roots b.old b.new b.acyclic b.loses u v in (
+        λ r. before_b (alike.0 (reached_after a.roots a.old a.new a.acyclic a.loses u v r)),
+        λ r. before_a (alike.1 (reached_after b.roots b.old b.new b.acyclic b.loses u v r)),
       )
       ),
   λ same u v. (
-      let back : HaveSameReachability old' old = λ a b. ((same a b).1, (same a b).0) in
-      let turned : HaveSameNodes old' old = λ n. ((nodes n).1, (nodes n).0) in (
-        pairs_kept roots old new acyclic s ends all roots' old' new' acyclic' s' ends' all' nodes same u v,
-        pairs_kept roots' old' new' acyclic' s' ends' all' roots old new acyclic s ends all turned back u v,
-      )
+      let back : HaveSameReachability b.old a.old = λ m n. ((same m n).1, (same m n).0) in
+      (pairs_kept a b same u v, pairs_kept b a back u v)
       ),
 )

@@ -99,37 +99,50 @@ pub marks_grow : (marks : List Bool) (v : ℕ) → v < length marks
     × (get_or (set marks v true) v false ≡ true)
 marks_grow marks v low = (λ n m. (set_marked marks v n low).1 (inr m), (set_marked marks v v low).1 (inl refl))
 
--- up to a node, h joins all that g joins
-pub record Comparing {N E M F : Type 0} (g₀ g : Graph N E) (h₀ h : Graph M F) (marks₀ marks : List Bool)
-    (bound n : ℕ) : Type 0 where
-  pub same : g ≡ g₀
-  pub other_same : h ≡ h₀
-  pub within : n ≤ bound
-  pub sized : length marks ≡ length marks₀
-  pub joined : (u v : ℕ) → u < n → AreJoined g₀ u v → AreJoined h₀ u v
+-- What is compared: two graphs, the marks there were before, and the number past all nodes of the first graph.
+pub record Pair (N E M F : Type 0) : Type 0 where
+  pub one : Graph N E
+  pub other : Graph M F
+  pub marks : List Bool
+  pub bound : ℕ
 
-module _ {N E M F : Type 0} {g₀ g : Graph N E} {h₀ h : Graph M F} {marks₀ marks : List Bool} {bound n : ℕ}
-    (s : Comparing g₀ g h₀ h marks₀ marks bound n) where
-  both_join : (v : ℕ) → AreJoined h n v → AreJoined h₀ n v
-  both_join v j = let J : Graph M F → Type 0 = λ z. AreJoined z n v in subst J s.other_same j
+-- How far they were compared: the graphs, the marks, and the node that is next.
+pub record Progress (N E M F : Type 0) : Type 0 where
+  pub one : Graph N E
+  pub other : Graph M F
+  pub marks : List Bool
+  pub node : ℕ
 
-  module _ (size : ℕ) (marks' : List Bool) (marked : (k : ℕ)
-      → (get_or marks' k false ≡ true) ↔ ((get_or (replicate size false) k false ≡ true) ⊎ AreJoined h n k)) where
-    pub compare_on : n < bound → length marks' ≡ length marks → {g' : Graph N E} {h' : Graph M F} → g' ≡ g → h' ≡ h
-        → ((k : ℕ) → AreJoined g n k → get_or marks' k false ≡ true) → Comparing g₀ g' h₀ h' marks₀ marks' bound (n + 1)
+-- up to a node, the other graph joins all that the one joins
+pub record Comparing {N E M F : Type 0} (pair : Pair N E M F) (now : Progress N E M F) : Type 0 where
+  pub same : now.one ≡ pair.one
+  pub other_same : now.other ≡ pair.other
+  pub within : now.node ≤ pair.bound
+  pub sized : length now.marks ≡ length pair.marks
+  pub joined : (u v : ℕ) → u < now.node → AreJoined pair.one u v → AreJoined pair.other u v
+
+module _ {N E M F : Type 0} {pair : Pair N E M F} {now : Progress N E M F} (s : Comparing pair now) where
+  both_join : (v : ℕ) → AreJoined now.other now.node v → AreJoined pair.other now.node v
+  both_join v j = let J : Graph M F → Type 0 = λ z. AreJoined z now.node v in subst J s.other_same j
+
+  module _ (size : ℕ) (marks' : List Bool) (marked : (k : ℕ) → (get_or marks' k false ≡ true)
+      ↔ ((get_or (replicate size false) k false ≡ true) ⊎ AreJoined now.other now.node k)) where
+    pub compare_on : now.node < pair.bound → length marks' ≡ length now.marks → {g' : Graph N E} {h' : Graph M F}
+        → g' ≡ now.one → h' ≡ now.other → ((k : ℕ) → AreJoined now.one now.node k → get_or marks' k false ≡ true)
+        → Comparing pair record { one = g'; other = h'; marks = marks'; node = now.node + 1 }
     compare_on low sized {g'} {h'} same other_same all =
         record {
           same = same ∙ s.same;
           other_same = other_same ∙ s.other_same;
           within = omega (arith, low);
           sized = sized ∙ s.sized;
-          joined = λ u v lt j. elim (cases_lt u n) [
+          joined = λ u v lt j. elim (cases_lt u now.node) [
             | inl early ↦ s.joined u v early j
             | inr late ↦ (
-                let here : u ≡ n = omega (arith, lt, late) in
-                let A : ℕ → Type 0 = λ z. AreJoined g₀ z v in
-                let B : Graph N E → Type 0 = λ z. AreJoined z n v in
-                let C : ℕ → Type 0 = λ z. AreJoined h₀ z v in
+                let here : u ≡ now.node = omega (arith, lt, late) in
+                let A : ℕ → Type 0 = λ z. AreJoined pair.one z v in
+                let B : Graph N E → Type 0 = λ z. AreJoined z now.node v in
+                let C : ℕ → Type 0 = λ z. AreJoined pair.other z v in
                 subst C (sym here) (elim ((marked v).0 (all v (subst B (sym s.same) (subst A here j)))) [
                   | inl before ↦ absurd (false≢true (sym (unmarked size v) ∙ before))
                   | inr joined ↦ both_join v joined
@@ -139,13 +152,15 @@ module _ {N E M F : Type 0} {g₀ g : Graph N E} {h₀ h : Graph M F} {marks₀ 
         }
 
     -- where all pairs are joined, all these children are marked
-    pub all_marked_if : JoinsAll g₀ h₀ → (k : ℕ) → AreJoined g n k → get_or marks' k false ≡ true
+    pub all_marked_if : JoinsAll pair.one pair.other → (k : ℕ) → AreJoined now.one now.node k
+        → get_or marks' k false ≡ true
     all_marked_if all k j =
-        let B : Graph N E → Type 0 = λ z. AreJoined z n k in
-        let J : Graph M F → Type 0 = λ z. AreJoined z n k in
-        (marked k).1 (inr (subst J (sym s.other_same) (all n k (subst B s.same j))))
+        let B : Graph N E → Type 0 = λ z. AreJoined z now.node k in
+        let J : Graph M F → Type 0 = λ z. AreJoined z now.node k in
+        (marked k).1 (inr (subst J (sym s.other_same) (all now.node k (subst B s.same j))))
 
-  pub compared : (limit : ℕ) → IsWellFormed limit g₀ → bound ≡ node_bound g₀ → bound ≤ n → JoinsAll g₀ h₀
+  pub compared : (limit : ℕ) → IsWellFormed limit pair.one → pair.bound ≡ node_bound pair.one → pair.bound ≤ now.node
+      → JoinsAll pair.one pair.other
   compared limit w is past u v j =
-      let low = below_bound g₀.nodes u (w.parents j.0 _ j.2) in
+      let low = below_bound pair.one.nodes u (w.parents j.0 _ j.2) in
       s.joined u v (omega (arith, low, is, past)) j

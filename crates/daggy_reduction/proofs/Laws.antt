@@ -44,9 +44,23 @@ module _ {N E : Type 0} {limit : ℕ} (kind : Kind) (roots : List ℕ) (old new 
 
   pub law_canonical : IsCanonical limit roots old new
   law_canonical all h h' other =
-      alike_exactly roots old new acyclic loses (joined_exist limit old w) all other.roots h h' other.dag.acyclic
-      (reduction_loses other.kind other.roots h h' other.reduced) (joined_exist limit h other.dag.well_formed) other.all
-      other.nodes
+      alike_exactly record {
+        roots = roots;
+        old = old;
+        new = new;
+        acyclic = acyclic;
+        loses = loses;
+        ends = joined_exist limit old w;
+        all = all;
+      } record {
+        roots = other.roots;
+        old = h;
+        new = h';
+        acyclic = other.dag.acyclic;
+        loses = reduction_loses other.kind other.roots h h' other.reduced;
+        ends = joined_exist limit h other.dag.well_formed;
+        all = other.all;
+      } other.nodes
 
 pub law_indices : {N E : Type 0} (kind : Kind) (roots : List ℕ) (old new : Graph N E)
     → IsReduction kind roots old new → kind ≡ Stable → KeepsIndices old new

@@ -16,35 +16,74 @@ use Rattle.daggy_order.specs.Ordered.{IsOrderOf, place}
 use Rattle.daggy_order.proofs.Sorted.{place_same, place_other}
 use Rattle.daggy_reduction.proofs.QueueProgress.{take_none}
 
-pub record Beginning {N E : Type 0} (end marks_size queue_size : ℕ) (g₀ g : Graph N E) (order : List ℕ) (u : ℕ)
-    (marks : List Bool) (queue : List ℕ) (len last e looks₀ looks : ℕ) : Type 0 where
-  pub same : g ≡ g₀
-  pub marks_sized : length marks ≡ marks_size
-  pub queue_sized : length queue ≡ queue_size
-  pub fits : node_bound g₀ ≤ length marks
-  pub capacity : length marks ≤ length queue
-  pub high : len ≤ length queue
+-- The node that a queue begins with: its graph, the number past all edges, the order and the node, and how many marks
+-- and places of the queue there are and how often edges were looked at till then.
+pub record First (N E : Type 0) : Type 0 where
+  pub end : ℕ
+  pub graph : Graph N E
+  pub order : List ℕ
+  pub node : ℕ
+  pub marks : ℕ
+  pub places : ℕ
+  pub looks : ℕ
+
+-- What was done with its children so far: the graph, the marks of the nodes in the queue, the places of the queue and
+-- how many of them are in use, the child that stands last in the order, the next edge, and how often edges were looked
+-- at.
+pub record Children (N E : Type 0) : Type 0 where
+  pub graph : Graph N E
+  pub marks : List Bool
+  pub queue : List ℕ
+  pub len : ℕ
+  pub last : ℕ
+  pub edge : ℕ
+  pub looks : ℕ
+
+-- the children that were seen are in the queue behind the node, but for the last one
+pub record Beginning {N E : Type 0} (first : First N E) (now : Children N E) : Type 0 where
+  pub same : now.graph ≡ first.graph
+  pub marks_sized : length now.marks ≡ first.marks
+  pub queue_sized : length now.queue ≡ first.places
+  pub fits : node_bound first.graph ≤ length now.marks
+  pub capacity : length now.marks ≤ length now.queue
+  pub high : now.len ≤ length now.queue
   -- how much of the node's list was read
   pub passed : ℕ
-  pub cursor : e ≡ first_of end (drop passed (out_list g₀ u))
-  pub within : passed ≤ length (out_list g₀ u)
-  pub counted : looks ≡ looks₀ + passed
+  pub cursor : now.edge ≡ first_of first.end (drop passed (out_list first.graph first.node))
+  pub within : passed ≤ length (out_list first.graph first.node)
+  pub counted : now.looks ≡ first.looks + passed
   -- the queue
   pub q : List ℕ
-  pub is : take len queue ≡ q
+  pub is : take now.len now.queue ≡ q
   pub once : Unique q
-  pub marked : (n : ℕ) → (get_or marks n false ≡ true) ↔ Mem n q
-  pub before : (n : ℕ) → Mem n q → place order n < place order last
-  pub from : (n : ℕ) → Mem n q → (n ≡ u) ⊎ AreJoined g₀ u n
-  pub last_from : (last ≡ u) ⊎ AreJoined g₀ u last
-  pub found : LookedTo end g₀ (λ v. Mem v q ⊎ (v ≡ last)) u passed
-  pub front : ((q ≡ []) × (last ≡ u)) ⊎ ((others : List ℕ) × (q ≡ u ∷ others))
+  pub marked : (n : ℕ) → (get_or now.marks n false ≡ true) ↔ Mem n q
+  pub before : (n : ℕ) → Mem n q → place first.order n < place first.order now.last
+  pub from : (n : ℕ) → Mem n q → (n ≡ first.node) ⊎ AreJoined first.graph first.node n
+  pub last_from : (now.last ≡ first.node) ⊎ AreJoined first.graph first.node now.last
+  pub found : LookedTo first.end first.graph (λ v. Mem v q ⊎ (v ≡ now.last)) first.node passed
+  pub front : ((q ≡ []) × (now.last ≡ first.node)) ⊎ ((others : List ℕ) × (q ≡ first.node ∷ others))
 
 pub begins_here : {N E : Type 0} (end : ℕ) (g : Graph N E) (order : List ℕ) (u : ℕ) (marks : List Bool) (queue : List ℕ)
     (e looks : ℕ)
     → ((n : ℕ) → get_or marks n false ≡ false) → node_bound g ≤ length marks → length marks ≤ length queue
     → e ≡ first_of end (out_list g u)
-    → Beginning end (length marks) (length queue) g g order u marks queue 0 u e looks looks
+    → Beginning record {
+      end = end;
+      graph = g;
+      order = order;
+      node = u;
+      marks = length marks;
+      places = length queue;
+      looks = looks;
+    } record {
+      graph = g;
+      marks = marks;
+      queue = queue;
+      len = 0;
+      last = u;
+      edge = e;
+      looks = looks;
+    }
 begins_here end g order u marks queue e looks cleared fits capacity first =
     record {
       same = refl;
@@ -87,43 +126,54 @@ place_apart (x ∷ xs) a b m n h =
     rest : (k : ℕ) → (x ≡ k → ⊥) → Mem k (x ∷ xs) → Mem k xs
     rest k c m = elim m [ inl e ↦ absurd (c (sym e)) | inr b ↦ b ]
 
-module _ {N E : Type 0} {end marks_size queue_size : ℕ} {g₀ g : Graph N E} (w : IsWellFormed end g₀) {order : List ℕ}
-    (ord : IsOrderOf g₀ order) {u : ℕ} (exists : HasNode g₀ u) {marks : List Bool} {queue : List ℕ}
-    {len last e looks₀ looks : ℕ}
-    (s : Beginning end marks_size queue_size g₀ g order u marks queue len last e looks₀ looks) where
-  pub last_exists : HasNode g₀ last
+module _ {N E : Type 0} {first : First N E} (w : IsWellFormed first.end first.graph)
+    (ord : IsOrderOf first.graph first.order) (exists : HasNode first.graph first.node) {now : Children N E}
+    (s : Beginning first now) where
+  abbrev end : ℕ
+  end = first.end
+
+  abbrev g₀ : Graph N E
+  g₀ = first.graph
+
+  abbrev order : List ℕ
+  order = first.order
+
+  abbrev u : ℕ
+  u = first.node
+
+  pub last_exists : HasNode g₀ now.last
   last_exists =
       let P : ℕ → Type 0 = λ z. HasNode g₀ z in
       elim s.last_from [ inl eq ↦ subst P (sym eq) exists | inr j ↦ w.children j.0 _ j.2 ]
 
-  pub edge_there : e ≢ end → HasEdge g e
+  pub edge_there : now.edge ≢ end → HasEdge now.graph now.edge
   edge_there here =
-      let P : Graph N E → Type 0 = λ z. HasEdge z e in
-      subst P (sym s.same) (has_edge end g₀ w u s.passed e s.cursor here)
+      let P : Graph N E → Type 0 = λ z. HasEdge z now.edge in
+      subst P (sym s.same) (has_edge end g₀ w u s.passed now.edge s.cursor here)
 
-  pub passed_less : e ≢ end → s.passed < length (out_list g₀ u)
-  passed_less here = (read_part end g₀ w u s.passed e s.cursor here).0
+  pub passed_less : now.edge ≢ end → s.passed < length (out_list g₀ u)
+  passed_less here = (read_part end g₀ w u s.passed now.edge s.cursor here).0
 
-  pub low_node : (x : ℕ) → HasNode g₀ x → x < length marks
+  pub low_node : (x : ℕ) → HasNode g₀ x → x < length now.marks
   low_node x has = omega (arith, below_bound g₀.nodes x has, s.fits)
 
-  pub has_room : (x : ℕ) → HasNode g₀ x → get_or marks x false ≡ false → len < length queue
+  pub has_room : (x : ℕ) → HasNode g₀ x → get_or now.marks x false ≡ false → now.len < length now.queue
   has_room x has unseen =
       let absent : Mem x s.q → ⊥ = λ m. false≢true (sym unseen ∙ (s.marked x).1 m) in
-      let low_all : (y : ℕ) → Mem y (x ∷ s.q) → y < length marks = λ y m.
+      let low_all : (y : ℕ) → Mem y (x ∷ s.q) → y < length now.marks = λ y m.
       elim m [
         | inl eq ↦ omega (arith, eq, low_node x has)
-        | inr b ↦ marked_within marks y ((s.marked y).1 b)
+        | inr b ↦ marked_within now.marks y ((s.marked y).1 b)
       ] in
-      let few = fewer_than (x ∷ s.q) (length marks) (absent, s.once) low_all in
-      omega (arith, few, s.capacity, length-take-le len queue s.high, ap length s.is)
+      let few = fewer_than (x ∷ s.q) (length now.marks) (absent, s.once) low_all in
+      omega (arith, few, s.capacity, length-take-le now.len now.queue s.high, ap length s.is)
 
   -- a node put behind unless it is there
   pub record Put (x : ℕ) (marks' : List Bool) (queue' : List ℕ) (len' : ℕ) : Type 0 where
     pub q' : List ℕ
     pub is' : take len' queue' ≡ q'
-    pub marks_size_kept : length marks' ≡ length marks
-    pub queue_size_kept : length queue' ≡ length queue
+    pub marks_size_kept : length marks' ≡ length now.marks
+    pub queue_size_kept : length queue' ≡ length now.queue
     pub high' : len' ≤ length queue'
     pub once' : Unique q'
     pub marked' : (n : ℕ) → (get_or marks' n false ≡ true) ↔ Mem n q'
@@ -133,15 +183,16 @@ module _ {N E : Type 0} {end marks_size queue_size : ℕ} {g₀ g : Graph N E} (
     pub front' : (q' ≡ s.q) ⊎ (q' ≡ s.q ++ x ∷ [])
 
   pub put : (x : ℕ) → HasNode g₀ x → {marks' : List Bool} {queue' : List ℕ} {len' : ℕ}
-      → (get_or marks x false ≡ true → (marks' ≡ marks) × (queue' ≡ queue) × (len' ≡ len))
-      → (get_or marks x false ≡ false → (marks' ≡ set marks x true) × (queue' ≡ set queue len x) × (len' ≡ len + 1))
+      → (get_or now.marks x false ≡ true → (marks' ≡ now.marks) × (queue' ≡ now.queue) × (len' ≡ now.len))
+      → (get_or now.marks x false ≡ false
+      → (marks' ≡ set now.marks x true) × (queue' ≡ set now.queue now.len x) × (len' ≡ now.len + 1))
       → Put x marks' queue' len'
-  put x has {marks'} {queue'} {len'} there new = go (get_or marks x false) refl
+  put x has {marks'} {queue'} {len'} there new = go (get_or now.marks x false) refl
     where
-      go : (b : Bool) → b ≡ get_or marks x false → Put x marks' queue' len'
+      go : (b : Bool) → b ≡ get_or now.marks x false → Put x marks' queue' len'
       go true at =
           let h = there (sym at) in
-          let same : Put x marks queue len = record {
+          let same : Put x now.marks now.queue now.len = record {
             q' = s.q;
             is' = s.is;
             marks_size_kept = refl;
@@ -166,22 +217,25 @@ module _ {N E : Type 0} {end marks_size queue_size : ℕ} {g₀ g : Graph N E} (
             | inr b ↦ elim b [ inl eq ↦ inr eq | inr none ↦ absurd none ]
           ] in
           let at_end : Mem x (s.q ++ x ∷ []) = mem_right s.q (x ∷ []) x (inl refl) in
-          let grown : Put x (set marks x true) (set queue len x) (len + 1) = record {
+          let grown : Put x (set now.marks x true) (set now.queue now.len x) (now.len + 1) = record {
             q' = s.q ++ x ∷ [];
-            is' = take_more_set queue len x more ∙ ap (λ z. z ++ x ∷ []) s.is;
-            marks_size_kept = length-set marks x true;
-            queue_size_kept = length-set queue len x;
-            high' = omega (arith, length-set queue len x, more);
+            is' = take_more_set now.queue now.len x more ∙ ap (λ z. z ++ x ∷ []) s.is;
+            marks_size_kept = length-set now.marks x true;
+            queue_size_kept = length-set now.queue now.len x;
+            high' = omega (arith, length-set now.queue now.len x, more);
             once' = unique_append s.q (x ∷ []) s.once (λ m. m, tt) (λ y a b. elim b [
               | inl eq ↦ (let P : ℕ → Type 0 = λ z. Mem z s.q in absent (subst P eq a))
               | inr none ↦ none
             ]);
             marked' = λ n. (
-              λ k. elim ((set_marked marks x n low).0 k) [
+              λ k. elim ((set_marked now.marks x n low).0 k) [
                 | inl eq ↦ (let P : ℕ → Type 0 = λ z. Mem z (s.q ++ x ∷ []) in subst P (sym eq) at_end)
                 | inr m ↦ mem_left s.q (x ∷ []) n ((s.marked n).0 m)
               ],
-              λ m. (set_marked marks x n low).1 (elim (cases n m) [ inl a ↦ inr ((s.marked n).1 a) | inr eq ↦ inl eq ]),
+              λ m. (set_marked now.marks x n low).1 (elim (cases n m) [
+                | inl a ↦ inr ((s.marked n).1 a)
+                | inr eq ↦ inl eq
+              ]),
             );
             old = λ n m. mem_left s.q (x ∷ []) n m;
             here = at_end;
@@ -190,21 +244,29 @@ module _ {N E : Type 0} {end marks_size queue_size : ℕ} {g₀ g : Graph N E} (
           } in
           rw (h.0, h.1, h.2) grown
 
-  module _ (here : e ≢ end) {v next : ℕ} (look : IsLook end g e v next) where
-    look₀ : IsLook end g₀ e v next
-    look₀ = let P : Graph N E → Type 0 = λ z. IsLook end z e v next in subst P s.same look
+  module _ (here : now.edge ≢ end) {v next : ℕ} (look : IsLook end now.graph now.edge v next) where
+    look₀ : IsLook end g₀ now.edge v next
+    look₀ = let P : Graph N E → Type 0 = λ z. IsLook end z now.edge v next in subst P s.same look
 
     pub child_there : HasNode g₀ v
-    child_there = child_exists end g₀ w u s.passed e s.cursor here v next look₀
+    child_there = child_exists end g₀ w u s.passed now.edge s.cursor here v next look₀
 
     child_of : AreJoined g₀ u v
-    child_of = child_joined end g₀ w u s.passed e s.cursor here v next look₀
+    child_of = child_joined end g₀ w u s.passed now.edge s.cursor here v next look₀
 
-    module _ {g' : Graph N E} (kept : g' ≡ g) {looks' : ℕ} (one_more : looks' ≡ looks + 1) where
+    module _ {g' : Graph N E} (kept : g' ≡ now.graph) {looks' : ℕ} (one_more : looks' ≡ now.looks + 1) where
       -- the child stands last so far
       pub put_last : {marks' : List Bool} {queue' : List ℕ} {len' : ℕ}
-          → Put last marks' queue' len' → place order last < place order v
-          → Beginning end marks_size queue_size g₀ g' order u marks' queue' len' v next looks₀ looks'
+          → Put now.last marks' queue' len' → place order now.last < place order v
+          → Beginning first record {
+            graph = g';
+            marks = marks';
+            queue = queue';
+            len = len';
+            last = v;
+            edge = next;
+            looks = looks';
+          }
       put_last p later =
           record {
             same = kept ∙ s.same;
@@ -214,7 +276,7 @@ module _ {N E : Type 0} {end marks_size queue_size : ℕ} {g₀ g : Graph N E} (
             capacity = omega (arith, s.capacity, p.marks_size_kept, p.queue_size_kept);
             high = p.high';
             passed = suc s.passed;
-            cursor = next_cursor end g₀ w u s.passed e s.cursor here v next look₀;
+            cursor = next_cursor end g₀ w u s.passed now.edge s.cursor here v next look₀;
             within = omega (arith, passed_less here);
             counted = omega (arith, s.counted, one_more);
             q = p.q';
@@ -233,27 +295,36 @@ module _ {N E : Type 0} {end marks_size queue_size : ℕ} {g₀ g : Graph N E} (
                 ];
             last_from = inr child_of;
             found =
-                looked_more end g₀ w u s.passed e s.cursor here v next look₀ (λ z. Mem z p.q' ⊎ (z ≡ v)) (λ j x lt a.
+                looked_more end g₀ w u s.passed now.edge s.cursor here v next look₀
+                (λ z. Mem z p.q' ⊎ (z ≡ v)) (λ j x lt a.
                 elim (s.found j x lt a) [
                   | inl m ↦ inl (p.old x.child m)
                   | inr eq ↦ (let P : ℕ → Type 0 = λ z. Mem z p.q' in inl (subst P (sym eq) p.here))
                 ]) (inr refl);
             front = inr (elim s.front [
               | inl none ↦ elim p.front' [
-                | inl eq ↦ (let P : List ℕ → Type 0 = λ z. Mem last z in absurd (subst P (eq ∙ none.0) p.here))
-                | inr eq ↦ ([], eq ∙ ap (λ z. z ++ last ∷ []) none.0 ∙ ap (λ (z : ℕ). z ∷ []) none.1)
+                | inl eq ↦ (let P : List ℕ → Type 0 = λ z. Mem now.last z in absurd (subst P (eq ∙ none.0) p.here))
+                | inr eq ↦ ([], eq ∙ ap (λ z. z ++ now.last ∷ []) none.0 ∙ ap (λ (z : ℕ). z ∷ []) none.1)
               ]
               | inr o ↦ elim p.front' [
                 | inl eq ↦ (o.0, eq ∙ o.1)
-                | inr eq ↦ (o.0 ++ last ∷ [], eq ∙ ap (λ z. z ++ last ∷ []) o.1)
+                | inr eq ↦ (o.0 ++ now.last ∷ [], eq ∙ ap (λ z. z ++ now.last ∷ []) o.1)
               ]
             ]);
           }
 
       -- the child stands before another
       pub put_child : {marks' : List Bool} {queue' : List ℕ} {len' : ℕ}
-          → Put v marks' queue' len' → place order v < place order last
-          → Beginning end marks_size queue_size g₀ g' order u marks' queue' len' last next looks₀ looks'
+          → Put v marks' queue' len' → place order v < place order now.last
+          → Beginning first record {
+            graph = g';
+            marks = marks';
+            queue = queue';
+            len = len';
+            last = now.last;
+            edge = next;
+            looks = looks';
+          }
       put_child p earlier =
           record {
             same = kept ∙ s.same;
@@ -263,7 +334,7 @@ module _ {N E : Type 0} {end marks_size queue_size : ℕ} {g₀ g : Graph N E} (
             capacity = omega (arith, s.capacity, p.marks_size_kept, p.queue_size_kept);
             high = p.high';
             passed = suc s.passed;
-            cursor = next_cursor end g₀ w u s.passed e s.cursor here v next look₀;
+            cursor = next_cursor end g₀ w u s.passed now.edge s.cursor here v next look₀;
             within = omega (arith, passed_less here);
             counted = omega (arith, s.counted, one_more);
             q = p.q';
@@ -273,7 +344,8 @@ module _ {N E : Type 0} {end marks_size queue_size : ℕ} {g₀ g : Graph N E} (
             before = λ n m.
                 elim (p.out n m) [
                   | inl a ↦ s.before n a
-                  | inr eq ↦ (let P : ℕ → Type 0 = λ z. place order z < place order last in subst P (sym eq) earlier)
+                  | inr eq ↦
+                      (let P : ℕ → Type 0 = λ z. place order z < place order now.last in subst P (sym eq) earlier)
                 ];
             from = λ n m.
                 elim (p.out n m) [
@@ -282,7 +354,8 @@ module _ {N E : Type 0} {end marks_size queue_size : ℕ} {g₀ g : Graph N E} (
                 ];
             last_from = s.last_from;
             found =
-                looked_more end g₀ w u s.passed e s.cursor here v next look₀ (λ z. Mem z p.q' ⊎ (z ≡ last)) (λ j x lt a.
+                looked_more end g₀ w u s.passed now.edge s.cursor here v next look₀
+                (λ z. Mem z p.q' ⊎ (z ≡ now.last)) (λ j x lt a.
                 elim (s.found j x lt a) [
                   | inl m ↦ inl (p.old x.child m)
                   | inr eq ↦ inr eq
@@ -301,12 +374,12 @@ module _ {N E : Type 0} {end marks_size queue_size : ℕ} {g₀ g : Graph N E} (
           }
 
       -- the child is the last one again
-      pub last_again : (place order last < place order v → ⊥) → (place order v < place order last → ⊥)
-          → Beginning end marks_size queue_size g₀ g' order u marks queue len last next looks₀ looks'
+      pub last_again : (place order now.last < place order v → ⊥) → (place order v < place order now.last → ⊥)
+          → Beginning first record now { graph = g'; edge = next; looks = looks' }
       last_again no_later no_earlier =
-          let one : v ≡ last =
-          place_apart order v last (contains_mem order v ((ord.exact v).1 child_there))
-          (contains_mem order last ((ord.exact last).1 last_exists)) (omega (arith, no_later, no_earlier)) in
+          let one : v ≡ now.last =
+          place_apart order v now.last (contains_mem order v ((ord.exact v).1 child_there))
+          (contains_mem order now.last ((ord.exact now.last).1 last_exists)) (omega (arith, no_later, no_earlier)) in
           record {
             same = kept ∙ s.same;
             marks_sized = s.marks_sized;
@@ -315,7 +388,7 @@ module _ {N E : Type 0} {end marks_size queue_size : ℕ} {g₀ g : Graph N E} (
             capacity = s.capacity;
             high = s.high;
             passed = suc s.passed;
-            cursor = next_cursor end g₀ w u s.passed e s.cursor here v next look₀;
+            cursor = next_cursor end g₀ w u s.passed now.edge s.cursor here v next look₀;
             within = omega (arith, passed_less here);
             counted = omega (arith, s.counted, one_more);
             q = s.q;
@@ -326,21 +399,21 @@ module _ {N E : Type 0} {end marks_size queue_size : ℕ} {g₀ g : Graph N E} (
             from = s.from;
             last_from = s.last_from;
             found =
-                looked_more end g₀ w u s.passed e s.cursor here v next look₀ (λ z. Mem z s.q ⊎ (z ≡ last)) s.found
-                (inr one);
+                looked_more end g₀ w u s.passed now.edge s.cursor here v next look₀
+                (λ z. Mem z s.q ⊎ (z ≡ now.last)) s.found (inr one);
             front = s.front;
           }
 
   -- the list was read whole
-  module _ (ended : e ≡ end) where
-    pub children_found : (v : ℕ) → AreJoined g₀ u v → Mem v s.q ⊎ (v ≡ last)
+  module _ (ended : now.edge ≡ end) where
+    pub children_found : (v : ℕ) → AreJoined g₀ u v → Mem v s.q ⊎ (v ≡ now.last)
     children_found v j =
-        all_read end g₀ w u s.passed e s.cursor s.within ended (λ z. Mem z s.q ⊎ (z ≡ last)) s.found v j
+        all_read end g₀ w u s.passed now.edge s.cursor s.within ended (λ z. Mem z s.q ⊎ (z ≡ now.last)) s.found v j
 
     pub all_passed : s.passed ≡ length (out_list g₀ u)
-    all_passed = read_whole end g₀ w u s.passed e s.cursor s.within ended
+    all_passed = read_whole end g₀ w u s.passed now.edge s.cursor s.within ended
 
-    pub none_queued : len ≡ 0 → (v : ℕ) → AreJoined g₀ u v → ⊥
+    pub none_queued : now.len ≡ 0 → (v : ℕ) → AreJoined g₀ u v → ⊥
     none_queued empty v j =
         elim s.front [
           | inl none ↦ (
@@ -352,11 +425,12 @@ module _ {N E : Type 0} {end marks_size queue_size : ℕ} {g₀ g : Graph N E} (
                     absurd (omega (arith, subst P (eq ∙ none.1) (ord.sorted u v j))))
               ]
               )
-          | inr o ↦ absurd (omega (arith, empty, ap length s.is, ap length o.1, length-take-le len queue s.high))
+          | inr o ↦
+              absurd (omega (arith, empty, ap length s.is, ap length o.1, length-take-le now.len now.queue s.high))
         ]
 
     -- an empty queue is that of a node without edges
-    pub none_listed : len ≡ 0 → s.passed ≡ 0
+    pub none_listed : now.len ≡ 0 → s.passed ≡ 0
     none_listed empty = go s.passed refl
       where
         go : (k : ℕ) → k ≡ s.passed → s.passed ≡ 0

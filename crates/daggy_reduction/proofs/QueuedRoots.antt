@@ -13,20 +13,41 @@ use Rattle.daggy_reduction.specs.Closure.{IsQueue, IsClosure}
 use Rattle.daggy_reduction.proofs.QueueProgress.{take_none}
 use Rattle.daggy_reduction.proofs.QueueState.{distinct_from_unique}
 
-pub record Rooting {N E : Type 0} (g : Graph N E) (marks_size queue_size : ℕ) (roots : List ℕ) (marks : List Bool)
-    (queue : List ℕ) (len k : ℕ) : Type 0 where
-  pub marks_sized : length marks ≡ marks_size
-  pub queue_sized : length queue ≡ queue_size
-  pub fits : node_bound g ≤ length marks
-  pub capacity : length marks ≤ length queue
-  pub high : len ≤ length queue
-  pub once : Unique (take len queue)
-  pub marked : (n : ℕ) → (get_or marks n false ≡ true) ↔ Mem n (take len queue)
-  pub exact : (n : ℕ) → Mem n (take len queue) ↔ (Mem n (take k roots) × HasNode g n)
+-- What is to be put into a queue: the graph, the roots, and how many marks and places of the queue there are.
+pub record Roots (N E : Type 0) : Type 0 where
+  pub graph : Graph N E
+  pub nodes : List ℕ
+  pub marks : ℕ
+  pub places : ℕ
+
+-- What is in the queue so far: the marks of its nodes, its places and how many of them are in use, and how many of the
+-- roots were seen.
+pub record Rooted : Type 0 where
+  pub marks : List Bool
+  pub queue : List ℕ
+  pub len : ℕ
+  pub seen : ℕ
+
+-- the queue has each existing root of those that were seen, once
+pub record Rooting {N E : Type 0} (roots : Roots N E) (now : Rooted) : Type 0 where
+  pub marks_sized : length now.marks ≡ roots.marks
+  pub queue_sized : length now.queue ≡ roots.places
+  pub fits : node_bound roots.graph ≤ length now.marks
+  pub capacity : length now.marks ≤ length now.queue
+  pub high : now.len ≤ length now.queue
+  pub once : Unique (take now.len now.queue)
+  pub marked : (n : ℕ) → (get_or now.marks n false ≡ true) ↔ Mem n (take now.len now.queue)
+  pub exact : (n : ℕ)
+      → Mem n (take now.len now.queue) ↔ (Mem n (take now.seen roots.nodes) × HasNode roots.graph n)
 
 pub rooting_start : {N E : Type 0} (g : Graph N E) (roots : List ℕ) (marks : List Bool) (queue : List ℕ)
     → node_bound g ≤ length marks → length marks ≤ length queue → ((n : ℕ) → get_or marks n false ≡ false)
-    → Rooting g (length marks) (length queue) roots marks queue 0 0
+    → Rooting record { graph = g; nodes = roots; marks = length marks; places = length queue } record {
+      marks = marks;
+      queue = queue;
+      len = 0;
+      seen = 0;
+    }
 rooting_start g roots marks queue fits capacity cleared =
     record {
       marks_sized = refl;
@@ -45,31 +66,33 @@ rooting_start g roots marks queue fits capacity cleared =
       );
     }
 
-module _ {N E : Type 0} {g : Graph N E} {marks_size queue_size : ℕ} {roots : List ℕ} {marks : List Bool}
-    {queue : List ℕ} {len k : ℕ} (s : Rooting g marks_size queue_size roots marks queue len k)
-    (within : k < length roots) where
-  more_roots : (r : ℕ) → r ≡ get_or roots k r → take (k + 1) roots ≡ take k roots ++ r ∷ []
-  more_roots r is = take_more roots k r within ∙ ap (λ z. take k roots ++ z ∷ []) (sym is)
+module _ {N E : Type 0} {roots : Roots N E} {now : Rooted} (s : Rooting roots now)
+    (within : now.seen < length roots.nodes) where
+  more_roots : (r : ℕ) → r ≡ get_or roots.nodes now.seen r
+      → take (now.seen + 1) roots.nodes ≡ take now.seen roots.nodes ++ r ∷ []
+  more_roots r is = take_more roots.nodes now.seen r within ∙ ap (λ z. take now.seen roots.nodes ++ z ∷ []) (sym is)
 
-  in_more : (r n : ℕ) → r ≡ get_or roots k r → Mem n (take (k + 1) roots) → Mem n (take k roots) ⊎ (n ≡ r)
+  in_more : (r n : ℕ) → r ≡ get_or roots.nodes now.seen r → Mem n (take (now.seen + 1) roots.nodes)
+      → Mem n (take now.seen roots.nodes) ⊎ (n ≡ r)
   in_more r n is m =
       let P : List ℕ → Type 0 = λ z. Mem n z in
-      elim (mem_cases (take k roots) (r ∷ []) n (subst P (more_roots r is) m)) [
+      elim (mem_cases (take now.seen roots.nodes) (r ∷ []) n (subst P (more_roots r is) m)) [
         | inl a ↦ inl a
         | inr b ↦ elim b [ inl e ↦ inr e | inr none ↦ absurd none ]
       ]
 
-  still_in : (r n : ℕ) → r ≡ get_or roots k r → Mem n (take k roots) → Mem n (take (k + 1) roots)
+  still_in : (r n : ℕ) → r ≡ get_or roots.nodes now.seen r → Mem n (take now.seen roots.nodes)
+      → Mem n (take (now.seen + 1) roots.nodes)
   still_in r n is m = let P : List ℕ → Type 0 = λ z. Mem n z in
-      subst P (sym (more_roots r is)) (mem_left (take k roots) (r ∷ []) n m)
+      subst P (sym (more_roots r is)) (mem_left (take now.seen roots.nodes) (r ∷ []) n m)
 
-  now_in : (r : ℕ) → r ≡ get_or roots k r → Mem r (take (k + 1) roots)
+  now_in : (r : ℕ) → r ≡ get_or roots.nodes now.seen r → Mem r (take (now.seen + 1) roots.nodes)
   now_in r is = let P : List ℕ → Type 0 = λ z. Mem r z in
-      subst P (sym (more_roots r is)) (mem_right (take k roots) (r ∷ []) r (inl refl))
+      subst P (sym (more_roots r is)) (mem_right (take now.seen roots.nodes) (r ∷ []) r (inl refl))
 
   -- a missing root is passed by
-  pub root_missing : (r : ℕ)
-      → r ≡ get_or roots k r → (HasNode g r → ⊥) → Rooting g marks_size queue_size roots marks queue len (k + 1)
+  pub root_missing : (r : ℕ) → r ≡ get_or roots.nodes now.seen r → (HasNode roots.graph r → ⊥)
+      → Rooting roots record now { seen = now.seen + 1 }
   root_missing r is missing =
       record {
         marks_sized = s.marks_sized;
@@ -83,37 +106,39 @@ module _ {N E : Type 0} {g : Graph N E} {marks_size queue_size : ℕ} {roots : L
           λ m. (let both = (s.exact n).0 m in (still_in r n is both.0, both.1)),
           λ both. elim (in_more r n is both.0) [
             | inl a ↦ (s.exact n).1 (a, both.1)
-            | inr e ↦ (let P : ℕ → Type 0 = λ z. HasNode g z in absurd (missing (subst P e both.1)))
+            | inr e ↦ (let P : ℕ → Type 0 = λ z. HasNode roots.graph z in absurd (missing (subst P e both.1)))
           ],
         );
       }
 
-  module _ (r : ℕ) (is : r ≡ get_or roots k r) (exists : HasNode g r) where
-    pub root_low : r < length marks
-    root_low = omega (arith, below_bound g.nodes r exists, s.fits)
+  module _ (r : ℕ) (is : r ≡ get_or roots.nodes now.seen r) (exists : HasNode roots.graph r) where
+    pub root_low : r < length now.marks
+    root_low = omega (arith, below_bound roots.graph.nodes r exists, s.fits)
 
-    pub root_room : get_or marks r false ≡ false → len < length queue
+    pub root_room : get_or now.marks r false ≡ false → now.len < length now.queue
     root_room unseen =
-        let absent : Mem r (take len queue) → ⊥ = λ m. false≢true (sym unseen ∙ (s.marked r).1 m) in
-        let low_all : (x : ℕ) → Mem x (r ∷ take len queue) → x < length marks = λ x m.
+        let absent : Mem r (take now.len now.queue) → ⊥ = λ m. false≢true (sym unseen ∙ (s.marked r).1 m) in
+        let low_all : (x : ℕ) → Mem x (r ∷ take now.len now.queue) → x < length now.marks = λ x m.
         elim m [
           | inl e ↦ omega (arith, e, root_low)
-          | inr b ↦ marked_within marks x ((s.marked x).1 b)
+          | inr b ↦ marked_within now.marks x ((s.marked x).1 b)
         ] in
-        let few = fewer_than (r ∷ take len queue) (length marks) (absent, s.once) low_all in
-        omega (arith, few, s.capacity, length-take-le len queue s.high)
+        let few = fewer_than (r ∷ take now.len now.queue) (length now.marks) (absent, s.once) low_all in
+        omega (arith, few, s.capacity, length-take-le now.len now.queue s.high)
 
     pub root_entered : {marks' : List Bool} {queue' : List ℕ} {len' : ℕ}
-        → (get_or marks r false ≡ true → (marks' ≡ marks) × (queue' ≡ queue) × (len' ≡ len))
-        → (get_or marks r false ≡ false → (marks' ≡ set marks r true) × (queue' ≡ set queue len r) × (len' ≡ len + 1))
-        → Rooting g marks_size queue_size roots marks' queue' len' (k + 1)
-    root_entered {marks'} {queue'} {len'} old new = go (get_or marks r false) refl
+        → (get_or now.marks r false ≡ true → (marks' ≡ now.marks) × (queue' ≡ now.queue) × (len' ≡ now.len))
+        → (get_or now.marks r false ≡ false
+        → (marks' ≡ set now.marks r true) × (queue' ≡ set now.queue now.len r) × (len' ≡ now.len + 1))
+        → Rooting roots record { marks = marks'; queue = queue'; len = len'; seen = now.seen + 1 }
+    root_entered {marks'} {queue'} {len'} old new = go (get_or now.marks r false) refl
       where
-        go : (b : Bool) → b ≡ get_or marks r false → Rooting g marks_size queue_size roots marks' queue' len' (k + 1)
+        go : (b : Bool) → b ≡ get_or now.marks r false
+            → Rooting roots record { marks = marks'; queue = queue'; len = len'; seen = now.seen + 1 }
         go true at =
             let h = old (sym at) in
-            let there : Mem r (take len queue) = (s.marked r).0 (sym at) in
-            let same : Rooting g marks_size queue_size roots marks queue len (k + 1) = record {
+            let there : Mem r (take now.len now.queue) = (s.marked r).0 (sym at) in
+            let same : Rooting roots record now { seen = now.seen + 1 } = record {
               marks_sized = s.marks_sized;
               queue_sized = s.queue_sized;
               fits = s.fits;
@@ -125,7 +150,7 @@ module _ {N E : Type 0} {g : Graph N E} {marks_size queue_size : ℕ} {roots : L
                 λ m. (let both = (s.exact n).0 m in (still_in r n is both.0, both.1)),
                 λ both. elim (in_more r n is both.0) [
                   | inl a ↦ (s.exact n).1 (a, both.1)
-                  | inr e ↦ (let P : ℕ → Type 0 = λ z. Mem z (take len queue) in subst P (sym e) there)
+                  | inr e ↦ (let P : ℕ → Type 0 = λ z. Mem z (take now.len now.queue) in subst P (sym e) there)
                 ],
               );
             } in
@@ -133,8 +158,9 @@ module _ {N E : Type 0} {g : Graph N E} {marks_size queue_size : ℕ} {roots : L
         go false at =
             let h = new (sym at) in
             let low = root_room (sym at) in
-            let q = take len queue in
-            let longer : take (len + 1) (set queue len r) ≡ q ++ r ∷ [] = take_more_set queue len r low in
+            let q = take now.len now.queue in
+            let longer : take (now.len + 1) (set now.queue now.len r) ≡ q ++ r ∷ [] =
+            take_more_set now.queue now.len r low in
             let absent : Mem r q → ⊥ = λ m. false≢true (at ∙ (s.marked r).1 m) in
             let out : (n : ℕ) → Mem n (q ++ r ∷ []) → Mem n q ⊎ (n ≡ r) = λ n m.
             elim (mem_cases q (r ∷ []) n m) [
@@ -144,24 +170,29 @@ module _ {N E : Type 0} {g : Graph N E} {marks_size queue_size : ℕ} {roots : L
             let here : (n : ℕ) → n ≡ r → Mem n (q ++ r ∷ []) = λ n e.
             (let P : ℕ → Type 0 = λ z. Mem z (q ++ r ∷ []) in subst P (sym e) (mem_right q (r ∷ []) r (inl refl))) in
             let Q : List ℕ → Type 0 = λ z. Unique z in
-            let grown : Rooting g marks_size queue_size roots (set marks r true) (set queue len r) (len + 1) (k + 1) =
+            let grown : Rooting roots record {
+              marks = set now.marks r true;
+              queue = set now.queue now.len r;
+              len = now.len + 1;
+              seen = now.seen + 1;
+            } =
             record {
-              marks_sized = length-set marks r true ∙ s.marks_sized;
-              queue_sized = length-set queue len r ∙ s.queue_sized;
-              fits = omega (arith, s.fits, length-set marks r true);
-              capacity = omega (arith, s.capacity, length-set marks r true, length-set queue len r);
-              high = omega (arith, low, length-set queue len r);
+              marks_sized = length-set now.marks r true ∙ s.marks_sized;
+              queue_sized = length-set now.queue now.len r ∙ s.queue_sized;
+              fits = omega (arith, s.fits, length-set now.marks r true);
+              capacity = omega (arith, s.capacity, length-set now.marks r true, length-set now.queue now.len r);
+              high = omega (arith, low, length-set now.queue now.len r);
               once = subst Q (sym longer) (unique_append q (r ∷ []) s.once (λ m. m, tt) (λ x a b. elim b [
                 | inl e ↦ (let P : ℕ → Type 0 = λ z. Mem z q in absent (subst P e a))
                 | inr none ↦ none
               ]));
               marked = λ n. (
                   let P : List ℕ → Type 0 = λ z. Mem n z in (
-                    λ m. subst P (sym longer) (elim ((set_marked marks r n root_low).0 m) [
+                    λ m. subst P (sym longer) (elim ((set_marked now.marks r n root_low).0 m) [
                       | inl e ↦ here n e
                       | inr before ↦ mem_left q (r ∷ []) n ((s.marked n).0 before)
                     ]),
-                    λ m. (set_marked marks r n root_low).1 (elim (out n (subst P longer m)) [
+                    λ m. (set_marked now.marks r n root_low).1 (elim (out n (subst P longer m)) [
                       | inl a ↦ inr ((s.marked n).1 a)
                       | inr e ↦ inl e
                     ]),
@@ -172,8 +203,8 @@ module _ {N E : Type 0} {g : Graph N E} {marks_size queue_size : ℕ} {roots : L
                     λ m. elim (out n (subst P longer m)) [
                       | inl a ↦ (let both = (s.exact n).0 a in (still_in r n is both.0, both.1))
                       | inr e ↦ (
-                          let M : ℕ → Type 0 = λ z. Mem z (take (k + 1) roots) in
-                          let H : ℕ → Type 0 = λ z. HasNode g z in
+                          let M : ℕ → Type 0 = λ z. Mem z (take (now.seen + 1) roots.nodes) in
+                          let H : ℕ → Type 0 = λ z. HasNode roots.graph z in
                           (subst M (sym e) (now_in r is), subst H (sym e) exists)
                           )
                     ],
@@ -186,13 +217,12 @@ module _ {N E : Type 0} {g : Graph N E} {marks_size queue_size : ℕ} {roots : L
             } in
             rw (h.0, h.1, h.2) grown
 
-pub all_rooted : {N E : Type 0} {g : Graph N E} {marks_size queue_size : ℕ} {roots : List ℕ} {marks : List Bool}
-    {queue : List ℕ} {len k : ℕ}
-    → Rooting g marks_size queue_size roots marks queue len k → length roots ≤ k
-    → IsQueue g marks (take len queue) × ((n : ℕ) → Contains (take len queue) n ↔ (Contains roots n × HasNode g n))
-all_rooted {N} {E} {g} {marks_size} {queue_size} {roots} {marks} {queue} {len} {k} s past =
-    let whole : take k roots ≡ roots = take_all k roots past in
-    let q = take len queue in (
+pub all_rooted : {N E : Type 0} {roots : Roots N E} {now : Rooted} → Rooting roots now → length roots.nodes ≤ now.seen
+    → IsQueue roots.graph now.marks (take now.len now.queue)
+    × ((n : ℕ) → Contains (take now.len now.queue) n ↔ (Contains roots.nodes n × HasNode roots.graph n))
+all_rooted {N} {E} {roots} {now} s past =
+    let whole : take now.seen roots.nodes ≡ roots.nodes = take_all now.seen roots.nodes past in
+    let q = take now.len now.queue in (
       record {
         exist = λ n c. ((s.exact n).0 (contains_mem q n c)).1;
         once = distinct_from_unique q s.once;
@@ -202,8 +232,8 @@ all_rooted {N} {E} {g} {marks_size} {queue_size} {roots} {marks} {queue} {len} {
           let P : List ℕ → Type 0 = λ z. Mem n z in (
             λ c.
                 (let both = (s.exact n).0 (contains_mem q n c) in
-                (mem_contains roots n (subst P whole both.0), both.1)),
-            λ both. mem_contains q n ((s.exact n).1 (subst P (sym whole) (contains_mem roots n both.0), both.1)),
+                (mem_contains roots.nodes n (subst P whole both.0), both.1)),
+            λ both. mem_contains q n ((s.exact n).1 (subst P (sym whole) (contains_mem roots.nodes n both.0), both.1)),
           )
           ),
     )

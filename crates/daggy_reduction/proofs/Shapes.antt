@@ -54,10 +54,23 @@ shapes_alike {limit = limit} {g = g} {h = h} {s = s} {t = t} a b same =
       λ has. (a.nodes n).0 ((same n).1 ((b.nodes n).1 has)),
     ) in
     let alike =
-    alike_exactly a.roots a.whole s a.dag.acyclic (reduction_loses a.kind a.roots a.whole s a.reduced)
-    (joined_exist limit a.whole a.dag.well_formed) a.all
-    b.roots b.whole t b.dag.acyclic (reduction_loses b.kind b.roots b.whole t b.reduced)
-    (joined_exist limit b.whole b.dag.well_formed) b.all nodes in (
+    alike_exactly record {
+      roots = a.roots;
+      old = a.whole;
+      new = s;
+      acyclic = a.dag.acyclic;
+      loses = reduction_loses a.kind a.roots a.whole s a.reduced;
+      ends = joined_exist limit a.whole a.dag.well_formed;
+      all = a.all;
+    } record {
+      roots = b.roots;
+      old = b.whole;
+      new = t;
+      acyclic = b.dag.acyclic;
+      loses = reduction_loses b.kind b.roots b.whole t b.reduced;
+      ends = joined_exist limit b.whole b.dag.well_formed;
+      all = b.all;
+    } nodes in (
       λ both u v. (
           let whole = alike.0 both u v in (
             λ r. (b.reachability u v).1 (whole.0 ((a.reachability u v).0 r)),

@@ -1,6 +1,6 @@
 -- How many looks the searches take that stay before the last child.
-use Rattle.std.proofs.Common.{◌≡◌, ℕ, ◌+◌, ◌≤◌, ◌↔◌, inl, inr, List, [], ◌∷◌, ◌++◌, length, drop, take, refl, sym, ap}
-use Rattle.std.proofs.Common.{subst, ◌∙◌, arith, Contains}
+use Rattle.std.proofs.Common.{◌≡◌, ℕ, ◌+◌, ◌≤◌, ◌↔◌, inl, inr, List, [], ◌∷◌, ◌++◌, drop, take, refl, ap}
+use Rattle.std.proofs.Common.{subst, arith, Contains}
 use Rattle.daggy_base.specs.Graph.{Graph, out_list, edge_count}
 use Rattle.daggy_base.specs.Reduction.{IsBelow}
 use Rattle.daggy_base.specs.WellFormed.{IsWellFormed, AreDistinct}

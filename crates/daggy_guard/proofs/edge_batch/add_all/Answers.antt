@@ -1,4 +1,4 @@
-use Rattle.std.proofs.Common.{◌∙◌, map, ap, inl, sym, rules}
+use Rattle.std.proofs.Common.{◌∙◌, map, ap, inl, refl, sym, rules}
 use Rattle.std.proofs.lemmas.List.{length-map}
 use Rattle.std.specs.Iterator.{Yields}
 use Rattle.daggy_order.proofs.OrderLaws.{acyclic_from_order}
@@ -13,12 +13,20 @@ items-preserved g c = record {
   can = search rules;
   ends = search rules;
   same = search rules;
-  adding =
-      adding_on c.items.invariant.adding c.in-Some.item _ c.add_item.ensures.well_formed c.in-Ok.ensures.ends
-      c.in-Ok.ensures.index_left c.in-Ok.ensures.added _ c.in-Ok.ensures.noted _ c.add_item.ensures.weights _ _ _
-      c.add_item.ensures.capacity _ _
-      (c.items.edges.ok.0 ∙ sym (length-map c.items.edges.items g.Ix.IndexType.number)) _ _
-      c.in-Ok.ensures.step;
+  adding = adding_on c.items.invariant.adding c.in-Some.item _ record {
+    well_formed = c.add_item.ensures.well_formed;
+    ends = c.in-Ok.ensures.ends;
+    index_left = c.in-Ok.ensures.index_left;
+    added = c.in-Ok.ensures.added;
+    given = refl;
+    noted = c.in-Ok.ensures.noted;
+    same_slots = refl;
+    same_weights = c.add_item.ensures.weights;
+    spare = c.add_item.ensures.capacity;
+    count = _;
+    counted = c.items.edges.ok.0 ∙ sym (length-map c.items.edges.items g.Ix.IndexType.number);
+    step = c.in-Ok.ensures.step;
+  };
 }
 
 pub returns-in-Err-clause-refused : goal.returns-in-Err-clause-refused

@@ -7,8 +7,21 @@ invariant-items g l = record {
   can : (goal.iterator-items g).can_next l.item-iterator;
   ends : (goal.iterator-items g).is_finite l.item-iterator;
   same : l.scratch ≡ l.fn.scratch;
-  adding : Adding g.Ix.IndexType.number g.Ix.IndexType.greatest g.S.Store.kind (g.S.EdgeSource.graph l.fn.store)
-      (g.S.EdgeSource.graph l.store) l.yielded (map g.Ix.IndexType.number l.edges.items) l.slot_count l.weights.items
-      (vec_len l.weights) (vec_len l.edges) (vec_capacity l.weights) l.fn.scratch.nodes
-      (g.S.EdgeSource.looks l.fn.store) (g.S.EdgeSource.looks l.store) l.order l.standing;
+  adding : Adding g.Ix.IndexType.number g.Ix.IndexType.greatest g.S.Store.kind record {
+    graph = g.S.EdgeSource.graph l.fn.store;
+    room = l.fn.scratch.nodes;
+    looks = g.S.EdgeSource.looks l.fn.store;
+  } record {
+    graph = g.S.EdgeSource.graph l.store;
+    given = l.yielded;
+    edges = map g.Ix.IndexType.number l.edges.items;
+    slots = l.slot_count;
+    weights = l.weights.items;
+    weights_held = vec_len l.weights;
+    edges_held = vec_len l.edges;
+    capacity = vec_capacity l.weights;
+    looks = g.S.EdgeSource.looks l.store;
+    order = l.order;
+    standing = l.standing;
+  };
 }

@@ -1,15 +1,13 @@
-use Rattle.std.proofs.Common.{rules, ◌≡◌, ◌≢◌, ◌+◌, ◌<◌, ◌≤◌, ◌↔◌, ◌⊎◌, ℕ, Bool, List, [], ◌∷◌, true, false, inl, inr}
-use Rattle.std.proofs.Common.{◌∙◌, sym, ap, subst, refl, arith, length, get_or}
+use Rattle.std.proofs.Common.{rules, ◌≡◌, ◌≢◌, ◌+◌, ◌<◌, ◌≤◌, ℕ}
+use Rattle.std.proofs.Common.{◌∙◌, sym, ap, refl, arith, length}
 use Rattle.std.proofs.lemmas.Bool.{false≢true}
 use Rattle.daggy_base.specs.Graph.{out_list}
 use Rattle.daggy_base.specs.Cursor.{first_of}
-use Rattle.daggy_base.specs.Reduction.{ReachesIndirectly}
-use Rattle.daggy_order.specs.Ordered.{place}
 use Rattle.daggy_reduction.proofs.QueuedChildren.{begins_here, last_exists, edge_there, passed_less, low_node, has_room}
 use Rattle.daggy_reduction.proofs.QueuedChildren.{put, child_there, put_last, put_child, last_again, none_queued}
 use Rattle.daggy_reduction.proofs.QueuedChildren.{none_listed}
-use Rattle.daggy_reduction.proofs.BoundedQueue.{Inside, Beyond, steps_start, few_spanned, round_met}
-use Rattle.daggy_reduction.proofs.QueueState.{Entered, few, looked_once, edge_here, head_low, child_low}
+use Rattle.daggy_reduction.proofs.BoundedQueue.{steps_start, few_spanned, round_met}
+use Rattle.daggy_reduction.proofs.QueueState.{Entered, looked_once, edge_here, head_low, child_low}
 use Rattle.daggy_reduction.proofs.QueueState.{child_exists_here, room_here, entered, left_out, visited, next_here}
 use Rattle.daggy_reduction.proofs.bounded.meet_round.Goals as goal
 use Rattle.daggy_reduction.proofs.bounded.meet_round.Goals.{then-stands_before-3, else-stands_before-3}

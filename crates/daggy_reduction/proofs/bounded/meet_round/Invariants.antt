@@ -7,10 +7,23 @@ use Rattle.daggy_reduction.proofs.bounded.meet_round.Given as goal
 
 abbrev pub invariant-children : goal.invariant-children
 invariant-children g l =
-    Beginning g.Ix.IndexType.greatest (length l.fn.entered) (length l.fn.queue) (g.S.EdgeSource.graph l.fn.source)
-    (g.S.EdgeSource.graph l.source) l.order (g.Ix.IndexType.number l.fn.u)
-    l.entered l.queue l.len (g.Ix.IndexType.number l.last) (g.Ix.IndexType.number l.e)
-    (g.S.EdgeSource.looks l.fn.source) (g.S.EdgeSource.looks l.source)
+    Beginning record {
+      end = g.Ix.IndexType.greatest;
+      graph = g.S.EdgeSource.graph l.fn.source;
+      order = l.order;
+      node = g.Ix.IndexType.number l.fn.u;
+      marks = length l.fn.entered;
+      places = length l.fn.queue;
+      looks = g.S.EdgeSource.looks l.fn.source;
+    } record {
+      graph = g.S.EdgeSource.graph l.source;
+      marks = l.entered;
+      queue = l.queue;
+      len = l.len;
+      last = g.Ix.IndexType.number l.last;
+      edge = g.Ix.IndexType.number l.e;
+      looks = g.S.EdgeSource.looks l.source;
+    }
 
 abbrev pub decreases-children : goal.decreases-children
 decreases-children g l =
@@ -19,11 +32,28 @@ decreases-children g l =
 
 abbrev pub invariant-steps : goal.invariant-steps
 invariant-steps g l =
-    Draining g.Ix.IndexType.greatest (length l.fn.entered) (length l.fn.met) (length l.fn.queue)
-    (g.S.EdgeSource.graph l.fn.source) (g.S.EdgeSource.graph l.source)
-    (Inside l.order (g.Ix.IndexType.number l.last)) (Beyond l.order (g.Ix.IndexType.number l.last))
-    (g.Ix.IndexType.number l.fn.u ∷ []) l.fn.met l.entered l.met l.queue l.len l.head
-    (g.Ix.IndexType.number l.e) (g.S.EdgeSource.looks l.fn.source) (g.S.EdgeSource.looks l.source)
+    Draining record {
+      end = g.Ix.IndexType.greatest;
+      graph = g.S.EdgeSource.graph l.fn.source;
+      Inside = Inside l.order (g.Ix.IndexType.number l.last);
+      Beyond = Beyond l.order (g.Ix.IndexType.number l.last);
+      starts = g.Ix.IndexType.number l.fn.u ∷ [];
+      before = l.fn.met;
+    } record {
+      marks = length l.fn.entered;
+      met = length l.fn.met;
+      places = length l.fn.queue;
+      looks = g.S.EdgeSource.looks l.fn.source;
+    } record {
+      graph = g.S.EdgeSource.graph l.source;
+      marks = l.entered;
+      met = l.met;
+      queue = l.queue;
+      len = l.len;
+      head = l.head;
+      edge = g.Ix.IndexType.number l.e;
+      looks = g.S.EdgeSource.looks l.source;
+    }
 
 abbrev pub decreases-steps : goal.decreases-steps
 decreases-steps g l =

@@ -6,10 +6,28 @@ use Rattle.daggy_reduction.proofs.closure.close.Given as goal
 
 abbrev pub invariant-steps : goal.invariant-steps
 invariant-steps g l =
-    Draining g.Ix.IndexType.greatest (length l.fn.entered) (length l.fn.met) (length l.fn.queue)
-    (g.S.EdgeSource.graph l.fn.source) (g.S.EdgeSource.graph l.source) Anywhere Nowhere
-    (take l.fn.len l.fn.queue) l.fn.met l.entered l.met l.queue l.len l.head (g.Ix.IndexType.number l.e)
-    (g.S.EdgeSource.looks l.fn.source) (g.S.EdgeSource.looks l.source)
+    Draining record {
+      end = g.Ix.IndexType.greatest;
+      graph = g.S.EdgeSource.graph l.fn.source;
+      Inside = Anywhere;
+      Beyond = Nowhere;
+      starts = take l.fn.len l.fn.queue;
+      before = l.fn.met;
+    } record {
+      marks = length l.fn.entered;
+      met = length l.fn.met;
+      places = length l.fn.queue;
+      looks = g.S.EdgeSource.looks l.fn.source;
+    } record {
+      graph = g.S.EdgeSource.graph l.source;
+      marks = l.entered;
+      met = l.met;
+      queue = l.queue;
+      len = l.len;
+      head = l.head;
+      edge = g.Ix.IndexType.number l.e;
+      looks = g.S.EdgeSource.looks l.source;
+    }
 
 abbrev pub decreases-steps : goal.decreases-steps
 decreases-steps g l =

@@ -1,4 +1,4 @@
-use Rattle.std.proofs.Common.{◌≡◌, ◌≢◌, arith, map}
+use Rattle.std.proofs.Common.{◌≡◌, ◌≢◌, arith}
 use Rattle.std.proofs.lemmas.List.{length-map}
 use Rattle.daggy_reduction.proofs.FlaggedChildren.{flags_start, edge_here, looked_whole, passed_less, child_low}
 use Rattle.daggy_reduction.proofs.FlaggedChildren.{edge_low, flags_on, flags_marked}
@@ -6,10 +6,7 @@ use Rattle.daggy_reduction.proofs.flags.flag_marked.Goals as goal
 
 pub edges-init : goal.edges-init
 edges-init g c =
-    let graph = g.S.EdgeSource.graph c.args.source.now in
-    flags_start g.Ix.IndexType.greatest graph (g.Ix.IndexType.number c.args.u) c.args.marks.now
-    (map g.Ix.IndexType.number c.args.flags.now) (g.Ix.IndexType.number c.first-e.result)
-    (g.S.EdgeSource.looks c.args.source.now)
+    flags_start _ (g.Ix.IndexType.number c.first-e.result)
     (omega (arith, c.requires.flags_fit, length-map c.args.flags.now g.Ix.IndexType.number)) c.requires.marks_fit
     c.first-e.ensures
 

@@ -5,10 +5,19 @@ use Rattle.daggy_reduction.proofs.flags.flag_marked.Given as goal
 
 abbrev pub invariant-edges : goal.invariant-edges
 invariant-edges g l =
-    Flagging g.Ix.IndexType.greatest (length (map g.Ix.IndexType.number l.fn.flags)) (g.S.EdgeSource.graph l.fn.source)
-    (g.S.EdgeSource.graph l.source) (g.Ix.IndexType.number l.fn.u) l.fn.marks
-    (map g.Ix.IndexType.number l.fn.flags) (map g.Ix.IndexType.number l.flags) (g.Ix.IndexType.number l.e)
-    (g.S.EdgeSource.looks l.fn.source) (g.S.EdgeSource.looks l.source)
+    Flagging record {
+      end = g.Ix.IndexType.greatest;
+      graph = g.S.EdgeSource.graph l.fn.source;
+      node = g.Ix.IndexType.number l.fn.u;
+      marks = l.fn.marks;
+      flags = map g.Ix.IndexType.number l.fn.flags;
+      looks = g.S.EdgeSource.looks l.fn.source;
+    } record {
+      graph = g.S.EdgeSource.graph l.source;
+      flags = map g.Ix.IndexType.number l.flags;
+      edge = g.Ix.IndexType.number l.e;
+      looks = g.S.EdgeSource.looks l.source;
+    }
 
 abbrev pub decreases-edges : goal.decreases-edges
 decreases-edges g l =

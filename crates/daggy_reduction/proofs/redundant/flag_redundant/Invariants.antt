@@ -11,9 +11,18 @@ invariant-nodes g l =
       met : length l.met ≡ length l.fn.met;
       queue : length l.queue ≡ length l.fn.queue;
       flags : length l.flags ≡ length l.fn.flags;
-      sweep : Sweeping g.Ix.IndexType.greatest (g.S.EdgeSource.graph l.fn.source) (g.S.EdgeSource.graph l.source)
-          (λ _. edge_count (g.S.EdgeSource.graph l.fn.source)) (take l.count l.below)
-          (map g.Ix.IndexType.number l.flags) l.k (g.S.EdgeSource.looks l.fn.source) (g.S.EdgeSource.looks l.source);
+      sweep : Sweeping record {
+        end = g.Ix.IndexType.greatest;
+        graph = g.S.EdgeSource.graph l.fn.source;
+        cost = λ _. edge_count (g.S.EdgeSource.graph l.fn.source);
+        below = take l.count l.below;
+        looks = g.S.EdgeSource.looks l.fn.source;
+      } record {
+        graph = g.S.EdgeSource.graph l.source;
+        flags = map g.Ix.IndexType.number l.flags;
+        count = l.k;
+        looks = g.S.EdgeSource.looks l.source;
+      };
     }
 
 abbrev pub decreases-nodes : goal.decreases-nodes
