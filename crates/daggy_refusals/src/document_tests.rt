@@ -58,29 +58,58 @@ fn refuse_writing(rt: &impl Abort, error: WriteError, refused: &mut bool) {
     refuse(rt, refused);
 }
 
+// Reads a document and writes its dag, each a second time if the first is refused, and asserts that
+// the document comes back.
+fn comes_back<
+    D: Drop,
+    R: Fn(Global, &Value) -> Result<D, ReadError> + Drop,
+    W: Fn(Global, &D) -> Result<Value, WriteError> + Drop,
+>(rt: &impl Abort, alloc: Global, text: &str, read: R, write: W)
+    requires reads { R.IsAlwaysCallable read }
+    requires writes { W.IsAlwaysCallable write }
+{
+    let mut refused = false;
+    let value = value_of(rt, alloc, text, &mut refused);
+    let dag = match read(alloc, &value) {
+        Ok(dag) => dag,
+        Err(error) => {
+            refuse_reading(rt, error, &mut refused);
+            made(rt, read(alloc, &value))
+        }
+    };
+    let written = match write(alloc, &dag) {
+        Ok(written) => written,
+        Err(error) => {
+            refuse_writing(rt, error, &mut refused);
+            made(rt, write(alloc, &dag))
+        }
+    };
+    has_text(rt, alloc, &written, text, &mut refused);
+}
+
+fn read_compact(alloc: Global, value: &Value) -> Result<Compact, ReadError> {
+    dag_from_json(alloc, value, weight, weight)
+}
+
+fn write_compact(alloc: Global, dag: &Compact) -> Result<Value, WriteError> {
+    dag_to_json(alloc, dag, number, number)
+}
+
 const COMPACT: &str =
     "{\"edge_property\":\"directed\",\"edges\":[[0,1,4],[0,1,5]],\"node_holes\":[],\"nodes\":[2,3],\
     \"orders\":[[[0,1],[]],[[],[1,0]]]}";
 
 #[test]
 fn a_refused_document_of_a_dag_is_told(rt: HostRuntime) {
-    let mut refused = false;
-    let value = value_of(&rt, rt.alloc(), COMPACT, &mut refused);
-    let dag: Compact = match dag_from_json(rt.alloc(), &value, weight, weight) {
-        Ok(dag) => dag,
-        Err(error) => {
-            refuse_reading(&rt, error, &mut refused);
-            made(&rt, dag_from_json(rt.alloc(), &value, weight, weight))
-        }
-    };
-    let written = match dag_to_json(rt.alloc(), &dag, number, number) {
-        Ok(written) => written,
-        Err(error) => {
-            refuse_writing(&rt, error, &mut refused);
-            made(&rt, dag_to_json(rt.alloc(), &dag, number, number))
-        }
-    };
-    has_text(&rt, rt.alloc(), &written, COMPACT, &mut refused);
+    comes_back(&rt, rt.alloc(), COMPACT, read_compact, write_compact);
+}
+
+fn read_stable(alloc: Global, value: &Value) -> Result<Stable, ReadError> {
+    stable_from_json(alloc, value, weight, weight)
+}
+
+fn write_stable(alloc: Global, dag: &Stable) -> Result<Value, WriteError> {
+    stable_to_json(alloc, dag, number, number)
 }
 
 const VACANT: &str =
@@ -89,21 +118,5 @@ const VACANT: &str =
 
 #[test]
 fn a_refused_document_of_a_stable_dag_is_told(rt: HostRuntime) {
-    let mut refused = false;
-    let value = value_of(&rt, rt.alloc(), VACANT, &mut refused);
-    let dag: Stable = match stable_from_json(rt.alloc(), &value, weight, weight) {
-        Ok(dag) => dag,
-        Err(error) => {
-            refuse_reading(&rt, error, &mut refused);
-            made(&rt, stable_from_json(rt.alloc(), &value, weight, weight))
-        }
-    };
-    let written = match stable_to_json(rt.alloc(), &dag, number, number) {
-        Ok(written) => written,
-        Err(error) => {
-            refuse_writing(&rt, error, &mut refused);
-            made(&rt, stable_to_json(rt.alloc(), &dag, number, number))
-        }
-    };
-    has_text(&rt, rt.alloc(), &written, VACANT, &mut refused);
+    comes_back(&rt, rt.alloc(), VACANT, read_stable, write_stable);
 }

@@ -4,9 +4,15 @@
 #![tactic(auto)]
 
 #[cfg(test)]
+mod again;
+#[cfg(test)]
 mod document_tests;
 #[cfg(test)]
+mod observed;
+#[cfg(test)]
 mod run_tests;
+#[cfg(test)]
+mod scenarios;
 #[cfg(test)]
 mod stable_tests;
 #[cfg(test)]

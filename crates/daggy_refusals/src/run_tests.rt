@@ -98,6 +98,20 @@ fn replies<D: GuardedDag<usize, usize, u32>>(
     }
 }
 
+// Runs a command alone, likewise, and asserts its reply.
+fn is_answered<D: GuardedDag<usize, usize, u32>>(
+    rt: &impl Abort,
+    alloc: Global,
+    dag: &mut D,
+    command: (Asked, Asked),
+    weights: HandedBack,
+    wanted: Said,
+    refused: &mut bool,
+) {
+    let reply = replies(rt, alloc, dag, command, weights, refused);
+    same(rt, reply, Some(wanted));
+}
+
 fn add_one_by_one<D: GuardedDag<usize, usize, u32>>(
     rt: &impl Abort,
     alloc: Global,
@@ -105,29 +119,22 @@ fn add_one_by_one<D: GuardedDag<usize, usize, u32>>(
     refused: &mut bool,
 ) {
     let root: NodeIndex = NodeIndex::new(0);
-    let node = replies(
+    let node = (Command::Node(7), Command::Node(7));
+    is_answered(
         rt,
         alloc,
         dag,
-        (Command::Node(7), Command::Node(7)),
+        node,
         Back::Node(7),
+        Reply::Node(root),
         refused,
     );
-    same(rt, node, Some(Reply::Node(root)));
     let child = (Command::Child(root, 8, 9), Command::Child(root, 8, 9));
-    let added = replies(rt, alloc, dag, child, Back::EdgeNode(8, 9), refused);
-    same(
-        rt,
-        added,
-        Some(Reply::EdgeNode(EdgeIndex::new(0), NodeIndex::new(1))),
-    );
+    let added = Reply::EdgeNode(EdgeIndex::new(0), NodeIndex::new(1));
+    is_answered(rt, alloc, dag, child, Back::EdgeNode(8, 9), added, refused);
     let parent = (Command::Parent(root, 8, 9), Command::Parent(root, 8, 9));
-    let added = replies(rt, alloc, dag, parent, Back::EdgeNode(8, 9), refused);
-    same(
-        rt,
-        added,
-        Some(Reply::EdgeNode(EdgeIndex::new(1), NodeIndex::new(2))),
-    );
+    let added = Reply::EdgeNode(EdgeIndex::new(1), NodeIndex::new(2));
+    is_answered(rt, alloc, dag, parent, Back::EdgeNode(8, 9), added, refused);
 }
 
 fn join_nodes<D: GuardedDag<usize, usize, u32>>(
@@ -138,12 +145,12 @@ fn join_nodes<D: GuardedDag<usize, usize, u32>>(
 ) {
     let (a, b): (NodeIndex, NodeIndex) = (NodeIndex::new(0), NodeIndex::new(1));
     let edge = (Command::Edge(a, b, 5), Command::Edge(a, b, 5));
-    let added = replies(rt, alloc, dag, edge, Back::Edge(5), refused);
-    same(rt, added, Some(Reply::Edge(EdgeIndex::new(2))));
+    let added = Reply::Edge(EdgeIndex::new(2));
+    is_answered(rt, alloc, dag, edge, Back::Edge(5), added, refused);
     let top = NodeIndex::new(2);
     let edge = (Command::Update(top, b, 6), Command::Update(top, b, 6));
-    let added = replies(rt, alloc, dag, edge, Back::Edge(6), refused);
-    same(rt, added, Some(Reply::Edge(EdgeIndex::new(3))));
+    let added = Reply::Edge(EdgeIndex::new(3));
+    is_answered(rt, alloc, dag, edge, Back::Edge(6), added, refused);
 }
 
 fn add_many<D: GuardedDag<usize, usize, u32>>(
@@ -172,8 +179,8 @@ fn ask_and_reduce<D: GuardedDag<usize, usize, u32>>(
     holds(rt, matches!(walk, Some(Reply::Walk(_))));
     let first = Command::Reduce(listed(rt, alloc, &[NodeIndex::new(2)], refused));
     let second = Command::Reduce(listed(rt, alloc, &[NodeIndex::new(2)], refused));
-    let reduced = replies(rt, alloc, dag, (first, second), Back::Nothing, refused);
-    same(rt, reduced, Some(Reply::Done));
+    let roots = (first, second);
+    is_answered(rt, alloc, dag, roots, Back::Nothing, Reply::Done, refused);
 }
 
 // A plan, which is made again if it was refused.

@@ -1,0 +1,305 @@
+//! What the tests of both kinds do. Where a removal leaves a gap they begin with one: a slot of a
+//! node and one of an edge, which are taken first.
+use crate::again::{
+    add_edges, add_edges_again, add_neighbor_again, add_node, add_node_again, extend_again, fan,
+    join, join_again, small_fan,
+};
+use crate::observed::{counts, is_fan, state_of};
+use crate::support::{Compact, Kind, Plain, Stable, holds, made, refuse, same};
+use daggy::graph::Element;
+use daggy::index::Direction;
+use daggy::{EdgeError, EdgeIndices, EdgesError, ElementError, NodeError, NodeIndex};
+use std::alloc::{AllocError, Global};
+use std::process::Abort;
+
+/// What is done with a dag of a kind. Each kind is named in one function, [`compact`] or
+/// [`stable`], since a call at a kind costs a proof much more than a call at any dag.
+#[derive(Clone, Copy)]
+pub enum Scenario {
+    NodesAndEdges,
+    Updates,
+    ParallelEdges,
+    Children,
+    Parents,
+    Series,
+    LongSeries,
+    Extension,
+    OfEdges,
+    OfElements,
+    Reduction,
+}
+
+fn play<S: Kind>(rt: &impl Abort, alloc: Global, scenario: Scenario) {
+    match scenario {
+        Scenario::NodesAndEdges => nodes_and_edges::<S>(rt, alloc, false),
+        Scenario::Updates => nodes_and_edges::<S>(rt, alloc, true),
+        Scenario::ParallelEdges => parallel_edges::<S>(rt, alloc),
+        Scenario::Children => children::<S>(rt, alloc),
+        Scenario::Parents => parents::<S>(rt, alloc),
+        Scenario::Series => series::<S>(rt, alloc),
+        Scenario::LongSeries => long_series::<S>(rt, alloc),
+        Scenario::Extension => extension::<S>(rt, alloc),
+        Scenario::OfEdges => dag_of_edges::<S>(rt, alloc),
+        Scenario::OfElements => dag_of_elements::<S>(rt, alloc),
+        Scenario::Reduction => reduction::<S>(rt, alloc),
+    }
+}
+
+/// Plays a scenario with a compact dag.
+pub fn compact(rt: &impl Abort, alloc: Global, scenario: Scenario) {
+    play::<Compact>(rt, alloc, scenario);
+}
+
+/// Plays a scenario with a stable dag.
+pub fn stable(rt: &impl Abort, alloc: Global, scenario: Scenario) {
+    play::<Stable>(rt, alloc, scenario);
+}
+
+// A root alone, or a small fan with a gap.
+fn begun<S: Kind>(rt: &impl Abort, alloc: Global, refused: &mut bool) -> Plain<S> {
+    if S::GAP {
+        small_fan(rt, alloc, refused)
+    } else {
+        fan(rt, alloc, 0, refused)
+    }
+}
+
+// Takes the vacant slots of a node and of an edge, which needs no memory.
+fn refill<S: Kind>(rt: &impl Abort, dag: &mut Plain<S>, update: bool) {
+    let n = made(rt, add_node(rt, dag, 2));
+    let e = made(rt, join(rt, dag, (0, n.index()), 101, update));
+    same(rt, (e.index(), n.index()), (1, 2));
+}
+
+// Nodes, each with an edge from the root, which is made by an update if that is asked for.
+fn nodes_and_edges<S: Kind>(rt: &impl Abort, alloc: Global, update: bool) {
+    let mut refused = false;
+    let mut dag: Plain<S> = begun(rt, alloc, &mut refused);
+    if S::GAP {
+        refill(rt, &mut dag, update);
+    }
+    for _ in 0..20 {
+        let edges = dag.edge_count();
+        let n = add_node_again(rt, &mut dag, &mut refused);
+        join_again(rt, &mut dag, (0, n.index()), update, &mut refused);
+        holds(rt, edges < 64);
+        is_fan(rt, &dag, edges + 1, S::GAP);
+    }
+}
+
+// Edges beside another one.
+fn parallel_edges<S: Kind>(rt: &impl Abort, alloc: Global) {
+    let mut refused = false;
+    let mut dag: Plain<S> = small_fan(rt, alloc, &mut refused);
+    for _ in 0..10 {
+        join_again(rt, &mut dag, (0, 3), false, &mut refused);
+    }
+}
+
+// Children of the root.
+fn children<S: Kind>(rt: &impl Abort, alloc: Global) {
+    let mut refused = false;
+    let mut dag: Plain<S> = begun(rt, alloc, &mut refused);
+    for _ in 0..20 {
+        let edges = dag.edge_count();
+        let root = NodeIndex::new(0);
+        add_neighbor_again(rt, &mut dag, root, Direction::Outgoing, &mut refused);
+        holds(rt, edges < 64);
+        is_fan(rt, &dag, edges + 1, S::GAP);
+    }
+}
+
+// Parents of the node that was added last, and of the root.
+fn parents<S: Kind>(rt: &impl Abort, alloc: Global) {
+    let mut refused = false;
+    let mut dag: Plain<S> = begun(rt, alloc, &mut refused);
+    let root = NodeIndex::new(0);
+    if S::GAP {
+        add_neighbor_again(rt, &mut dag, root, Direction::Outgoing, &mut refused);
+    }
+    let mut last = root;
+    for _ in 0..10 {
+        let edges = dag.edge_count();
+        last = add_neighbor_again(rt, &mut dag, last, Direction::Incoming, &mut refused);
+        add_neighbor_again(rt, &mut dag, root, Direction::Incoming, &mut refused);
+        holds(rt, edges < 64);
+        counts(rt, &dag, edges + 3, edges + 2);
+    }
+}
+
+// Edges in batches, and a batch of none.
+fn series<S: Kind>(rt: &impl Abort, alloc: Global) {
+    let mut refused = false;
+    let mut dag: Plain<S> = begun(rt, alloc, &mut refused);
+    let edges = dag.edge_count();
+    for _ in 0..20 {
+        add_node_again(rt, &mut dag, &mut refused);
+    }
+    for _ in 0..4 {
+        add_edges_again(rt, &mut dag, 5, &mut refused);
+    }
+    holds(rt, edges < 64);
+    is_fan(rt, &dag, edges + 20, S::GAP);
+    let none = made(rt, add_edges(rt, &mut dag, 0));
+    same(rt, none.len(), 0);
+}
+
+// Forty edges from 0 to 1, and one that leads to an older node, for which all nodes are sorted.
+fn add_long_series<S: Kind>(dag: &mut Plain<S>) -> Result<EdgeIndices<u32>, EdgesError<usize>> {
+    dag.add_edges((0usize..41).map(|i| {
+        let ends = if i < 40 { (0, 1) } else { (2, 0) };
+        (NodeIndex::new(ends.0), NodeIndex::new(ends.1), i)
+    }))
+}
+
+// A long batch, which is sorted at its end.
+fn long_series<S: Kind>(rt: &impl Abort, alloc: Global) {
+    let mut refused = false;
+    let mut dag: Plain<S> = begun(rt, alloc, &mut refused);
+    add_node_again(rt, &mut dag, &mut refused);
+    if !S::GAP {
+        add_node_again(rt, &mut dag, &mut refused);
+    }
+    let before = state_of(&dag);
+    let added = match add_long_series(&mut dag) {
+        Ok(added) => added,
+        Err(_) => {
+            refuse(rt, &mut refused);
+            same(rt, state_of(&dag), before);
+            made(rt, add_long_series(&mut dag))
+        }
+    };
+    same(rt, added.len(), 41);
+    let first = dag.topological_order().next();
+    holds(rt, first == Some(NodeIndex::new(2)));
+}
+
+// Edges to nodes that are made for them. With a gap the first one takes the vacant slots and more.
+fn extension<S: Kind>(rt: &impl Abort, alloc: Global) {
+    let mut refused = false;
+    let mut dag = Plain::<S>::new(alloc);
+    if S::GAP {
+        dag = small_fan(rt, alloc, &mut refused);
+    }
+    let first = if S::GAP { 6 } else { 1 };
+    for child in first..first + 20 {
+        extend_again(rt, &mut dag, child, &mut refused);
+    }
+}
+
+// A dag of edges of weights 1, 2 and 3.
+fn triangle<S: Kind>(alloc: Global) -> Result<Plain<S>, EdgeError<usize>> {
+    let (a, b, c) = (NodeIndex::new(0), NodeIndex::new(1), NodeIndex::new(2));
+    Plain::<S>::from_edges(alloc, [(a, b, 1), (b, c, 2), (a, c, 3)])
+}
+
+// A dag that is made of edges.
+fn dag_of_edges<S: Kind>(rt: &impl Abort, alloc: Global) {
+    let dag: Plain<S> = match triangle(alloc) {
+        Ok(dag) => dag,
+        Err(EdgeError::Memory(weight)) => {
+            holds(rt, weight >= 1 && weight <= 3);
+            made(rt, triangle(alloc))
+        }
+        Err(EdgeError::NodeMemory(weight)) => {
+            holds(rt, weight == 1 || weight == 2);
+            made(rt, triangle(alloc))
+        }
+        Err(_) => panic!(rt; "no other refusal has a cause"),
+    };
+    counts(rt, &dag, 3, 3);
+}
+
+// A dag of two nodes of weights 10 and 11, and of an edge of weight 12.
+fn pair<S: Kind>(alloc: Global) -> Result<Plain<S>, ElementError<usize, usize>> {
+    let items = [
+        Element::Node { weight: 10 },
+        Element::Node { weight: 11 },
+        Element::Edge {
+            source: 0,
+            target: 1,
+            weight: 12,
+        },
+    ];
+    Plain::<S>::from_elements(alloc, items)
+}
+
+// A dag that is made of elements.
+fn dag_of_elements<S: Kind>(rt: &impl Abort, alloc: Global) {
+    let dag: Plain<S> = match pair(alloc) {
+        Ok(dag) => dag,
+        Err(ElementError::Node(NodeError::Memory(weight))) => {
+            holds(rt, weight == 10 || weight == 11);
+            made(rt, pair(alloc))
+        }
+        Err(ElementError::Edge(EdgeError::Memory(weight))) => {
+            same(rt, weight, 12);
+            made(rt, pair(alloc))
+        }
+        Err(_) => panic!(rt; "no other refusal has a cause"),
+    };
+    counts(rt, &dag, 2, 1);
+}
+
+/// A dag made of another one, or the refusal, and how often the closures were called for nodes and
+/// for edges.
+pub type Counted<D> = (Result<D, AllocError>, (usize, usize));
+
+/// Makes a dag of another one, for which closures are called so often, a second time if the first
+/// is refused. A refused call calls none.
+pub fn copy_again<D: Drop, F: Fn(&D) -> Counted<D> + Drop>(
+    rt: &impl Abort,
+    dag: &D,
+    make: F,
+    wanted: (usize, usize),
+    refused: &mut bool,
+) -> D
+    requires { F.IsAlwaysCallable make }
+{
+    let mut answer = make(dag);
+    if answer.0.is_err() {
+        refuse(rt, refused);
+        same(rt, answer.1, (0, 0));
+        answer = make(dag);
+    }
+    same(rt, answer.1, wanted);
+    made(rt, answer.0)
+}
+
+/// Asserts that two dags are the same small fan.
+pub fn are_small_fans<S: Kind>(rt: &impl Abort, a: &Plain<S>, b: &Plain<S>) {
+    same(rt, state_of(a), state_of(b));
+    is_fan(rt, a, if S::GAP { 2 } else { 3 }, S::GAP);
+}
+
+// Reduces the dag from its root.
+fn reduce<S: Kind>(alloc: Global, dag: &mut Plain<S>) -> Result<(), AllocError> {
+    let mut roots = Vec::new(alloc);
+    roots.push(NodeIndex::new(0))?;
+    dag.transitive_reduce(roots)
+}
+
+// Reduces it again if that was refused, in which nothing was removed.
+fn reduce_again<S: Kind>(rt: &impl Abort, alloc: Global, dag: &mut Plain<S>, refused: &mut bool) {
+    let before = state_of(dag);
+    if reduce(alloc, dag).is_err() {
+        refuse(rt, refused);
+        same(rt, state_of(dag), before);
+        made(rt, reduce(alloc, dag));
+    }
+}
+
+// A reduction that finds no redundant edge, and one that removes the edge from the root to its
+// last child.
+fn reduction<S: Kind>(rt: &impl Abort, alloc: Global) {
+    let mut refused = false;
+    let mut dag: Plain<S> = small_fan(rt, alloc, &mut refused);
+    let (nodes, edges, state) = (dag.node_count(), dag.edge_count(), state_of(&dag));
+    reduce_again(rt, alloc, &mut dag, &mut refused);
+    same(rt, state_of(&dag), state);
+    join_again(rt, &mut dag, (1, 3), false, &mut refused);
+    reduce_again(rt, alloc, &mut dag, &mut refused);
+    counts(rt, &dag, nodes, edges);
+    let gone = dag.find_edge(NodeIndex::new(0), NodeIndex::new(3));
+    holds(rt, gone.is_none());
+}
