@@ -4,9 +4,7 @@
 mod calling;
 mod iterating;
 mod keeping;
-mod many_edges;
 mod ordering;
-mod slot_reuse;
 mod support;
 mod visiting;
 mod walking;

@@ -6,5 +6,6 @@ mod asked;
 mod families;
 mod hints;
 mod iterating;
+mod scenes;
 mod stale;
 mod support;

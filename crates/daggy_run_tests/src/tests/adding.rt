@@ -1,137 +1,88 @@
 //! Commands that add, to both kinds.
-use crate::tests::support::{
-    Compact, Stable, add_edges, add_nodes, back, e, edges, list, n, replies,
-};
-use daggy_run::command::{Back, Command, Reply};
-use daggy_run::guarded::GuardedDag;
-use std::alloc::Global;
-use std::process::Abort;
-
-fn add_one_by_one<D: GuardedDag<u32, u32, u8>>(rt: &impl Abort, dag: &mut D) {
-    replies(rt, dag, Command::Node(10), Reply::Node(n(0)));
-    replies(rt, dag, Command::Node(11), Reply::Node(n(1)));
-    replies(rt, dag, Command::Edge(n(0), n(1), 5), Reply::Edge(e(0)));
-    replies(
-        rt,
-        dag,
-        Command::Edge(n(0), n(9), 6),
-        Reply::Missing(Back::Edge(6)),
-    );
-    replies(
-        rt,
-        dag,
-        Command::Edge(n(9), n(1), 6),
-        Reply::Missing(Back::Edge(6)),
-    );
-    replies(rt, dag, Command::Edge(n(1), n(0), 7), Reply::Cycle(7));
-    replies(rt, dag, Command::Edge(n(1), n(1), 4), Reply::Cycle(4));
-}
-
-fn update<D: GuardedDag<u32, u32, u8>>(rt: &impl Abort, dag: &mut D) {
-    add_nodes(rt, dag, 3);
-    add_edges(rt, dag, &[(0, 1), (0, 1)]);
-    replies(rt, dag, Command::Update(n(0), n(1), 8), Reply::Edge(e(1)));
-    replies(rt, dag, Command::Update(n(1), n(2), 9), Reply::Edge(e(2)));
-    replies(rt, dag, Command::Update(n(2), n(0), 3), Reply::Cycle(3));
-    replies(
-        rt,
-        dag,
-        Command::Update(n(0), n(9), 3),
-        Reply::Missing(Back::Edge(3)),
-    );
-    replies(rt, dag, Command::RemoveEdge(e(1)), Reply::EdgeGone(Some(8)));
-}
-
-fn add_neighbors<D: GuardedDag<u32, u32, u8>>(rt: &impl Abort, dag: &mut D) {
-    add_nodes(rt, dag, 1);
-    replies(
-        rt,
-        dag,
-        Command::Child(n(0), 3, 12),
-        Reply::EdgeNode(e(0), n(1)),
-    );
-    replies(
-        rt,
-        dag,
-        Command::Parent(n(0), 4, 13),
-        Reply::EdgeNode(e(1), n(2)),
-    );
-    replies(
-        rt,
-        dag,
-        Command::Child(n(9), 3, 12),
-        Reply::Missing(Back::EdgeNode(3, 12)),
-    );
-    replies(
-        rt,
-        dag,
-        Command::Parent(n(9), 4, 13),
-        Reply::Missing(Back::EdgeNode(4, 13)),
-    );
-    replies(
-        rt,
-        dag,
-        Command::Ends(e(0)),
-        Reply::Ends(Some((n(0), n(1)))),
-    );
-    replies(
-        rt,
-        dag,
-        Command::Ends(e(1)),
-        Reply::Ends(Some((n(2), n(0)))),
-    );
-    replies(
-        rt,
-        dag,
-        Command::RemoveNode(n(2)),
-        Reply::NodeGone(Some(13)),
-    );
-}
-
-fn add_many<D: GuardedDag<u32, u32, u8>>(rt: &impl Abort, alloc: Global, dag: &mut D) {
-    add_nodes(rt, dag, 4);
-    let none = edges(rt, alloc, 0, &[]);
-    replies(rt, dag, none, Reply::Edges(list(rt, alloc, [])));
-    let cyclic = edges(rt, alloc, 0, &[(0, 1), (0, 2), (0, 3), (3, 3)]);
-    replies(
-        rt,
-        dag,
-        cyclic,
-        Reply::CycleAll(list(rt, alloc, [3, 2, 1, 0])),
-    );
-    let all = edges(rt, alloc, 0, &[(0, 1), (0, 2), (0, 3)]);
-    replies(
-        rt,
-        dag,
-        all,
-        Reply::Edges(list(rt, alloc, [e(0), e(1), e(2)])),
-    );
-    // What is missing comes before the cycle that the first edge closes.
-    let missing = edges(rt, alloc, 5, &[(3, 0), (0, 9), (9, 9)]);
-    replies(rt, dag, missing, Reply::Missing(back(rt, alloc, 6, [5])));
-    replies(rt, dag, Command::Ends(e(3)), Reply::Ends(None));
-}
+use crate::tests::support::{Ask, Get, Scene, Weights, both};
 
 #[test]
 fn nodes_and_edges_are_added_one_by_one(rt: HostRuntime) {
-    add_one_by_one(&rt, &mut Compact::new(rt.alloc()));
-    add_one_by_one(&rt, &mut Stable::new(rt.alloc()));
+    both(
+        &rt,
+        rt.alloc(),
+        Scene::Rows(&[
+            (Ask::Node(10), Get::Node(0)),
+            (Ask::Node(11), Get::Node(1)),
+            (Ask::Edge(0, 1, 5), Get::Edge(0)),
+            (Ask::Edge(0, 9, 6), Get::Missing(Weights::Edge(6))),
+            (Ask::Edge(9, 1, 6), Get::Missing(Weights::Edge(6))),
+            (Ask::Edge(1, 0, 7), Get::Cycle(7)),
+            (Ask::Edge(1, 1, 4), Get::Cycle(4)),
+        ]),
+    );
 }
 
 #[test]
 fn an_update_writes_the_newest_edge_or_adds_one(rt: HostRuntime) {
-    update(&rt, &mut Compact::new(rt.alloc()));
-    update(&rt, &mut Stable::new(rt.alloc()));
+    both(
+        &rt,
+        rt.alloc(),
+        Scene::Rows(&[
+            (Ask::Node(0), Get::Node(0)),
+            (Ask::Node(0), Get::Node(1)),
+            (Ask::Node(0), Get::Node(2)),
+            (Ask::Edges(&[(0, 1, 0), (0, 1, 0)]), Get::Edges(&[0, 1])),
+            (Ask::Update(0, 1, 8), Get::Edge(1)),
+            (Ask::Update(1, 2, 9), Get::Edge(2)),
+            (Ask::Update(2, 0, 3), Get::Cycle(3)),
+            (Ask::Update(0, 9, 3), Get::Missing(Weights::Edge(3))),
+            (Ask::RemoveEdge(1), Get::EdgeGone(8)),
+        ]),
+    );
 }
 
 #[test]
 fn children_and_parents_come_with_their_edge(rt: HostRuntime) {
-    add_neighbors(&rt, &mut Compact::new(rt.alloc()));
-    add_neighbors(&rt, &mut Stable::new(rt.alloc()));
+    both(
+        &rt,
+        rt.alloc(),
+        Scene::Rows(&[
+            (Ask::Node(0), Get::Node(0)),
+            (Ask::Child(0, 3, 12), Get::EdgeNode(0, 1)),
+            (Ask::Parent(0, 4, 13), Get::EdgeNode(1, 2)),
+            (Ask::Child(9, 3, 12), Get::Missing(Weights::EdgeNode(3, 12))),
+            (
+                Ask::Parent(9, 4, 13),
+                Get::Missing(Weights::EdgeNode(4, 13)),
+            ),
+            (Ask::Ends(0), Get::Ends(0, 1)),
+            (Ask::Ends(1), Get::Ends(2, 0)),
+            (Ask::RemoveNode(2), Get::NodeGone(13)),
+        ]),
+    );
 }
 
 #[test]
 fn edges_are_added_all_or_none(rt: HostRuntime) {
-    add_many(&rt, rt.alloc(), &mut Compact::new(rt.alloc()));
-    add_many(&rt, rt.alloc(), &mut Stable::new(rt.alloc()));
+    both(
+        &rt,
+        rt.alloc(),
+        Scene::Rows(&[
+            (Ask::Node(0), Get::Node(0)),
+            (Ask::Node(0), Get::Node(1)),
+            (Ask::Node(0), Get::Node(2)),
+            (Ask::Node(0), Get::Node(3)),
+            (Ask::Edges(&[]), Get::Edges(&[])),
+            (
+                Ask::Edges(&[(0, 1, 0), (0, 2, 1), (0, 3, 2), (3, 3, 3)]),
+                Get::CycleAll(&[3, 2, 1, 0]),
+            ),
+            (
+                Ask::Edges(&[(0, 1, 0), (0, 2, 1), (0, 3, 2)]),
+                Get::Edges(&[0, 1, 2]),
+            ),
+            // What is missing comes before the cycle that the first edge closes.
+            (
+                Ask::Edges(&[(3, 0, 5), (0, 9, 6), (9, 9, 7)]),
+                Get::Missing(Weights::Edges(6, &[5])),
+            ),
+            (Ask::Ends(3), Get::NoEnds),
+        ]),
+    );
 }

@@ -1,65 +1,60 @@
 //! Plans of dags of both kinds.
-use crate::tests::support::{Compact, Stable, add_edges, add_nodes, list, made, n, replies, same};
-use daggy_base::index::NodeIndex;
-use daggy_run::command::{Command, Reply};
+use crate::tests::support::{Ask, Get, Row, Scene, both, made, nodes, play, same, stable};
 use daggy_run::guarded::GuardedDag;
 use daggy_run::plan::plan;
 use std::alloc::Global;
 use std::process::Abort;
 
-// Asserts that a dag has these stages and this chain.
-fn plans<D: GuardedDag<u32, u32, u8>>(
+/// Makes a dag by a table, and asserts that its plan has these stages and this chain.
+pub fn plans<D: GuardedDag<u32, u32, u8>>(
     rt: &impl Abort,
     alloc: Global,
-    dag: &D,
-    stages: Vec<Vec<NodeIndex<u8>>>,
-    chain: Vec<NodeIndex<u8>>,
+    dag: &mut D,
+    rows: &[Row<'_>],
+    wanted: (&[&[u8]], &[u8]),
 ) {
+    play(rt, alloc, dag, rows);
     let found = made(rt, plan(alloc, dag));
+    let mut stages = Vec::new(alloc);
+    for stage in wanted.0 {
+        made(rt, stages.push(nodes(rt, alloc, stage)));
+    }
     same(rt, found.stages, stages);
-    same(rt, found.chain, chain);
-}
-
-// Two nodes before one, and one behind it that the first leads to as well.
-fn plan_five<D: GuardedDag<u32, u32, u8>>(rt: &impl Abort, alloc: Global, dag: &mut D) {
-    add_nodes(rt, dag, 5);
-    add_edges(rt, dag, &[(0, 2), (1, 2), (2, 4), (0, 4)]);
-    let first = list(rt, alloc, [n(0), n(1), n(3)]);
-    let second = list(rt, alloc, [n(2)]);
-    let third = list(rt, alloc, [n(4)]);
-    let stages = list(rt, alloc, [first, second, third]);
-    plans(rt, alloc, dag, stages, list(rt, alloc, [n(0), n(2), n(4)]));
+    same(rt, found.chain, nodes(rt, alloc, wanted.1));
 }
 
 #[test]
 fn each_node_stands_behind_its_parents(rt: HostRuntime) {
-    plan_five(&rt, rt.alloc(), &mut Compact::new(rt.alloc()));
-    plan_five(&rt, rt.alloc(), &mut Stable::new(rt.alloc()));
+    // Two nodes before one, and one behind it that the first leads to as well.
+    let rows = &[
+        (Ask::Node(0), Get::Node(0)),
+        (Ask::Node(0), Get::Node(1)),
+        (Ask::Node(0), Get::Node(2)),
+        (Ask::Node(0), Get::Node(3)),
+        (Ask::Node(0), Get::Node(4)),
+        (
+            Ask::Edges(&[(0, 2, 1), (1, 2, 1), (2, 4, 1), (0, 4, 1)]),
+            Get::Edges(&[0, 1, 2, 3]),
+        ),
+    ];
+    let scene = Scene::Plan(rows, &[&[0, 1, 3], &[2], &[4]], &[0, 2, 4]);
+    both(&rt, rt.alloc(), scene);
 }
 
 #[test]
 fn a_removed_node_stands_nowhere(rt: HostRuntime) {
-    let alloc = rt.alloc();
-    let mut dag = Stable::new(alloc);
-    add_nodes(&rt, &mut dag, 3);
-    add_edges(&rt, &mut dag, &[(2, 0)]);
-    replies(
-        &rt,
-        &mut dag,
-        Command::RemoveNode(n(1)),
-        Reply::NodeGone(Some(0)),
-    );
-    let first = list(&rt, alloc, [n(2)]);
-    let second = list(&rt, alloc, [n(0)]);
-    let stages = list(&rt, alloc, [first, second]);
-    plans(&rt, alloc, &dag, stages, list(&rt, alloc, [n(2), n(0)]));
+    let rows = &[
+        (Ask::Node(1), Get::Node(0)),
+        (Ask::Node(1), Get::Node(1)),
+        (Ask::Node(1), Get::Node(2)),
+        (Ask::Edge(2, 0, 1), Get::Edge(0)),
+        (Ask::RemoveNode(1), Get::NodeGone(1)),
+    ];
+    let scene = Scene::Plan(rows, &[&[2], &[0]], &[2, 0]);
+    stable(&rt, rt.alloc(), scene);
 }
 
 #[test]
 fn without_nodes_there_is_no_stage(rt: HostRuntime) {
-    let alloc = rt.alloc();
-    let compact = Compact::new(alloc);
-    plans(&rt, alloc, &compact, Vec::new(alloc), Vec::new(alloc));
-    let stable = Stable::new(alloc);
-    plans(&rt, alloc, &stable, Vec::new(alloc), Vec::new(alloc));
+    both(&rt, rt.alloc(), Scene::Plan(&[], &[], &[]));
 }

@@ -1,80 +1,50 @@
 //! Lists of commands.
-use crate::tests::support::{Asked, Compact, Said, Stable, back, e, edges, list, made, n, same};
-use daggy_run::command::{Back, Command, Reply};
+use crate::tests::support::{
+    Ask, Asked, Get, Row, Said, Scene, Weights, both, command, made, reply, same, stable,
+};
 use daggy_run::guarded::GuardedDag;
 use daggy_run::run::run;
 use std::alloc::Global;
 use std::process::Abort;
 
-fn replies_to<D: GuardedDag<u32, u32, u8>>(
+/// Carries out the commands of a table as one list, and asserts that all replies come in its order.
+pub fn run_all<D: GuardedDag<u32, u32, u8>>(
     rt: &impl Abort,
     alloc: Global,
     dag: &mut D,
-    commands: Vec<Asked>,
-) -> Vec<Said> {
-    made(rt, run(alloc, dag, commands))
-}
-
-// Commands that both kinds answer alike, with refusals among them.
-fn commands(rt: &impl Abort, alloc: Global) -> Vec<Asked> {
-    list(
-        rt,
-        alloc,
-        [
-            Command::Node(1),
-            Command::Edge(n(0), n(1), 9),
-            Command::Child(n(0), 2, 3),
-            Command::Edge(n(1), n(0), 5),
-            edges(rt, alloc, 8, &[(0, 1), (1, 0)]),
-            edges(rt, alloc, 8, &[(0, 1), (0, 9)]),
-            Command::Update(n(0), n(1), 7),
-            Command::Children(n(0)),
-        ],
-    )
-}
-
-fn wanted(rt: &impl Abort, alloc: Global) -> Vec<Said> {
-    list(
-        rt,
-        alloc,
-        [
-            Reply::Node(n(0)),
-            Reply::Missing(Back::Edge(9)),
-            Reply::EdgeNode(e(0), n(1)),
-            Reply::Cycle(5),
-            Reply::CycleAll(list(rt, alloc, [9, 8])),
-            Reply::Missing(back(rt, alloc, 9, [8])),
-            Reply::Edge(e(0)),
-            Reply::Walk(list(rt, alloc, [(e(0), n(1))])),
-        ],
-    )
+    rows: &[Row<'_>],
+) {
+    let mut commands: Vec<Asked> = Vec::new(alloc);
+    let mut wanted: Vec<Said> = Vec::new(alloc);
+    for (asked, said) in rows {
+        made(rt, commands.push(command(rt, alloc, *asked)));
+        made(rt, wanted.push(reply(rt, alloc, *said)));
+    }
+    same(rt, made(rt, run(alloc, dag, commands)), wanted);
 }
 
 #[test]
 fn commands_behind_a_refused_one_are_carried_out(rt: HostRuntime) {
-    let mut dag = Compact::new(rt.alloc());
-    let replies = replies_to(&rt, rt.alloc(), &mut dag, commands(&rt, rt.alloc()));
-    same(&rt, replies, wanted(&rt, rt.alloc()));
-}
-
-#[test]
-fn both_kinds_answer_alike(rt: HostRuntime) {
-    let mut compact = Compact::new(rt.alloc());
-    let mut stable = Stable::new(rt.alloc());
-    let replies = replies_to(&rt, rt.alloc(), &mut compact, commands(&rt, rt.alloc()));
-    same(
+    both(
         &rt,
-        replies_to(&rt, rt.alloc(), &mut stable, commands(&rt, rt.alloc())),
-        replies,
+        rt.alloc(),
+        Scene::List(&[
+            (Ask::Node(1), Get::Node(0)),
+            (Ask::Edge(0, 1, 9), Get::Missing(Weights::Edge(9))),
+            (Ask::Child(0, 2, 3), Get::EdgeNode(0, 1)),
+            (Ask::Edge(1, 0, 5), Get::Cycle(5)),
+            (Ask::Edges(&[(0, 1, 8), (1, 0, 9)]), Get::CycleAll(&[9, 8])),
+            (
+                Ask::Edges(&[(0, 1, 8), (0, 9, 9)]),
+                Get::Missing(Weights::Edges(9, &[8])),
+            ),
+            (Ask::Update(0, 1, 7), Get::Edge(0)),
+            (Ask::Children(0), Get::Walk(&[(0, 1)])),
+        ]),
     );
 }
 
 #[test]
 fn no_commands_have_no_replies(rt: HostRuntime) {
-    let mut dag = Stable::new(rt.alloc());
-    same(
-        &rt,
-        replies_to(&rt, rt.alloc(), &mut dag, Vec::new(rt.alloc())).len(),
-        0,
-    );
+    stable(&rt, rt.alloc(), Scene::List(&[]));
 }

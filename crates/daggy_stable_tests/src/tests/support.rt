@@ -127,45 +127,6 @@ pub fn closes_cycle<T: Drop>(rt: &impl Abort, answer: Result<T, EdgeError<u32>>,
     }
 }
 
-/// Writes the weight of the newest edge of a pair, or adds an edge if it closes no cycle.
-pub fn update_edge(
-    rt: &impl Abort,
-    dag: &mut Plain,
-    ends: (usize, usize),
-    weight: u32,
-) -> Result<EdgeIndex, EdgeError<u32>> {
-    let (a, b) = (node(rt, ends.0), node(rt, ends.1));
-    assert!(rt; dag.contains_node(a) && dag.contains_node(b));
-    assert!(rt; dag.can_add_edge());
-    dag.update_edge(a, b, weight)
-}
-
-/// Adds a node below another, and gives the new edge and node.
-pub fn add_child<N: Drop>(
-    rt: &impl Abort,
-    dag: &mut StableDag<N, u32>,
-    parent: NodeIndex,
-    edge: u32,
-    node: N,
-) -> (EdgeIndex, NodeIndex) {
-    assert!(rt; dag.contains_node(parent));
-    assert!(rt; dag.can_add_edge() && dag.can_add_node());
-    made(rt, dag.add_child(parent, edge, node))
-}
-
-/// Adds a node above another, and gives the new edge and node.
-pub fn add_parent(
-    rt: &impl Abort,
-    dag: &mut Plain,
-    child: NodeIndex,
-    edge: u32,
-    node: u32,
-) -> (EdgeIndex, NodeIndex) {
-    assert!(rt; dag.contains_node(child));
-    assert!(rt; dag.can_add_edge() && dag.can_add_node());
-    made(rt, dag.add_parent(child, edge, node))
-}
-
 /// A dag of nodes with these weights, and of edges with these ends and weights.
 pub fn dag_of(
     rt: &impl Abort,

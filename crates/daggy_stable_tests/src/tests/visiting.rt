@@ -1,4 +1,4 @@
-use super::support::{Plain, add_edge, four, holds, made, same, triangle};
+use super::support::{Plain, add_edge, add_node, four, holds, made, same, triangle};
 use daggy::visit::{
     DataMap, DataMapMut, GetAdjacencyMatrix, GraphProp, NodeCount, NodeIndexable, VisitMap,
     Visitable,
@@ -40,6 +40,16 @@ fn a_set_reaches_to_the_bound(rt: HostRuntime) {
     same(&rt, dag.remove_node(c), Some(12));
     same(&rt, dag.node_bound(), 2);
     visits_once(&rt, &dag, b);
+}
+
+#[test]
+fn bounds_end_with_the_last_in_use(rt: HostRuntime) {
+    let mut dag = triangle(&rt, rt.alloc());
+    same(&rt, dag.remove_node(NodeIndex::new(1)), Some(11));
+    same(&rt, (dag.node_bound(), dag.graph().edge_bound()), (3, 3));
+    same(&rt, dag.remove_node(NodeIndex::new(2)), Some(12));
+    same(&rt, (dag.node_bound(), dag.graph().edge_bound()), (1, 0));
+    same(&rt, add_node(&rt, &mut dag, 5).index(), 2);
 }
 
 #[test]

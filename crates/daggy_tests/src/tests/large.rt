@@ -1,11 +1,11 @@
-use super::support::{add_edge, add_node, counts, refuse_edge};
-use daggy::{Dag, NodeIndex};
+use super::support::{Plain, add_edge, add_node, counts, refuse_edge};
+use daggy::NodeIndex;
 
 #[test]
 fn a_long_chain_is_searched(rt: HostRuntime) {
-    let mut dag: Dag<(), u32> = Dag::new(rt.alloc());
+    let mut dag = Plain::new(rt.alloc());
     for i in 0..10_000 {
-        let n = add_node(&rt, &mut dag, ());
+        let n = add_node(&rt, &mut dag, 0);
         if i > 0 {
             add_edge(&rt, &mut dag, NodeIndex::new(i - 1), n, 0);
         }
@@ -24,9 +24,9 @@ fn a_long_chain_is_searched(rt: HostRuntime) {
 
 #[test]
 fn a_dense_graph_is_searched(rt: HostRuntime) {
-    let mut dag: Dag<(), u32, u16> = Dag::new(rt.alloc());
+    let mut dag = Plain::new(rt.alloc());
     for b in 0..300 {
-        let n = add_node(&rt, &mut dag, ());
+        let n = add_node(&rt, &mut dag, 0);
         for a in 0..b {
             if a % 2 == b % 2 || a + 1 == b {
                 add_edge(&rt, &mut dag, NodeIndex::new(a), n, 0);

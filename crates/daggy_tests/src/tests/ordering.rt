@@ -1,61 +1,92 @@
 //! The order of its nodes that a dag keeps, where its edges allow but one.
-use super::support::{Plain, dag_of, made, node, same};
-use daggy::{EdgesError, NodeIndex, WouldCycle};
+use super::support::{Plain, made, same};
+use super::table::{Answer, Call, Scene, both, compact, play, play_row, stable};
+use daggy::NodeIndex;
+use daggy::index::IndexType;
+use daggy_base::store::Store;
+use daggy_dag::acyclic::Acyclic;
 use std::alloc::Global;
 use std::process::Abort;
 
 // From each node an edge leads to the one before it.
 fn chain(rt: &impl Abort, alloc: Global) -> Plain {
-    let edges = [(2, 1, 20), (1, 0, 21), (3, 2, 22)];
-    dag_of(rt, alloc, &[10, 11, 12, 13], &edges)
+    let mut dag = Plain::new(alloc);
+    play(
+        rt,
+        alloc,
+        &mut dag,
+        &[
+            (Call::Node(10), Answer::Node(0)),
+            (Call::Node(11), Answer::Node(1)),
+            (Call::Node(12), Answer::Node(2)),
+            (Call::Node(13), Answer::Node(3)),
+            (Call::Edge(2, 1, 20), Answer::Edge(0)),
+            (Call::Edge(1, 0, 21), Answer::Edge(1)),
+            (Call::Edge(3, 2, 22), Answer::Edge(2)),
+            (Call::Order, Answer::Nodes(&[3, 2, 1, 0])),
+        ],
+    );
+    dag
 }
 
-// Asserts that the nodes come in this order.
-fn ordered(rt: &impl Abort, dag: &Plain, wanted: &[usize]) {
-    let mut count = 0usize;
-    for n in dag.topological_order() {
-        same(rt, Some(n.index()), wanted.get(count).copied());
-        count = count.wrapping_add(1);
-    }
-    same(rt, count, wanted.len());
+fn ordered(rt: &impl Abort, alloc: Global, dag: &mut Plain, wanted: &[usize]) {
+    play(rt, alloc, dag, &[(Call::Order, Answer::Nodes(wanted))]);
 }
 
 #[test]
-fn each_parent_comes_first(rt: HostRuntime) {
+fn an_order_tells_its_length(rt: HostRuntime) {
     let dag = chain(&rt, rt.alloc());
-    ordered(&rt, &dag, &[3, 2, 1, 0]);
     let mut order = dag.topological_order();
     same(&rt, order.len(), 4);
-    same(&rt, order.next().map(|n| n.index()), Some(3));
+    same(&rt, order.next(), Some(NodeIndex::new(3)));
     same(&rt, order.size_hint(), (3, Some(3)));
 }
 
 #[test]
 fn what_is_removed_leaves_the_order(rt: HostRuntime) {
-    let mut dag = chain(&rt, rt.alloc());
-    same(&rt, dag.remove_node(NodeIndex::new(0)), Some(10));
-    ordered(&rt, &dag, &[0, 2, 1]);
-    dag.clear();
-    ordered(&rt, &dag, &[]);
+    compact(
+        &rt,
+        rt.alloc(),
+        Scene::Rows(&[
+            (Call::Node(10), Answer::Node(0)),
+            (Call::Child(0, 1, 11), Answer::EdgeNode(0, 1)),
+            (Call::Parent(0, 2, 12), Answer::EdgeNode(1, 2)),
+            (Call::Order, Answer::Nodes(&[2, 0, 1])),
+            // The last node gets the index that is gone.
+            (Call::RemoveNode(0), Answer::Weight(10)),
+            (Call::Order, Answer::Nodes(&[0, 1])),
+            (Call::Clear, Answer::Done),
+            (Call::Order, Answer::Nodes(&[])),
+        ]),
+    );
+    stable(
+        &rt,
+        rt.alloc(),
+        Scene::Rows(&[
+            (Call::Node(10), Answer::Node(0)),
+            (Call::Child(0, 1, 11), Answer::EdgeNode(0, 1)),
+            (Call::Parent(0, 2, 12), Answer::EdgeNode(1, 2)),
+            (Call::RemoveNode(0), Answer::Weight(10)),
+            (Call::Order, Answer::Nodes(&[2, 1])),
+        ]),
+    );
 }
 
 #[test]
 fn copies_and_parts_are_ordered_alike(rt: HostRuntime) {
     let dag = chain(&rt, rt.alloc());
-    ordered(&rt, &made(&rt, dag.try_clone()), &[3, 2, 1, 0]);
-    ordered(
-        &rt,
-        &made(&rt, dag.map(|_, w| *w, |_, w| *w)),
-        &[3, 2, 1, 0],
-    );
-    let part = made(
+    let mut copy = made(&rt, dag.try_clone());
+    ordered(&rt, rt.alloc(), &mut copy, &[3, 2, 1, 0]);
+    let mut mapped = made(&rt, dag.map(|_, w| *w, |_, w| *w));
+    ordered(&rt, rt.alloc(), &mut mapped, &[3, 2, 1, 0]);
+    let mut part = made(
         &rt,
         dag.filter_map(
             |_, w| if *w > 10 { Some(*w) } else { None },
             |_, w| Some(*w),
         ),
     );
-    ordered(&rt, &part, &[2, 1, 0]);
+    ordered(&rt, rt.alloc(), &mut part, &[2, 1, 0]);
 }
 
 #[test]
@@ -63,45 +94,75 @@ fn a_dag_gives_its_order_away(rt: HostRuntime) {
     let (graph, order) = chain(&rt, rt.alloc()).into_parts();
     same(&rt, graph.edge_count(), 3);
     same(&rt, order.len(), 4);
-    same(&rt, order.nodes().next().map(|n| n.index()), Some(3));
+    same(&rt, order.nodes().next(), Some(NodeIndex::new(3)));
 }
 
 // So many edges that they are sorted at the end: one beside the other from 0 to 1, and then a path
 // through all nodes, which leads to older ones.
-fn long_path(rt: &impl Abort, alloc: Global) -> Vec<(NodeIndex, NodeIndex, u32)> {
-    let mut items = Vec::new(alloc);
+fn long_path(rt: &impl Abort, alloc: Global) -> Vec<(usize, usize, u32)> {
+    let mut path = Vec::new(alloc);
     for weight in 0..40 {
-        made(
-            rt,
-            items.push((NodeIndex::new(0), NodeIndex::new(1), weight)),
-        );
+        made(rt, path.push((0, 1, weight)));
     }
     for (a, b) in [(2, 0), (3, 2), (4, 3), (5, 4), (6, 5), (7, 6)] {
-        made(rt, items.push((node(rt, a), node(rt, b), 50)));
+        made(rt, path.push((a, b, 50)));
     }
-    items
+    path
+}
+
+// The indices that the path gets in a dag of nodes alone.
+fn indices(rt: &impl Abort, alloc: Global) -> Vec<usize> {
+    let mut indices = Vec::new(alloc);
+    for index in 0..46 {
+        made(rt, indices.push(index));
+    }
+    indices
+}
+
+// The weights of the path, the last one first.
+fn weights_back(rt: &impl Abort, alloc: Global) -> Vec<u32> {
+    let mut weights = Vec::new(alloc);
+    for _ in 0..6 {
+        made(rt, weights.push(50));
+    }
+    for i in 0..40u32 {
+        made(rt, weights.push(39 - i));
+    }
+    weights
+}
+
+fn eight_nodes<Ix: IndexType, S: Store<Ix, NodeWeight = u32, EdgeWeight = u32>>(
+    rt: &impl Abort,
+    alloc: Global,
+    dag: &mut Acyclic<u32, u32, Ix, S>,
+) {
+    for i in 0..8 {
+        play(rt, alloc, dag, &[(Call::Node(0), Answer::Node(i))]);
+    }
+}
+
+/// A long series that closes a cycle comes back, and one that agrees with no order so far is
+/// sorted.
+pub fn sort_long_series<Ix: IndexType, S: Store<Ix, NodeWeight = u32, EdgeWeight = u32>>(
+    rt: &impl Abort,
+    alloc: Global,
+    dag: &mut Acyclic<u32, u32, Ix, S>,
+) {
+    let path = long_path(rt, alloc);
+    let added = indices(rt, alloc);
+    let back = weights_back(rt, alloc);
+    let (path, added, back) = (path.as_slice(), added.as_slice(), back.as_slice());
+    eight_nodes(rt, alloc, dag);
+    play_row(rt, alloc, dag, Call::Edge(1, 2, 9), Answer::Edge(0));
+    play_row(rt, alloc, dag, Call::Edges(path), Answer::CycleAll(back));
+    play_row(rt, alloc, dag, Call::Counts, Answer::Counts(8, 1));
+    play_row(rt, alloc, dag, Call::RemoveEdge(0), Answer::Weight(9));
+    play_row(rt, alloc, dag, Call::Edges(path), Answer::Edges(added));
+    let wanted = Answer::Nodes(&[7, 6, 5, 4, 3, 2, 0, 1]);
+    play_row(rt, alloc, dag, Call::Order, wanted);
 }
 
 #[test]
 fn a_long_series_is_sorted_at_its_end(rt: HostRuntime) {
-    let mut dag = dag_of(&rt, rt.alloc(), &[0, 1, 2, 3, 4, 5, 6, 7], &[]);
-    let items = long_path(&rt, rt.alloc());
-    same(&rt, made(&rt, dag.add_edges(items)).len(), 46);
-    ordered(&rt, &dag, &[7, 6, 5, 4, 3, 2, 0, 1]);
-}
-
-#[test]
-fn a_long_series_that_closes_a_cycle_comes_back(rt: HostRuntime) {
-    let mut dag = dag_of(&rt, rt.alloc(), &[0, 1, 2, 3, 4, 5, 6, 7], &[(1, 2, 9)]);
-    let items = long_path(&rt, rt.alloc());
-    match dag.add_edges(items) {
-        Err(EdgesError::WouldCycle(WouldCycle(back))) => {
-            same(&rt, back.len(), 46);
-            same(&rt, back.first().copied(), Some(50));
-            same(&rt, back.last().copied(), Some(0));
-        }
-        _ => panic!(&rt; "the series closes a cycle"),
-    }
-    same(&rt, dag.edge_count(), 1);
-    same(&rt, dag.topological_order().len(), 8);
+    both(&rt, rt.alloc(), Scene::LongSeries);
 }

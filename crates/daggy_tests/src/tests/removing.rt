@@ -1,77 +1,129 @@
-use super::support::{
-    Plain, add_edge, add_node, children, counts, dag_of, holds, parents, refuse_edge, same, shape,
-};
+//! Removals from a compact dag, and what both kinds answer afterwards.
+use super::support::{add_edge, dag_of, holds, same};
+use super::table::{Answer, Call, Scene, both, compact};
 use daggy::index::Direction;
-use daggy::{Dag, EdgeIndex, NodeIndex, Walker};
-
-#[test]
-fn nothing_is_removed_from_an_empty_dag(rt: HostRuntime) {
-    let mut dag: Plain = Dag::new(rt.alloc());
-    same(&rt, dag.remove_edge(EdgeIndex::new(0)), None);
-    same(&rt, dag.remove_node(NodeIndex::new(0)), None);
-    parents(&rt, &dag, NodeIndex::new(0), &[]);
-}
+use daggy::{EdgeIndex, NodeIndex, Walker};
 
 #[test]
 fn removing_a_node_moves_the_last_one(rt: HostRuntime) {
-    let mut dag = dag_of(
+    compact(
         &rt,
         rt.alloc(),
-        &[10, 20, 30],
-        &[(0, 1, 0), (1, 2, 1), (0, 2, 2)],
+        Scene::Rows(&[
+            (Call::Node(10), Answer::Node(0)),
+            (Call::Node(20), Answer::Node(1)),
+            (Call::Node(30), Answer::Node(2)),
+            (
+                Call::Edges(&[(0, 1, 0), (1, 2, 1), (0, 2, 2)]),
+                Answer::Edges(&[0, 1, 2]),
+            ),
+            (Call::RemoveNode(0), Answer::Weight(10)),
+            (Call::Counts, Answer::Counts(2, 1)),
+            (Call::Weight(0), Answer::Weight(30)),
+            (Call::Weight(1), Answer::Weight(20)),
+            (Call::Stored(0), Answer::Stored(1, 0, 1)),
+        ]),
     );
-    same(&rt, dag.remove_node(NodeIndex::new(0)), Some(10));
-    shape(&rt, dag.graph(), &[30, 20], &[(1, 0, 1)]);
 }
 
 #[test]
 fn removing_an_edge_keeps_the_order_of_lists(rt: HostRuntime) {
-    let mut dag = dag_of(
+    compact(
         &rt,
         rt.alloc(),
-        &[10, 20, 30],
-        &[(0, 1, 0), (0, 2, 1), (0, 1, 2)],
+        Scene::Rows(&[
+            (Call::Node(10), Answer::Node(0)),
+            (Call::Node(20), Answer::Node(1)),
+            (Call::Node(30), Answer::Node(2)),
+            (
+                Call::Edges(&[(0, 1, 0), (0, 2, 1), (0, 1, 2)]),
+                Answer::Edges(&[0, 1, 2]),
+            ),
+            (Call::RemoveEdge(0), Answer::Weight(0)),
+            (Call::Children(0), Answer::Walk(&[(0, 1), (1, 2)])),
+            (Call::Find(0, 1), Answer::Edge(0)),
+            (Call::Stored(0), Answer::Stored(0, 1, 2)),
+        ]),
     );
-    let (a, b) = (NodeIndex::new(0), NodeIndex::new(1));
-    same(&rt, dag.remove_edge(EdgeIndex::new(0)), Some(0));
-    children(&rt, &dag, a, &[(0, 1), (1, 2)]);
-    same(&rt, dag.find_edge(a, b), Some(EdgeIndex::new(0)));
-    same(&rt, dag.edge_weight(EdgeIndex::new(0)).copied(), Some(2));
 }
 
 #[test]
-fn stored_slices_and_parents_follow_a_removal(rt: HostRuntime) {
-    let mut dag = dag_of(
+fn parents_follow_a_removal(rt: HostRuntime) {
+    compact(
         &rt,
         rt.alloc(),
-        &[10, 20, 30],
-        &[(0, 1, 0), (0, 2, 1), (1, 2, 2)],
+        Scene::Rows(&[
+            (Call::Node(10), Answer::Node(0)),
+            (Call::Node(20), Answer::Node(1)),
+            (Call::Node(30), Answer::Node(2)),
+            (
+                Call::Edges(&[(0, 1, 0), (0, 2, 1), (1, 2, 2)]),
+                Answer::Edges(&[0, 1, 2]),
+            ),
+            (Call::Parents(2), Answer::Walk(&[(2, 1), (1, 0)])),
+            (Call::RemoveEdge(0), Answer::Weight(0)),
+            (Call::Stored(0), Answer::Stored(1, 2, 2)),
+            (Call::Stored(1), Answer::Stored(0, 2, 1)),
+            (Call::Parents(2), Answer::Walk(&[(0, 1), (1, 0)])),
+        ]),
     );
-    let c = NodeIndex::new(2);
-    parents(&rt, &dag, c, &[(2, 1), (1, 0)]);
+}
+
+#[test]
+fn an_edge_back_is_accepted_once_the_path_is_gone(rt: HostRuntime) {
+    compact(
+        &rt,
+        rt.alloc(),
+        Scene::Rows(&[
+            (Call::Node(10), Answer::Node(0)),
+            (Call::Node(20), Answer::Node(1)),
+            (Call::Node(30), Answer::Node(2)),
+            (Call::Edges(&[(0, 1, 0), (1, 2, 1)]), Answer::Edges(&[0, 1])),
+            (Call::Edge(2, 0, 7), Answer::Cycle(7)),
+            (Call::RemoveNode(1), Answer::Weight(20)),
+            (Call::Edge(1, 0, 7), Answer::Edge(0)),
+        ]),
+    );
+}
+
+#[test]
+fn a_dag_is_cleared(rt: HostRuntime) {
+    both(
+        &rt,
+        rt.alloc(),
+        Scene::Rows(&[
+            (Call::Node(10), Answer::Node(0)),
+            (Call::Node(30), Answer::Node(1)),
+            (Call::Edge(1, 0, 7), Answer::Edge(0)),
+            (Call::ClearEdges, Answer::Done),
+            (Call::Counts, Answer::Counts(2, 0)),
+            (Call::Edge(0, 1, 7), Answer::Edge(0)),
+            (Call::Clear, Answer::Done),
+            (Call::Counts, Answer::Counts(0, 0)),
+            (Call::Node(1), Answer::Node(0)),
+        ]),
+    );
+}
+
+#[test]
+fn stored_slices_follow_a_removal(rt: HostRuntime) {
+    let edges = [(0, 1, 0), (0, 2, 1), (1, 2, 2)];
+    let mut dag = dag_of(&rt, rt.alloc(), &[10, 20, 30], &edges);
     same(&rt, dag.remove_edge(EdgeIndex::new(0)), Some(0));
-    shape(&rt, dag.graph(), &[10, 20, 30], &[(1, 2, 2), (0, 2, 1)]);
-    parents(&rt, &dag, c, &[(0, 1), (1, 0)]);
     let nodes = dag.raw_nodes();
     let edges = dag.raw_edges();
     holds(&rt, nodes.len() == 3);
     holds(&rt, edges.len() == 2);
-    same(
-        &rt,
-        nodes[1].next_edge(Direction::Incoming),
-        EdgeIndex::end(),
-    );
-    same(
-        &rt,
-        edges[0].next_edge(Direction::Incoming),
-        EdgeIndex::new(1),
-    );
+    let incoming = Direction::Incoming;
+    same(&rt, nodes[1].next_edge(incoming), EdgeIndex::end());
+    same(&rt, edges[0].next_edge(incoming), EdgeIndex::new(1));
     same(&rt, edges[0].source(), NodeIndex::new(1));
 }
 
 #[test]
 fn a_walker_outlives_the_edge_that_it_names(rt: HostRuntime) {
-    let mut dag = dag_of(&rt, rt.alloc(), &[10, 20, 30], &[(0, 1, 0), (0, 2, 1)]);
+    let edges = [(0, 1, 0), (0, 2, 1)];
+    let mut dag = dag_of(&rt, rt.alloc(), &[10, 20, 30], &edges);
     let (a, b, c) = (NodeIndex::new(0), NodeIndex::new(1), NodeIndex::new(2));
     let mut walker = dag.children(a);
     same(&rt, dag.remove_edge(EdgeIndex::new(1)), Some(1));
@@ -79,28 +131,4 @@ fn a_walker_outlives_the_edge_that_it_names(rt: HostRuntime) {
     same(&rt, add_edge(&rt, &mut dag, b, c, 9).index(), 1);
     same(&rt, walker.walk_next(&dag), Some((EdgeIndex::new(1), c)));
     same(&rt, walker.walk_next(&dag), None);
-}
-
-#[test]
-fn an_edge_back_is_accepted_once_the_path_is_gone(rt: HostRuntime) {
-    let mut dag = dag_of(&rt, rt.alloc(), &[10, 20, 30], &[(0, 1, 0), (1, 2, 1)]);
-    let (a, b, c) = (NodeIndex::new(0), NodeIndex::new(1), NodeIndex::new(2));
-    refuse_edge(&rt, &mut dag, c, a, 7);
-    same(&rt, dag.remove_node(b), Some(20));
-    same(&rt, add_edge(&rt, &mut dag, b, a, 7).index(), 0);
-}
-
-#[test]
-fn a_dag_is_cleared(rt: HostRuntime) {
-    let mut dag = dag_of(&rt, rt.alloc(), &[10, 30], &[(1, 0, 7)]);
-    dag.clear_edges();
-    counts(&rt, &dag, 2, 0);
-    same(
-        &rt,
-        add_edge(&rt, &mut dag, NodeIndex::new(0), NodeIndex::new(1), 7).index(),
-        0,
-    );
-    dag.clear();
-    counts(&rt, &dag, 0, 0);
-    same(&rt, add_node(&rt, &mut dag, 1).index(), 0);
 }

@@ -14,9 +14,6 @@ use std::process::Abort;
 /// A dag whose weights are numbers.
 pub type Plain = Dag<u32, u32>;
 
-/// A dag with few indices.
-pub type Small = Dag<u32, u32, u8>;
-
 /// A graph whose weights are numbers, which may have cycles.
 pub type PlainGraph = DiGraph<u32, u32>;
 
@@ -118,20 +115,6 @@ pub fn closes_cycle<T: Drop>(rt: &impl Abort, answer: Result<T, EdgeError<u32>>,
     }
 }
 
-/// Writes the weight of the newest edge of a pair, or adds an edge if it closes no cycle.
-pub fn update_edge(
-    rt: &impl Abort,
-    dag: &mut Plain,
-    a: NodeIndex,
-    b: NodeIndex,
-    weight: u32,
-) -> Result<EdgeIndex, EdgeError<u32>> {
-    assert!(rt; dag.node_weight(a).is_some());
-    assert!(rt; dag.node_weight(b).is_some());
-    assert!(rt; dag.can_add_edge());
-    dag.update_edge(a, b, weight)
-}
-
 /// Adds a node below another, and gives the new edge and node.
 pub fn add_child<N: Drop>(
     rt: &impl Abort,
@@ -147,20 +130,6 @@ pub fn add_child<N: Drop>(
         parent, edge, node,
     );
     made(rt, added)
-}
-
-/// Adds a node above another, and gives the new edge and node.
-pub fn add_parent(
-    rt: &impl Abort,
-    dag: &mut Plain,
-    child: NodeIndex,
-    edge: u32,
-    node: u32,
-) -> (EdgeIndex, NodeIndex) {
-    assert!(rt; dag.node_weight(child).is_some());
-    assert!(rt; dag.can_add_edge());
-    assert!(rt; dag.can_add_node());
-    made(rt, dag.add_parent(child, edge, node))
 }
 
 /// A dag of nodes with these weights, and of edges with these ends and weights.

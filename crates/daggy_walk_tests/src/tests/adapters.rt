@@ -1,14 +1,13 @@
+use super::scenes::{Scene, both};
 use super::support::{Plain, Step, dag_of, far, goes, made, node, same, six, weight};
 use daggy_base::store::Store;
-use daggy_graph::graph::DiGraph;
-use daggy_stable::stable_graph::StableDiGraph;
 use daggy_walk::walker::{
     Chain, Cycle, Filter, Peekable, Skip, SkipWhile, Take, TakeWhile, Walker,
 };
 use std::alloc::Global;
 use std::process::Abort;
 
-fn cuts<S: Store<u32, NodeWeight = u32, EdgeWeight = u32>>(rt: &impl Abort, alloc: Global) {
+pub fn cuts<S: Store<u32, NodeWeight = u32, EdgeWeight = u32>>(rt: &impl Abort, alloc: Global) {
     let dag: Plain<S> = six(rt, alloc);
     let all = dag.children(node(rt, 6));
     goes(
@@ -45,7 +44,7 @@ fn cuts<S: Store<u32, NodeWeight = u32, EdgeWeight = u32>>(rt: &impl Abort, allo
     goes(rt, &dag, &mut Cycle::new(none), &[None, None]);
 }
 
-fn tests<S: Store<u32, NodeWeight = u32, EdgeWeight = u32>>(rt: &impl Abort, alloc: Global) {
+pub fn tests<S: Store<u32, NodeWeight = u32, EdgeWeight = u32>>(rt: &impl Abort, alloc: Global) {
     let dag: Plain<S> = six(rt, alloc);
     let all = dag.children(node(rt, 6));
     let mut even = Filter::new(
@@ -64,7 +63,7 @@ fn tests<S: Store<u32, NodeWeight = u32, EdgeWeight = u32>>(rt: &impl Abort, all
     );
 }
 
-fn chains<S: Store<u32, NodeWeight = u32, EdgeWeight = u32>>(rt: &impl Abort, alloc: Global) {
+pub fn chains<S: Store<u32, NodeWeight = u32, EdgeWeight = u32>>(rt: &impl Abort, alloc: Global) {
     let dag: Plain<S> = dag_of(rt, alloc, 6, &[(0, 1), (0, 2), (0, 3), (2, 4), (2, 5)]);
     let mut both = Chain::new(dag.children(node(rt, 2)), dag.children(node(rt, 0)));
     goes(
@@ -75,7 +74,7 @@ fn chains<S: Store<u32, NodeWeight = u32, EdgeWeight = u32>>(rt: &impl Abort, al
     );
 }
 
-fn peeks<S: Store<u32, NodeWeight = u32, EdgeWeight = u32>>(rt: &impl Abort, alloc: Global) {
+pub fn peeks<S: Store<u32, NodeWeight = u32, EdgeWeight = u32>>(rt: &impl Abort, alloc: Global) {
     let dag: Plain<S> = dag_of(rt, alloc, 4, &[(0, 1), (0, 2), (0, 3)]);
     let mut children = Peekable::new(dag.children(node(rt, 0)));
     same(rt, far(children.peek(&dag).copied()), Some(3));
@@ -87,7 +86,7 @@ fn peeks<S: Store<u32, NodeWeight = u32, EdgeWeight = u32>>(rt: &impl Abort, all
     goes(rt, &dag, &mut children, &[None]);
 }
 
-fn leads<S: Store<u32, NodeWeight = u32, EdgeWeight = u32>>(rt: &impl Abort, alloc: Global) {
+pub fn leads<S: Store<u32, NodeWeight = u32, EdgeWeight = u32>>(rt: &impl Abort, alloc: Global) {
     let mut dag: Plain<S> = dag_of(rt, alloc, 4, &[(0, 1), (1, 2)]);
     let mut up = dag.recursive_walk(
         node(rt, 2),
@@ -98,7 +97,7 @@ fn leads<S: Store<u32, NodeWeight = u32, EdgeWeight = u32>>(rt: &impl Abort, all
     goes(rt, &dag, &mut up, &[Some(3), None]);
 }
 
-fn copies<S: Store<u32, NodeWeight = u32, EdgeWeight = u32>>(rt: &impl Abort, alloc: Global) {
+pub fn copies<S: Store<u32, NodeWeight = u32, EdgeWeight = u32>>(rt: &impl Abort, alloc: Global) {
     let dag: Plain<S> = six(rt, alloc);
     let mut first = Take::new(dag.children(node(rt, 6)), 3);
     let mut second = made(rt, first.clone());
@@ -109,36 +108,30 @@ fn copies<S: Store<u32, NodeWeight = u32, EdgeWeight = u32>>(rt: &impl Abort, al
 
 #[test]
 fn walks_are_cut(rt: HostRuntime) {
-    cuts::<DiGraph<u32, u32, u32>>(&rt, rt.alloc());
-    cuts::<StableDiGraph<u32, u32, u32>>(&rt, rt.alloc());
+    both(&rt, rt.alloc(), Scene::Cuts);
 }
 
 #[test]
 fn items_are_tested(rt: HostRuntime) {
-    tests::<DiGraph<u32, u32, u32>>(&rt, rt.alloc());
-    tests::<StableDiGraph<u32, u32, u32>>(&rt, rt.alloc());
+    both(&rt, rt.alloc(), Scene::Tests);
 }
 
 #[test]
 fn one_list_comes_after_another(rt: HostRuntime) {
-    chains::<DiGraph<u32, u32, u32>>(&rt, rt.alloc());
-    chains::<StableDiGraph<u32, u32, u32>>(&rt, rt.alloc());
+    both(&rt, rt.alloc(), Scene::Chains);
 }
 
 #[test]
 fn a_look_ahead_takes_no_step(rt: HostRuntime) {
-    peeks::<DiGraph<u32, u32, u32>>(&rt, rt.alloc());
-    peeks::<StableDiGraph<u32, u32, u32>>(&rt, rt.alloc());
+    both(&rt, rt.alloc(), Scene::Peeks);
 }
 
 #[test]
 fn a_walk_up_goes_on_after_a_parent_was_added(rt: HostRuntime) {
-    leads::<DiGraph<u32, u32, u32>>(&rt, rt.alloc());
-    leads::<StableDiGraph<u32, u32, u32>>(&rt, rt.alloc());
+    both(&rt, rt.alloc(), Scene::Leads);
 }
 
 #[test]
 fn a_copied_walk_goes_its_own_way(rt: HostRuntime) {
-    copies::<DiGraph<u32, u32, u32>>(&rt, rt.alloc());
-    copies::<StableDiGraph<u32, u32, u32>>(&rt, rt.alloc());
+    both(&rt, rt.alloc(), Scene::Copies);
 }

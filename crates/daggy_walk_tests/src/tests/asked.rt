@@ -1,12 +1,14 @@
+use super::scenes::{Scene, both};
 use super::support::{Plain, Step, goes, node, same, six};
 use daggy_base::store::Store;
-use daggy_graph::graph::DiGraph;
-use daggy_stable::stable_graph::StableDiGraph;
 use daggy_walk::walker::{Filter, Inspect, SkipWhile, Take, TakeWhile};
 use std::alloc::Global;
 use std::process::Abort;
 
-fn questions<S: Store<u32, NodeWeight = u32, EdgeWeight = u32>>(rt: &impl Abort, alloc: Global) {
+pub fn questions<S: Store<u32, NodeWeight = u32, EdgeWeight = u32>>(
+    rt: &impl Abort,
+    alloc: Global,
+) {
     let dag: Plain<S> = six(rt, alloc);
     let all = dag.children(node(rt, 6));
 
@@ -54,6 +56,5 @@ fn questions<S: Store<u32, NodeWeight = u32, EdgeWeight = u32>>(rt: &impl Abort,
 
 #[test]
 fn a_predicate_is_asked_as_often_as_it_must(rt: HostRuntime) {
-    questions::<DiGraph<u32, u32, u32>>(&rt, rt.alloc());
-    questions::<StableDiGraph<u32, u32, u32>>(&rt, rt.alloc());
+    both(&rt, rt.alloc(), Scene::Questions);
 }

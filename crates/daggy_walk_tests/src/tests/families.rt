@@ -1,15 +1,14 @@
+use super::scenes::{Scene, both};
 use super::support::{
     Plain, add_child, add_parent, dag_of, edge_weight, family, far, goes, lists, node, numbers,
     same, steps, weight,
 };
 use daggy_base::store::Store;
-use daggy_graph::graph::DiGraph;
-use daggy_stable::stable_graph::StableDiGraph;
 use daggy_walk::walker::Walker;
 use std::alloc::Global;
 use std::process::Abort;
 
-fn down<S: Store<u32, NodeWeight = u32, EdgeWeight = u32>>(rt: &impl Abort, alloc: Global) {
+pub fn down<S: Store<u32, NodeWeight = u32, EdgeWeight = u32>>(rt: &impl Abort, alloc: Global) {
     let mut dag: Plain<S> = family(rt, alloc, &[(0, 0), (0, 0), (0, 0)]);
     let mut walker = dag.children(node(rt, 0));
     let all = walker;
@@ -34,7 +33,7 @@ fn down<S: Store<u32, NodeWeight = u32, EdgeWeight = u32>>(rt: &impl Abort, allo
     lists(rt, &dag, all, &[(5, 6), (4, 5), (3, 4)]);
 }
 
-fn up<S: Store<u32, NodeWeight = u32, EdgeWeight = u32>>(rt: &impl Abort, alloc: Global) {
+pub fn up<S: Store<u32, NodeWeight = u32, EdgeWeight = u32>>(rt: &impl Abort, alloc: Global) {
     let mut dag: Plain<S> = dag_of(rt, alloc, 1, &[]);
     for _ in 0..4 {
         add_parent(rt, &mut dag, 0, 0, 0);
@@ -50,7 +49,7 @@ fn up<S: Store<u32, NodeWeight = u32, EdgeWeight = u32>>(rt: &impl Abort, alloc:
     lists(rt, &dag, all, &[(3, 4), (2, 3), (1, 2), (0, 1)]);
 }
 
-fn places<S: Store<u32, NodeWeight = u32, EdgeWeight = u32>>(rt: &impl Abort, alloc: Global) {
+pub fn places<S: Store<u32, NodeWeight = u32, EdgeWeight = u32>>(rt: &impl Abort, alloc: Global) {
     let dag: Plain<S> = family(rt, alloc, &[(0, 0), (0, 0), (0, 0)]);
     let all = dag.children(node(rt, 0));
     same(rt, all.iter(&dag).count(), 3);
@@ -59,7 +58,7 @@ fn places<S: Store<u32, NodeWeight = u32, EdgeWeight = u32>>(rt: &impl Abort, al
     same(rt, numbers(all.iter(&dag).nth(3)), None);
 }
 
-fn weights<S: Store<u32, NodeWeight = u32, EdgeWeight = u32>>(rt: &impl Abort, alloc: Global) {
+pub fn weights<S: Store<u32, NodeWeight = u32, EdgeWeight = u32>>(rt: &impl Abort, alloc: Global) {
     let dag: Plain<S> = family(rt, alloc, &[(1, 10), (2, 20), (3, 30)]);
     let wanted = [(3, 30), (2, 20), (1, 10)];
     let mut count = 0usize;
@@ -71,7 +70,7 @@ fn weights<S: Store<u32, NodeWeight = u32, EdgeWeight = u32>>(rt: &impl Abort, a
     same(rt, count, 3);
 }
 
-fn sought<S: Store<u32, NodeWeight = u32, EdgeWeight = u32>>(rt: &impl Abort, alloc: Global) {
+pub fn sought<S: Store<u32, NodeWeight = u32, EdgeWeight = u32>>(rt: &impl Abort, alloc: Global) {
     for (weights, added, all_even, any_even, even) in [
         (
             [0, 2, 4],
@@ -108,7 +107,7 @@ fn sought<S: Store<u32, NodeWeight = u32, EdgeWeight = u32>>(rt: &impl Abort, al
     }
 }
 
-fn summed<S: Store<u32, NodeWeight = u32, EdgeWeight = u32>>(rt: &impl Abort, alloc: Global) {
+pub fn summed<S: Store<u32, NodeWeight = u32, EdgeWeight = u32>>(rt: &impl Abort, alloc: Global) {
     let dag: Plain<S> = family(rt, alloc, &[(1, 1), (2, 2), (3, 3)]);
     let sum = dag
         .children(node(rt, 0))
@@ -120,7 +119,7 @@ fn summed<S: Store<u32, NodeWeight = u32, EdgeWeight = u32>>(rt: &impl Abort, al
     same(rt, sum, 12);
 }
 
-fn ancestry<S: Store<u32, NodeWeight = u32, EdgeWeight = u32>>(rt: &impl Abort, alloc: Global) {
+pub fn ancestry<S: Store<u32, NodeWeight = u32, EdgeWeight = u32>>(rt: &impl Abort, alloc: Global) {
     let mut dag: Plain<S> = family(rt, alloc, &[(0, 0)]);
     add_child(rt, &mut dag, 1, 0, 0);
     let mut walker = dag.recursive_walk(node(rt, 2), |dag: &Plain<S>, n| {
@@ -131,42 +130,35 @@ fn ancestry<S: Store<u32, NodeWeight = u32, EdgeWeight = u32>>(rt: &impl Abort, 
 
 #[test]
 fn children_are_walked_newest_first(rt: HostRuntime) {
-    down::<DiGraph<u32, u32, u32>>(&rt, rt.alloc());
-    down::<StableDiGraph<u32, u32, u32>>(&rt, rt.alloc());
+    both(&rt, rt.alloc(), Scene::Down);
 }
 
 #[test]
 fn parents_are_walked_newest_first(rt: HostRuntime) {
-    up::<DiGraph<u32, u32, u32>>(&rt, rt.alloc());
-    up::<StableDiGraph<u32, u32, u32>>(&rt, rt.alloc());
+    both(&rt, rt.alloc(), Scene::Up);
 }
 
 #[test]
 fn children_are_counted_and_found_by_place(rt: HostRuntime) {
-    places::<DiGraph<u32, u32, u32>>(&rt, rt.alloc());
-    places::<StableDiGraph<u32, u32, u32>>(&rt, rt.alloc());
+    both(&rt, rt.alloc(), Scene::Places);
 }
 
 #[test]
 fn weights_of_children_are_read(rt: HostRuntime) {
-    weights::<DiGraph<u32, u32, u32>>(&rt, rt.alloc());
-    weights::<StableDiGraph<u32, u32, u32>>(&rt, rt.alloc());
+    both(&rt, rt.alloc(), Scene::Weights);
 }
 
 #[test]
 fn children_are_found_by_their_weights(rt: HostRuntime) {
-    sought::<DiGraph<u32, u32, u32>>(&rt, rt.alloc());
-    sought::<StableDiGraph<u32, u32, u32>>(&rt, rt.alloc());
+    both(&rt, rt.alloc(), Scene::Sought);
 }
 
 #[test]
 fn weights_of_children_are_added_up(rt: HostRuntime) {
-    summed::<DiGraph<u32, u32, u32>>(&rt, rt.alloc());
-    summed::<StableDiGraph<u32, u32, u32>>(&rt, rt.alloc());
+    both(&rt, rt.alloc(), Scene::Summed);
 }
 
 #[test]
 fn a_walk_up_chooses_its_parents(rt: HostRuntime) {
-    ancestry::<DiGraph<u32, u32, u32>>(&rt, rt.alloc());
-    ancestry::<StableDiGraph<u32, u32, u32>>(&rt, rt.alloc());
+    both(&rt, rt.alloc(), Scene::Ancestry);
 }

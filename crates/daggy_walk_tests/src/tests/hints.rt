@@ -1,9 +1,8 @@
 ghost use Rattle.std.specs.Iterator.{IsFinite};
 
+use super::scenes::{Scene, both};
 use super::support::{Plain, Step, far, goes, node, same, six};
 use daggy_base::store::Store;
-use daggy_graph::graph::DiGraph;
-use daggy_stable::stable_graph::StableDiGraph;
 use daggy_walk::walker::{
     Chain, Cycle, Filter, Inspect, Peekable, Skip, SkipWhile, Take, TakeWhile, Walker,
 };
@@ -17,7 +16,7 @@ fn tells<G, W: Walker<G>>(rt: &impl Abort, graph: &G, walker: W, wanted: Option<
     same(rt, items.size_hint(), (0, wanted));
 }
 
-fn hints<S: Store<u32, NodeWeight = u32, EdgeWeight = u32>>(rt: &impl Abort, alloc: Global) {
+pub fn hints<S: Store<u32, NodeWeight = u32, EdgeWeight = u32>>(rt: &impl Abort, alloc: Global) {
     let dag: Plain<S> = six(rt, alloc);
     let all = dag.children(node(rt, 6));
     tells(rt, &dag, all, None);
@@ -55,7 +54,7 @@ fn rests<I: FusedIterator<Item = Step>>(rt: &impl Abort, mut items: I, count: us
     same(rt, items.next(), None);
 }
 
-fn ends<S: Store<u32, NodeWeight = u32, EdgeWeight = u32>>(rt: &impl Abort, alloc: Global) {
+pub fn ends<S: Store<u32, NodeWeight = u32, EdgeWeight = u32>>(rt: &impl Abort, alloc: Global) {
     let dag: Plain<S> = six(rt, alloc);
     let all = dag.children(node(rt, 6));
     rests(rt, all.iter(&dag), 6);
@@ -78,12 +77,10 @@ fn ends<S: Store<u32, NodeWeight = u32, EdgeWeight = u32>>(rt: &impl Abort, allo
 
 #[test]
 fn a_bound_on_the_items_is_told(rt: HostRuntime) {
-    hints::<DiGraph<u32, u32, u32>>(&rt, rt.alloc());
-    hints::<StableDiGraph<u32, u32, u32>>(&rt, rt.alloc());
+    both(&rt, rt.alloc(), Scene::Hints);
 }
 
 #[test]
 fn nothing_comes_after_the_end(rt: HostRuntime) {
-    ends::<DiGraph<u32, u32, u32>>(&rt, rt.alloc());
-    ends::<StableDiGraph<u32, u32, u32>>(&rt, rt.alloc());
+    both(&rt, rt.alloc(), Scene::Ends);
 }

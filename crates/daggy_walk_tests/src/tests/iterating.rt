@@ -1,12 +1,11 @@
+use super::scenes::{Scene, both};
 use super::support::{Plain, edge, node, same, six};
 use daggy_base::store::Store;
-use daggy_graph::graph::DiGraph;
-use daggy_stable::stable_graph::StableDiGraph;
 use daggy_walk::walker::Walker;
 use std::alloc::Global;
 use std::process::Abort;
 
-fn iterates<S: Store<u32, NodeWeight = u32, EdgeWeight = u32>>(rt: &impl Abort, alloc: Global) {
+pub fn iterates<S: Store<u32, NodeWeight = u32, EdgeWeight = u32>>(rt: &impl Abort, alloc: Global) {
     let dag: Plain<S> = six(rt, alloc);
     let all = dag.children(node(rt, 6));
     let mut sum = 0usize;
@@ -33,6 +32,5 @@ fn iterates<S: Store<u32, NodeWeight = u32, EdgeWeight = u32>>(rt: &impl Abort, 
 
 #[test]
 fn a_walk_is_an_iterator(rt: HostRuntime) {
-    iterates::<DiGraph<u32, u32, u32>>(&rt, rt.alloc());
-    iterates::<StableDiGraph<u32, u32, u32>>(&rt, rt.alloc());
+    both(&rt, rt.alloc(), Scene::Iterates);
 }

@@ -1,7 +1,6 @@
+use super::scenes::{Scene, both};
 use super::support::{Plain, Step, add_edge, dag_of, edge, goes, node};
 use daggy_base::store::Store;
-use daggy_graph::graph::DiGraph;
-use daggy_stable::stable_graph::StableDiGraph;
 use daggy_walk::walker::{
     Chain, Cycle, Filter, Inspect, Peekable, Skip, SkipWhile, Take, TakeWhile, Walker,
 };
@@ -35,7 +34,7 @@ fn begun<S: Store<u32, NodeWeight = u32, EdgeWeight = u32>>(
     dag_of(rt, alloc, 3, &[(0, 1), (0, 2)])
 }
 
-fn stale<S: Store<u32, NodeWeight = u32, EdgeWeight = u32>>(rt: &impl Abort, alloc: Global) {
+pub fn stale<S: Store<u32, NodeWeight = u32, EdgeWeight = u32>>(rt: &impl Abort, alloc: Global) {
     let dag: Plain<S> = begun(rt, alloc);
     let w = dag.children(node(rt, 0));
     let z = dag.children(node(rt, 1));
@@ -62,6 +61,5 @@ fn stale<S: Store<u32, NodeWeight = u32, EdgeWeight = u32>>(rt: &impl Abort, all
 
 #[test]
 fn a_walk_goes_on_over_an_index_that_was_given_again(rt: HostRuntime) {
-    stale::<DiGraph<u32, u32, u32>>(&rt, rt.alloc());
-    stale::<StableDiGraph<u32, u32, u32>>(&rt, rt.alloc());
+    both(&rt, rt.alloc(), Scene::Stale);
 }

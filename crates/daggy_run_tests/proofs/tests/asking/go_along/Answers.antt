@@ -11,5 +11,5 @@ exists (Some x) ends is = refl
 
 pub child_edge-requires : goal.child_edge-requires
 child_edge-requires g c =
-    exists (edge_at (g.D.GuardedDag.graph c.add_edges.new.dag) c.e-newest.result) (pair_of (λ i. i) c.in-Some._ends)
+    exists (edge_at (g.D.GuardedDag.graph c.play.new.dag) c.e-newest.result) (pair_of (λ i. i) c.in-Some._ends)
     (sym (ap (option_map (pair_of (λ i. i))) c.in-Some.is) ∙ c.edge_endpoints.ensures)

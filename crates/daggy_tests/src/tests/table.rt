@@ -1,0 +1,491 @@
+//! Calls of a dag of either kind and their answers as rows of a table, made and compared in one
+//! loop.
+//!
+//! A test is proved too, and a call costs it more than a row, so the calls stand here alone.
+use super::ordering::sort_long_series;
+use super::support::{holds, made, node};
+use daggy::graph::{DiGraph, Element};
+use daggy::index::IndexType;
+use daggy::stable_graph::StableDiGraph;
+use daggy::{EdgeError, EdgeIndex, EdgesError, ElementError, NodeIndex, Walker, WouldCycle};
+use daggy_base::store::Store;
+use daggy_dag::acyclic::Acyclic;
+use std::alloc::Global;
+use std::process::Abort;
+
+/// A call of a dag whose weights are numbers.
+#[derive(Clone, Copy)]
+pub enum Call<'a> {
+    Node(u32),
+    Edge(usize, usize, u32),
+    Update(usize, usize, u32),
+    Child(usize, u32, u32),
+    Parent(usize, u32, u32),
+    Edges(&'a [(usize, usize, u32)]),
+    Extend(&'a [(usize, usize, u32)]),
+    RemoveNode(usize),
+    RemoveEdge(usize),
+    ClearEdges,
+    Clear,
+    Counts,
+    Weight(usize),
+    Stored(usize),
+    Find(usize, usize),
+    Children(usize),
+    Parents(usize),
+    Order,
+}
+
+/// What a call answers.
+#[derive(Clone, Copy, Debug, PartialEq)]
+pub enum Answer<'a> {
+    Node(usize),
+    Edge(usize),
+    EdgeNode(usize, usize),
+    Edges(&'a [usize]),
+    Nodes(&'a [usize]),
+    Walk(&'a [(usize, usize)]),
+    Weight(u32),
+    Stored(usize, usize, u32),
+    Counts(usize, usize),
+    Nothing,
+    Done,
+    Cycle(u32),
+    NoEnd(u32),
+    NoIndex(u32),
+    CycleAll(&'a [u32]),
+    NoEndAt(u32, &'a [u32]),
+    NoIndexAt(u32, &'a [u32]),
+}
+
+/// A row of a table.
+pub type Row<'a> = (Call<'a>, Answer<'a>);
+
+fn is(rt: &impl Abort, found: Answer<'_>, wanted: Answer<'_>) {
+    assert_eq!(rt; found, wanted);
+}
+
+/// The index of an edge.
+pub fn edge<Ix: IndexType>(rt: &impl Abort, x: usize) -> EdgeIndex<Ix> {
+    assert!(rt; x <= EdgeIndex::<Ix>::end().index());
+    EdgeIndex::new(x)
+}
+
+fn of_edge<Ix: IndexType>(
+    rt: &impl Abort,
+    answer: Result<EdgeIndex<Ix>, EdgeError<u32>>,
+) -> Answer<'static> {
+    match answer {
+        Ok(e) => Answer::Edge(e.index()),
+        Err(error) => of_error(rt, error),
+    }
+}
+
+fn of_error(rt: &impl Abort, error: EdgeError<u32>) -> Answer<'static> {
+    match error {
+        EdgeError::WouldCycle(WouldCycle(weight)) => Answer::Cycle(weight),
+        EdgeError::BadEndpoint(weight) => Answer::NoEnd(weight),
+        EdgeError::Full(weight) => Answer::NoIndex(weight),
+        _ => panic!(rt; "there is memory"),
+    }
+}
+
+fn of_weight(weight: Option<u32>) -> Answer<'static> {
+    match weight {
+        Some(weight) => Answer::Weight(weight),
+        None => Answer::Nothing,
+    }
+}
+
+fn node_added<Ix: IndexType, S: Store<Ix, NodeWeight = u32, EdgeWeight = u32>>(
+    rt: &impl Abort,
+    dag: &mut Acyclic<u32, u32, Ix, S>,
+    weight: u32,
+) -> Answer<'static> {
+    assert!(rt; dag.can_add_node());
+    Answer::Node(made(rt, dag.add_node(weight)).index())
+}
+
+fn edge_added<Ix: IndexType, S: Store<Ix, NodeWeight = u32, EdgeWeight = u32>>(
+    rt: &impl Abort,
+    dag: &mut Acyclic<u32, u32, Ix, S>,
+    ends: (usize, usize),
+    weight: u32,
+) -> Answer<'static> {
+    let (a, b) = (node(rt, ends.0), node(rt, ends.1));
+    assert!(rt; dag.contains_node(a));
+    assert!(rt; dag.contains_node(b));
+    assert!(rt; dag.can_add_edge());
+    of_edge(rt, dag.add_edge(a, b, weight))
+}
+
+fn edge_updated<Ix: IndexType, S: Store<Ix, NodeWeight = u32, EdgeWeight = u32>>(
+    rt: &impl Abort,
+    dag: &mut Acyclic<u32, u32, Ix, S>,
+    ends: (usize, usize),
+    weight: u32,
+) -> Answer<'static> {
+    let (a, b) = (node(rt, ends.0), node(rt, ends.1));
+    assert!(rt; dag.contains_node(a));
+    assert!(rt; dag.contains_node(b));
+    if dag.find_edge(a, b).is_some() {
+        return of_edge(rt, dag.update_edge(a, b, weight));
+    }
+    assert!(rt; dag.can_add_edge());
+    of_edge(rt, dag.update_edge(a, b, weight))
+}
+
+fn child_added<Ix: IndexType, S: Store<Ix, NodeWeight = u32, EdgeWeight = u32>>(
+    rt: &impl Abort,
+    dag: &mut Acyclic<u32, u32, Ix, S>,
+    parent: usize,
+    weights: (u32, u32),
+) -> Answer<'static> {
+    let parent = node(rt, parent);
+    assert!(rt; dag.contains_node(parent));
+    assert!(rt; dag.can_add_edge());
+    assert!(rt; dag.can_add_node());
+    let (e, n) = made(rt, dag.add_child(parent, weights.0, weights.1));
+    Answer::EdgeNode(e.index(), n.index())
+}
+
+fn parent_added<Ix: IndexType, S: Store<Ix, NodeWeight = u32, EdgeWeight = u32>>(
+    rt: &impl Abort,
+    dag: &mut Acyclic<u32, u32, Ix, S>,
+    child: usize,
+    weights: (u32, u32),
+) -> Answer<'static> {
+    let child = node(rt, child);
+    assert!(rt; dag.contains_node(child));
+    assert!(rt; dag.can_add_edge());
+    assert!(rt; dag.can_add_node());
+    let (e, n) = made(rt, dag.add_parent(child, weights.0, weights.1));
+    Answer::EdgeNode(e.index(), n.index())
+}
+
+// These edges in a `Vec`.
+fn items<Ix: IndexType>(
+    rt: &impl Abort,
+    alloc: Global,
+    edges: &[(usize, usize, u32)],
+) -> Vec<(NodeIndex<Ix>, NodeIndex<Ix>, u32)> {
+    let mut items = Vec::new(alloc);
+    for (a, b, weight) in edges {
+        made(rt, items.push((node(rt, *a), node(rt, *b), *weight)));
+    }
+    items
+}
+
+fn all_added<Ix: IndexType, S: Store<Ix, NodeWeight = u32, EdgeWeight = u32>>(
+    rt: &impl Abort,
+    alloc: Global,
+    dag: &mut Acyclic<u32, u32, Ix, S>,
+    edges: &[(usize, usize, u32)],
+    wanted: Answer<'_>,
+) {
+    match dag.add_edges(items(rt, alloc, edges)) {
+        Ok(added) => {
+            let mut indices = Vec::new(alloc);
+            for e in added {
+                made(rt, indices.push(e.index()));
+            }
+            is(rt, Answer::Edges(indices.as_slice()), wanted);
+        }
+        Err(EdgesError::WouldCycle(WouldCycle(back))) => {
+            is(rt, Answer::CycleAll(back.as_slice()), wanted);
+        }
+        Err(EdgesError::BadEndpoint { last, before }) => {
+            is(rt, Answer::NoEndAt(last, before.as_slice()), wanted);
+        }
+        Err(EdgesError::Full { last, before }) => {
+            is(rt, Answer::NoIndexAt(last, before.as_slice()), wanted);
+        }
+        Err(EdgesError::Memory { .. }) => panic!(rt; "there is memory"),
+    }
+}
+
+fn extended<Ix: IndexType, S: Store<Ix, NodeWeight = u32, EdgeWeight = u32>>(
+    rt: &impl Abort,
+    alloc: Global,
+    dag: &mut Acyclic<u32, u32, Ix, S>,
+    edges: &[(usize, usize, u32)],
+) -> Answer<'static> {
+    match dag.extend_with_edges(items(rt, alloc, edges)) {
+        Ok(()) => Answer::Done,
+        Err(error) => of_error(rt, error),
+    }
+}
+
+fn stored<Ix: IndexType, S: Store<Ix, NodeWeight = u32, EdgeWeight = u32>>(
+    rt: &impl Abort,
+    dag: &Acyclic<u32, u32, Ix, S>,
+    e: usize,
+) -> Answer<'static> {
+    let e = edge(rt, e);
+    let Some((a, b)) = dag.edge_endpoints(e) else {
+        holds(rt, dag.edge_weight(e).is_none());
+        return Answer::Nothing;
+    };
+    match dag.edge_weight(e).copied() {
+        Some(weight) => Answer::Stored(a.index(), b.index(), weight),
+        None => Answer::Nothing,
+    }
+}
+
+// Asserts which edges and nodes a walk over the children of a node gives.
+fn is_walk_of_children<Ix: IndexType, S: Store<Ix, NodeWeight = u32, EdgeWeight = u32>>(
+    rt: &impl Abort,
+    alloc: Global,
+    dag: &Acyclic<u32, u32, Ix, S>,
+    n: usize,
+    wanted: Answer<'_>,
+) {
+    let mut walk = Vec::new(alloc);
+    for (e, child) in dag.children(node(rt, n)).iter(dag) {
+        made(rt, walk.push((e.index(), child.index())));
+    }
+    is(rt, Answer::Walk(walk.as_slice()), wanted);
+}
+
+fn is_walk_of_parents<Ix: IndexType, S: Store<Ix, NodeWeight = u32, EdgeWeight = u32>>(
+    rt: &impl Abort,
+    alloc: Global,
+    dag: &Acyclic<u32, u32, Ix, S>,
+    n: usize,
+    wanted: Answer<'_>,
+) {
+    let mut walk = Vec::new(alloc);
+    for (e, parent) in dag.parents(node(rt, n)).iter(dag) {
+        made(rt, walk.push((e.index(), parent.index())));
+    }
+    is(rt, Answer::Walk(walk.as_slice()), wanted);
+}
+
+fn is_ordered<Ix: IndexType, S: Store<Ix, NodeWeight = u32, EdgeWeight = u32>>(
+    rt: &impl Abort,
+    alloc: Global,
+    dag: &Acyclic<u32, u32, Ix, S>,
+    wanted: Answer<'_>,
+) {
+    let mut nodes = Vec::new(alloc);
+    for n in dag.topological_order() {
+        made(rt, nodes.push(n.index()));
+    }
+    is(rt, Answer::Nodes(nodes.as_slice()), wanted);
+}
+
+// The answer of a call that adds one thing, or removes some.
+fn change<Ix: IndexType, S: Store<Ix, NodeWeight = u32, EdgeWeight = u32>>(
+    rt: &impl Abort,
+    dag: &mut Acyclic<u32, u32, Ix, S>,
+    call: Call<'_>,
+) -> Answer<'static> {
+    match call {
+        Call::Node(weight) => node_added(rt, dag, weight),
+        Call::Edge(a, b, weight) => edge_added(rt, dag, (a, b), weight),
+        Call::Update(a, b, weight) => edge_updated(rt, dag, (a, b), weight),
+        Call::Child(n, edge, weight) => child_added(rt, dag, n, (edge, weight)),
+        Call::Parent(n, edge, weight) => parent_added(rt, dag, n, (edge, weight)),
+        Call::RemoveNode(n) => of_weight(dag.remove_node(node(rt, n))),
+        Call::RemoveEdge(e) => of_weight(dag.remove_edge(edge(rt, e))),
+        Call::ClearEdges => {
+            dag.clear_edges();
+            Answer::Done
+        }
+        Call::Clear => {
+            dag.clear();
+            Answer::Done
+        }
+        _ => ask(rt, dag, call),
+    }
+}
+
+// The answer of a call that changes nothing.
+fn ask<Ix: IndexType, S: Store<Ix, NodeWeight = u32, EdgeWeight = u32>>(
+    rt: &impl Abort,
+    dag: &Acyclic<u32, u32, Ix, S>,
+    call: Call<'_>,
+) -> Answer<'static> {
+    match call {
+        Call::Counts => Answer::Counts(dag.node_count(), dag.edge_count()),
+        Call::Weight(n) => of_weight(dag.node_weight(node(rt, n)).copied()),
+        Call::Stored(e) => stored(rt, dag, e),
+        Call::Find(a, b) => match dag.find_edge(node(rt, a), node(rt, b)) {
+            Some(e) => Answer::Edge(e.index()),
+            None => Answer::Nothing,
+        },
+        _ => panic!(rt; "there is no such call"),
+    }
+}
+
+/// Makes one call, and asserts that it has this answer.
+pub fn play_row<Ix: IndexType, S: Store<Ix, NodeWeight = u32, EdgeWeight = u32>>(
+    rt: &impl Abort,
+    alloc: Global,
+    dag: &mut Acyclic<u32, u32, Ix, S>,
+    call: Call<'_>,
+    wanted: Answer<'_>,
+) {
+    match call {
+        Call::Edges(edges) => all_added(rt, alloc, dag, edges, wanted),
+        Call::Extend(edges) => is(rt, extended(rt, alloc, dag, edges), wanted),
+        Call::Children(n) => is_walk_of_children(rt, alloc, dag, n, wanted),
+        Call::Parents(n) => is_walk_of_parents(rt, alloc, dag, n, wanted),
+        Call::Order => is_ordered(rt, alloc, dag, wanted),
+        _ => is(rt, change(rt, dag, call), wanted),
+    }
+}
+
+/// Makes the calls of a table, and asserts that each has its answer.
+pub fn play<Ix: IndexType, S: Store<Ix, NodeWeight = u32, EdgeWeight = u32>>(
+    rt: &impl Abort,
+    alloc: Global,
+    dag: &mut Acyclic<u32, u32, Ix, S>,
+    rows: &[Row<'_>],
+) {
+    for (call, wanted) in rows {
+        play_row(rt, alloc, dag, *call, *wanted);
+    }
+}
+
+/// What is done with a dag. Each kind is named in one function, [`compact`] or [`stable`], since a
+/// call at a kind costs a proof much more than a call at any dag.
+#[derive(Clone, Copy)]
+pub enum Scene<'a> {
+    /// A table is played.
+    Rows(&'a [Row<'a>]),
+    /// A table is played over 255 nodes, the weights of which are their indices, and no edge.
+    FullOfNodes(&'a [Row<'a>]),
+    /// A table is played over two nodes, and 255 edges from the first to the second.
+    FullOfEdges(&'a [Row<'a>]),
+    /// A table is played over the dag of these edges, the weights of which are 0.
+    OfPairs(&'a [(usize, usize)], &'a [Row<'a>]),
+    /// A dag is made of elements, with this answer, and a table is played over it.
+    OfParts(&'a [Part], Answer<'a>, &'a [Row<'a>]),
+    /// A long series comes back, and is added.
+    LongSeries,
+}
+
+/// Acts with a dag over such a store.
+pub fn act<Ix: IndexType, S: Store<Ix, NodeWeight = u32, EdgeWeight = u32>>(
+    rt: &impl Abort,
+    alloc: Global,
+    scene: Scene<'_>,
+) {
+    let mut dag: Acyclic<u32, u32, Ix, S> = Acyclic::new(alloc);
+    match scene {
+        Scene::Rows(rows) => play(rt, alloc, &mut dag, rows),
+        Scene::FullOfNodes(rows) => {
+            fill_nodes(rt, &mut dag, 255);
+            holds(rt, !dag.can_add_node());
+            play(rt, alloc, &mut dag, rows);
+        }
+        Scene::FullOfEdges(rows) => {
+            fill_edges(rt, &mut dag);
+            play(rt, alloc, &mut dag, rows);
+        }
+        Scene::OfPairs(pairs, rows) => {
+            dag = made(rt, Acyclic::from_edges(alloc, ends(rt, alloc, pairs)));
+            play(rt, alloc, &mut dag, rows);
+        }
+        Scene::OfParts(parts, wanted, rows) => of_parts(rt, alloc, dag, parts, wanted, rows),
+        Scene::LongSeries => sort_long_series(rt, alloc, &mut dag),
+    }
+}
+
+/// Acts with a compact dag that has few indices.
+pub fn compact(rt: &impl Abort, alloc: Global, scene: Scene<'_>) {
+    act::<u8, DiGraph<u32, u32, u8>>(rt, alloc, scene);
+}
+
+/// Acts with a stable dag that has few indices.
+pub fn stable(rt: &impl Abort, alloc: Global, scene: Scene<'_>) {
+    act::<u8, StableDiGraph<u32, u32, u8>>(rt, alloc, scene);
+}
+
+/// Acts with a dag of each kind.
+pub fn both(rt: &impl Abort, alloc: Global, scene: Scene<'_>) {
+    compact(rt, alloc, scene);
+    stable(rt, alloc, scene);
+}
+
+// Adds so many nodes, the weights of which are their indices.
+fn fill_nodes<Ix: IndexType, S: Store<Ix, NodeWeight = u32, EdgeWeight = u32>>(
+    rt: &impl Abort,
+    dag: &mut Acyclic<u32, u32, Ix, S>,
+    count: usize,
+) {
+    let mut weight = 0u32;
+    for i in 0..count {
+        is(rt, node_added(rt, dag, weight), Answer::Node(i));
+        weight = weight.wrapping_add(1);
+    }
+}
+
+fn fill_edges<Ix: IndexType, S: Store<Ix, NodeWeight = u32, EdgeWeight = u32>>(
+    rt: &impl Abort,
+    dag: &mut Acyclic<u32, u32, Ix, S>,
+) {
+    fill_nodes(rt, dag, 2);
+    for i in 0..255 {
+        is(rt, edge_added(rt, dag, (0, 1), 1), Answer::Edge(i));
+    }
+    holds(rt, !dag.can_add_edge());
+}
+
+// These ends in a `Vec`.
+fn ends<Ix: IndexType>(
+    rt: &impl Abort,
+    alloc: Global,
+    pairs: &[(usize, usize)],
+) -> Vec<(NodeIndex<Ix>, NodeIndex<Ix>)> {
+    let mut ends = Vec::new(alloc);
+    for (a, b) in pairs {
+        made(rt, ends.push((node(rt, *a), node(rt, *b))));
+    }
+    ends
+}
+
+/// A node of a weight, or an edge of two positions and a weight.
+#[derive(Clone, Copy)]
+pub enum Part {
+    Node(u32),
+    Edge(usize, usize, u32),
+}
+
+fn elements(rt: &impl Abort, alloc: Global, parts: &[Part]) -> Vec<Element<u32, u32>> {
+    let mut elements = Vec::new(alloc);
+    for part in parts {
+        let element = match *part {
+            Part::Node(weight) => Element::Node { weight },
+            Part::Edge(source, target, weight) => Element::Edge {
+                source,
+                target,
+                weight,
+            },
+        };
+        made(rt, elements.push(element));
+    }
+    elements
+}
+
+// Makes a dag in place of one that has nothing.
+fn of_parts<Ix: IndexType, S: Store<Ix, NodeWeight = u32, EdgeWeight = u32>>(
+    rt: &impl Abort,
+    alloc: Global,
+    mut dag: Acyclic<u32, u32, Ix, S>,
+    parts: &[Part],
+    wanted: Answer<'_>,
+    rows: &[Row<'_>],
+) {
+    let found = match Acyclic::from_elements(alloc, elements(rt, alloc, parts)) {
+        Ok(made) => {
+            dag = made;
+            Answer::Done
+        }
+        Err(ElementError::Edge(error)) => of_error(rt, error),
+        Err(ElementError::Node(_)) => panic!(rt; "an index is left"),
+    };
+    is(rt, found, wanted);
+    play(rt, alloc, &mut dag, rows);
+}
