@@ -5,9 +5,9 @@ use Rattle.std.specs.Option.{MatchOption, IsSomeAnd}
 use Rattle.std.specs.Result.{OnOk}
 use Rattle.daggy.specs.Graph.{Graph}
 use Rattle.daggy.specs.Removal.{Kind}
-use Rattle.dagbench_engine.specs.Commands.{Asked, Document, asked_in, TakesRoom}
+use Rattle.dagbench_lines.specs.Commands.{Asked, Document, asked_in, TakesRoom}
 use Rattle.dagbench_engine.specs.Documents.{TellsDocument}
-use Rattle.dagbench_engine.specs.Streams.{Appends}
+use Rattle.dagbench_lines.specs.Streams.{Appends}
 use Rattle.dagbench_engine.specs.Transcripts.{IsAnswered}
 use Rattle.dagbench_engine.specs.Progress.{AnswersLine}
 

@@ -11,7 +11,7 @@ use Rattle.serde_json.specs.declared.value.Value.{Value}
 use Rattle.daggy.specs.Graph.{Graph, Edge}
 use Rattle.daggy.specs.Document.{IsEntry, IsDocumentOf}
 use Rattle.dagbench_engine.specs.Documents.{StandsFor, IsDocumentText, TellsDocument}
-use Rattle.dagbench_engine.specs.Streams.{Appends}
+use Rattle.dagbench_lines.specs.Streams.{Appends}
 use Rattle.dagbench_engine.proofs.NoFloats.{has_none}
 
 -- what a function says of each weight holds of the weights in a document

@@ -8,8 +8,8 @@ use Rattle.std.proofs.lemmas.List.{map-id}
 use Rattle.daggy.specs.Graph.{Graph}
 use Rattle.daggy.specs.Plans.{stages_of, IsPlan, IsByLevels, IsChain, IsShortest}
 use Rattle.dagbench_engine.specs.Plans.{stage_text, stages_text, plan_text, IsPlanText}
-use Rattle.dagbench_engine.specs.Replies.{node_text, parted}
-use Rattle.dagbench_engine.specs.Streams.{Appends}
+use Rattle.dagbench_lines.specs.Replies.{node_text, parted}
+use Rattle.dagbench_lines.specs.Streams.{Appends}
 
 abbrev stage_lines : List (Vec ℕ Global) → List ℕ
 stage_lines stages = flat_map (λ stage. stage_text stage.items ++ 10 ∷ []) stages

@@ -8,7 +8,7 @@ use Rattle.daggy.specs.Graph.{Graph, empty}
 use Rattle.daggy.specs.Removal.{Kind}
 use Rattle.dagbench_engine.specs.declared.stop.Stop.{Stop}
 use Rattle.dagbench_engine.specs.declared.stop.Stop.TheVariants.{Read, Write, Memory}
-use Rattle.dagbench_engine.specs.Cutting.{lines_of, ended_lines_of}
+use Rattle.dagbench_lines.specs.Cutting.{lines_of, ended_lines_of}
 use Rattle.dagbench_engine.specs.Serving.{Serves}
 use Rattle.dagbench_engine.specs.Progress.{IsServed, GoesOn}
 use Rattle.dagbench_engine.specs.Ends.{Exchange, IsRun}

@@ -9,14 +9,14 @@ use Rattle.std.specs.Option.{MatchOption}
 use Rattle.std.specs.Result.{OnOk}
 use Rattle.daggy.specs.Graph.{Graph, empty}
 use Rattle.daggy.specs.Removal.{Kind}
-use Rattle.dagbench_engine.specs.Cutting.{Lacks, newline, lines_of, ended_lines_of, words_of}
-use Rattle.dagbench_engine.specs.Commands.{asked_in, asked_by_words}
-use Rattle.dagbench_engine.specs.Streams.{Appends}
+use Rattle.dagbench_lines.specs.Cutting.{Lacks, newline, lines_of, ended_lines_of, words_of}
+use Rattle.dagbench_lines.specs.Commands.{asked_in, asked_by_words}
+use Rattle.dagbench_lines.specs.Streams.{Appends}
 use Rattle.dagbench_engine.specs.Transcripts.{IsAnswered, IsAnswer, IsTranscript}
 use Rattle.dagbench_engine.specs.Plans.{IsClose}
 use Rattle.dagbench_engine.specs.Serving.{Serves}
 use Rattle.dagbench_engine.specs.Progress.{IsServed, IsDone, AnswersLine, GoesOn, ended}
-use Rattle.dagbench_engine.proofs.Cuts.{cut_at-first, cut_at-last, ended_at-first, ended_at-none}
+use Rattle.dagbench_lines.proofs.Cuts.{cut_at-first, cut_at-last, ended_at-first, ended_at-none}
 
 -- whole lines, and what stands behind them
 joined : (line lines front : List ℕ) → (ended line ++ lines) ++ front ≡ line ++ newline ∷ (lines ++ front)

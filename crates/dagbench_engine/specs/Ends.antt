@@ -3,7 +3,7 @@ use Rattle.std.specs.Prelude.{◌≡◌, ℕ, ◌+◌, Bool, true, false, List, 
 use Rattle.daggy.specs.Removal.{Kind}
 use Rattle.dagbench_engine.specs.declared.stop.Stop.{Stop}
 use Rattle.dagbench_engine.specs.declared.stop.Stop.TheVariants.{Read, Write, Memory}
-use Rattle.dagbench_engine.specs.Cutting.{lines_of, ended_lines_of}
+use Rattle.dagbench_lines.specs.Cutting.{lines_of, ended_lines_of}
 use Rattle.dagbench_engine.specs.Serving.{Serves}
 
 -- What a run has exchanged with its devices: the bytes that the source gave and that the sink took, and how many calls

@@ -1,17 +1,8 @@
-pub mod Cutting
-pub mod Numbers
-pub mod Listing
-pub mod Commands
-pub mod Streams
-pub mod Replies
 pub mod Arguments
 pub mod Endings
 pub mod Documents
-pub mod Saying
 pub mod Transcripts
 pub mod Plans
 pub mod Serving
 pub mod Progress
 pub mod Ends
-pub mod Failing
-pub mod Devices

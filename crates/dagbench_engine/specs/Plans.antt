@@ -3,8 +3,8 @@ use Rattle.std.specs.Prelude.{◌≡◌, ℕ, ℤ, ◌⊎◌, Bool, true, false,
 use Rattle.std.specs.List.{flat_map}
 use Rattle.daggy.specs.Graph.{Graph}
 use Rattle.daggy.specs.Plans.{IsPlan, IsByLevels, IsChain, IsShortest}
-use Rattle.dagbench_engine.specs.Cutting.{newline}
-use Rattle.dagbench_engine.specs.Replies.{node_text, spaced, parted}
+use Rattle.dagbench_lines.specs.Cutting.{newline}
+use Rattle.dagbench_lines.specs.Replies.{node_text, spaced, parted}
 
 -- a stage with its nodes
 abbrev pub stage_text : List ℕ → List ℕ

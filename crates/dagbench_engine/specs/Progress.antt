@@ -3,7 +3,7 @@ use Rattle.std.specs.Prelude.{◌≡◌, ℕ, List, [], ◌∷◌, ◌++◌, tak
 use Rattle.std.specs.List.{flat_map, AllByRecursion}
 use Rattle.daggy.specs.Graph.{Graph, empty}
 use Rattle.daggy.specs.Removal.{Kind}
-use Rattle.dagbench_engine.specs.Cutting.{newline, Lacks, lines_of}
+use Rattle.dagbench_lines.specs.Cutting.{newline, Lacks, lines_of, kept_count}
 use Rattle.dagbench_engine.specs.Transcripts.{IsAnswer, IsTranscript}
 
 -- after an Ok the line was answered behind what had been written
@@ -16,10 +16,6 @@ AnswersLine kind (Err e) line old new written_old written_new = Unit {0}
 -- a line with its newline
 abbrev pub ended : List ℕ → List ℕ
 ended line = line ++ newline ∷ []
-
--- the most bytes that are kept of a line whose newline has not come
-abbrev pub kept_count : ℕ
-kept_count = 4097
 
 -- So far: what was given are whole lines and the front of one more. The whole ones are answered. Of the front, what
 -- tells what it says is kept.

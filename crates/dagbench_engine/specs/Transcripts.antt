@@ -4,10 +4,10 @@ use Rattle.daggy.specs.Graph.{Graph}
 use Rattle.daggy.specs.Removal.{Kind}
 use Rattle.daggy.specs.Answers.{Answer}
 use Rattle.daggy.specs.Steps.{IsStep}
-use Rattle.dagbench_engine.specs.Commands.{Asked, Step, Document, asked_in, TakesRoom}
-use Rattle.dagbench_engine.specs.Cutting.{newline}
+use Rattle.dagbench_lines.specs.Commands.{Asked, Step, Document, asked_in, TakesRoom}
+use Rattle.dagbench_lines.specs.Cutting.{newline}
 use Rattle.dagbench_engine.specs.Documents.{IsDocumentText}
-use Rattle.dagbench_engine.specs.Replies.{text_of}
+use Rattle.dagbench_lines.specs.Replies.{text_of}
 
 -- how many nodes there can be, and how many edges
 abbrev pub index_count : ℕ

@@ -3,10 +3,10 @@ ghost use Rattle.std.specs.Prelude.{◌≡◌, IfSome, IfOk, OnOk, ◌++◌, ◌
 ghost use Rattle.serde_json.specs.View.{view};
 ghost use Rattle.daggy.specs.Document.{IsDocumentOf};
 ghost use Rattle.dagbench_engine.specs.Documents.{StandsFor, IsDocumentText, TellsDocument};
-ghost use Rattle.dagbench_engine.specs.Streams.{CountsFaults};
+ghost use Rattle.dagbench_lines.specs.Streams.{CountsFaults};
 
-use crate::output::Output;
-use crate::stream::{Fault, Sink};
+use dagbench_lines::output::Output;
+use dagbench_lines::stream::{Fault, Sink};
 use daggy::json::{dag_to_json, stable_to_json};
 use daggy::run::GuardedDag;
 use daggy::{Dag, StableDag};

@@ -1,13 +1,13 @@
 //! The engine: a line in, its answer out.
 ghost use Rattle.std.specs.Prelude.{◌≡◌, ◌++◌};
-ghost use Rattle.dagbench_engine.specs.Streams.{CountsFaults};
+ghost use Rattle.dagbench_lines.specs.Streams.{CountsFaults};
 ghost use Rattle.dagbench_engine.specs.Progress.{AnswersLine};
 
 use crate::document::{Documented, put_document};
-use crate::output::Output;
-use crate::parse::{Asked, parse};
-use crate::reply::put_reply;
-use crate::stream::{Fault, Sink};
+use dagbench_lines::output::Output;
+use dagbench_lines::parse::{Asked, parse};
+use dagbench_lines::reply::put_reply;
+use dagbench_lines::stream::{Fault, Sink};
 use daggy::run::perform;
 use std::alloc::Global;
 

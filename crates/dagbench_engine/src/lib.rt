@@ -4,29 +4,17 @@
 //! one of a reader or a writer, and [`MemorySource`] and [`MemorySink`] hold their bytes.
 #![tactic(auto)]
 
-mod device;
 mod document;
 mod engine;
-mod history;
-mod items;
-mod line;
-mod memory;
 mod mode;
-mod output;
-mod parse;
-mod piece;
 mod plan;
-mod reply;
-mod roots;
 mod service;
 mod session;
 mod stop;
-mod stream;
-mod words;
 
-pub use device::Device;
-pub use memory::{MemorySink, MemorySource};
+pub use dagbench_lines::device::Device;
+pub use dagbench_lines::memory::{MemorySink, MemorySource};
+pub use dagbench_lines::stream::{Fault, Sink, Source};
 pub use mode::{Mode, mode_of};
 pub use service::serve;
 pub use stop::{Stop, ending};
-pub use stream::{Fault, Sink, Source};

@@ -1,12 +1,12 @@
 //! The plan that is written behind the answers.
 ghost use Rattle.std.specs.Prelude.{◌≡◌, ℕ, List, [], ◌∷◌, ◌++◌, OnOk};
 ghost use Rattle.std.specs.List.{flat_map};
-ghost use Rattle.dagbench_engine.specs.Streams.{CountsFaults, Appends};
+ghost use Rattle.dagbench_lines.specs.Streams.{CountsFaults, Appends};
 ghost use Rattle.dagbench_engine.specs.Plans.{stage_text, IsPlanText, IsClose};
 
-use crate::output::Output;
-use crate::piece::{put_each, put_parted};
-use crate::stream::{Fault, Sink};
+use dagbench_lines::output::Output;
+use dagbench_lines::piece::{put_each, put_parted};
+use dagbench_lines::stream::{Fault, Sink};
 use daggy::NodeIndex;
 use daggy::run::{GuardedDag, plan};
 use std::alloc::Global;

@@ -2,7 +2,7 @@
 ghost use Rattle.std.specs.Prelude.{◌≡◌, ◌<◌, ◌↔◌, [], true, false, Err, OnOk, length};
 ghost use Rattle.daggy.specs.Graph.{empty};
 ghost use Rattle.dagbench_engine.specs.Arguments.{kind_of, plans as plans_of};
-ghost use Rattle.dagbench_engine.specs.Cutting.{lines_of, ended_lines_of};
+ghost use Rattle.dagbench_lines.specs.Cutting.{lines_of, ended_lines_of};
 ghost use Rattle.dagbench_engine.specs.Serving.{Serves};
 ghost use Rattle.dagbench_engine.specs.Ends.{IsRun};
 
@@ -10,7 +10,7 @@ use crate::document::Documented;
 use crate::mode::Mode;
 use crate::session::Session;
 use crate::stop::Stop;
-use crate::stream::{Sink, Source};
+use dagbench_lines::stream::{Sink, Source};
 use daggy::{Dag, StableDag};
 use std::alloc::Global;
 

@@ -1,17 +1,17 @@
 //! A graph that is being served, with what is kept between two blocks of input.
 ghost use Rattle.std.specs.Prelude.{◌≡◌, ℕ, List, [], ◌∷◌, ◌++◌, IfOk, OnOk};
-ghost use Rattle.dagbench_engine.specs.Cutting.{Lacks, newline, lines_of};
-ghost use Rattle.dagbench_engine.specs.Streams.{CountsFaults};
+ghost use Rattle.dagbench_lines.specs.Cutting.{Lacks, newline, lines_of};
+ghost use Rattle.dagbench_lines.specs.Streams.{CountsFaults};
 ghost use Rattle.dagbench_engine.specs.Serving.{Serves};
 ghost use Rattle.dagbench_engine.specs.Progress.{GoesOn, IsServed, IsDone};
 
 use crate::document::Documented;
 use crate::engine::answer;
-use crate::line::Line;
-use crate::output::Output;
 use crate::plan::put_close;
-use crate::stream::{Fault, Sink};
-use crate::words::split_at_byte;
+use dagbench_lines::line::Line;
+use dagbench_lines::output::Output;
+use dagbench_lines::stream::{Fault, Sink};
+use dagbench_lines::words::split_at_byte;
 use std::alloc::{AllocError, Global};
 
 /// The graph, the line whose newline has not come, and the answers that the sink has not taken.

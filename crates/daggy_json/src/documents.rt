@@ -3,18 +3,18 @@ ghost use Rattle.std.specs.Prelude.{◌≡◌, ◌⊎◌, true, false, Ok, Err, 
 ghost use Rattle.serde_json.specs.View.{view};
 ghost use Rattle.daggy_base.specs.Graph.{Graph, IsCompact};
 ghost use Rattle.daggy_base.specs.WellFormed.{IsDag};
-ghost use Rattle.daggy_json.specs.Document.{IsDocumentOf};
-ghost use Rattle.daggy_json.specs.Weight.{WritesAs, ReadsAs};
-ghost use Rattle.daggy_json.specs.Reading.{IsRead};
-ghost use Rattle.daggy_json.specs.Restoring.{ReadsOnly, trimmed};
-ghost use Rattle.daggy_json.specs.declared.error.ReadError.TheVariants.{Memory};
+ghost use Rattle.daggy_document.specs.Document.{IsDocumentOf};
+ghost use Rattle.daggy_document.specs.Weight.{WritesAs, ReadsAs};
+ghost use Rattle.daggy_document.specs.Reading.{IsRead};
+ghost use Rattle.daggy_document.specs.Restoring.{ReadsOnly, trimmed};
+ghost use Rattle.daggy_document.specs.declared.error.ReadError.TheVariants.{Memory};
 
-use crate::error::{ReadError, WriteError};
 use crate::making::read;
-use crate::writing::write_document;
 use daggy_base::index::IndexType;
 use daggy_base::store::Store;
 use daggy_dag::acyclic::{Acyclic, Dag, StableDag};
+use daggy_document::error::{ReadError, WriteError};
+use daggy_document::writing::write_document;
 use serde_json::Value;
 use std::alloc::{AllocError, Global};
 

@@ -2,7 +2,4 @@
 #![tactic(auto)]
 
 pub mod documents;
-pub mod error;
 mod making;
-mod reading;
-mod writing;

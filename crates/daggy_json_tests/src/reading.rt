@@ -1,8 +1,8 @@
 //! Documents that are read.
 use crate::support::{holds, made, number, weight};
 use daggy_dag::acyclic::{Dag, StableDag};
+use daggy_document::error::ReadError;
 use daggy_json::documents::{dag_from_json, dag_to_json, stable_from_json, stable_to_json};
-use daggy_json::error::ReadError;
 use serde_json::Value;
 use std::alloc::{AllocError, Global};
 use std::process::Abort;

@@ -1,8 +1,8 @@
 //! Documents that are written, by their texts.
 use crate::support::{dag_of, edge, holds, made, node, number};
 use daggy_dag::acyclic::{Dag, StableDag};
+use daggy_document::error::{ReadError, WriteError};
 use daggy_json::documents::{dag_to_json, stable_to_json};
-use daggy_json::error::{ReadError, WriteError};
 use serde_json::Value;
 use std::alloc::{AllocError, Global};
 use std::process::Abort;

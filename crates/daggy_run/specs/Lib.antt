@@ -1,6 +1,4 @@
 pub mod Kinds
-pub mod Requests
-pub mod Answers
 pub mod EdgeLists
 pub mod Steps
 pub mod Runs

@@ -32,6 +32,7 @@ ghost use Rattle.daggy_run.specs.EdgeLists.{AddsAll, IsRefused};
 
 use daggy_base::error::{ChildError, EdgeError, EdgesError, NodeError};
 use daggy_base::index::{EdgeIndex, IndexType, NodeIndex};
+use daggy_commands::command::{Neighbor, NewEdge};
 use daggy_dag::acyclic::TopologicalOrder;
 use std::alloc::AllocError;
 
@@ -47,12 +48,6 @@ pub enum Kind {
     /// It stays vacant, and no other index changes.
     Stable,
 }
-
-/// An edge, and a node that it leads to or comes from.
-pub type Neighbor<Ix> = (EdgeIndex<Ix>, NodeIndex<Ix>);
-
-/// An edge to be added: its parent, its child and its weight.
-pub type NewEdge<E, Ix> = (NodeIndex<Ix>, NodeIndex<Ix>, E);
 
 /// A dag that takes commands. Both kinds do.
 ///

@@ -1,7 +1,6 @@
 //! Lists of commands over a dag of either kind, each with its reply.
 #![tactic(auto)]
 
-pub mod command;
 pub mod guarded;
 pub mod plan;
 pub mod run;

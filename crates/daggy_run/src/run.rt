@@ -1,14 +1,14 @@
 //! A list of commands, carried out in order.
 ghost use Rattle.std.specs.Prelude.{◌≡◌, map, IfOk, IfErr, OnErr};
 ghost use Rattle.daggy_base.specs.Path.{IsAcyclic};
-ghost use Rattle.daggy_run.specs.Requests.{request_of};
-ghost use Rattle.daggy_run.specs.Answers.{answer_of};
+ghost use Rattle.daggy_commands.specs.Requests.{request_of};
+ghost use Rattle.daggy_commands.specs.Answers.{answer_of};
 ghost use Rattle.daggy_run.specs.Runs.{IsRun, IsAsCompact};
 
-use crate::command::{Command, Reply};
 use crate::guarded::GuardedDag;
 use crate::step::perform;
 use daggy_base::index::IndexType;
+use daggy_commands::command::{Command, Reply};
 use std::alloc::Global;
 
 /// Carries out commands in order, and gives one reply to each. A refused command changes nothing,

@@ -31,11 +31,12 @@ ghost use Rattle.daggy_run.specs.declared.guarded.Kind.TheVariants.{Compact, Sta
 ghost use Rattle.daggy_run.specs.Steps.{walk_of};
 ghost use Rattle.daggy_run.specs.EdgeLists.{AddsAll, IsRefused};
 
-use crate::guarded::{GuardedDag, Kind, Neighbor, NewEdge};
+use crate::guarded::{GuardedDag, Kind};
 use daggy_base::error::{ChildError, EdgeError, EdgesError, NodeError};
 use daggy_base::index::{Direction, EdgeIndex, IndexType, NodeIndex};
 use daggy_base::search::EdgeSource;
 use daggy_base::store::Store;
+use daggy_commands::command::{Neighbor, NewEdge};
 use daggy_dag::acyclic::{Acyclic, TopologicalOrder};
 use daggy_graph::graph::DiGraph;
 use daggy_guard::walk;

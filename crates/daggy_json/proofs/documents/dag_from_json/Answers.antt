@@ -1,8 +1,8 @@
 use Rattle.std.proofs.Common.{false, ap, ◌∙◌}
 use Rattle.std.specs.Prelude.{Ok}
-use Rattle.daggy_json.specs.Weight.{ReadsAs}
+use Rattle.daggy_document.specs.Weight.{ReadsAs}
 use Rattle.serde_json.specs.View.{view}
-use Rattle.daggy_json.proofs.RestoredDag.{restored, compact_same, answers_again}
+use Rattle.daggy_document.proofs.RestoredDag.{restored, compact_same, answers_again}
 use Rattle.daggy_json.proofs.documents.dag_from_json.Goals as goal
 
 pub returns-clause-restored : goal.returns-clause-restored

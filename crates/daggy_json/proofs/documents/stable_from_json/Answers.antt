@@ -1,9 +1,9 @@
 use Rattle.std.proofs.Common.{true, sym}
 use Rattle.std.proofs.lemmas.Bool.{false≢true}
-use Rattle.daggy_json.specs.Weight.{ReadsAs}
-use Rattle.daggy_json.specs.Restoring.{trimmed}
+use Rattle.daggy_document.specs.Weight.{ReadsAs}
+use Rattle.daggy_document.specs.Restoring.{trimmed}
 use Rattle.serde_json.specs.View.{view}
-use Rattle.daggy_json.proofs.RestoredDag.{restored, answers_again}
+use Rattle.daggy_document.proofs.RestoredDag.{restored, answers_again}
 use Rattle.daggy_json.proofs.documents.stable_from_json.Goals as goal
 
 pub returns-clause-restored : goal.returns-clause-restored

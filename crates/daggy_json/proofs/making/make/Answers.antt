@@ -3,8 +3,8 @@ use Rattle.std.specs.Prelude.{Err}
 use Rattle.std.specs.Option.{option_map}
 use Rattle.daggy_base.specs.State.{State}
 use Rattle.daggy_base.specs.Orders.{numbers_of}
-use Rattle.daggy_json.proofs.Cycles.{of_some, tested_made, tested_cyclic}
-use Rattle.daggy_json.proofs.GivenSlots.{slots_fit, compact_slots}
+use Rattle.daggy_document.proofs.Cycles.{of_some, tested_made, tested_cyclic}
+use Rattle.daggy_document.proofs.GivenSlots.{slots_fit, compact_slots}
 use Rattle.daggy_json.proofs.making.make.Goals as goal
 
 pub from_slots-requires-clause-makes_graph : goal.from_slots-requires-clause-makes_graph

@@ -1,9 +1,0 @@
--- What is read of a line, as what the line asks.
-use Rattle.daggy.specs.Requests.{request_of}
-use Rattle.dagbench_engine.specs.Commands as line
-use Rattle.dagbench_engine.specs.declared.parse.Asked.{Asked}
-use Rattle.dagbench_engine.specs.declared.parse.Asked.TheVariants.{Command, Document}
-
-abbrev pub asked_of : Asked → line.Asked
-asked_of (Command command) = line.Step (request_of (λ i. i) command)
-asked_of Document = line.Document

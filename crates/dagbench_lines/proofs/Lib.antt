@@ -1,0 +1,8 @@
+pub mod Cuts
+pub mod Digits
+pub mod KeptFront
+pub mod Listed
+pub mod WrittenBytes
+mod Units
+pub mod ListedRoots
+pub mod ParsedLines

@@ -1,0 +1,19 @@
+use Rattle.std.proofs.Common.{ℤ, rules}
+use Rattle.daggy_commands.specs.Requests.{request_of}
+use Rattle.daggy_commands.specs.declared.command.Command.TheVariants.{ClearEdges, Clear}
+use Rattle.dagbench_lines.specs.Cutting.{words_of}
+use Rattle.dagbench_lines.specs.Commands.{removing_by_name}
+use Rattle.dagbench_lines.proofs.ParsedLines.{done_map}
+use Rattle.dagbench_lines.proofs.parse.removing.Goals as goal
+
+pub returns-then-eq-3 : goal.returns-then-eq-3
+unfolding removing_by_name
+returns-then-eq-3 c =
+    let done = done_map (request_of {N = ℤ} {E = ℤ} (λ i. i)) (words_of c.args.rest.now) ClearEdges in
+    rw (c.if_done.ensures, done) (search rules)
+
+pub returns-then-eq-4 : goal.returns-then-eq-4
+unfolding removing_by_name
+returns-then-eq-4 c =
+    let done = done_map (request_of {N = ℤ} {E = ℤ} (λ i. i)) (words_of c.args.rest.now) Clear in
+    rw (c.if_done-then-eq-4.ensures, done) (search rules)

@@ -1,0 +1,9 @@
+pub mod Cutting
+pub mod Numbers
+pub mod Listing
+pub mod Commands
+pub mod Saying
+pub mod Streams
+pub mod Devices
+pub mod Failing
+pub mod Replies

@@ -1,0 +1,58 @@
+-- The texts of answers, without their newline.
+use Rattle.std.specs.Prelude.{ℕ, Option, Some, None, List, [], ◌∷◌, ◌++◌, codes, decimal, ℤ}
+use Rattle.std.specs.List.{flat_map}
+use Rattle.std.specs.Fmt.{signed_decimal}
+use Rattle.daggy_commands.specs.Answers.{Weights, OfEdges, Answer, Node, Edge, EdgeNode, Edges, Found, Ends, NodeGone, EdgeGone}
+use Rattle.daggy_commands.specs.Answers.{Walk, Done, Missing, Full, Cycle, CycleAll, Memory}
+
+abbrev pub node_text : ℕ → List ℕ
+node_text n = codes "n" ++ decimal n
+
+abbrev pub edge_text : ℕ → List ℕ
+edge_text e = codes "e" ++ decimal e
+
+-- the ends of an edge; an edge and the node that it leads to; what had this weight
+abbrev pub ends_text : ℕ × ℕ → List ℕ
+ends_text ends = node_text ends.0 ++ codes " " ++ node_text ends.1
+
+abbrev pub item_text : ℕ × ℕ → List ℕ
+item_text item = edge_text item.0 ++ codes ":" ++ decimal item.1
+
+abbrev pub weight_text : ℤ → List ℕ
+weight_text weight = codes "weight " ++ signed_decimal weight
+
+-- pieces, each behind a space
+abbrev pub spaced : {A : Type 0} → (text : A → List ℕ) → List A → List ℕ
+spaced text xs = flat_map (λ x. codes " " ++ text x) xs
+
+-- pieces parted by spaces, or a dash if there is none
+abbrev pub parted : {A : Type 0} → (text : A → List ℕ) → List A → List ℕ
+parted text [] = codes "-"
+parted text (x ∷ xs) = text x ++ spaced text xs
+
+-- what there is, if there is anything
+abbrev pub if_any : {A : Type 0} → (text : A → List ℕ) → Option A → List ℕ
+if_any text None = codes "none"
+if_any text (Some x) = text x
+
+-- the weights of many edges that are handed back. Other weights are not told
+abbrev pub back_text : Weights ℤ ℤ → List ℕ
+back_text (OfEdges last before) = spaced signed_decimal (last ∷ before)
+back_text other = []
+
+abbrev pub text_of : Answer ℤ ℤ → List ℕ
+text_of (Node n) = node_text n
+text_of (Edge e) = edge_text e
+text_of (EdgeNode e n) = edge_text e ++ codes " " ++ node_text n
+text_of (Edges es) = parted edge_text es
+text_of (Found e) = if_any edge_text e
+text_of (Ends ends) = if_any ends_text ends
+text_of (NodeGone weight) = if_any weight_text weight
+text_of (EdgeGone weight) = if_any weight_text weight
+text_of (Walk items) = parted item_text items
+text_of Done = codes "ok"
+text_of (Missing weights) = codes "missing" ++ back_text weights
+text_of (Full weights) = codes "full" ++ back_text weights
+text_of (Cycle weight) = codes "cycle" ++ spaced signed_decimal (weight ∷ [])
+text_of (CycleAll weights) = codes "cycle" ++ spaced signed_decimal weights
+text_of (Memory weights) = codes "memory" ++ back_text weights

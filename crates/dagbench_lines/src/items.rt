@@ -1,0 +1,73 @@
+//! The edges that a line lists.
+ghost use Rattle.std.specs.Prelude.{◌≡◌, IfOk};
+ghost use Rattle.std.specs.Option.{option_map};
+ghost use Rattle.dagbench_lines.specs.Cutting.{words_of};
+ghost use Rattle.dagbench_lines.specs.Listing.{edges_by_words, first_edge_of};
+
+use crate::words::{first_index, first_weight, first_word, node};
+use daggy_commands::command::NewEdge;
+use std::alloc::{AllocError, Global};
+use std::marker::Model;
+
+/// The edges that a line lists, which are read from its words when a list of them is asked for.
+#[derive(Drop)]
+pub struct Items<'a> {
+    words: &'a [u8],
+}
+
+impl<'a> Model for Items<'a> {
+    ghost use Rattle.std.specs.Prelude.{ℕ, List, [], unwrap_or, IsSome, ℤ};
+    ghost use Rattle.dagbench_lines.specs.Cutting.{words_of};
+    ghost use Rattle.dagbench_lines.specs.Listing.{edges_by_words};
+
+    ghost Value = { List (ℕ × ℕ × ℤ) };
+
+    ghost view = { λ s. unwrap_or (edges_by_words (words_of s.words.now)) [] };
+
+    ghost invariant = { λ s. IsSome (edges_by_words (words_of s.words.now)) };
+}
+
+/// The edge that the first three words say, and what stands behind them.
+#[tactic(auto, unfolding(crate::specs::Listing::first_edge_of))]
+fn first_edge(words: &[u8]) -> Option<((u32, u32, i64), &[u8])>
+    ensures { option_map (λ parts. (parts.0, words_of parts.1.now)) result
+        ≡ first_edge_of (words_of words.now) }
+{
+    let (parent, rest) = first_index(words)?;
+    let (child, rest) = first_index(rest)?;
+    let (weight, rest) = first_weight(rest)?;
+    Some(((parent, child, weight), rest))
+}
+
+fn new_edge(parent: u32, child: u32, weight: i64) -> NewEdge<i64, u32>
+    ensures { result ≡ (parent, child, weight) }
+{
+    (node(parent), node(child), weight)
+}
+
+impl<'a> Items<'a> {
+    /// The edges that these words list, if all of them do.
+    pub fn new(words: &'a [u8]) -> Option<Items<'a>>
+        ensures { result ≡ edges_by_words (words_of words.now) }
+    {
+        let mut rest = words;
+        'edges: while first_word(rest).is_some() {
+            let (_, behind) = first_edge(rest)?;
+            rest = behind;
+        }
+        Some(Items { words })
+    }
+
+    /// The edges in a list.
+    pub fn into_edges(self, alloc: Global) -> Result<Vec<NewEdge<i64, u32>>, AllocError>
+        ensures { IfOk result (λ edges. edges.items ≡ self.entry) }
+    {
+        let mut edges = Vec::new(alloc);
+        let mut rest = self.words;
+        'edges: while let Some(((parent, child, weight), behind)) = first_edge(rest) {
+            edges.push(new_edge(parent, child, weight))?;
+            rest = behind;
+        }
+        Ok(edges)
+    }
+}

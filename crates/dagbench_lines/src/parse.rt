@@ -1,0 +1,232 @@
+//! What a line says.
+ghost use Rattle.std.specs.Prelude.{◌≡◌, IfOk, OnErr, IsSomeAnd};
+ghost use Rattle.std.specs.Option.{option_map};
+ghost use Rattle.daggy_commands.specs.Requests.{request_of};
+ghost use Rattle.dagbench_lines.specs.Cutting.{words_of};
+ghost use Rattle.dagbench_lines.specs.Saying.{asked_of};
+ghost use Rattle.dagbench_lines.specs.Commands.{asked_in, asked_by_words, document_by_name, Step};
+ghost use Rattle.dagbench_lines.specs.Commands.{TakesRoom, listing_by_name, single_by_name};
+ghost use Rattle.dagbench_lines.specs.Commands.{adding_by_name, removing_by_name, asking_by_name};
+ghost use Rattle.dagbench_lines.specs.Commands.{if_done as if_done_of};
+ghost use Rattle.dagbench_lines.specs.Commands.{weight_alone as weight_alone_of};
+ghost use Rattle.dagbench_lines.specs.Commands.{index_alone as index_alone_of};
+ghost use Rattle.dagbench_lines.specs.Commands.{two_indices as two_indices_of};
+ghost use Rattle.dagbench_lines.specs.Commands.{ends_and_weight as ends_and_weight_of};
+ghost use Rattle.dagbench_lines.specs.Commands.{index_and_weights as index_and_weights_of};
+
+use crate::items::Items;
+use crate::roots::Roots;
+use crate::words::{edge, first_index, first_weight, first_word, node};
+use daggy_commands::command::Command;
+use std::alloc::{AllocError, Global};
+
+/// The most bytes of a line that can be a command, its newline not counted.
+pub const LONGEST_LINE: usize = 4096;
+
+/// What a line asks.
+#[derive(Drop)]
+pub enum Asked {
+    /// That a command is carried out.
+    Command(Command<i64, i64, u32>),
+    /// The document of the dag.
+    Document,
+}
+
+/// What a line asks, or `None` if it asks nothing.
+///
+/// The error says that there was no room for the list that a command holds.
+#[tactic(auto, unfolding(crate::specs::Commands::asked_in))]
+pub fn parse(alloc: Global, line: &[u8]) -> Result<Option<Asked>, AllocError>
+    ensures asked { IfOk result (λ asked. option_map asked_of asked ≡ asked_in line.now) }
+    ensures no_room { OnErr result (IsSomeAnd (asked_in line.now) TakesRoom) }
+{
+    if LONGEST_LINE < line.len() {
+        return Ok(None);
+    }
+    by_words(alloc, line)
+}
+
+fn by_words(alloc: Global, line: &[u8]) -> Result<Option<Asked>, AllocError>
+    ensures asked { IfOk result (λ asked.
+        option_map asked_of asked ≡ asked_by_words (words_of line.now)) }
+    ensures no_room { OnErr result (IsSomeAnd (asked_by_words (words_of line.now)) TakesRoom) }
+{
+    let Some((name, rest)) = first_word(line) else {
+        return Ok(None);
+    };
+    if let Some(command) = single(name, rest) {
+        return Ok(Some(Asked::Command(command)));
+    }
+    match listing(alloc, name, rest)? {
+        Some(command) => Ok(Some(Asked::Command(command))),
+        None => Ok(document(name, rest)),
+    }
+}
+
+fn document(name: &[u8], rest: &[u8]) -> Option<Asked>
+    ensures { option_map asked_of result ≡ document_by_name name.now (words_of rest.now) }
+{
+    if name == b"json".as_slice() {
+        if_done(rest, Asked::Document)
+    } else {
+        None
+    }
+}
+
+#[tactic(auto, unfolding(crate::specs::Commands::listing_by_name))]
+fn listing(
+    alloc: Global,
+    name: &[u8],
+    rest: &[u8],
+) -> Result<Option<Command<i64, i64, u32>>, AllocError>
+    ensures said { IfOk result (λ command. option_map (request_of (λ i. i)) command
+        ≡ listing_by_name name.now (words_of rest.now)) }
+    ensures no_room { OnErr result (IsSomeAnd (listing_by_name name.now (words_of rest.now))
+        (λ request. TakesRoom (Step request))) }
+{
+    if name == b"edges".as_slice() {
+        let Some(items) = Items::new(rest) else {
+            return Ok(None);
+        };
+        Ok(Some(Command::Edges(items.into_edges(alloc)?)))
+    } else if name == b"reduce".as_slice() {
+        let Some(roots) = Roots::new(rest) else {
+            return Ok(None);
+        };
+        Ok(Some(Command::Reduce(roots.into_nodes(alloc)?)))
+    } else {
+        Ok(None)
+    }
+}
+
+fn single(name: &[u8], rest: &[u8]) -> Option<Command<i64, i64, u32>>
+    ensures { option_map (request_of (λ i. i)) result
+        ≡ single_by_name name.now (words_of rest.now) }
+{
+    let adding = adding(name, rest);
+    if adding.is_some() {
+        return adding;
+    }
+    let removing = removing(name, rest);
+    if removing.is_some() {
+        return removing;
+    }
+    asking(name, rest)
+}
+
+#[tactic(auto, unfolding(crate::specs::Commands::adding_by_name))]
+fn adding(name: &[u8], rest: &[u8]) -> Option<Command<i64, i64, u32>>
+    ensures { option_map (request_of (λ i. i)) result
+        ≡ adding_by_name name.now (words_of rest.now) }
+{
+    if name == b"node".as_slice() {
+        Some(Command::Node(weight_alone(rest)?))
+    } else if name == b"edge".as_slice() {
+        let (parent, child, weight) = ends_and_weight(rest)?;
+        Some(Command::Edge(node(parent), node(child), weight))
+    } else if name == b"update".as_slice() {
+        let (parent, child, weight) = ends_and_weight(rest)?;
+        Some(Command::Update(node(parent), node(child), weight))
+    } else if name == b"child".as_slice() {
+        let (parent, edge, weight) = index_and_weights(rest)?;
+        Some(Command::Child(node(parent), edge, weight))
+    } else if name == b"parent".as_slice() {
+        let (child, edge, weight) = index_and_weights(rest)?;
+        Some(Command::Parent(node(child), edge, weight))
+    } else {
+        None
+    }
+}
+
+#[tactic(auto, unfolding(crate::specs::Commands::removing_by_name))]
+fn removing(name: &[u8], rest: &[u8]) -> Option<Command<i64, i64, u32>>
+    ensures { option_map (request_of (λ i. i)) result
+        ≡ removing_by_name name.now (words_of rest.now) }
+{
+    if name == b"rmnode".as_slice() {
+        Some(Command::RemoveNode(node(index_alone(rest)?)))
+    } else if name == b"rmedge".as_slice() {
+        Some(Command::RemoveEdge(edge(index_alone(rest)?)))
+    } else if name == b"clearedges".as_slice() {
+        if_done(rest, Command::ClearEdges)
+    } else if name == b"clear".as_slice() {
+        if_done(rest, Command::Clear)
+    } else {
+        None
+    }
+}
+
+#[tactic(auto, unfolding(crate::specs::Commands::asking_by_name))]
+fn asking(name: &[u8], rest: &[u8]) -> Option<Command<i64, i64, u32>>
+    ensures { option_map (request_of (λ i. i)) result
+        ≡ asking_by_name name.now (words_of rest.now) }
+{
+    if name == b"find".as_slice() {
+        let (parent, child) = two_indices(rest)?;
+        Some(Command::Find(node(parent), node(child)))
+    } else if name == b"ends".as_slice() {
+        Some(Command::Ends(edge(index_alone(rest)?)))
+    } else if name == b"children".as_slice() {
+        Some(Command::Children(node(index_alone(rest)?)))
+    } else if name == b"parents".as_slice() {
+        Some(Command::Parents(node(index_alone(rest)?)))
+    } else {
+        None
+    }
+}
+
+// x, if the line has no word.
+fn if_done<T: Drop>(line: &[u8], x: T) -> Option<T>
+    ensures { result ≡ if_done_of (words_of line.now) x }
+{
+    if first_word(line).is_none() {
+        Some(x)
+    } else {
+        None
+    }
+}
+
+#[tactic(auto, unfolding(crate::specs::Commands::weight_alone))]
+fn weight_alone(line: &[u8]) -> Option<i64>
+    ensures { result ≡ weight_alone_of (words_of line.now) }
+{
+    let (weight, rest) = first_weight(line)?;
+    if_done(rest, weight)
+}
+
+#[tactic(auto, unfolding(crate::specs::Commands::index_alone))]
+fn index_alone(line: &[u8]) -> Option<u32>
+    ensures { result ≡ index_alone_of (words_of line.now) }
+{
+    let (index, rest) = first_index(line)?;
+    if_done(rest, index)
+}
+
+#[tactic(auto, unfolding(crate::specs::Commands::two_indices))]
+fn two_indices(line: &[u8]) -> Option<(u32, u32)>
+    ensures { result ≡ two_indices_of (words_of line.now) }
+{
+    let (first, rest) = first_index(line)?;
+    let (second, rest) = first_index(rest)?;
+    if_done(rest, (first, second))
+}
+
+#[tactic(auto, unfolding(crate::specs::Commands::ends_and_weight))]
+fn ends_and_weight(line: &[u8]) -> Option<(u32, u32, i64)>
+    ensures { result ≡ ends_and_weight_of (words_of line.now) }
+{
+    let (parent, rest) = first_index(line)?;
+    let (child, rest) = first_index(rest)?;
+    let (weight, rest) = first_weight(rest)?;
+    if_done(rest, (parent, child, weight))
+}
+
+#[tactic(auto, unfolding(crate::specs::Commands::index_and_weights))]
+fn index_and_weights(line: &[u8]) -> Option<(u32, i64, i64)>
+    ensures { result ≡ index_and_weights_of (words_of line.now) }
+{
+    let (index, rest) = first_index(line)?;
+    let (edge, rest) = first_weight(rest)?;
+    let (node, rest) = first_weight(rest)?;
+    if_done(rest, (index, edge, node))
+}

@@ -1,0 +1,54 @@
+//! The nodes that a line lists.
+ghost use Rattle.std.specs.Prelude.{◌≡◌, IfOk};
+ghost use Rattle.dagbench_lines.specs.Cutting.{words_of};
+ghost use Rattle.dagbench_lines.specs.Listing.{indices_by_words};
+
+use crate::words::{first_index, first_word, node};
+use daggy_base::index::NodeIndex;
+use std::alloc::{AllocError, Global};
+use std::marker::Model;
+
+/// The nodes that a line lists, which are read from its words when a list of them is asked for.
+#[derive(Drop)]
+pub struct Roots<'a> {
+    words: &'a [u8],
+}
+
+impl<'a> Model for Roots<'a> {
+    ghost use Rattle.std.specs.Prelude.{ℕ, List, [], unwrap_or, IsSome};
+    ghost use Rattle.dagbench_lines.specs.Cutting.{words_of};
+    ghost use Rattle.dagbench_lines.specs.Listing.{indices_by_words};
+
+    ghost Value = { List ℕ };
+
+    ghost view = { λ s. unwrap_or (indices_by_words (words_of s.words.now)) [] };
+
+    ghost invariant = { λ s. IsSome (indices_by_words (words_of s.words.now)) };
+}
+
+impl<'a> Roots<'a> {
+    /// The nodes that these words list, if all of them do.
+    pub fn new(words: &'a [u8]) -> Option<Roots<'a>>
+        ensures { result ≡ indices_by_words (words_of words.now) }
+    {
+        let mut rest = words;
+        'roots: while first_word(rest).is_some() {
+            let (_, behind) = first_index(rest)?;
+            rest = behind;
+        }
+        Some(Roots { words })
+    }
+
+    /// The nodes in a list.
+    pub fn into_nodes(self, alloc: Global) -> Result<Vec<NodeIndex<u32>>, AllocError>
+        ensures { IfOk result (λ nodes. nodes.items ≡ self.entry) }
+    {
+        let mut nodes = Vec::new(alloc);
+        let mut rest = self.words;
+        'roots: while let Some((n, behind)) = first_index(rest) {
+            nodes.push(node(n))?;
+            rest = behind;
+        }
+        Ok(nodes)
+    }
+}

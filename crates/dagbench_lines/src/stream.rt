@@ -1,0 +1,41 @@
+//! What the engine reads from and writes to.
+ghost use Rattle.std.specs.Prelude.{◌≡◌, ℕ, ◌<◌, ◌^◌, Bool, List, length, OnOk};
+ghost use Rattle.dagbench_lines.specs.Streams.{CountsFaults, Appends, Gives, MeetsEnd};
+
+/// A device failed in a call.
+#[derive(Clone, Copy, Debug, PartialEq, Eq)]
+pub struct Fault;
+
+/// What bytes are read from.
+pub trait Source {
+    /// The bytes given so far.
+    ghost given: { Self → List ℕ };
+
+    /// Whether the end was met.
+    ghost is_ended: { Self → Bool };
+
+    /// How many calls failed so far.
+    ghost failures: { Self → ℕ };
+
+    /// Reads bytes to the front of the buffer and gives their number, 0 only at the end or where
+    /// there is no room. A source has fewer than 2^64 bytes.
+    fn read(&mut self, buffer: &mut [u8]) -> Result<usize, Fault>
+        ensures bytes { Gives result (given self.old) (given self.new) buffer.new }
+        ensures few { OnOk result (length (given self.new) < 2 ^ 64) }
+        ensures end { MeetsEnd result (is_ended self.old) (is_ended self.new) buffer.new }
+        ensures counted { CountsFaults result (failures self.old) (failures self.new) };
+}
+
+/// What bytes are written to.
+pub trait Sink {
+    /// The bytes taken so far.
+    ghost taken: { Self → List ℕ };
+
+    /// How many calls failed so far.
+    ghost failures: { Self → ℕ };
+
+    /// Writes all the bytes. How many of them went out before a fault isn't said.
+    fn put(&mut self, bytes: &[u8]) -> Result<(), Fault>
+        ensures bytes { Appends result (taken self.old) (taken self.new) bytes.now }
+        ensures counted { CountsFaults result (failures self.old) (failures self.new) };
+}

@@ -1,0 +1,8 @@
+//! What a value is read as.
+mod entries;
+pub mod gathering;
+mod layout;
+mod orders;
+mod parts;
+mod rearranged;
+mod weights;
