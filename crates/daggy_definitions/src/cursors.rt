@@ -3,8 +3,8 @@ ghost use Rattle.std.specs.Prelude.{◌≡◌};
 ghost use Rattle.daggy_base.specs.State.{with_graph};
 ghost use Rattle.daggy_definitions.specs.Cursors.{with_all_nodes};
 
-use daggy::Dag;
-use daggy::index::IndexType;
+use daggy_base::index::IndexType;
+use daggy_dag::acyclic::Dag;
 
 /// Writes 0 to the weight of each node.
 pub fn clear_weights<E: Drop, Ix: IndexType>(dag: &mut Dag<u32, E, Ix>)

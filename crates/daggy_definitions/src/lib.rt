@@ -4,3 +4,4 @@
 pub mod cursors;
 pub mod definitions;
 pub mod round;
+pub mod seen;

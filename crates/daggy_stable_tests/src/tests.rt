@@ -7,5 +7,4 @@ mod keeping;
 mod ordering;
 mod support;
 mod visiting;
-mod walking;
 mod writing;

@@ -19,5 +19,4 @@ mod support;
 mod table;
 mod two_weights;
 mod visiting;
-mod walking;
 mod writing;

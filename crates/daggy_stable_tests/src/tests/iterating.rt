@@ -65,16 +65,6 @@ fn lists_are_gone_through(rt: HostRuntime) {
 }
 
 #[test]
-fn roots_and_leaves_are_found(rt: HostRuntime) {
-    let mut dag = triangle(&rt, rt.alloc());
-    let out = Direction::Outgoing;
-    gives(&rt, dag.externals(out.opposite()).map(index), &[0]);
-    gives(&rt, dag.externals(out).map(index), &[2]);
-    same(&rt, dag.remove_node(NodeIndex::new(0)), Some(10));
-    gives(&rt, dag.externals(out.opposite()).map(index), &[1]);
-}
-
-#[test]
 fn a_dag_is_printed_by_its_counts(rt: HostRuntime) {
     let dag = triangle(&rt, rt.alloc());
     let text = made(&rt, format!(in rt.alloc(); "{dag:?}"));

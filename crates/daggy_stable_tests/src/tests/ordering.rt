@@ -1,7 +1,6 @@
 //! The order of its nodes that a dag keeps, where its edges allow but one.
-use super::support::{Plain, dag_of, made, node, same};
-use daggy::stable_dag::StableDag;
-use daggy::{Dag, EdgeIndex, NodeIndex};
+use super::support::{Plain, dag_of, made, same};
+use daggy::NodeIndex;
 use std::alloc::Global;
 use std::process::Abort;
 
@@ -35,28 +34,4 @@ fn a_part_is_ordered_alike(rt: HostRuntime) {
     ordered(&rt, &part, &[3, 2, 1]);
     same(&rt, dag.remove_node(NodeIndex::new(3)), Some(13));
     ordered(&rt, &dag, &[2, 1, 0]);
-}
-
-#[test]
-fn a_long_series_is_sorted_at_its_end(rt: HostRuntime) {
-    let mut dag = dag_of(
-        &rt,
-        rt.alloc(),
-        &[0, 1, 2, 3, 4, 5, 6, 7, 8],
-        &[(5, 4, 1), (1, 2, 1)],
-    );
-    same(&rt, dag.remove_node(NodeIndex::new(5)), Some(5));
-    same(&rt, dag.remove_edge(EdgeIndex::new(1)), Some(1));
-    let mut items = Vec::new(rt.alloc());
-    for weight in 0..40 {
-        made(
-            &rt,
-            items.push((NodeIndex::new(0), NodeIndex::new(1), weight)),
-        );
-    }
-    for (a, b) in [(2, 0), (3, 2), (4, 3), (6, 4), (7, 6), (8, 7)] {
-        made(&rt, items.push((node(&rt, a), node(&rt, b), 50)));
-    }
-    same(&rt, made(&rt, dag.add_edges(items)).len(), 46);
-    ordered(&rt, &dag, &[8, 7, 6, 4, 3, 2, 0, 1]);
 }

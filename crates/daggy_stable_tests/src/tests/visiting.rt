@@ -1,8 +1,5 @@
 use super::support::{Plain, add_edge, add_node, four, holds, made, same, triangle};
-use daggy::visit::{
-    DataMap, DataMapMut, GetAdjacencyMatrix, GraphProp, NodeCount, NodeIndexable, VisitMap,
-    Visitable,
-};
+use daggy::visit::{GetAdjacencyMatrix, NodeIndexable, VisitMap, Visitable};
 use daggy::{EdgeIndex, NodeIndex};
 use std::process::Abort;
 
@@ -50,22 +47,4 @@ fn bounds_end_with_the_last_in_use(rt: HostRuntime) {
     same(&rt, dag.remove_node(NodeIndex::new(2)), Some(12));
     same(&rt, (dag.node_bound(), dag.graph().edge_bound()), (1, 0));
     same(&rt, add_node(&rt, &mut dag, 5).index(), 2);
-}
-
-#[test]
-fn a_dag_is_read_and_written_by_its_traits(rt: HostRuntime) {
-    let mut dag = triangle(&rt, rt.alloc());
-    holds(&rt, dag.is_directed());
-    same(&rt, NodeCount::node_count(&dag), 3);
-    let c: NodeIndex = dag.from_index(2);
-    same(&rt, dag.to_index(c), 2);
-    same(&rt, DataMap::node_weight(&dag, c).copied(), Some(12));
-    if let Some(weight) = DataMapMut::edge_weight_mut(&mut dag, EdgeIndex::new(0)) {
-        *weight = 7;
-    }
-    same(
-        &rt,
-        DataMap::edge_weight(&dag, EdgeIndex::new(0)).copied(),
-        Some(7),
-    );
 }

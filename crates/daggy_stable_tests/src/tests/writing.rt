@@ -1,37 +1,8 @@
 //! Weights that are written: one in place, or two at once.
-use super::support::{Plain, add_edge, add_node, dag_of, holds, same, shape, triangle};
+use super::support::{Plain, add_edge, add_node, dag_of, holds, same, shape};
 use daggy::{EdgeIndex, NodeIndex};
 use std::alloc::Global;
 use std::process::Abort;
-
-#[test]
-fn weights_are_written_in_their_slots(rt: HostRuntime) {
-    let mut dag = triangle(&rt, rt.alloc());
-    same(&rt, dag.remove_node(NodeIndex::new(1)), Some(11));
-    holds(&rt, dag.node_weight_mut(NodeIndex::new(1)).is_none());
-    if let Some(weight) = dag.node_weight_mut(NodeIndex::new(2)) {
-        *weight = 1;
-    }
-    if let Some(weight) = dag.edge_weight_mut(EdgeIndex::new(2)) {
-        *weight = 2;
-    }
-    shape(&rt, dag.graph(), &[(0, 10), (2, 1)], &[(2, 0, 2, 2)]);
-}
-
-#[test]
-fn weights_are_read_and_written_by_index(rt: HostRuntime) {
-    let mut dag = triangle(&rt, rt.alloc());
-    same(&rt, dag.remove_node(NodeIndex::new(1)), Some(11));
-    let (n, e) = (NodeIndex::new(0), EdgeIndex::new(2));
-    holds(&rt, dag.contains_node(n));
-    dag[n] = 3;
-    same(&rt, dag[n], 3);
-    holds(&rt, dag.graph().contains_edge(e));
-    dag[e] = 4;
-    holds(&rt, dag.graph().contains_edge(e));
-    same(&rt, dag[e], 4);
-    same(&rt, dag.edge_endpoints(e), Some((n, NodeIndex::new(2))));
-}
 
 fn raised(x: &mut u32, y: &mut u32) -> u32 {
     let before = *x;

@@ -1,6 +1,6 @@
 //! In which order the closures of a call are called, and how often.
 use super::support::{Plain, dag_of, made, refuse_edge, same, shape};
-use daggy::NodeIndex;
+use daggy_base::index::NodeIndex;
 use std::alloc::Global;
 use std::cell::Cell;
 use std::process::Abort;

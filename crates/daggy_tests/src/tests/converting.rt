@@ -1,13 +1,6 @@
-use super::support::{connect, dag_of, same, shape};
-use daggy::NodeIndex;
-use daggy::graph::DiGraph;
-
-#[test]
-fn a_dag_lends_its_graph(rt: HostRuntime) {
-    let dag = dag_of(&rt, rt.alloc(), &[1, 3], &[(0, 1, 2)]);
-    shape(&rt, dag.graph(), &[1, 3], &[(0, 1, 2)]);
-    same(&rt, dag.graph().raw_nodes().len(), 2);
-}
+use super::support::{connect, dag_of, shape};
+use daggy_base::index::NodeIndex;
+use daggy_graph::graph::DiGraph;
 
 #[test]
 fn a_graph_that_was_a_dag_may_hold_cycles(rt: HostRuntime) {

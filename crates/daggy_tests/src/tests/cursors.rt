@@ -1,5 +1,5 @@
 use super::support::{Plain, add_child, add_edge, add_node, same};
-use daggy::EdgeIndex;
+use daggy_base::index::EdgeIndex;
 use daggy_definitions::cursors::clear_weights;
 
 #[test]

@@ -1,5 +1,6 @@
 use super::support::{closes_cycle, holds};
-use daggy::{Dag, Walker};
+use daggy_dag::acyclic::Dag;
+use daggy_walk::walker::Walker;
 use std::test::Fail;
 
 #[test]

@@ -1,11 +1,10 @@
-use super::table::{Answer, Call, Scene, act};
-use daggy::graph::DiGraph;
-use daggy::index::IndexType;
+use super::table::{Answer, Call, Scene, compact_by};
+use daggy_base::index::IndexType;
 use std::alloc::Global;
 use std::process::Abort;
 
 fn joins_two_nodes<Ix: IndexType>(rt: &impl Abort, alloc: Global) {
-    act::<Ix, DiGraph<u32, u32, Ix>>(
+    compact_by::<Ix>(
         rt,
         alloc,
         Scene::Rows(&[

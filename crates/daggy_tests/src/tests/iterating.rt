@@ -1,8 +1,9 @@
 //! Iterators over all of a graph and over the lists of a node, of the dag.
 use super::support::{dag_of, gives, holds, same};
-use daggy::NodeIndex;
-use daggy::graph::{EdgeReference, NodeReferences};
-use daggy::index::Direction;
+use super::table::{Answer, Call, Scene, both, stable};
+use daggy_base::index::{Direction, NodeIndex};
+use daggy_cells::reference::EdgeReference;
+use daggy_graph::graph::iterators::NodeReferences;
 use std::process::Abort;
 
 type Line = (usize, usize, usize, u32);
@@ -68,15 +69,36 @@ fn lists_of_a_dag_are_gone_through(rt: HostRuntime) {
 
 #[test]
 fn roots_and_leaves_are_found(rt: HostRuntime) {
-    let mut dag = dag_of(&rt, rt.alloc(), &[10, 11, 12], &EDGES);
-    gives(&rt, dag.externals(Direction::Incoming).map(index), &[0]);
-    gives(&rt, dag.externals(Direction::Outgoing).map(index), &[2]);
-    dag.clear_edges();
-    gives(
+    let roots = Direction::Outgoing.opposite();
+    let leaves = Direction::Outgoing;
+    both(
         &rt,
-        dag.externals(Direction::Incoming).map(index),
-        &[0, 1, 2],
+        rt.alloc(),
+        Scene::OfPairs(
+            &[(0, 1), (0, 2), (1, 2)],
+            &[
+                (Call::Externals(roots), Answer::Nodes(&[0])),
+                (Call::Externals(leaves), Answer::Nodes(&[2])),
+                (Call::ClearEdges, Answer::Done),
+                (Call::Externals(roots), Answer::Nodes(&[0, 1, 2])),
+                (Call::Clear, Answer::Done),
+                (Call::Externals(roots), Answer::Nodes(&[])),
+            ],
+        ),
     );
-    dag.clear();
-    gives(&rt, dag.externals(Direction::Incoming).map(index), &[]);
+}
+
+#[test]
+fn a_vacant_slot_is_no_root(rt: HostRuntime) {
+    stable(
+        &rt,
+        rt.alloc(),
+        Scene::OfPairs(
+            &[(0, 1), (0, 2), (1, 2)],
+            &[
+                (Call::RemoveNode(0), Answer::Weight(0)),
+                (Call::Externals(Direction::Incoming), Answer::Nodes(&[1])),
+            ],
+        ),
+    );
 }

@@ -1,7 +1,12 @@
 //! Many edges or elements at once, in both kinds.
-use super::support::{Plain, add_edge, add_node, closes_cycle, counts, made, node, same};
-use super::table::{Answer, Call, Part, Scene, both};
-use daggy::{Dag, EdgeError, EdgesError, NodeIndex, Walker};
+use super::ordering::indices;
+use super::support::{Plain, add_node, closes_cycle, counts, made, node, same};
+use super::table::{Answer, Call, Part, Scene, both, edge_added, is, node_added, play_row};
+use daggy_base::error::{EdgeError, EdgesError};
+use daggy_base::index::{IndexType, NodeIndex};
+use daggy_base::store::Store;
+use daggy_dag::acyclic::{Acyclic, Dag};
+use daggy_walk::walker::Walker;
 use std::alloc::Global;
 use std::process::Abort;
 
@@ -229,36 +234,60 @@ const ENDS: [(usize, usize); 26] = [
     (1, 5),
 ];
 
-fn ten_nodes(rt: &impl Abort, alloc: Global) -> Plain {
-    let mut dag: Plain = made(rt, Dag::with_capacity(alloc, 10, 26));
-    for weight in 0..10 {
-        add_node(rt, &mut dag, weight);
+fn ten_nodes<Ix: IndexType, S: Store<Ix, NodeWeight = u32, EdgeWeight = u32>>(
+    rt: &impl Abort,
+    dag: &mut Acyclic<u32, u32, Ix, S>,
+) {
+    for n in 0..10 {
+        is(rt, node_added(rt, dag, 0), Answer::Node(n));
     }
-    dag
+}
+
+/// The edges of a sorted list, added one by one to one dag and all at once to another, lead to the
+/// same lists.
+pub fn add_sorted_list<Ix: IndexType, S: Store<Ix, NodeWeight = u32, EdgeWeight = u32>>(
+    rt: &impl Abort,
+    alloc: Global,
+    one_by_one: &mut Acyclic<u32, u32, Ix, S>,
+) {
+    ten_nodes(rt, one_by_one);
+    let mut all = Vec::new(alloc);
+    let mut count = 0usize;
+    for (a, b) in ENDS {
+        is(
+            rt,
+            edge_added(rt, one_by_one, (a, b), 0),
+            Answer::Edge(count),
+        );
+        made(rt, all.push((a, b, 0)));
+        count = count.wrapping_add(1);
+    }
+    let mut at_once: Acyclic<u32, u32, Ix, S> = Acyclic::new(alloc);
+    ten_nodes(rt, &mut at_once);
+    let added = indices(rt, alloc, &[], 0, count);
+    play_row(
+        rt,
+        alloc,
+        &mut at_once,
+        Call::Edges(all.as_slice()),
+        Answer::Edges(added.as_slice()),
+    );
+    for n in 0..10 {
+        let mut walk = Vec::new(alloc);
+        for (e, child) in one_by_one.children(node(rt, n)).iter(one_by_one) {
+            made(rt, walk.push((e.index(), child.index())));
+        }
+        play_row(
+            rt,
+            alloc,
+            &mut at_once,
+            Call::Children(n),
+            Answer::Walk(walk.as_slice()),
+        );
+    }
 }
 
 #[test]
 fn each_edge_of_a_sorted_list_is_accepted(rt: HostRuntime) {
-    let mut one_by_one = ten_nodes(&rt, rt.alloc());
-    let mut items = Vec::new(rt.alloc());
-    for (a, b) in ENDS {
-        let (a, b): (NodeIndex, NodeIndex) = (node(&rt, a), node(&rt, b));
-        add_edge(&rt, &mut one_by_one, a, b, 0);
-        made(&rt, items.push((a, b, 0)));
-    }
-    let mut at_once = ten_nodes(&rt, rt.alloc());
-    same(&rt, made(&rt, at_once.add_edges(items)).len(), 26);
-    counts(&rt, &one_by_one, 10, 26);
-    for x in 0..10 {
-        let n = NodeIndex::new(x);
-        let mut found = at_once.children(n);
-        let mut wanted = one_by_one.children(n);
-        for _ in 0..11 {
-            same(
-                &rt,
-                found.walk_next(&at_once),
-                wanted.walk_next(&one_by_one),
-            );
-        }
-    }
+    both(&rt, rt.alloc(), Scene::SortedList);
 }

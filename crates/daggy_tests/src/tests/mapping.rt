@@ -3,7 +3,8 @@ use super::support::{
     Plain, add_edge, add_node, children, counts, dag_of, holds, made, parents, refuse_edge, same,
     shape,
 };
-use daggy::{Dag, EdgeIndex, NodeIndex};
+use daggy_base::index::{EdgeIndex, NodeIndex};
+use daggy_dag::acyclic::Dag;
 use std::alloc::Global;
 use std::process::Abort;
 

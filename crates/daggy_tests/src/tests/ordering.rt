@@ -1,8 +1,7 @@
 //! The order of its nodes that a dag keeps, where its edges allow but one.
 use super::support::{Plain, made, same};
 use super::table::{Answer, Call, Scene, both, compact, play, play_row, stable};
-use daggy::NodeIndex;
-use daggy::index::IndexType;
+use daggy_base::index::{IndexType, NodeIndex};
 use daggy_base::store::Store;
 use daggy_dag::acyclic::Acyclic;
 use std::alloc::Global;
@@ -110,10 +109,19 @@ fn long_path(rt: &impl Abort, alloc: Global) -> Vec<(usize, usize, u32)> {
     path
 }
 
-// The indices that the path gets in a dag of nodes alone.
-fn indices(rt: &impl Abort, alloc: Global) -> Vec<usize> {
+/// These indices, and all from `from` to `end` behind them.
+pub fn indices(
+    rt: &impl Abort,
+    alloc: Global,
+    first: &[usize],
+    from: usize,
+    end: usize,
+) -> Vec<usize> {
     let mut indices = Vec::new(alloc);
-    for index in 0..46 {
+    for index in first {
+        made(rt, indices.push(*index));
+    }
+    for index in from..end {
         made(rt, indices.push(index));
     }
     indices
@@ -149,7 +157,7 @@ pub fn sort_long_series<Ix: IndexType, S: Store<Ix, NodeWeight = u32, EdgeWeight
     dag: &mut Acyclic<u32, u32, Ix, S>,
 ) {
     let path = long_path(rt, alloc);
-    let added = indices(rt, alloc);
+    let added = indices(rt, alloc, &[], 0, 46);
     let back = weights_back(rt, alloc);
     let (path, added, back) = (path.as_slice(), added.as_slice(), back.as_slice());
     eight_nodes(rt, alloc, dag);
@@ -162,7 +170,34 @@ pub fn sort_long_series<Ix: IndexType, S: Store<Ix, NodeWeight = u32, EdgeWeight
     play_row(rt, alloc, dag, Call::Order, wanted);
 }
 
+/// A long series over a dag in which a slot of a node is vacant, and one of an edge.
+pub fn sort_round_vacant_slots<Ix: IndexType, S: Store<Ix, NodeWeight = u32, EdgeWeight = u32>>(
+    rt: &impl Abort,
+    alloc: Global,
+    dag: &mut Acyclic<u32, u32, Ix, S>,
+) {
+    eight_nodes(rt, alloc, dag);
+    play_row(rt, alloc, dag, Call::Node(0), Answer::Node(8));
+    play_row(rt, alloc, dag, Call::Edge(5, 4, 1), Answer::Edge(0));
+    play_row(rt, alloc, dag, Call::Edge(1, 2, 1), Answer::Edge(1));
+    play_row(rt, alloc, dag, Call::RemoveNode(5), Answer::Weight(0));
+    play_row(rt, alloc, dag, Call::RemoveEdge(1), Answer::Weight(1));
+    let mut path = Vec::new(alloc);
+    for weight in 0..40 {
+        made(rt, path.push((0, 1, weight)));
+    }
+    for (a, b) in [(2, 0), (3, 2), (4, 3), (6, 4), (7, 6), (8, 7)] {
+        made(rt, path.push((a, b, 50)));
+    }
+    let added = indices(rt, alloc, &[1, 0], 2, 46);
+    let (path, added) = (path.as_slice(), added.as_slice());
+    play_row(rt, alloc, dag, Call::Edges(path), Answer::Edges(added));
+    let wanted = Answer::Nodes(&[8, 7, 6, 4, 3, 2, 0, 1]);
+    play_row(rt, alloc, dag, Call::Order, wanted);
+}
+
 #[test]
 fn a_long_series_is_sorted_at_its_end(rt: HostRuntime) {
     both(&rt, rt.alloc(), Scene::LongSeries);
+    stable(&rt, rt.alloc(), Scene::RoundVacantSlots);
 }

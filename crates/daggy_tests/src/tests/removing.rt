@@ -1,8 +1,7 @@
 //! Removals from a compact dag, and what both kinds answer afterwards.
-use super::support::{add_edge, dag_of, holds, same};
+use super::support::{dag_of, holds, same};
 use super::table::{Answer, Call, Scene, both, compact};
-use daggy::index::Direction;
-use daggy::{EdgeIndex, NodeIndex, Walker};
+use daggy_base::index::{Direction, EdgeIndex, NodeIndex};
 
 #[test]
 fn removing_a_node_moves_the_last_one(rt: HostRuntime) {
@@ -118,17 +117,4 @@ fn stored_slices_follow_a_removal(rt: HostRuntime) {
     same(&rt, nodes[1].next_edge(incoming), EdgeIndex::end());
     same(&rt, edges[0].next_edge(incoming), EdgeIndex::new(1));
     same(&rt, edges[0].source(), NodeIndex::new(1));
-}
-
-#[test]
-fn a_walker_outlives_the_edge_that_it_names(rt: HostRuntime) {
-    let edges = [(0, 1, 0), (0, 2, 1)];
-    let mut dag = dag_of(&rt, rt.alloc(), &[10, 20, 30], &edges);
-    let (a, b, c) = (NodeIndex::new(0), NodeIndex::new(1), NodeIndex::new(2));
-    let mut walker = dag.children(a);
-    same(&rt, dag.remove_edge(EdgeIndex::new(1)), Some(1));
-    same(&rt, walker.walk_next(&dag), None);
-    same(&rt, add_edge(&rt, &mut dag, b, c, 9).index(), 1);
-    same(&rt, walker.walk_next(&dag), Some((EdgeIndex::new(1), c)));
-    same(&rt, walker.walk_next(&dag), None);
 }

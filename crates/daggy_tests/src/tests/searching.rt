@@ -1,6 +1,6 @@
 use super::support::{holds, made};
-use daggy::NodeIndex;
-use daggy::search::{EdgeSource, Scratch, reaches};
+use daggy_base::index::NodeIndex;
+use daggy_base::search::{EdgeSource, Scratch, reaches};
 use daggy_definitions::round::Round;
 use std::process::Abort;
 

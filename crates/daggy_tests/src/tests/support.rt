@@ -4,9 +4,11 @@
 ghost use Rattle.std.specs.Prelude.{◌≡◌, IsTrue, Ok};
 ghost use Rattle.std.specs.Iterator.{IsFinite};
 
-use daggy::graph::DiGraph;
-use daggy::index::IndexType;
-use daggy::{ChildError, Dag, EdgeError, EdgeIndex, NodeIndex, Walker};
+use daggy_base::error::{ChildError, EdgeError};
+use daggy_base::index::{EdgeIndex, IndexType, NodeIndex};
+use daggy_dag::acyclic::Dag;
+use daggy_graph::graph::DiGraph;
+use daggy_walk::walker::Walker;
 use std::alloc::Global;
 use std::fmt::Debug;
 use std::process::Abort;

@@ -2,14 +2,18 @@
 //! loop.
 //!
 //! A test is proved too, and a call costs it more than a row, so the calls stand here alone.
-use super::ordering::sort_long_series;
+use super::large::{search_dense_graph, search_long_chain};
+use super::many_edges::add_sorted_list;
+use super::ordering::{sort_long_series, sort_round_vacant_slots};
 use super::support::{holds, made, node};
-use daggy::graph::{DiGraph, Element};
-use daggy::index::IndexType;
-use daggy::stable_graph::StableDiGraph;
-use daggy::{EdgeError, EdgeIndex, EdgesError, ElementError, NodeIndex, Walker, WouldCycle};
+use daggy_base::element::Element;
+use daggy_base::error::{EdgeError, EdgesError, ElementError, WouldCycle};
+use daggy_base::index::{Direction, EdgeIndex, IndexType, NodeIndex};
 use daggy_base::store::Store;
 use daggy_dag::acyclic::Acyclic;
+use daggy_graph::graph::DiGraph;
+use daggy_stable::stable_graph::StableDiGraph;
+use daggy_walk::walker::Walker;
 use std::alloc::Global;
 use std::process::Abort;
 
@@ -33,7 +37,14 @@ pub enum Call<'a> {
     Find(usize, usize),
     Children(usize),
     Parents(usize),
+    Externals(Direction),
     Order,
+    // Writes a weight where it is lent, if there is such a node or edge.
+    LendNode(usize, u32),
+    LendEdge(usize, u32),
+    // Writes and reads a weight by its index.
+    IndexNode(usize, u32),
+    IndexEdge(usize, u32),
 }
 
 /// What a call answers.
@@ -61,7 +72,8 @@ pub enum Answer<'a> {
 /// A row of a table.
 pub type Row<'a> = (Call<'a>, Answer<'a>);
 
-fn is(rt: &impl Abort, found: Answer<'_>, wanted: Answer<'_>) {
+/// Asserts what was answered.
+pub fn is(rt: &impl Abort, found: Answer<'_>, wanted: Answer<'_>) {
     assert_eq!(rt; found, wanted);
 }
 
@@ -97,7 +109,8 @@ fn of_weight(weight: Option<u32>) -> Answer<'static> {
     }
 }
 
-fn node_added<Ix: IndexType, S: Store<Ix, NodeWeight = u32, EdgeWeight = u32>>(
+/// Adds a node.
+pub fn node_added<Ix: IndexType, S: Store<Ix, NodeWeight = u32, EdgeWeight = u32>>(
     rt: &impl Abort,
     dag: &mut Acyclic<u32, u32, Ix, S>,
     weight: u32,
@@ -106,7 +119,8 @@ fn node_added<Ix: IndexType, S: Store<Ix, NodeWeight = u32, EdgeWeight = u32>>(
     Answer::Node(made(rt, dag.add_node(weight)).index())
 }
 
-fn edge_added<Ix: IndexType, S: Store<Ix, NodeWeight = u32, EdgeWeight = u32>>(
+/// Adds an edge if it closes no cycle.
+pub fn edge_added<Ix: IndexType, S: Store<Ix, NodeWeight = u32, EdgeWeight = u32>>(
     rt: &impl Abort,
     dag: &mut Acyclic<u32, u32, Ix, S>,
     ends: (usize, usize),
@@ -274,6 +288,91 @@ fn is_ordered<Ix: IndexType, S: Store<Ix, NodeWeight = u32, EdgeWeight = u32>>(
     is(rt, Answer::Nodes(nodes.as_slice()), wanted);
 }
 
+fn are_external<Ix: IndexType, S: Store<Ix, NodeWeight = u32, EdgeWeight = u32>>(
+    rt: &impl Abort,
+    alloc: Global,
+    dag: &Acyclic<u32, u32, Ix, S>,
+    dir: Direction,
+    wanted: Answer<'_>,
+) {
+    let mut nodes = Vec::new(alloc);
+    for n in dag.externals(dir) {
+        made(rt, nodes.push(n.index()));
+    }
+    is(rt, Answer::Nodes(nodes.as_slice()), wanted);
+}
+
+fn node_lent<Ix: IndexType, S: Store<Ix, NodeWeight = u32, EdgeWeight = u32>>(
+    rt: &impl Abort,
+    dag: &mut Acyclic<u32, u32, Ix, S>,
+    n: usize,
+    written: u32,
+) -> Answer<'static> {
+    match dag.node_weight_mut(node(rt, n)) {
+        Some(weight) => {
+            *weight = written;
+            Answer::Done
+        }
+        None => Answer::Nothing,
+    }
+}
+
+fn edge_lent<Ix: IndexType, S: Store<Ix, NodeWeight = u32, EdgeWeight = u32>>(
+    rt: &impl Abort,
+    dag: &mut Acyclic<u32, u32, Ix, S>,
+    e: usize,
+    written: u32,
+) -> Answer<'static> {
+    match dag.edge_weight_mut(edge(rt, e)) {
+        Some(weight) => {
+            *weight = written;
+            Answer::Done
+        }
+        None => Answer::Nothing,
+    }
+}
+
+fn node_indexed<Ix: IndexType, S: Store<Ix, NodeWeight = u32, EdgeWeight = u32>>(
+    rt: &impl Abort,
+    dag: &mut Acyclic<u32, u32, Ix, S>,
+    n: usize,
+    written: u32,
+) -> Answer<'static> {
+    let n = node(rt, n);
+    assert!(rt; dag.contains_node(n));
+    dag[n] = written;
+    assert!(rt; dag.contains_node(n));
+    Answer::Weight(dag[n])
+}
+
+fn edge_indexed<Ix: IndexType, S: Store<Ix, NodeWeight = u32, EdgeWeight = u32>>(
+    rt: &impl Abort,
+    dag: &mut Acyclic<u32, u32, Ix, S>,
+    e: usize,
+    written: u32,
+) -> Answer<'static> {
+    let e = edge(rt, e);
+    assert!(rt; dag.edge_weight(e).is_some());
+    dag[e] = written;
+    assert!(rt; dag.edge_weight(e).is_some());
+    Answer::Weight(dag[e])
+}
+
+// The answer of a call that writes a weight.
+fn write<Ix: IndexType, S: Store<Ix, NodeWeight = u32, EdgeWeight = u32>>(
+    rt: &impl Abort,
+    dag: &mut Acyclic<u32, u32, Ix, S>,
+    call: Call<'_>,
+) -> Answer<'static> {
+    match call {
+        Call::LendNode(n, weight) => node_lent(rt, dag, n, weight),
+        Call::LendEdge(e, weight) => edge_lent(rt, dag, e, weight),
+        Call::IndexNode(n, weight) => node_indexed(rt, dag, n, weight),
+        Call::IndexEdge(e, weight) => edge_indexed(rt, dag, e, weight),
+        _ => ask(rt, dag, call),
+    }
+}
+
 // The answer of a call that adds one thing, or removes some.
 fn change<Ix: IndexType, S: Store<Ix, NodeWeight = u32, EdgeWeight = u32>>(
     rt: &impl Abort,
@@ -296,7 +395,7 @@ fn change<Ix: IndexType, S: Store<Ix, NodeWeight = u32, EdgeWeight = u32>>(
             dag.clear();
             Answer::Done
         }
-        _ => ask(rt, dag, call),
+        _ => write(rt, dag, call),
     }
 }
 
@@ -331,6 +430,7 @@ pub fn play_row<Ix: IndexType, S: Store<Ix, NodeWeight = u32, EdgeWeight = u32>>
         Call::Extend(edges) => is(rt, extended(rt, alloc, dag, edges), wanted),
         Call::Children(n) => is_walk_of_children(rt, alloc, dag, n, wanted),
         Call::Parents(n) => is_walk_of_parents(rt, alloc, dag, n, wanted),
+        Call::Externals(dir) => are_external(rt, alloc, dag, dir, wanted),
         Call::Order => is_ordered(rt, alloc, dag, wanted),
         _ => is(rt, change(rt, dag, call), wanted),
     }
@@ -364,10 +464,18 @@ pub enum Scene<'a> {
     OfParts(&'a [Part], Answer<'a>, &'a [Row<'a>]),
     /// A long series comes back, and is added.
     LongSeries,
+    /// A long series is added to a dag with vacant slots.
+    RoundVacantSlots,
+    /// The edges of a sorted list are added one by one, and all at once.
+    SortedList,
+    /// Cycles are looked for along a path of so many nodes, one less than the greatest index.
+    LongChain,
+    /// Cycles are looked for in a graph with many edges.
+    DenseGraph,
 }
 
-/// Acts with a dag over such a store.
-pub fn act<Ix: IndexType, S: Store<Ix, NodeWeight = u32, EdgeWeight = u32>>(
+// Acts with a dag over such a store.
+fn act<Ix: IndexType, S: Store<Ix, NodeWeight = u32, EdgeWeight = u32>>(
     rt: &impl Abort,
     alloc: Global,
     scene: Scene<'_>,
@@ -390,12 +498,21 @@ pub fn act<Ix: IndexType, S: Store<Ix, NodeWeight = u32, EdgeWeight = u32>>(
         }
         Scene::OfParts(parts, wanted, rows) => of_parts(rt, alloc, dag, parts, wanted, rows),
         Scene::LongSeries => sort_long_series(rt, alloc, &mut dag),
+        Scene::RoundVacantSlots => sort_round_vacant_slots(rt, alloc, &mut dag),
+        Scene::SortedList => add_sorted_list(rt, alloc, &mut dag),
+        Scene::LongChain => search_long_chain(rt, &mut dag),
+        Scene::DenseGraph => search_dense_graph(rt, &mut dag),
     }
+}
+
+/// Acts with a compact dag that has indices of this type.
+pub fn compact_by<Ix: IndexType>(rt: &impl Abort, alloc: Global, scene: Scene<'_>) {
+    act::<Ix, DiGraph<u32, u32, Ix>>(rt, alloc, scene);
 }
 
 /// Acts with a compact dag that has few indices.
 pub fn compact(rt: &impl Abort, alloc: Global, scene: Scene<'_>) {
-    act::<u8, DiGraph<u32, u32, u8>>(rt, alloc, scene);
+    compact_by::<u8>(rt, alloc, scene);
 }
 
 /// Acts with a stable dag that has few indices.

@@ -1,6 +1,6 @@
 //! Two weights that are written at once.
 use super::support::{dag_of, holds, same, shape};
-use daggy::{EdgeIndex, NodeIndex};
+use daggy_base::index::{EdgeIndex, NodeIndex};
 use std::mem;
 
 #[test]

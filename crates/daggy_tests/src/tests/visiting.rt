@@ -1,44 +1,16 @@
-use super::support::{Plain, add_edge, add_node, dag_of, holds, made, same, shape, shows};
-use daggy::visit::{
+use super::support::{Plain, add_node, dag_of, holds, made, same, shape, shows};
+use daggy_base::index::{EdgeIndex, NodeIndex};
+use daggy_dag::acyclic::Dag;
+use daggy_walk::visit::{
     Data, DataMap, DataMapMut, GetAdjacencyMatrix, GraphBase, GraphProp, NodeCompactIndexable,
     NodeCount, NodeIndexable, VisitMap, Visitable,
 };
-use daggy::{Dag, EdgeIndex, NodeIndex};
 use std::alloc::{AllocError, Global};
 use std::process::Abort;
 
 // Nodes of weights 10, 20 and 30, and an edge of weight 5 from the first to the second.
 fn three_nodes(rt: &impl Abort, alloc: Global) -> Plain {
     dag_of(rt, alloc, &[10, 20, 30], &[(0, 1, 5)])
-}
-
-#[test]
-fn a_matrix_has_the_pairs_of_its_time(rt: HostRuntime) {
-    let mut dag = three_nodes(&rt, rt.alloc());
-    let (a, b, c) = (NodeIndex::new(0), NodeIndex::new(1), NodeIndex::new(2));
-    let before = made(&rt, dag.adjacency_matrix());
-    add_edge(&rt, &mut dag, b, c, 6);
-    holds(&rt, dag.is_adjacent(&before, a, b));
-    holds(&rt, !dag.is_adjacent(&before, b, c));
-    holds(&rt, !dag.is_adjacent(&before, b, a));
-    holds(&rt, !dag.is_adjacent(&before, a, NodeIndex::new(9)));
-    let after = made(&rt, dag.adjacency_matrix());
-    holds(&rt, dag.is_adjacent(&after, a, b));
-    holds(&rt, dag.is_adjacent(&after, b, c));
-    holds(&rt, !dag.is_adjacent(&after, a, c));
-}
-
-#[test]
-fn a_set_is_visited_and_emptied(rt: HostRuntime) {
-    let dag = dag_of(&rt, rt.alloc(), &[10, 20], &[]);
-    let mut map = made(&rt, dag.visit_map());
-    holds(&rt, dag.node_bound() == 2);
-    holds(&rt, map.visit(NodeIndex::new(1)));
-    holds(&rt, !map.visit(NodeIndex::new(1)));
-    holds(&rt, !map.is_visited(NodeIndex::new(0)));
-    holds(&rt, !map.is_visited(NodeIndex::new(7)));
-    made(&rt, dag.reset_map(&mut map));
-    holds(&rt, map.visit(NodeIndex::new(1)));
 }
 
 #[test]
@@ -62,31 +34,6 @@ fn a_set_and_a_matrix_show_their_bounds(rt: HostRuntime) {
     shows(&rt, rt.alloc(), &map, "NodeSet { bound: 3, .. }");
     let matrix = made(&rt, dag.adjacency_matrix());
     shows(&rt, rt.alloc(), &matrix, "AdjMatrix { bound: 3, .. }");
-}
-
-#[test]
-fn a_dag_is_read_by_its_traits(rt: HostRuntime) {
-    let dag = three_nodes(&rt, rt.alloc());
-    let (n, e) = (NodeIndex::new(1), EdgeIndex::new(0));
-    same(&rt, NodeCount::node_count(&dag), 3);
-    holds(&rt, dag.is_directed());
-    same(&rt, dag.node_bound(), 3);
-    same(&rt, dag.to_index(n), 1);
-    same(&rt, dag.from_index(2), NodeIndex::new(2));
-    same(&rt, DataMap::node_weight(&dag, n).copied(), Some(20));
-    same(&rt, DataMap::edge_weight(&dag, e).copied(), Some(5));
-}
-
-#[test]
-fn a_dag_is_written_by_its_traits(rt: HostRuntime) {
-    let mut dag = three_nodes(&rt, rt.alloc());
-    if let Some(weight) = DataMapMut::node_weight_mut(&mut dag, NodeIndex::new(1)) {
-        *weight = 21;
-    }
-    if let Some(weight) = DataMapMut::edge_weight_mut(&mut dag, EdgeIndex::new(0)) {
-        *weight = 6;
-    }
-    shape(&rt, dag.graph(), &[10, 21, 30], &[(0, 1, 6)]);
 }
 
 fn twice<G: GraphBase>(n: G::NodeId, e: G::EdgeId) -> ([G::NodeId; 2], [G::EdgeId; 2]) {

@@ -1,31 +1,59 @@
 //! Weights that are read and written in place.
-use super::support::{dag_of, holds, same, shape};
-use daggy::{EdgeIndex, NodeIndex};
+use super::table::{Answer, Call, Scene, both, stable};
 
 #[test]
-fn weights_are_written_in_place(rt: HostRuntime) {
-    let mut dag = dag_of(&rt, rt.alloc(), &[1, 3], &[(0, 1, 2)]);
-    if let Some(weight) = dag.node_weight_mut(NodeIndex::new(1)) {
-        *weight = 30;
-    }
-    if let Some(weight) = dag.edge_weight_mut(EdgeIndex::new(0)) {
-        *weight = 20;
-    }
-    shape(&rt, dag.graph(), &[1, 30], &[(0, 1, 20)]);
-    holds(&rt, dag.node_weight_mut(NodeIndex::new(2)).is_none());
-    holds(&rt, dag.edge_weight_mut(EdgeIndex::new(1)).is_none());
+fn weights_are_written_where_they_are_lent(rt: HostRuntime) {
+    both(
+        &rt,
+        rt.alloc(),
+        Scene::Rows(&[
+            (Call::Node(1), Answer::Node(0)),
+            (Call::Child(0, 2, 3), Answer::EdgeNode(0, 1)),
+            (Call::LendNode(1, 30), Answer::Done),
+            (Call::LendEdge(0, 20), Answer::Done),
+            (Call::LendNode(2, 40), Answer::Nothing),
+            (Call::LendEdge(1, 40), Answer::Nothing),
+            (Call::Weight(0), Answer::Weight(1)),
+            (Call::Weight(1), Answer::Weight(30)),
+            (Call::Stored(0), Answer::Stored(0, 1, 20)),
+        ]),
+    );
 }
 
 #[test]
 fn weights_are_read_and_written_by_index(rt: HostRuntime) {
-    let mut dag = dag_of(&rt, rt.alloc(), &[1, 30], &[(0, 1, 20)]);
-    let (root, child, edge) = (NodeIndex::new(0), NodeIndex::new(1), EdgeIndex::new(0));
-    holds(&rt, dag.node_weight(child).is_some());
-    same(&rt, dag[child], 30);
-    holds(&rt, dag.edge_weight(edge).is_some());
-    same(&rt, dag[edge], 20);
-    dag[edge] = 200;
-    holds(&rt, dag.node_weight(root).is_some());
-    dag[root] = 100;
-    shape(&rt, dag.graph(), &[100, 30], &[(0, 1, 200)]);
+    both(
+        &rt,
+        rt.alloc(),
+        Scene::Rows(&[
+            (Call::Node(1), Answer::Node(0)),
+            (Call::Child(0, 2, 3), Answer::EdgeNode(0, 1)),
+            (Call::IndexNode(0, 100), Answer::Weight(100)),
+            (Call::IndexEdge(0, 200), Answer::Weight(200)),
+            (Call::Weight(0), Answer::Weight(100)),
+            (Call::Weight(1), Answer::Weight(3)),
+            (Call::Stored(0), Answer::Stored(0, 1, 200)),
+        ]),
+    );
+}
+
+#[test]
+fn a_vacant_slot_lends_no_weight(rt: HostRuntime) {
+    stable(
+        &rt,
+        rt.alloc(),
+        Scene::Rows(&[
+            (Call::Node(10), Answer::Node(0)),
+            (Call::Child(0, 100, 11), Answer::EdgeNode(0, 1)),
+            (Call::Child(0, 101, 12), Answer::EdgeNode(1, 2)),
+            (Call::RemoveNode(1), Answer::Weight(11)),
+            (Call::LendNode(1, 1), Answer::Nothing),
+            (Call::LendEdge(0, 1), Answer::Nothing),
+            (Call::LendNode(2, 1), Answer::Done),
+            (Call::LendEdge(1, 2), Answer::Done),
+            (Call::IndexNode(0, 3), Answer::Weight(3)),
+            (Call::Weight(2), Answer::Weight(1)),
+            (Call::Stored(1), Answer::Stored(0, 2, 2)),
+        ]),
+    );
 }

@@ -34,11 +34,29 @@ fn begun<S: Store<u32, NodeWeight = u32, EdgeWeight = u32>>(
     dag_of(rt, alloc, 3, &[(0, 1), (0, 2)])
 }
 
+// A walk over the children of a node that had none when it was begun has ended. One that is begun
+// after an edge was added gives it, and a copy of it does so too.
+fn begun_before_and_after<S: Store<u32, NodeWeight = u32, EdgeWeight = u32>>(
+    rt: &impl Abort,
+    alloc: Global,
+) {
+    let mut dag: Plain<S> = dag_of(rt, alloc, 2, &[]);
+    let mut early = dag.children(node(rt, 0));
+    add_edge(rt, &mut dag, 0, 1);
+    let mut late = dag.children(node(rt, 0));
+    let mut again = late;
+    goes(rt, &dag, &mut early, &[None]);
+    goes(rt, &dag, &mut late, &[Some(1), None, None]);
+    goes(rt, &dag, &mut again, &[Some(1)]);
+}
+
 pub fn stale<S: Store<u32, NodeWeight = u32, EdgeWeight = u32>>(rt: &impl Abort, alloc: Global) {
     let dag: Plain<S> = begun(rt, alloc);
     let w = dag.children(node(rt, 0));
     let z = dag.children(node(rt, 1));
     let later = [None, Some(2), None];
+    over_an_edge_that_changes::<S, _>(rt, begun(rt, alloc), w, later);
+    begun_before_and_after::<S>(rt, alloc);
     over_an_edge_that_changes(rt, dag, Peekable::new(w), later);
     over_an_edge_that_changes::<S, _>(rt, begun(rt, alloc), Take::new(w, 1), [None, None, None]);
     over_an_edge_that_changes::<S, _>(rt, begun(rt, alloc), Chain::new(w, z), [None, None, None]);

@@ -3,7 +3,7 @@ use Rattle.daggy_base.specs.Graph.{out_list}
 use Rattle.daggy_base.specs.declared.index.Direction.TheVariants.{Outgoing}
 use Rattle.daggy_walk.specs.Parts.{iter_walker, iter_graph}
 use Rattle.daggy_dag.specs.Walks.{rest_of_walk}
-use Rattle.daggy_walk_tests.proofs.seen.edges_to_children.Given as goal
+use Rattle.daggy_definitions.proofs.seen.edges_to_children.Given as goal
 
 abbrev pub invariant-loop-step : goal.invariant-loop-step
 invariant-loop-step g l =

@@ -36,18 +36,6 @@ pub fn has_later_parent<N: Drop, E: Drop, Ix: IndexType>(
     false
 }
 
-/// The sum of the indices of the children of a node.
-pub fn sum_of_children<N: Drop, E: Drop, Ix: IndexType>(
-    dag: &Dag<N, E, Ix>,
-    n: NodeIndex<Ix>,
-) -> usize {
-    let mut sum = 0usize;
-    for (_, child) in dag.children(n).iter(dag) {
-        sum = sum.wrapping_add(child.index());
-    }
-    sum
-}
-
 /// How many edges lead to children of a node.
 pub fn number_of_children<N: Drop, E: Drop, Ix: IndexType>(
     dag: &Dag<N, E, Ix>,
