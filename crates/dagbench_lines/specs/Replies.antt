@@ -2,7 +2,8 @@
 use Rattle.std.specs.Prelude.{ℕ, Option, Some, None, List, [], ◌∷◌, ◌++◌, codes, decimal, ℤ}
 use Rattle.std.specs.List.{flat_map}
 use Rattle.std.specs.Fmt.{signed_decimal}
-use Rattle.daggy_commands.specs.Answers.{Weights, OfEdges, Answer, Node, Edge, EdgeNode, Edges, Found, Ends, NodeGone, EdgeGone}
+use Rattle.daggy_commands.specs.Answers.{Weights, OfEdges, Answer, Node, Edge, EdgeNode, Edges, Found, Ends, NodeGone}
+use Rattle.daggy_commands.specs.Answers.{EdgeGone}
 use Rattle.daggy_commands.specs.Answers.{Walk, Done, Missing, Full, Cycle, CycleAll, Memory}
 
 abbrev pub node_text : ℕ → List ℕ

@@ -1,7 +1,7 @@
 //! Lines of commands and of replies, and the devices that they come from and go to.
 //!
-//! [`parse`](parse::parse) reads a line as a command, and [`put_reply`](reply::put_reply) writes the text
-//! of a reply. What is read and written goes through a [`Source`](stream::Source) and a
+//! [`parse`](parse::parse) reads a line as a command, and [`put_reply`](reply::put_reply) writes
+//! the text of a reply. What is read and written goes through a [`Source`](stream::Source) and a
 //! [`Sink`](stream::Sink).
 #![tactic(auto)]
 

@@ -4,7 +4,8 @@ ghost use Rattle.std.specs.List.{AllZip};
 ghost use Rattle.serde_json.specs.View.{view};
 ghost use Rattle.daggy_base.specs.Graph.{edge_at, edge_bound, list_at};
 ghost use Rattle.daggy_base.specs.Iterating.{node_identifiers, node_weights};
-ghost use Rattle.daggy_document.specs.Document.{whole, listed, document_of, holes_of, row_of, IsEntry};
+ghost use Rattle.daggy_document.specs.Document.{whole, listed, document_of, holes_of, row_of};
+ghost use Rattle.daggy_document.specs.Document.{IsEntry};
 ghost use Rattle.daggy_document.specs.Document.{IsDocumentOf};
 ghost use Rattle.daggy_document.specs.Weight.{WritesAs};
 

@@ -12,7 +12,8 @@ use Rattle.daggy_guard.specs.EdgeBatch.{NewEdge, with_edges, HasEnds, IsFaultles
 use Rattle.daggy_run.specs.EdgeLists.{StopsAt}
 use Rattle.daggy_commands.specs.Requests as request
 use Rattle.daggy_commands.specs.Requests.{Request}
-use Rattle.daggy_commands.specs.Answers.{Answer, Node, Edge, EdgeNode, Edges, Found, Ends, Walk, Done, Missing, Full, Cycle}
+use Rattle.daggy_commands.specs.Answers.{Answer, Node, Edge, EdgeNode, Edges, Found, Ends, Walk, Done, Missing, Full}
+use Rattle.daggy_commands.specs.Answers.{Cycle}
 use Rattle.daggy_commands.specs.Answers.{CycleAll, Memory, OfNode, OfEdge, OfEdgeNode, OfEdges}
 use Rattle.daggy_run.specs.Steps.{IsStep, IsEdgeStep, IsUpdateStep, IsNeighborStep, IsBatchStep}
 use Rattle.daggy_run.specs.Runs.{IsRun, IsForBothKinds, FindsMemory, IsAsCompact}

@@ -2,6 +2,7 @@
 //! should, and in which order closures are called.
 
 mod calling;
+mod example;
 mod iterating;
 mod keeping;
 mod ordering;

@@ -5,7 +5,6 @@ mod adding;
 mod calling;
 mod converting;
 mod cursors;
-mod example;
 mod indices;
 mod iterating;
 mod large;

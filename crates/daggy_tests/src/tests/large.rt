@@ -30,7 +30,8 @@ pub fn search_long_chain<Ix: IndexType, S: Store<Ix, NodeWeight = u32, EdgeWeigh
     refuse_edges(rt, dag, (9_999, 0));
 }
 
-/// An edge from the last of 300 nodes to the first, with edges from about half of all nodes to each.
+/// An edge from the last of 300 nodes to the first, with edges to each from about half of those
+/// before it.
 pub fn search_dense_graph<Ix: IndexType, S: Store<Ix, NodeWeight = u32, EdgeWeight = u32>>(
     rt: &impl Abort,
     dag: &mut Acyclic<u32, u32, Ix, S>,

@@ -6,7 +6,8 @@ use Rattle.std.proofs.lemmas.Result.{err_from_is_err_and}
 use Rattle.serde_json.specs.View.{view}
 use Rattle.daggy_document.specs.Found.{edge_of}
 use Rattle.daggy_document.specs.Weight.{ReadsAs}
-use Rattle.daggy_document.proofs.ComposedStages.{nodes_fault, entry_fault, orders_fault, is_read, placed_long, ends_exist}
+use Rattle.daggy_document.proofs.ComposedStages.{nodes_fault, entry_fault, orders_fault, is_read, placed_long}
+use Rattle.daggy_document.proofs.ComposedStages.{ends_exist}
 use Rattle.daggy_document.proofs.ComposedStages.{full_entries}
 use Rattle.daggy_document.proofs.reading.gathering.gather.Goals as goal
 

@@ -5,7 +5,8 @@ use Rattle.std.proofs.lemmas.List.{length-map}
 use Rattle.daggy_base.specs.FromSlots.{has_end}
 use Rattle.daggy_base.specs.Orders.{numbers_of}
 use Rattle.daggy_document.specs.Found.{edge_of, chosen, Marked}
-use Rattle.daggy_document.proofs.MarkedLists.{lists_skipped, lists_passed, lists_wrong, lists_whole, read_twice, same_read}
+use Rattle.daggy_document.proofs.MarkedLists.{lists_skipped, lists_passed, lists_wrong, lists_whole, read_twice}
+use Rattle.daggy_document.proofs.MarkedLists.{same_read}
 use Rattle.daggy_document.proofs.reading.rearranged.mark_lists.Goals as goal
 use Rattle.daggy_document.proofs.reading.rearranged.mark_lists.Goals.{then-passed-len-via-then-passed-len}
 use Rattle.daggy_document.proofs.reading.rearranged.mark_lists.Goals.{

@@ -1,8 +1,10 @@
 use Rattle.std.proofs.Common.{◌≡◌, ◌<◌, None, length, get_or, sym, ap, ◌∙◌, arith, rules}
 use Rattle.std.proofs.lemmas.List.{get_or_read}
 use Rattle.std.specs.Vec.Iter.{into_iter_items}
-use Rattle.daggy_document.proofs.PlacedSlots.{none_left, counted_on, starts_at, hole_placed, weight_placed, placed_whole}
+use Rattle.daggy_document.proofs.PlacedSlots.{none_left, counted_on, starts_at, hole_placed, weight_placed}
+use Rattle.daggy_document.proofs.PlacedSlots.{placed_whole}
 use Rattle.daggy_document.proofs.reading.weights.place_weights.Goals as goal
+use Rattle.daggy_document.proofs.reading.weights.place_weights.Goals.{}
 use Rattle.daggy_document.proofs.reading.weights.place_weights.Goals.{else-passed-len-via-then-passed-len+else-index-len}
 use Rattle.daggy_document.proofs.reading.weights.place_weights.Goals.{else-passed-len-via-else-passed-len}
 

@@ -1,6 +1,6 @@
+//! The first example of the README, by the names that users have.
 use super::support::{closes_cycle, holds};
-use daggy_dag::acyclic::Dag;
-use daggy_walk::walker::Walker;
+use daggy::{Dag, Walker};
 use std::test::Fail;
 
 #[test]
