@@ -96,18 +96,34 @@ made_none : (vacant : List ℕ) → vacant ≡ [] → IsTrue (is_slot_made vacan
 made_none [] h = refl
 made_none (v ∷ vs) h = absurd cc
 
+-- what the loop of `roll_back` begins with: the graph before the batch, and the items, indices and slots of the batch
+pub record Start (N E : Type 0) : Type 0 where
+  pub graph : Graph N E
+  pub items : List (NewEdge E)
+  pub edges : List ℕ
+  pub slots : ℕ
+  pub looks : ℕ
+
+-- what the loop has so far: the graph, how many edges are left in it, and the weights of the edges that were taken back
+pub record Progress (N E : Type 0) : Type 0 where
+  pub graph : Graph N E
+  pub left : ℕ
+  pub weights : List E
+  pub weights_held : ℕ
+  pub capacity : ℕ
+  pub looks : ℕ
+
 -- the loop of `roll_back`: the edges of the first `left` items are there
-pub record Rolling {N E : Type 0} (limit : ℕ) (kind : Kind) (before now : Graph N E) (xs : List (NewEdge E))
-    (edges : List ℕ) (slots left : ℕ) (weights : List E) (len capacity looks₀ looks : ℕ) : Type 0 where
-  pub within : left ≤ length xs
-  pub graph_is : now ≡ with_edges before (take left xs)
-  pub returned : weights ≡ reverse (drop left (map (λ (x : NewEdge E). x.2) xs))
-  pub weights_fit : len + left ≤ capacity
-  pub uncounted : looks ≡ looks₀
-  pub indices_are : edges ≡ new_edges before xs
-  pub well_formed : (k : ℕ) → k < length xs → IsWellFormed limit (with_edges before (take k xs))
-  pub compact : kind ≡ Compact → before.vacant_edges ≡ []
-  pub slot_count_is : slots ≡ length before.edges
+pub record Rolling {N E : Type 0} (limit : ℕ) (kind : Kind) (start : Start N E) (now : Progress N E) : Type 0 where
+  pub within : now.left ≤ length start.items
+  pub graph_is : now.graph ≡ with_edges start.graph (take now.left start.items)
+  pub returned : now.weights ≡ reverse (drop now.left (map (λ (x : NewEdge E). x.2) start.items))
+  pub weights_fit : now.weights_held + now.left ≤ now.capacity
+  pub uncounted : now.looks ≡ start.looks
+  pub indices_are : start.edges ≡ new_edges start.graph start.items
+  pub well_formed : (k : ℕ) → k < length start.items → IsWellFormed limit (with_edges start.graph (take k start.items))
+  pub compact : kind ≡ Compact → start.graph.vacant_edges ≡ []
+  pub slot_count_is : start.slots ≡ length start.graph.edges
 
 length-new_edges : {N E : Type 0} (g : Graph N E) (xs : List (NewEdge E)) → length (new_edges g xs) ≡ length xs
 length-new_edges g [] = refl
@@ -129,70 +145,70 @@ drop_none : {A : Type 0} (xs : List A) → drop 0 xs ≡ xs
 drop_none [] = refl
 drop_none (x ∷ xs) = refl
 
-pub rolling_starts : {N E : Type 0} {limit : ℕ} {kind : Kind} {before now : Graph N E} {xs : List (NewEdge E)}
-    {edges : List ℕ} {slots : ℕ}
-    → IsBatchSoFar limit kind before now xs edges slots
-    → (left : ℕ) (weights : List E) (len capacity looks : ℕ) → left ≡ length edges → weights ≡ []
-    → len + length edges ≤ capacity → Rolling limit kind before now xs edges slots left weights len capacity looks looks
-rolling_starts {N} {E} {limit} {kind} {before} {now} {xs} {edges} {slots} s left weights len capacity looks all empty
-    weights_fit =
-    let many : left ≡ length xs = all ∙ ap length s.indices_are ∙ length-new_edges before xs in
+pub rolling_starts : {N E : Type 0} {limit : ℕ} {kind : Kind} {start : Start N E} {now : Progress N E}
+    → IsBatchSoFar limit kind start.graph now.graph start.items start.edges start.slots
+    → now.left ≡ length start.edges → now.weights ≡ [] → now.weights_held + length start.edges ≤ now.capacity
+    → now.looks ≡ start.looks → Rolling limit kind start now
+rolling_starts {N} {E} {limit} {kind} {start} {now} s all empty weights_fit uncounted =
+    let xs = start.items in
+    let many : now.left ≡ length xs = all ∙ ap length s.indices_are ∙ length-new_edges start.graph xs in
     record {
       within = omega (arith, many);
-      graph_is = s.now_is ∙ ap (with_edges before) (sym (ap (λ k. take k xs) many ∙ take_all xs));
+      graph_is = s.now_is ∙ ap (with_edges start.graph) (sym (ap (λ k. take k xs) many ∙ take_all xs));
       returned =
           empty
           ∙ ap reverse
           (sym (ap (λ k. drop k (map (λ (x : NewEdge E). x.2) xs)) many ∙ drop_all (λ (x : NewEdge E). x.2) xs));
       weights_fit = omega (arith, weights_fit, all);
-      uncounted = refl;
+      uncounted = uncounted;
       indices_are = s.indices_are;
       well_formed = s.well_formed;
       compact = s.compact;
       slot_count_is = s.slot_count_is;
     }
 
-module _ {N E : Type 0} {limit : ℕ} {kind : Kind} {before now : Graph N E} {xs : List (NewEdge E)} {edges : List ℕ}
-    {slots left : ℕ} {weights : List E} {len capacity looks₀ looks : ℕ}
-    (s : Rolling limit kind before now xs edges slots left weights len capacity looks₀ looks) where
-  pub rolled_graph : left ≡ 0 → now ≡ before
-  rolled_graph none = s.graph_is ∙ ap (λ k. with_edges before (take k xs)) none ∙ ap (with_edges before) (take_none xs)
+module _ {N E : Type 0} {limit : ℕ} {kind : Kind} {start : Start N E} {now : Progress N E}
+    (s : Rolling limit kind start now) where
+  pub rolled_graph : now.left ≡ 0 → now.graph ≡ start.graph
+  rolled_graph none =
+      s.graph_is ∙ ap (λ k. with_edges start.graph (take k start.items)) none
+      ∙ ap (with_edges start.graph) (take_none start.items)
 
-  pub rolled_weights : left ≡ 0 → weights ≡ reverse (map (λ (x : NewEdge E). x.2) xs)
+  pub rolled_weights : now.left ≡ 0 → now.weights ≡ reverse (map (λ (x : NewEdge E). x.2) start.items)
   rolled_weights none =
-      s.returned ∙ ap (λ k. reverse (drop k (map (λ (x : NewEdge E). x.2) xs))) none
-      ∙ ap reverse (drop_none (map (λ (x : NewEdge E). x.2) xs))
+      s.returned ∙ ap (λ k. reverse (drop k (map (λ (x : NewEdge E). x.2) start.items))) none
+      ∙ ap reverse (drop_none (map (λ (x : NewEdge E). x.2) start.items))
 
-  pub left_within : left ≤ length edges
-  left_within = omega (arith, s.within, ap length s.indices_are, length-new_edges before xs)
+  pub left_within : now.left ≤ length start.edges
+  left_within = omega (arith, s.within, ap length s.indices_are, length-new_edges start.graph start.items)
 
--- one step: k is left after it, and e is the index that stands there
-module _ {N E : Type 0} {limit : ℕ} {kind : Kind} {before now : Graph N E} {xs : List (NewEdge E)} {edges : List ℕ}
-    {slots left : ℕ} {weights : List E} {len capacity looks₀ looks : ℕ}
-    (s : Rolling limit kind before now xs edges slots left weights len capacity looks₀ looks) (k e : ℕ)
-    (one : left ≡ suc k) (is : e ≡ get_or edges k e) where
-  here : ItemAt before xs k
-  here = item_at before xs k (omega (arith, s.within, one))
+-- k is left after one step more, and e is the index that stands there
+pub record IsLast {N E : Type 0} (start : Start N E) (now : Progress N E) (k e : ℕ) : Type 0 where
+  pub one : now.left ≡ suc k
+  pub is : e ≡ get_or start.edges k e
+
+-- one step of the loop
+module _ {N E : Type 0} {limit : ℕ} {kind : Kind} {start : Start N E} {now : Progress N E}
+    (s : Rolling limit kind start now) {k e : ℕ} (last : IsLast start now k e) where
+  here : ItemAt start.graph start.items k
+  here = item_at start.graph start.items k (omega (arith, s.within, last.one))
 
   abbrev at_k : Graph N E
-  at_k = with_edges before (take k xs)
+  at_k = with_edges start.graph (take k start.items)
 
   e_is : e ≡ next_edge at_k
-  e_is = is ∙ ap (λ (z : List ℕ). get_or z k e) s.indices_are ∙ here.index_is e
+  e_is = last.is ∙ ap (λ (z : List ℕ). get_or z k e) s.indices_are ∙ here.index_is e
 
-  now_is : now ≡ with_edge at_k here.item.0 here.item.1 here.item.2
-  now_is = s.graph_is ∙ ap (λ z. with_edges before (take z xs)) one ∙ here.graph_is
+  now_is : now.graph ≡ with_edge at_k here.item.0 here.item.1 here.item.2
+  now_is = s.graph_is ∙ ap (λ z. with_edges start.graph (take z start.items)) last.one ∙ here.graph_is
 
   fine_k : IsWellFormed limit at_k
-  fine_k = s.well_formed k (omega (arith, s.within, one))
+  fine_k = s.well_formed k (omega (arith, s.within, last.one))
 
   free_k : IsFree at_k.edges at_k.vacant_edges
   free_k = free_edge at_k 0 0 here.item.2 limit fine_k
 
-  new_edge : Edge E
-  new_edge = record { parent = here.item.0; child = here.item.1; weight = here.item.2 }
-
-  edge_there : edge_at now e ≡ Some (record { parent = here.item.0; child = here.item.1; weight = here.item.2 })
+  edge_there : edge_at now.graph e ≡ Some (record { parent = here.item.0; child = here.item.1; weight = here.item.2 })
   edge_there =
       let P : Graph N E → Type 0 = λ z.
       edge_at z e ≡ Some (record { parent = here.item.0; child = here.item.1; weight = here.item.2 }) in
@@ -201,17 +217,18 @@ module _ {N E : Type 0} {limit : ℕ} {kind : Kind} {before now : Graph N E} {xs
       ≡ Some (record { parent = here.item.0; child = here.item.1; weight = here.item.2 }) in
       subst P (sym now_is) (subst Q (sym e_is) (slot_taken_new at_k.edges at_k.vacant_edges _ free_k))
 
-  pub has_edge : HasEdge now e
+  pub has_edge : HasEdge now.graph e
   has_edge = ap is_some edge_there
 
-  module _ (made : Bool) (by_index : IsTrue made ↔ (slots ≤ e)) where
+  module _ {made : Bool} (by_index : IsTrue made ↔ (start.slots ≤ e)) where
     made_is : made ≡ is_slot_made at_k.vacant_edges
     made_is =
+        let before = start.graph in
         let fine₀ : IsWellFormed limit before =
         let P : List (NewEdge E) → Type 0 = λ z. IsWellFormed limit (with_edges before z) in
-        subst P (take_none xs) (s.well_formed 0 (omega (arith, s.within, one))) in
+        subst P (take_none start.items) (s.well_formed 0 (omega (arith, s.within, last.one))) in
         let at : Slots (length before.edges) at_k =
-        slots_along (length before.edges) before (take k xs) (slots_here limit before fine₀) in
+        slots_along (length before.edges) before (take k start.items) (slots_here limit before fine₀) in
         let low : ℕ → Type 0 = λ z. IsTrue made ↔ (z ≤ e) in
         let high : ℕ → Type 0 = λ z. IsTrue made ↔ (length before.edges ≤ z) in
         made_by_index (length before.edges) at_k.edges at_k.vacant_edges made at.below at.many
@@ -220,40 +237,52 @@ module _ {N E : Type 0} {limit : ℕ} {kind : Kind} {before now : Graph N E} {xs
     pub made_where_compact : kind ≡ Compact → IsTrue made
     made_where_compact c =
         let P : Bool → Type 0 = λ z. IsTrue z in
-        subst P (sym made_is) (made_none at_k.vacant_edges (none_along before (take k xs) (s.compact c)))
+        subst P (sym made_is)
+        (made_none at_k.vacant_edges (none_along start.graph (take k start.items) (s.compact c)))
 
-    pub made_at_end : IsTrue made → e + 1 ≡ length now.edges
+    pub made_at_end : IsTrue made → e + 1 ≡ length now.graph.edges
     made_at_end m =
         let P : Bool → Type 0 = λ z. IsTrue z in
-        let last =
+        let end =
         made_last at_k.edges at_k.vacant_edges
         (Some (record { parent = here.item.0; child = here.item.1; weight = here.item.2 })) (subst P made_is m) in
-        let many : length now.edges ≡ length (with_edge at_k here.item.0 here.item.1 here.item.2).edges =
+        let many : length now.graph.edges ≡ length (with_edge at_k here.item.0 here.item.1 here.item.2).edges =
         ap (λ (z : Graph N E). length z.edges) now_is in
-        omega (arith, last, many, e_is)
+        omega (arith, end, many, e_is)
 
-    pub rolls_on : (w : E) (new : Graph N E) (looks' : ℕ) → Some w ≡ option_map (λ x. x.weight) (edge_at now e)
-        → new ≡ with_edge_taken_back made now e → looks' ≡ looks → (weights' : List E) → weights' ≡ weights ++ w ∷ []
-        → (len' : ℕ) → len' ≡ len + 1 → (k' : ℕ) → k' ≡ k → (capacity' : ℕ) → capacity' ≡ capacity
-        → Rolling limit kind before new xs edges slots k' weights' len' capacity' looks₀ looks'
-    rolls_on w new looks' gives is_back same weights' more len' longer k' k'_is capacity' capacity'_is =
-        let w_is : w ≡ here.item.2 = same_Some _ _ (gives ∙ ap (option_map (λ (x : Edge E). x.weight)) edge_there) in
-        let undone : new ≡ at_k =
-        is_back ∙ ap (λ z. with_edge_taken_back made z e) now_is
+    -- `after` is what the loop has once the edge e is taken back, and `weight` is its weight
+    pub record IsNext (after : Progress N E) : Type 0 where
+      pub weight : E
+      pub gives : Some weight ≡ option_map (λ x. x.weight) (edge_at now.graph e)
+      pub is_back : after.graph ≡ with_edge_taken_back made now.graph e
+      pub left : after.left ≡ k
+      pub weights : after.weights ≡ now.weights ++ weight ∷ []
+      pub weights_held : after.weights_held ≡ now.weights_held + 1
+      pub capacity : after.capacity ≡ now.capacity
+      pub looks : after.looks ≡ now.looks
+
+    pub rolls_on : {after : Progress N E} → IsNext after → Rolling limit kind start after
+    rolls_on {after} m =
+        let xs = start.items in
+        let w_is : m.weight ≡ here.item.2 =
+        same_Some _ _ (m.gives ∙ ap (option_map (λ (x : Edge E). x.weight)) edge_there) in
+        let undone : after.graph ≡ at_k =
+        m.is_back ∙ ap (λ z. with_edge_taken_back made z e) now_is
         ∙ ap (with_edge_taken_back made (with_edge at_k here.item.0 here.item.1 here.item.2)) e_is
         ∙ ap (λ z. with_edge_taken_back z (with_edge at_k here.item.0 here.item.1 here.item.2) (next_edge at_k)) made_is
         ∙ taken_back_undoes limit at_k fine_k here.item.0 here.item.1 here.item.2 in
         let ws = map (λ (x : NewEdge E). x.2) xs in
-        let before_it : weights ≡ reverse (drop (suc k) ws) = s.returned ∙ ap (λ z. reverse (drop z ws)) one in
-        let with_it : weights ++ w ∷ [] ≡ reverse (drop k ws) =
-        ap (λ z. z ++ w ∷ []) before_it ∙ ap (λ z. reverse (drop (suc k) ws) ++ z ∷ []) w_is
+        let before_it : now.weights ≡ reverse (drop (suc k) ws) =
+        s.returned ∙ ap (λ z. reverse (drop z ws)) last.one in
+        let with_it : now.weights ++ m.weight ∷ [] ≡ reverse (drop k ws) =
+        ap (λ z. z ++ m.weight ∷ []) before_it ∙ ap (λ z. reverse (drop (suc k) ws) ++ z ∷ []) w_is
         ∙ sym (reverse-append (here.item.2 ∷ []) (drop (suc k) ws)) ∙ ap reverse (sym here.weights_are) in
         record {
-          within = omega (arith, s.within, one, k'_is);
-          graph_is = undone ∙ ap (λ z. with_edges before (take z xs)) (sym k'_is);
-          returned = more ∙ with_it ∙ ap (λ z. reverse (drop z ws)) (sym k'_is);
-          weights_fit = omega (arith, s.weights_fit, one, longer, k'_is, capacity'_is);
-          uncounted = same ∙ s.uncounted;
+          within = omega (arith, s.within, last.one, m.left);
+          graph_is = undone ∙ ap (λ z. with_edges start.graph (take z xs)) (sym m.left);
+          returned = m.weights ∙ with_it ∙ ap (λ z. reverse (drop z ws)) (sym m.left);
+          weights_fit = omega (arith, s.weights_fit, last.one, m.weights_held, m.left, m.capacity);
+          uncounted = m.looks ∙ s.uncounted;
           indices_are = s.indices_are;
           well_formed = s.well_formed;
           compact = s.compact;

@@ -13,46 +13,62 @@ use Rattle.daggy_guard.specs.EdgeBatch.{NewEdge, by_numbers}
 use Rattle.daggy_guard.specs.Extension.{IsExtended, IsStopped, Extends, Stops}
 use Rattle.daggy_guard.proofs.ItemsSoFar.{zip_more}
 
-pub record Extending {I A N E : Type 0} (IsDefault : N → Type 0) (number : I → ℕ) (limit : ℕ) (becomes : A → I × I × E
-    → Type 0) (old now : Graph N E) (given : List A) (order : List ℕ) (capacity : ℕ) : Type 0 where
-  pub edges : List (I × I × E)
-  pub become : AllZip becomes given edges
-  pub extension : FoldsTo (IsExtended IsDefault limit) old (map (by_numbers number) edges) now
-  pub ordered : IsOrderOf now order
-  pub fits : node_bound now ≤ capacity
+-- what the loop has so far: the graph, the items that were given, the order, and for how many nodes there is room
+pub record Progress (A N E : Type 0) : Type 0 where
+  pub graph : Graph N E
+  pub given : List A
+  pub order : List ℕ
+  pub room : ℕ
 
-pub extending_starts : {I A N E : Type 0} (IsDefault : N → Type 0) (number : I → ℕ) (limit : ℕ)
-    (becomes : A → I × I × E → Type 0) (g : Graph N E) (order : List ℕ) (capacity : ℕ)
-    → IsOrderOf g order → node_bound g ≤ capacity → Extending IsDefault number limit becomes g g [] order capacity
-extending_starts IsDefault number limit becomes g order capacity ordered fits =
+-- the graph `old` was extended by the items that were given, and the order is one of the graph that it became
+pub record Extending {I A N E : Type 0} (IsDefault : N → Type 0) (number : I → ℕ) (limit : ℕ)
+    (becomes : A → I × I × E → Type 0) (old : Graph N E) (now : Progress A N E) : Type 0 where
+  pub edges : List (I × I × E)
+  pub become : AllZip becomes now.given edges
+  pub extension : FoldsTo (IsExtended IsDefault limit) old (map (by_numbers number) edges) now.graph
+  pub ordered : IsOrderOf now.graph now.order
+  pub fits : node_bound now.graph ≤ now.room
+
+pub extending_starts : {I A N E : Type 0} {IsDefault : N → Type 0} {number : I → ℕ} {limit : ℕ}
+    {becomes : A → I × I × E → Type 0} (g : Graph N E) (order : List ℕ) (room : ℕ)
+    → IsOrderOf g order → node_bound g ≤ room
+    → Extending IsDefault number limit becomes g record { graph = g; given = []; order = order; room = room }
+extending_starts g order room ordered fits =
     record { edges = []; become = tt; extension = refl; ordered = ordered; fits = fits }
 
 module _ {I A N E : Type 0} {IsDefault : N → Type 0} {number : I → ℕ} {limit : ℕ} {becomes : A → I × I × E → Type 0}
-    {old now : Graph N E} {given : List A} {order : List ℕ} {capacity : ℕ}
-    (s : Extending IsDefault number limit becomes old now given order capacity) where
-  pub extending_on : (x : A) (edge : I × I × E)
-      → becomes x edge → (new : Graph N E) → IsExtended IsDefault limit now (by_numbers number edge) new
-      → (order' : List ℕ) → IsOrderOf new order' → (capacity' : ℕ) → node_bound new ≤ capacity'
-      → Extending IsDefault number limit becomes old new (given ++ x ∷ []) order' capacity'
-  extending_on x edge is new extended order' ordered capacity' fits =
-      let P : List (NewEdge E) → Type 0 = λ z. FoldsTo (IsExtended IsDefault limit) old z new in
+    {old : Graph N E} {now : Progress A N E} (s : Extending IsDefault number limit becomes old now) where
+  -- `after` is what the loop has once the item x was given too
+  pub record IsNext (x : A) (after : Progress A N E) : Type 0 where
+    pub edge : I × I × E
+    pub is : becomes x edge
+    pub extended : IsExtended IsDefault limit now.graph (by_numbers number edge) after.graph
+    pub given : after.given ≡ now.given ++ x ∷ []
+    pub ordered : IsOrderOf after.graph after.order
+    pub fits : node_bound after.graph ≤ after.room
+
+  pub extending_on : {x : A} {after : Progress A N E}
+      → IsNext x after → Extending IsDefault number limit becomes old after
+  extending_on {x} {after} m =
+      let P : List (NewEdge E) → Type 0 = λ z. FoldsTo (IsExtended IsDefault limit) old z after.graph in
+      let Q : List A → Type 0 = λ z. AllZip becomes z (s.edges ++ m.edge ∷ []) in
       record {
-        edges = s.edges ++ edge ∷ [];
-        become = zip_more becomes given s.edges x edge s.become is;
+        edges = s.edges ++ m.edge ∷ [];
+        become = subst Q (sym m.given) (zip_more becomes now.given s.edges x m.edge s.become m.is);
         extension =
-            subst P (sym (map-append (by_numbers number) s.edges (edge ∷ [])))
-            (FoldsTo-push (IsExtended IsDefault limit) old (map (by_numbers number) s.edges) now
-            (by_numbers number edge) new s.extension extended);
-        ordered = ordered;
-        fits = fits;
+            subst P (sym (map-append (by_numbers number) s.edges (m.edge ∷ [])))
+            (FoldsTo-push (IsExtended IsDefault limit) old (map (by_numbers number) s.edges) now.graph
+            (by_numbers number m.edge) after.graph s.extension m.extended);
+        ordered = m.ordered;
+        fits = m.fits;
       }
 
-  pub stops : {S : Type 0} (gives : S → Option A → S → Type 0) (items rest : S) (x : A) (edge : I × I × E)
-      → becomes x edge → Yields gives items (given ++ x ∷ []) rest
-      → (error : EdgeError E) (new : Graph N E) → IsStopped IsDefault limit now (by_numbers number edge) error new
+  pub stops : {S : Type 0} {gives : S → Option A → S → Type 0} {items : S} {error : EdgeError E} {new : Graph N E}
+      (rest : S) (x : A) (edge : I × I × E) → becomes x edge → Yields gives items (now.given ++ x ∷ []) rest
+      → IsStopped IsDefault limit now.graph (by_numbers number edge) error new
       → Stops IsDefault number limit becomes gives items old error new
-  stops gives items rest x edge is asked error new stopped = record {
-    given = given;
+  stops rest x edge is asked stopped = record {
+    given = now.given;
     at = x;
     rest = rest;
     asked = asked;
@@ -60,15 +76,15 @@ module _ {I A N E : Type 0} {IsDefault : N → Type 0} {number : I → ℕ} {lim
     become = s.become;
     edge = edge;
     at_becomes = is;
-    mid = now;
+    mid = now.graph;
     extension = s.extension;
     stopped = stopped;
   }
 
   pub extends : {S : Type 0} (gives : S → Option A → S → Type 0) (items : S)
-      → Drains gives items given → Extends IsDefault number limit becomes gives items old now
+      → Drains gives items now.given → Extends IsDefault number limit becomes gives items old now.graph
   extends gives items asked = record {
-    given = given;
+    given = now.given;
     drained = asked;
     edges = s.edges;
     become = s.become;
@@ -83,21 +99,21 @@ pub record FewLooks (edges looks edges' looks' : ℕ) : Type 0 where
 pub no_looks : (edges looks : ℕ) → FewLooks edges looks edges looks
 no_looks edges looks = record { no_fewer = omega arith; few = omega arith }
 
-pub few_more : (e l m k m' k' : ℕ) → FewLooks e l m k → m' ≡ m + 1 → k' ≤ k + m' → FewLooks e l m' k'
-few_more e l m k m' k' f one more =
+pub few_more : {e l m k m' k' : ℕ} → FewLooks e l m k → m' ≡ m + 1 → k' ≤ k + m' → FewLooks e l m' k'
+few_more {e} {l} {m} {k} {m'} {k'} f one more =
     let d = m - e in
     let times : (m' - e) * m' ≡ d * m + d + m' =
     ap (λ z. z * m') (omega (arith, f.no_fewer, one)) ∙ suc-mul d m' ∙ ap (λ z. d * z + m') (one ∙ add-one m)
     ∙ ap (λ z. z + m') (mul-suc d m) in
     record { no_fewer = omega (arith, f.no_fewer, one); few = omega (arith, f.few, more, times) }
 
-pub few_all : (e l m k : ℕ) → FewLooks e l m k → k ≤ l + (m - e + 1) * m
-few_all e l m k f =
+pub few_all : {e l m k : ℕ} → FewLooks e l m k → k ≤ l + (m - e + 1) * m
+few_all {e} {l} {m} {k} f =
     let times : (m - e + 1) * m ≡ (m - e) * m + m = ap (λ z. z * m) (add-one (m - e)) ∙ suc-mul (m - e) m in
     omega (arith, f.few, times)
 
-pub few_last : (e l m k m' k' : ℕ) → FewLooks e l m k → m' ≡ m → k' ≤ k + m' → k' ≤ l + (m' - e + 1) * m'
-few_last e l m k m' k' f same more =
+pub few_last : {e l m k m' k' : ℕ} → FewLooks e l m k → m' ≡ m → k' ≤ k + m' → k' ≤ l + (m' - e + 1) * m'
+few_last {e} {l} {m} {k} {m'} {k'} f same more =
     let times : (m - e + 1) * m ≡ (m - e) * m + m = ap (λ z. z * m) (add-one (m - e)) ∙ suc-mul (m - e) m in
     let there : k' ≤ l + (m - e + 1) * m = omega (arith, f.few, times, more, same) in
     let P : ℕ → Type 0 = λ z. k' ≤ l + (z - e + 1) * z in

@@ -10,9 +10,20 @@ invariant-steps g l =
     (before : Graph g.row.S-NodeWeight.Denot g.row.S-EdgeWeight.Denot) (xs : List (NewEdge g.row.S-EdgeWeight.Denot))
     → IsBatchSoFar g.Ix.IndexType.greatest g.S.Store.kind before (g.S.EdgeSource.graph l.fn.store) xs
     (map g.Ix.IndexType.number l.edges) l.slot_count
-    → Rolling g.Ix.IndexType.greatest g.S.Store.kind before (g.S.EdgeSource.graph l.store) xs
-    (map g.Ix.IndexType.number l.edges) l.slot_count l.left l.weights.items (vec_len l.weights) (vec_capacity l.weights)
-    (g.S.EdgeSource.looks l.fn.store) (g.S.EdgeSource.looks l.store)
+    → Rolling g.Ix.IndexType.greatest g.S.Store.kind record {
+      graph = before;
+      items = xs;
+      edges = map g.Ix.IndexType.number l.edges;
+      slots = l.slot_count;
+      looks = g.S.EdgeSource.looks l.fn.store;
+    } record {
+      graph = g.S.EdgeSource.graph l.store;
+      left = l.left;
+      weights = l.weights.items;
+      weights_held = vec_len l.weights;
+      capacity = vec_capacity l.weights;
+      looks = g.S.EdgeSource.looks l.store;
+    }
 
 abbrev pub decreases-steps : goal.decreases-steps
 decreases-steps g l = l.left

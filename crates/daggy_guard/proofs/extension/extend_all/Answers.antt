@@ -1,4 +1,4 @@
-use Rattle.std.proofs.Common.{rules}
+use Rattle.std.proofs.Common.{refl, rules}
 use Rattle.std.specs.Iterator.{Yields}
 use Rattle.daggy_guard.proofs.ItemsSoFar.{yields_more}
 use Rattle.daggy_guard.proofs.ExtendAllLoop.{extending_starts, extending_on, stops, no_looks, few_more, few_last}
@@ -9,9 +9,7 @@ pub items-init : goal.items-init
 items-init g c = record {
   can = search rules;
   ends = search rules;
-  extending =
-      extending_starts g.S.NodeWeight.Default.is_default g.Ix.IndexType.number _ _ _ _ _ c.requires.ordered
-      c.requires.fits;
+  extending = extending_starts _ _ _ c.requires.ordered c.requires.fits;
   few = no_looks _ _;
 }
 
@@ -19,10 +17,15 @@ pub items-preserved : goal.items-preserved
 items-preserved g c = record {
   can = search rules;
   ends = search rules;
-  extending =
-      extending_on c.items.invariant.extending c.in-Some.item _ c.into_weighted_edge-a.ensures _
-      c.in-Ok.ensures.extended _ c.extend_by.ensures.ordered _ c.extend_by.ensures.fits;
-  few = few_more _ _ _ _ _ _ c.items.invariant.few c.in-Ok.ensures.more c.extend_by.ensures.counted;
+  extending = extending_on c.items.invariant.extending record {
+    edge = _;
+    is = c.into_weighted_edge-a.ensures;
+    extended = c.in-Ok.ensures.extended;
+    given = refl;
+    ordered = c.extend_by.ensures.ordered;
+    fits = c.extend_by.ensures.fits;
+  };
+  few = few_more c.items.invariant.few c.in-Ok.ensures.more c.extend_by.ensures.counted;
 }
 
 pub returns-in-Err-clause-stopped : goal.returns-in-Err-clause-stopped
@@ -31,12 +34,12 @@ returns-in-Err-clause-stopped g c =
     let asked =
     yields_more g.I.Iterator.next_gives c.args.items c.items.item-iterator c.next.new.self c.items.yielded
     c.in-Some.item c.next.result so_far c.next.ensures.steps c.in-Some.is in
-    stops c.items.invariant.extending g.I.Iterator.next_gives c.args.items _ c.in-Some.item _
-    c.into_weighted_edge-a.ensures asked _ _ c.in-Err.ensures.stopped
+    stops c.items.invariant.extending _ c.in-Some.item _ c.into_weighted_edge-a.ensures asked
+    c.in-Err.ensures.stopped
 
 pub returns-in-Err-clause-counted : goal.returns-in-Err-clause-counted
 returns-in-Err-clause-counted g c =
-    few_last _ _ _ _ _ _ c.items.invariant.few c.in-Err.ensures.as_many c.extend_by.ensures.counted
+    few_last c.items.invariant.few c.in-Err.ensures.as_many c.extend_by.ensures.counted
 
 pub returns-clause-counted : goal.returns-clause-counted
-returns-clause-counted g c = few_all _ _ _ _ c.items.invariant.few
+returns-clause-counted g c = few_all c.items.invariant.few

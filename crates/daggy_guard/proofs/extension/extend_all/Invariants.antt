@@ -7,8 +7,12 @@ invariant-items g l = record {
   can : (goal.iterator-items g).can_next l.item-iterator;
   ends : (goal.iterator-items g).is_finite l.item-iterator;
   extending : Extending g.S.NodeWeight.Default.is_default g.Ix.IndexType.number g.Ix.IndexType.greatest
-      g.T.IntoWeightedEdge.edge_gives (g.S.EdgeSource.graph l.fn.store) (g.S.EdgeSource.graph l.store) l.yielded l.order
-      l.scratch.nodes;
+      g.T.IntoWeightedEdge.edge_gives (g.S.EdgeSource.graph l.fn.store) record {
+        graph = g.S.EdgeSource.graph l.store;
+        given = l.yielded;
+        order = l.order;
+        room = l.scratch.nodes;
+      };
   few : FewLooks (edge_count (g.S.EdgeSource.graph l.fn.store)) (g.S.EdgeSource.looks l.fn.store)
       (edge_count (g.S.EdgeSource.graph l.store)) (g.S.EdgeSource.looks l.store);
 }
