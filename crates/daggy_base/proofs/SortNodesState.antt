@@ -44,60 +44,87 @@ kept_cursors end g stack cursors k e (s ∷ ss) low kept =
       kept_cursors end g stack cursors k e ss (omega arith) kept.2,
     )
 
--- what stays: g is the graph now
-pub record ScratchSizes {N E : Type 0} (size finished_size : ℕ) (g₀ g : Graph N E) (discovered finished : List Bool)
-    (stack cursors : List ℕ) : Type 0 where
-  pub same : g ≡ g₀
-  pub discovered_sized : length discovered ≡ size
-  pub finished_sized : length finished ≡ finished_size
-  pub bounded : node_bound g₀ ≤ length discovered
-  pub finished_fits : length discovered ≤ length finished
-  pub stack_fits : length discovered ≤ length stack
-  pub cursors_fit : length discovered ≤ length cursors
+-- What a sort begins with: the graph, how many marks there are of each kind, and how often edges were looked at till
+-- then.
+pub record Start (N E : Type 0) : Type 0 where
+  pub graph : Graph N E
+  pub discovered : ℕ
+  pub finished : ℕ
+  pub looks : ℕ
+
+-- What a sort has so far: the graph, the marks of the nodes that were discovered and of those that were finished, the
+-- places of the stack and of the cursors, the first place of the stack that holds a finished node, and how often edges
+-- were looked at.
+pub record Sorting (N E : Type 0) : Type 0 where
+  pub graph : Graph N E
+  pub discovered : List Bool
+  pub finished : List Bool
+  pub stack : List ℕ
+  pub cursors : List ℕ
+  pub top : ℕ
+  pub looks : ℕ
+
+-- Where a walk is: how many nodes are on the way to it, its node, and the next edge of that one.
+pub record Spot : Type 0 where
+  pub len : ℕ
+  pub node : ℕ
+  pub edge : ℕ
+
+-- what stays
+pub record ScratchSizes {N E : Type 0} (start : Start N E) (now : Sorting N E) : Type 0 where
+  pub same : now.graph ≡ start.graph
+  pub discovered_sized : length now.discovered ≡ start.discovered
+  pub finished_sized : length now.finished ≡ start.finished
+  pub bounded : node_bound start.graph ≤ length now.discovered
+  pub finished_fits : length now.discovered ≤ length now.finished
+  pub stack_fits : length now.discovered ≤ length now.stack
+  pub cursors_fit : length now.discovered ≤ length now.cursors
 
 -- the nodes that were finished stand at the back of the stack, from top on
 pub record StandBehind (stack : List ℕ) (top : ℕ) (order : List ℕ) : Type 0 where
   pub at_top : top + length order ≡ length stack
   pub are : drop top stack ≡ order
 
--- Between two roots: the nodes below i were visited. The counts of looks are before and now.
-pub record Resting {N E : Type 0} (end size finished_size : ℕ) (g₀ g : Graph N E) (discovered finished : List Bool)
-    (stack cursors : List ℕ) (i top before now : ℕ) : Type 0 where
-  pub sizes : ScratchSizes size finished_size g₀ g discovered finished stack cursors
-  pub visited : (m : ℕ) → m < i → HasNode g₀ m → get_or discovered m false ≡ true
+-- between two roots: the nodes below i were visited
+pub record Resting {N E : Type 0} (end : ℕ) (start : Start N E) (i : ℕ) (now : Sorting N E) : Type 0 where
+  pub sizes : ScratchSizes start now
+  pub visited : (m : ℕ) → m < i → HasNode start.graph m → get_or now.discovered m false ≡ true
   pub looked : ℕ
-  pub counted : now ≡ before + looked
+  pub counted : now.looks ≡ start.looks + looked
   pub order : List ℕ
-  pub behind : StandBehind stack top order
-  pub state : Leaving end g₀ discovered finished [] order looked
+  pub behind : StandBehind now.stack now.top order
+  pub state : Leaving end start.graph now.discovered now.finished [] order looked
 
--- on a walk from a root, at a node n and an edge e of its list
-pub record Walking {N E : Type 0} (end size finished_size : ℕ) (g₀ g : Graph N E) (discovered finished : List Bool)
-    (stack cursors : List ℕ) (i top len n e before now : ℕ) : Type 0 where
-  pub sizes : ScratchSizes size finished_size g₀ g discovered finished stack cursors
-  pub visited : (m : ℕ) → m < i → HasNode g₀ m → get_or discovered m false ≡ true
+-- on a walk from a root, at a node and an edge of its list
+pub record Walking {N E : Type 0} (end : ℕ) (start : Start N E) (i : ℕ) (now : Sorting N E) (spot : Spot)
+    : Type 0 where
+  pub sizes : ScratchSizes start now
+  pub visited : (m : ℕ) → m < i → HasNode start.graph m → get_or now.discovered m false ≡ true
   pub looked : ℕ
-  pub counted : now ≡ before + looked
+  pub counted : now.looks ≡ start.looks + looked
   pub order : List ℕ
   pub way : List Stop
   pub passed : ℕ
-  pub behind : StandBehind stack top order
-  pub state : Leaving end g₀ discovered finished (record { node = n; passed = passed } ∷ way) order looked
-  pub cursor : e ≡ first_of end (drop passed (out_list g₀ n))
-  pub deep : len ≡ length (nodes_of way)
-  pub high : len ≤ length stack
-  pub high_cursors : len ≤ length cursors
-  pub kept : AreKept end g₀ stack cursors way
+  pub behind : StandBehind now.stack now.top order
+  pub state : Leaving end start.graph now.discovered now.finished (record { node = spot.node; passed = passed } ∷ way)
+      order looked
+  pub cursor : spot.edge ≡ first_of end (drop passed (out_list start.graph spot.node))
+  pub deep : spot.len ≡ length (nodes_of way)
+  pub high : spot.len ≤ length now.stack
+  pub high_cursors : spot.len ≤ length now.cursors
+  pub kept : AreKept end start.graph now.stack now.cursors way
 
-pub rests : {N E : Type 0} {end : ℕ} (g : Graph N E) (discovered finished : List Bool) (stack cursors : List ℕ)
-    (before : ℕ)
-    → node_bound g ≤ length discovered → length discovered ≤ length finished → length discovered ≤ length stack
-    → length discovered ≤ length cursors → ((n : ℕ) → get_or discovered n false ≡ false)
-    → ((n : ℕ) → get_or finished n false ≡ false)
-    → Resting end (length discovered) (length finished) g g discovered finished stack cursors 0 (length stack)
-    before before
-rests {N} {E} {end} g discovered finished stack cursors before bounded finished_fits stack_fits cursors_fit
-    clear empty =
+pub rests : {N E : Type 0} {end : ℕ} (now : Sorting N E)
+    → node_bound now.graph ≤ length now.discovered → length now.discovered ≤ length now.finished
+    → length now.discovered ≤ length now.stack → length now.discovered ≤ length now.cursors
+    → ((n : ℕ) → get_or now.discovered n false ≡ false) → ((n : ℕ) → get_or now.finished n false ≡ false)
+    → Resting end record {
+      graph = now.graph;
+      discovered = length now.discovered;
+      finished = length now.finished;
+      looks = now.looks;
+    } 0 record now { top = length now.stack }
+rests {N} {E} {end} now bounded finished_fits stack_fits cursors_fit clear empty =
     record {
       sizes = record {
         same = refl;
@@ -112,24 +139,23 @@ rests {N} {E} {end} g discovered finished stack cursors before bounded finished_
       looked = 0;
       counted = omega arith;
       order = [];
-      behind = record { at_top = omega arith; are = drop_all (length stack) stack (omega arith) };
-      state = none_discovered end g discovered finished clear empty;
+      behind = record { at_top = omega arith; are = drop_all (length now.stack) now.stack (omega arith) };
+      state = none_discovered end now.graph now.discovered now.finished clear empty;
     }
 
-module _ {N E : Type 0} {size finished_size : ℕ} {g₀ g : Graph N E} {discovered finished : List Bool}
-    {stack cursors : List ℕ} (r : ScratchSizes size finished_size g₀ g discovered finished stack cursors) where
-  exists_now : (m : ℕ) → HasNode g₀ m → HasNode g m
+module _ {N E : Type 0} {start : Start N E} {now : Sorting N E} (r : ScratchSizes start now) where
+  exists_now : (m : ℕ) → HasNode start.graph m → HasNode now.graph m
   exists_now m h = let P : Graph N E → Type 0 = λ z. HasNode z m in subst P (sym r.same) h
 
-  exists_then : (m : ℕ) → HasNode g m → HasNode g₀ m
+  exists_then : (m : ℕ) → HasNode now.graph m → HasNode start.graph m
   exists_then m h = let P : Graph N E → Type 0 = λ z. HasNode z m in subst P r.same h
 
-  below_entered : (m : ℕ) → HasNode g₀ m → m < length discovered
-  below_entered m h = omega (arith, below_bound g₀.nodes m h, r.bounded)
+  below_entered : (m : ℕ) → HasNode start.graph m → m < length now.discovered
+  below_entered m h = omega (arith, below_bound start.graph.nodes m h, r.bounded)
 
-  rooms_entered : (v : ℕ) → ScratchSizes size finished_size g₀ g (set discovered v true) finished stack cursors
+  rooms_entered : (v : ℕ) → ScratchSizes start record now { discovered = set now.discovered v true }
   rooms_entered v =
-      let k : length (set discovered v true) ≡ length discovered = length-set discovered v true in
+      let k : length (set now.discovered v true) ≡ length now.discovered = length-set now.discovered v true in
       record {
         same = r.same;
         discovered_sized = k ∙ r.discovered_sized;
@@ -140,9 +166,9 @@ module _ {N E : Type 0} {size finished_size : ℕ} {g₀ g : Graph N E} {discove
         cursors_fit = omega (arith, r.cursors_fit);
       }
 
-  rooms_left : (v : ℕ) → ScratchSizes size finished_size g₀ g discovered (set finished v true) stack cursors
+  rooms_left : (v : ℕ) → ScratchSizes start record now { finished = set now.finished v true }
   rooms_left v =
-      let k : length (set finished v true) ≡ length finished = length-set finished v true in
+      let k : length (set now.finished v true) ≡ length now.finished = length-set now.finished v true in
       record {
         same = r.same;
         discovered_sized = r.discovered_sized;
@@ -153,7 +179,8 @@ module _ {N E : Type 0} {size finished_size : ℕ} {g₀ g : Graph N E} {discove
         cursors_fit = r.cursors_fit;
       }
 
-  rooms_kept : (k n e : ℕ) → ScratchSizes size finished_size g₀ g discovered finished (set stack k n) (set cursors k e)
+  rooms_kept : (k n e : ℕ)
+      → ScratchSizes start record now { stack = set now.stack k n; cursors = set now.cursors k e }
   rooms_kept k n e =
       record {
         same = r.same;
@@ -161,11 +188,11 @@ module _ {N E : Type 0} {size finished_size : ℕ} {g₀ g : Graph N E} {discove
         finished_sized = r.finished_sized;
         bounded = r.bounded;
         finished_fits = r.finished_fits;
-        stack_fits = omega (arith, r.stack_fits, length-set stack k n);
-        cursors_fit = omega (arith, r.cursors_fit, length-set cursors k e);
+        stack_fits = omega (arith, r.stack_fits, length-set now.stack k n);
+        cursors_fit = omega (arith, r.cursors_fit, length-set now.cursors k e);
       }
 
-  rooms_written : (k n : ℕ) → ScratchSizes size finished_size g₀ g discovered finished (set stack k n) cursors
+  rooms_written : (k n : ℕ) → ScratchSizes start record now { stack = set now.stack k n; top = k }
   rooms_written k n =
       record {
         same = r.same;
@@ -173,11 +200,12 @@ module _ {N E : Type 0} {size finished_size : ℕ} {g₀ g : Graph N E} {discove
         finished_sized = r.finished_sized;
         bounded = r.bounded;
         finished_fits = r.finished_fits;
-        stack_fits = omega (arith, r.stack_fits, length-set stack k n);
+        stack_fits = omega (arith, r.stack_fits, length-set now.stack k n);
         cursors_fit = r.cursors_fit;
       }
 
-  rooms_looked : {g' : Graph N E} → g' ≡ g → ScratchSizes size finished_size g₀ g' discovered finished stack cursors
+  rooms_looked : {g' : Graph N E} → g' ≡ now.graph → {looks' : ℕ}
+      → ScratchSizes start record now { graph = g'; looks = looks' }
   rooms_looked kept =
       record {
         same = kept ∙ r.same;
@@ -190,29 +218,29 @@ module _ {N E : Type 0} {size finished_size : ℕ} {g₀ g : Graph N E} {discove
       }
 
   -- an entered node stays entered
-  visited_more : (v i : ℕ) → v < length discovered → ((m : ℕ) → m < i → HasNode g₀ m → get_or discovered m false ≡ true)
-      → (m : ℕ) → m < i → HasNode g₀ m → get_or (set discovered v true) m false ≡ true
-  visited_more v i low before m below exists = (set_marked discovered v m low).1 (inr (before m below exists))
+  visited_more : (v i : ℕ) → v < length now.discovered
+      → ((m : ℕ) → m < i → HasNode start.graph m → get_or now.discovered m false ≡ true)
+      → (m : ℕ) → m < i → HasNode start.graph m → get_or (set now.discovered v true) m false ≡ true
+  visited_more v i low before m below exists = (set_marked now.discovered v m low).1 (inr (before m below exists))
 
-module _ {N E : Type 0} {end size finished_size : ℕ} {g₀ g : Graph N E} (w : IsWellFormed end g₀)
-    {discovered finished : List Bool} {stack cursors : List ℕ} {i top before now : ℕ}
-    (s : Resting end size finished_size g₀ g discovered finished stack cursors i top before now) where
-  pub few_rested : now ≤ before + edge_count g₀
-  few_rested = omega (arith, s.counted, looked_within end g₀ _ _ _ _ _ s.state w)
+module _ {N E : Type 0} {end : ℕ} {start : Start N E} {i : ℕ} {now : Sorting N E} (w : IsWellFormed end start.graph)
+    (s : Resting end start i now) where
+  pub few_rested : now.looks ≤ start.looks + edge_count start.graph
+  few_rested = omega (arith, s.counted, looked_within end start.graph _ _ _ _ _ s.state w)
 
   -- all roots were tried
-  pub all_found : node_bound g₀ ≤ i → IsSorted g₀ (drop top stack)
+  pub all_found : node_bound start.graph ≤ i → IsSorted start.graph (drop now.top now.stack)
   all_found all =
-      let P : List ℕ → Type 0 = λ z. IsSorted g₀ z in
-      subst P (sym s.behind.are) (all_sorted end g₀ discovered finished s.order s.looked s.state
-      (λ m h. s.visited m (omega (arith, below_bound g₀.nodes m h)) h))
+      let P : List ℕ → Type 0 = λ z. IsSorted start.graph z in
+      subst P (sym s.behind.are) (all_sorted end start.graph now.discovered now.finished s.order s.looked s.state
+      (λ m h. s.visited m (omega (arith, below_bound start.graph.nodes m h)) h))
 
-  pub top_within : top ≤ length stack
+  pub top_within : now.top ≤ length now.stack
   top_within = omega (arith, s.behind.at_top)
 
   -- a root that does not exist, or was discovered on an earlier walk
-  pub skipped : (HasNode g i → get_or discovered i false ≡ true)
-      → Resting end size finished_size g₀ g discovered finished stack cursors (i + 1) top before now
+  pub skipped : (HasNode now.graph i → get_or now.discovered i false ≡ true)
+      → Resting end start (i + 1) now
   skipped here =
       record {
         sizes = s.sizes;
@@ -221,7 +249,7 @@ module _ {N E : Type 0} {end size finished_size : ℕ} {g₀ g : Graph N E} (w :
               | inl a ↦ s.visited m a exists
               | inr b ↦ (
                   let last : i ≡ m = omega arith in
-                  let P : ℕ → Type 0 = λ z. HasNode g z → get_or discovered z false ≡ true in
+                  let P : ℕ → Type 0 = λ z. HasNode now.graph z → get_or now.discovered z false ≡ true in
                   subst P last here (exists_now s.sizes m exists)
                   )
             ];
@@ -232,17 +260,23 @@ module _ {N E : Type 0} {end size finished_size : ℕ} {g₀ g : Graph N E} (w :
         state = s.state;
       }
 
-  pub begins : (n e : ℕ) → HasNode g n → get_or discovered i false ≡ false → n ≡ i → e ≡ first_of end (out_list g n)
-      → Walking end size finished_size g₀ g (set discovered i true) finished stack cursors (i + 1) top 0 n e before now
-  begins n e exists unseen is first =
-      let there : HasNode g i = let P : ℕ → Type 0 = λ z. HasNode g z in subst P is exists in
-      let low : i < length discovered = below_entered s.sizes i (exists_then s.sizes i there) in
+  pub begins : {n e : ℕ} → HasNode now.graph n → get_or now.discovered i false ≡ false → n ≡ i
+      → e ≡ first_of end (out_list now.graph n)
+      → Walking end start (i + 1) record now { discovered = set now.discovered i true } record {
+        len = 0;
+        node = n;
+        edge = e;
+      }
+  begins {n} {e} exists unseen is first =
+      let there : HasNode now.graph i = let P : ℕ → Type 0 = λ z. HasNode now.graph z in subst P is exists in
+      let low : i < length now.discovered = below_entered s.sizes i (exists_then s.sizes i there) in
       let on =
-      entered_root end g₀ discovered finished s.order s.looked i s.state (exists_then s.sizes i there) low unseen in
+      entered_root end start.graph now.discovered now.finished s.order s.looked i s.state
+      (exists_then s.sizes i there) low unseen in
       record {
         sizes = rooms_entered s.sizes i;
         visited = λ m below real.
-            (set_marked discovered i m low).1 (elim (cases_lt m i) [
+            (set_marked now.discovered i m low).1 (elim (cases_lt m i) [
               | inl a ↦ inr (s.visited m a real)
               | inr b ↦ inl (omega arith)
             ]);
@@ -254,7 +288,8 @@ module _ {N E : Type 0} {end size finished_size : ℕ} {g₀ g : Graph N E} (w :
         behind = s.behind;
         state =
             let P : ℕ → Type 0 = λ z.
-            Leaving end g₀ (set discovered i true) finished (record { node = z; passed = 0 } ∷ []) s.order s.looked in
+            Leaving end start.graph (set now.discovered i true) now.finished (record { node = z; passed = 0 } ∷ [])
+            s.order s.looked in
             subst P (sym is) on;
         cursor = first ∙ ap (λ (z : Graph N E). first_of end (out_list z n)) s.sizes.same;
         deep = refl;
@@ -263,66 +298,82 @@ module _ {N E : Type 0} {end size finished_size : ℕ} {g₀ g : Graph N E} (w :
         kept = tt;
       }
 
-module _ {N E : Type 0} {end size finished_size : ℕ} {g₀ g : Graph N E} (w : IsWellFormed end g₀)
-    {discovered finished : List Bool} {stack cursors : List ℕ} {i top len n e before now : ℕ}
-    (s : Walking end size finished_size g₀ g discovered finished stack cursors i top len n e before now) where
-  pub looked_once : e ≢ end → {now' : ℕ} → now' ≡ now + 1 → now' ≤ before + edge_count g₀
+module _ {N E : Type 0} {end : ℕ} {start : Start N E} {i : ℕ} {now : Sorting N E} {spot : Spot}
+    (w : IsWellFormed end start.graph) (s : Walking end start i now spot) where
+  pub looked_once : spot.edge ≢ end → {looks' : ℕ}
+      → looks' ≡ now.looks + 1 → looks' ≤ start.looks + edge_count start.graph
   looked_once here one_more =
-      omega (arith, s.counted, look_within end g₀ w _ _ _ _ _ _ _ s.state e s.cursor here)
+      omega (arith, s.counted, look_within end start.graph w _ _ _ _ _ _ _ s.state spot.edge s.cursor here)
 
-  pub edge_here : e ≢ end → HasEdge g e
+  pub edge_here : spot.edge ≢ end → HasEdge now.graph spot.edge
   edge_here here =
-      let P : Graph N E → Type 0 = λ z. HasEdge z e in
-      subst P (sym s.sizes.same) (has_edge end g₀ w n s.passed e s.cursor here)
+      let P : Graph N E → Type 0 = λ z. HasEdge z spot.edge in
+      subst P (sym s.sizes.same) (has_edge end start.graph w spot.node s.passed spot.edge s.cursor here)
 
-  pub node_low : n < length finished
+  pub node_low : spot.node < length now.finished
   node_low =
-      omega (arith, marked_within discovered n ((s.state.discovered_are n).1 (inl refl)), s.sizes.finished_fits)
+      omega (
+        arith,
+        marked_within now.discovered spot.node ((s.state.discovered_are spot.node).1 (inl refl)),
+        s.sizes.finished_fits,
+      )
 
   -- there is a place between the way and the nodes that were finished
-  pub place_free : len < top
+  pub place_free : spot.len < now.top
   place_free =
       omega (
         arith,
-        entered_few end g₀ discovered finished _ s.order s.looked s.state,
+        entered_few end start.graph now.discovered now.finished _ s.order s.looked s.state,
         s.deep,
         s.behind.at_top,
         s.sizes.stack_fits,
       )
 
-  -- the node is left, and put before the nodes that were finished
-  module _ (h : e ≡ end) (m : ℕ) (is : m ≡ n) (at : ℕ) (free : at + 1 ≡ top) where
-    after : Leaving end g₀ discovered (set finished n true) s.way (n ∷ s.order) s.looked
-    after = leaves_node end g₀ w discovered finished n s.passed s.way s.order s.looked s.state e s.cursor h node_low
+  after : spot.edge ≡ end → Leaving end start.graph now.discovered (set now.finished spot.node true) s.way
+      (spot.node ∷ s.order) s.looked
+  after h =
+      leaves_node end start.graph w now.discovered now.finished spot.node s.passed s.way s.order s.looked s.state
+      spot.edge s.cursor h node_low
 
-    behind : StandBehind (set stack at n) at (n ∷ s.order)
+  -- the node is left, and put before the nodes that were finished
+  module _ (h : spot.edge ≡ end) {m : ℕ} (is : m ≡ spot.node) {at : ℕ} (free : at + 1 ≡ now.top) where
+    behind : StandBehind (set now.stack at spot.node) at (spot.node ∷ s.order)
     behind =
-        let within : at < length stack = omega (arith, s.behind.at_top) in
+        let within : at < length now.stack = omega (arith, s.behind.at_top) in
         record {
-          at_top = omega (arith, s.behind.at_top, length-set stack at n);
+          at_top = omega (arith, s.behind.at_top, length-set now.stack at spot.node);
           are =
-              drop-set stack at n within
-              ∙ ap (λ (z : List ℕ). n ∷ z) (ap (λ (z : ℕ). drop z stack) free ∙ s.behind.are);
+              drop-set now.stack at spot.node within
+              ∙ ap (λ (z : List ℕ). spot.node ∷ z) (ap (λ (z : ℕ). drop z now.stack) free ∙ s.behind.are);
         }
 
-    sizes : ScratchSizes size finished_size g₀ g discovered (set finished m true) (set stack at n) cursors
-    sizes = rooms_written (rooms_left s.sizes m) at n
+    sizes : ScratchSizes start record now {
+      finished = set now.finished m true;
+      stack = set now.stack at spot.node;
+      top = at;
+    }
+    sizes = rooms_written (rooms_left s.sizes m) at spot.node
 
     -- it was the last of the way
-    pub walked : len ≡ 0
-        → Resting end size finished_size g₀ g discovered (set finished m true) (set stack at n) cursors i at before now
+    pub walked : spot.len ≡ 0 → Resting end start i record now {
+      finished = set now.finished m true;
+      stack = set now.stack at spot.node;
+      top = at;
+    }
     walked empty =
         let none : s.way ≡ [] = nothing s.way (omega (arith, s.deep)) in
-        let P : List Stop → Type 0 = λ z. Leaving end g₀ discovered (set finished n true) z (n ∷ s.order) s.looked in
-        let Q : ℕ → Type 0 = λ z. Leaving end g₀ discovered (set finished z true) [] (n ∷ s.order) s.looked in
+        let P : List Stop → Type 0 = λ z.
+        Leaving end start.graph now.discovered (set now.finished spot.node true) z (spot.node ∷ s.order) s.looked in
+        let Q : ℕ → Type 0 = λ z.
+        Leaving end start.graph now.discovered (set now.finished z true) [] (spot.node ∷ s.order) s.looked in
         record {
           sizes = sizes;
           visited = s.visited;
           looked = s.looked;
           counted = s.counted;
-          order = n ∷ s.order;
+          order = spot.node ∷ s.order;
           behind = behind;
-          state = subst Q (sym is) (subst P none after);
+          state = subst Q (sym is) (subst P none (after h));
         }
       where
         nothing : (ss : List Stop) → length (nodes_of ss) ≡ 0 → ss ≡ []
@@ -330,82 +381,97 @@ module _ {N E : Type 0} {end size finished_size : ℕ} {g₀ g : Graph N E} (w :
         nothing (t ∷ ss) k = absurd (omega arith)
 
     -- the walk goes on at the node before it
-    pub steps_back : len ≢ 0 → (k : ℕ) → k ≡ len - 1 → (u c n' e' : ℕ) → u ≡ get_or (set stack at n) k u
-        → c ≡ get_or cursors k c → n' ≡ u → e' ≡ c
-        → Walking end size finished_size g₀ g discovered (set finished m true) (set stack at n) cursors i at k n'
-        e' before now
-    steps_back some k last u c n' e' is_node is_cursor node_is edge_is =
-        on s.way (omega (arith, s.deep)) after
-        (kept_stack end g₀ stack cursors at n s.way (omega (arith, place_free, s.deep)) s.kept)
+    pub steps_back : spot.len ≢ 0 → {next : Spot} → next.len ≡ spot.len - 1
+        → ((d : ℕ) → next.node ≡ get_or (set now.stack at spot.node) next.len d)
+        → ((d : ℕ) → next.edge ≡ get_or now.cursors next.len d) → Walking end start i record now {
+          finished = set now.finished m true;
+          stack = set now.stack at spot.node;
+          top = at;
+        } next
+    steps_back some {next} last is_node is_cursor =
+        on s.way (omega (arith, s.deep)) (after h)
+        (kept_stack end start.graph now.stack now.cursors at spot.node s.way (omega (arith, place_free, s.deep))
+        s.kept)
       where
         on : (ss : List Stop)
-            → length (nodes_of ss) ≡ k + 1 → Leaving end g₀ discovered (set finished n true) ss (n ∷ s.order) s.looked
-            → AreKept end g₀ (set stack at n) cursors ss
-            → Walking end size finished_size g₀ g discovered (set finished m true) (set stack at n) cursors i at k n'
-            e' before now
+            → length (nodes_of ss) ≡ next.len + 1
+            → Leaving end start.graph now.discovered (set now.finished spot.node true) ss (spot.node ∷ s.order) s.looked
+            → AreKept end start.graph (set now.stack at spot.node) now.cursors ss
+            → Walking end start i record now {
+              finished = set now.finished m true;
+              stack = set now.stack at spot.node;
+              top = at;
+            } next
         on [] more l kept = absurd (omega arith)
         on (t ∷ ss) more l kept =
-            let deep : k ≡ length (nodes_of ss) = omega arith in
-            let same_node : n' ≡ t.node =
-            node_is ∙ (is_node ∙ (ap (λ (z : ℕ). get_or (set stack at n) z u) deep ∙ kept.0 u)) in
-            let same_edge : e' ≡ first_of end (drop t.passed (out_list g₀ t.node)) =
-            edge_is ∙ (is_cursor ∙ (ap (λ (z : ℕ). get_or cursors z c) deep ∙ kept.1 c)) in
+            let deep : next.len ≡ length (nodes_of ss) = omega arith in
+            let same_node : next.node ≡ t.node =
+            is_node 0 ∙ (ap (λ (z : ℕ). get_or (set now.stack at spot.node) z 0) deep ∙ kept.0 0) in
+            let same_edge : next.edge ≡ first_of end (drop t.passed (out_list start.graph t.node)) =
+            is_cursor 0 ∙ (ap (λ (z : ℕ). get_or now.cursors z 0) deep ∙ kept.1 0) in
             let P : ℕ → Type 0 = λ z.
-            Leaving end g₀ discovered (set finished z true) (record { node = t.node; passed = t.passed } ∷ ss)
-            (n ∷ s.order) s.looked in
+            Leaving end start.graph now.discovered (set now.finished z true)
+            (record { node = t.node; passed = t.passed } ∷ ss) (spot.node ∷ s.order) s.looked in
             let Q : ℕ → Type 0 = λ z.
-            Leaving end g₀ discovered (set finished m true) (record { node = z; passed = t.passed } ∷ ss)
-            (n ∷ s.order) s.looked in
+            Leaving end start.graph now.discovered (set now.finished m true)
+            (record { node = z; passed = t.passed } ∷ ss) (spot.node ∷ s.order) s.looked in
             record {
               sizes = sizes;
               visited = s.visited;
               looked = s.looked;
               counted = s.counted;
-              order = n ∷ s.order;
+              order = spot.node ∷ s.order;
               way = ss;
               passed = t.passed;
               behind = behind;
               state = subst Q (sym same_node) (subst P (sym is) l);
-              cursor = same_edge ∙ ap (λ (z : ℕ). first_of end (drop t.passed (out_list g₀ z))) (sym same_node);
+              cursor =
+                  same_edge ∙ ap (λ (z : ℕ). first_of end (drop t.passed (out_list start.graph z))) (sym same_node);
               deep = deep;
-              high = omega (arith, s.high, last, length-set stack at n);
+              high = omega (arith, s.high, last, length-set now.stack at spot.node);
               high_cursors = omega (arith, s.high_cursors, last);
               kept = kept.2;
             }
 
-  module _ (here : e ≢ end) {v next : ℕ} (look : IsLook end g e v next) where
-    look₀ : IsLook end g₀ e v next
-    look₀ = let P : Graph N E → Type 0 = λ z. IsLook end z e v next in subst P s.sizes.same look
+  module _ (here : spot.edge ≢ end) {v next : ℕ} (look : IsLook end now.graph spot.edge v next) where
+    look₀ : IsLook end start.graph spot.edge v next
+    look₀ = let P : Graph N E → Type 0 = λ z. IsLook end z spot.edge v next in subst P s.sizes.same look
 
-    child_real : HasNode g₀ v
-    child_real = child_exists end g₀ w n s.passed e s.cursor here v next look₀
+    child_real : HasNode start.graph v
+    child_real = child_exists end start.graph w spot.node s.passed spot.edge s.cursor here v next look₀
 
-    pub child_low : v < length discovered
+    pub child_low : v < length now.discovered
     child_low = below_entered s.sizes v child_real
 
     -- one more node on the way has room
-    pub room_here : get_or discovered v false ≡ false → len + 1 < length discovered
+    pub room_here : get_or now.discovered v false ≡ false → spot.len + 1 < length now.discovered
     room_here unseen =
-        omega (arith, has_room end g₀ discovered finished _ s.order s.looked s.state v child_low unseen, s.deep)
+        omega (
+          arith,
+          has_room end start.graph now.discovered now.finished _ s.order s.looked s.state v child_low unseen,
+          s.deep,
+        )
 
     -- also below the nodes that were finished
-    below_top : get_or discovered v false ≡ false → len < top
+    below_top : get_or now.discovered v false ≡ false → spot.len < now.top
     below_top unseen =
         omega (
           arith,
-          has_room end g₀ discovered finished _ s.order s.looked s.state v child_low unseen,
+          has_room end start.graph now.discovered now.finished _ s.order s.looked s.state v child_low unseen,
           s.deep,
           s.behind.at_top,
           s.sizes.stack_fits,
         )
 
-    pub way_round : get_or discovered v false ≡ true → get_or finished v false ≡ false → IsAcyclic g₀ → ⊥
+    pub way_round : get_or now.discovered v false ≡ true → get_or now.finished v false ≡ false
+        → IsAcyclic start.graph → ⊥
     way_round =
-        closes end g₀ w discovered finished n s.passed s.way s.order s.looked s.state e s.cursor here v next look₀
+        closes end start.graph w now.discovered now.finished spot.node s.passed s.way s.order s.looked s.state
+        spot.edge s.cursor here v next look₀
 
-    module _ {g' : Graph N E} (unchanged : g' ≡ g) {now' : ℕ} (one_more : now' ≡ now + 1) where
-      pub steps_over : get_or finished v false ≡ true
-          → Walking end size finished_size g₀ g' discovered finished stack cursors i top len n next before now'
+    module _ {g' : Graph N E} (unchanged : g' ≡ now.graph) {looks' : ℕ} (one_more : looks' ≡ now.looks + 1) where
+      pub steps_over : get_or now.finished v false ≡ true
+          → Walking end start i record now { graph = g'; looks = looks' } record spot { edge = next }
       steps_over seen =
           record {
             sizes = rooms_looked s.sizes unchanged;
@@ -417,57 +483,66 @@ module _ {N E : Type 0} {end size finished_size : ℕ} {g₀ g : Graph N E} (w :
             passed = suc s.passed;
             behind = s.behind;
             state =
-                passes end g₀ w discovered finished n s.passed s.way s.order s.looked s.state e s.cursor here v
-                next look₀ seen;
-            cursor = next_cursor end g₀ w n s.passed e s.cursor here v next look₀;
+                passes end start.graph w now.discovered now.finished spot.node s.passed s.way s.order s.looked s.state
+                spot.edge s.cursor here v next look₀ seen;
+            cursor = next_cursor end start.graph w spot.node s.passed spot.edge s.cursor here v next look₀;
             deep = s.deep;
             high = s.high;
             high_cursors = s.high_cursors;
             kept = s.kept;
           }
 
-      pub steps_in : (m e' : ℕ) → m ≡ v → get_or discovered v false ≡ false → e' ≡ first_of end (out_list g' v)
-          → Walking end size finished_size g₀ g' (set discovered m true) finished (set stack len n)
-          (set cursors len next) i top (len + 1) v e' before now'
-      steps_in m e' is unseen first =
+      pub steps_in : {m e' : ℕ} → m ≡ v → get_or now.discovered v false ≡ false → e' ≡ first_of end (out_list g' v)
+          → Walking end start i record now {
+            graph = g';
+            discovered = set now.discovered m true;
+            stack = set now.stack spot.len spot.node;
+            cursors = set now.cursors spot.len next;
+            looks = looks';
+          } record { len = spot.len + 1; node = v; edge = e' }
+      steps_in {m} {e'} is unseen first =
           let low = child_low in
           let more = room_here unseen in
           let on =
-          enters end g₀ w discovered finished n s.passed s.way s.order s.looked s.state e s.cursor here v next look₀
-          low unseen in
+          enters end start.graph w now.discovered now.finished spot.node s.passed s.way s.order s.looked s.state
+          spot.edge s.cursor here v next look₀ low unseen in
           let P : ℕ → Type 0 = λ z.
-          Leaving end g₀ (set discovered z true) finished
-          (record { node = v; passed = 0 } ∷ record { node = n; passed = suc s.passed } ∷ s.way) s.order
+          Leaving end start.graph (set now.discovered z true) now.finished
+          (record { node = v; passed = 0 } ∷ record { node = spot.node; passed = suc s.passed } ∷ s.way) s.order
           (s.looked + 1) in
-          let within : len < length stack = omega (arith, more, s.sizes.stack_fits) in
-          let within_cursors : len < length cursors = omega (arith, more, s.sizes.cursors_fit) in
-          let same : g' ≡ g₀ = unchanged ∙ s.sizes.same in
+          let within : spot.len < length now.stack = omega (arith, more, s.sizes.stack_fits) in
+          let within_cursors : spot.len < length now.cursors = omega (arith, more, s.sizes.cursors_fit) in
+          let same : g' ≡ start.graph = unchanged ∙ s.sizes.same in
           record {
-            sizes = rooms_kept (rooms_entered (rooms_looked s.sizes unchanged) m) len n next;
+            sizes = rooms_kept (rooms_entered (rooms_looked s.sizes unchanged) m) spot.len spot.node next;
             visited = λ k below real.
-                let lower : m < length discovered = omega (arith, low, is) in
-                (set_marked discovered m k lower).1 (inr (s.visited k below real));
+                let lower : m < length now.discovered = omega (arith, low, is) in
+                (set_marked now.discovered m k lower).1 (inr (s.visited k below real));
             looked = s.looked + 1;
             counted = omega (arith, s.counted, one_more);
             order = s.order;
-            way = record { node = n; passed = suc s.passed } ∷ s.way;
+            way = record { node = spot.node; passed = suc s.passed } ∷ s.way;
             passed = 0;
             behind = record {
-              at_top = omega (arith, s.behind.at_top, length-set stack len n);
-              are = drop-set-lt top stack len n (below_top unseen) ∙ s.behind.are;
+              at_top = omega (arith, s.behind.at_top, length-set now.stack spot.len spot.node);
+              are = drop-set-lt now.top now.stack spot.len spot.node (below_top unseen) ∙ s.behind.are;
             };
             state = subst P (sym is) on;
             cursor = first ∙ ap (λ (z : Graph N E). first_of end (out_list z v)) same;
             deep = omega (arith, s.deep);
-            high = omega (arith, within, length-set stack len n);
-            high_cursors = omega (arith, within_cursors, length-set cursors len next);
+            high = omega (arith, within, length-set now.stack spot.len spot.node);
+            high_cursors = omega (arith, within_cursors, length-set now.cursors spot.len next);
             kept = (
-              λ d. ap (λ (z : ℕ). get_or (set stack len n) z d) (sym s.deep) ∙ get_or-set_same stack len n d within,
               λ d.
-                  ap (λ (z : ℕ). get_or (set cursors len next) z d) (sym s.deep)
-                  ∙ (get_or-set_same cursors len next d within_cursors
-                  ∙ next_cursor end g₀ w n s.passed e s.cursor here v next look₀),
-              kept_cursors end g₀ (set stack len n) cursors len next s.way (omega (arith, s.deep))
-                  (kept_stack end g₀ stack cursors len n s.way (omega (arith, s.deep)) s.kept),
+                  ap (λ (z : ℕ). get_or (set now.stack spot.len spot.node) z d) (sym s.deep)
+                  ∙ get_or-set_same now.stack spot.len spot.node d within,
+              λ d.
+                  ap (λ (z : ℕ). get_or (set now.cursors spot.len next) z d) (sym s.deep)
+                  ∙ (get_or-set_same now.cursors spot.len next d within_cursors
+                  ∙ next_cursor end start.graph w spot.node s.passed spot.edge s.cursor here v next look₀),
+              kept_cursors end start.graph (set now.stack spot.len spot.node) now.cursors spot.len next s.way
+                  (omega (arith, s.deep))
+                  (kept_stack end start.graph now.stack now.cursors spot.len spot.node s.way (omega (arith, s.deep))
+                  s.kept),
             );
           }

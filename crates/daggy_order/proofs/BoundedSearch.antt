@@ -13,7 +13,8 @@ use Rattle.daggy_base.proofs.Lists.{Mem, Unique, mem_out, mem_left, mem_right, m
 use Rattle.daggy_base.proofs.Lists.{contains_mem}
 use Rattle.daggy_base.proofs.OutEdgesRead.{lists_of, read_part}
 use Rattle.daggy_base.proofs.SearchProgress.{Met, reaches_stays, fewer_than, marked_within, set_marked}
-use Rattle.daggy_base.proofs.SearchState.{Searching, all_met_here, from_marked, only_reached, child_found}
+use Rattle.daggy_base.proofs.SearchState.{Start, Reading, Searching, all_met_here, from_marked, only_reached}
+use Rattle.daggy_base.proofs.SearchState.{child_found}
 
 -- sums over the nodes of a list
 pub split_at : (ys : List ℕ) (x : ℕ) → Mem x ys → (p : List ℕ) × (q : List ℕ) × (ys ≡ p ++ x ∷ q)
@@ -149,81 +150,97 @@ Below positions limit n = get_or positions n 0 < limit
 abbrev pub Beyond : (positions : List ℕ) → (limit to : ℕ) → ℕ → Type 0
 Beyond positions limit to n = (limit ≤ get_or positions n 0) × (n ≢ to)
 
-abbrev pub SearchingBelow : {N E : Type 0} → (end size : ℕ) → (g₀ g : Graph N E) → (positions : List ℕ)
-    → (limit from to : ℕ) → (marks : List Bool) → (stack : List ℕ) → (len e before now : ℕ) → Type 0
-SearchingBelow end size g₀ g positions limit from to =
-    Searching end size g₀ g (Below positions limit) (Beyond positions limit to) from
+abbrev pub SearchingBelow : {N E : Type 0} → (end : ℕ) → (positions : List ℕ) → (limit to : ℕ) → Start N E
+    → Reading N E → Type 0
+SearchingBelow end positions limit to = Searching end (Below positions limit) (Beyond positions limit to)
 
-module _ {N E : Type 0} {end size : ℕ} {g₀ g : Graph N E} (w : IsWellFormed end g₀) (positions : List ℕ) (limit to : ℕ)
-    {from : ℕ} {marks : List Bool} {stack : List ℕ} {len e before now : ℕ}
-    (ascending : (u v : ℕ) → AreJoined g₀ u v → get_or positions u 0 < get_or positions v 0) (s : Searching end size g₀
-    g (Below positions limit) (Beyond positions limit to) from marks stack len e before now) where
+module _ {N E : Type 0} {end : ℕ} {start : Start N E} {now : Reading N E} (w : IsWellFormed end start.graph)
+    (positions : List ℕ) (limit : ℕ) {Skip : ℕ → Type 0}
+    (ascending : (u v : ℕ) → AreJoined start.graph u v → get_or positions u 0 < get_or positions v 0)
+    (s : Searching end (Below positions limit) Skip start now) where
   -- what is reached stands no earlier
-  pub later : (n : ℕ) → Reaches g₀ from n → get_or positions from 0 ≤ get_or positions n 0
+  pub later : (n : ℕ) → Reaches start.graph start.from n → get_or positions start.from 0 ≤ get_or positions n 0
   later n r =
-      let P : ℕ → Type 0 = λ z. get_or positions from 0 ≤ get_or positions z 0 in
-      reaches_stays g₀ P (λ u v h j. omega (arith, h, ascending u v j)) from n r (omega arith)
+      let P : ℕ → Type 0 = λ z. get_or positions start.from 0 ≤ get_or positions z 0 in
+      reaches_stays start.graph P (λ u v h j. omega (arith, h, ascending u v j)) start.from n r (omega arith)
 
-  pub child_placed : ((n : ℕ) → HasNode g₀ n → n < length positions) → e ≢ end → {v next : ℕ} → IsLook end g e v next
-      → v < length positions
-  child_placed placed here {v} look = placed v (reached_exists g₀ from v (child_found w s here look))
+  pub child_placed : ((n : ℕ) → HasNode start.graph n → n < length positions) → now.edge ≢ end → {v next : ℕ}
+      → IsLook end now.graph now.edge v next → v < length positions
+  child_placed placed here {v} look =
+      placed v (reached_exists start.graph start.from v (child_found w s here look))
 
   -- the count of looks
-  module _ (ns : List ℕ) (all : (n : ℕ) → HasNode g₀ n → get_or positions from 0 ≤ get_or positions n 0
-      → get_or positions n 0 < limit → Contains ns n) where
-    few_reads : length (out_list g₀ s.going.at) + edges_from g₀ s.going.done ≤ edges_from g₀ ns
+  module _ (ns : List ℕ) (all : (n : ℕ) → HasNode start.graph n
+      → get_or positions start.from 0 ≤ get_or positions n 0 → get_or positions n 0 < limit → Contains ns n) where
+    few_reads : length (out_list start.graph s.going.at) + edges_from start.graph s.going.done
+        ≤ edges_from start.graph ns
     few_reads =
-        edges_few g₀ (s.going.at ∷ s.going.done) ns
-        (unique_right (take len stack) (s.going.at ∷ s.going.done) s.going.once) (λ x m.
+        edges_few start.graph (s.going.at ∷ s.going.done) ns
+        (unique_right (take now.len now.stack) (s.going.at ∷ s.going.done) s.going.once) (λ x m.
         let here =
-        only_reached w s x ((s.going.marked x).1 (mem_right (take len stack) (s.going.at ∷ s.going.done) x m)) in
-        contains_mem ns x (all x (reached_exists g₀ from x here.0) (later x here.0) here.1))
+        only_reached w s x
+        ((s.going.marked x).1 (mem_right (take now.len now.stack) (s.going.at ∷ s.going.done) x m)) in
+        contains_mem ns x (all x (reached_exists start.graph start.from x here.0) (later x here.0) here.1))
 
-    pub few_below : now ≤ before + edges_from g₀ ns
-    few_below = omega (arith, few_reads, s.counted, s.going.counted, s.going.within, lists_length g₀ s.going.done)
+    pub few_below : now.looks ≤ start.looks + edges_from start.graph ns
+    few_below =
+        omega (
+          arith,
+          few_reads,
+          s.counted,
+          s.going.counted,
+          s.going.within,
+          lists_length start.graph s.going.done,
+        )
 
-    pub looked_below : e ≢ end → {now' : ℕ} → now' ≡ now + 1 → now' ≤ before + edges_from g₀ ns
+    pub looked_below : now.edge ≢ end → {looks' : ℕ}
+        → looks' ≡ now.looks + 1 → looks' ≤ start.looks + edges_from start.graph ns
     looked_below here one_more =
         omega (
           arith,
           few_reads,
           s.counted,
           s.going.counted,
-          lists_length g₀ s.going.done,
-          (read_part end g₀ w s.going.at s.going.passed e s.going.cursor here).0,
+          lists_length start.graph s.going.done,
+          (read_part end start.graph w s.going.at s.going.passed now.edge s.going.cursor here).0,
         )
 
-  -- at the end
-  module _ (ended : e ≡ end) (empty : len ≡ 0) (limit_is : get_or positions to 0 ≡ limit) where
-    met : (n : ℕ) → Reaches g₀ from n → Met marks (Beyond positions limit to) n
-    met n r =
-        let P : ℕ → Type 0 = λ z. Met marks (Beyond positions limit to) z in
-        reaches_stays g₀ P (λ u v m j.
-        let up = ascending u v j in
-        elim m [
-          | inl here ↦ all_met_here w s ended empty u v here j
-          | inr past ↦ inr (
-            omega (arith, past.0),
-            λ eq.
-                let low : limit ≤ get_or positions u 0 = past.0 in
-                let same : get_or positions v 0 ≡ limit = ap (λ z. get_or positions z 0) eq ∙ limit_is in
-                absurd (omega arith),
-          )
-        ]) from n r (inl (from_marked w s))
+-- at the end
+module _ {N E : Type 0} {end : ℕ} {start : Start N E} {now : Reading N E} (w : IsWellFormed end start.graph)
+    (positions : List ℕ) (limit to : ℕ)
+    (ascending : (u v : ℕ) → AreJoined start.graph u v → get_or positions u 0 < get_or positions v 0)
+    (s : Searching end (Below positions limit) (Beyond positions limit to) start now) (ended : now.edge ≡ end)
+    (empty : now.len ≡ 0) (limit_is : get_or positions to 0 ≡ limit) where
+  met : (n : ℕ) → Reaches start.graph start.from n → Met now.marks (Beyond positions limit to) n
+  met n r =
+      let P : ℕ → Type 0 = λ z. Met now.marks (Beyond positions limit to) z in
+      reaches_stays start.graph P (λ u v m j.
+      let up = ascending u v j in
+      elim m [
+        | inl here ↦ all_met_here w s ended empty u v here j
+        | inr past ↦ inr (
+          omega (arith, past.0),
+          λ eq.
+              let low : limit ≤ get_or positions u 0 = past.0 in
+              let same : get_or positions v 0 ≡ limit = ap (λ z. get_or positions z 0) eq ∙ limit_is in
+              absurd (omega arith),
+        )
+      ]) start.from n r (inl (from_marked w s))
 
-    pub missed : Reaches g₀ from to → ⊥
-    missed r =
-        elim (met to r) [
-          | inl m ↦ let low : get_or positions to 0 < limit = (only_reached w s to m).1 in absurd (omega arith)
-          | inr past ↦ past.1 refl
-        ]
+  pub missed : Reaches start.graph start.from to → ⊥
+  missed r =
+      elim (met to r) [
+        | inl m ↦ let low : get_or positions to 0 < limit = (only_reached w s to m).1 in absurd (omega arith)
+        | inr past ↦ past.1 refl
+      ]
 
-    pub exactly : (n : ℕ) → (get_or marks n false ≡ true) ↔ (Reaches g₀ from n × (get_or positions n 0 < limit))
-    exactly n = (
-      λ m. only_reached w s n m,
-      λ r. elim (met n r.0) [
-        | inl m ↦ m
-        | inr past ↦ let low : limit ≤ get_or positions n 0 = past.0 in
-            let high : get_or positions n 0 < limit = r.1 in absurd (omega arith)
-      ],
-    )
+  pub exactly : (n : ℕ)
+      → (get_or now.marks n false ≡ true) ↔ (Reaches start.graph start.from n × (get_or positions n 0 < limit))
+  exactly n = (
+    λ m. only_reached w s n m,
+    λ r. elim (met n r.0) [
+      | inl m ↦ m
+      | inr past ↦ let low : limit ≤ get_or positions n 0 = past.0 in
+          let high : get_or positions n 0 < limit = r.1 in absurd (omega arith)
+    ],
+  )

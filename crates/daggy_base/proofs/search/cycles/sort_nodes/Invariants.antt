@@ -5,16 +5,41 @@ use Rattle.daggy_base.proofs.search.cycles.sort_nodes.Given as goal
 
 abbrev pub invariant-roots : goal.invariant-roots
 invariant-roots g l =
-    Resting g.Ix.IndexType.greatest (length l.fn.discovered) (length l.fn.finished) (g.S.EdgeSource.graph l.fn.source)
-    (g.S.EdgeSource.graph l.source) l.discovered l.finished l.stack l.cursors l.i l.top
-    (g.S.EdgeSource.looks l.fn.source) (g.S.EdgeSource.looks l.source)
+    Resting g.Ix.IndexType.greatest record {
+      graph = g.S.EdgeSource.graph l.fn.source;
+      discovered = length l.fn.discovered;
+      finished = length l.fn.finished;
+      looks = g.S.EdgeSource.looks l.fn.source;
+    } l.i record {
+      graph = g.S.EdgeSource.graph l.source;
+      discovered = l.discovered;
+      finished = l.finished;
+      stack = l.stack;
+      cursors = l.cursors;
+      top = l.top;
+      looks = g.S.EdgeSource.looks l.source;
+    }
 
 abbrev pub invariant-steps : goal.invariant-steps
 invariant-steps g l =
-    Walking g.Ix.IndexType.greatest (length l.fn.discovered) (length l.fn.finished) (g.S.EdgeSource.graph l.fn.source)
-    (g.S.EdgeSource.graph l.source) l.discovered l.finished l.stack l.cursors (l.i + 1) l.top l.len
-    (g.Ix.IndexType.number l.n) (g.Ix.IndexType.number l.e) (g.S.EdgeSource.looks l.fn.source)
-    (g.S.EdgeSource.looks l.source)
+    Walking g.Ix.IndexType.greatest record {
+      graph = g.S.EdgeSource.graph l.fn.source;
+      discovered = length l.fn.discovered;
+      finished = length l.fn.finished;
+      looks = g.S.EdgeSource.looks l.fn.source;
+    } (l.i + 1) record {
+      graph = g.S.EdgeSource.graph l.source;
+      discovered = l.discovered;
+      finished = l.finished;
+      stack = l.stack;
+      cursors = l.cursors;
+      top = l.top;
+      looks = g.S.EdgeSource.looks l.source;
+    } record {
+      len = l.len;
+      node = g.Ix.IndexType.number l.n;
+      edge = g.Ix.IndexType.number l.e;
+    }
 
 abbrev pub decreases-steps : goal.decreases-steps
 decreases-steps g l =

@@ -7,8 +7,8 @@ use Rattle.daggy_base.specs.Graph.{out_list}
 use Rattle.daggy_base.specs.Path.{Reaches}
 use Rattle.daggy_base.specs.Cursor.{first_of}
 use Rattle.daggy_base.proofs.OutEdgesRead.{below_bound}
-use Rattle.daggy_base.proofs.SearchState.{starts, edge_here, popped_here, child_low, room_here, child_found, moves_on}
-use Rattle.daggy_base.proofs.SearchState.{pushes, looked_once, room_marks}
+use Rattle.daggy_base.proofs.SearchState.{Reading, starts, edge_here, popped_here, child_low, room_here, child_found}
+use Rattle.daggy_base.proofs.SearchState.{moves_on, pushes, looked_once, room_marks}
 use Rattle.daggy_order.proofs.BoundedSearch.{Below, Beyond, finds_first, finds_room, finds_more, few_below}
 use Rattle.daggy_order.proofs.BoundedSearch.{looked_below, missed, exactly, child_placed}
 use Rattle.daggy_order.proofs.order.search.reaches_below.Goals as goal
@@ -38,11 +38,19 @@ steps-init g c =
     let found =
     finds_first c.args.marks.now c.args.found.now (g.Ix.IndexType.number c.args.from) c.index.result c.of_node.result
     c.requires.cleared (omega (arith, low, c.requires.marks_fit)) c.requires.found_fits c.index.ensures.value
-    c.of_node.ensures in (
-      rw c.mark.ensures (starts c.requires.well_formed (Below c.args.labels.now c.args.limit)
-          (Beyond c.args.labels.now c.args.limit (g.Ix.IndexType.number c.args.to)) c.args.marks.now c.args.stack.now
-          c.index.result _ _ c.requires.exists c.requires.cleared c.requires.before c.requires.marks_fit
-          c.requires.stack_fits c.index.ensures.value c.first-e.ensures),
+    c.of_node.ensures in
+    let now : Reading _ _ = record {
+      graph = g.S.EdgeSource.graph c.args.source.now;
+      marks = c.args.marks.now;
+      stack = c.args.stack.now;
+      len = 0;
+      edge = g.Ix.IndexType.number c.first-e.result;
+      looks = g.S.EdgeSource.looks c.args.source.now;
+    } in (
+      rw c.mark.ensures (starts now c.requires.well_formed {Keep = Below c.args.labels.now c.args.limit}
+          {Skip = Beyond c.args.labels.now c.args.limit (g.Ix.IndexType.number c.args.to)} c.requires.exists
+          c.requires.cleared c.requires.before c.requires.marks_fit c.requires.stack_fits c.index.ensures.value
+          c.first-e.ensures),
       rw (c.mark.ensures, c.write.ensures) found,
     )
 
@@ -81,14 +89,12 @@ offset_bounds-stack-len g c =
 pub returns-then-len-eq0-clause-counted : goal.returns-then-len-eq0-clause-counted
 returns-then-len-eq0-clause-counted g c =
     λ ns all.
-    few_below c.requires.well_formed c.args.labels.now c.args.limit (g.Ix.IndexType.number c.args.to)
-    c.requires.ascending c.steps.invariant.0 ns all
+    few_below c.requires.well_formed c.args.labels.now c.args.limit c.requires.ascending c.steps.invariant.0 ns all
 
 pub steps-preserved-then-index-end : goal.steps-preserved-then-index-end
 steps-preserved-then-index-end g c =
     let at_end : g.Ix.IndexType.number c.steps.e ≡ g.Ix.IndexType.greatest = cc in (
-      popped_here c.requires.well_formed c.steps.invariant.0 at_end c.if-len-eq0.false _ c.index-stack-len.result _ refl
-          c.index-stack-len.is
+      popped_here c.requires.well_formed c.steps.invariant.0 at_end c.if-len-eq0.false refl c.index-stack-len.is
           (c.first-e-then-index-end.ensures
           ∙ ap (λ n. first_of g.Ix.IndexType.greatest (out_list (g.S.EdgeSource.graph c.steps.source) n))
           c.node.ensures.value),
@@ -106,8 +112,8 @@ offset_bounds-labels-i g c =
     let within : c.index-i.result < length c.args.labels.now =
     omega (
       arith,
-      child_placed c.requires.well_formed c.args.labels.now c.args.limit (g.Ix.IndexType.number c.args.to)
-          c.requires.ascending c.steps.invariant.0 c.requires.placed here c.look-v.ensures.gives,
+      child_placed c.requires.well_formed c.args.labels.now c.args.limit c.requires.ascending c.steps.invariant.0
+          c.requires.placed here c.look-v.ensures.gives,
       c.index-i.ensures.value,
     ) in
     search rules
@@ -117,8 +123,8 @@ bounds-labels-i g c =
     let here : g.Ix.IndexType.number c.steps.e ≢ g.Ix.IndexType.greatest = λ h. c.if-index-end.false cc in
     omega (
       arith,
-      child_placed c.requires.well_formed c.args.labels.now c.args.limit (g.Ix.IndexType.number c.args.to)
-          c.requires.ascending c.steps.invariant.0 c.requires.placed here c.look-v.ensures.gives,
+      child_placed c.requires.well_formed c.args.labels.now c.args.limit c.requires.ascending c.steps.invariant.0
+          c.requires.placed here c.look-v.ensures.gives,
       c.index-i.ensures.value,
     )
 
@@ -187,8 +193,8 @@ pub returns-then-i-target-clause-counted : goal.returns-then-i-target-clause-cou
 returns-then-i-target-clause-counted g c =
     let here : g.Ix.IndexType.number c.steps.e ≢ g.Ix.IndexType.greatest = λ h. c.if-index-end.false cc in
     λ ns all.
-    looked_below c.requires.well_formed c.args.labels.now c.args.limit (g.Ix.IndexType.number c.args.to)
-    c.requires.ascending c.steps.invariant.0 ns all here c.look-v.ensures.counted
+    looked_below c.requires.well_formed c.args.labels.now c.args.limit c.requires.ascending c.steps.invariant.0 ns all
+    here c.look-v.ensures.counted
 
 pub steps-smaller-then-not-is_marked : goal.steps-smaller-then-not-is_marked
 steps-smaller-then-not-is_marked g c =
@@ -225,7 +231,7 @@ steps-preserved-then-not-is_marked g c =
     rw (← c.index-i.ensures.value) c.if-labels-i.true in
     let s =
     pushes c.requires.well_formed c.steps.invariant.0 here c.look-v.ensures.gives c.look-v.ensures.same
-    c.look-v.ensures.counted c.index-i.result c.index-i.ensures.value low unseen in
+    c.look-v.ensures.counted c.index-i.ensures.value low unseen in
     let f =
     finds_more c.steps.invariant.1 (g.Ix.IndexType.number c.look-v.result.0)
     (child_low c.requires.well_formed c.steps.invariant.0 here c.look-v.ensures.gives) unseen c.index-i.result

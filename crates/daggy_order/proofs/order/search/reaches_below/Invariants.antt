@@ -5,9 +5,19 @@ use Rattle.daggy_order.proofs.order.search.reaches_below.Given as goal
 
 abbrev pub invariant-steps : goal.invariant-steps
 invariant-steps g l =
-    SearchingBelow g.Ix.IndexType.greatest (length l.fn.marks) (g.S.EdgeSource.graph l.fn.source)
-    (g.S.EdgeSource.graph l.source) l.labels l.limit (g.Ix.IndexType.number l.fn.from) (g.Ix.IndexType.number l.fn.to)
-    l.marks l.stack l.len (g.Ix.IndexType.number l.e) (g.S.EdgeSource.looks l.fn.source) (g.S.EdgeSource.looks l.source)
+    SearchingBelow g.Ix.IndexType.greatest l.labels l.limit (g.Ix.IndexType.number l.fn.to) record {
+      graph = g.S.EdgeSource.graph l.fn.source;
+      from = g.Ix.IndexType.number l.fn.from;
+      marks = length l.fn.marks;
+      looks = g.S.EdgeSource.looks l.fn.source;
+    } record {
+      graph = g.S.EdgeSource.graph l.source;
+      marks = l.marks;
+      stack = l.stack;
+      len = l.len;
+      edge = g.Ix.IndexType.number l.e;
+      looks = g.S.EdgeSource.looks l.source;
+    }
     × Finding l.marks l.found (length l.fn.found) l.count
 
 abbrev pub decreases-steps : goal.decreases-steps
