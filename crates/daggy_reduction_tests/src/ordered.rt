@@ -1,6 +1,4 @@
 //! A graph that counts its looks, beside an order of its nodes.
-ghost use Rattle.std.specs.Prelude.{◌≡◌, IsTrue, Ok};
-
 use crate::tests::{holds, made};
 use daggy_base::index::{EdgeIndex, NodeIndex};
 use daggy_base::search::{EdgeSource, Scratch};

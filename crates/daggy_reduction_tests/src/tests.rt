@@ -5,20 +5,23 @@ use crate::ordered::Ordered;
 use daggy_base::index::{EdgeIndex, NodeIndex};
 use daggy_base::search::{EdgeSource, Scratch, is_acyclic};
 use daggy_base::store::Store;
-use daggy_dag::acyclic::{Acyclic, Dag, StableDag};
+use daggy_dag::acyclic::Acyclic;
 use daggy_graph::graph::DiGraph;
 use daggy_reduction::redundant::redundant_edges;
+use daggy_stable::stable_graph::StableDiGraph;
 use std::alloc::Global;
 use std::process::Abort;
 
 type Small = DiGraph<u32, u32, u8>;
 
+/// Asserts a fact, which calls after it may rest on.
 pub fn holds(rt: &impl Abort, fact: bool)
     ensures { IsTrue fact }
 {
     assert!(rt; fact);
 }
 
+/// Asserts that a call succeeded, and gives what it gave.
 pub fn made<T: Drop, E: Drop>(rt: &impl Abort, answer: Result<T, E>) -> T
     ensures { answer ≡ Ok result }
 {
@@ -179,78 +182,140 @@ const TEXTBOOK: [(usize, usize); 8] = [
     (3, 4),
 ];
 
+/// Something that is done with a dag.
+#[derive(Clone, Copy)]
+enum Step<'a> {
+    /// It is reduced from some roots, and has these edges then, with their ends.
+    Reduce(&'a [usize], &'a [(usize, usize, usize)]),
+    /// An edge is added, and gets this index.
+    Join(usize, usize, usize),
+    /// Edges are added from one node to another until no index is left.
+    Fill(usize, usize),
+    /// It is reduced from a root, and has so many edges then.
+    Count(usize, usize),
+}
+
+fn take<S: Store<u8, NodeWeight = (), EdgeWeight = ()>>(
+    rt: &impl Abort,
+    alloc: Global,
+    dag: &mut Acyclic<(), (), u8, S>,
+    step: Step<'_>,
+) {
+    match step {
+        Step::Reduce(roots, left) => reduce(rt, alloc, dag, roots, left),
+        Step::Join(a, b, index) => holds(rt, join(rt, dag, (a, b)) == index),
+        Step::Fill(a, b) => {
+            for _ in 0..253 {
+                let _e = join(rt, dag, (a, b));
+            }
+            holds(rt, !dag.can_add_edge());
+        }
+        Step::Count(root, wanted) => {
+            let mut roots = Vec::new(alloc);
+            made(rt, roots.push(node(rt, root)));
+            made(rt, dag.transitive_reduce(roots));
+            holds(rt, dag.edge_count() == wanted);
+        }
+    }
+}
+
+// Takes some steps with a dag of so many nodes and these edges.
+fn act<S: Store<u8, NodeWeight = (), EdgeWeight = ()>>(
+    rt: &impl Abort,
+    alloc: Global,
+    nodes: usize,
+    edges: &[(usize, usize)],
+    steps: &[Step<'_>],
+) {
+    let mut dag: Acyclic<(), (), u8, S> = Acyclic::new(alloc);
+    fill(rt, &mut dag, nodes, edges);
+    for step in steps {
+        take(rt, alloc, &mut dag, *step);
+    }
+    holds(rt, dag.node_count() == nodes);
+}
+
+// Each kind is named in one function, since a call at a kind costs a proof much more than a call at
+// any dag.
+fn compact(
+    rt: &impl Abort,
+    alloc: Global,
+    nodes: usize,
+    edges: &[(usize, usize)],
+    steps: &[Step<'_>],
+) {
+    act::<DiGraph<(), (), u8>>(rt, alloc, nodes, edges, steps);
+}
+
+fn stable(
+    rt: &impl Abort,
+    alloc: Global,
+    nodes: usize,
+    edges: &[(usize, usize)],
+    steps: &[Step<'_>],
+) {
+    act::<StableDiGraph<(), (), u8>>(rt, alloc, nodes, edges, steps);
+}
+
 #[test]
 fn a_compact_dag_moves_the_last_edges_to_the_gaps(rt: HostRuntime) {
-    let left = [(0, 0, 1), (1, 0, 2), (2, 2, 3), (3, 3, 4), (4, 1, 3)];
-    let mut dag: Dag<(), (), u8> = Dag::new(rt.alloc());
-    fill(&rt, &mut dag, 5, &TEXTBOOK);
-    reduce(&rt, rt.alloc(), &mut dag, &[0], &left);
-    holds(&rt, join(&rt, &mut dag, (0, 4)) == 5);
-    reduce(&rt, rt.alloc(), &mut dag, &[0], &left);
+    let left = &[(0, 0, 1), (1, 0, 2), (2, 2, 3), (3, 3, 4), (4, 1, 3)];
+    let steps = [
+        Step::Reduce(&[0], left),
+        Step::Join(0, 4, 5),
+        Step::Reduce(&[0], left),
+    ];
+    compact(&rt, rt.alloc(), 5, &TEXTBOOK, &steps);
 }
 
 #[test]
 fn in_a_stable_dag_what_stays_keeps_its_index(rt: HostRuntime) {
-    let left = [(0, 0, 1), (1, 0, 2), (4, 1, 3), (5, 2, 3), (7, 3, 4)];
-    let mut dag: StableDag<(), (), u8> = StableDag::new(rt.alloc());
-    fill(&rt, &mut dag, 5, &TEXTBOOK);
-    reduce(&rt, rt.alloc(), &mut dag, &[0], &left);
-    holds(&rt, join(&rt, &mut dag, (0, 4)) == 2);
-    reduce(&rt, rt.alloc(), &mut dag, &[0], &left);
-    for index in [2, 3, 6, 8] {
-        holds(&rt, join(&rt, &mut dag, (0, 1)) == index);
-    }
+    let left = &[(0, 0, 1), (1, 0, 2), (4, 1, 3), (5, 2, 3), (7, 3, 4)];
+    let steps = [
+        Step::Reduce(&[0], left),
+        Step::Join(0, 4, 2),
+        Step::Reduce(&[0], left),
+        Step::Join(0, 1, 2),
+        Step::Join(0, 1, 3),
+        Step::Join(0, 1, 6),
+        Step::Join(0, 1, 8),
+    ];
+    stable(&rt, rt.alloc(), 5, &TEXTBOOK, &steps);
 }
 
 #[test]
 fn roots_that_miss_change_nothing(rt: HostRuntime) {
-    let all = [(0, 0, 1), (1, 1, 2), (2, 0, 2)];
-    let mut dag: Dag<(), (), u8> = Dag::new(rt.alloc());
-    fill(&rt, &mut dag, 3, &[(0, 1), (1, 2), (0, 2)]);
-    reduce(&rt, rt.alloc(), &mut dag, &[1], &all);
-    reduce(&rt, rt.alloc(), &mut dag, &[99], &all);
-    reduce(&rt, rt.alloc(), &mut dag, &[], &all);
-    reduce(
-        &rt,
-        rt.alloc(),
-        &mut dag,
-        &[0, 9, 0],
-        &[(0, 0, 1), (1, 1, 2)],
-    );
+    let all = &[(0, 0, 1), (1, 1, 2), (2, 0, 2)];
+    let steps = [
+        Step::Reduce(&[1], all),
+        Step::Reduce(&[99], all),
+        Step::Reduce(&[], all),
+        Step::Reduce(&[0, 9, 0], &[(0, 0, 1), (1, 1, 2)]),
+    ];
+    compact(&rt, rt.alloc(), 3, &[(0, 1), (1, 2), (0, 2)], &steps);
 }
 
 #[test]
 fn nodes_without_edges_are_reduced_already(rt: HostRuntime) {
-    let mut dag: StableDag<(), (), u8> = StableDag::new(rt.alloc());
-    fill(&rt, &mut dag, 3, &[]);
-    reduce(&rt, rt.alloc(), &mut dag, &[0, 0, 9], &[]);
-    holds(&rt, dag.node_count() == 3);
+    stable(&rt, rt.alloc(), 3, &[], &[Step::Reduce(&[0, 0, 9], &[])]);
 }
 
 #[test]
 fn all_edges_of_a_pair_stay_or_go(rt: HostRuntime) {
-    let mut dag: Dag<(), (), u8> = Dag::new(rt.alloc());
-    fill(&rt, &mut dag, 4, &[(0, 1), (0, 2), (1, 2), (1, 2), (2, 3)]);
-    let left = [(0, 0, 1), (1, 2, 3), (2, 1, 2), (3, 1, 2)];
-    reduce(&rt, rt.alloc(), &mut dag, &[0], &left);
+    let edges = [(0, 1), (0, 2), (1, 2), (1, 2), (2, 3)];
+    let left = &[(0, 0, 1), (1, 2, 3), (2, 1, 2), (3, 1, 2)];
+    compact(&rt, rt.alloc(), 4, &edges, &[Step::Reduce(&[0], left)]);
 }
 
 #[test]
 fn a_full_dag_is_reduced(rt: HostRuntime) {
-    let mut dag: Dag<(), (), u8> = Dag::new(rt.alloc());
-    fill(&rt, &mut dag, 3, &[(0, 1), (1, 2)]);
-    for _ in 0..253 {
-        let _e = join(&rt, &mut dag, (0, 2));
-    }
-    holds(&rt, !dag.can_add_edge());
-    reduce(&rt, rt.alloc(), &mut dag, &[0], &[(0, 0, 1), (1, 1, 2)]);
-    for _ in 0..253 {
-        let _e = join(&rt, &mut dag, (0, 1));
-    }
-    let mut roots = Vec::new(rt.alloc());
-    made(&rt, roots.push(node(&rt, 0)));
-    made(&rt, dag.transitive_reduce(roots));
-    holds(&rt, dag.edge_count() == 255);
+    let steps = [
+        Step::Fill(0, 2),
+        Step::Reduce(&[0], &[(0, 0, 1), (1, 1, 2)]),
+        Step::Fill(0, 1),
+        Step::Count(0, 255),
+    ];
+    compact(&rt, rt.alloc(), 3, &[(0, 1), (1, 2)], &steps);
 }
 
 #[test]

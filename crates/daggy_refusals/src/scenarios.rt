@@ -2,12 +2,13 @@
 //! node and one of an edge, which are taken first.
 use crate::again::{
     add_edges, add_edges_again, add_neighbor_again, add_node, add_node_again, extend_again, fan,
-    join, join_again, small_fan,
+    fill, join, join_again, small_fan,
 };
 use crate::observed::{counts, is_fan, state_of};
-use crate::support::{Compact, Kind, Plain, Stable, holds, made, refuse, same};
+use crate::support::{Calls, Compact, Kind, Plain, Stable, holds, made, refuse, same};
 use daggy::graph::Element;
 use daggy::index::Direction;
+use daggy::visit::{GetAdjacencyMatrix, Visitable};
 use daggy::{EdgeError, EdgeIndices, EdgesError, ElementError, NodeError, NodeIndex};
 use std::alloc::{AllocError, Global};
 use std::process::Abort;
@@ -27,6 +28,9 @@ pub enum Scenario {
     OfEdges,
     OfElements,
     Reduction,
+    Copies(Way),
+    Capacity,
+    Sets,
 }
 
 fn play<S: Kind>(rt: &impl Abort, alloc: Global, scenario: Scenario) {
@@ -42,6 +46,9 @@ fn play<S: Kind>(rt: &impl Abort, alloc: Global, scenario: Scenario) {
         Scenario::OfEdges => dag_of_edges::<S>(rt, alloc),
         Scenario::OfElements => dag_of_elements::<S>(rt, alloc),
         Scenario::Reduction => reduction::<S>(rt, alloc),
+        Scenario::Copies(way) => copies::<S>(rt, alloc, way),
+        Scenario::Capacity => capacity::<S>(rt, alloc),
+        Scenario::Sets => sets::<S>(rt, alloc),
     }
 }
 
@@ -241,35 +248,91 @@ fn dag_of_elements<S: Kind>(rt: &impl Abort, alloc: Global) {
     counts(rt, &dag, 2, 1);
 }
 
-/// A dag made of another one, or the refusal, and how often the closures were called for nodes and
-/// for edges.
-pub type Counted<D> = (Result<D, AllocError>, (usize, usize));
-
-/// Makes a dag of another one, for which closures are called so often, a second time if the first
-/// is refused. A refused call calls none.
-pub fn copy_again<D: Drop, F: Fn(&D) -> Counted<D> + Drop>(
-    rt: &impl Abort,
-    dag: &D,
-    make: F,
-    wanted: (usize, usize),
-    refused: &mut bool,
-) -> D
-    requires { F.IsAlwaysCallable make }
-{
-    let mut answer = make(dag);
-    if answer.0.is_err() {
-        refuse(rt, refused);
-        same(rt, answer.1, (0, 0));
-        answer = make(dag);
-    }
-    same(rt, answer.1, wanted);
-    made(rt, answer.0)
+/// How a dag is made of another one.
+#[derive(Clone, Copy)]
+pub enum Way {
+    Copy,
+    Map,
+    Part,
 }
 
-/// Asserts that two dags are the same small fan.
-pub fn are_small_fans<S: Kind>(rt: &impl Abort, a: &Plain<S>, b: &Plain<S>) {
-    same(rt, state_of(a), state_of(b));
-    is_fan(rt, a, if S::GAP { 2 } else { 3 }, S::GAP);
+fn made_of<S: Kind>(dag: &Plain<S>, way: Way, calls: &mut Calls) -> Result<Plain<S>, AllocError> {
+    match way {
+        Way::Copy => S::copied(dag),
+        Way::Map => S::mapped(dag, calls),
+        Way::Part => S::kept(dag, calls),
+    }
+}
+
+// Makes a dag of another one, a second time if the first is refused, in which no closure was called.
+fn made_again<S: Kind>(
+    rt: &impl Abort,
+    dag: &Plain<S>,
+    way: Way,
+    calls: &mut Calls,
+    refused: &mut bool,
+) -> Plain<S> {
+    match made_of(dag, way, calls) {
+        Ok(copy) => copy,
+        Err(AllocError) => {
+            refuse(rt, refused);
+            same(rt, *calls, Calls { nodes: 0, edges: 0 });
+            made(rt, made_of(dag, way, calls))
+        }
+    }
+}
+
+// A dag that is made of a small fan.
+fn copies<S: Kind>(rt: &impl Abort, alloc: Global, way: Way) {
+    let mut refused = false;
+    let dag: Plain<S> = small_fan(rt, alloc, &mut refused);
+    let mut calls = Calls { nodes: 0, edges: 0 };
+    let mut copy = made_again(rt, &dag, way, &mut calls, &mut refused);
+    let (nodes, edges) = match way {
+        Way::Copy => (0, 0),
+        Way::Map | Way::Part => (dag.node_count(), dag.edge_count()),
+    };
+    same(rt, calls, Calls { nodes, edges });
+    same(rt, state_of(&copy), state_of(&dag));
+    is_fan(rt, &dag, if S::GAP { 2 } else { 3 }, S::GAP);
+    if S::GAP {
+        // A vacant slot needs no memory.
+        same(rt, made(rt, add_node(rt, &mut copy, 2)).index(), 2);
+    }
+}
+
+// A dag that is made with room for a fan.
+fn capacity<S: Kind>(rt: &impl Abort, alloc: Global) {
+    let mut dag: Plain<S> = match S::with_capacity(alloc, 8, 7) {
+        Ok(dag) => dag,
+        Err(AllocError) => made(rt, S::with_capacity(alloc, 8, 7)),
+    };
+    fill(rt, &mut dag, 7);
+}
+
+// A set and a matrix for a small fan.
+fn sets<S: Kind>(rt: &impl Abort, alloc: Global) {
+    let mut refused = false;
+    let dag: Plain<S> = small_fan(rt, alloc, &mut refused);
+    let mut set = match dag.visit_map() {
+        Ok(set) => set,
+        Err(AllocError) => {
+            refuse(rt, &mut refused);
+            made(rt, dag.visit_map())
+        }
+    };
+    if dag.reset_map(&mut set).is_err() {
+        refuse(rt, &mut refused);
+    }
+    let matrix = match dag.adjacency_matrix() {
+        Ok(matrix) => matrix,
+        Err(AllocError) => {
+            refuse(rt, &mut refused);
+            made(rt, dag.adjacency_matrix())
+        }
+    };
+    let joined = dag.is_adjacent(&matrix, NodeIndex::new(0), NodeIndex::new(3));
+    holds(rt, joined);
 }
 
 // Reduces the dag from its root.

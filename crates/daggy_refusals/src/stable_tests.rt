@@ -1,11 +1,9 @@
 //! The calls of the stable dag.
-use crate::again::{add_node, fan, fill, small_fan};
+use crate::again::fan;
 use crate::observed::is_fan;
-use crate::scenarios::{Counted, Scenario, are_small_fans, copy_again, stable};
-use crate::support::{Compact, Plain, Stable, holds, made, refuse, same};
-use daggy::visit::{GetAdjacencyMatrix, Visitable};
-use daggy::{NodeIndex, StableDag};
-use std::alloc::AllocError;
+use crate::scenarios::{Scenario, Way, stable};
+use crate::support::{Compact, Plain, made, refuse};
+use daggy::StableDag;
 
 #[test]
 fn a_refused_node_or_edge_comes_back(rt: HostRuntime) {
@@ -62,66 +60,29 @@ fn a_refused_reduction_removes_nothing(rt: HostRuntime) {
     stable(&rt, rt.alloc(), Scenario::Reduction);
 }
 
-fn cloned(dag: &Plain<Stable>) -> Counted<Plain<Stable>> {
-    (dag.try_clone(), (0, 0))
-}
-
-// Maps the dag to its own weights, and counts the calls.
-fn mapped(dag: &Plain<Stable>) -> Counted<Plain<Stable>> {
-    let (mut nodes, mut edges) = (0usize, 0usize);
-    let answer = dag.map(
-        |_, w| {
-            nodes = nodes.wrapping_add(1);
-            *w
-        },
-        |_, w| {
-            edges = edges.wrapping_add(1);
-            *w
-        },
-    );
-    (answer, (nodes, edges))
-}
-
-// Keeps all of the dag, and counts the calls.
-fn kept(dag: &Plain<Stable>) -> Counted<Plain<Stable>> {
-    let (mut nodes, mut edges) = (0usize, 0usize);
-    let answer = dag.filter_map(
-        |_, w| {
-            nodes = nodes.wrapping_add(1);
-            Some(*w)
-        },
-        |_, w| {
-            edges = edges.wrapping_add(1);
-            Some(*w)
-        },
-    );
-    (answer, (nodes, edges))
-}
-
 #[test]
 fn a_refused_copy_is_made_again(rt: HostRuntime) {
-    let mut refused = false;
-    let dag: Plain<Stable> = small_fan(&rt, rt.alloc(), &mut refused);
-    let mut copy = copy_again(&rt, &dag, cloned, (0, 0), &mut refused);
-    are_small_fans(&rt, &dag, &copy);
-    // A vacant slot needs no memory.
-    same(&rt, made(&rt, add_node(&rt, &mut copy, 2)).index(), 2);
+    stable(&rt, rt.alloc(), Scenario::Copies(Way::Copy));
 }
 
 #[test]
 fn a_refused_map_calls_no_closure(rt: HostRuntime) {
-    let mut refused = false;
-    let dag: Plain<Stable> = small_fan(&rt, rt.alloc(), &mut refused);
-    let copy = copy_again(&rt, &dag, mapped, (3, 2), &mut refused);
-    are_small_fans(&rt, &dag, &copy);
+    stable(&rt, rt.alloc(), Scenario::Copies(Way::Map));
 }
 
 #[test]
 fn a_refused_part_calls_no_closure(rt: HostRuntime) {
-    let mut refused = false;
-    let dag: Plain<Stable> = small_fan(&rt, rt.alloc(), &mut refused);
-    let copy = copy_again(&rt, &dag, kept, (3, 2), &mut refused);
-    are_small_fans(&rt, &dag, &copy);
+    stable(&rt, rt.alloc(), Scenario::Copies(Way::Part));
+}
+
+#[test]
+fn refused_capacity_is_asked_again(rt: HostRuntime) {
+    stable(&rt, rt.alloc(), Scenario::Capacity);
+}
+
+#[test]
+fn refused_sets_and_matrices_are_asked_again(rt: HostRuntime) {
+    stable(&rt, rt.alloc(), Scenario::Sets);
 }
 
 #[test]
@@ -137,38 +98,4 @@ fn a_compact_dag_becomes_a_stable_one_or_comes_back(rt: HostRuntime) {
         }
     };
     is_fan(&rt, &whole, 1, false);
-}
-
-#[test]
-fn refused_capacity_is_asked_again(rt: HostRuntime) {
-    let mut dag = match StableDag::with_capacity(rt.alloc(), 8, 7) {
-        Ok(dag) => dag,
-        Err(AllocError) => made(&rt, StableDag::with_capacity(rt.alloc(), 8, 7)),
-    };
-    fill(&rt, &mut dag, 7);
-}
-
-#[test]
-fn refused_sets_and_matrices_are_asked_again(rt: HostRuntime) {
-    let mut refused = false;
-    let dag: Plain<Stable> = small_fan(&rt, rt.alloc(), &mut refused);
-    let mut set = match dag.visit_map() {
-        Ok(set) => set,
-        Err(AllocError) => {
-            refuse(&rt, &mut refused);
-            made(&rt, dag.visit_map())
-        }
-    };
-    if dag.reset_map(&mut set).is_err() {
-        refuse(&rt, &mut refused);
-    }
-    let matrix = match dag.adjacency_matrix() {
-        Ok(matrix) => matrix,
-        Err(AllocError) => {
-            refuse(&rt, &mut refused);
-            made(&rt, dag.adjacency_matrix())
-        }
-    };
-    let joined = dag.is_adjacent(&matrix, NodeIndex::new(0), NodeIndex::new(3));
-    holds(&rt, joined);
 }

@@ -1,4 +1,4 @@
-//! The assertions, and the dags of both kinds.
+//! The assertions, the dags of both kinds, and the one refusal.
 //!
 //! Each `assert_eq!` is proved where it stands, so it stands here once, and tests call it. What is
 //! generic over the store serves both kinds of dag.
@@ -8,31 +8,95 @@ use daggy::graph::DiGraph;
 use daggy::stable_graph::StableDiGraph;
 use daggy_base::store::Store;
 use daggy_dag::acyclic::Acyclic;
+use std::alloc::{AllocError, Global};
 use std::fmt::Debug;
 use std::process::Abort;
 
-/// A store of one kind, whose weights are numbers.
+/// A dag of either kind.
+pub type Plain<S> = Acyclic<usize, usize, u32, S>;
+
+/// How often the closures of a call were called for nodes and for edges.
+#[derive(Clone, Copy, Debug, PartialEq)]
+pub struct Calls {
+    pub nodes: usize,
+    pub edges: usize,
+}
+
+/// A store of one kind, whose weights are numbers, with the calls that only its dags have.
 pub trait Kind: Store<u32, NodeWeight = usize, EdgeWeight = usize> {
     /// Whether a removal leaves a gap.
     const GAP: bool;
+
+    /// Makes a dag with room for so many nodes and edges.
+    fn with_capacity(alloc: Global, nodes: usize, edges: usize) -> Result<Plain<Self>, AllocError>;
+
+    /// Copies a dag.
+    fn copied(dag: &Plain<Self>) -> Result<Plain<Self>, AllocError>;
+
+    /// Maps a dag to its own weights.
+    fn mapped(dag: &Plain<Self>, calls: &mut Calls) -> Result<Plain<Self>, AllocError>;
+
+    /// Keeps all of a dag.
+    fn kept(dag: &Plain<Self>, calls: &mut Calls) -> Result<Plain<Self>, AllocError>;
 }
 
 /// The store of the compact kind.
 pub type Compact = DiGraph<usize, usize, u32>;
 
-impl Kind for Compact {
-    const GAP: bool = false;
-}
-
 /// The store of the stable kind.
 pub type Stable = StableDiGraph<usize, usize, u32>;
 
-impl Kind for Stable {
-    const GAP: bool = true;
+macro_rules! kind {
+    ($store:ident, $gap:literal) => {
+        impl Kind for $store {
+            const GAP: bool = $gap;
+
+            fn with_capacity(
+                alloc: Global,
+                nodes: usize,
+                edges: usize,
+            ) -> Result<Plain<Self>, AllocError> {
+                Plain::<$store>::with_capacity(alloc, nodes, edges)
+            }
+
+            fn copied(dag: &Plain<Self>) -> Result<Plain<Self>, AllocError> {
+                dag.try_clone()
+            }
+
+            fn mapped(dag: &Plain<Self>, calls: &mut Calls) -> Result<Plain<Self>, AllocError> {
+                let Calls { nodes, edges } = calls;
+                dag.map(
+                    |_, w| {
+                        *nodes = nodes.wrapping_add(1);
+                        *w
+                    },
+                    |_, w| {
+                        *edges = edges.wrapping_add(1);
+                        *w
+                    },
+                )
+            }
+
+            fn kept(dag: &Plain<Self>, calls: &mut Calls) -> Result<Plain<Self>, AllocError> {
+                let Calls { nodes, edges } = calls;
+                dag.filter_map(
+                    |_, w| {
+                        *nodes = nodes.wrapping_add(1);
+                        Some(*w)
+                    },
+                    |_, w| {
+                        *edges = edges.wrapping_add(1);
+                        Some(*w)
+                    },
+                )
+            }
+        }
+    };
 }
 
-/// A dag of either kind.
-pub type Plain<S> = Acyclic<usize, usize, u32, S>;
+kind!(Compact, false);
+
+kind!(Stable, true);
 
 /// Asserts that what was found is what is wanted.
 pub fn same<T: PartialEq + Debug + Drop>(rt: &impl Abort, found: T, wanted: T) {
@@ -52,7 +116,7 @@ pub fn made<T: Drop, E: Drop>(rt: &impl Abort, answer: Result<T, E>) -> T
 {
     match answer {
         Ok(x) => x,
-        Err(_) => panic!(rt; "a call that has memory was refused"),
+        Err(_) => panic!(rt; "the call was refused"),
     }
 }
 

@@ -1,10 +1,11 @@
 //! The calls of the compact dag.
 use crate::again::{fill, join_again, small_fan};
 use crate::observed::counts;
-use crate::scenarios::{Counted, Scenario, are_small_fans, compact, copy_again};
+use crate::scenarios::{Scenario, Way, compact};
 use crate::support::{Compact, Plain, made, refuse, same};
 use daggy::{Dag, same_reachability};
 use std::alloc::AllocError;
+use std::process::Abort;
 
 #[test]
 fn a_refused_allocation_is_answered_and_nothing_else(rt: HostRuntime) {
@@ -61,73 +62,29 @@ fn a_refused_reduction_removes_nothing(rt: HostRuntime) {
     compact(&rt, rt.alloc(), Scenario::Reduction);
 }
 
-fn cloned(dag: &Plain<Compact>) -> Counted<Plain<Compact>> {
-    (dag.try_clone(), (0, 0))
-}
-
-// Maps the dag to its own weights, and counts the calls.
-fn mapped(dag: &Plain<Compact>) -> Counted<Plain<Compact>> {
-    let (mut nodes, mut edges) = (0usize, 0usize);
-    let answer = dag.map(
-        |_, w| {
-            nodes = nodes.wrapping_add(1);
-            *w
-        },
-        |_, w| {
-            edges = edges.wrapping_add(1);
-            *w
-        },
-    );
-    (answer, (nodes, edges))
-}
-
-// Keeps all of the dag, and counts the calls.
-fn kept(dag: &Plain<Compact>) -> Counted<Plain<Compact>> {
-    let (mut nodes, mut edges) = (0usize, 0usize);
-    let answer = dag.filter_map(
-        |_, w| {
-            nodes = nodes.wrapping_add(1);
-            Some(*w)
-        },
-        |_, w| {
-            edges = edges.wrapping_add(1);
-            Some(*w)
-        },
-    );
-    (answer, (nodes, edges))
-}
-
 #[test]
 fn a_refused_copy_is_made_again(rt: HostRuntime) {
-    let mut refused = false;
-    let dag: Plain<Compact> = small_fan(&rt, rt.alloc(), &mut refused);
-    let copy = copy_again(&rt, &dag, cloned, (0, 0), &mut refused);
-    are_small_fans(&rt, &dag, &copy);
+    compact(&rt, rt.alloc(), Scenario::Copies(Way::Copy));
 }
 
 #[test]
 fn a_refused_map_calls_no_closure(rt: HostRuntime) {
-    let mut refused = false;
-    let dag: Plain<Compact> = small_fan(&rt, rt.alloc(), &mut refused);
-    let copy = copy_again(&rt, &dag, mapped, (4, 3), &mut refused);
-    are_small_fans(&rt, &dag, &copy);
+    compact(&rt, rt.alloc(), Scenario::Copies(Way::Map));
 }
 
 #[test]
 fn a_refused_part_calls_no_closure(rt: HostRuntime) {
-    let mut refused = false;
-    let dag: Plain<Compact> = small_fan(&rt, rt.alloc(), &mut refused);
-    let copy = copy_again(&rt, &dag, kept, (4, 3), &mut refused);
-    are_small_fans(&rt, &dag, &copy);
+    compact(&rt, rt.alloc(), Scenario::Copies(Way::Part));
 }
 
 #[test]
 fn refused_capacity_is_asked_again(rt: HostRuntime) {
-    let mut dag = match Dag::with_capacity(rt.alloc(), 8, 7) {
-        Ok(dag) => dag,
-        Err(AllocError) => made(&rt, Dag::with_capacity(rt.alloc(), 8, 7)),
-    };
-    fill(&rt, &mut dag, 7);
+    compact(&rt, rt.alloc(), Scenario::Capacity);
+}
+
+#[test]
+fn refused_sets_and_matrices_are_asked_again(rt: HostRuntime) {
+    compact(&rt, rt.alloc(), Scenario::Sets);
 }
 
 #[test]
@@ -147,21 +104,31 @@ fn refused_room_is_asked_again(rt: HostRuntime) {
     fill(&rt, &mut dag, 19);
 }
 
+// Compares two dags, a second time if the first is refused.
+fn compare_again(
+    rt: &impl Abort,
+    a: &Plain<Compact>,
+    b: &Plain<Compact>,
+    wanted: bool,
+    refused: &mut bool,
+) {
+    let found = match same_reachability(a, b) {
+        Ok(found) => found,
+        Err(AllocError) => {
+            refuse(rt, refused);
+            made(rt, same_reachability(a, b))
+        }
+    };
+    same(rt, found, wanted);
+}
+
 #[test]
 fn a_refused_comparison_is_made_again(rt: HostRuntime) {
     let mut refused = false;
     let dag: Plain<Compact> = small_fan(&rt, rt.alloc(), &mut refused);
     let mut other: Plain<Compact> = small_fan(&rt, rt.alloc(), &mut refused);
     join_again(&rt, &mut other, (1, 2), false, &mut refused);
-    for (b, wanted) in [(&dag, true), (&other, false)] {
-        let found = match same_reachability(&dag, b) {
-            Ok(found) => found,
-            Err(AllocError) => {
-                refuse(&rt, &mut refused);
-                made(&rt, same_reachability(&dag, b))
-            }
-        };
-        same(&rt, found, wanted);
-    }
+    compare_again(&rt, &dag, &dag, true, &mut refused);
+    compare_again(&rt, &dag, &other, false, &mut refused);
     counts(&rt, &other, 4, 4);
 }

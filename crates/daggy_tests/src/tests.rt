@@ -1,15 +1,16 @@
 //! What no contract says: that calls succeed, what is printed, in which order closures are called,
 //! and that large graphs are no trouble.
 
+mod acts;
 mod adding;
-mod calling;
+mod compact;
 mod converting;
-mod cursors;
+mod copying;
 mod indices;
 mod iterating;
+mod kinds;
 mod large;
 mod many_edges;
-mod mapping;
 mod ordering;
 mod removing;
 mod searching;

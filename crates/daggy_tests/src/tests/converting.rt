@@ -1,24 +1,129 @@
-use super::support::{connect, dag_of, shape};
+//! The graph that a dag becomes, and the dag of the other kind.
+use super::acts::dag_of;
+use super::kinds::{Compact, Kind, Plain, Stable};
+use super::support::{holds, made, same};
+use super::table::{Answer, Call, Row, play};
 use daggy_base::index::NodeIndex;
+use daggy_dag::acyclic::{Dag, StableDag};
 use daggy_graph::graph::DiGraph;
+use daggy_stable::stable_graph::StableDiGraph;
+use std::alloc::Global;
+use std::process::Abort;
+
+const PAIR: [Row<'static>; 3] = [
+    (Call::Node(1), Answer::Node(0)),
+    (Call::Node(3), Answer::Node(1)),
+    (Call::Edge(0, 1, 2), Answer::Edge(0)),
+];
+
+// Asserts that a store holds the pair, and takes the edge back.
+fn may_hold_cycles<S: Kind>(rt: &impl Abort, mut store: S) {
+    let (a, b) = (NodeIndex::new(0), NodeIndex::new(1));
+    same(rt, store.node_weight(b).copied(), Some(3));
+    same(rt, store.find_edge(a, b).is_some(), true);
+    holds(rt, store.contains_node(a));
+    holds(rt, store.contains_node(b));
+    holds(rt, store.can_add_edge());
+    same(rt, made(rt, store.add_edge(b, a, 4)).index(), 1);
+    same(rt, (store.node_count(), store.edge_count()), (2, 2));
+}
+
+fn pair<S: Kind>(rt: &impl Abort, alloc: Global) -> Plain<S> {
+    dag_of(rt, alloc, &PAIR)
+}
+
+fn convert<S: Kind>(rt: &impl Abort, alloc: Global) {
+    let store: S = pair(rt, alloc).into_graph();
+    may_hold_cycles(rt, store);
+}
 
 #[test]
 fn a_graph_that_was_a_dag_may_hold_cycles(rt: HostRuntime) {
-    let (a, b) = (NodeIndex::new(0), NodeIndex::new(1));
-    let mut given = dag_of(&rt, rt.alloc(), &[1, 3], &[(0, 1, 2)]).into_graph();
-    connect(&rt, &mut given, b, a, 4);
-    shape(&rt, &given, &[1, 3], &[(0, 1, 2), (1, 0, 4)]);
+    convert::<Compact>(&rt, rt.alloc());
+    convert::<Stable>(&rt, rt.alloc());
 }
 
 #[test]
 fn a_dag_converts_to_a_graph(rt: HostRuntime) {
-    let (a, b) = (NodeIndex::new(0), NodeIndex::new(1));
-    let mut converted: DiGraph<u32, u32> = DiGraph::from(dag_of(
+    let graph: Compact = DiGraph::from(pair::<Compact>(&rt, rt.alloc()));
+    may_hold_cycles(&rt, graph);
+    let graph: Stable = StableDiGraph::from(pair::<Stable>(&rt, rt.alloc()));
+    may_hold_cycles(&rt, graph);
+}
+
+#[test]
+fn a_dag_gives_its_order_away(rt: HostRuntime) {
+    let dag: Dag<u32, u32, u8> = dag_of(
         &rt,
         rt.alloc(),
-        &[1, 3],
-        &[(0, 1, 2)],
-    ));
-    connect(&rt, &mut converted, b, a, 4);
-    shape(&rt, &converted, &[1, 3], &[(0, 1, 2), (1, 0, 4)]);
+        &[
+            (Call::Node(1), Answer::Node(0)),
+            (Call::Node(3), Answer::Node(1)),
+            (Call::Edge(1, 0, 2), Answer::Edge(0)),
+        ],
+    );
+    let (graph, order) = dag.into_parts();
+    same(&rt, graph.edge_count(), 1);
+    same(&rt, order.len(), 2);
+    same(&rt, order.nodes().next(), Some(NodeIndex::new(1)));
+}
+
+#[test]
+fn a_compact_dag_keeps_its_lists(rt: HostRuntime) {
+    let compact: Dag<u32, u32, u8> = dag_of(
+        &rt,
+        rt.alloc(),
+        &[
+            (Call::Node(0), Answer::Node(0)),
+            (Call::Node(1), Answer::Node(1)),
+            (Call::Node(2), Answer::Node(2)),
+            (
+                Call::Edges(&[(0, 1, 4), (0, 2, 5), (0, 1, 6)]),
+                Answer::Edges(&[0, 1, 2]),
+            ),
+            (Call::RemoveEdge(0), Answer::Weight(4)),
+        ],
+    );
+    let mut dag = made(&rt, StableDag::from_dag(compact));
+    play(
+        &rt,
+        rt.alloc(),
+        &mut dag,
+        &[
+            (Call::Children(0), Answer::Walk(&[(0, 1), (1, 2)])),
+            (Call::Counts, Answer::Counts(3, 2)),
+            (Call::Weight(2), Answer::Weight(2)),
+            (Call::Stored(0), Answer::Stored(0, 1, 6)),
+            (Call::Stored(1), Answer::Stored(0, 2, 5)),
+            (Call::Edge(1, 2, 7), Answer::Edge(2)),
+            (Call::Node(3), Answer::Node(3)),
+            (Call::Edge(2, 0, 8), Answer::Cycle(8)),
+        ],
+    );
+}
+
+// A struct of a user's own, which derives its copies.
+#[derive(Clone, Drop)]
+struct Named<D> {
+    dag: D,
+    name: u32,
+}
+
+#[test]
+fn a_struct_that_holds_a_dag_is_cloned(rt: HostRuntime) {
+    let dag: Plain<Stable> = pair(&rt, rt.alloc());
+    let named = Named { dag, name: 7 };
+    let mut copy = made(&rt, named.clone());
+    same(&rt, copy.name, named.name);
+    play(
+        &rt,
+        rt.alloc(),
+        &mut copy.dag,
+        &[
+            (Call::Weight(1), Answer::Weight(3)),
+            (Call::Stored(0), Answer::Stored(0, 1, 2)),
+            (Call::Edge(0, 1, 5), Answer::Edge(1)),
+        ],
+    );
+    same(&rt, named.dag.edge_count(), 1);
 }

@@ -1,81 +1,81 @@
 //! Iterators over all of a graph and over the lists of a node, of the dag.
-use super::support::{dag_of, gives, holds, same};
-use super::table::{Answer, Call, Scene, both, stable};
+use super::acts::{Act, TRIANGLE, both, dag_of, stable};
+use super::kinds::{Plain, Stable};
+use super::support::{same, shows};
+use super::table::{self, Answer, Call, Scene};
 use daggy_base::index::{Direction, NodeIndex};
-use daggy_cells::reference::EdgeReference;
-use daggy_graph::graph::iterators::NodeReferences;
-use std::process::Abort;
-
-type Line = (usize, usize, usize, u32);
-
-fn line(e: EdgeReference<'_, u32, u32>) -> Line {
-    (
-        e.id().index(),
-        e.source().index(),
-        e.target().index(),
-        *e.weight(),
-    )
-}
-
-// Asserts which nodes an iterator gives with their weights, and that it gives no more.
-fn weighted(rt: &impl Abort, mut nodes: NodeReferences<'_, u32, u32>, wanted: &[(usize, u32)]) {
-    for node in wanted {
-        let Some((n, weight)) = nodes.next() else {
-            panic!(rt; "a node is missing");
-        };
-        same(rt, (n.index(), *weight), *node);
-    }
-    holds(rt, nodes.next().is_none());
-}
-
-fn index(n: NodeIndex) -> usize {
-    n.index()
-}
-
-const EDGES: [(usize, usize, u32); 3] = [(0, 1, 100), (0, 2, 101), (1, 2, 102)];
-
-const LINES: [Line; 3] = [(0, 0, 1, 100), (1, 0, 2, 101), (2, 1, 2, 102)];
 
 #[test]
 fn all_nodes_and_edges_of_a_dag_are_gone_through(rt: HostRuntime) {
-    let dag = dag_of(&rt, rt.alloc(), &[10, 11, 12], &EDGES);
-    gives(&rt, dag.node_identifiers().map(index), &[0, 1, 2]);
-    weighted(&rt, dag.node_references(), &[(0, 10), (1, 11), (2, 12)]);
-    gives(&rt, dag.edge_references().map(line), &LINES);
+    both(
+        &rt,
+        rt.alloc(),
+        &TRIANGLE,
+        &[Act::Through(
+            &[(0, 10), (1, 11), (2, 12)],
+            &[(0, 0, 1, 100), (1, 0, 2, 101), (2, 1, 2, 102)],
+        )],
+    );
+}
+
+#[test]
+fn vacant_slots_are_passed_over(rt: HostRuntime) {
+    stable(
+        &rt,
+        rt.alloc(),
+        &TRIANGLE,
+        &[
+            Act::Rows(&[(Call::RemoveNode(1), Answer::Weight(11))]),
+            Act::Through(&[(0, 10), (2, 12)], &[(1, 0, 2, 101)]),
+        ],
+    );
 }
 
 #[test]
 fn lists_of_a_dag_are_gone_through(rt: HostRuntime) {
-    let dag = dag_of(&rt, rt.alloc(), &[10, 11, 12], &EDGES);
-    let (a, c) = (NodeIndex::new(0), NodeIndex::new(2));
-    gives(&rt, dag.neighbors(a).map(index), &[2, 1]);
-    gives(
+    both(
         &rt,
-        dag.neighbors_directed(c, Direction::Incoming).map(index),
-        &[1, 0],
+        rt.alloc(),
+        &TRIANGLE,
+        &[
+            Act::Along(0, None, &[2, 1], &[(1, 0, 2, 101), (0, 0, 1, 100)]),
+            Act::Along(
+                2,
+                Some(Direction::Incoming),
+                &[1, 0],
+                &[(2, 1, 2, 102), (1, 0, 2, 101)],
+            ),
+            Act::Along(
+                0,
+                Some(Direction::Outgoing),
+                &[2, 1],
+                &[(1, 0, 2, 101), (0, 0, 1, 100)],
+            ),
+            Act::Along(9, None, &[], &[]),
+        ],
     );
-    gives(
-        &rt,
-        dag.edges(a).map(line),
-        &[(1, 0, 2, 101), (0, 0, 1, 100)],
-    );
-    gives(
-        &rt,
-        dag.edges_directed(c, Direction::Incoming).map(line),
-        &[(2, 1, 2, 102), (1, 0, 2, 101)],
-    );
-    gives(&rt, dag.edges(NodeIndex::new(9)).map(line), &[]);
+}
+
+#[test]
+fn a_stable_dag_tells_how_many_slots_may_follow(rt: HostRuntime) {
+    let mut dag: Plain<Stable> = dag_of(&rt, rt.alloc(), &TRIANGLE);
+    same(&rt, dag.remove_node(NodeIndex::new(1)), Some(11));
+    same(&rt, dag.node_references().size_hint(), (0, Some(3)));
+    same(&rt, dag.edge_references().size_hint(), (0, Some(3)));
+    let wanted = "Dag { graph: StableDiGraph { node_count: 2, edge_count: 1 } }";
+    shows(&rt, rt.alloc(), &dag, wanted);
 }
 
 #[test]
 fn roots_and_leaves_are_found(rt: HostRuntime) {
     let roots = Direction::Outgoing.opposite();
     let leaves = Direction::Outgoing;
-    both(
+    table::both(
         &rt,
         rt.alloc(),
         Scene::OfPairs(
             &[(0, 1), (0, 2), (1, 2)],
+            Answer::Done,
             &[
                 (Call::Externals(roots), Answer::Nodes(&[0])),
                 (Call::Externals(leaves), Answer::Nodes(&[2])),
@@ -90,11 +90,12 @@ fn roots_and_leaves_are_found(rt: HostRuntime) {
 
 #[test]
 fn a_vacant_slot_is_no_root(rt: HostRuntime) {
-    stable(
+    table::stable(
         &rt,
         rt.alloc(),
         Scene::OfPairs(
             &[(0, 1), (0, 2), (1, 2)],
+            Answer::Done,
             &[
                 (Call::RemoveNode(0), Answer::Weight(0)),
                 (Call::Externals(Direction::Incoming), Answer::Nodes(&[1])),

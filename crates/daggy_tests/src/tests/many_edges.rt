@@ -1,11 +1,13 @@
 //! Many edges or elements at once, in both kinds.
 use super::ordering::indices;
-use super::support::{Plain, add_node, closes_cycle, counts, made, node, same};
-use super::table::{Answer, Call, Part, Scene, both, edge_added, is, node_added, play_row};
-use daggy_base::error::{EdgeError, EdgesError};
-use daggy_base::index::{IndexType, NodeIndex};
+use super::support::{made, node, same};
+use super::table::{
+    Answer, Call, Part, Scene, both, edge_added, fill_nodes, is, items, play_row, walk,
+};
+use daggy_base::error::EdgesError;
+use daggy_base::index::IndexType;
 use daggy_base::store::Store;
-use daggy_dag::acyclic::{Acyclic, Dag};
+use daggy_dag::acyclic::Acyclic;
 use daggy_walk::walker::Walker;
 use std::alloc::Global;
 use std::process::Abort;
@@ -81,22 +83,31 @@ fn a_cycle_in_the_middle_of_a_series_is_found_at_its_end(rt: HostRuntime) {
     );
 }
 
-#[test]
-fn the_first_item_at_fault_ends_a_series(rt: HostRuntime) {
-    let mut dag = Plain::new(rt.alloc());
-    let a = add_node(&rt, &mut dag, 0);
-    let b = add_node(&rt, &mut dag, 1);
-    let none = NodeIndex::new(9);
-    let mut items = [(a, b, 8), (b, a, 9), (a, none, 3), (none, none, 4)].into_iter();
+/// A series ends at the first item at fault, and its iterator still holds what comes after.
+pub fn end_at_a_fault<Ix: IndexType, S: Store<Ix, NodeWeight = u32, EdgeWeight = u32>>(
+    rt: &impl Abort,
+    alloc: Global,
+    dag: &mut Acyclic<u32, u32, Ix, S>,
+) {
+    fill_nodes(rt, dag, 2);
+    let list = items(rt, alloc, &[(0, 1, 8), (1, 0, 9), (0, 9, 3), (9, 9, 4)]);
+    let mut items = list.into_iter();
     match dag.add_edges(&mut items) {
         Err(EdgesError::BadEndpoint { last, before }) => {
-            same(&rt, last, 3);
-            same(&rt, before.as_slice(), &[9, 8]);
+            is(
+                rt,
+                Answer::NoEndAt(last, before.as_slice()),
+                Answer::NoEndAt(3, &[9, 8]),
+            );
         }
-        _ => panic!(&rt; "an end is missing"),
+        _ => panic!(rt; "an end is missing"),
     }
-    same(&rt, items.next(), Some((none, none, 4)));
-    counts(&rt, &dag, 2, 0);
+    same(rt, items.next(), Some((node(rt, 9), node(rt, 9), 4)));
+}
+
+#[test]
+fn the_first_item_at_fault_ends_a_series(rt: HostRuntime) {
+    both(&rt, rt.alloc(), Scene::Fault);
 }
 
 #[test]
@@ -157,11 +168,17 @@ fn a_dag_is_made_of_edges(rt: HostRuntime) {
     both(
         &rt,
         rt.alloc(),
-        Scene::OfPairs(&[(0, 1), (1, 2), (0, 2)], rows),
+        Scene::OfPairs(&[(0, 1), (1, 2), (0, 2)], Answer::Done, rows),
     );
-    let (a, b) = (NodeIndex::new(0), NodeIndex::new(1));
-    let answer: Result<Plain, EdgeError<u32>> = Dag::from_edges(rt.alloc(), [(a, b, 1), (b, a, 2)]);
-    closes_cycle(&rt, answer, 2);
+}
+
+#[test]
+fn edges_that_close_a_cycle_make_no_dag(rt: HostRuntime) {
+    both(
+        &rt,
+        rt.alloc(),
+        Scene::OfPairs(&[(0, 1), (1, 0)], Answer::Cycle(0), &[]),
+    );
 }
 
 #[test]
@@ -234,12 +251,51 @@ const ENDS: [(usize, usize); 26] = [
     (1, 5),
 ];
 
-fn ten_nodes<Ix: IndexType, S: Store<Ix, NodeWeight = u32, EdgeWeight = u32>>(
+// Adds the edges of the list to ten nodes, one by one.
+fn add_one_by_one<Ix: IndexType, S: Store<Ix, NodeWeight = u32, EdgeWeight = u32>>(
     rt: &impl Abort,
     dag: &mut Acyclic<u32, u32, Ix, S>,
 ) {
+    fill_nodes(rt, dag, 10);
+    let mut count = 0usize;
+    for ends in ENDS {
+        is(rt, edge_added(rt, dag, ends, 0), Answer::Edge(count));
+        count = count.wrapping_add(1);
+    }
+}
+
+// Adds the edges of the list to ten nodes, all at once.
+fn add_at_once<Ix: IndexType, S: Store<Ix, NodeWeight = u32, EdgeWeight = u32>>(
+    rt: &impl Abort,
+    alloc: Global,
+    dag: &mut Acyclic<u32, u32, Ix, S>,
+) {
+    fill_nodes(rt, dag, 10);
+    let mut edges = Vec::new(alloc);
+    for (a, b) in ENDS {
+        made(rt, edges.push((a, b, 0)));
+    }
+    let added = indices(rt, alloc, &[], 0, edges.len());
+    let wanted = Answer::Edges(added.as_slice());
+    play_row(rt, alloc, dag, Call::Edges(edges.as_slice()), wanted);
+}
+
+// Asserts that ten nodes have the same children in two dags.
+fn agree<Ix: IndexType, S: Store<Ix, NodeWeight = u32, EdgeWeight = u32>>(
+    rt: &impl Abort,
+    alloc: Global,
+    a: &mut Acyclic<u32, u32, Ix, S>,
+    b: &Acyclic<u32, u32, Ix, S>,
+) {
     for n in 0..10 {
-        is(rt, node_added(rt, dag, 0), Answer::Node(n));
+        let walk = walk(rt, alloc, b, n);
+        play_row(
+            rt,
+            alloc,
+            a,
+            Call::Children(n),
+            Answer::Walk(walk.as_slice()),
+        );
     }
 }
 
@@ -248,43 +304,12 @@ fn ten_nodes<Ix: IndexType, S: Store<Ix, NodeWeight = u32, EdgeWeight = u32>>(
 pub fn add_sorted_list<Ix: IndexType, S: Store<Ix, NodeWeight = u32, EdgeWeight = u32>>(
     rt: &impl Abort,
     alloc: Global,
-    one_by_one: &mut Acyclic<u32, u32, Ix, S>,
+    dag: &mut Acyclic<u32, u32, Ix, S>,
 ) {
-    ten_nodes(rt, one_by_one);
-    let mut all = Vec::new(alloc);
-    let mut count = 0usize;
-    for (a, b) in ENDS {
-        is(
-            rt,
-            edge_added(rt, one_by_one, (a, b), 0),
-            Answer::Edge(count),
-        );
-        made(rt, all.push((a, b, 0)));
-        count = count.wrapping_add(1);
-    }
-    let mut at_once: Acyclic<u32, u32, Ix, S> = Acyclic::new(alloc);
-    ten_nodes(rt, &mut at_once);
-    let added = indices(rt, alloc, &[], 0, count);
-    play_row(
-        rt,
-        alloc,
-        &mut at_once,
-        Call::Edges(all.as_slice()),
-        Answer::Edges(added.as_slice()),
-    );
-    for n in 0..10 {
-        let mut walk = Vec::new(alloc);
-        for (e, child) in one_by_one.children(node(rt, n)).iter(one_by_one) {
-            made(rt, walk.push((e.index(), child.index())));
-        }
-        play_row(
-            rt,
-            alloc,
-            &mut at_once,
-            Call::Children(n),
-            Answer::Walk(walk.as_slice()),
-        );
-    }
+    let mut other: Acyclic<u32, u32, Ix, S> = Acyclic::new(alloc);
+    add_one_by_one(rt, dag);
+    add_at_once(rt, alloc, &mut other);
+    agree(rt, alloc, dag, &other);
 }
 
 #[test]

@@ -1,44 +1,30 @@
 //! The order of its nodes that a dag keeps, where its edges allow but one.
-use super::support::{Plain, made, same};
-use super::table::{Answer, Call, Scene, both, compact, play, play_row, stable};
-use daggy_base::index::{IndexType, NodeIndex};
+use super::support::{made, node, same};
+use super::table::{
+    Answer, Call, Scene, both, compact, edge_added, fill_nodes, is, play_row, stable,
+};
+use daggy_base::index::IndexType;
 use daggy_base::store::Store;
 use daggy_dag::acyclic::Acyclic;
 use std::alloc::Global;
 use std::process::Abort;
 
-// From each node an edge leads to the one before it.
-fn chain(rt: &impl Abort, alloc: Global) -> Plain {
-    let mut dag = Plain::new(alloc);
-    play(
-        rt,
-        alloc,
-        &mut dag,
-        &[
-            (Call::Node(10), Answer::Node(0)),
-            (Call::Node(11), Answer::Node(1)),
-            (Call::Node(12), Answer::Node(2)),
-            (Call::Node(13), Answer::Node(3)),
-            (Call::Edge(2, 1, 20), Answer::Edge(0)),
-            (Call::Edge(1, 0, 21), Answer::Edge(1)),
-            (Call::Edge(3, 2, 22), Answer::Edge(2)),
-            (Call::Order, Answer::Nodes(&[3, 2, 1, 0])),
-        ],
-    );
-    dag
-}
-
-fn ordered(rt: &impl Abort, alloc: Global, dag: &mut Plain, wanted: &[usize]) {
-    play(rt, alloc, dag, &[(Call::Order, Answer::Nodes(wanted))]);
+/// An order tells its length.
+pub fn tell_length<Ix: IndexType, S: Store<Ix, NodeWeight = u32, EdgeWeight = u32>>(
+    rt: &impl Abort,
+    dag: &mut Acyclic<u32, u32, Ix, S>,
+) {
+    fill_nodes(rt, dag, 3);
+    is(rt, edge_added(rt, dag, (2, 0), 1), Answer::Edge(0));
+    let mut order = dag.topological_order();
+    same(rt, order.len(), 3);
+    same(rt, order.next(), Some(node(rt, 2)));
+    same(rt, order.size_hint(), (2, Some(2)));
 }
 
 #[test]
 fn an_order_tells_its_length(rt: HostRuntime) {
-    let dag = chain(&rt, rt.alloc());
-    let mut order = dag.topological_order();
-    same(&rt, order.len(), 4);
-    same(&rt, order.next(), Some(NodeIndex::new(3)));
-    same(&rt, order.size_hint(), (3, Some(3)));
+    both(&rt, rt.alloc(), Scene::Length);
 }
 
 #[test]
@@ -71,40 +57,15 @@ fn what_is_removed_leaves_the_order(rt: HostRuntime) {
     );
 }
 
-#[test]
-fn copies_and_parts_are_ordered_alike(rt: HostRuntime) {
-    let dag = chain(&rt, rt.alloc());
-    let mut copy = made(&rt, dag.try_clone());
-    ordered(&rt, rt.alloc(), &mut copy, &[3, 2, 1, 0]);
-    let mut mapped = made(&rt, dag.map(|_, w| *w, |_, w| *w));
-    ordered(&rt, rt.alloc(), &mut mapped, &[3, 2, 1, 0]);
-    let mut part = made(
-        &rt,
-        dag.filter_map(
-            |_, w| if *w > 10 { Some(*w) } else { None },
-            |_, w| Some(*w),
-        ),
-    );
-    ordered(&rt, rt.alloc(), &mut part, &[2, 1, 0]);
-}
-
-#[test]
-fn a_dag_gives_its_order_away(rt: HostRuntime) {
-    let (graph, order) = chain(&rt, rt.alloc()).into_parts();
-    same(&rt, graph.edge_count(), 3);
-    same(&rt, order.len(), 4);
-    same(&rt, order.nodes().next(), Some(NodeIndex::new(3)));
-}
-
 // So many edges that they are sorted at the end: one beside the other from 0 to 1, and then a path
-// through all nodes, which leads to older ones.
-fn long_path(rt: &impl Abort, alloc: Global) -> Vec<(usize, usize, u32)> {
+// through nodes, which leads to older ones.
+fn long_path(rt: &impl Abort, alloc: Global, back: &[(usize, usize)]) -> Vec<(usize, usize, u32)> {
     let mut path = Vec::new(alloc);
     for weight in 0..40 {
         made(rt, path.push((0, 1, weight)));
     }
-    for (a, b) in [(2, 0), (3, 2), (4, 3), (5, 4), (6, 5), (7, 6)] {
-        made(rt, path.push((a, b, 50)));
+    for (a, b) in back {
+        made(rt, path.push((*a, *b, 50)));
     }
     path
 }
@@ -139,16 +100,6 @@ fn weights_back(rt: &impl Abort, alloc: Global) -> Vec<u32> {
     weights
 }
 
-fn eight_nodes<Ix: IndexType, S: Store<Ix, NodeWeight = u32, EdgeWeight = u32>>(
-    rt: &impl Abort,
-    alloc: Global,
-    dag: &mut Acyclic<u32, u32, Ix, S>,
-) {
-    for i in 0..8 {
-        play(rt, alloc, dag, &[(Call::Node(0), Answer::Node(i))]);
-    }
-}
-
 /// A long series that closes a cycle comes back, and one that agrees with no order so far is
 /// sorted.
 pub fn sort_long_series<Ix: IndexType, S: Store<Ix, NodeWeight = u32, EdgeWeight = u32>>(
@@ -156,11 +107,11 @@ pub fn sort_long_series<Ix: IndexType, S: Store<Ix, NodeWeight = u32, EdgeWeight
     alloc: Global,
     dag: &mut Acyclic<u32, u32, Ix, S>,
 ) {
-    let path = long_path(rt, alloc);
+    let path = long_path(rt, alloc, &[(2, 0), (3, 2), (4, 3), (5, 4), (6, 5), (7, 6)]);
     let added = indices(rt, alloc, &[], 0, 46);
     let back = weights_back(rt, alloc);
     let (path, added, back) = (path.as_slice(), added.as_slice(), back.as_slice());
-    eight_nodes(rt, alloc, dag);
+    fill_nodes(rt, dag, 8);
     play_row(rt, alloc, dag, Call::Edge(1, 2, 9), Answer::Edge(0));
     play_row(rt, alloc, dag, Call::Edges(path), Answer::CycleAll(back));
     play_row(rt, alloc, dag, Call::Counts, Answer::Counts(8, 1));
@@ -176,19 +127,12 @@ pub fn sort_round_vacant_slots<Ix: IndexType, S: Store<Ix, NodeWeight = u32, Edg
     alloc: Global,
     dag: &mut Acyclic<u32, u32, Ix, S>,
 ) {
-    eight_nodes(rt, alloc, dag);
-    play_row(rt, alloc, dag, Call::Node(0), Answer::Node(8));
+    fill_nodes(rt, dag, 9);
     play_row(rt, alloc, dag, Call::Edge(5, 4, 1), Answer::Edge(0));
     play_row(rt, alloc, dag, Call::Edge(1, 2, 1), Answer::Edge(1));
-    play_row(rt, alloc, dag, Call::RemoveNode(5), Answer::Weight(0));
+    play_row(rt, alloc, dag, Call::RemoveNode(5), Answer::Weight(5));
     play_row(rt, alloc, dag, Call::RemoveEdge(1), Answer::Weight(1));
-    let mut path = Vec::new(alloc);
-    for weight in 0..40 {
-        made(rt, path.push((0, 1, weight)));
-    }
-    for (a, b) in [(2, 0), (3, 2), (4, 3), (6, 4), (7, 6), (8, 7)] {
-        made(rt, path.push((a, b, 50)));
-    }
+    let path = long_path(rt, alloc, &[(2, 0), (3, 2), (4, 3), (6, 4), (7, 6), (8, 7)]);
     let added = indices(rt, alloc, &[1, 0], 2, 46);
     let (path, added) = (path.as_slice(), added.as_slice());
     play_row(rt, alloc, dag, Call::Edges(path), Answer::Edges(added));

@@ -1,7 +1,5 @@
 //! Removals from a compact dag, and what both kinds answer afterwards.
-use super::support::{dag_of, holds, same};
 use super::table::{Answer, Call, Scene, both, compact};
-use daggy_base::index::{Direction, EdgeIndex, NodeIndex};
 
 #[test]
 fn removing_a_node_moves_the_last_one(rt: HostRuntime) {
@@ -102,19 +100,4 @@ fn a_dag_is_cleared(rt: HostRuntime) {
             (Call::Node(1), Answer::Node(0)),
         ]),
     );
-}
-
-#[test]
-fn stored_slices_follow_a_removal(rt: HostRuntime) {
-    let edges = [(0, 1, 0), (0, 2, 1), (1, 2, 2)];
-    let mut dag = dag_of(&rt, rt.alloc(), &[10, 20, 30], &edges);
-    same(&rt, dag.remove_edge(EdgeIndex::new(0)), Some(0));
-    let nodes = dag.raw_nodes();
-    let edges = dag.raw_edges();
-    holds(&rt, nodes.len() == 3);
-    holds(&rt, edges.len() == 2);
-    let incoming = Direction::Incoming;
-    same(&rt, nodes[1].next_edge(incoming), EdgeIndex::end());
-    same(&rt, edges[0].next_edge(incoming), EdgeIndex::new(1));
-    same(&rt, edges[0].source(), NodeIndex::new(1));
 }

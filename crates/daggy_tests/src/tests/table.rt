@@ -3,9 +3,9 @@
 //!
 //! A test is proved too, and a call costs it more than a row, so the calls stand here alone.
 use super::large::{search_dense_graph, search_long_chain};
-use super::many_edges::add_sorted_list;
-use super::ordering::{sort_long_series, sort_round_vacant_slots};
-use super::support::{holds, made, node};
+use super::many_edges::{add_sorted_list, end_at_a_fault};
+use super::ordering::{sort_long_series, sort_round_vacant_slots, tell_length};
+use super::support::{edge, holds, made, node, same};
 use daggy_base::element::Element;
 use daggy_base::error::{EdgeError, EdgesError, ElementError, WouldCycle};
 use daggy_base::index::{Direction, EdgeIndex, IndexType, NodeIndex};
@@ -13,6 +13,7 @@ use daggy_base::store::Store;
 use daggy_dag::acyclic::Acyclic;
 use daggy_graph::graph::DiGraph;
 use daggy_stable::stable_graph::StableDiGraph;
+use daggy_walk::visit::NodeIndexable;
 use daggy_walk::walker::Walker;
 use std::alloc::Global;
 use std::process::Abort;
@@ -32,6 +33,8 @@ pub enum Call<'a> {
     ClearEdges,
     Clear,
     Counts,
+    // How far the indices of nodes and of edges go.
+    Bounds,
     Weight(usize),
     Stored(usize),
     Find(usize, usize),
@@ -74,13 +77,7 @@ pub type Row<'a> = (Call<'a>, Answer<'a>);
 
 /// Asserts what was answered.
 pub fn is(rt: &impl Abort, found: Answer<'_>, wanted: Answer<'_>) {
-    assert_eq!(rt; found, wanted);
-}
-
-/// The index of an edge.
-pub fn edge<Ix: IndexType>(rt: &impl Abort, x: usize) -> EdgeIndex<Ix> {
-    assert!(rt; x <= EdgeIndex::<Ix>::end().index());
-    EdgeIndex::new(x)
+    same(rt, found, wanted);
 }
 
 fn of_edge<Ix: IndexType>(
@@ -177,8 +174,8 @@ fn parent_added<Ix: IndexType, S: Store<Ix, NodeWeight = u32, EdgeWeight = u32>>
     Answer::EdgeNode(e.index(), n.index())
 }
 
-// These edges in a `Vec`.
-fn items<Ix: IndexType>(
+/// These edges in a `Vec`.
+pub fn items<Ix: IndexType>(
     rt: &impl Abort,
     alloc: Global,
     edges: &[(usize, usize, u32)],
@@ -246,6 +243,20 @@ fn stored<Ix: IndexType, S: Store<Ix, NodeWeight = u32, EdgeWeight = u32>>(
     }
 }
 
+/// The edges and nodes of a walk over the children of a node.
+pub fn walk<Ix: IndexType, S: Store<Ix, NodeWeight = u32, EdgeWeight = u32>>(
+    rt: &impl Abort,
+    alloc: Global,
+    dag: &Acyclic<u32, u32, Ix, S>,
+    n: usize,
+) -> Vec<(usize, usize)> {
+    let mut walk = Vec::new(alloc);
+    for (e, child) in dag.children(node(rt, n)).iter(dag) {
+        made(rt, walk.push((e.index(), child.index())));
+    }
+    walk
+}
+
 // Asserts which edges and nodes a walk over the children of a node gives.
 fn is_walk_of_children<Ix: IndexType, S: Store<Ix, NodeWeight = u32, EdgeWeight = u32>>(
     rt: &impl Abort,
@@ -254,10 +265,7 @@ fn is_walk_of_children<Ix: IndexType, S: Store<Ix, NodeWeight = u32, EdgeWeight 
     n: usize,
     wanted: Answer<'_>,
 ) {
-    let mut walk = Vec::new(alloc);
-    for (e, child) in dag.children(node(rt, n)).iter(dag) {
-        made(rt, walk.push((e.index(), child.index())));
-    }
+    let walk = walk(rt, alloc, dag, n);
     is(rt, Answer::Walk(walk.as_slice()), wanted);
 }
 
@@ -407,6 +415,7 @@ fn ask<Ix: IndexType, S: Store<Ix, NodeWeight = u32, EdgeWeight = u32>>(
 ) -> Answer<'static> {
     match call {
         Call::Counts => Answer::Counts(dag.node_count(), dag.edge_count()),
+        Call::Bounds => Answer::Counts(dag.node_bound(), dag.graph().edge_bound()),
         Call::Weight(n) => of_weight(dag.node_weight(node(rt, n)).copied()),
         Call::Stored(e) => stored(rt, dag, e),
         Call::Find(a, b) => match dag.find_edge(node(rt, a), node(rt, b)) {
@@ -458,8 +467,8 @@ pub enum Scene<'a> {
     FullOfNodes(&'a [Row<'a>]),
     /// A table is played over two nodes, and 255 edges from the first to the second.
     FullOfEdges(&'a [Row<'a>]),
-    /// A table is played over the dag of these edges, the weights of which are 0.
-    OfPairs(&'a [(usize, usize)], &'a [Row<'a>]),
+    /// A dag is made of edges, whose weights are 0, with this answer, and a table is played over it.
+    OfPairs(&'a [(usize, usize)], Answer<'a>, &'a [Row<'a>]),
     /// A dag is made of elements, with this answer, and a table is played over it.
     OfParts(&'a [Part], Answer<'a>, &'a [Row<'a>]),
     /// A long series comes back, and is added.
@@ -468,10 +477,61 @@ pub enum Scene<'a> {
     RoundVacantSlots,
     /// The edges of a sorted list are added one by one, and all at once.
     SortedList,
+    /// A series has items at fault.
+    Fault,
+    /// The order tells its length.
+    Length,
     /// Cycles are looked for along a path of so many nodes, one less than the greatest index.
     LongChain,
     /// Cycles are looked for in a graph with many edges.
     DenseGraph,
+}
+
+// Acts with a dag, which has nothing yet.
+fn show<Ix: IndexType, S: Store<Ix, NodeWeight = u32, EdgeWeight = u32>>(
+    rt: &impl Abort,
+    alloc: Global,
+    dag: &mut Acyclic<u32, u32, Ix, S>,
+    scene: Scene<'_>,
+) {
+    match scene {
+        Scene::Rows(rows) => play(rt, alloc, dag, rows),
+        Scene::FullOfNodes(rows) => {
+            fill_nodes(rt, dag, 255);
+            holds(rt, !dag.can_add_node());
+            play(rt, alloc, dag, rows);
+        }
+        Scene::FullOfEdges(rows) => {
+            fill_edges(rt, dag);
+            play(rt, alloc, dag, rows);
+        }
+        Scene::OfPairs(pairs, wanted, rows) => {
+            of_pairs::<Ix, S>(rt, alloc, pairs, wanted, rows);
+        }
+        Scene::OfParts(parts, wanted, rows) => {
+            of_parts::<Ix, S>(rt, alloc, parts, wanted, rows);
+        }
+        _ => show_much(rt, alloc, dag, scene),
+    }
+}
+
+// Acts with many nodes or edges.
+fn show_much<Ix: IndexType, S: Store<Ix, NodeWeight = u32, EdgeWeight = u32>>(
+    rt: &impl Abort,
+    alloc: Global,
+    dag: &mut Acyclic<u32, u32, Ix, S>,
+    scene: Scene<'_>,
+) {
+    match scene {
+        Scene::LongSeries => sort_long_series(rt, alloc, dag),
+        Scene::RoundVacantSlots => sort_round_vacant_slots(rt, alloc, dag),
+        Scene::SortedList => add_sorted_list(rt, alloc, dag),
+        Scene::Fault => end_at_a_fault(rt, alloc, dag),
+        Scene::Length => tell_length(rt, dag),
+        Scene::LongChain => search_long_chain(rt, dag),
+        Scene::DenseGraph => search_dense_graph(rt, dag),
+        _ => panic!(rt; "there is no such scene"),
+    }
 }
 
 // Acts with a dag over such a store.
@@ -481,28 +541,7 @@ fn act<Ix: IndexType, S: Store<Ix, NodeWeight = u32, EdgeWeight = u32>>(
     scene: Scene<'_>,
 ) {
     let mut dag: Acyclic<u32, u32, Ix, S> = Acyclic::new(alloc);
-    match scene {
-        Scene::Rows(rows) => play(rt, alloc, &mut dag, rows),
-        Scene::FullOfNodes(rows) => {
-            fill_nodes(rt, &mut dag, 255);
-            holds(rt, !dag.can_add_node());
-            play(rt, alloc, &mut dag, rows);
-        }
-        Scene::FullOfEdges(rows) => {
-            fill_edges(rt, &mut dag);
-            play(rt, alloc, &mut dag, rows);
-        }
-        Scene::OfPairs(pairs, rows) => {
-            dag = made(rt, Acyclic::from_edges(alloc, ends(rt, alloc, pairs)));
-            play(rt, alloc, &mut dag, rows);
-        }
-        Scene::OfParts(parts, wanted, rows) => of_parts(rt, alloc, dag, parts, wanted, rows),
-        Scene::LongSeries => sort_long_series(rt, alloc, &mut dag),
-        Scene::RoundVacantSlots => sort_round_vacant_slots(rt, alloc, &mut dag),
-        Scene::SortedList => add_sorted_list(rt, alloc, &mut dag),
-        Scene::LongChain => search_long_chain(rt, &mut dag),
-        Scene::DenseGraph => search_dense_graph(rt, &mut dag),
-    }
+    show(rt, alloc, &mut dag, scene);
 }
 
 /// Acts with a compact dag that has indices of this type.
@@ -526,8 +565,8 @@ pub fn both(rt: &impl Abort, alloc: Global, scene: Scene<'_>) {
     stable(rt, alloc, scene);
 }
 
-// Adds so many nodes, the weights of which are their indices.
-fn fill_nodes<Ix: IndexType, S: Store<Ix, NodeWeight = u32, EdgeWeight = u32>>(
+/// Adds so many nodes, the weights of which are their indices.
+pub fn fill_nodes<Ix: IndexType, S: Store<Ix, NodeWeight = u32, EdgeWeight = u32>>(
     rt: &impl Abort,
     dag: &mut Acyclic<u32, u32, Ix, S>,
     count: usize,
@@ -563,6 +602,23 @@ fn ends<Ix: IndexType>(
     ends
 }
 
+// Makes a dag of edges.
+fn of_pairs<Ix: IndexType, S: Store<Ix, NodeWeight = u32, EdgeWeight = u32>>(
+    rt: &impl Abort,
+    alloc: Global,
+    pairs: &[(usize, usize)],
+    wanted: Answer<'_>,
+    rows: &[Row<'_>],
+) {
+    match Acyclic::<u32, u32, Ix, S>::from_edges(alloc, ends(rt, alloc, pairs)) {
+        Ok(mut dag) => {
+            is(rt, Answer::Done, wanted);
+            play(rt, alloc, &mut dag, rows);
+        }
+        Err(error) => is(rt, of_error(rt, error), wanted),
+    }
+}
+
 /// A node of a weight, or an edge of two positions and a weight.
 #[derive(Clone, Copy)]
 pub enum Part {
@@ -586,23 +642,20 @@ fn elements(rt: &impl Abort, alloc: Global, parts: &[Part]) -> Vec<Element<u32, 
     elements
 }
 
-// Makes a dag in place of one that has nothing.
+// Makes a dag of elements.
 fn of_parts<Ix: IndexType, S: Store<Ix, NodeWeight = u32, EdgeWeight = u32>>(
     rt: &impl Abort,
     alloc: Global,
-    mut dag: Acyclic<u32, u32, Ix, S>,
     parts: &[Part],
     wanted: Answer<'_>,
     rows: &[Row<'_>],
 ) {
-    let found = match Acyclic::from_elements(alloc, elements(rt, alloc, parts)) {
-        Ok(made) => {
-            dag = made;
-            Answer::Done
+    match Acyclic::<u32, u32, Ix, S>::from_elements(alloc, elements(rt, alloc, parts)) {
+        Ok(mut dag) => {
+            is(rt, Answer::Done, wanted);
+            play(rt, alloc, &mut dag, rows);
         }
-        Err(ElementError::Edge(error)) => of_error(rt, error),
+        Err(ElementError::Edge(error)) => is(rt, of_error(rt, error), wanted),
         Err(ElementError::Node(_)) => panic!(rt; "an index is left"),
-    };
-    is(rt, found, wanted);
-    play(rt, alloc, &mut dag, rows);
+    }
 }

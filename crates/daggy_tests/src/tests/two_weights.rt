@@ -1,38 +1,65 @@
 //! Two weights that are written at once.
-use super::support::{dag_of, holds, same, shape};
-use daggy_base::index::{EdgeIndex, NodeIndex};
-use std::mem;
+use super::acts::{Act, both, stable};
+use super::table::{Answer, Call};
 
 #[test]
-fn two_nodes_of_a_dag_are_swapped(rt: HostRuntime) {
-    let mut dag = dag_of(&rt, rt.alloc(), &[1, 2], &[]);
-    let (a, b) = (NodeIndex::new(0), NodeIndex::new(1));
-    holds(&rt, dag.node_weight(a).is_some());
-    holds(&rt, dag.node_weight(b).is_some());
-    let first = dag.update_two_nodes(b, a, |x, y| {
-        mem::swap(x, y);
-        *x
-    });
-    same(&rt, first, 1);
-    shape(&rt, dag.graph(), &[2, 1], &[]);
+fn two_weights_are_written_in_either_order(rt: HostRuntime) {
+    both(
+        &rt,
+        rt.alloc(),
+        &[
+            (Call::Node(10), Answer::Node(0)),
+            (Call::Node(11), Answer::Node(1)),
+            (
+                Call::Edges(&[(0, 1, 30), (0, 1, 31)]),
+                Answer::Edges(&[0, 1]),
+            ),
+        ],
+        &[
+            Act::RaiseNodes(0, 1, 10),
+            Act::RaiseNodes(1, 0, 211),
+            Act::RaiseEdges(0, 1, 30),
+            Act::RaiseEdges(1, 0, 231),
+            Act::RaiseBoth(1, 0, 311),
+            Act::Rows(&[
+                (Call::Weight(0), Answer::Weight(310)),
+                (Call::Weight(1), Answer::Weight(411)),
+                (Call::Stored(0), Answer::Stored(0, 1, 530)),
+                (Call::Stored(1), Answer::Stored(0, 1, 331)),
+            ]),
+        ],
+    );
 }
 
 #[test]
-fn two_edges_of_a_dag_are_swapped(rt: HostRuntime) {
-    let mut dag = dag_of(&rt, rt.alloc(), &[10, 11], &[(0, 1, 1), (0, 1, 2)]);
-    let (d, e) = (EdgeIndex::new(0), EdgeIndex::new(1));
-    holds(&rt, dag.edge_weight(d).is_some());
-    holds(&rt, dag.edge_weight(e).is_some());
-    dag.update_two_edges(d, e, |x, y| mem::swap(x, y));
-    shape(&rt, dag.graph(), &[10, 11], &[(0, 1, 2), (0, 1, 1)]);
-}
-
-#[test]
-fn a_node_and_an_edge_of_a_dag_are_swapped(rt: HostRuntime) {
-    let mut dag = dag_of(&rt, rt.alloc(), &[1, 2], &[(0, 1, 3)]);
-    let (b, e) = (NodeIndex::new(1), EdgeIndex::new(0));
-    holds(&rt, dag.node_weight(b).is_some());
-    holds(&rt, dag.edge_weight(e).is_some());
-    dag.update_node_and_edge(b, e, |x, y| mem::swap(x, y));
-    shape(&rt, dag.graph(), &[1, 3], &[(0, 1, 2)]);
+fn two_weights_are_written_beside_vacant_slots(rt: HostRuntime) {
+    stable(
+        &rt,
+        rt.alloc(),
+        &[
+            (Call::Node(10), Answer::Node(0)),
+            (Call::Node(11), Answer::Node(1)),
+            (Call::Node(12), Answer::Node(2)),
+            (Call::Node(13), Answer::Node(3)),
+            (
+                Call::Edges(&[(0, 1, 30), (0, 2, 31), (0, 3, 32)]),
+                Answer::Edges(&[0, 1, 2]),
+            ),
+            (Call::RemoveNode(2), Answer::Weight(12)),
+        ],
+        &[
+            Act::RaiseNodes(0, 3, 10),
+            Act::RaiseEdges(2, 0, 32),
+            Act::RaiseBoth(3, 0, 213),
+            Act::Rows(&[
+                (Call::Weight(0), Answer::Weight(110)),
+                (Call::Weight(1), Answer::Weight(11)),
+                (Call::Weight(3), Answer::Weight(313)),
+                (Call::Stored(0), Answer::Stored(0, 1, 430)),
+                (Call::Stored(2), Answer::Stored(0, 3, 132)),
+                (Call::Node(20), Answer::Node(2)),
+                (Call::Edge(0, 3, 200), Answer::Edge(1)),
+            ]),
+        ],
+    );
 }

@@ -1,6 +1,9 @@
-use super::support::{Plain, add_node, dag_of, holds, made, same, shape, shows};
+//! Code over the traits of graphs, and sets and matrices for a dag.
+use super::acts::{Act, both, dag_of, stable};
+use super::kinds::{Compact, Kind, Plain, Stable};
+use super::support::{holds, made, same, shows};
+use super::table::{Answer, Call, Row, edge_added, is, node_added};
 use daggy_base::index::{EdgeIndex, NodeIndex};
-use daggy_dag::acyclic::Dag;
 use daggy_walk::visit::{
     Data, DataMap, DataMapMut, GetAdjacencyMatrix, GraphBase, GraphProp, NodeCompactIndexable,
     NodeCount, NodeIndexable, VisitMap, Visitable,
@@ -8,39 +11,18 @@ use daggy_walk::visit::{
 use std::alloc::{AllocError, Global};
 use std::process::Abort;
 
-// Nodes of weights 10, 20 and 30, and an edge of weight 5 from the first to the second.
-fn three_nodes(rt: &impl Abort, alloc: Global) -> Plain {
-    dag_of(rt, alloc, &[10, 20, 30], &[(0, 1, 5)])
-}
-
-#[test]
-fn a_set_is_reset_for_more_nodes(rt: HostRuntime) {
-    let mut dag: Plain = Dag::new(rt.alloc());
-    let mut map = made(&rt, dag.visit_map());
-    for weight in 0..70 {
-        add_node(&rt, &mut dag, weight);
-    }
-    made(&rt, dag.reset_map(&mut map));
-    holds(&rt, dag.node_bound() == 70);
-    holds(&rt, map.visit(NodeIndex::new(69)));
-    holds(&rt, map.is_visited(NodeIndex::new(69)));
-    holds(&rt, !map.is_visited(NodeIndex::new(5)));
-}
-
-#[test]
-fn a_set_and_a_matrix_show_their_bounds(rt: HostRuntime) {
-    let dag = three_nodes(&rt, rt.alloc());
-    let map = made(&rt, dag.visit_map());
-    shows(&rt, rt.alloc(), &map, "NodeSet { bound: 3, .. }");
-    let matrix = made(&rt, dag.adjacency_matrix());
-    shows(&rt, rt.alloc(), &matrix, "AdjMatrix { bound: 3, .. }");
-}
+const THREE: [Row<'static>; 4] = [
+    (Call::Node(10), Answer::Node(0)),
+    (Call::Node(20), Answer::Node(1)),
+    (Call::Node(30), Answer::Node(2)),
+    (Call::Edge(0, 1, 5), Answer::Edge(0)),
+];
 
 fn twice<G: GraphBase>(n: G::NodeId, e: G::EdgeId) -> ([G::NodeId; 2], [G::EdgeId; 2]) {
     ([n, n], [e, e])
 }
 
-fn both<G: Data>(n: Option<G::NodeWeight>, e: Option<G::EdgeWeight>) -> bool
+fn have_both<G: Data>(n: Option<G::NodeWeight>, e: Option<G::EdgeWeight>) -> bool
 where
     G::NodeWeight: Drop,
     G::EdgeWeight: Drop,
@@ -63,7 +45,8 @@ fn has_weights<G: DataMap>(graph: &G, n: G::NodeId, e: G::EdgeId) -> (bool, bool
     )
 }
 
-fn write<G: DataMapMut>(
+/// Writes the weights of a node and of an edge, if there are such.
+pub fn write<G: DataMapMut>(
     graph: &mut G,
     n: G::NodeId,
     node: G::NodeWeight,
@@ -119,30 +102,154 @@ where
     Ok(graph.is_adjacent(&matrix, a, b))
 }
 
-#[test]
-fn generic_code_reads_a_dag(rt: HostRuntime) {
-    let dag = three_nodes(&rt, rt.alloc());
-    let (a, b, e) = (NodeIndex::new(0), NodeIndex::new(1), EdgeIndex::new(0));
-    same(&rt, twice::<Plain>(b, e), ([b, b], [e, e]));
-    same(&rt, both::<Plain>(Some(1), Some(2)), true);
-    same(&rt, count(&dag), 3);
-    same(&rt, has_direction(&dag), true);
-    same(&rt, has_weights(&dag, b, e), (true, true));
-    same(
-        &rt,
-        has_weights(&dag, NodeIndex::new(3), EdgeIndex::new(1)),
-        (false, false),
-    );
-    same(&rt, past_the_last(&dag), 3);
-    same(&rt, is_full(&dag), true);
-    same(&rt, made(&rt, visits_the_last(&dag)), true);
-    same(&rt, made(&rt, are_joined(&dag, a, b)), true);
-    same(&rt, made(&rt, are_joined(&dag, b, a)), false);
+/// Reads a dag of three nodes, of which an edge joins the first two.
+pub fn read<S: Kind>(rt: &impl Abort, dag: &Plain<S>) {
+    read_indices(rt, dag);
+    read_weights(rt, dag);
+    read_pairs(rt, dag);
+}
+
+fn read_indices<S: Kind>(rt: &impl Abort, dag: &Plain<S>) {
+    let (b, e) = (NodeIndex::new(1), EdgeIndex::new(0));
+    same(rt, twice::<Plain<S>>(b, e), ([b, b], [e, e]));
+    same(rt, (count(dag), past_the_last(dag)), (3, 3));
+    same(rt, has_direction(dag), true);
+}
+
+fn read_weights<S: Kind>(rt: &impl Abort, dag: &Plain<S>) {
+    let (b, e) = (NodeIndex::new(1), EdgeIndex::new(0));
+    same(rt, have_both::<Plain<S>>(Some(1), Some(2)), true);
+    same(rt, has_weights(dag, b, e), (true, true));
+    let (none, no_edge) = (NodeIndex::new(3), EdgeIndex::new(1));
+    same(rt, has_weights(dag, none, no_edge), (false, false));
+}
+
+fn read_pairs<S: Kind>(rt: &impl Abort, dag: &Plain<S>) {
+    let (a, b) = (NodeIndex::new(0), NodeIndex::new(1));
+    same(rt, made(rt, visits_the_last(dag)), true);
+    same(rt, made(rt, are_joined(dag, a, b)), true);
+    same(rt, made(rt, are_joined(dag, b, a)), false);
+}
+
+/// Puts a node into a set for a dag once and no more, and finds it gone after a reset.
+pub fn visit<S: Kind>(rt: &impl Abort, dag: &Plain<S>, n: NodeIndex<u8>) {
+    let mut set = made(rt, dag.visit_map());
+    holds(rt, n.index() < dag.node_bound());
+    holds(rt, set.visit(n));
+    holds(rt, !set.visit(n));
+    made(rt, dag.reset_map(&mut set));
+    holds(rt, !set.is_visited(n));
+}
+
+/// Resets a set for so many nodes more.
+pub fn reset<S: Kind>(rt: &impl Abort, dag: &mut Plain<S>, more: u32) {
+    let mut map = made(rt, dag.visit_map());
+    for weight in 0..more {
+        node_added(rt, dag, weight);
+    }
+    made(rt, dag.reset_map(&mut map));
+    let Some(last) = dag.node_bound().checked_sub(1) else {
+        return;
+    };
+    holds(rt, last < 255);
+    let n = NodeIndex::new(last);
+    holds(rt, map.visit(n));
+    holds(rt, map.is_visited(n));
+    holds(rt, !map.is_visited(NodeIndex::new(5)));
 }
 
 #[test]
-fn generic_code_writes_a_dag(rt: HostRuntime) {
-    let mut dag = three_nodes(&rt, rt.alloc());
-    write(&mut dag, NodeIndex::new(1), 21, EdgeIndex::new(0), 6);
-    shape(&rt, dag.graph(), &[10, 21, 30], &[(0, 1, 6)]);
+fn generic_code_reads_and_writes_a_dag(rt: HostRuntime) {
+    both(
+        &rt,
+        rt.alloc(),
+        &THREE,
+        &[
+            Act::Read,
+            Act::Write(1, 21, 0, 6),
+            Act::Rows(&[
+                (Call::Weight(1), Answer::Weight(21)),
+                (Call::Stored(0), Answer::Stored(0, 1, 6)),
+            ]),
+        ],
+    );
+}
+
+#[test]
+fn a_set_is_reset_for_more_nodes(rt: HostRuntime) {
+    both(&rt, rt.alloc(), &[], &[Act::Reset(70)]);
+}
+
+const FIRST_GONE: [Row<'static>; 2] = [
+    (Call::RemoveNode(0), Answer::Weight(10)),
+    (Call::Bounds, Answer::Counts(3, 0)),
+];
+
+const LAST_GONE: [Row<'static>; 2] = [
+    (Call::RemoveNode(2), Answer::Weight(30)),
+    (Call::Bounds, Answer::Counts(2, 1)),
+];
+
+#[test]
+fn a_set_reaches_to_the_bound(rt: HostRuntime) {
+    stable(
+        &rt,
+        rt.alloc(),
+        &THREE,
+        &[Act::Rows(&FIRST_GONE), Act::Visit(2)],
+    );
+}
+
+#[test]
+fn a_set_reaches_to_the_last_that_is_left(rt: HostRuntime) {
+    stable(
+        &rt,
+        rt.alloc(),
+        &THREE,
+        &[Act::Rows(&LAST_GONE), Act::Visit(1)],
+    );
+}
+
+#[test]
+fn bounds_end_with_the_last_in_use(rt: HostRuntime) {
+    let edges = &[(0, 1, 100), (1, 2, 101), (0, 2, 102)];
+    stable(
+        &rt,
+        rt.alloc(),
+        &[
+            (Call::Extend(edges), Answer::Done),
+            (Call::RemoveNode(1), Answer::Weight(0)),
+            (Call::Bounds, Answer::Counts(3, 3)),
+            (Call::RemoveNode(2), Answer::Weight(0)),
+            (Call::Bounds, Answer::Counts(1, 0)),
+            (Call::Node(5), Answer::Node(2)),
+        ],
+        &[],
+    );
+}
+
+#[test]
+fn a_compact_dag_has_a_node_at_each_index(rt: HostRuntime) {
+    let dag: Plain<Compact> = dag_of(&rt, rt.alloc(), &THREE);
+    same(&rt, is_full(&dag), true);
+}
+
+// A matrix has the pairs of its time, and it and a set tell their bounds.
+fn keep_pairs<S: Kind>(rt: &impl Abort, alloc: Global, dag: &mut Plain<S>) {
+    let (a, b, c) = (NodeIndex::new(0), NodeIndex::new(1), NodeIndex::new(2));
+    let matrix = made(rt, dag.adjacency_matrix());
+    is(rt, edge_added(rt, dag, (1, 2), 9), Answer::Edge(1));
+    holds(rt, dag.is_adjacent(&matrix, a, b));
+    holds(rt, !dag.is_adjacent(&matrix, b, c));
+    holds(rt, !dag.is_adjacent(&matrix, b, a));
+    holds(rt, !dag.is_adjacent(&matrix, a, NodeIndex::new(9)));
+    shows(rt, alloc, &matrix, "AdjMatrix { bound: 3, .. }");
+    let map = made(rt, dag.visit_map());
+    shows(rt, alloc, &map, "NodeSet { bound: 3, .. }");
+}
+
+#[test]
+fn a_matrix_has_the_pairs_of_its_time(rt: HostRuntime) {
+    let mut dag: Plain<Stable> = dag_of(&rt, rt.alloc(), &THREE);
+    keep_pairs(&rt, rt.alloc(), &mut dag);
 }

@@ -1,0 +1,193 @@
+//! What is done with a dag of either kind beside the calls of a table.
+use super::kinds::{Compact, Kind, Line, Plain, Stable};
+use super::support::{edge, holds, made, node, same};
+use super::table::{Answer, Call, Row, play};
+use super::visiting::{read, reset, visit, write};
+use daggy_base::index::Direction;
+use daggy_dag::acyclic::Acyclic;
+use std::alloc::Global;
+use std::process::Abort;
+
+/// The nodes 0, 1 and 2, and an edge from each to those after it.
+pub const TRIANGLE: [Row<'static>; 4] = [
+    (Call::Node(10), Answer::Node(0)),
+    (Call::Node(11), Answer::Node(1)),
+    (Call::Node(12), Answer::Node(2)),
+    (
+        Call::Edges(&[(0, 1, 100), (0, 2, 101), (1, 2, 102)]),
+        Answer::Edges(&[0, 1, 2]),
+    ),
+];
+
+/// Something that is done with a dag, and what comes of it.
+#[derive(Clone, Copy)]
+pub enum Act<'a> {
+    /// A table is played.
+    Rows(&'a [Row<'a>]),
+    /// A table is played over a copy.
+    Copy(&'a [Row<'a>]),
+    /// Each weight is raised by its index, with these calls, and a table is played over that.
+    Map(u64, &'a [Row<'a>]),
+    /// The nodes of one weight are left out, with these calls, and a table is played over the rest.
+    Part(u32, u64, &'a [Row<'a>]),
+    /// A table is played over another dag, which is made with room for nodes and edges.
+    Capacity(usize, usize, &'a [Row<'a>]),
+    /// There is no memory for so many nodes and edges.
+    NoCapacity(usize, usize),
+    /// The weights of two nodes are raised, of which the first was this.
+    RaiseNodes(usize, usize, u32),
+    /// The same with two edges.
+    RaiseEdges(usize, usize, u32),
+    /// The same with a node and an edge.
+    RaiseBoth(usize, usize, u32),
+    /// All nodes and edges are gone through.
+    Through(&'a [(usize, u32)], &'a [Line]),
+    /// A list of a node is gone along, the one to its children if no direction is named.
+    Along(usize, Option<Direction>, &'a [usize], &'a [Line]),
+    /// Code over the traits of graphs reads the dag.
+    Read,
+    /// Code over the traits of graphs writes a node's weight and an edge's.
+    Write(usize, u32, usize, u32),
+    /// A node is put into a set for the dag, and is gone after a reset.
+    Visit(usize),
+    /// A set is reset for more nodes, of which these are added.
+    Reset(u32),
+}
+
+fn copy<S: Kind>(rt: &impl Abort, alloc: Global, dag: &Plain<S>, rows: &[Row<'_>]) {
+    let mut copy = made(rt, S::copied(dag));
+    play(rt, alloc, &mut copy, rows);
+}
+
+fn map<S: Kind>(rt: &impl Abort, alloc: Global, dag: &Plain<S>, noted: u64, rows: &[Row<'_>]) {
+    let mut calls = 0;
+    let mut mapped = made(rt, S::mapped(dag, &mut calls));
+    play(rt, alloc, &mut mapped, rows);
+    same(rt, calls, noted);
+}
+
+fn part<S: Kind>(
+    rt: &impl Abort,
+    alloc: Global,
+    dag: &Plain<S>,
+    (without, noted): (u32, u64),
+    rows: &[Row<'_>],
+) {
+    let mut calls = 0;
+    let mut part = made(rt, S::part(dag, without, &mut calls));
+    play(rt, alloc, &mut part, rows);
+    same(rt, calls, noted);
+}
+
+fn capacity<S: Kind>(rt: &impl Abort, alloc: Global, sizes: (usize, usize), rows: &[Row<'_>]) {
+    let mut dag = made(rt, S::with_capacity(alloc, sizes.0, sizes.1));
+    play(rt, alloc, &mut dag, rows);
+}
+
+fn through<S: Kind>(
+    rt: &impl Abort,
+    alloc: Global,
+    dag: &Plain<S>,
+    nodes: &[(usize, u32)],
+    edges: &[Line],
+) {
+    same(rt, made(rt, S::nodes(alloc, dag)).len(), nodes.len());
+    same(
+        rt,
+        made(rt, S::weighted_nodes(alloc, dag)).as_slice(),
+        nodes,
+    );
+    same(rt, made(rt, S::edges(alloc, dag)).as_slice(), edges);
+}
+
+fn along<S: Kind>(
+    rt: &impl Abort,
+    alloc: Global,
+    dag: &Plain<S>,
+    list: (usize, Option<Direction>),
+    nodes: &[usize],
+    edges: &[Line],
+) {
+    let (n, dir) = list;
+    same(
+        rt,
+        made(rt, S::near_nodes(alloc, dag, n, dir)).as_slice(),
+        nodes,
+    );
+    same(
+        rt,
+        made(rt, S::near_edges(alloc, dag, n, dir)).as_slice(),
+        edges,
+    );
+}
+
+fn apply<S: Kind>(rt: &impl Abort, alloc: Global, dag: &mut Plain<S>, act: Act<'_>) {
+    match act {
+        Act::Rows(rows) => play(rt, alloc, dag, rows),
+        Act::Copy(rows) => copy(rt, alloc, dag, rows),
+        Act::Map(noted, rows) => map(rt, alloc, dag, noted, rows),
+        Act::Part(without, noted, rows) => part(rt, alloc, dag, (without, noted), rows),
+        Act::Capacity(nodes, edges, rows) => capacity::<S>(rt, alloc, (nodes, edges), rows),
+        Act::Through(nodes, edges) => through(rt, alloc, dag, nodes, edges),
+        Act::Along(n, dir, nodes, edges) => along(rt, alloc, dag, (n, dir), nodes, edges),
+        Act::NoCapacity(nodes, edges) => {
+            holds(rt, S::with_capacity(alloc, nodes, edges).is_err());
+        }
+        _ => write_or_read(rt, dag, act),
+    }
+}
+
+fn write_or_read<S: Kind>(rt: &impl Abort, dag: &mut Plain<S>, act: Act<'_>) {
+    match act {
+        Act::RaiseNodes(a, b, first) => {
+            same(rt, S::raise_nodes(dag, a, b), Some(first));
+        }
+        Act::RaiseEdges(a, b, first) => {
+            same(rt, S::raise_edges(dag, a, b), Some(first));
+        }
+        Act::RaiseBoth(n, e, first) => {
+            same(rt, S::raise_both(dag, n, e), Some(first));
+        }
+        Act::Read => read(rt, dag),
+        Act::Write(n, node_weight, e, edge_weight) => {
+            write(dag, node(rt, n), node_weight, edge(rt, e), edge_weight);
+        }
+        Act::Visit(n) => visit(rt, dag, node(rt, n)),
+        Act::Reset(more) => reset(rt, dag, more),
+        _ => panic!(rt; "there is no such act"),
+    }
+}
+
+/// A new dag, over which a table was played.
+pub fn dag_of<S: Kind>(rt: &impl Abort, alloc: Global, rows: &[Row<'_>]) -> Plain<S> {
+    let mut dag: Plain<S> = Acyclic::new(alloc);
+    play(rt, alloc, &mut dag, rows);
+    dag
+}
+
+fn apply_all<S: Kind>(rt: &impl Abort, alloc: Global, dag: &mut Plain<S>, acts: &[Act<'_>]) {
+    for act in acts {
+        apply(rt, alloc, dag, *act);
+    }
+}
+
+fn begin<S: Kind>(rt: &impl Abort, alloc: Global, rows: &[Row<'_>], acts: &[Act<'_>]) {
+    let mut dag: Plain<S> = dag_of(rt, alloc, rows);
+    apply_all(rt, alloc, &mut dag, acts);
+}
+
+/// Plays a table over a compact dag, and then acts with it.
+pub fn compact(rt: &impl Abort, alloc: Global, rows: &[Row<'_>], acts: &[Act<'_>]) {
+    begin::<Compact>(rt, alloc, rows, acts);
+}
+
+/// Plays a table over a stable dag, and then acts with it.
+pub fn stable(rt: &impl Abort, alloc: Global, rows: &[Row<'_>], acts: &[Act<'_>]) {
+    begin::<Stable>(rt, alloc, rows, acts);
+}
+
+/// Does the same with a dag of each kind.
+pub fn both(rt: &impl Abort, alloc: Global, rows: &[Row<'_>], acts: &[Act<'_>]) {
+    compact(rt, alloc, rows, acts);
+    stable(rt, alloc, rows, acts);
+}

@@ -1,0 +1,149 @@
+//! Capacity, and what only compact dags have: room that is reserved and given back, slices of all
+//! nodes and edges, and all weights written in a row.
+use super::acts::{Act, TRIANGLE, both, dag_of};
+use super::kinds::{Compact, Plain, note};
+use super::support::{holds, same};
+use super::table::{Answer, Call, Row, play};
+use daggy_base::index::{Direction, EdgeIndex, NodeIndex};
+use daggy_definitions::cursors::clear_weights;
+use std::cell::Cell;
+
+const AGAIN: [Row<'static>; 7] = [
+    (Call::Counts, Answer::Counts(3, 3)),
+    (Call::Weight(0), Answer::Weight(10)),
+    (Call::Weight(1), Answer::Weight(11)),
+    (Call::Weight(2), Answer::Weight(12)),
+    (Call::Stored(1), Answer::Stored(0, 2, 101)),
+    (Call::Children(0), Answer::Walk(&[(1, 2), (0, 1)])),
+    (Call::Parents(2), Answer::Walk(&[(2, 1), (1, 0)])),
+];
+
+#[test]
+fn capacity_is_made_and_given_back(rt: HostRuntime) {
+    let mut dag: Plain<Compact> = dag_of(&rt, rt.alloc(), &TRIANGLE);
+    holds(&rt, dag.reserve_nodes(20).is_ok());
+    holds(&rt, dag.reserve_exact_nodes(40).is_ok());
+    holds(&rt, dag.reserve_edges(20).is_ok());
+    holds(&rt, dag.reserve_exact_edges(40).is_ok());
+    play(&rt, rt.alloc(), &mut dag, &AGAIN);
+    holds(&rt, dag.shrink_to_fit_nodes().is_ok());
+    holds(&rt, dag.shrink_to_fit_edges().is_ok());
+    holds(&rt, dag.reserve_nodes(20).is_ok());
+    holds(&rt, dag.shrink_to_fit().is_ok());
+    play(&rt, rt.alloc(), &mut dag, &AGAIN);
+}
+
+#[test]
+fn capacity_that_no_machine_has_is_refused(rt: HostRuntime) {
+    let mut dag: Plain<Compact> = dag_of(&rt, rt.alloc(), &TRIANGLE);
+    holds(&rt, dag.reserve_nodes(usize::MAX).is_err());
+    holds(&rt, dag.reserve_exact_nodes(usize::MAX).is_err());
+    holds(&rt, dag.reserve_edges(usize::MAX).is_err());
+    holds(&rt, dag.reserve_exact_edges(usize::MAX).is_err());
+    play(&rt, rt.alloc(), &mut dag, &AGAIN);
+}
+
+#[test]
+fn a_dag_with_capacity_begins_empty(rt: HostRuntime) {
+    let rows = &[
+        (Call::Counts, Answer::Counts(0, 0)),
+        (Call::Node(1), Answer::Node(0)),
+        (Call::Node(2), Answer::Node(1)),
+        (Call::Edge(0, 1, 3), Answer::Edge(0)),
+        (Call::Edge(1, 0, 4), Answer::Cycle(4)),
+    ];
+    both(
+        &rt,
+        rt.alloc(),
+        &[],
+        &[
+            Act::Capacity(2, 1, rows),
+            Act::NoCapacity(usize::MAX, 0),
+            Act::NoCapacity(0, usize::MAX),
+        ],
+    );
+}
+
+#[test]
+fn an_update_shows_each_node_or_each_edge(rt: HostRuntime) {
+    let mut dag: Plain<Compact> = dag_of(&rt, rt.alloc(), &TRIANGLE);
+    let calls = Cell::new(0);
+    dag.update_node_weights(|n, weight| {
+        note(&calls, 1, n.index());
+        *weight = weight.wrapping_mul(2);
+    });
+    same(&rt, calls.take(), 101112);
+    dag.update_edge_weights(|e, weight| {
+        note(&calls, 2, e.index());
+        *weight = weight.wrapping_add(1);
+    });
+    same(&rt, calls.get(), 202122);
+    play(
+        &rt,
+        rt.alloc(),
+        &mut dag,
+        &[
+            (Call::Weight(0), Answer::Weight(20)),
+            (Call::Weight(1), Answer::Weight(22)),
+            (Call::Weight(2), Answer::Weight(24)),
+            (Call::Stored(0), Answer::Stored(0, 1, 101)),
+            (Call::Stored(1), Answer::Stored(0, 2, 102)),
+            (Call::Stored(2), Answer::Stored(1, 2, 103)),
+            (Call::Edge(2, 0, 7), Answer::Cycle(7)),
+        ],
+    );
+}
+
+#[test]
+fn slices_follow_a_removal(rt: HostRuntime) {
+    let mut dag: Plain<Compact> = dag_of(&rt, rt.alloc(), &TRIANGLE);
+    same(&rt, dag.remove_edge(EdgeIndex::new(0)), Some(100));
+    let nodes = dag.raw_nodes();
+    let edges = dag.raw_edges();
+    holds(&rt, nodes.len() == 3);
+    holds(&rt, edges.len() == 2);
+    let incoming = Direction::Incoming;
+    same(&rt, nodes[1].next_edge(incoming), EdgeIndex::end());
+    same(&rt, edges[0].next_edge(incoming), EdgeIndex::new(1));
+    same(&rt, edges[0].source(), NodeIndex::new(1));
+}
+
+#[test]
+fn weights_are_lent_in_order(rt: HostRuntime) {
+    let mut dag: Plain<Compact> = dag_of(&rt, rt.alloc(), &TRIANGLE);
+    let mut nodes = dag.node_weights_mut();
+    same(&rt, nodes.next().copied(), Some(10));
+    if let Some(weight) = nodes.next() {
+        *weight = 21;
+    }
+    same(&rt, nodes.next().copied(), Some(12));
+    same(&rt, nodes.next().copied(), None);
+    let mut edges = dag.edge_weights_mut();
+    same(&rt, edges.next().copied(), Some(100));
+    if let Some(weight) = edges.next() {
+        *weight = 30;
+    }
+    same(&rt, edges.next().copied(), Some(102));
+    same(&rt, edges.next().copied(), None);
+    play(
+        &rt,
+        rt.alloc(),
+        &mut dag,
+        &[
+            (Call::Weight(0), Answer::Weight(10)),
+            (Call::Weight(1), Answer::Weight(21)),
+            (Call::Stored(0), Answer::Stored(0, 1, 100)),
+            (Call::Stored(1), Answer::Stored(0, 2, 30)),
+        ],
+    );
+    clear_weights(&mut dag);
+    play(
+        &rt,
+        rt.alloc(),
+        &mut dag,
+        &[
+            (Call::Weight(0), Answer::Weight(0)),
+            (Call::Weight(1), Answer::Weight(0)),
+        ],
+    );
+}

@@ -1,0 +1,277 @@
+//! What each kind of dag has for itself, behind one trait, so that a test of it is written once.
+//!
+//! A call at a kind costs a proof much more than a call at any dag, so the kinds are named here
+//! alone, and in `table`.
+ghost use Rattle.std.specs.Iterator.{IsFinite};
+
+use daggy_base::index::{Direction, EdgeIndex, NodeIndex};
+use daggy_base::store::Store;
+use daggy_cells::reference::EdgeReference;
+use daggy_dag::acyclic::Acyclic;
+use daggy_graph::graph::DiGraph;
+use daggy_stable::stable_graph::StableDiGraph;
+use std::alloc::{AllocError, Global};
+use std::cell::Cell;
+
+/// A dag of either kind that has few indices.
+pub type Plain<S> = Acyclic<u32, u32, u8, S>;
+
+/// The store of the compact kind.
+pub type Compact = DiGraph<u32, u32, u8>;
+
+/// The store of the stable kind.
+pub type Stable = StableDiGraph<u32, u32, u8>;
+
+/// An edge: its index, the indices of its ends, and its weight.
+pub type Line = (usize, usize, usize, u32);
+
+/// A store of numbers, with the calls that only dags of one kind have.
+pub trait Kind: Store<u8, NodeWeight = u32, EdgeWeight = u32> {
+    /// A dag with room for so many nodes and edges.
+    fn with_capacity(alloc: Global, nodes: usize, edges: usize) -> Result<Plain<Self>, AllocError>;
+
+    /// A copy of a dag.
+    fn copied(dag: &Plain<Self>) -> Result<Plain<Self>, AllocError>;
+
+    /// A dag with each weight raised by its index. The calls of its closures are noted.
+    fn mapped(dag: &Plain<Self>, noted: &mut u64) -> Result<Plain<Self>, AllocError>;
+
+    /// The part of a dag without the nodes of one weight. The calls of its closures are noted.
+    fn part(dag: &Plain<Self>, without: u32, noted: &mut u64) -> Result<Plain<Self>, AllocError>;
+
+    /// Adds 100 to the weight of a node and 200 to that of another, if both exist, and gives what
+    /// the first was.
+    fn raise_nodes(dag: &mut Plain<Self>, a: usize, b: usize) -> Option<u32>;
+
+    /// The same with two edges.
+    fn raise_edges(dag: &mut Plain<Self>, a: usize, b: usize) -> Option<u32>;
+
+    /// The same with a node and an edge.
+    fn raise_both(dag: &mut Plain<Self>, n: usize, e: usize) -> Option<u32>;
+
+    /// The nodes of a dag.
+    fn nodes(alloc: Global, dag: &Plain<Self>) -> Result<Vec<usize>, AllocError>;
+
+    /// The nodes of a dag with their weights.
+    fn weighted_nodes(alloc: Global, dag: &Plain<Self>) -> Result<Vec<(usize, u32)>, AllocError>;
+
+    /// The edges of a dag.
+    fn edges(alloc: Global, dag: &Plain<Self>) -> Result<Vec<Line>, AllocError>;
+
+    /// The nodes of a list of a node, which is the one to its children if no direction is named.
+    fn near_nodes(
+        alloc: Global,
+        dag: &Plain<Self>,
+        n: usize,
+        dir: Option<Direction>,
+    ) -> Result<Vec<usize>, AllocError>;
+
+    /// The edges of a list of a node, likewise.
+    fn near_edges(
+        alloc: Global,
+        dag: &Plain<Self>,
+        n: usize,
+        dir: Option<Direction>,
+    ) -> Result<Vec<Line>, AllocError>;
+}
+
+/// Notes a call behind those before it, as two digits: 1 for a node or 2 for an edge, and the index.
+pub fn note(calls: &Cell<u64>, kind: u64, index: usize) {
+    let digits = kind.wrapping_mul(10).wrapping_add(index as u64);
+    calls.set(calls.get().wrapping_mul(100).wrapping_add(digits));
+}
+
+fn raised(x: &mut u32, y: &mut u32) -> u32 {
+    let before = *x;
+    *x = before.wrapping_add(100);
+    *y = y.wrapping_add(200);
+    before
+}
+
+fn line(e: EdgeReference<'_, u32, u8>) -> Line {
+    (
+        e.id().index(),
+        e.source().index(),
+        e.target().index(),
+        *e.weight(),
+    )
+}
+
+// The node of an index that is below 256.
+fn small_node(index: usize) -> NodeIndex<u8> {
+    NodeIndex::new(index % 256)
+}
+
+fn small_edge(index: usize) -> EdgeIndex<u8> {
+    EdgeIndex::new(index % 256)
+}
+
+fn index(n: NodeIndex<u8>) -> usize {
+    n.index()
+}
+
+fn list_of<T: Drop, I: Iterator<Item = T> + Drop>(
+    alloc: Global,
+    items: I,
+) -> Result<Vec<T>, AllocError>
+    requires can { I.can_next items }
+    requires ends { IsFinite (I.remaining items) }
+{
+    let mut list = Vec::new(alloc);
+    for item in items {
+        list.push(item)?;
+    }
+    Ok(list)
+}
+
+fn weighted_list_of<'a, I: Iterator<Item = (NodeIndex<u8>, &'a u32)> + Drop>(
+    alloc: Global,
+    items: I,
+) -> Result<Vec<(usize, u32)>, AllocError>
+    requires can { I.can_next items }
+    requires ends { IsFinite (I.remaining items) }
+{
+    let mut list = Vec::new(alloc);
+    for (n, weight) in items {
+        list.push((n.index(), *weight))?;
+    }
+    Ok(list)
+}
+
+macro_rules! kind {
+    ($store:ident) => {
+        impl Kind for $store {
+            fn with_capacity(
+                alloc: Global,
+                nodes: usize,
+                edges: usize,
+            ) -> Result<Plain<Self>, AllocError> {
+                Plain::<$store>::with_capacity(alloc, nodes, edges)
+            }
+
+            fn copied(dag: &Plain<Self>) -> Result<Plain<Self>, AllocError> {
+                dag.try_clone()
+            }
+
+            fn mapped(dag: &Plain<Self>, noted: &mut u64) -> Result<Plain<Self>, AllocError> {
+                let calls = Cell::new(0);
+                let mapped = dag.map(
+                    |n, w| {
+                        note(&calls, 1, n.index());
+                        w.wrapping_add(n.index() as u32)
+                    },
+                    |e, w| {
+                        note(&calls, 2, e.index());
+                        w.wrapping_add(e.index() as u32)
+                    },
+                );
+                *noted = calls.get();
+                mapped
+            }
+
+            fn part(
+                dag: &Plain<Self>,
+                without: u32,
+                noted: &mut u64,
+            ) -> Result<Plain<Self>, AllocError> {
+                let calls = Cell::new(0);
+                let part = dag.filter_map(
+                    |n, w| {
+                        note(&calls, 1, n.index());
+                        if *w == without { None } else { Some(*w) }
+                    },
+                    |e, w| {
+                        note(&calls, 2, e.index());
+                        Some(*w)
+                    },
+                );
+                *noted = calls.get();
+                part
+            }
+
+            fn raise_nodes(
+                dag: &mut Plain<Self>,
+                a: usize,
+                b: usize,
+            ) -> Option<u32> {
+                let (a, b) = (small_node(a), small_node(b));
+                if a.index() != b.index() && dag.contains_node(a) && dag.contains_node(b) {
+                    return Some(dag.update_two_nodes(a, b, |x, y| raised(x, y)));
+                }
+                None
+            }
+
+            fn raise_edges(
+                dag: &mut Plain<Self>,
+                a: usize,
+                b: usize,
+            ) -> Option<u32> {
+                let (a, b) = (small_edge(a), small_edge(b));
+                if a.index() != b.index()
+                    && dag.edge_weight(a).is_some()
+                    && dag.edge_weight(b).is_some()
+                {
+                    return Some(dag.update_two_edges(a, b, |x, y| raised(x, y)));
+                }
+                None
+            }
+
+            fn raise_both(
+                dag: &mut Plain<Self>,
+                n: usize,
+                e: usize,
+            ) -> Option<u32> {
+                let (n, e) = (small_node(n), small_edge(e));
+                if dag.contains_node(n) && dag.edge_weight(e).is_some() {
+                    return Some(dag.update_node_and_edge(n, e, |x, y| raised(x, y)));
+                }
+                None
+            }
+
+            fn nodes(alloc: Global, dag: &Plain<Self>) -> Result<Vec<usize>, AllocError> {
+                list_of(alloc, dag.node_identifiers().map(index))
+            }
+
+            fn weighted_nodes(
+                alloc: Global,
+                dag: &Plain<Self>,
+            ) -> Result<Vec<(usize, u32)>, AllocError> {
+                weighted_list_of(alloc, dag.node_references())
+            }
+
+            fn edges(alloc: Global, dag: &Plain<Self>) -> Result<Vec<Line>, AllocError> {
+                list_of(alloc, dag.edge_references().map(line))
+            }
+
+            fn near_nodes(
+                alloc: Global,
+                dag: &Plain<Self>,
+                n: usize,
+                dir: Option<Direction>,
+            ) -> Result<Vec<usize>, AllocError> {
+                let n = small_node(n);
+                match dir {
+                    Some(dir) => list_of(alloc, dag.neighbors_directed(n, dir).map(index)),
+                    None => list_of(alloc, dag.neighbors(n).map(index)),
+                }
+            }
+
+            fn near_edges(
+                alloc: Global,
+                dag: &Plain<Self>,
+                n: usize,
+                dir: Option<Direction>,
+            ) -> Result<Vec<Line>, AllocError> {
+                let n = small_node(n);
+                match dir {
+                    Some(dir) => list_of(alloc, dag.edges_directed(n, dir).map(line)),
+                    None => list_of(alloc, dag.edges(n).map(line)),
+                }
+            }
+        }
+    };
+}
+
+kind!(Compact);
+
+kind!(Stable);
