@@ -21,23 +21,23 @@ flushed taken output taken_new output_new is none =
     sym is ∙ (sym (append-nil taken_new) ∙ ap (λ o. taken_new ++ o) (sym none))
 
 -- a new session has served nothing
-pub new_session : (kind : Kind) (given taken output : List ℕ) (graph : Graph ℤ ℤ) (kept : List ℕ)
+pub new_session : {kind : Kind} {given taken output : List ℕ} {graph : Graph ℤ ℤ} {kept : List ℕ}
     → graph ≡ empty → kept ≡ [] → output ≡ [] → IsServed kind given given taken (taken ++ output) graph kept
-new_session kind given taken output graph kept is_empty none nothing =
+new_session {kind} {given} {taken} {output} {graph} {kept} is_empty none nothing =
     subst (λ w. IsServed kind given given taken w graph kept) (sym (ap (λ o. taken ++ o) nothing ∙ append-nil taken))
     (starts kind given taken graph kept is_empty none)
 
 -- a block is read and answered
-pub read_on : (kind : Kind)
-    (given_old given given_new written_old taken output taken_mid output_mid written_new block buffer : List ℕ)
-    (count : ℕ) (graph new : Graph ℤ ℤ) (kept kept_new : List ℕ)
+pub read_on : {kind : Kind} {given_old given given_new written_old : List ℕ} (taken output : List ℕ)
+    {taken_mid output_mid written_new block : List ℕ} (buffer : List ℕ) (count : ℕ) {graph new : Graph ℤ ℤ}
+    {kept kept_new : List ℕ}
     → IsServed kind given_old given written_old (taken ++ output) graph kept → taken_mid ≡ taken ++ output
     → output_mid ≡ []
     → given_new ≡ given ++ take count buffer → block ≡ take count buffer
     → GoesOn kind block (taken_mid ++ output_mid) written_new graph new kept kept_new
     → IsServed kind given_old given_new written_old written_new new kept_new
-read_on kind given_old given given_new written_old taken output taken_mid output_mid written_new block buffer count
-    graph new kept kept_new so_far flush none gives is step =
+read_on {kind} {given_old} {given} {given_new} {written_old} taken output {taken_mid} {output_mid} {written_new}
+    {block} buffer count {graph} {new} {kept} {kept_new} so_far flush none gives is step =
     subst (λ g. IsServed kind given_old g written_old written_new new kept_new) (ap (λ b. given ++ b) is ∙ sym gives)
     (step given_old given written_old (subst (λ w. IsServed kind given_old given written_old w graph kept)
     (flushed taken output taken_mid output_mid flush none) so_far))
@@ -52,18 +52,19 @@ comes_nearer given given_new buffer count is within some few =
     omega (arith, grown, length-take count buffer)
 
 -- the source failed
-pub read_failed : (kind : Kind) (given_old given given_new written_old taken output taken_mid : List ℕ)
-    (graph : Graph ℤ ℤ) (kept : List ℕ)
+pub read_failed : {kind : Kind} {given_old given given_new written_old : List ℕ} (taken output : List ℕ)
+    {taken_mid : List ℕ} {graph : Graph ℤ ℤ} {kept : List ℕ}
     → IsServed kind given_old given written_old (taken ++ output) graph kept → taken_mid ≡ taken ++ output
     → given_new ≡ given → Serves kind false ended_lines_of given_old given_new written_old taken_mid
-read_failed kind given_old given given_new written_old taken output taken_mid graph kept so_far flush none =
+read_failed {kind} {given_old} {given} {given_new} {written_old} taken output {taken_mid} {graph} {kept}
+    so_far flush none =
     subst (λ g. Serves kind false ended_lines_of given_old g written_old taken_mid) (sym none)
     (fails kind given_old given written_old (taken ++ output) graph kept so_far taken_mid flush)
 
 -- nothing was read, and what was kept is answered
-pub read_all : (kind : Kind) (plans : Bool)
-    (given_old given given_new written_old taken output taken_mid output_mid buffer taken_new : List ℕ) (count : ℕ)
-    (graph : Graph ℤ ℤ) (kept : List ℕ)
+pub read_all : {kind : Kind} {plans : Bool} {given_old given given_new written_old : List ℕ}
+    (taken output : List ℕ) {taken_mid output_mid : List ℕ} (buffer : List ℕ) {taken_new : List ℕ} {count : ℕ}
+    {graph : Graph ℤ ℤ} {kept : List ℕ}
     → IsServed kind given_old given written_old (taken ++ output) graph kept → taken_mid ≡ taken ++ output
     → output_mid ≡ []
     → given_new ≡ given ++ take count buffer → count ≡ 0
@@ -71,8 +72,8 @@ pub read_all : (kind : Kind) (plans : Bool)
     → IsServed kind given_old given written_old (taken_mid ++ output_mid) graph kept
     → Serves kind plans lines_of given_old given written_old taken_new)
     → Serves kind plans lines_of given_old given_new written_old taken_new
-read_all kind plans given_old given given_new written_old taken output taken_mid output_mid buffer taken_new count graph
-    kept so_far flush none gives is_zero finish =
+read_all {kind} {plans} {given_old} {given} {given_new} {written_old} taken output {taken_mid} {output_mid}
+    buffer {taken_new} {count} {graph} {kept} so_far flush none gives is_zero finish =
     subst (λ g. Serves kind plans lines_of given_old g written_old taken_new)
     (sym (gives ∙ (ap (λ n. given ++ take n buffer) is_zero ∙ append-nil given)))
     (finish given_old given written_old (subst (λ w. IsServed kind given_old given written_old w graph kept)
@@ -83,9 +84,9 @@ or_true true = refl
 or_true false = refl
 
 -- the end was met
-pub met : (old new : Bool) (count : ℕ) (buffer : List ℕ)
+pub met : (old : Bool) {new : Bool} {count : ℕ} (buffer : List ℕ)
     → new ≡ (old || (count == 0 && nat_lt 0 (length buffer))) → count ≡ 0 → 0 < length buffer → new ≡ true
-met old new count buffer is is_zero room =
+met old {new} {count} buffer is is_zero room =
     is
     ∙ (ap (λ b. old || b) (ap (λ n. n == 0 && nat_lt 0 (length buffer)) is_zero ∙ lt-ltb 0 (length buffer) room)
     ∙ or_true old)
@@ -110,7 +111,8 @@ module _ (kind : Kind) (plans : Bool) (old new : Exchange) (is_ended : Bool) whe
   run_tells_read (Err Write) is = (λ e. absurd (cc), λ h. absurd (omega arith))
   run_tells_read (Err Memory) is = absurd is
 
-  pub run_tells_write : (r : Result (Unit {0}) Stop) → Is r → (r ≡ Err Write) ↔ (old.failed_writes < new.failed_writes)
+  pub run_tells_write : (r : Result (Unit {0}) Stop) → Is r →
+    (r ≡ Err Write) ↔ (old.failed_writes < new.failed_writes)
   run_tells_write (Ok done) is = (λ e. absurd (cc), λ h. absurd (omega arith))
   run_tells_write (Err Read) is = (λ e. absurd (cc), λ h. absurd (omega arith))
   run_tells_write (Err Write) is = (λ e. omega arith, λ h. refl)

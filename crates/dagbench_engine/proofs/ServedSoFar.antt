@@ -105,7 +105,8 @@ says_same : (kind : Kind) (old new : Graph ℤ ℤ) (a b text : List ℕ)
     → asked_in a ≡ asked_in b → IsAnswer kind old a text new → IsAnswer kind old b text new
 says_same kind old new a b text same is =
     subst
-    (λ o. MatchOption o ((text ≡ codes "bad line") × (new ≡ old)) (λ asked. IsAnswered kind old asked text new)) same is
+    (λ o. MatchOption o ((text ≡ codes "bad line") × (new ≡ old)) (λ asked. IsAnswered kind old asked text new))
+    same is
 
 -- a line without its newline
 last_line : (front : List ℕ) → 0 < length front → Lacks newline front → lines_of front ≡ front ∷ []
@@ -290,18 +291,19 @@ Passed kind block rest written_before written graph_before graph kept_before kep
     → (passed : List ℕ) × (block ≡ passed ++ rest)
     × IsServed kind given_old (given ++ passed) written_old written graph kept
 
-pub none_passed : (kind : Kind) (block written : List ℕ) (graph : Graph ℤ ℤ) (kept : List ℕ)
+pub none_passed : {kind : Kind} {block written : List ℕ} {graph : Graph ℤ ℤ} {kept : List ℕ}
     → Passed kind block block written written graph graph kept kept
-none_passed kind block written graph kept given_old given written_old so_far =
+none_passed {kind} {block} {written} {graph} {kept} given_old given written_old so_far =
     ([], refl, subst (λ g. IsServed kind given_old g written_old written graph kept) (sym (append-nil given)) so_far)
 
-pub line_passed : (kind : Kind) (block rest line behind written_before written now : List ℕ)
-    (graph_before graph new : Graph ℤ ℤ) (kept_before kept kept_new : List ℕ)
+pub line_passed : {kind : Kind} {block rest : List ℕ} (line : List ℕ) {behind written_before written now : List ℕ}
+    {graph_before graph new : Graph ℤ ℤ} {kept_before kept kept_new : List ℕ}
     → Passed kind block rest written_before written graph_before graph kept_before kept
     → rest ≡ line ++ newline ∷ behind
     → GoesOn kind (line ++ newline ∷ []) written now graph new kept kept_new
     → Passed kind block behind written_before now graph_before new kept_before kept_new
-line_passed kind block rest line behind written_before written now graph_before graph new kept_before kept kept_new
+line_passed {kind} {block} {rest} line {behind} {written_before} {written} {now} {graph_before} {graph} {new}
+    {kept_before} {kept} {kept_new}
     before is step given_old given written_old so_far =
     let p = before given_old given written_old so_far in (
       p.0 ++ (line ++ newline ∷ []),
@@ -312,12 +314,13 @@ line_passed kind block rest line behind written_before written now graph_before 
           (append_assoc given p.0 (line ++ newline ∷ [])) (step given_old (given ++ p.0) written_old p.2),
     )
 
-pub block_passed : (kind : Kind) (block rest written_before written : List ℕ) (graph_before graph : Graph ℤ ℤ)
-    (kept_before kept kept_new : List ℕ)
+pub block_passed : {kind : Kind} {block rest written_before written : List ℕ} {graph_before graph : Graph ℤ ℤ}
+    {kept_before kept kept_new : List ℕ}
     → Passed kind block rest written_before written graph_before graph kept_before kept → Lacks newline rest
     → kept_new ≡ take 4097 (kept ++ rest)
     → GoesOn kind block written_before written graph_before graph kept_before kept_new
-block_passed kind block rest written_before written graph_before graph kept_before kept kept_new before lacks is
+block_passed {kind} {block} {rest} {written_before} {written} {graph_before} {graph} {kept_before} {kept}
+    {kept_new} before lacks is
     given_old given written_old so_far =
     let p = before given_old given written_old so_far in
     subst (λ g. IsServed kind given_old g written_old written graph kept_new)
@@ -343,16 +346,16 @@ last_unended kind (Ok x) written now graph new kept answered some is answer = λ
     (subst (λ line. AnswersLine {A = Unit {0}} {E = Unit {0}} kind (Ok tt) line graph new written now) is answer)
 
 -- the end
-pub finished : {A E : Type 0} (kind : Kind) (plans : Bool) (r : Result A E)
-    (written between taken output taken_new : List ℕ) (graph new : Graph ℤ ℤ) (kept : List ℕ)
+pub finished : {A E : Type 0} {kind : Kind} (plans : Bool) (r : Result A E) {written between : List ℕ}
+    (taken output taken_new : List ℕ) {graph new : Graph ℤ ℤ} {kept : List ℕ}
     → ((given_old given written_old : List ℕ) → IsServed kind given_old given written_old written graph kept
     → IsDone kind given_old given written_old between new)
     → ((close : List ℕ) × IsClose plans new close × (taken ++ output ≡ between ++ close))
     → Appends r taken taken_new output
     → OnOk r ((given_old given written_old : List ℕ) → IsServed kind given_old given written_old written graph kept
     → Serves kind plans lines_of given_old given written_old taken_new)
-finished kind plans (Err e) written between taken output taken_new graph new kept done close appended = tt
-finished kind plans (Ok x) written between taken output taken_new graph new kept done close appended =
+finished {kind} plans (Err e) {written} {between} taken output taken_new {graph} {new} {kept} done close appended = tt
+finished {kind} plans (Ok x) {written} {between} taken output taken_new {graph} {new} {kept} done close appended =
     λ given_old given written_old so_far.
     closed kind plans given_old given written_old between close.0 taken_new new
     (done given_old given written_old so_far) close.1 (appended ∙ close.2)

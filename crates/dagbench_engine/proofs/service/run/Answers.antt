@@ -5,7 +5,7 @@ use Rattle.dagbench_engine.proofs.service.run.Goals as goal
 
 pub reads-init : goal.reads-init
 reads-init g c = record {
-  served = new_session _ _ _ _ _ _ c.requires.graph c.requires.nothing.0 c.requires.nothing.1;
+  served = new_session c.requires.graph c.requires.nothing.0 c.requires.nothing.1;
   no_read_fault = refl;
   no_write_fault = refl;
 }
@@ -16,7 +16,7 @@ returns-in_default g c =
 
 pub returns-in_default-read : goal.returns-in_default-read
 returns-in_default-read g c = (
-  read_failed _ _ _ _ _ (g.K.Sink.taken c.reads.sink) c.reads.session.output _ _ _ c.reads.invariant.served
+  read_failed (g.K.Sink.taken c.reads.sink) c.reads.session.output c.reads.invariant.served
       c.in-Ok.ensures.text c.in_default-read.ensures.bytes,
   c.in_default-read.ensures.counted ∙ ap (λ n. n + 1) c.reads.invariant.no_read_fault,
   c.in-Ok.ensures.counted ∙ c.reads.invariant.no_write_fault,
@@ -36,7 +36,7 @@ reads-smaller g c =
 pub reads-preserved : goal.reads-preserved
 reads-preserved g c = record {
   served =
-      read_on _ _ _ _ _ (g.K.Sink.taken c.reads.sink) c.reads.session.output _ _ _ _ _ _ _ _ _ _
+      read_on (g.K.Sink.taken c.reads.sink) c.reads.session.output _ _
       c.reads.invariant.served c.in-Ok.ensures.text c.in-Ok.ensures.empty c.in-Ok-read.ensures.bytes.1 refl
       c.in-Ok-take_block.ensures.served;
   no_read_fault = c.in-Ok-read.ensures.counted ∙ c.reads.invariant.no_read_fault;
@@ -59,10 +59,10 @@ returns-in_default-finish g c = (
 pub returns : goal.returns
 returns g c =
     let room : 0 < length c.read.new.buffer = omega arith in (
-      read_all _ _ _ _ _ _ (g.K.Sink.taken c.reads.sink) c.reads.session.output _ _ _ _ _ _ _ c.reads.invariant.served
+      read_all (g.K.Sink.taken c.reads.sink) c.reads.session.output _ c.reads.invariant.served
           c.in-Ok.ensures.text c.in-Ok.ensures.empty c.in-Ok-read.ensures.bytes.1 c.if-count-eq0.true
           c.in-Ok-finish.ensures.served,
-      met _ _ _ _ c.in-Ok-read.ensures.end c.if-count-eq0.true room,
+      met _ _ c.in-Ok-read.ensures.end c.if-count-eq0.true room,
       c.in-Ok-read.ensures.counted ∙ c.reads.invariant.no_read_fault,
       c.in-Ok-finish.ensures.counted ∙ (c.in-Ok.ensures.counted ∙ c.reads.invariant.no_write_fault),
     )
