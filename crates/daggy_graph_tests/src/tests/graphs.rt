@@ -226,3 +226,15 @@ fn lists_of_a_part_of_a_graph_go_by_index(rt: HostRuntime) {
     shape(&rt, &part, &[10, 11, 12], &[(1, 2, 102), (0, 2, 101)]);
     first(&rt, &part, 2, Direction::Incoming, EdgeIndex::new(1));
 }
+
+#[test]
+fn weights_of_a_graph_are_lent_in_order(rt: HostRuntime) {
+    let mut graph = graph_of(&rt, rt.alloc(), &[10, 20], &[(0, 1, 5)]);
+    if let Some(weight) = graph.node_weights_mut().next() {
+        *weight = 7;
+    }
+    if let Some(weight) = graph.edge_weights_mut().next() {
+        *weight = 8;
+    }
+    shape(&rt, &graph, &[7, 20], &[(0, 1, 8)]);
+}
