@@ -112,7 +112,7 @@ module _ (kind : Kind) (plans : Bool) (old new : Exchange) (is_ended : Bool) whe
   run_tells_read (Err Memory) is = absurd is
 
   pub run_tells_write : (r : Result (Unit {0}) Stop) → Is r →
-    (r ≡ Err Write) ↔ (old.failed_writes < new.failed_writes)
+      (r ≡ Err Write) ↔ (old.failed_writes < new.failed_writes)
   run_tells_write (Ok done) is = (λ e. absurd (cc), λ h. absurd (omega arith))
   run_tells_write (Err Read) is = (λ e. absurd (cc), λ h. absurd (omega arith))
   run_tells_write (Err Write) is = (λ e. omega arith, λ h. refl)

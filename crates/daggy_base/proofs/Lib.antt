@@ -2,11 +2,6 @@ mod Emptiness
 pub mod Lists
 pub mod Copies
 pub mod OutEdgesRead
-pub mod SearchProgress
-pub mod FinishingOrder
-pub mod StampedMarks
-pub mod SearchState
-pub mod SortNodesState
 pub mod Slots
 pub mod MappedSlots
 pub mod FullSlots

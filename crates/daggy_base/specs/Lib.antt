@@ -8,7 +8,6 @@ pub mod Reduction
 pub mod Cursor
 pub mod Finding
 pub mod Look
-pub mod Sorting
 pub mod State
 pub mod Capacity
 pub mod Weights

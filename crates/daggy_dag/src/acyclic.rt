@@ -25,11 +25,11 @@ ghost use Rattle.daggy_dag.specs.Walks.{rest_of_walk};
 
 use daggy_base::error::{ChildError, EdgeError, NodeError};
 use daggy_base::index::{DefaultIx, Direction, EdgeIndex, IndexType, NodeIndex};
-use daggy_base::search::Scratch;
 use daggy_base::store::Store;
 use daggy_graph::graph::DiGraph;
 use daggy_guard::guard;
 use daggy_order::order::Order;
+use daggy_search::Scratch;
 use daggy_stable::stable_graph::StableDiGraph;
 use std::alloc::Global;
 use std::marker::{Model, PhantomData};

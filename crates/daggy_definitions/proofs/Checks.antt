@@ -5,7 +5,7 @@ use Rattle.std.proofs.lemmas.Bool.{false≢true}
 use Rattle.daggy_base.specs.Graph.{Graph, Edge, slot, edge_at}
 use Rattle.daggy_base.specs.Path.{AreJoined, Reaches, IsAcyclic, end_of}
 use Rattle.daggy_base.specs.Reduction.{ReachesIndirectly, IsRedundant}
-use Rattle.daggy_base.proofs.SearchProgress.{path_stays, reaches_stays}
+use Rattle.daggy_search.proofs.SearchProgress.{path_stays, reaches_stays}
 use Rattle.daggy_definitions.specs.Examples.{line}
 
 abbrev pub same : ℕ → ℕ → Bool

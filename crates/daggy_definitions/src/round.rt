@@ -8,7 +8,8 @@ ghost use Rattle.daggy_base.specs.Look.{IsLook};
 ghost use Rattle.daggy_definitions.specs.Examples.{round};
 
 use daggy_base::index::{EdgeIndex, NodeIndex};
-use daggy_base::search::{EdgeSource, Looks};
+use daggy_base::looks::Looks;
+use daggy_base::source::EdgeSource;
 use std::marker::Model;
 
 /// Two nodes, each with an edge to the other, in two arrays: the edge that leaves each node, and

@@ -37,7 +37,7 @@ pub use daggy_base::element::{Element, IntoWeightedEdge};
 use daggy_base::error::{EdgeError, NodeError};
 use daggy_base::index::{DefaultIx, Direction, EdgeIndex, IndexType, NodeIndex};
 use daggy_base::link::Link;
-use daggy_base::search::Looks;
+use daggy_base::looks::Looks;
 pub use daggy_cells::cell::{Edge, Node};
 use daggy_cells::links;
 pub use daggy_cells::reference::EdgeReference;

@@ -18,7 +18,7 @@ use Rattle.daggy_base.proofs.Lists.{Unique, contains_mem, mem_contains, unique_r
 use Rattle.daggy_base.proofs.PathsWithNewNode.{not_before}
 use Rattle.daggy_base.proofs.PathsWithNode.{bound_low}
 use Rattle.daggy_base.proofs.OutEdgesRead.{lists_few, below_bound}
-use Rattle.daggy_base.proofs.SearchProgress.{reaches_stays}
+use Rattle.daggy_search.proofs.SearchProgress.{reaches_stays}
 use Rattle.daggy_base.proofs.FullSlots.{full_from}
 use Rattle.daggy_order.specs.Ordered.{IsOrderOf, place, stretch, edges_from}
 use Rattle.daggy_order.proofs.Sorted.{unique_left, mem_filter, filter_mem}

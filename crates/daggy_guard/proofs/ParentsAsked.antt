@@ -11,7 +11,7 @@ use Rattle.daggy_base.specs.WellFormed.{IsWellFormed}
 use Rattle.daggy_base.proofs.Lists.{Mem, mem_at, place_of, contains_mem, mem_contains, unique_from_distinct, first_at}
 use Rattle.daggy_base.proofs.Lists.{first_past, after_at}
 use Rattle.daggy_base.proofs.OutEdgesRead.{edge_below}
-use Rattle.daggy_base.proofs.SearchProgress.{reaches_stays}
+use Rattle.daggy_search.proofs.SearchProgress.{reaches_stays}
 use Rattle.daggy_order.specs.Ordered.{IsOrderOf, place}
 
 -- the parents before the cursor all stand before b

@@ -19,9 +19,9 @@ use crate::guard::make_way;
 use crate::packed::sort;
 use daggy_base::error::{EdgesError, WouldCycle};
 use daggy_base::index::{EdgeIndex, IndexType, NodeIndex};
-use daggy_base::search::Scratch;
 use daggy_base::store::Store;
 use daggy_order::order::Order;
+use daggy_search::Scratch;
 
 // What keeps an edge from being added, with its weight.
 #[derive(Drop)]

@@ -11,9 +11,9 @@ use crate::guard::{add_node, update_edge};
 use daggy_base::element::Element;
 use daggy_base::error::{EdgeError, ElementError, NodeError};
 use daggy_base::index::{IndexType, NodeIndex};
-use daggy_base::search::Scratch;
 use daggy_base::store::Store;
 use daggy_order::order::Order;
+use daggy_search::Scratch;
 
 // The node at a position, if there is one.
 fn node_at<Ix: IndexType, S: Store<Ix>>(store: &S, position: usize) -> Option<NodeIndex<Ix>>

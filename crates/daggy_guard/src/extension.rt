@@ -11,9 +11,9 @@ use crate::guard::{add_edge, add_node};
 use daggy_base::element::IntoWeightedEdge;
 use daggy_base::error::EdgeError;
 use daggy_base::index::{IndexType, NodeIndex};
-use daggy_base::search::Scratch;
 use daggy_base::store::Store;
 use daggy_order::order::Order;
+use daggy_search::Scratch;
 use std::alloc::AllocError;
 
 // Adds nodes of the default weight until there are more than `last`.

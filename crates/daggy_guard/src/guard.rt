@@ -20,9 +20,9 @@ ghost use Rattle.daggy_base.specs.declared.error.ChildError.TheVariants.{Memory 
 use crate::walk::step;
 use daggy_base::error::{ChildError, EdgeError, NodeError, WouldCycle};
 use daggy_base::index::{Direction, EdgeIndex, IndexType, NodeIndex};
-use daggy_base::search::Scratch;
 use daggy_base::store::Store;
 use daggy_order::order::{Order, order_edge};
+use daggy_search::Scratch;
 use std::alloc::AllocError;
 
 // Puts a new node last in an order, where edges are to lead to it, or first, where they are to

@@ -12,9 +12,9 @@ use Rattle.daggy_base.specs.Look.{IsLook}
 use Rattle.daggy_base.proofs.Lists.{Mem, Unique, mem_out, mem_left, mem_right, mem_cases, unique_append, unique_right}
 use Rattle.daggy_base.proofs.Lists.{contains_mem}
 use Rattle.daggy_base.proofs.OutEdgesRead.{lists_of, read_part}
-use Rattle.daggy_base.proofs.SearchProgress.{Met, reaches_stays, fewer_than, marked_within, set_marked}
-use Rattle.daggy_base.proofs.SearchState.{Start, Reading, Searching, all_met_here, from_marked, only_reached}
-use Rattle.daggy_base.proofs.SearchState.{child_found}
+use Rattle.daggy_search.proofs.SearchProgress.{Met, reaches_stays, fewer_than, marked_within, set_marked}
+use Rattle.daggy_search.proofs.SearchState.{Start, Reading, Searching, all_met_here, from_marked, only_reached}
+use Rattle.daggy_search.proofs.SearchState.{child_found}
 
 -- sums over the nodes of a list
 pub split_at : (ys : List ℕ) (x : ℕ) → Mem x ys → (p : List ℕ) × (q : List ℕ) × (ys ≡ p ++ x ∷ q)

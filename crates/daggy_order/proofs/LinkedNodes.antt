@@ -8,7 +8,7 @@ use Rattle.daggy_base.specs.Cursor.{first_of}
 use Rattle.daggy_base.specs.Removal.{without}
 use Rattle.daggy_base.proofs.Lists.{Mem, Unique, mem_left, mem_right, mem_cases, mem_into, mem_mid, unique_right}
 use Rattle.daggy_base.proofs.Lists.{contains_mem, mem_contains, unique_from_distinct}
-use Rattle.daggy_base.proofs.SearchProgress.{fewer_than}
+use Rattle.daggy_search.proofs.SearchProgress.{fewer_than}
 use Rattle.daggy_order.specs.Links.{Listed, IsLinkChain, AreLinksOf, nodes_from, neighbor}
 use Rattle.daggy_order.proofs.Sorted.{distinct_from_unique, unique_cross}
 use Rattle.daggy_order.proofs.ListParts.{filter_yes, filter_no, is_held}

@@ -5,7 +5,7 @@ use Rattle.std.proofs.lemmas.List.{length-drop, take_all}
 use Rattle.std.specs.List.{Contains}
 use Rattle.daggy_base.specs.Graph.{Graph}
 use Rattle.daggy_base.specs.Path.{AreJoined}
-use Rattle.daggy_base.specs.Sorting.{LeadsOnward, IsSorted}
+use Rattle.daggy_search.specs.Sorting.{LeadsOnward, IsSorted}
 use Rattle.daggy_base.specs.WellFormed.{AreDistinct, IsWellFormed}
 use Rattle.daggy_base.proofs.Lists.{Mem, Unique, mem_at, contains_mem, unique_from_distinct}
 use Rattle.daggy_base.proofs.OutEdgesRead.{below_bound}

@@ -10,7 +10,7 @@ use Rattle.daggy_base.specs.Path.{AreJoined, Reaches}
 use Rattle.daggy_base.specs.WellFormed.{IsWellFormed}
 use Rattle.daggy_base.proofs.Lists.{Mem, Unique, mem_left, mem_right, mem_cases, contains_mem, mem_contains}
 use Rattle.daggy_base.proofs.Lists.{unique_from_distinct}
-use Rattle.daggy_base.proofs.SearchProgress.{reaches_more, reaches_stays}
+use Rattle.daggy_search.proofs.SearchProgress.{reaches_more, reaches_stays}
 use Rattle.daggy_order.specs.Ordered.{IsOrderOf, IsParted, place, stretch}
 use Rattle.daggy_order.specs.Links.{LabelsAscend, IsLabelled, IsMoved, StandBefore}
 use Rattle.daggy_order.proofs.BoundedSearch.{reached_exists, split_at}

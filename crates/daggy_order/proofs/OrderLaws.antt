@@ -19,7 +19,7 @@ use Rattle.daggy_base.specs.declared.index.Direction.{Direction}
 use Rattle.daggy_base.specs.declared.index.Direction.TheVariants.{Outgoing, Incoming}
 use Rattle.daggy_base.proofs.Lists.{Mem, contains_mem, mem_contains, unique_from_distinct}
 use Rattle.daggy_base.proofs.Slots.{slot_taken}
-use Rattle.daggy_base.proofs.SearchProgress.{path_stays}
+use Rattle.daggy_search.proofs.SearchProgress.{path_stays}
 use Rattle.daggy_base.proofs.PathsWithEdge.{joined_cases, joined_kept, free_edge}
 use Rattle.daggy_base.proofs.PathsWithNewNode.{node_kept, node_new, not_before}
 use Rattle.daggy_base.proofs.PathsWithoutNode.{IsApart, apart, slot-map, from_map}

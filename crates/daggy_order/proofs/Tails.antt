@@ -7,7 +7,7 @@ use Rattle.std.proofs.lemmas.List.{length-append, get_or-append_right}
 use Rattle.std.proofs.lemmas.List.FromFn.{length-range_with_len, get_or-range_with_len}
 use Rattle.daggy_base.specs.Removal.{without, renamed}
 use Rattle.daggy_base.proofs.Lists.{Mem, Unique, mem_right, mem_cases, unique_append, contains_mem, mem_contains}
-use Rattle.daggy_base.proofs.SearchProgress.{fewer_than}
+use Rattle.daggy_search.proofs.SearchProgress.{fewer_than}
 use Rattle.daggy_order.specs.Ordered.{place}
 use Rattle.daggy_order.specs.Links.{IsTailed, last_nodes}
 use Rattle.daggy_order.proofs.Sorted.{place_same, place_other, place_left, place_right}

@@ -10,7 +10,7 @@ use Rattle.daggy_base.specs.Reduction.{ReachesIndirectly}
 use Rattle.daggy_base.specs.WellFormed.{IsWellFormed}
 use Rattle.daggy_base.proofs.Lists.{Mem, Unique, contains_mem}
 use Rattle.daggy_base.proofs.PathsWithEdge.{reaches_itself, reaches_before, no_round}
-use Rattle.daggy_base.proofs.SearchProgress.{reaches_stays}
+use Rattle.daggy_search.proofs.SearchProgress.{reaches_stays}
 use Rattle.daggy_base.proofs.OutEdgesRead.{listed}
 use Rattle.daggy_order.specs.Ordered.{IsOrderOf, place, stretch}
 use Rattle.daggy_order.proofs.BoundedSearch.{reached_exists}

@@ -9,7 +9,7 @@ use Rattle.daggy_base.specs.WellFormed.{IsWellFormed}
 use Rattle.daggy_base.specs.Look.{IsLook}
 use Rattle.daggy_base.proofs.OutEdgesRead.{LookedTo, below_bound, read_part, all_read, has_edge, child_exists}
 use Rattle.daggy_base.proofs.OutEdgesRead.{child_joined, next_cursor, looked_more}
-use Rattle.daggy_base.proofs.SearchProgress.{set_marked}
+use Rattle.daggy_search.proofs.SearchProgress.{set_marked}
 use Rattle.daggy_reduction.specs.Comparison.{JoinsAll}
 use Rattle.daggy_reduction.proofs.FlaggedRedundant.{unmarked}
 

@@ -10,7 +10,7 @@ use Rattle.daggy_base.specs.Reduction.{ReachesIndirectly}
 use Rattle.daggy_base.specs.WellFormed.{IsWellFormed}
 use Rattle.daggy_base.proofs.Lists.{mem_contains, contains_mem}
 use Rattle.daggy_base.proofs.OutEdgesRead.{joins}
-use Rattle.daggy_base.proofs.SearchProgress.{set_marked}
+use Rattle.daggy_search.proofs.SearchProgress.{set_marked}
 use Rattle.daggy_reduction.specs.Closure.{IsQueue, IsClosure, MeetsChildren}
 use Rattle.daggy_reduction.specs.Flags.{FlagsMarked, FlagsRound}
 use Rattle.daggy_reduction.proofs.QueueProgress.{take_none}

@@ -16,8 +16,9 @@ use crate::flags::{flag_marked, gather_flagged, unflag};
 use crate::roots::enter_below;
 use daggy_base::index::{EdgeIndex, IndexType, NodeIndex};
 use daggy_base::link::Link;
-use daggy_base::search::{EdgeSource, Marks, Scratch, write_out};
+use daggy_base::source::EdgeSource;
 use daggy_order::order::Order;
+use daggy_search::{Marks, Scratch, write_out};
 
 // Gives marks in `met` to those children of `u` to which a longer way leads. Such a way stays
 // before the last child, so only nodes that stand before it are entered.

@@ -7,7 +7,8 @@ ghost use Rattle.daggy_reduction.specs.Closure.{IsQueue, IsClosure, MeetsChildre
 
 use daggy_base::index::{EdgeIndex, IndexType, NodeIndex};
 use daggy_base::link::Link;
-use daggy_base::search::{EdgeSource, Marks};
+use daggy_base::source::EdgeSource;
+use daggy_search::Marks;
 
 // Puts a node behind a queue unless it is there, and gives how many nodes the queue then has.
 #[inline]

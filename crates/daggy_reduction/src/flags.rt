@@ -6,7 +6,8 @@ ghost use Rattle.daggy_base.specs.WellFormed.{IsWellFormed};
 ghost use Rattle.daggy_reduction.specs.Flags.{IsFlagged, FlagsMarked, flagged_below};
 
 use daggy_base::index::{EdgeIndex, IndexType, NodeIndex};
-use daggy_base::search::{EdgeSource, Marks};
+use daggy_base::source::EdgeSource;
+use daggy_search::Marks;
 
 // Takes all flags away.
 pub(crate) fn unflag<Ix: IndexType>(flags: &mut [EdgeIndex<Ix>])

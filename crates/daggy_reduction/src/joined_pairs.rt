@@ -7,7 +7,8 @@ ghost use Rattle.daggy_base.specs.WellFormed.{IsWellFormed};
 ghost use Rattle.daggy_reduction.specs.Comparison.{JoinsAll, JoinSamePairs};
 
 use daggy_base::index::{EdgeIndex, IndexType, NodeIndex};
-use daggy_base::search::{EdgeSource, Marks};
+use daggy_base::source::EdgeSource;
+use daggy_search::Marks;
 
 // Marks the children of a node.
 fn mark_children<Ix: IndexType, S: EdgeSource<Ix>>(

@@ -11,9 +11,9 @@ ghost use Rattle.daggy_reduction.specs.SearchSpan.{all_spanned};
 use crate::bounded::find_redundant_in;
 use daggy_base::index::{EdgeIndex, IndexType, NodeIndex};
 use daggy_base::link::Link;
-use daggy_base::search::{Scratch, write_out};
 use daggy_base::store::Store;
 use daggy_order::order::Order;
+use daggy_search::{Scratch, write_out};
 use std::alloc::AllocError;
 
 // Removes the edges of a list, the last one first.

@@ -13,7 +13,8 @@ use crate::flags::{flag_marked, gather_flagged, unflag};
 use crate::roots::enter_below;
 use daggy_base::index::{EdgeIndex, IndexType, NodeIndex};
 use daggy_base::link::Link;
-use daggy_base::search::{EdgeSource, Marks, Scratch, write_out};
+use daggy_base::source::EdgeSource;
+use daggy_search::{Marks, Scratch, write_out};
 
 // Flags the edges of `u` to whose children a longer way leads.
 fn flag_round<Ix: IndexType, S: EdgeSource<Ix>>(

@@ -9,7 +9,8 @@ ghost use Rattle.daggy_reduction.specs.Closure.{IsQueue};
 use crate::closure::{close, enter};
 use daggy_base::index::{IndexType, NodeIndex};
 use daggy_base::link::Link;
-use daggy_base::search::{EdgeSource, Marks};
+use daggy_base::source::EdgeSource;
+use daggy_search::Marks;
 
 // Puts the roots that exist into a queue, and gives how many there are.
 fn enter_roots<Ix: IndexType, S: EdgeSource<Ix>>(

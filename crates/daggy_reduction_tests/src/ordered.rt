@@ -1,10 +1,11 @@
 //! A graph that counts its looks, beside an order of its nodes.
 use crate::tests::{holds, made};
 use daggy_base::index::{EdgeIndex, NodeIndex};
-use daggy_base::search::{EdgeSource, Scratch};
+use daggy_base::source::EdgeSource;
 use daggy_order::order::{Order, order_edge};
 use daggy_order_tests::counted::Counted;
 use daggy_reduction::bounded::redundant_edges_in;
+use daggy_search::Scratch;
 use std::alloc::Global;
 use std::marker::Model;
 use std::process::Abort;

@@ -3,11 +3,12 @@ ghost use Rattle.std.specs.Prelude.{◌≡◌, IsTrue, Ok};
 
 use crate::ordered::Ordered;
 use daggy_base::index::{EdgeIndex, NodeIndex};
-use daggy_base::search::{EdgeSource, Scratch, is_acyclic};
+use daggy_base::source::EdgeSource;
 use daggy_base::store::Store;
 use daggy_dag::acyclic::Acyclic;
 use daggy_graph::graph::DiGraph;
 use daggy_reduction::redundant::redundant_edges;
+use daggy_search::{Scratch, is_acyclic};
 use daggy_stable::stable_graph::StableDiGraph;
 use std::alloc::Global;
 use std::process::Abort;

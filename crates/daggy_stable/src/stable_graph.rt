@@ -29,7 +29,7 @@ mod weights;
 
 use daggy_base::index::{DefaultIx, Direction, EdgeIndex, IndexType, NodeIndex};
 use daggy_base::link::Link;
-use daggy_base::search::Looks;
+use daggy_base::looks::Looks;
 use daggy_cells::cell::{Edge, Node};
 use daggy_cells::links;
 use std::alloc::Global;

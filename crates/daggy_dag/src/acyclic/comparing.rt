@@ -5,9 +5,10 @@ ghost use Rattle.daggy_reduction.specs.Comparison.{HaveSameReachability, IsReduc
 
 use crate::acyclic::Dag;
 use daggy_base::index::{IndexType, NodeIndex};
-use daggy_base::search::{EdgeSource, Marks};
+use daggy_base::source::EdgeSource;
 use daggy_graph::graph::DiGraph;
 use daggy_reduction::joined_pairs::join_same_pairs;
+use daggy_search::Marks;
 use std::alloc::{AllocError, Global};
 
 // The nodes below a number.

@@ -11,9 +11,9 @@ ghost use Rattle.daggy_base.specs.declared.error.SlotsError.TheVariants.{Cycle};
 use crate::acyclic::Acyclic;
 use daggy_base::error::SlotsError;
 use daggy_base::index::{EdgeIndex, IndexType, NodeIndex};
-use daggy_base::search::Scratch;
 use daggy_base::store::Store;
 use daggy_order::order::Order;
+use daggy_search::Scratch;
 use std::alloc::Global;
 use std::marker::PhantomData;
 

@@ -5,7 +5,7 @@ ghost use Rattle.daggy_order.specs.Ordered.{IsOrderOf};
 
 use crate::acyclic::{Acyclic, Dag, StableDag};
 use daggy_base::index::IndexType;
-use daggy_base::search::EdgeSource;
+use daggy_base::source::EdgeSource;
 use daggy_base::store::Store;
 use daggy_graph::graph::DiGraph;
 use daggy_order::order::Order;

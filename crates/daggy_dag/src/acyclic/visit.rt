@@ -14,7 +14,7 @@ ghost use Rattle.daggy_dag.specs.Lends.{lends_node_if, lends_edge_if};
 
 use crate::acyclic::{Acyclic, Dag};
 use daggy_base::index::{EdgeIndex, IndexType, NodeIndex};
-use daggy_base::search::EdgeSource;
+use daggy_base::source::EdgeSource;
 use daggy_base::store::Store;
 use daggy_guard::matrix;
 use daggy_walk::visit::{

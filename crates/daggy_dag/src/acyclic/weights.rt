@@ -8,7 +8,7 @@ ghost use Rattle.daggy_dag.specs.Lends.{lends_node, lends_node_if, lends_edge, l
 
 use crate::acyclic::Acyclic;
 use daggy_base::index::{EdgeIndex, IndexType, NodeIndex};
-use daggy_base::search::EdgeSource;
+use daggy_base::source::EdgeSource;
 use daggy_base::store::Store;
 use std::ops::{Index, IndexMut};
 

@@ -8,7 +8,7 @@ ghost use Rattle.daggy_document.specs.Found.{LeavesNone, AreRearranged, EndsExis
 
 use crate::reading::orders::Row;
 use daggy_base::index::{Direction, EdgeIndex, IndexType, NodeIndex};
-use daggy_base::search::Marks;
+use daggy_search::Marks;
 use std::alloc::{AllocError, Global};
 
 /// A slot of an edge: its ends and its weight, if it is not vacant.

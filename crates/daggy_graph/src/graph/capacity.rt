@@ -4,7 +4,7 @@ ghost use Rattle.daggy_base.specs.Graph.{empty};
 
 use crate::graph::DiGraph;
 use daggy_base::index::IndexType;
-use daggy_base::search::Looks;
+use daggy_base::looks::Looks;
 use std::alloc::{AllocError, Global};
 
 impl<N, E, Ix: IndexType> DiGraph<N, E, Ix> {

@@ -4,7 +4,7 @@ ghost use Rattle.daggy_base.specs.Copying.{IsCopy};
 
 use crate::graph::DiGraph;
 use daggy_base::index::IndexType;
-use daggy_base::search::Looks;
+use daggy_base::looks::Looks;
 use std::alloc::AllocError;
 
 /// Gives a graph with the same nodes and edges under the same indices, and in the same lists, with

@@ -13,7 +13,7 @@ use crate::graph::changes::{put_edge, put_node};
 use crate::graph::{DiGraph, Edge, Node};
 use daggy_base::index::{Direction, EdgeIndex, IndexType, NodeIndex};
 use daggy_base::link::Link;
-use daggy_base::search::Looks;
+use daggy_base::looks::Looks;
 use daggy_cells::links;
 use std::alloc::AllocError;
 

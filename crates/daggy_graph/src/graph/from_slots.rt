@@ -11,7 +11,7 @@ use crate::graph::changes::{put_edge, put_node};
 use crate::graph::{DiGraph, Edge, Node};
 use daggy_base::index::{EdgeIndex, IndexType, NodeIndex};
 use daggy_base::link::Link;
-use daggy_base::search::Looks;
+use daggy_base::looks::Looks;
 use std::alloc::{AllocError, Global};
 
 // Adds each node, within the capacity that is there.

@@ -6,7 +6,7 @@ ghost use Rattle.daggy_cells.specs.MappedCells.{edge_weight_in, edge_with};
 
 use crate::graph::{DiGraph, Edge, Node};
 use daggy_base::index::{EdgeIndex, IndexType, NodeIndex};
-use daggy_base::search::Looks;
+use daggy_base::looks::Looks;
 use daggy_cells::links;
 use std::alloc::AllocError;
 

@@ -8,7 +8,7 @@ ghost use Rattle.daggy_base.specs.Look.{IsLook};
 
 use crate::graph::DiGraph;
 use daggy_base::index::{Direction, EdgeIndex, IndexType, NodeIndex};
-use daggy_base::search::EdgeSource;
+use daggy_base::source::EdgeSource;
 
 impl<N: Drop, E: Drop, Ix: IndexType> EdgeSource<Ix> for DiGraph<N, E, Ix> {
     type NodeWeight = N;

@@ -1,7 +1,7 @@
 //! The compact store: nodes, edges and lists of a graph that may have cycles.
 use super::support::{PlainGraph, connect, graph_of, holds, made, same, shape};
 use daggy_base::index::{Direction, EdgeIndex, NodeIndex};
-use daggy_base::search::EdgeSource;
+use daggy_base::source::EdgeSource;
 use daggy_graph::graph::DiGraph;
 use std::process::Abort;
 

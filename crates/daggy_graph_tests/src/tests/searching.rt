@@ -1,7 +1,8 @@
 use super::support::{connect, holds, made};
 use daggy_base::index::NodeIndex;
-use daggy_base::search::{EdgeSource, Scratch, reaches};
+use daggy_base::source::EdgeSource;
 use daggy_graph::graph::DiGraph;
+use daggy_search::{Scratch, reaches};
 use std::process::Abort;
 
 // Asserts whether a path leads from one node to another.

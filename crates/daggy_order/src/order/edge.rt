@@ -15,7 +15,8 @@ use crate::order::search::reaches_below;
 use crate::order::written::Written;
 use daggy_base::index::{IndexType, NodeIndex};
 use daggy_base::link::Link;
-use daggy_base::search::{EdgeSource, Marks, Scratch, write_out};
+use daggy_base::source::EdgeSource;
+use daggy_search::{Marks, Scratch, write_out};
 
 /// Makes way for an edge from `a` to `b` that is to be added: moves nodes so that `a` stands before
 /// `b`, unless the edge would close a cycle.

@@ -9,7 +9,8 @@ ghost use Rattle.daggy_order.specs.Ordered.{edges_from};
 
 use daggy_base::index::{EdgeIndex, IndexType, NodeIndex};
 use daggy_base::link::Link;
-use daggy_base::search::{EdgeSource, Marks};
+use daggy_base::source::EdgeSource;
+use daggy_search::Marks;
 
 // Puts a link into a list.
 #[inline]

@@ -1,9 +1,9 @@
 use super::kept::Kept;
 use super::support::{holds, lists, made};
 use daggy_base::index::NodeIndex;
-use daggy_base::search::Scratch;
 use daggy_graph::graph::DiGraph;
 use daggy_order::order::Order;
+use daggy_search::Scratch;
 
 #[test]
 fn each_node_is_sorted_before_its_children(rt: HostRuntime) {

@@ -34,7 +34,7 @@ ghost use Rattle.daggy_run.specs.EdgeLists.{AddsAll, IsRefused};
 use crate::guarded::{GuardedDag, Kind};
 use daggy_base::error::{ChildError, EdgeError, EdgesError, NodeError};
 use daggy_base::index::{Direction, EdgeIndex, IndexType, NodeIndex};
-use daggy_base::search::EdgeSource;
+use daggy_base::source::EdgeSource;
 use daggy_base::store::Store;
 use daggy_commands::command::{Neighbor, NewEdge};
 use daggy_dag::acyclic::{Acyclic, TopologicalOrder};

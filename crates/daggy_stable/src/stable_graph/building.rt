@@ -10,7 +10,7 @@ ghost use Rattle.daggy_stable.specs.Building.{IsBuilt, between};
 use crate::stable_graph::StableDiGraph;
 use daggy_base::index::{Direction, IndexType};
 use daggy_base::link::Link;
-use daggy_base::search::Looks;
+use daggy_base::looks::Looks;
 use daggy_cells::cell::{Edge, Node};
 use daggy_cells::links::{self, put_first};
 use std::alloc::{AllocError, Global};

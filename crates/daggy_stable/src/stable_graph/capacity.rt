@@ -5,7 +5,7 @@ ghost use Rattle.daggy_base.specs.Graph.{empty};
 use crate::stable_graph::StableDiGraph;
 use daggy_base::index::IndexType;
 use daggy_base::link::Link;
-use daggy_base::search::Looks;
+use daggy_base::looks::Looks;
 use std::alloc::{AllocError, Global};
 
 impl<N, E, Ix: IndexType> StableDiGraph<N, E, Ix> {

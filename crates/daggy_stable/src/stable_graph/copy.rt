@@ -4,7 +4,7 @@ ghost use Rattle.daggy_base.specs.Copying.{IsCopy};
 
 use crate::stable_graph::StableDiGraph;
 use daggy_base::index::IndexType;
-use daggy_base::search::Looks;
+use daggy_base::looks::Looks;
 use std::alloc::AllocError;
 
 /// Gives a graph with the same slots, lists and vacant slots, with a clone of each weight.

@@ -6,7 +6,7 @@ ghost use Rattle.daggy_stable.specs.Held.{HoldsGraph};
 use crate::stable_graph::StableDiGraph;
 use daggy_base::index::IndexType;
 use daggy_base::link::Link;
-use daggy_base::search::Looks;
+use daggy_base::looks::Looks;
 use daggy_cells::cell::{Edge, Node};
 
 impl<N, E, Ix: IndexType> StableDiGraph<N, E, Ix> {

@@ -7,7 +7,7 @@ ghost use Rattle.daggy_stable.specs.Stored.{weight_of, plain_edge};
 
 use crate::stable_graph::StableDiGraph;
 use daggy_base::index::{Direction, EdgeIndex, IndexType, NodeIndex};
-use daggy_base::search::Looks;
+use daggy_base::looks::Looks;
 use daggy_cells::cell::{Edge, Node};
 use daggy_cells::links;
 use std::alloc::AllocError;

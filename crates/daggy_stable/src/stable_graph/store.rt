@@ -27,7 +27,7 @@ ghost use Rattle.daggy_base.specs.declared.error.EdgeError.TheVariants.{Memory a
 use crate::stable_graph::StableDiGraph;
 use daggy_base::error::{EdgeError, NodeError};
 use daggy_base::index::{Direction, EdgeIndex, IndexType, NodeIndex};
-use daggy_base::search::EdgeSource;
+use daggy_base::source::EdgeSource;
 use daggy_base::store::Store;
 use std::alloc::{AllocError, Global};
 

@@ -3,7 +3,7 @@ use super::support::{
     PlainGraph, first, graph_of, holds, made, put_edge, put_node, same, shape, slots,
 };
 use daggy_base::index::{Direction, EdgeIndex, NodeIndex};
-use daggy_base::search::EdgeSource;
+use daggy_base::source::EdgeSource;
 use daggy_base::store::Store;
 use daggy_graph::graph::DiGraph;
 use daggy_slots::slot_capacity::Room;

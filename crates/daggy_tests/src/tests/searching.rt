@@ -1,7 +1,8 @@
 use super::support::{holds, made};
 use daggy_base::index::NodeIndex;
-use daggy_base::search::{EdgeSource, Scratch, reaches};
+use daggy_base::source::EdgeSource;
 use daggy_definitions::round::Round;
+use daggy_search::{Scratch, reaches};
 use std::process::Abort;
 
 // Asserts whether a path leads from one node to another.

@@ -6,9 +6,9 @@ ghost use Rattle.daggy_base.specs.Path.{IsAcyclic};
 
 use crate::acyclic::Acyclic;
 use daggy_base::index::IndexType;
-use daggy_base::search::Scratch;
 use daggy_graph::graph::DiGraph;
 use daggy_order::order::Order;
+use daggy_search::Scratch;
 use std::alloc::{AllocError, Global};
 use std::marker::PhantomData;
 

@@ -6,8 +6,8 @@ ghost use Rattle.daggy_base.specs.Filtering.{IsFiltered, ListsDescend, HaveSameE
 
 use crate::acyclic::{Acyclic, Dag};
 use daggy_base::index::{EdgeIndex, IndexType, NodeIndex};
-use daggy_base::search::Scratch;
 use daggy_graph::graph::DiGraph;
+use daggy_search::Scratch;
 use std::alloc::AllocError;
 use std::marker::PhantomData;
 

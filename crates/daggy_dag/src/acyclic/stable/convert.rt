@@ -5,7 +5,7 @@ ghost use Rattle.daggy_base.specs.Path.{IsAcyclic};
 
 use crate::acyclic::{Acyclic, Dag};
 use daggy_base::index::IndexType;
-use daggy_base::search::Scratch;
+use daggy_search::Scratch;
 use daggy_slots::slot_capacity::Room;
 use daggy_stable::stable_graph::StableDiGraph;
 use std::alloc::{AllocError, Global};

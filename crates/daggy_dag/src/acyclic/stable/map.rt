@@ -8,9 +8,9 @@ ghost use Rattle.daggy_base.specs.Filtering.{ListsDescend};
 
 use crate::acyclic::{Acyclic, StableDag};
 use daggy_base::index::{EdgeIndex, IndexType, NodeIndex};
-use daggy_base::search::Scratch;
 use daggy_base::store::Store;
 use daggy_order::order::Order;
+use daggy_search::Scratch;
 use daggy_stable::stable_graph::StableDiGraph;
 use std::alloc::AllocError;
 use std::marker::PhantomData;

@@ -7,8 +7,8 @@ use Rattle.daggy_base.specs.Graph.{out_list}
 use Rattle.daggy_base.specs.Path.{Reaches}
 use Rattle.daggy_base.specs.Cursor.{first_of}
 use Rattle.daggy_base.proofs.OutEdgesRead.{below_bound}
-use Rattle.daggy_base.proofs.SearchState.{Reading, starts, edge_here, popped_here, child_low, room_here, child_found}
-use Rattle.daggy_base.proofs.SearchState.{moves_on, pushes, looked_once, room_marks}
+use Rattle.daggy_search.proofs.SearchState.{Reading, starts, edge_here, popped_here, child_low, room_here, child_found}
+use Rattle.daggy_search.proofs.SearchState.{moves_on, pushes, looked_once, room_marks}
 use Rattle.daggy_order.proofs.BoundedSearch.{Below, Beyond, finds_first, finds_room, finds_more, few_below}
 use Rattle.daggy_order.proofs.BoundedSearch.{looked_below, missed, exactly, child_placed}
 use Rattle.daggy_order.proofs.order.search.reaches_below.Goals as goal

@@ -1,0 +1,198 @@
+use Rattle.std.proofs.Common.{rules, ◌≡◌, ◌≢◌, ◌+◌, ◌<◌, ◌≤◌, ◌∙◌, ◌-◌, ℕ, sym, subst, refl, arith, false, true, length}
+use Rattle.std.proofs.Common.{get_or, set}
+use Rattle.std.proofs.lemmas.Bool.{false≢true}
+use Rattle.daggy_base.specs.Graph.{HasNode, node_bound}
+use Rattle.daggy_base.proofs.PathsWithNode.{bound_low}
+use Rattle.daggy_search.proofs.SortNodesState.{Sorting, rests, skipped, begins, few_rested, all_found, top_within}
+use Rattle.daggy_search.proofs.SortNodesState.{place_free, looked_once, edge_here, node_low, walked, steps_back}
+use Rattle.daggy_search.proofs.SortNodesState.{child_low, room_here, way_round, steps_over, steps_in}
+use Rattle.daggy_search.proofs.cycles.sort_nodes.Goals as goal
+use Rattle.daggy_search.proofs.cycles.sort_nodes.Goals.{then-not-contains_node-via-then-not-contains_node}
+use Rattle.daggy_search.proofs.cycles.sort_nodes.Goals.{
+  then-not-contains_node-via-else-not-contains_node+then-is_marked,
+}
+
+pub roots-init : goal.roots-init
+roots-init g c =
+    let now : Sorting _ _ = record {
+      graph = g.S.EdgeSource.graph c.args.source.now;
+      discovered = c.args.discovered.now;
+      finished = c.args.finished.now;
+      stack = c.args.stack.now;
+      cursors = c.args.cursors.now;
+      top = length c.args.stack.now;
+      looks = g.S.EdgeSource.looks c.args.source.now;
+    } in
+    rests now c.requires.marks_fit c.requires.finished_fits c.requires.stack_fits c.requires.cursors_fit
+    c.requires.none_discovered c.requires.none_finished
+
+pub new-root-requires : goal.new-root-requires
+new-root-requires g c =
+    omega (
+      arith,
+      c.node_bound-bound.ensures.value,
+      bound_low (g.S.EdgeSource.graph c.args.source.now).nodes,
+      c.node_bound-bound.ensures.well_formed.few_nodes,
+    )
+
+pub roots-preserved-then-not-contains_node : goal.roots-preserved-then-not-contains_node
+roots-preserved-then-not-contains_node g c =
+    skipped c.node_bound-bound.ensures.well_formed c.roots.invariant (elim c.then-not-contains_node.branch [
+      | then-not-contains_node-via-then-not-contains_node w ↦
+          (λ h.
+          absurd (false≢true (sym w.if-not-contains_node.true ∙ c.contains_node.ensures.exists.1 (let P : ℕ → Type 0 =
+          λ z. HasNode (g.S.EdgeSource.graph c.roots.source) z in subst P (sym c.new-root.ensures.number) h))))
+      | then-not-contains_node-via-else-not-contains_node+then-is_marked w ↦
+          (λ h. sym w.is_marked.ensures ∙ w.if-is_marked.true)
+    ])
+
+pub steps-init : goal.steps-init
+steps-init g c =
+    let exists : HasNode (g.S.EdgeSource.graph c.roots.source) (g.Ix.IndexType.number c.new-root.result) =
+    search rules in
+    let unseen : get_or c.roots.discovered c.roots.i false ≡ false = cc in
+    rw c.mark.ensures (begins c.node_bound-bound.ensures.well_formed c.roots.invariant exists unseen
+    c.new-root.ensures.number c.first-e.ensures)
+
+pub mark-requires-then-index-end : goal.mark-requires-then-index-end
+mark-requires-then-index-end g c =
+    omega (
+      arith,
+      node_low c.node_bound-bound.ensures.well_formed c.steps.invariant,
+      c.index-then-index-end.ensures.value,
+    )
+
+pub overflow_sub-top : goal.overflow_sub-top
+overflow_sub-top g c =
+    omega (arith, place_free c.node_bound-bound.ensures.well_formed c.steps.invariant)
+
+pub steps-preserved-then-index-end : goal.steps-preserved-then-index-end
+steps-preserved-then-index-end g c =
+    let at_end : g.Ix.IndexType.number c.steps.e ≡ g.Ix.IndexType.greatest = cc in
+    let w = c.node_bound-bound.ensures.well_formed in
+    let free : c.steps.top - 1 + 1 ≡ c.steps.top = omega (arith, place_free w c.steps.invariant) in
+    let node_read : (d : ℕ)
+    → g.Ix.IndexType.number c.node-n.result
+    ≡ get_or (set c.steps.stack (c.steps.top - 1) (g.Ix.IndexType.number c.steps.n)) (c.steps.len - 1) d = λ d.
+    c.node-n.ensures.value ∙ rw (sym c.put.ensures) (c.link_at.ensures d) in
+    rw (c.mark-then-index-end.ensures, c.put.ensures) (steps_back w c.steps.invariant at_end
+    c.index-then-index-end.ensures.value free c.if-len-eq0.false refl node_read
+    (λ d. c.edge-e.ensures.value ∙ c.link_at-then-index-end.ensures d))
+
+pub look-v-requires : goal.look-v-requires
+look-v-requires g c =
+    let here : g.Ix.IndexType.number c.steps.e ≢ g.Ix.IndexType.greatest = λ h. c.if-index-end.false cc in
+    edge_here c.node_bound-bound.ensures.well_formed c.steps.invariant here
+
+pub is_marked-requires-else-index-end : goal.is_marked-requires-else-index-end
+is_marked-requires-else-index-end g c =
+    let here : g.Ix.IndexType.number c.steps.e ≢ g.Ix.IndexType.greatest = λ h. c.if-index-end.false cc in
+    omega (
+      arith,
+      child_low c.node_bound-bound.ensures.well_formed c.steps.invariant here c.look-v.ensures.gives,
+      c.index-child.ensures.value,
+    )
+
+pub mark-requires-then-not-is_marked : goal.mark-requires-then-not-is_marked
+mark-requires-then-not-is_marked g c =
+    let here : g.Ix.IndexType.number c.steps.e ≢ g.Ix.IndexType.greatest = λ h. c.if-index-end.false cc in
+    omega (
+      arith,
+      child_low c.node_bound-bound.ensures.well_formed c.steps.invariant here c.look-v.ensures.gives,
+      c.index-child.ensures.value,
+    )
+
+pub put-requires-then-not-is_marked : goal.put-requires-then-not-is_marked
+put-requires-then-not-is_marked g c =
+    let here : g.Ix.IndexType.number c.steps.e ≢ g.Ix.IndexType.greatest = λ h. c.if-index-end.false cc in
+    let unseen : get_or c.steps.discovered (g.Ix.IndexType.number c.look-v.result.0) false ≡ false = cc in
+    omega (
+      arith,
+      room_here c.node_bound-bound.ensures.well_formed c.steps.invariant here c.look-v.ensures.gives unseen,
+      c.steps.invariant.sizes.stack_fits,
+    )
+
+pub put_edge-requires : goal.put_edge-requires
+put_edge-requires g c =
+    let here : g.Ix.IndexType.number c.steps.e ≢ g.Ix.IndexType.greatest = λ h. c.if-index-end.false cc in
+    let unseen : get_or c.steps.discovered (g.Ix.IndexType.number c.look-v.result.0) false ≡ false = cc in
+    omega (
+      arith,
+      room_here c.node_bound-bound.ensures.well_formed c.steps.invariant here c.look-v.ensures.gives unseen,
+      c.steps.invariant.sizes.cursors_fit,
+    )
+
+pub overflow_add-len : goal.overflow_add-len
+overflow_add-len g c =
+    let here : g.Ix.IndexType.number c.steps.e ≢ g.Ix.IndexType.greatest = λ h. c.if-index-end.false cc in
+    let unseen : get_or c.steps.discovered (g.Ix.IndexType.number c.look-v.result.0) false ≡ false = cc in
+    let h : c.steps.len + 1 < length c.steps.discovered =
+    room_here c.node_bound-bound.ensures.well_formed c.steps.invariant here c.look-v.ensures.gives unseen in
+    search rules
+
+pub steps-smaller-then-not-is_marked : goal.steps-smaller-then-not-is_marked
+steps-smaller-then-not-is_marked g c =
+    let here : g.Ix.IndexType.number c.steps.e ≢ g.Ix.IndexType.greatest = λ h. c.if-index-end.false cc in
+    omega (
+      arith,
+      looked_once c.node_bound-bound.ensures.well_formed c.steps.invariant here c.look-v.ensures.counted,
+      c.look-v.ensures.counted,
+    )
+
+pub steps-preserved-then-not-is_marked : goal.steps-preserved-then-not-is_marked
+steps-preserved-then-not-is_marked g c =
+    let here : g.Ix.IndexType.number c.steps.e ≢ g.Ix.IndexType.greatest = λ h. c.if-index-end.false cc in
+    let unseen : get_or c.steps.discovered (g.Ix.IndexType.number c.look-v.result.0) false ≡ false = cc in
+    let s =
+    steps_in c.node_bound-bound.ensures.well_formed c.steps.invariant here c.look-v.ensures.gives c.look-v.ensures.same
+    c.look-v.ensures.counted c.index-child.ensures.value unseen
+    c.first-e-then-not-is_marked.ensures in
+    rw (c.put-then-not-is_marked.ensures, c.put_edge.ensures, c.mark-then-not-is_marked.ensures) s
+
+pub steps-smaller : goal.steps-smaller
+steps-smaller g c =
+    let here : g.Ix.IndexType.number c.steps.e ≢ g.Ix.IndexType.greatest = λ h. c.if-index-end.false cc in
+    omega (
+      arith,
+      looked_once c.node_bound-bound.ensures.well_formed c.steps.invariant here c.look-v.ensures.counted,
+      c.look-v.ensures.counted,
+    )
+
+pub steps-preserved : goal.steps-preserved
+steps-preserved g c =
+    let here : g.Ix.IndexType.number c.steps.e ≢ g.Ix.IndexType.greatest = λ h. c.if-index-end.false cc in
+    let seen : get_or c.steps.finished (g.Ix.IndexType.number c.look-v.result.0) false ≡ true = cc in
+    steps_over c.node_bound-bound.ensures.well_formed c.steps.invariant here c.look-v.ensures.gives
+    c.look-v.ensures.same c.look-v.ensures.counted seen
+
+pub returns-else-is_marked-2-clause-cyclic : goal.returns-else-is_marked-2-clause-cyclic
+returns-else-is_marked-2-clause-cyclic g c =
+    let here : g.Ix.IndexType.number c.steps.e ≢ g.Ix.IndexType.greatest = λ h. c.if-index-end.false cc in
+    let seen : get_or c.steps.discovered (g.Ix.IndexType.number c.look-v.result.0) false ≡ true = cc in
+    let unleft : get_or c.steps.finished (g.Ix.IndexType.number c.look-v.result.0) false ≡ false = cc in
+    way_round c.node_bound-bound.ensures.well_formed c.steps.invariant here c.look-v.ensures.gives seen unleft
+
+pub returns-else-is_marked-2-clause-counted : goal.returns-else-is_marked-2-clause-counted
+returns-else-is_marked-2-clause-counted g c =
+    let here : g.Ix.IndexType.number c.steps.e ≢ g.Ix.IndexType.greatest = λ h. c.if-index-end.false cc in
+    looked_once c.node_bound-bound.ensures.well_formed c.steps.invariant here c.look-v.ensures.counted
+
+pub roots-preserved : goal.roots-preserved
+roots-preserved g c =
+    let at_end : g.Ix.IndexType.number c.steps.e ≡ g.Ix.IndexType.greatest = cc in
+    let w = c.node_bound-bound.ensures.well_formed in
+    let free : c.steps.top - 1 + 1 ≡ c.steps.top = omega (arith, place_free w c.steps.invariant) in
+    rw (c.mark-then-index-end.ensures, c.put.ensures) (walked w c.steps.invariant at_end
+    c.index-then-index-end.ensures.value free c.if-len-eq0.true)
+
+pub returns-clause-sorted : goal.returns-clause-sorted
+returns-clause-sorted g c =
+    let all : node_bound (g.S.EdgeSource.graph c.args.source.now) ≤ c.roots.i =
+    omega (arith, c.node_bound-bound.ensures.value) in
+    all_found c.node_bound-bound.ensures.well_formed c.roots.invariant all
+
+pub returns-clause-within : goal.returns-clause-within
+returns-clause-within g c = top_within c.node_bound-bound.ensures.well_formed c.roots.invariant
+
+pub returns-clause-counted : goal.returns-clause-counted
+returns-clause-counted g c = few_rested c.node_bound-bound.ensures.well_formed c.roots.invariant

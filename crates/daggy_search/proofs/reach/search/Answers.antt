@@ -1,0 +1,143 @@
+use Rattle.std.proofs.Common.{rules, ◌≡◌, ◌≢◌, ◌+◌, ◌<◌, ◌∙◌, sym, ap, refl, arith, inl, false, true, length, get_or}
+use Rattle.std.proofs.lemmas.Bool.{false≢true}
+use Rattle.daggy_base.specs.Graph.{HasNode, out_list}
+use Rattle.daggy_base.specs.Cursor.{first_of}
+use Rattle.daggy_base.proofs.OutEdgesRead.{below_bound}
+use Rattle.daggy_search.proofs.SearchState.{Reading, starts, few, edge_here, nothing_left, popped_here, child_low}
+use Rattle.daggy_search.proofs.SearchState.{room_here, found, moves_on, pushes, looked_once, room_marks}
+use Rattle.daggy_search.proofs.reach.search.Goals as goal
+
+pub mark-requires : goal.mark-requires
+mark-requires g c =
+    let exists : HasNode (g.S.EdgeSource.graph c.args.source.now) (g.Ix.IndexType.number c.args.from) = search rules in
+    omega (
+      arith,
+      below_bound (g.S.EdgeSource.graph c.args.source.now).nodes (g.Ix.IndexType.number c.args.from) exists,
+      c.requires.marks_fit,
+      c.index-2.ensures.value,
+    )
+
+pub steps-init : goal.steps-init
+steps-init g c =
+    let w = c.contains_node.ensures.well_formed in
+    let exists : HasNode (g.S.EdgeSource.graph c.args.source.now) (g.Ix.IndexType.number c.args.from) = search rules in
+    let apart : g.Ix.IndexType.number c.args.from ≢ g.Ix.IndexType.number c.args.to = λ h.
+    c.if-index-target.false (c.index.ensures.value ∙ h ∙ sym c.index-target.ensures.value) in
+    let now : Reading _ _ = record {
+      graph = g.S.EdgeSource.graph c.args.source.now;
+      marks = c.args.marks.now;
+      stack = c.args.stack.now;
+      len = 0;
+      edge = g.Ix.IndexType.number c.first-e.result;
+      looks = g.S.EdgeSource.looks c.args.source.now;
+    } in
+    rw c.mark.ensures (starts now w exists c.requires.cleared apart c.requires.marks_fit c.requires.stack_fits
+    c.index-2.ensures.value c.first-e.ensures)
+
+pub returns-then-len-eq0-clause-decided : goal.returns-then-len-eq0-clause-decided
+returns-then-len-eq0-clause-decided g c =
+    let w = c.contains_node.ensures.well_formed in
+    let at_end : g.Ix.IndexType.number c.steps.e ≡ g.Ix.IndexType.greatest = cc in
+    (λ h. absurd (false≢true h), λ r. absurd (nothing_left w c.steps.invariant at_end c.if-len-eq0.true r))
+
+pub returns-then-len-eq0-clause-counted : goal.returns-then-len-eq0-clause-counted
+returns-then-len-eq0-clause-counted g c = few c.contains_node.ensures.well_formed c.steps.invariant
+
+pub returns-then-len-eq0-clause-marks_kept : goal.returns-then-len-eq0-clause-marks_kept
+returns-then-len-eq0-clause-marks_kept g c = c.steps.invariant.sized
+
+pub steps-preserved-then-index-end : goal.steps-preserved-then-index-end
+steps-preserved-then-index-end g c =
+    let at_end : g.Ix.IndexType.number c.steps.e ≡ g.Ix.IndexType.greatest = cc in
+    popped_here c.contains_node.ensures.well_formed c.steps.invariant at_end c.if-len-eq0.false refl
+    c.index-stack-len.is
+    (c.first-e-then-index-end.ensures
+    ∙ ap (λ n. first_of g.Ix.IndexType.greatest (out_list (g.S.EdgeSource.graph c.steps.source) n))
+    c.node.ensures.value)
+
+pub look-v-requires : goal.look-v-requires
+look-v-requires g c =
+    let here : g.Ix.IndexType.number c.steps.e ≢ g.Ix.IndexType.greatest = λ h. c.if-index-end.false cc in
+    edge_here c.contains_node.ensures.well_formed c.steps.invariant here
+
+pub is_marked-requires : goal.is_marked-requires
+is_marked-requires g c =
+    let here : g.Ix.IndexType.number c.steps.e ≢ g.Ix.IndexType.greatest = λ h. c.if-index-end.false cc in
+    omega (
+      arith,
+      child_low c.contains_node.ensures.well_formed c.steps.invariant here c.look-v.ensures.gives,
+      c.index-i.ensures.value,
+    )
+
+pub returns-then-i-target-clause-decided : goal.returns-then-i-target-clause-decided
+returns-then-i-target-clause-decided g c =
+    let here : g.Ix.IndexType.number c.steps.e ≢ g.Ix.IndexType.greatest = λ h. c.if-index-end.false cc in
+    let is : g.Ix.IndexType.number c.look-v.result.0 ≡ g.Ix.IndexType.number c.args.to = cc in
+    (λ h. found c.contains_node.ensures.well_formed c.steps.invariant here c.look-v.ensures.gives is, λ r. refl)
+
+pub returns-then-i-target-clause-counted : goal.returns-then-i-target-clause-counted
+returns-then-i-target-clause-counted g c =
+    let here : g.Ix.IndexType.number c.steps.e ≢ g.Ix.IndexType.greatest = λ h. c.if-index-end.false cc in
+    looked_once c.contains_node.ensures.well_formed c.steps.invariant here c.look-v.ensures.counted
+
+pub returns-then-i-target-clause-marks_kept : goal.returns-then-i-target-clause-marks_kept
+returns-then-i-target-clause-marks_kept g c = c.steps.invariant.sized
+
+pub mark-requires-then-not-is_marked : goal.mark-requires-then-not-is_marked
+mark-requires-then-not-is_marked g c =
+    let here : g.Ix.IndexType.number c.steps.e ≢ g.Ix.IndexType.greatest = λ h. c.if-index-end.false cc in
+    omega (
+      arith,
+      child_low c.contains_node.ensures.well_formed c.steps.invariant here c.look-v.ensures.gives,
+      c.index-i.ensures.value,
+    )
+
+pub put-requires : goal.put-requires
+put-requires g c =
+    let here : g.Ix.IndexType.number c.steps.e ≢ g.Ix.IndexType.greatest = λ h. c.if-index-end.false cc in
+    let unseen : get_or c.steps.marks (g.Ix.IndexType.number c.look-v.result.0) false ≡ false = cc in
+    room_here c.contains_node.ensures.well_formed c.steps.invariant here c.look-v.ensures.gives unseen
+
+pub overflow_add-len : goal.overflow_add-len
+overflow_add-len g c =
+    let here : g.Ix.IndexType.number c.steps.e ≢ g.Ix.IndexType.greatest = λ h. c.if-index-end.false cc in
+    let unseen : get_or c.steps.marks (g.Ix.IndexType.number c.look-v.result.0) false ≡ false = cc in
+    let h : c.steps.len + 1 < length c.steps.marks =
+    room_marks c.contains_node.ensures.well_formed c.steps.invariant here c.look-v.ensures.gives unseen in
+    search rules
+
+pub steps-smaller-else-i-target : goal.steps-smaller-else-i-target
+steps-smaller-else-i-target g c =
+    let here : g.Ix.IndexType.number c.steps.e ≢ g.Ix.IndexType.greatest = λ h. c.if-index-end.false cc in
+    omega (
+      arith,
+      looked_once c.contains_node.ensures.well_formed c.steps.invariant here c.look-v.ensures.counted,
+      c.look-v.ensures.counted,
+    )
+
+pub steps-preserved-else-i-target : goal.steps-preserved-else-i-target
+steps-preserved-else-i-target g c =
+    let here : g.Ix.IndexType.number c.steps.e ≢ g.Ix.IndexType.greatest = λ h. c.if-index-end.false cc in
+    let unseen : get_or c.steps.marks (g.Ix.IndexType.number c.look-v.result.0) false ≡ false = cc in
+    let apart : g.Ix.IndexType.number c.look-v.result.0 ≢ g.Ix.IndexType.number c.args.to = λ h.
+    c.if-i-target.false (c.index-i.ensures.value ∙ h ∙ sym c.index-target.ensures.value) in
+    let s =
+    pushes c.contains_node.ensures.well_formed c.steps.invariant here c.look-v.ensures.gives c.look-v.ensures.same
+    c.look-v.ensures.counted c.index-i.ensures.value apart unseen in
+    rw (c.put.ensures, c.mark-then-not-is_marked.ensures) s
+
+pub steps-smaller : goal.steps-smaller
+steps-smaller g c =
+    let here : g.Ix.IndexType.number c.steps.e ≢ g.Ix.IndexType.greatest = λ h. c.if-index-end.false cc in
+    omega (
+      arith,
+      looked_once c.contains_node.ensures.well_formed c.steps.invariant here c.look-v.ensures.counted,
+      c.look-v.ensures.counted,
+    )
+
+pub steps-preserved : goal.steps-preserved
+steps-preserved g c =
+    let here : g.Ix.IndexType.number c.steps.e ≢ g.Ix.IndexType.greatest = λ h. c.if-index-end.false cc in
+    let seen : get_or c.steps.marks (g.Ix.IndexType.number c.look-v.result.0) false ≡ true = cc in
+    moves_on c.contains_node.ensures.well_formed c.steps.invariant here c.look-v.ensures.gives c.look-v.ensures.same
+    c.look-v.ensures.counted (inl seen)

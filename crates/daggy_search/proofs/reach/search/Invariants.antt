@@ -1,0 +1,26 @@
+use Rattle.std.proofs.Common.{◌+◌, ◌-◌, ◌*◌, length}
+use Rattle.daggy_base.specs.Graph.{edge_count}
+use Rattle.daggy_search.proofs.SearchState.{SearchingFor}
+use Rattle.daggy_search.proofs.reach.search.Given as goal
+
+abbrev pub invariant-steps : goal.invariant-steps
+invariant-steps g l =
+    SearchingFor g.Ix.IndexType.greatest (g.Ix.IndexType.number l.fn.to) record {
+      graph = g.S.EdgeSource.graph l.fn.source;
+      from = g.Ix.IndexType.number l.fn.from;
+      marks = length l.fn.marks;
+      looks = g.S.EdgeSource.looks l.fn.source;
+    } record {
+      graph = g.S.EdgeSource.graph l.source;
+      marks = l.marks;
+      stack = l.stack;
+      len = l.len;
+      edge = g.Ix.IndexType.number l.e;
+      looks = g.S.EdgeSource.looks l.source;
+    }
+
+abbrev pub decreases-steps : goal.decreases-steps
+decreases-steps g l =
+    2
+    * (edge_count (g.S.EdgeSource.graph l.fn.source) + g.S.EdgeSource.looks l.fn.source - g.S.EdgeSource.looks l.source)
+    + l.len

@@ -1,0 +1,113 @@
+//! What a search works in.
+ghost use Rattle.std.specs.Prelude.{◌≡◌, ℕ, ◌≤◌, ◌↔◌, IsTrue, IsOk, OnOk};
+
+use crate::marks::Marks;
+use crate::reserved;
+use daggy_base::index::{EdgeIndex, IndexType};
+use daggy_base::link::Link;
+use std::alloc::{AllocError, Global};
+use std::marker::Model;
+
+/// What searches work in: marks for nodes that were discovered and for nodes that were finished, a
+/// stack of nodes with a cursor for each, and a place for the edges that a search finds.
+///
+/// A search cannot fail for want of memory. It works in a scratch that was made large enough
+/// before. Room for nodes is only reserved then, and the first search that comes writes it, so a
+/// graph that is never searched pays little for it.
+#[derive(Drop)]
+pub struct Scratch<Ix: IndexType> {
+    /// For the nodes that a search discovered.
+    #[doc(hidden)]
+    pub marks: Marks,
+    /// For the nodes that a search finished. As long as `marks`, or longer.
+    #[doc(hidden)]
+    pub finished: Marks,
+    /// This and `cursors` have memory for as many links as there are marks. A search begins by
+    /// writing them out that far.
+    #[doc(hidden)]
+    pub stack: Vec<Link<Ix>>,
+    #[doc(hidden)]
+    pub cursors: Vec<Link<Ix>>,
+    /// For the edges that a search finds.
+    #[doc(hidden)]
+    pub found: Vec<EdgeIndex<Ix>>,
+}
+
+impl<Ix: IndexType> Model for Scratch<Ix> {
+    ghost use Rattle.std.specs.Prelude.{◌≤◌, length, vec_len, vec_capacity};
+    ghost use Rattle.daggy_base.specs.Capacity.{Capacity};
+
+    ghost Value = { Capacity };
+
+    ghost view = { λ s. record { nodes = length s.marks; edges = vec_len s.found } };
+
+    ghost invariant = { λ s.
+        (length s.marks ≤ vec_capacity s.stack) × (length s.marks ≤ length s.finished)
+        × (length s.marks ≤ vec_capacity s.cursors) };
+}
+
+impl<Ix: IndexType> Scratch<Ix> {
+    /// Takes no memory, and fits graphs without nodes alone.
+    pub fn new(alloc: Global) -> Self
+        ensures { result ≡ record { nodes = 0; edges = 0 } }
+    {
+        Scratch {
+            marks: Marks::new(alloc),
+            finished: Marks::new(alloc),
+            stack: Vec::new(alloc),
+            cursors: Vec::new(alloc),
+            found: Vec::new(alloc),
+        }
+    }
+
+    /// The allocator that its memory comes from.
+    #[inline]
+    pub fn allocator(&self) -> Global {
+        *self.stack.allocator()
+    }
+
+    /// Whether graphs of these bounds can be searched.
+    #[inline]
+    pub fn fits(&self, node_bound: usize, edge_bound: usize) -> bool
+        ensures { IsTrue result ↔ ((node_bound ≤ self.now.nodes) × (edge_bound ≤ self.now.edges)) }
+    {
+        node_bound <= self.marks.len() && edge_bound <= self.found.len()
+    }
+
+    /// Reserves capacity for graphs of these bounds. What it fitted before, it goes on fitting,
+    /// whatever the answer is.
+    #[inline]
+    pub fn reserve(&mut self, node_bound: usize, edge_bound: usize) -> Result<(), AllocError>
+        ensures ok { OnOk result ((node_bound ≤ self.new.nodes) × (edge_bound ≤ self.new.edges)) }
+        ensures kept { (self.old.nodes ≤ self.new.nodes) × (self.old.edges ≤ self.new.edges) }
+        ensures succeeds { node_bound ≤ self.old.nodes → edge_bound ≤ self.old.edges → IsOk result }
+    {
+        if self.marks.len() < node_bound {
+            self.grow_nodes(node_bound)?;
+        }
+        if self.found.len() < edge_bound {
+            self.found.resize(edge_bound, EdgeIndex::end())?;
+        }
+        Ok(())
+    }
+
+    // Grows to twice the capacity at least, so that a graph that gains its nodes one by one seldom
+    // needs it.
+    #[cold]
+    #[inline(never)]
+    fn grow_nodes(&mut self, node_bound: usize) -> Result<(), AllocError>
+        ensures ok { OnOk result (node_bound ≤ self.new.nodes) }
+        ensures kept { (self.old.nodes ≤ self.new.nodes) × (self.old.edges ≤ self.new.edges) }
+    {
+        let doubled = self.marks.len().saturating_mul(2);
+        let len = if node_bound < doubled {
+            doubled
+        } else {
+            node_bound
+        };
+        reserved::reserve(&mut self.stack, len)?;
+        reserved::reserve(&mut self.cursors, len)?;
+        self.finished.grow(len)?;
+        self.marks.grow(len)
+    }
+}
