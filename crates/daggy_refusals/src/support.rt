@@ -46,57 +46,61 @@ pub type Compact = DiGraph<usize, usize, u32>;
 /// The store of the stable kind.
 pub type Stable = StableDiGraph<usize, usize, u32>;
 
-macro_rules! kind {
-    ($store:ident, $gap:literal) => {
-        impl Kind for $store {
-            const GAP: bool = $gap;
-
-            fn with_capacity(
-                alloc: Global,
-                nodes: usize,
-                edges: usize,
-            ) -> Result<Plain<Self>, AllocError> {
-                Plain::<$store>::with_capacity(alloc, nodes, edges)
-            }
-
-            fn copied(dag: &Plain<Self>) -> Result<Plain<Self>, AllocError> {
-                dag.try_clone()
-            }
-
-            fn mapped(dag: &Plain<Self>, calls: &mut Calls) -> Result<Plain<Self>, AllocError> {
-                let Calls { nodes, edges } = calls;
-                dag.map(
-                    |_, w| {
-                        *nodes = nodes.wrapping_add(1);
-                        *w
-                    },
-                    |_, w| {
-                        *edges = edges.wrapping_add(1);
-                        *w
-                    },
-                )
-            }
-
-            fn kept(dag: &Plain<Self>, calls: &mut Calls) -> Result<Plain<Self>, AllocError> {
-                let Calls { nodes, edges } = calls;
-                dag.filter_map(
-                    |_, w| {
-                        *nodes = nodes.wrapping_add(1);
-                        Some(*w)
-                    },
-                    |_, w| {
-                        *edges = edges.wrapping_add(1);
-                        Some(*w)
-                    },
-                )
-            }
-        }
-    };
+// Counts a call, and gives the weight that it was called with.
+fn counted(calls: &mut usize, weight: &usize) -> usize {
+    *calls = calls.wrapping_add(1);
+    *weight
 }
 
-kind!(Compact, false);
+impl Kind for Compact {
+    const GAP: bool = false;
 
-kind!(Stable, true);
+    fn with_capacity(alloc: Global, nodes: usize, edges: usize) -> Result<Plain<Self>, AllocError> {
+        Plain::<Compact>::with_capacity(alloc, nodes, edges)
+    }
+
+    fn copied(dag: &Plain<Self>) -> Result<Plain<Self>, AllocError> {
+        dag.try_clone()
+    }
+
+    fn mapped(dag: &Plain<Self>, calls: &mut Calls) -> Result<Plain<Self>, AllocError> {
+        let Calls { nodes, edges } = calls;
+        dag.map(|_, w| counted(nodes, w), |_, w| counted(edges, w))
+    }
+
+    fn kept(dag: &Plain<Self>, calls: &mut Calls) -> Result<Plain<Self>, AllocError> {
+        let Calls { nodes, edges } = calls;
+        dag.filter_map(
+            |_, w| Some(counted(nodes, w)),
+            |_, w| Some(counted(edges, w)),
+        )
+    }
+}
+
+impl Kind for Stable {
+    const GAP: bool = true;
+
+    fn with_capacity(alloc: Global, nodes: usize, edges: usize) -> Result<Plain<Self>, AllocError> {
+        Plain::<Stable>::with_capacity(alloc, nodes, edges)
+    }
+
+    fn copied(dag: &Plain<Self>) -> Result<Plain<Self>, AllocError> {
+        dag.try_clone()
+    }
+
+    fn mapped(dag: &Plain<Self>, calls: &mut Calls) -> Result<Plain<Self>, AllocError> {
+        let Calls { nodes, edges } = calls;
+        dag.map(|_, w| counted(nodes, w), |_, w| counted(edges, w))
+    }
+
+    fn kept(dag: &Plain<Self>, calls: &mut Calls) -> Result<Plain<Self>, AllocError> {
+        let Calls { nodes, edges } = calls;
+        dag.filter_map(
+            |_, w| Some(counted(nodes, w)),
+            |_, w| Some(counted(edges, w)),
+        )
+    }
+}
 
 /// Asserts that what was found is what is wanted.
 pub fn same<T: PartialEq + Debug + Drop>(rt: &impl Abort, found: T, wanted: T) {

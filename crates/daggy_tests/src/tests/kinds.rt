@@ -81,6 +81,30 @@ pub fn note(calls: &Cell<u64>, kind: u64, index: usize) {
     calls.set(calls.get().wrapping_mul(100).wrapping_add(digits));
 }
 
+fn raised_node(calls: &Cell<u64>, n: NodeIndex<u8>, weight: &u32) -> u32 {
+    note(calls, 1, n.index());
+    weight.wrapping_add(n.index() as u32)
+}
+
+fn raised_edge(calls: &Cell<u64>, e: EdgeIndex<u8>, weight: &u32) -> u32 {
+    note(calls, 2, e.index());
+    weight.wrapping_add(e.index() as u32)
+}
+
+fn node_unless(calls: &Cell<u64>, n: NodeIndex<u8>, weight: &u32, without: u32) -> Option<u32> {
+    note(calls, 1, n.index());
+    if *weight == without {
+        None
+    } else {
+        Some(*weight)
+    }
+}
+
+fn edge_kept(calls: &Cell<u64>, e: EdgeIndex<u8>, weight: &u32) -> Option<u32> {
+    note(calls, 2, e.index());
+    Some(*weight)
+}
+
 fn raised(x: &mut u32, y: &mut u32) -> u32 {
     let before = *x;
     *x = before.wrapping_add(100);
@@ -138,140 +162,186 @@ fn weighted_list_of<'a, I: Iterator<Item = (NodeIndex<u8>, &'a u32)> + Drop>(
     Ok(list)
 }
 
-macro_rules! kind {
-    ($store:ident) => {
-        impl Kind for $store {
-            fn with_capacity(
-                alloc: Global,
-                nodes: usize,
-                edges: usize,
-            ) -> Result<Plain<Self>, AllocError> {
-                Plain::<$store>::with_capacity(alloc, nodes, edges)
-            }
+impl Kind for Compact {
+    fn with_capacity(alloc: Global, nodes: usize, edges: usize) -> Result<Plain<Self>, AllocError> {
+        Plain::<Compact>::with_capacity(alloc, nodes, edges)
+    }
 
-            fn copied(dag: &Plain<Self>) -> Result<Plain<Self>, AllocError> {
-                dag.try_clone()
-            }
+    fn copied(dag: &Plain<Self>) -> Result<Plain<Self>, AllocError> {
+        dag.try_clone()
+    }
 
-            fn mapped(dag: &Plain<Self>, noted: &mut u64) -> Result<Plain<Self>, AllocError> {
-                let calls = Cell::new(0);
-                let mapped = dag.map(
-                    |n, w| {
-                        note(&calls, 1, n.index());
-                        w.wrapping_add(n.index() as u32)
-                    },
-                    |e, w| {
-                        note(&calls, 2, e.index());
-                        w.wrapping_add(e.index() as u32)
-                    },
-                );
-                *noted = calls.get();
-                mapped
-            }
+    fn mapped(dag: &Plain<Self>, noted: &mut u64) -> Result<Plain<Self>, AllocError> {
+        let calls = Cell::new(0);
+        let mapped = dag.map(
+            |n, w| raised_node(&calls, n, w),
+            |e, w| raised_edge(&calls, e, w),
+        );
+        *noted = calls.get();
+        mapped
+    }
 
-            fn part(
-                dag: &Plain<Self>,
-                without: u32,
-                noted: &mut u64,
-            ) -> Result<Plain<Self>, AllocError> {
-                let calls = Cell::new(0);
-                let part = dag.filter_map(
-                    |n, w| {
-                        note(&calls, 1, n.index());
-                        if *w == without { None } else { Some(*w) }
-                    },
-                    |e, w| {
-                        note(&calls, 2, e.index());
-                        Some(*w)
-                    },
-                );
-                *noted = calls.get();
-                part
-            }
+    fn part(dag: &Plain<Self>, without: u32, noted: &mut u64) -> Result<Plain<Self>, AllocError> {
+        let calls = Cell::new(0);
+        let part = dag.filter_map(
+            |n, w| node_unless(&calls, n, w, without),
+            |e, w| edge_kept(&calls, e, w),
+        );
+        *noted = calls.get();
+        part
+    }
 
-            fn raise_nodes(
-                dag: &mut Plain<Self>,
-                a: usize,
-                b: usize,
-            ) -> Option<u32> {
-                let (a, b) = (small_node(a), small_node(b));
-                if a.index() != b.index() && dag.contains_node(a) && dag.contains_node(b) {
-                    return Some(dag.update_two_nodes(a, b, |x, y| raised(x, y)));
-                }
-                None
-            }
-
-            fn raise_edges(
-                dag: &mut Plain<Self>,
-                a: usize,
-                b: usize,
-            ) -> Option<u32> {
-                let (a, b) = (small_edge(a), small_edge(b));
-                if a.index() != b.index()
-                    && dag.edge_weight(a).is_some()
-                    && dag.edge_weight(b).is_some()
-                {
-                    return Some(dag.update_two_edges(a, b, |x, y| raised(x, y)));
-                }
-                None
-            }
-
-            fn raise_both(
-                dag: &mut Plain<Self>,
-                n: usize,
-                e: usize,
-            ) -> Option<u32> {
-                let (n, e) = (small_node(n), small_edge(e));
-                if dag.contains_node(n) && dag.edge_weight(e).is_some() {
-                    return Some(dag.update_node_and_edge(n, e, |x, y| raised(x, y)));
-                }
-                None
-            }
-
-            fn nodes(alloc: Global, dag: &Plain<Self>) -> Result<Vec<usize>, AllocError> {
-                list_of(alloc, dag.node_identifiers().map(index))
-            }
-
-            fn weighted_nodes(
-                alloc: Global,
-                dag: &Plain<Self>,
-            ) -> Result<Vec<(usize, u32)>, AllocError> {
-                weighted_list_of(alloc, dag.node_references())
-            }
-
-            fn edges(alloc: Global, dag: &Plain<Self>) -> Result<Vec<Line>, AllocError> {
-                list_of(alloc, dag.edge_references().map(line))
-            }
-
-            fn near_nodes(
-                alloc: Global,
-                dag: &Plain<Self>,
-                n: usize,
-                dir: Option<Direction>,
-            ) -> Result<Vec<usize>, AllocError> {
-                let n = small_node(n);
-                match dir {
-                    Some(dir) => list_of(alloc, dag.neighbors_directed(n, dir).map(index)),
-                    None => list_of(alloc, dag.neighbors(n).map(index)),
-                }
-            }
-
-            fn near_edges(
-                alloc: Global,
-                dag: &Plain<Self>,
-                n: usize,
-                dir: Option<Direction>,
-            ) -> Result<Vec<Line>, AllocError> {
-                let n = small_node(n);
-                match dir {
-                    Some(dir) => list_of(alloc, dag.edges_directed(n, dir).map(line)),
-                    None => list_of(alloc, dag.edges(n).map(line)),
-                }
-            }
+    fn raise_nodes(dag: &mut Plain<Self>, a: usize, b: usize) -> Option<u32> {
+        let (a, b) = (small_node(a), small_node(b));
+        if a.index() != b.index() && dag.contains_node(a) && dag.contains_node(b) {
+            return Some(dag.update_two_nodes(a, b, |x, y| raised(x, y)));
         }
-    };
+        None
+    }
+
+    fn raise_edges(dag: &mut Plain<Self>, a: usize, b: usize) -> Option<u32> {
+        let (a, b) = (small_edge(a), small_edge(b));
+        if a.index() != b.index() && dag.edge_weight(a).is_some() && dag.edge_weight(b).is_some() {
+            return Some(dag.update_two_edges(a, b, |x, y| raised(x, y)));
+        }
+        None
+    }
+
+    fn raise_both(dag: &mut Plain<Self>, n: usize, e: usize) -> Option<u32> {
+        let (n, e) = (small_node(n), small_edge(e));
+        if dag.contains_node(n) && dag.edge_weight(e).is_some() {
+            return Some(dag.update_node_and_edge(n, e, |x, y| raised(x, y)));
+        }
+        None
+    }
+
+    fn nodes(alloc: Global, dag: &Plain<Self>) -> Result<Vec<usize>, AllocError> {
+        list_of(alloc, dag.node_identifiers().map(index))
+    }
+
+    fn weighted_nodes(alloc: Global, dag: &Plain<Self>) -> Result<Vec<(usize, u32)>, AllocError> {
+        weighted_list_of(alloc, dag.node_references())
+    }
+
+    fn edges(alloc: Global, dag: &Plain<Self>) -> Result<Vec<Line>, AllocError> {
+        list_of(alloc, dag.edge_references().map(line))
+    }
+
+    fn near_nodes(
+        alloc: Global,
+        dag: &Plain<Self>,
+        n: usize,
+        dir: Option<Direction>,
+    ) -> Result<Vec<usize>, AllocError> {
+        let n = small_node(n);
+        match dir {
+            Some(dir) => list_of(alloc, dag.neighbors_directed(n, dir).map(index)),
+            None => list_of(alloc, dag.neighbors(n).map(index)),
+        }
+    }
+
+    fn near_edges(
+        alloc: Global,
+        dag: &Plain<Self>,
+        n: usize,
+        dir: Option<Direction>,
+    ) -> Result<Vec<Line>, AllocError> {
+        let n = small_node(n);
+        match dir {
+            Some(dir) => list_of(alloc, dag.edges_directed(n, dir).map(line)),
+            None => list_of(alloc, dag.edges(n).map(line)),
+        }
+    }
 }
 
-kind!(Compact);
+impl Kind for Stable {
+    fn with_capacity(alloc: Global, nodes: usize, edges: usize) -> Result<Plain<Self>, AllocError> {
+        Plain::<Stable>::with_capacity(alloc, nodes, edges)
+    }
 
-kind!(Stable);
+    fn copied(dag: &Plain<Self>) -> Result<Plain<Self>, AllocError> {
+        dag.try_clone()
+    }
+
+    fn mapped(dag: &Plain<Self>, noted: &mut u64) -> Result<Plain<Self>, AllocError> {
+        let calls = Cell::new(0);
+        let mapped = dag.map(
+            |n, w| raised_node(&calls, n, w),
+            |e, w| raised_edge(&calls, e, w),
+        );
+        *noted = calls.get();
+        mapped
+    }
+
+    fn part(dag: &Plain<Self>, without: u32, noted: &mut u64) -> Result<Plain<Self>, AllocError> {
+        let calls = Cell::new(0);
+        let part = dag.filter_map(
+            |n, w| node_unless(&calls, n, w, without),
+            |e, w| edge_kept(&calls, e, w),
+        );
+        *noted = calls.get();
+        part
+    }
+
+    fn raise_nodes(dag: &mut Plain<Self>, a: usize, b: usize) -> Option<u32> {
+        let (a, b) = (small_node(a), small_node(b));
+        if a.index() != b.index() && dag.contains_node(a) && dag.contains_node(b) {
+            return Some(dag.update_two_nodes(a, b, |x, y| raised(x, y)));
+        }
+        None
+    }
+
+    fn raise_edges(dag: &mut Plain<Self>, a: usize, b: usize) -> Option<u32> {
+        let (a, b) = (small_edge(a), small_edge(b));
+        if a.index() != b.index() && dag.edge_weight(a).is_some() && dag.edge_weight(b).is_some() {
+            return Some(dag.update_two_edges(a, b, |x, y| raised(x, y)));
+        }
+        None
+    }
+
+    fn raise_both(dag: &mut Plain<Self>, n: usize, e: usize) -> Option<u32> {
+        let (n, e) = (small_node(n), small_edge(e));
+        if dag.contains_node(n) && dag.edge_weight(e).is_some() {
+            return Some(dag.update_node_and_edge(n, e, |x, y| raised(x, y)));
+        }
+        None
+    }
+
+    fn nodes(alloc: Global, dag: &Plain<Self>) -> Result<Vec<usize>, AllocError> {
+        list_of(alloc, dag.node_identifiers().map(index))
+    }
+
+    fn weighted_nodes(alloc: Global, dag: &Plain<Self>) -> Result<Vec<(usize, u32)>, AllocError> {
+        weighted_list_of(alloc, dag.node_references())
+    }
+
+    fn edges(alloc: Global, dag: &Plain<Self>) -> Result<Vec<Line>, AllocError> {
+        list_of(alloc, dag.edge_references().map(line))
+    }
+
+    fn near_nodes(
+        alloc: Global,
+        dag: &Plain<Self>,
+        n: usize,
+        dir: Option<Direction>,
+    ) -> Result<Vec<usize>, AllocError> {
+        let n = small_node(n);
+        match dir {
+            Some(dir) => list_of(alloc, dag.neighbors_directed(n, dir).map(index)),
+            None => list_of(alloc, dag.neighbors(n).map(index)),
+        }
+    }
+
+    fn near_edges(
+        alloc: Global,
+        dag: &Plain<Self>,
+        n: usize,
+        dir: Option<Direction>,
+    ) -> Result<Vec<Line>, AllocError> {
+        let n = small_node(n);
+        match dir {
+            Some(dir) => list_of(alloc, dag.edges_directed(n, dir).map(line)),
+            None => list_of(alloc, dag.edges(n).map(line)),
+        }
+    }
+}
