@@ -27,7 +27,7 @@ pub use Rattle.daggy_base.specs.Rewriting
 pub use Rattle.daggy_base.specs.Iterating
 pub use Rattle.daggy_base.specs.Calls
 pub use Rattle.daggy_cells.specs.Raw
-pub use Rattle.daggy_order.specs.Ordered
+pub use Rattle.daggy_base.specs.Ordered
 pub use Rattle.daggy_reduction.specs.Comparison
 pub use Rattle.daggy_reduction.specs.SearchSpan
 pub use Rattle.daggy_base.specs.Look

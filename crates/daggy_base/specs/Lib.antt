@@ -19,6 +19,7 @@ pub mod Copying
 pub mod Filtering
 pub mod FromSlots
 pub mod Orders
+pub mod Ordered
 pub mod FilteringInPlace
 pub mod Rewriting
 pub mod Iterating

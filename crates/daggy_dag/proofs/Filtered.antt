@@ -12,7 +12,7 @@ use Rattle.daggy_base.proofs.PathsWithNode.{bound_low}
 use Rattle.daggy_base.proofs.Slots.{IsFree, slot_taken, slot_taken_kept, slot_taken_new}
 use Rattle.daggy_base.specs.Filtering.{with_kept_node, named, with_kept_edge, both, new_ends, FiltersNodes, FiltersEdge}
 use Rattle.daggy_base.specs.Filtering.{FiltersEdges, IsFiltered}
-use Rattle.daggy_order.specs.Ordered.{IsOrderOf}
+use Rattle.daggy_base.specs.Ordered.{IsOrderOf}
 use Rattle.daggy_order.proofs.OrderLaws.{HasEnds, order_named, some_is}
 use Rattle.daggy_dag.proofs.OrderKept.{order_below}
 

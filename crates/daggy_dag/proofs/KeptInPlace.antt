@@ -12,7 +12,7 @@ use Rattle.daggy_base.specs.WellFormed.{IsWellFormed}
 use Rattle.daggy_base.proofs.PathsWithNode.{bound_low}
 use Rattle.daggy_base.specs.FilteringInPlace.{KeepsSlots, if_ends_exist, IsFilteredInPlace}
 use Rattle.daggy_base.specs.Mapping.{weight_in, with_weight}
-use Rattle.daggy_order.specs.Ordered.{IsOrderOf}
+use Rattle.daggy_base.specs.Ordered.{IsOrderOf}
 use Rattle.daggy_order.proofs.OrderLaws.{ends_exist, order_filtered, some_is}
 
 given : {V B : Type 0} (h : V → B) (r : Option V) (y : B) → option_map h r ≡ Some y → (v : V) × (h v ≡ y)

@@ -10,7 +10,7 @@ use Rattle.daggy_base.specs.Mapping.{MapsSlots, IsMapped, weight_in, with_weight
 use Rattle.daggy_cells.proofs.MappingLemmas.{mapped_length}
 use Rattle.daggy_reduction.specs.Comparison.{HaveSameNodes, HaveSameReachability}
 use Rattle.daggy_reduction.proofs.Canonical.{reach_same}
-use Rattle.daggy_order.specs.Ordered.{IsOrderOf}
+use Rattle.daggy_base.specs.Ordered.{IsOrderOf}
 use Rattle.daggy_order.proofs.OrderLaws.{order_fewer}
 
 module _ {F I W V A B : Type 0} (step : F → I → Bor W → V → F → Type 0) (of : ℕ → I) (weight : A → W)

@@ -5,7 +5,7 @@ use Rattle.daggy_base.specs.Removal.{without_all_edges}
 use Rattle.daggy_base.specs.State.{State}
 use Rattle.daggy_base.proofs.PathsWithNode.{bound_low}
 use Rattle.daggy_base.proofs.OutEdgesRead.{below_bound}
-use Rattle.daggy_order.specs.Ordered.{IsOrderOf}
+use Rattle.daggy_base.specs.Ordered.{IsOrderOf}
 use Rattle.daggy_order.proofs.OrderLaws.{order_empty, order_without_all_edges}
 
 -- an order of a graph's nodes, with room for its searches

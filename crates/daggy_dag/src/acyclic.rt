@@ -96,7 +96,7 @@ where
     ghost use Rattle.std.specs.Prelude.{◌≤◌};
     ghost use Rattle.daggy_base.specs.Graph.{node_bound};
     ghost use Rattle.daggy_base.specs.State.{State};
-    ghost use Rattle.daggy_order.specs.Ordered.{IsOrderOf};
+    ghost use Rattle.daggy_base.specs.Ordered.{IsOrderOf};
 
     ghost Value = { State N E };
 

@@ -2,4 +2,3 @@ pub mod Checks
 pub mod Paths
 pub mod Reductions
 pub mod Rounds
-pub mod ClearedWeights

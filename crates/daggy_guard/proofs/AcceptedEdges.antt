@@ -9,7 +9,7 @@ use Rattle.daggy_base.specs.Adding.{with_edge, with_slot_filled}
 use Rattle.daggy_base.specs.WellFormed.{IsWellFormed}
 use Rattle.daggy_base.proofs.Slots.{IsFree}
 use Rattle.daggy_base.proofs.PathsWithEdge.{free_edge, acyclic_with_edge, still_cyclic, cyclic_with_edge}
-use Rattle.daggy_order.specs.Ordered.{IsOrderOf}
+use Rattle.daggy_base.specs.Ordered.{IsOrderOf}
 use Rattle.daggy_order.proofs.OrderLaws.{order_before_edge}
 use Rattle.daggy_guard.specs.EdgeBatch.{NewEdge, with_edges, IsFaultless, AreAccepted}
 

@@ -12,7 +12,7 @@ use Rattle.daggy_base.specs.Removal.{Kind}
 use Rattle.daggy_base.specs.WellFormed.{IsWellFormed}
 use Rattle.std.specs.declared.alloc.Global.{Global}
 use Rattle.daggy_base.proofs.PathsWithEdge.{free_edge, still_cyclic, cyclic_with_edge}
-use Rattle.daggy_order.specs.Ordered.{IsOrderOf}
+use Rattle.daggy_base.specs.Ordered.{IsOrderOf}
 use Rattle.daggy_order.proofs.OrderLaws.{order_with_edge}
 use Rattle.daggy_guard.specs.EdgeBatch.{NewEdge, by_numbers, with_edges, new_edges, HasEnds, IsFaultless, IsAdded}
 use Rattle.daggy_guard.specs.EdgeBatch.{IsFirstFault, ClosesCycle, IsRefused, LacksEnd, LacksIndex, LacksMemory}

@@ -6,7 +6,7 @@ use Rattle.std.proofs.lemmas.Fn.{FoldsTo-push}
 use Rattle.daggy_base.specs.Graph.{Graph, node_bound}
 use Rattle.daggy_base.specs.declared.error.ElementError.{ElementError}
 use Rattle.daggy_base.specs.declared.element.Element.{Element}
-use Rattle.daggy_order.specs.Ordered.{IsOrderOf}
+use Rattle.daggy_base.specs.Ordered.{IsOrderOf}
 use Rattle.daggy_guard.specs.Elements.{WithElement, IsElementRefused, IsUnmade}
 
 pub record Making {N E : Type 0} (limit : ℕ) (old now : Graph N E) (given : List (Element N E)) (order : List ℕ)

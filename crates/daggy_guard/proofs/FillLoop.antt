@@ -6,7 +6,7 @@ use Rattle.daggy_base.specs.Graph.{Graph, node_count, node_bound, edge_count}
 use Rattle.daggy_base.specs.Adding.{with_node}
 use Rattle.daggy_base.specs.WellFormed.{IsWellFormed}
 use Rattle.daggy_base.proofs.PathsWithNewNode.{free_slots}
-use Rattle.daggy_order.specs.Ordered.{IsOrderOf}
+use Rattle.daggy_base.specs.Ordered.{IsOrderOf}
 use Rattle.daggy_guard.specs.Extension.{with_nodes, missing, IsFilled, IsPartFilled}
 use Rattle.daggy_guard.proofs.AcceptedEdges.{count_taken}
 

@@ -12,7 +12,7 @@ use Rattle.daggy_base.proofs.Lists.{Mem, mem_at, place_of, contains_mem, mem_con
 use Rattle.daggy_base.proofs.Lists.{first_past, after_at}
 use Rattle.daggy_base.proofs.OutEdgesRead.{edge_below}
 use Rattle.daggy_search.proofs.SearchProgress.{reaches_stays}
-use Rattle.daggy_order.specs.Ordered.{IsOrderOf, place}
+use Rattle.daggy_base.specs.Ordered.{IsOrderOf, place}
 
 -- the parents before the cursor all stand before b
 pub record Asked {N E : Type 0} (end : ℕ) (g : Graph N E) (order : List ℕ) (a b cursor : ℕ) : Type 0 where

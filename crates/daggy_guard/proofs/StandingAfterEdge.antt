@@ -2,7 +2,7 @@
 use Rattle.std.proofs.Common.{◌≡◌, ℕ, suc, ◌+◌, ◌<◌, ◌≤◌, ◌⊎◌, inl, inr, List, arith}
 use Rattle.daggy_base.specs.Graph.{Graph, edge_count}
 use Rattle.daggy_base.specs.Path.{Reaches}
-use Rattle.daggy_order.specs.Ordered.{IsOrderOf, place}
+use Rattle.daggy_base.specs.Ordered.{IsOrderOf, place}
 use Rattle.daggy_guard.specs.BatchProgress.{IsKept, IsStep, looks_left}
 use Rattle.daggy_guard.specs.declared.edge_batch.Standing.{Standing}
 use Rattle.daggy_guard.specs.declared.edge_batch.Standing.TheVariants.{Kept, Spared, Left, Closed}

@@ -7,7 +7,7 @@ ghost use Rattle.daggy_base.specs.Graph.{Graph, HasNode, node_bound, edge_count}
 ghost use Rattle.daggy_base.specs.Path.{IsAcyclic};
 ghost use Rattle.daggy_base.specs.Adding.{with_edge, next_edge};
 ghost use Rattle.daggy_base.specs.WellFormed.{IsWellFormed};
-ghost use Rattle.daggy_order.specs.Ordered.{IsOrderOf};
+ghost use Rattle.daggy_base.specs.Ordered.{IsOrderOf};
 ghost use Rattle.daggy_guard.specs.EdgeBatch.{NewEdge, by_numbers, HasEnds, IsAdded, IsRefused};
 ghost use Rattle.daggy_guard.specs.EdgeBatch.{most_looks};
 ghost use Rattle.daggy_guard.specs.BatchProgress.{IsBatchSoFar, IsFault, IsKept, IsStep};

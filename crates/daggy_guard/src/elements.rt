@@ -3,7 +3,7 @@ ghost use Rattle.std.specs.Prelude.{◌≡◌, ◌<◌, ◌≤◌, OnOk, OnErr, 
 ghost use Rattle.std.specs.Iterator.{IsFinite, IsFiniteIterable};
 ghost use Rattle.daggy_base.specs.Graph.{HasNode, node_bound};
 ghost use Rattle.daggy_base.specs.Path.{IsAcyclic};
-ghost use Rattle.daggy_order.specs.Ordered.{IsOrderOf};
+ghost use Rattle.daggy_base.specs.Ordered.{IsOrderOf};
 ghost use Rattle.daggy_guard.specs.Elements.{IsJoined, IsEdgeRefused, WithElement};
 ghost use Rattle.daggy_guard.specs.Elements.{IsElementRefused, IsMade, IsUnmade};
 

@@ -3,7 +3,7 @@ ghost use Rattle.std.specs.Prelude.{◌≡◌, ℕ, ◌+◌, ◌<◌, ◌≤◌,
 ghost use Rattle.std.specs.Iterator.{IsFinite, IsFiniteIterable};
 ghost use Rattle.daggy_base.specs.Graph.{node_bound, edge_count};
 ghost use Rattle.daggy_base.specs.Path.{IsAcyclic};
-ghost use Rattle.daggy_order.specs.Ordered.{IsOrderOf};
+ghost use Rattle.daggy_base.specs.Ordered.{IsOrderOf};
 ghost use Rattle.daggy_guard.specs.Extension.{IsFilled, IsPartFilled, IsExtended, IsStopped};
 ghost use Rattle.daggy_guard.specs.Extension.{Extends, Stops, extension_looks};
 

@@ -10,7 +10,7 @@ ghost use Rattle.daggy_base.specs.Adding.{with_neighbor, ComesFirst};
 ghost use Rattle.daggy_base.specs.Finding.{find_edge as edge_between};
 ghost use Rattle.daggy_base.specs.Weights.{edge_weight, with_edge_weight};
 ghost use Rattle.daggy_base.specs.Removal.{without, renamed, without_edge, without_node};
-ghost use Rattle.daggy_order.specs.Ordered.{IsOrderOf, place};
+ghost use Rattle.daggy_base.specs.Ordered.{IsOrderOf, place};
 ghost use Rattle.daggy_guard.specs.NewNode.{IsAddedNode, with_end};
 ghost use Rattle.daggy_base.specs.declared.error.NodeError.TheVariants.{Memory as NodeMemory};
 ghost use Rattle.daggy_base.specs.declared.error.EdgeError.TheVariants.{WouldCycle as ByCycle};

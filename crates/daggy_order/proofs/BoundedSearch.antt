@@ -6,25 +6,18 @@ use Rattle.std.proofs.lemmas.Bool.{false≢true}
 use Rattle.std.proofs.lemmas.List.{length-append, length-set, length-take-le, take_more_set}
 use Rattle.daggy_base.specs.Graph.{Graph, HasNode, out_list}
 use Rattle.daggy_base.specs.Path.{AreJoined, IsPath, Reaches, end_of}
-use Rattle.daggy_order.specs.Ordered.{edges_from}
+use Rattle.daggy_base.specs.Ordered.{edges_from}
 use Rattle.daggy_base.specs.WellFormed.{IsWellFormed}
 use Rattle.daggy_base.specs.Look.{IsLook}
 use Rattle.daggy_base.proofs.Lists.{Mem, Unique, mem_out, mem_left, mem_right, mem_cases, unique_append, unique_right}
+use Rattle.daggy_base.proofs.Lists.{fewer_than, split_at}
 use Rattle.daggy_base.proofs.Lists.{contains_mem}
 use Rattle.daggy_base.proofs.OutEdgesRead.{lists_of, read_part}
-use Rattle.daggy_search.proofs.SearchProgress.{Met, reaches_stays, fewer_than, marked_within, set_marked}
+use Rattle.daggy_search.proofs.SearchProgress.{Met, reaches_stays, marked_within, set_marked}
 use Rattle.daggy_search.proofs.SearchState.{Start, Reading, Searching, all_met_here, from_marked, only_reached}
 use Rattle.daggy_search.proofs.SearchState.{child_found}
 
 -- sums over the nodes of a list
-pub split_at : (ys : List ℕ) (x : ℕ) → Mem x ys → (p : List ℕ) × (q : List ℕ) × (ys ≡ p ++ x ∷ q)
-split_at [] x m = absurd m
-split_at (y ∷ ys) x m =
-    elim m [
-      | inl e ↦ ([], ys, ap (λ (z : ℕ). z ∷ ys) (sym e))
-      | inr b ↦ let r = split_at ys x b in (y ∷ r.0, r.1, ap (λ (z : List ℕ). y ∷ z) r.2)
-    ]
-
 edges_mid : {N E : Type 0} (g : Graph N E) (p : List ℕ) (x : ℕ) (q : List ℕ)
     → edges_from g (p ++ x ∷ q) ≡ length (out_list g x) + edges_from g (p ++ q)
 edges_mid g [] x q = refl

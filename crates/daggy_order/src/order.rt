@@ -3,23 +3,19 @@ ghost use Rattle.std.specs.Prelude.{◌≡◌, ◌≢◌, ℕ, List, ◌<◌, �
 ghost use Rattle.std.specs.Prelude.{slice_index, map, IsTrue, Contains, OnOk, OnErr, IfOk};
 ghost use Rattle.daggy_base.specs.Removal.{without, renamed};
 ghost use Rattle.daggy_base.specs.WellFormed.{AreDistinct};
-ghost use Rattle.daggy_order.specs.Ordered.{place, with_first};
+ghost use Rattle.daggy_base.specs.Ordered.{place, with_first};
 
 use daggy_base::index::{DefaultIx, IndexType, NodeIndex};
 use daggy_base::link::Link;
+use daggy_labels::written::{Tail, Written};
 use std::alloc::{AllocError, Global};
 use std::marker::Model;
-use written::{Tail, Written};
 
 mod edge;
-mod labels;
-mod links;
-mod moving;
 mod naming;
 mod nodes;
 mod search;
 mod sorting;
-mod written;
 
 pub use edge::order_edge;
 pub use nodes::Nodes;
@@ -38,7 +34,7 @@ pub struct Order<Ix: IndexType = DefaultIx> {
 impl<Ix: IndexType> Model for Order<Ix> {
     ghost use Rattle.std.specs.Prelude.{ℕ, List, ◌++◌};
     ghost use Rattle.std.specs.List.{range_with_len};
-    ghost use Rattle.daggy_order.specs.Links.{IsTailed};
+    ghost use Rattle.daggy_labels.specs.Links.{IsTailed};
 
     ghost Value = { List ℕ };
 

@@ -4,7 +4,7 @@ use Rattle.daggy_base.specs.Graph.{Graph, node_bound}
 use Rattle.daggy_base.specs.Adding.{with_node, with_edge, next_node}
 use Rattle.daggy_base.specs.State.{State, with_graph}
 use Rattle.daggy_base.specs.WellFormed.{IsWellFormed}
-use Rattle.daggy_order.specs.Ordered.{IsOrderOf, place}
+use Rattle.daggy_base.specs.Ordered.{IsOrderOf, place}
 use Rattle.daggy_order.proofs.OrderLaws.{order_with_edge, order_with_node_last, order_with_node_first}
 
 -- what an answer says, once it is known to be a success

@@ -3,9 +3,8 @@ use Rattle.std.proofs.Common.{◌≡◌, ◌≢◌, ℕ, ◌<◌, ◌≤◌, inl
 use Rattle.daggy_base.specs.Graph.{Graph, HasNode}
 use Rattle.daggy_base.specs.Path.{AreJoined, IsPath, Reaches, IsAcyclic, end_of}
 use Rattle.daggy_base.specs.Reduction.{ReachesIndirectly}
-use Rattle.daggy_base.proofs.Lists.{Mem, Unique}
+use Rattle.daggy_base.proofs.Lists.{Mem, Unique, fewer_than}
 use Rattle.daggy_base.proofs.PathsWithEdge.{reaches_on}
-use Rattle.daggy_search.proofs.SearchProgress.{fewer_than}
 use Rattle.daggy_base.proofs.PathsWithNode.{bound_low}
 use Rattle.daggy_base.proofs.OutEdgesRead.{below_bound}
 

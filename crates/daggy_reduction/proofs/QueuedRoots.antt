@@ -6,9 +6,10 @@ use Rattle.std.proofs.lemmas.Bool.{false≢true}
 use Rattle.daggy_base.specs.Graph.{Graph, HasNode, node_bound}
 use Rattle.daggy_base.specs.Reduction.{IsBelow}
 use Rattle.daggy_base.proofs.Lists.{Mem, Unique, mem_left, mem_right, mem_cases, mem_contains, contains_mem}
+use Rattle.daggy_base.proofs.Lists.{fewer_than}
 use Rattle.daggy_base.proofs.Lists.{unique_append}
 use Rattle.daggy_base.proofs.OutEdgesRead.{below_bound}
-use Rattle.daggy_search.proofs.SearchProgress.{marked_within, set_marked, fewer_than}
+use Rattle.daggy_search.proofs.SearchProgress.{marked_within, set_marked}
 use Rattle.daggy_reduction.specs.Closure.{IsQueue, IsClosure}
 use Rattle.daggy_reduction.proofs.QueueProgress.{take_none}
 use Rattle.daggy_reduction.proofs.QueueState.{distinct_from_unique}

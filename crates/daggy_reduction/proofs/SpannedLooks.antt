@@ -4,13 +4,13 @@ use Rattle.std.proofs.Common.{subst, arith, Contains}
 use Rattle.daggy_base.specs.Graph.{Graph, out_list, edge_count}
 use Rattle.daggy_base.specs.Reduction.{IsBelow}
 use Rattle.daggy_base.specs.WellFormed.{IsWellFormed, AreDistinct}
-use Rattle.daggy_base.proofs.Lists.{Mem, Unique, mem_out, mem_contains, contains_mem, unique_from_distinct}
+use Rattle.daggy_base.proofs.Lists.{Mem, Unique, mem_out, mem_contains, contains_mem, unique_from_distinct, split_at}
 use Rattle.daggy_base.proofs.Lists.{unique_right}
 use Rattle.daggy_base.proofs.OutEdgesRead.{lists_few}
-use Rattle.daggy_order.specs.Ordered.{IsOrderOf, place, stretch}
-use Rattle.daggy_order.proofs.BoundedSearch.{split_at, lists_length}
-use Rattle.daggy_order.proofs.Sorted.{unique_left}
-use Rattle.daggy_order.proofs.ListParts.{split_three}
+use Rattle.daggy_base.specs.Ordered.{IsOrderOf, place, stretch}
+use Rattle.daggy_order.proofs.BoundedSearch.{lists_length}
+use Rattle.daggy_labels.proofs.Sorted.{unique_left}
+use Rattle.daggy_labels.proofs.ListParts.{split_three}
 use Rattle.daggy_reduction.specs.SearchSpan.{last_place, edges_spanned, all_spanned}
 use Rattle.daggy_reduction.proofs.BoundedQueue.{latest_from}
 use Rattle.daggy_reduction.proofs.SweptNodes.{total, below_exists}

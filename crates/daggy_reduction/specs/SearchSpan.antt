@@ -1,7 +1,7 @@
 -- How far a search for longer ways to the children of a node goes in an order.
 use Rattle.std.specs.Prelude.{ℕ, ◌+◌, max, Option, Some, None, List, [], ◌∷◌}
 use Rattle.daggy_base.specs.Graph.{Graph, Edge, edge_at, out_list}
-use Rattle.daggy_order.specs.Ordered.{place, stretch, edges_from}
+use Rattle.daggy_base.specs.Ordered.{place, stretch, edges_from}
 
 -- the place of an edge's child
 abbrev pub child_place : {E : Type 0} → (order : List ℕ) → Option (Edge E) → ℕ

@@ -6,7 +6,7 @@ ghost use Rattle.daggy_base.specs.Graph.{edge_count};
 ghost use Rattle.daggy_base.specs.Path.{AreJoined};
 ghost use Rattle.daggy_base.specs.WellFormed.{IsWellFormed};
 ghost use Rattle.daggy_base.specs.Reduction.{IsRedundant, ReachesIndirectly};
-ghost use Rattle.daggy_order.specs.Ordered.{IsOrderOf};
+ghost use Rattle.daggy_base.specs.Ordered.{IsOrderOf};
 ghost use Rattle.daggy_reduction.specs.Flags.{IsFlagged, FlagsRound};
 ghost use Rattle.daggy_reduction.specs.Comparison.{IsAscending};
 ghost use Rattle.daggy_reduction.specs.SearchSpan.{edges_spanned, all_spanned};

@@ -4,7 +4,7 @@ ghost use Rattle.daggy_base.specs.Graph.{HasEdge, node_count, edge_count};
 ghost use Rattle.daggy_base.specs.Removal.{without_edges};
 ghost use Rattle.daggy_base.specs.WellFormed.{IsWellFormed};
 ghost use Rattle.daggy_base.specs.Reduction.{IsReduction};
-ghost use Rattle.daggy_order.specs.Ordered.{IsOrderOf};
+ghost use Rattle.daggy_base.specs.Ordered.{IsOrderOf};
 ghost use Rattle.daggy_reduction.specs.Comparison.{IsAscending, JoinsAll};
 ghost use Rattle.daggy_reduction.specs.SearchSpan.{all_spanned};
 

@@ -10,10 +10,11 @@ use Rattle.daggy_base.specs.WellFormed.{IsWellFormed}
 use Rattle.daggy_base.specs.Look.{IsLook}
 use Rattle.daggy_search.specs.Sorting.{LeadsOnward, IsSorted}
 use Rattle.daggy_base.proofs.Lists.{Mem, Unique, mem_cases, mem_out, mem_into, mem_mid, unique_mid, contains_mem}
+use Rattle.daggy_base.proofs.Lists.{fewer_than}
 use Rattle.daggy_base.proofs.Lists.{mem_contains, unique_from_distinct, distinct_from_unique}
 use Rattle.daggy_base.proofs.OutEdgesRead.{lists_of, lists_few, LookedTo, read_whole, all_read, read_part, child_exists}
 use Rattle.daggy_base.proofs.OutEdgesRead.{child_joined, looked_more}
-use Rattle.daggy_search.proofs.SearchProgress.{path_stays, reaches_more, marked_within, set_marked, fewer_than}
+use Rattle.daggy_search.proofs.SearchProgress.{path_stays, reaches_more, marked_within, set_marked}
 
 -- a node on the way, and how many of the edges that leave it were looked at
 pub record Stop : Type 0 where

@@ -1,17 +1,15 @@
 -- A search that is on its way.
 use Rattle.std.proofs.Common.{◌≡◌, ◌≢◌, ℕ, suc, ◌+◌, ◌<◌, ◌≤◌, Bool, true, false, ◌⊎◌, ◌↔◌, inl, inr, List, [], ◌∷◌}
-use Rattle.std.proofs.Common.{◌++◌, length, get_or, drop, set, refl, sym, subst, ◌∙◌, arith, replicate, append_assoc}
-use Rattle.std.specs.List.{count_by}
-use Rattle.std.proofs.lemmas.List.{get_or-set_other, get_or-set_same, get_or_past, length-append, get_or-replicate}
-use Rattle.std.proofs.lemmas.List.{length-replicate}
-use Rattle.std.proofs.lemmas.List.Sums.{count_by-le-length}
+use Rattle.std.proofs.Common.{◌++◌, length, get_or, drop, set, refl, sym, subst, ◌∙◌, arith, append_assoc}
+use Rattle.std.proofs.lemmas.List.{get_or-set_other, get_or-set_same, get_or_past, length-append}
 use Rattle.std.proofs.lemmas.Bool.{false≢true, cases_lt, cases_eq}
 use Rattle.daggy_base.specs.Graph.{Graph, HasNode, HasEdge, out_list, edge_count}
 use Rattle.daggy_base.specs.Path.{AreJoined, IsPath, Reaches, end_of}
 use Rattle.daggy_base.specs.Cursor.{first_of}
 use Rattle.daggy_base.specs.WellFormed.{IsWellFormed}
 use Rattle.daggy_base.specs.Look.{IsLook}
-use Rattle.daggy_base.proofs.Lists.{Mem, Unique, mem_out, mem_into, mem_mid, unique_mid, unique_right, pigeon}
+use Rattle.daggy_base.proofs.Lists.{Mem, Unique, mem_out, mem_into, mem_mid, unique_mid, unique_right}
+use Rattle.daggy_base.proofs.Lists.{fewer_than}
 use Rattle.daggy_base.proofs.OutEdgesRead.{lists_of, lists_few, LookedTo, read_whole, all_read, read_part, has_edge}
 use Rattle.daggy_base.proofs.OutEdgesRead.{child_exists, child_joined, next_cursor, looked_more}
 
@@ -81,12 +79,6 @@ met_more : (marks : List Bool) (Skip : ℕ → Type 0) (v n : ℕ)
     → v < length marks → Met marks Skip n → Met (set marks v true) Skip n
 met_more marks Skip v n low met =
     elim met [ inl m ↦ inl ((set_marked marks v n low).1 (inr m)) | inr s ↦ inr s ]
-
-pub fewer_than : (xs : List ℕ) (n : ℕ) → Unique xs → ((x : ℕ) → Mem x xs → x < n) → length xs ≤ n
-fewer_than xs n u h =
-    let few : length xs ≤ count_by (λ (b : Bool). b) (replicate n true) =
-    pigeon (λ (b : Bool). b) false refl xs (replicate n true) u (λ x m. get_or-replicate n x true false (h x m)) in
-    omega (arith, count_by-le-length (λ (b : Bool). b) (replicate n true), length-replicate n true)
 
 -- what is known of a search that is on its way
 module _ {N E : Type 0} (end : ℕ) (g : Graph N E) (w : IsWellFormed end g) (Keep Skip : ℕ → Type 0) (from : ℕ)

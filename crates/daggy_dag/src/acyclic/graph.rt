@@ -1,7 +1,7 @@
 //! The graph of a dag, to read or to keep.
 ghost use Rattle.std.specs.Prelude.{◌≡◌};
 ghost use Rattle.daggy_base.specs.Path.{IsAcyclic};
-ghost use Rattle.daggy_order.specs.Ordered.{IsOrderOf};
+ghost use Rattle.daggy_base.specs.Ordered.{IsOrderOf};
 
 use crate::acyclic::{Acyclic, Dag, StableDag};
 use daggy_base::index::IndexType;

@@ -1,7 +1,7 @@
 //! The nodes in an order in which every parent comes before its children.
 ghost use Rattle.std.specs.Prelude.{◌≡◌, ◌<◌, ◌^◌, length};
 ghost use Rattle.std.specs.Iterator.{YieldsFirstBy, item_count};
-ghost use Rattle.daggy_order.specs.Ordered.{IsOrderOf};
+ghost use Rattle.daggy_base.specs.Ordered.{IsOrderOf};
 
 use crate::acyclic::Acyclic;
 use daggy_base::index::{DefaultIx, IndexType, NodeIndex};

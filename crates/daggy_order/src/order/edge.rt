@@ -4,18 +4,18 @@ ghost use Rattle.std.specs.Prelude.{true, false, length, slice_index_or};
 ghost use Rattle.daggy_base.specs.Graph.{HasNode, node_bound};
 ghost use Rattle.daggy_base.specs.Path.{Reaches};
 ghost use Rattle.daggy_base.specs.WellFormed.{AreDistinct};
-ghost use Rattle.daggy_order.specs.Ordered.{IsOrderOf, IsParted, place, stretch, edges_from};
-ghost use Rattle.daggy_order.specs.Links.{IsLabelled, IsMoved, StandBefore};
+ghost use Rattle.daggy_base.specs.Ordered.{IsOrderOf, IsParted, place, stretch, edges_from};
+ghost use Rattle.daggy_labels.specs.Links.{IsLabelled, IsMoved, StandBefore};
 
 use crate::order::Order;
-use crate::order::labels::spread;
-use crate::order::links::Links;
-use crate::order::moving::{move_behind, sort_by_label};
 use crate::order::search::reaches_below;
-use crate::order::written::Written;
 use daggy_base::index::{IndexType, NodeIndex};
 use daggy_base::link::Link;
 use daggy_base::source::EdgeSource;
+use daggy_labels::labels::spread;
+use daggy_labels::links::Links;
+use daggy_labels::moving::{move_behind, sort_by_label};
+use daggy_labels::written::Written;
 use daggy_search::{Marks, Scratch, write_out};
 
 /// Makes way for an edge from `a` to `b` that is to be added: moves nodes so that `a` stands before

@@ -3,9 +3,9 @@ ghost use Rattle.std.specs.Prelude.{◌≡◌, ◌<◌, ◌^◌, length};
 ghost use Rattle.std.specs.Iterator.{YieldsFirstBy, item_count};
 
 use crate::order::Order;
-use crate::order::written::Written;
 use daggy_base::index::{DefaultIx, IndexType, NodeIndex};
 use daggy_base::link::Link;
+use daggy_labels::written::Written;
 use std::alloc::AllocError;
 use std::fmt;
 use std::iter::{ExactSizeIterator, FusedIterator};
@@ -24,7 +24,7 @@ pub struct Nodes<'a, Ix: IndexType = DefaultIx> {
 impl<'a, Ix: IndexType> Model for Nodes<'a, Ix> {
     ghost use Rattle.std.specs.Prelude.{ℕ, List, ◌++◌};
     ghost use Rattle.std.specs.List.{range_with_len};
-    ghost use Rattle.daggy_order.specs.Links.{last_nodes, IsAmong};
+    ghost use Rattle.daggy_labels.specs.Links.{last_nodes, IsAmong};
 
     ghost Value = { List ℕ };
 

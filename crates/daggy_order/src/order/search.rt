@@ -5,7 +5,7 @@ ghost use Rattle.std.specs.Prelude.{IfSome};
 ghost use Rattle.daggy_base.specs.Graph.{HasNode, node_bound};
 ghost use Rattle.daggy_base.specs.Path.{AreJoined, Reaches};
 ghost use Rattle.daggy_base.specs.WellFormed.{IsWellFormed, AreDistinct};
-ghost use Rattle.daggy_order.specs.Ordered.{edges_from};
+ghost use Rattle.daggy_base.specs.Ordered.{edges_from};
 
 use daggy_base::index::{EdgeIndex, IndexType, NodeIndex};
 use daggy_base::link::Link;

@@ -24,7 +24,7 @@ impl Model for Kept {
     ghost use Rattle.std.specs.Prelude.{ℕ, ◌≤◌};
     ghost use Rattle.daggy_base.specs.Graph.{node_bound};
     ghost use Rattle.daggy_base.specs.State.{State};
-    ghost use Rattle.daggy_order.specs.Ordered.{IsOrderOf};
+    ghost use Rattle.daggy_base.specs.Ordered.{IsOrderOf};
 
     ghost Value = { State ℕ ℕ };
 

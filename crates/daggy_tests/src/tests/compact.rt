@@ -5,7 +5,7 @@ use super::kinds::{Compact, Plain, note};
 use super::support::{holds, same};
 use super::table::{Answer, Call, Row, play};
 use daggy_base::index::{Direction, EdgeIndex, NodeIndex};
-use daggy_definitions::cursors::clear_weights;
+use daggy_callers::cursors::clear_weights;
 use std::cell::Cell;
 
 const AGAIN: [Row<'static>; 7] = [

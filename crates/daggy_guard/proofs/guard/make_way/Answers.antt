@@ -1,6 +1,6 @@
 use Rattle.std.proofs.Common.{◌≢◌, ◌≤◌, ◌∙◌, inl, inr, sym, arith}
 use Rattle.std.proofs.lemmas.Bool.{false≢true, cases_lt}
-use Rattle.daggy_order.specs.Ordered.{place}
+use Rattle.daggy_base.specs.Ordered.{place}
 use Rattle.daggy_order.proofs.MovedForward.{order_moved_before, order_moved_first}
 use Rattle.daggy_guard.proofs.OrderAfterChange.{few_edges, no_later}
 use Rattle.daggy_guard.proofs.ParentsAsked.{not_reached}

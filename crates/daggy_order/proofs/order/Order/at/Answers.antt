@@ -1,5 +1,5 @@
 use Rattle.std.proofs.Common.{rules, ◌<◌, ◌≤◌, ◌^◌, ◌-◌, ◌+◌, ℕ, List, length, get_or, sym, ap, ◌∙◌, arith}
-use Rattle.daggy_order.proofs.Tails.{tail_length, at_late}
+use Rattle.daggy_labels.proofs.Tails.{tail_length, at_late}
 use Rattle.daggy_order.proofs.order.Order.at.Goals as goal
 
 pub overflow_add-self-inside : goal.overflow_add-self-inside

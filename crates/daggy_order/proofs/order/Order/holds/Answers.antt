@@ -1,7 +1,7 @@
 use Rattle.std.proofs.Common.{◌<◌, ◌≤◌, ℕ, List, sym, subst, arith}
 use Rattle.std.proofs.lemmas.Bool.{lt-ltb, ltb-true}
 use Rattle.daggy_base.proofs.Lists.{Mem, mem_left, contains_mem, mem_contains}
-use Rattle.daggy_order.proofs.Tails.{high, in_written, in_tail}
+use Rattle.daggy_labels.proofs.Tails.{high, in_written, in_tail}
 use Rattle.daggy_order.proofs.order.Order.holds.Goals as goal
 
 pub returns-then-i-self : goal.returns-then-i-self

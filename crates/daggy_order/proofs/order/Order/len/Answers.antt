@@ -1,7 +1,7 @@
 use Rattle.std.proofs.Common.{rules, ◌<◌, ◌^◌, ◌+◌, ℕ, List, ◌++◌, length, sym, ap, arith}
 use Rattle.std.specs.List.{range_with_len}
 use Rattle.daggy_base.proofs.Lists.{unique_from_distinct, distinct_from_unique}
-use Rattle.daggy_order.proofs.Tails.{few_written, tail_length, tail_once}
+use Rattle.daggy_labels.proofs.Tails.{few_written, tail_length, tail_once}
 use Rattle.daggy_order.proofs.order.Order.len.Goals as goal
 
 pub overflow_add-result : goal.overflow_add-result

@@ -1,5 +1,5 @@
 use Rattle.std.proofs.Common.{◌≡◌, ◌≤◌, length, drop}
-use Rattle.daggy_order.specs.Ordered.{with_first}
+use Rattle.daggy_base.specs.Ordered.{with_first}
 use Rattle.daggy_order.proofs.order.Order.move_all_first.Given as goal
 
 abbrev pub invariant-nodes : goal.invariant-nodes

@@ -2,8 +2,8 @@ use Rattle.std.proofs.Common.{ℕ, List, ◌++◌, length, sym, ap, ◌∙◌, a
 use Rattle.std.specs.List.{range_with_len}
 use Rattle.daggy_base.proofs.Lists.{unique_from_distinct}
 use Rattle.daggy_base.specs.Cursor.{first_of}
-use Rattle.daggy_order.proofs.OrderSteps.{few_all}
-use Rattle.daggy_order.proofs.Tails.{few_written, tail_length}
+use Rattle.daggy_labels.proofs.OrderSteps.{few_all}
+use Rattle.daggy_labels.proofs.Tails.{few_written, tail_length}
 use Rattle.daggy_order.proofs.order.Order.nodes.Goals as goal
 
 pub invariant_of-result : goal.invariant_of-result

@@ -1,7 +1,7 @@
 use Rattle.std.proofs.Common.{rules, ◌<◌, ◌≤◌, ◌^◌, ◌-◌, ◌+◌, ℕ, List, sym, ap, subst, ◌∙◌, arith}
 use Rattle.daggy_base.proofs.Lists.{Mem, contains_mem, mem_contains, unique_from_distinct}
-use Rattle.daggy_order.specs.Ordered.{place}
-use Rattle.daggy_order.proofs.Tails.{high, in_written, few_written, place_written, place_late}
+use Rattle.daggy_base.specs.Ordered.{place}
+use Rattle.daggy_labels.proofs.Tails.{high, in_written, few_written, place_written, place_late}
 use Rattle.daggy_order.proofs.order.Order.place.Goals as goal
 
 pub place-requires : goal.place-requires

@@ -1,6 +1,6 @@
 use Rattle.std.proofs.Common.{◌≡◌, ℕ, List, ◌∷◌, subst, inl, inr, ◌∙◌, arith}
 use Rattle.daggy_base.proofs.Lists.{Mem}
-use Rattle.daggy_order.proofs.Tails.{tailed_after}
+use Rattle.daggy_labels.proofs.Tails.{tailed_after}
 use Rattle.daggy_order.proofs.order.Order.push_first.Goals as goal
 
 pub invariant_of-self : goal.invariant_of-self

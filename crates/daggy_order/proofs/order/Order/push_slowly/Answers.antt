@@ -1,6 +1,6 @@
 use Rattle.std.proofs.Common.{◌≡◌, ◌+◌, ℕ, List, [], ◌∷◌, ◌++◌, refl, ap, ◌∙◌, arith}
 use Rattle.std.specs.List.{range_with_len}
-use Rattle.daggy_order.proofs.Tails.{tailed_same, tailed_roomy, tailed_more, tail_more}
+use Rattle.daggy_labels.proofs.Tails.{tailed_same, tailed_roomy, tailed_more, tail_more}
 use Rattle.daggy_order.proofs.order.Order.push_slowly.Goals as goal
 
 pub invariant_of-self : goal.invariant_of-self

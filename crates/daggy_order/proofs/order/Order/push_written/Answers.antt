@@ -1,6 +1,6 @@
 use Rattle.std.proofs.Common.{◌≡◌, ℕ, List, [], ◌∷◌, ◌++◌, subst, inl, inr, ◌∙◌, arith}
 use Rattle.daggy_base.proofs.Lists.{Mem, mem_cases}
-use Rattle.daggy_order.proofs.Tails.{tailed_after}
+use Rattle.daggy_labels.proofs.Tails.{tailed_after}
 use Rattle.daggy_order.proofs.order.Order.push_written.Goals as goal
 
 pub invariant_of-self : goal.invariant_of-self

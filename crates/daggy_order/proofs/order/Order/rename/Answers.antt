@@ -1,8 +1,8 @@
 use Rattle.std.proofs.Common.{ℕ, List, sym, subst, inl, inr, ◌∙◌, arith}
 use Rattle.daggy_base.proofs.Lists.{Mem, contains_mem}
 use Rattle.std.specs.List.{Contains}
-use Rattle.daggy_order.proofs.Labelled.{renamed_self}
-use Rattle.daggy_order.proofs.Tails.{high, tailed_after, renamed_below}
+use Rattle.daggy_labels.proofs.Labelled.{renamed_self}
+use Rattle.daggy_labels.proofs.Tails.{high, tailed_after, renamed_below}
 use Rattle.daggy_order.proofs.order.Order.rename.Goals as goal
 
 pub rename-requires-clause-free : goal.rename-requires-clause-free

@@ -1,4 +1,4 @@
-use Rattle.daggy_order.proofs.Tails.{tailed_same, tailed_roomy}
+use Rattle.daggy_labels.proofs.Tails.{tailed_same, tailed_roomy}
 use Rattle.daggy_order.proofs.order.Order.reserve.Goals as goal
 
 pub invariant_of-self : goal.invariant_of-self

@@ -1,5 +1,5 @@
 use Rattle.std.proofs.Common.{List, ℕ, ◌∙◌, sym, subst}
-use Rattle.daggy_order.specs.Ordered.{IsOrderOf}
+use Rattle.daggy_base.specs.Ordered.{IsOrderOf}
 use Rattle.daggy_order.proofs.NodesSorted.{whole_back, order_from_sorted, sorted_real}
 use Rattle.daggy_order.proofs.order.Order.sorted_by.Goals as goal
 

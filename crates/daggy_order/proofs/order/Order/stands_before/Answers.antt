@@ -1,8 +1,8 @@
 use Rattle.std.proofs.Common.{◌<◌, ℕ, List, sym, subst, arith}
 use Rattle.std.proofs.lemmas.Bool.{lt-ltb, ltb-true}
 use Rattle.daggy_base.proofs.Lists.{Mem, contains_mem, mem_contains}
-use Rattle.daggy_order.specs.Ordered.{place}
-use Rattle.daggy_order.proofs.Tails.{in_written, place_written, before_late, not_before_early}
+use Rattle.daggy_base.specs.Ordered.{place}
+use Rattle.daggy_labels.proofs.Tails.{in_written, place_written, before_late, not_before_early}
 use Rattle.daggy_order.proofs.order.Order.stands_before.Goals as goal
 
 pub stands_before-requires-clause-first : goal.stands_before-requires-clause-first

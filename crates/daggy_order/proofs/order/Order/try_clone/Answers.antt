@@ -1,7 +1,7 @@
 use Rattle.std.proofs.Common.{ℕ, List, ap, subst, ◌∙◌, arith}
 use Rattle.daggy_base.proofs.Lists.{Mem}
-use Rattle.daggy_order.specs.Links.{Stored}
-use Rattle.daggy_order.proofs.Tails.{tailed_bare, tailed_room, below}
+use Rattle.daggy_labels.specs.Links.{Stored}
+use Rattle.daggy_labels.proofs.Tails.{tailed_bare, tailed_room, below}
 use Rattle.daggy_order.proofs.order.Order.try_clone.Goals.{then-count-eq0, else-count-eq0+in_ok-index_bound}
 use Rattle.daggy_order.proofs.order.Order.try_clone.Goals as goal
 

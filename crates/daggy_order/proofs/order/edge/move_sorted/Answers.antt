@@ -2,8 +2,8 @@ use Rattle.std.proofs.Common.{◌≡◌, ℕ, List, ◌++◌, length, get_or, re
 use Rattle.std.specs.List.Sorted.{IsNonDecreasingBy}
 use Rattle.daggy_base.specs.Cursor.{first_of}
 use Rattle.daggy_base.proofs.Lists.{Mem, mem_mid, contains_mem, mem_contains, unique_from_distinct}
-use Rattle.daggy_order.proofs.Sorted.{distinct_from_unique}
-use Rattle.daggy_order.proofs.Labelled.{label_within}
+use Rattle.daggy_labels.proofs.Sorted.{distinct_from_unique}
+use Rattle.daggy_labels.proofs.Labelled.{label_within}
 use Rattle.daggy_order.proofs.SortedByLabel.{once_sorted, sorted_in, sorted_stand, sorted_moved, sorted_gap}
 use Rattle.daggy_order.proofs.SortedByLabel.{sorted_labelled, from_moved, first_of_run, first_of_none}
 use Rattle.daggy_order.proofs.order.edge.move_sorted.Goals as goal

@@ -1,10 +1,10 @@
 use Rattle.std.proofs.Common.{◌≡◌, ◌+◌, ◌<◌, ◌≤◌, ℕ, List, ◌++◌, ◌∙◌, sym, subst, arith}
 use Rattle.std.proofs.lemmas.Bool.{false≢true}
 use Rattle.daggy_search.proofs.SearchProgress.{reaches_stays}
-use Rattle.daggy_order.specs.Ordered.{IsOrderOf, IsParted, place, stretch, edges_from}
+use Rattle.daggy_base.specs.Ordered.{IsOrderOf, IsParted, place, stretch, edges_from}
 use Rattle.daggy_base.proofs.Lists.{Mem, contains_mem, mem_contains}
 use Rattle.std.specs.List.{range_with_len}
-use Rattle.daggy_order.proofs.Tails.{high, tailed_bare, bare_is}
+use Rattle.daggy_labels.proofs.Tails.{high, tailed_bare, bare_is}
 use Rattle.daggy_order.proofs.order.edge.order_edge.Goals as goal
 
 pub returns-then-stands_before-clause-decided : goal.returns-then-stands_before-clause-decided

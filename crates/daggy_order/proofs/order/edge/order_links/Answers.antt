@@ -5,8 +5,8 @@ use Rattle.std.proofs.lemmas.Option.{none-some}
 use Rattle.std.proofs.lemmas.List.{get_or_read, length-append, length-drop, length-take-le}
 use Rattle.daggy_base.specs.Graph.{HasNode}
 use Rattle.daggy_base.specs.Path.{AreJoined, Reaches}
-use Rattle.daggy_order.specs.Ordered.{place, stretch}
-use Rattle.daggy_order.specs.Links.{IsMoved, StandBefore}
+use Rattle.daggy_base.specs.Ordered.{place, stretch}
+use Rattle.daggy_labels.specs.Links.{IsMoved, StandBefore}
 use Rattle.daggy_order.proofs.OrderEdgeResult.{stands_in, ascending, placed, no_earlier, stood_before, same_node}
 use Rattle.daggy_order.proofs.OrderEdgeResult.{between, found_before, new_order, new_before, new_parted}
 use Rattle.daggy_order.proofs.order.edge.order_links.Goals as goal

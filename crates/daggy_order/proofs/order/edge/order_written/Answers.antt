@@ -2,8 +2,8 @@ use Rattle.std.proofs.Common.{◌+◌, ◌<◌, ◌≤◌, ℕ, false, List, len
 use Rattle.std.proofs.Common.{arith}
 use Rattle.std.proofs.lemmas.Bool.{cases_lt}
 use Rattle.std.proofs.lemmas.List.{get_or-replicate, get_or_past, length-replicate}
-use Rattle.daggy_order.specs.Ordered.{IsOrderOf, IsParted, place, stretch, edges_from}
-use Rattle.daggy_order.specs.Links.{Stored}
+use Rattle.daggy_base.specs.Ordered.{IsOrderOf, IsParted, place, stretch, edges_from}
+use Rattle.daggy_labels.specs.Links.{Stored}
 use Rattle.daggy_order.proofs.order.edge.order_written.Goals as goal
 
 pub order_links-requires-clause-cleared : goal.order_links-requires-clause-cleared

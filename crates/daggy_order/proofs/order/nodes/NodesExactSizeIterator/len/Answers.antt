@@ -2,8 +2,8 @@ use Rattle.std.proofs.Common.{ℕ, List, length, ap, arith}
 use Rattle.std.proofs.lemmas.List.{length-append}
 use Rattle.std.proofs.lemmas.List.FromFn.{length-range_with_len}
 use Rattle.std.specs.List.{range_with_len}
-use Rattle.daggy_order.specs.Links.{last_nodes}
-use Rattle.daggy_order.proofs.OrderSteps.{length_few}
+use Rattle.daggy_labels.specs.Links.{last_nodes}
+use Rattle.daggy_labels.proofs.OrderSteps.{length_few}
 use Rattle.daggy_order.proofs.order.nodes.NodesExactSizeIterator.len.Goals as goal
 
 pub returns-clause-value : goal.returns-clause-value

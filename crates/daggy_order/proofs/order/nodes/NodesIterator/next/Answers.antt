@@ -1,9 +1,9 @@
 use Rattle.std.proofs.Common.{◌≡◌, ◌-◌, ◌+◌, ℕ, List, [], ◌∷◌, ◌++◌, sym, ap, ◌∙◌, arith}
 use Rattle.std.specs.List.{range_with_len}
 use Rattle.daggy_base.proofs.Lists.{mem_contains}
-use Rattle.daggy_order.specs.Links.{last_nodes}
-use Rattle.daggy_order.proofs.OrderSteps.{at_in, at_rest, at_next}
-use Rattle.daggy_order.proofs.Tails.{few_none, turn_first}
+use Rattle.daggy_labels.specs.Links.{last_nodes}
+use Rattle.daggy_labels.proofs.OrderSteps.{at_in, at_rest, at_next}
+use Rattle.daggy_labels.proofs.Tails.{few_none, turn_first}
 use Rattle.daggy_order.proofs.order.nodes.NodesIterator.next.Goals as goal
 
 pub next-self-inside-requires : goal.next-self-inside-requires

@@ -1,0 +1,416 @@
+-- What the links of a list keep, as nodes are put in and taken out.
+use Rattle.std.proofs.Common.{◌≡◌, ◌≢◌, ℕ, zero, suc, ◌+◌, ◌<◌, ◌≤◌, ◌⊎◌, inl, inr, List, [], ◌∷◌, ◌++◌, length, get_or}
+use Rattle.std.proofs.Common.{min, not, eqb, cond, refl, sym, ap, subst, ◌∙◌, arith, append_assoc}
+use Rattle.std.proofs.lemmas.Bool.{eq-eqb}
+use Rattle.std.proofs.lemmas.List.{length-append}
+use Rattle.std.proofs.lemmas.List.Elements.{filter-append}
+use Rattle.daggy_base.specs.Cursor.{first_of}
+use Rattle.daggy_base.specs.Removal.{without}
+use Rattle.daggy_base.proofs.Lists.{Mem, Unique, mem_left, mem_right, mem_cases, mem_into, mem_mid, unique_right}
+use Rattle.daggy_base.proofs.Lists.{fewer_than, split_at}
+use Rattle.daggy_base.proofs.Lists.{contains_mem, mem_contains, unique_from_distinct}
+use Rattle.daggy_labels.specs.Links.{Listed, IsLinkChain, AreLinksOf, nodes_from, neighbor}
+use Rattle.daggy_labels.proofs.Sorted.{distinct_from_unique, unique_cross}
+use Rattle.daggy_labels.proofs.ListParts.{filter_yes, filter_no, is_held}
+use Rattle.daggy_labels.proofs.Chains.{chain_same, IsPut, IsTaken, chain_left, chain_right, after_in, before_in}
+use Rattle.daggy_labels.proofs.Chains.{put_behind_start, put_behind_member, take_member, neighbor_end, neighbor_node}
+use Rattle.daggy_labels.proofs.Chains.{walk_is}
+
+pub listed : {xs ys : List ℕ} {r s k l : ℕ} → xs ≡ ys → r ≡ s → k ≡ l
+    → ◌≡◌ {A = Listed} (record { nodes = xs; index_bound = r; capacity = k })
+    (record { nodes = ys; index_bound = s; capacity = l })
+listed {xs} {ys} {r} {s} {k} {l} e f h =
+    ap (λ (z : List ℕ). listing z r k) e ∙ (ap (λ (z : ℕ). listing ys z k) f ∙ ap (λ (z : ℕ). listing ys s z) h)
+  where
+    listing : List ℕ → ℕ → ℕ → Listed
+    listing z w v = record { nodes = z; index_bound = w; capacity = v }
+
+-- the lesser of two numbers that stay
+pub same_lesser : {a b c d m : ℕ} → c ≡ a → d ≡ b → min a b ≡ m → min c d ≡ m
+same_lesser {a} {b} {c} {d} {m} e f h = ap (λ (z : ℕ). min z d) e ∙ (ap (λ (z : ℕ). min a z) f ∙ h)
+
+-- the last element
+pub ended : (xs : List ℕ) → 0 < length xs → (ns : List ℕ) × (m : ℕ) × (xs ≡ ns ++ m ∷ [])
+ended [] some = absurd (omega arith)
+ended (x ∷ []) some = ([], x, refl)
+ended (x ∷ (y ∷ ys)) some = let e = ended (y ∷ ys) (omega arith) in (x ∷ e.0, e.1, ap (λ (z : List ℕ). x ∷ z) e.2)
+
+-- what stands before an element
+pub before_cases : {xs : List ℕ} (ns : List ℕ) (b : ℕ) (ms : List ℕ) → xs ≡ ns ++ b ∷ ms
+    → ((ns ≡ []) × (xs ≡ b ∷ ms))
+    ⊎ ((ks : List ℕ) × (k : ℕ) × (ns ≡ ks ++ k ∷ []) × (xs ≡ ks ++ k ∷ (b ∷ ms)))
+before_cases [] b ms is = inl (refl, is)
+before_cases (x ∷ ns) b ms is =
+    let e = ended (x ∷ ns) (omega arith) in
+    inr (e.0, e.1, e.2, is ∙ (ap (λ (z : List ℕ). z ++ b ∷ ms) e.2 ∙ append_assoc e.0 (e.1 ∷ []) (b ∷ ms)))
+
+-- p stands before b, and n is put behind p
+module _ {end : ℕ} {old : List ℕ} {b p : ℕ} (none : (ms : List ℕ) → old ≡ b ∷ ms → p ≡ end)
+    (some : (ns ms : List ℕ) (m : ℕ) → old ≡ ns ++ m ∷ (b ∷ ms) → p ≡ m) (real : p ≢ end) where
+  pub before_it : (ns ms : List ℕ) → old ≡ ns ++ b ∷ ms
+      → (ks : List ℕ) × (ns ≡ ks ++ p ∷ []) × (old ≡ ks ++ p ∷ (b ∷ ms))
+  before_it ns ms is =
+      elim (before_cases ns b ms is) [
+        | inl first ↦ absurd (real (none ms first.1))
+        | inr c ↦ (
+            let p_is : c.1 ≡ p = sym (some c.0 ms c.1 c.3) in (
+              c.0,
+              c.2 ∙ ap (λ (z : ℕ). c.0 ++ z ∷ []) p_is,
+              c.3 ∙ ap (λ (z : ℕ). c.0 ++ z ∷ (b ∷ ms)) p_is,
+            )
+            )
+      ]
+
+  pub put_is : {new : List ℕ} {n : ℕ} → ((ns ms : List ℕ) → old ≡ ns ++ p ∷ ms → new ≡ ns ++ p ∷ (n ∷ ms))
+      → (ns ms : List ℕ) → old ≡ ns ++ b ∷ ms → new ≡ ns ++ n ∷ (b ∷ ms)
+  put_is {new} {n} put ns ms is =
+      let w = before_it ns ms is in
+      put w.0 (b ∷ ms) w.2
+      ∙ (sym (append_assoc w.0 (p ∷ []) (n ∷ (b ∷ ms))) ∙ ap (λ (z : List ℕ). z ++ n ∷ (b ∷ ms)) (sym w.1))
+
+pub length_walk : (end : ℕ) (next : List ℕ) (from count : ℕ) → length (nodes_from end next from count) ≡ count
+length_walk end next from zero = refl
+length_walk end next from (suc count) = ap suc (length_walk end next (get_or next from end) count)
+
+pub without_none : (n : ℕ) (xs : List ℕ) → (Mem n xs → ⊥) → without n xs ≡ xs
+without_none n [] d = refl
+without_none n (x ∷ xs) d =
+    filter_yes (λ z. not (eqb z n)) x xs (is_held n x (λ e. d (inl (sym e))))
+    ∙ ap (λ (z : List ℕ). x ∷ z) (without_none n xs (λ m. d (inr m)))
+
+pub without_mid : (n : ℕ) (xs ys : List ℕ) → (Mem n xs → ⊥) → (Mem n ys → ⊥) → without n (xs ++ n ∷ ys) ≡ xs ++ ys
+without_mid n xs ys d e =
+    filter-append (λ z. not (eqb z n)) xs (n ∷ ys)
+    ∙ (ap (λ (z : List ℕ). z ++ without n (n ∷ ys)) (without_none n xs d)
+    ∙ ap (λ (z : List ℕ). xs ++ z)
+    (filter_no (λ z. not (eqb z n)) n ys (ap not (eq-eqb n n refl)) ∙ without_none n ys e))
+
+-- of differing elements, one that stands in the middle stands nowhere else
+pub not_before : (us : List ℕ) (x : ℕ) (vs : List ℕ) → Unique (us ++ x ∷ vs) → Mem x us → ⊥
+not_before us x vs u m = unique_cross us (x ∷ vs) u x m (inl refl)
+
+pub not_behind : (us : List ℕ) (x : ℕ) (vs : List ℕ) → Unique (us ++ x ∷ vs) → Mem x vs → ⊥
+not_behind us x vs u = (unique_right us (x ∷ vs) u).0
+
+pub unique_without : (us : List ℕ) (x : ℕ) (vs : List ℕ) → Unique (us ++ x ∷ vs) → Unique (us ++ vs)
+unique_without [] x vs u = u.1
+unique_without (y ∷ us) x vs u = (λ m. u.0 (mem_into us vs x y m), unique_without us x vs u.1)
+
+-- the list that links keep
+module _ (end : ℕ) (next previous : List ℕ) (first last : ℕ) (xs : List ℕ)
+    (chain : IsLinkChain (neighbor end first next) (neighbor end last previous) end xs end) (once : Unique (end ∷ xs))
+    (within : (n : ℕ) → Mem n xs → n < length previous) (sized : length previous ≤ length next) where
+  pub walked : (count : ℕ) → count ≡ length xs → nodes_from end next first count ≡ xs
+  walked count is =
+      ap (nodes_from end next first) is ∙ walk_is end first next (neighbor end last previous) xs chain once.0
+
+  pub linked : (count : ℕ)
+      → count ≡ length xs → AreLinksOf end next previous first last (nodes_from end next first count)
+  linked count is =
+      let P : List ℕ → Type 0 = λ z. AreLinksOf end next previous first last z in
+      subst P (sym (walked count is)) (record {
+        chained = chain;
+        distinct = distinct_from_unique (end ∷ xs) once;
+        within = λ n c. within n (contains_mem xs n c);
+        sized = sized;
+      })
+
+-- writes that put n behind p
+pub is_put : (N P N' M P' Q : ℕ → ℕ) (p n q : ℕ)
+    → n ≢ p → n ≢ q → q ≡ N p → N' p ≡ n → ((k : ℕ) → k ≢ p → N' k ≡ N k) → M n ≡ q → ((k : ℕ) → k ≢ n → M k ≡ N' k)
+    → P' n ≡ p → ((k : ℕ) → k ≢ n → P' k ≡ P k) → Q q ≡ n → ((k : ℕ) → k ≢ q → Q k ≡ P' k) → IsPut N P M Q p n
+is_put N P N' M P' Q p n q not_p not_q is to ahead on ahead' from back back_to back' =
+    record {
+      to = ahead' p (λ e. not_p (sym e)) ∙ to;
+      on = on ∙ is;
+      ahead = λ k a b. ahead' k b ∙ ahead k a;
+      from = back' n not_q ∙ from;
+      back_to = ap Q (sym is) ∙ back_to;
+      back = λ k a b. back' k (λ e. b (e ∙ is)) ∙ back k a;
+    }
+
+module _ {end : ℕ} {next previous : List ℕ} {first last : ℕ} {xs : List ℕ}
+    (s : AreLinksOf end next previous first last xs) where
+  pub once : Unique (end ∷ xs)
+  once = unique_from_distinct (end ∷ xs) s.distinct
+
+  pub inside : (n : ℕ) → Mem n xs → n < length previous
+  inside n m = s.within n (mem_contains xs n m)
+
+  pub few : length xs ≤ length previous
+  few = fewer_than xs (length previous) once.1 inside
+
+  -- more room
+  module _ (next' previous' : List ℕ) (same : (k : ℕ) → get_or next' k end ≡ get_or next k end)
+      (same_back : (k : ℕ) → get_or previous' k end ≡ get_or previous k end) (sized : length previous' ≤ length next')
+      (long : length previous ≤ length previous') where
+    grown_chain : IsLinkChain (neighbor end first next') (neighbor end last previous') end xs end
+    grown_chain =
+        chain_same (neighbor end first next) (neighbor end last previous) (neighbor end first next')
+        (neighbor end last previous') end xs end (λ k m. ap (λ z. cond (eqb k end) first z) (same k))
+        (λ k m. ap (λ z. cond (eqb k end) last z) (same_back k)) s.chained
+
+    pub grown_walked : (count : ℕ) → count ≡ length xs → nodes_from end next' first count ≡ xs
+    grown_walked =
+        walked end next' previous' first last xs grown_chain once (λ n m. omega (arith, inside n m, long)) sized
+
+    pub grown_linked : (count : ℕ)
+        → count ≡ length xs → AreLinksOf end next' previous' first last (nodes_from end next' first count)
+    grown_linked =
+        linked end next' previous' first last xs grown_chain once (λ n m. omega (arith, inside n m, long)) sized
+
+  pub first_is : first ≡ first_of end xs
+  first_is = sym (neighbor_end end first next) ∙ head xs s.chained
+    where
+      head : (ys : List ℕ) → IsLinkChain (neighbor end first next) (neighbor end last previous) end ys end
+          → neighbor end first next end ≡ first_of end ys
+      head [] c = c.0
+      head (y ∷ ys) c = c.0
+
+  pub last_is : (ns : List ℕ) (n : ℕ) → xs ≡ ns ++ n ∷ [] → last ≡ n
+  last_is ns n is =
+      let P : List ℕ → Type 0 = λ z. IsLinkChain (neighbor end first next) (neighbor end last previous) end z end in
+      let c =
+      chain_right (neighbor end first next) (neighbor end last previous) end ns n [] end (subst P is s.chained) in
+      sym (neighbor_end end last previous) ∙ c.1
+
+  pub last_in : 0 < length xs → Mem last xs
+  last_in some =
+      let e = ended xs some in
+      let P : List ℕ → Type 0 = λ z. Mem last z in
+      let Q : ℕ → Type 0 = λ z. Mem z (e.0 ++ e.1 ∷ []) in
+      subst P (sym e.2) (subst Q (sym (last_is e.0 e.1 e.2)) (mem_right e.0 (e.1 ∷ []) e.1 (inl refl)))
+
+  -- where a node leads
+  pub next_is : (us : List ℕ) (n : ℕ) (vs : List ℕ) → xs ≡ us ++ n ∷ vs → get_or next n end ≡ first_of end vs
+  next_is us n vs is =
+      let P : List ℕ → Type 0 = λ z. IsLinkChain (neighbor end first next) (neighbor end last previous) end z end in
+      let Q : List ℕ → Type 0 = λ z. Mem n z in
+      let c =
+      chain_right (neighbor end first next) (neighbor end last previous) end us n vs end (subst P is s.chained) in
+      let real : n ≢ end = λ e.
+      once.0 (let A : ℕ → Type 0 = λ z. Mem z xs in subst A e (subst Q (sym is) (mem_mid us vs n))) in
+      sym (neighbor_node end first next n real) ∙ head n vs c
+    where
+      head : (p : ℕ) (ys : List ℕ) → IsLinkChain (neighbor end first next) (neighbor end last previous) p ys end
+          → neighbor end first next p ≡ first_of end ys
+      head p [] c = c.0
+      head p (y ∷ ys) c = c.0
+
+  -- what stands before a node
+  pub previous_none : (n : ℕ) (vs : List ℕ) → xs ≡ n ∷ vs → get_or previous n end ≡ end
+  previous_none n vs is =
+      let P : List ℕ → Type 0 = λ z. IsLinkChain (neighbor end first next) (neighbor end last previous) end z end in
+      let Q : List ℕ → Type 0 = λ z. Mem n z in
+      let real : n ≢ end = λ e.
+      once.0 (let A : ℕ → Type 0 = λ z. Mem z xs in subst A e (subst Q (sym is) (inl refl))) in
+      sym (neighbor_node end last previous n real) ∙ (subst P is s.chained).1
+
+  pub previous_is : (us : List ℕ) (m n : ℕ) (vs : List ℕ) → xs ≡ us ++ m ∷ (n ∷ vs) → get_or previous n end ≡ m
+  previous_is us m n vs is =
+      let P : List ℕ → Type 0 = λ z. IsLinkChain (neighbor end first next) (neighbor end last previous) end z end in
+      let Q : List ℕ → Type 0 = λ z. Mem n z in
+      let c =
+      chain_right (neighbor end first next) (neighbor end last previous) end us m (n ∷ vs) end (subst P is s.chained) in
+      let real : n ≢ end = λ e. once.0
+      (let A : ℕ → Type 0 = λ z. Mem z xs in
+      subst A e (subst Q (sym is) (mem_right us (m ∷ (n ∷ vs)) n (inr (inl refl))))) in
+      sym (neighbor_node end last previous n real) ∙ c.1
+
+  -- the links of a node lead to nodes, or to the end
+  pub leads_within : (m : ℕ) → Mem m (xs ++ end ∷ []) → (m ≡ end) ⊎ (m < length previous)
+  leads_within m h =
+      elim (mem_cases xs (end ∷ []) m h) [
+        | inl a ↦ inr (inside m a)
+        | inr b ↦ elim b [ inl is ↦ inl is | inr none ↦ absurd none ]
+      ]
+
+  pub first_leads : Mem first (xs ++ end ∷ [])
+  first_leads =
+      let P : ℕ → Type 0 = λ z. Mem z (xs ++ end ∷ []) in
+      subst P (neighbor_end end first next)
+      (after_in (neighbor end first next) (neighbor end last previous) end xs end s.chained)
+
+  module _ (n : ℕ) (m : Mem n xs) where
+    real_node : n ≢ end
+    real_node e = once.0 (let P : ℕ → Type 0 = λ z. Mem z xs in subst P e m)
+
+    pub next_leads : Mem (get_or next n end) (xs ++ end ∷ [])
+    next_leads =
+        let at = split_at xs n m in
+        let P : List ℕ → Type 0 = λ z. IsLinkChain (neighbor end first next) (neighbor end last previous) end z end in
+        let c =
+        chain_right (neighbor end first next) (neighbor end last previous) end at.0 n at.1 end
+        (subst P at.2 s.chained) in
+        let found = after_in (neighbor end first next) (neighbor end last previous) n at.1 end c in
+        let Q : ℕ → Type 0 = λ z. Mem z (xs ++ end ∷ []) in
+        let R : List ℕ → Type 0 = λ z. Mem (neighbor end first next n) (z ++ end ∷ []) in
+        subst Q (neighbor_node end first next n real_node)
+        (subst R (sym at.2) (elim (mem_cases at.1 (end ∷ []) _ found) [
+          | inl a ↦ mem_left (at.0 ++ n ∷ at.1) (end ∷ []) _ (mem_right at.0 (n ∷ at.1) _ (inr a))
+          | inr b ↦ mem_right (at.0 ++ n ∷ at.1) (end ∷ []) _ b
+        ]))
+
+    pub previous_leads : (get_or previous n end ≡ end) ⊎ Mem (get_or previous n end) xs
+    previous_leads =
+        let at = split_at xs n m in
+        let P : List ℕ → Type 0 = λ z. IsLinkChain (neighbor end first next) (neighbor end last previous) end z end in
+        let c =
+        chain_left (neighbor end first next) (neighbor end last previous) end at.0 n at.1 end
+        (subst P at.2 s.chained) in
+        let found = before_in (neighbor end first next) (neighbor end last previous) end at.0 n c in
+        let Q : ℕ → Type 0 = λ z. Mem z (end ∷ xs) in
+        let R : List ℕ → Type 0 = λ z. Mem (neighbor end last previous n) (end ∷ z) in
+        subst Q (neighbor_node end last previous n real_node) (subst R (sym at.2) (elim found [
+          | inl a ↦ inl a
+          | inr b ↦ inr (mem_left at.0 (n ∷ at.1) _ b)
+        ]))
+
+  -- n is put behind p, which is a node or the end
+  module _ (next' previous' : List ℕ) (first' last' : ℕ) (n : ℕ) (fresh : Mem n (end ∷ xs) → ⊥)
+      (low : n < length previous) (sized : length previous' ≤ length next')
+      (long : length previous ≤ length previous') where
+    put_within : (ys : List ℕ) → ((m : ℕ) → Mem m ys → (m ≡ n) ⊎ Mem m xs) → (m : ℕ) → Mem m ys → m < length previous'
+    put_within ys from m h =
+        elim (from m h) [
+          | inl is ↦ omega (arith, is, low, long)
+          | inr old ↦ omega (arith, inside m old, long)
+        ]
+
+    pub put_first_chain : IsPut (neighbor end first next) (neighbor end last previous) (neighbor end first' next')
+        (neighbor end last' previous') end n
+        → IsLinkChain (neighbor end first' next') (neighbor end last' previous') end (n ∷ xs) end
+    put_first_chain w =
+        put_behind_start _ _ _ _ end n xs end w s.chained (λ h. elim (mem_cases xs (end ∷ []) n h) [
+          | inl a ↦ fresh (inr a)
+          | inr b ↦ elim b [ inl is ↦ fresh (inl is) | inr none ↦ none ]
+        ]) once.0 (unique_last xs end once.1 once.0)
+      where
+        unique_last : (ys : List ℕ) (y : ℕ) → Unique ys → (Mem y ys → ⊥) → Unique (ys ++ y ∷ [])
+        unique_last [] y u d = (λ m. m, tt)
+        unique_last (x ∷ ys) y u d = (
+          λ m. elim (mem_cases ys (y ∷ []) x m) [
+            | inl a ↦ u.0 a
+            | inr b ↦ elim b [ inl is ↦ d (inl (sym is)) | inr none ↦ none ]
+          ],
+          unique_last ys y u.1 (λ m. d (inr m)),
+        )
+
+    module _ (w : IsPut (neighbor end first next) (neighbor end last previous) (neighbor end first' next')
+        (neighbor end last' previous') end n) (count : ℕ) (is : count ≡ length xs + 1) where
+      once_first : Unique (end ∷ (n ∷ xs))
+      once_first = (λ m. elim m [ inl e ↦ fresh (inl (sym e)) | inr b ↦ once.0 b ], (λ m. fresh (inr m), once.1))
+
+      count_first : count ≡ length (n ∷ xs)
+      count_first = omega (arith, is)
+
+      pub put_first_walked : nodes_from end next' first' count ≡ n ∷ xs
+      put_first_walked =
+          walked end next' previous' first' last' (n ∷ xs) (put_first_chain w) once_first
+          (put_within (n ∷ xs) (λ m h. h)) sized count count_first
+
+      pub put_first_linked : AreLinksOf end next' previous' first' last' (nodes_from end next' first' count)
+      put_first_linked =
+          linked end next' previous' first' last' (n ∷ xs) (put_first_chain w) once_first
+          (put_within (n ∷ xs) (λ m h. h)) sized count count_first
+
+    module _ (p : ℕ) (w : IsPut (neighbor end first next) (neighbor end last previous) (neighbor end first' next')
+        (neighbor end last' previous') p n) (count : ℕ) (is : count ≡ length xs + 1) (us vs : List ℕ)
+        (at : xs ≡ us ++ p ∷ vs) where
+      put_chain : IsLinkChain (neighbor end first' next') (neighbor end last' previous') end (us ++ p ∷ (n ∷ vs)) end
+      put_chain =
+          let A : List ℕ → Type 0 = λ z. IsLinkChain (neighbor end first next) (neighbor end last previous) end z end in
+          let B : List ℕ → Type 0 = λ z. Unique (end ∷ z) in
+          let C : List ℕ → Type 0 = λ z. Mem n (end ∷ z) → ⊥ in
+          put_behind_member _ _ _ _ p n us vs end w (subst A at s.chained) (subst B at once) (subst C at fresh)
+
+      from_put : (m : ℕ) → Mem m (us ++ p ∷ (n ∷ vs)) → (m ≡ n) ⊎ Mem m xs
+      from_put m h =
+          let A : List ℕ → Type 0 = λ z. Mem m z in
+          elim (mem_cases us (p ∷ (n ∷ vs)) m h) [
+            | inl a ↦ inr (subst A (sym at) (mem_left us (p ∷ vs) m a))
+            | inr b ↦ elim b [
+              | inl is_p ↦ inr (subst A (sym at) (mem_right us (p ∷ vs) m (inl is_p)))
+              | inr c ↦ elim c [
+                | inl is_n ↦ inl is_n
+                | inr d ↦ inr (subst A (sym at) (mem_right us (p ∷ vs) m (inr d)))
+              ]
+            ]
+          ]
+
+      once_put : Unique (end ∷ (us ++ p ∷ (n ∷ vs)))
+      once_put =
+          let A : List ℕ → Type 0 = λ z. Unique (end ∷ z) in
+          let B : List ℕ → Type 0 = λ z. Mem n z → ⊥ in
+          let u = subst A at once in
+          let not_in = subst B at (λ m. fresh (inr m)) in (
+            λ m. elim (from_put end m) [ inl e ↦ fresh (inl (sym e)) | inr b ↦ once.0 b ],
+            spread_out us p vs n u.1 not_in,
+          )
+        where
+          spread_out : (rest : List ℕ) (x : ℕ) (bs : List ℕ) (y : ℕ)
+              → Unique (rest ++ x ∷ bs) → (Mem y (rest ++ x ∷ bs) → ⊥) → Unique (rest ++ x ∷ (y ∷ bs))
+          spread_out [] x bs y u d = (λ m. elim m [ inl e ↦ d (inl (sym e)) | inr b ↦ u.0 b ], (λ m. d (inr m), u.1))
+          spread_out (a ∷ rest) x bs y u d = (
+            λ m. elim (mem_cases rest (x ∷ (y ∷ bs)) a m) [
+              | inl l ↦ u.0 (mem_left rest (x ∷ bs) a l)
+              | inr r ↦ elim r [
+                | inl e ↦ u.0 (mem_right rest (x ∷ bs) a (inl e))
+                | inr t ↦ elim t [ inl e ↦ d (inl (sym e)) | inr b ↦ u.0 (mem_right rest (x ∷ bs) a (inr b)) ]
+              ]
+            ],
+            spread_out rest x bs y u.1 (λ m. d (inr m)),
+          )
+
+      count_put : count ≡ length (us ++ p ∷ (n ∷ vs))
+      count_put =
+          omega (
+            arith,
+            is,
+            ap (λ (z : List ℕ). length z) at,
+            length-append us (p ∷ vs),
+            length-append us (p ∷ (n ∷ vs)),
+          )
+
+      pub put_walked : nodes_from end next' first' count ≡ us ++ p ∷ (n ∷ vs)
+      put_walked =
+          walked end next' previous' first' last' (us ++ p ∷ (n ∷ vs)) put_chain once_put
+          (put_within (us ++ p ∷ (n ∷ vs)) from_put) sized count count_put
+
+      pub put_linked : AreLinksOf end next' previous' first' last' (nodes_from end next' first' count)
+      put_linked =
+          linked end next' previous' first' last' (us ++ p ∷ (n ∷ vs)) put_chain once_put
+          (put_within (us ++ p ∷ (n ∷ vs)) from_put) sized count count_put
+
+  -- n is taken out
+  module _ (next' previous' : List ℕ) (first' last' : ℕ) (n : ℕ) (us vs : List ℕ) (at : xs ≡ us ++ n ∷ vs)
+      (w : IsTaken (neighbor end first next) (neighbor end last previous) (neighbor end first' next')
+      (neighbor end last' previous') n) (sized : length previous' ≤ length next')
+      (long : length previous ≤ length previous') (count : ℕ) (is : count + 1 ≡ length xs) where
+    once_at : Unique (end ∷ (us ++ n ∷ vs))
+    once_at = let A : List ℕ → Type 0 = λ z. Unique (end ∷ z) in subst A at once
+
+    once_left : Unique (end ∷ (us ++ vs))
+    once_left = (λ h. once_at.0 (mem_into us vs n end h), unique_without us n vs once_at.1)
+
+    chain_taken : IsLinkChain (neighbor end first' next') (neighbor end last' previous') end (us ++ vs) end
+    chain_taken =
+        let A : List ℕ → Type 0 = λ z. IsLinkChain (neighbor end first next) (neighbor end last previous) end z end in
+        take_member _ _ _ _ n us vs end w (subst A at s.chained) once_left
+
+    within_taken : (k : ℕ) → Mem k (us ++ vs) → k < length previous'
+    within_taken k h =
+        let A : List ℕ → Type 0 = λ z. Mem k z in
+        omega (arith, inside k (subst A (sym at) (mem_into us vs n k h)), long)
+
+    count_taken : count ≡ length (us ++ vs)
+    count_taken = omega (arith, is, ap (λ (z : List ℕ). length z) at, length-append us (n ∷ vs), length-append us vs)
+
+    pub taken_walked : nodes_from end next' first' count ≡ without n xs
+    taken_walked =
+        walked end next' previous' first' last' (us ++ vs) chain_taken once_left within_taken sized count count_taken
+        ∙ sym (ap (without n) at ∙ without_mid n us vs (not_before us n vs once_at.1) (not_behind us n vs once_at.1))
+
+    pub taken_linked : AreLinksOf end next' previous' first' last' (nodes_from end next' first' count)
+    taken_linked =
+        linked end next' previous' first' last' (us ++ vs) chain_taken once_left within_taken sized count count_taken

@@ -1,0 +1,138 @@
+use Rattle.std.proofs.Common.{rules, ◌≡◌, ◌≢◌, ℕ, ◌+◌, ◌<◌, ◌≤◌, inl, inr, List, ◌^◌, [], ◌∷◌, ◌++◌, ◌∙◌, sym, ap}
+use Rattle.std.proofs.Common.{subst, arith, length}
+use Rattle.daggy_base.proofs.Lists.{Mem, mem_cases, mem_contains}
+use Rattle.daggy_labels.specs.Links.{Listed, nodes_from, neighbor}
+use Rattle.daggy_labels.proofs.LinkedNodes.{listed, same_lesser}
+use Rattle.daggy_labels.proofs.Chains.{neighbor_end}
+use Rattle.daggy_labels.proofs.LinkedNodes.{few, length_walk, is_put, first_leads, leads_within, put_first_walked}
+use Rattle.daggy_labels.proofs.LinkedNodes.{put_first_linked}
+use Rattle.daggy_labels.proofs.links.Links.put_first.Goals as goal
+
+pub lead-requires-4 : goal.lead-requires-4
+lead-requires-4 g c =
+    let s = c.self.invariant in
+    elim (leads_within s c.self.inside.first (first_leads s)) [
+      | inl is ↦ inl is
+      | inr low ↦ inr (omega (arith, low, c.lead-3.ensures.sized, c.self.inside.previous.ok.0))
+    ]
+
+pub overflow_add-self : goal.overflow_add-self
+overflow_add-self g c =
+    let s = c.self.invariant in
+    let count = length_walk g.Ix.IndexType.greatest c.self.inside.next.items c.self.inside.first c.self.inside.count in
+    let most = few s in
+    let small = c.self.inside.previous.small in
+    let low : c.self.inside.count < 2 ^ 63 = omega (arith, count, most, small, c.self.inside.previous.ok) in
+    search rules
+
+pub invariant_of-self : goal.invariant_of-self
+invariant_of-self g c =
+    let E : ℕ = g.Ix.IndexType.greatest in
+    let s = c.self.invariant in
+    let xs = nodes_from E c.self.inside.next.items c.self.inside.first c.self.inside.count in
+    let nodes : xs ≡ c.args.self.now.nodes = ap (λ (z : Listed). z.nodes) c.self.view_is in
+    let A : List ℕ → Type 0 = λ z. Mem c.args.n z in
+    let fresh : Mem c.args.n (E ∷ xs) → ⊥ = λ m. elim m [
+      | inl e ↦ c.requires.real e
+      | inr b ↦ c.requires.absent (mem_contains c.args.self.now.nodes c.args.n (subst A nodes b))
+    ] in
+    let low : c.args.n < length c.self.inside.previous.items =
+    omega (arith, c.requires.numbered, ap (λ (z : Listed). z.index_bound) c.self.view_is) in
+    let not_led : (q : ℕ) → Mem q (xs ++ E ∷ []) → c.args.n ≢ q = λ q m e. elim (mem_cases xs (E ∷ []) q m) [
+      | inl a ↦ fresh (inr (let B : ℕ → Type 0 = λ z. Mem z xs in subst B (sym e) a))
+      | inr b ↦ elim b [ inl is ↦ c.requires.real (e ∙ is) | inr none ↦ none ]
+    ] in
+    let sized : length c.lead-4.new.links.items ≤ length c.lead-2.new.links.items =
+    omega (
+      arith,
+      s.sized,
+      c.lead.ensures.sized,
+      c.lead-2.ensures.sized,
+      c.lead-3.ensures.sized,
+      c.lead-4.ensures.sized,
+      c.self.inside.next.ok.0,
+      c.self.inside.previous.ok.0,
+      c.lead-2.new.links.ok.0,
+      c.lead-4.new.links.ok.0,
+    ) in
+    let long : length c.self.inside.previous.items ≡ length c.lead-4.new.links.items =
+    omega (
+      arith,
+      c.lead-3.ensures.sized,
+      c.lead-4.ensures.sized,
+      c.self.inside.previous.ok.0,
+      c.lead-4.new.links.ok.0,
+    ) in
+    let count : c.self.inside.count + 1 ≡ length xs + 1 =
+    ap (λ z. z + 1) (sym (length_walk E c.self.inside.next.items c.self.inside.first c.self.inside.count)) in
+    let at_end : c.end.result ≡ E = c.end.ensures.value in
+    let B : ℕ → Type 0 = λ z. (neighbor E c.lead.new.outer c.lead.new.links.items) z ≡ c.args.n in
+    let put =
+    is_put (neighbor E c.self.inside.first c.self.inside.next.items)
+    (neighbor E c.self.inside.last c.self.inside.previous.items) (neighbor E c.lead.new.outer c.lead.new.links.items)
+    (neighbor E c.lead-2.new.outer c.lead-2.new.links.items) (neighbor E c.lead-3.new.outer c.lead-3.new.links.items)
+    (neighbor E c.lead-4.new.outer c.lead-4.new.links.items) E c.args.n c.self.inside.first c.requires.real
+    (not_led c.self.inside.first (first_leads s)) (sym (neighbor_end E c.self.inside.first c.self.inside.next.items))
+    (subst B at_end c.lead.ensures.led) (λ k d. c.lead.ensures.others k (λ e. d (e ∙ at_end))) c.lead-2.ensures.led
+    c.lead-2.ensures.others (c.lead-3.ensures.led ∙ c.end-2.ensures.value) c.lead-3.ensures.others c.lead-4.ensures.led
+    c.lead-4.ensures.others in
+    put_first_linked s c.lead-2.new.links.items c.lead-4.new.links.items c.lead-2.new.outer c.lead-4.new.outer c.args.n
+    fresh low sized (omega (arith, long)) put (c.self.inside.count + 1) count
+
+pub returns : goal.returns
+returns g c =
+    let E : ℕ = g.Ix.IndexType.greatest in
+    let s = c.self.invariant in
+    let xs = nodes_from E c.self.inside.next.items c.self.inside.first c.self.inside.count in
+    let nodes : xs ≡ c.args.self.now.nodes = ap (λ (z : Listed). z.nodes) c.self.view_is in
+    let A : List ℕ → Type 0 = λ z. Mem c.args.n z in
+    let fresh : Mem c.args.n (E ∷ xs) → ⊥ = λ m. elim m [
+      | inl e ↦ c.requires.real e
+      | inr b ↦ c.requires.absent (mem_contains c.args.self.now.nodes c.args.n (subst A nodes b))
+    ] in
+    let low : c.args.n < length c.self.inside.previous.items =
+    omega (arith, c.requires.numbered, ap (λ (z : Listed). z.index_bound) c.self.view_is) in
+    let not_led : (q : ℕ) → Mem q (xs ++ E ∷ []) → c.args.n ≢ q = λ q m e. elim (mem_cases xs (E ∷ []) q m) [
+      | inl a ↦ fresh (inr (let B : ℕ → Type 0 = λ z. Mem z xs in subst B (sym e) a))
+      | inr b ↦ elim b [ inl is ↦ c.requires.real (e ∙ is) | inr none ↦ none ]
+    ] in
+    let sized : length c.lead-4.new.links.items ≤ length c.lead-2.new.links.items =
+    omega (
+      arith,
+      s.sized,
+      c.lead.ensures.sized,
+      c.lead-2.ensures.sized,
+      c.lead-3.ensures.sized,
+      c.lead-4.ensures.sized,
+      c.self.inside.next.ok.0,
+      c.self.inside.previous.ok.0,
+      c.lead-2.new.links.ok.0,
+      c.lead-4.new.links.ok.0,
+    ) in
+    let long : length c.self.inside.previous.items ≡ length c.lead-4.new.links.items =
+    omega (
+      arith,
+      c.lead-3.ensures.sized,
+      c.lead-4.ensures.sized,
+      c.self.inside.previous.ok.0,
+      c.lead-4.new.links.ok.0,
+    ) in
+    let count : c.self.inside.count + 1 ≡ length xs + 1 =
+    ap (λ z. z + 1) (sym (length_walk E c.self.inside.next.items c.self.inside.first c.self.inside.count)) in
+    let at_end : c.end.result ≡ E = c.end.ensures.value in
+    let B : ℕ → Type 0 = λ z. (neighbor E c.lead.new.outer c.lead.new.links.items) z ≡ c.args.n in
+    let put =
+    is_put (neighbor E c.self.inside.first c.self.inside.next.items)
+    (neighbor E c.self.inside.last c.self.inside.previous.items) (neighbor E c.lead.new.outer c.lead.new.links.items)
+    (neighbor E c.lead-2.new.outer c.lead-2.new.links.items) (neighbor E c.lead-3.new.outer c.lead-3.new.links.items)
+    (neighbor E c.lead-4.new.outer c.lead-4.new.links.items) E c.args.n c.self.inside.first c.requires.real
+    (not_led c.self.inside.first (first_leads s)) (sym (neighbor_end E c.self.inside.first c.self.inside.next.items))
+    (subst B at_end c.lead.ensures.led) (λ k d. c.lead.ensures.others k (λ e. d (e ∙ at_end))) c.lead-2.ensures.led
+    c.lead-2.ensures.others (c.lead-3.ensures.led ∙ c.end-2.ensures.value) c.lead-3.ensures.others c.lead-4.ensures.led
+    c.lead-4.ensures.others in
+    let is =
+    put_first_walked s c.lead-2.new.links.items c.lead-4.new.links.items c.lead-2.new.outer c.lead-4.new.outer c.args.n
+    fresh low sized (omega (arith, long)) put (c.self.inside.count + 1) count in
+    listed (is ∙ ap (λ (z : List ℕ). c.args.n ∷ z) nodes) (sym long ∙ ap (λ (z : Listed). z.index_bound) c.self.view_is)
+    (same_lesser (c.lead-2.ensures.capacity ∙ c.lead.ensures.capacity)
+    (c.lead-4.ensures.capacity ∙ c.lead-3.ensures.capacity) (ap (λ (z : Listed). z.capacity) c.self.view_is))
