@@ -1,5 +1,7 @@
 //! Commands that ask, and what a planner asks, of both kinds.
-use crate::tests::support::{Ask, Get, Scene, add_nodes, both, compact, e, n, play, same, stable};
+use crate::tests::support::{
+    Ask, Get, Row, Scene, add_nodes, both, compact, e, n, play, same, stable,
+};
 use daggy_base::index::EdgeIndex;
 use daggy_run::guarded::{GuardedDag, Kind};
 use std::alloc::Global;
@@ -7,45 +9,39 @@ use std::process::Abort;
 
 #[test]
 fn edges_are_found_and_their_ends_told(rt: HostRuntime) {
-    both(
-        &rt,
-        rt.alloc(),
-        Scene::Rows(&[
-            (Ask::Node(0), Get::Node(0)),
-            (Ask::Node(0), Get::Node(1)),
-            (Ask::Node(0), Get::Node(2)),
-            (
-                Ask::Edges(&[(0, 1, 0), (0, 2, 0), (0, 1, 0)]),
-                Get::Edges(&[0, 1, 2]),
-            ),
-            (Ask::Find(0, 1), Get::Found(2)),
-            (Ask::Find(1, 0), Get::NotFound),
-            (Ask::Find(9, 0), Get::NotFound),
-            (Ask::Ends(1), Get::Ends(0, 2)),
-            (Ask::Ends(9), Get::NoEnds),
-        ]),
-    );
+    const ROWS: &[Row<'static>] = &[
+        (Ask::Node(0), Get::Node(0)),
+        (Ask::Node(0), Get::Node(1)),
+        (Ask::Node(0), Get::Node(2)),
+        (
+            Ask::Edges(&[(0, 1, 0), (0, 2, 0), (0, 1, 0)]),
+            Get::Edges(&[0, 1, 2]),
+        ),
+        (Ask::Find(0, 1), Get::Found(2)),
+        (Ask::Find(1, 0), Get::NotFound),
+        (Ask::Find(9, 0), Get::NotFound),
+        (Ask::Ends(1), Get::Ends(0, 2)),
+        (Ask::Ends(9), Get::NoEnds),
+    ];
+    both(&rt, rt.alloc(), Scene::Rows(ROWS));
 }
 
 #[test]
 fn walks_run_newest_first(rt: HostRuntime) {
-    both(
-        &rt,
-        rt.alloc(),
-        Scene::Rows(&[
-            (Ask::Node(0), Get::Node(0)),
-            (Ask::Node(0), Get::Node(1)),
-            (Ask::Node(0), Get::Node(2)),
-            (
-                Ask::Edges(&[(0, 1, 0), (0, 2, 0), (1, 2, 0)]),
-                Get::Edges(&[0, 1, 2]),
-            ),
-            (Ask::Children(0), Get::Walk(&[(1, 2), (0, 1)])),
-            (Ask::Parents(2), Get::Walk(&[(2, 1), (1, 0)])),
-            (Ask::Parents(0), Get::Walk(&[])),
-            (Ask::Children(9), Get::Walk(&[])),
-        ]),
-    );
+    const ROWS: &[Row<'static>] = &[
+        (Ask::Node(0), Get::Node(0)),
+        (Ask::Node(0), Get::Node(1)),
+        (Ask::Node(0), Get::Node(2)),
+        (
+            Ask::Edges(&[(0, 1, 0), (0, 2, 0), (1, 2, 0)]),
+            Get::Edges(&[0, 1, 2]),
+        ),
+        (Ask::Children(0), Get::Walk(&[(1, 2), (0, 1)])),
+        (Ask::Parents(2), Get::Walk(&[(2, 1), (1, 0)])),
+        (Ask::Parents(0), Get::Walk(&[])),
+        (Ask::Children(9), Get::Walk(&[])),
+    ];
+    both(&rt, rt.alloc(), Scene::Rows(ROWS));
 }
 
 /// The edges that leave node 0, one by one.

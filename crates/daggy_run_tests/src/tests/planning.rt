@@ -25,8 +25,7 @@ pub fn plans<D: GuardedDag<u32, u32, u8>>(
 
 #[test]
 fn each_node_stands_behind_its_parents(rt: HostRuntime) {
-    // Two nodes before one, and one behind it that the first leads to as well.
-    let rows = &[
+    const ROWS: &[Row<'static>] = &[
         (Ask::Node(0), Get::Node(0)),
         (Ask::Node(0), Get::Node(1)),
         (Ask::Node(0), Get::Node(2)),
@@ -37,20 +36,21 @@ fn each_node_stands_behind_its_parents(rt: HostRuntime) {
             Get::Edges(&[0, 1, 2, 3]),
         ),
     ];
-    let scene = Scene::Plan(rows, &[&[0, 1, 3], &[2], &[4]], &[0, 2, 4]);
+    // Two nodes before one, and one behind it that the first leads to as well.
+    let scene = Scene::Plan(ROWS, &[&[0, 1, 3], &[2], &[4]], &[0, 2, 4]);
     both(&rt, rt.alloc(), scene);
 }
 
 #[test]
 fn a_removed_node_stands_nowhere(rt: HostRuntime) {
-    let rows = &[
+    const ROWS: &[Row<'static>] = &[
         (Ask::Node(1), Get::Node(0)),
         (Ask::Node(1), Get::Node(1)),
         (Ask::Node(1), Get::Node(2)),
         (Ask::Edge(2, 0, 1), Get::Edge(0)),
         (Ask::RemoveNode(1), Get::NodeGone(1)),
     ];
-    let scene = Scene::Plan(rows, &[&[2], &[0]], &[2, 0]);
+    let scene = Scene::Plan(ROWS, &[&[2], &[0]], &[2, 0]);
     stable(&rt, rt.alloc(), scene);
 }
 

@@ -25,23 +25,20 @@ pub fn run_all<D: GuardedDag<u32, u32, u8>>(
 
 #[test]
 fn commands_behind_a_refused_one_are_carried_out(rt: HostRuntime) {
-    both(
-        &rt,
-        rt.alloc(),
-        Scene::List(&[
-            (Ask::Node(1), Get::Node(0)),
-            (Ask::Edge(0, 1, 9), Get::Missing(Weights::Edge(9))),
-            (Ask::Child(0, 2, 3), Get::EdgeNode(0, 1)),
-            (Ask::Edge(1, 0, 5), Get::Cycle(5)),
-            (Ask::Edges(&[(0, 1, 8), (1, 0, 9)]), Get::CycleAll(&[9, 8])),
-            (
-                Ask::Edges(&[(0, 1, 8), (0, 9, 9)]),
-                Get::Missing(Weights::Edges(9, &[8])),
-            ),
-            (Ask::Update(0, 1, 7), Get::Edge(0)),
-            (Ask::Children(0), Get::Walk(&[(0, 1)])),
-        ]),
-    );
+    const ROWS: &[Row<'static>] = &[
+        (Ask::Node(1), Get::Node(0)),
+        (Ask::Edge(0, 1, 9), Get::Missing(Weights::Edge(9))),
+        (Ask::Child(0, 2, 3), Get::EdgeNode(0, 1)),
+        (Ask::Edge(1, 0, 5), Get::Cycle(5)),
+        (Ask::Edges(&[(0, 1, 8), (1, 0, 9)]), Get::CycleAll(&[9, 8])),
+        (
+            Ask::Edges(&[(0, 1, 8), (0, 9, 9)]),
+            Get::Missing(Weights::Edges(9, &[8])),
+        ),
+        (Ask::Update(0, 1, 7), Get::Edge(0)),
+        (Ask::Children(0), Get::Walk(&[(0, 1)])),
+    ];
+    both(&rt, rt.alloc(), Scene::List(ROWS));
 }
 
 #[test]

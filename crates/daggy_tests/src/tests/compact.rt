@@ -5,7 +5,6 @@ use super::kinds::{Compact, Plain, note};
 use super::support::{holds, same};
 use super::table::{Answer, Call, Row, play};
 use daggy_base::index::{Direction, EdgeIndex, NodeIndex};
-use daggy_callers::cursors::clear_weights;
 use std::cell::Cell;
 
 const AGAIN: [Row<'static>; 7] = [
@@ -45,27 +44,32 @@ fn capacity_that_no_machine_has_is_refused(rt: HostRuntime) {
 
 #[test]
 fn a_dag_with_capacity_begins_empty(rt: HostRuntime) {
-    let rows = &[
+    const ROWS: &[Row<'static>] = &[
         (Call::Counts, Answer::Counts(0, 0)),
         (Call::Node(1), Answer::Node(0)),
         (Call::Node(2), Answer::Node(1)),
         (Call::Edge(0, 1, 3), Answer::Edge(0)),
         (Call::Edge(1, 0, 4), Answer::Cycle(4)),
     ];
-    both(
-        &rt,
-        rt.alloc(),
-        &[],
-        &[
-            Act::Capacity(2, 1, rows),
-            Act::NoCapacity(usize::MAX, 0),
-            Act::NoCapacity(0, usize::MAX),
-        ],
-    );
+    const ACTS: &[Act<'static>] = &[
+        Act::Capacity(2, 1, ROWS),
+        Act::NoCapacity(usize::MAX, 0),
+        Act::NoCapacity(0, usize::MAX),
+    ];
+    both(&rt, rt.alloc(), &[], ACTS);
 }
 
 #[test]
 fn an_update_shows_each_node_or_each_edge(rt: HostRuntime) {
+    const ROWS: &[Row<'static>] = &[
+        (Call::Weight(0), Answer::Weight(20)),
+        (Call::Weight(1), Answer::Weight(22)),
+        (Call::Weight(2), Answer::Weight(24)),
+        (Call::Stored(0), Answer::Stored(0, 1, 101)),
+        (Call::Stored(1), Answer::Stored(0, 2, 102)),
+        (Call::Stored(2), Answer::Stored(1, 2, 103)),
+        (Call::Edge(2, 0, 7), Answer::Cycle(7)),
+    ];
     let mut dag: Plain<Compact> = dag_of(&rt, rt.alloc(), &TRIANGLE);
     let calls = Cell::new(0);
     dag.update_node_weights(|n, weight| {
@@ -78,20 +82,7 @@ fn an_update_shows_each_node_or_each_edge(rt: HostRuntime) {
         *weight = weight.wrapping_add(1);
     });
     same(&rt, calls.get(), 202122);
-    play(
-        &rt,
-        rt.alloc(),
-        &mut dag,
-        &[
-            (Call::Weight(0), Answer::Weight(20)),
-            (Call::Weight(1), Answer::Weight(22)),
-            (Call::Weight(2), Answer::Weight(24)),
-            (Call::Stored(0), Answer::Stored(0, 1, 101)),
-            (Call::Stored(1), Answer::Stored(0, 2, 102)),
-            (Call::Stored(2), Answer::Stored(1, 2, 103)),
-            (Call::Edge(2, 0, 7), Answer::Cycle(7)),
-        ],
-    );
+    play(&rt, rt.alloc(), &mut dag, ROWS);
 }
 
 #[test]
@@ -110,6 +101,12 @@ fn slices_follow_a_removal(rt: HostRuntime) {
 
 #[test]
 fn weights_are_lent_in_order(rt: HostRuntime) {
+    const ROWS: &[Row<'static>] = &[
+        (Call::Weight(0), Answer::Weight(10)),
+        (Call::Weight(1), Answer::Weight(21)),
+        (Call::Stored(0), Answer::Stored(0, 1, 100)),
+        (Call::Stored(1), Answer::Stored(0, 2, 30)),
+    ];
     let mut dag: Plain<Compact> = dag_of(&rt, rt.alloc(), &TRIANGLE);
     let mut nodes = dag.node_weights_mut();
     same(&rt, nodes.next().copied(), Some(10));
@@ -125,25 +122,5 @@ fn weights_are_lent_in_order(rt: HostRuntime) {
     }
     same(&rt, edges.next().copied(), Some(102));
     same(&rt, edges.next().copied(), None);
-    play(
-        &rt,
-        rt.alloc(),
-        &mut dag,
-        &[
-            (Call::Weight(0), Answer::Weight(10)),
-            (Call::Weight(1), Answer::Weight(21)),
-            (Call::Stored(0), Answer::Stored(0, 1, 100)),
-            (Call::Stored(1), Answer::Stored(0, 2, 30)),
-        ],
-    );
-    clear_weights(&mut dag);
-    play(
-        &rt,
-        rt.alloc(),
-        &mut dag,
-        &[
-            (Call::Weight(0), Answer::Weight(0)),
-            (Call::Weight(1), Answer::Weight(0)),
-        ],
-    );
+    play(&rt, rt.alloc(), &mut dag, ROWS);
 }

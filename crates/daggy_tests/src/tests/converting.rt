@@ -53,15 +53,12 @@ fn a_dag_converts_to_a_graph(rt: HostRuntime) {
 
 #[test]
 fn a_dag_gives_its_order_away(rt: HostRuntime) {
-    let dag: Dag<u32, u32, u8> = dag_of(
-        &rt,
-        rt.alloc(),
-        &[
-            (Call::Node(1), Answer::Node(0)),
-            (Call::Node(3), Answer::Node(1)),
-            (Call::Edge(1, 0, 2), Answer::Edge(0)),
-        ],
-    );
+    const ROWS: &[Row<'static>] = &[
+        (Call::Node(1), Answer::Node(0)),
+        (Call::Node(3), Answer::Node(1)),
+        (Call::Edge(1, 0, 2), Answer::Edge(0)),
+    ];
+    let dag: Dag<u32, u32, u8> = dag_of(&rt, rt.alloc(), ROWS);
     let (graph, order) = dag.into_parts();
     same(&rt, graph.edge_count(), 1);
     same(&rt, order.len(), 2);
@@ -70,36 +67,29 @@ fn a_dag_gives_its_order_away(rt: HostRuntime) {
 
 #[test]
 fn a_compact_dag_keeps_its_lists(rt: HostRuntime) {
-    let compact: Dag<u32, u32, u8> = dag_of(
-        &rt,
-        rt.alloc(),
-        &[
-            (Call::Node(0), Answer::Node(0)),
-            (Call::Node(1), Answer::Node(1)),
-            (Call::Node(2), Answer::Node(2)),
-            (
-                Call::Edges(&[(0, 1, 4), (0, 2, 5), (0, 1, 6)]),
-                Answer::Edges(&[0, 1, 2]),
-            ),
-            (Call::RemoveEdge(0), Answer::Weight(4)),
-        ],
-    );
+    const ROWS: &[Row<'static>] = &[
+        (Call::Node(0), Answer::Node(0)),
+        (Call::Node(1), Answer::Node(1)),
+        (Call::Node(2), Answer::Node(2)),
+        (
+            Call::Edges(&[(0, 1, 4), (0, 2, 5), (0, 1, 6)]),
+            Answer::Edges(&[0, 1, 2]),
+        ),
+        (Call::RemoveEdge(0), Answer::Weight(4)),
+    ];
+    const AFTER: &[Row<'static>] = &[
+        (Call::Children(0), Answer::Walk(&[(0, 1), (1, 2)])),
+        (Call::Counts, Answer::Counts(3, 2)),
+        (Call::Weight(2), Answer::Weight(2)),
+        (Call::Stored(0), Answer::Stored(0, 1, 6)),
+        (Call::Stored(1), Answer::Stored(0, 2, 5)),
+        (Call::Edge(1, 2, 7), Answer::Edge(2)),
+        (Call::Node(3), Answer::Node(3)),
+        (Call::Edge(2, 0, 8), Answer::Cycle(8)),
+    ];
+    let compact: Dag<u32, u32, u8> = dag_of(&rt, rt.alloc(), ROWS);
     let mut dag = made(&rt, StableDag::from_dag(compact));
-    play(
-        &rt,
-        rt.alloc(),
-        &mut dag,
-        &[
-            (Call::Children(0), Answer::Walk(&[(0, 1), (1, 2)])),
-            (Call::Counts, Answer::Counts(3, 2)),
-            (Call::Weight(2), Answer::Weight(2)),
-            (Call::Stored(0), Answer::Stored(0, 1, 6)),
-            (Call::Stored(1), Answer::Stored(0, 2, 5)),
-            (Call::Edge(1, 2, 7), Answer::Edge(2)),
-            (Call::Node(3), Answer::Node(3)),
-            (Call::Edge(2, 0, 8), Answer::Cycle(8)),
-        ],
-    );
+    play(&rt, rt.alloc(), &mut dag, AFTER);
 }
 
 // A struct of a user's own, which derives its copies.
@@ -111,19 +101,15 @@ struct Named<D> {
 
 #[test]
 fn a_struct_that_holds_a_dag_is_cloned(rt: HostRuntime) {
+    const ROWS: &[Row<'static>] = &[
+        (Call::Weight(1), Answer::Weight(3)),
+        (Call::Stored(0), Answer::Stored(0, 1, 2)),
+        (Call::Edge(0, 1, 5), Answer::Edge(1)),
+    ];
     let dag: Plain<Stable> = pair(&rt, rt.alloc());
     let named = Named { dag, name: 7 };
     let mut copy = made(&rt, named.clone());
     same(&rt, copy.name, named.name);
-    play(
-        &rt,
-        rt.alloc(),
-        &mut copy.dag,
-        &[
-            (Call::Weight(1), Answer::Weight(3)),
-            (Call::Stored(0), Answer::Stored(0, 1, 2)),
-            (Call::Edge(0, 1, 5), Answer::Edge(1)),
-        ],
-    );
+    play(&rt, rt.alloc(), &mut copy.dag, ROWS);
     same(&rt, named.dag.edge_count(), 1);
 }

@@ -1,59 +1,47 @@
 //! Iterators over all of a graph and over the lists of a node, of the dag.
 use super::acts::{Act, TRIANGLE, both, dag_of, stable};
 use super::kinds::{Plain, Stable};
-use super::support::{same, shows};
-use super::table::{self, Answer, Call, Scene};
+use super::support::{holds, same, shows};
+use super::table::{self, Answer, Call, Row, Scene};
 use daggy_base::index::{Direction, NodeIndex};
 
 #[test]
 fn all_nodes_and_edges_of_a_dag_are_gone_through(rt: HostRuntime) {
-    both(
-        &rt,
-        rt.alloc(),
-        &TRIANGLE,
-        &[Act::Through(
-            &[(0, 10), (1, 11), (2, 12)],
-            &[(0, 0, 1, 100), (1, 0, 2, 101), (2, 1, 2, 102)],
-        )],
-    );
+    const ACTS: &[Act<'static>] = &[Act::Through(
+        &[(0, 10), (1, 11), (2, 12)],
+        &[(0, 0, 1, 100), (1, 0, 2, 101), (2, 1, 2, 102)],
+    )];
+    both(&rt, rt.alloc(), &TRIANGLE, ACTS);
 }
 
 #[test]
 fn vacant_slots_are_passed_over(rt: HostRuntime) {
-    stable(
-        &rt,
-        rt.alloc(),
-        &TRIANGLE,
-        &[
-            Act::Rows(&[(Call::RemoveNode(1), Answer::Weight(11))]),
-            Act::Through(&[(0, 10), (2, 12)], &[(1, 0, 2, 101)]),
-        ],
-    );
+    const ACTS: &[Act<'static>] = &[
+        Act::Rows(&[(Call::RemoveNode(1), Answer::Weight(11))]),
+        Act::Through(&[(0, 10), (2, 12)], &[(1, 0, 2, 101)]),
+    ];
+    stable(&rt, rt.alloc(), &TRIANGLE, ACTS);
 }
 
 #[test]
 fn lists_of_a_dag_are_gone_through(rt: HostRuntime) {
-    both(
-        &rt,
-        rt.alloc(),
-        &TRIANGLE,
-        &[
-            Act::Along(0, None, &[2, 1], &[(1, 0, 2, 101), (0, 0, 1, 100)]),
-            Act::Along(
-                2,
-                Some(Direction::Incoming),
-                &[1, 0],
-                &[(2, 1, 2, 102), (1, 0, 2, 101)],
-            ),
-            Act::Along(
-                0,
-                Some(Direction::Outgoing),
-                &[2, 1],
-                &[(1, 0, 2, 101), (0, 0, 1, 100)],
-            ),
-            Act::Along(9, None, &[], &[]),
-        ],
-    );
+    const ACTS: &[Act<'static>] = &[
+        Act::Along(0, None, &[2, 1], &[(1, 0, 2, 101), (0, 0, 1, 100)]),
+        Act::Along(
+            2,
+            Some(Direction::Incoming),
+            &[1, 0],
+            &[(2, 1, 2, 102), (1, 0, 2, 101)],
+        ),
+        Act::Along(
+            0,
+            Some(Direction::Outgoing),
+            &[2, 1],
+            &[(1, 0, 2, 101), (0, 0, 1, 100)],
+        ),
+        Act::Along(9, None, &[], &[]),
+    ];
+    both(&rt, rt.alloc(), &TRIANGLE, ACTS);
 }
 
 #[test]
@@ -68,38 +56,34 @@ fn a_stable_dag_tells_how_many_slots_may_follow(rt: HostRuntime) {
 
 #[test]
 fn roots_and_leaves_are_found(rt: HostRuntime) {
-    let roots = Direction::Outgoing.opposite();
-    let leaves = Direction::Outgoing;
+    const ROWS: &[Row<'static>] = &[
+        (Call::Externals(Direction::Incoming), Answer::Nodes(&[0])),
+        (Call::Externals(Direction::Outgoing), Answer::Nodes(&[2])),
+        (Call::ClearEdges, Answer::Done),
+        (
+            Call::Externals(Direction::Incoming),
+            Answer::Nodes(&[0, 1, 2]),
+        ),
+        (Call::Clear, Answer::Done),
+        (Call::Externals(Direction::Incoming), Answer::Nodes(&[])),
+    ];
+    holds(&rt, Direction::Outgoing.opposite() == Direction::Incoming);
     table::both(
         &rt,
         rt.alloc(),
-        Scene::OfPairs(
-            &[(0, 1), (0, 2), (1, 2)],
-            Answer::Done,
-            &[
-                (Call::Externals(roots), Answer::Nodes(&[0])),
-                (Call::Externals(leaves), Answer::Nodes(&[2])),
-                (Call::ClearEdges, Answer::Done),
-                (Call::Externals(roots), Answer::Nodes(&[0, 1, 2])),
-                (Call::Clear, Answer::Done),
-                (Call::Externals(roots), Answer::Nodes(&[])),
-            ],
-        ),
+        Scene::OfPairs(&[(0, 1), (0, 2), (1, 2)], Answer::Done, ROWS),
     );
 }
 
 #[test]
 fn a_vacant_slot_is_no_root(rt: HostRuntime) {
+    const ROWS: &[Row<'static>] = &[
+        (Call::RemoveNode(0), Answer::Weight(0)),
+        (Call::Externals(Direction::Incoming), Answer::Nodes(&[1])),
+    ];
     table::stable(
         &rt,
         rt.alloc(),
-        Scene::OfPairs(
-            &[(0, 1), (0, 2), (1, 2)],
-            Answer::Done,
-            &[
-                (Call::RemoveNode(0), Answer::Weight(0)),
-                (Call::Externals(Direction::Incoming), Answer::Nodes(&[1])),
-            ],
-        ),
+        Scene::OfPairs(&[(0, 1), (0, 2), (1, 2)], Answer::Done, ROWS),
     );
 }

@@ -2,7 +2,7 @@
 use super::ordering::indices;
 use super::support::{made, node, same};
 use super::table::{
-    Answer, Call, Part, Scene, both, edge_added, fill_nodes, is, items, play_row, walk,
+    Answer, Call, Part, Row, Scene, both, edge_added, fill_nodes, is, items, play_row, walk,
 };
 use daggy_base::error::EdgesError;
 use daggy_base::index::IndexType;
@@ -14,73 +14,64 @@ use std::process::Abort;
 
 #[test]
 fn a_series_gives_its_indices_in_order(rt: HostRuntime) {
-    both(
-        &rt,
-        rt.alloc(),
-        Scene::Rows(&[
-            (Call::Node(0), Answer::Node(0)),
-            (Call::Node(1), Answer::Node(1)),
-            (Call::Node(2), Answer::Node(2)),
-            (Call::Node(3), Answer::Node(3)),
-            (Call::Edges(&[]), Answer::Edges(&[])),
-            (
-                Call::Edges(&[(0, 1, 0), (0, 2, 1), (0, 3, 2)]),
-                Answer::Edges(&[0, 1, 2]),
-            ),
-            (Call::Stored(1), Answer::Stored(0, 2, 1)),
-            (Call::Find(0, 2), Answer::Edge(1)),
-            (Call::Children(0), Answer::Walk(&[(2, 3), (1, 2), (0, 1)])),
-            (Call::Edge(3, 0, 0), Answer::Cycle(0)),
-        ]),
-    );
+    const ROWS: &[Row<'static>] = &[
+        (Call::Node(0), Answer::Node(0)),
+        (Call::Node(1), Answer::Node(1)),
+        (Call::Node(2), Answer::Node(2)),
+        (Call::Node(3), Answer::Node(3)),
+        (Call::Edges(&[]), Answer::Edges(&[])),
+        (
+            Call::Edges(&[(0, 1, 0), (0, 2, 1), (0, 3, 2)]),
+            Answer::Edges(&[0, 1, 2]),
+        ),
+        (Call::Stored(1), Answer::Stored(0, 2, 1)),
+        (Call::Find(0, 2), Answer::Edge(1)),
+        (Call::Children(0), Answer::Walk(&[(2, 3), (1, 2), (0, 1)])),
+        (Call::Edge(3, 0, 0), Answer::Cycle(0)),
+    ];
+    both(&rt, rt.alloc(), Scene::Rows(ROWS));
 }
 
 #[test]
 fn a_series_that_closes_a_cycle_adds_nothing(rt: HostRuntime) {
-    both(
-        &rt,
-        rt.alloc(),
-        Scene::Rows(&[
-            (Call::Node(0), Answer::Node(0)),
-            (Call::Node(1), Answer::Node(1)),
-            (Call::Node(2), Answer::Node(2)),
-            (Call::Node(3), Answer::Node(3)),
-            (
-                Call::Edges(&[(0, 1, 0), (0, 2, 1), (0, 3, 2), (3, 3, 3)]),
-                Answer::CycleAll(&[3, 2, 1, 0]),
-            ),
-            (
-                Call::Edges(&[(0, 1, 0), (0, 2, 1), (0, 3, 2), (3, 0, 3)]),
-                Answer::CycleAll(&[3, 2, 1, 0]),
-            ),
-            (Call::Counts, Answer::Counts(4, 0)),
-            (Call::Children(0), Answer::Walk(&[])),
-            (Call::Children(3), Answer::Walk(&[])),
-            (Call::Parents(0), Answer::Walk(&[])),
-            (Call::Parents(1), Answer::Walk(&[])),
-            (Call::Parents(3), Answer::Walk(&[])),
-        ]),
-    );
+    const ROWS: &[Row<'static>] = &[
+        (Call::Node(0), Answer::Node(0)),
+        (Call::Node(1), Answer::Node(1)),
+        (Call::Node(2), Answer::Node(2)),
+        (Call::Node(3), Answer::Node(3)),
+        (
+            Call::Edges(&[(0, 1, 0), (0, 2, 1), (0, 3, 2), (3, 3, 3)]),
+            Answer::CycleAll(&[3, 2, 1, 0]),
+        ),
+        (
+            Call::Edges(&[(0, 1, 0), (0, 2, 1), (0, 3, 2), (3, 0, 3)]),
+            Answer::CycleAll(&[3, 2, 1, 0]),
+        ),
+        (Call::Counts, Answer::Counts(4, 0)),
+        (Call::Children(0), Answer::Walk(&[])),
+        (Call::Children(3), Answer::Walk(&[])),
+        (Call::Parents(0), Answer::Walk(&[])),
+        (Call::Parents(1), Answer::Walk(&[])),
+        (Call::Parents(3), Answer::Walk(&[])),
+    ];
+    both(&rt, rt.alloc(), Scene::Rows(ROWS));
 }
 
 #[test]
 fn a_cycle_in_the_middle_of_a_series_is_found_at_its_end(rt: HostRuntime) {
-    both(
-        &rt,
-        rt.alloc(),
-        Scene::Rows(&[
-            (Call::Node(0), Answer::Node(0)),
-            (Call::Node(1), Answer::Node(1)),
-            (Call::Node(2), Answer::Node(2)),
-            (Call::Edges(&[(0, 1, 1)]), Answer::Edges(&[0])),
-            (
-                Call::Edges(&[(1, 2, 2), (2, 0, 3), (0, 2, 4)]),
-                Answer::CycleAll(&[4, 3, 2]),
-            ),
-            (Call::Children(0), Answer::Walk(&[(0, 1)])),
-            (Call::Children(1), Answer::Walk(&[])),
-        ]),
-    );
+    const ROWS: &[Row<'static>] = &[
+        (Call::Node(0), Answer::Node(0)),
+        (Call::Node(1), Answer::Node(1)),
+        (Call::Node(2), Answer::Node(2)),
+        (Call::Edges(&[(0, 1, 1)]), Answer::Edges(&[0])),
+        (
+            Call::Edges(&[(1, 2, 2), (2, 0, 3), (0, 2, 4)]),
+            Answer::CycleAll(&[4, 3, 2]),
+        ),
+        (Call::Children(0), Answer::Walk(&[(0, 1)])),
+        (Call::Children(1), Answer::Walk(&[])),
+    ];
+    both(&rt, rt.alloc(), Scene::Rows(ROWS));
 }
 
 /// A series ends at the first item at fault, and its iterator still holds what comes after.
@@ -130,36 +121,30 @@ fn an_extension_keeps_what_it_made(rt: HostRuntime) {
 
 #[test]
 fn an_extension_makes_the_nodes_before_an_end(rt: HostRuntime) {
-    both(
-        &rt,
-        rt.alloc(),
-        Scene::Rows(&[
-            (Call::Extend(&[(0, 1, 5), (5, 5, 6)]), Answer::Cycle(6)),
-            (Call::Counts, Answer::Counts(6, 1)),
-            (Call::Stored(0), Answer::Stored(0, 1, 5)),
-        ]),
-    );
+    const ROWS: &[Row<'static>] = &[
+        (Call::Extend(&[(0, 1, 5), (5, 5, 6)]), Answer::Cycle(6)),
+        (Call::Counts, Answer::Counts(6, 1)),
+        (Call::Stored(0), Answer::Stored(0, 1, 5)),
+    ];
+    both(&rt, rt.alloc(), Scene::Rows(ROWS));
 }
 
 #[test]
 fn an_extension_needs_an_index_for_each_node_and_edge(rt: HostRuntime) {
-    both(
-        &rt,
-        rt.alloc(),
-        Scene::Rows(&[
-            (Call::Extend(&[(0, 255, 4)]), Answer::NoIndex(4)),
-            (Call::Counts, Answer::Counts(0, 0)),
-            (Call::Extend(&[(0, 254, 0)]), Answer::Done),
-            (Call::Counts, Answer::Counts(255, 1)),
-        ]),
-    );
-    let rows = &[(Call::Extend(&[(0, 2, 3)]), Answer::NoIndex(3))];
-    both(&rt, rt.alloc(), Scene::FullOfEdges(rows));
+    const ROWS: &[Row<'static>] = &[
+        (Call::Extend(&[(0, 255, 4)]), Answer::NoIndex(4)),
+        (Call::Counts, Answer::Counts(0, 0)),
+        (Call::Extend(&[(0, 254, 0)]), Answer::Done),
+        (Call::Counts, Answer::Counts(255, 1)),
+    ];
+    const FULL: &[Row<'static>] = &[(Call::Extend(&[(0, 2, 3)]), Answer::NoIndex(3))];
+    both(&rt, rt.alloc(), Scene::Rows(ROWS));
+    both(&rt, rt.alloc(), Scene::FullOfEdges(FULL));
 }
 
 #[test]
 fn a_dag_is_made_of_edges(rt: HostRuntime) {
-    let rows = &[
+    const ROWS: &[Row<'static>] = &[
         (Call::Counts, Answer::Counts(3, 3)),
         (Call::Weight(2), Answer::Weight(0)),
         (Call::Children(0), Answer::Walk(&[(2, 2), (0, 1)])),
@@ -168,7 +153,7 @@ fn a_dag_is_made_of_edges(rt: HostRuntime) {
     both(
         &rt,
         rt.alloc(),
-        Scene::OfPairs(&[(0, 1), (1, 2), (0, 2)], Answer::Done, rows),
+        Scene::OfPairs(&[(0, 1), (1, 2), (0, 2)], Answer::Done, ROWS),
     );
 }
 
@@ -183,33 +168,33 @@ fn edges_that_close_a_cycle_make_no_dag(rt: HostRuntime) {
 
 #[test]
 fn elements_are_nodes_and_edges_by_position(rt: HostRuntime) {
-    let parts = &[
+    const PARTS: &[Part] = &[
         Part::Node(1),
         Part::Node(2),
         Part::Edge(0, 1, 7),
         Part::Edge(0, 1, 8),
     ];
-    let rows = &[
+    const ROWS: &[Row<'static>] = &[
         (Call::Counts, Answer::Counts(2, 1)),
         (Call::Weight(1), Answer::Weight(2)),
         (Call::Stored(0), Answer::Stored(0, 1, 8)),
     ];
-    both(&rt, rt.alloc(), Scene::OfParts(parts, Answer::Done, rows));
+    both(&rt, rt.alloc(), Scene::OfParts(PARTS, Answer::Done, ROWS));
 }
 
 #[test]
 fn an_element_needs_the_nodes_at_its_ends(rt: HostRuntime) {
-    let parts = &[Part::Node(1), Part::Edge(300, 0, 9)];
+    const PARTS: &[Part] = &[Part::Node(1), Part::Edge(300, 0, 9)];
     both(
         &rt,
         rt.alloc(),
-        Scene::OfParts(parts, Answer::NoEnd(9), &[]),
+        Scene::OfParts(PARTS, Answer::NoEnd(9), &[]),
     );
 }
 
 #[test]
 fn an_element_that_closes_a_cycle_is_refused(rt: HostRuntime) {
-    let parts = &[
+    const PARTS: &[Part] = &[
         Part::Node(1),
         Part::Node(2),
         Part::Edge(0, 1, 7),
@@ -218,7 +203,7 @@ fn an_element_that_closes_a_cycle_is_refused(rt: HostRuntime) {
     both(
         &rt,
         rt.alloc(),
-        Scene::OfParts(parts, Answer::Cycle(4), &[]),
+        Scene::OfParts(PARTS, Answer::Cycle(4), &[]),
     );
 }
 

@@ -1,7 +1,7 @@
 //! The order of its nodes that a dag keeps, where its edges allow but one.
 use super::support::{made, node, same};
 use super::table::{
-    Answer, Call, Scene, both, compact, edge_added, fill_nodes, is, play_row, stable,
+    Answer, Call, Row, Scene, both, compact, edge_added, fill_nodes, is, play_row, stable,
 };
 use daggy_base::index::IndexType;
 use daggy_base::store::Store;
@@ -29,32 +29,26 @@ fn an_order_tells_its_length(rt: HostRuntime) {
 
 #[test]
 fn what_is_removed_leaves_the_order(rt: HostRuntime) {
-    compact(
-        &rt,
-        rt.alloc(),
-        Scene::Rows(&[
-            (Call::Node(10), Answer::Node(0)),
-            (Call::Child(0, 1, 11), Answer::EdgeNode(0, 1)),
-            (Call::Parent(0, 2, 12), Answer::EdgeNode(1, 2)),
-            (Call::Order, Answer::Nodes(&[2, 0, 1])),
-            // The last node gets the index that is gone.
-            (Call::RemoveNode(0), Answer::Weight(10)),
-            (Call::Order, Answer::Nodes(&[0, 1])),
-            (Call::Clear, Answer::Done),
-            (Call::Order, Answer::Nodes(&[])),
-        ]),
-    );
-    stable(
-        &rt,
-        rt.alloc(),
-        Scene::Rows(&[
-            (Call::Node(10), Answer::Node(0)),
-            (Call::Child(0, 1, 11), Answer::EdgeNode(0, 1)),
-            (Call::Parent(0, 2, 12), Answer::EdgeNode(1, 2)),
-            (Call::RemoveNode(0), Answer::Weight(10)),
-            (Call::Order, Answer::Nodes(&[2, 1])),
-        ]),
-    );
+    const ROWS: &[Row<'static>] = &[
+        (Call::Node(10), Answer::Node(0)),
+        (Call::Child(0, 1, 11), Answer::EdgeNode(0, 1)),
+        (Call::Parent(0, 2, 12), Answer::EdgeNode(1, 2)),
+        (Call::Order, Answer::Nodes(&[2, 0, 1])),
+        // The last node gets the index that is gone.
+        (Call::RemoveNode(0), Answer::Weight(10)),
+        (Call::Order, Answer::Nodes(&[0, 1])),
+        (Call::Clear, Answer::Done),
+        (Call::Order, Answer::Nodes(&[])),
+    ];
+    const AFTER: &[Row<'static>] = &[
+        (Call::Node(10), Answer::Node(0)),
+        (Call::Child(0, 1, 11), Answer::EdgeNode(0, 1)),
+        (Call::Parent(0, 2, 12), Answer::EdgeNode(1, 2)),
+        (Call::RemoveNode(0), Answer::Weight(10)),
+        (Call::Order, Answer::Nodes(&[2, 1])),
+    ];
+    compact(&rt, rt.alloc(), Scene::Rows(ROWS));
+    stable(&rt, rt.alloc(), Scene::Rows(AFTER));
 }
 
 // So many edges that they are sorted at the end: one beside the other from 0 to 1, and then a path

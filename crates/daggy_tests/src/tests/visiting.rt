@@ -160,24 +160,21 @@ pub fn reset<S: Kind>(rt: &impl Abort, dag: &mut Plain<S>, more: u32) {
 
 #[test]
 fn generic_code_reads_and_writes_a_dag(rt: HostRuntime) {
-    both(
-        &rt,
-        rt.alloc(),
-        &THREE,
-        &[
-            Act::Read,
-            Act::Write(1, 21, 0, 6),
-            Act::Rows(&[
-                (Call::Weight(1), Answer::Weight(21)),
-                (Call::Stored(0), Answer::Stored(0, 1, 6)),
-            ]),
-        ],
-    );
+    const ACTS: &[Act<'static>] = &[
+        Act::Read,
+        Act::Write(1, 21, 0, 6),
+        Act::Rows(&[
+            (Call::Weight(1), Answer::Weight(21)),
+            (Call::Stored(0), Answer::Stored(0, 1, 6)),
+        ]),
+    ];
+    both(&rt, rt.alloc(), &THREE, ACTS);
 }
 
 #[test]
 fn a_set_is_reset_for_more_nodes(rt: HostRuntime) {
-    both(&rt, rt.alloc(), &[], &[Act::Reset(70)]);
+    const ACTS: &[Act<'static>] = &[Act::Reset(70)];
+    both(&rt, rt.alloc(), &[], ACTS);
 }
 
 const FIRST_GONE: [Row<'static>; 2] = [
@@ -192,40 +189,30 @@ const LAST_GONE: [Row<'static>; 2] = [
 
 #[test]
 fn a_set_reaches_to_the_bound(rt: HostRuntime) {
-    stable(
-        &rt,
-        rt.alloc(),
-        &THREE,
-        &[Act::Rows(&FIRST_GONE), Act::Visit(2)],
-    );
+    const ACTS: &[Act<'static>] = &[Act::Rows(&FIRST_GONE), Act::Visit(2)];
+    stable(&rt, rt.alloc(), &THREE, ACTS);
 }
 
 #[test]
 fn a_set_reaches_to_the_last_that_is_left(rt: HostRuntime) {
-    stable(
-        &rt,
-        rt.alloc(),
-        &THREE,
-        &[Act::Rows(&LAST_GONE), Act::Visit(1)],
-    );
+    const ACTS: &[Act<'static>] = &[Act::Rows(&LAST_GONE), Act::Visit(1)];
+    stable(&rt, rt.alloc(), &THREE, ACTS);
 }
 
 #[test]
 fn bounds_end_with_the_last_in_use(rt: HostRuntime) {
-    let edges = &[(0, 1, 100), (1, 2, 101), (0, 2, 102)];
-    stable(
-        &rt,
-        rt.alloc(),
-        &[
-            (Call::Extend(edges), Answer::Done),
-            (Call::RemoveNode(1), Answer::Weight(0)),
-            (Call::Bounds, Answer::Counts(3, 3)),
-            (Call::RemoveNode(2), Answer::Weight(0)),
-            (Call::Bounds, Answer::Counts(1, 0)),
-            (Call::Node(5), Answer::Node(2)),
-        ],
-        &[],
-    );
+    const ROWS: &[Row<'static>] = &[
+        (
+            Call::Extend(&[(0, 1, 100), (1, 2, 101), (0, 2, 102)]),
+            Answer::Done,
+        ),
+        (Call::RemoveNode(1), Answer::Weight(0)),
+        (Call::Bounds, Answer::Counts(3, 3)),
+        (Call::RemoveNode(2), Answer::Weight(0)),
+        (Call::Bounds, Answer::Counts(1, 0)),
+        (Call::Node(5), Answer::Node(2)),
+    ];
+    stable(&rt, rt.alloc(), ROWS, &[]);
 }
 
 #[test]
