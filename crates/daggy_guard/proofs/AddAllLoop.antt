@@ -255,35 +255,40 @@ module _ {I N E : Type 0} {number : I → ℕ} {limit : ℕ} {kind : Kind} {befo
       → back ≡ weights_back batch.given
   handed_back is = is ∙ ap reverse (weights_numbered number batch.given)
 
-  first_fault : {S : Type 0} (gives : S → Option (I × I × E) → S → Type 0) (items rest : S) (x : I × I × E)
-      (IsCause : Graph N E → NewEdge E → Type 0) (last : E) (back : List E)
-      → Yields gives items (batch.given ++ x ∷ []) rest → IsCause batch.graph (by_numbers number x) → last ≡ x.2
-      → back ≡ reverse (map (λ (x : NewEdge E). x.2) (map (by_numbers number) batch.given))
-      → IsFirstFault number limit gives items IsCause before.graph last back
-  first_fault gives items rest x IsCause last back asked at last_is returned =
-      let P : Graph N E → Type 0 = λ z. IsCause z (by_numbers number x) in
-      record {
-        given = batch.given;
-        at = x;
-        rest = rest;
-        asked = asked;
-        faultless = s.faultless;
-        cause = subst P s.series.now_is at;
-        last_is = last_is;
-        before_is = handed_back returned;
-      }
+  -- the item that the iterator gave after those of the batch
+  pub record NextItem {S : Type 0} (gives : S → Option (I × I × E) → S → Type 0) (items : S) : Type 0 where
+    pub item : I × I × E
+    pub rest : S
+    pub asked : Yields gives items (batch.given ++ item ∷ []) rest
 
-  pub refused_at : {S : Type 0} (gives : S → Option (I × I × E) → S → Type 0) (items rest : S) (x : I × I × E)
+  -- it is at fault, and the weights of the batch were handed back
+  module _ {S : Type 0} {gives : S → Option (I × I × E) → S → Type 0} {items : S} (next : NextItem gives items)
+      {back : List E} (returned : back ≡ reverse (map (λ (x : NewEdge E). x.2) (map (by_numbers number) batch.given)))
+    where
+      first_fault : (IsCause : Graph N E → NewEdge E → Type 0) (last : E)
+          → IsCause batch.graph (by_numbers number next.item) → last ≡ next.item.2
+          → IsFirstFault number limit gives items IsCause before.graph last back
+      first_fault IsCause last at last_is =
+          let P : Graph N E → Type 0 = λ z. IsCause z (by_numbers number next.item) in
+          record {
+            given = batch.given;
+            at = next.item;
+            rest = next.rest;
+            asked = next.asked;
+            faultless = s.faultless;
+            cause = subst P s.series.now_is at;
+            last_is = last_is;
+            before_is = handed_back returned;
+          }
+
+  pub refused_at : {S : Type 0} {gives : S → Option (I × I × E) → S → Type 0} {items : S} (next : NextItem gives items)
       (fault : Fault E) (back : Vec E Global)
-      → Yields gives items (batch.given ++ x ∷ []) rest → IsFault limit batch.graph (by_numbers number x) fault
       → back.items ≡ reverse (map (λ (x : NewEdge E). x.2) (map (by_numbers number) batch.given))
+      → IsFault limit batch.graph (by_numbers number next.item) fault
       → IsRefused number limit gives items before.graph (refusal fault back)
-  refused_at gives items rest x (BadEndpoint w) back asked at returned =
-      first_fault gives items rest x LacksEnd w back.items asked at.1 at.0 returned
-  refused_at gives items rest x (Full w) back asked at returned =
-      first_fault gives items rest x (LacksIndex limit) w back.items asked at.1 at.0 returned
-  refused_at gives items rest x (Memory w) back asked at returned =
-      first_fault gives items rest x (LacksMemory limit) w back.items asked at.1 at.0 returned
+  refused_at next (BadEndpoint w) back returned at = first_fault next returned LacksEnd w at.1 at.0
+  refused_at next (Full w) back returned at = first_fault next returned (LacksIndex limit) w at.1 at.0
+  refused_at next (Memory w) back returned at = first_fault next returned (LacksMemory limit) w at.1 at.0
 
   pub closes_cycle : {S : Type 0} (gives : S → Option (I × I × E) → S → Type 0) (items : S) (back : List E)
       → Drains gives items batch.given → IsAcyclic before.graph → (IsAcyclic batch.graph → ⊥)

@@ -232,6 +232,14 @@ impl<Ix: IndexType> Links<Ix> {
         Ok(())
     }
 
+    /// For how many nodes there is memory, each with an index below that number.
+    #[inline]
+    pub fn capacity(&self) -> usize
+        ensures { result ≡ self.now.capacity }
+    {
+        self.next.capacity().min(self.previous.capacity())
+    }
+
     /// Takes memory for as many nodes as `bound`, each with an index below it, and says for how many
     /// there is. Writes nothing.
     pub fn reserve(&mut self, bound: usize) -> Result<usize, AllocError>
@@ -242,7 +250,7 @@ impl<Ix: IndexType> Links<Ix> {
     {
         reserve_to(&mut self.next, bound)?;
         reserve_to(&mut self.previous, bound)?;
-        Ok(self.next.capacity().min(self.previous.capacity()))
+        Ok(self.capacity())
     }
 
     /// Makes room for nodes below `bound`, for which there is memory.
@@ -252,7 +260,7 @@ impl<Ix: IndexType> Links<Ix> {
         ensures same { self.new.nodes ≡ self.old.nodes }
     {
         if self.previous.len() < bound {
-            let len = stretched(bound, self.next.capacity().min(self.previous.capacity()));
+            let len = stretched(bound, self.capacity());
             lengthen_within(&mut self.next, len, Link::end());
             lengthen_within(&mut self.previous, len, Link::end());
         }

@@ -197,6 +197,14 @@ impl<Ix: IndexType> Written<Ix> {
         self.labels[a.index()] < self.labels[b.index()]
     }
 
+    /// Below which number there is memory for nodes.
+    #[inline]
+    pub fn capacity(&self) -> usize
+        ensures { result ≡ self.now.capacity }
+    {
+        self.links.capacity().min(self.labels.capacity())
+    }
+
     /// Takes memory for nodes below `bound`, and says below which number there is memory for nodes.
     /// Writes nothing.
     pub fn reserve(&mut self, bound: usize) -> Result<usize, AllocError>

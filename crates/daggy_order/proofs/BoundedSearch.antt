@@ -198,39 +198,47 @@ module _ {N E : Type 0} {end : ℕ} {start : Start N E} {now : Reading N E} (w :
           (read_part end start.graph w s.going.at s.going.passed now.edge s.going.cursor here).0,
         )
 
--- at the end
+-- the search has come to its end and has not met `to`, which stands at the limit
+pub record IsOver {N E : Type 0} (end : ℕ) (start : Start N E) (now : Reading N E) (positions : List ℕ) (limit to : ℕ)
+    : Type 0 where
+  pub ascending : (u v : ℕ) → AreJoined start.graph u v → get_or positions u 0 < get_or positions v 0
+  pub so_far : SearchingBelow end positions limit to start now
+  pub ended : now.edge ≡ end
+  pub empty : now.len ≡ 0
+  pub limit_is : get_or positions to 0 ≡ limit
+
 module _ {N E : Type 0} {end : ℕ} {start : Start N E} {now : Reading N E} (w : IsWellFormed end start.graph)
-    (positions : List ℕ) (limit to : ℕ)
-    (ascending : (u v : ℕ) → AreJoined start.graph u v → get_or positions u 0 < get_or positions v 0)
-    (s : Searching end (Below positions limit) (Beyond positions limit to) start now) (ended : now.edge ≡ end)
-    (empty : now.len ≡ 0) (limit_is : get_or positions to 0 ≡ limit) where
+    {positions : List ℕ} {limit to : ℕ} (over : IsOver end start now positions limit to) where
   met : (n : ℕ) → Reaches start.graph start.from n → Met now.marks (Beyond positions limit to) n
   met n r =
       let P : ℕ → Type 0 = λ z. Met now.marks (Beyond positions limit to) z in
       reaches_stays start.graph P (λ u v m j.
-      let up = ascending u v j in
+      let up = over.ascending u v j in
       elim m [
-        | inl here ↦ all_met_here w s ended empty u v here j
+        | inl here ↦ all_met_here w over.so_far over.ended over.empty u v here j
         | inr past ↦ inr (
           omega (arith, past.0),
           λ eq.
               let low : limit ≤ get_or positions u 0 = past.0 in
-              let same : get_or positions v 0 ≡ limit = ap (λ z. get_or positions z 0) eq ∙ limit_is in
+              let same : get_or positions v 0 ≡ limit = ap (λ z. get_or positions z 0) eq ∙ over.limit_is in
               absurd (omega arith),
         )
-      ]) start.from n r (inl (from_marked w s))
+      ]) start.from n r (inl (from_marked w over.so_far))
 
   pub missed : Reaches start.graph start.from to → ⊥
   missed r =
       elim (met to r) [
-        | inl m ↦ let low : get_or positions to 0 < limit = (only_reached w s to m).1 in absurd (omega arith)
+        | inl m ↦
+            let low : get_or positions to 0 < limit = (only_reached w over.so_far to m).1 in
+            let at : get_or positions to 0 ≡ limit = over.limit_is in
+            absurd (omega arith)
         | inr past ↦ past.1 refl
       ]
 
   pub exactly : (n : ℕ)
       → (get_or now.marks n false ≡ true) ↔ (Reaches start.graph start.from n × (get_or positions n 0 < limit))
   exactly n = (
-    λ m. only_reached w s n m,
+    λ m. only_reached w over.so_far n m,
     λ r. elim (met n r.0) [
       | inl m ↦ m
       | inr past ↦ let low : limit ≤ get_or positions n 0 = past.0 in

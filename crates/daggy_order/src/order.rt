@@ -156,6 +156,15 @@ impl<Ix: IndexType> Order<Ix> {
         Ok(())
     }
 
+    /// Makes room for as many nodes as another order has memory for.
+    ///
+    /// The error says that memory was refused. The order is as it was.
+    pub fn reserve_like(&mut self, other: &Self) -> Result<(), AllocError>
+        ensures { self.new ≡ self.old }
+    {
+        self.reserve(other.written.capacity())
+    }
+
     /// Takes a node out. Constant time, but for nodes that are still to be written.
     #[inline]
     pub fn remove(&mut self, n: NodeIndex<Ix>)

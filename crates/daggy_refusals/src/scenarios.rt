@@ -24,6 +24,7 @@ pub enum Scenario {
     Parents,
     Series,
     LongSeries,
+    ReservedNodes,
     Extension,
     OfEdges,
     OfElements,
@@ -42,6 +43,7 @@ fn play<S: Kind>(rt: &impl Abort, alloc: Global, scenario: Scenario) {
         Scenario::Parents => parents::<S>(rt, alloc),
         Scenario::Series => series::<S>(rt, alloc),
         Scenario::LongSeries => long_series::<S>(rt, alloc),
+        Scenario::ReservedNodes => reserved_nodes::<S>(rt, alloc),
         Scenario::Extension => extension::<S>(rt, alloc),
         Scenario::OfEdges => dag_of_edges::<S>(rt, alloc),
         Scenario::OfElements => dag_of_elements::<S>(rt, alloc),
@@ -159,6 +161,21 @@ fn add_long_series<S: Kind>(dag: &mut Plain<S>) -> Result<EdgeIndices<u32>, Edge
     }))
 }
 
+fn add_long_series_again<S: Kind>(rt: &impl Abort, dag: &mut Plain<S>, refused: &mut bool) {
+    let before = state_of(dag);
+    let added = match add_long_series(dag) {
+        Ok(added) => added,
+        Err(_) => {
+            refuse(rt, refused);
+            same(rt, state_of(dag), before);
+            made(rt, add_long_series(dag))
+        }
+    };
+    same(rt, added.len(), 41);
+    let first = dag.topological_order().next();
+    holds(rt, first == Some(NodeIndex::new(2)));
+}
+
 // A long batch, which is sorted at its end.
 fn long_series<S: Kind>(rt: &impl Abort, alloc: Global) {
     let mut refused = false;
@@ -167,18 +184,27 @@ fn long_series<S: Kind>(rt: &impl Abort, alloc: Global) {
     if !S::GAP {
         add_node_again(rt, &mut dag, &mut refused);
     }
-    let before = state_of(&dag);
-    let added = match add_long_series(&mut dag) {
-        Ok(added) => added,
-        Err(_) => {
-            refuse(rt, &mut refused);
-            same(rt, state_of(&dag), before);
-            made(rt, add_long_series(&mut dag))
-        }
-    };
-    same(rt, added.len(), 41);
-    let first = dag.topological_order().next();
-    holds(rt, first == Some(NodeIndex::new(2)));
+    add_long_series_again(rt, &mut dag, &mut refused);
+}
+
+fn dag_for<S: Kind>(rt: &impl Abort, alloc: Global, nodes: usize, edges: usize) -> Plain<S> {
+    match S::with_capacity(alloc, nodes, edges) {
+        Ok(dag) => dag,
+        Err(AllocError) => made(rt, S::with_capacity(alloc, nodes, edges)),
+    }
+}
+
+// Nodes that memory is reserved for. It is still there behind a long batch, which is sorted.
+fn reserved_nodes<S: Kind>(rt: &impl Abort, alloc: Global) {
+    let mut refused = false;
+    let mut dag: Plain<S> = dag_for(rt, alloc, 20, 0);
+    for i in 0..3 {
+        made(rt, add_node(rt, &mut dag, i));
+    }
+    add_long_series_again(rt, &mut dag, &mut refused);
+    for i in 3..20 {
+        made(rt, add_node(rt, &mut dag, i));
+    }
 }
 
 // Edges to nodes that are made for them. With a gap the first one takes the vacant slots and more.
@@ -303,10 +329,7 @@ fn copies<S: Kind>(rt: &impl Abort, alloc: Global, way: Way) {
 
 // A dag that is made with room for a fan.
 fn capacity<S: Kind>(rt: &impl Abort, alloc: Global) {
-    let mut dag: Plain<S> = match S::with_capacity(alloc, 8, 7) {
-        Ok(dag) => dag,
-        Err(AllocError) => made(rt, S::with_capacity(alloc, 8, 7)),
-    };
+    let mut dag: Plain<S> = dag_for(rt, alloc, 8, 7);
     fill(rt, &mut dag, 7);
 }
 

@@ -41,6 +41,11 @@ fn a_long_series_is_sorted_where_memory_is_refused(rt: HostRuntime) {
 }
 
 #[test]
+fn nodes_stay_reserved_behind_a_long_series(rt: HostRuntime) {
+    stable(&rt, rt.alloc(), Scenario::ReservedNodes);
+}
+
+#[test]
 fn a_refused_extension_keeps_what_it_made(rt: HostRuntime) {
     stable(&rt, rt.alloc(), Scenario::Extension);
 }

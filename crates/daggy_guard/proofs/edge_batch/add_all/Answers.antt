@@ -4,8 +4,8 @@ use Rattle.std.specs.Iterator.{Yields}
 use Rattle.daggy_order.proofs.OrderLaws.{acyclic_from_order}
 use Rattle.daggy_guard.proofs.ItemsSoFar.{yields_more, drained}
 use Rattle.daggy_guard.proofs.OrderAfterChange.{order_kept}
-use Rattle.daggy_guard.proofs.AddAllLoop.{adding_on, order_then, refused_at, closes_cycle, is_added, series_kept}
-use Rattle.daggy_guard.proofs.AddAllLoop.{held_now, few_added, few_in_cycle, few_at_fault}
+use Rattle.daggy_guard.proofs.AddAllLoop.{adding_on, order_then, NextItem, refused_at, closes_cycle, is_added}
+use Rattle.daggy_guard.proofs.AddAllLoop.{series_kept, held_now, few_added, few_in_cycle, few_at_fault}
 use Rattle.daggy_guard.proofs.edge_batch.add_all.Goals as goal
 
 pub items-preserved : goal.items-preserved
@@ -39,8 +39,9 @@ returns-in-Err-clause-refused g c =
     let back =
     c.roll_back.ensures.returned _ _ (series_kept s _ _ c.in-Err.ensures.unchanged
     (ap (map g.Ix.IndexType.number) (c.as_slice.ensures.value ∙ c.in-Err.ensures.kept))) in
-    rw c.after.ensures (refused_at s g.I.Iterator.next_gives c.args.items _ c.in-Some.item c.in-Err.fault _ asked
-    c.in-Err.ensures.refused back)
+    let next : NextItem s g.I.Iterator.next_gives c.args.items =
+    record { item = c.in-Some.item; rest = _; asked = asked } in
+    rw c.after.ensures (refused_at s next c.in-Err.fault _ back c.in-Err.ensures.refused)
 
 pub returns-in-Err-clause-ordered : goal.returns-in-Err-clause-ordered
 returns-in-Err-clause-ordered g c =

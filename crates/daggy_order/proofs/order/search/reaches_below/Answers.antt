@@ -10,7 +10,7 @@ use Rattle.daggy_base.proofs.OutEdgesRead.{below_bound}
 use Rattle.daggy_search.proofs.SearchState.{Reading, starts, edge_here, popped_here, child_low, room_here, child_found}
 use Rattle.daggy_search.proofs.SearchState.{moves_on, pushes, looked_once, room_marks}
 use Rattle.daggy_order.proofs.BoundedSearch.{Below, Beyond, finds_first, finds_room, finds_more, few_below}
-use Rattle.daggy_order.proofs.BoundedSearch.{looked_below, missed, exactly, child_placed}
+use Rattle.daggy_order.proofs.BoundedSearch.{looked_below, IsOver, missed, exactly, child_placed}
 use Rattle.daggy_order.proofs.order.search.reaches_below.Goals as goal
 
 pub mark-requires : goal.mark-requires
@@ -56,20 +56,30 @@ steps-init g c =
 
 pub returns-then-len-eq0-clause-decided : goal.returns-then-len-eq0-clause-decided
 returns-then-len-eq0-clause-decided g c =
-    let at_end : g.Ix.IndexType.number c.steps.e ≡ g.Ix.IndexType.greatest = cc in (
-      λ h. absurd (none-some c.steps.count (sym h)),
-      λ r.
-          absurd (missed c.requires.well_formed c.args.labels.now c.args.limit (g.Ix.IndexType.number c.args.to)
-          c.requires.ascending c.steps.invariant.0 at_end c.if-len-eq0.true c.requires.limit_is r),
-    )
+    let at_end : g.Ix.IndexType.number c.steps.e ≡ g.Ix.IndexType.greatest = cc in
+    let over : IsOver g.Ix.IndexType.greatest _ _ c.args.labels.now c.args.limit (g.Ix.IndexType.number c.args.to) =
+    record {
+      ascending = c.requires.ascending;
+      so_far = c.steps.invariant.0;
+      ended = at_end;
+      empty = c.if-len-eq0.true;
+      limit_is = c.requires.limit_is;
+    } in
+    (λ h. absurd (none-some c.steps.count (sym h)), λ r. absurd (missed c.requires.well_formed over r))
 
 pub returns-then-len-eq0-clause-found : goal.returns-then-len-eq0-clause-found
 returns-then-len-eq0-clause-found g c =
     let at_end : g.Ix.IndexType.number c.steps.e ≡ g.Ix.IndexType.greatest = cc in
     let f = c.steps.invariant.1 in
-    let is =
-    exactly c.requires.well_formed c.args.labels.now c.args.limit (g.Ix.IndexType.number c.args.to) c.requires.ascending
-    c.steps.invariant.0 at_end c.if-len-eq0.true c.requires.limit_is in (
+    let over : IsOver g.Ix.IndexType.greatest _ _ c.args.labels.now c.args.limit (g.Ix.IndexType.number c.args.to) =
+    record {
+      ascending = c.requires.ascending;
+      so_far = c.steps.invariant.0;
+      ended = at_end;
+      empty = c.if-len-eq0.true;
+      limit_is = c.requires.limit_is;
+    } in
+    let is = exactly c.requires.well_formed over in (
       omega (arith, f.fits, f.capacity),
       (
         distinct_from_unique (take c.steps.count c.steps.found) f.once,
