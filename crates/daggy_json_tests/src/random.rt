@@ -2,11 +2,11 @@
 ghost use Rattle.std.specs.Prelude.{◌≡◌, ◌<◌};
 ghost use Rattle.daggy_document.specs.Restoring.{trimmed};
 
-use crate::support::{edge, holds, made, node, number, weight};
+use crate::support::{Small, SmallStable, edge, holds, made, node, number, weight};
 use daggy_base::error::EdgeError;
 use daggy_base::index::{Direction, EdgeIndex};
 use daggy_base::store::Store;
-use daggy_dag::acyclic::{Acyclic, Dag, StableDag};
+use daggy_dag::acyclic::Acyclic;
 use daggy_json::documents::{dag_from_json, dag_to_json, stable_from_json, stable_to_json};
 use std::alloc::Global;
 use std::process::Abort;
@@ -121,7 +121,7 @@ fn same_dag<S: Store<u8, NodeWeight = u64, EdgeWeight = u64>>(
 }
 
 // The dag of the document of a dag.
-fn read_back(rt: &impl Abort, alloc: Global, dag: &Dag<u64, u64, u8>) -> Dag<u64, u64, u8>
+fn read_back(rt: &impl Abort, alloc: Global, dag: &Small) -> Small
     ensures { result.graph ≡ dag.now.graph }
 {
     // Asked for its contract alone: the graph is that of a compact dag.
@@ -130,11 +130,7 @@ fn read_back(rt: &impl Abort, alloc: Global, dag: &Dag<u64, u64, u8>) -> Dag<u64
     made(rt, dag_from_json(alloc, &value, weight, weight))
 }
 
-fn read_back_stable(
-    rt: &impl Abort,
-    alloc: Global,
-    dag: &StableDag<u64, u64, u8>,
-) -> StableDag<u64, u64, u8>
+fn read_back_stable(rt: &impl Abort, alloc: Global, dag: &SmallStable) -> SmallStable
     ensures { result.graph ≡ trimmed dag.now.graph }
 {
     // Asked for its contract alone: the graph is that of a dag.

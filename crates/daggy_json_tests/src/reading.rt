@@ -1,15 +1,12 @@
 //! Documents that are read.
-use crate::support::{holds, made, number, weight};
-use daggy_dag::acyclic::{Dag, StableDag};
+use crate::support::{
+    REORDERED, Small, SmallStable, VACANT, holds, is_written, is_written_stable, made, weight,
+};
 use daggy_document::error::ReadError;
-use daggy_json::documents::{dag_from_json, dag_to_json, stable_from_json, stable_to_json};
+use daggy_json::documents::{dag_from_json, stable_from_json};
 use serde_json::Value;
 use std::alloc::{AllocError, Global};
 use std::process::Abort;
-
-type Small = Dag<u64, u64, u8>;
-
-type SmallStable = StableDag<u64, u64, u8>;
 
 fn value_of(rt: &impl Abort, alloc: Global, text: &str) -> Value {
     match Value::from_str(alloc, text) {
@@ -31,20 +28,13 @@ fn read_stable(rt: &impl Abort, alloc: Global, text: &str) -> Result<SmallStable
 // Asserts that a document reads as a dag that is written as the other one.
 fn reads_as(rt: &impl Abort, alloc: Global, text: &str, wanted: &str) {
     let dag = made(rt, read(rt, alloc, text));
-    let written = made(rt, dag_to_json(alloc, &dag, number, number));
-    let written = made(rt, written.to_string(alloc));
-    holds(rt, written.as_str() == wanted);
+    is_written(rt, alloc, &dag, wanted);
 }
 
 fn reads_as_stable(rt: &impl Abort, alloc: Global, text: &str, wanted: &str) {
     let dag = made(rt, read_stable(rt, alloc, text));
-    let written = made(rt, stable_to_json(alloc, &dag, number, number));
-    let written = made(rt, written.to_string(alloc));
-    holds(rt, written.as_str() == wanted);
+    is_written_stable(rt, alloc, &dag, wanted);
 }
-
-const REORDERED: &str =
-    "{\"edge_property\":\"directed\",\"edges\":[[0,1,6],[0,2,5]],\"node_holes\":[],\"nodes\":[1,2,3],\"orders\":[[[0,1],[]],[[],[0]],[[],[1]]]}";
 
 const WITHOUT_ORDERS: &str =
     "{\"edge_property\":\"directed\",\"edges\":[[0,1,6],[0,2,5]],\"node_holes\":[],\"nodes\":[1,2,3]}";
@@ -63,9 +53,6 @@ fn without_orders_lists_descend(rt: HostRuntime) {
     reads_as(&rt, rt.alloc(), WITHOUT_ORDERS, DESCENDING);
     reads_as_stable(&rt, rt.alloc(), WITHOUT_ORDERS, DESCENDING);
 }
-
-const VACANT: &str =
-    "{\"edge_property\":\"directed\",\"edges\":[null,[0,2,5]],\"node_holes\":[1],\"nodes\":[10,30],\"orders\":[[[1],[]],[[],[1]]]}";
 
 const TRAILING: &str =
     "{\"nodes\":[1,2],\"node_holes\":[0,2],\"edge_property\":\"directed\",\"edges\":[null,[1,3,7]]}";

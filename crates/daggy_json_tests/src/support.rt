@@ -6,10 +6,25 @@ ghost use Rattle.daggy_document.specs.Reading.{whole_in};
 
 use daggy_base::index::{EdgeIndex, NodeIndex};
 use daggy_base::store::Store;
-use daggy_dag::acyclic::Acyclic;
+use daggy_dag::acyclic::{Acyclic, Dag, StableDag};
+use daggy_json::documents::{dag_to_json, stable_to_json};
 use serde_json::Value;
 use std::alloc::{AllocError, Global};
 use std::process::Abort;
+
+/// A compact dag that has few indices.
+pub type Small = Dag<u64, u64, u8>;
+
+/// A stable dag that has few indices.
+pub type SmallStable = StableDag<u64, u64, u8>;
+
+/// The document of nodes 1, 2 and 3, where the newest edge has the lower index.
+pub const REORDERED: &str =
+    "{\"edge_property\":\"directed\",\"edges\":[[0,1,6],[0,2,5]],\"node_holes\":[],\"nodes\":[1,2,3],\"orders\":[[[0,1],[]],[[],[0]],[[],[1]]]}";
+
+/// The document of a dag with a vacant slot of a node and one of an edge.
+pub const VACANT: &str =
+    "{\"edge_property\":\"directed\",\"edges\":[null,[0,2,5]],\"node_holes\":[1],\"nodes\":[10,30],\"orders\":[[[1],[]],[[],[1]]]}";
 
 pub fn holds(rt: &impl Abort, fact: bool)
     ensures { IsTrue fact }
@@ -70,4 +85,22 @@ pub fn weight(value: &Value) -> Result<Option<u64>, AllocError>
     ensures { IfOk result (λ o. o ≡ whole_in (view value.now)) }
 {
     Ok(value.as_u64())
+}
+
+// Asserts the text of a value.
+fn is_text(rt: &impl Abort, alloc: Global, value: &Value, wanted: &str) {
+    let text = made(rt, value.to_string(alloc));
+    holds(rt, text.as_str() == wanted);
+}
+
+/// Asserts the text of the document of a dag.
+pub fn is_written(rt: &impl Abort, alloc: Global, dag: &Small, wanted: &str) {
+    let value = made(rt, dag_to_json(alloc, dag, number, number));
+    is_text(rt, alloc, &value, wanted);
+}
+
+/// The same of a stable dag.
+pub fn is_written_stable(rt: &impl Abort, alloc: Global, dag: &SmallStable, wanted: &str) {
+    let value = made(rt, stable_to_json(alloc, dag, number, number));
+    is_text(rt, alloc, &value, wanted);
 }

@@ -1,61 +1,37 @@
 //! Documents that are written, by their texts.
-use crate::support::{dag_of, edge, holds, made, node, number};
-use daggy_dag::acyclic::{Dag, StableDag};
+use crate::support::{
+    REORDERED, Small, SmallStable, VACANT, dag_of, edge, holds, is_written, is_written_stable,
+    node, number,
+};
 use daggy_document::error::{ReadError, WriteError};
-use daggy_json::documents::{dag_to_json, stable_to_json};
+use daggy_json::documents::dag_to_json;
 use serde_json::Value;
-use std::alloc::{AllocError, Global};
-use std::process::Abort;
-
-type Small = Dag<u64, u64, u8>;
-
-type SmallStable = StableDag<u64, u64, u8>;
-
-fn check_text(rt: &impl Abort, alloc: Global, value: &Value, wanted: &str) {
-    let text = made(rt, value.to_string(alloc));
-    holds(rt, text.as_str() == wanted);
-}
-
-fn check(rt: &impl Abort, alloc: Global, dag: &Small, wanted: &str) {
-    let value = made(rt, dag_to_json(alloc, dag, number, number));
-    check_text(rt, alloc, &value, wanted);
-}
-
-fn check_stable(rt: &impl Abort, alloc: Global, dag: &SmallStable, wanted: &str) {
-    let value = made(rt, stable_to_json(alloc, dag, number, number));
-    check_text(rt, alloc, &value, wanted);
-}
+use std::alloc::AllocError;
 
 const EMPTY: &str =
     "{\"edge_property\":\"directed\",\"edges\":[],\"node_holes\":[],\"nodes\":[],\"orders\":[]}";
 
 #[test]
 fn nothing_is_written_as_empty_lists(rt: HostRuntime) {
-    check(&rt, rt.alloc(), &Small::new(rt.alloc()), EMPTY);
-    check_stable(&rt, rt.alloc(), &SmallStable::new(rt.alloc()), EMPTY);
+    is_written(&rt, rt.alloc(), &Small::new(rt.alloc()), EMPTY);
+    is_written_stable(&rt, rt.alloc(), &SmallStable::new(rt.alloc()), EMPTY);
 }
 
 const THREE: [(usize, usize, u64); 3] = [(0, 1, 4), (0, 2, 5), (0, 1, 6)];
-
-const REORDERED: &str =
-    "{\"edge_property\":\"directed\",\"edges\":[[0,1,6],[0,2,5]],\"node_holes\":[],\"nodes\":[1,2,3],\"orders\":[[[0,1],[]],[[],[0]],[[],[1]]]}";
 
 #[test]
 fn the_lists_are_written_in_their_order(rt: HostRuntime) {
     let mut dag: Small = dag_of(&rt, rt.alloc(), &[1, 2, 3], &THREE);
     let _weight = dag.remove_edge(edge(&rt, 0));
-    check(&rt, rt.alloc(), &dag, REORDERED);
+    is_written(&rt, rt.alloc(), &dag, REORDERED);
 }
-
-const VACANT: &str =
-    "{\"edge_property\":\"directed\",\"edges\":[null,[0,2,5]],\"node_holes\":[1],\"nodes\":[10,30],\"orders\":[[[1],[]],[[],[1]]]}";
 
 #[test]
 fn vacant_slots_below_the_bound_are_named(rt: HostRuntime) {
     let edges = [(0, 1, 4), (0, 2, 5)];
     let mut dag: SmallStable = dag_of(&rt, rt.alloc(), &[10, 20, 30], &edges);
     let _weight = dag.remove_node(node(&rt, 1));
-    check_stable(&rt, rt.alloc(), &dag, VACANT);
+    is_written_stable(&rt, rt.alloc(), &dag, VACANT);
 }
 
 const CUT: &str =
@@ -67,7 +43,7 @@ fn vacant_slots_past_the_bound_are_left_out(rt: HostRuntime) {
     let mut dag: SmallStable = dag_of(&rt, rt.alloc(), &[10, 20, 30], &edges);
     let _weight = dag.remove_node(node(&rt, 1));
     let _weight = dag.remove_node(node(&rt, 2));
-    check_stable(&rt, rt.alloc(), &dag, CUT);
+    is_written_stable(&rt, rt.alloc(), &dag, CUT);
 }
 
 fn refuse(_weight: &u64) -> Result<Value, AllocError> {

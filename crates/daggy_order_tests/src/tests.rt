@@ -1,9 +1,11 @@
 //! What no contract says: that calls succeed, that an order and a plain search answer alike, and
 //! how often an edge is looked at.
 
+mod counted;
 mod edges;
 mod kept;
 mod lists;
 mod random;
+mod reducing;
 mod sorting;
 mod support;

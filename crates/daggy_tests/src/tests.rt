@@ -12,6 +12,7 @@ mod kinds;
 mod large;
 mod many_edges;
 mod ordering;
+mod reducing;
 mod removing;
 mod searching;
 mod slot_reuse;

@@ -5,7 +5,6 @@ mod adapters;
 mod asked;
 mod families;
 mod hints;
-mod iterating;
 mod scenes;
 mod stale;
 mod support;

@@ -2,15 +2,25 @@
 ghost use Rattle.std.specs.Prelude.{◌≡◌, ◌↔◌, false};
 ghost use Rattle.daggy_base.specs.Path.{Reaches};
 
-use super::support::{holds, made};
-use crate::counted::Counted;
-use daggy_base::index::NodeIndex;
+use super::counted::Counted;
+use super::support::{holds, made, same};
+use daggy_base::index::{EdgeIndex, NodeIndex};
 use daggy_base::source::EdgeSource;
 use daggy_order::order::{Order, order_edge};
+use daggy_reduction::bounded::redundant_edges_in;
+use daggy_reduction::redundant::redundant_edges;
 use daggy_search::{Scratch, reaches};
 use std::alloc::Global;
 use std::marker::Model;
 use std::process::Abort;
+
+// Asserts which edges stand in front, and how many are counted.
+fn are(rt: &impl Abort, edges: &[EdgeIndex<u8>], count: usize, wanted: &[usize]) {
+    same(rt, count, wanted.len());
+    for (e, index) in edges.iter().zip(wanted) {
+        same(rt, e.index(), *index);
+    }
+}
 
 /// An edge is added to it where its order can make way.
 #[derive(Drop)]
@@ -95,5 +105,36 @@ impl Kept {
     /// Whether a path leads from one node to another, by a search of the whole graph.
     pub fn reaches(&mut self, from: NodeIndex<u8>, to: NodeIndex<u8>) -> bool {
         reaches(&mut self.graph, from, to, &mut self.scratch)
+    }
+
+    /// Asserts that these edges are redundant below some roots, whether the order bounds the
+    /// searches or not, and that they take no more looks than `most` where it does.
+    pub fn reduces(
+        &mut self,
+        rt: &impl Abort,
+        alloc: Global,
+        roots: &[NodeIndex<u8>],
+        wanted: &[usize],
+        most: usize,
+    ) {
+        let mut edges = Vec::new(alloc);
+        made(rt, edges.resize(self.graph.edge_bound(), EdgeIndex::end()));
+        let count = redundant_edges(
+            &mut self.graph,
+            roots,
+            &mut self.scratch,
+            edges.as_mut_slice(),
+        );
+        are(rt, edges.as_slice(), count, wanted);
+        let _looks = self.graph.looks();
+        let count = redundant_edges_in(
+            &mut self.graph,
+            &self.order,
+            roots,
+            &mut self.scratch,
+            edges.as_mut_slice(),
+        );
+        holds(rt, self.graph.looks() <= most);
+        are(rt, edges.as_slice(), count, wanted);
     }
 }

@@ -115,6 +115,8 @@ fn updating_adds_an_edge_or_refuses_a_cycle(rt: HostRuntime) {
 #[test]
 fn bytes_number_255_edges(rt: HostRuntime) {
     const ROWS: &[Row<'static>] = &[
+        (Call::Nodes(2), Answer::Done),
+        (Call::Fill(0, 1), Answer::Done),
         (Call::Counts, Answer::Counts(2, 255)),
         (Call::Find(0, 1), Answer::Edge(254)),
         // A joined pair needs no index.
@@ -132,13 +134,13 @@ fn bytes_number_255_edges(rt: HostRuntime) {
         (Call::Counts, Answer::Counts(2, 254)),
         (Call::Edges(&[(0, 1, 5)]), Answer::Edges(&[254])),
     ];
-    both(&rt, rt.alloc(), Scene::FullOfEdges(ROWS));
+    both(&rt, rt.alloc(), Scene::Rows(ROWS));
 }
 
 #[test]
 fn bytes_number_255_nodes(rt: HostRuntime) {
     const ROWS: &[Row<'static>] = &[
-        (Call::Counts, Answer::Counts(255, 0)),
+        (Call::Nodes(255), Answer::Done),
         (Call::Extend(&[(0, 255, 1)]), Answer::NoIndex(1)),
         (Call::Counts, Answer::Counts(255, 0)),
         (Call::Extend(&[(0, 254, 2)]), Answer::Done),
@@ -146,5 +148,5 @@ fn bytes_number_255_nodes(rt: HostRuntime) {
         (Call::RemoveNode(254), Answer::Weight(254)),
         (Call::Node(300), Answer::Node(254)),
     ];
-    both(&rt, rt.alloc(), Scene::FullOfNodes(ROWS));
+    both(&rt, rt.alloc(), Scene::Rows(ROWS));
 }

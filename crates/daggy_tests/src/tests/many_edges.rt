@@ -137,9 +137,13 @@ fn an_extension_needs_an_index_for_each_node_and_edge(rt: HostRuntime) {
         (Call::Extend(&[(0, 254, 0)]), Answer::Done),
         (Call::Counts, Answer::Counts(255, 1)),
     ];
-    const FULL: &[Row<'static>] = &[(Call::Extend(&[(0, 2, 3)]), Answer::NoIndex(3))];
+    const FULL: &[Row<'static>] = &[
+        (Call::Nodes(2), Answer::Done),
+        (Call::Fill(0, 1), Answer::Done),
+        (Call::Extend(&[(0, 2, 3)]), Answer::NoIndex(3)),
+    ];
     both(&rt, rt.alloc(), Scene::Rows(ROWS));
-    both(&rt, rt.alloc(), Scene::FullOfEdges(FULL));
+    both(&rt, rt.alloc(), Scene::Rows(FULL));
 }
 
 #[test]

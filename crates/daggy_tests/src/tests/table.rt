@@ -28,6 +28,12 @@ pub enum Call<'a> {
     Parent(usize, u32, u32),
     Edges(&'a [(usize, usize, u32)]),
     Extend(&'a [(usize, usize, u32)]),
+    // Adds so many nodes to an empty dag, the weights of which are their indices.
+    Nodes(usize),
+    // Adds edges of weight 1 from one node to another until no index is left.
+    Fill(usize, usize),
+    // Removes the redundant edges below some roots.
+    Reduce(&'a [usize]),
     RemoveNode(usize),
     RemoveEdge(usize),
     ClearEdges,
@@ -436,12 +442,11 @@ pub fn play_row<Ix: IndexType, S: Store<Ix, NodeWeight = u32, EdgeWeight = u32>>
 ) {
     match call {
         Call::Edges(edges) => all_added(rt, alloc, dag, edges, wanted),
-        Call::Extend(edges) => is(rt, extended(rt, alloc, dag, edges), wanted),
         Call::Children(n) => is_walk_of_children(rt, alloc, dag, n, wanted),
         Call::Parents(n) => is_walk_of_parents(rt, alloc, dag, n, wanted),
         Call::Externals(dir) => are_external(rt, alloc, dag, dir, wanted),
         Call::Order => is_ordered(rt, alloc, dag, wanted),
-        _ => is(rt, change(rt, dag, call), wanted),
+        _ => is(rt, change_many(rt, alloc, dag, call), wanted),
     }
 }
 
@@ -463,10 +468,6 @@ pub fn play<Ix: IndexType, S: Store<Ix, NodeWeight = u32, EdgeWeight = u32>>(
 pub enum Scene<'a> {
     /// A table is played.
     Rows(&'a [Row<'a>]),
-    /// A table is played over 255 nodes, the weights of which are their indices, and no edge.
-    FullOfNodes(&'a [Row<'a>]),
-    /// A table is played over two nodes, and 255 edges from the first to the second.
-    FullOfEdges(&'a [Row<'a>]),
     /// A dag is made of edges, whose weights are 0, with this answer, and a table is played over it.
     OfPairs(&'a [(usize, usize)], Answer<'a>, &'a [Row<'a>]),
     /// A dag is made of elements, with this answer, and a table is played over it.
@@ -496,15 +497,6 @@ fn show<Ix: IndexType, S: Store<Ix, NodeWeight = u32, EdgeWeight = u32>>(
 ) {
     match scene {
         Scene::Rows(rows) => play(rt, alloc, dag, rows),
-        Scene::FullOfNodes(rows) => {
-            fill_nodes(rt, dag, 255);
-            holds(rt, !dag.can_add_node());
-            play(rt, alloc, dag, rows);
-        }
-        Scene::FullOfEdges(rows) => {
-            fill_edges(rt, dag);
-            play(rt, alloc, dag, rows);
-        }
         Scene::OfPairs(pairs, wanted, rows) => {
             of_pairs::<Ix, S>(rt, alloc, pairs, wanted, rows);
         }
@@ -578,15 +570,53 @@ pub fn fill_nodes<Ix: IndexType, S: Store<Ix, NodeWeight = u32, EdgeWeight = u32
     }
 }
 
+// Adds edges of weight 1 until the dag has 255.
 fn fill_edges<Ix: IndexType, S: Store<Ix, NodeWeight = u32, EdgeWeight = u32>>(
     rt: &impl Abort,
     dag: &mut Acyclic<u32, u32, Ix, S>,
+    ends: (usize, usize),
 ) {
-    fill_nodes(rt, dag, 2);
-    for i in 0..255 {
-        is(rt, edge_added(rt, dag, (0, 1), 1), Answer::Edge(i));
+    for i in dag.edge_count()..255 {
+        is(rt, edge_added(rt, dag, ends, 1), Answer::Edge(i));
     }
-    holds(rt, !dag.can_add_edge());
+}
+
+fn reduce<Ix: IndexType, S: Store<Ix, NodeWeight = u32, EdgeWeight = u32>>(
+    rt: &impl Abort,
+    alloc: Global,
+    dag: &mut Acyclic<u32, u32, Ix, S>,
+    roots: &[usize],
+) {
+    let mut first = Vec::new(alloc);
+    for root in roots {
+        made(rt, first.push(node(rt, *root)));
+    }
+    made(rt, dag.transitive_reduce(first));
+}
+
+// The answer of a call that adds many things, or removes them.
+fn change_many<Ix: IndexType, S: Store<Ix, NodeWeight = u32, EdgeWeight = u32>>(
+    rt: &impl Abort,
+    alloc: Global,
+    dag: &mut Acyclic<u32, u32, Ix, S>,
+    call: Call<'_>,
+) -> Answer<'static> {
+    match call {
+        Call::Extend(edges) => extended(rt, alloc, dag, edges),
+        Call::Nodes(count) => {
+            fill_nodes(rt, dag, count);
+            Answer::Done
+        }
+        Call::Fill(a, b) => {
+            fill_edges(rt, dag, (a, b));
+            Answer::Done
+        }
+        Call::Reduce(roots) => {
+            reduce(rt, alloc, dag, roots);
+            Answer::Done
+        }
+        _ => change(rt, dag, call),
+    }
 }
 
 // These ends in a `Vec`.

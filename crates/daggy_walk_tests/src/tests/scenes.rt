@@ -6,7 +6,6 @@ use super::adapters::{chains, copies, cuts, leads, peeks, tests};
 use super::asked::questions;
 use super::families::{ancestry, down, places, sought, summed, up, weights};
 use super::hints::{ends, hints};
-use super::iterating::iterates;
 use super::stale::stale;
 use daggy_base::store::Store;
 use daggy_graph::graph::DiGraph;
@@ -33,7 +32,6 @@ pub enum Scene {
     Ancestry,
     Hints,
     Ends,
-    Iterates,
     Stale,
 }
 
@@ -59,7 +57,6 @@ fn play<S: Store<u32, NodeWeight = u32, EdgeWeight = u32>>(
         Scene::Ancestry => ancestry::<S>(rt, alloc),
         Scene::Hints => hints::<S>(rt, alloc),
         Scene::Ends => ends::<S>(rt, alloc),
-        Scene::Iterates => iterates::<S>(rt, alloc),
         Scene::Stale => stale::<S>(rt, alloc),
     }
 }
