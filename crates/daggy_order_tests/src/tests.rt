@@ -6,6 +6,6 @@ mod edges;
 mod kept;
 mod lists;
 mod random;
-mod reducing;
+mod redundant;
 mod sorting;
 mod support;

@@ -14,8 +14,8 @@ use std::alloc::Global;
 use std::marker::Model;
 use std::process::Abort;
 
-// Asserts which edges stand in front, and how many are counted.
-fn are(rt: &impl Abort, edges: &[EdgeIndex<u8>], count: usize, wanted: &[usize]) {
+// Asserts that these edges, and no others, were found and put in front.
+fn stand_in_front(rt: &impl Abort, edges: &[EdgeIndex<u8>], count: usize, wanted: &[usize]) {
     same(rt, count, wanted.len());
     for (e, index) in edges.iter().zip(wanted) {
         same(rt, e.index(), *index);
@@ -108,15 +108,14 @@ impl Kept {
     }
 
     /// Asserts that these edges are redundant below some roots, whether the order bounds the
-    /// searches or not, and that they take no more looks than `most` where it does.
-    pub fn reduces(
+    /// searches or not, and gives how many looks they took where it does.
+    pub fn are_redundant(
         &mut self,
         rt: &impl Abort,
         alloc: Global,
         roots: &[NodeIndex<u8>],
         wanted: &[usize],
-        most: usize,
-    ) {
+    ) -> usize {
         let mut edges = Vec::new(alloc);
         made(rt, edges.resize(self.graph.edge_bound(), EdgeIndex::end()));
         let count = redundant_edges(
@@ -125,8 +124,8 @@ impl Kept {
             &mut self.scratch,
             edges.as_mut_slice(),
         );
-        are(rt, edges.as_slice(), count, wanted);
-        let _looks = self.graph.looks();
+        stand_in_front(rt, edges.as_slice(), count, wanted);
+        let _before = self.graph.looks();
         let count = redundant_edges_in(
             &mut self.graph,
             &self.order,
@@ -134,7 +133,7 @@ impl Kept {
             &mut self.scratch,
             edges.as_mut_slice(),
         );
-        holds(rt, self.graph.looks() <= most);
-        are(rt, edges.as_slice(), count, wanted);
+        stand_in_front(rt, edges.as_slice(), count, wanted);
+        self.graph.looks()
     }
 }
