@@ -32,13 +32,14 @@ module _ (g : Graph ℤ ℤ) (before : List ℕ) where
   no_plan_told (Err e) now put = tt
   no_plan_told (Ok x) now put = (codes "memory\n", inr refl, put)
 
-  pub plan_told : {A E : Type 0} (r : Result A E) (stages : List (Vec ℕ Global)) (chain one two three now : List ℕ)
+  pub plan_told : {A E : Type 0} (r : Result A E) (stages : List (Vec ℕ Global)) (chain : List ℕ)
+      {one two three : List ℕ} (now : List ℕ)
       → IsPlan g (shown stages) → IsByLevels g (shown stages) → IsChain g (shown stages) (map (λ i. i) chain)
       → IsShortest g (shown stages)
       → one ≡ before ++ stage_lines stages → two ≡ one ++ codes "chain " → three ≡ two ++ parted node_text chain
       → Appends r three now (10 ∷ []) → OnOk r (IsTold now)
-  plan_told (Err e) stages chain one two three now plan levels path shortest put_stages put_name put_chain put_end = tt
-  plan_told (Ok x) stages chain one two three now plan levels path shortest put_stages put_name put_chain put_end =
+  plan_told (Err e) stages chain now plan levels path shortest put_stages put_name put_chain put_end = tt
+  plan_told (Ok x) stages chain now plan levels path shortest put_stages put_name put_chain put_end =
       let lines = stage_lines stages in
       let nodes = parted node_text chain in
       let all : now ≡ (((before ++ lines) ++ codes "chain ") ++ nodes) ++ 10 ∷ [] =

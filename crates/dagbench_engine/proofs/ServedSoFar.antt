@@ -235,11 +235,12 @@ module _ (kind : Kind) (given_old given written_old written : List ℕ) (graph :
       }
 
 -- what is written behind the answers
-closed : (kind : Kind) (plans : Bool) (given_old given written_old written close taken : List ℕ) (graph : Graph ℤ ℤ)
+closed : {kind : Kind} {plans : Bool} {given_old given written_old written : List ℕ} (close : List ℕ) {taken : List ℕ}
+    {graph : Graph ℤ ℤ}
     → IsDone kind given_old given written_old written graph
     → IsClose plans graph close → taken ≡ written ++ close
     → Serves kind plans lines_of given_old given written_old taken
-closed kind plans given_old given written_old written close taken graph done closes is =
+closed {kind} {plans} {given_old} {given} {written_old} close {taken} {graph} done closes is =
     record {
       input = done.input;
       output = done.text;
@@ -262,21 +263,22 @@ something_there (x ∷ xs) is = omega arith
 
 -- a line that stands in a block whole, and one that began in an earlier block
 pub at_once : {A E : Type 0} (kind : Kind) (r : Result A E) (rest written now : List ℕ) (graph new : Graph ℤ ℤ)
-    (kept : List ℕ)
+    {kept : List ℕ}
     → kept ≡ []
     → AnswersLine kind r rest graph new written now
     → OnOk r (Lacks newline rest → GoesOn kind (rest ++ newline ∷ []) written now graph new kept kept)
-at_once kind (Err e) rest written now graph new kept none answer = tt
-at_once kind (Ok x) rest written now graph new kept none answer = λ lacks given_old given written_old so_far.
+at_once kind (Err e) rest written now graph new none answer = tt
+at_once kind (Ok x) rest written now graph new {kept} none answer = λ lacks given_old given written_old so_far.
     subst (IsServed kind given_old (given ++ (rest ++ newline ∷ [])) written_old now new) (sym none)
     (ends_line kind given_old given written_old written graph kept so_far rest rest new now lacks
     (sym (kept_says rest) ∙ ap (λ k. asked_in (take 4097 (k ++ rest))) (sym none)) answer)
 
-pub at_last : (kind : Kind) (rest answered written now : List ℕ) (graph new : Graph ℤ ℤ) (kept kept_new : List ℕ)
+pub at_last : (kind : Kind) (rest : List ℕ) {answered : List ℕ} (written now : List ℕ) (graph new : Graph ℤ ℤ)
+    (kept : List ℕ) {kept_new : List ℕ}
     → answered ≡ take 4097 (kept ++ rest) → kept_new ≡ []
     → AnswersLine {A = Unit {0}} {E = Unit {0}} kind (Ok tt) answered graph new written now → Lacks newline rest
     → GoesOn kind (rest ++ newline ∷ []) written now graph new kept kept_new
-at_last kind rest answered written now graph new kept kept_new is none answer lacks given_old given written_old so_far =
+at_last kind rest {answered} written now graph new kept is none answer lacks given_old given written_old so_far =
     subst (IsServed kind given_old (given ++ (rest ++ newline ∷ [])) written_old now new) (sym none)
     (ends_line kind given_old given written_old written graph kept so_far rest answered new now lacks
     (ap asked_in is) answer)
@@ -335,13 +337,13 @@ last_ended kind written graph kept none given_old given written_old so_far =
     ends kind given_old given written_old written graph kept so_far none
 
 pub last_unended : {A E : Type 0} (kind : Kind) (r : Result A E) (written now : List ℕ) (graph new : Graph ℤ ℤ)
-    (kept answered : List ℕ)
+    {kept answered : List ℕ}
     → 0 < length kept → answered ≡ kept
     → AnswersLine kind r answered graph new written now
     → OnOk r ((given_old given written_old : List ℕ) → IsServed kind given_old given written_old written graph kept
     → IsDone kind given_old given written_old now new)
-last_unended kind (Err e) written now graph new kept answered some is answer = tt
-last_unended kind (Ok x) written now graph new kept answered some is answer = λ given_old given written_old so_far.
+last_unended kind (Err e) written now graph new some is answer = tt
+last_unended kind (Ok x) written now graph new {kept} some is answer = λ given_old given written_old so_far.
     ends_unended kind given_old given written_old written graph kept so_far new now some
     (subst (λ line. AnswersLine {A = Unit {0}} {E = Unit {0}} kind (Ok tt) line graph new written now) is answer)
 
@@ -357,5 +359,5 @@ pub finished : {A E : Type 0} {kind : Kind} (plans : Bool) (r : Result A E) {wri
 finished {kind} plans (Err e) {written} {between} taken output taken_new {graph} {new} {kept} done close appended = tt
 finished {kind} plans (Ok x) {written} {between} taken output taken_new {graph} {new} {kept} done close appended =
     λ given_old given written_old so_far.
-    closed kind plans given_old given written_old between close.0 taken_new new
+    closed close.0
     (done given_old given written_old so_far) close.1 (appended ∙ close.2)

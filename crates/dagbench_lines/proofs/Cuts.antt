@@ -59,10 +59,10 @@ rest_behind : (b : ℕ) (bytes rest : List ℕ) → rest ≡ b ∷ bytes → tak
 rest_behind b bytes rest is = rw is (take_rest (b ∷ bytes) 1)
 
 -- bytes cut around the separator at a place
-pub cut_around : (s : ℕ) (bytes front rest : List ℕ) (n : ℕ)
+pub cut_around : (s : ℕ) {bytes front rest : List ℕ} {n : ℕ}
     → Nowhere (Passes (is_byte s) bytes) 0 n → n < length bytes → Passes (is_byte s) bytes n → front ≡ take n bytes
     → rest ≡ drop n bytes → Lacks s front × (bytes ≡ front ++ s ∷ take (length rest - 1) (drop 1 rest))
-cut_around s bytes front rest n before below here front_is rest_is =
+cut_around s {bytes} {front} {rest} {n} before below here front_is rest_is =
     let at : drop n bytes ≡ s ∷ drop (suc n) bytes =
     drop-cons bytes n 0 below ∙ ap (λ b. b ∷ drop (suc n) bytes) (same s _ here) in
     let behind : take (length rest - 1) (drop 1 rest) ≡ drop (suc n) bytes = rest_behind s _ rest (rest_is ∙ at) in (

@@ -12,12 +12,13 @@ keeps_more most kept more few =
     ∙ (sym (take-append-add kept more (most - length kept)) ∙ ap (λ n. take n (kept ++ more)) (omega arith))
 
 -- the same, in the words of the code
-pub kept_more : (inside kept more front items : List ℕ) (length_before count : ℕ) (fits : Bool)
+pub kept_more : {inside kept : List ℕ} (more : List ℕ) {front items : List ℕ} {length_before count : ℕ} {fits : Bool}
     → inside ≡ kept → front ≡ take count more
     → count ≡ min (4097 - length_before) (length more) → length_before ≡ length inside → length_before ≤ 4097
     → fits ≡ true
     → items ≡ cond fits (inside ++ front) inside → items ≡ take 4097 (kept ++ more)
-kept_more inside kept more front items length_before count fits same front_is count_is length_is few ok items_is =
+kept_more {inside} more {front} {items} {length_before} {count} {fits} same front_is count_is length_is few ok items_is
+    =
     let all : items ≡ inside ++ front = items_is ∙ cond-true fits _ _ ok in
     let part : front ≡ take (min (4097 - length inside) (length more)) more =
     front_is ∙ ap (λ n. take n more) (count_is ∙ ap (λ n. min (4097 - n) (length more)) length_is) in

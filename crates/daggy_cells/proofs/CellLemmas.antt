@@ -11,11 +11,11 @@ use Rattle.daggy_base.specs.Calls.{CalledAtTwo}
 use Rattle.daggy_cells.specs.Cells.{changed_at}
 
 pub called_at : {F X Y R S : Type 0}
-    (g : Once F (MutBor X × (MutBor Y × Unit {0})) (R × (MutBor X × (MutBor Y × Unit {0})))) (f : F) (x : Option X)
-    (y : Option Y) (r : R) (put : X → Y → S) (new : S) (p : MutBor X) (q : MutBor Y) (p' : MutBor X) (q' : MutBor Y)
+    {g : Once F (MutBor X × (MutBor Y × Unit {0})) (R × (MutBor X × (MutBor Y × Unit {0})))} {f : F} {x : Option X}
+    {y : Option Y} {r : R} {put : X → Y → S} {new : S} (p : MutBor X) (q : MutBor Y) (p' : MutBor X) (q' : MutBor Y)
     → x ≡ Some p.now → y ≡ Some q.now → g.post f (p, (q, tt)) (r, (p', (q', tt))) → new ≡ put p'.now q'.now
     → CalledAtTwo g f x y r put new
-called_at g f x y r put new p q p' q' p_is q_is called leaves = record {
+called_at p q p' q' p_is q_is called leaves = record {
   first = p;
   second = q;
   first_left = p';
@@ -40,7 +40,7 @@ module _ {C : Type 0} where
         ∙ ap (λ l. get_or l i x) (sym is))
 
   -- two items written in the parts: the one at i in front of the cut, and the first one behind it
-  module _ (old front back : List C) (is : old ≡ front ++ back) (i n : ℕ) (x y : C) (at : length front ≡ n)
+  module _ (old front back : List C) (is : old ≡ front ++ back) (i : ℕ) {n : ℕ} (x y : C) (at : length front ≡ n)
       (within : i < n) where
     right_set : (l : List C) → length l ≡ n → set (l ++ back) n y ≡ l ++ set back 0 y
     right_set l long = set-append_right l back n n y long (omega arith) ∙ ap (λ k. l ++ set back k y) (omega arith)
@@ -83,28 +83,29 @@ module _ {C : Type 0} where
   set_once : (k : C → C) (xs : List C) (i : ℕ) (x : C) → slice_get xs i ≡ Some x → set xs i (k x) ≡ changed_at k xs i
   set_once k xs i x is = sym (changed_is_set k xs i x (sym (get_or_from_slice_get xs i x x is)))
 
-  set_twice : (j k : C → C) (xs : List C) (a b : ℕ) (x y : C)
+  set_twice : (j k : C → C) (xs : List C) (a b : ℕ) {x y : C}
       → a ≢ b → slice_get xs a ≡ Some x → slice_get xs b ≡ Some y
       → set (set xs a (j x)) b (k y) ≡ changed_at k (changed_at j xs a) b
-  set_twice j k [] a b x y other x_is y_is = refl
-  set_twice j k (z ∷ zs) zero zero x y other x_is y_is = absurd (other refl)
-  set_twice j k (z ∷ zs) zero (suc b) x y other x_is y_is =
+  set_twice j k [] a b other x_is y_is = refl
+  set_twice j k (z ∷ zs) zero zero other x_is y_is = absurd (other refl)
+  set_twice j k (z ∷ zs) zero (suc b) {x} {y} other x_is y_is =
       ap (λ v. j v ∷ set zs b (k y)) (sym (same_Some z x x_is)) ∙ ap (λ l. j z ∷ l) (set_once k zs b y y_is)
-  set_twice j k (z ∷ zs) (suc a) zero x y other x_is y_is =
+  set_twice j k (z ∷ zs) (suc a) zero {x} {y} other x_is y_is =
       ap (λ v. k v ∷ set zs a (j x)) (sym (same_Some z y y_is)) ∙ ap (λ l. k z ∷ l) (set_once j zs a x x_is)
-  set_twice j k (z ∷ zs) (suc a) (suc b) x y other x_is y_is =
-      ap (λ l. z ∷ l) (set_twice j k zs a b x y (λ e. other (ap suc e)) x_is y_is)
+  set_twice j k (z ∷ zs) (suc a) (suc b) {x} {y} other x_is y_is =
+      ap (λ l. z ∷ l) (set_twice j k zs a b (λ e. other (ap suc e)) x_is y_is)
 
 -- A call at two items that hands their weights on. A cell c shows weight c, and put v c is c with the weight v.
 module _ {C W F R : Type 0} (weight : C → Option W) (put : W → C → C)
-    (g : Once F (MutBor W × (MutBor W × Unit {0})) (R × (MutBor W × (MutBor W × Unit {0})))) (f : F) (old new : List C)
-    (a b : ℕ) (other : a ≢ b) (r : R) where
-  pub called_through : (x y x' y' : C) (v w : Option W) → slice_get old a ≡ Some x → slice_get old b ≡ Some y
+    (g : Once F (MutBor W × (MutBor W × Unit {0})) (R × (MutBor W × (MutBor W × Unit {0})))) (f : F) (old : List C)
+    {new : List C}
+    {a b : ℕ} (other : a ≢ b) {r : R} where
+  pub called_through : {x y x' y' : C} {v w : Option W} → slice_get old a ≡ Some x → slice_get old b ≡ Some y
       → new ≡ set (set old a x') b y' → v ≡ weight x → w ≡ weight y
       → CalledAtTwo g f (weight x) (weight y) {S = C × C} r (λ p q. (put p x, put q y)) (x', y')
       → CalledAtTwo g f v w r (λ p q. changed_at (put q) (changed_at (put p) old a) b) new
-  called_through x y x' y' v w x_is y_is new_is v_is w_is call =
-      called_at g f v w r _ new call.first call.second call.first_left call.second_left (v_is ∙ call.shows.0)
+  called_through {x} {y} {x'} {y'} {v} {w} x_is y_is new_is v_is w_is call =
+      called_at call.first call.second call.first_left call.second_left (v_is ∙ call.shows.0)
       (w_is ∙ call.shows.1) call.called
       (new_is ∙ ap (λ z. set (set old a z.0) b z.1) call.leaves
-      ∙ set_twice (put call.first_left.now) (put call.second_left.now) old a b x y other x_is y_is)
+      ∙ set_twice (put call.first_left.now) (put call.second_left.now) old a b other x_is y_is)

@@ -148,12 +148,12 @@ module _ {E Ix : Type 0} (end : ℕ) (dir : Direction) (from to : ℕ) where
         rw (nexts_same, here, tail) (omega arith)
 
   -- in the words of the code
-  pub reowning_code : (old now : List (Edge E Ix)) (e i next : ℕ) (x y : Edge E Ix)
+  pub reowning_code : {old now : List (Edge E Ix)} {e i next : ℕ} {x y : Edge E Ix}
       → IsReowning end dir from to old now e → i ≡ e → i < length now → length now ≤ end → x ≡ get_or now i x
       → y ≡ with_end dir x to → next ≡ raw_next dir y → from ≢ to
       → IsReowning end dir from to old (set now i y) next
       × (length (list_from dir (set now i y) next) < length (list_from dir now e))
-  reowning_code old now e i next x y r i_is within few is y_is next_is differ =
+  reowning_code {old} {now} {e} {i} {next} {x} {y} r i_is within few is y_is next_is differ =
       let is_e : x ≡ get_or now e x = is ∙ ap (λ z. get_or now z x) i_is in
       let in_e : e < length now = omega (arith, within, i_is) in
       let next_x : next ≡ raw_next dir x = next_is ∙ ap (raw_next dir) y_is ∙ next_with dir x to in

@@ -75,12 +75,12 @@ module _ {E Ix : Type 0} (edges : List (Edge E Ix)) (i : ℕ) (x : Edge E Ix) (n
 
 -- what `redirect` reads: the list's node, and the list's first edge
 pub redirect_reads : {N E Ix : Type 0} (nodes : List (Node N Ix)) (edges : List (Edge E Ix)) (dir : Direction)
-    (old o n i first : ℕ) (x : Edge E Ix) (y : Node N Ix)
+    {old : ℕ} {o n i first : ℕ} {x : Edge E Ix} {y : Node N Ix}
     → old < length edges → get_or (ends_of dir edges) old 0 < length nodes → o ≡ old → x ≡ get_or edges o x
     → n ≡ end_at dir x → i ≡ n → y ≡ get_or nodes i y → first ≡ raw_first dir y
     → (i ≡ get_or (ends_of dir edges) old 0)
     × (first ≡ get_or (firsts_of dir nodes) (get_or (ends_of dir edges) old 0) 0)
-redirect_reads nodes edges dir old o n i first x y old_in n_in o_is x_is n_is i_is y_is first_is =
+redirect_reads nodes edges dir {old} {o} {n} {i} {first} {x} {y} old_in n_in o_is x_is n_is i_is y_is first_is =
     let at_old : x ≡ get_or edges old x = x_is ∙ ap (λ z. get_or edges z x) o_is in
     let node : i ≡ get_or (ends_of dir edges) old 0 =
     i_is ∙ n_is ∙ ap (end_at dir) at_old ∙ sym (get_or-map (end_at dir) edges old x 0 old_in) in
@@ -91,13 +91,13 @@ redirect_reads nodes edges dir old o n i first x y old_in n_in o_is x_is n_is i_
     )
 
 -- the first links of two nodes are written, which may be one node
-pub both_written : {N Ix : Type 0} (nodes : List (Node N Ix)) (a b u v e : ℕ) (x y x' y' : Node N Ix)
+pub both_written : {N Ix : Type 0} (nodes : List (Node N Ix)) {a b u v : ℕ} (e : ℕ) {x y x' y' : Node N Ix}
     → u ≡ a → v ≡ b → x ≡ get_or nodes u x → x' ≡ with_first Outgoing x e → y ≡ get_or (set nodes u x') v y
     → y' ≡ with_first Incoming y e
     → (map weight_of (set (set nodes u x') v y') ≡ map weight_of nodes)
     × (firsts_of Outgoing (set (set nodes u x') v y') ≡ set (firsts_of Outgoing nodes) a e)
     × (firsts_of Incoming (set (set nodes u x') v y') ≡ set (firsts_of Incoming nodes) b e)
-both_written nodes a b u v e x y x' y' u_is v_is x_is x'_is y_is y'_is =
+both_written nodes {a} {b} {u} {v} e {x} {y} {x'} {y'} u_is v_is x_is x'_is y_is y'_is =
     let first = set nodes u x' in (
       map-set_same weight_of first v y y' y_is (ap weight_of y'_is)
           ∙ map-set_same weight_of nodes u x x' x_is (ap weight_of x'_is),

@@ -128,9 +128,9 @@ pub record IsClearing {N E : Type 0} (kind : Kind) (dir : Direction) (n : ℕ) (
   pub nodes : now.graph.nodes ≡ old.graph.nodes
   pub looks : now.looks ≡ old.looks
 
-module _ {N E : Type 0} (kind : Kind) (limit : ℕ) (dir : Direction) (n e : ℕ) (old now next : State N E)
+module _ {N E : Type 0} (kind : Kind) {limit : ℕ} {dir : Direction} {n e : ℕ} {old : State N E} (now next : State N E)
     (clearing : IsClearing kind dir n old now) (w : IsWellFormed limit now.graph)
-    (first : e ≡ first_of limit (list_at dir now.graph n)) (r : Option E)
+    (first : e ≡ first_of limit (list_at dir now.graph n)) {r : Option E}
     (value : r ≡ option_map (λ x. x.weight) (edge_at now.graph e)) where
   -- the code removed the front
   pub clearing_step : OnSome r (next ≡ with_graph now (without_edge kind now.graph e)) → is_some r ≡ true

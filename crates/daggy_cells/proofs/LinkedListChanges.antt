@@ -91,12 +91,12 @@ ListsEach-node ends lists listed n e = rw (row_push lists n) (listed n e)
 
 -- one more edge m, first in the list of a
 
-pub AreLinkedLists-put : (end : ℕ) (firsts nexts nexts' : List ℕ) (lists : List (List ℕ)) (a m : ℕ)
+pub AreLinkedLists-put : {end : ℕ} {firsts nexts nexts' : List ℕ} {lists : List (List ℕ)} (a m : ℕ)
     → AreLinkedLists end firsts nexts lists → a < length firsts → ((n : ℕ) → ¬ Contains (nth_list lists n) m)
     → slice_get nexts' m ≡ Some (get_or firsts a 0)
     → ((f : ℕ) → f ≢ m → f < length nexts → slice_get nexts' f ≡ slice_get nexts f)
     → AreLinkedLists end (set firsts a m) nexts' (set lists a (m ∷ nth_list lists a))
-AreLinkedLists-put end firsts nexts nexts' lists a m linked inside_a fresh new_link old_links =
+AreLinkedLists-put {end} {firsts} {nexts} {nexts'} {lists} a m linked inside_a fresh new_link old_links =
     record {
       rows = length-set lists a _ ∙ linked.rows ∙ sym (length-set firsts a m);
       each = λ n within.
@@ -158,15 +158,15 @@ pub AreLinkedLists-edge : (end : ℕ) (firsts nexts : List ℕ) (lists : List (L
     → m ≡ length nexts → AreLinkedLists end firsts nexts lists → a < length firsts
     → AreLinkedLists end (set firsts a m) (nexts ++ get_or firsts a 0 ∷ []) (set lists a (m ∷ nth_list lists a))
 AreLinkedLists-edge end firsts nexts lists a m new linked inside_a =
-    AreLinkedLists-put end firsts nexts _ lists a m linked inside_a (λ n p. let within =
+    AreLinkedLists-put a m linked inside_a (λ n p. let within =
     linked_within end firsts nexts lists n m linked p in omega (arith, within, new))
     (ap (slice_get (nexts ++ get_or firsts a 0 ∷ [])) new ∙ slice_get-push_new nexts (get_or firsts a 0))
     (λ f other within. slice_get-push_old nexts (get_or firsts a 0) f within)
 
-pub ListsBy-put : (end_of end_of' : ℕ → Option ℕ) (lists : List (List ℕ)) (a m : ℕ)
+pub ListsBy-put : (end_of end_of' : ℕ → Option ℕ) (lists : List (List ℕ)) {a : ℕ} (m : ℕ)
     → ListsBy end_of lists → a < length lists → end_of m ≡ None → end_of' m ≡ Some a
     → ((f : ℕ) → f ≢ m → end_of' f ≡ end_of f) → ListsBy end_of' (set lists a (m ∷ nth_list lists a))
-ListsBy-put end_of end_of' lists a m listed inside none some others n e =
+ListsBy-put end_of end_of' lists {a} m listed inside none some others n e =
     elim (cases_eq e m) [
       | inl new ↦
           let stands : end_of' e ≡ Some a = ap end_of' new ∙ some in
@@ -212,7 +212,7 @@ ListsBy-put end_of end_of' lists a m listed inside none some others n e =
 pub ListsEach-edge : (ends : List ℕ) (lists : List (List ℕ)) (a m : ℕ) → m ≡ length ends → a < length lists
     → ListsEach ends lists → ListsEach (ends ++ a ∷ []) (set lists a (m ∷ nth_list lists a))
 ListsEach-edge ends lists a m new inside listed =
-    ListsBy-put (slice_get ends) (slice_get (ends ++ a ∷ [])) lists a m listed inside
+    ListsBy-put (slice_get ends) (slice_get (ends ++ a ∷ [])) lists m listed inside
     (slice_get_past ends m (omega (arith, new))) (ap (slice_get (ends ++ a ∷ [])) new ∙ slice_get-push_new ends a)
     (λ f other. slice_get-push_other ends a f (λ same. other (same ∙ sym new)))
 
@@ -259,10 +259,10 @@ ListsBy-none end_of lists none n e = (
 
 -- the one link to an edge of a list, which leads elsewhere now
 
-pub Redirected-first : (end : ℕ) (firsts nexts l : List ℕ) (n old new : ℕ)
+pub Redirected-first : (end : ℕ) {firsts nexts : List ℕ} (l : List ℕ) (n old new : ℕ)
     → IsLinkedList end nexts (get_or firsts n 0) l → get_or firsts n 0 ≡ old → old ≢ end
     → Redirected l n old new firsts nexts (set firsts n new) nexts
-Redirected-first end firsts nexts l n old new r here inside =
+Redirected-first end {firsts} l n old new r here inside =
     record {
       first = ap (set firsts n) (sym (renamed_here old new) ∙ ap (renamed old new) (sym here));
       same_length = refl;
@@ -275,10 +275,10 @@ Redirected-first end firsts nexts l n old new r here inside =
       outside = λ e p. refl;
     }
 
-pub Redirected-later : (end : ℕ) (firsts nexts l : List ℕ) (n p old new : ℕ)
+pub Redirected-later : {end : ℕ} {firsts nexts : List ℕ} {l : List ℕ} {n : ℕ} (p : ℕ) {old new : ℕ}
     → IsLinkedList end nexts (get_or firsts n 0) l → get_or firsts n 0 ≢ old → Contains l p → after end l p ≡ old
     → old ≢ end → Redirected l n old new firsts nexts firsts (set nexts p new)
-Redirected-later end firsts nexts l n p old new r later listed before inside =
+Redirected-later {end} {firsts} {nexts} {l} {n} p {old} {new} r later listed before inside =
     let p_in : p < length nexts = slice_get_within nexts p _ (r.goes_on p listed) in
     record {
       first = sym (ap (set firsts n) (renamed_other old new (get_or firsts n 0) later) ∙ set-get_or firsts n 0);
@@ -302,13 +302,13 @@ Redirected-later end firsts nexts l n p old new r later listed before inside =
 
 -- e taken out of its list
 
-pub AreLinkedLists-with_edge_unlinked : (end : ℕ) (firsts nexts firsts' nexts' : List ℕ) (end_of : ℕ → Option ℕ)
-    (lists : List (List ℕ)) (n e new : ℕ)
+pub AreLinkedLists-with_edge_unlinked : {end : ℕ} {firsts nexts firsts' nexts' : List ℕ} (end_of : ℕ → Option ℕ)
+    {lists : List (List ℕ)} {n e new : ℕ}
     → AreLinkedLists end firsts nexts lists → ListsBy end_of lists → end_of e ≡ Some n → n < length firsts → e ≢ end
     → slice_get nexts e ≡ Some new → Redirected (nth_list lists n) n e new firsts nexts firsts' nexts'
     → AreLinkedLists end firsts' nexts' (map (without e) lists)
-AreLinkedLists-with_edge_unlinked end firsts nexts firsts' nexts' end_of lists n e new linked listed at_n n_in inside
-    goes red =
+AreLinkedLists-with_edge_unlinked {end} {firsts} {nexts} {firsts'} {nexts'} end_of {lists} {n} {e} {new} linked listed
+    at_n n_in inside goes red =
     record {
       rows = length-map lists (without e) ∙ linked.rows ∙ sym (ap length red.first ∙ length-set firsts n _);
       each = λ m within.
@@ -375,16 +375,17 @@ ListsBy-without end_of end_of' lists e listed none others n f =
 
 -- the last edge renamed in its list, and moved to the place of e
 
-pub AreLinkedLists-renamed : (end : ℕ) (firsts nexts firsts' nexts' nexts'' : List ℕ) (lists : List (List ℕ))
-    (n e last : ℕ)
+pub AreLinkedLists-renamed : {end : ℕ} {firsts nexts : List ℕ} {firsts' nexts' : List ℕ} {nexts'' : List ℕ}
+    {lists : List (List ℕ)}
+    {n e last : ℕ}
     → AreLinkedLists end firsts nexts lists
     → ((m k f : ℕ) → Contains (nth_list lists m) f → Contains (nth_list lists k) f → m ≡ k)
     → ((m : ℕ) → ¬ Contains (nth_list lists m) e) → Contains (nth_list lists n) last → n < length firsts
     → length nexts ≡ suc last → last ≢ end → e ≢ last
     → Redirected (nth_list lists n) n last e firsts nexts firsts' nexts' → IsSwapRemoved nexts' nexts'' e last
     → AreLinkedLists end firsts' nexts'' (map (map (renamed last e)) lists)
-AreLinkedLists-renamed end firsts nexts firsts' nexts' nexts'' lists n e last linked disjoint out there n_in long inside
-    differs red moves =
+AreLinkedLists-renamed {end} {firsts} {nexts} {firsts'} {nexts'} {nexts''} {lists} {n} {e} {last} linked disjoint out
+    there n_in long inside differs red moves =
     record {
       rows = length-map lists (map (renamed last e)) ∙ linked.rows ∙ sym (ap length red.first ∙ length-set firsts n _);
       each = λ m within.
@@ -462,11 +463,11 @@ map-renamed_itself e [] = refl
 map-renamed_itself e (x ∷ xs) =
     ap (λ z. z ∷ map (renamed e e) xs) (renamed_itself e x) ∙ ap (λ l. x ∷ l) (map-renamed_itself e xs)
 
-pub AreLinkedLists-cut : (end : ℕ) (firsts nexts nexts'' : List ℕ) (lists : List (List ℕ)) (e last : ℕ)
+pub AreLinkedLists-cut : (end : ℕ) {firsts nexts : List ℕ} (nexts'' : List ℕ) {lists : List (List ℕ)} (e last : ℕ)
     → AreLinkedLists end firsts nexts lists → ((m : ℕ) → ¬ Contains (nth_list lists m) e) → length nexts ≡ suc last
     → e ≡ last → IsSwapRemoved nexts nexts'' e last
     → AreLinkedLists end firsts nexts'' (map (map (renamed last e)) lists)
-AreLinkedLists-cut end firsts nexts nexts'' lists e last linked out long same moves =
+AreLinkedLists-cut end {firsts} {nexts} nexts'' {lists} e last linked out long same moves =
     record {
       rows = length-map lists (map (renamed last e)) ∙ linked.rows;
       each = λ m within.

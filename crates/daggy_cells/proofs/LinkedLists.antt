@@ -302,10 +302,10 @@ IsScan-here end nexts p e answer s within limit passes =
     let split = row_splits end nexts e s.rest s.from_here within limit in
     sym s.same ∙ ap (find p) split.1 ∙ cond-true (p e) (Some e) (find p split.0) passes
 
-pub IsScan-step : (end : ℕ) (nexts : List ℕ) (p : ℕ → Bool) (e next : ℕ) (answer : Option ℕ)
+pub IsScan-step : {end : ℕ} {nexts : List ℕ} {p : ℕ → Bool} {e next : ℕ} {answer : Option ℕ}
     → IsScan end nexts p e answer → e < length nexts → length nexts ≤ end → p e ≡ false → slice_get nexts e ≡ Some next
     → IsScan end nexts p next answer
-IsScan-step end nexts p e next answer s within limit fails goes =
+IsScan-step {end} {nexts} {p} {e} {next} s within limit fails goes =
     let split = row_splits end nexts e s.rest s.from_here within limit in
     let row_e : IsLinkedList end nexts e (e ∷ split.0) = subst (IsLinkedList end nexts e) split.1 s.from_here in
     let is : first_of end split.0 ≡ next =
@@ -317,10 +317,10 @@ IsScan-step end nexts p e next answer s within limit fails goes =
       same = sym (cond-false (p e) (Some e) (find p split.0) fails) ∙ sym (ap (find p) split.1) ∙ s.same;
     }
 
-pub IsScan-shorter : (end : ℕ) (nexts : List ℕ) (p : ℕ → Bool) (e next : ℕ) (answer : Option ℕ)
+pub IsScan-shorter : {end : ℕ} {nexts : List ℕ} {p : ℕ → Bool} {e next : ℕ} {answer : Option ℕ}
     → IsScan end nexts p e answer → e < length nexts → length nexts ≤ end → slice_get nexts e ≡ Some next
     → length (follow nexts (length nexts) next) < length (follow nexts (length nexts) e)
-IsScan-shorter end nexts p e next answer s within limit goes =
+IsScan-shorter {end} {nexts} {p} {e} {next} s within limit goes =
     let split = row_splits end nexts e s.rest s.from_here within limit in
     let row_e : IsLinkedList end nexts e (e ∷ split.0) = subst (IsLinkedList end nexts e) split.1 s.from_here in
     let is : first_of end split.0 ≡ next =

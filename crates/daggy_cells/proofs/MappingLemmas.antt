@@ -19,10 +19,10 @@ module _ {F I W V : Type 0} (step : F → I → Bor W → V → F → Type 0) (o
         × ((later : List C) → MapsCells step of weight with f i (drop i old) later
         → MapsCells step of weight with first 0 old (new ++ later))
 
-    pub MappedBelow-called : (first : F) (old : List A) (f next : F) (new : List C) (i : ℕ) (x : A) (v : V)
+    pub MappedBelow-called : (first : F) (old : List A) {f next : F} (new : List C) {i : ℕ} {x : A} {v : V}
         → i < length old → x ≡ get_or old i x → CalledAt step of f i (weight x) v next → MappedBelow first old f new i
         → MappedBelow first old next (new ++ with x v ∷ []) (i + 1)
-    MappedBelow-called first old f next new i x v within read called kept =
+    MappedBelow-called first old {f} {next} new {i} {x} {v} within read called kept =
         let rest : drop i old ≡ x ∷ drop (i + 1) old =
         drop_more old i x within ∙ ap (λ y. y ∷ drop (i + 1) old) (sym read) in (
           length_push new (with x v) ∙ ap (λ n. n + 1) kept.0,

@@ -11,7 +11,7 @@ use Rattle.daggy_cells.specs.Fields.{Redirects}
 use Rattle.daggy_cells.proofs.LinkedLists.{row_is}
 
 module _ {N E Ix : Type 0} (end : ℕ) (dir : Direction) (nodes : List (Node N Ix)) (edges : List (Edge E Ix))
-    (l : List ℕ) (old n : ℕ) (r : IsLinkedList end (nexts_of dir edges) (get_or (firsts_of dir nodes) n 0) l)
+    {l : List ℕ} (old n : ℕ) (r : IsLinkedList end (nexts_of dir edges) (get_or (firsts_of dir nodes) n 0) l)
     (n_is : get_or (ends_of dir edges) old 0 ≡ n) (few : length edges ≤ end) where
   -- l is the list of n
   walked : list_from dir edges (get_or (firsts_of dir nodes) n 0) ≡ l
@@ -57,7 +57,7 @@ module _ {N E Ix : Type 0} (end : ℕ) (dir : Direction) (nodes : List (Node N I
       → get_or (ends_of dir edges) old 0 ≡ n → n < length nodes → old < length edges → length edges ≤ end
       → Contains (nth_list lists n) old → IsReady end dir nodes edges old
   Ready-from linked n_is n_in old_in few there =
-      Ready-row end dir nodes edges (nth_list lists n) old n (row_at linked n_in) n_is few n_in old_in there
+      Ready-row end dir nodes edges old n (row_at linked n_in) n_is few n_in old_in there
 
   pub Redirected-row : (new : ℕ) (nodes' : List (Node N Ix)) (edges' : List (Edge E Ix))
       → AreLinkedLists end (firsts_of dir nodes) (nexts_of dir edges) lists → get_or (ends_of dir edges) old 0 ≡ n
@@ -65,7 +65,7 @@ module _ {N E Ix : Type 0} (end : ℕ) (dir : Direction) (nodes : List (Node N I
       → Redirected (nth_list lists n) n old new (firsts_of dir nodes) (nexts_of dir edges) (firsts_of dir nodes')
       (nexts_of dir edges')
   Redirected-row new nodes' edges' linked n_is n_in few red =
-      Redirected-list_from end dir nodes edges (nth_list lists n) old n (row_at linked n_in) n_is few new nodes' edges'
+      Redirected-list_from end dir nodes edges old n (row_at linked n_in) n_is few new nodes' edges'
       red
 
 -- one call of `redirect`

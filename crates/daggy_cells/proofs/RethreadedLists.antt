@@ -94,9 +94,9 @@ module _ {E Ix : Type 0} (end : ℕ) (dir : Direction) (list : List ℕ) (old : 
 
   -- the element before is threaded too
   pub threading_step : CanThread (length old) list
-      → (now : List (Edge E Ix)) (left k after i e : ℕ) (x x' : Edge E Ix) → IsThreading now left after → left ≡ suc k
+      → {now : List (Edge E Ix)} {left k after i e : ℕ} {x x' : Edge E Ix} → IsThreading now left after → left ≡ suc k
       → e ≡ get_or list k e → i ≡ e → x ≡ get_or now i x → x' ≡ with_next dir x after → IsThreading (set now i x') k e
-  threading_step can now left k after i e x x' t left_is e_is i_is x_is x'_is =
+  threading_step can {now} {left} {k} {after} {i} {e} {x} {x'} t left_is e_is i_is x_is x'_is =
       let k_in : k < length list = omega (arith, left_is, t.bound) in
       let rest = drop (k + 1) list in
       let from : drop left list ≡ rest = ap (λ n. drop n list) (omega (arith, left_is)) in
@@ -123,17 +123,17 @@ module _ {E Ix : Type 0} (end : ℕ) (dir : Direction) (list : List ℕ) (old : 
             (subst (λ z. KeepsEdges dir now (set now i z)) (sym x'_is) (KeepsEdges-set now i x after x_is dir));
       }
 
-  pub threading_within : CanThread (length old) list → (now : List (Edge E Ix)) (left k after e : ℕ)
+  pub threading_within : CanThread (length old) list → {now : List (Edge E Ix)} {left k after : ℕ} (e : ℕ)
       → IsThreading now left after → left ≡ suc k → e ≡ get_or list k e → e < length now
-  threading_within can now left k after e t left_is e_is =
+  threading_within can {now} {left} {k} e t left_is e_is =
       let within : e < length old = can.within e (k, omega (arith, left_is, t.bound), sym e_is) in
       omega (arith, within, t.nexts.same_length, length-map old (raw_next dir), length-map now (raw_next dir))
 
-  pub threading_done : {N : Type 0} (nodes : List (Node N Ix)) (now : List (Edge E Ix)) (left after n : ℕ)
-      (x x' : Node N Ix)
+  pub threading_done : {N : Type 0} {nodes : List (Node N Ix)} {now : List (Edge E Ix)} {left after n : ℕ}
+      {x x' : Node N Ix}
       → IsThreading now left after → left ≡ 0 → x ≡ get_or nodes n x → x' ≡ with_first dir x after
       → Threads end dir nodes old n list (set nodes n x') now × KeepsNodes dir nodes (set nodes n x')
-  threading_done nodes now left after n x x' t left_is x_is x'_is =
+  threading_done {N} {nodes} {now} {left} {after} {n} {x} t left_is x_is x'_is =
       let whole : drop left list ≡ list = ap (λ k. drop k list) left_is in (
         record {
           first =
@@ -159,16 +159,16 @@ CanThread-as_long count count' list can same = record {
 
 -- both directions
 
-module _ {N E Ix : Type 0} (end n : ℕ) (nodes middle nodes' : List (Node N Ix))
-    (edges between edges' : List (Edge E Ix)) where
+module _ {N E Ix : Type 0} {end n : ℕ} {nodes middle nodes' : List (Node N Ix)}
+    {edges between edges' : List (Edge E Ix)} where
   -- a list of each direction, one after the other
-  pub threads_both : (order : List ℕ × List ℕ) (out into : List ℕ)
+  pub threads_both : (order : List ℕ × List ℕ) {out into : List ℕ}
       → out ≡ order.0 → into ≡ order.1 → Threads end Outgoing nodes edges n out middle between
       → KeepsNodes Outgoing nodes middle → KeepsEdges Outgoing edges between
       → Threads end Incoming middle between n into nodes' edges' → KeepsNodes Incoming middle nodes'
       → KeepsEdges Incoming between edges'
       → (dir : Direction) → Threads end dir nodes edges n (order_at dir order) nodes' edges'
-  threads_both order out into out_is into_is t k l t' k' l' =
+  threads_both order {out} {into} out_is into_is t k l t' k' l' =
       elim [
         | Outgoing ↦ record {
           first = k'.firsts ∙ t.first ∙ ap (λ z. set (firsts_of Outgoing nodes) n (first_of end z)) out_is;
@@ -196,7 +196,7 @@ none_below end nexts firsts lists = record {
   others = λ e p. refl;
 }
 
-module _ (i end : ℕ) (nexts firsts nexts' : List ℕ) (lists : List (List ℕ))
+module _ (i end : ℕ) {nexts firsts nexts' : List ℕ} {lists : List (List ℕ)}
     (t : AreThreadedBelow i end nexts firsts nexts' lists) where
   pub below_empty : get_or firsts i 0 ≡ end → nth_list lists i ≡ []
       → AreThreadedBelow (i + 1) end nexts firsts nexts' lists
@@ -213,10 +213,11 @@ module _ (i end : ℕ) (nexts firsts nexts' : List ℕ) (lists : List (List ℕ)
         others = t.others;
       }
 
-  pub below_threaded : (count : ℕ) → CanThreadAll count lists → i < length firsts
-      → (list firsts' nexts'' : List ℕ) → nth_list lists i ≡ list → firsts' ≡ set firsts i (first_of end list)
+  pub below_threaded : {count : ℕ} → CanThreadAll count lists → i < length firsts
+      → (list : List ℕ) {firsts' nexts'' : List ℕ} → nth_list lists i ≡ list → firsts' ≡ set firsts i
+      (first_of end list)
       → Rethreads end list nexts' nexts'' → AreThreadedBelow (i + 1) end nexts firsts' nexts'' lists
-  below_threaded count can inside list firsts' nexts'' list_is first_is r =
+  below_threaded can inside list {firsts'} list_is first_is r =
       record {
         same_length = r.same_length ∙ t.same_length;
         rows = λ n within.

@@ -67,51 +67,51 @@ module _ {N V W F I : Type 0} (step : F → I → Bor N → Option V → F → T
   -- each name is the index of a node that was added
   names_from : (f : F) (i : ℕ) (xs : List (Option N)) (h : Graph V W) (names : List (Option ℕ)) (new : Graph V W)
       → h.vacant_nodes ≡ [] → FiltersNodes step of f i xs h names new
-      → (a k : ℕ) → slot names a ≡ Some k → length h.nodes ≤ k
-  names_from f i [] h names new none (nil, same) a k at = absurd (none-some k (ap (λ z. slot z a) (sym nil) ∙ at))
-  names_from f i (None ∷ xs) h names new none (rest, is, more) zero k at =
+      → (a : ℕ) {k : ℕ} → slot names a ≡ Some k → length h.nodes ≤ k
+  names_from f i [] h names new none (nil, same) a {k} at = absurd (none-some k (ap (λ z. slot z a) (sym nil) ∙ at))
+  names_from f i (None ∷ xs) h names new none (rest, is, more) zero {k} at =
       absurd (none-some k (ap (λ z. slot z zero) (sym is) ∙ at))
-  names_from f i (None ∷ xs) h names new none (rest, is, more) (suc a) k at =
-      names_from f (i + 1) xs h rest new none more a k (ap (λ z. slot z (suc a)) (sym is) ∙ at)
-  names_from f i (Some x ∷ xs) h names new none (r, next, called, rest, is, more) zero k at =
+  names_from f i (None ∷ xs) h names new none (rest, is, more) (suc a) {k} at =
+      names_from f (i + 1) xs h rest new none more a (ap (λ z. slot z (suc a)) (sym is) ∙ at)
+  names_from f i (Some x ∷ xs) h names new none (r, next, called, rest, is, more) zero {k} at =
       omega (arith, (named_next h r k none (ap (λ z. slot z zero) (sym is) ∙ at)).0)
-  names_from f i (Some x ∷ xs) h names new none (r, next, called, rest, is, more) (suc a) k at =
+  names_from f i (Some x ∷ xs) h names new none (r, next, called, rest, is, more) (suc a) {k} at =
       omega (
         arith,
         not_fewer h r none,
-        names_from next (i + 1) xs (with_kept_node h r) rest new (none_vacant h r none) more a k
+        names_from next (i + 1) xs (with_kept_node h r) rest new (none_vacant h r none) more a
             (ap (λ z. slot z (suc a)) (sym is) ∙ at),
       )
 
   -- no two nodes got one name
   one_name : (f : F) (i : ℕ) (xs : List (Option N)) (h : Graph V W) (names : List (Option ℕ)) (new : Graph V W)
       → h.vacant_nodes ≡ [] → FiltersNodes step of f i xs h names new
-      → (k a b : ℕ) → slot names a ≡ Some k → slot names b ≡ Some k → a ≡ b
-  one_name f i [] h names new none (nil, same) k a b p q = absurd (none-some k (ap (λ z. slot z a) (sym nil) ∙ p))
-  one_name f i (None ∷ xs) h names new none (rest, is, more) k zero b p q =
+      → {k : ℕ} (a b : ℕ) → slot names a ≡ Some k → slot names b ≡ Some k → a ≡ b
+  one_name f i [] h names new none (nil, same) {k} a b p q = absurd (none-some k (ap (λ z. slot z a) (sym nil) ∙ p))
+  one_name f i (None ∷ xs) h names new none (rest, is, more) {k} zero b p q =
       absurd (none-some k (ap (λ z. slot z zero) (sym is) ∙ p))
-  one_name f i (None ∷ xs) h names new none (rest, is, more) k (suc a) zero p q =
+  one_name f i (None ∷ xs) h names new none (rest, is, more) {k} (suc a) zero p q =
       absurd (none-some k (ap (λ z. slot z zero) (sym is) ∙ q))
-  one_name f i (None ∷ xs) h names new none (rest, is, more) k (suc a) (suc b) p q =
-      ap suc (one_name f (i + 1) xs h rest new none more k a b (ap (λ z. slot z (suc a)) (sym is) ∙ p)
+  one_name f i (None ∷ xs) h names new none (rest, is, more) {k} (suc a) (suc b) p q =
+      ap suc (one_name f (i + 1) xs h rest new none more a b (ap (λ z. slot z (suc a)) (sym is) ∙ p)
       (ap (λ z. slot z (suc b)) (sym is) ∙ q))
-  one_name f i (Some x ∷ xs) h names new none (r, next, called, rest, is, more) k zero zero p q = refl
-  one_name f i (Some x ∷ xs) h names new none (r, next, called, rest, is, more) k zero (suc b) p q =
+  one_name f i (Some x ∷ xs) h names new none (r, next, called, rest, is, more) zero zero p q = refl
+  one_name f i (Some x ∷ xs) h names new none (r, next, called, rest, is, more) {k} zero (suc b) p q =
       absurd (omega (
         arith,
         (named_next h r k none (ap (λ z. slot z zero) (sym is) ∙ p)).1,
-        names_from next (i + 1) xs (with_kept_node h r) rest new (none_vacant h r none) more b k
+        names_from next (i + 1) xs (with_kept_node h r) rest new (none_vacant h r none) more b
             (ap (λ z. slot z (suc b)) (sym is) ∙ q),
       ))
-  one_name f i (Some x ∷ xs) h names new none (r, next, called, rest, is, more) k (suc a) zero p q =
+  one_name f i (Some x ∷ xs) h names new none (r, next, called, rest, is, more) {k} (suc a) zero p q =
       absurd (omega (
         arith,
         (named_next h r k none (ap (λ z. slot z zero) (sym is) ∙ q)).1,
-        names_from next (i + 1) xs (with_kept_node h r) rest new (none_vacant h r none) more a k
+        names_from next (i + 1) xs (with_kept_node h r) rest new (none_vacant h r none) more a
             (ap (λ z. slot z (suc a)) (sym is) ∙ p),
       ))
-  one_name f i (Some x ∷ xs) h names new none (r, next, called, rest, is, more) k (suc a) (suc b) p q =
-      ap suc (one_name next (i + 1) xs (with_kept_node h r) rest new (none_vacant h r none) more k a b
+  one_name f i (Some x ∷ xs) h names new none (r, next, called, rest, is, more) {k} (suc a) (suc b) p q =
+      ap suc (one_name next (i + 1) xs (with_kept_node h r) rest new (none_vacant h r none) more a b
       (ap (λ z. slot z (suc a)) (sym is) ∙ p) (ap (λ z. slot z (suc b)) (sym is) ∙ q))
 
   -- there is a name for each slot, vacant or not
@@ -126,54 +126,55 @@ module _ {N V W F I : Type 0} (step : F → I → Bor N → Option V → F → T
   -- what was added stays
   nodes_remain : (f : F) (i : ℕ) (xs : List (Option N)) (h : Graph V W) (names : List (Option ℕ)) (new : Graph V W)
       → h.vacant_nodes ≡ [] → FiltersNodes step of f i xs h names new
-      → (k : ℕ) (y : V) → slot h.nodes k ≡ Some y → slot new.nodes k ≡ Some y
-  nodes_remain f i [] h names new none (nil, same) k y at = ap (λ (z : Graph V W). slot z.nodes k) same ∙ at
-  nodes_remain f i (None ∷ xs) h names new none (rest, is, more) k y at =
-      nodes_remain f (i + 1) xs h rest new none more k y at
-  nodes_remain f i (Some x ∷ xs) h names new none (r, next, called, rest, is, more) k y at =
-      nodes_remain next (i + 1) xs (with_kept_node h r) rest new (none_vacant h r none) more k y
+      → (k : ℕ) {y : V} → slot h.nodes k ≡ Some y → slot new.nodes k ≡ Some y
+  nodes_remain f i [] h names new none (nil, same) k at = ap (λ (z : Graph V W). slot z.nodes k) same ∙ at
+  nodes_remain f i (None ∷ xs) h names new none (rest, is, more) k {y} at =
+      nodes_remain f (i + 1) xs h rest new none more k at
+  nodes_remain f i (Some x ∷ xs) h names new none (r, next, called, rest, is, more) k {y} at =
+      nodes_remain next (i + 1) xs (with_kept_node h r) rest new (none_vacant h r none) more k
       (node_remains h r none k y at)
 
   -- a node that got a name existed, and the name is the index of one that exists
   named_at : (f : F) (i : ℕ) (xs : List (Option N)) (h : Graph V W) (names : List (Option ℕ)) (new : Graph V W)
       → h.vacant_nodes ≡ [] → FiltersNodes step of f i xs h names new
-      → (a k : ℕ) → slot names a ≡ Some k → IsSome (slot xs a) × IsSome (slot new.nodes k) × (k ≤ length h.nodes + a)
-  named_at f i [] h names new none (nil, same) a k at = absurd (none-some k (ap (λ z. slot z a) (sym nil) ∙ at))
-  named_at f i (None ∷ xs) h names new none (rest, is, more) zero k at =
+      → (a : ℕ) {k : ℕ} → slot names a ≡ Some k → IsSome (slot xs a) × IsSome (slot new.nodes k) ×
+      (k ≤ length h.nodes + a)
+  named_at f i [] h names new none (nil, same) a {k} at = absurd (none-some k (ap (λ z. slot z a) (sym nil) ∙ at))
+  named_at f i (None ∷ xs) h names new none (rest, is, more) zero {k} at =
       absurd (none-some k (ap (λ z. slot z zero) (sym is) ∙ at))
-  named_at f i (None ∷ xs) h names new none (rest, is, more) (suc a) k at =
-      let later = named_at f (i + 1) xs h rest new none more a k (ap (λ z. slot z (suc a)) (sym is) ∙ at) in
+  named_at f i (None ∷ xs) h names new none (rest, is, more) (suc a) {k} at =
+      let later = named_at f (i + 1) xs h rest new none more a (ap (λ z. slot z (suc a)) (sym is) ∙ at) in
       (later.0, later.1, omega (arith, later.2))
-  named_at f i (Some x ∷ xs) h names new none (None, next, called, rest, is, more) zero k at =
+  named_at f i (Some x ∷ xs) h names new none (None, next, called, rest, is, more) zero {k} at =
       absurd (none-some k (ap (λ z. slot z zero) (sym is) ∙ at))
-  named_at f i (Some x ∷ xs) h names new none (Some v, next, called, rest, is, more) zero k at =
+  named_at f i (Some x ∷ xs) h names new none (Some v, next, called, rest, is, more) zero {k} at =
       let here : named h (Some v) ≡ Some k = ap (λ z. slot z zero) (sym is) ∙ at in
       let index : k ≡ length h.nodes = (named_next h (Some v) k none here).0 in
       let P : ℕ → Type 0 = λ z. slot (with_node h v).nodes z ≡ Some v in
       let added : slot (with_node h v).nodes k ≡ Some v =
       subst P (same_Some (next_node h) k here) (slot_taken_new h.nodes h.vacant_nodes v (none_taken h none)) in (
         refl,
-        ap is_some (nodes_remain next (i + 1) xs (with_node h v) rest new (none_vacant h (Some v) none) more k v added),
+        ap is_some (nodes_remain next (i + 1) xs (with_node h v) rest new (none_vacant h (Some v) none) more k added),
         omega (arith, index),
       )
-  named_at f i (Some x ∷ xs) h names new none (r, next, called, rest, is, more) (suc a) k at =
+  named_at f i (Some x ∷ xs) h names new none (r, next, called, rest, is, more) (suc a) {k} at =
       let later =
-      named_at next (i + 1) xs (with_kept_node h r) rest new (none_vacant h r none) more a k
+      named_at next (i + 1) xs (with_kept_node h r) rest new (none_vacant h r none) more a
       (ap (λ z. slot z (suc a)) (sym is) ∙ at) in
       (later.0, later.1, omega (arith, later.2, more_nodes h r none))
 
   -- each node got its index as a name, or was there before
   came_from : (f : F) (i : ℕ) (xs : List (Option N)) (h : Graph V W) (names : List (Option ℕ)) (new : Graph V W)
       → FiltersNodes step of f i xs h names new
-      → (k : ℕ) (y : V) → slot new.nodes k ≡ Some y → ((a : ℕ) × (slot names a ≡ Some k)) ⊎ (slot h.nodes k ≡ Some y)
-  came_from f i [] h names new (nil, same) k y at = inr (ap (λ (z : Graph V W). slot z.nodes k) (sym same) ∙ at)
-  came_from f i (None ∷ xs) h names new (rest, is, more) k y at =
-      elim (came_from f (i + 1) xs h rest new more k y at) [
+      → {k : ℕ} {y : V} → slot new.nodes k ≡ Some y → ((a : ℕ) × (slot names a ≡ Some k)) ⊎ (slot h.nodes k ≡ Some y)
+  came_from f i [] h names new (nil, same) {k} at = inr (ap (λ (z : Graph V W). slot z.nodes k) (sym same) ∙ at)
+  came_from f i (None ∷ xs) h names new (rest, is, more) {k} {y} at =
+      elim (came_from f (i + 1) xs h rest new more at) [
         | inl c ↦ inl (suc c.0, ap (λ z. slot z (suc c.0)) is ∙ c.1)
         | inr q ↦ inr q
       ]
-  came_from f i (Some x ∷ xs) h names new (r, next, called, rest, is, more) k y at =
-      elim (came_from next (i + 1) xs (with_kept_node h r) rest new more k y at) [
+  came_from f i (Some x ∷ xs) h names new (r, next, called, rest, is, more) {k} {y} at =
+      elim (came_from next (i + 1) xs (with_kept_node h r) rest new more at) [
         | inl c ↦ inl (suc c.0, ap (λ z. slot z (suc c.0)) is ∙ c.1)
         | inr q ↦ elim (node_came h r k y q) [
           | inl named_so ↦ inl (zero, ap (λ z. slot z zero) is ∙ named_so)
@@ -289,8 +290,8 @@ both_named None q a b is = absurd (none-some (a, b) is)
 both_named (Some x) None a b is = absurd (none-some (a, b) is)
 both_named (Some x) (Some y) a b is = let s = same_Some (x, y) (a, b) is in (ap (λ z. Some z.0) s, ap (λ z. Some z.1) s)
 
-module _ {N E V W F G I : Type 0} (of : ℕ → I) (step_f : F → I → Bor N → Option V → F → Type 0)
-    (step_g : G → I → Bor E → Option W → G → Type 0) (f : F) (g : G) (old : Graph N E) (new : Graph V W)
+module _ {N E V W F G I : Type 0} {of : ℕ → I} {step_f : F → I → Bor N → Option V → F → Type 0}
+    {step_g : G → I → Bor E → Option W → G → Type 0} {f : F} {g : G} {old : Graph N E} {new : Graph V W}
     (filtered : IsFiltered of step_f step_g f g old new) where
   was_joined : (k l : ℕ) → AreJoined new k l
       → (u v : ℕ) × (slot filtered.names u ≡ Some k) × (slot filtered.names v ≡ Some l) × AreJoined old u v
@@ -310,7 +311,7 @@ module _ {N E V W F G I : Type 0} (of : ℕ → I) (step_f : F → I → Bor N �
 
   has_name : (a k : ℕ) → slot filtered.names a ≡ Some k → HasNode old a × HasNode new k × (k ≤ a)
   has_name a k at =
-      let n = named_at step_f of f 0 old.nodes empty filtered.names filtered.middle refl filtered.nodes a k at in
+      let n = named_at step_f of f 0 old.nodes empty filtered.names filtered.middle refl filtered.nodes a at in
       let P : List (Option V) → Type 0 = λ z. IsSome (slot z k) in
       (n.0, subst P (sym nodes_are) n.1, omega (arith, n.2))
 
@@ -318,7 +319,7 @@ module _ {N E V W F G I : Type 0} (of : ℕ → I) (step_f : F → I → Bor N �
   has_node k = (
     λ h.
         let w = some_is (slot new.nodes k) h in
-        elim (came_from step_f of f 0 old.nodes empty filtered.names filtered.middle filtered.nodes k w.0
+        elim (came_from step_f of f 0 old.nodes empty filtered.names filtered.middle filtered.nodes
         (ap (λ z. slot z k) (sym nodes_are) ∙ w.1)) [
           | inl c ↦ (c.0, (has_name c.0 k c.1).0, c.1)
           | inr none ↦ absurd (none-some w.0 none)
@@ -332,34 +333,35 @@ module _ {N E V W F G I : Type 0} (of : ℕ → I) (step_f : F → I → Bor N �
       ((has_name was.0 k was.2).1, (has_name was.1 l was.3).1)
 
   -- what is asked of new names
-  module _ (names : List (Option ℕ)) (same : filtered.names ≡ names) where
+  module _ {names : List (Option ℕ)} (same : filtered.names ≡ names) where
     pub names_lower : (a k : ℕ) → slot names a ≡ Some k → k ≤ a
     names_lower a k at = (has_name a k (ap (λ z. slot z a) same ∙ at)).2
 
     pub names_differ : (a b k : ℕ) → slot names a ≡ Some k → slot names b ≡ Some k → a ≡ b
     names_differ a b k p q =
-        one_name step_f of f 0 old.nodes empty filtered.names filtered.middle refl filtered.nodes k a b
+        one_name step_f of f 0 old.nodes empty filtered.names filtered.middle refl filtered.nodes a b
         (ap (λ z. slot z a) same ∙ p) (ap (λ z. slot z b) same ∙ q)
 
     pub names_many : length names ≡ length old.nodes
     names_many =
         ap length (sym same) ∙ names_long step_f of f 0 old.nodes empty filtered.names filtered.middle filtered.nodes
 
-    pub names_cover : (order copy : List ℕ)
+    pub names_cover : {order copy : List ℕ}
         → copy ≡ order → IsOrderOf old order → (n : ℕ) → Contains copy n → n < length names
-    names_cover order copy is ord = order_below old order copy (length names) names_many is ord
+    names_cover {order} {copy} is ord = order_below old order copy (length names) names_many is ord
 
-    pub order_renamed : (order copy left : List ℕ)
+    pub order_renamed : {order copy left : List ℕ}
         → copy ≡ order → left ≡ filter_map (slot names) copy → IsOrderOf old order → IsOrderOf new left
-    order_renamed order copy left is named_so ord =
+    order_renamed {order} {copy} {left} is named_so ord =
         let P : List ℕ → Type 0 = λ z. IsOrderOf new z in
         let whole : left ≡ filter_map (slot filtered.names) order =
         named_so ∙ (ap (λ z. filter_map (slot z) copy) (sym same) ∙ ap (filter_map (slot filtered.names)) is) in
         subst P (sym whole) (order_named order ord ends_named (slot filtered.names) (λ u v k p q. one_name step_f of f 0
-        old.nodes empty filtered.names filtered.middle refl filtered.nodes k u v p q) has_node was_joined)
+        old.nodes empty filtered.names filtered.middle refl filtered.nodes u v p q) has_node was_joined)
 
-  pub fits_filtered : (slots capacity : ℕ) → slots ≡ length old.nodes → slots ≤ capacity → node_bound new ≤ capacity
-  fits_filtered slots capacity many fits =
+  pub fits_filtered : {slots : ℕ} (capacity : ℕ) → slots ≡ length old.nodes → slots ≤ capacity → node_bound new ≤
+      capacity
+  fits_filtered capacity many fits =
       omega (
         arith,
         bound_low new.nodes,

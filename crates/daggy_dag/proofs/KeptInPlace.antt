@@ -63,8 +63,8 @@ joined_slot nodes [] k x at = absurd (none-some x at)
 joined_slot nodes (y ∷ ys) zero x at = joined_there nodes y x at
 joined_slot nodes (y ∷ ys) (suc k) x at = joined_slot nodes ys k x at
 
-module _ {N E V W F G I : Type 0} (of : ℕ → I) (step_f : F → I → Bor N → Option V → F → Type 0)
-    (step_g : G → I → Bor E → Option W → G → Type 0) (f : F) (g : G) (old : Graph N E) (new : Graph V W)
+module _ {N E V W F G I : Type 0} {of : ℕ → I} {step_f : F → I → Bor N → Option V → F → Type 0}
+    {step_g : G → I → Bor E → Option W → G → Type 0} {f : F} {g : G} {old : Graph N E} {new : Graph V W}
     (filtered : IsFilteredInPlace of step_f step_g f g old new) where
   joined_before : (u v : ℕ) → AreJoined new u v → AreJoined old u v
   joined_before u v j =
@@ -86,16 +86,16 @@ module _ {N E V W F G I : Type 0} (of : ℕ → I) (step_f : F → I → Bor N �
       let P : Option N → Type 0 = λ z. IsSome z in
       subst P (sym (taken_slot _ old.nodes n m.0 m.2)) refl
 
-  pub order_kept : (end : ℕ) (order copy left : List ℕ) → IsWellFormed end new → copy ≡ order
+  pub order_kept : {end : ℕ} {order copy left : List ℕ} → IsWellFormed end new → copy ≡ order
       → left ≡ filter (λ n. is_some (node_weight new n)) copy → IsOrderOf old order → IsOrderOf new left
-  order_kept end order copy left w same is ord =
+  order_kept {end} {order} w same is ord =
       let P : List ℕ → Type 0 = λ z. IsOrderOf new z in
       let test : ℕ → Bool = λ n. is_some (node_weight new n) in
       subst P (sym (is ∙ ap (filter test) same))
       (order_filtered order ord (ends_exist w) test (λ n. (λ h. (was_there n h, h), λ h. h.1)) joined_before)
 
-  pub fits_kept : (slots capacity : ℕ) → slots ≡ length old.nodes → slots ≤ capacity → node_bound new ≤ capacity
-  fits_kept slots capacity many fits =
+  pub fits_kept : {slots : ℕ} (capacity : ℕ) → slots ≡ length old.nodes → slots ≤ capacity → node_bound new ≤ capacity
+  fits_kept capacity many fits =
       omega (
         arith,
         ap (λ (z : Graph V W). node_bound z) filtered.is,

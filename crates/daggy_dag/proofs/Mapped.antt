@@ -99,14 +99,14 @@ same_nodes step of weight with f xs new mapped n =
 module _ {N E V W F G I : Type 0} (of : ℕ → I) (step_f : F → I → Bor N → V → F → Type 0)
     (step_g : G → I → Bor E → W → G → Type 0) (f : F) (g : G) (old : Graph N E) (new : Graph V W)
     (mapped : IsMapped of step_f step_g f g old new) where
-  pub order_mapped : (order copy : List ℕ) → copy ≡ order → IsOrderOf old order → IsOrderOf new copy
-  order_mapped order copy same ord =
+  pub order_mapped : {order copy : List ℕ} → copy ≡ order → IsOrderOf old order → IsOrderOf new copy
+  order_mapped {order} same ord =
       subst (IsOrderOf new) (sym same)
       (order_fewer order ord (same_nodes step_f of (λ w. w) (λ w v. v) f old.nodes new.nodes mapped.nodes)
       (joined_reweighed of step_g g old new mapped.edges))
 
-  pub fits_mapped : (slots capacity : ℕ) → slots ≡ length old.nodes → slots ≤ capacity → node_bound new ≤ capacity
-  fits_mapped slots capacity many fits =
+  pub fits_mapped : {slots : ℕ} (capacity : ℕ) → slots ≡ length old.nodes → slots ≤ capacity → node_bound new ≤ capacity
+  fits_mapped capacity many fits =
       omega (
         arith,
         bound_low new.nodes,

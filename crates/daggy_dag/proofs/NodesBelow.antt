@@ -5,10 +5,10 @@ use Rattle.std.proofs.lemmas.List.{map-append}
 use Rattle.std.proofs.lemmas.Bool.{cases_lt}
 use Rattle.daggy_base.proofs.Lists.{mem_left, mem_right, mem_contains, contains_mem}
 
-pub nodes_more : {A : Type 0} (number : A → ℕ) (items new : List A) (n : ℕ) (x : A)
+pub nodes_more : {A : Type 0} (number : A → ℕ) (items : List A) {new : List A} {n : ℕ} (x : A)
     → new ≡ items ++ x ∷ [] → number x ≡ n → ((m : ℕ) → m < n → Contains (map number items) m) → (m : ℕ) → m < n + 1
     → Contains (map number new) m
-nodes_more number items new n x is last before m low =
+nodes_more number items {new} {n} x is last before m low =
     let all : map number new ≡ map number items ++ number x ∷ [] =
     ap (map number) is ∙ map-append number items (x ∷ []) in
     let P : List ℕ → Type 0 = λ z. Contains z m in

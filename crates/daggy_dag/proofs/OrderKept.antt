@@ -33,11 +33,11 @@ kept_without_edges order capacity old new is kept =
     stays_so order capacity new (without_all_edges old) is (order_without_all_edges old order kept.0, kept.1)
 
 -- a copy
-pub kept_copied : {N E : Type 0} (order copy : List ℕ) (slots capacity : ℕ) (old : Graph N E)
-    (new : State N E) (looks : ℕ)
+pub kept_copied : {N E : Type 0} {order copy : List ℕ} {slots : ℕ} (capacity : ℕ) {old : Graph N E}
+    {new : State N E} (looks : ℕ)
     → new ≡ record { graph = old; looks = looks } → copy ≡ order → slots ≡ length old.nodes → slots ≤ capacity
     → IsOrderOf old order → IsKept new.graph copy capacity
-kept_copied {N} {E} order copy slots capacity old new looks is same many fits ord =
+kept_copied {N} {E} {order} {copy} capacity {old} {new} looks is same many fits ord =
     stays_so copy capacity new.graph old (ap (λ (z : State N E). z.graph) is)
     (subst (IsOrderOf old) (sym same) ord, omega (arith, bound_low old.nodes, many, fits))
 

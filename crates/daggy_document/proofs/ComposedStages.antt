@@ -51,7 +51,7 @@ module _ {N E : Type 0} (limit : ℕ) (stable : Bool) (node_answers : Data → O
       weight_fault e h = on (Err e) None laid (Err e, h, refl)
 
       module _ (weights : List N) (read : ReadsEach (IsWeight node_answers) p.nodes (Ok weights))
-          (nodes : List (Option N)) (placed : AreSlots nodes p.holes weights) where
+          {nodes : List (Option N)} (placed : AreSlots nodes p.holes weights) where
         linked : (r : Result (Graph N E) ReadError) → IsLinked limit stable node_answers edge_answers p nodes r
             → IsRead limit stable node_answers edge_answers d r
         linked r h = on r None laid (Ok weights, read, (nodes, placed, h))

@@ -47,11 +47,12 @@ module _ {N E : Type 0} (g : Graph N E) where
   tested_cyclic o cyclic = (λ a. cyclic (cyclic_ordered o a), refl)
 
 -- the same in the words of the code: the dag that was made, and the lists that were handed to it
-pub tested_made : {N E A : Type 0} (g made new : Graph N E) (o : Option (List (List ℕ × List ℕ))) (rows slice : List A)
+pub tested_made : {N E A : Type 0} {g : Graph N E} {made new : Graph N E} {o : Option (List (List ℕ × List ℕ))}
+    {rows slice : List A}
     (f : List A → List (List ℕ × List ℕ))
     → o ≡ Some (f rows) → made ≡ g → slice ≡ rows → new ≡ with_orders made (f slice) → IsAcyclic made
     → IsTested (ordered g o) (Ok new)
-tested_made {N} {E} g made new o rows slice f is same_graph same_rows ordered_is acyclic =
+tested_made {N} {E} {A} {g} {made} {new} {o} {rows} {slice} f is same_graph same_rows ordered_is acyclic =
     let P : Graph N E → Type 0 = λ z. IsAcyclic z in
     let same : new ≡ with_orders g (f rows) =
     ordered_is

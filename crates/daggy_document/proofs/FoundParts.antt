@@ -130,10 +130,11 @@ module _ (d : Data) (vs : List Value) (array : Some (items_of (map view vs)) ≡
   pub no_triple : (length vs ≡ 3 → ⊥) → None ≡ triple_in d
   no_triple h = sym (ap (option_and_then triple) (array_some d vs array) ∙ not_triple vs h)
 
-  pub triple_found : (a b w : Value) → length vs ≡ 3 → a ≡ get_or vs 0 a → b ≡ get_or vs 1 b → w ≡ get_or vs 2 w
+  pub triple_found : (a : Value) {b w : Value} → length vs ≡ 3 → a ≡ get_or vs 0 a → b ≡ get_or vs 1 b → w ≡ get_or vs 2
+      w
       → (x y : Option ℕ) → x ≡ whole_in (view a) → y ≡ whole_in (view b)
       → option_and_then (λ p. option_map (λ c. (p, c, view w)) y) x ≡ triple_in d
-  triple_found a b w long e f h x y first second =
+  triple_found a {b} {w} long e f h x y first second =
       ap (λ k. option_and_then (λ p. option_map (λ c. (p, c, view w)) y) k) first
       ∙ (ap (λ k. option_and_then (λ p. option_map (λ c. (p, c, view w)) k) (whole_in (view a))) second
       ∙ sym (ap (option_and_then triple) (array_some d vs array) ∙ triple_is vs a b w long e f h))

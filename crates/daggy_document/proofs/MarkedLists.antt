@@ -353,10 +353,10 @@ module _ {N : Type 0} {P : ℕ → ℕ → Bool} {m₀ m : List Bool} {slots : L
   lists_skip low (Some x) is vacant = absurd (false≢true (sym vacant))
 
   lists_on : n < length slots → (o : Option N) → o ≡ get_or slots n o → is_some o ≡ true → passed < length lists
-      → (l : List ℕ) → l ≡ get_or lists passed l → Marked (P n) m l → (m' : List Bool) → m' ≡ marked_with m l
+      → {l : List ℕ} → l ≡ get_or lists passed l → Marked (P n) m l → {m' : List Bool} → m' ≡ marked_with m l
       → ListsSoFar P m₀ slots lists (n + 1) (passed + 1) m'
-  lists_on low None is some more l here marked m' after = absurd (false≢true some)
-  lists_on low (Some x) is some more l here marked m' after =
+  lists_on low None is some more here marked after = absurd (false≢true some)
+  lists_on low (Some x) is some more {l} here marked after =
       let at = slot_at low (Some x) is in
       let at_list = list_at more l here in
       let Q : List (Option N) → Type 0 = λ k. AllMarked P n m k (drop passed lists) in
@@ -389,12 +389,12 @@ module _ {N : Type 0} {P : ℕ → ℕ → Bool} {m₀ m : List Bool} {slots : L
       let T : List Bool → Type 0 = λ k. ListsSoFar P m₀ slots lists (n + 1) passed k in
       subst R (sym same_passed) (subst T (sym same) (lists_skip low o is vacant))
 
-  pub lists_passed : n < length slots → (o : Option N) → o ≡ get_or slots n o → is_some o ≡ true → passed < length lists
-      → (l : List ℕ) → l ≡ get_or lists passed l → Marked (P n) m l → (passed' : ℕ) (m' : List Bool)
+  pub lists_passed : n < length slots → {o : Option N} → o ≡ get_or slots n o → is_some o ≡ true → passed < length lists
+      → {l : List ℕ} → l ≡ get_or lists passed l → Marked (P n) m l → {passed' : ℕ} {m' : List Bool}
       → passed' ≡ passed + 1 → m' ≡ marked_with m l → ListsSoFar P m₀ slots lists (n + 1) passed' m'
-  lists_passed low o is some more l here marked passed' m' next after =
+  lists_passed low {o} is some more {l} here marked {passed'} {m'} next after =
       let R : ℕ → Type 0 = λ k. ListsSoFar P m₀ slots lists (n + 1) k m' in
-      subst R (sym next) (lists_on low o is some more l here marked m' after)
+      subst R (sym next) (lists_on low o is some more here marked after)
 
   -- a list is missing, or can't be marked
   pub lists_wrong : n < length slots → (o : Option N) → o ≡ get_or slots n o → is_some o ≡ true

@@ -117,12 +117,12 @@ both o p = option_and_then (λ r. option_map (λ s. (r, s)) p) o
 row_narrows : (bound : ℕ) → Narrows (row_in bound) pair_in (RowPast bound)
 row_narrows bound = record { some = λ d x h. some_at (array_in d) x h; none = λ d x h k. none_at (array_in d) x h k }
   where
-    some_two : (a b : Data) (x : List ℕ × List ℕ) (o p o' p' : Option (List ℕ))
+    some_two : (a b : Data) {x : List ℕ × List ℕ} (o p o' p' : Option (List ℕ))
         → ((r : List ℕ) → o ≡ Some r → o' ≡ Some r) → ((r : List ℕ) → p ≡ Some r → p' ≡ Some r) → both o p ≡ Some x
         → both o' p' ≡ Some x
-    some_two a b x None p o' p' f g h = cc
-    some_two a b x (Some r) None o' p' f g h = cc
-    some_two a b x (Some r) (Some s) o' p' f g h =
+    some_two a b None p o' p' f g h = cc
+    some_two a b (Some r) None o' p' f g h = cc
+    some_two a b (Some r) (Some s) o' p' f g h =
         ap (λ k. both k p') (f r refl) ∙ (ap (λ k. both (Some r) k) (g s refl) ∙ h)
 
     some_at : (o : Option (List Data)) (x : List ℕ × List ℕ)
@@ -131,7 +131,7 @@ row_narrows bound = record { some = λ d x h. some_at (array_in d) x h; none = �
     some_at (Some []) x h = h
     some_at (Some (a ∷ [])) x h = h
     some_at (Some (a ∷ b ∷ [])) x h =
-        some_two a b x (indices_in bound a) (indices_in bound b) (numbers_in a) (numbers_in b)
+        some_two a b (indices_in bound a) (indices_in bound b) (numbers_in a) (numbers_in b)
         (array_some (index_narrows bound) a) (array_some (index_narrows bound) b) h
     some_at (Some (a ∷ b ∷ c ∷ ds)) x h = h
 

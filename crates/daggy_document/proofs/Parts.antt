@@ -56,14 +56,15 @@ zip_values R vs vs' v xs x so_far here more =
 
 -- ---- holes
 
-module _ {A : Type 0} (slots : List (Option A)) (i n : ℕ) (at : n ≡ i) where
+module _ {A : Type 0} (slots : List (Option A)) {i n : ℕ} (at : n ≡ i) where
   here : (b : Bool) → is_some (slot slots n) ≡ b → is_some (slot slots i) ≡ b
   here b h = ap (λ k. is_some (slot slots k)) (sym at) ∙ h
 
-  pub hole_more : (vs vs' : List Value) (v : Value) → map view vs ≡ map whole (vacant_from 0 (take i slots))
+  pub hole_more : (vs : List Value) {vs' : List Value} (v : Value) → map view vs ≡ map whole
+      (vacant_from 0 (take i slots))
       → i < length slots → (is_some (slot slots n) ≡ true → ⊥) → view v ≡ whole i → vs' ≡ vs ++ v ∷ []
       → map view vs' ≡ map whole (vacant_from 0 (take (i + 1) slots))
-  hole_more vs vs' v so_far low vacant is more =
+  hole_more vs {vs'} v so_far low vacant is more =
       let none : is_some (slot slots i) ≡ false =
       ap is_some (not_some (slot slots i) (λ h. vacant (ap (λ k. is_some (slot slots k)) at ∙ h))) in
       more_values whole vs vs' v _ i so_far is more ∙ ap (map whole) (sym (vacant_passes i slots low none))
@@ -75,40 +76,40 @@ module _ {A : Type 0} (slots : List (Option A)) (i n : ℕ) (at : n ≡ i) where
 
   -- ---- rows
 
-  pub row_more : (row : ℕ → Data) (vs vs' : List Value) (v : Value)
+  pub row_more : (row : ℕ → Data) (vs : List Value) {vs' : List Value} (v : Value)
       → map view vs ≡ map row (map (λ p. p.0) (numbered 0 (take i slots))) → (w : A) → slot slots i ≡ Some w
       → view v ≡ row n → vs' ≡ vs ++ v ∷ []
       → map view vs' ≡ map row (map (λ p. p.0) (numbered 0 (take (i + 1) slots)))
-  row_more row vs vs' v so_far w some is more =
+  row_more row vs {vs'} v so_far w some is more =
       more_values row vs vs' v _ i so_far (is ∙ ap row at) more
       ∙ ap (map row) (sym (ap (map (λ p. p.0)) (numbered_passes i slots w some)
       ∙ map-append (λ p. p.0) (numbered 0 (take i slots)) ((i, w) ∷ [])))
 
-  pub row_kept : (row : ℕ → Data) (vs vs' : List Value)
+  pub row_kept : (row : ℕ → Data) {vs vs' : List Value}
       → map view vs ≡ map row (map (λ p. p.0) (numbered 0 (take i slots)))
       → (is_some (slot slots n) ≡ true → ⊥) → vs' ≡ vs
       → map view vs' ≡ map row (map (λ p. p.0) (numbered 0 (take (i + 1) slots)))
-  row_kept row vs vs' so_far vacant same =
+  row_kept row so_far vacant same =
       let none : slot slots i ≡ None =
       not_some (slot slots i) (λ h. vacant (ap (λ k. is_some (slot slots k)) at ∙ h)) in
       ap (map view) same ∙ (so_far ∙ ap (λ k. map row (map (λ p. p.0) k)) (sym (numbered_skips i slots none)))
 
   -- ---- weights
 
-  pub weight_more : (R : A → Data → Type 0) (vs vs' : List Value) (v : Value)
+  pub weight_more : (R : A → Data → Type 0) (vs : List Value) {vs' : List Value} (v : Value)
       → AllZip R (map (λ p. p.1) (numbered 0 (take i slots))) (map view vs) → (w : A) → Some w ≡ slot slots n
       → R w (view v) → vs' ≡ vs ++ v ∷ []
       → AllZip R (map (λ p. p.1) (numbered 0 (take (i + 1) slots))) (map view vs')
-  weight_more R vs vs' v so_far w some is more =
+  weight_more R vs {vs'} v so_far w some is more =
       let e : map (λ p. p.1) (numbered 0 (take (i + 1) slots)) ≡ map (λ p. p.1) (numbered 0 (take i slots)) ++ w ∷ [] =
       ap (map (λ p. p.1)) (numbered_passes i slots w (ap (slot slots) (sym at) ∙ sym some))
       ∙ map-append (λ p. p.1) (numbered 0 (take i slots)) ((i, w) ∷ []) in
       subst (λ k. AllZip R k (map view vs')) (sym e) (zip_values R vs vs' v _ w so_far is more)
 
-  pub weight_kept : (R : A → Data → Type 0) (vs vs' : List Value)
+  pub weight_kept : (R : A → Data → Type 0) {vs vs' : List Value}
       → AllZip R (map (λ p. p.1) (numbered 0 (take i slots))) (map view vs) → None ≡ slot slots n → vs' ≡ vs
       → AllZip R (map (λ p. p.1) (numbered 0 (take (i + 1) slots))) (map view vs')
-  weight_kept R vs vs' so_far vacant same =
+  weight_kept R {vs} {vs'} so_far vacant same =
       let e : map (λ p. p.1) (numbered 0 (take (i + 1) slots)) ≡ map (λ p. p.1) (numbered 0 (take i slots)) =
       ap (map (λ p. p.1)) (numbered_skips i slots (ap (slot slots) (sym at) ∙ sym vacant)) in
       subst (λ k. AllZip R k (map view vs')) (sym e)
@@ -139,21 +140,21 @@ slot_read [] i = refl
 slot_read (x ∷ xs) zero = refl
 slot_read (x ∷ xs) (suc i) = slot_read xs i
 
-pub entry_more : {A : Type 0} (slots : List (Option A)) (i n : ℕ)
+pub entry_more : {A : Type 0} (slots : List (Option A)) {i n : ℕ}
     → n ≡ i → (R : Option A → Data → Type 0) (vs vs' : List Value) (v : Value) → i < length slots
     → AllZip R (take i slots) (map view vs) → R (slot slots n) (view v) → vs' ≡ vs ++ v ∷ []
     → AllZip R (take (i + 1) slots) (map view vs')
-entry_more slots i n at R vs vs' v low so_far here more =
+entry_more slots {i} {n} at R vs vs' v low so_far here more =
     let e : take (i + 1) slots ≡ take i slots ++ slot slots n ∷ [] =
     take_more slots i None low ∙ ap (λ k. take i slots ++ k ∷ []) (sym (ap (slot slots) at ∙ slot_read slots i)) in
     subst (λ k. AllZip R k (map view vs')) (sym e) (zip_values R vs vs' v _ _ so_far here more)
 
-pub entry_is : {E I : Type 0} (number : I → ℕ) (R : E → Data → Type 0) (o : Option (Edge E)) (ends : I × I) (w : E)
-    (d v : Data)
+pub entry_is : {E I : Type 0} (number : I → ℕ) (R : E → Data → Type 0) (o : Option (Edge E)) (ends : I × I) {w : E}
+    (d : Data) {v : Data}
     → Some (pair_of number ends) ≡ option_map ends_of o → Some w ≡ option_map (λ x. x.weight) o → R w d
     → (p q : ℕ) → p ≡ number ends.0 → q ≡ number ends.1 → v ≡ listed (whole p ∷ whole q ∷ d ∷ []) → IsEntry R o v
-entry_is number R None ends w d v at is says p q parent child whole_is = cc
-entry_is number R (Some x) ends w d v at is says p q parent child whole_is =
+entry_is number R None ends d at is says p q parent child whole_is = cc
+entry_is number R (Some x) ends {w} d at is says p q parent child whole_is =
     let same : w ≡ x.weight = cc in
     let pair : pair_of number ends ≡ ends_of x = cc in (
       d,

@@ -92,11 +92,11 @@ module _ {high : ℕ} {hs : List ℕ} {i low : ℕ} (s : AscendSoFar high hs i l
 -- ---- entries
 
 module _ {N E : Type 0} (stable : Bool) (nodes : List (Option N)) (answers : Data → Option E → Type 0) (d : Data)
-    (p q : ℕ) (w : Data) (found : Some (p, q, w) ≡ triple_in d) (parent : IsSome (slot nodes p))
+    {p q : ℕ} {w : Data} (found : Some (p, q, w) ≡ triple_in d) (parent : IsSome (slot nodes p))
     (child : IsSome (slot nodes q)) where
-  pub entry_some : (p' q' : ℕ) (x : E) → p' ≡ p → q' ≡ q → answers w (Some x)
+  pub entry_some : {p' q' : ℕ} (x : E) → p' ≡ p → q' ≡ q → answers w (Some x)
       → IsEntryRead stable nodes answers d (Ok (Some (record { parent = p'; child = q'; weight = x })))
-  entry_some p' q' x is is' says =
+  entry_some {p'} x is is' says =
       let P : ℕ → Type 0 = λ k. IsSome (slot nodes k) in (
         w,
         sym found ∙ (ap (λ k. Some (k, q, w)) (sym is) ∙ ap (λ k. Some (p', k, w)) (sym is')),

@@ -24,7 +24,7 @@ pub record Listed (end : ℕ) (list : List ℕ) (vs : List Value) (e : ℕ) : Ty
 pub listed_starts : (end e : ℕ) (list : List ℕ) → e ≡ first_of end list → Listed end list [] e
 listed_starts end e list is = record { within = omega arith; written = refl; cursor = is }
 
-module _ {N E : Type 0} (end : ℕ) (g : Graph N E) (w : IsWellFormed end g) where
+module _ {N E : Type 0} {end : ℕ} {g : Graph N E} (w : IsWellFormed end g) where
   member_at : (dir : Direction) (n e : ℕ)
       → Mem e (list_at dir g n) → (x : Edge E) × (edge_at g e ≡ Some x) × (near_end dir x ≡ n)
   member_at Outgoing n e m = (w.out_of.exact n e).0 (mem_contains _ _ m)
@@ -63,9 +63,9 @@ module _ {N E : Type 0} (end : ℕ) (g : Graph N E) (w : IsWellFormed end g) whe
           | inr b ↦ s.written ∙ ap (map whole) (take_all (length vs) (list_at dir g n) b)
         ]
 
-    pub listed_next : e ≢ end → (v : Value) (vs' : List Value) (e' : ℕ) → view v ≡ whole e → vs' ≡ vs ++ v ∷ []
+    pub listed_next : e ≢ end → (v : Value) {vs' : List Value} {e' : ℕ} → view v ≡ whole e → vs' ≡ vs ++ v ∷ []
         → e' ≡ cursor_after dir end g e (edge_at g e) → Listed end (list_at dir g n) vs' e'
-    listed_next h v vs' e' is more next =
+    listed_next h v {vs'} is more next =
         let p = part h in
         let x = listed_edge h in
         let list = list_at dir g n in

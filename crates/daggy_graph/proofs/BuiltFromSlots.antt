@@ -44,11 +44,12 @@ full f xs =
     (λ i within. slot_holds f xs i (omega (arith, within, length-map xs (λ x. Some (f x)))))
 
 -- both ends of the edge that is taken next are nodes
-pub ends_within : {N E Ix : Type 0} (end : ℕ) (weights : List (Option N))
-    (whole made later : List (Option (PlainEdge E))) (x : PlainEdge E) (nodes : List (Node N Ix))
+pub ends_within : {N E Ix : Type 0} {end : ℕ} {weights : List (Option N)}
+    {whole : List (Option (PlainEdge E))} (made later : List (Option (PlainEdge E))) (x : PlainEdge E)
+    (nodes : List (Node N Ix))
     → MakeGraph end weights whole → made ++ Some x ∷ later ≡ whole → map weight_of nodes ≡ weights
     → (x.parent < length nodes) × (x.child < length nodes)
-ends_within end weights whole made later x nodes slots is same =
+ends_within {N} {E} {Ix} {end} {weights} {whole} made later x nodes slots is same =
     let at : slot whole (length made) ≡ Some x =
     ap (λ l. slot l (length made)) (sym is) ∙ slot_between made (Some x) later in (
       slot_within (λ y. y.weight) nodes x.parent
@@ -83,10 +84,10 @@ module _ {N E Ix : Type 0} (end : ℕ) (nodes : List (Node N Ix)) (edges : List 
     pub made : map plain_edge edges' ≡ map plain_edge edges ++ Some x ∷ []
 
   pub edge_built : (a b : ℕ) (w : E)
-      → a < length nodes → b < length nodes → (nodes' : List (Node N Ix)) (edges' : List (Edge E Ix))
+      → a < length nodes → b < length nodes → {nodes' : List (Node N Ix)} {edges' : List (Edge E Ix)}
       → Stores end nodes' edges' (with_edge (stored_graph nodes edges) a b w)
       → EdgeBuilt (record { parent = a; child = b; weight = w }) nodes' edges'
-  edge_built a b w a_in b_in nodes' edges' s =
+  edge_built a b w a_in b_in {nodes'} {edges'} s =
       let weights = map weight_of nodes in
       let old = map plain_edge edges in
       let x : PlainEdge E = record { parent = a; child = b; weight = w } in

@@ -33,10 +33,11 @@ length-swap_remove xs i last d long =
 get_or_same : (xs ys : List ℕ) (i j d : ℕ) → slice_get xs i ≡ slice_get ys j → get_or xs i d ≡ get_or ys j d
 get_or_same xs ys i j d p = sym (unwrap_or-slice_get xs i d) ∙ ap (λ o. unwrap_or o d) p ∙ unwrap_or-slice_get ys j d
 
-pub AreLinkedLists-dropped : (end : ℕ) (firsts firsts' nexts : List ℕ) (lists lists' : List (List ℕ)) (i last : ℕ)
+pub AreLinkedLists-dropped : {end : ℕ} {firsts firsts' nexts : List ℕ} {lists : List (List ℕ)} {lists' : List (List ℕ)}
+    {i last : ℕ}
     → AreLinkedLists end firsts nexts lists → IsSwapRemoved firsts firsts' i last → IsSwapRemoved lists lists' i last
     → length firsts' ≡ last → length lists' ≡ last → AreLinkedLists end firsts' nexts lists'
-AreLinkedLists-dropped end firsts firsts' nexts lists lists' i last linked moves rows long rows_long =
+AreLinkedLists-dropped {end} {firsts} {firsts'} {nexts} {lists} {lists'} {i} {last} linked moves rows long rows_long =
     record {
       rows = rows_long ∙ sym long;
       each = λ m within.
@@ -55,10 +56,10 @@ AreLinkedLists-dropped end firsts firsts' nexts lists lists' i last linked moves
           ];
     }
 
-pub ListsEach-dropped : (ends ends' : List ℕ) (lists lists' : List (List ℕ)) (i last : ℕ)
+pub ListsEach-dropped : (ends ends' : List ℕ) (lists : List (List ℕ)) {lists' : List (List ℕ)} (i last : ℕ)
     → ListsEach ends lists → nth_list lists i ≡ [] → IsSwapRemoved lists lists' i last
     → ends' ≡ map (renamed last i) ends → ListsEach ends' lists'
-ListsEach-dropped ends ends' lists lists' i last listed empty rows ends_is m f = (forwards, backwards)
+ListsEach-dropped ends ends' lists {lists'} i last listed empty rows ends_is m f = (forwards, backwards)
   where
     reads : slice_get ends' f ≡ option_map (renamed last i) (slice_get ends f)
     reads = ap (λ l. slice_get l f) ends_is ∙ slice_get-map (renamed last i) ends f
@@ -137,13 +138,13 @@ module _ {E Ix : Type 0} (last i : ℕ) where
   ends_renamed Incoming (x ∷ xs) = ap (λ l. renamed last i x.child ∷ l) (ends_renamed Incoming xs)
 
 -- a node without edges is dropped, and the ends at the last node are renamed
-pub Stores-dropped : {N E Ix : Type 0} (end : ℕ) (nodes : List (Node N Ix)) (edges : List (Edge E Ix)) (g : Graph N E)
+pub Stores-dropped : {N E Ix : Type 0} {end : ℕ} (nodes : List (Node N Ix)) (edges : List (Edge E Ix)) {g : Graph N E}
     → Stores end nodes edges g → (i last : ℕ) (x : Node N Ix) → i < length nodes → length nodes ≡ suc last
     → ((d : Direction) → nth_list (lists_at d g) i ≡ [])
     → Stores end (swap_remove nodes i x)
     (map (with_end_renamed Incoming last i) (map (with_end_renamed Outgoing last i) edges))
     (with_node_dropped Compact g i)
-Stores-dropped {N} {E} {Ix} end nodes edges g s i last x i_in long empty =
+Stores-dropped {N} {E} {Ix} {end} nodes edges {g} s i last x i_in long empty =
     let nodes' = swap_remove nodes i x in
     let edges' = map (with_end_renamed Incoming last i) (map (with_end_renamed Outgoing last i) edges) in
     let moves = IsSwapRemoved-from nodes i last x i_in long in
@@ -158,12 +159,12 @@ Stores-dropped {N} {E} {Ix} end nodes edges g s i last x i_in long empty =
     λ d.
     subst (λ l. AreLinkedLists end (firsts_of d nodes') l (swap_remove (lists_at d g) i []))
     (sym (nexts_kept last i d edges))
-    (AreLinkedLists-dropped end (firsts_of d nodes) (firsts_of d nodes') (nexts_of d edges) (lists_at d g) _ i last
+    (AreLinkedLists-dropped
     (s.linked d) (IsSwapRemoved-mapped (raw_first d) nodes nodes' i last moves) (rows d)
     (length-map nodes' (raw_first d) ∙ nodes_long) (length-swap_remove (lists_at d g) i last [] (rows_long d))) in
     let listed : (d : Direction) → ListsEach (ends_of d edges') (swap_remove (lists_at d g) i []) =
     λ d.
-    ListsEach-dropped (ends_of d edges) (ends_of d edges') (lists_at d g) _ i last (s.listed d) (empty d) (rows d)
+    ListsEach-dropped (ends_of d edges) (ends_of d edges') (lists_at d g) i last (s.listed d) (empty d) (rows d)
     (ends_renamed last i d edges) in
     record {
       nodes_are = ap (λ l. swap_remove l i None) s.nodes_are ∙ sym (map-swap_remove weight_of nodes i x None i_in);
@@ -206,13 +207,14 @@ ends_kept_out a b [] = refl
 ends_kept_out a b (x ∷ xs) = ap (λ l. x.child ∷ l) (ends_kept_out a b xs)
 
 -- what `reown` asks, for the list of the node m
-pub reown_ready : {N E Ix : Type 0} (end : ℕ) (nodes : List (Node N Ix)) (edges : List (Edge E Ix)) (g : Graph N E)
+pub reown_ready : {N E Ix : Type 0} {end : ℕ} {nodes : List (Node N Ix)} {edges : List (Edge E Ix)} {g : Graph N E}
     → Stores end nodes edges g → (dir : Direction) (edges' : List (Edge E Ix))
     → nexts_of dir edges' ≡ nexts_of dir edges → ends_of dir edges' ≡ ends_of dir edges
-    → (m k first : ℕ) (x : Node N Ix) → k < length nodes → k ≡ m → x ≡ get_or nodes k x → first ≡ raw_first dir x
+    → {m k : ℕ} {first : ℕ} {x : Node N Ix} → k < length nodes → k ≡ m → x ≡ get_or nodes k x → first ≡ raw_first dir x
     → IsLinkedList end (nexts_of dir edges') first (list_from dir edges' first)
     × ((e : ℕ) → Contains (list_from dir edges' first) e ↔ (slice_get (ends_of dir edges') e ≡ Some m))
-reown_ready end nodes edges g s dir edges' nexts_same ends_same m k first x k_in k_is x_is first_is =
+reown_ready {N} {E} {Ix} {end} {nodes} {edges} {g} s dir edges' nexts_same ends_same {m} {k} {first} {x} k_in k_is x_is
+    first_is =
     let at : first ≡ get_or (firsts_of dir nodes) k 0 =
     first_is ∙ ap (raw_first dir) x_is ∙ sym (get_or-map (raw_first dir) nodes k x 0 k_in) in
     let row_k : IsLinkedList end (nexts_of dir edges') first (nth_list (lists_at dir g) k) =

@@ -16,12 +16,12 @@ module _ {N V W F I : Type 0} (step : F → I → Bor N → Option V → F → T
       (more : List (Option ℕ)) (new : Graph V W) → FiltersNodes step of f i (drop i slots) h more new
       → FiltersNodes step of first 0 slots empty (names ++ more) new
 
-  pub FilteredBelow-called : (first : F) (slots : List (Option N)) (f next : F) (names : List (Option ℕ))
-      (h : Graph V W) (i : ℕ) (x : N) (r : Option V)
+  pub FilteredBelow-called : (first : F) (slots : List (Option N)) {f next : F} (names : List (Option ℕ))
+      (h : Graph V W) {i : ℕ} {x : N} {r : Option V}
       → i < length slots → get_or slots i (Some x) ≡ Some x → CalledAt step of f i x r next
       → FilteredBelow first slots f names h i
       → FilteredBelow first slots next (names ++ named h r ∷ []) (with_kept_node h r) (i + 1)
-  FilteredBelow-called first slots f next names h i x r within read called kept more new later =
+  FilteredBelow-called first slots {f} {next} names h {i} {x} {r} within read called kept more new later =
       let rest : drop i slots ≡ Some x ∷ drop (i + 1) slots =
       drop_more slots i (Some x) within ∙ ap (λ y. y ∷ drop (i + 1) slots) read in
       rw (append_assoc) (kept (named h r ∷ more) new (rw rest (r, next, called, more, refl, later)))
@@ -69,21 +69,21 @@ module _ {E V W G I : Type 0} (step : G → I → Bor E → Option W → G → T
       → FiltersEdges step of names g i (drop i slots) h new → FiltersEdges step of names first 0 slots start new
 
   pub EdgesBelow-passed : (first : G) (slots : List (Option (PlainEdge E))) (start : Graph V W) (g : G) (h : Graph V W)
-      (i : ℕ) (x : PlainEdge E)
+      (i : ℕ) {x : PlainEdge E}
       → i < length slots → get_or slots i (Some x) ≡ Some x → new_ends names x ≡ None
       → EdgesBelow first slots start g h i → EdgesBelow first slots start g h (i + 1)
-  EdgesBelow-passed first slots start g h i x within read lost kept new later =
+  EdgesBelow-passed first slots start g h i {x} within read lost kept new later =
       let rest : drop i slots ≡ Some x ∷ drop (i + 1) slots =
       drop_more slots i (Some x) within ∙ ap (λ y. y ∷ drop (i + 1) slots) read in
       kept new (rw rest (subst (λ o. FiltersEdge step of names g i x.weight o h
       (λ next mid. FiltersEdges step of names next (i + 1) (drop (i + 1) slots) mid new)) (sym lost) later))
 
-  pub EdgesBelow-called : (first : G) (slots : List (Option (PlainEdge E))) (start : Graph V W) (g next : G)
-      (h : Graph V W) (i : ℕ) (x : PlainEdge E) (a b : ℕ) (r : Option W)
+  pub EdgesBelow-called : (first : G) (slots : List (Option (PlainEdge E))) (start : Graph V W) {g next : G}
+      (h : Graph V W) {i : ℕ} {x : PlainEdge E} {a b : ℕ} {r : Option W}
       → i < length slots → get_or slots i (Some x) ≡ Some x → new_ends names x ≡ Some (a, b)
       → CalledAt step of g i x.weight r next → EdgesBelow first slots start g h i
       → EdgesBelow first slots start next (with_kept_edge h (a, b) r) (i + 1)
-  EdgesBelow-called first slots start g next h i x a b r within read ends called kept new later =
+  EdgesBelow-called first slots start {g} {next} h {i} {x} {a} {b} {r} within read ends called kept new later =
       let rest : drop i slots ≡ Some x ∷ drop (i + 1) slots =
       drop_more slots i (Some x) within ∙ ap (λ y. y ∷ drop (i + 1) slots) read in
       kept new (rw rest (subst

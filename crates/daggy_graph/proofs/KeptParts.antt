@@ -118,11 +118,11 @@ module _ {N V W F I : Type 0} (step : F → I → Bor N → Option V → F → T
 
 module _ {E V W G I : Type 0} (step : G → I → Bor E → Option W → G → Type 0) (of : ℕ → I)
     (names : List (Option ℕ)) where
-  tidy_edge : (g : G) (e : ℕ) (w : E) (o : Option (ℕ × ℕ)) (h new : Graph V W) (later : G → Graph V W → Type 0)
+  tidy_edge : (g : G) (e : ℕ) (w : E) (o : Option (ℕ × ℕ)) {h new : Graph V W} (later : G → Graph V W → Type 0)
       → IsTidy h → ((next : G) (mid : Graph V W) → IsTidy mid → later next mid → IsTidy new)
       → FiltersEdge step of names g e w o h later → IsTidy new
-  tidy_edge g e w None h new later t on p = on g h t p
-  tidy_edge g e w (Some ends) h new later t on (r, next, called, more) =
+  tidy_edge g e w None {h} later t on p = on g h t p
+  tidy_edge g e w (Some ends) {h} later t on (r, next, called, more) =
       on next (with_kept_edge h ends r) (tidy_kept_edge h ends r t) more
 
   pub tidy_edges : (g : G) (e : ℕ) (xs : List (Option (Edge E))) (h new : Graph V W)
@@ -130,7 +130,7 @@ module _ {E V W G I : Type 0} (step : G → I → Bor E → Option W → G → T
   tidy_edges g e [] h new t p = subst IsTidy (sym p) t
   tidy_edges g e (None ∷ xs) h new t p = tidy_edges g (e + 1) xs h new t p
   tidy_edges g e (Some x ∷ xs) h new t p =
-      tidy_edge g e x.weight (new_ends names x) h new (λ next mid. FiltersEdges step of names next (e + 1) xs mid new) t
+      tidy_edge g e x.weight (new_ends names x) (λ next mid. FiltersEdges step of names next (e + 1) xs mid new) t
       (λ next mid u q. tidy_edges next (e + 1) xs mid new u q) p
 
 -- nothing was left out
@@ -190,14 +190,14 @@ module _ {E V W G I : Type 0} (step : G → I → Bor E → Option W → G → T
   longer_by_edge h a b w t = let x : Edge W = record { parent = a; child = b; weight = w } in
       ap length (with_edge_edges h a b w t) ∙ length_push h.edges (Some x)
 
-  few_by_edge : (n : ℕ) (g : G) (e : ℕ) (w : E) (o : Option (ℕ × ℕ)) (h new : Graph V W)
+  few_by_edge : (n : ℕ) (g : G) (e : ℕ) (w : E) (o : Option (ℕ × ℕ)) {h : Graph V W} (new : Graph V W)
       (later : G → Graph V W → Type 0)
       → IsTidy h
       → ((next : G) (mid : Graph V W) → IsTidy mid → later next mid → length new.edges ≤ length mid.edges + n)
       → FiltersEdge step of names g e w o h later → length new.edges ≤ length h.edges + suc n
-  few_by_edge n g e w None h new later t on p = omega (arith, on g h t p)
-  few_by_edge n g e w (Some ends) h new later t on (None, next, called, more) = omega (arith, on next h t more)
-  few_by_edge n g e w (Some ends) h new later t on (Some v, next, called, more) =
+  few_by_edge n g e w None {h} new later t on p = omega (arith, on g h t p)
+  few_by_edge n g e w (Some ends) {h} new later t on (None, next, called, more) = omega (arith, on next h t more)
+  few_by_edge n g e w (Some ends) {h} new later t on (Some v, next, called, more) =
       omega (
         arith,
         on next (with_edge h ends.0 ends.1 v) (tidy_with_edge h ends.0 ends.1 v t) more,
@@ -226,25 +226,25 @@ module _ {E V W G I : Type 0} (step : G → I → Bor E → Option W → G → T
   edges_few g e [] h new t p = omega (arith, ap (λ z. length z.edges) p)
   edges_few g e (None ∷ xs) h new t p = omega (arith, edges_few g (e + 1) xs h new t p)
   edges_few g e (Some x ∷ xs) h new t p =
-      few_by_edge (length xs) g e x.weight (new_ends names x) h new
+      few_by_edge (length xs) g e x.weight (new_ends names x) new
       (λ next mid. FiltersEdges step of names next (e + 1) xs mid new) t
       (λ next mid u q. edges_few next (e + 1) xs mid new u q) p
 
   module _ (itself : (i a : ℕ) → slot names i ≡ Some a → a ≡ i) where
     ends_by_edge : (n : ℕ) (rest : List (Option (ℕ × ℕ))) (g : G) (e : ℕ) (x : Edge E) (o : Option (ℕ × ℕ))
-        → o ≡ new_ends names x → (h new : Graph V W) (later : G → Graph V W → Type 0) → IsTidy h
+        → o ≡ new_ends names x → {h : Graph V W} (new : Graph V W) (later : G → Graph V W → Type 0) → IsTidy h
         → length new.edges ≡ length h.edges + suc n
         → ((next : G) (mid : Graph V W) → IsTidy mid → later next mid → length new.edges ≤ length mid.edges + n)
         → ((next : G) (mid : Graph V W) → IsTidy mid → length new.edges ≡ length mid.edges + n → later next mid
         → map (option_map ends_of) new.edges ≡ map (option_map ends_of) mid.edges ++ rest)
         → FiltersEdge step of names g e x.weight o h later
         → map (option_map ends_of) new.edges ≡ map (option_map ends_of) h.edges ++ Some (x.parent, x.child) ∷ rest
-    ends_by_edge n rest g e x None are h new later t all few on p = let short = few g h t p in
+    ends_by_edge n rest g e x None are {h} new later t all few on p = let short = few g h t p in
         absurd (omega (arith, short, all))
-    ends_by_edge n rest g e x (Some ends) are h new later t all few on (None, next, called, more) =
+    ends_by_edge n rest g e x (Some ends) are {h} new later t all few on (None, next, called, more) =
         let short = few next h t more in
         absurd (omega (arith, short, all))
-    ends_by_edge n rest g e x (Some ends) are h new later t all few on (Some v, next, called, more) =
+    ends_by_edge n rest g e x (Some ends) are {h} new later t all few on (Some v, next, called, more) =
         let mid = with_edge h ends.0 ends.1 v in
         let y : Edge W = record { parent = ends.0; child = ends.1; weight = v } in
         let long = longer_by_edge h ends.0 ends.1 v t in
@@ -269,13 +269,13 @@ module _ {E V W G I : Type 0} (step : G → I → Bor E → Option W → G → T
     ends_whole g e (None ∷ xs) h new t all p = let few = edges_few g (e + 1) xs h new t p in
         absurd (omega (arith, few, all))
     ends_whole g e (Some x ∷ xs) h new t all p =
-        ends_by_edge (length xs) (map (option_map ends_of) xs) g e x (new_ends names x) refl h new
+        ends_by_edge (length xs) (map (option_map ends_of) xs) g e x (new_ends names x) refl new
         (λ next mid. FiltersEdges step of names next (e + 1) xs mid new) t all
         (λ next mid u q. edges_few next (e + 1) xs mid new u q)
         (λ next mid u same q. ends_whole next (e + 1) xs mid new u same q) p
 
-module _ {N E V W F G I : Type 0} (of : ℕ → I) (step_f : F → I → Bor N → Option V → F → Type 0)
-    (step_g : G → I → Bor E → Option W → G → Type 0) (f : F) (g : G) (old : Graph N E) (new : Graph V W)
+module _ {N E V W F G I : Type 0} {of : ℕ → I} {step_f : F → I → Bor N → Option V → F → Type 0}
+    {step_g : G → I → Bor E → Option W → G → Type 0} {f : F} {g : G} {old : Graph N E} {new : Graph V W}
     (p : IsFiltered of step_f step_g f g old new) where
   pub ListsDescend-filtered : ListsDescend new
   ListsDescend-filtered =

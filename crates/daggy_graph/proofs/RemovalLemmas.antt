@@ -21,8 +21,8 @@ use Rattle.daggy_cells.proofs.LinkedListChanges.{AreLinkedLists-renamed, AreLink
 use Rattle.daggy_base.proofs.Lists.{IsSwapRemoved, IsSwapRemoved-from, IsSwapRemoved-mapped, map-swap_remove}
 use Rattle.daggy_cells.proofs.RedirectLemmas.{Ready-from, Redirected-row, Step}
 
-module _ {N E Ix : Type 0} (end : ℕ) (nodes : List (Node N Ix)) (edges : List (Edge E Ix)) (g : Graph N E)
-    (s : Stores end nodes edges g) (e last : ℕ) (e_in : e < length edges) (long : length edges ≡ suc last)
+module _ {N E Ix : Type 0} {end : ℕ} {nodes : List (Node N Ix)} {edges : List (Edge E Ix)} {g : Graph N E}
+    (s : Stores end nodes edges g) (e : ℕ) {last : ℕ} (e_in : e < length edges) (long : length edges ≡ suc last)
     (dir : Direction) where
   stands : (f : ℕ) → f < length edges → slice_get (ends_of dir edges) f ≡ Some (get_or (ends_of dir edges) f 0)
   stands f f_in = slice_get-get_or (ends_of dir edges) f 0 (omega (arith, f_in, length-map edges (end_at dir)))
@@ -70,8 +70,8 @@ module _ {N E Ix : Type 0} (end : ℕ) (nodes : List (Node N Ix)) (edges : List 
           ap (λ l. slice_get l e) nexts_same
           ∙ slice_get-get_or (nexts_of dir edges) e 0 (omega (arith, e_in, length-map edges (raw_next dir)))
           ∙ ap Some (sym new_is) in
-          AreLinkedLists-with_edge_unlinked end (firsts_of dir nodes') (nexts_of dir edges') _ _
-          (slice_get (ends_of dir edges)) (lists_at dir g) (get_or (ends_of dir edges) e 0) e new linked' (s.listed dir)
+          AreLinkedLists-with_edge_unlinked
+          (slice_get (ends_of dir edges)) linked' (s.listed dir)
           (stands e e_in)
           (omega (arith, n_in', length-map nodes' (raw_first dir))) (omega (arith, e_in, s.few_edges)) goes
           (Redirected-row end dir nodes' edges' (lists_at dir g) e _ new nodes'' edges'' linked'
@@ -118,8 +118,7 @@ module _ {N E Ix : Type 0} (end : ℕ) (nodes : List (Node N Ix)) (edges : List 
       renamed_links nodes'' edges'' nexts differs red moves =
           let n_in' : get_or (ends_of dir edges) last 0 < length nodes' =
           omega (arith, n_in last (omega (arith, long)), nodes_kept) in
-          AreLinkedLists-renamed end (firsts_of dir nodes') (nexts_of dir edges') _ _ nexts
-          (map (without e) (lists_at dir g)) (get_or (ends_of dir edges) last 0) e last with_edge_unlinked apart_rows
+          AreLinkedLists-renamed with_edge_unlinked apart_rows
           no_e (last_there differs)
           (omega (arith, n_in', length-map nodes' (raw_first dir)))
           (omega (arith, long, long', length-map edges' (raw_next dir))) (omega (arith, long, s.few_edges)) differs
@@ -131,19 +130,19 @@ module _ {N E Ix : Type 0} (end : ℕ) (nodes : List (Node N Ix)) (edges : List 
           → AreLinkedLists end (firsts_of dir nodes') nexts
           (map (map (renamed last e)) (map (without e) (lists_at dir g)))
       cut_links nexts same moves =
-          AreLinkedLists-cut end _ _ nexts _ e last with_edge_unlinked no_e
+          AreLinkedLists-cut end nexts e last with_edge_unlinked no_e
           (omega (arith, long, long', length-map edges' (raw_next dir))) same moves
 
 -- all of it
-pub IsDetached-from : {N E Ix : Type 0} (end : ℕ) (nodes : List (Node N Ix)) (edges : List (Edge E Ix)) (g : Graph N E)
-    (s : Stores end nodes edges g) (e last : ℕ)
+pub IsDetached-from : {N E Ix : Type 0} {end : ℕ} {nodes : List (Node N Ix)} {edges : List (Edge E Ix)} {g : Graph N E}
+    (s : Stores end nodes edges g) (e : ℕ) {last : ℕ}
     → e < length edges → length edges ≡ suc last
     → (nodes' : List (Node N Ix)) (edges' : List (Edge E Ix)) → map weight_of nodes' ≡ map weight_of nodes
     → map plain_edge edges' ≡ map plain_edge edges → ((d : Direction) → ends_of d edges' ≡ ends_of d edges)
     → ((d : Direction) (nexts : List ℕ) → IsSwapRemoved (nexts_of d edges') nexts e last
     → AreLinkedLists end (firsts_of d nodes') nexts (map (map (renamed last e)) (map (without e) (lists_at d g))))
     → IsDetached end g e nodes' edges'
-IsDetached-from end nodes edges g s e last e_in long nodes' edges' weights plain ends links x =
+IsDetached-from {N} {E} {Ix} {end} {nodes} {edges} {g} s e {last} e_in long nodes' edges' weights plain ends links x =
     let edges_long : length edges' ≡ length edges =
     sym (length-map edges' plain_edge) ∙ ap length plain ∙ length-map edges plain_edge in
     let nodes_long : length nodes' ≡ length nodes =
@@ -189,25 +188,25 @@ AreLinkedLists-seen : {end : ℕ} {lists : List (List ℕ)} (firsts firsts' next
 AreLinkedLists-seen firsts firsts' nexts nexts' p q l = rw (p, q) l
 
 -- the calls that `detach` makes, in turn
-module _ {N E Ix : Type 0} (end : ℕ) (nodes : List (Node N Ix)) (edges : List (Edge E Ix)) (g : Graph N E)
+module _ {N E Ix : Type 0} {end : ℕ} (nodes : List (Node N Ix)) (edges : List (Edge E Ix)) {g : Graph N E}
     (s : Stores end nodes edges g) (e last : ℕ) (e_in : e < length edges) (long : length edges ≡ suc last) where
   pub ready_1 : IsReady end Outgoing nodes edges e
-  ready_1 = unlink_ready end nodes edges g s e last e_in long Outgoing nodes edges refl refl refl
+  ready_1 = unlink_ready s e e_in long Outgoing nodes edges refl refl refl
 
-  module _ (out : ℕ) (out_is : out ≡ get_or (nexts_of Outgoing edges) e 0) (n1 : List (Node N Ix))
-      (e1 : List (Edge E Ix)) (s1 : Step Outgoing nodes edges e out n1 e1) where
+  module _ {out : ℕ} (out_is : out ≡ get_or (nexts_of Outgoing edges) e 0) {n1 : List (Node N Ix)}
+      {e1 : List (Edge E Ix)} (s1 : Step Outgoing nodes edges e out n1 e1) where
     out_1 : AreLinkedLists end (firsts_of Outgoing n1) (nexts_of Outgoing e1) (map (without e) (lists_at Outgoing g))
     out_1 =
-        unlinked_links end nodes edges g s e last e_in long Outgoing nodes edges refl refl refl out n1 e1 out_is
+        unlinked_links s e e_in long Outgoing nodes edges refl refl refl out n1 e1 out_is
         s1.links
 
     pub ready_2 : IsReady end Incoming n1 e1 e
     ready_2 =
-        unlink_ready end nodes edges g s e last e_in long Incoming n1 e1 (s1.keeps_edges.ends Incoming) s1.keeps.firsts
+        unlink_ready s e e_in long Incoming n1 e1 (s1.keeps_edges.ends Incoming) s1.keeps.firsts
         s1.keeps_edges.nexts
 
-    module _ (into : ℕ) (into_is : into ≡ get_or (nexts_of Incoming edges) e 0) (n2 : List (Node N Ix))
-        (e2 : List (Edge E Ix)) (s2 : Step Incoming n1 e1 e into n2 e2) where
+    module _ {into : ℕ} (into_is : into ≡ get_or (nexts_of Incoming edges) e 0) {n2 : List (Node N Ix)}
+        {e2 : List (Edge E Ix)} (s2 : Step Incoming n1 e1 e into n2 e2) where
       ends_2 : (d : Direction) → ends_of d e2 ≡ ends_of d edges
       ends_2 d = s2.keeps_edges.ends d ∙ s1.keeps_edges.ends d
 
@@ -216,23 +215,23 @@ module _ {N E Ix : Type 0} (end : ℕ) (nodes : List (Node N Ix)) (edges : List 
 
       in_2 : AreLinkedLists end (firsts_of Incoming n2) (nexts_of Incoming e2) (map (without e) (lists_at Incoming g))
       in_2 =
-          unlinked_links end nodes edges g s e last e_in long Incoming n1 e1 (s1.keeps_edges.ends Incoming)
+          unlinked_links s e e_in long Incoming n1 e1 (s1.keeps_edges.ends Incoming)
           s1.keeps.firsts s1.keeps_edges.nexts into n2 e2 into_is s2.links
 
       pub ready_3 : e ≢ last → IsReady end Outgoing n2 e2 last
-      ready_3 differs = rename_ready end nodes edges g s e last e_in long Outgoing n2 e2 (ends_2 Outgoing) out_2 differs
+      ready_3 differs = rename_ready s e e_in long Outgoing n2 e2 (ends_2 Outgoing) out_2 differs
 
       pub detached_last : e ≡ last → IsDetached end g e n2 e2
       detached_last same =
-          IsDetached-from end nodes edges g s e last e_in long n2 e2 (s2.keeps.weights ∙ s1.keeps.weights)
+          IsDetached-from s e e_in long n2 e2 (s2.keeps.weights ∙ s1.keeps.weights)
           (s2.keeps_edges.edges ∙ s1.keeps_edges.edges) ends_2 (elim [
             | Outgoing ↦ λ nexts moves.
-                cut_links end nodes edges g s e last e_in long Outgoing n2 e2 (ends_2 Outgoing) out_2 nexts same moves
+                cut_links s e e_in long Outgoing n2 e2 (ends_2 Outgoing) out_2 nexts same moves
             | Incoming ↦ λ nexts moves.
-                cut_links end nodes edges g s e last e_in long Incoming n2 e2 (ends_2 Incoming) in_2 nexts same moves
+                cut_links s e e_in long Incoming n2 e2 (ends_2 Incoming) in_2 nexts same moves
           ])
 
-      module _ (n3 : List (Node N Ix)) (e3 : List (Edge E Ix)) (s3 : Step Outgoing n2 e2 last e n3 e3) where
+      module _ {n3 : List (Node N Ix)} {e3 : List (Edge E Ix)} (s3 : Step Outgoing n2 e2 last e n3 e3) where
         ends_3 : (d : Direction) → ends_of d e3 ≡ ends_of d edges
         ends_3 d = s3.keeps_edges.ends d ∙ ends_2 d
 
@@ -241,21 +240,21 @@ module _ {N E Ix : Type 0} (end : ℕ) (nodes : List (Node N Ix)) (edges : List 
 
         pub ready_4 : e ≢ last → IsReady end Incoming n3 e3 last
         ready_4 differs =
-            rename_ready end nodes edges g s e last e_in long Incoming n3 e3 (ends_3 Incoming) in_3 differs
+            rename_ready s e e_in long Incoming n3 e3 (ends_3 Incoming) in_3 differs
 
-        module _ (n4 : List (Node N Ix)) (e4 : List (Edge E Ix)) (s4 : Step Incoming n3 e3 last e n4 e4) where
+        module _ {n4 : List (Node N Ix)} {e4 : List (Edge E Ix)} (s4 : Step Incoming n3 e3 last e n4 e4) where
           pub detached_other : e ≢ last → IsDetached end g e n4 e4
           detached_other differs =
-              IsDetached-from end nodes edges g s e last e_in long n4 e4
+              IsDetached-from s e e_in long n4 e4
               (s4.keeps.weights ∙ s3.keeps.weights ∙ s2.keeps.weights ∙ s1.keeps.weights)
               (s4.keeps_edges.edges ∙ s3.keeps_edges.edges ∙ s2.keeps_edges.edges ∙ s1.keeps_edges.edges)
               (λ d. s4.keeps_edges.ends d ∙ ends_3 d) (elim [
                 | Outgoing ↦ λ nexts moves.
                     let at_3 =
-                    renamed_links end nodes edges g s e last e_in long Outgoing n2 e2 (ends_2 Outgoing) out_2 n3 e3
+                    renamed_links s e e_in long Outgoing n2 e2 (ends_2 Outgoing) out_2 n3 e3
                     nexts differs s3.links (subst (λ l. IsSwapRemoved l nexts e last) s4.keeps_edges.nexts moves) in
                     AreLinkedLists-seen _ _ _ _ s4.keeps.firsts refl at_3
                 | Incoming ↦ λ nexts moves.
-                    renamed_links end nodes edges g s e last e_in long Incoming n3 e3 (ends_3 Incoming) in_3 n4 e4 nexts
+                    renamed_links s e e_in long Incoming n3 e3 (ends_3 Incoming) in_3 n4 e4 nexts
                     differs s4.links moves
               ])

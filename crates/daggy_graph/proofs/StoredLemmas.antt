@@ -58,7 +58,7 @@ module _ {N E Ix : Type 0} (end : ℕ) (nodes : List (Node N Ix)) (edges : List 
       })
 
   pub Stores-edge : (u v : ℕ) (w : E) → u < length nodes → v < length nodes → length edges < end
-      → (nodes' : List (Node N Ix)) → map weight_of nodes' ≡ map weight_of nodes
+      → {nodes' : List (Node N Ix)} → map weight_of nodes' ≡ map weight_of nodes
       → firsts_of Outgoing nodes' ≡ set (firsts_of Outgoing nodes) u (length edges)
       → firsts_of Incoming nodes' ≡ set (firsts_of Incoming nodes) v (length edges)
       → Stores end nodes' (edges ++ (record {
@@ -68,7 +68,7 @@ module _ {N E Ix : Type 0} (end : ℕ) (nodes : List (Node N Ix)) (edges : List 
         next_out = get_or (firsts_of Outgoing nodes) u 0;
         next_in = get_or (firsts_of Incoming nodes) v 0;
       }) ∷ []) (with_edge g u v w)
-  Stores-edge u v w u_in v_in few nodes' same_weights outs ins =
+  Stores-edge u v w u_in v_in few {nodes'} same_weights outs ins =
       let x : Edge E Ix = record {
         weight = w;
         parent = u;
@@ -137,27 +137,27 @@ module _ {N E Ix : Type 0} (end : ℕ) (nodes : List (Node N Ix)) (edges : List 
       }
 
   -- in the words of the code
-  pub Stores-edge_code : (a b e : ℕ) (w : E)
+  pub Stores-edge_code : (a b : ℕ) {e : ℕ} (w : E)
       → e ≡ length edges → a < length nodes → b < length nodes → length edges < end
-      → (nodes' : List (Node N Ix)) → map weight_of nodes' ≡ map weight_of nodes
+      → {nodes' : List (Node N Ix)} → map weight_of nodes' ≡ map weight_of nodes
       → firsts_of Outgoing nodes' ≡ set (firsts_of Outgoing nodes) a e
       → firsts_of Incoming nodes' ≡ set (firsts_of Incoming nodes) b e
-      → (x : Edge E Ix) → x ≡ record {
+      → {x : Edge E Ix} → x ≡ record {
         weight = w;
         parent = a;
         child = b;
         next_out = get_or (firsts_of Outgoing nodes) a 0;
         next_in = get_or (firsts_of Incoming nodes) b 0;
       }
-      → (edges' : List (Edge E Ix)) → edges' ≡ edges ++ x ∷ [] → Stores end nodes' edges' (with_edge g a b w)
-  Stores-edge_code a b e w e_is a_in b_in few nodes' weights outs ins x x_is edges' pushed =
-      rw (pushed, x_is) (Stores-edge a b w a_in b_in few nodes' weights
+      → {edges' : List (Edge E Ix)} → edges' ≡ edges ++ x ∷ [] → Stores end nodes' edges' (with_edge g a b w)
+  Stores-edge_code a b w e_is a_in b_in few {nodes'} weights outs ins x_is pushed =
+      rw (pushed, x_is) (Stores-edge a b w a_in b_in few weights
       (outs ∙ ap (set (firsts_of Outgoing nodes) a) e_is) (ins ∙ ap (set (firsts_of Incoming nodes) b) e_is))
 
   pub Stores-node_code : (w : N)
-      → length nodes < end → (x : Node N Ix) → x ≡ record { weight = w; first_out = end; first_in = end }
-      → (nodes' : List (Node N Ix)) → nodes' ≡ nodes ++ x ∷ [] → Stores end nodes' edges (with_node g w)
-  Stores-node_code w few x x_is nodes' pushed = rw (pushed, x_is) (Stores-node w few)
+      → length nodes < end → {x : Node N Ix} → x ≡ record { weight = w; first_out = end; first_in = end }
+      → {nodes' : List (Node N Ix)} → nodes' ≡ nodes ++ x ∷ [] → Stores end nodes' edges (with_node g w)
+  Stores-node_code w few x_is pushed = rw (pushed, x_is) (Stores-node w few)
 
 module _ {N E Ix : Type 0} (nodes : List (Node N Ix)) (edges : List (Edge E Ix)) where
   pub leads_to_read : (v e : ℕ) (x : Edge E Ix)
@@ -166,12 +166,12 @@ module _ {N E Ix : Type 0} (nodes : List (Node N Ix)) (edges : List (Edge E Ix))
       let P : Edge E Ix → PlainEdge E = λ z. record { parent = z.parent; child = z.child; weight = z.weight } in
       ap (λ o. unwrap_or (option_map (λ z. eqb z.child v) o) false) (slot_is P edges e x within is)
 
-pub Stores-edge_weight : {N E Ix : Type 0} (end : ℕ) (nodes : List (Node N Ix)) (edges : List (Edge E Ix))
-    (g : Graph N E)
-    → Stores end nodes edges g → (e : ℕ) (w : E) (x : Edge E Ix) → e < length edges → x ≡ get_or edges e x
+pub Stores-edge_weight : {N E Ix : Type 0} {end : ℕ} {nodes : List (Node N Ix)} {edges : List (Edge E Ix)}
+    {g : Graph N E}
+    → Stores end nodes edges g → (e : ℕ) (w : E) {x : Edge E Ix} → e < length edges → x ≡ get_or edges e x
     → Stores end nodes (set edges e (record x { weight = w }))
     (record g { edges = set g.edges e (option_map (edge_with_weight w) (slot g.edges e)) })
-Stores-edge_weight {N} {E} {Ix} end nodes edges g s e w x within is =
+Stores-edge_weight {N} {E} {Ix} {end} {nodes} {edges} {g} s e w {x} within is =
     let P : Edge E Ix → PlainEdge E = λ z. record { parent = z.parent; child = z.child; weight = z.weight } in
     let slot_e : slot g.edges e ≡ Some (P x) = ap (λ l. slot l e) s.edges_are ∙ slot_is P edges e x within is in
     record {
@@ -196,9 +196,9 @@ Stores-edge_weight {N} {E} {Ix} end nodes edges g s e w x within is =
     }
 
 -- the graph with one more edge, in other words
-pub added_same : {N E Ix : Type 0} (nodes : List (Node N Ix)) (edges edges' : List (Edge E Ix)) (p q a b : ℕ) (w : E)
+pub added_same : {N E Ix : Type 0} (nodes : List (Node N Ix)) {edges edges' : List (Edge E Ix)} {p q a b : ℕ} (w : E)
     → edges' ≡ edges → p ≡ a → q ≡ b
     → with_edge (stored_graph nodes edges') p q w ≡ with_edge (stored_graph nodes edges) a b w
-added_same nodes edges edges' p q a b w same p_is q_is =
+added_same nodes {edges} {edges'} {p} {q} {a} w same p_is q_is =
     ap (λ l. with_edge (stored_graph nodes l) p q w) same ∙ ap (λ u. with_edge (stored_graph nodes edges) u q w) p_is
     ∙ ap (λ v. with_edge (stored_graph nodes edges) a v w) q_is

@@ -26,23 +26,23 @@ pub got_none : {A : Type 0} (xs : List A) (i : ℕ) → length xs ≤ i → None
 got_none xs i past = sym (slice_get_past xs i past)
 
 module _ {N E Ix : Type 0} (nodes : List (Node N Ix)) (edges : List (Edge E Ix)) (k : ℕ) (s : State N E)
-    (view : record { graph = stored_graph nodes edges; looks = k } ≡ s) (i n : ℕ) (i_is : i ≡ n) where
-  pub node_got : (lent : List (Node N Ix)) (o : Option (Node N Ix))
+    (view : record { graph = stored_graph nodes edges; looks = k } ≡ s) {i n : ℕ} (i_is : i ≡ n) where
+  pub node_got : {lent : List (Node N Ix)} {o : Option (Node N Ix)}
       → lent ≡ nodes → o ≡ slice_get lent i → option_map (λ x. x.weight) o ≡ node_weight s.graph n
-  node_got lent o lent_is o_is =
+  node_got lent_is o_is =
       ap (option_map (λ x. x.weight)) (o_is ∙ ap (λ l. slice_get l i) lent_is ∙ ap (slice_get nodes) i_is)
       ∙ sym (slots_read (λ x. x.weight) nodes n) ∙ ap (λ z. node_weight z.graph n) view
 
-  pub edge_got : (lent : List (Edge E Ix)) (o : Option (Edge E Ix))
+  pub edge_got : {lent : List (Edge E Ix)} {o : Option (Edge E Ix)}
       → lent ≡ edges → o ≡ slice_get lent i → option_map plain o ≡ edge_at s.graph n
-  edge_got lent o lent_is o_is =
+  edge_got lent_is o_is =
       ap (option_map plain) (o_is ∙ ap (λ l. slice_get l i) lent_is ∙ ap (slice_get edges) i_is)
       ∙ sym (slots_read plain edges n) ∙ ap (λ z. edge_at z.graph n) view
 
-  module _ (end : ℕ) (stored : Stores end nodes edges (stored_graph nodes edges)) (dir : Direction)
-      (lent : List (Node N Ix)) (lent_is : lent ≡ nodes) where
-    pub first_got : (x : Node N Ix) → Some x ≡ slice_get lent i → raw_first dir x ≡ first_of end (list_at dir s.graph n)
-    first_got x x_is =
+  module _ {end : ℕ} (stored : Stores end nodes edges (stored_graph nodes edges)) (dir : Direction)
+      {lent : List (Node N Ix)} (lent_is : lent ≡ nodes) where
+    pub first_got : {x : Node N Ix} → Some x ≡ slice_get lent i → raw_first dir x ≡ first_of end (list_at dir s.graph n)
+    first_got {x} x_is =
         (ShowsNodes-stored end nodes edges stored).first dir n x
         (sym (x_is ∙ ap (λ l. slice_get l i) lent_is ∙ ap (slice_get nodes) i_is))
         ∙ ap (λ z. first_of end (list_at dir z.graph n)) view

@@ -40,14 +40,14 @@ module _ {N E Ix : Type 0} (end : ℕ) (nodes : List (Node N Ix)) (edges : List 
   edge_stored a v within =
       let x = item_at edges a within in
       subst (λ l. Stores end nodes l (with_edge_weight g a v)) (sym (changed_is_set (edge_of_weight v) edges a x.0 x.1))
-      (Stores-edge_weight end nodes edges g s a v x.0 within x.1)
+      (Stores-edge_weight s a v within x.1)
 
-module _ {N E Ix : Type 0} (end : ℕ) (nodes : List (Node N Ix)) (edges : List (Edge E Ix)) (g : Graph N E)
-    (s : Stores end nodes edges g) (n a b i j : ℕ) (i_is : i ≡ a) (j_is : j ≡ b) where
-  pub nodes_updated : (lent new : List (Node N Ix)) (v w : N)
+module _ {N E Ix : Type 0} {end : ℕ} {nodes : List (Node N Ix)} {edges : List (Edge E Ix)} {g : Graph N E}
+    (s : Stores end nodes edges g) {n a b i j : ℕ} (i_is : i ≡ a) (j_is : j ≡ b) where
+  pub nodes_updated : {lent new : List (Node N Ix)} (v w : N)
       → a < length nodes → b < length nodes → n ≡ length nodes → lent ≡ nodes → new ≡ with_node_weights lent i j v w
       → Stores end (take n (new ++ drop (length new) nodes)) edges (with_node_weight (with_node_weight g a v) b w)
-  nodes_updated lent new v w a_in b_in n_is lent_is new_is =
+  nodes_updated {lent} {new} v w a_in b_in n_is lent_is new_is =
       let once = changed_at (node_of_weight v) nodes a in
       let is : new ≡ with_node_weights nodes a b v w =
       new_is ∙ ap (λ l. with_node_weights l i j v w) lent_is ∙ ap (λ k. with_node_weights nodes k j v w) i_is
@@ -60,10 +60,10 @@ module _ {N E Ix : Type 0} (end : ℕ) (nodes : List (Node N Ix)) (edges : List 
       subst (λ l. Stores end l edges (with_node_weight (with_node_weight g a v) b w))
       (sym is ∙ refilled n nodes new n_is long) twice
 
-  pub edges_updated : (lent new : List (Edge E Ix)) (v w : E)
+  pub edges_updated : {lent new : List (Edge E Ix)} (v w : E)
       → a < length edges → b < length edges → n ≡ length edges → lent ≡ edges → new ≡ with_edge_weights lent i j v w
       → Stores end nodes (take n (new ++ drop (length new) edges)) (with_edge_weight (with_edge_weight g a v) b w)
-  edges_updated lent new v w a_in b_in n_is lent_is new_is =
+  edges_updated {lent} {new} v w a_in b_in n_is lent_is new_is =
       let once = changed_at (edge_of_weight v) edges a in
       let is : new ≡ with_edge_weights edges a b v w =
       new_is ∙ ap (λ l. with_edge_weights l i j v w) lent_is ∙ ap (λ k. with_edge_weights edges k j v w) i_is
@@ -76,19 +76,19 @@ module _ {N E Ix : Type 0} (end : ℕ) (nodes : List (Node N Ix)) (edges : List 
       subst (λ l. Stores end nodes l (with_edge_weight (with_edge_weight g a v) b w))
       (sym is ∙ refilled n edges new n_is long) twice
 
-module _ {N E Ix : Type 0} (end : ℕ) (nodes : List (Node N Ix)) (edges : List (Edge E Ix)) (g : Graph N E)
-    (s : Stores end nodes edges g) (n e i j : ℕ) (i_is : i ≡ n) (j_is : j ≡ e) where
-  pub both_updated : (x : Node N Ix) (y : Edge E Ix) (v : N) (w : E)
+module _ {N E Ix : Type 0} {end : ℕ} {nodes : List (Node N Ix)} {edges : List (Edge E Ix)} {g : Graph N E}
+    (s : Stores end nodes edges g) {n e i j : ℕ} (i_is : i ≡ n) (j_is : j ≡ e) where
+  pub both_updated : {x : Node N Ix} {y : Edge E Ix} (v : N) (w : E)
       → e < length edges → x ≡ get_or nodes i x → y ≡ get_or edges j y
       → Stores end (set nodes i (node_of_weight v x)) (set edges j (edge_of_weight w y))
       (with_edge_weight (with_node_weight g n v) e w)
-  both_updated x y v w within x_is y_is =
+  both_updated {x} {y} v w within x_is y_is =
       let once = Stores-weight end nodes edges g s i v x x_is in
       subst (λ k. Stores end (set nodes i (node_of_weight v x)) (set edges j (edge_of_weight w y))
       (with_edge_weight (with_node_weight g k v) e w)) i_is
       (subst (λ k. Stores end (set nodes i (node_of_weight v x)) (set edges j (edge_of_weight w y))
       (with_edge_weight (with_node_weight g i v) k w)) j_is
-      (Stores-edge_weight end (set nodes i (node_of_weight v x)) edges (with_node_weight g i v) once j w y (omega (
+      (Stores-edge_weight once j w (omega (
         arith,
         within,
         j_is,

@@ -157,9 +157,9 @@ module _ {N E Ix : Type 0} (end : ℕ) (nodes : List (Node N Ix)) (edges : List 
       seen Incoming = refl
 
   pub look_shown : Stores end nodes edges (stored_graph nodes edges)
-      → (e child next : ℕ) (x : Edge E Ix) → e < length edges → x ≡ get_or edges e x → child ≡ x.child
+      → (e : ℕ) {child next : ℕ} (x : Edge E Ix) → e < length edges → x ≡ get_or edges e x → child ≡ x.child
       → next ≡ x.next_out → IsLook end (stored_graph nodes edges) e child next
-  look_shown s e child next x within is child_is next_is =
+  look_shown s e x within is child_is next_is =
       record {
         edge = plain x;
         at = slot_is plain edges e x within is;

@@ -49,11 +49,11 @@ filling_starts IsDefault last g order capacity ordered fits =
 
 module _ {N E : Type 0} {IsDefault : N → Type 0} {last : ℕ} {old now : Graph N E} {order : List ℕ} {capacity : ℕ}
     (s : Filling IsDefault last old now order capacity) where
-  pub filling_on : (limit : ℕ) → IsWellFormed limit now → node_count now ≤ last → (w : N) → IsDefault w
-      → (new : Graph N E) → new ≡ with_node now w → (order' : List ℕ) → IsOrderOf new order'
-      → (capacity' : ℕ) → node_bound new ≤ capacity'
+  pub filling_on : {limit : ℕ} → IsWellFormed limit now → node_count now ≤ last → (w : N) → IsDefault w
+      → {new : Graph N E} → new ≡ with_node now w → {order' : List ℕ} → IsOrderOf new order'
+      → {capacity' : ℕ} → node_bound new ≤ capacity'
       → Filling IsDefault last old new order' capacity'
-  filling_on limit f few w default new is order' ordered capacity' fits =
+  filling_on f few w default is ordered fits =
       let one : node_count (with_node now w) ≡ node_count now + 1 =
       omega (arith, count_taken now.nodes now.vacant_nodes w (free_slots now.nodes now.vacant_nodes f.node_slots)) in
       record {

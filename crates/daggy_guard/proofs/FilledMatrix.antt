@@ -79,10 +79,10 @@ module _ {N E : Type 0} (g : Graph N E) (old : List (List Bool)) (n : ℕ) (has 
       }
 
   -- past an edge whose ends were joined
-  pub past_edge : (new : List (List Bool)) (x : Edge E) (a b : ℕ)
+  pub past_edge : {new : List (List Bool)} (x : Edge E) {a b : ℕ}
       → edge_at g n ≡ Some x → a ≡ x.parent → b ≡ x.child → length new ≡ length old
       → ((u v : ℕ) → HasPair new u v ↔ (((u ≡ a) × (v ≡ b)) ⊎ HasPair old u v)) → HasEdgesBelow g (n + 1) new
-  past_edge new x a b at parent child bound joined =
+  past_edge x at parent child bound joined =
       record {
         bound = bound ∙ has.bound;
         pairs = λ u v. (

@@ -37,14 +37,15 @@ module _ {A N E : Type 0} (kind : Kind) (old new : Graph N E) (e : ℕ) where
   bound_edge_gone (Some a) removed missing = ap node_bound removed ∙ bound_same kind old e
 
 -- the edge that was added comes first in its two lists
-pub first_edge : {I F N E : Type 0} (number : I → ℕ) (end : ℕ) (r : Result I F) (old at new : Graph N E) (a b : ℕ)
+pub first_edge : {I F N E : Type 0} (number : I → ℕ) {end : ℕ} (r : Result I F) {old : Graph N E} (at new : Graph N E)
+    (a b : ℕ)
     (w : E)
     → IsWellFormed end old → HasNode old a → HasNode old b → at ≡ old
     → IfOk r (λ e. number e ≡ next_edge at) → OnOk r (new ≡ with_edge at a b w)
     → IfOk r (λ e. ComesFirst old new a b (number e))
-first_edge {I} {F} {N} {E} number end (Ok e) old at new a b w f parent child same index added =
+first_edge {I} {F} {N} {E} number {end} (Ok e) {old} at new a b w f parent child same index added =
     let P : Graph N E → Type 0 = λ z. ComesFirst old z a b (number e) in
     let Q : ℕ → Type 0 = λ n. ComesFirst old (with_edge old a b w) a b n in
     subst P (sym (added ∙ ap (λ g. with_edge g a b w) same))
     (subst Q (sym (index ∙ ap next_edge same)) (comes_first end old a b w f parent child))
-first_edge number end (Err e) old at new a b w f parent child same index added = tt
+first_edge number (Err e) at new a b w f parent child same index added = tt

@@ -4,13 +4,13 @@ use Rattle.std.specs.List.{AllZip}
 use Rattle.std.specs.Iterator.{Yields, Drains}
 
 -- one item more
-pub yields_more : {S A : Type 0} (gives : S → Option A → S → Type 0) (s t u : S) (xs : List A) (x : A) (r : Option A)
+pub yields_more : {S A : Type 0} (gives : S → Option A → S → Type 0) (s t u : S) (xs : List A) {x : A} {r : Option A}
     → Yields gives s xs t → gives t r u → r ≡ Some x → Yields gives s (xs ++ x ∷ []) u
-yields_more {S} {A} gives s t u [] x r y k is =
+yields_more {S} {A} gives s t u [] {x} y k is =
     let P : Option A → Type 0 = λ z. gives t z u in
     let Q : S → Type 0 = λ z. gives z (Some x) u in
     (u, subst Q (sym y) (subst P is k), refl)
-yields_more gives s t u (z ∷ zs) x r y k is = (y.0, y.1, yields_more gives y.0 t u zs x r y.2 k is)
+yields_more gives s t u (z ∷ zs) {x} {r} y k is = (y.0, y.1, yields_more gives y.0 t u zs y.2 k is)
 
 -- and none after that
 pub drained : {S A : Type 0} (gives : S → Option A → S → Type 0) (s t u : S) (ys : List A) (r : Option A)

@@ -98,11 +98,11 @@ module _ {N E : Type 0} {end : ℕ} {g : Graph N E} (f : IsWellFormed end g) (w 
       subst P (sym stayed) (order_kept ord kept)
 
   -- with an edge from an old node, or to one
-  pub order_of_neighbor : {new : Graph N E} (after : List ℕ) (n : ℕ) (e : E) → HasNode g n → (dir : Direction)
+  pub order_of_neighbor : {new : Graph N E} {after : List ℕ} (n : ℕ) (e : E) → HasNode g n → (dir : Direction)
       → new ≡ with_neighbor dir g n e w → after ≡ with_end dir order (next_node g) → IsOrderOf new after
-  order_of_neighbor {new} after n e exists Outgoing added put = let P : List ℕ → Type 0 = λ z. IsOrderOf new z in
+  order_of_neighbor {new} n e exists Outgoing added put = let P : List ℕ → Type 0 = λ z. IsOrderOf new z in
       subst P (sym put) (order_kept (order_with_child f w order ord n e exists) added)
-  order_of_neighbor {new} after n e exists Incoming added put = let P : List ℕ → Type 0 = λ z. IsOrderOf new z in
+  order_of_neighbor {new} n e exists Incoming added put = let P : List ℕ → Type 0 = λ z. IsOrderOf new z in
       subst P (sym put) (order_kept (order_with_parent f w order ord n e exists) added)
 
 -- and taken back
@@ -143,7 +143,7 @@ some_within (x ∷ xs) (suc k) h full = some_within xs k (omega arith) full
 
 -- a node is removed, after which there are `left` slots, where there were `slots`
 module _ {N E : Type 0} {end : ℕ} {g : Graph N E} (f : IsWellFormed end g) {order : List ℕ} (ord : IsOrderOf g order)
-    (n : ℕ) (exists : HasNode g n) (slots left : ℕ) (were : slots ≡ length g.nodes) where
+    (n : ℕ) (exists : HasNode g n) {slots : ℕ} (left : ℕ) (were : slots ≡ length g.nodes) where
   few_slots : length (without_node Compact g n).nodes ≡ length g.nodes - 1
   few_slots =
       let xs = (with_node_isolated Compact g n).nodes in
@@ -176,16 +176,16 @@ module _ {N E : Type 0} {end : ℕ} {g : Graph N E} (f : IsWellFormed end g) {or
   last_there Stable gone are compact fewer = absurd (left_stable gone are (eqb-true left (slots - 1) fewer))
 
   pub order_of_removed : (kind : Kind) {new : Graph N E} → IsIsolated end (with_node_isolated kind g n) n
-      → new ≡ without_node kind g n → left ≡ length new.nodes → (after : List ℕ)
+      → new ≡ without_node kind g n → left ≡ length new.nodes → {after : List ℕ}
       → (eqb left (slots - 1) ≡ true → after ≡ map (renamed (slots - 1) n) (without n order))
       → (eqb left (slots - 1) ≡ false → after ≡ without n order) → IsOrderOf new after
-  order_of_removed Compact {new} alone gone are after renames stays =
+  order_of_removed Compact {new} alone gone are {after} renames stays =
       let P : List ℕ → Type 0 = λ z. IsOrderOf new z in
       let is : after ≡ map (renamed (length g.nodes - 1) n) (without n order) =
       renames (eq-eqb left (slots - 1) (left_compact gone are))
       ∙ ap (λ z. map (renamed (z - 1) n) (without n order)) were in
       subst P (sym is) (order_kept (order_without_node Compact g order n ord exists alone) gone)
-  order_of_removed Stable {new} alone gone are after renames stays =
+  order_of_removed Stable {new} alone gone are renames stays =
       let P : List ℕ → Type 0 = λ z. IsOrderOf new z in
       subst P (sym (stays (ne_eqb left (slots - 1) (left_stable gone are))))
       (order_kept (order_without_node Stable g order n ord exists alone) gone)

@@ -16,29 +16,30 @@ memory_no_cycle : {R E : Type 0} (result : Result R (EdgeError E)) (w : E)
 memory_no_cycle result w a b = cc
 
 -- a refusal by a guard: want of memory, or a cycle exactly if a path leads back
-pub searched : {R E : Type 0} (result : Result R (EdgeError E)) (error : EdgeError E) (w : E) (P : EdgeError E → Type 0)
+pub searched : {R E : Type 0} {result : Result R (EdgeError E)} {error : EdgeError E} (w : E) (P : EdgeError E → Type 0)
     (Back : Type 0)
     → result ≡ Err error
     → ((result ≡ Err (WouldCycle (record { 0 = w }))) ↔ Back)
     → (error ≡ WouldCycle (record { 0 = w })) ⊎ (error ≡ Memory w)
     → (Back → P (WouldCycle (record { 0 = w }))) → ((Back → ⊥) → P (Memory w)) → P error
-searched result error w P Back is cycle refusal by_cycle by_memory =
+searched {R} {E} {result} w P Back is cycle refusal by_cycle by_memory =
     elim refusal [
       | inl e ↦ subst P (sym e) (by_cycle (cycle.0 (is ∙ ap Err e)))
       | inr m ↦ subst P (sym m) (by_memory (λ back. memory_no_cycle result w (is ∙ ap Err m) (cycle.1 back)))
     ]
 
-pub stopped_after : {R N E : Type 0} (IsDefault : N → Type 0) (limit : ℕ) (old filled new : Graph N E) (x : NewEdge E)
-    (result : Result R (EdgeError E)) (error : EdgeError E)
+pub stopped_after : {R N E : Type 0} (IsDefault : N → Type 0) (limit : ℕ) (old : Graph N E) {filled : Graph N E}
+    {new : Graph N E} (x : NewEdge E)
+    {result : Result R (EdgeError E)} {error : EdgeError E}
     → result ≡ Err error → new ≡ filled
     → HasIndices IsDefault limit old x → IsFilled IsDefault (max x.0 x.1) old filled → HasEnds filled x
     → ((result ≡ Err (WouldCycle (record { 0 = x.2 }))) ↔ Reaches filled x.1 x.0)
     → (error ≡ WouldCycle (record { 0 = x.2 })) ⊎ (error ≡ Memory x.2)
     → IsStopped IsDefault limit old x error new
-stopped_after {R} {N} {E} IsDefault limit old filled new x result error is same indices nodes ends cycle refusal =
+stopped_after {R} {N} {E} IsDefault limit old {filled} x {result} {error} is same indices nodes ends cycle refusal =
     let P : Graph N E → Type 0 = λ z. IsStopped IsDefault limit old x error z in
     let Q : EdgeError E → Type 0 = λ z. IsStopped IsDefault limit old x z filled in
-    subst P (sym same) (searched result error x.2 Q (Reaches filled x.1 x.0) is cycle refusal (λ back. (
+    subst P (sym same) (searched x.2 Q (Reaches filled x.1 x.0) is cycle refusal (λ back. (
       refl,
       indices,
       nodes,
@@ -56,9 +57,10 @@ mapped_none f None none some = false≢true some
 mapped_none f (Some x) none some = cc
 
 -- the same edge by two names of its ends
-pub renamed_refusal : {N E : Type 0} (limit : ℕ) (g : Graph N E) (a b source target : ℕ) (w : E) (error : EdgeError E)
+pub renamed_refusal : {N E : Type 0} (limit : ℕ) (g : Graph N E) (a b : ℕ) {source target : ℕ} (w : E)
+    (error : EdgeError E)
     → a ≡ source → b ≡ target → IsEdgeRefused limit g (a, b, w) error → IsEdgeRefused limit g (source, target, w) error
-renamed_refusal limit g a b source target w error a_is b_is refused =
+renamed_refusal limit g a b {source} w error a_is b_is refused =
     let P : ℕ → Type 0 = λ z. IsEdgeRefused limit g (z, b, w) error in
     let Q : ℕ → Type 0 = λ z. IsEdgeRefused limit g (source, z, w) error in
     subst Q b_is (subst P a_is refused)

@@ -6,7 +6,7 @@ use Rattle.serde_json.specs.declared.value.Value.{Value}
 use Rattle.daggy_document.specs.Document.{whole}
 use Rattle.daggy_document.specs.Reading.{whole_in}
 
-pub read_again : (w n : ℕ) (d : Data) (v u p : Value) (o : Option ℕ)
+pub read_again : {w : ℕ} {n : ℕ} {d : Data} (v : Value) {u : Value} {p : Value} {o : Option ℕ}
     → view v ≡ whole n → n ≡ w → view v ≡ d → o ≡ whole_in (view p) → p ≡ u → view u ≡ d → o ≡ Some w
-read_again w n d v u p o written shown is read seen same =
+read_again v written shown is read seen same =
     read ∙ ap (λ k. whole_in (view k)) seen ∙ ap whole_in (same ∙ sym is ∙ written) ∙ ap Some shown

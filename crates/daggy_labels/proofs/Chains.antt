@@ -127,10 +127,10 @@ module _ (N P M Q : ℕ → ℕ) where
     pub from : Q (N n) ≡ P n
     pub back : (k : ℕ) → k ≢ N n → Q k ≡ P k
 
-  taken_between : (s : ℕ) (us : List ℕ) (n : ℕ) (vs : List ℕ) (e : ℕ) → IsTaken n → IsLinkChain N P s us n
+  taken_between : (s : ℕ) (us : List ℕ) {n : ℕ} (vs : List ℕ) (e : ℕ) → IsTaken n → IsLinkChain N P s us n
       → IsLinkChain N P n vs e → Unique (s ∷ (us ++ vs)) → (Mem e (us ++ vs) → ⊥) → IsLinkChain M Q s (us ++ vs) e
-  taken_between s [] n [] e w c d u apart = (ap M (sym c.1) ∙ (w.to ∙ d.0), ap Q (sym d.0) ∙ (w.from ∙ c.1))
-  taken_between s [] n (v ∷ vs) e w c d u apart = (
+  taken_between s [] [] e w c d u apart = (ap M (sym c.1) ∙ (w.to ∙ d.0), ap Q (sym d.0) ∙ (w.from ∙ c.1))
+  taken_between s [] (v ∷ vs) e w c d u apart = (
     ap M (sym c.1) ∙ (w.to ∙ d.0),
     ap Q (sym d.0) ∙ (w.from ∙ c.1),
     chain_same v vs e (λ k m.
@@ -142,7 +142,7 @@ module _ (N P M Q : ℕ → ℕ) where
           | inr b ↦ elim b [ inl same ↦ apart (inl (sym same)) | inr none ↦ none ]
         ])) d.2,
   )
-  taken_between s (t ∷ us) n vs e w c d u apart = (
+  taken_between s (t ∷ us) {n} vs e w c d u apart = (
     w.ahead s (λ is.
         let A : ℕ → Type 0 = λ z. Mem z (t ∷ us) in
         u.0 (mem_left (t ∷ us) vs s (subst A (sym is) (before_in N P t us n c.2)))) ∙ c.0,
@@ -152,13 +152,13 @@ module _ (N P M Q : ℕ → ℕ) where
           | inl a ↦ u.1.0 (mem_right us vs t a)
           | inr b ↦ elim b [ inl same ↦ apart (inl (sym same)) | inr none ↦ none ]
         ]) ∙ c.1,
-    taken_between t us n vs e w c.2 d u.1 (λ m. apart (inr m)),
+    taken_between t us vs e w c.2 d u.1 (λ m. apart (inr m)),
   )
 
   pub take_member : (n : ℕ) (us vs : List ℕ) (e : ℕ)
       → IsTaken n → IsLinkChain N P e (us ++ n ∷ vs) e → Unique (e ∷ (us ++ vs)) → IsLinkChain M Q e (us ++ vs) e
   take_member n us vs e w c u =
-      taken_between e us n vs e w (chain_left N P e us n vs e c) (chain_right N P e us n vs e c) u u.0
+      taken_between e us vs e w (chain_left N P e us n vs e c) (chain_right N P e us n vs e c) u u.0
 
 -- where a node leads
 pub neighbor_end : (end outer : ℕ) (links : List ℕ) → neighbor end outer links end ≡ outer

@@ -96,38 +96,53 @@ pub unique_without : (us : List ℕ) (x : ℕ) (vs : List ℕ) → Unique (us ++
 unique_without [] x vs u = u.1
 unique_without (y ∷ us) x vs u = (λ m. u.0 (mem_into us vs x y m), unique_without us x vs u.1)
 
--- the list that links keep
-module _ (end : ℕ) (next previous : List ℕ) (first last : ℕ) (xs : List ℕ)
-    (chain : IsLinkChain (neighbor end first next) (neighbor end last previous) end xs end) (once : Unique (end ∷ xs))
-    (within : (n : ℕ) → Mem n xs → n < length previous) (sized : length previous ≤ length next) where
-  pub walked : (count : ℕ) → count ≡ length xs → nodes_from end next first count ≡ xs
+-- the links of a list of nodes: to the next and to the one before, and where `end` leads
+pub record Linking : Type 0 where
+  pub next : List ℕ
+  pub previous : List ℕ
+  pub first : ℕ
+  pub last : ℕ
+
+-- a chain of distinct nodes is what links keep
+are_links : {end : ℕ} {next previous : List ℕ} {first last : ℕ} {xs : List ℕ}
+    → IsLinkChain (neighbor end first next) (neighbor end last previous) end xs end → Unique (end ∷ xs)
+    → ((n : ℕ) → Mem n xs → n < length previous) → length previous ≤ length next
+    → AreLinksOf end next previous first last xs
+are_links {end} {next} {previous} {first} {last} {xs} chain once within sized = record {
+  chained = chain;
+  distinct = distinct_from_unique (end ∷ xs) once;
+  within = λ n c. within n (contains_mem xs n c);
+  sized = sized;
+}
+
+-- a walk along links gives the list that they keep
+module _ {end : ℕ} {next previous : List ℕ} {first last : ℕ} {xs : List ℕ}
+    (s : AreLinksOf end next previous first last xs) where
+  walked : (count : ℕ) → count ≡ length xs → nodes_from end next first count ≡ xs
   walked count is =
-      ap (nodes_from end next first) is ∙ walk_is end first next (neighbor end last previous) xs chain once.0
+      ap (nodes_from end next first) is
+      ∙ walk_is end first next (neighbor end last previous) xs s.chained (unique_from_distinct (end ∷ xs) s.distinct).0
 
-  pub linked : (count : ℕ)
-      → count ≡ length xs → AreLinksOf end next previous first last (nodes_from end next first count)
+  linked : (count : ℕ) → count ≡ length xs → AreLinksOf end next previous first last (nodes_from end next first count)
   linked count is =
-      let P : List ℕ → Type 0 = λ z. AreLinksOf end next previous first last z in
-      subst P (sym (walked count is)) (record {
-        chained = chain;
-        distinct = distinct_from_unique (end ∷ xs) once;
-        within = λ n c. within n (contains_mem xs n c);
-        sized = sized;
-      })
+      let P : List ℕ → Type 0 = λ z. AreLinksOf end next previous first last z in subst P (sym (walked count is)) s
 
--- writes that put n behind p
-pub is_put : (N P N' M P' Q : ℕ → ℕ) (p n q : ℕ)
-    → n ≢ p → n ≢ q → q ≡ N p → N' p ≡ n → ((k : ℕ) → k ≢ p → N' k ≡ N k) → M n ≡ q → ((k : ℕ) → k ≢ n → M k ≡ N' k)
-    → P' n ≡ p → ((k : ℕ) → k ≢ n → P' k ≡ P k) → Q q ≡ n → ((k : ℕ) → k ≢ q → Q k ≡ P' k) → IsPut N P M Q p n
-is_put N P N' M P' Q p n q not_p not_q is to ahead on ahead' from back back_to back' =
-    record {
-      to = ahead' p (λ e. not_p (sym e)) ∙ to;
-      on = on ∙ is;
-      ahead = λ k a b. ahead' k b ∙ ahead k a;
-      from = back' n not_q ∙ from;
-      back_to = ap Q (sym is) ∙ back_to;
-      back = λ k a b. back' k (λ e. b (e ∙ is)) ∙ back k a;
-    }
+-- of the links N a write makes N', in which `from` leads to `to`
+pub record Leads (N N' : ℕ → ℕ) (from to : ℕ) : Type 0 where
+  pub led : N' from ≡ to
+  pub others : (k : ℕ) → k ≢ from → N' k ≡ N k
+
+-- four writes put n between p and q; N' and P' are the links between the two of each direction
+pub is_put : {N M P Q : ℕ → ℕ} {p n q : ℕ} (N' P' : ℕ → ℕ) → n ≢ p → n ≢ q → q ≡ N p
+    → Leads N N' p n → Leads N' M n q → Leads P P' n p → Leads P' Q q n → IsPut N P M Q p n
+is_put {N} {M} {P} {Q} {p} {n} {q} N' P' not_p not_q is to on from back = record {
+  to = on.others p (λ e. not_p (sym e)) ∙ to.led;
+  on = on.led ∙ is;
+  ahead = λ k a b. on.others k b ∙ to.others k a;
+  from = back.others n not_q ∙ from.led;
+  back_to = ap Q (sym is) ∙ back.led;
+  back = λ k a b. back.others k (λ e. b (e ∙ is)) ∙ from.others k a;
+}
 
 module _ {end : ℕ} {next previous : List ℕ} {first last : ℕ} {xs : List ℕ}
     (s : AreLinksOf end next previous first last xs) where
@@ -150,14 +165,15 @@ module _ {end : ℕ} {next previous : List ℕ} {first last : ℕ} {xs : List �
         (neighbor end last previous') end xs end (λ k m. ap (λ z. cond (eqb k end) first z) (same k))
         (λ k m. ap (λ z. cond (eqb k end) last z) (same_back k)) s.chained
 
+    grown_links : AreLinksOf end next' previous' first last xs
+    grown_links = are_links grown_chain once (λ n m. omega (arith, inside n m, long)) sized
+
     pub grown_walked : (count : ℕ) → count ≡ length xs → nodes_from end next' first count ≡ xs
-    grown_walked =
-        walked end next' previous' first last xs grown_chain once (λ n m. omega (arith, inside n m, long)) sized
+    grown_walked = walked grown_links
 
     pub grown_linked : (count : ℕ)
         → count ≡ length xs → AreLinksOf end next' previous' first last (nodes_from end next' first count)
-    grown_linked =
-        linked end next' previous' first last xs grown_chain once (λ n m. omega (arith, inside n m, long)) sized
+    grown_linked = linked grown_links
 
   pub first_is : first ≡ first_of end xs
   first_is = sym (neighbor_end end first next) ∙ head xs s.chained
@@ -267,19 +283,19 @@ module _ {end : ℕ} {next previous : List ℕ} {first last : ℕ} {xs : List �
         ]))
 
   -- n is put behind p, which is a node or the end
-  module _ (next' previous' : List ℕ) (first' last' : ℕ) (n : ℕ) (fresh : Mem n (end ∷ xs) → ⊥)
-      (low : n < length previous) (sized : length previous' ≤ length next')
-      (long : length previous ≤ length previous') where
-    put_within : (ys : List ℕ) → ((m : ℕ) → Mem m ys → (m ≡ n) ⊎ Mem m xs) → (m : ℕ) → Mem m ys → m < length previous'
+  module _ (now : Linking) (n : ℕ) (fresh : Mem n (end ∷ xs) → ⊥) (low : n < length previous)
+      (sized : length now.previous ≤ length now.next) (long : length previous ≤ length now.previous) where
+    put_within : (ys : List ℕ) → ((m : ℕ) → Mem m ys → (m ≡ n) ⊎ Mem m xs) → (m : ℕ) → Mem m ys → m < length
+        now.previous
     put_within ys from m h =
         elim (from m h) [
           | inl is ↦ omega (arith, is, low, long)
           | inr old ↦ omega (arith, inside m old, long)
         ]
 
-    pub put_first_chain : IsPut (neighbor end first next) (neighbor end last previous) (neighbor end first' next')
-        (neighbor end last' previous') end n
-        → IsLinkChain (neighbor end first' next') (neighbor end last' previous') end (n ∷ xs) end
+    pub put_first_chain : IsPut (neighbor end first next) (neighbor end last previous) (neighbor end now.first now.next)
+        (neighbor end now.last now.previous) end n
+        → IsLinkChain (neighbor end now.first now.next) (neighbor end now.last now.previous) end (n ∷ xs) end
     put_first_chain w =
         put_behind_start _ _ _ _ end n xs end w s.chained (λ h. elim (mem_cases xs (end ∷ []) n h) [
           | inl a ↦ fresh (inr a)
@@ -296,28 +312,29 @@ module _ {end : ℕ} {next previous : List ℕ} {first last : ℕ} {xs : List �
           unique_last ys y u.1 (λ m. d (inr m)),
         )
 
-    module _ (w : IsPut (neighbor end first next) (neighbor end last previous) (neighbor end first' next')
-        (neighbor end last' previous') end n) (count : ℕ) (is : count ≡ length xs + 1) where
+    module _ (w : IsPut (neighbor end first next) (neighbor end last previous) (neighbor end now.first now.next)
+        (neighbor end now.last now.previous) end n) (count : ℕ) (is : count ≡ length xs + 1) where
       once_first : Unique (end ∷ (n ∷ xs))
       once_first = (λ m. elim m [ inl e ↦ fresh (inl (sym e)) | inr b ↦ once.0 b ], (λ m. fresh (inr m), once.1))
 
       count_first : count ≡ length (n ∷ xs)
       count_first = omega (arith, is)
 
-      pub put_first_walked : nodes_from end next' first' count ≡ n ∷ xs
-      put_first_walked =
-          walked end next' previous' first' last' (n ∷ xs) (put_first_chain w) once_first
-          (put_within (n ∷ xs) (λ m h. h)) sized count count_first
+      links_first : AreLinksOf end now.next now.previous now.first now.last (n ∷ xs)
+      links_first = are_links (put_first_chain w) once_first (put_within (n ∷ xs) (λ m h. h)) sized
 
-      pub put_first_linked : AreLinksOf end next' previous' first' last' (nodes_from end next' first' count)
-      put_first_linked =
-          linked end next' previous' first' last' (n ∷ xs) (put_first_chain w) once_first
-          (put_within (n ∷ xs) (λ m h. h)) sized count count_first
+      pub put_first_walked : nodes_from end now.next now.first count ≡ n ∷ xs
+      put_first_walked = walked links_first count count_first
 
-    module _ (p : ℕ) (w : IsPut (neighbor end first next) (neighbor end last previous) (neighbor end first' next')
-        (neighbor end last' previous') p n) (count : ℕ) (is : count ≡ length xs + 1) (us vs : List ℕ)
+      pub put_first_linked : AreLinksOf end now.next now.previous now.first now.last
+          (nodes_from end now.next now.first count)
+      put_first_linked = linked links_first count count_first
+
+    module _ {p : ℕ} (w : IsPut (neighbor end first next) (neighbor end last previous) (neighbor end now.first now.next)
+        (neighbor end now.last now.previous) p n) (count : ℕ) (is : count ≡ length xs + 1) (us vs : List ℕ)
         (at : xs ≡ us ++ p ∷ vs) where
-      put_chain : IsLinkChain (neighbor end first' next') (neighbor end last' previous') end (us ++ p ∷ (n ∷ vs)) end
+      put_chain : IsLinkChain (neighbor end now.first now.next) (neighbor end now.last now.previous) end
+          (us ++ p ∷ (n ∷ vs)) end
       put_chain =
           let A : List ℕ → Type 0 = λ z. IsLinkChain (neighbor end first next) (neighbor end last previous) end z end in
           let B : List ℕ → Type 0 = λ z. Unique (end ∷ z) in
@@ -372,33 +389,32 @@ module _ {end : ℕ} {next previous : List ℕ} {first last : ℕ} {xs : List �
             length-append us (p ∷ (n ∷ vs)),
           )
 
-      pub put_walked : nodes_from end next' first' count ≡ us ++ p ∷ (n ∷ vs)
-      put_walked =
-          walked end next' previous' first' last' (us ++ p ∷ (n ∷ vs)) put_chain once_put
-          (put_within (us ++ p ∷ (n ∷ vs)) from_put) sized count count_put
+      links_put : AreLinksOf end now.next now.previous now.first now.last (us ++ p ∷ (n ∷ vs))
+      links_put = are_links put_chain once_put (put_within (us ++ p ∷ (n ∷ vs)) from_put) sized
 
-      pub put_linked : AreLinksOf end next' previous' first' last' (nodes_from end next' first' count)
-      put_linked =
-          linked end next' previous' first' last' (us ++ p ∷ (n ∷ vs)) put_chain once_put
-          (put_within (us ++ p ∷ (n ∷ vs)) from_put) sized count count_put
+      pub put_walked : nodes_from end now.next now.first count ≡ us ++ p ∷ (n ∷ vs)
+      put_walked = walked links_put count count_put
+
+      pub put_linked : AreLinksOf end now.next now.previous now.first now.last (nodes_from end now.next now.first count)
+      put_linked = linked links_put count count_put
 
   -- n is taken out
-  module _ (next' previous' : List ℕ) (first' last' : ℕ) (n : ℕ) (us vs : List ℕ) (at : xs ≡ us ++ n ∷ vs)
-      (w : IsTaken (neighbor end first next) (neighbor end last previous) (neighbor end first' next')
-      (neighbor end last' previous') n) (sized : length previous' ≤ length next')
-      (long : length previous ≤ length previous') (count : ℕ) (is : count + 1 ≡ length xs) where
+  module _ (now : Linking) {n : ℕ} (us vs : List ℕ) (at : xs ≡ us ++ n ∷ vs)
+      (w : IsTaken (neighbor end first next) (neighbor end last previous) (neighbor end now.first now.next)
+      (neighbor end now.last now.previous) n) (sized : length now.previous ≤ length now.next)
+      (long : length previous ≤ length now.previous) (count : ℕ) (is : count + 1 ≡ length xs) where
     once_at : Unique (end ∷ (us ++ n ∷ vs))
     once_at = let A : List ℕ → Type 0 = λ z. Unique (end ∷ z) in subst A at once
 
     once_left : Unique (end ∷ (us ++ vs))
     once_left = (λ h. once_at.0 (mem_into us vs n end h), unique_without us n vs once_at.1)
 
-    chain_taken : IsLinkChain (neighbor end first' next') (neighbor end last' previous') end (us ++ vs) end
+    chain_taken : IsLinkChain (neighbor end now.first now.next) (neighbor end now.last now.previous) end (us ++ vs) end
     chain_taken =
         let A : List ℕ → Type 0 = λ z. IsLinkChain (neighbor end first next) (neighbor end last previous) end z end in
         take_member _ _ _ _ n us vs end w (subst A at s.chained) once_left
 
-    within_taken : (k : ℕ) → Mem k (us ++ vs) → k < length previous'
+    within_taken : (k : ℕ) → Mem k (us ++ vs) → k < length now.previous
     within_taken k h =
         let A : List ℕ → Type 0 = λ z. Mem k z in
         omega (arith, inside k (subst A (sym at) (mem_into us vs n k h)), long)
@@ -406,11 +422,13 @@ module _ {end : ℕ} {next previous : List ℕ} {first last : ℕ} {xs : List �
     count_taken : count ≡ length (us ++ vs)
     count_taken = omega (arith, is, ap (λ (z : List ℕ). length z) at, length-append us (n ∷ vs), length-append us vs)
 
-    pub taken_walked : nodes_from end next' first' count ≡ without n xs
+    links_left : AreLinksOf end now.next now.previous now.first now.last (us ++ vs)
+    links_left = are_links chain_taken once_left within_taken sized
+
+    pub taken_walked : nodes_from end now.next now.first count ≡ without n xs
     taken_walked =
-        walked end next' previous' first' last' (us ++ vs) chain_taken once_left within_taken sized count count_taken
+        walked links_left count count_taken
         ∙ sym (ap (without n) at ∙ without_mid n us vs (not_before us n vs once_at.1) (not_behind us n vs once_at.1))
 
-    pub taken_linked : AreLinksOf end next' previous' first' last' (nodes_from end next' first' count)
-    taken_linked =
-        linked end next' previous' first' last' (us ++ vs) chain_taken once_left within_taken sized count count_taken
+    pub taken_linked : AreLinksOf end now.next now.previous now.first now.last (nodes_from end now.next now.first count)
+    taken_linked = linked links_left count count_taken

@@ -85,9 +85,9 @@ place_left_is (y ∷ xs) ys x m =
     ]
 
 -- a list without a tail
-pub tailed_bare : (end : ℕ) (nodes : List ℕ) (capacity from count index_bound : ℕ) → count ≡ 0 → index_bound ≡ 0
+pub tailed_bare : {end : ℕ} {nodes : List ℕ} {capacity from count index_bound : ℕ} → count ≡ 0 → index_bound ≡ 0
     → from ≤ end → ((k : ℕ) → Mem k nodes → k < from) → IsTailed end nodes capacity from count index_bound
-tailed_bare end nodes capacity from count index_bound none no_room real below =
+tailed_bare {end} {nodes} none no_room real below =
     record {
       below = λ k h. below k (contains_mem nodes k h);
       real = omega (arith, none, real);
@@ -214,12 +214,12 @@ module _ {end : ℕ} {nodes : List ℕ} {capacity from count index_bound : ℕ}
       }
 
   -- all are written now, and they may have changed
-  pub tailed_after : (nodes' : List ℕ) (capacity' from' count' index_bound' : ℕ)
+  pub tailed_after : {nodes' : List ℕ} {capacity' from' count' index_bound' : ℕ}
       → count' ≡ 0 → index_bound' ≡ 0 → from + count ≤ from' → from' ≤ end
       → ((k : ℕ) → Mem k nodes' → Mem k (nodes ++ range_with_len from count) ⊎ (k < from'))
       → IsTailed end nodes' capacity' from' count' index_bound'
-  tailed_after nodes' capacity' from' count' index_bound' none no_room higher real members =
-      tailed_bare end nodes' capacity' from' count' index_bound' none no_room real (λ k m. elim (members k m) [
+  tailed_after {nodes'} {capacity'} {from'} {count'} {index_bound'} none no_room higher real members =
+      tailed_bare none no_room real (λ k m. elim (members k m) [
         | inl a ↦ omega (arith, high k a, higher)
         | inr b ↦ b
       ])

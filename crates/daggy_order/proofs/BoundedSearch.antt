@@ -59,10 +59,10 @@ pub record Finding (marks : List Bool) (found : List ℕ) (size count : ℕ) : T
   pub capacity : length marks ≤ length found
   pub sized : length found ≡ size
 
-pub finds_first : (marks : List Bool) (found : List ℕ) (n k m : ℕ)
+pub finds_first : (marks : List Bool) (found : List ℕ) {n k m : ℕ}
     → ((i : ℕ) → get_or marks i false ≡ false) → n < length marks → length marks ≤ length found → k ≡ n → m ≡ n
     → Finding (set marks k true) (set found 0 m) (length found) 1
-finds_first marks found n k m clear low capacity is is' =
+finds_first marks found {n} {k} {m} clear low capacity is is' =
     let some : 0 < length found = omega (arith, low, capacity) in
     let one : take 1 (set found 0 m) ≡ m ∷ [] = take_more_set found 0 m some in
     let U : List ℕ → Type 0 = λ z. Unique z in

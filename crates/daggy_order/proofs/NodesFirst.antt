@@ -50,9 +50,10 @@ held_still ns order k held m =
     (first_contains (drop k ns) order (λ n h.
     held n (mem_contains ns n (mem_drop k ns n (contains_mem (drop k ns) n h)))) m).1
 
-pub first_more : (ns order now : List ℕ) (k d left n : ℕ) → left ≡ suc k → left ≤ length ns → n ≡ get_or ns k d
+pub first_more : (ns order : List ℕ) {now : List ℕ} {k : ℕ} (d : ℕ) {left : ℕ} {n : ℕ} → left ≡ suc k → left ≤ length ns
+    → n ≡ get_or ns k d
     → now ≡ with_first (drop left ns) order → n ∷ without n now ≡ with_first (drop k ns) order
-first_more ns order now k d left n next low is so_far =
+first_more ns order {now} {k} d {left} {n} next low is so_far =
     let on : k + 1 ≡ left = omega (arith, next) in
     ap (λ (z : List ℕ). n ∷ without n z) so_far
     ∙ (ap (λ z. z ∷ without z (with_first (drop left ns) order)) is

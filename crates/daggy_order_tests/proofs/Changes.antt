@@ -14,11 +14,11 @@ on_ok {A} {E} {X} r x is said = let P : Result A E → Type 0 = λ z. OnOk z X i
 pub if_ok : {A E : Type 0} (P : A → Type 0) (r : Result A E) (x : A) → r ≡ Ok x → IfOk r P → P x
 if_ok {A} {E} P r x is said = let Q : Result A E → Type 0 = λ z. IfOk z P in subst Q is said
 
-pub edge_added : (old : Graph ℕ ℕ) (mid new : State ℕ ℕ) (order : List ℕ) (a b capacity : ℕ)
+pub edge_added : {old : Graph ℕ ℕ} (mid : State ℕ ℕ) {new : State ℕ ℕ} {order : List ℕ} (a b capacity : ℕ)
     → IsOrderOf old order → place order a < place order b → node_bound old ≤ capacity
     → mid.graph ≡ old → new ≡ with_graph mid (with_edge mid.graph a b 0)
     → IsOrderOf new.graph order × (node_bound new.graph ≤ capacity)
-edge_added old mid new order a b capacity ord before fits same added =
+edge_added mid {new} {order} a b capacity ord before fits same added =
     let P : Graph ℕ ℕ → Type 0 = λ z.
     IsOrderOf (with_edge z a b 0) order × (node_bound (with_edge z a b 0) ≤ capacity) in
     let Q : Graph ℕ ℕ → Type 0 = λ z. IsOrderOf z order × (node_bound z ≤ capacity) in

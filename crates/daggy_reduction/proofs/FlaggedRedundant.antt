@@ -48,11 +48,11 @@ one_queued g u k queue exists low =
           );
     }
 
-pub flags_round : {N E : Type 0} (end : ℕ) (g : Graph N E)
-    → IsWellFormed end g → IsAcyclic g → (u : ℕ) (closure : List ℕ) → IsClosure g (u ∷ []) closure
+pub flags_round : {N E : Type 0} {end : ℕ} {g : Graph N E}
+    → IsWellFormed end g → IsAcyclic g → {u : ℕ} {closure : List ℕ} → IsClosure g (u ∷ []) closure
     → (k : ℕ) (marks : List Bool) → MeetsChildren g closure (replicate k false) marks
     → (old new : List ℕ) → FlagsMarked end g u marks old new → FlagsRound end g u old new
-flags_round end g w acyclic u closure c k marks meets old new flags e = (
+flags_round {N} {E} {end} {g} w acyclic {u} {closure} c k marks meets old new flags e = (
   λ f. elim ((flags e).0 f) [
     | inl a ↦ inl a
     | inr l ↦ elim ((meets l.edge.child).0 l.child) [
@@ -79,11 +79,11 @@ flags_round end g w acyclic u closure c k marks meets old new flags e = (
 )
 
 -- the same by marks that are right for the children of the node alone
-pub flags_met : {N E : Type 0} (end : ℕ) (g : Graph N E) → IsWellFormed end g → (u k : ℕ) (marks : List Bool)
+pub flags_met : {N E : Type 0} {end : ℕ} {g : Graph N E} → IsWellFormed end g → (u k : ℕ) (marks : List Bool)
     → ((v : ℕ) → AreJoined g u v
     → (get_or marks v false ≡ true) ↔ ((get_or (replicate k false) v false ≡ true) ⊎ ReachesIndirectly g u v))
     → (old new : List ℕ) → FlagsMarked end g u marks old new → FlagsRound end g u old new
-flags_met end g w u k marks met old new flags e = (
+flags_met {N} {E} {end} {g} w u k marks met old new flags e = (
   λ f. elim ((flags e).0 f) [
     | inl a ↦ inl a
     | inr l ↦ elim ((met l.edge.child (joins end g w e u l.edge l.at l.parent)).0 l.child) [

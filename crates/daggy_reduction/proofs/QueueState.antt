@@ -236,10 +236,10 @@ module _ {N E : Type 0} {task : Task N E} (w : IsWellFormed task.end task.graph)
             length-take-le now.len now.queue s.high,
           ))
 
-  pub next_here : now.edge ≡ end → (k u e' : ℕ) → k ≡ now.head + 1 → k ≢ now.len → u ≡ get_or now.queue k u
+  pub next_here : now.edge ≡ end → (k u : ℕ) {e' : ℕ} → k ≡ now.head + 1 → k ≢ now.len → u ≡ get_or now.queue k u
       → e' ≡ first_of end (out_list now.graph u)
       → Draining task start record now { head = k; edge = e' }
-  next_here h k u e' one more top first = go s.going.rest refl
+  next_here h k u {e'} one more top first = go s.going.rest refl
     where
       go : (r : List ℕ) → r ≡ s.going.rest → Draining task start record now { head = k; edge = e' }
       go [] is =
@@ -317,10 +317,10 @@ module _ {N E : Type 0} {end : ℕ} {g₀ : Graph N E} (w : IsWellFormed end g�
       )
 
 -- the start
-pub starts_here : {N E : Type 0} (end : ℕ) (now : Reading N E)
+pub starts_here : {N E : Type 0} (end : ℕ) {now : Reading N E}
     → IsQueue now.graph now.marks (take now.len now.queue) → 0 < now.len → now.len ≤ length now.queue
     → node_bound now.graph ≤ length now.marks → node_bound now.graph ≤ length now.met
-    → length now.marks ≤ length now.queue → (u : ℕ) → u ≡ get_or now.queue 0 u → now.head ≡ 0
+    → length now.marks ≤ length now.queue → {u : ℕ} → u ≡ get_or now.queue 0 u → now.head ≡ 0
     → now.edge ≡ first_of end (out_list now.graph u)
     → Draining (to_all end now.graph (take now.len now.queue) now.met) record {
       marks = length now.marks;
@@ -328,7 +328,7 @@ pub starts_here : {N E : Type 0} (end : ℕ) (now : Reading N E)
       places = length now.queue;
       looks = now.looks;
     } now
-starts_here {N} {E} end now is some high fits met_fits capacity u top at_front first =
+starts_here {N} {E} end {now} is some high fits met_fits capacity {u} top at_front first =
     record {
       same = refl;
       marks_sized = refl;

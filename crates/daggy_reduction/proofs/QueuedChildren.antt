@@ -65,7 +65,7 @@ pub record Beginning {N E : Type 0} (first : First N E) (now : Children N E) : T
   pub front : ((q ≡ []) × (now.last ≡ first.node)) ⊎ ((others : List ℕ) × (q ≡ first.node ∷ others))
 
 pub begins_here : {N E : Type 0} (end : ℕ) (g : Graph N E) (order : List ℕ) (u : ℕ) (marks : List Bool) (queue : List ℕ)
-    (e looks : ℕ)
+    {e : ℕ} (looks : ℕ)
     → ((n : ℕ) → get_or marks n false ≡ false) → node_bound g ≤ length marks → length marks ≤ length queue
     → e ≡ first_of end (out_list g u)
     → Beginning record {
@@ -85,7 +85,7 @@ pub begins_here : {N E : Type 0} (end : ℕ) (g : Graph N E) (order : List ℕ) 
       edge = e;
       looks = looks;
     }
-begins_here end g order u marks queue e looks cleared fits capacity first =
+begins_here end g order u marks queue looks cleared fits capacity first =
     record {
       same = refl;
       marks_sized = refl;

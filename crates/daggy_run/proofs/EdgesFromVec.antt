@@ -45,9 +45,9 @@ gives = into_iter_steps
 module _ {I N E : Type 0} (number : I → ℕ) (limit : ℕ) (items : List (I × I × E)) (s : IntoIter (I × I × E) Global)
     (here : into_iter_items s ≡ items) (count : into_iter_len s ≡ length items) where
   -- the edges were added
-  pub all_added : (old new : Graph N E) (indices : List ℕ) → batch.IsAdded number limit gives s old new indices
+  pub all_added : {old new : Graph N E} {indices : List ℕ} → batch.IsAdded number limit gives s old new indices
       → IsAcyclic new → AddsAll limit old (map (by_numbers number) items) indices new
-  all_added old new indices added acyclic =
+  all_added {old} {new} {indices} added acyclic =
       let all : added.given ≡ items = given_all added.given items s here count added.drained in
       let P : List (I × I × E) → Type 0 = λ xs. AddsAll limit old (map (by_numbers number) xs) indices new in
       subst P all (record {

@@ -55,11 +55,11 @@ module _ {N E : Type 0} (dir : Direction) (end : ℕ) (g : Graph N E) (w : IsWel
 
   -- the same of a list that grows by the items
   module _ {I : Type 0} (number : I → ℕ) where
-    pub grows : (cursor next : ℕ) (item : I × I) (listed more : List (I × I)) (whole : List (ℕ × ℕ))
+    pub grows : {cursor next : ℕ} (item : I × I) (listed : List (I × I)) {more : List (I × I)} {whole : List (ℕ × ℕ)}
         → IsWalkStep dir end g cursor (Some (pair_of number item)) next → more ≡ listed ++ item ∷ []
         → map (pair_of number) listed ++ items_of dir g (rest_of_walk dir g cursor) ≡ whole
         → map (pair_of number) more ++ items_of dir g (rest_of_walk dir g next) ≡ whole
-    grows cursor next item listed more whole s more_is so_far =
+    grows {cursor} {next} item listed s more_is so_far =
         let step = steps cursor next (pair_of number item) s in
         let left = items_of dir g (rest_of_walk dir g next) in
         ap (λ xs. map (pair_of number) xs ++ left) more_is
@@ -81,10 +81,10 @@ module _ {N E : Type 0} (dir : Direction) (end : ℕ) (g : Graph N E) (w : IsWel
         ∙ ap (λ es. map (pair_of number) listed ++ items_of dir g es) (sym (nothing_left cursor next s)) ∙ so_far
 
 -- the ends of an edge, and the edge behind it, are what a look at it tells
-pub looked : {N E : Type 0} (end : ℕ) (g h : Graph N E) (e next : ℕ) (ends : Option (ℕ × ℕ)) (p : ℕ × ℕ)
+pub looked : {N E : Type 0} (end : ℕ) (g h : Graph N E) (e : ℕ) {next : ℕ} {ends : Option (ℕ × ℕ)} (p : ℕ × ℕ)
     → h ≡ g → ends ≡ Some p → ends ≡ option_map ends_of (edge_at h e)
     → next ≡ cursor_after Outgoing end h e (edge_at h e) → IsLook end g e p.1 next
-looked {N} {E} end g h e next ends p same there ends_are next_is =
+looked {N} {E} end g h e {next} p same there ends_are next_is =
     go (edge_at g e) refl (sym there ∙ ends_are ∙ ap (λ k. option_map ends_of (edge_at k e)) same)
     (next_is ∙ ap (λ k. cursor_after Outgoing end k e (edge_at k e)) same)
   where

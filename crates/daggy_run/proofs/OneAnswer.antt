@@ -172,9 +172,9 @@ module _ {N E : Type 0} (limit : ℕ) where
     -- two stops are at the same edge
     same_stop : (C D : Graph N E → NewEdge E → Type 0) → ((h : Graph N E) (x : NewEdge E) → C h x → IsFaulty h x)
         → ((h : Graph N E) (x : NewEdge E) → D h x → IsFaulty h x)
-        → (l m : E) (ls bs : List E) (s : StopsAt limit g edges C l ls) (t : StopsAt limit g edges D m bs)
+        → {l m : E} {ls bs : List E} (s : StopsAt limit g edges C l ls) (t : StopsAt limit g edges D m bs)
         → AreOne s.front t.front s.at t.at
-    same_stop C D c d l m ls bs s t =
+    same_stop C D c d s t =
         one_fault g s.front t.front s.behind t.behind s.at t.at (sym s.edges_are ∙ t.edges_are) s.faultless t.faultless
         (c _ _ s.cause) (d _ _ t.cause)
 
@@ -190,7 +190,7 @@ module _ {N E : Type 0} (limit : ℕ) where
     apart : (l m : E) (ls bs : List E)
         → StopsAt limit g edges LacksEnd l ls → StopsAt limit g edges (LacksIndex limit) m bs → ⊥
     apart l m ls bs s t =
-        let one = same_stop LacksEnd (LacksIndex limit) by_end by_index l m ls bs s t in
+        let one = same_stop LacksEnd (LacksIndex limit) by_end by_index s t in
         let P : List (NewEdge E) → Type 0 = λ front. LacksEnd (with_edges g front) s.at in
         let Q : NewEdge E → Type 0 = λ at. LacksEnd (with_edges g t.front) at in
         subst Q one.ats (subst P one.fronts s.cause) t.cause.0
@@ -221,7 +221,7 @@ module _ {N E : Type 0} (limit : ℕ) where
     same_series (Missing (OfEdges l ls)) (Missing (OfEdges m bs)) h k fa fb s t =
         let same =
         same_weights LacksEnd LacksEnd l m ls bs s.0 t.0
-        (same_stop LacksEnd LacksEnd by_end by_end l m ls bs s.0 t.0) in
+        (same_stop LacksEnd LacksEnd by_end by_end s.0 t.0) in
         (ap (λ y. Missing (OfEdges y ls)) same.0 ∙ ap (λ ys. Missing (OfEdges m ys)) same.1, s.1 ∙ sym t.1)
     same_series (Missing (OfEdges l ls)) (Full (OfEdges m bs)) h k fa fb s t = absurd (apart l m ls bs s.0 t.0)
     same_series (Missing (OfEdges l ls)) (CycleAll ws) h k fa fb s t = absurd (faultless_no_end l ls t.0.faultless s.0)
@@ -232,7 +232,7 @@ module _ {N E : Type 0} (limit : ℕ) where
     same_series (Full (OfEdges l ls)) (Full (OfEdges m bs)) h k fa fb s t =
         let same =
         same_weights (LacksIndex limit) (LacksIndex limit) l m ls bs s.0 t.0
-        (same_stop (LacksIndex limit) (LacksIndex limit) by_index by_index l m ls bs s.0 t.0) in
+        (same_stop (LacksIndex limit) (LacksIndex limit) by_index by_index s.0 t.0) in
         (ap (λ y. Full (OfEdges y ls)) same.0 ∙ ap (λ ys. Full (OfEdges m ys)) same.1, s.1 ∙ sym t.1)
     same_series (Full (OfEdges l ls)) (CycleAll ws) h k fa fb s t = absurd (faultless_no_index l ls t.0.faultless s.0)
     same_series (Full (OfEdges l ls)) other h k fa fb s t = absurd t
@@ -311,20 +311,20 @@ module _ {N E : Type 0} (limit : ℕ) where
   same_step g request.Clear a b h k both fa fb s t = same_clear g a b h k s t
   same_step g (request.Reduce roots) a b h k both fa fb s t = absurd both
 
-  pub same_run : (g : Graph N E) (requests : List (Request N E)) (answers others : List (Answer N E)) (h k : Graph N E)
+  pub same_run : (g : Graph N E) (requests : List (Request N E)) (answers others : List (Answer N E)) {h k : Graph N E}
       → AllByRecursion IsForBothKinds requests → AllByRecursion FindsMemory answers → AllByRecursion FindsMemory others
       → IsRun Compact limit g requests answers h → IsRun Compact limit g requests others k
       → (others ≡ answers) × (k ≡ h)
-  same_run g [] [] [] h k both fa fb s t = (refl, t ∙ sym s)
-  same_run g (q ∷ requests) (a ∷ answers) (b ∷ others) h k both fa fb s t =
+  same_run g [] [] [] both fa fb s t = (refl, t ∙ sym s)
+  same_run g (q ∷ requests) (a ∷ answers) (b ∷ others) {h} {k} both fa fb s t =
       let here = same_step g q b a t.0 s.0 both.0 fb.0 fa.0 t.1 s.1 in
       let P : Graph N E → Type 0 = λ mid. IsRun Compact limit mid requests others k in
-      let there = same_run s.0 requests answers others h k both.1 fa.1 fb.1 s.2 (subst P here.1 t.2) in
+      let there = same_run s.0 requests answers others both.1 fa.1 fb.1 s.2 (subst P here.1 t.2) in
       (ap (λ x. x ∷ others) here.0 ∙ ap (λ xs. a ∷ xs) there.0, there.1)
-  same_run g [] (a ∷ answers) others h k both fa fb s t = absurd s
-  same_run g [] [] (b ∷ others) h k both fa fb s t = absurd t
-  same_run g (q ∷ requests) [] others h k both fa fb s t = absurd s
-  same_run g (q ∷ requests) (a ∷ answers) [] h k both fa fb s t = absurd t
+  same_run g [] (a ∷ answers) others both fa fb s t = absurd s
+  same_run g [] [] (b ∷ others) both fa fb s t = absurd t
+  same_run g (q ∷ requests) [] others both fa fb s t = absurd s
+  same_run g (q ∷ requests) (a ∷ answers) [] both fa fb s t = absurd t
 
   -- what a run of a kind says, where memory is found, is what the compact kind says
   pub as_compact : (kind : Kind) (g : Graph N E) (requests : List (Request N E)) (answers : List (Answer N E))
@@ -335,5 +335,5 @@ module _ {N E : Type 0} (limit : ℕ) where
       record {
         run = compact;
         only = λ others end other_run other_found.
-            same_run g requests answers others h end both found other_found compact other_run;
+            same_run g requests answers others both found other_found compact other_run;
       }

@@ -216,9 +216,9 @@ pub record Planned {N E : Type 0} (g : Graph N E) (stages : List (List ℕ)) (ch
   pub path : IsChain g stages chain
   pub shortest : IsShortest g stages
 
-module _ {N E : Type 0} (end : ℕ) (g : Graph N E) (w : IsWellFormed end g) (levels parents levels' : List ℕ)
+module _ {N E : Type 0} (end : ℕ) (g : Graph N E) (w : IsWellFormed end g) {levels parents levels' : List ℕ}
     (found : (most : ℕ) × AreLevels (AreJoined g) most levels parents) (same_levels : levels' ≡ levels)
-    (stages stages' : List (List ℕ)) (same_stages : stages' ≡ stages)
+    {stages stages' : List (List ℕ)} (same_stages : stages' ≡ stages)
     (staged : AreStaged g levels' (node_bound g) stages) where
   by_found : AreStaged g levels (node_bound g) stages
   by_found = subst (λ (z : List ℕ). AreStaged g z (node_bound g) stages) same_levels staged
@@ -235,8 +235,8 @@ module _ {N E : Type 0} (end : ℕ) (g : Graph N E) (w : IsWellFormed end g) (le
       subst P (sym same_stages) (last_low end g w levels parents found.0 found.1 (node_bound g) refl stages by_found k
       (omega (arith, ap length same_stages)))
 
-  pub planned : (parents' chain : List ℕ) → parents' ≡ parents → IsBack parents' stages' chain → Planned g stages chain
-  planned parents' chain same_parents back =
+  pub planned : {parents' chain : List ℕ} → parents' ≡ parents → IsBack parents' stages' chain → Planned g stages chain
+  planned {parents'} {chain} same_parents back =
       let P : List (List ℕ) → Type 0 = λ z. IsBack parents z chain in
       let Q : List ℕ → Type 0 = λ z. IsBack z stages' chain in
       let b : IsBack parents stages chain = subst P same_stages (subst Q same_parents back) in

@@ -103,10 +103,10 @@ module _ (R R' : ℕ → ℕ → Type 0) (n c : ℕ) (keeps : (u v : ℕ) → R 
             low = f.low;
           }
 
-  pub raised_more : (most level : ℕ) (levels parents levels' parents' : List ℕ)
+  pub raised_more : {most level : ℕ} {levels parents levels' parents' : List ℕ}
       → c < length levels → c < length parents → Found R most level n levels parents
       → IsRaised n level c levels parents levels' parents' → Found R' most level n levels' parents'
-  raised_more most level levels parents levels' parents' low low_parent f (inl h) =
+  raised_more {most} {level} {levels} {parents} low low_parent f (inl h) =
       let now = set levels c level in
       let at : slice_index now c ≡ level = get_or-set_same levels c level 0 low in
       let others : (v : ℕ) → (v ≡ c → ⊥) → slice_index now v ≡ slice_index levels v = λ v d.
@@ -126,7 +126,7 @@ module _ (R R' : ℕ → ℕ → Type 0) (n c : ℕ) (keeps : (u v : ℕ) → R 
           ];
         });
       }))
-  raised_more most level levels parents levels' parents' low low_parent f (inr (inl h)) =
+  raised_more {most} {level} {levels} {parents} low low_parent f (inr (inl h)) =
       let is : slice_index (set parents c n) c ≡ n = get_or-set_same parents c n 0 low_parent in
       let P : ℕ → Type 0 = λ z. IsLowest (λ u. R' u c × (slice_index levels u + 1 ≡ slice_index levels c)) z in
       let old = f.found.noted c (omega (arith, f.level_is, h.0)) in
@@ -143,7 +143,7 @@ module _ (R R' : ℕ → ℕ → Type 0) (n c : ℕ) (keeps : (u v : ℕ) → R 
           ];
         });
       }))
-  raised_more most level levels parents levels' parents' low low_parent f (inr (inr h)) =
+  raised_more {most} {level} {levels} {parents} low low_parent f (inr (inr h)) =
       let old = f.found.noted c (omega (arith, f.level_is, h.0)) in
       rw (h.2, h.3) (together most level levels parents levels parents f (λ v d. refl) (λ v d. refl) (record {
         up = omega arith;
@@ -227,12 +227,12 @@ pub record Raising {N E : Type 0} (end : ℕ) (g : Graph N E) (n level : ℕ) (l
   pub parents_fit : length parents ≡ node_bound g
   pub inside : AreInside parents
 
-module _ {N E : Type 0} (end : ℕ) (g : Graph N E) (w : IsWellFormed end g) (n level : ℕ) (exists : HasNode g n)
-    (levels₀ parents₀ : List ℕ) where
-  pub raising_starts : (e : ℕ) → e ≡ first_of end (out_list g n) → level ≡ slice_index levels₀ n + 1
+module _ {N E : Type 0} (end : ℕ) (g : Graph N E) (w : IsWellFormed end g) {n level : ℕ} (exists : HasNode g n)
+    {levels₀ parents₀ : List ℕ} where
+  pub raising_starts : {e : ℕ} → e ≡ first_of end (out_list g n) → level ≡ slice_index levels₀ n + 1
       → length levels₀ ≡ node_bound g → length parents₀ ≡ node_bound g → AreInside parents₀
       → Raising end g n level levels₀ parents₀ levels₀ parents₀ e
-  raising_starts e first is levels_fit parents_fit inside =
+  raising_starts first is levels_fit parents_fit inside =
       record {
         passed = 0;
         met = [];
@@ -254,14 +254,14 @@ module _ {N E : Type 0} (end : ℕ) (g : Graph N E) (w : IsWellFormed end g) (n 
         inside = inside;
       }
 
-  module _ (levels parents : List ℕ) (e : ℕ) (s : Raising end g n level levels₀ parents₀ levels parents e) where
+  module _ {levels parents : List ℕ} {e : ℕ} (s : Raising end g n level levels₀ parents₀ levels parents e) where
     pub child_low : e ≢ end → (v next : ℕ) → IsLook end g e v next → v < node_bound g
     child_low here v next look = below_bound g.nodes v (child_exists end g w n s.passed e s.cursor here v next look)
 
-    pub raising_on : e ≢ end → (v next : ℕ) → IsLook end g e v next
-        → (levels' parents' : List ℕ) → IsRaised n level v levels parents levels' parents'
+    pub raising_on : e ≢ end → {v next : ℕ} → IsLook end g e v next
+        → {levels' parents' : List ℕ} → IsRaised n level v levels parents levels' parents'
         → Raising end g n level levels₀ parents₀ levels' parents' next
-    raising_on here v next look levels' parents' raised =
+    raising_on here {v} {next} look {levels'} {parents'} raised =
         let joined : AreJoined g n v = child_joined end g w n s.passed e s.cursor here v next look in
         let low = child_low here v next look in
         let low_n : n < node_bound g = below_bound g.nodes n exists in
@@ -290,8 +290,7 @@ module _ {N E : Type 0} (end : ℕ) (g : Graph N E) (w : IsWellFormed end g) (n 
               elim r [
                 | inl p ↦ p.1 (Contains-there n v waiting waits)
                 | inr q ↦ nx.once (let W : ℕ → Type 0 = λ z. Contains waiting z in subst W q.0 waits)
-              ])
-              (most + 1) level levels parents levels' parents' (omega (arith, s.levels_fit))
+              ]) (omega (arith, s.levels_fit))
               (omega (arith, s.parents_fit)) (s.found waiting most nx before) raised;
           levels_fit = raised_levels n level v levels parents levels' parents' raised ∙ s.levels_fit;
           parents_fit = sizes.0 ∙ s.parents_fit;
@@ -365,8 +364,8 @@ leveling_starts end g w order parents k ordered fits =
       };
     }
 
-module _ {N E : Type 0} (end : ℕ) (g : Graph N E) (w : IsWellFormed end g) (levels parents waiting : List ℕ) (n : ℕ)
-    (rest : List ℕ) (is : waiting ≡ n ∷ rest) (before : Leveling g levels parents waiting) where
+module _ {N E : Type 0} (end : ℕ) (g : Graph N E) (w : IsWellFormed end g) {levels parents waiting : List ℕ} {n : ℕ}
+    {rest : List ℕ} (is : waiting ≡ n ∷ rest) (before : Leveling g levels parents waiting) where
   s : Leveling g levels parents (n ∷ rest)
   s = subst (λ (z : List ℕ). Leveling g levels parents z) is before
 
@@ -397,11 +396,11 @@ module _ {N E : Type 0} (end : ℕ) (g : Graph N E) (w : IsWellFormed end g) (le
             ]);
       }
 
-  pub leveling_on : (levels' parents' : List ℕ)
+  pub leveling_on : {levels' parents' : List ℕ}
       → ((waiting : List ℕ) (most : ℕ) → IsNext g n waiting → AreLevels (IsPassed g (n ∷ waiting)) most levels parents
       → AreLevels (IsPassed g waiting) (most + 1) levels' parents')
       → Leveling g levels' parents' rest
-  leveling_on levels' parents' raised =
+  leveling_on {levels'} {parents'} raised =
       let same : (s.done ++ n ∷ []) ++ rest ≡ s.done ++ n ∷ rest = append_assoc s.done (n ∷ []) rest in
       let P : List ℕ → Type 0 = λ z. IsOrderOf g z in
       let Q : ℕ → Type 0 = λ z. AreLevels (IsPassed g rest) z levels' parents' in

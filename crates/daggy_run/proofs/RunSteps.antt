@@ -53,11 +53,11 @@ module _ {N E : Type 0} (kind : Kind) (limit : ℕ) where
 
 -- one command more, and its reply
 pub run_on : {N E C R : Type 0} (kind : Kind) (limit : ℕ) (f : C → Request N E) (h : R → Answer N E)
-    (old mid new : Graph N E) (commands : List C) (replies whole : List R) (command : C) (reply : R)
+    (old mid new : Graph N E) (commands : List C) (replies : List R) {whole : List R} (command : C) (reply : R)
     → IsRun kind limit old (map f commands) (map h replies) mid → IsStep kind limit mid (f command) (h reply) new
     → whole ≡ replies ++ reply ∷ []
     → IsRun kind limit old (map f (commands ++ command ∷ [])) (map h whole) new
-run_on kind limit f h old mid new commands replies whole command reply run step whole_is =
+run_on kind limit f h old mid new commands replies {whole} command reply run step whole_is =
     let more = run_more kind limit old mid new (map f commands) (map h replies) (f command) (h reply) run step in
     let asked = map-append f commands (command ∷ []) in
     let said : map h whole ≡ map h replies ++ h reply ∷ [] = ap (map h) whole_is ∙ map-append h replies (reply ∷ []) in
@@ -75,9 +75,9 @@ run_begins kind limit h old replies none = rw none refl
 
 -- all was asked
 pub run_whole : {N E C R : Type 0} (kind : Kind) (limit : ℕ) (f : C → Request N E) (h : R → Answer N E)
-    (old new : Graph N E) (asked commands : List C) (replies : List R)
+    (old new : Graph N E) (asked : List C) {commands : List C} (replies : List R)
     → map (λ x. x) asked ≡ commands
     → IsRun kind limit old (map f asked) (map h replies) new → IsRun kind limit old (map f commands) (map h replies) new
-run_whole {C = C} kind limit f h old new asked commands replies all run =
+run_whole {C = C} kind limit f h old new asked replies all run =
     let P : List C → Type 0 = λ xs. IsRun kind limit old (map f xs) (map h replies) new in
     subst P (sym (map-id asked) ∙ all) run

@@ -116,20 +116,20 @@ passed_few end g finished next (s ∷ ss) h =
     )
 
 -- each node of the way reaches the last
-way_reaches : {N E : Type 0} (end : ℕ) (g : Graph N E)
+way_reaches : {N E : Type 0} {end : ℕ} {g : Graph N E}
     → IsWellFormed end g → (finished : List ℕ) (n : ℕ) (ss : List Stop) → IsWay end g finished (n ∷ []) ss
     → (v : ℕ) → Mem v (n ∷ nodes_of ss) → HasNode g n → Reaches g v n
-way_reaches end g w finished n [] h v m exists =
+way_reaches {N} {E} {end} {g} w finished n [] h v m exists =
     elim m [
       | inl eq ↦ (let P : ℕ → Type 0 = λ z. Reaches g z n in subst P (sym eq) ([], exists, refl))
       | inr b ↦ absurd b
     ]
-way_reaches end g w finished n (s ∷ ss) h v m exists =
+way_reaches {N} {E} {end} {g} w finished n (s ∷ ss) h v m exists =
     elim m [
       | inl eq ↦ (let P : ℕ → Type 0 = λ z. Reaches g z n in subst P (sym eq) ([], exists, refl))
       | inr b ↦ (
           let j = h.0 n (inl refl) in
-          reaches_more g v s.node n (way_reaches end g w finished s.node ss h.3 v b (w.parents j.0 _ j.2)) j exists
+          reaches_more g v s.node n (way_reaches w finished s.node ss h.3 v b (w.parents j.0 _ j.2)) j exists
           )
     ]
 
@@ -230,9 +230,10 @@ module _ {N E : Type 0} (end : ℕ) (g : Graph N E) where
       }
 
 -- a cursor at a node
-module _ {N E : Type 0} (end : ℕ) (g : Graph N E) (w : IsWellFormed end g) (discovered finished : List Bool)
-    (at passed : ℕ) (way : List Stop) (order : List ℕ) (looked : ℕ)
-    (s : Leaving end g discovered finished (record { node = at; passed = passed } ∷ way) order looked) (e : ℕ)
+module _ {N E : Type 0} {end : ℕ} {g : Graph N E} (w : IsWellFormed end g) {discovered : List Bool}
+    (finished : List Bool)
+    (at passed : ℕ) {way : List Stop} {order : List ℕ} {looked : ℕ}
+    (s : Leaving end g discovered finished (record { node = at; passed = passed } ∷ way) order looked) {e : ℕ}
     (cursor : e ≡ first_of end (drop passed (out_list g at))) where
   -- at `end` the node is left
   pub leaves_node : e ≡ end → at < length finished
@@ -343,5 +344,5 @@ module _ {N E : Type 0} (end : ℕ) (g : Graph N E) (w : IsWellFormed end g) (di
           | inr b ↦ absurd (false≢true (sym unleft ∙ (s.finished_are v).1 b))
         ] in
         let at_exists : HasNode g at = w.parents joined.0 _ joined.2 in
-        let r = way_reaches end g w order at way s.is_way.3 v on_way at_exists in
+        let r = way_reaches w order at way s.is_way.3 v on_way at_exists in
         acyclic at v r.0 (at_exists, joined, r.1) r.2

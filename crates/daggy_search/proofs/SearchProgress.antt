@@ -81,8 +81,8 @@ met_more marks Skip v n low met =
     elim met [ inl m ↦ inl ((set_marked marks v n low).1 (inr m)) | inr s ↦ inr s ]
 
 -- what is known of a search that is on its way
-module _ {N E : Type 0} (end : ℕ) (g : Graph N E) (w : IsWellFormed end g) (Keep Skip : ℕ → Type 0) (from : ℕ)
-    (marks : List Bool) (st : List ℕ) (e looked : ℕ) (s : Going end g Keep Skip from marks st e looked) where
+module _ {N E : Type 0} {end : ℕ} {g : Graph N E} (w : IsWellFormed end g) {Keep Skip : ℕ → Type 0} {from : ℕ}
+    {marks : List Bool} {st : List ℕ} {e looked : ℕ} (s : Going end g Keep Skip from marks st e looked) where
   -- the edges that were looked at are few, were all of the list read or a part of it
   read_few : (k : ℕ) → k ≤ length (out_list g s.at) → k + length (lists_of g s.done) ≤ edge_count g
   read_few k within =
@@ -244,7 +244,7 @@ module _ {N E : Type 0} (end : ℕ) (g : Graph N E) (w : IsWellFormed end g) (Ke
         reached = λ n m. s.reached n (out n m);
         start = into from s.start;
         kept = λ n m. s.kept n (out n m);
-        closed = closed_now end g w Keep Skip from marks (front ++ u ∷ []) e looked s h;
+        closed = closed_now w s h;
         half = λ j x lt a. absurd (omega arith);
         counted = omega (
           arith,
@@ -258,8 +258,8 @@ module _ {N E : Type 0} (end : ℕ) (g : Graph N E) (w : IsWellFormed end g) (Ke
   -- all that is reached
   pub all_met : (marks : List Bool) (e looked : ℕ) → Going end g Keep Skip from marks [] e looked → e ≡ end
       → (u v : ℕ) → get_or marks u false ≡ true → AreJoined g u v → Met marks Skip v
-  all_met marks e looked s h u v m j = closed_now end g w Keep Skip from marks [] e looked s h u v ((s.marked u).0 m) j
+  all_met marks e looked s h u v m j = closed_now w s h u v ((s.marked u).0 m) j
 
-  pub from_met : (marks : List Bool) (st : List ℕ) (e looked : ℕ)
+  pub from_met : (marks : List Bool) {st : List ℕ} (e looked : ℕ)
       → Going end g Keep Skip from marks st e looked → get_or marks from false ≡ true
-  from_met marks st e looked s = (s.marked from).1 s.start
+  from_met marks e looked s = (s.marked from).1 s.start

@@ -69,16 +69,16 @@ starts {N} {E} {end} now w {Keep} {Skip} {from} exists clear keep fits capacity 
 module _ {N E : Type 0} {end : ℕ} {Keep Skip : ℕ → Type 0} {start : Start N E} {now : Reading N E}
     (w : IsWellFormed end start.graph) (s : Searching end Keep Skip start now) where
   pub few : now.looks ≤ start.looks + edge_count start.graph
-  few = omega (arith, s.counted, looked_within end start.graph w _ _ _ _ _ _ _ s.going)
+  few = omega (arith, s.counted, looked_within w s.going)
 
   pub looked_once : now.edge ≢ end → {looks' : ℕ}
       → looks' ≡ now.looks + 1 → looks' ≤ start.looks + edge_count start.graph
-  looked_once here one_more = omega (arith, s.counted, look_within end start.graph w _ _ _ _ _ _ _ s.going here)
+  looked_once here one_more = omega (arith, s.counted, look_within w s.going here)
 
   pub edge_here : now.edge ≢ end → HasEdge now.graph now.edge
   edge_here here =
       let P : Graph N E → Type 0 = λ z. HasEdge z now.edge in
-      subst P (sym s.same) (edge_exists end start.graph w _ _ _ _ _ _ _ s.going here)
+      subst P (sym s.same) (edge_exists w s.going here)
 
   pub going_empty : now.len ≡ 0 → Going end start.graph Keep Skip start.from now.marks [] now.edge s.looked
   going_empty empty =
@@ -87,7 +87,7 @@ module _ {N E : Type 0} {end : ℕ} {Keep Skip : ℕ → Type 0} {start : Start 
       subst P empty s.going
 
   pub from_marked : get_or now.marks start.from false ≡ true
-  from_marked = from_met end start.graph w Keep Skip start.from now.marks _ now.edge s.looked s.going
+  from_marked = from_met end start.graph w Keep Skip start.from now.marks now.edge s.looked s.going
 
   pub only_reached : (n : ℕ) → get_or now.marks n false ≡ true → Reaches start.graph start.from n × Keep n
   only_reached n m = let here = (s.going.marked n).0 m in (s.going.reached n here, s.going.kept n here)
@@ -135,7 +135,7 @@ module _ {N E : Type 0} {end : ℕ} {Keep Skip : ℕ → Type 0} {start : Start 
     child_low =
         omega (
           arith,
-          below_bound start.graph.nodes v (found_exists end start.graph w _ _ _ _ _ _ _ s.going here v next look₀),
+          below_bound start.graph.nodes v (found_exists w s.going here v next look₀),
           s.fits,
         )
 
@@ -143,7 +143,7 @@ module _ {N E : Type 0} {end : ℕ} {Keep Skip : ℕ → Type 0} {start : Start 
     room_marks unseen =
         omega (
           arith,
-          has_room end start.graph w _ _ _ _ _ _ _ s.going v child_low unseen,
+          has_room w s.going v child_low unseen,
           length-take-le now.len now.stack s.high,
         )
 
@@ -151,7 +151,7 @@ module _ {N E : Type 0} {end : ℕ} {Keep Skip : ℕ → Type 0} {start : Start 
     room_here unseen = omega (arith, room_marks unseen, s.capacity)
 
     pub child_found : Reaches start.graph start.from v
-    child_found = child_reached end start.graph w _ _ _ _ _ _ _ s.going here v next look₀
+    child_found = child_reached w s.going here v next look₀
 
     module _ {g' : Graph N E} (kept : g' ≡ now.graph) {looks' : ℕ} (one_more : looks' ≡ now.looks + 1) where
       pub moves_on : Met now.marks Skip v
@@ -165,7 +165,7 @@ module _ {N E : Type 0} {end : ℕ} {Keep Skip : ℕ → Type 0} {start : Start 
             high = s.high;
             looked = s.looked + 1;
             counted = omega (arith, s.counted, one_more);
-            going = moved end start.graph w _ _ _ _ _ _ _ s.going here v next look₀ seen;
+            going = moved w s.going here v next look₀ seen;
           }
 
       pub pushes : {i : ℕ} → i ≡ v → Keep v → get_or now.marks v false ≡ false → Searching end Keep Skip start record {
@@ -179,9 +179,9 @@ module _ {N E : Type 0} {end : ℕ} {Keep Skip : ℕ → Type 0} {start : Start 
       pushes {i} is keep unseen =
           let low = child_low in
           let more = room_here unseen in
-          let with_child = pushed end start.graph w _ _ _ _ _ _ _ s.going here v next look₀ low keep unseen in
+          let with_child = pushed w s.going here v next look₀ low keep unseen in
           let marked_now : get_or (set now.marks v true) v false ≡ true = get_or-set_same now.marks v true false low in
-          let on = moved end start.graph w _ _ _ _ _ _ _ with_child here v next look₀ (inl marked_now) in
+          let on = moved w with_child here v next look₀ (inl marked_now) in
           record {
             same = kept ∙ s.same;
             sized = length-set now.marks i true ∙ s.sized;

@@ -303,7 +303,7 @@ module _ {N E : Type 0} {end : ℕ} {start : Start N E} {i : ℕ} {now : Sorting
   pub looked_once : spot.edge ≢ end → {looks' : ℕ}
       → looks' ≡ now.looks + 1 → looks' ≤ start.looks + edge_count start.graph
   looked_once here one_more =
-      omega (arith, s.counted, look_within end start.graph w _ _ _ _ _ _ _ s.state spot.edge s.cursor here)
+      omega (arith, s.counted, look_within w _ _ _ s.state s.cursor here)
 
   pub edge_here : spot.edge ≢ end → HasEdge now.graph spot.edge
   edge_here here =
@@ -332,8 +332,7 @@ module _ {N E : Type 0} {end : ℕ} {start : Start N E} {i : ℕ} {now : Sorting
   after : spot.edge ≡ end → Leaving end start.graph now.discovered (set now.finished spot.node true) s.way
       (spot.node ∷ s.order) s.looked
   after h =
-      leaves_node end start.graph w now.discovered now.finished spot.node s.passed s.way s.order s.looked s.state
-      spot.edge s.cursor h node_low
+      leaves_node w now.finished spot.node s.passed s.state s.cursor h node_low
 
   -- the node is left, and put before the nodes that were finished
   module _ (h : spot.edge ≡ end) {m : ℕ} (is : m ≡ spot.node) {at : ℕ} (free : at + 1 ≡ now.top) where
@@ -466,8 +465,7 @@ module _ {N E : Type 0} {end : ℕ} {start : Start N E} {i : ℕ} {now : Sorting
     pub way_round : get_or now.discovered v false ≡ true → get_or now.finished v false ≡ false
         → IsAcyclic start.graph → ⊥
     way_round =
-        closes end start.graph w now.discovered now.finished spot.node s.passed s.way s.order s.looked s.state
-        spot.edge s.cursor here v next look₀
+        closes w now.finished spot.node s.passed s.state s.cursor here v next look₀
 
     module _ {g' : Graph N E} (unchanged : g' ≡ now.graph) {looks' : ℕ} (one_more : looks' ≡ now.looks + 1) where
       pub steps_over : get_or now.finished v false ≡ true
@@ -483,8 +481,7 @@ module _ {N E : Type 0} {end : ℕ} {start : Start N E} {i : ℕ} {now : Sorting
             passed = suc s.passed;
             behind = s.behind;
             state =
-                passes end start.graph w now.discovered now.finished spot.node s.passed s.way s.order s.looked s.state
-                spot.edge s.cursor here v next look₀ seen;
+                passes w now.finished spot.node s.passed s.state s.cursor here v next look₀ seen;
             cursor = next_cursor end start.graph w spot.node s.passed spot.edge s.cursor here v next look₀;
             deep = s.deep;
             high = s.high;
@@ -504,8 +501,7 @@ module _ {N E : Type 0} {end : ℕ} {start : Start N E} {i : ℕ} {now : Sorting
           let low = child_low in
           let more = room_here unseen in
           let on =
-          enters end start.graph w now.discovered now.finished spot.node s.passed s.way s.order s.looked s.state
-          spot.edge s.cursor here v next look₀ low unseen in
+          enters w now.finished spot.node s.passed s.state s.cursor here v next look₀ low unseen in
           let P : ℕ → Type 0 = λ z.
           Leaving end start.graph (set now.discovered z true) now.finished
           (record { node = v; passed = 0 } ∷ record { node = spot.node; passed = suc s.passed } ∷ s.way) s.order

@@ -29,7 +29,7 @@ next_slotted : {E Ix : Type 0} (dir : Direction) (x : Edge E Ix) → raw_next di
 next_slotted Outgoing x = refl
 next_slotted Incoming x = refl
 
-module _ {N E Ix : Type 0} (end : ℕ) (g : Graph N E) (nodes : List (Node N Ix)) (edges : List (Edge E Ix))
+module _ {N E Ix : Type 0} (end : ℕ) (g : Graph N E) {nodes : List (Node N Ix)} {edges : List (Edge E Ix)}
     (w : IsWellFormed end g) (compact : IsCompact g) (shows_nodes : ShowsNodes end g nodes)
     (shows_edges : ShowsEdges end g edges) where
   HoldsGraph-slotted : HoldsGraph end (map slotted_node nodes) (map slotted_edge edges) g
@@ -54,6 +54,6 @@ module _ {N E Ix : Type 0} (end : ℕ) (g : Graph N E) (nodes : List (Node N Ix)
       }
 
   -- in the words of the code
-  pub HoldsGraph-filled : (nodes' : List (Node (Option N) Ix)) (edges' : List (Edge (Option E) Ix))
+  pub HoldsGraph-filled : {nodes' : List (Node (Option N) Ix)} {edges' : List (Edge (Option E) Ix)}
       → nodes' ≡ map slotted_node nodes → edges' ≡ map slotted_edge edges → HoldsGraph end nodes' edges' g
-  HoldsGraph-filled nodes' edges' nodes_are edges_are = rw (nodes_are, edges_are) HoldsGraph-slotted
+  HoldsGraph-filled nodes_are edges_are = rw (nodes_are, edges_are) HoldsGraph-slotted

@@ -30,7 +30,7 @@ use Rattle.daggy_base.proofs.SlotLists.{of_slots_left, of_slots_taken}
 use Rattle.daggy_stable.proofs.Shown.{shown_some, shown-set, shown_push}
 use Rattle.daggy_base.proofs.Slots.{count_cons}
 use Rattle.daggy_stable.proofs.Slots.{count_push, vacant_inside, rethreaded, slot_not_vacant, slot_inside}
-use Rattle.daggy_stable.proofs.Stores.{nodes_long, edges_long, firsts_long, some_is}
+use Rattle.daggy_stable.proofs.Stores.{AreLedTo, nodes_long, edges_long, firsts_long, some_is}
 
 module _ {A : Type 0} where
   count_push_vacant : (xs : List (Option A)) → count_by is_some (xs ++ None ∷ []) ≡ count_by is_some xs
@@ -287,11 +287,9 @@ module _ {N E Ix : Type 0} {end : ℕ} {nodes : List (Node (Option N) Ix)} {edge
       plain_none p = ap (option_map (λ (w : E). record { parent = y.parent; child = y.child; weight = w })) p
 
   -- one that is taken
-  module _ (a b : ℕ) (w : E) (from into : N) (at_a : slot g.nodes a ≡ Some from) (at_b : slot g.nodes b ≡ Some into)
-      (index_left : length edges < end) (nodes' : List (Node (Option N) Ix))
-      (weights : map weight_of nodes' ≡ map weight_of nodes)
-      (outs : firsts_of Outgoing nodes' ≡ set (firsts_of Outgoing nodes) a (length edges))
-      (ins : firsts_of Incoming nodes' ≡ set (firsts_of Incoming nodes) b (length edges)) where
+  module _ (a b : ℕ) (w : E) {from into : N} (at_a : slot g.nodes a ≡ Some from) (at_b : slot g.nodes b ≡ Some into)
+      (index_left : length edges < end) {nodes' : List (Node (Option N) Ix)}
+      (led : AreLedTo nodes nodes' a b (length edges)) where
     abbrev cell : Edge (Option E) Ix
     cell = record {
       weight = Some w;
@@ -307,10 +305,11 @@ module _ {N E Ix : Type 0} {end : ℕ} {nodes : List (Node (Option N) Ix)} {edge
     node_slots' : IsThreaded end g.nodes (firsts_of Outgoing nodes') node_head nodes_counted g.vacant_nodes
     node_slots' =
         rethreaded end g.nodes (firsts_of Outgoing nodes) node_head nodes_counted g.vacant_nodes s.node_slots
-        (firsts_of Outgoing nodes') (ap length outs ∙ length-set (firsts_of Outgoing nodes) a (length edges)) (λ f p.
+        (firsts_of Outgoing nodes') (ap length led.outs ∙ length-set (firsts_of Outgoing nodes) a (length edges))
+        (λ f p.
         let other : f ≢ a = λ same.
         slot_not_vacant g.nodes a from at_a ((s.node_slots.exact a).0 (subst (Contains g.vacant_nodes) same p)) in
-        ap (λ l. slice_get l f) outs ∙ slice_get-set_other (firsts_of Outgoing nodes) a f (length edges) other)
+        ap (λ l. slice_get l f) led.outs ∙ slice_get-set_other (firsts_of Outgoing nodes) a f (length edges) other)
 
     vacant_yet : edge_at g (length edges) ≡ None
     vacant_yet = none_past g.edges (length edges) (omega (arith, edges_long s))
@@ -325,7 +324,7 @@ module _ {N E Ix : Type 0} {end : ℕ} {nodes : List (Node (Option N) Ix)} {edge
         let is : set (list_firsts end dir nodes) n (length edges) ≡ list_firsts end dir nodes' =
         sym (shown-set end (map weight_of nodes) (firsts_of dir nodes) n (length edges) wn at')
         ∙ ap (shown end (map weight_of nodes)) (sym firsts)
-        ∙ ap (λ l. shown end l (firsts_of dir nodes')) (sym weights) in
+        ∙ ap (λ l. shown end l (firsts_of dir nodes')) (sym led.weights) in
         let more : nexts_of dir (edges ++ cell ∷ []) ≡ nexts_of dir edges ++ raw_next dir cell ∷ [] =
         map_push (raw_next dir) edges cell in
         let long : length (nexts_of dir edges) ≡ length edges = length-map edges (raw_next dir) in
@@ -333,8 +332,7 @@ module _ {N E Ix : Type 0} {end : ℕ} {nodes : List (Node (Option N) Ix)} {edge
         omega (arith, firsts_long s dir, slot_inside g.nodes n wn at, nodes_long s) in
         subst (λ z. AreLinkedLists end z (nexts_of dir (edges ++ cell ∷ []))
         (set (lists_at dir g) n (length edges ∷ nth_list (lists_at dir g) n))) is
-        (AreLinkedLists-put end (list_firsts end dir nodes) (nexts_of dir edges) (nexts_of dir (edges ++ cell ∷ []))
-        (lists_at dir g) n (length edges) (s.linked dir) within
+        (AreLinkedLists-put n (length edges) (s.linked dir) within
         (λ m p. none-some m (sym (ap (option_map (near_end dir)) vacant_yet) ∙ (s.listed dir m (length edges)).0 p))
         (ap (slice_get (nexts_of dir (edges ++ cell ∷ []))) (sym long)
         ∙ ap (λ l. slice_get l (length (nexts_of dir edges))) more
@@ -350,7 +348,7 @@ module _ {N E Ix : Type 0} {end : ℕ} {nodes : List (Node (Option N) Ix)} {edge
     side_listed dir n wn at is =
         let within : n < length (lists_at dir g) =
         omega (arith, (s.linked dir).rows, firsts_long s dir, slot_inside g.nodes n wn at, nodes_long s) in
-        ListsBy-put (end_of dir g) _ (lists_at dir g) n (length edges) (s.listed dir) within
+        ListsBy-put (end_of dir g) _ (lists_at dir g) (length edges) (s.listed dir) within
         (ap (option_map (near_end dir)) vacant_yet)
         (ap (option_map (near_end dir))
         (ap (slot (g.edges ++ Some line ∷ [])) (sym (edges_long s)) ∙ slot_push_new g.edges (Some line))
@@ -372,11 +370,11 @@ module _ {N E Ix : Type 0} {end : ℕ} {nodes : List (Node (Option N) Ix)} {edge
         threaded_taken end g.edges (nexts_of Outgoing edges) edge_head edges_counted g.vacant_edges s.edge_slots
         (omega (arith, index_left, edges_long s)) line (raw_next Outgoing cell) in
         record {
-          nodes_are = s.nodes_are ∙ sym weights;
+          nodes_are = s.nodes_are ∙ sym led.weights;
           edges_are = ap (λ l. l ++ Some line ∷ []) s.edges_are ∙ sym (map_push plain_edge edges cell);
           linked = elim [
-            | Outgoing ↦ side_linked Outgoing a from at_a outs refl
-            | Incoming ↦ side_linked Incoming b into at_b ins refl
+            | Outgoing ↦ side_linked Outgoing a from at_a led.outs refl
+            | Incoming ↦ side_linked Incoming b into at_b led.ins refl
           ];
           listed = elim [
             | Outgoing ↦ side_listed Outgoing a from at_a refl
@@ -442,7 +440,7 @@ module _ {N E Ix : Type 0} (end : ℕ) where
         ∙ ap (graph_of_slots weights) shown_as)
         (edge_left s y none next index_left))
 
-    pub built_edge_taken : (a b : ℕ) (w : E) (y : Edge (Option E) Ix) (e : ℕ) (nodes' : List (Node (Option N) Ix))
+    pub built_edge_taken : (a b : ℕ) (w : E) {y : Edge (Option E) Ix} {e : ℕ} (nodes' : List (Node (Option N) Ix))
         → IsSome (slot (map weight_of nodes) a) → IsSome (slot (map weight_of nodes) b) → length edges < end
         → e ≡ length edges
         → y ≡ record {
@@ -455,7 +453,7 @@ module _ {N E Ix : Type 0} (end : ℕ) where
         → map weight_of nodes' ≡ map weight_of nodes → firsts_of Outgoing nodes' ≡ set (firsts_of Outgoing nodes) a e
         → firsts_of Incoming nodes' ≡ set (firsts_of Incoming nodes) b e
         → Built nodes' (edges ++ y ∷ []) node_head edge_head n (m + 1)
-    built_edge_taken a b w y e nodes' has_a has_b index_left e_is is weights outs ins =
+    built_edge_taken a b w nodes' has_a has_b index_left e_is is weights outs ins =
         let old = map weight_of nodes in
         let cell : Edge (Option E) Ix = record {
           weight = Some w;
@@ -467,8 +465,11 @@ module _ {N E Ix : Type 0} (end : ℕ) where
         let from = some_is (slot old a) has_a in
         let into = some_is (slot old b) has_b in
         let whole =
-        edge_taken s a b w from.0 into.0 from.1 into.1 index_left nodes' weights
-        (outs ∙ ap (set (firsts_of Outgoing nodes) a) e_is) (ins ∙ ap (set (firsts_of Incoming nodes) b) e_is) in
+        edge_taken s a b w from.1 into.1 index_left record {
+          weights = weights;
+          outs = outs ∙ ap (set (firsts_of Outgoing nodes) a) e_is;
+          ins = ins ∙ ap (set (firsts_of Incoming nodes) b) e_is;
+        } in
         rw is (
         subst (Stores end nodes' (edges ++ cell ∷ []) node_head edge_head n (m + 1))
         (of_slots_taken old (map plain_edge edges) a b w (length edges) (sym (length-map edges plain_edge))

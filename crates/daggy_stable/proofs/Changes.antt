@@ -23,7 +23,7 @@ use Rattle.daggy_stable.specs.Stored.{weight_of, plain_edge, shown, list_firsts,
 use Rattle.daggy_stable.proofs.Slots.{made, filled, rethreaded, slot_not_vacant, counted_full, vacant_none, vacant_some}
 use Rattle.daggy_stable.proofs.Slots.{vacant_inside}
 use Rattle.daggy_stable.proofs.Shown.{shown_some, shown-set, shown-fill, shown_push}
-use Rattle.daggy_stable.proofs.Stores.{nodes_long, edges_long, firsts_long, none_shown, some_is}
+use Rattle.daggy_stable.proofs.Stores.{AreLedTo, nodes_long, edges_long, firsts_long, none_shown, some_is}
 
 -- a node as it is stored at first
 abbrev pub fresh_node : {N Ix : Type 0} → (end : ℕ) → N → Node (Option N) Ix
@@ -136,10 +136,8 @@ module _ {N E Ix : Type 0} {end : ℕ} {nodes : List (Node (Option N) Ix)} {edge
       })
 
   -- one more edge
-  module _ (u v : ℕ) (w : E) (from into : N) (at_u : slot g.nodes u ≡ Some from) (at_v : slot g.nodes v ≡ Some into)
-      (nodes' : List (Node (Option N) Ix)) (weights : map weight_of nodes' ≡ map weight_of nodes)
-      (outs : firsts_of Outgoing nodes' ≡ set (firsts_of Outgoing nodes) u (next_edge g))
-      (ins : firsts_of Incoming nodes' ≡ set (firsts_of Incoming nodes) v (next_edge g)) where
+  module _ (u v : ℕ) (w : E) {from into : N} (at_u : slot g.nodes u ≡ Some from) (at_v : slot g.nodes v ≡ Some into)
+      {nodes' : List (Node (Option N) Ix)} (led : AreLedTo nodes nodes' u v (next_edge g)) where
     abbrev new : PlainEdge E
     new = record { parent = u; child = v; weight = w }
 
@@ -151,10 +149,10 @@ module _ {N E Ix : Type 0} {end : ℕ} {nodes : List (Node (Option N) Ix)} {edge
     node_slots' : IsThreaded end g.nodes (firsts_of Outgoing nodes') node_head nodes_counted g.vacant_nodes
     node_slots' =
         rethreaded end g.nodes (firsts_of Outgoing nodes) node_head nodes_counted g.vacant_nodes s.node_slots
-        (firsts_of Outgoing nodes') (ap length outs ∙ length-set (firsts_of Outgoing nodes) u (next_edge g)) (λ f p.
+        (firsts_of Outgoing nodes') (ap length led.outs ∙ length-set (firsts_of Outgoing nodes) u (next_edge g)) (λ f p.
         let other : f ≢ u = λ same.
         slot_not_vacant g.nodes u from at_u ((s.node_slots.exact u).0 (subst (Contains g.vacant_nodes) same p)) in
-        ap (λ l. slice_get l f) outs ∙ slice_get-set_other (firsts_of Outgoing nodes) u f (next_edge g) other)
+        ap (λ l. slice_get l f) led.outs ∙ slice_get-set_other (firsts_of Outgoing nodes) u f (next_edge g) other)
 
     module _ (edges' : List (Edge (Option E) Ix)) (edges_are' : map plain_edge edges'
         ≡ with_slot_filled g.edges g.vacant_edges (Some (record { parent = u; child = v; weight = w })))
@@ -170,13 +168,12 @@ module _ {N E Ix : Type 0} {end : ℕ} {nodes : List (Node (Option N) Ix)} {edge
           let is : set (list_firsts end dir nodes) n (next_edge g) ≡ list_firsts end dir nodes' =
           sym (shown-set end (map weight_of nodes) (firsts_of dir nodes) n (next_edge g) wn at')
           ∙ ap (shown end (map weight_of nodes)) (sym firsts)
-          ∙ ap (λ l. shown end l (firsts_of dir nodes')) (sym weights) in
+          ∙ ap (λ l. shown end l (firsts_of dir nodes')) (sym led.weights) in
           let within : n < length (list_firsts end dir nodes) =
           omega (arith, firsts_long s dir, slot_in nodes n wn at') in
           subst (λ z. AreLinkedLists end z (nexts_of dir edges')
           (set (lists_at dir g) n (next_edge g ∷ nth_list (lists_at dir g) n))) is
-          (AreLinkedLists-put end (list_firsts end dir nodes) (nexts_of dir edges) (nexts_of dir edges')
-          (lists_at dir g) n (next_edge g) (s.linked dir) within
+          (AreLinkedLists-put n (next_edge g) (s.linked dir) within
           (λ m p.
           none-some m (sym (ap (option_map (near_end dir)) edge_slots_vacant) ∙ (s.listed dir m (next_edge g)).0 p))
           (new_link
@@ -199,7 +196,7 @@ module _ {N E Ix : Type 0} {end : ℕ} {nodes : List (Node (Option N) Ix)} {edge
             firsts_long s dir,
             slot_in nodes n wn (ap (λ l. slot l n) (sym s.nodes_are) ∙ at),
           ) in
-          ListsBy-put (end_of dir g) _ (lists_at dir g) n (next_edge g) (s.listed dir) within
+          ListsBy-put (end_of dir g) _ (lists_at dir g) (next_edge g) (s.listed dir) within
           (ap (option_map (near_end dir)) edge_slots_vacant)
           (ap (option_map (near_end dir)) (slot_taken_new g.edges g.vacant_edges new free) ∙ ap Some is)
           (λ f other. ap (option_map (near_end dir)) (slot_taken_other g.edges g.vacant_edges new f other))
@@ -213,11 +210,11 @@ module _ {N E Ix : Type 0} {end : ℕ} {nodes : List (Node (Option N) Ix)} {edge
           → Stores end nodes' edges' node_head edge_head' nodes_counted edges_counted' (with_edge g u v w)
       edge_put out_link in_link edge_head' edges_counted' threaded =
           record {
-            nodes_are = s.nodes_are ∙ sym weights;
+            nodes_are = s.nodes_are ∙ sym led.weights;
             edges_are = sym edges_are';
             linked = elim [
-              | Outgoing ↦ one_side Outgoing u from at_u outs out_link
-              | Incoming ↦ one_side Incoming v into at_v ins in_link
+              | Outgoing ↦ one_side Outgoing u from at_u led.outs out_link
+              | Incoming ↦ one_side Incoming v into at_v led.ins in_link
             ];
             listed = elim [
               | Outgoing ↦ side_listed Outgoing u from at_u refl
@@ -282,10 +279,10 @@ module _ {N E Ix : Type 0} {end : ℕ} {nodes : List (Node (Option N) Ix)} {edge
           (0, omega arith, refl) in
           (vs, is ∙ ap (λ z. z ∷ vs) (sym t.linked.starts), omega (arith, within, t.linked.starts, edges_long s))
 
-  pub node_filled_code : (w : N) (i head' : ℕ) (x y : Node (Option N) Ix)
+  pub node_filled_code : (w : N) {i head' : ℕ} {x y : Node (Option N) Ix}
       → g.vacant_nodes ≢ [] → i ≡ node_head → x ≡ get_or nodes i x → head' ≡ raw_first Outgoing x → y ≡ fresh_node end w
       → Stores end (set nodes i y) edges head' edge_head (nodes_counted + 1) edges_counted (with_node g w)
-  node_filled_code w i head' x y some i_is reads head_is y_is =
+  node_filled_code w {i} {head'} {x} some i_is reads head_is y_is =
       let found = node_next some in
       let more : suc nodes_counted ≡ nodes_counted + 1 = omega arith in
       let at_head : x ≡ get_or nodes node_head x = reads ∙ ap (λ z. get_or nodes z x) i_is in
@@ -294,11 +291,11 @@ module _ {N E Ix : Type 0} {end : ℕ} {nodes : List (Node (Option N) Ix)} {edge
       (λ k. Stores end (set nodes node_head (fresh_node end w)) edges head' edge_head k edges_counted (with_node g w))
       more (node_filled s w node_head found.0 head' found.1 goes))
 
-  pub node_made_code : (w : N) (y : Node (Option N) Ix) (reserved_cells nodes' : List (Node (Option N) Ix))
+  pub node_made_code : (w : N) {y : Node (Option N) Ix} {reserved_cells nodes' : List (Node (Option N) Ix)}
       → g.vacant_nodes ≡ [] → nodes_counted < end → y ≡ fresh_node end w → reserved_cells ≡ nodes
       → nodes' ≡ reserved_cells ++ y ∷ []
       → Stores end nodes' edges node_head edge_head (nodes_counted + 1) edges_counted (with_node g w)
-  node_made_code w y reserved_cells nodes' none few y_is reserved pushed =
+  node_made_code w none few y_is reserved pushed =
       let more : suc nodes_counted ≡ nodes_counted + 1 = omega arith in
       rw (pushed, reserved, y_is) (subst
       (λ k. Stores end (nodes ++ fresh_node end w ∷ []) edges node_head edge_head k edges_counted (with_node g w)) more
@@ -352,8 +349,11 @@ module _ {N E Ix : Type 0} {end : ℕ} {nodes : List (Node (Option N) Ix)} {edge
         filled end g.edges (nexts_of Outgoing edges) edge_head edges_counted edge_head vs t new_edge
         (nexts_of Outgoing (set edges edge_head cell)) head' long
         (λ f p. others Outgoing f (λ same. t.linked.distinct.0 (subst (Contains vs) same p))) goes in
-        edge_put s a b w found_a.0 found_b.0 found_a.1 found_b.1 nodes' weights (outs
-        ∙ ap (set (firsts_of Outgoing nodes) a) (sym e_is)) (ins ∙ ap (set (firsts_of Incoming nodes) b) (sym e_is))
+        edge_put s a b w found_a.1 found_b.1 record {
+          weights = weights;
+          outs = outs ∙ ap (set (firsts_of Outgoing nodes) a) (sym e_is);
+          ins = ins ∙ ap (set (firsts_of Incoming nodes) b) (sym e_is);
+        }
         (set edges edge_head cell)
         (map-set plain_edge edges edge_head cell ∙ ap (λ l. set l edge_head (Some new_edge)) (sym s.edges_are)
         ∙ sym (ap (λ z. with_slot_filled g.edges z (Some new_edge)) some))
@@ -396,8 +396,11 @@ module _ {N E Ix : Type 0} {end : ℕ} {nodes : List (Node (Option N) Ix)} {edge
         let threaded =
         made end g.edges (nexts_of Outgoing edges) edge_head edges_counted t new_edge (omega (arith, few, full))
         (nexts_of Outgoing (edges ++ cell ∷ [])) long in
-        edge_put s a b w found_a.0 found_b.0 found_a.1 found_b.1 nodes' weights (outs
-        ∙ ap (set (firsts_of Outgoing nodes) a) (sym e_is)) (ins ∙ ap (set (firsts_of Incoming nodes) b) (sym e_is))
+        edge_put s a b w found_a.1 found_b.1 record {
+          weights = weights;
+          outs = outs ∙ ap (set (firsts_of Outgoing nodes) a) (sym e_is);
+          ins = ins ∙ ap (set (firsts_of Incoming nodes) b) (sym e_is);
+        }
         (edges ++ cell ∷ []) (map_push plain_edge edges cell ∙ ap (λ l. l ++ Some new_edge ∷ []) (sym s.edges_are)
         ∙ sym (ap (λ z. with_slot_filled g.edges z (Some new_edge)) none))
         (λ dir f other inside. ap (λ l. slice_get l f) (written dir)
@@ -411,7 +414,7 @@ module _ {N E Ix : Type 0} {end : ℕ} {nodes : List (Node (Option N) Ix)} {edge
         (nexts_of Outgoing (edges ++ cell ∷ [])) edge_head (suc edges_counted) (remaining_vacant z)) (sym none)
         threaded)
 
-    module _ (u v : ℕ) (y : Edge (Option E) Ix) (nodes' : List (Node (Option N) Ix)) (u_is : u ≡ a) (v_is : v ≡ b)
+    module _ {u v : ℕ} {y : Edge (Option E) Ix} (nodes' : List (Node (Option N) Ix)) (u_is : u ≡ a) (v_is : v ≡ b)
         (y_is : y ≡ record {
           weight = Some w;
           parent = u;
@@ -439,10 +442,10 @@ module _ {N E Ix : Type 0} {end : ℕ} {nodes : List (Node (Option N) Ix)} {edge
           } in
           y_is ∙ ap (λ z. mk z v) u_is ∙ ap (mk a) v_is
 
-      pub edge_filled_code : (i head' : ℕ) (x : Edge (Option E) Ix)
+      pub edge_filled_code : {i head' : ℕ} {x : Edge (Option E) Ix}
           → e ≡ edge_head → g.vacant_edges ≢ [] → i ≡ edge_head → x ≡ get_or edges i x → head' ≡ raw_next Outgoing x
           → Stores end nodes' (set edges i y) node_head head' nodes_counted (edges_counted + 1) (with_edge g a b w)
-      edge_filled_code i head' x e_is some i_is reads head_is =
+      edge_filled_code {i} {head'} {x} e_is some i_is reads head_is =
           let found = edge_next some in
           let more : suc edges_counted ≡ edges_counted + 1 = omega arith in
           let at_head : x ≡ get_or edges edge_head x = reads ∙ ap (λ z. get_or edges z x) i_is in
@@ -454,10 +457,10 @@ module _ {N E Ix : Type 0} {end : ℕ} {nodes : List (Node (Option N) Ix)} {edge
           let whole = edge_filled found.0 head' nodes' found.1 found.2 goes weights outs' ins' in
           rw (i_is, y_cell, ← more) whole
 
-      pub edge_made_code : (reserved_cells edges' : List (Edge (Option E) Ix)) → e ≡ length edges → g.vacant_edges ≡ []
+      pub edge_made_code : {reserved_cells edges' : List (Edge (Option E) Ix)} → e ≡ length edges → g.vacant_edges ≡ []
           → edges_counted < end → reserved_cells ≡ edges → edges' ≡ reserved_cells ++ y ∷ []
           → Stores end nodes' edges' node_head edge_head nodes_counted (edges_counted + 1) (with_edge g a b w)
-      edge_made_code reserved_cells edges' e_is none few reserved pushed =
+      edge_made_code e_is none few reserved pushed =
           let more : suc edges_counted ≡ edges_counted + 1 = omega arith in
           let outs' : firsts_of Outgoing nodes' ≡ set (firsts_of Outgoing nodes) a (length edges) =
           outs ∙ ap (λ z. set (firsts_of Outgoing nodes) z e) u_is ∙ ap (set (firsts_of Outgoing nodes) a) e_is in

@@ -46,14 +46,14 @@ module _ {W : Type 0} (R : Option W → Option W → Type 0) (is : W → W → T
   abbrev edge_of : ℕ → ℕ → W → PlainEdge W
   edge_of a b w = record { parent = a; child = b; weight = w }
 
-  edge_slot : (i a b a' b' : ℕ) → a ≡ a' → b ≡ b' → (x y : Option W) (xs ys : List (Option (PlainEdge W))) → R x y
+  edge_slot : (i : ℕ) {a b a' b' : ℕ} → a ≡ a' → b ≡ b' → (x y : Option W) (xs ys : List (Option (PlainEdge W))) → R x y
       → MapsSlots (clone_step is) (λ n. n) weight_in with_weight tt (i + 1) xs ys
       → MapsSlots (clone_step is) (λ n. n) weight_in with_weight tt i (option_map (edge_of a b) x ∷ xs)
       (option_map (edge_of a' b') y ∷ ys)
-  edge_slot i a b a' b' p q None None xs ys r m = (ys, refl, m)
-  edge_slot i a b a' b' p q None (Some y) xs ys r m = absurd (more y r)
-  edge_slot i a b a' b' p q (Some x) None xs ys r m = absurd (fewer x r)
-  edge_slot i a b a' b' p q (Some x) (Some y) xs ys r m = (
+  edge_slot i p q None None xs ys r m = (ys, refl, m)
+  edge_slot i p q None (Some y) xs ys r m = absurd (more y r)
+  edge_slot i p q (Some x) None xs ys r m = absurd (fewer x r)
+  edge_slot i {a} {b} {a'} {b'} p q (Some x) (Some y) xs ys r m = (
     y,
     tt,
     record { shown = record { ref_ptr = (0, 0); now = x }; shows = refl; called = some x y r },
@@ -68,7 +68,7 @@ module _ {W : Type 0} (R : Option W → Option W → Type 0) (is : W → W → T
   edge_slots_cloned i [] (y ∷ ys) z = absurd z
   edge_slots_cloned i (x ∷ xs) [] z = absurd z
   edge_slots_cloned i (x ∷ xs) (y ∷ ys) z =
-      edge_slot i x.parent x.child y.parent y.child z.0.1.0 z.0.1.1.0 x.weight y.weight (map plain_edge xs)
+      edge_slot i z.0.1.0 z.0.1.1.0 x.weight y.weight (map plain_edge xs)
       (map plain_edge ys) z.0.0 (edge_slots_cloned (i + 1) xs ys z.1)
 
   pub firsts_cloned : {Ix : Type 0} (xs ys : List (Node (Option W) Ix))

@@ -51,11 +51,11 @@ shown_full end (Some x ∷ xs) (l ∷ links) long full =
     ap (λ z. l ∷ z) (shown_full end xs links (omega (arith, long)) (λ i. full (suc i)))
 
 -- no slot is vacant
-none_threaded : {A : Type 0} (end : ℕ) (slots : List (Option A)) (links vacant : List ℕ) (count : ℕ)
+none_threaded : {A : Type 0} (end : ℕ) (slots : List (Option A)) {links : List ℕ} (vacant : List ℕ) (count : ℕ)
     → vacant ≡ [] → ((i : ℕ) → Contains vacant i ↔ (slice_get slots i ≡ Some None)) → count ≡ count_by is_some slots
     → length links ≡ length slots → length slots ≤ end
     → IsThreaded end slots links end count vacant
-none_threaded end slots links vacant count none exact counted long few =
+none_threaded end slots {links} vacant count none exact counted long few =
     record {
       linked =
           subst (IsLinkedList end links end) (sym none)
@@ -66,8 +66,8 @@ none_threaded end slots links vacant count none exact counted long few =
       few = few;
     }
 
-module _ {N E Ix : Type 0} (end : ℕ) (g : Graph N E) (nodes : List (Node (Option N) Ix))
-    (edges : List (Edge (Option E) Ix)) (h : HoldsGraph end nodes edges g) where
+module _ {N E Ix : Type 0} (end : ℕ) (g : Graph N E) {nodes : List (Node (Option N) Ix)}
+    {edges : List (Edge (Option E) Ix)} (h : HoldsGraph end nodes edges g) where
   lists_many : (dir : Direction) → length (lists_at dir g) ≡ length g.nodes
   lists_many Outgoing = h.well_formed.out_list_count
   lists_many Incoming = h.well_formed.in_list_count
@@ -141,10 +141,10 @@ module _ {N E Ix : Type 0} (end : ℕ) (g : Graph N E) (nodes : List (Node (Opti
   )
 
   -- in the words of the code
-  pub Stores-held : (node_head edge_head nodes_counted edges_counted : ℕ) → node_head ≡ end → edge_head ≡ end
+  pub Stores-held : {node_head edge_head nodes_counted edges_counted : ℕ} → node_head ≡ end → edge_head ≡ end
       → nodes_counted ≡ length nodes → edges_counted ≡ length edges
       → Stores end nodes edges node_head edge_head nodes_counted edges_counted g
-  Stores-held node_head edge_head nodes_counted edges_counted node_end edge_end nodes_many edges_many =
+  Stores-held {node_head} {edge_head} {nodes_counted} {edges_counted} node_end edge_end nodes_many edges_many =
       rw (node_end, edge_end)
       (record {
         nodes_are = nodes_are;
@@ -152,11 +152,11 @@ module _ {N E Ix : Type 0} (end : ℕ) (g : Graph N E) (nodes : List (Node (Opti
         linked = elim [ Outgoing ↦ linked Outgoing | Incoming ↦ linked Incoming ];
         listed = elim [ Outgoing ↦ listed Outgoing | Incoming ↦ listed Incoming ];
         node_slots =
-            none_threaded end g.nodes _ g.vacant_nodes nodes_counted h.compact.nodes h.well_formed.node_slots.exact
+            none_threaded end g.nodes g.vacant_nodes nodes_counted h.compact.nodes h.well_formed.node_slots.exact
             (nodes_many ∙ h.node_cells.count ∙ sym (count_full g.nodes nodes_full))
             (length-map nodes (raw_first Outgoing) ∙ h.node_cells.count) h.well_formed.few_nodes;
         edge_slots =
-            none_threaded end g.edges _ g.vacant_edges edges_counted h.compact.edges h.well_formed.edge_slots.exact
+            none_threaded end g.edges g.vacant_edges edges_counted h.compact.edges h.well_formed.edge_slots.exact
             (edges_many ∙ h.edge_cells.count ∙ sym (count_full g.edges edges_full))
             (length-map edges (raw_next Outgoing) ∙ h.edge_cells.count) h.well_formed.few_edges;
       })

@@ -23,20 +23,22 @@ module _ {F I W V A B : Type 0} (step : F → I → Bor W → Option V → F →
       (later : List (Option B)) → KeepsSlots step of weight with f i (drop i old) later
       → KeepsSlots step of weight with first 0 old (new ++ later)
 
-  pub KeptSlots-passed : (first : F) (old : List (Option A)) (f : F) (new new' : List (Option B)) (i : ℕ)
+  pub KeptSlots-passed : (first : F) (old : List (Option A)) (f : F) (new : List (Option B)) {new' : List (Option B)}
+      (i : ℕ)
       → i < length old → get_or old i None ≡ None → new' ≡ new ++ None ∷ [] → KeptSlots first old f new i
       → KeptSlots first old f new' (i + 1)
-  KeptSlots-passed first old f new new' i within read is kept later more =
+  KeptSlots-passed first old f new i within read is kept later more =
       let rest : drop i old ≡ None ∷ drop (i + 1) old =
       drop_more old i None within ∙ ap (λ y. y ∷ drop (i + 1) old) read in
       rw (is, append_assoc) (kept (None ∷ later) (rw rest (later, refl, more)))
 
-  pub KeptSlots-called : (first : F) (old : List (Option A)) (f next : F) (new new' : List (Option B)) (i : ℕ) (x : A)
-      (r : Option V)
+  pub KeptSlots-called : (first : F) (old : List (Option A)) {f next : F} (new : List (Option B))
+      {new' : List (Option B)} {i : ℕ} {x : A}
+      {r : Option V}
       → i < length old → get_or old i None ≡ Some x → CalledAt step of f i (weight x) r next
       → new' ≡ new ++ option_map (with x) r ∷ []
       → KeptSlots first old f new i → KeptSlots first old next new' (i + 1)
-  KeptSlots-called first old f next new new' i x r within read called is kept later more =
+  KeptSlots-called first old {f} {next} new {new'} {i} {x} {r} within read called is kept later more =
       let rest : drop i old ≡ Some x ∷ drop (i + 1) old =
       drop_more old i None within ∙ ap (λ y. y ∷ drop (i + 1) old) read in
       rw (is, append_assoc) (kept (option_map (with x) r ∷ later) (rw rest (r, next, called, later, refl, more)))

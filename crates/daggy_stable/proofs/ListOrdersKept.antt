@@ -61,7 +61,7 @@ module _ {N E Ix : Type 0} (end : ℕ) (nodes : List (Node (Option N) Ix)) (edge
     vacant = λ n none. refl;
   }
 
-  module _ (nodes' : List (Node (Option N) Ix)) (edges' : List (Edge (Option E) Ix)) (i next : ℕ)
+  module _ {nodes' : List (Node (Option N) Ix)} {edges' : List (Edge (Option E) Ix)} {i next : ℕ}
       (o : IsOrdering nodes' edges' i next) where
     pub as_many_nodes : length nodes' ≡ length nodes
     as_many_nodes = sym (length-map nodes' weight_of) ∙ ap length o.weights ∙ length-map nodes weight_of
@@ -83,7 +83,7 @@ module _ {N E Ix : Type 0} (end : ℕ) (nodes : List (Node (Option N) Ix)) (edge
         ∙ length-map nodes' weight_of ∙ as_many_nodes in
         let lists : length (new_lists dir nodes orders) ≡ length nodes =
         length-lists_by_slots (map weight_of nodes) (map (order_at dir) orders) ∙ length-map nodes weight_of in
-        all_threaded i end _ _ _ _ (o.rows dir) (all ∙ sym firsts) (lists ∙ sym firsts)
+        all_threaded i end (o.rows dir) (all ∙ sym firsts) (lists ∙ sym firsts)
 
     -- a vacant slot is passed over
     pub ordering_vacant : i < length nodes' → slot (map weight_of nodes) i ≡ None
@@ -100,7 +100,7 @@ module _ {N E Ix : Type 0} (end : ℕ) (nodes : List (Node (Option N) Ix)) (edge
           lines = o.lines;
           counted = omega (arith, o.counted, more);
           rows = λ dir.
-              below_empty i end _ _ _ _ (o.rows dir) (shown_none end (map weight_of nodes') (firsts_of dir nodes') i
+              below_empty i end (o.rows dir) (shown_none end (map weight_of nodes') (firsts_of dir nodes') i
               (firsts_as_many weight_of dir nodes') still none')
               (row_vacant (map weight_of nodes) (map (order_at dir) orders) i none);
           vacant = o.vacant;
@@ -142,14 +142,14 @@ module _ {N E Ix : Type 0} (end : ℕ) (nodes : List (Node (Option N) Ix)) (edge
             lines = edges_seen edges'' edges' same_lines ∙ o.lines;
             counted = omega (arith, o.counted, more);
             rows = λ dir.
-                below_threaded i end _ _ _ _ (o.rows dir) _ (can dir)
+                below_threaded i end (o.rows dir) (can dir)
                 (omega (
                   arith,
                   within,
                   length-shown end (map weight_of nodes') (firsts_of dir nodes') (firsts_as_many weight_of dir nodes'),
                   length-map nodes' weight_of,
                 ))
-                (order_at dir order) _ _ (row_is dir (order_at dir order) (reads dir)) (firsts dir) (made dir).nexts;
+                (order_at dir order) (row_is dir (order_at dir order) (reads dir)) (firsts dir) (made dir).nexts;
             vacant = λ n none.
                 let other : n ≢ i = λ same. none-some w (sym none ∙ ap (slot (map weight_of nodes)) same ∙ some) in
                 ap (λ l. slice_get l n) (made Outgoing).first
@@ -185,7 +185,7 @@ module _ {N E Ix : Type 0} {end : ℕ} {nodes : List (Node (Option N) Ix)} {edge
       (subst (λ l. Contains (nth_list l n) e) (sym (rows_same Outgoing)) p) in
       none-some n (sym (ap (option_map (near_end Outgoing)) none) ∙ listed)
 
-  pub ordered : (nodes' : List (Node (Option N) Ix)) (edges' : List (Edge (Option E) Ix))
+  pub ordered : {nodes' : List (Node (Option N) Ix)} {edges' : List (Edge (Option E) Ix)}
       → ((dir : Direction)
       → AreLinkedLists end (list_firsts end dir nodes') (nexts_of dir edges') (new_lists dir nodes orders))
       → map weight_of nodes' ≡ map weight_of nodes → map plain_edge edges' ≡ map plain_edge edges
@@ -195,7 +195,7 @@ module _ {N E Ix : Type 0} {end : ℕ} {nodes : List (Node (Option N) Ix)} {edge
       → slice_get (nexts_of Outgoing edges') e ≡ slice_get (nexts_of Outgoing edges) e)
       → length (nexts_of Outgoing edges') ≡ length (nexts_of Outgoing edges)
       → Stores end nodes' edges' node_head edge_head nodes_counted edges_counted (with_orders g orders)
-  ordered nodes' edges' linked weights lines vacant others as_long =
+  ordered {nodes'} {edges'} linked weights lines vacant others as_long =
       let firsts_as_long : length (firsts_of Outgoing nodes') ≡ length (firsts_of Outgoing nodes) =
       firsts_as_many weight_of Outgoing nodes' ∙ ap length weights ∙ sym (firsts_as_many weight_of Outgoing nodes) in
       record {

@@ -37,10 +37,10 @@ module _ {F I W V A B : Type 0} (step : F → I → Bor W → V → F → Type 0
       drop_more old i None within ∙ ap (λ y. y ∷ drop (i + 1) old) read in
       rw (append_assoc) (kept (None ∷ later) (rw rest (later, refl, more)))
 
-  MappedSlots-called : (first : F) (old : List (Option A)) (f next : F) (new : List (Option B)) (i : ℕ) (x : A) (v : V)
+  MappedSlots-called : (first : F) (old : List (Option A)) {f next : F} (new : List (Option B)) {i : ℕ} {x : A} {v : V}
       → i < length old → get_or old i None ≡ Some x → CalledAt step of f i (weight x) v next
       → MappedSlots first old f new i → MappedSlots first old next (new ++ Some (with x v) ∷ []) (i + 1)
-  MappedSlots-called first old f next new i x v within read called kept later more =
+  MappedSlots-called first old {f} {next} new {i} {x} {v} within read called kept later more =
       let rest : drop i old ≡ Some x ∷ drop (i + 1) old =
       drop_more old i None within ∙ ap (λ y. y ∷ drop (i + 1) old) read in
       rw (append_assoc) (kept (Some (with x v) ∷ later) (rw rest (v, next, called, later, refl, more)))
@@ -51,7 +51,7 @@ module _ {F I W V A B : Type 0} (step : F → I → Bor W → V → F → Type 0
 
   -- the same by cells, of which read and read' are the slots
   module _ {C D : Type 0} (read : C → Option A) (read' : D → Option B) (first : F) (cells : List C) (new : List D)
-      (f : F) (i : ℕ) (x : C) (y : D) (within : i < length cells) (is : x ≡ get_or cells i x) where
+      (f : F) (i : ℕ) {x : C} (y : D) (within : i < length cells) (is : x ≡ get_or cells i x) where
     slots_within : i < length (map read cells)
     slots_within = omega (arith, within, length-map cells read)
 
@@ -71,7 +71,7 @@ module _ {F I W V A B : Type 0} (step : F → I → Bor W → V → F → Type 0
     MappedSlots-call next a v some some' called kept =
         subst (λ l. MappedSlots first (map read cells) next l (i + 1))
         (sym (map_push read' new y ∙ ap (λ z. map read' new ++ z ∷ []) some'))
-        (MappedSlots-called first (map read cells) f next (map read' new) i a v slots_within (slot_is ∙ some) called
+        (MappedSlots-called first (map read cells) (map read' new) slots_within (slot_is ∙ some) called
         kept)
 
 -- what each cell keeps of its own
@@ -165,11 +165,11 @@ module _ {F I W V A B : Type 0} (step : F → I → Bor W → V → F → Type 0
       ap (λ l. option_map k (slot l (suc e))) is ∙ mapped_keep h k same next (i + 1) xs later more e
 
   -- they are threaded as the old
-  mapped_threaded : (end : ℕ) (f : F) (xs : List (Option A)) (ys : List (Option B)) (links links' : List ℕ)
-      (head count : ℕ) (vacant : List ℕ)
+  mapped_threaded : {end : ℕ} (f : F) {xs : List (Option A)} {ys : List (Option B)} {links links' : List ℕ}
+      {head count : ℕ} {vacant : List ℕ}
       → MapsSlots step of weight with f 0 xs ys → links' ≡ links → IsThreaded end xs links head count vacant
       → IsThreaded end ys links' head count vacant
-  mapped_threaded end f xs ys links links' head count vacant m same t =
+  mapped_threaded {end} f {xs} {ys} {links} {links'} {head} {count} {vacant} m same t =
       let long = mapped_length step of weight with f 0 xs ys m in
       record {
         linked = subst (λ l. IsLinkedList end l head vacant) (sym same) t.linked;
@@ -236,10 +236,10 @@ module _ {N E V W Ix F G I : Type 0} (of : ℕ → I) (step_f : F → I → Bor 
       let one = subst (λ z. Contains (nth_list z n) e ↔ (end_of dir old e ≡ Some n)) (sym (same_rows dir)) (s n e) in
       (λ p. same ∙ one.0 p, λ q. one.1 (sym same ∙ q))
 
-  pub Stores-mapped : (nodes_counted edges_counted : ℕ)
+  pub Stores-mapped : {nodes_counted edges_counted : ℕ}
       → Stores end nodes edges node_head edge_head nodes_counted edges_counted old
       → Stores end nodes' edges' node_head edge_head nodes_counted edges_counted new
-  Stores-mapped nodes_counted edges_counted s =
+  Stores-mapped {nodes_counted} {edges_counted} s =
       let vacant : new.vacant_nodes ≡ old.vacant_nodes = ap (λ l. follow l (length l) node_head) (firsts Outgoing) in
       let vacant' : new.vacant_edges ≡ old.vacant_edges = ap (λ l. follow l (length l) edge_head) (nexts Outgoing) in
       record {
@@ -254,11 +254,9 @@ module _ {N E V W Ix F G I : Type 0} (of : ℕ → I) (step_f : F → I → Bor 
           | Incoming ↦ listed_again Incoming (s.listed Incoming)
         ];
         node_slots = subst (IsThreaded end new.nodes (firsts_of Outgoing nodes') node_head nodes_counted) (sym vacant)
-            (mapped_threaded step_f of (λ w. w) (λ w v. v) end f old.nodes new.nodes (firsts_of Outgoing nodes)
-            (firsts_of Outgoing nodes') node_head nodes_counted old.vacant_nodes mapped (firsts Outgoing) s.node_slots);
+            (mapped_threaded step_f of (λ w. w) (λ w v. v) f mapped (firsts Outgoing) s.node_slots);
         edge_slots = subst (IsThreaded end new.edges (nexts_of Outgoing edges') edge_head edges_counted) (sym vacant')
-            (mapped_threaded step_g of weight_in with_weight end g old.edges new.edges (nexts_of Outgoing edges)
-            (nexts_of Outgoing edges') edge_head edges_counted old.vacant_edges mapped' (nexts Outgoing) s.edge_slots);
+            (mapped_threaded step_g of weight_in with_weight g mapped' (nexts Outgoing) s.edge_slots);
       }
 
   pub IsMapped-stored : IsMapped of step_f step_g f g old new

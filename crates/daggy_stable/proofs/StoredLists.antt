@@ -29,26 +29,26 @@ plain_ends {E} {Ix} x = go x.weight
 module _ {N E Ix : Type 0} {end : ℕ} {nodes : List (Node (Option N) Ix)} {edges : List (Edge (Option E) Ix)}
     {node_head edge_head nodes_counted edges_counted : ℕ} {g : Graph N E}
     (stored : Stores end nodes edges node_head edge_head nodes_counted edges_counted g) (k : ℕ) (s : State N E)
-    (view : record { graph = g; looks = k } ≡ s) (i n : ℕ) (i_is : i ≡ n) where
-  pub node_got : (lent : List (Node (Option N) Ix)) (x : Node (Option N) Ix)
+    (view : record { graph = g; looks = k } ≡ s) {i n : ℕ} (i_is : i ≡ n) where
+  pub node_got : {lent : List (Node (Option N) Ix)} {x : Node (Option N) Ix}
       → lent ≡ nodes → i < length lent → x ≡ get_or lent i x → x.weight ≡ node_weight s.graph n
-  node_got lent x lent_is within is =
+  node_got {lent} {x} lent_is within is =
       sym (node_read stored i x (omega (arith, ap length lent_is, within)) (is ∙ ap (λ l. get_or l i x) lent_is))
       ∙ ap (slot g.nodes) i_is ∙ ap (λ z. node_weight z.graph n) view
 
-  pub no_node_got : (lent : List (Node (Option N) Ix)) → lent ≡ nodes → length lent ≤ i → None ≡ node_weight s.graph n
-  no_node_got lent lent_is past =
+  pub no_node_got : {lent : List (Node (Option N) Ix)} → lent ≡ nodes → length lent ≤ i → None ≡ node_weight s.graph n
+  no_node_got lent_is past =
       sym (node_beyond stored i (omega (arith, ap length lent_is, past))) ∙ ap (slot g.nodes) i_is
       ∙ ap (λ z. node_weight z.graph n) view
 
-  pub edge_got : (lent : List (Edge (Option E) Ix)) (x : Edge (Option E) Ix)
+  pub edge_got : {lent : List (Edge (Option E) Ix)} {x : Edge (Option E) Ix}
       → lent ≡ edges → i < length lent → x ≡ get_or lent i x → plain_edge x ≡ edge_at s.graph n
-  edge_got lent x lent_is within is =
+  edge_got {lent} {x} lent_is within is =
       sym (edge_read stored i x (omega (arith, ap length lent_is, within)) (is ∙ ap (λ l. get_or l i x) lent_is))
       ∙ ap (edge_at g) i_is ∙ ap (λ z. edge_at z.graph n) view
 
-  pub no_edge_got : (lent : List (Edge (Option E) Ix)) → lent ≡ edges → length lent ≤ i → None ≡ edge_at s.graph n
-  no_edge_got lent lent_is past =
+  pub no_edge_got : {lent : List (Edge (Option E) Ix)} → lent ≡ edges → length lent ≤ i → None ≡ edge_at s.graph n
+  no_edge_got lent_is past =
       sym
       (ap (λ l. slot l i) stored.edges_are ∙ slot_beyond plain_edge edges i (omega (arith, ap length lent_is, past)))
       ∙ ap (edge_at g) i_is ∙ ap (λ z. edge_at z.graph n) view

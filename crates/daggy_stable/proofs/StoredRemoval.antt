@@ -108,7 +108,7 @@ module _ {N E Ix : Type 0} {end : ℕ} {nodes : List (Node (Option N) Ix)} {edge
 
     pub ready : (dir : Direction) → IsReady end dir nodes edges e
     ready dir =
-        Ready-row end dir nodes edges (nth_list (lists_at dir g) (near_end dir y)) e (near_end dir y) (the_row dir)
+        Ready-row end dir nodes edges e (near_end dir y) (the_row dir)
         (end_is dir) edges_few (n_in dir) e_in (there dir)
 
     module _ (nodes' : List (Node (Option N) Ix)) (edges' : List (Edge (Option E) Ix))
@@ -118,7 +118,7 @@ module _ {N E Ix : Type 0} {end : ℕ} {nodes : List (Node (Option N) Ix)} {edge
           → Redirected (nth_list (lists_at dir g) (near_end dir y)) (near_end dir y) e (get_or (nexts_of dir edges) e 0)
           (firsts_of dir nodes) (nexts_of dir edges) (firsts_of dir nodes') (nexts_of dir edges')
       raw_red dir =
-          Redirected-list_from end dir nodes edges (nth_list (lists_at dir g) (near_end dir y)) e (near_end dir y)
+          Redirected-list_from end dir nodes edges e (near_end dir y)
           (the_row dir) (end_is dir) edges_few (get_or (nexts_of dir edges) e 0) nodes' edges' (red dir)
 
       shown_red : (dir : Direction)
@@ -145,9 +145,7 @@ module _ {N E Ix : Type 0} {end : ℕ} {nodes : List (Node (Option N) Ix)} {edge
           → AreLinkedLists end (list_firsts end dir nodes') (nexts_of dir edges') (map (without e) (lists_at dir g))
       with_edge_unlinked dir =
           let inside : e < length (nexts_of dir edges) = omega (arith, e_in, length-map edges (raw_next dir)) in
-          AreLinkedLists-with_edge_unlinked end (list_firsts end dir nodes) (nexts_of dir edges)
-          (list_firsts end dir nodes') (nexts_of dir edges') (end_of dir g) (lists_at dir g) (near_end dir y) e
-          (get_or (nexts_of dir edges) e 0) (s.linked dir) (s.listed dir)
+          AreLinkedLists-with_edge_unlinked (end_of dir g) (s.linked dir) (s.listed dir)
           (ap (option_map (near_end dir)) at) (omega (arith, n_in dir, firsts_long s dir))
           (omega (arith, e_in, edges_few)) (slice_get-get_or (nexts_of dir edges) e 0 inside) (shown_red dir)
 
@@ -451,12 +449,12 @@ module _ {N E Ix : Type 0} {end : ℕ} {nodes : List (Node (Option N) Ix)} {edge
 
 -- in the words of the code
 
-pub ready_kept : {N E Ix : Type 0} (end : ℕ) (dir : Direction) (nodes nodes' : List (Node N Ix))
-    (edges edges' : List (Edge E Ix)) (old : ℕ)
+pub ready_kept : {N E Ix : Type 0} {end : ℕ} (dir : Direction) {nodes nodes' : List (Node N Ix)}
+    {edges edges' : List (Edge E Ix)} {old : ℕ}
     → firsts_of dir nodes' ≡ firsts_of dir nodes → nexts_of dir edges' ≡ nexts_of dir edges
     → ends_of dir edges' ≡ ends_of dir edges
     → IsReady end dir nodes edges old → IsReady end dir nodes' edges' old
-ready_kept end dir nodes nodes' edges edges' old firsts nexts ends r =
+ready_kept dir {nodes} {nodes'} {edges} {edges'} {old} firsts nexts ends r =
     let long_nodes : length nodes' ≡ length nodes =
     sym (length-map nodes' (raw_first dir)) ∙ ap length firsts ∙ length-map nodes (raw_first dir) in
     let long_edges : length edges' ≡ length edges =
@@ -469,12 +467,12 @@ ready_kept end dir nodes nodes' edges edges' old firsts nexts ends r =
       few = omega (arith, r.few, long_edges);
     }
 
-pub both_redirected : {N E Ix : Type 0} (nodes n1 n2 : List (Node N Ix)) (edges e1 e2 : List (Edge E Ix))
-    (e out into : ℕ)
+pub both_redirected : {N E Ix : Type 0} {nodes n1 n2 : List (Node N Ix)} {edges e1 e2 : List (Edge E Ix)}
+    {e out into : ℕ}
     → Step Outgoing nodes edges e out n1 e1 → Step Incoming n1 e1 e into n2 e2
     → out ≡ get_or (nexts_of Outgoing edges) e 0 → into ≡ get_or (nexts_of Incoming edges) e 0
     → (dir : Direction) → Redirects dir nodes edges e (get_or (nexts_of dir edges) e 0) n2 e2
-both_redirected nodes n1 n2 edges e1 e2 e out into s1 s2 out_is into_is =
+both_redirected s1 s2 out_is into_is =
     elim [
       | Outgoing ↦ rw (← out_is, s2.keeps.firsts, s2.keeps_edges.nexts) s1.links
       | Incoming ↦ rw (← into_is) (rw (s1.keeps.firsts, s1.keeps_edges.nexts, s1.keeps_edges.ends Incoming) at s2.links)
@@ -528,14 +526,14 @@ module _ {N E Ix : Type 0} {end : ℕ} {nodes : List (Node (Option N) Ix)} {edge
         ∙ slot_read plain_edge edges' e x edge_inside reads in
         sym (weight_plain x) ∙ sym (ap (option_map (λ z. z.weight)) same)
 
-    pub removed_weight : (i : ℕ) (x x' : Edge (Option E) Ix) (taken left : Option E) → i ≡ e → x ≡ get_or edges' i x
+    pub removed_weight : {i : ℕ} (x x' : Edge (Option E) Ix) (taken left : Option E) → i ≡ e → x ≡ get_or edges' i x
         → x' ≡ with_next Outgoing x edge_head → taken ≡ x'.weight → taken ≡ option_map (λ z. z.weight) (edge_at g e)
-    removed_weight i x x' taken left i_is reads x'_is taken_is =
+    removed_weight x x' taken left i_is reads x'_is taken_is =
         taken_is ∙ ap (λ z. z.weight) x'_is ∙ cell_weight x (reads ∙ ap (λ z. get_or edges' z x) i_is)
 
     module _
         (red : (dir : Direction) → Redirects dir nodes edges e (get_or (nexts_of dir edges) e 0) nodes' edges') where
-      pub edge_removed_code : (i : ℕ) (x x' : Edge (Option E) Ix) (left : Option E)
+      pub edge_removed_code : {i : ℕ} (x x' : Edge (Option E) Ix) (left : Option E)
           → i ≡ e → x' ≡ with_next Outgoing x edge_head → left ≡ None
           → Stores end nodes' (set edges' i (record {
             weight = left;
@@ -545,7 +543,7 @@ module _ {N E Ix : Type 0} {end : ℕ} {nodes : List (Node (Option N) Ix)} {edge
             next_in = x'.next_in;
           }))
           node_head e nodes_counted (edges_counted - 1) (without_edge Stable g e)
-      edge_removed_code i x x' left i_is x'_is left_is =
+      edge_removed_code x x' left i_is x'_is left_is =
           let found = some_is _ has in
           let cell : Edge (Option E) Ix = record {
             weight = left;
@@ -571,11 +569,11 @@ module _ {N E Ix : Type 0} {end : ℕ} {nodes : List (Node (Option N) Ix)} {edge
     rows_empty Outgoing = empty Outgoing
     rows_empty Incoming = empty Incoming
 
-    pub node_dropped_code : (i : ℕ) (x x' : Node (Option N) Ix) (left : Option N)
+    pub node_dropped_code : {i : ℕ} (x x' : Node (Option N) Ix) (left : Option N)
         → i ≡ n → x' ≡ with_first Outgoing x node_head → left ≡ None
         → Stores end (set nodes i (record { weight = left; first_out = x'.first_out; first_in = x'.first_in })) edges n
         edge_head (nodes_counted - 1) edges_counted (with_node_dropped Stable g n)
-    node_dropped_code i x x' left i_is x'_is left_is =
+    node_dropped_code x x' left i_is x'_is left_is =
         let found = some_is _ has in
         let cell : Node (Option N) Ix = record { weight = left; first_out = x'.first_out; first_in = x'.first_in } in
         rw i_is (node_dropped s n found.0 found.1 rows_empty cell left_is (ap (λ z. z.first_out) x'_is)
@@ -681,10 +679,10 @@ Stores-emptied {N} {E} {Ix} {end} {nodes} {edges} {node_head} {edge_head} {nodes
     }
 
 -- in the words of the code: one more element is changed
-pub changing_step : {A : Type 0} (f : A → A) (old now : List A) (i j : ℕ) (x y : A)
+pub changing_step : {A : Type 0} (f : A → A) (old : List A) {now : List A} {i : ℕ} {j : ℕ} {x y : A}
     → j ≡ suc i → now ≡ map f (take i old) ++ drop i old → i < length old → x ≡ get_or now i x → y ≡ f x
     → set now i y ≡ map f (take j old) ++ drop j old
-changing_step f old now i j x y j_is is within reads y_is =
+changing_step f old {now} {i} {j} {x} j_is is within reads y_is =
     ap (set now i) y_is ∙ ap (λ l. set l i (f x)) is ∙ map_so_far f old i x within (reads ∙ ap (λ l. get_or l i x) is)
     ∙ ap (λ k. map f (take k old) ++ drop k old) (sym j_is)
 

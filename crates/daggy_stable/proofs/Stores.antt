@@ -1,5 +1,5 @@
 -- What is stored, and what it shows.
-use Rattle.std.proofs.Common.{◌≡◌, ℕ, zero, suc, ◌<◌, ◌≤◌, List, [], ◌∷◌, map, length, get_or, Option, Some, None}
+use Rattle.std.proofs.Common.{◌≡◌, ℕ, zero, suc, ◌<◌, ◌≤◌, List, [], ◌∷◌, map, length, get_or, set, Option, Some, None}
 use Rattle.std.proofs.Common.{IsSome, is_some, refl, sym, ap, subst, ◌∙◌, inl, inr, arith, Contains}
 use Rattle.std.specs.Option.{option_map}
 use Rattle.std.proofs.lemmas.Bool.{cases_lt}
@@ -24,6 +24,12 @@ use Rattle.daggy_stable.specs.Stored.{weight_of, plain, plain_edge, list_firsts,
 use Rattle.daggy_stable.specs.Stored.{Stores}
 use Rattle.daggy_stable.proofs.Slots.{vacant_is}
 use Rattle.daggy_stable.proofs.Shown.{length-shown, shown_some, shown_none}
+
+-- the first links of a and b lead to the edge e, and the nodes have their weights and their other links
+pub record AreLedTo {N Ix : Type 0} (nodes nodes' : List (Node (Option N) Ix)) (a b e : ℕ) : Type 0 where
+  pub weights : map weight_of nodes' ≡ map weight_of nodes
+  pub outs : firsts_of Outgoing nodes' ≡ set (firsts_of Outgoing nodes) a e
+  pub ins : firsts_of Incoming nodes' ≡ set (firsts_of Incoming nodes) b e
 
 slot_vacant_or : {A : Type 0} (xs : List (Option A)) (i : ℕ) (P : Type 0)
     → (slot xs i ≡ None → P) → ((x : A) → slot xs i ≡ Some x → P) → P

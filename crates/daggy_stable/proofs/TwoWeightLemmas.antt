@@ -25,13 +25,13 @@ use Rattle.daggy_stable.proofs.StoredWeights.{node_weighed, edge_weighed}
 -- with o in place of its weight.
 module _ {C W F R : Type 0} (weight : C → Option W) (put : Option W → C → C)
     (g : Once F (MutBor W × (MutBor W × Unit {0})) (R × (MutBor W × (MutBor W × Unit {0})))) (f : F) where
-  pub called_in_slots : (x y x' y' : C) (r : R)
+  pub called_in_slots : (x y : C) {x' y' : C} {r : R}
       → CalledAtTwo g f (weight x) (weight y) {S = Option W × Option W} r (λ v w. (Some v, Some w))
       (weight x', weight y')
       → x' ≡ put (weight x') x → y' ≡ put (weight y') y
       → CalledAtTwo g f (weight x) (weight y) {S = C × C} r (λ v w. (put (Some v) x, put (Some w) y)) (x', y')
-  called_in_slots x y x' y' r call x_is y_is =
-      called_at g f (weight x) (weight y) r (λ v w. (put (Some v) x, put (Some w) y)) (x', y') call.first call.second
+  called_in_slots x y {x'} {y'} {r} call x_is y_is =
+      called_at call.first call.second
       call.first_left call.second_left call.shows.0 call.shows.1 call.called
       (ap (λ z. (z, y')) x_is ∙ ap (λ z. (put (weight x') x, z)) y_is
       ∙ ap (λ z. (put z.0 x, put z.1 y)) call.leaves)
@@ -85,14 +85,14 @@ module _ {N E Ix : Type 0} {end : ℕ} {nodes : List (Node (Option N) Ix)} {edge
 
 module _ {N E Ix : Type 0} {end : ℕ} {nodes : List (Node (Option N) Ix)} {edges : List (Edge (Option E) Ix)}
     {node_head edge_head nodes_counted edges_counted : ℕ} {g : Graph N E}
-    (s : Stores end nodes edges node_head edge_head nodes_counted edges_counted g) (a b i j : ℕ) (i_is : i ≡ a)
+    (s : Stores end nodes edges node_head edge_head nodes_counted edges_counted g) (a b : ℕ) {i j : ℕ} (i_is : i ≡ a)
     (j_is : j ≡ b) where
   -- two weights of nodes, in the words of the code
-  pub nodes_updated : (n : ℕ) (lent new : List (Node (Option N) Ix)) (v w : N) → IsSome (slot g.nodes a)
+  pub nodes_updated : {n : ℕ} {lent new : List (Node (Option N) Ix)} (v w : N) → IsSome (slot g.nodes a)
       → IsSome (slot g.nodes b) → n ≡ length nodes → lent ≡ nodes → new ≡ with_node_weights lent i j v w
       → Stores end (take n (new ++ drop (length new) nodes)) edges node_head edge_head nodes_counted edges_counted
       (with_node_weight (with_node_weight g a v) b w)
-  nodes_updated n lent new v w first second n_is lent_is new_is =
+  nodes_updated {n} {lent} {new} v w first second n_is lent_is new_is =
       let once = changed_at (node_of_weight (Some v)) nodes a in
       let is : new ≡ with_node_weights nodes a b v w =
       new_is ∙ ap (λ l. with_node_weights l i j v w) lent_is ∙ ap (λ k. with_node_weights nodes k j v w) i_is
@@ -105,11 +105,11 @@ module _ {N E Ix : Type 0} {end : ℕ} {nodes : List (Node (Option N) Ix)} {edge
       (with_node_weight (with_node_weight g a v) b w)) (sym is ∙ refilled n nodes new n_is long) twice
 
   -- two of edges
-  pub edges_updated : (n : ℕ) (lent new : List (Edge (Option E) Ix)) (v w : E) → IsSome (edge_at g a)
+  pub edges_updated : {n : ℕ} {lent new : List (Edge (Option E) Ix)} (v w : E) → IsSome (edge_at g a)
       → IsSome (edge_at g b) → n ≡ length edges → lent ≡ edges → new ≡ with_edge_weights lent i j v w
       → Stores end nodes (take n (new ++ drop (length new) edges)) node_head edge_head nodes_counted edges_counted
       (with_edge_weight (with_edge_weight g a v) b w)
-  edges_updated n lent new v w first second n_is lent_is new_is =
+  edges_updated {n} {lent} {new} v w first second n_is lent_is new_is =
       let once = changed_at (edge_of_weight (Some v)) edges a in
       let is : new ≡ with_edge_weights edges a b v w =
       new_is ∙ ap (λ l. with_edge_weights l i j v w) lent_is ∙ ap (λ k. with_edge_weights edges k j v w) i_is
@@ -125,12 +125,12 @@ module _ {N E Ix : Type 0} {end : ℕ} {nodes : List (Node (Option N) Ix)} {edge
       (with_edge_weight (with_edge_weight g a v) b w)) (sym is ∙ refilled n edges new n_is long) twice
 
   -- one of a node and one of an edge
-  pub both_updated : (x : Node (Option N) Ix) (y : Edge (Option E) Ix) (v' : Option N) (w' : Option E) (v : N) (w : E)
+  pub both_updated : {x : Node (Option N) Ix} {y : Edge (Option E) Ix} {v' : Option N} {w' : Option E} {v : N} {w : E}
       → IsSome (slot g.nodes a) → IsSome (edge_at g b) → x ≡ get_or nodes i x → y ≡ get_or edges j y → v' ≡ Some v
       → w' ≡ Some w
       → Stores end (set nodes i (node_of_weight v' x)) (set edges j (edge_of_weight w' y)) node_head edge_head
       nodes_counted edges_counted (with_edge_weight (with_node_weight g a v) b w)
-  both_updated x y v' w' v w first second x_is y_is v_is w_is =
+  both_updated {x} {y} {v'} {w'} {v} {w} first second x_is y_is v_is w_is =
       let cell = set nodes i (node_of_weight v' x) in
       let once : Stores end (set nodes i (node_of_weight v' x)) edges node_head edge_head nodes_counted edges_counted
       (with_node_weight g a v) =
@@ -146,8 +146,8 @@ module _ {N E Ix : Type 0} {end : ℕ} {nodes : List (Node (Option N) Ix)} {edge
       (edge_weighed once b w y second (y_is ∙ ap (λ k. get_or edges k y) j_is)))
 
 -- what is seen of a state, where it is stored
-module _ {N E Ix : Type 0} (end : ℕ) (nodes : List (Node (Option N) Ix)) (edges : List (Edge (Option E) Ix))
-    (node_head edge_head nodes_counted edges_counted : ℕ) (stored : Stores end nodes edges node_head edge_head
+module _ {N E Ix : Type 0} {end : ℕ} (nodes : List (Node (Option N) Ix)) (edges : List (Edge (Option E) Ix))
+    {node_head edge_head nodes_counted edges_counted : ℕ} (stored : Stores end nodes edges node_head edge_head
     nodes_counted edges_counted (stored_graph end nodes edges node_head edge_head)) (k : ℕ) (s : State N E)
     (view : record { graph = stored_graph end nodes edges node_head edge_head; looks = k } ≡ s) (n i : ℕ)
     (i_is : i ≡ n) where

@@ -27,14 +27,14 @@ module _ {C B : Type 0} (f : C → Option B) (vacant : C → Bool) (agree : (x :
     pub left : numbered i (map f cells) ≡ (j, held) ∷ numbered (j + 1) (map f rest)
     pub within : j + 1 + length rest ≤ i + length cells
 
-  found_after : (i : ℕ) (y : C) (ys : List C) (j : ℕ) (x : C) (rest : List C)
+  found_after : {i : ℕ} {y : C} {ys : List C} {j : ℕ} {x : C} {rest : List C}
       → (next_full vacant (i + 1) ys ≡ Some (j, (x, rest)) → Finds (i + 1) ys j x rest) → (b : Bool) → vacant y ≡ b
       → (if_vacant vacant i y ys b) ≡ Some (j, (x, rest)) → Finds i (y ∷ ys) j x rest
-  found_after i y ys j x rest later true v is =
+  found_after {i} {y} later true v is =
       let next = later is in
       let none : f y ≡ None = none_from (f y) (not-true (is_some (f y)) (sym (agree y) ∙ v)) in
       record { held = next.held; holds = next.holds; left = rw none next.left; within = omega (arith, next.within) }
-  found_after i y ys j x rest later false v is =
+  found_after {i} {y} {ys} {j} {x} {rest} later false v is =
       let here = same_Some {A = ℕ × (C × List C)} (i, (y, ys)) (j, (x, rest)) is in
       let some = some_from (f y) (not-false (is_some (f y)) (sym (agree y) ∙ v)) in
       let same_index : i ≡ j = ap (λ p. p.0) here in
@@ -52,7 +52,7 @@ module _ {C B : Type 0} (f : C → Option B) (vacant : C → Bool) (agree : (x :
   pub found : (i : ℕ) (cells : List C) (j : ℕ) (x : C) (rest : List C)
       → next_full vacant i cells ≡ Some (j, (x, rest)) → Finds i cells j x rest
   found i [] j x rest is = absurd (none-some _ is)
-  found i (y ∷ ys) j x rest is = found_after i y ys j x rest (found (i + 1) ys j x rest) (vacant y) refl is
+  found i (y ∷ ys) j x rest is = found_after (found (i + 1) ys j x rest) (vacant y) refl is
 
   none_after : (i : ℕ) (y : C) (ys : List C) → (next_full vacant (i + 1) ys ≡ None → numbered (i + 1) (map f ys) ≡ [])
       → (b : Bool) → vacant y ≡ b → (if_vacant vacant i y ys b) ≡ None → numbered i (map f (y ∷ ys)) ≡ []

@@ -38,11 +38,11 @@ pair_within n flags a b has =
     ]
 
 -- what the test of a pair within tells, in the words of the code
-pub pair_tested : (n : ℕ) (flags : List Bool) (matrix : List (List Bool)) (a b row column i : ℕ) (answer : Bool)
+pub pair_tested : (n : ℕ) (flags : List Bool) {matrix : List (List Bool)} {a b row column i : ℕ} {answer : Bool}
     → rows n flags ≡ matrix → row ≡ a → column ≡ b → row < n → column < n → i ≡ row * n + column
     → answer ≡ get_or flags i false
     → IsTrue answer ↔ HasPair matrix a b
-pair_tested n flags matrix a b row column i answer is row_is column_is row_low column_low at gives =
+pair_tested n flags {matrix} {a} {b} {row} {column} {i} {answer} is row_is column_is row_low column_low at gives =
     let same : answer ≡ get_or (get_or matrix a []) b false =
     gives ∙ ap (λ k. get_or flags k false) at ∙ sym (flag_of_pair n flags row column row_low column_low)
     ∙ ap (λ k. get_or (get_or (rows n flags) k []) column false) row_is
@@ -68,11 +68,11 @@ apart n a b u v b_low v_low same =
     ]
 
 -- the pairs after one was set, in the words of the code
-pub pair_set : (n : ℕ) (flags : List Bool) (matrix : List (List Bool)) (a b row column i : ℕ)
+pub pair_set : (n : ℕ) (flags : List Bool) {matrix : List (List Bool)} {a b row column i : ℕ}
     → rows n flags ≡ matrix → length flags ≡ n * n
     → row ≡ a → column ≡ b → row < n → column < n → i ≡ row * n + column → i < n * n
     → (u v : ℕ) → HasPair (rows n (set flags i true)) u v ↔ (((u ≡ a) × (v ≡ b)) ⊎ HasPair matrix u v)
-pair_set n flags matrix a b row column i is sized row_is column_is row_low column_low at within u v = (
+pair_set n flags {matrix} {a} {b} {row} {column} {i} is sized row_is column_is row_low column_low at within u v = (
   λ has.
       let low = pair_within n (set flags i true) u v has in
       let flag : get_or (set flags i true) (u * n + v) false ≡ true =

@@ -12,7 +12,7 @@ use Rattle.daggy_cells.proofs.links.redirect.Goals as goal
 pub find_before-before-requires-clause-listed : goal.find_before-before-requires-clause-listed
 find_before-before-requires-clause-listed g c =
     let reads =
-    redirect_reads c.args.nodes.now.items c.args.edges.now.items c.args.dir c.args.old _ _ _ _ _ _ c.requires.edge
+    redirect_reads c.args.nodes.now.items c.args.edges.now.items c.args.dir c.requires.edge
     c.requires.node c.index-o.ensures.value c.index.ensures c.end-n.ensures c.index-i.ensures.value c.index-2.ensures
     c.first-first.ensures in
     subst (λ z. Contains (list_from c.args.dir z c.first-first.result) c.args.old) (sym c.as_slice.ensures.value)
@@ -21,7 +21,7 @@ find_before-before-requires-clause-listed g c =
 pub index_mut-requires-else-index-o : goal.index_mut-requires-else-index-o
 index_mut-requires-else-index-o g c =
     let reads =
-    redirect_reads c.args.nodes.now.items c.args.edges.now.items c.args.dir c.args.old _ _ _ _ _ _ c.requires.edge
+    redirect_reads c.args.nodes.now.items c.args.edges.now.items c.args.dir c.requires.edge
     c.requires.node c.index-o.ensures.value c.index.ensures c.end-n.ensures c.index-i.ensures.value c.index-2.ensures
     c.first-first.ensures in
     let n = get_or (ends_of c.args.dir c.args.edges.now.items) c.args.old 0 in
@@ -40,7 +40,7 @@ index_mut-requires-else-index-o g c =
 pub returns-then-index-o-clause-links : goal.returns-then-index-o-clause-links
 returns-then-index-o-clause-links g c =
     let reads =
-    redirect_reads c.args.nodes.now.items c.args.edges.now.items c.args.dir c.args.old _ _ _ _ _ _ c.requires.edge
+    redirect_reads c.args.nodes.now.items c.args.edges.now.items c.args.dir c.requires.edge
     c.requires.node c.index-o.ensures.value c.index.ensures c.end-n.ensures c.index-i.ensures.value c.index-2.ensures
     c.first-first.ensures in
     let n = get_or (ends_of c.args.dir c.args.edges.now.items) c.args.old 0 in
@@ -57,7 +57,7 @@ returns-then-index-o-clause-links g c =
     ∙ ap (λ z. set (firsts_of c.args.dir c.args.nodes.now.items) z c.args.new) reads.0 in
     subst (λ z. Redirected list n c.args.old c.args.new (firsts_of c.args.dir c.args.nodes.now.items)
     (nexts_of c.args.dir c.args.edges.now.items) z (nexts_of c.args.dir c.args.edges.now.items)) (sym written)
-    (Redirected-first g.Ix.IndexType.greatest _ _ list n c.args.old c.args.new c.requires.linked here inside)
+    (Redirected-first g.Ix.IndexType.greatest list n c.args.old c.args.new c.requires.linked here inside)
 
 pub returns-then-index-o-clause-nodes : goal.returns-then-index-o-clause-nodes
 returns-then-index-o-clause-nodes g c =
@@ -68,7 +68,7 @@ returns-then-index-o-clause-nodes g c =
 pub returns-else-index-o-clause-links : goal.returns-else-index-o-clause-links
 returns-else-index-o-clause-links g c =
     let reads =
-    redirect_reads c.args.nodes.now.items c.args.edges.now.items c.args.dir c.args.old _ _ _ _ _ _ c.requires.edge
+    redirect_reads c.args.nodes.now.items c.args.edges.now.items c.args.dir c.requires.edge
     c.requires.node c.index-o.ensures.value c.index.ensures c.end-n.ensures c.index-i.ensures.value c.index-2.ensures
     c.first-first.ensures in
     let n = get_or (ends_of c.args.dir c.args.edges.now.items) c.args.old 0 in
@@ -93,7 +93,7 @@ returns-else-index-o-clause-links g c =
     ∙ ap (λ z. set (nexts_of c.args.dir c.args.edges.now.items) z c.args.new) c.index-j.ensures.value in
     subst (λ z. Redirected list n c.args.old c.args.new (firsts_of c.args.dir c.args.nodes.now.items)
     (nexts_of c.args.dir c.args.edges.now.items) (firsts_of c.args.dir c.args.nodes.now.items) z) (sym written)
-    (Redirected-later g.Ix.IndexType.greatest _ _ list n c.find_before-before.result c.args.old c.args.new
+    (Redirected-later c.find_before-before.result
     c.requires.linked later listed before inside)
 
 pub returns-else-index-o-clause-edges : goal.returns-else-index-o-clause-edges

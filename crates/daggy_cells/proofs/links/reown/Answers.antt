@@ -12,7 +12,7 @@ along-preserved g c =
     let within : c.index-i.result < length c.along.edges.items = omega (arith, c.if-i-len.false, c.len.ensures) in
     let few : length c.along.edges.items ≤ g.Ix.IndexType.greatest =
     omega (arith, c.requires.few, c.along.invariant.long) in
-    (reowning_code _ _ _ _ _ _ _ _ _ _ _ c.along.invariant c.index-i.ensures.value within few
+    (reowning_code _ _ _ _ c.along.invariant c.index-i.ensures.value within few
     c.index_mut-x.ensures.value c.set_end.ensures c.next-e.ensures c.requires.differ).0
 
 pub along-smaller : goal.along-smaller
@@ -20,5 +20,5 @@ along-smaller g c =
     let within : c.index-i.result < length c.along.edges.items = omega (arith, c.if-i-len.false, c.len.ensures) in
     let few : length c.along.edges.items ≤ g.Ix.IndexType.greatest =
     omega (arith, c.requires.few, c.along.invariant.long) in
-    (reowning_code _ _ _ _ _ _ _ _ _ _ _ c.along.invariant c.index-i.ensures.value within few
+    (reowning_code _ _ _ _ c.along.invariant c.index-i.ensures.value within few
     c.index_mut-x.ensures.value c.set_end.ensures c.next-e.ensures c.requires.differ).1

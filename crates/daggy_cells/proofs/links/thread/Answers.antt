@@ -17,7 +17,7 @@ index_mut-requires g c =
     number_read number c.args.list.now (c.back.left - 1) c.of_edge-e.result _ left_in c.index-list-left.is
     c.of_edge-e.ensures in
     let within =
-    threading_within _ _ _ _ c.requires.list _ _ _ _ c.of_edge-e.result c.back.invariant
+    threading_within _ _ _ _ c.requires.list c.of_edge-e.result c.back.invariant
     (omega (arith, c.back-test.true)) read in
     omega (arith, within, c.index-i.ensures.value)
 
@@ -29,17 +29,17 @@ back-preserved g c =
     let read =
     number_read number c.args.list.now (c.back.left - 1) c.of_edge-e.result _ left_in c.index-list-left.is
     c.of_edge-e.ensures in
-    threading_step _ _ _ _ c.requires.list _ _ _ _ _ _ _ _ c.back.invariant (omega (arith, c.back-test.true)) read
+    threading_step _ _ _ _ c.requires.list c.back.invariant (omega (arith, c.back-test.true)) read
     c.index-i.ensures.value c.index_mut.ensures.value c.set_next.ensures
 
 pub returns-clause-links : goal.returns-clause-links
 returns-clause-links g c =
-    (threading_done _ _ _ _ _ _ _ _ _ _ _ c.back.invariant (omega (arith, c.back-test.false))
+    (threading_done _ _ _ _ c.back.invariant (omega (arith, c.back-test.false))
     c.index_mut-2.ensures.value c.set_first.ensures).0
 
 pub returns-clause-nodes : goal.returns-clause-nodes
 returns-clause-nodes g c =
-    (threading_done _ _ _ _ _ _ _ _ _ _ _ c.back.invariant (omega (arith, c.back-test.false))
+    (threading_done _ _ _ _ c.back.invariant (omega (arith, c.back-test.false))
     c.index_mut-2.ensures.value c.set_first.ensures).1
 
 pub returns-clause-edges : goal.returns-clause-edges

@@ -37,7 +37,7 @@ thread-requires-2-clause-list g c =
 
 pub returns-clause-links : goal.returns-clause-links
 returns-clause-links g c =
-    threads_both _ _ _ _ _ _ _ _ (numbers_of g.Ix.IndexType.number c.args.order.now) _ _
+    threads_both (numbers_of g.Ix.IndexType.number c.args.order.now)
     (ap (map g.Ix.IndexType.number) c.as_slice.ensures.value)
     (ap (map g.Ix.IndexType.number) c.as_slice-2.ensures.value)
     c.thread.ensures.links c.thread.ensures.nodes c.thread.ensures.edges c.thread-2.ensures.links

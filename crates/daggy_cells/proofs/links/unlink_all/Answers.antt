@@ -4,5 +4,5 @@ use Rattle.daggy_cells.proofs.links.unlink_all.Goals as goal
 
 pub loop-i-preserved : goal.loop-i-preserved
 loop-i-preserved g c =
-    unlinking_step _ _ _ c.loop-i.i _ _ c.index_mut-x.result.now (omega arith) c.loop-i.invariant (omega arith)
+    unlinking_step _ c.loop-i.i c.index_mut-x.result.now (omega arith) c.loop-i.invariant (omega arith)
     c.index_mut-x.ensures.value c.end-end.ensures.value

@@ -54,14 +54,14 @@ returns-then-a-b g c =
     let x = c.index-front-a in
     let y = c.index-back-0 in
     let first : c.args.a < length front = omega (arith, c.if-a-b.true, cut.ensures.front_len) in
-    called_at g.F.FnOnce c.args.f _ _ _ _ _ _ _ _ _
+    called_at _ _ _ _
     (item_left c.args.cells.now front back cut.ensures.value c.args.a x.result c.requires.first first x.is
     ∙ ap Some x.is)
     (item_right c.args.cells.now front back cut.ensures.value c.args.b y.result c.requires.second cut.ensures.front_len
     y.is
     ∙ ap Some y.is)
     c.f.ensures
-    (left_first c.args.cells.now front back cut.ensures.value c.args.a c.args.b _ _ cut.ensures.front_len c.if-a-b.true)
+    (left_first c.args.cells.now front back cut.ensures.value c.args.a _ _ cut.ensures.front_len c.if-a-b.true)
 
 pub returns-else-a-b : goal.returns-else-a-b
 returns-else-a-b g c =
@@ -72,11 +72,11 @@ returns-else-a-b g c =
     let y = c.index-front-b in
     let order : c.args.b < c.args.a = omega (arith, c.if-a-b.false, c.requires.different) in
     let first : c.args.b < length front = omega (arith, order, cut.ensures.front_len) in
-    called_at g.F.FnOnce c.args.f _ _ _ _ _ _ _ _ _
+    called_at _ _ _ _
     (item_right c.args.cells.now front back cut.ensures.value c.args.a x.result c.requires.first cut.ensures.front_len
     x.is
     ∙ ap Some x.is)
     (item_left c.args.cells.now front back cut.ensures.value c.args.b y.result c.requires.second first y.is
     ∙ ap Some y.is)
     c.f-else-a-b.ensures
-    (right_first c.args.cells.now front back cut.ensures.value c.args.b c.args.a _ _ cut.ensures.front_len order)
+    (right_first c.args.cells.now front back cut.ensures.value c.args.b _ _ cut.ensures.front_len order)

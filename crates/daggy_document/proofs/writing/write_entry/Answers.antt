@@ -5,6 +5,6 @@ use Rattle.daggy_document.proofs.writing.write_entry.Goals as goal
 pub returns : goal.returns
 returns g c =
     IfOk-weaker c.write_triple.result _ _
-    (λ v e. entry_is g.Ix.IndexType.number _ _ c.in-Some.ends c.in-Some-edge_weight.weight.now _ _ c.in-Some.ensures
+    (λ v e. entry_is g.Ix.IndexType.number _ _ c.in-Some.ends _ c.in-Some.ensures
     c.in-Some-edge_weight.ensures (writes_as _ _ c.in-Some-edge_weight.weight _ c.in_ok-value.ensures) _ _
     c.index.ensures.value c.index-2.ensures.value e) c.write_triple.ensures

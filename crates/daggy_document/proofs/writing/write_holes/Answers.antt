@@ -20,11 +20,11 @@ nodes-preserved g c =
       within = omega (arith, c.nodes-test.true);
       written = elim c.if-not-contains_node.branch [
         | then-not-contains_node+in_ok-push w ↦
-            hole_more slots _ _ c.new.ensures.number _ _ _ c.nodes.invariant.written low
+            hole_more slots c.new.ensures.number _ _ c.nodes.invariant.written low
             (λ h. false≢true (sym w.if-not-contains_node.true ∙ c.contains_node.ensures.exists.1 h)) w.from.ensures
             (ap (λ v. v.items) w.holes-is ∙ w.in_ok-push.ensures.items)
         | else-not-contains_node w ↦
-            hole_kept slots _ _ c.new.ensures.number _ _ c.nodes.invariant.written
+            hole_kept slots c.new.ensures.number _ _ c.nodes.invariant.written
             (c.contains_node.ensures.exists.0 w.if-not-contains_node.false) (ap (λ v. v.items) w.holes-is)
       ];
     }

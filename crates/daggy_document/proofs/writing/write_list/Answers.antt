@@ -6,12 +6,12 @@ use Rattle.daggy_document.proofs.writing.write_list.Goals as goal
 pub next_edge-e-requires : goal.next_edge-e-requires
 next_edge-e-requires g c =
     let here : g.Ix.IndexType.number c.edges.e ≢ g.Ix.IndexType.greatest = λ h. c.edges-test.true cc in
-    ap is_some (listed_edge _ _ c.edge_count-well_formed.ensures.well_formed _ _ c.edges.invariant here).1
+    ap is_some (listed_edge c.edge_count-well_formed.ensures.well_formed _ _ c.edges.invariant here).1
 
 pub edges-preserved : goal.edges-preserved
 edges-preserved g c =
     let here : g.Ix.IndexType.number c.edges.e ≢ g.Ix.IndexType.greatest = λ h. c.edges-test.true cc in
-    listed_next _ _ c.edge_count-well_formed.ensures.well_formed _ _ c.edges.invariant here c.from.result _ _
+    listed_next c.edge_count-well_formed.ensures.well_formed _ _ c.edges.invariant here c.from.result
     (c.from.ensures ∙ ap whole c.index-in-edges.ensures.value) c.in_ok-push.ensures.items c.next_edge-e.ensures
 
 pub edges-smaller : goal.edges-smaller
@@ -19,9 +19,9 @@ edges-smaller g c =
     let here : g.Ix.IndexType.number c.edges.e ≢ g.Ix.IndexType.greatest = λ h. c.edges-test.true cc in
     let more : length c.push.new.self.items ≡ length c.edges.list.items + 1 =
     ap length c.in_ok-push.ensures.items ∙ length-append c.edges.list.items (c.from.result ∷ []) in
-    omega (arith, listed_more _ _ c.edge_count-well_formed.ensures.well_formed _ _ c.edges.invariant here, more)
+    omega (arith, listed_more c.edge_count-well_formed.ensures.well_formed _ _ c.edges.invariant here, more)
 
 pub returns : goal.returns
 returns g c =
     let at_end : g.Ix.IndexType.number c.edges.e ≡ g.Ix.IndexType.greatest = cc in
-    listed_whole _ _ c.edge_count-well_formed.ensures.well_formed _ _ c.edges.invariant at_end
+    listed_whole c.edge_count-well_formed.ensures.well_formed _ _ c.edges.invariant at_end

@@ -24,11 +24,11 @@ nodes-preserved g c =
             let some =
             slot_some _ (ap (λ k. is_some (slot slots k)) (sym c.new-n.ensures.number)
             ∙ c.contains_node.ensures.exists.0 w.if-contains_node.true) in
-            row_more slots _ _ c.new-n.ensures.number _ _ _ w.in_ok-write_row.field-0 c.nodes.invariant.written some.0
+            row_more slots c.new-n.ensures.number _ _ w.in_ok-write_row.field-0 c.nodes.invariant.written some.0
             some.1 w.in_ok-write_row.ensures (ap (λ v. v.items) w.rows-is ∙ w.in_ok-push.ensures.items)
             )
         | else-contains_node w ↦
-            row_kept slots _ _ c.new-n.ensures.number _ _ _ c.nodes.invariant.written
+            row_kept slots c.new-n.ensures.number _ c.nodes.invariant.written
             (λ h. false≢true (sym w.if-contains_node.false ∙ c.contains_node.ensures.exists.1 h))
             (ap (λ v. v.items) w.rows-is)
       ];

@@ -19,12 +19,12 @@ nodes-preserved g c =
       within = omega (arith, c.nodes-test.true);
       written = elim c.match-node_weight.branch [
         | in-Some+in_ok-fn_node+in_ok-push w ↦ (
-            weight_more slots _ _ c.new.ensures.number _ _ _ w.in_ok-fn_node.field-0 c.nodes.invariant.written
+            weight_more slots c.new.ensures.number _ _ w.in_ok-fn_node.field-0 c.nodes.invariant.written
             w.in-Some.weight.now w.in-Some.ensures (writes_as _ _ w.in-Some.weight _ w.in_ok-fn_node.ensures)
             (ap (λ v. v.items) w.weights-is ∙ w.in_ok-push.ensures.items)
             )
         | in_default w ↦
-            weight_kept slots _ _ c.new.ensures.number _ _ _ c.nodes.invariant.written
+            weight_kept slots c.new.ensures.number _ c.nodes.invariant.written
             (sym (ap option_copied w.in_default.is) ∙ c.node_weight.ensures) (ap (λ v. v.items) w.weights-is)
       ];
     }

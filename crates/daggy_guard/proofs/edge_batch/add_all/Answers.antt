@@ -34,7 +34,7 @@ returns-in-Err-clause-refused g c =
     let so_far : Yields g.I.Iterator.next_gives c.args.items c.items.yielded c.items.item-iterator = search rules in
     let asked =
     yields_more g.I.Iterator.next_gives c.args.items c.items.item-iterator c.next.new.self c.items.yielded
-    c.in-Some.item c.next.result so_far c.next.ensures.steps c.in-Some.is in
+    so_far c.next.ensures.steps c.in-Some.is in
     let s = c.items.invariant.adding in
     let back =
     c.roll_back.ensures.returned _ _ (series_kept s _ _ c.in-Err.ensures.unchanged

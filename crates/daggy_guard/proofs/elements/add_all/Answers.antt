@@ -25,6 +25,6 @@ returns-in-Err-clause-refused g c =
     let so_far : Yields g.I.Iterator.next_gives c.args.items c.items.yielded c.items.element-iterator = search rules in
     let asked =
     yields_more g.I.Iterator.next_gives c.args.items c.items.element-iterator c.next.new.self c.items.yielded
-    c.in-Some.element c.next.result so_far c.next.ensures.steps c.in-Some.is in
+    so_far c.next.ensures.steps c.in-Some.is in
     unmade c.items.invariant.making g.I.Iterator.next_gives c.args.items _ c.in-Some.element asked _
     c.in-Err.ensures.refused

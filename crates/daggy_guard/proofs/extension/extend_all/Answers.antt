@@ -33,7 +33,7 @@ returns-in-Err-clause-stopped g c =
     let so_far : Yields g.I.Iterator.next_gives c.args.items c.items.yielded c.items.item-iterator = search rules in
     let asked =
     yields_more g.I.Iterator.next_gives c.args.items c.items.item-iterator c.next.new.self c.items.yielded
-    c.in-Some.item c.next.result so_far c.next.ensures.steps c.in-Some.is in
+    so_far c.next.ensures.steps c.in-Some.is in
     stops c.items.invariant.extending _ c.in-Some.item _ c.into_weighted_edge-a.ensures asked
     c.in-Err.ensures.stopped
 

@@ -27,7 +27,7 @@ returns-in-Err-clause-stopped g c =
     let parent : HasNode (g.S.EdgeSource.graph c.fill.new.store) a = search rules in
     let child : HasNode (g.S.EdgeSource.graph c.fill.new.store) b = search rules in
     stopped_after g.S.NodeWeight.Default.is_default _ (g.S.EdgeSource.graph c.args.store.now)
-    (g.S.EdgeSource.graph c.fill.new.store) _ (a, b, c.args.weight) _ _ c.in-Err.is c.in-Err.ensures.unchanged
+    (a, b, c.args.weight) c.in-Err.is c.in-Err.ensures.unchanged
     indices filled (parent, child) c.add_edge.ensures.cycle c.in-Err.ensures.refusal
 
 pub returns-then-is_err-clause-as_many : goal.returns-then-is_err-clause-as_many

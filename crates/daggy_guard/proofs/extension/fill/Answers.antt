@@ -19,9 +19,9 @@ nodes-smaller g c =
 pub nodes-preserved : goal.nodes-preserved
 nodes-preserved g c = record {
   filling =
-      filling_on c.nodes.invariant.filling _ c.node_count.ensures.well_formed
-      (omega (arith, c.nodes-test.true, c.node_count.ensures.count)) _ c.default.ensures _ c.in-Ok.ensures.added.1 _
-      c.add_node.ensures.ordered _ c.add_node.ensures.fits;
+      filling_on c.nodes.invariant.filling c.node_count.ensures.well_formed
+      (omega (arith, c.nodes-test.true, c.node_count.ensures.count)) _ c.default.ensures c.in-Ok.ensures.added.1
+      c.add_node.ensures.ordered c.add_node.ensures.fits;
   counted = c.add_node.ensures.counted ∙ c.nodes.invariant.counted;
 }
 

@@ -18,7 +18,7 @@ returns-clause-acyclic g c = acyclic_from_order _ (returns-clause-ordered g c)
 
 pub returns-clause-first : goal.returns-clause-first
 returns-clause-first g c =
-    first_edge g.Ix.IndexType.number _ c.add_edge.result _ _ _ _ _ c.args.weight
+    first_edge g.Ix.IndexType.number c.add_edge.result _ _ _ _ c.args.weight
     c.node_count-well_formed.ensures.well_formed c.requires.parent c.requires.child
     c.make_way.ensures.same c.add_edge.ensures.index c.add_edge.ensures.added
 

@@ -51,7 +51,7 @@ returns-in-Ok-link-clause-ordered g c =
     c.in-Ok-link.ensures.added
     ∙ ap (λ z. with_link c.args.dir z n (g.Ix.IndexType.number c.in-Ok.new) c.args.edge) c.in-Ok.ensures.added
     ∙ ap (λ z. with_link c.args.dir (with_node old c.args.weight) n z c.args.edge) c.in-Ok.ensures.index in
-    order_of_neighbor c.node_count-well_formed.ensures.well_formed c.args.weight c.requires.ordered _ n c.args.edge
+    order_of_neighbor c.node_count-well_formed.ensures.well_formed c.args.weight c.requires.ordered n c.args.edge
     c.requires.node c.args.dir added c.in-Ok.ensures.put
 
 pub returns-in-Ok-link-clause-acyclic : goal.returns-in-Ok-link-clause-acyclic

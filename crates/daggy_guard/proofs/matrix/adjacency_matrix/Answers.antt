@@ -35,7 +35,7 @@ edges-preserved g c =
     elim c.match-edge_endpoints.branch [
       | in-Some w ↦
           let (x, at, parent, child) = edge_here graph _ c.edges.e _ c.new-in-edges.ensures.number w.in-Some.ensures in
-          rw w.matrix-is (past_edge graph c.edges.matrix c.edges.e c.edges.invariant _ x _ _ at parent child
+          rw w.matrix-is (past_edge graph c.edges.matrix c.edges.e c.edges.invariant x at parent child
           w.join.ensures.bound w.join.ensures.joined)
       | in_default w ↦
           rw w.matrix-is (past_vacant graph c.edges.matrix c.edges.e c.edges.invariant

@@ -29,6 +29,6 @@ set_orders-requires g c =
 pub returns-clause-ok : goal.returns-clause-ok
 returns-clause-ok g c =
     let numbers = map (numbers_of g.Ix.IndexType.number) in
-    tested_made _ c.in-Ok.dag.graph c.set_orders.new.self.graph _ c.in-Some.rows.items c.as_slice.result.now numbers
+    tested_made numbers
     (ap (option_map (λ v. numbers v.items)) c.in-Some.is) c.in-Ok.ensures.made c.as_slice.ensures.value
     (ap (λ (z : State _ _). z.graph) c.set_orders.ensures.ordered) c.in-Ok.ensures.acyclic

@@ -11,9 +11,9 @@ returns g c =
     (c.stable_from_json.ensures.restored c.args.dag.now.graph c.node_count-dag.ensures.dag
     (document_again _ _ _ _
     (λ w d wr o rd.
-    read_again w _ d wr.0 rd.0 _ o (search (rules, wr.1.says.met)) wr.1.shows wr.2 (search (rules, rd.1.says.met))
+    read_again wr.0 (search (rules, wr.1.says.met)) wr.1.shows wr.2 (search (rules, rd.1.says.met))
     rd.1.shows rd.2)
     (λ w d wr o rd.
-    read_again w _ d wr.0 rd.0 _ o (search (rules, wr.1.says.met)) wr.1.shows wr.2 (search (rules, rd.1.says.met))
+    read_again wr.0 (search (rules, wr.1.says.met)) wr.1.shows wr.2 (search (rules, rd.1.says.met))
     rd.1.shows rd.2)
     c.args.dag.now.graph _ doc))

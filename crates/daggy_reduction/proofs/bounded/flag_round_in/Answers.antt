@@ -23,5 +23,5 @@ returns-clause-flagged g c =
     let F : Graph g.row.S-NodeWeight.Denot g.row.S-EdgeWeight.Denot → Type 0 = λ z.
     FlagsMarked g.Ix.IndexType.greatest z n marks (flags c.args.flags.now) (flags c.flag_marked.new.flags) in
     let flagged = subst F c.meet_round.ensures.same c.flag_marked.ensures.flagged in
-    flags_met g.Ix.IndexType.greatest graph c.requires.well_formed n (length c.args.met.now) marks met
+    flags_met c.requires.well_formed n (length c.args.met.now) marks met
     (flags c.args.flags.now) (flags c.flag_marked.new.flags) flagged

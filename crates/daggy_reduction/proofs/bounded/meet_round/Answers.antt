@@ -19,7 +19,7 @@ pub children-init : goal.children-init
 children-init g c =
     let graph = g.S.EdgeSource.graph c.args.source.now in
     begins_here g.Ix.IndexType.greatest graph c.args.order.now (g.Ix.IndexType.number c.args.u) c.args.entered.now
-    c.args.queue.now (g.Ix.IndexType.number c.first-e.result) (g.S.EdgeSource.looks c.args.source.now)
+    c.args.queue.now (g.S.EdgeSource.looks c.args.source.now)
     c.requires.cleared c.requires.entered_fit c.requires.queue_fits c.first-e.ensures
 
 pub look-v-requires : goal.look-v-requires
@@ -200,7 +200,7 @@ steps-smaller-then-index-end g c = omega (arith, head_low c.requires.well_formed
 pub steps-preserved-then-index-end : goal.steps-preserved-then-index-end
 steps-preserved-then-index-end g c =
     let at_end : g.Ix.IndexType.number c.steps.e ≡ g.Ix.IndexType.greatest = cc in
-    next_here c.requires.well_formed c.steps.invariant at_end (c.steps.head + 1) c.index-queue-head.result _ refl
+    next_here c.requires.well_formed c.steps.invariant at_end (c.steps.head + 1) c.index-queue-head.result refl
     c.if-head-len.false c.index-queue-head.is
     (c.first-e-then-index-end.ensures
     ∙ ap (λ n. first_of g.Ix.IndexType.greatest (out_list (g.S.EdgeSource.graph c.steps.source) n))

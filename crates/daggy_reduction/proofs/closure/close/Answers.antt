@@ -8,8 +8,8 @@ use Rattle.daggy_reduction.proofs.closure.close.Goals as goal
 pub steps-init : goal.steps-init
 steps-init g c =
     let graph = g.S.EdgeSource.graph c.args.source.now in
-    starts_here g.Ix.IndexType.greatest _ c.requires.queued c.requires.some c.requires.within c.requires.entered_fit
-    c.requires.met_fit c.requires.queue_fits c.index-queue-0.result c.index-queue-0.is refl
+    starts_here g.Ix.IndexType.greatest c.requires.queued c.requires.some c.requires.within c.requires.entered_fit
+    c.requires.met_fit c.requires.queue_fits c.index-queue-0.is refl
     (c.first-e.ensures ∙ ap (λ n. first_of g.Ix.IndexType.greatest (out_list graph n)) c.node.ensures.value)
 
 pub overflow_add-head : goal.overflow_add-head
@@ -49,7 +49,7 @@ steps-smaller-then-index-end g c = omega (arith, head_low c.requires.well_formed
 pub steps-preserved-then-index-end : goal.steps-preserved-then-index-end
 steps-preserved-then-index-end g c =
     let at_end : g.Ix.IndexType.number c.steps.e ≡ g.Ix.IndexType.greatest = cc in
-    next_here c.requires.well_formed c.steps.invariant at_end (c.steps.head + 1) c.index-queue-head.result _ refl
+    next_here c.requires.well_formed c.steps.invariant at_end (c.steps.head + 1) c.index-queue-head.result refl
     c.if-head-len.false c.index-queue-head.is
     (c.first-e-then-index-end.ensures
     ∙ ap (λ n. first_of g.Ix.IndexType.greatest (out_list (g.S.EdgeSource.graph c.steps.source) n))

@@ -79,7 +79,7 @@ returns-clause-flagged g c =
     let F : Graph g.row.S-NodeWeight.Denot g.row.S-EdgeWeight.Denot → Type 0 = λ z.
     FlagsMarked g.Ix.IndexType.greatest z n c.close.new.met (flags c.args.flags.now) (flags c.flag_marked.new.flags) in
     let flagged = subst F c.close.ensures.same c.flag_marked.ensures.flagged in
-    flags_round g.Ix.IndexType.greatest graph c.requires.well_formed c.requires.acyclic n closure closed
+    flags_round c.requires.well_formed c.requires.acyclic closed
     (length c.args.met.now) c.close.new.met met (flags c.args.flags.now) (flags c.flag_marked.new.flags) flagged
 
 pub returns-clause-entered_kept : goal.returns-clause-entered_kept

@@ -6,16 +6,16 @@ use Rattle.daggy_run.proofs.plan.plan.Goals as goal
 
 pub chain_back-requires-clause-full : goal.chain_back-requires-clause-full
 chain_back-requires-clause-full g c = λ k last.
-    last_some g.Ix.IndexType.greatest (g.D.GuardedDag.graph c.args.dag.now) c.levels_of.ensures.dag.well_formed _ _ _
-    c.in_ok-found.ensures.found c.as_slice.ensures.value _ _
+    last_some g.Ix.IndexType.greatest (g.D.GuardedDag.graph c.args.dag.now) c.levels_of.ensures.dag.well_formed
+    c.in_ok-found.ensures.found c.as_slice.ensures.value
     (ap (stages_of g.Ix.IndexType.number) c.as_slice-2.ensures.value) c.in_ok-stages.ensures k
     (omega (arith, last, stages_long g.Ix.IndexType.number c.as_slice-2.result.now))
 
 pub chain_back-requires-clause-first : goal.chain_back-requires-clause-first
 chain_back-requires-clause-first g c = λ k last.
     let low =
-    last_within g.Ix.IndexType.greatest (g.D.GuardedDag.graph c.args.dag.now) c.levels_of.ensures.dag.well_formed _ _ _
-    c.in_ok-found.ensures.found c.as_slice.ensures.value _ _
+    last_within g.Ix.IndexType.greatest (g.D.GuardedDag.graph c.args.dag.now) c.levels_of.ensures.dag.well_formed
+    c.in_ok-found.ensures.found c.as_slice.ensures.value
     (ap (stages_of g.Ix.IndexType.number) c.as_slice-2.ensures.value) c.in_ok-stages.ensures k
     (omega (arith, last, stages_long g.Ix.IndexType.number c.as_slice-2.result.now)) in
     omega (arith, low, c.as_slice-3.ensures.len, c.in_ok-found.ensures.parents)
@@ -23,35 +23,35 @@ chain_back-requires-clause-first g c = λ k last.
 pub returns-clause-plan : goal.returns-clause-plan
 returns-clause-plan g c =
     let p =
-    planned g.Ix.IndexType.greatest (g.D.GuardedDag.graph c.args.dag.now) c.levels_of.ensures.dag.well_formed _ _ _
-    c.in_ok-found.ensures.found c.as_slice.ensures.value _ _
-    (ap (stages_of g.Ix.IndexType.number) c.as_slice-2.ensures.value) c.in_ok-stages.ensures _ _
+    planned g.Ix.IndexType.greatest (g.D.GuardedDag.graph c.args.dag.now) c.levels_of.ensures.dag.well_formed
+    c.in_ok-found.ensures.found c.as_slice.ensures.value
+    (ap (stages_of g.Ix.IndexType.number) c.as_slice-2.ensures.value) c.in_ok-stages.ensures
     c.as_slice-3.ensures.value c.in_ok-chain.ensures in
     p.plan
 
 pub returns-clause-by_levels : goal.returns-clause-by_levels
 returns-clause-by_levels g c =
     let p =
-    planned g.Ix.IndexType.greatest (g.D.GuardedDag.graph c.args.dag.now) c.levels_of.ensures.dag.well_formed _ _ _
-    c.in_ok-found.ensures.found c.as_slice.ensures.value _ _
-    (ap (stages_of g.Ix.IndexType.number) c.as_slice-2.ensures.value) c.in_ok-stages.ensures _ _
+    planned g.Ix.IndexType.greatest (g.D.GuardedDag.graph c.args.dag.now) c.levels_of.ensures.dag.well_formed
+    c.in_ok-found.ensures.found c.as_slice.ensures.value
+    (ap (stages_of g.Ix.IndexType.number) c.as_slice-2.ensures.value) c.in_ok-stages.ensures
     c.as_slice-3.ensures.value c.in_ok-chain.ensures in
     p.levels
 
 pub returns-clause-chain : goal.returns-clause-chain
 returns-clause-chain g c =
     let p =
-    planned g.Ix.IndexType.greatest (g.D.GuardedDag.graph c.args.dag.now) c.levels_of.ensures.dag.well_formed _ _ _
-    c.in_ok-found.ensures.found c.as_slice.ensures.value _ _
-    (ap (stages_of g.Ix.IndexType.number) c.as_slice-2.ensures.value) c.in_ok-stages.ensures _ _
+    planned g.Ix.IndexType.greatest (g.D.GuardedDag.graph c.args.dag.now) c.levels_of.ensures.dag.well_formed
+    c.in_ok-found.ensures.found c.as_slice.ensures.value
+    (ap (stages_of g.Ix.IndexType.number) c.as_slice-2.ensures.value) c.in_ok-stages.ensures
     c.as_slice-3.ensures.value c.in_ok-chain.ensures in
     p.path
 
 pub returns-clause-shortest : goal.returns-clause-shortest
 returns-clause-shortest g c =
     let p =
-    planned g.Ix.IndexType.greatest (g.D.GuardedDag.graph c.args.dag.now) c.levels_of.ensures.dag.well_formed _ _ _
-    c.in_ok-found.ensures.found c.as_slice.ensures.value _ _
-    (ap (stages_of g.Ix.IndexType.number) c.as_slice-2.ensures.value) c.in_ok-stages.ensures _ _
+    planned g.Ix.IndexType.greatest (g.D.GuardedDag.graph c.args.dag.now) c.levels_of.ensures.dag.well_formed
+    c.in_ok-found.ensures.found c.as_slice.ensures.value
+    (ap (stages_of g.Ix.IndexType.number) c.as_slice-2.ensures.value) c.in_ok-stages.ensures
     c.as_slice-3.ensures.value c.in_ok-chain.ensures in
     p.shortest

@@ -7,6 +7,6 @@ nodes-preserved g c =
     record {
       within = omega (arith, c.nodes-test.true);
       there =
-          nodes_more g.Ix.IndexType.number c.nodes.nodes.items c.push.new.self.items c.nodes.n c.new.result
+          nodes_more g.Ix.IndexType.number c.nodes.nodes.items c.new.result
           c.in_ok-push.ensures.items c.new.ensures.number c.nodes.invariant.there;
     }

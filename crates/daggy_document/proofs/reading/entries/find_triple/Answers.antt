@@ -7,5 +7,5 @@ returns-then-len-ne3 c = no_triple _ _ c.in_ok-parts.ensures (λ h. c.if-len-ne3
 
 pub returns : goal.returns
 returns c =
-    triple_found _ _ c.in_ok-parts.ensures c.index.result.now _ _ (search rules) c.index.ensures c.index-2.ensures
+    triple_found _ _ c.in_ok-parts.ensures c.index.result.now (search rules) c.index.ensures c.index-2.ensures
     c.index-3.ensures (Some _) (Some _) c.in_ok-parent.ensures c.in_ok-child.ensures

@@ -38,7 +38,7 @@ returns-in_err-edges-clause-err g c =
       | inr h ↦
           inr (entry_fault g.Ix.IndexType.greatest c.args.stable (ReadsAs g.F.Fn c.args.fn_node.now)
           (ReadsAs g.G.Fn c.args.fn_edge.now) (view c.args.value.now) _ c.in_ok-parts.ensures.ok n.0 n.1.0 n.1.1
-          _ n.1.2 _ h)
+          n.1.2 _ h)
     ]
 
 pub read_orders-requires-clause-ends : goal.read_orders-requires-clause-ends
@@ -62,7 +62,7 @@ returns-clause-ok g c =
     let n = c.in_ok-nodes.ensures.ok in
     λ r t.
     is_read g.Ix.IndexType.greatest c.args.stable (ReadsAs g.F.Fn c.args.fn_node.now)
-    (ReadsAs g.G.Fn c.args.fn_edge.now) (view c.args.value.now) _ c.in_ok-parts.ensures.ok n.0 n.1.0 n.1.1 _ n.1.2 _
+    (ReadsAs g.G.Fn c.args.fn_edge.now) (view c.args.value.now) _ c.in_ok-parts.ensures.ok n.0 n.1.0 n.1.1 n.1.2 _
     c.in_ok-edges.ensures.ok _ c.in_ok-orders.ensures.ok r t
 
 pub returns-in_err-orders-clause-err : goal.returns-in_err-orders-clause-err
@@ -74,7 +74,7 @@ returns-in_err-orders-clause-err g c =
       | inl h ↦ inl h
       | inr h ↦
           inr (orders_fault g.Ix.IndexType.greatest c.args.stable (ReadsAs g.F.Fn c.args.fn_node.now)
-          (ReadsAs g.G.Fn c.args.fn_edge.now) (view c.args.value.now) _ c.in_ok-parts.ensures.ok n.0 n.1.0 n.1.1 _ n.1.2
+          (ReadsAs g.G.Fn c.args.fn_edge.now) (view c.args.value.now) _ c.in_ok-parts.ensures.ok n.0 n.1.0 n.1.1 n.1.2
           _ c.in_ok-edges.ensures.ok _ h)
     ]
 

@@ -49,12 +49,11 @@ loop-n-preserved g c =
     ∙ length-map rows (numbers_of g.Ix.IndexType.number) in
     elim c.if-is_some.branch [
       | then-is_some+else-passed-len+else-not-mark_list w ↦
-          lists_passed c.loop-n.invariant (search rules) c.index.result.now c.index.ensures
+          lists_passed c.loop-n.invariant (search rules) c.index.ensures
           (sym c.is_some.ensures ∙ w.if-is_some.true) (omega (arith, long, w.if-passed-len.false, w.len.ensures))
-          (map g.Ix.IndexType.number w.list_of.result.now.items)
           (read_twice (numbers_of g.Ix.IndexType.number) (chosen c.args.dir) rows c.loop-n.passed
           w.index-else-passed-len.result.now _ w.index-else-passed-len.ensures w.list_of.ensures)
-          (w.mark_list.ensures.decided.0 w.if-not-mark_list.false) _ _ w.passed-is
+          (w.mark_list.ensures.decided.0 w.if-not-mark_list.false) w.passed-is
           (w.marks-is ∙ w.mark_list.ensures.marked w.if-not-mark_list.false)
       | else-is_some w ↦
           lists_skipped c.loop-n.invariant (search rules) c.index.result.now c.index.ensures

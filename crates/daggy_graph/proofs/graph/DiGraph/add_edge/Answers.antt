@@ -44,4 +44,4 @@ returns-clause-added g c =
     state_changed _ _ _ _
     (λ h. with_edge h (g.Ix.IndexType.number c.args.a) (g.Ix.IndexType.number c.args.b) c.args.weight) c.self.view_is
     (stored_is _ _ _ _ c.put_edge-e.ensures.stored
-    ∙ added_same _ _ _ _ _ _ _ c.args.weight c.reserve.ensures.items c.of_node.ensures c.of_node-2.ensures)
+    ∙ added_same _ c.args.weight c.reserve.ensures.items c.of_node.ensures c.of_node-2.ensures)

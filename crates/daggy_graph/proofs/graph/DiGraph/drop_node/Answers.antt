@@ -44,7 +44,7 @@ invariant_of-self g c =
       | Outgoing ↦ ap (λ s. nth_list s.graph.out_lists n) c.self.view_is ∙ c.requires.no_edges Outgoing
       | Incoming ↦ ap (λ s. nth_list s.graph.in_lists n) c.self.view_is ∙ c.requires.no_edges Incoming
     ] in
-    let stored = Stores-dropped _ nodes edges _ c.self.invariant n last left within long empty in
+    let stored = Stores-dropped nodes edges c.self.invariant n last left within long empty in
     rw (nodes_is, edges_is) (Stores-itself _ _ _ _ stored)
 
 pub returns-clause-value : goal.returns-clause-value
@@ -78,7 +78,7 @@ returns-clause-dropped g c =
       | Outgoing ↦ ap (λ s. nth_list s.graph.out_lists n) c.self.view_is ∙ c.requires.no_edges Outgoing
       | Incoming ↦ ap (λ s. nth_list s.graph.in_lists n) c.self.view_is ∙ c.requires.no_edges Incoming
     ] in
-    let stored = Stores-dropped _ nodes edges _ c.self.invariant n last left within long empty in
+    let stored = Stores-dropped nodes edges c.self.invariant n last left within long empty in
     state_changed _ (stored_graph nodes edges) _ _ (λ h. with_node_dropped Compact h n) c.self.view_is
     (ap (λ l. stored_graph l c.reown_last.new.edges.items) nodes_is
     ∙ ap (stored_graph (swap_remove nodes n left)) edges_is ∙ stored_is _ _ _ _ stored)

@@ -18,7 +18,7 @@ pub invariant_of-self-lent : goal.invariant_of-self-lent
 invariant_of-self-lent g c w =
     let within = slot_within (plain) c.self.inside.edges.items _ (rw (← c.self.view_is) at c.requires) in
     let inside : c.index.result < length c.self.inside.edges.items = omega (arith, within, c.index.ensures.value) in
-    Stores-itself _ _ _ _ (Stores-edge_weight _ _ _ _ c.self.invariant _ w _ inside c.index_mut-x.ensures.value)
+    Stores-itself _ _ _ _ (Stores-edge_weight c.self.invariant _ w inside c.index_mut-x.ensures.value)
 
 pub returns : goal.returns
 returns g c =
@@ -33,7 +33,7 @@ returns g c =
         λ w.
             state_changed _ (stored_graph c.self.inside.nodes.items c.self.inside.edges.items) _ _
             (λ h. with_edge_weight h n w) c.self.view_is
-            (stored_is _ _ _ _ (Stores-edge_weight _ _ _ _ c.self.invariant _ w _ inside c.index_mut-x.ensures.value)
+            (stored_is _ _ _ _ (Stores-edge_weight c.self.invariant _ w inside c.index_mut-x.ensures.value)
             ∙ ap (λ i. with_edge_weight (stored_graph c.self.inside.nodes.items c.self.inside.edges.items) i w)
             c.index.ensures.value),
       ),

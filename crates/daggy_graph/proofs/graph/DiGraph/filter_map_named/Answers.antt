@@ -22,7 +22,7 @@ returns-clause-filtered g c =
     c.self.view_is (record { names = names; middle = middle; nodes = nodes_are; edges = edges_are }, refl)
 
 pub returns-clause-descending : goal.returns-clause-descending
-returns-clause-descending g c = ListsDescend-filtered _ _ _ _ _ _ _ (returns-clause-filtered g c).0
+returns-clause-descending g c = ListsDescend-filtered (returns-clause-filtered g c).0
 
 pub returns-clause-whole : goal.returns-clause-whole
-returns-clause-whole g c = HaveSameEnds-filtered _ _ _ _ _ _ _ (returns-clause-filtered g c).0
+returns-clause-whole g c = HaveSameEnds-filtered (returns-clause-filtered g c).0

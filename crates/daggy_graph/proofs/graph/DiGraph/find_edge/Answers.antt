@@ -68,7 +68,7 @@ along-smaller g c =
     let goes =
     slice_get_mapped (raw_next Outgoing) c.self.inside.edges.items c.along.e c.index-x.result.now inside reads
     ∙ ap Some (sym c.next-e.ensures) in
-    IsScan-shorter _ _ _ _ _ _ c.along.invariant within limit goes
+    IsScan-shorter c.along.invariant within limit goes
 
 pub along-preserved : goal.along-preserved
 along-preserved g c =
@@ -89,4 +89,4 @@ along-preserved g c =
     ∙ ap Some (sym c.next-e.ensures) in
     let other : eqb c.index-x.result.now.child c.index-v.result ≡ false =
     ne_eqb _ _ (λ q. c.if-index-v.false (c.index-in-along.ensures.value ∙ c.end.ensures ∙ q)) in
-    IsScan-step _ _ _ _ _ _ c.along.invariant within limit (leads ∙ other) goes
+    IsScan-step c.along.invariant within limit (leads ∙ other) goes

@@ -4,11 +4,11 @@ use Rattle.daggy_graph.proofs.graph.DiGraph.node_weight.Goals as goal
 pub returns-in-Some : goal.returns-in-Some
 returns-in-Some g c =
     let lookup = c.in-Some.ensures.lookup in
-    node_got _ _ _ c.args.self.now c.self.view_is _ _ c.index.ensures.value _ _ c.deref.ensures.value
+    node_got _ _ _ c.args.self.now c.self.view_is c.index.ensures.value c.deref.ensures.value
     (got _ _ _ lookup.3.0 lookup.1)
 
 pub returns-in-None : goal.returns-in-None
 returns-in-None g c =
     let lookup = c.in-None.ensures.lookup in
-    node_got _ _ _ c.args.self.now c.self.view_is _ _ c.index.ensures.value _ _ c.deref.ensures.value
+    node_got _ _ _ c.args.self.now c.self.view_is c.index.ensures.value c.deref.ensures.value
     (got_none _ _ lookup.3)

@@ -54,7 +54,7 @@ pub returns-then-i-len-clause-value : goal.returns-then-i-len-clause-value
 returns-then-i-len-clause-value g c =
     let past : length c.self.inside.edges.items ≤ c.index-i.result = omega (arith, c.if-i-len.true, c.len.ensures) in
     ap (option_map (λ x. x.weight))
-    (edge_got _ _ _ c.args.self.now c.self.view_is _ _ c.index-i.ensures.value _ _ refl (got_none _ _ past))
+    (edge_got _ _ _ c.args.self.now c.self.view_is c.index-i.ensures.value refl (got_none _ _ past))
 
 pub detach-requires-clause-stored : goal.detach-requires-clause-stored
 detach-requires-clause-stored g c = c.self.invariant

@@ -12,8 +12,8 @@ use Rattle.daggy_graph.proofs.graph.DiGraph.update_node_and_edge.Goals as goal
 pub invariant_of-self : goal.invariant_of-self
 invariant_of-self g c =
     let inside = slot_within plain c.self.inside.edges.items _ (rw (← c.self.view_is) at c.requires.edge) in
-    Stores-itself _ _ _ _ (both_updated _ _ _ _ c.self.invariant _ _ _ _ c.index.ensures.value c.index-2.ensures.value _
-    _ _ _ inside c.index_mut-x.ensures.value c.index_mut-y.ensures.value)
+    Stores-itself _ _ _ _ (both_updated c.self.invariant c.index.ensures.value c.index-2.ensures.value
+    _ _ inside c.index_mut-x.ensures.value c.index_mut-y.ensures.value)
 
 pub returns : goal.returns
 returns g c =
@@ -23,7 +23,7 @@ returns g c =
     let edges = c.self.inside.edges.items in
     let n_in = slot_within (λ x. x.weight) nodes n (rw (← c.self.view_is) at c.requires.node) in
     let e_in = slot_within plain edges e (rw (← c.self.view_is) at c.requires.edge) in
-    called_at g.F.FnOnce c.args.f _ _ _ _ _ _ _ _ _
+    called_at _ _ _ _
     (node_read nodes edges _ c.args.self.now c.self.view_is n c.index.result c.index.ensures.value
     c.index_mut-x.result.now n_in c.index_mut-x.ensures.value)
     (edge_read nodes edges _ c.args.self.now c.self.view_is e c.index-2.result c.index-2.ensures.value
@@ -31,7 +31,7 @@ returns g c =
     c.f.ensures
     (state_changed _ (stored_graph nodes edges) _ _
     (λ h. with_edge_weight (with_node_weight h n c.f.new.arg2) e c.f.new.arg3) c.self.view_is
-    (stored_is _ _ _ _ (both_updated _ _ _ _ c.self.invariant _ _ _ _ c.index.ensures.value c.index-2.ensures.value _ _
+    (stored_is _ _ _ _ (both_updated c.self.invariant c.index.ensures.value c.index-2.ensures.value
     _ _ e_in c.index_mut-x.ensures.value c.index_mut-y.ensures.value)))
 
 pub index_mut-x-requires : goal.index_mut-x-requires

@@ -37,12 +37,12 @@ pub invariant_of-self : goal.invariant_of-self
 invariant_of-self g c =
     let sent = c.at_two.ensures in
     let r =
-    called_through (λ z. Some z.weight) node_of_weight g.F.FnOnce c.args.f _ _ _ _
-    (λ same. c.requires.different (sym c.index.ensures.value ∙ same ∙ c.index-2.ensures.value)) _ sent.first.now
-    sent.second.now sent.first_left.now sent.second_left.now _ _ sent.shows.0 sent.shows.1 sent.leaves
+    called_through (λ z. Some z.weight) node_of_weight g.F.FnOnce c.args.f _
+    (λ same. c.requires.different (sym c.index.ensures.value ∙ same ∙ c.index-2.ensures.value))
+    sent.shows.0 sent.shows.1 sent.leaves
     (ap (option_map (λ z. z.weight)) sent.shows.0) (ap (option_map (λ z. z.weight)) sent.shows.1) sent.called in
-    Stores-itself _ _ _ _ (nodes_updated _ _ _ _ c.self.invariant _ _ _ _ _ c.index.ensures.value
-    c.index-2.ensures.value _ _ r.first_left.now r.second_left.now
+    Stores-itself _ _ _ _ (nodes_updated c.self.invariant c.index.ensures.value
+    c.index-2.ensures.value r.first_left.now r.second_left.now
     (slot_within (λ x. x.weight) c.self.inside.nodes.items _ (rw (← c.self.view_is) at c.requires.first))
     (slot_within (λ x. x.weight) c.self.inside.nodes.items _ (rw (← c.self.view_is) at c.requires.second))
     c.self.inside.nodes.ok.0 c.as_mut_slice.ensures.value r.leaves)
@@ -51,15 +51,15 @@ pub returns : goal.returns
 returns g c =
     let sent = c.at_two.ensures in
     let r =
-    called_through (λ z. Some z.weight) node_of_weight g.F.FnOnce c.args.f _ _ _ _
-    (λ same. c.requires.different (sym c.index.ensures.value ∙ same ∙ c.index-2.ensures.value)) _ sent.first.now
-    sent.second.now sent.first_left.now sent.second_left.now _ _ sent.shows.0 sent.shows.1 sent.leaves
+    called_through (λ z. Some z.weight) node_of_weight g.F.FnOnce c.args.f _
+    (λ same. c.requires.different (sym c.index.ensures.value ∙ same ∙ c.index-2.ensures.value))
+    sent.shows.0 sent.shows.1 sent.leaves
     (ap (option_map (λ z. z.weight)) sent.shows.0) (ap (option_map (λ z. z.weight)) sent.shows.1) sent.called in
     let a = g.Ix.IndexType.number c.args.a in
     let b = g.Ix.IndexType.number c.args.b in
     let nodes = c.self.inside.nodes.items in
     let edges = c.self.inside.edges.items in
-    called_at g.F.FnOnce c.args.f _ _ _ _ _ r.first r.second r.first_left r.second_left
+    called_at r.first r.second r.first_left r.second_left
     (node_shown nodes edges _ c.args.self.now c.self.view_is a c.index.result c.index.ensures.value _ _
     c.as_mut_slice.ensures.value r.shows.0)
     (node_shown nodes edges _ c.args.self.now c.self.view_is b c.index-2.result c.index-2.ensures.value _ _
@@ -67,8 +67,8 @@ returns g c =
     r.called
     (state_changed _ (stored_graph nodes edges) _ _
     (λ h. with_node_weight (with_node_weight h a r.first_left.now) b r.second_left.now) c.self.view_is
-    (stored_is _ _ _ _ (nodes_updated _ _ _ _ c.self.invariant _ _ _ _ _ c.index.ensures.value c.index-2.ensures.value _
-    _ r.first_left.now r.second_left.now
+    (stored_is _ _ _ _ (nodes_updated c.self.invariant c.index.ensures.value c.index-2.ensures.value
+    r.first_left.now r.second_left.now
     (slot_within (λ x. x.weight) c.self.inside.nodes.items _ (rw (← c.self.view_is) at c.requires.first))
     (slot_within (λ x. x.weight) c.self.inside.nodes.items _ (rw (← c.self.view_is) at c.requires.second))
     c.self.inside.nodes.ok.0 c.as_mut_slice.ensures.value r.leaves)))

@@ -8,7 +8,7 @@ pub redirect-requires : goal.redirect-requires
 redirect-requires g c =
     let last = c.len-last.result - 1 in
     let long : length c.args.edges.now.items ≡ suc last = omega (arith, c.len-last.ensures, c.requires.edge) in
-    ready_1 _ c.args.nodes.now.items c.args.edges.now.items _ c.requires.stored c.args.e last c.requires.edge long
+    ready_1 c.args.nodes.now.items c.args.edges.now.items c.requires.stored c.args.e last c.requires.edge long
 
 pub redirect-requires-2 : goal.redirect-requires-2
 redirect-requires-2 g c =
@@ -24,8 +24,8 @@ redirect-requires-2 g c =
       keeps = c.redirect.ensures.nodes;
       keeps_edges = c.redirect.ensures.edges;
     } in
-    ready_2 _ c.args.nodes.now.items c.args.edges.now.items _ c.requires.stored c.args.e last c.requires.edge long _
-    out_is _ _ s1
+    ready_2 c.args.nodes.now.items c.args.edges.now.items c.requires.stored c.args.e last c.requires.edge long
+    out_is s1
 
 pub redirect-requires-then-i-last : goal.redirect-requires-then-i-last
 redirect-requires-then-i-last g c =
@@ -53,8 +53,8 @@ redirect-requires-then-i-last g c =
       keeps = c.redirect-2.ensures.nodes;
       keeps_edges = c.redirect-2.ensures.edges;
     } in
-    ready_3 _ c.args.nodes.now.items c.args.edges.now.items _ c.requires.stored c.args.e last c.requires.edge long _
-    out_is _ _ s1 _ in_is _ _ s2 differs
+    ready_3 c.args.nodes.now.items c.args.edges.now.items c.requires.stored c.args.e last c.requires.edge long
+    out_is s1 in_is s2 differs
 
 pub redirect-requires-then-i-last-2 : goal.redirect-requires-then-i-last-2
 redirect-requires-then-i-last-2 g c =
@@ -89,8 +89,8 @@ redirect-requires-then-i-last-2 g c =
       keeps = c.redirect-then-i-last.ensures.nodes;
       keeps_edges = c.redirect-then-i-last.ensures.edges;
     } in
-    ready_4 _ c.args.nodes.now.items c.args.edges.now.items _ c.requires.stored c.args.e last c.requires.edge long _
-    out_is _ _ s1 _ in_is _ _ s2 _ _ s3 differs
+    ready_4 c.args.nodes.now.items c.args.edges.now.items c.requires.stored c.args.e last c.requires.edge long
+    out_is s1 in_is s2 s3 differs
 
 pub returns-then-i-last-clause-detached : goal.returns-then-i-last-clause-detached
 returns-then-i-last-clause-detached g c =
@@ -132,8 +132,8 @@ returns-then-i-last-clause-detached g c =
       keeps = c.redirect-then-i-last-2.ensures.nodes;
       keeps_edges = c.redirect-then-i-last-2.ensures.edges;
     } in
-    detached_other _ c.args.nodes.now.items c.args.edges.now.items _ c.requires.stored c.args.e last c.requires.edge
-    long _ out_is _ _ s1 _ in_is _ _ s2 _ _ s3 _ _ s4 differs
+    detached_other c.args.nodes.now.items c.args.edges.now.items c.requires.stored c.args.e last c.requires.edge
+    long out_is s1 in_is s2 s3 s4 differs
 
 pub returns-else-i-last-clause-detached : goal.returns-else-i-last-clause-detached
 returns-else-i-last-clause-detached g c =
@@ -159,5 +159,5 @@ returns-else-i-last-clause-detached g c =
       keeps = c.redirect-2.ensures.nodes;
       keeps_edges = c.redirect-2.ensures.edges;
     } in
-    detached_last _ c.args.nodes.now.items c.args.edges.now.items _ c.requires.stored c.args.e last c.requires.edge long
-    _ out_is _ _ s1 _ in_is _ _ s2 (sym c.index-i.ensures.value ∙ c.if-i-last.false)
+    detached_last c.args.nodes.now.items c.args.edges.now.items c.requires.stored c.args.e last c.requires.edge long
+    out_is s1 in_is s2 (sym c.index-i.ensures.value ∙ c.if-i-last.false)

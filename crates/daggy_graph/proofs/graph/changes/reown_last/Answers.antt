@@ -8,36 +8,36 @@ pub reown-requires-clause-linked : goal.reown-requires-clause-linked
 reown-requires-clause-linked g c =
     let inside : c.len-last.result - 1 < length c.args.nodes.now.items =
     omega (arith, c.len-last.ensures, c.requires.node) in
-    (reown_ready _ c.args.nodes.now.items c.args.edges.now.items _ c.requires.stored Outgoing c.args.edges.now.items
-    refl refl c.new-from.result (c.len-last.result - 1) _ c.index.result.now inside (sym c.new-from.ensures)
+    (reown_ready c.requires.stored Outgoing c.args.edges.now.items
+    refl refl inside (sym c.new-from.ensures)
     c.index.ensures c.first-out.ensures).0
 
 pub reown-requires-clause-exact : goal.reown-requires-clause-exact
 reown-requires-clause-exact g c =
     let inside : c.len-last.result - 1 < length c.args.nodes.now.items =
     omega (arith, c.len-last.ensures, c.requires.node) in
-    (reown_ready _ c.args.nodes.now.items c.args.edges.now.items _ c.requires.stored Outgoing c.args.edges.now.items
-    refl refl c.new-from.result (c.len-last.result - 1) _ c.index.result.now inside (sym c.new-from.ensures)
+    (reown_ready c.requires.stored Outgoing c.args.edges.now.items
+    refl refl inside (sym c.new-from.ensures)
     c.index.ensures c.first-out.ensures).1
 
 pub reown-requires-then-i-last-clause-linked : goal.reown-requires-then-i-last-clause-linked
 reown-requires-then-i-last-clause-linked g c =
     let inside : c.len-last.result - 1 < length c.args.nodes.now.items =
     omega (arith, c.len-last.ensures, c.requires.node) in
-    (reown_ready _ c.args.nodes.now.items c.args.edges.now.items _ c.requires.stored Incoming c.reown.new.edges.items
+    (reown_ready c.requires.stored Incoming c.reown.new.edges.items
     (ap (nexts_of Incoming) c.reown.ensures ∙ nexts_kept_out c.new-from.result c.args.n c.args.edges.now.items)
     (ap (ends_of Incoming) c.reown.ensures ∙ ends_kept_out c.new-from.result c.args.n c.args.edges.now.items)
-    c.new-from.result (c.len-last.result - 1) _ c.index-then-i-last.result.now inside (sym c.new-from.ensures)
+    inside (sym c.new-from.ensures)
     c.index-then-i-last.ensures c.first-into.ensures).0
 
 pub reown-requires-then-i-last-clause-exact : goal.reown-requires-then-i-last-clause-exact
 reown-requires-then-i-last-clause-exact g c =
     let inside : c.len-last.result - 1 < length c.args.nodes.now.items =
     omega (arith, c.len-last.ensures, c.requires.node) in
-    (reown_ready _ c.args.nodes.now.items c.args.edges.now.items _ c.requires.stored Incoming c.reown.new.edges.items
+    (reown_ready c.requires.stored Incoming c.reown.new.edges.items
     (ap (nexts_of Incoming) c.reown.ensures ∙ nexts_kept_out c.new-from.result c.args.n c.args.edges.now.items)
     (ap (ends_of Incoming) c.reown.ensures ∙ ends_kept_out c.new-from.result c.args.n c.args.edges.now.items)
-    c.new-from.result (c.len-last.result - 1) _ c.index-then-i-last.result.now inside (sym c.new-from.ensures)
+    inside (sym c.new-from.ensures)
     c.index-then-i-last.ensures c.first-into.ensures).1
 
 pub returns-else-i-last : goal.returns-else-i-last

@@ -25,7 +25,7 @@ each-preserved-in-None g c =
       c.each.invariant.3,
       c.each.invariant.4,
       EdgesBelow-passed (goal.G-step g) g.Ix.IndexType.of c.args.names.now.items c.args.g (map plain_edge edges) _
-          c.each.g _ c.each.i p slots read lost c.each.invariant.5,
+          c.each.g _ c.each.i slots read lost c.each.invariant.5,
     )
 
 pub keep_edge-requires-clause-parent : goal.keep_edge-requires-clause-parent
@@ -55,7 +55,7 @@ each-preserved g c =
     (rw c.new.ensures.value at c.g-answer.ensures) in
     let next =
     EdgesBelow-called (goal.G-step g) g.Ix.IndexType.of c.args.names.now.items c.args.g (map plain_edge edges) start
-    c.each.g c.g-answer.new.self h c.each.i p c.in-Some.ends.0 c.in-Some.ends.1 c.g-answer.result slots read
+    h slots read
     (sym c.in-Some.ensures) called c.each.invariant.5 in
     let shown = stored_is _ _ _ _ c.keep_edge.ensures.stored in (
       search of_calls,

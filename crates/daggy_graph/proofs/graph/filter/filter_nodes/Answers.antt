@@ -20,8 +20,8 @@ each-preserved g c =
     (rw c.new.ensures.value at c.f-answer.ensures) in
     let slots : c.each.i < length (map weight_of nodes) = omega (arith, within, length-map nodes weight_of) in
     let next =
-    FilteredBelow-called (goal.F-step g) g.Ix.IndexType.of c.args.f (map weight_of nodes) c.each.f c.f-answer.new.self
-    c.each.names.items h c.each.i x.weight c.f-answer.result slots read called c.each.invariant.7 in
+    FilteredBelow-called (goal.F-step g) g.Ix.IndexType.of c.args.f (map weight_of nodes)
+    c.each.names.items h slots read called c.each.invariant.7 in
     let shown = stored_is _ _ _ _ c.keep_node.ensures.stored in
     let one =
     subst (λ ns. FilteredBelow (goal.F-step g) g.Ix.IndexType.of c.args.f (map weight_of nodes) c.f-answer.new.self ns

@@ -33,7 +33,7 @@ put_edge-e-requires-clause-parent g c =
     let is : made ++ Some y ∷ later ≡ map read c.args.given.items =
     ap (λ o. made ++ o ∷ later) (sym (ap read c.in-Some-x.is))
     ∙ ap (λ l. made ++ map read l) (sym c.in-Some.ensures.steps.0) ∙ c.each.invariant.5 in
-    let within = ends_within _ _ _ made later y c.each.nodes.items c.requires.makes_graph is c.each.invariant.4 in
+    let within = ends_within made later y c.each.nodes.items c.requires.makes_graph is c.each.invariant.4 in
     omega (arith, within.0, c.of_node-parent.ensures)
 
 pub put_edge-e-requires-clause-child : goal.put_edge-e-requires-clause-child
@@ -45,7 +45,7 @@ put_edge-e-requires-clause-child g c =
     let is : made ++ Some y ∷ later ≡ map read c.args.given.items =
     ap (λ o. made ++ o ∷ later) (sym (ap read c.in-Some-x.is))
     ∙ ap (λ l. made ++ map read l) (sym c.in-Some.ensures.steps.0) ∙ c.each.invariant.5 in
-    let within = ends_within _ _ _ made later y c.each.nodes.items c.requires.makes_graph is c.each.invariant.4 in
+    let within = ends_within made later y c.each.nodes.items c.requires.makes_graph is c.each.invariant.4 in
     omega (arith, within.1, c.of_node-child.ensures)
 
 pub put_edge-e-requires-clause-index_left : goal.put_edge-e-requires-clause-index_left
@@ -81,10 +81,10 @@ each-preserved g c =
     ap (λ o. made ++ o ∷ later) (sym (ap read c.in-Some-x.is))
     ∙ ap (λ l. made ++ map read l) (sym c.in-Some.ensures.steps.0) ∙ c.each.invariant.5 in
     let mk : _ → _ → Edge g.row.E.Denot = λ a b. record { parent = a; child = b; weight = w } in
-    let within = ends_within _ _ _ made later y c.each.nodes.items c.requires.makes_graph is c.each.invariant.4 in
+    let within = ends_within made later y c.each.nodes.items c.requires.makes_graph is c.each.invariant.4 in
     let built =
     edge_built _ _ _ c.each.invariant.3 _ _ w (omega (arith, within.0, c.of_node-parent.ensures))
-    (omega (arith, within.1, c.of_node-child.ensures)) _ _ c.put_edge-e.ensures.stored in
+    (omega (arith, within.1, c.of_node-child.ensures)) c.put_edge-e.ensures.stored in
     let pushed =
     ap (λ a. made ++ Some (mk a c.of_node-child.result) ∷ []) c.of_node-parent.ensures
     ∙ ap (λ b. made ++ Some (mk y.parent b) ∷ []) c.of_node-child.ensures in (

@@ -12,8 +12,8 @@ each-preserved g c =
       search of_calls,
       omega (arith, c.push_reserved.ensures.capacity, c.each.invariant.1),
       rw (c.push_reserved.ensures.items, c.edge_like.ensures) (MappedBelow-called (goal.G-step g) g.Ix.IndexType.of
-          edge_weight_in edge_with c.args.g c.args.edges.now c.each.g c.g-weight.new.self c.each.new.items c.each.i
-          c.index-edges-i.result c.g-weight.result within c.index-edges-i.is called c.each.invariant.2),
+          edge_weight_in edge_with c.args.g c.args.edges.now c.each.new.items
+          within c.index-edges-i.is called c.each.invariant.2),
     )
 
 pub returns : goal.returns

@@ -12,8 +12,8 @@ each-preserved g c =
       search of_calls,
       omega (arith, c.push_reserved.ensures.capacity, c.each.invariant.1),
       rw (c.push_reserved.ensures.items, c.node_like.ensures) (MappedBelow-called (goal.F-step g) g.Ix.IndexType.of
-          node_weight_in node_with c.args.f c.args.nodes.now c.each.f c.f-weight.new.self c.each.new.items c.each.i
-          c.index-nodes-i.result c.f-weight.result within c.index-nodes-i.is called c.each.invariant.2),
+          node_weight_in node_with c.args.f c.args.nodes.now c.each.new.items
+          within c.index-nodes-i.is called c.each.invariant.2),
     )
 
 pub returns : goal.returns

@@ -61,8 +61,8 @@ each-preserved g c =
           order_read g.Ix.IndexType.number dir c.args.orders.now c.each.i c.index-orders-i.result within
           c.index-orders-i.is in
           let made = c.thread_both.ensures.links dir in
-          below_threaded _ _ _ _ _ _ (c.each.invariant.rows dir) _ (c.requires.lists dir)
-          (omega (arith, inside, length-map c.each.nodes.items (raw_first dir))) _ _ _ read made.first made.nexts;
+          below_threaded _ _ (c.each.invariant.rows dir) (c.requires.lists dir)
+          (omega (arith, inside, length-map c.each.nodes.items (raw_first dir))) _ read made.first made.nexts;
     }
 
 pub returns-clause-linked : goal.returns-clause-linked
@@ -80,6 +80,6 @@ returns-clause-linked g c =
     let lists : length (map (order_at dir) (map (numbers_of number) c.args.orders.now)) ≡ length c.args.orders.now =
     length-map (map (numbers_of number) c.args.orders.now) (order_at dir)
     ∙ length-map c.args.orders.now (numbers_of number) in
-    all_threaded _ _ _ _ _ _ (c.each.invariant.rows dir)
+    all_threaded _ _ (c.each.invariant.rows dir)
     (omega (arith, firsts, c.each-test.false, c.each.auto.i-end, c.len-i-end.ensures))
     (omega (arith, firsts, lists, c.requires.count))

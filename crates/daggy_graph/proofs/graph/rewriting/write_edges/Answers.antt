@@ -33,7 +33,7 @@ each-preserved g c =
       done ++ y ∷ [],
       written done c.args.edges.now.items c.each.edges.items c.each.i x below.0 within is y,
       MappedBelow-called (Leaves (goal.F-step g)) g.Ix.IndexType.of edge_weight_in edge_with c.args.f
-          c.args.edges.now.items c.each.f c.f.new.self done c.each.i x c.f.new.arg3 within (read_old done
+          c.args.edges.now.items done within (read_old done
           c.args.edges.now.items c.each.edges.items c.each.i x below.0 within is c.index_mut-x.ensures.value) called
           below,
     )

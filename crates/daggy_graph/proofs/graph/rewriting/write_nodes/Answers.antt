@@ -33,7 +33,7 @@ each-preserved g c =
       done ++ y ∷ [],
       written done c.args.nodes.now.items c.each.nodes.items c.each.i x below.0 within is y,
       MappedBelow-called (Leaves (goal.F-step g)) g.Ix.IndexType.of node_weight_in node_with c.args.f
-          c.args.nodes.now.items c.each.f c.f.new.self done c.each.i x c.f.new.arg3 within (read_old done
+          c.args.nodes.now.items done within (read_old done
           c.args.nodes.now.items c.each.nodes.items c.each.i x below.0 within is c.index_mut-x.ensures.value) called
           below,
     )

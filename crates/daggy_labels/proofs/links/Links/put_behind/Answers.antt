@@ -3,8 +3,17 @@ use Rattle.std.proofs.Common.{subst, arith, get_or, length}
 use Rattle.std.proofs.lemmas.List.{get_or_read}
 use Rattle.daggy_base.proofs.Lists.{Mem, mem_cases, contains_mem, mem_contains, split_at}
 use Rattle.daggy_labels.specs.Links.{Listed, nodes_from, neighbor}
-use Rattle.daggy_labels.proofs.Chains.{neighbor_node}
-use Rattle.daggy_labels.proofs.LinkedNodes.{few, once, inside, length_walk, is_put, next_leads, leads_within, put_walked}
+use Rattle.daggy_labels.proofs.Chains.{IsPut, neighbor_node}
+use Rattle.daggy_labels.proofs.LinkedNodes.{
+  few,
+  once,
+  inside,
+  length_walk,
+  is_put,
+  next_leads,
+  leads_within,
+  put_walked,
+}
 use Rattle.daggy_labels.proofs.LinkedNodes.{put_linked, same_lesser}
 use Rattle.daggy_labels.proofs.links.Links.put_behind.Goals as goal
 
@@ -108,18 +117,26 @@ invariant_of-self g c =
     ap (λ z. z + 1) (sym (length_walk E c.self.inside.next.items c.self.inside.first c.self.inside.count)) in
     let real_p : c.args.p ≢ E = λ e. (once s).0 (let D : ℕ → Type 0 = λ z. Mem z xs in subst D e held) in
     let not_p : c.args.n ≢ c.args.p = λ e. fresh (inr (let D : ℕ → Type 0 = λ z. Mem z xs in subst D (sym e) held)) in
-    let put =
-    is_put (neighbor E c.self.inside.first c.self.inside.next.items)
-    (neighbor E c.self.inside.last c.self.inside.previous.items) (neighbor E c.lead.new.outer c.lead.new.links.items)
-    (neighbor E c.lead-2.new.outer c.lead-2.new.links.items) (neighbor E c.lead-3.new.outer c.lead-3.new.links.items)
-    (neighbor E c.lead-4.new.outer c.lead-4.new.links.items) c.args.p c.args.n c.index-q.result.now not_p
-    (not_led c.index-q.result.now q_leads)
-    (q_is ∙ sym (neighbor_node E c.self.inside.first c.self.inside.next.items c.args.p real_p)) c.lead.ensures.led
-    c.lead.ensures.others c.lead-2.ensures.led c.lead-2.ensures.others c.lead-3.ensures.led c.lead-3.ensures.others
-    c.lead-4.ensures.led c.lead-4.ensures.others in
+    let put : IsPut (neighbor E c.self.inside.first c.self.inside.next.items)
+    (neighbor E c.self.inside.last c.self.inside.previous.items)
+    (neighbor E c.lead-2.new.outer c.lead-2.new.links.items)
+    (neighbor E c.lead-4.new.outer c.lead-4.new.links.items) c.args.p c.args.n =
+    is_put (neighbor E c.lead.new.outer c.lead.new.links.items)
+    (neighbor E c.lead-3.new.outer c.lead-3.new.links.items) not_p (not_led c.index-q.result.now q_leads)
+    (q_is ∙ sym (neighbor_node E c.self.inside.first c.self.inside.next.items c.args.p real_p))
+    record { led = c.lead.ensures.led; others = c.lead.ensures.others }
+    record { led = c.lead-2.ensures.led; others = c.lead-2.ensures.others }
+    record { led = c.lead-3.ensures.led; others = c.lead-3.ensures.others }
+    record { led = c.lead-4.ensures.led; others = c.lead-4.ensures.others } in
     let at = split_at xs c.args.p held in
-    put_linked s c.lead-2.new.links.items c.lead-4.new.links.items c.lead-2.new.outer c.lead-4.new.outer c.args.n fresh
-    low sized (omega (arith, long)) c.args.p put (c.self.inside.count + 1) count at.0 at.1 at.2
+    put_linked s record {
+      next = c.lead-2.new.links.items;
+      previous = c.lead-4.new.links.items;
+      first = c.lead-2.new.outer;
+      last =
+          c.lead-4.new.outer;
+    } c.args.n fresh
+    low sized (omega (arith, long)) put (c.self.inside.count + 1) count at.0 at.1 at.2
 
 pub returns-clause-nodes : goal.returns-clause-nodes
 returns-clause-nodes g c =
@@ -172,18 +189,26 @@ returns-clause-nodes g c =
     ap (λ z. z + 1) (sym (length_walk E c.self.inside.next.items c.self.inside.first c.self.inside.count)) in
     let real_p : c.args.p ≢ E = λ e. (once s).0 (let D : ℕ → Type 0 = λ z. Mem z xs in subst D e held) in
     let not_p : c.args.n ≢ c.args.p = λ e. fresh (inr (let D : ℕ → Type 0 = λ z. Mem z xs in subst D (sym e) held)) in
-    let put =
-    is_put (neighbor E c.self.inside.first c.self.inside.next.items)
-    (neighbor E c.self.inside.last c.self.inside.previous.items) (neighbor E c.lead.new.outer c.lead.new.links.items)
-    (neighbor E c.lead-2.new.outer c.lead-2.new.links.items) (neighbor E c.lead-3.new.outer c.lead-3.new.links.items)
-    (neighbor E c.lead-4.new.outer c.lead-4.new.links.items) c.args.p c.args.n c.index-q.result.now not_p
-    (not_led c.index-q.result.now q_leads)
-    (q_is ∙ sym (neighbor_node E c.self.inside.first c.self.inside.next.items c.args.p real_p)) c.lead.ensures.led
-    c.lead.ensures.others c.lead-2.ensures.led c.lead-2.ensures.others c.lead-3.ensures.led c.lead-3.ensures.others
-    c.lead-4.ensures.led c.lead-4.ensures.others in
+    let put : IsPut (neighbor E c.self.inside.first c.self.inside.next.items)
+    (neighbor E c.self.inside.last c.self.inside.previous.items)
+    (neighbor E c.lead-2.new.outer c.lead-2.new.links.items)
+    (neighbor E c.lead-4.new.outer c.lead-4.new.links.items) c.args.p c.args.n =
+    is_put (neighbor E c.lead.new.outer c.lead.new.links.items)
+    (neighbor E c.lead-3.new.outer c.lead-3.new.links.items) not_p (not_led c.index-q.result.now q_leads)
+    (q_is ∙ sym (neighbor_node E c.self.inside.first c.self.inside.next.items c.args.p real_p))
+    record { led = c.lead.ensures.led; others = c.lead.ensures.others }
+    record { led = c.lead-2.ensures.led; others = c.lead-2.ensures.others }
+    record { led = c.lead-3.ensures.led; others = c.lead-3.ensures.others }
+    record { led = c.lead-4.ensures.led; others = c.lead-4.ensures.others } in
     λ ns ms is.
-    put_walked s c.lead-2.new.links.items c.lead-4.new.links.items c.lead-2.new.outer c.lead-4.new.outer c.args.n fresh
-    low sized (omega (arith, long)) c.args.p put (c.self.inside.count + 1) count ns ms (nodes ∙ is)
+    put_walked s record {
+      next = c.lead-2.new.links.items;
+      previous = c.lead-4.new.links.items;
+      first = c.lead-2.new.outer;
+      last =
+          c.lead-4.new.outer;
+    } c.args.n fresh
+    low sized (omega (arith, long)) put (c.self.inside.count + 1) count ns ms (nodes ∙ is)
 
 pub returns-clause-index_bound : goal.returns-clause-index_bound
 returns-clause-index_bound g c =

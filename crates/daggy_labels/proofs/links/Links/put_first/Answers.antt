@@ -3,7 +3,7 @@ use Rattle.std.proofs.Common.{subst, arith, length}
 use Rattle.daggy_base.proofs.Lists.{Mem, mem_cases, mem_contains}
 use Rattle.daggy_labels.specs.Links.{Listed, nodes_from, neighbor}
 use Rattle.daggy_labels.proofs.LinkedNodes.{listed, same_lesser}
-use Rattle.daggy_labels.proofs.Chains.{neighbor_end}
+use Rattle.daggy_labels.proofs.Chains.{IsPut, neighbor_end}
 use Rattle.daggy_labels.proofs.LinkedNodes.{few, length_walk, is_put, first_leads, leads_within, put_first_walked}
 use Rattle.daggy_labels.proofs.LinkedNodes.{put_first_linked}
 use Rattle.daggy_labels.proofs.links.Links.put_first.Goals as goal
@@ -67,16 +67,28 @@ invariant_of-self g c =
     ap (λ z. z + 1) (sym (length_walk E c.self.inside.next.items c.self.inside.first c.self.inside.count)) in
     let at_end : c.end.result ≡ E = c.end.ensures.value in
     let B : ℕ → Type 0 = λ z. (neighbor E c.lead.new.outer c.lead.new.links.items) z ≡ c.args.n in
-    let put =
-    is_put (neighbor E c.self.inside.first c.self.inside.next.items)
-    (neighbor E c.self.inside.last c.self.inside.previous.items) (neighbor E c.lead.new.outer c.lead.new.links.items)
-    (neighbor E c.lead-2.new.outer c.lead-2.new.links.items) (neighbor E c.lead-3.new.outer c.lead-3.new.links.items)
-    (neighbor E c.lead-4.new.outer c.lead-4.new.links.items) E c.args.n c.self.inside.first c.requires.real
-    (not_led c.self.inside.first (first_leads s)) (sym (neighbor_end E c.self.inside.first c.self.inside.next.items))
-    (subst B at_end c.lead.ensures.led) (λ k d. c.lead.ensures.others k (λ e. d (e ∙ at_end))) c.lead-2.ensures.led
-    c.lead-2.ensures.others (c.lead-3.ensures.led ∙ c.end-2.ensures.value) c.lead-3.ensures.others c.lead-4.ensures.led
-    c.lead-4.ensures.others in
-    put_first_linked s c.lead-2.new.links.items c.lead-4.new.links.items c.lead-2.new.outer c.lead-4.new.outer c.args.n
+    let put : IsPut (neighbor E c.self.inside.first c.self.inside.next.items)
+    (neighbor E c.self.inside.last c.self.inside.previous.items)
+    (neighbor E c.lead-2.new.outer c.lead-2.new.links.items)
+    (neighbor E c.lead-4.new.outer c.lead-4.new.links.items) E c.args.n =
+    is_put (neighbor E c.lead.new.outer c.lead.new.links.items)
+    (neighbor E c.lead-3.new.outer c.lead-3.new.links.items) c.requires.real
+    (not_led c.self.inside.first (first_leads s))
+    (sym (neighbor_end E c.self.inside.first c.self.inside.next.items))
+    record {
+      led = subst B at_end c.lead.ensures.led;
+      others = λ k d. c.lead.ensures.others k (λ e. d (e ∙ at_end));
+    }
+    record { led = c.lead-2.ensures.led; others = c.lead-2.ensures.others }
+    record { led = c.lead-3.ensures.led ∙ c.end-2.ensures.value; others = c.lead-3.ensures.others }
+    record { led = c.lead-4.ensures.led; others = c.lead-4.ensures.others } in
+    put_first_linked s record {
+      next = c.lead-2.new.links.items;
+      previous = c.lead-4.new.links.items;
+      first = c.lead-2.new.outer;
+      last =
+          c.lead-4.new.outer;
+    } c.args.n
     fresh low sized (omega (arith, long)) put (c.self.inside.count + 1) count
 
 pub returns : goal.returns
@@ -121,17 +133,29 @@ returns g c =
     ap (λ z. z + 1) (sym (length_walk E c.self.inside.next.items c.self.inside.first c.self.inside.count)) in
     let at_end : c.end.result ≡ E = c.end.ensures.value in
     let B : ℕ → Type 0 = λ z. (neighbor E c.lead.new.outer c.lead.new.links.items) z ≡ c.args.n in
-    let put =
-    is_put (neighbor E c.self.inside.first c.self.inside.next.items)
-    (neighbor E c.self.inside.last c.self.inside.previous.items) (neighbor E c.lead.new.outer c.lead.new.links.items)
-    (neighbor E c.lead-2.new.outer c.lead-2.new.links.items) (neighbor E c.lead-3.new.outer c.lead-3.new.links.items)
-    (neighbor E c.lead-4.new.outer c.lead-4.new.links.items) E c.args.n c.self.inside.first c.requires.real
-    (not_led c.self.inside.first (first_leads s)) (sym (neighbor_end E c.self.inside.first c.self.inside.next.items))
-    (subst B at_end c.lead.ensures.led) (λ k d. c.lead.ensures.others k (λ e. d (e ∙ at_end))) c.lead-2.ensures.led
-    c.lead-2.ensures.others (c.lead-3.ensures.led ∙ c.end-2.ensures.value) c.lead-3.ensures.others c.lead-4.ensures.led
-    c.lead-4.ensures.others in
+    let put : IsPut (neighbor E c.self.inside.first c.self.inside.next.items)
+    (neighbor E c.self.inside.last c.self.inside.previous.items)
+    (neighbor E c.lead-2.new.outer c.lead-2.new.links.items)
+    (neighbor E c.lead-4.new.outer c.lead-4.new.links.items) E c.args.n =
+    is_put (neighbor E c.lead.new.outer c.lead.new.links.items)
+    (neighbor E c.lead-3.new.outer c.lead-3.new.links.items) c.requires.real
+    (not_led c.self.inside.first (first_leads s))
+    (sym (neighbor_end E c.self.inside.first c.self.inside.next.items))
+    record {
+      led = subst B at_end c.lead.ensures.led;
+      others = λ k d. c.lead.ensures.others k (λ e. d (e ∙ at_end));
+    }
+    record { led = c.lead-2.ensures.led; others = c.lead-2.ensures.others }
+    record { led = c.lead-3.ensures.led ∙ c.end-2.ensures.value; others = c.lead-3.ensures.others }
+    record { led = c.lead-4.ensures.led; others = c.lead-4.ensures.others } in
     let is =
-    put_first_walked s c.lead-2.new.links.items c.lead-4.new.links.items c.lead-2.new.outer c.lead-4.new.outer c.args.n
+    put_first_walked s record {
+      next = c.lead-2.new.links.items;
+      previous = c.lead-4.new.links.items;
+      first = c.lead-2.new.outer;
+      last =
+          c.lead-4.new.outer;
+    } c.args.n
     fresh low sized (omega (arith, long)) put (c.self.inside.count + 1) count in
     listed (is ∙ ap (λ (z : List ℕ). c.args.n ∷ z) nodes) (sym long ∙ ap (λ (z : Listed). z.index_bound) c.self.view_is)
     (same_lesser (c.lead-2.ensures.capacity ∙ c.lead.ensures.capacity)

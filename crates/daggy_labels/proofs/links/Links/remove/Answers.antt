@@ -118,7 +118,13 @@ invariant_of-self g c =
       from = ap (neighbor E c.lead-2.new.outer c.lead-2.new.links.items) (sym q_n) ∙ (c.lead-2.ensures.led ∙ p_n);
       back = λ k d. c.lead-2.ensures.others k (λ e. d (e ∙ q_n));
     } in
-    taken_linked s c.lead.new.links.items c.lead-2.new.links.items c.lead.new.outer c.lead-2.new.outer c.args.n at.0
+    taken_linked s record {
+      next = c.lead.new.links.items;
+      previous = c.lead-2.new.links.items;
+      first = c.lead.new.outer;
+      last =
+          c.lead-2.new.outer;
+    } at.0
     at.1 at.2 taken sized (omega (arith, long)) (c.self.inside.count - 1) count
 
 pub returns : goal.returns
@@ -173,7 +179,13 @@ returns g c =
       back = λ k d. c.lead-2.ensures.others k (λ e. d (e ∙ q_n));
     } in
     let is =
-    taken_walked s c.lead.new.links.items c.lead-2.new.links.items c.lead.new.outer c.lead-2.new.outer c.args.n at.0
+    taken_walked s record {
+      next = c.lead.new.links.items;
+      previous = c.lead-2.new.links.items;
+      first = c.lead.new.outer;
+      last =
+          c.lead-2.new.outer;
+    } at.0
     at.1 at.2 taken sized (omega (arith, long)) (c.self.inside.count - 1) count in
     listed (is ∙ ap (without c.args.n) nodes) (sym long ∙ ap (λ (z : Listed). z.index_bound) c.self.view_is)
     (same_lesser c.lead.ensures.capacity c.lead-2.ensures.capacity (ap (λ (z : Listed). z.capacity) c.self.view_is))

@@ -16,8 +16,8 @@ move_first-requires g c =
 pub nodes-preserved : goal.nodes-preserved
 nodes-preserved g c =
     let one : c.nodes.left ≡ suc (c.nodes.left - 1) = omega (arith, c.nodes-test.true) in (
-      c.move_first.ensures ∙ first_more c.args.nodes.now c.args.self.now c.nodes.self (c.nodes.left - 1)
-          c.index-nodes-left.result c.nodes.left _ one c.nodes.invariant.1
+      c.move_first.ensures ∙ first_more c.args.nodes.now c.args.self.now
+          c.index-nodes-left.result one c.nodes.invariant.1
           (c.node.ensures.value ∙ c.index-nodes-left.is)
           c.nodes.invariant.0,
       omega (arith, c.nodes.invariant.1),

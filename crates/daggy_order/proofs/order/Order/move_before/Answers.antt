@@ -19,8 +19,7 @@ invariant_of-self g c =
     let at =
     split_at (without n before) b (mem_filter (λ x. not (eqb x n)) before b has_b
     (is_held n b (λ e. c.requires.differ (sym e)))) in
-    tailed_after c.self.invariant c.move_before.new.self.nodes c.move_before.new.self.capacity
-    c.settle-self-inside.result.from c.settle-self-inside.result.count c.settle-self-inside.result.index_bound
+    tailed_after c.self.invariant
     c.settle-self-inside.ensures.count c.settle-self-inside.ensures.index_bound
     (omega (arith, c.settle-self-inside.ensures.from))
     (omega (arith, c.settle-self-inside.ensures.from, c.self.invariant.real)) (λ k m.

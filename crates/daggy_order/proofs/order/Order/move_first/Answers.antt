@@ -11,8 +11,7 @@ invariant_of-self g c =
     let before : List ℕ = c.settle-self-inside.new.self.nodes in
     let has_n : Mem n before =
     subst P (sym (c.settle-self-inside.ensures.nodes ∙ c.self.view_is)) (contains_mem c.args.self.now n c.requires) in
-    tailed_after c.self.invariant c.move_first.new.self.nodes c.move_first.new.self.capacity
-    c.settle-self-inside.result.from c.settle-self-inside.result.count c.settle-self-inside.result.index_bound
+    tailed_after c.self.invariant
     c.settle-self-inside.ensures.count c.settle-self-inside.ensures.index_bound
     (omega (arith, c.settle-self-inside.ensures.from))
     (omega (arith, c.settle-self-inside.ensures.from, c.self.invariant.real)) (λ k m.

@@ -5,8 +5,8 @@ use Rattle.daggy_order.proofs.order.Order.push_written.Goals as goal
 
 pub invariant_of-self : goal.invariant_of-self
 invariant_of-self g c =
-    tailed_after c.self.invariant c.push.new.self.nodes c.push.new.self.capacity c.settle-self-inside.result.from
-    c.settle-self-inside.result.count c.settle-self-inside.result.index_bound c.settle-self-inside.ensures.count
+    tailed_after c.self.invariant
+    c.settle-self-inside.ensures.count
     c.settle-self-inside.ensures.index_bound (omega (arith, c.settle-self-inside.ensures.from))
     (omega (arith, c.settle-self-inside.ensures.from, c.self.invariant.real)) (λ k m.
     let P : List ℕ → Type 0 = λ z. Mem k z in
@@ -16,8 +16,8 @@ pub invariant_of-self-2 : goal.invariant_of-self-2
 invariant_of-self-2 g c =
     let n : ℕ = g.Ix.IndexType.number c.args.n in
     let is : c.push.new.self.nodes ≡ c.settle-self-inside.new.self.nodes ++ n ∷ [] = c.in_ok-push.ensures.ok in
-    tailed_after c.self.invariant c.push.new.self.nodes c.push.new.self.capacity c.max-self-inside.result
-    c.settle-self-inside.result.count c.settle-self-inside.result.index_bound c.settle-self-inside.ensures.count
+    tailed_after c.self.invariant
+    c.settle-self-inside.ensures.count
     c.settle-self-inside.ensures.index_bound
     (omega (arith, c.settle-self-inside.ensures.from, c.max-self-inside.ensures)) (omega (
       arith,

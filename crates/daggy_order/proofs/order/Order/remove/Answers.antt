@@ -17,8 +17,8 @@ overflow_add-index g c =
 pub invariant_of-self-else-self-gt0 : goal.invariant_of-self-else-self-gt0
 invariant_of-self-else-self-gt0 g c =
     let n : ℕ = g.Ix.IndexType.number c.args.n in
-    tailed_after c.self.invariant c.remove.new.self.nodes c.remove.new.self.capacity c.settle-self-inside.result.from
-    c.settle-self-inside.result.count c.settle-self-inside.result.index_bound c.settle-self-inside.ensures.count
+    tailed_after c.self.invariant
+    c.settle-self-inside.ensures.count
     c.settle-self-inside.ensures.index_bound (omega (arith, c.settle-self-inside.ensures.from))
     (omega (arith, c.settle-self-inside.ensures.from, c.self.invariant.real)) (λ k m.
     let P : List ℕ → Type 0 = λ z. Mem k z in

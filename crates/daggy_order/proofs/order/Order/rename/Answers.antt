@@ -28,8 +28,8 @@ invariant_of-self g c =
     let N : List ℕ → Type 0 = λ z. Mem n z in
     let within =
     high c.self.invariant n (subst N (sym c.self.view_is) (contains_mem c.args.self.now n c.requires.held)) in
-    tailed_after c.self.invariant c.rename.new.self.nodes c.rename.new.self.capacity c.settle-self-inside.result.from
-    c.settle-self-inside.result.count c.settle-self-inside.result.index_bound c.settle-self-inside.ensures.count
+    tailed_after c.self.invariant
+    c.settle-self-inside.ensures.count
     c.settle-self-inside.ensures.index_bound (omega (arith, c.settle-self-inside.ensures.from))
     (omega (arith, c.settle-self-inside.ensures.from, c.self.invariant.real)) (λ k h.
     let P : List ℕ → Type 0 = λ z. Mem k z in

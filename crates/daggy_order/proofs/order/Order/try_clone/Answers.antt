@@ -14,8 +14,8 @@ invariant_of-result g c =
     elim c.if-count-eq0.branch [
       | then-count-eq0 w ↦ (
           let same = ap (λ (z : Stored). z.nodes) w.written-is ∙ c.in_ok-written.ensures in
-          tailed_bare E c.if-count-eq0.written.nodes c.if-count-eq0.written.capacity from count
-          c.if-count-eq0.index_bound w.if-count-eq0.true w.index_bound-is (omega (arith, s.real)) (λ k m.
+          tailed_bare
+          w.if-count-eq0.true w.index_bound-is (omega (arith, s.real)) (λ k m.
           let P : List ℕ → Type 0 = λ z. Mem k z in
           below s k (subst P same m))
           )

@@ -34,8 +34,7 @@ pub invariant_of-order : goal.invariant_of-order
 invariant_of-order g c =
     let ord = c.order_written.ensures.ordered in
     let old = c.requires.ordered in
-    tailed_bare g.Ix.IndexType.greatest c.order_written.new.written.nodes c.order_written.new.written.capacity
-    c.settle-order-inside.result.from c.settle-order-inside.result.count c.settle-order-inside.result.index_bound
+    tailed_bare
     c.settle-order-inside.ensures.count c.settle-order-inside.ensures.index_bound
     (omega (arith, c.settle-order-inside.ensures.from, c.order.invariant.real)) (λ k m.
     let held =

@@ -36,7 +36,7 @@ steps-init g c =
     let low =
     below_bound (g.S.EdgeSource.graph c.args.source.now).nodes (g.Ix.IndexType.number c.args.from) c.requires.exists in
     let found =
-    finds_first c.args.marks.now c.args.found.now (g.Ix.IndexType.number c.args.from) c.index.result c.of_node.result
+    finds_first c.args.marks.now c.args.found.now
     c.requires.cleared (omega (arith, low, c.requires.marks_fit)) c.requires.found_fits c.index.ensures.value
     c.of_node.ensures in
     let now : Reading _ _ = record {

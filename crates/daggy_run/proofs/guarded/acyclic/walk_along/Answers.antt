@@ -14,5 +14,5 @@ edges-smaller g c =
 pub edges-preserved : goal.edges-preserved
 edges-preserved g c =
     grows c.args.dir g.Ix.IndexType.greatest (g.S.EdgeSource.graph c.args.store.now)
-    c.node_count-well_formed.ensures.well_formed g.Ix.IndexType.number _ _ c.in-Some.item _ _ _ c.in-Some.ensures
+    c.node_count-well_formed.ensures.well_formed g.Ix.IndexType.number c.in-Some.item _ c.in-Some.ensures
     c.in_ok-push.ensures.items c.edges.invariant

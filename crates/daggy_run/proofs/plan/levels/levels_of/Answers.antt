@@ -27,13 +27,13 @@ nodes-init g c =
 pub raise_children-requires-clause-exists : goal.raise_children-requires-clause-exists
 raise_children-requires-clause-exists g c =
     next_exists g.Ix.IndexType.greatest (g.D.GuardedDag.graph c.args.dag.now) c.node_bound-bound.ensures.dag.well_formed
-    _ _ _ _ _ c.in-Some.ensures.steps c.nodes.invariant.leveling
+    c.in-Some.ensures.steps c.nodes.invariant.leveling
 
 pub nodes-preserved : goal.nodes-preserved
 nodes-preserved g c = record {
   leveling =
       leveling_on g.Ix.IndexType.greatest (g.D.GuardedDag.graph c.args.dag.now)
-      c.node_bound-bound.ensures.dag.well_formed _ _ _ _ _ c.in-Some.ensures.steps c.nodes.invariant.leveling _ _
+      c.node_bound-bound.ensures.dag.well_formed c.in-Some.ensures.steps c.nodes.invariant.leveling
       c.raise_children.ensures.raised;
   levels_fit = omega (arith, c.raise_children.ensures.levels, c.nodes.invariant.levels_fit);
   parents_fit = omega (arith, c.raise_children.ensures.parents, c.nodes.invariant.parents_fit);

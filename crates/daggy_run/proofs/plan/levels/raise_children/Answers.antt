@@ -29,7 +29,7 @@ edges-init g c =
     let at : c.index-2.result.now ≡ slice_index c.args.levels.now.items (g.Ix.IndexType.number c.args.n) =
     is ∙ ap (slice_index c.args.levels.now.items) c.index.ensures.value in
     raising_starts g.Ix.IndexType.greatest (g.D.GuardedDag.graph c.args.dag.now)
-    c.node_bound-bound.ensures.dag.well_formed _ _ c.requires.exists _ _ _ c.first_child-e.ensures
+    c.node_bound-bound.ensures.dag.well_formed c.requires.exists c.first_child-e.ensures
     (ap (λ (z : ℕ). z + 1) at) (omega (arith, c.requires.levels, c.args.levels.now.ok.0))
     (omega (arith, c.requires.parents, c.args.parents.now.ok.0))
     (λ k within. let old = c.requires.within k (omega (arith, c.args.parents.now.ok.0)) in
@@ -48,8 +48,8 @@ raise-requires-clause-levels g c =
     let here : g.Ix.IndexType.number c.edges.e ≢ g.Ix.IndexType.greatest = λ h.
     c.edges-test.true (c.index-in-edges.ensures.value ∙ (h ∙ sym (c.index-end.ensures.value ∙ c.end.ensures.number))) in
     let low =
-    child_low g.Ix.IndexType.greatest (g.D.GuardedDag.graph c.args.dag.now) c.node_bound-bound.ensures.dag.well_formed _
-    _ c.requires.exists _ _ _ _ _ c.edges.invariant here _ _ c.child_edge-child.ensures in
+    child_low g.Ix.IndexType.greatest (g.D.GuardedDag.graph c.args.dag.now) c.node_bound-bound.ensures.dag.well_formed
+    c.requires.exists c.edges.invariant here _ _ c.child_edge-child.ensures in
     omega (arith, low, c.index-in-edges-2.ensures.value, c.edges.invariant.levels_fit, c.edges.levels.ok.0)
 
 pub raise-requires-clause-parents : goal.raise-requires-clause-parents
@@ -57,8 +57,8 @@ raise-requires-clause-parents g c =
     let here : g.Ix.IndexType.number c.edges.e ≢ g.Ix.IndexType.greatest = λ h.
     c.edges-test.true (c.index-in-edges.ensures.value ∙ (h ∙ sym (c.index-end.ensures.value ∙ c.end.ensures.number))) in
     let low =
-    child_low g.Ix.IndexType.greatest (g.D.GuardedDag.graph c.args.dag.now) c.node_bound-bound.ensures.dag.well_formed _
-    _ c.requires.exists _ _ _ _ _ c.edges.invariant here _ _ c.child_edge-child.ensures in
+    child_low g.Ix.IndexType.greatest (g.D.GuardedDag.graph c.args.dag.now) c.node_bound-bound.ensures.dag.well_formed
+    c.requires.exists c.edges.invariant here _ _ c.child_edge-child.ensures in
     omega (arith, low, c.index-in-edges-2.ensures.value, c.edges.invariant.parents_fit, c.edges.parents.ok.0)
 
 pub edges-smaller : goal.edges-smaller
@@ -74,7 +74,7 @@ edges-preserved g c =
     IsRaised (g.Ix.IndexType.number c.args.n) (c.index-2.result.now + 1) z c.edges.levels.items c.edges.parents.items
     c.raise.new.levels.items c.raise.new.parents.items in
     raising_on g.Ix.IndexType.greatest (g.D.GuardedDag.graph c.args.dag.now) c.node_bound-bound.ensures.dag.well_formed
-    _ _ c.requires.exists _ _ _ _ _ c.edges.invariant here _ _ c.child_edge-child.ensures _ _
+    c.requires.exists c.edges.invariant here c.child_edge-child.ensures
     (subst P c.index-in-edges-2.ensures.value c.raise.ensures.raised)
 
 pub returns-clause-raised : goal.returns-clause-raised
@@ -82,4 +82,4 @@ returns-clause-raised g c =
     let at : g.Ix.IndexType.number c.edges.e ≡ g.Ix.IndexType.greatest =
     sym c.index-in-edges.ensures.value ∙ (c.edges-test.false ∙ (c.index-end.ensures.value ∙ c.end.ensures.number)) in
     raising_ends g.Ix.IndexType.greatest (g.D.GuardedDag.graph c.args.dag.now)
-    c.node_bound-bound.ensures.dag.well_formed _ _ c.requires.exists _ _ _ _ _ c.edges.invariant at
+    c.node_bound-bound.ensures.dag.well_formed c.requires.exists c.edges.invariant at

@@ -8,7 +8,7 @@ pub returns-then-is_none : goal.returns-then-is_none
 returns-then-is_none g c =
     let lookup = c.in-Some.ensures.lookup in
     sym (ap (option_map ends_of) (plain_none c.in-Some.x.now (c.is_none.ensures ∙ ap not c.if-is_none.true)))
-    ∙ ap (option_map ends_of) (edge_got c.self.invariant _ c.args.self.now c.self.view_is _ _ c.index.ensures.value _ _
+    ∙ ap (option_map ends_of) (edge_got c.self.invariant _ c.args.self.now c.self.view_is c.index.ensures.value
     c.deref.ensures.value lookup.3.0 lookup.1)
 
 pub returns-else-is_none : goal.returns-else-is_none
@@ -18,10 +18,10 @@ returns-else-is_none g c =
     let child = c.node-in-Some.ensures.value ∙ c.end-child.ensures in
     (λ i. Some (parent i, child i))
     ∙ sym (plain_ends c.in-Some.x.now (c.is_none.ensures ∙ ap not c.if-is_none.false))
-    ∙ ap (option_map ends_of) (edge_got c.self.invariant _ c.args.self.now c.self.view_is _ _ c.index.ensures.value _ _
+    ∙ ap (option_map ends_of) (edge_got c.self.invariant _ c.args.self.now c.self.view_is c.index.ensures.value
     c.deref.ensures.value lookup.3.0 lookup.1)
 
 pub returns-in-None : goal.returns-in-None
 returns-in-None g c =
-    ap (option_map ends_of) (no_edge_got c.self.invariant _ c.args.self.now c.self.view_is _ _ c.index.ensures.value _
+    ap (option_map ends_of) (no_edge_got c.self.invariant _ c.args.self.now c.self.view_is c.index.ensures.value
     c.deref.ensures.value c.in-None.ensures.lookup.3)

@@ -32,10 +32,10 @@ pub invariant_of-self : goal.invariant_of-self
 invariant_of-self g c =
     let a_in = rw (← c.self.view_is) at c.requires.parent in
     let b_in = rw (← c.self.view_is) at c.requires.child in
-    Stores-itself (edge_filled_code c.self.invariant _ _ c.args.weight a_in b_in _ _ _ _ c.of_node.ensures
+    Stores-itself (edge_filled_code c.self.invariant _ _ c.args.weight a_in b_in _ c.of_node.ensures
     c.of_node-2.ensures c.put_first-x.ensures.edge (weights_seen _ _ c.put_first-x.ensures.weights) _
     c.put_first-x.ensures.out c.put_first-x.ensures.into
-    _ _ _ refl (λ q. c.requires.some (ap (λ s. s.graph.vacant_edges) (sym c.self.view_is) ∙ q)) c.index-i.ensures.value
+    refl (λ q. c.requires.some (ap (λ s. s.graph.vacant_edges) (sym c.self.view_is) ∙ q)) c.index-i.ensures.value
     c.index.ensures c.next-self-inside.ensures)
 
 pub returns-clause-index : goal.returns-clause-index
@@ -50,8 +50,8 @@ returns-clause-added g c =
     let b_in = rw (← c.self.view_is) at c.requires.child in
     state_changed _ _ _ _
     (λ h. with_edge h (g.Ix.IndexType.number c.args.a) (g.Ix.IndexType.number c.args.b) c.args.weight) c.self.view_is
-    (stored_is (edge_filled_code c.self.invariant _ _ c.args.weight a_in b_in _ _ _ _ c.of_node.ensures
+    (stored_is (edge_filled_code c.self.invariant _ _ c.args.weight a_in b_in _ c.of_node.ensures
     c.of_node-2.ensures c.put_first-x.ensures.edge (weights_seen _ _ c.put_first-x.ensures.weights) _
     c.put_first-x.ensures.out c.put_first-x.ensures.into
-    _ _ _ refl (λ q. c.requires.some (ap (λ s. s.graph.vacant_edges) (sym c.self.view_is) ∙ q)) c.index-i.ensures.value
+    refl (λ q. c.requires.some (ap (λ s. s.graph.vacant_edges) (sym c.self.view_is) ∙ q)) c.index-i.ensures.value
     c.index.ensures c.next-self-inside.ensures))

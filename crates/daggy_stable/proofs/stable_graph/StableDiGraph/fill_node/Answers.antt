@@ -19,7 +19,7 @@ index_mut-requires g c =
 
 pub invariant_of-self : goal.invariant_of-self
 invariant_of-self g c =
-    Stores-itself (node_filled_code c.self.invariant c.args.weight _ _ _ _
+    Stores-itself (node_filled_code c.self.invariant c.args.weight
     (λ q. c.requires (ap (λ s. s.graph.vacant_nodes) (sym c.self.view_is) ∙ q)) c.index-i.ensures.value c.index.ensures
     c.first-self-inside.ensures c.new_node.ensures)
 
@@ -32,6 +32,6 @@ returns-clause-index g c =
 pub returns-clause-added : goal.returns-clause-added
 returns-clause-added g c =
     state_changed _ _ _ _ (λ h. with_node h c.args.weight) c.self.view_is
-    (stored_is (node_filled_code c.self.invariant c.args.weight _ _ _ _
+    (stored_is (node_filled_code c.self.invariant c.args.weight
     (λ q. c.requires (ap (λ s. s.graph.vacant_nodes) (sym c.self.view_is) ∙ q)) c.index-i.ensures.value c.index.ensures
     c.first-self-inside.ensures c.new_node.ensures))

@@ -58,7 +58,7 @@ along-smaller g c =
     let reads : x ≡ get_or edges c.along.e x = c.index-x.ensures ∙ ap (λ z. get_or edges z x) c.index-i.ensures.value in
     let goes : slice_get (nexts_of Outgoing edges) c.along.e ≡ Some c.next-e.result =
     slice_get_mapped (raw_next Outgoing) edges c.along.e x inside reads ∙ ap Some (sym c.next-e.ensures) in
-    IsScan-shorter _ _ _ _ _ _ c.along.invariant within (nexts_few c.self.invariant Outgoing) goes
+    IsScan-shorter c.along.invariant within (nexts_few c.self.invariant Outgoing) goes
 
 pub along-preserved : goal.along-preserved
 along-preserved g c =
@@ -73,4 +73,4 @@ along-preserved g c =
     let other : child_is edges c.index-v.result c.along.e ≡ false =
     child_seen c.index-v.result edges c.along.e x inside reads
     ∙ ne_eqb _ _ (λ q. c.if-index-v.false (c.index.ensures.value ∙ c.end.ensures ∙ q)) in
-    IsScan-step _ _ _ _ _ _ c.along.invariant within (nexts_few c.self.invariant Outgoing) other goes
+    IsScan-step c.along.invariant within (nexts_few c.self.invariant Outgoing) other goes

@@ -36,10 +36,10 @@ invariant_of-self-2 g c =
     ) in
     let new : c.new-e.result ≡ length c.self.inside.edges.items =
     omega (arith, c.new-e.ensures, c.len.ensures, ap length c.reserve.ensures.items) in
-    Stores-itself (edge_made_code c.self.invariant _ _ c.args.weight a_in b_in _ _ _ _ c.of_node.ensures
+    Stores-itself (edge_made_code c.self.invariant _ _ c.args.weight a_in b_in _ c.of_node.ensures
     c.of_node-2.ensures c.put_first-x.ensures.edge (weights_seen _ _ c.put_first-x.ensures.weights) _
     c.put_first-x.ensures.out c.put_first-x.ensures.into
-    _ _ new (ap (λ s. s.graph.vacant_edges) c.self.view_is ∙ c.requires.none) few c.reserve.ensures.items
+    new (ap (λ s. s.graph.vacant_edges) c.self.view_is ∙ c.requires.none) few c.reserve.ensures.items
     c.push_reserved.ensures.items)
 
 pub returns-clause-added : goal.returns-clause-added
@@ -57,10 +57,10 @@ returns-clause-added g c =
     omega (arith, c.new-e.ensures, c.len.ensures, ap length c.reserve.ensures.items) in
     state_changed _ _ _ _
     (λ h. with_edge h (g.Ix.IndexType.number c.args.a) (g.Ix.IndexType.number c.args.b) c.args.weight) c.self.view_is
-    (stored_is (edge_made_code c.self.invariant _ _ c.args.weight a_in b_in _ _ _ _ c.of_node.ensures
+    (stored_is (edge_made_code c.self.invariant _ _ c.args.weight a_in b_in _ c.of_node.ensures
     c.of_node-2.ensures c.put_first-x.ensures.edge (weights_seen _ _ c.put_first-x.ensures.weights) _
     c.put_first-x.ensures.out c.put_first-x.ensures.into
-    _ _ new (ap (λ s. s.graph.vacant_edges) c.self.view_is ∙ c.requires.none) few c.reserve.ensures.items
+    new (ap (λ s. s.graph.vacant_edges) c.self.view_is ∙ c.requires.none) few c.reserve.ensures.items
     c.push_reserved.ensures.items))
 
 pub new-e-requires : goal.new-e-requires

@@ -18,7 +18,7 @@ invariant_of-self-2 g c =
       ap (λ s. node_count s.graph) c.self.view_is,
       c.self.invariant.node_slots.counted,
     ) in
-    Stores-itself (node_made_code c.self.invariant c.args.weight _ _ _ (ap (λ s. s.graph.vacant_nodes) c.self.view_is
+    Stores-itself (node_made_code c.self.invariant c.args.weight (ap (λ s. s.graph.vacant_nodes) c.self.view_is
     ∙ c.requires.none) few c.new_node.ensures c.reserve.ensures.items c.push_reserved.ensures.items)
 
 pub returns-clause-added : goal.returns-clause-added
@@ -31,5 +31,5 @@ returns-clause-added g c =
       c.self.invariant.node_slots.counted,
     ) in
     state_changed _ _ _ _ (λ h. with_node h c.args.weight) c.self.view_is
-    (stored_is (node_made_code c.self.invariant c.args.weight _ _ _ (ap (λ s. s.graph.vacant_nodes) c.self.view_is
+    (stored_is (node_made_code c.self.invariant c.args.weight (ap (λ s. s.graph.vacant_nodes) c.self.view_is
     ∙ c.requires.none) few c.new_node.ensures c.reserve.ensures.items c.push_reserved.ensures.items))

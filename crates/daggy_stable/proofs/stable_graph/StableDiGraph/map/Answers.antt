@@ -23,7 +23,7 @@ invariant_of-result g c =
     Stores-mapped g.Ix.IndexType.of (goal.F-step g) (goal.G-step g) c.args.f c.args.g g.Ix.IndexType.greatest
     c.self.inside.nodes.items c.self.inside.edges.items nodes' edges' _ _
     nodes_map (λ dir. c.map_nodes.ensures.links dir ∙ ap (firsts_of dir) c.as_slice.ensures.value) edges_map
-    (λ dir. c.map_edges.ensures.links dir ∙ ap (nexts_of dir) c.as_slice-2.ensures.value) _ _ c.self.invariant
+    (λ dir. c.map_edges.ensures.links dir ∙ ap (nexts_of dir) c.as_slice-2.ensures.value) c.self.invariant
 
 pub returns-clause-mapped : goal.returns-clause-mapped
 returns-clause-mapped g c =

@@ -23,7 +23,7 @@ invariant_of-self g c =
     let orders = map (numbers_of g.Ix.IndexType.number) c.args.orders.now in
     let are = subst (λ s. AreOrders s.graph orders) (sym c.self.view_is) c.requires in
     let made = c.thread_nodes.ensures in
-    Stores-itself (ordered c.self.invariant orders are _ _ made.linked made.nodes made.edges made.vacant_nodes
+    Stores-itself (ordered c.self.invariant orders are made.linked made.nodes made.edges made.vacant_nodes
     made.other_edges made.as_many)
 
 pub returns : goal.returns
@@ -32,6 +32,6 @@ returns g c =
     let are = subst (λ s. AreOrders s.graph orders) (sym c.self.view_is) c.requires in
     let made = c.thread_nodes.ensures in
     let stored =
-    ordered c.self.invariant orders are _ _ made.linked made.nodes made.edges made.vacant_nodes made.other_edges
+    ordered c.self.invariant orders are made.linked made.nodes made.edges made.vacant_nodes made.other_edges
     made.as_many in
     state_changed _ _ _ _ (λ h. with_orders h orders) c.self.view_is (stored_is stored)

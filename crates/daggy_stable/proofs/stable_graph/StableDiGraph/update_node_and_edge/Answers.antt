@@ -14,7 +14,7 @@ index_mut-y-requires g c =
     let edges = c.self.inside.edges.items in
     omega (
       arith,
-      edge_stands _ nodes edges _ _ _ _ c.self.invariant _ c.args.self.now c.self.view_is
+      edge_stands nodes edges c.self.invariant _ c.args.self.now c.self.view_is
           (g.Ix.IndexType.number c.args.e) c.index-2.result c.index-2.ensures.value c.requires.edge,
       c.self.inside.edges.ok.0,
     )
@@ -24,7 +24,7 @@ at_slots-requires-clause-first g c =
     let nodes = c.self.inside.nodes.items in
     let edges = c.self.inside.edges.items in
     let x = c.index_mut-x in
-    subst (λ o. IsSome o) (node_cell _ nodes edges _ _ _ _ c.self.invariant _ c.args.self.now c.self.view_is
+    subst (λ o. IsSome o) (node_cell nodes edges c.self.invariant _ c.args.self.now c.self.view_is
     (g.Ix.IndexType.number c.args.n) c.index.result c.index.ensures.value x.result.now c.requires.node x.ensures.value)
     c.requires.node
 
@@ -34,9 +34,9 @@ at_slots-requires-clause-second g c =
     let edges = c.self.inside.edges.items in
     let y = c.index_mut-y in
     subst (λ o. IsSome o)
-    (edge_cell _ nodes edges _ _ _ _ c.self.invariant _ c.args.self.now c.self.view_is (g.Ix.IndexType.number c.args.e)
+    (edge_cell nodes edges c.self.invariant _ c.args.self.now c.self.view_is (g.Ix.IndexType.number c.args.e)
     c.index-2.result c.index-2.ensures.value y.result.now c.requires.edge y.ensures.value)
-    (edge_weighs _ nodes edges _ _ _ _ c.self.invariant _ c.args.self.now c.self.view_is
+    (edge_weighs nodes edges c.self.invariant _ c.args.self.now c.self.view_is
     (g.Ix.IndexType.number c.args.e) c.index-2.result c.index-2.ensures.value c.requires.edge)
 
 pub at_slots-requires-clause-callable : goal.at_slots-requires-clause-callable
@@ -46,10 +46,10 @@ at_slots-requires-clause-callable g c =
     let x = c.index_mut-x in
     let y = c.index_mut-y in
     let node_seen =
-    node_cell _ nodes edges _ _ _ _ c.self.invariant _ c.args.self.now c.self.view_is (g.Ix.IndexType.number c.args.n)
+    node_cell nodes edges c.self.invariant _ c.args.self.now c.self.view_is (g.Ix.IndexType.number c.args.n)
     c.index.result c.index.ensures.value x.result.now c.requires.node x.ensures.value in
     let edge_seen =
-    edge_cell _ nodes edges _ _ _ _ c.self.invariant _ c.args.self.now c.self.view_is (g.Ix.IndexType.number c.args.e)
+    edge_cell nodes edges c.self.invariant _ c.args.self.now c.self.view_is (g.Ix.IndexType.number c.args.e)
     c.index-2.result c.index-2.ensures.value y.result.now c.requires.edge y.ensures.value in
     λ p q p_is q_is. c.requires.callable p q (node_seen ∙ p_is) (edge_seen ∙ q_is)
 
@@ -63,16 +63,16 @@ invariant_of-self g c =
     let n = g.Ix.IndexType.number c.args.n in
     let e = g.Ix.IndexType.number c.args.e in
     let node =
-    node_has _ nodes edges _ _ _ _ c.self.invariant _ c.args.self.now c.self.view_is (g.Ix.IndexType.number c.args.n)
+    node_has nodes edges c.self.invariant _ c.args.self.now c.self.view_is (g.Ix.IndexType.number c.args.n)
     c.index.result c.index.ensures.value c.requires.node in
     let edge =
-    edge_has _ nodes edges _ _ _ _ c.self.invariant _ c.args.self.now c.self.view_is (g.Ix.IndexType.number c.args.e)
+    edge_has nodes edges c.self.invariant _ c.args.self.now c.self.view_is (g.Ix.IndexType.number c.args.e)
     c.index-2.result c.index-2.ensures.value c.requires.edge in
     let left = ap (λ z. z.0) r.leaves in
     let right = ap (λ z. z.1) r.leaves in
     let stored =
-    both_updated c.self.invariant n e _ _ c.index.ensures.value c.index-2.ensures.value x.result.now y.result.now _ _
-    r.first_left.now r.second_left.now node edge x.ensures.value y.ensures.value left right in
+    both_updated c.self.invariant n e c.index.ensures.value c.index-2.ensures.value
+    node edge x.ensures.value y.ensures.value left right in
     Stores-itself stored
 
 pub returns : goal.returns
@@ -85,23 +85,23 @@ returns g c =
     let n = g.Ix.IndexType.number c.args.n in
     let e = g.Ix.IndexType.number c.args.e in
     let node =
-    node_has _ nodes edges _ _ _ _ c.self.invariant _ c.args.self.now c.self.view_is (g.Ix.IndexType.number c.args.n)
+    node_has nodes edges c.self.invariant _ c.args.self.now c.self.view_is (g.Ix.IndexType.number c.args.n)
     c.index.result c.index.ensures.value c.requires.node in
     let edge =
-    edge_has _ nodes edges _ _ _ _ c.self.invariant _ c.args.self.now c.self.view_is (g.Ix.IndexType.number c.args.e)
+    edge_has nodes edges c.self.invariant _ c.args.self.now c.self.view_is (g.Ix.IndexType.number c.args.e)
     c.index-2.result c.index-2.ensures.value c.requires.edge in
     let left = ap (λ z. z.0) r.leaves in
     let right = ap (λ z. z.1) r.leaves in
     let stored =
-    both_updated c.self.invariant n e _ _ c.index.ensures.value c.index-2.ensures.value x.result.now y.result.now _ _
-    r.first_left.now r.second_left.now node edge x.ensures.value y.ensures.value left right in
+    both_updated c.self.invariant n e c.index.ensures.value c.index-2.ensures.value
+    node edge x.ensures.value y.ensures.value left right in
     let was =
     stored_graph g.Ix.IndexType.greatest nodes edges c.self.inside.first_vacant_node c.self.inside.first_vacant_edge in
-    called_at g.F.FnOnce c.args.f _ _ _ _ _ r.first r.second r.first_left r.second_left
-    (node_cell _ nodes edges _ _ _ _ c.self.invariant _ c.args.self.now c.self.view_is (g.Ix.IndexType.number c.args.n)
+    called_at r.first r.second r.first_left r.second_left
+    (node_cell nodes edges c.self.invariant _ c.args.self.now c.self.view_is (g.Ix.IndexType.number c.args.n)
     c.index.result c.index.ensures.value x.result.now c.requires.node x.ensures.value
     ∙ r.shows.0)
-    (edge_cell _ nodes edges _ _ _ _ c.self.invariant _ c.args.self.now c.self.view_is (g.Ix.IndexType.number c.args.e)
+    (edge_cell nodes edges c.self.invariant _ c.args.self.now c.self.view_is (g.Ix.IndexType.number c.args.e)
     c.index-2.result c.index-2.ensures.value y.result.now c.requires.edge y.ensures.value
     ∙ r.shows.1)
     r.called

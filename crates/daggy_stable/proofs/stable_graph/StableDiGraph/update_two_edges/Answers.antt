@@ -17,7 +17,7 @@ at_two-requires-clause-first g c =
     let lent_is = c.as_mut_slice.ensures.value in
     omega (
       arith,
-      edge_stands _ nodes edges _ _ _ _ c.self.invariant _ c.args.self.now c.self.view_is
+      edge_stands nodes edges c.self.invariant _ c.args.self.now c.self.view_is
           (g.Ix.IndexType.number c.args.a) c.index.result c.index.ensures.value c.requires.first,
       ap length lent_is,
     )
@@ -29,7 +29,7 @@ at_two-requires-clause-second g c =
     let lent_is = c.as_mut_slice.ensures.value in
     omega (
       arith,
-      edge_stands _ nodes edges _ _ _ _ c.self.invariant _ c.args.self.now c.self.view_is
+      edge_stands nodes edges c.self.invariant _ c.args.self.now c.self.view_is
           (g.Ix.IndexType.number c.args.b) c.index-2.result c.index-2.ensures.value c.requires.second,
       ap length lent_is,
     )
@@ -40,18 +40,18 @@ at_two-requires-clause-callable g c =
     let edges = c.self.inside.edges.items in
     let lent_is = c.as_mut_slice.ensures.value in
     let first_seen =
-    edge_seen _ nodes edges _ _ _ _ c.self.invariant _ c.args.self.now c.self.view_is (g.Ix.IndexType.number c.args.a)
+    edge_seen nodes edges c.self.invariant _ c.args.self.now c.self.view_is (g.Ix.IndexType.number c.args.a)
     c.index.result c.index.ensures.value _ lent_is in
     let second_seen =
-    edge_seen _ nodes edges _ _ _ _ c.self.invariant _ c.args.self.now c.self.view_is (g.Ix.IndexType.number c.args.b)
+    edge_seen nodes edges c.self.invariant _ c.args.self.now c.self.view_is (g.Ix.IndexType.number c.args.b)
     c.index-2.result c.index-2.ensures.value _ lent_is in
     λ p q p_is q_is.
     let first_at = first_seen ∙ edge_weight_got c.as_mut_slice.result.now c.index.result p.now p_is in
     let second_at = second_seen ∙ edge_weight_got c.as_mut_slice.result.now c.index-2.result q.now q_is in (
-      subst (λ o. IsSome o) first_at (edge_weighs _ nodes edges _ _ _ _ c.self.invariant _ c.args.self.now
+      subst (λ o. IsSome o) first_at (edge_weighs nodes edges c.self.invariant _ c.args.self.now
           c.self.view_is
           (g.Ix.IndexType.number c.args.a) c.index.result c.index.ensures.value c.requires.first),
-      subst (λ o. IsSome o) second_at (edge_weighs _ nodes edges _ _ _ _ c.self.invariant _ c.args.self.now
+      subst (λ o. IsSome o) second_at (edge_weighs nodes edges c.self.invariant _ c.args.self.now
           c.self.view_is
           (g.Ix.IndexType.number c.args.b) c.index-2.result c.index-2.ensures.value c.requires.second),
       λ v w v_is w_is. c.requires.callable v w (first_at ∙ v_is) (second_at ∙ w_is),
@@ -64,23 +64,23 @@ invariant_of-self g c =
     let lent_is = c.as_mut_slice.ensures.value in
     let sent = c.at_two.ensures in
     let r =
-    called_through (λ z. z.weight) (λ v x. edge_of_weight (Some v) x) g.F.FnOnce c.args.f _ _ _ _
-    (λ same. c.requires.different (sym c.index.ensures.value ∙ same ∙ c.index-2.ensures.value)) _ sent.first.now
-    sent.second.now sent.first_left.now sent.second_left.now _ _ sent.shows.0 sent.shows.1 sent.leaves
+    called_through (λ z. z.weight) (λ v x. edge_of_weight (Some v) x) g.F.FnOnce c.args.f _
+    (λ same. c.requires.different (sym c.index.ensures.value ∙ same ∙ c.index-2.ensures.value))
+    sent.shows.0 sent.shows.1 sent.leaves
     (edge_weight_got c.as_mut_slice.result.now c.index.result sent.first.now sent.shows.0)
     (edge_weight_got c.as_mut_slice.result.now c.index-2.result sent.second.now sent.shows.1)
-    (called_in_slots (λ z. z.weight) edge_of_weight g.F.FnOnce c.args.f _ _ _ _ _ sent.called.0 sent.called.1
+    (called_in_slots (λ z. z.weight) edge_of_weight g.F.FnOnce c.args.f _ _ sent.called.0 sent.called.1
     sent.called.2) in
     let a = g.Ix.IndexType.number c.args.a in
     let b = g.Ix.IndexType.number c.args.b in
     let first =
-    edge_has _ nodes edges _ _ _ _ c.self.invariant _ c.args.self.now c.self.view_is (g.Ix.IndexType.number c.args.a)
+    edge_has nodes edges c.self.invariant _ c.args.self.now c.self.view_is (g.Ix.IndexType.number c.args.a)
     c.index.result c.index.ensures.value c.requires.first in
     let second =
-    edge_has _ nodes edges _ _ _ _ c.self.invariant _ c.args.self.now c.self.view_is (g.Ix.IndexType.number c.args.b)
+    edge_has nodes edges c.self.invariant _ c.args.self.now c.self.view_is (g.Ix.IndexType.number c.args.b)
     c.index-2.result c.index-2.ensures.value c.requires.second in
     let stored =
-    edges_updated c.self.invariant a b _ _ c.index.ensures.value c.index-2.ensures.value _ _ _ r.first_left.now
+    edges_updated c.self.invariant a b c.index.ensures.value c.index-2.ensures.value r.first_left.now
     r.second_left.now first second c.self.inside.edges.ok.0 lent_is r.leaves in
     Stores-itself stored
 
@@ -91,31 +91,31 @@ returns g c =
     let lent_is = c.as_mut_slice.ensures.value in
     let sent = c.at_two.ensures in
     let r =
-    called_through (λ z. z.weight) (λ v x. edge_of_weight (Some v) x) g.F.FnOnce c.args.f _ _ _ _
-    (λ same. c.requires.different (sym c.index.ensures.value ∙ same ∙ c.index-2.ensures.value)) _ sent.first.now
-    sent.second.now sent.first_left.now sent.second_left.now _ _ sent.shows.0 sent.shows.1 sent.leaves
+    called_through (λ z. z.weight) (λ v x. edge_of_weight (Some v) x) g.F.FnOnce c.args.f _
+    (λ same. c.requires.different (sym c.index.ensures.value ∙ same ∙ c.index-2.ensures.value))
+    sent.shows.0 sent.shows.1 sent.leaves
     (edge_weight_got c.as_mut_slice.result.now c.index.result sent.first.now sent.shows.0)
     (edge_weight_got c.as_mut_slice.result.now c.index-2.result sent.second.now sent.shows.1)
-    (called_in_slots (λ z. z.weight) edge_of_weight g.F.FnOnce c.args.f _ _ _ _ _ sent.called.0 sent.called.1
+    (called_in_slots (λ z. z.weight) edge_of_weight g.F.FnOnce c.args.f _ _ sent.called.0 sent.called.1
     sent.called.2) in
     let a = g.Ix.IndexType.number c.args.a in
     let b = g.Ix.IndexType.number c.args.b in
     let first =
-    edge_has _ nodes edges _ _ _ _ c.self.invariant _ c.args.self.now c.self.view_is (g.Ix.IndexType.number c.args.a)
+    edge_has nodes edges c.self.invariant _ c.args.self.now c.self.view_is (g.Ix.IndexType.number c.args.a)
     c.index.result c.index.ensures.value c.requires.first in
     let second =
-    edge_has _ nodes edges _ _ _ _ c.self.invariant _ c.args.self.now c.self.view_is (g.Ix.IndexType.number c.args.b)
+    edge_has nodes edges c.self.invariant _ c.args.self.now c.self.view_is (g.Ix.IndexType.number c.args.b)
     c.index-2.result c.index-2.ensures.value c.requires.second in
     let stored =
-    edges_updated c.self.invariant a b _ _ c.index.ensures.value c.index-2.ensures.value _ _ _ r.first_left.now
+    edges_updated c.self.invariant a b c.index.ensures.value c.index-2.ensures.value r.first_left.now
     r.second_left.now first second c.self.inside.edges.ok.0 lent_is r.leaves in
     let was =
     stored_graph g.Ix.IndexType.greatest nodes edges c.self.inside.first_vacant_node c.self.inside.first_vacant_edge in
-    called_at g.F.FnOnce c.args.f _ _ _ _ _ r.first r.second r.first_left r.second_left
-    (edge_seen _ nodes edges _ _ _ _ c.self.invariant _ c.args.self.now c.self.view_is (g.Ix.IndexType.number c.args.a)
+    called_at r.first r.second r.first_left r.second_left
+    (edge_seen nodes edges c.self.invariant _ c.args.self.now c.self.view_is (g.Ix.IndexType.number c.args.a)
     c.index.result c.index.ensures.value _ lent_is
     ∙ r.shows.0)
-    (edge_seen _ nodes edges _ _ _ _ c.self.invariant _ c.args.self.now c.self.view_is (g.Ix.IndexType.number c.args.b)
+    (edge_seen nodes edges c.self.invariant _ c.args.self.now c.self.view_is (g.Ix.IndexType.number c.args.b)
     c.index-2.result c.index-2.ensures.value _ lent_is
     ∙ r.shows.1)
     r.called

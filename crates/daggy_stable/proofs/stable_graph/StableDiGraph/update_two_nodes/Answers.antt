@@ -17,7 +17,7 @@ at_two-requires-clause-first g c =
     let lent_is = c.as_mut_slice.ensures.value in
     omega (
       arith,
-      node_stands _ nodes edges _ _ _ _ c.self.invariant _ c.args.self.now c.self.view_is
+      node_stands nodes edges c.self.invariant _ c.args.self.now c.self.view_is
           (g.Ix.IndexType.number c.args.a) c.index.result c.index.ensures.value c.requires.first,
       ap length lent_is,
     )
@@ -29,7 +29,7 @@ at_two-requires-clause-second g c =
     let lent_is = c.as_mut_slice.ensures.value in
     omega (
       arith,
-      node_stands _ nodes edges _ _ _ _ c.self.invariant _ c.args.self.now c.self.view_is
+      node_stands nodes edges c.self.invariant _ c.args.self.now c.self.view_is
           (g.Ix.IndexType.number c.args.b) c.index-2.result c.index-2.ensures.value c.requires.second,
       ap length lent_is,
     )
@@ -40,10 +40,10 @@ at_two-requires-clause-callable g c =
     let edges = c.self.inside.edges.items in
     let lent_is = c.as_mut_slice.ensures.value in
     let first_seen =
-    node_seen _ nodes edges _ _ _ _ c.self.invariant _ c.args.self.now c.self.view_is (g.Ix.IndexType.number c.args.a)
+    node_seen nodes edges c.self.invariant _ c.args.self.now c.self.view_is (g.Ix.IndexType.number c.args.a)
     c.index.result c.index.ensures.value _ lent_is in
     let second_seen =
-    node_seen _ nodes edges _ _ _ _ c.self.invariant _ c.args.self.now c.self.view_is (g.Ix.IndexType.number c.args.b)
+    node_seen nodes edges c.self.invariant _ c.args.self.now c.self.view_is (g.Ix.IndexType.number c.args.b)
     c.index-2.result c.index-2.ensures.value _ lent_is in
     λ p q p_is q_is.
     let first_at = first_seen ∙ slot_got weight_of c.as_mut_slice.result.now c.index.result p.now p_is in
@@ -60,23 +60,23 @@ invariant_of-self g c =
     let lent_is = c.as_mut_slice.ensures.value in
     let sent = c.at_two.ensures in
     let r =
-    called_through weight_of (λ v x. node_of_weight (Some v) x) g.F.FnOnce c.args.f _ _ _ _
-    (λ same. c.requires.different (sym c.index.ensures.value ∙ same ∙ c.index-2.ensures.value)) _ sent.first.now
-    sent.second.now sent.first_left.now sent.second_left.now _ _ sent.shows.0 sent.shows.1 sent.leaves
+    called_through weight_of (λ v x. node_of_weight (Some v) x) g.F.FnOnce c.args.f _
+    (λ same. c.requires.different (sym c.index.ensures.value ∙ same ∙ c.index-2.ensures.value))
+    sent.shows.0 sent.shows.1 sent.leaves
     (slot_got weight_of c.as_mut_slice.result.now c.index.result sent.first.now sent.shows.0)
     (slot_got weight_of c.as_mut_slice.result.now c.index-2.result sent.second.now sent.shows.1)
-    (called_in_slots weight_of node_of_weight g.F.FnOnce c.args.f _ _ _ _ _ sent.called.0 sent.called.1 sent.called.2)
+    (called_in_slots weight_of node_of_weight g.F.FnOnce c.args.f _ _ sent.called.0 sent.called.1 sent.called.2)
     in
     let a = g.Ix.IndexType.number c.args.a in
     let b = g.Ix.IndexType.number c.args.b in
     let first =
-    node_has _ nodes edges _ _ _ _ c.self.invariant _ c.args.self.now c.self.view_is (g.Ix.IndexType.number c.args.a)
+    node_has nodes edges c.self.invariant _ c.args.self.now c.self.view_is (g.Ix.IndexType.number c.args.a)
     c.index.result c.index.ensures.value c.requires.first in
     let second =
-    node_has _ nodes edges _ _ _ _ c.self.invariant _ c.args.self.now c.self.view_is (g.Ix.IndexType.number c.args.b)
+    node_has nodes edges c.self.invariant _ c.args.self.now c.self.view_is (g.Ix.IndexType.number c.args.b)
     c.index-2.result c.index-2.ensures.value c.requires.second in
     let stored =
-    nodes_updated c.self.invariant a b _ _ c.index.ensures.value c.index-2.ensures.value _ _ _ r.first_left.now
+    nodes_updated c.self.invariant a b c.index.ensures.value c.index-2.ensures.value r.first_left.now
     r.second_left.now first second c.self.inside.nodes.ok.0 lent_is r.leaves in
     Stores-itself stored
 
@@ -87,31 +87,31 @@ returns g c =
     let lent_is = c.as_mut_slice.ensures.value in
     let sent = c.at_two.ensures in
     let r =
-    called_through weight_of (λ v x. node_of_weight (Some v) x) g.F.FnOnce c.args.f _ _ _ _
-    (λ same. c.requires.different (sym c.index.ensures.value ∙ same ∙ c.index-2.ensures.value)) _ sent.first.now
-    sent.second.now sent.first_left.now sent.second_left.now _ _ sent.shows.0 sent.shows.1 sent.leaves
+    called_through weight_of (λ v x. node_of_weight (Some v) x) g.F.FnOnce c.args.f _
+    (λ same. c.requires.different (sym c.index.ensures.value ∙ same ∙ c.index-2.ensures.value))
+    sent.shows.0 sent.shows.1 sent.leaves
     (slot_got weight_of c.as_mut_slice.result.now c.index.result sent.first.now sent.shows.0)
     (slot_got weight_of c.as_mut_slice.result.now c.index-2.result sent.second.now sent.shows.1)
-    (called_in_slots weight_of node_of_weight g.F.FnOnce c.args.f _ _ _ _ _ sent.called.0 sent.called.1 sent.called.2)
+    (called_in_slots weight_of node_of_weight g.F.FnOnce c.args.f _ _ sent.called.0 sent.called.1 sent.called.2)
     in
     let a = g.Ix.IndexType.number c.args.a in
     let b = g.Ix.IndexType.number c.args.b in
     let first =
-    node_has _ nodes edges _ _ _ _ c.self.invariant _ c.args.self.now c.self.view_is (g.Ix.IndexType.number c.args.a)
+    node_has nodes edges c.self.invariant _ c.args.self.now c.self.view_is (g.Ix.IndexType.number c.args.a)
     c.index.result c.index.ensures.value c.requires.first in
     let second =
-    node_has _ nodes edges _ _ _ _ c.self.invariant _ c.args.self.now c.self.view_is (g.Ix.IndexType.number c.args.b)
+    node_has nodes edges c.self.invariant _ c.args.self.now c.self.view_is (g.Ix.IndexType.number c.args.b)
     c.index-2.result c.index-2.ensures.value c.requires.second in
     let stored =
-    nodes_updated c.self.invariant a b _ _ c.index.ensures.value c.index-2.ensures.value _ _ _ r.first_left.now
+    nodes_updated c.self.invariant a b c.index.ensures.value c.index-2.ensures.value r.first_left.now
     r.second_left.now first second c.self.inside.nodes.ok.0 lent_is r.leaves in
     let was =
     stored_graph g.Ix.IndexType.greatest nodes edges c.self.inside.first_vacant_node c.self.inside.first_vacant_edge in
-    called_at g.F.FnOnce c.args.f _ _ _ _ _ r.first r.second r.first_left r.second_left
-    (node_seen _ nodes edges _ _ _ _ c.self.invariant _ c.args.self.now c.self.view_is (g.Ix.IndexType.number c.args.a)
+    called_at r.first r.second r.first_left r.second_left
+    (node_seen nodes edges c.self.invariant _ c.args.self.now c.self.view_is (g.Ix.IndexType.number c.args.a)
     c.index.result c.index.ensures.value _ lent_is
     ∙ r.shows.0)
-    (node_seen _ nodes edges _ _ _ _ c.self.invariant _ c.args.self.now c.self.view_is (g.Ix.IndexType.number c.args.b)
+    (node_seen nodes edges c.self.invariant _ c.args.self.now c.self.view_is (g.Ix.IndexType.number c.args.b)
     c.index-2.result c.index-2.ensures.value _ lent_is
     ∙ r.shows.1)
     r.called

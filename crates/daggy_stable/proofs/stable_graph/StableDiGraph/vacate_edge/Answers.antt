@@ -30,13 +30,13 @@ pub invariant_of-self : goal.invariant_of-self
 invariant_of-self g c =
     let has = rw (← c.self.view_is, ← c.of_edge-link.ensures) at c.requires in
     Stores-itself (edge_removed_code c.self.invariant c.of_edge-link.result has _ _ c.unlink.ensures.nodes
-    c.unlink.ensures.edges c.unlink.ensures.links _ c.index_mut-x.result.now c.set_next.new.x c.take-weight.new.self
+    c.unlink.ensures.edges c.unlink.ensures.links c.index_mut-x.result.now c.set_next.new.x c.take-weight.new.self
     c.index.ensures.value c.set_next.ensures c.take-weight.ensures.after)
 
 pub returns-clause-value : goal.returns-clause-value
 returns-clause-value g c =
     let has = rw (← c.self.view_is, ← c.of_edge-link.ensures) at c.requires in
-    removed_weight c.self.invariant c.of_edge-link.result has _ _ c.unlink.ensures.nodes c.unlink.ensures.edges _
+    removed_weight c.self.invariant c.of_edge-link.result has _ _ c.unlink.ensures.nodes c.unlink.ensures.edges
     c.index_mut-x.result.now c.set_next.new.x c.take-weight.result c.take-weight.new.self c.index.ensures.value
     c.index_mut-x.ensures.value c.set_next.ensures c.take-weight.ensures.value
     ∙ ap (λ s. option_map (λ z. z.weight) (edge_at s.graph c.of_edge-link.result)) c.self.view_is
@@ -50,7 +50,7 @@ returns-clause-removed g c =
     c.self.inside.first_vacant_node c.self.inside.first_vacant_edge in
     let stored =
     edge_removed_code c.self.invariant c.of_edge-link.result has _ _ c.unlink.ensures.nodes c.unlink.ensures.edges
-    c.unlink.ensures.links _ c.index_mut-x.result.now c.set_next.new.x c.take-weight.new.self c.index.ensures.value
+    c.unlink.ensures.links c.index_mut-x.result.now c.set_next.new.x c.take-weight.new.self c.index.ensures.value
     c.set_next.ensures c.take-weight.ensures.after in
     state_changed _ was _ _ (λ h. without_edge Stable h (g.Ix.IndexType.number c.args.e)) c.self.view_is
     (stored_is stored ∙ ap (without_edge Stable was) c.of_edge-link.ensures)

@@ -24,7 +24,7 @@ invariant_of-self g c =
     let empty : (d : Direction) → list_at d was c.of_node-link.result ≡ [] = λ d.
     ap (λ s. list_at d s.graph c.of_node-link.result) c.self.view_is
     ∙ ap (list_at d c.args.self.now.graph) c.of_node-link.ensures ∙ c.requires.no_edges d in
-    Stores-itself (node_dropped_code c.self.invariant c.of_node-link.result has empty _ c.index_mut-x.result.now
+    Stores-itself (node_dropped_code c.self.invariant c.of_node-link.result has empty c.index_mut-x.result.now
     c.set_first.new.x c.take-weight.new.self c.index.ensures.value c.set_first.ensures c.take-weight.ensures.after)
 
 pub returns-clause-value : goal.returns-clause-value
@@ -46,7 +46,7 @@ returns-clause-dropped g c =
     ap (λ s. list_at d s.graph c.of_node-link.result) c.self.view_is
     ∙ ap (list_at d c.args.self.now.graph) c.of_node-link.ensures ∙ c.requires.no_edges d in
     let stored =
-    node_dropped_code c.self.invariant c.of_node-link.result has empty _ c.index_mut-x.result.now c.set_first.new.x
+    node_dropped_code c.self.invariant c.of_node-link.result has empty c.index_mut-x.result.now c.set_first.new.x
     c.take-weight.new.self c.index.ensures.value c.set_first.ensures c.take-weight.ensures.after in
     state_changed _ was _ _ (λ h. with_node_dropped Stable h (g.Ix.IndexType.number c.args.n)) c.self.view_is
     (stored_is stored ∙ ap (with_node_dropped Stable was) c.of_node-link.ensures)

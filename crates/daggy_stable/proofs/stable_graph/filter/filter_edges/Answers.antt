@@ -37,7 +37,7 @@ each-preserved-in-None g c =
       nodes = c.each.invariant.nodes;
       kept =
           KeptSlots-passed (goal.G-step g) g.Ix.IndexType.of weight_in with_weight c.args.g (map read edges) c.each.g _
-          _ c.each.i slots reads c.leave_edge.ensures.edges c.each.invariant.kept;
+          c.each.i slots reads c.leave_edge.ensures.edges c.each.invariant.kept;
     }
 
 pub keep_edge-requires-clause-parent : goal.keep_edge-requires-clause-parent
@@ -83,8 +83,8 @@ each-preserved g c =
       stored = c.keep_edge.ensures.stored;
       nodes = c.keep_edge.ensures.nodes ∙ c.each.invariant.nodes;
       kept =
-          KeptSlots-called (goal.G-step g) g.Ix.IndexType.of weight_in with_weight c.args.g (map read edges) c.each.g
-          c.g-answer.new.self before _ c.each.i (plain x old) r slots reads called (c.keep_edge.ensures.edges ∙ made)
+          KeptSlots-called (goal.G-step g) g.Ix.IndexType.of weight_in with_weight c.args.g (map read edges)
+          before slots reads called (c.keep_edge.ensures.edges ∙ made)
           c.each.invariant.kept;
     }
 

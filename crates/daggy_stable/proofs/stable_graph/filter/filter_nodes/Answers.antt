@@ -25,7 +25,7 @@ each-preserved-in-None g c =
       stored = c.keep_node.ensures.stored;
       kept =
           KeptSlots-passed (goal.F-step g) g.Ix.IndexType.of (λ w. w) (λ w v. v) c.args.f (map weight_of nodes) c.each.f
-          _ _ c.each.i slots read c.keep_node.ensures.weights c.each.invariant.kept;
+          _ c.each.i slots read c.keep_node.ensures.weights c.each.invariant.kept;
     }
 
 pub each-preserved : goal.each-preserved
@@ -51,8 +51,8 @@ each-preserved g c =
           ∙ ap (λ n. n + 1) c.each.invariant.count;
       stored = c.keep_node-in-each.ensures.stored;
       kept =
-          KeptSlots-called (goal.F-step g) g.Ix.IndexType.of (λ w. w) (λ w v. v) c.args.f (map weight_of nodes) c.each.f
-          c.f-answer.new.self old _ c.each.i c.in-Some.old.now r slots read called
+          KeptSlots-called (goal.F-step g) g.Ix.IndexType.of (λ w. w) (λ w v. v) c.args.f (map weight_of nodes)
+          old slots read called
           (c.keep_node-in-each.ensures.weights ∙ ap (λ z. old ++ z ∷ []) (option_map_same r)) c.each.invariant.kept;
     }
 

@@ -24,7 +24,7 @@ each-preserved-in-None g c =
           ∙ ap (λ n. n + 1) c.each.invariant.count;
       mapped =
           rw c.push_reserved.ensures.items (MappedSlots-pass (goal.G-step g) g.Ix.IndexType.of weight_in with_weight
-          plain_edge plain_edge c.args.g edges c.each.new.items c.each.g c.each.i x y within c.index-edges-i.is
+          plain_edge plain_edge c.args.g edges c.each.new.items c.each.g c.each.i y within c.index-edges-i.is
           (ap (option_map (plain x)) (sym c.in-None.ensures.value)) (ap plain_edge c.edge_like.ensures)
           c.each.invariant.mapped);
       links = λ dir.
@@ -52,7 +52,7 @@ each-preserved g c =
       mapped =
           rw c.push_reserved-in-each.ensures.items
           (MappedSlots-call (goal.G-step g) g.Ix.IndexType.of weight_in with_weight plain_edge plain_edge c.args.g edges
-          c.each.new.items c.each.g c.each.i x y within c.index-edges-i.is c.g-weight.new.self
+          c.each.new.items c.each.g c.each.i y within c.index-edges-i.is c.g-weight.new.self
           (plain x c.in-Some.old.now) w (ap (option_map (plain x)) (sym c.in-Some.ensures.value))
           (ap plain_edge c.edge_like-in-each.ensures) called c.each.invariant.mapped);
       links = λ dir.

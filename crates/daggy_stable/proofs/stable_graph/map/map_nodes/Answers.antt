@@ -22,7 +22,7 @@ each-preserved-in-None g c =
           ∙ ap (λ n. n + 1) c.each.invariant.count;
       mapped =
           rw c.push_reserved.ensures.items (MappedSlots-pass (goal.F-step g) g.Ix.IndexType.of (λ w. w) (λ w v. v)
-          weight_of weight_of c.args.f nodes c.each.new.items c.each.f c.each.i x y within c.index-nodes-i.is
+          weight_of weight_of c.args.f nodes c.each.new.items c.each.f c.each.i y within c.index-nodes-i.is
           (sym c.in-None.ensures.value) (ap weight_of c.node_like.ensures) c.each.invariant.mapped);
       links = λ dir.
           ap (firsts_of dir) c.push_reserved.ensures.items
@@ -49,7 +49,7 @@ each-preserved g c =
       mapped =
           rw c.push_reserved-in-each.ensures.items
           (MappedSlots-call (goal.F-step g) g.Ix.IndexType.of (λ w. w) (λ w v. v) weight_of weight_of c.args.f nodes
-          c.each.new.items c.each.f c.each.i x y within c.index-nodes-i.is c.f-weight.new.self c.in-Some.old.now v
+          c.each.new.items c.each.f c.each.i y within c.index-nodes-i.is c.f-weight.new.self c.in-Some.old.now v
           (sym c.in-Some.ensures.value) (ap weight_of c.node_like-in-each.ensures) called c.each.invariant.mapped);
       links = λ dir.
           ap (firsts_of dir) c.push_reserved-in-each.ensures.items

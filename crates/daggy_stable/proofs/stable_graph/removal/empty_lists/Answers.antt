@@ -5,6 +5,6 @@ use Rattle.daggy_stable.proofs.stable_graph.removal.empty_lists.Goals as goal
 
 pub loop-i-preserved : goal.loop-i-preserved
 loop-i-preserved g c =
-    changing_step (with_lists_emptied g.Ix.IndexType.greatest) c.args.nodes.now.items c.loop-i.nodes.items c.loop-i.i _
-    c.index_mut.result.now c.empty_both.new.x (omega arith) c.loop-i.invariant (omega arith) c.index_mut.ensures.value
+    changing_step (with_lists_emptied g.Ix.IndexType.greatest) c.args.nodes.now.items
+    (omega arith) c.loop-i.invariant (omega arith) c.index_mut.ensures.value
     c.empty_both.ensures

@@ -16,7 +16,7 @@ redirect-requires g c = c.requires Outgoing
 
 pub redirect-requires-2 : goal.redirect-requires-2
 redirect-requires-2 g c =
-    ready_kept _ Incoming _ _ _ _ _ c.redirect.ensures.nodes.firsts c.redirect.ensures.edges.nexts
+    ready_kept Incoming c.redirect.ensures.nodes.firsts c.redirect.ensures.edges.nexts
     (c.redirect.ensures.edges.ends Incoming) (c.requires Incoming)
 
 pub returns-clause-links : goal.returns-clause-links
@@ -28,8 +28,7 @@ returns-clause-links g c =
     c.next-next_out.ensures ∙ next_is Outgoing edges _ e _ c.index.ensures c.index-i.ensures.value within in
     let into_is : c.next-next_in.result ≡ get_or (nexts_of Incoming edges) e 0 =
     c.next-next_in.ensures ∙ next_is Incoming edges _ e _ c.index-2.ensures c.index-i.ensures.value within in
-    both_redirected c.args.nodes.now.items c.redirect.new.nodes.items c.redirect-2.new.nodes.items edges
-    c.redirect.new.edges.items c.redirect-2.new.edges.items e c.next-next_out.result c.next-next_in.result
+    both_redirected
     (record {
       links = c.redirect.ensures.links;
       keeps = c.redirect.ensures.nodes;

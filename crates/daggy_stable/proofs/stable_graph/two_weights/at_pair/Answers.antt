@@ -5,6 +5,6 @@ use Rattle.daggy_stable.proofs.stable_graph.two_weights.at_pair.Goals as goal
 
 pub returns : goal.returns
 returns g c =
-    called_at g.F.FnOnce c.args.f _ _ _ _ _ c.unwrap-v.result c.unwrap-w.result _ _
+    called_at c.unwrap-v.result c.unwrap-w.result _ _
     (sym c.as_mut.ensures.value ∙ ap option_copied_mut c.unwrap-v.ensures)
     (sym c.as_mut-2.ensures.value ∙ ap option_copied_mut c.unwrap-w.ensures) c.f.ensures refl

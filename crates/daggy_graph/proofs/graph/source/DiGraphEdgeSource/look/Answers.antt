@@ -11,7 +11,7 @@ returns-clause-gives g c =
     let within = slot_within plain edges e (rw (← c.self.view_is) at c.requires) in
     let reads : c.index-x.result.now ≡ get_or edges e c.index-x.result.now =
     c.index-x.ensures ∙ ap (λ z. get_or edges z c.index-x.result.now) c.index.ensures.value in
-    rw (← c.self.view_is) (look_shown g.Ix.IndexType.greatest c.self.inside.nodes.items edges c.self.invariant e _ _
+    rw (← c.self.view_is) (look_shown g.Ix.IndexType.greatest c.self.inside.nodes.items edges c.self.invariant e
     c.index-x.result.now within reads c.target.ensures c.next_edge.ensures)
 
 pub index-x-requires : goal.index-x-requires

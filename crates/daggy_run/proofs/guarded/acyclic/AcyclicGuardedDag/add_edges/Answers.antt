@@ -6,7 +6,7 @@ pub returns-in-Ok-clause-added : goal.returns-in-Ok-clause-added
 returns-in-Ok-clause-added g c =
     let added = c.in-Ok.ensures.added in
     rw c.into_vec.ensures (all_added g.Ix.IndexType.number g.Ix.IndexType.greatest c.args.edges.items added.0 added.1.0
-    (added.1.1 ∙ c.args.edges.ok.0) _ _ _ added.2 c.add_edges.ensures.acyclic)
+    (added.1.1 ∙ c.args.edges.ok.0) added.2 c.add_edges.ensures.acyclic)
 
 pub returns-in-Err-clause-refused : goal.returns-in-Err-clause-refused
 returns-in-Err-clause-refused g c =

@@ -12,7 +12,7 @@ invariant_of-result g c =
     (node_slots_cloned _ g.N.Clone.is_clone (λ x y r. r) (λ x r. r) (λ x r. r) 0 _ _ nodes)
     (firsts_cloned _ g.N.Clone.is_clone (λ x y r. r) (λ x r. r) (λ x r. r) _ _ nodes)
     (edge_slots_cloned _ g.E.Clone.is_clone (λ x y r. r) (λ x r. r) (λ x r. r) 0 _ _ edges)
-    (nexts_cloned _ g.E.Clone.is_clone (λ x y r. r) (λ x r. r) (λ x r. r) _ _ edges) _ _ c.self.invariant
+    (nexts_cloned _ g.E.Clone.is_clone (λ x y r. r) (λ x r. r) (λ x r. r) _ _ edges) c.self.invariant
 
 pub returns : goal.returns
 returns g c =

@@ -7,9 +7,8 @@ pub returns-then-column-self : goal.returns-then-column-self
 returns-then-column-self g c =
     let low : (c.index-row.result < c.self.inside.bound) × (c.index-column.result < c.self.inside.bound) =
     elim c.if-row-self.branch [ then-row-self w ↦ search rules | else-row-self w ↦ search rules ] in
-    pair_tested c.self.inside.bound c.self.inside.bits c.args.self.now (g.Ix.IndexType.number c.args.a)
-    (g.Ix.IndexType.number c.args.b) c.index-row.result c.index-column.result c.place.result
-    c.get.result c.self.view_is c.index-row.ensures.value c.index-column.ensures.value low.0 low.1 c.place.ensures.value
+    pair_tested c.self.inside.bound c.self.inside.bits
+    c.self.view_is c.index-row.ensures.value c.index-column.ensures.value low.0 low.1 c.place.ensures.value
     c.get.ensures
 
 pub returns-else-column-self : goal.returns-else-column-self

@@ -41,7 +41,6 @@ returns-clause-joined g c =
       length-rows c.self.inside.bound c.self.inside.bits,
     ) in
     rw c.set.ensures.after
-    (pair_set c.self.inside.bound c.self.inside.bits c.args.self.now (g.Ix.IndexType.number c.args.a)
-    (g.Ix.IndexType.number c.args.b) c.index.result c.index-2.result c.place-i.result
+    (pair_set c.self.inside.bound c.self.inside.bits
     c.self.view_is c.self.invariant.0 c.index.ensures.value c.index-2.ensures.value row column c.place-i.ensures.value
     c.place-i.ensures.within)

@@ -7,6 +7,6 @@ invariant_of-result g c =
     let nodes = clone_step g.N.Clone.is_clone in
     let edges = clone_step g.E.Clone.is_clone in
     let copy = c.in_ok-store.ensures.cases.0 in (
-      order_mapped (λ i. i) nodes edges tt tt _ _ copy _ _ c.in_ok-order.ensures c.self.invariant.0,
-      fits_mapped (λ i. i) nodes edges tt tt _ _ copy _ _ c.node_count.ensures.slot_count c.in_ok-reserve.ensures.ok.0,
+      order_mapped (λ i. i) nodes edges tt tt _ _ copy c.in_ok-order.ensures c.self.invariant.0,
+      fits_mapped (λ i. i) nodes edges tt tt _ _ copy _ c.node_count.ensures.slot_count c.in_ok-reserve.ensures.ok.0,
     )

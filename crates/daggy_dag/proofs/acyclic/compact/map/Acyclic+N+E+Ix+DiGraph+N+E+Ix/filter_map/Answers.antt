@@ -8,32 +8,32 @@ rename_all-requires-clause-few g c =
     let made = c.in_ok-store.ensures.filtered in
     omega (
       arith,
-      names_many _ _ _ _ _ _ _ made.0 _ (made.1 ∙ sym c.as_slice.ensures.value),
+      names_many made.0 (made.1 ∙ sym c.as_slice.ensures.value),
       c.node_count.ensures.well_formed.few_nodes,
     )
 
 pub rename_all-requires-clause-covered : goal.rename_all-requires-clause-covered
 rename_all-requires-clause-covered g c =
     let made = c.in_ok-store.ensures.filtered in
-    names_cover _ _ _ _ _ _ _ made.0 _ (made.1 ∙ sym c.as_slice.ensures.value) _ _ c.in_ok-order.ensures
+    names_cover made.0 (made.1 ∙ sym c.as_slice.ensures.value) c.in_ok-order.ensures
     c.self.invariant.0
 
 pub rename_all-requires-clause-lower : goal.rename_all-requires-clause-lower
 rename_all-requires-clause-lower g c =
     let made = c.in_ok-store.ensures.filtered in
-    names_lower _ _ _ _ _ _ _ made.0 _ (made.1 ∙ sym c.as_slice.ensures.value)
+    names_lower made.0 (made.1 ∙ sym c.as_slice.ensures.value)
 
 pub rename_all-requires-clause-distinct : goal.rename_all-requires-clause-distinct
 rename_all-requires-clause-distinct g c =
     let made = c.in_ok-store.ensures.filtered in
-    names_differ _ _ _ _ _ _ _ made.0 _ (made.1 ∙ sym c.as_slice.ensures.value)
+    names_differ made.0 (made.1 ∙ sym c.as_slice.ensures.value)
 
 pub invariant_of-result : goal.invariant_of-result
 invariant_of-result g c =
     let made = c.in_ok-store.ensures.filtered in (
-      order_renamed _ _ _ _ _ _ _ made.0 _ (made.1 ∙ sym c.as_slice.ensures.value) _ _ _ c.in_ok-order.ensures
+      order_renamed made.0 (made.1 ∙ sym c.as_slice.ensures.value) c.in_ok-order.ensures
           c.rename_all.ensures c.self.invariant.0,
-      fits_filtered _ _ _ _ _ _ _ made.0 _ _ c.node_count.ensures.slot_count c.in_ok-reserve.ensures.ok.0,
+      fits_filtered made.0 _ c.node_count.ensures.slot_count c.in_ok-reserve.ensures.ok.0,
     )
 
 pub returns-clause-filtered : goal.returns-clause-filtered
@@ -42,7 +42,7 @@ returns-clause-filtered g c = rw (← c.self.view_is) c.in_ok-store.ensures.filt
 pub returns-clause-acyclic : goal.returns-clause-acyclic
 returns-clause-acyclic g c =
     let made = c.in_ok-store.ensures.filtered in
-    acyclic_from_order _ (order_renamed _ _ _ _ _ _ _ made.0 _ (made.1 ∙ sym c.as_slice.ensures.value) _ _ _
+    acyclic_from_order _ (order_renamed made.0 (made.1 ∙ sym c.as_slice.ensures.value)
     c.in_ok-order.ensures c.rename_all.ensures c.self.invariant.0)
 
 pub returns-clause-whole : goal.returns-clause-whole

@@ -4,8 +4,8 @@ use Rattle.daggy_dag.proofs.acyclic.compact.map.Acyclic+N+E+Ix+DiGraph+N+E+Ix.ma
 
 pub invariant_of-result : goal.invariant_of-result
 invariant_of-result g c = (
-  order_mapped _ _ _ _ _ _ _ c.in_ok-store.ensures.mapped _ _ c.in_ok-order.ensures c.self.invariant.0,
-  fits_mapped _ _ _ _ _ _ _ c.in_ok-store.ensures.mapped _ _ c.node_count.ensures.slot_count
+  order_mapped _ _ _ _ _ _ _ c.in_ok-store.ensures.mapped c.in_ok-order.ensures c.self.invariant.0,
+  fits_mapped _ _ _ _ _ _ _ c.in_ok-store.ensures.mapped _ c.node_count.ensures.slot_count
       c.in_ok-reserve.ensures.ok.0,
 )
 

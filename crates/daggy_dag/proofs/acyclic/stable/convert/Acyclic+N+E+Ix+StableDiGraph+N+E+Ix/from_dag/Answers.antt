@@ -10,7 +10,7 @@ invariant_of-result g c =
     let many : c.node_count-nodes.result ≡ length parts.result.0.graph.nodes =
     c.node_count-nodes.ensures.slot_count
     ∙ ap (λ s. length s.nodes) (c.graph.ensures.graph ∙ sym parts.ensures.graph) in
-    kept_copied _ _ _ _ _ _ _ c.fill-store.ensures refl many c.in-Ok.ensures.searches parts.ensures.ordered
+    kept_copied _ _ c.fill-store.ensures refl many c.in-Ok.ensures.searches parts.ensures.ordered
 
 pub returns-in-Ok-clause-acyclic : goal.returns-in-Ok-clause-acyclic
 returns-in-Ok-clause-acyclic g c = acyclic_from_order _ (invariant_of-result g c).0

@@ -4,8 +4,8 @@ use Rattle.daggy_dag.proofs.acyclic.stable.map.Acyclic+N+E+Ix+StableDiGraph+N+E+
 
 pub invariant_of-result : goal.invariant_of-result
 invariant_of-result g c = (
-  order_mapped _ _ _ _ _ _ _ c.in_ok-store.ensures.mapped _ _ c.in_ok-order.ensures c.self.invariant.0,
-  fits_mapped _ _ _ _ _ _ _ c.in_ok-store.ensures.mapped _ _ c.node_slots.ensures c.in_ok-reserve.ensures.ok.0,
+  order_mapped _ _ _ _ _ _ _ c.in_ok-store.ensures.mapped c.in_ok-order.ensures c.self.invariant.0,
+  fits_mapped _ _ _ _ _ _ _ c.in_ok-store.ensures.mapped _ c.node_slots.ensures c.in_ok-reserve.ensures.ok.0,
 )
 
 pub returns-clause-mapped : goal.returns-clause-mapped
