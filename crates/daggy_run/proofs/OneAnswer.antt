@@ -34,98 +34,98 @@ module _ {N E : Type 0} (limit : ℕ) where
   Agree a b h k = (a ≡ b) × (h ≡ k)
 
   -- ---- a node
-  same_node : (g : Graph N E) (weight : N) (a b : Answer N E) (h k : Graph N E) → FindsMemory a → FindsMemory b
+  same_node : (g : Graph N E) (weight : N) (a b : Answer N E) {h k : Graph N E} → FindsMemory a → FindsMemory b
       → IsStep Compact limit g (request.Node weight) a h → IsStep Compact limit g (request.Node weight) b k
       → Agree a b h k
-  same_node g weight (Memory w) b h k fa fb s t = absurd fa
-  same_node g weight (Node n) (Memory w) h k fa fb s t = absurd fb
-  same_node g weight (Node n) (Node m) h k fa fb s t = (ap Node (s.1 ∙ sym t.1), s.2 ∙ sym t.2)
-  same_node g weight (Node n) (Full (OfNode v)) h k fa fb s t = absurd (omega (arith, s.0, t.0))
-  same_node g weight (Node n) other h k fa fb s t = absurd t
-  same_node g weight (Full (OfNode v)) (Memory w) h k fa fb s t = absurd fb
-  same_node g weight (Full (OfNode v)) (Node m) h k fa fb s t = absurd (omega (arith, s.0, t.0))
-  same_node g weight (Full (OfNode v)) (Full (OfNode w)) h k fa fb s t = (
+  same_node g weight (Memory w) b fa fb s t = absurd fa
+  same_node g weight (Node n) (Memory w) fa fb s t = absurd fb
+  same_node g weight (Node n) (Node m) fa fb s t = (ap Node (s.1 ∙ sym t.1), s.2 ∙ sym t.2)
+  same_node g weight (Node n) (Full (OfNode v)) fa fb s t = absurd (omega (arith, s.0, t.0))
+  same_node g weight (Node n) other fa fb s t = absurd t
+  same_node g weight (Full (OfNode v)) (Memory w) fa fb s t = absurd fb
+  same_node g weight (Full (OfNode v)) (Node m) fa fb s t = absurd (omega (arith, s.0, t.0))
+  same_node g weight (Full (OfNode v)) (Full (OfNode w)) fa fb s t = (
     ap (λ x. Full (OfNode x)) (s.1 ∙ sym t.1),
     s.2 ∙ sym t.2,
   )
-  same_node g weight (Full (OfNode v)) other h k fa fb s t = absurd t
-  same_node g weight other b h k fa fb s t = absurd s
+  same_node g weight (Full (OfNode v)) other fa fb s t = absurd t
+  same_node g weight other b fa fb s t = absurd s
 
   -- ---- an edge
-  same_edge : (g : Graph N E) (x : NewEdge E) (a b : Answer N E) (h k : Graph N E) → FindsMemory a → FindsMemory b
+  same_edge : (g : Graph N E) (x : NewEdge E) (a b : Answer N E) {h k : Graph N E} → FindsMemory a → FindsMemory b
       → IsEdgeStep limit g x a h → IsEdgeStep limit g x b k → Agree a b h k
-  same_edge g x (Memory w) b h k fa fb s t = absurd fa
-  same_edge g x (Edge e) (Memory w) h k fa fb s t = absurd fb
-  same_edge g x (Edge e) (Edge f) h k fa fb s t = (ap Edge (s.1 ∙ sym t.1), s.2 ∙ sym t.2)
-  same_edge g x (Edge e) (Missing (OfEdge w)) h k fa fb s t = absurd (t.0 s.0.0)
-  same_edge g x (Edge e) (Full (OfEdge w)) h k fa fb s t = absurd (omega (arith, s.0.1, t.0.1))
-  same_edge g x (Edge e) (Cycle w) h k fa fb s t = absurd (s.0.2 t.2)
-  same_edge g x (Edge e) other h k fa fb s t = absurd t
-  same_edge g x (Missing (OfEdge v)) (Memory w) h k fa fb s t = absurd fb
-  same_edge g x (Missing (OfEdge v)) (Edge f) h k fa fb s t = absurd (s.0 t.0.0)
-  same_edge g x (Missing (OfEdge v)) (Missing (OfEdge w)) h k fa fb s t = (
+  same_edge g x (Memory w) b fa fb s t = absurd fa
+  same_edge g x (Edge e) (Memory w) fa fb s t = absurd fb
+  same_edge g x (Edge e) (Edge f) fa fb s t = (ap Edge (s.1 ∙ sym t.1), s.2 ∙ sym t.2)
+  same_edge g x (Edge e) (Missing (OfEdge w)) fa fb s t = absurd (t.0 s.0.0)
+  same_edge g x (Edge e) (Full (OfEdge w)) fa fb s t = absurd (omega (arith, s.0.1, t.0.1))
+  same_edge g x (Edge e) (Cycle w) fa fb s t = absurd (s.0.2 t.2)
+  same_edge g x (Edge e) other fa fb s t = absurd t
+  same_edge g x (Missing (OfEdge v)) (Memory w) fa fb s t = absurd fb
+  same_edge g x (Missing (OfEdge v)) (Edge f) fa fb s t = absurd (s.0 t.0.0)
+  same_edge g x (Missing (OfEdge v)) (Missing (OfEdge w)) fa fb s t = (
     ap (λ y. Missing (OfEdge y)) (s.1 ∙ sym t.1),
     s.2 ∙ sym t.2,
   )
-  same_edge g x (Missing (OfEdge v)) (Full (OfEdge w)) h k fa fb s t = absurd (s.0 t.0.0)
-  same_edge g x (Missing (OfEdge v)) (Cycle w) h k fa fb s t = absurd (s.0 t.0)
-  same_edge g x (Missing (OfEdge v)) other h k fa fb s t = absurd t
-  same_edge g x (Full (OfEdge v)) (Memory w) h k fa fb s t = absurd fb
-  same_edge g x (Full (OfEdge v)) (Edge f) h k fa fb s t = absurd (omega (arith, s.0.1, t.0.1))
-  same_edge g x (Full (OfEdge v)) (Missing (OfEdge w)) h k fa fb s t = absurd (t.0 s.0.0)
-  same_edge g x (Full (OfEdge v)) (Full (OfEdge w)) h k fa fb s t = (
+  same_edge g x (Missing (OfEdge v)) (Full (OfEdge w)) fa fb s t = absurd (s.0 t.0.0)
+  same_edge g x (Missing (OfEdge v)) (Cycle w) fa fb s t = absurd (s.0 t.0)
+  same_edge g x (Missing (OfEdge v)) other fa fb s t = absurd t
+  same_edge g x (Full (OfEdge v)) (Memory w) fa fb s t = absurd fb
+  same_edge g x (Full (OfEdge v)) (Edge f) fa fb s t = absurd (omega (arith, s.0.1, t.0.1))
+  same_edge g x (Full (OfEdge v)) (Missing (OfEdge w)) fa fb s t = absurd (t.0 s.0.0)
+  same_edge g x (Full (OfEdge v)) (Full (OfEdge w)) fa fb s t = (
     ap (λ y. Full (OfEdge y)) (s.1 ∙ sym t.1),
     s.2 ∙ sym t.2,
   )
-  same_edge g x (Full (OfEdge v)) (Cycle w) h k fa fb s t = absurd (omega (arith, s.0.1, t.1))
-  same_edge g x (Full (OfEdge v)) other h k fa fb s t = absurd t
-  same_edge g x (Cycle v) (Memory w) h k fa fb s t = absurd fb
-  same_edge g x (Cycle v) (Edge f) h k fa fb s t = absurd (t.0.2 s.2)
-  same_edge g x (Cycle v) (Missing (OfEdge w)) h k fa fb s t = absurd (t.0 s.0)
-  same_edge g x (Cycle v) (Full (OfEdge w)) h k fa fb s t = absurd (omega (arith, s.1, t.0.1))
-  same_edge g x (Cycle v) (Cycle w) h k fa fb s t = (ap Cycle (s.3 ∙ sym t.3), s.4 ∙ sym t.4)
-  same_edge g x (Cycle v) other h k fa fb s t = absurd t
-  same_edge g x other b h k fa fb s t = absurd s
+  same_edge g x (Full (OfEdge v)) (Cycle w) fa fb s t = absurd (omega (arith, s.0.1, t.1))
+  same_edge g x (Full (OfEdge v)) other fa fb s t = absurd t
+  same_edge g x (Cycle v) (Memory w) fa fb s t = absurd fb
+  same_edge g x (Cycle v) (Edge f) fa fb s t = absurd (t.0.2 s.2)
+  same_edge g x (Cycle v) (Missing (OfEdge w)) fa fb s t = absurd (t.0 s.0)
+  same_edge g x (Cycle v) (Full (OfEdge w)) fa fb s t = absurd (omega (arith, s.1, t.0.1))
+  same_edge g x (Cycle v) (Cycle w) fa fb s t = (ap Cycle (s.3 ∙ sym t.3), s.4 ∙ sym t.4)
+  same_edge g x (Cycle v) other fa fb s t = absurd t
+  same_edge g x other b fa fb s t = absurd s
 
-  same_update : (g : Graph N E) (found : Option ℕ) (x : NewEdge E) (a b : Answer N E) (h k : Graph N E)
+  same_update : (g : Graph N E) (found : Option ℕ) (x : NewEdge E) (a b : Answer N E) {h k : Graph N E}
       → FindsMemory a → FindsMemory b
       → IsUpdateStep limit found g x a h → IsUpdateStep limit found g x b k → Agree a b h k
-  same_update g None x a b h k fa fb s t = same_edge g x a b h k fa fb s t
-  same_update g (Some found) x (Edge e) (Edge f) h k fa fb s t = (ap Edge (s.0 ∙ sym t.0), s.1 ∙ sym t.1)
-  same_update g (Some found) x (Edge e) other h k fa fb s t = absurd t
-  same_update g (Some found) x other b h k fa fb s t = absurd s
+  same_update g None x a b fa fb s t = same_edge g x a b fa fb s t
+  same_update g (Some found) x (Edge e) (Edge f) fa fb s t = (ap Edge (s.0 ∙ sym t.0), s.1 ∙ sym t.1)
+  same_update g (Some found) x (Edge e) other fa fb s t = absurd t
+  same_update g (Some found) x other b fa fb s t = absurd s
 
   -- ---- a node with an edge
-  same_neighbor : (dir : Direction) (g : Graph N E) (n : ℕ) (edge : E) (node : N) (a b : Answer N E) (h k : Graph N E)
+  same_neighbor : (dir : Direction) (g : Graph N E) (n : ℕ) (edge : E) (node : N) (a b : Answer N E) {h k : Graph N E}
       → FindsMemory a → FindsMemory b
       → IsNeighborStep dir limit g n edge node a h → IsNeighborStep dir limit g n edge node b k → Agree a b h k
-  same_neighbor dir g n edge node (Memory w) b h k fa fb s t = absurd fa
-  same_neighbor dir g n edge node (EdgeNode e m) (Memory w) h k fa fb s t = absurd fb
-  same_neighbor dir g n edge node (EdgeNode e m) (EdgeNode f o) h k fa fb s t =
+  same_neighbor dir g n edge node (Memory w) b fa fb s t = absurd fa
+  same_neighbor dir g n edge node (EdgeNode e m) (Memory w) fa fb s t = absurd fb
+  same_neighbor dir g n edge node (EdgeNode e m) (EdgeNode f o) fa fb s t =
       let one : e ≡ f = s.1 ∙ sym t.1 in
       let other : m ≡ o = s.2 ∙ sym t.2 in (ap (λ y. EdgeNode y m) one ∙ ap (EdgeNode f) other, s.3 ∙ sym t.3)
-  same_neighbor dir g n edge node (EdgeNode e m) (Missing (OfEdgeNode f w)) h k fa fb s t = absurd (t.0 s.0.0)
-  same_neighbor dir g n edge node (EdgeNode e m) (Full (OfEdgeNode f w)) h k fa fb s t =
+  same_neighbor dir g n edge node (EdgeNode e m) (Missing (OfEdgeNode f w)) fa fb s t = absurd (t.0 s.0.0)
+  same_neighbor dir g n edge node (EdgeNode e m) (Full (OfEdgeNode f w)) fa fb s t =
       absurd (no_room limit _ _ s.0.1 s.0.2 t.1)
-  same_neighbor dir g n edge node (EdgeNode e m) other h k fa fb s t = absurd t
-  same_neighbor dir g n edge node (Missing (OfEdgeNode e v)) (Memory w) h k fa fb s t = absurd fb
-  same_neighbor dir g n edge node (Missing (OfEdgeNode e v)) (EdgeNode f o) h k fa fb s t = absurd (s.0 t.0.0)
-  same_neighbor dir g n edge node (Missing (OfEdgeNode e v)) (Missing (OfEdgeNode f w)) h k fa fb s t =
+  same_neighbor dir g n edge node (EdgeNode e m) other fa fb s t = absurd t
+  same_neighbor dir g n edge node (Missing (OfEdgeNode e v)) (Memory w) fa fb s t = absurd fb
+  same_neighbor dir g n edge node (Missing (OfEdgeNode e v)) (EdgeNode f o) fa fb s t = absurd (s.0 t.0.0)
+  same_neighbor dir g n edge node (Missing (OfEdgeNode e v)) (Missing (OfEdgeNode f w)) fa fb s t =
       let one : e ≡ f = s.1 ∙ sym t.1 in
       let other : v ≡ w = s.2 ∙ sym t.2 in
       (ap (λ y. Missing (OfEdgeNode y v)) one ∙ ap (λ y. Missing (OfEdgeNode f y)) other, s.3 ∙ sym t.3)
-  same_neighbor dir g n edge node (Missing (OfEdgeNode e v)) (Full (OfEdgeNode f w)) h k fa fb s t = absurd (s.0 t.0)
-  same_neighbor dir g n edge node (Missing (OfEdgeNode e v)) other h k fa fb s t = absurd t
-  same_neighbor dir g n edge node (Full (OfEdgeNode e v)) (Memory w) h k fa fb s t = absurd fb
-  same_neighbor dir g n edge node (Full (OfEdgeNode e v)) (EdgeNode f o) h k fa fb s t =
+  same_neighbor dir g n edge node (Missing (OfEdgeNode e v)) (Full (OfEdgeNode f w)) fa fb s t = absurd (s.0 t.0)
+  same_neighbor dir g n edge node (Missing (OfEdgeNode e v)) other fa fb s t = absurd t
+  same_neighbor dir g n edge node (Full (OfEdgeNode e v)) (Memory w) fa fb s t = absurd fb
+  same_neighbor dir g n edge node (Full (OfEdgeNode e v)) (EdgeNode f o) fa fb s t =
       absurd (no_room limit _ _ t.0.1 t.0.2 s.1)
-  same_neighbor dir g n edge node (Full (OfEdgeNode e v)) (Missing (OfEdgeNode f w)) h k fa fb s t = absurd (t.0 s.0)
-  same_neighbor dir g n edge node (Full (OfEdgeNode e v)) (Full (OfEdgeNode f w)) h k fa fb s t =
+  same_neighbor dir g n edge node (Full (OfEdgeNode e v)) (Missing (OfEdgeNode f w)) fa fb s t = absurd (t.0 s.0)
+  same_neighbor dir g n edge node (Full (OfEdgeNode e v)) (Full (OfEdgeNode f w)) fa fb s t =
       let one : e ≡ f = s.2 ∙ sym t.2 in
       let other : v ≡ w = s.3 ∙ sym t.3 in
       (ap (λ y. Full (OfEdgeNode y v)) one ∙ ap (λ y. Full (OfEdgeNode f y)) other, s.4 ∙ sym t.4)
-  same_neighbor dir g n edge node (Full (OfEdgeNode e v)) other h k fa fb s t = absurd t
-  same_neighbor dir g n edge node other b h k fa fb s t = absurd s
+  same_neighbor dir g n edge node (Full (OfEdgeNode e v)) other fa fb s t = absurd t
+  same_neighbor dir g n edge node other b fa fb s t = absurd s
 
   -- ---- a list of edges
   -- the edge has something against it
@@ -138,22 +138,22 @@ module _ {N E : Type 0} (limit : ℕ) where
   by_index : (g : Graph N E) (x : NewEdge E) → LacksIndex limit g x → IsFaulty g x
   by_index g x lacks ends few = omega (arith, lacks.1)
 
-  one_fault : (g : Graph N E) (front other behind rest : List (NewEdge E)) (at it : NewEdge E)
+  one_fault : (g : Graph N E) (front other behind rest : List (NewEdge E)) {at it : NewEdge E}
       → front ++ at ∷ behind ≡ other ++ it ∷ rest
       → IsFaultless limit g front → IsFaultless limit g other → IsFaulty (with_edges g front) at
       → IsFaulty (with_edges g other) it → AreOne front other at it
-  one_fault g [] [] behind rest at it same f o a b = record { fronts = refl; ats = cc }
-  one_fault g [] (y ∷ other) behind rest at it same f o a b =
+  one_fault g [] [] behind rest same f o a b = record { fronts = refl; ats = cc }
+  one_fault g [] (y ∷ other) behind rest {at} {it} same f o a b =
       let here : at ≡ y = cc in absurd (subst (IsFaulty g) here a o.0 o.1)
-  one_fault g (x ∷ front) [] behind rest at it same f o a b =
+  one_fault g (x ∷ front) [] behind rest {at} {it} same f o a b =
       let here : it ≡ x = cc in absurd (subst (IsFaulty g) here b f.0 f.1)
-  one_fault g (x ∷ front) (y ∷ other) behind rest at it same f o a b =
+  one_fault g (x ∷ front) (y ∷ other) behind rest {at} {it} same f o a b =
       let here : x ≡ y = cc in
       let there : front ++ at ∷ behind ≡ other ++ it ∷ rest = cc in
       let P : NewEdge E → Type 0 = λ z. IsFaultless limit (with_edge g z.0 z.1 z.2) other in
       let Q : NewEdge E → Type 0 = λ z. IsFaulty (with_edges (with_edge g z.0 z.1 z.2) other) it in
       let r =
-      one_fault (with_edge g x.0 x.1 x.2) front other behind rest at it there f.2 (subst P (sym here) o.2) a
+      one_fault (with_edge g x.0 x.1 x.2) front other behind rest there f.2 (subst P (sym here) o.2) a
       (subst Q (sym here) b) in
       record { fronts = ap (λ z. z ∷ front) here ∙ ap (λ zs. y ∷ zs) r.fronts; ats = r.ats }
 
@@ -175,7 +175,7 @@ module _ {N E : Type 0} (limit : ℕ) where
         → {l m : E} {ls bs : List E} (s : StopsAt limit g edges C l ls) (t : StopsAt limit g edges D m bs)
         → AreOne s.front t.front s.at t.at
     same_stop C D c d s t =
-        one_fault g s.front t.front s.behind t.behind s.at t.at (sym s.edges_are ∙ t.edges_are) s.faultless t.faultless
+        one_fault g s.front t.front s.behind t.behind (sym s.edges_are ∙ t.edges_are) s.faultless t.faultless
         (c _ _ s.cause) (d _ _ t.cause)
 
     same_weights : (C D : Graph N E → NewEdge E → Type 0) (l m : E) (ls bs : List E) (s : StopsAt limit g edges C l ls)
@@ -204,112 +204,112 @@ module _ {N E : Type 0} (limit : ℕ) where
     faultless_no_index l ls f s =
         no_fault g edges s.front s.behind s.at s.edges_are f (by_index (with_edges g s.front) s.at s.cause)
 
-    same_series : (a b : Answer N E) (h k : Graph N E)
+    same_series : (a b : Answer N E) {h k : Graph N E}
         → FindsMemory a → FindsMemory b → IsBatchStep limit g edges a h → IsBatchStep limit g edges b k → Agree a b h k
-    same_series (Memory w) b h k fa fb s t = absurd fa
-    same_series (Edges es) (Memory w) h k fa fb s t = absurd fb
-    same_series (Edges es) (Edges fs) h k fa fb s t = (
+    same_series (Memory w) b fa fb s t = absurd fa
+    same_series (Edges es) (Memory w) fa fb s t = absurd fb
+    same_series (Edges es) (Edges fs) fa fb s t = (
       ap Edges (s.indices_are ∙ sym t.indices_are),
       s.added ∙ sym t.added,
     )
-    same_series (Edges es) (Missing (OfEdges l ls)) h k fa fb s t = absurd (faultless_no_end l ls s.faultless t.0)
-    same_series (Edges es) (Full (OfEdges l ls)) h k fa fb s t = absurd (faultless_no_index l ls s.faultless t.0)
-    same_series (Edges es) (CycleAll ws) h k fa fb s t = absurd (t.0.cyclic s.acyclic)
-    same_series (Edges es) other h k fa fb s t = absurd t
-    same_series (Missing (OfEdges l ls)) (Memory w) h k fa fb s t = absurd fb
-    same_series (Missing (OfEdges l ls)) (Edges es) h k fa fb s t = absurd (faultless_no_end l ls t.faultless s.0)
-    same_series (Missing (OfEdges l ls)) (Missing (OfEdges m bs)) h k fa fb s t =
+    same_series (Edges es) (Missing (OfEdges l ls)) fa fb s t = absurd (faultless_no_end l ls s.faultless t.0)
+    same_series (Edges es) (Full (OfEdges l ls)) fa fb s t = absurd (faultless_no_index l ls s.faultless t.0)
+    same_series (Edges es) (CycleAll ws) fa fb s t = absurd (t.0.cyclic s.acyclic)
+    same_series (Edges es) other fa fb s t = absurd t
+    same_series (Missing (OfEdges l ls)) (Memory w) fa fb s t = absurd fb
+    same_series (Missing (OfEdges l ls)) (Edges es) fa fb s t = absurd (faultless_no_end l ls t.faultless s.0)
+    same_series (Missing (OfEdges l ls)) (Missing (OfEdges m bs)) fa fb s t =
         let same =
         same_weights LacksEnd LacksEnd l m ls bs s.0 t.0
         (same_stop LacksEnd LacksEnd by_end by_end s.0 t.0) in
         (ap (λ y. Missing (OfEdges y ls)) same.0 ∙ ap (λ ys. Missing (OfEdges m ys)) same.1, s.1 ∙ sym t.1)
-    same_series (Missing (OfEdges l ls)) (Full (OfEdges m bs)) h k fa fb s t = absurd (apart l m ls bs s.0 t.0)
-    same_series (Missing (OfEdges l ls)) (CycleAll ws) h k fa fb s t = absurd (faultless_no_end l ls t.0.faultless s.0)
-    same_series (Missing (OfEdges l ls)) other h k fa fb s t = absurd t
-    same_series (Full (OfEdges l ls)) (Memory w) h k fa fb s t = absurd fb
-    same_series (Full (OfEdges l ls)) (Edges es) h k fa fb s t = absurd (faultless_no_index l ls t.faultless s.0)
-    same_series (Full (OfEdges l ls)) (Missing (OfEdges m bs)) h k fa fb s t = absurd (apart m l bs ls t.0 s.0)
-    same_series (Full (OfEdges l ls)) (Full (OfEdges m bs)) h k fa fb s t =
+    same_series (Missing (OfEdges l ls)) (Full (OfEdges m bs)) fa fb s t = absurd (apart l m ls bs s.0 t.0)
+    same_series (Missing (OfEdges l ls)) (CycleAll ws) fa fb s t = absurd (faultless_no_end l ls t.0.faultless s.0)
+    same_series (Missing (OfEdges l ls)) other fa fb s t = absurd t
+    same_series (Full (OfEdges l ls)) (Memory w) fa fb s t = absurd fb
+    same_series (Full (OfEdges l ls)) (Edges es) fa fb s t = absurd (faultless_no_index l ls t.faultless s.0)
+    same_series (Full (OfEdges l ls)) (Missing (OfEdges m bs)) fa fb s t = absurd (apart m l bs ls t.0 s.0)
+    same_series (Full (OfEdges l ls)) (Full (OfEdges m bs)) fa fb s t =
         let same =
         same_weights (LacksIndex limit) (LacksIndex limit) l m ls bs s.0 t.0
         (same_stop (LacksIndex limit) (LacksIndex limit) by_index by_index s.0 t.0) in
         (ap (λ y. Full (OfEdges y ls)) same.0 ∙ ap (λ ys. Full (OfEdges m ys)) same.1, s.1 ∙ sym t.1)
-    same_series (Full (OfEdges l ls)) (CycleAll ws) h k fa fb s t = absurd (faultless_no_index l ls t.0.faultless s.0)
-    same_series (Full (OfEdges l ls)) other h k fa fb s t = absurd t
-    same_series (CycleAll vs) (Memory w) h k fa fb s t = absurd fb
-    same_series (CycleAll vs) (Edges es) h k fa fb s t = absurd (s.0.cyclic t.acyclic)
-    same_series (CycleAll vs) (Missing (OfEdges l ls)) h k fa fb s t = absurd (faultless_no_end l ls s.0.faultless t.0)
-    same_series (CycleAll vs) (Full (OfEdges l ls)) h k fa fb s t = absurd (faultless_no_index l ls s.0.faultless t.0)
-    same_series (CycleAll vs) (CycleAll ws) h k fa fb s t = (
+    same_series (Full (OfEdges l ls)) (CycleAll ws) fa fb s t = absurd (faultless_no_index l ls t.0.faultless s.0)
+    same_series (Full (OfEdges l ls)) other fa fb s t = absurd t
+    same_series (CycleAll vs) (Memory w) fa fb s t = absurd fb
+    same_series (CycleAll vs) (Edges es) fa fb s t = absurd (s.0.cyclic t.acyclic)
+    same_series (CycleAll vs) (Missing (OfEdges l ls)) fa fb s t = absurd (faultless_no_end l ls s.0.faultless t.0)
+    same_series (CycleAll vs) (Full (OfEdges l ls)) fa fb s t = absurd (faultless_no_index l ls s.0.faultless t.0)
+    same_series (CycleAll vs) (CycleAll ws) fa fb s t = (
       ap CycleAll (s.0.weights_are ∙ sym t.0.weights_are),
       s.1 ∙ sym t.1,
     )
-    same_series (CycleAll vs) other h k fa fb s t = absurd t
-    same_series other b h k fa fb s t = absurd s
+    same_series (CycleAll vs) other fa fb s t = absurd t
+    same_series other b fa fb s t = absurd s
 
   -- ---- what is asked alone
-  same_find : (g : Graph N E) (u v : ℕ) (a b : Answer N E) (h k : Graph N E)
+  same_find : (g : Graph N E) (u v : ℕ) (a b : Answer N E) {h k : Graph N E}
       → IsStep Compact limit g (request.Find u v) a h → IsStep Compact limit g (request.Find u v) b k → Agree a b h k
-  same_find g u v (Found e) (Found f) h k s t = (ap Found (s.0 ∙ sym t.0), s.1 ∙ sym t.1)
-  same_find g u v (Found e) other h k s t = absurd t
-  same_find g u v other b h k s t = absurd s
+  same_find g u v (Found e) (Found f) s t = (ap Found (s.0 ∙ sym t.0), s.1 ∙ sym t.1)
+  same_find g u v (Found e) other s t = absurd t
+  same_find g u v other b s t = absurd s
 
-  same_ends : (g : Graph N E) (e : ℕ) (a b : Answer N E) (h k : Graph N E)
+  same_ends : (g : Graph N E) (e : ℕ) (a b : Answer N E) {h k : Graph N E}
       → IsStep Compact limit g (request.Ends e) a h → IsStep Compact limit g (request.Ends e) b k → Agree a b h k
-  same_ends g e (Ends x) (Ends y) h k s t = (ap Ends (s.0 ∙ sym t.0), s.1 ∙ sym t.1)
-  same_ends g e (Ends x) other h k s t = absurd t
-  same_ends g e other b h k s t = absurd s
+  same_ends g e (Ends x) (Ends y) s t = (ap Ends (s.0 ∙ sym t.0), s.1 ∙ sym t.1)
+  same_ends g e (Ends x) other s t = absurd t
+  same_ends g e other b s t = absurd s
 
-  same_children : (g : Graph N E) (n : ℕ) (a b : Answer N E) (h k : Graph N E) → FindsMemory a → FindsMemory b
+  same_children : (g : Graph N E) (n : ℕ) (a b : Answer N E) {h k : Graph N E} → FindsMemory a → FindsMemory b
       → IsStep Compact limit g (request.Children n) a h → IsStep Compact limit g (request.Children n) b k
       → Agree a b h k
-  same_children g n (Memory w) b h k fa fb s t = absurd fa
-  same_children g n (Walk xs) (Memory w) h k fa fb s t = absurd fb
-  same_children g n (Walk xs) (Walk ys) h k fa fb s t = (ap Walk (s.0 ∙ sym t.0), s.1 ∙ sym t.1)
-  same_children g n (Walk xs) other h k fa fb s t = absurd t
-  same_children g n other b h k fa fb s t = absurd s
+  same_children g n (Memory w) b fa fb s t = absurd fa
+  same_children g n (Walk xs) (Memory w) fa fb s t = absurd fb
+  same_children g n (Walk xs) (Walk ys) fa fb s t = (ap Walk (s.0 ∙ sym t.0), s.1 ∙ sym t.1)
+  same_children g n (Walk xs) other fa fb s t = absurd t
+  same_children g n other b fa fb s t = absurd s
 
-  same_parents : (g : Graph N E) (n : ℕ) (a b : Answer N E) (h k : Graph N E) → FindsMemory a → FindsMemory b
+  same_parents : (g : Graph N E) (n : ℕ) (a b : Answer N E) {h k : Graph N E} → FindsMemory a → FindsMemory b
       → IsStep Compact limit g (request.Parents n) a h → IsStep Compact limit g (request.Parents n) b k → Agree a b h k
-  same_parents g n (Memory w) b h k fa fb s t = absurd fa
-  same_parents g n (Walk xs) (Memory w) h k fa fb s t = absurd fb
-  same_parents g n (Walk xs) (Walk ys) h k fa fb s t = (ap Walk (s.0 ∙ sym t.0), s.1 ∙ sym t.1)
-  same_parents g n (Walk xs) other h k fa fb s t = absurd t
-  same_parents g n other b h k fa fb s t = absurd s
+  same_parents g n (Memory w) b fa fb s t = absurd fa
+  same_parents g n (Walk xs) (Memory w) fa fb s t = absurd fb
+  same_parents g n (Walk xs) (Walk ys) fa fb s t = (ap Walk (s.0 ∙ sym t.0), s.1 ∙ sym t.1)
+  same_parents g n (Walk xs) other fa fb s t = absurd t
+  same_parents g n other b fa fb s t = absurd s
 
-  same_clear_edges : (g : Graph N E) (a b : Answer N E) (h k : Graph N E)
+  same_clear_edges : (g : Graph N E) (a b : Answer N E) {h k : Graph N E}
       → IsStep Compact limit g request.ClearEdges a h → IsStep Compact limit g request.ClearEdges b k → Agree a b h k
-  same_clear_edges g Done Done h k s t = (refl, s ∙ sym t)
-  same_clear_edges g Done other h k s t = absurd t
-  same_clear_edges g other b h k s t = absurd s
+  same_clear_edges g Done Done s t = (refl, s ∙ sym t)
+  same_clear_edges g Done other s t = absurd t
+  same_clear_edges g other b s t = absurd s
 
-  same_clear : (g : Graph N E) (a b : Answer N E) (h k : Graph N E)
+  same_clear : (g : Graph N E) (a b : Answer N E) {h k : Graph N E}
       → IsStep Compact limit g request.Clear a h → IsStep Compact limit g request.Clear b k → Agree a b h k
-  same_clear g Done Done h k s t = (refl, s ∙ sym t)
-  same_clear g Done other h k s t = absurd t
-  same_clear g other b h k s t = absurd s
+  same_clear g Done Done s t = (refl, s ∙ sym t)
+  same_clear g Done other s t = absurd t
+  same_clear g other b s t = absurd s
 
   -- ---- a step, and a run
-  same_step : (g : Graph N E) (q : Request N E) (a b : Answer N E) (h k : Graph N E)
+  same_step : (g : Graph N E) (q : Request N E) (a b : Answer N E) {h k : Graph N E}
       → IsForBothKinds q → FindsMemory a → FindsMemory b
       → IsStep Compact limit g q a h → IsStep Compact limit g q b k → Agree a b h k
-  same_step g (request.Node weight) a b h k both fa fb s t = same_node g weight a b h k fa fb s t
-  same_step g (request.Edge x) a b h k both fa fb s t = same_edge g x a b h k fa fb s t
-  same_step g (request.Update x) a b h k both fa fb s t = same_update g (find_edge g x.0 x.1) x a b h k fa fb s t
-  same_step g (request.Child n edge node) a b h k both fa fb s t =
-      same_neighbor Outgoing g n edge node a b h k fa fb s t
-  same_step g (request.Parent n edge node) a b h k both fa fb s t =
-      same_neighbor Incoming g n edge node a b h k fa fb s t
-  same_step g (request.Edges edges) a b h k both fa fb s t = same_series g edges a b h k fa fb s t
-  same_step g (request.Find u v) a b h k both fa fb s t = same_find g u v a b h k s t
-  same_step g (request.Ends e) a b h k both fa fb s t = same_ends g e a b h k s t
-  same_step g (request.RemoveNode n) a b h k both fa fb s t = absurd both
-  same_step g (request.RemoveEdge e) a b h k both fa fb s t = absurd both
-  same_step g (request.Children n) a b h k both fa fb s t = same_children g n a b h k fa fb s t
-  same_step g (request.Parents n) a b h k both fa fb s t = same_parents g n a b h k fa fb s t
-  same_step g request.ClearEdges a b h k both fa fb s t = same_clear_edges g a b h k s t
-  same_step g request.Clear a b h k both fa fb s t = same_clear g a b h k s t
-  same_step g (request.Reduce roots) a b h k both fa fb s t = absurd both
+  same_step g (request.Node weight) a b both fa fb s t = same_node g weight a b fa fb s t
+  same_step g (request.Edge x) a b both fa fb s t = same_edge g x a b fa fb s t
+  same_step g (request.Update x) a b both fa fb s t = same_update g (find_edge g x.0 x.1) x a b fa fb s t
+  same_step g (request.Child n edge node) a b both fa fb s t =
+      same_neighbor Outgoing g n edge node a b fa fb s t
+  same_step g (request.Parent n edge node) a b both fa fb s t =
+      same_neighbor Incoming g n edge node a b fa fb s t
+  same_step g (request.Edges edges) a b both fa fb s t = same_series g edges a b fa fb s t
+  same_step g (request.Find u v) a b both fa fb s t = same_find g u v a b s t
+  same_step g (request.Ends e) a b both fa fb s t = same_ends g e a b s t
+  same_step g (request.RemoveNode n) a b both fa fb s t = absurd both
+  same_step g (request.RemoveEdge e) a b both fa fb s t = absurd both
+  same_step g (request.Children n) a b both fa fb s t = same_children g n a b fa fb s t
+  same_step g (request.Parents n) a b both fa fb s t = same_parents g n a b fa fb s t
+  same_step g request.ClearEdges a b both fa fb s t = same_clear_edges g a b s t
+  same_step g request.Clear a b both fa fb s t = same_clear g a b s t
+  same_step g (request.Reduce roots) a b both fa fb s t = absurd both
 
   pub same_run : (g : Graph N E) (requests : List (Request N E)) (answers others : List (Answer N E)) {h k : Graph N E}
       → AllByRecursion IsForBothKinds requests → AllByRecursion FindsMemory answers → AllByRecursion FindsMemory others
@@ -317,7 +317,7 @@ module _ {N E : Type 0} (limit : ℕ) where
       → (others ≡ answers) × (k ≡ h)
   same_run g [] [] [] both fa fb s t = (refl, t ∙ sym s)
   same_run g (q ∷ requests) (a ∷ answers) (b ∷ others) {h} {k} both fa fb s t =
-      let here = same_step g q b a t.0 s.0 both.0 fb.0 fa.0 t.1 s.1 in
+      let here = same_step g q b a both.0 fb.0 fa.0 t.1 s.1 in
       let P : Graph N E → Type 0 = λ mid. IsRun Compact limit mid requests others k in
       let there = same_run s.0 requests answers others both.1 fa.1 fb.1 s.2 (subst P here.1 t.2) in
       (ap (λ x. x ∷ others) here.0 ∙ ap (λ xs. a ∷ xs) there.0, there.1)
