@@ -73,23 +73,6 @@ module _ {E Ix : Type 0} (edges : List (Edge E Ix)) (i : ℕ) (x : Edge E Ix) (n
   nexts_of-set Outgoing = map-set (raw_next Outgoing) edges i _
   nexts_of-set Incoming = map-set (raw_next Incoming) edges i _
 
--- what `redirect` reads: the list's node, and the list's first edge
-pub redirect_reads : {N E Ix : Type 0} (nodes : List (Node N Ix)) (edges : List (Edge E Ix)) (dir : Direction)
-    {old : ℕ} {o n i first : ℕ} {x : Edge E Ix} {y : Node N Ix}
-    → old < length edges → get_or (ends_of dir edges) old 0 < length nodes → o ≡ old → x ≡ get_or edges o x
-    → n ≡ end_at dir x → i ≡ n → y ≡ get_or nodes i y → first ≡ raw_first dir y
-    → (i ≡ get_or (ends_of dir edges) old 0)
-    × (first ≡ get_or (firsts_of dir nodes) (get_or (ends_of dir edges) old 0) 0)
-redirect_reads nodes edges dir {old} {o} {n} {i} {first} {x} {y} old_in n_in o_is x_is n_is i_is y_is first_is =
-    let at_old : x ≡ get_or edges old x = x_is ∙ ap (λ z. get_or edges z x) o_is in
-    let node : i ≡ get_or (ends_of dir edges) old 0 =
-    i_is ∙ n_is ∙ ap (end_at dir) at_old ∙ sym (get_or-map (end_at dir) edges old x 0 old_in) in
-    let at_n : y ≡ get_or nodes (get_or (ends_of dir edges) old 0) y = y_is ∙ ap (λ z. get_or nodes z y) node in (
-      node,
-      first_is ∙ ap (raw_first dir) at_n
-          ∙ sym (get_or-map (raw_first dir) nodes (get_or (ends_of dir edges) old 0) y 0 n_in),
-    )
-
 -- the first links of two nodes are written, which may be one node
 pub both_written : {N Ix : Type 0} (nodes : List (Node N Ix)) {a b u v : ℕ} (e : ℕ) {x y x' y' : Node N Ix}
     → u ≡ a → v ≡ b → x ≡ get_or nodes u x → x' ≡ with_first Outgoing x e → y ≡ get_or (set nodes u x') v y

@@ -7,7 +7,7 @@ use Rattle.daggy_base.specs.declared.index.Direction.{Direction}
 use Rattle.daggy_cells.specs.Links.{nth_list, IsLinkedList, AreLinkedLists, Redirected}
 use Rattle.daggy_cells.specs.Raw.{raw_first, raw_next}
 use Rattle.daggy_cells.specs.Fields.{firsts_of, nexts_of, ends_of, list_from, KeepsNodes, KeepsEdges, IsReady}
-use Rattle.daggy_cells.specs.Fields.{Redirects}
+use Rattle.daggy_cells.specs.Fields.{IsHead, Redirects}
 use Rattle.daggy_cells.proofs.LinkedLists.{row_is}
 
 module _ {N E Ix : Type 0} (end : ℕ) (dir : Direction) (nodes : List (Node N Ix)) (edges : List (Edge E Ix))
@@ -74,6 +74,18 @@ pub record Step {N E Ix : Type 0} (dir : Direction) (nodes : List (Node N Ix)) (
   pub links : Redirects dir nodes edges old new nodes' edges'
   pub keeps : KeepsNodes dir nodes nodes'
   pub keeps_edges : KeepsEdges dir edges edges'
+
+-- a list begins where it did while the first links and the ends of its direction stay
+pub head_kept : {N E Ix : Type 0} {dir : Direction} {nodes nodes' : List (Node N Ix)} {edges edges' : List (Edge E Ix)}
+    {e node first : ℕ} → firsts_of dir nodes' ≡ firsts_of dir nodes → ends_of dir edges' ≡ ends_of dir edges
+    → IsHead dir nodes edges e node first → IsHead dir nodes' edges' e node first
+head_kept {N} {E} {Ix} {dir} {nodes} {nodes'} {edges} {edges'} {e} firsts ends head =
+    record {
+      node_is = head.node_is ∙ ap (λ l. get_or l e 0) (sym ends);
+      first_is =
+          head.first_is ∙ ap (λ l. get_or l (get_or (ends_of dir edges) e 0) 0) (sym firsts)
+          ∙ ap (λ l. get_or (firsts_of dir nodes') (get_or l e 0) 0) (sym ends);
+    }
 
 pub next_is : {E Ix : Type 0} (dir : Direction) (edges : List (Edge E Ix)) (i e : ℕ) (x : Edge E Ix)
     → x ≡ get_or edges i x → i ≡ e → e < length edges → raw_next dir x ≡ get_or (nexts_of dir edges) e 0

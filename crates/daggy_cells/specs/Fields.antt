@@ -102,6 +102,12 @@ pub record IsReady {N E Ix : Type 0} (end : ℕ) (dir : Direction) (nodes : List
       Contains (list_from dir edges first) old
   pub few : length edges ≤ end
 
+-- the list of that direction that the edge stands in is the node's, and begins with `first`
+pub record IsHead {N E Ix : Type 0} (dir : Direction) (nodes : List (Node N Ix)) (edges : List (Edge E Ix))
+    (e node first : ℕ) : Type 0 where
+  pub node_is : node ≡ slice_index (ends_of dir edges) e
+  pub first_is : first ≡ slice_index (firsts_of dir nodes) (slice_index (ends_of dir edges) e)
+
 -- what `redirect` promises
 abbrev pub Redirects : {N E Ix : Type 0}
     → Direction → List (Node N Ix) → List (Edge E Ix) → (old new : ℕ) → List (Node N Ix) → List (Edge E Ix) → Type 0

@@ -4,13 +4,15 @@ ghost use Rattle.std.specs.Prelude.{slice_index, Contains, Some};
 ghost use Rattle.daggy_base.specs.declared.index.Direction.{Direction};
 ghost use Rattle.daggy_base.specs.declared.index.Direction.TheVariants.{Outgoing, Incoming};
 ghost use Rattle.daggy_base.specs.Cursor.{after};
+ghost use Rattle.daggy_base.specs.Removal.{renamed};
 ghost use Rattle.daggy_base.specs.Orders.{numbers_of};
 ghost use Rattle.daggy_cells.specs.Links.{IsLinkedList, CanThread};
 ghost use Rattle.daggy_cells.specs.Raw.{raw_first, raw_next};
 ghost use Rattle.daggy_cells.specs.Fields.{weight_of, plain_edge, with_first, end_at, with_next};
 ghost use Rattle.daggy_cells.specs.Fields.{with_end, with_end_renamed, firsts_of, nexts_of};
 ghost use Rattle.daggy_cells.specs.Fields.{ends_of, list_from, with_lists_emptied, KeepsNodes};
-ghost use Rattle.daggy_cells.specs.Fields.{KeepsEdges, IsReady, Redirects, Threads, order_at};
+ghost use Rattle.daggy_cells.specs.Fields.{KeepsEdges, IsReady, IsHead, Redirects, Threads};
+ghost use Rattle.daggy_cells.specs.Fields.{order_at};
 ghost use Rattle.daggy_cells.specs.MappedCells.{node_with, edge_with};
 
 use crate::cell::{Edge, Node};
@@ -208,27 +210,73 @@ fn find_before<E, Ix: IndexType>(
     }
 }
 
-/// Leads the one link to `old` in its list of that direction to `new` instead.
+/// Where a list of edges begins.
+#[derive(Clone, Copy)]
+pub struct ListHead<Ix: IndexType> {
+    /// The node whose list it is.
+    pub node: Link<Ix>,
+    /// Its first edge, or `end`.
+    pub first: Link<Ix>,
+}
+
+impl<Ix: IndexType> ListHead<Ix> {
+    /// The head of the list of that direction that an edge stands in.
+    #[inline]
+    pub fn of<N, E>(
+        nodes: &Vec<Node<N, Ix>>,
+        edges: &Vec<Edge<E, Ix>>,
+        dir: Direction,
+        e: Link<Ix>,
+    ) -> Self
+        requires edge { e < length edges.now.items }
+        requires node { slice_index (ends_of dir edges.now.items) e < length nodes.now.items }
+        ensures { IsHead dir nodes.now.items edges.now.items e result.node result.first }
+    {
+        let node = end(&edges[e.index()], dir);
+        let first = first(&nodes[node.index()], dir);
+        ListHead { node, first }
+    }
+
+    /// The head of the same list once the edge `e`, which `next` follows in its own list, was taken
+    /// out of that.
+    #[inline]
+    pub fn without(self, e: Link<Ix>, next: Link<Ix>) -> Self
+        ensures node { result.node ≡ self.node }
+        ensures first { result.first ≡ renamed e next self.first }
+    {
+        if self.first.index() == e.index() {
+            ListHead {
+                node: self.node,
+                first: next,
+            }
+        } else {
+            self
+        }
+    }
+}
+
+/// Leads the one link to `old` in its list of that direction to `new` instead. `head` is where that
+/// list begins.
 ///
 /// The cost grows with the number of edges before `old` in that list.
 pub fn redirect<N, E, Ix: IndexType>(
     nodes: &mut Vec<Node<N, Ix>>,
     edges: &mut Vec<Edge<E, Ix>>,
     dir: Direction,
+    head: ListHead<Ix>,
     old: Link<Ix>,
     new: Link<Ix>,
 )
-    requires { IsReady Ix.greatest dir nodes.old.items edges.old.items old }
+    requires ready { IsReady Ix.greatest dir nodes.old.items edges.old.items old }
+    requires head { IsHead dir nodes.old.items edges.old.items old head.node head.first }
     ensures links { Redirects dir nodes.old.items edges.old.items old new nodes.new.items
         edges.new.items }
     ensures nodes { KeepsNodes dir nodes.old.items nodes.new.items }
     ensures edges { KeepsEdges dir edges.old.items edges.new.items }
 {
-    let o = old.index();
-    let n = end(&edges[o], dir);
-    let i = n.index();
-    let first = first(&nodes[i], dir);
-    if first.index() == o {
+    let first = head.first;
+    if first.index() == old.index() {
+        let i = head.node.index();
         set_first(&mut nodes[i], dir, new);
     } else {
         let before = find_before(edges.as_slice(), dir, first, old);

@@ -1,9 +1,11 @@
 -- How an edge is taken out: out of its two lists, and the last edge into its place.
 use Rattle.std.proofs.Common.{◌≡◌, ◌≢◌, ℕ, suc, ◌-◌, ◌<◌, ◌≤◌, List, map, length, get_or, set, take, Some, None}
-use Rattle.std.proofs.Common.{slice_get, refl, sym, ap, subst, ◌∙◌, arith, Contains}
+use Rattle.std.proofs.Common.{slice_get, refl, sym, ap, subst, inl, inr, ◌∙◌, arith, Contains}
+use Rattle.std.proofs.lemmas.Bool.{cases_eq}
 use Rattle.std.specs.List.{swap_remove}
 use Rattle.std.proofs.lemmas.List.{length-map, length-set, length-take-le}
 use Rattle.std.proofs.lemmas.Option.{slice_get-get_or, same_Some}
+use Rattle.daggy_base.specs.Cursor.{first_of, after}
 use Rattle.daggy_base.specs.Graph.{Graph}
 use Rattle.daggy_base.specs.Removal.{without, renamed}
 use Rattle.daggy_cells.specs.declared.cell.Node.{Node}
@@ -13,13 +15,14 @@ use Rattle.daggy_base.specs.declared.index.Direction.TheVariants.{Outgoing, Inco
 use Rattle.daggy_cells.specs.Links.{nth_list, AreLinkedLists, ListsEach}
 use Rattle.daggy_cells.specs.Raw.{raw_first, raw_next}
 use Rattle.daggy_cells.specs.Fields.{weight_of, plain_edge, end_at, firsts_of, nexts_of, ends_of, lists_at, IsReady}
-use Rattle.daggy_cells.specs.Fields.{Redirects}
+use Rattle.daggy_cells.specs.Fields.{IsHead, Redirects}
 use Rattle.daggy_graph.specs.Stored.{Stores, IsDetached}
-use Rattle.daggy_cells.proofs.LinkedLists.{Contains-from_without, Contains-without}
+use Rattle.daggy_cells.proofs.LinkedLists.{Contains-from_without, Contains-without, renamed_other, first_cases}
+use Rattle.daggy_cells.proofs.LinkedLists.{first_of-without}
 use Rattle.daggy_cells.proofs.LinkedListChanges.{row-map, row_within, AreLinkedLists-with_edge_unlinked}
 use Rattle.daggy_cells.proofs.LinkedListChanges.{AreLinkedLists-renamed, AreLinkedLists-cut, ListsEach-removed}
 use Rattle.daggy_base.proofs.Lists.{IsSwapRemoved, IsSwapRemoved-from, IsSwapRemoved-mapped, map-swap_remove}
-use Rattle.daggy_cells.proofs.RedirectLemmas.{Ready-from, Redirected-row, Step}
+use Rattle.daggy_cells.proofs.RedirectLemmas.{Ready-from, Redirected-row, Step, head_kept}
 
 module _ {N E Ix : Type 0} {end : ℕ} {nodes : List (Node N Ix)} {edges : List (Edge E Ix)} {g : Graph N E}
     (s : Stores end nodes edges g) (e : ℕ) {last : ℕ} (e_in : e < length edges) (long : length edges ≡ suc last)
@@ -30,7 +33,8 @@ module _ {N E Ix : Type 0} {end : ℕ} {nodes : List (Node N Ix)} {edges : List 
   there : (f : ℕ) → f < length edges → Contains (nth_list (lists_at dir g) (get_or (ends_of dir edges) f 0)) f
   there f f_in = (s.listed dir (get_or (ends_of dir edges) f 0) f).1 (stands f f_in)
 
-  n_in : (f : ℕ) → f < length edges → get_or (ends_of dir edges) f 0 < length nodes
+  -- an edge's ends are there
+  pub n_in : (f : ℕ) → f < length edges → get_or (ends_of dir edges) f 0 < length nodes
   n_in f f_in =
       omega (
         arith,
@@ -125,6 +129,41 @@ module _ {N E Ix : Type 0} {end : ℕ} {nodes : List (Node N Ix)} {edges : List 
           (Redirected-row end dir nodes' edges' (map (without e) (lists_at dir g)) last _ e nodes'' edges''
           with_edge_unlinked (ap (λ l. get_or l last 0) ends_same) n_in' (omega (arith, s.few_edges, long')) red) moves
 
+      -- where the list of the last edge begins
+      pub moved_head : {node first next node' first' : ℕ} → IsHead dir nodes edges last node first
+          → next ≡ get_or (nexts_of dir edges) e 0 → node' ≡ node → first' ≡ renamed e next first
+          → IsHead dir nodes' edges' last node' first'
+      moved_head {first = first} {next = next} head next_is node_is first_is =
+          let m = get_or (ends_of dir edges) last 0 in
+          let m_in : m < length nodes = n_in last (omega (arith, long)) in
+          let list = nth_list (lists_at dir g) m in
+          let was = (s.linked dir).each m (omega (arith, m_in, length-map nodes (raw_first dir))) in
+          let is = with_edge_unlinked.each m (omega (arith, m_in, nodes_kept, length-map nodes' (raw_first dir))) in
+          let inside : e ≢ end = omega (arith, e_in, s.few_edges) in
+          let starts : first ≡ first_of end list = head.first_is ∙ was.starts in
+          let goes : slice_get (nexts_of dir edges) e ≡ Some next =
+          slice_get-get_or (nexts_of dir edges) e 0 (omega (arith, e_in, length-map edges (raw_next dir)))
+          ∙ ap Some (sym next_is) in
+          let renames : renamed e (after end list e) first ≡ renamed e next first =
+          elim (cases_eq first e) [
+            | inl same ↦
+                let there : Contains list e = elim (first_cases end list) [
+                  | inl first ↦ subst (Contains list) (sym starts ∙ same) first
+                  | inr none ↦ absurd (inside (sym same ∙ starts ∙ none))
+                ] in
+                ap (λ z. renamed e z first) (same_Some _ next (sym (was.goes_on e there) ∙ goes))
+            | inr other ↦ renamed_other e (after end list e) first other ∙ sym (renamed_other e next first other)
+          ] in
+          let end_is : get_or (ends_of dir edges') last 0 ≡ m = ap (λ l. get_or l last 0) ends_same in
+          record {
+            node_is = node_is ∙ head.node_is ∙ sym end_is;
+            first_is =
+                first_is ∙ sym renames ∙ ap (renamed e (after end list e)) starts
+                ∙ sym (first_of-without end e list was.distinct inside)
+                ∙ sym (ap (first_of end) (row-map (without e) refl (lists_at dir g) m)) ∙ sym is.starts
+                ∙ ap (λ z. get_or (firsts_of dir nodes') z 0) (sym end_is);
+          }
+
       -- e is the last edge
       pub cut_links : (nexts : List ℕ) → e ≡ last → IsSwapRemoved (nexts_of dir edges') nexts e last
           → AreLinkedLists end (firsts_of dir nodes') nexts
@@ -205,6 +244,9 @@ module _ {N E Ix : Type 0} {end : ℕ} (nodes : List (Node N Ix)) (edges : List 
         unlink_ready s e e_in long Incoming n1 e1 (s1.keeps_edges.ends Incoming) s1.keeps.firsts
         s1.keeps_edges.nexts
 
+    pub head_2 : {node first : ℕ} → IsHead Incoming nodes edges e node first → IsHead Incoming n1 e1 e node first
+    head_2 = head_kept s1.keeps.firsts (s1.keeps_edges.ends Incoming)
+
     module _ {into : ℕ} (into_is : into ≡ get_or (nexts_of Incoming edges) e 0) {n2 : List (Node N Ix)}
         {e2 : List (Edge E Ix)} (s2 : Step Incoming n1 e1 e into n2 e2) where
       ends_2 : (d : Direction) → ends_of d e2 ≡ ends_of d edges
@@ -220,6 +262,10 @@ module _ {N E Ix : Type 0} {end : ℕ} (nodes : List (Node N Ix)) (edges : List 
 
       pub ready_3 : e ≢ last → IsReady end Outgoing n2 e2 last
       ready_3 differs = rename_ready s e e_in long Outgoing n2 e2 (ends_2 Outgoing) out_2 differs
+
+      pub head_3 : {node first node' first' : ℕ} → IsHead Outgoing nodes edges last node first → node' ≡ node
+          → first' ≡ renamed e out first → IsHead Outgoing n2 e2 last node' first'
+      head_3 head = moved_head s e e_in long Outgoing n2 e2 (ends_2 Outgoing) out_2 head out_is
 
       pub detached_last : e ≡ last → IsDetached end g e n2 e2
       detached_last same =
@@ -241,6 +287,10 @@ module _ {N E Ix : Type 0} {end : ℕ} (nodes : List (Node N Ix)) (edges : List 
         pub ready_4 : e ≢ last → IsReady end Incoming n3 e3 last
         ready_4 differs =
             rename_ready s e e_in long Incoming n3 e3 (ends_3 Incoming) in_3 differs
+
+        pub head_4 : {node first node' first' : ℕ} → IsHead Incoming nodes edges last node first → node' ≡ node
+            → first' ≡ renamed e into first → IsHead Incoming n3 e3 last node' first'
+        head_4 head = moved_head s e e_in long Incoming n3 e3 (ends_3 Incoming) in_3 head into_is
 
         module _ {n4 : List (Node N Ix)} {e4 : List (Edge E Ix)} (s4 : Step Incoming n3 e3 last e n4 e4) where
           pub detached_other : e ≢ last → IsDetached end g e n4 e4

@@ -8,7 +8,7 @@ ghost use Rattle.daggy_graph.specs.Stored.{stored_graph, IsDetached, Stores};
 use daggy_base::index::{Direction, IndexType};
 use daggy_base::link::Link;
 use daggy_cells::cell::{Edge, Node};
-use daggy_cells::links::{self, put_first, redirect, reown};
+use daggy_cells::links::{self, ListHead, put_first, redirect, reown};
 
 // Adds a node, within the capacity that is there.
 #[inline]
@@ -76,15 +76,22 @@ pub(super) fn detach<N, E, Ix: IndexType>(
     ensures edges { map plain_edge edges.new.items ≡ map plain_edge edges.old.items }
 {
     let i = e.index();
-    let last = edges.len() - 1;
+    let moved = Link::new(edges.len() - 1);
+    // All four lists are looked up before one is walked, so that the loads need not wait for each
+    // other.
+    let out = ListHead::of(nodes, edges, Direction::Outgoing, e);
+    let into = ListHead::of(nodes, edges, Direction::Incoming, e);
+    let moved_out = ListHead::of(nodes, edges, Direction::Outgoing, moved);
+    let moved_into = ListHead::of(nodes, edges, Direction::Incoming, moved);
     let next_out = links::next(&edges[i], Direction::Outgoing);
     let next_in = links::next(&edges[i], Direction::Incoming);
-    redirect(nodes, edges, Direction::Outgoing, e, next_out);
-    redirect(nodes, edges, Direction::Incoming, e, next_in);
-    if i != last {
-        let moved = Link::new(last);
-        redirect(nodes, edges, Direction::Outgoing, moved, e);
-        redirect(nodes, edges, Direction::Incoming, moved, e);
+    redirect(nodes, edges, Direction::Outgoing, out, e, next_out);
+    redirect(nodes, edges, Direction::Incoming, into, e, next_in);
+    if i != moved.index() {
+        let out = moved_out.without(e, next_out);
+        let into = moved_into.without(e, next_in);
+        redirect(nodes, edges, Direction::Outgoing, out, moved, e);
+        redirect(nodes, edges, Direction::Incoming, into, moved, e);
     }
 }
 

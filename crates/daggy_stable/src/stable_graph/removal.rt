@@ -17,7 +17,7 @@ use crate::stable_graph::StableDiGraph;
 use daggy_base::index::{Direction, EdgeIndex, IndexType, NodeIndex};
 use daggy_base::link::Link;
 use daggy_cells::cell::{Edge, Node};
-use daggy_cells::links::{self, redirect};
+use daggy_cells::links::{self, ListHead, redirect};
 
 impl<N, E, Ix: IndexType> StableDiGraph<N, E, Ix> {
     /// Removes an edge and hands back its weight, if the edge exists. No other index changes.
@@ -164,10 +164,13 @@ pub(super) fn unlink<N, E, Ix: IndexType>(
     ensures edges { map stored_edge edges.new.items ≡ map stored_edge edges.old.items }
 {
     let i = e.index();
+    // Both lists are looked up before one is walked, so that the loads need not wait for each other.
+    let out = ListHead::of(nodes, edges, Direction::Outgoing, e);
+    let into = ListHead::of(nodes, edges, Direction::Incoming, e);
     let next_out = links::next(&edges[i], Direction::Outgoing);
     let next_in = links::next(&edges[i], Direction::Incoming);
-    redirect(nodes, edges, Direction::Outgoing, e, next_out);
-    redirect(nodes, edges, Direction::Incoming, e, next_in);
+    redirect(nodes, edges, Direction::Outgoing, out, e, next_out);
+    redirect(nodes, edges, Direction::Incoming, into, e, next_in);
 }
 
 // Empties the lists of every node.

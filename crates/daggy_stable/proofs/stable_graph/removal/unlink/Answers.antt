@@ -1,9 +1,15 @@
 use Rattle.std.proofs.Common.{◌≡◌, get_or, ◌∙◌, arith}
 use Rattle.daggy_base.specs.declared.index.Direction.TheVariants.{Outgoing, Incoming}
 use Rattle.daggy_cells.specs.Fields.{nexts_of}
-use Rattle.daggy_cells.proofs.RedirectLemmas.{next_is}
+use Rattle.daggy_cells.proofs.RedirectLemmas.{next_is, head_kept}
 use Rattle.daggy_stable.proofs.StoredRemoval.{ready_kept, both_redirected}
 use Rattle.daggy_stable.proofs.stable_graph.removal.unlink.Goals as goal
+
+pub of-out-requires : goal.of-out-requires
+of-out-requires g c = record { edge = (c.requires Outgoing).edge; node = (c.requires Outgoing).node }
+
+pub of-into-requires : goal.of-into-requires
+of-into-requires g c = record { edge = (c.requires Incoming).edge; node = (c.requires Incoming).node }
 
 pub index-requires : goal.index-requires
 index-requires g c = omega (arith, (c.requires Outgoing).edge, c.index-i.ensures.value)
@@ -12,12 +18,16 @@ pub index-requires-2 : goal.index-requires-2
 index-requires-2 g c = omega (arith, (c.requires Outgoing).edge, c.index-i.ensures.value)
 
 pub redirect-requires : goal.redirect-requires
-redirect-requires g c = c.requires Outgoing
+redirect-requires g c = record { ready = c.requires Outgoing; head = c.of-out.ensures }
 
 pub redirect-requires-2 : goal.redirect-requires-2
 redirect-requires-2 g c =
-    ready_kept Incoming c.redirect.ensures.nodes.firsts c.redirect.ensures.edges.nexts
-    (c.redirect.ensures.edges.ends Incoming) (c.requires Incoming)
+    let ends = c.redirect.ensures.edges.ends Incoming in
+    record {
+      ready =
+          ready_kept Incoming c.redirect.ensures.nodes.firsts c.redirect.ensures.edges.nexts ends (c.requires Incoming);
+      head = head_kept c.redirect.ensures.nodes.firsts ends c.of-into.ensures;
+    }
 
 pub returns-clause-links : goal.returns-clause-links
 returns-clause-links g c =
