@@ -65,40 +65,45 @@ module _ {N E V W Ix : Type 0} (end : ℕ) (nodes : List (Node N Ix)) (edges : L
         few_edges = omega (arith, s.few_edges, more);
       }
 
-module _ {N E V W Ix F G I : Type 0} (of : ℕ → I) (step_f : F → I → Bor N → V → F → Type 0)
-    (step_g : G → I → Bor E → W → G → Type 0)
-    (f : F) (g : G) (nodes : List (Node N Ix)) (edges : List (Edge E Ix)) (nodes' : List (Node V Ix))
-    (edges' : List (Edge W Ix))
-    (mapped : MapsCells step_f of node_weight_in node_with f 0 nodes nodes')
-    (mapped' : MapsCells step_g of edge_weight_in edge_with g 0 edges edges') where
+-- what a loop over stored nodes and one over stored edges give
+pub record MapsStored {N E V W Ix F G I : Type 0} (of : ℕ → I) (step_f : F → I → Bor N → V → F → Type 0)
+    (step_g : G → I → Bor E → W → G → Type 0) (f : F) (g : G) (nodes : List (Node N Ix)) (edges : List (Edge E Ix))
+    (nodes' : List (Node V Ix)) (edges' : List (Edge W Ix)) : Type 0 where
+  pub for_nodes : MapsCells step_f of node_weight_in node_with f 0 nodes nodes'
+  pub for_edges : MapsCells step_g of edge_weight_in edge_with g 0 edges edges'
+
+module _ {N E V W Ix F G I : Type 0} {of : ℕ → I} {step_f : F → I → Bor N → V → F → Type 0}
+    {step_g : G → I → Bor E → W → G → Type 0} {f : F} {g : G} {nodes : List (Node N Ix)} {edges : List (Edge E Ix)}
+    {nodes' : List (Node V Ix)} {edges' : List (Edge W Ix)}
+    (m : MapsStored of step_f step_g f g nodes edges nodes' edges') where
   firsts : (d : Direction) → firsts_of d nodes' ≡ firsts_of d nodes
   firsts = elim [
     | Outgoing ↦
         maps_keep step_f of node_weight_in node_with (raw_first Outgoing) (raw_first Outgoing) (λ x v. refl) f 0 nodes
-        nodes' mapped
+        nodes' m.for_nodes
     | Incoming ↦
         maps_keep step_f of node_weight_in node_with (raw_first Incoming) (raw_first Incoming) (λ x v. refl) f 0 nodes
-        nodes' mapped
+        nodes' m.for_nodes
   ]
 
   nexts : (d : Direction) → nexts_of d edges' ≡ nexts_of d edges
   nexts = elim [
     | Outgoing ↦
         maps_keep step_g of edge_weight_in edge_with (raw_next Outgoing) (raw_next Outgoing) (λ x v. refl) g 0 edges
-        edges' mapped'
+        edges' m.for_edges
     | Incoming ↦
         maps_keep step_g of edge_weight_in edge_with (raw_next Incoming) (raw_next Incoming) (λ x v. refl) g 0 edges
-        edges' mapped'
+        edges' m.for_edges
   ]
 
   ends : (d : Direction) → ends_of d edges' ≡ ends_of d edges
   ends = elim [
     | Outgoing ↦
         maps_keep step_g of edge_weight_in edge_with (end_at Outgoing) (end_at Outgoing) (λ x v. refl) g 0 edges edges'
-        mapped'
+        m.for_edges
     | Incoming ↦
         maps_keep step_g of edge_weight_in edge_with (end_at Incoming) (end_at Incoming) (λ x v. refl) g 0 edges edges'
-        mapped'
+        m.for_edges
   ]
 
   pub Stores-mapped : (end : ℕ)
@@ -109,12 +114,12 @@ module _ {N E V W Ix F G I : Type 0} (of : ℕ → I) (step_f : F → I → Bor 
   IsMapped-stored = record {
     nodes =
         slots_from step_f of node_weight_in node_with (λ w. w) (λ w v. v) (λ x. x.weight) (λ x. x.weight) (λ x. refl)
-        (λ x v. refl) f 0 nodes nodes' mapped;
+        (λ x v. refl) f 0 nodes nodes' m.for_nodes;
     edges =
         slots_from step_g of edge_weight_in edge_with weight_in with_weight
         (λ x. record { parent = x.parent; child = x.child; weight = x.weight })
         (λ x. record { parent = x.parent; child = x.child; weight = x.weight }) (λ x. refl) (λ x v. refl) g 0 edges
-        edges' mapped';
+        edges' m.for_edges;
     out_lists = same_rows 0 nodes edges nodes' edges' firsts nexts Outgoing;
     in_lists = same_rows 0 nodes edges nodes' edges' firsts nexts Incoming;
     vacant_nodes = refl;

@@ -22,68 +22,83 @@ use Rattle.daggy_stable.specs.Stored.{weight_of, plain_edge, shown, list_firsts,
 use Rattle.daggy_stable.specs.Stored.{Stores}
 use Rattle.daggy_base.proofs.Slots.{count_cons}
 
-module _ {F I W V A B : Type 0} (step : F → I → Bor W → V → F → Type 0) (of : ℕ → I) (weight : A → W)
-    (with : A → V → B) where
-  -- what is left maps as the whole did
-  abbrev pub MappedSlots : F → List (Option A) → F → List (Option B) → ℕ → Type 0
-  MappedSlots first old f new i =
-      (later : List (Option B))
-      → MapsSlots step of weight with f i (drop i old) later → MapsSlots step of weight with first 0 old (new ++ later)
+-- what is left maps as the whole did
+pub record MappedSlots {F I W V A B : Type 0} (step : F → I → Bor W → V → F → Type 0) (of : ℕ → I) (weight : A → W)
+    (with : A → V → B) (first : F) (old : List (Option A)) (f : F) (new : List (Option B)) (i : ℕ) : Type 0 where
+  pub rest : (later : List (Option B)) → MapsSlots step of weight with f i (drop i old) later
+      → MapsSlots step of weight with first 0 old (new ++ later)
 
-  MappedSlots-passed : (first : F) (old : List (Option A)) (f : F) (new : List (Option B)) (i : ℕ) → i < length old
-      → get_or old i None ≡ None → MappedSlots first old f new i → MappedSlots first old f (new ++ None ∷ []) (i + 1)
-  MappedSlots-passed first old f new i within read kept later more =
-      let rest : drop i old ≡ None ∷ drop (i + 1) old =
+-- a loop reads the cell x at the place i
+pub record Reads {C : Type 0} (cells : List C) (i : ℕ) (x : C) : Type 0 where
+  pub within : i < length cells
+  pub is : x ≡ get_or cells i x
+
+-- so does a loop over slots that are read from cells
+module _ {A C : Type 0} (read : C → Option A) {cells : List C} {i : ℕ} {x : C} (at : Reads cells i x) where
+  slots_within : i < length (map read cells)
+  slots_within = omega (arith, at.within, length-map cells read)
+
+  slot_is : get_or (map read cells) i None ≡ read x
+  slot_is = get_or-map read cells i x None at.within ∙ ap read (sym at.is)
+
+module _ {F I W V A B : Type 0} {step : F → I → Bor W → V → F → Type 0} {of : ℕ → I} {weight : A → W}
+    {with : A → V → B} {first : F} where
+  MappedSlots-passed : {old : List (Option A)} {f : F} {new : List (Option B)} {i : ℕ} → i < length old
+      → get_or old i None ≡ None → MappedSlots step of weight with first old f new i
+      → MappedSlots step of weight with first old f (new ++ None ∷ []) (i + 1)
+  MappedSlots-passed {old} {f} {new} {i} within read kept =
+      let gap : drop i old ≡ None ∷ drop (i + 1) old =
       drop_more old i None within ∙ ap (λ y. y ∷ drop (i + 1) old) read in
-      rw (append_assoc) (kept (None ∷ later) (rw rest (later, refl, more)))
+      record { rest = λ later more. rw (append_assoc) (kept.rest (None ∷ later) (rw gap (later, refl, more))) }
 
-  MappedSlots-called : (first : F) (old : List (Option A)) {f next : F} (new : List (Option B)) {i : ℕ} {x : A} {v : V}
+  MappedSlots-called : {old : List (Option A)} {f next : F} {new : List (Option B)} {i : ℕ} {x : A} {v : V}
       → i < length old → get_or old i None ≡ Some x → CalledAt step of f i (weight x) v next
-      → MappedSlots first old f new i → MappedSlots first old next (new ++ Some (with x v) ∷ []) (i + 1)
-  MappedSlots-called first old {f} {next} new {i} {x} {v} within read called kept later more =
-      let rest : drop i old ≡ Some x ∷ drop (i + 1) old =
+      → MappedSlots step of weight with first old f new i
+      → MappedSlots step of weight with first old next (new ++ Some (with x v) ∷ []) (i + 1)
+  MappedSlots-called {old} {f} {next} {new} {i} {x} {v} within read called kept =
+      let slots : drop i old ≡ Some x ∷ drop (i + 1) old =
       drop_more old i None within ∙ ap (λ y. y ∷ drop (i + 1) old) read in
-      rw (append_assoc) (kept (Some (with x v) ∷ later) (rw rest (v, next, called, later, refl, more)))
+      record {
+        rest = λ later more.
+            rw (append_assoc) (kept.rest (Some (with x v) ∷ later) (rw slots (v, next, called, later, refl, more)));
+      }
 
-  pub MappedSlots-done : (first : F) (old : List (Option A)) (f : F) (new : List (Option B)) (i : ℕ)
-      → length old ≤ i → MappedSlots first old f new i → MapsSlots step of weight with first 0 old new
-  MappedSlots-done first old f new i past kept = rw (append-nil new) at (kept [] (rw (drop_all i old past) refl))
+  pub MappedSlots-done : {old : List (Option A)} {f : F} {new : List (Option B)} {i : ℕ}
+      → length old ≤ i → MappedSlots step of weight with first old f new i
+      → MapsSlots step of weight with first 0 old new
+  MappedSlots-done {old} {new = new} {i} past kept =
+      rw (append-nil new) at (kept.rest [] (rw (drop_all i old past) refl))
 
   -- the same by cells, of which read and read' are the slots
-  module _ {C D : Type 0} (read : C → Option A) (read' : D → Option B) (first : F) (cells : List C) (new : List D)
-      (f : F) (i : ℕ) {x : C} (y : D) (within : i < length cells) (is : x ≡ get_or cells i x) where
-    slots_within : i < length (map read cells)
-    slots_within = omega (arith, within, length-map cells read)
-
-    slot_is : get_or (map read cells) i None ≡ read x
-    slot_is = get_or-map read cells i x None within ∙ ap read (sym is)
-
-    pub MappedSlots-pass : read x ≡ None → read' y ≡ None → MappedSlots first (map read cells) f (map read' new) i
-        → MappedSlots first (map read cells) f (map read' (new ++ y ∷ [])) (i + 1)
+  module _ {C D : Type 0} (read : C → Option A) (read' : D → Option B) {cells : List C} (new : List D) {f : F}
+      {i : ℕ} {x : C} (y : D) (at : Reads cells i x) where
+    pub MappedSlots-pass : read x ≡ None → read' y ≡ None
+        → MappedSlots step of weight with first (map read cells) f (map read' new) i
+        → MappedSlots step of weight with first (map read cells) f (map read' (new ++ y ∷ [])) (i + 1)
     MappedSlots-pass none none' kept =
-        subst (λ l. MappedSlots first (map read cells) f l (i + 1))
+        subst (λ l. MappedSlots step of weight with first (map read cells) f l (i + 1))
         (sym (map_push read' new y ∙ ap (λ z. map read' new ++ z ∷ []) none'))
-        (MappedSlots-passed first (map read cells) f (map read' new) i slots_within (slot_is ∙ none) kept)
+        (MappedSlots-passed (slots_within read at) (slot_is read at ∙ none) kept)
 
-    pub MappedSlots-call : (next : F) (a : A) (v : V) → read x ≡ Some a → read' y ≡ Some (with a v)
-        → CalledAt step of f i (weight a) v next → MappedSlots first (map read cells) f (map read' new) i
-        → MappedSlots first (map read cells) next (map read' (new ++ y ∷ [])) (i + 1)
-    MappedSlots-call next a v some some' called kept =
-        subst (λ l. MappedSlots first (map read cells) next l (i + 1))
+    pub MappedSlots-call : (next : F) {a : A} (v : V) → read x ≡ Some a → read' y ≡ Some (with a v)
+        → CalledAt step of f i (weight a) v next
+        → MappedSlots step of weight with first (map read cells) f (map read' new) i
+        → MappedSlots step of weight with first (map read cells) next (map read' (new ++ y ∷ [])) (i + 1)
+    MappedSlots-call next v some some' called kept =
+        subst (λ l. MappedSlots step of weight with first (map read cells) next l (i + 1))
         (sym (map_push read' new y ∙ ap (λ z. map read' new ++ z ∷ []) some'))
-        (MappedSlots-called first (map read cells) (map read' new) slots_within (slot_is ∙ some) called
-        kept)
+        (MappedSlots-called (slots_within read at) (slot_is read at ∙ some) called kept)
 
 -- what each cell keeps of its own
 module _ {C D X : Type 0} (keep : C → X) (keep' : D → X) where
-  pub kept_more : (cells : List C) (new : List D) (i : ℕ) (x : C) (y : D)
-      → i < length cells → x ≡ get_or cells i x → keep' y ≡ keep x → map keep' new ≡ take i (map keep cells)
+  pub kept_more : {cells : List C} (new : List D) {i : ℕ} {x : C} (y : D)
+      → Reads cells i x → keep' y ≡ keep x → map keep' new ≡ take i (map keep cells)
       → map keep' (new ++ y ∷ []) ≡ take (i + 1) (map keep cells)
-  kept_more cells new i x y within is same kept =
-      let inside : i < length (map keep cells) = omega (arith, within, length-map cells keep) in
+  kept_more {cells} new {i} {x} y at same kept =
+      let inside : i < length (map keep cells) = omega (arith, at.within, length-map cells keep) in
       map_push keep' new y ∙ ap (λ l. l ++ keep' y ∷ []) kept
       ∙ ap (λ z. take i (map keep cells) ++ z ∷ [])
-      (same ∙ ap keep is ∙ sym (get_or-map keep cells i x (keep x) within))
+      (same ∙ ap keep at.is ∙ sym (get_or-map keep cells i x (keep x) at.within))
       ∙ sym (take_more (map keep cells) i (keep x) inside)
 
   pub kept_all : (cells : List C) (new : List D) (i : ℕ)
@@ -187,14 +202,20 @@ near_end_kept : {E W : Type 0} (dir : Direction) (x : PlainEdge E) (w : W)
 near_end_kept Outgoing x w = refl
 near_end_kept Incoming x w = refl
 
-module _ {N E V W Ix F G I : Type 0} (of : ℕ → I) (step_f : F → I → Bor N → V → F → Type 0)
-    (step_g : G → I → Bor E → W → G → Type 0) (f : F) (g : G) (end : ℕ)
-    (nodes : List (Node (Option N) Ix)) (edges : List (Edge (Option E) Ix)) (nodes' : List (Node (Option V) Ix))
-    (edges' : List (Edge (Option W) Ix)) (node_head edge_head : ℕ)
-    (mapped : MapsSlots step_f of (λ w. w) (λ w v. v) f 0 (map weight_of nodes) (map weight_of nodes'))
-    (firsts : (dir : Direction) → firsts_of dir nodes' ≡ firsts_of dir nodes)
-    (mapped' : MapsSlots step_g of weight_in with_weight g 0 (map plain_edge edges) (map plain_edge edges'))
-    (nexts : (dir : Direction) → nexts_of dir edges' ≡ nexts_of dir edges) where
+-- what a loop over the slots of nodes and one over those of edges give
+pub record MapsStored {N E V W Ix F G I : Type 0} (of : ℕ → I) (step_f : F → I → Bor N → V → F → Type 0)
+    (step_g : G → I → Bor E → W → G → Type 0) (f : F) (g : G) (nodes : List (Node (Option N) Ix))
+    (edges : List (Edge (Option E) Ix)) (nodes' : List (Node (Option V) Ix))
+    (edges' : List (Edge (Option W) Ix)) : Type 0 where
+  pub for_nodes : MapsSlots step_f of (λ w. w) (λ w v. v) f 0 (map weight_of nodes) (map weight_of nodes')
+  pub for_edges : MapsSlots step_g of weight_in with_weight g 0 (map plain_edge edges) (map plain_edge edges')
+  pub firsts : (dir : Direction) → firsts_of dir nodes' ≡ firsts_of dir nodes
+  pub nexts : (dir : Direction) → nexts_of dir edges' ≡ nexts_of dir edges
+
+module _ {N E V W Ix F G I : Type 0} {of : ℕ → I} {step_f : F → I → Bor N → V → F → Type 0}
+    {step_g : G → I → Bor E → W → G → Type 0} {f : F} {g : G} {nodes : List (Node (Option N) Ix)}
+    {edges : List (Edge (Option E) Ix)} {nodes' : List (Node (Option V) Ix)} {edges' : List (Edge (Option W) Ix)}
+    (m : MapsStored of step_f step_g f g nodes edges nodes' edges') (end node_head edge_head : ℕ) where
   abbrev old : Graph N E
   old = stored_graph end nodes edges node_head edge_head
 
@@ -204,15 +225,15 @@ module _ {N E V W Ix F G I : Type 0} (of : ℕ → I) (step_f : F → I → Bor 
   same_firsts : (dir : Direction) → list_firsts end dir nodes' ≡ list_firsts end dir nodes
   same_firsts dir =
       mapped_shown step_f of (λ w. w) (λ w v. v) end f 0 (map weight_of nodes) (map weight_of nodes')
-      (firsts_of dir nodes') mapped
-      ∙ ap (shown end (map weight_of nodes)) (firsts dir)
+      (firsts_of dir nodes') m.for_nodes
+      ∙ ap (shown end (map weight_of nodes)) (m.firsts dir)
 
   same_rows : (dir : Direction)
       → linked_lists (list_firsts end dir nodes') (nexts_of dir edges')
       ≡ linked_lists (list_firsts end dir nodes) (nexts_of dir edges)
   same_rows dir =
       ap (λ z. linked_lists z (nexts_of dir edges')) (same_firsts dir)
-      ∙ ap (linked_lists (list_firsts end dir nodes)) (nexts dir)
+      ∙ ap (linked_lists (list_firsts end dir nodes)) (m.nexts dir)
 
   linked_again : (dir : Direction)
       → AreLinkedLists end (list_firsts end dir nodes) (nexts_of dir edges)
@@ -224,7 +245,7 @@ module _ {N E V W Ix F G I : Type 0} (of : ℕ → I) (step_f : F → I → Bor 
       subst (λ z. AreLinkedLists end z (nexts_of dir edges) (linked_lists z (nexts_of dir edges)))
       (sym (same_firsts dir)) s in
       subst (λ z. AreLinkedLists end (list_firsts end dir nodes') z (linked_lists (list_firsts end dir nodes') z))
-      (sym (nexts dir)) one
+      (sym (m.nexts dir)) one
 
   listed_again : (dir : Direction)
       → ListsBy (end_of dir old) (linked_lists (list_firsts end dir nodes) (nexts_of dir edges))
@@ -232,7 +253,7 @@ module _ {N E V W Ix F G I : Type 0} (of : ℕ → I) (step_f : F → I → Bor 
   listed_again dir s n e =
       let same =
       mapped_keep step_g of weight_in with_weight (near_end dir) (near_end dir) (near_end_kept dir) g 0
-      (map plain_edge edges) (map plain_edge edges') mapped' e in
+      (map plain_edge edges) (map plain_edge edges') m.for_edges e in
       let one = subst (λ z. Contains (nth_list z n) e ↔ (end_of dir old e ≡ Some n)) (sym (same_rows dir)) (s n e) in
       (λ p. same ∙ one.0 p, λ q. one.1 (sym same ∙ q))
 
@@ -240,8 +261,8 @@ module _ {N E V W Ix F G I : Type 0} (of : ℕ → I) (step_f : F → I → Bor 
       → Stores end nodes edges node_head edge_head nodes_counted edges_counted old
       → Stores end nodes' edges' node_head edge_head nodes_counted edges_counted new
   Stores-mapped {nodes_counted} {edges_counted} s =
-      let vacant : new.vacant_nodes ≡ old.vacant_nodes = ap (λ l. follow l (length l) node_head) (firsts Outgoing) in
-      let vacant' : new.vacant_edges ≡ old.vacant_edges = ap (λ l. follow l (length l) edge_head) (nexts Outgoing) in
+      let vacant : new.vacant_nodes ≡ old.vacant_nodes = ap (λ l. follow l (length l) node_head) (m.firsts Outgoing) in
+      let vacant' : new.vacant_edges ≡ old.vacant_edges = ap (λ l. follow l (length l) edge_head) (m.nexts Outgoing) in
       record {
         nodes_are = refl;
         edges_are = refl;
@@ -254,18 +275,18 @@ module _ {N E V W Ix F G I : Type 0} (of : ℕ → I) (step_f : F → I → Bor 
           | Incoming ↦ listed_again Incoming (s.listed Incoming)
         ];
         node_slots = subst (IsThreaded end new.nodes (firsts_of Outgoing nodes') node_head nodes_counted) (sym vacant)
-            (mapped_threaded step_f of (λ w. w) (λ w v. v) f mapped (firsts Outgoing) s.node_slots);
+            (mapped_threaded step_f of (λ w. w) (λ w v. v) f m.for_nodes (m.firsts Outgoing) s.node_slots);
         edge_slots = subst (IsThreaded end new.edges (nexts_of Outgoing edges') edge_head edges_counted) (sym vacant')
-            (mapped_threaded step_g of weight_in with_weight g mapped' (nexts Outgoing) s.edge_slots);
+            (mapped_threaded step_g of weight_in with_weight g m.for_edges (m.nexts Outgoing) s.edge_slots);
       }
 
   pub IsMapped-stored : IsMapped of step_f step_g f g old new
   IsMapped-stored =
       record {
-        nodes = mapped;
-        edges = mapped';
+        nodes = m.for_nodes;
+        edges = m.for_edges;
         out_lists = same_rows Outgoing;
         in_lists = same_rows Incoming;
-        vacant_nodes = ap (λ l. follow l (length l) node_head) (firsts Outgoing);
-        vacant_edges = ap (λ l. follow l (length l) edge_head) (nexts Outgoing);
+        vacant_nodes = ap (λ l. follow l (length l) node_head) (m.firsts Outgoing);
+        vacant_edges = ap (λ l. follow l (length l) edge_head) (m.nexts Outgoing);
       }

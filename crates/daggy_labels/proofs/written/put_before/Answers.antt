@@ -4,7 +4,19 @@ use Rattle.daggy_base.proofs.Lists.{Mem, mem_mid, mem_into, mem_out, contains_me
 use Rattle.daggy_labels.specs.Links.{LabelsAscend}
 use Rattle.daggy_labels.proofs.LinkedNodes.{before_cases, before_it, put_is}
 use Rattle.daggy_labels.proofs.Labelled.{label_within, labelled_more}
+use Rattle.daggy_labels.proofs.written.put_before.Given.{Over}
+use Rattle.daggy_labels.proofs.written.put_before.Goals.{Start, Else-index}
 use Rattle.daggy_labels.proofs.written.put_before.Goals as goal
+
+-- p is a node
+real : (g : Over) (c : Else-index g) → c.previous-p.result ≢ g.Ix.IndexType.greatest
+real g c e =
+    c.if-index.false (c.index.ensures.value ∙ (e ∙ (sym c.end.ensures.value ∙ sym c.index-2.ensures.value)))
+
+-- where b stands
+place : (g : Over) (c : Start g)
+    → (ns : List ℕ) × (ms : List ℕ) × (c.args.links.now.nodes ≡ ns ++ c.args.b ∷ ms)
+place g c = split_at c.args.links.now.nodes c.args.b (contains_mem c.args.links.now.nodes c.args.b c.requires.held)
 
 pub returns-then-index-clause-nodes : goal.returns-then-index-clause-nodes
 returns-then-index-clause-nodes g c ns ms is =
@@ -29,35 +41,29 @@ returns-then-index-clause-nodes g c ns ms is =
 
 pub put_behind-requires-clause-held : goal.put_behind-requires-clause-held
 put_behind-requires-clause-held g c =
-    let nodes : List ℕ = c.args.links.now.nodes in
     let p : ℕ = c.previous-p.result in
-    let real : p ≢ g.Ix.IndexType.greatest = λ e.
-    c.if-index.false (c.index.ensures.value ∙ (e ∙ (sym c.end.ensures.value ∙ sym c.index-2.ensures.value))) in
-    let at = split_at nodes c.args.b (contains_mem nodes c.args.b c.requires.held) in
-    let w = before_it c.previous-p.ensures.none c.previous-p.ensures.some real at.0 at.1 at.2 in
+    let at = goal.at.put_behind-requires-clause-held g c in
+    let b = place g at.Start in
+    let w = before_it c.previous-p.ensures.none c.previous-p.ensures.some (real g at.Else-index) b.0 b.1 b.2 in
     let P : List ℕ → Type 0 = λ z. Mem p z in
-    mem_contains nodes p (subst P (sym w.2) (mem_mid w.0 (c.args.b ∷ at.1) p))
+    mem_contains c.args.links.now.nodes p (subst P (sym w.2) (mem_mid w.0 (c.args.b ∷ b.1) p))
 
 pub returns-else-index-clause-nodes : goal.returns-else-index-clause-nodes
 returns-else-index-clause-nodes g c =
-    let real : c.previous-p.result ≢ g.Ix.IndexType.greatest = λ e.
-    c.if-index.false (c.index.ensures.value ∙ (e ∙ (sym c.end.ensures.value ∙ sym c.index-2.ensures.value))) in
-    put_is c.previous-p.ensures.none c.previous-p.ensures.some real c.put_behind.ensures.nodes
+    let at = goal.at.returns-else-index-clause-nodes g c in
+    put_is c.previous-p.ensures.none c.previous-p.ensures.some (real g at.Else-index) c.put_behind.ensures.nodes
 
 pub spread-requires-clause-gap : goal.spread-requires-clause-gap
 spread-requires-clause-gap g c =
-    let nodes : List ℕ = c.args.links.now.nodes in
-    let p : ℕ = c.previous-p.result in
-    let real : p ≢ g.Ix.IndexType.greatest = λ e.
-    c.if-index.false (c.index.ensures.value ∙ (e ∙ (sym c.end.ensures.value ∙ sym c.index-2.ensures.value))) in
-    let at = split_at nodes c.args.b (contains_mem nodes c.args.b c.requires.held) in
-    let w = before_it c.previous-p.ensures.none c.previous-p.ensures.some real at.0 at.1 at.2 in
+    let at = goal.at.spread-requires-clause-gap g c in
+    let b = place g at.Start in
+    let w = before_it c.previous-p.ensures.none c.previous-p.ensures.some (real g at.Else-index) b.0 b.1 b.2 in
     let P : List ℕ → Type 0 = λ z. LabelsAscend c.args.labels.now.items 0 z (2 ^ 64) in
     record {
       before = w.0;
       run = c.args.n ∷ [];
-      behind = c.args.b ∷ at.1;
-      is = c.put_behind.ensures.nodes w.0 (c.args.b ∷ at.1) w.2;
+      behind = c.args.b ∷ b.1;
+      is = c.put_behind.ensures.nodes w.0 (c.args.b ∷ b.1) w.2;
       counted = refl;
       begins = refl;
       ends = refl;
@@ -66,28 +72,25 @@ spread-requires-clause-gap g c =
 
 pub spread-requires-clause-numbered : goal.spread-requires-clause-numbered
 spread-requires-clause-numbered g c k h =
-    let nodes : List ℕ = c.args.links.now.nodes in
-    let real : c.previous-p.result ≢ g.Ix.IndexType.greatest = λ e.
-    c.if-index.false (c.index.ensures.value ∙ (e ∙ (sym c.end.ensures.value ∙ sym c.index-2.ensures.value))) in
-    let at = split_at nodes c.args.b (contains_mem nodes c.args.b c.requires.held) in
+    let at = goal.at.spread-requires-clause-numbered g c in
+    let b = place g at.Start in
     let is =
-    put_is c.previous-p.ensures.none c.previous-p.ensures.some real c.put_behind.ensures.nodes at.0 at.1 at.2 in
+    put_is c.previous-p.ensures.none c.previous-p.ensures.some (real g at.Else-index) c.put_behind.ensures.nodes
+    b.0 b.1 b.2 in
     let P : List ℕ → Type 0 = λ z. Mem k z in
-    elim (mem_out at.0 (c.args.b ∷ at.1) c.args.n k (subst P is (contains_mem c.put_behind.new.self.nodes k h))) [
+    elim (mem_out b.0 (c.args.b ∷ b.1) c.args.n k (subst P is (contains_mem c.put_behind.new.self.nodes k h))) [
       | inl e ↦ omega (arith, e, c.requires.labels_fit)
-      | inr m ↦
-          omega (arith, label_within c.requires.labelled k (subst P (sym at.2) m), c.args.labels.now.ok.0)
+      | inr m ↦ omega (arith, label_within c.requires.labelled k (subst P (sym b.2) m), c.args.labels.now.ok.0)
     ]
 
 pub returns-else-index-clause-labelled : goal.returns-else-index-clause-labelled
 returns-else-index-clause-labelled g c =
-    let nodes : List ℕ = c.args.links.now.nodes in
-    let real : c.previous-p.result ≢ g.Ix.IndexType.greatest = λ e.
-    c.if-index.false (c.index.ensures.value ∙ (e ∙ (sym c.end.ensures.value ∙ sym c.index-2.ensures.value))) in
-    let at = split_at nodes c.args.b (contains_mem nodes c.args.b c.requires.held) in
+    let at = goal.at.returns-else-index-clause-labelled g c in
+    let b = place g at.Start in
     let is =
-    put_is c.previous-p.ensures.none c.previous-p.ensures.some real c.put_behind.ensures.nodes at.0 at.1 at.2 in
+    put_is c.previous-p.ensures.none c.previous-p.ensures.some (real g at.Else-index) c.put_behind.ensures.nodes
+    b.0 b.1 b.2 in
     labelled_more c.requires.labelled c.spread.new.labels.items c.put_behind.new.self.nodes c.spread.ensures.ascending
     c.spread.ensures.others (λ k m.
     let P : List ℕ → Type 0 = λ z. Mem k z in
-    subst P (sym is) (mem_into at.0 (c.args.b ∷ at.1) c.args.n k (subst P at.2 m)))
+    subst P (sym is) (mem_into b.0 (c.args.b ∷ b.1) c.args.n k (subst P b.2 m)))

@@ -1,204 +1,88 @@
-use Rattle.std.proofs.Common.{◌≡◌, ℕ, ◌∙◌, sym, ap, subst, refl, arith, get_or, length}
-use Rattle.daggy_labels.specs.Links.{Listed, nodes_from}
+use Rattle.std.proofs.Common.{◌≡◌, ◌≤◌, ◌⊎◌, inl, inr, ℕ, List, ◌∙◌, ap, refl, sym, arith, get_or, length}
+use Rattle.std.specs.Prelude.{vec_len}
+use Rattle.daggy_labels.specs.Links.{Listed, AreLinksOf, nodes_from}
 use Rattle.daggy_labels.proofs.LinkedNodes.{length_walk, grown_walked, grown_linked}
+use Rattle.daggy_labels.proofs.links.Links.make_room.Given.{Over}
+use Rattle.daggy_labels.proofs.links.Links.make_room.Goals.{After-grow, After-lengthen}
 use Rattle.daggy_labels.proofs.links.Links.make_room.Goals as goal
 
+-- two lists of links keep these nodes
+record Keeps (end : ℕ) (next previous : List ℕ) (first last count : ℕ) (nodes : List ℕ) : Type 0 where
+  linked : AreLinksOf end next previous first last (nodes_from end next first count)
+  same : nodes_from end next first count ≡ nodes
+
+-- links that keep nodes do so when their lists are made longer
+grown : {end : ℕ} {next previous : List ℕ} {first last : ℕ} {nodes : List ℕ} (count : ℕ) (next' previous' : List ℕ)
+    → AreLinksOf end next previous first last (nodes_from end next first count)
+    → nodes_from end next first count ≡ nodes
+    → ((k : ℕ) → get_or next' k end ≡ get_or next k end) → ((k : ℕ) → get_or previous' k end ≡ get_or previous k end)
+    → length previous' ≤ length next' → length previous ≤ length previous'
+    → Keeps end next' previous' first last count nodes
+grown {end} {next} {previous} {first} count next' previous' s is same back sized long =
+    let counted = sym (length_walk end next first count) in
+    record {
+      linked = grown_linked s next' previous' same back sized long count counted;
+      same = grown_walked s next' previous' same back sized long count counted ∙ is;
+    }
+
+-- they do where the first list is longer
+first_grown : (g : Over) (c : After-grow g)
+    → Keeps g.Ix.IndexType.greatest c.grow.new.list.items c.self.inside.previous.items c.self.inside.first
+    c.self.inside.last c.self.inside.count c.args.self.now.nodes
+first_grown g c =
+    grown c.self.inside.count c.grow.new.list.items c.self.inside.previous.items c.self.invariant
+    (ap (λ (z : Listed). z.nodes) c.self.view_is) (rw c.end.ensures.value at c.grow.ensures.same) (λ k. refl)
+    (omega (arith, c.self.invariant.sized, c.grow.ensures.longer, c.self.inside.next.ok.0, c.grow.new.list.ok.0))
+    (omega arith)
+
+-- and where the second was to be too, whether there was memory for it or not
+both_grown : (g : Over) (c : After-lengthen g)
+    → (vec_len c.lengthen.new.list ≡ c.len-long.result) ⊎ (vec_len c.lengthen.new.list ≡ vec_len c.self.inside.previous)
+    → Keeps g.Ix.IndexType.greatest c.grow.new.list.items c.lengthen.new.list.items c.self.inside.first
+    c.self.inside.last c.self.inside.count c.args.self.now.nodes
+both_grown g c is =
+    let longer : (length c.self.inside.previous.items ≤ length c.lengthen.new.list.items)
+    × (length c.lengthen.new.list.items ≤ length c.grow.new.list.items) =
+    omega (
+      arith,
+      is,
+      c.self.invariant.sized,
+      c.grow.ensures.longer,
+      c.len-long.ensures,
+      c.self.inside.next.ok.0,
+      c.grow.new.list.ok.0,
+      c.self.inside.previous.ok.0,
+      c.lengthen.new.list.ok.0,
+    ) in
+    grown c.self.inside.count c.grow.new.list.items c.lengthen.new.list.items c.self.invariant
+    (ap (λ (z : Listed). z.nodes) c.self.view_is) (rw c.end.ensures.value at c.grow.ensures.same)
+    (rw c.end-then-len-n.ensures.value at c.lengthen.ensures.same) longer.1 longer.0
+
 pub invariant_of-self : goal.invariant_of-self
-invariant_of-self g c =
-    let E : ℕ = g.Ix.IndexType.greatest in
-    let s = c.self.invariant in
-    let count : c.self.inside.count
-    ≡ length (nodes_from E c.self.inside.next.items c.self.inside.first c.self.inside.count) =
-    sym (length_walk E c.self.inside.next.items c.self.inside.first c.self.inside.count) in
-    let end_is : c.end.result ≡ E = c.end.ensures.value in
-    let P : ℕ → Type 0 = λ e. (k : ℕ) → get_or c.grow.new.list.items k e ≡ get_or c.self.inside.next.items k e in
-    let same = subst P end_is c.grow.ensures.same in
-    let grown =
-    grown_linked s c.grow.new.list.items c.self.inside.previous.items same (λ k. refl)
-    (omega (arith, s.sized, c.grow.ensures.longer, c.self.inside.next.ok.0, c.grow.new.list.ok.0)) (omega arith)
-    c.self.inside.count count in
-    grown
+invariant_of-self g c = (first_grown g (goal.at.invariant_of-self g c).After-grow).linked
 
 pub invariant_of-self-in-Continue-branch-2 : goal.invariant_of-self-in-Continue-branch-2
 invariant_of-self-in-Continue-branch-2 g c =
-    let E : ℕ = g.Ix.IndexType.greatest in
-    let s = c.self.invariant in
-    let count : c.self.inside.count
-    ≡ length (nodes_from E c.self.inside.next.items c.self.inside.first c.self.inside.count) =
-    sym (length_walk E c.self.inside.next.items c.self.inside.first c.self.inside.count) in
-    let end_is : c.end.result ≡ E = c.end.ensures.value in
-    let P : ℕ → Type 0 = λ e. (k : ℕ) → get_or c.grow.new.list.items k e ≡ get_or c.self.inside.next.items k e in
-    let same = subst P end_is c.grow.ensures.same in
-    let end2_is : c.end-then-len-n.result ≡ E = c.end-then-len-n.ensures.value in
-    let Q : ℕ → Type 0 = λ e.
-    (k : ℕ) → get_or c.lengthen.new.list.items k e ≡ get_or c.self.inside.previous.items k e in
-    let back = subst Q end2_is c.lengthen.ensures.same in
-    let grown =
-    grown_linked s c.grow.new.list.items c.lengthen.new.list.items same back (omega (
-      arith,
-      s.sized,
-      c.grow.ensures.longer,
-      c.in_ok-lengthen.ensures.ok,
-      c.len-long.ensures,
-      c.self.inside.next.ok.0,
-      c.grow.new.list.ok.0,
-      c.self.inside.previous.ok.0,
-      c.lengthen.new.list.ok.0,
-    )) (omega (
-      arith,
-      s.sized,
-      c.grow.ensures.longer,
-      c.in_ok-lengthen.ensures.ok,
-      c.len-long.ensures,
-      c.self.inside.next.ok.0,
-      c.grow.new.list.ok.0,
-      c.self.inside.previous.ok.0,
-      c.lengthen.new.list.ok.0,
-    )) c.self.inside.count count in
-    grown
+    let at = goal.at.invariant_of-self-in-Continue-branch-2 g c in
+    (both_grown g at.After-lengthen (inl c.in_ok-lengthen.ensures.ok)).linked
 
 pub invariant_of-self-in_err-lengthen : goal.invariant_of-self-in_err-lengthen
 invariant_of-self-in_err-lengthen g c =
-    let E : ℕ = g.Ix.IndexType.greatest in
-    let s = c.self.invariant in
-    let count : c.self.inside.count
-    ≡ length (nodes_from E c.self.inside.next.items c.self.inside.first c.self.inside.count) =
-    sym (length_walk E c.self.inside.next.items c.self.inside.first c.self.inside.count) in
-    let end_is : c.end.result ≡ E = c.end.ensures.value in
-    let P : ℕ → Type 0 = λ e. (k : ℕ) → get_or c.grow.new.list.items k e ≡ get_or c.self.inside.next.items k e in
-    let same = subst P end_is c.grow.ensures.same in
-    let end2_is : c.end-then-len-n.result ≡ E = c.end-then-len-n.ensures.value in
-    let Q : ℕ → Type 0 = λ e.
-    (k : ℕ) → get_or c.lengthen.new.list.items k e ≡ get_or c.self.inside.previous.items k e in
-    let back = subst Q end2_is c.lengthen.ensures.same in
-    let grown =
-    grown_linked s c.grow.new.list.items c.lengthen.new.list.items same back (omega (
-      arith,
-      s.sized,
-      c.grow.ensures.longer,
-      c.in_err-lengthen.ensures.err,
-      c.len-long.ensures,
-      c.self.inside.next.ok.0,
-      c.grow.new.list.ok.0,
-      c.self.inside.previous.ok.0,
-      c.lengthen.new.list.ok.0,
-    )) (omega (
-      arith,
-      s.sized,
-      c.grow.ensures.longer,
-      c.in_err-lengthen.ensures.err,
-      c.len-long.ensures,
-      c.self.inside.next.ok.0,
-      c.grow.new.list.ok.0,
-      c.self.inside.previous.ok.0,
-      c.lengthen.new.list.ok.0,
-    )) c.self.inside.count count in
-    grown
+    let at = goal.at.invariant_of-self-in_err-lengthen g c in
+    (both_grown g at.After-lengthen (inr c.in_err-lengthen.ensures.err)).linked
 
 pub returns-in_err-lengthen-clause-same : goal.returns-in_err-lengthen-clause-same
 returns-in_err-lengthen-clause-same g c =
-    let E : ℕ = g.Ix.IndexType.greatest in
-    let s = c.self.invariant in
-    let count : c.self.inside.count
-    ≡ length (nodes_from E c.self.inside.next.items c.self.inside.first c.self.inside.count) =
-    sym (length_walk E c.self.inside.next.items c.self.inside.first c.self.inside.count) in
-    let end_is : c.end.result ≡ E = c.end.ensures.value in
-    let P : ℕ → Type 0 = λ e. (k : ℕ) → get_or c.grow.new.list.items k e ≡ get_or c.self.inside.next.items k e in
-    let same = subst P end_is c.grow.ensures.same in
-    let end2_is : c.end-then-len-n.result ≡ E = c.end-then-len-n.ensures.value in
-    let Q : ℕ → Type 0 = λ e.
-    (k : ℕ) → get_or c.lengthen.new.list.items k e ≡ get_or c.self.inside.previous.items k e in
-    let back = subst Q end2_is c.lengthen.ensures.same in
-    let grown =
-    grown_walked s c.grow.new.list.items c.lengthen.new.list.items same back (omega (
-      arith,
-      s.sized,
-      c.grow.ensures.longer,
-      c.in_err-lengthen.ensures.err,
-      c.len-long.ensures,
-      c.self.inside.next.ok.0,
-      c.grow.new.list.ok.0,
-      c.self.inside.previous.ok.0,
-      c.lengthen.new.list.ok.0,
-    )) (omega (
-      arith,
-      s.sized,
-      c.grow.ensures.longer,
-      c.in_err-lengthen.ensures.err,
-      c.len-long.ensures,
-      c.self.inside.next.ok.0,
-      c.grow.new.list.ok.0,
-      c.self.inside.previous.ok.0,
-      c.lengthen.new.list.ok.0,
-    )) c.self.inside.count count in
-    grown ∙ ap (λ (z : Listed). z.nodes) c.self.view_is
+    let at = goal.at.returns-in_err-lengthen-clause-same g c in
+    (both_grown g at.After-lengthen (inr c.in_err-lengthen.ensures.err)).same
 
 pub invariant_of-self-else-len-n : goal.invariant_of-self-else-len-n
-invariant_of-self-else-len-n g c =
-    let E : ℕ = g.Ix.IndexType.greatest in
-    let s = c.self.invariant in
-    let count : c.self.inside.count
-    ≡ length (nodes_from E c.self.inside.next.items c.self.inside.first c.self.inside.count) =
-    sym (length_walk E c.self.inside.next.items c.self.inside.first c.self.inside.count) in
-    let end_is : c.end.result ≡ E = c.end.ensures.value in
-    let P : ℕ → Type 0 = λ e. (k : ℕ) → get_or c.grow.new.list.items k e ≡ get_or c.self.inside.next.items k e in
-    let same = subst P end_is c.grow.ensures.same in
-    let grown =
-    grown_linked s c.grow.new.list.items c.self.inside.previous.items same (λ k. refl)
-    (omega (arith, s.sized, c.grow.ensures.longer, c.self.inside.next.ok.0, c.grow.new.list.ok.0)) (omega arith)
-    c.self.inside.count count in
-    grown
+invariant_of-self-else-len-n g c = (first_grown g (goal.at.invariant_of-self-else-len-n g c).After-grow).linked
 
 pub returns-in_ok-lengthen-clause-same : goal.returns-in_ok-lengthen-clause-same
 returns-in_ok-lengthen-clause-same g c =
-    let E : ℕ = g.Ix.IndexType.greatest in
-    let s = c.self.invariant in
-    let count : c.self.inside.count
-    ≡ length (nodes_from E c.self.inside.next.items c.self.inside.first c.self.inside.count) =
-    sym (length_walk E c.self.inside.next.items c.self.inside.first c.self.inside.count) in
-    let end_is : c.end.result ≡ E = c.end.ensures.value in
-    let P : ℕ → Type 0 = λ e. (k : ℕ) → get_or c.grow.new.list.items k e ≡ get_or c.self.inside.next.items k e in
-    let same = subst P end_is c.grow.ensures.same in
-    let end2_is : c.end-then-len-n.result ≡ E = c.end-then-len-n.ensures.value in
-    let Q : ℕ → Type 0 = λ e.
-    (k : ℕ) → get_or c.lengthen.new.list.items k e ≡ get_or c.self.inside.previous.items k e in
-    let back = subst Q end2_is c.lengthen.ensures.same in
-    let grown =
-    grown_walked s c.grow.new.list.items c.lengthen.new.list.items same back (omega (
-      arith,
-      s.sized,
-      c.grow.ensures.longer,
-      c.in_ok-lengthen.ensures.ok,
-      c.len-long.ensures,
-      c.self.inside.next.ok.0,
-      c.grow.new.list.ok.0,
-      c.self.inside.previous.ok.0,
-      c.lengthen.new.list.ok.0,
-    )) (omega (
-      arith,
-      s.sized,
-      c.grow.ensures.longer,
-      c.in_ok-lengthen.ensures.ok,
-      c.len-long.ensures,
-      c.self.inside.next.ok.0,
-      c.grow.new.list.ok.0,
-      c.self.inside.previous.ok.0,
-      c.lengthen.new.list.ok.0,
-    )) c.self.inside.count count in
-    grown ∙ ap (λ (z : Listed). z.nodes) c.self.view_is
+    let at = goal.at.returns-in_ok-lengthen-clause-same g c in
+    (both_grown g at.After-lengthen (inl c.in_ok-lengthen.ensures.ok)).same
 
 pub returns-else-len-n-clause-same : goal.returns-else-len-n-clause-same
-returns-else-len-n-clause-same g c =
-    let E : ℕ = g.Ix.IndexType.greatest in
-    let s = c.self.invariant in
-    let count : c.self.inside.count
-    ≡ length (nodes_from E c.self.inside.next.items c.self.inside.first c.self.inside.count) =
-    sym (length_walk E c.self.inside.next.items c.self.inside.first c.self.inside.count) in
-    let end_is : c.end.result ≡ E = c.end.ensures.value in
-    let P : ℕ → Type 0 = λ e. (k : ℕ) → get_or c.grow.new.list.items k e ≡ get_or c.self.inside.next.items k e in
-    let same = subst P end_is c.grow.ensures.same in
-    let grown =
-    grown_walked s c.grow.new.list.items c.self.inside.previous.items same (λ k. refl)
-    (omega (arith, s.sized, c.grow.ensures.longer, c.self.inside.next.ok.0, c.grow.new.list.ok.0)) (omega arith)
-    c.self.inside.count count in
-    grown ∙ ap (λ (z : Listed). z.nodes) c.self.view_is
+returns-else-len-n-clause-same g c = (first_grown g (goal.at.returns-else-len-n-clause-same g c).After-grow).same

@@ -1,22 +1,26 @@
-use Rattle.std.proofs.Common.{◌≡◌, ◌≤◌, ℕ, ◌∙◌, sym, ap, subst, arith, get_or, length}
-use Rattle.daggy_labels.specs.Links.{Listed, nodes_from}
+use Rattle.std.proofs.Common.{◌≡◌, ◌≤◌, ◌∙◌, sym, ap, arith, length}
+use Rattle.daggy_labels.specs.Links.{Listed, AreLinksOf, nodes_from}
 use Rattle.daggy_labels.proofs.LinkedNodes.{length_walk, grown_walked, grown_linked}
+use Rattle.daggy_labels.proofs.links.Links.use_memory.Given.{Over}
+use Rattle.daggy_labels.proofs.links.Links.use_memory.Goals.{After-lengthen_within-then-len-bound}
 use Rattle.daggy_labels.proofs.links.Links.use_memory.Goals as goal
 
-pub invariant_of-self : goal.invariant_of-self
-invariant_of-self g c =
-    let E : ℕ = g.Ix.IndexType.greatest in
+-- the two lists are longer, and their links lead over the same nodes
+grown : (g : Over) (c : After-lengthen_within-then-len-bound g)
+    → AreLinksOf g.Ix.IndexType.greatest c.lengthen_within.new.list.items
+    c.lengthen_within-then-len-bound.new.list.items c.self.inside.first c.self.inside.last
+    (nodes_from g.Ix.IndexType.greatest c.lengthen_within.new.list.items c.self.inside.first c.self.inside.count)
+    × (nodes_from g.Ix.IndexType.greatest c.lengthen_within.new.list.items c.self.inside.first c.self.inside.count
+    ≡ c.args.self.now.nodes)
+grown g c =
     let s = c.self.invariant in
-    let count : c.self.inside.count
-    ≡ length (nodes_from E c.self.inside.next.items c.self.inside.first c.self.inside.count) =
-    sym (length_walk E c.self.inside.next.items c.self.inside.first c.self.inside.count) in
-    let P : ℕ → Type 0 = λ e.
-    (k : ℕ) → get_or c.lengthen_within.new.list.items k e ≡ get_or c.self.inside.next.items k e in
-    let same = subst P c.end.ensures.value c.lengthen_within.ensures.same in
-    let Q : ℕ → Type 0 = λ e.
-    (k : ℕ) → get_or c.lengthen_within-then-len-bound.new.list.items k e ≡ get_or c.self.inside.previous.items k e in
-    let back = subst Q c.end-then-len-bound.ensures.value c.lengthen_within-then-len-bound.ensures.same in
-    let sized : length c.lengthen_within-then-len-bound.new.list.items ≤ length c.lengthen_within.new.list.items =
+    let next = c.lengthen_within.new.list.items in
+    let previous = c.lengthen_within-then-len-bound.new.list.items in
+    let count = c.self.inside.count in
+    let counted = sym (length_walk g.Ix.IndexType.greatest c.self.inside.next.items c.self.inside.first count) in
+    let same = rw c.end.ensures.value at c.lengthen_within.ensures.same in
+    let back = rw c.end-then-len-bound.ensures.value at c.lengthen_within-then-len-bound.ensures.same in
+    let longer : (length previous ≤ length next) × (length c.self.inside.previous.items ≤ length previous) =
     omega (
       arith,
       s.sized,
@@ -26,49 +30,16 @@ invariant_of-self g c =
       c.self.inside.previous.ok.0,
       c.lengthen_within.new.list.ok.0,
       c.lengthen_within-then-len-bound.new.list.ok.0,
-    ) in
-    let long : length c.self.inside.previous.items ≤ length c.lengthen_within-then-len-bound.new.list.items =
-    omega (
-      arith,
-      c.lengthen_within-then-len-bound.ensures.sized,
-      c.self.inside.previous.ok.0,
-      c.lengthen_within-then-len-bound.new.list.ok.0,
-    ) in
-    grown_linked s c.lengthen_within.new.list.items c.lengthen_within-then-len-bound.new.list.items same back sized long
-    c.self.inside.count count
+    ) in (
+      grown_linked s next previous same back longer.0 longer.1 count counted,
+      grown_walked s next previous same back longer.0 longer.1 count counted
+          ∙ ap (λ (z : Listed). z.nodes) c.self.view_is,
+    )
+
+pub invariant_of-self : goal.invariant_of-self
+invariant_of-self g c = (grown g (goal.at.invariant_of-self g c).After-lengthen_within-then-len-bound).0
 
 pub returns-then-len-bound-clause-same : goal.returns-then-len-bound-clause-same
 returns-then-len-bound-clause-same g c =
-    let E : ℕ = g.Ix.IndexType.greatest in
-    let s = c.self.invariant in
-    let count : c.self.inside.count
-    ≡ length (nodes_from E c.self.inside.next.items c.self.inside.first c.self.inside.count) =
-    sym (length_walk E c.self.inside.next.items c.self.inside.first c.self.inside.count) in
-    let P : ℕ → Type 0 = λ e.
-    (k : ℕ) → get_or c.lengthen_within.new.list.items k e ≡ get_or c.self.inside.next.items k e in
-    let same = subst P c.end.ensures.value c.lengthen_within.ensures.same in
-    let Q : ℕ → Type 0 = λ e.
-    (k : ℕ) → get_or c.lengthen_within-then-len-bound.new.list.items k e ≡ get_or c.self.inside.previous.items k e in
-    let back = subst Q c.end-then-len-bound.ensures.value c.lengthen_within-then-len-bound.ensures.same in
-    let sized : length c.lengthen_within-then-len-bound.new.list.items ≤ length c.lengthen_within.new.list.items =
-    omega (
-      arith,
-      s.sized,
-      c.lengthen_within.ensures.sized,
-      c.lengthen_within-then-len-bound.ensures.sized,
-      c.self.inside.next.ok.0,
-      c.self.inside.previous.ok.0,
-      c.lengthen_within.new.list.ok.0,
-      c.lengthen_within-then-len-bound.new.list.ok.0,
-    ) in
-    let long : length c.self.inside.previous.items ≤ length c.lengthen_within-then-len-bound.new.list.items =
-    omega (
-      arith,
-      c.lengthen_within-then-len-bound.ensures.sized,
-      c.self.inside.previous.ok.0,
-      c.lengthen_within-then-len-bound.new.list.ok.0,
-    ) in
-    let grown =
-    grown_walked s c.lengthen_within.new.list.items c.lengthen_within-then-len-bound.new.list.items same back sized long
-    c.self.inside.count count in
-    grown ∙ ap (λ (z : Listed). z.nodes) c.self.view_is
+    let at = goal.at.returns-then-len-bound-clause-same g c in
+    (grown g at.After-lengthen_within-then-len-bound).1

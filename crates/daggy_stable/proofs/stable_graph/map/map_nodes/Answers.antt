@@ -1,11 +1,11 @@
-use Rattle.std.proofs.Common.{◌<◌, ◌+◌, Some, None, length, sym, ap, ◌∙◌, of_calls, arith}
+use Rattle.std.proofs.Common.{◌+◌, Some, None, length, sym, ap, ◌∙◌, of_calls, arith}
 use Rattle.std.proofs.lemmas.List.{length-map, length_push}
 use Rattle.daggy_cells.specs.Raw.{raw_first}
 use Rattle.daggy_cells.specs.Fields.{firsts_of}
 use Rattle.daggy_cells.proofs.MappingLemmas.{CalledAt-from_step}
 use Rattle.daggy_stable.specs.Stored.{weight_of}
-use Rattle.daggy_stable.proofs.MappedSlots.{MappedSlots-pass, MappedSlots-call, MappedSlots-done, kept_more, kept_all}
-use Rattle.daggy_stable.proofs.MappedSlots.{node_like_links}
+use Rattle.daggy_stable.proofs.MappedSlots.{Reads, MappedSlots-pass, MappedSlots-call, MappedSlots-done, kept_more}
+use Rattle.daggy_stable.proofs.MappedSlots.{kept_all, node_like_links}
 use Rattle.daggy_stable.proofs.stable_graph.map.map_nodes.Goals as goal
 
 pub each-preserved-in-None : goal.each-preserved-in-None
@@ -13,7 +13,7 @@ each-preserved-in-None g c =
     let nodes = c.args.nodes.now in
     let x = c.index-nodes-i.result in
     let y = c.node_like.result in
-    let within : c.each.i < length nodes = omega arith in
+    let at : Reads nodes c.each.i x = record { within = omega arith; is = c.index-nodes-i.is } in
     record {
       callable = c.each.invariant.callable;
       capacity = omega (arith, c.push_reserved.ensures.capacity, c.each.invariant.capacity);
@@ -21,12 +21,11 @@ each-preserved-in-None g c =
           ap length c.push_reserved.ensures.items ∙ length_push c.each.new.items y
           ∙ ap (λ n. n + 1) c.each.invariant.count;
       mapped =
-          rw c.push_reserved.ensures.items (MappedSlots-pass (goal.F-step g) g.Ix.IndexType.of (λ w. w) (λ w v. v)
-          weight_of weight_of c.args.f nodes c.each.new.items c.each.f c.each.i y within c.index-nodes-i.is
+          rw c.push_reserved.ensures.items (MappedSlots-pass weight_of weight_of c.each.new.items y at
           (sym c.in-None.ensures.value) (ap weight_of c.node_like.ensures) c.each.invariant.mapped);
       links = λ dir.
           ap (firsts_of dir) c.push_reserved.ensures.items
-          ∙ kept_more (raw_first dir) (raw_first dir) nodes c.each.new.items c.each.i x y within c.index-nodes-i.is
+          ∙ kept_more (raw_first dir) (raw_first dir) c.each.new.items y at
           (ap (raw_first dir) c.node_like.ensures ∙ node_like_links dir x None) (c.each.invariant.links dir);
     }
 
@@ -36,7 +35,7 @@ each-preserved g c =
     let x = c.index-nodes-i.result in
     let y = c.node_like-in-each.result in
     let v = c.f-weight.result in
-    let within : c.each.i < length nodes = omega arith in
+    let at : Reads nodes c.each.i x = record { within = omega arith; is = c.index-nodes-i.is } in
     let called =
     CalledAt-from_step (goal.F-step g) g.Ix.IndexType.of c.each.f c.each.i _ v c.f-weight.new.self
     (rw c.new.ensures.value at c.f-weight.ensures) in
@@ -48,20 +47,18 @@ each-preserved g c =
           ∙ ap (λ n. n + 1) c.each.invariant.count;
       mapped =
           rw c.push_reserved-in-each.ensures.items
-          (MappedSlots-call (goal.F-step g) g.Ix.IndexType.of (λ w. w) (λ w v. v) weight_of weight_of c.args.f nodes
-          c.each.new.items c.each.f c.each.i y within c.index-nodes-i.is c.f-weight.new.self c.in-Some.old.now v
+          (MappedSlots-call weight_of weight_of c.each.new.items y at c.f-weight.new.self v
           (sym c.in-Some.ensures.value) (ap weight_of c.node_like-in-each.ensures) called c.each.invariant.mapped);
       links = λ dir.
           ap (firsts_of dir) c.push_reserved-in-each.ensures.items
-          ∙ kept_more (raw_first dir) (raw_first dir) nodes c.each.new.items c.each.i x y within c.index-nodes-i.is
+          ∙ kept_more (raw_first dir) (raw_first dir) c.each.new.items y at
           (ap (raw_first dir) c.node_like-in-each.ensures ∙ node_like_links dir x (Some v))
           (c.each.invariant.links dir);
     }
 
 pub returns-clause-mapped : goal.returns-clause-mapped
 returns-clause-mapped g c =
-    MappedSlots-done (goal.F-step g) g.Ix.IndexType.of (λ w. w) (λ w v. v) _ _ _ _ c.each.i
-    (omega (arith, length-map c.args.nodes.now weight_of)) c.each.invariant.mapped
+    MappedSlots-done (omega (arith, length-map c.args.nodes.now weight_of)) c.each.invariant.mapped
 
 pub returns-clause-links : goal.returns-clause-links
 returns-clause-links g c dir =
