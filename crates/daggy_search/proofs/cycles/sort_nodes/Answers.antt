@@ -1,16 +1,42 @@
 use Rattle.std.proofs.Common.{rules, ◌≡◌, ◌≢◌, ◌+◌, ◌<◌, ◌≤◌, ◌∙◌, ◌-◌, ℕ, sym, subst, refl, arith, false, true, length}
 use Rattle.std.proofs.Common.{get_or, set}
 use Rattle.std.proofs.lemmas.Bool.{false≢true}
-use Rattle.daggy_base.specs.Graph.{HasNode, node_bound}
+use Rattle.daggy_base.specs.Graph.{HasNode, node_bound, edge_count}
 use Rattle.daggy_base.proofs.PathsWithNode.{bound_low}
 use Rattle.daggy_search.proofs.SortNodesState.{Sorting, rests, skipped, begins, few_rested, all_found, top_within}
 use Rattle.daggy_search.proofs.SortNodesState.{place_free, looked_once, edge_here, node_low, walked, steps_back}
 use Rattle.daggy_search.proofs.SortNodesState.{child_low, room_here, way_round, steps_over, steps_in}
+use Rattle.daggy_search.proofs.cycles.sort_nodes.Given.{Over}
+use Rattle.daggy_search.proofs.cycles.sort_nodes.Goals.{After-look-v, Then-not-is_marked, Then-index-end}
 use Rattle.daggy_search.proofs.cycles.sort_nodes.Goals as goal
 use Rattle.daggy_search.proofs.cycles.sort_nodes.Goals.{then-not-contains_node-via-then-not-contains_node}
 use Rattle.daggy_search.proofs.cycles.sort_nodes.Goals.{
   then-not-contains_node-via-else-not-contains_node+then-is_marked,
 }
+
+-- a place is left for the node that is finished
+free : (g : Over) (c : Then-index-end g) → c.steps.top - 1 + 1 ≡ c.steps.top
+free g c = omega (arith, place_free c.node_bound-bound.ensures.well_formed c.steps.invariant)
+
+-- e is an edge, and the looks stay few
+here : (g : Over) (c : After-look-v g) → g.Ix.IndexType.number c.steps.e ≢ g.Ix.IndexType.greatest
+here g c = λ h. c.if-index-end.false cc
+
+looked : (g : Over) (c : After-look-v g)
+    → g.S.EdgeSource.looks c.look-v.new.self
+    ≤ g.S.EdgeSource.looks c.args.source.now + edge_count (g.S.EdgeSource.graph c.args.source.now)
+looked g c = looked_once c.node_bound-bound.ensures.well_formed c.steps.invariant (here g c) c.look-v.ensures.counted
+
+-- the child is within the lists
+v_low : (g : Over) (c : After-look-v g) → g.Ix.IndexType.number c.look-v.result.0 < length c.steps.discovered
+v_low g c = child_low c.node_bound-bound.ensures.well_formed c.steps.invariant (here g c) c.look-v.ensures.gives
+
+-- there is room for a child that is not discovered yet
+room : (g : Over) (c : Then-not-is_marked g) → c.steps.len + 1 < length c.steps.discovered
+room g c =
+    let here : g.Ix.IndexType.number c.steps.e ≢ g.Ix.IndexType.greatest = λ h. c.if-index-end.false cc in
+    let unseen : get_or c.steps.discovered (g.Ix.IndexType.number c.look-v.result.0) false ≡ false = cc in
+    room_here c.node_bound-bound.ensures.well_formed c.steps.invariant here c.look-v.ensures.gives unseen
 
 pub roots-init : goal.roots-init
 roots-init g c =
@@ -64,19 +90,19 @@ mark-requires-then-index-end g c =
 
 pub overflow_sub-top : goal.overflow_sub-top
 overflow_sub-top g c =
-    omega (arith, place_free c.node_bound-bound.ensures.well_formed c.steps.invariant)
+    omega (arith, free g (goal.at.overflow_sub-top g c).Then-index-end)
 
 pub steps-preserved-then-index-end : goal.steps-preserved-then-index-end
 steps-preserved-then-index-end g c =
+    let at = goal.at.steps-preserved-then-index-end g c in
     let at_end : g.Ix.IndexType.number c.steps.e ≡ g.Ix.IndexType.greatest = cc in
     let w = c.node_bound-bound.ensures.well_formed in
-    let free : c.steps.top - 1 + 1 ≡ c.steps.top = omega (arith, place_free w c.steps.invariant) in
     let node_read : (d : ℕ)
     → g.Ix.IndexType.number c.node-n.result
     ≡ get_or (set c.steps.stack (c.steps.top - 1) (g.Ix.IndexType.number c.steps.n)) (c.steps.len - 1) d = λ d.
     c.node-n.ensures.value ∙ rw (sym c.put.ensures) (c.link_at.ensures d) in
     rw (c.mark-then-index-end.ensures, c.put.ensures) (steps_back w c.steps.invariant at_end
-    c.index-then-index-end.ensures.value free c.if-len-eq0.false refl node_read
+    c.index-then-index-end.ensures.value (free g at.Then-index-end) c.if-len-eq0.false refl node_read
     (λ d. c.edge-e.ensures.value ∙ c.link_at-then-index-end.ensures d))
 
 pub look-v-requires : goal.look-v-requires
@@ -86,104 +112,70 @@ look-v-requires g c =
 
 pub is_marked-requires-else-index-end : goal.is_marked-requires-else-index-end
 is_marked-requires-else-index-end g c =
-    let here : g.Ix.IndexType.number c.steps.e ≢ g.Ix.IndexType.greatest = λ h. c.if-index-end.false cc in
-    omega (
-      arith,
-      child_low c.node_bound-bound.ensures.well_formed c.steps.invariant here c.look-v.ensures.gives,
-      c.index-child.ensures.value,
-    )
+    omega (arith, v_low g (goal.at.is_marked-requires-else-index-end g c).After-look-v, c.index-child.ensures.value)
 
 pub mark-requires-then-not-is_marked : goal.mark-requires-then-not-is_marked
 mark-requires-then-not-is_marked g c =
-    let here : g.Ix.IndexType.number c.steps.e ≢ g.Ix.IndexType.greatest = λ h. c.if-index-end.false cc in
-    omega (
-      arith,
-      child_low c.node_bound-bound.ensures.well_formed c.steps.invariant here c.look-v.ensures.gives,
-      c.index-child.ensures.value,
-    )
+    omega (arith, v_low g (goal.at.mark-requires-then-not-is_marked g c).After-look-v, c.index-child.ensures.value)
 
 pub put-requires-then-not-is_marked : goal.put-requires-then-not-is_marked
 put-requires-then-not-is_marked g c =
-    let here : g.Ix.IndexType.number c.steps.e ≢ g.Ix.IndexType.greatest = λ h. c.if-index-end.false cc in
-    let unseen : get_or c.steps.discovered (g.Ix.IndexType.number c.look-v.result.0) false ≡ false = cc in
-    omega (
-      arith,
-      room_here c.node_bound-bound.ensures.well_formed c.steps.invariant here c.look-v.ensures.gives unseen,
-      c.steps.invariant.sizes.stack_fits,
-    )
+    let at = goal.at.put-requires-then-not-is_marked g c in
+    omega (arith, room g at.Then-not-is_marked, c.steps.invariant.sizes.stack_fits)
 
 pub put_edge-requires : goal.put_edge-requires
 put_edge-requires g c =
-    let here : g.Ix.IndexType.number c.steps.e ≢ g.Ix.IndexType.greatest = λ h. c.if-index-end.false cc in
-    let unseen : get_or c.steps.discovered (g.Ix.IndexType.number c.look-v.result.0) false ≡ false = cc in
-    omega (
-      arith,
-      room_here c.node_bound-bound.ensures.well_formed c.steps.invariant here c.look-v.ensures.gives unseen,
-      c.steps.invariant.sizes.cursors_fit,
-    )
+    omega (arith, room g (goal.at.put_edge-requires g c).Then-not-is_marked, c.steps.invariant.sizes.cursors_fit)
 
 pub overflow_add-len : goal.overflow_add-len
 overflow_add-len g c =
-    let here : g.Ix.IndexType.number c.steps.e ≢ g.Ix.IndexType.greatest = λ h. c.if-index-end.false cc in
-    let unseen : get_or c.steps.discovered (g.Ix.IndexType.number c.look-v.result.0) false ≡ false = cc in
     let h : c.steps.len + 1 < length c.steps.discovered =
-    room_here c.node_bound-bound.ensures.well_formed c.steps.invariant here c.look-v.ensures.gives unseen in
+    room g (goal.at.overflow_add-len g c).Then-not-is_marked in
     search rules
 
 pub steps-smaller-then-not-is_marked : goal.steps-smaller-then-not-is_marked
 steps-smaller-then-not-is_marked g c =
-    let here : g.Ix.IndexType.number c.steps.e ≢ g.Ix.IndexType.greatest = λ h. c.if-index-end.false cc in
-    omega (
-      arith,
-      looked_once c.node_bound-bound.ensures.well_formed c.steps.invariant here c.look-v.ensures.counted,
-      c.look-v.ensures.counted,
-    )
+    omega (arith, looked g (goal.at.steps-smaller-then-not-is_marked g c).After-look-v, c.look-v.ensures.counted)
 
 pub steps-preserved-then-not-is_marked : goal.steps-preserved-then-not-is_marked
 steps-preserved-then-not-is_marked g c =
-    let here : g.Ix.IndexType.number c.steps.e ≢ g.Ix.IndexType.greatest = λ h. c.if-index-end.false cc in
+    let at = goal.at.steps-preserved-then-not-is_marked g c in
     let unseen : get_or c.steps.discovered (g.Ix.IndexType.number c.look-v.result.0) false ≡ false = cc in
     let s =
-    steps_in c.node_bound-bound.ensures.well_formed c.steps.invariant here c.look-v.ensures.gives c.look-v.ensures.same
-    c.look-v.ensures.counted c.index-child.ensures.value unseen
+    steps_in c.node_bound-bound.ensures.well_formed c.steps.invariant (here g at.After-look-v) c.look-v.ensures.gives
+    c.look-v.ensures.same c.look-v.ensures.counted c.index-child.ensures.value unseen
     c.first-e-then-not-is_marked.ensures in
     rw (c.put-then-not-is_marked.ensures, c.put_edge.ensures, c.mark-then-not-is_marked.ensures) s
 
 pub steps-smaller : goal.steps-smaller
 steps-smaller g c =
-    let here : g.Ix.IndexType.number c.steps.e ≢ g.Ix.IndexType.greatest = λ h. c.if-index-end.false cc in
-    omega (
-      arith,
-      looked_once c.node_bound-bound.ensures.well_formed c.steps.invariant here c.look-v.ensures.counted,
-      c.look-v.ensures.counted,
-    )
+    omega (arith, looked g (goal.at.steps-smaller g c).After-look-v, c.look-v.ensures.counted)
 
 pub steps-preserved : goal.steps-preserved
 steps-preserved g c =
-    let here : g.Ix.IndexType.number c.steps.e ≢ g.Ix.IndexType.greatest = λ h. c.if-index-end.false cc in
+    let at = goal.at.steps-preserved g c in
     let seen : get_or c.steps.finished (g.Ix.IndexType.number c.look-v.result.0) false ≡ true = cc in
-    steps_over c.node_bound-bound.ensures.well_formed c.steps.invariant here c.look-v.ensures.gives
+    steps_over c.node_bound-bound.ensures.well_formed c.steps.invariant (here g at.After-look-v) c.look-v.ensures.gives
     c.look-v.ensures.same c.look-v.ensures.counted seen
 
 pub returns-else-is_marked-2-clause-cyclic : goal.returns-else-is_marked-2-clause-cyclic
 returns-else-is_marked-2-clause-cyclic g c =
-    let here : g.Ix.IndexType.number c.steps.e ≢ g.Ix.IndexType.greatest = λ h. c.if-index-end.false cc in
+    let at = goal.at.returns-else-is_marked-2-clause-cyclic g c in
     let seen : get_or c.steps.discovered (g.Ix.IndexType.number c.look-v.result.0) false ≡ true = cc in
     let unleft : get_or c.steps.finished (g.Ix.IndexType.number c.look-v.result.0) false ≡ false = cc in
-    way_round c.node_bound-bound.ensures.well_formed c.steps.invariant here c.look-v.ensures.gives seen unleft
+    way_round c.node_bound-bound.ensures.well_formed c.steps.invariant (here g at.After-look-v)
+    c.look-v.ensures.gives seen unleft
 
 pub returns-else-is_marked-2-clause-counted : goal.returns-else-is_marked-2-clause-counted
 returns-else-is_marked-2-clause-counted g c =
-    let here : g.Ix.IndexType.number c.steps.e ≢ g.Ix.IndexType.greatest = λ h. c.if-index-end.false cc in
-    looked_once c.node_bound-bound.ensures.well_formed c.steps.invariant here c.look-v.ensures.counted
+    looked g (goal.at.returns-else-is_marked-2-clause-counted g c).After-look-v
 
 pub roots-preserved : goal.roots-preserved
 roots-preserved g c =
     let at_end : g.Ix.IndexType.number c.steps.e ≡ g.Ix.IndexType.greatest = cc in
     let w = c.node_bound-bound.ensures.well_formed in
-    let free : c.steps.top - 1 + 1 ≡ c.steps.top = omega (arith, place_free w c.steps.invariant) in
     rw (c.mark-then-index-end.ensures, c.put.ensures) (walked w c.steps.invariant at_end
-    c.index-then-index-end.ensures.value free c.if-len-eq0.true)
+    c.index-then-index-end.ensures.value (free g (goal.at.roots-preserved g c).Then-index-end) c.if-len-eq0.true)
 
 pub returns-clause-sorted : goal.returns-clause-sorted
 returns-clause-sorted g c =

@@ -1,26 +1,47 @@
-use Rattle.std.proofs.Common.{rules, ◌≡◌, ◌≢◌, ◌+◌, ◌<◌, ◌∙◌, sym, ap, refl, arith, inl, false, true, length, get_or}
+use Rattle.std.proofs.Common.{rules, ◌≡◌, ◌≢◌, ◌+◌, ◌<◌, ◌≤◌, ◌∙◌, sym, ap, refl, arith, inl, false, true}
+use Rattle.std.proofs.Common.{length, get_or}
 use Rattle.std.proofs.lemmas.Bool.{false≢true}
-use Rattle.daggy_base.specs.Graph.{HasNode, out_list}
+use Rattle.daggy_base.specs.Graph.{HasNode, out_list, edge_count}
 use Rattle.daggy_base.specs.Cursor.{first_of}
 use Rattle.daggy_base.proofs.OutEdgesRead.{below_bound}
 use Rattle.daggy_search.proofs.SearchState.{Reading, starts, few, edge_here, nothing_left, popped_here, child_low}
 use Rattle.daggy_search.proofs.SearchState.{room_here, found, moves_on, pushes, looked_once, room_marks}
+use Rattle.daggy_search.proofs.reach.search.Given.{Over}
+use Rattle.daggy_search.proofs.reach.search.Goals.{After-index-2, After-look-v}
 use Rattle.daggy_search.proofs.reach.search.Goals as goal
+
+-- from is a node
+exists : (g : Over) (c : After-index-2 g)
+    → HasNode (g.S.EdgeSource.graph c.args.source.now) (g.Ix.IndexType.number c.args.from)
+exists g c = search rules
+
+-- e is an edge, and the looks stay few
+here : (g : Over) (c : After-look-v g) → g.Ix.IndexType.number c.steps.e ≢ g.Ix.IndexType.greatest
+here g c = λ h. c.if-index-end.false cc
+
+looked : (g : Over) (c : After-look-v g)
+    → g.S.EdgeSource.looks c.look-v.new.self
+    ≤ g.S.EdgeSource.looks c.args.source.now + edge_count (g.S.EdgeSource.graph c.args.source.now)
+looked g c = looked_once c.contains_node.ensures.well_formed c.steps.invariant (here g c) c.look-v.ensures.counted
+
+-- the child is within the list
+v_low : (g : Over) (c : After-look-v g) → g.Ix.IndexType.number c.look-v.result.0 < length c.steps.marks
+v_low g c = child_low c.contains_node.ensures.well_formed c.steps.invariant (here g c) c.look-v.ensures.gives
 
 pub mark-requires : goal.mark-requires
 mark-requires g c =
-    let exists : HasNode (g.S.EdgeSource.graph c.args.source.now) (g.Ix.IndexType.number c.args.from) = search rules in
     omega (
       arith,
-      below_bound (g.S.EdgeSource.graph c.args.source.now).nodes (g.Ix.IndexType.number c.args.from) exists,
+      below_bound (g.S.EdgeSource.graph c.args.source.now).nodes (g.Ix.IndexType.number c.args.from)
+          (exists g (goal.at.mark-requires g c).After-index-2),
       c.requires.marks_fit,
       c.index-2.ensures.value,
     )
 
 pub steps-init : goal.steps-init
 steps-init g c =
+    let at = goal.at.steps-init g c in
     let w = c.contains_node.ensures.well_formed in
-    let exists : HasNode (g.S.EdgeSource.graph c.args.source.now) (g.Ix.IndexType.number c.args.from) = search rules in
     let apart : g.Ix.IndexType.number c.args.from ≢ g.Ix.IndexType.number c.args.to = λ h.
     c.if-index-target.false (c.index.ensures.value ∙ h ∙ sym c.index-target.ensures.value) in
     let now : Reading _ _ = record {
@@ -31,8 +52,8 @@ steps-init g c =
       edge = g.Ix.IndexType.number c.first-e.result;
       looks = g.S.EdgeSource.looks c.args.source.now;
     } in
-    rw c.mark.ensures (starts now w exists c.requires.cleared apart c.requires.marks_fit c.requires.stack_fits
-    c.index-2.ensures.value c.first-e.ensures)
+    rw c.mark.ensures (starts now w (exists g at.After-index-2) c.requires.cleared apart c.requires.marks_fit
+    c.requires.stack_fits c.index-2.ensures.value c.first-e.ensures)
 
 pub returns-then-len-eq0-clause-decided : goal.returns-then-len-eq0-clause-decided
 returns-then-len-eq0-clause-decided g c =
@@ -62,82 +83,61 @@ look-v-requires g c =
 
 pub is_marked-requires : goal.is_marked-requires
 is_marked-requires g c =
-    let here : g.Ix.IndexType.number c.steps.e ≢ g.Ix.IndexType.greatest = λ h. c.if-index-end.false cc in
-    omega (
-      arith,
-      child_low c.contains_node.ensures.well_formed c.steps.invariant here c.look-v.ensures.gives,
-      c.index-i.ensures.value,
-    )
+    omega (arith, v_low g (goal.at.is_marked-requires g c).After-look-v, c.index-i.ensures.value)
 
 pub returns-then-i-target-clause-decided : goal.returns-then-i-target-clause-decided
 returns-then-i-target-clause-decided g c =
-    let here : g.Ix.IndexType.number c.steps.e ≢ g.Ix.IndexType.greatest = λ h. c.if-index-end.false cc in
+    let at = goal.at.returns-then-i-target-clause-decided g c in
     let is : g.Ix.IndexType.number c.look-v.result.0 ≡ g.Ix.IndexType.number c.args.to = cc in
-    (λ h. found c.contains_node.ensures.well_formed c.steps.invariant here c.look-v.ensures.gives is, λ r. refl)
+    let w = c.contains_node.ensures.well_formed in
+    (λ h. found w c.steps.invariant (here g at.After-look-v) c.look-v.ensures.gives is, λ r. refl)
 
 pub returns-then-i-target-clause-counted : goal.returns-then-i-target-clause-counted
 returns-then-i-target-clause-counted g c =
-    let here : g.Ix.IndexType.number c.steps.e ≢ g.Ix.IndexType.greatest = λ h. c.if-index-end.false cc in
-    looked_once c.contains_node.ensures.well_formed c.steps.invariant here c.look-v.ensures.counted
+    looked g (goal.at.returns-then-i-target-clause-counted g c).After-look-v
 
 pub returns-then-i-target-clause-marks_kept : goal.returns-then-i-target-clause-marks_kept
 returns-then-i-target-clause-marks_kept g c = c.steps.invariant.sized
 
 pub mark-requires-then-not-is_marked : goal.mark-requires-then-not-is_marked
 mark-requires-then-not-is_marked g c =
-    let here : g.Ix.IndexType.number c.steps.e ≢ g.Ix.IndexType.greatest = λ h. c.if-index-end.false cc in
-    omega (
-      arith,
-      child_low c.contains_node.ensures.well_formed c.steps.invariant here c.look-v.ensures.gives,
-      c.index-i.ensures.value,
-    )
+    omega (arith, v_low g (goal.at.mark-requires-then-not-is_marked g c).After-look-v, c.index-i.ensures.value)
 
 pub put-requires : goal.put-requires
 put-requires g c =
-    let here : g.Ix.IndexType.number c.steps.e ≢ g.Ix.IndexType.greatest = λ h. c.if-index-end.false cc in
     let unseen : get_or c.steps.marks (g.Ix.IndexType.number c.look-v.result.0) false ≡ false = cc in
-    room_here c.contains_node.ensures.well_formed c.steps.invariant here c.look-v.ensures.gives unseen
+    room_here c.contains_node.ensures.well_formed c.steps.invariant (here g (goal.at.put-requires g c).After-look-v)
+    c.look-v.ensures.gives unseen
 
 pub overflow_add-len : goal.overflow_add-len
 overflow_add-len g c =
-    let here : g.Ix.IndexType.number c.steps.e ≢ g.Ix.IndexType.greatest = λ h. c.if-index-end.false cc in
     let unseen : get_or c.steps.marks (g.Ix.IndexType.number c.look-v.result.0) false ≡ false = cc in
     let h : c.steps.len + 1 < length c.steps.marks =
-    room_marks c.contains_node.ensures.well_formed c.steps.invariant here c.look-v.ensures.gives unseen in
+    room_marks c.contains_node.ensures.well_formed c.steps.invariant
+    (here g (goal.at.overflow_add-len g c).After-look-v) c.look-v.ensures.gives unseen in
     search rules
 
 pub steps-smaller-else-i-target : goal.steps-smaller-else-i-target
 steps-smaller-else-i-target g c =
-    let here : g.Ix.IndexType.number c.steps.e ≢ g.Ix.IndexType.greatest = λ h. c.if-index-end.false cc in
-    omega (
-      arith,
-      looked_once c.contains_node.ensures.well_formed c.steps.invariant here c.look-v.ensures.counted,
-      c.look-v.ensures.counted,
-    )
+    omega (arith, looked g (goal.at.steps-smaller-else-i-target g c).After-look-v, c.look-v.ensures.counted)
 
 pub steps-preserved-else-i-target : goal.steps-preserved-else-i-target
 steps-preserved-else-i-target g c =
-    let here : g.Ix.IndexType.number c.steps.e ≢ g.Ix.IndexType.greatest = λ h. c.if-index-end.false cc in
+    let at = goal.at.steps-preserved-else-i-target g c in
     let unseen : get_or c.steps.marks (g.Ix.IndexType.number c.look-v.result.0) false ≡ false = cc in
     let apart : g.Ix.IndexType.number c.look-v.result.0 ≢ g.Ix.IndexType.number c.args.to = λ h.
     c.if-i-target.false (c.index-i.ensures.value ∙ h ∙ sym c.index-target.ensures.value) in
-    let s =
-    pushes c.contains_node.ensures.well_formed c.steps.invariant here c.look-v.ensures.gives c.look-v.ensures.same
-    c.look-v.ensures.counted c.index-i.ensures.value apart unseen in
-    rw (c.put.ensures, c.mark-then-not-is_marked.ensures) s
+    rw (c.put.ensures, c.mark-then-not-is_marked.ensures) (pushes c.contains_node.ensures.well_formed c.steps.invariant
+    (here g at.After-look-v) c.look-v.ensures.gives c.look-v.ensures.same c.look-v.ensures.counted
+    c.index-i.ensures.value apart unseen)
 
 pub steps-smaller : goal.steps-smaller
 steps-smaller g c =
-    let here : g.Ix.IndexType.number c.steps.e ≢ g.Ix.IndexType.greatest = λ h. c.if-index-end.false cc in
-    omega (
-      arith,
-      looked_once c.contains_node.ensures.well_formed c.steps.invariant here c.look-v.ensures.counted,
-      c.look-v.ensures.counted,
-    )
+    omega (arith, looked g (goal.at.steps-smaller g c).After-look-v, c.look-v.ensures.counted)
 
 pub steps-preserved : goal.steps-preserved
 steps-preserved g c =
-    let here : g.Ix.IndexType.number c.steps.e ≢ g.Ix.IndexType.greatest = λ h. c.if-index-end.false cc in
+    let at = goal.at.steps-preserved g c in
     let seen : get_or c.steps.marks (g.Ix.IndexType.number c.look-v.result.0) false ≡ true = cc in
-    moves_on c.contains_node.ensures.well_formed c.steps.invariant here c.look-v.ensures.gives c.look-v.ensures.same
-    c.look-v.ensures.counted (inl seen)
+    moves_on c.contains_node.ensures.well_formed c.steps.invariant (here g at.After-look-v) c.look-v.ensures.gives
+    c.look-v.ensures.same c.look-v.ensures.counted (inl seen)

@@ -5,7 +5,19 @@ use Rattle.daggy_base.specs.Ordered.{IsOrderOf, IsParted, place, stretch, edges_
 use Rattle.daggy_base.proofs.Lists.{Mem, contains_mem, mem_contains}
 use Rattle.std.specs.List.{range_with_len}
 use Rattle.daggy_labels.proofs.Tails.{high, tailed_bare, bare_is}
+use Rattle.daggy_order.proofs.order.edge.order_edge.Given.{Over}
+use Rattle.daggy_order.proofs.order.edge.order_edge.Goals.{After-settle-order-inside, After-order_written}
 use Rattle.daggy_order.proofs.order.edge.order_edge.Goals as goal
+
+-- the written nodes are the order before they are ordered, and nothing follows them after that
+was : (g : Over) (c : After-settle-order-inside g) → c.settle-order-inside.new.self.nodes ≡ c.args.order.now
+was g c = c.settle-order-inside.ensures.nodes ∙ c.order.view_is
+
+is : (g : Over) (c : After-order_written g)
+    → c.order_written.new.written.nodes
+    ++ range_with_len c.settle-order-inside.result.from c.settle-order-inside.result.count
+    ≡ c.order_written.new.written.nodes
+is g c = bare_is c.order_written.new.written.nodes _ _ c.settle-order-inside.ensures.count
 
 pub returns-then-stands_before-clause-decided : goal.returns-then-stands_before-clause-decided
 returns-then-stands_before-clause-decided g c =
@@ -25,10 +37,9 @@ returns-then-stands_before-clause-decided g c =
 
 pub order_written-requires-clause-ordered : goal.order_written-requires-clause-ordered
 order_written-requires-clause-ordered g c =
-    let was : c.settle-order-inside.new.self.nodes ≡ c.args.order.now =
-    c.settle-order-inside.ensures.nodes ∙ c.order.view_is in
+    let at = goal.at.order_written-requires-clause-ordered g c in
     let P : List ℕ → Type 0 = λ z. IsOrderOf (g.S.EdgeSource.graph c.args.source.now) z in
-    subst P (sym was) c.requires.ordered
+    subst P (sym (was g at.After-settle-order-inside)) c.requires.ordered
 
 pub invariant_of-order : goal.invariant_of-order
 invariant_of-order g c =
@@ -48,35 +59,19 @@ returns-clause-decided g c = c.order_written.ensures.decided
 
 pub returns-clause-refused : goal.returns-clause-refused
 returns-clause-refused g c =
-    let was : c.settle-order-inside.new.self.nodes ≡ c.args.order.now =
-    c.settle-order-inside.ensures.nodes ∙ c.order.view_is in
-    let is : c.order_written.new.written.nodes
-    ++ range_with_len c.settle-order-inside.result.from c.settle-order-inside.result.count
-    ≡ c.order_written.new.written.nodes =
-    bare_is c.order_written.new.written.nodes c.settle-order-inside.result.from c.settle-order-inside.result.count
-    c.settle-order-inside.ensures.count in
-    λ e. is ∙ (c.order_written.ensures.refused e ∙ was)
+    let at = goal.at.returns-clause-refused g c in
+    λ e. is g at.After-order_written ∙ (c.order_written.ensures.refused e ∙ was g at.After-settle-order-inside)
 
 pub returns-clause-ordered : goal.returns-clause-ordered
 returns-clause-ordered g c =
-    let is : c.order_written.new.written.nodes
-    ++ range_with_len c.settle-order-inside.result.from c.settle-order-inside.result.count
-    ≡ c.order_written.new.written.nodes =
-    bare_is c.order_written.new.written.nodes c.settle-order-inside.result.from c.settle-order-inside.result.count
-    c.settle-order-inside.ensures.count in
     let P : List ℕ → Type 0 = λ z. IsOrderOf (g.S.EdgeSource.graph c.args.source.now) z in
-    subst P (sym is) c.order_written.ensures.ordered
+    subst P (sym (is g (goal.at.returns-clause-ordered g c).After-order_written)) c.order_written.ensures.ordered
 
 pub returns-clause-before : goal.returns-clause-before
 returns-clause-before g c =
-    let is : c.order_written.new.written.nodes
-    ++ range_with_len c.settle-order-inside.result.from c.settle-order-inside.result.count
-    ≡ c.order_written.new.written.nodes =
-    bare_is c.order_written.new.written.nodes c.settle-order-inside.result.from c.settle-order-inside.result.count
-    c.settle-order-inside.ensures.count in
     let P : List ℕ → Type 0 = λ z.
     place z (g.Ix.IndexType.number c.args.a) < place z (g.Ix.IndexType.number c.args.b) in
-    λ t. subst P (sym is) (c.order_written.ensures.before t)
+    λ t. subst P (sym (is g (goal.at.returns-clause-before g c).After-order_written)) (c.order_written.ensures.before t)
 
 pub returns-clause-kept : goal.returns-clause-kept
 returns-clause-kept g c =
@@ -84,13 +79,7 @@ returns-clause-kept g c =
 
 pub returns-clause-moved : goal.returns-clause-moved
 returns-clause-moved g c =
-    let was : c.settle-order-inside.new.self.nodes ≡ c.args.order.now =
-    c.settle-order-inside.ensures.nodes ∙ c.order.view_is in
-    let is : c.order_written.new.written.nodes
-    ++ range_with_len c.settle-order-inside.result.from c.settle-order-inside.result.count
-    ≡ c.order_written.new.written.nodes =
-    bare_is c.order_written.new.written.nodes c.settle-order-inside.result.from c.settle-order-inside.result.count
-    c.settle-order-inside.ensures.count in
+    let at = goal.at.returns-clause-moved g c in
     let Q : List ℕ → Type 0 = λ z.
     place z (g.Ix.IndexType.number c.args.b) < place z (g.Ix.IndexType.number c.args.a) in
     let R : List ℕ → Type 0 = λ z.
@@ -99,26 +88,25 @@ returns-clause-moved g c =
     let T : List ℕ → Type 0 = λ z.
     IsParted (g.S.EdgeSource.graph c.args.source.now) (g.Ix.IndexType.number c.args.a) (g.Ix.IndexType.number c.args.b)
     c.args.order.now z in
-    λ t after. subst T (sym is) (subst R was (c.order_written.ensures.moved t (subst Q (sym was) after)))
+    λ t after.
+    let old = c.order_written.ensures.moved t (subst Q (sym (was g at.After-settle-order-inside)) after) in
+    subst T (sym (is g at.After-order_written)) (subst R (was g at.After-settle-order-inside) old)
 
 pub returns-clause-same : goal.returns-clause-same
 returns-clause-same g c = c.order_written.ensures.same
 
 pub returns-clause-counted : goal.returns-clause-counted
 returns-clause-counted g c =
-    let was : c.settle-order-inside.new.self.nodes ≡ c.args.order.now =
-    c.settle-order-inside.ensures.nodes ∙ c.order.view_is in
     let P : List ℕ → Type 0 = λ z.
     g.S.EdgeSource.looks c.order_written.new.source
     ≤ g.S.EdgeSource.looks c.args.source.now
     + edges_from (g.S.EdgeSource.graph c.args.source.now)
     (stretch z (place z (g.Ix.IndexType.number c.args.b)) (place z (g.Ix.IndexType.number c.args.a))) in
-    subst P was c.order_written.ensures.counted
+    subst P (was g (goal.at.returns-clause-counted g c).After-settle-order-inside) c.order_written.ensures.counted
 
 pub returns-clause-unlooked : goal.returns-clause-unlooked
 returns-clause-unlooked g c =
-    let was : c.settle-order-inside.new.self.nodes ≡ c.args.order.now =
-    c.settle-order-inside.ensures.nodes ∙ c.order.view_is in
+    let at = goal.at.returns-clause-unlooked g c in
     let P : List ℕ → Type 0 = λ z.
     place z (g.Ix.IndexType.number c.args.a) ≤ place z (g.Ix.IndexType.number c.args.b) in
-    λ h. c.order_written.ensures.unlooked (subst P (sym was) h)
+    λ h. c.order_written.ensures.unlooked (subst P (sym (was g at.After-settle-order-inside)) h)
