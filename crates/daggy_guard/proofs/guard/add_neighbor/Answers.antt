@@ -3,28 +3,37 @@ use Rattle.daggy_base.specs.Graph.{node_bound}
 use Rattle.daggy_base.specs.Adding.{with_node, with_link}
 use Rattle.daggy_base.specs.Errors.{edge_weight_of}
 use Rattle.daggy_order.proofs.OrderLaws.{acyclic_from_order}
+use Rattle.daggy_guard.specs.NewNode.{IsAddedNode}
 use Rattle.daggy_guard.proofs.NewNode.{added_node, new_exists, old_exists}
 use Rattle.daggy_guard.proofs.OrderAfterChange.{acyclic_by, order_of_node, order_of_neighbor, order_of_taken}
+use Rattle.daggy_guard.proofs.guard.add_neighbor.Given.{Over}
+use Rattle.daggy_guard.proofs.guard.add_neighbor.Goals.{In-Ok}
 use Rattle.daggy_guard.proofs.guard.add_neighbor.Goals as goal
+
+-- the node is new
+added : (g : Over) (c : In-Ok g)
+    → IsAddedNode g.Ix.IndexType.greatest g.S.Store.kind (g.S.EdgeSource.graph c.args.store.now)
+    (g.S.EdgeSource.graph c.put_node.new.store) c.args.weight (g.Ix.IndexType.number c.in-Ok.new)
+    c.node_slots-slot_count.result
+added g c =
+    added_node c.args.weight c.node_count-well_formed.ensures.well_formed c.node_slots-slot_count.ensures.compact
+    c.node_slots-slot_count.ensures.value c.in-Ok.ensures.index c.in-Ok.ensures.added
 
 pub link-requires-clause-node : goal.link-requires-clause-node
 link-requires-clause-node g c =
     old_exists
-    (added_node c.args.weight c.node_count-well_formed.ensures.well_formed c.node_slots-slot_count.ensures.compact
-    c.node_slots-slot_count.ensures.value c.in-Ok.ensures.index c.in-Ok.ensures.added) _ c.requires.node
+    (added g (goal.at.link-requires-clause-node g c).In-Ok) _ c.requires.node
 
 pub link-requires-clause-new : goal.link-requires-clause-new
 link-requires-clause-new g c =
     new_exists
-    (added_node c.args.weight c.node_count-well_formed.ensures.well_formed c.node_slots-slot_count.ensures.compact
-    c.node_slots-slot_count.ensures.value c.in-Ok.ensures.index c.in-Ok.ensures.added)
+    (added g (goal.at.link-requires-clause-new g c).In-Ok)
 
 pub remove-requires : goal.remove-requires
 remove-requires g c =
     let there =
     new_exists
-    (added_node c.args.weight c.node_count-well_formed.ensures.well_formed c.node_slots-slot_count.ensures.compact
-    c.node_slots-slot_count.ensures.value c.in-Ok.ensures.index c.in-Ok.ensures.added) in
+    (added g (goal.at.remove-requires g c).In-Ok) in
     ((order_of_node c.node_count-well_formed.ensures.well_formed c.args.weight c.requires.ordered _
     c.in-Ok.ensures.added c.args.dir c.in-Ok.ensures.put).exact _).1 there
 

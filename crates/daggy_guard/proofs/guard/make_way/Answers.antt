@@ -1,10 +1,30 @@
-use Rattle.std.proofs.Common.{◌≢◌, ◌≤◌, ◌∙◌, inl, inr, sym, arith}
+use Rattle.std.proofs.Common.{◌≢◌, ◌<◌, ◌≤◌, ◌∙◌, inl, inr, sym, arith}
 use Rattle.std.proofs.lemmas.Bool.{false≢true, cases_lt}
-use Rattle.daggy_base.specs.Ordered.{place}
+use Rattle.daggy_base.specs.Ordered.{IsOrderOf, place}
 use Rattle.daggy_order.proofs.MovedForward.{order_moved_before, order_moved_first}
 use Rattle.daggy_guard.proofs.OrderAfterChange.{few_edges, no_later}
 use Rattle.daggy_guard.proofs.ParentsAsked.{not_reached}
+use Rattle.daggy_guard.proofs.guard.make_way.Given.{Over}
+use Rattle.daggy_guard.proofs.guard.make_way.Goals.{After-move_before}
 use Rattle.daggy_guard.proofs.guard.make_way.Goals as goal
+
+-- where all parents of a stand before b, a does too once it is put there, and the order stays one
+moved : (g : Over) (c : After-move_before g)
+    → IsOrderOf (g.S.EdgeSource.graph c.args.store.now) c.move_before.new.self
+    × (place c.move_before.new.self (g.Ix.IndexType.number c.args.a)
+    < place c.move_before.new.self (g.Ix.IndexType.number c.args.b))
+moved g c =
+    let a = g.Ix.IndexType.number c.args.a in
+    let b = g.Ix.IndexType.number c.args.b in
+    let differs : a ≢ b = λ e. c.if-index.true (c.index.ensures.value ∙ (e ∙ sym c.index-2.ensures.value)) in
+    let behind : place c.args.order.now b ≤ place c.args.order.now a =
+    elim (cases_lt (place c.args.order.now a) (place c.args.order.now b)) [
+      | inl l ↦ absurd (false≢true (sym c.if-stands_before.false ∙ c.stands_before.ensures.1 l))
+      | inr h ↦ h
+    ] in
+    order_moved_before c.node_count-well_formed.ensures.well_formed c.args.order.now a b c.requires.ordered differs
+    behind (c.parents_stand_before.ensures c.if-parents_stand_before.true) c.requires.parent c.requires.child
+    c.move_before.new.self c.move_before.ensures
 
 pub returns-then-stands_before-clause-decided : goal.returns-then-stands_before-clause-decided
 returns-then-stands_before-clause-decided g c = (
@@ -43,31 +63,11 @@ returns-then-parents_stand_before-clause-decided g c =
 
 pub returns-then-parents_stand_before-clause-ordered : goal.returns-then-parents_stand_before-clause-ordered
 returns-then-parents_stand_before-clause-ordered g c =
-    let a = g.Ix.IndexType.number c.args.a in
-    let b = g.Ix.IndexType.number c.args.b in
-    let differs : a ≢ b = λ e. c.if-index.true (c.index.ensures.value ∙ (e ∙ sym c.index-2.ensures.value)) in
-    let behind : place c.args.order.now b ≤ place c.args.order.now a =
-    elim (cases_lt (place c.args.order.now a) (place c.args.order.now b)) [
-      | inl l ↦ absurd (false≢true (sym c.if-stands_before.false ∙ c.stands_before.ensures.1 l))
-      | inr h ↦ h
-    ] in
-    (order_moved_before c.node_count-well_formed.ensures.well_formed c.args.order.now a b c.requires.ordered differs
-    behind (c.parents_stand_before.ensures c.if-parents_stand_before.true) c.requires.parent c.requires.child
-    c.move_before.new.self c.move_before.ensures).0
+    (moved g (goal.at.returns-then-parents_stand_before-clause-ordered g c).After-move_before).0
 
 pub returns-then-parents_stand_before-clause-before : goal.returns-then-parents_stand_before-clause-before
 returns-then-parents_stand_before-clause-before g c t =
-    let a = g.Ix.IndexType.number c.args.a in
-    let b = g.Ix.IndexType.number c.args.b in
-    let differs : a ≢ b = λ e. c.if-index.true (c.index.ensures.value ∙ (e ∙ sym c.index-2.ensures.value)) in
-    let behind : place c.args.order.now b ≤ place c.args.order.now a =
-    elim (cases_lt (place c.args.order.now a) (place c.args.order.now b)) [
-      | inl l ↦ absurd (false≢true (sym c.if-stands_before.false ∙ c.stands_before.ensures.1 l))
-      | inr h ↦ h
-    ] in
-    (order_moved_before c.node_count-well_formed.ensures.well_formed c.args.order.now a b c.requires.ordered differs
-    behind (c.parents_stand_before.ensures c.if-parents_stand_before.true) c.requires.parent c.requires.child
-    c.move_before.new.self c.move_before.ensures).1
+    (moved g (goal.at.returns-then-parents_stand_before-clause-before g c).After-move_before).1
 
 pub returns-clause-counted : goal.returns-clause-counted
 returns-clause-counted g c =
