@@ -1,13 +1,13 @@
 -- What lists of stored nodes and edges hold, before and after a write.
-use Rattle.std.proofs.Common.{◌≡◌, ℕ, ◌<◌, List, map, length, get_or, set, Option, refl, sym, ap, ◌∙◌}
-use Rattle.std.proofs.lemmas.List.{length-map, map-set, get_or-map}
+use Rattle.std.proofs.Common.{◌≡◌, ℕ, List, map, length, get_or, set, Option, refl, sym, ap, ◌∙◌}
+use Rattle.std.proofs.lemmas.List.{length-map, map-set}
 use Rattle.daggy_base.specs.Graph.{Graph, Edge as PlainEdge}
 use Rattle.daggy_cells.specs.declared.cell.Node.{Node}
 use Rattle.daggy_cells.specs.declared.cell.Edge.{Edge}
 use Rattle.daggy_base.specs.declared.index.Direction.{Direction}
 use Rattle.daggy_base.specs.declared.index.Direction.TheVariants.{Outgoing, Incoming}
 use Rattle.daggy_cells.specs.Raw.{raw_first, raw_next}
-use Rattle.daggy_cells.specs.Fields.{weight_of, with_first, with_next, plain_edge, end_at, firsts_of, nexts_of, ends_of}
+use Rattle.daggy_cells.specs.Fields.{weight_of, with_first, with_next, plain_edge, end_at, firsts_of, nexts_of}
 use Rattle.daggy_cells.specs.Fields.{KeepsNodes, KeepsEdges}
 use Rattle.daggy_base.proofs.Lists.{map-set_same}
 

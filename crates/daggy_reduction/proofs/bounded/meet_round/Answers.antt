@@ -1,7 +1,7 @@
-use Rattle.std.proofs.Common.{rules, ◌≡◌, ◌≢◌, ◌+◌, ◌<◌, ◌≤◌, ℕ}
+use Rattle.std.proofs.Common.{rules, ◌≢◌, ◌+◌, ◌-◌, ◌<◌, ◌≤◌, ℕ}
 use Rattle.std.proofs.Common.{◌∙◌, sym, ap, refl, arith, length}
 use Rattle.std.proofs.lemmas.Bool.{false≢true}
-use Rattle.daggy_base.specs.Graph.{out_list}
+use Rattle.daggy_base.specs.Graph.{HasNode, out_list}
 use Rattle.daggy_base.specs.Cursor.{first_of}
 use Rattle.daggy_reduction.proofs.QueuedChildren.{begins_here, last_exists, edge_there, passed_less, low_node, has_room}
 use Rattle.daggy_reduction.proofs.QueuedChildren.{put, child_there, put_last, put_child, last_again, none_queued}
@@ -9,11 +9,39 @@ use Rattle.daggy_reduction.proofs.QueuedChildren.{none_listed}
 use Rattle.daggy_reduction.proofs.BoundedQueue.{steps_start, few_spanned, round_met}
 use Rattle.daggy_reduction.proofs.QueueState.{Entered, looked_once, edge_here, head_low, child_low}
 use Rattle.daggy_reduction.proofs.QueueState.{child_exists_here, room_here, entered, left_out, visited, next_here}
+use Rattle.daggy_reduction.proofs.bounded.meet_round.Given.{Over}
+use Rattle.daggy_reduction.proofs.bounded.meet_round.Goals.{At-children, After-look-v}
 use Rattle.daggy_reduction.proofs.bounded.meet_round.Goals as goal
 use Rattle.daggy_reduction.proofs.bounded.meet_round.Goals.{then-stands_before-3, else-stands_before-3}
 
 not_before : {a b : ℕ} → (a < b → ⊥) → b ≤ a
 not_before h = omega (arith, h)
+
+-- the last child so far exists
+last_node : (g : Over) (c : At-children g)
+    → HasNode (g.S.EdgeSource.graph c.args.source.now) (g.Ix.IndexType.number c.children.last)
+last_node g c = last_exists c.requires.well_formed c.requires.ordered c.requires.exists c.children.invariant
+
+-- the child that was read exists
+child_node : (g : Over) (c : After-look-v g)
+    → HasNode (g.S.EdgeSource.graph c.args.source.now) (g.Ix.IndexType.number c.look-v.result.0)
+child_node g c =
+    child_there c.requires.well_formed c.requires.ordered c.requires.exists c.children.invariant
+    (λ h. c.children-test.true cc) c.look-v.ensures.gives
+
+-- fewer edges of the node are left
+smaller : (g : Over) (c : After-look-v g)
+    → (let all = length (out_list (g.S.EdgeSource.graph c.args.source.now) (g.Ix.IndexType.number c.args.u)) in
+    all + g.S.EdgeSource.looks c.args.source.now - g.S.EdgeSource.looks c.look-v.new.self
+    < all + g.S.EdgeSource.looks c.args.source.now - g.S.EdgeSource.looks c.children.source)
+smaller g c =
+    let s = c.children.invariant in
+    omega (
+      arith,
+      passed_less c.requires.well_formed c.requires.ordered c.requires.exists s (λ h. c.children-test.true cc),
+      s.counted,
+      c.look-v.ensures.counted,
+    )
 
 pub children-init : goal.children-init
 children-init g c =
@@ -24,143 +52,112 @@ children-init g c =
 
 pub look-v-requires : goal.look-v-requires
 look-v-requires g c =
-    let here : g.Ix.IndexType.number c.children.e ≢ g.Ix.IndexType.greatest = λ h. c.children-test.true cc in
-    edge_there c.requires.well_formed c.requires.ordered c.requires.exists c.children.invariant here
+    edge_there c.requires.well_formed c.requires.ordered c.requires.exists c.children.invariant
+    (λ h. c.children-test.true cc)
 
 pub stands_before-requires-clause-first : goal.stands_before-requires-clause-first
 stands_before-requires-clause-first g c =
-    (c.requires.ordered.exact _).1
-    (last_exists c.requires.well_formed c.requires.ordered c.requires.exists c.children.invariant)
+    (c.requires.ordered.exact _).1 (last_node g (goal.at.stands_before-requires-clause-first g c).At-children)
 
 pub stands_before-requires-clause-second : goal.stands_before-requires-clause-second
 stands_before-requires-clause-second g c =
-    let here : g.Ix.IndexType.number c.children.e ≢ g.Ix.IndexType.greatest = λ h. c.children-test.true cc in
-    (c.requires.ordered.exact _).1 (child_there c.requires.well_formed c.requires.ordered c.requires.exists
-    c.children.invariant here c.look-v.ensures.gives)
+    (c.requires.ordered.exact _).1 (child_node g (goal.at.stands_before-requires-clause-second g c).After-look-v)
 
 pub enter-len-requires-clause-mark : goal.enter-len-requires-clause-mark
 enter-len-requires-clause-mark g c =
     let s = c.children.invariant in
     low_node c.requires.well_formed c.requires.ordered c.requires.exists s _
-    (last_exists c.requires.well_formed c.requires.ordered c.requires.exists s)
+    (last_node g (goal.at.enter-len-requires-clause-mark g c).At-children)
 
 pub enter-len-requires-clause-queue_fits : goal.enter-len-requires-clause-queue_fits
 enter-len-requires-clause-queue_fits g c unseen =
     let s = c.children.invariant in
     has_room c.requires.well_formed c.requires.ordered c.requires.exists s _
-    (last_exists c.requires.well_formed c.requires.ordered c.requires.exists s) unseen
+    (last_node g (goal.at.enter-len-requires-clause-queue_fits g c).At-children) unseen
 
 pub stands_before-requires-else-stands_before-clause-first :
     goal.stands_before-requires-else-stands_before-clause-first
 stands_before-requires-else-stands_before-clause-first g c =
-    let here : g.Ix.IndexType.number c.children.e ≢ g.Ix.IndexType.greatest = λ h. c.children-test.true cc in
-    (c.requires.ordered.exact _).1 (child_there c.requires.well_formed c.requires.ordered c.requires.exists
-    c.children.invariant here c.look-v.ensures.gives)
+    (c.requires.ordered.exact _).1
+    (child_node g (goal.at.stands_before-requires-else-stands_before-clause-first g c).After-look-v)
 
 pub stands_before-requires-else-stands_before-clause-second :
     goal.stands_before-requires-else-stands_before-clause-second
 stands_before-requires-else-stands_before-clause-second g c =
     (c.requires.ordered.exact _).1
-    (last_exists c.requires.well_formed c.requires.ordered c.requires.exists c.children.invariant)
+    (last_node g (goal.at.stands_before-requires-else-stands_before-clause-second g c).At-children)
 
 pub enter-len-requires-then-stands_before-2-clause-mark :
     goal.enter-len-requires-then-stands_before-2-clause-mark
 enter-len-requires-then-stands_before-2-clause-mark g c =
     let s = c.children.invariant in
-    let here : g.Ix.IndexType.number c.children.e ≢ g.Ix.IndexType.greatest = λ h. c.children-test.true cc in
     low_node c.requires.well_formed c.requires.ordered c.requires.exists s _
-    (child_there c.requires.well_formed c.requires.ordered c.requires.exists s here c.look-v.ensures.gives)
+    (child_node g (goal.at.enter-len-requires-then-stands_before-2-clause-mark g c).After-look-v)
 
 pub enter-len-requires-then-stands_before-2-clause-queue_fits :
     goal.enter-len-requires-then-stands_before-2-clause-queue_fits
 enter-len-requires-then-stands_before-2-clause-queue_fits g c unseen =
     let s = c.children.invariant in
-    let here : g.Ix.IndexType.number c.children.e ≢ g.Ix.IndexType.greatest = λ h. c.children-test.true cc in
     has_room c.requires.well_formed c.requires.ordered c.requires.exists s _
-    (child_there c.requires.well_formed c.requires.ordered c.requires.exists s here c.look-v.ensures.gives) unseen
+    (child_node g (goal.at.enter-len-requires-then-stands_before-2-clause-queue_fits g c).After-look-v) unseen
 
 pub children-smaller-then-stands_before : goal.children-smaller-then-stands_before
 children-smaller-then-stands_before g c =
-    let here : g.Ix.IndexType.number c.children.e ≢ g.Ix.IndexType.greatest = λ h. c.children-test.true cc in
-    let s = c.children.invariant in
-    omega (
-      arith,
-      passed_less c.requires.well_formed c.requires.ordered c.requires.exists s here,
-      s.counted,
-      c.look-v.ensures.counted,
-    )
+    smaller g (goal.at.children-smaller-then-stands_before g c).After-look-v
 
 pub children-preserved-then-stands_before : goal.children-preserved-then-stands_before
 children-preserved-then-stands_before g c =
-    let here : g.Ix.IndexType.number c.children.e ≢ g.Ix.IndexType.greatest = λ h. c.children-test.true cc in
     let s = c.children.invariant in
-    put_last c.requires.well_formed c.requires.ordered c.requires.exists s here c.look-v.ensures.gives
+    put_last c.requires.well_formed c.requires.ordered c.requires.exists s (λ h. c.children-test.true cc)
+    c.look-v.ensures.gives
     c.look-v.ensures.same c.look-v.ensures.counted
     (put c.requires.well_formed c.requires.ordered c.requires.exists s _
-    (last_exists c.requires.well_formed c.requires.ordered c.requires.exists s) c.enter-len.ensures.there
+    (last_node g (goal.at.children-preserved-then-stands_before g c).At-children) c.enter-len.ensures.there
     c.enter-len.ensures.put)
     (c.stands_before.ensures.0 c.if-stands_before.true)
 
 pub children-smaller-then-stands_before-2 : goal.children-smaller-then-stands_before-2
 children-smaller-then-stands_before-2 g c =
-    let here : g.Ix.IndexType.number c.children.e ≢ g.Ix.IndexType.greatest = λ h. c.children-test.true cc in
-    let s = c.children.invariant in
-    omega (
-      arith,
-      passed_less c.requires.well_formed c.requires.ordered c.requires.exists s here,
-      s.counted,
-      c.look-v.ensures.counted,
-    )
+    smaller g (goal.at.children-smaller-then-stands_before-2 g c).After-look-v
 
 pub children-preserved-then-stands_before-2 : goal.children-preserved-then-stands_before-2
 children-preserved-then-stands_before-2 g c =
-    let here : g.Ix.IndexType.number c.children.e ≢ g.Ix.IndexType.greatest = λ h. c.children-test.true cc in
     let s = c.children.invariant in
-    put_child c.requires.well_formed c.requires.ordered c.requires.exists s here c.look-v.ensures.gives
+    put_child c.requires.well_formed c.requires.ordered c.requires.exists s (λ h. c.children-test.true cc)
+    c.look-v.ensures.gives
     c.look-v.ensures.same c.look-v.ensures.counted
     (put c.requires.well_formed c.requires.ordered c.requires.exists s _
-    (child_there c.requires.well_formed c.requires.ordered c.requires.exists s here c.look-v.ensures.gives)
+    (child_node g (goal.at.children-preserved-then-stands_before-2 g c).After-look-v)
     c.enter-len-then-stands_before-2.ensures.there c.enter-len-then-stands_before-2.ensures.put)
     (c.stands_before-else-stands_before.ensures.0 c.if-stands_before-2.true)
 
 pub children-smaller : goal.children-smaller
-children-smaller g c =
-    let here : g.Ix.IndexType.number c.children.e ≢ g.Ix.IndexType.greatest = λ h. c.children-test.true cc in
-    let s = c.children.invariant in
-    omega (
-      arith,
-      passed_less c.requires.well_formed c.requires.ordered c.requires.exists s here,
-      s.counted,
-      c.look-v.ensures.counted,
-    )
+children-smaller g c = smaller g (goal.at.children-smaller g c).After-look-v
 
 pub children-preserved : goal.children-preserved
 children-preserved g c =
-    let here : g.Ix.IndexType.number c.children.e ≢ g.Ix.IndexType.greatest = λ h. c.children-test.true cc in
     let s = c.children.invariant in
-    last_again c.requires.well_formed c.requires.ordered c.requires.exists s here c.look-v.ensures.gives
+    last_again c.requires.well_formed c.requires.ordered c.requires.exists s (λ h. c.children-test.true cc)
+    c.look-v.ensures.gives
     c.look-v.ensures.same c.look-v.ensures.counted
     (λ h. false≢true (c.if-stands_before.ensures.1 h)) (λ h. false≢true (c.if-stands_before-2.ensures.1 h))
 
 pub returns-then-len-eq0-clause-met : goal.returns-then-len-eq0-clause-met
 returns-then-len-eq0-clause-met g c =
-    let at_end : g.Ix.IndexType.number c.children.e ≡ g.Ix.IndexType.greatest = cc in
     λ v j.
-    absurd (none_queued c.requires.well_formed c.requires.ordered c.requires.exists c.children.invariant at_end
+    absurd (none_queued c.requires.well_formed c.requires.ordered c.requires.exists c.children.invariant (cc)
     c.if-len-eq0.true v j)
 
 pub returns-then-len-eq0-clause-counted : goal.returns-then-len-eq0-clause-counted
 returns-then-len-eq0-clause-counted g c =
-    let at_end : g.Ix.IndexType.number c.children.e ≡ g.Ix.IndexType.greatest = cc in
     let none =
-    none_listed c.requires.well_formed c.requires.ordered c.requires.exists c.children.invariant at_end
+    none_listed c.requires.well_formed c.requires.ordered c.requires.exists c.children.invariant (cc)
     c.if-len-eq0.true in
     omega (arith, c.children.invariant.counted, none)
 
 pub steps-init : goal.steps-init
 steps-init g c =
-    let at_end : g.Ix.IndexType.number c.children.e ≡ g.Ix.IndexType.greatest = cc in
-    steps_start c.requires.well_formed c.requires.ordered c.requires.exists c.children.invariant at_end
+    steps_start c.requires.well_formed c.requires.ordered c.requires.exists c.children.invariant (cc)
     c.if-len-eq0.false c.args.met.now c.requires.met_fit
 
 pub overflow_add-head : goal.overflow_add-head
@@ -171,15 +168,12 @@ overflow_add-head g c =
 
 pub returns-then-head-len-clause-met : goal.returns-then-head-len-clause-met
 returns-then-head-len-clause-met g c =
-    let first_end : g.Ix.IndexType.number c.children.e ≡ g.Ix.IndexType.greatest = cc in
-    let at_end : g.Ix.IndexType.number c.steps.e ≡ g.Ix.IndexType.greatest = cc in
-    round_met c.requires.well_formed c.requires.ordered c.requires.exists c.children.invariant first_end
-    c.steps.invariant at_end c.if-head-len.true
+    round_met c.requires.well_formed c.requires.ordered c.requires.exists c.children.invariant (cc)
+    c.steps.invariant (cc) c.if-head-len.true
 
 pub returns-then-head-len-clause-counted : goal.returns-then-head-len-clause-counted
 returns-then-head-len-clause-counted g c =
-    let first_end : g.Ix.IndexType.number c.children.e ≡ g.Ix.IndexType.greatest = cc in
-    few_spanned c.requires.well_formed c.requires.ordered c.requires.exists c.children.invariant first_end
+    few_spanned c.requires.well_formed c.requires.ordered c.requires.exists c.children.invariant (cc)
     c.steps.invariant
 
 pub bounds-queue-head : goal.bounds-queue-head
@@ -199,8 +193,7 @@ steps-smaller-then-index-end g c = omega (arith, head_low c.requires.well_formed
 
 pub steps-preserved-then-index-end : goal.steps-preserved-then-index-end
 steps-preserved-then-index-end g c =
-    let at_end : g.Ix.IndexType.number c.steps.e ≡ g.Ix.IndexType.greatest = cc in
-    next_here c.requires.well_formed c.steps.invariant at_end (c.steps.head + 1) c.index-queue-head.result refl
+    next_here c.requires.well_formed c.steps.invariant (cc) (c.steps.head + 1) c.index-queue-head.result refl
     c.if-head-len.false c.index-queue-head.is
     (c.first-e-then-index-end.ensures
     ∙ ap (λ n. first_of g.Ix.IndexType.greatest (out_list (g.S.EdgeSource.graph c.steps.source) n))
@@ -208,50 +201,55 @@ steps-preserved-then-index-end g c =
 
 pub look-v-requires-else-index-end : goal.look-v-requires-else-index-end
 look-v-requires-else-index-end g c =
-    let here : g.Ix.IndexType.number c.steps.e ≢ g.Ix.IndexType.greatest = λ h. c.if-index-end.false cc in
-    edge_here c.requires.well_formed c.steps.invariant here
+    edge_here c.requires.well_formed c.steps.invariant (λ h. c.if-index-end.false cc)
 
 pub stands_before-requires-else-index-end-clause-first :
     goal.stands_before-requires-else-index-end-clause-first
 stands_before-requires-else-index-end-clause-first g c =
-    let here : g.Ix.IndexType.number c.steps.e ≢ g.Ix.IndexType.greatest = λ h. c.if-index-end.false cc in
     (c.requires.ordered.exact _).1
-    (child_exists_here c.requires.well_formed c.steps.invariant here c.look-v-else-index-end.ensures.gives)
+    (child_exists_here c.requires.well_formed c.steps.invariant (λ h. c.if-index-end.false cc)
+    c.look-v-else-index-end.ensures.gives)
 
 pub stands_before-requires-else-index-end-clause-second :
     goal.stands_before-requires-else-index-end-clause-second
 stands_before-requires-else-index-end-clause-second g c =
     (c.requires.ordered.exact _).1
-    (last_exists c.requires.well_formed c.requires.ordered c.requires.exists c.children.invariant)
+    (last_node g (goal.at.stands_before-requires-else-index-end-clause-second g c).At-children)
 
 pub enter-len-requires-then-stands_before-3-clause-mark :
     goal.enter-len-requires-then-stands_before-3-clause-mark
 enter-len-requires-then-stands_before-3-clause-mark g c =
-    let here : g.Ix.IndexType.number c.steps.e ≢ g.Ix.IndexType.greatest = λ h. c.if-index-end.false cc in
     let s = c.steps.invariant in
-    omega (arith, child_low c.requires.well_formed s here c.look-v-else-index-end.ensures.gives, s.fits)
+    omega (
+      arith,
+      child_low c.requires.well_formed s (λ h. c.if-index-end.false cc)
+          c.look-v-else-index-end.ensures.gives,
+      s.fits,
+    )
 
 pub enter-len-requires-then-stands_before-3-clause-queue_fits :
     goal.enter-len-requires-then-stands_before-3-clause-queue_fits
 enter-len-requires-then-stands_before-3-clause-queue_fits g c unseen =
-    let here : g.Ix.IndexType.number c.steps.e ≢ g.Ix.IndexType.greatest = λ h. c.if-index-end.false cc in
-    let s = c.steps.invariant in
-    omega (arith, room_here c.requires.well_formed s here c.look-v-else-index-end.ensures.gives unseen, s.capacity)
-
-pub mark_unless_first-requires : goal.mark_unless_first-requires
-mark_unless_first-requires g c =
-    let here : g.Ix.IndexType.number c.steps.e ≢ g.Ix.IndexType.greatest = λ h. c.if-index-end.false cc in
     let s = c.steps.invariant in
     omega (
       arith,
-      child_low c.requires.well_formed s here c.look-v-else-index-end.ensures.gives,
+      room_here c.requires.well_formed s (λ h. c.if-index-end.false cc)
+          c.look-v-else-index-end.ensures.gives unseen,
+      s.capacity,
+    )
+
+pub mark_unless_first-requires : goal.mark_unless_first-requires
+mark_unless_first-requires g c =
+    let s = c.steps.invariant in
+    omega (
+      arith,
+      child_low c.requires.well_formed s (λ h. c.if-index-end.false cc) c.look-v-else-index-end.ensures.gives,
       s.met_fits,
       c.index-else-index-end.ensures.value,
     )
 
 pub steps-smaller : goal.steps-smaller
 steps-smaller g c =
-    let here : g.Ix.IndexType.number c.steps.e ≢ g.Ix.IndexType.greatest = λ h. c.if-index-end.false cc in
     let s = c.steps.invariant in
     let most : c.if-stands_before-3.len ≤ c.steps.len + 1 =
     elim c.if-stands_before-3.branch [
@@ -260,7 +258,7 @@ steps-smaller g c =
     ] in
     omega (
       arith,
-      looked_once c.requires.well_formed s here c.look-v-else-index-end.ensures.counted,
+      looked_once c.requires.well_formed s (λ h. c.if-index-end.false cc) c.look-v-else-index-end.ensures.counted,
       c.look-v-else-index-end.ensures.counted,
       most,
       head_low c.requires.well_formed s,

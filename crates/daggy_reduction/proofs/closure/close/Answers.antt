@@ -1,4 +1,4 @@
-use Rattle.std.proofs.Common.{rules, ◌≡◌, ◌≢◌, ◌+◌, ◌≤◌, ◌∙◌, sym, ap, refl, arith, length}
+use Rattle.std.proofs.Common.{rules, ◌≢◌, ◌+◌, ◌≤◌, ◌∙◌, sym, ap, refl, arith, length}
 use Rattle.daggy_base.specs.Graph.{out_list}
 use Rattle.daggy_base.specs.Cursor.{first_of}
 use Rattle.daggy_reduction.proofs.QueueState.{few, looked_once, edge_here, head_low, child_low, room_here, entered}
@@ -20,13 +20,11 @@ overflow_add-head g c =
 
 pub returns-then-head-len-clause-closed : goal.returns-then-head-len-clause-closed
 returns-then-head-len-clause-closed g c =
-    let at_end : g.Ix.IndexType.number c.steps.e ≡ g.Ix.IndexType.greatest = cc in
-    is_closure c.requires.well_formed c.steps.invariant at_end c.if-head-len.true
+    is_closure c.requires.well_formed c.steps.invariant (cc) c.if-head-len.true
 
 pub returns-then-head-len-clause-met : goal.returns-then-head-len-clause-met
 returns-then-head-len-clause-met g c =
-    let at_end : g.Ix.IndexType.number c.steps.e ≡ g.Ix.IndexType.greatest = cc in
-    meets_children c.requires.well_formed c.steps.invariant at_end c.if-head-len.true
+    meets_children c.requires.well_formed c.steps.invariant (cc) c.if-head-len.true
 
 pub returns-then-head-len-clause-counted : goal.returns-then-head-len-clause-counted
 returns-then-head-len-clause-counted g c = few c.requires.well_formed c.steps.invariant
@@ -48,8 +46,7 @@ steps-smaller-then-index-end g c = omega (arith, head_low c.requires.well_formed
 
 pub steps-preserved-then-index-end : goal.steps-preserved-then-index-end
 steps-preserved-then-index-end g c =
-    let at_end : g.Ix.IndexType.number c.steps.e ≡ g.Ix.IndexType.greatest = cc in
-    next_here c.requires.well_formed c.steps.invariant at_end (c.steps.head + 1) c.index-queue-head.result refl
+    next_here c.requires.well_formed c.steps.invariant (cc) (c.steps.head + 1) c.index-queue-head.result refl
     c.if-head-len.false c.index-queue-head.is
     (c.first-e-then-index-end.ensures
     ∙ ap (λ n. first_of g.Ix.IndexType.greatest (out_list (g.S.EdgeSource.graph c.steps.source) n))
@@ -57,39 +54,38 @@ steps-preserved-then-index-end g c =
 
 pub look-v-requires : goal.look-v-requires
 look-v-requires g c =
-    let here : g.Ix.IndexType.number c.steps.e ≢ g.Ix.IndexType.greatest = λ h. c.if-index-end.false cc in
-    edge_here c.requires.well_formed c.steps.invariant here
+    edge_here c.requires.well_formed c.steps.invariant (λ h. c.if-index-end.false cc)
 
 pub enter-len-requires-clause-mark : goal.enter-len-requires-clause-mark
 enter-len-requires-clause-mark g c =
-    let here : g.Ix.IndexType.number c.steps.e ≢ g.Ix.IndexType.greatest = λ h. c.if-index-end.false cc in
     let s = c.steps.invariant in
-    omega (arith, child_low c.requires.well_formed s here c.look-v.ensures.gives, s.fits)
+    omega (arith, child_low c.requires.well_formed s (λ h. c.if-index-end.false cc) c.look-v.ensures.gives, s.fits)
 
 pub enter-len-requires-clause-queue_fits : goal.enter-len-requires-clause-queue_fits
 enter-len-requires-clause-queue_fits g c unseen =
-    let here : g.Ix.IndexType.number c.steps.e ≢ g.Ix.IndexType.greatest = λ h. c.if-index-end.false cc in
-    let s = c.steps.invariant in
-    omega (arith, room_here c.requires.well_formed s here c.look-v.ensures.gives unseen, s.capacity)
-
-pub mark_unless_first-requires : goal.mark_unless_first-requires
-mark_unless_first-requires g c =
-    let here : g.Ix.IndexType.number c.steps.e ≢ g.Ix.IndexType.greatest = λ h. c.if-index-end.false cc in
     let s = c.steps.invariant in
     omega (
       arith,
-      child_low c.requires.well_formed s here c.look-v.ensures.gives,
+      room_here c.requires.well_formed s (λ h. c.if-index-end.false cc) c.look-v.ensures.gives unseen,
+      s.capacity,
+    )
+
+pub mark_unless_first-requires : goal.mark_unless_first-requires
+mark_unless_first-requires g c =
+    let s = c.steps.invariant in
+    omega (
+      arith,
+      child_low c.requires.well_formed s (λ h. c.if-index-end.false cc) c.look-v.ensures.gives,
       s.met_fits,
       c.index-else-index-end.ensures.value,
     )
 
 pub steps-smaller : goal.steps-smaller
 steps-smaller g c =
-    let here : g.Ix.IndexType.number c.steps.e ≢ g.Ix.IndexType.greatest = λ h. c.if-index-end.false cc in
     let s = c.steps.invariant in
     omega (
       arith,
-      looked_once c.requires.well_formed s here c.look-v.ensures.counted,
+      looked_once c.requires.well_formed s (λ h. c.if-index-end.false cc) c.look-v.ensures.counted,
       c.look-v.ensures.counted,
       c.enter-len.ensures.most,
       head_low c.requires.well_formed s,

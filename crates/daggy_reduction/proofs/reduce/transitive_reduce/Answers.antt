@@ -9,6 +9,8 @@ use Rattle.daggy_order.proofs.OrderLaws.{acyclic_from_order}
 use Rattle.daggy_reduction.specs.Comparison.{IsAscending}
 use Rattle.daggy_reduction.proofs.EdgesRemovedDownward.{reduced, nodes_kept}
 use Rattle.daggy_reduction.proofs.Laws.{law_fewer}
+use Rattle.daggy_reduction.proofs.reduce.transitive_reduce.Given.{Over}
+use Rattle.daggy_reduction.proofs.reduce.transitive_reduce.Goals.{After-deref, After-remove_edges}
 use Rattle.daggy_reduction.proofs.reduce.transitive_reduce.Goals as goal
 
 -- the first ones of a list that was written in place
@@ -27,8 +29,11 @@ reduced_so kind roots old {mid} {new} {handed} {gone} is same removed up exact =
     reduced kind roots gone old new up exact
     (removed ∙ ap (λ z. without_edges kind z (reverse handed)) same ∙ ap (λ z. without_edges kind old (reverse z)) is)
 
-pub remove_edges-requires-clause-ascending : goal.remove_edges-requires-clause-ascending
-remove_edges-requires-clause-ascending g c =
+-- the edges that are handed over are those that were found
+handed : (g : Over) (c : After-deref g)
+    → map g.Ix.IndexType.number (take c.find_redundant_in-count.result c.deref.result.now)
+    ≡ take c.find_redundant_in-count.result (map g.Ix.IndexType.number c.find_redundant_in-count.new.edges)
+handed g c =
     let found = c.scratch.inside.found in
     let edges = c.find_redundant_in-count.new.edges in
     let long : length edges ≡ found.len =
@@ -38,75 +43,48 @@ remove_edges-requires-clause-ascending g c =
       ap (λ (z : List g.row.Ix.Denot). length z) c.as_mut_slice-3.ensures.value,
       found.ok.0,
     ) in
-    let is =
     front_is g.Ix.IndexType.number c.find_redundant_in-count.result found edges c.deref.result.now c.deref.ensures.value
-    long in
+    long
+
+-- what is left is a reduction
+reduction : (g : Over) (c : After-remove_edges g)
+    → map g.Ix.IndexType.number (take c.find_redundant_in-count.result c.deref.result.now)
+    ≡ take c.find_redundant_in-count.result (map g.Ix.IndexType.number c.find_redundant_in-count.new.edges)
+    → IsReduction g.S.Store.kind (map g.Ix.IndexType.number c.args.roots.now)
+    (g.S.EdgeSource.graph c.args.store.now) (g.S.EdgeSource.graph c.remove_edges.new.store)
+reduction g c is =
+    let found = c.find_redundant_in-count.ensures in
+    reduced_so g.S.Store.kind (map g.Ix.IndexType.number c.args.roots.now) (g.S.EdgeSource.graph c.args.store.now) is
+    found.same c.remove_edges.ensures.removed found.ascending found.exact
+
+pub remove_edges-requires-clause-ascending : goal.remove_edges-requires-clause-ascending
+remove_edges-requires-clause-ascending g c =
+    let at = goal.at.remove_edges-requires-clause-ascending g c in
     let P : List ℕ → Type 0 = λ z. IsAscending z in
-    subst P (sym is) c.find_redundant_in-count.ensures.ascending
+    subst P (sym (handed g at.After-deref)) c.find_redundant_in-count.ensures.ascending
 
 pub remove_edges-requires-clause-exist : goal.remove_edges-requires-clause-exist
 remove_edges-requires-clause-exist g c =
-    let found = c.scratch.inside.found in
-    let edges = c.find_redundant_in-count.new.edges in
-    let long : length edges ≡ found.len =
-    omega (
-      arith,
-      c.find_redundant_in-count.ensures.edges_kept,
-      ap (λ (z : List g.row.Ix.Denot). length z) c.as_mut_slice-3.ensures.value,
-      found.ok.0,
-    ) in
-    let is =
-    front_is g.Ix.IndexType.number c.find_redundant_in-count.result found edges c.deref.result.now c.deref.ensures.value
-    long in
+    let at = goal.at.remove_edges-requires-clause-exist g c in
     λ e m. (
     let M : List ℕ → Type 0 = λ z. Contains z e in
     let H : Option (Edge g.row.S-EdgeWeight.Denot) → Type 0 = λ z. IsSome z in
     let G : Graph g.row.S-NodeWeight.Denot g.row.S-EdgeWeight.Denot → Type 0 = λ z. HasEdge z e in
-    let red = (c.find_redundant_in-count.ensures.exact e).0 (subst M is m) in
+    let red = (c.find_redundant_in-count.ensures.exact e).0 (subst M (handed g at.After-deref) m) in
     subst G (sym c.find_redundant_in-count.ensures.same) (subst H (sym red.at) cc)
     )
 
 pub returns-clause-reduced : goal.returns-clause-reduced
 returns-clause-reduced g c =
-    let found = c.scratch.inside.found in
-    let edges = c.find_redundant_in-count.new.edges in
-    let long : length edges ≡ found.len =
-    omega (
-      arith,
-      c.find_redundant_in-count.ensures.edges_kept,
-      ap (λ (z : List g.row.Ix.Denot). length z) c.as_mut_slice-3.ensures.value,
-      found.ok.0,
-    ) in
-    let is =
-    front_is g.Ix.IndexType.number c.find_redundant_in-count.result found edges c.deref.result.now c.deref.ensures.value
-    long in
-    let roots = map g.Ix.IndexType.number c.args.roots.now in
-    let found = c.find_redundant_in-count.ensures in
-    reduced_so g.S.Store.kind roots (g.S.EdgeSource.graph c.args.store.now) is found.same c.remove_edges.ensures.removed
-    found.ascending found.exact
+    let at = goal.at.returns-clause-reduced g c in
+    reduction g at.After-remove_edges (handed g at.After-deref)
 
 pub returns-clause-fewer : goal.returns-clause-fewer
 returns-clause-fewer g c =
-    let found = c.scratch.inside.found in
-    let edges = c.find_redundant_in-count.new.edges in
-    let long : length edges ≡ found.len =
-    omega (
-      arith,
-      c.find_redundant_in-count.ensures.edges_kept,
-      ap (λ (z : List g.row.Ix.Denot). length z) c.as_mut_slice-3.ensures.value,
-      found.ok.0,
-    ) in
-    let is =
-    front_is g.Ix.IndexType.number c.find_redundant_in-count.result found edges c.deref.result.now c.deref.ensures.value
-    long in
-    let roots = map g.Ix.IndexType.number c.args.roots.now in
-    let found = c.find_redundant_in-count.ensures in
-    let reduction =
-    reduced_so g.S.Store.kind roots (g.S.EdgeSource.graph c.args.store.now) is found.same c.remove_edges.ensures.removed
-    found.ascending found.exact in
-    law_fewer g.S.Store.kind roots (g.S.EdgeSource.graph c.args.store.now)
+    let at = goal.at.returns-clause-fewer g c in
+    law_fewer g.S.Store.kind (map g.Ix.IndexType.number c.args.roots.now) (g.S.EdgeSource.graph c.args.store.now)
     (g.S.EdgeSource.graph c.remove_edges.new.store) (acyclic_from_order _ c.requires)
-    c.node_bound-nodes.ensures.well_formed reduction
+    c.node_bound-nodes.ensures.well_formed (reduction g at.After-remove_edges (handed g at.After-deref))
 
 pub returns-clause-nodes : goal.returns-clause-nodes
 returns-clause-nodes g c =

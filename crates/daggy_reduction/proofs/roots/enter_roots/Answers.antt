@@ -1,10 +1,26 @@
-use Rattle.std.proofs.Common.{◌≡◌, ◌<◌, ◌≤◌, ◌∙◌, sym, ap, arith, length, map, get_or}
+use Rattle.std.proofs.Common.{◌≡◌, ◌<◌, ◌∙◌, sym, ap, arith, length, map, get_or}
 use Rattle.std.proofs.lemmas.List.{length-map, get_or-map}
 use Rattle.std.proofs.lemmas.Bool.{false≢true}
 use Rattle.daggy_reduction.proofs.QueuedRoots.{rooting_start, root_missing, root_low, root_room, root_entered}
 use Rattle.daggy_reduction.proofs.QueuedRoots.{all_rooted}
 use Rattle.daggy_reduction.proofs.roots.enter_roots.Goals.{then-contains_node, else-contains_node}
+use Rattle.daggy_reduction.proofs.roots.enter_roots.Given.{Over}
+use Rattle.daggy_reduction.proofs.roots.enter_roots.Goals.{In-roots, After-index-roots-k}
 use Rattle.daggy_reduction.proofs.roots.enter_roots.Goals as goal
+
+-- the root lies among the roots
+within : (g : Over) (c : In-roots g) → c.roots.k < length (map g.Ix.IndexType.number c.args.roots.now)
+within g c = omega (arith, c.roots-test.true, length-map c.args.roots.now g.Ix.IndexType.number)
+
+-- and is what was read there
+root_is : (g : Over) (c : After-index-roots-k g)
+    → g.Ix.IndexType.number c.index-roots-k.result
+    ≡ get_or (map g.Ix.IndexType.number c.args.roots.now) c.roots.k (g.Ix.IndexType.number c.index-roots-k.result)
+root_is g c =
+    let number = g.Ix.IndexType.number in
+    ap number c.index-roots-k.is
+    ∙ sym (get_or-map number c.args.roots.now c.roots.k c.index-roots-k.result (number c.index-roots-k.result)
+    c.roots-test.true)
 
 pub roots-init : goal.roots-init
 roots-init g c =
@@ -13,56 +29,40 @@ roots-init g c =
 
 pub enter-len-requires-clause-mark : goal.enter-len-requires-clause-mark
 enter-len-requires-clause-mark g c =
-    let number = g.Ix.IndexType.number in
-    let roots = c.args.roots.now in
-    let within : c.roots.k < length (map number roots) = omega (arith, c.roots-test.true, length-map roots number) in
-    let is : number c.index-roots-k.result ≡ get_or (map number roots) c.roots.k (number c.index-roots-k.result) =
-    ap number c.index-roots-k.is
-    ∙ sym
-    (get_or-map number roots c.roots.k c.index-roots-k.result (number c.index-roots-k.result) c.roots-test.true) in
-    root_low c.roots.invariant within (number c.index-roots-k.result) is (c.if-contains_node.ensures.exists.0 cc)
+    let at = goal.at.enter-len-requires-clause-mark g c in
+    let root = g.Ix.IndexType.number c.index-roots-k.result in
+    root_low c.roots.invariant (within g at.In-roots) root (root_is g at.After-index-roots-k)
+    (c.if-contains_node.ensures.exists.0 cc)
 
 pub enter-len-requires-clause-queue_fits : goal.enter-len-requires-clause-queue_fits
 enter-len-requires-clause-queue_fits g c unseen =
-    let number = g.Ix.IndexType.number in
-    let roots = c.args.roots.now in
-    let within : c.roots.k < length (map number roots) = omega (arith, c.roots-test.true, length-map roots number) in
-    let is : number c.index-roots-k.result ≡ get_or (map number roots) c.roots.k (number c.index-roots-k.result) =
-    ap number c.index-roots-k.is
-    ∙ sym
-    (get_or-map number roots c.roots.k c.index-roots-k.result (number c.index-roots-k.result) c.roots-test.true) in
-    root_room c.roots.invariant within (number c.index-roots-k.result) is (c.if-contains_node.ensures.exists.0 cc)
-    unseen
+    let at = goal.at.enter-len-requires-clause-queue_fits g c in
+    let root = g.Ix.IndexType.number c.index-roots-k.result in
+    root_room c.roots.invariant (within g at.In-roots) root (root_is g at.After-index-roots-k)
+    (c.if-contains_node.ensures.exists.0 cc) unseen
 
 pub roots-preserved : goal.roots-preserved
 roots-preserved g c =
-    let number = g.Ix.IndexType.number in
-    let roots = c.args.roots.now in
+    let at = goal.at.roots-preserved g c in
+    let root = g.Ix.IndexType.number c.index-roots-k.result in
     let s = c.roots.invariant in
-    let within : c.roots.k < length (map number roots) = omega (arith, c.roots-test.true, length-map roots number) in
-    let is : number c.index-roots-k.result ≡ get_or (map number roots) c.roots.k (number c.index-roots-k.result) =
-    ap number c.index-roots-k.is
-    ∙ sym
-    (get_or-map number roots c.roots.k c.index-roots-k.result (number c.index-roots-k.result) c.roots-test.true) in
     elim c.if-contains_node.branch [
       | then-contains_node w ↦
-          rw (w.entered-is, w.queue-is, w.len-is) (root_entered s within (number c.index-roots-k.result) is
+          rw (w.entered-is, w.queue-is, w.len-is)
+          (root_entered s (within g at.In-roots) root (root_is g at.After-index-roots-k)
           (w.if-contains_node.ensures.exists.0 cc) w.enter-len.ensures.there w.enter-len.ensures.put)
       | else-contains_node w ↦
-          rw (w.entered-is, w.queue-is, w.len-is) (root_missing s within (number c.index-roots-k.result) is
+          rw (w.entered-is, w.queue-is, w.len-is)
+          (root_missing s (within g at.In-roots) root (root_is g at.After-index-roots-k)
           (λ h. false≢true (w.if-contains_node.ensures.exists.1 h)))
     ]
 
 pub returns-clause-queued : goal.returns-clause-queued
 returns-clause-queued g c =
-    let number = g.Ix.IndexType.number in
-    let past : length (map number c.args.roots.now) ≤ c.roots.k =
-    omega (arith, c.roots-test.false, length-map c.args.roots.now number) in
-    (all_rooted c.roots.invariant past).0
+    (all_rooted c.roots.invariant
+    (omega (arith, c.roots-test.false, length-map c.args.roots.now g.Ix.IndexType.number))).0
 
 pub returns-clause-exact : goal.returns-clause-exact
 returns-clause-exact g c =
-    let number = g.Ix.IndexType.number in
-    let past : length (map number c.args.roots.now) ≤ c.roots.k =
-    omega (arith, c.roots-test.false, length-map c.args.roots.now number) in
-    (all_rooted c.roots.invariant past).1
+    (all_rooted c.roots.invariant
+    (omega (arith, c.roots-test.false, length-map c.args.roots.now g.Ix.IndexType.number))).1

@@ -1,4 +1,6 @@
-use Rattle.std.proofs.Common.{◌≡◌, ◌-◌, suc, [], map, length, get_or, sym, ap, ◌∙◌, arith}
+use Rattle.std.proofs.Common.{◌<◌}
+use Rattle.daggy_graph.specs.Stored.{Stores}
+use Rattle.std.proofs.Common.{◌≡◌, ◌-◌, [], map, length, get_or, sym, ap, ◌∙◌, arith}
 use Rattle.std.specs.List.{swap_remove}
 use Rattle.daggy_base.specs.declared.index.Direction.{Direction}
 use Rattle.daggy_base.specs.declared.index.Direction.TheVariants.{Outgoing, Incoming}
@@ -11,26 +13,25 @@ use Rattle.daggy_cells.proofs.States.{state_changed}
 use Rattle.daggy_graph.proofs.StoredLemmas.{stored_is, Stores-itself}
 use Rattle.daggy_base.proofs.MappedSlots.{slot_within, slot_is}
 use Rattle.daggy_graph.proofs.DroppedNode.{Stores-dropped}
+use Rattle.daggy_graph.proofs.graph.DiGraph.drop_node.Given.{Over}
+use Rattle.daggy_graph.proofs.graph.DiGraph.drop_node.Goals.{After-self, After-swap_remove-weight}
 use Rattle.daggy_graph.proofs.graph.DiGraph.drop_node.Goals as goal
 
-pub reown_last-requires-clause-node : goal.reown_last-requires-clause-node
-reown_last-requires-clause-node g c =
-    let within = slot_within (λ x. x.weight) c.self.inside.nodes.items _ (rw (← c.self.view_is) at c.requires.node) in
-    omega (arith, within, c.of_node.ensures)
+-- the node is among the slots
+within : (g : Over) (c : After-self g) → g.Ix.IndexType.number c.args.n < length c.self.inside.nodes.items
+within g c = slot_within (λ x. x.weight) c.self.inside.nodes.items _ (rw (← c.self.view_is) at c.requires.node)
 
-pub swap_remove-weight-requires : goal.swap_remove-weight-requires
-swap_remove-weight-requires g c =
-    let within = slot_within (λ x. x.weight) c.self.inside.nodes.items _ (rw (← c.self.view_is) at c.requires.node) in
-    omega (arith, within, c.index-i.ensures.value)
-
-pub invariant_of-self : goal.invariant_of-self
-invariant_of-self g c =
+-- the changed lists store the graph without the node
+stored : (g : Over) (c : After-swap_remove-weight g)
+    → Stores g.Ix.IndexType.greatest c.swap_remove-weight.new.self.items c.reown_last.new.edges.items
+    (with_node_dropped Compact (stored_graph c.self.inside.nodes.items c.self.inside.edges.items)
+    (g.Ix.IndexType.number c.args.n))
+stored g c =
     let n = g.Ix.IndexType.number c.args.n in
     let nodes = c.self.inside.nodes.items in
     let edges = c.self.inside.edges.items in
     let last = length nodes - 1 in
-    let within = slot_within (λ x. x.weight) nodes n (rw (← c.self.view_is) at c.requires.node) in
-    let long : length nodes ≡ suc last = omega (arith, within) in
+    let inside = slot_within (λ x. x.weight) nodes n (rw (← c.self.view_is) at c.requires.node) in
     let left = c.swap_remove-weight.result in
     let nodes_is : c.swap_remove-weight.new.self.items ≡ swap_remove nodes n left =
     c.swap_remove-weight.ensures.items ∙ ap (λ z. swap_remove nodes z left) c.index-i.ensures.value in
@@ -44,41 +45,33 @@ invariant_of-self g c =
       | Outgoing ↦ ap (λ s. nth_list s.graph.out_lists n) c.self.view_is ∙ c.requires.no_edges Outgoing
       | Incoming ↦ ap (λ s. nth_list s.graph.in_lists n) c.self.view_is ∙ c.requires.no_edges Incoming
     ] in
-    let stored = Stores-dropped nodes edges c.self.invariant n last left within long empty in
-    rw (nodes_is, edges_is) (Stores-itself _ _ _ _ stored)
+    rw (nodes_is, edges_is)
+    (Stores-dropped nodes edges c.self.invariant n last left inside (omega (arith, inside)) empty)
+
+pub reown_last-requires-clause-node : goal.reown_last-requires-clause-node
+reown_last-requires-clause-node g c =
+    omega (arith, within g (goal.at.reown_last-requires-clause-node g c).After-self, c.of_node.ensures)
+
+pub swap_remove-weight-requires : goal.swap_remove-weight-requires
+swap_remove-weight-requires g c =
+    omega (arith, within g (goal.at.swap_remove-weight-requires g c).After-self, c.index-i.ensures.value)
+
+pub invariant_of-self : goal.invariant_of-self
+invariant_of-self g c = Stores-itself _ _ _ _ (stored g (goal.at.invariant_of-self g c).After-swap_remove-weight)
 
 pub returns-clause-value : goal.returns-clause-value
 returns-clause-value g c =
     let n = g.Ix.IndexType.number c.args.n in
     let nodes = c.self.inside.nodes.items in
-    let within = slot_within (λ x. x.weight) nodes n (rw (← c.self.view_is) at c.requires.node) in
     let reads =
     c.swap_remove-weight.ensures.value ∙ ap (λ z. get_or nodes z c.swap_remove-weight.result) c.index-i.ensures.value in
     ap (λ s. node_weight s.graph n) (sym c.self.view_is)
-    ∙ slot_is (λ x. x.weight) nodes n c.swap_remove-weight.result within reads
+    ∙ slot_is (λ x. x.weight) nodes n c.swap_remove-weight.result
+    (within g (goal.at.returns-clause-value g c).After-self) reads
 
 pub returns-clause-dropped : goal.returns-clause-dropped
 returns-clause-dropped g c =
     let n = g.Ix.IndexType.number c.args.n in
-    let nodes = c.self.inside.nodes.items in
-    let edges = c.self.inside.edges.items in
-    let last = length nodes - 1 in
-    let within = slot_within (λ x. x.weight) nodes n (rw (← c.self.view_is) at c.requires.node) in
-    let long : length nodes ≡ suc last = omega (arith, within) in
-    let left = c.swap_remove-weight.result in
-    let nodes_is : c.swap_remove-weight.new.self.items ≡ swap_remove nodes n left =
-    c.swap_remove-weight.ensures.items ∙ ap (λ z. swap_remove nodes z left) c.index-i.ensures.value in
-    let edges_is : c.reown_last.new.edges.items
-    ≡ map (with_end_renamed Incoming last n) (map (with_end_renamed Outgoing last n) edges) =
-    c.reown_last.ensures
-    ∙ ap (λ z. map (with_end_renamed Incoming last z) (map (with_end_renamed Outgoing last z) edges))
-    c.of_node.ensures in
-    let empty : (d : Direction) → nth_list (lists_at d (stored_graph nodes edges)) n ≡ [] =
-    elim [
-      | Outgoing ↦ ap (λ s. nth_list s.graph.out_lists n) c.self.view_is ∙ c.requires.no_edges Outgoing
-      | Incoming ↦ ap (λ s. nth_list s.graph.in_lists n) c.self.view_is ∙ c.requires.no_edges Incoming
-    ] in
-    let stored = Stores-dropped nodes edges c.self.invariant n last left within long empty in
-    state_changed _ (stored_graph nodes edges) _ _ (λ h. with_node_dropped Compact h n) c.self.view_is
-    (ap (λ l. stored_graph l c.reown_last.new.edges.items) nodes_is
-    ∙ ap (stored_graph (swap_remove nodes n left)) edges_is ∙ stored_is _ _ _ _ stored)
+    state_changed _ (stored_graph c.self.inside.nodes.items c.self.inside.edges.items) _ _
+    (λ h. with_node_dropped Compact h n) c.self.view_is
+    (stored_is _ _ _ _ (stored g (goal.at.returns-clause-dropped g c).After-swap_remove-weight))

@@ -3,37 +3,32 @@ use Rattle.daggy_graph.specs.Stored.{stored_graph}
 use Rattle.daggy_base.specs.Mapping.{IsMapped}
 use Rattle.daggy_cells.specs.MappedCells.{MapsCells, node_weight_in, node_with, edge_weight_in, edge_with}
 use Rattle.daggy_graph.proofs.MappingLemmas.{MapsStored, Stores-mapped, IsMapped-stored}
+use Rattle.daggy_graph.proofs.graph.DiGraph.map.Given.{Over}
+use Rattle.daggy_graph.proofs.graph.DiGraph.map.Goals.{After-map_edges}
 use Rattle.daggy_graph.proofs.graph.DiGraph.map.Goals as goal
+
+-- the new slots are the mapped old ones
+mapped : (g : Over) (c : After-map_edges g)
+    → MapsStored g.Ix.IndexType.of (goal.F-step g) (goal.G-step g) c.args.f c.args.g
+    c.self.inside.nodes.items c.self.inside.edges.items c.map_nodes.new.new.items c.map_edges.new.new.items
+mapped g c =
+    let nodes' = c.map_nodes.new.new.items in
+    let edges' = c.map_edges.new.new.items in
+    record {
+      for_nodes =
+          subst (λ l. MapsCells (goal.F-step g) g.Ix.IndexType.of node_weight_in node_with c.args.f 0 l nodes')
+          c.as_slice.ensures.value c.map_nodes.ensures;
+      for_edges =
+          subst (λ l. MapsCells (goal.G-step g) g.Ix.IndexType.of edge_weight_in edge_with c.args.g 0 l edges')
+          c.as_slice-2.ensures.value c.map_edges.ensures;
+    }
 
 pub invariant_of-result : goal.invariant_of-result
 invariant_of-result g c =
-    let nodes' = c.map_nodes.new.new.items in
-    let edges' = c.map_edges.new.new.items in
-    let mapped : MapsStored g.Ix.IndexType.of (goal.F-step g) (goal.G-step g) c.args.f c.args.g
-    c.self.inside.nodes.items c.self.inside.edges.items nodes' edges' =
-    record {
-      for_nodes =
-          subst (λ l. MapsCells (goal.F-step g) g.Ix.IndexType.of node_weight_in node_with c.args.f 0 l nodes')
-          c.as_slice.ensures.value c.map_nodes.ensures;
-      for_edges =
-          subst (λ l. MapsCells (goal.G-step g) g.Ix.IndexType.of edge_weight_in edge_with c.args.g 0 l edges')
-          c.as_slice-2.ensures.value c.map_edges.ensures;
-    } in
-    Stores-mapped mapped g.Ix.IndexType.greatest c.self.invariant
+    Stores-mapped (mapped g (goal.at.invariant_of-result g c).After-map_edges) g.Ix.IndexType.greatest c.self.invariant
 
 pub returns-clause-mapped : goal.returns-clause-mapped
 returns-clause-mapped g c =
-    let nodes' = c.map_nodes.new.new.items in
-    let edges' = c.map_edges.new.new.items in
-    let mapped : MapsStored g.Ix.IndexType.of (goal.F-step g) (goal.G-step g) c.args.f c.args.g
-    c.self.inside.nodes.items c.self.inside.edges.items nodes' edges' =
-    record {
-      for_nodes =
-          subst (λ l. MapsCells (goal.F-step g) g.Ix.IndexType.of node_weight_in node_with c.args.f 0 l nodes')
-          c.as_slice.ensures.value c.map_nodes.ensures;
-      for_edges =
-          subst (λ l. MapsCells (goal.G-step g) g.Ix.IndexType.of edge_weight_in edge_with c.args.g 0 l edges')
-          c.as_slice-2.ensures.value c.map_edges.ensures;
-    } in
     subst (λ s. IsMapped g.Ix.IndexType.of (goal.F-step g) (goal.G-step g) c.args.f c.args.g s.graph
-    (stored_graph nodes' edges')) c.self.view_is (IsMapped-stored mapped)
+    (stored_graph c.map_nodes.new.new.items c.map_edges.new.new.items)) c.self.view_is
+    (IsMapped-stored (mapped g (goal.at.returns-clause-mapped g c).After-map_edges))

@@ -4,7 +4,27 @@ use Rattle.daggy_cells.specs.Fields.{firsts_of, nexts_of}
 use Rattle.daggy_stable.specs.Stored.{weight_of, plain_edge, stored_graph}
 use Rattle.daggy_stable.proofs.Stores.{edges_long}
 use Rattle.daggy_stable.proofs.MappedSlots.{MapsStored, Stores-mapped, IsMapped-stored}
+use Rattle.daggy_stable.proofs.stable_graph.StableDiGraph.map.Given.{Over}
+use Rattle.daggy_stable.proofs.stable_graph.StableDiGraph.map.Goals.{After-map_edges}
 use Rattle.daggy_stable.proofs.stable_graph.StableDiGraph.map.Goals as goal
+
+-- the new slots are the mapped old ones
+mapped : (g : Over) (c : After-map_edges g)
+    → MapsStored g.Ix.IndexType.of (goal.F-step g) (goal.G-step g) c.args.f c.args.g
+    c.self.inside.nodes.items c.self.inside.edges.items c.map_nodes.new.new.items c.map_edges.new.new.items
+mapped g c =
+    let nodes' = c.map_nodes.new.new.items in
+    let edges' = c.map_edges.new.new.items in
+    record {
+      for_nodes =
+          subst (λ l. MapsSlots (goal.F-step g) g.Ix.IndexType.of (λ w. w) (λ w v. v) c.args.f 0 (map weight_of l)
+          (map weight_of nodes')) c.as_slice.ensures.value c.map_nodes.ensures.mapped;
+      for_edges =
+          subst (λ l. MapsSlots (goal.G-step g) g.Ix.IndexType.of weight_in with_weight c.args.g 0 (map plain_edge l)
+          (map plain_edge edges')) c.as_slice-2.ensures.value c.map_edges.ensures.mapped;
+      firsts = λ dir. c.map_nodes.ensures.links dir ∙ ap (firsts_of dir) c.as_slice.ensures.value;
+      nexts = λ dir. c.map_edges.ensures.links dir ∙ ap (nexts_of dir) c.as_slice-2.ensures.value;
+    }
 
 pub map_edges-requires-clause-few : goal.map_edges-requires-clause-few
 map_edges-requires-clause-few g c =
@@ -12,39 +32,14 @@ map_edges-requires-clause-few g c =
 
 pub invariant_of-result : goal.invariant_of-result
 invariant_of-result g c =
-    let nodes' = c.map_nodes.new.new.items in
-    let edges' = c.map_edges.new.new.items in
-    let mapped : MapsStored g.Ix.IndexType.of (goal.F-step g) (goal.G-step g) c.args.f c.args.g
-    c.self.inside.nodes.items c.self.inside.edges.items nodes' edges' =
-    record {
-      for_nodes =
-          subst (λ l. MapsSlots (goal.F-step g) g.Ix.IndexType.of (λ w. w) (λ w v. v) c.args.f 0 (map weight_of l)
-          (map weight_of nodes')) c.as_slice.ensures.value c.map_nodes.ensures.mapped;
-      for_edges =
-          subst (λ l. MapsSlots (goal.G-step g) g.Ix.IndexType.of weight_in with_weight c.args.g 0 (map plain_edge l)
-          (map plain_edge edges')) c.as_slice-2.ensures.value c.map_edges.ensures.mapped;
-      firsts = λ dir. c.map_nodes.ensures.links dir ∙ ap (firsts_of dir) c.as_slice.ensures.value;
-      nexts = λ dir. c.map_edges.ensures.links dir ∙ ap (nexts_of dir) c.as_slice-2.ensures.value;
-    } in
-    Stores-mapped mapped g.Ix.IndexType.greatest _ _ c.self.invariant
+    Stores-mapped (mapped g (goal.at.invariant_of-result g c).After-map_edges) g.Ix.IndexType.greatest _ _
+    c.self.invariant
 
 pub returns-clause-mapped : goal.returns-clause-mapped
 returns-clause-mapped g c =
     let end = g.Ix.IndexType.greatest in
-    let nodes' = c.map_nodes.new.new.items in
-    let edges' = c.map_edges.new.new.items in
-    let mapped : MapsStored g.Ix.IndexType.of (goal.F-step g) (goal.G-step g) c.args.f c.args.g
-    c.self.inside.nodes.items c.self.inside.edges.items nodes' edges' =
-    record {
-      for_nodes =
-          subst (λ l. MapsSlots (goal.F-step g) g.Ix.IndexType.of (λ w. w) (λ w v. v) c.args.f 0 (map weight_of l)
-          (map weight_of nodes')) c.as_slice.ensures.value c.map_nodes.ensures.mapped;
-      for_edges =
-          subst (λ l. MapsSlots (goal.G-step g) g.Ix.IndexType.of weight_in with_weight c.args.g 0 (map plain_edge l)
-          (map plain_edge edges')) c.as_slice-2.ensures.value c.map_edges.ensures.mapped;
-      firsts = λ dir. c.map_nodes.ensures.links dir ∙ ap (firsts_of dir) c.as_slice.ensures.value;
-      nexts = λ dir. c.map_edges.ensures.links dir ∙ ap (nexts_of dir) c.as_slice-2.ensures.value;
-    } in
     subst (λ s. IsMapped g.Ix.IndexType.of (goal.F-step g) (goal.G-step g) c.args.f c.args.g s.graph
-    (stored_graph end nodes' edges' c.self.inside.first_vacant_node c.self.inside.first_vacant_edge)) c.self.view_is
-    (IsMapped-stored mapped end c.self.inside.first_vacant_node c.self.inside.first_vacant_edge)
+    (stored_graph end c.map_nodes.new.new.items c.map_edges.new.new.items c.self.inside.first_vacant_node
+    c.self.inside.first_vacant_edge)) c.self.view_is
+    (IsMapped-stored (mapped g (goal.at.returns-clause-mapped g c).After-map_edges) end c.self.inside.first_vacant_node
+    c.self.inside.first_vacant_edge)

@@ -50,7 +50,8 @@ each-preserved g c =
       mapped =
           rw c.push_reserved-in-each.ensures.items
           (MappedSlots-call plain_edge plain_edge c.each.new.items y at c.g-weight.new.self w
-          (ap (option_map (plain x)) (sym c.in-Some.ensures.value)) (ap plain_edge c.edge_like-in-each.ensures) called c.each.invariant.mapped);
+          (ap (option_map (plain x)) (sym c.in-Some.ensures.value)) (ap plain_edge c.edge_like-in-each.ensures) called
+          c.each.invariant.mapped);
       links = λ dir.
           ap (nexts_of dir) c.push_reserved-in-each.ensures.items
           ∙ kept_more (raw_next dir) (raw_next dir) c.each.new.items y at
