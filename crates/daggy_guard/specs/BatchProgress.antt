@@ -50,20 +50,29 @@ IsKept Spared = Unit {0}
 IsKept Left = ⊥
 IsKept Closed = ⊥
 
--- how the order stands after one edge more, from a to b, which `count` others come before; what it is then, and what
--- the looks are
-abbrev pub IsStep : {N E : Type 0} → Graph N E → (a b count : ℕ) → (old : Standing) → (order order' : List ℕ)
-    → (looks looks' : ℕ) → (new : Standing) → Type 0
-IsStep g a b count old order order' looks looks' Kept =
-    IsKept old × IsOrderOf g order' × (place order' a < place order' b) × (looks' ≤ looks + edge_count g)
-IsStep g a b count old order order' looks looks' Spared =
-    IsKept old × IsOrderOf g order' × (place order' a < place order' b)
-    × (((0 < count) × (looks' ≡ looks)) ⊎ ((old ≡ Spared) × (looks' ≤ looks + edge_count g)))
-IsStep g a b count old order order' looks looks' Left =
-    ((old ≡ Spared) ⊎ (old ≡ Left)) × (order' ≡ order) × (looks' ≡ looks)
-IsStep g a b count old order order' looks looks' Closed =
-    ((old ≡ Closed) × (order' ≡ order) × (looks' ≡ looks))
-    ⊎ (IsKept old × IsOrderOf g order' × Reaches g b a × (looks' ≤ looks + edge_count g))
+-- the order beside a batch: how it stands to the edges so far, what it is, and how many edges were looked at
+pub record Ordering : Type 0 where
+  pub standing : Standing
+  pub order : List ℕ
+  pub looks : ℕ
+
+-- how the order can stand after one edge more, from a to b, which `count` others come before
+abbrev pub CanStand : {N E : Type 0} → Graph N E → (a b count : ℕ) → (old new : Ordering) → Standing → Type 0
+CanStand g a b count old new Kept =
+    IsKept old.standing × IsOrderOf g new.order × (place new.order a < place new.order b)
+    × (new.looks ≤ old.looks + edge_count g)
+CanStand g a b count old new Spared =
+    IsKept old.standing × IsOrderOf g new.order × (place new.order a < place new.order b)
+    × (((0 < count) × (new.looks ≡ old.looks)) ⊎ ((old.standing ≡ Spared) × (new.looks ≤ old.looks + edge_count g)))
+CanStand g a b count old new Left =
+    ((old.standing ≡ Spared) ⊎ (old.standing ≡ Left)) × (new.order ≡ old.order) × (new.looks ≡ old.looks)
+CanStand g a b count old new Closed =
+    ((old.standing ≡ Closed) × (new.order ≡ old.order) × (new.looks ≡ old.looks))
+    ⊎ (IsKept old.standing × IsOrderOf g new.order × Reaches g b a × (new.looks ≤ old.looks + edge_count g))
+
+-- the order before and after that edge
+abbrev pub IsStep : {N E : Type 0} → Graph N E → (a b count : ℕ) → (old new : Ordering) → Type 0
+IsStep g a b count old new = CanStand g a b count old new new.standing
 
 -- how many looks at least are left for what is still to be done: those of sorting, where that is, or the one that was
 -- spared

@@ -118,8 +118,9 @@ fn order_item<Ix: IndexType, S: Store<Ix>>(
     requires child { HasNode (S.graph store.old) (Ix.number b) }
     requires fits { node_bound (S.graph store.old) ≤ scratch.old.nodes }
     requires ordered { IsKept standing → IsOrderOf (S.graph store.old) order.old }
-    ensures step { IsStep (S.graph store.old) (Ix.number a) (Ix.number b) count standing order.old
-        order.new (S.looks store.old) (S.looks store.new) result }
+    ensures step { IsStep (S.graph store.old) (Ix.number a) (Ix.number b) count
+        (record { standing = standing; order = order.old; looks = S.looks store.old })
+        (record { standing = result; order = order.new; looks = S.looks store.new }) }
     ensures same { S.graph store.new ≡ S.graph store.old }
     ensures same_capacity { scratch.new ≡ scratch.old }
 {
@@ -174,8 +175,9 @@ fn add_item<Ix: IndexType, S: Store<Ix>>(
     ensures weights { weights.new.items ≡ weights.old.items }
     ensures capacity { vec_len weights.new + vec_len edges.new ≤ vec_capacity weights.new }
     ensures step { OnOk result (IsStep (S.graph store.old) (Ix.number item.0) (Ix.number item.1)
-        (vec_len edges.old) standing.old order.old order.new (S.looks store.old)
-        (S.looks store.new) standing.new) }
+        (vec_len edges.old)
+        (record { standing = standing.old; order = order.old; looks = S.looks store.old })
+        (record { standing = standing.new; order = order.new; looks = S.looks store.new })) }
     ensures ordered { (order.new ≡ order.old) ⊎ IsOrderOf (S.graph store.old) order.new }
     ensures counted { S.looks store.new
         ≤ S.looks store.old + item_looks (edge_count (S.graph store.old)) result }

@@ -51,18 +51,6 @@ module _ {N E : Type 0} (kind : Kind) (limit : ℕ) where
   compact_run old new [] (a ∷ answers) both run = absurd run
   compact_run old new (q ∷ requests) [] both run = absurd run
 
--- one command more, and its reply
-pub run_on : {N E C R : Type 0} (kind : Kind) (limit : ℕ) (f : C → Request N E) (h : R → Answer N E)
-    (old mid new : Graph N E) (commands : List C) (replies : List R) {whole : List R} (command : C) (reply : R)
-    → IsRun kind limit old (map f commands) (map h replies) mid → IsStep kind limit mid (f command) (h reply) new
-    → whole ≡ replies ++ reply ∷ []
-    → IsRun kind limit old (map f (commands ++ command ∷ [])) (map h whole) new
-run_on kind limit f h old mid new commands replies {whole} command reply run step whole_is =
-    let more = run_more kind limit old mid new (map f commands) (map h replies) (f command) (h reply) run step in
-    let asked = map-append f commands (command ∷ []) in
-    let said : map h whole ≡ map h replies ++ h reply ∷ [] = ap (map h) whole_is ∙ map-append h replies (reply ∷ []) in
-    rw (asked, said) more
-
 -- what holds where there is no error
 pub unless_err : {A F P : Type 0} (r : Result A F) → OnOk r P → false ≡ is_err r → P
 unless_err (Ok x) holds none = search rules

@@ -1,7 +1,10 @@
-use Rattle.std.proofs.Common.{◌∙◌, arith}
+use Rattle.std.proofs.Common.{[], ◌∷◌, ◌∙◌, map, ap, arith}
+use Rattle.std.proofs.lemmas.List.{map-append}
 use Rattle.std.proofs.lemmas.Iterator.Adapters.{YieldsList-from_vec}
 use Rattle.std.proofs.lemmas.Iterator.Consumers.{YieldsList-end}
-use Rattle.daggy_run.proofs.RunSteps.{run_on, run_begins, run_whole, unless_err}
+use Rattle.daggy_commands.specs.Requests.{request_of}
+use Rattle.daggy_commands.specs.Answers.{answer_of}
+use Rattle.daggy_run.proofs.RunSteps.{run_more, run_begins, run_whole, unless_err}
 use Rattle.daggy_run.proofs.OneAnswer.{as_compact}
 use Rattle.daggy_run.proofs.run.run.Goals as goal
 
@@ -26,8 +29,14 @@ commands-preserved g c = record {
   can = tt;
   ends = tt;
   run =
-      run_on g.D.GuardedDag.kind g.Ix.IndexType.greatest _ _ _ _ _ _ _ _ _ c.commands.invariant.run
-      c.perform-reply.ensures.step c.push_reserved.ensures.items;
+      let request = request_of g.Ix.IndexType.number in
+      let answer = answer_of g.Ix.IndexType.number in
+      let asked = map-append request c.commands.yielded (c.in-Some.command ∷ []) in
+      let said =
+      ap (map answer) c.push_reserved.ensures.items
+      ∙ map-append answer c.commands.replies.items (c.perform-reply.result ∷ []) in
+      rw (asked, said) (run_more g.D.GuardedDag.kind g.Ix.IndexType.greatest _ _ _ _ _ _ _ c.commands.invariant.run
+      c.perform-reply.ensures.step);
   capacity = omega (
     arith,
     c.in-Some.ensures.steps.1,
