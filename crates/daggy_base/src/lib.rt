@@ -1,4 +1,5 @@
-//! What both kinds of graph stand on: typed indices, errors, sources of edges, and what a store offers.
+//! What both kinds of graph stand on: typed indices, errors, sources of edges, and what a store
+//! offers.
 #![tactic(auto)]
 
 pub mod element;

@@ -37,10 +37,12 @@ fn reads_as_stable(rt: &impl Abort, alloc: Global, text: &str, wanted: &str) {
 }
 
 const WITHOUT_ORDERS: &str =
-    "{\"edge_property\":\"directed\",\"edges\":[[0,1,6],[0,2,5]],\"node_holes\":[],\"nodes\":[1,2,3]}";
+    "{\"edge_property\":\"directed\",\"edges\":[[0,1,6],[0,2,5]],\"node_holes\":[],\
+     \"nodes\":[1,2,3]}";
 
 const DESCENDING: &str =
-    "{\"edge_property\":\"directed\",\"edges\":[[0,1,6],[0,2,5]],\"node_holes\":[],\"nodes\":[1,2,3],\"orders\":[[[1,0],[]],[[],[0]],[[],[1]]]}";
+    "{\"edge_property\":\"directed\",\"edges\":[[0,1,6],[0,2,5]],\"node_holes\":[],\
+     \"nodes\":[1,2,3],\"orders\":[[[1,0],[]],[[],[0]],[[],[1]]]}";
 
 #[test]
 fn lists_are_read_in_their_order(rt: HostRuntime) {
@@ -54,8 +56,8 @@ fn without_orders_lists_descend(rt: HostRuntime) {
     reads_as_stable(&rt, rt.alloc(), WITHOUT_ORDERS, DESCENDING);
 }
 
-const TRAILING: &str =
-    "{\"nodes\":[1,2],\"node_holes\":[0,2],\"edge_property\":\"directed\",\"edges\":[null,[1,3,7]]}";
+const TRAILING: &str = "{\"nodes\":[1,2],\"node_holes\":[0,2],\"edge_property\":\"directed\",\
+     \"edges\":[null,[1,3,7]]}";
 
 #[test]
 fn vacant_slots_are_read(rt: HostRuntime) {
@@ -167,7 +169,8 @@ fn the_first_fault_of_a_document_is_told(rt: HostRuntime) {
             ReadError::Orders,
         ),
         (
-            "{\"nodes\":[1],\"edge_property\":\"directed\",\"edges\":[[0,0,1]],\"orders\":[[[0],[0]]]}",
+            "{\"nodes\":[1],\"edge_property\":\"directed\",\"edges\":[[0,0,1]],\
+             \"orders\":[[[0],[0]]]}",
             ReadError::Cycle,
         ),
         (
@@ -205,8 +208,8 @@ fn a_compact_dag_has_no_vacant_slot(rt: HostRuntime) {
 
 #[test]
 fn other_orders_are_no_rearrangement(rt: HostRuntime) {
-    let front =
-        "{\"edge_property\":\"directed\",\"edges\":[[0,1,6],[0,2,5]],\"nodes\":[1,2,3],\"orders\":[[";
+    let front = "{\"edge_property\":\"directed\",\"edges\":[[0,1,6],[0,2,5]],\"nodes\":[1,2,3],\
+         \"orders\":[[";
     for list in ["[0]", "[0,0]", "[0,1,1]"] {
         let text = format!(in rt.alloc(); "{front}{list},[]],[[],[0]],[[],[1]]]}}");
         let text = made(&rt, text);

@@ -20,11 +20,13 @@ pub type SmallStable = StableDag<u64, u64, u8>;
 
 /// The document of nodes 1, 2 and 3, where the newest edge has the lower index.
 pub const REORDERED: &str =
-    "{\"edge_property\":\"directed\",\"edges\":[[0,1,6],[0,2,5]],\"node_holes\":[],\"nodes\":[1,2,3],\"orders\":[[[0,1],[]],[[],[0]],[[],[1]]]}";
+    "{\"edge_property\":\"directed\",\"edges\":[[0,1,6],[0,2,5]],\"node_holes\":[],\
+     \"nodes\":[1,2,3],\"orders\":[[[0,1],[]],[[],[0]],[[],[1]]]}";
 
 /// The document of a dag with a vacant slot of a node and one of an edge.
 pub const VACANT: &str =
-    "{\"edge_property\":\"directed\",\"edges\":[null,[0,2,5]],\"node_holes\":[1],\"nodes\":[10,30],\"orders\":[[[1],[]],[[],[1]]]}";
+    "{\"edge_property\":\"directed\",\"edges\":[null,[0,2,5]],\"node_holes\":[1],\
+     \"nodes\":[10,30],\"orders\":[[[1],[]],[[],[1]]]}";
 
 pub fn holds(rt: &impl Abort, fact: bool)
     ensures { IsTrue fact }

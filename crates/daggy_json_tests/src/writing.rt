@@ -34,8 +34,8 @@ fn vacant_slots_below_the_bound_are_named(rt: HostRuntime) {
     is_written_stable(&rt, rt.alloc(), &dag, VACANT);
 }
 
-const CUT: &str =
-    "{\"edge_property\":\"directed\",\"edges\":[],\"node_holes\":[],\"nodes\":[10],\"orders\":[[[],[]]]}";
+const CUT: &str = "{\"edge_property\":\"directed\",\"edges\":[],\"node_holes\":[],\"nodes\":[10],\
+     \"orders\":[[[],[]]]}";
 
 #[test]
 fn vacant_slots_past_the_bound_are_left_out(rt: HostRuntime) {

@@ -46,8 +46,8 @@ impl<Ix: IndexType> Model for Links<Ix> {
 // written. Its memory doubles all the same.
 const STRETCH: usize = 512;
 
-/// Makes a list longer than `n`, with its elements as they were and `value` behind them. It grows by
-/// doubling while it is short, but not beyond the memory that it has, if that is enough.
+/// Makes a list longer than `n`, with its elements as they were and `value` behind them. It grows
+/// by doubling while it is short, but not beyond the memory that it has, if that is enough.
 #[inline]
 pub fn grow<T: Copy + Drop>(list: &mut Vec<T>, n: usize, value: T) -> Result<(), AllocError>
     requires { n + 1 < 2 ^ 64 }
@@ -240,8 +240,8 @@ impl<Ix: IndexType> Links<Ix> {
         self.next.capacity().min(self.previous.capacity())
     }
 
-    /// Takes memory for as many nodes as `bound`, each with an index below it, and says for how many
-    /// there is. Writes nothing.
+    /// Takes memory for as many nodes as `bound`, each with an index below it, and says for how
+    /// many there is. Writes nothing.
     pub fn reserve(&mut self, bound: usize) -> Result<usize, AllocError>
         ensures ok { OnOk result (bound ≤ self.new.capacity) }
         ensures index_bound { IfOk result (λ index_bound. index_bound ≡ self.new.capacity) }

@@ -290,7 +290,8 @@ fn made_of<S: Kind>(dag: &Plain<S>, way: Way, calls: &mut Calls) -> Result<Plain
     }
 }
 
-// Makes a dag of another one, a second time if the first is refused, in which no closure was called.
+// Makes a dag of another one, a second time if the first is refused, in which no closure was
+// called.
 fn made_again<S: Kind>(
     rt: &impl Abort,
     dag: &Plain<S>,

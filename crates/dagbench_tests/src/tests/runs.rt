@@ -42,7 +42,8 @@ const OF_BOTH_KINDS: [(&'static str, &'static str); 10] = [
          bad line\n",
     ),
     (
-        "\nnode\nnode 1 2\nnode +1\nNODE 1\nnode 1\r\nnode\t1\nnode 9223372036854775808\n  node   1  \n\
+        "\nnode\nnode 1 2\nnode +1\nNODE 1\nnode 1\r\nnode\t1\n\
+         node 9223372036854775808\n  node   1  \n\
          node -0\nnode -9223372036854775808\nedge 00 01 5\nedge 0 4294967295 1\n\
          edge 0 4294967296 1\nchildren 00000000000\nedges 0 1\nedges\n",
         "bad line\nbad line\nbad line\nbad line\nbad line\nbad line\nbad line\nbad line\n\
@@ -50,7 +51,8 @@ const OF_BOTH_KINDS: [(&'static str, &'static str); 10] = [
     ),
     (
         " json \njson 1\nnode -9223372036854775808\nnode 9223372036854775807\nedge 1 0 -0\njson",
-        "{\"edge_property\":\"directed\",\"edges\":[],\"node_holes\":[],\"nodes\":[],\"orders\":[]}\n\
+        "{\"edge_property\":\"directed\",\"edges\":[],\"node_holes\":[],\"nodes\":[],\
+         \"orders\":[]}\n\
          bad line\nn0\nn1\ne0\n\
          {\"edge_property\":\"directed\",\"edges\":[[1,0,0]],\"node_holes\":[],\
          \"nodes\":[-9223372036854775808,9223372036854775807],\
@@ -66,7 +68,8 @@ const OF_ONE_KIND: [(Mode, &'static str, &'static str); 5] = [
         Mode::Compact,
         "node 1\nnode 2\nnode 3\nedge 0 1 4\nedge 0 2 5\nedge 0 1 6\nrmedge 0\njson\n",
         "n0\nn1\nn2\ne0\ne1\ne2\nweight 4\n\
-         {\"edge_property\":\"directed\",\"edges\":[[0,1,6],[0,2,5]],\"node_holes\":[],\"nodes\":[1,2,3],\
+         {\"edge_property\":\"directed\",\"edges\":[[0,1,6],[0,2,5]],\"node_holes\":[],\
+         \"nodes\":[1,2,3],\
          \"orders\":[[[0,1],[]],[[],[0]],[[],[1]]]}\n",
     ),
     (
@@ -91,7 +94,8 @@ const OF_ONE_KIND: [(Mode, &'static str, &'static str); 5] = [
         "node 10\nnode 20\nnode 30\nedge 0 1 4\nedge 0 2 5\nrmnode 1\njson\nnode 40\nchildren 0\n\
          clear\nnode 7\n",
         "n0\nn1\nn2\ne0\ne1\nweight 20\n\
-         {\"edge_property\":\"directed\",\"edges\":[null,[0,2,5]],\"node_holes\":[1],\"nodes\":[10,30],\
+         {\"edge_property\":\"directed\",\"edges\":[null,[0,2,5]],\"node_holes\":[1],\
+         \"nodes\":[10,30],\
          \"orders\":[[[1],[]],[[],[1]]]}\n\
          n1\ne1:2\nok\nn0\n",
     ),

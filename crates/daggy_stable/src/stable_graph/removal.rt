@@ -164,7 +164,8 @@ pub(super) fn unlink<N, E, Ix: IndexType>(
     ensures edges { map stored_edge edges.new.items ≡ map stored_edge edges.old.items }
 {
     let i = e.index();
-    // Both lists are looked up before one is walked, so that the loads need not wait for each other.
+    // Both lists are looked up before one is walked, so that the loads need not wait for each
+    // other.
     let out = ListHead::of(nodes, edges, Direction::Outgoing, e);
     let into = ListHead::of(nodes, edges, Direction::Incoming, e);
     let next_out = links::next(&edges[i], Direction::Outgoing);

@@ -75,7 +75,8 @@ pub trait Kind: Store<u8, NodeWeight = u32, EdgeWeight = u32> {
     ) -> Result<Vec<Line>, AllocError>;
 }
 
-/// Notes a call behind those before it, as two digits: 1 for a node or 2 for an edge, and the index.
+/// Notes a call behind those before it, as two digits: 1 for a node or 2 for an edge, and the
+/// index.
 pub fn note(calls: &Cell<u64>, kind: u64, index: usize) {
     let digits = kind.wrapping_mul(10).wrapping_add(index as u64);
     calls.set(calls.get().wrapping_mul(100).wrapping_add(digits));

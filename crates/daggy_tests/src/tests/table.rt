@@ -468,7 +468,8 @@ pub fn play<Ix: IndexType, S: Store<Ix, NodeWeight = u32, EdgeWeight = u32>>(
 pub enum Scene<'a> {
     /// A table is played.
     Rows(&'a [Row<'a>]),
-    /// A dag is made of edges, whose weights are 0, with this answer, and a table is played over it.
+    /// A dag is made of edges, whose weights are 0, with this answer, and a table is played over
+    /// it.
     OfPairs(&'a [(usize, usize)], Answer<'a>, &'a [Row<'a>]),
     /// A dag is made of elements, with this answer, and a table is played over it.
     OfParts(&'a [Part], Answer<'a>, &'a [Row<'a>]),

@@ -4,8 +4,9 @@ use Rattle.std.specs.Vec.Iter.{into_iter_items}
 use Rattle.daggy_document.proofs.PlacedSlots.{none_left, counted_on, starts_at, hole_placed, weight_placed}
 use Rattle.daggy_document.proofs.PlacedSlots.{placed_whole}
 use Rattle.daggy_document.proofs.reading.weights.place_weights.Goals as goal
-use Rattle.daggy_document.proofs.reading.weights.place_weights.Goals.{}
-use Rattle.daggy_document.proofs.reading.weights.place_weights.Goals.{else-passed-len-via-then-passed-len+else-index-len}
+use Rattle.daggy_document.proofs.reading.weights.place_weights.Goals.{
+  else-passed-len-via-then-passed-len+else-index-len,
+}
 use Rattle.daggy_document.proofs.reading.weights.place_weights.Goals.{else-passed-len-via-else-passed-len}
 
 pub slots-init : goal.slots-init
