@@ -237,8 +237,8 @@ impl<Ix: IndexType> ListHead<Ix> {
         ListHead { node, first }
     }
 
-    /// The head of the same list once the edge `e`, which `next` follows in its own list, was taken
-    /// out of that.
+    /// The head of the same list after the edge `e` was taken out of its own list, which may be
+    /// another one. `next` is the edge that followed `e` there, or `end`.
     #[inline]
     pub fn without(self, e: Link<Ix>, next: Link<Ix>) -> Self
         ensures node { result.node ≡ self.node }
