@@ -1,6 +1,6 @@
 -- What the links of a list keep, as nodes are put in and taken out.
 use Rattle.std.proofs.Common.{◌≡◌, ◌≢◌, ℕ, zero, suc, ◌+◌, ◌<◌, ◌≤◌, ◌⊎◌, inl, inr, List, [], ◌∷◌, ◌++◌, length, get_or}
-use Rattle.std.proofs.Common.{min, not, eqb, cond, refl, sym, ap, subst, ◌∙◌, arith, append_assoc}
+use Rattle.std.proofs.Common.{Contains, min, not, eqb, cond, refl, sym, ap, subst, ◌∙◌, arith, append_assoc}
 use Rattle.std.proofs.lemmas.Bool.{eq-eqb}
 use Rattle.std.proofs.lemmas.List.{length-append}
 use Rattle.std.proofs.lemmas.List.Elements.{filter-append}
@@ -103,6 +103,17 @@ pub record Linking : Type 0 where
   pub first : ℕ
   pub last : ℕ
 
+-- links over which a walk of `count` nodes gives these nodes
+pub record Keeps (end : ℕ) (links : Linking) (count : ℕ) (nodes : List ℕ) : Type 0 where
+  pub linked : AreLinksOf end links.next links.previous links.first links.last
+      (nodes_from end links.next links.first count)
+  pub same : nodes_from end links.next links.first count ≡ nodes
+
+-- links whose lists are at least as long as before
+pub record AreAsLong (previous : List ℕ) (links : Linking) : Type 0 where
+  pub sized : length links.previous ≤ length links.next
+  pub long : length previous ≤ length links.previous
+
 -- a chain of distinct nodes is what links keep
 are_links : {end : ℕ} {next previous : List ℕ} {first last : ℕ} {xs : List ℕ}
     → IsLinkChain (neighbor end first next) (neighbor end last previous) end xs end → Unique (end ∷ xs)
@@ -115,17 +126,17 @@ are_links {end} {next} {previous} {first} {last} {xs} chain once within sized = 
   sized = sized;
 }
 
--- a walk along links gives the list that they keep
-module _ {end : ℕ} {next previous : List ℕ} {first last : ℕ} {xs : List ℕ}
-    (s : AreLinksOf end next previous first last xs) where
-  walked : (count : ℕ) → count ≡ length xs → nodes_from end next first count ≡ xs
-  walked count is =
-      ap (nodes_from end next first) is
-      ∙ walk_is end first next (neighbor end last previous) xs s.chained (unique_from_distinct (end ∷ xs) s.distinct).0
-
-  linked : (count : ℕ) → count ≡ length xs → AreLinksOf end next previous first last (nodes_from end next first count)
-  linked count is =
-      let P : List ℕ → Type 0 = λ z. AreLinksOf end next previous first last z in subst P (sym (walked count is)) s
+-- a walk along links gives the nodes that they lead over
+keeps : {end : ℕ} (links : Linking) {xs : List ℕ}
+    → AreLinksOf end links.next links.previous links.first links.last xs → (count : ℕ) → count ≡ length xs
+    → Keeps end links count xs
+keeps {end} links {xs} s count is =
+    let walked : nodes_from end links.next links.first count ≡ xs =
+    ap (nodes_from end links.next links.first) is
+    ∙ walk_is end links.first links.next (neighbor end links.last links.previous) xs s.chained
+    (unique_from_distinct (end ∷ xs) s.distinct).0 in
+    let P : List ℕ → Type 0 = λ z. AreLinksOf end links.next links.previous links.first links.last z in
+    record { linked = subst P (sym walked) s; same = walked }
 
 -- of the links N a write makes N', in which `from` leads to `to`
 pub record Leads (N N' : ℕ → ℕ) (from to : ℕ) : Type 0 where
@@ -144,6 +155,28 @@ is_put {N} {M} {P} {Q} {p} {n} {q} N' P' not_p not_q is to on from back = record
   back = λ k a b. back.others k (λ e. b (e ∙ is)) ∙ from.others k a;
 }
 
+-- a node that a list lacks is neither in it nor its end
+pub is_fresh : {end n : ℕ} {xs nodes : List ℕ}
+    → xs ≡ nodes → n ≢ end → (Contains nodes n → ⊥) → Mem n (end ∷ xs) → ⊥
+is_fresh {end} {n} {xs} {nodes} is real absent m =
+    let P : List ℕ → Type 0 = λ z. Mem n z in
+    elim m [ inl e ↦ real e | inr b ↦ absent (mem_contains nodes n (subst P is b)) ]
+
+-- nor is it where a link of the list leads
+pub not_led : {end n : ℕ} (xs : List ℕ) → (Mem n (end ∷ xs) → ⊥) → (q : ℕ) → Mem q (xs ++ end ∷ []) → n ≢ q
+not_led {end} {n} xs fresh q m e =
+    let P : ℕ → Type 0 = λ z. Mem z xs in
+    elim (mem_cases xs (end ∷ []) q m) [
+      | inl a ↦ fresh (inr (subst P (sym e) a))
+      | inr b ↦ elim b [ inl is ↦ fresh (inl (e ∙ is)) | inr none ↦ none ]
+    ]
+
+-- a node that can be put into a list, and links with a place for it
+pub record CanPut (end : ℕ) (xs previous : List ℕ) (now : Linking) (n : ℕ) : Type 0 where
+  pub fresh : Mem n (end ∷ xs) → ⊥
+  pub low : n < length previous
+  pub lists : AreAsLong previous now
+
 module _ {end : ℕ} {next previous : List ℕ} {first last : ℕ} {xs : List ℕ}
     (s : AreLinksOf end next previous first last xs) where
   pub once : Unique (end ∷ xs)
@@ -154,26 +187,6 @@ module _ {end : ℕ} {next previous : List ℕ} {first last : ℕ} {xs : List �
 
   pub few : length xs ≤ length previous
   few = fewer_than xs (length previous) once.1 inside
-
-  -- more room
-  module _ (next' previous' : List ℕ) (same : (k : ℕ) → get_or next' k end ≡ get_or next k end)
-      (same_back : (k : ℕ) → get_or previous' k end ≡ get_or previous k end) (sized : length previous' ≤ length next')
-      (long : length previous ≤ length previous') where
-    grown_chain : IsLinkChain (neighbor end first next') (neighbor end last previous') end xs end
-    grown_chain =
-        chain_same (neighbor end first next) (neighbor end last previous) (neighbor end first next')
-        (neighbor end last previous') end xs end (λ k m. ap (λ z. cond (eqb k end) first z) (same k))
-        (λ k m. ap (λ z. cond (eqb k end) last z) (same_back k)) s.chained
-
-    grown_links : AreLinksOf end next' previous' first last xs
-    grown_links = are_links grown_chain once (λ n m. omega (arith, inside n m, long)) sized
-
-    pub grown_walked : (count : ℕ) → count ≡ length xs → nodes_from end next' first count ≡ xs
-    grown_walked = walked grown_links
-
-    pub grown_linked : (count : ℕ)
-        → count ≡ length xs → AreLinksOf end next' previous' first last (nodes_from end next' first count)
-    grown_linked = linked grown_links
 
   pub first_is : first ≡ first_of end xs
   first_is = sym (neighbor_end end first next) ∙ head xs s.chained
@@ -283,24 +296,21 @@ module _ {end : ℕ} {next previous : List ℕ} {first last : ℕ} {xs : List �
         ]))
 
   -- n is put behind p, which is a node or the end
-  module _ (now : Linking) (n : ℕ) (fresh : Mem n (end ∷ xs) → ⊥) (low : n < length previous)
-      (sized : length now.previous ≤ length now.next) (long : length previous ≤ length now.previous) where
+  module _ {now : Linking} {n : ℕ} (can : CanPut end xs previous now n) where
     put_within : (ys : List ℕ) → ((m : ℕ) → Mem m ys → (m ≡ n) ⊎ Mem m xs) → (m : ℕ) → Mem m ys → m < length
         now.previous
     put_within ys from m h =
         elim (from m h) [
-          | inl is ↦ omega (arith, is, low, long)
-          | inr old ↦ omega (arith, inside m old, long)
+          | inl is ↦ omega (arith, is, can.low, can.lists.long)
+          | inr old ↦ omega (arith, inside m old, can.lists.long)
         ]
 
     pub put_first_chain : IsPut (neighbor end first next) (neighbor end last previous) (neighbor end now.first now.next)
         (neighbor end now.last now.previous) end n
         → IsLinkChain (neighbor end now.first now.next) (neighbor end now.last now.previous) end (n ∷ xs) end
     put_first_chain w =
-        put_behind_start _ _ _ _ end n xs end w s.chained (λ h. elim (mem_cases xs (end ∷ []) n h) [
-          | inl a ↦ fresh (inr a)
-          | inr b ↦ elim b [ inl is ↦ fresh (inl is) | inr none ↦ none ]
-        ]) once.0 (unique_last xs end once.1 once.0)
+        put_behind_start _ _ _ _ end n xs end w s.chained (λ h. not_led xs can.fresh n h refl) once.0
+        (unique_last xs end once.1 once.0)
       where
         unique_last : (ys : List ℕ) (y : ℕ) → Unique ys → (Mem y ys → ⊥) → Unique (ys ++ y ∷ [])
         unique_last [] y u d = (λ m. m, tt)
@@ -315,20 +325,12 @@ module _ {end : ℕ} {next previous : List ℕ} {first last : ℕ} {xs : List �
     module _ (w : IsPut (neighbor end first next) (neighbor end last previous) (neighbor end now.first now.next)
         (neighbor end now.last now.previous) end n) (count : ℕ) (is : count ≡ length xs + 1) where
       once_first : Unique (end ∷ (n ∷ xs))
-      once_first = (λ m. elim m [ inl e ↦ fresh (inl (sym e)) | inr b ↦ once.0 b ], (λ m. fresh (inr m), once.1))
+      once_first = (λ m. elim m [ inl e ↦ can.fresh (inl (sym e)) | inr b ↦ once.0 b ], (λ m. can.fresh (inr m), once.1))
 
-      count_first : count ≡ length (n ∷ xs)
-      count_first = omega (arith, is)
-
-      links_first : AreLinksOf end now.next now.previous now.first now.last (n ∷ xs)
-      links_first = are_links (put_first_chain w) once_first (put_within (n ∷ xs) (λ m h. h)) sized
-
-      pub put_first_walked : nodes_from end now.next now.first count ≡ n ∷ xs
-      put_first_walked = walked links_first count count_first
-
-      pub put_first_linked : AreLinksOf end now.next now.previous now.first now.last
-          (nodes_from end now.next now.first count)
-      put_first_linked = linked links_first count count_first
+      pub put_first_kept : Keeps end now count (n ∷ xs)
+      put_first_kept =
+          keeps now (are_links (put_first_chain w) once_first (put_within (n ∷ xs) (λ m h. h)) can.lists.sized) count
+          (omega (arith, is))
 
     module _ {p : ℕ} (w : IsPut (neighbor end first next) (neighbor end last previous) (neighbor end now.first now.next)
         (neighbor end now.last now.previous) p n) (count : ℕ) (is : count ≡ length xs + 1) (us vs : List ℕ)
@@ -339,7 +341,7 @@ module _ {end : ℕ} {next previous : List ℕ} {first last : ℕ} {xs : List �
           let A : List ℕ → Type 0 = λ z. IsLinkChain (neighbor end first next) (neighbor end last previous) end z end in
           let B : List ℕ → Type 0 = λ z. Unique (end ∷ z) in
           let C : List ℕ → Type 0 = λ z. Mem n (end ∷ z) → ⊥ in
-          put_behind_member _ _ _ _ p n us vs end w (subst A at s.chained) (subst B at once) (subst C at fresh)
+          put_behind_member _ _ _ _ p n us vs end w (subst A at s.chained) (subst B at once) (subst C at can.fresh)
 
       from_put : (m : ℕ) → Mem m (us ++ p ∷ (n ∷ vs)) → (m ≡ n) ⊎ Mem m xs
       from_put m h =
@@ -360,8 +362,8 @@ module _ {end : ℕ} {next previous : List ℕ} {first last : ℕ} {xs : List �
           let A : List ℕ → Type 0 = λ z. Unique (end ∷ z) in
           let B : List ℕ → Type 0 = λ z. Mem n z → ⊥ in
           let u = subst A at once in
-          let not_in = subst B at (λ m. fresh (inr m)) in (
-            λ m. elim (from_put end m) [ inl e ↦ fresh (inl (sym e)) | inr b ↦ once.0 b ],
+          let not_in = subst B at (λ m. can.fresh (inr m)) in (
+            λ m. elim (from_put end m) [ inl e ↦ can.fresh (inl (sym e)) | inr b ↦ once.0 b ],
             spread_out us p vs n u.1 not_in,
           )
         where
@@ -389,20 +391,16 @@ module _ {end : ℕ} {next previous : List ℕ} {first last : ℕ} {xs : List �
             length-append us (p ∷ (n ∷ vs)),
           )
 
-      links_put : AreLinksOf end now.next now.previous now.first now.last (us ++ p ∷ (n ∷ vs))
-      links_put = are_links put_chain once_put (put_within (us ++ p ∷ (n ∷ vs)) from_put) sized
-
-      pub put_walked : nodes_from end now.next now.first count ≡ us ++ p ∷ (n ∷ vs)
-      put_walked = walked links_put count count_put
-
-      pub put_linked : AreLinksOf end now.next now.previous now.first now.last (nodes_from end now.next now.first count)
-      put_linked = linked links_put count count_put
+      pub put_kept : Keeps end now count (us ++ p ∷ (n ∷ vs))
+      put_kept =
+          keeps now (are_links put_chain once_put (put_within (us ++ p ∷ (n ∷ vs)) from_put) can.lists.sized) count
+          count_put
 
   -- n is taken out
-  module _ (now : Linking) {n : ℕ} (us vs : List ℕ) (at : xs ≡ us ++ n ∷ vs)
+  module _ {now : Linking} {n : ℕ} (lists : AreAsLong previous now)
       (w : IsTaken (neighbor end first next) (neighbor end last previous) (neighbor end now.first now.next)
-      (neighbor end now.last now.previous) n) (sized : length now.previous ≤ length now.next)
-      (long : length previous ≤ length now.previous) (count : ℕ) (is : count + 1 ≡ length xs) where
+      (neighbor end now.last now.previous) n) (count : ℕ) (is : count + 1 ≡ length xs) (us vs : List ℕ)
+      (at : xs ≡ us ++ n ∷ vs) where
     once_at : Unique (end ∷ (us ++ n ∷ vs))
     once_at = let A : List ℕ → Type 0 = λ z. Unique (end ∷ z) in subst A at once
 
@@ -417,18 +415,33 @@ module _ {end : ℕ} {next previous : List ℕ} {first last : ℕ} {xs : List �
     within_taken : (k : ℕ) → Mem k (us ++ vs) → k < length now.previous
     within_taken k h =
         let A : List ℕ → Type 0 = λ z. Mem k z in
-        omega (arith, inside k (subst A (sym at) (mem_into us vs n k h)), long)
+        omega (arith, inside k (subst A (sym at) (mem_into us vs n k h)), lists.long)
 
     count_taken : count ≡ length (us ++ vs)
     count_taken = omega (arith, is, ap (λ (z : List ℕ). length z) at, length-append us (n ∷ vs), length-append us vs)
 
-    links_left : AreLinksOf end now.next now.previous now.first now.last (us ++ vs)
-    links_left = are_links chain_taken once_left within_taken sized
+    pub taken_kept : Keeps end now count (without n xs)
+    taken_kept =
+        let is_left : without n xs ≡ us ++ vs =
+        ap (without n) at ∙ without_mid n us vs (not_before us n vs once_at.1) (not_behind us n vs once_at.1) in
+        let kept = keeps now (are_links chain_taken once_left within_taken lists.sized) count count_taken in
+        record { linked = kept.linked; same = kept.same ∙ sym is_left }
 
-    pub taken_walked : nodes_from end now.next now.first count ≡ without n xs
-    taken_walked =
-        walked links_left count count_taken
-        ∙ sym (ap (without n) at ∙ without_mid n us vs (not_before us n vs once_at.1) (not_behind us n vs once_at.1))
-
-    pub taken_linked : AreLinksOf end now.next now.previous now.first now.last (nodes_from end now.next now.first count)
-    taken_linked = linked links_left count count_taken
+-- links lead over the same nodes when their lists are made longer
+pub grown : {end : ℕ} {next previous : List ℕ} {first last : ℕ} {nodes : List ℕ} (count : ℕ) (next' previous' : List ℕ)
+    → AreLinksOf end next previous first last (nodes_from end next first count)
+    → nodes_from end next first count ≡ nodes
+    → AreAsLong previous (record { next = next'; previous = previous'; first = first; last = last })
+    → ((k : ℕ) → get_or next' k end ≡ get_or next k end) → ((k : ℕ) → get_or previous' k end ≡ get_or previous k end)
+    → Keeps end (record { next = next'; previous = previous'; first = first; last = last }) count nodes
+grown {end} {next} {previous} {first} {last} {nodes} count next' previous' s is lists same back =
+    let xs = nodes_from end next first count in
+    let chain =
+    chain_same (neighbor end first next) (neighbor end last previous) (neighbor end first next')
+    (neighbor end last previous') end xs end (λ k m. ap (λ z. cond (eqb k end) first z) (same k))
+    (λ k m. ap (λ z. cond (eqb k end) last z) (back k)) s.chained in
+    let now : Linking = record { next = next'; previous = previous'; first = first; last = last } in
+    let within : (n : ℕ) → Mem n xs → n < length previous' = λ n m. omega (arith, inside s n m, lists.long) in
+    let kept =
+    keeps now (are_links chain (once s) within lists.sized) count (sym (length_walk end next first count)) in
+    record { linked = kept.linked; same = kept.same ∙ is }

@@ -1,45 +1,38 @@
-use Rattle.std.proofs.Common.{◌≡◌, ◌≤◌, ◌⊎◌, inl, inr, ℕ, List, ◌∙◌, ap, refl, sym, arith, get_or, length}
+use Rattle.std.proofs.Common.{◌≡◌, ◌≤◌, ◌⊎◌, inl, inr, ap, refl, arith, length}
 use Rattle.std.specs.Prelude.{vec_len}
-use Rattle.daggy_labels.specs.Links.{Listed, AreLinksOf, nodes_from}
-use Rattle.daggy_labels.proofs.LinkedNodes.{length_walk, grown_walked, grown_linked}
+use Rattle.daggy_labels.specs.Links.{Listed}
+use Rattle.daggy_labels.proofs.LinkedNodes.{Keeps, grown}
 use Rattle.daggy_labels.proofs.links.Links.make_room.Given.{Over}
 use Rattle.daggy_labels.proofs.links.Links.make_room.Goals.{After-grow, After-lengthen}
 use Rattle.daggy_labels.proofs.links.Links.make_room.Goals as goal
 
--- two lists of links keep these nodes
-record Keeps (end : ℕ) (next previous : List ℕ) (first last count : ℕ) (nodes : List ℕ) : Type 0 where
-  linked : AreLinksOf end next previous first last (nodes_from end next first count)
-  same : nodes_from end next first count ≡ nodes
-
--- links that keep nodes do so when their lists are made longer
-grown : {end : ℕ} {next previous : List ℕ} {first last : ℕ} {nodes : List ℕ} (count : ℕ) (next' previous' : List ℕ)
-    → AreLinksOf end next previous first last (nodes_from end next first count)
-    → nodes_from end next first count ≡ nodes
-    → ((k : ℕ) → get_or next' k end ≡ get_or next k end) → ((k : ℕ) → get_or previous' k end ≡ get_or previous k end)
-    → length previous' ≤ length next' → length previous ≤ length previous'
-    → Keeps end next' previous' first last count nodes
-grown {end} {next} {previous} {first} count next' previous' s is same back sized long =
-    let counted = sym (length_walk end next first count) in
-    record {
-      linked = grown_linked s next' previous' same back sized long count counted;
-      same = grown_walked s next' previous' same back sized long count counted ∙ is;
-    }
-
--- they do where the first list is longer
+-- the links lead over the same nodes where the first list is longer
 first_grown : (g : Over) (c : After-grow g)
-    → Keeps g.Ix.IndexType.greatest c.grow.new.list.items c.self.inside.previous.items c.self.inside.first
-    c.self.inside.last c.self.inside.count c.args.self.now.nodes
+    → Keeps g.Ix.IndexType.greatest (record {
+      next = c.grow.new.list.items;
+      previous = c.self.inside.previous.items;
+      first = c.self.inside.first;
+      last = c.self.inside.last;
+    }) c.self.inside.count c.args.self.now.nodes
 first_grown g c =
     grown c.self.inside.count c.grow.new.list.items c.self.inside.previous.items c.self.invariant
-    (ap (λ (z : Listed). z.nodes) c.self.view_is) (rw c.end.ensures.value at c.grow.ensures.same) (λ k. refl)
-    (omega (arith, c.self.invariant.sized, c.grow.ensures.longer, c.self.inside.next.ok.0, c.grow.new.list.ok.0))
-    (omega arith)
+    (ap (λ (z : Listed). z.nodes) c.self.view_is)
+    record {
+      sized =
+          omega (arith, c.self.invariant.sized, c.grow.ensures.longer, c.self.inside.next.ok.0, c.grow.new.list.ok.0);
+      long = omega arith;
+    }
+    (rw c.end.ensures.value at c.grow.ensures.same) (λ k. refl)
 
 -- and where the second was to be too, whether there was memory for it or not
 both_grown : (g : Over) (c : After-lengthen g)
     → (vec_len c.lengthen.new.list ≡ c.len-long.result) ⊎ (vec_len c.lengthen.new.list ≡ vec_len c.self.inside.previous)
-    → Keeps g.Ix.IndexType.greatest c.grow.new.list.items c.lengthen.new.list.items c.self.inside.first
-    c.self.inside.last c.self.inside.count c.args.self.now.nodes
+    → Keeps g.Ix.IndexType.greatest (record {
+      next = c.grow.new.list.items;
+      previous = c.lengthen.new.list.items;
+      first = c.self.inside.first;
+      last = c.self.inside.last;
+    }) c.self.inside.count c.args.self.now.nodes
 both_grown g c is =
     let longer : (length c.self.inside.previous.items ≤ length c.lengthen.new.list.items)
     × (length c.lengthen.new.list.items ≤ length c.grow.new.list.items) =
@@ -55,8 +48,8 @@ both_grown g c is =
       c.lengthen.new.list.ok.0,
     ) in
     grown c.self.inside.count c.grow.new.list.items c.lengthen.new.list.items c.self.invariant
-    (ap (λ (z : Listed). z.nodes) c.self.view_is) (rw c.end.ensures.value at c.grow.ensures.same)
-    (rw c.end-then-len-n.ensures.value at c.lengthen.ensures.same) longer.1 longer.0
+    (ap (λ (z : Listed). z.nodes) c.self.view_is) record { sized = longer.1; long = longer.0 }
+    (rw c.end.ensures.value at c.grow.ensures.same) (rw c.end-then-len-n.ensures.value at c.lengthen.ensures.same)
 
 pub invariant_of-self : goal.invariant_of-self
 invariant_of-self g c = (first_grown g (goal.at.invariant_of-self g c).After-grow).linked

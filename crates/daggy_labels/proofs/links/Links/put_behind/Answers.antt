@@ -1,11 +1,11 @@
-use Rattle.std.proofs.Common.{rules, ◌≡◌, ◌≢◌, ℕ, ◌+◌, ◌<◌, ◌≤◌, inl, inr, List, ◌^◌, [], ◌∷◌, ◌++◌, ◌∙◌, sym, ap}
+use Rattle.std.proofs.Common.{rules, ◌≡◌, ◌≢◌, ℕ, suc, ◌+◌, ◌<◌, ◌≤◌, inl, inr, List, ◌^◌, [], ◌∷◌, ◌++◌, ◌∙◌, sym, ap}
 use Rattle.std.proofs.Common.{subst, arith, get_or, length}
 use Rattle.std.proofs.lemmas.List.{get_or_read}
-use Rattle.daggy_base.proofs.Lists.{Mem, mem_cases, contains_mem, mem_contains, split_at}
-use Rattle.daggy_labels.specs.Links.{Listed, AreLinksOf, nodes_from, neighbor}
+use Rattle.daggy_base.proofs.Lists.{Mem, contains_mem, split_at}
+use Rattle.daggy_labels.specs.Links.{Listed, nodes_from, neighbor}
 use Rattle.daggy_labels.proofs.Chains.{IsPut, neighbor_node}
-use Rattle.daggy_labels.proofs.LinkedNodes.{Linking, few, once, inside, length_walk, is_put, next_leads, leads_within}
-use Rattle.daggy_labels.proofs.LinkedNodes.{put_walked, put_linked, same_lesser}
+use Rattle.daggy_labels.proofs.LinkedNodes.{Linking, Keeps, CanPut, few, once, inside, length_walk, is_put, is_fresh}
+use Rattle.daggy_labels.proofs.LinkedNodes.{not_led, next_leads, leads_within, put_kept, same_lesser}
 use Rattle.daggy_labels.proofs.links.Links.put_behind.Given.{Over}
 use Rattle.daggy_labels.proofs.links.Links.put_behind.Goals.{After-self, After-index-q, After-lead-4}
 use Rattle.daggy_labels.proofs.links.Links.put_behind.Goals as goal
@@ -42,76 +42,64 @@ as_long g c =
       c.lead-4.new.links.ok.0,
     )
 
--- the links lead over n too, behind p
+-- the links after the four writes
+abbrev linking : (g : Over) → After-lead-4 g → Linking
+linking g c = record {
+  next = c.lead-2.new.links.items;
+  previous = c.lead-4.new.links.items;
+  first = c.lead-2.new.outer;
+  last = c.lead-4.new.outer;
+}
+
+-- they lead over n too, behind p
 put : (g : Over) (c : After-lead-4 g)
     → Mem c.args.p
     (nodes_from g.Ix.IndexType.greatest c.self.inside.next.items c.self.inside.first c.self.inside.count)
-    → c.index-q.result.now ≡ get_or c.self.inside.next.items c.args.p g.Ix.IndexType.greatest
-    → AreLinksOf g.Ix.IndexType.greatest c.lead-2.new.links.items c.lead-4.new.links.items c.lead-2.new.outer
-    c.lead-4.new.outer
-    (nodes_from g.Ix.IndexType.greatest c.lead-2.new.links.items c.lead-2.new.outer (c.self.inside.count + 1))
-    × ((ns ms : List ℕ) → c.args.self.now.nodes ≡ ns ++ c.args.p ∷ ms
-    → nodes_from g.Ix.IndexType.greatest c.lead-2.new.links.items c.lead-2.new.outer (c.self.inside.count + 1)
-    ≡ ns ++ c.args.p ∷ (c.args.n ∷ ms))
+    → c.index-q.result.now ≡ get_or c.self.inside.next.items c.args.p g.Ix.IndexType.greatest → (us vs : List ℕ)
+    → nodes_from g.Ix.IndexType.greatest c.self.inside.next.items c.self.inside.first c.self.inside.count
+    ≡ us ++ c.args.p ∷ vs
+    → Keeps g.Ix.IndexType.greatest (linking g c) (c.self.inside.count + 1) (us ++ c.args.p ∷ (c.args.n ∷ vs))
 put g c is_held q_is =
     let E : ℕ = g.Ix.IndexType.greatest in
     let s = c.self.invariant in
     let xs = nodes_from E c.self.inside.next.items c.self.inside.first c.self.inside.count in
     let nodes : xs ≡ c.args.self.now.nodes = ap (λ (z : Listed). z.nodes) c.self.view_is in
-    let A : List ℕ → Type 0 = λ z. Mem c.args.n z in
-    let fresh : Mem c.args.n (E ∷ xs) → ⊥ = λ m. elim m [
-      | inl e ↦ c.requires.real e
-      | inr b ↦ c.requires.absent (mem_contains c.args.self.now.nodes c.args.n (subst A nodes b))
-    ] in
-    let low : c.args.n < length c.self.inside.previous.items =
-    omega (arith, c.requires.numbered, ap (λ (z : Listed). z.index_bound) c.self.view_is) in
-    let not_led : (q : ℕ) → Mem q (xs ++ E ∷ []) → c.args.n ≢ q = λ q m e. elim (mem_cases xs (E ∷ []) q m) [
-      | inl a ↦ fresh (inr (let B : ℕ → Type 0 = λ z. Mem z xs in subst B (sym e) a))
-      | inr b ↦ elim b [ inl is ↦ c.requires.real (e ∙ is) | inr none ↦ none ]
-    ] in
+    let fresh = is_fresh nodes c.requires.real c.requires.absent in
     let sized : length c.lead-4.new.links.items ≤ length c.lead-2.new.links.items =
     omega (
       arith,
       s.sized,
       c.lead.ensures.sized,
       c.lead-2.ensures.sized,
-      c.lead-3.ensures.sized,
-      c.lead-4.ensures.sized,
+      as_long g c,
       c.self.inside.next.ok.0,
-      c.self.inside.previous.ok.0,
       c.lead-2.new.links.ok.0,
-      c.lead-4.new.links.ok.0,
     ) in
     let long : length c.self.inside.previous.items ≤ length c.lead-4.new.links.items = omega (arith, as_long g c) in
-    let count : ℕ = c.self.inside.count + 1 in
-    let counted : count ≡ length xs + 1 =
-    ap (λ z. z + 1) (sym (length_walk E c.self.inside.next.items c.self.inside.first c.self.inside.count)) in
-    let real_p : c.args.p ≢ E = λ e. (once s).0 (let D : ℕ → Type 0 = λ z. Mem z xs in subst D e is_held) in
-    let not_p : c.args.n ≢ c.args.p = λ e. fresh
-    (inr (let D : ℕ → Type 0 = λ z. Mem z xs in subst D (sym e) is_held)) in
-    let C : ℕ → Type 0 = λ z. Mem z (xs ++ E ∷ []) in
+    let can : CanPut E xs c.self.inside.previous.items (linking g c) c.args.n =
+    record {
+      fresh = fresh;
+      low = omega (arith, c.requires.numbered, ap (λ (z : Listed). z.index_bound) c.self.view_is);
+      lists = record { sized = sized; long = long };
+    } in
+    let A : ℕ → Type 0 = λ z. Mem z xs in
+    let real_p : c.args.p ≢ E = λ e. (once s).0 (subst A e is_held) in
+    let not_p : c.args.n ≢ c.args.p = λ e. fresh (inr (subst A (sym e) is_held)) in
+    let B : ℕ → Type 0 = λ z. Mem z (xs ++ E ∷ []) in
     let is_behind : IsPut (neighbor E c.self.inside.first c.self.inside.next.items)
     (neighbor E c.self.inside.last c.self.inside.previous.items)
     (neighbor E c.lead-2.new.outer c.lead-2.new.links.items)
     (neighbor E c.lead-4.new.outer c.lead-4.new.links.items) c.args.p c.args.n =
     is_put (neighbor E c.lead.new.outer c.lead.new.links.items)
     (neighbor E c.lead-3.new.outer c.lead-3.new.links.items) not_p
-    (not_led c.index-q.result.now (subst C (sym q_is) (next_leads s c.args.p is_held)))
+    (not_led xs fresh c.index-q.result.now (subst B (sym q_is) (next_leads s c.args.p is_held)))
     (q_is ∙ sym (neighbor_node E c.self.inside.first c.self.inside.next.items c.args.p real_p))
     record { led = c.lead.ensures.led; others = c.lead.ensures.others }
     record { led = c.lead-2.ensures.led; others = c.lead-2.ensures.others }
     record { led = c.lead-3.ensures.led; others = c.lead-3.ensures.others }
     record { led = c.lead-4.ensures.led; others = c.lead-4.ensures.others } in
-    let at = split_at xs c.args.p is_held in
-    let now : Linking = record {
-      next = c.lead-2.new.links.items;
-      previous = c.lead-4.new.links.items;
-      first = c.lead-2.new.outer;
-      last = c.lead-4.new.outer;
-    } in (
-      put_linked s now c.args.n fresh low sized long is_behind count counted at.0 at.1 at.2,
-      λ ns ms is. put_walked s now c.args.n fresh low sized long is_behind count counted ns ms (nodes ∙ is),
-    )
+    let counted = ap suc (length_walk E c.self.inside.next.items c.self.inside.first c.self.inside.count) in
+    put_kept s can is_behind (c.self.inside.count + 1) (omega (arith, counted))
 
 pub index-q-requires : goal.index-q-requires
 index-q-requires g c =
@@ -149,13 +137,15 @@ pub invariant_of-self : goal.invariant_of-self
 invariant_of-self g c =
     let at = goal.at.invariant_of-self g c in
     let is_held = held g at.After-self in
-    (put g at.After-lead-4 is_held (read g at.After-index-q is_held)).0
+    let parts = split_at _ c.args.p is_held in
+    (put g at.After-lead-4 is_held (read g at.After-index-q is_held) parts.0 parts.1 parts.2).linked
 
 pub returns-clause-nodes : goal.returns-clause-nodes
 returns-clause-nodes g c =
     let at = goal.at.returns-clause-nodes g c in
     let is_held = held g at.After-self in
-    (put g at.After-lead-4 is_held (read g at.After-index-q is_held)).1
+    let nodes = ap (λ (z : Listed). z.nodes) c.self.view_is in
+    λ ns ms is. (put g at.After-lead-4 is_held (read g at.After-index-q is_held) ns ms (nodes ∙ is)).same
 
 pub returns-clause-index_bound : goal.returns-clause-index_bound
 returns-clause-index_bound g c =

@@ -3,10 +3,10 @@ use Rattle.std.proofs.Common.{arith, get_or, length}
 use Rattle.std.proofs.lemmas.List.{get_or_read, length-append}
 use Rattle.daggy_base.proofs.Lists.{Mem, contains_mem, split_at}
 use Rattle.daggy_base.specs.Removal.{without}
-use Rattle.daggy_labels.specs.Links.{Listed, AreLinksOf, nodes_from, neighbor}
+use Rattle.daggy_labels.specs.Links.{Listed, nodes_from, neighbor}
 use Rattle.daggy_labels.proofs.Chains.{IsTaken, neighbor_node}
-use Rattle.daggy_labels.proofs.LinkedNodes.{Linking, listed, same_lesser, once, inside, length_walk}
-use Rattle.daggy_labels.proofs.LinkedNodes.{previous_leads, next_leads, leads_within, taken_walked, taken_linked}
+use Rattle.daggy_labels.proofs.LinkedNodes.{Linking, Keeps, AreAsLong, listed, same_lesser, once, inside, length_walk}
+use Rattle.daggy_labels.proofs.LinkedNodes.{previous_leads, next_leads, leads_within, taken_kept}
 use Rattle.daggy_labels.proofs.links.Links.remove.Given.{Over}
 use Rattle.daggy_labels.proofs.links.Links.remove.Goals.{After-self, After-index-q, After-lead-2}
 use Rattle.daggy_labels.proofs.links.Links.remove.Goals as goal
@@ -41,33 +41,30 @@ read g c is_held =
 as_long : (g : Over) (c : After-lead-2 g) → length c.self.inside.previous.items ≡ length c.lead-2.new.links.items
 as_long g c = omega (arith, c.lead-2.ensures.sized, c.self.inside.previous.ok.0, c.lead-2.new.links.ok.0)
 
--- the links lead over the other nodes
+-- the links after the two writes
+abbrev linking : (g : Over) → After-lead-2 g → Linking
+linking g c = record {
+  next = c.lead.new.links.items;
+  previous = c.lead-2.new.links.items;
+  first = c.lead.new.outer;
+  last = c.lead-2.new.outer;
+}
+
+-- they lead over the other nodes
 taken : (g : Over) (c : After-lead-2 g)
     → Mem c.args.n
     (nodes_from g.Ix.IndexType.greatest c.self.inside.next.items c.self.inside.first c.self.inside.count)
     → c.index-p.result.now ≡ get_or c.self.inside.previous.items c.args.n g.Ix.IndexType.greatest
     → c.index-q.result.now ≡ get_or c.self.inside.next.items c.args.n g.Ix.IndexType.greatest
-    → AreLinksOf g.Ix.IndexType.greatest c.lead.new.links.items c.lead-2.new.links.items c.lead.new.outer
-    c.lead-2.new.outer
-    (nodes_from g.Ix.IndexType.greatest c.lead.new.links.items c.lead.new.outer (c.self.inside.count - 1))
-    × (nodes_from g.Ix.IndexType.greatest c.lead.new.links.items c.lead.new.outer (c.self.inside.count - 1)
-    ≡ without c.args.n c.args.self.now.nodes)
+    → Keeps g.Ix.IndexType.greatest (linking g c) (c.self.inside.count - 1) (without c.args.n c.args.self.now.nodes)
 taken g c is_held p_is q_is =
     let E : ℕ = g.Ix.IndexType.greatest in
     let s = c.self.invariant in
     let xs = nodes_from E c.self.inside.next.items c.self.inside.first c.self.inside.count in
     let sized : length c.lead-2.new.links.items ≤ length c.lead.new.links.items =
-    omega (
-      arith,
-      s.sized,
-      c.lead.ensures.sized,
-      c.lead-2.ensures.sized,
-      c.self.inside.next.ok.0,
-      c.self.inside.previous.ok.0,
-      c.lead.new.links.ok.0,
-      c.lead-2.new.links.ok.0,
-    ) in
+    omega (arith, s.sized, c.lead.ensures.sized, as_long g c, c.self.inside.next.ok.0, c.lead.new.links.ok.0) in
     let long : length c.self.inside.previous.items ≤ length c.lead-2.new.links.items = omega (arith, as_long g c) in
+    let lists : AreAsLong c.self.inside.previous.items (linking g c) = record { sized = sized; long = long } in
     let at = split_at xs c.args.n is_held in
     let some : length xs ≡ length at.0 + suc (length at.1) =
     ap (λ (z : List ℕ). length z) at.2 ∙ length-append at.0 (c.args.n ∷ at.1) in
@@ -89,16 +86,11 @@ taken g c is_held p_is q_is =
       from = ap (neighbor E c.lead-2.new.outer c.lead-2.new.links.items) (sym q_n) ∙ (c.lead-2.ensures.led ∙ p_n);
       back = λ k d. c.lead-2.ensures.others k (λ e. d (e ∙ q_n));
     } in
-    let now : Linking = record {
-      next = c.lead.new.links.items;
-      previous = c.lead-2.new.links.items;
-      first = c.lead.new.outer;
-      last = c.lead-2.new.outer;
-    } in (
-      taken_linked s now at.0 at.1 at.2 is_taken sized long count counted,
-      taken_walked s now at.0 at.1 at.2 is_taken sized long count counted
-          ∙ ap (without c.args.n) (ap (λ (z : Listed). z.nodes) c.self.view_is),
-    )
+    let kept = taken_kept s lists is_taken count counted at.0 at.1 at.2 in
+    record {
+      linked = kept.linked;
+      same = kept.same ∙ ap (without c.args.n) (ap (λ (z : Listed). z.nodes) c.self.view_is);
+    }
 
 pub index-p-requires : goal.index-p-requires
 index-p-requires g c =
@@ -149,13 +141,13 @@ invariant_of-self g c =
     let at = goal.at.invariant_of-self g c in
     let is_held = held g at.After-self in
     let is_read = read g at.After-index-q is_held in
-    (taken g at.After-lead-2 is_held is_read.0 is_read.1).0
+    (taken g at.After-lead-2 is_held is_read.0 is_read.1).linked
 
 pub returns : goal.returns
 returns g c =
     let at = goal.at.returns g c in
     let is_held = held g at.After-self in
     let is_read = read g at.After-index-q is_held in
-    listed (taken g at.After-lead-2 is_held is_read.0 is_read.1).1
+    listed (taken g at.After-lead-2 is_held is_read.0 is_read.1).same
     (sym (as_long g at.After-lead-2) ∙ ap (λ (z : Listed). z.index_bound) c.self.view_is)
     (same_lesser c.lead.ensures.capacity c.lead-2.ensures.capacity (ap (λ (z : Listed). z.capacity) c.self.view_is))
