@@ -17,7 +17,7 @@ use Rattle.daggy_order.proofs.OrderLaws.{order_with_edge}
 use Rattle.daggy_guard.specs.EdgeBatch.{NewEdge, by_numbers, with_edges, new_edges, HasEnds, IsFaultless, IsAdded}
 use Rattle.daggy_guard.specs.EdgeBatch.{IsFirstFault, ClosesCycle, IsRefused, LacksEnd, LacksIndex, LacksMemory}
 use Rattle.daggy_guard.specs.EdgeBatch.{weights_back, ordering_looks, most_looks}
-use Rattle.daggy_guard.specs.BatchProgress.{IsBatchSoFar, IsFault, IsKept, IsStep, Ordering}
+use Rattle.daggy_guard.specs.BatchProgress.{IsBatchSoFar, IsFault, IsKept, IsStep, BatchOrder}
 use Rattle.daggy_guard.specs.BatchProgress.{item_looks, looks_left, refusal}
 use Rattle.daggy_guard.specs.declared.edge_batch.Fault.{Fault}
 use Rattle.daggy_guard.specs.declared.edge_batch.Fault.TheVariants.{BadEndpoint, Full, Memory}
@@ -115,8 +115,8 @@ pub record Batch (I N E : Type 0) : Type 0 where
   pub standing : Standing
 
 -- the order beside it
-abbrev pub ordering : {I N E : Type 0} → Batch I N E → Ordering
-ordering batch = record { standing = batch.standing; order = batch.order; looks = batch.looks }
+abbrev pub batch_order : {I N E : Type 0} → Batch I N E → BatchOrder
+batch_order batch = record { standing = batch.standing; order = batch.order; looks = batch.looks }
 
 -- the edges of the items that were given are all there, none of them is at fault, and the order is one of the graph
 -- before them, and of the graph with them as long as it is kept
@@ -183,7 +183,7 @@ module _ {I N E : Type 0} {number : I → ℕ} {limit : ℕ} {kind : Kind} {befo
     pub spare : after.weights_held + after.edges_held ≤ after.capacity
     pub count : ℕ
     pub counted : count ≡ length batch.edges
-    pub step : IsStep batch.graph (number x.0) (number x.1) count (ordering batch) (ordering after)
+    pub step : IsStep batch.graph (number x.0) (number x.1) count (batch_order batch) (batch_order after)
 
   pub adding_on : (x : I × I × E) (after : Batch I N E) → IsNext x after → Adding number limit kind before after
   adding_on x after m =
@@ -206,7 +206,7 @@ module _ {I N E : Type 0} {number : I → ℕ} {limit : ℕ} {kind : Kind} {befo
       let C : Graph N E → Type 0 = λ z. IsAcyclic z in
       let edges_then : edge_count after.graph ≡ suc (edge_count g) =
       ap edge_count m.added ∙ (count_with_edge limit g a b x.2 m.well_formed ∙ add-one (edge_count g)) in
-      let t = stepped g a b m.count (ordering batch) (ordering after) m.step in
+      let t = stepped g a b m.count (batch_order batch) (batch_order after) m.step in
       let few =
       t.left (before.looks + ordering_looks (edge_count before.graph) (length batch.given)) s.few_looks
       (λ at. omega (arith, m.counted, as_many, s.left at)) (omega (arith, m.counted, as_many, count_now)) in

@@ -3,7 +3,7 @@ use Rattle.std.proofs.Common.{◌≡◌, ℕ, suc, ◌+◌, ◌<◌, ◌≤◌, 
 use Rattle.daggy_base.specs.Graph.{Graph, edge_count}
 use Rattle.daggy_base.specs.Path.{Reaches}
 use Rattle.daggy_base.specs.Ordered.{IsOrderOf, place}
-use Rattle.daggy_guard.specs.BatchProgress.{Ordering, IsKept, CanStand, IsStep, looks_left}
+use Rattle.daggy_guard.specs.BatchProgress.{BatchOrder, IsKept, CanStand, IsStep, looks_left}
 use Rattle.daggy_guard.specs.declared.edge_batch.Standing.{Standing}
 use Rattle.daggy_guard.specs.declared.edge_batch.Standing.TheVariants.{Kept, Spared, Left, Closed}
 
@@ -20,7 +20,7 @@ all_left edges looks most Spared is few = absurd cc
 all_left edges looks most Left is few = few
 all_left edges looks most Closed is few = absurd cc
 
-module _ {N E : Type 0} (g : Graph N E) (a b count : ℕ) (old new : Ordering) where
+module _ {N E : Type 0} (g : Graph N E) (a b count : ℕ) (old new : BatchOrder) where
   -- the order stays, or is one of the graph
   step_order : (to : Standing) → CanStand g a b count old new to → (new.order ≡ old.order) ⊎ IsOrderOf g new.order
   step_order Kept s = inr s.1

@@ -51,13 +51,13 @@ IsKept Left = ⊥
 IsKept Closed = ⊥
 
 -- the order beside a batch: how it stands to the edges so far, what it is, and how many edges were looked at
-pub record Ordering : Type 0 where
+pub record BatchOrder : Type 0 where
   pub standing : Standing
   pub order : List ℕ
   pub looks : ℕ
 
 -- how the order can stand after one edge more, from a to b, which `count` others come before
-abbrev pub CanStand : {N E : Type 0} → Graph N E → (a b count : ℕ) → (old new : Ordering) → Standing → Type 0
+abbrev pub CanStand : {N E : Type 0} → Graph N E → (a b count : ℕ) → (old new : BatchOrder) → Standing → Type 0
 CanStand g a b count old new Kept =
     IsKept old.standing × IsOrderOf g new.order × (place new.order a < place new.order b)
     × (new.looks ≤ old.looks + edge_count g)
@@ -71,7 +71,7 @@ CanStand g a b count old new Closed =
     ⊎ (IsKept old.standing × IsOrderOf g new.order × Reaches g b a × (new.looks ≤ old.looks + edge_count g))
 
 -- the order before and after that edge
-abbrev pub IsStep : {N E : Type 0} → Graph N E → (a b count : ℕ) → (old new : Ordering) → Type 0
+abbrev pub IsStep : {N E : Type 0} → Graph N E → (a b count : ℕ) → (old new : BatchOrder) → Type 0
 IsStep g a b count old new = CanStand g a b count old new new.standing
 
 -- how many looks at least are left for what is still to be done: those of sorting, where that is, or the one that was
