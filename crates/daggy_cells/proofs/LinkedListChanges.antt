@@ -375,17 +375,20 @@ ListsBy-without end_of end_of' lists e listed none others n f =
 
 -- the last edge renamed in its list, and moved to the place of e
 
+-- `last` stands in the list of n and can be renamed to another number e: no list has e, and no two share an element
+pub record CanRename (lists : List (List ℕ)) (n last e : ℕ) : Type 0 where
+  pub apart : (m k f : ℕ) → Contains (nth_list lists m) f → Contains (nth_list lists k) f → m ≡ k
+  pub unlisted : (m : ℕ) → ¬ Contains (nth_list lists m) e
+  pub there : Contains (nth_list lists n) last
+  pub differs : e ≢ last
+
 pub AreLinkedLists-renamed : {end : ℕ} {firsts nexts : List ℕ} {firsts' nexts' : List ℕ} {nexts'' : List ℕ}
-    {lists : List (List ℕ)}
-    {n e last : ℕ}
-    → AreLinkedLists end firsts nexts lists
-    → ((m k f : ℕ) → Contains (nth_list lists m) f → Contains (nth_list lists k) f → m ≡ k)
-    → ((m : ℕ) → ¬ Contains (nth_list lists m) e) → Contains (nth_list lists n) last → n < length firsts
-    → length nexts ≡ suc last → last ≢ end → e ≢ last
-    → Redirected (nth_list lists n) n last e firsts nexts firsts' nexts' → IsSwapRemoved nexts' nexts'' e last
-    → AreLinkedLists end firsts' nexts'' (map (map (renamed last e)) lists)
-AreLinkedLists-renamed {end} {firsts} {nexts} {firsts'} {nexts'} {nexts''} {lists} {n} {e} {last} linked disjoint out
-    there n_in long inside differs red moves =
+    {lists : List (List ℕ)} {n e last : ℕ}
+    → AreLinkedLists end firsts nexts lists → CanRename lists n last e → n < length firsts
+    → length nexts ≡ suc last → last ≢ end → Redirected (nth_list lists n) n last e firsts nexts firsts' nexts'
+    → IsSwapRemoved nexts' nexts'' e last → AreLinkedLists end firsts' nexts'' (map (map (renamed last e)) lists)
+AreLinkedLists-renamed {end} {firsts} {nexts} {firsts'} {nexts'} {nexts''} {lists} {n} {e} {last} linked can n_in long
+    inside red moves =
     record {
       rows = length-map lists (map (renamed last e)) ∙ linked.rows ∙ sym (ap length red.first ∙ length-set firsts n _);
       each = λ m within.
@@ -398,7 +401,7 @@ AreLinkedLists-renamed {end} {firsts} {nexts} {firsts'} {nexts'} {nexts''} {list
                 (sym same) at_row
             | inr other ↦
                 let r = linked.each m m_in in
-                let no_last : ¬ Contains (nth_list lists m) last = λ p. other (disjoint m n last p there) in
+                let no_last : ¬ Contains (nth_list lists m) last = λ p. other (can.apart m n last p can.there) in
                 IsLinkedList-at (get_or firsts m 0) (get_or firsts' m 0) (nth_list lists m)
                 (nth_list (map (map (renamed last e)) lists) m)
                 (ap (λ l. get_or l m 0) red.first ∙ get_or-set_other firsts n m _ 0 other)
@@ -409,9 +412,9 @@ AreLinkedLists-renamed {end} {firsts} {nexts} {firsts'} {nexts'} {nexts''} {list
                   goes_on = λ f p.
                       let f_in : f < length nexts = slice_get_within nexts f _ (r.goes_on f p) in
                       let f_last : f ≢ last = λ q. no_last (subst (Contains (nth_list lists m)) q p) in
-                      let f_e : f ≢ e = λ q. out m (subst (Contains (nth_list lists m)) q p) in
+                      let f_e : f ≢ e = λ q. can.unlisted m (subst (Contains (nth_list lists m)) q p) in
                       moves.kept f (omega (arith, f_in, long, f_last)) f_e
-                      ∙ red.outside f (λ q. other (disjoint m n f p q)) ∙ r.goes_on f p;
+                      ∙ red.outside f (λ q. other (can.apart m n f p q)) ∙ r.goes_on f p;
                 })
           ];
     }
@@ -423,7 +426,7 @@ AreLinkedLists-renamed {end} {firsts} {nexts} {firsts'} {nexts'} {nexts''} {list
     the_row =
         let l = nth_list lists n in
         let r = linked.each n n_in in
-        let injective = renamed-injective last e l (out n) in
+        let injective = renamed-injective last e l (can.unlisted n) in
         record {
           starts = ap (renamed last e) r.starts ∙ sym (first_of-map end (renamed last e) l fixed);
           distinct = AreDistinct-map (renamed last e) l injective r.distinct;
@@ -438,10 +441,10 @@ AreLinkedLists-renamed {end} {firsts} {nexts} {firsts'} {nexts'} {nexts''} {list
               elim (cases_eq f last) [
                 | inl same ↦
                     let at_e : z ≡ e = sym from.2 ∙ ap (renamed last e) same ∙ renamed_here last e in
-                    ap (slice_get nexts'') at_e ∙ moves.moved differs ∙ ap (slice_get nexts') (sym same) ∙ links
+                    ap (slice_get nexts'') at_e ∙ moves.moved can.differs ∙ ap (slice_get nexts') (sym same) ∙ links
                 | inr other ↦
                     let at_f : z ≡ f = sym from.2 ∙ renamed_other last e f other in
-                    let f_e : f ≢ e = λ q. out n (subst (Contains l) q from.1) in
+                    let f_e : f ≢ e = λ q. can.unlisted n (subst (Contains l) q from.1) in
                     ap (slice_get nexts'') at_f ∙ moves.kept f (omega (arith, f_in, long, other)) f_e ∙ links
               ];
         }

@@ -6,6 +6,15 @@ use Rattle.std.specs.Borrow.{Bor}
 use Rattle.daggy_base.specs.Mapping.{CalledAt, MapsSlots}
 use Rattle.daggy_cells.specs.MappedCells.{MapsCells}
 
+-- a cell is shown as an X, and with a new weight as a Y: what is shown has the cell's weight, and changes with it
+pub record Showing {A C W V : Type 0} (weight : A → W) (with : A → V → C) (X Y : Type 0) : Type 0 where
+  pub shown : A → X
+  pub shown_after : C → Y
+  pub shown_weight : X → W
+  pub shown_with : X → V → Y
+  pub weights : (x : A) → weight x ≡ shown_weight (shown x)
+  pub changes : (x : A) (v : V) → shown_after (with x v) ≡ shown_with (shown x) v
+
 module _ {F I W V : Type 0} (step : F → I → Bor W → V → F → Type 0) (of : ℕ → I) where
   pub CalledAt-from_step : (f : F) (i : ℕ) (shown : Bor W) (v : V) (next : F)
       → step f (of i) shown v next → CalledAt step of f i shown.now v next
@@ -41,18 +50,19 @@ module _ {F I W V : Type 0} (step : F → I → Bor W → V → F → Type 0) (o
         rw (is, same x v) (ap (λ l. h x ∷ l) (maps_keep h k same next (i + 1) xs later more))
 
     -- the slots that are shown map likewise
-    pub slots_from : {X Y : Type 0} (weight' : X → W) (with' : X → V → Y) (read : A → X) (read' : C → Y)
-        → ((x : A) → weight x ≡ weight' (read x)) → ((x : A) (v : V) → read' (with x v) ≡ with' (read x) v)
-        → (f : F) (i : ℕ) (xs : List A) (ys : List C) → MapsCells step of weight with f i xs ys
-        → MapsSlots step of weight' with' f i (map (λ x. Some (read x)) xs) (map (λ y. Some (read' y)) ys)
-    slots_from weight' with' read read' sees writes f i [] ys m = ap (map (λ y. Some (read' y))) m
-    slots_from weight' with' read read' sees writes f i (x ∷ xs) ys (v, next, called, later, is, more) = (
+    pub slots_from : {X Y : Type 0} (s : Showing weight with X Y) (f : F) (i : ℕ) (xs : List A) (ys : List C)
+        → MapsCells step of weight with f i xs ys
+        → MapsSlots step of s.shown_weight s.shown_with f i (map (λ x. Some (s.shown x)) xs)
+        (map (λ y. Some (s.shown_after y)) ys)
+    slots_from s f i [] ys m = ap (map (λ y. Some (s.shown_after y))) m
+    slots_from s f i (x ∷ xs) ys (v, next, called, later, is, more) = (
       v,
       next,
-      subst (λ w. CalledAt step of f i w v next) (sees x) called,
-      map (λ y. Some (read' y)) later,
-      ap (map (λ y. Some (read' y))) is ∙ ap (λ z. Some z ∷ map (λ y. Some (read' y)) later) (writes x v),
-      slots_from weight' with' read read' sees writes next (i + 1) xs later more,
+      subst (λ w. CalledAt step of f i w v next) (s.weights x) called,
+      map (λ y. Some (s.shown_after y)) later,
+      ap (map (λ y. Some (s.shown_after y))) is
+          ∙ ap (λ z. Some z ∷ map (λ y. Some (s.shown_after y)) later) (s.changes x v),
+      slots_from s next (i + 1) xs later more,
     )
 
 module _ {F I W V A B : Type 0} (step : F → I → Bor W → V → F → Type 0) (of : ℕ → I) (weight : A → W)

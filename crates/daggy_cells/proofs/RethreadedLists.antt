@@ -159,30 +159,35 @@ CanThread-as_long count count' list can same = record {
 
 -- both directions
 
+-- the list is threaded as that of n, and only the links of that direction differ
+pub record ThreadsOnly {N E Ix : Type 0} (end : ℕ) (dir : Direction) (nodes : List (Node N Ix))
+    (edges : List (Edge E Ix)) (n : ℕ) (list : List ℕ) (nodes' : List (Node N Ix)) (edges' : List (Edge E Ix))
+    : Type 0 where
+  pub links : Threads end dir nodes edges n list nodes' edges'
+  pub keeps : KeepsNodes dir nodes nodes'
+  pub keeps_edges : KeepsEdges dir edges edges'
+
 module _ {N E Ix : Type 0} {end n : ℕ} {nodes middle nodes' : List (Node N Ix)}
     {edges between edges' : List (Edge E Ix)} where
   -- a list of each direction, one after the other
   pub threads_both : (order : List ℕ × List ℕ) {out into : List ℕ}
-      → out ≡ order.0 → into ≡ order.1 → Threads end Outgoing nodes edges n out middle between
-      → KeepsNodes Outgoing nodes middle → KeepsEdges Outgoing edges between
-      → Threads end Incoming middle between n into nodes' edges' → KeepsNodes Incoming middle nodes'
-      → KeepsEdges Incoming between edges'
-      → (dir : Direction) → Threads end dir nodes edges n (order_at dir order) nodes' edges'
-  threads_both order {out} {into} out_is into_is t k l t' k' l' =
+      → out ≡ order.0 → into ≡ order.1 → ThreadsOnly end Outgoing nodes edges n out middle between
+      → ThreadsOnly end Incoming middle between n into nodes' edges' → (dir : Direction) → Threads end dir nodes edges n (order_at dir order) nodes' edges'
+  threads_both order {out} {into} out_is into_is first second =
       elim [
         | Outgoing ↦ record {
-          first = k'.firsts ∙ t.first ∙ ap (λ z. set (firsts_of Outgoing nodes) n (first_of end z)) out_is;
+          first = second.keeps.firsts ∙ first.links.first ∙ ap (λ z. set (firsts_of Outgoing nodes) n (first_of end z)) out_is;
           nexts =
               subst (λ z. Rethreads end z (nexts_of Outgoing edges) (nexts_of Outgoing edges')) out_is
-              (subst (Rethreads end out (nexts_of Outgoing edges)) (sym l'.nexts) t.nexts);
+              (subst (Rethreads end out (nexts_of Outgoing edges)) (sym second.keeps_edges.nexts) first.links.nexts);
         }
         | Incoming ↦ record {
           first =
-              t'.first ∙ ap (λ l. set l n (first_of end into)) k.firsts
+              second.links.first ∙ ap (λ l. set l n (first_of end into)) first.keeps.firsts
               ∙ ap (λ z. set (firsts_of Incoming nodes) n (first_of end z)) into_is;
           nexts =
               subst (λ z. Rethreads end z (nexts_of Incoming edges) (nexts_of Incoming edges')) into_is
-              (subst (λ m. Rethreads end into m (nexts_of Incoming edges')) l.nexts t'.nexts);
+              (subst (λ m. Rethreads end into m (nexts_of Incoming edges')) first.keeps_edges.nexts second.links.nexts);
         }
       ]
 

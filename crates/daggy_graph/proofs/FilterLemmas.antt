@@ -69,10 +69,10 @@ module _ {E V W G I : Type 0} (step : G → I → Bor E → Option W → G → T
       → FiltersEdges step of names g i (drop i slots) h new → FiltersEdges step of names first 0 slots start new
 
   pub EdgesBelow-passed : (first : G) (slots : List (Option (PlainEdge E))) (start : Graph V W) (g : G) (h : Graph V W)
-      (i : ℕ) {x : PlainEdge E}
+      {i : ℕ} {x : PlainEdge E}
       → i < length slots → get_or slots i (Some x) ≡ Some x → new_ends names x ≡ None
       → EdgesBelow first slots start g h i → EdgesBelow first slots start g h (i + 1)
-  EdgesBelow-passed first slots start g h i {x} within read lost kept new later =
+  EdgesBelow-passed first slots start g h {i} {x} within read lost kept new later =
       let rest : drop i slots ≡ Some x ∷ drop (i + 1) slots =
       drop_more slots i (Some x) within ∙ ap (λ y. y ∷ drop (i + 1) slots) read in
       kept new (rw rest (subst (λ o. FiltersEdge step of names g i x.weight o h

@@ -108,6 +108,37 @@ module _ {V W : Type 0} where
       → IsTidy h → (with_edge h a b w).edges ≡ h.edges ++ Some (record { parent = a; child = b; weight = w }) ∷ []
   with_edge_edges h a b w t = rw t.no_vacant_edge refl
 
+  longer_by_edge : (h : Graph V W) (a b : ℕ) (w : W) → IsTidy h → length (with_edge h a b w).edges ≡ length h.edges + 1
+  longer_by_edge h a b w t = let x : Edge W = record { parent = a; child = b; weight = w } in
+      ap length (with_edge_edges h a b w t) ∙ length_push h.edges (Some x)
+
+module _ {V W G : Type 0} where
+  -- past an edge, which may have these new ends: it was added to the graph h or left out, and what comes later is known
+  record EdgePassed (h : Graph V W) (ends : Option (ℕ × ℕ)) (later : G → Graph V W → Type 0) : Type 0 where
+    next : G
+    past : Graph V W
+    more : later next past
+    tidy : IsTidy past
+    nodes : past.nodes ≡ h.nodes
+    one_at_most : length past.edges ≤ length h.edges + 1
+    stayed : length past.edges ≡ length h.edges + 1 → (at : ℕ × ℕ) × (ends ≡ Some at)
+    added : length past.edges ≡ length h.edges + 1
+        → map (option_map ends_of) past.edges ≡ map (option_map ends_of) h.edges ++ ends ∷ []
+
+  edge_left_out : {h : Graph V W} (ends : Option (ℕ × ℕ)) (later : G → Graph V W → Type 0) (next : G)
+      → IsTidy h → later next h → EdgePassed h ends later
+  edge_left_out {h} ends later next t more =
+      record {
+        next = next;
+        past = h;
+        more = more;
+        tidy = t;
+        nodes = refl;
+        one_at_most = omega arith;
+        stayed = λ long. absurd (omega (arith, long));
+        added = λ long. absurd (omega (arith, long));
+      }
+
 module _ {N V W F I : Type 0} (step : F → I → Bor N → Option V → F → Type 0) (of : ℕ → I) where
   pub tidy_nodes : (f : F) (i : ℕ) (xs : List (Option N)) (h : Graph V W) (names : List (Option ℕ)) (new : Graph V W)
       → IsTidy h → FiltersNodes step of f i xs h names new → IsTidy new
@@ -118,20 +149,38 @@ module _ {N V W F I : Type 0} (step : F → I → Bor N → Option V → F → T
 
 module _ {E V W G I : Type 0} (step : G → I → Bor E → Option W → G → Type 0) (of : ℕ → I)
     (names : List (Option ℕ)) where
-  tidy_edge : (g : G) (e : ℕ) (w : E) (o : Option (ℕ × ℕ)) {h new : Graph V W} (later : G → Graph V W → Type 0)
-      → IsTidy h → ((next : G) (mid : Graph V W) → IsTidy mid → later next mid → IsTidy new)
-      → FiltersEdge step of names g e w o h later → IsTidy new
-  tidy_edge g e w None {h} later t on p = on g h t p
-  tidy_edge g e w (Some ends) {h} later t on (r, next, called, more) =
-      on next (with_kept_edge h ends r) (tidy_kept_edge h ends r t) more
+  edge_passed : (g : G) (e : ℕ) (w : E) (ends : Option (ℕ × ℕ)) {h : Graph V W} (later : G → Graph V W → Type 0)
+      → IsTidy h → FiltersEdge step of names g e w ends h later → EdgePassed h ends later
+  edge_passed g e w None later t p = edge_left_out None later g t p
+  edge_passed g e w (Some ends) later t (None, next, called, more) = edge_left_out (Some ends) later next t more
+  edge_passed g e w (Some ends) {h} later t (Some v, next, called, more) =
+      let long = longer_by_edge h ends.0 ends.1 v t in
+      record {
+        next = next;
+        past = with_edge h ends.0 ends.1 v;
+        more = more;
+        tidy = tidy_with_edge h ends.0 ends.1 v t;
+        nodes = refl;
+        one_at_most = omega (arith, long);
+        stayed = λ _. (ends, refl);
+        added = λ _.
+            ap (map (option_map ends_of)) (with_edge_edges h ends.0 ends.1 v t)
+            ∙ map_push (option_map ends_of) h.edges _;
+      }
+
+  first_passed : (g : G) (e : ℕ) (x : Edge E) (xs : List (Option (Edge E))) {h : Graph V W} (new : Graph V W)
+      → IsTidy h → FiltersEdges step of names g e (Some x ∷ xs) h new
+      → EdgePassed h (new_ends names x) (λ next past. FiltersEdges step of names next (e + 1) xs past new)
+  first_passed g e x xs new t p =
+      edge_passed g e x.weight (new_ends names x) (λ next past. FiltersEdges step of names next (e + 1) xs past new) t p
 
   pub tidy_edges : (g : G) (e : ℕ) (xs : List (Option (Edge E))) (h new : Graph V W)
       → IsTidy h → FiltersEdges step of names g e xs h new → IsTidy new
   tidy_edges g e [] h new t p = subst IsTidy (sym p) t
   tidy_edges g e (None ∷ xs) h new t p = tidy_edges g (e + 1) xs h new t p
   tidy_edges g e (Some x ∷ xs) h new t p =
-      tidy_edge g e x.weight (new_ends names x) (λ next mid. FiltersEdges step of names next (e + 1) xs mid new) t
-      (λ next mid u q. tidy_edges next (e + 1) xs mid new u q) p
+      let s = first_passed g e x xs new t p in
+      tidy_edges s.next (e + 1) xs s.past new s.tidy s.more
 
 -- nothing was left out
 
@@ -186,81 +235,23 @@ module _ {N V W F I : Type 0} (step : F → I → Bor N → Option V → F → T
 
 module _ {E V W G I : Type 0} (step : G → I → Bor E → Option W → G → Type 0) (of : ℕ → I)
     (names : List (Option ℕ)) where
-  longer_by_edge : (h : Graph V W) (a b : ℕ) (w : W) → IsTidy h → length (with_edge h a b w).edges ≡ length h.edges + 1
-  longer_by_edge h a b w t = let x : Edge W = record { parent = a; child = b; weight = w } in
-      ap length (with_edge_edges h a b w t) ∙ length_push h.edges (Some x)
-
-  few_by_edge : (n : ℕ) (g : G) (e : ℕ) (w : E) (o : Option (ℕ × ℕ)) {h : Graph V W} (new : Graph V W)
-      (later : G → Graph V W → Type 0)
-      → IsTidy h
-      → ((next : G) (mid : Graph V W) → IsTidy mid → later next mid → length new.edges ≤ length mid.edges + n)
-      → FiltersEdge step of names g e w o h later → length new.edges ≤ length h.edges + suc n
-  few_by_edge n g e w None {h} new later t on p = omega (arith, on g h t p)
-  few_by_edge n g e w (Some ends) {h} new later t on (None, next, called, more) = omega (arith, on next h t more)
-  few_by_edge n g e w (Some ends) {h} new later t on (Some v, next, called, more) =
-      omega (
-        arith,
-        on next (with_edge h ends.0 ends.1 v) (tidy_with_edge h ends.0 ends.1 v t) more,
-        longer_by_edge h ends.0 ends.1 v t,
-      )
-
-  nodes_by_edge : (g : G) (e : ℕ) (w : E) (o : Option (ℕ × ℕ)) (h new : Graph V W) (later : G → Graph V W → Type 0)
-      → ((next : G) (mid : Graph V W) → later next mid → new.nodes ≡ mid.nodes)
-      → FiltersEdge step of names g e w o h later → new.nodes ≡ h.nodes
-  nodes_by_edge g e w None h new later on p = on g h p
-  nodes_by_edge g e w (Some ends) h new later on (None, next, called, more) = on next h more
-  nodes_by_edge g e w (Some ends) h new later on (Some v, next, called, more) =
-      on next (with_edge h ends.0 ends.1 v) more
-
   pub edges_keep_nodes : (g : G) (e : ℕ) (xs : List (Option (Edge E))) (h new : Graph V W)
-      → FiltersEdges step of names g e xs h new → new.nodes ≡ h.nodes
-  edges_keep_nodes g e [] h new p = ap (λ z. z.nodes) p
-  edges_keep_nodes g e (None ∷ xs) h new p = edges_keep_nodes g (e + 1) xs h new p
-  edges_keep_nodes g e (Some x ∷ xs) h new p =
-      nodes_by_edge g e x.weight (new_ends names x) h new
-      (λ next mid. FiltersEdges step of names next (e + 1) xs mid new)
-      (λ next mid q. edges_keep_nodes next (e + 1) xs mid new q) p
+      → IsTidy h → FiltersEdges step of names g e xs h new → new.nodes ≡ h.nodes
+  edges_keep_nodes g e [] h new t p = ap (λ z. z.nodes) p
+  edges_keep_nodes g e (None ∷ xs) h new t p = edges_keep_nodes g (e + 1) xs h new t p
+  edges_keep_nodes g e (Some x ∷ xs) h new t p =
+      let s = first_passed step of names g e x xs new t p in
+      edges_keep_nodes s.next (e + 1) xs s.past new s.tidy s.more ∙ s.nodes
 
   edges_few : (g : G) (e : ℕ) (xs : List (Option (Edge E))) (h new : Graph V W)
       → IsTidy h → FiltersEdges step of names g e xs h new → length new.edges ≤ length h.edges + length xs
   edges_few g e [] h new t p = omega (arith, ap (λ z. length z.edges) p)
   edges_few g e (None ∷ xs) h new t p = omega (arith, edges_few g (e + 1) xs h new t p)
   edges_few g e (Some x ∷ xs) h new t p =
-      few_by_edge (length xs) g e x.weight (new_ends names x) new
-      (λ next mid. FiltersEdges step of names next (e + 1) xs mid new) t
-      (λ next mid u q. edges_few next (e + 1) xs mid new u q) p
+      let s = first_passed step of names g e x xs new t p in
+      omega (arith, edges_few s.next (e + 1) xs s.past new s.tidy s.more, s.one_at_most)
 
   module _ (itself : (i a : ℕ) → slot names i ≡ Some a → a ≡ i) where
-    ends_by_edge : (n : ℕ) (rest : List (Option (ℕ × ℕ))) (g : G) (e : ℕ) (x : Edge E) (o : Option (ℕ × ℕ))
-        → o ≡ new_ends names x → {h : Graph V W} (new : Graph V W) (later : G → Graph V W → Type 0) → IsTidy h
-        → length new.edges ≡ length h.edges + suc n
-        → ((next : G) (mid : Graph V W) → IsTidy mid → later next mid → length new.edges ≤ length mid.edges + n)
-        → ((next : G) (mid : Graph V W) → IsTidy mid → length new.edges ≡ length mid.edges + n → later next mid
-        → map (option_map ends_of) new.edges ≡ map (option_map ends_of) mid.edges ++ rest)
-        → FiltersEdge step of names g e x.weight o h later
-        → map (option_map ends_of) new.edges ≡ map (option_map ends_of) h.edges ++ Some (x.parent, x.child) ∷ rest
-    ends_by_edge n rest g e x None are {h} new later t all few on p = let short = few g h t p in
-        absurd (omega (arith, short, all))
-    ends_by_edge n rest g e x (Some ends) are {h} new later t all few on (None, next, called, more) =
-        let short = few next h t more in
-        absurd (omega (arith, short, all))
-    ends_by_edge n rest g e x (Some ends) are {h} new later t all few on (Some v, next, called, more) =
-        let mid = with_edge h ends.0 ends.1 v in
-        let y : Edge W = record { parent = ends.0; child = ends.1; weight = v } in
-        let long = longer_by_edge h ends.0 ends.1 v t in
-        let parts = both_are _ _ ends.0 ends.1 are in
-        let parent_is = itself x.parent ends.0 parts.0 in
-        let child_is = itself x.child ends.1 parts.1 in
-        let so_far : map (option_map ends_of) mid.edges
-        ≡ map (option_map ends_of) h.edges ++ Some (ends.0, ends.1) ∷ [] =
-        ap (map (option_map ends_of)) (with_edge_edges h ends.0 ends.1 v t)
-        ∙ map_push (option_map ends_of) h.edges (Some y) in
-        on next mid (tidy_with_edge h ends.0 ends.1 v t) (omega (arith, all, long)) more
-        ∙ ap (λ l. l ++ rest) so_far
-        ∙ append_assoc (map (option_map ends_of) h.edges) (Some (ends.0, ends.1) ∷ []) rest
-        ∙ ap (λ a. map (option_map ends_of) h.edges ++ Some (a, ends.1) ∷ rest) parent_is
-        ∙ ap (λ b. map (option_map ends_of) h.edges ++ Some (x.parent, b) ∷ rest) child_is
-
     pub ends_whole : (g : G) (e : ℕ) (xs : List (Option (Edge E))) (h new : Graph V W)
         → IsTidy h → length new.edges ≡ length h.edges + length xs → FiltersEdges step of names g e xs h new
         → map (option_map ends_of) new.edges ≡ map (option_map ends_of) h.edges ++ map (option_map ends_of) xs
@@ -269,10 +260,18 @@ module _ {E V W G I : Type 0} (step : G → I → Bor E → Option W → G → T
     ends_whole g e (None ∷ xs) h new t all p = let few = edges_few g (e + 1) xs h new t p in
         absurd (omega (arith, few, all))
     ends_whole g e (Some x ∷ xs) h new t all p =
-        ends_by_edge (length xs) (map (option_map ends_of) xs) g e x (new_ends names x) refl new
-        (λ next mid. FiltersEdges step of names next (e + 1) xs mid new) t all
-        (λ next mid u q. edges_few next (e + 1) xs mid new u q)
-        (λ next mid u same q. ends_whole next (e + 1) xs mid new u same q) p
+        let s = first_passed step of names g e x xs new t p in
+        let few = edges_few s.next (e + 1) xs s.past new s.tidy s.more in
+        let long : length s.past.edges ≡ length h.edges + 1 = omega (arith, all, few, s.one_at_most) in
+        let stayed = s.stayed long in
+        let parts = both_are _ _ stayed.0.0 stayed.0.1 (sym stayed.1) in
+        let ends_are : new_ends names x ≡ Some (x.parent, x.child) =
+        stayed.1 ∙ ap (λ a. Some (a, stayed.0.1)) (itself x.parent stayed.0.0 parts.0)
+        ∙ ap (λ b. Some (x.parent, b)) (itself x.child stayed.0.1 parts.1) in
+        ends_whole s.next (e + 1) xs s.past new s.tidy (omega (arith, all, long)) s.more
+        ∙ ap (λ l. l ++ map (option_map ends_of) xs) (s.added long)
+        ∙ append_assoc (map (option_map ends_of) h.edges) (new_ends names x ∷ []) (map (option_map ends_of) xs)
+        ∙ ap (λ o. map (option_map ends_of) h.edges ++ o ∷ map (option_map ends_of) xs) ends_are
 
 module _ {N E V W F G I : Type 0} {of : ℕ → I} {step_f : F → I → Bor N → Option V → F → Type 0}
     {step_g : G → I → Bor E → Option W → G → Type 0} {f : F} {g : G} {old : Graph N E} {new : Graph V W}
@@ -288,7 +287,7 @@ module _ {N E V W F G I : Type 0} {of : ℕ → I} {step_f : F → I → Bor N �
       let tidy = tidy_nodes step_f of f 0 old.nodes empty p.names p.middle tidy_empty p.nodes in
       let none : p.middle.edges ≡ [] = nodes_keep_edges step_f of f 0 old.nodes empty p.names p.middle p.nodes in
       let same_nodes : new.nodes ≡ p.middle.nodes =
-      edges_keep_nodes step_g of p.names g 0 old.edges p.middle new p.edges in
+      edges_keep_nodes step_g of p.names g 0 old.edges p.middle new tidy p.edges in
       let are =
       names_whole step_f of f 0 old.nodes empty p.names p.middle tidy_empty (omega (arith, all, ap length same_nodes))
       p.nodes in

@@ -7,12 +7,13 @@ use Rattle.daggy_cells.specs.declared.cell.Edge.{Edge}
 use Rattle.daggy_base.specs.declared.index.Direction.{Direction}
 use Rattle.daggy_base.specs.declared.index.Direction.TheVariants.{Outgoing, Incoming}
 use Rattle.daggy_cells.specs.Links.{linked_lists, AreLinkedLists, ListsEach}
+use Rattle.daggy_base.specs.Graph.{Edge as PlainEdge}
 use Rattle.daggy_base.specs.Mapping.{IsMapped, weight_in, with_weight}
 use Rattle.daggy_cells.specs.MappedCells.{MapsCells, node_weight_in, node_with, edge_weight_in, edge_with}
 use Rattle.daggy_cells.specs.Raw.{raw_first, raw_next}
 use Rattle.daggy_cells.specs.Fields.{end_at, firsts_of, nexts_of, ends_of}
 use Rattle.daggy_graph.specs.Stored.{stored_graph, Stores}
-use Rattle.daggy_cells.proofs.MappingLemmas.{maps_keep, slots_from}
+use Rattle.daggy_cells.proofs.MappingLemmas.{maps_keep, slots_from, Showing}
 
 -- a graph with the links of a stored graph
 module _ {N E V W Ix : Type 0} (end : ℕ) (nodes : List (Node N Ix)) (edges : List (Edge E Ix))
@@ -65,6 +66,29 @@ module _ {N E V W Ix : Type 0} (end : ℕ) (nodes : List (Node N Ix)) (edges : L
         few_edges = omega (arith, s.few_edges, more);
       }
 
+-- a stored node shows its weight
+abbrev pub node_shows : {N V Ix : Type 0} → Showing {A = Node N Ix} {C = Node V Ix} node_weight_in node_with N V
+node_shows = record {
+  shown = λ x. x.weight;
+  shown_after = λ x. x.weight;
+  shown_weight = λ w. w;
+  shown_with = λ w v. v;
+  weights = λ x. refl;
+  changes = λ x v. refl;
+}
+
+-- a stored edge shows its ends and its weight
+abbrev pub edge_shows : {E W Ix : Type 0}
+    → Showing {A = Edge E Ix} {C = Edge W Ix} edge_weight_in edge_with (PlainEdge E) (PlainEdge W)
+edge_shows = record {
+  shown = λ x. record { parent = x.parent; child = x.child; weight = x.weight };
+  shown_after = λ x. record { parent = x.parent; child = x.child; weight = x.weight };
+  shown_weight = weight_in;
+  shown_with = with_weight;
+  weights = λ x. refl;
+  changes = λ x v. refl;
+}
+
 -- what a loop over stored nodes and one over stored edges give
 pub record MapsStored {N E V W Ix F G I : Type 0} (of : ℕ → I) (step_f : F → I → Bor N → V → F → Type 0)
     (step_g : G → I → Bor E → W → G → Type 0) (f : F) (g : G) (nodes : List (Node N Ix)) (edges : List (Edge E Ix))
@@ -112,14 +136,8 @@ module _ {N E V W Ix F G I : Type 0} {of : ℕ → I} {step_f : F → I → Bor 
 
   pub IsMapped-stored : IsMapped of step_f step_g f g (stored_graph nodes edges) (stored_graph nodes' edges')
   IsMapped-stored = record {
-    nodes =
-        slots_from step_f of node_weight_in node_with (λ w. w) (λ w v. v) (λ x. x.weight) (λ x. x.weight) (λ x. refl)
-        (λ x v. refl) f 0 nodes nodes' m.for_nodes;
-    edges =
-        slots_from step_g of edge_weight_in edge_with weight_in with_weight
-        (λ x. record { parent = x.parent; child = x.child; weight = x.weight })
-        (λ x. record { parent = x.parent; child = x.child; weight = x.weight }) (λ x. refl) (λ x v. refl) g 0 edges
-        edges' m.for_edges;
+    nodes = slots_from step_f of node_weight_in node_with node_shows f 0 nodes nodes' m.for_nodes;
+    edges = slots_from step_g of edge_weight_in edge_with edge_shows g 0 edges edges' m.for_edges;
     out_lists = same_rows 0 nodes edges nodes' edges' firsts nexts Outgoing;
     in_lists = same_rows 0 nodes edges nodes' edges' firsts nexts Incoming;
     vacant_nodes = refl;

@@ -122,10 +122,10 @@ module _ {N E Ix : Type 0} {end : ℕ} {nodes : List (Node N Ix)} {edges : List 
       renamed_links nodes'' edges'' nexts differs red moves =
           let n_in' : get_or (ends_of dir edges) last 0 < length nodes' =
           omega (arith, n_in last (omega (arith, long)), nodes_kept) in
-          AreLinkedLists-renamed with_edge_unlinked apart_rows
-          no_e (last_there differs)
+          AreLinkedLists-renamed with_edge_unlinked
+          (record { apart = apart_rows; unlisted = no_e; there = last_there differs; differs = differs })
           (omega (arith, n_in', length-map nodes' (raw_first dir)))
-          (omega (arith, long, long', length-map edges' (raw_next dir))) (omega (arith, long, s.few_edges)) differs
+          (omega (arith, long, long', length-map edges' (raw_next dir))) (omega (arith, long, s.few_edges))
           (Redirected-row end dir nodes' edges' (map (without e) (lists_at dir g)) last _ e nodes'' edges''
           with_edge_unlinked (ap (λ l. get_or l last 0) ends_same) n_in' (omega (arith, s.few_edges, long')) red) moves
 
@@ -172,27 +172,33 @@ module _ {N E Ix : Type 0} {end : ℕ} {nodes : List (Node N Ix)} {edges : List 
           AreLinkedLists-cut end nexts e last with_edge_unlinked no_e
           (omega (arith, long, long', length-map edges' (raw_next dir))) same moves
 
+-- the nodes keep their weights, and the edges their weights and ends
+pub record AreRelinked {N E Ix : Type 0} (nodes nodes' : List (Node N Ix)) (edges edges' : List (Edge E Ix))
+    : Type 0 where
+  pub weights : map weight_of nodes' ≡ map weight_of nodes
+  pub plain : map plain_edge edges' ≡ map plain_edge edges
+  pub ends : (d : Direction) → ends_of d edges' ≡ ends_of d edges
+
 -- all of it
 pub IsDetached-from : {N E Ix : Type 0} {end : ℕ} {nodes : List (Node N Ix)} {edges : List (Edge E Ix)} {g : Graph N E}
     (s : Stores end nodes edges g) (e : ℕ) {last : ℕ}
     → e < length edges → length edges ≡ suc last
-    → (nodes' : List (Node N Ix)) (edges' : List (Edge E Ix)) → map weight_of nodes' ≡ map weight_of nodes
-    → map plain_edge edges' ≡ map plain_edge edges → ((d : Direction) → ends_of d edges' ≡ ends_of d edges)
+    → {nodes' : List (Node N Ix)} {edges' : List (Edge E Ix)} → AreRelinked nodes nodes' edges edges'
     → ((d : Direction) (nexts : List ℕ) → IsSwapRemoved (nexts_of d edges') nexts e last
     → AreLinkedLists end (firsts_of d nodes') nexts (map (map (renamed last e)) (map (without e) (lists_at d g))))
     → IsDetached end g e nodes' edges'
-IsDetached-from {N} {E} {Ix} {end} {nodes} {edges} {g} s e {last} e_in long nodes' edges' weights plain ends links x =
+IsDetached-from {N} {E} {Ix} {end} {nodes} {edges} {g} s e {last} e_in long {nodes'} {edges'} kept links x =
     let edges_long : length edges' ≡ length edges =
-    sym (length-map edges' plain_edge) ∙ ap length plain ∙ length-map edges plain_edge in
+    sym (length-map edges' plain_edge) ∙ ap length kept.plain ∙ length-map edges plain_edge in
     let nodes_long : length nodes' ≡ length nodes =
-    sym (length-map nodes' weight_of) ∙ ap length weights ∙ length-map nodes weight_of in
+    sym (length-map nodes' weight_of) ∙ ap length kept.weights ∙ length-map nodes weight_of in
     let moves = IsSwapRemoved-from edges' e last x (omega (arith, e_in, edges_long)) (edges_long ∙ long) in
     let count : length g.edges - 1 ≡ last = omega (arith, ap length s.edges_are, length-map edges plain_edge, long) in
     let listed : (d : Direction)
     → ListsEach (ends_of d (swap_remove edges' e x)) (map (map (renamed last e)) (map (without e) (lists_at d g))) =
     λ d.
     ListsEach-removed (ends_of d edges') (ends_of d (swap_remove edges' e x)) (lists_at d g) e last
-    (subst (λ l. ListsEach l (lists_at d g)) (sym (ends d)) (s.listed d))
+    (subst (λ l. ListsEach l (lists_at d g)) (sym (kept.ends d)) (s.listed d))
     (omega (arith, e_in, edges_long, length-map edges' (end_at d)))
     (IsSwapRemoved-mapped (end_at d) edges' (swap_remove edges' e x) e last moves) in
     let linked : (d : Direction)
@@ -209,10 +215,10 @@ IsDetached-from {N} {E} {Ix} {end} {nodes} {edges} {g} s e {last} e_in long node
     ) in
     rw count (
     record {
-      nodes_are = s.nodes_are ∙ sym weights;
+      nodes_are = s.nodes_are ∙ sym kept.weights;
       edges_are =
           ap (λ k. take k (set g.edges e (get_or g.edges k None))) (sym count)
-          ∙ ap (λ l. swap_remove l e None) (s.edges_are ∙ sym plain)
+          ∙ ap (λ l. swap_remove l e None) (s.edges_are ∙ sym kept.plain)
           ∙ sym (map-swap_remove plain_edge edges' e x None (omega (arith, e_in, edges_long)));
       no_vacant_node = s.no_vacant_node;
       no_vacant_edge = s.no_vacant_edge;
@@ -269,8 +275,11 @@ module _ {N E Ix : Type 0} {end : ℕ} (nodes : List (Node N Ix)) (edges : List 
 
       pub detached_last : e ≡ last → IsDetached end g e n2 e2
       detached_last same =
-          IsDetached-from s e e_in long n2 e2 (s2.keeps.weights ∙ s1.keeps.weights)
-          (s2.keeps_edges.edges ∙ s1.keeps_edges.edges) ends_2 (elim [
+          IsDetached-from s e e_in long (record {
+            weights = s2.keeps.weights ∙ s1.keeps.weights;
+            plain = s2.keeps_edges.edges ∙ s1.keeps_edges.edges;
+            ends = ends_2;
+          }) (elim [
             | Outgoing ↦ λ nexts moves.
                 cut_links s e e_in long Outgoing n2 e2 (ends_2 Outgoing) out_2 nexts same moves
             | Incoming ↦ λ nexts moves.
@@ -295,10 +304,11 @@ module _ {N E Ix : Type 0} {end : ℕ} (nodes : List (Node N Ix)) (edges : List 
         module _ {n4 : List (Node N Ix)} {e4 : List (Edge E Ix)} (s4 : Step Incoming n3 e3 last e n4 e4) where
           pub detached_other : e ≢ last → IsDetached end g e n4 e4
           detached_other differs =
-              IsDetached-from s e e_in long n4 e4
-              (s4.keeps.weights ∙ s3.keeps.weights ∙ s2.keeps.weights ∙ s1.keeps.weights)
-              (s4.keeps_edges.edges ∙ s3.keeps_edges.edges ∙ s2.keeps_edges.edges ∙ s1.keeps_edges.edges)
-              (λ d. s4.keeps_edges.ends d ∙ ends_3 d) (elim [
+              IsDetached-from s e e_in long (record {
+                weights = s4.keeps.weights ∙ s3.keeps.weights ∙ s2.keeps.weights ∙ s1.keeps.weights;
+                plain = s4.keeps_edges.edges ∙ s3.keeps_edges.edges ∙ s2.keeps_edges.edges ∙ s1.keeps_edges.edges;
+                ends = λ d. s4.keeps_edges.ends d ∙ ends_3 d;
+              }) (elim [
                 | Outgoing ↦ λ nexts moves.
                     let at_3 =
                     renamed_links s e e_in long Outgoing n2 e2 (ends_2 Outgoing) out_2 n3 e3

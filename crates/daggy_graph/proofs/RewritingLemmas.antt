@@ -8,14 +8,14 @@ use Rattle.daggy_base.specs.declared.index.Direction.TheVariants.{Outgoing, Inco
 use Rattle.daggy_base.specs.Graph.{Graph, Edge as PlainEdge}
 use Rattle.daggy_cells.specs.declared.cell.Node.{Node}
 use Rattle.daggy_cells.specs.declared.cell.Edge.{Edge}
-use Rattle.daggy_base.specs.Mapping.{CalledAt, weight_in, with_weight}
+use Rattle.daggy_base.specs.Mapping.{CalledAt}
 use Rattle.daggy_cells.specs.MappedCells.{MapsCells, node_weight_in, node_with, edge_weight_in, edge_with}
 use Rattle.daggy_cells.specs.Raw.{raw_first, raw_next}
 use Rattle.daggy_base.specs.Rewriting.{Leaves, RewritesNodes, RewritesEdges}
 use Rattle.daggy_cells.specs.Fields.{end_at, firsts_of, nexts_of, ends_of, weight_of, plain_edge}
 use Rattle.daggy_graph.specs.Stored.{stored_graph, Stores}
 use Rattle.daggy_cells.proofs.MappingLemmas.{maps_keep, slots_from}
-use Rattle.daggy_graph.proofs.MappingLemmas.{same_rows, Stores-relinked}
+use Rattle.daggy_graph.proofs.MappingLemmas.{same_rows, Stores-relinked, node_shows, edge_shows}
 
 module _ {C : Type 0} where
   get_middle : (xs zs : List C) (z d : C) → get_or (xs ++ z ∷ zs) (length xs) d ≡ z
@@ -92,8 +92,7 @@ module _ {N E Ix F I : Type 0} (step : F → I → MutBor N → Unit {0} → Mut
   pub RewritesNodes-stored : RewritesNodes of step f (stored_graph nodes edges) (stored_graph nodes' edges)
   RewritesNodes-stored = (
     map weight_of nodes',
-    slots_from (Leaves step) of node_weight_in node_with (λ w. w) (λ w v. v) (λ x. x.weight) (λ x. x.weight) (λ x. refl)
-        (λ x v. refl) f 0 nodes nodes' mapped,
+    slots_from (Leaves step) of node_weight_in node_with node_shows f 0 nodes nodes' mapped,
     rows_same (map weight_of nodes') (map plain_edge edges)
         (same_rows 0 nodes edges nodes' edges firsts (λ d. refl) Outgoing)
         (same_rows 0 nodes edges nodes' edges firsts (λ d. refl) Incoming),
@@ -130,10 +129,7 @@ module _ {N E Ix F I : Type 0} (step : F → I → MutBor E → Unit {0} → Mut
   pub RewritesEdges-stored : RewritesEdges of step f (stored_graph nodes edges) (stored_graph nodes edges')
   RewritesEdges-stored = (
     map plain_edge edges',
-    slots_from (Leaves step) of edge_weight_in edge_with weight_in with_weight
-        (λ x. record { parent = x.parent; child = x.child; weight = x.weight })
-        (λ x. record { parent = x.parent; child = x.child; weight = x.weight }) (λ x. refl) (λ x v. refl) f 0 edges
-        edges' mapped,
+    slots_from (Leaves step) of edge_weight_in edge_with edge_shows f 0 edges edges' mapped,
     rows_same (map weight_of nodes) (map plain_edge edges')
         (same_rows 0 nodes edges nodes edges' (λ d. refl) nexts Outgoing)
         (same_rows 0 nodes edges nodes edges' (λ d. refl) nexts Incoming),

@@ -32,6 +32,12 @@ module _ {N E Ix : Type 0} (end : ℕ) (nodes : List (Node N Ix)) (edges : List 
   pub Stores-itself : (g : Graph N E) → Stores end nodes edges g → Stores end nodes edges (stored_graph nodes edges)
   Stores-itself g s = subst (Stores end nodes edges) (sym (stored_is g s)) s
 
+-- the first links of a and b lead to the edge e, and the nodes have their weights and their other links
+pub record AreLedTo {N Ix : Type 0} (nodes nodes' : List (Node N Ix)) (a b e : ℕ) : Type 0 where
+  pub weights : map weight_of nodes' ≡ map weight_of nodes
+  pub outs : firsts_of Outgoing nodes' ≡ set (firsts_of Outgoing nodes) a e
+  pub ins : firsts_of Incoming nodes' ≡ set (firsts_of Incoming nodes) b e
+
 -- one side of a graph
 module _ {N E Ix : Type 0} (end : ℕ) (nodes : List (Node N Ix)) (edges : List (Edge E Ix)) (g : Graph N E)
     (s : Stores end nodes edges g) where
@@ -58,9 +64,7 @@ module _ {N E Ix : Type 0} (end : ℕ) (nodes : List (Node N Ix)) (edges : List 
       })
 
   pub Stores-edge : (u v : ℕ) (w : E) → u < length nodes → v < length nodes → length edges < end
-      → {nodes' : List (Node N Ix)} → map weight_of nodes' ≡ map weight_of nodes
-      → firsts_of Outgoing nodes' ≡ set (firsts_of Outgoing nodes) u (length edges)
-      → firsts_of Incoming nodes' ≡ set (firsts_of Incoming nodes) v (length edges)
+      → {nodes' : List (Node N Ix)} → AreLedTo nodes nodes' u v (length edges)
       → Stores end nodes' (edges ++ (record {
         weight = w;
         parent = u;
@@ -68,7 +72,7 @@ module _ {N E Ix : Type 0} (end : ℕ) (nodes : List (Node N Ix)) (edges : List 
         next_out = get_or (firsts_of Outgoing nodes) u 0;
         next_in = get_or (firsts_of Incoming nodes) v 0;
       }) ∷ []) (with_edge g u v w)
-  Stores-edge u v w u_in v_in few {nodes'} same_weights outs ins =
+  Stores-edge u v w u_in v_in few {nodes'} led =
       let x : Edge E Ix = record {
         weight = w;
         parent = u;
@@ -78,20 +82,20 @@ module _ {N E Ix : Type 0} (end : ℕ) (nodes : List (Node N Ix)) (edges : List 
       } in
       let index : length g.edges ≡ length edges = ap length s.edges_are ∙ length-map edges plain_edge in
       let same_nodes : length nodes' ≡ length nodes =
-      sym (length-map nodes' weight_of) ∙ ap length same_weights ∙ length-map nodes weight_of in
+      sym (length-map nodes' weight_of) ∙ ap length led.weights ∙ length-map nodes weight_of in
       rw (s.no_vacant_edge, index) (
       record {
-        nodes_are = s.nodes_are ∙ sym same_weights;
+        nodes_are = s.nodes_are ∙ sym led.weights;
         edges_are = ap (λ l. l ++ plain_edge x ∷ []) s.edges_are ∙ sym (map_push plain_edge edges x);
         no_vacant_node = s.no_vacant_node;
         no_vacant_edge = refl;
         linked = elim [
           | Outgoing ↦
-              rw (outs, map_push (raw_next Outgoing) edges x)
+              rw (led.outs, map_push (raw_next Outgoing) edges x)
               (AreLinkedLists-edge end _ _ _ u (length edges) (sym (length-map edges (raw_next Outgoing)))
               (s.linked Outgoing) (omega (arith, u_in, length-map nodes (raw_first Outgoing))))
           | Incoming ↦
-              rw (ins, map_push (raw_next Incoming) edges x)
+              rw (led.ins, map_push (raw_next Incoming) edges x)
               (AreLinkedLists-edge end _ _ _ v (length edges) (sym (length-map edges (raw_next Incoming)))
               (s.linked Incoming) (omega (arith, v_in, length-map nodes (raw_first Incoming))))
         ];
@@ -137,12 +141,9 @@ module _ {N E Ix : Type 0} (end : ℕ) (nodes : List (Node N Ix)) (edges : List 
       }
 
   -- in the words of the code
-  pub Stores-edge_code : (a b : ℕ) {e : ℕ} (w : E)
+  pub Stores-edge_code : {a b e : ℕ} {w : E}
       → e ≡ length edges → a < length nodes → b < length nodes → length edges < end
-      → {nodes' : List (Node N Ix)} → map weight_of nodes' ≡ map weight_of nodes
-      → firsts_of Outgoing nodes' ≡ set (firsts_of Outgoing nodes) a e
-      → firsts_of Incoming nodes' ≡ set (firsts_of Incoming nodes) b e
-      → {x : Edge E Ix} → x ≡ record {
+      → {nodes' : List (Node N Ix)} → AreLedTo nodes nodes' a b e → {x : Edge E Ix} → x ≡ record {
         weight = w;
         parent = a;
         child = b;
@@ -150,9 +151,8 @@ module _ {N E Ix : Type 0} (end : ℕ) (nodes : List (Node N Ix)) (edges : List 
         next_in = get_or (firsts_of Incoming nodes) b 0;
       }
       → {edges' : List (Edge E Ix)} → edges' ≡ edges ++ x ∷ [] → Stores end nodes' edges' (with_edge g a b w)
-  Stores-edge_code a b w e_is a_in b_in few {nodes'} weights outs ins x_is pushed =
-      rw (pushed, x_is) (Stores-edge a b w a_in b_in few weights
-      (outs ∙ ap (set (firsts_of Outgoing nodes) a) e_is) (ins ∙ ap (set (firsts_of Incoming nodes) b) e_is))
+  Stores-edge_code {a} {b} {e} {w} e_is a_in b_in few {nodes'} led x_is pushed =
+      rw (pushed, x_is) (Stores-edge a b w a_in b_in few (subst (AreLedTo nodes nodes' a b) e_is led))
 
   pub Stores-node_code : (w : N)
       → length nodes < end → {x : Node N Ix} → x ≡ record { weight = w; first_out = end; first_in = end }

@@ -440,7 +440,7 @@ module _ {N E Ix : Type 0} (end : ℕ) where
         ∙ ap (graph_of_slots weights) shown_as)
         (edge_left s y none next index_left))
 
-    pub built_edge_taken : (a b : ℕ) (w : E) {y : Edge (Option E) Ix} {e : ℕ} (nodes' : List (Node (Option N) Ix))
+    pub built_edge_taken : {a b : ℕ} {w : E} {y : Edge (Option E) Ix} {e : ℕ} {nodes' : List (Node (Option N) Ix)}
         → IsSome (slot (map weight_of nodes) a) → IsSome (slot (map weight_of nodes) b) → length edges < end
         → e ≡ length edges
         → y ≡ record {
@@ -450,10 +450,8 @@ module _ {N E Ix : Type 0} (end : ℕ) where
           next_out = get_or (firsts_of Outgoing nodes) a 0;
           next_in = get_or (firsts_of Incoming nodes) b 0;
         }
-        → map weight_of nodes' ≡ map weight_of nodes → firsts_of Outgoing nodes' ≡ set (firsts_of Outgoing nodes) a e
-        → firsts_of Incoming nodes' ≡ set (firsts_of Incoming nodes) b e
-        → Built nodes' (edges ++ y ∷ []) node_head edge_head n (m + 1)
-    built_edge_taken a b w nodes' has_a has_b index_left e_is is weights outs ins =
+        → AreLedTo nodes nodes' a b e → Built nodes' (edges ++ y ∷ []) node_head edge_head n (m + 1)
+    built_edge_taken {a} {b} {w} {nodes' = nodes'} has_a has_b index_left e_is is led =
         let old = map weight_of nodes in
         let cell : Edge (Option E) Ix = record {
           weight = Some w;
@@ -465,15 +463,11 @@ module _ {N E Ix : Type 0} (end : ℕ) where
         let from = some_is (slot old a) has_a in
         let into = some_is (slot old b) has_b in
         let whole =
-        edge_taken s a b w from.1 into.1 index_left record {
-          weights = weights;
-          outs = outs ∙ ap (set (firsts_of Outgoing nodes) a) e_is;
-          ins = ins ∙ ap (set (firsts_of Incoming nodes) b) e_is;
-        } in
+        edge_taken s a b w from.1 into.1 index_left (subst (AreLedTo nodes nodes' a b) e_is led) in
         rw is (
         subst (Stores end nodes' (edges ++ cell ∷ []) node_head edge_head n (m + 1))
         (of_slots_taken old (map plain_edge edges) a b w (length edges) (sym (length-map edges plain_edge))
         (slot_inside old a from.0 from.1) (slot_inside old b into.0 into.1)
         ∙ ap (graph_of_slots old) (sym (map_push plain_edge edges cell))
-        ∙ ap (λ l. graph_of_slots l (map plain_edge (edges ++ cell ∷ []))) (sym weights))
+        ∙ ap (λ l. graph_of_slots l (map plain_edge (edges ++ cell ∷ []))) (sym led.weights))
         whole)

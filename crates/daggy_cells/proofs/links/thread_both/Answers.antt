@@ -40,8 +40,16 @@ returns-clause-links g c =
     threads_both (numbers_of g.Ix.IndexType.number c.args.order.now)
     (ap (map g.Ix.IndexType.number) c.as_slice.ensures.value)
     (ap (map g.Ix.IndexType.number) c.as_slice-2.ensures.value)
-    c.thread.ensures.links c.thread.ensures.nodes c.thread.ensures.edges c.thread-2.ensures.links
-    c.thread-2.ensures.nodes c.thread-2.ensures.edges
+    (record {
+      links = c.thread.ensures.links;
+      keeps = c.thread.ensures.nodes;
+      keeps_edges = c.thread.ensures.edges;
+    })
+    (record {
+      links = c.thread-2.ensures.links;
+      keeps = c.thread-2.ensures.nodes;
+      keeps_edges = c.thread-2.ensures.edges;
+    })
 
 pub returns-clause-nodes : goal.returns-clause-nodes
 returns-clause-nodes g c = c.thread-2.ensures.nodes.weights ∙ c.thread.ensures.nodes.weights

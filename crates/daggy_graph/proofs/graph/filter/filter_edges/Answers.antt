@@ -25,7 +25,7 @@ each-preserved-in-None g c =
       c.each.invariant.3,
       c.each.invariant.4,
       EdgesBelow-passed (goal.G-step g) g.Ix.IndexType.of c.args.names.now.items c.args.g (map plain_edge edges) _
-          c.each.g _ c.each.i slots read lost c.each.invariant.5,
+          c.each.g _ slots read lost c.each.invariant.5,
     )
 
 pub keep_edge-requires-clause-parent : goal.keep_edge-requires-clause-parent
