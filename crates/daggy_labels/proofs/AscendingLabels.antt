@@ -242,19 +242,28 @@ module _ {end : ℕ} {labels nodes : List ℕ} {a from size after : ℕ} (s : Ha
           ascending = shorter;
         }
 
+  -- `new` labels the nodes of the gap's run up to `mid`, below `high`, which is the label of the node after the gap or,
+  -- if none follows, below 2 ^ 64; the other nodes' labels are kept
+  pub record FillsGap (new : List ℕ) (mid high : ℕ) : Type 0 where
+    pub run : LabelsAscend new (get_or labels a 0) s.run (mid + 1)
+    pub others : (k : ℕ) → (Mem k s.run → ⊥) → get_or new k 0 ≡ get_or labels k 0
+    pub fits : mid < high
+    pub at_end : after ≡ end → high < 2 ^ 64
+    pub at_node : after ≢ end → high ≡ get_or labels after 0
+
   -- the gap is filled
-  pub gap_filled : (new : List ℕ) (mid high : ℕ) → Unique nodes → LabelsAscend new (get_or labels a 0) s.run (mid + 1)
-      → ((k : ℕ) → (Mem k s.run → ⊥) → get_or new k 0 ≡ get_or labels k 0) → mid < high → (after ≡ end → high < 2 ^ 64)
-      → (after ≢ end → high ≡ get_or labels after 0) → (Mem end nodes → ⊥) → LabelsAscend new 0 nodes (2 ^ 64)
-  gap_filled new mid high once run others gap_fits at_end at_node real =
+  pub gap_filled : (new : List ℕ) (mid high : ℕ) → FillsGap new mid high → Unique nodes → (Mem end nodes → ⊥)
+      → LabelsAscend new 0 nodes (2 ^ 64)
+  gap_filled new mid high fills once real =
       let U : List ℕ → Type 0 = λ z. Unique z in
       let u : Unique (s.before ++ a ∷ (s.run ++ s.behind)) = subst U s.is once in
       let v : Unique (a ∷ (s.run ++ s.behind)) = unique_right s.before (a ∷ (s.run ++ s.behind)) u in
-      let keep_a : get_or new a 0 ≡ get_or labels a 0 = others a (λ m. v.0 (mem_left s.run s.behind a m)) in
+      let keep_a : get_or new a 0 ≡ get_or labels a 0 = fills.others a (λ m. v.0 (mem_left s.run s.behind a m)) in
       let keep_before : (k : ℕ) → Mem k s.before → get_or new k 0 ≡ get_or labels k 0 = λ k m.
-      others k (λ r. unique_cross s.before (a ∷ (s.run ++ s.behind)) u k m (inr (mem_left s.run s.behind k r))) in
+      fills.others k
+      (λ r. unique_cross s.before (a ∷ (s.run ++ s.behind)) u k m (inr (mem_left s.run s.behind k r))) in
       let keep_behind : (k : ℕ) → Mem k s.behind → get_or new k 0 ≡ get_or labels k 0 = λ k m.
-      others k (λ r. unique_cross s.run s.behind v.1 k r m) in
+      fills.others k (λ r. unique_cross s.run s.behind v.1 k r m) in
       let left : LabelsAscend new 0 s.before (get_or labels a 0) =
       asc_same labels new 0 s.before (get_or labels a 0) keep_before
       (asc_left labels 0 s.before a s.behind (2 ^ 64) s.ascending) in
@@ -267,15 +276,15 @@ module _ {end : ℕ} {labels nodes : List ℕ} {a from size after : ℕ} (s : Ha
       let Q : ℕ → Type 0 = λ z. LabelsAscend new z (s.run ++ s.behind) (2 ^ 64) in
       let R : List ℕ → Type 0 = λ z. LabelsAscend new 0 z (2 ^ 64) in
       subst R (sym s.is) (asc_append new 0 s.before a (s.run ++ s.behind) (2 ^ 64) (subst P (sym keep_a) left)
-      (subst Q (sym keep_a) (asc_then new (get_or labels a 0) s.run mid s.behind (2 ^ 64) run right)))
+      (subst Q (sym keep_a) (asc_then new (get_or labels a 0) s.run mid s.behind (2 ^ 64) fills.run right)))
     where
       above : (xs : List ℕ) → after ≡ first_of end xs → (Mem end xs → ⊥)
           → LabelsAscend labels (get_or labels a 0) xs (2 ^ 64) → LabelsAscend labels mid xs (2 ^ 64)
-      above [] is none c = omega (arith, gap_fits, at_end is)
+      above [] is none c = omega (arith, fills.fits, fills.at_end is)
       above (x ∷ xs) is none c =
           let high_is : high ≡ get_or labels x 0 =
-          at_node (λ e. none (inl (sym e ∙ is))) ∙ ap (λ z. get_or labels z 0) is in
-          (omega (arith, gap_fits, high_is), c.1)
+          fills.at_node (λ e. none (inl (sym e ∙ is))) ∙ ap (λ z. get_or labels z 0) is in
+          (omega (arith, fills.fits, high_is), c.1)
 
 -- a node that was put last, or first
 pub gap_last : {end : ℕ} {labels nodes : List ℕ} {last n : ℕ}
@@ -313,9 +322,13 @@ unfolding gap_last
 last_labelled end {labels} {nodes} {last} {n} h once real more within label above below =
     let new = set labels n label in
     let here : get_or new n 0 ≡ label = get_or-set_same labels n label 0 within in
-    gap_filled (gap_last {end = end} h more) new label (label + 1) once
-    (omega (arith, here, above), omega (arith, here)) (λ k d. get_or-set_other labels n k label 0 (λ e. d (inl e)))
-    (omega arith) (λ e. below) (λ d. absurd (d refl)) real
+    gap_filled (gap_last {end = end} h more) new label (label + 1) record {
+      run = (omega (arith, here, above), omega (arith, here));
+      others = λ k d. get_or-set_other labels n k label 0 (λ e. d (inl e));
+      fits = omega arith;
+      at_end = λ e. below;
+      at_node = λ d. absurd (d refl);
+    } once real
 
 pub first_labelled : {end : ℕ} {labels nodes : List ℕ} {first n : ℕ} (h : HasFirst end labels nodes first n)
     → Unique nodes → (length nodes ≡ 1 → ⊥) → n < length labels → (label : ℕ) → 0 < label

@@ -81,11 +81,15 @@ returns-then-size-gap-clause-ascending g c =
     let mid : ℕ = c.index-low.result.now + c.gap_between-gap.result * c.window.size in
     let P : ℕ → Type 0 = λ z. LabelsAscend c.number.new.labels.items z s.run (mid + 1) in
     λ _.
-    gap_filled s c.number.new.labels.items mid c.label_or_end-high.result once.1 (subst P low_is run)
-    (λ k d. others k (λ m. d (contains_mem s.run k m))
-    ∙ ap (λ (v : Vec ℕ Global). get_or v.items k 0) c.window.invariant.0)
-    (c.gap_between-gap.ensures.fits c.if-gap-gt0.true) (λ is. omega (arith, c.label_or_end-high.ensures.end is)) at_node
-    once.0
+    gap_filled s c.number.new.labels.items mid c.label_or_end-high.result record {
+      run = subst P low_is run;
+      others = λ k d.
+          others k (λ m. d (contains_mem s.run k m))
+          ∙ ap (λ (v : Vec ℕ Global). get_or v.items k 0) c.window.invariant.0;
+      fits = c.gap_between-gap.ensures.fits c.if-gap-gt0.true;
+      at_end = λ is. omega (arith, c.label_or_end-high.ensures.end is);
+      at_node = at_node;
+    } once.1 once.0
 
 pub returns-then-size-gap-clause-others : goal.returns-then-size-gap-clause-others
 returns-then-size-gap-clause-others g c =
