@@ -37,16 +37,24 @@ pair_within n flags a b has =
           absurd (false≢true (sym (ap (λ xs. get_or xs b false) (get_or_past (rows n flags) a [] short)) ∙ has))
     ]
 
--- what the test of a pair within tells, in the words of the code
-pub pair_tested : (n : ℕ) (flags : List Bool) {matrix : List (List Bool)} {a b row column i : ℕ} {answer : Bool}
-    → rows n flags ≡ matrix → row ≡ a → column ≡ b → row < n → column < n → i ≡ row * n + column
-    → answer ≡ get_or flags i false
-    → IsTrue answer ↔ HasPair matrix a b
-pair_tested n flags {matrix} {a} {b} {row} {column} {i} {answer} is row_is column_is row_low column_low at gives =
+-- the pair of a and b, both below n, has its flag at the place i; row and column are a and b in the code
+pub record HasPlace (n a b i : ℕ) : Type 0 where
+  pub row : ℕ
+  pub column : ℕ
+  pub row_is : row ≡ a
+  pub column_is : column ≡ b
+  pub row_low : row < n
+  pub column_low : column < n
+  pub at : i ≡ row * n + column
+
+-- what the test of a pair within tells
+pub pair_tested : (n : ℕ) (flags : List Bool) {matrix : List (List Bool)} {a b i : ℕ} {answer : Bool}
+    → rows n flags ≡ matrix → HasPlace n a b i → answer ≡ get_or flags i false → IsTrue answer ↔ HasPair matrix a b
+pair_tested n flags {matrix} {a} {b} {i} {answer} is p gives =
     let same : answer ≡ get_or (get_or matrix a []) b false =
-    gives ∙ ap (λ k. get_or flags k false) at ∙ sym (flag_of_pair n flags row column row_low column_low)
-    ∙ ap (λ k. get_or (get_or (rows n flags) k []) column false) row_is
-    ∙ ap (λ k. get_or (get_or (rows n flags) a []) k false) column_is
+    gives ∙ ap (λ k. get_or flags k false) p.at ∙ sym (flag_of_pair n flags p.row p.column p.row_low p.column_low)
+    ∙ ap (λ k. get_or (get_or (rows n flags) k []) p.column false) p.row_is
+    ∙ ap (λ k. get_or (get_or (rows n flags) a []) k false) p.column_is
     ∙ ap (λ m. get_or (get_or m a []) b false) is in
     (λ h. sym same ∙ h, λ h. same ∙ h)
 
@@ -67,30 +75,29 @@ apart n a b u v b_low v_low same =
       ]
     ]
 
--- the pairs after one was set, in the words of the code
-pub pair_set : (n : ℕ) (flags : List Bool) {matrix : List (List Bool)} {a b row column i : ℕ}
-    → rows n flags ≡ matrix → length flags ≡ n * n
-    → row ≡ a → column ≡ b → row < n → column < n → i ≡ row * n + column → i < n * n
+-- the pairs after one was set
+pub pair_set : (n : ℕ) (flags : List Bool) {matrix : List (List Bool)} {a b i : ℕ}
+    → rows n flags ≡ matrix → length flags ≡ n * n → HasPlace n a b i → i < n * n
     → (u v : ℕ) → HasPair (rows n (set flags i true)) u v ↔ (((u ≡ a) × (v ≡ b)) ⊎ HasPair matrix u v)
-pair_set n flags {matrix} {a} {b} {row} {column} {i} is sized row_is column_is row_low column_low at within u v = (
+pair_set n flags {matrix} {a} {b} {i} is sized p within u v = (
   λ has.
       let low = pair_within n (set flags i true) u v has in
       let flag : get_or (set flags i true) (u * n + v) false ≡ true =
       sym (flag_of_pair n (set flags i true) u v low.0 low.1) ∙ has in
       elim (cases_eq (u * n + v) i) [
-        | inl same ↦ let here = apart n row column u v column_low low.1 (same ∙ at) in
-            inl (here.0 ∙ row_is, here.1 ∙ column_is)
+        | inl same ↦ let here = apart n p.row p.column u v p.column_low low.1 (same ∙ p.at) in
+            inl (here.0 ∙ p.row_is, here.1 ∙ p.column_is)
         | inr other ↦ inr (
             sym (ap (λ m. get_or (get_or m u []) v false) is) ∙ flag_of_pair n flags u v low.0 low.1
             ∙ sym (get_or-set_other flags i (u * n + v) true false other) ∙ flag)
       ],
   λ either. elim either [
     | inl here ↦
-        let same_row : u ≡ row = here.0 ∙ sym row_is in
-        let same_column : v ≡ column = here.1 ∙ sym column_is in
-        let place : u * n + v ≡ i = ap (λ k. k * n + v) same_row ∙ ap (λ k. row * n + k) same_column ∙ sym at in
-        flag_of_pair n (set flags i true) u v (omega (arith, same_row, row_low))
-        (omega (arith, same_column, column_low))
+        let same_row : u ≡ p.row = here.0 ∙ sym p.row_is in
+        let same_column : v ≡ p.column = here.1 ∙ sym p.column_is in
+        let place : u * n + v ≡ i = ap (λ k. k * n + v) same_row ∙ ap (λ k. p.row * n + k) same_column ∙ sym p.at in
+        flag_of_pair n (set flags i true) u v (omega (arith, same_row, p.row_low))
+        (omega (arith, same_column, p.column_low))
         ∙ ap (λ k. get_or (set flags i true) k false) place
         ∙ get_or-set_same flags i true false (omega (arith, sized, within))
     | inr had ↦

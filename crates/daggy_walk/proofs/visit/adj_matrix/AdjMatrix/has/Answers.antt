@@ -7,9 +7,15 @@ pub returns-then-column-self : goal.returns-then-column-self
 returns-then-column-self g c =
     let low : (c.index-row.result < c.self.inside.bound) × (c.index-column.result < c.self.inside.bound) =
     elim c.if-row-self.branch [ then-row-self w ↦ search rules | else-row-self w ↦ search rules ] in
-    pair_tested c.self.inside.bound c.self.inside.bits
-    c.self.view_is c.index-row.ensures.value c.index-column.ensures.value low.0 low.1 c.place.ensures.value
-    c.get.ensures
+    pair_tested c.self.inside.bound c.self.inside.bits c.self.view_is record {
+      row = c.index-row.result;
+      column = c.index-column.result;
+      row_is = c.index-row.ensures.value;
+      column_is = c.index-column.ensures.value;
+      row_low = low.0;
+      column_low = low.1;
+      at = c.place.ensures.value;
+    } c.get.ensures
 
 pub returns-else-column-self : goal.returns-else-column-self
 returns-else-column-self g c = (

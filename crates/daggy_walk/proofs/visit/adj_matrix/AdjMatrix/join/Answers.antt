@@ -41,6 +41,12 @@ returns-clause-joined g c =
       length-rows c.self.inside.bound c.self.inside.bits,
     ) in
     rw c.set.ensures.after
-    (pair_set c.self.inside.bound c.self.inside.bits
-    c.self.view_is c.self.invariant.0 c.index.ensures.value c.index-2.ensures.value row column c.place-i.ensures.value
-    c.place-i.ensures.within)
+    (pair_set c.self.inside.bound c.self.inside.bits c.self.view_is c.self.invariant.0 record {
+      row = c.index.result;
+      column = c.index-2.result;
+      row_is = c.index.ensures.value;
+      column_is = c.index-2.ensures.value;
+      row_low = row;
+      column_low = column;
+      at = c.place-i.ensures.value;
+    } c.place-i.ensures.within)
