@@ -142,10 +142,10 @@ module _ (d : Data) (vs : List Value) (array : Some (items_of (map view vs)) ≡
   pub no_row : (bound : ℕ) → (length vs ≡ 2 → ⊥) → None ≡ row_in bound d
   no_row bound h = sym (ap (option_and_then (row bound)) (array_some d vs array) ∙ not_row bound vs h)
 
-  pub row_found : (bound : ℕ) (a b : Value)
-      → length vs ≡ 2 → a ≡ get_or vs 0 a → b ≡ get_or vs 1 b → (x y : Option (List ℕ)) → x ≡ indices_in bound (view a)
+  pub row_found : (bound : ℕ) (a : Value) {b : Value}
+      → length vs ≡ 2 → a ≡ get_or vs 0 a → b ≡ get_or vs 1 b → {x y : Option (List ℕ)} → x ≡ indices_in bound (view a)
       → y ≡ indices_in bound (view b) → option_and_then (λ p. option_map (λ c. (p, c)) y) x ≡ row_in bound d
-  row_found bound a b long e f x y first second =
+  row_found bound a {b} long e f {x} {y} first second =
       ap (λ k. option_and_then (λ p. option_map (λ c. (p, c)) y) k) first
       ∙ (ap (λ k. option_and_then (λ p. option_map (λ c. (p, c)) k) (indices_in bound (view a))) second
       ∙ sym (ap (option_and_then (row bound)) (array_some d vs array) ∙ row_is bound vs a b long e f))

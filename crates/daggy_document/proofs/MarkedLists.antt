@@ -130,6 +130,11 @@ pub count_some : {N : Type 0} (x : N) (slots : List (Option N))
     → count_by is_some (Some x ∷ slots) ≡ 1 + count_by is_some slots
 count_some x slots = sum_by-cons (λ y. cond (is_some y) 1 0) (Some x) slots
 
+-- an edge stands in the list of an existing node
+pub record IsInListOf {N : Type 0} (slots : List (Option N)) (lists : List (List ℕ)) (n e : ℕ) : Type 0 where
+  pub exists : IsSome (slot slots n)
+  pub listed : Contains (row (lists_by_slots slots lists) n) e
+
 module _ {N : Type 0} (P : ℕ → ℕ → Bool) where
   pub rows_count : (i : ℕ) (m : List Bool) (slots : List (Option N)) (lists : List (List ℕ))
       → AllMarked P i m slots lists → length lists ≡ count_by is_some slots
@@ -191,15 +196,21 @@ module _ {N : Type 0} (P : ℕ → ℕ → Bool) where
   -- what is marked stands in a list of a node
   pub stands_in : (m : List Bool) (slots : List (Option N)) (lists : List (List ℕ)) (e : ℕ)
       → get_or (marked_by m slots lists) e false ≡ true
-      → (get_or m e false ≡ true) ⊎ ((j : ℕ) × IsSome (slot slots j) × Contains (row (lists_by_slots slots lists) j) e)
+      → (get_or m e false ≡ true) ⊎ ((j : ℕ) × IsInListOf slots lists j e)
   stands_in m [] lists e h = inl h
   stands_in m (None ∷ slots) lists e h =
-      elim (stands_in m slots lists e h) [ inl a ↦ inl a | inr b ↦ inr (suc b.0, b.1, b.2) ]
+      elim (stands_in m slots lists e h) [
+        | inl a ↦ inl a
+        | inr b ↦ inr (suc b.0, record { exists = b.1.exists; listed = b.1.listed })
+      ]
   stands_in m (Some x ∷ slots) [] e h = inl h
   stands_in m (Some x ∷ slots) (l ∷ lists) e h =
       elim (stands_in (marked_with m l) slots lists e h) [
-        | inl a ↦ elim (marks_came m l e a) [ inl old ↦ inl old | inr new ↦ inr (0, refl, new) ]
-        | inr b ↦ inr (suc b.0, b.1, b.2)
+        | inl a ↦ elim (marks_came m l e a) [
+          | inl old ↦ inl old
+          | inr new ↦ inr (0, record { exists = refl; listed = new })
+        ]
+        | inr b ↦ inr (suc b.0, record { exists = b.1.exists; listed = b.1.listed })
       ]
 
   pub stays_marked : (m : List Bool) (slots : List (Option N)) (lists : List (List ℕ)) (e : ℕ)
@@ -210,16 +221,19 @@ module _ {N : Type 0} (P : ℕ → ℕ → Bool) where
   stays_marked m (Some x ∷ slots) (l ∷ lists) e h = stays_marked (marked_with m l) slots lists e (marks_stay m l e h)
 
   pub gets_marked : (i : ℕ) (m : List Bool) (slots : List (Option N)) (lists : List (List ℕ))
-      → ((k e : ℕ) → P k e ≡ true → e < length m) → AllMarked P i m slots lists → (j : ℕ) → IsSome (slot slots j)
-      → (e : ℕ) → Contains (row (lists_by_slots slots lists) j) e → get_or (marked_by m slots lists) e false ≡ true
-  gets_marked i m [] lists low h j s e c = absurd (false≢true s)
-  gets_marked i m (None ∷ slots) lists low h zero s e c = absurd (false≢true s)
-  gets_marked i m (None ∷ slots) lists low h (suc j) s e c = gets_marked (i + 1) m slots lists low h j s e c
-  gets_marked i m (Some x ∷ slots) [] low h j s e c = absurd h
-  gets_marked i m (Some x ∷ slots) (l ∷ lists) low h zero s e c =
-      stays_marked (marked_with m l) slots lists e (marks_come m l (λ k q. low i k (marked_pass (P i) m l h.0 k q)) e c)
-  gets_marked i m (Some x ∷ slots) (l ∷ lists) low h (suc j) s e c =
-      gets_marked (i + 1) (marked_with m l) slots lists (λ k z q. omega (arith, low k z q, long_marked m l)) h.1 j s e c
+      → ((k e : ℕ) → P k e ≡ true → e < length m) → AllMarked P i m slots lists → (j : ℕ) {e : ℕ}
+      → IsInListOf slots lists j e → get_or (marked_by m slots lists) e false ≡ true
+  gets_marked i m [] lists low h j s = absurd (false≢true s.exists)
+  gets_marked i m (None ∷ slots) lists low h zero s = absurd (false≢true s.exists)
+  gets_marked i m (None ∷ slots) lists low h (suc j) s =
+      gets_marked (i + 1) m slots lists low h j (record { exists = s.exists; listed = s.listed })
+  gets_marked i m (Some x ∷ slots) [] low h j s = absurd h
+  gets_marked i m (Some x ∷ slots) (l ∷ lists) low h zero {e} s =
+      stays_marked (marked_with m l) slots lists e
+      (marks_come m l (λ k q. low i k (marked_pass (P i) m l h.0 k q)) e s.listed)
+  gets_marked i m (Some x ∷ slots) (l ∷ lists) low h (suc j) s =
+      gets_marked (i + 1) (marked_with m l) slots lists (λ k z q. omega (arith, low k z q, long_marked m l)) h.1 j
+      (record { exists = s.exists; listed = s.listed })
 
   -- and such lists can be marked, where no edge is at two nodes
   pub all_from : ((k k' e : ℕ) → P k e ≡ true → P k' e ≡ true → k ≡ k')

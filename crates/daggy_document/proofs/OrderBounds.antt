@@ -31,6 +31,13 @@ abbrev HasPast : {A : Type 0} → (A → Type 0) → List A → Type 0
 HasPast {A} Past xs = (j : ℕ) × (x : A) × (slice_get xs j ≡ Some x) × Past x
 
 module _ {A : Type 0} {strong weak : Data → Option A} {Past : A → Type 0} (n : Narrows strong weak Past) where
+  -- what the two tests give of a value, and of the values behind it
+  record BothGive (d : Data) (ds : List Data) (o o' : Option A) (p p' : Option (List A)) : Type 0 where
+    strong_first : strong d ≡ o
+    weak_first : weak d ≡ o'
+    strong_rest : all_in strong ds ≡ p
+    weak_rest : all_in weak ds ≡ p'
+
   all_some : (ds : List Data) (xs : List A) → all_in strong ds ≡ Some xs → all_in weak ds ≡ Some xs
   all_some [] xs h = h
   all_some (d ∷ ds) xs h = at (strong d) (all_in strong ds) refl refl h (all_some ds)
@@ -48,22 +55,23 @@ module _ {A : Type 0} {strong weak : Data → Option A} {Past : A → Type 0} (n
   all_past : (ds : List Data) (xs : List A) → all_in strong ds ≡ None → all_in weak ds ≡ Some xs → HasPast Past xs
   all_past [] xs h k = cc
   all_past (d ∷ ds) xs h k =
-      at (strong d) (weak d) (all_in strong ds) (all_in weak ds) refl refl refl refl h k (all_past ds)
+      at (strong d) (weak d) (all_in strong ds) (all_in weak ds)
+      (record { strong_first = refl; weak_first = refl; strong_rest = refl; weak_rest = refl }) h k (all_past ds)
     where
-      at : (o o' : Option A) (p p' : Option (List A)) → strong d ≡ o → weak d ≡ o' → all_in strong ds ≡ p
-          → all_in weak ds ≡ p' → option_and_then (λ x. option_map (λ r. x ∷ r) p) o ≡ None
+      at : (o o' : Option A) (p p' : Option (List A)) → BothGive d ds o o' p p'
+          → option_and_then (λ x. option_map (λ r. x ∷ r) p) o ≡ None
           → option_and_then (λ x. option_map (λ r. x ∷ r) p') o' ≡ Some xs
           → ((r : List A) → all_in strong ds ≡ None → all_in weak ds ≡ Some r → HasPast Past r) → HasPast Past xs
-      at o None p p' is1 is2 is3 is4 q k rest = cc
-      at o (Some y) p None is1 is2 is3 is4 q k rest = cc
-      at None (Some y) p (Some r) is1 is2 is3 is4 q k rest =
+      at o None p p' give q k rest = cc
+      at o (Some y) p None give q k rest = cc
+      at None (Some y) p (Some r) give q k rest =
           let same : y ∷ r ≡ xs = cc in
-          subst (HasPast Past) same (0, y, refl, n.none d y is1 is2)
-      at (Some x) (Some y) None (Some r) is1 is2 is3 is4 q k rest =
+          subst (HasPast Past) same (0, y, refl, n.none d y give.strong_first give.weak_first)
+      at (Some x) (Some y) None (Some r) give q k rest =
           let same : y ∷ r ≡ xs = cc in
-          let later = rest r is3 is4 in
+          let later = rest r give.strong_rest give.weak_rest in
           subst (HasPast Past) same (suc later.0, later.1, later.2, later.3)
-      at (Some x) (Some y) (Some z) (Some r) is1 is2 is3 is4 q k rest = cc
+      at (Some x) (Some y) (Some z) (Some r) give q k rest = cc
 
   -- and the same of an array
   array_some : (d : Data) (xs : List A)

@@ -32,6 +32,11 @@ pub slot_some : {A : Type 0} (o : Option A) → is_some o ≡ true → (x : A) �
 slot_some None h = absurd (false≢true h)
 slot_some (Some x) h = (x, refl)
 
+slot_read : {A : Type 0} (xs : List (Option A)) (i : ℕ) → slot xs i ≡ get_or xs i None
+slot_read [] i = refl
+slot_read (x ∷ xs) zero = refl
+slot_read (x ∷ xs) (suc i) = slot_read xs i
+
 -- one more value
 pub more_values : {A : Type 0} (as_data : A → Data) (vs vs' : List Value) (v : Value) (xs : List A) (x : A)
     → map view vs ≡ map as_data xs → view v ≡ as_data x → vs' ≡ vs ++ v ∷ [] → map view vs' ≡ map as_data (xs ++ x ∷ [])
@@ -115,6 +120,16 @@ module _ {A : Type 0} (slots : List (Option A)) {i n : ℕ} (at : n ≡ i) where
       subst (λ k. AllZip R k (map view vs')) (sym e)
       (subst (λ k. AllZip R (map (λ p. p.1) (numbered 0 (take i slots))) (map view k)) (sym same) so_far)
 
+  -- ---- entries
+
+  pub entry_more : (R : Option A → Data → Type 0) (vs : List Value) {vs' : List Value} (v : Value)
+      → i < length slots → AllZip R (take i slots) (map view vs) → R (slot slots n) (view v) → vs' ≡ vs ++ v ∷ []
+      → AllZip R (take (i + 1) slots) (map view vs')
+  entry_more R vs {vs'} v low so_far entry more =
+      let e : take (i + 1) slots ≡ take i slots ++ slot slots n ∷ [] =
+      take_more slots i None low ∙ ap (λ k. take i slots ++ k ∷ []) (sym (ap (slot slots) at ∙ slot_read slots i)) in
+      subst (λ k. AllZip R k (map view vs')) (sym e) (zip_values R vs vs' v _ _ so_far entry more)
+
 -- ---- up to the bound
 
 pub at_bound : (i bound k : ℕ) → i ≤ bound → bound ≤ i → bound ≡ k → i ≡ k
@@ -133,35 +148,28 @@ weights_whole slots R vs i is so_far =
     subst (λ k. AllZip R (map (λ p. p.1) k) (map view vs))
     (ap (λ k. numbered 0 (take k slots)) is ∙ numbered_bounded 0 slots) so_far
 
--- ---- entries
+-- ---- an entry
 
-slot_read : {A : Type 0} (xs : List (Option A)) (i : ℕ) → slot xs i ≡ get_or xs i None
-slot_read [] i = refl
-slot_read (x ∷ xs) zero = refl
-slot_read (x ∷ xs) (suc i) = slot_read xs i
+-- what was read of a slot's edge: its ends, of which p is the parent's number and q the child's, and its weight
+pub record EdgeRead {E I : Type 0} (number : I → ℕ) (o : Option (Edge E)) (p q : ℕ) (w : E) : Type 0 where
+  pub ends : I × I
+  pub ends_are : Some (pair_of number ends) ≡ option_map ends_of o
+  pub parent : p ≡ number ends.0
+  pub child : q ≡ number ends.1
+  pub weight_is : Some w ≡ option_map (λ x. x.weight) o
 
-pub entry_more : {A : Type 0} (slots : List (Option A)) {i n : ℕ}
-    → n ≡ i → (R : Option A → Data → Type 0) (vs vs' : List Value) (v : Value) → i < length slots
-    → AllZip R (take i slots) (map view vs) → R (slot slots n) (view v) → vs' ≡ vs ++ v ∷ []
-    → AllZip R (take (i + 1) slots) (map view vs')
-entry_more slots {i} {n} at R vs vs' v low so_far here more =
-    let e : take (i + 1) slots ≡ take i slots ++ slot slots n ∷ [] =
-    take_more slots i None low ∙ ap (λ k. take i slots ++ k ∷ []) (sym (ap (slot slots) at ∙ slot_read slots i)) in
-    subst (λ k. AllZip R k (map view vs')) (sym e) (zip_values R vs vs' v _ _ so_far here more)
-
-pub entry_is : {E I : Type 0} (number : I → ℕ) (R : E → Data → Type 0) (o : Option (Edge E)) (ends : I × I) {w : E}
+pub entry_is : {E I : Type 0} (number : I → ℕ) (R : E → Data → Type 0) (o : Option (Edge E)) {p q : ℕ} {w : E}
     (d : Data) {v : Data}
-    → Some (pair_of number ends) ≡ option_map ends_of o → Some w ≡ option_map (λ x. x.weight) o → R w d
-    → (p q : ℕ) → p ≡ number ends.0 → q ≡ number ends.1 → v ≡ listed (whole p ∷ whole q ∷ d ∷ []) → IsEntry R o v
-entry_is number R None ends d at is says p q parent child whole_is = cc
-entry_is number R (Some x) ends {w} d at is says p q parent child whole_is =
+    → EdgeRead number o p q w → R w d → v ≡ listed (whole p ∷ whole q ∷ d ∷ []) → IsEntry R o v
+entry_is number R None d edge says whole_is = cc
+entry_is number R (Some x) {p} {q} {w} d edge says whole_is =
     let same : w ≡ x.weight = cc in
-    let pair : pair_of number ends ≡ ends_of x = cc in (
+    let pair : pair_of number edge.ends ≡ ends_of x = cc in (
       d,
       subst (λ k. R k d) same says,
       whole_is
-          ∙ (ap (λ k. listed (whole k ∷ whole q ∷ d ∷ [])) parent
-          ∙ (ap (λ k. listed (whole (number ends.0) ∷ whole k ∷ d ∷ [])) child
+          ∙ (ap (λ k. listed (whole k ∷ whole q ∷ d ∷ [])) edge.parent
+          ∙ (ap (λ k. listed (whole (number edge.ends.0) ∷ whole k ∷ d ∷ [])) edge.child
           ∙ ap (λ k. listed (whole k.0 ∷ whole k.1 ∷ d ∷ [])) pair)),
     )
 

@@ -142,8 +142,8 @@ module _ {E : Type 0} (dir : Direction) (edges : List (Option (Edge E))) where
             | inr new ↦ (
                 let there : has_end dir edges new.0 e ≡ true =
                 ap (λ k. has_end dir edges k e) (let z : new.0 ≡ 0 + new.0 = omega arith in z)
-                ∙ r.pass new.0 new.1 e new.2 in
-                subst (λ k. Contains (row (lists_by_slots nodes lists) k) e) (one_end new.0 n e there here) new.2
+                ∙ r.pass new.0 new.1.exists e new.1.listed in
+                subst (λ k. Contains (row (lists_by_slots nodes lists) k) e) (one_end new.0 n e there here) new.1.listed
                 )
           ] in
           subst P (sym (ordered_at dir rows n)) (record {
@@ -187,8 +187,8 @@ module _ {E : Type 0} (dir : Direction) (edges : List (Option (Edge E))) where
               let n = near_end dir x.0 in
               let exists = ends e x.0 x.1 in
               let here = in_list_has n e (slot_low nodes n exists) (end_is e x.0 x.1) in
-              gets_marked (has_end dir edges) 0 _ nodes _ low_marks all n exists e
-              (((order_of n exists).exact e).1 here)
+              gets_marked (has_end dir edges) 0 _ nodes _ low_marks all n
+              (record { exists = exists; listed = ((order_of n exists).exact e).1 here })
             where
               some_edge : (o : Option (Edge E)) → is_some o ≡ true → (x : Edge E) × (o ≡ Some x)
               some_edge None t = absurd (false≢true t)

@@ -16,7 +16,7 @@ edges-preserved g c =
     record {
       within = omega (arith, c.edges-test.true);
       written =
-          entry_more slots c.new.ensures.number _ _ _ c.in_ok-write_entry.field-0
+          entry_more slots c.new.ensures.number _ _ c.in_ok-write_entry.field-0
           (below_length slots _ _ c.edge_bound-bound.ensures c.edges-test.true) c.edges.invariant.written
           c.in_ok-write_entry.ensures c.in_ok-push.ensures.items;
     }

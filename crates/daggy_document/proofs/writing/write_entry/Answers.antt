@@ -5,6 +5,10 @@ use Rattle.daggy_document.proofs.writing.write_entry.Goals as goal
 pub returns : goal.returns
 returns g c =
     IfOk-weaker c.write_triple.result _ _
-    (λ v e. entry_is g.Ix.IndexType.number _ _ c.in-Some.ends _ c.in-Some.ensures
-    c.in-Some-edge_weight.ensures (writes_as _ _ c.in-Some-edge_weight.weight _ c.in_ok-value.ensures) _ _
-    c.index.ensures.value c.index-2.ensures.value e) c.write_triple.ensures
+    (λ v e. entry_is g.Ix.IndexType.number _ _ _ (record {
+      ends = c.in-Some.ends;
+      ends_are = c.in-Some.ensures;
+      parent = c.index.ensures.value;
+      child = c.index-2.ensures.value;
+      weight_is = c.in-Some-edge_weight.ensures;
+    }) (writes_as _ _ c.in-Some-edge_weight.weight _ c.in_ok-value.ensures) e) c.write_triple.ensures
