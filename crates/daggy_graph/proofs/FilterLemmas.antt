@@ -1,7 +1,7 @@
 -- How a loop filters the nodes in turn.
 use Rattle.std.proofs.Common.{◌≡◌, ℕ, zero, suc, ◌+◌, ◌<◌, ◌≤◌, List, [], ◌∷◌, ◌++◌, length, drop, get_or, Option, Some}
-use Rattle.std.proofs.Common.{None, refl, sym, ap, subst, ◌∙◌, arith, append-nil, append_assoc}
-use Rattle.std.proofs.lemmas.List.{drop_more, drop_all}
+use Rattle.std.proofs.Common.{None, map, refl, sym, ap, subst, ◌∙◌, arith, append-nil, append_assoc}
+use Rattle.std.proofs.lemmas.List.{length-map, get_or-map, drop_more, drop_all}
 use Rattle.std.specs.Borrow.{Bor}
 use Rattle.std.proofs.lemmas.Option.{same_Some, none-some}
 use Rattle.daggy_base.specs.Graph.{Graph, Edge as PlainEdge, empty, slot}
@@ -9,6 +9,23 @@ use Rattle.daggy_base.specs.Mapping.{CalledAt}
 use Rattle.daggy_base.specs.Filtering.{with_kept_node, named, with_kept_edge, both, new_ends, FiltersNodes, FiltersEdge}
 use Rattle.daggy_base.specs.Filtering.{FiltersEdges}
 use Rattle.daggy_graph.specs.Names.{AreNamesBelow}
+
+-- the slot i is there and holds x
+pub record Holds {A : Type 0} (slots : List (Option A)) (i : ℕ) (x : A) : Type 0 where
+  pub within : i < length slots
+  pub is : get_or slots i (Some x) ≡ Some x
+
+pub Holds-read : {C A : Type 0} (read : C → Option A) (cells : List C) {i : ℕ} {c : C} (x : A)
+    → i < length cells → c ≡ get_or cells i c → read c ≡ Some x → Holds (map read cells) i x
+Holds-read read cells {i} {c} x within is holds = record {
+  within = omega (arith, within, length-map cells read);
+  is = get_or-map read cells i c (Some x) within ∙ ap read (sym is) ∙ holds;
+}
+
+drop_held : {A : Type 0} {slots : List (Option A)} {i : ℕ} {x : A}
+    → Holds slots i x → drop i slots ≡ Some x ∷ drop (i + 1) slots
+drop_held {A} {slots} {i} {x} held =
+    drop_more slots i (Some x) held.within ∙ ap (λ y. y ∷ drop (i + 1) slots) held.is
 
 module _ {N V W F I : Type 0} (step : F → I → Bor N → Option V → F → Type 0) (of : ℕ → I) where
   abbrev pub FilteredBelow : F → List (Option N) → F → List (Option ℕ) → Graph V W → ℕ → Type 0
@@ -18,13 +35,10 @@ module _ {N V W F I : Type 0} (step : F → I → Bor N → Option V → F → T
 
   pub FilteredBelow-called : (first : F) (slots : List (Option N)) {f next : F} (names : List (Option ℕ))
       (h : Graph V W) {i : ℕ} {x : N} {r : Option V}
-      → i < length slots → get_or slots i (Some x) ≡ Some x → CalledAt step of f i x r next
-      → FilteredBelow first slots f names h i
+      → Holds slots i x → CalledAt step of f i x r next → FilteredBelow first slots f names h i
       → FilteredBelow first slots next (names ++ named h r ∷ []) (with_kept_node h r) (i + 1)
-  FilteredBelow-called first slots {f} {next} names h {i} {x} {r} within read called kept more new later =
-      let rest : drop i slots ≡ Some x ∷ drop (i + 1) slots =
-      drop_more slots i (Some x) within ∙ ap (λ y. y ∷ drop (i + 1) slots) read in
-      rw (append_assoc) (kept (named h r ∷ more) new (rw rest (r, next, called, more, refl, later)))
+  FilteredBelow-called first slots {f} {next} names h {i} {x} {r} held called kept more new later =
+      rw (append_assoc) (kept (named h r ∷ more) new (rw (drop_held held) (r, next, called, more, refl, later)))
 
   pub FilteredBelow-done : (first : F) (slots : List (Option N)) (f : F) (names : List (Option ℕ)) (h : Graph V W)
       (i : ℕ)
@@ -70,23 +84,19 @@ module _ {E V W G I : Type 0} (step : G → I → Bor E → Option W → G → T
 
   pub EdgesBelow-passed : (first : G) (slots : List (Option (PlainEdge E))) (start : Graph V W) (g : G) (h : Graph V W)
       {i : ℕ} {x : PlainEdge E}
-      → i < length slots → get_or slots i (Some x) ≡ Some x → new_ends names x ≡ None
-      → EdgesBelow first slots start g h i → EdgesBelow first slots start g h (i + 1)
-  EdgesBelow-passed first slots start g h {i} {x} within read lost kept new later =
-      let rest : drop i slots ≡ Some x ∷ drop (i + 1) slots =
-      drop_more slots i (Some x) within ∙ ap (λ y. y ∷ drop (i + 1) slots) read in
-      kept new (rw rest (subst (λ o. FiltersEdge step of names g i x.weight o h
+      → Holds slots i x → new_ends names x ≡ None → EdgesBelow first slots start g h i
+      → EdgesBelow first slots start g h (i + 1)
+  EdgesBelow-passed first slots start g h {i} {x} held lost kept new later =
+      kept new (rw (drop_held held) (subst (λ o. FiltersEdge step of names g i x.weight o h
       (λ next mid. FiltersEdges step of names next (i + 1) (drop (i + 1) slots) mid new)) (sym lost) later))
 
   pub EdgesBelow-called : (first : G) (slots : List (Option (PlainEdge E))) (start : Graph V W) {g next : G}
       (h : Graph V W) {i : ℕ} {x : PlainEdge E} {a b : ℕ} {r : Option W}
-      → i < length slots → get_or slots i (Some x) ≡ Some x → new_ends names x ≡ Some (a, b)
-      → CalledAt step of g i x.weight r next → EdgesBelow first slots start g h i
+      → Holds slots i x → new_ends names x ≡ Some (a, b) → CalledAt step of g i x.weight r next
+      → EdgesBelow first slots start g h i
       → EdgesBelow first slots start next (with_kept_edge h (a, b) r) (i + 1)
-  EdgesBelow-called first slots start {g} {next} h {i} {x} {a} {b} {r} within read ends called kept new later =
-      let rest : drop i slots ≡ Some x ∷ drop (i + 1) slots =
-      drop_more slots i (Some x) within ∙ ap (λ y. y ∷ drop (i + 1) slots) read in
-      kept new (rw rest (subst
+  EdgesBelow-called first slots start {g} {next} h {i} {x} {a} {b} {r} held ends called kept new later =
+      kept new (rw (drop_held held) (subst
       (λ o. FiltersEdge step of names g i x.weight o h
       (λ next mid. FiltersEdges step of names next (i + 1) (drop (i + 1) slots) mid new)) (sym ends) (
         r,

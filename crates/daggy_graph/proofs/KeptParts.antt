@@ -11,7 +11,7 @@ use Rattle.daggy_base.specs.declared.index.Direction.TheVariants.{Outgoing, Inco
 use Rattle.daggy_base.specs.Graph.{Graph, Edge, empty, slot, ends_of}
 use Rattle.daggy_base.specs.Adding.{with_node, with_edge, next_node}
 use Rattle.daggy_base.specs.Reduction.{IsDescending}
-use Rattle.daggy_base.specs.Filtering.{with_kept_node, with_kept_edge, new_ends, FiltersNodes, FiltersEdge}
+use Rattle.daggy_base.specs.Filtering.{with_kept_node, new_ends, FiltersNodes, FiltersEdge}
 use Rattle.daggy_base.specs.Filtering.{FiltersEdges, IsFiltered, ListsDescend, HaveSameEnds}
 use Rattle.daggy_graph.proofs.FilterLemmas.{both_are}
 
@@ -91,10 +91,6 @@ module _ {V W : Type 0} where
   tidy_kept_node h None t = t
   tidy_kept_node h (Some v) t = tidy_with_node h v t
 
-  pub tidy_kept_edge : (h : Graph V W) (ends : ℕ × ℕ) (r : Option W) → IsTidy h → IsTidy (with_kept_edge h ends r)
-  tidy_kept_edge h ends None t = t
-  tidy_kept_edge h ends (Some w) t = tidy_with_edge h ends.0 ends.1 w t
-
   pub ListsDescend-tidy : (h : Graph V W) → IsTidy h → ListsDescend h
   ListsDescend-tidy h t = elim [
     | Outgoing ↦ λ n. descends_at (length h.edges) h.out_lists n t.out_lists
@@ -113,7 +109,7 @@ module _ {V W : Type 0} where
       ap length (with_edge_edges h a b w t) ∙ length_push h.edges (Some x)
 
 module _ {V W G : Type 0} where
-  -- past an edge, which may have these new ends: it was added to the graph h or left out, and what comes later is known
+  -- an edge whose new ends are these was added to the graph h, which made `past`, or left out
   record EdgePassed (h : Graph V W) (ends : Option (ℕ × ℕ)) (later : G → Graph V W → Type 0) : Type 0 where
     next : G
     past : Graph V W
@@ -251,27 +247,27 @@ module _ {E V W G I : Type 0} (step : G → I → Bor E → Option W → G → T
       let s = first_passed step of names g e x xs new t p in
       omega (arith, edges_few s.next (e + 1) xs s.past new s.tidy s.more, s.one_at_most)
 
-  module _ (itself : (i a : ℕ) → slot names i ≡ Some a → a ≡ i) where
-    pub ends_whole : (g : G) (e : ℕ) (xs : List (Option (Edge E))) (h new : Graph V W)
-        → IsTidy h → length new.edges ≡ length h.edges + length xs → FiltersEdges step of names g e xs h new
-        → map (option_map ends_of) new.edges ≡ map (option_map ends_of) h.edges ++ map (option_map ends_of) xs
-    ends_whole g e [] h new t all p =
-        ap (λ z. map (option_map ends_of) z.edges) p ∙ sym (append-nil (map (option_map ends_of) h.edges))
-    ends_whole g e (None ∷ xs) h new t all p = let few = edges_few g (e + 1) xs h new t p in
-        absurd (omega (arith, few, all))
-    ends_whole g e (Some x ∷ xs) h new t all p =
-        let s = first_passed step of names g e x xs new t p in
-        let few = edges_few s.next (e + 1) xs s.past new s.tidy s.more in
-        let long : length s.past.edges ≡ length h.edges + 1 = omega (arith, all, few, s.one_at_most) in
-        let stayed = s.stayed long in
-        let parts = both_are _ _ stayed.0.0 stayed.0.1 (sym stayed.1) in
-        let ends_are : new_ends names x ≡ Some (x.parent, x.child) =
-        stayed.1 ∙ ap (λ a. Some (a, stayed.0.1)) (itself x.parent stayed.0.0 parts.0)
-        ∙ ap (λ b. Some (x.parent, b)) (itself x.child stayed.0.1 parts.1) in
-        ends_whole s.next (e + 1) xs s.past new s.tidy (omega (arith, all, long)) s.more
-        ∙ ap (λ l. l ++ map (option_map ends_of) xs) (s.added long)
-        ∙ append_assoc (map (option_map ends_of) h.edges) (new_ends names x ∷ []) (map (option_map ends_of) xs)
-        ∙ ap (λ o. map (option_map ends_of) h.edges ++ o ∷ map (option_map ends_of) xs) ends_are
+  pub ends_whole : ((i a : ℕ) → slot names i ≡ Some a → a ≡ i)
+      → (g : G) (e : ℕ) (xs : List (Option (Edge E))) {h : Graph V W} (new : Graph V W)
+      → IsTidy h → length new.edges ≡ length h.edges + length xs → FiltersEdges step of names g e xs h new
+      → map (option_map ends_of) new.edges ≡ map (option_map ends_of) h.edges ++ map (option_map ends_of) xs
+  ends_whole itself g e [] {h} new t all p =
+      ap (λ z. map (option_map ends_of) z.edges) p ∙ sym (append-nil (map (option_map ends_of) h.edges))
+  ends_whole itself g e (None ∷ xs) {h} new t all p = let few = edges_few g (e + 1) xs h new t p in
+      absurd (omega (arith, few, all))
+  ends_whole itself g e (Some x ∷ xs) {h} new t all p =
+      let s = first_passed step of names g e x xs new t p in
+      let few = edges_few s.next (e + 1) xs s.past new s.tidy s.more in
+      let long : length s.past.edges ≡ length h.edges + 1 = omega (arith, all, few, s.one_at_most) in
+      let stayed = s.stayed long in
+      let parts = both_are _ _ stayed.0.0 stayed.0.1 (sym stayed.1) in
+      let ends_are : new_ends names x ≡ Some (x.parent, x.child) =
+      stayed.1 ∙ ap (λ a. Some (a, stayed.0.1)) (itself x.parent stayed.0.0 parts.0)
+      ∙ ap (λ b. Some (x.parent, b)) (itself x.child stayed.0.1 parts.1) in
+      ends_whole itself s.next (e + 1) xs new s.tidy (omega (arith, all, long)) s.more
+      ∙ ap (λ l. l ++ map (option_map ends_of) xs) (s.added long)
+      ∙ append_assoc (map (option_map ends_of) h.edges) (new_ends names x ∷ []) (map (option_map ends_of) xs)
+      ∙ ap (λ o. map (option_map ends_of) h.edges ++ o ∷ map (option_map ends_of) xs) ends_are
 
 module _ {N E V W F G I : Type 0} {of : ℕ → I} {step_f : F → I → Bor N → Option V → F → Type 0}
     {step_g : G → I → Bor E → Option W → G → Type 0} {f : F} {g : G} {old : Graph N E} {new : Graph V W}
@@ -293,6 +289,6 @@ module _ {N E V W F G I : Type 0} {of : ℕ → I} {step_f : F → I → Bor N �
       p.nodes in
       let itself : (i a : ℕ) → slot p.names i ≡ Some a → a ≡ i = λ i a q.
       omega (arith, named_itself 0 (length old.nodes) i a (subst (λ l. slot l i ≡ Some a) are q)) in
-      ends_whole step_g of p.names itself g 0 old.edges p.middle new tidy (omega (arith, all_edges, ap length none))
+      ends_whole step_g of p.names itself g 0 old.edges new tidy (omega (arith, all_edges, ap length none))
       p.edges
       ∙ ap (λ l. map (option_map ends_of) l ++ map (option_map ends_of) old.edges) none

@@ -1,5 +1,5 @@
-use Rattle.std.proofs.Common.{◌≡◌, ◌<◌, ◌+◌, Some, None, map, length, sym, ap, subst, ◌∙◌, of_calls, arith}
-use Rattle.std.proofs.lemmas.List.{length-map, get_or-map}
+use Rattle.std.proofs.Common.{◌≡◌, ◌<◌, ◌+◌, None, map, length, refl, sym, subst, ◌∙◌, of_calls, arith}
+use Rattle.std.proofs.lemmas.List.{length-map}
 use Rattle.daggy_base.specs.Graph.{Edge as PlainEdge}
 use Rattle.daggy_graph.specs.Stored.{stored_graph}
 use Rattle.daggy_cells.specs.Fields.{plain_edge}
@@ -7,7 +7,7 @@ use Rattle.daggy_base.specs.Filtering.{new_ends}
 use Rattle.daggy_graph.proofs.StoredLemmas.{stored_is, Stores-itself}
 use Rattle.daggy_cells.proofs.MappingLemmas.{CalledAt-from_step}
 use Rattle.daggy_graph.proofs.FilterLemmas.{EdgesBelow, EdgesBelow-passed, EdgesBelow-called, EdgesBelow-done, both_are}
-use Rattle.daggy_graph.proofs.FilterLemmas.{named_within}
+use Rattle.daggy_graph.proofs.FilterLemmas.{named_within, Holds-read}
 use Rattle.daggy_graph.proofs.graph.filter.filter_edges.Goals as goal
 
 pub each-preserved-in-None : goal.each-preserved-in-None
@@ -16,8 +16,7 @@ each-preserved-in-None g c =
     let x = c.index-edges-i.result in
     let p : PlainEdge g.row.E.Denot = record { parent = x.parent; child = x.child; weight = x.weight } in
     let within : c.each.i < length edges = omega arith in
-    let read = get_or-map plain_edge edges c.each.i x (Some p) within ∙ ap plain_edge (sym c.index-edges-i.is) in
-    let slots : c.each.i < length (map plain_edge edges) = omega (arith, within, length-map edges plain_edge) in
+    let held = Holds-read plain_edge edges p within c.index-edges-i.is refl in
     let lost : new_ends c.args.names.now.items p ≡ None = sym c.in-None.ensures in (
       c.each.invariant.0,
       c.each.invariant.1,
@@ -25,7 +24,7 @@ each-preserved-in-None g c =
       c.each.invariant.3,
       c.each.invariant.4,
       EdgesBelow-passed (goal.G-step g) g.Ix.IndexType.of c.args.names.now.items c.args.g (map plain_edge edges) _
-          c.each.g _ slots read lost c.each.invariant.5,
+          c.each.g _ held lost c.each.invariant.5,
     )
 
 pub keep_edge-requires-clause-parent : goal.keep_edge-requires-clause-parent
@@ -48,15 +47,13 @@ each-preserved g c =
     let h = stored_graph c.each.nodes.items c.each.new.items in
     let start = stored_graph c.args.nodes.now.items c.args.new.now.items in
     let within : c.each.i < length edges = omega arith in
-    let read = get_or-map plain_edge edges c.each.i x (Some p) within ∙ ap plain_edge (sym c.index-edges-i.is) in
-    let slots : c.each.i < length (map plain_edge edges) = omega (arith, within, length-map edges plain_edge) in
+    let held = Holds-read plain_edge edges p within c.index-edges-i.is refl in
     let called =
     CalledAt-from_step (goal.G-step g) g.Ix.IndexType.of c.each.g c.each.i _ c.g-answer.result c.g-answer.new.self
     (rw c.new.ensures.value at c.g-answer.ensures) in
     let next =
     EdgesBelow-called (goal.G-step g) g.Ix.IndexType.of c.args.names.now.items c.args.g (map plain_edge edges) start
-    h slots read
-    (sym c.in-Some.ensures) called c.each.invariant.5 in
+    h held (sym c.in-Some.ensures) called c.each.invariant.5 in
     let shown = stored_is _ _ _ _ c.keep_edge.ensures.stored in (
       search of_calls,
       omega (arith, c.keep_edge.ensures.capacity, c.each.invariant.1),

@@ -1,11 +1,11 @@
-use Rattle.std.proofs.Common.{◌<◌, ◌+◌, Some, map, length, sym, ap, subst, ◌∙◌, of_calls, arith}
-use Rattle.std.proofs.lemmas.List.{length-map, get_or-map, length_push}
+use Rattle.std.proofs.Common.{◌<◌, ◌+◌, map, length, refl, sym, ap, subst, ◌∙◌, of_calls, arith}
+use Rattle.std.proofs.lemmas.List.{length-map, length_push}
 use Rattle.daggy_graph.specs.Stored.{stored_graph}
 use Rattle.daggy_cells.specs.Fields.{weight_of}
 use Rattle.daggy_base.specs.Filtering.{named, with_kept_node}
 use Rattle.daggy_graph.proofs.StoredLemmas.{stored_is, Stores-itself}
 use Rattle.daggy_cells.proofs.MappingLemmas.{CalledAt-from_step}
-use Rattle.daggy_graph.proofs.FilterLemmas.{FilteredBelow, FilteredBelow-called, FilteredBelow-done}
+use Rattle.daggy_graph.proofs.FilterLemmas.{FilteredBelow, FilteredBelow-called, FilteredBelow-done, Holds-read}
 use Rattle.daggy_graph.proofs.graph.filter.filter_nodes.Goals as goal
 
 pub each-preserved : goal.each-preserved
@@ -14,14 +14,13 @@ each-preserved g c =
     let x = c.index-nodes-i.result in
     let h = stored_graph c.each.new.items c.args.edges.now.items in
     let within : c.each.i < length nodes = omega arith in
-    let read = get_or-map weight_of nodes c.each.i x (Some x.weight) within ∙ ap weight_of (sym c.index-nodes-i.is) in
+    let held = Holds-read weight_of nodes x.weight within c.index-nodes-i.is refl in
     let called =
     CalledAt-from_step (goal.F-step g) g.Ix.IndexType.of c.each.f c.each.i _ c.f-answer.result c.f-answer.new.self
     (rw c.new.ensures.value at c.f-answer.ensures) in
-    let slots : c.each.i < length (map weight_of nodes) = omega (arith, within, length-map nodes weight_of) in
     let next =
     FilteredBelow-called (goal.F-step g) g.Ix.IndexType.of c.args.f (map weight_of nodes)
-    c.each.names.items h slots read called c.each.invariant.7 in
+    c.each.names.items h held called c.each.invariant.7 in
     let shown = stored_is _ _ _ _ c.keep_node.ensures.stored in
     let one =
     subst (λ ns. FilteredBelow (goal.F-step g) g.Ix.IndexType.of c.args.f (map weight_of nodes) c.f-answer.new.self ns
