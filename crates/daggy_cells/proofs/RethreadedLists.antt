@@ -172,11 +172,14 @@ module _ {N E Ix : Type 0} {end n : ℕ} {nodes middle nodes' : List (Node N Ix)
   -- a list of each direction, one after the other
   pub threads_both : (order : List ℕ × List ℕ) {out into : List ℕ}
       → out ≡ order.0 → into ≡ order.1 → ThreadsOnly end Outgoing nodes edges n out middle between
-      → ThreadsOnly end Incoming middle between n into nodes' edges' → (dir : Direction) → Threads end dir nodes edges n (order_at dir order) nodes' edges'
+      → ThreadsOnly end Incoming middle between n into nodes' edges'
+      → (dir : Direction) → Threads end dir nodes edges n (order_at dir order) nodes' edges'
   threads_both order {out} {into} out_is into_is first second =
       elim [
         | Outgoing ↦ record {
-          first = second.keeps.firsts ∙ first.links.first ∙ ap (λ z. set (firsts_of Outgoing nodes) n (first_of end z)) out_is;
+          first =
+              second.keeps.firsts ∙ first.links.first
+              ∙ ap (λ z. set (firsts_of Outgoing nodes) n (first_of end z)) out_is;
           nexts =
               subst (λ z. Rethreads end z (nexts_of Outgoing edges) (nexts_of Outgoing edges')) out_is
               (subst (Rethreads end out (nexts_of Outgoing edges)) (sym second.keeps_edges.nexts) first.links.nexts);
