@@ -15,31 +15,32 @@ memory_no_cycle : {R E : Type 0} (result : Result R (EdgeError E)) (w : E)
     → result ≡ Err (Memory w) → result ≡ Err (WouldCycle (record { 0 = w })) → ⊥
 memory_no_cycle result w a b = cc
 
--- a refusal by a guard: want of memory, or a cycle exactly if a path leads back
+-- a guard refused an edge of weight w, for want of memory, or for a cycle exactly if a path leads back
+pub record IsGuardRefusal {R E : Type 0} (w : E) (Back : Type 0) (result : Result R (EdgeError E))
+    (error : EdgeError E) : Type 0 where
+  pub is : result ≡ Err error
+  pub cycle : (result ≡ Err (WouldCycle (record { 0 = w }))) ↔ Back
+  pub cause : (error ≡ WouldCycle (record { 0 = w })) ⊎ (error ≡ Memory w)
+
 pub searched : {R E : Type 0} {result : Result R (EdgeError E)} {error : EdgeError E} (w : E) (P : EdgeError E → Type 0)
-    (Back : Type 0)
-    → result ≡ Err error
-    → ((result ≡ Err (WouldCycle (record { 0 = w }))) ↔ Back)
-    → (error ≡ WouldCycle (record { 0 = w })) ⊎ (error ≡ Memory w)
+    (Back : Type 0) → IsGuardRefusal w Back result error
     → (Back → P (WouldCycle (record { 0 = w }))) → ((Back → ⊥) → P (Memory w)) → P error
-searched {R} {E} {result} w P Back is cycle refusal by_cycle by_memory =
-    elim refusal [
-      | inl e ↦ subst P (sym e) (by_cycle (cycle.0 (is ∙ ap Err e)))
-      | inr m ↦ subst P (sym m) (by_memory (λ back. memory_no_cycle result w (is ∙ ap Err m) (cycle.1 back)))
+searched {R} {E} {result} w P Back refused by_cycle by_memory =
+    elim refused.cause [
+      | inl e ↦ subst P (sym e) (by_cycle (refused.cycle.0 (refused.is ∙ ap Err e)))
+      | inr m ↦ subst P (sym m) (by_memory (λ back.
+          memory_no_cycle result w (refused.is ∙ ap Err m) (refused.cycle.1 back)))
     ]
 
-pub stopped_after : {R N E : Type 0} (IsDefault : N → Type 0) (limit : ℕ) (old : Graph N E) {filled : Graph N E}
-    {new : Graph N E} (x : NewEdge E)
-    {result : Result R (EdgeError E)} {error : EdgeError E}
-    → result ≡ Err error → new ≡ filled
+pub stopped_after : {R N E : Type 0} (IsDefault : N → Type 0) {limit : ℕ} (old : Graph N E) {filled new : Graph N E}
+    (x : NewEdge E) {result : Result R (EdgeError E)} {error : EdgeError E}
+    → new ≡ filled
     → HasIndices IsDefault limit old x → IsFilled IsDefault (max x.0 x.1) old filled → HasEnds filled x
-    → ((result ≡ Err (WouldCycle (record { 0 = x.2 }))) ↔ Reaches filled x.1 x.0)
-    → (error ≡ WouldCycle (record { 0 = x.2 })) ⊎ (error ≡ Memory x.2)
-    → IsStopped IsDefault limit old x error new
-stopped_after {R} {N} {E} IsDefault limit old {filled} x {result} {error} is same indices nodes ends cycle refusal =
+    → IsGuardRefusal x.2 (Reaches filled x.1 x.0) result error → IsStopped IsDefault limit old x error new
+stopped_after {R} {N} {E} IsDefault {limit} old {filled} x {result} {error} same indices nodes ends refused =
     let P : Graph N E → Type 0 = λ z. IsStopped IsDefault limit old x error z in
     let Q : EdgeError E → Type 0 = λ z. IsStopped IsDefault limit old x z filled in
-    subst P (sym same) (searched x.2 Q (Reaches filled x.1 x.0) is cycle refusal (λ back. (
+    subst P (sym same) (searched x.2 Q (Reaches filled x.1 x.0) refused (λ back. (
       refl,
       indices,
       nodes,

@@ -26,11 +26,8 @@ returns-in-Err-clause-refused g c =
     let P : EdgeError g.row.S-EdgeWeight.Denot → Type 0 = λ z.
     IsEdgeRefused g.Ix.IndexType.greatest old (a, b, c.args.weight) z in
     renamed_refusal _ old a b c.args.weight _ (c.in-Some.ensures.0) (c.in-Some-node_at.ensures.0)
-    (searched c.args.weight P (Reaches old b a) c.in-Err.is
-    c.update_edge.ensures.cycle c.in-Err.ensures.refusal (λ back. (refl, ((parent, child), none), left, back))
-    (λ apart. (
-      refl,
-      ((parent, child), none),
-      left,
-      apart,
-    )))
+    (searched c.args.weight P (Reaches old b a) record {
+      is = c.in-Err.is;
+      cycle = c.update_edge.ensures.cycle;
+      cause = c.in-Err.ensures.refusal;
+    } (λ back. (refl, ((parent, child), none), left, back)) (λ apart. (refl, ((parent, child), none), left, apart)))

@@ -26,9 +26,9 @@ returns-in-Err-clause-stopped g c =
     search rules in
     let parent : HasNode (g.S.EdgeSource.graph c.fill.new.store) a = search rules in
     let child : HasNode (g.S.EdgeSource.graph c.fill.new.store) b = search rules in
-    stopped_after g.S.NodeWeight.Default.is_default _ (g.S.EdgeSource.graph c.args.store.now)
-    (a, b, c.args.weight) c.in-Err.is c.in-Err.ensures.unchanged
-    indices filled (parent, child) c.add_edge.ensures.cycle c.in-Err.ensures.refusal
+    stopped_after g.S.NodeWeight.Default.is_default (g.S.EdgeSource.graph c.args.store.now)
+    (a, b, c.args.weight) c.in-Err.ensures.unchanged indices filled (parent, child)
+    record { is = c.in-Err.is; cycle = c.add_edge.ensures.cycle; cause = c.in-Err.ensures.refusal }
 
 pub returns-then-is_err-clause-as_many : goal.returns-then-is_err-clause-as_many
 returns-then-is_err-clause-as_many g c = c.fill.ensures.edges

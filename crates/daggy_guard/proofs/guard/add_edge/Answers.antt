@@ -18,9 +18,10 @@ returns-clause-acyclic g c = acyclic_from_order _ (returns-clause-ordered g c)
 
 pub returns-clause-first : goal.returns-clause-first
 returns-clause-first g c =
-    first_edge g.Ix.IndexType.number c.add_edge.result _ _ _ _ c.args.weight
-    c.node_count-well_formed.ensures.well_formed c.requires.parent c.requires.child
-    c.make_way.ensures.same c.add_edge.ensures.index c.add_edge.ensures.added
+    first_edge g.Ix.IndexType.number c.add_edge.result _
+    (g.Ix.IndexType.number c.args.a, g.Ix.IndexType.number c.args.b, c.args.weight)
+    c.node_count-well_formed.ensures.well_formed (c.requires.parent, c.requires.child) c.make_way.ensures.same
+    c.add_edge.ensures.index c.add_edge.ensures.added
 
 pub returns-clause-ready : goal.returns-clause-ready
 returns-clause-ready g c r = c.add_edge.ensures.counted ∙ c.make_way.ensures.ready r

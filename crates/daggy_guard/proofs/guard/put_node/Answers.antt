@@ -31,8 +31,9 @@ take_back-weight-requires g c =
 pub returns-in-Ok-clause-fits : goal.returns-in-Ok-clause-fits
 returns-in-Ok-clause-fits g c =
     let capacity : c.slots_with_node-slot_count.result ≤ c.reserve.new.self.nodes = search rules in
-    node_fits c.add_node.result _ _ c.args.weight _ _ _ c.slots_with_node-slot_count.ensures c.requires.fits
-    c.reserve.ensures.kept.0 capacity c.add_node.ensures.added c.add_node.ensures.unchanged
+    node_fits c.add_node.result _ _ c.args.weight c.slots_with_node-slot_count.ensures
+    (omega (arith, c.requires.fits, c.reserve.ensures.kept.0)) capacity c.add_node.ensures.added
+    c.add_node.ensures.unchanged
 
 pub returns-in-Err-clause-refusal : goal.returns-in-Err-clause-refusal
 returns-in-Err-clause-refusal g c =
