@@ -325,7 +325,10 @@ module _ {end : ℕ} {next previous : List ℕ} {first last : ℕ} {xs : List �
     module _ (w : IsPut (neighbor end first next) (neighbor end last previous) (neighbor end now.first now.next)
         (neighbor end now.last now.previous) end n) (count : ℕ) (is : count ≡ length xs + 1) where
       once_first : Unique (end ∷ (n ∷ xs))
-      once_first = (λ m. elim m [ inl e ↦ can.fresh (inl (sym e)) | inr b ↦ once.0 b ], (λ m. can.fresh (inr m), once.1))
+      once_first = (
+        λ m. elim m [ inl e ↦ can.fresh (inl (sym e)) | inr b ↦ once.0 b ],
+        (λ m. can.fresh (inr m), once.1),
+      )
 
       pub put_first_kept : Keeps end now count (n ∷ xs)
       put_first_kept =
