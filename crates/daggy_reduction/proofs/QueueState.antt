@@ -316,28 +316,33 @@ module _ {N E : Type 0} {end : ℕ} {g₀ : Graph N E} (w : IsWellFormed end g�
         λ m. all.1 (elim m [ inl a ↦ inl a | inr c ↦ inr (c.0, contains_mem _ c.0 c.1, c.2) ]),
       )
 
+-- each node can be marked and met, and the queue has a place for each mark and for each node that is in it
+pub record HasRoom {N E : Type 0} (now : Reading N E) : Type 0 where
+  pub fits : node_bound now.graph ≤ length now.marks
+  pub met_fits : node_bound now.graph ≤ length now.met
+  pub capacity : length now.marks ≤ length now.queue
+  pub high : now.len ≤ length now.queue
+
 -- the start
 pub starts_here : {N E : Type 0} (end : ℕ) {now : Reading N E}
-    → IsQueue now.graph now.marks (take now.len now.queue) → 0 < now.len → now.len ≤ length now.queue
-    → node_bound now.graph ≤ length now.marks → node_bound now.graph ≤ length now.met
-    → length now.marks ≤ length now.queue → {u : ℕ} → u ≡ get_or now.queue 0 u → now.head ≡ 0
-    → now.edge ≡ first_of end (out_list now.graph u)
+    → IsQueue now.graph now.marks (take now.len now.queue) → 0 < now.len → HasRoom now
+    → {u : ℕ} → u ≡ get_or now.queue 0 u → now.head ≡ 0 → now.edge ≡ first_of end (out_list now.graph u)
     → Draining (to_all end now.graph (take now.len now.queue) now.met) record {
       marks = length now.marks;
       met = length now.met;
       places = length now.queue;
       looks = now.looks;
     } now
-starts_here {N} {E} end {now} is some high fits met_fits capacity {u} top at_front first =
+starts_here {N} {E} end {now} is some room {u} top at_front first =
     record {
       same = refl;
       marks_sized = refl;
       met_sized = refl;
       queue_sized = refl;
-      fits = fits;
-      met_fits = met_fits;
-      capacity = capacity;
-      high = high;
+      fits = room.fits;
+      met_fits = room.met_fits;
+      capacity = room.capacity;
+      high = room.high;
       looked = 0;
       counted = omega arith;
       going = go (take now.len now.queue) refl;
@@ -345,7 +350,7 @@ starts_here {N} {E} end {now} is some high fits met_fits capacity {u} top at_fro
   where
     go : (q : List ℕ)
         → q ≡ take now.len now.queue → Queueing (to_all end now.graph (take now.len now.queue) now.met) (queue_of now 0)
-    go [] empty = absurd (omega (arith, some, ap length empty, length-take-le now.len now.queue high))
+    go [] empty = absurd (omega (arith, some, ap length empty, length-take-le now.len now.queue room.high))
     go (x ∷ xs) front =
         let same_node : x ≡ u = ap (λ z. get_or z 0 u) front ∙ get_or-take now.len now.queue 0 u some ∙ sym top in
         let exist : (n : ℕ) → Mem n (x ∷ xs) → HasNode now.graph n = λ n m.

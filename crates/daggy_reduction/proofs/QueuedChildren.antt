@@ -64,41 +64,32 @@ pub record Beginning {N E : Type 0} (first : First N E) (now : Children N E) : T
   pub found : LookedTo first.end first.graph (λ v. Mem v q ⊎ (v ≡ now.last)) first.node passed
   pub front : ((q ≡ []) × (now.last ≡ first.node)) ⊎ ((others : List ℕ) × (q ≡ first.node ∷ others))
 
-pub begins_here : {N E : Type 0} (end : ℕ) (g : Graph N E) (order : List ℕ) (u : ℕ) (marks : List Bool) (queue : List ℕ)
-    {e : ℕ} (looks : ℕ)
-    → ((n : ℕ) → get_or marks n false ≡ false) → node_bound g ≤ length marks → length marks ≤ length queue
-    → e ≡ first_of end (out_list g u)
+pub begins_here : {N E : Type 0} (end : ℕ) (order : List ℕ) {now : Children N E}
+    → now.len ≡ 0 → ((n : ℕ) → get_or now.marks n false ≡ false) → node_bound now.graph ≤ length now.marks
+    → length now.marks ≤ length now.queue → now.edge ≡ first_of end (out_list now.graph now.last)
     → Beginning record {
       end = end;
-      graph = g;
+      graph = now.graph;
       order = order;
-      node = u;
-      marks = length marks;
-      places = length queue;
-      looks = looks;
-    } record {
-      graph = g;
-      marks = marks;
-      queue = queue;
-      len = 0;
-      last = u;
-      edge = e;
-      looks = looks;
-    }
-begins_here end g order u marks queue looks cleared fits capacity first =
+      node = now.last;
+      marks = length now.marks;
+      places = length now.queue;
+      looks = now.looks;
+    } now
+begins_here end order {now} empty cleared fits capacity first =
     record {
       same = refl;
       marks_sized = refl;
       queue_sized = refl;
       fits = fits;
       capacity = capacity;
-      high = omega arith;
+      high = omega (arith, empty);
       passed = 0;
       cursor = first;
       within = omega arith;
       counted = omega arith;
       q = [];
-      is = take_none queue;
+      is = ap (λ k. take k now.queue) empty ∙ take_none now.queue;
       once = tt;
       marked = λ n. (λ m. absurd (false≢true (sym (cleared n) ∙ m)), λ m. absurd m);
       before = λ n m. absurd m;

@@ -45,10 +45,8 @@ smaller g c =
 
 pub children-init : goal.children-init
 children-init g c =
-    let graph = g.S.EdgeSource.graph c.args.source.now in
-    begins_here g.Ix.IndexType.greatest graph c.args.order.now (g.Ix.IndexType.number c.args.u) c.args.entered.now
-    c.args.queue.now (g.S.EdgeSource.looks c.args.source.now)
-    c.requires.cleared c.requires.entered_fit c.requires.queue_fits c.first-e.ensures
+    begins_here g.Ix.IndexType.greatest c.args.order.now refl c.requires.cleared c.requires.entered_fit
+    c.requires.queue_fits c.first-e.ensures
 
 pub look-v-requires : goal.look-v-requires
 look-v-requires g c =

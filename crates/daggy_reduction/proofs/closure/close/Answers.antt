@@ -8,8 +8,12 @@ use Rattle.daggy_reduction.proofs.closure.close.Goals as goal
 pub steps-init : goal.steps-init
 steps-init g c =
     let graph = g.S.EdgeSource.graph c.args.source.now in
-    starts_here g.Ix.IndexType.greatest c.requires.queued c.requires.some c.requires.within c.requires.entered_fit
-    c.requires.met_fit c.requires.queue_fits c.index-queue-0.is refl
+    starts_here g.Ix.IndexType.greatest c.requires.queued c.requires.some record {
+      fits = c.requires.entered_fit;
+      met_fits = c.requires.met_fit;
+      capacity = c.requires.queue_fits;
+      high = c.requires.within;
+    } c.index-queue-0.is refl
     (c.first-e.ensures ∙ ap (λ n. first_of g.Ix.IndexType.greatest (out_list graph n)) c.node.ensures.value)
 
 pub overflow_add-head : goal.overflow_add-head
