@@ -6,8 +6,8 @@ use Rattle.std.specs.List.{flat_map}
 use Rattle.std.specs.Result.{OnOk}
 use Rattle.std.proofs.lemmas.List.{map-id}
 use Rattle.daggy.specs.Graph.{Graph}
-use Rattle.daggy.specs.Plans.{stages_of, IsPlan, IsByLevels, IsChain, IsShortest}
-use Rattle.dagbench_engine.specs.Plans.{stage_text, stages_text, plan_text, IsPlanText}
+use Rattle.daggy.specs.Plans.{stages_of}
+use Rattle.dagbench_engine.specs.Plans.{stage_text, stages_text, plan_text, IsPlanned, IsPlanText}
 use Rattle.dagbench_lines.specs.Replies.{node_text, parted}
 use Rattle.dagbench_lines.specs.Streams.{Appends}
 
@@ -34,12 +34,11 @@ module _ (g : Graph ℤ ℤ) (before : List ℕ) where
 
   pub plan_told : {A E : Type 0} (r : Result A E) (stages : List (Vec ℕ Global)) (chain : List ℕ)
       {one two three : List ℕ} (now : List ℕ)
-      → IsPlan g (shown stages) → IsByLevels g (shown stages) → IsChain g (shown stages) (map (λ i. i) chain)
-      → IsShortest g (shown stages)
+      → IsPlanned g (shown stages) (map (λ i. i) chain)
       → one ≡ before ++ stage_lines stages → two ≡ one ++ codes "chain " → three ≡ two ++ parted node_text chain
       → Appends r three now (10 ∷ []) → OnOk r (IsTold now)
-  plan_told (Err e) stages chain now plan levels path shortest put_stages put_name put_chain put_end = tt
-  plan_told (Ok x) stages chain now plan levels path shortest put_stages put_name put_chain put_end =
+  plan_told (Err e) stages chain now planned put_stages put_name put_chain put_end = tt
+  plan_told (Ok x) stages chain now planned put_stages put_name put_chain put_end =
       let lines = stage_lines stages in
       let nodes = parted node_text chain in
       let all : now ≡ (((before ++ lines) ++ codes "chain ") ++ nodes) ++ 10 ∷ [] =
@@ -54,7 +53,7 @@ module _ (g : Graph ℤ ℤ) (before : List ℕ) where
         inl (
           shown stages,
           map (λ i. i) chain,
-          record { plan = plan; by_levels = levels; chain_is = path; shortest = shortest },
+          planned,
           refl,
         ),
         whole

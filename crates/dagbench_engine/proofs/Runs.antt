@@ -29,16 +29,14 @@ new_session {kind} {given} {taken} {output} {graph} {kept} is_empty none nothing
 
 -- a block is read and answered
 pub read_on : {kind : Kind} {given_old given given_new written_old : List ℕ} (taken output : List ℕ)
-    {taken_mid output_mid written_new block : List ℕ} (buffer : List ℕ) (count : ℕ) {graph new : Graph ℤ ℤ}
-    {kept kept_new : List ℕ}
+    {taken_mid output_mid written_new : List ℕ} (block : List ℕ) {graph new : Graph ℤ ℤ} {kept kept_new : List ℕ}
     → IsServed kind given_old given written_old (taken ++ output) graph kept → taken_mid ≡ taken ++ output
-    → output_mid ≡ []
-    → given_new ≡ given ++ take count buffer → block ≡ take count buffer
+    → output_mid ≡ [] → given_new ≡ given ++ block
     → GoesOn kind block (taken_mid ++ output_mid) written_new graph new kept kept_new
     → IsServed kind given_old given_new written_old written_new new kept_new
 read_on {kind} {given_old} {given} {given_new} {written_old} taken output {taken_mid} {output_mid} {written_new}
-    {block} buffer count {graph} {new} {kept} {kept_new} so_far flush none gives is step =
-    subst (λ g. IsServed kind given_old g written_old written_new new kept_new) (ap (λ b. given ++ b) is ∙ sym gives)
+    block {graph} {new} {kept} {kept_new} so_far flush none gives step =
+    subst (λ g. IsServed kind given_old g written_old written_new new kept_new) (sym gives)
     (step given_old given written_old (subst (λ w. IsServed kind given_old given written_old w graph kept)
     (flushed taken output taken_mid output_mid flush none) so_far))
 

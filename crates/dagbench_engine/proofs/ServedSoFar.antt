@@ -36,26 +36,32 @@ ended_behind (line ∷ lines) front lack =
     ap ended_lines_of (joined line (flat_map ended lines) front)
     ∙ (ended_at-first newline line _ lack.0 ∙ ap (λ ls. line ∷ ls) (ended_behind lines front lack.1))
 
+-- a line with its answer, which leads from one graph to the next
+record AnsweredLine (kind : Kind) (old new : Graph ℤ ℤ) : Type 0 where
+  line : List ℕ
+  answer : List ℕ
+  is : IsAnswer kind old line answer new
+
 -- one more answer
-one_more : (kind : Kind) (lines : List (List ℕ)) (line text answer : List ℕ) (old mid new : Graph ℤ ℤ)
-    → IsTranscript kind old lines text mid → IsAnswer kind mid line answer new
-    → IsTranscript kind old (lines ++ line ∷ []) (text ++ (answer ++ newline ∷ [])) new
-one_more kind [] line text answer old mid new told is = (
-  answer,
+one_more : (kind : Kind) (lines : List (List ℕ)) (text : List ℕ) (old mid new : Graph ℤ ℤ)
+    → IsTranscript kind old lines text mid → (last : AnsweredLine kind mid new)
+    → IsTranscript kind old (lines ++ last.line ∷ []) (text ++ (last.answer ++ newline ∷ [])) new
+one_more kind [] text old mid new told last = (
+  last.answer,
   [],
   new,
-  subst (λ g. IsAnswer kind g line answer new) told.1 is,
-  ap (λ t. t ++ (answer ++ newline ∷ [])) told.0 ∙ sym (append-nil (answer ++ newline ∷ [])),
+  subst (λ g. IsAnswer kind g last.line last.answer new) told.1 last.is,
+  ap (λ t. t ++ (last.answer ++ newline ∷ [])) told.0 ∙ sym (append-nil (last.answer ++ newline ∷ [])),
   (refl, refl),
 )
-one_more kind (first ∷ lines) line text answer old mid new told is = (
+one_more kind (first ∷ lines) text old mid new told last = (
   told.0,
-  told.1 ++ (answer ++ newline ∷ []),
+  told.1 ++ (last.answer ++ newline ∷ []),
   told.2,
   told.3,
-  ap (λ t. t ++ (answer ++ newline ∷ [])) told.4
-      ∙ append_assoc (told.0 ++ newline ∷ []) told.1 (answer ++ newline ∷ []),
-  one_more kind lines line told.1 answer told.2 mid new told.5 is,
+  ap (λ t. t ++ (last.answer ++ newline ∷ [])) told.4
+      ∙ append_assoc (told.0 ++ newline ∷ []) told.1 (last.answer ++ newline ∷ []),
+  one_more kind lines told.1 told.2 mid new told.5 last,
 )
 
 all_and_one : (lines : List (List ℕ)) (line : List ℕ)
@@ -173,8 +179,11 @@ module _ (kind : Kind) (given_old given written_old written : List ℕ) (graph :
             ∙ (ap (λ t. t ++ (answer.0 ++ newline ∷ [])) s.written_is
             ∙ append_assoc written_old s.text (answer.0 ++ newline ∷ []));
         answers =
-            one_more kind s.lines line s.text answer.0 empty graph new s.answers
-            (says_same kind graph new answered line answer.0 same answer.1);
+            one_more kind s.lines s.text empty graph new s.answers (record {
+              line = line;
+              answer = answer.0;
+              is = says_same kind graph new answered line answer.0 same answer.1;
+            });
         whole = all_and_one s.lines line s.whole (both_lack s.front rest s.unended lacks);
         unended = tt;
         kept_is = refl;
@@ -213,8 +222,11 @@ module _ (kind : Kind) (given_old given written_old written : List ℕ) (graph :
             ∙ (ap (λ t. t ++ (answer.0 ++ newline ∷ [])) s.written_is
             ∙ append_assoc written_old s.text (answer.0 ++ newline ∷ []));
         answers = subst (λ ls. IsTranscript kind empty ls (s.text ++ (answer.0 ++ newline ∷ [])) new) (sym lines)
-            (one_more kind s.lines s.front s.text answer.0 empty graph new s.answers
-            (says_same kind graph new kept s.front answer.0 same answer.1));
+            (one_more kind s.lines s.text empty graph new s.answers (record {
+              line = s.front;
+              answer = answer.0;
+              is = says_same kind graph new kept s.front answer.0 same answer.1;
+            }));
       }
 
   -- where the source fails, what ended is answered
@@ -273,12 +285,13 @@ at_once kind (Ok x) rest written now graph new {kept} none answer = λ lacks giv
     (ends_line kind given_old given written_old written graph kept so_far rest rest new now lacks
     (sym (kept_says rest) ∙ ap (λ k. asked_in (take 4097 (k ++ rest))) (sym none)) answer)
 
-pub at_last : (kind : Kind) (rest : List ℕ) {answered : List ℕ} (written now : List ℕ) (graph new : Graph ℤ ℤ)
-    (kept : List ℕ) {kept_new : List ℕ}
+pub at_last : {kind : Kind} (rest : List ℕ) {answered written now : List ℕ} {graph new : Graph ℤ ℤ}
+    {kept kept_new : List ℕ}
     → answered ≡ take 4097 (kept ++ rest) → kept_new ≡ []
     → AnswersLine {A = Unit {0}} {E = Unit {0}} kind (Ok tt) answered graph new written now → Lacks newline rest
     → GoesOn kind (rest ++ newline ∷ []) written now graph new kept kept_new
-at_last kind rest {answered} written now graph new kept is none answer lacks given_old given written_old so_far =
+at_last {kind} rest {answered} {written} {now} {graph} {new} {kept} is none answer lacks
+    given_old given written_old so_far =
     subst (IsServed kind given_old (given ++ (rest ++ newline ∷ [])) written_old now new) (sym none)
     (ends_line kind given_old given written_old written graph kept so_far rest answered new now lacks
     (ap asked_in is) answer)

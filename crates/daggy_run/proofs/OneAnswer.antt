@@ -28,6 +28,13 @@ pub record AreOne {E : Type 0} (front other : List (NewEdge E)) (at it : NewEdge
   pub fronts : front ≡ other
   pub ats : at ≡ it
 
+-- a new node, and the edge between it and a node that is there: out of that node, or into it
+record NewNeighbor (N E : Type 0) : Type 0 where
+  dir : Direction
+  at : ℕ
+  edge : E
+  node : N
+
 module _ {N E : Type 0} (limit : ℕ) where
   -- the same answer, and the same graph after it
   abbrev Agree : (a b : Answer N E) (h k : Graph N E) → Type 0
@@ -96,36 +103,36 @@ module _ {N E : Type 0} (limit : ℕ) where
   same_update g (Some found) x other b fa fb s t = absurd s
 
   -- ---- a node with an edge
-  same_neighbor : (dir : Direction) (g : Graph N E) (n : ℕ) (edge : E) (node : N) (a b : Answer N E) {h k : Graph N E}
-      → FindsMemory a → FindsMemory b
-      → IsNeighborStep dir limit g n edge node a h → IsNeighborStep dir limit g n edge node b k → Agree a b h k
-  same_neighbor dir g n edge node (Memory w) b fa fb s t = absurd fa
-  same_neighbor dir g n edge node (EdgeNode e m) (Memory w) fa fb s t = absurd fb
-  same_neighbor dir g n edge node (EdgeNode e m) (EdgeNode f o) fa fb s t =
+  same_neighbor : (g : Graph N E) (x : NewNeighbor N E) (a b : Answer N E) {h k : Graph N E}
+      → FindsMemory a → FindsMemory b → IsNeighborStep x.dir limit g x.at x.edge x.node a h
+      → IsNeighborStep x.dir limit g x.at x.edge x.node b k → Agree a b h k
+  same_neighbor g x (Memory w) b fa fb s t = absurd fa
+  same_neighbor g x (EdgeNode e m) (Memory w) fa fb s t = absurd fb
+  same_neighbor g x (EdgeNode e m) (EdgeNode f o) fa fb s t =
       let one : e ≡ f = s.1 ∙ sym t.1 in
       let other : m ≡ o = s.2 ∙ sym t.2 in (ap (λ y. EdgeNode y m) one ∙ ap (EdgeNode f) other, s.3 ∙ sym t.3)
-  same_neighbor dir g n edge node (EdgeNode e m) (Missing (OfEdgeNode f w)) fa fb s t = absurd (t.0 s.0.0)
-  same_neighbor dir g n edge node (EdgeNode e m) (Full (OfEdgeNode f w)) fa fb s t =
+  same_neighbor g x (EdgeNode e m) (Missing (OfEdgeNode f w)) fa fb s t = absurd (t.0 s.0.0)
+  same_neighbor g x (EdgeNode e m) (Full (OfEdgeNode f w)) fa fb s t =
       absurd (no_room limit _ _ s.0.1 s.0.2 t.1)
-  same_neighbor dir g n edge node (EdgeNode e m) other fa fb s t = absurd t
-  same_neighbor dir g n edge node (Missing (OfEdgeNode e v)) (Memory w) fa fb s t = absurd fb
-  same_neighbor dir g n edge node (Missing (OfEdgeNode e v)) (EdgeNode f o) fa fb s t = absurd (s.0 t.0.0)
-  same_neighbor dir g n edge node (Missing (OfEdgeNode e v)) (Missing (OfEdgeNode f w)) fa fb s t =
+  same_neighbor g x (EdgeNode e m) other fa fb s t = absurd t
+  same_neighbor g x (Missing (OfEdgeNode e v)) (Memory w) fa fb s t = absurd fb
+  same_neighbor g x (Missing (OfEdgeNode e v)) (EdgeNode f o) fa fb s t = absurd (s.0 t.0.0)
+  same_neighbor g x (Missing (OfEdgeNode e v)) (Missing (OfEdgeNode f w)) fa fb s t =
       let one : e ≡ f = s.1 ∙ sym t.1 in
       let other : v ≡ w = s.2 ∙ sym t.2 in
       (ap (λ y. Missing (OfEdgeNode y v)) one ∙ ap (λ y. Missing (OfEdgeNode f y)) other, s.3 ∙ sym t.3)
-  same_neighbor dir g n edge node (Missing (OfEdgeNode e v)) (Full (OfEdgeNode f w)) fa fb s t = absurd (s.0 t.0)
-  same_neighbor dir g n edge node (Missing (OfEdgeNode e v)) other fa fb s t = absurd t
-  same_neighbor dir g n edge node (Full (OfEdgeNode e v)) (Memory w) fa fb s t = absurd fb
-  same_neighbor dir g n edge node (Full (OfEdgeNode e v)) (EdgeNode f o) fa fb s t =
+  same_neighbor g x (Missing (OfEdgeNode e v)) (Full (OfEdgeNode f w)) fa fb s t = absurd (s.0 t.0)
+  same_neighbor g x (Missing (OfEdgeNode e v)) other fa fb s t = absurd t
+  same_neighbor g x (Full (OfEdgeNode e v)) (Memory w) fa fb s t = absurd fb
+  same_neighbor g x (Full (OfEdgeNode e v)) (EdgeNode f o) fa fb s t =
       absurd (no_room limit _ _ t.0.1 t.0.2 s.1)
-  same_neighbor dir g n edge node (Full (OfEdgeNode e v)) (Missing (OfEdgeNode f w)) fa fb s t = absurd (t.0 s.0)
-  same_neighbor dir g n edge node (Full (OfEdgeNode e v)) (Full (OfEdgeNode f w)) fa fb s t =
+  same_neighbor g x (Full (OfEdgeNode e v)) (Missing (OfEdgeNode f w)) fa fb s t = absurd (t.0 s.0)
+  same_neighbor g x (Full (OfEdgeNode e v)) (Full (OfEdgeNode f w)) fa fb s t =
       let one : e ≡ f = s.2 ∙ sym t.2 in
       let other : v ≡ w = s.3 ∙ sym t.3 in
       (ap (λ y. Full (OfEdgeNode y v)) one ∙ ap (λ y. Full (OfEdgeNode f y)) other, s.4 ∙ sym t.4)
-  same_neighbor dir g n edge node (Full (OfEdgeNode e v)) other fa fb s t = absurd t
-  same_neighbor dir g n edge node other b fa fb s t = absurd s
+  same_neighbor g x (Full (OfEdgeNode e v)) other fa fb s t = absurd t
+  same_neighbor g x other b fa fb s t = absurd s
 
   -- ---- a list of edges
   -- the edge has something against it
@@ -138,23 +145,27 @@ module _ {N E : Type 0} (limit : ℕ) where
   by_index : (g : Graph N E) (x : NewEdge E) → LacksIndex limit g x → IsFaulty g x
   by_index g x lacks ends few = omega (arith, lacks.1)
 
+  -- an edge that has something against it, behind edges that have nothing
+  record IsFaultAfter (g : Graph N E) (front : List (NewEdge E)) (at : NewEdge E) : Type 0 where
+    faultless : IsFaultless limit g front
+    faulty : IsFaulty (with_edges g front) at
+
   one_fault : (g : Graph N E) (front other behind rest : List (NewEdge E)) {at it : NewEdge E}
       → front ++ at ∷ behind ≡ other ++ it ∷ rest
-      → IsFaultless limit g front → IsFaultless limit g other → IsFaulty (with_edges g front) at
-      → IsFaulty (with_edges g other) it → AreOne front other at it
-  one_fault g [] [] behind rest same f o a b = record { fronts = refl; ats = cc }
-  one_fault g [] (y ∷ other) behind rest {at} {it} same f o a b =
-      let here : at ≡ y = cc in absurd (subst (IsFaulty g) here a o.0 o.1)
-  one_fault g (x ∷ front) [] behind rest {at} {it} same f o a b =
-      let here : it ≡ x = cc in absurd (subst (IsFaulty g) here b f.0 f.1)
-  one_fault g (x ∷ front) (y ∷ other) behind rest {at} {it} same f o a b =
+      → IsFaultAfter g front at → IsFaultAfter g other it → AreOne front other at it
+  one_fault g [] [] behind rest same a b = record { fronts = refl; ats = cc }
+  one_fault g [] (y ∷ other) behind rest {at} {it} same a b =
+      let here : at ≡ y = cc in absurd (subst (IsFaulty g) here a.faulty b.faultless.0 b.faultless.1)
+  one_fault g (x ∷ front) [] behind rest {at} {it} same a b =
+      let here : it ≡ x = cc in absurd (subst (IsFaulty g) here b.faulty a.faultless.0 a.faultless.1)
+  one_fault g (x ∷ front) (y ∷ other) behind rest {at} {it} same a b =
       let here : x ≡ y = cc in
       let there : front ++ at ∷ behind ≡ other ++ it ∷ rest = cc in
-      let P : NewEdge E → Type 0 = λ z. IsFaultless limit (with_edge g z.0 z.1 z.2) other in
-      let Q : NewEdge E → Type 0 = λ z. IsFaulty (with_edges (with_edge g z.0 z.1 z.2) other) it in
+      let P : NewEdge E → Type 0 = λ z. IsFaultAfter (with_edge g z.0 z.1 z.2) other it in
       let r =
-      one_fault (with_edge g x.0 x.1 x.2) front other behind rest there f.2 (subst P (sym here) o.2) a
-      (subst Q (sym here) b) in
+      one_fault (with_edge g x.0 x.1 x.2) front other behind rest there
+      (record { faultless = a.faultless.2; faulty = a.faulty })
+      (subst P (sym here) (record { faultless = b.faultless.2; faulty = b.faulty })) in
       record { fronts = ap (λ z. z ∷ front) here ∙ ap (λ zs. y ∷ zs) r.fronts; ats = r.ats }
 
   no_fault : (g : Graph N E) (edges front behind : List (NewEdge E)) (at : NewEdge E)
@@ -175,8 +186,9 @@ module _ {N E : Type 0} (limit : ℕ) where
         → {l m : E} {ls bs : List E} (s : StopsAt limit g edges C l ls) (t : StopsAt limit g edges D m bs)
         → AreOne s.front t.front s.at t.at
     same_stop C D c d s t =
-        one_fault g s.front t.front s.behind t.behind (sym s.edges_are ∙ t.edges_are) s.faultless t.faultless
-        (c _ _ s.cause) (d _ _ t.cause)
+        one_fault g s.front t.front s.behind t.behind (sym s.edges_are ∙ t.edges_are)
+        (record { faultless = s.faultless; faulty = c _ _ s.cause })
+        (record { faultless = t.faultless; faulty = d _ _ t.cause })
 
     same_weights : (C D : Graph N E → NewEdge E → Type 0) (l m : E) (ls bs : List E) (s : StopsAt limit g edges C l ls)
         (t : StopsAt limit g edges D m bs)
@@ -297,9 +309,9 @@ module _ {N E : Type 0} (limit : ℕ) where
   same_step g (request.Edge x) a b both fa fb s t = same_edge g x a b fa fb s t
   same_step g (request.Update x) a b both fa fb s t = same_update g (find_edge g x.0 x.1) x a b fa fb s t
   same_step g (request.Child n edge node) a b both fa fb s t =
-      same_neighbor Outgoing g n edge node a b fa fb s t
+      same_neighbor g (record { dir = Outgoing; at = n; edge = edge; node = node }) a b fa fb s t
   same_step g (request.Parent n edge node) a b both fa fb s t =
-      same_neighbor Incoming g n edge node a b fa fb s t
+      same_neighbor g (record { dir = Incoming; at = n; edge = edge; node = node }) a b fa fb s t
   same_step g (request.Edges edges) a b both fa fb s t = same_series g edges a b fa fb s t
   same_step g (request.Find u v) a b both fa fb s t = same_find g u v a b s t
   same_step g (request.Ends e) a b both fa fb s t = same_ends g e a b s t

@@ -188,23 +188,28 @@ raised_levels n level c levels parents levels' parents' (inr (inr h)) = ap lengt
 abbrev pub AreInside : List ℕ → Type 0
 AreInside parents = (k : ℕ) → k < length parents → slice_index parents k < length parents
 
-set_inside : (parents : List ℕ) (c n : ℕ)
-    → c < length parents → n < length parents → AreInside parents → AreInside (set parents c n)
-set_inside parents c n low real inside k within =
+-- a node n, its child c and the noted parents are all within the list of parents
+record AreWithin (n c : ℕ) (parents : List ℕ) : Type 0 where
+  child : c < length parents
+  node : n < length parents
+  noted : AreInside parents
+
+set_inside : {n c : ℕ} {parents : List ℕ} → AreWithin n c parents → AreInside (set parents c n)
+set_inside {n} {c} {parents} inside k within =
     let size : length (set parents c n) ≡ length parents = length-set parents c n in
     elim (cases_eq k c) [
-      | inl e ↦ omega (arith, ap (slice_index (set parents c n)) e, get_or-set_same parents c n 0 low)
-      | inr d ↦ omega (arith, get_or-set_other parents c k n 0 d, inside k (omega arith))
+      | inl e ↦ omega (arith, ap (slice_index (set parents c n)) e, get_or-set_same parents c n 0 inside.child)
+      | inr d ↦ omega (arith, get_or-set_other parents c k n 0 d, inside.noted k (omega arith))
     ]
 
-raised_parents : (n level c : ℕ) (levels parents levels' parents' : List ℕ)
-    → c < length parents → n < length parents → AreInside parents → IsRaised n level c levels parents levels' parents'
+raised_parents : {n c : ℕ} {parents : List ℕ} (level : ℕ) (levels levels' parents' : List ℕ)
+    → AreWithin n c parents → IsRaised n level c levels parents levels' parents'
     → (length parents' ≡ length parents) × AreInside parents'
-raised_parents n level c levels parents levels' parents' low real inside (inl h) =
-    rw h.2 (length-set parents c n, set_inside parents c n low real inside)
-raised_parents n level c levels parents levels' parents' low real inside (inr (inl h)) =
-    rw h.3 (length-set parents c n, set_inside parents c n low real inside)
-raised_parents n level c levels parents levels' parents' low real inside (inr (inr h)) = rw h.3 (refl, inside)
+raised_parents {n} {c} {parents} level levels levels' parents' inside (inl h) =
+    rw h.2 (length-set parents c n, set_inside inside)
+raised_parents {n} {c} {parents} level levels levels' parents' inside (inr (inl h)) =
+    rw h.3 (length-set parents c n, set_inside inside)
+raised_parents level levels levels' parents' inside (inr (inr h)) = rw h.3 (refl, inside.noted)
 
 -- ---- the children of a node, one after the other
 
@@ -265,9 +270,12 @@ module _ {N E : Type 0} (end : ℕ) (g : Graph N E) (w : IsWellFormed end g) {n 
         let joined : AreJoined g n v = child_joined end g w n s.passed e s.cursor here v next look in
         let low = child_low here v next look in
         let low_n : n < node_bound g = below_bound g.nodes n exists in
-        let sizes =
-        raised_parents n level v levels parents levels' parents' (omega (arith, s.parents_fit))
-        (omega (arith, s.parents_fit)) s.inside raised in
+        let inside : AreWithin n v parents = record {
+          child = omega (arith, s.parents_fit);
+          node = omega (arith, s.parents_fit);
+          noted = s.inside;
+        } in
+        let sizes = raised_parents level levels levels' parents' inside raised in
         let P : ℕ → Type 0 = λ z. Mem z (v ∷ s.met) in
         let Q : ℕ → Type 0 = λ z. AreJoined g n z in
         record {

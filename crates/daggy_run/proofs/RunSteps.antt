@@ -1,8 +1,8 @@
 -- A run goes on by one step, and a run of either kind is one of the compact kind.
-use Rattle.std.proofs.Common.{◌≡◌, ℕ, List, [], ◌∷◌, ◌++◌, map, Result, Ok, Err, OnOk, is_err, false, refl, sym, ap}
+use Rattle.std.proofs.Common.{◌≡◌, ℕ, List, [], ◌∷◌, ◌++◌, map, Result, Ok, Err, OnOk, is_err, false, refl, sym}
 use Rattle.std.proofs.Common.{subst, ◌∙◌, rules}
 use Rattle.std.specs.List.{AllByRecursion}
-use Rattle.std.proofs.lemmas.List.{map-append, map-id}
+use Rattle.std.proofs.lemmas.List.{map-id}
 use Rattle.daggy_base.specs.Graph.{Graph}
 use Rattle.daggy_base.specs.Removal.{Kind, Compact}
 use Rattle.daggy_commands.specs.Requests.{Request, Node, Edge, Update, Child, Parent, Edges, Find, Ends, RemoveNode}
@@ -51,6 +51,15 @@ module _ {N E : Type 0} (kind : Kind) (limit : ℕ) where
   compact_run old new [] (a ∷ answers) both run = absurd run
   compact_run old new (q ∷ requests) [] both run = absurd run
 
+  -- all was asked
+  pub run_whole : {C : Type 0} (old new : Graph N E) (f : C → Request N E) (asked : List C) {commands : List C}
+      (answers : List (Answer N E))
+      → map (λ x. x) asked ≡ commands
+      → IsRun kind limit old (map f asked) answers new → IsRun kind limit old (map f commands) answers new
+  run_whole {C} old new f asked answers all run =
+      let P : List C → Type 0 = λ xs. IsRun kind limit old (map f xs) answers new in
+      subst P (sym (map-id asked) ∙ all) run
+
 -- what holds where there is no error
 pub unless_err : {A F P : Type 0} (r : Result A F) → OnOk r P → false ≡ is_err r → P
 unless_err (Ok x) holds none = search rules
@@ -60,12 +69,3 @@ unless_err (Err e) holds none = absurd cc
 pub run_begins : {N E R : Type 0} (kind : Kind) (limit : ℕ) (h : R → Answer N E) (old : Graph N E) (replies : List R)
     → replies ≡ [] → IsRun kind limit old [] (map h replies) old
 run_begins kind limit h old replies none = rw none refl
-
--- all was asked
-pub run_whole : {N E C R : Type 0} (kind : Kind) (limit : ℕ) (f : C → Request N E) (h : R → Answer N E)
-    (old new : Graph N E) (asked : List C) {commands : List C} (replies : List R)
-    → map (λ x. x) asked ≡ commands
-    → IsRun kind limit old (map f asked) (map h replies) new → IsRun kind limit old (map f commands) (map h replies) new
-run_whole {C = C} kind limit f h old new asked replies all run =
-    let P : List C → Type 0 = λ xs. IsRun kind limit old (map f xs) (map h replies) new in
-    subst P (sym (map-id asked) ∙ all) run

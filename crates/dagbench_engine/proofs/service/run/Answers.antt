@@ -36,9 +36,8 @@ reads-smaller g c =
 pub reads-preserved : goal.reads-preserved
 reads-preserved g c = record {
   served =
-      read_on (g.K.Sink.taken c.reads.sink) c.reads.session.output _ _
-      c.reads.invariant.served c.in-Ok.ensures.text c.in-Ok.ensures.empty c.in-Ok-read.ensures.bytes.1 refl
-      c.in-Ok-take_block.ensures.served;
+      read_on (g.K.Sink.taken c.reads.sink) c.reads.session.output _ c.reads.invariant.served
+      c.in-Ok.ensures.text c.in-Ok.ensures.empty c.in-Ok-read.ensures.bytes.1 c.in-Ok-take_block.ensures.served;
   no_read_fault = c.in-Ok-read.ensures.counted ∙ c.reads.invariant.no_read_fault;
   no_write_fault = c.in-Ok-take_block.ensures.counted ∙ (c.in-Ok.ensures.counted ∙ c.reads.invariant.no_write_fault);
 }

@@ -54,7 +54,7 @@ returns-clause-run g c =
     YieldsList-end (YieldsList-from_vec {s = c.into_iter-command-iterator.result} c.args.commands.items given.0
     (given.1 ∙ c.args.commands.ok.0)) c.commands.yielded c.commands.command-iterator c.commands.yielded_by c.next.result
     c.next.new.self c.in-None.is c.next.ensures.steps in
-    run_whole g.D.GuardedDag.kind g.Ix.IndexType.greatest _ _ _ _ _ _ all.0 c.commands.invariant.run
+    run_whole g.D.GuardedDag.kind g.Ix.IndexType.greatest _ _ _ _ _ all.0 c.commands.invariant.run
 
 pub returns-clause-as_compact : goal.returns-clause-as_compact
 returns-clause-as_compact g c =
@@ -64,4 +64,4 @@ returns-clause-as_compact g c =
     (given.1 ∙ c.args.commands.ok.0)) c.commands.yielded c.commands.command-iterator c.commands.yielded_by c.next.result
     c.next.new.self c.in-None.is c.next.ensures.steps in
     as_compact g.Ix.IndexType.greatest g.D.GuardedDag.kind _ _ _ _
-    (run_whole g.D.GuardedDag.kind g.Ix.IndexType.greatest _ _ _ _ _ _ all.0 c.commands.invariant.run)
+    (run_whole g.D.GuardedDag.kind g.Ix.IndexType.greatest _ _ _ _ _ all.0 c.commands.invariant.run)

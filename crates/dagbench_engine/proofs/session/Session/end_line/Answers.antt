@@ -8,4 +8,4 @@ returns-then-is_empty-clause-served g c =
 
 pub returns-clause-served : goal.returns-clause-served
 returns-clause-served g c =
-    at_last _ _ _ _ _ _ _ (c.as_slice.ensures ∙ c.keep.ensures) c.clear.ensures c.in_ok-answer.ensures.answered
+    at_last _ (c.as_slice.ensures ∙ c.keep.ensures) c.clear.ensures c.in_ok-answer.ensures.answered
