@@ -63,144 +63,154 @@ module _ {V W : Type 0} where
         | inr old ↦ inr old
       ]
 
+-- a filter of nodes on its way: what is called at the next node, that node's index, the graph so far, where no slot is
+-- vacant, the new indices of the nodes from there on, and the graph in the end
+record Filtering (F V W : Type 0) : Type 0 where
+  f : F
+  index : ℕ
+  now : Graph V W
+  compact : now.vacant_nodes ≡ []
+  names : List (Option ℕ)
+  new : Graph V W
+
+module _ {F V W : Type 0} where
+  -- behind a vacant slot
+  abbrev past_none : Filtering F V W → (rest : List (Option ℕ)) → Filtering F V W
+  past_none s rest = record s { index = s.index + 1; names = rest }
+
+  -- behind a node
+  abbrev past_node : Filtering F V W → (r : Option V) (next : F) (rest : List (Option ℕ)) → Filtering F V W
+  past_node s r next rest = record {
+    f = next;
+    index = s.index + 1;
+    now = with_kept_node s.now r;
+    compact = none_vacant s.now r s.compact;
+    names = rest;
+    new = s.new;
+  }
+
 module _ {N V W F I : Type 0} (step : F → I → Bor N → Option V → F → Type 0) (of : ℕ → I) where
+  -- the nodes in these slots are filtered, from the next one on
+  abbrev Filters : List (Option N) → Filtering F V W → Type 0
+  Filters xs s = FiltersNodes step of s.f s.index xs s.now s.names s.new
+
   -- each name is the index of a node that was added
-  names_from : (f : F) (i : ℕ) (xs : List (Option N)) (h : Graph V W) (names : List (Option ℕ)) (new : Graph V W)
-      → h.vacant_nodes ≡ [] → FiltersNodes step of f i xs h names new
-      → (a : ℕ) {k : ℕ} → slot names a ≡ Some k → length h.nodes ≤ k
-  names_from f i [] h names new none (nil, same) a {k} at = absurd (none-some k (ap (λ z. slot z a) (sym nil) ∙ at))
-  names_from f i (None ∷ xs) h names new none (rest, is, more) zero {k} at =
-      absurd (none-some k (ap (λ z. slot z zero) (sym is) ∙ at))
-  names_from f i (None ∷ xs) h names new none (rest, is, more) (suc a) {k} at =
-      names_from f (i + 1) xs h rest new none more a (ap (λ z. slot z (suc a)) (sym is) ∙ at)
-  names_from f i (Some x ∷ xs) h names new none (r, next, called, rest, is, more) zero {k} at =
-      omega (arith, (named_next h r k none (ap (λ z. slot z zero) (sym is) ∙ at)).0)
-  names_from f i (Some x ∷ xs) h names new none (r, next, called, rest, is, more) (suc a) {k} at =
+  names_from : (xs : List (Option N)) (s : Filtering F V W)
+      → Filters xs s → (a : ℕ) {k : ℕ} → slot s.names a ≡ Some k → length s.now.nodes ≤ k
+  names_from [] s (nil, same) a {k} at = absurd (none-some k (ap (λ z. slot z a) (sym nil) ∙ at))
+  names_from (None ∷ xs) s (rest, is, more) zero {k} at = absurd (none-some k (ap (λ z. slot z zero) (sym is) ∙ at))
+  names_from (None ∷ xs) s (rest, is, more) (suc a) {k} at =
+      names_from xs (past_none s rest) more a (ap (λ z. slot z (suc a)) (sym is) ∙ at)
+  names_from (Some x ∷ xs) s (r, next, called, rest, is, more) zero {k} at =
+      omega (arith, (named_next s.now r k s.compact (ap (λ z. slot z zero) (sym is) ∙ at)).0)
+  names_from (Some x ∷ xs) s (r, next, called, rest, is, more) (suc a) {k} at =
       omega (
         arith,
-        not_fewer h r none,
-        names_from next (i + 1) xs (with_kept_node h r) rest new (none_vacant h r none) more a
-            (ap (λ z. slot z (suc a)) (sym is) ∙ at),
+        not_fewer s.now r s.compact,
+        names_from xs (past_node s r next rest) more a (ap (λ z. slot z (suc a)) (sym is) ∙ at),
       )
 
   -- no two nodes got one name
-  one_name : (f : F) (i : ℕ) (xs : List (Option N)) (h : Graph V W) (names : List (Option ℕ)) (new : Graph V W)
-      → h.vacant_nodes ≡ [] → FiltersNodes step of f i xs h names new
-      → {k : ℕ} (a b : ℕ) → slot names a ≡ Some k → slot names b ≡ Some k → a ≡ b
-  one_name f i [] h names new none (nil, same) {k} a b p q = absurd (none-some k (ap (λ z. slot z a) (sym nil) ∙ p))
-  one_name f i (None ∷ xs) h names new none (rest, is, more) {k} zero b p q =
+  one_name : (xs : List (Option N)) (s : Filtering F V W)
+      → Filters xs s → {k : ℕ} (a b : ℕ) → slot s.names a ≡ Some k → slot s.names b ≡ Some k → a ≡ b
+  one_name [] s (nil, same) {k} a b p q = absurd (none-some k (ap (λ z. slot z a) (sym nil) ∙ p))
+  one_name (None ∷ xs) s (rest, is, more) {k} zero b p q =
       absurd (none-some k (ap (λ z. slot z zero) (sym is) ∙ p))
-  one_name f i (None ∷ xs) h names new none (rest, is, more) {k} (suc a) zero p q =
+  one_name (None ∷ xs) s (rest, is, more) {k} (suc a) zero p q =
       absurd (none-some k (ap (λ z. slot z zero) (sym is) ∙ q))
-  one_name f i (None ∷ xs) h names new none (rest, is, more) {k} (suc a) (suc b) p q =
-      ap suc (one_name f (i + 1) xs h rest new none more a b (ap (λ z. slot z (suc a)) (sym is) ∙ p)
+  one_name (None ∷ xs) s (rest, is, more) {k} (suc a) (suc b) p q =
+      ap suc (one_name xs (past_none s rest) more a b (ap (λ z. slot z (suc a)) (sym is) ∙ p)
       (ap (λ z. slot z (suc b)) (sym is) ∙ q))
-  one_name f i (Some x ∷ xs) h names new none (r, next, called, rest, is, more) zero zero p q = refl
-  one_name f i (Some x ∷ xs) h names new none (r, next, called, rest, is, more) {k} zero (suc b) p q =
+  one_name (Some x ∷ xs) s (r, next, called, rest, is, more) zero zero p q = refl
+  one_name (Some x ∷ xs) s (r, next, called, rest, is, more) {k} zero (suc b) p q =
       absurd (omega (
         arith,
-        (named_next h r k none (ap (λ z. slot z zero) (sym is) ∙ p)).1,
-        names_from next (i + 1) xs (with_kept_node h r) rest new (none_vacant h r none) more b
-            (ap (λ z. slot z (suc b)) (sym is) ∙ q),
+        (named_next s.now r k s.compact (ap (λ z. slot z zero) (sym is) ∙ p)).1,
+        names_from xs (past_node s r next rest) more b (ap (λ z. slot z (suc b)) (sym is) ∙ q),
       ))
-  one_name f i (Some x ∷ xs) h names new none (r, next, called, rest, is, more) {k} (suc a) zero p q =
+  one_name (Some x ∷ xs) s (r, next, called, rest, is, more) {k} (suc a) zero p q =
       absurd (omega (
         arith,
-        (named_next h r k none (ap (λ z. slot z zero) (sym is) ∙ q)).1,
-        names_from next (i + 1) xs (with_kept_node h r) rest new (none_vacant h r none) more a
-            (ap (λ z. slot z (suc a)) (sym is) ∙ p),
+        (named_next s.now r k s.compact (ap (λ z. slot z zero) (sym is) ∙ q)).1,
+        names_from xs (past_node s r next rest) more a (ap (λ z. slot z (suc a)) (sym is) ∙ p),
       ))
-  one_name f i (Some x ∷ xs) h names new none (r, next, called, rest, is, more) {k} (suc a) (suc b) p q =
-      ap suc (one_name next (i + 1) xs (with_kept_node h r) rest new (none_vacant h r none) more a b
-      (ap (λ z. slot z (suc a)) (sym is) ∙ p) (ap (λ z. slot z (suc b)) (sym is) ∙ q))
+  one_name (Some x ∷ xs) s (r, next, called, rest, is, more) {k} (suc a) (suc b) p q =
+      ap suc (one_name xs (past_node s r next rest) more a b (ap (λ z. slot z (suc a)) (sym is) ∙ p)
+      (ap (λ z. slot z (suc b)) (sym is) ∙ q))
 
   -- there is a name for each slot, vacant or not
-  names_long : (f : F) (i : ℕ) (xs : List (Option N)) (h : Graph V W) (names : List (Option ℕ)) (new : Graph V W)
-      → FiltersNodes step of f i xs h names new → length names ≡ length xs
-  names_long f i [] h names new (nil, same) = ap length nil
-  names_long f i (None ∷ xs) h names new (rest, is, more) =
-      ap length is ∙ ap suc (names_long f (i + 1) xs h rest new more)
-  names_long f i (Some x ∷ xs) h names new (r, next, called, rest, is, more) =
-      ap length is ∙ ap suc (names_long next (i + 1) xs (with_kept_node h r) rest new more)
+  names_long : (xs : List (Option N)) (s : Filtering F V W) → Filters xs s → length s.names ≡ length xs
+  names_long [] s (nil, same) = ap length nil
+  names_long (None ∷ xs) s (rest, is, more) = ap length is ∙ ap suc (names_long xs (past_none s rest) more)
+  names_long (Some x ∷ xs) s (r, next, called, rest, is, more) =
+      ap length is ∙ ap suc (names_long xs (past_node s r next rest) more)
 
   -- what was added stays
-  nodes_remain : (f : F) (i : ℕ) (xs : List (Option N)) (h : Graph V W) (names : List (Option ℕ)) (new : Graph V W)
-      → h.vacant_nodes ≡ [] → FiltersNodes step of f i xs h names new
-      → (k : ℕ) {y : V} → slot h.nodes k ≡ Some y → slot new.nodes k ≡ Some y
-  nodes_remain f i [] h names new none (nil, same) k at = ap (λ (z : Graph V W). slot z.nodes k) same ∙ at
-  nodes_remain f i (None ∷ xs) h names new none (rest, is, more) k {y} at =
-      nodes_remain f (i + 1) xs h rest new none more k at
-  nodes_remain f i (Some x ∷ xs) h names new none (r, next, called, rest, is, more) k {y} at =
-      nodes_remain next (i + 1) xs (with_kept_node h r) rest new (none_vacant h r none) more k
-      (node_remains h r none k y at)
+  nodes_remain : (xs : List (Option N)) (s : Filtering F V W)
+      → Filters xs s → (k : ℕ) {y : V} → slot s.now.nodes k ≡ Some y → slot s.new.nodes k ≡ Some y
+  nodes_remain [] s (nil, same) k at = ap (λ (z : Graph V W). slot z.nodes k) same ∙ at
+  nodes_remain (None ∷ xs) s (rest, is, more) k {y} at = nodes_remain xs (past_none s rest) more k at
+  nodes_remain (Some x ∷ xs) s (r, next, called, rest, is, more) k {y} at =
+      nodes_remain xs (past_node s r next rest) more k (node_remains s.now r s.compact k y at)
 
   -- a node that got a name existed, and the name is the index of one that exists
-  named_at : (f : F) (i : ℕ) (xs : List (Option N)) (h : Graph V W) (names : List (Option ℕ)) (new : Graph V W)
-      → h.vacant_nodes ≡ [] → FiltersNodes step of f i xs h names new
-      → (a : ℕ) {k : ℕ} → slot names a ≡ Some k → IsSome (slot xs a) × IsSome (slot new.nodes k) ×
-      (k ≤ length h.nodes + a)
-  named_at f i [] h names new none (nil, same) a {k} at = absurd (none-some k (ap (λ z. slot z a) (sym nil) ∙ at))
-  named_at f i (None ∷ xs) h names new none (rest, is, more) zero {k} at =
-      absurd (none-some k (ap (λ z. slot z zero) (sym is) ∙ at))
-  named_at f i (None ∷ xs) h names new none (rest, is, more) (suc a) {k} at =
-      let later = named_at f (i + 1) xs h rest new none more a (ap (λ z. slot z (suc a)) (sym is) ∙ at) in
+  named_at : (xs : List (Option N)) (s : Filtering F V W)
+      → Filters xs s → (a : ℕ) {k : ℕ} → slot s.names a ≡ Some k
+      → IsSome (slot xs a) × IsSome (slot s.new.nodes k) × (k ≤ length s.now.nodes + a)
+  named_at [] s (nil, same) a {k} at = absurd (none-some k (ap (λ z. slot z a) (sym nil) ∙ at))
+  named_at (None ∷ xs) s (rest, is, more) zero {k} at = absurd (none-some k (ap (λ z. slot z zero) (sym is) ∙ at))
+  named_at (None ∷ xs) s (rest, is, more) (suc a) {k} at =
+      let later = named_at xs (past_none s rest) more a (ap (λ z. slot z (suc a)) (sym is) ∙ at) in
       (later.0, later.1, omega (arith, later.2))
-  named_at f i (Some x ∷ xs) h names new none (None, next, called, rest, is, more) zero {k} at =
+  named_at (Some x ∷ xs) s (None, next, called, rest, is, more) zero {k} at =
       absurd (none-some k (ap (λ z. slot z zero) (sym is) ∙ at))
-  named_at f i (Some x ∷ xs) h names new none (Some v, next, called, rest, is, more) zero {k} at =
-      let here : named h (Some v) ≡ Some k = ap (λ z. slot z zero) (sym is) ∙ at in
-      let index : k ≡ length h.nodes = (named_next h (Some v) k none here).0 in
-      let P : ℕ → Type 0 = λ z. slot (with_node h v).nodes z ≡ Some v in
-      let added : slot (with_node h v).nodes k ≡ Some v =
-      subst P (same_Some (next_node h) k here) (slot_taken_new h.nodes h.vacant_nodes v (none_taken h none)) in (
+  named_at (Some x ∷ xs) s (Some v, next, called, rest, is, more) zero {k} at =
+      let here : named s.now (Some v) ≡ Some k = ap (λ z. slot z zero) (sym is) ∙ at in
+      let index : k ≡ length s.now.nodes = (named_next s.now (Some v) k s.compact here).0 in
+      let P : ℕ → Type 0 = λ z. slot (with_node s.now v).nodes z ≡ Some v in
+      let added : slot (with_node s.now v).nodes k ≡ Some v =
+      subst P (same_Some (next_node s.now) k here)
+      (slot_taken_new s.now.nodes s.now.vacant_nodes v (none_taken s.now s.compact)) in (
         refl,
-        ap is_some (nodes_remain next (i + 1) xs (with_node h v) rest new (none_vacant h (Some v) none) more k added),
+        ap is_some (nodes_remain xs (past_node s (Some v) next rest) more k added),
         omega (arith, index),
       )
-  named_at f i (Some x ∷ xs) h names new none (r, next, called, rest, is, more) (suc a) {k} at =
-      let later =
-      named_at next (i + 1) xs (with_kept_node h r) rest new (none_vacant h r none) more a
-      (ap (λ z. slot z (suc a)) (sym is) ∙ at) in
-      (later.0, later.1, omega (arith, later.2, more_nodes h r none))
+  named_at (Some x ∷ xs) s (r, next, called, rest, is, more) (suc a) {k} at =
+      let later = named_at xs (past_node s r next rest) more a (ap (λ z. slot z (suc a)) (sym is) ∙ at) in
+      (later.0, later.1, omega (arith, later.2, more_nodes s.now r s.compact))
 
   -- each node got its index as a name, or was there before
-  came_from : (f : F) (i : ℕ) (xs : List (Option N)) (h : Graph V W) (names : List (Option ℕ)) (new : Graph V W)
-      → FiltersNodes step of f i xs h names new
-      → {k : ℕ} {y : V} → slot new.nodes k ≡ Some y → ((a : ℕ) × (slot names a ≡ Some k)) ⊎ (slot h.nodes k ≡ Some y)
-  came_from f i [] h names new (nil, same) {k} at = inr (ap (λ (z : Graph V W). slot z.nodes k) (sym same) ∙ at)
-  came_from f i (None ∷ xs) h names new (rest, is, more) {k} {y} at =
-      elim (came_from f (i + 1) xs h rest new more at) [
+  came_from : (xs : List (Option N)) (s : Filtering F V W) → Filters xs s
+      → {k : ℕ} {y : V} → slot s.new.nodes k ≡ Some y
+      → ((a : ℕ) × (slot s.names a ≡ Some k)) ⊎ (slot s.now.nodes k ≡ Some y)
+  came_from [] s (nil, same) {k} at = inr (ap (λ (z : Graph V W). slot z.nodes k) (sym same) ∙ at)
+  came_from (None ∷ xs) s (rest, is, more) {k} {y} at =
+      elim (came_from xs (past_none s rest) more at) [
         | inl c ↦ inl (suc c.0, ap (λ z. slot z (suc c.0)) is ∙ c.1)
         | inr q ↦ inr q
       ]
-  came_from f i (Some x ∷ xs) h names new (r, next, called, rest, is, more) {k} {y} at =
-      elim (came_from next (i + 1) xs (with_kept_node h r) rest new more at) [
+  came_from (Some x ∷ xs) s (r, next, called, rest, is, more) {k} {y} at =
+      elim (came_from xs (past_node s r next rest) more at) [
         | inl c ↦ inl (suc c.0, ap (λ z. slot z (suc c.0)) is ∙ c.1)
-        | inr q ↦ elim (node_came h r k y q) [
+        | inr q ↦ elim (node_came s.now r k y q) [
           | inl named_so ↦ inl (zero, ap (λ z. slot z zero) is ∙ named_so)
           | inr old ↦ inr old
         ]
       ]
 
   -- no edge was added, and no more nodes than there were
-  no_edges : (f : F) (i : ℕ) (xs : List (Option N)) (h : Graph V W) (names : List (Option ℕ)) (new : Graph V W)
-      → FiltersNodes step of f i xs h names new → new.edges ≡ h.edges
-  no_edges f i [] h names new (nil, same) = ap (λ (z : Graph V W). z.edges) same
-  no_edges f i (None ∷ xs) h names new (rest, is, more) = no_edges f (i + 1) xs h rest new more
-  no_edges f i (Some x ∷ xs) h names new (r, next, called, rest, is, more) =
-      no_edges next (i + 1) xs (with_kept_node h r) rest new more ∙ edges_stay h r
+  no_edges : (xs : List (Option N)) (s : Filtering F V W) → Filters xs s → s.new.edges ≡ s.now.edges
+  no_edges [] s (nil, same) = ap (λ (z : Graph V W). z.edges) same
+  no_edges (None ∷ xs) s (rest, is, more) = no_edges xs (past_none s rest) more
+  no_edges (Some x ∷ xs) s (r, next, called, rest, is, more) =
+      no_edges xs (past_node s r next rest) more ∙ edges_stay s.now r
 
-  few_nodes : (f : F) (i : ℕ) (xs : List (Option N)) (h : Graph V W) (names : List (Option ℕ)) (new : Graph V W)
-      → h.vacant_nodes ≡ [] → FiltersNodes step of f i xs h names new → length new.nodes ≤ length h.nodes + length xs
-  few_nodes f i [] h names new none (nil, same) = omega (arith, ap (λ (z : Graph V W). length z.nodes) same)
-  few_nodes f i (None ∷ xs) h names new none (rest, is, more) =
-      omega (arith, few_nodes f (i + 1) xs h rest new none more)
-  few_nodes f i (Some x ∷ xs) h names new none (r, next, called, rest, is, more) =
-      omega (
-        arith,
-        more_nodes h r none,
-        few_nodes next (i + 1) xs (with_kept_node h r) rest new (none_vacant h r none) more,
-      )
+  few_nodes : (xs : List (Option N)) (s : Filtering F V W)
+      → Filters xs s → length s.new.nodes ≤ length s.now.nodes + length xs
+  few_nodes [] s (nil, same) = omega (arith, ap (λ (z : Graph V W). length z.nodes) same)
+  few_nodes (None ∷ xs) s (rest, is, more) = omega (arith, few_nodes xs (past_none s rest) more)
+  few_nodes (Some x ∷ xs) s (r, next, called, rest, is, more) =
+      omega (arith, more_nodes s.now r s.compact, few_nodes xs (past_node s r next rest) more)
 
 -- an old edge whose ends got these names
 pub record CameFrom {E : Type 0} (names : List (Option ℕ)) (xs : List (Option (Edge E)))
@@ -235,17 +245,17 @@ module _ {E V W G I : Type 0} (step : G → I → Bor E → Option W → G → T
   ComesFrom xs h new =
       (k : ℕ) (y : Edge W) → edge_at new k ≡ Some y → CameFrom names xs y.parent y.child ⊎ (edge_at h k ≡ Some y)
 
-  edge_from : (g : G) (e : ℕ) (x : Edge E) (xs : List (Option (Edge E))) (ends : Option (ℕ × ℕ)) (h new : Graph V W)
+  edge_from : (g : G) (e : ℕ) (x : Edge E) (xs : List (Option (Edge E))) {ends : Option (ℕ × ℕ)} (h new : Graph V W)
       → new_ends names x ≡ ends
       → ((next : G) (mid : Graph V W) → FiltersEdges step of names next (e + 1) xs mid new → ComesFrom xs mid new)
       → FiltersEdge step of names g e x.weight ends h (λ next mid. FiltersEdges step of names next (e + 1) xs mid new)
       → ComesFrom (Some x ∷ xs) h new
-  edge_from g e x xs None h new is later more k y at =
+  edge_from g e x xs {ends = None} h new is later more k y at =
       elim (later g h more k y at) [
         | inl c ↦ inl (later_edge names (Some x) xs y.parent y.child c)
         | inr q ↦ inr q
       ]
-  edge_from g e x xs (Some ends) h new is later (r, next, called, more) k y at =
+  edge_from g e x xs {ends = Some ends} h new is later (r, next, called, more) k y at =
       elim (later next (with_kept_edge h ends r) more k y at) [
         | inl c ↦ inl (later_edge names (Some x) xs y.parent y.child c)
         | inr q ↦ elim (kept_from h ends r k y q) [
@@ -268,7 +278,7 @@ module _ {E V W G I : Type 0} (step : G → I → Bor E → Option W → G → T
         | inr q ↦ inr q
       ]
   edges_from g e (Some x ∷ xs) h new more k y at =
-      edge_from g e x xs (new_ends names x) h new refl (λ next mid m. edges_from next (e + 1) xs mid new m) more k y at
+      edge_from g e x xs h new refl (λ next mid m. edges_from next (e + 1) xs mid new m) more k y at
 
   nodes_after : (g : G) (e : ℕ) (w : E) (xs : List (Option (Edge E))) (ends : Option (ℕ × ℕ)) (h new : Graph V W)
       → ((next : G) (mid : Graph V W) → FiltersEdges step of names next (e + 1) xs mid new → new.nodes ≡ mid.nodes)
@@ -293,6 +303,17 @@ both_named (Some x) (Some y) a b is = let s = same_Some (x, y) (a, b) is in (ap 
 module _ {N E V W F G I : Type 0} {of : ℕ → I} {step_f : F → I → Bor N → Option V → F → Type 0}
     {step_g : G → I → Bor E → Option W → G → Type 0} {f : F} {g : G} {old : Graph N E} {new : Graph V W}
     (filtered : IsFiltered of step_f step_g f g old new) where
+  -- the filter of its nodes, at its start
+  abbrev start : Filtering F V W
+  start = record {
+    f = f;
+    index = 0;
+    now = empty;
+    compact = refl;
+    names = filtered.names;
+    new = filtered.middle;
+  }
+
   was_joined : (k l : ℕ) → AreJoined new k l
       → (u v : ℕ) × (slot filtered.names u ≡ Some k) × (slot filtered.names v ≡ Some l) × AreJoined old u v
   was_joined k l j =
@@ -303,7 +324,7 @@ module _ {N E V W F G I : Type 0} {of : ℕ → I} {step_f : F → I → Bor N �
             )
         | inr q ↦
             absurd (none-some _ (ap (λ z. slot z j.0)
-            (sym (no_edges step_f of f 0 old.nodes empty filtered.names filtered.middle filtered.nodes)) ∙ q))
+            (sym (no_edges step_f of old.nodes start filtered.nodes)) ∙ q))
       ]
 
   nodes_are : new.nodes ≡ filtered.middle.nodes
@@ -311,7 +332,7 @@ module _ {N E V W F G I : Type 0} {of : ℕ → I} {step_f : F → I → Bor N �
 
   has_name : (a k : ℕ) → slot filtered.names a ≡ Some k → HasNode old a × HasNode new k × (k ≤ a)
   has_name a k at =
-      let n = named_at step_f of f 0 old.nodes empty filtered.names filtered.middle refl filtered.nodes a at in
+      let n = named_at step_f of old.nodes start filtered.nodes a at in
       let P : List (Option V) → Type 0 = λ z. IsSome (slot z k) in
       (n.0, subst P (sym nodes_are) n.1, omega (arith, n.2))
 
@@ -319,8 +340,7 @@ module _ {N E V W F G I : Type 0} {of : ℕ → I} {step_f : F → I → Bor N �
   has_node k = (
     λ h.
         let w = some_is (slot new.nodes k) h in
-        elim (came_from step_f of f 0 old.nodes empty filtered.names filtered.middle filtered.nodes
-        (ap (λ z. slot z k) (sym nodes_are) ∙ w.1)) [
+        elim (came_from step_f of old.nodes start filtered.nodes (ap (λ z. slot z k) (sym nodes_are) ∙ w.1)) [
           | inl c ↦ (c.0, (has_name c.0 k c.1).0, c.1)
           | inr none ↦ absurd (none-some w.0 none)
         ],
@@ -339,12 +359,11 @@ module _ {N E V W F G I : Type 0} {of : ℕ → I} {step_f : F → I → Bor N �
 
     pub names_differ : (a b k : ℕ) → slot names a ≡ Some k → slot names b ≡ Some k → a ≡ b
     names_differ a b k p q =
-        one_name step_f of f 0 old.nodes empty filtered.names filtered.middle refl filtered.nodes a b
-        (ap (λ z. slot z a) same ∙ p) (ap (λ z. slot z b) same ∙ q)
+        one_name step_f of old.nodes start filtered.nodes a b (ap (λ z. slot z a) same ∙ p)
+        (ap (λ z. slot z b) same ∙ q)
 
     pub names_many : length names ≡ length old.nodes
-    names_many =
-        ap length (sym same) ∙ names_long step_f of f 0 old.nodes empty filtered.names filtered.middle filtered.nodes
+    names_many = ap length (sym same) ∙ names_long step_f of old.nodes start filtered.nodes
 
     pub names_cover : {order copy : List ℕ}
         → copy ≡ order → IsOrderOf old order → (n : ℕ) → Contains copy n → n < length names
@@ -356,8 +375,8 @@ module _ {N E V W F G I : Type 0} {of : ℕ → I} {step_f : F → I → Bor N �
         let P : List ℕ → Type 0 = λ z. IsOrderOf new z in
         let whole : left ≡ filter_map (slot filtered.names) order =
         named_so ∙ (ap (λ z. filter_map (slot z) copy) (sym same) ∙ ap (filter_map (slot filtered.names)) is) in
-        subst P (sym whole) (order_named order ord ends_named (slot filtered.names) (λ u v k p q. one_name step_f of f 0
-        old.nodes empty filtered.names filtered.middle refl filtered.nodes u v p q) has_node was_joined)
+        subst P (sym whole) (order_named order ord ends_named (slot filtered.names) (λ u v k p q.
+        one_name step_f of old.nodes start filtered.nodes u v p q) has_node was_joined)
 
   pub fits_filtered : {slots : ℕ} (capacity : ℕ) → slots ≡ length old.nodes → slots ≤ capacity → node_bound new ≤
       capacity
@@ -366,7 +385,7 @@ module _ {N E V W F G I : Type 0} {of : ℕ → I} {step_f : F → I → Bor N �
         arith,
         bound_low new.nodes,
         ap length (same_nodes step_g of filtered.names g 0 old.edges filtered.middle new filtered.edges),
-        few_nodes step_f of f 0 old.nodes empty filtered.names filtered.middle refl filtered.nodes,
+        few_nodes step_f of old.nodes start filtered.nodes,
         many,
         fits,
       )
