@@ -38,16 +38,3 @@ module _ (kind : Kind) (line : List ℕ) (g : Graph ℤ ℤ) (before now : List 
   told : (text : List ℕ) → TellsDocument g text → IsAnswered kind g Document text g
   told text (inl is) = inl (is, refl)
   told text (inr none) = inr (tt, none, refl)
-
-  -- one that asks for the document
-  pub document_answered : {A E : Type 0} (r : Result A E) → Some Document ≡ asked_in line
-      → OnOk r ((text : List ℕ) × TellsDocument g text × (now ≡ before ++ (text ++ 10 ∷ [])))
-      → AnswersLine kind r line g g before now
-  document_answered (Err e) says appended = tt
-  document_answered (Ok x) says appended = (
-    appended.0,
-    subst
-        (λ o. MatchOption o ((appended.0 ≡ codes "bad line") × (g ≡ g)) (λ asked. IsAnswered kind g asked appended.0 g))
-        says (told appended.0 appended.1),
-    appended.2,
-  )

@@ -26,17 +26,6 @@ by_none : (o : Option ℕ) (words : List (List ℕ))
 by_none None words first = refl
 by_none (Some m) words first = absurd cc
 
--- where an index is read
-pub first_root : (words rest : List (List ℕ)) (n : ℕ)
-    → first_by index_of words ≡ Some (n, rest) → IsSome (indices_by_words words)
-    → IsSome (indices_by_words rest)
-    × (unwrap_or (indices_by_words words) [] ≡ n ∷ unwrap_or (indices_by_words rest) [])
-first_root [] rest n first some = absurd cc
-first_root (word ∷ words) rest n first some =
-    let whole : indices_by_words (word ∷ words) ≡ then_indices rest n = by_index (index_of word) words rest n first in
-    let there = listed_with (indices_by_words rest) n (sym (ap is_some whole) ∙ some) in
-    (there.0, ap (λ o. unwrap_or o []) whole ∙ there.1)
-
 pub same_after_root : (words rest : List (List ℕ)) (n : ℕ)
     → first_by index_of words ≡ Some (n, rest) → is_some (indices_by_words rest) ≡ is_some (indices_by_words words)
 same_after_root [] rest n first = absurd cc
@@ -53,13 +42,6 @@ pub shorter_root : (words rest : List (List ℕ)) (n : ℕ)
 shorter_root [] rest n first = absurd cc
 shorter_root (word ∷ words) rest n first = let same = root_shorter (index_of word) words rest n first in
     omega (arith, ap length same)
-
--- where none is
-pub none_rooted : (words : List (List ℕ))
-    → first_by index_of words ≡ None → IsSome (indices_by_words words) → words ≡ []
-none_rooted [] first some = refl
-none_rooted (word ∷ words) first some =
-    absurd (false≢true (sym (ap is_some (by_none (index_of word) words first)) ∙ some))
 
 pub none_after_root : (words whole : List (List ℕ)) → (words ≡ [] → ⊥) → first_by index_of words ≡ None
     → is_some (indices_by_words words) ≡ is_some (indices_by_words whole) → indices_by_words whole ≡ None

@@ -126,11 +126,6 @@ round_is_well_formed = record {
   few_edges = omega arith;
 }
 
-pub look_round : (e : ℕ) (d : ℕ) → HasEdge round e → IsLook 255 round e (get_or (1 ∷ 0 ∷ []) e d) 255
-look_round zero d h = record { edge = line 0 1 0; at = refl; child_is = refl; next_is = refl }
-look_round (suc zero) d h = record { edge = line 1 0 0; at = refl; child_is = refl; next_is = refl }
-look_round (suc (suc e)) d h = absurd (false≢true h)
-
 pub edge_within : (e : ℕ) → HasEdge round e → e < 2
 edge_within zero h = omega arith
 edge_within (suc zero) h = omega arith

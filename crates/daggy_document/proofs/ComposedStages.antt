@@ -22,15 +22,6 @@ use Rattle.daggy_document.specs.Found.{EndsExist, IsNodesFault}
 
 module _ {N E : Type 0} (limit : ℕ) (stable : Bool) (node_answers : Data → Option N → Type 0)
     (edge_answers : Data → Option E → Type 0) (d : Data) where
-  pub shape_fault : parts_in d ≡ None → IsRead limit stable node_answers edge_answers d (Err Shape)
-  shape_fault e =
-      let bad : Result (Graph N E) ReadError = Err Shape in
-      let P : Option Parts → Type 0 = λ o.
-      MatchOption o (bad ≡ Err Shape) (λ p. (fault : Option ReadError) × IsLaidOut limit stable p fault
-      × MatchOption fault (IsFilled limit stable node_answers edge_answers p bad) (λ e. bad ≡ Err e)) in
-      let same : bad ≡ Err Shape = refl in
-      subst P (sym e) same
-
   module _ (p : Parts) (is : parts_in d ≡ Some p) where
     on : (r : Result (Graph N E) ReadError) (fault : Option ReadError) → IsLaidOut limit stable p fault
         → MatchOption fault (IsFilled limit stable node_answers edge_answers p r) (λ e. r ≡ Err e)

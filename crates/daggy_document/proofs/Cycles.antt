@@ -30,13 +30,6 @@ module _ {N E : Type 0} (g : Graph N E) where
   cyclic_ordered None h = h
   cyclic_ordered (Some orders) h = λ u v rest p. h u v rest (path_there orders (u ∷ v ∷ rest) p)
 
-  -- what the graph with its orders is told to be
-  pub tested_plain : (h : Graph N E) (o : Option (List (List ℕ × List ℕ)))
-      → o ≡ None → h ≡ g → IsAcyclic g → IsTested (ordered g o) (Ok h)
-  tested_plain h o is same acyclic =
-      let P : Option (List (List ℕ × List ℕ)) → Type 0 = λ z. IsTested (ordered g z) (Ok h) in
-      subst P (sym is) (acyclic, same)
-
   pub tested_with : (h : Graph N E) (o : Option (List (List ℕ × List ℕ))) (rows : List (List ℕ × List ℕ))
       → o ≡ Some rows → h ≡ with_orders g rows → IsAcyclic g → IsTested (ordered g o) (Ok h)
   tested_with h o rows is same acyclic =

@@ -35,10 +35,6 @@ array_none d e = ap (option_map list_of) (sym e)
 
 -- ---- one by one
 
-map_nil : {A : Type 0} (o : Option (List A)) → option_map (λ (r : List A). [] ++ r) o ≡ o
-map_nil None = refl
-map_nil (Some x) = refl
-
 drop_at : (vs : List Value) (i : ℕ) (v : Value) → i < length vs → v ≡ get_or vs i v → drop i vs ≡ v ∷ drop (i + 1) vs
 drop_at vs i v low is =
     drop-cons vs i v low ∙ (ap (λ k. k ∷ drop (suc i) vs) (sym is) ∙ ap (λ k. v ∷ drop k vs) (sym (add-one i)))
@@ -47,9 +43,6 @@ module _ {A : Type 0} (one : Data → Option A) where
   -- the first i gave xs
   pub record AllSoFar (vs : List Value) (i : ℕ) (xs : List A) : Type 0 where
     pub is : all_in one (map view vs) ≡ option_map (λ r. xs ++ r) (all_in one (map view (drop i vs)))
-
-  pub all_starts : (vs : List Value) → AllSoFar vs 0 []
-  all_starts vs = record { is = sym (map_nil (all_in one (map view vs))) }
 
   joined : (x : A) (xs : List A) (o : Option (List A))
       → option_map (λ r. xs ++ r) (option_map (λ r. x ∷ r) o) ≡ option_map (λ r. (xs ++ x ∷ []) ++ r) o
@@ -141,14 +134,6 @@ module _ (d : Data) (vs : List Value) (array : Some (items_of (map view vs)) ≡
 
   pub no_row : (bound : ℕ) → (length vs ≡ 2 → ⊥) → None ≡ row_in bound d
   no_row bound h = sym (ap (option_and_then (row bound)) (array_some d vs array) ∙ not_row bound vs h)
-
-  pub row_found : (bound : ℕ) (a : Value) {b : Value}
-      → length vs ≡ 2 → a ≡ get_or vs 0 a → b ≡ get_or vs 1 b → {x y : Option (List ℕ)} → x ≡ indices_in bound (view a)
-      → y ≡ indices_in bound (view b) → option_and_then (λ p. option_map (λ c. (p, c)) y) x ≡ row_in bound d
-  row_found bound a {b} long e f {x} {y} first second =
-      ap (λ k. option_and_then (λ p. option_map (λ c. (p, c)) y) k) first
-      ∙ (ap (λ k. option_and_then (λ p. option_map (λ c. (p, c)) k) (indices_in bound (view a))) second
-      ∙ sym (ap (option_and_then (row bound)) (array_some d vs array) ∙ row_is bound vs a b long e f))
 
   module _ {A : Type 0} (one : Data → Option A) (ws : List Value) (same : ws ≡ vs) where
     read_at : all_in one (map view ws) ≡ option_and_then (all_in one) (array_in d)

@@ -284,9 +284,6 @@ pub record MarkedSoFar (p : ℕ → Bool) (m₀ : List Bool) (es : List ℕ) (i 
   pub with_all : marked_with m₀ es ≡ marked_with m (drop i es)
   pub kept : length m ≡ length m₀
 
-pub marked_starts : (p : ℕ → Bool) (m : List Bool) (es : List ℕ) → MarkedSoFar p m es 0 m
-marked_starts p m es = record { forth = λ h. h; back = λ h. h; with_all = refl; kept = refl }
-
 module _ {p : ℕ → Bool} {m₀ m : List Bool} {es : List ℕ} {i : ℕ} (s : MarkedSoFar p m₀ es i m) where
   next_is : i < length es → (e : ℕ) → e ≡ get_or es i e → drop i es ≡ e ∷ drop (i + 1) es
   next_is low e is =
@@ -313,11 +310,6 @@ module _ {p : ℕ → Bool} {m₀ m : List Bool} {es : List ℕ} {i : ℕ} (s : 
       let q : Marked p m (e ∷ drop (i + 1) es) = subst P (next_is low e is) (s.forth h) in
       wrong (q.0, q.1)
 
-  pub marked_whole : length es ≤ i → Marked p m₀ es × (m ≡ marked_with m₀ es)
-  marked_whole past =
-      let P : List ℕ → Type 0 = λ k. Marked p m k in
-      (s.back (subst P (sym (drop_all i es past)) tt), sym (s.with_all ∙ ap (marked_with m) (drop_all i es past)))
-
 -- the lists of the first n slots were marked
 pub record ListsSoFar {N : Type 0} (P : ℕ → ℕ → Bool) (m₀ : List Bool) (slots : List (Option N)) (lists : List (List ℕ))
     (n passed : ℕ) (m : List Bool) : Type 0 where
@@ -326,16 +318,6 @@ pub record ListsSoFar {N : Type 0} (P : ℕ → ℕ → Bool) (m₀ : List Bool)
   pub with_all : marked_by m₀ slots lists ≡ marked_by m (drop n slots) (drop passed lists)
   pub kept : length m ≡ length m₀
   pub within : passed ≤ length lists
-
-pub lists_start : {N : Type 0} (P : ℕ → ℕ → Bool) (m : List Bool) (slots : List (Option N)) (lists : List (List ℕ))
-    → ListsSoFar P m slots lists 0 0 m
-lists_start P m slots lists = record {
-  forth = λ h. h;
-  back = λ h. h;
-  with_all = refl;
-  kept = refl;
-  within = omega arith;
-}
 
 module _ {N : Type 0} {P : ℕ → ℕ → Bool} {m₀ m : List Bool} {slots : List (Option N)} {lists : List (List ℕ)}
     {n passed : ℕ} (s : ListsSoFar P m₀ slots lists n passed m) where

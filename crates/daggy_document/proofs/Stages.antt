@@ -26,9 +26,6 @@ module _ {A : Type 0} (reads : Data → Result A ReadError → Type 0) where
   pub record EachSoFar (vs : List Value) (i : ℕ) (xs : List A) : Type 0 where
     pub each : AllZip (λ d x. reads d (Ok x)) (map view (take i vs)) xs
 
-  pub each_starts : (vs : List Value) → EachSoFar vs 0 []
-  each_starts vs = record { each = tt }
-
   module _ {vs : List Value} {i : ℕ} {xs : List A} (s : EachSoFar vs i xs) where
     pub each_more : (v : Value) (x : A) (xs' : List A)
         → i < length vs → v ≡ get_or vs i v → reads (view v) (Ok x) → xs' ≡ xs ++ x ∷ [] → EachSoFar vs (i + 1) xs'
@@ -47,11 +44,6 @@ module _ {A : Type 0} (reads : Data → Result A ReadError → Type 0) where
     each_fault v e low is gives =
         (map view (take i vs), view v, map view (drop (suc i) vs), xs, split_at vs i v low is, s.each, gives)
 
-    pub each_whole : length vs ≤ i → ReadsEach reads (map view vs) (Ok xs)
-    each_whole past =
-        let P : List Value → Type 0 = λ k. AllZip (λ d x. reads d (Ok x)) (map view k) xs in
-        subst P (take_all i vs past) s.each
-
 -- ---- holes
 
 -- the first i ascend, and the others are to begin at low
@@ -59,35 +51,12 @@ pub record AscendSoFar (high : ℕ) (hs : List ℕ) (i low : ℕ) : Type 0 where
   pub forth : Ascend 0 high hs → Ascend low high (drop i hs)
   pub back : Ascend low high (drop i hs) → Ascend 0 high hs
 
-pub ascend_starts : (high : ℕ) (hs : List ℕ) → AscendSoFar high hs 0 0
-ascend_starts high hs = record { forth = λ h. h; back = λ h. h }
-
 module _ {high : ℕ} {hs : List ℕ} {i low : ℕ} (s : AscendSoFar high hs i low) where
   here : i < length hs → drop i hs ≡ get_or hs i 0 ∷ drop (i + 1) hs
   here within = drop-cons hs i 0 within ∙ ap (λ k. get_or hs i 0 ∷ drop k hs) (sym (add-one i))
 
   at : i < length hs → (h : ℕ) → h ≡ get_or hs i 0 → drop i hs ≡ h ∷ drop (i + 1) hs
   at within h is = here within ∙ ap (λ k. k ∷ drop (i + 1) hs) (sym is)
-
-  pub ascend_more : i < length hs → (h : ℕ) → h ≡ get_or hs i 0 → low ≤ h → h < high
-      → AscendSoFar high hs (i + 1) (h + 1)
-  ascend_more within h is above below =
-      let P : List ℕ → Type 0 = λ k. Ascend low high k in
-      let e = at within h is in
-      record {
-        forth = λ all. let p : Ascend low high (h ∷ drop (i + 1) hs) = subst P e (s.forth all) in p.2;
-        back = λ rest. let p : Ascend low high (h ∷ drop (i + 1) hs) = (above, below, rest) in
-            s.back (subst P (sym e) p);
-      }
-
-  pub ascend_wrong : i < length hs → (h : ℕ) → h ≡ get_or hs i 0 → ((low ≤ h) × (h < high) → ⊥) → Ascend 0 high hs → ⊥
-  ascend_wrong within h is wrong all =
-      let P : List ℕ → Type 0 = λ k. Ascend low high k in
-      let p : Ascend low high (h ∷ drop (i + 1) hs) = subst P (at within h is) (s.forth all) in
-      wrong (p.0, p.1)
-
-  pub ascend_whole : length hs ≤ i → Ascend 0 high hs
-  ascend_whole past = let P : List ℕ → Type 0 = λ k. Ascend low high k in s.back (subst P (sym (drop_all i hs past)) tt)
 
 -- ---- entries
 

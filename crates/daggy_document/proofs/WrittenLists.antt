@@ -21,9 +21,6 @@ pub record Listed (end : ℕ) (list : List ℕ) (vs : List Value) (e : ℕ) : Ty
   pub written : map view vs ≡ map whole (take (length vs) list)
   pub cursor : e ≡ first_of end (drop (length vs) list)
 
-pub listed_starts : (end e : ℕ) (list : List ℕ) → e ≡ first_of end list → Listed end list [] e
-listed_starts end e list is = record { within = omega arith; written = refl; cursor = is }
-
 module _ {N E : Type 0} {end : ℕ} {g : Graph N E} (w : IsWellFormed end g) where
   member_at : (dir : Direction) (n e : ℕ)
       → Mem e (list_at dir g n) → (x : Edge E) × (edge_at g e ≡ Some x) × (near_end dir x ≡ n)

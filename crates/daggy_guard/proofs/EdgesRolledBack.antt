@@ -141,10 +141,6 @@ take_none : {A : Type 0} (xs : List A) → take 0 xs ≡ []
 take_none [] = refl
 take_none (x ∷ xs) = refl
 
-drop_none : {A : Type 0} (xs : List A) → drop 0 xs ≡ xs
-drop_none [] = refl
-drop_none (x ∷ xs) = refl
-
 pub rolling_starts : {N E : Type 0} {limit : ℕ} {kind : Kind} {start : Start N E} {now : Progress N E}
     → IsBatchSoFar limit kind start.graph now.graph start.items start.edges start.slots
     → now.left ≡ length start.edges → now.weights ≡ [] → now.weights_held + length start.edges ≤ now.capacity
@@ -169,16 +165,6 @@ rolling_starts {N} {E} {limit} {kind} {start} {now} s all empty weights_fit unco
 
 module _ {N E : Type 0} {limit : ℕ} {kind : Kind} {start : Start N E} {now : Progress N E}
     (s : Rolling limit kind start now) where
-  pub rolled_graph : now.left ≡ 0 → now.graph ≡ start.graph
-  rolled_graph none =
-      s.graph_is ∙ ap (λ k. with_edges start.graph (take k start.items)) none
-      ∙ ap (with_edges start.graph) (take_none start.items)
-
-  pub rolled_weights : now.left ≡ 0 → now.weights ≡ reverse (map (λ (x : NewEdge E). x.2) start.items)
-  rolled_weights none =
-      s.returned ∙ ap (λ k. reverse (drop k (map (λ (x : NewEdge E). x.2) start.items))) none
-      ∙ ap reverse (drop_none (map (λ (x : NewEdge E). x.2) start.items))
-
   pub left_within : now.left ≤ length start.edges
   left_within = omega (arith, s.within, ap length s.indices_are, length-new_edges start.graph start.items)
 

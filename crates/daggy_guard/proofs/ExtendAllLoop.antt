@@ -81,16 +81,6 @@ module _ {I A N E : Type 0} {IsDefault : N → Type 0} {number : I → ℕ} {lim
     stopped = stopped;
   }
 
-  pub extends : {S : Type 0} (gives : S → Option A → S → Type 0) (items : S)
-      → Drains gives items now.given → Extends IsDefault number limit becomes gives items old now.graph
-  extends gives items asked = record {
-    given = now.given;
-    drained = asked;
-    edges = s.edges;
-    become = s.become;
-    extension = s.extension;
-  }
-
 -- the looks at so many edges, as often as edges were added
 pub record FewLooks (edges looks edges' looks' : ℕ) : Type 0 where
   pub no_fewer : edges ≤ edges'

@@ -75,14 +75,6 @@ module _ {N E : Type 0} {IsDefault : N → Type 0} {last : ℕ} {old now : Graph
         count_taken now.nodes now.vacant_nodes w (free_slots now.nodes now.vacant_nodes f.node_slots),
       )
 
-  pub is_filled : last < node_count now → IsFilled IsDefault last old now
-  is_filled many = record {
-    weights = s.weights;
-    defaults = s.defaults;
-    as_many = omega (arith, s.within, s.count, many);
-    added = s.added;
-  }
-
   pub is_part_filled : node_count now ≤ last → (new : Graph N E) → new ≡ now → IsPartFilled IsDefault last old new
   is_part_filled few new same = (
     length s.weights,

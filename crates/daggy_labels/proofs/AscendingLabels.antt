@@ -184,16 +184,6 @@ module _ {end : ℕ} {labels nodes : List ℕ} {a from size after : ℕ} (s : Ha
         begins = s.begins;
       }
 
-  pub gap_few : size < length nodes
-  gap_few =
-      omega (
-        arith,
-        ap (λ (z : List ℕ). length z) s.is,
-        length-append s.before (a ∷ (s.run ++ s.behind)),
-        length-append s.run s.behind,
-        s.counted,
-      )
-
   pub gap_low : get_or labels a 0 < 2 ^ 64
   gap_low = asc_below labels 0 (s.before ++ a ∷ s.behind) (2 ^ 64) s.ascending a (mem_mid s.before s.behind a)
 

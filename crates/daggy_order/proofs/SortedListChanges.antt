@@ -88,15 +88,6 @@ module _ (name : ℕ → Option ℕ) where
       ]) (sorted_names R S xs (λ u v k l m n. back u v k l (inr m) (inr n)) s.1)
 
 module _ {Has Had : ℕ → Type 0} {R S : ℕ → ℕ → Type 0} (xs : List ℕ) (s : Lists Had S xs) where
-  -- the same elements
-  pub lists_fewer : ((n : ℕ) → Has n ↔ Had n) → ((u v : ℕ) → R u v → S u v) → Lists Has R xs
-  lists_fewer same fewer =
-      record {
-        exact = λ n. (λ m. (same n).1 ((s.exact n).0 m), λ h. (s.exact n).1 ((same n).0 h));
-        once = s.once;
-        sorted = sorted_fewer S R xs (λ u v m n. fewer u v) s.sorted;
-      }
-
   -- those that pass a test
   pub lists_filtered : (test : ℕ → Bool)
       → ((n : ℕ) → Has n ↔ (Had n × (test n ≡ true))) → ((u v : ℕ) → R u v → S u v) → Lists Has R (filter test xs)

@@ -22,18 +22,6 @@ pub record Looking {N E : Type 0} (end : ℕ) (g₀ g : Graph N E) (u e looks₀
   pub counted : looks ≡ looks₀ + passed
   pub looked : LookedTo end g₀ P u passed
 
-pub looking_starts : {N E : Type 0} {end : ℕ} {g : Graph N E} {u e looks : ℕ} (P : ℕ → Type 0)
-    → e ≡ first_of end (out_list g u) → Looking end g g u e looks looks P
-looking_starts {N} {E} {end} {g} {u} P first =
-    record {
-      same = refl;
-      passed = 0;
-      cursor = first;
-      within = omega arith;
-      counted = omega arith;
-      looked = λ j x lt a. absurd (omega (arith, lt));
-    }
-
 module _ {N E : Type 0} {end : ℕ} {g₀ g : Graph N E} (w : IsWellFormed end g₀) {u e looks₀ looks : ℕ} {P : ℕ → Type 0}
     (s : Looking end g₀ g u e looks₀ looks P) where
   pub looking_edge : e ≢ end → HasEdge g e

@@ -125,28 +125,8 @@ pub record Removing {N E : Type 0} (kind : Kind) (g₀ g : Graph N E) (edges : L
   pub removed : g ≡ without_edges kind g₀ (reverse (drop left edges))
   pub counted : looks ≡ looks₀
 
-pub none_removed : {N E : Type 0} (kind : Kind) (g : Graph N E) (edges : List ℕ) (left looks : ℕ)
-    → left ≡ length edges → Removing kind g g edges left looks looks
-none_removed kind g edges left looks is =
-    record {
-      within = omega (arith, is);
-      removed =
-          sym (ap (λ z. without_edges kind g (reverse (drop z edges))) is
-          ∙ ap (λ z. without_edges kind g (reverse z)) (drop-length edges));
-      counted = refl;
-    }
-
 module _ {N E : Type 0} {kind : Kind} {g₀ g : Graph N E} {edges : List ℕ} {left looks₀ looks : ℕ}
     (s : Removing kind g₀ g edges left looks₀ looks) where
-  pub all_removed : left ≡ 0 → g ≡ without_edges kind g₀ (reverse edges)
-  all_removed none =
-      s.removed ∙ ap (λ z. without_edges kind g₀ (reverse (drop z edges))) none
-      ∙ ap (λ z. without_edges kind g₀ (reverse z)) (whole edges)
-    where
-      whole : (xs : List ℕ) → drop 0 xs ≡ xs
-      whole [] = refl
-      whole (x ∷ xs) = refl
-
   module _ (up : IsAscending edges) (exist : (e : ℕ) → Contains edges e → HasEdge g₀ e) (at y : ℕ)
       (next : at + 1 ≡ left) (is : y ≡ get_or edges at y) where
     low : at < length edges

@@ -15,9 +15,6 @@ pub record Gathering (end : ℕ) (flags₀ flags : List ℕ) (len i : ℕ) : Typ
   pub front : take len flags ≡ flagged_below end flags₀ i
   pub rest : (j : ℕ) → i ≤ j → get_or flags j end ≡ get_or flags₀ j end
 
-pub gather_start : (end : ℕ) (flags : List ℕ) → Gathering end flags flags 0 0
-gather_start end flags = record { few = omega arith; sized = refl; front = take_none flags; rest = λ j h. refl }
-
 module _ (end : ℕ) (flags : List ℕ) (i : ℕ) where
   below_passed : get_or flags i end ≡ end → flagged_below end flags (i + 1) ≡ flagged_below end flags i
   below_passed is =

@@ -402,9 +402,6 @@ module _ {N E : Type 0} {first : First N E} (w : IsWellFormed first.end first.gr
     children_found v j =
         all_read end g₀ w u s.passed now.edge s.cursor s.within ended (λ z. Mem z s.q ⊎ (z ≡ now.last)) s.found v j
 
-    pub all_passed : s.passed ≡ length (out_list g₀ u)
-    all_passed = read_whole end g₀ w u s.passed now.edge s.cursor s.within ended
-
     pub none_queued : now.len ≡ 0 → (v : ℕ) → AreJoined g₀ u v → ⊥
     none_queued empty v j =
         elim s.front [

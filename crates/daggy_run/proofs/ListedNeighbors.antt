@@ -72,14 +72,6 @@ module _ {N E : Type 0} (dir : Direction) (end : ℕ) (g : Graph N E) (w : IsWel
     fewer_left cursor next item s = let step = steps cursor next (pair_of number item) s in
         omega (arith, ap length step.rest)
 
-    pub all_listed : (cursor next : ℕ) (listed : List (I × I)) (whole : List (ℕ × ℕ))
-        → IsWalkStep dir end g cursor None next
-        → map (pair_of number) listed ++ items_of dir g (rest_of_walk dir g cursor) ≡ whole
-        → map (pair_of number) listed ≡ whole
-    all_listed cursor next listed whole s so_far =
-        sym (append-nil (map (pair_of number) listed))
-        ∙ ap (λ es. map (pair_of number) listed ++ items_of dir g es) (sym (nothing_left cursor next s)) ∙ so_far
-
 -- the ends of an edge, and the edge behind it, are what a look at it tells
 pub looked : {N E : Type 0} (end : ℕ) (g h : Graph N E) (e : ℕ) {next : ℕ} {ends : Option (ℕ × ℕ)} (p : ℕ × ℕ)
     → h ≡ g → ends ≡ Some p → ends ≡ option_map ends_of (edge_at h e)

@@ -380,9 +380,6 @@ module _ {N E : Type 0} (end : ℕ) (g : Graph N E) (w : IsWellFormed end g) {le
   pub next_exists : HasNode g n
   next_exists = (s.ordered.exact n).0 (mem_contains _ n (mem_mid s.done rest n))
 
-  pub next_room : slice_index levels n + 1 < 2 ^ 64
-  next_room = omega (arith, s.found.few n, s.fits, length-append s.done (n ∷ rest))
-
   pub is_next : IsNext g n rest
   is_next =
       let once = unique_from_distinct _ s.ordered.once in

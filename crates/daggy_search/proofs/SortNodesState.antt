@@ -217,12 +217,6 @@ module _ {N E : Type 0} {start : Start N E} {now : Sorting N E} (r : ScratchSize
         cursors_fit = r.cursors_fit;
       }
 
-  -- an entered node stays entered
-  visited_more : (v i : ℕ) → v < length now.discovered
-      → ((m : ℕ) → m < i → HasNode start.graph m → get_or now.discovered m false ≡ true)
-      → (m : ℕ) → m < i → HasNode start.graph m → get_or (set now.discovered v true) m false ≡ true
-  visited_more v i low before m below exists = (set_marked now.discovered v m low).1 (inr (before m below exists))
-
 module _ {N E : Type 0} {end : ℕ} {start : Start N E} {i : ℕ} {now : Sorting N E} (w : IsWellFormed end start.graph)
     (s : Resting end start i now) where
   pub few_rested : now.looks ≤ start.looks + edge_count start.graph
