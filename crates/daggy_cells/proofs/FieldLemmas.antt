@@ -29,6 +29,22 @@ same_graph {N} {E} g {a} {b} {c} {d} {e} {f} p q r s t u =
     ∙ ap (λ x. mk g.nodes g.edges g.out_lists x e f) s ∙ ap (λ x. mk g.nodes g.edges g.out_lists g.in_lists x f) t
     ∙ ap (λ x. mk g.nodes g.edges g.out_lists g.in_lists g.vacant_nodes x) u
 
+-- the first links of a and b lead to the edge e, and the nodes have their weights and their other links
+pub record AreLedTo {N Ix : Type 0} (nodes nodes' : List (Node N Ix)) (a b e : ℕ) : Type 0 where
+  pub weights : map weight_of nodes' ≡ map weight_of nodes
+  pub outs : firsts_of Outgoing nodes' ≡ set (firsts_of Outgoing nodes) a e
+  pub ins : firsts_of Incoming nodes' ≡ set (firsts_of Incoming nodes) b e
+
+-- what is stored of an edge from a to b that goes first in their lists
+abbrev pub first_edge : {N E Ix : Type 0} → List (Node N Ix) → (a b : ℕ) → E → Edge E Ix
+first_edge nodes a b w = record {
+  weight = w;
+  parent = a;
+  child = b;
+  next_out = get_or (firsts_of Outgoing nodes) a 0;
+  next_in = get_or (firsts_of Incoming nodes) b 0;
+}
+
 -- a write of one link
 
 module _ {N Ix : Type 0} (nodes : List (Node N Ix)) (i : ℕ) (x : Node N Ix) (new : ℕ) (is : x ≡ get_or nodes i x) where
@@ -77,20 +93,22 @@ module _ {E Ix : Type 0} (edges : List (Edge E Ix)) (i : ℕ) (x : Edge E Ix) (n
 pub both_written : {N Ix : Type 0} (nodes : List (Node N Ix)) {a b u v : ℕ} (e : ℕ) {x y x' y' : Node N Ix}
     → u ≡ a → v ≡ b → x ≡ get_or nodes u x → x' ≡ with_first Outgoing x e → y ≡ get_or (set nodes u x') v y
     → y' ≡ with_first Incoming y e
-    → (map weight_of (set (set nodes u x') v y') ≡ map weight_of nodes)
-    × (firsts_of Outgoing (set (set nodes u x') v y') ≡ set (firsts_of Outgoing nodes) a e)
-    × (firsts_of Incoming (set (set nodes u x') v y') ≡ set (firsts_of Incoming nodes) b e)
+    → AreLedTo nodes (set (set nodes u x') v y') a b e
 both_written nodes {a} {b} {u} {v} e {x} {y} {x'} {y'} u_is v_is x_is x'_is y_is y'_is =
-    let first = set nodes u x' in (
-      map-set_same weight_of first v y y' y_is (ap weight_of y'_is)
-          ∙ map-set_same weight_of nodes u x x' x_is (ap weight_of x'_is),
-      map-set_same (raw_first Outgoing) first v y y' y_is (ap (raw_first Outgoing) y'_is)
+    let first = set nodes u x' in
+    record {
+      weights =
+          map-set_same weight_of first v y y' y_is (ap weight_of y'_is)
+          ∙ map-set_same weight_of nodes u x x' x_is (ap weight_of x'_is);
+      outs =
+          map-set_same (raw_first Outgoing) first v y y' y_is (ap (raw_first Outgoing) y'_is)
           ∙ map-set (raw_first Outgoing) nodes u x'
           ∙ ap (set (firsts_of Outgoing nodes) u) (ap (raw_first Outgoing) x'_is)
-          ∙ ap (λ z. set (firsts_of Outgoing nodes) z e) u_is,
-      map-set (raw_first Incoming) first v y'
+          ∙ ap (λ z. set (firsts_of Outgoing nodes) z e) u_is;
+      ins =
+          map-set (raw_first Incoming) first v y'
           ∙ ap (λ l. set l v (raw_first Incoming y'))
           (map-set_same (raw_first Incoming) nodes u x x' x_is (ap (raw_first Incoming) x'_is))
           ∙ ap (set (firsts_of Incoming nodes) v) (ap (raw_first Incoming) y'_is)
-          ∙ ap (λ z. set (firsts_of Incoming nodes) z e) v_is,
-    )
+          ∙ ap (λ z. set (firsts_of Incoming nodes) z e) v_is;
+    }

@@ -1,5 +1,5 @@
 -- How each change keeps what a graph stores.
-use Rattle.std.proofs.Common.{◌≡◌, ℕ, ◌<◌, List, [], ◌∷◌, ◌++◌, map, length, get_or, set, Some, unwrap_or, eqb, false}
+use Rattle.std.proofs.Common.{◌≡◌, ℕ, ◌<◌, List, [], ◌∷◌, ◌++◌, length, get_or, set, Some, unwrap_or, eqb, false}
 use Rattle.std.proofs.Common.{refl, sym, ap, subst, ◌∙◌, arith}
 use Rattle.std.proofs.lemmas.List.{length-set, length_push, length-map, map-set, map_push}
 use Rattle.daggy_base.specs.Graph.{Graph, Edge as PlainEdge, slot}
@@ -11,13 +11,13 @@ use Rattle.daggy_cells.specs.declared.cell.Edge.{Edge}
 use Rattle.daggy_base.specs.declared.index.Direction.TheVariants.{Outgoing, Incoming}
 use Rattle.daggy_base.specs.Weights.{edge_with_weight}
 use Rattle.daggy_cells.specs.Raw.{raw_first, raw_next}
-use Rattle.daggy_cells.specs.Fields.{weight_of, plain_edge, end_at, firsts_of, lists_from}
+use Rattle.daggy_cells.specs.Fields.{weight_of, plain_edge, end_at, lists_from}
 use Rattle.daggy_graph.specs.Stored.{stored_graph, Stores}
 use Rattle.daggy_cells.proofs.LinkedListChanges.{rows_are, AreLinkedLists-node, ListsEach-node, AreLinkedLists-edge}
 use Rattle.daggy_cells.proofs.LinkedListChanges.{ListsEach-edge}
 use Rattle.daggy_base.proofs.Lists.{map-set_same}
 use Rattle.daggy_base.proofs.MappedSlots.{slot_is}
-use Rattle.daggy_cells.proofs.FieldLemmas.{same_graph}
+use Rattle.daggy_cells.proofs.FieldLemmas.{same_graph, AreLedTo, first_edge}
 
 module _ {N E Ix : Type 0} (end : ℕ) (nodes : List (Node N Ix)) (edges : List (Edge E Ix)) where
   -- what is stored is what the view shows
@@ -31,12 +31,6 @@ module _ {N E Ix : Type 0} (end : ℕ) (nodes : List (Node N Ix)) (edges : List 
 
   pub Stores-itself : (g : Graph N E) → Stores end nodes edges g → Stores end nodes edges (stored_graph nodes edges)
   Stores-itself g s = subst (Stores end nodes edges) (sym (stored_is g s)) s
-
--- the first links of a and b lead to the edge e, and the nodes have their weights and their other links
-pub record AreLedTo {N Ix : Type 0} (nodes nodes' : List (Node N Ix)) (a b e : ℕ) : Type 0 where
-  pub weights : map weight_of nodes' ≡ map weight_of nodes
-  pub outs : firsts_of Outgoing nodes' ≡ set (firsts_of Outgoing nodes) a e
-  pub ins : firsts_of Incoming nodes' ≡ set (firsts_of Incoming nodes) b e
 
 -- one side of a graph
 module _ {N E Ix : Type 0} (end : ℕ) (nodes : List (Node N Ix)) (edges : List (Edge E Ix)) (g : Graph N E)
@@ -65,21 +59,9 @@ module _ {N E Ix : Type 0} (end : ℕ) (nodes : List (Node N Ix)) (edges : List 
 
   pub Stores-edge : (u v : ℕ) (w : E) → u < length nodes → v < length nodes → length edges < end
       → {nodes' : List (Node N Ix)} → AreLedTo nodes nodes' u v (length edges)
-      → Stores end nodes' (edges ++ (record {
-        weight = w;
-        parent = u;
-        child = v;
-        next_out = get_or (firsts_of Outgoing nodes) u 0;
-        next_in = get_or (firsts_of Incoming nodes) v 0;
-      }) ∷ []) (with_edge g u v w)
+      → Stores end nodes' (edges ++ first_edge nodes u v w ∷ []) (with_edge g u v w)
   Stores-edge u v w u_in v_in few {nodes'} led =
-      let x : Edge E Ix = record {
-        weight = w;
-        parent = u;
-        child = v;
-        next_out = get_or (firsts_of Outgoing nodes) u 0;
-        next_in = get_or (firsts_of Incoming nodes) v 0;
-      } in
+      let x : Edge E Ix = first_edge nodes u v w in
       let index : length g.edges ≡ length edges = ap length s.edges_are ∙ length-map edges plain_edge in
       let same_nodes : length nodes' ≡ length nodes =
       sym (length-map nodes' weight_of) ∙ ap length led.weights ∙ length-map nodes weight_of in
@@ -143,13 +125,7 @@ module _ {N E Ix : Type 0} (end : ℕ) (nodes : List (Node N Ix)) (edges : List 
   -- in the words of the code
   pub Stores-edge_code : {a b e : ℕ} {w : E}
       → e ≡ length edges → a < length nodes → b < length nodes → length edges < end
-      → {nodes' : List (Node N Ix)} → AreLedTo nodes nodes' a b e → {x : Edge E Ix} → x ≡ record {
-        weight = w;
-        parent = a;
-        child = b;
-        next_out = get_or (firsts_of Outgoing nodes) a 0;
-        next_in = get_or (firsts_of Incoming nodes) b 0;
-      }
+      → {nodes' : List (Node N Ix)} → AreLedTo nodes nodes' a b e → {x : Edge E Ix} → x ≡ first_edge nodes a b w
       → {edges' : List (Edge E Ix)} → edges' ≡ edges ++ x ∷ [] → Stores end nodes' edges' (with_edge g a b w)
   Stores-edge_code {a} {b} {e} {w} e_is a_in b_in few {nodes'} led x_is pushed =
       rw (pushed, x_is) (Stores-edge a b w a_in b_in few (subst (AreLedTo nodes nodes' a b) e_is led))

@@ -1,6 +1,6 @@
 -- What one more slot makes of what is stored.
 use Rattle.std.proofs.Common.{◌≡◌, ◌≢◌, ℕ, ◌+◌, ◌<◌, not, cond, List, [], ◌∷◌, ◌++◌, map, length, get_or, set, Option}
-use Rattle.std.proofs.Common.{Some, None, IsSome, is_some, slice_get, refl, sym, ap, subst, ◌∙◌, inl, inr, arith}
+use Rattle.std.proofs.Common.{Some, None, is_some, slice_get, refl, sym, ap, subst, ◌∙◌, inl, inr, arith}
 use Rattle.std.proofs.Common.{Contains}
 use Rattle.std.specs.List.{count_by}
 use Rattle.std.specs.Option.{option_map}
@@ -23,14 +23,15 @@ use Rattle.daggy_base.proofs.Lists.{slice_get-push_other, slice_get-set_other}
 use Rattle.daggy_cells.proofs.LinkedLists.{after_here, after_there}
 use Rattle.daggy_cells.proofs.LinkedListChanges.{row_push, linked_within, IsLinkedList-kept, AreLinkedLists-node}
 use Rattle.daggy_cells.proofs.LinkedListChanges.{AreLinkedLists-put, AreLinkedLists-kept, ListsBy-put}
-use Rattle.daggy_cells.proofs.FieldLemmas.{firsts_as_many}
+use Rattle.daggy_cells.proofs.FieldLemmas.{firsts_as_many, AreLedTo, first_edge}
 use Rattle.daggy_stable.specs.Stored.{weight_of, plain_edge, shown, list_firsts, end_of, IsThreaded, Stores}
 use Rattle.daggy_base.proofs.SlotLists.{slot_push_new, slot_push_other, none_past, vacant_down_more, of_slots_node}
 use Rattle.daggy_base.proofs.SlotLists.{of_slots_left, of_slots_taken}
 use Rattle.daggy_stable.proofs.Shown.{shown_some, shown-set, shown_push}
 use Rattle.daggy_base.proofs.Slots.{count_cons}
 use Rattle.daggy_stable.proofs.Slots.{count_push, vacant_inside, rethreaded, slot_not_vacant, slot_inside}
-use Rattle.daggy_stable.proofs.Stores.{AreLedTo, nodes_long, edges_long, firsts_long, some_is}
+use Rattle.daggy_stable.proofs.Stores.{weights_seen, nodes_long, edges_long, firsts_long, some_is}
+use Rattle.daggy_stable.proofs.Changes.{HasEnds, IsPutFirst}
 
 module _ {A : Type 0} where
   count_push_vacant : (xs : List (Option A)) → count_by is_some (xs ++ None ∷ []) ≡ count_by is_some xs
@@ -287,20 +288,19 @@ module _ {N E Ix : Type 0} {end : ℕ} {nodes : List (Node (Option N) Ix)} {edge
       plain_none p = ap (option_map (λ (w : E). record { parent = y.parent; child = y.child; weight = w })) p
 
   -- one that is taken
-  module _ (a b : ℕ) (w : E) {from into : N} (at_a : slot g.nodes a ≡ Some from) (at_b : slot g.nodes b ≡ Some into)
-      (index_left : length edges < end) {nodes' : List (Node (Option N) Ix)}
-      (led : AreLedTo nodes nodes' a b (length edges)) where
+  module _ {a b : ℕ} (w : E) (ends : HasEnds g a b) (index_left : length edges < end)
+      {nodes' : List (Node (Option N) Ix)} (led : AreLedTo nodes nodes' a b (length edges)) where
     abbrev cell : Edge (Option E) Ix
-    cell = record {
-      weight = Some w;
-      parent = a;
-      child = b;
-      next_out = get_or (firsts_of Outgoing nodes) a 0;
-      next_in = get_or (firsts_of Incoming nodes) b 0;
-    }
+    cell = first_edge nodes a b (Some w)
 
     abbrev line : PlainEdge E
     line = record { parent = a; child = b; weight = w }
+
+    found_a : (from : N) × (slot g.nodes a ≡ Some from)
+    found_a = some_is _ ends.parent
+
+    found_b : (into : N) × (slot g.nodes b ≡ Some into)
+    found_b = some_is _ ends.child
 
     node_slots' : IsThreaded end g.nodes (firsts_of Outgoing nodes') node_head nodes_counted g.vacant_nodes
     node_slots' =
@@ -308,7 +308,8 @@ module _ {N E Ix : Type 0} {end : ℕ} {nodes : List (Node (Option N) Ix)} {edge
         (firsts_of Outgoing nodes') (ap length led.outs ∙ length-set (firsts_of Outgoing nodes) a (length edges))
         (λ f p.
         let other : f ≢ a = λ same.
-        slot_not_vacant g.nodes a from at_a ((s.node_slots.exact a).0 (subst (Contains g.vacant_nodes) same p)) in
+        slot_not_vacant g.nodes a found_a.0 found_a.1
+        ((s.node_slots.exact a).0 (subst (Contains g.vacant_nodes) same p)) in
         ap (λ l. slice_get l f) led.outs ∙ slice_get-set_other (firsts_of Outgoing nodes) a f (length edges) other)
 
     vacant_yet : edge_at g (length edges) ≡ None
@@ -324,7 +325,7 @@ module _ {N E Ix : Type 0} {end : ℕ} {nodes : List (Node (Option N) Ix)} {edge
         let is : set (list_firsts end dir nodes) n (length edges) ≡ list_firsts end dir nodes' =
         sym (shown-set end (map weight_of nodes) (firsts_of dir nodes) n (length edges) wn at')
         ∙ ap (shown end (map weight_of nodes)) (sym firsts)
-        ∙ ap (λ l. shown end l (firsts_of dir nodes')) (sym led.weights) in
+        ∙ ap (λ l. shown end l (firsts_of dir nodes')) (sym (weights_seen _ _ led.weights)) in
         let more : nexts_of dir (edges ++ cell ∷ []) ≡ nexts_of dir edges ++ raw_next dir cell ∷ [] =
         map_push (raw_next dir) edges cell in
         let long : length (nexts_of dir edges) ≡ length edges = length-map edges (raw_next dir) in
@@ -370,15 +371,15 @@ module _ {N E Ix : Type 0} {end : ℕ} {nodes : List (Node (Option N) Ix)} {edge
         threaded_taken end g.edges (nexts_of Outgoing edges) edge_head edges_counted g.vacant_edges s.edge_slots
         (omega (arith, index_left, edges_long s)) line (raw_next Outgoing cell) in
         record {
-          nodes_are = s.nodes_are ∙ sym led.weights;
+          nodes_are = s.nodes_are ∙ sym (weights_seen _ _ led.weights);
           edges_are = ap (λ l. l ++ Some line ∷ []) s.edges_are ∙ sym (map_push plain_edge edges cell);
           linked = elim [
-            | Outgoing ↦ side_linked Outgoing a from at_a led.outs refl
-            | Incoming ↦ side_linked Incoming b into at_b led.ins refl
+            | Outgoing ↦ side_linked Outgoing a found_a.0 found_a.1 led.outs refl
+            | Incoming ↦ side_linked Incoming b found_b.0 found_b.1 led.ins refl
           ];
           listed = elim [
-            | Outgoing ↦ side_listed Outgoing a from at_a refl
-            | Incoming ↦ side_listed Incoming b into at_b refl
+            | Outgoing ↦ side_listed Outgoing a found_a.0 found_a.1 refl
+            | Incoming ↦ side_listed Incoming b found_b.0 found_b.1 refl
           ];
           node_slots = node_slots';
           edge_slots =
@@ -393,7 +394,7 @@ module _ {N E Ix : Type 0} (end : ℕ) where
   Built nodes edges node_head edge_head n m =
       Stores end nodes edges node_head edge_head n m (graph_of_slots (map weight_of nodes) (map plain_edge edges))
 
-  module _ (nodes : List (Node (Option N) Ix)) (edges : List (Edge (Option E) Ix)) (node_head edge_head n m : ℕ)
+  module _ {nodes : List (Node (Option N) Ix)} {edges : List (Edge (Option E) Ix)} {node_head edge_head n m : ℕ}
       (s : Built nodes edges node_head edge_head n m) where
     pub built_node_taken : edges ≡ []
         → (x : Node (Option N) Ix) (w : N) → x ≡ record { weight = Some w; first_out = end; first_in = end }
@@ -441,33 +442,19 @@ module _ {N E Ix : Type 0} (end : ℕ) where
         (edge_left s y none next index_left))
 
     pub built_edge_taken : {a b : ℕ} {w : E} {y : Edge (Option E) Ix} {e : ℕ} {nodes' : List (Node (Option N) Ix)}
-        → IsSome (slot (map weight_of nodes) a) → IsSome (slot (map weight_of nodes) b) → length edges < end
-        → e ≡ length edges
-        → y ≡ record {
-          weight = Some w;
-          parent = a;
-          child = b;
-          next_out = get_or (firsts_of Outgoing nodes) a 0;
-          next_in = get_or (firsts_of Incoming nodes) b 0;
-        }
-        → AreLedTo nodes nodes' a b e → Built nodes' (edges ++ y ∷ []) node_head edge_head n (m + 1)
-    built_edge_taken {a} {b} {w} {nodes' = nodes'} has_a has_b index_left e_is is led =
+        → HasEnds (graph_of_slots (map weight_of nodes) (map plain_edge edges)) a b → length edges < end
+        → e ≡ length edges → IsPutFirst nodes nodes' a b e (Some w) y
+        → Built nodes' (edges ++ y ∷ []) node_head edge_head n (m + 1)
+    built_edge_taken {a} {b} {w} {nodes' = nodes'} ends index_left e_is put =
         let old = map weight_of nodes in
-        let cell : Edge (Option E) Ix = record {
-          weight = Some w;
-          parent = a;
-          child = b;
-          next_out = get_or (firsts_of Outgoing nodes) a 0;
-          next_in = get_or (firsts_of Incoming nodes) b 0;
-        } in
-        let from = some_is (slot old a) has_a in
-        let into = some_is (slot old b) has_b in
-        let whole =
-        edge_taken s a b w from.1 into.1 index_left (subst (AreLedTo nodes nodes' a b) e_is led) in
-        rw is (
+        let cell : Edge (Option E) Ix = first_edge nodes a b (Some w) in
+        let from = some_is (slot old a) ends.parent in
+        let into = some_is (slot old b) ends.child in
+        let whole = edge_taken s w ends index_left (subst (AreLedTo nodes nodes' a b) e_is put.led) in
+        rw put.stored (
         subst (Stores end nodes' (edges ++ cell ∷ []) node_head edge_head n (m + 1))
         (of_slots_taken old (map plain_edge edges) a b w (length edges) (sym (length-map edges plain_edge))
         (slot_inside old a from.0 from.1) (slot_inside old b into.0 into.1)
         ∙ ap (graph_of_slots old) (sym (map_push plain_edge edges cell))
-        ∙ ap (λ l. graph_of_slots l (map plain_edge (edges ++ cell ∷ []))) (sym led.weights))
+        ∙ ap (λ l. graph_of_slots l (map plain_edge (edges ++ cell ∷ []))) (sym (weights_seen _ _ put.led.weights)))
         whole)

@@ -18,16 +18,36 @@ use Rattle.daggy_cells.specs.Fields.{firsts_of, nexts_of, lists_at}
 use Rattle.daggy_base.proofs.Lists.{slice_get-set_other, slice_get-set_same, slice_get-push_other, slice_get-push_old}
 use Rattle.daggy_base.proofs.Lists.{slice_get-push_new, slice_get_mapped}
 use Rattle.daggy_cells.proofs.LinkedListChanges.{row_push, AreLinkedLists-node, AreLinkedLists-put, ListsBy-put}
-use Rattle.daggy_cells.proofs.FieldLemmas.{firsts_as_many}
+use Rattle.daggy_cells.proofs.FieldLemmas.{firsts_as_many, AreLedTo, first_edge}
 use Rattle.daggy_stable.specs.Stored.{weight_of, plain_edge, shown, list_firsts, end_of, IsThreaded, Stores}
 use Rattle.daggy_stable.proofs.Slots.{made, filled, rethreaded, slot_not_vacant, counted_full, vacant_none, vacant_some}
 use Rattle.daggy_stable.proofs.Slots.{vacant_inside}
 use Rattle.daggy_stable.proofs.Shown.{shown_some, shown-set, shown-fill, shown_push}
-use Rattle.daggy_stable.proofs.Stores.{AreLedTo, nodes_long, edges_long, firsts_long, none_shown, some_is}
+use Rattle.daggy_stable.proofs.Stores.{weights_seen, nodes_long, edges_long, firsts_long, none_shown, some_is}
 
 -- a node as it is stored at first
 abbrev pub fresh_node : {N Ix : Type 0} → (end : ℕ) → N → Node (Option N) Ix
 fresh_node end w = record { weight = Some w; first_out = end; first_in = end }
+
+-- both ends of an edge are nodes of the graph
+pub record HasEnds {N E : Type 0} (g : Graph N E) (a b : ℕ) : Type 0 where
+  pub parent : IsSome (slot g.nodes a)
+  pub child : IsSome (slot g.nodes b)
+
+-- the edge e with this weight goes first in the lists of a and b, and y is what is to be stored of it
+pub record IsPutFirst {N E Ix : Type 0} (nodes nodes' : List (Node N Ix)) (a b e : ℕ) (w : E) (y : Edge E Ix)
+    : Type 0 where
+  pub led : AreLedTo nodes nodes' a b e
+  pub stored : y ≡ first_edge nodes a b w
+
+-- the new edge is stored in the next slot, before the first edges of its ends, and the other edges keep their links
+record IsNewEdge {N E Ix : Type 0} (nodes : List (Node (Option N) Ix)) (edges edges' : List (Edge (Option E) Ix))
+    (g : Graph N E) (new : PlainEdge E) : Type 0 where
+  plains : map plain_edge edges' ≡ with_slot_filled g.edges g.vacant_edges (Some new)
+  link : (dir : Direction)
+      → slice_get (nexts_of dir edges') (next_edge g) ≡ Some (get_or (firsts_of dir nodes) (near_end dir new) 0)
+  others : (dir : Direction) (f : ℕ) → f ≢ next_edge g → f < length edges
+      → slice_get (nexts_of dir edges') f ≡ slice_get (nexts_of dir edges) f
 
 raw_fresh : {N : Type 0} (Ix : Type 0) (dir : Direction) (end : ℕ) (w : N)
     → raw_first {N = Option N} {Ix = Ix} dir (fresh_node end w) ≡ end
@@ -136,10 +156,17 @@ module _ {N E Ix : Type 0} {end : ℕ} {nodes : List (Node (Option N) Ix)} {edge
       })
 
   -- one more edge
-  module _ (u v : ℕ) (w : E) {from into : N} (at_u : slot g.nodes u ≡ Some from) (at_v : slot g.nodes v ≡ Some into)
-      {nodes' : List (Node (Option N) Ix)} (led : AreLedTo nodes nodes' u v (next_edge g)) where
+  module _ {u v : ℕ} {w : E} (ends : HasEnds g u v) {nodes' : List (Node (Option N) Ix)}
+      (led : AreLedTo nodes nodes' u v (next_edge g)) {edges' : List (Edge (Option E) Ix)}
+      (stored : IsNewEdge nodes edges edges' g (record { parent = u; child = v; weight = w })) where
     abbrev new : PlainEdge E
     new = record { parent = u; child = v; weight = w }
+
+    found_u : (from : N) × (slot g.nodes u ≡ Some from)
+    found_u = some_is _ ends.parent
+
+    found_v : (into : N) × (slot g.nodes v ≡ Some into)
+    found_v = some_is _ ends.child
 
     edge_slots_vacant : slot g.edges (next_edge g) ≡ None
     edge_slots_vacant =
@@ -151,78 +178,73 @@ module _ {N E Ix : Type 0} {end : ℕ} {nodes : List (Node (Option N) Ix)} {edge
         rethreaded end g.nodes (firsts_of Outgoing nodes) node_head nodes_counted g.vacant_nodes s.node_slots
         (firsts_of Outgoing nodes') (ap length led.outs ∙ length-set (firsts_of Outgoing nodes) u (next_edge g)) (λ f p.
         let other : f ≢ u = λ same.
-        slot_not_vacant g.nodes u from at_u ((s.node_slots.exact u).0 (subst (Contains g.vacant_nodes) same p)) in
+        slot_not_vacant g.nodes u found_u.0 found_u.1
+        ((s.node_slots.exact u).0 (subst (Contains g.vacant_nodes) same p)) in
         ap (λ l. slice_get l f) led.outs ∙ slice_get-set_other (firsts_of Outgoing nodes) u f (next_edge g) other)
 
-    module _ (edges' : List (Edge (Option E) Ix)) (edges_are' : map plain_edge edges'
-        ≡ with_slot_filled g.edges g.vacant_edges (Some (record { parent = u; child = v; weight = w })))
-        (old_links : (dir : Direction) (f : ℕ) → f ≢ next_edge g → f < length edges
-        → slice_get (nexts_of dir edges') f ≡ slice_get (nexts_of dir edges) f) where
-      one_side : (dir : Direction) (n : ℕ) (wn : N)
-          → slot g.nodes n ≡ Some wn → firsts_of dir nodes' ≡ set (firsts_of dir nodes) n (next_edge g)
-          → slice_get (nexts_of dir edges') (next_edge g) ≡ Some (get_or (firsts_of dir nodes) n 0)
-          → AreLinkedLists end (list_firsts end dir nodes') (nexts_of dir edges')
-          (set (lists_at dir g) n (next_edge g ∷ nth_list (lists_at dir g) n))
-      one_side dir n wn at firsts new_link =
-          let at' : slot (map weight_of nodes) n ≡ Some wn = ap (λ l. slot l n) (sym s.nodes_are) ∙ at in
-          let is : set (list_firsts end dir nodes) n (next_edge g) ≡ list_firsts end dir nodes' =
-          sym (shown-set end (map weight_of nodes) (firsts_of dir nodes) n (next_edge g) wn at')
-          ∙ ap (shown end (map weight_of nodes)) (sym firsts)
-          ∙ ap (λ l. shown end l (firsts_of dir nodes')) (sym led.weights) in
-          let within : n < length (list_firsts end dir nodes) =
-          omega (arith, firsts_long s dir, slot_in nodes n wn at') in
-          subst (λ z. AreLinkedLists end z (nexts_of dir edges')
-          (set (lists_at dir g) n (next_edge g ∷ nth_list (lists_at dir g) n))) is
-          (AreLinkedLists-put n (next_edge g) (s.linked dir) within
-          (λ m p.
-          none-some m (sym (ap (option_map (near_end dir)) edge_slots_vacant) ∙ (s.listed dir m (next_edge g)).0 p))
-          (new_link
-          ∙ ap Some (sym
-          (shown_some end (map weight_of nodes) (firsts_of dir nodes) n wn (firsts_as_many weight_of dir nodes) at')))
-          (λ f other inside. old_links dir f other (omega (arith, inside, length-map edges (raw_next dir)))))
+    one_side : (dir : Direction) (n : ℕ) (wn : N)
+        → slot g.nodes n ≡ Some wn → firsts_of dir nodes' ≡ set (firsts_of dir nodes) n (next_edge g)
+        → slice_get (nexts_of dir edges') (next_edge g) ≡ Some (get_or (firsts_of dir nodes) n 0)
+        → AreLinkedLists end (list_firsts end dir nodes') (nexts_of dir edges')
+        (set (lists_at dir g) n (next_edge g ∷ nth_list (lists_at dir g) n))
+    one_side dir n wn at firsts new_link =
+        let at' : slot (map weight_of nodes) n ≡ Some wn = ap (λ l. slot l n) (sym s.nodes_are) ∙ at in
+        let is : set (list_firsts end dir nodes) n (next_edge g) ≡ list_firsts end dir nodes' =
+        sym (shown-set end (map weight_of nodes) (firsts_of dir nodes) n (next_edge g) wn at')
+        ∙ ap (shown end (map weight_of nodes)) (sym firsts)
+        ∙ ap (λ l. shown end l (firsts_of dir nodes')) (sym (weights_seen _ _ led.weights)) in
+        let within : n < length (list_firsts end dir nodes) =
+        omega (arith, firsts_long s dir, slot_in nodes n wn at') in
+        subst (λ z. AreLinkedLists end z (nexts_of dir edges')
+        (set (lists_at dir g) n (next_edge g ∷ nth_list (lists_at dir g) n))) is
+        (AreLinkedLists-put n (next_edge g) (s.linked dir) within
+        (λ m p.
+        none-some m (sym (ap (option_map (near_end dir)) edge_slots_vacant) ∙ (s.listed dir m (next_edge g)).0 p))
+        (new_link
+        ∙ ap Some (sym
+        (shown_some end (map weight_of nodes) (firsts_of dir nodes) n wn (firsts_as_many weight_of dir nodes) at')))
+        (λ f other inside. stored.others dir f other (omega (arith, inside, length-map edges (raw_next dir)))))
 
-      side_listed : (dir : Direction) (n : ℕ) (wn : N) → slot g.nodes n ≡ Some wn → near_end dir new ≡ n
-          → ListsBy (λ e. option_map (near_end dir)
-          (slot (with_slot_filled g.edges g.vacant_edges (Some (record { parent = u; child = v; weight = w }))) e))
-          (set (lists_at dir g) n (next_edge g ∷ nth_list (lists_at dir g) n))
-      side_listed dir n wn at is =
-          let free =
-          free_slots g.edges g.vacant_edges
-          (record { exact = s.edge_slots.exact; once = s.edge_slots.linked.distinct }) in
-          let within : n < length (lists_at dir g) =
-          omega (
-            arith,
-            (s.linked dir).rows,
-            firsts_long s dir,
-            slot_in nodes n wn (ap (λ l. slot l n) (sym s.nodes_are) ∙ at),
-          ) in
-          ListsBy-put (end_of dir g) _ (lists_at dir g) (next_edge g) (s.listed dir) within
-          (ap (option_map (near_end dir)) edge_slots_vacant)
-          (ap (option_map (near_end dir)) (slot_taken_new g.edges g.vacant_edges new free) ∙ ap Some is)
-          (λ f other. ap (option_map (near_end dir)) (slot_taken_other g.edges g.vacant_edges new f other))
+    side_listed : (dir : Direction) (n : ℕ) (wn : N) → slot g.nodes n ≡ Some wn → near_end dir new ≡ n
+        → ListsBy (λ e. option_map (near_end dir)
+        (slot (with_slot_filled g.edges g.vacant_edges (Some (record { parent = u; child = v; weight = w }))) e))
+        (set (lists_at dir g) n (next_edge g ∷ nth_list (lists_at dir g) n))
+    side_listed dir n wn at is =
+        let free =
+        free_slots g.edges g.vacant_edges
+        (record { exact = s.edge_slots.exact; once = s.edge_slots.linked.distinct }) in
+        let within : n < length (lists_at dir g) =
+        omega (
+          arith,
+          (s.linked dir).rows,
+          firsts_long s dir,
+          slot_in nodes n wn (ap (λ l. slot l n) (sym s.nodes_are) ∙ at),
+        ) in
+        ListsBy-put (end_of dir g) _ (lists_at dir g) (next_edge g) (s.listed dir) within
+        (ap (option_map (near_end dir)) edge_slots_vacant)
+        (ap (option_map (near_end dir)) (slot_taken_new g.edges g.vacant_edges new free) ∙ ap Some is)
+        (λ f other. ap (option_map (near_end dir)) (slot_taken_other g.edges g.vacant_edges new f other))
 
-      pub edge_put : slice_get (nexts_of Outgoing edges') (next_edge g) ≡ Some (get_or (firsts_of Outgoing nodes) u 0)
-          → slice_get (nexts_of Incoming edges') (next_edge g) ≡ Some (get_or (firsts_of Incoming nodes) v 0)
-          → (edge_head' edges_counted' : ℕ)
-          → IsThreaded end
-          (with_slot_filled g.edges g.vacant_edges (Some (record { parent = u; child = v; weight = w })))
-          (nexts_of Outgoing edges') edge_head' edges_counted' (remaining_vacant g.vacant_edges)
-          → Stores end nodes' edges' node_head edge_head' nodes_counted edges_counted' (with_edge g u v w)
-      edge_put out_link in_link edge_head' edges_counted' threaded =
-          record {
-            nodes_are = s.nodes_are ∙ sym led.weights;
-            edges_are = sym edges_are';
-            linked = elim [
-              | Outgoing ↦ one_side Outgoing u from at_u led.outs out_link
-              | Incoming ↦ one_side Incoming v into at_v led.ins in_link
-            ];
-            listed = elim [
-              | Outgoing ↦ side_listed Outgoing u from at_u refl
-              | Incoming ↦ side_listed Incoming v into at_v refl
-            ];
-            node_slots = node_slots';
-            edge_slots = threaded;
-          }
+    edge_put : {edge_head' edges_counted' : ℕ}
+        → IsThreaded end
+        (with_slot_filled g.edges g.vacant_edges (Some (record { parent = u; child = v; weight = w })))
+        (nexts_of Outgoing edges') edge_head' edges_counted' (remaining_vacant g.vacant_edges)
+        → Stores end nodes' edges' node_head edge_head' nodes_counted edges_counted' (with_edge g u v w)
+    edge_put threaded =
+        record {
+          nodes_are = s.nodes_are ∙ sym (weights_seen _ _ led.weights);
+          edges_are = sym stored.plains;
+          linked = elim [
+            | Outgoing ↦ one_side Outgoing u found_u.0 found_u.1 led.outs (stored.link Outgoing)
+            | Incoming ↦ one_side Incoming v found_v.0 found_v.1 led.ins (stored.link Incoming)
+          ];
+          listed = elim [
+            | Outgoing ↦ side_listed Outgoing u found_u.0 found_u.1 refl
+            | Incoming ↦ side_listed Incoming v found_v.0 found_v.1 refl
+          ];
+          node_slots = node_slots';
+          edge_slots = threaded;
+        }
 
 -- in the words of the code
 
@@ -301,31 +323,21 @@ module _ {N E Ix : Type 0} {end : ℕ} {nodes : List (Node (Option N) Ix)} {edge
       (λ k. Stores end (nodes ++ fresh_node end w ∷ []) edges node_head edge_head k edges_counted (with_node g w)) more
       (node_made s w none few))
 
-  module _ (a b : ℕ) (w : E) (a_in : IsSome (slot g.nodes a)) (b_in : IsSome (slot g.nodes b)) where
+  module _ {a b : ℕ} (w : E) (ends : HasEnds g a b) where
     -- what is stored of the new edge
     abbrev cell : Edge (Option E) Ix
-    cell = record {
-      weight = Some w;
-      parent = a;
-      child = b;
-      next_out = get_or (firsts_of Outgoing nodes) a 0;
-      next_in = get_or (firsts_of Incoming nodes) b 0;
-    }
+    cell = first_edge nodes a b (Some w)
 
     abbrev new_edge : PlainEdge E
     new_edge = record { parent = a; child = b; weight = w }
 
-    edge_filled : (vs : List ℕ) (head' : ℕ) (nodes' : List (Node (Option N) Ix)) → g.vacant_edges ≡ edge_head ∷ vs
+    edge_filled : {vs : List ℕ} {head' : ℕ} {nodes' : List (Node (Option N) Ix)} → g.vacant_edges ≡ edge_head ∷ vs
         → edge_head < length edges → slice_get (nexts_of Outgoing edges) edge_head ≡ Some head'
-        → map weight_of nodes' ≡ map weight_of nodes
-        → firsts_of Outgoing nodes' ≡ set (firsts_of Outgoing nodes) a edge_head
-        → firsts_of Incoming nodes' ≡ set (firsts_of Incoming nodes) b edge_head
+        → AreLedTo nodes nodes' a b edge_head
         → Stores end nodes' (set edges edge_head cell) node_head head' nodes_counted (suc edges_counted)
         (with_edge g a b w)
-    edge_filled vs head' nodes' some within goes weights outs ins =
+    edge_filled {vs} {head'} {nodes'} some within goes led =
         let e_is : next_edge g ≡ edge_head = ap (next_slot g.edges) some in
-        let found_a = some_is _ a_in in
-        let found_b = some_is _ b_in in
         let t : IsThreaded end g.edges (nexts_of Outgoing edges) edge_head edges_counted (edge_head ∷ vs) =
         subst (IsThreaded end g.edges (nexts_of Outgoing edges) edge_head edges_counted) some s.edge_slots in
         let written : (dir : Direction)
@@ -349,30 +361,23 @@ module _ {N E Ix : Type 0} {end : ℕ} {nodes : List (Node (Option N) Ix)} {edge
         filled end g.edges (nexts_of Outgoing edges) edge_head edges_counted edge_head vs t new_edge
         (nexts_of Outgoing (set edges edge_head cell)) head' long
         (λ f p. others Outgoing f (λ same. t.linked.distinct.0 (subst (Contains vs) same p))) goes in
-        edge_put s a b w found_a.1 found_b.1 record {
-          weights = weights;
-          outs = outs ∙ ap (set (firsts_of Outgoing nodes) a) (sym e_is);
-          ins = ins ∙ ap (set (firsts_of Incoming nodes) b) (sym e_is);
+        edge_put s ends (subst (AreLedTo nodes nodes' a b) (sym e_is) led) record {
+          plains =
+              map-set plain_edge edges edge_head cell ∙ ap (λ l. set l edge_head (Some new_edge)) (sym s.edges_are)
+              ∙ sym (ap (λ z. with_slot_filled g.edges z (Some new_edge)) some);
+          link = elim [ Outgoing ↦ link Outgoing | Incoming ↦ link Incoming ];
+          others = λ dir f other inside. others dir f (λ same. other (same ∙ sym e_is));
         }
-        (set edges edge_head cell)
-        (map-set plain_edge edges edge_head cell ∙ ap (λ l. set l edge_head (Some new_edge)) (sym s.edges_are)
-        ∙ sym (ap (λ z. with_slot_filled g.edges z (Some new_edge)) some))
-        (λ dir f other inside. others dir f (λ same. other (same ∙ sym e_is))) (link Outgoing) (link Incoming) head'
-        (suc edges_counted)
         (subst (λ z. IsThreaded end (with_slot_filled g.edges z (Some new_edge))
         (nexts_of Outgoing (set edges edge_head cell)) head' (suc edges_counted) (remaining_vacant z)) (sym some)
         threaded)
 
-    edge_made : (nodes' : List (Node (Option N) Ix)) → g.vacant_edges ≡ [] → edges_counted < end
-        → map weight_of nodes' ≡ map weight_of nodes
-        → firsts_of Outgoing nodes' ≡ set (firsts_of Outgoing nodes) a (length edges)
-        → firsts_of Incoming nodes' ≡ set (firsts_of Incoming nodes) b (length edges)
+    edge_made : {nodes' : List (Node (Option N) Ix)} → g.vacant_edges ≡ [] → edges_counted < end
+        → AreLedTo nodes nodes' a b (length edges)
         → Stores end nodes' (edges ++ cell ∷ []) node_head edge_head nodes_counted (suc edges_counted)
         (with_edge g a b w)
-    edge_made nodes' none few weights outs ins =
+    edge_made {nodes'} none few led =
         let e_is : next_edge g ≡ length edges = ap (next_slot g.edges) none ∙ edges_long s in
-        let found_a = some_is _ a_in in
-        let found_b = some_is _ b_in in
         let t : IsThreaded end g.edges (nexts_of Outgoing edges) edge_head edges_counted [] =
         subst (IsThreaded end g.edges (nexts_of Outgoing edges) edge_head edges_counted) none s.edge_slots in
         let full = counted_full end g.edges (nexts_of Outgoing edges) edge_head edges_counted t in
@@ -396,78 +401,43 @@ module _ {N E Ix : Type 0} {end : ℕ} {nodes : List (Node (Option N) Ix)} {edge
         let threaded =
         made end g.edges (nexts_of Outgoing edges) edge_head edges_counted t new_edge (omega (arith, few, full))
         (nexts_of Outgoing (edges ++ cell ∷ [])) long in
-        edge_put s a b w found_a.1 found_b.1 record {
-          weights = weights;
-          outs = outs ∙ ap (set (firsts_of Outgoing nodes) a) (sym e_is);
-          ins = ins ∙ ap (set (firsts_of Incoming nodes) b) (sym e_is);
+        edge_put s ends (subst (AreLedTo nodes nodes' a b) (sym e_is) led) record {
+          plains =
+              map_push plain_edge edges cell ∙ ap (λ l. l ++ Some new_edge ∷ []) (sym s.edges_are)
+              ∙ sym (ap (λ z. with_slot_filled g.edges z (Some new_edge)) none);
+          link = elim [ Outgoing ↦ link Outgoing | Incoming ↦ link Incoming ];
+          others = λ dir f other inside.
+              ap (λ l. slice_get l f) (written dir)
+              ∙ slice_get-push_old (nexts_of dir edges) (raw_next dir cell) f
+              (omega (arith, inside, length-map edges (raw_next dir)));
         }
-        (edges ++ cell ∷ []) (map_push plain_edge edges cell ∙ ap (λ l. l ++ Some new_edge ∷ []) (sym s.edges_are)
-        ∙ sym (ap (λ z. with_slot_filled g.edges z (Some new_edge)) none))
-        (λ dir f other inside. ap (λ l. slice_get l f) (written dir)
-        ∙ slice_get-push_old (nexts_of dir edges) (raw_next dir cell) f (omega (
-          arith,
-          inside,
-          length-map edges (raw_next dir),
-        )))
-        (link Outgoing) (link Incoming) edge_head (suc edges_counted)
         (subst (λ z. IsThreaded end (with_slot_filled g.edges z (Some new_edge))
         (nexts_of Outgoing (edges ++ cell ∷ [])) edge_head (suc edges_counted) (remaining_vacant z)) (sym none)
         threaded)
 
-    module _ {u v : ℕ} {y : Edge (Option E) Ix} (nodes' : List (Node (Option N) Ix)) (u_is : u ≡ a) (v_is : v ≡ b)
-        (y_is : y ≡ record {
-          weight = Some w;
-          parent = u;
-          child = v;
-          next_out = get_or (firsts_of Outgoing nodes) u 0;
-          next_in = get_or (firsts_of Incoming nodes) v 0;
-        })
-        (weights : map weight_of nodes' ≡ map weight_of nodes) (e : ℕ)
-        (outs : firsts_of Outgoing nodes' ≡ set (firsts_of Outgoing nodes) u e)
-        (ins : firsts_of Incoming nodes' ≡ set (firsts_of Incoming nodes) v e) where
-      y_cell : y ≡ record {
-        weight = Some w;
-        parent = a;
-        child = b;
-        next_out = get_or (firsts_of Outgoing nodes) a 0;
-        next_in = get_or (firsts_of Incoming nodes) b 0;
-      }
-      y_cell =
-          let mk : ℕ → ℕ → Edge (Option E) Ix = λ p q. record {
-            weight = Some w;
-            parent = p;
-            child = q;
-            next_out = get_or (firsts_of Outgoing nodes) p 0;
-            next_in = get_or (firsts_of Incoming nodes) q 0;
-          } in
-          y_is ∙ ap (λ z. mk z v) u_is ∙ ap (mk a) v_is
+  pub edge_filled_code : {a b u v i head' : ℕ} {w : E} {x y : Edge (Option E) Ix} {nodes' : List (Node (Option N) Ix)}
+      → HasEnds g a b → u ≡ a → v ≡ b → IsPutFirst nodes nodes' u v edge_head (Some w) y
+      → g.vacant_edges ≢ [] → i ≡ edge_head → x ≡ get_or edges i x → head' ≡ raw_next Outgoing x
+      → Stores end nodes' (set edges i y) node_head head' nodes_counted (edges_counted + 1) (with_edge g a b w)
+  edge_filled_code {a} {b} {w = w} {x = x} {y} {nodes'} ends u_is v_is put some i_is reads head_is =
+      let found = edge_next some in
+      let more : suc edges_counted ≡ edges_counted + 1 = omega arith in
+      let at_head : x ≡ get_or edges edge_head x = reads ∙ ap (λ z. get_or edges z x) i_is in
+      let goes = slice_get_mapped (raw_next Outgoing) edges edge_head x found.2 at_head ∙ ap Some (sym head_is) in
+      let put_at : IsPutFirst nodes nodes' a b edge_head (Some w) y = rw (← u_is, ← v_is) put in
+      let whole = edge_filled w ends found.1 found.2 goes put_at.led in
+      rw (i_is, put_at.stored, ← more) whole
 
-      pub edge_filled_code : {i head' : ℕ} {x : Edge (Option E) Ix}
-          → e ≡ edge_head → g.vacant_edges ≢ [] → i ≡ edge_head → x ≡ get_or edges i x → head' ≡ raw_next Outgoing x
-          → Stores end nodes' (set edges i y) node_head head' nodes_counted (edges_counted + 1) (with_edge g a b w)
-      edge_filled_code {i} {head'} {x} e_is some i_is reads head_is =
-          let found = edge_next some in
-          let more : suc edges_counted ≡ edges_counted + 1 = omega arith in
-          let at_head : x ≡ get_or edges edge_head x = reads ∙ ap (λ z. get_or edges z x) i_is in
-          let goes = slice_get_mapped (raw_next Outgoing) edges edge_head x found.2 at_head ∙ ap Some (sym head_is) in
-          let outs' : firsts_of Outgoing nodes' ≡ set (firsts_of Outgoing nodes) a edge_head =
-          outs ∙ ap (λ z. set (firsts_of Outgoing nodes) z e) u_is ∙ ap (set (firsts_of Outgoing nodes) a) e_is in
-          let ins' : firsts_of Incoming nodes' ≡ set (firsts_of Incoming nodes) b edge_head =
-          ins ∙ ap (λ z. set (firsts_of Incoming nodes) z e) v_is ∙ ap (set (firsts_of Incoming nodes) b) e_is in
-          let whole = edge_filled found.0 head' nodes' found.1 found.2 goes weights outs' ins' in
-          rw (i_is, y_cell, ← more) whole
-
-      pub edge_made_code : {reserved_cells edges' : List (Edge (Option E) Ix)} → e ≡ length edges → g.vacant_edges ≡ []
-          → edges_counted < end → reserved_cells ≡ edges → edges' ≡ reserved_cells ++ y ∷ []
-          → Stores end nodes' edges' node_head edge_head nodes_counted (edges_counted + 1) (with_edge g a b w)
-      edge_made_code e_is none few reserved pushed =
-          let more : suc edges_counted ≡ edges_counted + 1 = omega arith in
-          let outs' : firsts_of Outgoing nodes' ≡ set (firsts_of Outgoing nodes) a (length edges) =
-          outs ∙ ap (λ z. set (firsts_of Outgoing nodes) z e) u_is ∙ ap (set (firsts_of Outgoing nodes) a) e_is in
-          let ins' : firsts_of Incoming nodes' ≡ set (firsts_of Incoming nodes) b (length edges) =
-          ins ∙ ap (λ z. set (firsts_of Incoming nodes) z e) v_is ∙ ap (set (firsts_of Incoming nodes) b) e_is in
-          let whole = edge_made nodes' none few weights outs' ins' in
-          rw (pushed, reserved, y_cell, ← more) whole
+  pub edge_made_code : {a b u v e : ℕ} {w : E} {y : Edge (Option E) Ix} {nodes' : List (Node (Option N) Ix)}
+      {edges' : List (Edge (Option E) Ix)}
+      → HasEnds g a b → u ≡ a → v ≡ b → IsPutFirst nodes nodes' u v e (Some w) y
+      → e ≡ length edges → g.vacant_edges ≡ [] → edges_counted < end → edges' ≡ edges ++ y ∷ []
+      → Stores end nodes' edges' node_head edge_head nodes_counted (edges_counted + 1) (with_edge g a b w)
+  edge_made_code {a} {b} {w = w} {y} {nodes'} ends u_is v_is put e_is none few pushed =
+      let more : suc edges_counted ≡ edges_counted + 1 = omega arith in
+      let put_at : IsPutFirst nodes nodes' a b (length edges) (Some w) y = rw (← u_is, ← v_is, ← e_is) put in
+      let whole = edge_made w ends none few put_at.led in
+      rw (pushed, put_at.stored, ← more) whole
 
   pub node_inside : (n : ℕ) → IsSome (slot g.nodes n) → n < length nodes
   node_inside n p = let found = some_is _ p in slot_in nodes n found.0 (ap (λ l. slot l n) (sym s.nodes_are) ∙ found.1)

@@ -27,8 +27,8 @@ use Rattle.daggy_stable.specs.Stored.{weight_of, plain_edge, shown, list_firsts,
 use Rattle.daggy_stable.specs.Ordering.{new_lists}
 use Rattle.daggy_stable.proofs.Shown.{length-shown, shown_none, shown-set}
 use Rattle.daggy_stable.proofs.Slots.{rethreaded}
-use Rattle.daggy_stable.proofs.Stores.{edges_long, well_formed}
-use Rattle.daggy_stable.proofs.StoredRemoval.{weights_seen, edges_seen}
+use Rattle.daggy_stable.proofs.Stores.{edges_long, well_formed, weights_seen}
+use Rattle.daggy_stable.proofs.StoredRemoval.{edges_seen}
 
 counted_to : {A : Type 0} (xs : List (Option A)) (i bit : ℕ) → i < length xs → cond (is_some (slot xs i)) 1 0 ≡ bit
     → count_by is_some (take (i + 1) xs) ≡ count_by is_some (take i xs) + bit

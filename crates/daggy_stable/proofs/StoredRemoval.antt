@@ -34,20 +34,10 @@ use Rattle.daggy_stable.proofs.Slots.{rethreaded, vacated, cut, slot_not_vacant,
 use Rattle.daggy_stable.proofs.Shown.{length-shown, shown_some, shown-set, shown-set_vacant, shown-vacate, shown-take}
 use Rattle.daggy_stable.proofs.Stores.{reads_itself, nodes_long, edges_long, firsts_long, row_from, first_shown}
 use Rattle.daggy_stable.proofs.Stores.{listed_within, near_exists, edge_within, end_stored, stands, some_is, node_read}
-use Rattle.daggy_stable.proofs.Stores.{no_slots}
+use Rattle.daggy_stable.proofs.Stores.{no_slots, weights_seen}
 use Rattle.daggy_stable.proofs.Changes.{node_inside}
 
--- what is seen of stored nodes and edges, by less
-
-pub weights_seen : {N Ix : Type 0} (xs ys : List (Node (Option N) Ix))
-    → map stored_weight xs ≡ map stored_weight ys → map weight_of xs ≡ map weight_of ys
-weights_seen {N} {Ix} xs ys same =
-    let join : Option (Option N) → Option N = option_and_then (λ z. z) in
-    sym (joined xs) ∙ ap (map join) same ∙ joined ys
-  where
-    joined : (xs : List (Node (Option N) Ix)) → map (option_and_then (λ z. z)) (map stored_weight xs) ≡ map weight_of xs
-    joined [] = refl
-    joined (x ∷ xs) = ap (λ l. weight_of x ∷ l) (joined xs)
+-- what is seen of stored edges, by less
 
 abbrev part_of : {E : Type 0} → Option (PlainEdge (Option E)) → Option (PlainEdge E)
 part_of None = None

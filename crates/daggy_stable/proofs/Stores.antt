@@ -1,7 +1,7 @@
 -- What is stored, and what it shows.
-use Rattle.std.proofs.Common.{◌≡◌, ℕ, zero, suc, ◌<◌, ◌≤◌, List, [], ◌∷◌, map, length, get_or, set, Option, Some, None}
+use Rattle.std.proofs.Common.{◌≡◌, ℕ, zero, suc, ◌<◌, ◌≤◌, List, [], ◌∷◌, map, length, get_or, Option, Some, None}
 use Rattle.std.proofs.Common.{IsSome, is_some, refl, sym, ap, subst, ◌∙◌, inl, inr, arith, Contains}
-use Rattle.std.specs.Option.{option_map}
+use Rattle.std.specs.Option.{option_map, option_and_then}
 use Rattle.std.proofs.lemmas.Bool.{cases_lt}
 use Rattle.std.proofs.lemmas.List.{length-map, get_or-map}
 use Rattle.std.proofs.lemmas.Option.{same_Some, none-some}
@@ -15,7 +15,7 @@ use Rattle.daggy_cells.specs.declared.cell.Node.{Node}
 use Rattle.daggy_cells.specs.declared.cell.Edge.{Edge}
 use Rattle.daggy_cells.specs.Links.{nth_list, IsLinkedList}
 use Rattle.daggy_cells.specs.Raw.{raw_first, raw_next}
-use Rattle.daggy_cells.specs.Fields.{end_at, firsts_of, nexts_of, lists_at}
+use Rattle.daggy_cells.specs.Fields.{weight_of as stored_weight, end_at, firsts_of, nexts_of, lists_at}
 use Rattle.daggy_base.proofs.Lists.{Contains-nil, Contains-here, slice_get_mapped}
 use Rattle.daggy_cells.proofs.LinkedListChanges.{row_within, row_past, rows_are, linked_within}
 use Rattle.daggy_cells.proofs.FieldLemmas.{same_graph, firsts_as_many}
@@ -25,11 +25,16 @@ use Rattle.daggy_stable.specs.Stored.{Stores}
 use Rattle.daggy_stable.proofs.Slots.{vacant_is}
 use Rattle.daggy_stable.proofs.Shown.{length-shown, shown_some, shown_none}
 
--- the first links of a and b lead to the edge e, and the nodes have their weights and their other links
-pub record AreLedTo {N Ix : Type 0} (nodes nodes' : List (Node (Option N) Ix)) (a b e : ℕ) : Type 0 where
-  pub weights : map weight_of nodes' ≡ map weight_of nodes
-  pub outs : firsts_of Outgoing nodes' ≡ set (firsts_of Outgoing nodes) a e
-  pub ins : firsts_of Incoming nodes' ≡ set (firsts_of Incoming nodes) b e
+-- the weights that are seen, by those that are stored
+pub weights_seen : {N Ix : Type 0} (xs ys : List (Node (Option N) Ix))
+    → map stored_weight xs ≡ map stored_weight ys → map weight_of xs ≡ map weight_of ys
+weights_seen {N} {Ix} xs ys same =
+    let join : Option (Option N) → Option N = option_and_then (λ z. z) in
+    sym (joined xs) ∙ ap (map join) same ∙ joined ys
+  where
+    joined : (xs : List (Node (Option N) Ix)) → map (option_and_then (λ z. z)) (map stored_weight xs) ≡ map weight_of xs
+    joined [] = refl
+    joined (x ∷ xs) = ap (λ l. weight_of x ∷ l) (joined xs)
 
 slot_vacant_or : {A : Type 0} (xs : List (Option A)) (i : ℕ) (P : Type 0)
     → (slot xs i ≡ None → P) → ((x : A) → slot xs i ≡ Some x → P) → P

@@ -1,9 +1,8 @@
-use Rattle.std.proofs.Common.{refl, sym, ap, ◌∙◌, arith}
+use Rattle.std.proofs.Common.{sym, ap, ◌∙◌, arith}
 use Rattle.daggy_base.specs.Adding.{next_slot, next_edge, with_edge}
 use Rattle.daggy_cells.proofs.States.{state_changed}
 use Rattle.daggy_stable.proofs.Stores.{stored_is, Stores-itself}
 use Rattle.daggy_stable.proofs.Changes.{edge_next, node_inside, edge_filled_code}
-use Rattle.daggy_stable.proofs.StoredRemoval.{weights_seen}
 use Rattle.daggy_stable.proofs.stable_graph.StableDiGraph.fill_edge.Goals as goal
 
 pub index-requires : goal.index-requires
@@ -32,10 +31,15 @@ pub invariant_of-self : goal.invariant_of-self
 invariant_of-self g c =
     let a_in = rw (← c.self.view_is) at c.requires.parent in
     let b_in = rw (← c.self.view_is) at c.requires.child in
-    Stores-itself (edge_filled_code c.self.invariant _ _ c.args.weight a_in b_in _ c.of_node.ensures
-    c.of_node-2.ensures c.put_first-x.ensures.edge (weights_seen _ _ c.put_first-x.ensures.weights) _
-    c.put_first-x.ensures.out c.put_first-x.ensures.into
-    refl (λ q. c.requires.some (ap (λ s. s.graph.vacant_edges) (sym c.self.view_is) ∙ q)) c.index-i.ensures.value
+    Stores-itself (edge_filled_code c.self.invariant (record { parent = a_in; child = b_in }) c.of_node.ensures
+    c.of_node-2.ensures (record {
+      led = record {
+        weights = c.put_first-x.ensures.weights;
+        outs = c.put_first-x.ensures.out;
+        ins = c.put_first-x.ensures.into;
+      };
+      stored = c.put_first-x.ensures.edge;
+    }) (λ q. c.requires.some (ap (λ s. s.graph.vacant_edges) (sym c.self.view_is) ∙ q)) c.index-i.ensures.value
     c.index.ensures c.next-self-inside.ensures)
 
 pub returns-clause-index : goal.returns-clause-index
@@ -50,8 +54,13 @@ returns-clause-added g c =
     let b_in = rw (← c.self.view_is) at c.requires.child in
     state_changed _ _ _ _
     (λ h. with_edge h (g.Ix.IndexType.number c.args.a) (g.Ix.IndexType.number c.args.b) c.args.weight) c.self.view_is
-    (stored_is (edge_filled_code c.self.invariant _ _ c.args.weight a_in b_in _ c.of_node.ensures
-    c.of_node-2.ensures c.put_first-x.ensures.edge (weights_seen _ _ c.put_first-x.ensures.weights) _
-    c.put_first-x.ensures.out c.put_first-x.ensures.into
-    refl (λ q. c.requires.some (ap (λ s. s.graph.vacant_edges) (sym c.self.view_is) ∙ q)) c.index-i.ensures.value
+    (stored_is (edge_filled_code c.self.invariant (record { parent = a_in; child = b_in }) c.of_node.ensures
+    c.of_node-2.ensures (record {
+      led = record {
+        weights = c.put_first-x.ensures.weights;
+        outs = c.put_first-x.ensures.out;
+        ins = c.put_first-x.ensures.into;
+      };
+      stored = c.put_first-x.ensures.edge;
+    }) (λ q. c.requires.some (ap (λ s. s.graph.vacant_edges) (sym c.self.view_is) ∙ q)) c.index-i.ensures.value
     c.index.ensures c.next-self-inside.ensures))

@@ -4,7 +4,6 @@ use Rattle.daggy_base.specs.Adding.{with_edge}
 use Rattle.daggy_cells.proofs.States.{state_changed}
 use Rattle.daggy_stable.proofs.Stores.{stored_is, Stores-itself, edges_long}
 use Rattle.daggy_stable.proofs.Changes.{node_inside, edge_made_code}
-use Rattle.daggy_stable.proofs.StoredRemoval.{weights_seen}
 use Rattle.daggy_stable.proofs.stable_graph.StableDiGraph.make_edge.Goals as goal
 
 pub invariant_of-self : goal.invariant_of-self
@@ -36,11 +35,16 @@ invariant_of-self-2 g c =
     ) in
     let new : c.new-e.result ≡ length c.self.inside.edges.items =
     omega (arith, c.new-e.ensures, c.len.ensures, ap length c.reserve.ensures.items) in
-    Stores-itself (edge_made_code c.self.invariant _ _ c.args.weight a_in b_in _ c.of_node.ensures
-    c.of_node-2.ensures c.put_first-x.ensures.edge (weights_seen _ _ c.put_first-x.ensures.weights) _
-    c.put_first-x.ensures.out c.put_first-x.ensures.into
-    new (ap (λ s. s.graph.vacant_edges) c.self.view_is ∙ c.requires.none) few c.reserve.ensures.items
-    c.push_reserved.ensures.items)
+    let pushed = rw c.reserve.ensures.items at c.push_reserved.ensures.items in
+    Stores-itself (edge_made_code c.self.invariant (record { parent = a_in; child = b_in }) c.of_node.ensures
+    c.of_node-2.ensures (record {
+      led = record {
+        weights = c.put_first-x.ensures.weights;
+        outs = c.put_first-x.ensures.out;
+        ins = c.put_first-x.ensures.into;
+      };
+      stored = c.put_first-x.ensures.edge;
+    }) new (ap (λ s. s.graph.vacant_edges) c.self.view_is ∙ c.requires.none) few pushed)
 
 pub returns-clause-added : goal.returns-clause-added
 returns-clause-added g c =
@@ -55,13 +59,18 @@ returns-clause-added g c =
     ) in
     let new : c.new-e.result ≡ length c.self.inside.edges.items =
     omega (arith, c.new-e.ensures, c.len.ensures, ap length c.reserve.ensures.items) in
+    let pushed = rw c.reserve.ensures.items at c.push_reserved.ensures.items in
     state_changed _ _ _ _
     (λ h. with_edge h (g.Ix.IndexType.number c.args.a) (g.Ix.IndexType.number c.args.b) c.args.weight) c.self.view_is
-    (stored_is (edge_made_code c.self.invariant _ _ c.args.weight a_in b_in _ c.of_node.ensures
-    c.of_node-2.ensures c.put_first-x.ensures.edge (weights_seen _ _ c.put_first-x.ensures.weights) _
-    c.put_first-x.ensures.out c.put_first-x.ensures.into
-    new (ap (λ s. s.graph.vacant_edges) c.self.view_is ∙ c.requires.none) few c.reserve.ensures.items
-    c.push_reserved.ensures.items))
+    (stored_is (edge_made_code c.self.invariant (record { parent = a_in; child = b_in }) c.of_node.ensures
+    c.of_node-2.ensures (record {
+      led = record {
+        weights = c.put_first-x.ensures.weights;
+        outs = c.put_first-x.ensures.out;
+        ins = c.put_first-x.ensures.into;
+      };
+      stored = c.put_first-x.ensures.edge;
+    }) new (ap (λ s. s.graph.vacant_edges) c.self.view_is ∙ c.requires.none) few pushed))
 
 pub new-e-requires : goal.new-e-requires
 new-e-requires g c =
