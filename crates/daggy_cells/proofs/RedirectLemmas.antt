@@ -10,63 +10,58 @@ use Rattle.daggy_cells.specs.Fields.{firsts_of, nexts_of, ends_of, list_from, Ke
 use Rattle.daggy_cells.specs.Fields.{IsHead, Redirects}
 use Rattle.daggy_cells.proofs.LinkedLists.{row_is}
 
-module _ {N E Ix : Type 0} (end : ℕ) (dir : Direction) (nodes : List (Node N Ix)) (edges : List (Edge E Ix))
-    {l : List ℕ} (old n : ℕ) (r : IsLinkedList end (nexts_of dir edges) (get_or (firsts_of dir nodes) n 0) l)
-    (n_is : get_or (ends_of dir edges) old 0 ≡ n) (few : length edges ≤ end) where
-  -- l is the list of n
-  walked : list_from dir edges (get_or (firsts_of dir nodes) n 0) ≡ l
-  walked = row_is end _ (nexts_of dir edges) l r (omega (arith, few, length-map edges (raw_next dir)))
+-- n is the edge's end of that direction, l is n's list, and the edges are few enough for the links
+pub record IsListOf {N E Ix : Type 0} (end : ℕ) (dir : Direction) (nodes : List (Node N Ix)) (edges : List (Edge E Ix))
+    (e n : ℕ) (l : List ℕ) : Type 0 where
+  pub linked : IsLinkedList end (nexts_of dir edges) (get_or (firsts_of dir nodes) n 0) l
+  pub end_is : get_or (ends_of dir edges) e 0 ≡ n
+  pub few : length edges ≤ end
 
-  -- and old, which n is an end of, stands in it
+module _ {N E Ix : Type 0} {end : ℕ} {dir : Direction} {nodes : List (Node N Ix)} {edges : List (Edge E Ix)}
+    {old n : ℕ} {l : List ℕ} (is : IsListOf end dir nodes edges old n l) where
+  -- following the links gives the list
+  walked : list_from dir edges (get_or (firsts_of dir nodes) n 0) ≡ l
+  walked = row_is end _ (nexts_of dir edges) l is.linked (omega (arith, is.few, length-map edges (raw_next dir)))
+
+  -- and the edge stands in it
   pub Ready-row : n < length nodes → old < length edges → Contains l old → IsReady end dir nodes edges old
   Ready-row n_in old_in there =
       let row_w : IsLinkedList end (nexts_of dir edges) (get_or (firsts_of dir nodes) n 0)
       (list_from dir edges (get_or (firsts_of dir nodes) n 0)) =
-      subst (IsLinkedList end (nexts_of dir edges) (get_or (firsts_of dir nodes) n 0)) (sym walked) r in
+      subst (IsLinkedList end (nexts_of dir edges) (get_or (firsts_of dir nodes) n 0)) (sym walked) is.linked in
       record {
         edge = old_in;
-        node = omega (arith, n_in, n_is);
+        node = omega (arith, n_in, is.end_is);
         linked =
             subst (λ z. IsLinkedList end (nexts_of dir edges) (get_or (firsts_of dir nodes) z 0)
-            (list_from dir edges (get_or (firsts_of dir nodes) z 0))) (sym n_is) row_w;
+            (list_from dir edges (get_or (firsts_of dir nodes) z 0))) (sym is.end_is) row_w;
         listed =
-            subst (λ z. Contains (list_from dir edges (get_or (firsts_of dir nodes) z 0)) old) (sym n_is)
+            subst (λ z. Contains (list_from dir edges (get_or (firsts_of dir nodes) z 0)) old) (sym is.end_is)
             (subst (λ z. Contains z old) (sym walked) there);
-        few = few;
+        few = is.few;
       }
 
-  pub Redirected-list_from : (new : ℕ) (nodes' : List (Node N Ix)) (edges' : List (Edge E Ix))
+  pub Redirected-list_from : {new : ℕ} (nodes' : List (Node N Ix)) (edges' : List (Edge E Ix))
       → Redirects dir nodes edges old new nodes' edges'
       → Redirected l n old new (firsts_of dir nodes) (nexts_of dir edges) (firsts_of dir nodes') (nexts_of dir edges')
-  Redirected-list_from new nodes' edges' red =
+  Redirected-list_from {new} nodes' edges' red =
       let at_n : Redirected (list_from dir edges (get_or (firsts_of dir nodes) n 0)) n old new (firsts_of dir nodes)
       (nexts_of dir edges) (firsts_of dir nodes') (nexts_of dir edges') =
       subst (λ z. Redirected (list_from dir edges (get_or (firsts_of dir nodes) z 0)) z old new (firsts_of dir nodes)
-      (nexts_of dir edges) (firsts_of dir nodes') (nexts_of dir edges')) n_is red in
+      (nexts_of dir edges) (firsts_of dir nodes') (nexts_of dir edges')) is.end_is red in
       subst (λ z. Redirected z n old new (firsts_of dir nodes) (nexts_of dir edges) (firsts_of dir nodes')
       (nexts_of dir edges')) walked at_n
 
-module _ {N E Ix : Type 0} (end : ℕ) (dir : Direction) (nodes : List (Node N Ix)) (edges : List (Edge E Ix))
-    (lists : List (List ℕ)) (old n : ℕ) where
-  -- the lists are linked, and old stands in that of its node
-  row_at : AreLinkedLists end (firsts_of dir nodes) (nexts_of dir edges) lists → n < length nodes
-      → IsLinkedList end (nexts_of dir edges) (get_or (firsts_of dir nodes) n 0) (nth_list lists n)
-  row_at linked n_in = linked.each n (omega (arith, n_in, length-map nodes (raw_first dir)))
-
-  pub Ready-from : AreLinkedLists end (firsts_of dir nodes) (nexts_of dir edges) lists
-      → get_or (ends_of dir edges) old 0 ≡ n → n < length nodes → old < length edges → length edges ≤ end
-      → Contains (nth_list lists n) old → IsReady end dir nodes edges old
-  Ready-from linked n_is n_in old_in few there =
-      Ready-row end dir nodes edges old n (row_at linked n_in) n_is few n_in old_in there
-
-  pub Redirected-row : (new : ℕ) (nodes' : List (Node N Ix)) (edges' : List (Edge E Ix))
-      → AreLinkedLists end (firsts_of dir nodes) (nexts_of dir edges) lists → get_or (ends_of dir edges) old 0 ≡ n
-      → n < length nodes → length edges ≤ end → Redirects dir nodes edges old new nodes' edges'
-      → Redirected (nth_list lists n) n old new (firsts_of dir nodes) (nexts_of dir edges) (firsts_of dir nodes')
-      (nexts_of dir edges')
-  Redirected-row new nodes' edges' linked n_is n_in few red =
-      Redirected-list_from end dir nodes edges old n (row_at linked n_in) n_is few new nodes' edges'
-      red
+-- the list of an edge's end among linked lists
+pub list_at : {N E Ix : Type 0} {end : ℕ} {dir : Direction} {nodes : List (Node N Ix)} {edges : List (Edge E Ix)}
+    {lists : List (List ℕ)} {e n : ℕ}
+    → AreLinkedLists end (firsts_of dir nodes) (nexts_of dir edges) lists → get_or (ends_of dir edges) e 0 ≡ n
+    → n < length nodes → length edges ≤ end → IsListOf end dir nodes edges e n (nth_list lists n)
+list_at {dir = dir} {nodes} {n = n} linked end_is n_in few = record {
+  linked = linked.each n (omega (arith, n_in, length-map nodes (raw_first dir)));
+  end_is = end_is;
+  few = few;
+}
 
 -- one call of `redirect`
 pub record Step {N E Ix : Type 0} (dir : Direction) (nodes : List (Node N Ix)) (edges : List (Edge E Ix)) (old new : ℕ)

@@ -31,7 +31,7 @@ use Rattle.daggy_stable.proofs.Shown.{shown_some, shown-set, shown_push}
 use Rattle.daggy_base.proofs.Slots.{count_cons}
 use Rattle.daggy_stable.proofs.Slots.{count_push, vacant_inside, rethreaded, slot_not_vacant, slot_inside}
 use Rattle.daggy_stable.proofs.Stores.{weights_seen, nodes_long, edges_long, firsts_long, some_is}
-use Rattle.daggy_stable.proofs.Changes.{HasEnds, IsPutFirst}
+use Rattle.daggy_stable.proofs.Changes.{AreNodes, IsPutFirst}
 
 module _ {A : Type 0} where
   count_push_vacant : (xs : List (Option A)) → count_by is_some (xs ++ None ∷ []) ≡ count_by is_some xs
@@ -288,7 +288,7 @@ module _ {N E Ix : Type 0} {end : ℕ} {nodes : List (Node (Option N) Ix)} {edge
       plain_none p = ap (option_map (λ (w : E). record { parent = y.parent; child = y.child; weight = w })) p
 
   -- one that is taken
-  module _ {a b : ℕ} (w : E) (ends : HasEnds g a b) (index_left : length edges < end)
+  module _ {a b : ℕ} (w : E) (ends : AreNodes g a b) (index_left : length edges < end)
       {nodes' : List (Node (Option N) Ix)} (led : AreLedTo nodes nodes' a b (length edges)) where
     abbrev cell : Edge (Option E) Ix
     cell = first_edge nodes a b (Some w)
@@ -442,7 +442,7 @@ module _ {N E Ix : Type 0} (end : ℕ) where
         (edge_left s y none next index_left))
 
     pub built_edge_taken : {a b : ℕ} {w : E} {y : Edge (Option E) Ix} {e : ℕ} {nodes' : List (Node (Option N) Ix)}
-        → HasEnds (graph_of_slots (map weight_of nodes) (map plain_edge edges)) a b → length edges < end
+        → AreNodes (graph_of_slots (map weight_of nodes) (map plain_edge edges)) a b → length edges < end
         → e ≡ length edges → IsPutFirst nodes nodes' a b e (Some w) y
         → Built nodes' (edges ++ y ∷ []) node_head edge_head n (m + 1)
     built_edge_taken {a} {b} {w} {nodes' = nodes'} ends index_left e_is put =

@@ -29,8 +29,8 @@ use Rattle.daggy_stable.proofs.Stores.{weights_seen, nodes_long, edges_long, fir
 abbrev pub fresh_node : {N Ix : Type 0} → (end : ℕ) → N → Node (Option N) Ix
 fresh_node end w = record { weight = Some w; first_out = end; first_in = end }
 
--- both ends of an edge are nodes of the graph
-pub record HasEnds {N E : Type 0} (g : Graph N E) (a b : ℕ) : Type 0 where
+-- the ends of an edge are nodes of the graph
+pub record AreNodes {N E : Type 0} (g : Graph N E) (a b : ℕ) : Type 0 where
   pub parent : IsSome (slot g.nodes a)
   pub child : IsSome (slot g.nodes b)
 
@@ -156,7 +156,7 @@ module _ {N E Ix : Type 0} {end : ℕ} {nodes : List (Node (Option N) Ix)} {edge
       })
 
   -- one more edge
-  module _ {u v : ℕ} {w : E} (ends : HasEnds g u v) {nodes' : List (Node (Option N) Ix)}
+  module _ {u v : ℕ} {w : E} (ends : AreNodes g u v) {nodes' : List (Node (Option N) Ix)}
       (led : AreLedTo nodes nodes' u v (next_edge g)) {edges' : List (Edge (Option E) Ix)}
       (stored : IsNewEdge nodes edges edges' g (record { parent = u; child = v; weight = w })) where
     abbrev new : PlainEdge E
@@ -323,7 +323,7 @@ module _ {N E Ix : Type 0} {end : ℕ} {nodes : List (Node (Option N) Ix)} {edge
       (λ k. Stores end (nodes ++ fresh_node end w ∷ []) edges node_head edge_head k edges_counted (with_node g w)) more
       (node_made s w none few))
 
-  module _ {a b : ℕ} (w : E) (ends : HasEnds g a b) where
+  module _ {a b : ℕ} (w : E) (ends : AreNodes g a b) where
     -- what is stored of the new edge
     abbrev cell : Edge (Option E) Ix
     cell = first_edge nodes a b (Some w)
@@ -416,7 +416,7 @@ module _ {N E Ix : Type 0} {end : ℕ} {nodes : List (Node (Option N) Ix)} {edge
         threaded)
 
   pub edge_filled_code : {a b u v i head' : ℕ} {w : E} {x y : Edge (Option E) Ix} {nodes' : List (Node (Option N) Ix)}
-      → HasEnds g a b → u ≡ a → v ≡ b → IsPutFirst nodes nodes' u v edge_head (Some w) y
+      → AreNodes g a b → u ≡ a → v ≡ b → IsPutFirst nodes nodes' u v edge_head (Some w) y
       → g.vacant_edges ≢ [] → i ≡ edge_head → x ≡ get_or edges i x → head' ≡ raw_next Outgoing x
       → Stores end nodes' (set edges i y) node_head head' nodes_counted (edges_counted + 1) (with_edge g a b w)
   edge_filled_code {a} {b} {w = w} {x = x} {y} {nodes'} ends u_is v_is put some i_is reads head_is =
@@ -430,7 +430,7 @@ module _ {N E Ix : Type 0} {end : ℕ} {nodes : List (Node (Option N) Ix)} {edge
 
   pub edge_made_code : {a b u v e : ℕ} {w : E} {y : Edge (Option E) Ix} {nodes' : List (Node (Option N) Ix)}
       {edges' : List (Edge (Option E) Ix)}
-      → HasEnds g a b → u ≡ a → v ≡ b → IsPutFirst nodes nodes' u v e (Some w) y
+      → AreNodes g a b → u ≡ a → v ≡ b → IsPutFirst nodes nodes' u v e (Some w) y
       → e ≡ length edges → g.vacant_edges ≡ [] → edges_counted < end → edges' ≡ edges ++ y ∷ []
       → Stores end nodes' edges' node_head edge_head nodes_counted (edges_counted + 1) (with_edge g a b w)
   edge_made_code {a} {b} {w = w} {y} {nodes'} ends u_is v_is put e_is none few pushed =

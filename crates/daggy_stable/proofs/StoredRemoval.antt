@@ -26,7 +26,7 @@ use Rattle.daggy_cells.proofs.LinkedListChanges.{row-map, row_past, row_within, 
 use Rattle.daggy_cells.proofs.LinkedListChanges.{AreLinkedLists-with_edge_unlinked, ListsBy-without, linked_within}
 use Rattle.daggy_cells.proofs.LinkedListChanges.{AreLinkedLists-none, ListsBy-none}
 use Rattle.daggy_base.proofs.MappedSlots.{slot_read}
-use Rattle.daggy_cells.proofs.RedirectLemmas.{Step, Ready-row, Redirected-list_from}
+use Rattle.daggy_cells.proofs.RedirectLemmas.{IsListOf, Step, Ready-row, Redirected-list_from}
 use Rattle.daggy_cells.proofs.FieldLemmas.{firsts_as_many}
 use Rattle.daggy_stable.specs.Stored.{weight_of, plain, plain_edge, shown, list_firsts, end_of, with_links_emptied}
 use Rattle.daggy_stable.specs.Stored.{with_lists_emptied, IsThreaded, Stores}
@@ -51,6 +51,13 @@ edges_seen {E} {Ix} xs ys same = sym (joined xs) ∙ ap (map part_of) same ∙ j
     joined [] = refl
     joined (x ∷ xs) = ap (λ l. plain_edge x ∷ l) (joined xs)
 
+-- the edge is taken out of its lists, and the nodes and edges keep their weights, ends and other links
+pub record IsUnlinked {N E Ix : Type 0} (nodes nodes' : List (Node N Ix)) (edges edges' : List (Edge E Ix)) (e : ℕ)
+    : Type 0 where
+  pub weights : map stored_weight nodes' ≡ map stored_weight nodes
+  pub plains : map stored_edge edges' ≡ map stored_edge edges
+  pub links : (dir : Direction) → Redirects dir nodes edges e (get_or (nexts_of dir edges) e 0) nodes' edges'
+
 slot-set_same : {A : Type 0} (xs : List (Option A)) (i : ℕ) (o : Option A) → i < length xs → slot (set xs i o) i ≡ o
 slot-set_same xs i o within = ap (option_and_then (λ z. z)) (slice_get-set_same xs i o within)
 
@@ -61,7 +68,7 @@ module _ {N E Ix : Type 0} {end : ℕ} {nodes : List (Node (Option N) Ix)} {edge
     {node_head edge_head nodes_counted edges_counted : ℕ} {g : Graph N E}
     (s : Stores end nodes edges node_head edge_head nodes_counted edges_counted g) where
   -- an edge is taken out of its lists
-  module _ (e : ℕ) (y : PlainEdge E) (at : edge_at g e ≡ Some y) where
+  module _ (e : ℕ) {y : PlainEdge E} (at : edge_at g e ≡ Some y) where
     e_in : e < length edges
     e_in = edge_within s e y at
 
@@ -96,20 +103,25 @@ module _ {N E Ix : Type 0} {end : ℕ} {nodes : List (Node (Option N) Ix)} {edge
             get_or-map (end_at dir) edges e d 0 e_in
             ∙ end_stored s dir e y (get_or edges e d) at e_in (reads_itself edges e d e_in)
 
-    pub ready : (dir : Direction) → IsReady end dir nodes edges e
-    ready dir =
-        Ready-row end dir nodes edges e (near_end dir y) (the_row dir)
-        (end_is dir) edges_few (n_in dir) e_in (there dir)
+    list_of : (dir : Direction)
+        → IsListOf end dir nodes edges e (near_end dir y) (nth_list (lists_at dir g) (near_end dir y))
+    list_of dir = record { linked = the_row dir; end_is = end_is dir; few = edges_few }
 
-    module _ (nodes' : List (Node (Option N) Ix)) (edges' : List (Edge (Option E) Ix))
-        (weights : map weight_of nodes' ≡ map weight_of nodes) (plains : map plain_edge edges' ≡ map plain_edge edges)
-        (red : (dir : Direction) → Redirects dir nodes edges e (get_or (nexts_of dir edges) e 0) nodes' edges') where
+    pub ready : (dir : Direction) → IsReady end dir nodes edges e
+    ready dir = Ready-row (list_of dir) (n_in dir) e_in (there dir)
+
+    module _ {nodes' : List (Node (Option N) Ix)} {edges' : List (Edge (Option E) Ix)}
+        (unlinked : IsUnlinked nodes nodes' edges edges' e) where
+      weights : map weight_of nodes' ≡ map weight_of nodes
+      weights = weights_seen nodes' nodes unlinked.weights
+
+      plains : map plain_edge edges' ≡ map plain_edge edges
+      plains = edges_seen edges' edges unlinked.plains
+
       raw_red : (dir : Direction)
           → Redirected (nth_list (lists_at dir g) (near_end dir y)) (near_end dir y) e (get_or (nexts_of dir edges) e 0)
           (firsts_of dir nodes) (nexts_of dir edges) (firsts_of dir nodes') (nexts_of dir edges')
-      raw_red dir =
-          Redirected-list_from end dir nodes edges e (near_end dir y)
-          (the_row dir) (end_is dir) edges_few (get_or (nexts_of dir edges) e 0) nodes' edges' (red dir)
+      raw_red dir = Redirected-list_from (list_of dir) nodes' edges' (unlinked.links dir)
 
       shown_red : (dir : Direction)
           → Redirected (nth_list (lists_at dir g) (near_end dir y)) (near_end dir y) e (get_or (nexts_of dir edges) e 0)
@@ -182,9 +194,9 @@ module _ {N E Ix : Type 0} {end : ℕ} {nodes : List (Node (Option N) Ix)} {edge
 
       -- and its slot vacated
       pub edge_removed : (cell : Edge (Option E) Ix)
-          → cell.weight ≡ None → cell.next_out ≡ edge_head → (count' : ℕ) → edges_counted ≡ suc count'
+          → cell.weight ≡ None → cell.next_out ≡ edge_head → {count' : ℕ} → edges_counted ≡ suc count'
           → Stores end nodes' (set edges' e cell) node_head e nodes_counted count' (without_edge Stable g e)
-      edge_removed cell none leads count' count_is =
+      edge_removed cell none leads {count'} count_is =
           let written : (dir : Direction)
           → nexts_of dir (set edges' e cell) ≡ set (nexts_of dir edges') e (raw_next dir cell) =
           λ dir.
@@ -231,9 +243,9 @@ module _ {N E Ix : Type 0} {end : ℕ} {nodes : List (Node (Option N) Ix)} {edge
           }
 
       -- or its slot, which is the last, cut off
-      pub edge_cut : e + 1 ≡ length edges → (count' : ℕ) → edges_counted ≡ suc count'
+      pub edge_cut : e + 1 ≡ length edges → {count' : ℕ} → edges_counted ≡ suc count'
           → Stores end nodes' (take e edges') node_head edge_head nodes_counted count' (with_edge_taken_back true g e)
-      edge_cut last count' count_is =
+      edge_cut last {count'} count_is =
           let cut_off : (dir : Direction) → nexts_of dir (take e edges') ≡ take e (nexts_of dir edges') = λ dir.
           sym (take-map (raw_next dir) e edges') in
           let links : (dir : Direction)
@@ -497,62 +509,58 @@ module _ {N E Ix : Type 0} {end : ℕ} {nodes : List (Node (Option N) Ix)} {edge
       let step = count_vacate g.nodes n found.0 found.1 in omega (arith, step, s.node_slots.counted)
 
   pub ready_code : (e : ℕ) → IsSome (edge_at g e) → (dir : Direction) → IsReady end dir nodes edges e
-  ready_code e has = let found = some_is _ has in ready s e found.0 found.1
+  ready_code e has = ready s e (some_is _ has).1
 
-  module _ (e : ℕ) (has : IsSome (edge_at g e)) (nodes' : List (Node (Option N) Ix))
-      (edges' : List (Edge (Option E) Ix)) (weights : map stored_weight nodes' ≡ map stored_weight nodes)
-      (plains : map stored_edge edges' ≡ map stored_edge edges) where
+  module _ {e : ℕ} (has : IsSome (edge_at g e)) {nodes' : List (Node (Option N) Ix)}
+      {edges' : List (Edge (Option E) Ix)} (unlinked : IsUnlinked nodes nodes' edges edges' e) where
     pub edge_inside : e < length edges'
     edge_inside =
         let found = some_is _ has in
         let within = edge_within s e found.0 found.1 in
-        omega (arith, within, sym (length-map edges' stored_edge) ∙ ap length plains ∙ length-map edges stored_edge)
+        omega (
+          arith,
+          within,
+          sym (length-map edges' stored_edge) ∙ ap length unlinked.plains ∙ length-map edges stored_edge,
+        )
 
     pub cell_weight : (x : Edge (Option E) Ix)
         → x ≡ get_or edges' e x → x.weight ≡ option_map (λ z. z.weight) (edge_at g e)
     cell_weight x reads =
         let same : edge_at g e ≡ plain_edge x =
-        ap (λ l. slot l e) (s.edges_are ∙ sym (edges_seen edges' edges plains))
+        ap (λ l. slot l e) (s.edges_are ∙ sym (edges_seen edges' edges unlinked.plains))
         ∙ slot_read plain_edge edges' e x edge_inside reads in
         sym (weight_plain x) ∙ sym (ap (option_map (λ z. z.weight)) same)
 
-    pub removed_weight : {i : ℕ} (x x' : Edge (Option E) Ix) (taken left : Option E) → i ≡ e → x ≡ get_or edges' i x
+    pub removed_weight : {i : ℕ} {x x' : Edge (Option E) Ix} {taken : Option E} → i ≡ e → x ≡ get_or edges' i x
         → x' ≡ with_next Outgoing x edge_head → taken ≡ x'.weight → taken ≡ option_map (λ z. z.weight) (edge_at g e)
-    removed_weight x x' taken left i_is reads x'_is taken_is =
+    removed_weight {x = x} i_is reads x'_is taken_is =
         taken_is ∙ ap (λ z. z.weight) x'_is ∙ cell_weight x (reads ∙ ap (λ z. get_or edges' z x) i_is)
 
-    module _
-        (red : (dir : Direction) → Redirects dir nodes edges e (get_or (nexts_of dir edges) e 0) nodes' edges') where
-      pub edge_removed_code : {i : ℕ} (x x' : Edge (Option E) Ix) (left : Option E)
-          → i ≡ e → x' ≡ with_next Outgoing x edge_head → left ≡ None
-          → Stores end nodes' (set edges' i (record {
-            weight = left;
-            parent = x'.parent;
-            child = x'.child;
-            next_out = x'.next_out;
-            next_in = x'.next_in;
-          }))
-          node_head e nodes_counted (edges_counted - 1) (without_edge Stable g e)
-      edge_removed_code x x' left i_is x'_is left_is =
-          let found = some_is _ has in
-          let cell : Edge (Option E) Ix = record {
-            weight = left;
-            parent = x'.parent;
-            child = x'.child;
-            next_out = x'.next_out;
-            next_in = x'.next_in;
-          } in
-          rw i_is (edge_removed s e found.0 found.1 nodes' edges' (weights_seen nodes' nodes weights)
-          (edges_seen edges' edges plains) red cell left_is (ap (λ z. z.next_out) x'_is) (edges_counted - 1)
-          (edges_some e has))
+    pub edge_removed_code : {i : ℕ} (x : Edge (Option E) Ix) {x' : Edge (Option E) Ix} {left : Option E}
+        → i ≡ e → x' ≡ with_next Outgoing x edge_head → left ≡ None
+        → Stores end nodes' (set edges' i (record {
+          weight = left;
+          parent = x'.parent;
+          child = x'.child;
+          next_out = x'.next_out;
+          next_in = x'.next_in;
+        }))
+        node_head e nodes_counted (edges_counted - 1) (without_edge Stable g e)
+    edge_removed_code x {x'} {left} i_is x'_is left_is =
+        let cell : Edge (Option E) Ix = record {
+          weight = left;
+          parent = x'.parent;
+          child = x'.child;
+          next_out = x'.next_out;
+          next_in = x'.next_in;
+        } in
+        rw i_is
+        (edge_removed s e (some_is _ has).1 unlinked cell left_is (ap (λ z. z.next_out) x'_is) (edges_some e has))
 
-      pub edge_cut_code : e + 1 ≡ length edges
-          → Stores end nodes' (take e edges') node_head edge_head nodes_counted (edges_counted - 1)
-          (with_edge_taken_back true g e)
-      edge_cut_code last =
-          let found = some_is _ has in
-          edge_cut s e found.0 found.1 nodes' edges' (weights_seen nodes' nodes weights)
-          (edges_seen edges' edges plains) red last (edges_counted - 1) (edges_some e has)
+    pub edge_cut_code : e + 1 ≡ length edges
+        → Stores end nodes' (take e edges') node_head edge_head nodes_counted (edges_counted - 1)
+        (with_edge_taken_back true g e)
+    edge_cut_code last = edge_cut s e (some_is _ has).1 unlinked last (edges_some e has)
 
   module _ (n : ℕ) (has : IsSome (slot g.nodes n)) (empty : (dir : Direction) → list_at dir g n ≡ []) where
     pub rows_empty : (dir : Direction) → nth_list (lists_at dir g) n ≡ []
