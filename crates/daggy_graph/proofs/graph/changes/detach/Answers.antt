@@ -120,7 +120,8 @@ redirect-requires-then-i-index-2-clause-head g c =
     let at = goal.at.redirect-requires-then-i-index-2-clause-head g c in
     head_4 c.requires.stored (has g at.After-new-moved) (nexts g at.After-redirect)
     (step_1 g at.After-redirect) (step_2 g at.After-redirect-2)
-    (step_3 g at.After-redirect-then-i-index) c.of-moved_into.ensures c.without-into.ensures.node c.without-into.ensures.first
+    (step_3 g at.After-redirect-then-i-index) c.of-moved_into.ensures c.without-into.ensures.node
+    c.without-into.ensures.first
 
 pub returns-then-i-index-clause-detached : goal.returns-then-i-index-clause-detached
 returns-then-i-index-clause-detached g c =
