@@ -60,10 +60,10 @@ module _ {A : Type 0} where
   shown_push_vacant end (Some z ∷ zs) (l ∷ links) new long =
       ap (λ ls. l ∷ ls) (shown_push_vacant end zs links new (omega (arith, long)))
 
-  module _ (end : ℕ) (slots : List (Option A)) (links : List ℕ) (head count : ℕ) (vacant : List ℕ)
+  module _ {end : ℕ} {slots : List (Option A)} {links : List ℕ} {head count : ℕ} {vacant : List ℕ}
       (t : IsThreaded end slots links head count vacant) (index_left : length slots < end) where
     inside : (f : ℕ) → Contains vacant f → f < length slots
-    inside = vacant_inside end slots links head count vacant t
+    inside = vacant_inside t
 
     old_link : (l f : ℕ) → Contains vacant f → slice_get (links ++ l ∷ []) f ≡ slice_get links f
     old_link l f p = slice_get-push_old links l f (omega (arith, inside f p, t.long))
@@ -198,8 +198,7 @@ module _ {N E Ix : Type 0} {end : ℕ} {nodes : List (Node (Option N) Ix)} {edge
         ∙ ap (λ z. shown end (map weight_of nodes ++ Some w ∷ []) (firsts_of dir nodes ++ z ∷ [])) (at_end dir)
         ∙ shown_push end (map weight_of nodes) (firsts_of dir nodes) w end (firsts_as_many weight_of dir nodes) in
         let threaded =
-        threaded_taken end g.nodes (firsts_of Outgoing nodes) node_head nodes_counted g.vacant_nodes s.node_slots
-        (omega (arith, index_left, nodes_long s)) w (raw_first Outgoing x) in
+        threaded_taken s.node_slots (omega (arith, index_left, nodes_long s)) w (raw_first Outgoing x) in
         let moved =
         subst (λ l. IsThreaded end (g.nodes ++ Some w ∷ []) l node_head (nodes_counted + 1) g.vacant_nodes)
         (sym (firsts_more Outgoing)) threaded in
@@ -224,8 +223,7 @@ module _ {N E Ix : Type 0} {end : ℕ} {nodes : List (Node (Option N) Ix)} {edge
         ∙ shown_push_vacant end (map weight_of nodes) (firsts_of dir nodes) (raw_first dir x)
         (firsts_as_many weight_of dir nodes) in
         let threaded =
-        threaded_vacant end g.nodes (firsts_of Outgoing nodes) node_head nodes_counted g.vacant_nodes s.node_slots
-        (omega (arith, index_left, nodes_long s)) in
+        threaded_vacant s.node_slots (omega (arith, index_left, nodes_long s)) in
         let links : firsts_of Outgoing nodes ++ node_head ∷ [] ≡ firsts_of Outgoing (nodes ++ x ∷ []) =
         ap (λ z. firsts_of Outgoing nodes ++ z ∷ []) (sym (ap (raw_first Outgoing) is)) ∙ sym (firsts_more Outgoing) in
         let moved =
@@ -263,8 +261,7 @@ module _ {N E Ix : Type 0} {end : ℕ} {nodes : List (Node (Option N) Ix)} {edge
       λ dir n e. let same = ap (option_map (near_end dir)) (slot_push_vacant g.edges e) in
       (λ p. same ∙ (s.listed dir n e).0 p, λ q. (s.listed dir n e).1 (sym same ∙ q)) in
       let threaded =
-      threaded_vacant end g.edges (nexts_of Outgoing edges) edge_head edges_counted g.vacant_edges s.edge_slots
-      (omega (arith, index_left, edges_long s)) in
+      threaded_vacant s.edge_slots (omega (arith, index_left, edges_long s)) in
       let thread : nexts_of Outgoing edges ++ edge_head ∷ [] ≡ nexts_of Outgoing (edges ++ y ∷ []) =
       ap (λ z. nexts_of Outgoing edges ++ z ∷ []) (sym head_is) ∙ sym (more Outgoing) in
       let moved =
@@ -304,7 +301,7 @@ module _ {N E Ix : Type 0} {end : ℕ} {nodes : List (Node (Option N) Ix)} {edge
 
     node_slots' : IsThreaded end g.nodes (firsts_of Outgoing nodes') node_head nodes_counted g.vacant_nodes
     node_slots' =
-        rethreaded end g.nodes (firsts_of Outgoing nodes) node_head nodes_counted g.vacant_nodes s.node_slots
+        rethreaded s.node_slots
         (firsts_of Outgoing nodes') (ap length led.outs ∙ length-set (firsts_of Outgoing nodes) a (length edges))
         (λ f p.
         let other : f ≢ a = λ same.
@@ -368,8 +365,7 @@ module _ {N E Ix : Type 0} {end : ℕ} {nodes : List (Node (Option N) Ix)} {edge
         })
     edge_taken =
         let threaded =
-        threaded_taken end g.edges (nexts_of Outgoing edges) edge_head edges_counted g.vacant_edges s.edge_slots
-        (omega (arith, index_left, edges_long s)) line (raw_next Outgoing cell) in
+        threaded_taken s.edge_slots (omega (arith, index_left, edges_long s)) line (raw_next Outgoing cell) in
         record {
           nodes_are = s.nodes_are ∙ sym (weights_seen _ _ led.weights);
           edges_are = ap (λ l. l ++ Some line ∷ []) s.edges_are ∙ sym (map_push plain_edge edges cell);

@@ -79,7 +79,7 @@ module _ {N E Ix : Type 0} {end : ℕ} {nodes : List (Node (Option N) Ix)} {edge
       let x : Node (Option N) Ix = fresh_node end w in
       let t : IsThreaded end g.nodes (firsts_of Outgoing nodes) node_head nodes_counted [] =
       subst (IsThreaded end g.nodes (firsts_of Outgoing nodes) node_head nodes_counted) none s.node_slots in
-      let full = counted_full end g.nodes (firsts_of Outgoing nodes) node_head nodes_counted t in
+      let full = counted_full t in
       let firsts : (dir : Direction) → list_firsts end dir nodes ++ end ∷ [] ≡ list_firsts end dir (nodes ++ x ∷ []) =
       λ dir.
       sym (ap (λ l. shown end l (firsts_of dir (nodes ++ x ∷ []))) (map_push weight_of nodes x)
@@ -102,8 +102,7 @@ module _ {N E Ix : Type 0} {end : ℕ} {nodes : List (Node (Option N) Ix)} {edge
         linked = elim [ Outgoing ↦ links Outgoing | Incoming ↦ links Incoming ];
         listed = elim [ Outgoing ↦ lists Outgoing | Incoming ↦ lists Incoming ];
         node_slots =
-            made end g.nodes (firsts_of Outgoing nodes) node_head nodes_counted t w (omega (arith, index_left, full))
-            (firsts_of Outgoing (nodes ++ x ∷ [])) long;
+            made t w (omega (arith, index_left, full)) (firsts_of Outgoing (nodes ++ x ∷ [])) long;
         edge_slots = s.edge_slots;
       })
 
@@ -150,8 +149,7 @@ module _ {N E Ix : Type 0} {end : ℕ} {nodes : List (Node (Option N) Ix)} {edge
         linked = elim [ Outgoing ↦ links Outgoing | Incoming ↦ links Incoming ];
         listed = elim [ Outgoing ↦ lists Outgoing | Incoming ↦ lists Incoming ];
         node_slots =
-            filled end g.nodes (firsts_of Outgoing nodes) node_head nodes_counted v vs t w
-            (firsts_of Outgoing (set nodes v x)) head' long kept goes;
+            filled t w (firsts_of Outgoing (set nodes v x)) head' long kept goes;
         edge_slots = s.edge_slots;
       })
 
@@ -175,7 +173,7 @@ module _ {N E Ix : Type 0} {end : ℕ} {nodes : List (Node (Option N) Ix)} {edge
 
     node_slots' : IsThreaded end g.nodes (firsts_of Outgoing nodes') node_head nodes_counted g.vacant_nodes
     node_slots' =
-        rethreaded end g.nodes (firsts_of Outgoing nodes) node_head nodes_counted g.vacant_nodes s.node_slots
+        rethreaded s.node_slots
         (firsts_of Outgoing nodes') (ap length led.outs ∙ length-set (firsts_of Outgoing nodes) u (next_edge g)) (λ f p.
         let other : f ≢ u = λ same.
         slot_not_vacant g.nodes u found_u.0 found_u.1
@@ -253,26 +251,22 @@ module _ {N E Ix : Type 0} {end : ℕ} {nodes : List (Node (Option N) Ix)} {edge
     (s : Stores end nodes edges node_head edge_head nodes_counted edges_counted g) where
   pub node_none : length nodes ≤ node_head → g.vacant_nodes ≡ []
   node_none past =
-      vacant_none end g.nodes (firsts_of Outgoing nodes) node_head nodes_counted g.vacant_nodes s.node_slots
-      (omega (arith, past, nodes_long s))
+      vacant_none g.vacant_nodes s.node_slots (omega (arith, past, nodes_long s))
 
   pub edge_none : length edges ≤ edge_head → g.vacant_edges ≡ []
   edge_none past =
-      vacant_none end g.edges (nexts_of Outgoing edges) edge_head edges_counted g.vacant_edges s.edge_slots
-      (omega (arith, past, edges_long s))
+      vacant_none g.vacant_edges s.edge_slots (omega (arith, past, edges_long s))
 
   pub node_some : node_head < length nodes → g.vacant_nodes ≢ []
   node_some within q =
       let found =
-      vacant_some end g.nodes (firsts_of Outgoing nodes) node_head nodes_counted g.vacant_nodes s.node_slots
-      (omega (arith, within, nodes_long s)) in
+      vacant_some g.vacant_nodes s.node_slots (omega (arith, within, nodes_long s)) in
       omega (arith, ap length (sym found.1 ∙ q))
 
   pub edge_some : edge_head < length edges → g.vacant_edges ≢ []
   edge_some within q =
       let found =
-      vacant_some end g.edges (nexts_of Outgoing edges) edge_head edges_counted g.vacant_edges s.edge_slots
-      (omega (arith, within, edges_long s)) in
+      vacant_some g.vacant_edges s.edge_slots (omega (arith, within, edges_long s)) in
       omega (arith, ap length (sym found.1 ∙ q))
 
   pub node_next : g.vacant_nodes ≢ [] → (vs : List ℕ) × (g.vacant_nodes ≡ node_head ∷ vs) × (node_head < length nodes)
@@ -284,8 +278,7 @@ module _ {N E Ix : Type 0} {end : ℕ} {nodes : List (Node (Option N) Ix)} {edge
       go (v ∷ vs) is =
           let t = subst (IsThreaded end g.nodes (firsts_of Outgoing nodes) node_head nodes_counted) is s.node_slots in
           let within =
-          vacant_inside end g.nodes (firsts_of Outgoing nodes) node_head nodes_counted (v ∷ vs) t v
-          (0, omega arith, refl) in
+          vacant_inside t v (0, omega arith, refl) in
           (vs, is ∙ ap (λ z. z ∷ vs) (sym t.linked.starts), omega (arith, within, t.linked.starts, nodes_long s))
 
   pub edge_next : g.vacant_edges ≢ [] → (vs : List ℕ) × (g.vacant_edges ≡ edge_head ∷ vs) × (edge_head < length edges)
@@ -297,8 +290,7 @@ module _ {N E Ix : Type 0} {end : ℕ} {nodes : List (Node (Option N) Ix)} {edge
       go (v ∷ vs) is =
           let t = subst (IsThreaded end g.edges (nexts_of Outgoing edges) edge_head edges_counted) is s.edge_slots in
           let within =
-          vacant_inside end g.edges (nexts_of Outgoing edges) edge_head edges_counted (v ∷ vs) t v
-          (0, omega arith, refl) in
+          vacant_inside t v (0, omega arith, refl) in
           (vs, is ∙ ap (λ z. z ∷ vs) (sym t.linked.starts), omega (arith, within, t.linked.starts, edges_long s))
 
   pub node_filled_code : (w : N) {i head' : ℕ} {x y : Node (Option N) Ix}
@@ -358,8 +350,7 @@ module _ {N E Ix : Type 0} {end : ℕ} {nodes : List (Node (Option N) Ix)} {edge
         let long : length (nexts_of Outgoing (set edges edge_head cell)) ≡ length (nexts_of Outgoing edges) =
         ap length (written Outgoing) ∙ length-set (nexts_of Outgoing edges) edge_head (raw_next Outgoing cell) in
         let threaded =
-        filled end g.edges (nexts_of Outgoing edges) edge_head edges_counted edge_head vs t new_edge
-        (nexts_of Outgoing (set edges edge_head cell)) head' long
+        filled t new_edge (nexts_of Outgoing (set edges edge_head cell)) head' long
         (λ f p. others Outgoing f (λ same. t.linked.distinct.0 (subst (Contains vs) same p))) goes in
         edge_put s ends (subst (AreLedTo nodes nodes' a b) (sym e_is) led) record {
           plains =
@@ -380,7 +371,7 @@ module _ {N E Ix : Type 0} {end : ℕ} {nodes : List (Node (Option N) Ix)} {edge
         let e_is : next_edge g ≡ length edges = ap (next_slot g.edges) none ∙ edges_long s in
         let t : IsThreaded end g.edges (nexts_of Outgoing edges) edge_head edges_counted [] =
         subst (IsThreaded end g.edges (nexts_of Outgoing edges) edge_head edges_counted) none s.edge_slots in
-        let full = counted_full end g.edges (nexts_of Outgoing edges) edge_head edges_counted t in
+        let full = counted_full t in
         let written : (dir : Direction)
         → nexts_of dir (edges ++ cell ∷ []) ≡ nexts_of dir edges ++ raw_next dir cell ∷ [] =
         λ dir.
@@ -399,8 +390,7 @@ module _ {N E Ix : Type 0} {end : ℕ} {nodes : List (Node (Option N) Ix)} {edge
           t.long,
         ) in
         let threaded =
-        made end g.edges (nexts_of Outgoing edges) edge_head edges_counted t new_edge (omega (arith, few, full))
-        (nexts_of Outgoing (edges ++ cell ∷ [])) long in
+        made t new_edge (omega (arith, few, full)) (nexts_of Outgoing (edges ++ cell ∷ [])) long in
         edge_put s ends (subst (AreLedTo nodes nodes' a b) (sym e_is) led) record {
           plains =
               map_push plain_edge edges cell ∙ ap (λ l. l ++ Some new_edge ∷ []) (sym s.edges_are)

@@ -206,11 +206,9 @@ module _ {N E Ix : Type 0} {end : ℕ} {nodes : List (Node (Option N) Ix)} {edge
             (linked dir);
         listed = rows_listed (with_orders g orders) still_well_formed;
         node_slots =
-            rethreaded end g.nodes (firsts_of Outgoing nodes) node_head nodes_counted g.vacant_nodes s.node_slots
-            (firsts_of Outgoing nodes') firsts_as_long
+            rethreaded s.node_slots (firsts_of Outgoing nodes') firsts_as_long
             (λ f p.
             vacant f (ap (λ l. slot l f) (sym s.nodes_are) ∙ slot_vacant g.nodes f ((s.node_slots.exact f).0 p)));
         edge_slots =
-            rethreaded end g.edges (nexts_of Outgoing edges) edge_head edges_counted g.vacant_edges s.edge_slots
-            (nexts_of Outgoing edges') as_long (λ f p. others f (not_listed f p));
+            rethreaded s.edge_slots (nexts_of Outgoing edges') as_long (λ f p. others f (not_listed f p));
       }

@@ -86,35 +86,35 @@ module _ {A : Type 0} where
   pub slot_inside : (xs : List (Option A)) (e : ℕ) (x : A) → slot xs e ≡ Some x → e < length xs
   slot_inside xs e x h = slice_get_within xs e _ (slot_get xs e x h)
 
-  module _ (end : ℕ) (slots : List (Option A)) (links : List ℕ) (head count : ℕ) where
-    pub vacant_inside : (vacant : List ℕ)
+  module _ {end : ℕ} {slots : List (Option A)} {links : List ℕ} {head count : ℕ} where
+    pub vacant_inside : {vacant : List ℕ}
         → IsThreaded end slots links head count vacant → (i : ℕ) → Contains vacant i → i < length slots
-    vacant_inside vacant t i p = slice_get_within slots i _ ((t.exact i).0 p)
+    vacant_inside t i p = slice_get_within slots i _ ((t.exact i).0 p)
 
     -- where the head leads
     pub vacant_none : (vacant : List ℕ)
         → IsThreaded end slots links head count vacant → length slots ≤ head → vacant ≡ []
     vacant_none [] t past = refl
     vacant_none (v ∷ vs) t past =
-        absurd (omega (arith, past, t.linked.starts, vacant_inside (v ∷ vs) t v (Contains-here v vs)))
+        absurd (omega (arith, past, t.linked.starts, vacant_inside t v (Contains-here v vs)))
 
     pub vacant_some : (vacant : List ℕ)
         → IsThreaded end slots links head count vacant → head < length slots → (rest : List ℕ) × (vacant ≡ head ∷ rest)
     vacant_some [] t within = absurd (omega (arith, within, t.linked.starts, t.few))
     vacant_some (v ∷ vs) t within = (vs, ap (λ z. z ∷ vs) (sym t.linked.starts))
 
-    pub vacant_is : (vacant : List ℕ)
+    pub vacant_is : {vacant : List ℕ}
         → IsThreaded end slots links head count vacant → follow links (length links) head ≡ vacant
-    vacant_is vacant t = row_is end head links vacant t.linked (omega (arith, t.long, t.few))
+    vacant_is {vacant} t = row_is end head links vacant t.linked (omega (arith, t.long, t.few))
 
     pub counted_full : IsThreaded end slots links head count [] → count ≡ length slots
     counted_full t = t.counted ∙ count_full slots (full_from slots [] (record { exact = t.exact; once = tt }) refl)
 
     -- other links, which are the same at vacant slots
-    pub rethreaded : (vacant : List ℕ) → IsThreaded end slots links head count vacant → (links' : List ℕ)
+    pub rethreaded : {vacant : List ℕ} → IsThreaded end slots links head count vacant → (links' : List ℕ)
         → length links' ≡ length links → ((f : ℕ) → Contains vacant f → slice_get links' f ≡ slice_get links f)
         → IsThreaded end slots links' head count vacant
-    rethreaded vacant t links' same_length kept =
+    rethreaded {vacant} t links' same_length kept =
         record {
           linked = IsLinkedList-kept end links links' head vacant t.linked kept;
           exact = t.exact;
@@ -143,11 +143,11 @@ module _ {A : Type 0} where
               | inr other ↦ Contains-nil i ((t.exact i).1 (sym (slice_get-push_other slots (Some x) i other) ∙ q))
             ]
 
-    pub filled : (v : ℕ) (vs : List ℕ) → IsThreaded end slots links head count (v ∷ vs)
+    pub filled : {v : ℕ} {vs : List ℕ} → IsThreaded end slots links head count (v ∷ vs)
         → (x : A) (links' : List ℕ) (head' : ℕ) → length links' ≡ length links
         → ((f : ℕ) → Contains vs f → slice_get links' f ≡ slice_get links f) → slice_get links v ≡ Some head'
         → IsThreaded end (set slots v (Some x)) links' head' (suc count) vs
-    filled v vs t x links' head' same_length kept goes =
+    filled {v} {vs} t x links' head' same_length kept goes =
         let at_v : IsLinkedList end links v (v ∷ vs) =
         subst (λ z. IsLinkedList end links z (v ∷ vs)) t.linked.starts t.linked in
         let is : first_of end vs ≡ head' =
@@ -177,7 +177,7 @@ module _ {A : Type 0} where
           few = omega (arith, t.few, length-set slots v (Some x));
         }
 
-    module _ (vacant : List ℕ) (t : IsThreaded end slots links head count vacant) (e : ℕ) (x : A)
+    module _ {vacant : List ℕ} (t : IsThreaded end slots links head count vacant) (e : ℕ) (x : A)
         (at : slot slots e ≡ Some x) where
       pub not_listed : ¬ Contains vacant e
       not_listed p = slot_not_vacant slots e x at ((t.exact e).0 p)

@@ -172,7 +172,7 @@ module _ {N E Ix : Type 0} {end : ℕ} {nodes : List (Node (Option N) Ix)} {edge
           let n = near_end Outgoing y in
           let found = near_exists s Outgoing n e (there Outgoing) in
           let new = renamed e (get_or (nexts_of Outgoing edges) e 0) (get_or (firsts_of Outgoing nodes) n 0) in
-          rethreaded end g.nodes (firsts_of Outgoing nodes) node_head nodes_counted g.vacant_nodes s.node_slots
+          rethreaded s.node_slots
           (firsts_of Outgoing nodes') (ap length r.first ∙ length-set (firsts_of Outgoing nodes) n new) (λ f p.
           let other : f ≢ n = λ same.
           slot_not_vacant g.nodes n found.0 found.1
@@ -235,8 +235,7 @@ module _ {N E Ix : Type 0} {end : ℕ} {nodes : List (Node (Option N) Ix)} {edge
             listed = elim [ Outgoing ↦ lists Outgoing | Incoming ↦ lists Incoming ];
             node_slots = node_slots';
             edge_slots =
-                vacated end g.edges (nexts_of Outgoing edges) edge_head edges_counted g.vacant_edges s.edge_slots e y at
-                (nexts_of Outgoing (set edges' e cell)) count' long goes
+                vacated s.edge_slots e y at (nexts_of Outgoing (set edges' e cell)) count' long goes
                 (λ f p. ap (λ l. slice_get l f) (written Outgoing)
                 ∙ slice_get-set_other (nexts_of Outgoing edges') e f (raw_next Outgoing cell) (vacant_kept f p).1
                 ∙ (vacant_kept f p).0) count_is;
@@ -272,7 +271,7 @@ module _ {N E Ix : Type 0} {end : ℕ} {nodes : List (Node (Option N) Ix)} {edge
             listed = elim [ Outgoing ↦ lists Outgoing | Incoming ↦ lists Incoming ];
             node_slots = node_slots';
             edge_slots =
-                cut end g.edges (nexts_of Outgoing edges) edge_head edges_counted g.vacant_edges s.edge_slots e y at
+                cut s.edge_slots e y at
                 (nexts_of Outgoing (take e edges')) count' (omega (arith, last, edges_long s)) short
                 (λ f p.
                 let below : f < e =
@@ -356,12 +355,10 @@ module _ {N E Ix : Type 0} {end : ℕ} {nodes : List (Node (Option N) Ix)} {edge
           linked = elim [ Outgoing ↦ links Outgoing | Incoming ↦ links Incoming ];
           listed = elim [ Outgoing ↦ s.listed Outgoing | Incoming ↦ s.listed Incoming ];
           node_slots =
-              vacated end g.nodes (firsts_of Outgoing nodes) node_head nodes_counted g.vacant_nodes s.node_slots n w at
-              (firsts_of Outgoing (set nodes n cell)) count' long goes
+              vacated s.node_slots n w at (firsts_of Outgoing (set nodes n cell)) count' long goes
               (λ f p.
               let other : f ≢ n = λ same.
-              not_listed end g.nodes (firsts_of Outgoing nodes) node_head nodes_counted g.vacant_nodes s.node_slots n
-              w at (subst (Contains g.vacant_nodes) same p) in
+              not_listed s.node_slots n w at (subst (Contains g.vacant_nodes) same p) in
               ap (λ l. slice_get l f) (written Outgoing)
               ∙ slice_get-set_other (firsts_of Outgoing nodes) n f (raw_first Outgoing cell) other) count_is;
           edge_slots = s.edge_slots;
@@ -390,12 +387,11 @@ module _ {N E Ix : Type 0} {end : ℕ} {nodes : List (Node (Option N) Ix)} {edge
           linked = elim [ Outgoing ↦ links Outgoing | Incoming ↦ links Incoming ];
           listed = elim [ Outgoing ↦ lists Outgoing | Incoming ↦ lists Incoming ];
           node_slots =
-              cut end g.nodes (firsts_of Outgoing nodes) node_head nodes_counted g.vacant_nodes s.node_slots n w at
+              cut s.node_slots n w at
               (firsts_of Outgoing (take n nodes)) count' (omega (arith, last, nodes_long s)) short
               (λ f p.
               let other : f ≢ n = λ same.
-              not_listed end g.nodes (firsts_of Outgoing nodes) node_head nodes_counted g.vacant_nodes s.node_slots n
-              w at (subst (Contains g.vacant_nodes) same p) in
+              not_listed s.node_slots n w at (subst (Contains g.vacant_nodes) same p) in
               let below : f < n =
               omega (arith, other, last, nodes_long s, slice_get_within g.nodes f _ ((s.node_slots.exact f).0 p)) in
               ap (λ l. slice_get l f) (sym (take-map (raw_first Outgoing) n nodes))
@@ -668,8 +664,7 @@ Stores-emptied {N} {E} {Ix} {end} {nodes} {edges} {node_head} {edge_head} {nodes
       linked = elim [ Outgoing ↦ links Outgoing | Incoming ↦ links Incoming ];
       listed = elim [ Outgoing ↦ lists Outgoing | Incoming ↦ lists Incoming ];
       node_slots =
-          rethreaded end g.nodes (firsts_of Outgoing nodes) node_head nodes_counted g.vacant_nodes s.node_slots
-          (firsts_of Outgoing (map (with_lists_emptied end) nodes))
+          rethreaded s.node_slots (firsts_of Outgoing (map (with_lists_emptied end) nodes))
           (length-map (map (with_lists_emptied end) nodes) (raw_first Outgoing)
           ∙ length-map nodes (with_lists_emptied end) ∙ sym (length-map nodes (raw_first Outgoing)))
           (λ f p. emptied_vacant end nodes f (ap (λ l. slice_get l f) (sym s.nodes_are) ∙ (s.node_slots.exact f).0 p));

@@ -49,8 +49,7 @@ module _ {N E Ix : Type 0} {end : ℕ} {nodes : List (Node (Option N) Ix)} {edge
         listed = elim [ Outgoing ↦ s.listed Outgoing | Incoming ↦ s.listed Incoming ];
         node_slots =
             subst (λ z. IsThreaded end (set g.nodes n (Some w)) z node_head nodes_counted g.vacant_nodes)
-            (sym (firsts Outgoing)) (renewed end g.nodes (firsts_of Outgoing nodes) node_head nodes_counted
-            g.vacant_nodes s.node_slots n found.0 found.1 w);
+            (sym (firsts Outgoing)) (renewed s.node_slots n found.0 found.1 w);
         edge_slots = s.edge_slots;
       }
 
@@ -97,8 +96,7 @@ module _ {N E Ix : Type 0} {end : ℕ} {nodes : List (Node (Option N) Ix)} {edge
       option_map (near_end dir) (slot (set g.edges e (Some (edge_with_weight w y))) f)) (lists_at dir g) =
       λ dir n f. (λ p. same_end dir f ∙ (s.listed dir n f).0 p, λ q. (s.listed dir n f).1 (sym (same_end dir f) ∙ q)) in
       let threaded =
-      renewed end g.edges (nexts_of Outgoing edges) edge_head edges_counted g.vacant_edges s.edge_slots e y found.1
-      (edge_with_weight w y) in
+      renewed s.edge_slots e y found.1 (edge_with_weight w y) in
       rw new_is (
       record {
         nodes_are = s.nodes_are;

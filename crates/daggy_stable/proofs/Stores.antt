@@ -84,8 +84,8 @@ module _ {N E Ix : Type 0} {end : ℕ} {nodes : List (Node (Option N) Ix)} {edge
   stored_is =
       same_graph g (sym s.nodes_are) (sym s.edges_are) (rows_are end _ _ _ (s.linked Outgoing) (nexts_few Outgoing))
       (rows_are end _ _ _ (s.linked Incoming) (nexts_few Incoming))
-      (vacant_is end g.nodes (firsts_of Outgoing nodes) node_head nodes_counted g.vacant_nodes s.node_slots)
-      (vacant_is end g.edges (nexts_of Outgoing edges) edge_head edges_counted g.vacant_edges s.edge_slots)
+      (vacant_is s.node_slots)
+      (vacant_is s.edge_slots)
 
   pub Stores-itself : Stores end nodes edges node_head edge_head nodes_counted edges_counted
       (stored_graph end nodes edges node_head edge_head)

@@ -48,7 +48,8 @@ invariant_of-self g c =
     let a_in = rw (← c.self.view_is) at c.requires.parent in
     let b_in = rw (← c.self.view_is) at c.requires.child in
     Stores-itself (edge_filled_code c.self.invariant (record { parent = a_in; child = b_in }) c.of_node.ensures
-    c.of_node-2.ensures (put g at.After-put_first-x) (λ q. c.requires.some (ap (λ s. s.graph.vacant_edges) (sym c.self.view_is) ∙ q)) c.index-i.ensures.value
+    c.of_node-2.ensures (put g at.After-put_first-x)
+    (λ q. c.requires.some (ap (λ s. s.graph.vacant_edges) (sym c.self.view_is) ∙ q)) c.index-i.ensures.value
     c.index.ensures c.next-self-inside.ensures)
 
 pub returns-clause-index : goal.returns-clause-index
@@ -65,5 +66,6 @@ returns-clause-added g c =
     state_changed _ _ _ _
     (λ h. with_edge h (g.Ix.IndexType.number c.args.a) (g.Ix.IndexType.number c.args.b) c.args.weight) c.self.view_is
     (stored_is (edge_filled_code c.self.invariant (record { parent = a_in; child = b_in }) c.of_node.ensures
-    c.of_node-2.ensures (put g at.After-put_first-x) (λ q. c.requires.some (ap (λ s. s.graph.vacant_edges) (sym c.self.view_is) ∙ q)) c.index-i.ensures.value
+    c.of_node-2.ensures (put g at.After-put_first-x)
+    (λ q. c.requires.some (ap (λ s. s.graph.vacant_edges) (sym c.self.view_is) ∙ q)) c.index-i.ensures.value
     c.index.ensures c.next-self-inside.ensures))

@@ -53,7 +53,8 @@ invariant_of-self-2 g c =
     omega (arith, c.new-e.ensures, c.len.ensures, ap length c.reserve.ensures.items) in
     let pushed = rw c.reserve.ensures.items at c.push_reserved.ensures.items in
     Stores-itself (edge_made_code c.self.invariant (record { parent = a_in; child = b_in }) c.of_node.ensures
-    c.of_node-2.ensures (put g at.After-put_first-x) new (ap (λ s. s.graph.vacant_edges) c.self.view_is ∙ c.requires.none) few pushed)
+    c.of_node-2.ensures (put g at.After-put_first-x) new
+    (ap (λ s. s.graph.vacant_edges) c.self.view_is ∙ c.requires.none) few pushed)
 
 pub returns-clause-added : goal.returns-clause-added
 returns-clause-added g c =
@@ -73,7 +74,8 @@ returns-clause-added g c =
     state_changed _ _ _ _
     (λ h. with_edge h (g.Ix.IndexType.number c.args.a) (g.Ix.IndexType.number c.args.b) c.args.weight) c.self.view_is
     (stored_is (edge_made_code c.self.invariant (record { parent = a_in; child = b_in }) c.of_node.ensures
-    c.of_node-2.ensures (put g at.After-put_first-x) new (ap (λ s. s.graph.vacant_edges) c.self.view_is ∙ c.requires.none) few pushed))
+    c.of_node-2.ensures (put g at.After-put_first-x) new
+    (ap (λ s. s.graph.vacant_edges) c.self.view_is ∙ c.requires.none) few pushed))
 
 pub new-e-requires : goal.new-e-requires
 new-e-requires g c =
