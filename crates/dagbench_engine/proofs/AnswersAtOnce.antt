@@ -2,7 +2,6 @@
 use Rattle.std.proofs.Common.{◌≡◌, ℕ, ℤ, List, [], ◌∷◌, ◌++◌, codes, Option, Some, None, Result, Ok, Err, refl, subst}
 use Rattle.std.proofs.Common.{inl, inr}
 use Rattle.std.specs.Option.{MatchOption, IsSomeAnd}
-use Rattle.std.specs.Result.{OnOk}
 use Rattle.daggy.specs.Graph.{Graph}
 use Rattle.daggy.specs.Removal.{Kind}
 use Rattle.dagbench_lines.specs.Commands.{Asked, Document, asked_in, TakesRoom}

@@ -1,12 +1,11 @@
 -- The indices that words list, one by one.
-use Rattle.std.proofs.Common.{◌≡◌, ℕ, ◌<◌, List, [], ◌∷◌, length, Option, Some, None, IsSome, is_some, refl, sym, ap}
+use Rattle.std.proofs.Common.{◌≡◌, ℕ, ◌<◌, List, [], ◌∷◌, length, Option, Some, None, is_some, refl, sym, ap}
 use Rattle.std.proofs.Common.{◌∙◌, arith}
-use Rattle.std.specs.Option.{option_map, unwrap_or}
-use Rattle.std.proofs.lemmas.Bool.{false≢true}
+use Rattle.std.specs.Option.{option_map}
 use Rattle.std.proofs.lemmas.Option.{same_Some}
 use Rattle.dagbench_lines.specs.Numbers.{index_of}
 use Rattle.dagbench_lines.specs.Listing.{◌>>=◌, first_by, indices_by_words}
-use Rattle.dagbench_lines.proofs.Listed.{beside, listed_with, is_some_with, not_some}
+use Rattle.dagbench_lines.proofs.Listed.{beside, is_some_with, not_some}
 
 -- an index and those that the words behind it list
 abbrev then_indices : List (List ℕ) → ℕ → Option (List ℕ)

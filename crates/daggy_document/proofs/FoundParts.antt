@@ -12,7 +12,7 @@ use Rattle.serde_json.specs.Find.{as_array}
 use Rattle.serde_json.specs.View.{view, items_of}
 use Rattle.serde_json.specs.declared.value.Value.{Value}
 use Rattle.daggy_document.specs.Reading.{list_of, array_in, all_in, whole_in, triple, triple_in}
-use Rattle.daggy_document.specs.Found.{row, row_in, indices_in}
+use Rattle.daggy_document.specs.Found.{row, row_in}
 use Rattle.daggy_document.specs.Weight.{ReadsAs}
 
 pub list_of-items_of : (ds : List Data) → list_of (items_of ds) ≡ ds

@@ -3,14 +3,14 @@ use Rattle.std.proofs.Common.{◌≡◌, ℕ, ◌+◌, ◌-◌, ◌*◌, ◌≤�
 use Rattle.std.proofs.Common.{add-one, arith}
 use Rattle.std.proofs.Math.Nat.{suc-mul, mul-suc}
 use Rattle.std.specs.List.{AllZip, FoldsTo}
-use Rattle.std.specs.Iterator.{Yields, Drains}
+use Rattle.std.specs.Iterator.{Yields}
 use Rattle.std.proofs.lemmas.Fn.{FoldsTo-push}
 use Rattle.std.proofs.lemmas.List.{map-append}
 use Rattle.daggy_base.specs.Graph.{Graph, node_bound}
 use Rattle.daggy_base.specs.declared.error.EdgeError.{EdgeError}
 use Rattle.daggy_base.specs.Ordered.{IsOrderOf}
 use Rattle.daggy_guard.specs.EdgeBatch.{NewEdge, by_numbers}
-use Rattle.daggy_guard.specs.Extension.{IsExtended, IsStopped, Extends, Stops}
+use Rattle.daggy_guard.specs.Extension.{IsExtended, IsStopped, Stops}
 use Rattle.daggy_guard.proofs.ItemsSoFar.{zip_more}
 
 -- what the loop has so far: the graph, the items that were given, the order, and for how many nodes there is room

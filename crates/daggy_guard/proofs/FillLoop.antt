@@ -1,5 +1,5 @@
 -- The loop of `fill`: so many nodes were added.
-use Rattle.std.proofs.Common.{◌≡◌, ℕ, ◌+◌, ◌<◌, ◌≤◌, List, [], ◌∷◌, ◌++◌, length, refl, sym, ap, ◌∙◌, arith}
+use Rattle.std.proofs.Common.{◌≡◌, ℕ, ◌+◌, ◌≤◌, List, [], ◌∷◌, ◌++◌, length, refl, sym, ap, ◌∙◌, arith}
 use Rattle.std.specs.List.{AllByRecursion}
 use Rattle.std.proofs.lemmas.List.{length-append}
 use Rattle.daggy_base.specs.Graph.{Graph, node_count, node_bound, edge_count}
@@ -7,7 +7,7 @@ use Rattle.daggy_base.specs.Adding.{with_node}
 use Rattle.daggy_base.specs.WellFormed.{IsWellFormed}
 use Rattle.daggy_base.proofs.PathsWithNewNode.{free_slots}
 use Rattle.daggy_base.specs.Ordered.{IsOrderOf}
-use Rattle.daggy_guard.specs.Extension.{with_nodes, missing, IsFilled, IsPartFilled}
+use Rattle.daggy_guard.specs.Extension.{with_nodes, missing, IsPartFilled}
 use Rattle.daggy_guard.proofs.AcceptedEdges.{count_taken}
 
 nodes_more : {N E : Type 0} (g : Graph N E) (ws : List N) (w : N)

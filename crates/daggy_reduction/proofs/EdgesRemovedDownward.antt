@@ -3,7 +3,6 @@ use Rattle.std.proofs.Common.{◌≡◌, ℕ, zero, suc, ◌+◌, ◌<◌, ◌�
 use Rattle.std.proofs.Common.{drop, reverse, Option, Some, None, refl, sym, ap, subst, ◌∙◌, arith, Contains, IsSome}
 use Rattle.std.proofs.Common.{OnSome, option_map}
 use Rattle.std.proofs.lemmas.List.{drop_more, reverse-append}
-use Rattle.std.proofs.Math.Seq.{drop-length}
 use Rattle.daggy_base.specs.Graph.{Graph, Edge, HasEdge, slot, edge_at}
 use Rattle.daggy_base.specs.Removal.{Kind, Compact, Stable, KeepsIndices, without_edge, without_edges}
 use Rattle.daggy_base.specs.Reduction.{IsDescending, IsReduction, IsRedundant}

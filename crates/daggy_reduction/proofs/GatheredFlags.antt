@@ -6,7 +6,6 @@ use Rattle.std.proofs.lemmas.Bool.{cases_eq, eq-eqb, ne_eqb, cond-true, cond-fal
 use Rattle.daggy_base.proofs.Lists.{Mem, mem_left, mem_right, mem_cases, mem_contains, contains_mem}
 use Rattle.daggy_reduction.specs.Flags.{IsFlagged, flagged_below}
 use Rattle.daggy_reduction.specs.Comparison.{IsAscending}
-use Rattle.daggy_reduction.proofs.QueueProgress.{take_none}
 
 -- up to a place the flagged ones stand in front, and from there on nothing has changed
 pub record Gathering (end : ℕ) (flags₀ flags : List ℕ) (len i : ℕ) : Type 0 where

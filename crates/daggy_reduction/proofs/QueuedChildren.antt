@@ -10,7 +10,7 @@ use Rattle.daggy_base.specs.WellFormed.{IsWellFormed}
 use Rattle.daggy_base.specs.Look.{IsLook}
 use Rattle.daggy_base.proofs.Lists.{Mem, Unique, mem_left, mem_right, mem_cases, unique_append, contains_mem, mem_at}
 use Rattle.daggy_base.proofs.Lists.{fewer_than}
-use Rattle.daggy_base.proofs.OutEdgesRead.{leaves, joins, LookedTo, all_read, read_part, read_whole, has_edge}
+use Rattle.daggy_base.proofs.OutEdgesRead.{leaves, joins, LookedTo, all_read, read_part, has_edge}
 use Rattle.daggy_base.proofs.OutEdgesRead.{child_exists, child_joined, next_cursor, looked_more, below_bound}
 use Rattle.daggy_search.proofs.SearchProgress.{marked_within, set_marked}
 use Rattle.daggy_base.specs.Ordered.{IsOrderOf, place}
