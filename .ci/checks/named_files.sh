@@ -9,5 +9,6 @@ while read -r name; do
     echo "no file $name"
     missing=1
   fi
-done < <(find README.md docs -name '*.md' ! -name USING.md -exec cat {} + | grep -oE '`[^` ]+\.(rt|antt|sh|edit|py|c)`' | tr -d '`' | sort -u)
+done < <(find README.md docs -name '*.md' ! -name USING.md -exec cat {} + |
+  grep -oE '`[^` ]+\.(rt|antt|sh|edit|py|c)`' | tr -d '`' | sort -u)
 exit "$missing"
