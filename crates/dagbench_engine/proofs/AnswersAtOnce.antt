@@ -1,11 +1,10 @@
 -- Answers to lines that are not carried out.
 use Rattle.std.proofs.Common.{◌≡◌, ℕ, ℤ, List, [], ◌∷◌, ◌++◌, codes, Option, Some, None, Result, Ok, Err, refl, subst}
-use Rattle.std.proofs.Common.{inl, inr}
+use Rattle.std.proofs.Common.{inr}
 use Rattle.std.specs.Option.{MatchOption, IsSomeAnd}
 use Rattle.daggy.specs.Graph.{Graph}
 use Rattle.daggy.specs.Removal.{Kind}
-use Rattle.dagbench_lines.specs.Commands.{Asked, Document, asked_in, TakesRoom}
-use Rattle.dagbench_engine.specs.Documents.{TellsDocument}
+use Rattle.dagbench_lines.specs.Commands.{Asked, asked_in, TakesRoom}
 use Rattle.dagbench_lines.specs.Streams.{Appends}
 use Rattle.dagbench_engine.specs.Transcripts.{IsAnswered}
 use Rattle.dagbench_engine.specs.Progress.{AnswersLine}
@@ -33,7 +32,3 @@ module _ (kind : Kind) (line : List ℕ) (g : Graph ℤ ℤ) (before now : List 
       → Appends r before now (codes "memory" ++ 10 ∷ []) → AnswersLine kind r line g g before now
   no_room_answered (Err e) holds appended = tt
   no_room_answered (Ok x) holds appended = (codes "memory", no_room (asked_in line) holds, appended)
-
-  told : (text : List ℕ) → TellsDocument g text → IsAnswered kind g Document text g
-  told text (inl is) = inl (is, refl)
-  told text (inr none) = inr (tt, none, refl)

@@ -35,10 +35,6 @@ pub slot_is : {A B : Type 0} (f : A → B) (xs : List A) (i : ℕ) (x : A)
     → i < length xs → x ≡ get_or xs i x → slot (map (λ x. Some (f x)) xs) i ≡ Some (f x)
 slot_is f xs i x p is = slot_read (λ y. Some (f y)) xs i x p is
 
-pub slot_past : {A B : Type 0} (f : A → B) (xs : List A) (i : ℕ)
-    → length xs ≤ i → slot (map (λ x. Some (f x)) xs) i ≡ None
-slot_past f xs i p = slot_beyond (λ y. Some (f y)) xs i p
-
 -- no slot is vacant
 pub count-slots : {A B : Type 0} (f : A → B) (xs : List A) → count_by is_some (map (λ x. Some (f x)) xs) ≡ length xs
 count-slots {A} {B} f xs = sym (length-filter is_some (map (λ x. Some (f x)) xs)) ∙ kept xs

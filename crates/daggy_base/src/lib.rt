@@ -7,5 +7,6 @@ pub mod error;
 pub mod index;
 pub mod link;
 pub mod looks;
+pub mod reserved;
 pub mod source;
 pub mod store;

@@ -43,10 +43,6 @@ module _ {N E : Type 0} (dir : Direction) (g : Graph N E) (i : ℕ) where
   pub passed : i < length g.nodes → is_external dir g i ≡ false → externals_from dir g i ≡ externals_from dir g (i + 1)
   passed within is = ap (filter (is_external dir g)) (range_step i (length g.nodes) within) ∙ rw is refl
 
-  pub ended : length g.nodes ≤ i → externals_from dir g i ≡ []
-  ended past = let none : length g.nodes - i ≡ 0 = omega (arith, past) in
-      ap (λ k. filter (is_external dir g) (range_with_len i k)) none
-
 pub few : {N E : Type 0} (dir : Direction) (g : Graph N E) → length (externals_from dir g 0) ≤ length g.nodes
 few dir g =
     let range = range_with_len 0 (length g.nodes - 0) in

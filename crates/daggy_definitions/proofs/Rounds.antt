@@ -1,8 +1,7 @@
 -- What the two arrays of a round say of its graph.
-use Rattle.std.proofs.Common.{◌≡◌, ℕ, zero, suc, ◌<◌, inl, inr, [], ◌∷◌, Some, None, refl, sym, subst, arith}
+use Rattle.std.proofs.Common.{◌≡◌, ℕ, zero, suc, inl, inr, [], ◌∷◌, Some, None, refl, sym, subst, arith}
 use Rattle.std.specs.List.{slice_get}
-use Rattle.std.proofs.lemmas.Bool.{false≢true}
-use Rattle.daggy_base.specs.Graph.{Edge, HasNode, HasEdge, edge_at, out_list, in_list}
+use Rattle.daggy_base.specs.Graph.{Edge, HasNode, edge_at, out_list, in_list}
 use Rattle.daggy_base.specs.WellFormed.{AreDistinct, IsWellFormed}
 use Rattle.daggy_base.proofs.Lists.{Mem, contains_mem, mem_contains}
 use Rattle.daggy_definitions.specs.Examples.{line, round}
@@ -124,8 +123,3 @@ round_is_well_formed = record {
   few_nodes = omega arith;
   few_edges = omega arith;
 }
-
-pub edge_within : (e : ℕ) → HasEdge round e → e < 2
-edge_within zero h = omega arith
-edge_within (suc zero) h = omega arith
-edge_within (suc (suc e)) h = absurd (false≢true h)

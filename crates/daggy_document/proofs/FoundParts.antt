@@ -111,14 +111,6 @@ not_row bound (a ∷ []) h = refl
 not_row bound (a ∷ b ∷ []) h = absurd (h refl)
 not_row bound (a ∷ b ∷ c ∷ vs) h = refl
 
-pub row_is : (bound : ℕ) (vs : List Value) (a b : Value)
-    → length vs ≡ 2 → a ≡ get_or vs 0 a → b ≡ get_or vs 1 b → row bound (map view vs) ≡ row bound (view a ∷ view b ∷ [])
-row_is bound [] a b long x y = absurd (omega arith)
-row_is bound (k ∷ []) a b long x y = absurd (omega arith)
-row_is bound (k ∷ l ∷ []) a b long x y =
-    ap (λ h. row bound (view h ∷ view l ∷ [])) (sym x) ∙ ap (λ h. row bound (view a ∷ view h ∷ [])) (sym y)
-row_is bound (k ∷ l ∷ m ∷ vs) a b long x y = absurd (omega arith)
-
 module _ (d : Data) (vs : List Value) (array : Some (items_of (map view vs)) ≡ as_array d) where
   pub no_triple : (length vs ≡ 3 → ⊥) → None ≡ triple_in d
   no_triple h = sym (ap (option_and_then triple) (array_some d vs array) ∙ not_triple vs h)

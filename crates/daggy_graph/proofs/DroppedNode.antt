@@ -113,9 +113,6 @@ ListsEach-dropped ends ends' lists {lists'} i last listed empty rows ends_is m f
     backwards q = find (slice_get ends f) refl (sym reads ∙ q)
 
 module _ {E Ix : Type 0} (last i : ℕ) where
-  both : List (Edge E Ix) → List (Edge E Ix)
-  both es = map (with_end_renamed Incoming last i) (map (with_end_renamed Outgoing last i) es)
-
   edges_renamed : (es : List (Edge E Ix))
       → map (option_map (with_ends_renamed last i)) (map plain_edge es)
       ≡ map plain_edge (map (with_end_renamed Incoming last i) (map (with_end_renamed Outgoing last i) es))

@@ -18,9 +18,6 @@ use Rattle.daggy_base.proofs.EdgeTakenBack.{taken_back_undoes}
 use Rattle.daggy_guard.specs.EdgeBatch.{NewEdge, with_edges, new_edges}
 use Rattle.daggy_guard.specs.BatchProgress.{IsBatchSoFar}
 
-abbrev weight_of : {E : Type 0} → NewEdge E → E
-weight_of x = x.2
-
 -- the item at a place, and what stands before and behind it
 pub record ItemAt {N E : Type 0} (g : Graph N E) (xs : List (NewEdge E)) (k : ℕ) : Type 0 where
   pub item : NewEdge E

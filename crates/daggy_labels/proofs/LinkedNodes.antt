@@ -188,14 +188,6 @@ module _ {end : ℕ} {next previous : List ℕ} {first last : ℕ} {xs : List �
   pub few : length xs ≤ length previous
   few = fewer_than xs (length previous) once.1 inside
 
-  pub first_is : first ≡ first_of end xs
-  first_is = sym (neighbor_end end first next) ∙ head xs s.chained
-    where
-      head : (ys : List ℕ) → IsLinkChain (neighbor end first next) (neighbor end last previous) end ys end
-          → neighbor end first next end ≡ first_of end ys
-      head [] c = c.0
-      head (y ∷ ys) c = c.0
-
   pub last_is : (ns : List ℕ) (n : ℕ) → xs ≡ ns ++ n ∷ [] → last ≡ n
   last_is ns n is =
       let P : List ℕ → Type 0 = λ z. IsLinkChain (neighbor end first next) (neighbor end last previous) end z end in

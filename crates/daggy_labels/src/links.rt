@@ -9,6 +9,7 @@ ghost use Rattle.daggy_labels.specs.Links.{Listed, neighbor};
 
 use daggy_base::index::IndexType;
 use daggy_base::link::Link;
+use daggy_base::reserved::reserve;
 use std::alloc::{AllocError, Global};
 use std::marker::Model;
 
@@ -81,16 +82,6 @@ fn lengthen<T: Copy + Drop>(list: &mut Vec<T>, len: usize, value: T) -> Result<(
         → slice_index_or list.new.items k value ≡ slice_index_or list.old.items k value }
 {
     list.resize(len, value)
-}
-
-/// Takes memory for a list that is to be so long. Writes nothing.
-pub fn reserve_to<T: Copy + Drop>(list: &mut Vec<T>, bound: usize) -> Result<(), AllocError>
-    ensures ok { OnOk result (bound ≤ vec_capacity list.new) }
-    ensures larger { vec_capacity list.old ≤ vec_capacity list.new }
-    ensures items { list.new.items ≡ list.old.items }
-    ensures sized { vec_len list.new ≡ vec_len list.old }
-{
-    list.reserve(bound.saturating_sub(list.len()))
 }
 
 // Makes a list at least so long, with its elements as they were and `value` behind them. There is
@@ -248,8 +239,8 @@ impl<Ix: IndexType> Links<Ix> {
         ensures larger { self.old.capacity ≤ self.new.capacity }
         ensures same { self.new.nodes ≡ self.old.nodes }
     {
-        reserve_to(&mut self.next, bound)?;
-        reserve_to(&mut self.previous, bound)?;
+        reserve(&mut self.next, bound)?;
+        reserve(&mut self.previous, bound)?;
         Ok(self.capacity())
     }
 

@@ -9,9 +9,10 @@ ghost use Rattle.std.specs.List.{range_with_len};
 ghost use Rattle.daggy_labels.specs.Links.{IsLabelled, IsTailed};
 
 use crate::labels::{label_first, label_last, spread};
-use crate::links::{Links, grow, lengthen_for, reserve_to};
+use crate::links::{Links, grow, lengthen_for};
 use daggy_base::index::{IndexType, NodeIndex};
 use daggy_base::link::Link;
+use daggy_base::reserved::reserve;
 use std::alloc::{AllocError, Global};
 use std::marker::Model;
 
@@ -213,7 +214,7 @@ impl<Ix: IndexType> Written<Ix> {
         ensures larger { self.old.capacity ≤ self.new.capacity }
         ensures same { self.new.nodes ≡ self.old.nodes }
     {
-        reserve_to(&mut self.labels, bound)?;
+        reserve(&mut self.labels, bound)?;
         let index_bound = self.links.reserve(bound)?;
         Ok(index_bound.min(self.labels.capacity()))
     }

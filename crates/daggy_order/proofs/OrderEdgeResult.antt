@@ -8,7 +8,7 @@ use Rattle.std.proofs.lemmas.Bool.{cases_eq, cases_Bool}
 use Rattle.daggy_base.specs.Graph.{Graph, HasNode}
 use Rattle.daggy_base.specs.Path.{AreJoined, Reaches}
 use Rattle.daggy_base.specs.WellFormed.{IsWellFormed}
-use Rattle.daggy_base.proofs.Lists.{Mem, Unique, mem_left, mem_right, mem_cases, contains_mem, mem_contains, split_at}
+use Rattle.daggy_base.proofs.Lists.{Mem, Unique, mem_right, mem_cases, contains_mem, mem_contains, split_at}
 use Rattle.daggy_base.proofs.Lists.{unique_from_distinct}
 use Rattle.daggy_search.proofs.SearchProgress.{reaches_more, reaches_stays}
 use Rattle.daggy_base.specs.Ordered.{IsOrderOf, IsParted, place, stretch}
@@ -164,10 +164,6 @@ module _ {N E : Type 0} {end : ℕ} {g : Graph N E} (w : IsWellFormed end g) {la
 
           old_up : LabelsAscend labels 0 (p ++ b ∷ ((q ++ a ∷ []) ++ m.behind)) (2 ^ 64)
           old_up = let P : List ℕ → Type 0 = λ z. LabelsAscend labels 0 z (2 ^ 64) in subst P old_is s.ascending
-
-          in_old : (x : ℕ) → Mem x seg → Mem x nodes
-          in_old x k = let P : List ℕ → Type 0 = λ z. Mem x z in
-              subst P (sym old_is) (mem_right p (seg ++ m.behind) x (mem_left seg m.behind x k))
 
           a_seg : Mem a seg
           a_seg = inr (mem_right q (a ∷ []) a (inl refl))

@@ -66,9 +66,6 @@ pub record Marking {N E : Type 0} (g : Graph N E) (u : ℕ) (before marks : List
   pub only : (n : ℕ) → get_or marks n false ≡ true → (get_or before n false ≡ true) ⊎ AreJoined g u n
   pub kept : (n : ℕ) → get_or before n false ≡ true → get_or marks n false ≡ true
 
-pub none_marked : {N E : Type 0} {g : Graph N E} {u : ℕ} {marks : List Bool} → Marking g u marks marks
-none_marked = record { sized = refl; only = λ n m. inl m; kept = λ n m. m }
-
 pub mark_one : {N E : Type 0} {g : Graph N E} {u : ℕ} {before marks : List Bool}
     → Marking g u before marks → (v : ℕ) → v < length marks → AreJoined g u v → Marking g u before (set marks v true)
 mark_one {N} {E} {g} {u} {before} {marks} s v low joined =

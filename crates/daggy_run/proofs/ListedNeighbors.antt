@@ -50,9 +50,6 @@ module _ {N E : Type 0} (dir : Direction) (end : ℕ) (g : Graph N E) (w : IsWel
                 ∙ ap (λ p. p ∷ items_of dir g (rest_of_walk dir g next)) (sym same);
           }
 
-  pub nothing_left : (cursor next : ℕ) → IsWalkStep dir end g cursor None next → rest_of_walk dir g cursor ≡ []
-  nothing_left cursor next s = let rest = step_gives end g w dir cursor None next s in rest.0
-
   -- the same of a list that grows by the items
   module _ {I : Type 0} (number : I → ℕ) where
     pub grows : {cursor next : ℕ} (item : I × I) (listed : List (I × I)) {more : List (I × I)} {whole : List (ℕ × ℕ)}

@@ -2,7 +2,8 @@
 ghost use Rattle.std.specs.Prelude.{◌≡◌, ℕ, ◌<◌, ◌≤◌, max, List, Bool, true, false, length};
 ghost use Rattle.std.specs.Prelude.{slice_set, slice_index_or, replicate, OnOk, OnErr, IsOk};
 
-use crate::reserved::{reserve, write_out};
+use crate::reserved::write_out;
+use daggy_base::reserved::reserve;
 use std::alloc::{AllocError, Global};
 use std::marker::Model;
 

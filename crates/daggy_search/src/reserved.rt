@@ -1,22 +1,5 @@
 //! Lists for which memory is reserved first, and which are written when they are needed.
-ghost use Rattle.std.specs.Prelude.{◌≡◌, ℕ, ◌-◌, ◌≤◌, ◌++◌, replicate, vec_len, vec_capacity, OnOk};
-ghost use Rattle.std.specs.Prelude.{IsOk};
-
-use std::alloc::AllocError;
-
-/// Reserves memory for so many items, and writes none of it.
-pub(crate) fn reserve<T>(list: &mut Vec<T>, len: usize) -> Result<(), AllocError>
-    ensures ok { OnOk result (len ≤ vec_capacity list.new) }
-    ensures capacity { vec_capacity list.old ≤ vec_capacity list.new }
-    ensures items { list.new.items ≡ list.old.items }
-    ensures len { vec_len list.new ≡ vec_len list.old }
-    ensures succeeds { len ≤ vec_capacity list.old → IsOk result }
-{
-    if list.capacity() < len {
-        list.reserve(len - list.len())?;
-    }
-    Ok(())
-}
+ghost use Rattle.std.specs.Prelude.{◌≡◌, ℕ, ◌-◌, ◌≤◌, ◌++◌, replicate, vec_len, vec_capacity};
 
 /// Makes a list at least so long, with a value at the places that were not written yet. Memory for
 /// them was reserved before.

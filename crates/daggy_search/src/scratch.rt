@@ -2,9 +2,9 @@
 ghost use Rattle.std.specs.Prelude.{◌≡◌, ℕ, ◌≤◌, ◌↔◌, IsTrue, IsOk, OnOk};
 
 use crate::marks::Marks;
-use crate::reserved;
 use daggy_base::index::{EdgeIndex, IndexType};
 use daggy_base::link::Link;
+use daggy_base::reserved::reserve;
 use std::alloc::{AllocError, Global};
 use std::marker::Model;
 
@@ -105,8 +105,8 @@ impl<Ix: IndexType> Scratch<Ix> {
         } else {
             node_bound
         };
-        reserved::reserve(&mut self.stack, len)?;
-        reserved::reserve(&mut self.cursors, len)?;
+        reserve(&mut self.stack, len)?;
+        reserve(&mut self.cursors, len)?;
         self.finished.grow(len)?;
         self.marks.grow(len)
     }
