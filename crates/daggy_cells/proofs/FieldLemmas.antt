@@ -36,8 +36,8 @@ pub record AreLedTo {N Ix : Type 0} (nodes nodes' : List (Node N Ix)) (a b e : �
   pub ins : firsts_of Incoming nodes' ≡ set (firsts_of Incoming nodes) b e
 
 -- what is stored of an edge from a to b that goes first in their lists
-abbrev pub first_edge : {N E Ix : Type 0} → List (Node N Ix) → (a b : ℕ) → E → Edge E Ix
-first_edge nodes a b w = record {
+abbrev pub edge_put_first : {N E Ix : Type 0} → List (Node N Ix) → (a b : ℕ) → E → Edge E Ix
+edge_put_first nodes a b w = record {
   weight = w;
   parent = a;
   child = b;

@@ -53,11 +53,11 @@ module _ {N E Ix : Type 0} {end : ℕ} {dir : Direction} {nodes : List (Node N I
       (nexts_of dir edges')) walked at_n
 
 -- the list of an edge's end among linked lists
-pub list_at : {N E Ix : Type 0} {end : ℕ} {dir : Direction} {nodes : List (Node N Ix)} {edges : List (Edge E Ix)}
+pub list_of_end : {N E Ix : Type 0} {end : ℕ} {dir : Direction} {nodes : List (Node N Ix)} {edges : List (Edge E Ix)}
     {lists : List (List ℕ)} {e n : ℕ}
     → AreLinkedLists end (firsts_of dir nodes) (nexts_of dir edges) lists → get_or (ends_of dir edges) e 0 ≡ n
     → n < length nodes → length edges ≤ end → IsListOf end dir nodes edges e n (nth_list lists n)
-list_at {dir = dir} {nodes} {n = n} linked end_is n_in few = record {
+list_of_end {dir = dir} {nodes} {n = n} linked end_is n_in few = record {
   linked = linked.each n (omega (arith, n_in, length-map nodes (raw_first dir)));
   end_is = end_is;
   few = few;

@@ -22,7 +22,7 @@ use Rattle.daggy_cells.proofs.LinkedLists.{first_of-without}
 use Rattle.daggy_cells.proofs.LinkedListChanges.{row-map, row_within, AreLinkedLists-with_edge_unlinked}
 use Rattle.daggy_cells.proofs.LinkedListChanges.{AreLinkedLists-renamed, AreLinkedLists-cut, ListsEach-removed}
 use Rattle.daggy_base.proofs.Lists.{IsSwapRemoved, IsSwapRemoved-from, IsSwapRemoved-mapped, map-swap_remove}
-use Rattle.daggy_cells.proofs.RedirectLemmas.{IsListOf, list_at, Ready-row, Redirected-list_from, Step, head_kept}
+use Rattle.daggy_cells.proofs.RedirectLemmas.{IsListOf, list_of_end, Ready-row, Redirected-list_from, Step, head_kept}
 
 -- the edge e is there, and `last` is the last one
 pub record HasLastEdge {E Ix : Type 0} (edges : List (Edge E Ix)) (e last : ℕ) : Type 0 where
@@ -82,7 +82,7 @@ module _ {N E Ix : Type 0} {end : ℕ} {nodes : List (Node N Ix)} {edges : List 
       list_of_e : let n = get_or (ends_of dir edges) e 0 in
           IsListOf end dir nodes' edges' e n (nth_list (lists_at dir g) n)
       list_of_e =
-          list_at linked' (ap (λ l. get_or l e 0) same.ends) n_in'
+          list_of_end linked' (ap (λ l. get_or l e 0) same.ends) n_in'
           (omega (arith, s.few_edges, as_long dir edges edges' same.ends))
 
       -- before e is taken out of its list
@@ -143,7 +143,7 @@ module _ {N E Ix : Type 0} {end : ℕ} {nodes : List (Node N Ix)} {edges : List 
       list_of_last : let n = get_or (ends_of dir edges) last 0 in
           IsListOf end dir nodes' edges' last n (nth_list (map (without e) (lists_at dir g)) n)
       list_of_last =
-          list_at out.linked (ap (λ l. get_or l last 0) out.ends) last_in (omega (arith, s.few_edges, long'))
+          list_of_end out.linked (ap (λ l. get_or l last 0) out.ends) last_in (omega (arith, s.few_edges, long'))
 
       -- before the last edge is renamed
       rename_ready : e ≢ last → IsReady end dir nodes' edges' last

@@ -17,7 +17,7 @@ use Rattle.daggy_cells.proofs.LinkedListChanges.{rows_are, AreLinkedLists-node, 
 use Rattle.daggy_cells.proofs.LinkedListChanges.{ListsEach-edge}
 use Rattle.daggy_base.proofs.Lists.{map-set_same}
 use Rattle.daggy_base.proofs.MappedSlots.{slot_is}
-use Rattle.daggy_cells.proofs.FieldLemmas.{same_graph, AreLedTo, first_edge}
+use Rattle.daggy_cells.proofs.FieldLemmas.{same_graph, AreLedTo, edge_put_first}
 
 module _ {N E Ix : Type 0} (end : ℕ) (nodes : List (Node N Ix)) (edges : List (Edge E Ix)) where
   -- what is stored is what the view shows
@@ -59,9 +59,9 @@ module _ {N E Ix : Type 0} (end : ℕ) (nodes : List (Node N Ix)) (edges : List 
 
   pub Stores-edge : (u v : ℕ) (w : E) → u < length nodes → v < length nodes → length edges < end
       → {nodes' : List (Node N Ix)} → AreLedTo nodes nodes' u v (length edges)
-      → Stores end nodes' (edges ++ first_edge nodes u v w ∷ []) (with_edge g u v w)
+      → Stores end nodes' (edges ++ edge_put_first nodes u v w ∷ []) (with_edge g u v w)
   Stores-edge u v w u_in v_in few {nodes'} led =
-      let x : Edge E Ix = first_edge nodes u v w in
+      let x : Edge E Ix = edge_put_first nodes u v w in
       let index : length g.edges ≡ length edges = ap length s.edges_are ∙ length-map edges plain_edge in
       let same_nodes : length nodes' ≡ length nodes =
       sym (length-map nodes' weight_of) ∙ ap length led.weights ∙ length-map nodes weight_of in
@@ -125,7 +125,7 @@ module _ {N E Ix : Type 0} (end : ℕ) (nodes : List (Node N Ix)) (edges : List 
   -- in the words of the code
   pub Stores-edge_code : {a b e : ℕ} {w : E}
       → e ≡ length edges → a < length nodes → b < length nodes → length edges < end
-      → {nodes' : List (Node N Ix)} → AreLedTo nodes nodes' a b e → {x : Edge E Ix} → x ≡ first_edge nodes a b w
+      → {nodes' : List (Node N Ix)} → AreLedTo nodes nodes' a b e → {x : Edge E Ix} → x ≡ edge_put_first nodes a b w
       → {edges' : List (Edge E Ix)} → edges' ≡ edges ++ x ∷ [] → Stores end nodes' edges' (with_edge g a b w)
   Stores-edge_code {a} {b} {e} {w} e_is a_in b_in few {nodes'} led x_is pushed =
       rw (pushed, x_is) (Stores-edge a b w a_in b_in few (subst (AreLedTo nodes nodes' a b) e_is led))

@@ -12,4 +12,5 @@ pub mod ElementsLoop
 pub mod FilledMatrix
 pub mod PackedSort
 pub mod StandingAfterEdge
+pub mod WalkedEdges
 pub mod ParentsAsked

@@ -1,17 +1,18 @@
 -- A node that is asked for its parents, one by one.
-use Rattle.std.proofs.Common.{◌≡◌, ◌≢◌, ℕ, suc, ◌<◌, ◌≤◌, inl, inr, Some, None, Option, List, [], ◌∷◌, length}
+use Rattle.std.proofs.Common.{◌≡◌, ◌≢◌, ℕ, suc, ◌<◌, ◌≤◌, inl, inr, Some, None, List, [], ◌∷◌, length}
 use Rattle.std.proofs.Common.{get_or, drop, refl, sym, subst, ap, ◌∙◌, arith}
 use Rattle.std.proofs.lemmas.Bool.{cases_lt}
 use Rattle.std.proofs.lemmas.Option.{same_Some}
 use Rattle.daggy_base.specs.declared.index.Direction.TheVariants.{Incoming}
 use Rattle.daggy_base.specs.Graph.{Graph, Edge, in_list, edge_at}
-use Rattle.daggy_base.specs.Cursor.{IsWalkStep, first_of, after, item_at, cursor_after}
+use Rattle.daggy_base.specs.Cursor.{IsWalkStep, first_of, after, cursor_after}
 use Rattle.daggy_base.specs.Path.{AreJoined, Reaches}
 use Rattle.daggy_base.specs.WellFormed.{IsWellFormed}
 use Rattle.daggy_base.proofs.Lists.{Mem, mem_at, place_of, contains_mem, mem_contains, unique_from_distinct, first_at}
 use Rattle.daggy_base.proofs.Lists.{first_past, after_at}
 use Rattle.daggy_base.proofs.OutEdgesRead.{edge_below}
 use Rattle.daggy_search.proofs.SearchProgress.{reaches_stays}
+use Rattle.daggy_guard.proofs.WalkedEdges.{one_step}
 use Rattle.daggy_base.specs.Ordered.{IsOrderOf, place}
 
 -- the parents before the cursor all stand before b
@@ -26,25 +27,6 @@ pub none_asked : {N E : Type 0} (end : ℕ) (g : Graph N E) (order : List ℕ) (
     → cursor ≡ first_of end (in_list g a) → Asked end g order a b cursor
 none_asked end g order a b cursor is =
     record { passed = 0; within = omega arith; here = is; before = λ k h. absurd (omega (arith, h)) }
-
--- what a step over an edge gives
-pub no_step : {N E : Type 0} (end : ℕ) (g : Graph N E) (cursor next : ℕ)
-    → IsWalkStep Incoming end g cursor None next → edge_at g cursor ≡ None
-no_step {N} {E} end g cursor next s = go (edge_at g cursor) refl s.item_is
-  where
-    go : (o : Option (Edge E)) → edge_at g cursor ≡ o → None ≡ item_at Incoming g cursor o → edge_at g cursor ≡ None
-    go None at is = at
-    go (Some x) at is = absurd cc
-
-pub one_step : {N E : Type 0} (end : ℕ) (g : Graph N E) (cursor next : ℕ) (item : ℕ × ℕ)
-    → IsWalkStep Incoming end g cursor (Some item) next
-    → (x : Edge E) × (edge_at g cursor ≡ Some x) × (item.1 ≡ x.parent)
-one_step {N} {E} end g cursor next item s = go (edge_at g cursor) refl s.item_is
-  where
-    go : (o : Option (Edge E)) → edge_at g cursor ≡ o → Some item ≡ item_at Incoming g cursor o
-        → (x : Edge E) × (edge_at g cursor ≡ Some x) × (item.1 ≡ x.parent)
-    go None at is = absurd cc
-    go (Some x) at is = (x, at, ap (λ (p : ℕ × ℕ). p.1) (same_Some _ _ is))
 
 module _ {N E : Type 0} {end : ℕ} {g : Graph N E} (f : IsWellFormed end g) {order : List ℕ} {a b cursor : ℕ}
     (s : Asked end g order a b cursor) where
@@ -71,7 +53,7 @@ module _ {N E : Type 0} {end : ℕ} {g : Graph N E} (f : IsWellFormed end g) {or
   pub one_asked : (next : ℕ) (item : ℕ × ℕ) → IsWalkStep Incoming end g cursor (Some item) next
       → place order item.1 < place order b → Asked end g order a b next
   one_asked next item step before =
-      let x = one_step end g cursor next item step in
+      let x = one_step Incoming end g cursor next item step in
       let list = in_list g a in
       let low : s.passed < length list = elim (cases_lt s.passed (length list)) [
         | inl l ↦ l

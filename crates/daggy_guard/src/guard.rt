@@ -401,6 +401,31 @@ fn take_out<Ix: IndexType>(order: &mut Order<Ix>, n: NodeIndex<Ix>, last: usize,
     }
 }
 
+// Whether the list of each far end of a node's edges begins with an edge of that end. They all do.
+//
+// A removal of these edges reads where those lists begin, one after the other, and waits for each.
+// None of the reads here waits for another, and what they read is near when it is needed.
+#[inline]
+fn far_lists_begin<Ix: IndexType, S: Store<Ix>>(store: &S, n: NodeIndex<Ix>, dir: Direction) -> bool
+    ensures { IsTrue result }
+{
+    let _well_formed = store.node_count();
+    let mut cursor = store.first_edge(n, dir);
+    'edges: for _i in 0..store.edge_slots() {
+        let Some((_e, far)) = step(store, dir, &mut cursor) else {
+            return true;
+        };
+        let mut first = store.first_edge(far, dir.opposite());
+        let Some((_first, same)) = step(store, dir, &mut first) else {
+            return false;
+        };
+        if same.index() != far.index() {
+            return false;
+        }
+    }
+    true
+}
+
 /// Removes a node with its edges, if it is there, and takes it out of the order.
 pub fn remove_node<Ix: IndexType, S: Store<Ix>>(
     store: &mut S,
@@ -417,8 +442,14 @@ pub fn remove_node<Ix: IndexType, S: Store<Ix>>(
     ensures bound { node_bound (S.graph store.new) ≤ node_bound (S.graph store.old) }
     ensures counted { S.looks store.new ≡ S.looks store.old }
 {
-    let _well_formed = store.node_count();
     let slot_count = store.node_slots();
+    // Never so: the lists are asked for the sake of what is read then.
+    if !far_lists_begin(store, n, Direction::Outgoing)
+        || !far_lists_begin(store, n, Direction::Incoming)
+    {
+        return None;
+    }
+    let _well_formed = store.node_count();
     let weight = store.remove_node(n)?;
     let last = slot_count - 1;
     let moved = store.node_slots() == last;

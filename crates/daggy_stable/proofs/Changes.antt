@@ -18,7 +18,7 @@ use Rattle.daggy_cells.specs.Fields.{firsts_of, nexts_of, lists_at}
 use Rattle.daggy_base.proofs.Lists.{slice_get-set_other, slice_get-set_same, slice_get-push_other, slice_get-push_old}
 use Rattle.daggy_base.proofs.Lists.{slice_get-push_new, slice_get_mapped}
 use Rattle.daggy_cells.proofs.LinkedListChanges.{row_push, AreLinkedLists-node, AreLinkedLists-put, ListsBy-put}
-use Rattle.daggy_cells.proofs.FieldLemmas.{firsts_as_many, AreLedTo, first_edge}
+use Rattle.daggy_cells.proofs.FieldLemmas.{firsts_as_many, AreLedTo, edge_put_first}
 use Rattle.daggy_stable.specs.Stored.{weight_of, plain_edge, shown, list_firsts, end_of, IsThreaded, Stores}
 use Rattle.daggy_stable.proofs.Slots.{made, filled, rethreaded, slot_not_vacant, counted_full, vacant_none, vacant_some}
 use Rattle.daggy_stable.proofs.Slots.{vacant_inside}
@@ -38,7 +38,7 @@ pub record AreNodes {N E : Type 0} (g : Graph N E) (a b : ℕ) : Type 0 where
 pub record IsPutFirst {N E Ix : Type 0} (nodes nodes' : List (Node N Ix)) (a b e : ℕ) (w : E) (y : Edge E Ix)
     : Type 0 where
   pub led : AreLedTo nodes nodes' a b e
-  pub stored : y ≡ first_edge nodes a b w
+  pub stored : y ≡ edge_put_first nodes a b w
 
 -- the new edge is stored in the next slot, before the first edges of its ends, and the other edges keep their links
 record IsNewEdge {N E Ix : Type 0} (nodes : List (Node (Option N) Ix)) (edges edges' : List (Edge (Option E) Ix))
@@ -318,7 +318,7 @@ module _ {N E Ix : Type 0} {end : ℕ} {nodes : List (Node (Option N) Ix)} {edge
   module _ {a b : ℕ} (w : E) (ends : AreNodes g a b) where
     -- what is stored of the new edge
     abbrev cell : Edge (Option E) Ix
-    cell = first_edge nodes a b (Some w)
+    cell = edge_put_first nodes a b (Some w)
 
     abbrev new_edge : PlainEdge E
     new_edge = record { parent = a; child = b; weight = w }

@@ -21,7 +21,6 @@ impl<N, E, Ix: IndexType> DiGraph<N, E, Ix> {
     ///
     /// The cost grows with the number of edges in the lists that the two edges stand in. It cannot
     /// fail for want of memory.
-    #[inline]
     pub fn remove_edge(&mut self, e: EdgeIndex<Ix>) -> Option<E>
         ensures value { result ≡ option_map (λ x. x.weight) (edge_at self.old.graph (Ix.number e)) }
         ensures removed { OnSome result

@@ -1,6 +1,7 @@
 use Rattle.std.proofs.Common.{ℕ, sym, subst}
 use Rattle.std.specs.List.{Contains}
-use Rattle.daggy_guard.proofs.ParentsAsked.{none_asked, all_asked, one_asked, no_step, one_step}
+use Rattle.daggy_guard.proofs.ParentsAsked.{none_asked, all_asked, one_asked}
+use Rattle.daggy_guard.proofs.WalkedEdges.{no_step, one_step}
 use Rattle.daggy_guard.proofs.guard.parents_stand_before.Goals as goal
 
 pub parents-init : goal.parents-init
@@ -8,11 +9,11 @@ parents-init g c = none_asked _ _ _ _ _ _ c.first_edge-cursor.ensures
 
 pub returns-in_default : goal.returns-in_default
 returns-in_default g c t =
-    all_asked c.node_count-well_formed.ensures.well_formed c.parents.invariant (no_step _ _ _ _ c.in_default.ensures)
+    all_asked c.node_count-well_formed.ensures.well_formed c.parents.invariant (no_step _ _ _ _ _ c.in_default.ensures)
 
 pub stands_before-requires-clause-first : goal.stands_before-requires-clause-first
 stands_before-requires-clause-first g c =
-    let s = one_step _ _ _ _ _ c.in-Some.ensures in
+    let s = one_step _ _ _ _ _ _ c.in-Some.ensures in
     let P : ℕ → Type 0 = λ z. Contains c.args.order.now z in
     subst P (sym s.2)
     ((c.requires.ordered.exact s.0.parent).1 (c.node_count-well_formed.ensures.well_formed.parents _ s.0 s.1))
