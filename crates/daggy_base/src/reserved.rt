@@ -3,6 +3,9 @@ ghost use Rattle.std.specs.Prelude.{◌≡◌, ◌≤◌, vec_len, vec_capacity,
 
 use std::alloc::AllocError;
 
+// For how many items memory is taken at least, as a `Vec` does.
+const LEAST: usize = 4;
+
 /// Takes memory for so many items, and writes none of it. Where it must grow, it grows to twice
 /// the capacity at least.
 ///
@@ -20,8 +23,8 @@ pub fn reserve<T: Drop>(list: &mut Vec<T>, len: usize) -> Result<(), AllocError>
     let capacity = list.capacity();
     if capacity < len {
         if list.is_empty() {
-            let doubled = capacity.saturating_mul(2);
-            *list = Vec::with_capacity(*list.allocator(), len.max(doubled))?;
+            let grown = capacity.saturating_mul(2).max(LEAST);
+            *list = Vec::with_capacity(*list.allocator(), len.max(grown))?;
         } else {
             list.reserve(len - list.len())?;
         }
