@@ -23,7 +23,7 @@ use Rattle.daggy_base.proofs.Lists.{slice_get-push_other, slice_get-set_other}
 use Rattle.daggy_cells.proofs.LinkedLists.{after_here, after_there}
 use Rattle.daggy_cells.proofs.LinkedListChanges.{row_push, linked_within, IsLinkedList-kept, AreLinkedLists-node}
 use Rattle.daggy_cells.proofs.LinkedListChanges.{AreLinkedLists-put, AreLinkedLists-kept, ListsBy-put}
-use Rattle.daggy_cells.proofs.FieldLemmas.{firsts_as_many, AreLedTo, first_edge}
+use Rattle.daggy_cells.proofs.FieldLemmas.{firsts_as_many, AreLedTo, edge_put_first}
 use Rattle.daggy_stable.specs.Stored.{weight_of, plain_edge, shown, list_firsts, end_of, IsThreaded, Stores}
 use Rattle.daggy_base.proofs.SlotLists.{slot_push_new, slot_push_other, none_past, vacant_down_more, of_slots_node}
 use Rattle.daggy_base.proofs.SlotLists.{of_slots_left, of_slots_taken}
@@ -288,7 +288,7 @@ module _ {N E Ix : Type 0} {end : ℕ} {nodes : List (Node (Option N) Ix)} {edge
   module _ {a b : ℕ} (w : E) (ends : AreNodes g a b) (index_left : length edges < end)
       {nodes' : List (Node (Option N) Ix)} (led : AreLedTo nodes nodes' a b (length edges)) where
     abbrev cell : Edge (Option E) Ix
-    cell = first_edge nodes a b (Some w)
+    cell = edge_put_first nodes a b (Some w)
 
     abbrev line : PlainEdge E
     line = record { parent = a; child = b; weight = w }
@@ -443,7 +443,7 @@ module _ {N E Ix : Type 0} (end : ℕ) where
         → Built nodes' (edges ++ y ∷ []) node_head edge_head n (m + 1)
     built_edge_taken {a} {b} {w} {nodes' = nodes'} ends index_left e_is put =
         let old = map weight_of nodes in
-        let cell : Edge (Option E) Ix = first_edge nodes a b (Some w) in
+        let cell : Edge (Option E) Ix = edge_put_first nodes a b (Some w) in
         let from = some_is (slot old a) ends.parent in
         let into = some_is (slot old b) ends.child in
         let whole = edge_taken s w ends index_left (subst (AreLedTo nodes nodes' a b) e_is put.led) in
