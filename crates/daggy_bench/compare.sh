@@ -75,6 +75,8 @@ workload 41 copy 100000 500000
 workload 41 edge_list 100000 500000
 workload 21 remove_edges 100000 500000
 workload 21 remove_nodes 100000 500000
+workload 21 remove_nodes 1000 5000
+workload 5 remove_nodes 400000 400000
 workload 11 reduce 10 10
 workload 11 json_write 100000 500000
 workload 11 json_read 100000 500000
@@ -86,4 +88,6 @@ workload 41 map_weights 100000 500000 --kind stable
 workload 41 copy 100000 500000 --kind stable
 workload 21 remove_edges 100000 500000 --kind stable
 workload 21 remove_nodes 100000 500000 --kind stable
+workload 21 remove_nodes 1000 5000 --kind stable
+workload 5 remove_nodes 400000 400000 --kind stable
 [ "$peer_program" = "-" ] || program 5
