@@ -7,7 +7,7 @@ use std::alloc::{AllocError, AllocFailed};
 use thiserror::Error;
 
 /// A dag was not written.
-#[derive(Debug, Drop, Error)]
+#[derive(Clone, Copy, Debug, Drop, Eq, Error, PartialEq)]
 pub enum WriteError {
     /// There was no memory for the value, or a function that gives a weight's value found none.
     #[error("out of memory")]
@@ -16,7 +16,7 @@ pub enum WriteError {
 
 /// A value was not read. It is the first fault of the value, in the order of this list; the entries
 /// of the edges are tested one after the other, and each for its shape, its ends and its weight.
-#[derive(Debug, Drop, Error)]
+#[derive(Clone, Copy, Debug, Drop, Eq, Error, PartialEq)]
 pub enum ReadError {
     /// It is no object, `nodes` or `edges` is no array, `edge_property` is no text, or `node_holes`
     /// is no array of whole numbers. Or an entry of an edge is no array of two whole numbers and a
