@@ -1,4 +1,4 @@
--- The weights of stored nodes and edges, in their lists. No public clause cites this module.
+-- The weights of stored nodes and edges, in their lists.
 use Rattle.std.specs.Prelude.{ℕ, zero, suc, Option, List, [], ◌∷◌, slice_get}
 use Rattle.std.specs.Option.{option_map}
 use Rattle.daggy_cells.specs.declared.cell.Node.{Node}

@@ -1,4 +1,4 @@
--- What stored nodes and edges hold, in their lists. No public clause cites this module.
+-- What stored nodes and edges hold, in their lists.
 use Rattle.std.specs.Prelude.{◌≡◌, ℕ, ◌<◌, ◌≤◌, Option, Some, List, length, map, slice_index, slice_set, Contains}
 use Rattle.daggy_base.specs.Graph.{Graph, Edge as PlainEdge}
 use Rattle.daggy_base.specs.Removal.{renamed}

@@ -1,4 +1,4 @@
--- How stored nodes and edges are mapped. No public clause cites this module.
+-- How stored nodes and edges are mapped.
 use Rattle.std.specs.Prelude.{◌≡◌, ℕ, ◌+◌, List, [], ◌∷◌}
 use Rattle.std.specs.Borrow.{Bor}
 use Rattle.daggy_cells.specs.declared.cell.Node.{Node}

@@ -1,4 +1,4 @@
--- How a graph is stored. No public clause cites this module.
+-- How a graph is stored.
 use Rattle.std.specs.Prelude.{◌≡◌, ℕ, ◌≤◌, List, [], length, map}
 use Rattle.daggy_base.specs.Graph.{Graph}
 use Rattle.std.specs.List.{swap_remove}

@@ -1,4 +1,4 @@
--- Nodes in an order in which every parent comes before its children.
+-- Nodes sorted topologically.
 use Rattle.std.specs.Prelude.{ℕ, ◌↔◌, List, [], ◌∷◌, Contains}
 use Rattle.daggy_base.specs.Graph.{Graph, HasNode}
 use Rattle.daggy_base.specs.Path.{AreJoined}

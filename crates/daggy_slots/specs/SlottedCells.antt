@@ -1,4 +1,4 @@
--- How a compact graph's nodes and edges are stored in slots. No public clause cites this module.
+-- How a compact graph's nodes and edges are stored in slots.
 use Rattle.std.specs.Prelude.{Some, Option}
 use Rattle.daggy_cells.specs.declared.cell.Node.{Node}
 use Rattle.daggy_cells.specs.declared.cell.Edge.{Edge}

@@ -1,4 +1,4 @@
--- How slots are made one by one. No public clause cites this module.
+-- How slots are made one by one.
 use Rattle.std.specs.Prelude.{ℕ, Option, map}
 use Rattle.daggy_base.specs.Graph.{Edge as PlainEdge}
 use Rattle.daggy_cells.specs.declared.cell.Node.{Node}

@@ -1,4 +1,4 @@
--- The weights in slots of nodes and of edges, in their lists. No public clause cites this module.
+-- The weights in slots of nodes and of edges, in their lists.
 use Rattle.std.specs.Prelude.{ℕ, Option, Some, List, map}
 use Rattle.std.specs.Option.{option_map}
 use Rattle.daggy_base.specs.Graph.{slot}

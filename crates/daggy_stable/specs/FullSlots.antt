@@ -1,4 +1,4 @@
--- Slots gone through one by one. No public clause cites this module.
+-- Slots gone through one by one.
 use Rattle.std.specs.Prelude.{ℕ, ◌+◌, Bool, Option, Some, None, List, [], ◌∷◌, if◌then◌else◌}
 
 -- the first of the cells from the index i on that is not vacant, with its index and with what stands behind it

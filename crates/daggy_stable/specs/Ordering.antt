@@ -1,4 +1,4 @@
--- The lists that other orders make of what is stored. No public clause cites this module.
+-- The lists that other orders make of what is stored.
 use Rattle.std.specs.Prelude.{ℕ, Option, List, map}
 use Rattle.daggy_base.specs.declared.index.Direction.{Direction}
 use Rattle.daggy_base.specs.Orders.{lists_by_slots}

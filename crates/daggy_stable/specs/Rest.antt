@@ -1,4 +1,4 @@
--- What iterators have left. No public clause cites this module.
+-- What iterators have left.
 use Rattle.std.specs.Prelude.{ℕ, Option, List, map, IsSome, Contains}
 use Rattle.std.specs.List.{filter_map}
 use Rattle.std.specs.Option.{option_map}

@@ -1,4 +1,4 @@
--- How a graph with vacant slots is stored. No public clause cites this module.
+-- How a graph with vacant slots is stored.
 use Rattle.std.specs.Prelude.{◌≡◌, ℕ, ◌≤◌, ◌↔◌, Option, Some, None, is_some, List, [], ◌∷◌, length, map, count_by}
 use Rattle.std.specs.Prelude.{slice_get, Contains}
 use Rattle.std.specs.Option.{option_map}

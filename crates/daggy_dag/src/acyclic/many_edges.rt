@@ -23,10 +23,10 @@ where
     /// Adds all the edges that `items` gives, or none of them. It gives their indices in the order
     /// of the items.
     ///
-    /// The dag's order makes way for each edge in turn, as for [`add_edge`](Acyclic::add_edge),
-    /// which cannot fail. Once an edge closes a cycle no further way is made. Where the items are
-    /// many beside what the dag holds and do not agree with its order, all nodes are sorted once at
-    /// the end instead, in time in proportion to all nodes and edges.
+    /// The dag's order makes way for each edge in turn, as in [`add_edge`](Acyclic::add_edge).
+    /// Making way does not allocate. It stops at the first edge that closes a cycle. If there are
+    /// many items for the size of the dag and they do not agree with its order, all nodes are
+    /// sorted once at the end instead, in O(nodes + edges).
     ///
     /// The first item that is at fault by itself ends it, and none behind that item is asked for.
     /// All weights that were asked for come back.

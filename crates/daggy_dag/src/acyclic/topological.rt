@@ -1,4 +1,4 @@
-//! The nodes in an order in which every parent comes before its children.
+//! The nodes of a dag in topological order.
 ghost use Rattle.std.specs.Prelude.{◌≡◌, ◌<◌, ◌^◌, length};
 ghost use Rattle.std.specs.Iterator.{YieldsFirstBy, item_count};
 ghost use Rattle.daggy_base.specs.Ordered.{IsOrderOf};
@@ -32,10 +32,10 @@ impl<N: Drop, E: Drop, Ix: IndexType, S> Acyclic<N, E, Ix, S>
 where
     S: Store<Ix, NodeWeight = N, EdgeWeight = E>,
 {
-    /// The nodes in an order in which every parent comes before its children: the one that the dag
-    /// keeps, so none is searched for.
+    /// Returns an iterator over the nodes in topological order: each parent comes before its
+    /// children. It is the order that the dag keeps, so nothing is searched or sorted.
     ///
-    /// An edge that is added may change it, and so may a node.
+    /// Adding a node or an edge may change the order.
     #[inline]
     pub fn topological_order(&self) -> TopologicalOrder<'_, Ix>
         ensures ordered { IsOrderOf self.now.graph result }
