@@ -8,6 +8,8 @@ pub use Rattle.daggy_base.specs.WellFormed
 pub use Rattle.daggy_base.specs.Reduction
 pub use Rattle.daggy_base.specs.State
 pub use Rattle.daggy_base.specs.Weights
+pub use Rattle.daggy_base.specs.Copying
+pub use Rattle.daggy_base.specs.TakingBack
 pub use Rattle.daggy_guard.specs.EdgeBatch
 pub use Rattle.daggy_guard.specs.Extension
 pub use Rattle.daggy_guard.specs.Elements
@@ -27,6 +29,7 @@ pub use Rattle.daggy_base.specs.Rewriting
 pub use Rattle.daggy_base.specs.Iterating
 pub use Rattle.daggy_base.specs.Calls
 pub use Rattle.daggy_cells.specs.Raw
+pub use Rattle.daggy_stable.specs.Held
 pub use Rattle.daggy_base.specs.Ordered
 pub use Rattle.daggy_reduction.specs.Comparison
 pub use Rattle.daggy_reduction.specs.SearchSpan

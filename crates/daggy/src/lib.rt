@@ -14,7 +14,7 @@
 //! ```
 //!
 //! In a `Dag` a removal moves the last index to the gap. The dag of [`stable_dag`] keeps what stays
-//! under its index.
+//! under its index. Both are an [`Acyclic`] over a [`Store`], so that code can be written for either.
 //!
 //! [`graph`] and [`stable_graph`] are the stores below, which may hold cycles, [`search`] finds
 //! paths in any graph that can be looked at, and [`visit`] is what generic code may ask of a graph.
@@ -33,9 +33,10 @@ pub use daggy_base::error::{
     ChildError, EdgeError, EdgesError, ElementError, NodeError, SlotsError, WouldCycle,
 };
 pub use daggy_base::index::{DefaultIx, Direction, EdgeIndex, IndexType, NodeIndex};
+pub use daggy_base::store::Store;
 pub use daggy_cells::reference::EdgeReference;
 pub use daggy_dag::acyclic::{
-    Children, Dag, EdgeWeightsMut, Externals, NodeWeightsMut, Parents, RawEdges, RawNodes,
+    Acyclic, Children, Dag, EdgeWeightsMut, Externals, NodeWeightsMut, Parents, RawEdges, RawNodes,
     RecursiveWalk, StableDag, TopologicalOrder, same_reachability,
 };
 pub use daggy_graph::graph::lists::Edges;

@@ -4,6 +4,7 @@
 mod acts;
 mod adding;
 mod compact;
+mod comparing;
 mod converting;
 mod copying;
 mod indices;

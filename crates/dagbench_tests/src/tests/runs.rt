@@ -63,7 +63,13 @@ const OF_BOTH_KINDS: [(&'static str, &'static str); 10] = [
 ];
 
 /// Inputs with removals. The last index moves to the gap in the compact kind alone.
-const OF_ONE_KIND: [(Mode, &'static str, &'static str); 5] = [
+const OF_ONE_KIND: [(Mode, &'static str, &'static str); 6] = [
+    (
+        Mode::Compact,
+        "node 1\nnode 2\nnode 3\nnode 4\nedge 0 1 1\nedge 0 2 2\nedge 1 2 3\nedge 1 2 4\n\
+         edge 2 3 5\nreduce 0\nchildren 0\nchildren 1\nchildren 2\nparents 2\nreduce 99\nreduce\n",
+        "n0\nn1\nn2\nn3\ne0\ne1\ne2\ne3\ne4\nok\ne0:1\ne3:2 e2:2\ne1:3\ne3:1 e2:1\nok\nok\n",
+    ),
     (
         Mode::Compact,
         "node 1\nnode 2\nnode 3\nedge 0 1 4\nedge 0 2 5\nedge 0 1 6\nrmedge 0\njson\n",

@@ -1,4 +1,4 @@
-use super::support::{holds, prints, same, shows};
+use super::support::{holds, made, prints, same, shows};
 use daggy_base::error::{ChildError, EdgeError, EdgesError, ElementError, NodeError, WouldCycle};
 use std::error::Error;
 
@@ -74,4 +74,36 @@ fn errors_of_elements_say_what_went_wrong(rt: HostRuntime) {
     prints(&rt, rt.alloc(), &node, "no index left");
     prints(&rt, rt.alloc(), &edge, "no such endpoint");
     holds(&rt, is_error(&edge));
+}
+
+#[test]
+fn errors_give_their_weights_back(rt: HostRuntime) {
+    let child: ChildError<u8, u16> = ChildError::Memory(2, 1);
+    let node: ElementError<u8, u16> = ElementError::Node(NodeError::Full(3));
+    let edge: ElementError<u8, u16> = ElementError::Edge(EdgeError::BadEndpoint(4));
+    same(&rt, WouldCycle(7u8).into_weight(), 7);
+    same(&rt, NodeError::Memory(8u8).into_weight(), 8);
+    same(&rt, EdgeError::NodeMemory(9u8).into_weight(), 9);
+    same(&rt, child.into_weights(), (2, 1));
+    same(&rt, node.into_weights(), (Some(3), None));
+    same(&rt, edge.into_weights(), (None, Some(4)));
+}
+
+#[test]
+fn errors_of_many_edges_give_their_weights_back(rt: HostRuntime) {
+    let mut before = Vec::new(rt.alloc());
+    made(&rt, before.push(5u8));
+    let (last, before) = EdgesError::Full { last: 6, before }.into_weights();
+    same(&rt, last, Some(6));
+    same(&rt, before.as_slice(), [5].as_slice());
+    let (last, weights) = EdgesError::WouldCycle(WouldCycle(before)).into_weights();
+    same(&rt, last, None);
+    same(&rt, weights.as_slice(), [5].as_slice());
+}
+
+#[test]
+fn errors_are_compared_by_case_and_weight(rt: HostRuntime) {
+    same(&rt, EdgeError::Full(1u8), EdgeError::Full(1));
+    holds(&rt, EdgeError::Full(1u8) != EdgeError::Full(2));
+    holds(&rt, EdgeError::Full(1u8) != EdgeError::BadEndpoint(1));
 }

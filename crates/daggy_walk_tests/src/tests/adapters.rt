@@ -1,8 +1,10 @@
 use super::scenes::{Scene, both};
-use super::support::{Plain, Step, dag_of, far, goes, made, node, same, six, weight};
+use super::support::{
+    Plain, Step, add_parent, dag_of, far, goes, is_copy, made, node, numbers, same, six, weight,
+};
 use daggy_base::store::Store;
 use daggy_walk::walker::{
-    Chain, Cycle, Filter, Peekable, Skip, SkipWhile, Take, TakeWhile, Walker,
+    Chain, Cycle, Filter, Inspect, Peekable, Skip, SkipWhile, Take, TakeWhile, Walker,
 };
 use std::alloc::Global;
 use std::process::Abort;
@@ -87,14 +89,17 @@ pub fn peeks<S: Store<u32, NodeWeight = u32, EdgeWeight = u32>>(rt: &impl Abort,
 }
 
 pub fn leads<S: Store<u32, NodeWeight = u32, EdgeWeight = u32>>(rt: &impl Abort, alloc: Global) {
-    let mut dag: Plain<S> = dag_of(rt, alloc, 4, &[(0, 1), (1, 2)]);
+    let mut dag: Plain<S> = dag_of(rt, alloc, 3, &[(0, 1), (1, 2)]);
     let mut up = dag.recursive_walk(
         node(rt, 2),
         |dag: &Plain<S>, n| dag.parents(n).walk_next(dag),
     );
-    goes(rt, &dag, &mut up, &[Some(1), Some(0), None]);
-    super::support::add_edge(rt, &mut dag, 3, 0);
-    goes(rt, &dag, &mut up, &[Some(3), None]);
+    same(rt, numbers(up.walk_next(&dag)), Some((1, 1)));
+    same(rt, numbers(up.walk_next(&dag)), Some((0, 0)));
+    same(rt, numbers(up.walk_next(&dag)), None);
+    add_parent(rt, &mut dag, 0, 0, 0);
+    same(rt, numbers(up.walk_next(&dag)), Some((2, 3)));
+    same(rt, numbers(up.walk_next(&dag)), None);
 }
 
 pub fn copies<S: Store<u32, NodeWeight = u32, EdgeWeight = u32>>(rt: &impl Abort, alloc: Global) {
@@ -104,6 +109,32 @@ pub fn copies<S: Store<u32, NodeWeight = u32, EdgeWeight = u32>>(rt: &impl Abort
     goes(rt, &dag, &mut first, &[Some(5), Some(4)]);
     goes(rt, &dag, &mut second, &[Some(5), Some(4), Some(3), None]);
     goes(rt, &dag, &mut first, &[Some(3), None]);
+}
+
+pub fn are_copy<S: Store<u32, NodeWeight = u32, EdgeWeight = u32>>(rt: &impl Abort, alloc: Global) {
+    let dag: Plain<S> = six(rt, alloc);
+    let all = dag.children(node(rt, 6));
+    is_copy(&dag, &Chain::new(all, all));
+    is_copy(&dag, &Cycle::new(all));
+    is_copy(&dag, &Peekable::new(all));
+    is_copy(&dag, &Skip::new(all, 1));
+    is_copy(&dag, &Take::new(all, 1));
+    is_copy(&dag, &Filter::new(all, |_: &Plain<S>, _: &Step| true));
+    is_copy(&dag, &SkipWhile::new(all, |_: &Plain<S>, _: &Step| true));
+    is_copy(&dag, &TakeWhile::new(all, |_: &Plain<S>, _: &Step| true));
+    is_copy(&dag, &Inspect::new(all, |_: &Plain<S>, _: &Step| {}));
+    is_copy(
+        &dag,
+        &dag.recursive_walk(
+            node(rt, 0),
+            |dag: &Plain<S>, n| dag.parents(n).walk_next(dag),
+        ),
+    );
+}
+
+#[test]
+fn adapters_of_copy_walkers_are_copy(rt: HostRuntime) {
+    both(&rt, rt.alloc(), Scene::AreCopy);
 }
 
 #[test]

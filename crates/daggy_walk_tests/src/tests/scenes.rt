@@ -2,7 +2,7 @@
 //!
 //! Each kind is named here alone, since a call at a kind costs a proof much more than a call at any
 //! dag.
-use super::adapters::{chains, copies, cuts, leads, peeks, tests};
+use super::adapters::{are_copy, chains, copies, cuts, leads, peeks, tests};
 use super::asked::questions;
 use super::families::{ancestry, down, places, sought, summed, up, weights};
 use super::hints::{ends, hints};
@@ -22,6 +22,7 @@ pub enum Scene {
     Peeks,
     Leads,
     Copies,
+    AreCopy,
     Questions,
     Down,
     Up,
@@ -47,6 +48,7 @@ fn play<S: Store<u32, NodeWeight = u32, EdgeWeight = u32>>(
         Scene::Peeks => peeks::<S>(rt, alloc),
         Scene::Leads => leads::<S>(rt, alloc),
         Scene::Copies => copies::<S>(rt, alloc),
+        Scene::AreCopy => are_copy::<S>(rt, alloc),
         Scene::Questions => questions::<S>(rt, alloc),
         Scene::Down => down::<S>(rt, alloc),
         Scene::Up => up::<S>(rt, alloc),

@@ -40,6 +40,9 @@ pub fn made<T: Drop, E: Drop>(rt: &impl Abort, answer: Result<T, E>) -> T
     }
 }
 
+/// Takes a walker over a dag that is `Copy`, and no other.
+pub fn is_copy<G, W: Walker<G> + Copy>(_dag: &G, _walker: &W) {}
+
 /// The index of a node.
 pub fn node(rt: &impl Abort, x: usize) -> NodeIndex {
     assert!(rt; x <= NodeIndex::<u32>::end().index());

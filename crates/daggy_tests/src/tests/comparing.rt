@@ -1,0 +1,58 @@
+//! Which dags have the same reachability.
+use super::acts::dag_of;
+use super::kinds::{Compact, Plain};
+use super::support::{made, same};
+use super::table::{Answer, Call, Row};
+use daggy_dag::acyclic::same_reachability;
+use std::alloc::Global;
+use std::process::Abort;
+
+const LONG_WAY_AND_SHORT: &[Row<'static>] = &[
+    (Call::Nodes(3), Answer::Done),
+    (
+        Call::Edges(&[(0, 1, 0), (1, 2, 1), (0, 2, 2)]),
+        Answer::Edges(&[0, 1, 2]),
+    ),
+];
+
+const LONG_WAY_TWICE_BEGUN: &[Row<'static>] = &[
+    (Call::Nodes(3), Answer::Done),
+    (
+        Call::Edges(&[(0, 1, 0), (0, 1, 1), (1, 2, 2)]),
+        Answer::Edges(&[0, 1, 2]),
+    ),
+];
+
+const NO_WAY_FROM_THE_SECOND: &[Row<'static>] = &[
+    (Call::Nodes(3), Answer::Done),
+    (
+        Call::Edges(&[(0, 1, 0), (0, 1, 1), (0, 2, 2)]),
+        Answer::Edges(&[0, 1, 2]),
+    ),
+];
+
+const ONE_NODE: &[Row<'static>] = &[(Call::Nodes(1), Answer::Done)];
+
+const TWO_NODES: &[Row<'static>] = &[(Call::Nodes(2), Answer::Done)];
+
+fn compares(rt: &impl Abort, alloc: Global, a: &[Row<'_>], b: &[Row<'_>], wanted: bool) {
+    let a: Plain<Compact> = dag_of(rt, alloc, a);
+    let b: Plain<Compact> = dag_of(rt, alloc, b);
+    same(rt, made(rt, same_reachability(&a, &b)), wanted);
+    same(rt, made(rt, same_reachability(&b, &a)), wanted);
+}
+
+#[test]
+fn what_reaches_what_is_compared(rt: HostRuntime) {
+    let alloc = rt.alloc();
+    compares(&rt, alloc, LONG_WAY_AND_SHORT, LONG_WAY_TWICE_BEGUN, true);
+    compares(
+        &rt,
+        alloc,
+        LONG_WAY_AND_SHORT,
+        NO_WAY_FROM_THE_SECOND,
+        false,
+    );
+    compares(&rt, alloc, ONE_NODE, TWO_NODES, false);
+    compares(&rt, alloc, &[], &[], true);
+}
