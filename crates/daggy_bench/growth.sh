@@ -1,12 +1,12 @@
 #!/usr/bin/env bash
-# Times each workload of this library at sizes that double, and prints one table: the least of five runs, by how much it grew, and
+# Times each workload of this library at sizes that double, and prints one table: the least of nine runs, by how much it grew, and
 # how many times the time of the first size the last one took.
 set -eu
 here=$(cd "$(dirname "$0")" && pwd)
 (cd "$here" && rt run -- commands 1 > /dev/null 2>&1)
 
 least() { # NAME NODES EDGES ..
-  for _ in 1 2 3 4 5; do "$here/out/daggy_bench" "$@" 2> /dev/null | awk '{ print $NF }'; done | sort -g | head -n 1
+  for _ in 1 2 3 4 5 6 7 8 9; do "$here/out/daggy_bench" "$@" 2> /dev/null | awk '{ print $NF }'; done | sort -g | head -n 1
 }
 
 grow() { # NAME NODES EDGES NODE_FACTOR EDGE_FACTOR ..: three sizes

@@ -1,6 +1,6 @@
 //! Dags that are made of lists of edges.
 use crate::figures::{Figures, since};
-use crate::graph::{Graph, weight_of};
+use crate::graph::{Graph, Kind, mixed, weight_of};
 use crate::inputs::{
     Pairs, Sizes, low_high_pairs, mixed_pairs, older_pairs, random_pairs, sorted_pairs,
 };
@@ -65,7 +65,7 @@ pub fn sorted<G: Graph>(alloc: Global, sizes: Sizes) -> Result<G, AllocError> {
 }
 
 /// Adding the nodes, and the edges one by one.
-pub fn timed_build<G: Graph, R: AllocGlobal + CpuClock>(
+pub fn timed_build<G: Kind, R: AllocGlobal + CpuClock>(
     rt: &R,
     input: Input,
     sizes: Sizes,
@@ -75,19 +75,18 @@ pub fn timed_build<G: Graph, R: AllocGlobal + CpuClock>(
     let mut dag = nodes_alone::<G>(rt.alloc(), sizes.nodes)?;
     let refused = put_pairs(&mut dag, pairs.as_slice());
     let seconds = since(rt, start)?;
-    let added = (dag.edges() as u64).wrapping_mul(1_000_000);
-    let check = added.wrapping_add(refused);
+    let check = mixed(dag.edge_sum(), refused);
     Ok(Figures { seconds, check })
 }
 
 /// Adding all edges by one call.
-pub fn add_edges<G: Graph, R: AllocGlobal + CpuClock>(rt: &R, sizes: Sizes) -> io::Result<Figures> {
+pub fn add_edges<G: Kind, R: AllocGlobal + CpuClock>(rt: &R, sizes: Sizes) -> io::Result<Figures> {
     let pairs = random_pairs(rt.alloc(), sizes)?;
     let mut dag = nodes_alone::<G>(rt.alloc(), sizes.nodes)?;
     let start = rt.process_cpu_time()?;
     dag.put_edges(pairs.as_slice())?;
     let seconds = since(rt, start)?;
-    let check = dag.edges() as u64;
+    let check = dag.edge_sum();
     Ok(Figures { seconds, check })
 }
 
@@ -103,13 +102,13 @@ fn tree<G: Graph>(alloc: Global, nodes: u32) -> Result<G, AllocError> {
 }
 
 /// Adding each node as a child.
-pub fn add_child_tree<G: Graph, R: AllocGlobal + CpuClock>(
+pub fn add_child_tree<G: Kind, R: AllocGlobal + CpuClock>(
     rt: &R,
     nodes: u32,
 ) -> io::Result<Figures> {
     let start = rt.process_cpu_time()?;
     let dag = tree::<G>(rt.alloc(), nodes)?;
     let seconds = since(rt, start)?;
-    let check = dag.edges() as u64;
+    let check = dag.edge_sum();
     Ok(Figures { seconds, check })
 }
