@@ -49,6 +49,7 @@ pub fn transitive_reduce<Ix: IndexType, S: Store<Ix>>(
     ensures unchanged { OnErr result (S.graph store.new ≡ S.graph store.old) }
     ensures nodes { (S.graph store.new).nodes ≡ (S.graph store.old).nodes }
     ensures fewer { JoinsAll (S.graph store.new) (S.graph store.old) }
+    ensures looked { S.looks store.old ≤ S.looks store.new }
     ensures counted { OnOk result (S.looks store.new ≤ S.looks store.old
         + (node_count (S.graph store.old) + 2) * edge_count (S.graph store.old)) }
     ensures spanned { OnOk result (S.looks store.new ≤ S.looks store.old
