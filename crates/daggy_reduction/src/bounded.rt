@@ -168,7 +168,7 @@ fn flag_redundant_in<Ix: IndexType, S: EdgeSource<Ix>>(
 
 // Puts the edges that are redundant below some roots in front of a list, and gives how many there
 // are.
-pub(crate) fn find_redundant_in<Ix: IndexType, S: EdgeSource<Ix>>(
+fn find_redundant_in<Ix: IndexType, S: EdgeSource<Ix>>(
     source: &mut S,
     order: &Order<Ix>,
     roots: &[NodeIndex<Ix>],
@@ -209,7 +209,7 @@ pub(crate) fn find_redundant_in<Ix: IndexType, S: EdgeSource<Ix>>(
 
 // Leaves the edges that are redundant below some roots in front of what a scratch found, and gives
 // how many there are.
-fn leave_redundant_in<Ix: IndexType, S: EdgeSource<Ix>>(
+pub(crate) fn leave_redundant_in<Ix: IndexType, S: EdgeSource<Ix>>(
     source: &mut S,
     order: &Order<Ix>,
     roots: &[NodeIndex<Ix>],

@@ -93,7 +93,7 @@ fn flag_redundant<Ix: IndexType, S: EdgeSource<Ix>>(
 
 // Puts the edges that are redundant below some roots in front of a list, and gives how many there
 // are.
-pub(crate) fn find_redundant<Ix: IndexType, S: EdgeSource<Ix>>(
+fn find_redundant<Ix: IndexType, S: EdgeSource<Ix>>(
     source: &mut S,
     roots: &[NodeIndex<Ix>],
     entered: &mut Marks,
