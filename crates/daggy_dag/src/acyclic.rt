@@ -254,6 +254,7 @@ where
             ComesFirst self.old.graph self.new.graph (Ix.number a) (Ix.number b) (Ix.number e)) }
         ensures unchanged { OnErr result (self.new.graph ≡ self.old.graph) }
         ensures acyclic { IsAcyclic self.new.graph }
+        ensures looked { self.old.looks ≤ self.new.looks }
         ensures counted { self.new.looks ≤ self.old.looks + edge_count_of self.old.graph }
         ensures ready { Reaches self.old.graph (Ix.number a) (Ix.number b)
             → self.new.looks ≡ self.old.looks }
@@ -296,6 +297,7 @@ where
             × (self.new.graph ≡ with_edge self.old.graph (Ix.number a) (Ix.number b) weight)) }
         ensures unchanged { OnErr result (self.new.graph ≡ self.old.graph) }
         ensures acyclic { IsAcyclic self.new.graph }
+        ensures looked { self.old.looks ≤ self.new.looks }
         ensures counted { self.new.looks ≤ self.old.looks + edge_count_of self.old.graph }
         ensures ready { Reaches self.old.graph (Ix.number a) (Ix.number b)
             → self.new.looks ≡ self.old.looks }

@@ -121,6 +121,7 @@ fn order_item<Ix: IndexType, S: Store<Ix>>(
     ensures step { IsStep (S.graph store.old) (Ix.number a) (Ix.number b) count
         (record { standing = standing; order = order.old; looks = S.looks store.old })
         (record { standing = result; order = order.new; looks = S.looks store.new }) }
+    ensures looked { S.looks store.old ≤ S.looks store.new }
     ensures same { S.graph store.new ≡ S.graph store.old }
     ensures same_capacity { scratch.new ≡ scratch.old }
 {
@@ -179,6 +180,7 @@ fn add_item<Ix: IndexType, S: Store<Ix>>(
         (record { standing = standing.old; order = order.old; looks = S.looks store.old })
         (record { standing = standing.new; order = order.new; looks = S.looks store.new })) }
     ensures ordered { (order.new ≡ order.old) ⊎ IsOrderOf (S.graph store.old) order.new }
+    ensures looked { S.looks store.old ≤ S.looks store.new }
     ensures counted { S.looks store.new
         ≤ S.looks store.old + item_looks (edge_count (S.graph store.old)) result }
     ensures scratch_kept { scratch.new ≡ scratch.old }
@@ -220,6 +222,7 @@ fn settle<Ix: IndexType, S: Store<Ix>>(
     ensures cyclic { result ≡ false → ¬ IsAcyclic (S.graph store.old) }
     ensures kept { result ≡ false → order.new ≡ order.old }
     ensures same { S.graph store.new ≡ S.graph store.old }
+    ensures looked { S.looks store.old ≤ S.looks store.new }
     ensures counted { S.looks store.new
         ≤ S.looks store.old + looks_left (edge_count (S.graph store.old)) standing }
     ensures same_capacity { scratch.new ≡ scratch.old }
@@ -254,6 +257,7 @@ fn add_all<
     ensures ordered { IsOrderOf (S.graph store.new) order.new }
     ensures fits { node_bound (S.graph store.new) ≤ scratch.new.nodes }
     ensures same_capacity { scratch.new ≡ scratch.old }
+    ensures looked { S.looks store.old ≤ S.looks store.new }
     ensures counted { S.looks store.new
         ≤ S.looks store.old + most_looks (S.graph store.old) result }
 {
@@ -311,6 +315,7 @@ pub fn add_edges<
     ensures ordered { IsOrderOf (S.graph store.new) order.new }
     ensures fits { node_bound (S.graph store.new) ≤ scratch.new.nodes }
     ensures same_capacity { scratch.new ≡ scratch.old }
+    ensures looked { S.looks store.old ≤ S.looks store.new }
     ensures counted { S.looks store.new
         ≤ S.looks store.old + most_looks (S.graph store.old) result }
 {

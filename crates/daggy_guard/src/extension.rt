@@ -65,6 +65,7 @@ where
         (S.graph store.old) (Ix.number a, Ix.number b, weight) error (S.graph store.new)) }
     ensures ordered { IsOrderOf (S.graph store.new) order.new }
     ensures fits { node_bound (S.graph store.new) ≤ scratch.new.nodes }
+    ensures looked { S.looks store.old ≤ S.looks store.new }
     ensures counted { S.looks store.new ≤ S.looks store.old + edge_count (S.graph store.new) }
     ensures more { OnOk result
         (edge_count (S.graph store.new) ≡ edge_count (S.graph store.old) + 1) }
@@ -113,6 +114,7 @@ where
         T.edge_gives I.next_gives items (S.graph store.old) error (S.graph store.new)) }
     ensures ordered { IsOrderOf (S.graph store.new) order.new }
     ensures fits { node_bound (S.graph store.new) ≤ scratch.new.nodes }
+    ensures looked { S.looks store.old ≤ S.looks store.new }
     ensures counted { S.looks store.new
         ≤ S.looks store.old + extension_looks (S.graph store.old) (S.graph store.new) }
 {
@@ -154,6 +156,7 @@ where
     ensures acyclic { IsAcyclic (S.graph store.new) }
     ensures ordered { IsOrderOf (S.graph store.new) order.new }
     ensures fits { node_bound (S.graph store.new) ≤ scratch.new.nodes }
+    ensures looked { S.looks store.old ≤ S.looks store.new }
     ensures counted { S.looks store.new
         ≤ S.looks store.old + extension_looks (S.graph store.old) (S.graph store.new) }
 {

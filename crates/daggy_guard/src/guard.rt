@@ -191,6 +191,7 @@ pub(crate) fn make_way<Ix: IndexType, S: Store<Ix>>(
     ensures ordered { IsOrderOf (S.graph store.old) order.new }
     ensures before { result ≡ true → place order.new (Ix.number a) < place order.new (Ix.number b) }
     ensures same { S.graph store.new ≡ S.graph store.old }
+    ensures looked { S.looks store.old ≤ S.looks store.new }
     ensures counted { S.looks store.new ≤ S.looks store.old + edge_count (S.graph store.old) }
     ensures ready { Reaches (S.graph store.old) (Ix.number a) (Ix.number b)
         → S.looks store.new ≡ S.looks store.old }
@@ -239,6 +240,7 @@ pub fn add_edge<Ix: IndexType, S: Store<Ix>>(
     ensures unchanged { OnErr result (S.graph store.new ≡ S.graph store.old) }
     ensures acyclic { IsAcyclic (S.graph store.new) }
     ensures ordered { IsOrderOf (S.graph store.new) order.new }
+    ensures looked { S.looks store.old ≤ S.looks store.new }
     ensures counted { S.looks store.new ≤ S.looks store.old + edge_count (S.graph store.old) }
     ensures ready { Reaches (S.graph store.old) (Ix.number a) (Ix.number b)
         → S.looks store.new ≡ S.looks store.old }
@@ -282,6 +284,7 @@ pub fn update_edge<Ix: IndexType, S: Store<Ix>>(
     ensures unchanged { OnErr result (S.graph store.new ≡ S.graph store.old) }
     ensures acyclic { IsAcyclic (S.graph store.new) }
     ensures ordered { IsOrderOf (S.graph store.new) order.new }
+    ensures looked { S.looks store.old ≤ S.looks store.new }
     ensures counted { S.looks store.new ≤ S.looks store.old + edge_count (S.graph store.old) }
     ensures ready { Reaches (S.graph store.old) (Ix.number a) (Ix.number b)
         → S.looks store.new ≡ S.looks store.old }

@@ -46,6 +46,7 @@ pub record Sweeping {N E : Type 0} (sweep : Sweep N E) (now : Swept N E) : Type 
       → (u : ℕ) × Mem u (take now.count sweep.below) × LeavesRound sweep.graph u e
   pub all : (u e : ℕ)
       → Mem u (take now.count sweep.below) → LeavesRound sweep.graph u e → IsFlagged sweep.end now.flags e
+  pub looked : sweep.looks ≤ now.looks
   pub counted : now.looks ≤ sweep.looks + edge_count sweep.graph + total sweep.cost (take now.count sweep.below)
       + length (lists_of sweep.graph (take now.count sweep.below))
 
@@ -70,9 +71,10 @@ module _ {N E : Type 0} {sweep : Sweep N E} {now : Swept N E} (s : Sweeping swee
 
   pub sweep_on : now.count < length below → (u : ℕ) → u ≡ get_or below now.count u
       → {g' : Graph N E} {flags' : List ℕ} {looks' : ℕ} → g' ≡ now.graph → FlagsRound end now.graph u now.flags flags'
+      → now.looks ≤ looks'
       → looks' ≤ now.looks + cost u + length (out_list now.graph u)
       → Sweeping sweep record { graph = g'; flags = flags'; count = now.count + 1; looks = looks' }
-  sweep_on low u is {g'} {flags'} {looks'} same' round counted' =
+  sweep_on low u is {g'} {flags'} {looks'} same' round looked' counted' =
       let longer : take (now.count + 1) below ≡ take now.count below ++ u ∷ [] =
       take_more below now.count u low ∙ ap (λ z. take now.count below ++ z ∷ []) (sym is) in
       let R : Graph N E → Type 0 = λ z. FlagsRound end z u now.flags flags' in
@@ -99,6 +101,7 @@ module _ {N E : Type 0} {sweep : Sweep N E} {now : Swept N E} (s : Sweeping swee
               | inr b ↦ elim b [ inl here ↦ inr (subst L here l) | inr none ↦ absurd none ]
             ])
             );
+        looked = omega (arith, s.looked, looked');
         counted = omega (
           arith,
           s.counted,

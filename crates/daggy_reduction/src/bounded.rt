@@ -10,9 +10,12 @@ ghost use Rattle.daggy_base.specs.Ordered.{IsOrderOf};
 ghost use Rattle.daggy_reduction.specs.Flags.{IsFlagged, FlagsRound};
 ghost use Rattle.daggy_reduction.specs.Comparison.{IsAscending};
 ghost use Rattle.daggy_reduction.specs.SearchSpan.{edges_spanned, all_spanned};
+ghost use Rattle.std.specs.Borrow.{sem};
+ghost use Rattle.daggy_reduction.specs.KeptRoom.{keeps_room};
 
 use crate::closure::{enter, mark_unless_first};
 use crate::flags::{flag_marked, gather_flagged, unflag};
+use crate::redundant::front;
 use crate::roots::enter_below;
 use daggy_base::index::{EdgeIndex, IndexType, NodeIndex};
 use daggy_base::link::Link;
@@ -42,6 +45,7 @@ pub(crate) fn meet_round<Ix: IndexType, S: EdgeSource<Ix>>(
         → AreJoined (S.graph source.old) (Ix.number u) v → (slice_index_or met.new v false ≡ true)
         ↔ ((slice_index_or met.old v false ≡ true)
         ⊎ ReachesIndirectly (S.graph source.old) (Ix.number u) v) }
+    ensures looked { S.looks source.old ≤ S.looks source.new }
     ensures counted { S.looks source.new
         ≤ S.looks source.old + edges_spanned (S.graph source.old) order.now (Ix.number u) }
     ensures entered_kept { length entered.new ≡ length entered.old }
@@ -104,6 +108,7 @@ fn flag_round_in<Ix: IndexType, S: EdgeSource<Ix>>(
     ensures same { S.graph source.new ≡ S.graph source.old }
     ensures flagged { FlagsRound Ix.greatest (S.graph source.old) (Ix.number u)
         (map Ix.number flags.old) (map Ix.number flags.new) }
+    ensures looked { S.looks source.old ≤ S.looks source.new }
     ensures counted { S.looks source.new ≤ S.looks source.old
         + edges_spanned (S.graph source.old) order.now (Ix.number u)
         + length (out_list (S.graph source.old) (Ix.number u)) }
@@ -139,6 +144,7 @@ fn flag_redundant_in<Ix: IndexType, S: EdgeSource<Ix>>(
     ensures same { S.graph source.new ≡ S.graph source.old }
     ensures flagged { (e : ℕ) → IsFlagged Ix.greatest (map Ix.number flags.new) e
         ↔ IsRedundant (S.graph source.old) (map Ix.number roots.now) e }
+    ensures looked { S.looks source.old ≤ S.looks source.new }
     ensures counted { S.looks source.new ≤ S.looks source.old
         + (node_count (S.graph source.old) + 2) * edge_count (S.graph source.old) }
     ensures spanned { S.looks source.new ≤ S.looks source.old
@@ -162,7 +168,7 @@ fn flag_redundant_in<Ix: IndexType, S: EdgeSource<Ix>>(
 
 // Puts the edges that are redundant below some roots in front of a list, and gives how many there
 // are.
-pub(crate) fn find_redundant_in<Ix: IndexType, S: EdgeSource<Ix>>(
+fn find_redundant_in<Ix: IndexType, S: EdgeSource<Ix>>(
     source: &mut S,
     order: &Order<Ix>,
     roots: &[NodeIndex<Ix>],
@@ -183,6 +189,7 @@ pub(crate) fn find_redundant_in<Ix: IndexType, S: EdgeSource<Ix>>(
     ensures ascending { IsAscending (take result (map Ix.number edges.new)) }
     ensures exact { (e : ℕ) → Contains (take result (map Ix.number edges.new)) e
         ↔ IsRedundant (S.graph source.old) (map Ix.number roots.now) e }
+    ensures looked { S.looks source.old ≤ S.looks source.new }
     ensures counted { S.looks source.new ≤ S.looks source.old
         + (node_count (S.graph source.old) + 2) * edge_count (S.graph source.old) }
     ensures spanned { S.looks source.new ≤ S.looks source.old
@@ -200,33 +207,30 @@ pub(crate) fn find_redundant_in<Ix: IndexType, S: EdgeSource<Ix>>(
     gather_flagged(edges, bound)
 }
 
-/// [`redundant_edges`](crate::redundant::redundant_edges) by an order in which every parent stands
-/// before its children.
-///
-/// The search from a node enters only nodes that stand before its last child. A longer way to a
-/// child passes through no others.
-pub fn redundant_edges_in<Ix: IndexType, S: EdgeSource<Ix>>(
+// Leaves the edges that are redundant below some roots in front of what a scratch found, and gives
+// how many there are.
+pub(crate) fn leave_redundant_in<Ix: IndexType, S: EdgeSource<Ix>>(
     source: &mut S,
     order: &Order<Ix>,
     roots: &[NodeIndex<Ix>],
     scratch: &mut Scratch<Ix>,
-    edges: &mut [EdgeIndex<Ix>],
 ) -> usize
     requires ordered { IsOrderOf (S.graph source.old) order.now }
     requires nodes_fit { node_bound (S.graph source.old) ≤ scratch.old.nodes }
-    requires edges_fit { edge_bound (S.graph source.old) ≤ length edges.old }
+    requires edges_fit { edge_bound (S.graph source.old) ≤ scratch.old.edges }
     ensures same { S.graph source.new ≡ S.graph source.old }
-    ensures within { result ≤ length edges.new }
-    ensures ascending { IsAscending (take result (map Ix.number edges.new)) }
-    ensures exact { (e : ℕ) → Contains (take result (map Ix.number edges.new)) e
+    ensures within { result ≤ length scratch.new.found }
+    ensures ascending { IsAscending (map Ix.number (take result scratch.new.found)) }
+    ensures exact { (e : ℕ) → Contains (map Ix.number (take result scratch.new.found)) e
         ↔ IsRedundant (S.graph source.old) (map Ix.number roots.now) e }
+    ensures looked { S.looks source.old ≤ S.looks source.new }
     ensures counted { S.looks source.new ≤ S.looks source.old
         + (node_count (S.graph source.old) + 2) * edge_count (S.graph source.old) }
     ensures spanned { S.looks source.new ≤ S.looks source.old
         + 2 * edge_count (S.graph source.old)
         + all_spanned (S.graph source.old) order.now order.now }
-    ensures same_capacity { scratch.new ≡ scratch.old }
-    ensures edges_kept { length edges.new ≡ length edges.old }
+    ensures nodes_kept { scratch.new.nodes ≡ scratch.old.nodes }
+    ensures edges_kept { scratch.new.edges ≡ scratch.old.edges }
 {
     write_out(&mut scratch.stack, scratch.marks.len(), Link::end());
     write_out(&mut scratch.cursors, scratch.marks.len(), Link::end());
@@ -238,6 +242,36 @@ pub fn redundant_edges_in<Ix: IndexType, S: EdgeSource<Ix>>(
         &mut scratch.finished,
         scratch.stack.as_mut_slice(),
         scratch.cursors.as_mut_slice(),
-        edges,
+        scratch.found.as_mut_slice(),
     )
+}
+
+/// [`redundant_edges`](crate::redundant::redundant_edges) by an order in which every parent stands
+/// before its children.
+///
+/// The search from a node enters only nodes that stand before its last child. A longer way to a
+/// child passes through no others.
+pub fn redundant_edges_in<'s, Ix: IndexType, S: EdgeSource<Ix>>(
+    scratch: &'s mut Scratch<Ix>,
+    source: &mut S,
+    order: &Order<Ix>,
+    roots: &[NodeIndex<Ix>],
+) -> &'s [EdgeIndex<Ix>]
+    requires ordered { IsOrderOf (S.graph source.old) order.now }
+    requires nodes_fit { node_bound (S.graph source.old) ≤ scratch.old.nodes }
+    requires edges_fit { edge_bound (S.graph source.old) ≤ scratch.old.edges }
+    ensures same { S.graph source.new ≡ S.graph source.old }
+    ensures ascending { IsAscending (map Ix.number result.now) }
+    ensures exact { (e : ℕ) → Contains (map Ix.number result.now) e
+        ↔ IsRedundant (S.graph source.old) (map Ix.number roots.now) e }
+    ensures looked { S.looks source.old ≤ S.looks source.new }
+    ensures counted { S.looks source.new ≤ S.looks source.old
+        + (node_count (S.graph source.old) + 2) * edge_count (S.graph source.old) }
+    ensures spanned { S.looks source.new ≤ S.looks source.old
+        + 2 * edge_count (S.graph source.old)
+        + all_spanned (S.graph source.old) order.now order.now }
+    ensures* rests { sem 𝓛 (keeps_room Ix.row Ix.IndexType scratch.entry) }
+{
+    let count = leave_redundant_in(source, order, roots, scratch);
+    front(scratch.found.as_slice(), count)
 }

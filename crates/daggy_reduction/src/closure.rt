@@ -69,6 +69,7 @@ pub(crate) fn close<Ix: IndexType, S: EdgeSource<Ix>>(
     ensures same { S.graph source.new ≡ S.graph source.old }
     ensures closed { IsClosure (S.graph source.old) (take len queue.old) (take result queue.new) }
     ensures met { MeetsChildren (S.graph source.old) (take result queue.new) met.old met.new }
+    ensures looked { S.looks source.old ≤ S.looks source.new }
     ensures counted { S.looks source.new ≤ S.looks source.old + edge_count (S.graph source.old) }
     ensures within { result ≤ length queue.new }
     ensures entered_kept { length entered.new ≡ length entered.old }

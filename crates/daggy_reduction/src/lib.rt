@@ -6,5 +6,6 @@ mod closure;
 mod flags;
 pub mod joined_pairs;
 pub mod reduce;
+pub mod reduction_laws;
 pub mod redundant;
 mod roots;

@@ -8,12 +8,12 @@ ghost use Rattle.daggy_base.specs.Ordered.{IsOrderOf};
 ghost use Rattle.daggy_reduction.specs.Comparison.{IsAscending, JoinsAll};
 ghost use Rattle.daggy_reduction.specs.SearchSpan.{all_spanned};
 
-use crate::bounded::find_redundant_in;
+use crate::bounded::leave_redundant_in;
+use crate::redundant::front;
 use daggy_base::index::{EdgeIndex, IndexType, NodeIndex};
-use daggy_base::link::Link;
 use daggy_base::store::Store;
 use daggy_order::order::Order;
-use daggy_search::{Scratch, write_out};
+use daggy_search::Scratch;
 use std::alloc::AllocError;
 
 // Removes the edges of a list, the last one first.
@@ -49,6 +49,7 @@ pub fn transitive_reduce<Ix: IndexType, S: Store<Ix>>(
     ensures unchanged { OnErr result (S.graph store.new ≡ S.graph store.old) }
     ensures nodes { (S.graph store.new).nodes ≡ (S.graph store.old).nodes }
     ensures fewer { JoinsAll (S.graph store.new) (S.graph store.old) }
+    ensures looked { S.looks store.old ≤ S.looks store.new }
     ensures counted { OnOk result (S.looks store.new ≤ S.looks store.old
         + (node_count (S.graph store.old) + 2) * edge_count (S.graph store.old)) }
     ensures spanned { OnOk result (S.looks store.new ≤ S.looks store.old
@@ -60,18 +61,7 @@ pub fn transitive_reduce<Ix: IndexType, S: Store<Ix>>(
     let nodes = store.node_bound();
     let edges = store.edge_bound();
     scratch.reserve(nodes, edges)?;
-    write_out(&mut scratch.stack, scratch.marks.len(), Link::end());
-    write_out(&mut scratch.cursors, scratch.marks.len(), Link::end());
-    let count = find_redundant_in(
-        store,
-        order,
-        roots,
-        &mut scratch.marks,
-        &mut scratch.finished,
-        scratch.stack.as_mut_slice(),
-        scratch.cursors.as_mut_slice(),
-        scratch.found.as_mut_slice(),
-    );
-    remove_edges(store, &scratch.found[..count]);
+    let count = leave_redundant_in(store, order, roots, scratch);
+    remove_edges(store, front(scratch.found.as_slice(), count));
     Ok(())
 }

@@ -7,6 +7,8 @@ ghost use Rattle.daggy_base.specs.WellFormed.{IsWellFormed};
 ghost use Rattle.daggy_base.specs.Reduction.{IsRedundant};
 ghost use Rattle.daggy_reduction.specs.Flags.{IsFlagged, FlagsRound};
 ghost use Rattle.daggy_reduction.specs.Comparison.{IsAscending};
+ghost use Rattle.std.specs.Borrow.{sem};
+ghost use Rattle.daggy_reduction.specs.KeptRoom.{keeps_room};
 
 use crate::closure::{close, enter};
 use crate::flags::{flag_marked, gather_flagged, unflag};
@@ -35,6 +37,7 @@ fn flag_round<Ix: IndexType, S: EdgeSource<Ix>>(
     ensures same { S.graph source.new ≡ S.graph source.old }
     ensures flagged { FlagsRound Ix.greatest (S.graph source.old) (Ix.number u)
         (map Ix.number flags.old) (map Ix.number flags.new) }
+    ensures looked { S.looks source.old ≤ S.looks source.new }
     ensures counted { S.looks source.new ≤ S.looks source.old + edge_count (S.graph source.old)
         + length (out_list (S.graph source.old) (Ix.number u)) }
     ensures entered_kept { length entered.new ≡ length entered.old }
@@ -69,6 +72,7 @@ fn flag_redundant<Ix: IndexType, S: EdgeSource<Ix>>(
     ensures same { S.graph source.new ≡ S.graph source.old }
     ensures flagged { (e : ℕ) → IsFlagged Ix.greatest (map Ix.number flags.new) e
         ↔ IsRedundant (S.graph source.old) (map Ix.number roots.now) e }
+    ensures looked { S.looks source.old ≤ S.looks source.new }
     ensures counted { S.looks source.new ≤ S.looks source.old
         + (node_count (S.graph source.old) + 2) * edge_count (S.graph source.old) }
     ensures entered_kept { length entered.new ≡ length entered.old }
@@ -89,7 +93,7 @@ fn flag_redundant<Ix: IndexType, S: EdgeSource<Ix>>(
 
 // Puts the edges that are redundant below some roots in front of a list, and gives how many there
 // are.
-pub(crate) fn find_redundant<Ix: IndexType, S: EdgeSource<Ix>>(
+fn find_redundant<Ix: IndexType, S: EdgeSource<Ix>>(
     source: &mut S,
     roots: &[NodeIndex<Ix>],
     entered: &mut Marks,
@@ -109,6 +113,7 @@ pub(crate) fn find_redundant<Ix: IndexType, S: EdgeSource<Ix>>(
     ensures ascending { IsAscending (take result (map Ix.number edges.new)) }
     ensures exact { (e : ℕ) → Contains (take result (map Ix.number edges.new)) e
         ↔ IsRedundant (S.graph source.old) (map Ix.number roots.now) e }
+    ensures looked { S.looks source.old ≤ S.looks source.new }
     ensures counted { S.looks source.new ≤ S.looks source.old
         + (node_count (S.graph source.old) + 2) * edge_count (S.graph source.old) }
     ensures entered_kept { length entered.new ≡ length entered.old }
@@ -123,29 +128,26 @@ pub(crate) fn find_redundant<Ix: IndexType, S: EdgeSource<Ix>>(
     gather_flagged(edges, bound)
 }
 
-/// Puts the edges that are redundant below some roots in front of `edges`, each once, in ascending
-/// order, and gives how many there are.
-///
-/// It cannot fail for want of memory. The cost is that of one search for each node that the roots
-/// reach.
-pub fn redundant_edges<Ix: IndexType, S: EdgeSource<Ix>>(
+// Leaves the edges that are redundant below some roots in front of what a scratch found, and gives
+// how many there are.
+fn leave_redundant<Ix: IndexType, S: EdgeSource<Ix>>(
     source: &mut S,
     roots: &[NodeIndex<Ix>],
     scratch: &mut Scratch<Ix>,
-    edges: &mut [EdgeIndex<Ix>],
 ) -> usize
     requires acyclic { IsAcyclic (S.graph source.old) }
     requires nodes_fit { node_bound (S.graph source.old) ≤ scratch.old.nodes }
-    requires edges_fit { edge_bound (S.graph source.old) ≤ length edges.old }
+    requires edges_fit { edge_bound (S.graph source.old) ≤ scratch.old.edges }
     ensures same { S.graph source.new ≡ S.graph source.old }
-    ensures within { result ≤ length edges.new }
-    ensures ascending { IsAscending (take result (map Ix.number edges.new)) }
-    ensures exact { (e : ℕ) → Contains (take result (map Ix.number edges.new)) e
+    ensures within { result ≤ length scratch.new.found }
+    ensures ascending { IsAscending (map Ix.number (take result scratch.new.found)) }
+    ensures exact { (e : ℕ) → Contains (map Ix.number (take result scratch.new.found)) e
         ↔ IsRedundant (S.graph source.old) (map Ix.number roots.now) e }
+    ensures looked { S.looks source.old ≤ S.looks source.new }
     ensures counted { S.looks source.new ≤ S.looks source.old
         + (node_count (S.graph source.old) + 2) * edge_count (S.graph source.old) }
-    ensures same_capacity { scratch.new ≡ scratch.old }
-    ensures edges_kept { length edges.new ≡ length edges.old }
+    ensures nodes_kept { scratch.new.nodes ≡ scratch.old.nodes }
+    ensures edges_kept { scratch.new.edges ≡ scratch.old.edges }
 {
     write_out(&mut scratch.stack, scratch.marks.len(), Link::end());
     write_out(&mut scratch.cursors, scratch.marks.len(), Link::end());
@@ -156,6 +158,41 @@ pub fn redundant_edges<Ix: IndexType, S: EdgeSource<Ix>>(
         &mut scratch.finished,
         scratch.stack.as_mut_slice(),
         scratch.cursors.as_mut_slice(),
-        edges,
+        scratch.found.as_mut_slice(),
     )
+}
+
+// The first ones of a list.
+pub(crate) fn front<T>(list: &[T], count: usize) -> &[T]
+    requires { count ≤ length list.now }
+    ensures value { result.now ≡ take count list.now }
+{
+    &list[..count]
+}
+
+/// The edges that are redundant below some roots, each once, in ascending order.
+///
+/// They stand in the scratch, which lends them. It fits the same graphs after that.
+///
+/// It cannot fail for want of memory. The cost is that of one search for each node that the roots
+/// reach.
+pub fn redundant_edges<'s, Ix: IndexType, S: EdgeSource<Ix>>(
+    scratch: &'s mut Scratch<Ix>,
+    source: &mut S,
+    roots: &[NodeIndex<Ix>],
+) -> &'s [EdgeIndex<Ix>]
+    requires acyclic { IsAcyclic (S.graph source.old) }
+    requires nodes_fit { node_bound (S.graph source.old) ≤ scratch.old.nodes }
+    requires edges_fit { edge_bound (S.graph source.old) ≤ scratch.old.edges }
+    ensures same { S.graph source.new ≡ S.graph source.old }
+    ensures ascending { IsAscending (map Ix.number result.now) }
+    ensures exact { (e : ℕ) → Contains (map Ix.number result.now) e
+        ↔ IsRedundant (S.graph source.old) (map Ix.number roots.now) e }
+    ensures looked { S.looks source.old ≤ S.looks source.new }
+    ensures counted { S.looks source.new ≤ S.looks source.old
+        + (node_count (S.graph source.old) + 2) * edge_count (S.graph source.old) }
+    ensures* rests { sem 𝓛 (keeps_room Ix.row Ix.IndexType scratch.entry) }
+{
+    let count = leave_redundant(source, roots, scratch);
+    front(scratch.found.as_slice(), count)
 }

@@ -58,6 +58,7 @@ pub(crate) fn enter_below<Ix: IndexType, S: EdgeSource<Ix>>(
         → Contains (take result queue.new) n
         ↔ IsBelow (S.graph source.old) (map Ix.number roots.now) n }
     ensures distinct { AreDistinct (take result queue.new) }
+    ensures looked { S.looks source.old ≤ S.looks source.new }
     ensures counted { S.looks source.new ≤ S.looks source.old + edge_count (S.graph source.old) }
     ensures within { result ≤ length queue.new }
     ensures entered_kept { length entered.new ≡ length entered.old }

@@ -24,6 +24,7 @@ pub fn is_acyclic<Ix: IndexType, S: EdgeSource<Ix>>(
     requires { node_bound (S.graph source.old) ≤ scratch.old.nodes }
     ensures decided { IsTrue result ↔ IsAcyclic (S.graph source.old) }
     ensures same { S.graph source.new ≡ S.graph source.old }
+    ensures looked { S.looks source.old ≤ S.looks source.new }
     ensures counted { S.looks source.new ≤ S.looks source.old + edge_count (S.graph source.old) }
     ensures same_capacity { scratch.new ≡ scratch.old }
 {
@@ -82,6 +83,7 @@ pub fn sort_nodes<Ix: IndexType, S: EdgeSource<Ix>>(
     ensures within { IfSome result (λ top. top ≤ length stack.new) }
     ensures cyclic { IfNone result (¬ IsAcyclic (S.graph source.old)) }
     ensures same { S.graph source.new ≡ S.graph source.old }
+    ensures looked { S.looks source.old ≤ S.looks source.new }
     ensures counted { S.looks source.new ≤ S.looks source.old + edge_count (S.graph source.old) }
     ensures discovered_kept { length discovered.new ≡ length discovered.old }
     ensures finished_kept { length finished.new ≡ length finished.old }

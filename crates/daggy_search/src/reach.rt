@@ -25,6 +25,7 @@ pub fn reaches<Ix: IndexType, S: EdgeSource<Ix>>(
     requires { node_bound (S.graph source.old) ≤ scratch.old.nodes }
     ensures decided { IsTrue result ↔ Reaches (S.graph source.old) (Ix.number from) (Ix.number to) }
     ensures same { S.graph source.new ≡ S.graph source.old }
+    ensures looked { S.looks source.old ≤ S.looks source.new }
     ensures counted { S.looks source.new ≤ S.looks source.old + edge_count (S.graph source.old) }
     ensures same_capacity { scratch.new ≡ scratch.old }
 {
@@ -60,6 +61,7 @@ fn search<Ix: IndexType, S: EdgeSource<Ix>>(
     requires cleared { (n : ℕ) → slice_index_or marks.old n false ≡ false }
     ensures decided { IsTrue result ↔ Reaches (S.graph source.old) (Ix.number from) (Ix.number to) }
     ensures same { S.graph source.new ≡ S.graph source.old }
+    ensures looked { S.looks source.old ≤ S.looks source.new }
     ensures counted { S.looks source.new ≤ S.looks source.old + edge_count (S.graph source.old) }
     ensures marks_kept { length marks.new ≡ length marks.old }
 {

@@ -1,5 +1,5 @@
 //! What a search works in.
-ghost use Rattle.std.specs.Prelude.{◌≡◌, ℕ, ◌≤◌, ◌↔◌, IsTrue, IsOk, OnOk};
+ghost use Rattle.std.specs.Prelude.{◌≡◌, ℕ, ◌≤◌, ◌↔◌, IsTrue, IsOk, OnOk, []};
 
 use crate::marks::Marks;
 use daggy_base::index::{EdgeIndex, IndexType};
@@ -35,11 +35,12 @@ pub struct Scratch<Ix: IndexType> {
 
 impl<Ix: IndexType> Model for Scratch<Ix> {
     ghost use Rattle.std.specs.Prelude.{◌≤◌, length, vec_len, vec_capacity};
-    ghost use Rattle.daggy_base.specs.Capacity.{Capacity};
+    ghost use Rattle.daggy_search.specs.Room.{Room};
 
-    ghost Value = { Capacity };
+    ghost Value = { Room Ix };
 
-    ghost view = { λ s. record { nodes = length s.marks; edges = vec_len s.found } };
+    ghost view = { λ s.
+        record { nodes = length s.marks; edges = vec_len s.found; found = s.found.items } };
 
     ghost invariant = { λ s.
         (length s.marks ≤ vec_capacity s.stack) × (length s.marks ≤ length s.finished)
@@ -49,7 +50,7 @@ impl<Ix: IndexType> Model for Scratch<Ix> {
 impl<Ix: IndexType> Scratch<Ix> {
     /// Takes no memory, and fits graphs without nodes alone.
     pub fn new(alloc: Global) -> Self
-        ensures { result ≡ record { nodes = 0; edges = 0 } }
+        ensures { result ≡ record { nodes = 0; edges = 0; found = [] } }
     {
         Scratch {
             marks: Marks::new(alloc),

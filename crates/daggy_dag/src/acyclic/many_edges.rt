@@ -43,6 +43,7 @@ where
             × IsRefused Ix.number Ix.greatest I.IntoIter.next_gives it self.old.graph error) }
         ensures unchanged { OnErr result (self.new.graph ≡ self.old.graph) }
         ensures acyclic { IsAcyclic self.new.graph }
+        ensures looked { self.old.looks ≤ self.new.looks }
         ensures counted { self.new.looks ≤ self.old.looks + most_looks self.old.graph result }
     {
         edge_batch::add_edges(&mut self.store, &mut self.order, &mut self.scratch, items)
@@ -70,6 +71,7 @@ where
             × Stops N.is_default Ix.number Ix.greatest T.edge_gives I.IntoIter.next_gives it
             self.old.graph error self.new.graph) }
         ensures acyclic { IsAcyclic self.new.graph }
+        ensures looked { self.old.looks ≤ self.new.looks }
         ensures counted { self.new.looks
             ≤ self.old.looks + extension_looks self.old.graph self.new.graph }
     {

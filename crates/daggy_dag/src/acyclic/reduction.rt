@@ -45,6 +45,7 @@ where
         ensures keeps { OnOk result (S.kind ≡ Stable → KeepsIndices self.old.graph self.new.graph) }
         ensures unchanged { OnErr result (self.new ≡ self.old) }
         ensures acyclic { IsAcyclic self.new.graph }
+        ensures looked { self.old.looks ≤ self.new.looks }
         ensures counted { self.new.looks ≤ self.old.looks
             + (node_count_of self.old.graph + 2) * edge_count_of self.old.graph }
     {

@@ -46,6 +46,7 @@ pub fn order_edge<Ix: IndexType, S: EdgeSource<Ix>>(
     ensures moved { result ≡ true → place order.old (Ix.number b) < place order.old (Ix.number a)
         → IsParted (S.graph source.old) (Ix.number a) (Ix.number b) order.old order.new }
     ensures same { S.graph source.new ≡ S.graph source.old }
+    ensures looked { S.looks source.old ≤ S.looks source.new }
     ensures counted { S.looks source.new ≤ S.looks source.old
         + edges_from (S.graph source.old)
         (stretch order.old (place order.old (Ix.number b)) (place order.old (Ix.number a))) }
@@ -86,6 +87,7 @@ fn order_written<Ix: IndexType, S: EdgeSource<Ix>>(
         → IsParted (S.graph source.old) (Ix.number a) (Ix.number b) written.old.nodes
         written.new.nodes }
     ensures same { S.graph source.new ≡ S.graph source.old }
+    ensures looked { S.looks source.old ≤ S.looks source.new }
     ensures counted { S.looks source.new ≤ S.looks source.old
         + edges_from (S.graph source.old)
         (stretch written.old.nodes (place written.old.nodes (Ix.number b))
@@ -140,6 +142,7 @@ fn order_links<Ix: IndexType, S: EdgeSource<Ix>>(
         → IsParted (S.graph source.old) (Ix.number a) (Ix.number b) links.old.nodes
         links.new.nodes }
     ensures same { S.graph source.new ≡ S.graph source.old }
+    ensures looked { S.looks source.old ≤ S.looks source.new }
     ensures counted { S.looks source.new ≤ S.looks source.old
         + edges_from (S.graph source.old)
         (stretch links.old.nodes (place links.old.nodes (Ix.number b))

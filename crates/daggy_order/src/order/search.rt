@@ -52,6 +52,7 @@ pub(crate) fn reaches_below<Ix: IndexType, S: EdgeSource<Ix>>(
         ↔ (Reaches (S.graph source.old) (Ix.number from) n
         × (slice_index labels.now n < limit))))) }
     ensures same { S.graph source.new ≡ S.graph source.old }
+    ensures looked { S.looks source.old ≤ S.looks source.new }
     ensures counted { (ns : List ℕ)
         → ((n : ℕ) → HasNode (S.graph source.old) n
         → slice_index labels.now (Ix.number from) ≤ slice_index labels.now n

@@ -14,10 +14,10 @@ use std::alloc::Global;
 use std::marker::Model;
 use std::process::Abort;
 
-// Asserts that these edges, and no others, were found and put in front.
-fn stand_in_front(rt: &impl Abort, edges: &[EdgeIndex<u8>], count: usize, wanted: &[usize]) {
-    same(rt, count, wanted.len());
-    for (e, index) in edges.iter().zip(wanted) {
+// Asserts that these edges, and no others, were found, in this order.
+fn are(rt: &impl Abort, found: &[EdgeIndex<u8>], wanted: &[usize]) {
+    same(rt, found.len(), wanted.len());
+    for (e, index) in found.iter().zip(wanted) {
         same(rt, e.index(), *index);
     }
 }
@@ -112,28 +112,16 @@ impl Kept {
     pub fn are_redundant(
         &mut self,
         rt: &impl Abort,
-        alloc: Global,
         roots: &[NodeIndex<u8>],
         wanted: &[usize],
     ) -> usize {
-        let mut edges = Vec::new(alloc);
-        made(rt, edges.resize(self.graph.edge_bound(), EdgeIndex::end()));
-        let count = redundant_edges(
-            &mut self.graph,
-            roots,
-            &mut self.scratch,
-            edges.as_mut_slice(),
-        );
-        stand_in_front(rt, edges.as_slice(), count, wanted);
+        let (nodes, edges) = (self.graph.node_bound(), self.graph.edge_bound());
+        made(rt, self.scratch.reserve(nodes, edges));
+        let found = redundant_edges(&mut self.scratch, &mut self.graph, roots);
+        are(rt, found, wanted);
         let _before = self.graph.looks();
-        let count = redundant_edges_in(
-            &mut self.graph,
-            &self.order,
-            roots,
-            &mut self.scratch,
-            edges.as_mut_slice(),
-        );
-        stand_in_front(rt, edges.as_slice(), count, wanted);
+        let found = redundant_edges_in(&mut self.scratch, &mut self.graph, &self.order, roots);
+        are(rt, found, wanted);
         self.graph.looks()
     }
 }

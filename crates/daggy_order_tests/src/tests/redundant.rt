@@ -50,7 +50,7 @@ fn check(
     for root in roots {
         made(rt, first.push(node(rt, *root)));
     }
-    kept.are_redundant(rt, alloc, first.as_slice(), wanted)
+    kept.are_redundant(rt, first.as_slice(), wanted)
 }
 
 fn redundant(

@@ -1,4 +1,4 @@
-use Rattle.std.proofs.Common.{◌∙◌, map, ap, inl, refl, sym, rules}
+use Rattle.std.proofs.Common.{◌∙◌, map, ap, inl, refl, sym, rules, arith}
 use Rattle.std.proofs.lemmas.List.{length-map}
 use Rattle.std.specs.Iterator.{Yields}
 use Rattle.daggy_order.proofs.OrderLaws.{acyclic_from_order}
@@ -13,6 +13,7 @@ items-preserved g c = record {
   can = search rules;
   ends = search rules;
   same = search rules;
+  looked = omega (arith, c.items.invariant.looked, c.add_item.ensures.looked);
   adding = adding_on c.items.invariant.adding c.in-Some.item _ record {
     well_formed = c.add_item.ensures.well_formed;
     ends = c.in-Ok.ensures.ends;

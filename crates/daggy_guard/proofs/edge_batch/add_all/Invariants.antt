@@ -1,4 +1,4 @@
-use Rattle.std.proofs.Common.{◌≡◌, map, vec_len, vec_capacity}
+use Rattle.std.proofs.Common.{◌≡◌, ◌≤◌, map, vec_len, vec_capacity}
 use Rattle.daggy_guard.proofs.AddAllLoop.{Adding}
 use Rattle.daggy_guard.proofs.edge_batch.add_all.Given as goal
 
@@ -7,6 +7,7 @@ invariant-items g l = record {
   can : (goal.iterator-items g).can_next l.item-iterator;
   ends : (goal.iterator-items g).is_finite l.item-iterator;
   same : l.scratch ≡ l.fn.scratch;
+  looked : g.S.EdgeSource.looks l.fn.store ≤ g.S.EdgeSource.looks l.store;
   adding : Adding g.Ix.IndexType.number g.Ix.IndexType.greatest g.S.Store.kind record {
     graph = g.S.EdgeSource.graph l.fn.store;
     room = l.fn.scratch.nodes;

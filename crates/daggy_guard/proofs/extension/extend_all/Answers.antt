@@ -1,4 +1,4 @@
-use Rattle.std.proofs.Common.{refl, rules}
+use Rattle.std.proofs.Common.{refl, rules, arith}
 use Rattle.std.specs.Iterator.{Yields}
 use Rattle.daggy_guard.proofs.ItemsSoFar.{yields_more}
 use Rattle.daggy_guard.proofs.ExtendAllLoop.{extending_starts, extending_on, stops, no_looks, few_more, few_last}
@@ -10,6 +10,7 @@ items-init g c = record {
   can = search rules;
   ends = search rules;
   extending = extending_starts _ _ _ c.requires.ordered c.requires.fits;
+  looked = omega arith;
   few = no_looks _ _;
 }
 
@@ -25,6 +26,7 @@ items-preserved g c = record {
     ordered = c.extend_by.ensures.ordered;
     fits = c.extend_by.ensures.fits;
   };
+  looked = omega (arith, c.items.invariant.looked, c.extend_by.ensures.looked);
   few = few_more c.items.invariant.few c.in-Ok.ensures.more c.extend_by.ensures.counted;
 }
 

@@ -1,3 +1,4 @@
+use Rattle.std.proofs.Common.{◌≤◌}
 use Rattle.daggy_base.specs.Graph.{edge_count}
 use Rattle.daggy_guard.proofs.ExtendAllLoop.{Extending, FewLooks}
 use Rattle.daggy_guard.proofs.extension.extend_all.Given as goal
@@ -13,6 +14,7 @@ invariant-items g l = record {
         order = l.order;
         room = l.scratch.nodes;
       };
+  looked : g.S.EdgeSource.looks l.fn.store ≤ g.S.EdgeSource.looks l.store;
   few : FewLooks (edge_count (g.S.EdgeSource.graph l.fn.store)) (g.S.EdgeSource.looks l.fn.store)
       (edge_count (g.S.EdgeSource.graph l.store)) (g.S.EdgeSource.looks l.store);
 }

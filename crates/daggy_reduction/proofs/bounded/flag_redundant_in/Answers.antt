@@ -41,12 +41,13 @@ nodes-preserved g c =
       met = c.flag_round_in.ensures.met_kept ∙ inv.met;
       queue = c.flag_round_in.ensures.queue_kept ∙ inv.queue;
       flags = c.flag_round_in.ensures.flags_kept ∙ inv.flags;
-      sweep = sweep_on inv.sweep low u is c.flag_round_in.ensures.same c.flag_round_in.ensures.flagged (omega (
-        arith,
-        c.flag_round_in.ensures.counted,
-        ap (λ (z : Graph g.row.S-NodeWeight.Denot g.row.S-EdgeWeight.Denot). edges_spanned z c.args.order.now u)
-            inv.sweep.same,
-      ));
+      sweep = sweep_on inv.sweep low u is c.flag_round_in.ensures.same c.flag_round_in.ensures.flagged
+          c.flag_round_in.ensures.looked (omega (
+            arith,
+            c.flag_round_in.ensures.counted,
+            ap (λ (z : Graph g.row.S-NodeWeight.Denot g.row.S-EdgeWeight.Denot). edges_spanned z c.args.order.now u)
+                inv.sweep.same,
+          ));
     }
 
 pub returns-clause-flagged : goal.returns-clause-flagged

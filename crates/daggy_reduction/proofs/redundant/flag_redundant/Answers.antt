@@ -40,7 +40,7 @@ nodes-preserved g c =
       queue = c.flag_round.ensures.queue_kept ∙ inv.queue;
       flags = c.flag_round.ensures.flags_kept ∙ inv.flags;
       sweep =
-          sweep_on inv.sweep low u is c.flag_round.ensures.same c.flag_round.ensures.flagged
+          sweep_on inv.sweep low u is c.flag_round.ensures.same c.flag_round.ensures.flagged c.flag_round.ensures.looked
           (omega (arith, c.flag_round.ensures.counted, ap edge_count inv.sweep.same));
     }
 

@@ -1,7 +1,7 @@
 use Rattle.std.proofs.Common.{◌≡◌, ◌≤◌, Option, Some, None, IfSome, IfNone, sym, subst, ap, arith}
 use Rattle.daggy_base.specs.Graph.{Graph, node_bound}
 use Rattle.daggy_base.specs.Path.{IsAcyclic}
-use Rattle.daggy_base.specs.Capacity.{Capacity}
+use Rattle.daggy_search.specs.Room.{Room}
 use Rattle.daggy_base.proofs.PathsWithNode.{bound_low}
 use Rattle.daggy_order.proofs.OrderLaws.{acyclic_from_order}
 use Rattle.daggy_dag.proofs.OrderKept.{stays_so}
@@ -29,7 +29,7 @@ invariant_of-result g c =
     let fits : node_bound (g.S.EdgeSource.graph c.in-Ok.store) ≤ c.reserve.new.self.nodes =
     omega (arith, low, c.node_slots.ensures.value, c.in-Ok-reserve.ensures.ok.0) in
     let capacity : c.sorted.new.scratch.nodes ≡ c.reserve.new.self.nodes =
-    ap (λ (z : Capacity). z.nodes) c.sorted.ensures.same_capacity in
+    ap (λ (z : Room _). z.nodes) c.sorted.ensures.same_capacity in
     let ordered =
     found _ c.in-Ok-Some.field-0 c.in-Ok-Some.order c.in-Ok-Some.field-0-is c.in-Ok-Some.ensures.ordered in
     stays_so c.in-Ok-Some.order c.sorted.new.scratch.nodes _ _ c.sorted.ensures.same

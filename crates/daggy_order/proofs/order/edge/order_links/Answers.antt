@@ -207,6 +207,7 @@ returns-in-Some g c =
       kept = λ e. absurd (omega (arith, e, after));
       moved = λ t late. new_parted w ord s a b c.requires.parent c.requires.child found all missed lower new moved;
       same = c.reaches_below.ensures.same;
+      looked = c.reaches_below.ensures.looked;
       counted = counted g at.After-reaches_below is.1;
       unlooked = λ e. absurd (omega (arith, e, after));
       labelled = c.move_sorted.ensures.labelled;
