@@ -1,5 +1,5 @@
 -- A copy is equal where each weight's clone is.
-use Rattle.std.proofs.Common.{subst, sym, ◌≡◌, ℕ, ◌+◌, Option, Some, None, List, [], ◌∷◌, refl, ap, ◌∙◌, Result, Ok}
+use Rattle.std.proofs.Common.{◌≡◌, ℕ, ◌+◌, Option, Some, None, List, [], ◌∷◌, refl, ap, ◌∙◌, Result, Ok}
 use Rattle.std.proofs.Common.{Err, MatchResult, IfOk}
 use Rattle.daggy_base.specs.Graph.{Graph, Edge}
 use Rattle.daggy_base.specs.State.{State}
@@ -32,19 +32,14 @@ copy_same {N} {E} node_clone edge_clone nodes edges old new copy =
     ∙ ap (λ z. mk old.nodes old.edges old.out_lists old.in_lists z new.vacant_edges) copy.vacant_nodes
     ∙ ap (mk old.nodes old.edges old.out_lists old.in_lists old.vacant_nodes) copy.vacant_edges
 
--- what a clone is where each weight's clone is equal
+-- a copy of a graph is the graph itself where the clones of weights are equal
 pub copies_same : {N E X : Type 0} (node_clone : N → N → Type 0) (edge_clone : E → E → Type 0)
-    → ((x y : N) → node_clone x y → y ≡ x) → ((x y : E) → edge_clone x y → y ≡ x)
     → (s : State N E) (r : Result (State N E) X) (Q : X → Type 0)
     → MatchResult r (λ copy. IsCopy node_clone edge_clone s.graph copy.graph × (copy.looks ≡ 0)) Q
-    → IfOk r (λ copy. copy ≡ record { graph = s.graph; looks = 0 })
-copies_same {N} {E} node_clone edge_clone nodes edges s (Ok copy) Q c =
+    → IfOk r (λ copy. ((x y : N) → node_clone x y → y ≡ x) → ((x y : E) → edge_clone x y → y ≡ x)
+    → copy ≡ record { graph = s.graph; looks = 0 })
+copies_same {N} {E} node_clone edge_clone s (Ok copy) Q c =
     let mk : Graph N E → ℕ → State N E = λ g k. record { graph = g; looks = k } in
-    ap (λ g. mk g copy.looks) (copy_same node_clone edge_clone nodes edges s.graph copy.graph c.0) ∙ ap (mk s.graph) c.1
-copies_same node_clone edge_clone nodes edges s (Err x) Q c = tt
-
--- what holds of a graph holds of an equal one
-pub copies_hold : {N E X : Type 0} (P : Graph N E → Type 0) (s : State N E) (r : Result (State N E) X)
-    → IfOk r (λ copy. copy ≡ record { graph = s.graph; looks = 0 }) → P s.graph → IfOk r (λ copy. P copy.graph)
-copies_hold P s (Ok copy) same h = subst P (sym (ap (λ z. z.graph) same)) h
-copies_hold P s (Err x) same h = tt
+    λ nodes edges. ap (λ g. mk g copy.looks)
+    (copy_same node_clone edge_clone nodes edges s.graph copy.graph c.0) ∙ ap (mk s.graph) c.1
+copies_same node_clone edge_clone s (Err x) Q c = tt

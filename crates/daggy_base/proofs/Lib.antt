@@ -1,6 +1,7 @@
 mod Emptiness
 pub mod Lists
 pub mod Copies
+pub mod CallsInTurn
 pub mod OutEdgesRead
 pub mod Slots
 pub mod MappedSlots

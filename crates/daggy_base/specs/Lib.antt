@@ -25,3 +25,4 @@ pub mod Rewriting
 pub mod Iterating
 pub mod Calls
 pub mod IndexMembers
+pub mod CallsInTurn

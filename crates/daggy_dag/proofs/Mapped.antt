@@ -1,10 +1,13 @@
 -- Mapping the weights of a dag keeps its order.
 use Rattle.std.proofs.Common.{◌≡◌, ℕ, zero, suc, ◌+◌, ◌≤◌, ◌↔◌, List, [], ◌∷◌, length, Option, Some, None, IsSome}
-use Rattle.std.proofs.Common.{is_some, refl, sym, ap, subst, ◌∙◌, arith}
+use Rattle.std.proofs.Common.{is_some, refl, sym, ap, subst, ◌∙◌, arith, Result, Ok, Err, MatchResult, IfOk}
 use Rattle.std.specs.Borrow.{Bor}
 use Rattle.std.proofs.lemmas.Option.{same_Some, none-some}
 use Rattle.daggy_base.specs.Graph.{Graph, Edge, slot, bound_of, bound_step, node_bound}
-use Rattle.daggy_base.specs.Path.{AreJoined}
+use Rattle.daggy_base.specs.Path.{AreJoined, IsAcyclic}
+use Rattle.daggy_base.specs.State.{State}
+use Rattle.daggy_base.specs.Copying.{clone_step, IsCopy}
+use Rattle.daggy_base.proofs.PathsWithEdge.{no_round}
 use Rattle.daggy_base.proofs.PathsWithNode.{bound_low}
 use Rattle.daggy_base.specs.Mapping.{MapsSlots, IsMapped, weight_in, with_weight}
 use Rattle.daggy_cells.proofs.MappingLemmas.{mapped_length}
@@ -125,3 +128,20 @@ module _ {N E V W F G I : Type 0} (of : ℕ → I) (step_f : F → I → Bor N �
         joined_still of step_g g old new mapped.edges u v,
         joined_reweighed of step_g g old new mapped.edges u v,
       ))
+
+  -- a map closes no cycle
+  pub acyclic_mapped : IsAcyclic old → IsAcyclic new
+  acyclic_mapped acyclic u v rest path same =
+      no_round old acyclic u v
+      ((same_nodes step_f of (λ w. w) (λ w v. v) f old.nodes new.nodes mapped.nodes u).0 path.0)
+      (joined_reweighed of step_g g old new mapped.edges u v path.1)
+      ((reach_mapped v u).1 (rest, path.2, same))
+
+-- and neither does a copy
+pub copies_acyclic : {N E X : Type 0} (node_clone : N → N → Type 0) (edge_clone : E → E → Type 0) (s : State N E)
+    (r : Result (State N E) X) (Q : X → Type 0)
+    → MatchResult r (λ copy. IsCopy node_clone edge_clone s.graph copy.graph × (copy.looks ≡ 0)) Q
+    → IsAcyclic s.graph → IfOk r (λ copy. IsAcyclic copy.graph)
+copies_acyclic node_clone edge_clone s (Ok copy) Q c acyclic =
+    acyclic_mapped (λ i. i) (clone_step node_clone) (clone_step edge_clone) tt tt s.graph copy.graph c.0 acyclic
+copies_acyclic node_clone edge_clone s (Err x) Q c acyclic = tt

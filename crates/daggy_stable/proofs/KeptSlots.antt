@@ -71,6 +71,7 @@ lost_by false b y is = refl
 module _ {N E Ix : Type 0} (nodes : List (Option N)) (x : Edge (Option E) Ix) where
   -- what is told of an edge that exists and has both its ends
   pub record IsJoined (w : E) : Type 0 where
+    pub stored : plain_edge x ≡ Some (plain x w)
     pub edge : if_ends_exist nodes (plain_edge x) ≡ Some (plain x w)
     pub parent : IsSome (slot nodes x.parent)
     pub child : IsSome (slot nodes x.child)
@@ -89,6 +90,7 @@ module _ {N E Ix : Type 0} (nodes : List (Option N)) (x : Edge (Option E) Ix) wh
           let by =
           joined_by p q y w (is ∙ ap (λ o. option_map weight_in (if_ends_exist nodes (option_map (plain x) o))) some) in
           record {
+            stored = ap (option_map (plain x)) some ∙ ap (λ z. Some (plain x z)) by.2;
             edge =
                 ap (λ o. if_ends_exist nodes (option_map (plain x) o)) some
                 ∙ ap (λ a. cond a (cond q (Some y) None) None) by.0 ∙ ap (λ b. cond b (Some y) None) by.1

@@ -1,7 +1,10 @@
 //! The part of a graph that closures keep.
 ghost use Rattle.std.specs.Prelude.{◌≡◌, ◌+◌, ◌<◌, ◌≤◌, [], ◌∷◌, ◌++◌, map, length, vec_len};
 ghost use Rattle.std.specs.Prelude.{vec_capacity, IfOk};
+ghost use Rattle.daggy_base.specs.CallsInTurn.{CanCallAtSlots, CanCallAtSomeSlots};
+ghost use Rattle.daggy_base.specs.CallsInTurn.{CanCallAtNodes, CanCallAtSomeEdges};
 ghost use Rattle.daggy_base.specs.Graph.{empty, slot};
+ghost use Rattle.daggy_base.specs.Mapping.{weight_in};
 ghost use Rattle.daggy_graph.specs.Stored.{stored_graph, Stores};
 ghost use Rattle.daggy_cells.specs.Fields.{weight_of, plain_edge};
 ghost use Rattle.daggy_base.specs.Filtering.{with_kept_node, named, with_kept_edge, both};
@@ -56,7 +59,7 @@ fn filter_nodes<N, V, W, Ix: IndexType, F: FnMut(NodeIndex<Ix>, &N) -> Option<V>
     names: &mut Vec<Option<Link<Ix>>>,
     mut f: F,
 )
-    requires callable { F.IsAlwaysCallable f }
+    requires callable { CanCallAtSlots Ix.of F.pre F.step (λ w. w) f (map weight_of nodes.now) }
     requires few { length nodes.now ≤ Ix.greatest }
     requires capacity { length nodes.now ≤ vec_capacity new.old }
     requires room_for_names { length nodes.now ≤ vec_capacity names.old }
@@ -134,7 +137,8 @@ fn filter_edges<N, E, W, Ix: IndexType, G: FnMut(EdgeIndex<Ix>, &E) -> Option<W>
     new: &mut Vec<Edge<W, Ix>>,
     mut g: G,
 )
-    requires callable { G.IsAlwaysCallable g }
+    requires callable { CanCallAtSomeSlots Ix.of G.pre G.step weight_in g
+        (map plain_edge edges.now) }
     requires few { length edges.now ≤ Ix.greatest }
     requires capacity { length edges.now ≤ vec_capacity new.old }
     requires empty { new.old.items ≡ [] }
@@ -173,8 +177,8 @@ impl<N, E, Ix: IndexType> DiGraph<N, E, Ix> {
         F: FnMut(NodeIndex<Ix>, &N) -> Option<N2>,
         G: FnMut(EdgeIndex<Ix>, &E) -> Option<E2>,
     >(&self, f: F, g: G) -> Result<DiGraph<N2, E2, Ix>, AllocError>
-        requires nodes { F.IsAlwaysCallable f }
-        requires edges { G.IsAlwaysCallable g }
+        requires nodes { CanCallAtNodes Ix.of F.pre F.step f self.now.graph }
+        requires edges { CanCallAtSomeEdges Ix.of G.pre G.step g self.now.graph }
         ensures filtered { IfOk result (λ h.
             IsFiltered Ix.of F.step G.step f g self.now.graph h.graph) }
         ensures descending { IfOk result (λ h. ListsDescend h.graph) }
@@ -196,8 +200,8 @@ impl<N, E, Ix: IndexType> DiGraph<N, E, Ix> {
         F: FnMut(NodeIndex<Ix>, &N) -> Option<N2>,
         G: FnMut(EdgeIndex<Ix>, &E) -> Option<E2>,
     >(&self, f: F, g: G) -> Result<(DiGraph<N2, E2, Ix>, Vec<Option<Link<Ix>>>), AllocError>
-        requires nodes { F.IsAlwaysCallable f }
-        requires edges { G.IsAlwaysCallable g }
+        requires nodes { CanCallAtNodes Ix.of F.pre F.step f self.now.graph }
+        requires edges { CanCallAtSomeEdges Ix.of G.pre G.step g self.now.graph }
         ensures filtered { IfOk result (λ made.
             IsFilteredAs Ix.of F.step G.step f g made.1.items self.now.graph made.0.graph) }
         ensures descending { IfOk result (λ made. ListsDescend made.0.graph) }

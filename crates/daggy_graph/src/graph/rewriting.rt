@@ -1,5 +1,9 @@
 //! All weights to write, one after another.
-ghost use Rattle.std.specs.Prelude.{◌≡◌, ◌≤◌, length};
+ghost use Rattle.std.specs.Prelude.{◌≡◌, ◌≤◌, length, map};
+ghost use Rattle.daggy_base.specs.Mapping.{weight_in};
+ghost use Rattle.daggy_base.specs.CallsInTurn.{CanCallAtSlots, TakesToWrite};
+ghost use Rattle.daggy_base.specs.CallsInTurn.{CanLendNodes, CanLendEdges};
+ghost use Rattle.daggy_cells.specs.Fields.{weight_of, plain_edge};
 ghost use Rattle.daggy_base.specs.Rewriting.{Leaves, RewritesNodes, RewritesEdges};
 ghost use Rattle.daggy_cells.specs.MappedCells.{MapsCells, node_weight_in, node_with};
 ghost use Rattle.daggy_cells.specs.MappedCells.{edge_weight_in, edge_with};
@@ -12,7 +16,7 @@ impl<N, E, Ix: IndexType> DiGraph<N, E, Ix> {
     ///
     /// The cost grows with the number of nodes, besides that of the calls.
     pub fn update_node_weights<F: FnMut(NodeIndex<Ix>, &mut N)>(&mut self, f: F)
-        requires { F.IsAlwaysCallable f }
+        requires { CanLendNodes Ix.of F.pre F.step f self.old.graph }
         ensures written { RewritesNodes Ix.of F.step f self.old.graph self.new.graph }
         ensures looks { self.new.looks ≡ self.old.looks }
     {
@@ -23,7 +27,7 @@ impl<N, E, Ix: IndexType> DiGraph<N, E, Ix> {
     ///
     /// The cost grows with the number of edges, besides that of the calls.
     pub fn update_edge_weights<F: FnMut(EdgeIndex<Ix>, &mut E)>(&mut self, f: F)
-        requires { F.IsAlwaysCallable f }
+        requires { CanLendEdges Ix.of F.pre F.step f self.old.graph }
         ensures written { RewritesEdges Ix.of F.step f self.old.graph self.new.graph }
         ensures looks { self.new.looks ≡ self.old.looks }
     {
@@ -36,7 +40,8 @@ fn write_nodes<N, Ix: IndexType, F: FnMut(NodeIndex<Ix>, &mut N)>(
     nodes: &mut Vec<Node<N, Ix>>,
     mut f: F,
 )
-    requires callable { F.IsAlwaysCallable f }
+    requires callable { CanCallAtSlots Ix.of (TakesToWrite F.pre) (Leaves F.step) (λ w. w) f
+        (map weight_of nodes.old.items) }
     requires few { length nodes.old.items ≤ Ix.greatest }
     ensures { MapsCells (Leaves F.step) Ix.of node_weight_in node_with f 0 nodes.old.items
         nodes.new.items }
@@ -52,7 +57,8 @@ fn write_edges<E, Ix: IndexType, F: FnMut(EdgeIndex<Ix>, &mut E)>(
     edges: &mut Vec<Edge<E, Ix>>,
     mut f: F,
 )
-    requires callable { F.IsAlwaysCallable f }
+    requires callable { CanCallAtSlots Ix.of (TakesToWrite F.pre) (Leaves F.step) weight_in f
+        (map plain_edge edges.old.items) }
     requires few { length edges.old.items ≤ Ix.greatest }
     ensures { MapsCells (Leaves F.step) Ix.of edge_weight_in edge_with f 0 edges.old.items
         edges.new.items }

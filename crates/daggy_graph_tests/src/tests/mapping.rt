@@ -1,5 +1,5 @@
 //! Maps and parts of a graph.
-use super::support::{graph_of, made, same, shape};
+use super::support::{graph_of, holds, made, same, shape};
 use daggy_base::index::{Direction, EdgeIndex, NodeIndex};
 
 const EDGES: [(usize, usize, u32); 3] = [(0, 1, 100), (0, 2, 101), (1, 2, 102)];
@@ -39,4 +39,25 @@ fn the_part_of_a_graph_without_a_node_is_kept(rt: HostRuntime) {
     shape(&rt, &part, &[11, 12], &[(0, 1, 102)]);
     let (a, b) = (NodeIndex::new(0), NodeIndex::new(1));
     same(&rt, part.find_edge(a, b), Some(EdgeIndex::new(0)));
+}
+
+#[test]
+fn closures_read_tables_of_the_size_of_the_graph(rt: HostRuntime) {
+    let mut graph = graph_of(&rt, rt.alloc(), &[10, 11, 12], &EDGES);
+    let (nodes, edges) = ([5, 6, 7], [1, 2, 3]);
+    holds(&rt, graph.node_count() == nodes.len());
+    holds(&rt, graph.edge_count() == edges.len());
+    let mapped = made(
+        &rt,
+        graph.map(|n, _| nodes[n.index()], |e, _| edges[e.index()]),
+    );
+    shape(&rt, &mapped, &[5, 6, 7], &[(0, 1, 1), (0, 2, 2), (1, 2, 3)]);
+    let part = made(
+        &rt,
+        graph.filter_map(|n, _| Some(nodes[n.index()]), |e, _| Some(edges[e.index()])),
+    );
+    shape(&rt, &part, &[5, 6, 7], &[(0, 1, 1), (0, 2, 2), (1, 2, 3)]);
+    graph.update_node_weights(|n, weight| *weight = nodes[n.index()]);
+    graph.update_edge_weights(|e, weight| *weight = edges[e.index()]);
+    shape(&rt, &graph, &[5, 6, 7], &[(0, 1, 1), (0, 2, 2), (1, 2, 3)]);
 }

@@ -26,17 +26,20 @@ impl<N: Clone + Drop, E: Clone + Drop, Ix: IndexType> Clone for StableDiGraph<N,
 }
 
 impl<N, E, Ix: IndexType> StableDiGraph<N, E, Ix> {
-    /// A graph with the same nodes and edges under the same indices, in the same lists, and with
-    /// the same vacant slots, which are taken in the same order.
+    /// A graph with the same nodes and edges under the same indices, in the same lists, with a
+    /// clone of each weight, and with the same vacant slots, which are taken in the same order.
     ///
     /// The error says that memory for it was refused. The cost grows with the number of slots.
     pub fn try_clone(&self) -> Result<Self, AllocError>
     where
         N: Clone + Drop,
         E: Clone + Drop,
-        requires nodes { (x y : N) → N.is_clone x y → y ≡ x }
-        requires edges { (x y : E) → E.is_clone x y → y ≡ x }
-        ensures { IfOk result (λ g. g ≡ record { graph = self.now.graph; looks = 0 }) }
+        ensures copied { IfOk result (λ g.
+            IsCopy N.is_clone E.is_clone self.now.graph g.graph) }
+        ensures looks { IfOk result (λ g. g.looks ≡ 0) }
+        ensures same_if_clones_equal { IfOk result (λ g.
+            ((x y : N) → N.is_clone x y → y ≡ x) → ((x y : E) → E.is_clone x y → y ≡ x)
+            → g ≡ record { graph = self.now.graph; looks = 0 }) }
     {
         self.clone()
     }

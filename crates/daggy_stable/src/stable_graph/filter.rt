@@ -2,6 +2,8 @@
 ghost use Rattle.std.specs.Prelude.{◌≡◌, ◌≤◌, [], map, length, vec_capacity, is_some};
 ghost use Rattle.std.specs.Prelude.{option_copied, IfOk};
 ghost use Rattle.std.specs.Option.{option_map};
+ghost use Rattle.daggy_base.specs.CallsInTurn.{CanCallAtSlots, CanCallAtSomeSlots};
+ghost use Rattle.daggy_base.specs.CallsInTurn.{CanCallAtNodes, CanCallAtSomeEdges};
 ghost use Rattle.daggy_base.specs.Graph.{slot};
 ghost use Rattle.daggy_base.specs.Mapping.{weight_in, with_weight};
 ghost use Rattle.daggy_base.specs.Filtering.{ListsDescend};
@@ -24,7 +26,7 @@ fn filter_nodes<N, V, W, Ix: IndexType, F: FnMut(NodeIndex<Ix>, &N) -> Option<V>
     edges: &SlotBuilder<Edge<Option<W>, Ix>, Ix>,
     mut f: F,
 )
-    requires callable { F.IsAlwaysCallable f }
+    requires callable { CanCallAtSlots Ix.of F.pre F.step (λ w. w) f (map weight_of nodes.now) }
     requires few { length nodes.now ≤ Ix.greatest }
     requires capacity { length nodes.now ≤ vec_capacity new.old.cells }
     requires empty { new.old.cells.items ≡ [] }
@@ -85,7 +87,8 @@ fn filter_edges<N, E, W, Ix: IndexType, G: FnMut(EdgeIndex<Ix>, &E) -> Option<W>
     new: &mut SlotBuilder<Edge<Option<W>, Ix>, Ix>,
     mut g: G,
 )
-    requires callable { G.IsAlwaysCallable g }
+    requires callable { CanCallAtSomeSlots Ix.of G.pre G.step weight_in g
+        (map plain_edge edges.now) }
     requires few { length edges.now ≤ Ix.greatest }
     requires capacity { length edges.now ≤ vec_capacity new.old.cells }
     requires empty { new.old.cells.items ≡ [] }
@@ -129,8 +132,8 @@ impl<N, E, Ix: IndexType> StableDiGraph<N, E, Ix> {
         F: FnMut(NodeIndex<Ix>, &N) -> Option<N2>,
         G: FnMut(EdgeIndex<Ix>, &E) -> Option<E2>,
     >(&self, f: F, g: G) -> Result<StableDiGraph<N2, E2, Ix>, AllocError>
-        requires nodes { F.IsAlwaysCallable f }
-        requires edges { G.IsAlwaysCallable g }
+        requires nodes { CanCallAtNodes Ix.of F.pre F.step f self.now.graph }
+        requires edges { CanCallAtSomeEdges Ix.of G.pre G.step g self.now.graph }
         ensures filtered { IfOk result (λ h.
             IsFilteredInPlace Ix.of F.step G.step f g self.now.graph h.graph) }
         ensures descending { IfOk result (λ h. ListsDescend h.graph) }

@@ -1,6 +1,7 @@
 //! The same graph with other weights.
 ghost use Rattle.std.specs.Prelude.{◌≡◌, ◌≤◌, [], map, length, vec_capacity, IfOk};
 ghost use Rattle.daggy_base.specs.declared.index.Direction.{Direction};
+ghost use Rattle.daggy_base.specs.CallsInTurn.{CanCallAtSlots, CanCallAtNodes, CanCallAtEdges};
 ghost use Rattle.daggy_base.specs.Mapping.{MapsSlots, IsMapped, weight_in, with_weight};
 ghost use Rattle.daggy_cells.specs.Fields.{firsts_of, nexts_of};
 ghost use Rattle.daggy_stable.specs.Stored.{weight_of, plain_edge};
@@ -18,7 +19,7 @@ fn map_nodes<N, V, Ix: IndexType, F: FnMut(NodeIndex<Ix>, &N) -> V>(
     new: &mut Vec<Node<Option<V>, Ix>>,
     mut f: F,
 )
-    requires callable { F.IsAlwaysCallable f }
+    requires callable { CanCallAtSlots Ix.of F.pre F.step (λ w. w) f (map weight_of nodes.now) }
     requires few { length nodes.now ≤ Ix.greatest }
     requires capacity { length nodes.now ≤ vec_capacity new.old }
     requires empty { new.old.items ≡ [] }
@@ -46,7 +47,7 @@ fn map_edges<E, W, Ix: IndexType, G: FnMut(EdgeIndex<Ix>, &E) -> W>(
     new: &mut Vec<Edge<Option<W>, Ix>>,
     mut g: G,
 )
-    requires callable { G.IsAlwaysCallable g }
+    requires callable { CanCallAtSlots Ix.of G.pre G.step weight_in g (map plain_edge edges.now) }
     requires few { length edges.now ≤ Ix.greatest }
     requires capacity { length edges.now ≤ vec_capacity new.old }
     requires empty { new.old.items ≡ [] }
@@ -81,8 +82,8 @@ impl<N, E, Ix: IndexType> StableDiGraph<N, E, Ix> {
         F: FnMut(NodeIndex<Ix>, &N) -> N2,
         G: FnMut(EdgeIndex<Ix>, &E) -> E2,
     >(&self, f: F, g: G) -> Result<StableDiGraph<N2, E2, Ix>, AllocError>
-        requires nodes { F.IsAlwaysCallable f }
-        requires edges { G.IsAlwaysCallable g }
+        requires nodes { CanCallAtNodes Ix.of F.pre F.step f self.now.graph }
+        requires edges { CanCallAtEdges Ix.of G.pre G.step g self.now.graph }
         ensures mapped { IfOk result (λ h.
             IsMapped Ix.of F.step G.step f g self.now.graph h.graph) }
         ensures looks { IfOk result (λ h. h.looks ≡ 0) }

@@ -59,7 +59,8 @@ impl<N: Drop, E: Drop, Ix: IndexType> Acyclic<N, E, Ix, DiGraph<N, E, Ix>> {
         })
     }
 
-    /// A dag with the same nodes and edges under the same indices, and in the same lists.
+    /// A dag with the same nodes and edges under the same indices, and in the same lists, with a
+    /// clone of each weight.
     ///
     /// The error says that memory for it was refused. The cost grows with the number of nodes and
     /// edges.
@@ -67,9 +68,12 @@ impl<N: Drop, E: Drop, Ix: IndexType> Acyclic<N, E, Ix, DiGraph<N, E, Ix>> {
     where
         N: Clone,
         E: Clone,
-        requires nodes { (x y : N) → N.is_clone x y → y ≡ x }
-        requires edges { (x y : E) → E.is_clone x y → y ≡ x }
-        ensures value { IfOk result (λ d. d ≡ record { graph = self.now.graph; looks = 0 }) }
+        ensures copied { IfOk result (λ d.
+            IsCopy N.is_clone E.is_clone self.now.graph d.graph) }
+        ensures looks { IfOk result (λ d. d.looks ≡ 0) }
+        ensures same_if_clones_equal { IfOk result (λ d.
+            ((x y : N) → N.is_clone x y → y ≡ x) → ((x y : E) → E.is_clone x y → y ≡ x)
+            → d ≡ record { graph = self.now.graph; looks = 0 }) }
         ensures acyclic { IfOk result (λ d. IsAcyclic d.graph) }
     {
         // Asked for its contract alone: the dag is acyclic.

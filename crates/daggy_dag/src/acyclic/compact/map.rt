@@ -1,5 +1,7 @@
 //! The same dag with other weights, and the part of a dag that closures keep.
 ghost use Rattle.std.specs.Prelude.{◌≡◌, length, IfOk};
+ghost use Rattle.daggy_base.specs.CallsInTurn.{CanCallAtNodes, CanCallAtEdges};
+ghost use Rattle.daggy_base.specs.CallsInTurn.{CanCallAtSomeEdges};
 ghost use Rattle.daggy_base.specs.Path.{IsAcyclic};
 ghost use Rattle.daggy_base.specs.Mapping.{IsMapped};
 ghost use Rattle.daggy_base.specs.Filtering.{IsFiltered, ListsDescend, HaveSameEnds};
@@ -24,8 +26,8 @@ impl<N: Drop, E: Drop, Ix: IndexType> Acyclic<N, E, Ix, DiGraph<N, E, Ix>> {
         F: FnMut(NodeIndex<Ix>, &N) -> N2,
         G: FnMut(EdgeIndex<Ix>, &E) -> E2,
     >(&self, f: F, g: G) -> Result<Dag<N2, E2, Ix>, AllocError>
-        requires nodes { F.IsAlwaysCallable f }
-        requires edges { G.IsAlwaysCallable g }
+        requires nodes { CanCallAtNodes Ix.of F.pre F.step f self.now.graph }
+        requires edges { CanCallAtEdges Ix.of G.pre G.step g self.now.graph }
         ensures mapped { IfOk result (λ d.
             IsMapped Ix.of F.step G.step f g self.now.graph d.graph) }
         ensures acyclic { IfOk result (λ d. IsAcyclic d.graph) }
@@ -59,8 +61,8 @@ impl<N: Drop, E: Drop, Ix: IndexType> Acyclic<N, E, Ix, DiGraph<N, E, Ix>> {
         F: FnMut(NodeIndex<Ix>, &N) -> Option<N2>,
         G: FnMut(EdgeIndex<Ix>, &E) -> Option<E2>,
     >(&self, f: F, g: G) -> Result<Dag<N2, E2, Ix>, AllocError>
-        requires nodes { F.IsAlwaysCallable f }
-        requires edges { G.IsAlwaysCallable g }
+        requires nodes { CanCallAtNodes Ix.of F.pre F.step f self.now.graph }
+        requires edges { CanCallAtSomeEdges Ix.of G.pre G.step g self.now.graph }
         ensures filtered { IfOk result (λ d.
             IsFiltered Ix.of F.step G.step f g self.now.graph d.graph) }
         ensures descending { IfOk result (λ d. ListsDescend d.graph) }

@@ -1,5 +1,6 @@
 //! All weights to write, one after another.
 ghost use Rattle.std.specs.Prelude.{◌≡◌};
+ghost use Rattle.daggy_base.specs.CallsInTurn.{CanLendNodes, CanLendEdges};
 ghost use Rattle.daggy_base.specs.Path.{IsAcyclic};
 ghost use Rattle.daggy_base.specs.Rewriting.{RewritesNodes, RewritesEdges};
 
@@ -12,7 +13,7 @@ impl<N: Drop, E: Drop, Ix: IndexType> Acyclic<N, E, Ix, DiGraph<N, E, Ix>> {
     ///
     /// The cost grows with the number of nodes, besides that of the calls.
     pub fn update_node_weights<F: FnMut(NodeIndex<Ix>, &mut N)>(&mut self, f: F)
-        requires { F.IsAlwaysCallable f }
+        requires { CanLendNodes Ix.of F.pre F.step f self.old.graph }
         ensures written { RewritesNodes Ix.of F.step f self.old.graph self.new.graph }
         ensures acyclic { IsAcyclic self.new.graph }
         ensures looks { self.new.looks ≡ self.old.looks }
@@ -25,7 +26,7 @@ impl<N: Drop, E: Drop, Ix: IndexType> Acyclic<N, E, Ix, DiGraph<N, E, Ix>> {
     ///
     /// The cost grows with the number of edges, besides that of the calls.
     pub fn update_edge_weights<F: FnMut(EdgeIndex<Ix>, &mut E)>(&mut self, f: F)
-        requires { F.IsAlwaysCallable f }
+        requires { CanLendEdges Ix.of F.pre F.step f self.old.graph }
         ensures written { RewritesEdges Ix.of F.step f self.old.graph self.new.graph }
         ensures acyclic { IsAcyclic self.new.graph }
         ensures looks { self.new.looks ≡ self.old.looks }

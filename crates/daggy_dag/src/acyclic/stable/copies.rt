@@ -58,17 +58,20 @@ impl<N: Drop, E: Drop, Ix: IndexType> Acyclic<N, E, Ix, StableDiGraph<N, E, Ix>>
         })
     }
 
-    /// A dag with the same nodes and edges under the same indices, in the same lists, and with the
-    /// same vacant slots, which are taken in the same order.
+    /// A dag with the same nodes and edges under the same indices, in the same lists, with a clone
+    /// of each weight, and with the same vacant slots, which are taken in the same order.
     ///
     /// The error says that memory for it was refused. The cost grows with the number of slots.
     pub fn try_clone(&self) -> Result<Self, AllocError>
     where
         N: Clone,
         E: Clone,
-        requires nodes { (x y : N) → N.is_clone x y → y ≡ x }
-        requires edges { (x y : E) → E.is_clone x y → y ≡ x }
-        ensures value { IfOk result (λ d. d ≡ record { graph = self.now.graph; looks = 0 }) }
+        ensures copied { IfOk result (λ d.
+            IsCopy N.is_clone E.is_clone self.now.graph d.graph) }
+        ensures looks { IfOk result (λ d. d.looks ≡ 0) }
+        ensures same_if_clones_equal { IfOk result (λ d.
+            ((x y : N) → N.is_clone x y → y ≡ x) → ((x y : E) → E.is_clone x y → y ≡ x)
+            → d ≡ record { graph = self.now.graph; looks = 0 }) }
         ensures acyclic { IfOk result (λ d. IsAcyclic d.graph) }
     {
         // Asked for its contract alone: the dag is acyclic.

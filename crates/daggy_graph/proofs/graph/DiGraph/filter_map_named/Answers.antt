@@ -1,11 +1,27 @@
-use Rattle.std.proofs.Common.{map, refl, subst}
+use Rattle.std.proofs.Common.{map, refl, subst, sym}
 use Rattle.daggy_base.specs.Graph.{empty}
 use Rattle.daggy_graph.specs.Stored.{stored_graph}
 use Rattle.daggy_cells.specs.Fields.{weight_of, plain_edge}
 use Rattle.daggy_base.specs.Filtering.{FiltersNodes, FiltersEdges}
 use Rattle.daggy_graph.specs.Names.{IsFilteredAs}
 use Rattle.daggy_graph.proofs.KeptParts.{ListsDescend-filtered, HaveSameEnds-filtered}
+use Rattle.daggy_base.specs.CallsInTurn.{CanCallAtSlots, CanCallAtSomeSlots, CanCallAtNodes, CanCallAtSomeEdges}
+use Rattle.daggy_base.specs.Mapping.{weight_in}
 use Rattle.daggy_graph.proofs.graph.DiGraph.filter_map_named.Goals as goal
+
+pub filter_nodes-requires-clause-callable : goal.filter_nodes-requires-clause-callable
+filter_nodes-requires-clause-callable g c =
+    subst (λ l. CanCallAtSlots g.Ix.IndexType.of (goal.F-pre g) (goal.F-step g) (λ w. w) c.args.f
+    (map weight_of l)) (sym c.as_slice.ensures.value)
+    (subst (λ s. CanCallAtNodes g.Ix.IndexType.of (goal.F-pre g) (goal.F-step g) c.args.f s.graph)
+    (sym c.self.view_is) c.requires.nodes)
+
+pub filter_edges-requires-clause-callable : goal.filter_edges-requires-clause-callable
+filter_edges-requires-clause-callable g c =
+    subst (λ l. CanCallAtSomeSlots g.Ix.IndexType.of (goal.G-pre g) (goal.G-step g) weight_in c.args.g
+    (map plain_edge l)) (sym c.as_slice-2.ensures.value)
+    (subst (λ s. CanCallAtSomeEdges g.Ix.IndexType.of (goal.G-pre g) (goal.G-step g) c.args.g s.graph)
+    (sym c.self.view_is) c.requires.edges)
 
 pub returns-clause-filtered : goal.returns-clause-filtered
 returns-clause-filtered g c =

@@ -1,10 +1,12 @@
-use Rattle.std.proofs.Common.{subst}
+use Rattle.std.proofs.Common.{map, subst, sym}
 use Rattle.daggy_graph.specs.Stored.{stored_graph}
-use Rattle.daggy_base.specs.Mapping.{IsMapped}
+use Rattle.daggy_base.specs.Mapping.{IsMapped, weight_in}
 use Rattle.daggy_cells.specs.MappedCells.{MapsCells, node_weight_in, node_with, edge_weight_in, edge_with}
 use Rattle.daggy_graph.proofs.MappingLemmas.{MapsStored, Stores-mapped, IsMapped-stored}
 use Rattle.daggy_graph.proofs.graph.DiGraph.map.Given.{Over}
 use Rattle.daggy_graph.proofs.graph.DiGraph.map.Goals.{After-map_edges}
+use Rattle.daggy_base.specs.CallsInTurn.{CanCallAtSlots, CanCallAtNodes, CanCallAtEdges}
+use Rattle.daggy_cells.specs.Fields.{weight_of, plain_edge}
 use Rattle.daggy_graph.proofs.graph.DiGraph.map.Goals as goal
 
 -- the new slots are the mapped old ones
@@ -22,6 +24,20 @@ mapped g c =
           subst (λ l. MapsCells (goal.G-step g) g.Ix.IndexType.of edge_weight_in edge_with c.args.g 0 l edges')
           c.as_slice-2.ensures.value c.map_edges.ensures;
     }
+
+pub map_nodes-requires-clause-callable : goal.map_nodes-requires-clause-callable
+map_nodes-requires-clause-callable g c =
+    subst (λ l. CanCallAtSlots g.Ix.IndexType.of (goal.F-pre g) (goal.F-step g) (λ w. w) c.args.f
+    (map weight_of l)) (sym c.as_slice.ensures.value)
+    (subst (λ s. CanCallAtNodes g.Ix.IndexType.of (goal.F-pre g) (goal.F-step g) c.args.f s.graph)
+    (sym c.self.view_is) c.requires.nodes)
+
+pub map_edges-requires-clause-callable : goal.map_edges-requires-clause-callable
+map_edges-requires-clause-callable g c =
+    subst (λ l. CanCallAtSlots g.Ix.IndexType.of (goal.G-pre g) (goal.G-step g) weight_in c.args.g
+    (map plain_edge l)) (sym c.as_slice-2.ensures.value)
+    (subst (λ s. CanCallAtEdges g.Ix.IndexType.of (goal.G-pre g) (goal.G-step g) c.args.g s.graph)
+    (sym c.self.view_is) c.requires.edges)
 
 pub invariant_of-result : goal.invariant_of-result
 invariant_of-result g c =

@@ -1,8 +1,14 @@
-use Rattle.std.proofs.Common.{subst}
+use Rattle.std.proofs.Common.{subst, sym}
 use Rattle.daggy_base.specs.Rewriting.{RewritesNodes}
 use Rattle.daggy_graph.specs.Stored.{stored_graph}
 use Rattle.daggy_graph.proofs.RewritingLemmas.{Stores-nodes_rewritten, RewritesNodes-stored}
+use Rattle.daggy_base.specs.CallsInTurn.{CanLendNodes}
 use Rattle.daggy_graph.proofs.graph.DiGraph.update_node_weights.Goals as goal
+
+pub write_nodes-requires-clause-callable : goal.write_nodes-requires-clause-callable
+write_nodes-requires-clause-callable g c =
+    subst (λ s. CanLendNodes g.Ix.IndexType.of (goal.F-pre g) (goal.F-step g) c.args.f s.graph) (sym c.self.view_is)
+    c.requires
 
 pub invariant_of-self : goal.invariant_of-self
 invariant_of-self g c =

@@ -1,4 +1,4 @@
-use Rattle.std.proofs.Common.{◌≡◌, ◌<◌, ◌+◌, None, map, length, refl, sym, subst, ◌∙◌, of_calls, arith}
+use Rattle.std.proofs.Common.{◌≡◌, ◌<◌, ◌+◌, None, map, length, refl, sym, subst, ◌∙◌, arith}
 use Rattle.std.proofs.lemmas.List.{length-map}
 use Rattle.daggy_base.specs.Graph.{Edge as PlainEdge}
 use Rattle.daggy_graph.specs.Stored.{stored_graph}
@@ -8,6 +8,8 @@ use Rattle.daggy_graph.proofs.StoredLemmas.{stored_is, Stores-itself}
 use Rattle.daggy_cells.proofs.MappingLemmas.{CalledAt-from_step}
 use Rattle.daggy_graph.proofs.FilterLemmas.{EdgesBelow, EdgesBelow-passed, EdgesBelow-called, EdgesBelow-done, both_are}
 use Rattle.daggy_graph.proofs.FilterLemmas.{named_within, Holds-read}
+use Rattle.daggy_base.proofs.CallsInTurn.{may_call_some, called_some_on, passed_on}
+use Rattle.daggy_base.specs.Mapping.{weight_in}
 use Rattle.daggy_graph.proofs.graph.filter.filter_edges.Goals as goal
 
 pub each-preserved-in-None : goal.each-preserved-in-None
@@ -18,7 +20,8 @@ each-preserved-in-None g c =
     let within : c.each.i < length edges = omega arith in
     let held = Holds-read plain_edge edges p within c.index-edges-i.is refl in
     let lost : new_ends c.args.names.now.items p ≡ None = sym c.in-None.ensures in (
-      c.each.invariant.0,
+      passed_on g.Ix.IndexType.of (goal.G-pre g) (goal.G-step g) weight_in plain_edge c.args.edges.now within c.index-edges-i.is
+          c.each.invariant.0,
       c.each.invariant.1,
       omega (arith, c.each.invariant.2),
       c.each.invariant.3,
@@ -26,6 +29,11 @@ each-preserved-in-None g c =
       EdgesBelow-passed (goal.G-step g) g.Ix.IndexType.of c.args.names.now.items c.args.g (map plain_edge edges) _
           c.each.g _ held lost c.each.invariant.5,
     )
+
+pub g-answer-requires : goal.g-answer-requires
+g-answer-requires g c =
+    rw c.new.ensures.value (may_call_some g.Ix.IndexType.of (goal.G-pre g) (goal.G-step g) weight_in plain_edge c.args.edges.now (omega arith)
+    c.index-edges-i.is refl c.each.invariant.0 _ refl)
 
 pub keep_edge-requires-clause-parent : goal.keep_edge-requires-clause-parent
 keep_edge-requires-clause-parent g c =
@@ -55,7 +63,8 @@ each-preserved g c =
     EdgesBelow-called (goal.G-step g) g.Ix.IndexType.of c.args.names.now.items c.args.g (map plain_edge edges) start
     h held (sym c.in-Some.ensures) called c.each.invariant.5 in
     let shown = stored_is _ _ _ _ c.keep_edge.ensures.stored in (
-      search of_calls,
+      called_some_on g.Ix.IndexType.of (goal.G-pre g) (goal.G-step g) weight_in plain_edge c.args.edges.now within c.index-edges-i.is refl
+          called c.each.invariant.0,
       omega (arith, c.keep_edge.ensures.capacity, c.each.invariant.1),
       omega (arith, c.keep_edge.ensures.len, c.each.invariant.2),
       c.keep_edge.ensures.nodes ∙ c.each.invariant.3,

@@ -1,4 +1,4 @@
-use Rattle.std.proofs.Common.{◌<◌, ◌+◌, map, length, refl, sym, ap, subst, ◌∙◌, of_calls, arith}
+use Rattle.std.proofs.Common.{◌<◌, ◌+◌, map, length, refl, sym, ap, subst, ◌∙◌, arith}
 use Rattle.std.proofs.lemmas.List.{length-map, length_push}
 use Rattle.daggy_graph.specs.Stored.{stored_graph}
 use Rattle.daggy_cells.specs.Fields.{weight_of}
@@ -6,7 +6,13 @@ use Rattle.daggy_base.specs.Filtering.{named, with_kept_node}
 use Rattle.daggy_graph.proofs.StoredLemmas.{stored_is, Stores-itself}
 use Rattle.daggy_cells.proofs.MappingLemmas.{CalledAt-from_step}
 use Rattle.daggy_graph.proofs.FilterLemmas.{FilteredBelow, FilteredBelow-called, FilteredBelow-done, Holds-read}
+use Rattle.daggy_base.proofs.CallsInTurn.{may_call, called_on}
 use Rattle.daggy_graph.proofs.graph.filter.filter_nodes.Goals as goal
+
+pub f-answer-requires : goal.f-answer-requires
+f-answer-requires g c =
+    rw c.new.ensures.value (may_call g.Ix.IndexType.of (goal.F-pre g) (goal.F-step g) (λ w. w) weight_of c.args.nodes.now (omega arith)
+    c.index-nodes-i.is refl c.each.invariant.0 _ refl)
 
 pub each-preserved : goal.each-preserved
 each-preserved g c =
@@ -28,7 +34,8 @@ each-preserved g c =
     let both =
     subst (λ z. FilteredBelow (goal.F-step g) g.Ix.IndexType.of c.args.f (map weight_of nodes) c.f-answer.new.self
     c.keep_node.new.names.items z (c.each.i + 1)) (sym shown) one in (
-      search of_calls,
+      called_on g.Ix.IndexType.of (goal.F-pre g) (goal.F-step g) (λ w. w) weight_of c.args.nodes.now within c.index-nodes-i.is refl called
+          c.each.invariant.0,
       omega (arith, c.keep_node.ensures.capacity, c.each.invariant.1),
       omega (arith, c.keep_node.ensures.capacity_for_names, c.each.invariant.2),
       omega (arith, c.keep_node.ensures.len, c.each.invariant.3),

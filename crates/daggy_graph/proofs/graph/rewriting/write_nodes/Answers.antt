@@ -1,9 +1,12 @@
-use Rattle.std.proofs.Common.{◌<◌, ◌≤◌, ◌≡◌, [], ◌∷◌, ◌++◌, length, drop, refl, ap, ◌∙◌, append-nil, of_calls, arith}
+use Rattle.std.proofs.Common.{◌<◌, ◌≤◌, ◌≡◌, [], ◌∷◌, ◌++◌, length, drop, refl, ap, ◌∙◌, append-nil, arith}
 use Rattle.std.proofs.lemmas.List.{drop_all, length-append, length-drop}
 use Rattle.daggy_base.specs.Rewriting.{Leaves}
 use Rattle.daggy_cells.specs.MappedCells.{node_weight_in, node_with}
 use Rattle.daggy_cells.proofs.MappingLemmas.{MappedBelow-called, MappedBelow-done}
 use Rattle.daggy_graph.proofs.RewritingLemmas.{read_old, written, left_at}
+use Rattle.daggy_base.proofs.CallsInTurn.{may_call, may_write, called_on}
+use Rattle.daggy_base.specs.CallsInTurn.{TakesToWrite}
+use Rattle.daggy_cells.specs.Fields.{weight_of}
 use Rattle.daggy_graph.proofs.graph.rewriting.write_nodes.Goals as goal
 
 pub each-init : goal.each-init
@@ -20,6 +23,15 @@ index_mut-x-requires g c =
       length-drop c.each.i c.args.nodes.now.items,
     )
 
+pub f-requires : goal.f-requires
+f-requires g c =
+    let (callable, done, is, below) = c.each.invariant in
+    let within : c.each.i < length c.args.nodes.now.items = omega arith in
+    let was =
+    read_old done c.args.nodes.now.items c.each.nodes.items c.each.i _ below.0 within is c.index_mut-x.ensures.value in
+    rw c.new.ensures.value (may_write (goal.F-pre g) c.each.f _ _
+    (may_call g.Ix.IndexType.of (TakesToWrite (goal.F-pre g)) (Leaves (goal.F-step g)) (λ w. w) weight_of c.args.nodes.now.items within was refl callable))
+
 pub each-preserved : goal.each-preserved
 each-preserved g c =
     let (callable, done, is, below) = c.each.invariant in
@@ -28,14 +40,14 @@ each-preserved g c =
     let y = node_with x c.f.new.arg3 in
     let called =
     left_at (goal.F-step g) g.Ix.IndexType.of c.each.f c.f.new.self c.each.i _ _
-    (rw c.new.ensures.value at c.f.ensures) in (
-      search of_calls,
+    (rw c.new.ensures.value at c.f.ensures) in
+    let was =
+    read_old done c.args.nodes.now.items c.each.nodes.items c.each.i x below.0 within is c.index_mut-x.ensures.value in (
+      called_on g.Ix.IndexType.of (TakesToWrite (goal.F-pre g)) (Leaves (goal.F-step g)) (λ w. w) weight_of c.args.nodes.now.items within was refl called callable,
       done ++ y ∷ [],
       written done c.args.nodes.now.items c.each.nodes.items c.each.i x below.0 within is y,
       MappedBelow-called (Leaves (goal.F-step g)) g.Ix.IndexType.of node_weight_in node_with c.args.f
-          c.args.nodes.now.items done within (read_old done
-          c.args.nodes.now.items c.each.nodes.items c.each.i x below.0 within is c.index_mut-x.ensures.value) called
-          below,
+          c.args.nodes.now.items done within was called below,
     )
 
 pub returns : goal.returns

@@ -7,6 +7,8 @@ use Rattle.daggy_stable.specs.Stored.{weight_of, plain_edge, stored_graph}
 use Rattle.daggy_stable.proofs.Stores.{nodes_long, edges_long, Stores-empty}
 use Rattle.daggy_base.proofs.SlotLists.{of_slots_descend}
 use Rattle.daggy_stable.proofs.KeptSlots.{slice_long, slice_few, slice_read, slice_joined}
+use Rattle.daggy_base.specs.CallsInTurn.{CanCallAtSlots, CanCallAtSomeSlots, CanCallAtNodes, CanCallAtSomeEdges}
+use Rattle.daggy_base.proofs.CallsInTurn.{call_up_to, call_some_up_to}
 use Rattle.daggy_stable.proofs.stable_graph.StableDiGraph.filter_map.Goals as goal
 
 pub slice_bounds-filter_nodes-end : goal.slice_bounds-filter_nodes-end
@@ -39,6 +41,24 @@ filter_edges-requires-clause-few g c =
     slice_few plain_edge c.self.inside.edges.items c.deref-2.result.now _
     (c.edge_bound-edge_bound.ensures ∙ sym (ap (λ s. edge_bound s.graph) c.self.view_is)) c.deref-2.ensures.value _
     (omega (arith, edges_long c.self.invariant, c.self.invariant.edge_slots.few))
+
+pub filter_nodes-requires-clause-callable : goal.filter_nodes-requires-clause-callable
+filter_nodes-requires-clause-callable g c =
+    subst (CanCallAtSlots g.Ix.IndexType.of (goal.F-pre g) (goal.F-step g) (λ w. w) c.args.f)
+    (sym (slice_read weight_of c.self.inside.nodes.items c.deref.result.now _
+    (c.node_bound-node_bound.ensures ∙ sym (ap (λ s. node_bound s.graph) c.self.view_is)) c.deref.ensures.value))
+    (call_up_to g.Ix.IndexType.of (goal.F-pre g) (goal.F-step g) (λ w. w) c.args.f _ (map weight_of c.self.inside.nodes.items)
+    (subst (λ s. CanCallAtNodes g.Ix.IndexType.of (goal.F-pre g) (goal.F-step g) c.args.f s.graph)
+    (sym c.self.view_is) c.requires.nodes))
+
+pub filter_edges-requires-clause-callable : goal.filter_edges-requires-clause-callable
+filter_edges-requires-clause-callable g c =
+    subst (CanCallAtSomeSlots g.Ix.IndexType.of (goal.G-pre g) (goal.G-step g) weight_in c.args.g)
+    (sym (slice_read plain_edge c.self.inside.edges.items c.deref-2.result.now _
+    (c.edge_bound-edge_bound.ensures ∙ sym (ap (λ s. edge_bound s.graph) c.self.view_is)) c.deref-2.ensures.value))
+    (call_some_up_to g.Ix.IndexType.of (goal.G-pre g) (goal.G-step g) weight_in c.args.g _ (map plain_edge c.self.inside.edges.items)
+    (subst (λ s. CanCallAtSomeEdges g.Ix.IndexType.of (goal.G-pre g) (goal.G-step g) c.args.g s.graph)
+    (sym c.self.view_is) c.requires.edges))
 
 pub returns-clause-filtered : goal.returns-clause-filtered
 returns-clause-filtered g c =

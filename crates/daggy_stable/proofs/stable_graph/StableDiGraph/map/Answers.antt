@@ -1,4 +1,4 @@
-use Rattle.std.proofs.Common.{map, length, subst, ap, ◌∙◌, arith}
+use Rattle.std.proofs.Common.{map, length, subst, sym, ap, ◌∙◌, arith}
 use Rattle.daggy_base.specs.Mapping.{MapsSlots, IsMapped, weight_in, with_weight}
 use Rattle.daggy_cells.specs.Fields.{firsts_of, nexts_of}
 use Rattle.daggy_stable.specs.Stored.{weight_of, plain_edge, stored_graph}
@@ -6,6 +6,7 @@ use Rattle.daggy_stable.proofs.Stores.{edges_long}
 use Rattle.daggy_stable.proofs.MappedSlots.{MapsStored, Stores-mapped, IsMapped-stored}
 use Rattle.daggy_stable.proofs.stable_graph.StableDiGraph.map.Given.{Over}
 use Rattle.daggy_stable.proofs.stable_graph.StableDiGraph.map.Goals.{After-map_edges}
+use Rattle.daggy_base.specs.CallsInTurn.{CanCallAtSlots, CanCallAtNodes, CanCallAtEdges}
 use Rattle.daggy_stable.proofs.stable_graph.StableDiGraph.map.Goals as goal
 
 -- the new slots are the mapped old ones
@@ -25,6 +26,20 @@ mapped g c =
       firsts = λ dir. c.map_nodes.ensures.links dir ∙ ap (firsts_of dir) c.as_slice.ensures.value;
       nexts = λ dir. c.map_edges.ensures.links dir ∙ ap (nexts_of dir) c.as_slice-2.ensures.value;
     }
+
+pub map_nodes-requires-clause-callable : goal.map_nodes-requires-clause-callable
+map_nodes-requires-clause-callable g c =
+    subst (λ l. CanCallAtSlots g.Ix.IndexType.of (goal.F-pre g) (goal.F-step g) (λ w. w) c.args.f
+    (map weight_of l)) (sym c.as_slice.ensures.value)
+    (subst (λ s. CanCallAtNodes g.Ix.IndexType.of (goal.F-pre g) (goal.F-step g) c.args.f s.graph)
+    (sym c.self.view_is) c.requires.nodes)
+
+pub map_edges-requires-clause-callable : goal.map_edges-requires-clause-callable
+map_edges-requires-clause-callable g c =
+    subst (λ l. CanCallAtSlots g.Ix.IndexType.of (goal.G-pre g) (goal.G-step g) weight_in c.args.g
+    (map plain_edge l)) (sym c.as_slice-2.ensures.value)
+    (subst (λ s. CanCallAtEdges g.Ix.IndexType.of (goal.G-pre g) (goal.G-step g) c.args.g s.graph)
+    (sym c.self.view_is) c.requires.edges)
 
 pub map_edges-requires-clause-few : goal.map_edges-requires-clause-few
 map_edges-requires-clause-few g c =

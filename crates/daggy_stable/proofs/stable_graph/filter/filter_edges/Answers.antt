@@ -1,5 +1,5 @@
-use Rattle.std.proofs.Common.{◌≡◌, ◌<◌, ◌+◌, [], ◌∷◌, ◌++◌, Option, Some, None, IsSome, map, length, get_or, sym, ap}
-use Rattle.std.proofs.Common.{subst, ◌∙◌, of_calls, arith}
+use Rattle.std.proofs.Common.{refl, ◌≡◌, ◌<◌, ◌+◌, [], ◌∷◌, ◌++◌, Option, Some, None, IsSome, map, length, get_or, sym, ap}
+use Rattle.std.proofs.Common.{subst, ◌∙◌, arith}
 use Rattle.std.proofs.lemmas.List.{length-map, get_or-map}
 use Rattle.std.specs.Option.{option_map}
 use Rattle.daggy_base.specs.Graph.{slot}
@@ -11,6 +11,7 @@ use Rattle.daggy_stable.specs.Stored.{weight_of, plain, plain_edge}
 use Rattle.daggy_stable.specs.Building.{between}
 use Rattle.daggy_stable.proofs.KeptSlots.{KeptSlots-passed, KeptSlots-called, KeptSlots-done, one_longer, joined_is}
 use Rattle.daggy_stable.proofs.KeptSlots.{lost_is}
+use Rattle.daggy_base.proofs.CallsInTurn.{may_call_some, called_some_on, passed_on}
 use Rattle.daggy_stable.proofs.stable_graph.filter.filter_edges.Goals as goal
 
 pub each-preserved-in-None : goal.each-preserved-in-None
@@ -27,7 +28,9 @@ each-preserved-in-None g c =
     let reads : get_or (map read edges) c.each.i None ≡ None =
     get_or-map read edges c.each.i x None within ∙ ap read (sym c.index-edges-i.is) ∙ lost in
     record {
-      callable = c.each.invariant.callable;
+      callable =
+          passed_on g.Ix.IndexType.of (goal.G-pre g) (goal.G-step g) weight_in plain_edge c.args.edges.now within c.index-edges-i.is
+          c.each.invariant.callable;
       capacity = omega (arith, c.leave_edge.ensures.capacity, c.each.invariant.capacity);
       count =
           one_longer plain_edge c.each.new.cells.items c.leave_edge.new.edges.cells.items None
@@ -39,6 +42,13 @@ each-preserved-in-None g c =
           KeptSlots-passed (goal.G-step g) g.Ix.IndexType.of weight_in with_weight c.args.g (map read edges) c.each.g _
           c.each.i slots reads c.leave_edge.ensures.edges c.each.invariant.kept;
     }
+
+pub g-answer-requires : goal.g-answer-requires
+g-answer-requires g c =
+    let now = map weight_of c.each.nodes.cells.items in
+    let j = joined_is now c.index-edges-i.result c.in-Some.old.now c.in-Some.ensures in
+    rw c.new.ensures.value (may_call_some g.Ix.IndexType.of (goal.G-pre g) (goal.G-step g) weight_in plain_edge c.args.edges.now
+    (omega arith) c.index-edges-i.is j.stored c.each.invariant.callable _ refl)
 
 pub keep_edge-requires-clause-parent : goal.keep_edge-requires-clause-parent
 keep_edge-requires-clause-parent g c =
@@ -75,7 +85,9 @@ each-preserved g c =
     ap (λ a. before ++ option_map (between a c.end-b.result) r ∷ []) c.end-a.ensures
     ∙ ap (λ b. before ++ option_map (between x.parent b) r ∷ []) c.end-b.ensures in
     record {
-      callable = search of_calls;
+      callable =
+          called_some_on g.Ix.IndexType.of (goal.G-pre g) (goal.G-step g) weight_in plain_edge c.args.edges.now within c.index-edges-i.is
+          j.stored called c.each.invariant.callable;
       capacity = omega (arith, c.keep_edge.ensures.capacity, c.each.invariant.capacity);
       count =
           one_longer plain_edge c.each.new.cells.items c.keep_edge.new.edges.cells.items _ c.keep_edge.ensures.edges

@@ -1,10 +1,11 @@
-use Rattle.std.proofs.Common.{◌≡◌, ◌<◌, ◌+◌, [], ◌∷◌, ◌++◌, Some, None, map, length, get_or, sym, ap, ◌∙◌, of_calls}
+use Rattle.std.proofs.Common.{refl, ◌≡◌, ◌<◌, ◌+◌, [], ◌∷◌, ◌++◌, Some, None, map, length, get_or, sym, ap, ◌∙◌}
 use Rattle.std.proofs.Common.{arith}
 use Rattle.std.proofs.lemmas.List.{length-map, get_or-map}
 use Rattle.daggy_cells.proofs.MappingLemmas.{CalledAt-from_step}
 use Rattle.daggy_stable.specs.Stored.{weight_of}
 use Rattle.daggy_stable.proofs.KeptSlots.{KeptSlots-passed, KeptSlots-called, KeptSlots-done, option_map_same}
 use Rattle.daggy_stable.proofs.KeptSlots.{one_longer}
+use Rattle.daggy_base.proofs.CallsInTurn.{may_call, called_on, vacant_on}
 use Rattle.daggy_stable.proofs.stable_graph.filter.filter_nodes.Goals as goal
 
 pub each-preserved-in-None : goal.each-preserved-in-None
@@ -17,7 +18,9 @@ each-preserved-in-None g c =
     get_or-map weight_of nodes c.each.i x None within ∙ ap weight_of (sym c.index-nodes-i.is)
     ∙ sym c.in-None.ensures.value in
     record {
-      callable = c.each.invariant.callable;
+      callable =
+          vacant_on g.Ix.IndexType.of (goal.F-pre g) (goal.F-step g) (λ w. w) weight_of c.args.nodes.now within c.index-nodes-i.is
+          (sym c.in-None.ensures.value) c.each.invariant.callable;
       capacity = omega (arith, c.keep_node.ensures.capacity, c.each.invariant.capacity);
       count =
           one_longer weight_of c.each.new.cells.items c.keep_node.new.nodes.cells.items None c.keep_node.ensures.weights
@@ -27,6 +30,12 @@ each-preserved-in-None g c =
           KeptSlots-passed (goal.F-step g) g.Ix.IndexType.of (λ w. w) (λ w v. v) c.args.f (map weight_of nodes) c.each.f
           _ c.each.i slots read c.keep_node.ensures.weights c.each.invariant.kept;
     }
+
+pub f-answer-requires : goal.f-answer-requires
+f-answer-requires g c =
+    rw c.new.ensures.value (may_call g.Ix.IndexType.of (goal.F-pre g) (goal.F-step g) (λ w. w) weight_of c.args.nodes.now
+    (omega arith) c.index-nodes-i.is (sym c.in-Some.ensures.value)
+    c.each.invariant.callable _ refl)
 
 pub each-preserved : goal.each-preserved
 each-preserved g c =
@@ -43,7 +52,9 @@ each-preserved g c =
     CalledAt-from_step (goal.F-step g) g.Ix.IndexType.of c.each.f c.each.i _ r c.f-answer.new.self
     (rw c.new.ensures.value at c.f-answer.ensures) in
     record {
-      callable = search of_calls;
+      callable =
+          called_on g.Ix.IndexType.of (goal.F-pre g) (goal.F-step g) (λ w. w) weight_of c.args.nodes.now within c.index-nodes-i.is
+          (sym c.in-Some.ensures.value) called c.each.invariant.callable;
       capacity = omega (arith, c.keep_node-in-each.ensures.capacity, c.each.invariant.capacity);
       count =
           one_longer weight_of c.each.new.cells.items c.keep_node-in-each.new.nodes.cells.items r

@@ -1,4 +1,4 @@
-use Rattle.std.proofs.Common.{◌+◌, Some, None, length, sym, ap, ◌∙◌, of_calls, arith}
+use Rattle.std.proofs.Common.{refl, ◌<◌, ◌+◌, Some, None, length, sym, ap, ◌∙◌, arith}
 use Rattle.std.proofs.lemmas.List.{length-map, length_push}
 use Rattle.std.specs.Option.{option_map}
 use Rattle.daggy_cells.specs.Raw.{raw_next}
@@ -7,6 +7,8 @@ use Rattle.daggy_cells.proofs.MappingLemmas.{CalledAt-from_step}
 use Rattle.daggy_stable.specs.Stored.{plain, plain_edge}
 use Rattle.daggy_stable.proofs.MappedSlots.{Reads, MappedSlots-pass, MappedSlots-call, MappedSlots-done, kept_more}
 use Rattle.daggy_stable.proofs.MappedSlots.{kept_all, edge_like_links}
+use Rattle.daggy_base.proofs.CallsInTurn.{may_call, called_on, vacant_on}
+use Rattle.daggy_base.specs.Mapping.{weight_in}
 use Rattle.daggy_stable.proofs.stable_graph.map.map_edges.Goals as goal
 
 pub each-preserved-in-None : goal.each-preserved-in-None
@@ -14,9 +16,12 @@ each-preserved-in-None g c =
     let edges = c.args.edges.now in
     let x = c.index-edges-i.result in
     let y = c.edge_like.result in
-    let at : Reads edges c.each.i x = record { within = omega arith; is = c.index-edges-i.is } in
+    let within : c.each.i < length edges = omega arith in
+    let at : Reads edges c.each.i x = record { within = within; is = c.index-edges-i.is } in
     record {
-      callable = c.each.invariant.callable;
+      callable =
+          vacant_on g.Ix.IndexType.of (goal.G-pre g) (goal.G-step g) weight_in plain_edge c.args.edges.now within c.index-edges-i.is
+          (ap (option_map (plain x)) (sym c.in-None.ensures.value)) c.each.invariant.callable;
       capacity = omega (arith, c.push_reserved.ensures.capacity, c.each.invariant.capacity);
       count =
           ap length c.push_reserved.ensures.items ∙ length_push c.each.new.items y
@@ -31,18 +36,27 @@ each-preserved-in-None g c =
           (ap (raw_next dir) c.edge_like.ensures ∙ edge_like_links dir x None) (c.each.invariant.links dir);
     }
 
+pub g-weight-requires : goal.g-weight-requires
+g-weight-requires g c =
+    rw c.new.ensures.value (may_call g.Ix.IndexType.of (goal.G-pre g) (goal.G-step g) weight_in plain_edge c.args.edges.now
+    (omega arith) c.index-edges-i.is (ap (option_map (plain c.index-edges-i.result)) (sym c.in-Some.ensures.value))
+    c.each.invariant.callable _ refl)
+
 pub each-preserved : goal.each-preserved
 each-preserved g c =
     let edges = c.args.edges.now in
     let x = c.index-edges-i.result in
     let y = c.edge_like-in-each.result in
     let w = c.g-weight.result in
-    let at : Reads edges c.each.i x = record { within = omega arith; is = c.index-edges-i.is } in
+    let within : c.each.i < length edges = omega arith in
+    let at : Reads edges c.each.i x = record { within = within; is = c.index-edges-i.is } in
     let called =
     CalledAt-from_step (goal.G-step g) g.Ix.IndexType.of c.each.g c.each.i _ w c.g-weight.new.self
     (rw c.new.ensures.value at c.g-weight.ensures) in
     record {
-      callable = search of_calls;
+      callable =
+          called_on g.Ix.IndexType.of (goal.G-pre g) (goal.G-step g) weight_in plain_edge c.args.edges.now within c.index-edges-i.is
+          (ap (option_map (plain x)) (sym c.in-Some.ensures.value)) called c.each.invariant.callable;
       capacity = omega (arith, c.push_reserved-in-each.ensures.capacity, c.each.invariant.capacity);
       count =
           ap length c.push_reserved-in-each.ensures.items ∙ length_push c.each.new.items y

@@ -1,4 +1,4 @@
-use Rattle.std.proofs.Common.{◌+◌, Some, None, length, sym, ap, ◌∙◌, of_calls, arith}
+use Rattle.std.proofs.Common.{refl, ◌<◌, ◌+◌, Some, None, length, sym, ap, ◌∙◌, arith}
 use Rattle.std.proofs.lemmas.List.{length-map, length_push}
 use Rattle.daggy_cells.specs.Raw.{raw_first}
 use Rattle.daggy_cells.specs.Fields.{firsts_of}
@@ -6,6 +6,7 @@ use Rattle.daggy_cells.proofs.MappingLemmas.{CalledAt-from_step}
 use Rattle.daggy_stable.specs.Stored.{weight_of}
 use Rattle.daggy_stable.proofs.MappedSlots.{Reads, MappedSlots-pass, MappedSlots-call, MappedSlots-done, kept_more}
 use Rattle.daggy_stable.proofs.MappedSlots.{kept_all, node_like_links}
+use Rattle.daggy_base.proofs.CallsInTurn.{may_call, called_on, vacant_on}
 use Rattle.daggy_stable.proofs.stable_graph.map.map_nodes.Goals as goal
 
 pub each-preserved-in-None : goal.each-preserved-in-None
@@ -13,9 +14,12 @@ each-preserved-in-None g c =
     let nodes = c.args.nodes.now in
     let x = c.index-nodes-i.result in
     let y = c.node_like.result in
-    let at : Reads nodes c.each.i x = record { within = omega arith; is = c.index-nodes-i.is } in
+    let within : c.each.i < length nodes = omega arith in
+    let at : Reads nodes c.each.i x = record { within = within; is = c.index-nodes-i.is } in
     record {
-      callable = c.each.invariant.callable;
+      callable =
+          vacant_on g.Ix.IndexType.of (goal.F-pre g) (goal.F-step g) (λ w. w) weight_of c.args.nodes.now within c.index-nodes-i.is
+          (sym c.in-None.ensures.value) c.each.invariant.callable;
       capacity = omega (arith, c.push_reserved.ensures.capacity, c.each.invariant.capacity);
       count =
           ap length c.push_reserved.ensures.items ∙ length_push c.each.new.items y
@@ -29,18 +33,27 @@ each-preserved-in-None g c =
           (ap (raw_first dir) c.node_like.ensures ∙ node_like_links dir x None) (c.each.invariant.links dir);
     }
 
+pub f-weight-requires : goal.f-weight-requires
+f-weight-requires g c =
+    rw c.new.ensures.value (may_call g.Ix.IndexType.of (goal.F-pre g) (goal.F-step g) (λ w. w) weight_of c.args.nodes.now
+    (omega arith) c.index-nodes-i.is (sym c.in-Some.ensures.value)
+    c.each.invariant.callable _ refl)
+
 pub each-preserved : goal.each-preserved
 each-preserved g c =
     let nodes = c.args.nodes.now in
     let x = c.index-nodes-i.result in
     let y = c.node_like-in-each.result in
     let v = c.f-weight.result in
-    let at : Reads nodes c.each.i x = record { within = omega arith; is = c.index-nodes-i.is } in
+    let within : c.each.i < length nodes = omega arith in
+    let at : Reads nodes c.each.i x = record { within = within; is = c.index-nodes-i.is } in
     let called =
     CalledAt-from_step (goal.F-step g) g.Ix.IndexType.of c.each.f c.each.i _ v c.f-weight.new.self
     (rw c.new.ensures.value at c.f-weight.ensures) in
     record {
-      callable = search of_calls;
+      callable =
+          called_on g.Ix.IndexType.of (goal.F-pre g) (goal.F-step g) (λ w. w) weight_of c.args.nodes.now within c.index-nodes-i.is
+          (sym c.in-Some.ensures.value) called c.each.invariant.callable;
       capacity = omega (arith, c.push_reserved-in-each.ensures.capacity, c.each.invariant.capacity);
       count =
           ap length c.push_reserved-in-each.ensures.items ∙ length_push c.each.new.items y

@@ -3,6 +3,12 @@ use Rattle.daggy_order.proofs.OrderLaws.{acyclic_from_order}
 use Rattle.daggy_dag.proofs.Filtered.{names_lower, names_differ, names_many, names_cover, order_renamed, fits_filtered}
 use Rattle.daggy_dag.proofs.acyclic.compact.map.Acyclic+N+E+Ix+DiGraph+N+E+Ix.filter_map.Goals as goal
 
+pub filter_map_named-requires-clause-nodes : goal.filter_map_named-requires-clause-nodes
+filter_map_named-requires-clause-nodes g c = rw (← c.self.view_is) at c.requires.nodes
+
+pub filter_map_named-requires-clause-edges : goal.filter_map_named-requires-clause-edges
+filter_map_named-requires-clause-edges g c = rw (← c.self.view_is) at c.requires.edges
+
 pub rename_all-requires-clause-few : goal.rename_all-requires-clause-few
 rename_all-requires-clause-few g c =
     let made = c.in_ok-store.ensures.filtered in

@@ -2,6 +2,9 @@ use Rattle.daggy_order.proofs.OrderLaws.{acyclic_from_order}
 use Rattle.daggy_dag.proofs.Rewritten.{nodes_rewritten}
 use Rattle.daggy_dag.proofs.acyclic.compact.rewriting.Acyclic+N+E+Ix+DiGraph+N+E+Ix.update_node_weights.Goals as goal
 
+pub update_node_weights-requires : goal.update_node_weights-requires
+update_node_weights-requires g c = rw (← c.self.view_is) at c.requires
+
 pub invariant_of-self : goal.invariant_of-self
 invariant_of-self g c =
     nodes_rewritten _ g.Ix.IndexType.of c.args.f _ _ _ c.self.invariant (goal.F-step g)

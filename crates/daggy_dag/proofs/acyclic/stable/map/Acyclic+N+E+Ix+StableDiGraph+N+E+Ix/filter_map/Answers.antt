@@ -3,6 +3,12 @@ use Rattle.daggy_dag.proofs.OrderKept.{order_below}
 use Rattle.daggy_dag.proofs.KeptInPlace.{order_kept, fits_kept}
 use Rattle.daggy_dag.proofs.acyclic.stable.map.Acyclic+N+E+Ix+StableDiGraph+N+E+Ix.filter_map.Goals as goal
 
+pub filter_map-requires-clause-nodes : goal.filter_map-requires-clause-nodes
+filter_map-requires-clause-nodes g c = rw (← c.self.view_is) at c.requires.nodes
+
+pub filter_map-requires-clause-edges : goal.filter_map-requires-clause-edges
+filter_map-requires-clause-edges g c = rw (← c.self.view_is) at c.requires.edges
+
 pub keep_existing-requires-clause-below : goal.keep_existing-requires-clause-below
 keep_existing-requires-clause-below g c =
     order_below _ _ _ _ c.node_slots-slots.ensures c.in_ok-order.ensures c.self.invariant.0

@@ -2,6 +2,12 @@ use Rattle.daggy_order.proofs.OrderLaws.{acyclic_from_order}
 use Rattle.daggy_dag.proofs.Mapped.{order_mapped, fits_mapped}
 use Rattle.daggy_dag.proofs.acyclic.stable.map.Acyclic+N+E+Ix+StableDiGraph+N+E+Ix.map.Goals as goal
 
+pub map-requires-clause-nodes : goal.map-requires-clause-nodes
+map-requires-clause-nodes g c = rw (← c.self.view_is) at c.requires.nodes
+
+pub map-requires-clause-edges : goal.map-requires-clause-edges
+map-requires-clause-edges g c = rw (← c.self.view_is) at c.requires.edges
+
 pub invariant_of-result : goal.invariant_of-result
 invariant_of-result g c = (
   order_mapped _ _ _ _ _ _ _ c.in_ok-store.ensures.mapped c.in_ok-order.ensures c.self.invariant.0,
