@@ -31,7 +31,7 @@ edges_from g (n ∷ ns) = length (out_list g n) + edges_from g ns
 abbrev pub stretch : List ℕ → (low high : ℕ) → List ℕ
 stretch order low high = drop low (take high order)
 
--- The nodes from the place low up to the place high set anew: first those that fail the test, then those that pass it,
+-- The nodes from the place low up to the place high set again: first those that fail the test, then those that pass it,
 -- each group in its old order.
 abbrev pub parted : (ℕ → Bool) → List ℕ → (low high : ℕ) → List ℕ
 parted test order low high =

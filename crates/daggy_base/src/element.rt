@@ -1,9 +1,9 @@
-//! What graphs are made from: lists of edges, and lists of nodes and edges.
+//! Lists of edges, and lists of nodes and edges, that graphs are made from.
 ghost use Rattle.std.specs.Prelude.{◌≡◌};
 
 use crate::index::NodeIndex;
 
-/// What an edge can be made of: the nodes that it leads from and to, with a weight or without.
+/// What an edge can be made of: its endpoints, with or without a weight.
 ///
 /// A pair of nodes stands for an edge of the default weight.
 pub trait IntoWeightedEdge<E> {
@@ -38,7 +38,7 @@ impl<Ix, E> IntoWeightedEdge<E> for (NodeIndex<Ix>, NodeIndex<Ix>, E) {
     }
 }
 
-/// A part of a graph, in a list that a graph is made from.
+/// A node or an edge of a list that a graph is made from.
 #[derive(Debug, Clone, Copy, Drop, PartialEq, Eq)]
 pub enum Element<N, E> {
     /// A node. The first one in a list is at position 0, the next at 1, and so on.

@@ -1,5 +1,5 @@
-//! What both kinds of graph stand on: typed indices, errors, sources of edges, and what a store
-//! offers.
+//! What both kinds of graph share: typed indices, errors, sources of edges, and the trait of a
+//! store.
 #![tactic(auto)]
 
 pub mod element;

@@ -1,18 +1,19 @@
-//! Memory that is taken before it is written.
+//! Memory that is reserved before it is written.
 ghost use Rattle.std.specs.Prelude.{◌≡◌, ◌≤◌, vec_len, vec_capacity, IsOk, OnOk};
 
 use std::alloc::AllocError;
 
-// For how many items memory is taken at least, as a `Vec` does.
+// The least capacity that is reserved, as in `Vec`.
 const LEAST: usize = 4;
 
-/// Takes memory for so many items, and writes none of it. Where it must grow, it grows to twice
-/// the capacity at least.
+/// Reserves capacity for `len` items in all. If it must grow, it at least doubles.
 ///
-/// A list without items is given new memory. The old one would be copied whole to grow, though
-/// nothing was written there.
+/// An empty list gets a new buffer instead of a grown one: `realloc` would copy the whole old
+/// buffer, which holds nothing.
 ///
-/// The error says that memory was refused. The list is as it was.
+/// # Errors
+///
+/// Returns `AllocError` if an allocation fails; the list is unchanged.
 pub fn reserve<T: Drop>(list: &mut Vec<T>, len: usize) -> Result<(), AllocError>
     ensures ok { OnOk result (len ≤ vec_capacity list.new) }
     ensures capacity { vec_capacity list.old ≤ vec_capacity list.new }

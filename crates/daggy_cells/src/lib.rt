@@ -1,4 +1,4 @@
-//! What graphs are stored in: nodes and edges with links to each other.
+//! The cells of the stores: nodes and edges with links to each other.
 #![tactic(auto)]
 
 pub mod cell;

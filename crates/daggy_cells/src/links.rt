@@ -43,7 +43,7 @@ pub fn node_like<N, V, Ix: IndexType>(x: &Node<N, Ix>, weight: V) -> Node<V, Ix>
     }
 }
 
-/// The link to the first edge of a node's list of that direction.
+/// The link to the first edge of a node's list in direction `dir`.
 #[inline]
 pub fn first<N, Ix: IndexType>(x: &Node<N, Ix>, dir: Direction) -> Link<Ix>
     ensures { result ≡ raw_first dir x.now }
@@ -54,7 +54,7 @@ pub fn first<N, Ix: IndexType>(x: &Node<N, Ix>, dir: Direction) -> Link<Ix>
     }
 }
 
-/// Writes the link to the first edge of a node's list of that direction.
+/// Sets the link to the first edge of a node's list in direction `dir`.
 #[inline]
 pub fn set_first<N, Ix: IndexType>(x: &mut Node<N, Ix>, dir: Direction, e: Link<Ix>)
     ensures { x.new ≡ with_first dir x.old e }
@@ -105,7 +105,7 @@ pub fn edge_like<E, W, Ix: IndexType>(x: &Edge<E, Ix>, weight: W) -> Edge<W, Ix>
     }
 }
 
-/// The link to the edge after this one in its list of that direction.
+/// The link to the edge after this one in its list in direction `dir`.
 #[inline]
 pub fn next<E, Ix: IndexType>(x: &Edge<E, Ix>, dir: Direction) -> Link<Ix>
     ensures { result ≡ raw_next dir x.now }
@@ -116,7 +116,7 @@ pub fn next<E, Ix: IndexType>(x: &Edge<E, Ix>, dir: Direction) -> Link<Ix>
     }
 }
 
-/// Writes the link to the edge after this one in its list of that direction.
+/// Sets the link to the edge after this one in its list in direction `dir`.
 #[inline]
 pub fn set_next<E, Ix: IndexType>(x: &mut Edge<E, Ix>, dir: Direction, e: Link<Ix>)
     ensures { x.new ≡ with_next dir x.old e }
@@ -127,7 +127,7 @@ pub fn set_next<E, Ix: IndexType>(x: &mut Edge<E, Ix>, dir: Direction, e: Link<I
     }
 }
 
-/// The link to the node whose list of that direction an edge stands in.
+/// The link to the node whose list in direction `dir` holds the edge.
 #[inline]
 pub fn end<E, Ix: IndexType>(x: &Edge<E, Ix>, dir: Direction) -> Link<Ix>
     ensures { result ≡ end_at dir x.now }
@@ -148,8 +148,8 @@ fn set_end<E, Ix: IndexType>(x: &mut Edge<E, Ix>, dir: Direction, n: Link<Ix>)
     }
 }
 
-/// Puts the edge `e` first in the out list of `a` and in the in list of `b`, and gives what is
-/// stored of it.
+/// Puts the edge `e` first in the out list of `a` and in the in list of `b`, and returns the cell
+/// to store.
 #[inline]
 pub fn put_first<N, E, Ix: IndexType>(
     nodes: &mut Vec<Node<N, Ix>>,
@@ -220,7 +220,7 @@ pub struct ListHead<Ix: IndexType> {
 }
 
 impl<Ix: IndexType> ListHead<Ix> {
-    /// The head of the list of that direction that an edge stands in.
+    /// The head of the list in direction `dir` that holds an edge.
     #[inline]
     pub fn of<N, E>(
         nodes: &Vec<Node<N, Ix>>,
@@ -255,10 +255,12 @@ impl<Ix: IndexType> ListHead<Ix> {
     }
 }
 
-/// Leads the one link to `old` in its list of that direction to `new` instead. `head` is where that
-/// list begins.
+/// Replaces the link to `old` in its list in direction `dir` by a link to `new`. `head` is where
+/// that list begins.
 ///
-/// The cost grows with the number of edges before `old` in that list.
+/// # Complexity
+///
+/// O(edges before `old` in that list).
 pub fn redirect<N, E, Ix: IndexType>(
     nodes: &mut Vec<Node<N, Ix>>,
     edges: &mut Vec<Edge<E, Ix>>,
@@ -285,8 +287,8 @@ pub fn redirect<N, E, Ix: IndexType>(
     }
 }
 
-/// Gives the edges of the list that begins with `first`, which are all those of the node `from`,
-/// to the node `to`.
+/// Makes `to` the endpoint of all edges of the list that begins with `first`, which are those of
+/// the node `from`.
 pub fn reown<E, Ix: IndexType>(
     edges: &mut Vec<Edge<E, Ix>>,
     dir: Direction,
@@ -315,7 +317,7 @@ pub fn reown<E, Ix: IndexType>(
     }
 }
 
-/// Threads the edges of `list`, in its order, as the list of that direction of the node `n`.
+/// Links the edges of `list`, in this order, as the list of node `n` in direction `dir`.
 pub fn thread<N, E, Ix: IndexType>(
     nodes: &mut Vec<Node<N, Ix>>,
     edges: &mut Vec<Edge<E, Ix>>,
@@ -342,7 +344,7 @@ pub fn thread<N, E, Ix: IndexType>(
     set_first(&mut nodes[n], dir, after);
 }
 
-/// Threads both lists of the node `n` in these orders, the out list and the in list.
+/// Links both lists of the node `n` in these orders, the out list and the in list.
 pub fn thread_both<N, E, Ix: IndexType>(
     nodes: &mut Vec<Node<N, Ix>>,
     edges: &mut Vec<Edge<E, Ix>>,

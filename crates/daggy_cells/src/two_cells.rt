@@ -1,10 +1,12 @@
-//! Two items of a list to write at once.
+//! Mutable access to two items of a list at once.
 ghost use Rattle.std.specs.Prelude.{◌≢◌, ◌<◌, length, slice_get, slice_set};
 ghost use Rattle.daggy_base.specs.Calls.{TakesAtTwo, CalledAtTwo};
 
-/// Calls `f` with two items of a list, both to be written, and gives what `f` gives.
+/// Calls `f` with mutable references to two items of a list, and returns its result.
 ///
-/// The cost is constant, besides that of `f`.
+/// # Complexity
+///
+/// O(1), plus the call.
 #[inline]
 pub fn at_two<C, R, F: FnOnce(&mut C, &mut C) -> R>(cells: &mut [C], a: usize, b: usize, f: F) -> R
     requires first { a < length cells.old }

@@ -7,7 +7,7 @@ use Rattle.daggy_commands.specs.declared.command.Back.TheVariants as back
 use Rattle.daggy_commands.specs.declared.command.Reply.{Reply}
 use Rattle.daggy_commands.specs.declared.command.Reply.TheVariants as reply
 
--- the weights that are handed back: none, a node's, an edge's, both, or those of the edge at fault and of the edges
+-- the weights that are returned: none, a node's, an edge's, both, or those of the edge at fault and of the edges
 -- before it, the last one first
 pub data Weights (N E : Type 0) : Type 0 where
   OfNothing : Weights N E
@@ -16,7 +16,7 @@ pub data Weights (N E : Type 0) : Type 0 where
   OfEdgeNode : E → N → Weights N E
   OfEdges : (last : E) (before : List E) → Weights N E
 
--- what a reply hands back, by plain values
+-- what a reply returns, by plain values
 abbrev pub weights_of : {N E : Type 0} → Back N E → Weights N E
 weights_of back.Nothing = OfNothing
 weights_of (back.Node weight) = OfNode weight

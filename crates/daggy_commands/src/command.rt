@@ -8,7 +8,7 @@ pub type Neighbor<Ix> = (EdgeIndex<Ix>, NodeIndex<Ix>);
 /// An edge to be added: its parent, its child and its weight.
 pub type NewEdge<E, Ix> = (NodeIndex<Ix>, NodeIndex<Ix>, E);
 
-/// What is asked of a dag. Any index may be named, also one that does not exist.
+/// A command to a dag. Indices need not exist.
 #[derive(Debug, Drop, PartialEq)]
 pub enum Command<N, E, Ix = DefaultIx> {
     /// Add a node of this weight.
@@ -25,7 +25,7 @@ pub enum Command<N, E, Ix = DefaultIx> {
     Edges(Vec<NewEdge<E, Ix>>),
     /// Find the newest edge from the first node to the second.
     Find(NodeIndex<Ix>, NodeIndex<Ix>),
-    /// Tell the parent and the child of an edge.
+    /// Return the parent and the child of an edge.
     Ends(EdgeIndex<Ix>),
     /// Remove a node with its edges.
     RemoveNode(NodeIndex<Ix>),
@@ -43,7 +43,7 @@ pub enum Command<N, E, Ix = DefaultIx> {
     Reduce(Vec<NodeIndex<Ix>>),
 }
 
-/// What a command is answered.
+/// The reply to a command.
 #[derive(Debug, Drop, PartialEq)]
 pub enum Reply<N, E, Ix = DefaultIx> {
     /// The node that was added.
@@ -72,29 +72,29 @@ pub enum Reply<N, E, Ix = DefaultIx> {
     Full(Back<N, E>),
     /// The edge of this weight would close a cycle. Nothing has changed.
     Cycle(E),
-    /// All these edges together would close a cycle. Nothing has changed. The weights come last one
-    /// first.
+    /// All these edges together would close a cycle. Nothing has changed. The weights are in
+    /// reverse order.
     CycleAll(Vec<E>),
-    /// There was no memory. Nothing has changed.
+    /// Out of memory. Nothing has changed.
     Memory(Back<N, E>),
 }
 
-/// The weights of a command that was not carried out.
+/// The weights returned by a failed command.
 #[derive(Debug, Drop, PartialEq)]
 pub enum Back<N, E> {
-    /// The command had none.
+    /// None.
     Nothing,
-    /// That of the node.
+    /// The node's.
     Node(N),
-    /// That of the edge.
+    /// The edge's.
     Edge(E),
-    /// That of the edge, and that of the node.
+    /// The edge's and the node's.
     EdgeNode(E, N),
-    /// Those of many edges. No edge behind the one at fault was looked at.
+    /// Those of a batch of edges, up to the offending one.
     Edges {
-        /// The weight of the edge at fault.
+        /// The weight of the offending edge.
         last: E,
-        /// The weights of the edges before it, the last one first.
+        /// The weights of the edges before it, in reverse order.
         before: Vec<E>,
     },
 }

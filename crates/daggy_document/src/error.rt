@@ -6,16 +6,16 @@ ghost use Rattle.daggy_document.specs.declared.error.ReadError.TheVariants.{Memo
 use std::alloc::{AllocError, AllocFailed};
 use thiserror::Error;
 
-/// A dag was not written.
+/// Writing a document failed.
 #[derive(Clone, Copy, Debug, Drop, Eq, Error, PartialEq)]
 pub enum WriteError {
-    /// There was no memory for the value, or a function that gives a weight's value found none.
+    /// Out of memory, here or in a function that encodes a weight.
     #[error("out of memory")]
     Memory,
 }
 
-/// A value was not read. It is the first fault of the value, in the order of this list; the entries
-/// of the edges are tested one after the other, and each for its shape, its ends and its weight.
+/// Reading a document failed. The error is the first fault, in the order of the variants; edge
+/// entries are checked one by one, each for its shape, its endpoints and its weight.
 #[derive(Clone, Copy, Debug, Drop, Eq, Error, PartialEq)]
 pub enum ReadError {
     /// It is no object, `nodes` or `edges` is no array, `edge_property` is no text, or `node_holes`
@@ -26,8 +26,7 @@ pub enum ReadError {
     /// `edge_property` is not `directed`.
     #[error("not directed")]
     Property,
-    /// The holes do not ascend, or one is past the number of nodes and holes. A compact dag has no
-    /// holes.
+    /// The holes do not ascend, or one is too large. A compact dag has no holes.
     #[error("wrong holes")]
     Holes,
     /// The index type has too few indices.
@@ -45,7 +44,7 @@ pub enum ReadError {
     /// The graph has a cycle.
     #[error("document has a cycle")]
     Cycle,
-    /// There was no memory for the dag, or a function that reads weights found none.
+    /// Out of memory, here or in a function that reads a weight.
     #[error("out of memory")]
     Memory,
 }

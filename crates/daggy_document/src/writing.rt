@@ -105,7 +105,7 @@ fn write_entries<Ix: IndexType, S: Store<Ix>, G: Fn(&S::EdgeWeight) -> Result<Va
         (take (edge_bound (S.graph store.now)) (S.graph store.now).edges) (map view v.items)) }
 {
     let bound = store.edge_bound();
-    // Asked for its contract alone: there is an index for each edge.
+    // Called only for its postcondition: there is an index for each edge.
     let _well_formed = store.edge_count();
     let mut entries = Vec::new(alloc);
     entries.reserve(bound)?;
@@ -127,7 +127,7 @@ fn write_list<Ix: IndexType, S: Store<Ix>>(
     ensures { IfOk result (λ v.
         map view v.items ≡ map whole (list_at dir (S.graph store.now) (Ix.number n))) }
 {
-    // Asked for its contract alone: the list has the edges of the node, each once.
+    // Called only for its postcondition: the list has the edges of the node, each once.
     let _well_formed = store.edge_count();
     let end = EdgeIndex::<Ix>::end().index();
     let mut list = Vec::new(alloc);
@@ -199,8 +199,13 @@ fn assemble(
 
 /// The document of the graph of a store.
 ///
-/// The error says that there was no memory. The cost grows with the number of nodes and edges,
-/// besides that of the calls.
+/// # Errors
+///
+/// `Memory` if an allocation fails.
+///
+/// # Complexity
+///
+/// O(nodes + edges), plus the calls.
 pub fn write_document<
     Ix: IndexType,
     S: Store<Ix>,

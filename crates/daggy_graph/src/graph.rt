@@ -1,4 +1,4 @@
-//! A directed graph whose nodes and edges fill the indices from 0 on.
+//! A directed graph with compact indices.
 ghost use Rattle.std.specs.Prelude.{◌≡◌, ℕ, ◌<◌, ◌↔◌, IsTrue, IfOk, OnOk, IfErr, OnErr};
 ghost use Rattle.std.specs.Option.{option_map};
 ghost use Rattle.daggy_base.specs.Graph.{empty, edge_at, HasNode, HasEdge};
@@ -44,16 +44,13 @@ pub use daggy_cells::reference::EdgeReference;
 use std::alloc::Global;
 use std::marker::Model;
 
-/// A directed graph. Any number of edges may lead from one node to another, and an edge may lead
-/// from a node to itself.
+/// A directed graph. Parallel edges and self-loops are allowed.
 ///
-/// The indices of its nodes are the numbers below the count of its nodes, and so are those of its
-/// edges. A removal gives the index of what it removed to the node or the edge with the last index,
-/// and so changes that index. Adding is constant time, as are all calls that read, but for those
-/// that say otherwise.
+/// Its nodes are numbered from 0 to their count, and so are its edges. A removal moves the last
+/// node or edge into the freed index. All operations are O(1) unless stated otherwise.
 ///
-/// `Ix` is the number type that indices are kept in. It bounds how many nodes and how many edges
-/// there may be.
+/// `Ix` is the integer type of the indices. It bounds how many nodes and how many edges there may
+/// be.
 #[derive(Drop)]
 pub struct DiGraph<N, E, Ix: IndexType = DefaultIx> {
     nodes: Vec<Node<N, Ix>>,
@@ -75,7 +72,7 @@ impl<N, E, Ix: IndexType> Model for DiGraph<N, E, Ix> {
 }
 
 impl<N, E, Ix: IndexType> DiGraph<N, E, Ix> {
-    /// A graph with no node and no edge. It takes no memory yet.
+    /// An empty graph. Does not allocate.
     pub fn new(alloc: Global) -> Self
         ensures { result ≡ record { graph = empty; looks = 0 } }
     {
@@ -102,10 +99,15 @@ impl<N, E, Ix: IndexType> DiGraph<N, E, Ix> {
         e.index() < self.edges.len()
     }
 
-    /// Adds a node, whose index is the number of nodes before.
+    /// Adds a node. Its index is the previous node count.
     ///
-    /// The error says that memory for it was refused. It holds the weight, and the graph is as it
-    /// was. The cost is constant, taken over many calls.
+    /// # Errors
+    ///
+    /// `Memory` with the weight if an allocation fails; the graph is unchanged.
+    ///
+    /// # Complexity
+    ///
+    /// Amortized O(1).
     #[inline]
     pub fn add_node(&mut self, weight: N) -> Result<NodeIndex<Ix>, NodeError<N>>
         requires { node_count_of self.old.graph < Ix.greatest }
@@ -122,11 +124,16 @@ impl<N, E, Ix: IndexType> DiGraph<N, E, Ix> {
         Ok(n.node())
     }
 
-    /// Adds an edge from `a` to `b`, whose index is the number of edges before. It is then the
-    /// first edge that leaves `a`, and the first that enters `b`.
+    /// Adds an edge from `a` to `b`. Its index is the previous edge count, and it is first in the
+    /// lists of `a` and of `b`.
     ///
-    /// The error says that memory for it was refused. It holds the weight, and the graph is as it
-    /// was. The cost is constant, taken over many calls.
+    /// # Errors
+    ///
+    /// `Memory` with the weight if an allocation fails; the graph is unchanged.
+    ///
+    /// # Complexity
+    ///
+    /// Amortized O(1).
     #[inline]
     pub fn add_edge(
         &mut self,
@@ -193,9 +200,11 @@ impl<N, E, Ix: IndexType> DiGraph<N, E, Ix> {
         links::next(x, dir).edge()
     }
 
-    /// The first edge from `a` to `b`, of those that leave `a`, if there is one.
+    /// The first edge from `a` to `b` in the out list of `a`, if there is one.
     ///
-    /// The cost grows with the number of edges that leave `a`.
+    /// # Complexity
+    ///
+    /// O(edges out of `a`).
     pub fn find_edge(&self, a: NodeIndex<Ix>, b: NodeIndex<Ix>) -> Option<EdgeIndex<Ix>>
         ensures { option_map Ix.number result
             ≡ edge_between self.now.graph (Ix.number a) (Ix.number b) }

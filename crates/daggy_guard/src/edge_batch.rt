@@ -1,4 +1,4 @@
-//! Many edges at once: all or none.
+//! Batches of edges: all or none.
 ghost use Rattle.std.specs.Prelude.{◌≡◌, ℕ, ◌+◌, ◌<◌, ◌≤◌, ◌↔◌, ◌⊎◌, true, false, List, [], ◌∷◌};
 ghost use Rattle.std.specs.Prelude.{◌++◌, length, map, reverse, vec_len, vec_capacity, Contains};
 ghost use Rattle.std.specs.Prelude.{IfOk, OnOk, IfErr, OnErr};
@@ -23,7 +23,7 @@ use daggy_base::store::Store;
 use daggy_order::order::Order;
 use daggy_search::Scratch;
 
-// What keeps an edge from being added, with its weight.
+// Why an edge cannot be added, with its weight.
 #[derive(Drop)]
 pub(crate) enum Fault<E> {
     BadEndpoint(E),
@@ -32,7 +32,7 @@ pub(crate) enum Fault<E> {
 }
 
 impl<E> Fault<E> {
-    // The refusal of a whole batch, with the weights of the edges before this one.
+    // The error of a whole batch, with the weights of the edges before this one.
     fn after(self, before: Vec<E>) -> EdgesError<E>
         ensures { result ≡ refusal self before }
     {
@@ -44,7 +44,7 @@ impl<E> Fault<E> {
     }
 }
 
-// Takes back the edges of a batch, the last one first, and hands their weights back in that order.
+// Takes back the edges of a batch, the last one first, and returns their weights in that order.
 fn roll_back<Ix: IndexType, S: Store<Ix>>(
     store: &mut S,
     edges: &[EdgeIndex<Ix>],
@@ -76,14 +76,14 @@ fn roll_back<Ix: IndexType, S: Store<Ix>>(
     }
 }
 
-// How the order stands to the edges of a batch that were added so far.
+// How the order relates to the edges of a batch that were added so far.
 #[derive(Clone, Copy)]
 pub(crate) enum Standing {
-    // It agrees with each of them.
+    // It agrees with all of them.
     Kept,
-    // It agrees with each of them, and one after the first took no look.
+    // It agrees with all of them, and one after the first needed no search.
     Spared,
-    // It was left as it is at one that it does not agree with. All nodes are sorted at the end.
+    // It was abandoned at an edge that conflicts with it. All nodes are sorted at the end.
     Left,
     // One of them closed a cycle.
     Closed,
@@ -92,19 +92,21 @@ pub(crate) enum Standing {
 // A batch of fewer edges is never long.
 const LONG: usize = 32;
 
-// The graph has at most so many times as many nodes as a long batch has edges, and as many edges.
+// A batch is long if it has at least 1/SHARE as many edges as the graph has nodes, and as the graph
+// has edges.
 const SHARE: usize = 16;
 
-// Whether sorting all nodes costs no more than a small multiple of a batch of so many edges.
+// Whether sorting all nodes costs at most a small multiple of adding a batch of `count` edges.
 fn is_long(count: usize, nodes: usize, edges: usize) -> bool {
     count >= LONG && count >= nodes / SHARE && count >= edges / SHARE
 }
 
-// Makes way for an edge of a batch that `count` others come before.
+// Updates the order for the edge after the first `count` of a batch.
 //
-// Once one closed a cycle no way is made. A search for each edge would cost more than sorting all
-// nodes once, where the batch is long beside the graph: the order is left then. It is not where no
-// look was spared yet, so that there are no more looks than if way were made for each.
+// After the first edge that closes a cycle it does nothing. If the batch is long compared with the
+// graph, searching for each edge would cost more than sorting all nodes once, so the order is
+// abandoned. It is abandoned only once some edge has needed no search; otherwise sorting could read
+// more edges than the searches would.
 fn order_item<Ix: IndexType, S: Store<Ix>>(
     store: &mut S,
     order: &mut Order<Ix>,
@@ -148,8 +150,8 @@ fn order_item<Ix: IndexType, S: Store<Ix>>(
     }
 }
 
-// Adds one edge of a batch, and notes its index. Room for its weight is taken first, for when it is
-// handed back.
+// Adds one edge of a batch, and notes its index. Memory to return its weight in an error is
+// reserved first.
 fn add_item<Ix: IndexType, S: Store<Ix>>(
     store: &mut S,
     order: &mut Order<Ix>,
@@ -206,8 +208,8 @@ fn add_item<Ix: IndexType, S: Store<Ix>>(
     }
 }
 
-// Brings the order to agree with all edges of a batch. Whether it can: it stays where one of them
-// closes a cycle.
+// Makes the order consistent with every edge of the batch. Returns false, with the order unchanged,
+// if one of them closes a cycle.
 fn settle<Ix: IndexType, S: Store<Ix>>(
     store: &mut S,
     order: &mut Order<Ix>,
@@ -234,7 +236,7 @@ fn settle<Ix: IndexType, S: Store<Ix>>(
     }
 }
 
-// Adds all edges that an iterator gives, or none.
+// Adds all edges that an iterator yields, or none.
 fn add_all<
     Ix: IndexType,
     S: Store<Ix>,
@@ -290,7 +292,7 @@ fn add_all<
     Ok(EdgeIndices::new(edges))
 }
 
-/// Adds all the edges that `items` gives, or none.
+/// Adds all the edges that `items` yields, or none.
 pub fn add_edges<
     Ix: IndexType,
     S: Store<Ix>,

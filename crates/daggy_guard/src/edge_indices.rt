@@ -32,8 +32,8 @@ impl<Ix: IndexType> EdgeIndices<Ix> {
         EdgeIndices { indices, at: 0 }
     }
 
-    /// The indices that were not given yet, as a list. Takes no memory, and if none was given moves
-    /// nothing.
+    /// The indices not yielded yet, as a list. Does not allocate; does not move anything unless the
+    /// iterator was advanced.
     pub fn into_vec(self) -> Vec<EdgeIndex<Ix>>
         ensures { map Ix.number result.items ≡ self }
     {

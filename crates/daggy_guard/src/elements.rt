@@ -104,7 +104,7 @@ fn add_element<Ix: IndexType, S: Store<Ix>>(
     }
 }
 
-// Adds the elements that an iterator gives, up to the first one that is refused.
+// Adds the elements that an iterator yields, up to the first one that fails.
 fn add_all<Ix: IndexType, S: Store<Ix>, I: Iterator<Item = Element<S::NodeWeight, S::EdgeWeight>>>(
     store: &mut S,
     order: &mut Order<Ix>,
@@ -131,7 +131,7 @@ fn add_all<Ix: IndexType, S: Store<Ix>, I: Iterator<Item = Element<S::NodeWeight
     Ok(())
 }
 
-/// Adds the elements that `items` gives, one by one, up to the first one that is refused.
+/// Adds the elements that `items` yields, one by one, up to the first one that fails.
 pub fn add_elements<
     Ix: IndexType,
     S: Store<Ix>,

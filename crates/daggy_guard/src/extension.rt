@@ -1,4 +1,4 @@
-//! Edges one by one, each after the nodes that it asks for.
+//! Edges added one by one, each after the nodes that it needs.
 ghost use Rattle.std.specs.Prelude.{◌≡◌, ℕ, ◌+◌, ◌<◌, ◌≤◌, OnOk, OnErr, IfErr};
 ghost use Rattle.std.specs.Iterator.{IsFinite, IsFiniteIterable};
 ghost use Rattle.daggy_base.specs.Graph.{node_bound, edge_count};
@@ -46,7 +46,7 @@ where
     Ok(())
 }
 
-// Adds one edge, after the nodes that it asks for. Its refusal keeps those nodes.
+// Adds one edge, after the nodes that it needs. If the edge fails those nodes stay.
 fn extend_by<Ix: IndexType, S: Store<Ix>>(
     store: &mut S,
     order: &mut Order<Ix>,
@@ -90,7 +90,7 @@ where
     }
 }
 
-// Adds the edges that an iterator gives, up to the first one that is refused.
+// Adds the edges that an iterator yields, up to the first one that fails.
 fn extend_all<
     Ix: IndexType,
     S: Store<Ix>,
@@ -128,8 +128,8 @@ where
     Ok(())
 }
 
-/// Adds the edges that `items` gives, one by one, up to the first one that is refused. What was
-/// added stays.
+/// Adds the edges that `items` yields, one by one, up to the first one that fails. What was added
+/// stays.
 pub fn extend_with_edges<
     Ix: IndexType,
     S: Store<Ix>,

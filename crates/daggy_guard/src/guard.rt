@@ -25,8 +25,7 @@ use daggy_order::order::{Order, order_edge};
 use daggy_search::Scratch;
 use std::alloc::AllocError;
 
-// Puts a new node last in an order, where edges are to lead to it, or first, where they are to
-// leave it.
+// Puts a new node last in an order if edges will lead to it, or first if they will leave it.
 #[inline]
 fn put<Ix: IndexType>(
     order: &mut Order<Ix>,
@@ -44,8 +43,8 @@ fn put<Ix: IndexType>(
     }
 }
 
-// Takes back a node that was just added, and hands its weight back. There were so many slots
-// before. Apart, so that what is inlined stays small.
+// Takes back a node that was just added, and returns its weight. There were `slot_count` slots
+// before. Out of line, to keep the inlined part small.
 #[cold]
 #[inline(never)]
 fn take_back<Ix: IndexType, S: Store<Ix>>(
@@ -66,8 +65,8 @@ fn take_back<Ix: IndexType, S: Store<Ix>>(
     store.take_back_node(n, slot_count <= n.index())
 }
 
-// Adds a node, and puts it last in the order, or first. The scratch fits a search of the graph with
-// that node then. Inlined always, since a loop of additions takes a fifth less time so.
+// Adds a node, and puts it last or first in the order. The scratch fits searches of the graph with
+// that node. Always inlined: a loop of additions takes a fifth less time.
 #[inline(always)]
 fn put_node<Ix: IndexType, S: Store<Ix>>(
     store: &mut S,
@@ -106,8 +105,7 @@ fn put_node<Ix: IndexType, S: Store<Ix>>(
     }
 }
 
-/// Adds a node, which stands last in the order, after the scratch fits a search of the graph with
-/// that node.
+/// Adds a node, last in the order. The scratch fits searches of the graph with that node.
 #[inline]
 pub fn add_node<Ix: IndexType, S: Store<Ix>>(
     store: &mut S,
@@ -141,11 +139,10 @@ fn has_parents<Ix: IndexType, S: Store<Ix>>(store: &S, n: NodeIndex<Ix>) -> bool
     store.first_edge(n, Direction::Incoming).index() != EdgeIndex::<Ix>::end().index()
 }
 
-// Of how many parents a node is asked before a search is begun in place of that.
+// A node with this many parents or more is searched for.
 const FEW_PARENTS: usize = 4;
 
-// Whether all parents of `a` stand before `b`. Where there are many, the answer may be false though
-// they do.
+// Whether all parents of `a` precede `b`. If there are `FEW_PARENTS` or more, the answer is false.
 fn parents_stand_before<Ix: IndexType, S: Store<Ix>>(
     store: &S,
     order: &Order<Ix>,
@@ -170,11 +167,11 @@ fn parents_stand_before<Ix: IndexType, S: Store<Ix>>(
     false
 }
 
-// Makes way in the order for an edge from `a` to `b`, unless a path leads from `b` to `a`.
+// Updates the order for a new edge from `a` to `b`. Returns false if a path leads from `b` to `a`.
 //
-// Where no edge leads to `a` it is put first, and where its parents all stand before `b` it is put
-// right before `b`, without a search. So nodes that are added after their children, as where each
-// one depends on older ones, cost no search.
+// If no edge leads to `a` it is moved to the front, and if its few parents all precede `b` it is
+// moved right before `b`, without a search. So nodes that are added after their children, as when
+// each one depends on older ones, need no search.
 #[inline]
 pub(crate) fn make_way<Ix: IndexType, S: Store<Ix>>(
     store: &mut S,
@@ -214,7 +211,7 @@ pub(crate) fn make_way<Ix: IndexType, S: Store<Ix>>(
     order_edge(store, order, a, b, scratch)
 }
 
-/// Adds an edge from `a` to `b`, unless a path leads from `b` to `a`. The order makes way for it.
+/// Adds an edge from `a` to `b`, unless a path leads from `b` to `a`, and updates the order.
 #[inline]
 pub fn add_edge<Ix: IndexType, S: Store<Ix>>(
     store: &mut S,
@@ -253,8 +250,8 @@ pub fn add_edge<Ix: IndexType, S: Store<Ix>>(
     store.add_edge(a, b, weight)
 }
 
-/// Writes the weight of the edge that is found between `a` and `b`, or adds an edge as [`add_edge`]
-/// if there is none.
+/// Replaces the weight of the edge that is found between `a` and `b`, or adds an edge as
+/// [`add_edge`] does if there is none.
 pub fn update_edge<Ix: IndexType, S: Store<Ix>>(
     store: &mut S,
     order: &mut Order<Ix>,
@@ -325,8 +322,8 @@ fn link<Ix: IndexType, S: Store<Ix>>(
     }
 }
 
-/// Adds a node, and an edge from `n` to it or from it to `n`, or neither. A new child stands last
-/// in the order, a new parent first.
+/// Adds a node, and an edge from `n` to it or from it to `n`, or neither. A new child is last in
+/// the order, a new parent first.
 #[inline]
 pub fn add_neighbor<Ix: IndexType, S: Store<Ix>>(
     store: &mut S,
@@ -368,7 +365,7 @@ pub fn add_neighbor<Ix: IndexType, S: Store<Ix>>(
     }
 }
 
-/// Removes an edge, if it is there. An order of the nodes stays one.
+/// Removes an edge, if it exists. The order remains valid.
 pub fn remove_edge<Ix: IndexType, S: Store<Ix>>(
     store: &mut S,
     e: EdgeIndex<Ix>,
@@ -386,7 +383,7 @@ pub fn remove_edge<Ix: IndexType, S: Store<Ix>>(
     store.remove_edge(e)
 }
 
-// Takes a removed node out of an order. If the node of the index `last` was moved to its index, it
+// Takes a removed node out of an order. If the node with index `last` moved to its index, that node
 // is renamed.
 #[inline]
 fn take_out<Ix: IndexType>(order: &mut Order<Ix>, n: NodeIndex<Ix>, last: usize, moved: bool)
@@ -404,10 +401,11 @@ fn take_out<Ix: IndexType>(order: &mut Order<Ix>, n: NodeIndex<Ix>, last: usize,
     }
 }
 
-// Whether the list of each far end of a node's edges begins with an edge of that end. They all do.
+// Reads where the list of each neighbor of a node begins. The answer is always true.
 //
-// A removal of these edges reads where those lists begin, one after the other, and waits for each.
-// None of the reads here waits for another, and what they read is near when it is needed.
+// This is a prefetch. A removal of these edges reads the same list heads, and each read waits for
+// the removal before it; here reads at different neighbors overlap, and wait only for the walk
+// along the node's own list. The compiler does not know the answer, so it keeps the reads.
 #[inline]
 fn far_lists_begin<Ix: IndexType, S: Store<Ix>>(store: &S, n: NodeIndex<Ix>, dir: Direction) -> bool
     ensures { IsTrue result }
@@ -429,7 +427,7 @@ fn far_lists_begin<Ix: IndexType, S: Store<Ix>>(store: &S, n: NodeIndex<Ix>, dir
     true
 }
 
-/// Removes a node with its edges, if it is there, and takes it out of the order.
+/// Removes a node with its edges, if it exists, and takes it out of the order.
 pub fn remove_node<Ix: IndexType, S: Store<Ix>>(
     store: &mut S,
     order: &mut Order<Ix>,
@@ -446,7 +444,7 @@ pub fn remove_node<Ix: IndexType, S: Store<Ix>>(
     ensures counted { S.looks store.new ≡ S.looks store.old }
 {
     let slot_count = store.node_slots();
-    // Never so: the lists are asked for the sake of what is read then.
+    // Never taken: this is a prefetch.
     if !far_lists_begin(store, n, Direction::Outgoing)
         || !far_lists_begin(store, n, Direction::Incoming)
     {

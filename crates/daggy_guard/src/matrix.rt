@@ -8,10 +8,15 @@ use daggy_base::store::Store;
 use daggy_walk::visit::AdjMatrix;
 use std::alloc::{AllocError, Global};
 
-/// The pairs of nodes that an edge of the store joins. `Err` says that there is no memory.
+/// The pairs of nodes that an edge of the store joins.
 ///
-/// Takes time in proportion to the bound of the edges, and to a 64th of the square of the bound of
-/// the nodes.
+/// # Errors
+///
+/// Returns `AllocError` if an allocation fails.
+///
+/// # Complexity
+///
+/// O(edge bound + (node bound)^2 / 64).
 pub fn adjacency_matrix<Ix: IndexType, S: Store<Ix>>(
     store: &S,
     alloc: Global,

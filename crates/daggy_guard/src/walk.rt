@@ -1,4 +1,4 @@
-//! One step along a list of edges, for the walkers of both kinds of dag.
+//! The step of the walkers of both kinds of dag.
 ghost use Rattle.std.specs.Prelude.{◌≡◌};
 ghost use Rattle.std.specs.Option.{option_map};
 ghost use Rattle.daggy_base.specs.Graph.{pair_of};
@@ -7,8 +7,8 @@ ghost use Rattle.daggy_base.specs.Cursor.{IsWalkStep};
 use daggy_base::index::{Direction, EdgeIndex, IndexType, NodeIndex};
 use daggy_base::store::Store;
 
-/// Gives the edge that the cursor names with its far end, if that edge exists, and moves the cursor
-/// to the edge after it in its list.
+/// Returns the edge under the cursor with its far end, if that edge exists, and moves the cursor to
+/// the edge after it in its list.
 #[inline]
 pub fn step<Ix: IndexType, S: Store<Ix>>(
     store: &S,

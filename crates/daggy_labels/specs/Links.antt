@@ -21,7 +21,7 @@ abbrev pub nodes_from : (end : ℕ) → List ℕ → (from count : ℕ) → List
 nodes_from end next from zero = []
 nodes_from end next from (suc count) = from ∷ nodes_from end next (slice_index_or next from end) count
 
--- where a node leads, and `end`, which stands before the first node and behind the last, leads to `outer`
+-- where a node leads, and `end`, which stands before the first node and after the last, leads to `outer`
 abbrev pub neighbor : (end outer : ℕ) → List ℕ → ℕ → ℕ
 neighbor end outer links n = if n == end then outer else slice_index_or links n end
 
@@ -61,7 +61,7 @@ pub record HasSegment (end : ℕ) (nodes : List ℕ) (from count : ℕ) : Type 0
   pub behind : List ℕ
   pub is_run : IsSegment end nodes from count before run behind
 
--- labels that ascend along a list but for `count` nodes behind a, of which the first is `from`, and `after` what
+-- labels that ascend along a list but for `count` nodes after a, of which the first is `from`, and `after` what
 -- follows the last
 pub record HasGap (end : ℕ) (labels nodes : List ℕ) (a from count after : ℕ) : Type 0 where
   pub before : List ℕ
@@ -80,7 +80,7 @@ pub record HasLast (labels nodes : List ℕ) (last n : ℕ) : Type 0 where
   pub ends : (ns : List ℕ) (m : ℕ) → before ≡ ns ++ m ∷ [] → last ≡ m
   pub ascending : LabelsAscend labels 0 before (2 ^ 64)
 
--- labels that ascend along a list but for the first node n, behind which stands `first`
+-- labels that ascend along a list but for the first node n, after which stands `first`
 pub record HasFirst (end : ℕ) (labels nodes : List ℕ) (first n : ℕ) : Type 0 where
   pub behind : List ℕ
   pub is : nodes ≡ n ∷ behind
@@ -103,7 +103,7 @@ pub record StandBefore (nodes : List ℕ) (a : ℕ) (ns : List ℕ) : Type 0 whe
   pub is : nodes ≡ before ++ a ∷ behind
   pub stand : (n : ℕ) → Contains ns n → Contains before n
 
--- Of the nodes before a, those in `ns` are put behind it, ordered as they stood.
+-- Of the nodes before a, those in `ns` are put after it, ordered as they stood.
 pub record IsMoved (a : ℕ) (ns old new : List ℕ) : Type 0 where
   pub test : ℕ → Bool
   pub exact : (n : ℕ) → (test n ≡ true) ↔ Contains ns n
@@ -117,7 +117,7 @@ abbrev pub without_all : List ℕ → List ℕ → List ℕ
 without_all [] nodes = nodes
 without_all (n ∷ ns) nodes = without_all ns (without n nodes)
 
--- nodes that are written, behind which stand nodes in turn that are not: these are above all others, and there is
+-- nodes that are written, after which stand nodes in turn that are not: these are above all others, and there is
 -- memory to write them
 pub record IsTailed (end : ℕ) (nodes : List ℕ) (capacity from count index_bound : ℕ) : Type 0 where
   pub below : (n : ℕ) → Contains nodes n → n < from
@@ -125,7 +125,7 @@ pub record IsTailed (end : ℕ) (nodes : List ℕ) (capacity from count index_bo
   pub within : index_bound ≤ capacity
   pub fits : 0 < count → from + count ≤ index_bound
 
--- where one is who has yet to go over the last nodes of a list, and behind it over nodes in turn
+-- where one is who has yet to go over the last nodes of a list, and after it over nodes in turn
 pub record IsAmong (end : ℕ) (nodes : List ℕ) (left at from count : ℕ) : Type 0 where
   pub written : IsAt end nodes left at
   pub real : from + count ≤ end

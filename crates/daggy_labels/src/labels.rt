@@ -9,10 +9,10 @@ use crate::links::Links;
 use daggy_base::index::IndexType;
 use daggy_base::link::Link;
 
-// How far labels lie apart where there is room.
+// The gap between labels where there is room.
 const STEP: u64 = 1 << 32;
 
-// Between which labels all are made anew, so that there is room at both ends.
+// The label range used by a full relabelling; it leaves room at both ends.
 const LOWEST: u64 = 1 << 61;
 
 const HIGHEST: u64 = LOWEST + (1 << 63);
@@ -50,7 +50,7 @@ fn number<Ix: IndexType>(
     }
 }
 
-// The label of a node, or the greatest label where there is no node.
+// The label of a node, or the greatest label if there is no node.
 #[inline]
 fn label_or_end<Ix: IndexType>(labels: &Vec<u64>, n: Link<Ix>) -> u64
     requires { (n ≢ Ix.greatest) → (n < vec_len labels.now) }
@@ -65,7 +65,7 @@ fn label_or_end<Ix: IndexType>(labels: &Vec<u64>, n: Link<Ix>) -> u64
     }
 }
 
-// How far labels of `count` nodes can lie apart between two labels, or 0 where these leave no room.
+// The widest gap between the labels of `count` nodes between two labels, or 0 if there is no room.
 #[inline]
 fn gap_between(low: u64, high: u64, count: usize) -> u64
     requires order { low ≤ high }
@@ -76,7 +76,7 @@ fn gap_between(low: u64, high: u64, count: usize) -> u64
     ((high - low) / (count as u64 + 1)).min(STEP)
 }
 
-/// Labels all nodes anew, around the middle.
+/// Relabels all nodes, around the middle of the range.
 #[cold]
 #[inline(never)]
 pub fn label_all<Ix: IndexType>(links: &Links<Ix>, labels: &mut Vec<u64>)
@@ -92,9 +92,9 @@ pub fn label_all<Ix: IndexType>(links: &Links<Ix>, labels: &mut Vec<u64>)
     number(links, labels, first, count, LOWEST, gap);
 }
 
-// Labels the `count` nodes that stand behind `a`, of which `from` is the first and `after` follows
-// the last. Where the next label leaves no room, nodes behind them are labelled too, as many as it
-// takes for gaps as wide as their number. Says whether there was room.
+// Labels the `count` nodes after `a` (from `from` up to, not including, `after`). If the gap is too
+// narrow, widens the run until the gaps are at least as wide as the run is long. Returns false if
+// the end of the list is reached first.
 fn number_window<Ix: IndexType>(
     links: &Links<Ix>,
     labels: &mut Vec<u64>,
@@ -128,8 +128,8 @@ fn number_window<Ix: IndexType>(
     false
 }
 
-/// Labels the `count` nodes that stand behind `a`, of which `from` is the first and `after` follows
-/// the last, and others anew where it takes that.
+/// Labels the `count` nodes after `a` (from `from` up to, not including, `after`), and relabels
+/// others if there is no room.
 pub fn spread<Ix: IndexType>(
     links: &Links<Ix>,
     labels: &mut Vec<u64>,
@@ -149,7 +149,7 @@ pub fn spread<Ix: IndexType>(
     }
 }
 
-/// Labels a node that was put last, behind `last`, or into an order of no nodes.
+/// Labels a node that was put last, after `last`, or into an empty order.
 #[inline]
 pub fn label_last<Ix: IndexType>(
     links: &Links<Ix>,
@@ -176,7 +176,7 @@ pub fn label_last<Ix: IndexType>(
     }
 }
 
-/// Labels a node that was put first, before `first`, or into an order of no nodes.
+/// Labels a node that was put first, before `first`, or into an empty order.
 #[inline]
 pub fn label_first<Ix: IndexType>(
     links: &Links<Ix>,

@@ -1,4 +1,4 @@
-//! A list of nodes that are linked both ways and have labels that ascend along the list.
+//! An order-maintenance list: nodes linked both ways, with labels that ascend along the list.
 #![tactic(auto)]
 
 pub mod labels;

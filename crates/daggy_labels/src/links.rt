@@ -1,4 +1,4 @@
-//! A list of nodes, each of which leads to the next and to the one before it.
+//! A doubly linked list of nodes.
 ghost use Rattle.std.specs.Prelude.{◌≡◌, ◌≢◌, ℕ, ◌+◌, ◌<◌, ◌≤◌, ◌⊎◌, ◌^◌, [], ◌∷◌, ◌++◌, List};
 ghost use Rattle.std.specs.Prelude.{Contains, length, vec_len, vec_capacity, slice_index_or, max};
 ghost use Rattle.std.specs.Prelude.{IfOk, IsOk, OnOk, OnErr};
@@ -13,10 +13,9 @@ use daggy_base::reserved::reserve;
 use std::alloc::{AllocError, Global};
 use std::marker::Model;
 
-/// A list of nodes in which a node is put, or taken out, without a look at the others.
+/// A doubly linked list of nodes, stored by index.
 ///
-/// `end` stands before the first node and behind the last: it leads to the first, and back to the
-/// last.
+/// `end` is a sentinel: it is before the first node and after the last.
 #[derive(Drop)]
 pub struct Links<Ix: IndexType> {
     next: Vec<Link<Ix>>,
@@ -43,12 +42,12 @@ impl<Ix: IndexType> Model for Links<Ix> {
         (nodes_from Ix.greatest l.next.items l.first l.count) };
 }
 
-// How many elements a list is made longer by at most, so that they are still near when they are
-// written. Its memory doubles all the same.
+// The most elements initialised at once, so that they are still in the cache when used. Capacity
+// still doubles.
 const STRETCH: usize = 512;
 
-/// Makes a list longer than `n`, with its elements as they were and `value` behind them. It grows
-/// by doubling while it is short, but not beyond the memory that it has, if that is enough.
+/// Makes a list longer than `n`, with its elements as they were and `value` after them. It grows by
+/// doubling while it is short, but not beyond the memory that it has, if that is enough.
 #[inline]
 pub fn grow<T: Copy + Drop>(list: &mut Vec<T>, n: usize, value: T) -> Result<(), AllocError>
     requires { n + 1 < 2 ^ 64 }
@@ -71,7 +70,7 @@ pub fn grow<T: Copy + Drop>(list: &mut Vec<T>, n: usize, value: T) -> Result<(),
     Ok(())
 }
 
-// Makes a list so long, with its elements as they were and `value` behind them.
+// Makes a list so long, with its elements as they were and `value` after them.
 #[inline]
 fn lengthen<T: Copy + Drop>(list: &mut Vec<T>, len: usize, value: T) -> Result<(), AllocError>
     requires { vec_len list.old ≤ len }
@@ -84,7 +83,7 @@ fn lengthen<T: Copy + Drop>(list: &mut Vec<T>, len: usize, value: T) -> Result<(
     list.resize(len, value)
 }
 
-// Makes a list at least so long, with its elements as they were and `value` behind them. There is
+// Makes a list at least so long, with its elements as they were and `value` after them. There is
 // memory for it.
 fn lengthen_within<T: Copy + Drop>(list: &mut Vec<T>, len: usize, value: T)
     requires { len ≤ vec_capacity list.old }
@@ -99,8 +98,8 @@ fn lengthen_within<T: Copy + Drop>(list: &mut Vec<T>, len: usize, value: T)
     }
 }
 
-// How long a list is made where it is to be longer than `bound`, within its memory: by more than
-// that, so that this is seldom done.
+// The new length when growing past `bound` within the capacity: more than needed, so that growth is
+// rare.
 #[inline]
 fn stretched(bound: usize, capacity: usize) -> usize
     requires { bound ≤ capacity }
@@ -277,7 +276,7 @@ impl<Ix: IndexType> Links<Ix> {
         self.count += 1;
     }
 
-    /// Puts a node behind another.
+    /// Puts a node after another.
     #[inline]
     pub fn put_behind(&mut self, p: Link<Ix>, n: Link<Ix>)
         requires held { Contains self.old.nodes p }

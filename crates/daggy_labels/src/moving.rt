@@ -1,4 +1,4 @@
-//! How nodes of an order are moved behind another.
+//! How nodes of an order are moved after another.
 ghost use Rattle.std.specs.Prelude.{◌≡◌, ℕ, ◌<◌, ◌≤◌, ◌++◌, ◌∷◌, List, Contains, length};
 ghost use Rattle.std.specs.Prelude.{slice_index, vec_len};
 ghost use Rattle.std.specs.List.Sorted.{IsPermutation, IsNonDecreasingBy};
@@ -27,7 +27,7 @@ pub fn sort_by_label<Ix: IndexType>(nodes: &mut [Link<Ix>], labels: &[u64])
     nodes.sort_unstable_by_key(|n| label_of(labels, *n));
 }
 
-/// Puts nodes that stand before `a` behind it, in their order.
+/// Puts nodes that stand before `a` after it, in their order.
 pub fn move_behind<Ix: IndexType>(links: &mut Links<Ix>, a: Link<Ix>, nodes: &[Link<Ix>])
     requires stand { StandBefore links.old.nodes a nodes.now }
     requires distinct { AreDistinct nodes.now }

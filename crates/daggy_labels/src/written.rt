@@ -16,10 +16,11 @@ use daggy_base::reserved::reserve;
 use std::alloc::{AllocError, Global};
 use std::marker::Model;
 
-/// A list of nodes, each at most once, in which nodes come and go at both ends and can be moved.
+/// An ordered list of distinct nodes that can be added at both ends, removed and moved.
 ///
-/// Each node leads to the next and to the one before it, and has a label. Labels ascend along the
-/// list, so two of them tell which node stands before the other.
+/// An order-maintenance list (after Dietz and Sleator): each node is linked to its neighbors and
+/// has a label. Labels ascend along the list, so comparing two of them tells which node comes
+/// first.
 #[derive(Drop)]
 pub struct Written<Ix: IndexType> {
     pub links: Links<Ix>,
@@ -38,8 +39,8 @@ impl<Ix: IndexType> Model for Written<Ix> {
     ghost invariant = { λ o. IsLabelled o.labels.items o.links.nodes };
 }
 
-/// The nodes behind the written ones: `count` of them, whose indices follow one another from `from`
-/// on. Nodes below `index_bound` can be written without new memory.
+/// The run after the written nodes: `count` consecutive indices from `from` on. Nodes below
+/// `index_bound` can be written without allocating.
 #[derive(Clone, Copy)]
 pub struct Tail {
     pub from: usize,
@@ -187,7 +188,7 @@ impl<Ix: IndexType> Written<Ix> {
         i < self.labels.len() && self.labels[i] > 0
     }
 
-    /// Whether one node of it stands before another.
+    /// Whether one node precedes another.
     #[inline]
     pub fn stands_before(&self, a: NodeIndex<Ix>, b: NodeIndex<Ix>) -> bool
         requires first { Contains self.now.nodes (Ix.number a) }
@@ -198,7 +199,7 @@ impl<Ix: IndexType> Written<Ix> {
         self.labels[a.index()] < self.labels[b.index()]
     }
 
-    /// Below which number there is memory for nodes.
+    /// There is memory for nodes with an index below this.
     #[inline]
     pub fn capacity(&self) -> usize
         ensures { result ≡ self.now.capacity }
@@ -206,8 +207,8 @@ impl<Ix: IndexType> Written<Ix> {
         self.links.capacity().min(self.labels.capacity())
     }
 
-    /// Takes memory for nodes below `bound`, and says below which number there is memory for nodes.
-    /// Writes nothing.
+    /// Reserves memory for nodes with an index below `bound`, and returns below which index there
+    /// is memory then. Writes nothing.
     pub fn reserve(&mut self, bound: usize) -> Result<usize, AllocError>
         ensures ok { IfOk result (λ index_bound. bound ≤ index_bound) }
         ensures index_bound { IfOk result (λ index_bound. index_bound ≡ self.new.capacity) }
@@ -219,7 +220,7 @@ impl<Ix: IndexType> Written<Ix> {
         Ok(index_bound.min(self.labels.capacity()))
     }
 
-    /// Writes the nodes of a tail. There is memory for them. The tail that is left is empty.
+    /// Writes the nodes of a tail, for which there is memory. The tail is empty then.
     #[inline]
     pub fn settle(&mut self, tail: Tail) -> Tail
         requires { IsTailed Ix.greatest self.old.nodes self.old.capacity tail.from tail.count
@@ -252,8 +253,12 @@ impl<Ix: IndexType> Written<Ix> {
         put_in_turn(&mut self.links, &mut self.labels, tail.from, tail.count);
     }
 
-    /// Puts a node last. Constant time, but for growth, and where labels reach the end of their
-    /// range: all are made anew then, once in many million nodes.
+    /// Puts a node last.
+    ///
+    /// # Complexity
+    ///
+    /// Amortized O(1); if labels reach the end of their range, once in many million nodes, all
+    /// nodes are relabelled.
     #[inline]
     pub fn push(&mut self, n: NodeIndex<Ix>) -> Result<(), AllocError>
         requires real { Ix.number n < Ix.greatest }
@@ -268,8 +273,7 @@ impl<Ix: IndexType> Written<Ix> {
         Ok(())
     }
 
-    /// Takes a node out. Constant time. Apart, as `write_tail` is, so that `Order::remove` stays
-    /// small where it is inlined.
+    /// Takes a node out, in O(1). Out of line, to keep `Order::remove` small where it is inlined.
     #[inline(never)]
     pub fn remove(&mut self, n: NodeIndex<Ix>)
         requires { Contains self.old.nodes (Ix.number n) }
@@ -278,8 +282,8 @@ impl<Ix: IndexType> Written<Ix> {
         take_out(&mut self.links, &mut self.labels, n);
     }
 
-    /// Gives a node the index `m` in its place, as where a graph moves its last node into a gap.
-    /// Constant time.
+    /// Renames a node to `m`, in its place, as when a graph moves its last node into a freed index.
+    /// O(1).
     #[inline]
     pub fn rename(&mut self, n: NodeIndex<Ix>, m: NodeIndex<Ix>)
         requires held { Contains self.old.nodes (Ix.number n) }
@@ -297,7 +301,7 @@ impl<Ix: IndexType> Written<Ix> {
         self.links.remove(n);
     }
 
-    /// Puts a node first. The cost is that of `push`.
+    /// Puts a node first, at the cost of `push`.
     #[inline]
     pub fn push_first(&mut self, n: NodeIndex<Ix>) -> Result<(), AllocError>
         requires real { Ix.number n < Ix.greatest }
@@ -312,7 +316,7 @@ impl<Ix: IndexType> Written<Ix> {
         Ok(())
     }
 
-    /// Puts a node of it first. Constant time, but where labels reach the start of their range.
+    /// Moves a node to the front. O(1), unless labels reach the start of their range.
     pub fn move_first(&mut self, n: NodeIndex<Ix>)
         requires { Contains self.old.nodes (Ix.number n) }
         ensures { self.new.nodes ≡ Ix.number n ∷ without (Ix.number n) self.old.nodes }
@@ -321,7 +325,7 @@ impl<Ix: IndexType> Written<Ix> {
         put_first(&mut self.links, &mut self.labels, Link::of_node(n));
     }
 
-    /// Puts a node of it before another. Constant time, but where labels leave no room.
+    /// Moves a node before another. O(1), unless labels leave no room.
     pub fn move_before(&mut self, n: NodeIndex<Ix>, b: NodeIndex<Ix>)
         requires held { Contains self.old.nodes (Ix.number n) }
         requires there { Contains self.old.nodes (Ix.number b) }
@@ -338,7 +342,7 @@ impl<Ix: IndexType> Written<Ix> {
         );
     }
 
-    /// At which place a node of it stands. The nodes before it are counted.
+    /// The position of a node. O(position).
     pub fn place(&self, n: NodeIndex<Ix>) -> usize
         requires { Contains self.now.nodes (Ix.number n) }
         ensures { result ≡ place self.now.nodes (Ix.number n) }
@@ -354,7 +358,7 @@ impl<Ix: IndexType> Written<Ix> {
         self.links.len()
     }
 
-    /// The node at a place. The nodes before it are counted.
+    /// The node at a position. O(position).
     pub fn at(&self, place: usize) -> NodeIndex<Ix>
         requires { place < length self.now.nodes }
         ensures { Ix.number result ≡ slice_index self.now.nodes place }
@@ -376,7 +380,7 @@ impl<Ix: IndexType> Written<Ix> {
         })
     }
 
-    /// Takes all nodes out, and keeps the memory. Constant time.
+    /// Removes all nodes, and keeps the capacity. O(1).
     #[inline]
     pub fn clear(&mut self)
         ensures { self.new.nodes ≡ [] }

@@ -1,4 +1,4 @@
-//! An order of a graph's nodes in which parents come before their children, kept from edge to edge.
+//! A topological order of a graph's nodes that is maintained as edges come.
 #![tactic(auto)]
 
 pub mod order;

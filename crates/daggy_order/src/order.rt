@@ -20,11 +20,11 @@ mod sorting;
 pub use edge::order_edge;
 pub use nodes::Nodes;
 
-/// A list of nodes, each at most once, in which nodes come and go at both ends and can be moved.
+/// An ordered list of distinct nodes that can be added at both ends, removed and moved.
 ///
-/// Last nodes that came in turn, each with the index that follows the one before it, are only
-/// counted. They are written once the list changes in another way, in memory that was taken when
-/// they came, so that time is theirs: each is written once.
+/// A trailing run of consecutive indices is stored as a range. The first change of any other kind
+/// writes the run out, into memory reserved when the nodes were pushed; each node is written at
+/// most once, so `push` stays amortized O(1).
 #[derive(Drop)]
 pub struct Order<Ix: IndexType = DefaultIx> {
     written: Written<Ix>,
@@ -46,7 +46,7 @@ impl<Ix: IndexType> Model for Order<Ix> {
 }
 
 impl<Ix: IndexType> Order<Ix> {
-    /// An order of no nodes, in memory that it will take from `alloc`. Takes none.
+    /// An empty order. Does not allocate.
     pub fn new(alloc: Global) -> Self
         ensures { result ≡ [] }
     {
@@ -69,7 +69,7 @@ impl<Ix: IndexType> Order<Ix> {
         self.written.len() + self.tail.count
     }
 
-    /// Whether it holds the node. Constant time.
+    /// Whether it holds the node. O(1).
     #[inline]
     pub fn holds(&self, n: NodeIndex<Ix>) -> bool
         ensures { IsTrue result ↔ Contains self.now (Ix.number n) }
@@ -82,7 +82,7 @@ impl<Ix: IndexType> Order<Ix> {
         }
     }
 
-    /// Whether one node of it stands before another. Constant time.
+    /// Whether one node precedes another. O(1).
     #[inline]
     pub fn stands_before(&self, a: NodeIndex<Ix>, b: NodeIndex<Ix>) -> bool
         requires first { Contains self.now (Ix.number a) }
@@ -98,8 +98,12 @@ impl<Ix: IndexType> Order<Ix> {
         }
     }
 
-    /// Puts a node last. Constant time, but for growth, and where labels reach the end of their
-    /// range: all are made anew then, once in many million nodes.
+    /// Puts a node last.
+    ///
+    /// # Complexity
+    ///
+    /// Amortized O(1); if labels reach the end of their range, once in many million nodes, all
+    /// nodes are relabelled.
     #[inline]
     pub fn push(&mut self, n: NodeIndex<Ix>) -> Result<(), AllocError>
         requires real { Ix.number n < Ix.greatest }
@@ -115,7 +119,7 @@ impl<Ix: IndexType> Order<Ix> {
         self.push_slowly(n)
     }
 
-    // `push` where the node does not stand in turn, or there is no memory for it.
+    // `push` if the node is not the next consecutive index, or there is no memory for it.
     #[inline(never)]
     fn push_slowly(&mut self, n: NodeIndex<Ix>) -> Result<(), AllocError>
         requires real { Ix.number n < Ix.greatest }
@@ -132,7 +136,7 @@ impl<Ix: IndexType> Order<Ix> {
         self.push_written(n)
     }
 
-    // Puts a node last, written as all before it are.
+    // Puts a node last, after writing out the run.
     fn push_written(&mut self, n: NodeIndex<Ix>) -> Result<(), AllocError>
         requires real { Ix.number n < Ix.greatest }
         requires absent { ¬ Contains self.old (Ix.number n) }
@@ -145,10 +149,12 @@ impl<Ix: IndexType> Order<Ix> {
         Ok(())
     }
 
-    /// Makes room for as many nodes as `bound` in all, each with an index below it, so that pushing
-    /// them takes no memory.
+    /// Reserves capacity for all nodes with an index below `bound`, so that pushing them does not
+    /// allocate.
     ///
-    /// The error says that memory was refused. The order is as it was.
+    /// # Errors
+    ///
+    /// Returns `AllocError` if an allocation fails; the order is unchanged.
     pub fn reserve(&mut self, bound: usize) -> Result<(), AllocError>
         ensures { self.new ≡ self.old }
     {
@@ -156,16 +162,18 @@ impl<Ix: IndexType> Order<Ix> {
         Ok(())
     }
 
-    /// Makes room for as many nodes as another order has memory for.
+    /// Reserves as much capacity as another order has.
     ///
-    /// The error says that memory was refused. The order is as it was.
+    /// # Errors
+    ///
+    /// Returns `AllocError` if an allocation fails; the order is unchanged.
     pub fn reserve_like(&mut self, other: &Self) -> Result<(), AllocError>
         ensures { self.new ≡ self.old }
     {
         self.reserve(other.written.capacity())
     }
 
-    /// Takes a node out. Constant time, but for nodes that are still to be written.
+    /// Takes a node out. O(1), plus the nodes still to be written.
     #[inline]
     pub fn remove(&mut self, n: NodeIndex<Ix>)
         requires { Contains self.old (Ix.number n) }
@@ -179,8 +187,8 @@ impl<Ix: IndexType> Order<Ix> {
         }
     }
 
-    /// Gives a node the index `m` in its place, as where a graph moves its last node into a gap.
-    /// Constant time, but for nodes that are still to be written.
+    /// Renames a node to `m`, in its place, as when a graph moves its last node into a freed index.
+    /// O(1), plus the nodes still to be written.
     #[inline]
     pub fn rename(&mut self, n: NodeIndex<Ix>, m: NodeIndex<Ix>)
         requires held { Contains self.old (Ix.number n) }
@@ -194,8 +202,8 @@ impl<Ix: IndexType> Order<Ix> {
         }
     }
 
-    /// Puts a node first. The cost is that of `push`.
-    // Apart, so that what adds a node on either side stays small where it is inlined.
+    /// Puts a node first, at the cost of `push`.
+    // Out of line, to keep what adds a node on either side small where it is inlined.
     #[inline(never)]
     pub fn push_first(&mut self, n: NodeIndex<Ix>) -> Result<(), AllocError>
         requires real { Ix.number n < Ix.greatest }
@@ -209,8 +217,8 @@ impl<Ix: IndexType> Order<Ix> {
         Ok(())
     }
 
-    /// Puts a node of it first. Constant time, but for nodes that are still to be written, and
-    /// where labels reach the start of their range.
+    /// Moves a node to the front. O(1), plus the nodes still to be written, unless labels reach the
+    /// start of their range.
     #[inline(never)]
     pub fn move_first(&mut self, n: NodeIndex<Ix>)
         requires { Contains self.old (Ix.number n) }
@@ -220,8 +228,8 @@ impl<Ix: IndexType> Order<Ix> {
         self.written.move_first(n);
     }
 
-    /// Puts a node of it right before another. Constant time, but for nodes that are still to be
-    /// written, and where there is no room for its label.
+    /// Moves a node right before another. O(1), plus the nodes still to be written, unless labels
+    /// leave no room.
     #[inline(never)]
     pub fn move_before(&mut self, n: NodeIndex<Ix>, b: NodeIndex<Ix>)
         requires held { Contains self.old (Ix.number n) }
@@ -234,8 +242,8 @@ impl<Ix: IndexType> Order<Ix> {
         self.written.move_before(n, b);
     }
 
-    /// Puts nodes of it first, in the order of a list. The others stand as they stood, behind them.
-    /// The cost for each is that of `move_first`.
+    /// Moves nodes to the front, in the order of a list. The others follow in their old order. Each
+    /// costs a `move_first`.
     pub fn move_all_first(&mut self, nodes: &[Link<Ix>])
         requires { (n : ℕ) → Contains nodes.now n → Contains self.old n }
         ensures { self.new ≡ with_first nodes.now self.old }
@@ -247,7 +255,7 @@ impl<Ix: IndexType> Order<Ix> {
         }
     }
 
-    /// At which place a node of it stands. The nodes before it are counted.
+    /// The position of a node. O(position).
     pub fn place(&self, n: NodeIndex<Ix>) -> usize
         requires { Contains self.now (Ix.number n) }
         ensures { result ≡ place self.now (Ix.number n) }
@@ -260,7 +268,7 @@ impl<Ix: IndexType> Order<Ix> {
         }
     }
 
-    /// The node at a place. The nodes before it are counted.
+    /// The node at a position. O(position).
     pub fn at(&self, place: usize) -> NodeIndex<Ix>
         requires { place < length self.now }
         ensures { Ix.number result ≡ slice_index self.now place }
@@ -294,7 +302,7 @@ impl<Ix: IndexType> Order<Ix> {
         })
     }
 
-    /// Takes all nodes out, and keeps the memory. Constant time.
+    /// Removes all nodes, and keeps the capacity. O(1).
     #[inline]
     pub fn clear(&mut self)
         ensures { self.new ≡ [] }

@@ -1,4 +1,4 @@
-//! Which edges a longer way makes redundant, by an order of the nodes.
+//! Redundant edges, found along a topological order.
 ghost use Rattle.std.specs.Prelude.{◌≡◌, ℕ, ◌+◌, ◌*◌, ◌≤◌, ◌↔◌, ◌⊎◌, true, false, map, length};
 ghost use Rattle.std.specs.Prelude.{take, slice_index_or, Contains};
 ghost use Rattle.daggy_base.specs.Graph.{HasNode, out_list, node_bound, edge_bound, node_count};
@@ -23,8 +23,8 @@ use daggy_base::source::EdgeSource;
 use daggy_order::order::Order;
 use daggy_search::{Marks, Scratch, write_out};
 
-// Gives marks in `met` to those children of `u` to which a longer way leads. Such a way stays
-// before the last child, so only nodes that stand before it are entered.
+// Marks in `met` the children of `u` that are also reachable by a longer path. Such a path cannot
+// leave the part of the order before `u`'s last child, so the search stays there.
 pub(crate) fn meet_round<Ix: IndexType, S: EdgeSource<Ix>>(
     source: &mut S,
     order: &Order<Ix>,
@@ -88,7 +88,7 @@ pub(crate) fn meet_round<Ix: IndexType, S: EdgeSource<Ix>>(
     }
 }
 
-// Flags the edges of `u` to whose children a longer way leads.
+// Flags the edges of `u` whose children are also reachable by a longer path.
 fn flag_round_in<Ix: IndexType, S: EdgeSource<Ix>>(
     source: &mut S,
     order: &Order<Ix>,
@@ -123,8 +123,8 @@ fn flag_round_in<Ix: IndexType, S: EdgeSource<Ix>>(
     flag_marked(source, u, met, flags);
 }
 
-// Flags the edges that are redundant below some roots: at the places of those edges `flags` has an
-// index, and at all other places `end`.
+// Flags the edges that are redundant below some roots: `flags` has an index at the places of those
+// edges, and `end` elsewhere.
 fn flag_redundant_in<Ix: IndexType, S: EdgeSource<Ix>>(
     source: &mut S,
     order: &Order<Ix>,
@@ -166,7 +166,7 @@ fn flag_redundant_in<Ix: IndexType, S: EdgeSource<Ix>>(
     }
 }
 
-// Puts the edges that are redundant below some roots in front of a list, and gives how many there
+// Puts the edges that are redundant below some roots in front of a list, and returns how many there
 // are.
 fn find_redundant_in<Ix: IndexType, S: EdgeSource<Ix>>(
     source: &mut S,
@@ -207,8 +207,8 @@ fn find_redundant_in<Ix: IndexType, S: EdgeSource<Ix>>(
     gather_flagged(edges, bound)
 }
 
-// Leaves the edges that are redundant below some roots in front of what a scratch found, and gives
-// how many there are.
+// Leaves the redundant edges below some roots in front of `scratch.found`, and returns how many
+// there are.
 pub(crate) fn leave_redundant_in<Ix: IndexType, S: EdgeSource<Ix>>(
     source: &mut S,
     order: &Order<Ix>,
@@ -246,11 +246,10 @@ pub(crate) fn leave_redundant_in<Ix: IndexType, S: EdgeSource<Ix>>(
     )
 }
 
-/// [`redundant_edges`](crate::redundant::redundant_edges) by an order in which every parent stands
-/// before its children.
+/// As [`redundant_edges`](crate::redundant::redundant_edges), by a topological order of the nodes.
 ///
-/// The search from a node enters only nodes that stand before its last child. A longer way to a
-/// child passes through no others.
+/// The search from a node enters only nodes before its last child: a longer path to a child passes
+/// through no others.
 pub fn redundant_edges_in<'s, Ix: IndexType, S: EdgeSource<Ix>>(
     scratch: &'s mut Scratch<Ix>,
     source: &mut S,

@@ -1,4 +1,4 @@
-//! All that some nodes reach.
+//! Breadth-first search.
 ghost use Rattle.std.specs.Prelude.{◌≡◌, ◌≢◌, ℕ, ◌+◌, ◌<◌, ◌≤◌, ◌^◌, true, false, length, take};
 ghost use Rattle.std.specs.Prelude.{slice_set, slice_index_or};
 ghost use Rattle.daggy_base.specs.Graph.{node_bound, edge_count};
@@ -10,7 +10,7 @@ use daggy_base::link::Link;
 use daggy_base::source::EdgeSource;
 use daggy_search::Marks;
 
-// Puts a node behind a queue unless it is there, and gives how many nodes the queue then has.
+// Appends a node to a queue unless it is there, and returns the new length.
 #[inline]
 pub(crate) fn enter<Ix: IndexType>(
     entered: &mut Marks,
@@ -49,9 +49,9 @@ pub(crate) fn mark_unless_first(met: &mut Marks, head: usize, i: usize)
     }
 }
 
-// Goes on from the first `len` nodes of a queue to all that they reach, and gives how many nodes
-// the queue then has. Marked in `entered` are the nodes of the queue. In `met` the children of all
-// of them but the first get marks too.
+// Extends a queue of `len` nodes to everything reachable from them, breadth first, and returns its
+// new length. `entered` marks the queued nodes; `met` marks the children of every node but the
+// first.
 pub(crate) fn close<Ix: IndexType, S: EdgeSource<Ix>>(
     source: &mut S,
     entered: &mut Marks,

@@ -9,7 +9,7 @@ use daggy_base::index::{EdgeIndex, IndexType, NodeIndex};
 use daggy_base::source::EdgeSource;
 use daggy_search::Marks;
 
-// Takes all flags away.
+// Clears all flags.
 pub(crate) fn unflag<Ix: IndexType>(flags: &mut [EdgeIndex<Ix>])
     ensures none { (e : ℕ) → ¬ IsFlagged Ix.greatest (map Ix.number flags.new) e }
     ensures kept { length flags.new ≡ length flags.old }
@@ -69,7 +69,7 @@ pub(crate) fn flag_marked<Ix: IndexType, S: EdgeSource<Ix>>(
     }
 }
 
-// Puts the edges that have flags in front, in ascending order, and gives how many there are. The
+// Moves the flagged edges to the front, in ascending order, and returns how many there are. The
 // flags are lost.
 pub(crate) fn gather_flagged<Ix: IndexType>(flags: &mut [EdgeIndex<Ix>], bound: usize) -> usize
     requires within { bound ≤ length flags.old }

@@ -86,9 +86,12 @@ fn joins_all<Ix: IndexType, A: EdgeSource<Ix>, B: EdgeSource<Ix>>(
     true
 }
 
-/// Whether two graphs join the same pairs of nodes. The marks are as long as the bounds of both.
+/// Whether two graphs join the same pairs of nodes. The marks must be as long as the node bounds of
+/// both.
 ///
-/// It cannot fail for want of memory. The cost is that of going through both graphs twice.
+/// # Complexity
+///
+/// O(nodes + edges) of both graphs. Does not allocate.
 pub fn join_same_pairs<Ix: IndexType, A: EdgeSource<Ix>, B: EdgeSource<Ix>>(
     a: &mut A,
     b: &mut B,

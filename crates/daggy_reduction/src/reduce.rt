@@ -32,10 +32,13 @@ fn remove_edges<Ix: IndexType, S: Store<Ix>>(store: &mut S, edges: &[EdgeIndex<I
     }
 }
 
-/// Removes the edges that are redundant below some roots: first it decides which these are, and
-/// then it removes them, the one with the highest index first.
+/// Removes the edges that are redundant below some roots: first all of them are found, then they
+/// are removed, from the highest index down.
 ///
-/// The only refusal is that the scratch cannot grow to the bounds of the graph.
+/// # Errors
+///
+/// Returns `AllocError` if the scratch cannot grow to the bounds of the graph; the store is
+/// unchanged.
 pub fn transitive_reduce<Ix: IndexType, S: Store<Ix>>(
     store: &mut S,
     order: &Order<Ix>,

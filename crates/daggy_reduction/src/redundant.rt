@@ -1,4 +1,4 @@
-//! Which edges a longer way makes redundant.
+//! Redundant edges of any graph.
 ghost use Rattle.std.specs.Prelude.{◌≡◌, ℕ, ◌+◌, ◌*◌, ◌≤◌, ◌↔◌, map, length, take, Contains};
 ghost use Rattle.daggy_base.specs.Graph.{HasNode, out_list, node_bound, edge_bound, node_count};
 ghost use Rattle.daggy_base.specs.Graph.{edge_count};
@@ -18,7 +18,7 @@ use daggy_base::link::Link;
 use daggy_base::source::EdgeSource;
 use daggy_search::{Marks, Scratch, write_out};
 
-// Flags the edges of `u` to whose children a longer way leads.
+// Flags the edges of `u` whose children are also reachable by a longer path.
 fn flag_round<Ix: IndexType, S: EdgeSource<Ix>>(
     source: &mut S,
     u: NodeIndex<Ix>,
@@ -52,8 +52,8 @@ fn flag_round<Ix: IndexType, S: EdgeSource<Ix>>(
     flag_marked(source, u, met, flags);
 }
 
-// Flags the edges that are redundant below some roots: at the places of those edges `flags` has an
-// index, and at all other places `end`.
+// Flags the edges that are redundant below some roots: `flags` has an index at the places of those
+// edges, and `end` elsewhere.
 fn flag_redundant<Ix: IndexType, S: EdgeSource<Ix>>(
     source: &mut S,
     roots: &[NodeIndex<Ix>],
@@ -91,7 +91,7 @@ fn flag_redundant<Ix: IndexType, S: EdgeSource<Ix>>(
     }
 }
 
-// Puts the edges that are redundant below some roots in front of a list, and gives how many there
+// Puts the edges that are redundant below some roots in front of a list, and returns how many there
 // are.
 fn find_redundant<Ix: IndexType, S: EdgeSource<Ix>>(
     source: &mut S,
@@ -128,8 +128,8 @@ fn find_redundant<Ix: IndexType, S: EdgeSource<Ix>>(
     gather_flagged(edges, bound)
 }
 
-// Leaves the edges that are redundant below some roots in front of what a scratch found, and gives
-// how many there are.
+// Leaves the redundant edges below some roots in front of `scratch.found`, and returns how many
+// there are.
 fn leave_redundant<Ix: IndexType, S: EdgeSource<Ix>>(
     source: &mut S,
     roots: &[NodeIndex<Ix>],
@@ -172,10 +172,11 @@ pub(crate) fn front<T>(list: &[T], count: usize) -> &[T]
 
 /// The edges that are redundant below some roots, each once, in ascending order.
 ///
-/// They stand in the scratch, which lends them. It fits the same graphs after that.
+/// They are lent by the scratch, which fits the same graphs afterwards.
 ///
-/// It cannot fail for want of memory. The cost is that of one search for each node that the roots
-/// reach.
+/// # Complexity
+///
+/// One search for each node that the roots reach. Does not allocate.
 pub fn redundant_edges<'s, Ix: IndexType, S: EdgeSource<Ix>>(
     scratch: &'s mut Scratch<Ix>,
     source: &mut S,

@@ -1,4 +1,4 @@
-//! All that some roots reach.
+//! The nodes reachable from some roots.
 ghost use Rattle.std.specs.Prelude.{◌≡◌, ℕ, ◌+◌, ◌≤◌, ◌↔◌, false, map, length, take};
 ghost use Rattle.std.specs.Prelude.{slice_index_or, Contains};
 ghost use Rattle.daggy_base.specs.Graph.{HasNode, node_bound, edge_count};
@@ -12,7 +12,7 @@ use daggy_base::link::Link;
 use daggy_base::source::EdgeSource;
 use daggy_search::Marks;
 
-// Puts the roots that exist into a queue, and gives how many there are.
+// Puts the roots that exist into a queue, and returns how many there are.
 fn enter_roots<Ix: IndexType, S: EdgeSource<Ix>>(
     source: &S,
     roots: &[NodeIndex<Ix>],
@@ -41,7 +41,7 @@ fn enter_roots<Ix: IndexType, S: EdgeSource<Ix>>(
     len
 }
 
-// Puts all nodes that some existing root reaches into a queue, and gives how many there are.
+// Puts all nodes reachable from the existing roots into a queue, and returns how many there are.
 pub(crate) fn enter_below<Ix: IndexType, S: EdgeSource<Ix>>(
     source: &mut S,
     roots: &[NodeIndex<Ix>],

@@ -1,4 +1,4 @@
-//! Whether a graph has a cycle, and an order of its nodes if it has none.
+//! Whether a graph has a cycle, and a topological order if it has none.
 ghost use Rattle.std.specs.Prelude.{◌≡◌, ℕ, ◌+◌, ◌<◌, ◌≤◌, ◌↔◌, IsTrue, IfSome, IfNone, false};
 ghost use Rattle.std.specs.Prelude.{length, drop, slice_index_or, slice_set};
 ghost use Rattle.daggy_base.specs.Graph.{node_bound, edge_count};
@@ -13,10 +13,11 @@ use daggy_base::index::{EdgeIndex, IndexType, NodeIndex};
 use daggy_base::link::Link;
 use daggy_base::source::EdgeSource;
 
-/// Whether the graph has no cycle: no path of length one or more comes back to where it began.
+/// Whether the graph is acyclic: no path of one or more edges ends where it begins.
 ///
-/// It takes no more looks than there are edges and cannot fail for want of memory. The cost is that
-/// of all nodes and edges.
+/// # Complexity
+///
+/// O(nodes + edges), with at most one look at each edge. Does not allocate.
 pub fn is_acyclic<Ix: IndexType, S: EdgeSource<Ix>>(
     source: &mut S,
     scratch: &mut Scratch<Ix>,
@@ -58,13 +59,13 @@ fn put_edge<Ix: IndexType>(cursors: &mut [Link<Ix>], at: usize, e: EdgeIndex<Ix>
     cursors[at] = Link::of_edge(e);
 }
 
-/// Sorts the nodes so that every parent comes before its children, unless there is a cycle. They
-/// stand at the back of `stack` then, from the place that is given on.
+/// Sorts the nodes topologically, unless there is a cycle. They are left in `stack[top..]`, where
+/// `top` is the result.
 ///
-/// The marks are to be cleared, and all lists are to be long enough. It walks depth first from each
-/// node in turn, over each edge at most once. A node is finished once its edges were all looked at,
-/// and stands before all that were finished earlier, its children among them. An edge to a node
-/// that was discovered and not finished closes a cycle.
+/// The marks must be clear, and all lists long enough. It is a depth-first search from each node in
+/// turn, over each edge at most once, and the order is the reverse postorder: a node precedes all
+/// that were finished earlier, its children among them. An edge to a node that was discovered but
+/// not finished closes a cycle.
 #[doc(hidden)]
 pub fn sort_nodes<Ix: IndexType, S: EdgeSource<Ix>>(
     source: &mut S,

@@ -1,4 +1,4 @@
-//! Searches over any graph whose edges can be looked at.
+//! Searches over any graph whose edges can be read one at a time.
 #![tactic(auto)]
 
 mod cycles;

@@ -1,4 +1,4 @@
-//! Marks that are all cleared at once.
+//! A set of marks that is cleared at once.
 ghost use Rattle.std.specs.Prelude.{◌≡◌, ℕ, ◌<◌, ◌≤◌, max, List, Bool, true, false, length};
 ghost use Rattle.std.specs.Prelude.{slice_set, slice_index_or, replicate, OnOk, OnErr, IsOk};
 
@@ -7,14 +7,14 @@ use daggy_base::reserved::reserve;
 use std::alloc::{AllocError, Global};
 use std::marker::Model;
 
-/// A mark for each number below a length.
+/// A set of marked indices below a length.
 ///
-/// A mark is a stamp that says in which round it was made, so clearing all of them begins a new
-/// round and costs nothing but once in 2^32 rounds. Growing only reserves memory for stamps: they
-/// are written when a mark is made next.
+/// A mark is a stamp with the number of its round, so clearing begins a new round, which is free
+/// except once every 2^32 rounds. Growing only reserves memory: stamps are written when an index is
+/// marked next.
 #[derive(Drop)]
 pub struct Marks {
-    // Of the first numbers. Those behind them, up to `len`, have none yet and are not marked.
+    // Stamps of the first indices. The others, up to `len`, have none yet and are not marked.
     stamps: Vec<u32>,
     len: usize,
     // Never 0, so that a stamp of 0 is no mark.
@@ -35,7 +35,7 @@ impl Model for Marks {
 }
 
 impl Marks {
-    /// No marks. Takes no memory.
+    /// No marks. Does not allocate.
     pub fn new(alloc: Global) -> Self
         ensures { length result ≡ 0 }
     {
@@ -53,7 +53,7 @@ impl Marks {
         self.len
     }
 
-    /// Makes it at least so long.
+    /// Makes it at least `len` long.
     pub fn grow(&mut self, len: usize) -> Result<(), AllocError>
         ensures ok { OnOk result (length self.new ≡ max len (length self.old)) }
         ensures err { OnErr result (length self.new ≡ length self.old) }

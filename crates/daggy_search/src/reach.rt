@@ -11,11 +11,13 @@ use daggy_base::index::{EdgeIndex, IndexType, NodeIndex};
 use daggy_base::link::Link;
 use daggy_base::source::EdgeSource;
 
-/// Whether a path leads from `from` to `to`. The path of one node counts, so an existing node
-/// reaches itself; a missing one reaches nothing.
+/// Whether a path leads from `from` to `to`. A single node is a path, so an existing node reaches
+/// itself; a missing node reaches nothing.
 ///
-/// It takes no more looks than there are edges and cannot fail for want of memory. The cost is that
-/// of the nodes and edges visited, and of room in the scratch that no search wrote before.
+/// # Complexity
+///
+/// O(nodes and edges visited), with at most one look at each edge. Memory of the scratch that no
+/// search used before is initialised first. Does not allocate.
 pub fn reaches<Ix: IndexType, S: EdgeSource<Ix>>(
     source: &mut S,
     from: NodeIndex<Ix>,
@@ -47,8 +49,7 @@ pub(crate) fn put<Ix: IndexType>(stack: &mut [Link<Ix>], at: usize, n: NodeIndex
     stack[at] = Link::of_node(n);
 }
 
-// Whether `from` reaches `to`, over marks that are all cleared: depth first, each node put on the
-// stack once.
+// Whether `from` reaches `to`, over marks that are all clear: depth first, each node pushed once.
 fn search<Ix: IndexType, S: EdgeSource<Ix>>(
     source: &mut S,
     from: NodeIndex<Ix>,

@@ -1,8 +1,8 @@
-//! Lists for which memory is reserved first, and which are written when they are needed.
+//! Lists whose memory is reserved first, and written when it is needed.
 ghost use Rattle.std.specs.Prelude.{◌≡◌, ℕ, ◌-◌, ◌≤◌, ◌++◌, replicate, vec_len, vec_capacity};
 
-/// Makes a list at least so long, with a value at the places that were not written yet. Memory for
-/// them was reserved before.
+/// Makes a list at least `len` long, with `value` at the new places. Its memory was reserved
+/// before.
 #[doc(hidden)]
 #[inline]
 pub fn write_out<T: Copy>(list: &mut Vec<T>, len: usize, value: T)
@@ -16,7 +16,7 @@ pub fn write_out<T: Copy>(list: &mut Vec<T>, len: usize, value: T)
     }
 }
 
-// Apart, so that what is inlined stays small.
+// Out of line, to keep the inlined part small.
 #[cold]
 #[inline(never)]
 fn fill<T: Copy>(list: &mut Vec<T>, len: usize, value: T)
@@ -26,6 +26,6 @@ fn fill<T: Copy>(list: &mut Vec<T>, len: usize, value: T)
     ensures capacity { vec_capacity list.old ≤ vec_capacity list.new }
     ensures items { list.new.items ≡ list.old.items ++ replicate (len - vec_len list.old) value }
 {
-    // It fits what was reserved, so it is not refused.
+    // It fits what was reserved, so it cannot fail.
     let _filled = list.resize(len, value);
 }

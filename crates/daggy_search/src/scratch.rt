@@ -1,4 +1,4 @@
-//! What a search works in.
+//! The memory of searches.
 ghost use Rattle.std.specs.Prelude.{◌≡◌, ℕ, ◌≤◌, ◌↔◌, IsTrue, IsOk, OnOk, []};
 
 use crate::marks::Marks;
@@ -8,12 +8,12 @@ use daggy_base::reserved::reserve;
 use std::alloc::{AllocError, Global};
 use std::marker::Model;
 
-/// What searches work in: marks for nodes that were discovered and for nodes that were finished, a
-/// stack of nodes with a cursor for each, and a place for the edges that a search finds.
+/// The memory of searches: marks for discovered and for finished nodes, a stack of nodes with a
+/// cursor for each, and a list for the edges that a search finds.
 ///
-/// A search cannot fail for want of memory. It works in a scratch that was made large enough
-/// before. Room for nodes is only reserved then, and the first search that comes writes it, so a
-/// graph that is never searched pays little for it.
+/// A search does not allocate: it uses a scratch that was made large enough before. Memory for
+/// nodes is only reserved then, and initialised by the first search, so a graph that is never
+/// searched pays little for it.
 #[derive(Drop)]
 pub struct Scratch<Ix: IndexType> {
     /// For the nodes that a search discovered.
@@ -22,8 +22,8 @@ pub struct Scratch<Ix: IndexType> {
     /// For the nodes that a search finished. As long as `marks`, or longer.
     #[doc(hidden)]
     pub finished: Marks,
-    /// This and `cursors` have memory for as many links as there are marks. A search begins by
-    /// writing them out that far.
+    /// This and `cursors` have capacity for as many links as there are marks. A search begins by
+    /// initialising them that far.
     #[doc(hidden)]
     pub stack: Vec<Link<Ix>>,
     #[doc(hidden)]
@@ -48,7 +48,7 @@ impl<Ix: IndexType> Model for Scratch<Ix> {
 }
 
 impl<Ix: IndexType> Scratch<Ix> {
-    /// Takes no memory, and fits graphs without nodes alone.
+    /// Does not allocate; fits only the empty graph.
     pub fn new(alloc: Global) -> Self
         ensures { result ≡ record { nodes = 0; edges = 0; found = [] } }
     {
@@ -61,7 +61,7 @@ impl<Ix: IndexType> Scratch<Ix> {
         }
     }
 
-    /// The allocator that its memory comes from.
+    /// The allocator of its memory.
     #[inline]
     pub fn allocator(&self) -> Global {
         *self.stack.allocator()
@@ -75,8 +75,8 @@ impl<Ix: IndexType> Scratch<Ix> {
         node_bound <= self.marks.len() && edge_bound <= self.found.len()
     }
 
-    /// Reserves capacity for graphs of these bounds. What it fitted before, it goes on fitting,
-    /// whatever the answer is.
+    /// Reserves capacity for graphs of these bounds. It still fits what it fitted before, also
+    /// after an error.
     #[inline]
     pub fn reserve(&mut self, node_bound: usize, edge_bound: usize) -> Result<(), AllocError>
         ensures ok { OnOk result ((node_bound ≤ self.new.nodes) × (edge_bound ≤ self.new.edges)) }
@@ -92,8 +92,8 @@ impl<Ix: IndexType> Scratch<Ix> {
         Ok(())
     }
 
-    // Grows to twice the capacity at least, so that a graph that gains its nodes one by one seldom
-    // needs it.
+    // At least doubles the capacity, so that growth is rare in a graph that gains its nodes one by
+    // one.
     #[cold]
     #[inline(never)]
     fn grow_nodes(&mut self, node_bound: usize) -> Result<(), AllocError>

@@ -1,4 +1,4 @@
-//! Memory that is taken first, and a compact graph that is then put into it.
+//! A compact graph moved into slots whose memory was allocated before.
 ghost use Rattle.std.specs.Prelude.{◌≡◌, ◌≤◌, [], length, map, vec_capacity, IfOk};
 ghost use Rattle.daggy_base.specs.Graph.{node_count as node_count_of, edge_count as edge_count_of};
 ghost use Rattle.daggy_slots.specs.SlottedCells.{slotted_node, slotted_edge};
@@ -11,8 +11,7 @@ use daggy_stable::stable_graph::StableDiGraph;
 use std::alloc::{AllocError, Global};
 use std::marker::Model;
 
-/// Memory for a graph of so many nodes and edges, to make a stable graph of a compact one where
-/// nothing may fail.
+/// Preallocated memory for an infallible conversion from a compact to a stable graph.
 #[derive(Drop)]
 pub struct Room<N, E, Ix: IndexType = DefaultIx> {
     nodes: Vec<Node<Option<N>, Ix>>,
@@ -31,9 +30,12 @@ impl<N, E, Ix: IndexType> Model for Room<N, E, Ix> {
 }
 
 impl<N, E, Ix: IndexType> Room<N, E, Ix> {
-    /// Takes the memory for so many nodes and edges.
+    /// Allocates memory for `nodes` nodes and `edges` edges.
     ///
-    /// The error says that memory was refused, or that no machine can have so much.
+    /// # Errors
+    ///
+    /// Returns `AllocError` if an allocation fails, or if the capacity exceeds what a machine can
+    /// address.
     pub fn new(alloc: Global, nodes: usize, edges: usize) -> Result<Self, AllocError>
     where
         N: Drop,
@@ -46,10 +48,11 @@ impl<N, E, Ix: IndexType> Room<N, E, Ix> {
         })
     }
 
-    /// The graph in slots, none of them vacant: the same nodes and edges under the same indices,
-    /// and in the same lists.
+    /// The stable graph with the same indices and lists, and with no vacant slot.
     ///
-    /// It cannot fail for want of memory, and the cost grows with the number of nodes and edges.
+    /// # Complexity
+    ///
+    /// O(nodes + edges). Does not allocate.
     pub fn fill(self, graph: DiGraph<N, E, Ix>) -> StableDiGraph<N, E, Ix>
     where
         N: Drop,

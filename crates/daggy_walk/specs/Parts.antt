@@ -20,7 +20,7 @@ chain_first s = s.first
 abbrev pub chain_second : {G A B : Type 0} → Chain G A B → B
 chain_second s = s.second
 
--- the walker that a cycle begins anew with, and the one that runs
+-- the walker that a cycle begins again with, and the one that runs
 abbrev pub cycle_start : {G W : Type 0} → Cycle G W → W
 cycle_start s = s.start
 

@@ -24,7 +24,7 @@ impl Model for Bits {
 }
 
 impl Bits {
-    /// So many flags, all clear.
+    /// `len` flags, all clear.
     pub fn new(alloc: Global, len: usize) -> Result<Bits, AllocError>
         ensures { IfOk result (λ bits. bits ≡ replicate len false) }
     {
@@ -32,7 +32,7 @@ impl Bits {
         Ok(Bits { words, len })
     }
 
-    /// Clears all flags and makes it so long.
+    /// Clears all flags and makes it `len` long.
     pub fn reset(&mut self, len: usize) -> Result<(), AllocError>
         ensures ok { OnOk result (self.new ≡ replicate len false) }
         ensures err { OnErr result (self.new ≡ self.old) }
@@ -59,7 +59,7 @@ impl Bits {
         (self.words[i / 64] >> (i % 64)) & 1 == 1
     }
 
-    /// Sets a flag, and says whether it was clear.
+    /// Sets a flag, and returns whether it was clear.
     #[inline]
     pub fn set(&mut self, i: usize) -> bool
         requires { i < length self.old }

@@ -1,7 +1,6 @@
-//! What generic code may ask of a graph, and the sets that it keeps.
+//! Traits for code over any graph, and sets of its nodes.
 //!
-//! A trait here says what it does in the words of a graph by whole lists, which each kind of graph
-//! can be seen as.
+//! The traits are specified against the list model of a graph.
 mod adj_matrix;
 mod data;
 mod indexed;

@@ -32,10 +32,10 @@ pub use take_while::TakeWhile;
 
 /// A walk over a graph of type `G`.
 ///
-/// A walker works like an iterator, but it is handed the graph anew for each step. So the graph may
-/// change between two steps, and the weights that a step leads to may be written.
+/// A walker works like an iterator, but each step borrows the graph again. So the graph may change
+/// between steps, and weights may be written on the way.
 pub trait Walker<G>: Drop {
-    /// What a step gives.
+    /// The items of the walk.
     type Item;
 
     // Whether this walker may take a step over this graph. A walker that calls no closure always
@@ -48,14 +48,14 @@ pub trait Walker<G>: Drop {
     // How many items may still come, as long as the graph is this one.
     ghost items_left: { Self → G → Count } = { λ _ _. endless };
 
-    /// Takes one step. `None` says that there is nowhere to go in this graph.
+    /// Takes one step. Returns `None` if there is nowhere to go in this graph.
     fn walk_next(&mut self, graph: &G) -> Option<Self::Item>
         requires { can_walk self.old graph.now }
         ensures steps { walk_gives self.old graph.now result self.new }
         ensures goes { Proceeds (λ w. can_walk w graph.now) (λ w. items_left w graph.now) self.old
             result self.new };
 
-    /// How many items may still come at most, where that is known without a walk.
+    /// An upper bound on the remaining items, if known.
     #[inline]
     fn upper_bound(&self, graph: &G) -> Option<usize>
         ensures bounded { IfSome result (UpTo (items_left self.now graph.now)) }
@@ -64,7 +64,7 @@ pub trait Walker<G>: Drop {
         None
     }
 
-    /// The rest of the walk as an iterator, which borrows the graph.
+    /// The rest of the walk as an iterator that borrows the graph.
     #[inline]
     final fn iter<'a>(self, graph: &'a G) -> WalkerIter<'a, G, Self>
     where
@@ -78,7 +78,7 @@ pub trait Walker<G>: Drop {
 
 /// A walker that ends over each graph, as long as the graph does not change.
 pub trait FiniteWalker<G>: Walker<G> {
-    /// Does nothing. It is called for its contract alone: the walk ends.
+    /// Does nothing. Called only for its postcondition: the walk ends.
     #[inline]
     fn ends_over(&self, graph: &G)
         ensures { IsFinite (Self.items_left self.now graph.now) }
@@ -90,10 +90,11 @@ pub trait FiniteWalker<G>: Walker<G> {
     ghost ends: { (w : Self) (g : G) → IsFinite (Self.items_left w g) };
 }
 
-/// A walker that gives nothing any more once it gave nothing, as long as the graph does not change.
+/// A walker that keeps yielding nothing once it yielded nothing, as long as the graph does not
+/// change.
 pub trait FusedWalker<G>: Walker<G> {
-    /// Does nothing. It is called for its contract alone: once the walk gave nothing, the next step
-    /// gives nothing.
+    /// Does nothing. Called only for its postcondition: after a step that yielded nothing, the next
+    /// one yields nothing.
     #[inline]
     fn rests_over(&self, graph: &G)
         ensures { (t u : Self) (r : Option Self.Item) → Self.walk_gives self.now graph.now None t

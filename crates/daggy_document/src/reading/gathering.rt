@@ -58,7 +58,7 @@ fn read_orders<N, E, Ix: IndexType>(
     Ok(Some(rows))
 }
 
-/// What a document without a fault gives, but for cycles: the slots, and the orders if it has some.
+/// The slots of a valid document, and its orders if it has some; cycles are not checked yet.
 #[derive(Drop)]
 pub struct Gathered<N, E, Ix> {
     /// The weight in each slot of a node.
@@ -90,8 +90,8 @@ fn gather_nodes<N: Drop, Ix: IndexType, F: Fn(&Value) -> Result<Option<N>, Alloc
     Ok(place_weights(alloc, weights, &parts.holes)?)
 }
 
-/// The slots and the orders of the document that a value is read as, or its first fault. A cycle is
-/// the one fault that is not looked for. Slots may be vacant if `stable`.
+/// The slots and the orders of the document that a value is read as, or its first fault. Cycles are
+/// not checked. Slots may be vacant if `stable`.
 pub fn gather<
     N: Drop,
     E: Drop,

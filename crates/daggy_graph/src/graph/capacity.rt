@@ -1,4 +1,4 @@
-//! Memory for nodes and edges that are added later.
+//! Capacity.
 ghost use Rattle.std.specs.Prelude.{◌≡◌, ◌+◌, ◌<◌, ◌^◌, length, IfOk, OnOk};
 ghost use Rattle.daggy_base.specs.Graph.{empty};
 
@@ -8,10 +8,12 @@ use daggy_base::looks::Looks;
 use std::alloc::{AllocError, Global};
 
 impl<N, E, Ix: IndexType> DiGraph<N, E, Ix> {
-    /// A graph with no node and no edge, and with memory for so many of each.
+    /// An empty graph with capacity for `nodes` nodes and `edges` edges.
     ///
-    /// The error says that memory was refused, or that no machine can have so much. There may later
-    /// be more nodes and edges than that.
+    /// # Errors
+    ///
+    /// Returns `AllocError` if an allocation fails, or if the capacity exceeds what a machine can
+    /// address.
     pub fn with_capacity(alloc: Global, nodes: usize, edges: usize) -> Result<Self, AllocError>
     where
         N: Drop,
@@ -27,11 +29,12 @@ impl<N, E, Ix: IndexType> DiGraph<N, E, Ix> {
         })
     }
 
-    /// Reserves capacity for so many more nodes, and for some more than that, so that a later call
-    /// seldom reserves again.
+    /// Reserves capacity for at least `additional` more nodes.
     ///
-    /// The error says that memory was refused, or that no machine can have so much. The graph is as
-    /// it was.
+    /// # Errors
+    ///
+    /// Returns `AllocError` if an allocation fails, or if the capacity exceeds what a machine can
+    /// address; the graph is unchanged.
     pub fn reserve_nodes(&mut self, additional: usize) -> Result<(), AllocError>
         ensures same { self.new ≡ self.old }
         ensures fits { OnOk result (length self.new.graph.nodes + additional < 2 ^ 63) }
@@ -39,10 +42,12 @@ impl<N, E, Ix: IndexType> DiGraph<N, E, Ix> {
         self.nodes.reserve(additional)
     }
 
-    /// Reserves capacity for so many more nodes.
+    /// Reserves the least capacity for `additional` more nodes.
     ///
-    /// The error says that memory was refused, or that no machine can have so much. The graph is as
-    /// it was.
+    /// # Errors
+    ///
+    /// Returns `AllocError` if an allocation fails, or if the capacity exceeds what a machine can
+    /// address; the graph is unchanged.
     pub fn reserve_exact_nodes(&mut self, additional: usize) -> Result<(), AllocError>
         ensures same { self.new ≡ self.old }
         ensures fits { OnOk result (length self.new.graph.nodes + additional < 2 ^ 63) }
@@ -50,11 +55,12 @@ impl<N, E, Ix: IndexType> DiGraph<N, E, Ix> {
         self.nodes.reserve_exact(additional)
     }
 
-    /// Reserves capacity for so many more edges, and for some more than that, so that a later call
-    /// seldom reserves again.
+    /// Reserves capacity for at least `additional` more edges.
     ///
-    /// The error says that memory was refused, or that no machine can have so much. The graph is as
-    /// it was.
+    /// # Errors
+    ///
+    /// Returns `AllocError` if an allocation fails, or if the capacity exceeds what a machine can
+    /// address; the graph is unchanged.
     pub fn reserve_edges(&mut self, additional: usize) -> Result<(), AllocError>
         ensures same { self.new ≡ self.old }
         ensures fits { OnOk result (length self.new.graph.edges + additional < 2 ^ 63) }
@@ -62,10 +68,12 @@ impl<N, E, Ix: IndexType> DiGraph<N, E, Ix> {
         self.edges.reserve(additional)
     }
 
-    /// Reserves capacity for so many more edges.
+    /// Reserves the least capacity for `additional` more edges.
     ///
-    /// The error says that memory was refused, or that no machine can have so much. The graph is as
-    /// it was.
+    /// # Errors
+    ///
+    /// Returns `AllocError` if an allocation fails, or if the capacity exceeds what a machine can
+    /// address; the graph is unchanged.
     pub fn reserve_exact_edges(&mut self, additional: usize) -> Result<(), AllocError>
         ensures same { self.new ≡ self.old }
         ensures fits { OnOk result (length self.new.graph.edges + additional < 2 ^ 63) }
@@ -73,10 +81,12 @@ impl<N, E, Ix: IndexType> DiGraph<N, E, Ix> {
         self.edges.reserve_exact(additional)
     }
 
-    /// Gives memory back that no node and no edge needs.
+    /// Shrinks the capacity of nodes and edges to fit.
     ///
-    /// The error says that a smaller block was refused. The graph is as it was, and so is the
-    /// memory of that block.
+    /// # Errors
+    ///
+    /// Returns `AllocError` if a reallocation fails; that buffer keeps its size, and the graph is
+    /// unchanged.
     pub fn shrink_to_fit(&mut self) -> Result<(), AllocError>
         ensures { self.new ≡ self.old }
     {
@@ -86,10 +96,12 @@ impl<N, E, Ix: IndexType> DiGraph<N, E, Ix> {
         edges
     }
 
-    /// Gives memory back that no node needs.
+    /// Shrinks the capacity of nodes to fit.
     ///
-    /// The error says that a smaller block was refused. The graph is as it was, and keeps the block
-    /// that it had.
+    /// # Errors
+    ///
+    /// Returns `AllocError` if the reallocation fails; the buffer keeps its size, and the graph is
+    /// unchanged.
     pub fn shrink_to_fit_nodes(&mut self) -> Result<(), AllocError>
         ensures { self.new ≡ self.old }
     {
@@ -100,10 +112,12 @@ impl<N, E, Ix: IndexType> DiGraph<N, E, Ix> {
         Ok(())
     }
 
-    /// Gives memory back that no edge needs.
+    /// Shrinks the capacity of edges to fit.
     ///
-    /// The error says that a smaller block was refused. The graph is as it was, and keeps the block
-    /// that it had.
+    /// # Errors
+    ///
+    /// Returns `AllocError` if the reallocation fails; the buffer keeps its size, and the graph is
+    /// unchanged.
     pub fn shrink_to_fit_edges(&mut self) -> Result<(), AllocError>
         ensures { self.new ≡ self.old }
     {

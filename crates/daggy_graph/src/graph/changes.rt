@@ -61,8 +61,8 @@ pub(super) fn put_edge<N, E, Ix: IndexType>(
     e
 }
 
-// Takes `e` out of its two lists, and leads the links to the last edge to `e`, whose place it takes
-// next.
+// Unlinks `e` from its two lists, and redirects the links to the last edge to `e`, whose place it
+// takes next.
 pub(super) fn detach<N, E, Ix: IndexType>(
     nodes: &mut Vec<Node<N, Ix>>,
     edges: &mut Vec<Edge<E, Ix>>,
@@ -77,8 +77,7 @@ pub(super) fn detach<N, E, Ix: IndexType>(
 {
     let i = e.index();
     let moved = Link::new(edges.len() - 1);
-    // All four lists are looked up before one is walked, so that the loads need not wait for each
-    // other.
+    // All four list heads are loaded before a list is walked, so that the loads overlap.
     let out = ListHead::of(nodes, edges, Direction::Outgoing, e);
     let into = ListHead::of(nodes, edges, Direction::Incoming, e);
     let moved_out = ListHead::of(nodes, edges, Direction::Outgoing, moved);
@@ -95,7 +94,7 @@ pub(super) fn detach<N, E, Ix: IndexType>(
     }
 }
 
-// Gives the edges of the last node to `n`, whose place it takes next.
+// Makes `n` the endpoint of the edges of the last node, which takes its place next.
 pub(super) fn reown_last<N, E, Ix: IndexType>(
     nodes: &Vec<Node<N, Ix>>,
     edges: &mut Vec<Edge<E, Ix>>,

@@ -7,8 +7,7 @@ use daggy_base::index::IndexType;
 use daggy_base::looks::Looks;
 use std::alloc::AllocError;
 
-/// Gives a graph with the same nodes and edges under the same indices, and in the same lists, with
-/// a clone of each weight.
+/// Returns a graph with the same indices and lists, and with a clone of each weight.
 impl<N: Clone + Drop, E: Clone + Drop, Ix: IndexType> Clone for DiGraph<N, E, Ix> {
     ghost is_clone = { λ g copy.
         IsCopy N.is_clone E.is_clone g.graph copy.graph × (copy.looks ≡ 0) };
@@ -26,8 +25,13 @@ impl<N, E, Ix: IndexType> DiGraph<N, E, Ix> {
     /// A graph with the same nodes and edges under the same indices, and in the same lists, with a
     /// clone of each weight.
     ///
-    /// The error says that memory for it was refused. The cost grows with the number of nodes and
-    /// edges.
+    /// # Errors
+    ///
+    /// Returns `AllocError` if an allocation fails.
+    ///
+    /// # Complexity
+    ///
+    /// O(nodes + edges).
     pub fn try_clone(&self) -> Result<Self, AllocError>
     where
         N: Clone + Drop,

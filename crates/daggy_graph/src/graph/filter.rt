@@ -162,15 +162,20 @@ fn filter_edges<N, E, W, Ix: IndexType, G: FnMut(EdgeIndex<Ix>, &E) -> Option<W>
 }
 
 impl<N, E, Ix: IndexType> DiGraph<N, E, Ix> {
-    /// A graph of the nodes and edges that the closures give a weight for: `f` is called with each
-    /// node by ascending index, and then `g` with each edge whose ends both stayed.
+    /// A graph of the nodes and edges for which the closures return a weight: `f` is called with
+    /// each node by ascending index, and then `g` with each edge whose endpoints were both kept.
     ///
-    /// The nodes that stay keep their order and get new indices from 0 on. The edges that stay are
-    /// added again by ascending index, so each list has the edge with the greatest index first.
-    /// Where nothing is left out, each node and edge keeps its index.
+    /// The nodes that are kept get new indices from 0 on, in their old order. The edges that are
+    /// kept are added again by ascending index, so each list is in descending index order. If
+    /// nothing is left out, each node and edge keeps its index.
     ///
-    /// The error says that memory for it was refused. Then no closure was called. The cost grows
-    /// with the number of nodes and edges, besides that of the calls.
+    /// # Errors
+    ///
+    /// Returns `AllocError` if an allocation fails; then no closure was called.
+    ///
+    /// # Complexity
+    ///
+    /// O(nodes + edges), plus the calls.
     pub fn filter_map<
         N2: Drop,
         E2: Drop,
@@ -191,8 +196,8 @@ impl<N, E, Ix: IndexType> DiGraph<N, E, Ix> {
         Ok(graph)
     }
 
-    /// What [`filter_map`](DiGraph::filter_map) gives, and for each node of this graph its new
-    /// index, if it stayed.
+    /// The result of [`filter_map`](DiGraph::filter_map), and for each node of this graph its new
+    /// index, if it was kept.
     #[doc(hidden)]
     pub fn filter_map_named<
         N2: Drop,

@@ -68,11 +68,18 @@ fn make_edges<N, E: Drop, Ix: IndexType>(
 }
 
 impl<N, E, Ix: IndexType> DiGraph<N, E, Ix> {
-    /// The graph with these slots, none of them vacant, where an edge names its parent and its
+    /// A graph of explicit slots, none of them vacant, where an edge names its parent and its
     /// child.
     ///
-    /// Each list has the edge with the greatest index first. The error says that memory for the
-    /// graph was refused. The cost grows with the number of nodes and edges.
+    /// Each list is in descending index order.
+    ///
+    /// # Errors
+    ///
+    /// Returns `AllocError` if an allocation fails.
+    ///
+    /// # Complexity
+    ///
+    /// O(nodes + edges).
     pub fn from_slots(
         alloc: Global,
         nodes: Vec<Option<N>>,

@@ -1,4 +1,4 @@
-//! Going over all nodes, or over all edges.
+//! Iterators over the nodes and the edges.
 ghost use Rattle.std.specs.Prelude.{◌≡◌, ◌<◌, ◌^◌, length};
 ghost use Rattle.std.specs.Iterator.{YieldsFirstRef, YieldsFirstBy, item_count};
 ghost use Rattle.daggy_cells.specs.Referring.{referred};
@@ -389,7 +389,7 @@ impl<N, E, Ix: IndexType> DiGraph<N, E, Ix> {
         }
     }
 
-    /// The indices of the nodes, in ascending order. The graph is free while they are gone through.
+    /// The indices of the nodes, in ascending order. It does not borrow the graph.
     #[inline]
     pub fn node_identifiers(&self) -> NodeIdentifiers<Ix>
         ensures rest { result ≡ node_identifiers_of self.now.graph }

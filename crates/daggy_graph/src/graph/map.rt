@@ -51,12 +51,16 @@ fn map_edges<E, V, Ix: IndexType, G: FnMut(EdgeIndex<Ix>, &E) -> V>(
 }
 
 impl<N, E, Ix: IndexType> DiGraph<N, E, Ix> {
-    /// A graph with the same nodes and edges under the same indices, and in the same lists, whose
-    /// weights are what the closures give: `f` is called with each node by ascending index, and
-    /// then `g` with each edge.
+    /// A graph with the same indices and lists, and with the weights returned by the closures: `f`
+    /// is called with each node by ascending index, and then `g` with each edge.
     ///
-    /// The error says that memory for it was refused. Then no closure was called. The cost grows
-    /// with the number of nodes and edges, besides that of the calls.
+    /// # Errors
+    ///
+    /// Returns `AllocError` if an allocation fails; then no closure was called.
+    ///
+    /// # Complexity
+    ///
+    /// O(nodes + edges), plus the calls.
     pub fn map<
         N2: Drop,
         E2: Drop,

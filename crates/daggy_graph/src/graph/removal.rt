@@ -16,11 +16,12 @@ use daggy_base::link::Link;
 use daggy_cells::links::unlink_all;
 
 impl<N, E, Ix: IndexType> DiGraph<N, E, Ix> {
-    /// Removes an edge and hands back its weight, if the edge exists. The edge with the last index
+    /// Removes an edge and returns its weight, if the edge exists. The edge with the last index
     /// gets its index.
     ///
-    /// The cost grows with the number of edges in the lists that the two edges stand in. It cannot
-    /// fail for want of memory.
+    /// # Complexity
+    ///
+    /// O(edges in the lists of the two edges). Does not allocate.
     pub fn remove_edge(&mut self, e: EdgeIndex<Ix>) -> Option<E>
         ensures value { result ≡ option_map (λ x. x.weight) (edge_at self.old.graph (Ix.number e)) }
         ensures removed { OnSome result
@@ -36,14 +37,16 @@ impl<N, E, Ix: IndexType> DiGraph<N, E, Ix> {
         Some(weight)
     }
 
-    /// Removes a node with its edges and hands back its weight, if the node exists.
+    /// Removes a node with its edges and returns its weight, if the node exists.
     ///
-    /// First the edges that leave it are removed, the first of the list each time, and then those
-    /// that enter it. Each removal gives the index of the removed edge to the edge with the last
-    /// index. At last the node with the last index gets the index of this node.
+    /// First the edges out of it are removed, each time the first of the list, and then those into
+    /// it. Each removal moves the last edge into the freed index. Finally the node with the last
+    /// index gets the index of this node.
     ///
-    /// The cost is that of removing each of those edges, and grows besides with the number of edges
-    /// of the node with the last index. It cannot fail for want of memory.
+    /// # Complexity
+    ///
+    /// The removal of each of those edges, plus O(edges of the node with the last index). Does not
+    /// allocate.
     pub fn remove_node(&mut self, n: NodeIndex<Ix>) -> Option<N>
     where
         E: Drop,
@@ -64,7 +67,7 @@ impl<N, E, Ix: IndexType> DiGraph<N, E, Ix> {
         Some(self.drop_node(n))
     }
 
-    // Removes the edge at the front of n's list of that direction until the list is empty.
+    // Removes the first edge of n's list in direction `dir` until the list is empty.
     fn clear_front(&mut self, n: NodeIndex<Ix>, dir: Direction)
     where
         E: Drop,
@@ -100,7 +103,7 @@ impl<N, E, Ix: IndexType> DiGraph<N, E, Ix> {
         weight
     }
 
-    /// Removes all nodes and edges. It keeps the memory for later ones.
+    /// Removes all nodes and edges. The capacity is kept.
     ///
     /// The cost grows with the number of nodes and edges.
     pub fn clear(&mut self)
@@ -113,7 +116,7 @@ impl<N, E, Ix: IndexType> DiGraph<N, E, Ix> {
         self.edges.clear();
     }
 
-    /// Removes all edges, and keeps the nodes. It keeps the memory for later edges.
+    /// Removes all edges, and keeps the nodes. The capacity is kept.
     ///
     /// The cost grows with the number of nodes and edges.
     pub fn clear_edges(&mut self)

@@ -1,4 +1,4 @@
-//! All weights to write, one after another.
+//! Mutable access to all weights by a closure.
 ghost use Rattle.std.specs.Prelude.{◌≡◌, ◌≤◌, length, map};
 ghost use Rattle.daggy_base.specs.Mapping.{weight_in};
 ghost use Rattle.daggy_base.specs.CallsInTurn.{CanCallAtSlots, TakesToWrite};
@@ -12,9 +12,11 @@ use crate::graph::{DiGraph, Edge, Node};
 use daggy_base::index::{EdgeIndex, IndexType, NodeIndex};
 
 impl<N, E, Ix: IndexType> DiGraph<N, E, Ix> {
-    /// Calls `f` with each node by ascending index and with its weight, to be written.
+    /// Calls `f` with each node by ascending index and a mutable reference to its weight.
     ///
-    /// The cost grows with the number of nodes, besides that of the calls.
+    /// # Complexity
+    ///
+    /// O(nodes), plus the calls.
     pub fn update_node_weights<F: FnMut(NodeIndex<Ix>, &mut N)>(&mut self, f: F)
         requires { CanLendNodes Ix.of F.pre F.step f self.old.graph }
         ensures written { RewritesNodes Ix.of F.step f self.old.graph self.new.graph }
@@ -23,9 +25,11 @@ impl<N, E, Ix: IndexType> DiGraph<N, E, Ix> {
         write_nodes(&mut self.nodes, f);
     }
 
-    /// Calls `f` with each edge by ascending index and with its weight, to be written.
+    /// Calls `f` with each edge by ascending index and a mutable reference to its weight.
     ///
-    /// The cost grows with the number of edges, besides that of the calls.
+    /// # Complexity
+    ///
+    /// O(edges), plus the calls.
     pub fn update_edge_weights<F: FnMut(EdgeIndex<Ix>, &mut E)>(&mut self, f: F)
         requires { CanLendEdges Ix.of F.pre F.step f self.old.graph }
         ensures written { RewritesEdges Ix.of F.step f self.old.graph self.new.graph }
@@ -35,7 +39,7 @@ impl<N, E, Ix: IndexType> DiGraph<N, E, Ix> {
     }
 }
 
-// Hands the weight of each node to f.
+// Calls f with the weight of each node.
 fn write_nodes<N, Ix: IndexType, F: FnMut(NodeIndex<Ix>, &mut N)>(
     nodes: &mut Vec<Node<N, Ix>>,
     mut f: F,
@@ -52,7 +56,7 @@ fn write_nodes<N, Ix: IndexType, F: FnMut(NodeIndex<Ix>, &mut N)>(
     }
 }
 
-// Hands the weight of each edge to f.
+// Calls f with the weight of each edge.
 fn write_edges<E, Ix: IndexType, F: FnMut(EdgeIndex<Ix>, &mut E)>(
     edges: &mut Vec<Edge<E, Ix>>,
     mut f: F,

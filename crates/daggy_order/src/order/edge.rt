@@ -18,13 +18,15 @@ use daggy_labels::moving::{move_behind, sort_by_label};
 use daggy_labels::written::Written;
 use daggy_search::{Marks, Scratch, write_out};
 
-/// Makes way for an edge from `a` to `b` that is to be added: moves nodes so that `a` stands before
-/// `b`, unless the edge would close a cycle.
+/// Updates a topological order for a new edge from `a` to `b`, as in incremental topological
+/// ordering after Pearce and Kelly: moves nodes so that `a` precedes `b`. Returns false if the edge
+/// would close a cycle.
 ///
-/// Constant time if `a` stands before `b`. Otherwise the cost is that of the nodes between the two
-/// places that `b` reaches and of their edges, of sorting these nodes, and of labels that are made
-/// anew where there is no room for theirs, mostly few. It takes no memory; room in the scratch that
-/// no search wrote before is written.
+/// # Complexity
+///
+/// O(1) if `a` precedes `b`. Otherwise it searches the nodes reachable from `b` that lie between
+/// the two, sorts them and moves them after `a`; a few neighbors may be relabelled. Does not
+/// allocate.
 #[inline]
 pub fn order_edge<Ix: IndexType, S: EdgeSource<Ix>>(
     source: &mut S,
@@ -54,7 +56,7 @@ pub fn order_edge<Ix: IndexType, S: EdgeSource<Ix>>(
         → S.looks source.new ≡ S.looks source.old }
     ensures same_capacity { scratch.new ≡ scratch.old }
 {
-    // Asked for its contract alone: what exists is in the order.
+    // Called only for its postcondition: what exists is in the order.
     let _exists = source.contains_node(b);
     if order.stands_before(a, b) {
         return true;
@@ -173,7 +175,7 @@ fn order_links<Ix: IndexType, S: EdgeSource<Ix>>(
     }
 }
 
-// Puts nodes that stand before `a` behind it, ordered as they stood, and labels them.
+// Moves nodes from before `a` to after it, in their old order, and labels them.
 fn move_sorted<Ix: IndexType>(
     links: &mut Links<Ix>,
     labels: &mut Vec<u64>,

@@ -1,4 +1,4 @@
-//! Nodes that get new indices all at once.
+//! Renaming all nodes at once.
 ghost use Rattle.std.specs.Prelude.{◌≡◌, ℕ, ◌<◌, ◌≤◌, Some, Contains, length};
 ghost use Rattle.std.specs.List.{filter_map};
 ghost use Rattle.daggy_base.specs.Graph.{slot};
@@ -8,10 +8,12 @@ use daggy_base::index::{IndexType, NodeIndex};
 use daggy_base::link::Link;
 
 impl<Ix: IndexType> Order<Ix> {
-    /// Keeps the nodes that have a new index, under that index and in their order. `names` has the
-    /// new index of each node, if it stays.
+    /// Keeps the nodes that have a new index, under that index and in their old order. `names` has
+    /// the new index of each node that is kept.
     ///
-    /// The cost grows with the length of `names`. It takes no memory.
+    /// # Complexity
+    ///
+    /// O(length of `names`). Does not allocate.
     pub fn rename_all(&mut self, names: &[Option<Link<Ix>>])
         requires few { length names.now ≤ Ix.greatest }
         requires covered { (n : ℕ) → Contains self.old n → n < length names.now }

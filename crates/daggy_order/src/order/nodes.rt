@@ -1,4 +1,4 @@
-//! Going over the nodes of an order.
+//! Iterating over an order.
 ghost use Rattle.std.specs.Prelude.{◌≡◌, ◌<◌, ◌^◌, length};
 ghost use Rattle.std.specs.Iterator.{YieldsFirstBy, item_count};
 

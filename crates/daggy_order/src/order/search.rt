@@ -1,4 +1,4 @@
-//! A search that stays before a place of an order.
+//! A search that stays before a position of an order.
 ghost use Rattle.std.specs.Prelude.{◌≡◌, ℕ, ◌+◌, ◌<◌, ◌≤◌, ◌↔◌, List, None, false, true, take};
 ghost use Rattle.std.specs.Prelude.{length, slice_index, slice_index_or, slice_set, Contains};
 ghost use Rattle.std.specs.Prelude.{IfSome};
@@ -21,9 +21,9 @@ fn write<Ix: IndexType>(list: &mut [Link<Ix>], at: usize, link: Link<Ix>)
     list[at] = link;
 }
 
-// The nodes that `from` reaches, as far as their labels are lower than `to`'s, which is `limit`, or
-// `None` if it reaches `to`. Every parent's label is lower than its children's. The nodes are the
-// first of `found`, and the answer is their number.
+// Collects into the front of `found` the nodes reachable from `from` whose label is below `limit`
+// (the label of `to`), and returns how many. Returns `None` if `to` is reachable. Every parent's
+// label is lower than its children's.
 pub(crate) fn reaches_below<Ix: IndexType, S: EdgeSource<Ix>>(
     source: &mut S,
     from: NodeIndex<Ix>,

@@ -43,10 +43,16 @@ fn place(bound: usize, a: usize, b: usize) -> usize
 }
 
 impl<Ix: IndexType> AdjMatrix<Ix> {
-    /// A matrix without pairs for the indices below a bound. `Err` says that there is no memory, or
-    /// that no memory could be large enough.
+    /// An empty matrix for the indices below a bound.
     ///
-    /// Takes time in proportion to a 64th of the square of the bound.
+    /// # Errors
+    ///
+    /// Returns `AllocError` if an allocation fails, or if the matrix exceeds what a machine can
+    /// address.
+    ///
+    /// # Complexity
+    ///
+    /// O(bound^2 / 64).
     pub fn new(alloc: Global, bound: usize) -> Result<AdjMatrix<Ix>, AllocError>
         ensures bound { IfOk result (λ matrix. length matrix ≡ bound) }
         ensures empty { IfOk result (λ matrix. (a b : ℕ) → ¬ HasPair matrix a b) }
@@ -76,7 +82,7 @@ impl<Ix: IndexType> AdjMatrix<Ix> {
         self.bits.set(i);
     }
 
-    /// Whether the matrix has a pair. It has none with an index past its bound.
+    /// Whether the matrix has a pair; false if an index is past its bound.
     #[inline]
     pub fn has(&self, a: NodeIndex<Ix>, b: NodeIndex<Ix>) -> bool
         ensures { IsTrue result ↔ HasPair self.now (Ix.number a) (Ix.number b) }

@@ -9,7 +9,7 @@ pub trait NodeIndexable: Data {
     // The greatest number that a node can be named by.
     ghost greatest: { ℕ };
 
-    /// The greatest index of a node plus one, or 0.
+    /// One more than the greatest node index, or 0 if there is no node.
     fn node_bound(&self) -> usize
         ensures value { result ≡ node_bound_of (Self.graph self.now) }
         ensures fits { node_bound_of (Self.graph self.now) ≤ greatest };

@@ -15,7 +15,7 @@ pub trait VisitMap<N> {
 
     ghost number: { N → ℕ };
 
-    /// Adds a member, and says whether it was missing.
+    /// Adds a member, and returns whether it was new.
     fn visit(&mut self, a: N) -> bool
         requires { number a < length (visited self.old) }
         ensures answer { IsFalse result ↔ IsVisited (visited self.old) (number a) }
@@ -33,14 +33,21 @@ pub trait Visitable: Data {
     /// A set of nodes.
     type Map: VisitMap<Self::NodeId>;
 
-    /// An empty set with room for the nodes of the graph. `Err` says that there is no memory.
+    /// An empty set that fits the nodes of the graph.
+    ///
+    /// # Errors
+    ///
+    /// Returns `AllocError` if an allocation fails.
     fn visit_map(&self) -> Result<Self::Map, AllocError>
         ensures bound { IfOk result (λ map.
             length (Self.Map.visited map) ≡ node_bound_of (Self.graph self.now)) }
         ensures empty { IfOk result (λ map. (n : ℕ) → ¬ IsVisited (Self.Map.visited map) n) };
 
-    /// Empties a set and gives it room for the nodes of the graph. `Err` says that there is no
-    /// memory for it.
+    /// Empties a set and makes it fit the nodes of the graph.
+    ///
+    /// # Errors
+    ///
+    /// Returns `AllocError` if an allocation fails; the set is unchanged.
     fn reset_map(&self, map: &mut Self::Map) -> Result<(), AllocError>
         ensures bound { OnOk result
             (length (Self.Map.visited map.new) ≡ node_bound_of (Self.graph self.now)) }
@@ -59,7 +66,11 @@ pub trait GetAdjacencyMatrix: Data {
     // The pairs that a matrix stands for.
     ghost pairs: { Self.AdjMatrix → List (List Bool) };
 
-    /// The pairs of nodes that an edge joins. `Err` says that there is no memory.
+    /// The pairs of nodes that an edge joins.
+    ///
+    /// # Errors
+    ///
+    /// Returns `AllocError` if an allocation fails.
     fn adjacency_matrix(&self) -> Result<Self::AdjMatrix, AllocError>
         ensures { IfOk result (λ matrix.
             (a b : ℕ) → HasPair (pairs matrix) a b ↔ AreJoined (Self.graph self.now) a b) };

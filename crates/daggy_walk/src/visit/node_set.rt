@@ -28,9 +28,15 @@ impl<Ix> Model for NodeSet<Ix> {
 }
 
 impl<Ix: IndexType> NodeSet<Ix> {
-    /// An empty set for the indices below a bound. `Err` says that there is no memory.
+    /// An empty set for the indices below a bound.
     ///
-    /// Takes time in proportion to a 64th of the bound.
+    /// # Errors
+    ///
+    /// Returns `AllocError` if an allocation fails.
+    ///
+    /// # Complexity
+    ///
+    /// O(bound / 64).
     pub fn new(alloc: Global, bound: usize) -> Result<NodeSet<Ix>, AllocError>
         ensures bound { IfOk result (λ set. length set ≡ bound) }
         ensures empty { IfOk result (λ set. (n : ℕ) → ¬ IsVisited set n) }
@@ -42,9 +48,15 @@ impl<Ix: IndexType> NodeSet<Ix> {
         })
     }
 
-    /// Empties the set and gives it another bound. `Err` says that there is no memory for it.
+    /// Empties the set and sets its bound.
     ///
-    /// Takes time in proportion to a 64th of the bound.
+    /// # Errors
+    ///
+    /// Returns `AllocError` if an allocation fails; the set is unchanged.
+    ///
+    /// # Complexity
+    ///
+    /// O(bound / 64).
     pub fn reset(&mut self, bound: usize) -> Result<(), AllocError>
         ensures bound { OnOk result (length self.new ≡ bound) }
         ensures empty { OnOk result ((n : ℕ) → ¬ IsVisited self.new n) }
@@ -54,7 +66,7 @@ impl<Ix: IndexType> NodeSet<Ix> {
         self.bits.reset(bound)
     }
 
-    /// Adds a node, and says whether it was missing.
+    /// Adds a node, and returns whether it was new.
     #[inline]
     pub fn visit(&mut self, n: NodeIndex<Ix>) -> bool
         requires { Ix.number n < length self.old }
@@ -66,7 +78,7 @@ impl<Ix: IndexType> NodeSet<Ix> {
         self.bits.set(n.index())
     }
 
-    /// Whether the set has a node. It has none past its bound.
+    /// Whether the set has a node; false past its bound.
     #[inline]
     pub fn is_visited(&self, n: NodeIndex<Ix>) -> bool
         ensures { IsTrue result ↔ IsVisited self.now (Ix.number n) }

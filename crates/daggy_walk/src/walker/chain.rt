@@ -5,9 +5,9 @@ ghost use Rattle.daggy_walk.specs.Parts.{chain_first, chain_second};
 use crate::walker::{FiniteWalker, FusedWalker, Walker};
 use std::marker::PhantomData;
 
-/// One walk, and after its end another.
+/// One walk, followed by another.
 ///
-/// The first walker is dropped when it gives nothing for the first time.
+/// The first walker is dropped when it yields nothing for the first time.
 #[derive(Drop)]
 #[derive_where(Clone, Copy, Debug; A, B)]
 pub struct Chain<G, A, B> {

@@ -5,9 +5,9 @@ ghost use Rattle.daggy_walk.specs.Parts.{cycle_start, cycle_running};
 use crate::walker::Walker;
 use std::marker::PhantomData;
 
-/// A walk that begins anew each time it ends.
+/// A walk that starts again each time it ends.
 ///
-/// Over a walk that gives nothing it gives nothing each time. Else it has no end, so it is no
+/// Over an empty walk it yields nothing each time. Otherwise it never ends, so it is not a
 /// [`FiniteWalker`](crate::walker::FiniteWalker).
 #[derive(Drop)]
 #[derive_where(Clone, Copy, Debug; W)]

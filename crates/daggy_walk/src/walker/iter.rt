@@ -5,9 +5,9 @@ ghost use Rattle.daggy_walk.specs.Parts.{iter_walker, iter_graph};
 use crate::walker::{FusedWalker, Walker};
 use std::iter::FusedIterator;
 
-/// The rest of a walk over a graph that is borrowed, as an iterator. [`Walker::iter`] makes it.
+/// The rest of a walk over a borrowed graph, as an iterator. Returned by [`Walker::iter`].
 ///
-/// As a walk may go on after it gave `None`, so may this, unless the walker is a
+/// Like the walker itself, this iterator may yield items again after `None`, unless the walker is a
 /// [`FusedWalker`](crate::walker::FusedWalker).
 #[derive(Drop)]
 #[derive_where(Clone, Copy, Debug; W)]

@@ -13,9 +13,9 @@ impl<G, W: Walker<G>> Ahead<G, W, W::Item>
 where
     W::Item: Drop,
 {
-    /// What the next step gives. It is taken out of the walk now, and held until that step.
+    /// The item of the next step. It is taken out of the walk now, and held until that step.
     ///
-    /// Where the walk gives nothing, nothing is held, and the next step asks again.
+    /// If the walk yields nothing, nothing is held, and the next step asks again.
     #[inline]
     pub fn peek(&mut self, graph: &G) -> Option<&W::Item>
         requires { W.can_walk (peekable_walker self.old) graph.now }

@@ -1,11 +1,11 @@
-//! A walk with a look at what comes next.
+//! A walk with a look ahead.
 ghost use Rattle.std.specs.Prelude.{◌≡◌, None};
 ghost use Rattle.daggy_walk.specs.Parts.{peekable_walker, peekable_held};
 
 use crate::walker::{FiniteWalker, FusedWalker, Walker};
 use std::marker::PhantomData;
 
-/// A walk that can be asked what comes next before it goes there.
+/// A walk whose next item can be peeked at.
 pub type Peekable<G, W> = Ahead<G, W, <W as Walker<G>>::Item>;
 
 /// A [`Peekable`] walk, whose items are of type `T`.
@@ -18,7 +18,7 @@ pub struct Ahead<G, W, T> {
 }
 
 impl<G, W, T> Ahead<G, W, T> {
-    /// The same walk, with nothing looked at yet.
+    /// The same walk, with nothing peeked at yet.
     #[inline]
     pub fn new(walker: W) -> Self
         ensures walker { peekable_walker result ≡ walker }

@@ -1,4 +1,4 @@
-//! A walk that a function leads from node to node.
+//! Walks along edges that a function chooses.
 ghost use Rattle.std.specs.Prelude.{◌≡◌};
 ghost use Rattle.daggy_walk.specs.Leading.{LeadsOn, RecursiveStep};
 ghost use Rattle.daggy_walk.specs.Parts.{recursive_node, recursive_function};
@@ -7,10 +7,10 @@ use crate::visit::GraphBase;
 use crate::walker::Walker;
 use std::marker::PhantomData;
 
-/// A walk that goes from a node to the one that a function names, and so on.
+/// A walk from a node to the one that a function chooses, and so on.
 ///
-/// Where the function names none, the walk stays, and asks there again at its next step. It may
-/// have no end, so it is no [`FiniteWalker`](crate::walker::FiniteWalker).
+/// If the function returns `None` the walk stays where it is, and asks again at its next step. It
+/// may never end, so it is not a [`FiniteWalker`](crate::walker::FiniteWalker).
 pub type Recursive<G, F> = Led<G, <G as GraphBase>::NodeId, F>;
 
 /// A [`Recursive`] walk, whose nodes are named by `N`.
@@ -23,7 +23,7 @@ pub struct Led<G, N, F> {
 }
 
 impl<G, N, F> Led<G, N, F> {
-    /// A walk from `start` on, which `f` leads.
+    /// A walk from `start` along the edges that `f` chooses.
     #[inline]
     pub fn new(start: N, f: F) -> Self
         ensures node { recursive_node result ≡ start }

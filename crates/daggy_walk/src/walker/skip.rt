@@ -5,10 +5,9 @@ ghost use Rattle.daggy_walk.specs.Parts.{skip_walker, skip_count};
 use crate::walker::{FiniteWalker, FusedWalker, Walker};
 use std::marker::PhantomData;
 
-/// A walk without its first steps, which are all taken in the first step of this.
+/// A walk without its first items, which are skipped in the first step.
 ///
-/// So the first step takes time in proportion to the number of skipped steps, also where the walk
-/// ends before.
+/// So the first step is O(skipped steps), even if the walk ends before.
 #[derive(Drop)]
 #[derive_where(Clone, Copy, Debug; W)]
 pub struct Skip<G, W> {
@@ -18,7 +17,7 @@ pub struct Skip<G, W> {
 }
 
 impl<G, W> Skip<G, W> {
-    /// A walk without its first `to_skip` steps.
+    /// A walk without its first `to_skip` items.
     #[inline]
     pub fn new(walker: W, to_skip: usize) -> Self
         ensures walker { skip_walker result ≡ walker }

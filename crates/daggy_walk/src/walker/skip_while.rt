@@ -5,9 +5,9 @@ ghost use Rattle.daggy_walk.specs.Parts.{skip_while_walker, skip_while_predicate
 use crate::walker::{FiniteWalker, FusedWalker, Walker};
 use std::marker::PhantomData;
 
-/// A walk from the first item on that a predicate refuses.
+/// A walk from the first item on that a predicate rejects.
 ///
-/// The predicate is asked in the first step alone, and dropped then.
+/// The predicate is called only in the first step, and dropped then.
 #[derive(Drop)]
 #[derive_where(Clone, Copy, Debug; W, P)]
 pub struct SkipWhile<G, W, P> {
@@ -17,7 +17,7 @@ pub struct SkipWhile<G, W, P> {
 }
 
 impl<G, W, P> SkipWhile<G, W, P> {
-    /// A walk from the first item on that `predicate` refuses.
+    /// A walk from the first item on that `predicate` rejects.
     #[inline]
     pub fn new(walker: W, predicate: P) -> Self
         ensures walker { skip_while_walker result ≡ walker }

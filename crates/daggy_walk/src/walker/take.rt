@@ -5,10 +5,9 @@ ghost use Rattle.daggy_walk.specs.Parts.{take_walker, take_count};
 use crate::walker::{FiniteWalker, FusedWalker, Walker};
 use std::marker::PhantomData;
 
-/// The first steps of a walk. After so many steps it gives nothing, and its walker is asked no
-/// more.
+/// The first steps of a walk. After that it yields nothing, and its walker is not asked any more.
 ///
-/// Each step counts, also one that gives nothing.
+/// Steps that yield nothing count too.
 #[derive(Drop)]
 #[derive_where(Clone, Copy, Debug; W)]
 pub struct Take<G, W> {

@@ -5,9 +5,9 @@ ghost use Rattle.daggy_walk.specs.Parts.{take_while_walker, take_while_predicate
 use crate::walker::{FiniteWalker, FusedWalker, Walker};
 use std::marker::PhantomData;
 
-/// A walk up to the first item that a predicate refuses, which is not given.
+/// A walk up to, not including, the first item that a predicate rejects.
 ///
-/// The walker is dropped then. Where it merely gives nothing it is kept, and the walk may go on.
+/// The walker is dropped then. If it merely yields nothing it is kept, and the walk may continue.
 #[derive(Drop)]
 #[derive_where(Clone, Copy, Debug; W, P)]
 pub struct TakeWhile<G, W, P> {
@@ -17,7 +17,7 @@ pub struct TakeWhile<G, W, P> {
 }
 
 impl<G, W, P> TakeWhile<G, W, P> {
-    /// A walk up to the first item that `predicate` refuses.
+    /// A walk up to, not including, the first item that `predicate` rejects.
     #[inline]
     pub fn new(walker: W, predicate: P) -> Self
         ensures walker { take_while_walker result ≡ Some walker }
