@@ -7,8 +7,8 @@ ghost use Rattle.daggy_reduction.specs.AnyWeights.{AreAlike, IsLeastOfAll};
 /// Two dags on the same nodes, each reduced from roots that reach all of its nodes, join the same
 /// pairs exactly if the same nodes reached each other in the two dags before.
 ///
-/// The weights are of the types `N` and `E` in the one dag, and `M` and `F` in the other. The limits
-/// of indices, the kinds of dag and the roots may differ too.
+/// The weights are of the types `N` and `E` in one dag, and `M` and `F` in the other. The limits of
+/// indices, the kinds of dag and the roots may differ too.
 ///
 /// Call it beside two calls of `transitive_reduce`. The law asks for what these say of the graphs
 /// before and after them, and for the dags' invariant.

@@ -5,5 +5,5 @@ use Rattle.daggy_reduction.proofs.reduction_laws.reduction_is_least.Goals as goa
 
 pub returns : goal.returns
 returns g c limit kind roots old new h dag r same u v below j =
-    least roots old new dag.acyclic (reduction_loses kind roots old new r) (joined_exist limit old dag.well_formed) h same u
-    v below j
+    least roots old new dag.acyclic (reduction_loses kind roots old new r) (joined_exist limit old dag.well_formed) h
+    same u v below j
