@@ -20,6 +20,18 @@ expect() { # STATUS OUTPUT ERROR REFUSED WORDS..: the program ends so and writes
   fi
 }
 
+fails() { # ERROR INPUT OUTPUT WORDS..: from that file to that one, the program ends with status 1 and this error
+  local error=$1 input=$2 output=$3
+  shift 3
+  local complained ended
+  complained=$("$program" "$@" 2>&1 <"$input" >"$output")
+  ended=$?
+  if [ "$ended" != 1 ] || [ "$complained" != "$error" ]; then
+    printf 'with %s, from %s to %s: status %s, error %s\n' "$*" "$input" "$output" "$ended" "$complained"
+    exit 1
+  fi
+}
+
 expect 2 '' "$usage" 0
 expect 2 '' "$usage" 0 dense
 expect 2 '' "$usage" 0 compact compact
@@ -29,3 +41,12 @@ expect 0 "$replies" '' 0 compact
 expect 0 "$replies" '' 0 stable
 expect 0 "$replies"$'\nstage n0\nstage n1\nchain n0 n1' '' 0 plan compact
 expect 0 "$replies"$'\nstage n0\nstage n1\nchain n0 n1' '' 0 plan stable
+
+# A directory cannot be read, and a full device takes nothing.
+printf '%s' "$lines" >"$shim.lines"
+for kind in compact stable; do
+  fails 'dagbench: read failed' / /dev/null "$kind"
+  fails 'dagbench: read failed' / /dev/null plan "$kind"
+  fails 'dagbench: write failed' "$shim.lines" /dev/full "$kind"
+  fails 'dagbench: write failed' "$shim.lines" /dev/full plan "$kind"
+done

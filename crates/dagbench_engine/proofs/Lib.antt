@@ -1,3 +1,4 @@
+pub mod GivenSoFar
 pub mod Runs
 pub mod ServedSoFar
 pub mod AnswersAtOnce

@@ -1,7 +1,7 @@
 -- The steps of a run, and what its clauses say.
 use Rattle.std.proofs.Common.{◌≡◌, ◌↔◌, ℕ, ◌+◌, ◌-◌, ◌^◌, ◌<◌, ◌≤◌, ◌==◌, ◌&&◌, ◌||◌, nat_lt, Bool, true, false, List}
 use Rattle.std.proofs.Common.{[], ◌++◌, length, take, Result, Ok, Err, refl, sym, ap, subst, ◌∙◌, append-nil}
-use Rattle.std.proofs.Common.{length-append, arith, lt-ltb, ℤ}
+use Rattle.std.proofs.Common.{length-append, arith, lt-ltb, ℤ, IfSome}
 use Rattle.std.proofs.lemmas.List.{length-take}
 use Rattle.std.specs.Result.{OnOk}
 use Rattle.daggy.specs.Graph.{Graph, empty}
@@ -102,6 +102,11 @@ module _ (kind : Kind) (plans : Bool) (old new : Exchange) (is_ended : Bool) whe
       → Is r → OnOk r (Serves kind plans lines_of old.given new.given old.taken new.taken)
   run_serves (Ok done) is = is.0
   run_serves (Err stop) is = tt
+
+  pub run_gives_all : (r : Result (Unit {0}) Stop)
+      → Is r → OnOk r (IfSome old.remaining (λ input. new.given ≡ old.given ++ input))
+  run_gives_all (Ok done) is = is.2
+  run_gives_all (Err stop) is = tt
 
   pub run_tells_read : (r : Result (Unit {0}) Stop) → Is r → (r ≡ Err Read) ↔ (old.failed_reads < new.failed_reads)
   run_tells_read (Ok done) is = (λ e. absurd (cc), λ h. absurd (omega arith))

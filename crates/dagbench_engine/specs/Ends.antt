@@ -1,24 +1,26 @@
 -- What holds of the devices where a run ends.
-use Rattle.std.specs.Prelude.{◌≡◌, ℕ, ◌+◌, Bool, true, false, List, Result, Ok, Err}
+use Rattle.std.specs.Prelude.{◌≡◌, ℕ, ◌+◌, Bool, true, false, Option, List, ◌++◌, Result, Ok, Err, IfSome}
 use Rattle.daggy.specs.Removal.{Kind}
 use Rattle.dagbench_engine.specs.declared.stop.Stop.{Stop}
 use Rattle.dagbench_engine.specs.declared.stop.Stop.TheVariants.{Read, Write, Memory}
 use Rattle.dagbench_lines.specs.Cutting.{lines_of, ended_lines_of}
 use Rattle.dagbench_engine.specs.Serving.{Serves}
 
--- What a run has exchanged with its devices: the bytes that the source gave and that the sink took, and how many calls
--- of each failed.
+-- What a run has exchanged with its devices: the bytes that the source gave, those that it tells to be still to come,
+-- those that the sink took, and how many calls of each failed.
 pub record Exchange : Type 0 where
   pub given : List ℕ
+  pub remaining : Option (List ℕ)
   pub taken : List ℕ
   pub failed_reads : ℕ
   pub failed_writes : ℕ
 
--- The run of a new session: at most one call failed, the one that is told, and want of memory is not told. There is no
--- plan where the source failed.
+-- The run of a new session: at most one call failed, the one that is told, and want of memory is not told. An Ok comes
+-- only once all was given that was still to come. There is no plan where the source failed.
 abbrev pub IsRun : Kind → (plans : Bool) → Result (Unit {0}) Stop → (old new : Exchange) → (is_ended : Bool) → Type 0
 IsRun kind plans (Ok done) old new is_ended =
     Serves kind plans lines_of old.given new.given old.taken new.taken × (is_ended ≡ true)
+    × IfSome old.remaining (λ input. new.given ≡ old.given ++ input)
     × (new.failed_reads ≡ old.failed_reads) × (new.failed_writes ≡ old.failed_writes)
 IsRun kind plans (Err Read) old new is_ended =
     Serves kind false ended_lines_of old.given new.given old.taken new.taken

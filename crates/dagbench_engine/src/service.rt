@@ -1,5 +1,5 @@
 //! A whole run.
-ghost use Rattle.std.specs.Prelude.{◌≡◌, ◌<◌, ◌↔◌, [], true, false, Err, OnOk, length};
+ghost use Rattle.std.specs.Prelude.{◌≡◌, ◌<◌, ◌↔◌, [], ◌++◌, true, false, Err, OnOk, IfSome, length};
 ghost use Rattle.daggy.specs.Graph.{empty};
 ghost use Rattle.dagbench_engine.specs.Arguments.{kind_of, plans as plans_of};
 ghost use Rattle.dagbench_lines.specs.Cutting.{lines_of, ended_lines_of};
@@ -32,6 +32,10 @@ pub fn serve<S: Source, K: Sink>(
     ensures served { OnOk result (Serves (kind_of mode) (plans_of mode) lines_of
         (S.given source.old) (S.given source.new) (K.taken sink.old) (K.taken sink.new)) }
 
+    // Where the source tells what is still to come, all of it was given.
+    ensures whole { OnOk result (IfSome (S.remaining source.old)
+        (λ input. S.given source.new ≡ S.given source.old ++ input)) }
+
     // A fault is told exactly where its device failed.
     ensures read { (result ≡ Err Stop.Read) ↔ (S.failures source.old < S.failures source.new) }
     ensures write { (result ≡ Err Stop.Write) ↔ (K.failures sink.old < K.failures sink.new) }
@@ -61,6 +65,10 @@ fn serve_with<D: Documented, S: Source, K: Sink>(
     ensures end { OnOk result (S.is_ended source.new ≡ true) }
     ensures served { OnOk result (Serves D.kind plans lines_of
         (S.given source.old) (S.given source.new) (K.taken sink.old) (K.taken sink.new)) }
+
+    // Where the source tells what is still to come, all of it was given.
+    ensures whole { OnOk result (IfSome (S.remaining source.old)
+        (λ input. S.given source.new ≡ S.given source.old ++ input)) }
 
     // A fault is told exactly where its device failed.
     ensures read { (result ≡ Err Stop.Read) ↔ (S.failures source.old < S.failures source.new) }
@@ -94,12 +102,14 @@ fn run<D: Documented, S: Source, K: Sink>(
     ensures { IsRun D.kind plans result
         (record {
           given = S.given source.old;
+          remaining = S.remaining source.old;
           taken = K.taken sink.old;
           failed_reads = S.failures source.old;
           failed_writes = K.failures sink.old;
         })
         (record {
           given = S.given source.new;
+          remaining = S.remaining source.new;
           taken = K.taken sink.new;
           failed_reads = S.failures source.new;
           failed_writes = K.failures sink.new;

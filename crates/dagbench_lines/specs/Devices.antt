@@ -33,9 +33,9 @@ pub record DeviceState (D : Type 0) : Type 0 where
   pub given : Passed
   pub taken : Passed
 
--- What a call on a source took from the reader behind it. At an Ok of n the reader lost the first n bytes of the
--- buffer, and none only if it had none left or there was no room. At an Err it lost nothing, or more than a source may
--- give.
+-- What a call on a source took from the bytes that were still to come, where they are known. At an Ok of n they lost
+-- the first n bytes of the buffer, and none only if none was left or there was no room. At an Err they lost nothing, or
+-- more than a source may give.
 abbrev pub TakesFrom : {E : Type 0}
     → (left_old left_new : Option (List ℕ)) → (given : List ℕ) → Result ℕ E → (buffer : List ℕ) → Type 0
 TakesFrom left_old left_new given (Ok n) buffer =

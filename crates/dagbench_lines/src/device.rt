@@ -83,19 +83,20 @@ impl<D> Device<D> {
 impl<R: Read> Source for Device<R> {
     ghost given = { λ s. s.given.bytes };
 
+    // What the reader tells of its bytes.
+    ghost remaining = { λ s. R.remaining s.device };
+
     ghost is_ended = { λ s. s.given.is_ended };
 
     ghost failures = { λ s. s.given.failures };
 
     fn read(&mut self, buffer: &mut [u8]) -> Result<usize, Fault>
         ensures bytes { Gives result self.old.given.bytes self.new.given.bytes buffer.new }
+        ensures rest { TakesFrom (R.remaining self.old.device) (R.remaining self.new.device)
+            self.old.given.bytes result buffer.new }
         ensures few { OnOk result (length self.new.given.bytes < 2 ^ 64) }
         ensures end { MeetsEnd result self.old.given.is_ended self.new.given.is_ended buffer.new }
         ensures counted { CountsFaults result self.old.given.failures self.new.given.failures }
-
-        // Where the reader tells its bytes, they are what was given.
-        ensures reader { TakesFrom (R.remaining self.old.device) (R.remaining self.new.device)
-            self.old.given.bytes result buffer.new }
     {
         let Ok(count) = self.device.read(buffer) else {
             self.given = self.given.and_failure();

@@ -1,6 +1,7 @@
 //! A source and a sink that hold their bytes, and fail where they are told to.
 ghost use Rattle.std.specs.Prelude.{◌≡◌, ◌≢◌, ◌↔◌, ℕ, ◌≤◌, ◌<◌, ◌^◌, ◌++◌, ◌-◌, min, List, []};
-ghost use Rattle.std.specs.Prelude.{None, Some, false, take, length, IsOk, IsErr, IfOk, OnOk};
+ghost use Rattle.std.specs.Prelude.{None, Some, false, take, drop, length, IsOk, IsErr, IfOk, OnOk};
+ghost use Rattle.dagbench_lines.specs.Devices.{TakesFrom};
 ghost use Rattle.dagbench_lines.specs.Streams.{CountsFaults, Appends, Gives, MeetsEnd};
 ghost use Rattle.dagbench_lines.specs.Failing.{passes_after};
 
@@ -88,6 +89,8 @@ impl MemorySource {
         ensures count { result ≡ min (length self.old.bytes - self.old.at) (length buffer.new) }
         ensures bytes { take self.new.at self.new.bytes
             ≡ take self.old.at self.old.bytes ++ take result buffer.new }
+        ensures rest { drop self.old.at self.old.bytes
+            ≡ take result buffer.new ++ drop self.new.at self.new.bytes }
         ensures others { (self.new.is_ended ≡ self.old.is_ended)
             × (self.new.failures ≡ self.old.failures) × (self.new.passes ≡ self.old.passes) }
     {
@@ -100,6 +103,8 @@ impl MemorySource {
 impl Source for MemorySource {
     ghost given = { λ s. take s.at s.bytes };
 
+    ghost remaining = { λ s. Some (drop s.at s.bytes) };
+
     ghost is_ended = { λ s. s.is_ended };
 
     ghost failures = { λ s. s.failures };
@@ -107,6 +112,9 @@ impl Source for MemorySource {
     fn read(&mut self, buffer: &mut [u8]) -> Result<usize, Fault>
         ensures bytes { Gives result (take self.old.at self.old.bytes)
             (take self.new.at self.new.bytes) buffer.new }
+        ensures rest { TakesFrom (Some (drop self.old.at self.old.bytes))
+            (Some (drop self.new.at self.new.bytes))
+            (take self.old.at self.old.bytes) result buffer.new }
         ensures few { OnOk result (length (take self.new.at self.new.bytes) < 2 ^ 64) }
         ensures end { MeetsEnd result self.old.is_ended self.new.is_ended buffer.new }
         ensures counted { CountsFaults result self.old.failures self.new.failures }

@@ -1,5 +1,6 @@
 //! What the engine reads from and writes to.
-ghost use Rattle.std.specs.Prelude.{◌≡◌, ℕ, ◌<◌, ◌^◌, Bool, List, length, OnOk};
+ghost use Rattle.std.specs.Prelude.{◌≡◌, ℕ, ◌<◌, ◌^◌, Bool, Option, None, List, length, OnOk};
+ghost use Rattle.dagbench_lines.specs.Devices.{TakesFrom};
 ghost use Rattle.dagbench_lines.specs.Streams.{CountsFaults, Appends, Gives, MeetsEnd};
 
 /// A device failed in a call.
@@ -11,6 +12,9 @@ pub trait Source {
     /// The bytes given so far.
     ghost given: { Self → List ℕ };
 
+    /// The bytes that are still to come, where the source tells them.
+    ghost remaining: { Self → Option (List ℕ) } = { λ _. None };
+
     /// Whether the end was met.
     ghost is_ended: { Self → Bool };
 
@@ -21,6 +25,8 @@ pub trait Source {
     /// there is no room. A source has fewer than 2^64 bytes.
     fn read(&mut self, buffer: &mut [u8]) -> Result<usize, Fault>
         ensures bytes { Gives result (given self.old) (given self.new) buffer.new }
+        ensures rest { TakesFrom (remaining self.old) (remaining self.new)
+            (given self.old) result buffer.new }
         ensures few { OnOk result (length (given self.new) < 2 ^ 64) }
         ensures end { MeetsEnd result (is_ended self.old) (is_ended self.new) buffer.new }
         ensures counted { CountsFaults result (failures self.old) (failures self.new) };

@@ -1,11 +1,13 @@
 use Rattle.std.proofs.Common.{refl, sym, ◌∙◌, ap, ◌+◌, ◌<◌, length, arith}
 use Rattle.std.proofs.lemmas.List.{length-take-le}
 use Rattle.dagbench_engine.proofs.Runs.{new_session, read_on, read_failed, read_all, comes_nearer, met}
+use Rattle.dagbench_engine.proofs.GivenSoFar.{none_given, more_given, all_given}
 use Rattle.dagbench_engine.proofs.service.run.Goals as goal
 
 pub reads-init : goal.reads-init
 reads-init g c = record {
   served = new_session c.requires.graph c.requires.nothing.0 c.requires.nothing.1;
+  gave = none_given _ _;
   no_read_fault = refl;
   no_write_fault = refl;
 }
@@ -38,6 +40,7 @@ reads-preserved g c = record {
   served =
       read_on (g.K.Sink.taken c.reads.sink) c.reads.session.output _ c.reads.invariant.served
       c.in-Ok.ensures.text c.in-Ok.ensures.empty c.in-Ok-read.ensures.bytes.1 c.in-Ok-take_block.ensures.served;
+  gave = more_given _ _ _ _ _ _ _ c.reads.invariant.gave c.in-Ok-read.ensures.bytes.1 c.in-Ok-read.ensures.rest.0;
   no_read_fault = c.in-Ok-read.ensures.counted ∙ c.reads.invariant.no_read_fault;
   no_write_fault = c.in-Ok-take_block.ensures.counted ∙ (c.in-Ok.ensures.counted ∙ c.reads.invariant.no_write_fault);
 }
@@ -62,6 +65,9 @@ returns g c =
           c.in-Ok.ensures.text c.in-Ok.ensures.empty c.in-Ok-read.ensures.bytes.1 c.if-count-eq0.true
           c.in-Ok-finish.ensures.served,
       met _ _ c.in-Ok-read.ensures.end c.if-count-eq0.true room,
+      all_given _ _ _ _
+          (more_given _ _ _ _ _ _ _ c.reads.invariant.gave c.in-Ok-read.ensures.bytes.1 c.in-Ok-read.ensures.rest.0)
+          (c.in-Ok-read.ensures.rest.1 c.if-count-eq0.true room),
       c.in-Ok-read.ensures.counted ∙ c.reads.invariant.no_read_fault,
       c.in-Ok-finish.ensures.counted ∙ (c.in-Ok.ensures.counted ∙ c.reads.invariant.no_write_fault),
     )

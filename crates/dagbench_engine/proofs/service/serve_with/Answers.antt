@@ -1,6 +1,6 @@
 use Rattle.std.proofs.Common.{refl, ap, ◌∙◌, arith}
-use Rattle.dagbench_engine.proofs.Runs.{run_ends, run_serves, run_tells_read, run_tells_write, run_replies}
-use Rattle.dagbench_engine.proofs.Runs.{run_has_room}
+use Rattle.dagbench_engine.proofs.Runs.{run_ends, run_serves, run_gives_all, run_tells_read, run_tells_write}
+use Rattle.dagbench_engine.proofs.Runs.{run_replies, run_has_room}
 use Rattle.dagbench_engine.proofs.service.serve_with.Goals as goal
 
 pub returns-in_default-clause-read : goal.returns-in_default-clause-read
@@ -41,6 +41,9 @@ returns-clause-end g c = run_ends _ _ _ _ _ _ c.run.ensures
 
 pub returns-clause-served : goal.returns-clause-served
 returns-clause-served g c = run_serves _ _ _ _ _ _ c.run.ensures
+
+pub returns-clause-whole : goal.returns-clause-whole
+returns-clause-whole g c = run_gives_all _ _ _ _ _ _ c.run.ensures
 
 pub returns-clause-read : goal.returns-clause-read
 returns-clause-read g c = run_tells_read _ _ _ _ _ _ c.run.ensures
