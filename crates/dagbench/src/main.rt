@@ -6,7 +6,7 @@ use std::process::ExitCode;
 use std::rt::Env;
 use std::{env, io};
 
-/// The arguments behind the program's name.
+/// The arguments after the program's name.
 fn arguments(rt: &(impl Env + AllocGlobal)) -> io::Result<Vec<String>> {
     let mut words = env::args(rt)?;
     let _program = words.next();

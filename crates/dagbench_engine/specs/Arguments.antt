@@ -6,7 +6,7 @@ use Rattle.daggy.specs.Removal as kind
 use Rattle.dagbench_engine.specs.declared.mode.Mode.{Mode}
 use Rattle.dagbench_engine.specs.declared.mode.Mode.TheVariants.{Compact, Stable, PlanCompact, PlanStable}
 
--- `compact` or `stable`, or one of these behind `plan`
+-- `compact` or `stable`, or one of these after `plan`
 abbrev pub mode_by_words : List (List ℕ) → Option Mode
 mode_by_words (word ∷ []) =
     if bytes_eq word (codes "compact") then Some Compact

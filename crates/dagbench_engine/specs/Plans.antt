@@ -30,7 +30,7 @@ IsPlanText g text =
     ((stages : List (List ℕ)) × (chain : List ℕ) × IsPlanned g stages chain × (text ≡ plan_text stages chain))
     ⊎ (text ≡ codes "memory" ++ newline ∷ [])
 
--- what is written behind the answers: nothing, or a plan if there is to be one
+-- what is written after the answers: nothing, or a plan if there is to be one
 abbrev pub IsClose : (plans : Bool) → Graph ℤ ℤ → List ℕ → Type 0
 IsClose false g text = text ≡ []
 IsClose true g text = IsPlanText g text

@@ -6,7 +6,7 @@ use Rattle.daggy.specs.Removal.{Kind}
 use Rattle.dagbench_lines.specs.Cutting.{newline, Lacks, lines_of, kept_count}
 use Rattle.dagbench_engine.specs.Transcripts.{IsAnswer, IsTranscript}
 
--- after an Ok the line was answered behind what had been written
+-- after an Ok the line was answered after what had been written
 abbrev pub AnswersLine : {A E : Type 0}
     → Kind → Result A E → (line : List ℕ) → (old new : Graph ℤ ℤ) → (written_old written_new : List ℕ) → Type 0
 AnswersLine kind (Ok x) line old new written_old written_new =

@@ -6,7 +6,7 @@ use Rattle.dagbench_engine.specs.Transcripts.{IsTranscript}
 use Rattle.dagbench_engine.specs.Plans.{IsClose}
 
 -- What the source gave is an input, and what the sink took are the answers to the lines in it, from the empty graph of
--- that kind on, and behind them a plan of the graph that they left, if there is to be one.
+-- that kind on, and after them a plan of the graph that they left, if there is to be one.
 pub record Serves (kind : Kind) (plans : Bool) (lines_in : List ℕ → List (List ℕ))
     (given_old given_new taken_old taken_new : List ℕ) : Type 0 where
   pub input : List ℕ

@@ -30,7 +30,7 @@ IsAnswer kind old line text new = MatchOption (asked_in line)
     ((text ≡ codes "bad line") × (new ≡ old))
     (λ asked. IsAnswered kind old asked text new)
 
--- the answers to lines, one after another, each with a newline behind it
+-- the answers to lines, one after another, each with a newline after it
 abbrev pub IsTranscript : Kind → Graph ℤ ℤ → List (List ℕ) → (text : List ℕ) → Graph ℤ ℤ → Type 0
 IsTranscript kind old [] text new = (text ≡ []) × (new ≡ old)
 IsTranscript kind old (line ∷ lines) text new =

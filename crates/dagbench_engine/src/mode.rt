@@ -15,7 +15,7 @@ pub enum Mode {
     PlanStable,
 }
 
-/// What the arguments behind the program's name ask for, None for wrong ones.
+/// What the arguments after the program's name ask for, None for wrong ones.
 pub fn mode_of(arguments: &[String]) -> Option<Mode>
     ensures { result ≡ mode_by_words (map string_bytes arguments.now) }
 {

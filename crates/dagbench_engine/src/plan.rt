@@ -1,4 +1,4 @@
-//! The plan that is written behind the answers.
+//! The plan that is written after the answers.
 ghost use Rattle.std.specs.Prelude.{◌≡◌, ℕ, List, [], ◌∷◌, ◌++◌, OnOk};
 ghost use Rattle.std.specs.List.{flat_map};
 ghost use Rattle.dagbench_lines.specs.Streams.{CountsFaults, Appends};
@@ -49,7 +49,7 @@ fn put_plan<D: GuardedDag<i64, i64, u32>, K: Sink>(
     output.put(sink, b"\n")
 }
 
-/// Writes what stands behind the answers: a plan of the dag, if there is to be one.
+/// Writes what stands after the answers: a plan of the dag, if there is to be one.
 pub fn put_close<D: GuardedDag<i64, i64, u32>, K: Sink>(
     alloc: Global,
     plans: bool,

@@ -32,7 +32,7 @@ pub fn serve<S: Source, K: Sink>(
     ensures served { OnOk result (Serves (kind_of mode) (plans_of mode) lines_of
         (S.given source.old) (S.given source.new) (K.taken sink.old) (K.taken sink.new)) }
 
-    // Where the source tells what is still to come, all of it was given.
+    // If the source tells what is still to come, all of it was given.
     ensures whole { OnOk result (IfSome (S.remaining source.old)
         (λ input. S.given source.new ≡ S.given source.old ++ input)) }
 
@@ -66,7 +66,7 @@ fn serve_with<D: Documented, S: Source, K: Sink>(
     ensures served { OnOk result (Serves D.kind plans lines_of
         (S.given source.old) (S.given source.new) (K.taken sink.old) (K.taken sink.new)) }
 
-    // Where the source tells what is still to come, all of it was given.
+    // If the source tells what is still to come, all of it was given.
     ensures whole { OnOk result (IfSome (S.remaining source.old)
         (λ input. S.given source.new ≡ S.given source.old ++ input)) }
 

@@ -65,7 +65,7 @@ impl<D: Documented> Session<D> {
         Ok(())
     }
 
-    /// Answers the lines that end in a block of input, and keeps what stands behind them.
+    /// Answers the lines that end in a block of input, and keeps what stands after them.
     pub fn take_block<K: Sink>(&mut self, block: &[u8], sink: &mut K) -> Result<(), Fault>
         ensures served { OnOk result (GoesOn D.kind block.now
             (K.taken sink.old ++ self.old.output) (K.taken sink.new ++ self.new.output)

@@ -14,7 +14,7 @@ abbrev pub if_done : {A : Type 0} → List (List ℕ) → A → Option A
 if_done [] x = Some x
 if_done (word ∷ words) x = None
 
--- what stands behind a name, with nothing behind it
+-- what stands after a name, with nothing after it
 unfoldable pub weight_alone : List (List ℕ) → Option ℤ
 weight_alone words = do
   weight ← first_by weight_of words
@@ -45,7 +45,7 @@ index_and_weights words = do
   node ← first_by weight_of edge.1
   if_done node.1 (index.0, edge.0, node.0)
 
--- what holds a list, by its name and by what stands behind it
+-- what holds a list, by its name and by what stands after it
 unfoldable pub listing_by_name : (name : List ℕ) → List (List ℕ) → Option (Request ℤ ℤ)
 listing_by_name name words =
     if bytes_eq name (codes "edges") then option_map (λ edges. Edges edges) (edges_by_words words)
@@ -97,7 +97,7 @@ pub data Asked : Type 0 where
 abbrev pub document_by_name : (name : List ℕ) → List (List ℕ) → Option Asked
 document_by_name name words = if bytes_eq name (codes "json") then if_done words Document else None
 
--- a line is a name and what stands behind it
+-- a line is a name and what stands after it
 abbrev pub asked_by_words : List (List ℕ) → Option Asked
 asked_by_words [] = None
 asked_by_words (name ∷ words) =

@@ -7,7 +7,7 @@ abbrev pub with_first : ℕ → List (List ℕ) → List (List ℕ)
 with_first b [] = (b ∷ []) ∷ []
 with_first b (piece ∷ pieces) = (b ∷ piece) ∷ pieces
 
--- the pieces between separators. An empty rest behind the last separator is no piece
+-- the pieces between separators. An empty rest after the last separator is no piece
 abbrev pub cut_at : (separator : ℕ) → List ℕ → List (List ℕ)
 cut_at separator [] = []
 cut_at separator (b ∷ bytes) =

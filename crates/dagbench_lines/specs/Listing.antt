@@ -8,12 +8,12 @@ abbrev pub ◌>>=◌ : {A B : Type 0} → Option A → (A → Option B) → Opti
 None >>= f = None
 (Some x) >>= f = f x
 
--- the first word, by what it means, and the words behind it
+-- the first word, by what it means, and the words after it
 abbrev pub first_by : {A : Type 0} → (List ℕ → Option A) → List (List ℕ) → Option (A × List (List ℕ))
 first_by meaning [] = None
 first_by meaning (word ∷ words) = option_map (λ x. (x, words)) (meaning word)
 
--- an edge that is listed, and the words behind it
+-- an edge that is listed, and the words after it
 unfoldable pub first_edge_of : List (List ℕ) → Option ((ℕ × ℕ × ℤ) × List (List ℕ))
 first_edge_of words = do
   parent ← first_by index_of words

@@ -6,7 +6,7 @@ use Rattle.std.specs.Option.{option_map}
 abbrev pub is_digit : ℕ → Bool
 is_digit b = nat_le 48 b && nat_le b 57
 
--- the number that digits spell which stand behind those of n
+-- the number that digits spell which stand after those of n
 abbrev pub number_after : ℕ → List ℕ → Option ℕ
 number_after n [] = Some n
 number_after n (b ∷ bytes) = if is_digit b then number_after (n * 10 + (b - 48)) bytes else None

@@ -22,7 +22,7 @@ item_text item = edge_text item.0 ++ codes ":" ++ decimal item.1
 abbrev pub weight_text : ℤ → List ℕ
 weight_text weight = codes "weight " ++ signed_decimal weight
 
--- pieces, each behind a space
+-- pieces, each after a space
 abbrev pub spaced : {A : Type 0} → (text : A → List ℕ) → List A → List ℕ
 spaced text xs = flat_map (λ x. codes " " ++ text x) xs
 
@@ -36,7 +36,7 @@ abbrev pub if_any : {A : Type 0} → (text : A → List ℕ) → Option A → Li
 if_any text None = codes "none"
 if_any text (Some x) = text x
 
--- the weights of many edges that are handed back. Other weights are not told
+-- the weights of many edges that are returned. Other weights are not told
 abbrev pub back_text : Weights ℤ ℤ → List ℕ
 back_text (OfEdges last before) = spaced signed_decimal (last ∷ before)
 back_text other = []

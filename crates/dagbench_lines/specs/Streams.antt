@@ -7,7 +7,7 @@ abbrev pub CountsFaults : {A E : Type 0} → Result A E → (old new : ℕ) → 
 CountsFaults (Ok x) old new = new ≡ old
 CountsFaults (Err e) old new = new ≡ old + 1
 
--- after an Ok there is this text behind the old one
+-- after an Ok there is this text after the old one
 abbrev pub Appends : {A E : Type 0} → Result A E → (old new text : List ℕ) → Type 0
 Appends (Ok x) old new text = new ≡ old ++ text
 Appends (Err e) old new text = Unit {0}

@@ -8,7 +8,7 @@ use crate::stream::{Fault, Sink, Source};
 use std::io::{Read, Write};
 use std::marker::Model;
 
-/// A reader or a writer. Each of its errors is a failure, and so is the byte behind the first 2^64
+/// A reader or a writer. Each of its errors is a failure, and so is the byte after the first 2^64
 /// - 1 that are read.
 #[derive(Drop)]
 pub struct Device<D> {
@@ -139,7 +139,7 @@ impl<W: Write> Sink for Device<W> {
         ensures bytes { Appends result self.old.taken.bytes self.new.taken.bytes bytes.now }
         ensures counted { CountsFaults result self.old.taken.failures self.new.taken.failures }
 
-        // Where the writer tells its bytes, they are what was taken.
+        // If the writer tells its bytes, they are what was taken.
         ensures writer { PutsInto (W.contents self.old.device) (W.contents self.new.device)
             result bytes.now }
     {

@@ -27,7 +27,7 @@ impl<'a> Model for Items<'a> {
     ghost invariant = { λ s. IsSome (edges_by_words (words_of s.words.now)) };
 }
 
-/// The edge that the first three words say, and what stands behind them.
+/// The edge that the first three words say, and what stands after them.
 #[tactic(auto, unfolding(crate::specs::Listing::first_edge_of))]
 fn first_edge(words: &[u8]) -> Option<((u32, u32, i64), &[u8])>
     ensures { option_map (λ parts. (parts.0, words_of parts.1.now)) result

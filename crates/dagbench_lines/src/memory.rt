@@ -10,7 +10,7 @@ use crate::stream::{Fault, Sink, Source};
 use std::alloc::Global;
 use std::marker::Model;
 
-/// Counts a call. After `passes` ones one call is to fail.
+/// Counts a call; the one after `passes` successful calls fails.
 fn pass(passes: &mut Option<usize>) -> Result<(), Fault>
     ensures fault { IsOk result ↔ (passes.old ≢ Some 0) }
     ensures next { passes.new ≡ passes_after passes.old }
@@ -65,8 +65,8 @@ impl Model for MemorySource {
 }
 
 impl MemorySource {
-    /// Gives these bytes, and then the end. If `passes` is some number, the call behind so many
-    /// ones fails.
+    /// Gives these bytes, and then the end. If `passes` is some number, the call after so many ones
+    /// fails.
     pub fn new(bytes: Vec<u8>, passes: Option<usize>) -> MemorySource
         ensures { result ≡ record {
           bytes = bytes.items;
@@ -157,7 +157,7 @@ impl Model for MemorySink {
 }
 
 impl MemorySink {
-    /// Has taken nothing. If `passes` is some number, the call behind so many ones fails.
+    /// Has taken nothing. If `passes` is some number, the call after so many ones fails.
     pub fn new(alloc: Global, passes: Option<usize>) -> MemorySink
         ensures { result ≡ record { taken = []; passes = passes; failures = 0 } }
     {

@@ -30,7 +30,7 @@ impl Output {
         Ok(Output { pending })
     }
 
-    /// Hands all that is pending to the sink, which is not called for nothing.
+    /// Writes all pending bytes to the sink (not called if there are none).
     pub fn flush<K: Sink>(&mut self, sink: &mut K) -> Result<(), Fault>
         ensures empty { OnOk result (self.new ≡ []) }
         ensures text { Appends result (K.taken sink.old) (K.taken sink.new) self.old }
@@ -44,7 +44,7 @@ impl Output {
         Ok(())
     }
 
-    /// Writes text behind what is pending.
+    /// Writes text after what is pending.
     pub fn put<K: Sink>(&mut self, sink: &mut K, text: &[u8]) -> Result<(), Fault>
         ensures text { Appends result (K.taken sink.old ++ self.old)
             (K.taken sink.new ++ self.new) text.now }

@@ -63,7 +63,7 @@ impl Piece for EdgeIndex<u32> {
     }
 }
 
-/// An edge of a walk, with the index of the node that it leads to behind a colon.
+/// An edge of a walk, with the index of the node that it leads to after a colon.
 impl Piece for Neighbor<u32> {
     ghost text = { item_text };
 
@@ -101,7 +101,7 @@ pub fn put_if_any<T: Piece, K: Sink>(
     }
 }
 
-/// Writes pieces, each behind a space.
+/// Writes pieces, each after a space.
 pub fn put_each<T: Piece, K: Sink>(
     pieces: &[T],
     output: &mut Output,

@@ -8,7 +8,7 @@ ghost use Rattle.dagbench_lines.specs.Listing.{first_by};
 use daggy_base::index::{EdgeIndex, NodeIndex};
 use memchr::memchr;
 
-/// What stands before the first separator, and what stands behind it.
+/// What stands before the first separator, and what stands after it.
 pub fn split_at_byte(separator: u8, bytes: &[u8]) -> Option<(&[u8], &[u8])>
     ensures { MatchOption result (Lacks separator bytes.now)
         (λ parts.

@@ -1,4 +1,4 @@
-//! The compact graph that a [`Dag`](crate::Dag) stands on. It may hold cycles.
+//! The compact graph that a [`Dag`](crate::Dag) is built on. It may hold cycles.
 pub use daggy_base::element::{Element, IntoWeightedEdge};
 pub use daggy_cells::cell::{Edge, Node};
 pub use daggy_cells::reference::EdgeReference;

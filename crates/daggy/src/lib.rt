@@ -1,9 +1,9 @@
 //! Directed acyclic graphs with weights at nodes and edges.
 //!
-//! A [`Dag`] stays acyclic: an edge is refused exactly if a path leads from its child to its
-//! parent, and its weight comes back in the error. [`NodeIndex`] and [`EdgeIndex`] name nodes and
-//! edges. A [`Walker`], such as [`Children`], goes along a node's edges and borrows the dag only
-//! while it takes a step.
+//! A [`Dag`] stays acyclic: an edge is rejected if and only if its child already reaches its
+//! parent, and the error returns its weight. [`NodeIndex`] and [`EdgeIndex`] name nodes and edges.
+//! A [`Walker`], such as [`Children`], goes along a node's edges and borrows the dag only while it
+//! takes a step.
 //!
 //! ```
 //! let mut dag: Dag<&'static str, u32> = Dag::new(rt.alloc());
@@ -13,12 +13,13 @@
 //! assert!(rt; dag.children(sow).walk_next(&dag) == Some((days, reap)));
 //! ```
 //!
-//! In a `Dag` a removal moves the last index to the gap. The dag of [`stable_dag`] keeps what stays
-//! under its index. Both are an [`Acyclic`] over a [`Store`], so that code can be written for either.
+//! In a `Dag` a removal moves the last element into the freed index. The dag of [`stable_dag`]
+//! keeps the indices of everything else. Both are an [`Acyclic`] over a [`Store`], so that code can
+//! be written for either.
 //!
 //! [`graph`] and [`stable_graph`] are the stores below, which may hold cycles, [`search`] finds
-//! paths in any graph that can be looked at, and [`visit`] is what generic code may ask of a graph.
-//! [`run`] carries out lists of commands over a dag of either kind.
+//! paths in any graph, and [`visit`] has traits for generic code. [`run`] carries out lists of
+//! commands over a dag of either kind.
 #![tactic(auto)]
 
 pub mod graph;

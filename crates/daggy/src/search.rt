@@ -1,4 +1,4 @@
-//! Searches over any graph whose edges can be looked at.
+//! Searches over any graph whose edges can be read one at a time.
 pub use daggy_base::looks::Looks;
 pub use daggy_base::source::EdgeSource;
 pub use daggy_order::order::{Nodes, Order, order_edge};

@@ -1,4 +1,4 @@
-//! The dag over any store, of which `Dag` and `StableDag` are the two kinds.
+//! The dag over any store; `Dag` and `StableDag` are its two kinds.
 ghost use Rattle.std.specs.Prelude.{◌≡◌, ℕ, ◌+◌, ◌^◌, ◌<◌, ◌≤◌, ◌↔◌, ◌⊎◌, IsTrue, Err, None, IfOk};
 ghost use Rattle.std.specs.Prelude.{IfErr, OnErr, OnSome, IfSome, IfNone, IsOkAnd, length};
 ghost use Rattle.std.specs.Prelude.{option_copied};
@@ -61,11 +61,10 @@ pub use walkers::{Children, Parents};
 /// at its edges, over a store `S`.
 ///
 /// [`Dag`] and [`StableDag`] are this over the two stores. Parallel edges are allowed. An edge that
-/// would close a cycle is refused, and its weight comes back.
+/// would close a cycle is rejected, and its weight is returned.
 ///
-/// It keeps an order of its nodes in which every parent stands before its children, so an edge that
-/// leads forward in it needs no search. Each node adds a little to the room that the search for
-/// cycles works in, so that search cannot fail for want of memory.
+/// It maintains a topological order of its nodes, so an edge that agrees with the order needs no
+/// search. Adding a node reserves the memory that later cycle searches need, so those never fail.
 #[derive(Drop)]
 pub struct Acyclic<N, E, Ix: IndexType, S: Store<Ix, NodeWeight = N, EdgeWeight = E>> {
     store: S,
@@ -78,15 +77,14 @@ pub struct Acyclic<N, E, Ix: IndexType, S: Store<Ix, NodeWeight = N, EdgeWeight 
 /// A dag whose indices are compact: the nodes are numbered from 0 to their count, and so are the
 /// edges.
 ///
-/// A removal moves the last index to the gap. Where indices have to outlive removals, [`StableDag`]
-/// keeps them.
+/// A removal moves the last element into the freed index. If indices must outlive removals, use
+/// [`StableDag`].
 pub type Dag<N, E, Ix = DefaultIx> = Acyclic<N, E, Ix, DiGraph<N, E, Ix>>;
 
 /// A dag whose indices outlive removals.
 ///
-/// Nodes and edges stand in slots. A removal vacates a slot and changes no other index, and the
-/// slot that was vacated last is the first to be used again. Where indices need not last, [`Dag`]
-/// keeps its nodes and edges closer together.
+/// Nodes and edges are stored in slots. A removal vacates a slot and changes no other index; the
+/// slot vacated last is reused first. If indices need not last, [`Dag`] is more compact.
 pub type StableDag<N, E, Ix = DefaultIx> = Acyclic<N, E, Ix, StableDiGraph<N, E, Ix>>;
 
 impl<N, E, Ix: IndexType, S> Model for Acyclic<N, E, Ix, S>
@@ -110,7 +108,7 @@ impl<N: Drop, E: Drop, Ix: IndexType, S> Acyclic<N, E, Ix, S>
 where
     S: Store<Ix, NodeWeight = N, EdgeWeight = E>,
 {
-    /// An empty dag. Takes no memory.
+    /// An empty dag. Does not allocate.
     pub fn new(alloc: Global) -> Self
         ensures { result ≡ record { graph = empty; looks = 0 } }
     {
@@ -130,7 +128,7 @@ where
         ensures dag { IsDag Ix.greatest self.now.graph }
         ensures compact { S.kind ≡ Compact → IsCompact self.now.graph }
     {
-        // Asked for its contract alone: no slot of the compact kind is vacant.
+        // Called only for its postcondition: no slot of the compact kind is vacant.
         let _compact = self.store.node_slots();
         self.store.node_count()
     }
@@ -142,7 +140,7 @@ where
         ensures dag { IsDag Ix.greatest self.now.graph }
         ensures compact { S.kind ≡ Compact → IsCompact self.now.graph }
     {
-        // Asked for its contract alone: no slot of the compact kind is vacant.
+        // Called only for its postcondition: no slot of the compact kind is vacant.
         let _compact = self.store.edge_slots();
         self.store.edge_count()
     }
@@ -196,8 +194,11 @@ where
         self.store.edge_endpoints(e)
     }
 
-    /// The newest edge from `a` to `b`, or `None` if there is none. It looks through the children
-    /// of `a`.
+    /// The newest edge from `a` to `b`, or `None` if there is none.
+    ///
+    /// # Complexity
+    ///
+    /// O(children of `a`).
     pub fn find_edge(&self, a: NodeIndex<Ix>, b: NodeIndex<Ix>) -> Option<EdgeIndex<Ix>>
         ensures found { option_map Ix.number result
             ≡ edge_between self.now.graph (Ix.number a) (Ix.number b) }
@@ -205,15 +206,16 @@ where
             (HasNode self.now.graph (Ix.number a) × HasNode self.now.graph (Ix.number b)) }
     {
         let store = &self.store;
-        // Asked for its contract alone: both ends of an edge exist.
+        // Called only for its postcondition: both ends of an edge exist.
         let _well_formed = store.edge_count();
         store.find_edge(a, b)
     }
 
-    /// Adds a node without edges, and gives its index.
+    /// Adds a node without edges, and returns its index.
     ///
-    /// The refusal `Memory` says that there was no memory for the node, or for the searches that it
-    /// takes part in.
+    /// # Errors
+    ///
+    /// `NodeError::Memory` with the weight if an allocation fails; the dag is unchanged.
     #[inline]
     pub fn add_node(&mut self, weight: N) -> Result<NodeIndex<Ix>, NodeError<N>>
         requires { node_count_of self.old.graph < Ix.greatest }
@@ -227,13 +229,19 @@ where
         guard::add_node(&mut self.store, &mut self.order, &mut self.scratch, weight)
     }
 
-    /// Adds an edge from `a` to `b`, and gives its index.
+    /// Adds an edge from `a` to `b`, and returns its index.
     ///
-    /// The refusal `WouldCycle` says that a path leads from `b` to `a`, so the edge would close a
-    /// cycle. It is decided first, and cannot fail. Constant time if `a` stands before `b` in the
-    /// order that the dag keeps, or if few edges lead to `a`, all of them from nodes that stand
-    /// before `b`, as where `a` was just added. Otherwise a search from `b` goes no further than
-    /// the place of `a`. The refusal `Memory` says that there was no memory for the edge.
+    /// # Errors
+    ///
+    /// `EdgeError::WouldCycle` if `b` already reaches `a`, so that the edge would close a cycle.
+    /// This is decided first, and does not allocate. `EdgeError::Memory` if an allocation fails.
+    /// Each error holds the weight, and the dag is unchanged.
+    ///
+    /// # Complexity
+    ///
+    /// O(1) if `a` precedes `b` in the dag's order, or if `a` has fewer than four parents and all
+    /// of them precede `b`, as when `a` was just added. Otherwise a search from `b` that stays
+    /// before `a` in the order.
     #[inline]
     pub fn add_edge(
         &mut self,
@@ -269,11 +277,11 @@ where
         )
     }
 
-    /// Writes the weight of the edge that [`find_edge`](Acyclic::find_edge) gives between `a` and
-    /// `b`, or adds an edge as [`add_edge`](Acyclic::add_edge) if there is none. It gives the index
-    /// of that edge.
+    /// Replaces the weight of the edge that [`find_edge`](Acyclic::find_edge) returns for `a` and
+    /// `b`, or adds an edge as [`add_edge`](Acyclic::add_edge) does if there is none. Returns the
+    /// index of that edge.
     ///
-    /// Where the two nodes are joined it cannot fail, and the weight from before is dropped.
+    /// If there is such an edge the call cannot fail, and the old weight is dropped.
     pub fn update_edge(
         &mut self,
         a: NodeIndex<Ix>,
@@ -312,10 +320,13 @@ where
         )
     }
 
-    /// Adds a node and an edge from `parent` to it, or neither. It gives both indices.
+    /// Adds a node and an edge from `parent` to it, or neither. Returns both indices.
     ///
-    /// It needs no search, so it costs less than adding the one and then the other. The refusal
-    /// hands both weights back.
+    /// It needs no search, so it costs less than `add_node` followed by `add_edge`.
+    ///
+    /// # Errors
+    ///
+    /// `ChildError::Memory` with both weights if an allocation fails; the dag is unchanged.
     #[inline]
     pub fn add_child(
         &mut self,
@@ -345,10 +356,13 @@ where
         )
     }
 
-    /// Adds a node and an edge from it to `child`, or neither. It gives both indices.
+    /// Adds a node and an edge from it to `child`, or neither. Returns both indices.
     ///
-    /// It needs no search, so it costs less than adding the one and then the other. The refusal
-    /// hands both weights back.
+    /// It needs no search, so it costs less than `add_node` followed by `add_edge`.
+    ///
+    /// # Errors
+    ///
+    /// `ChildError::Memory` with both weights if an allocation fails; the dag is unchanged.
     #[inline]
     pub fn add_parent(
         &mut self,
@@ -378,7 +392,7 @@ where
         )
     }
 
-    /// Removes an edge and hands its weight back, or gives `None` if there is no such edge.
+    /// Removes an edge and returns its weight, or `None` if there is no such edge.
     ///
     /// In a [`Dag`] the edge with the last index gets its index. In a [`StableDag`] no other index
     /// changes, and the next edge that is added gets this one.
@@ -393,8 +407,7 @@ where
         guard::remove_edge(&mut self.store, e)
     }
 
-    /// Removes a node with its edges and hands its weight back, or gives `None` if there is no such
-    /// node.
+    /// Removes a node with its edges and returns its weight, or `None` if there is no such node.
     ///
     /// The edges go one by one, those to its children first, each as
     /// [`remove_edge`](Acyclic::remove_edge) removes it. In a [`Dag`] the node with the last index
@@ -411,7 +424,7 @@ where
         guard::remove_node(&mut self.store, &mut self.order, n)
     }
 
-    /// Removes all nodes and edges, and all slots, so that indices begin at 0 again.
+    /// Removes everything, vacant slots included; indices start from 0 again.
     pub fn clear(&mut self)
         ensures cleared { self.new ≡ with_graph self.old empty }
         ensures acyclic { IsAcyclic self.new.graph }
@@ -428,8 +441,7 @@ where
         self.store.clear_edges();
     }
 
-    /// A walker over the children of a node, newest edge first. Over a missing node it gives
-    /// nothing.
+    /// A walker over the children of a node, newest edge first. Empty if the node does not exist.
     #[inline]
     pub fn children(&self, n: NodeIndex<Ix>) -> Children<N, E, Ix>
         ensures first { Ix.number result
@@ -438,7 +450,7 @@ where
             ≡ out_list self.now.graph (Ix.number n) }
         ensures fits { length (rest_of_walk Outgoing self.now.graph (Ix.number result)) < 2 ^ 64 }
     {
-        // Asked for its contract alone: an edge comes once in its list.
+        // Called only for its postcondition: an edge comes once in its list.
         let _well_formed = self.store.edge_count();
         Children {
             edge: self.store.first_edge(n, Direction::Outgoing),
@@ -447,8 +459,7 @@ where
         }
     }
 
-    /// A walker over the parents of a node, newest edge first. Over a missing node it gives
-    /// nothing.
+    /// A walker over the parents of a node, newest edge first. Empty if the node does not exist.
     #[inline]
     pub fn parents(&self, n: NodeIndex<Ix>) -> Parents<N, E, Ix>
         ensures first { Ix.number result
@@ -457,7 +468,7 @@ where
             ≡ in_list self.now.graph (Ix.number n) }
         ensures fits { length (rest_of_walk Incoming self.now.graph (Ix.number result)) < 2 ^ 64 }
     {
-        // Asked for its contract alone: an edge comes once in its list.
+        // Called only for its postcondition: an edge comes once in its list.
         let _well_formed = self.store.edge_count();
         Parents {
             edge: self.store.first_edge(n, Direction::Incoming),

@@ -39,9 +39,15 @@ fn write<
 /// The document of a dag: an object with the weights of its nodes, its edges, and the orders of its
 /// lists.
 ///
-/// `fn_node` gives the value that stands for the weight of a node, and `fn_edge` that of an edge.
-/// The error says that there was no memory. The cost grows with the number of nodes and edges,
-/// besides that of the calls.
+/// `fn_node` encodes the weight of a node, and `fn_edge` that of an edge.
+///
+/// # Errors
+///
+/// `Memory` if an allocation fails.
+///
+/// # Complexity
+///
+/// O(nodes + edges), plus the calls.
 pub fn dag_to_json<
     N: Drop,
     E: Drop,
@@ -57,9 +63,8 @@ pub fn dag_to_json<
     write(alloc, dag, &fn_node, &fn_edge)
 }
 
-/// The document of a stable dag, as [`dag_to_json`] gives it. It also names the vacant slots of
-/// nodes, and has `null` for a vacant slot of an edge, both as far as the greatest index that is in
-/// use.
+/// The document of a stable dag, as [`dag_to_json`] returns it. It also lists the vacant node
+/// slots, and has `null` for a vacant edge slot, both up to the greatest index in use.
 pub fn stable_to_json<
     N: Drop,
     E: Drop,
@@ -75,14 +80,19 @@ pub fn stable_to_json<
     write(alloc, dag, &fn_node, &fn_edge)
 }
 
-/// The dag that a value is read as: an object as [`dag_to_json`] gives it. Other members are
-/// ignored. Without `orders` the edges are linked by ascending index, so each list has the edge
-/// with the greatest index first. The document of a dag gives this dag back, if each of its weights
-/// is read as it was.
+/// The dag that a value is read as: an object as [`dag_to_json`] returns it. Other members are
+/// ignored. Without `orders` each list is in descending index order. Reading a written document
+/// restores the dag, if each of its weights is read as it was.
 ///
-/// `fn_node` and `fn_edge` read the weights, and give `None` for one that they refuse. The error is
-/// the first fault of the value, or says that there was no memory. The cost grows with the number
-/// of nodes and edges, besides that of the calls.
+/// `fn_node` and `fn_edge` read the weights, and return `None` for a value that is not a weight.
+///
+/// # Errors
+///
+/// The first fault of the value, or `Memory` if an allocation fails.
+///
+/// # Complexity
+///
+/// O(nodes + edges), plus the calls.
 pub fn dag_from_json<
     N: Drop,
     E: Drop,
@@ -107,10 +117,10 @@ pub fn dag_from_json<
     read(alloc, value, false, &fn_node, &fn_edge)
 }
 
-/// The stable dag that a value is read as, as [`dag_from_json`] reads a dag. Slots of nodes are
-/// vacant at the holes, and slots of edges at `null`; of the vacant slots the one with the greatest
-/// index is taken first. So the document of a dag gives back all of it but the order of its vacant
-/// slots, and those past the greatest index that is in use.
+/// The stable dag that a value is read as, as [`dag_from_json`] reads a dag. Node slots are vacant
+/// at the holes, and edge slots at `null`; the highest vacant slot is reused first. So a written
+/// document restores the dag but for the order of its vacant slots, and those after the greatest
+/// index in use.
 pub fn stable_from_json<
     N: Drop,
     E: Drop,

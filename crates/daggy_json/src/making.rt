@@ -1,4 +1,4 @@
-//! The dag of a document without a fault.
+//! Building the dag of a valid document.
 ghost use Rattle.std.specs.Prelude.{◌≡◌, ◌≤◌, ◌⊎◌, [], false, Ok, Err, map, length, IfOk, IfErr};
 ghost use Rattle.std.specs.Prelude.{IfSome};
 ghost use Rattle.std.specs.Option.{option_map};

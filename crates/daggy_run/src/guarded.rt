@@ -1,4 +1,4 @@
-//! What lists of commands ask of a dag.
+//! The trait of a dag that takes commands.
 ghost use Rattle.std.specs.Prelude.{◌≡◌, ℕ, ◌<◌, ◌≤◌, ◌^◌, ◌↔◌, ◌⊎◌, IsTrue, Err, None, IfOk};
 ghost use Rattle.std.specs.Prelude.{IfErr, OnOk, OnErr, OnSome, IfSome, IfNone, IsOkAnd, length};
 ghost use Rattle.std.specs.Prelude.{map};
@@ -40,20 +40,20 @@ mod acyclic;
 
 pub use acyclic::TellsKind;
 
-/// What a removal does with the place that it leaves.
+/// What a removal does with the index that it frees.
 #[derive(Clone, Copy, Debug, PartialEq, Eq)]
 pub enum Kind {
     /// The last node or edge moves there, and gets its index.
     Compact,
-    /// It stays vacant, and no other index changes.
+    /// The slot stays vacant, and no other index changes.
     Stable,
 }
 
 /// A dag that takes commands. Both kinds do.
 ///
-/// A call that adds asks that the nodes that it names exist and that an index is left. The tests
-/// for that are [`has_node`](GuardedDag::has_node), [`can_add_node`](GuardedDag::can_add_node) and
-/// [`can_add_edge`](GuardedDag::can_add_edge). A call that is refused changes nothing.
+/// The adding calls require existing endpoints and an index that is left: test with
+/// [`has_node`](GuardedDag::has_node), [`can_add_node`](GuardedDag::can_add_node) and
+/// [`can_add_edge`](GuardedDag::can_add_edge). A call that fails changes nothing.
 pub trait GuardedDag<N, E, Ix: IndexType> {
     // The graph.
     ghost graph: { Self → Graph N E };
@@ -81,7 +81,7 @@ pub trait GuardedDag<N, E, Ix: IndexType> {
         ensures value { IsTrue result ↔ (edge_count_of (graph self.now) < Ix.greatest) }
         ensures dag { IsDag Ix.greatest (graph self.now) };
 
-    /// Adds a node without edges, and gives its index.
+    /// Adds a node without edges, and returns its index.
     fn add_node(&mut self, weight: N) -> Result<NodeIndex<Ix>, NodeError<N>>
         requires { node_count_of (graph self.old) < Ix.greatest }
         ensures added { IfOk result (λ n. (Ix.number n ≡ next_node (graph self.old))
@@ -90,8 +90,8 @@ pub trait GuardedDag<N, E, Ix: IndexType> {
         ensures unchanged { OnErr result (graph self.new ≡ graph self.old) }
         ensures acyclic { IsAcyclic (graph self.new) };
 
-    /// Adds an edge from `a` to `b`, and gives its index. It is refused exactly if it would close a
-    /// cycle, memory aside.
+    /// Adds an edge from `a` to `b`, and returns its index. Apart from `Memory`, it fails if and
+    /// only if it would close a cycle.
     fn add_edge(
         &mut self,
         a: NodeIndex<Ix>,
@@ -110,9 +110,9 @@ pub trait GuardedDag<N, E, Ix: IndexType> {
         ensures unchanged { OnErr result (graph self.new ≡ graph self.old) }
         ensures acyclic { IsAcyclic (graph self.new) };
 
-    /// Writes the weight of the edge that [`find_edge`](GuardedDag::find_edge) gives between `a`
-    /// and `b`, or adds an edge as [`add_edge`](GuardedDag::add_edge) if there is none. Where the
-    /// two nodes are joined it cannot fail.
+    /// Replaces the weight of the edge that [`find_edge`](GuardedDag::find_edge) returns for `a`
+    /// and `b`, or adds an edge as [`add_edge`](GuardedDag::add_edge) does if there is none. If
+    /// there is such an edge it cannot fail.
     fn update_edge(
         &mut self,
         a: NodeIndex<Ix>,
@@ -137,7 +137,7 @@ pub trait GuardedDag<N, E, Ix: IndexType> {
         ensures unchanged { OnErr result (graph self.new ≡ graph self.old) }
         ensures acyclic { IsAcyclic (graph self.new) };
 
-    /// Adds a node and an edge from `parent` to it, or neither. It gives both indices.
+    /// Adds a node and an edge from `parent` to it, or neither. Returns both indices.
     fn add_child(
         &mut self,
         parent: NodeIndex<Ix>,
@@ -155,7 +155,7 @@ pub trait GuardedDag<N, E, Ix: IndexType> {
         ensures unchanged { OnErr result (graph self.new ≡ graph self.old) }
         ensures acyclic { IsAcyclic (graph self.new) };
 
-    /// Adds a node and an edge from it to `child`, or neither. It gives both indices.
+    /// Adds a node and an edge from it to `child`, or neither. Returns both indices.
     fn add_parent(
         &mut self,
         child: NodeIndex<Ix>,
@@ -173,8 +173,7 @@ pub trait GuardedDag<N, E, Ix: IndexType> {
         ensures unchanged { OnErr result (graph self.new ≡ graph self.old) }
         ensures acyclic { IsAcyclic (graph self.new) };
 
-    /// Adds all the edges, or none of them. It gives their indices in the order in which they were
-    /// given.
+    /// Adds all the edges, or none of them. Returns their indices in input order.
     fn add_edges(&mut self, edges: Vec<NewEdge<E, Ix>>) -> Result<Vec<EdgeIndex<Ix>>, EdgesError<E>>
         ensures added { IfOk result (λ indices. AddsAll Ix.greatest (graph self.old)
             (map (by_numbers Ix.number) edges.items) (map Ix.number indices.items)
@@ -196,8 +195,7 @@ pub trait GuardedDag<N, E, Ix: IndexType> {
         ensures { option_map (pair_of Ix.number) result
             ≡ option_map ends_of (edge_at (graph self.now) (Ix.number e)) };
 
-    /// Removes a node with its edges and hands its weight back, or gives `None` if there is no such
-    /// node.
+    /// Removes a node with its edges and returns its weight, or `None` if there is no such node.
     fn remove_node(&mut self, n: NodeIndex<Ix>) -> Option<N>
         ensures value { result ≡ weight_at (graph self.old) (Ix.number n) }
         ensures removed { OnSome result
@@ -205,7 +203,7 @@ pub trait GuardedDag<N, E, Ix: IndexType> {
         ensures missing { IfNone result (graph self.new ≡ graph self.old) }
         ensures acyclic { IsAcyclic (graph self.new) };
 
-    /// Removes an edge and hands its weight back, or gives `None` if there is no such edge.
+    /// Removes an edge and returns its weight, or `None` if there is no such edge.
     fn remove_edge(&mut self, e: EdgeIndex<Ix>) -> Option<E>
         ensures value { result ≡ edge_weight_at (graph self.old) (Ix.number e) }
         ensures removed { OnSome result
@@ -215,14 +213,18 @@ pub trait GuardedDag<N, E, Ix: IndexType> {
 
     /// The edges that leave a node with their children, newest first. A missing node has none.
     ///
-    /// The error says that there was no memory for the list.
+    /// # Errors
+    ///
+    /// Returns `AllocError` if an allocation fails.
     fn children(&self, n: NodeIndex<Ix>) -> Result<Vec<Neighbor<Ix>>, AllocError>
         ensures { IfOk result (λ items. map (pair_of Ix.number) items.items
             ≡ walk_of Outgoing (graph self.now) (Ix.number n)) };
 
     /// The edges that enter a node with their parents, newest first. A missing node has none.
     ///
-    /// The error says that there was no memory for the list.
+    /// # Errors
+    ///
+    /// Returns `AllocError` if an allocation fails.
     fn parents(&self, n: NodeIndex<Ix>) -> Result<Vec<Neighbor<Ix>>, AllocError>
         ensures { IfOk result (λ items. map (pair_of Ix.number) items.items
             ≡ walk_of Incoming (graph self.now) (Ix.number n)) };
@@ -239,14 +241,16 @@ pub trait GuardedDag<N, E, Ix: IndexType> {
 
     /// Removes the edges that are redundant below `roots`, the one with the highest index first.
     ///
-    /// The error says that there was no memory to search in.
+    /// # Errors
+    ///
+    /// Returns `AllocError` if an allocation fails.
     fn transitive_reduce(&mut self, roots: Vec<NodeIndex<Ix>>) -> Result<(), AllocError>
         ensures reduced { OnOk result
             (IsReduction kind (map Ix.number roots.items) (graph self.old) (graph self.new)) }
         ensures unchanged { OnErr result (graph self.new ≡ graph self.old) }
         ensures acyclic { IsAcyclic (graph self.new) };
 
-    /// The greatest index of a node plus one, or 0 if there is none.
+    /// One more than the greatest node index, or 0 if there is no node.
     fn node_bound(&self) -> usize
         ensures value { result ≡ node_bound_of (graph self.now) }
         ensures fits { node_bound_of (graph self.now) ≤ Ix.greatest }
@@ -264,11 +268,11 @@ pub trait GuardedDag<N, E, Ix: IndexType> {
         ensures { IsLook Ix.greatest (graph self.now) (Ix.number e) (Ix.number result.0)
             (Ix.number result.1) };
 
-    /// The nodes, every parent before its children. Going over all of them costs the nodes alone.
+    /// The nodes in topological order, in O(nodes).
     fn topological_order(&self) -> TopologicalOrder<'_, Ix>
         ensures ordered { IsOrderOf (graph self.now) result }
         ensures fits { length result < 2 ^ 64 };
 
-    // The kind that is told is the kind that there is.
+    // The constant agrees with the kind of the contracts.
     ghost tells: { kind_of KIND ≡ kind };
 }

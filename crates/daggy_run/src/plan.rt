@@ -1,4 +1,4 @@
-//! The nodes of a dag in as few stages as can be, each after its parents.
+//! The nodes of a dag in the fewest possible stages, each after its parents.
 ghost use Rattle.std.specs.Prelude.{map, IfOk};
 ghost use Rattle.daggy_run.specs.Plans.{stages_of, IsPlan, IsByLevels, IsChain, IsShortest};
 
@@ -13,8 +13,13 @@ pub mod stages;
 
 /// Plans the nodes of a dag in stages.
 ///
-/// The error says that there was no memory for the plan. The cost is that of all slots of nodes and
-/// of all edges.
+/// # Errors
+///
+/// Returns `AllocError` if an allocation fails.
+///
+/// # Complexity
+///
+/// O(node slots + edges).
 pub fn plan<N, E, Ix: IndexType, D: GuardedDag<N, E, Ix>>(
     alloc: Global,
     dag: &D,

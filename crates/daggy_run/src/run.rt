@@ -11,11 +11,12 @@ use daggy_base::index::IndexType;
 use daggy_commands::command::{Command, Reply};
 use std::alloc::Global;
 
-/// Carries out commands in order, and gives one reply to each. A refused command changes nothing,
-/// and those behind it are carried out all the same.
+/// Carries out commands in order, and returns one reply for each. A command that fails changes
+/// nothing; later commands still run.
 ///
-/// The error hands the commands back: there was no memory for the replies, and no command was
-/// carried out.
+/// # Errors
+///
+/// Returns the commands if there is no memory for the replies; none was carried out.
 pub fn run<N: Drop, E: Drop, Ix: IndexType, D: GuardedDag<N, E, Ix>>(
     alloc: Global,
     dag: &mut D,
@@ -31,7 +32,7 @@ pub fn run<N: Drop, E: Drop, Ix: IndexType, D: GuardedDag<N, E, Ix>>(
     ensures unchanged { OnErr result (D.graph dag.new ≡ D.graph dag.old) }
     ensures acyclic { IsAcyclic (D.graph dag.new) }
 {
-    // Asked for its contract alone: there is no cycle.
+    // Called only for its postcondition: there is no cycle.
     let _acyclic = dag.can_add_node();
     let mut replies = Vec::new(alloc);
     if replies.reserve(commands.len()).is_err() {

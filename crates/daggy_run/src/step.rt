@@ -41,7 +41,7 @@ fn add_edge<N: Drop, E: Drop, Ix: IndexType, D: GuardedDag<N, E, Ix>>(
         (answer_of Ix.number result) (D.graph dag.new) }
     ensures acyclic { IsAcyclic (D.graph dag.new) }
 {
-    // Asked before the nodes are, for its contract too: there is no cycle.
+    // Called before the tests of nodes, also for its postcondition: there is no cycle.
     let index_left = dag.can_add_edge();
     if !dag.has_node(a) || !dag.has_node(b) {
         return Reply::Missing(Back::Edge(weight));
@@ -137,11 +137,10 @@ fn walk<N: Drop, E: Drop, Ix: IndexType>(
     }
 }
 
-/// Carries out one command. A refused command changes nothing.
+/// Carries out one command. A command that fails changes nothing.
 ///
-/// Where a node that an edge is added to does not exist, the reply is `Missing`. Otherwise, where
-/// no index is left, it is `Full`, and only then `Cycle` or `CycleAll`, where a cycle would be
-/// closed.
+/// If an endpoint of a new edge does not exist, the reply is `Missing`; otherwise, if no index is
+/// left, it is `Full`; otherwise, if a cycle would be closed, `Cycle` or `CycleAll`.
 pub fn perform<N: Drop, E: Drop, Ix: IndexType, D: GuardedDag<N, E, Ix>>(
     dag: &mut D,
     command: Command<N, E, Ix>,
@@ -150,7 +149,7 @@ pub fn perform<N: Drop, E: Drop, Ix: IndexType, D: GuardedDag<N, E, Ix>>(
         (answer_of Ix.number result) (D.graph dag.new) }
     ensures acyclic { IsAcyclic (D.graph dag.new) }
 {
-    // Asked for its contract alone: there is no cycle.
+    // Called only for its postcondition: there is no cycle.
     let _acyclic = dag.can_add_node();
     match command {
         Command::Node(weight) => add_node(dag, weight),

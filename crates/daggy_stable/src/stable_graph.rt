@@ -35,15 +35,13 @@ use daggy_cells::links;
 use std::alloc::Global;
 use std::marker::Model;
 
-/// A directed graph whose indices outlive removals. Any number of edges may lead from one node to
-/// another, and an edge may lead from a node to itself.
+/// A directed graph whose indices outlive removals. Parallel edges and self-loops are allowed.
 ///
-/// A removal leaves the slot of what it removed vacant, and changes no other index. Adding reuses
-/// the slot that was vacated last, and makes a new slot, behind the others, only when none is
-/// vacant. Adding is constant time, as are all calls that read, but for those that say otherwise.
+/// A removal leaves a vacant slot and changes no other index. Adding reuses the slot vacated last,
+/// and makes a new slot only if none is vacant. All operations are O(1) unless stated otherwise.
 ///
-/// `Ix` is the number type that indices are kept in. It bounds how many nodes and how many edges
-/// there may be.
+/// `Ix` is the integer type of the indices. It bounds how many nodes and how many edges there may
+/// be.
 #[derive(Drop)]
 pub struct StableDiGraph<N, E, Ix: IndexType = DefaultIx> {
     nodes: Vec<Node<Option<N>, Ix>>,
@@ -75,7 +73,7 @@ impl<N, E, Ix: IndexType> Model for StableDiGraph<N, E, Ix> {
 }
 
 impl<N, E, Ix: IndexType> StableDiGraph<N, E, Ix> {
-    /// A graph with no node and no edge. It takes no memory yet.
+    /// An empty graph. Does not allocate.
     pub fn new(alloc: Global) -> Self
         ensures { result ≡ record { graph = empty; looks = 0 } }
     {
@@ -155,9 +153,11 @@ impl<N, E, Ix: IndexType> StableDiGraph<N, E, Ix> {
         links::next(x, dir).edge()
     }
 
-    /// The first edge from `a` to `b`, of those that leave `a`, if there is one.
+    /// The first edge from `a` to `b` in the out list of `a`, if there is one.
     ///
-    /// The cost grows with the number of edges that leave `a`.
+    /// # Complexity
+    ///
+    /// O(edges out of `a`).
     pub fn find_edge(&self, a: NodeIndex<Ix>, b: NodeIndex<Ix>) -> Option<EdgeIndex<Ix>>
         ensures { option_map Ix.number result
             ≡ edge_between self.now.graph (Ix.number a) (Ix.number b) }

@@ -6,5 +6,5 @@ pub use daggy_stable::stable_graph::lists::Edges;
 use daggy_walk::walker::Recursive;
 pub use daggy_walk::walker::Walker;
 
-/// A walk over a [`StableDag`] that a function leads from node to node.
+/// A walk over a [`StableDag`] along edges that a function chooses.
 pub type RecursiveWalk<N, E, Ix, F> = Recursive<StableDag<N, E, Ix>, F>;

@@ -1,4 +1,4 @@
-//! What the compact dag alone has, or has in a form of its own.
+//! What only the compact dag has, or has in a form of its own.
 mod copies;
 pub mod cursors;
 mod iterators;

@@ -37,11 +37,18 @@ fn reduced_shape<N: Drop, E: Drop, Ix: IndexType>(
     Ok(shape.into_graph())
 }
 
-/// Whether two dags have as many nodes, and the same nodes reach each other.
+/// Whether two dags have the same number of nodes and the same reachability relation.
 ///
 /// It reduces a copy of each, without weights, from all nodes, and compares which nodes are joined
-/// then. Both dags stay as they are. The error says that there was no memory for the copies. The
-/// cost is that of one search for each node in both dags.
+/// then. Both dags are unchanged.
+///
+/// # Errors
+///
+/// Returns `AllocError` if an allocation fails.
+///
+/// # Complexity
+///
+/// One search for each node of both dags.
 pub fn same_reachability<N: Drop, E: Drop, M: Drop, F: Drop, Ix: IndexType>(
     a: &Dag<N, E, Ix>,
     b: &Dag<M, F, Ix>,

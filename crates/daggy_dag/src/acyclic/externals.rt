@@ -13,7 +13,9 @@ use std::marker::{Model, PhantomData};
 
 /// The nodes that have no edge in one direction, by ascending index.
 ///
-/// A step costs the nodes that it goes past.
+/// # Complexity
+///
+/// O(nodes) in total.
 #[derive(Drop)]
 pub struct Externals<'a, Ix: IndexType, S: Store<Ix>> {
     store: &'a S,
@@ -38,13 +40,15 @@ where
     /// The nodes that no edge enters (`Incoming`), which are the roots, or those that no edge
     /// leaves (`Outgoing`), by ascending index.
     ///
-    /// Going over all of them costs all nodes.
+    /// # Complexity
+    ///
+    /// O(nodes) in total.
     #[inline]
     pub fn externals(&self, dir: Direction) -> Externals<'_, Ix, S>
         ensures rest { result ≡ externals_from dir self.now.graph 0 }
         ensures fits { length result < 2 ^ 64 }
     {
-        // Asked for its contract alone: there are no more nodes than a `usize` counts.
+        // Called only for its postcondition: there are no more nodes than a `usize` counts.
         let _slots = self.store.node_slots();
         Externals {
             store: &self.store,

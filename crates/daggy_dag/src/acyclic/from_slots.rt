@@ -21,13 +21,19 @@ impl<N: Drop, E: Drop, Ix: IndexType, S> Acyclic<N, E, Ix, S>
 where
     S: Store<Ix, NodeWeight = N, EdgeWeight = E>,
 {
-    /// A dag of given slots: for each index the weight of a node, and for each index the two ends
-    /// and the weight of an edge, or nothing, which leaves the slot vacant. No slot of a
-    /// [`Dag`](crate::acyclic::Dag) may be vacant.
+    /// A dag of explicit slots: `nodes[i]` is the weight of node `i`, and `edges[i]` the endpoints
+    /// and the weight of edge `i`; `None` leaves the slot vacant. A [`Dag`](crate::acyclic::Dag)
+    /// has no vacant slot.
     ///
-    /// Each list has the edge with the greatest index first. Of the vacant slots the one with the
-    /// greatest index is taken first. The refusal `Cycle` says that the edges close a cycle,
-    /// `Memory` that there was no memory for the dag. The cost is that of all slots.
+    /// Each list is in descending index order, and the highest vacant slot is reused first.
+    ///
+    /// # Errors
+    ///
+    /// `SlotsError::Cycle` if the edges close a cycle, `SlotsError::Memory` if an allocation fails.
+    ///
+    /// # Complexity
+    ///
+    /// O(slots).
     pub fn from_slots(
         alloc: Global,
         nodes: Vec<Option<N>>,
@@ -63,9 +69,12 @@ where
         }
     }
 
-    /// Puts the lists of all nodes in other orders: for each node that exists, by ascending index,
-    /// its out list and its in list as they are to be. Nothing else changes. The cost is that of
-    /// all nodes and edges.
+    /// Permutes the lists: for each existing node, by ascending index, `orders` has its out list
+    /// and its in list in the desired order. Nothing else changes.
+    ///
+    /// # Complexity
+    ///
+    /// O(nodes + edges).
     pub fn set_orders(&mut self, orders: &[(Vec<EdgeIndex<Ix>>, Vec<EdgeIndex<Ix>>)])
         requires { AreOrders self.old.graph (map (numbers_of Ix.number) orders.now) }
         ensures ordered { self.new

@@ -16,7 +16,7 @@ impl<N: Drop, E: Drop, Ix: IndexType, S> Acyclic<N, E, Ix, S>
 where
     S: Store<Ix, NodeWeight = N, EdgeWeight = E>,
 {
-    /// The graph, for all that only reads one.
+    /// The underlying graph.
     #[inline]
     pub fn graph(&self) -> &S
         ensures graph { S.graph result.now ≡ self.now.graph }
@@ -26,13 +26,13 @@ where
         &self.store
     }
 
-    /// The allocator that the dag takes its memory from.
+    /// The allocator of the dag.
     #[inline]
     pub fn allocator(&self) -> Global {
         self.scratch.allocator()
     }
 
-    /// The graph, which need not stay acyclic from then on. Nothing is copied.
+    /// Unwraps the graph, without copying. It is no longer kept acyclic.
     #[inline]
     pub fn into_graph(self) -> S
         ensures graph { S.graph result ≡ self.graph }
@@ -44,8 +44,7 @@ where
 }
 
 impl<N: Drop, E: Drop, Ix: IndexType> Acyclic<N, E, Ix, DiGraph<N, E, Ix>> {
-    /// The graph, which need not stay acyclic from then on, and an order of its nodes in which
-    /// every parent stands before its children. Nothing is copied.
+    /// Unwraps the graph, without copying, and with a topological order of its nodes.
     #[inline]
     pub fn into_parts(self) -> (DiGraph<N, E, Ix>, Order<Ix>)
         ensures graph { result.0.graph ≡ self.graph }

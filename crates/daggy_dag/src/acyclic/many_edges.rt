@@ -1,4 +1,4 @@
-//! Many edges at once, and dags made of lists.
+//! Batches of edges, and dags made from lists.
 ghost use Rattle.std.specs.Prelude.{◌≡◌, ◌+◌, ◌≤◌, OnOk, IfOk, IfErr, OnErr};
 ghost use Rattle.std.specs.Iterator.{IsFiniteIterable};
 ghost use Rattle.daggy_base.specs.Graph.{Graph, empty};
@@ -20,16 +20,20 @@ impl<N: Drop, E: Drop, Ix: IndexType, S> Acyclic<N, E, Ix, S>
 where
     S: Store<Ix, NodeWeight = N, EdgeWeight = E>,
 {
-    /// Adds all the edges that `items` gives, or none of them. It gives their indices in the order
+    /// Adds all the edges that `items` yields, or none of them. Returns their indices in the order
     /// of the items.
     ///
-    /// The dag's order makes way for each edge in turn, as in [`add_edge`](Acyclic::add_edge).
-    /// Making way does not allocate. It stops at the first edge that closes a cycle. If there are
-    /// many items for the size of the dag and they do not agree with its order, all nodes are
-    /// sorted once at the end instead, in O(nodes + edges).
+    /// Edges are added one at a time, and the dag's order is updated after each, as in
+    /// [`add_edge`](Acyclic::add_edge); the update itself never fails. After the first edge that
+    /// closes a cycle the order is no longer updated. If the batch is large compared with the dag
+    /// and conflicts with its order, the nodes are sorted once at the end instead, in O(nodes +
+    /// edges).
     ///
-    /// The first item that is at fault by itself ends it, and none behind that item is asked for.
-    /// All weights that were asked for come back.
+    /// # Errors
+    ///
+    /// It stops at the first invalid item (missing endpoint, no index left, out of memory) and
+    /// consumes no further items. Otherwise `WouldCycle` if all edges together close a cycle. The
+    /// error holds every weight consumed so far, and the dag is unchanged.
     pub fn add_edges<I: IntoIterator<Item = (NodeIndex<Ix>, NodeIndex<Ix>, E)>>(
         &mut self,
         items: I,
@@ -49,13 +53,15 @@ where
         edge_batch::add_edges(&mut self.store, &mut self.order, &mut self.scratch, items)
     }
 
-    /// Adds the edges that `items` gives, one by one, each after as many nodes of the default
-    /// weight as it takes for its ends to exist. It stops at the first edge that is refused, and
-    /// keeps what it added before.
+    /// Adds the edges that `items` yields, one by one, first adding default nodes until the
+    /// endpoints of each exist. It stops at the first edge that fails, and keeps what it added
+    /// before.
     ///
     /// An item is a pair of nodes, for an edge of the default weight, or a pair with a weight.
-    /// Nodes that were added for the edge that is refused stay too. The error holds the weight of
-    /// that edge.
+    ///
+    /// # Errors
+    ///
+    /// Holds the weight of the edge that failed. Nodes that were added for that edge stay too.
     pub fn extend_with_edges<
         T: IntoWeightedEdge<E, NodeId = NodeIndex<Ix>>,
         I: IntoIterator<Item = T>,
@@ -78,8 +84,8 @@ where
         extension::extend_with_edges(&mut self.store, &mut self.order, &mut self.scratch, items)
     }
 
-    /// A dag of the edges that `items` gives, as [`extend_with_edges`](Acyclic::extend_with_edges)
-    /// makes it of an empty one. Where an edge is refused, what was made is dropped.
+    /// A dag of the edges that `items` yields, as [`extend_with_edges`](Acyclic::extend_with_edges)
+    /// makes it of an empty one. If an edge fails, what was made is dropped.
     pub fn from_edges<T: IntoWeightedEdge<E, NodeId = NodeIndex<Ix>>, I: IntoIterator<Item = T>>(
         alloc: Global,
         items: I,
@@ -104,11 +110,12 @@ where
         }
     }
 
-    /// A dag of the nodes and edges that `items` gives, one by one. An edge between two nodes that
-    /// are joined already writes the weight of the edge that [`find_edge`](Acyclic::find_edge)
-    /// gives.
+    /// A dag of the nodes and edges that `items` yields. An edge between two nodes that are joined
+    /// already replaces the weight of the edge that [`find_edge`](Acyclic::find_edge) returns.
     ///
-    /// The first element that is refused ends it: the error holds its weight, and what was made
+    /// # Errors
+    ///
+    /// It stops at the first element that fails: the error holds its weight, and what was made
     /// before is dropped.
     pub fn from_elements<I: IntoIterator<Item = Element<N, E>>>(
         alloc: Global,

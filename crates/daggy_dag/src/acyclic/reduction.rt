@@ -18,16 +18,21 @@ where
     S: Store<Ix, NodeWeight = N, EdgeWeight = E>,
 {
     /// Removes the edges that are redundant below `roots`: those whose parent a root reaches, and
-    /// from whose parent a path of two edges or more leads to their child too. What reaches what
-    /// stays the same.
+    /// whose parent reaches their child by another path of two or more edges. Reachability is
+    /// unchanged.
     ///
-    /// Parallel edges alone are no such path, so all edges from one node to another go or all stay.
-    /// Roots that do not exist count for nothing. The edges go from the highest index down, each as
-    /// [`remove_edge`](Acyclic::remove_edge) removes it, and their weights are dropped.
+    /// A parallel edge is not such a path, so either all edges from one node to another go, or all
+    /// stay. Missing roots are ignored. The edges are removed from the highest index down, each as
+    /// by [`remove_edge`](Acyclic::remove_edge), and their weights are dropped.
     ///
-    /// The error says that there was no memory to search in. The cost is that of one search for
-    /// each node that the roots reach, and of the removals. In the order that the dag keeps, no
-    /// search goes on from a node that stands after the last child of the one that it is for.
+    /// # Errors
+    ///
+    /// Returns `AllocError` if an allocation fails; the dag is unchanged.
+    ///
+    /// # Complexity
+    ///
+    /// One search for each node that the roots reach, and the removals. The search from a node
+    /// stays before its last child in the dag's order.
     pub fn transitive_reduce(&mut self, roots: Vec<NodeIndex<Ix>>) -> Result<(), AllocError>
         ensures reduced { OnOk result
             (IsReduction S.kind (map Ix.number roots.items) self.old.graph self.new.graph) }

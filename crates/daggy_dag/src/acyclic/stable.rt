@@ -1,4 +1,4 @@
-//! What the stable dag alone has, or has in a form of its own.
+//! What only the stable dag has, or has in a form of its own.
 mod convert;
 mod copies;
 mod iterators;

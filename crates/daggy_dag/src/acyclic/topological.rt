@@ -12,9 +12,11 @@ use std::fmt;
 use std::iter::{ExactSizeIterator, FusedIterator};
 use std::marker::Model;
 
-/// The nodes of a dag, every parent before its children.
+/// An iterator over the nodes of a dag in topological order.
 ///
-/// Going over all of them costs the nodes alone.
+/// # Complexity
+///
+/// O(nodes) in total.
 #[derive(Drop)]
 pub struct TopologicalOrder<'a, Ix: IndexType = DefaultIx> {
     nodes: Nodes<'a, Ix>,

@@ -1,4 +1,4 @@
-//! What generic code may ask of a dag.
+//! The visit traits for dags.
 ghost use Rattle.std.specs.Prelude.{◌≡◌, ℕ, ◌≤◌, ◌↔◌, List, Bool, length, true, IsTrue, IfOk, OnOk};
 ghost use Rattle.std.specs.Prelude.{OnErr, option_copied, refl};
 ghost use Rattle.std.specs.Borrow.{sem};

@@ -15,10 +15,10 @@ use daggy_walk::walker::{FiniteWalker, FusedWalker, Walker};
 use std::alloc::AllocError;
 use std::marker::{Model, PhantomData};
 
-/// A walker over the children of a node. It gives each edge with its child.
+/// A walker over the children of a node. It yields each edge with its child.
 ///
-/// It holds no borrow of the dag. If the edge that comes next was removed, it gives nothing from
-/// then on, unless an edge gets that index again.
+/// It does not borrow the dag. If the edge that comes next was removed, it yields nothing from then
+/// on, unless an edge gets that index again.
 #[derive_where(Debug; Ix)]
 pub struct Children<N, E, Ix = DefaultIx> {
     pub(super) edge: EdgeIndex<Ix>,
@@ -70,7 +70,7 @@ where
 
     #[inline]
     fn walk_next(&mut self, dag: &Acyclic<N, E, Ix, S>) -> Option<(EdgeIndex<Ix>, NodeIndex<Ix>)> {
-        // Asked for its contract alone: an edge comes once in its list.
+        // Called only for its postcondition: an edge comes once in its list.
         let _well_formed = dag.store.edge_count();
         walk::step(&dag.store, Direction::Outgoing, &mut self.edge)
     }
@@ -94,10 +94,10 @@ where
         w t u r a.1 b.1 };
 }
 
-/// A walker over the parents of a node. It gives each edge with its parent.
+/// A walker over the parents of a node. It yields each edge with its parent.
 ///
-/// It holds no borrow of the dag. If the edge that comes next was removed, it gives nothing from
-/// then on, unless an edge gets that index again.
+/// It does not borrow the dag. If the edge that comes next was removed, it yields nothing from then
+/// on, unless an edge gets that index again.
 #[derive_where(Debug; Ix)]
 pub struct Parents<N, E, Ix = DefaultIx> {
     pub(super) edge: EdgeIndex<Ix>,
@@ -149,7 +149,7 @@ where
 
     #[inline]
     fn walk_next(&mut self, dag: &Acyclic<N, E, Ix, S>) -> Option<(EdgeIndex<Ix>, NodeIndex<Ix>)> {
-        // Asked for its contract alone: an edge comes once in its list.
+        // Called only for its postcondition: an edge comes once in its list.
         let _well_formed = dag.store.edge_count();
         walk::step(&dag.store, Direction::Incoming, &mut self.edge)
     }

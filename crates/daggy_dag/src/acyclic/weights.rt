@@ -1,4 +1,4 @@
-//! Weights to write, and `[]`.
+//! Mutable access to weights, and `[]`.
 ghost use Rattle.std.specs.Prelude.{◌≡◌, Some};
 ghost use Rattle.std.specs.Borrow.{sem};
 ghost use Rattle.std.specs.Option.{option_copied_mut};

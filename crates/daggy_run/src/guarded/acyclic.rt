@@ -44,7 +44,7 @@ use daggy_stable::stable_graph::StableDiGraph;
 use daggy_walk::visit::NodeIndexable;
 use std::alloc::{AllocError, Global};
 
-/// A store that tells its kind.
+/// A store that states its kind.
 pub trait TellsKind<Ix: IndexType>: Store<Ix> {
     // What a removal does with a slot of the store.
     ghost KIND: { DagKind };
@@ -52,7 +52,7 @@ pub trait TellsKind<Ix: IndexType>: Store<Ix> {
     /// What a removal does with a slot of the store.
     const KIND: Kind;
 
-    // The kind that is told is the kind that there is.
+    // The constant agrees with the kind of the contracts.
     ghost tells: { kind_of KIND ≡ Self.kind };
 }
 
@@ -72,7 +72,7 @@ impl<N: Drop, E: Drop, Ix: IndexType> TellsKind<Ix> for StableDiGraph<N, E, Ix> 
     ghost tells = { refl };
 }
 
-// The edges of a node's list of that direction with their far ends.
+// The edges of a node's list in direction `dir` with their far ends.
 fn walk_along<Ix: IndexType, S: Store<Ix>>(
     alloc: Global,
     store: &S,
@@ -82,7 +82,7 @@ fn walk_along<Ix: IndexType, S: Store<Ix>>(
     ensures { IfOk result (λ items. map (pair_of Ix.number) items.items
         ≡ walk_of dir (S.graph store.now) (Ix.number n)) }
 {
-    // Asked for its contract alone: an edge comes once in its list.
+    // Called only for its postcondition: an edge comes once in its list.
     let _well_formed = store.node_count();
     let mut items = Vec::new(alloc);
     let mut cursor = store.first_edge(n, dir);
@@ -118,7 +118,7 @@ where
         ensures value { IsTrue result ↔ (node_count_of self.now.graph < Ix.greatest) }
         ensures dag { IsDag Ix.greatest self.now.graph }
     {
-        // Asked for its contract alone: there is no cycle.
+        // Called only for its postcondition: there is no cycle.
         let _dag = self.node_count();
         self.can_add_node()
     }
@@ -128,7 +128,7 @@ where
         ensures value { IsTrue result ↔ (edge_count_of self.now.graph < Ix.greatest) }
         ensures dag { IsDag Ix.greatest self.now.graph }
     {
-        // Asked for its contract alone: there is no cycle.
+        // Called only for its postcondition: there is no cycle.
         let _dag = self.node_count();
         self.can_add_edge()
     }
@@ -337,7 +337,7 @@ where
         ensures fits { node_bound_of self.now.graph ≤ Ix.greatest }
         ensures dag { IsDag Ix.greatest self.now.graph }
     {
-        // Asked for its contract alone: there is no cycle.
+        // Called only for its postcondition: there is no cycle.
         let _dag = self.node_count();
         NodeIndexable::node_bound(self)
     }

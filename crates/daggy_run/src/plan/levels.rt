@@ -10,16 +10,16 @@ use daggy_base::index::{EdgeIndex, IndexType, NodeIndex};
 use daggy_base::link::Link;
 use std::alloc::{AllocError, Global};
 
-// For each index of a node how many edges the longest path to the node has, and the lowest of its
-// parents that has one edge less, or 0 if it has no parents.
+// For each node, the length of the longest path ending at it, and the lowest-index parent on such a
+// path (0 if it has no parents).
 #[derive(Drop)]
 pub(crate) struct Levels<Ix: IndexType> {
     pub(crate) levels: Vec<usize>,
     pub(crate) parents: Vec<Link<Ix>>,
 }
 
-// The level of each node, found along the dag's order: a node's level is known once its parents
-// were gone through.
+// The level of each node, found along the dag's order: a node's level is known once its parents'
+// levels are.
 pub(crate) fn levels_of<N, E, Ix: IndexType, D: GuardedDag<N, E, Ix>>(
     alloc: Global,
     dag: &D,
@@ -44,7 +44,7 @@ pub(crate) fn levels_of<N, E, Ix: IndexType, D: GuardedDag<N, E, Ix>>(
     Ok(Levels { levels, parents })
 }
 
-// Puts the children of a node above it.
+// Sets each child's level above its parent's.
 fn raise_children<N, E, Ix: IndexType, D: GuardedDag<N, E, Ix>>(
     dag: &D,
     n: NodeIndex<Ix>,
@@ -67,7 +67,7 @@ fn raise_children<N, E, Ix: IndexType, D: GuardedDag<N, E, Ix>>(
     ensures within { (k : ℕ)
         → k < vec_len parents.new → slice_index parents.new.items k < vec_len parents.new }
 {
-    // Asked for its contract alone: the graph is well formed.
+    // Called only for its postcondition: the graph is well formed.
     let _bound = dag.node_bound();
     let end = EdgeIndex::<Ix>::end().index();
     let level = levels[n.index()] + 1;
@@ -79,7 +79,7 @@ fn raise_children<N, E, Ix: IndexType, D: GuardedDag<N, E, Ix>>(
     }
 }
 
-// Puts a node above its parent `n`, unless it is there, and notes the lowest parent.
+// Raises a node's level above that of its parent `n`, if it is not, and notes the lowest parent.
 #[inline]
 fn raise<Ix: IndexType>(
     levels: &mut Vec<usize>,

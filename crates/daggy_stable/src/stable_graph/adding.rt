@@ -15,11 +15,16 @@ use daggy_base::link::Link;
 use daggy_cells::links::{self, put_first};
 
 impl<N: Drop, E: Drop, Ix: IndexType> StableDiGraph<N, E, Ix> {
-    /// Adds a node. Its index is that of the slot that was vacated last. If no slot is vacant, it
-    /// is the number of nodes before.
+    /// Adds a node, in the slot vacated last. If no slot is vacant, its index is the previous node
+    /// count.
     ///
-    /// The error says that memory for it was refused. It holds the weight, and the graph is as it
-    /// was. The cost is constant, taken over many calls.
+    /// # Errors
+    ///
+    /// `Memory` with the weight if an allocation fails; the graph is unchanged.
+    ///
+    /// # Complexity
+    ///
+    /// Amortized O(1).
     #[inline]
     pub fn add_node(&mut self, weight: N) -> Result<NodeIndex<Ix>, NodeError<N>>
         requires { node_count_of self.old.graph < Ix.greatest }
@@ -35,7 +40,7 @@ impl<N: Drop, E: Drop, Ix: IndexType> StableDiGraph<N, E, Ix> {
         self.make_node(weight)
     }
 
-    // Adds a node in the slot that was vacated last. Apart, so that what is inlined stays small.
+    // Adds a node in the slot that was vacated last. Out of line, to keep the inlined part small.
     #[inline(never)]
     fn fill_node(&mut self, weight: N) -> NodeIndex<Ix>
         requires { self.old.graph.vacant_nodes ≢ [] }
@@ -70,12 +75,16 @@ impl<N: Drop, E: Drop, Ix: IndexType> StableDiGraph<N, E, Ix> {
         Ok(n)
     }
 
-    /// Adds an edge from `a` to `b`. It is then the first edge that leaves `a`, and the first that
-    /// enters `b`. Its index is that of the slot that was vacated last. If no slot is vacant, it is
-    /// the number of edges before.
+    /// Adds an edge from `a` to `b`, in the slot vacated last. If no slot is vacant, its index is
+    /// the previous edge count. It is first in the lists of `a` and of `b`.
     ///
-    /// The error says that memory for it was refused. It holds the weight, and the graph is as it
-    /// was. The cost is constant, taken over many calls.
+    /// # Errors
+    ///
+    /// `Memory` with the weight if an allocation fails; the graph is unchanged.
+    ///
+    /// # Complexity
+    ///
+    /// Amortized O(1).
     #[inline]
     pub fn add_edge(
         &mut self,
@@ -98,7 +107,7 @@ impl<N: Drop, E: Drop, Ix: IndexType> StableDiGraph<N, E, Ix> {
         self.make_edge(a, b, weight)
     }
 
-    // Adds an edge in the slot that was vacated last. Apart, as `fill_node` is.
+    // Adds an edge in the slot that was vacated last. Out of line, as `fill_node` is.
     #[inline(never)]
     fn fill_edge(&mut self, a: NodeIndex<Ix>, b: NodeIndex<Ix>, weight: E) -> EdgeIndex<Ix>
         requires some { self.old.graph.vacant_edges ≢ [] }

@@ -1,4 +1,4 @@
-//! A graph with memory for nodes and edges that are added later.
+//! A graph with capacity.
 ghost use Rattle.std.specs.Prelude.{◌≡◌, ◌<◌, ◌^◌, IfOk, OnOk};
 ghost use Rattle.daggy_base.specs.Graph.{empty};
 
@@ -9,10 +9,12 @@ use daggy_base::looks::Looks;
 use std::alloc::{AllocError, Global};
 
 impl<N, E, Ix: IndexType> StableDiGraph<N, E, Ix> {
-    /// A graph with no node and no edge, and with memory for so many of each.
+    /// An empty graph with capacity for `nodes` nodes and `edges` edges.
     ///
-    /// The error says that memory was refused, or that no machine can have so much. There may later
-    /// be more nodes and edges than that.
+    /// # Errors
+    ///
+    /// Returns `AllocError` if an allocation fails, or if the capacity exceeds what a machine can
+    /// address.
     pub fn with_capacity(alloc: Global, nodes: usize, edges: usize) -> Result<Self, AllocError>
     where
         N: Drop,

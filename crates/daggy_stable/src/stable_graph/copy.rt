@@ -7,7 +7,7 @@ use daggy_base::index::IndexType;
 use daggy_base::looks::Looks;
 use std::alloc::AllocError;
 
-/// Gives a graph with the same slots, lists and vacant slots, with a clone of each weight.
+/// Returns a graph with the same slots and lists, and with a clone of each weight.
 impl<N: Clone + Drop, E: Clone + Drop, Ix: IndexType> Clone for StableDiGraph<N, E, Ix> {
     ghost is_clone = { λ g copy.
         IsCopy N.is_clone E.is_clone g.graph copy.graph × (copy.looks ≡ 0) };
@@ -29,7 +29,13 @@ impl<N, E, Ix: IndexType> StableDiGraph<N, E, Ix> {
     /// A graph with the same nodes and edges under the same indices, in the same lists, with a
     /// clone of each weight, and with the same vacant slots, which are taken in the same order.
     ///
-    /// The error says that memory for it was refused. The cost grows with the number of slots.
+    /// # Errors
+    ///
+    /// Returns `AllocError` if an allocation fails.
+    ///
+    /// # Complexity
+    ///
+    /// O(slots).
     pub fn try_clone(&self) -> Result<Self, AllocError>
     where
         N: Clone + Drop,

@@ -42,9 +42,11 @@ impl<N, E, Ix: IndexType> StableDiGraph<N, E, Ix> {
         self.edges.len()
     }
 
-    /// The greatest index of a node plus one, or 0 if there is no node.
+    /// One more than the greatest node index, or 0 if there is no node.
     ///
-    /// The cost grows with the number of vacant slots behind that node.
+    /// # Complexity
+    ///
+    /// O(vacant slots after that node).
     pub fn node_bound(&self) -> usize
         ensures { result ≡ node_bound_of self.now.graph }
     {
@@ -59,9 +61,11 @@ impl<N, E, Ix: IndexType> StableDiGraph<N, E, Ix> {
         0
     }
 
-    /// The greatest index of an edge plus one, or 0 if there is no edge.
+    /// One more than the greatest edge index, or 0 if there is no edge.
     ///
-    /// The cost grows with the number of vacant slots behind that edge.
+    /// # Complexity
+    ///
+    /// O(vacant slots after that edge).
     pub fn edge_bound(&self) -> usize
         ensures { result ≡ edge_bound_of self.now.graph }
     {

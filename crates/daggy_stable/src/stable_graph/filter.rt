@@ -116,16 +116,20 @@ fn filter_edges<N, E, W, Ix: IndexType, G: FnMut(EdgeIndex<Ix>, &E) -> Option<W>
 }
 
 impl<N, E, Ix: IndexType> StableDiGraph<N, E, Ix> {
-    /// A graph of the nodes and edges that the closures give a weight for, under the same indices:
-    /// `f` is called with each node by ascending index, and then `g` with each edge whose ends both
-    /// stayed.
+    /// A graph of the nodes and edges for which the closures return a weight, under the same
+    /// indices: `f` is called with each node by ascending index, and then `g` with each edge whose
+    /// endpoints were both kept.
     ///
-    /// The slots behind the last node and behind the last edge of this graph are not there. Each
-    /// list has the edge with the greatest index first. Of the vacant slots the one with the
-    /// greatest index is taken first.
+    /// Slots after the last node and the last edge are dropped. Each list is in descending index
+    /// order, and the highest vacant slot is reused first.
     ///
-    /// The error says that memory for it was refused. Then no closure was called. The cost grows
-    /// with the number of slots, besides that of the calls.
+    /// # Errors
+    ///
+    /// Returns `AllocError` if an allocation fails; then no closure was called.
+    ///
+    /// # Complexity
+    ///
+    /// O(slots), plus the calls.
     pub fn filter_map<
         N2: Drop,
         E2: Drop,

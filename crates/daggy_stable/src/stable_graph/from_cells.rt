@@ -10,9 +10,11 @@ use daggy_base::looks::Looks;
 use daggy_cells::cell::{Edge, Node};
 
 impl<N, E, Ix: IndexType> StableDiGraph<N, E, Ix> {
-    /// The graph that these cells hold, in which no slot is vacant.
+    /// The graph that these cells hold, which has no vacant slot.
     ///
-    /// Constant time. It takes no memory.
+    /// # Complexity
+    ///
+    /// O(1). Does not allocate.
     pub fn from_cells(nodes: Vec<Node<Option<N>, Ix>>, edges: Vec<Edge<Option<E>, Ix>>) -> Self
         requires { (graph : Graph N E) × HoldsGraph Ix.greatest nodes.items edges.items graph }
         ensures { (graph : Graph N E) → HoldsGraph Ix.greatest nodes.items edges.items graph

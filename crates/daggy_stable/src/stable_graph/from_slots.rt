@@ -63,11 +63,17 @@ fn make_edges<N, E: Drop, Ix: IndexType>(
 }
 
 impl<N, E, Ix: IndexType> StableDiGraph<N, E, Ix> {
-    /// The graph with these slots, where an edge names its parent and its child.
+    /// A graph of explicit slots, where an edge names its parent and its child.
     ///
-    /// Each list has the edge with the greatest index first. Of the vacant slots the one with the
-    /// greatest index is taken first. The error says that memory for the graph was refused. The
-    /// cost grows with the number of slots.
+    /// Each list is in descending index order, and the highest vacant slot is reused first.
+    ///
+    /// # Errors
+    ///
+    /// Returns `AllocError` if an allocation fails.
+    ///
+    /// # Complexity
+    ///
+    /// O(slots).
     pub fn from_slots(
         alloc: Global,
         nodes: Vec<Option<N>>,

@@ -1,4 +1,4 @@
-//! Going past vacant slots.
+//! Iterating over full slots.
 ghost use Rattle.std.specs.Prelude.{◌≡◌, ◌+◌, ◌<◌, ◌≤◌, ◌^◌, Bool, Some, None, [], is_none, length};
 ghost use Rattle.std.specs.Prelude.{IfSome, IfNone};
 ghost use Rattle.daggy_stable.specs.FullSlots.{next_full as next_full_of};

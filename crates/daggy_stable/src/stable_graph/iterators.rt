@@ -1,4 +1,4 @@
-//! Going over all nodes, or over all edges.
+//! Iterators over the nodes and the edges.
 ghost use Rattle.std.specs.Prelude.{◌≡◌, ◌<◌, ◌^◌, length, Some, IsSome};
 ghost use Rattle.std.specs.Iterator.{YieldsFirstRef, YieldsFirstBy, item_count};
 ghost use Rattle.daggy_base.specs.Iterating.{node_weights as node_weights_of};
@@ -21,8 +21,11 @@ use std::fmt;
 use std::iter::FusedIterator;
 use std::marker::Model;
 
-/// The nodes by ascending index, each with its weight. A step costs the vacant slots that it goes
-/// past.
+/// The nodes by ascending index, each with its weight.
+///
+/// # Complexity
+///
+/// O(slots) in total.
 #[derive(Drop)]
 pub struct NodeReferences<'a, N, Ix: IndexType = DefaultIx> {
     slots: FullSlots<'a, Node<Option<N>, Ix>>,
@@ -203,7 +206,11 @@ pub(super) fn reference<'a, E, Ix: IndexType>(
     EdgeReference::from_parts(e, source, target, x.weight.as_ref().unwrap())
 }
 
-/// The edges, by ascending index. A step costs the vacant slots that it goes past.
+/// The edges, by ascending index.
+///
+/// # Complexity
+///
+/// O(slots) in total.
 #[derive(Drop)]
 pub struct EdgeReferences<'a, E, Ix: IndexType = DefaultIx> {
     slots: FullSlots<'a, Edge<Option<E>, Ix>>,

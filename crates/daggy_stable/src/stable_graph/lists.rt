@@ -1,4 +1,4 @@
-//! Going over the edges of one node.
+//! Iterators over the edges of one node.
 ghost use Rattle.std.specs.Prelude.{◌≡◌, ◌<◌, ◌^◌, length};
 ghost use Rattle.std.specs.Iterator.{YieldsFirstBy, item_count};
 ghost use Rattle.daggy_base.specs.declared.index.Direction.TheVariants.{Outgoing};

@@ -74,8 +74,13 @@ impl<N, E, Ix: IndexType> StableDiGraph<N, E, Ix> {
     /// the same vacant slots, whose weights are what the closures give: `f` is called with each
     /// node by ascending index, and then `g` with each edge.
     ///
-    /// The error says that memory for it was refused. Then no closure was called. The cost grows
-    /// with the number of slots, besides that of the calls.
+    /// # Errors
+    ///
+    /// Returns `AllocError` if an allocation fails; then no closure was called.
+    ///
+    /// # Complexity
+    ///
+    /// O(slots), plus the calls.
     pub fn map<
         N2: Drop,
         E2: Drop,

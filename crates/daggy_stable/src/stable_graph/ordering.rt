@@ -56,10 +56,12 @@ fn thread_nodes<N, E, Ix: IndexType>(
 }
 
 impl<N, E, Ix: IndexType> StableDiGraph<N, E, Ix> {
-    /// Puts the edges of each list into another order: for each node that exists, by ascending
-    /// index, first those that leave it and then those that enter it.
+    /// Permutes the lists: for each existing node, by ascending index, `orders` has its out list
+    /// and its in list in the desired order.
     ///
-    /// It takes no memory. The cost grows with the number of slots of nodes and with that of edges.
+    /// # Complexity
+    ///
+    /// O(slots). Does not allocate.
     pub fn set_orders(&mut self, orders: &[(Vec<EdgeIndex<Ix>>, Vec<EdgeIndex<Ix>>)])
         requires { AreOrders self.old.graph (map (numbers_of Ix.number) orders.now) }
         ensures { self.new

@@ -20,10 +20,11 @@ use daggy_cells::cell::{Edge, Node};
 use daggy_cells::links::{self, ListHead, redirect};
 
 impl<N, E, Ix: IndexType> StableDiGraph<N, E, Ix> {
-    /// Removes an edge and hands back its weight, if the edge exists. No other index changes.
+    /// Removes an edge and returns its weight, if the edge exists. No other index changes.
     ///
-    /// The cost grows with the number of edges before it in its two lists. It cannot fail for want
-    /// of memory.
+    /// # Complexity
+    ///
+    /// O(edges before it in its two lists). Does not allocate.
     pub fn remove_edge(&mut self, e: EdgeIndex<Ix>) -> Option<E>
         ensures value { result ≡ option_map (λ x. x.weight) (edge_at self.old.graph (Ix.number e)) }
         ensures removed { OnSome result
@@ -53,13 +54,15 @@ impl<N, E, Ix: IndexType> StableDiGraph<N, E, Ix> {
         weight
     }
 
-    /// Removes a node with its edges and hands back its weight, if the node exists. No other index
+    /// Removes a node with its edges and returns its weight, if the node exists. No other index
     /// changes.
     ///
-    /// First the edges that leave it are removed, the first of the list each time, and then those
-    /// that enter it.
+    /// First the edges out of it are removed, each time the first of the list, and then those into
+    /// it.
     ///
-    /// The cost is that of removing each of those edges. It cannot fail for want of memory.
+    /// # Complexity
+    ///
+    /// The removal of each of those edges. Does not allocate.
     pub fn remove_node(&mut self, n: NodeIndex<Ix>) -> Option<N>
     where
         E: Drop,
@@ -79,7 +82,7 @@ impl<N, E, Ix: IndexType> StableDiGraph<N, E, Ix> {
         self.vacate_node(n)
     }
 
-    // Removes the edge at the front of n's list of that direction until the list is empty.
+    // Removes the first edge of n's list in direction `dir` until the list is empty.
     fn clear_front(&mut self, n: NodeIndex<Ix>, dir: Direction)
     where
         E: Drop,
@@ -117,7 +120,7 @@ impl<N, E, Ix: IndexType> StableDiGraph<N, E, Ix> {
         weight
     }
 
-    /// Removes all nodes and edges, and all slots. It keeps the memory for later ones.
+    /// Removes all nodes and edges, and all slots. The capacity is kept.
     ///
     /// The cost grows with the number of slots.
     pub fn clear(&mut self)
@@ -134,8 +137,7 @@ impl<N, E, Ix: IndexType> StableDiGraph<N, E, Ix> {
         self.edge_count = 0;
     }
 
-    /// Removes all edges, and all slots of edges. It keeps the nodes, and the memory for later
-    /// edges.
+    /// Removes all edges and all edge slots, and keeps the nodes. The capacity is kept.
     ///
     /// The cost grows with the number of slots.
     pub fn clear_edges(&mut self)
@@ -164,8 +166,7 @@ pub(super) fn unlink<N, E, Ix: IndexType>(
     ensures edges { map stored_edge edges.new.items ≡ map stored_edge edges.old.items }
 {
     let i = e.index();
-    // Both lists are looked up before one is walked, so that the loads need not wait for each
-    // other.
+    // Both list heads are loaded before a list is walked, so that the loads overlap.
     let out = ListHead::of(nodes, edges, Direction::Outgoing, e);
     let into = ListHead::of(nodes, edges, Direction::Incoming, e);
     let next_out = links::next(&edges[i], Direction::Outgoing);

@@ -1,4 +1,4 @@
-//! The stable store as one that a dag stands on.
+//! The trait of stores for the stable store.
 ghost use Rattle.std.specs.Prelude.{◌≡◌, ℕ, ◌+◌, ◌<◌, ◌↔◌, IsTrue, IfOk, OnOk, IfErr, OnErr};
 ghost use Rattle.std.specs.Prelude.{OnSome, IfNone, Some, [], ◌≤◌, length, map, option_copied};
 ghost use Rattle.std.specs.Prelude.{refl};

@@ -13,11 +13,13 @@ use daggy_base::index::{EdgeIndex, IndexType, NodeIndex};
 use daggy_base::link::Link;
 
 impl<N, E, Ix: IndexType> StableDiGraph<N, E, Ix> {
-    /// Undoes the adding of an edge, and hands back its weight. The slot is cut off if it was made
-    /// for the edge, else vacated.
+    /// Undoes the adding of an edge, and returns its weight. The slot is removed if it was new
+    /// (`made`), and freed otherwise.
     ///
-    /// The cost grows with the number of edges before it in its two lists, and is constant for the
-    /// edge that was added last. It cannot fail for want of memory.
+    /// # Complexity
+    ///
+    /// O(edges before it in its two lists): O(1) for the edge that was added last. Does not
+    /// allocate.
     pub fn take_back_edge(&mut self, e: EdgeIndex<Ix>, made: bool) -> E
         requires exists { HasEdge self.old.graph (Ix.number e) }
         requires last { IsTrue made → Ix.number e + 1 ≡ length self.old.graph.edges }
@@ -46,8 +48,8 @@ impl<N, E, Ix: IndexType> StableDiGraph<N, E, Ix> {
         x.weight
     }
 
-    /// Undoes the adding of a node that has no edges, and hands back its weight. The slot is cut
-    /// off if it was made for the node, else vacated.
+    /// Undoes the adding of a node without edges, and returns its weight. The slot is removed if it
+    /// was new (`made`), and freed otherwise.
     ///
     /// It cannot fail for want of memory.
     pub fn take_back_node(&mut self, n: NodeIndex<Ix>, made: bool) -> N

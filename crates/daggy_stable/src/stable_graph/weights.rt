@@ -36,7 +36,7 @@ impl<N, E, Ix: IndexType> StableDiGraph<N, E, Ix> {
         }
     }
 
-    /// The weight of a node, to be written, if the node exists.
+    /// A mutable reference to the weight of a node, if the node exists.
     #[inline]
     pub fn node_weight_mut(&mut self, n: NodeIndex<Ix>) -> Option<&mut N>
         ensures* writes_back { sem 𝓛
@@ -50,7 +50,7 @@ impl<N, E, Ix: IndexType> StableDiGraph<N, E, Ix> {
         }
     }
 
-    /// The weight of an edge, to be written, if the edge exists.
+    /// A mutable reference to the weight of an edge, if the edge exists.
     #[inline]
     pub fn edge_weight_mut(&mut self, e: EdgeIndex<Ix>) -> Option<&mut E>
         ensures* writes_back { sem 𝓛
@@ -88,7 +88,7 @@ impl<N, E, Ix: IndexType> StableDiGraph<N, E, Ix> {
         x.weight.as_mut().unwrap()
     }
 
-    /// Puts another weight at an edge, and hands back the one that was there.
+    /// Replaces the weight of an edge, and returns the old one.
     #[inline]
     pub fn replace_edge_weight(&mut self, e: EdgeIndex<Ix>, weight: E) -> E
         requires { HasEdge self.old.graph (Ix.number e) }

@@ -1,4 +1,4 @@
-//! Copies, and memory for nodes and edges that are added later.
+//! Copies and capacity.
 ghost use Rattle.std.specs.Prelude.{◌≡◌, ◌+◌, ◌<◌, ◌^◌, length, IfOk, OnOk};
 ghost use Rattle.daggy_base.specs.Copying.{IsCopy};
 ghost use Rattle.daggy_base.specs.Graph.{empty};
@@ -12,8 +12,7 @@ use daggy_search::Scratch;
 use std::alloc::{AllocError, Global};
 use std::marker::PhantomData;
 
-/// Gives a dag with the same nodes and edges under the same indices, and in the same lists, with a
-/// clone of each weight.
+/// Returns a dag with the same indices and lists, and with a clone of each weight.
 impl<N: Clone + Drop, E: Clone + Drop, Ix: IndexType> Clone
     for Acyclic<N, E, Ix, DiGraph<N, E, Ix>> {
     ghost is_clone = { λ d copy.
@@ -35,11 +34,13 @@ impl<N: Clone + Drop, E: Clone + Drop, Ix: IndexType> Clone
 }
 
 impl<N: Drop, E: Drop, Ix: IndexType> Acyclic<N, E, Ix, DiGraph<N, E, Ix>> {
-    /// An empty dag with memory for so many nodes and edges, for their order, and for the searches
-    /// among them.
+    /// An empty dag with capacity for `nodes` nodes and `edges` edges, for their order, and for
+    /// searches.
     ///
-    /// The error says that memory was refused, or that no machine can have so much. There may later
-    /// be more nodes and edges than that.
+    /// # Errors
+    ///
+    /// Returns `AllocError` if an allocation fails, or if the capacity exceeds what a machine can
+    /// address.
     pub fn with_capacity(alloc: Global, nodes: usize, edges: usize) -> Result<Self, AllocError>
         ensures value { IfOk result (λ d. d ≡ record { graph = empty; looks = 0 }) }
         ensures nodes_fit { OnOk result (nodes < 2 ^ 63) }
@@ -62,8 +63,13 @@ impl<N: Drop, E: Drop, Ix: IndexType> Acyclic<N, E, Ix, DiGraph<N, E, Ix>> {
     /// A dag with the same nodes and edges under the same indices, and in the same lists, with a
     /// clone of each weight.
     ///
-    /// The error says that memory for it was refused. The cost grows with the number of nodes and
-    /// edges.
+    /// # Errors
+    ///
+    /// Returns `AllocError` if an allocation fails.
+    ///
+    /// # Complexity
+    ///
+    /// O(nodes + edges).
     pub fn try_clone(&self) -> Result<Self, AllocError>
     where
         N: Clone,
@@ -76,16 +82,17 @@ impl<N: Drop, E: Drop, Ix: IndexType> Acyclic<N, E, Ix, DiGraph<N, E, Ix>> {
             → d ≡ record { graph = self.now.graph; looks = 0 }) }
         ensures acyclic { IfOk result (λ d. IsAcyclic d.graph) }
     {
-        // Asked for its contract alone: the dag is acyclic.
+        // Called only for its postcondition: the dag is acyclic.
         let _acyclic = self.node_count();
         self.clone()
     }
 
-    /// Reserves capacity for so many more nodes, for their order and for the searches among them,
-    /// and for some more than that, so that a later call seldom reserves again.
+    /// Reserves capacity for at least `additional` more nodes, for their order and for searches.
     ///
-    /// The error says that memory was refused, or that no machine can have so much. The dag is as
-    /// it was.
+    /// # Errors
+    ///
+    /// Returns `AllocError` if an allocation fails, or if the capacity exceeds what a machine can
+    /// address; the dag is unchanged.
     pub fn reserve_nodes(&mut self, additional: usize) -> Result<(), AllocError>
         ensures same { self.new ≡ self.old }
         ensures fits { OnOk result (length self.new.graph.nodes + additional < 2 ^ 63) }
@@ -96,10 +103,12 @@ impl<N: Drop, E: Drop, Ix: IndexType> Acyclic<N, E, Ix, DiGraph<N, E, Ix>> {
         self.scratch.reserve(nodes, 0)
     }
 
-    /// Reserves capacity for so many more nodes, for their order and for the searches among them.
+    /// Reserves the least capacity for `additional` more nodes, for their order and for searches.
     ///
-    /// The error says that memory was refused, or that no machine can have so much. The dag is as
-    /// it was.
+    /// # Errors
+    ///
+    /// Returns `AllocError` if an allocation fails, or if the capacity exceeds what a machine can
+    /// address; the dag is unchanged.
     pub fn reserve_exact_nodes(&mut self, additional: usize) -> Result<(), AllocError>
         ensures same { self.new ≡ self.old }
         ensures fits { OnOk result (length self.new.graph.nodes + additional < 2 ^ 63) }
@@ -110,11 +119,12 @@ impl<N: Drop, E: Drop, Ix: IndexType> Acyclic<N, E, Ix, DiGraph<N, E, Ix>> {
         self.scratch.reserve(nodes, 0)
     }
 
-    /// Reserves capacity for so many more edges, and for some more than that, so that a later call
-    /// seldom reserves again.
+    /// Reserves capacity for at least `additional` more edges.
     ///
-    /// The error says that memory was refused, or that no machine can have so much. The dag is as
-    /// it was.
+    /// # Errors
+    ///
+    /// Returns `AllocError` if an allocation fails, or if the capacity exceeds what a machine can
+    /// address; the dag is unchanged.
     pub fn reserve_edges(&mut self, additional: usize) -> Result<(), AllocError>
         ensures same { self.new ≡ self.old }
         ensures fits { OnOk result (length self.new.graph.edges + additional < 2 ^ 63) }
@@ -122,10 +132,12 @@ impl<N: Drop, E: Drop, Ix: IndexType> Acyclic<N, E, Ix, DiGraph<N, E, Ix>> {
         self.store.reserve_edges(additional)
     }
 
-    /// Reserves capacity for so many more edges.
+    /// Reserves the least capacity for `additional` more edges.
     ///
-    /// The error says that memory was refused, or that no machine can have so much. The dag is as
-    /// it was.
+    /// # Errors
+    ///
+    /// Returns `AllocError` if an allocation fails, or if the capacity exceeds what a machine can
+    /// address; the dag is unchanged.
     pub fn reserve_exact_edges(&mut self, additional: usize) -> Result<(), AllocError>
         ensures same { self.new ≡ self.old }
         ensures fits { OnOk result (length self.new.graph.edges + additional < 2 ^ 63) }
@@ -133,30 +145,36 @@ impl<N: Drop, E: Drop, Ix: IndexType> Acyclic<N, E, Ix, DiGraph<N, E, Ix>> {
         self.store.reserve_exact_edges(additional)
     }
 
-    /// Gives memory back that no node and no edge needs. The room for searches stays.
+    /// Shrinks the capacity of nodes and edges to fit. The memory for searches stays.
     ///
-    /// The error says that a smaller block was refused. The dag is as it was, and so is the memory
-    /// of that block.
+    /// # Errors
+    ///
+    /// Returns `AllocError` if a reallocation fails; that buffer keeps its size, and the dag is
+    /// unchanged.
     pub fn shrink_to_fit(&mut self) -> Result<(), AllocError>
         ensures { self.new ≡ self.old }
     {
         self.store.shrink_to_fit()
     }
 
-    /// Gives memory back that no node needs. The room for searches stays.
+    /// Shrinks the capacity of nodes to fit. The memory for searches stays.
     ///
-    /// The error says that a smaller block was refused. The dag is as it was, and keeps the block
-    /// that it had.
+    /// # Errors
+    ///
+    /// Returns `AllocError` if the reallocation fails; the buffer keeps its size, and the dag is
+    /// unchanged.
     pub fn shrink_to_fit_nodes(&mut self) -> Result<(), AllocError>
         ensures { self.new ≡ self.old }
     {
         self.store.shrink_to_fit_nodes()
     }
 
-    /// Gives memory back that no edge needs.
+    /// Shrinks the capacity of edges to fit.
     ///
-    /// The error says that a smaller block was refused. The dag is as it was, and keeps the block
-    /// that it had.
+    /// # Errors
+    ///
+    /// Returns `AllocError` if the reallocation fails; the buffer keeps its size, and the dag is
+    /// unchanged.
     pub fn shrink_to_fit_edges(&mut self) -> Result<(), AllocError>
         ensures { self.new ≡ self.old }
     {

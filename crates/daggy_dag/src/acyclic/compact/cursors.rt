@@ -1,4 +1,4 @@
-//! All weights to write, each lent in turn.
+//! Mutable access to all weights, one at a time.
 ghost use Rattle.std.specs.Prelude.{◌≡◌};
 ghost use Rattle.std.specs.Borrow.{sem};
 ghost use Rattle.std.specs.Option.{option_copied_mut};
@@ -12,7 +12,7 @@ use daggy_graph::graph::DiGraph;
 
 /// Lends the weights of the nodes, one at a time, by ascending index.
 ///
-/// It is no iterator, since a weight is lent until the next one is asked for. Go through it with
+/// A lending cursor, not an `Iterator`: each reference must end before the next call. Use it as
 /// `while let Some(weight) = weights.next()`.
 #[derive(Drop)]
 pub struct NodeWeightsMut<'a, N: Drop, E: Drop, Ix: IndexType = DefaultIx> {
@@ -22,7 +22,7 @@ pub struct NodeWeightsMut<'a, N: Drop, E: Drop, Ix: IndexType = DefaultIx> {
 
 /// Lends the weights of the edges, one at a time, by ascending index.
 ///
-/// It is no iterator, since a weight is lent until the next one is asked for. Go through it with
+/// A lending cursor, not an `Iterator`: each reference must end before the next call. Use it as
 /// `while let Some(weight) = weights.next()`.
 #[derive(Drop)]
 pub struct EdgeWeightsMut<'a, N: Drop, E: Drop, Ix: IndexType = DefaultIx> {
@@ -31,7 +31,7 @@ pub struct EdgeWeightsMut<'a, N: Drop, E: Drop, Ix: IndexType = DefaultIx> {
 }
 
 impl<N: Drop, E: Drop, Ix: IndexType> Acyclic<N, E, Ix, DiGraph<N, E, Ix>> {
-    /// The weights of the nodes, to be written one at a time, by ascending index.
+    /// A cursor over mutable references to the weights of the nodes, by ascending index.
     #[inline]
     pub fn node_weights_mut(&mut self) -> NodeWeightsMut<'_, N, E, Ix>
         ensures same_reference { result.dag.ghost_name ≡ self.entry.ghost_name }
@@ -44,7 +44,7 @@ impl<N: Drop, E: Drop, Ix: IndexType> Acyclic<N, E, Ix, DiGraph<N, E, Ix>> {
         }
     }
 
-    /// The weights of the edges, to be written one at a time, by ascending index.
+    /// A cursor over mutable references to the weights of the edges, by ascending index.
     #[inline]
     pub fn edge_weights_mut(&mut self) -> EdgeWeightsMut<'_, N, E, Ix>
         ensures same_reference { result.dag.ghost_name ≡ self.entry.ghost_name }

@@ -1,4 +1,4 @@
-//! Going over all nodes, over all edges, and over the edges of one node.
+//! Iterators over the nodes, the edges, and the edges of one node.
 ghost use Rattle.std.specs.Prelude.{◌≡◌, ◌<◌, ◌^◌, length};
 ghost use Rattle.daggy_base.specs.declared.index.Direction.TheVariants.{Outgoing};
 ghost use Rattle.daggy_base.specs.Iterating.{node_identifiers as node_identifiers_of};
@@ -13,7 +13,7 @@ use daggy_graph::graph::iterators::{EdgeReferences, NodeIdentifiers, NodeReferen
 use daggy_graph::graph::lists::{Edges, Neighbors};
 
 impl<N: Drop, E: Drop, Ix: IndexType> Acyclic<N, E, Ix, DiGraph<N, E, Ix>> {
-    /// The indices of the nodes, in ascending order. The dag is free while they are gone through.
+    /// The indices of the nodes, in ascending order. It does not borrow the dag.
     #[inline]
     pub fn node_identifiers(&self) -> NodeIdentifiers<Ix>
         ensures rest { result ≡ node_identifiers_of self.now.graph }

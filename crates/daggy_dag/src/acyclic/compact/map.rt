@@ -14,12 +14,16 @@ use std::alloc::AllocError;
 use std::marker::PhantomData;
 
 impl<N: Drop, E: Drop, Ix: IndexType> Acyclic<N, E, Ix, DiGraph<N, E, Ix>> {
-    /// A dag with the same nodes and edges under the same indices, and in the same lists, whose
-    /// weights are what the closures give: `f` is called with each node by ascending index, and
-    /// then `g` with each edge.
+    /// A dag with the same indices and lists, and with the weights returned by the closures: `f` is
+    /// called with each node by ascending index, and then `g` with each edge.
     ///
-    /// The error says that memory for it, or for its searches, was refused. Then no closure was
-    /// called. The cost grows with the number of nodes and edges, besides that of the calls.
+    /// # Errors
+    ///
+    /// Returns `AllocError` if an allocation fails; then no closure was called.
+    ///
+    /// # Complexity
+    ///
+    /// O(nodes + edges), plus the calls.
     pub fn map<
         N2: Drop,
         E2: Drop,
@@ -46,15 +50,20 @@ impl<N: Drop, E: Drop, Ix: IndexType> Acyclic<N, E, Ix, DiGraph<N, E, Ix>> {
         })
     }
 
-    /// A dag of the nodes and edges that the closures give a weight for: `f` is called with each
-    /// node by ascending index, and then `g` with each edge whose ends both stayed.
+    /// A dag of the nodes and edges for which the closures return a weight: `f` is called with each
+    /// node by ascending index, and then `g` with each edge whose endpoints were both kept.
     ///
-    /// The nodes that stay keep their order and get new indices from 0 on. The edges that stay are
-    /// added again by ascending index, so each list has the edge with the greatest index first.
-    /// Where nothing is left out, each node and edge keeps its index.
+    /// The nodes that are kept get new indices from 0 on, in their old order. The edges that are
+    /// kept are added again by ascending index, so each list is in descending index order. If
+    /// nothing is left out, each node and edge keeps its index.
     ///
-    /// The error says that memory for it, or for its searches, was refused. Then no closure was
-    /// called. The cost grows with the number of nodes and edges, besides that of the calls.
+    /// # Errors
+    ///
+    /// Returns `AllocError` if an allocation fails; then no closure was called.
+    ///
+    /// # Complexity
+    ///
+    /// O(nodes + edges), plus the calls.
     pub fn filter_map<
         N2: Drop,
         E2: Drop,

@@ -1,4 +1,4 @@
-//! All weights to write, one after another.
+//! Mutable access to all weights by a closure.
 ghost use Rattle.std.specs.Prelude.{◌≡◌};
 ghost use Rattle.daggy_base.specs.CallsInTurn.{CanLendNodes, CanLendEdges};
 ghost use Rattle.daggy_base.specs.Path.{IsAcyclic};
@@ -9,9 +9,11 @@ use daggy_base::index::{EdgeIndex, IndexType, NodeIndex};
 use daggy_graph::graph::DiGraph;
 
 impl<N: Drop, E: Drop, Ix: IndexType> Acyclic<N, E, Ix, DiGraph<N, E, Ix>> {
-    /// Calls `f` with each node by ascending index and with its weight, to be written.
+    /// Calls `f` with each node by ascending index and a mutable reference to its weight.
     ///
-    /// The cost grows with the number of nodes, besides that of the calls.
+    /// # Complexity
+    ///
+    /// O(nodes), plus the calls.
     pub fn update_node_weights<F: FnMut(NodeIndex<Ix>, &mut N)>(&mut self, f: F)
         requires { CanLendNodes Ix.of F.pre F.step f self.old.graph }
         ensures written { RewritesNodes Ix.of F.step f self.old.graph self.new.graph }
@@ -22,9 +24,11 @@ impl<N: Drop, E: Drop, Ix: IndexType> Acyclic<N, E, Ix, DiGraph<N, E, Ix>> {
         self.store.update_node_weights(f);
     }
 
-    /// Calls `f` with each edge by ascending index and with its weight, to be written.
+    /// Calls `f` with each edge by ascending index and a mutable reference to its weight.
     ///
-    /// The cost grows with the number of edges, besides that of the calls.
+    /// # Complexity
+    ///
+    /// O(edges), plus the calls.
     pub fn update_edge_weights<F: FnMut(EdgeIndex<Ix>, &mut E)>(&mut self, f: F)
         requires { CanLendEdges Ix.of F.pre F.step f self.old.graph }
         ensures written { RewritesEdges Ix.of F.step f self.old.graph self.new.graph }

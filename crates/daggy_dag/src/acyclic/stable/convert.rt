@@ -27,10 +27,15 @@ fn room_for<N: Drop, E: Drop, Ix: IndexType>(
 }
 
 impl<N: Drop, E: Drop, Ix: IndexType> Acyclic<N, E, Ix, StableDiGraph<N, E, Ix>> {
-    /// The same nodes and edges under the same indices, and in the same lists, with no slot vacant.
+    /// A stable dag with the same indices and lists, and with no vacant slot.
     ///
-    /// The error says that memory for it was refused, and hands the dag back. The cost grows with
-    /// the number of nodes and edges.
+    /// # Errors
+    ///
+    /// Returns the dag unchanged if an allocation fails.
+    ///
+    /// # Complexity
+    ///
+    /// O(nodes + edges).
     pub fn from_dag(dag: Dag<N, E, Ix>) -> Result<Self, Dag<N, E, Ix>>
         ensures value { IfOk result (λ d. d ≡ record { graph = dag.graph; looks = 0 }) }
         ensures acyclic { IfOk result (λ d. IsAcyclic d.graph) }

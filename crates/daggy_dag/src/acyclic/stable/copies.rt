@@ -1,4 +1,4 @@
-//! Copies, and dags with memory for nodes and edges that are added later.
+//! Copies and capacity.
 ghost use Rattle.std.specs.Prelude.{◌≡◌, ◌<◌, ◌^◌, IfOk, OnOk};
 ghost use Rattle.daggy_base.specs.Copying.{IsCopy};
 ghost use Rattle.daggy_base.specs.Graph.{empty};
@@ -12,7 +12,7 @@ use daggy_stable::stable_graph::StableDiGraph;
 use std::alloc::{AllocError, Global};
 use std::marker::PhantomData;
 
-/// Gives a dag with the same slots, lists and vacant slots, with a clone of each weight.
+/// Returns a dag with the same slots and lists, and with a clone of each weight.
 impl<N: Clone + Drop, E: Clone + Drop, Ix: IndexType> Clone
     for Acyclic<N, E, Ix, StableDiGraph<N, E, Ix>> {
     ghost is_clone = { λ d copy.
@@ -34,11 +34,13 @@ impl<N: Clone + Drop, E: Clone + Drop, Ix: IndexType> Clone
 }
 
 impl<N: Drop, E: Drop, Ix: IndexType> Acyclic<N, E, Ix, StableDiGraph<N, E, Ix>> {
-    /// An empty dag with memory for so many nodes and edges, for their order, and for the searches
-    /// among them.
+    /// An empty dag with capacity for `nodes` nodes and `edges` edges, for their order, and for
+    /// searches.
     ///
-    /// The error says that memory was refused, or that no machine can have so much. There may later
-    /// be more nodes and edges than that.
+    /// # Errors
+    ///
+    /// Returns `AllocError` if an allocation fails, or if the capacity exceeds what a machine can
+    /// address.
     pub fn with_capacity(alloc: Global, nodes: usize, edges: usize) -> Result<Self, AllocError>
         ensures value { IfOk result (λ d. d ≡ record { graph = empty; looks = 0 }) }
         ensures nodes_fit { OnOk result (nodes < 2 ^ 63) }
@@ -61,7 +63,13 @@ impl<N: Drop, E: Drop, Ix: IndexType> Acyclic<N, E, Ix, StableDiGraph<N, E, Ix>>
     /// A dag with the same nodes and edges under the same indices, in the same lists, with a clone
     /// of each weight, and with the same vacant slots, which are taken in the same order.
     ///
-    /// The error says that memory for it was refused. The cost grows with the number of slots.
+    /// # Errors
+    ///
+    /// Returns `AllocError` if an allocation fails.
+    ///
+    /// # Complexity
+    ///
+    /// O(slots).
     pub fn try_clone(&self) -> Result<Self, AllocError>
     where
         N: Clone,
@@ -74,7 +82,7 @@ impl<N: Drop, E: Drop, Ix: IndexType> Acyclic<N, E, Ix, StableDiGraph<N, E, Ix>>
             → d ≡ record { graph = self.now.graph; looks = 0 }) }
         ensures acyclic { IfOk result (λ d. IsAcyclic d.graph) }
     {
-        // Asked for its contract alone: the dag is acyclic.
+        // Called only for its postcondition: the dag is acyclic.
         let _acyclic = self.node_count();
         self.clone()
     }

@@ -1,4 +1,4 @@
-//! Going over all nodes, over all edges, and over the edges of one node.
+//! Iterators over the nodes, the edges, and the edges of one node.
 ghost use Rattle.std.specs.Prelude.{◌≡◌, ◌<◌, ◌^◌, length};
 ghost use Rattle.daggy_base.specs.declared.index.Direction.TheVariants.{Outgoing};
 ghost use Rattle.daggy_base.specs.Iterating.{node_identifiers as node_identifiers_of};

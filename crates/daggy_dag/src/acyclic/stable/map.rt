@@ -32,12 +32,16 @@ fn keep_existing<Ix: IndexType, S: Store<Ix>>(store: &S, order: &mut Order<Ix>, 
 }
 
 impl<N: Drop, E: Drop, Ix: IndexType> Acyclic<N, E, Ix, StableDiGraph<N, E, Ix>> {
-    /// A dag with the same nodes and edges under the same indices, in the same lists and with the
-    /// same vacant slots, whose weights are what the closures give: `f` is called with each node by
-    /// ascending index, and then `g` with each edge.
+    /// A dag with the same slots and lists, and with the weights returned by the closures: `f` is
+    /// called with each node by ascending index, and then `g` with each edge.
     ///
-    /// The error says that memory for it, or for its searches, was refused. Then no closure was
-    /// called. The cost grows with the number of nodes and edges, besides that of the calls.
+    /// # Errors
+    ///
+    /// Returns `AllocError` if an allocation fails; then no closure was called.
+    ///
+    /// # Complexity
+    ///
+    /// O(nodes + edges), plus the calls.
     pub fn map<
         N2: Drop,
         E2: Drop,
@@ -65,15 +69,20 @@ impl<N: Drop, E: Drop, Ix: IndexType> Acyclic<N, E, Ix, StableDiGraph<N, E, Ix>>
         })
     }
 
-    /// A dag of the nodes and edges that the closures give a weight for: `f` is called with each
-    /// node by ascending index, and then `g` with each edge whose ends both stayed.
+    /// A dag of the nodes and edges for which the closures return a weight: `f` is called with each
+    /// node by ascending index, and then `g` with each edge whose endpoints were both kept.
     ///
-    /// What stays keeps its index. There are slots up to the last node and up to the last edge of
-    /// this dag, those of what was left out are vacant, and the highest is used again first. Each
-    /// list has the edge with the greatest index first.
+    /// What is kept keeps its index. Slots after the last node and the last edge are dropped; what
+    /// is left out leaves vacant slots, the highest of which is reused first. Each list is in
+    /// descending index order.
     ///
-    /// The error says that memory for it, or for its searches, was refused. Then no closure was
-    /// called. The cost grows with the number of nodes and edges, besides that of the calls.
+    /// # Errors
+    ///
+    /// Returns `AllocError` if an allocation fails; then no closure was called.
+    ///
+    /// # Complexity
+    ///
+    /// O(nodes + edges), plus the calls.
     pub fn filter_map<
         N2: Drop,
         E2: Drop,

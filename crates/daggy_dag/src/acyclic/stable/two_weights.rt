@@ -1,4 +1,4 @@
-//! Two weights to write at once.
+//! Mutable access to two weights at once.
 ghost use Rattle.std.specs.Prelude.{◌≢◌};
 ghost use Rattle.daggy_base.specs.Graph.{node_weight as weight_at, HasNode, HasEdge};
 ghost use Rattle.daggy_base.specs.Path.{IsAcyclic};
@@ -12,9 +12,11 @@ use daggy_base::index::{EdgeIndex, IndexType, NodeIndex};
 use daggy_stable::stable_graph::StableDiGraph;
 
 impl<N: Drop, E: Drop, Ix: IndexType> Acyclic<N, E, Ix, StableDiGraph<N, E, Ix>> {
-    /// Calls `f` with the weights of two nodes, both to be written, and gives what `f` gives.
+    /// Calls `f` with mutable references to the weights of two nodes, and returns its result.
     ///
-    /// The cost is constant, besides that of `f`.
+    /// # Complexity
+    ///
+    /// O(1), plus the call.
     #[inline]
     pub fn update_two_nodes<R, F: FnOnce(&mut N, &mut N) -> R>(
         &mut self,
@@ -38,9 +40,11 @@ impl<N: Drop, E: Drop, Ix: IndexType> Acyclic<N, E, Ix, StableDiGraph<N, E, Ix>>
         self.store.update_two_nodes(a, b, f)
     }
 
-    /// Calls `f` with the weights of two edges, both to be written, and gives what `f` gives.
+    /// Calls `f` with mutable references to the weights of two edges, and returns its result.
     ///
-    /// The cost is constant, besides that of `f`.
+    /// # Complexity
+    ///
+    /// O(1), plus the call.
     #[inline]
     pub fn update_two_edges<R, F: FnOnce(&mut E, &mut E) -> R>(
         &mut self,
@@ -64,10 +68,12 @@ impl<N: Drop, E: Drop, Ix: IndexType> Acyclic<N, E, Ix, StableDiGraph<N, E, Ix>>
         self.store.update_two_edges(a, b, f)
     }
 
-    /// Calls `f` with the weights of a node and an edge, both to be written, and gives what `f`
-    /// gives.
+    /// Calls `f` with mutable references to the weights of a node and an edge, and returns its
+    /// result.
     ///
-    /// The cost is constant, besides that of `f`.
+    /// # Complexity
+    ///
+    /// O(1), plus the call.
     #[inline]
     pub fn update_node_and_edge<R, F: FnOnce(&mut N, &mut E) -> R>(
         &mut self,
