@@ -44,7 +44,7 @@ TakesFrom left_old left_new given (Err e) buffer =
     Keeps left_old left_new
     ⊎ ((n : ℕ) × Consumes left_old left_new (take n buffer) × (2 ^ 64 ≤ length given + length (take n buffer)))
 
--- What a call on a sink put into the writer after it: at an Ok all the bytes, at an Err some front of them.
+-- What a call on a sink put into its writer: at an Ok all the bytes, at an Err some front of them.
 abbrev pub PutsInto : {A E : Type 0} → (held_old held_new : Option (List ℕ)) → Result A E → (bytes : List ℕ) → Type 0
 PutsInto held_old held_new (Ok x) bytes = Appends held_old held_new bytes
 PutsInto held_old held_new (Err e) bytes = (n : ℕ) × Appends held_old held_new (take n bytes)

@@ -139,7 +139,7 @@ impl<W: Write> Sink for Device<W> {
         ensures bytes { Appends result self.old.taken.bytes self.new.taken.bytes bytes.now }
         ensures counted { CountsFaults result self.old.taken.failures self.new.taken.failures }
 
-        // If the writer tells its bytes, they are what was taken.
+        // If the writer exposes its bytes, they are what was taken.
         ensures writer { PutsInto (W.contents self.old.device) (W.contents self.new.device)
             result bytes.now }
     {
