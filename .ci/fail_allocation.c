@@ -1,6 +1,6 @@
 // Preloaded into a built program, makes its allocation number FAIL_ALLOCATION find no memory. Only the program that
-// FAIL_ALLOCATION_OF names is meant, so that what starts it goes on undisturbed. Where there were so many allocations, the
-// file FAIL_ALLOCATION_MARK is made.
+// FAIL_ALLOCATION_OF names is meant, so that what starts it goes on undisturbed. It finds in ALLOCATIONS_REFUSED whether
+// that has happened, 0 or 1. Where there were so many allocations, the file FAIL_ALLOCATION_MARK is made.
 #define _GNU_SOURCE
 #include <errno.h>
 #include <fcntl.h>
@@ -11,20 +11,24 @@
 extern void *__libc_malloc(size_t);
 extern void *__libc_realloc(void *, size_t);
 
-static long left = -1; // how many allocations to go before the one that fails; 0: none fails any more
+static long left; // how many allocations to go before the one that fails; 0: none fails any more
+static char told[] = "ALLOCATIONS_REFUSED=0";
 
-static int fails(void) {
-  if (left < 0) {
-    const char *program = getenv("FAIL_ALLOCATION_OF"), *number = getenv("FAIL_ALLOCATION");
-    left = program && number && !strcmp(program, program_invocation_short_name) ? atol(number) : 0;
-  }
-  return left > 0 && --left == 0;
+__attribute__((constructor)) static void begin(void) {
+  const char *program = getenv("FAIL_ALLOCATION_OF"), *number = getenv("FAIL_ALLOCATION");
+  if (!program || !number || strcmp(program, program_invocation_short_name))
+    return;
+  putenv(told);
+  left = atol(number);
 }
+
+static int fails(void) { return left > 0 && --left == 0; }
 
 static void *refused(void) {
   const char *mark = getenv("FAIL_ALLOCATION_MARK");
   if (mark)
     close(open(mark, O_CREAT | O_WRONLY, 0600));
+  told[sizeof told - 2] = '1';
   errno = ENOMEM;
   return NULL;
 }

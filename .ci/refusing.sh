@@ -24,3 +24,13 @@ refusing() { # NUMBER PROGRAM COMMAND..: runs the command; in the program of tha
 was_refused() { # whether the last run that was refusing had so many allocations
   [ -e "$shim.mark" ]
 }
+
+is_told_once() { # TEXT: whether it speaks of memory once if an allocation was refused, and else not at all
+  local count
+  count=$(grep -c memory <<<"$1")
+  if was_refused; then [ "$count" = 1 ]; else [ "$count" = 0 ]; fi
+}
+
+had_refusals() { # NUMBER LEAST: whether so many allocations were refused before this one, which was not; else says how many were
+  [ "$1" -gt "$2" ] || { echo "only $(($1 - 1)) allocations"; return 1; }
+}

@@ -1,6 +1,7 @@
 #!/usr/bin/env bash
 # Each allocation of the line program refused in turn, until there are no more, for both kinds of graph: it ends before it reads,
-# or one command is answered `memory`. The same of the script of `dagbench_tests`, by the program and by `serve`, and of a plan.
+# or one command is answered `memory`, and with none refused neither is so. The same of the script of `dagbench_tests`, by the
+# program and by `serve`, and of a plan.
 set -u
 . "$(dirname "$0")/../refusing.sh"
 program=$(built dagbench dagbench) || exit 1
@@ -16,12 +17,13 @@ for kind in compact stable; do
       'n0,n1,e0,cycle 5,memory,e0:1' | 'n0,n1,e0,cycle 5,e1 e2,memory') status=0 ;;
       *) status=none ;;
     esac
-    if [ "$ended" != "$status" ]; then
+    if [ "$ended" != "$status" ] || ! is_told_once "$out"; then
       printf '%s, allocation %s, status %s:\n%s\n' "$kind" "$number" "$ended" "$out"
       exit 1
     fi
     was_refused || break
   done
+  had_refusals "$number" 8 || exit 1
 done
 
 script=$'node 1\nnode 2\nchild 0 5 3\nparent 1 6 4\nedge 0 1 7\nupdate 0 1 8\nedges 1 2 9 3 2 10\nfind 0 1\nends 0\nchildren 0\n'
@@ -47,12 +49,14 @@ for kind in compact stable; do
   for number in $(seq 1 1000); do
     out=$(printf '%s' "$script" | refusing "$number" dagbench "$program" "$kind" 2>&1)
     ended=$?
-    if [ "$ended $out" != '1 dagbench: out of memory' ] && ! { [ "$ended" = 0 ] && are_replies "$kind" "$out"; }; then
+    if ! is_told_once "$out" ||
+      { [ "$ended $out" != '1 dagbench: out of memory' ] && ! { [ "$ended" = 0 ] && are_replies "$kind" "$out"; }; }; then
       printf '%s, the script, allocation %s, status %s:\n%s\n' "$kind" "$number" "$ended" "$out"
       exit 1
     fi
     was_refused || break
   done
+  had_refusals "$number" 8 || exit 1
 done
 
 tests=$(built dagbench_tests dagbench_tests_tests) || exit 1
@@ -63,3 +67,4 @@ for number in $(seq 1 1000); do
   fi
   was_refused || break
 done
+had_refusals "$number" 8

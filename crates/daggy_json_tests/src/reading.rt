@@ -1,9 +1,11 @@
 //! Documents that are read.
 use crate::support::{
-    REORDERED, Small, SmallStable, VACANT, holds, is_written, is_written_stable, made, weight,
+    REORDERED, Small, SmallStable, VACANT, edge, holds, is_written, is_written_stable, made, node,
+    weight,
 };
 use daggy_document::error::ReadError;
 use daggy_json::documents::{dag_from_json, stable_from_json};
+use daggy_walk::walker::Walker;
 use serde_json::Value;
 use std::alloc::{AllocError, Global};
 use std::process::Abort;
@@ -62,11 +64,33 @@ const TRAILING: &str = "{\"nodes\":[1,2],\"node_holes\":[0,2],\"edge_property\":
 #[test]
 fn vacant_slots_are_read(rt: HostRuntime) {
     reads_as_stable(&rt, rt.alloc(), VACANT, VACANT);
+    let dag = made(&rt, read_stable(&rt, rt.alloc(), TRAILING));
+    let (a, b) = (node(&rt, 1), node(&rt, 3));
+    holds(&rt, (dag.node_count(), dag.edge_count()) == (2, 1));
+    holds(&rt, dag.node_weight(a) == Some(&1));
+    holds(&rt, dag.node_weight(b) == Some(&2));
+    let only = edge(&rt, 1);
+    holds(&rt, dag.edge_weight(only) == Some(&7));
+    let mut children = dag.children(a);
+    holds(&rt, children.walk_next(&dag) == Some((only, b)));
+    holds(&rt, children.walk_next(&dag).is_none());
+}
+
+// The vacant slot with the greatest index is taken first.
+#[test]
+fn vacant_slots_that_were_read_are_taken(rt: HostRuntime) {
     let mut dag = made(&rt, read_stable(&rt, rt.alloc(), TRAILING));
     for wanted in [2, 0, 4] {
         holds(&rt, dag.can_add_node());
         let n = made(&rt, dag.add_node(9));
         holds(&rt, n.index() == wanted);
+    }
+    let (a, b) = (node(&rt, 1), node(&rt, 3));
+    for wanted in [0, 2] {
+        holds(&rt, dag.contains_node(a) && dag.contains_node(b));
+        holds(&rt, dag.can_add_edge());
+        let e = made(&rt, dag.add_edge(a, b, 5));
+        holds(&rt, e.index() == wanted);
     }
 }
 
@@ -98,111 +122,157 @@ fn refuses_stable(rt: &impl Abort, alloc: Global, text: &str, wanted: &ReadError
     }
 }
 
+/// Documents, and the first fault of each, whatever the kind is.
+const FAULTS: [(&str, ReadError); 29] = [
+    ("null", ReadError::Shape),
+    ("[]", ReadError::Shape),
+    ("{\"nodes\":[],\"edges\":[]}", ReadError::Shape),
+    (
+        "{\"edge_property\":\"directed\",\"edges\":[]}",
+        ReadError::Shape,
+    ),
+    (
+        "{\"nodes\":[],\"edge_property\":\"directed\"}",
+        ReadError::Shape,
+    ),
+    (
+        "{\"nodes\":{},\"edge_property\":\"directed\",\"edges\":[]}",
+        ReadError::Shape,
+    ),
+    (
+        "{\"nodes\":[],\"edge_property\":true,\"edges\":[]}",
+        ReadError::Shape,
+    ),
+    (
+        "{\"nodes\":[],\"edge_property\":\"directed\",\"edges\":{}}",
+        ReadError::Shape,
+    ),
+    (
+        "{\"nodes\":[],\"node_holes\":null,\"edge_property\":\"directed\",\"edges\":[]}",
+        ReadError::Shape,
+    ),
+    (
+        "{\"nodes\":[1],\"node_holes\":[-1],\"edge_property\":\"x\",\"edges\":[]}",
+        ReadError::Shape,
+    ),
+    (
+        "{\"nodes\":[1],\"node_holes\":[5],\"edge_property\":\"x\",\"edges\":[]}",
+        ReadError::Property,
+    ),
+    (
+        "{\"nodes\":[true],\"edge_property\":\"undirected\",\"edges\":[]}",
+        ReadError::Property,
+    ),
+    (
+        "{\"nodes\":[1,2],\"node_holes\":[1,1],\"edge_property\":\"directed\",\"edges\":[]}",
+        ReadError::Holes,
+    ),
+    (
+        "{\"nodes\":[true],\"node_holes\":[5],\"edge_property\":\"directed\",\"edges\":[]}",
+        ReadError::Holes,
+    ),
+    (
+        "{\"nodes\":[true],\"edge_property\":\"directed\",\"edges\":[[0,9,1]]}",
+        ReadError::Weight,
+    ),
+    (
+        "{\"nodes\":[1],\"edge_property\":\"directed\",\"edges\":[[0,9,true]]}",
+        ReadError::BadEndpoint,
+    ),
+    (
+        "{\"nodes\":[1],\"edge_property\":\"directed\",\"edges\":[[0,5,0]]}",
+        ReadError::BadEndpoint,
+    ),
+    (
+        "{\"nodes\":[1],\"edge_property\":\"directed\",\"edges\":[[0,18446744073709551615,1]]}",
+        ReadError::BadEndpoint,
+    ),
+    (
+        "{\"nodes\":[1],\"edge_property\":\"directed\",\"edges\":[[0,0,true]]}",
+        ReadError::Weight,
+    ),
+    (
+        "{\"nodes\":[1],\"edge_property\":\"directed\",\"edges\":[[0,0]]}",
+        ReadError::Shape,
+    ),
+    (
+        "{\"nodes\":[1],\"edge_property\":\"directed\",\"edges\":[[0,0,1],[0]]}",
+        ReadError::Shape,
+    ),
+    (
+        "{\"nodes\":[1],\"edge_property\":\"directed\",\"edges\":[[0,-1,1]]}",
+        ReadError::Shape,
+    ),
+    (
+        "{\"nodes\":[1],\"edge_property\":\"directed\",\"edges\":[[0,0,1,1]]}",
+        ReadError::Shape,
+    ),
+    (
+        "{\"nodes\":[1],\"edge_property\":\"directed\",\"edges\":[0]}",
+        ReadError::Shape,
+    ),
+    (
+        "{\"nodes\":[1],\"edge_property\":\"directed\",\"edges\":[[0,0,1]]}",
+        ReadError::Cycle,
+    ),
+    (
+        "{\"nodes\":[1],\"edge_property\":\"directed\",\"edges\":[[0,0,1]],\"orders\":[]}",
+        ReadError::Orders,
+    ),
+    (
+        "{\"nodes\":[1],\"edge_property\":\"directed\",\"edges\":[[0,0,1]],\"orders\":null}",
+        ReadError::Orders,
+    ),
+    (
+        "{\"nodes\":[1],\"edge_property\":\"directed\",\"edges\":[[0,0,1]],\
+         \"orders\":[[[0],[0]]]}",
+        ReadError::Cycle,
+    ),
+    (
+        "{\"nodes\":[1,2],\"edge_property\":\"directed\",\"edges\":[[0,1,0],[1,0,0]]}",
+        ReadError::Cycle,
+    ),
+];
+
 #[test]
 fn the_first_fault_of_a_document_is_told(rt: HostRuntime) {
-    for (text, wanted) in [
-        ("null", ReadError::Shape),
-        ("[]", ReadError::Shape),
-        ("{\"nodes\":[],\"edges\":[]}", ReadError::Shape),
-        (
-            "{\"nodes\":[],\"edge_property\":\"directed\",\"edges\":{}}",
-            ReadError::Shape,
-        ),
-        (
-            "{\"nodes\":[],\"node_holes\":null,\"edge_property\":\"directed\",\"edges\":[]}",
-            ReadError::Shape,
-        ),
-        (
-            "{\"nodes\":[1],\"node_holes\":[5],\"edge_property\":\"x\",\"edges\":[]}",
-            ReadError::Property,
-        ),
-        (
-            "{\"nodes\":[1,2],\"node_holes\":[1,1],\"edge_property\":\"directed\",\"edges\":[]}",
-            ReadError::Holes,
-        ),
-        (
-            "{\"nodes\":[1],\"node_holes\":[5],\"edge_property\":\"directed\",\"edges\":[]}",
-            ReadError::Holes,
-        ),
-        (
-            "{\"nodes\":[true],\"edge_property\":\"directed\",\"edges\":[[0,9,1]]}",
-            ReadError::Weight,
-        ),
-        (
-            "{\"nodes\":[1],\"edge_property\":\"directed\",\"edges\":[[0,9,true]]}",
-            ReadError::BadEndpoint,
-        ),
-        (
-            "{\"nodes\":[1],\"edge_property\":\"directed\",\"edges\":[[0,18446744073709551615,1]]}",
-            ReadError::BadEndpoint,
-        ),
-        (
-            "{\"nodes\":[1],\"node_holes\":[0],\"edge_property\":\"directed\",\"edges\":[[0,1,2]]}",
-            ReadError::BadEndpoint,
-        ),
-        (
-            "{\"nodes\":[1],\"edge_property\":\"directed\",\"edges\":[[0,0,true]]}",
-            ReadError::Weight,
-        ),
-        (
-            "{\"nodes\":[1],\"edge_property\":\"directed\",\"edges\":[[0,0,1],[0]]}",
-            ReadError::Shape,
-        ),
-        (
-            "{\"nodes\":[1],\"edge_property\":\"directed\",\"edges\":[[0,-1,1]]}",
-            ReadError::Shape,
-        ),
-        (
-            "{\"nodes\":[1],\"edge_property\":\"directed\",\"edges\":[[0,0,1,1]]}",
-            ReadError::Shape,
-        ),
-        (
-            "{\"nodes\":[1],\"edge_property\":\"directed\",\"edges\":[[0,0,1]]}",
-            ReadError::Cycle,
-        ),
-        (
-            "{\"nodes\":[1],\"edge_property\":\"directed\",\"edges\":[[0,0,1]],\"orders\":[]}",
-            ReadError::Orders,
-        ),
-        (
-            "{\"nodes\":[1],\"edge_property\":\"directed\",\"edges\":[[0,0,1]],\"orders\":null}",
-            ReadError::Orders,
-        ),
-        (
-            "{\"nodes\":[1],\"edge_property\":\"directed\",\"edges\":[[0,0,1]],\
-             \"orders\":[[[0],[0]]]}",
-            ReadError::Cycle,
-        ),
-        (
-            "{\"nodes\":[1,2],\"edge_property\":\"directed\",\"edges\":[[0,1,0],[1,0,0]]}",
-            ReadError::Cycle,
-        ),
-    ] {
+    for (text, wanted) in FAULTS {
+        refuses(&rt, rt.alloc(), text, &wanted);
         refuses_stable(&rt, rt.alloc(), text, &wanted);
     }
 }
 
+const HOLE_AND_NO_END: &str =
+    "{\"nodes\":[1],\"node_holes\":[0],\"edge_property\":\"directed\",\"edges\":[[0,1,2]]}";
+
+#[test]
+fn a_vacant_slot_is_no_end(rt: HostRuntime) {
+    refuses(&rt, rt.alloc(), HOLE_AND_NO_END, &ReadError::Holes);
+    refuses_stable(&rt, rt.alloc(), HOLE_AND_NO_END, &ReadError::BadEndpoint);
+}
+
+/// Documents with a vacant slot, their fault in the compact kind, and what they are written as in
+/// the stable kind.
+const ONE_VACANT: [(&str, ReadError, &str); 2] = [
+    (
+        "{\"nodes\":[1],\"node_holes\":[0],\"edge_property\":\"directed\",\"edges\":[]}",
+        ReadError::Holes,
+        "{\"edge_property\":\"directed\",\"edges\":[],\"node_holes\":[0],\"nodes\":[1],\
+         \"orders\":[[[],[]]]}",
+    ),
+    (
+        "{\"nodes\":[1,2],\"edge_property\":\"directed\",\"edges\":[null,[0,1,3]]}",
+        ReadError::Shape,
+        "{\"edge_property\":\"directed\",\"edges\":[null,[0,1,3]],\"node_holes\":[],\
+         \"nodes\":[1,2],\"orders\":[[[1],[]],[[],[1]]]}",
+    ),
+];
+
 #[test]
 fn a_compact_dag_has_no_vacant_slot(rt: HostRuntime) {
-    for (text, wanted) in [
-        (
-            "{\"nodes\":[1],\"node_holes\":[0],\"edge_property\":\"directed\",\"edges\":[]}",
-            ReadError::Holes,
-        ),
-        (
-            "{\"nodes\":[1],\"edge_property\":\"directed\",\"edges\":[null]}",
-            ReadError::Shape,
-        ),
-        (
-            "{\"nodes\":[1],\"edge_property\":\"undirected\",\"edges\":[]}",
-            ReadError::Property,
-        ),
-        (
-            "{\"nodes\":[1,2],\"edge_property\":\"directed\",\"edges\":[[0,1,0],[1,0,0]]}",
-            ReadError::Cycle,
-        ),
-    ] {
-        refuses(&rt, rt.alloc(), text, &wanted);
+    for (text, fault, wanted) in ONE_VACANT {
+        refuses(&rt, rt.alloc(), text, &fault);
+        reads_as_stable(&rt, rt.alloc(), text, wanted);
     }
 }
 
@@ -233,17 +303,37 @@ fn repeated(rt: &impl Abort, alloc: Global, item: &str, count: usize) -> String 
 fn there_is_an_index_for_each_slot(rt: HostRuntime) {
     for (count, fits) in [(255, true), (256, false)] {
         let nodes = repeated(&rt, rt.alloc(), "1", count);
-        let edges = repeated(&rt, rt.alloc(), "null", count);
-        for (nodes, edges) in [(nodes.as_str(), ""), ("", edges.as_str())] {
+        let edges = repeated(&rt, rt.alloc(), "[0,1,7]", count);
+        for (nodes, edges) in [(nodes.as_str(), ""), ("1,1", edges.as_str())] {
             let text = format!(in rt.alloc();
                 "{{\"nodes\":[{nodes}],\"edge_property\":\"directed\",\"edges\":[{edges}]}}"
             );
             let text = made(&rt, text);
             if fits {
+                let _dag = made(&rt, read(&rt, rt.alloc(), text.as_str()));
                 let _dag = made(&rt, read_stable(&rt, rt.alloc(), text.as_str()));
             } else {
+                refuses(&rt, rt.alloc(), text.as_str(), &ReadError::Full);
                 refuses_stable(&rt, rt.alloc(), text.as_str(), &ReadError::Full);
             }
+        }
+    }
+}
+
+#[test]
+fn a_vacant_slot_takes_an_index(rt: HostRuntime) {
+    let nodes = repeated(&rt, rt.alloc(), "1", 254);
+    for (holes, count, fits) in [("0", 255, true), ("0,1", 0, false), ("0", 256, false)] {
+        let edges = repeated(&rt, rt.alloc(), "null", count);
+        let text = format!(in rt.alloc();
+            "{{\"nodes\":[{nodes}],\"node_holes\":[{holes}],\"edge_property\":\"directed\",\
+             \"edges\":[{edges}]}}"
+        );
+        let text = made(&rt, text);
+        if fits {
+            let _dag = made(&rt, read_stable(&rt, rt.alloc(), text.as_str()));
+        } else {
+            refuses_stable(&rt, rt.alloc(), text.as_str(), &ReadError::Full);
         }
     }
 }
@@ -256,5 +346,7 @@ fn starve(_value: &Value) -> Result<Option<u64>, AllocError> {
 fn want_of_memory_for_a_weight_is_the_answer(rt: HostRuntime) {
     let value = value_of(&rt, rt.alloc(), REORDERED);
     let answer: Result<Small, ReadError> = dag_from_json(rt.alloc(), &value, weight, starve);
+    holds(&rt, matches!(&answer, Err(ReadError::Memory)));
+    let answer: Result<Small, ReadError> = dag_from_json(rt.alloc(), &value, starve, weight);
     holds(&rt, matches!(&answer, Err(ReadError::Memory)));
 }

@@ -6,5 +6,6 @@ mod asked;
 mod families;
 mod hints;
 mod scenes;
+mod sets;
 mod stale;
 mod support;

@@ -171,6 +171,19 @@ fn edges_that_close_a_cycle_make_no_dag(rt: HostRuntime) {
 }
 
 #[test]
+fn a_dag_of_edges_needs_an_index_for_each_node_and_edge(rt: HostRuntime) {
+    const PAIRS: [(usize, usize); 256] = [(0, 1); 256];
+    const ROWS: &[Row<'static>] = &[(Call::Counts, Answer::Counts(2, 255))];
+    for (pairs, wanted, rows) in [
+        ([(0, 255)].as_slice(), Answer::NoIndex(0), [].as_slice()),
+        (&PAIRS[..255], Answer::Done, ROWS),
+        (PAIRS.as_slice(), Answer::NoIndex(0), [].as_slice()),
+    ] {
+        both(&rt, rt.alloc(), Scene::OfPairs(pairs, wanted, rows));
+    }
+}
+
+#[test]
 fn elements_are_nodes_and_edges_by_position(rt: HostRuntime) {
     const PARTS: &[Part] = &[
         Part::Node(1),
@@ -209,6 +222,42 @@ fn an_element_that_closes_a_cycle_is_refused(rt: HostRuntime) {
         rt.alloc(),
         Scene::OfParts(PARTS, Answer::Cycle(4), &[]),
     );
+}
+
+// So many nodes, and so many edges between them, no two of which have the same ends. A node weighs
+// its position, and an edge the number of those before it.
+fn parts_of(rt: &impl Abort, alloc: Global, nodes: u32, edges: u32) -> Vec<Part> {
+    let mut parts = Vec::new(alloc);
+    for weight in 0..nodes {
+        made(rt, parts.push(Part::Node(weight)));
+    }
+    let mut count = 0;
+    for b in 0..nodes {
+        for a in 0..b {
+            if count < edges {
+                made(rt, parts.push(Part::Edge(a as usize, b as usize, count)));
+                count += 1;
+            }
+        }
+    }
+    parts
+}
+
+#[test]
+fn elements_need_an_index_for_each_node_and_edge(rt: HostRuntime) {
+    for (nodes, edges, wanted) in [
+        (255, 0, Answer::Done),
+        (256, 0, Answer::NoNodeIndex(255)),
+        (24, 255, Answer::Done),
+        (24, 256, Answer::NoIndex(255)),
+    ] {
+        let parts = parts_of(&rt, rt.alloc(), nodes, edges);
+        both(
+            &rt,
+            rt.alloc(),
+            Scene::OfParts(parts.as_slice(), wanted, &[]),
+        );
+    }
 }
 
 const ENDS: [(usize, usize); 26] = [

@@ -7,7 +7,7 @@ use super::many_edges::{add_sorted_list, end_at_a_fault};
 use super::ordering::{sort_long_series, sort_round_vacant_slots, tell_length};
 use super::support::{edge, holds, made, node, same};
 use daggy_base::element::Element;
-use daggy_base::error::{EdgeError, EdgesError, ElementError, WouldCycle};
+use daggy_base::error::{EdgeError, EdgesError, ElementError, NodeError, WouldCycle};
 use daggy_base::index::{Direction, EdgeIndex, IndexType, NodeIndex};
 use daggy_base::store::Store;
 use daggy_dag::acyclic::Acyclic;
@@ -73,6 +73,8 @@ pub enum Answer<'a> {
     Cycle(u32),
     NoEnd(u32),
     NoIndex(u32),
+    // No index is left for a node, where an edge could be meant too.
+    NoNodeIndex(u32),
     CycleAll(&'a [u32]),
     NoEndAt(u32, &'a [u32]),
     NoIndexAt(u32, &'a [u32]),
@@ -687,6 +689,9 @@ fn of_parts<Ix: IndexType, S: Store<Ix, NodeWeight = u32, EdgeWeight = u32>>(
             play(rt, alloc, &mut dag, rows);
         }
         Err(ElementError::Edge(error)) => is(rt, of_error(rt, error), wanted),
-        Err(ElementError::Node(_)) => panic!(rt; "an index is left"),
+        Err(ElementError::Node(NodeError::Full(weight))) => {
+            is(rt, Answer::NoNodeIndex(weight), wanted);
+        }
+        Err(ElementError::Node(_)) => panic!(rt; "there is memory"),
     }
 }
