@@ -1,7 +1,9 @@
-//! Callers of the library that are proved: one that writes all weights, some that go along all
-//! children or parents of a node, and one that compares two reductions.
+//! Callers of the library that are proved: they copy dags, write all weights, go along all children
+//! or parents of a node, use closures that index tables, and compare two reductions.
 #![tactic(auto)]
 
+pub mod copies;
 pub mod cursors;
 pub mod reductions;
 pub mod seen;
+pub mod tables;

@@ -216,6 +216,25 @@ fn what_is_kept_keeps_its_index(rt: HostRuntime) {
     put_edge(&rt, &mut part, (1, 2), 107, 3);
 }
 
+#[test]
+fn closures_read_tables_of_the_size_of_the_graph(rt: HostRuntime) {
+    let mut graph = graph_of(&rt, rt.alloc(), &[10, 11, 12], &TRIANGLE);
+    same(&rt, graph.remove_node(NodeIndex::new(0)), Some(10));
+    let (nodes, edges) = ([5, 6, 7], [1, 2, 3]);
+    holds(&rt, graph.node_bound() <= nodes.len());
+    holds(&rt, graph.edge_bound() <= edges.len());
+    let mapped = made(
+        &rt,
+        graph.map(|n, _| nodes[n.index()], |e, _| edges[e.index()]),
+    );
+    shape(&rt, &mapped, &[(1, 6), (2, 7)], &[(2, 1, 2, 3)]);
+    let part = made(
+        &rt,
+        graph.filter_map(|n, _| Some(nodes[n.index()]), |e, _| Some(edges[e.index()])),
+    );
+    shape(&rt, &part, &[(1, 6), (2, 7)], &[(2, 1, 2, 3)]);
+}
+
 // Two nodes and the edges 1 and 0 between them, of which the second was added last, with vacant
 // slots behind them.
 fn reused(rt: &impl Abort, alloc: Global) -> PlainGraph {

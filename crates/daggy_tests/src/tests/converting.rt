@@ -92,6 +92,44 @@ fn a_compact_dag_keeps_its_lists(rt: HostRuntime) {
     play(&rt, rt.alloc(), &mut dag, AFTER);
 }
 
+fn text(rt: &impl Abort, alloc: Global, text: &str) -> String {
+    made(rt, text.to_string(alloc))
+}
+
+#[test]
+fn a_compact_dag_of_texts_is_copied(rt: HostRuntime) {
+    let alloc = rt.alloc();
+    let mut dag: Dag<String, String, u8> = Dag::new(alloc);
+    let a = made(&rt, dag.add_node(text(&rt, alloc, "sow")));
+    let (e, b) = made(
+        &rt,
+        dag.add_child(a, text(&rt, alloc, "then"), text(&rt, alloc, "reap")),
+    );
+    let copy = made(&rt, dag.try_clone());
+    same(&rt, dag.remove_node(b).is_some(), true);
+    same(&rt, copy.node_weight(a).map(|w| w.as_str()), Some("sow"));
+    same(&rt, copy.node_weight(b).map(|w| w.as_str()), Some("reap"));
+    same(&rt, copy.edge_weight(e).map(|w| w.as_str()), Some("then"));
+    same(&rt, copy.find_edge(a, b), Some(e));
+}
+
+#[test]
+fn a_stable_dag_of_texts_is_copied(rt: HostRuntime) {
+    let alloc = rt.alloc();
+    let mut dag: StableDag<String, String, u8> = StableDag::new(alloc);
+    let a = made(&rt, dag.add_node(text(&rt, alloc, "sow")));
+    let (e, b) = made(
+        &rt,
+        dag.add_child(a, text(&rt, alloc, "then"), text(&rt, alloc, "reap")),
+    );
+    let copy = made(&rt, dag.try_clone());
+    same(&rt, dag.remove_node(b).is_some(), true);
+    same(&rt, copy.node_weight(a).map(|w| w.as_str()), Some("sow"));
+    same(&rt, copy.node_weight(b).map(|w| w.as_str()), Some("reap"));
+    same(&rt, copy.edge_weight(e).map(|w| w.as_str()), Some("then"));
+    same(&rt, copy.find_edge(a, b), Some(e));
+}
+
 // A struct of a user's own, which derives its copies.
 #[derive(Clone, Drop)]
 struct Named<D> {

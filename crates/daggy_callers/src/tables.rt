@@ -1,0 +1,26 @@
+//! Callers whose closures use tables that have a place for each node.
+ghost use Rattle.std.specs.Prelude.{◌≤◌, length};
+ghost use Rattle.daggy_base.specs.Graph.{node_bound};
+
+use daggy_dag::acyclic::{Dag, StableDag};
+use std::alloc::AllocError;
+
+/// The dag with the weights of its nodes read from a table.
+pub fn with_weights<E: Copy + Drop>(
+    dag: &StableDag<u32, E>,
+    table: &[u32],
+) -> Result<StableDag<u32, E>, AllocError>
+    requires { node_bound dag.now.graph ≤ length table.now }
+{
+    dag.map(|n, _| table[n.index()], |_, weight| *weight)
+}
+
+/// Writes the weights of the nodes into a table, and 0 into the nodes.
+pub fn move_weights<E: Drop>(dag: &mut Dag<u32, E>, table: &mut [u32])
+    requires { node_bound dag.old.graph ≤ length table.old }
+{
+    dag.update_node_weights(|n, weight| {
+        table[n.index()] = *weight;
+        *weight = 0;
+    });
+}
