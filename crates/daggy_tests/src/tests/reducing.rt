@@ -1,5 +1,13 @@
 //! Which edges are left when a dag is reduced. The weight of an edge is the index that it had.
-use super::table::{Answer, Call, Row, Scene, both, compact, stable};
+use super::support::made;
+use super::table::{
+    Answer, Call, Row, Scene, both, compact, edge_added, fill_nodes, is, play_row, stable,
+};
+use daggy_base::index::IndexType;
+use daggy_base::store::Store;
+use daggy_dag::acyclic::Acyclic;
+use std::alloc::Global;
+use std::process::Abort;
 
 // Edges of which 2, 3 and 6 are redundant.
 const TEXTBOOK: Row<'static> = (
@@ -119,4 +127,48 @@ fn a_full_dag_is_reduced(rt: HostRuntime) {
         (Call::Counts, Answer::Counts(3, 255)),
     ];
     compact(&rt, rt.alloc(), Scene::Rows(ROWS));
+}
+
+// Adds so many diamonds in a chain: two ways from each third node to the next one.
+fn add_diamonds<Ix: IndexType, S: Store<Ix, NodeWeight = u32, EdgeWeight = u32>>(
+    rt: &impl Abort,
+    dag: &mut Acyclic<u32, u32, Ix, S>,
+    count: usize,
+) {
+    let mut edges = 0usize;
+    for k in 0..count {
+        let n = k.wrapping_mul(3);
+        for (from, to) in [(0usize, 1usize), (0, 2), (1, 3), (2, 3)] {
+            let ends = (n.wrapping_add(from), n.wrapping_add(to));
+            is(rt, edge_added(rt, dag, ends, 0), Answer::Edge(edges));
+            edges = edges.wrapping_add(1);
+        }
+    }
+}
+
+/// Forty diamonds in a chain, along which 2^40 paths lead. No edge of theirs is redundant, and an
+/// edge from the first node of a diamond to the last one is.
+pub fn reduce_diamonds<Ix: IndexType, S: Store<Ix, NodeWeight = u32, EdgeWeight = u32>>(
+    rt: &impl Abort,
+    alloc: Global,
+    dag: &mut Acyclic<u32, u32, Ix, S>,
+) {
+    let mut all = Vec::new(alloc);
+    for n in 0usize..121 {
+        made(rt, all.push(n));
+    }
+    let all = all.as_slice();
+    fill_nodes(rt, dag, 121);
+    add_diamonds(rt, dag, 40);
+    play_row(rt, alloc, dag, Call::Reduce(all), Answer::Done);
+    play_row(rt, alloc, dag, Call::Counts, Answer::Counts(121, 160));
+    play_row(rt, alloc, dag, Call::Edge(0, 3, 7), Answer::Edge(160));
+    play_row(rt, alloc, dag, Call::Reduce(all), Answer::Done);
+    play_row(rt, alloc, dag, Call::Counts, Answer::Counts(121, 160));
+    play_row(rt, alloc, dag, Call::Find(0, 3), Answer::Nothing);
+}
+
+#[test]
+fn a_chain_of_diamonds_is_reduced_without_walking_its_paths(rt: HostRuntime) {
+    both(&rt, rt.alloc(), Scene::Diamonds);
 }

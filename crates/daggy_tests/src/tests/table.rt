@@ -5,6 +5,7 @@
 use super::large::{search_dense_graph, search_long_chain};
 use super::many_edges::{add_sorted_list, end_at_a_fault};
 use super::ordering::{sort_long_series, sort_round_vacant_slots, tell_length};
+use super::reducing::reduce_diamonds;
 use super::support::{edge, holds, made, node, same};
 use daggy_base::element::Element;
 use daggy_base::error::{EdgeError, EdgesError, ElementError, NodeError, WouldCycle};
@@ -489,6 +490,8 @@ pub enum Scene<'a> {
     LongChain,
     /// Cycles are looked for in a graph with many edges.
     DenseGraph,
+    /// A chain of diamonds is reduced.
+    Diamonds,
 }
 
 // Acts with a dag, which has nothing yet.
@@ -525,6 +528,7 @@ fn show_much<Ix: IndexType, S: Store<Ix, NodeWeight = u32, EdgeWeight = u32>>(
         Scene::Length => tell_length(rt, dag),
         Scene::LongChain => search_long_chain(rt, dag),
         Scene::DenseGraph => search_dense_graph(rt, dag),
+        Scene::Diamonds => reduce_diamonds(rt, alloc, dag),
         _ => panic!(rt; "there is no such scene"),
     }
 }

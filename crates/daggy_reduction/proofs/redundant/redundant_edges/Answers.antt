@@ -1,4 +1,4 @@
-use Rattle.std.proofs.Common.{◌≡◌, ◌↔◌, ℕ, List, map, take, refl, sym, ap, subst, ◌∙◌, Contains}
+use Rattle.std.proofs.Common.{◌↔◌, ℕ, map, take, refl, sym, ap, subst, ◌∙◌, Contains}
 use Rattle.daggy_base.specs.Reduction.{IsRedundant}
 use Rattle.daggy_reduction.specs.Comparison.{IsAscending}
 use Rattle.daggy_reduction.proofs.redundant.redundant_edges.Goals as goal
