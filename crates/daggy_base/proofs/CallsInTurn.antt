@@ -1,5 +1,6 @@
 -- A loop that calls a closure at each slot in turn makes only calls that may be made.
-use Rattle.std.proofs.Common.{◌≡◌, ℕ, ◌+◌, ◌<◌, List, [], ◌∷◌, length, drop, get_or, Option, Some, None, refl, ap, subst}
+use Rattle.std.proofs.Common.{◌≡◌, ℕ, ◌+◌, ◌<◌, List, [], ◌∷◌, length, drop, get_or, Option, Some, None, refl, ap}
+use Rattle.std.proofs.Common.{subst}
 use Rattle.std.proofs.Common.{◌∙◌, ◌⊎◌, inl, inr, map, sym, arith, take, zero, suc, ◌++◌, is_some}
 use Rattle.std.proofs.lemmas.List.{drop_more, get_or-map, length-map, length-take}
 use Rattle.std.specs.Borrow.{Bor, MutBor}
@@ -20,7 +21,10 @@ module _ {F A : Type 0} (R : F → ℕ × A → F → Type 0) (Q : F → ℕ × 
 
   after_first : (f next : F) (x : ℕ × A) (xs : List (ℕ × A)) → R f x next → Turns f (x ∷ xs) → Turns next xs
   after_first f next x xs called h =
-      record { at = λ more t q y u yields folds gives. h.at (x ∷ more) t q y u (xs, refl, yields) (next, called, folds) gives }
+      record {
+        at = λ more t q y u yields folds gives.
+            h.at (x ∷ more) t q y u (xs, refl, yields) (next, called, folds) gives;
+      }
 
   module _ (all : List (Option A)) where
     -- the turns from the slot i on may be taken
@@ -86,26 +90,35 @@ module _ {F I W V A C : Type 0} (of : ℕ → I) (pre : F → I → Bor W → Ty
   -- the call there may be made
   pub may_call : {x : A} → read c ≡ Some x → CanCallFrom of pre step weight (map read cells) f i
       → (shown : Bor W) → shown.now ≡ weight x → pre f (of i) shown
-  may_call holds can = takes holds (turn_asks _ _ (map read cells) (slots_within read cells within is) (slot_is read cells within is ∙ holds) can)
+  may_call holds can =
+      takes holds (turn_asks _ _ (map read cells) (slots_within read cells within is)
+      (slot_is read cells within is ∙ holds) can)
 
   pub may_call_some : {x : A} → read c ≡ Some x → CanCallSomeFrom of pre step weight (map read cells) f i
       → (shown : Bor W) → shown.now ≡ weight x → pre f (of i) shown
-  may_call_some holds can = takes holds (turn_asks _ _ (map read cells) (slots_within read cells within is) (slot_is read cells within is ∙ holds) can)
+  may_call_some holds can =
+      takes holds (turn_asks _ _ (map read cells) (slots_within read cells within is)
+      (slot_is read cells within is ∙ holds) can)
 
   -- and after it the others
   pub called_on : {x : A} {v : V} {next : F} → read c ≡ Some x → CalledAt step of f i (weight x) v next
-      → CanCallFrom of pre step weight (map read cells) f i → CanCallFrom of pre step weight (map read cells) next (i + 1)
-  called_on {x} {v} {next} holds called = turn_taken _ _ (map read cells) (slots_within read cells within is) (slot_is read cells within is ∙ holds) (v, called)
+      → CanCallFrom of pre step weight (map read cells) f i → CanCallFrom of pre step weight (map read cells) next
+      (i + 1)
+  called_on {x} {v} {next} holds called =
+      turn_taken _ _ (map read cells) (slots_within read cells within is) (slot_is read cells within is ∙ holds)
+      (v, called)
 
   pub called_some_on : {x : A} {v : V} {next : F} → read c ≡ Some x → CalledAt step of f i (weight x) v next
       → CanCallSomeFrom of pre step weight (map read cells) f i
       → CanCallSomeFrom of pre step weight (map read cells) next (i + 1)
   called_some_on {x} {v} {next} holds called =
-      turn_taken _ _ (map read cells) (slots_within read cells within is) (slot_is read cells within is ∙ holds) (inr (v, called))
+      turn_taken _ _ (map read cells) (slots_within read cells within is) (slot_is read cells within is ∙ holds)
+      (inr (v, called))
 
   pub vacant_on : read c ≡ None
       → CanCallFrom of pre step weight (map read cells) f i → CanCallFrom of pre step weight (map read cells) f (i + 1)
-  vacant_on holds = turn_vacant _ _ (map read cells) (slots_within read cells within is) (slot_is read cells within is ∙ holds)
+  vacant_on holds =
+      turn_vacant _ _ (map read cells) (slots_within read cells within is) (slot_is read cells within is ∙ holds)
 
   pub passed_on : CanCallSomeFrom of pre step weight (map read cells) f i
       → CanCallSomeFrom of pre step weight (map read cells) f (i + 1)
@@ -134,7 +147,8 @@ module _ {F X : Type 0} (R : F → X → F → Type 0) (Q : F → X → Type 0) 
       (next ++ rest, ap (λ l. l ++ rest) is, yields_more next items last more)
 
   first_turns : (P : F → X → Type 0) → ((f : F) (x : X) → Q f x → P f x) → (f : F) (xs : List X)
-      → CallableAtEachTurn (YieldsFirst (λ l. l)) R Q (xs ++ rest) f → CallableAtEachTurn (YieldsFirst (λ l. l)) R P xs f
+      → CallableAtEachTurn (YieldsFirst (λ l. l)) R Q (xs ++ rest) f → CallableAtEachTurn (YieldsFirst (λ l. l)) R P
+      xs f
   first_turns P weaker f xs h =
       record {
         at = λ items t q y u yields folds gives.
@@ -144,14 +158,16 @@ module _ {F X : Type 0} (R : F → X → F → Type 0) (Q : F → X → Type 0) 
 
 module _ {F I W V A : Type 0} (of : ℕ → I) (pre : F → I → Bor W → Type 0) (step : F → I → Bor W → V → F → Type 0)
     (weight : A → W) (f : F) (b : ℕ) (all : List (Option A)) where
-  takes_first : (f : F) (x : ℕ × A) → TakesSlot of pre step weight all f x → TakesSlot of pre step weight (take b all) f x
+  takes_first : (f : F) (x : ℕ × A) → TakesSlot of pre step weight all f x
+      → TakesSlot of pre step weight (take b all) f x
   takes_first f x t holds low within =
       let there = slot_taken_front all b x.0 x.1 holds in
       t there (below_bound all x.0 (ap is_some there)) (omega (arith, within, length-take b all))
 
   up_to : (R : F → ℕ × A → F → Type 0)
       → CallableAtEachTurn (YieldsFirst (λ l. l)) R (TakesSlot of pre step weight all) (numbered 0 all) f
-      → CallableAtEachTurn (YieldsFirst (λ l. l)) R (TakesSlot of pre step weight (take b all)) (numbered 0 (take b all)) f
+      → CallableAtEachTurn (YieldsFirst (λ l. l)) R (TakesSlot of pre step weight (take b all))
+      (numbered 0 (take b all)) f
   up_to R h =
       let first = first_slots 0 b all in
       let Q = TakesSlot of pre step weight all in

@@ -2,7 +2,7 @@
 use Rattle.std.specs.Prelude.{◌≡◌, ◌⊎◌, ℕ, ◌<◌, Option, Some, List, length}
 use Rattle.std.specs.Borrow.{Bor, MutBor}
 use Rattle.std.specs.Iterator.{CallableAtEachTurn, YieldsFirst}
-use Rattle.daggy_base.specs.Graph.{Graph, Edge, slot, bound_of}
+use Rattle.daggy_base.specs.Graph.{Graph, slot, bound_of}
 use Rattle.daggy_base.specs.Iterating.{numbered}
 use Rattle.daggy_base.specs.Mapping.{CalledAt, weight_in}
 use Rattle.daggy_base.specs.Rewriting.{Leaves}

@@ -20,7 +20,8 @@ each-preserved-in-None g c =
     let within : c.each.i < length edges = omega arith in
     let held = Holds-read plain_edge edges p within c.index-edges-i.is refl in
     let lost : new_ends c.args.names.now.items p ≡ None = sym c.in-None.ensures in (
-      passed_on g.Ix.IndexType.of (goal.G-pre g) (goal.G-step g) weight_in plain_edge c.args.edges.now within c.index-edges-i.is
+      passed_on g.Ix.IndexType.of (goal.G-pre g) (goal.G-step g) weight_in plain_edge c.args.edges.now within
+          c.index-edges-i.is
           c.each.invariant.0,
       c.each.invariant.1,
       omega (arith, c.each.invariant.2),
@@ -32,7 +33,8 @@ each-preserved-in-None g c =
 
 pub g-answer-requires : goal.g-answer-requires
 g-answer-requires g c =
-    rw c.new.ensures.value (may_call_some g.Ix.IndexType.of (goal.G-pre g) (goal.G-step g) weight_in plain_edge c.args.edges.now (omega arith)
+    rw c.new.ensures.value (may_call_some g.Ix.IndexType.of (goal.G-pre g) (goal.G-step g) weight_in plain_edge
+    c.args.edges.now (omega arith)
     c.index-edges-i.is refl c.each.invariant.0 _ refl)
 
 pub keep_edge-requires-clause-parent : goal.keep_edge-requires-clause-parent
@@ -63,7 +65,8 @@ each-preserved g c =
     EdgesBelow-called (goal.G-step g) g.Ix.IndexType.of c.args.names.now.items c.args.g (map plain_edge edges) start
     h held (sym c.in-Some.ensures) called c.each.invariant.5 in
     let shown = stored_is _ _ _ _ c.keep_edge.ensures.stored in (
-      called_some_on g.Ix.IndexType.of (goal.G-pre g) (goal.G-step g) weight_in plain_edge c.args.edges.now within c.index-edges-i.is refl
+      called_some_on g.Ix.IndexType.of (goal.G-pre g) (goal.G-step g) weight_in plain_edge c.args.edges.now within
+          c.index-edges-i.is refl
           called c.each.invariant.0,
       omega (arith, c.keep_edge.ensures.capacity, c.each.invariant.1),
       omega (arith, c.keep_edge.ensures.len, c.each.invariant.2),

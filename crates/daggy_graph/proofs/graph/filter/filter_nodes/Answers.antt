@@ -11,7 +11,8 @@ use Rattle.daggy_graph.proofs.graph.filter.filter_nodes.Goals as goal
 
 pub f-answer-requires : goal.f-answer-requires
 f-answer-requires g c =
-    rw c.new.ensures.value (may_call g.Ix.IndexType.of (goal.F-pre g) (goal.F-step g) (λ w. w) weight_of c.args.nodes.now (omega arith)
+    rw c.new.ensures.value (may_call g.Ix.IndexType.of (goal.F-pre g) (goal.F-step g) (λ w. w) weight_of
+    c.args.nodes.now (omega arith)
     c.index-nodes-i.is refl c.each.invariant.0 _ refl)
 
 pub each-preserved : goal.each-preserved
@@ -34,7 +35,8 @@ each-preserved g c =
     let both =
     subst (λ z. FilteredBelow (goal.F-step g) g.Ix.IndexType.of c.args.f (map weight_of nodes) c.f-answer.new.self
     c.keep_node.new.names.items z (c.each.i + 1)) (sym shown) one in (
-      called_on g.Ix.IndexType.of (goal.F-pre g) (goal.F-step g) (λ w. w) weight_of c.args.nodes.now within c.index-nodes-i.is refl called
+      called_on g.Ix.IndexType.of (goal.F-pre g) (goal.F-step g) (λ w. w) weight_of c.args.nodes.now within
+          c.index-nodes-i.is refl called
           c.each.invariant.0,
       omega (arith, c.keep_node.ensures.capacity, c.each.invariant.1),
       omega (arith, c.keep_node.ensures.capacity_for_names, c.each.invariant.2),

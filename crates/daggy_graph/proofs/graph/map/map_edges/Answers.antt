@@ -8,7 +8,8 @@ use Rattle.daggy_graph.proofs.graph.map.map_edges.Goals as goal
 
 pub g-weight-requires : goal.g-weight-requires
 g-weight-requires g c =
-    rw c.new.ensures.value (may_call g.Ix.IndexType.of (goal.G-pre g) (goal.G-step g) weight_in plain_edge c.args.edges.now (omega arith)
+    rw c.new.ensures.value (may_call g.Ix.IndexType.of (goal.G-pre g) (goal.G-step g) weight_in plain_edge
+    c.args.edges.now (omega arith)
     c.index-edges-i.is refl c.each.invariant.0 _ refl)
 
 pub each-preserved : goal.each-preserved
@@ -17,7 +18,8 @@ each-preserved g c =
     CalledAt-from_step (goal.G-step g) g.Ix.IndexType.of c.each.g c.each.i _ c.g-weight.result c.g-weight.new.self
     (rw c.new.ensures.value at c.g-weight.ensures) in
     let within : c.each.i < length c.args.edges.now = omega arith in (
-      called_on g.Ix.IndexType.of (goal.G-pre g) (goal.G-step g) weight_in plain_edge c.args.edges.now within c.index-edges-i.is refl called
+      called_on g.Ix.IndexType.of (goal.G-pre g) (goal.G-step g) weight_in plain_edge c.args.edges.now within
+          c.index-edges-i.is refl called
           c.each.invariant.0,
       omega (arith, c.push_reserved.ensures.capacity, c.each.invariant.1),
       rw (c.push_reserved.ensures.items, c.edge_like.ensures) (MappedBelow-called (goal.G-step g) g.Ix.IndexType.of

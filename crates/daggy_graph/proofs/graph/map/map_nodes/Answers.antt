@@ -7,7 +7,8 @@ use Rattle.daggy_graph.proofs.graph.map.map_nodes.Goals as goal
 
 pub f-weight-requires : goal.f-weight-requires
 f-weight-requires g c =
-    rw c.new.ensures.value (may_call g.Ix.IndexType.of (goal.F-pre g) (goal.F-step g) (λ w. w) weight_of c.args.nodes.now (omega arith)
+    rw c.new.ensures.value (may_call g.Ix.IndexType.of (goal.F-pre g) (goal.F-step g) (λ w. w) weight_of
+    c.args.nodes.now (omega arith)
     c.index-nodes-i.is refl c.each.invariant.0 _ refl)
 
 pub each-preserved : goal.each-preserved
@@ -16,7 +17,8 @@ each-preserved g c =
     CalledAt-from_step (goal.F-step g) g.Ix.IndexType.of c.each.f c.each.i _ c.f-weight.result c.f-weight.new.self
     (rw c.new.ensures.value at c.f-weight.ensures) in
     let within : c.each.i < length c.args.nodes.now = omega arith in (
-      called_on g.Ix.IndexType.of (goal.F-pre g) (goal.F-step g) (λ w. w) weight_of c.args.nodes.now within c.index-nodes-i.is refl called
+      called_on g.Ix.IndexType.of (goal.F-pre g) (goal.F-step g) (λ w. w) weight_of c.args.nodes.now within
+          c.index-nodes-i.is refl called
           c.each.invariant.0,
       omega (arith, c.push_reserved.ensures.capacity, c.each.invariant.1),
       rw (c.push_reserved.ensures.items, c.node_like.ensures) (MappedBelow-called (goal.F-step g) g.Ix.IndexType.of

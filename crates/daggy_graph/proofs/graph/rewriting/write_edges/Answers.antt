@@ -31,7 +31,8 @@ f-requires g c =
     let was =
     read_old done c.args.edges.now.items c.each.edges.items c.each.i _ below.0 within is c.index_mut-x.ensures.value in
     rw c.new.ensures.value (may_write (goal.F-pre g) c.each.f _ _
-    (may_call g.Ix.IndexType.of (TakesToWrite (goal.F-pre g)) (Leaves (goal.F-step g)) weight_in plain_edge c.args.edges.now.items within was refl callable))
+    (may_call g.Ix.IndexType.of (TakesToWrite (goal.F-pre g)) (Leaves (goal.F-step g)) weight_in plain_edge
+    c.args.edges.now.items within was refl callable))
 
 pub each-preserved : goal.each-preserved
 each-preserved g c =
@@ -43,8 +44,10 @@ each-preserved g c =
     left_at (goal.F-step g) g.Ix.IndexType.of c.each.f c.f.new.self c.each.i _ _
     (rw c.new.ensures.value at c.f.ensures) in
     let was =
-    read_old done c.args.edges.now.items c.each.edges.items c.each.i x below.0 within is c.index_mut-x.ensures.value in (
-      called_on g.Ix.IndexType.of (TakesToWrite (goal.F-pre g)) (Leaves (goal.F-step g)) weight_in plain_edge c.args.edges.now.items within was refl called callable,
+    read_old done c.args.edges.now.items c.each.edges.items c.each.i x below.0 within is c.index_mut-x.ensures.value
+    in (
+      called_on g.Ix.IndexType.of (TakesToWrite (goal.F-pre g)) (Leaves (goal.F-step g)) weight_in plain_edge
+          c.args.edges.now.items within was refl called callable,
       done ++ y ∷ [],
       written done c.args.edges.now.items c.each.edges.items c.each.i x below.0 within is y,
       MappedBelow-called (Leaves (goal.F-step g)) g.Ix.IndexType.of edge_weight_in edge_with c.args.f

@@ -11,7 +11,8 @@ use Rattle.daggy_graph.proofs.graph.rewriting.write_edges.Given as goal
 
 abbrev pub invariant-each : goal.invariant-each
 invariant-each g l =
-    CanCallFrom g.Ix.IndexType.of (TakesToWrite (goal.F-pre g)) (Leaves (goal.F-step g)) weight_in (map plain_edge l.fn.edges.items) l.f l.i
+    CanCallFrom g.Ix.IndexType.of (TakesToWrite (goal.F-pre g)) (Leaves (goal.F-step g)) weight_in
+    (map plain_edge l.fn.edges.items) l.f l.i
     × (done : List (Edge g.row.E.Denot g.row.Ix.Denot))
     × (l.edges.items ≡ done ++ drop l.i l.fn.edges.items)
     × MappedBelow (Leaves (goal.F-step g)) g.Ix.IndexType.of edge_weight_in edge_with l.fn.f l.fn.edges.items l.f done

@@ -30,7 +30,8 @@ f-requires g c =
     let was =
     read_old done c.args.nodes.now.items c.each.nodes.items c.each.i _ below.0 within is c.index_mut-x.ensures.value in
     rw c.new.ensures.value (may_write (goal.F-pre g) c.each.f _ _
-    (may_call g.Ix.IndexType.of (TakesToWrite (goal.F-pre g)) (Leaves (goal.F-step g)) (λ w. w) weight_of c.args.nodes.now.items within was refl callable))
+    (may_call g.Ix.IndexType.of (TakesToWrite (goal.F-pre g)) (Leaves (goal.F-step g)) (λ w. w) weight_of
+    c.args.nodes.now.items within was refl callable))
 
 pub each-preserved : goal.each-preserved
 each-preserved g c =
@@ -42,8 +43,10 @@ each-preserved g c =
     left_at (goal.F-step g) g.Ix.IndexType.of c.each.f c.f.new.self c.each.i _ _
     (rw c.new.ensures.value at c.f.ensures) in
     let was =
-    read_old done c.args.nodes.now.items c.each.nodes.items c.each.i x below.0 within is c.index_mut-x.ensures.value in (
-      called_on g.Ix.IndexType.of (TakesToWrite (goal.F-pre g)) (Leaves (goal.F-step g)) (λ w. w) weight_of c.args.nodes.now.items within was refl called callable,
+    read_old done c.args.nodes.now.items c.each.nodes.items c.each.i x below.0 within is c.index_mut-x.ensures.value
+    in (
+      called_on g.Ix.IndexType.of (TakesToWrite (goal.F-pre g)) (Leaves (goal.F-step g)) (λ w. w) weight_of
+          c.args.nodes.now.items within was refl called callable,
       done ++ y ∷ [],
       written done c.args.nodes.now.items c.each.nodes.items c.each.i x below.0 within is y,
       MappedBelow-called (Leaves (goal.F-step g)) g.Ix.IndexType.of node_weight_in node_with c.args.f

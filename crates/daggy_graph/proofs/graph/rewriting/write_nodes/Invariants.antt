@@ -10,7 +10,8 @@ use Rattle.daggy_graph.proofs.graph.rewriting.write_nodes.Given as goal
 
 abbrev pub invariant-each : goal.invariant-each
 invariant-each g l =
-    CanCallFrom g.Ix.IndexType.of (TakesToWrite (goal.F-pre g)) (Leaves (goal.F-step g)) (λ w. w) (map weight_of l.fn.nodes.items) l.f l.i
+    CanCallFrom g.Ix.IndexType.of (TakesToWrite (goal.F-pre g)) (Leaves (goal.F-step g)) (λ w. w)
+    (map weight_of l.fn.nodes.items) l.f l.i
     × (done : List (Node g.row.N.Denot g.row.Ix.Denot))
     × (l.nodes.items ≡ done ++ drop l.i l.fn.nodes.items)
     × MappedBelow (Leaves (goal.F-step g)) g.Ix.IndexType.of node_weight_in node_with l.fn.f l.fn.nodes.items l.f done

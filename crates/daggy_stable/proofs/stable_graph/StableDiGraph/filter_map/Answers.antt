@@ -47,7 +47,8 @@ filter_nodes-requires-clause-callable g c =
     subst (CanCallAtSlots g.Ix.IndexType.of (goal.F-pre g) (goal.F-step g) (λ w. w) c.args.f)
     (sym (slice_read weight_of c.self.inside.nodes.items c.deref.result.now _
     (c.node_bound-node_bound.ensures ∙ sym (ap (λ s. node_bound s.graph) c.self.view_is)) c.deref.ensures.value))
-    (call_up_to g.Ix.IndexType.of (goal.F-pre g) (goal.F-step g) (λ w. w) c.args.f _ (map weight_of c.self.inside.nodes.items)
+    (call_up_to g.Ix.IndexType.of (goal.F-pre g) (goal.F-step g) (λ w. w) c.args.f _
+    (map weight_of c.self.inside.nodes.items)
     (subst (λ s. CanCallAtNodes g.Ix.IndexType.of (goal.F-pre g) (goal.F-step g) c.args.f s.graph)
     (sym c.self.view_is) c.requires.nodes))
 
@@ -56,7 +57,8 @@ filter_edges-requires-clause-callable g c =
     subst (CanCallAtSomeSlots g.Ix.IndexType.of (goal.G-pre g) (goal.G-step g) weight_in c.args.g)
     (sym (slice_read plain_edge c.self.inside.edges.items c.deref-2.result.now _
     (c.edge_bound-edge_bound.ensures ∙ sym (ap (λ s. edge_bound s.graph) c.self.view_is)) c.deref-2.ensures.value))
-    (call_some_up_to g.Ix.IndexType.of (goal.G-pre g) (goal.G-step g) weight_in c.args.g _ (map plain_edge c.self.inside.edges.items)
+    (call_some_up_to g.Ix.IndexType.of (goal.G-pre g) (goal.G-step g) weight_in c.args.g _
+    (map plain_edge c.self.inside.edges.items)
     (subst (λ s. CanCallAtSomeEdges g.Ix.IndexType.of (goal.G-pre g) (goal.G-step g) c.args.g s.graph)
     (sym c.self.view_is) c.requires.edges))
 

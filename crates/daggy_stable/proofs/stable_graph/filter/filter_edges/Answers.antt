@@ -1,4 +1,5 @@
-use Rattle.std.proofs.Common.{refl, ◌≡◌, ◌<◌, ◌+◌, [], ◌∷◌, ◌++◌, Option, Some, None, IsSome, map, length, get_or, sym, ap}
+use Rattle.std.proofs.Common.{refl, ◌≡◌, ◌<◌, ◌+◌, [], ◌∷◌, ◌++◌, Option, Some, None, IsSome, map, length, get_or, sym}
+use Rattle.std.proofs.Common.{ap}
 use Rattle.std.proofs.Common.{subst, ◌∙◌, arith}
 use Rattle.std.proofs.lemmas.List.{length-map, get_or-map}
 use Rattle.std.specs.Option.{option_map}
@@ -29,7 +30,8 @@ each-preserved-in-None g c =
     get_or-map read edges c.each.i x None within ∙ ap read (sym c.index-edges-i.is) ∙ lost in
     record {
       callable =
-          passed_on g.Ix.IndexType.of (goal.G-pre g) (goal.G-step g) weight_in plain_edge c.args.edges.now within c.index-edges-i.is
+          passed_on g.Ix.IndexType.of (goal.G-pre g) (goal.G-step g) weight_in plain_edge c.args.edges.now within
+          c.index-edges-i.is
           c.each.invariant.callable;
       capacity = omega (arith, c.leave_edge.ensures.capacity, c.each.invariant.capacity);
       count =
@@ -47,7 +49,8 @@ pub g-answer-requires : goal.g-answer-requires
 g-answer-requires g c =
     let now = map weight_of c.each.nodes.cells.items in
     let j = joined_is now c.index-edges-i.result c.in-Some.old.now c.in-Some.ensures in
-    rw c.new.ensures.value (may_call_some g.Ix.IndexType.of (goal.G-pre g) (goal.G-step g) weight_in plain_edge c.args.edges.now
+    rw c.new.ensures.value (may_call_some g.Ix.IndexType.of (goal.G-pre g) (goal.G-step g) weight_in plain_edge
+    c.args.edges.now
     (omega arith) c.index-edges-i.is j.stored c.each.invariant.callable _ refl)
 
 pub keep_edge-requires-clause-parent : goal.keep_edge-requires-clause-parent
@@ -86,7 +89,8 @@ each-preserved g c =
     ∙ ap (λ b. before ++ option_map (between x.parent b) r ∷ []) c.end-b.ensures in
     record {
       callable =
-          called_some_on g.Ix.IndexType.of (goal.G-pre g) (goal.G-step g) weight_in plain_edge c.args.edges.now within c.index-edges-i.is
+          called_some_on g.Ix.IndexType.of (goal.G-pre g) (goal.G-step g) weight_in plain_edge c.args.edges.now within
+          c.index-edges-i.is
           j.stored called c.each.invariant.callable;
       capacity = omega (arith, c.keep_edge.ensures.capacity, c.each.invariant.capacity);
       count =

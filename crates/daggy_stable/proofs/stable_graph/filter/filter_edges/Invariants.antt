@@ -10,7 +10,8 @@ use Rattle.daggy_stable.proofs.stable_graph.filter.filter_edges.Given as goal
 abbrev pub invariant-each : goal.invariant-each
 invariant-each g l =
     record {
-      callable : CanCallSomeFrom g.Ix.IndexType.of (goal.G-pre g) (goal.G-step g) weight_in (map plain_edge l.edges) l.g l.i;
+      callable : CanCallSomeFrom g.Ix.IndexType.of (goal.G-pre g) (goal.G-step g) weight_in (map plain_edge l.edges)
+          l.g l.i;
       capacity : length l.edges ≤ vec_capacity l.new.cells;
       count : length l.new.cells.items ≡ l.i;
       stored : IsBuilt g.Ix.IndexType.greatest l.nodes l.new;

@@ -19,7 +19,8 @@ each-preserved-in-None g c =
     ∙ sym c.in-None.ensures.value in
     record {
       callable =
-          vacant_on g.Ix.IndexType.of (goal.F-pre g) (goal.F-step g) (λ w. w) weight_of c.args.nodes.now within c.index-nodes-i.is
+          vacant_on g.Ix.IndexType.of (goal.F-pre g) (goal.F-step g) (λ w. w) weight_of c.args.nodes.now within
+          c.index-nodes-i.is
           (sym c.in-None.ensures.value) c.each.invariant.callable;
       capacity = omega (arith, c.keep_node.ensures.capacity, c.each.invariant.capacity);
       count =
@@ -33,7 +34,8 @@ each-preserved-in-None g c =
 
 pub f-answer-requires : goal.f-answer-requires
 f-answer-requires g c =
-    rw c.new.ensures.value (may_call g.Ix.IndexType.of (goal.F-pre g) (goal.F-step g) (λ w. w) weight_of c.args.nodes.now
+    rw c.new.ensures.value (may_call g.Ix.IndexType.of (goal.F-pre g) (goal.F-step g) (λ w. w) weight_of
+    c.args.nodes.now
     (omega arith) c.index-nodes-i.is (sym c.in-Some.ensures.value)
     c.each.invariant.callable _ refl)
 
@@ -53,7 +55,8 @@ each-preserved g c =
     (rw c.new.ensures.value at c.f-answer.ensures) in
     record {
       callable =
-          called_on g.Ix.IndexType.of (goal.F-pre g) (goal.F-step g) (λ w. w) weight_of c.args.nodes.now within c.index-nodes-i.is
+          called_on g.Ix.IndexType.of (goal.F-pre g) (goal.F-step g) (λ w. w) weight_of c.args.nodes.now within
+          c.index-nodes-i.is
           (sym c.in-Some.ensures.value) called c.each.invariant.callable;
       capacity = omega (arith, c.keep_node-in-each.ensures.capacity, c.each.invariant.capacity);
       count =

@@ -20,7 +20,8 @@ each-preserved-in-None g c =
     let at : Reads edges c.each.i x = record { within = within; is = c.index-edges-i.is } in
     record {
       callable =
-          vacant_on g.Ix.IndexType.of (goal.G-pre g) (goal.G-step g) weight_in plain_edge c.args.edges.now within c.index-edges-i.is
+          vacant_on g.Ix.IndexType.of (goal.G-pre g) (goal.G-step g) weight_in plain_edge c.args.edges.now within
+          c.index-edges-i.is
           (ap (option_map (plain x)) (sym c.in-None.ensures.value)) c.each.invariant.callable;
       capacity = omega (arith, c.push_reserved.ensures.capacity, c.each.invariant.capacity);
       count =
@@ -38,7 +39,8 @@ each-preserved-in-None g c =
 
 pub g-weight-requires : goal.g-weight-requires
 g-weight-requires g c =
-    rw c.new.ensures.value (may_call g.Ix.IndexType.of (goal.G-pre g) (goal.G-step g) weight_in plain_edge c.args.edges.now
+    rw c.new.ensures.value (may_call g.Ix.IndexType.of (goal.G-pre g) (goal.G-step g) weight_in plain_edge
+    c.args.edges.now
     (omega arith) c.index-edges-i.is (ap (option_map (plain c.index-edges-i.result)) (sym c.in-Some.ensures.value))
     c.each.invariant.callable _ refl)
 
@@ -55,7 +57,8 @@ each-preserved g c =
     (rw c.new.ensures.value at c.g-weight.ensures) in
     record {
       callable =
-          called_on g.Ix.IndexType.of (goal.G-pre g) (goal.G-step g) weight_in plain_edge c.args.edges.now within c.index-edges-i.is
+          called_on g.Ix.IndexType.of (goal.G-pre g) (goal.G-step g) weight_in plain_edge c.args.edges.now within
+          c.index-edges-i.is
           (ap (option_map (plain x)) (sym c.in-Some.ensures.value)) called c.each.invariant.callable;
       capacity = omega (arith, c.push_reserved-in-each.ensures.capacity, c.each.invariant.capacity);
       count =

@@ -10,7 +10,8 @@ use Rattle.daggy_stable.proofs.stable_graph.map.map_edges.Given as goal
 abbrev pub invariant-each : goal.invariant-each
 invariant-each g l =
     record {
-      callable : CanCallFrom g.Ix.IndexType.of (goal.G-pre g) (goal.G-step g) weight_in (map plain_edge l.edges) l.g l.i;
+      callable : CanCallFrom g.Ix.IndexType.of (goal.G-pre g) (goal.G-step g) weight_in (map plain_edge l.edges) l.g
+          l.i;
       capacity : length l.edges ≤ vec_capacity l.new;
       count : length l.new.items ≡ l.i;
       mapped : MappedSlots (goal.G-step g) g.Ix.IndexType.of weight_in with_weight l.fn.g (map plain_edge l.edges) l.g

@@ -18,7 +18,8 @@ each-preserved-in-None g c =
     let at : Reads nodes c.each.i x = record { within = within; is = c.index-nodes-i.is } in
     record {
       callable =
-          vacant_on g.Ix.IndexType.of (goal.F-pre g) (goal.F-step g) (λ w. w) weight_of c.args.nodes.now within c.index-nodes-i.is
+          vacant_on g.Ix.IndexType.of (goal.F-pre g) (goal.F-step g) (λ w. w) weight_of c.args.nodes.now within
+          c.index-nodes-i.is
           (sym c.in-None.ensures.value) c.each.invariant.callable;
       capacity = omega (arith, c.push_reserved.ensures.capacity, c.each.invariant.capacity);
       count =
@@ -35,7 +36,8 @@ each-preserved-in-None g c =
 
 pub f-weight-requires : goal.f-weight-requires
 f-weight-requires g c =
-    rw c.new.ensures.value (may_call g.Ix.IndexType.of (goal.F-pre g) (goal.F-step g) (λ w. w) weight_of c.args.nodes.now
+    rw c.new.ensures.value (may_call g.Ix.IndexType.of (goal.F-pre g) (goal.F-step g) (λ w. w) weight_of
+    c.args.nodes.now
     (omega arith) c.index-nodes-i.is (sym c.in-Some.ensures.value)
     c.each.invariant.callable _ refl)
 
@@ -52,7 +54,8 @@ each-preserved g c =
     (rw c.new.ensures.value at c.f-weight.ensures) in
     record {
       callable =
-          called_on g.Ix.IndexType.of (goal.F-pre g) (goal.F-step g) (λ w. w) weight_of c.args.nodes.now within c.index-nodes-i.is
+          called_on g.Ix.IndexType.of (goal.F-pre g) (goal.F-step g) (λ w. w) weight_of c.args.nodes.now within
+          c.index-nodes-i.is
           (sym c.in-Some.ensures.value) called c.each.invariant.callable;
       capacity = omega (arith, c.push_reserved-in-each.ensures.capacity, c.each.invariant.capacity);
       count =
