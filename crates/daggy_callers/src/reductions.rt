@@ -37,7 +37,7 @@ pub fn reduce_both<N: Drop, E: Drop, M: Drop, F: Drop, Ix: IndexType, Jx: IndexT
     ensures { OnOk result
         (JoinSamePairs a.new.graph b.new.graph ↔ HaveSameReachability a.old.graph b.old.graph) }
 {
-    // Asked for their contracts alone: both graphs are dags.
+    // Called only for their postconditions: both graphs are dags.
     let _dag = a.node_count();
     let _other_dag = b.node_count();
     let roots = all_nodes(a)?;

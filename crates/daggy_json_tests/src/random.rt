@@ -124,7 +124,7 @@ fn same_dag<S: Store<u8, NodeWeight = u64, EdgeWeight = u64>>(
 fn read_back(rt: &impl Abort, alloc: Global, dag: &Small) -> Small
     ensures { result.graph ≡ dag.now.graph }
 {
-    // Asked for its contract alone: the graph is that of a compact dag.
+    // Called only for its postcondition: the graph is that of a compact dag.
     let _dag = dag.node_count();
     let value = made(rt, dag_to_json(alloc, dag, number, number));
     made(rt, dag_from_json(alloc, &value, weight, weight))
@@ -133,7 +133,7 @@ fn read_back(rt: &impl Abort, alloc: Global, dag: &Small) -> Small
 fn read_back_stable(rt: &impl Abort, alloc: Global, dag: &SmallStable) -> SmallStable
     ensures { result.graph ≡ trimmed dag.now.graph }
 {
-    // Asked for its contract alone: the graph is that of a dag.
+    // Called only for its postcondition: the graph is that of a dag.
     let _dag = dag.node_count();
     let value = made(rt, stable_to_json(alloc, dag, number, number));
     made(rt, stable_from_json(alloc, &value, weight, weight))
