@@ -2,9 +2,11 @@
 //! nodes and edges, and all weights written in a row.
 use super::acts::{Act, TRIANGLE, both, dag_of};
 use super::kinds::{Compact, Plain, note};
-use super::support::{holds, same};
+use super::support::{holds, made, same};
 use super::table::{Answer, Call, Row, play};
 use daggy_base::index::{Direction, EdgeIndex, NodeIndex};
+use daggy_base::source::EdgeSource;
+use daggy_walk::visit::NodeIndexable;
 use std::cell::Cell;
 
 const AGAIN: [Row<'static>; 7] = [
@@ -82,6 +84,32 @@ fn an_update_shows_each_node_or_each_edge(rt: HostRuntime) {
         *weight = weight.wrapping_add(1);
     });
     same(&rt, calls.get(), 202122);
+    play(&rt, rt.alloc(), &mut dag, ROWS);
+}
+
+#[test]
+fn closures_read_tables_of_the_size_of_a_compact_dag(rt: HostRuntime) {
+    const ROWS: &[Row<'static>] = &[
+        (Call::Weight(0), Answer::Weight(5)),
+        (Call::Weight(2), Answer::Weight(7)),
+        (Call::Stored(1), Answer::Stored(0, 2, 9)),
+    ];
+    let mut dag: Plain<Compact> = dag_of(&rt, rt.alloc(), &TRIANGLE);
+    let (nodes, edges) = ([5, 6, 7], [8, 9, 10]);
+    holds(&rt, dag.node_bound() <= nodes.len());
+    holds(&rt, dag.graph().edge_bound() <= edges.len());
+    let mut mapped = made(
+        &rt,
+        dag.map(|n, _| nodes[n.index()], |e, _| edges[e.index()]),
+    );
+    play(&rt, rt.alloc(), &mut mapped, ROWS);
+    let mut part = made(
+        &rt,
+        dag.filter_map(|n, _| Some(nodes[n.index()]), |e, _| Some(edges[e.index()])),
+    );
+    play(&rt, rt.alloc(), &mut part, ROWS);
+    dag.update_node_weights(|n, weight| *weight = nodes[n.index()]);
+    dag.update_edge_weights(|e, weight| *weight = edges[e.index()]);
     play(&rt, rt.alloc(), &mut dag, ROWS);
 }
 
