@@ -4,6 +4,7 @@
 
 pub mod copies;
 pub mod cursors;
+pub mod forwarding;
 pub mod reductions;
 pub mod seen;
 pub mod tables;
