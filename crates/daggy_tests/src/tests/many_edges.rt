@@ -172,15 +172,15 @@ fn edges_that_close_a_cycle_make_no_dag(rt: HostRuntime) {
 
 #[test]
 fn a_dag_of_edges_needs_an_index_for_each_node_and_edge(rt: HostRuntime) {
-    const PAIRS: [(usize, usize); 256] = [(0, 1); 256];
+    const PAST: &[(usize, usize)] = &[(0, 255)];
+    const MOST: &[(usize, usize)] = &[(0, 1); 255];
+    const MORE: &[(usize, usize)] = &[(0, 1); 256];
+    const FULL: Answer<'static> = Answer::NoIndex(0);
     const ROWS: &[Row<'static>] = &[(Call::Counts, Answer::Counts(2, 255))];
-    for (pairs, wanted, rows) in [
-        ([(0, 255)].as_slice(), Answer::NoIndex(0), [].as_slice()),
-        (&PAIRS[..255], Answer::Done, ROWS),
-        (PAIRS.as_slice(), Answer::NoIndex(0), [].as_slice()),
-    ] {
-        both(&rt, rt.alloc(), Scene::OfPairs(pairs, wanted, rows));
-    }
+    const NO_ROWS: &[Row<'static>] = &[];
+    both(&rt, rt.alloc(), Scene::OfPairs(PAST, FULL, NO_ROWS));
+    both(&rt, rt.alloc(), Scene::OfPairs(MOST, Answer::Done, ROWS));
+    both(&rt, rt.alloc(), Scene::OfPairs(MORE, FULL, NO_ROWS));
 }
 
 #[test]
