@@ -25,10 +25,14 @@ was_refused() { # whether the last run that was refusing had so many allocations
   [ -e "$shim.mark" ]
 }
 
-is_told_once() { # TEXT: whether it speaks of memory once if an allocation was refused, and else not at all
+# How many refusals went untold. A program asks for memory once at its start that it can do without.
+untold=0
+
+is_told_once() { # TEXT: whether it speaks of memory once if an allocation was refused, but for one, and else not at all
   local count
   count=$(grep -c memory <<<"$1")
-  if was_refused; then [ "$count" = 1 ]; else [ "$count" = 0 ]; fi
+  if was_refused && [ "$count" = 0 ]; then untold=$((untold + 1)); fi
+  if was_refused; then [ "$count" = 1 ] || { [ "$count" = 0 ] && [ "$untold" = 1 ]; }; else [ "$count" = 0 ]; fi
 }
 
 had_refusals() { # NUMBER LEAST: whether so many allocations were refused before this one, which was not; else says how many were

@@ -7,6 +7,7 @@ set -u
 program=$(built dagbench dagbench) || exit 1
 lines=$'node 1\nnode 2\nedge 0 1 7\nedge 1 0 5\nedges 0 1 8 0 1 9\nchildren 0\n'
 for kind in compact stable; do
+  untold=0
   for number in $(seq 1 1000); do
     out=$(printf '%s' "$lines" | refusing "$number" dagbench "$program" "$kind" 2>&1)
     ended=$?
@@ -46,6 +47,7 @@ for kind in compact stable; do
   for line in $(seq 1 17); do
     without[$kind $line]=$(printf '%s' "$script" | sed "${line}d" | "$program" "$kind")
   done
+  untold=0
   for number in $(seq 1 1000); do
     out=$(printf '%s' "$script" | refusing "$number" dagbench "$program" "$kind" 2>&1)
     ended=$?
