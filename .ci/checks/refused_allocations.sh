@@ -1,6 +1,5 @@
 #!/usr/bin/env bash
-# No allocation of the tests refused, and then each in turn, until no test has so many: one call of a test answers that there was no
-# memory if one was refused to it, and none else.
+# Each allocation of the dag's calls refused in turn, until no test has so many: the refusal is answered there, and only there.
 set -u
 . "$(dirname "$0")/../refusing.sh"
 tests=$(built daggy_refusals daggy_refusals_tests) || exit 1
@@ -14,4 +13,4 @@ while :; do
   if [ "$number" -gt 0 ] && ! was_refused; then break; fi
   number=$((number + 1))
 done
-had_refusals "$number" 40
+[ "$number" -gt 40 ] || { echo "only $number allocations"; exit 1; }

@@ -1,6 +1,6 @@
-//! Calls while memory is refused once. `.ci/checks/refused_allocations.sh` runs the tests with no
-//! allocation refused and then with each in turn: one call answers that there was no memory exactly
-//! if one was refused.
+//! Calls of the dag while memory is refused once. Run it by
+//! `rt try daggy_refusals --test --fail-alloc N`, for each N from 1 on: the Nth allocation then
+//! fails.
 #![tactic(auto)]
 
 #[cfg(test)]
@@ -14,13 +14,7 @@ mod run_tests;
 #[cfg(test)]
 mod scenarios;
 #[cfg(test)]
-mod searches;
-#[cfg(test)]
-mod slots;
-#[cfg(test)]
 mod stable_tests;
-#[cfg(test)]
-mod stores;
 #[cfg(test)]
 mod support;
 #[cfg(test)]

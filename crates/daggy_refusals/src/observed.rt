@@ -27,8 +27,7 @@ fn edge_weight<S: Kind>(dag: &Plain<S>, e: EdgeIndex) -> usize {
     }
 }
 
-/// A number of these two.
-pub fn mix(sum: usize, x: usize) -> usize {
+fn mix(sum: usize, x: usize) -> usize {
     sum.wrapping_mul(31).wrapping_add(x)
 }
 

@@ -1,11 +1,10 @@
 //! Commands that are run while memory is refused once: they come back, or the reply says so and
 //! nothing has changed. Run again they must succeed.
-use crate::support::{answered, holds, made, refuse, same};
+use crate::support::{holds, made, refuse, same};
 use daggy::run::{Back, Command, GuardedDag, Reply, plan, run};
 use daggy::{Dag, EdgeIndex, NodeIndex, StableDag};
 use std::alloc::{AllocError, Global};
 use std::process::Abort;
-use std::rt::Env;
 
 type Asked = Command<usize, usize, u32>;
 
@@ -203,14 +202,13 @@ fn plan_all<D: GuardedDag<usize, usize, u32>>(
     same(rt, planned.chain.len(), planned.stages.len());
 }
 
-fn run_all<D: GuardedDag<usize, usize, u32>>(rt: &(impl Abort + Env), alloc: Global, dag: &mut D) {
+fn run_all<D: GuardedDag<usize, usize, u32>>(rt: &impl Abort, alloc: Global, dag: &mut D) {
     let mut refused = false;
     add_one_by_one(rt, alloc, dag, &mut refused);
     join_nodes(rt, alloc, dag, &mut refused);
     add_many(rt, alloc, dag, &mut refused);
     plan_all(rt, alloc, dag, &mut refused);
     ask_and_reduce(rt, alloc, dag, &mut refused);
-    answered(rt, refused);
 }
 
 #[test]

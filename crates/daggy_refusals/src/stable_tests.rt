@@ -2,7 +2,7 @@
 use crate::again::fan;
 use crate::observed::is_fan;
 use crate::scenarios::{Scenario, Way, stable};
-use crate::support::{Compact, Plain, answered, made, refuse};
+use crate::support::{Compact, Plain, made, refuse};
 use daggy::StableDag;
 
 #[test]
@@ -61,11 +61,6 @@ fn a_dag_of_elements_is_made_or_their_weight_comes_back(rt: HostRuntime) {
 }
 
 #[test]
-fn a_dag_of_slots_is_made_again(rt: HostRuntime) {
-    stable(&rt, rt.alloc(), Scenario::OfSlots);
-}
-
-#[test]
 fn a_refused_reduction_removes_nothing(rt: HostRuntime) {
     stable(&rt, rt.alloc(), Scenario::Reduction);
 }
@@ -108,5 +103,4 @@ fn a_compact_dag_becomes_a_stable_one_or_comes_back(rt: HostRuntime) {
         }
     };
     is_fan(&rt, &whole, 1, false);
-    answered(&rt, refused);
 }

@@ -11,7 +11,6 @@ use daggy_dag::acyclic::Acyclic;
 use std::alloc::{AllocError, Global};
 use std::fmt::Debug;
 use std::process::Abort;
-use std::rt::Env;
 
 /// A dag of either kind.
 pub type Plain<S> = Acyclic<usize, usize, u32, S>;
@@ -47,8 +46,8 @@ pub type Compact = DiGraph<usize, usize, u32>;
 /// The store of the stable kind.
 pub type Stable = StableDiGraph<usize, usize, u32>;
 
-/// Counts a call, and gives the weight that it was called with.
-pub fn counted(calls: &mut usize, weight: &usize) -> usize {
+// Counts a call, and gives the weight that it was called with.
+fn counted(calls: &mut usize, weight: &usize) -> usize {
     *calls = calls.wrapping_add(1);
     *weight
 }
@@ -129,15 +128,4 @@ pub fn made<T: Drop, E: Drop>(rt: &impl Abort, answer: Result<T, E>) -> T
 pub fn refuse(rt: &impl Abort, refused: &mut bool) {
     assert!(rt; !*refused, "a second refusal");
     *refused = true;
-}
-
-/// Asserts that the refusal was answered if an allocation was refused, and else that none was.
-/// `.ci/fail_allocation.c` tells in the environment whether one was; by itself no test is refused.
-pub fn answered(rt: &(impl Abort + Env), refused: bool) {
-    let mut told = [0u8; 8];
-    let was_refused = match rt.var("ALLOCATIONS_REFUSED", &mut told) {
-        Ok(_) => told[0] == b'1',
-        Err(_) => false,
-    };
-    assert_eq!(rt; refused, was_refused);
 }
