@@ -1,3 +1,13 @@
+pub mod Sorted
+pub mod ListParts
+pub mod Chains
+pub mod Items
+pub mod LinkedNodes
+pub mod AscendingLabels
+pub mod Labelled
+pub mod MovedNodes
+pub mod OrderSteps
+pub mod Tails
 pub mod NodesSorted
 pub mod NodesFirst
 pub mod SortedByLabel

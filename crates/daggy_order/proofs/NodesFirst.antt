@@ -10,9 +10,9 @@ use Rattle.daggy_base.specs.Removal.{without}
 use Rattle.daggy_base.specs.WellFormed.{AreDistinct}
 use Rattle.daggy_base.proofs.Lists.{Mem, Unique, contains_mem, mem_contains, unique_from_distinct}
 use Rattle.daggy_base.specs.Ordered.{with_first}
-use Rattle.daggy_labels.proofs.Sorted.{mem_filter, filter_mem}
-use Rattle.daggy_labels.proofs.ListParts.{is_held, held_is}
-use Rattle.daggy_labels.proofs.LinkedNodes.{without_none}
+use Rattle.daggy_order.proofs.Sorted.{mem_filter, filter_mem}
+use Rattle.daggy_order.proofs.ListParts.{is_held, held_is}
+use Rattle.daggy_order.proofs.LinkedNodes.{without_none}
 
 -- the same nodes are held then
 first_held : (ns order : List ℕ) → ((n : ℕ) → Mem n ns → Mem n order)

@@ -4,7 +4,7 @@ use Rattle.std.proofs.Common.{◌++◌, length, get_or, take, drop, refl, sym, a
 use Rattle.std.specs.List.{filter, Contains}
 use Rattle.std.proofs.lemmas.List.{length-append, take_at, drop_at, append-nil}
 use Rattle.std.proofs.lemmas.List.Elements.{filter-append}
-use Rattle.std.proofs.lemmas.Bool.{cases_eq, cases_Bool}
+use Rattle.std.proofs.lemmas.Bool.{cases_Bool}
 use Rattle.daggy_base.specs.Graph.{Graph, HasNode}
 use Rattle.daggy_base.specs.Path.{AreJoined, Reaches}
 use Rattle.daggy_base.specs.WellFormed.{IsWellFormed}
@@ -12,28 +12,14 @@ use Rattle.daggy_base.proofs.Lists.{Mem, Unique, mem_right, mem_cases, contains_
 use Rattle.daggy_base.proofs.Lists.{unique_from_distinct}
 use Rattle.daggy_search.proofs.SearchProgress.{reaches_more, reaches_stays}
 use Rattle.daggy_base.specs.Ordered.{IsOrderOf, IsParted, place, stretch}
-use Rattle.daggy_labels.specs.Links.{LabelsAscend, IsLabelled, IsMoved, StandBefore}
+use Rattle.daggy_order.specs.Links.{LabelsAscend, IsLabelled, IsMoved, StandBefore}
 use Rattle.daggy_order.proofs.BoundedSearch.{reached_exists}
-use Rattle.daggy_labels.proofs.Sorted.{Sorted, distinct_from_unique, unique_cross, sorted_from_places}
-use Rattle.daggy_labels.proofs.Sorted.{places_from_sorted, parts, parts_in, parts_out, parts_unique, parts_sorted}
-use Rattle.daggy_labels.proofs.Sorted.{parts_before, apart, place_same, place_other, place_right}
-use Rattle.daggy_labels.proofs.ListParts.{filter_yes, filter_no, in_stretch}
-use Rattle.daggy_labels.proofs.AscendingLabels.{asc_before, asc_behind}
-use Rattle.daggy_labels.proofs.Labelled.{label_within, label_places}
-
--- a member stands at its place
-place_at : (xs : List ℕ) (n : ℕ) → Mem n xs → (place xs n < length xs) × (get_or xs (place xs n) 0 ≡ n)
-place_at [] n m = absurd m
-place_at (x ∷ xs) n m =
-    elim (cases_eq x n) [
-      | inl e ↦ (let at = place_same x n xs e in (omega (arith, at), ap (λ k. get_or (x ∷ xs) k 0) at ∙ e))
-      | inr d ↦ (
-          let b : Mem n xs = elim m [ inl e ↦ absurd (d (sym e)) | inr b ↦ b ] in
-          let rest = place_at xs n b in
-          let at = place_other x n xs d in
-          (omega (arith, at, rest.0), ap (λ k. get_or (x ∷ xs) k 0) at ∙ rest.1)
-          )
-    ]
+use Rattle.daggy_order.proofs.Sorted.{place_at, Sorted, distinct_from_unique, unique_cross, sorted_from_places}
+use Rattle.daggy_order.proofs.Sorted.{places_from_sorted, parts, parts_in, parts_out, parts_unique, parts_sorted}
+use Rattle.daggy_order.proofs.Sorted.{parts_before, apart, place_same, place_right}
+use Rattle.daggy_order.proofs.ListParts.{filter_yes, filter_no, in_stretch}
+use Rattle.daggy_order.proofs.AscendingLabels.{asc_before, asc_behind}
+use Rattle.daggy_order.proofs.Labelled.{label_within, label_places}
 
 -- a test that all pass, or none
 all_pass : (test : ℕ → Bool) (xs : List ℕ) → ((n : ℕ) → Mem n xs → test n ≡ true) → filter test xs ≡ xs

@@ -7,7 +7,7 @@ ghost use Rattle.daggy_base.specs.Ordered.{place, with_first};
 
 use daggy_base::index::{DefaultIx, IndexType, NodeIndex};
 use daggy_base::link::Link;
-use daggy_labels::written::{Tail, Written};
+use crate::list::{Tail, LabeledList};
 use std::alloc::{AllocError, Global};
 use std::marker::Model;
 
@@ -23,25 +23,25 @@ pub use nodes::Nodes;
 /// An ordered list of distinct nodes that can be added at both ends, removed and moved.
 ///
 /// A trailing run of consecutive indices is stored as a range. The first change of any other kind
-/// writes the run out, into memory reserved when the nodes were pushed; each node is written at
+/// links the run, in memory reserved when the nodes were pushed; each node is linked at
 /// most once, so `push` stays amortized O(1).
 #[derive(Drop)]
 pub struct Order<Ix: IndexType = DefaultIx> {
-    written: Written<Ix>,
+    list: LabeledList<Ix>,
     tail: Tail,
 }
 
 impl<Ix: IndexType> Model for Order<Ix> {
     ghost use Rattle.std.specs.Prelude.{ℕ, List, ◌++◌};
     ghost use Rattle.std.specs.List.{range_with_len};
-    ghost use Rattle.daggy_labels.specs.Links.{IsTailed};
+    ghost use Rattle.daggy_order.specs.Links.{IsTailed};
 
     ghost Value = { List ℕ };
 
-    ghost view = { λ o. o.written.nodes ++ range_with_len o.tail.from o.tail.count };
+    ghost view = { λ o. o.list.nodes ++ range_with_len o.tail.from o.tail.count };
 
     ghost invariant = { λ o.
-        IsTailed Ix.greatest o.written.nodes o.written.capacity o.tail.from o.tail.count
+        IsTailed Ix.greatest o.list.nodes o.list.capacity o.tail.from o.tail.count
         o.tail.index_bound };
 }
 
@@ -51,7 +51,7 @@ impl<Ix: IndexType> Order<Ix> {
         ensures { result ≡ [] }
     {
         Order {
-            written: Written::new(alloc),
+            list: LabeledList::new(alloc),
             tail: Tail {
                 from: 0,
                 count: 0,
@@ -66,7 +66,7 @@ impl<Ix: IndexType> Order<Ix> {
         ensures value { result ≡ length self.now }
         ensures distinct { AreDistinct self.now }
     {
-        self.written.len() + self.tail.count
+        self.list.len() + self.tail.count
     }
 
     /// Whether it holds the node. O(1).
@@ -76,7 +76,7 @@ impl<Ix: IndexType> Order<Ix> {
     {
         let i = n.index();
         if i < self.tail.from {
-            self.written.holds(n)
+            self.list.holds(n)
         } else {
             i - self.tail.from < self.tail.count
         }
@@ -92,7 +92,7 @@ impl<Ix: IndexType> Order<Ix> {
         let i = a.index();
         let j = b.index();
         if j < self.tail.from {
-            i < self.tail.from && self.written.stands_before(a, b)
+            i < self.tail.from && self.list.stands_before(a, b)
         } else {
             i < j
         }
@@ -116,12 +116,12 @@ impl<Ix: IndexType> Order<Ix> {
             self.tail.count += 1;
             return Ok(());
         }
-        self.push_slowly(n)
+        self.push_cold(n)
     }
 
     // `push` if the node is not the next consecutive index, or there is no memory for it.
     #[inline(never)]
-    fn push_slowly(&mut self, n: NodeIndex<Ix>) -> Result<(), AllocError>
+    fn push_cold(&mut self, n: NodeIndex<Ix>) -> Result<(), AllocError>
         requires real { Ix.number n < Ix.greatest }
         requires absent { ¬ Contains self.old (Ix.number n) }
         ensures ok { OnOk result (self.new ≡ self.old ++ Ix.number n ∷ []) }
@@ -129,22 +129,22 @@ impl<Ix: IndexType> Order<Ix> {
     {
         let i = n.index();
         if i == self.tail.from + self.tail.count {
-            self.tail.index_bound = self.written.reserve(i + 1)?;
+            self.tail.index_bound = self.list.reserve(i + 1)?;
             self.tail.count += 1;
             return Ok(());
         }
-        self.push_written(n)
+        self.push_linked(n)
     }
 
-    // Puts a node last, after writing out the run.
-    fn push_written(&mut self, n: NodeIndex<Ix>) -> Result<(), AllocError>
+    // Puts a node last, after linking the run.
+    fn push_linked(&mut self, n: NodeIndex<Ix>) -> Result<(), AllocError>
         requires real { Ix.number n < Ix.greatest }
         requires absent { ¬ Contains self.old (Ix.number n) }
         ensures ok { OnOk result (self.new ≡ self.old ++ Ix.number n ∷ []) }
         ensures err { OnErr result (self.new ≡ self.old) }
     {
-        self.tail = self.written.settle(self.tail);
-        self.written.push(n)?;
+        self.tail = self.list.flush(self.tail);
+        self.list.push(n)?;
         self.tail.from = self.tail.from.max(n.index() + 1);
         Ok(())
     }
@@ -158,7 +158,7 @@ impl<Ix: IndexType> Order<Ix> {
     pub fn reserve(&mut self, bound: usize) -> Result<(), AllocError>
         ensures { self.new ≡ self.old }
     {
-        self.tail.index_bound = self.written.reserve(bound)?;
+        self.tail.index_bound = self.list.reserve(bound)?;
         Ok(())
     }
 
@@ -170,10 +170,10 @@ impl<Ix: IndexType> Order<Ix> {
     pub fn reserve_like(&mut self, other: &Self) -> Result<(), AllocError>
         ensures { self.new ≡ self.old }
     {
-        self.reserve(other.written.capacity())
+        self.reserve(other.list.capacity())
     }
 
-    /// Takes a node out. O(1), plus the nodes still to be written.
+    /// Takes a node out. O(1), plus the nodes still to be linked.
     #[inline]
     pub fn remove(&mut self, n: NodeIndex<Ix>)
         requires { Contains self.old (Ix.number n) }
@@ -182,13 +182,13 @@ impl<Ix: IndexType> Order<Ix> {
         if self.tail.count > 0 && n.index() + 1 == self.tail.from + self.tail.count {
             self.tail.count -= 1;
         } else {
-            self.tail = self.written.settle(self.tail);
-            self.written.remove(n);
+            self.tail = self.list.flush(self.tail);
+            self.list.remove(n);
         }
     }
 
     /// Renames a node to `m`, in its place, as when a graph moves its last node into a freed index.
-    /// O(1), plus the nodes still to be written.
+    /// O(1), plus the nodes still to be linked.
     #[inline]
     pub fn rename(&mut self, n: NodeIndex<Ix>, m: NodeIndex<Ix>)
         requires held { Contains self.old (Ix.number n) }
@@ -197,8 +197,8 @@ impl<Ix: IndexType> Order<Ix> {
         ensures { self.new ≡ map (renamed (Ix.number n) (Ix.number m)) self.old }
     {
         if n.index() != m.index() {
-            self.tail = self.written.settle(self.tail);
-            self.written.rename(n, m);
+            self.tail = self.list.flush(self.tail);
+            self.list.rename(n, m);
         }
     }
 
@@ -211,24 +211,24 @@ impl<Ix: IndexType> Order<Ix> {
         ensures ok { OnOk result (self.new ≡ Ix.number n ∷ self.old) }
         ensures err { OnErr result (self.new ≡ self.old) }
     {
-        self.tail = self.written.settle(self.tail);
-        self.written.push_first(n)?;
+        self.tail = self.list.flush(self.tail);
+        self.list.push_first(n)?;
         self.tail.from = self.tail.from.max(n.index() + 1);
         Ok(())
     }
 
-    /// Moves a node to the front. O(1), plus the nodes still to be written, unless labels reach the
+    /// Moves a node to the front. O(1), plus the nodes still to be linked, unless labels reach the
     /// start of their range.
     #[inline(never)]
     pub fn move_first(&mut self, n: NodeIndex<Ix>)
         requires { Contains self.old (Ix.number n) }
         ensures { self.new ≡ Ix.number n ∷ without (Ix.number n) self.old }
     {
-        self.tail = self.written.settle(self.tail);
-        self.written.move_first(n);
+        self.tail = self.list.flush(self.tail);
+        self.list.move_first(n);
     }
 
-    /// Moves a node right before another. O(1), plus the nodes still to be written, unless labels
+    /// Moves a node right before another. O(1), plus the nodes still to be linked, unless labels
     /// leave no room.
     #[inline(never)]
     pub fn move_before(&mut self, n: NodeIndex<Ix>, b: NodeIndex<Ix>)
@@ -238,8 +238,8 @@ impl<Ix: IndexType> Order<Ix> {
         ensures { (ns ms : List ℕ) → without (Ix.number n) self.old ≡ ns ++ Ix.number b ∷ ms
             → self.new ≡ ns ++ Ix.number n ∷ (Ix.number b ∷ ms) }
     {
-        self.tail = self.written.settle(self.tail);
-        self.written.move_before(n, b);
+        self.tail = self.list.flush(self.tail);
+        self.list.move_before(n, b);
     }
 
     /// Moves nodes to the front, in the order of a list. The others follow in their old order. Each
@@ -262,9 +262,9 @@ impl<Ix: IndexType> Order<Ix> {
     {
         let i = n.index();
         if i < self.tail.from {
-            self.written.place(n)
+            self.list.place(n)
         } else {
-            self.written.len() + (i - self.tail.from)
+            self.list.len() + (i - self.tail.from)
         }
     }
 
@@ -273,9 +273,9 @@ impl<Ix: IndexType> Order<Ix> {
         requires { place < length self.now }
         ensures { Ix.number result ≡ slice_index self.now place }
     {
-        let count = self.written.len();
+        let count = self.list.len();
         if place < count {
-            self.written.at(place)
+            self.list.at(place)
         } else {
             NodeIndex::new(self.tail.from + (place - count))
         }
@@ -285,15 +285,15 @@ impl<Ix: IndexType> Order<Ix> {
     pub fn try_clone(&self) -> Result<Self, AllocError>
         ensures { IfOk result (λ o. o ≡ self.now) }
     {
-        let mut written = self.written.try_clone()?;
+        let mut list = self.list.try_clone()?;
         let Tail { from, count, .. } = self.tail;
         let index_bound = if count == 0 {
             0
         } else {
-            written.reserve(from + count)?
+            list.reserve(from + count)?
         };
         Ok(Order {
-            written,
+            list,
             tail: Tail {
                 from,
                 count,
@@ -307,7 +307,7 @@ impl<Ix: IndexType> Order<Ix> {
     pub fn clear(&mut self)
         ensures { self.new ≡ [] }
     {
-        self.written.clear();
+        self.list.clear();
         self.tail = Tail {
             from: 0,
             count: 0,

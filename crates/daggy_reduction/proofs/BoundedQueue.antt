@@ -15,8 +15,8 @@ use Rattle.daggy_base.proofs.OutEdgesRead.{listed}
 use Rattle.daggy_base.specs.Ordered.{IsOrderOf, place, stretch}
 use Rattle.daggy_order.proofs.BoundedSearch.{reached_exists}
 use Rattle.daggy_order.proofs.OrderLaws.{acyclic_from_order}
-use Rattle.daggy_labels.proofs.Sorted.{place_same, place_other}
-use Rattle.daggy_labels.proofs.ListParts.{in_stretch}
+use Rattle.daggy_order.proofs.Sorted.{place_at, place_same, place_other}
+use Rattle.daggy_order.proofs.ListParts.{in_stretch}
 use Rattle.daggy_reduction.specs.Closure.{behind}
 use Rattle.daggy_reduction.specs.SearchSpan.{child_place, latest, last_place, edges_spanned}
 use Rattle.daggy_reduction.proofs.QueuedChildren.{First, Children, Beginning, children_found}
@@ -26,20 +26,7 @@ use Rattle.daggy_reduction.proofs.Paths.{reaches_one, round_through}
 use Rattle.daggy_reduction.proofs.QueueProgress.{Task, Queueing, looked_from, all_reached, all_met}
 use Rattle.daggy_reduction.proofs.LongerWays.{last_step}
 
--- where a node stands in the order, and what stands there
-place_at : (xs : List ℕ) (n : ℕ) → Mem n xs → (place xs n < length xs) × (get_or xs (place xs n) 0 ≡ n)
-place_at [] n m = absurd m
-place_at (x ∷ xs) n m =
-    elim (cases_eq x n) [
-      | inl e ↦ let at = place_same x n xs e in (omega (arith, at), ap (λ k. get_or (x ∷ xs) k 0) at ∙ e)
-      | inr d ↦ (
-          let later : Mem n xs = elim m [ inl e ↦ absurd (d (sym e)) | inr b ↦ b ] in
-          let rest = place_at xs n later in
-          let at = place_other x n xs d in
-          (omega (arith, at, rest.0), ap (λ k. get_or (x ∷ xs) k 0) at ∙ rest.1)
-          )
-    ]
-
+-- a node between two places is in that stretch
 in_places : (xs : List ℕ) (i j n : ℕ) → Mem n xs → i ≤ place xs n → place xs n < j → Mem n (stretch xs i j)
 in_places xs i j n m above below =
     let at = place_at xs n m in

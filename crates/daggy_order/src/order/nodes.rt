@@ -5,7 +5,7 @@ ghost use Rattle.std.specs.Iterator.{YieldsFirstBy, item_count};
 use crate::order::Order;
 use daggy_base::index::{DefaultIx, IndexType, NodeIndex};
 use daggy_base::link::Link;
-use daggy_labels::written::Written;
+use crate::list::LabeledList;
 use std::alloc::AllocError;
 use std::fmt;
 use std::iter::{ExactSizeIterator, FusedIterator};
@@ -14,7 +14,7 @@ use std::marker::Model;
 /// The nodes of an order, from the first to the last.
 #[derive(Drop)]
 pub struct Nodes<'a, Ix: IndexType = DefaultIx> {
-    written: &'a Written<Ix>,
+    list: &'a LabeledList<Ix>,
     at: Link<Ix>,
     left: usize,
     from: usize,
@@ -24,15 +24,15 @@ pub struct Nodes<'a, Ix: IndexType = DefaultIx> {
 impl<'a, Ix: IndexType> Model for Nodes<'a, Ix> {
     ghost use Rattle.std.specs.Prelude.{ℕ, List, ◌++◌};
     ghost use Rattle.std.specs.List.{range_with_len};
-    ghost use Rattle.daggy_labels.specs.Links.{last_nodes, IsAmong};
+    ghost use Rattle.daggy_order.specs.Links.{last_nodes, IsAmong};
 
     ghost Value = { List ℕ };
 
     ghost view = { λ it.
-        last_nodes it.left it.written.now.nodes ++ range_with_len it.from it.count };
+        last_nodes it.left it.list.now.nodes ++ range_with_len it.from it.count };
 
     ghost invariant = { λ it.
-        IsAmong Ix.greatest it.written.now.nodes it.left it.at it.from it.count };
+        IsAmong Ix.greatest it.list.now.nodes it.left it.at it.from it.count };
 }
 
 impl<Ix: IndexType> Order<Ix> {
@@ -43,9 +43,9 @@ impl<Ix: IndexType> Order<Ix> {
         ensures fits { length result < 2 ^ 64 }
     {
         Nodes {
-            written: &self.written,
-            at: self.written.first(),
-            left: self.written.len(),
+            list: &self.list,
+            at: self.list.first(),
+            left: self.list.len(),
             from: self.tail.from,
             count: self.tail.count,
         }
@@ -71,7 +71,7 @@ impl<'a, Ix: IndexType> Iterator for Nodes<'a, Ix> {
             return Some(n);
         }
         let n = self.at;
-        self.at = self.written.next(n);
+        self.at = self.list.next(n);
         self.left -= 1;
         Some(n.node())
     }
@@ -97,7 +97,7 @@ impl<'a, Ix: IndexType> Clone for Nodes<'a, Ix> {
 
     fn clone(&self) -> Result<Self, AllocError> {
         Ok(Nodes {
-            written: self.written,
+            list: self.list,
             at: self.at,
             left: self.left,
             from: self.from,

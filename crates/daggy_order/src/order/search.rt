@@ -7,6 +7,7 @@ ghost use Rattle.daggy_base.specs.Path.{AreJoined, Reaches};
 ghost use Rattle.daggy_base.specs.WellFormed.{IsWellFormed, AreDistinct};
 ghost use Rattle.daggy_base.specs.Ordered.{edges_from};
 
+use crate::list::links::Links;
 use daggy_base::index::{EdgeIndex, IndexType, NodeIndex};
 use daggy_base::link::Link;
 use daggy_base::source::EdgeSource;
@@ -28,7 +29,7 @@ pub(crate) fn reaches_below<Ix: IndexType, S: EdgeSource<Ix>>(
     source: &mut S,
     from: NodeIndex<Ix>,
     to: NodeIndex<Ix>,
-    labels: &[u64],
+    links: &Links<Ix>,
     limit: u64,
     marks: &mut Marks,
     stack: &mut [Link<Ix>],
@@ -36,11 +37,11 @@ pub(crate) fn reaches_below<Ix: IndexType, S: EdgeSource<Ix>>(
 ) -> Option<usize>
     requires well_formed { IsWellFormed Ix.greatest (S.graph source.old) }
     requires exists { HasNode (S.graph source.old) (Ix.number from) }
-    requires placed { (n : ℕ) → HasNode (S.graph source.old) n → n < length labels.now }
+    requires placed { (n : ℕ) → HasNode (S.graph source.old) n → n < length links.now.labels }
     requires ascending { (u v : ℕ) → AreJoined (S.graph source.old) u v
-        → slice_index labels.now u < slice_index labels.now v }
-    requires limit_is { slice_index labels.now (Ix.number to) ≡ limit }
-    requires before { slice_index labels.now (Ix.number from) < limit }
+        → slice_index links.now.labels u < slice_index links.now.labels v }
+    requires limit_is { slice_index links.now.labels (Ix.number to) ≡ limit }
+    requires before { slice_index links.now.labels (Ix.number from) < limit }
     requires marks_fit { node_bound (S.graph source.old) ≤ length marks.old }
     requires stack_fits { length marks.old ≤ length stack.old }
     requires found_fits { length marks.old ≤ length found.old }
@@ -50,13 +51,13 @@ pub(crate) fn reaches_below<Ix: IndexType, S: EdgeSource<Ix>>(
     ensures found { IfSome result (λ k. (k ≤ length found.new) × (AreDistinct (take k found.new)
         × ((n : ℕ) → Contains (take k found.new) n
         ↔ (Reaches (S.graph source.old) (Ix.number from) n
-        × (slice_index labels.now n < limit))))) }
+        × (slice_index links.now.labels n < limit))))) }
     ensures same { S.graph source.new ≡ S.graph source.old }
     ensures looked { S.looks source.old ≤ S.looks source.new }
     ensures counted { (ns : List ℕ)
         → ((n : ℕ) → HasNode (S.graph source.old) n
-        → slice_index labels.now (Ix.number from) ≤ slice_index labels.now n
-        → slice_index labels.now n < limit → Contains ns n)
+        → slice_index links.now.labels (Ix.number from) ≤ slice_index links.now.labels n
+        → slice_index links.now.labels n < limit → Contains ns n)
         → S.looks source.new ≤ S.looks source.old + edges_from (S.graph source.old) ns }
     ensures marks_kept { length marks.new ≡ length marks.old }
     ensures stack_kept { length stack.new ≡ length stack.old }
@@ -79,7 +80,7 @@ pub(crate) fn reaches_below<Ix: IndexType, S: EdgeSource<Ix>>(
         } else {
             let (v, next) = source.look(e);
             let i = v.index();
-            if labels[i] < limit {
+            if links.label(i) < limit {
                 if !marks.is_marked(i) {
                     marks.mark(i);
                     write(stack, len, Link::of_node(v));

@@ -2,13 +2,13 @@ use Rattle.std.proofs.Common.{ℕ, List, ◌++◌, length, sym, ap, ◌∙◌, a
 use Rattle.std.specs.List.{range_with_len}
 use Rattle.daggy_base.proofs.Lists.{unique_from_distinct}
 use Rattle.daggy_base.specs.Cursor.{first_of}
-use Rattle.daggy_labels.proofs.OrderSteps.{few_all}
-use Rattle.daggy_labels.proofs.Tails.{few_written, tail_length}
+use Rattle.daggy_order.proofs.OrderSteps.{few_all}
+use Rattle.daggy_order.proofs.Tails.{few_written, tail_length}
 use Rattle.daggy_order.proofs.order.Order.nodes.Goals as goal
 
 pub invariant_of-result : goal.invariant_of-result
 invariant_of-result g c =
-    let nodes : List ℕ = c.self.inside.written.nodes in
+    let nodes : List ℕ = c.self.inside.list.nodes in
     let few = few_written c.self.invariant (unique_from_distinct nodes c.len.ensures.distinct) in
     record {
       written = record {
@@ -24,7 +24,7 @@ invariant_of-result g c =
 
 pub returns-clause-fits : goal.returns-clause-fits
 returns-clause-fits g c =
-    let nodes : List ℕ = c.self.inside.written.nodes in
+    let nodes : List ℕ = c.self.inside.list.nodes in
     let few = few_written c.self.invariant (unique_from_distinct nodes c.len.ensures.distinct) in
     let whole =
     ap (λ (z : List ℕ). length (z ++ range_with_len c.self.inside.tail.from c.self.inside.tail.count))

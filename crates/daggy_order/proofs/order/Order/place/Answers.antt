@@ -1,7 +1,7 @@
 use Rattle.std.proofs.Common.{rules, ◌<◌, ◌≤◌, ◌^◌, ◌-◌, ◌+◌, ℕ, List, sym, ap, subst, ◌∙◌, arith}
 use Rattle.daggy_base.proofs.Lists.{Mem, contains_mem, mem_contains, unique_from_distinct}
 use Rattle.daggy_base.specs.Ordered.{place}
-use Rattle.daggy_labels.proofs.Tails.{high, in_written, few_written, place_written, place_late}
+use Rattle.daggy_order.proofs.Tails.{high, in_written, few_written, place_written, place_late}
 use Rattle.daggy_order.proofs.order.Order.place.Goals as goal
 
 pub place-requires : goal.place-requires
@@ -9,7 +9,7 @@ place-requires g c =
     let n : ℕ = g.Ix.IndexType.number c.args.n in
     let P : List ℕ → Type 0 = λ z. Mem n z in
     let low : n < c.self.inside.tail.from = omega (arith, c.if-i-self.true, c.index-i.ensures.value) in
-    mem_contains c.self.inside.written.nodes n
+    mem_contains c.self.inside.list.nodes n
     (in_written c.self.invariant n low (subst P (sym c.self.view_is) (contains_mem c.args.self.now n c.requires)))
 
 pub overflow_add-result : goal.overflow_add-result
@@ -17,7 +17,7 @@ overflow_add-result g c =
     let n : ℕ = g.Ix.IndexType.number c.args.n in
     let P : List ℕ → Type 0 = λ z. Mem n z in
     let within = high c.self.invariant n (subst P (sym c.self.view_is) (contains_mem c.args.self.now n c.requires)) in
-    let few = few_written c.self.invariant (unique_from_distinct c.self.inside.written.nodes c.len.ensures.distinct) in
+    let few = few_written c.self.invariant (unique_from_distinct c.self.inside.list.nodes c.len.ensures.distinct) in
     let low : c.len.result + (c.index-i.result - c.self.inside.tail.from) < 2 ^ 64 =
     omega (
       arith,

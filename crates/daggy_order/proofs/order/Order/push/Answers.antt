@@ -1,5 +1,5 @@
 use Rattle.std.proofs.Common.{◌≡◌, ◌+◌, ℕ, List, [], ◌∷◌, ◌++◌, refl, ap, ◌∙◌, arith}
-use Rattle.daggy_labels.proofs.Tails.{tail_more}
+use Rattle.daggy_order.proofs.Tails.{tail_more}
 use Rattle.daggy_order.proofs.order.Order.push.Goals as goal
 
 pub returns-then-i-self-2-clause-ok : goal.returns-then-i-self-2-clause-ok

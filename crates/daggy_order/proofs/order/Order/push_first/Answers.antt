@@ -1,27 +1,27 @@
 use Rattle.std.proofs.Common.{◌≡◌, ℕ, List, ◌∷◌, subst, inl, inr, ◌∙◌, arith}
 use Rattle.daggy_base.proofs.Lists.{Mem}
-use Rattle.daggy_labels.proofs.Tails.{tailed_after}
+use Rattle.daggy_order.proofs.Tails.{tailed_after}
 use Rattle.daggy_order.proofs.order.Order.push_first.Goals as goal
 
 pub invariant_of-self : goal.invariant_of-self
 invariant_of-self g c =
     tailed_after c.self.invariant
-    c.settle-self-inside.ensures.count c.settle-self-inside.ensures.index_bound
-    (omega (arith, c.settle-self-inside.ensures.from))
-    (omega (arith, c.settle-self-inside.ensures.from, c.self.invariant.real)) (λ k m.
+    c.flush-self-inside.ensures.count c.flush-self-inside.ensures.index_bound
+    (omega (arith, c.flush-self-inside.ensures.from))
+    (omega (arith, c.flush-self-inside.ensures.from, c.self.invariant.real)) (λ k m.
     let P : List ℕ → Type 0 = λ z. Mem k z in
-    inl (subst P (c.in_err-push_first.ensures.err ∙ c.settle-self-inside.ensures.nodes) m))
+    inl (subst P (c.in_err-push_first.ensures.err ∙ c.flush-self-inside.ensures.nodes) m))
 
 pub invariant_of-self-2 : goal.invariant_of-self-2
 invariant_of-self-2 g c =
     let n : ℕ = g.Ix.IndexType.number c.args.n in
-    let is : c.push_first.new.self.nodes ≡ n ∷ c.settle-self-inside.new.self.nodes = c.in_ok-push_first.ensures.ok in
+    let is : c.push_first.new.self.nodes ≡ n ∷ c.flush-self-inside.new.self.nodes = c.in_ok-push_first.ensures.ok in
     tailed_after c.self.invariant
-    c.settle-self-inside.ensures.count
-    c.settle-self-inside.ensures.index_bound
-    (omega (arith, c.settle-self-inside.ensures.from, c.max-self-inside.ensures)) (omega (
+    c.flush-self-inside.ensures.count
+    c.flush-self-inside.ensures.index_bound
+    (omega (arith, c.flush-self-inside.ensures.from, c.max-self-inside.ensures)) (omega (
       arith,
-      c.settle-self-inside.ensures.from,
+      c.flush-self-inside.ensures.from,
       c.max-self-inside.ensures,
       c.index.ensures.value,
       c.self.invariant.real,
@@ -30,5 +30,5 @@ invariant_of-self-2 g c =
     let P : List ℕ → Type 0 = λ z. Mem k z in
     elim (subst P is m) [
       | inl e ↦ inr (omega (arith, e, c.max-self-inside.ensures, c.index.ensures.value))
-      | inr a ↦ inl (subst P c.settle-self-inside.ensures.nodes a)
+      | inr a ↦ inl (subst P c.flush-self-inside.ensures.nodes a)
     ])

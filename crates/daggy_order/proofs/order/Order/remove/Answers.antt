@@ -1,8 +1,8 @@
 use Rattle.std.proofs.Common.{rules, ◌≡◌, ◌<◌, ◌^◌, ◌-◌, ◌+◌, ℕ, List, sym, ap, subst, inl, ◌∙◌, arith, not, eqb}
 use Rattle.daggy_base.proofs.Lists.{Mem, contains_mem}
 use Rattle.daggy_base.specs.Removal.{without}
-use Rattle.daggy_labels.proofs.Sorted.{filter_mem}
-use Rattle.daggy_labels.proofs.Tails.{high, tailed_after, tail_fewer}
+use Rattle.daggy_order.proofs.Sorted.{filter_mem}
+use Rattle.daggy_order.proofs.Tails.{high, tailed_after, tail_fewer}
 use Rattle.daggy_order.proofs.order.Order.remove.Goals as goal
 
 pub overflow_add-index : goal.overflow_add-index
@@ -18,12 +18,12 @@ pub invariant_of-self-else-self-gt0 : goal.invariant_of-self-else-self-gt0
 invariant_of-self-else-self-gt0 g c =
     let n : ℕ = g.Ix.IndexType.number c.args.n in
     tailed_after c.self.invariant
-    c.settle-self-inside.ensures.count
-    c.settle-self-inside.ensures.index_bound (omega (arith, c.settle-self-inside.ensures.from))
-    (omega (arith, c.settle-self-inside.ensures.from, c.self.invariant.real)) (λ k m.
+    c.flush-self-inside.ensures.count
+    c.flush-self-inside.ensures.index_bound (omega (arith, c.flush-self-inside.ensures.from))
+    (omega (arith, c.flush-self-inside.ensures.from, c.self.invariant.real)) (λ k m.
     let P : List ℕ → Type 0 = λ z. Mem k z in
-    inl (subst P c.settle-self-inside.ensures.nodes
-    (filter_mem (λ x. not (eqb x n)) c.settle-self-inside.new.self.nodes k (subst P c.remove.ensures m)).0))
+    inl (subst P c.flush-self-inside.ensures.nodes
+    (filter_mem (λ x. not (eqb x n)) c.flush-self-inside.new.self.nodes k (subst P c.remove.ensures m)).0))
 
 pub returns-then-index-self : goal.returns-then-index-self
 returns-then-index-self g c =

@@ -2,14 +2,14 @@ use Rattle.std.proofs.Common.{◌<◌, ℕ, List, sym, subst, arith}
 use Rattle.std.proofs.lemmas.Bool.{lt-ltb, ltb-true}
 use Rattle.daggy_base.proofs.Lists.{Mem, contains_mem, mem_contains}
 use Rattle.daggy_base.specs.Ordered.{place}
-use Rattle.daggy_labels.proofs.Tails.{in_written, place_written, before_late, not_before_early}
+use Rattle.daggy_order.proofs.Tails.{in_written, place_written, before_late, not_before_early}
 use Rattle.daggy_order.proofs.order.Order.stands_before.Goals as goal
 
 pub stands_before-requires-clause-first : goal.stands_before-requires-clause-first
 stands_before-requires-clause-first g c =
     let a : ℕ = g.Ix.IndexType.number c.args.a in
     let P : List ℕ → Type 0 = λ z. Mem a z in
-    mem_contains c.self.inside.written.nodes a
+    mem_contains c.self.inside.list.nodes a
     (in_written c.self.invariant a (omega (arith, c.if-i-self.true, c.index-i.ensures.value))
     (subst P (sym c.self.view_is) (contains_mem c.args.self.now a c.requires.first)))
 
@@ -17,7 +17,7 @@ pub stands_before-requires-clause-second : goal.stands_before-requires-clause-se
 stands_before-requires-clause-second g c =
     let b : ℕ = g.Ix.IndexType.number c.args.b in
     let P : List ℕ → Type 0 = λ z. Mem b z in
-    mem_contains c.self.inside.written.nodes b
+    mem_contains c.self.inside.list.nodes b
     (in_written c.self.invariant b (omega (arith, c.if-j-self.true, c.index-j.ensures.value))
     (subst P (sym c.self.view_is) (contains_mem c.args.self.now b c.requires.second)))
 

@@ -2,7 +2,7 @@ use Rattle.std.proofs.Common.{rules, ◌≡◌, ◌≢◌, ◌+◌, ◌-◌, ◌
 use Rattle.std.proofs.Common.{◌↔◌, length, get_or, take, subst, ℕ}
 use Rattle.std.proofs.lemmas.Option.{none-some}
 use Rattle.daggy_base.proofs.Lists.{contains_mem, mem_contains}
-use Rattle.daggy_labels.proofs.Sorted.{distinct_from_unique}
+use Rattle.daggy_order.proofs.Sorted.{distinct_from_unique}
 use Rattle.daggy_base.specs.Graph.{out_list, edge_count}
 use Rattle.daggy_base.specs.Path.{Reaches}
 use Rattle.daggy_base.specs.Cursor.{first_of}
@@ -33,12 +33,12 @@ ended : (g : Over) (c : Then-len-eq0 g)
     → (get_or c.steps.marks n false ≡ true)
     ↔ (
     Reaches (g.S.EdgeSource.graph c.args.source.now) (g.Ix.IndexType.number c.args.from) n
-    × (get_or c.args.labels.now n 0 < c.args.limit)
+    × (get_or c.args.links.now.labels n 0 < c.args.limit)
     )
     )
 ended g c =
     let at_end : g.Ix.IndexType.number c.steps.e ≡ g.Ix.IndexType.greatest = cc in
-    let over : IsOver g.Ix.IndexType.greatest _ _ c.args.labels.now c.args.limit (g.Ix.IndexType.number c.args.to) =
+    let over : IsOver g.Ix.IndexType.greatest _ _ c.args.links.now.labels c.args.limit (g.Ix.IndexType.number c.args.to) =
     record {
       ascending = c.requires.ascending;
       so_far = c.steps.invariant.0;
@@ -61,9 +61,9 @@ looked g c = looked_once c.requires.well_formed c.steps.invariant.0 (here g c) c
 v_low : (g : Over) (c : After-look-v g) → g.Ix.IndexType.number c.look-v.result.0 < length c.steps.marks
 v_low g c = child_low c.requires.well_formed c.steps.invariant.0 (here g c) c.look-v.ensures.gives
 
-v_placed : (g : Over) (c : After-look-v g) → g.Ix.IndexType.number c.look-v.result.0 < length c.args.labels.now
+v_placed : (g : Over) (c : After-look-v g) → g.Ix.IndexType.number c.look-v.result.0 < length c.args.links.now.labels
 v_placed g c =
-    child_placed c.requires.well_formed c.args.labels.now c.args.limit c.requires.ascending c.steps.invariant.0
+    child_placed c.requires.well_formed c.args.links.now.labels c.args.limit c.requires.ascending c.steps.invariant.0
     c.requires.placed (here g c) c.look-v.ensures.gives
 
 -- the child has no mark yet
@@ -93,8 +93,8 @@ steps-init g c =
       edge = g.Ix.IndexType.number c.first-e.result;
       looks = g.S.EdgeSource.looks c.args.source.now;
     } in (
-      rw c.mark.ensures (starts now c.requires.well_formed {Keep = Below c.args.labels.now c.args.limit}
-          {Skip = Beyond c.args.labels.now c.args.limit (g.Ix.IndexType.number c.args.to)} c.requires.exists
+      rw c.mark.ensures (starts now c.requires.well_formed {Keep = Below c.args.links.now.labels c.args.limit}
+          {Skip = Beyond c.args.links.now.labels c.args.limit (g.Ix.IndexType.number c.args.to)} c.requires.exists
           c.requires.cleared c.requires.before c.requires.marks_fit c.requires.stack_fits c.index.ensures.value
           c.first-e.ensures),
       rw (c.mark.ensures, c.write.ensures) found,
@@ -127,7 +127,7 @@ offset_bounds-stack-len g c =
 
 pub returns-then-len-eq0-clause-counted : goal.returns-then-len-eq0-clause-counted
 returns-then-len-eq0-clause-counted g c =
-    few_below c.requires.well_formed c.args.labels.now c.args.limit c.requires.ascending c.steps.invariant.0
+    few_below c.requires.well_formed c.args.links.now.labels c.args.limit c.requires.ascending c.steps.invariant.0
 
 pub steps-preserved-then-index-end : goal.steps-preserved-then-index-end
 steps-preserved-then-index-end g c =
@@ -144,15 +144,9 @@ look-v-requires g c =
     let here : g.Ix.IndexType.number c.steps.e ≢ g.Ix.IndexType.greatest = λ h. c.if-index-end.false cc in
     edge_here c.requires.well_formed c.steps.invariant.0 here
 
-pub offset_bounds-labels-i : goal.offset_bounds-labels-i
-offset_bounds-labels-i g c =
-    let within : c.index-i.result < length c.args.labels.now =
-    omega (arith, v_placed g (goal.at.offset_bounds-labels-i g c).After-look-v, c.index-i.ensures.value) in
-    search rules
-
-pub bounds-labels-i : goal.bounds-labels-i
-bounds-labels-i g c =
-    omega (arith, v_placed g (goal.at.bounds-labels-i g c).After-look-v, c.index-i.ensures.value)
+pub label-requires : goal.label-requires
+label-requires g c =
+    omega (arith, v_placed g (goal.at.label-requires g c).After-look-v, c.index-i.ensures.value)
 
 pub is_marked-requires : goal.is_marked-requires
 is_marked-requires g c =
@@ -206,7 +200,7 @@ returns-then-i-target-clause-decided g c =
 pub returns-then-i-target-clause-counted : goal.returns-then-i-target-clause-counted
 returns-then-i-target-clause-counted g c =
     λ ns all.
-    looked_below c.requires.well_formed c.args.labels.now c.args.limit c.requires.ascending c.steps.invariant.0 ns all
+    looked_below c.requires.well_formed c.args.links.now.labels c.args.limit c.requires.ascending c.steps.invariant.0 ns all
     (here g (goal.at.returns-then-i-target-clause-counted g c).After-look-v) c.look-v.ensures.counted
 
 pub steps-smaller-then-not-is_marked : goal.steps-smaller-then-not-is_marked
@@ -224,8 +218,8 @@ steps-smaller g c =
 pub steps-preserved-then-not-is_marked : goal.steps-preserved-then-not-is_marked
 steps-preserved-then-not-is_marked g c =
     let at = goal.at.steps-preserved-then-not-is_marked g c in
-    let low : get_or c.args.labels.now (g.Ix.IndexType.number c.look-v.result.0) 0 < c.args.limit =
-    rw (← c.index-i.ensures.value) c.if-labels-i.true in
+    let low : get_or c.args.links.now.labels (g.Ix.IndexType.number c.look-v.result.0) 0 < c.args.limit =
+    rw (← c.index-i.ensures.value) (omega (arith, c.label.ensures, c.if-label-limit.true)) in
     let s =
     pushes c.requires.well_formed c.steps.invariant.0 (here g at.After-look-v) c.look-v.ensures.gives
     c.look-v.ensures.same c.look-v.ensures.counted c.index-i.ensures.value low (unseen g at.Then-not-is_marked) in
@@ -249,8 +243,8 @@ steps-preserved-else-not-is_marked g c =
 pub steps-preserved : goal.steps-preserved
 steps-preserved g c =
     let at = goal.at.steps-preserved g c in
-    let high : c.args.limit ≤ get_or c.args.labels.now (g.Ix.IndexType.number c.look-v.result.0) 0 =
-    rw (← c.index-i.ensures.value) c.if-labels-i.false in
+    let high : c.args.limit ≤ get_or c.args.links.now.labels (g.Ix.IndexType.number c.look-v.result.0) 0 =
+    rw (← c.index-i.ensures.value) (omega (arith, c.label.ensures, c.if-label-limit.false)) in
     let apart : g.Ix.IndexType.number c.look-v.result.0 ≢ g.Ix.IndexType.number c.args.to = λ h.
     c.if-i-target.false (c.index-i.ensures.value ∙ h ∙ sym c.index-target.ensures.value) in (
       moves_on c.requires.well_formed c.steps.invariant.0 (here g at.After-look-v) c.look-v.ensures.gives

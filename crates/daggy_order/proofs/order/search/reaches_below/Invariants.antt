@@ -5,7 +5,7 @@ use Rattle.daggy_order.proofs.order.search.reaches_below.Given as goal
 
 abbrev pub invariant-steps : goal.invariant-steps
 invariant-steps g l =
-    SearchingBelow g.Ix.IndexType.greatest l.labels l.limit (g.Ix.IndexType.number l.fn.to) record {
+    SearchingBelow g.Ix.IndexType.greatest l.links.labels l.limit (g.Ix.IndexType.number l.fn.to) record {
       graph = g.S.EdgeSource.graph l.fn.source;
       from = g.Ix.IndexType.number l.fn.from;
       marks = length l.fn.marks;

@@ -1,14 +1,14 @@
 use Rattle.std.proofs.Common.{◌≡◌, ◌-◌, ◌+◌, ℕ, List, [], ◌∷◌, ◌++◌, sym, ap, ◌∙◌, arith}
 use Rattle.std.specs.List.{range_with_len}
 use Rattle.daggy_base.proofs.Lists.{mem_contains}
-use Rattle.daggy_labels.specs.Links.{last_nodes}
-use Rattle.daggy_labels.proofs.OrderSteps.{at_in, at_rest, at_next}
-use Rattle.daggy_labels.proofs.Tails.{few_none, turn_first}
+use Rattle.daggy_order.specs.Links.{last_nodes}
+use Rattle.daggy_order.proofs.OrderSteps.{at_in, at_rest, at_next}
+use Rattle.daggy_order.proofs.Tails.{few_none, turn_first}
 use Rattle.daggy_order.proofs.order.nodes.NodesIterator.next.Goals as goal
 
 pub next-self-inside-requires : goal.next-self-inside-requires
 next-self-inside-requires g c =
-    mem_contains c.self.inside.written.now.nodes c.self.inside.at (at_in c.self.invariant.written c.if-self-eq0.false)
+    mem_contains c.self.inside.list.now.nodes c.self.inside.at (at_in c.self.invariant.written c.if-self-eq0.false)
 
 pub invariant_of-self : goal.invariant_of-self
 invariant_of-self g c =
@@ -29,7 +29,7 @@ invariant_of-self-2 g c =
 
 pub returns-then-self-eq0-clause-steps : goal.returns-then-self-eq0-clause-steps
 returns-then-self-eq0-clause-steps g c =
-    let nodes : List ℕ = c.self.inside.written.now.nodes in
+    let nodes : List ℕ = c.self.inside.list.now.nodes in
     let ahead : List ℕ = range_with_len (c.self.inside.from + 1) (c.self.inside.count - 1) in
     let none : last_nodes c.self.inside.left nodes ≡ [] = few_none nodes c.self.inside.left c.if-self-eq0.true in
     sym c.self.view_is
@@ -43,5 +43,5 @@ returns-clause-steps g c =
     sym c.self.view_is
     ∙ (ap (λ (z : List ℕ). z ++ range_with_len c.self.inside.from c.self.inside.count)
     (at_rest c.self.invariant.written c.if-self-eq0.false)
-    ∙ ap (λ (z : ℕ). z ∷ (last_nodes (c.self.inside.left - 1) c.self.inside.written.now.nodes ++ range_with_len
+    ∙ ap (λ (z : ℕ). z ∷ (last_nodes (c.self.inside.left - 1) c.self.inside.list.now.nodes ++ range_with_len
     c.self.inside.from c.self.inside.count)) (sym c.node.ensures.value))

@@ -1,9 +1,0 @@
-pub mod Sorted
-pub mod ListParts
-pub mod Chains
-pub mod LinkedNodes
-pub mod AscendingLabels
-pub mod Labelled
-pub mod MovedNodes
-pub mod OrderSteps
-pub mod Tails

@@ -1,5 +1,0 @@
-use Rattle.daggy_labels.proofs.OrderSteps.{GoingOn}
-use Rattle.daggy_labels.proofs.written.Written.at.Given as goal
-
-abbrev pub invariant-nodes : goal.invariant-nodes
-invariant-nodes g l = GoingOn g.Ix.IndexType.greatest l.self-inside.links.nodes l.at l._i

@@ -1,0 +1,23 @@
+use Rattle.std.proofs.Common.{ℕ, List, subst, ap, ◌∙◌}
+use Rattle.std.specs.List.{Contains}
+use Rattle.daggy_order.specs.Links.{Stored}
+use Rattle.daggy_order.proofs.Labelled.{labelled_grown}
+use Rattle.daggy_order.proofs.list.LabeledList.push.Goals as goal
+
+pub invariant_of-self : goal.invariant_of-self
+invariant_of-self g c =
+    labelled_grown c.self.invariant c.make_room.new.self.labels c.make_room.new.self.nodes c.make_room.ensures.nodes
+    c.make_room.ensures.labels
+
+pub put_last-requires-clause-labelled : goal.put_last-requires-clause-labelled
+put_last-requires-clause-labelled g c =
+    labelled_grown c.self.invariant c.make_room.new.self.labels c.make_room.new.self.nodes c.make_room.ensures.nodes
+    c.make_room.ensures.labels
+
+pub put_last-requires-clause-absent : goal.put_last-requires-clause-absent
+put_last-requires-clause-absent g c =
+    let P : List ℕ → Type 0 = λ z. Contains z (g.Ix.IndexType.number c.args.n) in
+    let Q : ℕ → Type 0 = λ z. Contains c.make_room.new.self.nodes z in
+    λ h.
+    c.requires.absent
+    (subst P (c.make_room.ensures.nodes ∙ ap (λ (z : Stored). z.nodes) c.self.view_is) (subst Q c.of_node.ensures h))
