@@ -10,7 +10,7 @@ use Rattle.daggy_base.specs.Iterating.{numbered}
 use Rattle.daggy_base.specs.Orders.{lists_by_slots}
 use Rattle.daggy_document.specs.Document.{whole, listed, wholes, row_of, document_of, IsEntry}
 use Rattle.daggy_document.specs.Reading.{Parts, parts_in, array_in, whole_in, all_in, numbers_in, pair_in, orders_in}
-use Rattle.daggy_document.specs.Reading.{triple_in, ReadsEach, IsWeight, IsEntryRead, HasEnds}
+use Rattle.daggy_document.specs.Reading.{triple_in, ReadsEach, IsEntryRead, HasEnds}
 use Rattle.daggy_base.specs.Mapping.{weight_in, with_weight}
 use Rattle.daggy_document.specs.declared.error.ReadError.{ReadError}
 use Rattle.daggy_document.specs.declared.error.ReadError.TheVariants.{Shape, Property, Holes, Full, Weight, BadEndpoint}

@@ -26,7 +26,7 @@ use Rattle.daggy_base.proofs.Lists.{Contains-here, slice_get-take}
 use Rattle.daggy_base.proofs.EdgeTakenBack.{same_graph}
 use Rattle.daggy_base.proofs.Copies.{copy_same}
 use Rattle.daggy_document.specs.Document.{listed, row_of, holes_of, IsEntry, IsDocumentOf}
-use Rattle.daggy_document.specs.Reading.{Parts, parts_in, AreHoles, AreFew, AreSlots, IsLaidOut, ReadsEach, IsWeight}
+use Rattle.daggy_document.specs.Reading.{Parts, parts_in, AreHoles, AreFew, AreSlots, IsLaidOut, IsWeight}
 use Rattle.daggy_document.specs.Reading.{IsEntryRead, IsOrdered, IsTested, Then, IsLinked, IsFilled, IsRead}
 use Rattle.daggy_document.specs.Restoring.{ReadsOnly, trimmed, IsCopyAs, ReadsTo, CanBeRefused, HasRefused}
 use Rattle.daggy_document.specs.declared.error.ReadError.{ReadError}

@@ -1,6 +1,6 @@
 -- Slots up to the bound.
 use Rattle.std.proofs.Common.{◌≡◌, ℕ, zero, suc, ◌+◌, ◌≤◌, Option, Some, None, is_some, List, [], ◌∷◌, length, take}
-use Rattle.std.proofs.Common.{map, count_by, refl, sym, ap, ◌∙◌, arith}
+use Rattle.std.proofs.Common.{count_by, refl, arith}
 use Rattle.std.proofs.lemmas.List.{take_all}
 use Rattle.daggy_base.specs.Graph.{slot, bound_of, bound_step}
 use Rattle.daggy_base.specs.Iterating.{numbered}

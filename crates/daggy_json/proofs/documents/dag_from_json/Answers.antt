@@ -1,4 +1,4 @@
-use Rattle.std.proofs.Common.{◌≡◌, inl, inr, false, sym, subst, ◌∙◌}
+use Rattle.std.proofs.Common.{inl, inr, false, subst, ◌∙◌}
 use Rattle.std.proofs.lemmas.Result.{MatchResult-weaker}
 use Rattle.serde_json.specs.View.{view}
 use Rattle.daggy_document.specs.Weight.{ReadsAs}
