@@ -1,1 +1,2 @@
 pub mod ClearedWeights
+pub mod Texts

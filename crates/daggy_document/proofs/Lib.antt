@@ -11,5 +11,9 @@ pub mod OrderBounds
 pub mod Cycles
 pub mod GivenSlots
 pub mod TrimmedSlots
+pub mod CopiedSlots
+pub mod CopiedGraphs
 pub mod ReadAgain
 pub mod RestoredDag
+pub mod WrittenValues
+pub mod ReadBack

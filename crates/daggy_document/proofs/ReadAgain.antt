@@ -1,21 +1,21 @@
 -- What was written is read again, part by part.
 use Rattle.std.proofs.Common.{◌≡◌, ℕ, suc, ◌+◌, ◌<◌, Bool, true, Option, Some, None, IsSome, List, [], ◌∷◌, ◌++◌}
 use Rattle.std.proofs.Common.{length, map, slice_get, refl, sym, ap, subst, ◌∙◌, arith}
-use Rattle.std.specs.Prelude.{Result, Ok, Err, option_and_then, codes}
+use Rattle.std.specs.Prelude.{Result, Ok, Err, MatchResult, Contains, option_and_then, codes}
 use Rattle.std.specs.Option.{option_map}
 use Rattle.std.specs.List.{AllZip}
-use Rattle.std.proofs.lemmas.Option.{none-some}
 use Rattle.serde_json.specs.Data.{Data, null}
 use Rattle.daggy_base.specs.Graph.{Graph, Edge, slot, out_list, in_list}
 use Rattle.daggy_base.specs.Iterating.{numbered}
 use Rattle.daggy_base.specs.Orders.{lists_by_slots}
 use Rattle.daggy_document.specs.Document.{whole, listed, wholes, row_of, document_of, IsEntry}
 use Rattle.daggy_document.specs.Reading.{Parts, parts_in, array_in, whole_in, all_in, numbers_in, pair_in, orders_in}
-use Rattle.daggy_document.specs.Reading.{triple_in, ReadsEach, IsWeight, IsEntryRead, HasEnds}
-use Rattle.daggy_document.specs.Restoring.{ReadsOnly}
+use Rattle.daggy_document.specs.Reading.{triple_in, ReadsEach, IsEntryRead, HasEnds}
+use Rattle.daggy_base.specs.Mapping.{weight_in, with_weight}
 use Rattle.daggy_document.specs.declared.error.ReadError.{ReadError}
 use Rattle.daggy_document.specs.declared.error.ReadError.TheVariants.{Shape, Property, Holes, Full, Weight, BadEndpoint}
 use Rattle.daggy_document.specs.declared.error.ReadError.TheVariants.{Orders, Cycle, Memory}
+use Rattle.daggy_document.proofs.CopiedSlots.{SlotAs}
 use Rattle.daggy_document.proofs.FoundParts.{list_of-items_of}
 use Rattle.daggy_document.proofs.MarkedLists.{row}
 
@@ -80,33 +80,37 @@ parts_again entries holes weights orders =
 
 -- ---- one after another
 
--- where each is read as what it was written from, so are all
-module _ {A : Type 0} (reads : Data → Result A ReadError → Type 0) (stands : A → Data → Type 0)
-    (only : (x : A) (d : Data) (r : Result A ReadError) → stands x d → reads d r → r ≡ Ok x) where
-  each_ok : (xs : List A) (ds : List Data) (ys : List A)
-      → AllZip stands xs ds → AllZip (λ d y. reads d (Ok y)) ds ys → ys ≡ xs
-  each_ok [] [] [] w r = refl
+-- Each is read as what may be read of it. If not, one of them is at fault.
+module _ {A B : Type 0} (reads : Data → Result B ReadError → Type 0) (stands : A → Data → Type 0) where
+  abbrev pub ReadsThrough : A → Result B ReadError → Type 0
+  ReadsThrough x r = (d : Data) × stands x d × reads d r
+
+  each_ok : (xs : List A) (ds : List Data) (ys : List B) → AllZip stands xs ds → AllZip (λ d y. reads d (Ok y)) ds ys
+      → AllZip (λ x y. ReadsThrough x (Ok y)) xs ys
+  each_ok [] [] [] w r = tt
   each_ok [] [] (y ∷ ys) w r = absurd r
   each_ok [] (d ∷ ds) ys w r = absurd w
   each_ok (x ∷ xs) [] ys w r = absurd w
   each_ok (x ∷ xs) (d ∷ ds) [] w r = absurd r
-  each_ok (x ∷ xs) (d ∷ ds) (y ∷ ys) w r =
-      let same : Ok y ≡ Ok x = only x d (Ok y) w.0 r.0 in
-      let head : y ≡ x = cc in
-      ap (λ k. k ∷ ys) head ∙ ap (λ k. x ∷ k) (each_ok xs ds ys w.1 r.1)
+  each_ok (x ∷ xs) (d ∷ ds) (y ∷ ys) w r = ((d, w.0, r.0), each_ok xs ds ys w.1 r.1)
 
-  none_err : (xs : List A) (before : List Data) (at : Data) (after : List Data) (e : ReadError)
-      → AllZip stands xs (before ++ at ∷ after) → reads at (Err e) → ⊥
-  none_err [] [] at after e w r = w
-  none_err [] (d ∷ before) at after e w r = w
-  none_err (x ∷ xs) [] at after e w r = let bad : Err e ≡ Ok x = only x at (Err e) w.0 r in cc
-  none_err (x ∷ xs) (d ∷ before) at after e w r = none_err xs before at after e w.1 r
+  one_err : (xs : List A) (before : List Data) (at : Data) (after : List Data) (e : ReadError)
+      → AllZip stands xs (before ++ at ∷ after) → reads at (Err e) → (x : A) × Contains xs x × ReadsThrough x (Err e)
+  one_err [] [] at after e w r = absurd w
+  one_err [] (d ∷ before) at after e w r = absurd w
+  one_err (x ∷ xs) [] at after e w r = (x, (0, omega arith, refl), (at, w.0, r))
+  one_err (x ∷ xs) (d ∷ before) at after e w r =
+      let more = one_err xs before at after e w.1 r in
+      let within = more.1.1 in
+      (more.0, (suc more.1.0, omega (arith, within), more.1.2), more.2)
 
-  pub each_only : (xs : List A) (ds : List Data) (r : Result (List A) ReadError)
-      → AllZip stands xs ds → ReadsEach reads ds r → r ≡ Ok xs
-  each_only xs ds (Ok ys) w r = ap Ok (each_ok xs ds ys w r)
-  each_only xs ds (Err e) w (before, at, after, ys, split, good, bad) =
-      absurd (none_err xs before at after e (subst (AllZip stands xs) split w) bad)
+  pub each_read : (xs : List A) (ds : List Data) (r : Result (List B) ReadError)
+      → AllZip stands xs ds → ReadsEach reads ds r
+      → MatchResult r (λ ys. AllZip (λ x y. ReadsThrough x (Ok y)) xs ys)
+      (λ e. (x : A) × Contains xs x × ReadsThrough x (Err e))
+  each_read xs ds (Ok ys) w r = each_ok xs ds ys w r
+  each_read xs ds (Err e) w (before, at, after, ys, split, good, bad) =
+      one_err xs before at after e (subst (AllZip stands xs) split w) bad
 
 pub zip_both : {A B : Type 0} (R : A → B → Type 0) (P : A → Type 0) (xs : List A) (ys : List B)
     → AllZip R xs ys → ((i : ℕ) (x : A) → slice_get xs i ≡ Some x → P x) → AllZip (λ x y. R x y × P x) xs ys
@@ -117,29 +121,38 @@ zip_both R P (x ∷ xs) (y ∷ ys) w all = ((w.0, all 0 x refl), zip_both R P xs
 
 -- ---- a weight and an entry
 
-pub weight_only : {W : Type 0} (answers : Data → Option W → Type 0) (x : W) (d : Data) (r : Result W ReadError)
-    → ReadsOnly answers x d → IsWeight answers d r → r ≡ Ok x
-weight_only answers x d (Ok y) only says = let same : Some y ≡ Some x = only (Some y) says in
-    let e : y ≡ x = cc in ap Ok e
-weight_only answers x d (Err e) only says = absurd (none-some x (only None says.0))
+-- what is read of a value that stands for a weight
+abbrev pub Through : {W V : Type 0} → (weight_as : W → Data → Type 0) → (answers : Data → Option V → Type 0) → W → V → Type 0
+Through weight_as answers w v = (d : Data) × weight_as w d × answers d (Some v)
+
+-- a value that stands for one of these weights may be refused
+abbrev pub IsRefused : {W V : Type 0}
+    → (weight_as : W → Data → Type 0) → (answers : Data → Option V → Type 0) → List W → Type 0
+IsRefused {W} weight_as answers ws = (w : W) × Contains ws w × (d : Data) × weight_as w d × answers d None
 
 abbrev edge_with : {E : Type 0} → ℕ → ℕ → E → Option (Edge E)
 edge_with a b w = Some (record { parent = a; child = b; weight = w })
-
-same_edge : {E : Type 0} (a b c d : ℕ) (v w : E) → a ≡ c → b ≡ d → v ≡ w → edge_with a b v ≡ edge_with c d w
-same_edge a b c d v w e f h = ap (λ k. edge_with k b v) e ∙ ap (λ k. edge_with c k v) f ∙ ap (edge_with c d) h
 
 -- what an edge slot needs in order to be read
 abbrev pub CanBeRead : {N E : Type 0} → (stable : Bool) → List (Option N) → Option (Edge E) → Type 0
 CanBeRead stable nodes None = stable ≡ true
 CanBeRead stable nodes (Some x) = IsSome (slot nodes x.parent) × IsSome (slot nodes x.child)
 
-module _ {N E : Type 0} (stable : Bool) (nodes : List (Option N)) (answers : Data → Option E → Type 0) where
-  null_only : (d : Data) (r : Result (Option (Edge E)) ReadError)
-      → d ≡ null → stable ≡ true → IsEntryRead stable nodes answers d r → r ≡ Ok None
-  null_only d r is may says = go r (subst (λ k. IsEntryRead stable nodes answers k r) is says)
+module _ {N E F : Type 0} (stable : Bool) (nodes : List (Option N)) (weight_as : F → Data → Type 0)
+    (answers : Data → Option E → Type 0) where
+  -- the edge is there, and a value that stands for its weight may be refused
+  abbrev pub IsRefusedEdge : Option (Edge F) → Type 0
+  IsRefusedEdge x = (z : Edge F) × (x ≡ Some z) × (d : Data) × weight_as z.weight d × answers d None
+
+  abbrev pub EntryRead : Option (Edge F) → Result (Option (Edge E)) ReadError → Type 0
+  EntryRead x r =
+      MatchResult r (SlotAs (Through weight_as answers) weight_in with_weight x) (λ e. (e ≡ Weight) × IsRefusedEdge x)
+
+  null_read : (d : Data) (r : Result (Option (Edge E)) ReadError)
+      → d ≡ null → stable ≡ true → IsEntryRead stable nodes answers d r → EntryRead None r
+  null_read d r is may says = go r (subst (λ k. IsEntryRead stable nodes answers k r) is says)
     where
-      go : (r : Result (Option (Edge E)) ReadError) → IsEntryRead stable nodes answers null r → r ≡ Ok None
+      go : (r : Result (Option (Edge E)) ReadError) → IsEntryRead stable nodes answers null r → EntryRead None r
       go (Ok None) s = refl
       go (Ok (Some x)) s = let none : triple_in null ≡ None = refl in absurd cc
       go (Err Shape) s = absurd (s.1 (may, refl))
@@ -152,10 +165,10 @@ module _ {N E : Type 0} (stable : Bool) (nodes : List (Option N)) (answers : Dat
       go (Err Cycle) s = absurd s
       go (Err Memory) s = absurd s
 
-  edge_only : (x : Edge E) (w : Data) (r : Result (Option (Edge E)) ReadError)
-      → ReadsOnly answers x.weight w → HasEnds nodes (x.parent, x.child, w)
-      → IsEntryRead stable nodes answers (listed (whole x.parent ∷ whole x.child ∷ w ∷ [])) r → r ≡ Ok (Some x)
-  edge_only x w r only ends says = go r says
+  edge_read : (x : Edge F) (w : Data) (r : Result (Option (Edge E)) ReadError)
+      → weight_as x.weight w → HasEnds nodes (x.parent, x.child, w)
+      → IsEntryRead stable nodes answers (listed (whole x.parent ∷ whole x.child ∷ w ∷ [])) r → EntryRead (Some x) r
+  edge_read x w r stands ends says = go r says
     where
       triple_of : Option (ℕ × ℕ × Data)
       triple_of = Some (x.parent, x.child, w)
@@ -163,34 +176,35 @@ module _ {N E : Type 0} (stable : Bool) (nodes : List (Option N)) (answers : Dat
       found : triple_in (listed (whole x.parent ∷ whole x.child ∷ w ∷ [])) ≡ triple_of
       found = refl
 
-      one_edge : (p q : ℕ) (v : E) (a : Data)
-          → triple_of ≡ Some (p, q, a) → answers a (Some v) → edge_with p q v ≡ Some x
+      one_edge : (p q : ℕ) (v : E) (a : Data) → triple_of ≡ Some (p, q, a) → answers a (Some v)
+          → SlotAs (Through weight_as answers) weight_in with_weight (Some x)
+          (Some (record { parent = p; child = q; weight = v }))
       one_edge p q v a e s =
           let old : ℕ × ℕ × Data = (x.parent, x.child, w) in
           let new : ℕ × ℕ × Data = (p, q, a) in
           let whole_is : old ≡ new = cc in
-          let data_is : w ≡ a = ap (λ (t : ℕ × ℕ × Data). t.2) whole_is in
           let P : Data → Type 0 = λ k. answers k (Some v) in
-          let weight_is : Some v ≡ Some x.weight = only (Some v) (subst P (sym data_is) s) in
           let parent : p ≡ x.parent = ap (λ (t : ℕ × ℕ × Data). t.0) (sym whole_is) in
-          let child : q ≡ x.child = ap (λ (t : ℕ × ℕ × Data). t.1) (sym whole_is) in
-          let weight : v ≡ x.weight = cc in
-          same_edge p q x.parent x.child v x.weight parent child weight
+          let child : q ≡ x.child = ap (λ (t : ℕ × ℕ × Data). t.1) (sym whole_is) in (
+            v,
+            (w, stands, subst P (ap (λ (t : ℕ × ℕ × Data). t.2) (sym whole_is)) s),
+            ap (λ k. edge_with k q v) parent ∙ ap (λ k. edge_with x.parent k v) child,
+          )
 
       go : (r : Result (Option (Edge E)) ReadError)
-          → IsEntryRead stable nodes answers (listed (whole x.parent ∷ whole x.child ∷ w ∷ [])) r → r ≡ Ok (Some x)
+          → IsEntryRead stable nodes answers (listed (whole x.parent ∷ whole x.child ∷ w ∷ [])) r
+          → EntryRead (Some x) r
       go (Ok None) s = absurd (let bad = s.1 in cc)
-      go (Ok (Some y)) s = ap Ok (one_edge y.parent y.child y.weight s.0 s.1 s.3)
+      go (Ok (Some y)) s = one_edge y.parent y.child y.weight s.0 s.1 s.3
       go (Err Shape) s = absurd (let bad = sym found ∙ s.0 in cc)
       go (Err BadEndpoint) s =
           absurd (let same : triple_of ≡ Some s.0 = sym found ∙ s.1 in let e : (x.parent, x.child, w) ≡ s.0 = cc in
           s.2 (subst (HasEnds nodes) e ends))
       go (Err Weight) s =
-          absurd (
           let same : triple_of ≡ Some s.0 = sym found ∙ s.1 in
           let whole_is : (x.parent, x.child, w) ≡ s.0 = cc in
           let P : Data → Type 0 = λ k. answers k None in
-          none-some x.weight (only None (subst P (sym (ap (λ (t : ℕ × ℕ × Data). t.2) whole_is)) s.3)))
+          (refl, (x, refl, w, stands, subst P (sym (ap (λ (t : ℕ × ℕ × Data). t.2) whole_is)) s.3))
       go (Err Property) s = absurd s
       go (Err Holes) s = absurd s
       go (Err Full) s = absurd s
@@ -198,11 +212,11 @@ module _ {N E : Type 0} (stable : Bool) (nodes : List (Option N)) (answers : Dat
       go (Err Cycle) s = absurd s
       go (Err Memory) s = absurd s
 
-  pub entry_only : (x : Option (Edge E)) (d : Data) (r : Result (Option (Edge E)) ReadError)
-      → IsEntry (ReadsOnly answers) x d × CanBeRead stable nodes x → IsEntryRead stable nodes answers d r → r ≡ Ok x
-  entry_only None d r w says = null_only d r w.0 w.1 says
-  entry_only (Some x) d r w says =
-      edge_only x w.0.0 r w.0.1 w.1 (subst (λ k. IsEntryRead stable nodes answers k r) w.0.2 says)
+  pub entry_read : (x : Option (Edge F)) (d : Data) (r : Result (Option (Edge E)) ReadError)
+      → IsEntry weight_as x d × CanBeRead stable nodes x → IsEntryRead stable nodes answers d r → EntryRead x r
+  entry_read None d r w says = null_read d r w.0 w.1 says
+  entry_read (Some x) d r w says =
+      edge_read x w.0.0 r w.0.1 w.1 (subst (λ k. IsEntryRead stable nodes answers k r) w.0.2 says)
 
 -- ---- lists by slots
 

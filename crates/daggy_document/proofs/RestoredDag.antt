@@ -6,36 +6,42 @@ use Rattle.std.specs.Prelude.{Result, Ok, Err, IfOk, IfErr, MatchOption, MatchRe
 use Rattle.std.specs.List.{AllZip}
 use Rattle.std.proofs.lemmas.Bool.{false≢true}
 use Rattle.std.proofs.lemmas.List.{length-map, length-take}
-use Rattle.std.proofs.lemmas.Option.{MatchOption-at_some}
+use Rattle.std.proofs.lemmas.Option.{MatchOption-at_some, same_Some, none-some}
+use Rattle.std.proofs.lemmas.Result.{MatchResult-weaker}
 use Rattle.std.proofs.lemmas.Simd.{map-map}
 use Rattle.std.proofs.lemmas.Slice.Zip.{AllZip-long}
 use Rattle.serde_json.specs.Data.{Data}
 use Rattle.daggy_base.specs.declared.index.Direction.{Direction}
 use Rattle.daggy_base.specs.declared.index.Direction.TheVariants.{Outgoing, Incoming}
-use Rattle.daggy_base.specs.Graph.{Graph, Edge, slot, HasNode, edge_at, out_list, in_list, list_at, near_end}
-use Rattle.daggy_base.specs.Graph.{node_bound, edge_bound, IsCompact}
+use Rattle.daggy_base.specs.Graph.{Graph, Edge, slot, HasNode, edge_at, list_at, near_end, node_bound, edge_bound}
+use Rattle.daggy_base.specs.Graph.{IsCompact}
 use Rattle.daggy_base.specs.WellFormed.{ListsEdges, IsWellFormed, IsDag}
-use Rattle.daggy_base.specs.Path.{IsPath, IsAcyclic}
-use Rattle.daggy_base.specs.Iterating.{numbered, node_identifiers, node_weights}
+use Rattle.daggy_base.specs.Path.{IsAcyclic}
+use Rattle.daggy_base.specs.Iterating.{numbered, node_identifiers, node_weights, edge_weights}
+use Rattle.daggy_base.specs.Mapping.{weight_in, with_weight}
 use Rattle.daggy_base.specs.FromSlots.{graph_of_slots, has_end}
 use Rattle.daggy_base.specs.Orders.{lists_by_slots, with_orders, IsOrder, AreOrders}
 use Rattle.daggy_base.proofs.FullSlots.{IsFull, full_from}
 use Rattle.daggy_base.proofs.Lists.{Contains-here, slice_get-take}
 use Rattle.daggy_base.proofs.EdgeTakenBack.{same_graph}
+use Rattle.daggy_base.proofs.Copies.{copy_same}
 use Rattle.daggy_document.specs.Document.{listed, row_of, holes_of, IsEntry, IsDocumentOf}
-use Rattle.daggy_document.specs.Reading.{Parts, parts_in, AreHoles, AreFew, AreSlots, IsLaidOut, ReadsEach, IsWeight}
+use Rattle.daggy_document.specs.Reading.{Parts, parts_in, AreHoles, AreFew, AreSlots, IsLaidOut, IsWeight}
 use Rattle.daggy_document.specs.Reading.{IsEntryRead, IsOrdered, IsTested, Then, IsLinked, IsFilled, IsRead}
-use Rattle.daggy_document.specs.Restoring.{ReadsOnly, trimmed}
+use Rattle.daggy_document.specs.Restoring.{ReadsOnly, trimmed, IsCopyAs, ReadsTo, CanBeRefused, HasRefused}
 use Rattle.daggy_document.specs.declared.error.ReadError.{ReadError}
 use Rattle.daggy_document.specs.declared.error.ReadError.TheVariants.{Shape, Property, Holes, Full, Weight, BadEndpoint}
 use Rattle.daggy_document.specs.declared.error.ReadError.TheVariants.{Orders, Cycle, Memory}
 use Rattle.daggy_document.proofs.NumberedSlots.{numbered_bounded}
 use Rattle.daggy_document.proofs.MarkedLists.{row}
 use Rattle.daggy_document.proofs.RearrangedLists.{slot_low, end_some, end_is, in_list_has, in_list_ends}
-use Rattle.daggy_document.proofs.TrimmedSlots.{slot_bounded, vacant_ascend, slots_split, numbered_count, same_slots}
+use Rattle.daggy_document.proofs.TrimmedSlots.{slot_bounded, vacant_ascend, slots_split, numbered_count}
 use Rattle.daggy_document.proofs.TrimmedSlots.{vacant_full, take_full, down_full}
-use Rattle.daggy_document.proofs.ReadAgain.{lists_of, orders_again, parts_again, each_only, zip_both, weight_only}
-use Rattle.daggy_document.proofs.ReadAgain.{CanBeRead, entry_only, rows_again}
+use Rattle.daggy_document.proofs.CopiedSlots.{AreCopied, SlotAs, copied_there, copied_length, copied_numbers, copied_down}
+use Rattle.daggy_document.proofs.CopiedSlots.{copied_after, copied_before, copied_zip, copied_nodes}
+use Rattle.daggy_document.proofs.CopiedGraphs.{acyclic_again, copy_acyclic, copy_weaker}
+use Rattle.daggy_document.proofs.ReadAgain.{lists_of, orders_again, parts_again, ReadsThrough, each_read, zip_both}
+use Rattle.daggy_document.proofs.ReadAgain.{Through, IsRefused, CanBeRead, entry_read, rows_again}
 
 -- ---- the front of a list
 
@@ -55,6 +61,15 @@ slot_is xs i x e = ap (option_and_then (λ z. z)) e
 nothing_in : (l : List ℕ) → ((e : ℕ) → Contains l e → ⊥) → l ≡ []
 nothing_in [] h = refl
 nothing_in (x ∷ l) h = absurd (h x (Contains-here x l))
+
+-- ---- lists side by side
+
+zip_weaker : {A B : Type 0} (R S : A → B → Type 0)
+    → ((x : A) (y : B) → R x y → S x y) → (xs : List A) (ys : List B) → AllZip R xs ys → AllZip S xs ys
+zip_weaker R S f [] [] z = z
+zip_weaker R S f [] (y ∷ ys) z = z
+zip_weaker R S f (x ∷ xs) [] z = z
+zip_weaker R S f (x ∷ xs) (y ∷ ys) z = (f x y z.0, zip_weaker R S f xs ys z.1)
 
 -- ---- the graph that is read
 
@@ -80,49 +95,12 @@ module _ {N E : Type 0} (limit : ℕ) (g : Graph N E) (w : IsWellFormed limit g)
   end_exists Incoming = w.children
 
   -- a vacant slot has no edges
-  empty_at : (dir : Direction) (n : ℕ) → slot kept n ≡ None → list_at dir g n ≡ []
+  empty_at : (dir : Direction) (n : ℕ) → is_some (slot kept n) ≡ false → list_at dir g n ≡ []
   empty_at dir n none =
       nothing_in (list_at dir g n) (λ e c.
       let x = ((of_side dir).exact n e).0 c in
       let there : HasNode g n = subst (HasNode g) x.2 (end_exists dir e x.0 x.1) in
-      false≢true (sym (ap is_some (sym (slot_bounded g.nodes n) ∙ none)) ∙ there))
-
-  -- the lists of one direction
-  module _ (lists : List (List ℕ)) (long : length lists ≡ length g.nodes) where
-    front_long : length (take (node_bound g) lists) ≡ length kept
-    front_long =
-        length-take (node_bound g) lists ∙ ap (min (node_bound g)) long ∙ sym (length-take (node_bound g) g.nodes)
-
-    front_row : (n : ℕ) → n < length kept → row (take (node_bound g) lists) n ≡ row lists n
-    front_row n low =
-        ap (λ o. unwrap_or o [])
-        (slice_get-take (node_bound g) lists n (omega (arith, low, length-take (node_bound g) g.nodes)))
-
-    rows_kept : ((n : ℕ) → slot kept n ≡ None → row lists n ≡ [])
-        → lists_by_slots kept (map (row lists) (map (λ p. p.0) (numbered 0 kept))) ≡ take (node_bound g) lists
-    rows_kept empty =
-        rows_again (row lists) 0 kept (take (node_bound g) lists) front_long
-        (λ k s.
-        ap (row lists) (let e : 0 + k ≡ k = omega arith in e)
-        ∙ sym (front_row k (slot_low Outgoing kept_edges kept kept k s)))
-        (λ k low none. front_row k low ∙ empty k none)
-
-  -- its lists and its slots, put together again
-  pub made_again : with_orders (graph_of_slots kept kept_edges) orders ≡ trimmed g
-  made_again =
-      let ids = map (λ p. p.0) (numbered 0 kept) in
-      same_graph (trimmed g) refl refl
-      (ap (lists_by_slots kept) (map-map (λ p. p.0) (lists_of g) ids)
-      ∙ rows_kept g.out_lists w.out_list_count (empty_at Outgoing))
-      (ap (lists_by_slots kept) (map-map (λ p. p.1) (lists_of g) ids)
-      ∙ rows_kept g.in_lists w.in_list_count (empty_at Incoming)) refl refl
-
-  list_again : (dir : Direction) (n : ℕ)
-      → n < length kept → list_at dir (with_orders (graph_of_slots kept kept_edges) orders) n ≡ list_at dir g n
-  list_again Outgoing n low =
-      ap (λ (h : Graph N E). out_list h n) made_again ∙ front_row g.out_lists w.out_list_count n low
-  list_again Incoming n low =
-      ap (λ (h : Graph N E). in_list h n) made_again ∙ front_row g.in_lists w.in_list_count n low
+      false≢true (sym none ∙ ap is_some (slot_bounded g.nodes n) ∙ there))
 
   edge_kept : (e : ℕ) (x : Edge E) → edge_at g e ≡ Some x → slot kept_edges e ≡ Some x
   edge_kept e x is = slot_bounded g.edges e ∙ is
@@ -130,35 +108,8 @@ module _ {N E : Type 0} (limit : ℕ) (g : Graph N E) (w : IsWellFormed limit g)
   edge_was : (e : ℕ) (x : Edge E) → slot kept_edges e ≡ Some x → edge_at g e ≡ Some x
   edge_was e x is = sym (slot_bounded g.edges e) ∙ is
 
-  pub orders_fit : AreOrders (graph_of_slots kept kept_edges) orders
-  orders_fit =
-      record {
-        count =
-            length-map (map (λ p. p.0) (numbered 0 kept)) (lists_of g) ∙ length-map (numbered 0 kept) (λ p. p.0)
-            ∙ numbered_count 0 kept;
-        each = λ dir n exists.
-            let low = slot_low dir kept_edges kept kept n exists in
-            subst (IsOrder (list_at dir (graph_of_slots kept kept_edges) n)) (sym (list_again dir n low)) (record {
-              exact = λ e. (
-                λ c. let x = ((of_side dir).exact n e).0 c in
-                    let P : ℕ → Type 0 = λ k. has_end dir kept_edges k e ≡ true in
-                    in_list_has dir kept_edges kept n e low
-                    (subst P x.2 (end_is dir kept_edges e x.0 (edge_kept e x.0 x.1))),
-                λ c. let x = end_some dir kept_edges n e (in_list_ends dir kept_edges kept n e low c) in
-                    ((of_side dir).exact n e).1 (x.0, edge_was e x.0 x.1, x.2),
-              );
-              once = (of_side dir).once n;
-            });
-      }
-
-  -- no path is new
-  path_was : (us : List ℕ) → IsPath (trimmed g) us → IsPath g us
-  path_was [] p = p
-  path_was (u ∷ []) p = is_node u p
-  path_was (u ∷ v ∷ us) p = (is_node u p.0, (p.1.0, p.1.1, edge_was p.1.0 _ p.1.2), path_was (v ∷ us) p.2)
-
-  pub trimmed_acyclic : IsAcyclic g → IsAcyclic (trimmed g)
-  trimmed_acyclic h u v rest p = h u v rest (path_was (u ∷ v ∷ rest) p)
+  trimmed_acyclic : IsAcyclic g → IsAcyclic (trimmed g)
+  trimmed_acyclic = acyclic_again g (trimmed g) is_node (λ u v j. (j.0, j.1, edge_was j.0 _ j.2))
 
   pub compact_same : IsCompact g → trimmed g ≡ g
   compact_same c =
@@ -169,28 +120,115 @@ module _ {N E : Type 0} (limit : ℕ) (g : Graph N E) (w : IsWellFormed limit g)
       (down_full kept (full_front (node_bound g) g.nodes full) ∙ sym c.nodes)
       (down_full kept_edges (full_front (edge_bound g) g.edges full_edges) ∙ sym c.edges)
 
-  -- each entry can be read
-  pub entries_fit : (stable : Bool) → (stable ≡ false → IsCompact g)
-      → (i : ℕ) (x : Option (Edge E)) → slice_get kept_edges i ≡ Some x → CanBeRead stable kept x
-  entries_fit true compact i None at = refl
-  entries_fit false compact i None at =
-      absurd (full_front (edge_bound g) g.edges
-      (full_from g.edges g.vacant_edges w.edge_slots (compact refl).edges) i at)
-  entries_fit stable compact i (Some x) at =
-      let there = edge_was i x (slot_is kept_edges i (Some x) at) in
-      (node_kept x.parent (w.parents i x there), node_kept x.child (w.children i x there))
-    where
-      node_kept : (n : ℕ) → HasNode g n → IsSome (slot kept n)
-      node_kept n s = subst (λ o. is_some o ≡ true) (sym (slot_bounded g.nodes n)) s
+  -- other weights in its slots
+  module _ {V W : Type 0} (node_as : N → V → Type 0) (edge_as : E → W → Type 0) (nodes : List (Option V))
+      (copied : AreCopied node_as (λ w. w) (λ w v. v) 0 kept nodes) where
+    there : (n : ℕ) → is_some (slot nodes n) ≡ is_some (slot kept n)
+    there = copied_there node_as (λ w. w) (λ w v. v) 0 kept nodes copied
 
--- ---- the stages, where nothing is at fault
+    long : length nodes ≡ length kept
+    long = copied_length node_as (λ w. w) (λ w v. v) 0 kept nodes copied
 
-then_ok : {A B : Type 0} (first : Result A ReadError → Type 0) (next : A → Result B ReadError → Type 0) (a : A)
-    (r : Result B ReadError)
-    → ((x : Result A ReadError) → first x → x ≡ Ok a) → Then first next r → next a r
-then_ok first next a r only t =
-    let P : Result _ ReadError → Type 0 = λ x. MatchResult x (λ y. next y r) (λ e. r ≡ Err e) in
-    subst P (only t.0 t.1) t.2
+    numbers : map (λ p. p.0) (numbered 0 nodes) ≡ map (λ p. p.0) (numbered 0 kept)
+    numbers = copied_numbers node_as (λ w. w) (λ w v. v) 0 kept nodes copied
+
+    node_kept : (n : ℕ) → HasNode g n → IsSome (slot nodes n)
+    node_kept n s = there n ∙ subst (λ o. is_some o ≡ true) (sym (slot_bounded g.nodes n)) s
+
+    -- each entry can be read
+    entries_fit : (stable : Bool) → (stable ≡ false → IsCompact g)
+        → (i : ℕ) (x : Option (Edge E)) → slice_get kept_edges i ≡ Some x → CanBeRead stable nodes x
+    entries_fit true compact i None at = refl
+    entries_fit false compact i None at =
+        absurd (full_front (edge_bound g) g.edges
+        (full_from g.edges g.vacant_edges w.edge_slots (compact refl).edges) i at)
+    entries_fit stable compact i (Some x) at =
+        let was = edge_was i x (slot_is kept_edges i (Some x) at) in
+        (node_kept x.parent (w.parents i x was), node_kept x.child (w.children i x was))
+
+    -- the lists of one direction
+    module _ (lists : List (List ℕ)) (count : length lists ≡ length g.nodes) where
+      front_long : length (take (node_bound g) lists) ≡ length nodes
+      front_long =
+          length-take (node_bound g) lists ∙ ap (min (node_bound g)) count ∙ sym (length-take (node_bound g) g.nodes)
+          ∙ sym long
+
+      front_row : (n : ℕ) → n < length nodes → row (take (node_bound g) lists) n ≡ row lists n
+      front_row n low =
+          ap (λ o. unwrap_or o [])
+          (slice_get-take (node_bound g) lists n (omega (arith, low, long, length-take (node_bound g) g.nodes)))
+
+      rows_kept : ((n : ℕ) → is_some (slot kept n) ≡ false → row lists n ≡ [])
+          → lists_by_slots nodes (map (row lists) (map (λ p. p.0) (numbered 0 kept))) ≡ take (node_bound g) lists
+      rows_kept empty =
+          ap (λ ns. lists_by_slots nodes (map (row lists) ns)) (sym numbers)
+          ∙ rows_again (row lists) 0 nodes (take (node_bound g) lists) front_long
+          (λ k s.
+          ap (row lists) (let e : 0 + k ≡ k = omega arith in e)
+          ∙ sym (front_row k (slot_low Outgoing kept_edges nodes nodes k s)))
+          (λ k low none. front_row k low ∙ empty k (sym (there k) ∙ ap is_some none))
+
+    module _ (edges : List (Option (Edge W))) (copied_edges : AreCopied edge_as weight_in with_weight 0 kept_edges edges) where
+      -- its slots and its lists, put together again
+      abbrev made : Graph V W
+      made = with_orders (graph_of_slots nodes edges) orders
+
+      pub made_copy : IsCopyAs node_as edge_as (trimmed g) made
+      made_copy =
+          let ids = map (λ p. p.0) (numbered 0 kept) in
+          record {
+            nodes = copied;
+            edges = copied_edges;
+            out_lists =
+                ap (lists_by_slots nodes) (map-map (λ p. p.0) (lists_of g) ids)
+                ∙ rows_kept g.out_lists w.out_list_count (empty_at Outgoing);
+            in_lists =
+                ap (lists_by_slots nodes) (map-map (λ p. p.1) (lists_of g) ids)
+                ∙ rows_kept g.in_lists w.in_list_count (empty_at Incoming);
+            vacant_nodes = copied_down node_as (λ w. w) (λ w v. v) 0 kept nodes copied;
+            vacant_edges = copied_down edge_as weight_in with_weight 0 kept_edges edges copied_edges;
+          }
+
+      pub made_acyclic : IsAcyclic g → IsAcyclic made
+      made_acyclic h = copy_acyclic node_as edge_as (trimmed g) made made_copy (trimmed_acyclic h)
+
+      list_again : (dir : Direction) (n : ℕ) → n < length nodes → list_at dir made n ≡ list_at dir g n
+      list_again Outgoing n low =
+          ap (λ l. row l n) made_copy.out_lists ∙ front_row g.out_lists w.out_list_count n low
+      list_again Incoming n low = ap (λ l. row l n) made_copy.in_lists ∙ front_row g.in_lists w.in_list_count n low
+
+      near_again : (dir : Direction) (x : Edge E) (v : W) → near_end dir (with_weight x v) ≡ near_end dir x
+      near_again Outgoing x v = refl
+      near_again Incoming x v = refl
+
+      pub orders_fit : AreOrders (graph_of_slots nodes edges) orders
+      orders_fit =
+          record {
+            count =
+                length-map (map (λ p. p.0) (numbered 0 kept)) (lists_of g) ∙ ap length (sym numbers)
+                ∙ length-map (numbered 0 nodes) (λ p. p.0) ∙ numbered_count 0 nodes;
+            each = λ dir n exists.
+                let low = slot_low dir edges nodes nodes n exists in
+                subst (IsOrder (list_at dir (graph_of_slots nodes edges) n)) (sym (list_again dir n low)) (record {
+                  exact = λ e. (
+                    λ c. let x = ((of_side dir).exact n e).0 c in
+                        let y =
+                        copied_after edge_as weight_in with_weight 0 kept_edges edges copied_edges e x.0
+                        (edge_kept e x.0 x.1) in
+                        let P : ℕ → Type 0 = λ k. has_end dir edges k e ≡ true in
+                        in_list_has dir edges nodes n e low
+                        (subst P (near_again dir x.0 y.0 ∙ x.2) (end_is dir edges e (with_weight x.0 y.0) y.2)),
+                    λ c. let y = end_some dir edges n e (in_list_ends dir edges nodes n e low c) in
+                        let x =
+                        copied_before edge_as weight_in with_weight 0 kept_edges edges copied_edges e y.0 y.1 in
+                        ((of_side dir).exact n e).1
+                        (x.0, edge_was e x.0 x.2, sym (near_again dir x.0 x.1) ∙ ap (near_end dir) x.3 ∙ y.2),
+                  );
+                  once = (of_side dir).once n;
+                });
+          }
+
+-- ---- the stages
 
 no_layout_fault : (limit : ℕ) (stable : Bool) (p : Parts) → p.property ≡ codes "directed" → AreHoles stable p
     → AreFew limit p → (fault : Option ReadError) → IsLaidOut limit stable p fault → fault ≡ None
@@ -205,135 +243,266 @@ no_layout_fault limit stable p directed holes few (Some Orders) s = absurd s
 no_layout_fault limit stable p directed holes few (Some Cycle) s = absurd s
 no_layout_fault limit stable p directed holes few (Some Memory) s = absurd s
 
-module _ {N E : Type 0} (limit : ℕ) (stable : Bool) (node_answers : Data → Option N → Type 0) (edge_answers : Data
-    → Option E → Type 0) (g : Graph N E) (dag : IsDag limit g) (compact : stable ≡ false → IsCompact g) where
-  tested : (r : Result (Graph N E) ReadError) → IsTested (trimmed g) r → r ≡ Ok (trimmed g)
-  tested (Ok h) s = ap Ok s.1
-  tested (Err e) s = absurd (s.0 (trimmed_acyclic limit g dag.well_formed dag.acyclic))
+-- the slots that are left of the edges hold no others
+edge_weight_in : {E : Type 0} (n i : ℕ) (xs : List (Option (Edge E))) (z : Edge E)
+    → Contains (take n xs) (Some z) → Contains (map (λ p. p.1.weight) (numbered i xs)) z.weight
+edge_weight_in zero i xs z c = let within = c.1 in absurd (omega (arith, within))
+edge_weight_in (suc n) i [] z c = let within = c.1 in absurd (omega (arith, within))
+edge_weight_in (suc n) i (None ∷ xs) z (zero, low, is) = absurd (none-some z is)
+edge_weight_in (suc n) i (None ∷ xs) z (suc k, low, is) =
+    edge_weight_in n (i + 1) xs z (k, omega (arith, low), is)
+edge_weight_in {E} (suc n) i (Some y ∷ xs) z (zero, low, is) =
+    (0, omega arith, ap (λ (x : Edge E). x.weight) (same_Some y z is))
+edge_weight_in (suc n) i (Some y ∷ xs) z (suc k, low, is) =
+    let more = edge_weight_in n (i + 1) xs z (k, omega (arith, low), is) in
+    let within = more.1 in
+    (suc more.0, omega (arith, within), more.2)
 
-  abbrev again : Graph N E
-  again = graph_of_slots (kept limit g dag.well_formed) (kept_edges limit g dag.well_formed)
+module _ {M F N E : Type 0} (limit : ℕ) (stable : Bool) (node_as : M → Data → Type 0) (edge_as : F → Data → Type 0)
+    (node_answers : Data → Option N → Type 0) (edge_answers : Data → Option E → Type 0) (g : Graph M F)
+    (dag : IsDag limit g) (compact : stable ≡ false → IsCompact g) (d : Data) (doc : IsDocumentOf node_as edge_as g d) where
+  abbrev weights_read : M → N → Type 0
+  weights_read = Through node_as node_answers
 
-  ordered_again : (x : Result (Graph N E) ReadError)
-      → IsOrdered again (Some (listed (map (row_of g) (map (λ p. p.0) (numbered 0 (kept limit g dag.well_formed)))))) x
-      → x ≡ Ok (trimmed g)
-  ordered_again (Ok h) s =
-      let read : Some s.0 ≡ Some (orders limit g dag.well_formed) = sym s.1 ∙ orders_again g _ in
-      let same : s.0 ≡ orders limit g dag.well_formed = cc in
-      ap Ok (s.3 ∙ ap (with_orders again) same ∙ made_again limit g dag.well_formed)
-  ordered_again (Err e) s =
-      absurd (s.0 (orders limit g dag.well_formed) (orders_again g _) (orders_fit limit g dag.well_formed))
+  abbrev edge_weights_read : F → E → Type 0
+  edge_weights_read = Through edge_as edge_answers
 
-  module _ (d : Data) (doc : IsDocumentOf (ReadsOnly node_answers) (ReadsOnly edge_answers) g d) where
-    abbrev part : Parts
-    part = record {
-      nodes = doc.weights;
-      holes = holes_of g;
-      property = codes "directed";
-      edges = doc.entries;
-      orders = Some (listed (map (row_of g) (node_identifiers g)));
-    }
+  abbrev left : List (Option M)
+  left = kept limit g dag.well_formed
 
-    few_slots : length doc.weights + length (holes_of g) ≡ length (kept limit g dag.well_formed)
-    few_slots =
-        let many = AllZip-long (ReadsOnly node_answers) (node_weights g) doc.weights doc.nodes in
-        omega (
+  abbrev left_edges : List (Option (Edge F))
+  left_edges = kept_edges limit g dag.well_formed
+
+  -- the graph with what may be read of its weights, or one that may be refused
+  abbrev pub IsReadAgain : Result (Graph N E) ReadError → Type 0
+  IsReadAgain r =
+      MatchResult r (IsCopyAs weights_read edge_weights_read (trimmed g))
+      (λ e. (e ≡ Weight)
+      × (IsRefused node_as node_answers (node_weights g) ⊎ IsRefused edge_as edge_answers (edge_weights g)))
+
+  abbrev part : Parts
+  part = record {
+    nodes = doc.weights;
+    holes = holes_of g;
+    property = codes "directed";
+    edges = doc.entries;
+    orders = Some (listed (map (row_of g) (node_identifiers g)));
+  }
+
+  few_slots : length doc.weights + length (holes_of g) ≡ length left
+  few_slots =
+      let many = AllZip-long node_as (node_weights g) doc.weights doc.nodes in
+      omega (
+        arith,
+        many,
+        length-map (numbered 0 g.nodes) (λ p. p.1),
+        ap length (numbered_bounded 0 g.nodes),
+        slots_split 0 left,
+      )
+
+  laid_out : (fault : Option ReadError) → IsLaidOut limit stable part fault → fault ≡ None
+  laid_out =
+      no_layout_fault limit stable part refl (record {
+        ascend =
+            vacant_ascend 0 (length doc.weights + length (holes_of g)) left (omega (arith, few_slots));
+        none = λ e.
+            vacant_full 0 left (full_front (node_bound g) g.nodes
+            (full_from g.nodes g.vacant_nodes dag.well_formed.node_slots (compact e).nodes));
+      }) (record {
+        nodes = omega (arith, few_slots, length-take (node_bound g) g.nodes, dag.well_formed.few_nodes);
+        edges = omega (
           arith,
-          many,
-          length-map (numbered 0 g.nodes) (λ p. p.1),
-          ap length (numbered_bounded 0 g.nodes),
-          slots_split 0 (kept limit g dag.well_formed),
-        )
+          AllZip-long (IsEntry edge_as) left_edges doc.entries doc.edges,
+          length-take (edge_bound g) g.edges,
+          dag.well_formed.few_edges,
+        );
+      })
 
-    laid_out : (fault : Option ReadError) → IsLaidOut limit stable part fault → fault ≡ None
-    laid_out =
-        no_layout_fault limit stable part refl (record {
-          ascend =
-              vacant_ascend 0 (length doc.weights + length (holes_of g)) (kept limit g dag.well_formed)
-              (omega (arith, few_slots));
-          none = λ e.
-              vacant_full 0 (kept limit g dag.well_formed) (full_front (node_bound g) g.nodes
-              (full_from g.nodes g.vacant_nodes dag.well_formed.node_slots (compact e).nodes));
-        }) (record {
-          nodes = omega (arith, few_slots, length-take (node_bound g) g.nodes, dag.well_formed.few_nodes);
-          edges = omega (
-            arith,
-            AllZip-long (IsEntry (ReadsOnly edge_answers)) (kept_edges limit g dag.well_formed) doc.entries doc.edges,
-            length-take (edge_bound g) g.edges,
-            dag.well_formed.few_edges,
-          );
-        })
+  module _ (nodes : List (Option N)) (copied : AreCopied weights_read (λ w. w) (λ w v. v) 0 left nodes) where
+    -- the orders and the test for a cycle
+    ordered : (edges : List (Option (Edge E))) → AreCopied edge_weights_read weight_in with_weight 0 left_edges edges
+        → (r : Result (Graph N E) ReadError)
+        → Then (IsOrdered (graph_of_slots nodes edges) part.orders) IsTested r → IsReadAgain r
+    ordered edges copied_edges r t =
+        let Q : Option Data → Type 0 = λ o. IsOrdered (graph_of_slots nodes edges) o t.0 in go t.0 (subst Q ids t.1) t.2
+      where
+        whole_orders : List (List ℕ × List ℕ)
+        whole_orders = orders limit g dag.well_formed
 
-    slots_again : (nodes : List (Option N))
-        → AreSlots nodes (holes_of g) (node_weights g) → nodes ≡ kept limit g dag.well_formed
-    slots_again nodes s =
-        same_slots 0 nodes (kept limit g dag.well_formed) s.vacant
-        (s.given ∙ ap (map (λ p. p.1)) (sym (numbered_bounded 0 g.nodes)))
+        rows : Option Data
+        rows = Some (listed (map (row_of g) (map (λ p. p.0) (numbered 0 left))))
 
-    linked : (nodes : List (Option N)) → nodes ≡ kept limit g dag.well_formed → (r : Result (Graph N E) ReadError)
-        → IsLinked limit stable node_answers edge_answers part nodes r → r ≡ Ok (trimmed g)
-    linked nodes same r s =
-        let ks = kept limit g dag.well_formed in
-        let es = kept_edges limit g dag.well_formed in
-        let Entry : Option (Edge E) → Data → Type 0 = λ x k.
-        IsEntry (ReadsOnly edge_answers) x k × CanBeRead stable ks x in
-        let P : List (Option N) → Type 0 = λ k. IsLinked limit stable node_answers edge_answers part k r in
-        let written : AllZip Entry es doc.entries =
-        zip_both (IsEntry (ReadsOnly edge_answers)) (CanBeRead stable ks) es doc.entries doc.edges
-        (entries_fit limit g dag.well_formed stable compact) in
-        let rows : Option Data = Some (listed (map (row_of g) (map (λ p. p.0) (numbered 0 ks)))) in
-        let ids : part.orders ≡ rows =
-        ap (λ k. Some (listed (map (row_of g) (map (λ p. p.0) k)))) (sym (numbered_bounded 0 g.nodes)) in
-        let after : Then (IsOrdered again part.orders) IsTested r =
-        then_ok (ReadsEach (IsEntryRead stable ks edge_answers) doc.entries)
-        (λ edges. Then (IsOrdered (graph_of_slots ks edges) part.orders) IsTested) es r
-        (λ x. each_only (IsEntryRead stable ks edge_answers) Entry (entry_only stable ks edge_answers) es doc.entries x
-        written) (subst P same s) in
-        let Q : Option Data → Type 0 = λ o. Then (IsOrdered again o) IsTested r in
-        tested r (then_ok (IsOrdered again rows) IsTested (trimmed g) r ordered_again (subst Q ids after))
+        ids : part.orders ≡ rows
+        ids = ap (λ k. Some (listed (map (row_of g) (map (λ p. p.0) k)))) (sym (numbered_bounded 0 g.nodes))
 
-    -- what was written of a dag is read as that dag
-    pub restored : (r : Result (Graph N E) ReadError)
-        → IsRead limit stable node_answers edge_answers d r → r ≡ Ok (trimmed g)
-    restored r read =
-        let found : parts_in d ≡ Some part =
-        ap parts_in doc.is ∙ parts_again doc.entries (holes_of g) doc.weights (map (row_of g) (node_identifiers g)) in
-        let staged =
-        MatchOption-at_some (r ≡ Err Shape) (λ p. (fault : Option ReadError) × IsLaidOut limit stable p fault
-        × MatchOption fault (IsFilled limit stable node_answers edge_answers p r) (λ e. r ≡ Err e)) part found read in
-        let P : Option ReadError → Type 0 = λ f.
-        MatchOption f (IsFilled limit stable node_answers edge_answers part r) (λ e. r ≡ Err e) in
-        let filled : IsFilled limit stable node_answers edge_answers part r =
-        subst P (laid_out staged.0 staged.1) staged.2 in
-        let placed =
-        then_ok (ReadsEach (IsWeight node_answers) doc.weights) (λ weights r. (nodes : List (Option N))
-        × AreSlots nodes (holes_of g) weights × IsLinked limit stable node_answers edge_answers part nodes r)
-        (node_weights g) r
-        (λ x. each_only (IsWeight node_answers) (ReadsOnly node_answers) (weight_only node_answers) (node_weights g)
-        doc.weights x doc.nodes) filled in
-        linked placed.0 (slots_again placed.0 placed.1) r placed.2
+        copy : IsCopyAs weights_read edge_weights_read (trimmed g) (with_orders (graph_of_slots nodes edges) whole_orders)
+        copy = made_copy limit g dag.well_formed weights_read edge_weights_read nodes copied edges copied_edges
+
+        tested : (h : Graph N E)
+            → h ≡ with_orders (graph_of_slots nodes edges) whole_orders → (r : Result (Graph N E) ReadError)
+            → IsTested h r → IsReadAgain r
+        tested h same (Ok k) s =
+            subst (IsCopyAs weights_read edge_weights_read (trimmed g)) (sym (s.1 ∙ same)) copy
+        tested h same (Err e) s =
+            absurd (s.0 (subst IsAcyclic (sym same)
+            (made_acyclic limit g dag.well_formed weights_read edge_weights_read nodes copied edges copied_edges
+            dag.acyclic)))
+
+        go : (x : Result (Graph N E) ReadError) → IsOrdered (graph_of_slots nodes edges) rows x
+            → MatchResult x (λ h. IsTested h r) (λ e. r ≡ Err e) → IsReadAgain r
+        go (Ok h) s next =
+            let read : Some s.0 ≡ Some whole_orders = sym s.1 ∙ orders_again g _ in
+            let same : s.0 ≡ whole_orders = cc in
+            tested h (s.3 ∙ ap (with_orders (graph_of_slots nodes edges)) same) r next
+        go (Err e) s next =
+            absurd (s.0 whole_orders (orders_again g _)
+            (orders_fit limit g dag.well_formed weights_read edge_weights_read nodes copied edges copied_edges))
+
+    abbrev Reads : Data → Result (Option (Edge E)) ReadError → Type 0
+    Reads = IsEntryRead stable nodes edge_answers
+
+    abbrev Entry : Option (Edge F) → Data → Type 0
+    Entry x k = IsEntry edge_as x k × CanBeRead stable nodes x
+
+    linked : (r : Result (Graph N E) ReadError)
+        → IsLinked limit stable node_answers edge_answers part nodes r → IsReadAgain r
+    linked r t = go t.0 (each_read Reads Entry left_edges doc.entries t.0 written t.1) t.2
+      where
+        written : AllZip Entry left_edges doc.entries
+        written =
+            zip_both (IsEntry edge_as) (CanBeRead stable nodes) left_edges doc.entries doc.edges
+            (entries_fit limit g dag.well_formed weights_read edge_weights_read nodes copied stable compact)
+
+        go : (x : Result (List (Option (Edge E))) ReadError)
+            → MatchResult x (λ ys. AllZip (λ z y. ReadsThrough Reads Entry z (Ok y)) left_edges ys)
+            (λ e. (z : Option (Edge F)) × Contains left_edges z × ReadsThrough Reads Entry z (Err e))
+            → MatchResult x
+            (λ edges. Then (IsOrdered (graph_of_slots nodes edges) part.orders) IsTested r) (λ e. r ≡ Err e)
+            → IsReadAgain r
+        go (Ok edges) zip next =
+            ordered edges
+            (copied_zip edge_weights_read weight_in with_weight 0 left_edges edges
+            (zip_weaker (λ z y. ReadsThrough Reads Entry z (Ok y)) (SlotAs edge_weights_read weight_in with_weight)
+            (λ z y h. entry_read stable nodes edge_as edge_answers z h.0 (Ok y) h.1 h.2) left_edges edges zip)) r next
+        go (Err e) (z, has, (k, entry, reads)) next =
+            let refused = entry_read stable nodes edge_as edge_answers z k (Err e) entry reads in
+            let found = refused.1 in
+            let P : Option (Edge F) → Type 0 = λ o. Contains left_edges o in
+            subst IsReadAgain (sym next) (
+              refused.0,
+              inr (
+                found.0.weight,
+                edge_weight_in (edge_bound g) 0 g.edges found.0 (subst P found.1 has),
+                found.2,
+                found.3,
+                found.4,
+              ),
+            )
+
+  abbrev Staged : Result (Graph N E) ReadError → Parts → Option ReadError → Type 0
+  Staged r p fault = MatchOption fault (IsFilled limit stable node_answers edge_answers p r) (λ e. r ≡ Err e)
+
+  -- what was written of a dag is read as that dag, with what may be read of its weights
+  pub read_again : (r : Result (Graph N E) ReadError)
+      → IsRead limit stable node_answers edge_answers d r → IsReadAgain r
+  read_again r read = go filled.0 (each_read (IsWeight node_answers) node_as (node_weights g) doc.weights filled.0
+      doc.nodes filled.1) filled.2
+    where
+      found : parts_in d ≡ Some part
+      found =
+          ap parts_in doc.is ∙ parts_again doc.entries (holes_of g) doc.weights (map (row_of g) (node_identifiers g))
+
+      staged : (fault : Option ReadError) × IsLaidOut limit stable part fault × Staged r part fault
+      staged =
+          MatchOption-at_some (r ≡ Err Shape)
+          (λ p. (fault : Option ReadError) × IsLaidOut limit stable p fault × Staged r p fault) part found read
+
+      filled : IsFilled limit stable node_answers edge_answers part r
+      filled = subst (Staged r part) (laid_out staged.0 staged.1) staged.2
+
+      go : (x : Result (List N) ReadError)
+          → MatchResult x
+          (λ ws. AllZip (λ w y. ReadsThrough (IsWeight node_answers) node_as w (Ok y)) (node_weights g) ws)
+          (λ e. (w : M) × Contains (node_weights g) w × ReadsThrough (IsWeight node_answers) node_as w (Err e))
+          → MatchResult x (λ ws. (nodes : List (Option N)) × AreSlots nodes (holes_of g) ws
+          × IsLinked limit stable node_answers edge_answers part nodes r) (λ e. r ≡ Err e)
+          → IsReadAgain r
+      go (Ok ws) zip (nodes, slots, next) =
+          let P : List M → Type 0 = λ k. AllZip weights_read k (map (λ p. p.1) (numbered 0 nodes)) in
+          let Q : List N → Type 0 = λ k. AllZip weights_read (node_weights g) k in
+          let values : P (map (λ p. p.1) (numbered 0 left)) =
+          subst P (ap (map (λ p. p.1)) (sym (numbered_bounded 0 g.nodes))) (subst Q (sym slots.given) zip) in
+          linked nodes (copied_nodes weights_read 0 left nodes slots.vacant values) r next
+      go (Err e) (w, has, (k, stands, (refused, weight))) next =
+          subst IsReadAgain (sym next) (weight, inl (w, has, k, stands, refused))
+
+-- what was written of a dag is read as that dag, if each of its weights is read as it was
+pub restored : {N E : Type 0} (limit : ℕ) (stable : Bool) (node_answers : Data → Option N → Type 0)
+    (edge_answers : Data → Option E → Type 0) (g : Graph N E) → IsDag limit g → (stable ≡ false → IsCompact g)
+    → (d : Data) → IsDocumentOf (ReadsOnly node_answers) (ReadsOnly edge_answers) g d
+    → (r : Result (Graph N E) ReadError)
+    → IsRead limit stable node_answers edge_answers d r → MatchResult r (λ h. h ≡ trimmed g) (λ e. ⊥)
+restored limit stable node_answers edge_answers g dag compact d doc r read =
+    MatchResult-weaker r
+    (read_again limit stable (ReadsOnly node_answers) (ReadsOnly edge_answers) node_answers edge_answers g dag compact d
+    doc r read)
+    (copy_same (Through (ReadsOnly node_answers) node_answers) (Through (ReadsOnly edge_answers) edge_answers)
+    (only node_answers) (only edge_answers) (trimmed g))
+    (λ e h. elim h.1 [
+      | inl bad ↦ never node_answers (node_weights g) bad
+      | inr bad ↦ never edge_answers (edge_weights g) bad
+    ])
+  where
+    only : {W : Type 0} (answers : Data → Option W → Type 0) (w v : W) → Through (ReadsOnly answers) answers w v → v ≡ w
+    only answers w v t = same_Some v w (t.1 (Some v) t.2)
+
+    never : {W : Type 0} (answers : Data → Option W → Type 0) (ws : List W)
+        → IsRefused (ReadsOnly answers) answers ws → ⊥
+    never answers ws (w, has, d, reads, refused) = none-some w (reads None refused)
+
+-- what was written of a dag of values is read as that dag, with what may be read of them
+pub values_again : {N E : Type 0} (limit : ℕ) (stable : Bool) (node_answers : Data → Option N → Type 0)
+    (edge_answers : Data → Option E → Type 0) (g : Graph Data Data) → IsDag limit g → (stable ≡ false → IsCompact g)
+    → (d : Data) → IsDocumentOf (λ w v. w ≡ v) (λ w v. w ≡ v) g d → (r : Result (Graph N E) ReadError)
+    → IsRead limit stable node_answers edge_answers d r
+    → MatchResult r (IsCopyAs (ReadsTo node_answers) (ReadsTo edge_answers) (trimmed g))
+    (λ e. (e ≡ Weight) × HasRefused node_answers edge_answers g)
+values_again limit stable node_answers edge_answers g dag compact d doc r read =
+    MatchResult-weaker r
+    (read_again limit stable (λ w v. w ≡ v) (λ w v. w ≡ v) node_answers edge_answers g dag compact d doc r read)
+    (copy_weaker (Through (λ w v. w ≡ v) node_answers) (ReadsTo node_answers) (Through (λ w v. w ≡ v) edge_answers)
+    (ReadsTo edge_answers) (given node_answers) (given edge_answers) (trimmed g))
+    (λ e h. (
+      h.0,
+      record {
+        refused = elim h.1 [
+          | inl bad ↦ inl (refused node_answers (node_weights g) bad)
+          | inr bad ↦ inr (refused edge_answers (edge_weights g) bad)
+        ];
+      },
+    ))
+  where
+    given : {W : Type 0} (answers : Data → Option W → Type 0) (d : Data) (w : W)
+        → Through (λ v u. v ≡ u) answers d w → ReadsTo answers d w
+    given answers d w t = record { answered = subst (λ k. answers k (Some w)) (sym t.1) t.2 }
+
+    refused : {W : Type 0} (answers : Data → Option W → Type 0) (ds : List Data)
+        → IsRefused (λ v u. v ≡ u) answers ds → CanBeRefused answers ds
+    refused answers ds (w, has, d, same, bad) = (w, has, subst (λ k. answers k None) (sym same) bad)
 
 -- what a call then answers
-pub answers_again : {D N E : Type 0} (graph_of : D → Graph N E) (h : Graph N E) (result : Result D ReadError)
-    (read : Result (Graph N E) ReadError → Type 0)
-    → ((r : Result (Graph N E) ReadError) → read r → r ≡ Ok h)
+pub answers_again : {D N E : Type 0} (graph_of : D → Graph N E) (P : Graph N E → Type 0) (Q : ReadError → Type 0)
+    (result : Result D ReadError) (read : Result (Graph N E) ReadError → Type 0)
+    → ((r : Result (Graph N E) ReadError) → read r → MatchResult r P Q)
     → IfOk result (λ x. read (Ok (graph_of x))) → IfErr result (λ e. (e ≡ Memory) ⊎ read (Err e))
-    → MatchResult result (λ x. graph_of x ≡ h) (λ e. e ≡ Memory)
-answers_again graph_of h (Ok x) read only ok err = let same : Ok (graph_of x) ≡ Ok h = only (Ok (graph_of x)) ok in
-    let it : graph_of x ≡ h = cc in it
-answers_again graph_of h (Err e) read only ok err = elim err [
-  | inl m ↦ m
-  | inr r ↦ absurd (let bad : Err e ≡ Ok h = only (Err e) r in cc)
+    → MatchResult result (λ x. P (graph_of x)) (λ e. (e ≡ Memory) ⊎ Q e)
+answers_again graph_of P Q (Ok x) read again ok err = again (Ok (graph_of x)) ok
+answers_again graph_of P Q (Err e) read again ok err = elim err [
+  | inl m ↦ inl m
+  | inr r ↦ inr (again (Err e) r)
 ]
 
 -- ---- what is written so that it is read again
-
-zip_weaker : {A B : Type 0} (R S : A → B → Type 0)
-    → ((x : A) (y : B) → R x y → S x y) → (xs : List A) (ys : List B) → AllZip R xs ys → AllZip S xs ys
-zip_weaker R S f [] [] z = z
-zip_weaker R S f [] (y ∷ ys) z = z
-zip_weaker R S f (x ∷ xs) [] z = z
-zip_weaker R S f (x ∷ xs) (y ∷ ys) z = (f x y z.0, zip_weaker R S f xs ys z.1)
 
 module _ {N E : Type 0} (node_as node_again : N → Data → Type 0) (edge_as edge_again : E → Data → Type 0)
     (nodes : (w : N) (d : Data) → node_as w d → node_again w d)

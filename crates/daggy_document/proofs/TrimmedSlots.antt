@@ -1,6 +1,6 @@
 -- Slots up to the bound.
 use Rattle.std.proofs.Common.{◌≡◌, ℕ, zero, suc, ◌+◌, ◌≤◌, Option, Some, None, is_some, List, [], ◌∷◌, length, take}
-use Rattle.std.proofs.Common.{map, count_by, refl, sym, ap, ◌∙◌, arith}
+use Rattle.std.proofs.Common.{count_by, refl, arith}
 use Rattle.std.proofs.lemmas.List.{take_all}
 use Rattle.daggy_base.specs.Graph.{slot, bound_of, bound_step}
 use Rattle.daggy_base.specs.Iterating.{numbered}
@@ -49,32 +49,6 @@ pub numbered_count : {A : Type 0} (i : ℕ) (xs : List (Option A)) → length (n
 numbered_count i [] = refl
 numbered_count {A} i (None ∷ xs) = omega (arith, numbered_count (i + 1) xs, count_cons {A = A} None xs)
 numbered_count i (Some x ∷ xs) = omega (arith, numbered_count (i + 1) xs, count_cons (Some x) xs)
-
--- ---- the vacant places and what the others hold say it all
-
-low_first : {A : Type 0} (k i : ℕ) (ys : List (Option A)) (l : List ℕ) → vacant_from k ys ≡ i ∷ l → k ≤ i
-low_first k i [] l e = absurd cc
-low_first k i (None ∷ ys) l e = let same : k ≡ i = cc in omega arith
-low_first k i (Some y ∷ ys) l e = let more = low_first (k + 1) i ys l e in omega arith
-
-pub same_slots : {A : Type 0} (i : ℕ) (xs ys : List (Option A))
-    → vacant_from i xs ≡ vacant_from i ys → map (λ p. p.1) (numbered i xs) ≡ map (λ p. p.1) (numbered i ys) → xs ≡ ys
-same_slots i [] [] e f = refl
-same_slots i [] (None ∷ ys) e f = absurd cc
-same_slots i [] (Some y ∷ ys) e f = absurd cc
-same_slots i (None ∷ xs) [] e f = absurd cc
-same_slots i (Some x ∷ xs) [] e f = absurd cc
-same_slots i (None ∷ xs) (None ∷ ys) e f =
-    ap (λ k. None ∷ k)
-    (same_slots (i + 1) xs ys (let tail : vacant_from (i + 1) xs ≡ vacant_from (i + 1) ys = cc in tail) f)
-same_slots i (None ∷ xs) (Some y ∷ ys) e f =
-    absurd (let low = low_first (i + 1) i ys (vacant_from (i + 1) xs) (sym e) in omega arith)
-same_slots i (Some x ∷ xs) (None ∷ ys) e f =
-    absurd (let low = low_first (i + 1) i xs (vacant_from (i + 1) ys) e in omega arith)
-same_slots i (Some x ∷ xs) (Some y ∷ ys) e f =
-    let head : x ≡ y = cc in
-    let tail : map (λ p. p.1) (numbered (i + 1) xs) ≡ map (λ p. p.1) (numbered (i + 1) ys) = cc in
-    ap (λ k. Some k ∷ xs) head ∙ ap (λ k. Some y ∷ k) (same_slots (i + 1) xs ys e tail)
 
 -- ---- where none is vacant
 

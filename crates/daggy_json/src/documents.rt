@@ -1,13 +1,16 @@
 //! Dags of both kinds, written as JSON values and read from them.
 ghost use Rattle.std.specs.Prelude.{◌≡◌, ◌⊎◌, true, false, Ok, Err, IfOk, IfErr, MatchResult};
+ghost use Rattle.serde_json.specs.Data.{Data};
 ghost use Rattle.serde_json.specs.View.{view};
 ghost use Rattle.daggy_base.specs.Graph.{Graph, IsCompact};
+ghost use Rattle.daggy_base.specs.Removal.{Compact, Stable};
 ghost use Rattle.daggy_base.specs.WellFormed.{IsDag};
 ghost use Rattle.daggy_document.specs.Document.{IsDocumentOf};
 ghost use Rattle.daggy_document.specs.Weight.{WritesAs, ReadsAs};
 ghost use Rattle.daggy_document.specs.Reading.{IsRead};
-ghost use Rattle.daggy_document.specs.Restoring.{ReadsOnly, trimmed};
-ghost use Rattle.daggy_document.specs.declared.error.ReadError.TheVariants.{Memory};
+ghost use Rattle.daggy_document.specs.Restoring.{ReadsOnly, trimmed, IsCopyAs, ReadsTo};
+ghost use Rattle.daggy_document.specs.Restoring.{HasRefused, HasValues};
+ghost use Rattle.daggy_document.specs.declared.error.ReadError.TheVariants.{Memory, Weight};
 
 use crate::making::read;
 use daggy_base::index::IndexType;
@@ -29,10 +32,15 @@ fn write<
 >(alloc: Global, dag: &Acyclic<N, E, Ix, S>, fn_node: &F, fn_edge: &G) -> Result<Value, WriteError>
     requires nodes { F.IsAlwaysCallable fn_node.now }
     requires edges { G.IsAlwaysCallable fn_edge.now }
-    ensures { IfOk result
+    ensures document { IfOk result
         (λ v. IsDocumentOf (WritesAs F.Fn fn_node.now) (WritesAs G.Fn fn_edge.now) dag.now.graph
         (view v)) }
+    ensures values { IfOk result
+        (λ v. HasValues S.kind Ix.greatest (WritesAs F.Fn fn_node.now) (WritesAs G.Fn fn_edge.now)
+        dag.now.graph (view v)) }
 {
+    // Called only for its postcondition: the graph is that of a dag.
+    let _dag = dag.node_count();
     Ok(write_document(alloc, dag.graph(), fn_node, fn_edge)?)
 }
 
@@ -57,8 +65,12 @@ pub fn dag_to_json<
 >(alloc: Global, dag: &Dag<N, E, Ix>, fn_node: F, fn_edge: G) -> Result<Value, WriteError>
     requires nodes { F.IsAlwaysCallable fn_node }
     requires edges { G.IsAlwaysCallable fn_edge }
-    ensures { IfOk result (λ v.
+    ensures document { IfOk result (λ v.
         IsDocumentOf (WritesAs F.Fn fn_node) (WritesAs G.Fn fn_edge) dag.now.graph (view v)) }
+    // It is also the document of a dag of the encoded weights.
+    ensures values { IfOk result (λ v.
+        HasValues Compact Ix.greatest (WritesAs F.Fn fn_node) (WritesAs G.Fn fn_edge)
+        dag.now.graph (view v)) }
 {
     write(alloc, dag, &fn_node, &fn_edge)
 }
@@ -74,15 +86,20 @@ pub fn stable_to_json<
 >(alloc: Global, dag: &StableDag<N, E, Ix>, fn_node: F, fn_edge: G) -> Result<Value, WriteError>
     requires nodes { F.IsAlwaysCallable fn_node }
     requires edges { G.IsAlwaysCallable fn_edge }
-    ensures { IfOk result (λ v.
+    ensures document { IfOk result (λ v.
         IsDocumentOf (WritesAs F.Fn fn_node) (WritesAs G.Fn fn_edge) dag.now.graph (view v)) }
+    // It is also the document of a dag of the encoded weights.
+    ensures values { IfOk result (λ v.
+        HasValues Stable Ix.greatest (WritesAs F.Fn fn_node) (WritesAs G.Fn fn_edge)
+        dag.now.graph (view v)) }
 {
     write(alloc, dag, &fn_node, &fn_edge)
 }
 
 /// The dag that a value is read as: an object as [`dag_to_json`] returns it. Other members are
 /// ignored. Without `orders` each list is in descending index order. Reading a written document
-/// restores the dag, if each of its weights is read as it was.
+/// restores the dag: its indices, the ends of its edges and its lists, with the weights that
+/// `fn_node` and `fn_edge` return for the encoded ones.
 ///
 /// `fn_node` and `fn_edge` read the weights, and return `None` for a value that is not a weight.
 ///
@@ -113,6 +130,14 @@ pub fn dag_from_json<
         → IsDocumentOf (ReadsOnly (ReadsAs F.Fn fn_node)) (ReadsOnly (ReadsAs G.Fn fn_edge)) g
         (view value.now)
         → MatchResult result (λ d. d.graph ≡ g) (λ e. e ≡ Memory) }
+    // The document of a dag of encoded weights: it comes back with what each of them is read as,
+    // unless one is refused.
+    ensures restored_shape { (g : Graph Data Data) → IsDag Ix.greatest g → IsCompact g
+        → IsDocumentOf (λ w v. w ≡ v) (λ w v. w ≡ v) g (view value.now)
+        → MatchResult result
+        (λ d. IsCopyAs (ReadsTo (ReadsAs F.Fn fn_node)) (ReadsTo (ReadsAs G.Fn fn_edge)) g d.graph)
+        (λ e. (e ≡ Memory)
+        ⊎ (e ≡ Weight) × HasRefused (ReadsAs F.Fn fn_node) (ReadsAs G.Fn fn_edge) g) }
 {
     read(alloc, value, false, &fn_node, &fn_edge)
 }
@@ -141,6 +166,15 @@ pub fn stable_from_json<
         → IsDocumentOf (ReadsOnly (ReadsAs F.Fn fn_node)) (ReadsOnly (ReadsAs G.Fn fn_edge)) g
         (view value.now)
         → MatchResult result (λ d. d.graph ≡ trimmed g) (λ e. e ≡ Memory) }
+    // The document of a dag of encoded weights: it comes back with what each of them is read as,
+    // unless one is refused.
+    ensures restored_shape { (g : Graph Data Data) → IsDag Ix.greatest g
+        → IsDocumentOf (λ w v. w ≡ v) (λ w v. w ≡ v) g (view value.now)
+        → MatchResult result
+        (λ d. IsCopyAs (ReadsTo (ReadsAs F.Fn fn_node)) (ReadsTo (ReadsAs G.Fn fn_edge)) (trimmed g)
+        d.graph)
+        (λ e. (e ≡ Memory)
+        ⊎ (e ≡ Weight) × HasRefused (ReadsAs F.Fn fn_node) (ReadsAs G.Fn fn_edge) g) }
 {
     read(alloc, value, true, &fn_node, &fn_edge)
 }

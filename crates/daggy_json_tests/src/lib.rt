@@ -8,4 +8,6 @@ mod reading;
 #[cfg(test)]
 mod support;
 #[cfg(test)]
+mod texts;
+#[cfg(test)]
 mod writing;

@@ -1,7 +1,7 @@
 //! Documents that are read.
 use crate::support::{
     REORDERED, Small, SmallStable, VACANT, edge, holds, is_written, is_written_stable, made, node,
-    weight,
+    value_of, weight,
 };
 use daggy_document::error::ReadError;
 use daggy_json::documents::{dag_from_json, stable_from_json};
@@ -9,13 +9,6 @@ use daggy_walk::walker::Walker;
 use serde_json::Value;
 use std::alloc::{AllocError, Global};
 use std::process::Abort;
-
-fn value_of(rt: &impl Abort, alloc: Global, text: &str) -> Value {
-    match Value::from_str(alloc, text) {
-        Ok(value) => value,
-        Err(_) => panic!(rt; "the text is no JSON"),
-    }
-}
 
 fn read(rt: &impl Abort, alloc: Global, text: &str) -> Result<Small, ReadError> {
     let value = value_of(rt, alloc, text);

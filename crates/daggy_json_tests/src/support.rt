@@ -89,8 +89,16 @@ pub fn weight(value: &Value) -> Result<Option<u64>, AllocError>
     Ok(value.as_u64())
 }
 
-// Asserts the text of a value.
-fn is_text(rt: &impl Abort, alloc: Global, value: &Value, wanted: &str) {
+/// The value of a text.
+pub fn value_of(rt: &impl Abort, alloc: Global, text: &str) -> Value {
+    match Value::from_str(alloc, text) {
+        Ok(value) => value,
+        Err(_) => panic!(rt; "the text is no JSON"),
+    }
+}
+
+/// Asserts the text of a value.
+pub fn is_text(rt: &impl Abort, alloc: Global, value: &Value, wanted: &str) {
     let text = made(rt, value.to_string(alloc));
     holds(rt, text.as_str() == wanted);
 }

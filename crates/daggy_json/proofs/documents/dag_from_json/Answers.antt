@@ -1,15 +1,29 @@
-use Rattle.std.proofs.Common.{false, ap, ◌∙◌}
-use Rattle.std.specs.Prelude.{Ok}
-use Rattle.daggy_document.specs.Weight.{ReadsAs}
+use Rattle.std.proofs.Common.{inl, inr, false, subst, ◌∙◌}
+use Rattle.std.proofs.lemmas.Result.{MatchResult-weaker}
 use Rattle.serde_json.specs.View.{view}
-use Rattle.daggy_document.proofs.RestoredDag.{restored, compact_same, answers_again}
+use Rattle.daggy_document.specs.Weight.{ReadsAs}
+use Rattle.daggy_document.specs.Restoring.{IsCopyAs, ReadsTo}
+use Rattle.daggy_document.proofs.RestoredDag.{restored, values_again, compact_same, answers_again}
 use Rattle.daggy_json.proofs.documents.dag_from_json.Goals as goal
 
 pub returns-clause-restored : goal.returns-clause-restored
 returns-clause-restored g c = λ graph dag compact doc.
-    answers_again (λ d. d.graph) graph c.read.result _
-    (λ r read.
-    restored g.Ix.IndexType.greatest false (ReadsAs g.F.Fn c.args.fn_node) (ReadsAs g.G.Fn c.args.fn_edge) graph dag
-    (λ e. compact) (view c.args.value.now) doc r read
-    ∙ ap Ok (compact_same g.Ix.IndexType.greatest graph dag.well_formed compact))
-    c.read.ensures.ok c.read.ensures.err
+    MatchResult-weaker c.read.result
+    (answers_again (λ d. d.graph) _ _ c.read.result _
+    (restored g.Ix.IndexType.greatest false (ReadsAs g.F.Fn c.args.fn_node) (ReadsAs g.G.Fn c.args.fn_edge) graph dag
+    (λ e. compact) (view c.args.value.now) doc)
+    c.read.ensures.ok c.read.ensures.err)
+    (λ d same. same ∙ compact_same g.Ix.IndexType.greatest graph dag.well_formed compact)
+    (λ e h. elim h [ inl memory ↦ memory | inr none ↦ absurd none ])
+
+pub returns-clause-restored_shape : goal.returns-clause-restored_shape
+returns-clause-restored_shape g c = λ graph dag compact doc.
+    MatchResult-weaker c.read.result
+    (answers_again (λ d. d.graph) _ _ c.read.result _
+    (values_again g.Ix.IndexType.greatest false (ReadsAs g.F.Fn c.args.fn_node) (ReadsAs g.G.Fn c.args.fn_edge) graph dag
+    (λ e. compact) (view c.args.value.now) doc)
+    c.read.ensures.ok c.read.ensures.err)
+    (λ d copy.
+    subst (λ h. IsCopyAs (ReadsTo (ReadsAs g.F.Fn c.args.fn_node)) (ReadsTo (ReadsAs g.G.Fn c.args.fn_edge)) h d.graph)
+    (compact_same g.Ix.IndexType.greatest graph dag.well_formed compact) copy)
+    (λ e h. h)

@@ -6,7 +6,7 @@ use Rattle.daggy_json_tests.proofs.random.read_back.Goals as goal
 
 pub returns : goal.returns
 returns g c =
-    let doc = IfOk-at_ok _ c.made-value.ensures c.dag_to_json.ensures in
+    let doc = IfOk-at_ok _ c.made-value.ensures c.dag_to_json.ensures.document in
     MatchResult-at_ok _ _ _ c.made.ensures (c.dag_from_json.ensures.restored c.args.dag.now.graph
     c.node_count-dag.ensures.dag (c.node_count-dag.ensures.compact refl)
     (document_again _ _ _ _

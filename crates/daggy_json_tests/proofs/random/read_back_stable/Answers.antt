@@ -6,7 +6,7 @@ use Rattle.daggy_json_tests.proofs.random.read_back_stable.Goals as goal
 
 pub returns : goal.returns
 returns g c =
-    let doc = IfOk-at_ok _ c.made-value.ensures c.stable_to_json.ensures in
+    let doc = IfOk-at_ok _ c.made-value.ensures c.stable_to_json.ensures.document in
     MatchResult-at_ok _ _ _ c.made.ensures
     (c.stable_from_json.ensures.restored c.args.dag.now.graph c.node_count-dag.ensures.dag
     (document_again _ _ _ _

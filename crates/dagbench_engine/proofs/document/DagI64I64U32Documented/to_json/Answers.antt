@@ -8,4 +8,4 @@ pub returns : goal.returns
 returns c =
     rw c.ok.ensures.value
     (document_made (λ w d is. sym is.2 ∙ (is.1.says.met ∙ ap (λ w. number (of_integer w)) is.1.shows))
-    c.dag_to_json.result c.args.self.now.graph c.dag_to_json.ensures)
+    c.dag_to_json.result c.args.self.now.graph c.dag_to_json.ensures.document)
