@@ -24,3 +24,10 @@ pub fn move_weights<E: Drop>(dag: &mut Dag<u32, E>, table: &mut [u32])
         *weight = 0;
     });
 }
+
+/// Adds to the weight of each node what a table has for it.
+pub fn add_weights<E: Drop>(dag: &mut StableDag<u32, E>, table: &[u32])
+    requires { node_bound dag.old.graph ≤ length table.now }
+{
+    dag.update_node_weights(|n, weight| *weight = weight.wrapping_add(table[n.index()]));
+}

@@ -9,3 +9,4 @@ pub mod WalkSteps
 pub mod Reduced
 pub mod OrderOfExisting
 pub mod NodesBelow
+pub mod NextSlots

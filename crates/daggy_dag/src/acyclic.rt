@@ -36,6 +36,7 @@ use std::marker::{Model, PhantomData};
 
 mod compact;
 mod comparing;
+mod cursors;
 mod debug;
 mod externals;
 mod from_slots;
@@ -49,9 +50,9 @@ mod visit;
 mod walkers;
 mod weights;
 
-pub use compact::cursors::{EdgeWeightsMut, NodeWeightsMut};
 pub use compact::raw::{RawEdges, RawNodes};
 pub use comparing::same_reachability;
+pub use cursors::{EdgeWeightsMut, NodeWeightsMut};
 pub use externals::Externals;
 pub use recursive::RecursiveWalk;
 pub use topological::TopologicalOrder;

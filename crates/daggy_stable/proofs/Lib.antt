@@ -10,6 +10,7 @@ pub mod Bounds
 pub mod HeldGraph
 pub mod CopiedSlots
 pub mod MappedSlots
+pub mod RewrittenSlots
 pub mod BuiltSlots
 pub mod ListOrdersKept
 pub mod KeptSlots

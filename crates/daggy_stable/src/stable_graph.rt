@@ -21,6 +21,7 @@ pub mod lists;
 mod map;
 mod ordering;
 mod removal;
+mod rewriting;
 mod source;
 mod store;
 mod taking_back;

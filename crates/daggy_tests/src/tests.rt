@@ -15,6 +15,7 @@ mod many_edges;
 mod ordering;
 mod reducing;
 mod removing;
+mod rewriting;
 mod searching;
 mod slot_reuse;
 mod support;

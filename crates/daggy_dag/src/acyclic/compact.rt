@@ -1,6 +1,5 @@
 //! What only the compact dag has, or has in a form of its own.
 mod copies;
-pub mod cursors;
 mod iterators;
 mod map;
 pub mod raw;

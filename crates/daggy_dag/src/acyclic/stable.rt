@@ -3,4 +3,5 @@ mod convert;
 mod copies;
 mod iterators;
 mod map;
+mod rewriting;
 mod two_weights;

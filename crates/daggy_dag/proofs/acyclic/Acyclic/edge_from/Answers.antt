@@ -1,0 +1,43 @@
+use Rattle.std.proofs.Common.{◌≡◌, is_some, true, sym, ap, subst, ◌∙◌, arith}
+use Rattle.std.proofs.lemmas.Bool.{false≢true}
+use Rattle.daggy_base.specs.Graph.{slot, HasEdge}
+use Rattle.daggy_base.specs.Removal.{Compact}
+use Rattle.daggy_base.proofs.FullSlots.{IsFull, full_from}
+use Rattle.daggy_dag.specs.Slots.{next_slot}
+use Rattle.daggy_dag.proofs.NextSlots.{next_passed, next_there, next_behind}
+use Rattle.daggy_dag.proofs.acyclic.Acyclic.edge_from.Goals.{After-edge_slots-slots}
+use Rattle.daggy_dag.proofs.acyclic.Acyclic.edge_from.Given.{Over}
+use Rattle.daggy_dag.proofs.acyclic.Acyclic.edge_from.Goals as goal
+
+-- no slot of the compact kind is vacant
+full : (g : Over) (c : After-edge_slots-slots g)
+    → g.S.Store.kind ≡ Compact → IsFull (g.S.EdgeSource.graph c.self.inside.store).edges
+full g c compact =
+    full_from _ _ c.edge_count-well_formed.ensures.well_formed.edge_slots (c.edge_slots-slots.ensures.compact compact).edges
+
+pub along-preserved : goal.along-preserved
+along-preserved g c =
+    let missing : is_some (slot (g.S.EdgeSource.graph c.self.inside.store).edges c.along.i) ≡ true → ⊥ =
+    λ has.
+    false≢true (sym c.if-contains_edge.false ∙ c.contains_edge.ensures.1
+    (subst (HasEdge (g.S.EdgeSource.graph c.self.inside.store)) (sym c.new.ensures.number) has)) in
+    c.along.invariant
+    ∙ next_passed (g.S.EdgeSource.graph c.self.inside.store).edges c.along.i
+    (omega (arith, c.along-test.true, c.edge_slots-slots.ensures.value)) missing
+
+pub returns-then-contains_edge-clause-place : goal.returns-then-contains_edge-clause-place
+returns-then-contains_edge-clause-place g c =
+    let slots = (g.S.EdgeSource.graph c.self.inside.store).edges in
+    let has =
+    subst (HasEdge (g.S.EdgeSource.graph c.self.inside.store)) c.new.ensures.number
+    (c.contains_edge.ensures.0 c.if-contains_edge.true) in
+    next_there g.S.Store.kind slots c.args.from c.along.i
+    (full g (goal.at.returns-then-contains_edge-clause-place g c).After-edge_slots-slots) c.along.invariant has
+    ∙ ap (λ s. next_slot g.S.Store.kind s.graph.edges c.args.from) c.self.view_is
+
+pub returns-clause-place : goal.returns-clause-place
+returns-clause-place g c =
+    next_behind g.S.Store.kind (g.S.EdgeSource.graph c.self.inside.store).edges c.args.from c.along.i
+    (full g (goal.at.returns-clause-place g c).After-edge_slots-slots) c.along.invariant
+    (omega (arith, c.along-test.false, c.edge_slots-slots.ensures.value))
+    ∙ ap (λ s. next_slot g.S.Store.kind s.graph.edges c.args.from) c.self.view_is

@@ -1,0 +1,41 @@
+//! Mutable access to all weights by a closure.
+ghost use Rattle.std.specs.Prelude.{◌≡◌};
+ghost use Rattle.daggy_base.specs.CallsInTurn.{CanLendNodes, CanLendEdges};
+ghost use Rattle.daggy_base.specs.Path.{IsAcyclic};
+ghost use Rattle.daggy_base.specs.Rewriting.{RewritesNodes, RewritesEdges};
+
+use crate::acyclic::Acyclic;
+use daggy_base::index::{EdgeIndex, IndexType, NodeIndex};
+use daggy_stable::stable_graph::StableDiGraph;
+
+impl<N: Drop, E: Drop, Ix: IndexType> Acyclic<N, E, Ix, StableDiGraph<N, E, Ix>> {
+    /// Calls `f` with each node by ascending index and a mutable reference to its weight.
+    ///
+    /// # Complexity
+    ///
+    /// O(slots), plus the calls.
+    pub fn update_node_weights<F: FnMut(NodeIndex<Ix>, &mut N)>(&mut self, f: F)
+        requires { CanLendNodes Ix.of F.pre F.step f self.old.graph }
+        ensures written { RewritesNodes Ix.of F.step f self.old.graph self.new.graph }
+        ensures acyclic { IsAcyclic self.new.graph }
+        ensures looks { self.new.looks ≡ self.old.looks }
+    {
+        let _well_formed = self.store.node_count();
+        self.store.update_node_weights(f);
+    }
+
+    /// Calls `f` with each edge by ascending index and a mutable reference to its weight.
+    ///
+    /// # Complexity
+    ///
+    /// O(slots), plus the calls.
+    pub fn update_edge_weights<F: FnMut(EdgeIndex<Ix>, &mut E)>(&mut self, f: F)
+        requires { CanLendEdges Ix.of F.pre F.step f self.old.graph }
+        ensures written { RewritesEdges Ix.of F.step f self.old.graph self.new.graph }
+        ensures acyclic { IsAcyclic self.new.graph }
+        ensures looks { self.new.looks ≡ self.old.looks }
+    {
+        let _well_formed = self.store.node_count();
+        self.store.update_edge_weights(f);
+    }
+}

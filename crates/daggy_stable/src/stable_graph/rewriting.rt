@@ -1,0 +1,83 @@
+//! Mutable access to all weights by a closure.
+ghost use Rattle.std.specs.Prelude.{◌≡◌, ◌≤◌, length, map};
+ghost use Rattle.daggy_base.specs.declared.index.Direction.{Direction};
+ghost use Rattle.daggy_base.specs.Mapping.{MapsSlots, weight_in, with_weight};
+ghost use Rattle.daggy_base.specs.CallsInTurn.{CanCallAtSlots, TakesToWrite};
+ghost use Rattle.daggy_base.specs.CallsInTurn.{CanLendNodes, CanLendEdges};
+ghost use Rattle.daggy_base.specs.Rewriting.{Leaves, RewritesNodes, RewritesEdges};
+ghost use Rattle.daggy_cells.specs.Fields.{firsts_of, nexts_of};
+ghost use Rattle.daggy_stable.specs.Stored.{weight_of, plain_edge};
+
+use crate::stable_graph::StableDiGraph;
+use daggy_base::index::{Direction, EdgeIndex, IndexType, NodeIndex};
+use daggy_cells::cell::{Edge, Node};
+
+impl<N, E, Ix: IndexType> StableDiGraph<N, E, Ix> {
+    /// Calls `f` with each node by ascending index and a mutable reference to its weight.
+    ///
+    /// # Complexity
+    ///
+    /// O(slots), plus the calls.
+    pub fn update_node_weights<F: FnMut(NodeIndex<Ix>, &mut N)>(&mut self, f: F)
+        requires { CanLendNodes Ix.of F.pre F.step f self.old.graph }
+        ensures written { RewritesNodes Ix.of F.step f self.old.graph self.new.graph }
+        ensures looks { self.new.looks ≡ self.old.looks }
+    {
+        write_nodes(&mut self.nodes, f);
+    }
+
+    /// Calls `f` with each edge by ascending index and a mutable reference to its weight.
+    ///
+    /// # Complexity
+    ///
+    /// O(slots), plus the calls.
+    pub fn update_edge_weights<F: FnMut(EdgeIndex<Ix>, &mut E)>(&mut self, f: F)
+        requires { CanLendEdges Ix.of F.pre F.step f self.old.graph }
+        ensures written { RewritesEdges Ix.of F.step f self.old.graph self.new.graph }
+        ensures looks { self.new.looks ≡ self.old.looks }
+    {
+        write_edges(&mut self.edges, f);
+    }
+}
+
+// Calls f with the weight of each node.
+fn write_nodes<N, Ix: IndexType, F: FnMut(NodeIndex<Ix>, &mut N)>(
+    nodes: &mut Vec<Node<Option<N>, Ix>>,
+    mut f: F,
+)
+    requires callable { CanCallAtSlots Ix.of (TakesToWrite F.pre) (Leaves F.step) (λ w. w) f
+        (map weight_of nodes.old.items) }
+    requires few { length nodes.old.items ≤ Ix.greatest }
+    ensures written { MapsSlots (Leaves F.step) Ix.of (λ w. w) (λ w v. v) f 0
+        (map weight_of nodes.old.items) (map weight_of nodes.new.items) }
+    ensures links { (dir : Direction) → firsts_of dir nodes.new.items
+        ≡ firsts_of dir nodes.old.items }
+{
+    'each: for i in 0..nodes.len() {
+        let x = &mut nodes[i];
+        if let Some(weight) = x.weight.as_mut() {
+            f(NodeIndex::new(i), weight);
+        }
+    }
+}
+
+// Calls f with the weight of each edge.
+fn write_edges<E, Ix: IndexType, F: FnMut(EdgeIndex<Ix>, &mut E)>(
+    edges: &mut Vec<Edge<Option<E>, Ix>>,
+    mut f: F,
+)
+    requires callable { CanCallAtSlots Ix.of (TakesToWrite F.pre) (Leaves F.step) weight_in f
+        (map plain_edge edges.old.items) }
+    requires few { length edges.old.items ≤ Ix.greatest }
+    ensures written { MapsSlots (Leaves F.step) Ix.of weight_in with_weight f 0
+        (map plain_edge edges.old.items) (map plain_edge edges.new.items) }
+    ensures links { (dir : Direction) → nexts_of dir edges.new.items
+        ≡ nexts_of dir edges.old.items }
+{
+    'each: for i in 0..edges.len() {
+        let x = &mut edges[i];
+        if let Some(weight) = x.weight.as_mut() {
+            f(EdgeIndex::new(i), weight);
+        }
+    }
+}
