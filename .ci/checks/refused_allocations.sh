@@ -1,5 +1,6 @@
 #!/usr/bin/env bash
-# Each allocation of the dag's calls refused in turn, until no test has so many: the refusal is answered there, and only there.
+# The tests with no allocation refused, and then with each refused in turn, until no test has so many: in each test exactly one call
+# answers that there was no memory if an allocation of the test was refused, and none does otherwise.
 set -u
 . "$(dirname "$0")/../refusing.sh"
 tests=$(built daggy_refusals daggy_refusals_tests) || exit 1
@@ -13,4 +14,4 @@ while :; do
   if [ "$number" -gt 0 ] && ! was_refused; then break; fi
   number=$((number + 1))
 done
-[ "$number" -gt 40 ] || { echo "only $number allocations"; exit 1; }
+had_refusals "$number" 40

@@ -1,6 +1,6 @@
 //! Documents that are written and read while memory is refused once: the answer is that there was
 //! none. The same call then succeeds.
-use crate::support::{holds, made, refuse};
+use crate::support::{answered, holds, made, refuse};
 use daggy::json::{
     ReadError, WriteError, dag_from_json, dag_to_json, stable_from_json, stable_to_json,
 };
@@ -8,6 +8,7 @@ use daggy::{Dag, StableDag};
 use serde_json::Value;
 use std::alloc::{AllocError, Global};
 use std::process::Abort;
+use std::rt::Env;
 
 type Compact = Dag<u32, u32>;
 
@@ -58,13 +59,15 @@ fn refuse_writing(rt: &impl Abort, error: WriteError, refused: &mut bool) {
     refuse(rt, refused);
 }
 
+const CYCLIC: &str = "{\"edge_property\":\"directed\",\"edges\":[[0,1,4],[1,0,5]],\"nodes\":[2,3]}";
+
 // Reads a document and writes its dag, each a second time if the first is refused, and asserts that
-// the document comes back.
+// the document comes back. Then reads one that has a cycle, likewise, and asserts that it is told.
 fn comes_back<
     D: Drop,
     R: Fn(Global, &Value) -> Result<D, ReadError> + Drop,
     W: Fn(Global, &D) -> Result<Value, WriteError> + Drop,
->(rt: &impl Abort, alloc: Global, text: &str, read: R, write: W)
+>(rt: &(impl Abort + Env), alloc: Global, text: &str, read: R, write: W)
     requires reads { R.IsAlwaysCallable read }
     requires writes { W.IsAlwaysCallable write }
 {
@@ -85,6 +88,16 @@ fn comes_back<
         }
     };
     has_text(rt, alloc, &written, text, &mut refused);
+    let cyclic = value_of(rt, alloc, CYCLIC, &mut refused);
+    let answer = match read(alloc, &cyclic) {
+        Err(ReadError::Memory) => {
+            refuse(rt, &mut refused);
+            read(alloc, &cyclic)
+        }
+        answer => answer,
+    };
+    holds(rt, matches!(answer, Err(ReadError::Cycle)));
+    answered(rt, refused);
 }
 
 fn read_compact(alloc: Global, value: &Value) -> Result<Compact, ReadError> {

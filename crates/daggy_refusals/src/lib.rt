@@ -1,6 +1,7 @@
-//! Calls of the dag while memory is refused once. Run it by
-//! `rt try daggy_refusals --test --fail-alloc N`, for each N from 1 on: the Nth allocation then
-//! fails.
+//! Calls while memory is refused once. `.ci/checks/refused_allocations.sh` runs the tests with no
+//! allocation refused, and then with each in turn. In each test exactly one call answers that there
+//! was no memory if an allocation of the test was refused, and none does otherwise. Only the sort of
+//! a long series can do without, and need not answer.
 #![tactic(auto)]
 
 #[cfg(test)]
@@ -8,13 +9,21 @@ mod again;
 #[cfg(test)]
 mod document_tests;
 #[cfg(test)]
+mod faults;
+#[cfg(test)]
 mod observed;
 #[cfg(test)]
 mod run_tests;
 #[cfg(test)]
 mod scenarios;
 #[cfg(test)]
+mod searches;
+#[cfg(test)]
+mod slots;
+#[cfg(test)]
 mod stable_tests;
+#[cfg(test)]
+mod stores;
 #[cfg(test)]
 mod support;
 #[cfg(test)]

@@ -27,7 +27,8 @@ fn edge_weight<S: Kind>(dag: &Plain<S>, e: EdgeIndex) -> usize {
     }
 }
 
-fn mix(sum: usize, x: usize) -> usize {
+/// A number of these two.
+pub fn mix(sum: usize, x: usize) -> usize {
     sum.wrapping_mul(31).wrapping_add(x)
 }
 

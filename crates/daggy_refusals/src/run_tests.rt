@@ -1,10 +1,11 @@
 //! Commands that are run while memory is refused once: they come back, or the reply says so and
 //! nothing has changed. Run again they must succeed.
-use crate::support::{holds, made, refuse, same};
+use crate::support::{answered, holds, made, refuse, same};
 use daggy::run::{Back, Command, GuardedDag, Reply, plan, run};
 use daggy::{Dag, EdgeIndex, NodeIndex, StableDag};
 use std::alloc::{AllocError, Global};
 use std::process::Abort;
+use std::rt::Env;
 
 type Asked = Command<usize, usize, u32>;
 
@@ -167,6 +168,21 @@ fn add_many<D: GuardedDag<usize, usize, u32>>(
     holds(rt, matches!(added, Some(Reply::Edges(_))));
 }
 
+// Edges that close a cycle, which the reply says.
+fn close_cycle<D: GuardedDag<usize, usize, u32>>(
+    rt: &impl Abort,
+    alloc: Global,
+    dag: &mut D,
+    refused: &mut bool,
+) {
+    let (a, b): (NodeIndex, NodeIndex) = (NodeIndex::new(0), NodeIndex::new(1));
+    let edges = [(a, b, 1), (b, a, 2)];
+    let first = Command::Edges(listed(rt, alloc, &edges, refused));
+    let second = Command::Edges(listed(rt, alloc, &edges, refused));
+    let reply = replies(rt, alloc, dag, (first, second), Back::Nothing, refused);
+    holds(rt, matches!(reply, Some(Reply::CycleAll(_))));
+}
+
 fn ask_and_reduce<D: GuardedDag<usize, usize, u32>>(
     rt: &impl Abort,
     alloc: Global,
@@ -202,13 +218,15 @@ fn plan_all<D: GuardedDag<usize, usize, u32>>(
     same(rt, planned.chain.len(), planned.stages.len());
 }
 
-fn run_all<D: GuardedDag<usize, usize, u32>>(rt: &impl Abort, alloc: Global, dag: &mut D) {
+fn run_all<D: GuardedDag<usize, usize, u32>>(rt: &(impl Abort + Env), alloc: Global, dag: &mut D) {
     let mut refused = false;
     add_one_by_one(rt, alloc, dag, &mut refused);
     join_nodes(rt, alloc, dag, &mut refused);
     add_many(rt, alloc, dag, &mut refused);
+    close_cycle(rt, alloc, dag, &mut refused);
     plan_all(rt, alloc, dag, &mut refused);
     ask_and_reduce(rt, alloc, dag, &mut refused);
+    answered(rt, refused);
 }
 
 #[test]

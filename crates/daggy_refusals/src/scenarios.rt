@@ -4,14 +4,19 @@ use crate::again::{
     add_edges, add_edges_again, add_neighbor_again, add_node, add_node_again, extend_again, fan,
     fill, join, join_again, small_fan,
 };
+use crate::faults::faults;
 use crate::observed::{counts, is_fan, state_of};
-use crate::support::{Calls, Compact, Kind, Plain, Stable, holds, made, refuse, same};
+use crate::slots::{edge_slots, node_slots};
+use crate::support::{
+    Calls, Compact, Kind, Plain, Stable, answered, has_cause, holds, made, refuse, same,
+};
 use daggy::graph::Element;
 use daggy::index::Direction;
-use daggy::visit::{GetAdjacencyMatrix, Visitable};
-use daggy::{EdgeError, EdgeIndices, EdgesError, ElementError, NodeError, NodeIndex};
+use daggy::visit::{GetAdjacencyMatrix, NodeSet, Visitable};
+use daggy::{EdgeError, EdgeIndices, EdgesError, ElementError, NodeError, NodeIndex, SlotsError};
 use std::alloc::{AllocError, Global};
 use std::process::Abort;
+use std::rt::Env;
 
 /// What is done with a dag of a kind. Each kind is named in one function, [`compact`] or
 /// [`stable`], since a call at a kind costs a proof much more than a call at any dag.
@@ -28,39 +33,49 @@ pub enum Scenario {
     Extension,
     OfEdges,
     OfElements,
+    OfSlots,
     Reduction,
     Copies(Way),
     Capacity,
     Sets,
+    Faults,
 }
 
-fn play<S: Kind>(rt: &impl Abort, alloc: Global, scenario: Scenario) {
+fn play<S: Kind>(rt: &(impl Abort + Env), alloc: Global, scenario: Scenario) {
+    let mut refused = false;
     match scenario {
-        Scenario::NodesAndEdges => nodes_and_edges::<S>(rt, alloc, false),
-        Scenario::Updates => nodes_and_edges::<S>(rt, alloc, true),
-        Scenario::ParallelEdges => parallel_edges::<S>(rt, alloc),
-        Scenario::Children => children::<S>(rt, alloc),
-        Scenario::Parents => parents::<S>(rt, alloc),
-        Scenario::Series => series::<S>(rt, alloc),
-        Scenario::LongSeries => long_series::<S>(rt, alloc),
-        Scenario::ReservedNodes => reserved_nodes::<S>(rt, alloc),
-        Scenario::Extension => extension::<S>(rt, alloc),
-        Scenario::OfEdges => dag_of_edges::<S>(rt, alloc),
-        Scenario::OfElements => dag_of_elements::<S>(rt, alloc),
-        Scenario::Reduction => reduction::<S>(rt, alloc),
-        Scenario::Copies(way) => copies::<S>(rt, alloc, way),
-        Scenario::Capacity => capacity::<S>(rt, alloc),
-        Scenario::Sets => sets::<S>(rt, alloc),
+        Scenario::NodesAndEdges => nodes_and_edges::<S>(rt, alloc, false, &mut refused),
+        Scenario::Updates => nodes_and_edges::<S>(rt, alloc, true, &mut refused),
+        Scenario::ParallelEdges => parallel_edges::<S>(rt, alloc, &mut refused),
+        Scenario::Children => children::<S>(rt, alloc, &mut refused),
+        Scenario::Parents => parents::<S>(rt, alloc, &mut refused),
+        Scenario::Series => series::<S>(rt, alloc, &mut refused),
+        Scenario::LongSeries => long_series::<S>(rt, alloc, &mut refused),
+        Scenario::ReservedNodes => reserved_nodes::<S>(rt, alloc, &mut refused),
+        Scenario::Extension => extension::<S>(rt, alloc, &mut refused),
+        Scenario::OfEdges => dag_of_edges::<S>(rt, alloc, &mut refused),
+        Scenario::OfElements => dag_of_elements::<S>(rt, alloc, &mut refused),
+        Scenario::OfSlots => dag_of_slots::<S>(rt, alloc, &mut refused),
+        Scenario::Reduction => reduction::<S>(rt, alloc, &mut refused),
+        Scenario::Copies(way) => copies::<S>(rt, alloc, way, &mut refused),
+        Scenario::Capacity => capacity::<S>(rt, alloc, &mut refused),
+        Scenario::Sets => sets::<S>(rt, alloc, &mut refused),
+        Scenario::Faults => faults::<S>(rt, alloc, &mut refused),
+    }
+    match scenario {
+        // The sort of a long series can do without memory of its own.
+        Scenario::LongSeries | Scenario::ReservedNodes => has_cause(rt, refused),
+        _ => answered(rt, refused),
     }
 }
 
 /// Plays a scenario with a compact dag.
-pub fn compact(rt: &impl Abort, alloc: Global, scenario: Scenario) {
+pub fn compact(rt: &(impl Abort + Env), alloc: Global, scenario: Scenario) {
     play::<Compact>(rt, alloc, scenario);
 }
 
 /// Plays a scenario with a stable dag.
-pub fn stable(rt: &impl Abort, alloc: Global, scenario: Scenario) {
+pub fn stable(rt: &(impl Abort + Env), alloc: Global, scenario: Scenario) {
     play::<Stable>(rt, alloc, scenario);
 }
 
@@ -81,71 +96,66 @@ fn refill<S: Kind>(rt: &impl Abort, dag: &mut Plain<S>, update: bool) {
 }
 
 // Nodes, each with an edge from the root, which is made by an update if that is asked for.
-fn nodes_and_edges<S: Kind>(rt: &impl Abort, alloc: Global, update: bool) {
-    let mut refused = false;
-    let mut dag: Plain<S> = begun(rt, alloc, &mut refused);
+fn nodes_and_edges<S: Kind>(rt: &impl Abort, alloc: Global, update: bool, refused: &mut bool) {
+    let mut dag: Plain<S> = begun(rt, alloc, refused);
     if S::GAP {
         refill(rt, &mut dag, update);
     }
     for _ in 0..20 {
         let edges = dag.edge_count();
-        let n = add_node_again(rt, &mut dag, &mut refused);
-        join_again(rt, &mut dag, (0, n.index()), update, &mut refused);
+        let n = add_node_again(rt, &mut dag, refused);
+        join_again(rt, &mut dag, (0, n.index()), update, refused);
         holds(rt, edges < 64);
         is_fan(rt, &dag, edges + 1, S::GAP);
     }
 }
 
 // Edges beside another one.
-fn parallel_edges<S: Kind>(rt: &impl Abort, alloc: Global) {
-    let mut refused = false;
-    let mut dag: Plain<S> = small_fan(rt, alloc, &mut refused);
+fn parallel_edges<S: Kind>(rt: &impl Abort, alloc: Global, refused: &mut bool) {
+    let mut dag: Plain<S> = small_fan(rt, alloc, refused);
     for _ in 0..10 {
-        join_again(rt, &mut dag, (0, 3), false, &mut refused);
+        join_again(rt, &mut dag, (0, 3), false, refused);
     }
 }
 
 // Children of the root.
-fn children<S: Kind>(rt: &impl Abort, alloc: Global) {
-    let mut refused = false;
-    let mut dag: Plain<S> = begun(rt, alloc, &mut refused);
+fn children<S: Kind>(rt: &impl Abort, alloc: Global, refused: &mut bool) {
+    let mut dag: Plain<S> = begun(rt, alloc, refused);
     for _ in 0..20 {
         let edges = dag.edge_count();
         let root = NodeIndex::new(0);
-        add_neighbor_again(rt, &mut dag, root, Direction::Outgoing, &mut refused);
+        add_neighbor_again(rt, &mut dag, root, Direction::Outgoing, refused);
         holds(rt, edges < 64);
         is_fan(rt, &dag, edges + 1, S::GAP);
     }
 }
 
 // Parents of the node that was added last, and of the root.
-fn parents<S: Kind>(rt: &impl Abort, alloc: Global) {
-    let mut refused = false;
-    let mut dag: Plain<S> = begun(rt, alloc, &mut refused);
+fn parents<S: Kind>(rt: &impl Abort, alloc: Global, refused: &mut bool) {
+    let mut dag: Plain<S> = begun(rt, alloc, refused);
     let root = NodeIndex::new(0);
     if S::GAP {
-        add_neighbor_again(rt, &mut dag, root, Direction::Outgoing, &mut refused);
+        add_neighbor_again(rt, &mut dag, root, Direction::Outgoing, refused);
     }
     let mut last = root;
     for _ in 0..10 {
         let edges = dag.edge_count();
-        last = add_neighbor_again(rt, &mut dag, last, Direction::Incoming, &mut refused);
-        add_neighbor_again(rt, &mut dag, root, Direction::Incoming, &mut refused);
+        last = add_neighbor_again(rt, &mut dag, last, Direction::Incoming, refused);
+        add_neighbor_again(rt, &mut dag, root, Direction::Incoming, refused);
         holds(rt, edges < 64);
         counts(rt, &dag, edges + 3, edges + 2);
     }
 }
 
 // Edges in batches, and a batch of none.
-fn series<S: Kind>(rt: &impl Abort, alloc: Global) {
-    let mut refused = false;
-    let mut dag: Plain<S> = begun(rt, alloc, &mut refused);
+fn series<S: Kind>(rt: &impl Abort, alloc: Global, refused: &mut bool) {
+    let mut dag: Plain<S> = begun(rt, alloc, refused);
     let edges = dag.edge_count();
     for _ in 0..20 {
-        add_node_again(rt, &mut dag, &mut refused);
+        add_node_again(rt, &mut dag, refused);
     }
     for _ in 0..4 {
-        add_edges_again(rt, &mut dag, 5, &mut refused);
+        add_edges_again(rt, &mut dag, 5, refused);
     }
     holds(rt, edges < 64);
     is_fan(rt, &dag, edges + 20, S::GAP);
@@ -161,7 +171,10 @@ fn add_long_series<S: Kind>(dag: &mut Plain<S>) -> Result<EdgeIndices<u32>, Edge
     }))
 }
 
-fn add_long_series_again<S: Kind>(rt: &impl Abort, dag: &mut Plain<S>, refused: &mut bool) {
+// Adds them, a second time if the first is refused. If there is no memory for the sort, the nodes
+// are sorted without it, and nothing is refused.
+fn add_long_series_again<S: Kind>(rt: &(impl Abort + Env), dag: &mut Plain<S>, refused: &mut bool) {
+    answered(rt, *refused);
     let before = state_of(dag);
     let added = match add_long_series(dag) {
         Ok(added) => added,
@@ -177,46 +190,52 @@ fn add_long_series_again<S: Kind>(rt: &impl Abort, dag: &mut Plain<S>, refused: 
 }
 
 // A long batch, which is sorted at its end.
-fn long_series<S: Kind>(rt: &impl Abort, alloc: Global) {
-    let mut refused = false;
-    let mut dag: Plain<S> = begun(rt, alloc, &mut refused);
-    add_node_again(rt, &mut dag, &mut refused);
+fn long_series<S: Kind>(rt: &(impl Abort + Env), alloc: Global, refused: &mut bool) {
+    let mut dag: Plain<S> = begun(rt, alloc, refused);
+    add_node_again(rt, &mut dag, refused);
     if !S::GAP {
-        add_node_again(rt, &mut dag, &mut refused);
+        add_node_again(rt, &mut dag, refused);
     }
-    add_long_series_again(rt, &mut dag, &mut refused);
+    add_long_series_again(rt, &mut dag, refused);
 }
 
-fn dag_for<S: Kind>(rt: &impl Abort, alloc: Global, nodes: usize, edges: usize) -> Plain<S> {
+fn dag_for<S: Kind>(
+    rt: &impl Abort,
+    alloc: Global,
+    nodes: usize,
+    edges: usize,
+    refused: &mut bool,
+) -> Plain<S> {
     match S::with_capacity(alloc, nodes, edges) {
         Ok(dag) => dag,
-        Err(AllocError) => made(rt, S::with_capacity(alloc, nodes, edges)),
+        Err(AllocError) => {
+            refuse(rt, refused);
+            made(rt, S::with_capacity(alloc, nodes, edges))
+        }
     }
 }
 
 // Nodes that memory is reserved for. It is still there behind a long batch, which is sorted.
-fn reserved_nodes<S: Kind>(rt: &impl Abort, alloc: Global) {
-    let mut refused = false;
-    let mut dag: Plain<S> = dag_for(rt, alloc, 20, 0);
+fn reserved_nodes<S: Kind>(rt: &(impl Abort + Env), alloc: Global, refused: &mut bool) {
+    let mut dag: Plain<S> = dag_for(rt, alloc, 20, 0, refused);
     for i in 0..3 {
         made(rt, add_node(rt, &mut dag, i));
     }
-    add_long_series_again(rt, &mut dag, &mut refused);
+    add_long_series_again(rt, &mut dag, refused);
     for i in 3..20 {
         made(rt, add_node(rt, &mut dag, i));
     }
 }
 
 // Edges to nodes that are made for them. With a gap the first one takes the vacant slots and more.
-fn extension<S: Kind>(rt: &impl Abort, alloc: Global) {
-    let mut refused = false;
+fn extension<S: Kind>(rt: &impl Abort, alloc: Global, refused: &mut bool) {
     let mut dag = Plain::<S>::new(alloc);
     if S::GAP {
-        dag = small_fan(rt, alloc, &mut refused);
+        dag = small_fan(rt, alloc, refused);
     }
     let first = if S::GAP { 6 } else { 1 };
     for child in first..first + 20 {
-        extend_again(rt, &mut dag, child, &mut refused);
+        extend_again(rt, &mut dag, child, refused);
     }
 }
 
@@ -227,14 +246,16 @@ fn triangle<S: Kind>(alloc: Global) -> Result<Plain<S>, EdgeError<usize>> {
 }
 
 // A dag that is made of edges.
-fn dag_of_edges<S: Kind>(rt: &impl Abort, alloc: Global) {
+fn dag_of_edges<S: Kind>(rt: &impl Abort, alloc: Global, refused: &mut bool) {
     let dag: Plain<S> = match triangle(alloc) {
         Ok(dag) => dag,
         Err(EdgeError::Memory(weight)) => {
+            refuse(rt, refused);
             holds(rt, weight >= 1 && weight <= 3);
             made(rt, triangle(alloc))
         }
         Err(EdgeError::NodeMemory(weight)) => {
+            refuse(rt, refused);
             holds(rt, weight == 1 || weight == 2);
             made(rt, triangle(alloc))
         }
@@ -258,18 +279,37 @@ fn pair<S: Kind>(alloc: Global) -> Result<Plain<S>, ElementError<usize, usize>> 
 }
 
 // A dag that is made of elements.
-fn dag_of_elements<S: Kind>(rt: &impl Abort, alloc: Global) {
+fn dag_of_elements<S: Kind>(rt: &impl Abort, alloc: Global, refused: &mut bool) {
     let dag: Plain<S> = match pair(alloc) {
         Ok(dag) => dag,
         Err(ElementError::Node(NodeError::Memory(weight))) => {
+            refuse(rt, refused);
             holds(rt, weight == 10 || weight == 11);
             made(rt, pair(alloc))
         }
         Err(ElementError::Edge(EdgeError::Memory(weight))) => {
+            refuse(rt, refused);
             same(rt, weight, 12);
             made(rt, pair(alloc))
         }
         Err(_) => panic!(rt; "no other refusal has a cause"),
+    };
+    counts(rt, &dag, 2, 1);
+}
+
+// A dag that is made of slots.
+fn dag_of_slots<S: Kind>(rt: &impl Abort, alloc: Global, refused: &mut bool) {
+    let nodes = node_slots(rt, alloc, refused);
+    let edges = edge_slots(rt, alloc, 1, refused);
+    let dag = match Plain::<S>::from_slots(alloc, nodes, edges) {
+        Ok(dag) => dag,
+        Err(error) => {
+            refuse(rt, refused);
+            same(rt, error, SlotsError::Memory);
+            let nodes = node_slots(rt, alloc, refused);
+            let edges = edge_slots(rt, alloc, 1, refused);
+            made(rt, Plain::<S>::from_slots(alloc, nodes, edges))
+        }
     };
     counts(rt, &dag, 2, 1);
 }
@@ -310,11 +350,10 @@ fn made_again<S: Kind>(
 }
 
 // A dag that is made of a small fan.
-fn copies<S: Kind>(rt: &impl Abort, alloc: Global, way: Way) {
-    let mut refused = false;
-    let dag: Plain<S> = small_fan(rt, alloc, &mut refused);
+fn copies<S: Kind>(rt: &impl Abort, alloc: Global, way: Way, refused: &mut bool) {
+    let dag: Plain<S> = small_fan(rt, alloc, refused);
     let mut calls = Calls { nodes: 0, edges: 0 };
-    let mut copy = made_again(rt, &dag, way, &mut calls, &mut refused);
+    let mut copy = made_again(rt, &dag, way, &mut calls, refused);
     let (nodes, edges) = match way {
         Way::Copy => (0, 0),
         Way::Map | Way::Part => (dag.node_count(), dag.edge_count()),
@@ -329,29 +368,37 @@ fn copies<S: Kind>(rt: &impl Abort, alloc: Global, way: Way) {
 }
 
 // A dag that is made with room for a fan.
-fn capacity<S: Kind>(rt: &impl Abort, alloc: Global) {
-    let mut dag: Plain<S> = dag_for(rt, alloc, 8, 7);
+fn capacity<S: Kind>(rt: &impl Abort, alloc: Global, refused: &mut bool) {
+    let mut dag: Plain<S> = dag_for(rt, alloc, 8, 7, refused);
     fill(rt, &mut dag, 7);
 }
 
-// A set and a matrix for a small fan.
-fn sets<S: Kind>(rt: &impl Abort, alloc: Global) {
-    let mut refused = false;
-    let dag: Plain<S> = small_fan(rt, alloc, &mut refused);
-    let mut set = match dag.visit_map() {
+// A set for the nodes of a dag, which is made again if it is refused.
+fn set_again<S: Kind>(rt: &impl Abort, dag: &Plain<S>, refused: &mut bool) -> NodeSet<u32> {
+    match dag.visit_map() {
         Ok(set) => set,
         Err(AllocError) => {
-            refuse(rt, &mut refused);
+            refuse(rt, refused);
             made(rt, dag.visit_map())
         }
-    };
-    if dag.reset_map(&mut set).is_err() {
-        refuse(rt, &mut refused);
     }
+}
+
+// Sets and a matrix for a small fan. One of the sets was made for a dag without nodes.
+fn sets<S: Kind>(rt: &impl Abort, alloc: Global, refused: &mut bool) {
+    let dag: Plain<S> = small_fan(rt, alloc, refused);
+    let set = set_again(rt, &dag, refused);
+    holds(rt, !set.is_visited(NodeIndex::new(3)));
+    let mut small = set_again(rt, &Plain::<S>::new(alloc), refused);
+    if dag.reset_map(&mut small).is_err() {
+        refuse(rt, refused);
+        made(rt, dag.reset_map(&mut small));
+    }
+    holds(rt, !small.is_visited(NodeIndex::new(3)));
     let matrix = match dag.adjacency_matrix() {
         Ok(matrix) => matrix,
         Err(AllocError) => {
-            refuse(rt, &mut refused);
+            refuse(rt, refused);
             made(rt, dag.adjacency_matrix())
         }
     };
@@ -378,14 +425,13 @@ fn reduce_again<S: Kind>(rt: &impl Abort, alloc: Global, dag: &mut Plain<S>, ref
 
 // A reduction that finds no redundant edge, and one that removes the edge from the root to its
 // last child.
-fn reduction<S: Kind>(rt: &impl Abort, alloc: Global) {
-    let mut refused = false;
-    let mut dag: Plain<S> = small_fan(rt, alloc, &mut refused);
+fn reduction<S: Kind>(rt: &impl Abort, alloc: Global, refused: &mut bool) {
+    let mut dag: Plain<S> = small_fan(rt, alloc, refused);
     let (nodes, edges, state) = (dag.node_count(), dag.edge_count(), state_of(&dag));
-    reduce_again(rt, alloc, &mut dag, &mut refused);
+    reduce_again(rt, alloc, &mut dag, refused);
     same(rt, state_of(&dag), state);
-    join_again(rt, &mut dag, (1, 3), false, &mut refused);
-    reduce_again(rt, alloc, &mut dag, &mut refused);
+    join_again(rt, &mut dag, (1, 3), false, refused);
+    reduce_again(rt, alloc, &mut dag, refused);
     counts(rt, &dag, nodes, edges);
     let gone = dag.find_edge(NodeIndex::new(0), NodeIndex::new(3));
     holds(rt, gone.is_none());

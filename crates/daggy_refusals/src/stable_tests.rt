@@ -2,7 +2,7 @@
 use crate::again::fan;
 use crate::observed::is_fan;
 use crate::scenarios::{Scenario, Way, stable};
-use crate::support::{Compact, Plain, made, refuse};
+use crate::support::{Compact, Plain, answered, made, refuse};
 use daggy::StableDag;
 
 #[test]
@@ -61,6 +61,11 @@ fn a_dag_of_elements_is_made_or_their_weight_comes_back(rt: HostRuntime) {
 }
 
 #[test]
+fn a_dag_of_slots_is_made_again(rt: HostRuntime) {
+    stable(&rt, rt.alloc(), Scenario::OfSlots);
+}
+
+#[test]
 fn a_refused_reduction_removes_nothing(rt: HostRuntime) {
     stable(&rt, rt.alloc(), Scenario::Reduction);
 }
@@ -91,6 +96,11 @@ fn refused_sets_and_matrices_are_asked_again(rt: HostRuntime) {
 }
 
 #[test]
+fn faults_are_told_or_the_refusal(rt: HostRuntime) {
+    stable(&rt, rt.alloc(), Scenario::Faults);
+}
+
+#[test]
 fn a_compact_dag_becomes_a_stable_one_or_comes_back(rt: HostRuntime) {
     let mut refused = false;
     let dag: Plain<Compact> = fan(&rt, rt.alloc(), 1, &mut refused);
@@ -103,4 +113,5 @@ fn a_compact_dag_becomes_a_stable_one_or_comes_back(rt: HostRuntime) {
         }
     };
     is_fan(&rt, &whole, 1, false);
+    answered(&rt, refused);
 }

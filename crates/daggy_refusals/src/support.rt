@@ -11,6 +11,7 @@ use daggy_dag::acyclic::Acyclic;
 use std::alloc::{AllocError, Global};
 use std::fmt::Debug;
 use std::process::Abort;
+use std::rt::Env;
 
 /// A dag of either kind.
 pub type Plain<S> = Acyclic<usize, usize, u32, S>;
@@ -46,8 +47,8 @@ pub type Compact = DiGraph<usize, usize, u32>;
 /// The store of the stable kind.
 pub type Stable = StableDiGraph<usize, usize, u32>;
 
-// Counts a call, and gives the weight that it was called with.
-fn counted(calls: &mut usize, weight: &usize) -> usize {
+/// Counts a call, and gives the weight that it was called with.
+pub fn counted(calls: &mut usize, weight: &usize) -> usize {
     *calls = calls.wrapping_add(1);
     *weight
 }
@@ -128,4 +129,25 @@ pub fn made<T: Drop, E: Drop>(rt: &impl Abort, answer: Result<T, E>) -> T
 pub fn refuse(rt: &impl Abort, refused: &mut bool) {
     assert!(rt; !*refused, "a second refusal");
     *refused = true;
+}
+
+// Whether an allocation was refused so far. `.ci/fail_allocation.c` tells it in the environment; by
+// itself no test is refused.
+fn was_refused(rt: &impl Env) -> bool {
+    let mut told = [0u8; 8];
+    match rt.var("ALLOCATIONS_REFUSED", &mut told) {
+        Ok(_) => told[0] == b'1',
+        Err(_) => false,
+    }
+}
+
+/// Asserts that the refusal was answered if an allocation was refused, and else that none was.
+pub fn answered(rt: &(impl Abort + Env), refused: bool) {
+    same(rt, refused, was_refused(rt));
+}
+
+/// Asserts that no refusal was answered if no allocation was refused. A call that can do without
+/// the memory need not answer one.
+pub fn has_cause(rt: &(impl Abort + Env), refused: bool) {
+    holds(rt, !refused || was_refused(rt));
 }

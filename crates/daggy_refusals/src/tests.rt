@@ -1,9 +1,9 @@
 //! The calls of the compact dag.
 use crate::again::{fill, join_again, small_fan};
-use crate::observed::counts;
+use crate::observed::{counts, state_of};
 use crate::scenarios::{Scenario, Way, compact};
-use crate::support::{Compact, Plain, made, refuse, same};
-use daggy::{Dag, same_reachability};
+use crate::support::{Compact, Plain, answered, made, refuse, same};
+use daggy::same_reachability;
 use std::alloc::AllocError;
 use std::process::Abort;
 
@@ -63,6 +63,11 @@ fn a_dag_of_elements_is_made_or_their_weight_comes_back(rt: HostRuntime) {
 }
 
 #[test]
+fn a_dag_of_slots_is_made_again(rt: HostRuntime) {
+    compact(&rt, rt.alloc(), Scenario::OfSlots);
+}
+
+#[test]
 fn a_refused_reduction_removes_nothing(rt: HostRuntime) {
     compact(&rt, rt.alloc(), Scenario::Reduction);
 }
@@ -93,20 +98,82 @@ fn refused_sets_and_matrices_are_asked_again(rt: HostRuntime) {
 }
 
 #[test]
+fn faults_are_told_or_the_refusal(rt: HostRuntime) {
+    compact(&rt, rt.alloc(), Scenario::Faults);
+}
+
+/// A call that changes what a compact dag has memory for, and nothing else.
+#[derive(Clone, Copy)]
+enum Room {
+    Nodes(usize),
+    ExactNodes(usize),
+    Edges(usize),
+    ExactEdges(usize),
+    Fitted,
+    FittedNodes,
+    FittedEdges,
+}
+
+fn ask(dag: &mut Plain<Compact>, room: Room) -> Result<(), AllocError> {
+    match room {
+        Room::Nodes(count) => dag.reserve_nodes(count),
+        Room::ExactNodes(count) => dag.reserve_exact_nodes(count),
+        Room::Edges(count) => dag.reserve_edges(count),
+        Room::ExactEdges(count) => dag.reserve_exact_edges(count),
+        Room::Fitted => dag.shrink_to_fit(),
+        Room::FittedNodes => dag.shrink_to_fit_nodes(),
+        Room::FittedEdges => dag.shrink_to_fit_edges(),
+    }
+}
+
+// Makes these calls, each a second time if the first is refused.
+fn ask_again(rt: &impl Abort, dag: &mut Plain<Compact>, rooms: &[Room], refused: &mut bool) {
+    let before = state_of(dag);
+    for room in rooms {
+        if ask(dag, *room).is_err() {
+            refuse(rt, refused);
+            same(rt, state_of(dag), before);
+            made(rt, ask(dag, *room));
+        }
+        same(rt, state_of(dag), before);
+    }
+}
+
+#[test]
 fn refused_room_is_asked_again(rt: HostRuntime) {
-    let mut dag = Dag::new(rt.alloc());
+    let mut dag: Plain<Compact> = Plain::<Compact>::new(rt.alloc());
     let mut refused = false;
-    if dag.reserve_nodes(20).is_err() {
-        refuse(&rt, &mut refused);
-        counts(&rt, &dag, 0, 0);
-        made(&rt, dag.reserve_nodes(20));
-    }
-    if dag.reserve_edges(20).is_err() {
-        refuse(&rt, &mut refused);
-        counts(&rt, &dag, 0, 0);
-        made(&rt, dag.reserve_edges(20));
-    }
+    let room = [Room::Nodes(20), Room::Edges(20)];
+    ask_again(&rt, &mut dag, &room, &mut refused);
     fill(&rt, &mut dag, 19);
+    answered(&rt, refused);
+}
+
+#[test]
+fn refused_exact_room_is_asked_again(rt: HostRuntime) {
+    let mut dag: Plain<Compact> = Plain::<Compact>::new(rt.alloc());
+    let mut refused = false;
+    let room = [Room::ExactNodes(20), Room::ExactEdges(20)];
+    ask_again(&rt, &mut dag, &room, &mut refused);
+    fill(&rt, &mut dag, 19);
+    answered(&rt, refused);
+}
+
+#[test]
+fn a_refused_smaller_block_is_asked_for_again(rt: HostRuntime) {
+    let mut refused = false;
+    let mut dag: Plain<Compact> = small_fan(&rt, rt.alloc(), &mut refused);
+    let room = [
+        Room::ExactNodes(20),
+        Room::FittedNodes,
+        Room::ExactEdges(20),
+        Room::FittedEdges,
+        Room::Nodes(30),
+        Room::Edges(30),
+        Room::Fitted,
+    ];
+    ask_again(&rt, &mut dag, &room, &mut refused);
+    answered(&rt, refused);
 }
 
 // Compares two dags, a second time if the first is refused.
@@ -136,4 +203,5 @@ fn a_refused_comparison_is_made_again(rt: HostRuntime) {
     compare_again(&rt, &dag, &dag, true, &mut refused);
     compare_again(&rt, &dag, &other, false, &mut refused);
     counts(&rt, &other, 4, 4);
+    answered(&rt, refused);
 }
