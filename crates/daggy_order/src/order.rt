@@ -5,9 +5,9 @@ ghost use Rattle.daggy_base.specs.Removal.{without, renamed};
 ghost use Rattle.daggy_base.specs.WellFormed.{AreDistinct};
 ghost use Rattle.daggy_base.specs.Ordered.{place, with_first};
 
+use crate::list::{LabeledList, Tail};
 use daggy_base::index::{DefaultIx, IndexType, NodeIndex};
 use daggy_base::link::Link;
-use crate::list::{Tail, LabeledList};
 use std::alloc::{AllocError, Global};
 use std::marker::Model;
 

@@ -88,13 +88,7 @@ impl<Ix: IndexType> Links<Ix> {
     // Labels the `count` nodes after `a` (from `from` up to, not including, `after`). If the gap is
     // too narrow, widens the run until the gaps are at least as wide as the run is long. Returns
     // false if the end of the list is reached first.
-    fn relabel_window(
-        &mut self,
-        a: Link<Ix>,
-        from: Link<Ix>,
-        count: usize,
-        after: Link<Ix>,
-    ) -> bool
+    fn relabel_window(&mut self, a: Link<Ix>, from: Link<Ix>, count: usize, after: Link<Ix>) -> bool
         requires { HasGap Ix.greatest self.old.labels self.old.nodes a from count after }
         ensures ascending { IsTrue result
             → LabelsAscend self.new.labels 0 self.old.nodes (2 ^ 64) }

@@ -334,7 +334,13 @@ impl<Ix: IndexType> Links<Ix> {
         } }
     {
         let q = self.first;
-        join(&mut self.items, &mut self.first, &mut self.last, Link::end(), n);
+        join(
+            &mut self.items,
+            &mut self.first,
+            &mut self.last,
+            Link::end(),
+            n,
+        );
         join(&mut self.items, &mut self.first, &mut self.last, n, q);
         self.count += 1;
     }
@@ -388,7 +394,13 @@ impl<Ix: IndexType> Links<Ix> {
         } }
     {
         let Item { next, previous, .. } = self.items[n.index()];
-        join(&mut self.items, &mut self.first, &mut self.last, previous, next);
+        join(
+            &mut self.items,
+            &mut self.first,
+            &mut self.last,
+            previous,
+            next,
+        );
         self.count -= 1;
     }
 

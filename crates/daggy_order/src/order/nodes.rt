@@ -2,10 +2,10 @@
 ghost use Rattle.std.specs.Prelude.{◌≡◌, ◌<◌, ◌^◌, length};
 ghost use Rattle.std.specs.Iterator.{YieldsFirstBy, item_count};
 
+use crate::list::LabeledList;
 use crate::order::Order;
 use daggy_base::index::{DefaultIx, IndexType, NodeIndex};
 use daggy_base::link::Link;
-use crate::list::LabeledList;
 use std::alloc::AllocError;
 use std::fmt;
 use std::iter::{ExactSizeIterator, FusedIterator};
