@@ -3,10 +3,10 @@
 # answers that there was no memory if an allocation of the test was refused, and none does otherwise.
 set -u
 . "$(dirname "$0")/../refusing.sh"
-tests=$(built daggy_refusals daggy_refusals_tests) || exit 1
+tests=$(built tests_allocation tests_allocation_tests) || exit 1
 number=0
 while :; do
-  out=$(refusing "$number" daggy_refusals_tests "$runner" --seconds 60 "$tests" 2>&1)
+  out=$(refusing "$number" tests_allocation_tests "$runner" --seconds 60 "$tests" 2>&1)
   if ! printf '%s\n' "$out" | grep -q 'test result: ok. [0-9]* passed; 0 failed'; then
     printf 'allocation %s:\n%s\n' "$number" "$out"
     exit 1

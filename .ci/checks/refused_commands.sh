@@ -1,6 +1,6 @@
 #!/usr/bin/env bash
 # Each allocation of the line program refused in turn, until there are no more, for both kinds of graph: it ends before it reads,
-# or one command is answered `memory`, and with none refused neither is so. The same of the script of `dagbench_tests`, by the
+# or one command is answered `memory`, and with none refused neither is so. The same of the script of `tests_lines`, by the
 # program and by `serve`, and of a plan.
 set -u
 . "$(dirname "$0")/../refusing.sh"
@@ -61,7 +61,7 @@ for kind in compact stable; do
   had_refusals "$number" 8 || exit 1
 done
 
-tests=$(built dagbench_tests dagbench_tests_tests) || exit 1
+tests=$(built tests_lines dagbench_tests_tests) || exit 1
 for number in $(seq 1 1000); do
   if ! out=$(refusing "$number" dagbench_tests_tests "$runner" --filter a_refused_request "$tests" 2>&1); then
     printf 'serve, allocation %s:\n%s\n' "$number" "$out"

@@ -1,0 +1,105 @@
+#!/usr/bin/env bash
+# Times this library and a peer on the same workloads, one run of each in turn, and prints the table of
+# docs/BENCHMARKS.md: two series, of each the medians, their ratio, and the ratio of the least times.
+#   compare.sh PEER_BENCH PEER_PROGRAM [ROW]     PEER_PROGRAM may be -; with ROW, the rows alone whose text holds it
+# PEER_BENCH NAME NODES EDGES [--kind stable] --reps 1 prints a line that ends with seconds, and on standard error `check .. VALUE`.
+# PEER_PROGRAM compact reads command lines and writes replies.
+set -eu
+peer_bench=$(realpath "$1")
+peer_program=$([ "$2" = - ] && echo - || realpath "$2")
+wanted=${3:-}
+here=$(cd "$(dirname "$0")" && pwd)
+work=$(mktemp -d)
+trap 'rm -rf "$work"' EXIT
+
+(cd "$here" && rt run -- commands 1 > "$work/build" 2>&1) || { cat "$work/build"; exit 1; }
+our_bench=$here/out/benchmarks
+our_program=$here/../dagbench/out/dagbench
+
+median() { sort -g "$1" | awk '{ x[NR] = $1 } END { print x[int((NR + 1) / 2)] }'; }
+
+least() { sort -g "$1" | head -n 1; }
+
+series() { # from the files ours and theirs: medians, their ratio, and that of the least times
+  awk -v ours="$(median "$work/ours")" -v theirs="$(median "$work/theirs")" \
+    -v our_least="$(least "$work/ours")" -v their_least="$(least "$work/theirs")" 'BEGIN {
+      printf " %.3g | %.3g | %.2g | %.2g |", ours, theirs, ours / theirs, our_least / their_least }'
+}
+
+asked() { case "$1" in *"$wanted"*) true ;; *) false ;; esac; }
+
+workload() { # ROUNDS NAME NODES EDGES ..: two series of so many rounds
+  local rounds=$1 same=equal ours theirs
+  shift
+  asked "$*" || return 0
+  printf '| %s |' "$*"
+  for _ in 1 2; do
+    : > "$work/ours"
+    : > "$work/theirs"
+    for _ in $(seq "$rounds"); do
+      "$our_bench" "$@" 2> "$work/check" | awk '{ print $NF }' >> "$work/ours"
+      ours=$(awk '/^check/ { print $NF }' "$work/check")
+      "$peer_bench" "$@" --reps 1 2> "$work/check" | awk '{ print $NF }' >> "$work/theirs"
+      theirs=$(awk '/^check/ { print $NF }' "$work/check")
+      [ -n "$ours" ] && [ "$ours" = "$theirs" ] || same=DIFFERENT
+    done
+    series
+  done
+  echo " $same |"
+}
+
+program() { # ROUNDS
+  local same=equal
+  asked "line program" || return 0
+  (cd "$here/../dagbench" && rt run -- compact > "$work/build" 2>&1) || { cat "$work/build"; exit 1; }
+  "$our_bench" commands 200000 > "$work/lines"
+  printf '| line program, 200000 commands |'
+  for _ in 1 2; do
+    : > "$work/ours"
+    : > "$work/theirs"
+    for _ in $(seq "$1"); do
+      { TIMEFORMAT=%R; time "$our_program" compact < "$work/lines" > "$work/our_replies"; } 2>> "$work/ours"
+      { TIMEFORMAT=%R; time "$peer_program" compact < "$work/lines" > "$work/peer_replies"; } 2>> "$work/theirs"
+      [ -s "$work/our_replies" ] && cmp -s "$work/our_replies" "$work/peer_replies" || same=DIFFERENT
+    done
+    series
+  done
+  echo " $same |"
+}
+
+echo "| Workload, nodes, edges | ours, s | theirs, s | ratio | least | second series: ours, s | theirs, s | ratio | least | check values |"
+echo "|---|---|---|---|---|---|---|---|---|---|"
+workload 15 build_sorted 100000 500000
+workload 15 add_edges 100000 500000
+workload 15 add_child_tree 1000000 0
+workload 15 walk_children 100000 500000
+workload 15 map_weights 100000 500000
+workload 15 copy 100000 500000
+workload 15 edge_list 100000 500000
+workload 15 remove_edges 100000 500000
+workload 15 remove_nodes 100000 500000
+workload 15 build_sorted 100000 500000 --kind stable
+workload 15 add_edges 100000 500000 --kind stable
+workload 15 add_child_tree 1000000 0 --kind stable
+workload 15 churn 20000 60000 --kind stable
+workload 15 walk_children 100000 500000 --kind stable
+workload 15 map_weights 100000 500000 --kind stable
+workload 15 copy 100000 500000 --kind stable
+workload 15 edge_list 100000 500000 --kind stable
+workload 15 remove_edges 100000 500000 --kind stable
+workload 15 remove_nodes 100000 500000 --kind stable
+workload 5 build_random 10000 100000
+workload 2 build_lowhigh 3000 100000
+workload 2 build_mixed 10000 100000
+workload 15 build_older 100000 500000
+workload 15 build_older 100000 500000 --kind stable
+workload 15 fold_children 100000 500000
+workload 15 take_even 100000 500000
+workload 21 remove_nodes 1000 5000
+workload 21 remove_nodes 1000 5000 --kind stable
+workload 5 remove_nodes 400000 400000
+workload 5 remove_nodes 400000 400000 --kind stable
+workload 11 reduce 10 10
+workload 11 json_write 100000 500000
+workload 11 json_read 100000 500000
+[ "$peer_program" = "-" ] || program 5

@@ -1,5 +1,0 @@
-//! The compact store and what it stands on, by example.
-#![tactic(auto)]
-
-#[cfg(test)]
-mod tests;

@@ -1,5 +1,0 @@
-//! The first example of the README, by the names that users have.
-#![tactic(auto)]
-
-#[cfg(test)]
-mod tests;

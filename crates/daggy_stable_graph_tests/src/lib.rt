@@ -1,5 +1,0 @@
-//! The stable store by example.
-#![tactic(auto)]
-
-#[cfg(test)]
-mod tests;

@@ -1,4 +1,0 @@
-use Rattle.daggy_walk_tests.proofs.tests.support.goes.Given as goal
-
-abbrev pub invariant-loop-step : goal.invariant-loop-step
-invariant-loop-step g l = g.W.Walker.can_walk l.walker l.graph

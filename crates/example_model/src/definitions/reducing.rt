@@ -1,0 +1,35 @@
+//! Redundant edges and reductions.
+ghost use Rattle.std.specs.Prelude.{List, [], ◌∷◌};
+ghost use Rattle.daggy_base.specs.Removal.{Compact, without_edges};
+ghost use Rattle.daggy_base.specs.Reduction.{IsReduction, Covers};
+ghost use Rattle.example_model.specs.Examples.{line, with_lines, shortcuts, doubled_step};
+ghost use Rattle.example_model.specs.Examples.{turned_triangle};
+
+/// Of the eight edges of five nodes three are redundant. The reduction is as before once one of
+/// them came back and was reduced away again.
+pub fn the_reduction_of_five_nodes()
+    ensures before { IsReduction Compact (0 ∷ []) shortcuts
+        (without_edges Compact shortcuts (6 ∷ 3 ∷ 2 ∷ [])) }
+    ensures again { let reduced = without_edges Compact shortcuts (6 ∷ 3 ∷ 2 ∷ []) in
+        IsReduction Compact (0 ∷ []) (with_lines (line 0 4 9 ∷ []) reduced) reduced }
+{}
+
+/// Edges of one pair do not make one another redundant.
+pub fn parallel_edges_stay()
+    ensures { IsReduction Compact (0 ∷ []) doubled_step
+        (without_edges Compact doubled_step (1 ∷ [])) }
+{}
+
+/// An edge that no root reaches stays.
+pub fn edges_above_the_roots_stay()
+    ensures from_the_middle { IsReduction Compact (1 ∷ []) turned_triangle turned_triangle }
+    ensures from_nowhere { IsReduction Compact (99 ∷ []) turned_triangle turned_triangle }
+    ensures from_the_top { IsReduction Compact (0 ∷ []) turned_triangle
+        (without_edges Compact turned_triangle (2 ∷ [])) }
+{}
+
+/// What lies at the end of one step covers, and what lies beyond it does not.
+pub fn nothing_stands_between_a_cover()
+    ensures covers { Covers turned_triangle 0 1 }
+    ensures not { Covers turned_triangle 0 2 → ⊥ }
+{}

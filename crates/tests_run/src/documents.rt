@@ -1,0 +1,7 @@
+//! Dags as documents.
+
+mod random;
+mod reading;
+mod support;
+mod texts;
+mod writing;
