@@ -117,7 +117,7 @@ impl<G: Graph> Churn<G> {
     }
 }
 
-/// Edges and nodes that come and go in a dag of so many nodes.
+/// Edges and nodes that come and go in a dag of `nodes` nodes.
 pub fn come_and_go<G: Graph, R: AllocGlobal + CpuClock>(rt: &R, nodes: u32) -> io::Result<Figures> {
     let mut churn: Churn<G> = Churn::new(rt.alloc(), nodes)?;
     let start = rt.process_cpu_time()?;

@@ -3,7 +3,7 @@ use crate::random::Random;
 use std::io;
 use std::io::Write;
 
-/// Writes so many random command lines, the same for everyone.
+/// Writes `count` random command lines, the same in every run.
 pub fn write_commands<W: Write>(out: &mut W, count: u32) -> io::Result<()> {
     let mut random = Random::new(1);
     for i in 0..count {
@@ -12,7 +12,7 @@ pub fn write_commands<W: Write>(out: &mut W, count: u32) -> io::Result<()> {
     Ok(())
 }
 
-// One command over about so many nodes.
+// Writes one command over about `nodes` nodes.
 fn write_command<W: Write>(out: &mut W, random: &mut Random, nodes: u32) -> io::Result<()> {
     let (a, b, weight) = if nodes > 0 {
         (random.below(nodes), random.below(nodes), random.below(1000))

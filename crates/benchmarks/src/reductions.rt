@@ -33,7 +33,7 @@ fn reduce<G: Graph, R: AllocGlobal + CpuClock>(
     Ok(Figures { seconds, check })
 }
 
-/// Reducing layers of nodes: so many as the first number, each of so many nodes as the second.
+/// Reduces layers of nodes: `sizes` has the number of layers, and the number of nodes in each.
 pub fn reduce_layers<G: Graph, R: AllocGlobal + CpuClock>(
     rt: &R,
     sizes: Sizes,

@@ -124,7 +124,7 @@ fn small_node(index: usize) -> NodeIndex {
     NodeIndex::new(index % 256)
 }
 
-/// Adds so many edges at once, which make the root lead to the next nodes of a fan.
+/// Adds `count` edges at once, from the root to the next nodes of a fan.
 pub fn add_edges<S: Kind>(
     rt: &impl Abort,
     dag: &mut Plain<S>,
@@ -139,7 +139,7 @@ pub fn add_edges<S: Kind>(
     }))
 }
 
-/// Adds so many edges at once, likewise.
+/// The same, once more after a refusal.
 pub fn add_edges_again<S: Kind>(
     rt: &impl Abort,
     dag: &mut Plain<S>,
@@ -223,7 +223,7 @@ pub fn extend_again<S: Kind>(
     );
 }
 
-/// A root with so many children.
+/// A root with `children` children.
 pub fn fan<S: Kind>(
     rt: &impl Abort,
     alloc: Global,
@@ -248,7 +248,7 @@ pub fn small_fan<S: Kind>(rt: &impl Abort, alloc: Global, refused: &mut bool) ->
     dag
 }
 
-/// Adds a root and so many children to an empty dag that has room for them.
+/// Adds a root and `children` children to an empty dag that has capacity for them.
 pub fn fill<S: Kind>(rt: &impl Abort, dag: &mut Plain<S>, children: usize) {
     let root = made(rt, add_node(rt, dag, 0));
     for i in 0..children {

@@ -94,8 +94,8 @@ pub fn nth(gap: bool, k: usize) -> usize
     }
 }
 
-/// Asserts that the dag is a root with so many children, newest first, and nothing else. Each edge
-/// leads to the node of the index after its own.
+/// Asserts that the dag is a root with `edges` children, newest first, and nothing else. Edge `i`
+/// leads to node `i + 1`.
 pub fn is_fan<S: Kind>(rt: &impl Abort, dag: &Plain<S>, edges: usize, gap: bool) {
     holds(rt, edges < 64);
     counts(rt, dag, edges + 1, edges);

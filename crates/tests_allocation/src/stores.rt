@@ -13,7 +13,7 @@ use std::rt::Env;
 
 /// A store with the calls that only its own kind has.
 trait StoreKind: Store<u32, NodeWeight = usize, EdgeWeight = usize> {
-    /// Makes a store with room for so many nodes and edges.
+    /// An empty store with capacity for `nodes` nodes and `edges` edges.
     fn roomy(alloc: Global, nodes: usize, edges: usize) -> Result<Self, AllocError>;
 
     /// Makes a store of this one.

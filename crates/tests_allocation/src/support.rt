@@ -28,7 +28,7 @@ pub trait Kind: Store<u32, NodeWeight = usize, EdgeWeight = usize> {
     /// Whether a removal leaves a gap.
     const GAP: bool;
 
-    /// Makes a dag with room for so many nodes and edges.
+    /// An empty dag with capacity for `nodes` nodes and `edges` edges.
     fn with_capacity(alloc: Global, nodes: usize, edges: usize) -> Result<Plain<Self>, AllocError>;
 
     /// Copies a dag.
@@ -115,7 +115,7 @@ pub fn holds(rt: &impl Abort, fact: bool)
     assert!(rt; fact);
 }
 
-/// Asserts that a call succeeded, and gives what it gave.
+/// Asserts that a call succeeded, and returns its value.
 pub fn made<T: Drop, E: Drop>(rt: &impl Abort, answer: Result<T, E>) -> T
     ensures { answer ≡ Ok result }
 {

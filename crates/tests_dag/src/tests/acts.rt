@@ -32,7 +32,7 @@ pub enum Act<'a> {
     Part(u32, u64, &'a [Row<'a>]),
     /// A table is played over another dag, which is made with room for nodes and edges.
     Capacity(usize, usize, &'a [Row<'a>]),
-    /// There is no memory for so many nodes and edges.
+    /// There is no memory for that many nodes and edges.
     NoCapacity(usize, usize),
     /// The weights of two nodes are raised, of which the first was this.
     RaiseNodes(usize, usize, u32),

@@ -27,7 +27,7 @@ pub type Line = (usize, usize, usize, u32);
 
 /// A store of numbers, with the calls that only dags of one kind have.
 pub trait Kind: Store<u8, NodeWeight = u32, EdgeWeight = u32> {
-    /// A dag with room for so many nodes and edges.
+    /// An empty dag with capacity for `nodes` nodes and `edges` edges.
     fn with_capacity(alloc: Global, nodes: usize, edges: usize) -> Result<Plain<Self>, AllocError>;
 
     /// A copy of a dag.

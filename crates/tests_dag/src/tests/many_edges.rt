@@ -224,8 +224,8 @@ fn an_element_that_closes_a_cycle_is_refused(rt: HostRuntime) {
     );
 }
 
-// So many nodes, and so many edges between them, no two of which have the same ends. A node weighs
-// its position, and an edge the number of those before it.
+// `nodes` nodes and `edges` edges between them, no two with the same endpoints. The weight of each
+// is its position among its own kind.
 fn parts_of(rt: &impl Abort, alloc: Global, nodes: u32, edges: u32) -> Vec<Part> {
     let mut parts = Vec::new(alloc);
     for weight in 0..nodes {

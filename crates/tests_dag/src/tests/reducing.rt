@@ -129,7 +129,7 @@ fn a_full_dag_is_reduced(rt: HostRuntime) {
     compact(&rt, rt.alloc(), Scene::Rows(ROWS));
 }
 
-// Adds so many diamonds in a chain: two ways from each third node to the next one.
+// Adds a chain of `count` diamonds: two ways from each third node to the next one.
 fn add_diamonds<Ix: IndexType, S: Store<Ix, NodeWeight = u32, EdgeWeight = u32>>(
     rt: &impl Abort,
     dag: &mut Acyclic<u32, u32, Ix, S>,

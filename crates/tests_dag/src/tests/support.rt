@@ -20,7 +20,7 @@ pub fn holds(rt: &impl Abort, fact: bool)
     assert!(rt; fact);
 }
 
-/// Asserts that a call succeeded, and gives what it gave.
+/// Asserts that a call succeeded, and returns its value.
 pub fn made<T: Drop, E: Drop>(rt: &impl Abort, answer: Result<T, E>) -> T
     ensures { answer ≡ Ok result }
 {

@@ -29,7 +29,7 @@ pub enum Call<'a> {
     Parent(usize, u32, u32),
     Edges(&'a [(usize, usize, u32)]),
     Extend(&'a [(usize, usize, u32)]),
-    // Adds so many nodes to an empty dag, the weights of which are their indices.
+    // Adds that many nodes to an empty dag. Their weights are their indices.
     Nodes(usize),
     // Adds edges of weight 1 from one node to another until no index is left.
     Fill(usize, usize),
@@ -486,9 +486,9 @@ pub enum Scene<'a> {
     Fault,
     /// The order tells its length.
     Length,
-    /// Cycles are looked for along a path of so many nodes, one less than the greatest index.
+    /// A search for cycles along a path of as many nodes as there can be.
     LongChain,
-    /// Cycles are looked for in a graph with many edges.
+    /// A search for cycles in a graph with many edges.
     DenseGraph,
     /// A chain of diamonds is reduced.
     Diamonds,
@@ -564,7 +564,7 @@ pub fn both(rt: &impl Abort, alloc: Global, scene: Scene<'_>) {
     stable(rt, alloc, scene);
 }
 
-/// Adds so many nodes, the weights of which are their indices.
+/// Adds `count` nodes, whose weights are their indices.
 pub fn fill_nodes<Ix: IndexType, S: Store<Ix, NodeWeight = u32, EdgeWeight = u32>>(
     rt: &impl Abort,
     dag: &mut Acyclic<u32, u32, Ix, S>,

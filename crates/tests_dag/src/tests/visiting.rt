@@ -141,7 +141,7 @@ pub fn visit<S: Kind>(rt: &impl Abort, dag: &Plain<S>, n: NodeIndex<u8>) {
     holds(rt, !set.is_visited(n));
 }
 
-/// Resets a set for so many nodes more.
+/// Adds `more` nodes, and resets a set for them.
 pub fn reset<S: Kind>(rt: &impl Abort, dag: &mut Plain<S>, more: u32) {
     let mut map = made(rt, dag.visit_map());
     for weight in 0..more {

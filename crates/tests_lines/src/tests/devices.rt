@@ -8,8 +8,7 @@ use std::io::{ErrorKind, Read, Write};
 use std::process::Abort;
 use std::test::Fail;
 
-/// Gives so many bytes a read. Its call behind so many ones is an error, and it goes on behind
-/// that.
+/// Gives at most `most` bytes a read. One call fails, and those after it succeed.
 #[derive(Drop)]
 struct Reader<'a> {
     rest: &'a [u8],
@@ -30,8 +29,7 @@ impl<'a> Read for Reader<'a> {
     }
 }
 
-/// Takes four bytes a write. Its call behind so many ones is an error, or takes nothing, and it
-/// goes on behind that.
+/// Takes four bytes a write. One call fails or takes nothing, and those after it succeed.
 #[derive(Drop)]
 struct Writer {
     taken: Vec<u8>,
@@ -72,7 +70,7 @@ impl Write for Writer {
 
 const LINES: &'static str = "node 1\nnode 2\n";
 
-/// How a run ends whose read fails behind so many ones, and what it writes.
+/// How many reads succeed before one fails, how the run ends, and what it writes.
 const READS: [(u32, Result<(), Stop>, &'static str); 4] = [
     (0, Err(Stop::Read), ""),
     (1, Err(Stop::Read), "n0\n"),
@@ -148,8 +146,8 @@ fn each_error_of_a_reader_is_a_fault(rt: HostRuntime) -> Result<(), Fail> {
     Ok(())
 }
 
-/// How a run ends whose write or flush fails behind so many ones, and what it writes: two pieces,
-/// and then it flushes.
+/// How many calls succeed before a write or the flush fails, how the run ends, and what it writes:
+/// two pieces, and then it flushes.
 const WRITES: [(u32, Result<(), Stop>, &'static str); 4] = [
     (0, Err(Stop::Write), ""),
     (1, Err(Stop::Write), "n0\nn"),

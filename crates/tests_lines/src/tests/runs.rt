@@ -165,7 +165,7 @@ fn a_line_may_hold_any_byte(rt: HostRuntime) -> Result<(), Fail> {
     Ok(())
 }
 
-/// A front, then a piece so many times, then a rest.
+/// A front, a piece with the number of times it is repeated, and a rest.
 type Repeated = (&'static str, &'static str, u32, &'static str);
 
 fn repeated(alloc: Global, text: Repeated) -> Result<String, AllocError> {

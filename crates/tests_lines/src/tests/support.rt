@@ -16,7 +16,7 @@ pub fn ended(rt: &impl Abort, found: Result<(), Stop>, wanted: Result<(), Stop>)
     assert_eq!(rt; found, wanted);
 }
 
-/// A run over devices in memory that fail behind so many calls.
+/// A run over devices in memory that fail after the given numbers of calls.
 pub fn run(
     alloc: Global,
     mode: Mode,

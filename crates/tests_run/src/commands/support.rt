@@ -208,7 +208,7 @@ pub fn play<D: GuardedDag<u32, u32, u8>>(
     }
 }
 
-/// Adds so many nodes to a dag that has none.
+/// Adds `count` nodes to an empty dag.
 pub fn add_nodes<D: GuardedDag<u32, u32, u8>>(
     rt: &impl Abort,
     alloc: Global,

@@ -37,7 +37,7 @@ pub fn shows<T: Debug>(rt: &impl Abort, alloc: Global, value: &T, wanted: &str) 
     assert_eq!(rt; text.as_str(), wanted);
 }
 
-/// Asserts that a call succeeded, and gives what it gave.
+/// Asserts that a call succeeded, and returns its value.
 pub fn made<T: Drop, E: Drop>(rt: &impl Abort, answer: Result<T, E>) -> T
     ensures { answer ≡ Ok result }
 {

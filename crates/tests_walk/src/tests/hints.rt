@@ -42,7 +42,7 @@ pub fn hints<S: Store<u32, NodeWeight = u32, EdgeWeight = u32>>(rt: &impl Abort,
     tells(rt, &dag, ended, Some(0));
 }
 
-/// Takes all items, of which there are so many, and two steps more.
+/// Takes all `count` items, and asks twice more.
 fn rests<I: FusedIterator<Item = Step>>(rt: &impl Abort, mut items: I, count: usize)
     requires can { (s : I) → I.can_next s }
     requires ends { IsFinite (I.remaining items) }

@@ -30,7 +30,7 @@ pub fn holds(rt: &impl Abort, fact: bool)
     assert!(rt; fact);
 }
 
-/// Asserts that a call succeeded, and gives what it gave.
+/// Asserts that a call succeeded, and returns its value.
 pub fn made<T: Drop, E: Drop>(rt: &impl Abort, answer: Result<T, E>) -> T
     ensures { answer ≡ Ok result }
 {
@@ -55,7 +55,7 @@ pub fn edge(rt: &impl Abort, x: usize) -> EdgeIndex {
     EdgeIndex::new(x)
 }
 
-/// A dag with so many nodes, whose weights are their indices, and with these edges, of weight 0.
+/// A dag with `nodes` nodes, whose weights are their indices, and these edges, of weight 0.
 pub fn dag_of<S: Store<u32, NodeWeight = u32, EdgeWeight = u32>>(
     rt: &impl Abort,
     alloc: Global,
