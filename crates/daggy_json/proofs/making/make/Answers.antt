@@ -1,11 +1,23 @@
-use Rattle.std.proofs.Common.{inr, map, ap, ◌∙◌}
-use Rattle.std.specs.Prelude.{Err}
+use Rattle.std.proofs.Common.{◌≡◌, ℕ, List, Option, None, inr, map, sym, ap, subst, ◌∙◌}
+use Rattle.std.specs.Prelude.{Ok, Err}
 use Rattle.std.specs.Option.{option_map}
 use Rattle.daggy_base.specs.State.{State}
+use Rattle.daggy_base.specs.Graph.{Graph}
+use Rattle.daggy_base.specs.Path.{IsAcyclic}
 use Rattle.daggy_base.specs.Orders.{numbers_of}
+use Rattle.daggy_document.specs.Found.{ordered}
+use Rattle.daggy_document.specs.Reading.{IsTested}
 use Rattle.daggy_document.proofs.Cycles.{of_some, tested_made, tested_cyclic}
 use Rattle.daggy_document.proofs.GivenSlots.{slots_fit, compact_slots}
 use Rattle.daggy_json.proofs.making.make.Goals as goal
+
+-- the dag that was made, where no lists were handed to it
+tested_bare : {N E : Type 0} {g made : Graph N E} {o : Option (List (List ℕ × List ℕ))}
+    → o ≡ None → made ≡ g → IsAcyclic made → IsTested (ordered g o) (Ok made)
+tested_bare {N} {E} {g} {made} {o} none same acyclic =
+    let P : Option (List (List ℕ × List ℕ)) → Type 0 = λ z. IsTested (ordered g z) (Ok made) in
+    let A : Graph N E → Type 0 = λ z. IsAcyclic z in
+    subst P (sym none) (subst A same acyclic, same)
 
 pub from_slots-requires-clause-makes_graph : goal.from_slots-requires-clause-makes_graph
 from_slots-requires-clause-makes_graph g c =
@@ -32,3 +44,8 @@ returns-clause-ok g c =
     tested_made numbers
     (ap (option_map (λ v. numbers v.items)) c.in-Some.is) c.in-Ok.ensures.made c.as_slice.ensures.value
     (ap (λ (z : State _ _). z.graph) c.set_orders.ensures.ordered) c.in-Ok.ensures.acyclic
+
+pub returns-in_default-clause-ok : goal.returns-in_default-clause-ok
+returns-in_default-clause-ok g c =
+    let numbers = map (numbers_of g.Ix.IndexType.number) in
+    tested_bare (ap (option_map (λ v. numbers v.items)) c.in_default.is) c.in-Ok.ensures.made c.in-Ok.ensures.acyclic
