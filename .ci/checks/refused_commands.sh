@@ -61,9 +61,9 @@ for kind in compact stable; do
   had_refusals "$number" 8 || exit 1
 done
 
-tests=$(built tests_lines dagbench_tests_tests) || exit 1
+tests=$(built tests_lines tests_lines_tests) || exit 1
 for number in $(seq 1 1000); do
-  if ! out=$(refusing "$number" dagbench_tests_tests "$runner" --filter a_refused_request "$tests" 2>&1); then
+  if ! out=$(refusing "$number" tests_lines_tests "$runner" --filter a_refused_request "$tests" 2>&1); then
     printf 'serve, allocation %s:\n%s\n' "$number" "$out"
     exit 1
   fi
