@@ -51,7 +51,7 @@ fn put_pairs<G: Graph>(dag: &mut G, pairs: &[(u32, u32)]) -> u64 {
     refused
 }
 
-/// A dag of `nodes` nodes and these edges, each added by itself.
+/// A dag with `nodes` nodes and these edges, added one at a time.
 pub fn build<G: Graph>(alloc: Global, nodes: u32, pairs: &[(u32, u32)]) -> Result<G, AllocError> {
     let mut dag = nodes_alone::<G>(alloc, nodes)?;
     let _refused = put_pairs(&mut dag, pairs);

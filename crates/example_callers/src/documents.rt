@@ -34,7 +34,7 @@ fn decoded(value: &Value) -> Result<Option<String>, AllocError>
 }
 
 /// The dag that the document of a dag of texts is read as: the same indices, ends and lists, and
-/// the same texts. Only want of memory keeps it from being read.
+/// the same texts. Fails only if an allocation fails.
 pub fn read_back(alloc: Global, dag: &Dag<String, String>) -> Result<Dag<String, String>, ReadError>
     ensures { MatchResult result
         (λ d. IsCopy HasSameText HasSameText dag.now.graph d.graph) (λ e. e ≡ Memory) }
