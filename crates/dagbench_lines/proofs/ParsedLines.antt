@@ -2,7 +2,7 @@
 use Rattle.std.proofs.Common.{◌≡◌, ℕ, ℤ, List, [], ◌∷◌, map, Result, refl, sym, ap, subst, ◌∙◌}
 use Rattle.std.specs.Option.{option_map}
 use Rattle.daggy_base.specs.Graph.{pair_of}
-use Rattle.daggy_guard.specs.EdgeBatch.{NewEdge, by_numbers}
+use Rattle.daggy_base.specs.Adding.{NewEdge, by_numbers}
 use Rattle.dagbench_lines.specs.Commands.{if_done}
 use Rattle.dagbench_lines.specs.Replies.{item_text, parted}
 use Rattle.dagbench_lines.specs.Streams.{Appends}

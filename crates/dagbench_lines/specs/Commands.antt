@@ -2,9 +2,9 @@
 use Rattle.std.specs.Prelude.{ℕ, nat_lt, Option, Some, None, List, [], ◌∷◌, length, codes, ℤ, if◌then◌else◌}
 use Rattle.std.specs.Option.{option_map}
 use Rattle.std.specs.Str.{bytes_eq}
-use Rattle.daggy_commands.specs.Requests.{Request, Node, Edge, Update, Child, Parent, Edges, Find, Ends, RemoveNode}
-use Rattle.daggy_commands.specs.Requests.{RemoveEdge}
-use Rattle.daggy_commands.specs.Requests.{Children, Parents, ClearEdges, Clear, Reduce}
+use Rattle.daggy_base.specs.Requests.{Request, Node, Edge, Update, Child, Parent, Edges, Find, Ends, RemoveNode}
+use Rattle.daggy_base.specs.Requests.{RemoveEdge}
+use Rattle.daggy_base.specs.Requests.{Children, Parents, ClearEdges, Clear, Reduce}
 use Rattle.dagbench_lines.specs.Cutting.{words_of}
 use Rattle.dagbench_lines.specs.Listing.{◌>>=◌, first_by, edges_by_words, indices_by_words}
 use Rattle.dagbench_lines.specs.Numbers.{index_of, weight_of}

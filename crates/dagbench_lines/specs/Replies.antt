@@ -2,9 +2,9 @@
 use Rattle.std.specs.Prelude.{ℕ, Option, Some, None, List, [], ◌∷◌, ◌++◌, codes, decimal, ℤ}
 use Rattle.std.specs.List.{flat_map}
 use Rattle.std.specs.Fmt.{signed_decimal}
-use Rattle.daggy_commands.specs.Answers.{Weights, OfEdges, Answer, Node, Edge, EdgeNode, Edges, Found, Ends, NodeGone}
-use Rattle.daggy_commands.specs.Answers.{EdgeGone}
-use Rattle.daggy_commands.specs.Answers.{Walk, Done, Missing, Full, Cycle, CycleAll, Memory}
+use Rattle.daggy_base.specs.Answers.{Weights, OfEdges, Answer, Node, Edge, EdgeNode, Edges, Found, Ends, NodeGone}
+use Rattle.daggy_base.specs.Answers.{EdgeGone}
+use Rattle.daggy_base.specs.Answers.{Walk, Done, Missing, Full, Cycle, CycleAll, Memory}
 
 abbrev pub node_text : ℕ → List ℕ
 node_text n = codes "n" ++ decimal n

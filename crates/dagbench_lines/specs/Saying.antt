@@ -1,5 +1,5 @@
 -- What is read of a line, as what the line asks.
-use Rattle.daggy_commands.specs.Requests.{request_of}
+use Rattle.daggy_base.specs.Requests.{request_of}
 use Rattle.dagbench_lines.specs.Commands as line
 use Rattle.dagbench_lines.specs.declared.parse.Asked.{Asked}
 use Rattle.dagbench_lines.specs.declared.parse.Asked.TheVariants.{Command, Document}

@@ -5,7 +5,7 @@ ghost use Rattle.dagbench_lines.specs.Cutting.{words_of};
 ghost use Rattle.dagbench_lines.specs.Listing.{edges_by_words, first_edge_of};
 
 use crate::words::{first_index, first_weight, first_word, node};
-use daggy_commands::command::NewEdge;
+use daggy_base::command::NewEdge;
 use std::alloc::{AllocError, Global};
 use std::marker::Model;
 

@@ -1,7 +1,7 @@
 //! What a line says.
 ghost use Rattle.std.specs.Prelude.{◌≡◌, IfOk, OnErr, IsSomeAnd};
 ghost use Rattle.std.specs.Option.{option_map};
-ghost use Rattle.daggy_commands.specs.Requests.{request_of};
+ghost use Rattle.daggy_base.specs.Requests.{request_of};
 ghost use Rattle.dagbench_lines.specs.Cutting.{words_of};
 ghost use Rattle.dagbench_lines.specs.Saying.{asked_of};
 ghost use Rattle.dagbench_lines.specs.Commands.{asked_in, asked_by_words, document_by_name, Step};
@@ -17,7 +17,7 @@ ghost use Rattle.dagbench_lines.specs.Commands.{index_and_weights as index_and_w
 use crate::items::Items;
 use crate::roots::Roots;
 use crate::words::{edge, first_index, first_weight, first_word, node};
-use daggy_commands::command::Command;
+use daggy_base::command::Command;
 use std::alloc::{AllocError, Global};
 
 /// The most bytes of a line that can be a command, its newline not counted.

@@ -8,7 +8,7 @@ ghost use Rattle.dagbench_lines.specs.Replies.{spaced, parted};
 use crate::output::Output;
 use crate::stream::{Fault, Sink};
 use daggy_base::index::{EdgeIndex, NodeIndex};
-use daggy_commands::command::Neighbor;
+use daggy_base::command::Neighbor;
 use itoa::Buffer;
 
 /// A piece of a reply.

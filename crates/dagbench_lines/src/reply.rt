@@ -1,13 +1,13 @@
 //! The texts of replies, which go out piece by piece and take no memory.
 ghost use Rattle.std.specs.Prelude.{◌≡◌, ◌∷◌, [], ◌++◌};
-ghost use Rattle.daggy_commands.specs.Answers.{answer_of, weights_of};
+ghost use Rattle.daggy_base.specs.Answers.{answer_of, weights_of};
 ghost use Rattle.dagbench_lines.specs.Streams.{CountsFaults, Appends};
 ghost use Rattle.dagbench_lines.specs.Replies.{back_text, if_any, weight_text, text_of};
 
 use crate::output::Output;
 use crate::piece::{Piece, put_each, put_if_any, put_parted};
 use crate::stream::{Fault, Sink};
-use daggy_commands::command::{Back, Reply};
+use daggy_base::command::{Back, Reply};
 
 /// The weight of what was removed, if there was anything.
 fn put_gone<K: Sink>(weight: Option<i64>, output: &mut Output, sink: &mut K) -> Result<(), Fault>

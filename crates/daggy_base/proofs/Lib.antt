@@ -1,11 +1,14 @@
 mod Emptiness
 pub mod Lists
+pub mod Sorted
+pub mod ListParts
 pub mod Copies
 pub mod CallsInTurn
 pub mod OutEdgesRead
 pub mod Slots
 pub mod MappedSlots
 pub mod FullSlots
+pub mod LongerPaths
 pub mod PathsWithEdge
 pub mod PathsWithNode
 pub mod PathsWithoutEdge

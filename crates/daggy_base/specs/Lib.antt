@@ -26,3 +26,5 @@ pub mod Iterating
 pub mod Calls
 pub mod IndexMembers
 pub mod CallsInTurn
+pub mod Requests
+pub mod Answers

@@ -1,7 +1,8 @@
-//! What both kinds of graph share: typed indices, errors, sources of edges, and the trait of a
-//! store.
+//! What both kinds of graph share: typed indices, errors, sources of edges, the trait of a store,
+//! and commands as values.
 #![tactic(auto)]
 
+pub mod command;
 pub mod element;
 pub mod error;
 pub mod index;

@@ -10,3 +10,4 @@ pub mod Reduced
 pub mod OrderOfExisting
 pub mod NodesBelow
 pub mod NextSlots
+pub mod SlottedGraph

@@ -2,3 +2,4 @@ pub mod Lends
 pub mod Slots
 pub mod Cursors
 pub mod Walks
+pub mod SlottedCells

@@ -129,8 +129,7 @@ where
         ensures dag { IsDag Ix.greatest self.now.graph }
         ensures compact { S.kind ≡ Compact → IsCompact self.now.graph }
     {
-        // Called only for its postcondition: no slot of the compact kind is vacant.
-        let _compact = self.store.node_slots();
+        self.store.invariant();
         self.store.node_count()
     }
 
@@ -141,8 +140,7 @@ where
         ensures dag { IsDag Ix.greatest self.now.graph }
         ensures compact { S.kind ≡ Compact → IsCompact self.now.graph }
     {
-        // Called only for its postcondition: no slot of the compact kind is vacant.
-        let _compact = self.store.edge_slots();
+        self.store.invariant();
         self.store.edge_count()
     }
 
@@ -207,8 +205,7 @@ where
             (HasNode self.now.graph (Ix.number a) × HasNode self.now.graph (Ix.number b)) }
     {
         let store = &self.store;
-        // Called only for its postcondition: both ends of an edge exist.
-        let _well_formed = store.edge_count();
+        store.invariant();
         store.find_edge(a, b)
     }
 
@@ -451,8 +448,7 @@ where
             ≡ out_list self.now.graph (Ix.number n) }
         ensures fits { length (rest_of_walk Outgoing self.now.graph (Ix.number result)) < 2 ^ 64 }
     {
-        // Called only for its postcondition: an edge comes once in its list.
-        let _well_formed = self.store.edge_count();
+        self.store.invariant();
         Children {
             edge: self.store.first_edge(n, Direction::Outgoing),
             node_weight: PhantomData,
@@ -469,8 +465,7 @@ where
             ≡ in_list self.now.graph (Ix.number n) }
         ensures fits { length (rest_of_walk Incoming self.now.graph (Ix.number result)) < 2 ^ 64 }
     {
-        // Called only for its postcondition: an edge comes once in its list.
-        let _well_formed = self.store.edge_count();
+        self.store.invariant();
         Parents {
             edge: self.store.first_edge(n, Direction::Incoming),
             node_weight: PhantomData,

@@ -2,3 +2,4 @@
 #![tactic(auto)]
 
 pub mod acyclic;
+pub mod slot_capacity;

@@ -11,7 +11,8 @@ use Rattle.daggy_base.proofs.Slots.{IsFree}
 use Rattle.daggy_base.proofs.PathsWithEdge.{free_edge, acyclic_with_edge, still_cyclic, cyclic_with_edge}
 use Rattle.daggy_base.specs.Ordered.{IsOrderOf}
 use Rattle.daggy_order.proofs.OrderLaws.{order_before_edge}
-use Rattle.daggy_guard.specs.EdgeBatch.{NewEdge, with_edges, IsFaultless, AreAccepted}
+use Rattle.daggy_guard.specs.EdgeBatch.{with_edges, IsFaultless, AreAccepted}
+use Rattle.daggy_base.specs.Adding.{NewEdge}
 
 -- the graph is well formed before each of the edges
 abbrev pub IsFine : {N E : Type 0} → (limit : ℕ) → Graph N E → List (NewEdge E) → Type 0

@@ -14,7 +14,8 @@ use Rattle.std.specs.declared.alloc.Global.{Global}
 use Rattle.daggy_base.proofs.PathsWithEdge.{free_edge, still_cyclic, cyclic_with_edge}
 use Rattle.daggy_base.specs.Ordered.{IsOrderOf}
 use Rattle.daggy_order.proofs.OrderLaws.{order_with_edge}
-use Rattle.daggy_guard.specs.EdgeBatch.{NewEdge, by_numbers, with_edges, new_edges, HasEnds, IsFaultless, IsAdded}
+use Rattle.daggy_guard.specs.EdgeBatch.{with_edges, new_edges, HasEnds, IsFaultless, IsAdded}
+use Rattle.daggy_base.specs.Adding.{NewEdge, by_numbers}
 use Rattle.daggy_guard.specs.EdgeBatch.{IsFirstFault, ClosesCycle, IsRefused, LacksEnd, LacksIndex, LacksMemory}
 use Rattle.daggy_guard.specs.EdgeBatch.{weights_back, ordering_looks, most_looks}
 use Rattle.daggy_guard.specs.BatchProgress.{IsBatchSoFar, IsFault, IsKept, IsStep, BatchOrder}

@@ -15,7 +15,8 @@ use Rattle.daggy_base.specs.TakingBack.{is_slot_made, with_edge_taken_back}
 use Rattle.daggy_base.proofs.Slots.{IsFree, slot_taken_new}
 use Rattle.daggy_base.proofs.PathsWithEdge.{free_edge}
 use Rattle.daggy_base.proofs.EdgeTakenBack.{taken_back_undoes}
-use Rattle.daggy_guard.specs.EdgeBatch.{NewEdge, with_edges, new_edges}
+use Rattle.daggy_guard.specs.EdgeBatch.{with_edges, new_edges}
+use Rattle.daggy_base.specs.Adding.{NewEdge}
 use Rattle.daggy_guard.specs.BatchProgress.{IsBatchSoFar}
 
 -- the item at a place, and what stands before and behind it

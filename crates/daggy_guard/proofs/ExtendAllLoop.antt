@@ -9,7 +9,7 @@ use Rattle.std.proofs.lemmas.List.{map-append}
 use Rattle.daggy_base.specs.Graph.{Graph, node_bound}
 use Rattle.daggy_base.specs.declared.error.EdgeError.{EdgeError}
 use Rattle.daggy_base.specs.Ordered.{IsOrderOf}
-use Rattle.daggy_guard.specs.EdgeBatch.{NewEdge, by_numbers}
+use Rattle.daggy_base.specs.Adding.{NewEdge, by_numbers}
 use Rattle.daggy_guard.specs.Extension.{IsExtended, IsStopped, Stops}
 use Rattle.daggy_guard.proofs.ItemsSoFar.{zip_more}
 

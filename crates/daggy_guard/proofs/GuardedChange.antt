@@ -9,7 +9,8 @@ use Rattle.daggy_base.proofs.NewestEdge.{comes_first}
 use Rattle.daggy_base.specs.Removal.{Kind, without_edge}
 use Rattle.daggy_base.proofs.PathsWithoutEdge.{acyclic_without_edge, bound_same}
 use Rattle.daggy_base.proofs.PathsWithNode.{fits_after}
-use Rattle.daggy_guard.specs.EdgeBatch.{NewEdge, HasEnds}
+use Rattle.daggy_guard.specs.EdgeBatch.{HasEnds}
+use Rattle.daggy_base.specs.Adding.{NewEdge}
 
 acyclic_kept : {N E : Type 0} (old new : Graph N E) → IsAcyclic old → new ≡ old → IsAcyclic new
 acyclic_kept {N} {E} old new acyclic same = let P : Graph N E → Type 0 = λ z. IsAcyclic z in subst P (sym same) acyclic

@@ -21,8 +21,8 @@ use Rattle.daggy_base.proofs.OutEdgesRead.{lists_few, below_bound}
 use Rattle.daggy_search.proofs.SearchProgress.{reaches_stays}
 use Rattle.daggy_base.proofs.FullSlots.{full_from}
 use Rattle.daggy_base.specs.Ordered.{IsOrderOf, place, stretch, edges_from}
-use Rattle.daggy_order.proofs.Sorted.{unique_left, mem_filter, filter_mem}
-use Rattle.daggy_order.proofs.ListParts.{is_held, held_is}
+use Rattle.daggy_base.proofs.Sorted.{unique_left, mem_filter, filter_mem}
+use Rattle.daggy_base.proofs.ListParts.{is_held, held_is}
 use Rattle.daggy_order.proofs.BoundedSearch.{lists_length}
 use Rattle.daggy_order.proofs.OrderLaws.{acyclic_from_order, order_with_edge, order_with_node_last}
 use Rattle.daggy_order.proofs.OrderLaws.{order_with_node_first, order_before_node, order_with_child, order_with_parent}

@@ -7,7 +7,8 @@ use Rattle.daggy_base.specs.Graph.{Graph}
 use Rattle.daggy_base.specs.Path.{Reaches}
 use Rattle.daggy_base.specs.declared.error.EdgeError.{EdgeError}
 use Rattle.daggy_base.specs.declared.error.EdgeError.TheVariants.{WouldCycle, Memory}
-use Rattle.daggy_guard.specs.EdgeBatch.{NewEdge, HasEnds}
+use Rattle.daggy_guard.specs.EdgeBatch.{HasEnds}
+use Rattle.daggy_base.specs.Adding.{NewEdge}
 use Rattle.daggy_guard.specs.Elements.{IsEdgeRefused}
 use Rattle.daggy_guard.specs.Extension.{IsFilled, HasIndices, IsStopped}
 

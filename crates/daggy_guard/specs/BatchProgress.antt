@@ -8,7 +8,8 @@ use Rattle.daggy_base.specs.WellFormed.{IsWellFormed}
 use Rattle.daggy_base.specs.declared.error.EdgesError.{EdgesError}
 use Rattle.daggy_base.specs.declared.error.EdgesError.TheVariants as edges
 use Rattle.daggy_base.specs.Ordered.{IsOrderOf, place}
-use Rattle.daggy_guard.specs.EdgeBatch.{NewEdge, with_edges, new_edges, LacksEnd, LacksIndex, LacksMemory}
+use Rattle.daggy_guard.specs.EdgeBatch.{with_edges, new_edges, LacksEnd, LacksIndex, LacksMemory}
+use Rattle.daggy_base.specs.Adding.{NewEdge}
 use Rattle.daggy_guard.specs.declared.edge_batch.Fault.{Fault}
 use Rattle.daggy_guard.specs.declared.edge_batch.Fault.TheVariants.{BadEndpoint, Full, Memory}
 use Rattle.daggy_guard.specs.declared.edge_batch.Standing.{Standing}

@@ -4,17 +4,9 @@ use Rattle.std.specs.Prelude.{Result, Ok, Err}
 use Rattle.std.specs.Iterator.{Yields, Drains}
 use Rattle.daggy_base.specs.Graph.{Graph, HasNode, edge_count}
 use Rattle.daggy_base.specs.Path.{Reaches, IsAcyclic}
-use Rattle.daggy_base.specs.Adding.{with_edge, next_edge}
+use Rattle.daggy_base.specs.Adding.{NewEdge, with_edge, next_edge}
 use Rattle.daggy_base.specs.declared.error.EdgesError.{EdgesError}
 use Rattle.daggy_base.specs.declared.error.EdgesError.TheVariants.{BadEndpoint, Full, Memory, WouldCycle}
-
--- an edge to be added: its parent, its child and its weight
-abbrev pub NewEdge : Type 0 → Type 0
-NewEdge E = ℕ × ℕ × E
-
--- the same of two indices, by their numbers
-abbrev pub by_numbers : {I E : Type 0} → (number : I → ℕ) → I × I × E → NewEdge E
-by_numbers number x = (number x.0, number x.1, x.2)
 
 -- with all edges of a list, added in its order
 abbrev pub with_edges : {N E : Type 0} → Graph N E → List (NewEdge E) → Graph N E

@@ -15,7 +15,8 @@ use Rattle.daggy_base.specs.declared.error.ElementError.{ElementError}
 use Rattle.daggy_base.specs.declared.error.ElementError.TheVariants as error
 use Rattle.daggy_base.specs.declared.element.Element.{Element}
 use Rattle.daggy_base.specs.declared.element.Element.TheVariants.{Node, Edge}
-use Rattle.daggy_guard.specs.EdgeBatch.{NewEdge, HasEnds, LacksEnd}
+use Rattle.daggy_guard.specs.EdgeBatch.{HasEnds, LacksEnd}
+use Rattle.daggy_base.specs.Adding.{NewEdge}
 
 -- the edge replaces the weight of the one that is found between its ends, or is added
 abbrev pub IsJoined : {N E : Type 0} → (limit : ℕ) → (old : Graph N E) → NewEdge E → (new : Graph N E) → Type 0

@@ -7,7 +7,8 @@ use Rattle.daggy_base.specs.Path.{Reaches}
 use Rattle.daggy_base.specs.Adding.{with_node, with_edge}
 use Rattle.daggy_base.specs.declared.error.EdgeError.{EdgeError}
 use Rattle.daggy_base.specs.declared.error.EdgeError.TheVariants.{WouldCycle, Memory, BadEndpoint, Full, NodeMemory}
-use Rattle.daggy_guard.specs.EdgeBatch.{NewEdge, by_numbers, HasEnds, LacksEnd}
+use Rattle.daggy_guard.specs.EdgeBatch.{HasEnds, LacksEnd}
+use Rattle.daggy_base.specs.Adding.{NewEdge, by_numbers}
 
 -- with nodes of these weights, added in order
 abbrev pub with_nodes : {N E : Type 0} → Graph N E → List N → Graph N E

@@ -8,7 +8,8 @@ ghost use Rattle.daggy_base.specs.Path.{IsAcyclic};
 ghost use Rattle.daggy_base.specs.Adding.{with_edge, next_edge};
 ghost use Rattle.daggy_base.specs.WellFormed.{IsWellFormed};
 ghost use Rattle.daggy_base.specs.Ordered.{IsOrderOf};
-ghost use Rattle.daggy_guard.specs.EdgeBatch.{NewEdge, by_numbers, HasEnds, IsAdded, IsRefused};
+ghost use Rattle.daggy_guard.specs.EdgeBatch.{HasEnds, IsAdded, IsRefused};
+ghost use Rattle.daggy_base.specs.Adding.{NewEdge, by_numbers};
 ghost use Rattle.daggy_guard.specs.EdgeBatch.{most_looks};
 ghost use Rattle.daggy_guard.specs.BatchProgress.{IsBatchSoFar, IsFault, IsKept, IsStep};
 ghost use Rattle.daggy_guard.specs.BatchProgress.{item_looks, looks_left, refusal};
@@ -127,7 +128,7 @@ fn order_item<Ix: IndexType, S: Store<Ix>>(
     ensures same { S.graph store.new ≡ S.graph store.old }
     ensures same_capacity { scratch.new ≡ scratch.old }
 {
-    let _well_formed = store.node_count();
+    store.invariant();
     let spared = match standing {
         Standing::Kept => false,
         Standing::Spared => true,
@@ -187,7 +188,7 @@ fn add_item<Ix: IndexType, S: Store<Ix>>(
         ≤ S.looks store.old + item_looks (edge_count (S.graph store.old)) result }
     ensures scratch_kept { scratch.new ≡ scratch.old }
 {
-    let _well_formed = store.node_count();
+    store.invariant();
     let (a, b, weight) = item;
     if !store.contains_node(a) || !store.contains_node(b) {
         return Err(Fault::BadEndpoint(weight));

@@ -38,6 +38,7 @@ where
     ensures counted { S.looks store.new ≡ S.looks store.old }
 {
     'nodes: while store.node_count() <= last {
+        store.invariant();
         match add_node(store, order, scratch, <S::NodeWeight as Default>::default()) {
             Ok(_) => {}
             Err(_) => return Err(AllocError),

@@ -88,14 +88,14 @@ fn put_node<Ix: IndexType, S: Store<Ix>>(
     ensures capacity_kept { scratch.old.nodes ≤ scratch.new.nodes }
     ensures counted { S.looks store.new ≡ S.looks store.old }
 {
-    let _well_formed = store.node_count();
+    store.invariant();
     let old_slots = store.node_slots();
     let slot_count = store.slots_with_node();
     if scratch.reserve(slot_count, 0).is_err() {
         return Err(NodeError::Memory(weight));
     }
     let n = store.add_node(weight)?;
-    let _still = store.node_count();
+    store.invariant();
     match put(order, dir, n) {
         Ok(()) => Ok(n),
         Err(_) => {
@@ -126,7 +126,7 @@ pub fn add_node<Ix: IndexType, S: Store<Ix>>(
     ensures capacity_kept { scratch.old.nodes ≤ scratch.new.nodes }
     ensures counted { S.looks store.new ≡ S.looks store.old }
 {
-    let _well_formed = store.node_count();
+    store.invariant();
     put_node(store, order, scratch, Direction::Outgoing, weight)
 }
 
@@ -135,7 +135,7 @@ pub fn add_node<Ix: IndexType, S: Store<Ix>>(
 fn has_parents<Ix: IndexType, S: Store<Ix>>(store: &S, n: NodeIndex<Ix>) -> bool
     ensures { result ≡ false → (u : ℕ) → ¬ AreJoined (S.graph store.now) u (Ix.number n) }
 {
-    let _well_formed = store.node_count();
+    store.invariant();
     store.first_edge(n, Direction::Incoming).index() != EdgeIndex::<Ix>::end().index()
 }
 
@@ -154,7 +154,7 @@ fn parents_stand_before<Ix: IndexType, S: Store<Ix>>(
     ensures { IsTrue result → (u : ℕ) → AreJoined (S.graph store.now) u (Ix.number a)
         → place order.now u < place order.now (Ix.number b) }
 {
-    let _well_formed = store.node_count();
+    store.invariant();
     let mut cursor = store.first_edge(a, Direction::Incoming);
     'parents: for _i in 0..FEW_PARENTS {
         let Some((_e, parent)) = step(store, Direction::Incoming, &mut cursor) else {
@@ -194,7 +194,7 @@ pub(crate) fn make_way<Ix: IndexType, S: Store<Ix>>(
         → S.looks store.new ≡ S.looks store.old }
     ensures same_capacity { scratch.new ≡ scratch.old }
 {
-    let _well_formed = store.node_count();
+    store.invariant();
     if order.stands_before(a, b) {
         return true;
     }
@@ -243,7 +243,7 @@ pub fn add_edge<Ix: IndexType, S: Store<Ix>>(
         → S.looks store.new ≡ S.looks store.old }
     ensures same_capacity { scratch.new ≡ scratch.old }
 {
-    let _well_formed = store.node_count();
+    store.invariant();
     if !make_way(store, order, scratch, a, b) {
         return Err(EdgeError::WouldCycle(WouldCycle(weight)));
     }
@@ -287,7 +287,7 @@ pub fn update_edge<Ix: IndexType, S: Store<Ix>>(
         → S.looks store.new ≡ S.looks store.old }
     ensures fits { node_bound (S.graph store.new) ≤ scratch.new.nodes }
 {
-    let _well_formed = store.node_count();
+    store.invariant();
     match store.find_edge(a, b) {
         Some(e) => {
             let _old = store.replace_edge_weight(e, weight);
@@ -349,7 +349,7 @@ pub fn add_neighbor<Ix: IndexType, S: Store<Ix>>(
     ensures counted { S.looks store.new ≡ S.looks store.old }
     ensures fits { node_bound (S.graph store.new) ≤ scratch.new.nodes }
 {
-    let _well_formed = store.node_count();
+    store.invariant();
     let slot_count = store.node_slots();
     let new = match put_node(store, order, scratch, dir, weight) {
         Ok(new) => new,
@@ -410,7 +410,7 @@ fn take_out<Ix: IndexType>(order: &mut Order<Ix>, n: NodeIndex<Ix>, last: usize,
 fn far_lists_begin<Ix: IndexType, S: Store<Ix>>(store: &S, n: NodeIndex<Ix>, dir: Direction) -> bool
     ensures { IsTrue result }
 {
-    let _well_formed = store.node_count();
+    store.invariant();
     let mut cursor = store.first_edge(n, dir);
     'edges: for _i in 0..store.edge_slots() {
         let Some((_e, far)) = step(store, dir, &mut cursor) else {
@@ -450,7 +450,7 @@ pub fn remove_node<Ix: IndexType, S: Store<Ix>>(
     {
         return None;
     }
-    let _well_formed = store.node_count();
+    store.invariant();
     let weight = store.remove_node(n)?;
     let last = slot_count - 1;
     let moved = store.node_slots() == last;

@@ -5,19 +5,19 @@ ghost use Rattle.serde_json.specs.View.{view};
 ghost use Rattle.daggy_base.specs.Graph.{Graph, IsCompact};
 ghost use Rattle.daggy_base.specs.Removal.{Compact, Stable};
 ghost use Rattle.daggy_base.specs.WellFormed.{IsDag};
-ghost use Rattle.daggy_document.specs.Document.{IsDocumentOf};
-ghost use Rattle.daggy_document.specs.Weight.{WritesAs, ReadsAs};
-ghost use Rattle.daggy_document.specs.Reading.{IsRead};
-ghost use Rattle.daggy_document.specs.Restoring.{ReadsOnly, trimmed, IsCopyAs, ReadsTo};
-ghost use Rattle.daggy_document.specs.Restoring.{HasRefused, HasValues};
-ghost use Rattle.daggy_document.specs.declared.error.ReadError.TheVariants.{Memory, Weight};
+ghost use Rattle.daggy_json.specs.Document.{IsDocumentOf};
+ghost use Rattle.daggy_json.specs.Weight.{WritesAs, ReadsAs};
+ghost use Rattle.daggy_json.specs.Reading.{IsRead};
+ghost use Rattle.daggy_json.specs.Restoring.{ReadsOnly, trimmed, IsCopyAs, ReadsTo};
+ghost use Rattle.daggy_json.specs.Restoring.{HasRefused, HasValues};
+ghost use Rattle.daggy_json.specs.declared.error.ReadError.TheVariants.{Memory, Weight};
 
+use crate::error::{ReadError, WriteError};
 use crate::making::read;
+use crate::writing::write_document;
 use daggy_base::index::IndexType;
 use daggy_base::store::Store;
 use daggy_dag::acyclic::{Acyclic, Dag, StableDag};
-use daggy_document::error::{ReadError, WriteError};
-use daggy_document::writing::write_document;
 use serde_json::Value;
 use std::alloc::{AllocError, Global};
 

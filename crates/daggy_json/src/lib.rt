@@ -1,5 +1,9 @@
-//! Dags as JSON values.
+//! Dags as JSON values: what is written of a store, what a value is read as before a dag is made of
+//! it, and the dags themselves.
 #![tactic(auto)]
 
 pub mod documents;
+pub mod error;
 mod making;
+pub mod reading;
+pub mod writing;

@@ -6,18 +6,18 @@ ghost use Rattle.serde_json.specs.View.{view};
 ghost use Rattle.daggy_base.specs.FromSlots.{graph_of_slots, edges_by};
 ghost use Rattle.daggy_base.specs.Orders.{AreOrders, numbers_of};
 ghost use Rattle.daggy_base.specs.Removal.{Compact};
-ghost use Rattle.daggy_document.specs.Document.{vacant_from};
-ghost use Rattle.daggy_document.specs.Reading.{IsRead, IsTested};
-ghost use Rattle.daggy_document.specs.Found.{ordered, orders_by, EndsExist};
-ghost use Rattle.daggy_document.specs.Weight.{ReadsAs};
-ghost use Rattle.daggy_document.specs.declared.error.ReadError.TheVariants.{Memory};
+ghost use Rattle.daggy_json.specs.Document.{vacant_from};
+ghost use Rattle.daggy_json.specs.Reading.{IsRead, IsTested};
+ghost use Rattle.daggy_json.specs.Found.{ordered, orders_by, EndsExist};
+ghost use Rattle.daggy_json.specs.Weight.{ReadsAs};
+ghost use Rattle.daggy_json.specs.declared.error.ReadError.TheVariants.{Memory};
 
+use crate::error::ReadError;
+use crate::reading::gathering::{Gathered, gather};
 use daggy_base::error::SlotsError;
 use daggy_base::index::IndexType;
 use daggy_base::store::Store;
 use daggy_dag::acyclic::Acyclic;
-use daggy_document::error::ReadError;
-use daggy_document::reading::gathering::{Gathered, gather};
 use serde_json::Value;
 use std::alloc::{AllocError, Global};
 

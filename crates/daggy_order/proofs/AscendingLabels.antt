@@ -6,7 +6,7 @@ use Rattle.std.proofs.lemmas.Bool.{cases_lt}
 use Rattle.daggy_base.specs.Cursor.{first_of}
 use Rattle.daggy_base.proofs.Lists.{Mem, Unique, mem_left, mem_right, mem_mid, unique_right}
 use Rattle.daggy_order.specs.Links.{LabelsAscend, IsSegment, HasGap, HasFirst, HasLast}
-use Rattle.daggy_order.proofs.Sorted.{unique_cross}
+use Rattle.daggy_base.proofs.Sorted.{unique_cross}
 use Rattle.daggy_order.proofs.LinkedNodes.{ended}
 
 module _ (labels : List ℕ) where

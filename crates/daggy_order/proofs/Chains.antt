@@ -4,7 +4,7 @@ use Rattle.std.proofs.Common.{subst, ◌∙◌}
 use Rattle.std.proofs.lemmas.Bool.{eq-eqb, ne_eqb, cond-true, cond-false}
 use Rattle.daggy_base.proofs.Lists.{Mem, Unique, mem_left, mem_right, mem_cases, mem_mid, unique_right}
 use Rattle.daggy_order.specs.Links.{IsLinkChain, nodes_from, neighbor}
-use Rattle.daggy_order.proofs.Sorted.{unique_cross}
+use Rattle.daggy_base.proofs.Sorted.{unique_cross}
 
 module _ (N P : ℕ → ℕ) where
   pub chain_append : (p : ℕ) (xs : List ℕ) (y : ℕ) (ys : List ℕ) (q : ℕ)

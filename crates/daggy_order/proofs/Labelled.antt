@@ -9,7 +9,7 @@ use Rattle.daggy_base.proofs.Lists.{Mem, mem_left, mem_right, mem_cases, mem_out
 use Rattle.daggy_base.proofs.Lists.{split_at}
 use Rattle.daggy_order.specs.Links.{LabelsAscend, IsLabelled}
 use Rattle.daggy_base.specs.Ordered.{place}
-use Rattle.daggy_order.proofs.Sorted.{place_same, place_other}
+use Rattle.daggy_base.proofs.Sorted.{place_same, place_other}
 use Rattle.daggy_order.proofs.LinkedNodes.{without_mid}
 use Rattle.daggy_order.proofs.AscendingLabels.{asc_append, asc_left, asc_right, asc_same, asc_drop, asc_above}
 use Rattle.daggy_order.proofs.AscendingLabels.{asc_before, asc_held}

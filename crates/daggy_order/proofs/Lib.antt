@@ -1,5 +1,3 @@
-pub mod Sorted
-pub mod ListParts
 pub mod Chains
 pub mod Items
 pub mod LinkedNodes

@@ -10,8 +10,8 @@ use Rattle.daggy_base.proofs.Lists.{Mem, Unique, mem_left, mem_right, mem_cases,
 use Rattle.daggy_base.proofs.Lists.{fewer_than, split_at}
 use Rattle.daggy_base.proofs.Lists.{contains_mem, mem_contains, unique_from_distinct}
 use Rattle.daggy_order.specs.Links.{Listed, LeadsTo, IsLinkChain, AreLinksOf, nodes_from, neighbor}
-use Rattle.daggy_order.proofs.Sorted.{distinct_from_unique, unique_cross}
-use Rattle.daggy_order.proofs.ListParts.{filter_yes, filter_no, is_held}
+use Rattle.daggy_base.proofs.Sorted.{distinct_from_unique, unique_cross}
+use Rattle.daggy_base.proofs.ListParts.{filter_yes, filter_no, is_held}
 use Rattle.daggy_order.proofs.Chains.{chain_same, IsPut, IsTaken, chain_left, chain_right, after_in, before_in}
 use Rattle.daggy_order.proofs.Chains.{put_behind_start, put_behind_member, take_member, neighbor_end, neighbor_node}
 use Rattle.daggy_order.proofs.Chains.{walk_is}

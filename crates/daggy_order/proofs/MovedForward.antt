@@ -9,9 +9,9 @@ use Rattle.daggy_base.specs.WellFormed.{IsWellFormed}
 use Rattle.daggy_base.proofs.Lists.{Mem, Unique, mem_mid, mem_into, mem_out, mem_cases, unique_mid, split_at}
 use Rattle.daggy_base.proofs.Lists.{unique_from_distinct}
 use Rattle.daggy_base.specs.Ordered.{IsOrderOf, place}
-use Rattle.daggy_order.proofs.Sorted.{Sorted, place_same, place_other, place_left, place_right, unique_cross}
-use Rattle.daggy_order.proofs.Sorted.{sorted_append, sorted_left, sorted_right, sorted_cross}
-use Rattle.daggy_order.proofs.ListParts.{is_held, held_is}
+use Rattle.daggy_base.proofs.Sorted.{Sorted, place_same, place_other, place_left, place_right, unique_cross}
+use Rattle.daggy_base.proofs.Sorted.{sorted_append, sorted_left, sorted_right, sorted_cross}
+use Rattle.daggy_base.proofs.ListParts.{is_held, held_is}
 use Rattle.daggy_order.proofs.SortedListChanges.{Lists, lists_filtered, lists_first}
 use Rattle.daggy_order.proofs.LinkedNodes.{without_mid, unique_without, not_before, not_behind}
 use Rattle.daggy_order.proofs.OrderLaws.{ends_exist, lists_from_order, order_from_lists}

@@ -10,8 +10,8 @@ use Rattle.daggy_base.specs.Removal.{without}
 use Rattle.daggy_base.proofs.Lists.{Mem, Unique, mem_left, mem_right, mem_cases, mem_mid, mem_out, mem_into, split_at}
 use Rattle.daggy_base.proofs.Lists.{unique_right}
 use Rattle.daggy_order.specs.Links.{without_all, LabelsAscend}
-use Rattle.daggy_order.proofs.Sorted.{mem_filter, filter_mem, unique_cross}
-use Rattle.daggy_order.proofs.ListParts.{filter_yes, filter_no, is_held, held_is}
+use Rattle.daggy_base.proofs.Sorted.{mem_filter, filter_mem, unique_cross}
+use Rattle.daggy_base.proofs.ListParts.{filter_yes, filter_no, is_held, held_is}
 use Rattle.daggy_order.proofs.LinkedNodes.{without_none, unique_without}
 use Rattle.daggy_order.proofs.AscendingLabels.{asc_above, asc_lower}
 

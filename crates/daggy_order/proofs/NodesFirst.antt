@@ -10,8 +10,8 @@ use Rattle.daggy_base.specs.Removal.{without}
 use Rattle.daggy_base.specs.WellFormed.{AreDistinct}
 use Rattle.daggy_base.proofs.Lists.{Mem, Unique, contains_mem, mem_contains, unique_from_distinct}
 use Rattle.daggy_base.specs.Ordered.{with_first}
-use Rattle.daggy_order.proofs.Sorted.{mem_filter, filter_mem}
-use Rattle.daggy_order.proofs.ListParts.{is_held, held_is}
+use Rattle.daggy_base.proofs.Sorted.{mem_filter, filter_mem}
+use Rattle.daggy_base.proofs.ListParts.{is_held, held_is}
 use Rattle.daggy_order.proofs.LinkedNodes.{without_none}
 
 -- the same nodes are held then

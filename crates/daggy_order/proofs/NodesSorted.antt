@@ -11,7 +11,7 @@ use Rattle.daggy_base.proofs.Lists.{Mem, Unique, mem_at, contains_mem, unique_fr
 use Rattle.daggy_base.proofs.OutEdgesRead.{below_bound}
 use Rattle.daggy_base.proofs.PathsWithNode.{bound_low}
 use Rattle.daggy_base.specs.Ordered.{IsOrderOf, place}
-use Rattle.daggy_order.proofs.Sorted.{place_same, place_other}
+use Rattle.daggy_base.proofs.Sorted.{place_same, place_other}
 
 -- what stands from a place on, read as a slice
 pub whole_back : (t : ℕ) (xs : List ℕ) → take (length xs - t) (drop t xs) ≡ drop t xs

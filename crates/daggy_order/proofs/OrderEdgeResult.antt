@@ -10,14 +10,15 @@ use Rattle.daggy_base.specs.Path.{AreJoined, Reaches}
 use Rattle.daggy_base.specs.WellFormed.{IsWellFormed}
 use Rattle.daggy_base.proofs.Lists.{Mem, Unique, mem_right, mem_cases, contains_mem, mem_contains, split_at}
 use Rattle.daggy_base.proofs.Lists.{unique_from_distinct}
-use Rattle.daggy_search.proofs.SearchProgress.{reaches_more, reaches_stays}
+use Rattle.daggy_search.proofs.SearchProgress.{reaches_stays}
+use Rattle.daggy_base.proofs.LongerPaths.{reaches_more}
 use Rattle.daggy_base.specs.Ordered.{IsOrderOf, IsParted, place, stretch}
 use Rattle.daggy_order.specs.Links.{LabelsAscend, IsLabelled, IsMoved, StandBefore}
 use Rattle.daggy_order.proofs.BoundedSearch.{reached_exists}
-use Rattle.daggy_order.proofs.Sorted.{place_at, Sorted, distinct_from_unique, unique_cross, sorted_from_places}
-use Rattle.daggy_order.proofs.Sorted.{places_from_sorted, parts, parts_in, parts_out, parts_unique, parts_sorted}
-use Rattle.daggy_order.proofs.Sorted.{parts_before, apart, place_same, place_right}
-use Rattle.daggy_order.proofs.ListParts.{filter_yes, filter_no, in_stretch}
+use Rattle.daggy_base.proofs.Sorted.{place_at, Sorted, distinct_from_unique, unique_cross, sorted_from_places}
+use Rattle.daggy_base.proofs.Sorted.{places_from_sorted, parts, parts_in, parts_out, parts_unique, parts_sorted}
+use Rattle.daggy_base.proofs.Sorted.{parts_before, apart, place_same, place_right}
+use Rattle.daggy_base.proofs.ListParts.{filter_yes, filter_no, in_stretch}
 use Rattle.daggy_order.proofs.AscendingLabels.{asc_before, asc_behind}
 use Rattle.daggy_order.proofs.Labelled.{label_within, label_places}
 

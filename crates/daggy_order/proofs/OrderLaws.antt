@@ -26,9 +26,9 @@ use Rattle.daggy_base.proofs.PathsWithoutNode.{IsApart, apart, slot-map, from_ma
 use Rattle.daggy_base.proofs.PathsWithoutEdge.{joined_before}
 use Rattle.daggy_base.proofs.PathsWithEdgeWeight as weight
 use Rattle.daggy_base.specs.Ordered.{IsOrderOf, place}
-use Rattle.daggy_order.proofs.Sorted.{distinct_from_unique, place_same, place_other, place_left, place_right}
-use Rattle.daggy_order.proofs.Sorted.{sorted_from_places, places_from_sorted}
-use Rattle.daggy_order.proofs.ListParts.{is_held, held_is}
+use Rattle.daggy_base.proofs.Sorted.{distinct_from_unique, place_same, place_other, place_left, place_right}
+use Rattle.daggy_base.proofs.Sorted.{sorted_from_places, places_from_sorted}
+use Rattle.daggy_base.proofs.ListParts.{is_held, held_is}
 use Rattle.daggy_order.proofs.SortedListChanges.{Lists, lists_filtered, lists_named, lists_last, lists_first}
 use Rattle.daggy_order.proofs.SortedListChanges.{filter_map_some}
 

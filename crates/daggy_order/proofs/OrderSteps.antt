@@ -6,7 +6,7 @@ use Rattle.daggy_base.specs.Cursor.{first_of}
 use Rattle.daggy_base.proofs.Lists.{Mem, mem_mid, mem_cases}
 use Rattle.daggy_base.specs.Ordered.{place}
 use Rattle.daggy_order.specs.Links.{IsAt, last_nodes}
-use Rattle.daggy_order.proofs.Sorted.{place_same, place_right}
+use Rattle.daggy_base.proofs.Sorted.{place_same, place_right}
 
 -- so many nodes were passed, and `at` is the next
 pub record GoingOn (end : ℕ) (nodes : List ℕ) (at passed : ℕ) : Type 0 where

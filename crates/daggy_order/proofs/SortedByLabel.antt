@@ -8,7 +8,7 @@ use Rattle.std.proofs.lemmas.List.Sorted.{Contains-permutation, IsPermutation-sy
 use Rattle.daggy_base.specs.Cursor.{first_of}
 use Rattle.daggy_base.proofs.Lists.{Mem, Unique, mem_left, mem_right, mem_cases, contains_mem, mem_contains}
 use Rattle.daggy_order.specs.Links.{without_all, LabelsAscend, IsLabelled, HasGap, IsMoved, StandBefore}
-use Rattle.daggy_order.proofs.Sorted.{mem_filter, filter_mem}
+use Rattle.daggy_base.proofs.Sorted.{mem_filter, filter_mem}
 use Rattle.daggy_order.proofs.AscendingLabels.{asc_left, asc_right, asc_append, asc_above, asc_below, asc_between}
 use Rattle.daggy_order.proofs.Labelled.{label_places, labelled_more}
 use Rattle.daggy_order.proofs.MovedNodes.{stands_in, stands_exact, without_all_is, asc_filter, asc_equal, asc_sorted}

@@ -4,7 +4,7 @@ use Rattle.std.proofs.Common.{refl, sym, ap, subst, ◌∙◌}
 use Rattle.std.specs.List.{filter, filter_map, cons_option}
 use Rattle.std.proofs.lemmas.Option.{same_Some}
 use Rattle.daggy_base.proofs.Lists.{Mem, Unique, mem_left, mem_right, mem_cases, unique_append}
-use Rattle.daggy_order.proofs.Sorted.{Sorted, mem_filter, filter_mem, unique_filter, sorted_filter, sorted_append}
+use Rattle.daggy_base.proofs.Sorted.{Sorted, mem_filter, filter_mem, unique_filter, sorted_filter, sorted_append}
 
 -- what Has says, each once, in which R leads from no later element to an earlier one
 pub record Lists (Has : ℕ → Type 0) (R : ℕ → ℕ → Type 0) (xs : List ℕ) : Type 0 where

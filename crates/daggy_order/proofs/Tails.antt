@@ -10,7 +10,7 @@ use Rattle.daggy_base.proofs.Lists.{Mem, Unique, mem_right, mem_cases, unique_ap
 use Rattle.daggy_base.proofs.Lists.{fewer_than}
 use Rattle.daggy_base.specs.Ordered.{place}
 use Rattle.daggy_order.specs.Links.{IsTailed, last_nodes}
-use Rattle.daggy_order.proofs.Sorted.{place_same, place_other, place_left, place_right}
+use Rattle.daggy_base.proofs.Sorted.{place_same, place_other, place_left, place_right}
 use Rattle.daggy_order.proofs.LinkedNodes.{without_mid}
 
 -- nodes in turn

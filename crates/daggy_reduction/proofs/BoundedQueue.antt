@@ -15,8 +15,8 @@ use Rattle.daggy_base.proofs.OutEdgesRead.{listed}
 use Rattle.daggy_base.specs.Ordered.{IsOrderOf, place, stretch}
 use Rattle.daggy_order.proofs.BoundedSearch.{reached_exists}
 use Rattle.daggy_order.proofs.OrderLaws.{acyclic_from_order}
-use Rattle.daggy_order.proofs.Sorted.{place_at, place_same, place_other}
-use Rattle.daggy_order.proofs.ListParts.{in_stretch}
+use Rattle.daggy_base.proofs.Sorted.{place_at, place_same, place_other}
+use Rattle.daggy_base.proofs.ListParts.{in_stretch}
 use Rattle.daggy_reduction.specs.Closure.{behind}
 use Rattle.daggy_reduction.specs.SearchSpan.{child_place, latest, last_place, edges_spanned}
 use Rattle.daggy_reduction.proofs.QueuedChildren.{First, Children, Beginning, children_found}

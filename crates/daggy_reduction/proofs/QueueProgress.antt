@@ -12,7 +12,8 @@ use Rattle.daggy_base.specs.Look.{IsLook}
 use Rattle.daggy_base.proofs.Lists.{Mem, Unique, mem_left, mem_right, mem_cases, mem_mid, unique_append, fewer_than}
 use Rattle.daggy_base.proofs.OutEdgesRead.{lists_of, lists_few, LookedTo, read_whole, all_read, read_part, has_edge}
 use Rattle.daggy_base.proofs.OutEdgesRead.{child_exists, child_joined, next_cursor, looked_more}
-use Rattle.daggy_search.proofs.SearchProgress.{reaches_more, reaches_stays, marked_within, set_marked}
+use Rattle.daggy_search.proofs.SearchProgress.{reaches_stays, marked_within, set_marked}
+use Rattle.daggy_base.proofs.LongerPaths.{reaches_more}
 use Rattle.daggy_base.specs.Ordered.{edges_from}
 use Rattle.daggy_order.proofs.BoundedSearch.{edges_few, lists_length}
 use Rattle.daggy_reduction.specs.Closure.{behind}

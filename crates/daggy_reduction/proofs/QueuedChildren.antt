@@ -14,7 +14,7 @@ use Rattle.daggy_base.proofs.OutEdgesRead.{leaves, joins, LookedTo, all_read, re
 use Rattle.daggy_base.proofs.OutEdgesRead.{child_exists, child_joined, next_cursor, looked_more, below_bound}
 use Rattle.daggy_search.proofs.SearchProgress.{marked_within, set_marked}
 use Rattle.daggy_base.specs.Ordered.{IsOrderOf, place}
-use Rattle.daggy_order.proofs.Sorted.{place_same, place_other}
+use Rattle.daggy_base.proofs.Sorted.{place_same, place_other}
 use Rattle.daggy_reduction.proofs.QueueProgress.{take_none}
 
 -- The node that a queue begins with: its graph, the number past all edges, the order and the node, and how many marks

@@ -9,8 +9,8 @@ use Rattle.daggy_base.proofs.Lists.{unique_right}
 use Rattle.daggy_base.proofs.OutEdgesRead.{lists_few}
 use Rattle.daggy_base.specs.Ordered.{IsOrderOf, place, stretch}
 use Rattle.daggy_order.proofs.BoundedSearch.{lists_length}
-use Rattle.daggy_order.proofs.Sorted.{unique_left}
-use Rattle.daggy_order.proofs.ListParts.{split_three}
+use Rattle.daggy_base.proofs.Sorted.{unique_left}
+use Rattle.daggy_base.proofs.ListParts.{split_three}
 use Rattle.daggy_reduction.specs.SearchSpan.{last_place, edges_spanned, all_spanned}
 use Rattle.daggy_reduction.proofs.BoundedQueue.{latest_from}
 use Rattle.daggy_reduction.proofs.SweptNodes.{total, below_exists}

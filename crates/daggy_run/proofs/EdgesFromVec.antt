@@ -13,7 +13,8 @@ use Rattle.daggy_base.specs.Path.{IsAcyclic}
 use Rattle.daggy_base.specs.declared.error.EdgesError.{EdgesError}
 use Rattle.daggy_base.specs.declared.error.EdgesError.TheVariants.{BadEndpoint, Full, Memory, WouldCycle}
 use Rattle.daggy_guard.specs.EdgeBatch as batch
-use Rattle.daggy_guard.specs.EdgeBatch.{NewEdge, by_numbers, weights_back, LacksEnd, LacksIndex, LacksMemory}
+use Rattle.daggy_guard.specs.EdgeBatch.{weights_back, LacksEnd, LacksIndex, LacksMemory}
+use Rattle.daggy_base.specs.Adding.{NewEdge, by_numbers}
 use Rattle.daggy_run.specs.EdgeLists.{AddsAll, StopsAt, ClosesCycle, IsRefused}
 
 module _ {A : Type 0} where

@@ -8,13 +8,14 @@ use Rattle.daggy_base.specs.Graph.{Graph, edge_count}
 use Rattle.daggy_base.specs.Adding.{with_edge}
 use Rattle.daggy_base.specs.Removal.{Kind, Compact}
 use Rattle.daggy_base.specs.Finding.{find_edge}
-use Rattle.daggy_guard.specs.EdgeBatch.{NewEdge, with_edges, HasEnds, IsFaultless, LacksEnd, LacksIndex, weights_back}
+use Rattle.daggy_guard.specs.EdgeBatch.{with_edges, HasEnds, IsFaultless, LacksEnd, LacksIndex, weights_back}
+use Rattle.daggy_base.specs.Adding.{NewEdge}
 use Rattle.daggy_run.specs.EdgeLists.{StopsAt}
-use Rattle.daggy_commands.specs.Requests as request
-use Rattle.daggy_commands.specs.Requests.{Request}
-use Rattle.daggy_commands.specs.Answers.{Answer, Node, Edge, EdgeNode, Edges, Found, Ends, Walk, Done, Missing, Full}
-use Rattle.daggy_commands.specs.Answers.{Cycle}
-use Rattle.daggy_commands.specs.Answers.{CycleAll, Memory, OfNode, OfEdge, OfEdgeNode, OfEdges}
+use Rattle.daggy_base.specs.Requests as request
+use Rattle.daggy_base.specs.Requests.{Request}
+use Rattle.daggy_base.specs.Answers.{Answer, Node, Edge, EdgeNode, Edges, Found, Ends, Walk, Done, Missing, Full}
+use Rattle.daggy_base.specs.Answers.{Cycle}
+use Rattle.daggy_base.specs.Answers.{CycleAll, Memory, OfNode, OfEdge, OfEdgeNode, OfEdges}
 use Rattle.daggy_run.specs.Steps.{IsStep, IsEdgeStep, IsUpdateStep, IsNeighborStep, IsBatchStep}
 use Rattle.daggy_run.specs.Runs.{IsRun, IsForBothKinds, FindsMemory, IsAsCompact}
 use Rattle.daggy_run.proofs.RunSteps.{compact_run}

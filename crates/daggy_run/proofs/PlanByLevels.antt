@@ -8,7 +8,7 @@ use Rattle.daggy_base.specs.Path.{AreJoined, IsPath, end_of}
 use Rattle.daggy_base.specs.WellFormed.{IsWellFormed, AreDistinct}
 use Rattle.daggy_base.proofs.Lists.{Mem, contains_mem, Contains-nil, Contains-here}
 use Rattle.daggy_base.proofs.OutEdgesRead.{below_bound}
-use Rattle.daggy_search.proofs.SearchProgress.{path_more}
+use Rattle.daggy_base.proofs.LongerPaths.{path_more}
 use Rattle.daggy_run.specs.Plans.{StandsIn, IsAscending, IsPlan, IsLevel, IsByLevels, IsLowest, IsChain, IsShortest}
 use Rattle.daggy_run.specs.Levels.{AreLevels, AreStaged, IsBack}
 

@@ -17,7 +17,7 @@ use Rattle.daggy_base.proofs.OutEdgesRead.{child_exists, below_bound}
 use Rattle.daggy_dag.specs.Walks.{rest_of_walk}
 use Rattle.daggy_dag.proofs.WalkSteps.{step_gives}
 use Rattle.daggy_base.specs.Ordered.{IsOrderOf, place}
-use Rattle.daggy_order.proofs.Sorted.{place_left, place_right, unique_cross}
+use Rattle.daggy_base.proofs.Sorted.{place_left, place_right, unique_cross}
 use Rattle.daggy_run.specs.Plans.{IsLowest}
 use Rattle.daggy_run.specs.Levels.{IsPassed, AreLevels, IsNext, IsRaised}
 

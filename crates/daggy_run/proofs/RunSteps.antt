@@ -5,9 +5,9 @@ use Rattle.std.specs.List.{AllByRecursion}
 use Rattle.std.proofs.lemmas.List.{map-id}
 use Rattle.daggy_base.specs.Graph.{Graph}
 use Rattle.daggy_base.specs.Removal.{Kind, Compact}
-use Rattle.daggy_commands.specs.Requests.{Request, Node, Edge, Update, Child, Parent, Edges, Find, Ends, RemoveNode}
-use Rattle.daggy_commands.specs.Requests.{RemoveEdge, Children, Parents, ClearEdges, Clear, Reduce}
-use Rattle.daggy_commands.specs.Answers.{Answer}
+use Rattle.daggy_base.specs.Requests.{Request, Node, Edge, Update, Child, Parent, Edges, Find, Ends, RemoveNode}
+use Rattle.daggy_base.specs.Requests.{RemoveEdge, Children, Parents, ClearEdges, Clear, Reduce}
+use Rattle.daggy_base.specs.Answers.{Answer}
 use Rattle.daggy_run.specs.Steps.{IsStep}
 use Rattle.daggy_run.specs.Runs.{IsRun, IsForBothKinds}
 

@@ -4,7 +4,8 @@ use Rattle.daggy_base.specs.Graph.{Graph}
 use Rattle.daggy_base.specs.Path.{IsAcyclic}
 use Rattle.daggy_base.specs.declared.error.EdgesError.{EdgesError}
 use Rattle.daggy_base.specs.declared.error.EdgesError.TheVariants.{BadEndpoint, Full, Memory, WouldCycle}
-use Rattle.daggy_guard.specs.EdgeBatch.{NewEdge, with_edges, new_edges, IsFaultless, LacksEnd, LacksIndex, LacksMemory}
+use Rattle.daggy_guard.specs.EdgeBatch.{with_edges, new_edges, IsFaultless, LacksEnd, LacksIndex, LacksMemory}
+use Rattle.daggy_base.specs.Adding.{NewEdge}
 use Rattle.daggy_guard.specs.EdgeBatch.{weights_back}
 
 module _ {N E : Type 0} (limit : ℕ) (g : Graph N E) (edges : List (NewEdge E)) where

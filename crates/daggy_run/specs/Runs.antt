@@ -3,8 +3,8 @@ use Rattle.std.specs.Prelude.{◌≡◌, ℕ, List, [], ◌∷◌}
 use Rattle.std.specs.List.{AllByRecursion}
 use Rattle.daggy_base.specs.Graph.{Graph}
 use Rattle.daggy_base.specs.Removal.{Kind, Compact}
-use Rattle.daggy_commands.specs.Requests.{Request, RemoveNode, RemoveEdge, Reduce}
-use Rattle.daggy_commands.specs.Answers.{Answer, Memory}
+use Rattle.daggy_base.specs.Requests.{Request, RemoveNode, RemoveEdge, Reduce}
+use Rattle.daggy_base.specs.Answers.{Answer, Memory}
 use Rattle.daggy_run.specs.Steps.{IsStep}
 
 -- each request is answered once, in order, each from the graph that the one before left

@@ -12,12 +12,13 @@ use Rattle.daggy_base.specs.Reduction.{IsReduction}
 use Rattle.daggy_base.specs.Weights.{edge_weight, with_edge_weight}
 use Rattle.daggy_base.specs.Finding.{find_edge}
 use Rattle.daggy_base.specs.Iterating.{edges_at}
-use Rattle.daggy_guard.specs.EdgeBatch.{NewEdge, HasEnds, LacksEnd, LacksIndex, LacksMemory}
+use Rattle.daggy_guard.specs.EdgeBatch.{HasEnds, LacksEnd, LacksIndex, LacksMemory}
+use Rattle.daggy_base.specs.Adding.{NewEdge}
 use Rattle.daggy_run.specs.EdgeLists.{AddsAll, StopsAt, ClosesCycle}
-use Rattle.daggy_commands.specs.Requests as request
-use Rattle.daggy_commands.specs.Requests.{Request}
-use Rattle.daggy_commands.specs.Answers as answer
-use Rattle.daggy_commands.specs.Answers.{Answer, OfNothing, OfNode, OfEdge, OfEdgeNode, OfEdges}
+use Rattle.daggy_base.specs.Requests as request
+use Rattle.daggy_base.specs.Requests.{Request}
+use Rattle.daggy_base.specs.Answers as answer
+use Rattle.daggy_base.specs.Answers.{Answer, OfNothing, OfNode, OfEdge, OfEdgeNode, OfEdges}
 
 -- the edges of a node's list of that direction with their far ends, newest first. A missing node has none
 abbrev pub walk_of : {N E : Type 0} → Direction → Graph N E → ℕ → List (ℕ × ℕ)

@@ -24,15 +24,15 @@ ghost use Rattle.daggy_base.specs.declared.error.NodeError.TheVariants.{Memory a
 ghost use Rattle.daggy_base.specs.declared.error.EdgeError.TheVariants.{WouldCycle as ByCycle};
 ghost use Rattle.daggy_base.specs.declared.error.EdgeError.TheVariants.{Memory as EdgeMemory};
 ghost use Rattle.daggy_base.specs.declared.error.ChildError.TheVariants.{Memory as ChildMemory};
-ghost use Rattle.daggy_guard.specs.EdgeBatch.{by_numbers};
+ghost use Rattle.daggy_base.specs.Adding.{by_numbers};
 ghost use Rattle.daggy_run.specs.Kinds.{kind_of};
 ghost use Rattle.daggy_run.specs.declared.guarded.Kind.{Kind as DagKind};
 ghost use Rattle.daggy_run.specs.Steps.{walk_of};
 ghost use Rattle.daggy_run.specs.EdgeLists.{AddsAll, IsRefused};
 
+use daggy_base::command::{Neighbor, NewEdge};
 use daggy_base::error::{ChildError, EdgeError, EdgesError, NodeError};
 use daggy_base::index::{EdgeIndex, IndexType, NodeIndex};
-use daggy_commands::command::{Neighbor, NewEdge};
 use daggy_dag::acyclic::TopologicalOrder;
 use std::alloc::AllocError;
 

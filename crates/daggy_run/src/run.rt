@@ -1,14 +1,14 @@
 //! A list of commands, carried out in order.
 ghost use Rattle.std.specs.Prelude.{◌≡◌, map, IfOk, IfErr, OnErr};
 ghost use Rattle.daggy_base.specs.Path.{IsAcyclic};
-ghost use Rattle.daggy_commands.specs.Requests.{request_of};
-ghost use Rattle.daggy_commands.specs.Answers.{answer_of};
+ghost use Rattle.daggy_base.specs.Requests.{request_of};
+ghost use Rattle.daggy_base.specs.Answers.{answer_of};
 ghost use Rattle.daggy_run.specs.Runs.{IsRun, IsAsCompact};
 
 use crate::guarded::GuardedDag;
 use crate::step::perform;
+use daggy_base::command::{Command, Reply};
 use daggy_base::index::IndexType;
-use daggy_commands::command::{Command, Reply};
 use std::alloc::Global;
 
 /// Carries out commands in order, and returns one reply for each. A command that fails changes

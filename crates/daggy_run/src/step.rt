@@ -2,16 +2,16 @@
 ghost use Rattle.std.specs.Prelude.{◌≡◌, map, IfOk, OnErr};
 ghost use Rattle.daggy_base.specs.Path.{IsAcyclic};
 ghost use Rattle.daggy_base.specs.Finding.{find_edge as edge_between};
-ghost use Rattle.daggy_guard.specs.EdgeBatch.{by_numbers};
-ghost use Rattle.daggy_commands.specs.Requests.{request_of, Node, Children, Parents, Reduce};
-ghost use Rattle.daggy_commands.specs.Answers.{answer_of};
+ghost use Rattle.daggy_base.specs.Adding.{by_numbers};
+ghost use Rattle.daggy_base.specs.Requests.{request_of, Node, Children, Parents, Reduce};
+ghost use Rattle.daggy_base.specs.Answers.{answer_of};
 ghost use Rattle.daggy_run.specs.Steps.{IsStep, IsEdgeStep, IsUpdateStep, IsNeighborStep};
 ghost use Rattle.daggy_run.specs.Steps.{IsBatchStep};
 
 use crate::guarded::GuardedDag;
+use daggy_base::command::{Back, Command, Neighbor, NewEdge, Reply};
 use daggy_base::error::{ChildError, EdgeError, EdgesError, NodeError};
 use daggy_base::index::{Direction, IndexType, NodeIndex};
-use daggy_commands::command::{Back, Command, Neighbor, NewEdge, Reply};
 use std::alloc::AllocError;
 
 fn add_node<N: Drop, E: Drop, Ix: IndexType, D: GuardedDag<N, E, Ix>>(

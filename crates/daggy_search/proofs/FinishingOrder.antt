@@ -14,7 +14,8 @@ use Rattle.daggy_base.proofs.Lists.{fewer_than}
 use Rattle.daggy_base.proofs.Lists.{mem_contains, unique_from_distinct, distinct_from_unique}
 use Rattle.daggy_base.proofs.OutEdgesRead.{lists_of, lists_few, LookedTo, read_whole, all_read, read_part, child_exists}
 use Rattle.daggy_base.proofs.OutEdgesRead.{child_joined, looked_more}
-use Rattle.daggy_search.proofs.SearchProgress.{path_stays, reaches_more, marked_within, set_marked}
+use Rattle.daggy_search.proofs.SearchProgress.{path_stays, marked_within, set_marked}
+use Rattle.daggy_base.proofs.LongerPaths.{reaches_more}
 
 -- a node on the way, and how many of the edges that leave it were looked at
 pub record Stop : Type 0 where

@@ -10,19 +10,9 @@ use Rattle.daggy_base.specs.WellFormed.{IsWellFormed}
 use Rattle.daggy_base.specs.Look.{IsLook}
 use Rattle.daggy_base.proofs.Lists.{Mem, Unique, mem_out, mem_into, mem_mid, unique_mid, unique_right}
 use Rattle.daggy_base.proofs.Lists.{fewer_than}
+use Rattle.daggy_base.proofs.LongerPaths.{reaches_more}
 use Rattle.daggy_base.proofs.OutEdgesRead.{lists_of, lists_few, LookedTo, read_whole, all_read, read_part, has_edge}
 use Rattle.daggy_base.proofs.OutEdgesRead.{child_exists, child_joined, next_cursor, looked_more}
-
--- paths
-pub path_more : {N E : Type 0} (g : Graph N E) (u : ℕ) (rest : List ℕ) (v w : ℕ)
-    → IsPath g (u ∷ rest) → end_of u rest ≡ v → AreJoined g v w → HasNode g w
-    → IsPath g (u ∷ (rest ++ w ∷ [])) × (end_of u (rest ++ w ∷ []) ≡ w)
-path_more g u [] v w p e j h = let P : ℕ → Type 0 = λ z. AreJoined g z w in ((p, subst P (sym e) j, h), refl)
-path_more g u (x ∷ rest) v w p e j h = let more = path_more g x rest v w p.2 e j h in ((p.0, p.1, more.0), more.1)
-
-pub reaches_more : {N E : Type 0} (g : Graph N E) (u v w : ℕ)
-    → Reaches g u v → AreJoined g v w → HasNode g w → Reaches g u w
-reaches_more g u v w r j h = let more = path_more g u r.0 v w r.1 r.2 j h in (r.0 ++ w ∷ [], more.0, more.1)
 
 -- a set of nodes that no edge leads out of has all that its members reach
 pub path_stays : {N E : Type 0} (g : Graph N E) (P : ℕ → Type 0) → ((u v : ℕ) → P u → AreJoined g u v → P v)

@@ -6,12 +6,12 @@ ghost use Rattle.serde_json.specs.Data.{string};
 ghost use Rattle.serde_json.specs.Find.{as_str};
 ghost use Rattle.serde_json.specs.View.{view};
 ghost use Rattle.daggy_base.specs.Copying.{IsCopy};
-ghost use Rattle.daggy_document.specs.Restoring.{trimmed};
-ghost use Rattle.daggy_document.specs.declared.error.ReadError.TheVariants.{Memory};
+ghost use Rattle.daggy_json.specs.Restoring.{trimmed};
+ghost use Rattle.daggy_json.specs.declared.error.ReadError.TheVariants.{Memory};
 ghost use Rattle.example_callers.specs.Documents.{HasSameText};
 
 use daggy_dag::acyclic::{Dag, StableDag};
-use daggy_document::error::ReadError;
+use daggy_json::error::ReadError;
 use daggy_json::documents::{dag_from_json, dag_to_json, stable_from_json, stable_to_json};
 use serde_json::Value;
 use std::alloc::{AllocError, Global};

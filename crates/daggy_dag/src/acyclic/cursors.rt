@@ -80,7 +80,7 @@ where
         ensures place { result ≡ next_slot S.kind self.now.graph.nodes from }
         ensures exists { result < length self.now.graph.nodes → HasNode self.now.graph result }
     {
-        let _well_formed = self.store.node_count();
+        self.store.invariant();
         let slots = self.store.node_slots();
         let mut i = from;
         'along: while i < slots {
@@ -98,7 +98,7 @@ where
         ensures place { result ≡ next_slot S.kind self.now.graph.edges from }
         ensures exists { result < length self.now.graph.edges → HasEdge self.now.graph result }
     {
-        let _well_formed = self.store.edge_count();
+        self.store.invariant();
         let slots = self.store.edge_slots();
         let mut i = from;
         'along: while i < slots {

@@ -77,7 +77,7 @@ impl<'a, Ix: IndexType, S: Store<Ix>> Iterator for Externals<'a, Ix, S> {
 
     fn next(&mut self) -> Option<NodeIndex<Ix>> {
         let slots = self.store.node_slots();
-        let _well_formed = self.store.node_count();
+        self.store.invariant();
         'along: while self.next < slots {
             let n = NodeIndex::new(self.next);
             self.next += 1;

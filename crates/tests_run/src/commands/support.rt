@@ -7,7 +7,7 @@ use super::filling::{full_of_edges, full_of_nodes};
 use super::planning::plans;
 use super::running::run_all;
 use daggy_base::index::{EdgeIndex, NodeIndex};
-use daggy_commands::command::{Back, Command, Reply};
+use daggy_base::command::{Back, Command, Reply};
 use daggy_dag::acyclic::{Dag, StableDag};
 use daggy_run::guarded::{GuardedDag, Kind};
 use daggy_run::step::perform;

@@ -1,6 +1,6 @@
 //! Random dags with vacant slots, written and read back.
 ghost use Rattle.std.specs.Prelude.{◌≡◌, ◌<◌};
-ghost use Rattle.daggy_document.specs.Restoring.{trimmed};
+ghost use Rattle.daggy_json.specs.Restoring.{trimmed};
 
 use crate::documents::support::{Small, SmallStable, edge, holds, made, node, number, weight};
 use daggy_base::error::EdgeError;

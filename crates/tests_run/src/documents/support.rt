@@ -1,8 +1,8 @@
 //! Small dags, and what a document of one is to be.
 ghost use Rattle.std.specs.Prelude.{◌≡◌, IsTrue, Ok, IfOk};
 ghost use Rattle.serde_json.specs.View.{view};
-ghost use Rattle.daggy_document.specs.Document.{whole};
-ghost use Rattle.daggy_document.specs.Reading.{whole_in};
+ghost use Rattle.daggy_json.specs.Document.{whole};
+ghost use Rattle.daggy_json.specs.Reading.{whole_in};
 
 use daggy_base::index::{EdgeIndex, NodeIndex};
 use daggy_base::store::Store;

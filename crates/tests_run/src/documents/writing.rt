@@ -3,7 +3,7 @@ use crate::documents::support::{
     REORDERED, Small, SmallStable, VACANT, dag_of, edge, holds, is_written, is_written_stable,
     node, number,
 };
-use daggy_document::error::{ReadError, WriteError};
+use daggy_json::error::{ReadError, WriteError};
 use daggy_json::documents::dag_to_json;
 use serde_json::Value;
 use std::alloc::AllocError;

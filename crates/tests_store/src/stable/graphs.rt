@@ -6,7 +6,7 @@ use daggy_base::index::{Direction, EdgeIndex, NodeIndex};
 use daggy_base::source::EdgeSource;
 use daggy_base::store::Store;
 use daggy_graph::graph::DiGraph;
-use daggy_slots::slot_capacity::Room;
+use daggy_dag::slot_capacity::Room;
 use daggy_stable::stable_graph::StableDiGraph;
 use std::alloc::Global;
 use std::process::Abort;

@@ -1,6 +1,6 @@
 use Rattle.std.proofs.Common.{ℤ, rules}
-use Rattle.daggy_commands.specs.Requests.{request_of}
-use Rattle.daggy_commands.specs.declared.command.Command.TheVariants.{ClearEdges, Clear}
+use Rattle.daggy_base.specs.Requests.{request_of}
+use Rattle.daggy_base.specs.declared.command.Command.TheVariants.{ClearEdges, Clear}
 use Rattle.dagbench_lines.specs.Cutting.{words_of}
 use Rattle.dagbench_lines.specs.Commands.{removing_by_name}
 use Rattle.dagbench_lines.proofs.ParsedLines.{done_map}

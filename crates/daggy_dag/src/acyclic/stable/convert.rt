@@ -4,9 +4,9 @@ ghost use Rattle.daggy_base.specs.Graph.{IsCompact};
 ghost use Rattle.daggy_base.specs.Path.{IsAcyclic};
 
 use crate::acyclic::{Acyclic, Dag};
+use crate::slot_capacity::Room;
 use daggy_base::index::IndexType;
 use daggy_search::Scratch;
-use daggy_slots::slot_capacity::Room;
 use daggy_stable::stable_graph::StableDiGraph;
 use std::alloc::{AllocError, Global};
 use std::marker::PhantomData;

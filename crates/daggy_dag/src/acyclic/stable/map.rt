@@ -55,7 +55,7 @@ impl<N: Drop, E: Drop, Ix: IndexType> Acyclic<N, E, Ix, StableDiGraph<N, E, Ix>>
         ensures acyclic { IfOk result (λ d. IsAcyclic d.graph) }
         ensures looks { IfOk result (λ d. d.looks ≡ 0) }
     {
-        let _well_formed = self.store.node_count();
+        self.store.invariant();
         let mut scratch = Scratch::new(self.scratch.allocator());
         scratch.reserve(self.store.node_slots(), 0)?;
         let order = self.order.try_clone()?;
@@ -97,13 +97,13 @@ impl<N: Drop, E: Drop, Ix: IndexType> Acyclic<N, E, Ix, StableDiGraph<N, E, Ix>>
         ensures acyclic { IfOk result (λ d. IsAcyclic d.graph) }
         ensures looks { IfOk result (λ d. d.looks ≡ 0) }
     {
-        let _well_formed = self.store.node_count();
+        self.store.invariant();
         let mut scratch = Scratch::new(self.scratch.allocator());
         let slots = self.store.node_slots();
         scratch.reserve(slots, 0)?;
         let mut order = self.order.try_clone()?;
         let store = self.store.filter_map(f, g)?;
-        let _joined_nodes = store.node_count();
+        store.invariant();
         keep_existing(&store, &mut order, slots);
         Ok(Acyclic {
             store,

@@ -20,7 +20,7 @@ impl<N: Drop, E: Drop, Ix: IndexType> Acyclic<N, E, Ix, StableDiGraph<N, E, Ix>>
         ensures acyclic { IsAcyclic self.new.graph }
         ensures looks { self.new.looks ≡ self.old.looks }
     {
-        let _well_formed = self.store.node_count();
+        self.store.invariant();
         self.store.update_node_weights(f);
     }
 
@@ -35,7 +35,7 @@ impl<N: Drop, E: Drop, Ix: IndexType> Acyclic<N, E, Ix, StableDiGraph<N, E, Ix>>
         ensures acyclic { IsAcyclic self.new.graph }
         ensures looks { self.new.looks ≡ self.old.looks }
     {
-        let _well_formed = self.store.node_count();
+        self.store.invariant();
         self.store.update_edge_weights(f);
     }
 }

@@ -36,7 +36,7 @@ impl<N: Drop, E: Drop, Ix: IndexType> Acyclic<N, E, Ix, StableDiGraph<N, E, Ix>>
             self.new }
         ensures acyclic { IsAcyclic self.new.graph }
     {
-        let _well_formed = self.store.node_count();
+        self.store.invariant();
         self.store.update_two_nodes(a, b, f)
     }
 
@@ -64,7 +64,7 @@ impl<N: Drop, E: Drop, Ix: IndexType> Acyclic<N, E, Ix, StableDiGraph<N, E, Ix>>
             self.new }
         ensures acyclic { IsAcyclic self.new.graph }
     {
-        let _well_formed = self.store.node_count();
+        self.store.invariant();
         self.store.update_two_edges(a, b, f)
     }
 
@@ -92,7 +92,7 @@ impl<N: Drop, E: Drop, Ix: IndexType> Acyclic<N, E, Ix, StableDiGraph<N, E, Ix>>
             self.new }
         ensures acyclic { IsAcyclic self.new.graph }
     {
-        let _well_formed = self.store.node_count();
+        self.store.invariant();
         self.store.update_node_and_edge(n, e, f)
     }
 }

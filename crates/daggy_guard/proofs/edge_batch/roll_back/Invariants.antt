@@ -1,6 +1,6 @@
 use Rattle.std.proofs.Common.{List, map, vec_len, vec_capacity}
 use Rattle.daggy_base.specs.Graph.{Graph}
-use Rattle.daggy_guard.specs.EdgeBatch.{NewEdge}
+use Rattle.daggy_base.specs.Adding.{NewEdge}
 use Rattle.daggy_guard.specs.BatchProgress.{IsBatchSoFar}
 use Rattle.daggy_guard.proofs.EdgesRolledBack.{Rolling}
 use Rattle.daggy_guard.proofs.edge_batch.roll_back.Given as goal

@@ -8,19 +8,19 @@ nodes-init g c = record { filling = filling_starts _ _ _ _ _ c.requires.ordered 
 
 pub returns-in-Err-clause-part : goal.returns-in-Err-clause-part
 returns-in-Err-clause-part g c =
-    is_part_filled c.nodes.invariant.filling (omega (arith, c.nodes-test.true, c.node_count.ensures.count)) _
+    is_part_filled c.nodes.invariant.filling (omega (arith, c.nodes-test.true, c.node_count.ensures)) _
     c.in-Err.ensures.unchanged
 
 pub nodes-smaller : goal.nodes-smaller
 nodes-smaller g c =
-    let more = fewer_missing c.nodes.invariant.filling _ c.node_count.ensures.well_formed _ _ c.in-Ok.ensures.added.1 in
-    omega (arith, more, c.nodes-test.true, c.node_count.ensures.count)
+    let more = fewer_missing c.nodes.invariant.filling _ c.invariant.ensures.well_formed _ _ c.in-Ok.ensures.added.1 in
+    omega (arith, more, c.nodes-test.true, c.node_count.ensures)
 
 pub nodes-preserved : goal.nodes-preserved
 nodes-preserved g c = record {
   filling =
-      filling_on c.nodes.invariant.filling c.node_count.ensures.well_formed
-      (omega (arith, c.nodes-test.true, c.node_count.ensures.count)) _ c.default.ensures c.in-Ok.ensures.added.1
+      filling_on c.nodes.invariant.filling c.invariant.ensures.well_formed
+      (omega (arith, c.nodes-test.true, c.node_count.ensures)) _ c.default.ensures c.in-Ok.ensures.added.1
       c.add_node.ensures.ordered c.add_node.ensures.fits;
   counted = c.add_node.ensures.counted ∙ c.nodes.invariant.counted;
 }

@@ -20,7 +20,7 @@ pub returns-clause-first : goal.returns-clause-first
 returns-clause-first g c =
     first_edge g.Ix.IndexType.number c.add_edge.result _
     (g.Ix.IndexType.number c.args.a, g.Ix.IndexType.number c.args.b, c.args.weight)
-    c.node_count-well_formed.ensures.well_formed (c.requires.parent, c.requires.child) c.make_way.ensures.same
+    c.invariant.ensures.well_formed (c.requires.parent, c.requires.child) c.make_way.ensures.same
     c.add_edge.ensures.index c.add_edge.ensures.added
 
 pub returns-clause-ready : goal.returns-clause-ready

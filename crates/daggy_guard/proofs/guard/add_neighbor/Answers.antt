@@ -16,8 +16,8 @@ added : (g : Over) (c : In-Ok g)
     (g.S.EdgeSource.graph c.put_node.new.store) c.args.weight (g.Ix.IndexType.number c.in-Ok.new)
     c.node_slots-slot_count.result
 added g c =
-    added_node c.args.weight c.node_count-well_formed.ensures.well_formed c.node_slots-slot_count.ensures.compact
-    c.node_slots-slot_count.ensures.value c.in-Ok.ensures.index c.in-Ok.ensures.added
+    added_node c.args.weight c.invariant.ensures.well_formed c.invariant.ensures.compact
+    c.node_slots-slot_count.ensures c.in-Ok.ensures.index c.in-Ok.ensures.added
 
 pub link-requires-clause-node : goal.link-requires-clause-node
 link-requires-clause-node g c =
@@ -34,7 +34,7 @@ remove-requires g c =
     let there =
     new_exists
     (added g (goal.at.remove-requires g c).In-Ok) in
-    ((order_of_node c.node_count-well_formed.ensures.well_formed c.args.weight c.requires.ordered _
+    ((order_of_node c.invariant.ensures.well_formed c.args.weight c.requires.ordered _
     c.in-Ok.ensures.added c.args.dir c.in-Ok.ensures.put).exact _).1 there
 
 pub take_back-weight-requires : goal.take_back-weight-requires
@@ -43,8 +43,8 @@ take_back-weight-requires g c =
       added = (
         _,
         c.args.weight,
-        added_node c.args.weight c.node_count-well_formed.ensures.well_formed c.node_slots-slot_count.ensures.compact
-            c.node_slots-slot_count.ensures.value c.in-Ok.ensures.index
+        added_node c.args.weight c.invariant.ensures.well_formed c.invariant.ensures.compact
+            c.node_slots-slot_count.ensures c.in-Ok.ensures.index
             (c.in-Err-link.ensures.unchanged ∙ c.in-Ok.ensures.added),
       );
     }
@@ -60,7 +60,7 @@ returns-in-Ok-link-clause-ordered g c =
     c.in-Ok-link.ensures.added
     ∙ ap (λ z. with_link c.args.dir z n (g.Ix.IndexType.number c.in-Ok.new) c.args.edge) c.in-Ok.ensures.added
     ∙ ap (λ z. with_link c.args.dir (with_node old c.args.weight) n z c.args.edge) c.in-Ok.ensures.index in
-    order_of_neighbor c.node_count-well_formed.ensures.well_formed c.args.weight c.requires.ordered n c.args.edge
+    order_of_neighbor c.invariant.ensures.well_formed c.args.weight c.requires.ordered n c.args.edge
     c.requires.node c.args.dir added c.in-Ok.ensures.put
 
 pub returns-in-Ok-link-clause-acyclic : goal.returns-in-Ok-link-clause-acyclic
@@ -71,20 +71,20 @@ returns-in-Err-link-clause-refusal g c =
     let edge_is : c.into_weight-in-Err-link.result ≡ c.args.edge =
     c.into_weight-in-Err-link.ensures ∙ ap edge_weight_of c.in-Err-link.ensures.refusal in
     let weight_same : c.take_back-weight.result ≡ c.args.weight =
-    c.take_back-weight.ensures.returned _ _ (added_node c.args.weight c.node_count-well_formed.ensures.well_formed
-    c.node_slots-slot_count.ensures.compact c.node_slots-slot_count.ensures.value c.in-Ok.ensures.index
+    c.take_back-weight.ensures.returned _ _ (added_node c.args.weight c.invariant.ensures.well_formed
+    c.invariant.ensures.compact c.node_slots-slot_count.ensures c.in-Ok.ensures.index
     (c.in-Err-link.ensures.unchanged ∙ c.in-Ok.ensures.added)) in
     cc
 
 pub returns-in-Err-link-clause-unchanged : goal.returns-in-Err-link-clause-unchanged
 returns-in-Err-link-clause-unchanged g c =
-    c.take_back-weight.ensures.undone _ _ (added_node c.args.weight c.node_count-well_formed.ensures.well_formed
-    c.node_slots-slot_count.ensures.compact c.node_slots-slot_count.ensures.value c.in-Ok.ensures.index
+    c.take_back-weight.ensures.undone _ _ (added_node c.args.weight c.invariant.ensures.well_formed
+    c.invariant.ensures.compact c.node_slots-slot_count.ensures c.in-Ok.ensures.index
     (c.in-Err-link.ensures.unchanged ∙ c.in-Ok.ensures.added))
 
 pub returns-in-Err-link-clause-ordered : goal.returns-in-Err-link-clause-ordered
 returns-in-Err-link-clause-ordered g c =
-    let f = c.node_count-well_formed.ensures.well_formed in
+    let f = c.invariant.ensures.well_formed in
     let full =
     order_of_node f c.args.weight c.requires.ordered _ c.in-Ok.ensures.added c.args.dir c.in-Ok.ensures.put in
     order_of_taken f c.args.weight full c.in-Ok.ensures.added _ c.in-Ok.ensures.index _ c.remove.ensures

@@ -5,7 +5,7 @@ use Rattle.daggy_guard.proofs.guard.has_parents.Goals as goal
 
 pub returns : goal.returns
 returns g c h =
-    no_parent c.node_count-well_formed.ensures.well_formed (g.Ix.IndexType.number c.args.n)
+    no_parent c.invariant.ensures.well_formed (g.Ix.IndexType.number c.args.n)
     (sym c.first_edge.ensures
     ∙ (sym c.index.ensures.value ∙ (ends h ∙ (c.index-2.ensures.value ∙ c.end.ensures.number))))
   where

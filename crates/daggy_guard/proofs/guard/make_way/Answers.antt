@@ -22,7 +22,7 @@ moved g c =
       | inl l ↦ absurd (false≢true (sym c.if-stands_before.false ∙ c.stands_before.ensures.1 l))
       | inr h ↦ h
     ] in
-    order_moved_before c.node_count-well_formed.ensures.well_formed c.args.order.now a b c.requires.ordered differs
+    order_moved_before c.invariant.ensures.well_formed c.args.order.now a b c.requires.ordered differs
     behind (c.parents_stand_before.ensures c.if-parents_stand_before.true) c.requires.parent c.requires.child
     c.move_before.new.self c.move_before.ensures
 
@@ -46,7 +46,7 @@ returns-then-not-has_parents-clause-decided g c =
 
 pub returns-then-not-has_parents-clause-ordered : goal.returns-then-not-has_parents-clause-ordered
 returns-then-not-has_parents-clause-ordered g c =
-    rw c.move_first.ensures (order_moved_first c.node_count-well_formed.ensures.well_formed c.args.order.now _
+    rw c.move_first.ensures (order_moved_first c.invariant.ensures.well_formed c.args.order.now _
     c.requires.ordered c.requires.parent (c.has_parents.ensures c.if-not-has_parents.true))
 
 pub returns-then-parents_stand_before-clause-decided : goal.returns-then-parents_stand_before-clause-decided
@@ -75,7 +75,7 @@ returns-clause-counted g c =
     let high = place c.args.order.now (g.Ix.IndexType.number c.args.a) in
     omega (
       arith,
-      few_edges c.node_count-well_formed.ensures.well_formed c.requires.ordered low high,
+      few_edges c.invariant.ensures.well_formed c.requires.ordered low high,
       c.order_edge.ensures.counted,
     )
 

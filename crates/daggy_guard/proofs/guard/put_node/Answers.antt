@@ -8,13 +8,13 @@ use Rattle.daggy_guard.proofs.guard.put_node.Goals as goal
 
 pub put-requires-clause-real : goal.put-requires-clause-real
 put-requires-clause-real g c =
-    new_low (added_node {kind = g.S.Store.kind} c.args.weight c.node_count-well_formed.ensures.well_formed
-    c.node_slots-old_slots.ensures.compact c.node_slots-old_slots.ensures.value c.in_ok-n.ensures.index
-    c.in_ok-n.ensures.added) c.node_count-still.ensures.well_formed
+    new_low (added_node {kind = g.S.Store.kind} c.args.weight c.invariant.ensures.well_formed
+    c.invariant.ensures.compact c.node_slots-old_slots.ensures c.in_ok-n.ensures.index
+    c.in_ok-n.ensures.added) c.invariant-2.ensures.well_formed
 
 pub put-requires-clause-absent : goal.put-requires-clause-absent
 put-requires-clause-absent g c =
-    not_listed_yet c.node_count-well_formed.ensures.well_formed c.args.weight c.requires.ordered _
+    not_listed_yet c.invariant.ensures.well_formed c.args.weight c.requires.ordered _
     c.in_ok-n.ensures.index
 
 pub take_back-weight-requires : goal.take_back-weight-requires
@@ -23,8 +23,8 @@ take_back-weight-requires g c =
       added = (
         _,
         c.args.weight,
-        added_node c.args.weight c.node_count-well_formed.ensures.well_formed c.node_slots-old_slots.ensures.compact
-            c.node_slots-old_slots.ensures.value c.in_ok-n.ensures.index c.in_ok-n.ensures.added,
+        added_node c.args.weight c.invariant.ensures.well_formed c.invariant.ensures.compact
+            c.node_slots-old_slots.ensures c.in_ok-n.ensures.index c.in_ok-n.ensures.added,
       );
     }
 
@@ -38,14 +38,14 @@ returns-in-Ok-clause-fits g c =
 pub returns-in-Err-clause-refusal : goal.returns-in-Err-clause-refusal
 returns-in-Err-clause-refusal g c =
     ap Memory (c.take_back-weight.ensures.returned _ _
-    (added_node c.args.weight c.node_count-well_formed.ensures.well_formed c.node_slots-old_slots.ensures.compact
-    c.node_slots-old_slots.ensures.value c.in_ok-n.ensures.index c.in_ok-n.ensures.added))
+    (added_node c.args.weight c.invariant.ensures.well_formed c.invariant.ensures.compact
+    c.node_slots-old_slots.ensures c.in_ok-n.ensures.index c.in_ok-n.ensures.added))
 
 pub returns-in-Err-clause-unchanged : goal.returns-in-Err-clause-unchanged
 returns-in-Err-clause-unchanged g c =
     c.take_back-weight.ensures.undone _ _
-    (added_node c.args.weight c.node_count-well_formed.ensures.well_formed c.node_slots-old_slots.ensures.compact
-    c.node_slots-old_slots.ensures.value c.in_ok-n.ensures.index c.in_ok-n.ensures.added)
+    (added_node c.args.weight c.invariant.ensures.well_formed c.invariant.ensures.compact
+    c.node_slots-old_slots.ensures c.in_ok-n.ensures.index c.in_ok-n.ensures.added)
 
 pub returns-in-Err-clause-fits : goal.returns-in-Err-clause-fits
 returns-in-Err-clause-fits g c =

@@ -10,21 +10,21 @@ returns-in_err-weight-clause-acyclic g c = acyclic_by c.requires.ordered c.in_er
 pub take_out-requires-clause-last : goal.take_out-requires-clause-last
 take_out-requires-clause-last g c fewer =
     let exists : HasNode (g.S.EdgeSource.graph c.args.store.now) (g.Ix.IndexType.number c.args.n) = search rules in
-    last_there c.node_count-well_formed.ensures.well_formed c.requires.ordered _ exists _
-    c.node_slots-slot_count.ensures.value g.S.Store.kind c.in_ok-weight.ensures.removed c.node_slots.ensures.value
-    c.node_slots-slot_count.ensures.compact fewer
+    last_there c.invariant.ensures.well_formed c.requires.ordered _ exists _
+    c.node_slots-slot_count.ensures g.S.Store.kind c.in_ok-weight.ensures.removed c.node_slots.ensures
+    c.invariant.ensures.compact fewer
 
 pub take_out-requires-clause-lower : goal.take_out-requires-clause-lower
 take_out-requires-clause-lower g c =
     let exists : HasNode (g.S.EdgeSource.graph c.args.store.now) (g.Ix.IndexType.number c.args.n) = search rules in
-    omega (arith, node_low (g.S.EdgeSource.graph c.args.store.now) _ exists, c.node_slots-slot_count.ensures.value)
+    omega (arith, node_low (g.S.EdgeSource.graph c.args.store.now) _ exists, c.node_slots-slot_count.ensures)
 
 pub returns-clause-ordered : goal.returns-clause-ordered
 returns-clause-ordered g c =
     let exists : HasNode (g.S.EdgeSource.graph c.args.store.now) (g.Ix.IndexType.number c.args.n) = search rules in
-    order_of_removed c.node_count-well_formed.ensures.well_formed c.requires.ordered _ exists _
-    c.node_slots-slot_count.ensures.value g.S.Store.kind c.in_ok-weight.ensures.between c.in_ok-weight.ensures.removed
-    c.node_slots.ensures.value c.take_out.ensures.moved c.take_out.ensures.stayed
+    order_of_removed c.invariant.ensures.well_formed c.requires.ordered _ exists _
+    c.node_slots-slot_count.ensures g.S.Store.kind c.in_ok-weight.ensures.between c.in_ok-weight.ensures.removed
+    c.node_slots.ensures c.take_out.ensures.moved c.take_out.ensures.stayed
 
 pub returns-clause-acyclic : goal.returns-clause-acyclic
 returns-clause-acyclic g c = acyclic_from_order _ (returns-clause-ordered g c)

@@ -7,7 +7,7 @@ use Rattle.daggy_guard.proofs.guard.update_edge.Goals as goal
 
 pub replace_edge_weight-old-requires : goal.replace_edge_weight-old-requires
 replace_edge_weight-old-requires g c =
-    edge_between_exists (found_between _ _ _ _ c.node_count-well_formed.ensures.well_formed (sym c.in-Some.ensures))
+    edge_between_exists (found_between _ _ _ _ c.invariant.ensures.well_formed (sym c.in-Some.ensures))
 
 pub returns-in-Some-clause-cycle : goal.returns-in-Some-clause-cycle
 returns-in-Some-clause-cycle g c = (
@@ -15,7 +15,7 @@ returns-in-Some-clause-cycle g c = (
   λ r.
       absurd (no_round (g.S.EdgeSource.graph c.args.store.now) (acyclic_from_order _ c.requires.ordered) _ _
       c.requires.parent
-      (joined_between (found_between _ _ _ _ c.node_count-well_formed.ensures.well_formed (sym c.in-Some.ensures))) r),
+      (joined_between (found_between _ _ _ _ c.invariant.ensures.well_formed (sym c.in-Some.ensures))) r),
 )
 
 pub returns-in-Some-clause-ordered : goal.returns-in-Some-clause-ordered

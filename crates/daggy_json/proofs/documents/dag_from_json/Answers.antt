@@ -1,9 +1,9 @@
 use Rattle.std.proofs.Common.{inl, inr, false, subst, ◌∙◌}
 use Rattle.std.proofs.lemmas.Result.{MatchResult-weaker}
 use Rattle.serde_json.specs.View.{view}
-use Rattle.daggy_document.specs.Weight.{ReadsAs}
-use Rattle.daggy_document.specs.Restoring.{IsCopyAs, ReadsTo}
-use Rattle.daggy_document.proofs.RestoredDag.{restored, values_again, compact_same, answers_again}
+use Rattle.daggy_json.specs.Weight.{ReadsAs}
+use Rattle.daggy_json.specs.Restoring.{IsCopyAs, ReadsTo}
+use Rattle.daggy_json.proofs.RestoredDag.{restored, values_again, compact_same, answers_again}
 use Rattle.daggy_json.proofs.documents.dag_from_json.Goals as goal
 
 pub returns-clause-restored : goal.returns-clause-restored

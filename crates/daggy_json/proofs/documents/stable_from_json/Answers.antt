@@ -2,8 +2,8 @@ use Rattle.std.proofs.Common.{inl, inr, true, sym}
 use Rattle.std.proofs.lemmas.Bool.{false≢true}
 use Rattle.std.proofs.lemmas.Result.{MatchResult-weaker}
 use Rattle.serde_json.specs.View.{view}
-use Rattle.daggy_document.specs.Weight.{ReadsAs}
-use Rattle.daggy_document.proofs.RestoredDag.{restored, values_again, answers_again}
+use Rattle.daggy_json.specs.Weight.{ReadsAs}
+use Rattle.daggy_json.proofs.RestoredDag.{restored, values_again, answers_again}
 use Rattle.daggy_json.proofs.documents.stable_from_json.Goals as goal
 
 pub returns-clause-restored : goal.returns-clause-restored

@@ -1,4 +1,4 @@
-use Rattle.daggy_document.proofs.WrittenValues.{has_values}
+use Rattle.daggy_json.proofs.WrittenValues.{has_values}
 use Rattle.daggy_json.proofs.documents.write.Goals as goal
 
 pub returns-clause-values : goal.returns-clause-values

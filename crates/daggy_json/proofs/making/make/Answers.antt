@@ -5,10 +5,10 @@ use Rattle.daggy_base.specs.State.{State}
 use Rattle.daggy_base.specs.Graph.{Graph}
 use Rattle.daggy_base.specs.Path.{IsAcyclic}
 use Rattle.daggy_base.specs.Orders.{numbers_of}
-use Rattle.daggy_document.specs.Found.{ordered}
-use Rattle.daggy_document.specs.Reading.{IsTested}
-use Rattle.daggy_document.proofs.Cycles.{of_some, tested_made, tested_cyclic}
-use Rattle.daggy_document.proofs.GivenSlots.{slots_fit, compact_slots}
+use Rattle.daggy_json.specs.Found.{ordered}
+use Rattle.daggy_json.specs.Reading.{IsTested}
+use Rattle.daggy_json.proofs.Cycles.{of_some, tested_made, tested_cyclic}
+use Rattle.daggy_json.proofs.GivenSlots.{slots_fit, compact_slots}
 use Rattle.daggy_json.proofs.making.make.Goals as goal
 
 -- the dag that was made, where no lists were handed to it

@@ -4,8 +4,8 @@ use Rattle.std.proofs.lemmas.List.{length-set}
 use Rattle.daggy_base.specs.Removal.{without}
 use Rattle.daggy_base.proofs.Lists.{Mem, contains_mem}
 use Rattle.daggy_order.specs.Links.{Listed}
-use Rattle.daggy_order.proofs.Sorted.{filter_mem}
-use Rattle.daggy_order.proofs.ListParts.{held_is}
+use Rattle.daggy_base.proofs.Sorted.{filter_mem}
+use Rattle.daggy_base.proofs.ListParts.{held_is}
 use Rattle.daggy_order.proofs.Labelled.{labelled_without}
 use Rattle.daggy_order.proofs.list.take_out.Given.{Over}
 use Rattle.daggy_order.proofs.list.take_out.Goals.{After-remove}

@@ -2,8 +2,8 @@ use Rattle.std.proofs.Common.{[], ◌∷◌, ◌∙◌, map, ap, arith}
 use Rattle.std.proofs.lemmas.List.{map-append}
 use Rattle.std.proofs.lemmas.Iterator.Adapters.{YieldsList-from_vec}
 use Rattle.std.proofs.lemmas.Iterator.Consumers.{YieldsList-end}
-use Rattle.daggy_commands.specs.Requests.{request_of}
-use Rattle.daggy_commands.specs.Answers.{answer_of}
+use Rattle.daggy_base.specs.Requests.{request_of}
+use Rattle.daggy_base.specs.Answers.{answer_of}
 use Rattle.daggy_run.proofs.RunSteps.{run_more, run_begins, run_whole, unless_err}
 use Rattle.daggy_run.proofs.OneAnswer.{as_compact}
 use Rattle.daggy_run.proofs.run.run.Goals as goal

@@ -1,8 +1,8 @@
 use Rattle.std.proofs.Common.{map, ◌+◌, ◌≤◌, vec_len, vec_capacity}
 use Rattle.std.specs.Vec.Iter.{into_iter_len}
 use Rattle.daggy_base.specs.Path.{IsAcyclic}
-use Rattle.daggy_commands.specs.Requests.{request_of}
-use Rattle.daggy_commands.specs.Answers.{answer_of}
+use Rattle.daggy_base.specs.Requests.{request_of}
+use Rattle.daggy_base.specs.Answers.{answer_of}
 use Rattle.daggy_run.specs.Runs.{IsRun}
 use Rattle.daggy_run.proofs.run.run.Given as goal
 

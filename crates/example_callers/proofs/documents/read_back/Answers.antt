@@ -1,6 +1,6 @@
 use Rattle.std.proofs.Common.{Some, None, refl, rules}
 use Rattle.std.proofs.lemmas.Option.{same_Some, none-some}
-use Rattle.daggy_document.proofs.ReadBack.{read_back}
+use Rattle.daggy_json.proofs.ReadBack.{read_back}
 use Rattle.example_callers.specs.Documents.{HasSameText}
 use Rattle.example_callers.proofs.Texts.{text_again}
 use Rattle.example_callers.proofs.documents.read_back.Goals as goal

@@ -8,5 +8,5 @@ returns-clause-dag g c =
     subst (λ s. IsDag g.Ix.IndexType.greatest s.graph) c.self.view_is
     (record {
       acyclic = acyclic_from_order c.self.inside.order c.self.invariant.0;
-      well_formed = c.edge_count.ensures.well_formed;
+      well_formed = c.invariant.ensures.well_formed;
     })

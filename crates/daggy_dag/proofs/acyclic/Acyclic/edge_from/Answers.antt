@@ -13,7 +13,7 @@ use Rattle.daggy_dag.proofs.acyclic.Acyclic.edge_from.Goals as goal
 full : (g : Over) (c : After-edge_slots-slots g)
     → g.S.Store.kind ≡ Compact → IsFull (g.S.EdgeSource.graph c.self.inside.store).edges
 full g c compact =
-    full_from _ _ c.edge_count-well_formed.ensures.well_formed.edge_slots (c.edge_slots-slots.ensures.compact compact).edges
+    full_from _ _ c.invariant.ensures.well_formed.edge_slots (c.invariant.ensures.compact compact).edges
 
 pub along-preserved : goal.along-preserved
 along-preserved g c =
@@ -23,7 +23,7 @@ along-preserved g c =
     (subst (HasEdge (g.S.EdgeSource.graph c.self.inside.store)) (sym c.new.ensures.number) has)) in
     c.along.invariant
     ∙ next_passed (g.S.EdgeSource.graph c.self.inside.store).edges c.along.i
-    (omega (arith, c.along-test.true, c.edge_slots-slots.ensures.value)) missing
+    (omega (arith, c.along-test.true, c.edge_slots-slots.ensures)) missing
 
 pub returns-then-contains_edge-clause-place : goal.returns-then-contains_edge-clause-place
 returns-then-contains_edge-clause-place g c =
@@ -39,5 +39,5 @@ pub returns-clause-place : goal.returns-clause-place
 returns-clause-place g c =
     next_behind g.S.Store.kind (g.S.EdgeSource.graph c.self.inside.store).edges c.args.from c.along.i
     (full g (goal.at.returns-clause-place g c).After-edge_slots-slots) c.along.invariant
-    (omega (arith, c.along-test.false, c.edge_slots-slots.ensures.value))
+    (omega (arith, c.along-test.false, c.edge_slots-slots.ensures))
     ∙ ap (λ s. next_slot g.S.Store.kind s.graph.edges c.args.from) c.self.view_is

@@ -9,4 +9,4 @@ returns-clause-ends g c =
     (HasNode state.graph (g.Ix.IndexType.number c.args.a) × HasNode state.graph (g.Ix.IndexType.number c.args.b)))
     c.self.view_is
     (ends_exist (g.S.EdgeSource.graph c.self.inside.store) _ _ g.Ix.IndexType.number c.find_edge.result
-    c.edge_count-well_formed.ensures.well_formed c.find_edge.ensures)
+    c.invariant.ensures.well_formed c.find_edge.ensures)

@@ -12,7 +12,7 @@ sorted-requires g c =
     omega (
       arith,
       bound_low (g.S.EdgeSource.graph c.in-Ok.store).nodes,
-      c.node_slots.ensures.value,
+      c.node_slots.ensures,
       c.in-Ok-reserve.ensures.ok.0,
     )
 
@@ -27,7 +27,7 @@ pub invariant_of-result : goal.invariant_of-result
 invariant_of-result g c =
     let low = bound_low (g.S.EdgeSource.graph c.in-Ok.store).nodes in
     let fits : node_bound (g.S.EdgeSource.graph c.in-Ok.store) ≤ c.reserve.new.self.nodes =
-    omega (arith, low, c.node_slots.ensures.value, c.in-Ok-reserve.ensures.ok.0) in
+    omega (arith, low, c.node_slots.ensures, c.in-Ok-reserve.ensures.ok.0) in
     let capacity : c.sorted.new.scratch.nodes ≡ c.reserve.new.self.nodes =
     ap (λ (z : Room _). z.nodes) c.sorted.ensures.same_capacity in
     let ordered =

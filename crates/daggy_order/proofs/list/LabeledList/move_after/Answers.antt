@@ -4,7 +4,7 @@ use Rattle.std.proofs.lemmas.List.{length-take-le}
 use Rattle.daggy_base.specs.Cursor.{first_of}
 use Rattle.daggy_base.proofs.Lists.{Mem, Unique, mem_mid, mem_contains, unique_from_distinct}
 use Rattle.daggy_order.specs.Links.{Stored, HasGap, IsLabelled, IsMoved, StandBefore, without_all}
-use Rattle.daggy_order.proofs.Sorted.{distinct_from_unique}
+use Rattle.daggy_base.proofs.Sorted.{distinct_from_unique}
 use Rattle.daggy_order.proofs.SortedByLabel.{once_sorted, sorted_in, sorted_stand, sorted_moved, sorted_gap}
 use Rattle.daggy_order.proofs.SortedByLabel.{sorted_labelled, first_of_run, first_of_none}
 use Rattle.daggy_order.proofs.list.LabeledList.move_after.Goals as goal

@@ -3,8 +3,8 @@ use Rattle.std.specs.List.{Contains}
 use Rattle.daggy_base.specs.Removal.{without}
 use Rattle.daggy_base.proofs.Lists.{Mem, contains_mem, mem_contains}
 use Rattle.daggy_order.specs.Links.{Stored}
-use Rattle.daggy_order.proofs.Sorted.{mem_filter}
-use Rattle.daggy_order.proofs.ListParts.{is_held}
+use Rattle.daggy_base.proofs.Sorted.{mem_filter}
+use Rattle.daggy_base.proofs.ListParts.{is_held}
 use Rattle.daggy_order.proofs.list.LabeledList.move_before.Goals as goal
 
 pub take_out-requires-clause-held : goal.take_out-requires-clause-held

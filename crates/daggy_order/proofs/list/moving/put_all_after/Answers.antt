@@ -5,7 +5,7 @@ use Rattle.std.proofs.lemmas.List.{take_more, take_all, take-append-drop, drop_m
 use Rattle.daggy_base.specs.Removal.{without}
 use Rattle.daggy_base.proofs.Lists.{Mem, Unique, mem_left, mem_at, contains_mem, mem_contains, unique_from_distinct}
 use Rattle.daggy_order.specs.Links.{Listed, without_all}
-use Rattle.daggy_order.proofs.Sorted.{unique_cross}
+use Rattle.daggy_base.proofs.Sorted.{unique_cross}
 use Rattle.daggy_order.proofs.MovedNodes.{Moving, moves_none, moves_in, moves_at, moves_absent, moves_more}
 use Rattle.daggy_order.proofs.list.moving.put_all_after.Given.{Over}
 use Rattle.daggy_order.proofs.list.moving.put_all_after.Goals.{After-index-nodes-i}

@@ -1,8 +1,8 @@
 use Rattle.std.proofs.Common.{ℕ, List, ◌∷◌, sym, subst, inl, inr, ◌∙◌, arith, not, eqb}
 use Rattle.daggy_base.specs.Removal.{without}
 use Rattle.daggy_base.proofs.Lists.{Mem, contains_mem, mem_out, split_at}
-use Rattle.daggy_order.proofs.ListParts.{is_held}
-use Rattle.daggy_order.proofs.Sorted.{mem_filter, filter_mem}
+use Rattle.daggy_base.proofs.ListParts.{is_held}
+use Rattle.daggy_base.proofs.Sorted.{mem_filter, filter_mem}
 use Rattle.daggy_order.proofs.Tails.{tailed_after}
 use Rattle.daggy_order.proofs.order.Order.move_before.Goals as goal
 

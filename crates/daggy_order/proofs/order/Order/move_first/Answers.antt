@@ -1,6 +1,6 @@
 use Rattle.std.proofs.Common.{ℕ, List, sym, subst, inl, inr, ◌∙◌, arith, not, eqb}
 use Rattle.daggy_base.proofs.Lists.{Mem, contains_mem}
-use Rattle.daggy_order.proofs.Sorted.{filter_mem}
+use Rattle.daggy_base.proofs.Sorted.{filter_mem}
 use Rattle.daggy_order.proofs.Tails.{tailed_after}
 use Rattle.daggy_order.proofs.order.Order.move_first.Goals as goal
 

@@ -1,7 +1,7 @@
 use Rattle.std.proofs.Common.{rules, ◌≡◌, ◌<◌, ◌^◌, ◌-◌, ◌+◌, ℕ, List, sym, ap, subst, inl, ◌∙◌, arith, not, eqb}
 use Rattle.daggy_base.proofs.Lists.{Mem, contains_mem}
 use Rattle.daggy_base.specs.Removal.{without}
-use Rattle.daggy_order.proofs.Sorted.{filter_mem}
+use Rattle.daggy_base.proofs.Sorted.{filter_mem}
 use Rattle.daggy_order.proofs.Tails.{high, tailed_after, tail_fewer}
 use Rattle.daggy_order.proofs.order.Order.remove.Goals as goal
 

@@ -5,7 +5,7 @@ use Rattle.daggy_base.specs.Graph.{HasNode}
 use Rattle.daggy_base.specs.Ordered.{IsOrderOf, IsParted, place, stretch, edges_from}
 use Rattle.daggy_base.proofs.Lists.{Mem, contains_mem, mem_contains}
 use Rattle.std.specs.List.{range_with_len}
-use Rattle.daggy_order.proofs.Sorted.{same_place}
+use Rattle.daggy_base.proofs.Sorted.{same_place}
 use Rattle.daggy_order.proofs.Tails.{high, tailed_bare, bare_is}
 use Rattle.daggy_order.proofs.order.edge.order_edge.Given.{Over}
 use Rattle.daggy_order.proofs.order.edge.order_edge.Goals.{Else-index, After-flush-order-inside, After-move_reached}

@@ -2,7 +2,7 @@ use Rattle.std.proofs.Common.{rules, ◌≡◌, ◌≢◌, ◌+◌, ◌-◌, ◌
 use Rattle.std.proofs.Common.{◌↔◌, length, get_or, take, subst, ℕ}
 use Rattle.std.proofs.lemmas.Option.{none-some}
 use Rattle.daggy_base.proofs.Lists.{contains_mem, mem_contains}
-use Rattle.daggy_order.proofs.Sorted.{distinct_from_unique}
+use Rattle.daggy_base.proofs.Sorted.{distinct_from_unique}
 use Rattle.daggy_base.specs.Graph.{out_list, edge_count}
 use Rattle.daggy_base.specs.Path.{Reaches}
 use Rattle.daggy_base.specs.Cursor.{first_of}

@@ -1,6 +1,6 @@
 use Rattle.std.proofs.Common.{refl, rules}
 use Rattle.std.proofs.lemmas.Result.{IfOk-at_ok, MatchResult-at_ok}
-use Rattle.daggy_document.proofs.RestoredDag.{document_again}
+use Rattle.daggy_json.proofs.RestoredDag.{document_again}
 use Rattle.tests_run.proofs.Weights.{read_again}
 use Rattle.tests_run.proofs.documents.random.read_back.Goals as goal
 

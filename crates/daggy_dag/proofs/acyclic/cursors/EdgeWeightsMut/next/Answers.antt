@@ -18,6 +18,6 @@ returns-then-i-edge_slots g c =
 pub returns-else-i-edge_slots : goal.returns-else-i-edge_slots
 returns-else-i-edge_slots g c =
     let past : length c.args.self.now.dag.now.graph.edges ≤ c.edge_from-i.result =
-    omega (arith, c.if-i-edge_slots.false, c.edge_slots.ensures.value, ap (λ h. length h.edges) c.graph.ensures.graph) in
+    omega (arith, c.if-i-edge_slots.false, c.edge_slots.ensures, ap (λ h. length h.edges) c.graph.ensures.graph) in
     let none = none_past c.args.self.now.dag.now.graph.edges c.edge_from-i.result past in
     (refl, record { writes_back = tt; value = rw (← c.edge_from-i.ensures.place) (sym (ap (option_map (λ x. x.weight)) none)) })

@@ -17,6 +17,6 @@ returns-then-i-node_slots g c =
 pub returns-else-i-node_slots : goal.returns-else-i-node_slots
 returns-else-i-node_slots g c =
     let past : length c.args.self.now.dag.now.graph.nodes ≤ c.node_from-i.result =
-    omega (arith, c.if-i-node_slots.false, c.node_slots.ensures.value, ap (λ h. length h.nodes) c.graph.ensures.graph) in
+    omega (arith, c.if-i-node_slots.false, c.node_slots.ensures, ap (λ h. length h.nodes) c.graph.ensures.graph) in
     let none = none_past c.args.self.now.dag.now.graph.nodes c.node_from-i.result past in
     (refl, record { writes_back = tt; value = rw (← c.node_from-i.ensures.place) (sym none) })

@@ -12,7 +12,7 @@ returns-then-is_external-clause-steps g c =
     let direction = c.along.invariant.direction in
     let number = c.new-n.ensures.number in
     let test = c.if-is_external.ensures in
-    let within : at.next < length graph.nodes = omega (arith, c.along-test.true, c.node_slots-slots.ensures.value) in
+    let within : at.next < length graph.nodes = omega (arith, c.along-test.true, c.node_slots-slots.ensures) in
     let is : is_external from.direction graph at.next ≡ true = cc in
     let moved : externals_from from.direction graph (at.next + 1)
     ≡ externals_from at.direction (g.S.EdgeSource.graph at.store.now) (at.next + 1) =
@@ -36,7 +36,7 @@ along-preserved g c =
     let direction = c.along.invariant.direction in
     let number = c.new-n.ensures.number in
     let test = c.if-is_external.ensures in
-    let within : at.next < length graph.nodes = omega (arith, c.along-test.true, c.node_slots-slots.ensures.value) in
+    let within : at.next < length graph.nodes = omega (arith, c.along-test.true, c.node_slots-slots.ensures) in
     let isnt : is_external from.direction graph at.next ≡ false = cc in
     record {
       store = store;

@@ -10,7 +10,7 @@ returns g c =
     let graph : store ≡ c.args.dag.now.graph = cc in
     let cursor : number c.self.inside.edge ≡ number c.args.self.now = cc in
     let stepped =
-    steps number Incoming _ c.step.result _ c.edge_count-well_formed.ensures.well_formed graph cursor c.step.ensures in
+    steps number Incoming _ c.step.result _ c.invariant.ensures.well_formed graph cursor c.step.ensures in
     record {
       steps = stepped;
       goes = record {

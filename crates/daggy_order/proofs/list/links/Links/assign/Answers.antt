@@ -5,7 +5,7 @@ use Rattle.std.proofs.lemmas.List.{length-set}
 use Rattle.std.specs.List.{Contains}
 use Rattle.daggy_base.proofs.Lists.{Mem, Unique, mem_left, mem_right, mem_contains, unique_from_distinct, unique_right}
 use Rattle.daggy_order.specs.Links.{Listed, LabelsAscend}
-use Rattle.daggy_order.proofs.Sorted.{unique_left}
+use Rattle.daggy_base.proofs.Sorted.{unique_left}
 use Rattle.daggy_order.proofs.AscendingLabels.{Numbering, numbers_none, node_in, numbers_more, all_numbered}
 use Rattle.daggy_order.proofs.list.links.Links.assign.Given.{Over}
 use Rattle.daggy_order.proofs.list.links.Links.assign.Goals.{After-index}

@@ -15,7 +15,7 @@ keep_existing-requires-clause-below g c =
 
 pub invariant_of-result : goal.invariant_of-result
 invariant_of-result g c = (
-  order_kept c.in_ok-store.ensures.filtered c.node_count-joined_nodes.ensures.well_formed
+  order_kept c.in_ok-store.ensures.filtered c.invariant-2.ensures.well_formed
       c.in_ok-order.ensures c.keep_existing.ensures c.self.invariant.0,
   fits_kept c.in_ok-store.ensures.filtered _ c.node_slots-slots.ensures c.in_ok-reserve.ensures.ok.0,
 )

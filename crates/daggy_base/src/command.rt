@@ -1,0 +1,100 @@
+//! Commands to a dag and the replies to them, as values.
+
+use crate::index::{DefaultIx, EdgeIndex, NodeIndex};
+
+/// An edge, and a node that it leads to or comes from.
+pub type Neighbor<Ix> = (EdgeIndex<Ix>, NodeIndex<Ix>);
+
+/// An edge to be added: its parent, its child and its weight.
+pub type NewEdge<E, Ix> = (NodeIndex<Ix>, NodeIndex<Ix>, E);
+
+/// A command to a dag. Indices need not exist.
+#[derive(Debug, Drop, PartialEq)]
+pub enum Command<N, E, Ix = DefaultIx> {
+    /// Add a node of this weight.
+    Node(N),
+    /// Add an edge: its parent, its child and its weight.
+    Edge(NodeIndex<Ix>, NodeIndex<Ix>, E),
+    /// Write the weight of the newest edge between two nodes, or add an edge if there is none.
+    Update(NodeIndex<Ix>, NodeIndex<Ix>, E),
+    /// Add a child of a node: the weight of the edge, then that of the new node.
+    Child(NodeIndex<Ix>, E, N),
+    /// Add a parent of a node: the weight of the edge, then that of the new node.
+    Parent(NodeIndex<Ix>, E, N),
+    /// Add all these edges, or none.
+    Edges(Vec<NewEdge<E, Ix>>),
+    /// Find the newest edge from the first node to the second.
+    Find(NodeIndex<Ix>, NodeIndex<Ix>),
+    /// Return the parent and the child of an edge.
+    Ends(EdgeIndex<Ix>),
+    /// Remove a node with its edges.
+    RemoveNode(NodeIndex<Ix>),
+    /// Remove an edge.
+    RemoveEdge(EdgeIndex<Ix>),
+    /// List the children of a node.
+    Children(NodeIndex<Ix>),
+    /// List the parents of a node.
+    Parents(NodeIndex<Ix>),
+    /// Remove all edges.
+    ClearEdges,
+    /// Remove all nodes and edges.
+    Clear,
+    /// Remove the edges that are redundant below these nodes.
+    Reduce(Vec<NodeIndex<Ix>>),
+}
+
+/// The reply to a command.
+#[derive(Debug, Drop, PartialEq)]
+pub enum Reply<N, E, Ix = DefaultIx> {
+    /// The node that was added.
+    Node(NodeIndex<Ix>),
+    /// The edge that was added, or whose weight was written.
+    Edge(EdgeIndex<Ix>),
+    /// The edge and the node that were added.
+    EdgeNode(EdgeIndex<Ix>, NodeIndex<Ix>),
+    /// The edges that were added, in the order in which they were given.
+    Edges(Vec<EdgeIndex<Ix>>),
+    /// The edge that was found.
+    Found(Option<EdgeIndex<Ix>>),
+    /// The parent and the child of an edge that exists.
+    Ends(Option<(NodeIndex<Ix>, NodeIndex<Ix>)>),
+    /// The weight of the node that was removed.
+    NodeGone(Option<N>),
+    /// The weight of the edge that was removed.
+    EdgeGone(Option<E>),
+    /// Edges with their children, or with their parents, newest edge first.
+    Walk(Vec<Neighbor<Ix>>),
+    /// It is done.
+    Done,
+    /// A node that the command adds an edge to does not exist. Nothing has changed.
+    Missing(Back<N, E>),
+    /// The index type has no index left. Nothing has changed.
+    Full(Back<N, E>),
+    /// The edge of this weight would close a cycle. Nothing has changed.
+    Cycle(E),
+    /// All these edges together would close a cycle. Nothing has changed. The weights are in
+    /// reverse order.
+    CycleAll(Vec<E>),
+    /// Out of memory. Nothing has changed.
+    Memory(Back<N, E>),
+}
+
+/// The weights returned by a failed command.
+#[derive(Debug, Drop, PartialEq)]
+pub enum Back<N, E> {
+    /// None.
+    Nothing,
+    /// The node's.
+    Node(N),
+    /// The edge's.
+    Edge(E),
+    /// The edge's and the node's.
+    EdgeNode(E, N),
+    /// Those of a batch of edges, up to the offending one.
+    Edges {
+        /// The weight of the offending edge.
+        last: E,
+        /// The weights of the edges before it, in reverse order.
+        before: Vec<E>,
+    },
+}

@@ -1,8 +1,0 @@
-use Rattle.std.proofs.Common.{map}
-use Rattle.daggy_document.specs.Found.{index_in}
-use Rattle.daggy_document.proofs.FoundParts.{AllSoFar}
-use Rattle.daggy_document.proofs.reading.orders.read_list.Given as goal
-
-abbrev pub invariant-loop-item : goal.invariant-loop-item
-invariant-loop-item g l =
-    AllSoFar (index_in l.bound) l.item-items l.item-index (map g.Ix.IndexType.number l.indices.items)

@@ -1,7 +1,0 @@
-use Rattle.daggy_document.specs.Reading.{IsWeight}
-use Rattle.daggy_document.specs.Weight.{ReadsAs}
-use Rattle.daggy_document.proofs.Stages.{EachSoFar}
-use Rattle.daggy_document.proofs.reading.weights.read_weights.Given as goal
-
-abbrev pub invariant-loop-value : goal.invariant-loop-value
-invariant-loop-value g l = EachSoFar (IsWeight (ReadsAs g.F.Fn l.fn_node)) l.list.items l.value-index l.weights.items

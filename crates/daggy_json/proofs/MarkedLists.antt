@@ -1,0 +1,477 @@
+-- Lists that are marked one edge after the other, and what the marks say at the end.
+use Rattle.std.proofs.Common.{◌≡◌, ◌≢◌, ℕ, zero, suc, ◌+◌, ◌<◌, ◌≤◌, inl, inr, Bool, true, false, Option, Some, None}
+use Rattle.std.proofs.Common.{IsSome, is_some, List, [], ◌∷◌, length, get_or, set, drop, map, cond, count_by, unwrap_or}
+use Rattle.std.proofs.Common.{slice_get, refl, sym, ap, subst, ◌∙◌, arith, add-one, zero-add, drop-cons, length-set}
+use Rattle.std.proofs.Common.{length-drop}
+use Rattle.std.specs.Prelude.{◌⊎◌, Contains}
+use Rattle.std.specs.Option.{option_map}
+use Rattle.std.proofs.lemmas.Bool.{false≢true, cases_eq, cases_lt}
+use Rattle.std.proofs.lemmas.List.{get_or-set_other, get_or-set_same, drop_all}
+use Rattle.std.proofs.lemmas.List.Sums.{sum_by-cons}
+use Rattle.daggy_base.specs.WellFormed.{AreDistinct}
+use Rattle.daggy_base.specs.Graph.{slot}
+use Rattle.daggy_base.proofs.Lists.{Contains-nil, Contains-here, Contains-there, Contains-cases}
+use Rattle.daggy_base.specs.Orders.{lists_by_slots}
+use Rattle.daggy_json.specs.Found.{Marked, marked_with, AllMarked, marked_by}
+
+is_false : (b : Bool) → (b ≡ true → ⊥) → b ≡ false
+is_false true h = absurd (h refl)
+is_false false h = refl
+
+pub long_marked : (m : List Bool) (es : List ℕ) → length (marked_with m es) ≡ length m
+long_marked m [] = refl
+long_marked m (e ∷ es) = long_marked (set m e true) es ∙ length-set m e true
+
+-- ---- one list
+
+module _ (p : ℕ → Bool) where
+  pub marked_pass : (m : List Bool) (es : List ℕ) → Marked p m es → (e : ℕ) → Contains es e → p e ≡ true
+  marked_pass m [] h e c = absurd (Contains-nil e c)
+  marked_pass m (a ∷ es) h e c =
+      elim (Contains-cases a e es c) [
+        | inl same ↦ ap p (sym same) ∙ h.0
+        | inr there ↦ marked_pass (set m a true) es h.2 e there
+      ]
+
+  pub marked_fresh : (m : List Bool) (es : List ℕ)
+      → ((e : ℕ) → p e ≡ true → e < length m) → Marked p m es → (e : ℕ) → Contains es e → get_or m e false ≡ false
+  marked_fresh m [] low h e c = absurd (Contains-nil e c)
+  marked_fresh m (a ∷ es) low h e c =
+      elim (Contains-cases a e es c) [
+        | inl same ↦ ap (λ k. get_or m k false) (sym same) ∙ h.1
+        | inr there ↦ (
+            let l : (k : ℕ) → p k ≡ true → k < length (set m a true) = λ k q.
+            omega (arith, low k q, length-set m a true) in
+            let later = marked_fresh (set m a true) es l h.2 e there in
+            let ne : e ≢ a = λ s.
+            false≢true
+            (sym later ∙ (ap (λ k. get_or (set m a true) k false) s ∙ get_or-set_same m a true false (low a h.0))) in
+            sym (get_or-set_other m a e true false ne) ∙ later
+            )
+      ]
+
+  pub marked_once : (m : List Bool) (es : List ℕ)
+      → ((e : ℕ) → p e ≡ true → e < length m) → Marked p m es → AreDistinct es
+  marked_once m [] low h = tt
+  marked_once m (a ∷ es) low h =
+      let l : (k : ℕ) → p k ≡ true → k < length (set m a true) = λ k q. omega (arith, low k q, length-set m a true) in (
+        λ c. false≢true (sym (marked_fresh (set m a true) es l h.2 a c) ∙ get_or-set_same m a true false (low a h.0)),
+        marked_once (set m a true) es l h.2,
+      )
+
+  pub marked_from : (m : List Bool) (es : List ℕ) → ((e : ℕ) → Contains es e → p e ≡ true) → AreDistinct es
+      → ((e : ℕ) → Contains es e → get_or m e false ≡ false) → Marked p m es
+  marked_from m [] pass once fresh = tt
+  marked_from m (a ∷ es) pass once fresh = (
+    pass a (Contains-here a es),
+    fresh a (Contains-here a es),
+    marked_from (set m a true) es (λ e c. pass e (Contains-there a e es c)) once.1
+        (λ e c. let ne : e ≢ a = λ s. once.0 (subst (λ k. Contains es k) s c) in
+        get_or-set_other m a e true false ne ∙ fresh e (Contains-there a e es c)),
+  )
+
+-- what is marked then
+pub marks_came : (m : List Bool) (es : List ℕ) (e : ℕ)
+    → get_or (marked_with m es) e false ≡ true → (get_or m e false ≡ true) ⊎ Contains es e
+marks_came m [] e h = inl h
+marks_came m (a ∷ es) e h =
+    elim (marks_came (set m a true) es e h) [
+      | inl now ↦ elim (cases_eq e a) [
+        | inl same ↦ inr (subst (λ k. Contains (a ∷ es) k) (sym same) (Contains-here a es))
+        | inr other ↦ inl (sym (get_or-set_other m a e true false other) ∙ now)
+      ]
+      | inr there ↦ inr (Contains-there a e es there)
+    ]
+
+pub marks_stay : (m : List Bool) (es : List ℕ) (e : ℕ)
+    → get_or m e false ≡ true → get_or (marked_with m es) e false ≡ true
+marks_stay m [] e h = h
+marks_stay m (a ∷ es) e h =
+    marks_stay (set m a true) es e (elim (cases_eq e a) [
+      | inl same ↦
+          ap (λ k. get_or (set m a true) k false) same
+          ∙ get_or-set_same m a true false (within m a (ap (λ k. get_or m k false) (sym same) ∙ h))
+      | inr other ↦ get_or-set_other m a e true false other ∙ h
+    ])
+  where
+    within : (xs : List Bool) (k : ℕ) → get_or xs k false ≡ true → k < length xs
+    within [] k t = absurd (false≢true t)
+    within (x ∷ xs) zero t = omega arith
+    within (x ∷ xs) (suc k) t = let r = within xs k t in omega arith
+
+pub marks_come : (m : List Bool) (es : List ℕ)
+    → ((e : ℕ) → Contains es e → e < length m) → (e : ℕ) → Contains es e → get_or (marked_with m es) e false ≡ true
+marks_come m [] low e c = absurd (Contains-nil e c)
+marks_come m (a ∷ es) low e c =
+    elim (Contains-cases a e es c) [
+      | inl same ↦
+          marks_stay (set m a true) es e (ap (λ k. get_or (set m a true) k false) (sym same)
+          ∙ get_or-set_same m a true false (low a (Contains-here a es)))
+      | inr there ↦
+          marks_come (set m a true) es
+          (λ k q. omega (arith, low k (Contains-there a k es q), length-set m a true)) e there
+    ]
+
+-- ---- the lists of all nodes
+
+abbrev pub row : List (List ℕ) → ℕ → List ℕ
+row lists n = unwrap_or (slice_get lists n) []
+
+at_next : (P : ℕ → ℕ → Bool) (i j e : ℕ) → P (i + 1 + j) e ≡ true → P (i + suc j) e ≡ true
+at_next P i j e h = ap (λ k. P k e) (let q : i + suc j ≡ i + 1 + j = omega arith in q) ∙ h
+
+at_here : (P : ℕ → ℕ → Bool) (i e : ℕ) → P i e ≡ true → P (i + 0) e ≡ true
+at_here P i e h = ap (λ k. P k e) (let q : i + 0 ≡ i = omega arith in q) ∙ h
+
+pub count_none : {N : Type 0} (slots : List (Option N)) → count_by is_some (None ∷ slots) ≡ count_by is_some slots
+count_none slots = sum_by-cons (λ y. cond (is_some y) 1 0) None slots ∙ zero-add (count_by is_some slots)
+
+pub count_some : {N : Type 0} (x : N) (slots : List (Option N))
+    → count_by is_some (Some x ∷ slots) ≡ 1 + count_by is_some slots
+count_some x slots = sum_by-cons (λ y. cond (is_some y) 1 0) (Some x) slots
+
+-- an edge stands in the list of an existing node
+pub record IsInListOf {N : Type 0} (slots : List (Option N)) (lists : List (List ℕ)) (n e : ℕ) : Type 0 where
+  pub exists : IsSome (slot slots n)
+  pub listed : Contains (row (lists_by_slots slots lists) n) e
+
+module _ {N : Type 0} (P : ℕ → ℕ → Bool) where
+  pub rows_count : (i : ℕ) (m : List Bool) (slots : List (Option N)) (lists : List (List ℕ))
+      → AllMarked P i m slots lists → length lists ≡ count_by is_some slots
+  rows_count i m [] lists h = ap length h
+  rows_count i m (None ∷ slots) lists h = rows_count (i + 1) m slots lists h ∙ sym (count_none slots)
+  rows_count i m (Some x ∷ slots) [] h = absurd h
+  rows_count i m (Some x ∷ slots) (l ∷ lists) h = let r = rows_count (i + 1) (marked_with m l) slots lists h.1 in
+      omega (arith, r, count_some x slots)
+
+  -- each list of a node passes, each edge once
+  pub record IsLinkedList (i : ℕ) (slots : List (Option N)) (lists : List (List ℕ)) : Type 0 where
+    pub pass : (j : ℕ)
+        → IsSome (slot slots j) → (e : ℕ) → Contains (row (lists_by_slots slots lists) j) e → P (i + j) e ≡ true
+    pub once : (j : ℕ) → IsSome (slot slots j) → AreDistinct (row (lists_by_slots slots lists) j)
+
+  pub rows_are : (i : ℕ) (m : List Bool) (slots : List (Option N)) (lists : List (List ℕ))
+      → ((k e : ℕ) → P k e ≡ true → e < length m) → AllMarked P i m slots lists → IsLinkedList i slots lists
+  rows_are i m [] lists low h = record { pass = λ j s. absurd (false≢true s); once = λ j s. absurd (false≢true s) }
+  rows_are i m (None ∷ slots) lists low h =
+      let r = rows_are (i + 1) m slots lists low h in
+      record {
+        pass =
+            λ j.
+            elim j as (λ j. IsSome (slot (None ∷ slots) j)
+            → (e : ℕ) → Contains (row (lists_by_slots (None ∷ slots) lists) j) e → P (i + j) e ≡ true) [
+              | zero ↦ λ s. absurd (false≢true s)
+              | suc k ↦ λ s e c. at_next P i k e (r.pass k s e c)
+            ];
+        once =
+            λ j.
+            elim j
+            as (λ j. IsSome (slot (None ∷ slots) j) → AreDistinct (row (lists_by_slots (None ∷ slots) lists) j)) [
+              | zero ↦ λ s. absurd (false≢true s)
+              | suc k ↦ λ s. r.once k s
+            ];
+      }
+  rows_are i m (Some x ∷ slots) [] low h = absurd h
+  rows_are i m (Some x ∷ slots) (l ∷ lists) low h =
+      let low' : (k e : ℕ) → P k e ≡ true → e < length (marked_with m l) = λ k e q.
+      omega (arith, low k e q, long_marked m l) in
+      let r = rows_are (i + 1) (marked_with m l) slots lists low' h.1 in
+      record {
+        pass =
+            λ j.
+            elim j as (λ j. IsSome (slot (Some x ∷ slots) j)
+            → (e : ℕ) → Contains (row (lists_by_slots (Some x ∷ slots) (l ∷ lists)) j) e → P (i + j) e ≡ true) [
+              | zero ↦ λ s e c. at_here P i e (marked_pass (P i) m l h.0 e c)
+              | suc k ↦ λ s e c. at_next P i k e (r.pass k s e c)
+            ];
+        once =
+            λ j.
+            elim j as (λ j. IsSome (slot (Some x ∷ slots) j)
+            → AreDistinct (row (lists_by_slots (Some x ∷ slots) (l ∷ lists)) j)) [
+              | zero ↦ λ s. marked_once (P i) m l (λ e q. low i e q) h.0
+              | suc k ↦ λ s. r.once k s
+            ];
+      }
+
+  -- what is marked stands in a list of a node
+  pub stands_in : (m : List Bool) (slots : List (Option N)) (lists : List (List ℕ)) (e : ℕ)
+      → get_or (marked_by m slots lists) e false ≡ true
+      → (get_or m e false ≡ true) ⊎ ((j : ℕ) × IsInListOf slots lists j e)
+  stands_in m [] lists e h = inl h
+  stands_in m (None ∷ slots) lists e h =
+      elim (stands_in m slots lists e h) [
+        | inl a ↦ inl a
+        | inr b ↦ inr (suc b.0, record { exists = b.1.exists; listed = b.1.listed })
+      ]
+  stands_in m (Some x ∷ slots) [] e h = inl h
+  stands_in m (Some x ∷ slots) (l ∷ lists) e h =
+      elim (stands_in (marked_with m l) slots lists e h) [
+        | inl a ↦ elim (marks_came m l e a) [
+          | inl old ↦ inl old
+          | inr new ↦ inr (0, record { exists = refl; listed = new })
+        ]
+        | inr b ↦ inr (suc b.0, record { exists = b.1.exists; listed = b.1.listed })
+      ]
+
+  pub stays_marked : (m : List Bool) (slots : List (Option N)) (lists : List (List ℕ)) (e : ℕ)
+      → get_or m e false ≡ true → get_or (marked_by m slots lists) e false ≡ true
+  stays_marked m [] lists e h = h
+  stays_marked m (None ∷ slots) lists e h = stays_marked m slots lists e h
+  stays_marked m (Some x ∷ slots) [] e h = h
+  stays_marked m (Some x ∷ slots) (l ∷ lists) e h = stays_marked (marked_with m l) slots lists e (marks_stay m l e h)
+
+  pub gets_marked : (i : ℕ) (m : List Bool) (slots : List (Option N)) (lists : List (List ℕ))
+      → ((k e : ℕ) → P k e ≡ true → e < length m) → AllMarked P i m slots lists → (j : ℕ) {e : ℕ}
+      → IsInListOf slots lists j e → get_or (marked_by m slots lists) e false ≡ true
+  gets_marked i m [] lists low h j s = absurd (false≢true s.exists)
+  gets_marked i m (None ∷ slots) lists low h zero s = absurd (false≢true s.exists)
+  gets_marked i m (None ∷ slots) lists low h (suc j) s =
+      gets_marked (i + 1) m slots lists low h j (record { exists = s.exists; listed = s.listed })
+  gets_marked i m (Some x ∷ slots) [] low h j s = absurd h
+  gets_marked i m (Some x ∷ slots) (l ∷ lists) low h zero {e} s =
+      stays_marked (marked_with m l) slots lists e
+      (marks_come m l (λ k q. low i k (marked_pass (P i) m l h.0 k q)) e s.listed)
+  gets_marked i m (Some x ∷ slots) (l ∷ lists) low h (suc j) s =
+      gets_marked (i + 1) (marked_with m l) slots lists (λ k z q. omega (arith, low k z q, long_marked m l)) h.1 j
+      (record { exists = s.exists; listed = s.listed })
+
+  -- and such lists can be marked, where no edge is at two nodes
+  pub all_from : ((k k' e : ℕ) → P k e ≡ true → P k' e ≡ true → k ≡ k')
+      → (i : ℕ) (m : List Bool) (slots : List (Option N)) (lists : List (List ℕ))
+      → length lists ≡ count_by is_some slots → IsLinkedList i slots lists
+      → ((e : ℕ) → get_or m e false ≡ true → (k : ℕ) × (k < i) × (P k e ≡ true)) → AllMarked P i m slots lists
+  all_from one i m [] [] count r before = refl
+  all_from one i m [] (l ∷ lists) count r before = absurd (omega arith)
+  all_from one i m (None ∷ slots) lists count r before =
+      all_from one (i + 1) m slots lists (count ∙ count_none slots)
+      (record { pass = λ j s e c. back i j e (r.pass (suc j) s e c); once = λ j s. r.once (suc j) s }) (λ e h. let b =
+      before e h in (b.0, omega (arith, b.1), b.2))
+    where
+      back : (i j e : ℕ) → P (i + suc j) e ≡ true → P (i + 1 + j) e ≡ true
+      back i j e h = ap (λ k. P k e) (let q : i + 1 + j ≡ i + suc j = omega arith in q) ∙ h
+  all_from one i m (Some x ∷ slots) [] count r before = absurd (omega (arith, count, count_some x slots))
+  all_from one i m (Some x ∷ slots) (l ∷ lists) count r before = (
+    marked_from (P i) m l (λ e c. here i e (r.pass 0 refl e c)) (r.once 0 refl) unmarked,
+    all_from one (i + 1) (marked_with m l) slots lists (omega (arith, count, count_some x slots))
+        (record { pass = λ j s e c. back i j e (r.pass (suc j) s e c); once = λ j s. r.once (suc j) s }) later,
+  )
+    where
+      back : (i j e : ℕ) → P (i + suc j) e ≡ true → P (i + 1 + j) e ≡ true
+      back i j e h = ap (λ k. P k e) (let q : i + 1 + j ≡ i + suc j = omega arith in q) ∙ h
+
+      here : (i e : ℕ) → P (i + 0) e ≡ true → P i e ≡ true
+      here i e h = ap (λ k. P k e) (let q : i ≡ i + 0 = omega arith in q) ∙ h
+
+      unmarked : (e : ℕ) → Contains l e → get_or m e false ≡ false
+      unmarked e c =
+          is_false (get_or m e false) (λ t. let q = before e t in
+          let same : q.0 ≡ i = one q.0 i e q.2 (here i e (r.pass 0 refl e c)) in
+          absurd (omega (arith, q.1)))
+
+      later : (e : ℕ) → get_or (marked_with m l) e false ≡ true → (k : ℕ) × (k < i + 1) × (P k e ≡ true)
+      later e h =
+          elim (marks_came m l e h) [
+            | inl old ↦ (let b = before e old in (b.0, omega (arith, b.1), b.2))
+            | inr new ↦ (i, omega arith, here i e (r.pass 0 refl e new))
+          ]
+
+-- ---- in the words of the loops
+
+-- the first i of a list were marked
+pub record MarkedSoFar (p : ℕ → Bool) (m₀ : List Bool) (es : List ℕ) (i : ℕ) (m : List Bool) : Type 0 where
+  pub forth : Marked p m₀ es → Marked p m (drop i es)
+  pub back : Marked p m (drop i es) → Marked p m₀ es
+  pub with_all : marked_with m₀ es ≡ marked_with m (drop i es)
+  pub kept : length m ≡ length m₀
+
+module _ {p : ℕ → Bool} {m₀ m : List Bool} {es : List ℕ} {i : ℕ} (s : MarkedSoFar p m₀ es i m) where
+  next_is : i < length es → (e : ℕ) → e ≡ get_or es i e → drop i es ≡ e ∷ drop (i + 1) es
+  next_is low e is =
+      drop-cons es i e low ∙ (ap (λ k. k ∷ drop (suc i) es) (sym is) ∙ ap (λ k. e ∷ drop k es) (sym (add-one i)))
+
+  pub marked_on : i < length es → (e : ℕ) → e ≡ get_or es i e → p e ≡ true → get_or m e false ≡ false
+      → (m' : List Bool) → m' ≡ set m e true → MarkedSoFar p m₀ es (i + 1) m'
+  marked_on low e is pass fresh m' more =
+      let at = next_is low e is in
+      let P : List ℕ → Type 0 = λ k. Marked p m k in
+      let Q : List Bool → Type 0 = λ k. Marked p k (drop (i + 1) es) in
+      record {
+        forth = λ h. let q : Marked p m (e ∷ drop (i + 1) es) = subst P at (s.forth h) in subst Q (sym more) q.2;
+        back = λ h. let q : Marked p m (e ∷ drop (i + 1) es) = (pass, fresh, subst Q more h) in
+            s.back (subst P (sym at) q);
+        with_all = s.with_all ∙ (ap (marked_with m) at ∙ ap (λ k. marked_with k (drop (i + 1) es)) (sym more));
+        kept = ap length more ∙ (length-set m e true ∙ s.kept);
+      }
+
+  pub marked_wrong : i < length es → (e : ℕ) → e ≡ get_or es i e → ((p e ≡ true) × (get_or m e false ≡ false) → ⊥)
+      → Marked p m₀ es → ⊥
+  marked_wrong low e is wrong h =
+      let P : List ℕ → Type 0 = λ k. Marked p m k in
+      let q : Marked p m (e ∷ drop (i + 1) es) = subst P (next_is low e is) (s.forth h) in
+      wrong (q.0, q.1)
+
+-- the lists of the first n slots were marked
+pub record ListsSoFar {N : Type 0} (P : ℕ → ℕ → Bool) (m₀ : List Bool) (slots : List (Option N)) (lists : List (List ℕ))
+    (n passed : ℕ) (m : List Bool) : Type 0 where
+  pub forth : AllMarked P 0 m₀ slots lists → AllMarked P n m (drop n slots) (drop passed lists)
+  pub back : AllMarked P n m (drop n slots) (drop passed lists) → AllMarked P 0 m₀ slots lists
+  pub with_all : marked_by m₀ slots lists ≡ marked_by m (drop n slots) (drop passed lists)
+  pub kept : length m ≡ length m₀
+  pub within : passed ≤ length lists
+
+module _ {N : Type 0} {P : ℕ → ℕ → Bool} {m₀ m : List Bool} {slots : List (Option N)} {lists : List (List ℕ)}
+    {n passed : ℕ} (s : ListsSoFar P m₀ slots lists n passed m) where
+  slot_at : n < length slots → (o : Option N) → o ≡ get_or slots n o → drop n slots ≡ o ∷ drop (n + 1) slots
+  slot_at low o is =
+      drop-cons slots n o low
+      ∙ (ap (λ k. k ∷ drop (suc n) slots) (sym is) ∙ ap (λ k. o ∷ drop k slots) (sym (add-one n)))
+
+  list_at : passed < length lists → (l : List ℕ) → l ≡ get_or lists passed l
+      → drop passed lists ≡ l ∷ drop (passed + 1) lists
+  list_at low l is =
+      drop-cons lists passed l low
+      ∙ (ap (λ k. k ∷ drop (suc passed) lists) (sym is) ∙ ap (λ k. l ∷ drop k lists) (sym (add-one passed)))
+
+  lists_skip : n < length slots → (o : Option N) → o ≡ get_or slots n o → is_some o ≡ false
+      → ListsSoFar P m₀ slots lists (n + 1) passed m
+  lists_skip low None is vacant =
+      let at = slot_at low None is in
+      let Q : List (Option N) → Type 0 = λ k. AllMarked P n m k (drop passed lists) in
+      record {
+        forth = λ h. let q : AllMarked P n m (None ∷ drop (n + 1) slots) (drop passed lists) = subst Q at (s.forth h) in
+            q;
+        back = λ h. let q : AllMarked P n m (None ∷ drop (n + 1) slots) (drop passed lists) = h in
+            s.back (subst Q (sym at) q);
+        with_all = s.with_all ∙ ap (λ k. marked_by m k (drop passed lists)) at;
+        kept = s.kept;
+        within = s.within;
+      }
+  lists_skip low (Some x) is vacant = absurd (false≢true (sym vacant))
+
+  lists_on : n < length slots → (o : Option N) → o ≡ get_or slots n o → is_some o ≡ true → passed < length lists
+      → {l : List ℕ} → l ≡ get_or lists passed l → Marked (P n) m l → {m' : List Bool} → m' ≡ marked_with m l
+      → ListsSoFar P m₀ slots lists (n + 1) (passed + 1) m'
+  lists_on low None is some more here marked after = absurd (false≢true some)
+  lists_on low (Some x) is some more {l} here marked after =
+      let at = slot_at low (Some x) is in
+      let at_list = list_at more l here in
+      let Q : List (Option N) → Type 0 = λ k. AllMarked P n m k (drop passed lists) in
+      let R : List (List ℕ) → Type 0 = λ k. AllMarked P n m (Some x ∷ drop (n + 1) slots) k in
+      let T : List Bool → Type 0 = λ k. AllMarked P (n + 1) k (drop (n + 1) slots) (drop (passed + 1) lists) in
+      record {
+        forth = λ h.
+            let q : AllMarked P n m (Some x ∷ drop (n + 1) slots) (l ∷ drop (passed + 1) lists) =
+            subst R at_list (subst Q at (s.forth h)) in
+            subst T (sym after) q.1;
+        back = λ h.
+            let q : AllMarked P n m (Some x ∷ drop (n + 1) slots) (l ∷ drop (passed + 1) lists) = (
+              marked,
+              subst T after h,
+            ) in
+            s.back (subst Q (sym at) (subst R (sym at_list) q));
+        with_all =
+            s.with_all
+            ∙ (ap (λ k. marked_by m k (drop passed lists)) at
+            ∙ (ap (λ k. marked_by m (Some x ∷ drop (n + 1) slots) k) at_list
+            ∙ ap (λ k. marked_by k (drop (n + 1) slots) (drop (passed + 1) lists)) (sym after)));
+        kept = ap length after ∙ (long_marked m l ∙ s.kept);
+        within = omega arith;
+      }
+
+  pub lists_skipped : n < length slots → (o : Option N) → o ≡ get_or slots n o → is_some o ≡ false
+      → (passed' : ℕ) (m' : List Bool) → passed' ≡ passed → m' ≡ m → ListsSoFar P m₀ slots lists (n + 1) passed' m'
+  lists_skipped low o is vacant passed' m' same_passed same =
+      let R : ℕ → Type 0 = λ k. ListsSoFar P m₀ slots lists (n + 1) k m' in
+      let T : List Bool → Type 0 = λ k. ListsSoFar P m₀ slots lists (n + 1) passed k in
+      subst R (sym same_passed) (subst T (sym same) (lists_skip low o is vacant))
+
+  pub lists_passed : n < length slots → {o : Option N} → o ≡ get_or slots n o → is_some o ≡ true → passed < length lists
+      → {l : List ℕ} → l ≡ get_or lists passed l → Marked (P n) m l → {passed' : ℕ} {m' : List Bool}
+      → passed' ≡ passed + 1 → m' ≡ marked_with m l → ListsSoFar P m₀ slots lists (n + 1) passed' m'
+  lists_passed low {o} is some more {l} here marked {passed'} {m'} next after =
+      let R : ℕ → Type 0 = λ k. ListsSoFar P m₀ slots lists (n + 1) k m' in
+      subst R (sym next) (lists_on low o is some more here marked after)
+
+  -- a list is missing, or can't be marked
+  pub lists_wrong : n < length slots → (o : Option N) → o ≡ get_or slots n o → is_some o ≡ true
+      → (passed < length lists → (l : List ℕ) → l ≡ get_or lists passed l → Marked (P n) m l → ⊥)
+      → AllMarked P 0 m₀ slots lists → ⊥
+  lists_wrong low None is some wrong h = absurd (false≢true some)
+  lists_wrong low (Some x) is some wrong h =
+      let Q : List (Option N) → Type 0 = λ k. AllMarked P n m k (drop passed lists) in
+      let R : List (List ℕ) → Type 0 = λ k. AllMarked P n m (Some x ∷ drop (n + 1) slots) k in
+      let q : AllMarked P n m (Some x ∷ drop (n + 1) slots) (drop passed lists) =
+      subst Q (slot_at low (Some x) is) (s.forth h) in
+      elim (cases_lt passed (length lists)) [
+        | inl more ↦ (
+            let at = list_at more (get_or lists passed []) (get_or_any lists passed more) in
+            let r : AllMarked P n m (Some x ∷ drop (n + 1) slots) (get_or lists passed [] ∷ drop (passed + 1) lists) =
+            subst R at q in
+            wrong more (get_or lists passed []) (get_or_any lists passed more) r.0
+            )
+        | inr over ↦
+            (let r : AllMarked P n m (Some x ∷ drop (n + 1) slots) [] = subst R (drop_all passed lists over) q in r)
+      ]
+    where
+      get_or_any : (ls : List (List ℕ)) (k : ℕ) → k < length ls → get_or ls k [] ≡ get_or ls k (get_or ls k [])
+      get_or_any [] k low = absurd (omega arith)
+      get_or_any (y ∷ ls) zero low = refl
+      get_or_any (y ∷ ls) (suc k) low = get_or_any' ls k (get_or ls k []) (omega arith)
+        where
+          get_or_any' : (ls : List (List ℕ)) (k : ℕ) (d : List ℕ) → k < length ls → get_or ls k [] ≡ get_or ls k d
+          get_or_any' [] k d low = absurd (omega arith)
+          get_or_any' (y ∷ ls) zero d low = refl
+          get_or_any' (y ∷ ls) (suc k) d low = get_or_any' ls k d (omega arith)
+
+  pub lists_whole : length slots ≤ n
+      → (passed ≡ length lists → AllMarked P 0 m₀ slots lists × (m ≡ marked_by m₀ slots lists))
+      × (AllMarked P 0 m₀ slots lists → passed ≡ length lists)
+  lists_whole past =
+      let Q : List (Option N) → Type 0 = λ k. AllMarked P n m k (drop passed lists) in (
+        λ e. (
+            let none : drop passed lists ≡ [] = drop_all passed lists (omega arith) in
+            let q : AllMarked {N = N} P n m [] (drop passed lists) = none in (
+              s.back (subst Q (sym (drop_all n slots past)) q),
+              sym (s.with_all ∙ ap (λ k. marked_by m k (drop passed lists)) (drop_all n slots past)),
+            )
+            ),
+        λ h. (
+            let q : AllMarked {N = N} P n m [] (drop passed lists) = subst Q (drop_all n slots past) (s.forth h) in
+            let left : length (drop passed lists) ≡ 0 = ap length q in
+            omega (arith, length-drop passed lists, left, s.within)
+            ),
+      )
+
+-- ---- what the code reads
+
+pub same_read : {A : Type 0} (xs : List A) (i : ℕ) (x y : A)
+    → i < length xs → x ≡ get_or xs i x → y ≡ get_or xs i y → x ≡ y
+same_read [] i x y low here there = absurd (omega arith)
+same_read (z ∷ xs) zero x y low here there = here ∙ sym there
+same_read (z ∷ xs) (suc i) x y low here there = same_read xs i x y (omega arith) here there
+
+get_or_mapped : {A B : Type 0} (f : A → B) (xs : List A) (i : ℕ) (x : A) → get_or (map f xs) i (f x) ≡ f (get_or xs i x)
+get_or_mapped f [] i x = refl
+get_or_mapped f (y ∷ xs) zero x = refl
+get_or_mapped f (y ∷ xs) (suc i) x = get_or_mapped f xs i x
+
+pub read_mapped : {A B : Type 0} (f : A → B) (xs : List A) (i : ℕ) (x : A) (e : B)
+    → x ≡ get_or xs i x → e ≡ f x → e ≡ get_or (map f xs) i e
+read_mapped f xs i x e here is =
+    is ∙ (ap f here ∙ (sym (get_or_mapped f xs i x) ∙ ap (λ k. get_or (map f xs) i k) (sym is)))
+
+pub read_twice : {A B C : Type 0} (f : A → B) (h : B → C) (xs : List A) (i : ℕ) (x : A) (e : C)
+    → x ≡ get_or xs i x → e ≡ h (f x) → e ≡ get_or (map h (map f xs)) i e
+read_twice f h xs i x e here is = read_mapped h (map f xs) i (f x) e (read_mapped f xs i x (f x) here refl) is
+
+pub slot_mapped : {A B : Type 0} (f : A → B) (xs : List (Option A)) (k : ℕ) (o : Option A)
+    → k < length xs → o ≡ get_or xs k o → is_some (slot (map (option_map f) xs) k) ≡ is_some o
+slot_mapped f [] k o low here = absurd (omega arith)
+slot_mapped f (None ∷ xs) zero o low here = ap is_some (sym here)
+slot_mapped f (Some x ∷ xs) zero o low here = ap is_some (sym here)
+slot_mapped f (x ∷ xs) (suc k) o low here = slot_mapped f xs k o (omega arith) here
+
+pub slot_within : {A : Type 0} (xs : List (Option A)) (k : ℕ) → is_some (slot xs k) ≡ true → k < length xs
+slot_within [] k h = absurd (false≢true h)
+slot_within (x ∷ xs) zero h = omega arith
+slot_within (x ∷ xs) (suc k) h = let r = slot_within xs k h in omega arith

@@ -1,0 +1,242 @@
+-- What was written is read again, part by part.
+use Rattle.std.proofs.Common.{◌≡◌, ℕ, suc, ◌+◌, ◌<◌, Bool, true, Option, Some, None, IsSome, List, [], ◌∷◌, ◌++◌}
+use Rattle.std.proofs.Common.{length, map, slice_get, refl, sym, ap, subst, ◌∙◌, arith}
+use Rattle.std.specs.Prelude.{Result, Ok, Err, MatchResult, Contains, option_and_then, codes}
+use Rattle.std.specs.Option.{option_map}
+use Rattle.std.specs.List.{AllZip}
+use Rattle.serde_json.specs.Data.{Data, null}
+use Rattle.daggy_base.specs.Graph.{Graph, Edge, slot, out_list, in_list}
+use Rattle.daggy_base.specs.Iterating.{numbered}
+use Rattle.daggy_base.specs.Orders.{lists_by_slots}
+use Rattle.daggy_json.specs.Document.{whole, listed, wholes, row_of, document_of, IsEntry}
+use Rattle.daggy_json.specs.Reading.{Parts, parts_in, array_in, whole_in, all_in, numbers_in, pair_in, orders_in}
+use Rattle.daggy_json.specs.Reading.{triple_in, ReadsEach, IsEntryRead, HasEnds}
+use Rattle.daggy_base.specs.Mapping.{weight_in, with_weight}
+use Rattle.daggy_json.specs.declared.error.ReadError.{ReadError}
+use Rattle.daggy_json.specs.declared.error.ReadError.TheVariants.{Shape, Property, Holes, Full, Weight, BadEndpoint}
+use Rattle.daggy_json.specs.declared.error.ReadError.TheVariants.{Orders, Cycle, Memory}
+use Rattle.daggy_json.proofs.CopiedSlots.{SlotAs}
+use Rattle.daggy_json.proofs.FoundParts.{list_of-items_of}
+use Rattle.daggy_json.proofs.MarkedLists.{row}
+
+-- ---- arrays
+
+array_again : (ds : List Data) → array_in (listed ds) ≡ Some ds
+array_again ds = ap Some (list_of-items_of ds)
+
+all_again : {A : Type 0} (one : Data → Option A) (as_data : A → Data)
+    → ((x : A) → one (as_data x) ≡ Some x) → (xs : List A) → all_in one (map as_data xs) ≡ Some xs
+all_again one as_data again [] = refl
+all_again one as_data again (x ∷ xs) =
+    ap (option_and_then (λ y. option_map (λ ys. y ∷ ys) (all_in one (map as_data xs)))) (again x)
+    ∙ ap (option_map (λ ys. x ∷ ys)) (all_again one as_data again xs)
+
+pub numbers_again : (ns : List ℕ) → numbers_in (wholes ns) ≡ Some ns
+numbers_again ns =
+    ap (option_and_then (all_in whole_in)) (array_again (map whole ns)) ∙ all_again whole_in whole (λ n. refl) ns
+
+-- the lists of the nodes
+abbrev pub lists_of : {N E : Type 0} → Graph N E → ℕ → List ℕ × List ℕ
+lists_of g n = (out_list g n, in_list g n)
+
+row_again : (a b : List ℕ) → pair_in (listed (wholes a ∷ wholes b ∷ [])) ≡ Some (a, b)
+row_again a b =
+    ap (λ o. option_and_then (λ p. option_map (λ c. (p, c)) (numbers_in (wholes b))) o) (numbers_again a)
+    ∙ ap (option_map (λ c. (a, c))) (numbers_again b)
+
+pub orders_again : {N E : Type 0} (g : Graph N E) (ns : List ℕ)
+    → orders_in (listed (map (row_of g) ns)) ≡ Some (map (lists_of g) ns)
+orders_again g ns = ap (option_and_then (all_in pair_in)) (array_again (map (row_of g) ns)) ∙ go ns
+  where
+    go : (ns : List ℕ) → all_in pair_in (map (row_of g) ns) ≡ Some (map (lists_of g) ns)
+    go [] = refl
+    go (n ∷ ns) =
+        ap (option_and_then (λ y. option_map (λ ys. y ∷ ys) (all_in pair_in (map (row_of g) ns))))
+        (row_again (out_list g n) (in_list g n))
+        ∙ ap (option_map (λ ys. lists_of g n ∷ ys)) (go ns)
+
+-- the parts of a document
+pub parts_again : (entries : List Data) (holes : List ℕ) (weights orders : List Data)
+    → parts_in (document_of entries (map whole holes) weights orders) ≡ Some (record {
+      nodes = weights;
+      holes = holes;
+      property = codes "directed";
+      edges = entries;
+      orders = Some (listed orders);
+    })
+parts_again entries holes weights orders =
+    let made : List Data → List ℕ → List Data → Parts = λ ns hs es. record {
+      nodes = ns;
+      holes = hs;
+      property = codes "directed";
+      edges = es;
+      orders = Some (listed orders);
+    } in
+    ap (option_and_then
+    (λ ns. option_and_then (λ hs. option_map (made ns hs) (array_in (listed entries))) (numbers_in (wholes holes))))
+    (array_again weights)
+    ∙ ap (option_and_then (λ hs. option_map (made weights hs) (array_in (listed entries)))) (numbers_again holes)
+    ∙ ap (option_map (made weights holes)) (array_again entries)
+
+-- ---- one after another
+
+-- Each is read as what may be read of it. If not, one of them is at fault.
+module _ {A B : Type 0} (reads : Data → Result B ReadError → Type 0) (stands : A → Data → Type 0) where
+  abbrev pub ReadsThrough : A → Result B ReadError → Type 0
+  ReadsThrough x r = (d : Data) × stands x d × reads d r
+
+  each_ok : (xs : List A) (ds : List Data) (ys : List B) → AllZip stands xs ds → AllZip (λ d y. reads d (Ok y)) ds ys
+      → AllZip (λ x y. ReadsThrough x (Ok y)) xs ys
+  each_ok [] [] [] w r = tt
+  each_ok [] [] (y ∷ ys) w r = absurd r
+  each_ok [] (d ∷ ds) ys w r = absurd w
+  each_ok (x ∷ xs) [] ys w r = absurd w
+  each_ok (x ∷ xs) (d ∷ ds) [] w r = absurd r
+  each_ok (x ∷ xs) (d ∷ ds) (y ∷ ys) w r = ((d, w.0, r.0), each_ok xs ds ys w.1 r.1)
+
+  one_err : (xs : List A) (before : List Data) (at : Data) (after : List Data) (e : ReadError)
+      → AllZip stands xs (before ++ at ∷ after) → reads at (Err e) → (x : A) × Contains xs x × ReadsThrough x (Err e)
+  one_err [] [] at after e w r = absurd w
+  one_err [] (d ∷ before) at after e w r = absurd w
+  one_err (x ∷ xs) [] at after e w r = (x, (0, omega arith, refl), (at, w.0, r))
+  one_err (x ∷ xs) (d ∷ before) at after e w r =
+      let more = one_err xs before at after e w.1 r in
+      let within = more.1.1 in
+      (more.0, (suc more.1.0, omega (arith, within), more.1.2), more.2)
+
+  pub each_read : (xs : List A) (ds : List Data) (r : Result (List B) ReadError)
+      → AllZip stands xs ds → ReadsEach reads ds r
+      → MatchResult r (λ ys. AllZip (λ x y. ReadsThrough x (Ok y)) xs ys)
+      (λ e. (x : A) × Contains xs x × ReadsThrough x (Err e))
+  each_read xs ds (Ok ys) w r = each_ok xs ds ys w r
+  each_read xs ds (Err e) w (before, at, after, ys, split, good, bad) =
+      one_err xs before at after e (subst (AllZip stands xs) split w) bad
+
+pub zip_both : {A B : Type 0} (R : A → B → Type 0) (P : A → Type 0) (xs : List A) (ys : List B)
+    → AllZip R xs ys → ((i : ℕ) (x : A) → slice_get xs i ≡ Some x → P x) → AllZip (λ x y. R x y × P x) xs ys
+zip_both R P [] [] w all = tt
+zip_both R P [] (y ∷ ys) w all = w
+zip_both R P (x ∷ xs) [] w all = w
+zip_both R P (x ∷ xs) (y ∷ ys) w all = ((w.0, all 0 x refl), zip_both R P xs ys w.1 (λ i z e. all (suc i) z e))
+
+-- ---- a weight and an entry
+
+-- what is read of a value that stands for a weight
+abbrev pub Through : {W V : Type 0} → (weight_as : W → Data → Type 0) → (answers : Data → Option V → Type 0) → W → V → Type 0
+Through weight_as answers w v = (d : Data) × weight_as w d × answers d (Some v)
+
+-- a value that stands for one of these weights may be refused
+abbrev pub IsRefused : {W V : Type 0}
+    → (weight_as : W → Data → Type 0) → (answers : Data → Option V → Type 0) → List W → Type 0
+IsRefused {W} weight_as answers ws = (w : W) × Contains ws w × (d : Data) × weight_as w d × answers d None
+
+abbrev edge_with : {E : Type 0} → ℕ → ℕ → E → Option (Edge E)
+edge_with a b w = Some (record { parent = a; child = b; weight = w })
+
+-- what an edge slot needs in order to be read
+abbrev pub CanBeRead : {N E : Type 0} → (stable : Bool) → List (Option N) → Option (Edge E) → Type 0
+CanBeRead stable nodes None = stable ≡ true
+CanBeRead stable nodes (Some x) = IsSome (slot nodes x.parent) × IsSome (slot nodes x.child)
+
+module _ {N E F : Type 0} (stable : Bool) (nodes : List (Option N)) (weight_as : F → Data → Type 0)
+    (answers : Data → Option E → Type 0) where
+  -- the edge is there, and a value that stands for its weight may be refused
+  abbrev pub IsRefusedEdge : Option (Edge F) → Type 0
+  IsRefusedEdge x = (z : Edge F) × (x ≡ Some z) × (d : Data) × weight_as z.weight d × answers d None
+
+  abbrev pub EntryRead : Option (Edge F) → Result (Option (Edge E)) ReadError → Type 0
+  EntryRead x r =
+      MatchResult r (SlotAs (Through weight_as answers) weight_in with_weight x) (λ e. (e ≡ Weight) × IsRefusedEdge x)
+
+  null_read : (d : Data) (r : Result (Option (Edge E)) ReadError)
+      → d ≡ null → stable ≡ true → IsEntryRead stable nodes answers d r → EntryRead None r
+  null_read d r is may says = go r (subst (λ k. IsEntryRead stable nodes answers k r) is says)
+    where
+      go : (r : Result (Option (Edge E)) ReadError) → IsEntryRead stable nodes answers null r → EntryRead None r
+      go (Ok None) s = refl
+      go (Ok (Some x)) s = let none : triple_in null ≡ None = refl in absurd cc
+      go (Err Shape) s = absurd (s.1 (may, refl))
+      go (Err BadEndpoint) s = let none : triple_in null ≡ None = refl in absurd cc
+      go (Err Weight) s = let none : triple_in null ≡ None = refl in absurd cc
+      go (Err Property) s = absurd s
+      go (Err Holes) s = absurd s
+      go (Err Full) s = absurd s
+      go (Err Orders) s = absurd s
+      go (Err Cycle) s = absurd s
+      go (Err Memory) s = absurd s
+
+  edge_read : (x : Edge F) (w : Data) (r : Result (Option (Edge E)) ReadError)
+      → weight_as x.weight w → HasEnds nodes (x.parent, x.child, w)
+      → IsEntryRead stable nodes answers (listed (whole x.parent ∷ whole x.child ∷ w ∷ [])) r → EntryRead (Some x) r
+  edge_read x w r stands ends says = go r says
+    where
+      triple_of : Option (ℕ × ℕ × Data)
+      triple_of = Some (x.parent, x.child, w)
+
+      found : triple_in (listed (whole x.parent ∷ whole x.child ∷ w ∷ [])) ≡ triple_of
+      found = refl
+
+      one_edge : (p q : ℕ) (v : E) (a : Data) → triple_of ≡ Some (p, q, a) → answers a (Some v)
+          → SlotAs (Through weight_as answers) weight_in with_weight (Some x)
+          (Some (record { parent = p; child = q; weight = v }))
+      one_edge p q v a e s =
+          let old : ℕ × ℕ × Data = (x.parent, x.child, w) in
+          let new : ℕ × ℕ × Data = (p, q, a) in
+          let whole_is : old ≡ new = cc in
+          let P : Data → Type 0 = λ k. answers k (Some v) in
+          let parent : p ≡ x.parent = ap (λ (t : ℕ × ℕ × Data). t.0) (sym whole_is) in
+          let child : q ≡ x.child = ap (λ (t : ℕ × ℕ × Data). t.1) (sym whole_is) in (
+            v,
+            (w, stands, subst P (ap (λ (t : ℕ × ℕ × Data). t.2) (sym whole_is)) s),
+            ap (λ k. edge_with k q v) parent ∙ ap (λ k. edge_with x.parent k v) child,
+          )
+
+      go : (r : Result (Option (Edge E)) ReadError)
+          → IsEntryRead stable nodes answers (listed (whole x.parent ∷ whole x.child ∷ w ∷ [])) r
+          → EntryRead (Some x) r
+      go (Ok None) s = absurd (let bad = s.1 in cc)
+      go (Ok (Some y)) s = one_edge y.parent y.child y.weight s.0 s.1 s.3
+      go (Err Shape) s = absurd (let bad = sym found ∙ s.0 in cc)
+      go (Err BadEndpoint) s =
+          absurd (let same : triple_of ≡ Some s.0 = sym found ∙ s.1 in let e : (x.parent, x.child, w) ≡ s.0 = cc in
+          s.2 (subst (HasEnds nodes) e ends))
+      go (Err Weight) s =
+          let same : triple_of ≡ Some s.0 = sym found ∙ s.1 in
+          let whole_is : (x.parent, x.child, w) ≡ s.0 = cc in
+          let P : Data → Type 0 = λ k. answers k None in
+          (refl, (x, refl, w, stands, subst P (sym (ap (λ (t : ℕ × ℕ × Data). t.2) whole_is)) s.3))
+      go (Err Property) s = absurd s
+      go (Err Holes) s = absurd s
+      go (Err Full) s = absurd s
+      go (Err Orders) s = absurd s
+      go (Err Cycle) s = absurd s
+      go (Err Memory) s = absurd s
+
+  pub entry_read : (x : Option (Edge F)) (d : Data) (r : Result (Option (Edge E)) ReadError)
+      → IsEntry weight_as x d × CanBeRead stable nodes x → IsEntryRead stable nodes answers d r → EntryRead x r
+  entry_read None d r w says = null_read d r w.0 w.1 says
+  entry_read (Some x) d r w says =
+      edge_read x w.0.0 r w.0.1 w.1 (subst (λ k. IsEntryRead stable nodes answers k r) w.0.2 says)
+
+-- ---- lists by slots
+
+-- each list at its node again
+pub rows_again : {A : Type 0} (f : ℕ → List ℕ) (i : ℕ) (xs : List (Option A)) (lists : List (List ℕ))
+    → length lists ≡ length xs → ((k : ℕ) → IsSome (slot xs k) → f (i + k) ≡ row lists k)
+    → ((k : ℕ) → k < length xs → slot xs k ≡ None → row lists k ≡ [])
+    → lists_by_slots xs (map f (map (λ p. p.0) (numbered i xs))) ≡ lists
+rows_again f i [] [] long at empty = refl
+rows_again f i [] (l ∷ lists) long at empty = absurd (omega (arith, long))
+rows_again f i (x ∷ xs) [] long at empty = absurd (omega (arith, long))
+rows_again f i (None ∷ xs) (l ∷ lists) long at empty =
+    let head : l ≡ [] = empty 0 (omega arith) refl in
+    ap (λ k. k ∷ lists_by_slots xs (map f (map (λ p. p.0) (numbered (i + 1) xs)))) (sym head)
+    ∙ ap (λ k. l ∷ k)
+    (rows_again f (i + 1) xs lists (omega (arith, long)) (λ k s. ap f (let e : i + 1 + k ≡ i + suc k = omega arith in e)
+    ∙ at (suc k) s) (λ k low none. empty (suc k) (omega (arith, low)) none))
+rows_again f i (Some x ∷ xs) (l ∷ lists) long at empty =
+    let head : f i ≡ l = ap f (let e : i ≡ i + 0 = omega arith in e) ∙ at 0 refl in
+    ap (λ k. k ∷ lists_by_slots xs (map f (map (λ p. p.0) (numbered (i + 1) xs)))) head
+    ∙ ap (λ k. l ∷ k)
+    (rows_again f (i + 1) xs lists (omega (arith, long)) (λ k s. ap f (let e : i + 1 + k ≡ i + suc k = omega arith in e)
+    ∙ at (suc k) s) (λ k low none. empty (suc k) (omega (arith, low)) none))
