@@ -1,6 +1,6 @@
 //! What the workloads ask of a dag.
 use daggy::json::{dag_from_json, dag_to_json, stable_from_json, stable_to_json};
-use daggy::run::{Plan, TellsKind, plan};
+use daggy::run::{Plan, plan};
 use daggy::walker::{Filter, Take};
 use daggy::{Dag, EdgeIndex, NodeIndex, StableDag, Walker};
 use daggy_base::store::Store;
@@ -121,8 +121,7 @@ fn children_sum<S: Store<u32, NodeWeight = i64, EdgeWeight = i64>>(
     sum
 }
 
-impl<S: TellsKind<u32> + Store<u32, NodeWeight = i64, EdgeWeight = i64>> Graph
-    for Acyclic<i64, i64, u32, S> {
+impl<S: Store<u32, NodeWeight = i64, EdgeWeight = i64>> Graph for Acyclic<i64, i64, u32, S> {
     fn make(alloc: Global) -> Self {
         Acyclic::new(alloc)
     }

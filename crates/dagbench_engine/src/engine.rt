@@ -20,7 +20,7 @@ pub fn answer<D: Documented, K: Sink>(
     output: &mut Output,
     sink: &mut K,
 ) -> Result<(), Fault>
-    ensures answered { AnswersLine D.kind result line.now (D.graph dag.old) (D.graph dag.new)
+    ensures answered { AnswersLine D.KIND result line.now (D.graph dag.old) (D.graph dag.new)
         (K.taken sink.old ++ output.old) (K.taken sink.new ++ output.new) }
     ensures counted { CountsFaults result (K.failures sink.old) (K.failures sink.new) }
 {

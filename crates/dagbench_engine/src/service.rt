@@ -63,7 +63,7 @@ fn serve_with<D: Documented, S: Source, K: Sink>(
 ) -> Result<(), Stop>
     requires { D.graph dag ≡ empty }
     ensures end { OnOk result (S.is_ended source.new ≡ true) }
-    ensures served { OnOk result (Serves D.kind plans lines_of
+    ensures served { OnOk result (Serves D.KIND plans lines_of
         (S.given source.old) (S.given source.new) (K.taken sink.old) (K.taken sink.new)) }
 
     // If the source tells what is still to come, all of it was given.
@@ -75,7 +75,7 @@ fn serve_with<D: Documented, S: Source, K: Sink>(
     ensures write { (result ≡ Err Stop.Write) ↔ (K.failures sink.old < K.failures sink.new) }
 
     // At a read fault each line whose newline came has its answer.
-    ensures replied { result ≡ Err Stop.Read → Serves D.kind false ended_lines_of
+    ensures replied { result ≡ Err Stop.Read → Serves D.KIND false ended_lines_of
         (S.given source.old) (S.given source.new) (K.taken sink.old) (K.taken sink.new) }
     ensures memory { result ≡ Err Stop.Memory → (source.new ≡ source.old) × (sink.new ≡ sink.old) }
 {
@@ -99,7 +99,7 @@ fn run<D: Documented, S: Source, K: Sink>(
     requires block_not_empty { 0 < length block.old }
     requires graph { D.graph session.dag ≡ empty }
     requires nothing { (session.line ≡ []) × (session.output ≡ []) }
-    ensures { IsRun D.kind plans result
+    ensures { IsRun D.KIND plans result
         (record {
           given = S.given source.old;
           remaining = S.remaining source.old;

@@ -45,7 +45,7 @@ impl<D: Documented> Session<D> {
     /// Answers the line that ends with this rest.
     fn end_line<K: Sink>(&mut self, rest: &[u8], sink: &mut K) -> Result<(), Fault>
         ensures served { OnOk result
-            (Lacks newline rest.now → GoesOn D.kind (rest.now ++ newline ∷ [])
+            (Lacks newline rest.now → GoesOn D.KIND (rest.now ++ newline ∷ [])
             (K.taken sink.old ++ self.old.output) (K.taken sink.new ++ self.new.output)
             (D.graph self.old.dag) (D.graph self.new.dag) self.old.line self.new.line) }
         ensures counted { CountsFaults result (K.failures sink.old) (K.failures sink.new) }
@@ -67,7 +67,7 @@ impl<D: Documented> Session<D> {
 
     /// Answers the lines that end in a block of input, and keeps what stands after them.
     pub fn take_block<K: Sink>(&mut self, block: &[u8], sink: &mut K) -> Result<(), Fault>
-        ensures served { OnOk result (GoesOn D.kind block.now
+        ensures served { OnOk result (GoesOn D.KIND block.now
             (K.taken sink.old ++ self.old.output) (K.taken sink.new ++ self.new.output)
             (D.graph self.old.dag) (D.graph self.new.dag) self.old.line self.new.line) }
         ensures counted { CountsFaults result (K.failures sink.old) (K.failures sink.new) }
@@ -84,9 +84,9 @@ impl<D: Documented> Session<D> {
     /// Answers the last line, if its newline did not come.
     fn end_last_line<K: Sink>(&mut self, sink: &mut K) -> Result<(), Fault>
         ensures done { OnOk result ((given_old given written_old : List ℕ)
-            → IsServed D.kind given_old given written_old (K.taken sink.old ++ self.old.output)
+            → IsServed D.KIND given_old given written_old (K.taken sink.old ++ self.old.output)
             (D.graph self.old.dag) self.old.line
-            → IsDone D.kind given_old given written_old (K.taken sink.new ++ self.new.output)
+            → IsDone D.KIND given_old given written_old (K.taken sink.new ++ self.new.output)
             (D.graph self.new.dag)) }
         ensures counted { CountsFaults result (K.failures sink.old) (K.failures sink.new) }
     {
@@ -106,9 +106,9 @@ impl<D: Documented> Session<D> {
     /// hands all to the sink.
     pub fn finish<K: Sink>(&mut self, plans: bool, sink: &mut K) -> Result<(), Fault>
         ensures served { OnOk result ((given_old given written_old : List ℕ)
-            → IsServed D.kind given_old given written_old (K.taken sink.old ++ self.old.output)
+            → IsServed D.KIND given_old given written_old (K.taken sink.old ++ self.old.output)
             (D.graph self.old.dag) self.old.line
-            → Serves D.kind plans lines_of given_old given written_old (K.taken sink.new)) }
+            → Serves D.KIND plans lines_of given_old given written_old (K.taken sink.new)) }
         ensures counted { CountsFaults result (K.failures sink.old) (K.failures sink.new) }
     {
         self.end_last_line(sink)?;

@@ -42,7 +42,6 @@ pub use Rattle.daggy_base.specs.Capacity
 pub use Rattle.daggy_base.specs.Directions
 pub use Rattle.daggy_base.specs.Externals
 pub use Rattle.daggy_cells.specs.Referring
-pub use Rattle.daggy_run.specs.Kinds
 pub use Rattle.daggy_base.specs.Requests
 pub use Rattle.daggy_base.specs.Answers
 pub use Rattle.daggy_run.specs.EdgeLists

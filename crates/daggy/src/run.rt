@@ -1,7 +1,8 @@
 //! Lists of commands over a dag of either kind, each with its reply, and plans of its nodes in
 //! stages.
 pub use daggy_base::command::{Back, Command, Neighbor, NewEdge, Reply};
-pub use daggy_run::guarded::{GuardedDag, Kind, TellsKind};
+pub use daggy_base::kind::Kind;
+pub use daggy_run::guarded::GuardedDag;
 pub use daggy_run::plan::plan;
 pub use daggy_run::plan::stages::Plan;
 pub use daggy_run::run::run;

@@ -6,6 +6,7 @@ pub mod command;
 pub mod element;
 pub mod error;
 pub mod index;
+pub mod kind;
 pub mod link;
 pub mod looks;
 pub mod reserved;

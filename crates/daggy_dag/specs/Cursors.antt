@@ -20,7 +20,7 @@ node_cursor_type N E Ix S m t =
     (record { number = m.number; of = m.of; greatest = m.greatest; of_number = m.of_number }) (record { cmp = m.cmp })
     (record { eq = m.eq }) (record { partial_cmp = m.partial_cmp }) (record { hash_input = m.hash_input })
     (record { debug_output = m.debug_output })
-    (record { kind = t.kind; node_written = t.node_written; edge_written = t.edge_written })
+    (record { KIND = t.KIND; node_written = t.node_written; edge_written = t.edge_written })
     (record { graph = t.graph; looks = t.looks })
 
 -- the type of a cursor over the weights of edges
@@ -31,7 +31,7 @@ edge_cursor_type N E Ix S m t =
     (record { number = m.number; of = m.of; greatest = m.greatest; of_number = m.of_number }) (record { cmp = m.cmp })
     (record { eq = m.eq }) (record { partial_cmp = m.partial_cmp }) (record { hash_input = m.hash_input })
     (record { debug_output = m.debug_output })
-    (record { kind = t.kind; node_written = t.node_written; edge_written = t.edge_written })
+    (record { KIND = t.KIND; node_written = t.node_written; edge_written = t.edge_written })
     (record { graph = t.graph; looks = t.looks })
 
 -- the cursor behind the node n, with this weight there
@@ -61,9 +61,9 @@ module _ (N E Ix S : RattleType) (m : IndexMembers Ix.Denot) (t : StoreMembers N
   -- all is as it was
   abbrev pub nodes_lend_next :
       MutBor (NodeWeightsMut N.Denot E.Denot Ix.Denot S.Denot) → Option (MutBor N.Denot) → Fml
-  nodes_lend_next c r = LendsIf (node_cursor_type N E Ix S m t) N c r (behind_node c.now (next_slot t.kind c.now.dag.now.graph.nodes c.now.index)) c.now
+  nodes_lend_next c r = LendsIf (node_cursor_type N E Ix S m t) N c r (behind_node c.now (next_slot t.KIND c.now.dag.now.graph.nodes c.now.index)) c.now
 
   -- the same for an edge
   abbrev pub edges_lend_next :
       MutBor (EdgeWeightsMut N.Denot E.Denot Ix.Denot S.Denot) → Option (MutBor E.Denot) → Fml
-  edges_lend_next c r = LendsIf (edge_cursor_type N E Ix S m t) E c r (behind_edge c.now (next_slot t.kind c.now.dag.now.graph.edges c.now.index)) c.now
+  edges_lend_next c r = LendsIf (edge_cursor_type N E Ix S m t) E c r (behind_edge c.now (next_slot t.KIND c.now.dag.now.graph.edges c.now.index)) c.now

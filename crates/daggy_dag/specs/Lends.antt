@@ -14,7 +14,7 @@ StoreMembers N E S =
     record {
       graph : S → Graph N E;
       looks : S → ℕ;
-      kind : Kind;
+      KIND : Kind;
       node_written : S → ℕ → N → S;
       edge_written : S → ℕ → E → S;
     }
@@ -26,7 +26,7 @@ dag_type N E Ix S m t =
     the_row N E Ix S (record { number = m.number; of = m.of; greatest = m.greatest; of_number = m.of_number })
     (record { cmp = m.cmp }) (record { eq = m.eq }) (record { partial_cmp = m.partial_cmp })
     (record { hash_input = m.hash_input }) (record { debug_output = m.debug_output })
-    (record { kind = t.kind; node_written = t.node_written; edge_written = t.edge_written })
+    (record { KIND = t.KIND; node_written = t.node_written; edge_written = t.edge_written })
     (record { graph = t.graph; looks = t.looks })
 
 module _ (N E Ix S : RattleType) (m : IndexMembers Ix.Denot) (t : StoreMembers N.Denot E.Denot S.Denot)

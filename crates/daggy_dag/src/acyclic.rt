@@ -127,7 +127,7 @@ where
     pub fn node_count(&self) -> usize
         ensures value { result ≡ node_count_of self.now.graph }
         ensures dag { IsDag Ix.greatest self.now.graph }
-        ensures compact { S.kind ≡ Compact → IsCompact self.now.graph }
+        ensures compact { S.KIND ≡ Compact → IsCompact self.now.graph }
     {
         self.store.invariant();
         self.store.node_count()
@@ -138,7 +138,7 @@ where
     pub fn edge_count(&self) -> usize
         ensures value { result ≡ edge_count_of self.now.graph }
         ensures dag { IsDag Ix.greatest self.now.graph }
-        ensures compact { S.kind ≡ Compact → IsCompact self.now.graph }
+        ensures compact { S.KIND ≡ Compact → IsCompact self.now.graph }
     {
         self.store.invariant();
         self.store.edge_count()
@@ -397,9 +397,9 @@ where
     pub fn remove_edge(&mut self, e: EdgeIndex<Ix>) -> Option<E>
         ensures value { result ≡ edge_weight_at self.old.graph (Ix.number e) }
         ensures removed { OnSome result
-            (self.new ≡ with_graph self.old (without_edge S.kind self.old.graph (Ix.number e))) }
+            (self.new ≡ with_graph self.old (without_edge S.KIND self.old.graph (Ix.number e))) }
         ensures missing { IfNone result (self.new ≡ self.old) }
-        ensures keeps { S.kind ≡ Stable → KeepsIndices self.old.graph self.new.graph }
+        ensures keeps { S.KIND ≡ Stable → KeepsIndices self.old.graph self.new.graph }
         ensures acyclic { IsAcyclic self.new.graph }
     {
         guard::remove_edge(&mut self.store, e)
@@ -414,9 +414,9 @@ where
     pub fn remove_node(&mut self, n: NodeIndex<Ix>) -> Option<N>
         ensures value { result ≡ weight_at self.old.graph (Ix.number n) }
         ensures removed { OnSome result
-            (self.new ≡ with_graph self.old (without_node S.kind self.old.graph (Ix.number n))) }
+            (self.new ≡ with_graph self.old (without_node S.KIND self.old.graph (Ix.number n))) }
         ensures missing { IfNone result (self.new ≡ self.old) }
-        ensures keeps { S.kind ≡ Stable → KeepsIndices self.old.graph self.new.graph }
+        ensures keeps { S.KIND ≡ Stable → KeepsIndices self.old.graph self.new.graph }
         ensures acyclic { IsAcyclic self.new.graph }
     {
         guard::remove_node(&mut self.store, &mut self.order, n)

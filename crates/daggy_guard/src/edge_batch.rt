@@ -53,16 +53,16 @@ fn roll_back<Ix: IndexType, S: Store<Ix>>(
     weights: &mut Vec<S::EdgeWeight>,
 )
     requires batch { (before : Graph S.NodeWeight S.EdgeWeight) × (xs : List (NewEdge S.EdgeWeight))
-        × IsBatchSoFar Ix.greatest S.kind before (S.graph store.old) xs (map Ix.number edges.now)
+        × IsBatchSoFar Ix.greatest S.KIND before (S.graph store.old) xs (map Ix.number edges.now)
         slot_count }
     requires empty { weights.old.items ≡ [] }
     requires capacity { vec_len weights.old + length edges.now ≤ vec_capacity weights.old }
     ensures undone { (before : Graph S.NodeWeight S.EdgeWeight) (xs : List (NewEdge S.EdgeWeight))
-        → IsBatchSoFar Ix.greatest S.kind before (S.graph store.old) xs (map Ix.number edges.now)
+        → IsBatchSoFar Ix.greatest S.KIND before (S.graph store.old) xs (map Ix.number edges.now)
         slot_count
         → S.graph store.new ≡ before }
     ensures returned { (before : Graph S.NodeWeight S.EdgeWeight) (xs : List (NewEdge S.EdgeWeight))
-        → IsBatchSoFar Ix.greatest S.kind before (S.graph store.old) xs (map Ix.number edges.now)
+        → IsBatchSoFar Ix.greatest S.KIND before (S.graph store.old) xs (map Ix.number edges.now)
         slot_count
         → weights.new.items ≡ reverse (map (λ x. x.2) xs) }
     ensures counted { S.looks store.new ≡ S.looks store.old }

@@ -53,12 +53,12 @@ fn take_back<Ix: IndexType, S: Store<Ix>>(
     slot_count: usize,
 ) -> S::NodeWeight
     requires added { (old : Graph S.NodeWeight S.EdgeWeight) × (w : S.NodeWeight)
-        × IsAddedNode Ix.greatest S.kind old (S.graph store.old) w (Ix.number n) slot_count }
+        × IsAddedNode Ix.greatest S.KIND old (S.graph store.old) w (Ix.number n) slot_count }
     ensures undone { (old : Graph S.NodeWeight S.EdgeWeight) (w : S.NodeWeight)
-        → IsAddedNode Ix.greatest S.kind old (S.graph store.old) w (Ix.number n) slot_count
+        → IsAddedNode Ix.greatest S.KIND old (S.graph store.old) w (Ix.number n) slot_count
         → S.graph store.new ≡ old }
     ensures returned { (old : Graph S.NodeWeight S.EdgeWeight) (w : S.NodeWeight)
-        → IsAddedNode Ix.greatest S.kind old (S.graph store.old) w (Ix.number n) slot_count
+        → IsAddedNode Ix.greatest S.KIND old (S.graph store.old) w (Ix.number n) slot_count
         → result ≡ w }
     ensures counted { S.looks store.new ≡ S.looks store.old }
 {
@@ -372,7 +372,7 @@ pub fn remove_edge<Ix: IndexType, S: Store<Ix>>(
 ) -> Option<S::EdgeWeight>
     ensures gives { result ≡ edge_weight (S.graph store.old) (Ix.number e) }
     ensures removed { OnSome result
-        (S.graph store.new ≡ without_edge S.kind (S.graph store.old) (Ix.number e)) }
+        (S.graph store.new ≡ without_edge S.KIND (S.graph store.old) (Ix.number e)) }
     ensures missing { IfNone result (S.graph store.new ≡ S.graph store.old) }
     ensures acyclic { IsAcyclic (S.graph store.old) → IsAcyclic (S.graph store.new) }
     ensures ordered { (order : List ℕ)
@@ -436,7 +436,7 @@ pub fn remove_node<Ix: IndexType, S: Store<Ix>>(
     requires ordered { IsOrderOf (S.graph store.old) order.old }
     ensures gives { result ≡ node_weight (S.graph store.old) (Ix.number n) }
     ensures removed { OnSome result
-        (S.graph store.new ≡ without_node S.kind (S.graph store.old) (Ix.number n)) }
+        (S.graph store.new ≡ without_node S.KIND (S.graph store.old) (Ix.number n)) }
     ensures missing { IfNone result (S.graph store.new ≡ S.graph store.old) }
     ensures acyclic { IsAcyclic (S.graph store.new) }
     ensures ordered { IsOrderOf (S.graph store.new) order.new }

@@ -36,7 +36,7 @@ fn write<
         (λ v. IsDocumentOf (WritesAs F.Fn fn_node.now) (WritesAs G.Fn fn_edge.now) dag.now.graph
         (view v)) }
     ensures values { IfOk result
-        (λ v. HasValues S.kind Ix.greatest (WritesAs F.Fn fn_node.now) (WritesAs G.Fn fn_edge.now)
+        (λ v. HasValues S.KIND Ix.greatest (WritesAs F.Fn fn_node.now) (WritesAs G.Fn fn_edge.now)
         dag.now.graph (view v)) }
 {
     // Called only for its postcondition: the graph is that of a dag.

@@ -29,8 +29,8 @@ fn make<N: Drop, E: Drop, Ix: IndexType, S: Store<Ix, NodeWeight = N, EdgeWeight
     requires few_nodes { length found.nodes.items ≤ Ix.greatest }
     requires few_edges { length found.edges.items ≤ Ix.greatest }
     requires ends { EndsExist found.nodes.items (edges_by Ix.number found.edges.items) }
-    requires full_nodes { S.kind ≡ Compact → vacant_from 0 found.nodes.items ≡ [] }
-    requires full_edges { S.kind ≡ Compact → vacant_from 0 found.edges.items ≡ [] }
+    requires full_nodes { S.KIND ≡ Compact → vacant_from 0 found.nodes.items ≡ [] }
+    requires full_edges { S.KIND ≡ Compact → vacant_from 0 found.edges.items ≡ [] }
     requires orders { IfSome found.orders (λ v.
         AreOrders (graph_of_slots found.nodes.items (edges_by Ix.number found.edges.items))
         (map (numbers_of Ix.number) v.items)) }
@@ -76,7 +76,7 @@ pub(crate) fn read<
 ) -> Result<Acyclic<N, E, Ix, S>, ReadError>
     requires nodes { F.IsAlwaysCallable fn_node.now }
     requires edges { G.IsAlwaysCallable fn_edge.now }
-    requires kind { S.kind ≡ Compact → stable ≡ false }
+    requires kind { S.KIND ≡ Compact → stable ≡ false }
     ensures ok { IfOk result (λ d.
         IsRead Ix.greatest stable (ReadsAs F.Fn fn_node.now) (ReadsAs G.Fn fn_edge.now)
         (view value.now) (Ok d.graph)) }

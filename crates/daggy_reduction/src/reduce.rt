@@ -22,7 +22,7 @@ fn remove_edges<Ix: IndexType, S: Store<Ix>>(store: &mut S, edges: &[EdgeIndex<I
     requires exist { (e : ℕ)
         → Contains (map Ix.number edges.now) e → HasEdge (S.graph store.old) e }
     ensures removed { S.graph store.new
-        ≡ without_edges S.kind (S.graph store.old) (reverse (map Ix.number edges.now)) }
+        ≡ without_edges S.KIND (S.graph store.old) (reverse (map Ix.number edges.now)) }
     ensures counted { S.looks store.new ≡ S.looks store.old }
 {
     let mut left = edges.len();
@@ -47,7 +47,7 @@ pub fn transitive_reduce<Ix: IndexType, S: Store<Ix>>(
 ) -> Result<(), AllocError>
     requires { IsOrderOf (S.graph store.old) order.now }
     ensures reduced { OnOk result
-        (IsReduction S.kind (map Ix.number roots.now) (S.graph store.old) (S.graph store.new)) }
+        (IsReduction S.KIND (map Ix.number roots.now) (S.graph store.old) (S.graph store.new)) }
     ensures well_formed { IsWellFormed Ix.greatest (S.graph store.old) }
     ensures unchanged { OnErr result (S.graph store.new ≡ S.graph store.old) }
     ensures nodes { (S.graph store.new).nodes ≡ (S.graph store.old).nodes }

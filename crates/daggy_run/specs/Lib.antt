@@ -1,4 +1,3 @@
-pub mod Kinds
 pub mod EdgeLists
 pub mod Steps
 pub mod Runs

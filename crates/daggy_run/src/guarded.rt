@@ -11,7 +11,7 @@ ghost use Rattle.daggy_base.specs.Path.{Reaches, IsAcyclic};
 ghost use Rattle.daggy_base.specs.WellFormed.{IsDag};
 ghost use Rattle.daggy_base.specs.Adding.{next_node, next_edge, with_node, with_edge};
 ghost use Rattle.daggy_base.specs.Adding.{with_neighbor};
-ghost use Rattle.daggy_base.specs.Removal.{Kind as SlotKind, without_edge, without_node};
+ghost use Rattle.daggy_base.specs.Removal.{Kind, without_edge, without_node};
 ghost use Rattle.daggy_base.specs.Removal.{without_all_edges};
 ghost use Rattle.daggy_base.specs.Reduction.{IsReduction};
 ghost use Rattle.daggy_base.specs.Weights.{edge_weight as edge_weight_at, with_edge_weight};
@@ -25,29 +25,17 @@ ghost use Rattle.daggy_base.specs.declared.error.EdgeError.TheVariants.{WouldCyc
 ghost use Rattle.daggy_base.specs.declared.error.EdgeError.TheVariants.{Memory as EdgeMemory};
 ghost use Rattle.daggy_base.specs.declared.error.ChildError.TheVariants.{Memory as ChildMemory};
 ghost use Rattle.daggy_base.specs.Adding.{by_numbers};
-ghost use Rattle.daggy_run.specs.Kinds.{kind_of};
-ghost use Rattle.daggy_run.specs.declared.guarded.Kind.{Kind as DagKind};
 ghost use Rattle.daggy_run.specs.Steps.{walk_of};
 ghost use Rattle.daggy_run.specs.EdgeLists.{AddsAll, IsRefused};
 
 use daggy_base::command::{Neighbor, NewEdge};
 use daggy_base::error::{ChildError, EdgeError, EdgesError, NodeError};
 use daggy_base::index::{EdgeIndex, IndexType, NodeIndex};
+use daggy_base::kind::Kind;
 use daggy_dag::acyclic::TopologicalOrder;
 use std::alloc::AllocError;
 
 mod acyclic;
-
-pub use acyclic::TellsKind;
-
-/// What a removal does with the index that it frees.
-#[derive(Clone, Copy, Debug, PartialEq, Eq)]
-pub enum Kind {
-    /// The last node or edge moves there, and gets its index.
-    Compact,
-    /// The slot stays vacant, and no other index changes.
-    Stable,
-}
 
 /// A dag that takes commands. Both kinds do.
 ///
@@ -58,13 +46,9 @@ pub trait GuardedDag<N, E, Ix: IndexType> {
     // The graph.
     ghost graph: { Self → Graph N E };
 
-    // What a removal does with a slot.
-    ghost kind: { SlotKind };
+    ghost KIND: { Kind };
 
-    // The same at run time.
-    ghost KIND: { DagKind };
-
-    /// The kind of the dag.
+    /// What a removal does with a slot.
     const KIND: Kind;
 
     /// Whether the node exists.
@@ -199,7 +183,7 @@ pub trait GuardedDag<N, E, Ix: IndexType> {
     fn remove_node(&mut self, n: NodeIndex<Ix>) -> Option<N>
         ensures value { result ≡ weight_at (graph self.old) (Ix.number n) }
         ensures removed { OnSome result
-            (graph self.new ≡ without_node kind (graph self.old) (Ix.number n)) }
+            (graph self.new ≡ without_node KIND (graph self.old) (Ix.number n)) }
         ensures missing { IfNone result (graph self.new ≡ graph self.old) }
         ensures acyclic { IsAcyclic (graph self.new) };
 
@@ -207,7 +191,7 @@ pub trait GuardedDag<N, E, Ix: IndexType> {
     fn remove_edge(&mut self, e: EdgeIndex<Ix>) -> Option<E>
         ensures value { result ≡ edge_weight_at (graph self.old) (Ix.number e) }
         ensures removed { OnSome result
-            (graph self.new ≡ without_edge kind (graph self.old) (Ix.number e)) }
+            (graph self.new ≡ without_edge KIND (graph self.old) (Ix.number e)) }
         ensures missing { IfNone result (graph self.new ≡ graph self.old) }
         ensures acyclic { IsAcyclic (graph self.new) };
 
@@ -246,7 +230,7 @@ pub trait GuardedDag<N, E, Ix: IndexType> {
     /// Returns `AllocError` if an allocation fails.
     fn transitive_reduce(&mut self, roots: Vec<NodeIndex<Ix>>) -> Result<(), AllocError>
         ensures reduced { OnOk result
-            (IsReduction kind (map Ix.number roots.items) (graph self.old) (graph self.new)) }
+            (IsReduction KIND (map Ix.number roots.items) (graph self.old) (graph self.new)) }
         ensures unchanged { OnErr result (graph self.new ≡ graph self.old) }
         ensures acyclic { IsAcyclic (graph self.new) };
 
@@ -272,7 +256,4 @@ pub trait GuardedDag<N, E, Ix: IndexType> {
     fn topological_order(&self) -> TopologicalOrder<'_, Ix>
         ensures ordered { IsOrderOf (graph self.now) result }
         ensures fits { length result < 2 ^ 64 };
-
-    // The constant agrees with the kind of the contracts.
-    ghost tells: { kind_of KIND ≡ kind };
 }

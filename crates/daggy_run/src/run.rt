@@ -22,7 +22,7 @@ pub fn run<N: Drop, E: Drop, Ix: IndexType, D: GuardedDag<N, E, Ix>>(
     dag: &mut D,
     commands: Vec<Command<N, E, Ix>>,
 ) -> Result<Vec<Reply<N, E, Ix>>, Vec<Command<N, E, Ix>>>
-    ensures run { IfOk result (λ replies. IsRun D.kind Ix.greatest (D.graph dag.old)
+    ensures run { IfOk result (λ replies. IsRun D.KIND Ix.greatest (D.graph dag.old)
         (map (request_of Ix.number) commands.items) (map (answer_of Ix.number) replies.items)
         (D.graph dag.new)) }
     ensures as_compact { IfOk result (λ replies. IsAsCompact Ix.greatest (D.graph dag.old)

@@ -18,7 +18,7 @@ fn add_node<N: Drop, E: Drop, Ix: IndexType, D: GuardedDag<N, E, Ix>>(
     dag: &mut D,
     weight: N,
 ) -> Reply<N, E, Ix>
-    ensures step { IsStep D.kind Ix.greatest (D.graph dag.old) (Node weight)
+    ensures step { IsStep D.KIND Ix.greatest (D.graph dag.old) (Node weight)
         (answer_of Ix.number result) (D.graph dag.new) }
     ensures acyclic { IsAcyclic (D.graph dag.new) }
 {
@@ -145,7 +145,7 @@ pub fn perform<N: Drop, E: Drop, Ix: IndexType, D: GuardedDag<N, E, Ix>>(
     dag: &mut D,
     command: Command<N, E, Ix>,
 ) -> Reply<N, E, Ix>
-    ensures step { IsStep D.kind Ix.greatest (D.graph dag.old) (request_of Ix.number command)
+    ensures step { IsStep D.KIND Ix.greatest (D.graph dag.old) (request_of Ix.number command)
         (answer_of Ix.number result) (D.graph dag.new) }
     ensures acyclic { IsAcyclic (D.graph dag.new) }
 {

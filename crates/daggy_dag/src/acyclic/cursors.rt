@@ -77,7 +77,7 @@ where
     // The index of the first node from `from` on, or an index behind all slots.
     #[inline]
     fn node_from(&self, from: usize) -> usize
-        ensures place { result ≡ next_slot S.kind self.now.graph.nodes from }
+        ensures place { result ≡ next_slot S.KIND self.now.graph.nodes from }
         ensures exists { result < length self.now.graph.nodes → HasNode self.now.graph result }
     {
         self.store.invariant();
@@ -95,7 +95,7 @@ where
     // The index of the first edge from `from` on, or an index behind all slots.
     #[inline]
     fn edge_from(&self, from: usize) -> usize
-        ensures place { result ≡ next_slot S.kind self.now.graph.edges from }
+        ensures place { result ≡ next_slot S.KIND self.now.graph.edges from }
         ensures exists { result < length self.now.graph.edges → HasEdge self.now.graph result }
     {
         self.store.invariant();
@@ -121,7 +121,7 @@ where
         ensures* writes_back { sem 𝓛 (nodes_lend_next N.row E.row Ix.row S.row Ix.IndexType S.Store
             self.entry result) }
         ensures value { option_copied_mut result ≡ weight_at self.old.dag.now.graph
-            (next_slot S.kind self.old.dag.now.graph.nodes self.old.index) }
+            (next_slot S.KIND self.old.dag.now.graph.nodes self.old.index) }
     {
         let _well_formed = self.dag.node_count();
         let i = self.dag.node_from(self.index);
@@ -144,7 +144,7 @@ where
         ensures* writes_back { sem 𝓛 (edges_lend_next N.row E.row Ix.row S.row Ix.IndexType S.Store
             self.entry result) }
         ensures value { option_copied_mut result ≡ edge_weight_at self.old.dag.now.graph
-            (next_slot S.kind self.old.dag.now.graph.edges self.old.index) }
+            (next_slot S.KIND self.old.dag.now.graph.edges self.old.index) }
     {
         let _well_formed = self.dag.edge_count();
         let i = self.dag.edge_from(self.index);

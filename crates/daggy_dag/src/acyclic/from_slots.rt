@@ -40,7 +40,7 @@ where
         edges: Vec<Option<(NodeIndex<Ix>, NodeIndex<Ix>, E)>>,
     ) -> Result<Self, SlotsError>
         requires makes_graph { MakeGraph Ix.greatest nodes.items (edges_by Ix.number edges.items) }
-        requires compact { S.kind ≡ Compact
+        requires compact { S.KIND ≡ Compact
             → IsCompact (graph_of_slots nodes.items (edges_by Ix.number edges.items)) }
         ensures made { IfOk result (λ d.
             d.graph ≡ graph_of_slots nodes.items (edges_by Ix.number edges.items)) }

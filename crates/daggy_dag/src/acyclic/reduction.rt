@@ -35,7 +35,7 @@ where
     /// stays before its last child in the dag's order.
     pub fn transitive_reduce(&mut self, roots: Vec<NodeIndex<Ix>>) -> Result<(), AllocError>
         ensures reduced { OnOk result
-            (IsReduction S.kind (map Ix.number roots.items) self.old.graph self.new.graph) }
+            (IsReduction S.KIND (map Ix.number roots.items) self.old.graph self.new.graph) }
         ensures reachability { OnOk result (HaveSameReachability self.old.graph self.new.graph) }
         ensures covers { OnOk result
             (JoinsCovers (map Ix.number roots.items) self.old.graph self.new.graph) }
@@ -47,7 +47,7 @@ where
             (HasNoneRedundant (map Ix.number roots.items) self.new.graph) }
         ensures canonical { OnOk result
             (IsCanonical Ix.greatest (map Ix.number roots.items) self.old.graph self.new.graph) }
-        ensures keeps { OnOk result (S.kind ≡ Stable → KeepsIndices self.old.graph self.new.graph) }
+        ensures keeps { OnOk result (S.KIND ≡ Stable → KeepsIndices self.old.graph self.new.graph) }
         ensures unchanged { OnErr result (self.new ≡ self.old) }
         ensures acyclic { IsAcyclic self.new.graph }
         ensures looked { self.old.looks ≤ self.new.looks }

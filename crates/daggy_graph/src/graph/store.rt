@@ -27,12 +27,15 @@ ghost use Rattle.daggy_base.specs.declared.error.EdgeError.TheVariants.{Memory a
 use crate::graph::DiGraph;
 use daggy_base::error::{EdgeError, NodeError};
 use daggy_base::index::{Direction, EdgeIndex, IndexType, NodeIndex};
+use daggy_base::kind::Kind;
 use daggy_base::source::EdgeSource;
 use daggy_base::store::Store;
 use std::alloc::{AllocError, Global};
 
 impl<N: Drop, E: Drop, Ix: IndexType> Store<Ix> for DiGraph<N, E, Ix> {
-    ghost kind = { Compact };
+    ghost KIND = { Compact };
+
+    const KIND: Kind = Kind::Compact;
 
     ghost node_written = { λ s n w. with_graph s (with_node_weight s.graph n w) };
 

@@ -1,7 +1,7 @@
 //! Both kinds of dag as dags that take commands.
 ghost use Rattle.std.specs.Prelude.{◌≡◌, ℕ, ◌<◌, ◌≤◌, ◌^◌, ◌↔◌, ◌⊎◌, IsTrue, Err, None, IfOk};
 ghost use Rattle.std.specs.Prelude.{IfErr, OnOk, OnErr, OnSome, IfSome, IfNone, IsOkAnd, length};
-ghost use Rattle.std.specs.Prelude.{map, refl};
+ghost use Rattle.std.specs.Prelude.{map};
 ghost use Rattle.std.specs.Option.{option_map};
 ghost use Rattle.daggy_base.specs.Graph.{Graph, empty, HasNode, HasEdge, node_weight as weight_at};
 ghost use Rattle.daggy_base.specs.Graph.{edge_at, ends_of, pair_of, node_count as node_count_of};
@@ -11,7 +11,7 @@ ghost use Rattle.daggy_base.specs.Path.{Reaches, IsAcyclic};
 ghost use Rattle.daggy_base.specs.WellFormed.{IsDag};
 ghost use Rattle.daggy_base.specs.Adding.{next_node, next_edge, with_node, with_edge};
 ghost use Rattle.daggy_base.specs.Adding.{with_neighbor};
-ghost use Rattle.daggy_base.specs.Removal.{Kind as SlotKind, without_edge, without_node};
+ghost use Rattle.daggy_base.specs.Removal.{Kind, without_edge, without_node};
 ghost use Rattle.daggy_base.specs.Removal.{without_all_edges};
 ghost use Rattle.daggy_base.specs.Reduction.{IsReduction};
 ghost use Rattle.daggy_base.specs.Weights.{edge_weight as edge_weight_at, with_edge_weight};
@@ -25,52 +25,20 @@ ghost use Rattle.daggy_base.specs.declared.error.EdgeError.TheVariants.{WouldCyc
 ghost use Rattle.daggy_base.specs.declared.error.EdgeError.TheVariants.{Memory as EdgeMemory};
 ghost use Rattle.daggy_base.specs.declared.error.ChildError.TheVariants.{Memory as ChildMemory};
 ghost use Rattle.daggy_base.specs.Adding.{by_numbers};
-ghost use Rattle.daggy_run.specs.Kinds.{kind_of};
-ghost use Rattle.daggy_run.specs.declared.guarded.Kind.{Kind as DagKind};
-ghost use Rattle.daggy_run.specs.declared.guarded.Kind.TheVariants.{Compact, Stable};
 ghost use Rattle.daggy_run.specs.Steps.{walk_of};
 ghost use Rattle.daggy_run.specs.EdgeLists.{AddsAll, IsRefused};
 
-use crate::guarded::{GuardedDag, Kind};
+use crate::guarded::GuardedDag;
 use daggy_base::command::{Neighbor, NewEdge};
 use daggy_base::error::{ChildError, EdgeError, EdgesError, NodeError};
 use daggy_base::index::{Direction, EdgeIndex, IndexType, NodeIndex};
+use daggy_base::kind::Kind;
 use daggy_base::source::EdgeSource;
 use daggy_base::store::Store;
 use daggy_dag::acyclic::{Acyclic, TopologicalOrder};
-use daggy_graph::graph::DiGraph;
 use daggy_guard::walk;
-use daggy_stable::stable_graph::StableDiGraph;
 use daggy_walk::visit::NodeIndexable;
 use std::alloc::{AllocError, Global};
-
-/// A store that states its kind.
-pub trait TellsKind<Ix: IndexType>: Store<Ix> {
-    // What a removal does with a slot of the store.
-    ghost KIND: { DagKind };
-
-    /// What a removal does with a slot of the store.
-    const KIND: Kind;
-
-    // The constant agrees with the kind of the contracts.
-    ghost tells: { kind_of KIND ≡ Self.kind };
-}
-
-impl<N: Drop, E: Drop, Ix: IndexType> TellsKind<Ix> for DiGraph<N, E, Ix> {
-    ghost KIND = { Compact };
-
-    const KIND: Kind = Kind::Compact;
-
-    ghost tells = { refl };
-}
-
-impl<N: Drop, E: Drop, Ix: IndexType> TellsKind<Ix> for StableDiGraph<N, E, Ix> {
-    ghost KIND = { Stable };
-
-    const KIND: Kind = Kind::Stable;
-
-    ghost tells = { refl };
-}
 
 // The edges of a node's list in direction `dir` with their far ends.
 fn walk_along<Ix: IndexType, S: Store<Ix>>(
@@ -93,17 +61,13 @@ fn walk_along<Ix: IndexType, S: Store<Ix>>(
 
 impl<N: Drop, E: Drop, Ix: IndexType, S> GuardedDag<N, E, Ix> for Acyclic<N, E, Ix, S>
 where
-    S: TellsKind<Ix, NodeWeight = N, EdgeWeight = E>,
+    S: Store<Ix, NodeWeight = N, EdgeWeight = E>,
 {
     ghost graph = { λ d. d.graph };
-
-    ghost kind = { S.kind };
 
     ghost KIND = { S.KIND };
 
     const KIND: Kind = S::KIND;
-
-    ghost tells = { S.tells };
 
     #[inline]
     fn has_node(&self, n: NodeIndex<Ix>) -> bool
@@ -272,7 +236,7 @@ where
     fn remove_node(&mut self, n: NodeIndex<Ix>) -> Option<N>
         ensures value { result ≡ weight_at self.old.graph (Ix.number n) }
         ensures removed { OnSome result
-            (self.new.graph ≡ without_node S.kind self.old.graph (Ix.number n)) }
+            (self.new.graph ≡ without_node S.KIND self.old.graph (Ix.number n)) }
         ensures missing { IfNone result (self.new.graph ≡ self.old.graph) }
         ensures acyclic { IsAcyclic self.new.graph }
     {
@@ -283,7 +247,7 @@ where
     fn remove_edge(&mut self, e: EdgeIndex<Ix>) -> Option<E>
         ensures value { result ≡ edge_weight_at self.old.graph (Ix.number e) }
         ensures removed { OnSome result
-            (self.new.graph ≡ without_edge S.kind self.old.graph (Ix.number e)) }
+            (self.new.graph ≡ without_edge S.KIND self.old.graph (Ix.number e)) }
         ensures missing { IfNone result (self.new.graph ≡ self.old.graph) }
         ensures acyclic { IsAcyclic self.new.graph }
     {
@@ -323,7 +287,7 @@ where
     #[inline]
     fn transitive_reduce(&mut self, roots: Vec<NodeIndex<Ix>>) -> Result<(), AllocError>
         ensures reduced { OnOk result
-            (IsReduction S.kind (map Ix.number roots.items) self.old.graph self.new.graph) }
+            (IsReduction S.KIND (map Ix.number roots.items) self.old.graph self.new.graph) }
         ensures unchanged { OnErr result (self.new.graph ≡ self.old.graph) }
         ensures acyclic { IsAcyclic self.new.graph }
     {

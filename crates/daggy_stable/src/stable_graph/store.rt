@@ -27,12 +27,15 @@ ghost use Rattle.daggy_base.specs.declared.error.EdgeError.TheVariants.{Memory a
 use crate::stable_graph::StableDiGraph;
 use daggy_base::error::{EdgeError, NodeError};
 use daggy_base::index::{Direction, EdgeIndex, IndexType, NodeIndex};
+use daggy_base::kind::Kind;
 use daggy_base::source::EdgeSource;
 use daggy_base::store::Store;
 use std::alloc::{AllocError, Global};
 
 impl<N: Drop, E: Drop, Ix: IndexType> Store<Ix> for StableDiGraph<N, E, Ix> {
-    ghost kind = { Stable };
+    ghost KIND = { Stable };
+
+    const KIND: Kind = Kind::Stable;
 
     ghost node_written = { λ s n w. with_graph s (with_node_weight s.graph n w) };
 

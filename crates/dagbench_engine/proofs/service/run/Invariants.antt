@@ -5,7 +5,7 @@ use Rattle.dagbench_engine.proofs.service.run.Given as goal
 
 abbrev pub invariant-reads : goal.invariant-reads
 invariant-reads g l = record {
-  served : IsServed g.D.GuardedDag.kind (g.S.Source.given l.fn.source) (g.S.Source.given l.source)
+  served : IsServed g.D.GuardedDag.KIND (g.S.Source.given l.fn.source) (g.S.Source.given l.source)
       (g.K.Sink.taken l.fn.sink) (g.K.Sink.taken l.sink ++ l.session.output) (g.D.GuardedDag.graph l.session.dag)
       l.session.line;
   gave : IsGiven (g.S.Source.remaining l.fn.source) (g.S.Source.remaining l.source) (g.S.Source.given l.fn.source)

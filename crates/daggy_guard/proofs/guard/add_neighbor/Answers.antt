@@ -12,7 +12,7 @@ use Rattle.daggy_guard.proofs.guard.add_neighbor.Goals as goal
 
 -- the node is new
 added : (g : Over) (c : In-Ok g)
-    → IsAddedNode g.Ix.IndexType.greatest g.S.Store.kind (g.S.EdgeSource.graph c.args.store.now)
+    → IsAddedNode g.Ix.IndexType.greatest g.S.Store.KIND (g.S.EdgeSource.graph c.args.store.now)
     (g.S.EdgeSource.graph c.put_node.new.store) c.args.weight (g.Ix.IndexType.number c.in-Ok.new)
     c.node_slots-slot_count.result
 added g c =

@@ -13,7 +13,7 @@ commands-init g c = record {
   can = tt;
   ends = tt;
   run =
-      run_begins g.D.GuardedDag.kind g.Ix.IndexType.greatest _ _ _
+      run_begins g.D.GuardedDag.KIND g.Ix.IndexType.greatest _ _ _
       (c.reserve.ensures.items ∙ c.new-replies.ensures.items);
   capacity = omega (
     arith,
@@ -35,7 +35,7 @@ commands-preserved g c = record {
       let said =
       ap (map answer) c.push_reserved.ensures.items
       ∙ map-append answer c.commands.replies.items (c.perform-reply.result ∷ []) in
-      rw (asked, said) (run_more g.D.GuardedDag.kind g.Ix.IndexType.greatest _ _ _ _ _ _ _ c.commands.invariant.run
+      rw (asked, said) (run_more g.D.GuardedDag.KIND g.Ix.IndexType.greatest _ _ _ _ _ _ _ c.commands.invariant.run
       c.perform-reply.ensures.step);
   capacity = omega (
     arith,
@@ -54,7 +54,7 @@ returns-clause-run g c =
     YieldsList-end (YieldsList-from_vec {s = c.into_iter-command-iterator.result} c.args.commands.items given.0
     (given.1 ∙ c.args.commands.ok.0)) c.commands.yielded c.commands.command-iterator c.commands.yielded_by c.next.result
     c.next.new.self c.in-None.is c.next.ensures.steps in
-    run_whole g.D.GuardedDag.kind g.Ix.IndexType.greatest _ _ _ _ _ all.0 c.commands.invariant.run
+    run_whole g.D.GuardedDag.KIND g.Ix.IndexType.greatest _ _ _ _ _ all.0 c.commands.invariant.run
 
 pub returns-clause-as_compact : goal.returns-clause-as_compact
 returns-clause-as_compact g c =
@@ -63,5 +63,5 @@ returns-clause-as_compact g c =
     YieldsList-end (YieldsList-from_vec {s = c.into_iter-command-iterator.result} c.args.commands.items given.0
     (given.1 ∙ c.args.commands.ok.0)) c.commands.yielded c.commands.command-iterator c.commands.yielded_by c.next.result
     c.next.new.self c.in-None.is c.next.ensures.steps in
-    as_compact g.Ix.IndexType.greatest g.D.GuardedDag.kind _ _ _ _
-    (run_whole g.D.GuardedDag.kind g.Ix.IndexType.greatest _ _ _ _ _ all.0 c.commands.invariant.run)
+    as_compact g.Ix.IndexType.greatest g.D.GuardedDag.KIND _ _ _ _
+    (run_whole g.D.GuardedDag.KIND g.Ix.IndexType.greatest _ _ _ _ _ all.0 c.commands.invariant.run)

@@ -11,7 +11,7 @@ use Rattle.daggy_dag.proofs.acyclic.Acyclic.edge_from.Goals as goal
 
 -- no slot of the compact kind is vacant
 full : (g : Over) (c : After-edge_slots-slots g)
-    → g.S.Store.kind ≡ Compact → IsFull (g.S.EdgeSource.graph c.self.inside.store).edges
+    → g.S.Store.KIND ≡ Compact → IsFull (g.S.EdgeSource.graph c.self.inside.store).edges
 full g c compact =
     full_from _ _ c.invariant.ensures.well_formed.edge_slots (c.invariant.ensures.compact compact).edges
 
@@ -31,13 +31,13 @@ returns-then-contains_edge-clause-place g c =
     let has =
     subst (HasEdge (g.S.EdgeSource.graph c.self.inside.store)) c.new.ensures.number
     (c.contains_edge.ensures.0 c.if-contains_edge.true) in
-    next_there g.S.Store.kind slots c.args.from c.along.i
+    next_there g.S.Store.KIND slots c.args.from c.along.i
     (full g (goal.at.returns-then-contains_edge-clause-place g c).After-edge_slots-slots) c.along.invariant has
-    ∙ ap (λ s. next_slot g.S.Store.kind s.graph.edges c.args.from) c.self.view_is
+    ∙ ap (λ s. next_slot g.S.Store.KIND s.graph.edges c.args.from) c.self.view_is
 
 pub returns-clause-place : goal.returns-clause-place
 returns-clause-place g c =
-    next_behind g.S.Store.kind (g.S.EdgeSource.graph c.self.inside.store).edges c.args.from c.along.i
+    next_behind g.S.Store.KIND (g.S.EdgeSource.graph c.self.inside.store).edges c.args.from c.along.i
     (full g (goal.at.returns-clause-place g c).After-edge_slots-slots) c.along.invariant
     (omega (arith, c.along-test.false, c.edge_slots-slots.ensures))
-    ∙ ap (λ s. next_slot g.S.Store.kind s.graph.edges c.args.from) c.self.view_is
+    ∙ ap (λ s. next_slot g.S.Store.KIND s.graph.edges c.args.from) c.self.view_is

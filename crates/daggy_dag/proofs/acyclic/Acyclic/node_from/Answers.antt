@@ -11,7 +11,7 @@ use Rattle.daggy_dag.proofs.acyclic.Acyclic.node_from.Goals as goal
 
 -- no slot of the compact kind is vacant
 full : (g : Over) (c : After-node_slots-slots g)
-    → g.S.Store.kind ≡ Compact → IsFull (g.S.EdgeSource.graph c.self.inside.store).nodes
+    → g.S.Store.KIND ≡ Compact → IsFull (g.S.EdgeSource.graph c.self.inside.store).nodes
 full g c compact =
     full_from _ _ c.invariant.ensures.well_formed.node_slots (c.invariant.ensures.compact compact).nodes
 
@@ -31,13 +31,13 @@ returns-then-contains_node-clause-place g c =
     let has =
     subst (HasNode (g.S.EdgeSource.graph c.self.inside.store)) c.new.ensures.number
     (c.contains_node.ensures.exists.0 c.if-contains_node.true) in
-    next_there g.S.Store.kind slots c.args.from c.along.i
+    next_there g.S.Store.KIND slots c.args.from c.along.i
     (full g (goal.at.returns-then-contains_node-clause-place g c).After-node_slots-slots) c.along.invariant has
-    ∙ ap (λ s. next_slot g.S.Store.kind s.graph.nodes c.args.from) c.self.view_is
+    ∙ ap (λ s. next_slot g.S.Store.KIND s.graph.nodes c.args.from) c.self.view_is
 
 pub returns-clause-place : goal.returns-clause-place
 returns-clause-place g c =
-    next_behind g.S.Store.kind (g.S.EdgeSource.graph c.self.inside.store).nodes c.args.from c.along.i
+    next_behind g.S.Store.KIND (g.S.EdgeSource.graph c.self.inside.store).nodes c.args.from c.along.i
     (full g (goal.at.returns-clause-place g c).After-node_slots-slots) c.along.invariant
     (omega (arith, c.along-test.false, c.node_slots-slots.ensures))
-    ∙ ap (λ s. next_slot g.S.Store.kind s.graph.nodes c.args.from) c.self.view_is
+    ∙ ap (λ s. next_slot g.S.Store.KIND s.graph.nodes c.args.from) c.self.view_is
