@@ -3,7 +3,7 @@ use Rattle.std.proofs.Common.{◌≡◌, ℕ, ℤ, List, [], ◌∷◌, ◌++◌
 use Rattle.std.proofs.Common.{inr}
 use Rattle.std.specs.Option.{MatchOption, IsSomeAnd}
 use Rattle.daggy.specs.Graph.{Graph}
-use Rattle.daggy.specs.Removal.{Kind}
+use Rattle.daggy_base.specs.declared.kind.Kind.{Kind}
 use Rattle.dagbench_lines.specs.Commands.{Asked, asked_in, TakesRoom}
 use Rattle.dagbench_lines.specs.Streams.{Appends}
 use Rattle.dagbench_engine.specs.Transcripts.{IsAnswered}

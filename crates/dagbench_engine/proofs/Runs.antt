@@ -5,7 +5,7 @@ use Rattle.std.proofs.Common.{length-append, arith, lt-ltb, ℤ, IfSome}
 use Rattle.std.proofs.lemmas.List.{length-take}
 use Rattle.std.specs.Result.{OnOk}
 use Rattle.daggy.specs.Graph.{Graph, empty}
-use Rattle.daggy.specs.Removal.{Kind}
+use Rattle.daggy_base.specs.declared.kind.Kind.{Kind}
 use Rattle.dagbench_engine.specs.declared.stop.Stop.{Stop}
 use Rattle.dagbench_engine.specs.declared.stop.Stop.TheVariants.{Read, Write, Memory}
 use Rattle.dagbench_lines.specs.Cutting.{lines_of, ended_lines_of}

@@ -8,7 +8,7 @@ use Rattle.std.specs.List.{flat_map, AllByRecursion}
 use Rattle.std.specs.Option.{MatchOption}
 use Rattle.std.specs.Result.{OnOk}
 use Rattle.daggy.specs.Graph.{Graph, empty}
-use Rattle.daggy.specs.Removal.{Kind}
+use Rattle.daggy_base.specs.declared.kind.Kind.{Kind}
 use Rattle.dagbench_lines.specs.Cutting.{Lacks, newline, lines_of, ended_lines_of, words_of}
 use Rattle.dagbench_lines.specs.Commands.{asked_in, asked_by_words}
 use Rattle.dagbench_lines.specs.Streams.{Appends}

@@ -1,8 +1,8 @@
 -- What the program's arguments ask for.
 use Rattle.std.specs.Prelude.{ℕ, ◌&&◌, Bool, true, false, Option, Some, None, List, [], ◌∷◌, codes, if◌then◌else◌}
 use Rattle.std.specs.Str.{bytes_eq}
-use Rattle.daggy.specs.Removal.{Kind}
-use Rattle.daggy.specs.Removal as kind
+use Rattle.daggy_base.specs.declared.kind.Kind.{Kind}
+use Rattle.daggy_base.specs.declared.kind.Kind.TheVariants as kind
 use Rattle.dagbench_engine.specs.declared.mode.Mode.{Mode}
 use Rattle.dagbench_engine.specs.declared.mode.Mode.TheVariants.{Compact, Stable, PlanCompact, PlanStable}
 

@@ -1,6 +1,6 @@
 -- What holds of the devices where a run ends.
 use Rattle.std.specs.Prelude.{◌≡◌, ℕ, ◌+◌, Bool, true, false, Option, List, ◌++◌, Result, Ok, Err, IfSome}
-use Rattle.daggy.specs.Removal.{Kind}
+use Rattle.daggy_base.specs.declared.kind.Kind.{Kind}
 use Rattle.dagbench_engine.specs.declared.stop.Stop.{Stop}
 use Rattle.dagbench_engine.specs.declared.stop.Stop.TheVariants.{Read, Write, Memory}
 use Rattle.dagbench_lines.specs.Cutting.{lines_of, ended_lines_of}

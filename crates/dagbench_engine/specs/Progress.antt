@@ -2,7 +2,7 @@
 use Rattle.std.specs.Prelude.{◌≡◌, ℕ, List, [], ◌∷◌, ◌++◌, take, Result, Ok, Err, ℤ}
 use Rattle.std.specs.List.{flat_map, AllByRecursion}
 use Rattle.daggy.specs.Graph.{Graph, empty}
-use Rattle.daggy.specs.Removal.{Kind}
+use Rattle.daggy_base.specs.declared.kind.Kind.{Kind}
 use Rattle.dagbench_lines.specs.Cutting.{newline, Lacks, lines_of, kept_count}
 use Rattle.dagbench_engine.specs.Transcripts.{IsAnswer, IsTranscript}
 

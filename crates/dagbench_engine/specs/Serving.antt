@@ -1,7 +1,7 @@
 -- What a whole run does to its devices.
 use Rattle.std.specs.Prelude.{◌≡◌, Bool, List, ℕ, ◌++◌, ℤ}
 use Rattle.daggy.specs.Graph.{Graph, empty}
-use Rattle.daggy.specs.Removal.{Kind}
+use Rattle.daggy_base.specs.declared.kind.Kind.{Kind}
 use Rattle.dagbench_engine.specs.Transcripts.{IsTranscript}
 use Rattle.dagbench_engine.specs.Plans.{IsClose}
 

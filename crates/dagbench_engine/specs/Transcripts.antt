@@ -1,7 +1,7 @@
 -- What lines are answered, and what they make of the graph.
 use Rattle.std.specs.Prelude.{◌≡◌, ℕ, ◌⊎◌, List, [], ◌∷◌, ◌++◌, MatchOption, codes, ℤ}
 use Rattle.daggy.specs.Graph.{Graph}
-use Rattle.daggy.specs.Removal.{Kind}
+use Rattle.daggy_base.specs.declared.kind.Kind.{Kind}
 use Rattle.daggy.specs.Answers.{Answer}
 use Rattle.daggy.specs.Steps.{IsStep}
 use Rattle.dagbench_lines.specs.Commands.{Asked, Step, Document, asked_in, TakesRoom}

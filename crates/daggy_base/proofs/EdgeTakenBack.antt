@@ -8,7 +8,8 @@ use Rattle.std.proofs.lemmas.Option.{unwrap_or-slice_get}
 use Rattle.std.proofs.Math.Seq.{take-append_seam}
 use Rattle.daggy_base.specs.Graph.{Graph, Edge, edge_at, out_list, in_list, slot}
 use Rattle.daggy_base.specs.Adding.{with_edge, next_edge, next_slot, with_slot_filled, remaining_vacant}
-use Rattle.daggy_base.specs.Removal.{Compact, without, renamed, without_edge}
+use Rattle.daggy_base.specs.Removal.{without, renamed, without_edge}
+use Rattle.daggy_base.specs.declared.kind.Kind.TheVariants.{Compact}
 use Rattle.daggy_base.specs.WellFormed.{IsWellFormed, ListsEdges}
 use Rattle.daggy_base.specs.TakingBack.{is_slot_made, with_edge_taken_back, slots_taken_back, vacant_taken_back}
 use Rattle.daggy_base.specs.TakingBack.{UndoesEdge}

@@ -2,7 +2,8 @@
 use Rattle.std.proofs.Common.{◌≡◌, ℕ, zero, suc, inl, inr, List, [], ◌∷◌, length, Option, Some, None, OnSome, IfNone}
 use Rattle.std.proofs.Common.{subst, sym}
 use Rattle.daggy_base.specs.Graph.{Graph, out_list, in_list, list_at}
-use Rattle.daggy_base.specs.Removal.{Stable, KeepsIndices, without_edge, without_first, without_front}
+use Rattle.daggy_base.specs.Removal.{KeepsIndices, without_edge, without_first, without_front}
+use Rattle.daggy_base.specs.declared.kind.Kind.TheVariants.{Stable}
 use Rattle.daggy_base.specs.Removal.{with_node_isolated, with_node_dropped, without_node}
 use Rattle.daggy_base.specs.declared.index.Direction.{Direction}
 use Rattle.daggy_base.specs.declared.index.Direction.TheVariants.{Outgoing, Incoming}

@@ -8,7 +8,8 @@ use Rattle.std.proofs.lemmas.Option.{unwrap_or-slice_get}
 use Rattle.std.proofs.Math.Seq.{take-append_seam}
 use Rattle.daggy_base.specs.Graph.{Graph, Edge, HasNode, slot, out_list, in_list}
 use Rattle.daggy_base.specs.Adding.{with_node, next_node, next_slot, with_slot_filled}
-use Rattle.daggy_base.specs.Removal.{Compact, renamed, with_ends_renamed, with_node_dropped}
+use Rattle.daggy_base.specs.Removal.{renamed, with_ends_renamed, with_node_dropped}
+use Rattle.daggy_base.specs.declared.kind.Kind.TheVariants.{Compact}
 use Rattle.daggy_base.specs.TakingBack.{is_slot_made, with_node_taken_back, lists_taken_back, UndoesNode}
 use Rattle.daggy_base.specs.WellFormed.{IsWellFormed}
 use Rattle.daggy_base.proofs.Lists.{Mem, mem_contains}

@@ -10,7 +10,9 @@ use Rattle.daggy_base.specs.Graph.{Graph, Edge as PlainEdge, edge_at, list_at, n
 use Rattle.daggy_base.specs.Cursor.{first_of}
 use Rattle.daggy_base.specs.State.{State, with_graph}
 use Rattle.daggy_base.specs.WellFormed.{AreDistinct, ListsEdges, IsWellFormed}
-use Rattle.daggy_base.specs.Removal.{Kind, Compact, Stable, without, renamed, without_edge, without_first}
+use Rattle.daggy_base.specs.Removal.{without, renamed, without_edge, without_first}
+use Rattle.daggy_base.specs.declared.kind.Kind.{Kind}
+use Rattle.daggy_base.specs.declared.kind.Kind.TheVariants.{Compact, Stable}
 use Rattle.daggy_base.specs.Removal.{without_front}
 use Rattle.daggy_base.proofs.Lists.{Contains-here}
 use Rattle.daggy_cells.proofs.LinkedLists.{without_here}

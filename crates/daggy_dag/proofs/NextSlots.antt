@@ -4,7 +4,8 @@ use Rattle.std.proofs.Common.{is_some, true, refl, sym, ap, ◌∙◌, add-one, 
 use Rattle.std.proofs.lemmas.Bool.{false≢true}
 use Rattle.std.proofs.lemmas.List.{drop_all}
 use Rattle.daggy_base.specs.Graph.{slot}
-use Rattle.daggy_base.specs.Removal.{Kind, Compact, Stable}
+use Rattle.daggy_base.specs.declared.kind.Kind.{Kind}
+use Rattle.daggy_base.specs.declared.kind.Kind.TheVariants.{Compact, Stable}
 use Rattle.daggy_base.proofs.FullSlots.{IsFull}
 use Rattle.daggy_dag.specs.Slots.{next_slot, vacant_in_front}
 

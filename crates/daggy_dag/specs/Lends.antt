@@ -2,7 +2,7 @@
 use Rattle.std.specs.Prelude.{Option, ℕ}
 use Rattle.std.specs.Borrow.{Lends, LendsIf, Fml, RattleType, MutBor}
 use Rattle.daggy_base.specs.Graph.{Graph}
-use Rattle.daggy_base.specs.Removal.{Kind}
+use Rattle.daggy_base.specs.declared.kind.Kind.{Kind}
 use Rattle.daggy_base.specs.State.{State, with_graph}
 use Rattle.daggy_base.specs.Weights.{with_node_weight, with_edge_weight}
 use Rattle.daggy_base.specs.IndexMembers.{IndexMembers}

@@ -1,6 +1,7 @@
 -- Where a cursor over slots goes on.
 use Rattle.std.specs.Prelude.{ℕ, ◌+◌, Option, Some, None, List, [], ◌∷◌, drop}
-use Rattle.daggy_base.specs.Removal.{Kind, Compact, Stable}
+use Rattle.daggy_base.specs.declared.kind.Kind.{Kind}
+use Rattle.daggy_base.specs.declared.kind.Kind.TheVariants.{Compact, Stable}
 
 -- how many slots at the front are vacant
 abbrev pub vacant_in_front : {A : Type 0} → List (Option A) → ℕ

@@ -7,7 +7,8 @@ use Rattle.std.proofs.lemmas.Bool.{cases_eq, cases_lt}
 use Rattle.std.proofs.lemmas.List.{length-map, length-set, length-take-le, get_or-map}
 use Rattle.std.proofs.lemmas.Option.{slice_get-map, same_Some, none-some, unwrap_or-slice_get}
 use Rattle.daggy_base.specs.Graph.{Graph}
-use Rattle.daggy_base.specs.Removal.{renamed, with_ends_renamed, Compact, with_node_dropped}
+use Rattle.daggy_base.specs.Removal.{renamed, with_ends_renamed, with_node_dropped}
+use Rattle.daggy_base.specs.declared.kind.Kind.TheVariants.{Compact}
 use Rattle.daggy_cells.specs.declared.cell.Node.{Node}
 use Rattle.daggy_cells.specs.declared.cell.Edge.{Edge}
 use Rattle.daggy_base.specs.declared.index.Direction.{Direction}

@@ -3,7 +3,8 @@ use Rattle.std.specs.Prelude.{◌≡◌, ℕ, ◌≤◌, List, [], length, map}
 use Rattle.daggy_base.specs.Graph.{Graph}
 use Rattle.std.specs.List.{swap_remove}
 use Rattle.daggy_base.specs.FromSlots.{graph_of_slots}
-use Rattle.daggy_base.specs.Removal.{Compact, without_edge}
+use Rattle.daggy_base.specs.Removal.{without_edge}
+use Rattle.daggy_base.specs.declared.kind.Kind.TheVariants.{Compact}
 use Rattle.daggy_cells.specs.Links.{AreLinkedLists, ListsEach}
 use Rattle.daggy_cells.specs.declared.cell.Node.{Node}
 use Rattle.daggy_cells.specs.declared.cell.Edge.{Edge}

@@ -8,7 +8,7 @@ use Rattle.std.specs.Prelude.{◌↔◌, Contains}
 use Rattle.daggy_base.specs.Graph.{Graph, HasNode, node_bound, edge_count}
 use Rattle.daggy_base.specs.Path.{IsAcyclic}
 use Rattle.daggy_base.specs.Adding.{with_edge, next_edge}
-use Rattle.daggy_base.specs.Removal.{Kind}
+use Rattle.daggy_base.specs.declared.kind.Kind.{Kind}
 use Rattle.daggy_base.specs.WellFormed.{IsWellFormed}
 use Rattle.std.specs.declared.alloc.Global.{Global}
 use Rattle.daggy_base.proofs.PathsWithEdge.{free_edge, still_cyclic, cyclic_with_edge}

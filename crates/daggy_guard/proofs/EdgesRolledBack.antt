@@ -9,7 +9,8 @@ use Rattle.std.proofs.lemmas.Option.{slice_get_within, same_Some}
 use Rattle.std.proofs.lemmas.List.{length-append, length-set, reverse-append}
 use Rattle.daggy_base.specs.Graph.{Graph, Edge, HasEdge, edge_at}
 use Rattle.daggy_base.specs.Adding.{with_edge, next_edge, next_slot, with_slot_filled, remaining_vacant}
-use Rattle.daggy_base.specs.Removal.{Kind, Compact}
+use Rattle.daggy_base.specs.declared.kind.Kind.{Kind}
+use Rattle.daggy_base.specs.declared.kind.Kind.TheVariants.{Compact}
 use Rattle.daggy_base.specs.WellFormed.{IsWellFormed}
 use Rattle.daggy_base.specs.TakingBack.{is_slot_made, with_edge_taken_back}
 use Rattle.daggy_base.proofs.Slots.{IsFree, slot_taken_new}

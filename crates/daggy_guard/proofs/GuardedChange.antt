@@ -6,7 +6,8 @@ use Rattle.daggy_base.specs.Path.{IsAcyclic}
 use Rattle.daggy_base.specs.Adding.{with_node, with_edge, next_edge, ComesFirst}
 use Rattle.daggy_base.specs.WellFormed.{IsWellFormed}
 use Rattle.daggy_base.proofs.NewestEdge.{comes_first}
-use Rattle.daggy_base.specs.Removal.{Kind, without_edge}
+use Rattle.daggy_base.specs.Removal.{without_edge}
+use Rattle.daggy_base.specs.declared.kind.Kind.{Kind}
 use Rattle.daggy_base.proofs.PathsWithoutEdge.{acyclic_without_edge, bound_same}
 use Rattle.daggy_base.proofs.PathsWithNode.{fits_after}
 use Rattle.daggy_guard.specs.EdgeBatch.{HasEnds}

@@ -9,7 +9,8 @@ use Rattle.daggy_base.specs.declared.index.Direction.{Direction}
 use Rattle.daggy_base.specs.declared.index.Direction.TheVariants.{Outgoing, Incoming}
 use Rattle.daggy_base.specs.Graph.{Graph, HasNode, node_weight, list_at, IsCompact}
 use Rattle.daggy_base.specs.Adding.{with_node, next_node, next_slot, with_slot_filled}
-use Rattle.daggy_base.specs.Removal.{Kind, Compact}
+use Rattle.daggy_base.specs.declared.kind.Kind.{Kind}
+use Rattle.daggy_base.specs.declared.kind.Kind.TheVariants.{Compact}
 use Rattle.daggy_base.specs.TakingBack.{with_node_taken_back, is_slot_made}
 use Rattle.daggy_base.specs.WellFormed.{IsWellFormed}
 use Rattle.daggy_base.proofs.Slots.{IsFree, slot_taken_new}

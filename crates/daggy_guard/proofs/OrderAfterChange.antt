@@ -8,7 +8,9 @@ use Rattle.std.proofs.lemmas.List.{take-append-drop, length-take, length-set}
 use Rattle.daggy_base.specs.Graph.{Graph, HasNode, slot, edge_count}
 use Rattle.daggy_base.specs.Path.{Reaches, IsAcyclic}
 use Rattle.daggy_base.specs.Adding.{with_node, with_edge, with_neighbor, next_node}
-use Rattle.daggy_base.specs.Removal.{Kind, Compact, Stable, without, renamed, without_edge, without_node}
+use Rattle.daggy_base.specs.Removal.{without, renamed, without_edge, without_node}
+use Rattle.daggy_base.specs.declared.kind.Kind.{Kind}
+use Rattle.daggy_base.specs.declared.kind.Kind.TheVariants.{Compact, Stable}
 use Rattle.daggy_base.specs.Removal.{with_node_isolated}
 use Rattle.daggy_base.specs.WellFormed.{IsWellFormed, IsIsolated}
 use Rattle.daggy_base.specs.Graph.{IsCompact}

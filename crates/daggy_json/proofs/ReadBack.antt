@@ -4,7 +4,7 @@ use Rattle.std.specs.Prelude.{Result, MatchResult}
 use Rattle.std.proofs.lemmas.Result.{MatchResult-weaker}
 use Rattle.serde_json.specs.Data.{Data}
 use Rattle.daggy_base.specs.Graph.{Graph}
-use Rattle.daggy_base.specs.Removal.{Kind}
+use Rattle.daggy_base.specs.declared.kind.Kind.{Kind}
 use Rattle.daggy_base.specs.Mapping.{weight_in, with_weight}
 use Rattle.daggy_json.specs.Restoring.{IsCopyAs, ReadsTo, HasRefused, HasValues, trimmed}
 use Rattle.daggy_json.specs.declared.error.ReadError.{ReadError}

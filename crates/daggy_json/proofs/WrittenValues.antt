@@ -7,7 +7,8 @@ use Rattle.serde_json.specs.Data.{Data}
 use Rattle.daggy_base.specs.Graph.{Graph, Edge, bound_of, bound_step, edge_bound, IsCompact}
 use Rattle.daggy_base.specs.Iterating.{numbered, node_identifiers, node_weights}
 use Rattle.daggy_base.specs.WellFormed.{IsDag}
-use Rattle.daggy_base.specs.Removal.{Kind, Compact}
+use Rattle.daggy_base.specs.declared.kind.Kind.{Kind}
+use Rattle.daggy_base.specs.declared.kind.Kind.TheVariants.{Compact}
 use Rattle.daggy_base.specs.Mapping.{weight_in, with_weight}
 use Rattle.daggy_json.specs.Document.{whole, row_of, holes_of, document_of, IsEntry, IsDocumentOf}
 use Rattle.daggy_json.specs.Restoring.{IsCopyAs, HasValues}

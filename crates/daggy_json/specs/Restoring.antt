@@ -5,7 +5,8 @@ use Rattle.serde_json.specs.Data.{Data}
 use Rattle.daggy_base.specs.Graph.{Graph, node_bound, edge_bound, IsCompact}
 use Rattle.daggy_base.specs.Iterating.{node_weights, edge_weights}
 use Rattle.daggy_base.specs.WellFormed.{IsDag}
-use Rattle.daggy_base.specs.Removal.{Kind, Compact}
+use Rattle.daggy_base.specs.declared.kind.Kind.{Kind}
+use Rattle.daggy_base.specs.declared.kind.Kind.TheVariants.{Compact}
 use Rattle.daggy_base.specs.Mapping.{IsMapped}
 use Rattle.daggy_base.specs.FromSlots.{vacant_down}
 use Rattle.daggy_json.specs.Document.{IsDocumentOf}

@@ -3,7 +3,7 @@ ghost use Rattle.std.specs.Prelude.{◌≡◌, ◌⊎◌, true, false, Ok, Err, 
 ghost use Rattle.serde_json.specs.Data.{Data};
 ghost use Rattle.serde_json.specs.View.{view};
 ghost use Rattle.daggy_base.specs.Graph.{Graph, IsCompact};
-ghost use Rattle.daggy_base.specs.Removal.{Compact, Stable};
+ghost use Rattle.daggy_base.specs.declared.kind.Kind.TheVariants.{Compact, Stable};
 ghost use Rattle.daggy_base.specs.WellFormed.{IsDag};
 ghost use Rattle.daggy_json.specs.Document.{IsDocumentOf};
 ghost use Rattle.daggy_json.specs.Weight.{WritesAs, ReadsAs};

@@ -10,7 +10,9 @@ use Rattle.std.proofs.lemmas.Option.{same_Some, none-some}
 use Rattle.daggy_base.specs.Graph.{Graph, Edge, HasNode, node_weight, edge_at, slot, out_list, in_list, list_at, empty}
 use Rattle.daggy_base.specs.Path.{AreJoined, IsAcyclic}
 use Rattle.daggy_base.specs.Adding.{with_node, with_edge, with_neighbor, next_node}
-use Rattle.daggy_base.specs.Removal.{Kind, Compact, Stable, without, renamed, with_ends_renamed, without_edge}
+use Rattle.daggy_base.specs.Removal.{without, renamed, with_ends_renamed, without_edge}
+use Rattle.daggy_base.specs.declared.kind.Kind.{Kind}
+use Rattle.daggy_base.specs.declared.kind.Kind.TheVariants.{Compact, Stable}
 use Rattle.daggy_base.specs.Removal.{without_first, without_front, with_node_isolated, with_node_dropped, without_node}
 use Rattle.daggy_base.specs.Removal.{without_all_edges}
 use Rattle.daggy_base.specs.Weights.{with_node_weight, with_edge_weight}

@@ -4,7 +4,9 @@ use Rattle.std.proofs.Common.{drop, reverse, Option, Some, None, refl, sym, ap, 
 use Rattle.std.proofs.Common.{OnSome, option_map}
 use Rattle.std.proofs.lemmas.List.{drop_more, reverse-append}
 use Rattle.daggy_base.specs.Graph.{Graph, Edge, HasEdge, slot, edge_at}
-use Rattle.daggy_base.specs.Removal.{Kind, Compact, Stable, KeepsIndices, without_edge, without_edges}
+use Rattle.daggy_base.specs.Removal.{KeepsIndices, without_edge, without_edges}
+use Rattle.daggy_base.specs.declared.kind.Kind.{Kind}
+use Rattle.daggy_base.specs.declared.kind.Kind.TheVariants.{Compact, Stable}
 use Rattle.daggy_base.specs.Reduction.{IsDescending, IsReduction, IsRedundant}
 use Rattle.daggy_base.specs.Weights.{edge_weight}
 use Rattle.daggy_base.proofs.Lists.{Mem, mem_left, mem_right, mem_cases, mem_at, mem_contains, contains_mem}

@@ -2,7 +2,9 @@
 use Rattle.std.proofs.Common.{◌≡◌, ℕ, inl, inr, List, sym, subst}
 use Rattle.daggy_base.specs.Graph.{Graph}
 use Rattle.daggy_base.specs.Path.{IsAcyclic}
-use Rattle.daggy_base.specs.Removal.{Kind, Stable, KeepsIndices, without_edges}
+use Rattle.daggy_base.specs.Removal.{KeepsIndices, without_edges}
+use Rattle.daggy_base.specs.declared.kind.Kind.{Kind}
+use Rattle.daggy_base.specs.declared.kind.Kind.TheVariants.{Stable}
 use Rattle.daggy_base.specs.WellFormed.{IsWellFormed}
 use Rattle.daggy_base.specs.Reduction.{IsReduction}
 use Rattle.daggy_reduction.specs.Comparison.{LosesRoundPairs, JoinsAll, HaveSameReachability, JoinsCovers, JoinsOthers}

@@ -4,7 +4,9 @@ use Rattle.std.proofs.Common.{take, Option, Some, None, refl, sym, ap, subst, â—
 use Rattle.std.proofs.lemmas.Bool.{cases_eq}
 use Rattle.std.proofs.lemmas.Option.{same_Some}
 use Rattle.daggy_base.specs.Graph.{Graph, Edge, HasNode, edge_at, slot}
-use Rattle.daggy_base.specs.Removal.{Kind, Compact, Stable, without_edge, without_edges}
+use Rattle.daggy_base.specs.Removal.{without_edge, without_edges}
+use Rattle.daggy_base.specs.declared.kind.Kind.{Kind}
+use Rattle.daggy_base.specs.declared.kind.Kind.TheVariants.{Compact, Stable}
 use Rattle.daggy_base.specs.Reduction.{IsDescending, IsReduction, IsBelow, ReachesIndirectly}
 use Rattle.daggy_base.proofs.Lists.{Mem, contains_mem, mem_contains}
 use Rattle.daggy_base.proofs.PathsWithoutEdge.{slot_of}

@@ -2,7 +2,7 @@
 use Rattle.std.specs.Prelude.{ℕ, ◌<◌, ◌⊎◌, ◌↔◌, List, [], ◌∷◌}
 use Rattle.daggy_base.specs.Graph.{Graph, HasNode}
 use Rattle.daggy_base.specs.Path.{AreJoined, Reaches}
-use Rattle.daggy_base.specs.Removal.{Kind}
+use Rattle.daggy_base.specs.declared.kind.Kind.{Kind}
 use Rattle.daggy_base.specs.WellFormed.{IsDag}
 use Rattle.daggy_base.specs.Reduction.{IsBelow, ReachesIndirectly, IsRedundant, IsReduction, Covers}
 

@@ -6,7 +6,8 @@ use Rattle.daggy_base.specs.declared.index.Direction.{Direction}
 use Rattle.daggy_base.specs.declared.index.Direction.TheVariants.{Outgoing, Incoming}
 use Rattle.daggy_base.specs.Graph.{Graph, edge_count}
 use Rattle.daggy_base.specs.Adding.{with_edge}
-use Rattle.daggy_base.specs.Removal.{Kind, Compact}
+use Rattle.daggy_base.specs.declared.kind.Kind.{Kind}
+use Rattle.daggy_base.specs.declared.kind.Kind.TheVariants.{Compact}
 use Rattle.daggy_base.specs.Finding.{find_edge}
 use Rattle.daggy_guard.specs.EdgeBatch.{with_edges, HasEnds, IsFaultless, LacksEnd, LacksIndex, weights_back}
 use Rattle.daggy_base.specs.Adding.{NewEdge}

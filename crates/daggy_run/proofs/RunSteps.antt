@@ -4,7 +4,8 @@ use Rattle.std.proofs.Common.{subst, ◌∙◌, rules}
 use Rattle.std.specs.List.{AllByRecursion}
 use Rattle.std.proofs.lemmas.List.{map-id}
 use Rattle.daggy_base.specs.Graph.{Graph}
-use Rattle.daggy_base.specs.Removal.{Kind, Compact}
+use Rattle.daggy_base.specs.declared.kind.Kind.{Kind}
+use Rattle.daggy_base.specs.declared.kind.Kind.TheVariants.{Compact}
 use Rattle.daggy_base.specs.Requests.{Request, Node, Edge, Update, Child, Parent, Edges, Find, Ends, RemoveNode}
 use Rattle.daggy_base.specs.Requests.{RemoveEdge, Children, Parents, ClearEdges, Clear, Reduce}
 use Rattle.daggy_base.specs.Answers.{Answer}

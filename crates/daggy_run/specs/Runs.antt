@@ -2,7 +2,8 @@
 use Rattle.std.specs.Prelude.{◌≡◌, ℕ, List, [], ◌∷◌}
 use Rattle.std.specs.List.{AllByRecursion}
 use Rattle.daggy_base.specs.Graph.{Graph}
-use Rattle.daggy_base.specs.Removal.{Kind, Compact}
+use Rattle.daggy_base.specs.declared.kind.Kind.{Kind}
+use Rattle.daggy_base.specs.declared.kind.Kind.TheVariants.{Compact}
 use Rattle.daggy_base.specs.Requests.{Request, RemoveNode, RemoveEdge, Reduce}
 use Rattle.daggy_base.specs.Answers.{Answer, Memory}
 use Rattle.daggy_run.specs.Steps.{IsStep}

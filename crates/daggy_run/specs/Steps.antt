@@ -7,7 +7,8 @@ use Rattle.daggy_base.specs.Graph.{Graph, empty, HasNode, node_weight, edge_at, 
 use Rattle.daggy_base.specs.Graph.{edge_count}
 use Rattle.daggy_base.specs.Path.{Reaches}
 use Rattle.daggy_base.specs.Adding.{next_node, next_edge, with_node, with_edge, with_neighbor}
-use Rattle.daggy_base.specs.Removal.{Kind, without_edge, without_node, without_all_edges}
+use Rattle.daggy_base.specs.Removal.{without_edge, without_node, without_all_edges}
+use Rattle.daggy_base.specs.declared.kind.Kind.{Kind}
 use Rattle.daggy_base.specs.Reduction.{IsReduction}
 use Rattle.daggy_base.specs.Weights.{edge_weight, with_edge_weight}
 use Rattle.daggy_base.specs.Finding.{find_edge}

@@ -6,7 +6,8 @@ use Rattle.daggy_base.specs.declared.index.Direction.{Direction}
 use Rattle.daggy_base.specs.declared.index.Direction.TheVariants.{Outgoing, Incoming}
 use Rattle.daggy_base.specs.Graph.{Graph, bound_of, bound_step, node_bound, list_at, out_list, in_list}
 use Rattle.daggy_base.specs.Adding.{with_slot_filled}
-use Rattle.daggy_base.specs.Removal.{Stable, without_first, without_front, with_node_isolated, without_node}
+use Rattle.daggy_base.specs.Removal.{without_first, without_front, with_node_isolated, without_node}
+use Rattle.daggy_base.specs.declared.kind.Kind.TheVariants.{Stable}
 use Rattle.daggy_base.specs.State.{State, with_graph}
 
 pub taken_filled : {A : Type 0} (xs : List (Option A)) (vacant : List ℕ) (x : Option A)

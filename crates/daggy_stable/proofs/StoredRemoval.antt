@@ -11,7 +11,8 @@ use Rattle.daggy_base.specs.declared.index.Direction.{Direction}
 use Rattle.daggy_base.specs.declared.index.Direction.TheVariants.{Outgoing, Incoming}
 use Rattle.daggy_base.specs.Graph.{Graph, Edge as PlainEdge, slot, edge_at, list_at, near_end}
 use Rattle.daggy_base.specs.Cursor.{first_of}
-use Rattle.daggy_base.specs.Removal.{Stable, without, renamed, without_edge, with_node_dropped, without_all_edges}
+use Rattle.daggy_base.specs.Removal.{without, renamed, without_edge, with_node_dropped, without_all_edges}
+use Rattle.daggy_base.specs.declared.kind.Kind.TheVariants.{Stable}
 use Rattle.daggy_base.specs.TakingBack.{with_edge_taken_back, with_node_taken_back}
 use Rattle.daggy_cells.specs.declared.cell.Node.{Node}
 use Rattle.daggy_cells.specs.declared.cell.Edge.{Edge}

@@ -5,7 +5,8 @@ use Rattle.std.specs.List.{Contains}
 use Rattle.std.proofs.lemmas.Bool.{false≢true}
 use Rattle.daggy_base.specs.Graph.{Graph, Edge, HasNode, edge_at}
 use Rattle.daggy_base.specs.Path.{Reaches}
-use Rattle.daggy_base.specs.Removal.{Compact, without_edges}
+use Rattle.daggy_base.specs.Removal.{without_edges}
+use Rattle.daggy_base.specs.declared.kind.Kind.TheVariants.{Compact}
 use Rattle.daggy_base.specs.Reduction.{IsBelow, ReachesIndirectly, IsRedundant, IsReduction, Covers}
 use Rattle.daggy_base.proofs.Lists.{Mem, contains_mem, mem_contains}
 use Rattle.example_model.specs.Examples.{line, with_lines, shortcuts, doubled_step, turned_triangle}

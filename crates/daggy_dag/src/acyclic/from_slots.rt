@@ -2,7 +2,7 @@
 ghost use Rattle.std.specs.Prelude.{◌≡◌, ◌≤◌, Err, map, IfOk};
 ghost use Rattle.daggy_base.specs.Graph.{edge_count as edge_count_of, IsCompact};
 ghost use Rattle.daggy_base.specs.Path.{IsAcyclic};
-ghost use Rattle.daggy_base.specs.Removal.{Compact};
+ghost use Rattle.daggy_base.specs.declared.kind.Kind.TheVariants.{Compact};
 ghost use Rattle.daggy_base.specs.FromSlots.{graph_of_slots, edges_by, MakeGraph};
 ghost use Rattle.daggy_base.specs.Orders.{AreOrders, with_orders, numbers_of};
 ghost use Rattle.daggy_base.specs.State.{with_graph};

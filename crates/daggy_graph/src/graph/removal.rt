@@ -3,7 +3,8 @@ ghost use Rattle.std.specs.Prelude.{◌≡◌, ℕ, ◌≤◌, length, OnSome, I
 ghost use Rattle.std.specs.Option.{option_map};
 ghost use Rattle.daggy_base.specs.declared.index.Direction.{Direction};
 ghost use Rattle.daggy_base.specs.Graph.{empty, node_weight, edge_at, HasNode, list_at};
-ghost use Rattle.daggy_base.specs.Removal.{Compact, without_edge, without_front, without_node};
+ghost use Rattle.daggy_base.specs.Removal.{without_edge, without_front, without_node};
+ghost use Rattle.daggy_base.specs.declared.kind.Kind.TheVariants.{Compact};
 ghost use Rattle.daggy_base.specs.Removal.{with_node_isolated, with_node_dropped};
 ghost use Rattle.daggy_base.specs.Removal.{without_all_edges};
 ghost use Rattle.daggy_base.specs.WellFormed.{IsIsolated};

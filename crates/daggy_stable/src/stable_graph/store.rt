@@ -16,7 +16,8 @@ ghost use Rattle.daggy_base.specs.Weights.{edge_weight, with_node_weight, with_e
 ghost use Rattle.daggy_base.specs.FromSlots.{graph_of_slots, edges_by, MakeGraph};
 ghost use Rattle.daggy_base.specs.Orders.{numbers_of, with_orders, AreOrders};
 ghost use Rattle.daggy_base.specs.TakingBack.{with_edge_taken_back, with_node_taken_back};
-ghost use Rattle.daggy_base.specs.Removal.{Compact, Stable, without_edge, without_node};
+ghost use Rattle.daggy_base.specs.Removal.{without_edge, without_node};
+ghost use Rattle.daggy_base.specs.declared.kind.Kind.TheVariants.{Compact, Stable};
 ghost use Rattle.daggy_base.specs.Removal.{without_all_edges, with_node_isolated};
 ghost use Rattle.daggy_base.specs.State.{with_graph};
 ghost use Rattle.daggy_stable.specs.Lends.{lends_node, lends_edge};

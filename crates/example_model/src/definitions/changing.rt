@@ -3,7 +3,8 @@ ghost use Rattle.std.specs.Prelude.{◌≡◌, ℕ, List, [], ◌∷◌, Some, N
 ghost use Rattle.daggy_base.specs.declared.index.Direction.TheVariants.{Outgoing, Incoming};
 ghost use Rattle.daggy_base.specs.Graph.{Graph, node_weight, out_list, in_list};
 ghost use Rattle.daggy_base.specs.Adding.{next_node, next_edge, with_node, with_neighbor};
-ghost use Rattle.daggy_base.specs.Removal.{Stable, without_node, without_all_edges};
+ghost use Rattle.daggy_base.specs.Removal.{without_node, without_all_edges};
+ghost use Rattle.daggy_base.specs.declared.kind.Kind.TheVariants.{Stable};
 ghost use Rattle.daggy_base.specs.TakingBack.{with_node_taken_back};
 ghost use Rattle.daggy_base.specs.Weights.{with_node_weight, with_edge_weight, edge_weight};
 ghost use Rattle.example_model.specs.Examples.{line, one_node, pair, fan, diamond};

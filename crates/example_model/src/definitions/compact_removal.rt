@@ -2,7 +2,8 @@
 ghost use Rattle.std.specs.Prelude.{◌≡◌, ℕ, List, [], ◌∷◌, Some, None};
 ghost use Rattle.daggy_base.specs.Graph.{Graph, out_list, in_list, node_count, edge_count};
 ghost use Rattle.daggy_base.specs.Adding.{next_node, next_edge};
-ghost use Rattle.daggy_base.specs.Removal.{Compact, without_edge, without_node, without_edges};
+ghost use Rattle.daggy_base.specs.Removal.{without_edge, without_node, without_edges};
+ghost use Rattle.daggy_base.specs.declared.kind.Kind.TheVariants.{Compact};
 ghost use Rattle.daggy_base.specs.declared.index.Direction.TheVariants.{Outgoing, Incoming};
 ghost use Rattle.example_model.specs.Examples.{line, fan, triangle, turned_triangle, doubled};
 ghost use Rattle.example_model.specs.Examples.{diamond, shortcuts, doubled_step, self_loop};

@@ -1,7 +1,8 @@
 //! Finding an edge between two nodes.
 ghost use Rattle.std.specs.Prelude.{◌≡◌, ℕ, Some, None};
 ghost use Rattle.daggy_base.specs.Finding.{find_edge};
-ghost use Rattle.daggy_base.specs.Removal.{Compact, Stable, without_edge, without_node};
+ghost use Rattle.daggy_base.specs.Removal.{without_edge, without_node};
+ghost use Rattle.daggy_base.specs.declared.kind.Kind.TheVariants.{Compact, Stable};
 ghost use Rattle.example_model.specs.Examples.{fan, pair, doubled, self_loop, triangle};
 
 /// Of several edges of one pair the newest is found.

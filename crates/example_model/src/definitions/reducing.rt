@@ -1,6 +1,7 @@
 //! Redundant edges and reductions.
 ghost use Rattle.std.specs.Prelude.{List, [], ◌∷◌};
-ghost use Rattle.daggy_base.specs.Removal.{Compact, without_edges};
+ghost use Rattle.daggy_base.specs.Removal.{without_edges};
+ghost use Rattle.daggy_base.specs.declared.kind.Kind.TheVariants.{Compact};
 ghost use Rattle.daggy_base.specs.Reduction.{IsReduction, Covers};
 ghost use Rattle.example_model.specs.Examples.{line, with_lines, shortcuts, doubled_step};
 ghost use Rattle.example_model.specs.Examples.{turned_triangle};

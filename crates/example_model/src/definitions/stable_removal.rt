@@ -3,7 +3,8 @@ ghost use Rattle.std.specs.Prelude.{◌≡◌, ℕ, List, [], ◌∷◌, Some, N
 ghost use Rattle.daggy_base.specs.Graph.{Graph, node_weight, edge_at, out_list, in_list};
 ghost use Rattle.daggy_base.specs.Graph.{node_count, edge_count, node_bound, edge_bound};
 ghost use Rattle.daggy_base.specs.Adding.{next_node, next_edge, with_node, with_edge};
-ghost use Rattle.daggy_base.specs.Removal.{Stable, without_edge, without_node, without_edges};
+ghost use Rattle.daggy_base.specs.Removal.{without_edge, without_node, without_edges};
+ghost use Rattle.daggy_base.specs.declared.kind.Kind.TheVariants.{Stable};
 ghost use Rattle.daggy_base.specs.TakingBack.{with_edge_taken_back};
 ghost use Rattle.example_model.specs.Examples.{line, fan, triangle, diamond, chain};
 ghost use Rattle.example_model.specs.Examples.{two_children, with_lines, with_nodes};

@@ -3,7 +3,8 @@ ghost use Rattle.std.specs.Prelude.{◌≡◌, ℕ, List, [], ◌∷◌, Some, N
 ghost use Rattle.daggy_base.specs.declared.index.Direction.TheVariants.{Outgoing, Incoming};
 ghost use Rattle.daggy_base.specs.Graph.{out_list, in_list};
 ghost use Rattle.daggy_base.specs.Adding.{with_edge};
-ghost use Rattle.daggy_base.specs.Removal.{Compact, Stable, without_edge, without_edges};
+ghost use Rattle.daggy_base.specs.Removal.{without_edge, without_edges};
+ghost use Rattle.daggy_base.specs.declared.kind.Kind.TheVariants.{Compact, Stable};
 ghost use Rattle.daggy_base.specs.Cursor.{first_of, IsWalkStep};
 ghost use Rattle.daggy_base.specs.Look.{IsLook};
 ghost use Rattle.example_model.specs.Examples.{end, fan, triangle, shortcuts, two_children};

@@ -1,7 +1,8 @@
 use Rattle.std.proofs.Common.{◌≡◌, ◌↔◌, ℕ, List, map, take, reverse, Option, sym, ap, subst, ◌∙◌}
 use Rattle.std.proofs.Common.{Contains, IsSome}
 use Rattle.daggy_base.specs.Graph.{Graph, Edge, HasEdge}
-use Rattle.daggy_base.specs.Removal.{Kind, without_edges}
+use Rattle.daggy_base.specs.Removal.{without_edges}
+use Rattle.daggy_base.specs.declared.kind.Kind.{Kind}
 use Rattle.daggy_base.specs.Reduction.{IsReduction, IsRedundant}
 use Rattle.daggy_order.proofs.OrderLaws.{acyclic_from_order}
 use Rattle.daggy_reduction.specs.Comparison.{IsAscending}

@@ -1,7 +1,7 @@
 use Rattle.std.proofs.Common.{◌≡◌, is_some, true, sym, ap, subst, ◌∙◌, arith}
 use Rattle.std.proofs.lemmas.Bool.{false≢true}
 use Rattle.daggy_base.specs.Graph.{slot, HasEdge}
-use Rattle.daggy_base.specs.Removal.{Compact}
+use Rattle.daggy_base.specs.declared.kind.Kind.TheVariants.{Compact}
 use Rattle.daggy_base.proofs.FullSlots.{IsFull, full_from}
 use Rattle.daggy_dag.specs.Slots.{next_slot}
 use Rattle.daggy_dag.proofs.NextSlots.{next_passed, next_there, next_behind}

@@ -1,5 +1,5 @@
 use Rattle.std.proofs.Common.{◌≡◌, ◌-◌}
-use Rattle.daggy_base.specs.Removal.{Stable}
+use Rattle.daggy_base.specs.declared.kind.Kind.TheVariants.{Stable}
 use Rattle.daggy_dag.specs.Slots.{next_slot}
 use Rattle.daggy_dag.proofs.acyclic.Acyclic.node_from.Given as goal
 

@@ -1,6 +1,7 @@
 use Rattle.std.proofs.Common.{◌≡◌, OnSome, subst, arith}
 use Rattle.daggy_base.specs.State.{State}
-use Rattle.daggy_base.specs.Removal.{Kind, KeepsIndices, without_edge}
+use Rattle.daggy_base.specs.Removal.{KeepsIndices, without_edge}
+use Rattle.daggy_base.specs.declared.kind.Kind.{Kind}
 use Rattle.daggy_base.proofs.IndicesKept.{keeps_edge_gone}
 use Rattle.daggy_order.proofs.OrderLaws.{acyclic_from_order}
 use Rattle.daggy_dag.proofs.acyclic.Acyclic.remove_edge.Goals as goal

@@ -1,6 +1,7 @@
 use Rattle.std.proofs.Common.{◌≡◌, OnSome, subst}
 use Rattle.daggy_base.specs.State.{State}
-use Rattle.daggy_base.specs.Removal.{Kind, KeepsIndices, without_node}
+use Rattle.daggy_base.specs.Removal.{KeepsIndices, without_node}
+use Rattle.daggy_base.specs.declared.kind.Kind.{Kind}
 use Rattle.daggy_base.proofs.IndicesKept.{keeps_node_gone}
 use Rattle.daggy_dag.proofs.acyclic.Acyclic.remove_node.Goals as goal
 

@@ -2,7 +2,8 @@ use Rattle.std.proofs.Common.{◌≡◌, List, ℕ, map, ap, subst, OnOk}
 use Rattle.daggy_base.specs.Graph.{Graph}
 use Rattle.daggy_base.specs.State.{State}
 use Rattle.daggy_base.specs.Path.{IsAcyclic}
-use Rattle.daggy_base.specs.Removal.{Stable, KeepsIndices}
+use Rattle.daggy_base.specs.Removal.{KeepsIndices}
+use Rattle.daggy_base.specs.declared.kind.Kind.TheVariants.{Stable}
 use Rattle.daggy_base.specs.Reduction.{IsReduction}
 use Rattle.daggy_reduction.specs.Comparison.{HaveSameReachability, JoinsCovers, JoinsOthers, IsLeast, IsCanonical}
 use Rattle.daggy_reduction.proofs.Laws.{law_reachability, law_covers, law_others, law_least, law_none, law_canonical}

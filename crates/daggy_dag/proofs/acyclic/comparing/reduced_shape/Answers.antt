@@ -1,6 +1,6 @@
 use Rattle.std.proofs.Common.{◌<◌, ℕ, map, refl, sym, subst, arith}
 use Rattle.daggy_base.specs.Graph.{Graph, node_count}
-use Rattle.daggy_base.specs.Removal.{Compact}
+use Rattle.daggy_base.specs.declared.kind.Kind.TheVariants.{Compact}
 use Rattle.daggy_base.specs.Reduction.{IsReduction}
 use Rattle.daggy_reduction.proofs.Shapes.{all_reached}
 use Rattle.daggy_dag.proofs.Mapped.{nodes_mapped, reach_mapped}

@@ -1,5 +1,5 @@
 use Rattle.std.proofs.Common.{not, refl, ap, ◌∙◌}
-use Rattle.daggy_base.specs.Removal.{Compact}
+use Rattle.daggy_base.specs.declared.kind.Kind.TheVariants.{Compact}
 use Rattle.daggy_cells.proofs.IsolatedNode.{clearing_step, clearing_done}
 use Rattle.daggy_graph.proofs.graph.DiGraph.clear_front.Goals as goal
 

@@ -1,6 +1,6 @@
 use Rattle.std.proofs.Common.{length}
 use Rattle.daggy_base.specs.Graph.{list_at}
-use Rattle.daggy_base.specs.Removal.{Compact}
+use Rattle.daggy_base.specs.declared.kind.Kind.TheVariants.{Compact}
 use Rattle.daggy_cells.proofs.IsolatedNode.{IsClearing}
 use Rattle.daggy_graph.proofs.graph.DiGraph.clear_front.Given as goal
 

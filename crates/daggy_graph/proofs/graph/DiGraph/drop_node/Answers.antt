@@ -5,7 +5,8 @@ use Rattle.std.specs.List.{swap_remove}
 use Rattle.daggy_base.specs.declared.index.Direction.{Direction}
 use Rattle.daggy_base.specs.declared.index.Direction.TheVariants.{Outgoing, Incoming}
 use Rattle.daggy_base.specs.Graph.{node_weight}
-use Rattle.daggy_base.specs.Removal.{Compact, with_node_dropped}
+use Rattle.daggy_base.specs.Removal.{with_node_dropped}
+use Rattle.daggy_base.specs.declared.kind.Kind.TheVariants.{Compact}
 use Rattle.daggy_cells.specs.Links.{nth_list}
 use Rattle.daggy_cells.specs.Fields.{lists_at, with_end_renamed}
 use Rattle.daggy_graph.specs.Stored.{stored_graph}

@@ -3,7 +3,8 @@ use Rattle.std.specs.List.{swap_remove}
 use Rattle.std.specs.Option.{option_map}
 use Rattle.std.proofs.lemmas.List.{length-map}
 use Rattle.daggy_base.specs.Graph.{edge_at, slot}
-use Rattle.daggy_base.specs.Removal.{Compact, without_edge}
+use Rattle.daggy_base.specs.Removal.{without_edge}
+use Rattle.daggy_base.specs.declared.kind.Kind.TheVariants.{Compact}
 use Rattle.daggy_cells.specs.Fields.{plain, plain_edge}
 use Rattle.daggy_graph.specs.Stored.{stored_graph, Stores}
 use Rattle.daggy_cells.proofs.States.{state_changed}

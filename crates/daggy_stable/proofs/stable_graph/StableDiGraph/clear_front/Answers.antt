@@ -1,5 +1,5 @@
 use Rattle.std.proofs.Common.{not, refl, ap, ◌∙◌}
-use Rattle.daggy_base.specs.Removal.{Stable}
+use Rattle.daggy_base.specs.declared.kind.Kind.TheVariants.{Stable}
 use Rattle.daggy_cells.proofs.IsolatedNode.{clearing_step, clearing_done}
 use Rattle.daggy_stable.proofs.stable_graph.StableDiGraph.clear_front.Goals as goal
 

@@ -1,6 +1,6 @@
 use Rattle.std.proofs.Common.{length}
 use Rattle.daggy_base.specs.Graph.{list_at}
-use Rattle.daggy_base.specs.Removal.{Stable}
+use Rattle.daggy_base.specs.declared.kind.Kind.TheVariants.{Stable}
 use Rattle.daggy_cells.proofs.IsolatedNode.{IsClearing}
 use Rattle.daggy_stable.proofs.stable_graph.StableDiGraph.clear_front.Given as goal
 

@@ -1,7 +1,8 @@
 use Rattle.std.proofs.Common.{ap, ◌∙◌, arith}
 use Rattle.std.specs.Option.{option_map}
 use Rattle.daggy_base.specs.Graph.{edge_at}
-use Rattle.daggy_base.specs.Removal.{Stable, without_edge}
+use Rattle.daggy_base.specs.Removal.{without_edge}
+use Rattle.daggy_base.specs.declared.kind.Kind.TheVariants.{Stable}
 use Rattle.daggy_cells.proofs.States.{state_changed}
 use Rattle.daggy_stable.specs.Stored.{stored_graph}
 use Rattle.daggy_stable.proofs.Stores.{stored_is, Stores-itself}

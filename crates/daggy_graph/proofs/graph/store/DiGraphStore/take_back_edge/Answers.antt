@@ -1,6 +1,7 @@
 use Rattle.std.proofs.Common.{rules, ◌≡◌, true, ap, sym, ◌∙◌, refl}
 use Rattle.daggy_base.specs.State.{with_graph}
-use Rattle.daggy_base.specs.Removal.{Compact, without_edge}
+use Rattle.daggy_base.specs.Removal.{without_edge}
+use Rattle.daggy_base.specs.declared.kind.Kind.TheVariants.{Compact}
 use Rattle.daggy_base.specs.TakingBack.{with_edge_taken_back}
 use Rattle.daggy_base.proofs.EdgeTakenBack.{last_removed}
 use Rattle.daggy_graph.proofs.graph.store.DiGraphStore.take_back_edge.Goals as goal
