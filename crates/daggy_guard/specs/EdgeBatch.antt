@@ -4,7 +4,7 @@ use Rattle.std.specs.Prelude.{Result, Ok, Err}
 use Rattle.std.specs.Iterator.{Yields, Drains}
 use Rattle.daggy_base.specs.Graph.{Graph, HasNode, edge_count}
 use Rattle.daggy_base.specs.Path.{Reaches, IsAcyclic}
-use Rattle.daggy_base.specs.Adding.{NewEdge, with_edge, next_edge}
+use Rattle.daggy_base.specs.Adding.{NewEdge, by_numbers, with_edge, next_edge}
 use Rattle.daggy_base.specs.declared.error.EdgesError.{EdgesError}
 use Rattle.daggy_base.specs.declared.error.EdgesError.TheVariants.{BadEndpoint, Full, Memory, WouldCycle}
 

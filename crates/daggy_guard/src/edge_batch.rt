@@ -264,6 +264,7 @@ fn add_all<
     ensures counted { S.looks store.new
         ≤ S.looks store.old + most_looks (S.graph store.old) result }
 {
+    store.invariant();
     let alloc = scratch.allocator();
     let slot_count = store.edge_slots();
     let mut edges = Vec::new(alloc);

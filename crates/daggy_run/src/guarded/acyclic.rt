@@ -78,34 +78,21 @@ where
     }
 
     #[inline]
-    fn can_add_node(&self) -> bool
-        ensures value { IsTrue result ↔ (node_count_of self.now.graph < Ix.greatest) }
-        ensures dag { IsDag Ix.greatest self.now.graph }
-    {
+    fn can_add_node(&self) -> bool {
         // Called only for its postcondition: there is no cycle.
         let _dag = self.node_count();
         self.can_add_node()
     }
 
     #[inline]
-    fn can_add_edge(&self) -> bool
-        ensures value { IsTrue result ↔ (edge_count_of self.now.graph < Ix.greatest) }
-        ensures dag { IsDag Ix.greatest self.now.graph }
-    {
+    fn can_add_edge(&self) -> bool {
         // Called only for its postcondition: there is no cycle.
         let _dag = self.node_count();
         self.can_add_edge()
     }
 
     #[inline]
-    fn add_node(&mut self, weight: N) -> Result<NodeIndex<Ix>, NodeError<N>>
-        requires { node_count_of self.old.graph < Ix.greatest }
-        ensures added { IfOk result (λ n. (Ix.number n ≡ next_node self.old.graph)
-            × (self.new.graph ≡ with_node self.old.graph weight)) }
-        ensures refusal { IfErr result (λ e. e ≡ NodeMemory weight) }
-        ensures unchanged { OnErr result (self.new.graph ≡ self.old.graph) }
-        ensures acyclic { IsAcyclic self.new.graph }
-    {
+    fn add_node(&mut self, weight: N) -> Result<NodeIndex<Ix>, NodeError<N>> {
         self.add_node(weight)
     }
 
@@ -270,18 +257,12 @@ where
     }
 
     #[inline]
-    fn clear_edges(&mut self)
-        ensures cleared { self.new.graph ≡ without_all_edges self.old.graph }
-        ensures acyclic { IsAcyclic self.new.graph }
-    {
+    fn clear_edges(&mut self) {
         self.clear_edges();
     }
 
     #[inline]
-    fn clear(&mut self)
-        ensures cleared { self.new.graph ≡ empty }
-        ensures acyclic { IsAcyclic self.new.graph }
-    {
+    fn clear(&mut self) {
         self.clear();
     }
 
@@ -296,11 +277,7 @@ where
     }
 
     #[inline]
-    fn node_bound(&self) -> usize
-        ensures value { result ≡ node_bound_of self.now.graph }
-        ensures fits { node_bound_of self.now.graph ≤ Ix.greatest }
-        ensures dag { IsDag Ix.greatest self.now.graph }
-    {
+    fn node_bound(&self) -> usize {
         // Called only for its postcondition: there is no cycle.
         let _dag = self.node_count();
         NodeIndexable::node_bound(self)
@@ -326,10 +303,7 @@ where
     }
 
     #[inline]
-    fn topological_order(&self) -> TopologicalOrder<'_, Ix>
-        ensures ordered { IsOrderOf self.now.graph result }
-        ensures fits { length result < 2 ^ 64 }
-    {
+    fn topological_order(&self) -> TopologicalOrder<'_, Ix> {
         self.topological_order()
     }
 }

@@ -6,6 +6,7 @@ ghost use Rattle.daggy_base.specs.Rewriting.{RewritesNodes, RewritesEdges};
 
 use crate::acyclic::Acyclic;
 use daggy_base::index::{EdgeIndex, IndexType, NodeIndex};
+use daggy_base::store::Store;
 use daggy_graph::graph::DiGraph;
 
 impl<N: Drop, E: Drop, Ix: IndexType> Acyclic<N, E, Ix, DiGraph<N, E, Ix>> {
