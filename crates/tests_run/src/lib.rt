@@ -6,4 +6,6 @@ mod commands;
 #[cfg(test)]
 mod documents;
 #[cfg(test)]
+mod examples;
+#[cfg(test)]
 mod readme;

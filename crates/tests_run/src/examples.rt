@@ -1,0 +1,101 @@
+//! The examples in the docs of the dag's calls. `.ci/checks/examples.sh` compares the texts.
+
+use daggy::{Dag, EdgeError, StableDag, Walker, WouldCycle};
+use std::test::Fail;
+
+#[test]
+fn add_edge(rt: HostRuntime) -> Result<(), Fail> {
+    let mut dag: Dag<&'static str, u32> = Dag::new(rt.alloc());
+    let sow = dag.add_node("sow")?;
+    let reap = dag.add_node("reap")?;
+    let days = dag.add_edge(sow, reap, 90)?;
+    assert!(rt; dag.edge_weight(days) == Some(&90));
+    // It would close a cycle, so the weight comes back.
+    assert!(rt; dag.add_edge(reap, sow, 5) == Err(EdgeError::WouldCycle(WouldCycle(5))));
+    Ok(())
+}
+
+#[test]
+fn update_edge(rt: HostRuntime) -> Result<(), Fail> {
+    let mut dag: Dag<&'static str, u32> = Dag::new(rt.alloc());
+    let sow = dag.add_node("sow")?;
+    let (days, reap) = dag.add_child(sow, 90, "reap")?;
+    assert!(rt; dag.update_edge(sow, reap, 80) == Ok(days));
+    assert!(rt; dag.edge_weight(days) == Some(&80));
+    Ok(())
+}
+
+#[test]
+fn add_child(rt: HostRuntime) -> Result<(), Fail> {
+    let mut dag: Dag<&'static str, u32> = Dag::new(rt.alloc());
+    let sow = dag.add_node("sow")?;
+    let (days, reap) = dag.add_child(sow, 90, "reap")?;
+    assert!(rt; dag.edge_endpoints(days) == Some((sow, reap)));
+    Ok(())
+}
+
+#[test]
+fn remove_node(rt: HostRuntime) -> Result<(), Fail> {
+    let mut dag: Dag<&'static str, u32> = Dag::new(rt.alloc());
+    let sow = dag.add_node("sow")?;
+    let (days, reap) = dag.add_child(sow, 90, "reap")?;
+    assert!(rt; dag.remove_node(sow) == Some("sow"));
+    assert!(rt; dag.edge_weight(days).is_none());
+    // The last node has its index now.
+    assert!(rt; dag.node_weight(sow) == Some(&"reap"));
+    assert!(rt; !dag.contains_node(reap));
+    Ok(())
+}
+
+#[test]
+fn stable_dag(rt: HostRuntime) -> Result<(), Fail> {
+    let mut dag: StableDag<&'static str, u32> = StableDag::new(rt.alloc());
+    let sow = dag.add_node("sow")?;
+    let (days, reap) = dag.add_child(sow, 90, "reap")?;
+    assert!(rt; dag.remove_node(sow) == Some("sow"));
+    assert!(rt; dag.edge_weight(days).is_none());
+    assert!(rt; dag.node_weight(reap) == Some(&"reap"));
+    Ok(())
+}
+
+#[test]
+fn children(rt: HostRuntime) -> Result<(), Fail> {
+    let mut dag: Dag<&'static str, u32> = Dag::new(rt.alloc());
+    let sow = dag.add_node("sow")?;
+    let (days, reap) = dag.add_child(sow, 90, "reap")?;
+    let mut walker = dag.children(sow);
+    assert!(rt; walker.walk_next(&dag) == Some((days, reap)));
+    // The dag is borrowed for a step only, so it can change between two.
+    let (_, mow) = dag.add_child(sow, 30, "mow")?;
+    assert!(rt; walker.walk_next(&dag).is_none());
+    assert!(rt; dag.parents(mow).walk_next(&dag).is_some());
+    Ok(())
+}
+
+#[test]
+fn topological_order(rt: HostRuntime) -> Result<(), Fail> {
+    let mut dag: Dag<&'static str, u32> = Dag::new(rt.alloc());
+    let reap = dag.add_node("reap")?;
+    let (_, sow) = dag.add_parent(reap, 90, "sow")?;
+    let mut order = dag.topological_order();
+    assert!(rt; order.next() == Some(sow));
+    assert!(rt; order.next() == Some(reap));
+    assert!(rt; order.next().is_none());
+    Ok(())
+}
+
+#[test]
+fn transitive_reduce(rt: HostRuntime) -> Result<(), Fail> {
+    let mut dag: Dag<&'static str, u32> = Dag::new(rt.alloc());
+    let sow = dag.add_node("sow")?;
+    let (_, hoe) = dag.add_child(sow, 30, "hoe")?;
+    let (_, reap) = dag.add_child(hoe, 60, "reap")?;
+    let _days = dag.add_edge(sow, reap, 90)?;
+    let mut roots = Vec::new(rt.alloc());
+    roots.push(sow)?;
+    dag.transitive_reduce(roots)?;
+    // By way of `hoe` the way is longer.
+    assert!(rt; dag.find_edge(sow, reap).is_none());
+    assert!(rt; dag.edge_count() == 2);
+    Ok(())
+}
