@@ -3,7 +3,8 @@ use crate::commands::support::{
     Ask, Get, Row, Scene, add_nodes, both, compact, e, n, play, same, stable,
 };
 use daggy_base::index::EdgeIndex;
-use daggy_run::guarded::{GuardedDag, Kind};
+use daggy_base::kind::Kind;
+use daggy_run::guarded::GuardedDag;
 use std::alloc::Global;
 use std::process::Abort;
 

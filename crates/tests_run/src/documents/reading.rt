@@ -3,8 +3,8 @@ use crate::documents::support::{
     REORDERED, Small, SmallStable, VACANT, edge, holds, is_written, is_written_stable, made, node,
     value_of, weight,
 };
-use daggy_json::error::ReadError;
 use daggy_json::documents::{dag_from_json, stable_from_json};
+use daggy_json::error::ReadError;
 use daggy_walk::walker::Walker;
 use serde_json::Value;
 use std::alloc::{AllocError, Global};

@@ -3,8 +3,8 @@ use crate::documents::support::{
     REORDERED, Small, SmallStable, VACANT, dag_of, edge, holds, is_written, is_written_stable,
     node, number,
 };
-use daggy_json::error::{ReadError, WriteError};
 use daggy_json::documents::dag_to_json;
+use daggy_json::error::{ReadError, WriteError};
 use serde_json::Value;
 use std::alloc::AllocError;
 
