@@ -87,6 +87,17 @@ pub type Dag<N, E, Ix = DefaultIx> = Acyclic<N, E, Ix, DiGraph<N, E, Ix>>;
 ///
 /// Nodes and edges are stored in slots. A removal vacates a slot and changes no other index; the
 /// slot vacated last is reused first. If indices need not last, [`Dag`] is more compact.
+///
+/// # Examples
+///
+/// ```
+/// let mut dag: StableDag<&'static str, u32> = StableDag::new(rt.alloc());
+/// let sow = dag.add_node("sow")?;
+/// let (days, reap) = dag.add_child(sow, 90, "reap")?;
+/// assert!(rt; dag.remove_node(sow) == Some("sow"));
+/// assert!(rt; dag.edge_weight(days).is_none());
+/// assert!(rt; dag.node_weight(reap) == Some(&"reap"));
+/// ```
 pub type StableDag<N, E, Ix = DefaultIx> = Acyclic<N, E, Ix, StableDiGraph<N, E, Ix>>;
 
 impl<N, E, Ix: IndexType, S> Model for Acyclic<N, E, Ix, S>
@@ -241,6 +252,18 @@ where
     /// O(1) if `a` precedes `b` in the dag's order, or if `a` has fewer than four parents and all
     /// of them precede `b`, as when `a` was just added. Otherwise a search from `b` that stays
     /// before `a` in the order.
+    ///
+    /// # Examples
+    ///
+    /// ```
+    /// let mut dag: Dag<&'static str, u32> = Dag::new(rt.alloc());
+    /// let sow = dag.add_node("sow")?;
+    /// let reap = dag.add_node("reap")?;
+    /// let days = dag.add_edge(sow, reap, 90)?;
+    /// assert!(rt; dag.edge_weight(days) == Some(&90));
+    /// // It would close a cycle, so the weight comes back.
+    /// assert!(rt; dag.add_edge(reap, sow, 5) == Err(EdgeError::WouldCycle(WouldCycle(5))));
+    /// ```
     #[inline]
     pub fn add_edge(
         &mut self,
@@ -281,6 +304,16 @@ where
     /// index of that edge.
     ///
     /// If there is such an edge the call cannot fail, and the old weight is dropped.
+    ///
+    /// # Examples
+    ///
+    /// ```
+    /// let mut dag: Dag<&'static str, u32> = Dag::new(rt.alloc());
+    /// let sow = dag.add_node("sow")?;
+    /// let (days, reap) = dag.add_child(sow, 90, "reap")?;
+    /// assert!(rt; dag.update_edge(sow, reap, 80) == Ok(days));
+    /// assert!(rt; dag.edge_weight(days) == Some(&80));
+    /// ```
     pub fn update_edge(
         &mut self,
         a: NodeIndex<Ix>,
@@ -326,6 +359,15 @@ where
     /// # Errors
     ///
     /// `ChildError::Memory` with both weights if an allocation fails; the dag is unchanged.
+    ///
+    /// # Examples
+    ///
+    /// ```
+    /// let mut dag: Dag<&'static str, u32> = Dag::new(rt.alloc());
+    /// let sow = dag.add_node("sow")?;
+    /// let (days, reap) = dag.add_child(sow, 90, "reap")?;
+    /// assert!(rt; dag.edge_endpoints(days) == Some((sow, reap)));
+    /// ```
     #[inline]
     pub fn add_child(
         &mut self,
@@ -412,6 +454,19 @@ where
     /// [`remove_edge`](Acyclic::remove_edge) removes it. In a [`Dag`] the node with the last index
     /// then gets the index of this node. In a [`StableDag`] no other index changes, and the next
     /// node that is added gets this one.
+    ///
+    /// # Examples
+    ///
+    /// ```
+    /// let mut dag: Dag<&'static str, u32> = Dag::new(rt.alloc());
+    /// let sow = dag.add_node("sow")?;
+    /// let (days, reap) = dag.add_child(sow, 90, "reap")?;
+    /// assert!(rt; dag.remove_node(sow) == Some("sow"));
+    /// assert!(rt; dag.edge_weight(days).is_none());
+    /// // The last node has its index now.
+    /// assert!(rt; dag.node_weight(sow) == Some(&"reap"));
+    /// assert!(rt; !dag.contains_node(reap));
+    /// ```
     pub fn remove_node(&mut self, n: NodeIndex<Ix>) -> Option<N>
         ensures value { result ≡ weight_at self.old.graph (Ix.number n) }
         ensures removed { OnSome result
@@ -441,6 +496,20 @@ where
     }
 
     /// A walker over the children of a node, newest edge first. Empty if the node does not exist.
+    ///
+    /// # Examples
+    ///
+    /// ```
+    /// let mut dag: Dag<&'static str, u32> = Dag::new(rt.alloc());
+    /// let sow = dag.add_node("sow")?;
+    /// let (days, reap) = dag.add_child(sow, 90, "reap")?;
+    /// let mut walker = dag.children(sow);
+    /// assert!(rt; walker.walk_next(&dag) == Some((days, reap)));
+    /// // The dag is borrowed for a step only, so it can change between two.
+    /// let (_, mow) = dag.add_child(sow, 30, "mow")?;
+    /// assert!(rt; walker.walk_next(&dag).is_none());
+    /// assert!(rt; dag.parents(mow).walk_next(&dag).is_some());
+    /// ```
     #[inline]
     pub fn children(&self, n: NodeIndex<Ix>) -> Children<N, E, Ix>
         ensures first { Ix.number result

@@ -34,6 +34,22 @@ where
     ///
     /// One search for each node that the roots reach, and the removals. The search from a node
     /// stays before its last child in the dag's order.
+    ///
+    /// # Examples
+    ///
+    /// ```
+    /// let mut dag: Dag<&'static str, u32> = Dag::new(rt.alloc());
+    /// let sow = dag.add_node("sow")?;
+    /// let (_, hoe) = dag.add_child(sow, 30, "hoe")?;
+    /// let (_, reap) = dag.add_child(hoe, 60, "reap")?;
+    /// let _days = dag.add_edge(sow, reap, 90)?;
+    /// let mut roots = Vec::new(rt.alloc());
+    /// roots.push(sow)?;
+    /// dag.transitive_reduce(roots)?;
+    /// // By way of `hoe` the way is longer.
+    /// assert!(rt; dag.find_edge(sow, reap).is_none());
+    /// assert!(rt; dag.edge_count() == 2);
+    /// ```
     pub fn transitive_reduce(&mut self, roots: Vec<NodeIndex<Ix>>) -> Result<(), AllocError>
         ensures reduced { OnOk result
             (IsReduction S.KIND (map Ix.number roots.items) self.old.graph self.new.graph) }

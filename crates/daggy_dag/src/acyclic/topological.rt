@@ -38,6 +38,18 @@ where
     /// children. It is the order that the dag keeps, so nothing is searched or sorted.
     ///
     /// Adding a node or an edge may change the order.
+    ///
+    /// # Examples
+    ///
+    /// ```
+    /// let mut dag: Dag<&'static str, u32> = Dag::new(rt.alloc());
+    /// let reap = dag.add_node("reap")?;
+    /// let (_, sow) = dag.add_parent(reap, 90, "sow")?;
+    /// let mut order = dag.topological_order();
+    /// assert!(rt; order.next() == Some(sow));
+    /// assert!(rt; order.next() == Some(reap));
+    /// assert!(rt; order.next().is_none());
+    /// ```
     #[inline]
     pub fn topological_order(&self) -> TopologicalOrder<'_, Ix>
         ensures ordered { IsOrderOf self.now.graph result }

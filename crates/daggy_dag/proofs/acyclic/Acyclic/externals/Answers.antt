@@ -6,4 +6,4 @@ pub returns-clause-fits : goal.returns-clause-fits
 returns-clause-fits g c =
     let graph = g.S.EdgeSource.graph c.self.inside.store in
     let slots = c.node_slots-slots in
-    omega (arith, few c.args.dir graph, slots.ensures.value, slots.type_inv)
+    omega (arith, few c.args.dir graph, slots.ensures, slots.type_inv)
