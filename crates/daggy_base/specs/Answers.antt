@@ -1,4 +1,4 @@
--- What replies say, with each index as its number and each `Vec` as its list.
+-- Replies, with each index as its number and each `Vec` as its list.
 use Rattle.std.specs.Prelude.{ℕ, Option, List, map}
 use Rattle.std.specs.Option.{option_map}
 use Rattle.daggy_base.specs.Graph.{pair_of}
@@ -7,8 +7,8 @@ use Rattle.daggy_base.specs.declared.command.Back.TheVariants as back
 use Rattle.daggy_base.specs.declared.command.Reply.{Reply}
 use Rattle.daggy_base.specs.declared.command.Reply.TheVariants as reply
 
--- the weights that are returned: none, a node's, an edge's, both, or those of the edge at fault and of the edges
--- before it, the last one first
+-- the weights that are returned: none, a node's, an edge's, both, or those of the invalid edge and of the edges before
+-- it, the last one first
 pub data Weights (N E : Type 0) : Type 0 where
   OfNothing : Weights N E
   OfNode : N → Weights N E
@@ -16,7 +16,7 @@ pub data Weights (N E : Type 0) : Type 0 where
   OfEdgeNode : E → N → Weights N E
   OfEdges : (last : E) (before : List E) → Weights N E
 
--- what a reply returns, by plain values
+-- the weights that a reply returns
 abbrev pub weights_of : {N E : Type 0} → Back N E → Weights N E
 weights_of back.Nothing = OfNothing
 weights_of (back.Node weight) = OfNode weight
@@ -24,7 +24,7 @@ weights_of (back.Edge weight) = OfEdge weight
 weights_of (back.EdgeNode edge node) = OfEdgeNode edge node
 weights_of (back.Edges last before) = OfEdges last before.items
 
--- a reply by plain values
+-- a reply as a plain value
 pub data Answer (N E : Type 0) : Type 0 where
   -- what was added
   Node : ℕ → Answer N E
@@ -36,17 +36,17 @@ pub data Answer (N E : Type 0) : Type 0 where
   Ends : Option (ℕ × ℕ) → Answer N E
   NodeGone : Option N → Answer N E
   EdgeGone : Option E → Answer N E
-  -- edges with their far ends
+  -- edges with their far endpoints
   Walk : List (ℕ × ℕ) → Answer N E
   Done : Answer N E
-  -- refusals: a node is missing, no index is left, an edge or many edges would close a cycle, there was no memory
+  -- refusals: a node is missing, no index is left, one edge or many would close a cycle, an allocation failed
   Missing : Weights N E → Answer N E
   Full : Weights N E → Answer N E
   Cycle : E → Answer N E
   CycleAll : List E → Answer N E
   Memory : Weights N E → Answer N E
 
--- what a reply says
+-- a reply as an answer
 abbrev pub answer_of : {I N E : Type 0} → (number : I → ℕ) → Reply N E I → Answer N E
 answer_of number (reply.Node n) = Node (number n)
 answer_of number (reply.Edge e) = Edge (number e)

@@ -1,7 +1,7 @@
--- For how many nodes and edges memory was taken before.
+-- For how many nodes and edges memory is reserved.
 use Rattle.std.specs.Prelude.{ℕ}
 
--- so many nodes, and so many edges
+-- a number of nodes and a number of edges
 pub record Capacity : Type 0 where
   pub nodes : ℕ
   pub edges : ℕ

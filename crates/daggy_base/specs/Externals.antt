@@ -8,6 +8,6 @@ use Rattle.daggy_base.specs.Graph.{Graph, node_weight, list_at}
 abbrev pub is_external : {N E : Type 0} → Direction → Graph N E → ℕ → Bool
 is_external dir g n = is_some (node_weight g n) && (length (list_at dir g n) == 0)
 
--- those nodes from the index i on, by ascending index
+-- those nodes from the index i on, in ascending order
 abbrev pub externals_from : {N E : Type 0} → Direction → Graph N E → ℕ → List ℕ
 externals_from dir g i = filter (is_external dir g) (range_with_len i (length g.nodes - i))

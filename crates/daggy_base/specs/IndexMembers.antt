@@ -2,7 +2,7 @@
 use Rattle.std.specs.Prelude.{◌≡◌, ℕ, Bool, List, Option}
 use Rattle.std.specs.declared.cmp.Ordering.{Ordering}
 
--- what a clause has as Ix.IndexType
+-- the members that a clause calls Ix.IndexType
 abbrev pub IndexMembers : Type 0 → Type 0
 IndexMembers Ix =
     record {

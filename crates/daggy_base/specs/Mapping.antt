@@ -1,17 +1,17 @@
--- What mapping the weights makes of a graph.
+-- The graph after its weights are mapped.
 use Rattle.std.specs.Prelude.{◌≡◌, ℕ, ◌+◌, Option, Some, None, List, [], ◌∷◌}
 use Rattle.std.specs.Borrow.{Bor}
 use Rattle.daggy_base.specs.Graph.{Graph, Edge}
 
--- step says what a call of a closure may give and leave, and of gives the index of a number
+-- step says what a call of a closure may return and leave, and of is the index with a number
 module _ {F I W V : Type 0} (step : F → I → Bor W → V → F → Type 0) (of : ℕ → I) where
-  -- f was called at an index and a `&` to the weight w, gave v, and was then next
+  -- f was called with an index and a `&` to the weight w, returned v, and turned into next
   pub record CalledAt (f : F) (i : ℕ) (w : W) (v : V) (next : F) : Type 0 where
     pub shown : Bor W
     pub shows : shown.now ≡ w
     pub called : step f (of i) shown v next
 
-  -- f was called at each slot in turn that is not vacant, from the index i on, and new has what it gave
+  -- f was called for each occupied slot in turn, from the index i on, and new has what it returned
   abbrev pub MapsSlots : {A B : Type 0}
       → (weight : A → W) (with : A → V → B) → F → ℕ → List (Option A) → List (Option B) → Type 0
   MapsSlots weight with f i [] new = new ≡ []
@@ -31,7 +31,7 @@ with_weight x v = record { parent = x.parent; child = x.child; weight = v }
 
 module _ {N E V W F G I : Type 0} (of : ℕ → I) (step_f : F → I → Bor N → V → F → Type 0)
     (step_g : G → I → Bor E → W → G → Type 0) where
-  -- new has the shape of old, and the weights that f and g gave, which were called by ascending index
+  -- new has the shape of old and the weights that f and g returned, called in ascending index order
   pub record IsMapped (f : F) (g : G) (old : Graph N E) (new : Graph V W) : Type 0 where
     pub nodes : MapsSlots step_f of (λ w. w) (λ w v. v) f 0 old.nodes new.nodes
     pub edges : MapsSlots step_g of weight_in with_weight g 0 old.edges new.edges

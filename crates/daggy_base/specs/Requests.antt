@@ -1,34 +1,34 @@
--- What commands ask, with each index as its number and each `Vec` as its list.
+-- Commands, with each index as its number and each `Vec` as its list.
 use Rattle.std.specs.Prelude.{ℕ, List, map}
 use Rattle.daggy_base.specs.Adding.{NewEdge, by_numbers}
 use Rattle.daggy_base.specs.declared.command.Command.{Command}
 use Rattle.daggy_base.specs.declared.command.Command.TheVariants as command
 
--- a command by plain values
+-- a command as a plain value
 pub data Request (N E : Type 0) : Type 0 where
-  -- to add a node; to add an edge; to write the weight of an edge that is there, or to add it
+  -- add a node; add an edge; write the weight of an existing edge, or add one
   Node : N → Request N E
   Edge : NewEdge E → Request N E
   Update : NewEdge E → Request N E
-  -- to add a child, or a parent, of a node: the weight of the edge, then that of the new node
+  -- add a child or a parent of a node: the weight of the edge, then that of the new node
   Child : ℕ → E → N → Request N E
   Parent : ℕ → E → N → Request N E
-  -- to add all edges or none
+  -- add all edges or none
   Edges : List (NewEdge E) → Request N E
-  -- to find an edge between two nodes; to tell the ends of an edge
+  -- find an edge between two nodes; return the endpoints of an edge
   Find : ℕ → ℕ → Request N E
   Ends : ℕ → Request N E
   RemoveNode : ℕ → Request N E
   RemoveEdge : ℕ → Request N E
-  -- to list the children, or the parents, of a node
+  -- list the children or the parents of a node
   Children : ℕ → Request N E
   Parents : ℕ → Request N E
   ClearEdges : Request N E
   Clear : Request N E
-  -- to remove what is redundant below these nodes
+  -- remove the edges that are redundant below these nodes
   Reduce : List ℕ → Request N E
 
--- what a command asks
+-- a command as a request
 abbrev pub request_of : {I N E : Type 0} → (number : I → ℕ) → Command N E I → Request N E
 request_of number (command.Node weight) = Node weight
 request_of number (command.Edge parent child weight) = Edge (by_numbers number (parent, child, weight))

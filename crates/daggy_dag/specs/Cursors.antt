@@ -1,4 +1,4 @@
--- What a cursor over weights to write ends as, once the loan of one weight ends.
+-- A cursor over mutable weights after the borrow of one weight ends.
 use Rattle.std.specs.Prelude.{ℕ, ◌+◌, [], Option}
 use Rattle.std.specs.Borrow.{LendsIf, Fml, RattleType, MutBor}
 use mir.Syntax.{named}
@@ -45,7 +45,7 @@ behind_node c n w = record {
   index = n + 1;
 }
 
--- the same of a cursor over the weights of edges
+-- the same for a cursor over the weights of edges
 abbrev pub behind_edge : {N E Ix S : Type 0} → EdgeWeightsMut N E Ix S → ℕ → E → EdgeWeightsMut N E Ix S
 behind_edge c e w = record {
   dag = record {
@@ -57,8 +57,8 @@ behind_edge c e w = record {
 }
 
 module _ (N E Ix S : RattleType) (m : IndexMembers Ix.Denot) (t : StoreMembers N.Denot E.Denot S.Denot) where
-  -- once the loan of the next node ends, the cursor is behind it and the node has the weight that was left; at `None`
-  -- all is as it was
+  -- when the borrow of the next node ends, the cursor is after it and the node has the weight that was written; at `None`
+  -- nothing changes
   abbrev pub nodes_lend_next :
       MutBor (NodeWeightsMut N.Denot E.Denot Ix.Denot S.Denot) → Option (MutBor N.Denot) → Fml
   nodes_lend_next c r = LendsIf (node_cursor_type N E Ix S m t) N c r (behind_node c.now (next_slot t.KIND c.now.dag.now.graph.nodes c.now.index)) c.now

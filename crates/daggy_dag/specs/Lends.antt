@@ -1,4 +1,4 @@
--- What a dag ends as, where a `&mut` to one of its weights is returned.
+-- A dag after the `&mut` to one of its weights ends.
 use Rattle.std.specs.Prelude.{Option, ℕ}
 use Rattle.std.specs.Borrow.{Lends, LendsIf, Fml, RattleType, MutBor}
 use Rattle.daggy_base.specs.Graph.{Graph}
@@ -8,7 +8,7 @@ use Rattle.daggy_base.specs.Weights.{with_node_weight, with_edge_weight}
 use Rattle.daggy_base.specs.IndexMembers.{IndexMembers}
 use Rattle.daggy_dag.specs.contracts.acyclic.Acyclic.{the_row}
 
--- the members of a store, as a clause has them
+-- the members of a store that clauses name
 abbrev pub StoreMembers : (N E S : Type 0) → Type 0
 StoreMembers N E S =
     record {
@@ -31,12 +31,12 @@ dag_type N E Ix S m t =
 
 module _ (N E Ix S : RattleType) (m : IndexMembers Ix.Denot) (t : StoreMembers N.Denot E.Denot S.Denot)
     (s : MutBor (State N.Denot E.Denot)) (n : Ix.Denot) where
-  -- once the borrow r ends, the node has the last weight written through r
+  -- when the borrow r ends, the node has the last weight written through r
   abbrev pub lends_node : MutBor N.Denot → Fml
   lends_node r =
       Lends (dag_type N E Ix S m t) N s r (λ w. with_graph s.now (with_node_weight s.now.graph (m.number n) w))
 
-  -- the same where r is a reference, and at `None` the graph stays as it is
+  -- the same if r is `Some`; at `None` the graph is unchanged
   abbrev pub lends_node_if : Option (MutBor N.Denot) → Fml
   lends_node_if r =
       LendsIf (dag_type N E Ix S m t) N s r (λ w. with_graph s.now (with_node_weight s.now.graph (m.number n) w)) s.now
@@ -48,7 +48,7 @@ module _ (N E Ix S : RattleType) (m : IndexMembers Ix.Denot) (t : StoreMembers N
   lends_edge r =
       Lends (dag_type N E Ix S m t) E s r (λ w. with_graph s.now (with_edge_weight s.now.graph (m.number e) w))
 
-  -- the same where r is a reference, and at `None` the dag stays as it is
+  -- the same if r is `Some`; at `None` the dag is unchanged
   abbrev pub lends_edge_if : Option (MutBor E.Denot) → Fml
   lends_edge_if r =
       LendsIf (dag_type N E Ix S m t) E s r (λ w. with_graph s.now (with_edge_weight s.now.graph (m.number e) w)) s.now

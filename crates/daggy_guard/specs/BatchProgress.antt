@@ -1,4 +1,4 @@
--- How far a batch of edges has come.
+-- The progress of a batch of edges.
 use Rattle.std.specs.Prelude.{◌≡◌, ℕ, ◌+◌, ◌<◌, ◌≤◌, ◌⊎◌, List, [], length, take, Vec, Result, Ok, Err}
 use Rattle.std.specs.declared.alloc.Global.{Global}
 use Rattle.daggy_base.specs.Graph.{Graph, edge_count}
@@ -16,7 +16,7 @@ use Rattle.daggy_guard.specs.declared.edge_batch.Fault.TheVariants.{BadEndpoint,
 use Rattle.daggy_guard.specs.declared.edge_batch.Standing.{Standing}
 use Rattle.daggy_guard.specs.declared.edge_batch.Standing.TheVariants.{Kept, Spared, Left, Closed}
 
--- now is before with the edges xs, which got these indices; slot_count is how many slots of edges there were before
+-- now is before with the edges xs added, which got these indices; slot_count is the number of edge slots before
 pub record IsBatchSoFar {N E : Type 0} (limit : ℕ) (kind : Kind) (before now : Graph N E) (xs : List (NewEdge E))
     (indices : List ℕ) (slot_count : ℕ) : Type 0 where
   pub now_is : now ≡ with_edges before xs
@@ -25,7 +25,7 @@ pub record IsBatchSoFar {N E : Type 0} (limit : ℕ) (kind : Kind) (before now :
   pub compact : kind ≡ Compact → before.vacant_edges ≡ []
   pub slot_count_is : slot_count ≡ length before.edges
 
--- what keeps an edge from being added
+-- why an edge cannot be added
 abbrev pub IsFault : {N E : Type 0} → (limit : ℕ) → Graph N E → NewEdge E → Fault E → Type 0
 IsFault limit g x (BadEndpoint w) = (w ≡ x.2) × LacksEnd g x
 IsFault limit g x (Full w) = (w ≡ x.2) × LacksIndex limit g x
@@ -37,8 +37,8 @@ refusal (BadEndpoint w) before = edges.BadEndpoint w before
 refusal (Full w) before = edges.Full w before
 refusal (Memory w) before = edges.Memory w before
 
--- how many edges were looked at, at most, for one edge more: only a missing end or index is seen before way is made for
--- it
+-- how many edges are read at most for one more edge: only a missing endpoint or index is detected before the order is
+-- updated
 abbrev pub item_looks : {R E : Type 0} → (edges : ℕ) → Result R (Fault E) → ℕ
 item_looks edges (Ok r) = edges
 item_looks edges (Err (BadEndpoint w)) = 0
@@ -52,13 +52,13 @@ IsKept Spared = Unit {0}
 IsKept Left = ⊥
 IsKept Closed = ⊥
 
--- the order beside a batch: how it stands to the edges so far, what it is, and how many edges were looked at
+-- the order during a batch: how it relates to the edges so far, what it is, and how many edges were read
 pub record BatchOrder : Type 0 where
   pub standing : Standing
   pub order : List ℕ
   pub looks : ℕ
 
--- how the order can stand after one edge more, from a to b, which `count` others come before
+-- how the order can relate to the edges after one more, from a to b, which follows `count` others
 abbrev pub CanStand : {N E : Type 0} → Graph N E → (a b count : ℕ) → (old new : BatchOrder) → Standing → Type 0
 CanStand g a b count old new Kept =
     IsKept old.standing × IsOrderOf g new.order × (place new.order a < place new.order b)
@@ -76,8 +76,7 @@ CanStand g a b count old new Closed =
 abbrev pub IsStep : {N E : Type 0} → Graph N E → (a b count : ℕ) → (old new : BatchOrder) → Type 0
 IsStep g a b count old new = CanStand g a b count old new new.standing
 
--- how many looks at least are left for what is still to be done: those of sorting, where that is, or the one that was
--- spared
+-- how many reads are left at least for what is still to be done: those of sorting, or the one that was saved
 abbrev pub looks_left : (edges : ℕ) → Standing → ℕ
 looks_left edges Kept = 0
 looks_left edges Spared = 1

@@ -1,4 +1,4 @@
--- Batches of edges: all are added in their order, or none is.
+-- Batches of edges: all are added in order, or none.
 use Rattle.std.specs.Prelude.{◌≡◌, ℕ, zero, suc, ◌+◌, ◌<◌, ◌≤◌, List, [], ◌∷◌, ◌++◌, length, map, reverse, Option}
 use Rattle.std.specs.Prelude.{Result, Ok, Err}
 use Rattle.std.specs.Iterator.{Yields, Drains}
@@ -8,7 +8,7 @@ use Rattle.daggy_base.specs.Adding.{NewEdge, by_numbers, with_edge, next_edge}
 use Rattle.daggy_base.specs.declared.error.EdgesError.{EdgesError}
 use Rattle.daggy_base.specs.declared.error.EdgesError.TheVariants.{BadEndpoint, Full, Memory, WouldCycle}
 
--- with all edges of a list, added in its order
+-- with all edges of a list, added in order
 abbrev pub with_edges : {N E : Type 0} → Graph N E → List (NewEdge E) → Graph N E
 with_edges g [] = g
 with_edges g (x ∷ xs) = with_edges (with_edge g x.0 x.1 x.2) xs
@@ -18,38 +18,38 @@ abbrev pub new_edges : {N E : Type 0} → Graph N E → List (NewEdge E) → Lis
 new_edges g [] = []
 new_edges g (x ∷ xs) = next_edge g ∷ new_edges (with_edge g x.0 x.1 x.2) xs
 
--- the ends of an edge exist
+-- the endpoints of an edge exist
 abbrev pub HasEnds : {N E : Type 0} → Graph N E → NewEdge E → Type 0
 HasEnds g x = HasNode g x.0 × HasNode g x.1
 
--- no edge is at fault: its ends exist, and an index is left after the edges before it
+-- no edge is invalid: the endpoints of each exist, and an index is left after the edges before it
 abbrev pub IsFaultless : {N E : Type 0} → (limit : ℕ) → Graph N E → List (NewEdge E) → Type 0
 IsFaultless limit g [] = Unit {0}
 IsFaultless limit g (x ∷ xs) = HasEnds g x × (edge_count g < limit) × IsFaultless limit (with_edge g x.0 x.1 x.2) xs
 
--- each edge would be accepted by itself, after those before it: no path leads from its child to its parent
+-- each edge would be accepted after those before it: no path leads from its child to its parent
 abbrev pub AreAccepted : {N E : Type 0} → Graph N E → List (NewEdge E) → Type 0
 AreAccepted g [] = Unit {0}
 AreAccepted g (x ∷ xs) = (Reaches g x.1 x.0 → ⊥) × AreAccepted (with_edge g x.0 x.1 x.2) xs
 
--- what an edge may be refused for by itself
+-- an endpoint of the edge is missing
 abbrev pub LacksEnd : {N E : Type 0} → Graph N E → NewEdge E → Type 0
 LacksEnd g x = HasEnds g x → ⊥
 
--- its ends exist, and no index is left for it
+-- its endpoints exist, but no index is left
 abbrev pub LacksIndex : {N E : Type 0} → (limit : ℕ) → Graph N E → NewEdge E → Type 0
 LacksIndex limit g x = HasEnds g x × (limit ≤ edge_count g)
 
--- nothing but memory is missing
+-- only memory is missing
 abbrev pub LacksMemory : {N E : Type 0} → (limit : ℕ) → Graph N E → NewEdge E → Type 0
 LacksMemory limit g x = HasEnds g x × (edge_count g < limit)
 
--- the weights of edges, the last one's first
+-- the weights of edges, the last one first
 abbrev pub weights_back : {A E : Type 0} → List (A × A × E) → List E
 weights_back xs = reverse (map (λ x. x.2) xs)
 
 module _ {I N E S : Type 0} (number : I → ℕ) (limit : ℕ) (gives : S → Option (I × I × E) → S → Type 0) (items : S) where
-  -- all edges that the items gave were added
+  -- all edges that the iterator yields were added
   pub record IsAdded (old new : Graph N E) (edges : List ℕ) : Type 0 where
     pub given : List (I × I × E)
     pub drained : Drains gives items given
@@ -58,7 +58,7 @@ module _ {I N E S : Type 0} (number : I → ℕ) (limit : ℕ) (gives : S → Op
     pub indices : edges ≡ new_edges old (map (by_numbers number) given)
     pub accepted : AreAccepted old (map (by_numbers number) given)
 
-  -- the first edge at fault, which was the last that was asked for
+  -- the first invalid edge, which was the last item consumed
   pub record IsFirstFault (IsCause : Graph N E → NewEdge E → Type 0) (g : Graph N E) (last : E)
       (before : List E) : Type 0 where
     pub given : List (I × I × E)
@@ -70,7 +70,7 @@ module _ {I N E S : Type 0} (number : I → ℕ) (limit : ℕ) (gives : S → Op
     pub last_is : last ≡ at.2
     pub before_is : before ≡ weights_back given
 
-  -- no edge is at fault, and with all of them the graph would have a cycle
+  -- no edge is invalid, but with all of them the graph would have a cycle
   pub record ClosesCycle (g : Graph N E) (weights : List E) : Type 0 where
     pub given : List (I × I × E)
     pub drained : Drains gives items given
@@ -86,13 +86,12 @@ module _ {I N E S : Type 0} (number : I → ℕ) (limit : ℕ) (gives : S → Op
   IsRefused g (Memory last before) = IsFirstFault (LacksMemory limit) g last before.items
   IsRefused g (WouldCycle w) = ClosesCycle g w.0.items
 
--- how many looks it takes at most to make way for so many edges in turn: for each as many as there are edges then
+-- how many edge reads it takes at most to update the order for that many edges in turn: each time as many as there are
 abbrev pub ordering_looks : (edges count : ℕ) → ℕ
 ordering_looks edges zero = 0
 ordering_looks edges (suc count) = ordering_looks edges count + (edges + count)
 
--- how many edges were looked at, at most. Where memory is missing it may be missing after way was made for the last
--- edge
+-- how many edges were read at most. If an allocation fails, it may fail after the order was updated for the last edge
 abbrev pub most_looks : {N E : Type 0} → Graph N E → Result (List ℕ) (EdgesError E) → ℕ
 most_looks g (Ok edges) = ordering_looks (edge_count g) (length edges)
 most_looks g (Err (WouldCycle w)) = ordering_looks (edge_count g) (length w.0.items)

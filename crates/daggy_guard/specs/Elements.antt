@@ -1,4 +1,4 @@
--- Graphs made of elements: nodes, and edges between nodes that came before.
+-- Graphs made of elements: nodes, and edges between earlier nodes.
 use Rattle.std.specs.Prelude.{◌≡◌, ℕ, ◌<◌, ◌≤◌, List, [], ◌∷◌, ◌++◌, Option, None, MatchOption}
 use Rattle.std.specs.List.{FoldsTo}
 use Rattle.std.specs.Iterator.{Yields, Drains}
@@ -18,7 +18,7 @@ use Rattle.daggy_base.specs.declared.element.Element.TheVariants.{Node, Edge}
 use Rattle.daggy_guard.specs.EdgeBatch.{HasEnds, LacksEnd}
 use Rattle.daggy_base.specs.Adding.{NewEdge}
 
--- the edge replaces the weight of the one that is found between its ends, or is added
+-- the edge replaces the weight of the edge that is found between its endpoints, or is added
 abbrev pub IsJoined : {N E : Type 0} → (limit : ℕ) → (old : Graph N E) → NewEdge E → (new : Graph N E) → Type 0
 IsJoined limit old x new =
     HasEnds old x × MatchOption (find_edge old x.0 x.1)
@@ -42,7 +42,7 @@ abbrev pub IsNodeRefused : {N E : Type 0} → (limit : ℕ) → Graph N E → N 
 IsNodeRefused limit g w (node.Full v) = (v ≡ w) × (limit ≤ node_count g)
 IsNodeRefused limit g w (node.Memory v) = (v ≡ w) × (node_count g < limit)
 
--- with one element more
+-- with one more element
 abbrev pub WithElement : {N E : Type 0} → (limit : ℕ) → (old : Graph N E) → Element N E → (new : Graph N E) → Type 0
 WithElement limit old (Node w) new = (node_count old < limit) × (new ≡ with_node old w)
 WithElement limit old (Edge source target w) new = IsJoined limit old (source, target, w) new
@@ -55,13 +55,13 @@ IsElementRefused limit g (Edge source target w) (error.Node e) = ⊥
 IsElementRefused limit g (Edge source target w) (error.Edge e) = IsEdgeRefused limit g (source, target, w) e
 
 module _ {N E S : Type 0} (limit : ℕ) (gives : S → Option (Element N E) → S → Type 0) (items : S) where
-  -- with all elements that the items gave
+  -- with all elements that the iterator yields
   pub record IsMade (old new : Graph N E) : Type 0 where
     pub given : List (Element N E)
     pub drained : Drains gives items given
     pub made : FoldsTo (WithElement limit) old given new
 
-  -- the first element that is refused, which was the last that was asked for, after those before it
+  -- the first element that is refused, after those before it; it was the last item consumed
   pub record IsUnmade (old : Graph N E) (error : ElementError N E) : Type 0 where
     pub given : List (Element N E)
     pub at : Element N E

@@ -1,4 +1,4 @@
--- Extensions: edges added one by one, each after the nodes that it asks for.
+-- Extensions: edges added one by one, each after the nodes that it needs.
 use Rattle.std.specs.Prelude.{◌≡◌, ℕ, ◌+◌, ◌-◌, ◌*◌, ◌<◌, max, List, [], ◌∷◌, ◌++◌, length, map, Option}
 use Rattle.std.specs.List.{AllByRecursion, AllZip, FoldsTo}
 use Rattle.std.specs.Iterator.{Yields, Drains}
@@ -16,7 +16,7 @@ with_nodes g [] = g
 with_nodes g (w ∷ ws) = with_nodes (with_node g w) ws
 
 module _ {N E : Type 0} (IsDefault : N → Type 0) where
-  -- with so many more nodes, of default weights
+  -- with that many more nodes, of default weights
   pub record HasMore (count : ℕ) (old new : Graph N E) : Type 0 where
     pub weights : List N
     pub defaults : AllByRecursion IsDefault weights
@@ -35,11 +35,11 @@ module _ {N E : Type 0} (IsDefault : N → Type 0) where
   abbrev pub IsPartFilled : (n : ℕ) → (old new : Graph N E) → Type 0
   IsPartFilled n old new = (count : ℕ) × (count < missing old n) × HasMore count old new
 
-  -- an index is left for the edge, and the index type has its ends
+  -- an index is left for the edge, and its endpoints are valid indices
   abbrev pub HasIndices : (limit : ℕ) → Graph N E → NewEdge E → Type 0
   HasIndices limit g x = (x.0 < limit) × (x.1 < limit) × (edge_count g < limit)
 
-  -- the edge is added, after the nodes that it asks for
+  -- the edge is added, after the nodes that it needs
   pub record IsExtended (limit : ℕ) (old : Graph N E) (x : NewEdge E) (new : Graph N E) : Type 0 where
     pub filled : Graph N E
     pub indices : HasIndices limit old x
@@ -48,7 +48,7 @@ module _ {N E : Type 0} (IsDefault : N → Type 0) where
     pub apart : Reaches filled x.1 x.0 → ⊥
     pub added : new ≡ with_edge filled x.0 x.1 x.2
 
-  -- why the edge is refused, and what the graph is then
+  -- why the edge is refused, and the graph then
   abbrev pub IsStopped : (limit : ℕ) → (old : Graph N E) → NewEdge E → EdgeError E → (new : Graph N E) → Type 0
   IsStopped limit old x (Full w) new = (w ≡ x.2) × (HasIndices limit old x → ⊥) × (new ≡ old)
   IsStopped limit old x (NodeMemory w) new = (w ≡ x.2) × HasIndices limit old x × IsPartFilled (max x.0 x.1) old new
@@ -61,7 +61,7 @@ module _ {N E : Type 0} (IsDefault : N → Type 0) where
 
   module _ {I A S : Type 0} (number : I → ℕ) (limit : ℕ) (becomes : A → I × I × E → Type 0)
       (gives : S → Option A → S → Type 0) (items : S) where
-    -- extended by all the edges that the items become
+    -- extended by all the edges of the items
     pub record Extends (old new : Graph N E) : Type 0 where
       pub given : List A
       pub drained : Drains gives items given
@@ -69,7 +69,7 @@ module _ {N E : Type 0} (IsDefault : N → Type 0) where
       pub become : AllZip becomes given edges
       pub extension : FoldsTo (IsExtended limit) old (map (by_numbers number) edges) new
 
-    -- extended by the edges before the first one that is refused, which was the last that was asked for
+    -- extended by the edges before the first one that is refused, which was the last item consumed
     pub record Stops (old : Graph N E) (error : EdgeError E) (new : Graph N E) : Type 0 where
       pub given : List A
       pub at : A
@@ -83,7 +83,7 @@ module _ {N E : Type 0} (IsDefault : N → Type 0) where
       pub extension : FoldsTo (IsExtended limit) old (map (by_numbers number) edges) mid
       pub stopped : IsStopped limit mid (by_numbers number edge) error new
 
--- How many looks an extension takes at most: for each edge that it added, and for the one that was refused, as many as
--- there are edges in the end.
+-- How many edge reads an extension takes at most: for each edge that it added, and for the one that was refused, as many
+-- as there are edges in the end.
 abbrev pub extension_looks : {N E : Type 0} → (old new : Graph N E) → ℕ
 extension_looks old new = (edge_count new - edge_count old + 1) * edge_count new

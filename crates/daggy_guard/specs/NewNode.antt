@@ -8,7 +8,7 @@ use Rattle.daggy_base.specs.WellFormed.{IsWellFormed}
 use Rattle.daggy_base.specs.declared.index.Direction.{Direction}
 use Rattle.daggy_base.specs.declared.index.Direction.TheVariants.{Outgoing, Incoming}
 
--- now is old with the node n of weight w; slot_count is how many slots of nodes there were before
+-- now is old with the node n of weight w added; slot_count is the number of node slots before
 pub record IsAddedNode {N E : Type 0} (limit : ℕ) (kind : Kind) (old now : Graph N E) (w : N)
     (n slot_count : ℕ) : Type 0 where
   pub well_formed : IsWellFormed limit old
@@ -17,7 +17,7 @@ pub record IsAddedNode {N E : Type 0} (limit : ℕ) (kind : Kind) (old now : Gra
   pub index_is : n ≡ next_node old
   pub slot_count_is : slot_count ≡ length old.nodes
 
--- the order with the node put last, where edges are to lead to it, or first, where they are to leave it
+-- the order with the node last if edges will enter it, or first if they will leave it
 abbrev pub with_end : Direction → List ℕ → ℕ → List ℕ
 with_end Outgoing order n = order ++ n ∷ []
 with_end Incoming order n = n ∷ order

@@ -18,7 +18,7 @@ listed ds = array (items_of ds)
 abbrev pub wholes : List ℕ → Data
 wholes ns = listed (map whole ns)
 
--- the places of the vacant slots, ascending, where the first slot has the index i
+-- the indices of the vacant slots, ascending; the first slot has the index i
 abbrev pub vacant_from : {A : Type 0} → ℕ → List (Option A) → List ℕ
 vacant_from i [] = []
 vacant_from i (None ∷ xs) = i ∷ vacant_from (i + 1) xs
@@ -32,21 +32,21 @@ holes_of g = vacant_from 0 (take (node_bound g) g.nodes)
 abbrev pub row_of : {N E : Type 0} → Graph N E → ℕ → Data
 row_of g n = listed (wholes (out_list g n) ∷ wholes (in_list g n) ∷ [])
 
--- the entry of an edge slot: null if it is vacant, else the parent, the child and what stands for the weight
+-- the entry of an edge slot: null if it is vacant, otherwise the parent, the child and the encoded weight
 abbrev pub IsEntry : {E : Type 0} → (edge_as : E → Data → Type 0) → Option (Edge E) → Data → Type 0
 IsEntry edge_as None d = d ≡ null
 IsEntry edge_as (Some x) d = (w : Data) × edge_as x.weight w × (d ≡ listed (whole x.parent ∷ whole x.child ∷ w ∷ []))
 
--- the object of these parts, its members in alphabetical order
+-- the object with these members, in alphabetical order
 abbrev pub document_of : (entries holes weights orders : List Data) → Data
 document_of entries holes weights orders =
     object (member (codes "edge_property") (string (codes "directed")) (member (codes "edges") (listed entries)
     (member (codes "node_holes") (listed holes)
     (member (codes "nodes") (listed weights) (member (codes "orders") (listed orders) no_members)))))
 
--- The value is the document of the graph: its edge slots and its nodes' weights by ascending index, the vacant ones as
--- far as the greatest index that is in use, and the lists of each node that exists, by ascending index. node_as and
--- edge_as say what stands for a weight.
+-- The value is the document of the graph: its edge slots and the weights of its nodes in ascending index order, the
+-- vacant slots up to the greatest index in use, and the lists of each existing node, in ascending order. node_as and
+-- edge_as say how a weight is encoded.
 pub record IsDocumentOf {N E : Type 0} (node_as : N → Data → Type 0) (edge_as : E → Data → Type 0) (g : Graph N E)
     (d : Data) : Type 0 where
   pub entries : List Data

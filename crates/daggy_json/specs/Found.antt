@@ -1,4 +1,4 @@
--- What the stages of reading hand on, by the values that they found.
+-- What the stages of reading find.
 use Rattle.std.specs.Prelude.{◌≡◌, ◌⊎◌, Ok, Err, ℕ, ◌+◌, Bool, true, false, IsSome, length, slice_index_or, slice_set}
 use Rattle.std.specs.Prelude.{replicate, nat_lt, if◌then◌else◌, Option, Some, None, option_and_then, List, [], ◌∷◌, map}
 use Rattle.std.specs.Option.{option_map}
@@ -20,7 +20,7 @@ use Rattle.daggy_json.specs.declared.error.ReadError.{ReadError}
 abbrev pub orders_by : {I : Type 0} → (number : I → ℕ) → Option (Vec (Vec I × Vec I)) → Option (List (List ℕ × List ℕ))
 orders_by number o = option_map (λ v. map (numbers_of number) v.items) o
 
--- the parts in these values
+-- the parts of a document, from these values
 abbrev pub parts_of : (nodes : List Value) (holes property : List ℕ) (edges : List Value) (orders : Option (Bor Value))
     → Parts
 parts_of nodes holes property edges orders =
@@ -55,23 +55,23 @@ rows_in bound d = option_and_then (all_in (row_in bound)) (array_in d)
 
 -- ---- marks
 
--- the list of that direction
+-- the list in that direction
 abbrev pub chosen : Direction → List ℕ × List ℕ → List ℕ
 chosen Outgoing p = p.0
 chosen Incoming p = p.1
 
--- each of a list passes and has no mark yet, where each gets its mark in turn
+-- each element of a list passes the test and is not marked yet, and is marked in turn
 abbrev pub Marked : (passes : ℕ → Bool) → List Bool → List ℕ → Type 0
 Marked passes marks [] = Unit {0}
 Marked passes marks (e ∷ es) =
     (passes e ≡ true) × (slice_index_or marks e false ≡ false) × Marked passes (slice_set marks e true) es
 
--- the marks with one for each of a list
+-- the marks after each element of a list is marked
 abbrev pub marked_with : List Bool → List ℕ → List Bool
 marked_with marks [] = marks
 marked_with marks (e ∷ es) = marked_with (slice_set marks e true) es
 
--- the same of the list of each node, and there are as many lists as nodes
+-- the same for the list of each node, with as many lists as nodes
 abbrev pub AllMarked : {N : Type 0}
     → (passes : ℕ → ℕ → Bool) → (n : ℕ) → List Bool → List (Option N) → List (List ℕ) → Type 0
 AllMarked passes n marks [] lists = lists ≡ []
@@ -80,18 +80,18 @@ AllMarked passes n marks (Some x ∷ slots) [] = ⊥
 AllMarked passes n marks (Some x ∷ slots) (l ∷ lists) =
     Marked (passes n) marks l × AllMarked passes (n + 1) (marked_with marks l) slots lists
 
--- the marks with one for each of the lists of the nodes
+-- the marks after the lists of all nodes are marked
 abbrev pub marked_by : {N : Type 0} → List Bool → List (Option N) → List (List ℕ) → List Bool
 marked_by marks [] lists = marks
 marked_by marks (None ∷ slots) lists = marked_by marks slots lists
 marked_by marks (Some x ∷ slots) [] = marks
 marked_by marks (Some x ∷ slots) (l ∷ lists) = marked_by (marked_with marks l) slots lists
 
--- each slot that holds something is marked
+-- each occupied slot is marked
 abbrev pub LeavesNone : {A : Type 0} → List (Option A) → List Bool → Type 0
 LeavesNone slots marks = (e : ℕ) → IsSome (slot slots e) → slice_index_or marks e false ≡ true
 
--- in that direction the lists have the edges of their nodes, each once, and no edge is left
+-- the lists in that direction have the edges of their nodes, each once, and no edge is left out
 abbrev pub AreRearranged : {N E : Type 0}
     → Direction → List (Option N) → List (Option (Edge E)) → List (List ℕ × List ℕ) → Type 0
 AreRearranged dir nodes edges rows =
@@ -104,19 +104,19 @@ abbrev pub ordered : {N E : Type 0} → Graph N E → Option (List (List ℕ × 
 ordered g None = g
 ordered g (Some rows) = with_orders g rows
 
--- both ends of each edge are nodes
+-- both endpoints of each edge exist
 abbrev pub EndsExist : {N E : Type 0} → List (Option N) → List (Option (Edge E)) → Type 0
 EndsExist {N} {E} nodes edges =
     (dir : Direction) (e : ℕ) (x : Edge E) → slot edges e ≡ Some x → IsSome (slot nodes (near_end dir x))
 
--- the nodes were read, in a document that is laid out well
+-- the nodes were read, in a document with a valid layout
 abbrev pub AreNodesRead : {N : Type 0}
     → (limit : ℕ) (stable : Bool) (answers : Data → Option N → Type 0) → Parts → List (Option N) → Type 0
 AreNodesRead {N} limit stable answers p nodes =
     IsLaidOut limit stable p None
     × ((weights : List N) × ReadsEach (IsWeight answers) p.nodes (Ok weights) × AreSlots nodes p.holes weights)
 
--- the first fault up to there
+-- the first fault up to that point
 abbrev pub IsNodesFault : {N : Type 0}
     → (limit : ℕ) (stable : Bool) (answers : Data → Option N → Type 0) → Parts → ReadError → Type 0
 IsNodesFault {N} limit stable answers p e =

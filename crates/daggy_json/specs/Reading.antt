@@ -21,15 +21,15 @@ abbrev pub list_of : Items → List Data
 list_of no_items = []
 list_of (item d ds) = d ∷ list_of ds
 
--- an array's items, and a whole number from 0
+-- the items of an array
 abbrev pub array_in : Data → Option (List Data)
 array_in d = option_map list_of (as_array d)
 
--- a whole number from 0
+-- a natural number
 abbrev pub whole_in : Data → Option ℕ
 whole_in d = option_and_then as_u64 (as_number d)
 
--- what a test gives of each of a list, if it gives something of each
+-- what a test returns for each element of a list, if it returns something for each
 abbrev pub all_in : {A : Type 0} → (Data → Option A) → List Data → Option (List A)
 all_in one [] = Some []
 all_in one (d ∷ ds) = option_and_then (λ x. option_map (λ xs. x ∷ xs) (all_in one ds)) (one d)
@@ -38,8 +38,7 @@ all_in one (d ∷ ds) = option_and_then (λ x. option_map (λ xs. x ∷ xs) (all
 abbrev pub numbers_in : Data → Option (List ℕ)
 numbers_in d = option_and_then (all_in whole_in) (array_in d)
 
--- what stands for the weights of the nodes, the holes, the property, the entries of the edges, and the orders if there
--- are any
+-- the encoded weights of the nodes, the holes, the property, the entries of the edges, and the orders if there are any
 pub record Parts : Type 0 where
   pub nodes : List Data
   pub holes : List ℕ
@@ -52,11 +51,11 @@ abbrev pub holes_in : Option Data → Option (List ℕ)
 holes_in None = Some []
 holes_in (Some d) = numbers_in d
 
--- the array that stands at that key of an object
+-- the array at a key of an object
 abbrev pub array_at : List ℕ → Data → Option (List Data)
 array_at key d = option_and_then array_in (get key d)
 
--- the parts of a document, if each is there in its form
+-- the parts of a document, if each is present and well formed
 abbrev pub parts_in : Data → Option Parts
 parts_in d =
     option_and_then
@@ -84,7 +83,7 @@ Ascend low high (h ∷ hs) = (low ≤ h) × (h < high) × Ascend (h + 1) high hs
 abbrev pub slots_of : Parts → ℕ
 slots_of p = length p.nodes + length p.holes
 
--- the holes ascend below the number of slots; there is none if no slot may be vacant
+-- the holes ascend below the number of slots; there are none if no slot may be vacant
 pub record AreHoles (stable : Bool) (p : Parts) : Type 0 where
   pub ascend : Ascend 0 (slots_of p) p.holes
   pub none : stable ≡ false → p.holes ≡ []
@@ -94,7 +93,7 @@ pub record AreFew (limit : ℕ) (p : Parts) : Type 0 where
   pub nodes : slots_of p ≤ limit
   pub edges : length p.edges ≤ limit
 
--- the property, the holes and the numbers of slots, tested in this order
+-- the property, the holes and the numbers of slots, checked in this order
 abbrev pub IsLaidOut : (limit : ℕ) (stable : Bool) → Parts → Option ReadError → Type 0
 IsLaidOut limit stable p None = (p.property ≡ codes "directed") × AreHoles stable p × AreFew limit p
 IsLaidOut limit stable p (Some Property) = ¬ (p.property ≡ codes "directed")
@@ -104,7 +103,7 @@ IsLaidOut limit stable p (Some _) = ⊥
 
 -- ---- weights and entries
 
--- each of a list is read in turn, or they are read up to the first fault
+-- each element of a list is read in turn, up to the first fault
 abbrev pub ReadsEach : {A : Type 0}
     → (Data → Result A ReadError → Type 0) → List Data → Result (List A) ReadError → Type 0
 ReadsEach reads ds (Ok xs) = AllZip (λ d x. reads d (Ok x)) ds xs
@@ -112,12 +111,12 @@ ReadsEach {A} reads ds (Err e) =
     (before : List Data) × (at : Data) × (after : List Data) × (xs : List A) × (ds ≡ before ++ at ∷ after)
     × AllZip (λ d x. reads d (Ok x)) before xs × reads at (Err e)
 
--- a weight, by what the function that is handed in may answer at that data
+-- a weight, as the reading function may decode that data
 abbrev pub IsWeight : {W : Type 0} → (answers : Data → Option W → Type 0) → Data → Result W ReadError → Type 0
 IsWeight answers d (Ok w) = answers d (Some w)
 IsWeight answers d (Err e) = answers d None × (e ≡ Weight)
 
--- two whole numbers and what stands for a weight
+-- two natural numbers and an encoded weight
 abbrev pub triple : List Data → Option (ℕ × ℕ × Data)
 triple (a ∷ b ∷ w ∷ []) = option_and_then (λ p. option_map (λ c. (p, c, w)) (whole_in b)) (whole_in a)
 triple _ = None
@@ -126,16 +125,16 @@ triple _ = None
 abbrev pub triple_in : Data → Option (ℕ × ℕ × Data)
 triple_in d = option_and_then triple (array_in d)
 
--- the slots are vacant at the holes, and hold the weights in their order
+-- the slots are vacant at the holes, and hold the weights in order
 pub record AreSlots {N : Type 0} (slots : List (Option N)) (holes : List ℕ) (weights : List N) : Type 0 where
   pub vacant : vacant_from 0 slots ≡ holes
   pub given : map (λ p. p.1) (numbered 0 slots) ≡ weights
 
--- both ends are nodes
+-- both endpoints exist
 abbrev pub HasEnds : {N : Type 0} → List (Option N) → ℕ × ℕ × Data → Type 0
 HasEnds nodes t = IsSome (slot nodes t.0) × IsSome (slot nodes t.1)
 
--- the entry of an edge slot, its shape, its ends and its weight tested in this order
+-- the entry of an edge slot: its shape, its endpoints and its weight, checked in this order
 abbrev pub IsEntryRead : {N E : Type 0} → (stable : Bool) → (nodes : List (Option N))
     → (answers : Data → Option E → Type 0) → Data → Result (Option (Edge E)) ReadError → Type 0
 IsEntryRead stable nodes answers d (Ok None) = (stable ≡ true) × (d ≡ null)
@@ -171,33 +170,33 @@ IsOrdered g (Some d) (Ok h) =
 IsOrdered g (Some d) (Err e) =
     ((orders : List (List ℕ × List ℕ)) → orders_in d ≡ Some orders → ¬ AreOrders g orders) × (e ≡ Orders)
 
--- the graph itself if it is acyclic, else the fault `Cycle`
+-- the graph itself if it is acyclic, otherwise the fault `Cycle`
 abbrev pub IsTested : {N E : Type 0} → Graph N E → Result (Graph N E) ReadError → Type 0
 IsTested g (Ok h) = IsAcyclic g × (h ≡ g)
 IsTested g (Err e) = ¬ IsAcyclic g × (e ≡ Cycle)
 
 -- ---- the whole
 
--- what one stage gives is handed to the next; its fault is the answer
+-- the result of one stage is passed to the next; its fault is the answer
 abbrev pub Then : {A B : Type 0}
     → (Result A ReadError → Type 0) → (A → Result B ReadError → Type 0) → Result B ReadError → Type 0
 Then {A} first next r = (x : Result A ReadError) × first x × MatchResult x (λ a. next a r) (λ e. r ≡ Err e)
 
 module _ {N E : Type 0} (limit : ℕ) (stable : Bool) (node_answers : Data → Option N → Type 0)
     (edge_answers : Data → Option E → Type 0) where
-  -- the edges over these nodes, the orders, and whether there is a cycle
+  -- the edges between these nodes, the orders, and whether there is a cycle
   abbrev pub IsLinked : Parts → List (Option N) → Result (Graph N E) ReadError → Type 0
   IsLinked p nodes =
       Then (ReadsEach (IsEntryRead stable nodes edge_answers) p.edges)
       (λ edges. Then (IsOrdered (graph_of_slots nodes edges) p.orders) IsTested)
 
-  -- the weights of the nodes, put into slots, and then what stands on them
+  -- the weights of the nodes in their slots, and then the rest
   abbrev pub IsFilled : Parts → Result (Graph N E) ReadError → Type 0
   IsFilled p =
       Then (ReadsEach (IsWeight node_answers) p.nodes)
       (λ weights r. (nodes : List (Option N)) × AreSlots nodes p.holes weights × IsLinked p nodes r)
 
-  -- The value is read as this graph, or this is its first fault. Slots may be vacant if the kind is the stable one.
+  -- The value is read as this graph, or this is its first fault. Slots may be vacant in the stable kind.
   abbrev pub IsRead : Data → Result (Graph N E) ReadError → Type 0
   IsRead d r =
       MatchOption (parts_in d) (r ≡ Err Shape) (λ p.

@@ -1,4 +1,4 @@
--- A batch of edges that is at hand as a list: all are added in their order, or none is.
+-- Batches of edges as lists: all are added in order, or none.
 use Rattle.std.specs.Prelude.{◌≡◌, ℕ, List, ◌∷◌, ◌++◌}
 use Rattle.daggy_base.specs.Graph.{Graph}
 use Rattle.daggy_base.specs.Path.{IsAcyclic}
@@ -9,15 +9,15 @@ use Rattle.daggy_base.specs.Adding.{NewEdge}
 use Rattle.daggy_guard.specs.EdgeBatch.{weights_back}
 
 module _ {N E : Type 0} (limit : ℕ) (g : Graph N E) (edges : List (NewEdge E)) where
-  -- no edge is at fault, and with all of them there is no cycle, so all are added
+  -- no edge is invalid, and with all of them there is no cycle, so all are added
   pub record AddsAll (indices : List ℕ) (new : Graph N E) : Type 0 where
     pub faultless : IsFaultless limit g edges
     pub acyclic : IsAcyclic (with_edges g edges)
     pub indices_are : indices ≡ new_edges g edges
     pub added : new ≡ with_edges g edges
 
-  -- the edges begin with some that are not at fault, and with one that has this cause to be refused. The weights are
-  -- its own, and those of the edges before it, the last one first
+  -- after some valid edges comes one that is refused for this reason. The weights are its own, and those of the edges
+  -- before it, the last one first
   pub record StopsAt (IsCause : Graph N E → NewEdge E → Type 0) (last : E) (before : List E) : Type 0 where
     pub front : List (NewEdge E)
     pub at : NewEdge E
@@ -28,13 +28,13 @@ module _ {N E : Type 0} (limit : ℕ) (g : Graph N E) (edges : List (NewEdge E))
     pub last_is : last ≡ at.2
     pub before_is : before ≡ weights_back front
 
-  -- no edge is at fault, and with all of them there is a cycle
+  -- no edge is invalid, but with all of them there is a cycle
   pub record ClosesCycle (weights : List E) : Type 0 where
     pub faultless : IsFaultless limit g edges
     pub cyclic : ¬ (IsAcyclic (with_edges g edges))
     pub weights_are : weights ≡ weights_back edges
 
-  -- why none is added: an end or an index is missing, or memory is where neither is, or there would be a cycle
+  -- why none is added: an endpoint or an index is missing, or neither is but memory, or there would be a cycle
   abbrev pub IsRefused : EdgesError E → Type 0
   IsRefused (BadEndpoint last before) = StopsAt LacksEnd last before.items
   IsRefused (Full last before) = StopsAt (LacksIndex limit) last before.items

@@ -10,7 +10,7 @@ use Rattle.daggy_base.specs.WellFormed.{AreDistinct}
 abbrev pub stages_of : {I : Type 0} → (number : I → ℕ) → List (Vec I Global) → List (List ℕ)
 stages_of number stages = map (λ stage. map number stage.items) stages
 
--- the node stands in that stage, counted from 0
+-- the node is in that stage, counted from 0
 abbrev pub StandsIn : List (List ℕ) → ℕ → ℕ → Type 0
 StandsIn stages k n = Contains (slice_index_or stages k []) n
 
@@ -20,19 +20,19 @@ IsAscending [] = Unit {0}
 IsAscending (n ∷ []) = Unit {0}
 IsAscending (n ∷ m ∷ ns) = (n < m) × IsAscending (m ∷ ns)
 
--- each existing node stands once, in a later stage than its parents
+-- each existing node occurs once, in a later stage than its parents
 pub record IsPlan {N E : Type 0} (g : Graph N E) (stages : List (List ℕ)) : Type 0 where
   pub exact : (n : ℕ) → HasNode g n ↔ ((k : ℕ) × StandsIn stages k n)
   pub once : (n j k : ℕ) → StandsIn stages j n → StandsIn stages k n → j ≡ k
   pub distinct : (k : ℕ) → AreDistinct (slice_index_or stages k [])
   pub later : (u v j k : ℕ) → AreJoined g u v → StandsIn stages j u → StandsIn stages k v → j < k
 
--- the level of a node: how many edges the longest path that ends with it has
+-- the level of a node: the number of edges of the longest path that ends with it
 pub record IsLevel {N E : Type 0} (g : Graph N E) (n level : ℕ) : Type 0 where
   pub reached : (u : ℕ) × (rest : List ℕ) × IsPath g (u ∷ rest) × (end_of u rest ≡ n) × (length rest ≡ level)
   pub longest : (u : ℕ) (rest : List ℕ) → IsPath g (u ∷ rest) → end_of u rest ≡ n → length rest ≤ level
 
--- each node stands in the stage of its level, no stage is empty, and indices ascend within a stage
+-- each node is in the stage of its level, no stage is empty, and indices ascend within a stage
 pub record IsByLevels {N E : Type 0} (g : Graph N E) (stages : List (List ℕ)) : Type 0 where
   pub levels : (n k : ℕ) → StandsIn stages k n → IsLevel g n k
   pub full : (k : ℕ) → k < length stages → slice_index_or stages k [] ≢ []
@@ -43,8 +43,8 @@ pub record IsLowest (holds : ℕ → Type 0) (n : ℕ) : Type 0 where
   pub here : holds n
   pub least : (m : ℕ) → holds m → n ≤ m
 
--- A path with a node in each stage, or nothing if there is no stage. It ends with the lowest node of the last stage,
--- and before each node stands the lowest of its parents in the stage just before.
+-- A path with a node in each stage, or nothing if there is no stage. It ends with the lowest node of the last stage, and
+-- each node follows the lowest of its parents in the stage just before.
 pub record IsChain {N E : Type 0} (g : Graph N E) (stages : List (List ℕ)) (chain : List ℕ) : Type 0 where
   pub as_long : length chain ≡ length stages
   pub path : (chain ≡ []) ⊎ IsPath g chain

@@ -1,4 +1,4 @@
--- What a request is answered over a graph, and what graph it leaves. The limit is the greatest value of the index type.
+-- The answers to a request, and the graph after it. The limit is the greatest value of the index type.
 use Rattle.std.specs.Prelude.{◌≡◌, ℕ, ◌<◌, ◌≤◌, ◌⊎◌, Option, Some, None, List, map, OnSome, IfNone}
 use Rattle.std.specs.Option.{option_map}
 use Rattle.daggy_base.specs.declared.index.Direction.{Direction}
@@ -21,11 +21,11 @@ use Rattle.daggy_base.specs.Requests.{Request}
 use Rattle.daggy_base.specs.Answers as answer
 use Rattle.daggy_base.specs.Answers.{Answer, OfNothing, OfNode, OfEdge, OfEdgeNode, OfEdges}
 
--- the edges of a node's list of that direction with their far ends, newest first. A missing node has none
+-- the edges of a node's list in that direction with their far endpoints, newest first; none if the node is missing
 abbrev pub walk_of : {N E : Type 0} → Direction → Graph N E → ℕ → List (ℕ × ℕ)
 walk_of dir g n = map (λ p. (p.0, far_end dir p.1)) (edges_at dir g n)
 
--- both ends of the edge exist, an index is left for it, and it closes no cycle
+-- both endpoints of the edge exist, an index is left for it, and it closes no cycle
 abbrev pub IsAddable : {N E : Type 0} → (limit : ℕ) → Graph N E → NewEdge E → Type 0
 IsAddable limit g x = HasEnds g x × (edge_count g < limit) × ¬ (Reaches g x.1 x.0)
 
@@ -40,7 +40,7 @@ IsEdgeStep limit old x (answer.Cycle back) new =
 IsEdgeStep limit old x (answer.Memory (OfEdge back)) new = IsAddable limit old x × (back ≡ x.2) × (new ≡ old)
 IsEdgeStep limit old x other new = ⊥
 
--- writing the weight of the edge that is found between the two nodes, or adding one if none is
+-- writing the weight of the edge that is found between two nodes, or adding one if there is none
 abbrev pub IsUpdateStep : {N E : Type 0}
     → (limit : ℕ) → (found : Option ℕ) → Graph N E → NewEdge E → Answer N E → Graph N E → Type 0
 IsUpdateStep limit None old x said new = IsEdgeStep limit old x said new
@@ -76,8 +76,8 @@ IsBatchStep limit old edges (answer.Memory (OfEdges last before)) new =
 IsBatchStep limit old edges (answer.CycleAll weights) new = ClosesCycle limit old edges weights × (new ≡ old)
 IsBatchStep limit old edges other new = ⊥
 
--- What a request may be answered over a graph, and the graph after it. What is missing comes before what is full, and
--- that before a cycle. Where there was no memory, nothing else stands in the way, and nothing has changed.
+-- The possible answers to a request, and the graph after each. A missing node is reported before a full index type, and
+-- that before a cycle. An allocation failure is reported only if nothing else is wrong, and then nothing has changed.
 abbrev pub IsStep : {N E : Type 0} → Kind → (limit : ℕ) → Graph N E → Request N E → Answer N E → Graph N E → Type 0
 IsStep kind limit old (request.Node weight) (answer.Node n) new =
     (node_count old < limit) × (n ≡ next_node old) × (new ≡ with_node old weight)
