@@ -1,4 +1,4 @@
--- That an adapter gives nothing any more once it gave nothing, where its walkers do so.
+-- When an adapter is fused: after `None` it yields only `None`.
 use Rattle.std.specs.Prelude.{◌≡◌, ℕ, zero, suc, Bool, true, false, Option, Some, None, List, [], ◌∷◌, length}
 use Rattle.std.specs.Prelude.{MatchOption, ⊤}
 use Rattle.std.specs.Bool.{MatchBool}
@@ -11,7 +11,7 @@ use Rattle.daggy_walk.specs.Adapters.{TakeStep, SkipStep, PeekableStep, ChainSte
 use Rattle.daggy_walk.specs.Adapters.{TakeWhileStep, InspectStep}
 use Rattle.daggy_walk.specs.Walking.{Answers, CallsItem}
 
--- after a step that gave nothing, the next one gives nothing
+-- after a step that yielded nothing, the next one yields nothing
 abbrev pub Rests : {W A : Type 0} → (W → Option A → W → Type 0) → Type 0
 Rests {W} {A} steps = (w t u : W) (r : Option A) → steps w None t → steps t r u → r ≡ None
 
@@ -24,7 +24,7 @@ abbrev empty : {A : Type 0} → List A → Type 0
 empty [] = ⊤
 empty (x ∷ xs) = ⊥
 
--- a walk whose state shows the list of what is left rests
+-- a walk whose state is the list of the rest is fused
 pub list_rests : {W A B : Type 0} (view : A → B) (rest : W → List B) (w t u : W) (r : Option A)
     → YieldsFirstBy view rest w None t → YieldsFirstBy view rest t r u → r ≡ None
 list_rests view rest w t u None a b = refl
@@ -78,7 +78,7 @@ module _ {W A : Type 0} (steps : W → Option A → W → Type 0) (h : Rests ste
         go None e = over e
         go (Some v) e = turn e.0 e.1 e.3
 
-  -- a walker that gave nothing gives no items on the way to another answer
+  -- after a step that yielded nothing, no later step yields an item
   then_rests : (s t u : W) (xs : List A) (r : Option A) → steps s None t → YieldsThen steps t xs r u → r ≡ None
   then_rests s t u [] r a b = h s t u r a (subst (λ v. steps v r u) (sym b.1) b.2)
   then_rests s t u (x ∷ xs) r a b = differ (r ≡ None) x (h s t b.1.0 (Some x) a b.1.1)

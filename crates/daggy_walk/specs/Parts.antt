@@ -1,4 +1,4 @@
--- What the adapters of walkers are made of, and what an iterator over a walker is.
+-- The parts of adapters, and of an iterator over a walker.
 use Rattle.std.specs.Prelude.{ℕ, Option}
 use denote.Ref.{Bor}
 use Rattle.daggy_walk.specs.declared.walker.chain.Chain.{Chain}
@@ -20,7 +20,7 @@ chain_first s = s.first
 abbrev pub chain_second : {G A B : Type 0} → Chain G A B → B
 chain_second s = s.second
 
--- the walker that a cycle begins again with, and the one that runs
+-- the walker that a cycle starts over with, and the running one
 abbrev pub cycle_start : {G W : Type 0} → Cycle G W → W
 cycle_start s = s.start
 
@@ -34,7 +34,7 @@ filter_walker s = s.walker
 abbrev pub filter_predicate : {G W P : Type 0} → Filter G W P → P
 filter_predicate s = s.predicate
 
--- the walker that is looked at, and the function that sees its items
+-- the walker that is inspected, and the function that sees its items
 abbrev pub inspect_walker : {W F : Type 0} → Inspect W F → W
 inspect_walker s = s.walker
 
@@ -48,21 +48,21 @@ iter_walker s = s.walker
 abbrev pub iter_graph : {G W : Type 0} → WalkerIter G W → Bor G
 iter_graph s = s.graph
 
--- the walker that is asked ahead, and the item that was taken out of it
+-- the walker that is peeked, and the peeked item
 abbrev pub peekable_walker : {G W T : Type 0} → Ahead G W T → W
 peekable_walker s = s.walker
 
 abbrev pub peekable_held : {G W T : Type 0} → Ahead G W T → Option T
 peekable_held s = s.held
 
--- the node that a recursive walk is at, and the function that leads it
+-- the current node of a recursive walk, and the function that chooses the next one
 abbrev pub recursive_node : {G N F : Type 0} → Led G N F → N
 recursive_node s = s.node
 
 abbrev pub recursive_function : {G N F : Type 0} → Led G N F → F
 recursive_function s = s.f
 
--- the walker whose steps are skipped, and how many of them still are
+-- the walker whose steps are skipped, and how many are left to skip
 abbrev pub skip_walker : {G W : Type 0} → Skip G W → W
 skip_walker s = s.walker
 
@@ -76,7 +76,7 @@ skip_while_walker s = s.walker
 abbrev pub skip_while_predicate : {G W P : Type 0} → SkipWhile G W P → Option P
 skip_while_predicate s = s.predicate
 
--- the walker whose steps are taken, and how many of them still are
+-- the walker whose steps are taken, and how many are left to take
 abbrev pub take_walker : {G W : Type 0} → Take G W → W
 take_walker s = s.walker
 

@@ -2,15 +2,15 @@
 use Rattle.std.specs.Prelude.{ℕ, ◌+◌, ◌*◌, Bool, false, List, [], map, IsTrue, slice_index_or}
 use Rattle.std.specs.List.{range_with_len}
 
--- A set of nodes is a flag for each index below its bound. It has no node past its bound.
+-- A set of nodes is a flag for each index below its bound, and has no node above.
 abbrev pub IsVisited : List Bool → ℕ → Type 0
 IsVisited set n = IsTrue (slice_index_or set n false)
 
--- A matrix is a row for each index below its bound, and a row is a flag for each such index.
+-- A matrix has a row for each index below its bound, and a row has a flag for each such index.
 abbrev pub HasPair : List (List Bool) → ℕ → ℕ → Type 0
 HasPair matrix a b = IsVisited (slice_index_or matrix a []) b
 
--- a matrix out of its rows one after another
+-- a matrix from its rows, one after another
 abbrev pub row_of : ℕ → List Bool → ℕ → List Bool
 row_of bound flags a = map (λ b. slice_index_or flags (a * bound + b) false) (range_with_len 0 bound)
 
