@@ -13,6 +13,8 @@ use Rattle.daggy_base.proofs.Lists.{Mem, Unique, mem_out, mem_left, mem_right, m
 use Rattle.daggy_base.proofs.Lists.{fewer_than, split_at}
 use Rattle.daggy_base.proofs.Lists.{contains_mem}
 use Rattle.daggy_base.proofs.OutEdgesRead.{lists_of, read_part}
+use Rattle.daggy_search.specs.Work.{Work, IsSized}
+use Rattle.daggy_search.proofs.Sized.{sized_put_cursor}
 use Rattle.daggy_search.proofs.SearchProgress.{Met, reaches_stays, marked_within, set_marked}
 use Rattle.daggy_search.proofs.SearchState.{Start, Reading, Searching, all_met_here, from_marked, only_reached}
 use Rattle.daggy_search.proofs.SearchState.{child_found}
@@ -52,16 +54,14 @@ pub reached_exists : {N E : Type 0} (g : Graph N E) (u v : ℕ) → Reaches g u 
 reached_exists g u v r = let P : ℕ → Type 0 = λ z. HasNode g z in subst P r.2 (last_exists g u r.0 r.1)
 
 -- the marked numbers, in a list
-pub record Finding (marks : List Bool) (found : List ℕ) (size count : ℕ) : Type 0 where
+pub record Finding (marks : List Bool) (found : List ℕ) (count : ℕ) : Type 0 where
   pub once : Unique (take count found)
   pub exact : (n : ℕ) → (get_or marks n false ≡ true) ↔ Mem n (take count found)
   pub fits : count ≤ length marks
-  pub capacity : length marks ≤ length found
-  pub sized : length found ≡ size
 
 pub finds_first : (marks : List Bool) (found : List ℕ) {n k m : ℕ}
     → ((i : ℕ) → get_or marks i false ≡ false) → n < length marks → length marks ≤ length found → k ≡ n → m ≡ n
-    → Finding (set marks k true) (set found 0 m) (length found) 1
+    → Finding (set marks k true) (set found 0 m) 1
 finds_first marks found {n} {k} {m} clear low capacity is is' =
     let some : 0 < length found = omega (arith, low, capacity) in
     let one : take 1 (set found 0 m) ≡ m ∷ [] = take_more_set found 0 m some in
@@ -82,18 +82,16 @@ finds_first marks found {n} {k} {m} clear low capacity is is' =
             ),
       );
       fits = omega (arith, low, length-set marks k true);
-      capacity = omega (arith, capacity, length-set marks k true, length-set found 0 m);
-      sized = length-set found 0 m;
     }
 
-module _ {marks : List Bool} {found : List ℕ} {size count : ℕ} (s : Finding marks found size count) (v : ℕ)
-    (low : v < length marks) (unseen : get_or marks v false ≡ false) where
+module _ {marks : List Bool} {found : List ℕ} {count : ℕ} (s : Finding marks found count)
+    (capacity : length marks ≤ length found) (v : ℕ) (low : v < length marks) (unseen : get_or marks v false ≡ false) where
   new_found : Mem v (take count found) → ⊥
   new_found m = false≢true (sym unseen ∙ (s.exact v).1 m)
 
   pub finds_room : count < length marks
   finds_room =
-      let long : length (take count found) ≡ count = length-take-le count found (omega (arith, s.fits, s.capacity)) in
+      let long : length (take count found) ≡ count = length-take-le count found (omega (arith, s.fits, capacity)) in
       let few = fewer_than (v ∷ take count found) (length marks) (new_found, s.once) (λ x m.
       elim m [
         | inl e ↦ omega (arith, e, low)
@@ -101,11 +99,11 @@ module _ {marks : List Bool} {found : List ℕ} {size count : ℕ} (s : Finding 
       ]) in
       omega (arith, few, long)
 
-  pub finds_more : (k m : ℕ) → k ≡ v → m ≡ v → Finding (set marks k true) (set found count m) size (count + 1)
+  pub finds_more : (k m : ℕ) → k ≡ v → m ≡ v → Finding (set marks k true) (set found count m) (count + 1)
   finds_more k m is is' =
-      let capacity = finds_room in
+      let room = finds_room in
       let more : take (count + 1) (set found count m) ≡ take count found ++ m ∷ [] =
-      take_more_set found count m (omega (arith, capacity, s.capacity)) in
+      take_more_set found count m (omega (arith, room, capacity)) in
       let U : List ℕ → Type 0 = λ z. Unique z in
       record {
         once = subst U (sym more) (unique_append (take count found) (m ∷ []) s.once (λ h. h, tt) (λ x a b. elim b [
@@ -131,10 +129,23 @@ module _ {marks : List Bool} {found : List ℕ} {size count : ℕ} (s : Finding 
               ]
               ),
         );
-        fits = omega (arith, capacity, length-set marks k true);
-        capacity = omega (arith, s.capacity, length-set marks k true, length-set found count m);
-        sized = length-set found count m ∙ s.sized;
+        fits = omega (arith, room, length-set marks k true);
       }
+
+-- the worklist of a search that keeps its stack in the place of the cursors
+abbrev pub stacked : Work → Work
+stacked work = record work { nodes = work.cursors; cursors = work.nodes }
+
+pub sized_stacked : {size : ℕ} {work : Work} → IsSized size work → IsSized size (stacked work)
+sized_stacked s =
+    record {
+      size_is = s.size_is;
+      entered_are = s.entered_are;
+      marked_are = s.marked_are;
+      nodes_are = s.cursors_are;
+      cursors_are = s.nodes_are;
+      small = s.small;
+    }
 
 -- what is entered, and what is passed over
 abbrev pub Below : (positions : List ℕ) → (limit : ℕ) → ℕ → Type 0
@@ -146,6 +157,21 @@ Beyond positions limit to n = (limit ≤ get_or positions n 0) × (n ≢ to)
 abbrev pub SearchingBelow : {N E : Type 0} → (end : ℕ) → (positions : List ℕ) → (limit to : ℕ) → Start N E
     → Reading N E → Type 0
 SearchingBelow end positions limit to = Searching end (Below positions limit) (Beyond positions limit to)
+
+-- what the other places hold does not matter to the search
+pub beside : {N E : Type 0} {end : ℕ} {Keep Skip : ℕ → Type 0} {start : Start N E} {now : Reading N E}
+    → Searching end Keep Skip start now → (at n : ℕ)
+    → Searching end Keep Skip start record now { work = record now.work { cursors = set now.work.cursors at n } }
+beside s at n =
+    record {
+      same = s.same;
+      sized = sized_put_cursor s.sized at n;
+      fits = s.fits;
+      high = s.high;
+      looked = s.looked;
+      counted = s.counted;
+      going = s.going;
+    }
 
 module _ {N E : Type 0} {end : ℕ} {start : Start N E} {now : Reading N E} (w : IsWellFormed end start.graph)
     (positions : List ℕ) (limit : ℕ) {Skip : ℕ → Type 0}
@@ -169,10 +195,10 @@ module _ {N E : Type 0} {end : ℕ} {start : Start N E} {now : Reading N E} (w :
         ≤ edges_from start.graph ns
     few_reads =
         edges_few start.graph (s.going.at ∷ s.going.done) ns
-        (unique_right (take now.len now.stack) (s.going.at ∷ s.going.done) s.going.once) (λ x m.
+        (unique_right (take now.len now.work.nodes) (s.going.at ∷ s.going.done) s.going.once) (λ x m.
         let here =
         only_reached w s x
-        ((s.going.marked x).1 (mem_right (take now.len now.stack) (s.going.at ∷ s.going.done) x m)) in
+        ((s.going.marked x).1 (mem_right (take now.len now.work.nodes) (s.going.at ∷ s.going.done) x m)) in
         contains_mem ns x (all x (reached_exists start.graph start.from x here.0) (later x here.0) here.1))
 
     pub few_below : now.looks ≤ start.looks + edges_from start.graph ns
@@ -209,9 +235,9 @@ pub record IsOver {N E : Type 0} (end : ℕ) (start : Start N E) (now : Reading 
 
 module _ {N E : Type 0} {end : ℕ} {start : Start N E} {now : Reading N E} (w : IsWellFormed end start.graph)
     {positions : List ℕ} {limit to : ℕ} (over : IsOver end start now positions limit to) where
-  met : (n : ℕ) → Reaches start.graph start.from n → Met now.marks (Beyond positions limit to) n
+  met : (n : ℕ) → Reaches start.graph start.from n → Met now.work.entered (Beyond positions limit to) n
   met n r =
-      let P : ℕ → Type 0 = λ z. Met now.marks (Beyond positions limit to) z in
+      let P : ℕ → Type 0 = λ z. Met now.work.entered (Beyond positions limit to) z in
       reaches_stays start.graph P (λ u v m j.
       let up = over.ascending u v j in
       elim m [
@@ -236,7 +262,7 @@ module _ {N E : Type 0} {end : ℕ} {start : Start N E} {now : Reading N E} (w :
       ]
 
   pub exactly : (n : ℕ)
-      → (get_or now.marks n false ≡ true) ↔ (Reaches start.graph start.from n × (get_or positions n 0 < limit))
+      → (get_or now.work.entered n false ≡ true) ↔ (Reaches start.graph start.from n × (get_or positions n 0 < limit))
   exactly n = (
     λ m. only_reached w over.so_far n m,
     λ r. elim (met n r.0) [

@@ -21,7 +21,7 @@ same g c =
     omega (
       arith,
       c.find_redundant.ensures.edges_kept,
-      ap (λ (z : List g.row.Ix.Denot). length z) c.as_mut_slice-3.ensures.value,
+      ap (λ (z : List g.row.Ix.Denot). length z) c.as_mut_slice-edges.ensures.value,
       found.ok.0,
     ) in
     ap (λ z. take count (map number z)) (sym (with_items_is found edges long))

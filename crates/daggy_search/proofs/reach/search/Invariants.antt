@@ -1,4 +1,4 @@
-use Rattle.std.proofs.Common.{◌+◌, ◌-◌, ◌*◌, length}
+use Rattle.std.proofs.Common.{◌+◌, ◌-◌, ◌*◌}
 use Rattle.daggy_base.specs.Graph.{edge_count}
 use Rattle.daggy_search.proofs.SearchState.{SearchingFor}
 use Rattle.daggy_search.proofs.reach.search.Given as goal
@@ -8,12 +8,11 @@ invariant-steps g l =
     SearchingFor g.Ix.IndexType.greatest (g.Ix.IndexType.number l.fn.to) record {
       graph = g.S.EdgeSource.graph l.fn.source;
       from = g.Ix.IndexType.number l.fn.from;
-      marks = length l.fn.marks;
+      size = l.fn.work.size;
       looks = g.S.EdgeSource.looks l.fn.source;
     } record {
       graph = g.S.EdgeSource.graph l.source;
-      marks = l.marks;
-      stack = l.stack;
+      work = l.work;
       len = l.len;
       edge = g.Ix.IndexType.number l.e;
       looks = g.S.EdgeSource.looks l.source;
