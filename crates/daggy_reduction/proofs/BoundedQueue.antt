@@ -2,9 +2,8 @@
 use Rattle.std.proofs.Common.{◌≡◌, ◌≢◌, ℕ, ◌+◌, ◌<◌, ◌≤◌, max, Bool, true, false, ◌⊎◌, ◌↔◌, inl, inr}
 use Rattle.std.proofs.Common.{Some, List, [], ◌∷◌, length, get_or, take, refl, sym, ap, subst, ◌∙◌, arith}
 use Rattle.std.proofs.Math.Nat.{le-max_left, le-max_right}
-use Rattle.std.proofs.lemmas.Bool.{cases_eq}
 use Rattle.std.proofs.lemmas.List.{length-take-le}
-use Rattle.daggy_base.specs.Graph.{Graph, Edge, HasNode, out_list, edge_at, node_bound}
+use Rattle.daggy_base.specs.Graph.{Graph, Edge, HasNode, out_list, edge_at}
 use Rattle.daggy_base.specs.Path.{AreJoined, Reaches}
 use Rattle.daggy_base.specs.Reduction.{ReachesIndirectly}
 use Rattle.daggy_base.specs.WellFormed.{IsWellFormed}
@@ -15,7 +14,7 @@ use Rattle.daggy_base.proofs.OutEdgesRead.{listed}
 use Rattle.daggy_base.specs.Ordered.{IsOrderOf, place, stretch}
 use Rattle.daggy_order.proofs.BoundedSearch.{reached_exists}
 use Rattle.daggy_order.proofs.OrderLaws.{acyclic_from_order}
-use Rattle.daggy_order.proofs.Sorted.{place_at, place_same, place_other}
+use Rattle.daggy_order.proofs.Sorted.{place_at}
 use Rattle.daggy_order.proofs.ListParts.{in_stretch}
 use Rattle.daggy_reduction.specs.Closure.{behind}
 use Rattle.daggy_reduction.specs.SearchSpan.{child_place, latest, last_place, edges_spanned}

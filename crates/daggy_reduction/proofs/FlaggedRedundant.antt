@@ -1,9 +1,7 @@
 -- Edges flagged by marks are those that a longer way makes redundant.
 use Rattle.std.proofs.Common.{◌≡◌, ℕ, suc, ◌+◌, ◌<◌, Bool, true, false, ◌⊎◌, ◌↔◌, inl, inr, List, [], ◌∷◌, length}
-use Rattle.std.proofs.Common.{get_or, take, set, sym, ap, subst, ◌∙◌, arith, replicate}
-use Rattle.std.proofs.lemmas.List.{get_or-replicate, length-replicate}
-use Rattle.std.proofs.lemmas.Bool.{false≢true, cases_lt}
-use Rattle.std.proofs.lemmas.List.{get_or_past}
+use Rattle.std.proofs.Common.{get_or, take, set, sym, ap, subst, ◌∙◌, arith}
+use Rattle.std.proofs.lemmas.Bool.{false≢true}
 use Rattle.daggy_base.specs.Graph.{Graph, HasNode}
 use Rattle.daggy_base.specs.Path.{AreJoined, IsAcyclic}
 use Rattle.daggy_base.specs.Reduction.{ReachesIndirectly}

@@ -148,38 +148,6 @@ fn flag_redundant_in<Ix: IndexType, S: EdgeSource<Ix>>(
     }
 }
 
-// Puts the edges that are redundant below some roots in front of a list, and returns how many there
-// are.
-fn find_redundant_in<Ix: IndexType, S: EdgeSource<Ix>>(
-    source: &mut S,
-    order: &Order<Ix>,
-    roots: &[NodeIndex<Ix>],
-    work: &mut Worklist<Ix>,
-    edges: &mut [EdgeIndex<Ix>],
-) -> usize
-    requires ordered { IsOrderOf (S.graph source.old) order.now }
-    requires fits { node_bound (S.graph source.old) ≤ work.old.size }
-    requires edges_fit { edge_bound (S.graph source.old) ≤ length edges.old }
-    ensures same { S.graph source.new ≡ S.graph source.old }
-    ensures within { result ≤ length edges.new }
-    ensures ascending { IsAscending (take result (map Ix.number edges.new)) }
-    ensures exact { (e : ℕ) → Contains (take result (map Ix.number edges.new)) e
-        ↔ IsRedundant (S.graph source.old) (map Ix.number roots.now) e }
-    ensures looked { S.looks source.old ≤ S.looks source.new }
-    ensures counted { S.looks source.new ≤ S.looks source.old
-        + (node_count (S.graph source.old) + 2) * edge_count (S.graph source.old) }
-    ensures spanned { S.looks source.new ≤ S.looks source.old
-        + 2 * edge_count (S.graph source.old)
-        + all_spanned (S.graph source.old) order.now order.now }
-    ensures kept { work.new.size ≡ work.old.size }
-    ensures edges_kept { length edges.new ≡ length edges.old }
-{
-    let _well_formed = source.node_bound();
-    let bound = source.edge_bound();
-    flag_redundant_in(source, order, roots, work, edges);
-    gather_flagged(edges, bound)
-}
-
 // Leaves the redundant edges below some roots in front of `scratch.found`, and returns how many
 // there are.
 pub(crate) fn leave_redundant_in<Ix: IndexType, S: EdgeSource<Ix>>(
@@ -205,8 +173,11 @@ pub(crate) fn leave_redundant_in<Ix: IndexType, S: EdgeSource<Ix>>(
     ensures nodes_kept { scratch.new.nodes ≡ scratch.old.nodes }
     ensures edges_kept { scratch.new.edges ≡ scratch.old.edges }
 {
-    let edges = scratch.found.as_mut_slice();
-    find_redundant_in(source, order, roots, &mut scratch.work, edges)
+    let _well_formed = source.node_bound();
+    let bound = source.edge_bound();
+    let flags = scratch.found.as_mut_slice();
+    flag_redundant_in(source, order, roots, &mut scratch.work, flags);
+    gather_flagged(flags, bound)
 }
 
 /// As [`redundant_edges`](crate::redundant::redundant_edges), by a topological order of the nodes.

@@ -13,11 +13,7 @@ use daggy_search::Worklist;
 
 // Appends a node to the queue of a worklist unless it is there, and returns the new length.
 #[inline]
-pub(crate) fn enter<Ix: IndexType>(
-    work: &mut Worklist<Ix>,
-    len: usize,
-    n: NodeIndex<Ix>,
-) -> usize
+pub(crate) fn enter<Ix: IndexType>(work: &mut Worklist<Ix>, len: usize, n: NodeIndex<Ix>) -> usize
     requires low { Ix.number n < length work.old.entered }
     requires room { slice_index_or work.old.entered (Ix.number n) false ≡ false
         → len < length work.old.nodes }

@@ -1,4 +1,4 @@
-use Rattle.std.proofs.Common.{◌≡◌, ◌+◌, ◌<◌, ℕ, [], ◌∷◌, false, true, map, take, set, get_or, length, subst, ap, ◌∙◌, arith}
+use Rattle.std.proofs.Common.{◌≡◌, ◌<◌, ℕ, [], ◌∷◌, false, true, map, take, set, get_or, length, subst, ap, arith}
 use Rattle.daggy_base.specs.Graph.{Graph}
 use Rattle.daggy_base.proofs.OutEdgesRead.{below_bound}
 use Rattle.daggy_search.specs.Work.{Work}
