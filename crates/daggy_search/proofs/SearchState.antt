@@ -1,7 +1,7 @@
 -- The state of a search, by the variables of its code.
-use Rattle.std.proofs.Common.{◌≡◌, ◌≢◌, ℕ, ◌+◌, ◌-◌, ◌<◌, ◌≤◌, true, false, inl, inr, List, [], ◌∷◌, ◌++◌, length}
-use Rattle.std.proofs.Common.{get_or, take, set, refl, sym, ap, subst, ◌∙◌, arith}
-use Rattle.std.proofs.lemmas.List.{take_more, take_more_set, length-take-le, get_or-set_same}
+use Rattle.std.proofs.Common.{◌≡◌, ◌≢◌, ℕ, ◌+◌, ◌<◌, ◌≤◌, true, false, inl, inr, List, [], ◌∷◌, ◌++◌, length}
+use Rattle.std.proofs.Common.{get_or, set, refl, sym, ap, subst, ◌∙◌, arith}
+use Rattle.std.proofs.lemmas.List.{get_or-set_same}
 use Rattle.daggy_base.specs.Graph.{Graph, HasNode, HasEdge, out_list, node_bound, edge_count}
 use Rattle.daggy_base.specs.Path.{AreJoined, Reaches}
 use Rattle.daggy_base.specs.Cursor.{first_of}
@@ -92,10 +92,10 @@ module _ {N E : Type 0} {end : ℕ} {Keep Skip : ℕ → Type 0} {start : Start 
       all_met end start.graph w Keep Skip start.from now.work.entered now.edge s.looked (subst P empty s.going) h
 
   -- another node is read
-  goes_on : {rest : List ℕ} {u e' : ℕ}
+  goes_on : {rest : List ℕ} (u : ℕ) {e' : ℕ}
       → Going end start.graph Keep Skip start.from now.work.entered rest (first_of end (out_list start.graph u)) s.looked
       → e' ≡ first_of end (out_list now.graph u) → Searching end Keep Skip start record now { waiting = rest; edge = e' }
-  goes_on {rest} {u} going first =
+  goes_on {rest} u going first =
       record {
         same = s.same;
         sized = s.sized;
@@ -106,19 +106,19 @@ module _ {N E : Type 0} {end : ℕ} {Keep Skip : ℕ → Type 0} {start : Start 
       }
 
   -- the last of a stack
-  pub pops : now.edge ≡ end → {front : List ℕ} {u e' : ℕ} → now.waiting ≡ front ++ u ∷ []
+  pub pops : now.edge ≡ end → {front : List ℕ} (u : ℕ) {e' : ℕ} → now.waiting ≡ front ++ u ∷ []
       → e' ≡ first_of end (out_list now.graph u) → Searching end Keep Skip start record now { waiting = front; edge = e' }
-  pops h {front} {u} is first =
+  pops h {front} u is first =
       let P : List ℕ → Type 0 = λ z. Going end start.graph Keep Skip start.from now.work.entered z now.edge s.looked in
-      goes_on (popped end start.graph w Keep Skip start.from now.work.entered front u now.edge s.looked
+      goes_on u (popped end start.graph w Keep Skip start.from now.work.entered front u now.edge s.looked
       (subst P is s.going) h) first
 
   -- the first of a queue
-  pub reads_next : now.edge ≡ end → {rest : List ℕ} {u e' : ℕ} → now.waiting ≡ u ∷ rest
+  pub reads_next : now.edge ≡ end → {rest : List ℕ} (u : ℕ) {e' : ℕ} → now.waiting ≡ u ∷ rest
       → e' ≡ first_of end (out_list now.graph u) → Searching end Keep Skip start record now { waiting = rest; edge = e' }
-  reads_next h {rest} {u} is first =
+  reads_next h {rest} u is first =
       let P : List ℕ → Type 0 = λ z. Going end start.graph Keep Skip start.from now.work.entered z now.edge s.looked in
-      goes_on (next_read end start.graph w Keep Skip start.from now.work.entered rest u now.edge s.looked
+      goes_on u (next_read end start.graph w Keep Skip start.from now.work.entered rest u now.edge s.looked
       (subst P is s.going) h) first
 
   module _ (here : now.edge ≢ end) {v next : ℕ} (look : IsLook end now.graph now.edge v next) where
