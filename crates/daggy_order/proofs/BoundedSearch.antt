@@ -1,9 +1,10 @@
 -- A search among nodes whose positions are below a limit.
 use Rattle.std.proofs.Common.{◌≡◌, ◌≢◌, ℕ, ◌+◌, ◌<◌, ◌≤◌, Bool, true, false, ◌↔◌, inl, inr, List, [], ◌∷◌, ◌++◌, length}
-use Rattle.std.proofs.Common.{get_or, set, take, refl, sym, ap, subst, ◌∙◌, arith}
+use Rattle.std.proofs.Common.{get_or, set, take, drop, refl, sym, ap, subst, ◌∙◌, arith}
 use Rattle.std.specs.List.{Contains}
 use Rattle.std.proofs.lemmas.Bool.{false≢true}
-use Rattle.std.proofs.lemmas.List.{length-append, length-set, length-take-le, take_more_set}
+use Rattle.std.proofs.lemmas.List.{length-append, length-set, length-take-le, take_more_set, drop_more, drop-append-le}
+use Rattle.std.proofs.lemmas.List.{get_or-take}
 use Rattle.daggy_base.specs.Graph.{Graph, HasNode, out_list}
 use Rattle.daggy_base.specs.Path.{AreJoined, IsPath, Reaches, end_of}
 use Rattle.daggy_base.specs.Ordered.{edges_from}
@@ -13,8 +14,6 @@ use Rattle.daggy_base.proofs.Lists.{Mem, Unique, mem_out, mem_left, mem_right, m
 use Rattle.daggy_base.proofs.Lists.{fewer_than, split_at}
 use Rattle.daggy_base.proofs.Lists.{contains_mem}
 use Rattle.daggy_base.proofs.OutEdgesRead.{lists_of, read_part}
-use Rattle.daggy_search.specs.Work.{Work, IsSized}
-use Rattle.daggy_search.proofs.Sized.{sized_put_cursor}
 use Rattle.daggy_search.proofs.SearchProgress.{Met, reaches_stays, marked_within, set_marked}
 use Rattle.daggy_search.proofs.SearchState.{Start, Reading, Searching, all_met_here, from_marked, only_reached}
 use Rattle.daggy_search.proofs.SearchState.{child_found}
@@ -132,20 +131,25 @@ module _ {marks : List Bool} {found : List ℕ} {count : ℕ} (s : Finding marks
         fits = omega (arith, room, length-set marks k true);
       }
 
--- the worklist of a search that keeps its stack in the place of the cursors
-abbrev pub stacked : Work → Work
-stacked work = record work { nodes = work.cursors; cursors = work.nodes }
+-- only one is found, and read
+pub none_waits : (found : List ℕ) → drop 1 (take 1 found) ≡ []
+none_waits [] = refl
+none_waits (x ∷ xs) = refl
 
-pub sized_stacked : {size : ℕ} {work : Work} → IsSized size work → IsSized size (stacked work)
-sized_stacked s =
-    record {
-      size_is = s.size_is;
-      entered_are = s.entered_are;
-      marked_are = s.marked_are;
-      nodes_are = s.cursors_are;
-      cursors_are = s.nodes_are;
-      small = s.small;
-    }
+-- of the numbers found so far, those from `head` on wait to be read
+pub first_waits : (found : List ℕ) {head count u : ℕ}
+    → head < count → count ≤ length found → u ≡ get_or found head u
+    → drop head (take count found) ≡ u ∷ drop (head + 1) (take count found)
+first_waits found {head} {count} {u} low within is =
+    drop_more (take count found) head u (omega (arith, low, length-take-le count found within))
+    ∙ ap (λ z. z ∷ drop (head + 1) (take count found)) (get_or-take count found head u low ∙ sym is)
+
+pub one_waits : (found : List ℕ) {head count : ℕ} (v : ℕ) → head ≤ count → count < length found
+    → drop head (take (count + 1) (set found count v)) ≡ drop head (take count found) ++ v ∷ []
+one_waits found {head} {count} v low within =
+    ap (drop head) (take_more_set found count v within)
+    ∙ drop-append-le head (take count found) (v ∷ [])
+    (omega (arith, low, length-take-le count found (omega (arith, within))))
 
 -- what is entered, and what is passed over
 abbrev pub Below : (positions : List ℕ) → (limit : ℕ) → ℕ → Type 0
@@ -157,21 +161,6 @@ Beyond positions limit to n = (limit ≤ get_or positions n 0) × (n ≢ to)
 abbrev pub SearchingBelow : {N E : Type 0} → (end : ℕ) → (positions : List ℕ) → (limit to : ℕ) → Start N E
     → Reading N E → Type 0
 SearchingBelow end positions limit to = Searching end (Below positions limit) (Beyond positions limit to)
-
--- what the other places hold does not matter to the search
-pub beside : {N E : Type 0} {end : ℕ} {Keep Skip : ℕ → Type 0} {start : Start N E} {now : Reading N E}
-    → Searching end Keep Skip start now → (at n : ℕ)
-    → Searching end Keep Skip start record now { work = record now.work { cursors = set now.work.cursors at n } }
-beside s at n =
-    record {
-      same = s.same;
-      sized = sized_put_cursor s.sized at n;
-      fits = s.fits;
-      high = s.high;
-      looked = s.looked;
-      counted = s.counted;
-      going = s.going;
-    }
 
 module _ {N E : Type 0} {end : ℕ} {start : Start N E} {now : Reading N E} (w : IsWellFormed end start.graph)
     (positions : List ℕ) (limit : ℕ) {Skip : ℕ → Type 0}
@@ -195,10 +184,10 @@ module _ {N E : Type 0} {end : ℕ} {start : Start N E} {now : Reading N E} (w :
         ≤ edges_from start.graph ns
     few_reads =
         edges_few start.graph (s.going.at ∷ s.going.done) ns
-        (unique_right (take now.len now.work.nodes) (s.going.at ∷ s.going.done) s.going.once) (λ x m.
+        (unique_right now.waiting (s.going.at ∷ s.going.done) s.going.once) (λ x m.
         let here =
         only_reached w s x
-        ((s.going.marked x).1 (mem_right (take now.len now.work.nodes) (s.going.at ∷ s.going.done) x m)) in
+        ((s.going.marked x).1 (mem_right now.waiting (s.going.at ∷ s.going.done) x m)) in
         contains_mem ns x (all x (reached_exists start.graph start.from x here.0) (later x here.0) here.1))
 
     pub few_below : now.looks ≤ start.looks + edges_from start.graph ns
@@ -230,7 +219,7 @@ pub record IsOver {N E : Type 0} (end : ℕ) (start : Start N E) (now : Reading 
   pub ascending : (u v : ℕ) → AreJoined start.graph u v → get_or positions u 0 < get_or positions v 0
   pub so_far : SearchingBelow end positions limit to start now
   pub ended : now.edge ≡ end
-  pub empty : now.len ≡ 0
+  pub empty : now.waiting ≡ []
   pub limit_is : get_or positions to 0 ≡ limit
 
 module _ {N E : Type 0} {end : ℕ} {start : Start N E} {now : Reading N E} (w : IsWellFormed end start.graph)

@@ -13,7 +13,7 @@ use daggy_base::link::Link;
 use daggy_base::source::EdgeSource;
 use daggy_search::Worklist;
 
-// Collects at the front of the worklist the nodes reachable from `from` whose label is below `limit`
+// Collects at the front of a worklist, breadth first, the nodes reachable from `from` whose label is below `limit`
 // (the label of `to`), and returns how many. Returns `None` if `to` is reachable. Every parent's
 // label is lower than its children's.
 pub(crate) fn reaches_below<Ix: IndexType, S: EdgeSource<Ix>>(
@@ -53,26 +53,22 @@ pub(crate) fn reaches_below<Ix: IndexType, S: EdgeSource<Ix>>(
     work.enter(from.index());
     work.put_node(0, Link::of_node(from));
     let mut count = 1;
-    // How many nodes are on the stack, for which the cursors serve.
-    let mut len = 0;
+    let mut head = 0;
     let mut e = source.first(from);
     'steps: loop {
         if e.index() == end {
-            if len == 0 {
+            head += 1;
+            if head == count {
                 return Some(count);
             }
-            len -= 1;
-            e = source.first(work.cursor(len).node());
+            e = source.first(work.node(head).node());
         } else {
             let (v, next) = source.look(e);
             let i = v.index();
             if links.label(i) < limit {
                 if !work.is_entered(i) {
                     work.enter(i);
-                    let link = Link::of_node(v);
-                    work.put_cursor(len, link);
-                    len += 1;
-                    work.put_node(count, link);
+                    work.put_node(count, Link::of_node(v));
                     count += 1;
                 }
             } else if i == target {

@@ -1,4 +1,4 @@
-use Rattle.std.proofs.Common.{◌+◌, ◌-◌, ◌*◌}
+use Rattle.std.proofs.Common.{◌+◌, ◌-◌, ◌*◌, ◌≤◌, take}
 use Rattle.daggy_base.specs.Graph.{edge_count}
 use Rattle.daggy_search.proofs.SearchState.{SearchingFor}
 use Rattle.daggy_search.proofs.reach.search.Given as goal
@@ -13,10 +13,11 @@ invariant-steps g l =
     } record {
       graph = g.S.EdgeSource.graph l.source;
       work = l.work;
-      len = l.len;
+      waiting = take l.len l.work.nodes;
       edge = g.Ix.IndexType.number l.e;
       looks = g.S.EdgeSource.looks l.source;
     }
+    × (l.len ≤ l.fn.work.size)
 
 abbrev pub decreases-steps : goal.decreases-steps
 decreases-steps g l =

@@ -1,6 +1,6 @@
-use Rattle.std.proofs.Common.{◌+◌, ◌-◌, ◌*◌}
+use Rattle.std.proofs.Common.{◌+◌, ◌-◌, ◌*◌, ◌<◌, drop, take}
 use Rattle.daggy_base.specs.Graph.{edge_count}
-use Rattle.daggy_order.proofs.BoundedSearch.{SearchingBelow, Finding, stacked}
+use Rattle.daggy_order.proofs.BoundedSearch.{SearchingBelow, Finding}
 use Rattle.daggy_order.proofs.order.search.reaches_below.Given as goal
 
 abbrev pub invariant-steps : goal.invariant-steps
@@ -12,15 +12,15 @@ invariant-steps g l =
       looks = g.S.EdgeSource.looks l.fn.source;
     } record {
       graph = g.S.EdgeSource.graph l.source;
-      work = stacked l.work;
-      len = l.len;
+      work = l.work;
+      waiting = drop (l.head + 1) (take l.count l.work.nodes);
       edge = g.Ix.IndexType.number l.e;
       looks = g.S.EdgeSource.looks l.source;
     }
-    × Finding l.work.entered l.work.nodes l.count
+    × Finding l.work.entered l.work.nodes l.count × (l.head < l.count)
 
 abbrev pub decreases-steps : goal.decreases-steps
 decreases-steps g l =
     2
     * (edge_count (g.S.EdgeSource.graph l.fn.source) + g.S.EdgeSource.looks l.fn.source - g.S.EdgeSource.looks l.source)
-    + l.len
+    + (l.count - l.head)
