@@ -1,9 +1,10 @@
 -- A search among nodes whose positions are below a limit.
 use Rattle.std.proofs.Common.{◌≡◌, ◌≢◌, ℕ, ◌+◌, ◌<◌, ◌≤◌, Bool, true, false, ◌↔◌, inl, inr, List, [], ◌∷◌, ◌++◌, length}
-use Rattle.std.proofs.Common.{get_or, set, take, refl, sym, ap, subst, ◌∙◌, arith}
+use Rattle.std.proofs.Common.{get_or, set, take, drop, refl, sym, ap, subst, ◌∙◌, arith}
 use Rattle.std.specs.List.{Contains}
 use Rattle.std.proofs.lemmas.Bool.{false≢true}
-use Rattle.std.proofs.lemmas.List.{length-append, length-set, length-take-le, take_more_set}
+use Rattle.std.proofs.lemmas.List.{length-append, length-set, length-take-le, take_more_set, drop_more, drop-append-le}
+use Rattle.std.proofs.lemmas.List.{get_or-take}
 use Rattle.daggy_base.specs.Graph.{Graph, HasNode, out_list}
 use Rattle.daggy_base.specs.Path.{AreJoined, IsPath, Reaches, end_of}
 use Rattle.daggy_base.specs.Ordered.{edges_from}
@@ -52,16 +53,14 @@ pub reached_exists : {N E : Type 0} (g : Graph N E) (u v : ℕ) → Reaches g u 
 reached_exists g u v r = let P : ℕ → Type 0 = λ z. HasNode g z in subst P r.2 (last_exists g u r.0 r.1)
 
 -- the marked numbers, in a list
-pub record Finding (marks : List Bool) (found : List ℕ) (size count : ℕ) : Type 0 where
+pub record Finding (marks : List Bool) (found : List ℕ) (count : ℕ) : Type 0 where
   pub once : Unique (take count found)
   pub exact : (n : ℕ) → (get_or marks n false ≡ true) ↔ Mem n (take count found)
   pub fits : count ≤ length marks
-  pub capacity : length marks ≤ length found
-  pub sized : length found ≡ size
 
 pub finds_first : (marks : List Bool) (found : List ℕ) {n k m : ℕ}
     → ((i : ℕ) → get_or marks i false ≡ false) → n < length marks → length marks ≤ length found → k ≡ n → m ≡ n
-    → Finding (set marks k true) (set found 0 m) (length found) 1
+    → Finding (set marks k true) (set found 0 m) 1
 finds_first marks found {n} {k} {m} clear low capacity is is' =
     let some : 0 < length found = omega (arith, low, capacity) in
     let one : take 1 (set found 0 m) ≡ m ∷ [] = take_more_set found 0 m some in
@@ -82,18 +81,16 @@ finds_first marks found {n} {k} {m} clear low capacity is is' =
             ),
       );
       fits = omega (arith, low, length-set marks k true);
-      capacity = omega (arith, capacity, length-set marks k true, length-set found 0 m);
-      sized = length-set found 0 m;
     }
 
-module _ {marks : List Bool} {found : List ℕ} {size count : ℕ} (s : Finding marks found size count) (v : ℕ)
-    (low : v < length marks) (unseen : get_or marks v false ≡ false) where
+module _ {marks : List Bool} {found : List ℕ} {count : ℕ} (s : Finding marks found count)
+    (capacity : length marks ≤ length found) (v : ℕ) (low : v < length marks) (unseen : get_or marks v false ≡ false) where
   new_found : Mem v (take count found) → ⊥
   new_found m = false≢true (sym unseen ∙ (s.exact v).1 m)
 
   pub finds_room : count < length marks
   finds_room =
-      let long : length (take count found) ≡ count = length-take-le count found (omega (arith, s.fits, s.capacity)) in
+      let long : length (take count found) ≡ count = length-take-le count found (omega (arith, s.fits, capacity)) in
       let few = fewer_than (v ∷ take count found) (length marks) (new_found, s.once) (λ x m.
       elim m [
         | inl e ↦ omega (arith, e, low)
@@ -101,11 +98,11 @@ module _ {marks : List Bool} {found : List ℕ} {size count : ℕ} (s : Finding 
       ]) in
       omega (arith, few, long)
 
-  pub finds_more : (k m : ℕ) → k ≡ v → m ≡ v → Finding (set marks k true) (set found count m) size (count + 1)
+  pub finds_more : (k m : ℕ) → k ≡ v → m ≡ v → Finding (set marks k true) (set found count m) (count + 1)
   finds_more k m is is' =
-      let capacity = finds_room in
+      let room = finds_room in
       let more : take (count + 1) (set found count m) ≡ take count found ++ m ∷ [] =
-      take_more_set found count m (omega (arith, capacity, s.capacity)) in
+      take_more_set found count m (omega (arith, room, capacity)) in
       let U : List ℕ → Type 0 = λ z. Unique z in
       record {
         once = subst U (sym more) (unique_append (take count found) (m ∷ []) s.once (λ h. h, tt) (λ x a b. elim b [
@@ -131,10 +128,28 @@ module _ {marks : List Bool} {found : List ℕ} {size count : ℕ} (s : Finding 
               ]
               ),
         );
-        fits = omega (arith, capacity, length-set marks k true);
-        capacity = omega (arith, s.capacity, length-set marks k true, length-set found count m);
-        sized = length-set found count m ∙ s.sized;
+        fits = omega (arith, room, length-set marks k true);
       }
+
+-- only one is found, and read
+pub none_waits : (found : List ℕ) → drop 1 (take 1 found) ≡ []
+none_waits [] = refl
+none_waits (x ∷ xs) = refl
+
+-- of the numbers found so far, those from `head` on wait to be read
+pub first_waits : (found : List ℕ) {head count u : ℕ}
+    → head < count → count ≤ length found → u ≡ get_or found head u
+    → drop head (take count found) ≡ u ∷ drop (head + 1) (take count found)
+first_waits found {head} {count} {u} low within is =
+    drop_more (take count found) head u (omega (arith, low, length-take-le count found within))
+    ∙ ap (λ z. z ∷ drop (head + 1) (take count found)) (get_or-take count found head u low ∙ sym is)
+
+pub one_waits : (found : List ℕ) {head count : ℕ} (v : ℕ) → head ≤ count → count < length found
+    → drop head (take (count + 1) (set found count v)) ≡ drop head (take count found) ++ v ∷ []
+one_waits found {head} {count} v low within =
+    ap (drop head) (take_more_set found count v within)
+    ∙ drop-append-le head (take count found) (v ∷ [])
+    (omega (arith, low, length-take-le count found (omega (arith, within))))
 
 -- what is entered, and what is passed over
 abbrev pub Below : (positions : List ℕ) → (limit : ℕ) → ℕ → Type 0
@@ -169,10 +184,10 @@ module _ {N E : Type 0} {end : ℕ} {start : Start N E} {now : Reading N E} (w :
         ≤ edges_from start.graph ns
     few_reads =
         edges_few start.graph (s.going.at ∷ s.going.done) ns
-        (unique_right (take now.len now.stack) (s.going.at ∷ s.going.done) s.going.once) (λ x m.
+        (unique_right now.waiting (s.going.at ∷ s.going.done) s.going.once) (λ x m.
         let here =
         only_reached w s x
-        ((s.going.marked x).1 (mem_right (take now.len now.stack) (s.going.at ∷ s.going.done) x m)) in
+        ((s.going.marked x).1 (mem_right now.waiting (s.going.at ∷ s.going.done) x m)) in
         contains_mem ns x (all x (reached_exists start.graph start.from x here.0) (later x here.0) here.1))
 
     pub few_below : now.looks ≤ start.looks + edges_from start.graph ns
@@ -204,14 +219,14 @@ pub record IsOver {N E : Type 0} (end : ℕ) (start : Start N E) (now : Reading 
   pub ascending : (u v : ℕ) → AreJoined start.graph u v → get_or positions u 0 < get_or positions v 0
   pub so_far : SearchingBelow end positions limit to start now
   pub ended : now.edge ≡ end
-  pub empty : now.len ≡ 0
+  pub empty : now.waiting ≡ []
   pub limit_is : get_or positions to 0 ≡ limit
 
 module _ {N E : Type 0} {end : ℕ} {start : Start N E} {now : Reading N E} (w : IsWellFormed end start.graph)
     {positions : List ℕ} {limit to : ℕ} (over : IsOver end start now positions limit to) where
-  met : (n : ℕ) → Reaches start.graph start.from n → Met now.marks (Beyond positions limit to) n
+  met : (n : ℕ) → Reaches start.graph start.from n → Met now.work.entered (Beyond positions limit to) n
   met n r =
-      let P : ℕ → Type 0 = λ z. Met now.marks (Beyond positions limit to) z in
+      let P : ℕ → Type 0 = λ z. Met now.work.entered (Beyond positions limit to) z in
       reaches_stays start.graph P (λ u v m j.
       let up = over.ascending u v j in
       elim m [
@@ -236,7 +251,7 @@ module _ {N E : Type 0} {end : ℕ} {start : Start N E} {now : Reading N E} (w :
       ]
 
   pub exactly : (n : ℕ)
-      → (get_or now.marks n false ≡ true) ↔ (Reaches start.graph start.from n × (get_or positions n 0 < limit))
+      → (get_or now.work.entered n false ≡ true) ↔ (Reaches start.graph start.from n × (get_or positions n 0 < limit))
   exactly n = (
     λ m. only_reached w over.so_far n m,
     λ r. elim (met n r.0) [

@@ -1,7 +1,6 @@
 -- The nodes that a search for cycles sorted.
-use Rattle.std.proofs.Common.{◌≡◌, ℕ, zero, suc, ◌<◌, ◌-◌, ◌∙◌, inl, inr, List, [], ◌∷◌, length, take, drop, get_or}
-use Rattle.std.proofs.Common.{sym, ap, subst, arith}
-use Rattle.std.proofs.lemmas.List.{length-drop, take_all}
+use Rattle.std.proofs.Common.{◌≡◌, ℕ, zero, suc, ◌<◌, inl, inr, List, [], ◌∷◌, length, take, get_or}
+use Rattle.std.proofs.Common.{sym, subst, arith}
 use Rattle.std.specs.List.{Contains}
 use Rattle.daggy_base.specs.Graph.{Graph}
 use Rattle.daggy_base.specs.Path.{AreJoined}
@@ -12,12 +11,6 @@ use Rattle.daggy_base.proofs.OutEdgesRead.{below_bound}
 use Rattle.daggy_base.proofs.PathsWithNode.{bound_low}
 use Rattle.daggy_base.specs.Ordered.{IsOrderOf, place}
 use Rattle.daggy_base.proofs.Sorted.{place_same, place_other}
-
--- what stands from a place on, read as a slice
-pub whole_back : (t : ℕ) (xs : List ℕ) → take (length xs - t) (drop t xs) ≡ drop t xs
-whole_back t xs =
-    ap (λ (z : ℕ). take z (drop t xs)) (sym (length-drop t xs))
-    ∙ take_all (length (drop t xs)) (drop t xs) (omega arith)
 
 -- a node of a list does not stand before itself
 pub not_before : (xs : List ℕ)

@@ -183,7 +183,6 @@ impl<Ix: IndexType> LabeledList<Ix> {
         ensures { IsTrue result
             ↔ (place self.now.nodes (Ix.number a) < place self.now.nodes (Ix.number b)) }
     {
-        let _count = self.links.len();
         self.links.label(a.index()) < self.links.label(b.index())
     }
 

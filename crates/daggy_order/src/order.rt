@@ -3,7 +3,7 @@ ghost use Rattle.std.specs.Prelude.{◌≡◌, ◌≢◌, ℕ, List, ◌<◌, �
 ghost use Rattle.std.specs.Prelude.{slice_index, map, IsTrue, Contains, OnOk, OnErr, IfOk};
 ghost use Rattle.daggy_base.specs.Removal.{without, renamed};
 ghost use Rattle.daggy_base.specs.WellFormed.{AreDistinct};
-ghost use Rattle.daggy_base.specs.Ordered.{place, with_first};
+ghost use Rattle.daggy_base.specs.Ordered.{place};
 
 use crate::list::{LabeledList, Tail};
 use daggy_base::index::{DefaultIx, IndexType, NodeIndex};
@@ -240,19 +240,6 @@ impl<Ix: IndexType> Order<Ix> {
     {
         self.tail = self.list.flush(self.tail);
         self.list.move_before(n, b);
-    }
-
-    /// Moves nodes to the front, in the order of a list. The others follow in their old order. Each
-    /// costs a `move_first`.
-    pub fn move_all_first(&mut self, nodes: &[Link<Ix>])
-        requires { (n : ℕ) → Contains nodes.now n → Contains self.old n }
-        ensures { self.new ≡ with_first nodes.now self.old }
-    {
-        let mut left = nodes.len();
-        'nodes: while left > 0 {
-            left -= 1;
-            self.move_first(nodes[left].node());
-        }
     }
 
     /// The position of a node. O(position).

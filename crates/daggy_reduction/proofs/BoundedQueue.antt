@@ -2,9 +2,8 @@
 use Rattle.std.proofs.Common.{◌≡◌, ◌≢◌, ℕ, ◌+◌, ◌<◌, ◌≤◌, max, Bool, true, false, ◌⊎◌, ◌↔◌, inl, inr}
 use Rattle.std.proofs.Common.{Some, List, [], ◌∷◌, length, get_or, take, refl, sym, ap, subst, ◌∙◌, arith}
 use Rattle.std.proofs.Math.Nat.{le-max_left, le-max_right}
-use Rattle.std.proofs.lemmas.Bool.{cases_eq}
 use Rattle.std.proofs.lemmas.List.{length-take-le}
-use Rattle.daggy_base.specs.Graph.{Graph, Edge, HasNode, out_list, edge_at, node_bound}
+use Rattle.daggy_base.specs.Graph.{Graph, Edge, HasNode, out_list, edge_at}
 use Rattle.daggy_base.specs.Path.{AreJoined, Reaches}
 use Rattle.daggy_base.specs.Reduction.{ReachesIndirectly}
 use Rattle.daggy_base.specs.WellFormed.{IsWellFormed}
@@ -15,7 +14,7 @@ use Rattle.daggy_base.proofs.OutEdgesRead.{listed}
 use Rattle.daggy_base.specs.Ordered.{IsOrderOf, place, stretch}
 use Rattle.daggy_order.proofs.BoundedSearch.{reached_exists}
 use Rattle.daggy_order.proofs.OrderLaws.{acyclic_from_order}
-use Rattle.daggy_base.proofs.Sorted.{place_at, place_same, place_other}
+use Rattle.daggy_base.proofs.Sorted.{place_at}
 use Rattle.daggy_base.proofs.ListParts.{in_stretch}
 use Rattle.daggy_reduction.specs.Closure.{behind}
 use Rattle.daggy_reduction.specs.SearchSpan.{child_place, latest, last_place, edges_spanned}
@@ -105,33 +104,28 @@ module _ {N E : Type 0} {first : First N E} (w : IsWellFormed first.end first.gr
       ]
 
   -- the rest of the search starts
-  pub steps_start : now.len ≢ 0 → (met : List Bool) → node_bound g₀ ≤ length met
-      → Draining (bounded met) record {
-        marks = first.marks;
-        met = length met;
-        places = first.places;
-        looks = first.looks;
-      } record {
+  pub steps_start : now.len ≢ 0
+      → Draining (bounded first.begun.marked) record { begun = first.begun; looks = first.looks } record {
         graph = now.graph;
-        marks = now.marks;
-        met = met;
-        queue = now.queue;
+        work = now.work;
         len = now.len;
         head = 0;
         edge = now.edge;
         looks = now.looks;
       }
-  steps_start some met met_fits =
+  steps_start some =
+      let met = first.begun.marked in
+      let in_use : now.len ≤ length now.work.nodes = omega (arith, s.high, s.sized.nodes_are) in
       let others : (os : List ℕ) × (s.q ≡ u ∷ os) =
       elim s.front [
         | inl none ↦
-            absurd (some (omega (arith, ap length s.is, ap length none.0, length-take-le now.len now.queue s.high)))
+            absurd (some (omega (arith, ap length s.is, ap length none.0, length-take-le now.len now.work.nodes in_use)))
         | inr o ↦ o
       ] in
       let front : Mem u s.q = let P : List ℕ → Type 0 = λ z. Mem u z in subst P (sym others.1) (inl refl) in
       let Q : List ℕ → Type 0 = λ z.
       Queueing (bounded met) record {
-        marks = now.marks;
+        marks = now.work.entered;
         met = met;
         nodes = z;
         head = 0;
@@ -177,21 +171,28 @@ module _ {N E : Type 0} {first : First N E} (w : IsWellFormed first.end first.gr
       } in
       record {
         same = s.same;
-        marks_sized = s.marks_sized;
-        met_sized = refl;
-        queue_sized = s.queue_sized;
+        sized = s.sized;
+        aside = s.aside;
         fits = s.fits;
-        met_fits = met_fits;
-        capacity = s.capacity;
         high = s.high;
         looked = s.passed;
         counted = s.counted;
-        going = subst Q (sym s.is) going;
+        going =
+            let P : List Bool → Type 0 = λ z.
+            Queueing (bounded met) record {
+              marks = now.work.entered;
+              met = z;
+              nodes = take now.len now.work.nodes;
+              head = 0;
+              edge = now.edge;
+              looked = s.passed;
+            } in
+            subst P (sym s.unmet) (subst Q (sym s.is) going);
       }
 
   module _ {before : List Bool} {start : Start} {after : Reading N E}
       (t : Draining (bounded before) start after) where
-    reached_here : (n : ℕ) → Mem n (take after.len after.queue) → Reaches g₀ u n
+    reached_here : (n : ℕ) → Mem n (take after.len after.work.nodes) → Reaches g₀ u n
     reached_here n m =
         let r = t.going.reached n m in
         let P : ℕ → Type 0 = λ z. Reaches g₀ z n in
@@ -215,25 +216,25 @@ module _ {N E : Type 0} {first : First N E} (w : IsWellFormed first.end first.gr
 
     -- the children that got marks
     module _ (h : after.edge ≡ end) (done : after.head + 1 ≡ after.len) where
-      behind_is : behind (take after.len after.queue) ≡ t.going.later
+      behind_is : behind (take after.len after.work.nodes) ≡ t.going.later
       behind_is = ap behind t.going.begins
 
       far : (a b : ℕ) → Beyond order now.last a → AreJoined g₀ a b → Beyond order now.last b
       far a b past j = omega (arith, past, ord.sorted a b j)
 
-      there : (v m : ℕ) → Mem m (behind (take after.len after.queue)) → AreJoined g₀ m v → ReachesIndirectly g₀ u v
+      there : (v m : ℕ) → Mem m (behind (take after.len after.work.nodes)) → AreJoined g₀ m v → ReachesIndirectly g₀ u v
       there v m k j =
           let P : List ℕ → Type 0 = λ z. Mem m z in
           let U : List ℕ → Type 0 = λ z. Unique z in
           let later = subst P behind_is k in
-          let inside : Mem m (take after.len after.queue) = subst P (sym t.going.begins) (inr later) in
+          let inside : Mem m (take after.len after.work.nodes) = subst P (sym t.going.begins) (inr later) in
           let Q : ℕ → Type 0 = λ z. Mem z t.going.later in
           let apart : m ≢ u = λ eq. (subst U t.going.begins t.going.once).0 (subst Q eq later) in
           let has = joined_exist end g₀ w m v j in
           let to : m ≢ v = λ eq. absurd (omega (arith, ord.sorted m v j, ap (place order) eq)) in
           round_through g₀ u m v (reached_here m inside) (reaches_one g₀ m v has.0 has.1 j) apart to
 
-      back : (v : ℕ) → AreJoined g₀ u v → ReachesIndirectly g₀ u v → get_or after.met v false ≡ true
+      back : (v : ℕ) → AreJoined g₀ u v → ReachesIndirectly g₀ u v → get_or after.work.marked v false ≡ true
       back v child r =
           let x = r.0 in
           let step = last_step g₀ x r.1 r.2 r.3.2 in
@@ -246,7 +247,7 @@ module _ {N E : Type 0} {first : First N E} (w : IsWellFormed first.end first.gr
           no_round g₀ (acyclic_from_order order ord) u x r.3.0 r.3.1 (subst P eq step.1)) in
           let near : place order m < place order now.last = omega (arith, ord.sorted m v j, children_low v child) in
           let P : List ℕ → Type 0 = λ z. Mem m z in
-          let queued : Mem m (take after.len after.queue) =
+          let queued : Mem m (take after.len after.work.nodes) =
           elim (all_reached w t.going h (rest_nothing w t done) far m u (inl refl) from_u) [
             | inl q ↦ q
             | inr past ↦ absurd (omega (arith, past, near))
@@ -258,7 +259,7 @@ module _ {N E : Type 0} {first : First N E} (w : IsWellFormed first.end first.gr
           (all_met w t.going h (rest_nothing w t done) v).1 (inr (m, subst P (sym behind_is) later, j))
 
       pub round_met : (v : ℕ) → AreJoined g₀ u v
-          → (get_or after.met v false ≡ true) ↔ ((get_or before v false ≡ true) ⊎ ReachesIndirectly g₀ u v)
+          → (get_or after.work.marked v false ≡ true) ↔ ((get_or before v false ≡ true) ⊎ ReachesIndirectly g₀ u v)
       round_met v child = (
         λ m. elim (t.going.met_only v m) [ inl a ↦ inl a | inr c ↦ inr (there v c.0 c.1 c.2) ],
         λ k. elim k [ inl a ↦ t.going.met_before v a | inr r ↦ back v child r ],

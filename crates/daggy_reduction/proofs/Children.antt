@@ -1,6 +1,6 @@
 -- The children of a node gone through, edge by edge.
 use Rattle.std.proofs.Common.{◌≡◌, ◌≢◌, ℕ, suc, ◌+◌, ◌<◌, ◌≤◌, Bool, true, false, ◌⊎◌, ◌↔◌, inl, inr, List, length}
-use Rattle.std.proofs.Common.{get_or, drop, set, refl, sym, subst, ◌∙◌, arith, length-set, replicate}
+use Rattle.std.proofs.Common.{get_or, drop, set, refl, sym, subst, ◌∙◌, arith, length-set}
 use Rattle.std.proofs.lemmas.Bool.{false≢true, cases_lt}
 use Rattle.daggy_base.specs.Graph.{Graph, HasEdge, out_list, node_bound}
 use Rattle.daggy_base.specs.Path.{AreJoined}
@@ -11,7 +11,6 @@ use Rattle.daggy_base.proofs.OutEdgesRead.{LookedTo, below_bound, read_part, all
 use Rattle.daggy_base.proofs.OutEdgesRead.{child_joined, next_cursor, looked_more}
 use Rattle.daggy_search.proofs.SearchProgress.{set_marked}
 use Rattle.daggy_reduction.specs.Comparison.{JoinsAll}
-use Rattle.daggy_reduction.proofs.FlaggedRedundant.{unmarked}
 
 -- The first edges that leave a node were looked at, and e is the next one. P holds of their children.
 pub record Looking {N E : Type 0} (end : ℕ) (g₀ g : Graph N E) (u e looks₀ looks : ℕ) (P : ℕ → Type 0) : Type 0 where
@@ -84,18 +83,18 @@ pub marks_grow : (marks : List Bool) (v : ℕ) → v < length marks
     × (get_or (set marks v true) v false ≡ true)
 marks_grow marks v low = (λ n m. (set_marked marks v n low).1 (inr m), (set_marked marks v v low).1 (inl refl))
 
--- What is compared: two graphs, the marks there were before, and the number past all nodes of the first graph.
+-- What is compared: two graphs, the size of the worklist, and the number past all nodes of the first graph.
 pub record Pair (N E M F : Type 0) : Type 0 where
   pub one : Graph N E
   pub other : Graph M F
-  pub marks : List Bool
+  pub size : ℕ
   pub bound : ℕ
 
--- How far they were compared: the graphs, the marks, and the node that is next.
+-- How far they were compared: the graphs, the size of the worklist, and the node that is next.
 pub record Progress (N E M F : Type 0) : Type 0 where
   pub one : Graph N E
   pub other : Graph M F
-  pub marks : List Bool
+  pub size : ℕ
   pub node : ℕ
 
 -- up to a node, the other graph joins all that the one joins
@@ -103,19 +102,20 @@ pub record Comparing {N E M F : Type 0} (pair : Pair N E M F) (now : Progress N 
   pub same : now.one ≡ pair.one
   pub other_same : now.other ≡ pair.other
   pub within : now.node ≤ pair.bound
-  pub sized : length now.marks ≡ length pair.marks
+  pub sized : now.size ≡ pair.size
   pub joined : (u v : ℕ) → u < now.node → AreJoined pair.one u v → AreJoined pair.other u v
 
 module _ {N E M F : Type 0} {pair : Pair N E M F} {now : Progress N E M F} (s : Comparing pair now) where
   both_join : (v : ℕ) → AreJoined now.other now.node v → AreJoined pair.other now.node v
   both_join v j = let J : Graph M F → Type 0 = λ z. AreJoined z now.node v in subst J s.other_same j
 
-  module _ (size : ℕ) (marks' : List Bool) (marked : (k : ℕ) → (get_or marks' k false ≡ true)
-      ↔ ((get_or (replicate size false) k false ≡ true) ⊎ AreJoined now.other now.node k)) where
-    pub compare_on : now.node < pair.bound → length marks' ≡ length now.marks → {g' : Graph N E} {h' : Graph M F}
+  module _ (before marks' : List Bool) (unmarked : (k : ℕ) → get_or before k false ≡ false)
+      (marked : (k : ℕ) → (get_or marks' k false ≡ true)
+      ↔ ((get_or before k false ≡ true) ⊎ AreJoined now.other now.node k)) where
+    pub compare_on : now.node < pair.bound → {size' : ℕ} → size' ≡ now.size → {g' : Graph N E} {h' : Graph M F}
         → g' ≡ now.one → h' ≡ now.other → ((k : ℕ) → AreJoined now.one now.node k → get_or marks' k false ≡ true)
-        → Comparing pair record { one = g'; other = h'; marks = marks'; node = now.node + 1 }
-    compare_on low sized {g'} {h'} same other_same all =
+        → Comparing pair record { one = g'; other = h'; size = size'; node = now.node + 1 }
+    compare_on low {size'} sized {g'} {h'} same other_same all =
         record {
           same = same ∙ s.same;
           other_same = other_same ∙ s.other_same;
@@ -129,7 +129,7 @@ module _ {N E M F : Type 0} {pair : Pair N E M F} {now : Progress N E M F} (s : 
                 let B : Graph N E → Type 0 = λ z. AreJoined z now.node v in
                 let C : ℕ → Type 0 = λ z. AreJoined pair.other z v in
                 subst C (sym here) (elim ((marked v).0 (all v (subst B (sym s.same) (subst A here j)))) [
-                  | inl before ↦ absurd (false≢true (sym (unmarked size v) ∙ before))
+                  | inl was ↦ absurd (false≢true (sym (unmarked v) ∙ was))
                   | inr joined ↦ both_join v joined
                 ])
                 )

@@ -1,9 +1,7 @@
 -- Edges flagged by marks are those that a longer way makes redundant.
 use Rattle.std.proofs.Common.{◌≡◌, ℕ, suc, ◌+◌, ◌<◌, Bool, true, false, ◌⊎◌, ◌↔◌, inl, inr, List, [], ◌∷◌, length}
-use Rattle.std.proofs.Common.{get_or, take, set, sym, ap, subst, ◌∙◌, arith, replicate}
-use Rattle.std.proofs.lemmas.List.{get_or-replicate, length-replicate}
-use Rattle.std.proofs.lemmas.Bool.{false≢true, cases_lt}
-use Rattle.std.proofs.lemmas.List.{get_or_past}
+use Rattle.std.proofs.Common.{get_or, take, set, sym, ap, subst, ◌∙◌, arith}
+use Rattle.std.proofs.lemmas.Bool.{false≢true}
 use Rattle.daggy_base.specs.Graph.{Graph, HasNode}
 use Rattle.daggy_base.specs.Path.{AreJoined, IsAcyclic}
 use Rattle.daggy_base.specs.Reduction.{ReachesIndirectly}
@@ -16,21 +14,15 @@ use Rattle.daggy_reduction.specs.Flags.{FlagsMarked, FlagsRound}
 use Rattle.daggy_reduction.proofs.QueueProgress.{take_none}
 use Rattle.daggy_reduction.proofs.LongerWays.{child_round}
 
-pub unmarked : (k n : ℕ) → get_or (replicate k false) n false ≡ false
-unmarked k n =
-    elim (cases_lt n k) [
-      | inl within ↦ get_or-replicate k n false false within
-      | inr past ↦ get_or_past (replicate k false) n false (omega (arith, past, length-replicate k false))
-    ]
-
 pub joined_exist : {N E : Type 0} (end : ℕ) (g : Graph N E)
     → IsWellFormed end g → (u v : ℕ) → AreJoined g u v → HasNode g u × HasNode g v
 joined_exist end g w u v j = (w.parents j.0 _ j.2, w.children j.0 _ j.2)
 
 -- one node in the queue
-pub one_queued : {N E : Type 0} (g : Graph N E) (u k : ℕ) (queue : List ℕ)
-    → HasNode g u → u < k → IsQueue g (set (replicate k false) u true) (u ∷ [])
-one_queued g u k queue exists low =
+pub one_queued : {N E : Type 0} (g : Graph N E) (u : ℕ) (marks : List Bool)
+    → HasNode g u → u < length marks → ((n : ℕ) → get_or marks n false ≡ false)
+    → IsQueue g (set marks u true) (u ∷ [])
+one_queued g u marks exists low unmarked =
     record {
       exist = λ n c. elim (contains_mem (u ∷ []) n c) [
         | inl e ↦ (let P : ℕ → Type 0 = λ z. HasNode g z in subst P (sym e) exists)
@@ -38,10 +30,10 @@ one_queued g u k queue exists low =
       ];
       once = (λ c. contains_mem [] u c, tt);
       marked = λ n. (
-          let all = set_marked (replicate k false) u n (omega (arith, low, length-replicate k false)) in (
+          let all = set_marked marks u n low in (
             λ m. elim (all.0 m) [
               | inl e ↦ mem_contains (u ∷ []) n (inl e)
-              | inr before ↦ absurd (false≢true (sym (unmarked k n) ∙ before))
+              | inr before ↦ absurd (false≢true (sym (unmarked n) ∙ before))
             ],
             λ c. all.1 (elim (contains_mem (u ∷ []) n c) [ inl e ↦ inl e | inr none ↦ absurd none ]),
           )
@@ -50,13 +42,13 @@ one_queued g u k queue exists low =
 
 pub flags_round : {N E : Type 0} {end : ℕ} {g : Graph N E}
     → IsWellFormed end g → IsAcyclic g → {u : ℕ} {closure : List ℕ} → IsClosure g (u ∷ []) closure
-    → (k : ℕ) (marks : List Bool) → MeetsChildren g closure (replicate k false) marks
+    → (before marks : List Bool) → ((n : ℕ) → get_or before n false ≡ false) → MeetsChildren g closure before marks
     → (old new : List ℕ) → FlagsMarked end g u marks old new → FlagsRound end g u old new
-flags_round {N} {E} {end} {g} w acyclic {u} {closure} c k marks meets old new flags e = (
+flags_round {N} {E} {end} {g} w acyclic {u} {closure} c before marks unmarked meets old new flags e = (
   λ f. elim ((flags e).0 f) [
     | inl a ↦ inl a
     | inr l ↦ elim ((meets l.edge.child).0 l.child) [
-      | inl before ↦ absurd (false≢true (sym (unmarked k l.edge.child) ∙ before))
+      | inl was ↦ absurd (false≢true (sym (unmarked l.edge.child) ∙ was))
       | inr child ↦ inr (record {
         edge = l.edge;
         at = l.at;
@@ -79,15 +71,16 @@ flags_round {N} {E} {end} {g} w acyclic {u} {closure} c k marks meets old new fl
 )
 
 -- the same by marks that are right for the children of the node alone
-pub flags_met : {N E : Type 0} {end : ℕ} {g : Graph N E} → IsWellFormed end g → (u k : ℕ) (marks : List Bool)
+pub flags_met : {N E : Type 0} {end : ℕ} {g : Graph N E} → IsWellFormed end g → (u : ℕ) (before marks : List Bool)
+    → ((n : ℕ) → get_or before n false ≡ false)
     → ((v : ℕ) → AreJoined g u v
-    → (get_or marks v false ≡ true) ↔ ((get_or (replicate k false) v false ≡ true) ⊎ ReachesIndirectly g u v))
+    → (get_or marks v false ≡ true) ↔ ((get_or before v false ≡ true) ⊎ ReachesIndirectly g u v))
     → (old new : List ℕ) → FlagsMarked end g u marks old new → FlagsRound end g u old new
-flags_met {N} {E} {end} {g} w u k marks met old new flags e = (
+flags_met {N} {E} {end} {g} w u before marks unmarked met old new flags e = (
   λ f. elim ((flags e).0 f) [
     | inl a ↦ inl a
     | inr l ↦ elim ((met l.edge.child (joins end g w e u l.edge l.at l.parent)).0 l.child) [
-      | inl before ↦ absurd (false≢true (sym (unmarked k l.edge.child) ∙ before))
+      | inl was ↦ absurd (false≢true (sym (unmarked l.edge.child) ∙ was))
       | inr round ↦ inr (record { edge = l.edge; at = l.at; parent = l.parent; round = round })
     ]
   ],

@@ -1,6 +1,6 @@
 -- The state of a queue that is read, by the variables of its code.
 use Rattle.std.proofs.Common.{◌≡◌, ◌≢◌, ℕ, zero, suc, ◌+◌, ◌<◌, ◌≤◌, Bool, true, false, ◌⊎◌, ◌↔◌, inl, inr, List, []}
-use Rattle.std.proofs.Common.{◌∷◌, ◌++◌, length, get_or, take, set, refl, sym, ap, subst, ◌∙◌, arith, length-set}
+use Rattle.std.proofs.Common.{◌∷◌, ◌++◌, length, get_or, take, set, refl, sym, ap, subst, ◌∙◌, arith}
 use Rattle.std.proofs.lemmas.List.{take_more_set, length-take-le, length-append, get_or-set_same, get_or-take}
 use Rattle.daggy_base.specs.Graph.{Graph, HasNode, HasEdge, out_list, node_bound, edge_count}
 use Rattle.daggy_base.specs.Cursor.{first_of}
@@ -8,6 +8,8 @@ use Rattle.daggy_base.specs.WellFormed.{IsWellFormed, AreDistinct}
 use Rattle.daggy_base.specs.Look.{IsLook}
 use Rattle.daggy_base.proofs.Lists.{Mem, Unique, mem_right, mem_contains, contains_mem, unique_from_distinct}
 use Rattle.daggy_base.proofs.OutEdgesRead.{below_bound}
+use Rattle.daggy_search.specs.Work.{Work, IsSized}
+use Rattle.daggy_search.proofs.Sized.{sized_entered, sized_marked, sized_put_node}
 use Rattle.daggy_reduction.specs.Closure.{IsQueue, IsClosure, MeetsChildren}
 use Rattle.daggy_reduction.proofs.QueueProgress.{Task, to_all, Queue, Queueing, looked_within}
 use Rattle.daggy_reduction.proofs.QueueProgress.{look_within, edge_exists, head_within, has_room, found_exists}
@@ -22,22 +24,17 @@ pub distinct_from_unique : (xs : List ℕ) → Unique xs → AreDistinct xs
 distinct_from_unique [] u = tt
 distinct_from_unique (x ∷ xs) u = (λ c. u.0 (contains_mem xs x c), distinct_from_unique xs u.1)
 
--- What a search begins with: how many marks, marks for met nodes and places of the queue there are, and how often edges
--- were looked at till then.
+-- What a search begins with: the worklist, and how often edges were looked at till then.
 pub record Start : Type 0 where
-  pub marks : ℕ
-  pub met : ℕ
-  pub places : ℕ
+  pub begun : Work
   pub looks : ℕ
 
--- What a search has so far: the graph, the marks of the nodes in the queue, which nodes were met, the places of the
--- queue and how many of them are in use, the place that is read, the next edge of its node, and how often edges were
--- looked at.
+-- What a search has so far: the graph, the worklist, with the nodes that were entered, those that were met and the
+-- queue, how many places of the queue are in use, the place that is read, the next edge of its node, and how often edges
+-- were looked at.
 pub record Reading (N E : Type 0) : Type 0 where
   pub graph : Graph N E
-  pub marks : List Bool
-  pub met : List Bool
-  pub queue : List ℕ
+  pub work : Work
   pub len : ℕ
   pub head : ℕ
   pub edge : ℕ
@@ -45,27 +42,28 @@ pub record Reading (N E : Type 0) : Type 0 where
 
 abbrev pub queue_of : {N E : Type 0} → Reading N E → (looked : ℕ) → Queue
 queue_of now looked = record {
-  marks = now.marks;
-  met = now.met;
-  nodes = take now.len now.queue;
+  marks = now.work.entered;
+  met = now.work.marked;
+  nodes = take now.len now.work.nodes;
   head = now.head;
   edge = now.edge;
   looked = looked;
 }
 
--- nothing was changed but the marks and the queue, and that is read as far as `now` says
+-- nothing was changed but the sets and the queue, and that is read as far as `now` says
 pub record Draining {N E : Type 0} (task : Task N E) (start : Start) (now : Reading N E) : Type 0 where
   pub same : now.graph ≡ task.graph
-  pub marks_sized : length now.marks ≡ start.marks
-  pub met_sized : length now.met ≡ start.met
-  pub queue_sized : length now.queue ≡ start.places
-  pub fits : node_bound task.graph ≤ length now.marks
-  pub met_fits : node_bound task.graph ≤ length now.met
-  pub capacity : length now.marks ≤ length now.queue
-  pub high : now.len ≤ length now.queue
+  pub sized : IsSized start.begun.size now.work
+  pub aside : now.work.cursors ≡ start.begun.cursors
+  pub fits : node_bound task.graph ≤ start.begun.size
+  pub high : now.len ≤ start.begun.size
   pub looked : ℕ
   pub counted : now.looks ≡ start.looks + looked
   pub going : Queueing task (queue_of now looked)
+
+in_use : {N E : Type 0} {task : Task N E} {start : Start} {now : Reading N E}
+    → Draining task start now → now.len ≤ length now.work.nodes
+in_use s = omega (arith, s.high, s.sized.nodes_are)
 
 module _ {N E : Type 0} {task : Task N E} (w : IsWellFormed task.end task.graph) {start : Start} {now : Reading N E}
     (s : Draining task start now) where
@@ -87,7 +85,7 @@ module _ {N E : Type 0} {task : Task N E} (w : IsWellFormed task.end task.graph)
       subst P (sym s.same) (edge_exists w s.going here)
 
   pub head_low : now.head < now.len
-  head_low = omega (arith, head_within w s.going, length-take-le now.len now.queue s.high)
+  head_low = omega (arith, head_within w s.going, length-take-le now.len now.work.nodes (in_use s))
 
   module _ (here : now.edge ≢ end) {v next : ℕ} (look : IsLook end now.graph now.edge v next) where
     look₀ : IsLook end g₀ now.edge v next
@@ -99,125 +97,137 @@ module _ {N E : Type 0} {task : Task N E} (w : IsWellFormed task.end task.graph)
     pub child_low : v < node_bound g₀
     child_low = below_bound g₀.nodes v child_exists_here
 
-    pub room_here : get_or now.marks v false ≡ false → now.len < length now.marks
+    pub room_here : get_or now.work.entered v false ≡ false → now.len < start.begun.size
     room_here unseen =
         omega (
           arith,
-          has_room w s.going v (omega (arith, child_low, s.fits)) unseen,
-          length-take-le now.len now.queue s.high,
+          has_room w s.going v (omega (arith, child_low, s.fits, s.sized.entered_are)) unseen,
+          s.sized.entered_are,
+          length-take-le now.len now.work.nodes (in_use s),
         )
 
     -- the child is in the queue, or beyond
-    pub record Entered (marks' : List Bool) (queue' : List ℕ) (len' : ℕ) : Type 0 where
-      pub queueing : Queueing task record (queue_of now s.looked) { marks = marks'; nodes = take len' queue' }
-      pub member : Mem v (take len' queue') ⊎ task.Beyond v
-      pub marks_size_kept : length marks' ≡ length now.marks
-      pub queue_size_kept : length queue' ≡ length now.queue
-      pub high_still : len' ≤ length queue'
+    pub record Entered (work' : Work) (len' : ℕ) : Type 0 where
+      pub queueing : Queueing task record (queue_of now s.looked) {
+        marks = work'.entered;
+        nodes = take len' work'.nodes;
+      }
+      pub member : Mem v (take len' work'.nodes) ⊎ task.Beyond v
+      pub sized_still : IsSized start.begun.size work'
+      pub aside_still : work'.cursors ≡ start.begun.cursors
+      pub met_still : work'.marked ≡ now.work.marked
+      pub high_still : len' ≤ start.begun.size
 
-    pub left_out : task.Beyond v → Entered now.marks now.queue now.len
+    pub left_out : task.Beyond v → Entered now.work now.len
     left_out far =
         record {
           queueing = s.going;
           member = inr far;
-          marks_size_kept = refl;
-          queue_size_kept = refl;
+          sized_still = s.sized;
+          aside_still = s.aside;
+          met_still = refl;
           high_still = s.high;
         }
 
-    pub entered : task.Inside v → {marks' : List Bool} {queue' : List ℕ} {len' : ℕ}
-        → (get_or now.marks v false ≡ true → (marks' ≡ now.marks) × (queue' ≡ now.queue) × (len' ≡ now.len))
-        → (get_or now.marks v false ≡ false
-        → (marks' ≡ set now.marks v true) × (queue' ≡ set now.queue now.len v) × (len' ≡ now.len + 1))
-        → Entered marks' queue' len'
-    entered within {marks'} {queue'} {len'} old new = go (get_or now.marks v false) refl
+    pub entered : task.Inside v → {work' : Work} {len' : ℕ}
+        → (get_or now.work.entered v false ≡ true → (work' ≡ now.work) × (len' ≡ now.len))
+        → (get_or now.work.entered v false ≡ false → (work' ≡ record now.work {
+          entered = set now.work.entered v true;
+          nodes = set now.work.nodes now.len v;
+        }) × (len' ≡ now.len + 1)) → Entered work' len'
+    entered within {work'} {len'} old new = go (get_or now.work.entered v false) refl
       where
-        go : (b : Bool) → b ≡ get_or now.marks v false → Entered marks' queue' len'
+        go : (b : Bool) → b ≡ get_or now.work.entered v false → Entered work' len'
         go true is =
             let h = old (sym is) in
-            let m : Mem v (take now.len now.queue) = (s.going.marked v).0 (sym is) in
-            record {
-              queueing = rw (h.0, h.1, h.2) s.going;
-              member = inl (rw (h.1, h.2) m);
-              marks_size_kept = ap length h.0;
-              queue_size_kept = ap length h.1;
-              high_still = omega (arith, ap length h.1, h.2, s.high);
-            }
+            let same : Entered now.work now.len = record {
+              queueing = s.going;
+              member = inl ((s.going.marked v).0 (sym is));
+              sized_still = s.sized;
+              aside_still = s.aside;
+              met_still = refl;
+              high_still = s.high;
+            } in
+            rw (h.0, h.1) same
         go false is =
             let h = new (sym is) in
-            let more : now.len < length now.queue = omega (arith, room_here (sym is), s.capacity) in
-            let on =
-            pushed w s.going here look₀ within (omega (arith, child_low, s.fits)) (sym is) in
-            record {
-              queueing = rw (h.0, h.1, h.2, take_more_set now.queue now.len v more) on;
-              member =
-                  inl
-                  (rw (h.1, h.2, take_more_set now.queue now.len v more)
-                  (mem_right (take now.len now.queue) (v ∷ []) v (inl refl)));
-              marks_size_kept = ap length h.0 ∙ length-set now.marks v true;
-              queue_size_kept = ap length h.1 ∙ length-set now.queue now.len v;
-              high_still = omega (arith, ap length h.1, length-set now.queue now.len v, h.2, more);
-            }
+            let more : now.len < length now.work.nodes = omega (arith, room_here (sym is), s.sized.nodes_are) in
+            let longer = take_more_set now.work.nodes now.len v more in
+            let low : v < length now.work.entered = omega (arith, child_low, s.fits, s.sized.entered_are) in
+            let grown : Entered record now.work {
+              entered = set now.work.entered v true;
+              nodes = set now.work.nodes now.len v;
+            } (now.len + 1) = record {
+              queueing = rw longer (pushed w s.going here look₀ within low (sym is));
+              member = inl (rw longer (mem_right (take now.len now.work.nodes) (v ∷ []) v (inl refl)));
+              sized_still = sized_put_node (sized_entered s.sized v) now.len v;
+              aside_still = s.aside;
+              met_still = refl;
+              high_still = omega (arith, room_here (sym is));
+            } in
+            rw (h.0, h.1) grown
 
     -- it is met where that is due
     module _ {g' : Graph N E} (kept : g' ≡ now.graph) {looks' : ℕ} (one_more : looks' ≡ now.looks + 1)
-        {marks' met' : List Bool} {queue' : List ℕ} {len' : ℕ}
-        (entry : Entered marks' queue' len') (meets : now.head ≢ 0 → met' ≡ set now.met v true)
-        (meets_not : now.head ≡ 0 → met' ≡ now.met) where
-      record Met : Type 0 where
-        queueing : Queueing task record (queue_of now s.looked) {
-          marks = marks';
-          met = met';
-          nodes = take len' queue';
-        }
-        there : now.head ≢ 0 → get_or met' v false ≡ true
-        met_size_kept : length met' ≡ length now.met
-
-      met_now : Met
-      met_now = go now.head refl
-        where
-          go : (k : ℕ) → k ≡ now.head → Met
-          go zero is =
-              let h = meets_not (sym is) in
-              record {
-                queueing = rw (h) (entry.queueing);
-                there = λ some. absurd (some (sym is));
-                met_size_kept = ap length h;
-              }
-          go (suc k) is =
-              let some : now.head ≢ 0 = λ z. omega (arith, is, z) in
-              let h = meets some in
-              let low : v < length now.met = omega (arith, child_low, s.met_fits) in
-              record {
-                queueing = rw (h) (meets_child w entry.queueing here look₀ some low);
-                there = λ _. rw (h) (get_or-set_same now.met v true false low);
-                met_size_kept = ap length h ∙ length-set now.met v true;
-              }
-
+        {work' met' : Work} {len' : ℕ}
+        (entry : Entered work' len') (meets : now.head ≢ 0 → met' ≡ record work' { marked = set work'.marked v true })
+        (meets_not : now.head ≡ 0 → met' ≡ work') where
       pub visited : Draining task start record {
         graph = g';
-        marks = marks';
-        met = met';
-        queue = queue';
+        work = met';
         len = len';
         head = now.head;
         edge = next;
         looks = looks';
       }
-      visited =
-          record {
-            same = kept ∙ s.same;
-            marks_sized = entry.marks_size_kept ∙ s.marks_sized;
-            met_sized = met_now.met_size_kept ∙ s.met_sized;
-            queue_sized = entry.queue_size_kept ∙ s.queue_sized;
-            fits = omega (arith, s.fits, entry.marks_size_kept);
-            met_fits = omega (arith, s.met_fits, met_now.met_size_kept);
-            capacity = omega (arith, s.capacity, entry.marks_size_kept, entry.queue_size_kept);
-            high = entry.high_still;
-            looked = s.looked + 1;
-            counted = omega (arith, s.counted, one_more);
-            going = moved w met_now.queueing here look₀ entry.member met_now.there;
+      visited = go now.head refl
+        where
+          on : (work : Work) → IsSized start.begun.size work → work.cursors ≡ start.begun.cursors
+              → Queueing task record (queue_of now s.looked) {
+                marks = work.entered;
+                met = work.marked;
+                nodes = take len' work.nodes;
+              } → Mem v (take len' work.nodes) ⊎ task.Beyond v
+              → (now.head ≢ 0 → get_or work.marked v false ≡ true)
+              → Draining task start record {
+                graph = g';
+                work = work;
+                len = len';
+                head = now.head;
+                edge = next;
+                looks = looks';
+              }
+          on work sized aside queueing member there =
+              record {
+                same = kept ∙ s.same;
+                sized = sized;
+                aside = aside;
+                fits = s.fits;
+                high = entry.high_still;
+                looked = s.looked + 1;
+                counted = omega (arith, s.counted, one_more);
+                going = moved w queueing here look₀ member there;
+              }
+
+          go : (k : ℕ) → k ≡ now.head → Draining task start record {
+            graph = g';
+            work = met';
+            len = len';
+            head = now.head;
+            edge = next;
+            looks = looks';
           }
+          go zero is =
+              rw (meets_not (sym is)) (on work' entry.sized_still entry.aside_still
+              (rw entry.met_still entry.queueing) entry.member (λ some. absurd (some (sym is))))
+          go (suc k) is =
+              let some : now.head ≢ 0 = λ z. omega (arith, is, z) in
+              let low : v < length now.work.marked = omega (arith, child_low, s.fits, s.sized.marked_are) in
+              rw (meets some, entry.met_still) (on record work' { marked = set now.work.marked v true }
+              (let P : List Bool → Type 0 = λ z. IsSized start.begun.size record work' { marked = set z v true } in
+              subst P entry.met_still (sized_marked entry.sized_still v)) entry.aside_still
+              (meets_child w entry.queueing here look₀ some low) entry.member
+              (λ _. get_or-set_same now.work.marked v true false low))
 
   -- the next node of the queue, or none
   pub rest_nothing : now.head + 1 ≡ now.len → s.going.rest ≡ []
@@ -233,10 +243,10 @@ module _ {N E : Type 0} {task : Task N E} (w : IsWellFormed task.end task.graph)
             ap length s.going.split,
             ap length is,
             length-append s.going.done (s.going.at ∷ s.going.rest),
-            length-take-le now.len now.queue s.high,
+            length-take-le now.len now.work.nodes (in_use s),
           ))
 
-  pub next_here : now.edge ≡ end → (k u : ℕ) {e' : ℕ} → k ≡ now.head + 1 → k ≢ now.len → u ≡ get_or now.queue k u
+  pub next_here : now.edge ≡ end → (k u : ℕ) {e' : ℕ} → k ≡ now.head + 1 → k ≢ now.len → u ≡ get_or now.work.nodes k u
       → e' ≡ first_of end (out_list now.graph u)
       → Draining task start record now { head = k; edge = e' }
   next_here h k u {e'} one more top first = go s.going.rest refl
@@ -250,7 +260,7 @@ module _ {N E : Type 0} {task : Task N E} (w : IsWellFormed task.end task.graph)
             ap length s.going.split,
             ap length is,
             length-append s.going.done (s.going.at ∷ s.going.rest),
-            length-take-le now.len now.queue s.high,
+            length-take-le now.len now.work.nodes (in_use s),
           )))
       go (y ∷ ys) is =
           let low : k < now.len =
@@ -261,14 +271,14 @@ module _ {N E : Type 0} {task : Task N E} (w : IsWellFormed task.end task.graph)
             ap length s.going.split,
             ap length is,
             length-append s.going.done (s.going.at ∷ s.going.rest),
-            length-take-le now.len now.queue s.high,
+            length-take-le now.len now.work.nodes (in_use s),
           ) in
           let place : k ≡ suc (length s.going.done) = omega (arith, one, s.going.read) in
-          let found : get_or (take now.len now.queue) k u ≡ y =
+          let found : get_or (take now.len now.work.nodes) k u ≡ y =
           ap (λ z. get_or z k u) (s.going.split ∙ ap (λ z. s.going.done ++ s.going.at ∷ z) (sym is))
           ∙ ap (λ z. get_or (s.going.done ++ s.going.at ∷ y ∷ ys) z u) place
           ∙ place_after s.going.done s.going.at y ys u in
-          let same_node : y ≡ u = sym found ∙ get_or-take now.len now.queue k u low ∙ sym top in
+          let same_node : y ≡ u = sym found ∙ get_or-take now.len now.work.nodes k u low ∙ sym top in
           let on = next_node w s.going h y ys (sym is) in
           let P : ℕ → Type 0 = λ z.
           Queueing task record (queue_of now s.looked) { head = now.head + 1; edge = first_of end (out_list g₀ z) } in
@@ -276,12 +286,9 @@ module _ {N E : Type 0} {task : Task N E} (w : IsWellFormed task.end task.graph)
           first ∙ ap (λ (z : Graph N E). first_of end (out_list z u)) s.same in
           record {
             same = s.same;
-            marks_sized = s.marks_sized;
-            met_sized = s.met_sized;
-            queue_sized = s.queue_sized;
+            sized = s.sized;
+            aside = s.aside;
             fits = s.fits;
-            met_fits = s.met_fits;
-            capacity = s.capacity;
             high = s.high;
             looked = s.looked;
             counted = s.counted;
@@ -292,7 +299,7 @@ module _ {N E : Type 0} {task : Task N E} (w : IsWellFormed task.end task.graph)
 module _ {N E : Type 0} {end : ℕ} {g₀ : Graph N E} (w : IsWellFormed end g₀) {starts : List ℕ} {before : List Bool}
     {start : Start} {now : Reading N E}
     (s : Draining (to_all end g₀ starts before) start now) (h : now.edge ≡ end) (last : now.head + 1 ≡ now.len) where
-  pub is_closure : IsClosure g₀ starts (take now.len now.queue)
+  pub is_closure : IsClosure g₀ starts (take now.len now.work.nodes)
   is_closure =
       record {
         exact = λ n. (
@@ -309,63 +316,52 @@ module _ {N E : Type 0} {end : ℕ} {g₀ : Graph N E} (w : IsWellFormed end g�
         begins = s.going.begins;
       }
 
-  pub meets_children : MeetsChildren g₀ (take now.len now.queue) before now.met
+  pub meets_children : MeetsChildren g₀ (take now.len now.work.nodes) before now.work.marked
   meets_children n =
       let all = all_met w s.going h (rest_nothing w s last) n in (
         λ m. elim (all.0 m) [ inl a ↦ inl a | inr c ↦ inr (c.0, mem_contains _ c.0 c.1, c.2) ],
         λ m. all.1 (elim m [ inl a ↦ inl a | inr c ↦ inr (c.0, contains_mem _ c.0 c.1, c.2) ]),
       )
 
--- each node can be marked and met, and the queue has a place for each mark and for each node that is in it
-pub record HasRoom {N E : Type 0} (now : Reading N E) : Type 0 where
-  pub fits : node_bound now.graph ≤ length now.marks
-  pub met_fits : node_bound now.graph ≤ length now.met
-  pub capacity : length now.marks ≤ length now.queue
-  pub high : now.len ≤ length now.queue
-
 -- the start
 pub starts_here : {N E : Type 0} (end : ℕ) {now : Reading N E}
-    → IsQueue now.graph now.marks (take now.len now.queue) → 0 < now.len → HasRoom now
-    → {u : ℕ} → u ≡ get_or now.queue 0 u → now.head ≡ 0 → now.edge ≡ first_of end (out_list now.graph u)
-    → Draining (to_all end now.graph (take now.len now.queue) now.met) record {
-      marks = length now.marks;
-      met = length now.met;
-      places = length now.queue;
+    → IsQueue now.graph now.work.entered (take now.len now.work.nodes) → 0 < now.len
+    → node_bound now.graph ≤ now.work.size → IsSized now.work.size now.work → now.len ≤ now.work.size
+    → {u : ℕ} → u ≡ get_or now.work.nodes 0 u → now.head ≡ 0 → now.edge ≡ first_of end (out_list now.graph u)
+    → Draining (to_all end now.graph (take now.len now.work.nodes) now.work.marked) record {
+      begun = now.work;
       looks = now.looks;
     } now
-starts_here {N} {E} end {now} is some room {u} top at_front first =
+starts_here {N} {E} end {now} is some fits sized high {u} top at_front first =
     record {
       same = refl;
-      marks_sized = refl;
-      met_sized = refl;
-      queue_sized = refl;
-      fits = room.fits;
-      met_fits = room.met_fits;
-      capacity = room.capacity;
-      high = room.high;
+      sized = sized;
+      aside = refl;
+      fits = fits;
+      high = high;
       looked = 0;
       counted = omega arith;
-      going = go (take now.len now.queue) refl;
+      going = go (take now.len now.work.nodes) refl;
     }
   where
     go : (q : List ℕ)
-        → q ≡ take now.len now.queue → Queueing (to_all end now.graph (take now.len now.queue) now.met) (queue_of now 0)
-    go [] empty = absurd (omega (arith, some, ap length empty, length-take-le now.len now.queue room.high))
+        → q ≡ take now.len now.work.nodes → Queueing (to_all end now.graph (take now.len now.work.nodes) now.work.marked) (queue_of now 0)
+    go [] empty = absurd (omega (arith, some, ap length empty, length-take-le now.len now.work.nodes (omega (arith, high, sized.nodes_are))))
     go (x ∷ xs) front =
-        let same_node : x ≡ u = ap (λ z. get_or z 0 u) front ∙ get_or-take now.len now.queue 0 u some ∙ sym top in
+        let same_node : x ≡ u = ap (λ z. get_or z 0 u) front ∙ get_or-take now.len now.work.nodes 0 u some ∙ sym top in
         let exist : (n : ℕ) → Mem n (x ∷ xs) → HasNode now.graph n = λ n m.
         is.exist n (mem_contains _ n (let P : List ℕ → Type 0 = λ z. Mem n z in subst P front m)) in
         let once : Unique (x ∷ xs) = let P : List ℕ → Type 0 = λ z. Unique z in
         subst P (sym front) (unique_from_distinct _ is.once) in
-        let marked : (n : ℕ) → (get_or now.marks n false ≡ true) ↔ Mem n (x ∷ xs) = λ n. (
+        let marked : (n : ℕ) → (get_or now.work.entered n false ≡ true) ↔ Mem n (x ∷ xs) = λ n. (
         let P : List ℕ → Type 0 = λ z. Mem n z in (
           λ m. subst P (sym front) (contains_mem _ n ((is.marked n).0 m)),
           λ m. (is.marked n).1 (mem_contains _ n (subst P front m)),
         )
         ) in
-        let on = started end now.graph now.marks now.met x xs exist once marked in
+        let on = started end now.graph now.work.entered now.work.marked x xs exist once marked in
         let P : ℕ → Type 0 = λ z.
-        Queueing (to_all end now.graph (x ∷ xs) now.met) record (queue_of now 0) {
+        Queueing (to_all end now.graph (x ∷ xs) now.work.marked) record (queue_of now 0) {
           nodes = x ∷ xs;
           head = 0;
           edge = first_of end (out_list now.graph z);

@@ -1,6 +1,6 @@
 -- The children of a node put into a queue behind it, but for the one that stands last in an order.
 use Rattle.std.proofs.Common.{◌≡◌, ◌≢◌, ℕ, zero, suc, ◌+◌, ◌<◌, ◌≤◌, Bool, true, false, ◌⊎◌, ◌↔◌, inl, inr, List, []}
-use Rattle.std.proofs.Common.{◌∷◌, ◌++◌, length, get_or, drop, take, set, refl, sym, ap, subst, ◌∙◌, arith, length-set}
+use Rattle.std.proofs.Common.{◌∷◌, ◌++◌, length, get_or, drop, take, set, refl, sym, ap, subst, ◌∙◌, arith}
 use Rattle.std.proofs.lemmas.List.{take_more_set, length-take-le}
 use Rattle.std.proofs.lemmas.Bool.{false≢true, cases_eq}
 use Rattle.daggy_base.specs.Graph.{Graph, HasNode, HasEdge, out_list, node_bound}
@@ -12,29 +12,28 @@ use Rattle.daggy_base.proofs.Lists.{Mem, Unique, mem_left, mem_right, mem_cases,
 use Rattle.daggy_base.proofs.Lists.{fewer_than}
 use Rattle.daggy_base.proofs.OutEdgesRead.{leaves, joins, LookedTo, all_read, read_part, has_edge}
 use Rattle.daggy_base.proofs.OutEdgesRead.{child_exists, child_joined, next_cursor, looked_more, below_bound}
+use Rattle.daggy_search.specs.Work.{Work, IsSized, IsCleared}
+use Rattle.daggy_search.proofs.Sized.{sized_entered, sized_put_node}
 use Rattle.daggy_search.proofs.SearchProgress.{marked_within, set_marked}
 use Rattle.daggy_base.specs.Ordered.{IsOrderOf, place}
 use Rattle.daggy_base.proofs.Sorted.{place_same, place_other}
 use Rattle.daggy_reduction.proofs.QueueProgress.{take_none}
 
--- The node that a queue begins with: its graph, the number past all edges, the order and the node, and how many marks
--- and places of the queue there are and how often edges were looked at till then.
+-- The node that a queue begins with: its graph, the number past all edges, the order and the node, and the worklist and
+-- how often edges were looked at till then.
 pub record First (N E : Type 0) : Type 0 where
   pub end : ℕ
   pub graph : Graph N E
   pub order : List ℕ
   pub node : ℕ
-  pub marks : ℕ
-  pub places : ℕ
+  pub begun : Work
   pub looks : ℕ
 
--- What was done with its children so far: the graph, the marks of the nodes in the queue, the places of the queue and
--- how many of them are in use, the child that stands last in the order, the next edge, and how often edges were looked
--- at.
+-- What was done with its children so far: the graph, the worklist, how many places of the queue are in use, the child
+-- that stands last in the order, the next edge, and how often edges were looked at.
 pub record Children (N E : Type 0) : Type 0 where
   pub graph : Graph N E
-  pub marks : List Bool
-  pub queue : List ℕ
+  pub work : Work
   pub len : ℕ
   pub last : ℕ
   pub edge : ℕ
@@ -43,11 +42,11 @@ pub record Children (N E : Type 0) : Type 0 where
 -- the children that were seen are in the queue behind the node, but for the last one
 pub record Beginning {N E : Type 0} (first : First N E) (now : Children N E) : Type 0 where
   pub same : now.graph ≡ first.graph
-  pub marks_sized : length now.marks ≡ first.marks
-  pub queue_sized : length now.queue ≡ first.places
-  pub fits : node_bound first.graph ≤ length now.marks
-  pub capacity : length now.marks ≤ length now.queue
-  pub high : now.len ≤ length now.queue
+  pub sized : IsSized first.begun.size now.work
+  pub aside : now.work.cursors ≡ first.begun.cursors
+  pub unmet : now.work.marked ≡ first.begun.marked
+  pub fits : node_bound first.graph ≤ first.begun.size
+  pub high : now.len ≤ first.begun.size
   -- how much of the node's list was read
   pub passed : ℕ
   pub cursor : now.edge ≡ first_of first.end (drop passed (out_list first.graph first.node))
@@ -55,9 +54,9 @@ pub record Beginning {N E : Type 0} (first : First N E) (now : Children N E) : T
   pub counted : now.looks ≡ first.looks + passed
   -- the queue
   pub q : List ℕ
-  pub is : take now.len now.queue ≡ q
+  pub is : take now.len now.work.nodes ≡ q
   pub once : Unique q
-  pub marked : (n : ℕ) → (get_or now.marks n false ≡ true) ↔ Mem n q
+  pub marked : (n : ℕ) → (get_or now.work.entered n false ≡ true) ↔ Mem n q
   pub before : (n : ℕ) → Mem n q → place first.order n < place first.order now.last
   pub from : (n : ℕ) → Mem n q → (n ≡ first.node) ⊎ AreJoined first.graph first.node n
   pub last_from : (now.last ≡ first.node) ⊎ AreJoined first.graph first.node now.last
@@ -65,33 +64,32 @@ pub record Beginning {N E : Type 0} (first : First N E) (now : Children N E) : T
   pub front : ((q ≡ []) × (now.last ≡ first.node)) ⊎ ((others : List ℕ) × (q ≡ first.node ∷ others))
 
 pub begins_here : {N E : Type 0} (end : ℕ) (order : List ℕ) {now : Children N E}
-    → now.len ≡ 0 → ((n : ℕ) → get_or now.marks n false ≡ false) → node_bound now.graph ≤ length now.marks
-    → length now.marks ≤ length now.queue → now.edge ≡ first_of end (out_list now.graph now.last)
+    → now.len ≡ 0 → IsCleared now.work → node_bound now.graph ≤ now.work.size → IsSized now.work.size now.work
+    → now.edge ≡ first_of end (out_list now.graph now.last)
     → Beginning record {
       end = end;
       graph = now.graph;
       order = order;
       node = now.last;
-      marks = length now.marks;
-      places = length now.queue;
+      begun = now.work;
       looks = now.looks;
     } now
-begins_here end order {now} empty cleared fits capacity first =
+begins_here end order {now} empty cleared fits sized first =
     record {
       same = refl;
-      marks_sized = refl;
-      queue_sized = refl;
+      sized = sized;
+      aside = refl;
+      unmet = refl;
       fits = fits;
-      capacity = capacity;
       high = omega (arith, empty);
       passed = 0;
       cursor = first;
       within = omega arith;
       counted = omega arith;
       q = [];
-      is = ap (λ k. take k now.queue) empty ∙ take_none now.queue;
+      is = ap (λ k. take k now.work.nodes) empty ∙ take_none now.work.nodes;
       once = tt;
-      marked = λ n. (λ m. absurd (false≢true (sym (cleared n) ∙ m)), λ m. absurd m);
+      marked = λ n. (λ m. absurd (false≢true (sym (cleared.none_entered n) ∙ m)), λ m. absurd m);
       before = λ n m. absurd m;
       from = λ n m. absurd m;
       last_from = inl refl;
@@ -146,49 +144,55 @@ module _ {N E : Type 0} {first : First N E} (w : IsWellFormed first.end first.gr
   pub passed_less : now.edge ≢ end → s.passed < length (out_list g₀ u)
   passed_less here = (read_part end g₀ w u s.passed now.edge s.cursor here).0
 
-  pub low_node : (x : ℕ) → HasNode g₀ x → x < length now.marks
-  low_node x has = omega (arith, below_bound g₀.nodes x has, s.fits)
+  pub low_node : (x : ℕ) → HasNode g₀ x → x < length now.work.entered
+  low_node x has = omega (arith, below_bound g₀.nodes x has, s.fits, s.sized.entered_are)
 
-  pub has_room : (x : ℕ) → HasNode g₀ x → get_or now.marks x false ≡ false → now.len < length now.queue
+  in_use : now.len ≤ length now.work.nodes
+  in_use = omega (arith, s.high, s.sized.nodes_are)
+
+  pub has_room : (x : ℕ) → HasNode g₀ x → get_or now.work.entered x false ≡ false → now.len < length now.work.nodes
   has_room x has unseen =
       let absent : Mem x s.q → ⊥ = λ m. false≢true (sym unseen ∙ (s.marked x).1 m) in
-      let low_all : (y : ℕ) → Mem y (x ∷ s.q) → y < length now.marks = λ y m.
+      let low_all : (y : ℕ) → Mem y (x ∷ s.q) → y < length now.work.entered = λ y m.
       elim m [
         | inl eq ↦ omega (arith, eq, low_node x has)
-        | inr b ↦ marked_within now.marks y ((s.marked y).1 b)
+        | inr b ↦ marked_within now.work.entered y ((s.marked y).1 b)
       ] in
-      let few = fewer_than (x ∷ s.q) (length now.marks) (absent, s.once) low_all in
-      omega (arith, few, s.capacity, length-take-le now.len now.queue s.high, ap length s.is)
+      let few = fewer_than (x ∷ s.q) (length now.work.entered) (absent, s.once) low_all in
+      omega (arith, few, s.sized.entered_are, s.sized.nodes_are, length-take-le now.len now.work.nodes in_use, ap length s.is)
 
   -- a node put behind unless it is there
-  pub record Put (x : ℕ) (marks' : List Bool) (queue' : List ℕ) (len' : ℕ) : Type 0 where
+  pub record Put (x : ℕ) (work' : Work) (len' : ℕ) : Type 0 where
     pub q' : List ℕ
-    pub is' : take len' queue' ≡ q'
-    pub marks_size_kept : length marks' ≡ length now.marks
-    pub queue_size_kept : length queue' ≡ length now.queue
-    pub high' : len' ≤ length queue'
+    pub is' : take len' work'.nodes ≡ q'
+    pub sized' : IsSized first.begun.size work'
+    pub aside' : work'.cursors ≡ first.begun.cursors
+    pub unmet' : work'.marked ≡ first.begun.marked
+    pub high' : len' ≤ first.begun.size
     pub once' : Unique q'
-    pub marked' : (n : ℕ) → (get_or marks' n false ≡ true) ↔ Mem n q'
+    pub marked' : (n : ℕ) → (get_or work'.entered n false ≡ true) ↔ Mem n q'
     pub old : (n : ℕ) → Mem n s.q → Mem n q'
     pub here : Mem x q'
     pub out : (n : ℕ) → Mem n q' → Mem n s.q ⊎ (n ≡ x)
     pub front' : (q' ≡ s.q) ⊎ (q' ≡ s.q ++ x ∷ [])
 
-  pub put : (x : ℕ) → HasNode g₀ x → {marks' : List Bool} {queue' : List ℕ} {len' : ℕ}
-      → (get_or now.marks x false ≡ true → (marks' ≡ now.marks) × (queue' ≡ now.queue) × (len' ≡ now.len))
-      → (get_or now.marks x false ≡ false
-      → (marks' ≡ set now.marks x true) × (queue' ≡ set now.queue now.len x) × (len' ≡ now.len + 1))
-      → Put x marks' queue' len'
-  put x has {marks'} {queue'} {len'} there new = go (get_or now.marks x false) refl
+  pub put : (x : ℕ) → HasNode g₀ x → {work' : Work} {len' : ℕ}
+      → (get_or now.work.entered x false ≡ true → (work' ≡ now.work) × (len' ≡ now.len))
+      → (get_or now.work.entered x false ≡ false → (work' ≡ record now.work {
+        entered = set now.work.entered x true;
+        nodes = set now.work.nodes now.len x;
+      }) × (len' ≡ now.len + 1)) → Put x work' len'
+  put x has {work'} {len'} there new = go (get_or now.work.entered x false) refl
     where
-      go : (b : Bool) → b ≡ get_or now.marks x false → Put x marks' queue' len'
+      go : (b : Bool) → b ≡ get_or now.work.entered x false → Put x work' len'
       go true at =
           let h = there (sym at) in
-          let same : Put x now.marks now.queue now.len = record {
+          let same : Put x now.work now.len = record {
             q' = s.q;
             is' = s.is;
-            marks_size_kept = refl;
-            queue_size_kept = refl;
+            sized' = s.sized;
+            aside' = s.aside;
+            unmet' = s.unmet;
             high' = s.high;
             once' = s.once;
             marked' = s.marked;
@@ -197,7 +201,7 @@ module _ {N E : Type 0} {first : First N E} (w : IsWellFormed first.end first.gr
             out = λ n m. inl m;
             front' = inl refl;
           } in
-          rw (h.0, h.1, h.2) same
+          rw (h.0, h.1) same
       go false at =
           let h = new (sym at) in
           let more = has_room x has (sym at) in
@@ -209,22 +213,26 @@ module _ {N E : Type 0} {first : First N E} (w : IsWellFormed first.end first.gr
             | inr b ↦ elim b [ inl eq ↦ inr eq | inr none ↦ absurd none ]
           ] in
           let at_end : Mem x (s.q ++ x ∷ []) = mem_right s.q (x ∷ []) x (inl refl) in
-          let grown : Put x (set now.marks x true) (set now.queue now.len x) (now.len + 1) = record {
+          let grown : Put x record now.work {
+            entered = set now.work.entered x true;
+            nodes = set now.work.nodes now.len x;
+          } (now.len + 1) = record {
             q' = s.q ++ x ∷ [];
-            is' = take_more_set now.queue now.len x more ∙ ap (λ z. z ++ x ∷ []) s.is;
-            marks_size_kept = length-set now.marks x true;
-            queue_size_kept = length-set now.queue now.len x;
-            high' = omega (arith, length-set now.queue now.len x, more);
+            is' = take_more_set now.work.nodes now.len x more ∙ ap (λ z. z ++ x ∷ []) s.is;
+            sized' = sized_put_node (sized_entered s.sized x) now.len x;
+            aside' = s.aside;
+            unmet' = s.unmet;
+            high' = omega (arith, more, s.sized.nodes_are);
             once' = unique_append s.q (x ∷ []) s.once (λ m. m, tt) (λ y a b. elim b [
               | inl eq ↦ (let P : ℕ → Type 0 = λ z. Mem z s.q in absent (subst P eq a))
               | inr none ↦ none
             ]);
             marked' = λ n. (
-              λ k. elim ((set_marked now.marks x n low).0 k) [
+              λ k. elim ((set_marked now.work.entered x n low).0 k) [
                 | inl eq ↦ (let P : ℕ → Type 0 = λ z. Mem z (s.q ++ x ∷ []) in subst P (sym eq) at_end)
                 | inr m ↦ mem_left s.q (x ∷ []) n ((s.marked n).0 m)
               ],
-              λ m. (set_marked now.marks x n low).1 (elim (cases n m) [
+              λ m. (set_marked now.work.entered x n low).1 (elim (cases n m) [
                 | inl a ↦ inr ((s.marked n).1 a)
                 | inr eq ↦ inl eq
               ]),
@@ -234,7 +242,7 @@ module _ {N E : Type 0} {first : First N E} (w : IsWellFormed first.end first.gr
             out = cases;
             front' = inr refl;
           } in
-          rw (h.0, h.1, h.2) grown
+          rw (h.0, h.1) grown
 
   module _ (here : now.edge ≢ end) {v next : ℕ} (look : IsLook end now.graph now.edge v next) where
     look₀ : IsLook end g₀ now.edge v next
@@ -248,12 +256,11 @@ module _ {N E : Type 0} {first : First N E} (w : IsWellFormed first.end first.gr
 
     module _ {g' : Graph N E} (kept : g' ≡ now.graph) {looks' : ℕ} (one_more : looks' ≡ now.looks + 1) where
       -- the child stands last so far
-      pub put_last : {marks' : List Bool} {queue' : List ℕ} {len' : ℕ}
-          → Put now.last marks' queue' len' → place order now.last < place order v
+      pub put_last : {work' : Work} {len' : ℕ}
+          → Put now.last work' len' → place order now.last < place order v
           → Beginning first record {
             graph = g';
-            marks = marks';
-            queue = queue';
+            work = work';
             len = len';
             last = v;
             edge = next;
@@ -262,10 +269,10 @@ module _ {N E : Type 0} {first : First N E} (w : IsWellFormed first.end first.gr
       put_last p later =
           record {
             same = kept ∙ s.same;
-            marks_sized = p.marks_size_kept ∙ s.marks_sized;
-            queue_sized = p.queue_size_kept ∙ s.queue_sized;
-            fits = omega (arith, s.fits, p.marks_size_kept);
-            capacity = omega (arith, s.capacity, p.marks_size_kept, p.queue_size_kept);
+            sized = p.sized';
+            aside = p.aside';
+            unmet = p.unmet';
+            fits = s.fits;
             high = p.high';
             passed = suc s.passed;
             cursor = next_cursor end g₀ w u s.passed now.edge s.cursor here v next look₀;
@@ -306,12 +313,11 @@ module _ {N E : Type 0} {first : First N E} (w : IsWellFormed first.end first.gr
           }
 
       -- the child stands before another
-      pub put_child : {marks' : List Bool} {queue' : List ℕ} {len' : ℕ}
-          → Put v marks' queue' len' → place order v < place order now.last
+      pub put_child : {work' : Work} {len' : ℕ}
+          → Put v work' len' → place order v < place order now.last
           → Beginning first record {
             graph = g';
-            marks = marks';
-            queue = queue';
+            work = work';
             len = len';
             last = now.last;
             edge = next;
@@ -320,10 +326,10 @@ module _ {N E : Type 0} {first : First N E} (w : IsWellFormed first.end first.gr
       put_child p earlier =
           record {
             same = kept ∙ s.same;
-            marks_sized = p.marks_size_kept ∙ s.marks_sized;
-            queue_sized = p.queue_size_kept ∙ s.queue_sized;
-            fits = omega (arith, s.fits, p.marks_size_kept);
-            capacity = omega (arith, s.capacity, p.marks_size_kept, p.queue_size_kept);
+            sized = p.sized';
+            aside = p.aside';
+            unmet = p.unmet';
+            fits = s.fits;
             high = p.high';
             passed = suc s.passed;
             cursor = next_cursor end g₀ w u s.passed now.edge s.cursor here v next look₀;
@@ -374,10 +380,10 @@ module _ {N E : Type 0} {first : First N E} (w : IsWellFormed first.end first.gr
           (contains_mem order now.last ((ord.exact now.last).1 last_exists)) (omega (arith, no_later, no_earlier)) in
           record {
             same = kept ∙ s.same;
-            marks_sized = s.marks_sized;
-            queue_sized = s.queue_sized;
+            sized = s.sized;
+            aside = s.aside;
+            unmet = s.unmet;
             fits = s.fits;
-            capacity = s.capacity;
             high = s.high;
             passed = suc s.passed;
             cursor = next_cursor end g₀ w u s.passed now.edge s.cursor here v next look₀;
@@ -415,7 +421,7 @@ module _ {N E : Type 0} {first : First N E} (w : IsWellFormed first.end first.gr
               ]
               )
           | inr o ↦
-              absurd (omega (arith, empty, ap length s.is, ap length o.1, length-take-le now.len now.queue s.high))
+              absurd (omega (arith, empty, ap length s.is, ap length o.1, length-take-le now.len now.work.nodes in_use))
         ]
 
     -- an empty queue is that of a node without edges

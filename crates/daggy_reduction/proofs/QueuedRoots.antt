@@ -1,6 +1,6 @@
 -- Roots put into a queue one by one, and what they reach.
 use Rattle.std.proofs.Common.{◌≡◌, ℕ, ◌+◌, ◌<◌, ◌≤◌, Bool, true, false, ◌⊎◌, ◌↔◌, inl, inr, List, [], ◌∷◌, ◌++◌, length}
-use Rattle.std.proofs.Common.{get_or, take, set, refl, sym, ap, subst, ◌∙◌, arith, length-set, Contains}
+use Rattle.std.proofs.Common.{get_or, take, set, refl, sym, ap, subst, ◌∙◌, arith, Contains}
 use Rattle.std.proofs.lemmas.List.{take_more, take_more_set, length-take-le, take_all}
 use Rattle.std.proofs.lemmas.Bool.{false≢true}
 use Rattle.daggy_base.specs.Graph.{Graph, HasNode, node_bound}
@@ -9,60 +9,51 @@ use Rattle.daggy_base.proofs.Lists.{Mem, Unique, mem_left, mem_right, mem_cases,
 use Rattle.daggy_base.proofs.Lists.{fewer_than}
 use Rattle.daggy_base.proofs.Lists.{unique_append}
 use Rattle.daggy_base.proofs.OutEdgesRead.{below_bound}
+use Rattle.daggy_search.specs.Work.{Work, IsSized, IsCleared}
+use Rattle.daggy_search.proofs.Sized.{sized_entered, sized_put_node}
 use Rattle.daggy_search.proofs.SearchProgress.{marked_within, set_marked}
 use Rattle.daggy_reduction.specs.Closure.{IsQueue, IsClosure}
 use Rattle.daggy_reduction.proofs.QueueProgress.{take_none}
 use Rattle.daggy_reduction.proofs.QueueState.{distinct_from_unique}
 
--- What is to be put into a queue: the graph, the roots, and how many marks and places of the queue there are.
+-- What is to be put into a queue: the graph, the roots, and the size of the worklist.
 pub record Roots (N E : Type 0) : Type 0 where
   pub graph : Graph N E
   pub nodes : List ℕ
-  pub marks : ℕ
-  pub places : ℕ
+  pub size : ℕ
 
--- What is in the queue so far: the marks of its nodes, its places and how many of them are in use, and how many of the
--- roots were seen.
+-- What is in the queue so far: the worklist, how many places of the queue are in use, and how many of the roots were
+-- seen.
 pub record Rooted : Type 0 where
-  pub marks : List Bool
-  pub queue : List ℕ
+  pub work : Work
   pub len : ℕ
   pub seen : ℕ
 
 -- the queue has each existing root of those that were seen, once
 pub record Rooting {N E : Type 0} (roots : Roots N E) (now : Rooted) : Type 0 where
-  pub marks_sized : length now.marks ≡ roots.marks
-  pub queue_sized : length now.queue ≡ roots.places
-  pub fits : node_bound roots.graph ≤ length now.marks
-  pub capacity : length now.marks ≤ length now.queue
-  pub high : now.len ≤ length now.queue
-  pub once : Unique (take now.len now.queue)
-  pub marked : (n : ℕ) → (get_or now.marks n false ≡ true) ↔ Mem n (take now.len now.queue)
+  pub sized : IsSized roots.size now.work
+  pub fits : node_bound roots.graph ≤ roots.size
+  pub high : now.len ≤ roots.size
+  pub once : Unique (take now.len now.work.nodes)
+  pub marked : (n : ℕ) → (get_or now.work.entered n false ≡ true) ↔ Mem n (take now.len now.work.nodes)
   pub exact : (n : ℕ)
-      → Mem n (take now.len now.queue) ↔ (Mem n (take now.seen roots.nodes) × HasNode roots.graph n)
+      → Mem n (take now.len now.work.nodes) ↔ (Mem n (take now.seen roots.nodes) × HasNode roots.graph n)
 
-pub rooting_start : {N E : Type 0} (g : Graph N E) (roots : List ℕ) (marks : List Bool) (queue : List ℕ)
-    → node_bound g ≤ length marks → length marks ≤ length queue → ((n : ℕ) → get_or marks n false ≡ false)
-    → Rooting record { graph = g; nodes = roots; marks = length marks; places = length queue } record {
-      marks = marks;
-      queue = queue;
-      len = 0;
-      seen = 0;
-    }
-rooting_start g roots marks queue fits capacity cleared =
+pub rooting_start : {N E : Type 0} (g : Graph N E) (roots : List ℕ) {size : ℕ} {work : Work}
+    → node_bound g ≤ size → IsSized size work → IsCleared work
+    → Rooting record { graph = g; nodes = roots; size = size } record { work = work; len = 0; seen = 0 }
+rooting_start g roots {size} {work} fits sized cleared =
     record {
-      marks_sized = refl;
-      queue_sized = refl;
+      sized = sized;
       fits = fits;
-      capacity = capacity;
       high = omega arith;
-      once = let P : List ℕ → Type 0 = λ z. Unique z in subst P (sym (take_none queue)) tt;
+      once = let P : List ℕ → Type 0 = λ z. Unique z in subst P (sym (take_none work.nodes)) tt;
       marked = λ n. (
-        λ m. absurd (false≢true (sym (cleared n) ∙ m)),
-        λ m. (let P : List ℕ → Type 0 = λ z. Mem n z in absurd (subst P (take_none queue) m)),
+        λ m. absurd (false≢true (sym (cleared.none_entered n) ∙ m)),
+        λ m. (let P : List ℕ → Type 0 = λ z. Mem n z in absurd (subst P (take_none work.nodes) m)),
       );
       exact = λ n. (
-        λ m. (let P : List ℕ → Type 0 = λ z. Mem n z in absurd (subst P (take_none queue) m)),
+        λ m. (let P : List ℕ → Type 0 = λ z. Mem n z in absurd (subst P (take_none work.nodes) m)),
         λ r. (let P : List ℕ → Type 0 = λ z. Mem n z in absurd (subst P (take_none roots) r.0)),
       );
     }
@@ -96,10 +87,8 @@ module _ {N E : Type 0} {roots : Roots N E} {now : Rooted} (s : Rooting roots no
       → Rooting roots record now { seen = now.seen + 1 }
   root_missing r is missing =
       record {
-        marks_sized = s.marks_sized;
-        queue_sized = s.queue_sized;
+        sized = s.sized;
         fits = s.fits;
-        capacity = s.capacity;
         high = s.high;
         once = s.once;
         marked = s.marked;
@@ -113,37 +102,42 @@ module _ {N E : Type 0} {roots : Roots N E} {now : Rooted} (s : Rooting roots no
       }
 
   module _ (r : ℕ) (is : r ≡ get_or roots.nodes now.seen r) (exists : HasNode roots.graph r) where
-    pub root_low : r < length now.marks
-    root_low = omega (arith, below_bound roots.graph.nodes r exists, s.fits)
+    pub root_low : r < length now.work.entered
+    root_low = omega (arith, below_bound roots.graph.nodes r exists, s.fits, s.sized.entered_are)
 
-    pub root_room : get_or now.marks r false ≡ false → now.len < length now.queue
+    pub root_room : get_or now.work.entered r false ≡ false → now.len < length now.work.nodes
     root_room unseen =
-        let absent : Mem r (take now.len now.queue) → ⊥ = λ m. false≢true (sym unseen ∙ (s.marked r).1 m) in
-        let low_all : (x : ℕ) → Mem x (r ∷ take now.len now.queue) → x < length now.marks = λ x m.
+        let absent : Mem r (take now.len now.work.nodes) → ⊥ = λ m. false≢true (sym unseen ∙ (s.marked r).1 m) in
+        let low_all : (x : ℕ) → Mem x (r ∷ take now.len now.work.nodes) → x < length now.work.entered = λ x m.
         elim m [
           | inl e ↦ omega (arith, e, root_low)
-          | inr b ↦ marked_within now.marks x ((s.marked x).1 b)
+          | inr b ↦ marked_within now.work.entered x ((s.marked x).1 b)
         ] in
-        let few = fewer_than (r ∷ take now.len now.queue) (length now.marks) (absent, s.once) low_all in
-        omega (arith, few, s.capacity, length-take-le now.len now.queue s.high)
+        let few = fewer_than (r ∷ take now.len now.work.nodes) (length now.work.entered) (absent, s.once) low_all in
+        omega (
+          arith,
+          few,
+          s.sized.entered_are,
+          s.sized.nodes_are,
+          length-take-le now.len now.work.nodes (omega (arith, s.high, s.sized.nodes_are)),
+        )
 
-    pub root_entered : {marks' : List Bool} {queue' : List ℕ} {len' : ℕ}
-        → (get_or now.marks r false ≡ true → (marks' ≡ now.marks) × (queue' ≡ now.queue) × (len' ≡ now.len))
-        → (get_or now.marks r false ≡ false
-        → (marks' ≡ set now.marks r true) × (queue' ≡ set now.queue now.len r) × (len' ≡ now.len + 1))
-        → Rooting roots record { marks = marks'; queue = queue'; len = len'; seen = now.seen + 1 }
-    root_entered {marks'} {queue'} {len'} old new = go (get_or now.marks r false) refl
+    pub root_entered : {work' : Work} {len' : ℕ}
+        → (get_or now.work.entered r false ≡ true → (work' ≡ now.work) × (len' ≡ now.len))
+        → (get_or now.work.entered r false ≡ false → (work' ≡ record now.work {
+          entered = set now.work.entered r true;
+          nodes = set now.work.nodes now.len r;
+        }) × (len' ≡ now.len + 1)) → Rooting roots record { work = work'; len = len'; seen = now.seen + 1 }
+    root_entered {work'} {len'} old new = go (get_or now.work.entered r false) refl
       where
-        go : (b : Bool) → b ≡ get_or now.marks r false
-            → Rooting roots record { marks = marks'; queue = queue'; len = len'; seen = now.seen + 1 }
+        go : (b : Bool) → b ≡ get_or now.work.entered r false
+            → Rooting roots record { work = work'; len = len'; seen = now.seen + 1 }
         go true at =
             let h = old (sym at) in
-            let there : Mem r (take now.len now.queue) = (s.marked r).0 (sym at) in
+            let there : Mem r (take now.len now.work.nodes) = (s.marked r).0 (sym at) in
             let same : Rooting roots record now { seen = now.seen + 1 } = record {
-              marks_sized = s.marks_sized;
-              queue_sized = s.queue_sized;
+              sized = s.sized;
               fits = s.fits;
-              capacity = s.capacity;
               high = s.high;
               once = s.once;
               marked = s.marked;
@@ -151,17 +145,17 @@ module _ {N E : Type 0} {roots : Roots N E} {now : Rooted} (s : Rooting roots no
                 λ m. (let both = (s.exact n).0 m in (still_in r n is both.0, both.1)),
                 λ both. elim (in_more r n is both.0) [
                   | inl a ↦ (s.exact n).1 (a, both.1)
-                  | inr e ↦ (let P : ℕ → Type 0 = λ z. Mem z (take now.len now.queue) in subst P (sym e) there)
+                  | inr e ↦ (let P : ℕ → Type 0 = λ z. Mem z (take now.len now.work.nodes) in subst P (sym e) there)
                 ],
               );
             } in
-            rw (h.0, h.1, h.2) same
+            rw (h.0, h.1) same
         go false at =
             let h = new (sym at) in
             let low = root_room (sym at) in
-            let q = take now.len now.queue in
-            let longer : take (now.len + 1) (set now.queue now.len r) ≡ q ++ r ∷ [] =
-            take_more_set now.queue now.len r low in
+            let q = take now.len now.work.nodes in
+            let longer : take (now.len + 1) (set now.work.nodes now.len r) ≡ q ++ r ∷ [] =
+            take_more_set now.work.nodes now.len r low in
             let absent : Mem r q → ⊥ = λ m. false≢true (at ∙ (s.marked r).1 m) in
             let out : (n : ℕ) → Mem n (q ++ r ∷ []) → Mem n q ⊎ (n ≡ r) = λ n m.
             elim (mem_cases q (r ∷ []) n m) [
@@ -172,28 +166,25 @@ module _ {N E : Type 0} {roots : Roots N E} {now : Rooted} (s : Rooting roots no
             (let P : ℕ → Type 0 = λ z. Mem z (q ++ r ∷ []) in subst P (sym e) (mem_right q (r ∷ []) r (inl refl))) in
             let Q : List ℕ → Type 0 = λ z. Unique z in
             let grown : Rooting roots record {
-              marks = set now.marks r true;
-              queue = set now.queue now.len r;
+              work = record now.work { entered = set now.work.entered r true; nodes = set now.work.nodes now.len r };
               len = now.len + 1;
               seen = now.seen + 1;
             } =
             record {
-              marks_sized = length-set now.marks r true ∙ s.marks_sized;
-              queue_sized = length-set now.queue now.len r ∙ s.queue_sized;
-              fits = omega (arith, s.fits, length-set now.marks r true);
-              capacity = omega (arith, s.capacity, length-set now.marks r true, length-set now.queue now.len r);
-              high = omega (arith, low, length-set now.queue now.len r);
+              sized = sized_put_node (sized_entered s.sized r) now.len r;
+              fits = s.fits;
+              high = omega (arith, low, s.sized.nodes_are);
               once = subst Q (sym longer) (unique_append q (r ∷ []) s.once (λ m. m, tt) (λ x a b. elim b [
                 | inl e ↦ (let P : ℕ → Type 0 = λ z. Mem z q in absent (subst P e a))
                 | inr none ↦ none
               ]));
               marked = λ n. (
                   let P : List ℕ → Type 0 = λ z. Mem n z in (
-                    λ m. subst P (sym longer) (elim ((set_marked now.marks r n root_low).0 m) [
+                    λ m. subst P (sym longer) (elim ((set_marked now.work.entered r n root_low).0 m) [
                       | inl e ↦ here n e
                       | inr before ↦ mem_left q (r ∷ []) n ((s.marked n).0 before)
                     ]),
-                    λ m. (set_marked now.marks r n root_low).1 (elim (out n (subst P longer m)) [
+                    λ m. (set_marked now.work.entered r n root_low).1 (elim (out n (subst P longer m)) [
                       | inl a ↦ inr ((s.marked n).1 a)
                       | inr e ↦ inl e
                     ]),
@@ -216,14 +207,14 @@ module _ {N E : Type 0} {roots : Roots N E} {now : Rooted} (s : Rooting roots no
                   )
                   );
             } in
-            rw (h.0, h.1, h.2) grown
+            rw (h.0, h.1) grown
 
 pub all_rooted : {N E : Type 0} {roots : Roots N E} {now : Rooted} → Rooting roots now → length roots.nodes ≤ now.seen
-    → IsQueue roots.graph now.marks (take now.len now.queue)
-    × ((n : ℕ) → Contains (take now.len now.queue) n ↔ (Contains roots.nodes n × HasNode roots.graph n))
+    → IsQueue roots.graph now.work.entered (take now.len now.work.nodes)
+    × ((n : ℕ) → Contains (take now.len now.work.nodes) n ↔ (Contains roots.nodes n × HasNode roots.graph n))
 all_rooted {N} {E} {roots} {now} s past =
     let whole : take now.seen roots.nodes ≡ roots.nodes = take_all now.seen roots.nodes past in
-    let q = take now.len now.queue in (
+    let q = take now.len now.work.nodes in (
       record {
         exist = λ n c. ((s.exact n).0 (contains_mem q n c)).1;
         once = distinct_from_unique q s.once;

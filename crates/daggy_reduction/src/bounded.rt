@@ -7,6 +7,7 @@ ghost use Rattle.daggy_base.specs.Path.{AreJoined};
 ghost use Rattle.daggy_base.specs.WellFormed.{IsWellFormed};
 ghost use Rattle.daggy_base.specs.Reduction.{IsRedundant, ReachesIndirectly};
 ghost use Rattle.daggy_base.specs.Ordered.{IsOrderOf};
+ghost use Rattle.daggy_search.specs.Work.{IsSized, IsCleared};
 ghost use Rattle.daggy_reduction.specs.Flags.{IsFlagged, FlagsRound};
 ghost use Rattle.daggy_reduction.specs.Comparison.{IsAscending};
 ghost use Rattle.daggy_reduction.specs.SearchSpan.{edges_spanned, all_spanned};
@@ -18,39 +19,34 @@ use crate::flags::{flag_marked, gather_flagged, unflag};
 use crate::redundant::front;
 use crate::roots::enter_below;
 use daggy_base::index::{EdgeIndex, IndexType, NodeIndex};
-use daggy_base::link::Link;
 use daggy_base::source::EdgeSource;
 use daggy_order::order::Order;
-use daggy_search::{Marks, Scratch, write_out};
+use daggy_search::{Scratch, Worklist};
 
-// Marks in `met` the children of `u` that are also reachable by a longer path. Such a path cannot
+// Marks the children of `u` that are also reachable by a longer path. Such a path cannot
 // leave the part of the order before `u`'s last child, so the search stays there.
 pub(crate) fn meet_round<Ix: IndexType, S: EdgeSource<Ix>>(
     source: &mut S,
     order: &Order<Ix>,
     u: NodeIndex<Ix>,
-    entered: &mut Marks,
-    met: &mut Marks,
-    queue: &mut [Link<Ix>],
+    work: &mut Worklist<Ix>,
 )
     requires well_formed { IsWellFormed Ix.greatest (S.graph source.old) }
     requires ordered { IsOrderOf (S.graph source.old) order.now }
     requires exists { HasNode (S.graph source.old) (Ix.number u) }
-    requires cleared { (n : ℕ) → slice_index_or entered.old n false ≡ false }
-    requires entered_fit { node_bound (S.graph source.old) ≤ length entered.old }
-    requires met_fit { node_bound (S.graph source.old) ≤ length met.old }
-    requires queue_fits { length entered.old ≤ length queue.old }
+    requires cleared { IsCleared work.old }
+    requires fits { node_bound (S.graph source.old) ≤ work.old.size }
+    requires sized { IsSized work.old.size work.old }
     ensures same { S.graph source.new ≡ S.graph source.old }
     ensures met { (v : ℕ)
-        → AreJoined (S.graph source.old) (Ix.number u) v → (slice_index_or met.new v false ≡ true)
-        ↔ ((slice_index_or met.old v false ≡ true)
+        → AreJoined (S.graph source.old) (Ix.number u) v → (slice_index_or work.new.marked v false ≡ true)
+        ↔ ((slice_index_or work.old.marked v false ≡ true)
         ⊎ ReachesIndirectly (S.graph source.old) (Ix.number u) v) }
     ensures looked { S.looks source.old ≤ S.looks source.new }
     ensures counted { S.looks source.new
         ≤ S.looks source.old + edges_spanned (S.graph source.old) order.now (Ix.number u) }
-    ensures entered_kept { length entered.new ≡ length entered.old }
-    ensures met_kept { length met.new ≡ length met.old }
-    ensures queue_kept { length queue.new ≡ length queue.old }
+    ensures kept { IsSized work.old.size work.new }
+    ensures aside { work.new.cursors ≡ work.old.cursors }
 {
     let end = EdgeIndex::<Ix>::end().index();
     let mut last = u;
@@ -59,10 +55,10 @@ pub(crate) fn meet_round<Ix: IndexType, S: EdgeSource<Ix>>(
     'children: while e.index() != end {
         let (v, next) = source.look(e);
         if order.stands_before(last, v) {
-            len = enter(entered, queue, len, last);
+            len = enter(work, len, last);
             last = v;
         } else if order.stands_before(v, last) {
-            len = enter(entered, queue, len, v);
+            len = enter(work, len, v);
         }
         e = next;
     }
@@ -76,13 +72,13 @@ pub(crate) fn meet_round<Ix: IndexType, S: EdgeSource<Ix>>(
             if head == len {
                 return;
             }
-            e = source.first(queue[head].node());
+            e = source.first(work.node(head).node());
         } else {
             let (v, next) = source.look(e);
             if order.stands_before(v, last) {
-                len = enter(entered, queue, len, v);
+                len = enter(work, len, v);
             }
-            mark_unless_first(met, head, v.index());
+            mark_unless_first(work, head, v.index());
             e = next;
         }
     }
@@ -93,17 +89,14 @@ fn flag_round_in<Ix: IndexType, S: EdgeSource<Ix>>(
     source: &mut S,
     order: &Order<Ix>,
     u: NodeIndex<Ix>,
-    entered: &mut Marks,
-    met: &mut Marks,
-    queue: &mut [Link<Ix>],
+    work: &mut Worklist<Ix>,
     flags: &mut [EdgeIndex<Ix>],
 )
     requires well_formed { IsWellFormed Ix.greatest (S.graph source.old) }
     requires ordered { IsOrderOf (S.graph source.old) order.now }
     requires exists { HasNode (S.graph source.old) (Ix.number u) }
-    requires entered_fit { node_bound (S.graph source.old) ≤ length entered.old }
-    requires met_fit { node_bound (S.graph source.old) ≤ length met.old }
-    requires queue_fits { length entered.old ≤ length queue.old }
+    requires fits { node_bound (S.graph source.old) ≤ work.old.size }
+    requires sized { IsSized work.old.size work.old }
     requires flags_fit { edge_bound (S.graph source.old) ≤ length flags.old }
     ensures same { S.graph source.new ≡ S.graph source.old }
     ensures flagged { FlagsRound Ix.greatest (S.graph source.old) (Ix.number u)
@@ -112,15 +105,13 @@ fn flag_round_in<Ix: IndexType, S: EdgeSource<Ix>>(
     ensures counted { S.looks source.new ≤ S.looks source.old
         + edges_spanned (S.graph source.old) order.now (Ix.number u)
         + length (out_list (S.graph source.old) (Ix.number u)) }
-    ensures entered_kept { length entered.new ≡ length entered.old }
-    ensures met_kept { length met.new ≡ length met.old }
-    ensures queue_kept { length queue.new ≡ length queue.old }
+    ensures kept { IsSized work.old.size work.new }
+    ensures aside { work.new.cursors ≡ work.old.cursors }
     ensures flags_kept { length flags.new ≡ length flags.old }
 {
-    entered.clear();
-    met.clear();
-    meet_round(source, order, u, entered, met, queue);
-    flag_marked(source, u, met, flags);
+    work.begin();
+    meet_round(source, order, u, work);
+    flag_marked(source, u, work, flags);
 }
 
 // Flags the edges that are redundant below some roots: `flags` has an index at the places of those
@@ -129,17 +120,11 @@ fn flag_redundant_in<Ix: IndexType, S: EdgeSource<Ix>>(
     source: &mut S,
     order: &Order<Ix>,
     roots: &[NodeIndex<Ix>],
-    entered: &mut Marks,
-    met: &mut Marks,
-    below: &mut [Link<Ix>],
-    queue: &mut [Link<Ix>],
+    work: &mut Worklist<Ix>,
     flags: &mut [EdgeIndex<Ix>],
 )
     requires ordered { IsOrderOf (S.graph source.old) order.now }
-    requires entered_fit { node_bound (S.graph source.old) ≤ length entered.old }
-    requires met_fit { node_bound (S.graph source.old) ≤ length met.old }
-    requires below_fits { length entered.old ≤ length below.old }
-    requires queue_fits { length entered.old ≤ length queue.old }
+    requires fits { node_bound (S.graph source.old) ≤ work.old.size }
     requires flags_fit { edge_bound (S.graph source.old) ≤ length flags.old }
     ensures same { S.graph source.new ≡ S.graph source.old }
     ensures flagged { (e : ℕ) → IsFlagged Ix.greatest (map Ix.number flags.new) e
@@ -150,61 +135,17 @@ fn flag_redundant_in<Ix: IndexType, S: EdgeSource<Ix>>(
     ensures spanned { S.looks source.new ≤ S.looks source.old
         + 2 * edge_count (S.graph source.old)
         + all_spanned (S.graph source.old) order.now order.now }
-    ensures entered_kept { length entered.new ≡ length entered.old }
-    ensures met_kept { length met.new ≡ length met.old }
-    ensures below_kept { length below.new ≡ length below.old }
-    ensures queue_kept { length queue.new ≡ length queue.old }
+    ensures kept { work.new.size ≡ work.old.size }
     ensures flags_kept { length flags.new ≡ length flags.old }
 {
     let _well_formed = source.node_bound();
     unflag(flags);
-    let count = enter_below(source, roots, entered, met, below);
+    let count = enter_below(source, roots, work);
     let mut k = 0;
     'nodes: while k < count {
-        flag_round_in(source, order, below[k].node(), entered, met, queue, flags);
+        flag_round_in(source, order, work.cursor(k).node(), work, flags);
         k += 1;
     }
-}
-
-// Puts the edges that are redundant below some roots in front of a list, and returns how many there
-// are.
-fn find_redundant_in<Ix: IndexType, S: EdgeSource<Ix>>(
-    source: &mut S,
-    order: &Order<Ix>,
-    roots: &[NodeIndex<Ix>],
-    entered: &mut Marks,
-    met: &mut Marks,
-    below: &mut [Link<Ix>],
-    queue: &mut [Link<Ix>],
-    edges: &mut [EdgeIndex<Ix>],
-) -> usize
-    requires ordered { IsOrderOf (S.graph source.old) order.now }
-    requires entered_fit { node_bound (S.graph source.old) ≤ length entered.old }
-    requires met_fit { node_bound (S.graph source.old) ≤ length met.old }
-    requires below_fits { length entered.old ≤ length below.old }
-    requires queue_fits { length entered.old ≤ length queue.old }
-    requires edges_fit { edge_bound (S.graph source.old) ≤ length edges.old }
-    ensures same { S.graph source.new ≡ S.graph source.old }
-    ensures within { result ≤ length edges.new }
-    ensures ascending { IsAscending (take result (map Ix.number edges.new)) }
-    ensures exact { (e : ℕ) → Contains (take result (map Ix.number edges.new)) e
-        ↔ IsRedundant (S.graph source.old) (map Ix.number roots.now) e }
-    ensures looked { S.looks source.old ≤ S.looks source.new }
-    ensures counted { S.looks source.new ≤ S.looks source.old
-        + (node_count (S.graph source.old) + 2) * edge_count (S.graph source.old) }
-    ensures spanned { S.looks source.new ≤ S.looks source.old
-        + 2 * edge_count (S.graph source.old)
-        + all_spanned (S.graph source.old) order.now order.now }
-    ensures entered_kept { length entered.new ≡ length entered.old }
-    ensures met_kept { length met.new ≡ length met.old }
-    ensures below_kept { length below.new ≡ length below.old }
-    ensures queue_kept { length queue.new ≡ length queue.old }
-    ensures edges_kept { length edges.new ≡ length edges.old }
-{
-    let _well_formed = source.node_bound();
-    let bound = source.edge_bound();
-    flag_redundant_in(source, order, roots, entered, met, below, queue, edges);
-    gather_flagged(edges, bound)
 }
 
 // Leaves the redundant edges below some roots in front of `scratch.found`, and returns how many
@@ -232,18 +173,11 @@ pub(crate) fn leave_redundant_in<Ix: IndexType, S: EdgeSource<Ix>>(
     ensures nodes_kept { scratch.new.nodes ≡ scratch.old.nodes }
     ensures edges_kept { scratch.new.edges ≡ scratch.old.edges }
 {
-    write_out(&mut scratch.stack, scratch.marks.len(), Link::end());
-    write_out(&mut scratch.cursors, scratch.marks.len(), Link::end());
-    find_redundant_in(
-        source,
-        order,
-        roots,
-        &mut scratch.marks,
-        &mut scratch.finished,
-        scratch.stack.as_mut_slice(),
-        scratch.cursors.as_mut_slice(),
-        scratch.found.as_mut_slice(),
-    )
+    let _well_formed = source.node_bound();
+    let bound = source.edge_bound();
+    let flags = scratch.found.as_mut_slice();
+    flag_redundant_in(source, order, roots, &mut scratch.work, flags);
+    gather_flagged(flags, bound)
 }
 
 /// As [`redundant_edges`](crate::redundant::redundant_edges), by a topological order of the nodes.

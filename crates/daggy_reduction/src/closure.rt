@@ -3,94 +3,91 @@ ghost use Rattle.std.specs.Prelude.{◌≡◌, ◌≢◌, ℕ, ◌+◌, ◌<◌,
 ghost use Rattle.std.specs.Prelude.{slice_set, slice_index_or};
 ghost use Rattle.daggy_base.specs.Graph.{node_bound, edge_count};
 ghost use Rattle.daggy_base.specs.WellFormed.{IsWellFormed};
+ghost use Rattle.daggy_search.specs.Work.{IsSized};
 ghost use Rattle.daggy_reduction.specs.Closure.{IsQueue, IsClosure, MeetsChildren};
 
 use daggy_base::index::{EdgeIndex, IndexType, NodeIndex};
 use daggy_base::link::Link;
 use daggy_base::source::EdgeSource;
-use daggy_search::Marks;
+use daggy_search::Worklist;
 
-// Appends a node to a queue unless it is there, and returns the new length.
+// Appends a node to the queue of a worklist unless it is there, and returns the new length.
 #[inline]
-pub(crate) fn enter<Ix: IndexType>(
-    entered: &mut Marks,
-    queue: &mut [Link<Ix>],
-    len: usize,
-    n: NodeIndex<Ix>,
-) -> usize
-    requires mark { Ix.number n < length entered.old }
-    requires queue_fits { slice_index_or entered.old (Ix.number n) false ≡ false
-        → len < length queue.old }
-    requires fits { length queue.old < 2 ^ 64 }
+pub(crate) fn enter<Ix: IndexType>(work: &mut Worklist<Ix>, len: usize, n: NodeIndex<Ix>) -> usize
+    requires low { Ix.number n < length work.old.entered }
+    requires room { slice_index_or work.old.entered (Ix.number n) false ≡ false
+        → len < length work.old.nodes }
+    requires small { length work.old.nodes < 2 ^ 64 }
     ensures most { result ≤ len + 1 }
-    ensures there { slice_index_or entered.old (Ix.number n) false ≡ true
-        → (entered.new ≡ entered.old) × (queue.new ≡ queue.old) × (result ≡ len) }
-    ensures put { slice_index_or entered.old (Ix.number n) false ≡ false
-        → (entered.new ≡ slice_set entered.old (Ix.number n) true)
-        × (queue.new ≡ slice_set queue.old len (Ix.number n)) × (result ≡ len + 1) }
+    ensures there { slice_index_or work.old.entered (Ix.number n) false ≡ true
+        → (work.new ≡ work.old) × (result ≡ len) }
+    ensures put { slice_index_or work.old.entered (Ix.number n) false ≡ false
+        → (work.new ≡ record work.old {
+          entered = slice_set work.old.entered (Ix.number n) true;
+          nodes = slice_set work.old.nodes len (Ix.number n);
+        }) × (result ≡ len + 1) }
 {
     let i = n.index();
-    if entered.is_marked(i) {
+    if work.is_entered(i) {
         return len;
     }
-    entered.mark(i);
-    queue[len] = Link::of_node(n);
+    work.enter(i);
+    work.put_node(len, Link::of_node(n));
     len + 1
 }
 
 #[inline]
-pub(crate) fn mark_unless_first(met: &mut Marks, head: usize, i: usize)
-    requires { i < length met.old }
-    ensures later { head ≢ 0 → met.new ≡ slice_set met.old i true }
-    ensures first { head ≡ 0 → met.new ≡ met.old }
+pub(crate) fn mark_unless_first<Ix: IndexType>(work: &mut Worklist<Ix>, head: usize, i: usize)
+    requires { i < length work.old.marked }
+    ensures later { head ≢ 0
+        → work.new ≡ record work.old { marked = slice_set work.old.marked i true } }
+    ensures first { head ≡ 0 → work.new ≡ work.old }
 {
     if head > 0 {
-        met.mark(i);
+        work.mark(i);
     }
 }
 
-// Extends a queue of `len` nodes to everything reachable from them, breadth first, and returns its
-// new length. `entered` marks the queued nodes; `met` marks the children of every node but the
-// first.
+// Extends the queue of a worklist, of `len` nodes, to everything reachable from them, breadth
+// first, and returns its new length. The nodes in the queue are entered; the children of every node
+// but the first are marked.
 pub(crate) fn close<Ix: IndexType, S: EdgeSource<Ix>>(
     source: &mut S,
-    entered: &mut Marks,
-    met: &mut Marks,
-    queue: &mut [Link<Ix>],
+    work: &mut Worklist<Ix>,
     len: usize,
 ) -> usize
     requires well_formed { IsWellFormed Ix.greatest (S.graph source.old) }
     requires some { 0 < len }
-    requires within { len ≤ length queue.old }
-    requires queued { IsQueue (S.graph source.old) entered.old (take len queue.old) }
-    requires entered_fit { node_bound (S.graph source.old) ≤ length entered.old }
-    requires met_fit { node_bound (S.graph source.old) ≤ length met.old }
-    requires queue_fits { length entered.old ≤ length queue.old }
+    requires within { len ≤ work.old.size }
+    requires queued { IsQueue (S.graph source.old) work.old.entered (take len work.old.nodes) }
+    requires fits { node_bound (S.graph source.old) ≤ work.old.size }
+    requires sized { IsSized work.old.size work.old }
     ensures same { S.graph source.new ≡ S.graph source.old }
-    ensures closed { IsClosure (S.graph source.old) (take len queue.old) (take result queue.new) }
-    ensures met { MeetsChildren (S.graph source.old) (take result queue.new) met.old met.new }
+    ensures closed { IsClosure (S.graph source.old)
+        (take len work.old.nodes) (take result work.new.nodes) }
+    ensures met { MeetsChildren (S.graph source.old)
+        (take result work.new.nodes) work.old.marked work.new.marked }
     ensures looked { S.looks source.old ≤ S.looks source.new }
     ensures counted { S.looks source.new ≤ S.looks source.old + edge_count (S.graph source.old) }
-    ensures within { result ≤ length queue.new }
-    ensures entered_kept { length entered.new ≡ length entered.old }
-    ensures met_kept { length met.new ≡ length met.old }
-    ensures queue_kept { length queue.new ≡ length queue.old }
+    ensures within { result ≤ work.old.size }
+    ensures kept { IsSized work.old.size work.new }
+    ensures aside { work.new.cursors ≡ work.old.cursors }
 {
     let end = EdgeIndex::<Ix>::end().index();
     let mut len = len;
     let mut head = 0;
-    let mut e = source.first(queue[0].node());
+    let mut e = source.first(work.node(0).node());
     'steps: loop {
         if e.index() == end {
             head += 1;
             if head == len {
                 return len;
             }
-            e = source.first(queue[head].node());
+            e = source.first(work.node(head).node());
         } else {
             let (v, next) = source.look(e);
-            len = enter(entered, queue, len, v);
-            mark_unless_first(met, head, v.index());
+            len = enter(work, len, v);
+            mark_unless_first(work, head, v.index());
             e = next;
         }
     }

@@ -7,7 +7,7 @@ ghost use Rattle.daggy_reduction.specs.Flags.{IsFlagged, FlagsMarked, flagged_be
 
 use daggy_base::index::{EdgeIndex, IndexType, NodeIndex};
 use daggy_base::source::EdgeSource;
-use daggy_search::Marks;
+use daggy_search::Worklist;
 
 // Clears all flags.
 pub(crate) fn unflag<Ix: IndexType>(flags: &mut [EdgeIndex<Ix>])
@@ -26,19 +26,19 @@ pub(crate) fn unflag<Ix: IndexType>(flags: &mut [EdgeIndex<Ix>])
 fn flag_if_marked<Ix: IndexType>(
     flags: &mut [EdgeIndex<Ix>],
     e: EdgeIndex<Ix>,
-    marks: &Marks,
+    work: &Worklist<Ix>,
     child: NodeIndex<Ix>,
 )
     requires edge { Ix.number e < length flags.old }
-    requires child { Ix.number child < length marks.now }
-    ensures flagged { slice_index_or marks.now (Ix.number child) false ≡ true
+    requires child { Ix.number child < length work.now.marked }
+    ensures flagged { slice_index_or work.now.marked (Ix.number child) false ≡ true
         → map Ix.number flags.new
         ≡ slice_set (map Ix.number flags.old) (Ix.number e) (Ix.number e) }
-    ensures passed { slice_index_or marks.now (Ix.number child) false ≡ false
+    ensures passed { slice_index_or work.now.marked (Ix.number child) false ≡ false
         → map Ix.number flags.new ≡ map Ix.number flags.old }
     ensures kept { length flags.new ≡ length flags.old }
 {
-    if marks.is_marked(child.index()) {
+    if work.is_marked(child.index()) {
         flags[e.index()] = e;
     }
 }
@@ -47,14 +47,14 @@ fn flag_if_marked<Ix: IndexType>(
 pub(crate) fn flag_marked<Ix: IndexType, S: EdgeSource<Ix>>(
     source: &mut S,
     u: NodeIndex<Ix>,
-    marks: &Marks,
+    work: &Worklist<Ix>,
     flags: &mut [EdgeIndex<Ix>],
 )
     requires well_formed { IsWellFormed Ix.greatest (S.graph source.old) }
-    requires marks_fit { node_bound (S.graph source.old) ≤ length marks.now }
+    requires marks_fit { node_bound (S.graph source.old) ≤ length work.now.marked }
     requires flags_fit { edge_bound (S.graph source.old) ≤ length flags.old }
     ensures same { S.graph source.new ≡ S.graph source.old }
-    ensures flagged { FlagsMarked Ix.greatest (S.graph source.old) (Ix.number u) marks.now
+    ensures flagged { FlagsMarked Ix.greatest (S.graph source.old) (Ix.number u) work.now.marked
         (map Ix.number flags.old) (map Ix.number flags.new) }
     ensures counted { S.looks source.new
         ≡ S.looks source.old + length (out_list (S.graph source.old) (Ix.number u)) }
@@ -64,7 +64,7 @@ pub(crate) fn flag_marked<Ix: IndexType, S: EdgeSource<Ix>>(
     let mut e = source.first(u);
     'edges: while e.index() != end {
         let (v, next) = source.look(e);
-        flag_if_marked(flags, e, marks, v);
+        flag_if_marked(flags, e, work, v);
         e = next;
     }
 }

@@ -8,27 +8,28 @@ ghost use Rattle.daggy_reduction.specs.Comparison.{JoinsAll, JoinSamePairs};
 
 use daggy_base::index::{EdgeIndex, IndexType, NodeIndex};
 use daggy_base::source::EdgeSource;
-use daggy_search::Marks;
+use daggy_search::Worklist;
 
 // Marks the children of a node.
 fn mark_children<Ix: IndexType, S: EdgeSource<Ix>>(
     source: &mut S,
     u: NodeIndex<Ix>,
-    marks: &mut Marks,
+    work: &mut Worklist<Ix>,
 )
     requires well_formed { IsWellFormed Ix.greatest (S.graph source.old) }
-    requires fits { node_bound (S.graph source.old) ≤ length marks.old }
+    requires fits { node_bound (S.graph source.old) ≤ length work.old.marked }
     ensures same { S.graph source.new ≡ S.graph source.old }
-    ensures marked { (n : ℕ) → (slice_index_or marks.new n false ≡ true)
-        ↔ ((slice_index_or marks.old n false ≡ true)
+    ensures marked { (n : ℕ) → (slice_index_or work.new.marked n false ≡ true)
+        ↔ ((slice_index_or work.old.marked n false ≡ true)
         ⊎ AreJoined (S.graph source.old) (Ix.number u) n) }
-    ensures kept { length marks.new ≡ length marks.old }
+    ensures kept { length work.new.marked ≡ length work.old.marked }
+    ensures size { work.new.size ≡ work.old.size }
 {
     let end = EdgeIndex::<Ix>::end().index();
     let mut e = source.first(u);
     'edges: while e.index() != end {
         let (v, next) = source.look(e);
-        marks.mark(v.index());
+        work.mark(v.index());
         e = next;
     }
 }
@@ -37,20 +38,20 @@ fn mark_children<Ix: IndexType, S: EdgeSource<Ix>>(
 fn are_children_marked<Ix: IndexType, S: EdgeSource<Ix>>(
     source: &mut S,
     u: NodeIndex<Ix>,
-    marks: &Marks,
+    work: &Worklist<Ix>,
 ) -> bool
     requires well_formed { IsWellFormed Ix.greatest (S.graph source.old) }
-    requires fits { node_bound (S.graph source.old) ≤ length marks.now }
+    requires fits { node_bound (S.graph source.old) ≤ length work.now.marked }
     ensures same { S.graph source.new ≡ S.graph source.old }
     ensures decided { IsTrue result
         ↔ ((n : ℕ) → AreJoined (S.graph source.old) (Ix.number u) n
-        → slice_index_or marks.now n false ≡ true) }
+        → slice_index_or work.now.marked n false ≡ true) }
 {
     let end = EdgeIndex::<Ix>::end().index();
     let mut e = source.first(u);
     'edges: while e.index() != end {
         let (v, next) = source.look(e);
-        if !marks.is_marked(v.index()) {
+        if !work.is_marked(v.index()) {
             return false;
         }
         e = next;
@@ -62,23 +63,23 @@ fn are_children_marked<Ix: IndexType, S: EdgeSource<Ix>>(
 fn joins_all<Ix: IndexType, A: EdgeSource<Ix>, B: EdgeSource<Ix>>(
     a: &mut A,
     b: &mut B,
-    marks: &mut Marks,
+    work: &mut Worklist<Ix>,
 ) -> bool
-    requires fits { node_bound (A.graph a.old) ≤ length marks.old }
-    requires other_fits { node_bound (B.graph b.old) ≤ length marks.old }
+    requires fits { node_bound (A.graph a.old) ≤ work.old.size }
+    requires other_fits { node_bound (B.graph b.old) ≤ work.old.size }
     ensures decided { IsTrue result ↔ JoinsAll (A.graph a.old) (B.graph b.old) }
     ensures same { A.graph a.new ≡ A.graph a.old }
     ensures other_same { B.graph b.new ≡ B.graph b.old }
-    ensures kept { length marks.new ≡ length marks.old }
+    ensures kept { work.new.size ≡ work.old.size }
 {
     let bound = a.node_bound();
     let _well_formed = b.node_bound();
     let mut n = 0;
     'nodes: while n < bound {
         let u = NodeIndex::new(n);
-        marks.clear();
-        mark_children(b, u, marks);
-        if !are_children_marked(a, u, marks) {
+        work.begin();
+        mark_children(b, u, work);
+        if !are_children_marked(a, u, work) {
             return false;
         }
         n += 1;
@@ -86,7 +87,7 @@ fn joins_all<Ix: IndexType, A: EdgeSource<Ix>, B: EdgeSource<Ix>>(
     true
 }
 
-/// Whether two graphs join the same pairs of nodes. The marks must be as long as the node bounds of
+/// Whether two graphs join the same pairs of nodes. The worklist must have memory for the nodes of
 /// both.
 ///
 /// # Complexity
@@ -95,16 +96,16 @@ fn joins_all<Ix: IndexType, A: EdgeSource<Ix>, B: EdgeSource<Ix>>(
 pub fn join_same_pairs<Ix: IndexType, A: EdgeSource<Ix>, B: EdgeSource<Ix>>(
     a: &mut A,
     b: &mut B,
-    marks: &mut Marks,
+    work: &mut Worklist<Ix>,
 ) -> bool
-    requires fits { node_bound (A.graph a.old) ≤ length marks.old }
-    requires other_fits { node_bound (B.graph b.old) ≤ length marks.old }
+    requires fits { node_bound (A.graph a.old) ≤ work.old.size }
+    requires other_fits { node_bound (B.graph b.old) ≤ work.old.size }
     ensures decided { IsTrue result ↔ JoinSamePairs (A.graph a.old) (B.graph b.old) }
     ensures same { A.graph a.new ≡ A.graph a.old }
     ensures other_same { B.graph b.new ≡ B.graph b.old }
 {
-    if !joins_all(a, b, marks) {
+    if !joins_all(a, b, work) {
         return false;
     }
-    joins_all(b, a, marks)
+    joins_all(b, a, work)
 }

@@ -5,6 +5,7 @@ ghost use Rattle.daggy_base.specs.Graph.{edge_count};
 ghost use Rattle.daggy_base.specs.Path.{IsAcyclic};
 ghost use Rattle.daggy_base.specs.WellFormed.{IsWellFormed};
 ghost use Rattle.daggy_base.specs.Reduction.{IsRedundant};
+ghost use Rattle.daggy_search.specs.Work.{IsSized};
 ghost use Rattle.daggy_reduction.specs.Flags.{IsFlagged, FlagsRound};
 ghost use Rattle.daggy_reduction.specs.Comparison.{IsAscending};
 ghost use Rattle.std.specs.Borrow.{sem};
@@ -14,25 +15,21 @@ use crate::closure::{close, enter};
 use crate::flags::{flag_marked, gather_flagged, unflag};
 use crate::roots::enter_below;
 use daggy_base::index::{EdgeIndex, IndexType, NodeIndex};
-use daggy_base::link::Link;
 use daggy_base::source::EdgeSource;
-use daggy_search::{Marks, Scratch, write_out};
+use daggy_search::{Scratch, Worklist};
 
 // Flags the edges of `u` whose children are also reachable by a longer path.
 fn flag_round<Ix: IndexType, S: EdgeSource<Ix>>(
     source: &mut S,
     u: NodeIndex<Ix>,
-    entered: &mut Marks,
-    met: &mut Marks,
-    queue: &mut [Link<Ix>],
+    work: &mut Worklist<Ix>,
     flags: &mut [EdgeIndex<Ix>],
 )
     requires well_formed { IsWellFormed Ix.greatest (S.graph source.old) }
     requires acyclic { IsAcyclic (S.graph source.old) }
     requires exists { HasNode (S.graph source.old) (Ix.number u) }
-    requires entered_fit { node_bound (S.graph source.old) ≤ length entered.old }
-    requires met_fit { node_bound (S.graph source.old) ≤ length met.old }
-    requires queue_fits { length entered.old ≤ length queue.old }
+    requires fits { node_bound (S.graph source.old) ≤ work.old.size }
+    requires sized { IsSized work.old.size work.old }
     requires flags_fit { edge_bound (S.graph source.old) ≤ length flags.old }
     ensures same { S.graph source.new ≡ S.graph source.old }
     ensures flagged { FlagsRound Ix.greatest (S.graph source.old) (Ix.number u)
@@ -40,16 +37,14 @@ fn flag_round<Ix: IndexType, S: EdgeSource<Ix>>(
     ensures looked { S.looks source.old ≤ S.looks source.new }
     ensures counted { S.looks source.new ≤ S.looks source.old + edge_count (S.graph source.old)
         + length (out_list (S.graph source.old) (Ix.number u)) }
-    ensures entered_kept { length entered.new ≡ length entered.old }
-    ensures met_kept { length met.new ≡ length met.old }
-    ensures queue_kept { length queue.new ≡ length queue.old }
+    ensures kept { IsSized work.old.size work.new }
+    ensures aside { work.new.cursors ≡ work.old.cursors }
     ensures flags_kept { length flags.new ≡ length flags.old }
 {
-    entered.clear();
-    met.clear();
-    let len = enter(entered, queue, 0, u);
-    close(source, entered, met, queue, len);
-    flag_marked(source, u, met, flags);
+    work.begin();
+    let len = enter(work, 0, u);
+    close(source, work, len);
+    flag_marked(source, u, work, flags);
 }
 
 // Flags the edges that are redundant below some roots: `flags` has an index at the places of those
@@ -57,17 +52,11 @@ fn flag_round<Ix: IndexType, S: EdgeSource<Ix>>(
 fn flag_redundant<Ix: IndexType, S: EdgeSource<Ix>>(
     source: &mut S,
     roots: &[NodeIndex<Ix>],
-    entered: &mut Marks,
-    met: &mut Marks,
-    below: &mut [Link<Ix>],
-    queue: &mut [Link<Ix>],
+    work: &mut Worklist<Ix>,
     flags: &mut [EdgeIndex<Ix>],
 )
     requires acyclic { IsAcyclic (S.graph source.old) }
-    requires entered_fit { node_bound (S.graph source.old) ≤ length entered.old }
-    requires met_fit { node_bound (S.graph source.old) ≤ length met.old }
-    requires below_fits { length entered.old ≤ length below.old }
-    requires queue_fits { length entered.old ≤ length queue.old }
+    requires fits { node_bound (S.graph source.old) ≤ work.old.size }
     requires flags_fit { edge_bound (S.graph source.old) ≤ length flags.old }
     ensures same { S.graph source.new ≡ S.graph source.old }
     ensures flagged { (e : ℕ) → IsFlagged Ix.greatest (map Ix.number flags.new) e
@@ -75,57 +64,17 @@ fn flag_redundant<Ix: IndexType, S: EdgeSource<Ix>>(
     ensures looked { S.looks source.old ≤ S.looks source.new }
     ensures counted { S.looks source.new ≤ S.looks source.old
         + (node_count (S.graph source.old) + 2) * edge_count (S.graph source.old) }
-    ensures entered_kept { length entered.new ≡ length entered.old }
-    ensures met_kept { length met.new ≡ length met.old }
-    ensures below_kept { length below.new ≡ length below.old }
-    ensures queue_kept { length queue.new ≡ length queue.old }
+    ensures kept { work.new.size ≡ work.old.size }
     ensures flags_kept { length flags.new ≡ length flags.old }
 {
     let _well_formed = source.node_bound();
     unflag(flags);
-    let count = enter_below(source, roots, entered, met, below);
+    let count = enter_below(source, roots, work);
     let mut k = 0;
     'nodes: while k < count {
-        flag_round(source, below[k].node(), entered, met, queue, flags);
+        flag_round(source, work.cursor(k).node(), work, flags);
         k += 1;
     }
-}
-
-// Puts the edges that are redundant below some roots in front of a list, and returns how many there
-// are.
-fn find_redundant<Ix: IndexType, S: EdgeSource<Ix>>(
-    source: &mut S,
-    roots: &[NodeIndex<Ix>],
-    entered: &mut Marks,
-    met: &mut Marks,
-    below: &mut [Link<Ix>],
-    queue: &mut [Link<Ix>],
-    edges: &mut [EdgeIndex<Ix>],
-) -> usize
-    requires acyclic { IsAcyclic (S.graph source.old) }
-    requires entered_fit { node_bound (S.graph source.old) ≤ length entered.old }
-    requires met_fit { node_bound (S.graph source.old) ≤ length met.old }
-    requires below_fits { length entered.old ≤ length below.old }
-    requires queue_fits { length entered.old ≤ length queue.old }
-    requires edges_fit { edge_bound (S.graph source.old) ≤ length edges.old }
-    ensures same { S.graph source.new ≡ S.graph source.old }
-    ensures within { result ≤ length edges.new }
-    ensures ascending { IsAscending (take result (map Ix.number edges.new)) }
-    ensures exact { (e : ℕ) → Contains (take result (map Ix.number edges.new)) e
-        ↔ IsRedundant (S.graph source.old) (map Ix.number roots.now) e }
-    ensures looked { S.looks source.old ≤ S.looks source.new }
-    ensures counted { S.looks source.new ≤ S.looks source.old
-        + (node_count (S.graph source.old) + 2) * edge_count (S.graph source.old) }
-    ensures entered_kept { length entered.new ≡ length entered.old }
-    ensures met_kept { length met.new ≡ length met.old }
-    ensures below_kept { length below.new ≡ length below.old }
-    ensures queue_kept { length queue.new ≡ length queue.old }
-    ensures edges_kept { length edges.new ≡ length edges.old }
-{
-    let _well_formed = source.node_bound();
-    let bound = source.edge_bound();
-    flag_redundant(source, roots, entered, met, below, queue, edges);
-    gather_flagged(edges, bound)
 }
 
 // Leaves the redundant edges below some roots in front of `scratch.found`, and returns how many
@@ -149,17 +98,11 @@ fn leave_redundant<Ix: IndexType, S: EdgeSource<Ix>>(
     ensures nodes_kept { scratch.new.nodes ≡ scratch.old.nodes }
     ensures edges_kept { scratch.new.edges ≡ scratch.old.edges }
 {
-    write_out(&mut scratch.stack, scratch.marks.len(), Link::end());
-    write_out(&mut scratch.cursors, scratch.marks.len(), Link::end());
-    find_redundant(
-        source,
-        roots,
-        &mut scratch.marks,
-        &mut scratch.finished,
-        scratch.stack.as_mut_slice(),
-        scratch.cursors.as_mut_slice(),
-        scratch.found.as_mut_slice(),
-    )
+    let _well_formed = source.node_bound();
+    let bound = source.edge_bound();
+    let flags = scratch.found.as_mut_slice();
+    flag_redundant(source, roots, &mut scratch.work, flags);
+    gather_flagged(flags, bound)
 }
 
 // The first ones of a list.

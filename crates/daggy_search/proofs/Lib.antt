@@ -1,5 +1,6 @@
+pub mod Sized
 pub mod SearchProgress
+pub mod Entries
 pub mod FinishingOrder
-pub mod StampedMarks
 pub mod SearchState
 pub mod SortNodesState

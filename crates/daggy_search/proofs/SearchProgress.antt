@@ -210,26 +210,20 @@ module _ {N E : Type 0} (end : ℕ) (g : Graph N E) (w : IsWellFormed end g) (Ke
         counted = refl;
       }
 
-  -- the next node is taken from the stack
-  pub popped : (marks : List Bool) (front : List ℕ) (u e looked : ℕ)
-      → Going end g Keep Skip from marks (front ++ u ∷ []) e looked → e ≡ end
-      → Going end g Keep Skip from marks front (first_of end (out_list g u)) looked
-  popped marks front u e looked s h =
-      let D = s.at ∷ s.done in
-      let is : (front ++ u ∷ []) ++ D ≡ front ++ u ∷ D = append_assoc front (u ∷ []) D in
-      let into : (n : ℕ) → Mem n ((front ++ u ∷ []) ++ D) → Mem n (front ++ u ∷ D) = λ n m.
-      let P : List ℕ → Type 0 = λ z. Mem n z in
-      subst P is m in
-      let out : (n : ℕ) → Mem n (front ++ u ∷ D) → Mem n ((front ++ u ∷ []) ++ D) = λ n m.
-      let P : List ℕ → Type 0 = λ z. Mem n z in
-      subst P (sym is) m in
+  -- another node is read, which was waiting
+  taken : (marks : List Bool) (st rest : List ℕ) (u e looked : ℕ) (s : Going end g Keep Skip from marks st e looked)
+      → e ≡ end → ((n : ℕ) → Mem n (st ++ s.at ∷ s.done) → Mem n (rest ++ u ∷ (s.at ∷ s.done)))
+      → ((n : ℕ) → Mem n (rest ++ u ∷ (s.at ∷ s.done)) → Mem n (st ++ s.at ∷ s.done))
+      → Unique (rest ++ u ∷ (s.at ∷ s.done))
+      → Going end g Keep Skip from marks rest (first_of end (out_list g u)) looked
+  taken marks st rest u e looked s h into out once =
       record {
         at = u;
         passed = 0;
-        done = D;
+        done = s.at ∷ s.done;
         cursor = refl;
         within = omega arith;
-        once = let P : List ℕ → Type 0 = λ z. Unique z in subst P is s.once;
+        once = once;
         marked = λ n. (λ k. into n ((s.marked n).0 k), λ m. (s.marked n).1 (out n m));
         reached = λ n m. s.reached n (out n m);
         start = into from s.start;
@@ -243,6 +237,30 @@ module _ {N E : Type 0} (end : ℕ) (g : Graph N E) (w : IsWellFormed end g) (Ke
           length-append (out_list g s.at) (lists_of g s.done),
         );
       }
+
+  -- the last of a stack
+  pub popped : (marks : List Bool) (front : List ℕ) (u e looked : ℕ)
+      → Going end g Keep Skip from marks (front ++ u ∷ []) e looked → e ≡ end
+      → Going end g Keep Skip from marks front (first_of end (out_list g u)) looked
+  popped marks front u e looked s h =
+      let D = s.at ∷ s.done in
+      let is : (front ++ u ∷ []) ++ D ≡ front ++ u ∷ D = append_assoc front (u ∷ []) D in
+      taken marks (front ++ u ∷ []) front u e looked s h
+      (λ n m. (let P : List ℕ → Type 0 = λ z. Mem n z in subst P is m))
+      (λ n m. (let P : List ℕ → Type 0 = λ z. Mem n z in subst P (sym is) m))
+      (let P : List ℕ → Type 0 = λ z. Unique z in subst P is s.once)
+
+  -- the first of a queue
+  pub next_read : (marks : List Bool) (rest : List ℕ) (u e looked : ℕ)
+      → Going end g Keep Skip from marks (u ∷ rest) e looked → e ≡ end
+      → Going end g Keep Skip from marks rest (first_of end (out_list g u)) looked
+  next_read marks rest u e looked s h =
+      let D = s.at ∷ s.done in
+      taken marks (u ∷ rest) rest u e looked s h
+      (λ n m. elim m [
+        | inl eq ↦ (let P : ℕ → Type 0 = λ z. Mem z (rest ++ u ∷ D) in subst P (sym eq) (mem_mid rest D u))
+        | inr b ↦ mem_into rest D u n b
+      ]) (λ n m. mem_out rest D u n m) (unique_mid rest D u s.once.1 s.once.0)
 
   -- nothing is left to read: a set that has the first node, and that no edge to a node that was met leads out of, has
   -- all that is reached

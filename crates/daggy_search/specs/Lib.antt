@@ -1,2 +1,3 @@
 pub mod Sorting
+pub mod Work
 pub mod Room

@@ -2,14 +2,12 @@
 #![tactic(auto)]
 
 mod cycles;
-mod marks;
 mod reach;
-mod reserved;
 mod scratch;
+mod worklist;
 
 pub use cycles::{is_acyclic, sort_nodes};
-pub use marks::Marks;
 pub use reach::reaches;
-#[doc(hidden)]
-pub use reserved::write_out;
 pub use scratch::Scratch;
+#[doc(hidden)]
+pub use worklist::{NodeKey, Worklist};

@@ -1,12 +1,10 @@
 //! The search for a path.
-ghost use Rattle.std.specs.Prelude.{◌≡◌, ℕ, ◌+◌, ◌<◌, ◌≤◌, ◌↔◌, IsTrue, false, length};
-ghost use Rattle.std.specs.Prelude.{slice_index_or, slice_set};
+ghost use Rattle.std.specs.Prelude.{◌≡◌, ℕ, ◌+◌, ◌<◌, ◌≤◌, ◌↔◌, IsTrue};
 ghost use Rattle.daggy_base.specs.Graph.{HasNode, node_bound, edge_count};
 ghost use Rattle.daggy_base.specs.Path.{Reaches};
 
-use crate::marks::Marks;
-use crate::reserved::write_out;
 use crate::scratch::Scratch;
+use crate::worklist::Worklist;
 use daggy_base::index::{EdgeIndex, IndexType, NodeIndex};
 use daggy_base::link::Link;
 use daggy_base::source::EdgeSource;
@@ -31,40 +29,22 @@ pub fn reaches<Ix: IndexType, S: EdgeSource<Ix>>(
     ensures counted { S.looks source.new ≤ S.looks source.old + edge_count (S.graph source.old) }
     ensures same_capacity { scratch.new ≡ scratch.old }
 {
-    scratch.marks.clear();
-    write_out(&mut scratch.stack, scratch.marks.len(), Link::end());
-    search(
-        source,
-        from,
-        to,
-        &mut scratch.marks,
-        scratch.stack.as_mut_slice(),
-    )
+    search(source, from, to, &mut scratch.work)
 }
 
-pub(crate) fn put<Ix: IndexType>(stack: &mut [Link<Ix>], at: usize, n: NodeIndex<Ix>)
-    requires { at < length stack.old }
-    ensures { stack.new ≡ slice_set stack.old at (Ix.number n) }
-{
-    stack[at] = Link::of_node(n);
-}
-
-// Whether `from` reaches `to`, over marks that are all clear: depth first, each node pushed once.
+// Whether `from` reaches `to`: depth first, each node pushed once.
 fn search<Ix: IndexType, S: EdgeSource<Ix>>(
     source: &mut S,
     from: NodeIndex<Ix>,
     to: NodeIndex<Ix>,
-    marks: &mut Marks,
-    stack: &mut [Link<Ix>],
+    work: &mut Worklist<Ix>,
 ) -> bool
-    requires marks_fit { node_bound (S.graph source.old) ≤ length marks.old }
-    requires stack_fits { length marks.old ≤ length stack.old }
-    requires cleared { (n : ℕ) → slice_index_or marks.old n false ≡ false }
+    requires fits { node_bound (S.graph source.old) ≤ work.old.size }
     ensures decided { IsTrue result ↔ Reaches (S.graph source.old) (Ix.number from) (Ix.number to) }
     ensures same { S.graph source.new ≡ S.graph source.old }
     ensures looked { S.looks source.old ≤ S.looks source.new }
     ensures counted { S.looks source.new ≤ S.looks source.old + edge_count (S.graph source.old) }
-    ensures marks_kept { length marks.new ≡ length marks.old }
+    ensures kept { work.new.size ≡ work.old.size }
 {
     if !source.contains_node(from) {
         return false;
@@ -74,7 +54,8 @@ fn search<Ix: IndexType, S: EdgeSource<Ix>>(
         return true;
     }
     let end = EdgeIndex::<Ix>::end().index();
-    marks.mark(from.index());
+    work.begin();
+    work.enter(from.index());
     let mut len = 0;
     let mut e = source.first(from);
     'steps: loop {
@@ -83,16 +64,16 @@ fn search<Ix: IndexType, S: EdgeSource<Ix>>(
                 return false;
             }
             len -= 1;
-            e = source.first(stack[len].node());
+            e = source.first(work.node(len).node());
         } else {
             let (v, next) = source.look(e);
             let i = v.index();
-            if !marks.is_marked(i) {
+            if !work.is_entered(i) {
                 if i == target {
                     return true;
                 }
-                marks.mark(i);
-                put(stack, len, v);
+                work.enter(i);
+                work.put_node(len, Link::of_node(v));
                 len += 1;
             }
             e = next;

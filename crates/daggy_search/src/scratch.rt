@@ -1,50 +1,33 @@
 //! The memory of searches.
 ghost use Rattle.std.specs.Prelude.{◌≡◌, ℕ, ◌≤◌, ◌↔◌, IsTrue, IsOk, OnOk, []};
 
-use crate::marks::Marks;
+use crate::worklist::Worklist;
 use daggy_base::index::{EdgeIndex, IndexType};
-use daggy_base::link::Link;
-use daggy_base::reserved::reserve;
 use std::alloc::{AllocError, Global};
 use std::marker::Model;
 
-/// The memory of searches: marks for discovered and for finished nodes, a stack of nodes with a
-/// cursor for each, and a list for the edges that a search finds.
+/// The memory of searches: a worklist, and a list for the edges that a search finds.
 ///
 /// A search does not allocate: it uses a scratch that was made large enough before. Memory for
 /// nodes is only reserved then, and initialised by the first search, so a graph that is never
 /// searched pays little for it.
 #[derive(Drop)]
 pub struct Scratch<Ix: IndexType> {
-    /// For the nodes that a search discovered.
     #[doc(hidden)]
-    pub marks: Marks,
-    /// For the nodes that a search finished. As long as `marks`, or longer.
-    #[doc(hidden)]
-    pub finished: Marks,
-    /// This and `cursors` have capacity for as many links as there are marks. A search begins by
-    /// initialising them that far.
-    #[doc(hidden)]
-    pub stack: Vec<Link<Ix>>,
-    #[doc(hidden)]
-    pub cursors: Vec<Link<Ix>>,
+    pub work: Worklist<Ix>,
     /// For the edges that a search finds.
     #[doc(hidden)]
     pub found: Vec<EdgeIndex<Ix>>,
 }
 
 impl<Ix: IndexType> Model for Scratch<Ix> {
-    ghost use Rattle.std.specs.Prelude.{◌≤◌, length, vec_len, vec_capacity};
+    ghost use Rattle.std.specs.Prelude.{vec_len};
     ghost use Rattle.daggy_search.specs.Room.{Room};
 
     ghost Value = { Room Ix };
 
     ghost view = { λ s.
-        record { nodes = length s.marks; edges = vec_len s.found; found = s.found.items } };
-
-    ghost invariant = { λ s.
-        (length s.marks ≤ vec_capacity s.stack) × (length s.marks ≤ length s.finished)
-        × (length s.marks ≤ vec_capacity s.cursors) };
+        record { nodes = s.work.size; edges = vec_len s.found; found = s.found.items } };
 }
 
 impl<Ix: IndexType> Scratch<Ix> {
@@ -53,10 +36,7 @@ impl<Ix: IndexType> Scratch<Ix> {
         ensures { result ≡ record { nodes = 0; edges = 0; found = [] } }
     {
         Scratch {
-            marks: Marks::new(alloc),
-            finished: Marks::new(alloc),
-            stack: Vec::new(alloc),
-            cursors: Vec::new(alloc),
+            work: Worklist::new(alloc),
             found: Vec::new(alloc),
         }
     }
@@ -64,7 +44,7 @@ impl<Ix: IndexType> Scratch<Ix> {
     /// The allocator of its memory.
     #[inline]
     pub fn allocator(&self) -> Global {
-        *self.stack.allocator()
+        *self.found.allocator()
     }
 
     /// Whether graphs of these bounds can be searched.
@@ -72,7 +52,7 @@ impl<Ix: IndexType> Scratch<Ix> {
     pub fn fits(&self, node_bound: usize, edge_bound: usize) -> bool
         ensures { IsTrue result ↔ ((node_bound ≤ self.now.nodes) × (edge_bound ≤ self.now.edges)) }
     {
-        node_bound <= self.marks.len() && edge_bound <= self.found.len()
+        node_bound <= self.work.len() && edge_bound <= self.found.len()
     }
 
     /// Reserves capacity for graphs of these bounds. It still fits what it fitted before, also
@@ -83,32 +63,12 @@ impl<Ix: IndexType> Scratch<Ix> {
         ensures kept { (self.old.nodes ≤ self.new.nodes) × (self.old.edges ≤ self.new.edges) }
         ensures succeeds { node_bound ≤ self.old.nodes → edge_bound ≤ self.old.edges → IsOk result }
     {
-        if self.marks.len() < node_bound {
-            self.grow_nodes(node_bound)?;
+        if self.work.len() < node_bound {
+            self.work.grow(node_bound)?;
         }
         if self.found.len() < edge_bound {
             self.found.resize(edge_bound, EdgeIndex::end())?;
         }
         Ok(())
-    }
-
-    // At least doubles the capacity, so that growth is rare in a graph that gains its nodes one by
-    // one.
-    #[cold]
-    #[inline(never)]
-    fn grow_nodes(&mut self, node_bound: usize) -> Result<(), AllocError>
-        ensures ok { OnOk result (node_bound ≤ self.new.nodes) }
-        ensures kept { (self.old.nodes ≤ self.new.nodes) × (self.old.edges ≤ self.new.edges) }
-    {
-        let doubled = self.marks.len().saturating_mul(2);
-        let len = if node_bound < doubled {
-            doubled
-        } else {
-            node_bound
-        };
-        reserve(&mut self.stack, len)?;
-        reserve(&mut self.cursors, len)?;
-        self.finished.grow(len)?;
-        self.marks.grow(len)
     }
 }

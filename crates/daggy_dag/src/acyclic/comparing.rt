@@ -8,7 +8,7 @@ use daggy_base::index::{IndexType, NodeIndex};
 use daggy_base::source::EdgeSource;
 use daggy_graph::graph::DiGraph;
 use daggy_reduction::joined_pairs::join_same_pairs;
-use daggy_search::Marks;
+use daggy_search::Worklist;
 use std::alloc::{AllocError, Global};
 
 // The nodes below a number.
@@ -60,9 +60,9 @@ pub fn same_reachability<N: Drop, E: Drop, M: Drop, F: Drop, Ix: IndexType>(
     if a.node_count() != b.node_count() {
         return Ok(false);
     }
-    let mut marks = Marks::new(a.allocator());
+    let mut work = Worklist::new(a.allocator());
     let mut a = reduced_shape(a)?;
     let mut b = reduced_shape(b)?;
-    marks.grow(a.node_bound().max(b.node_bound()))?;
-    Ok(join_same_pairs(&mut a, &mut b, &mut marks))
+    work.grow(a.node_bound().max(b.node_bound()))?;
+    Ok(join_same_pairs(&mut a, &mut b, &mut work))
 }

@@ -1,6 +1,6 @@
 //! Whether the orders of a document are rearrangements of the lists of its graph.
 ghost use Rattle.std.specs.Prelude.{◌≡◌, ◌≤◌, ◌↔◌, IsTrue, ℕ, length, map, vec_len, slice_index_or};
-ghost use Rattle.std.specs.Prelude.{false, OnOk, IfOk};
+ghost use Rattle.std.specs.Prelude.{◌<◌, true, false, IfOk, replicate, slice_set};
 ghost use Rattle.daggy_base.specs.FromSlots.{graph_of_slots, has_end, edges_by};
 ghost use Rattle.daggy_base.specs.Orders.{AreOrders, numbers_of};
 ghost use Rattle.daggy_json.specs.Found.{chosen, Marked, marked_with, AllMarked, marked_by};
@@ -8,7 +8,6 @@ ghost use Rattle.daggy_json.specs.Found.{LeavesNone, AreRearranged, EndsExist};
 
 use crate::reading::orders::Row;
 use daggy_base::index::{Direction, EdgeIndex, IndexType, NodeIndex};
-use daggy_search::Marks;
 use std::alloc::{AllocError, Global};
 
 /// A slot of an edge: its ends and its weight, if it is not vacant.
@@ -30,13 +29,35 @@ fn is_at<E, Ix: IndexType>(edges: &Vec<Slot<E, Ix>>, e: usize, n: usize, dir: Di
     }
 }
 
+#[inline]
+fn is_marked(marks: &[bool], e: usize) -> bool
+    requires { e < length marks.now }
+    ensures { result ≡ slice_index_or marks.now e false }
+{
+    marks[e]
+}
+
+#[inline]
+fn mark(marks: &mut [bool], e: usize)
+    requires { e < length marks.old }
+    ensures { marks.new ≡ slice_set marks.old e true }
+{
+    marks[e] = true;
+}
+
+fn unmark(marks: &mut [bool])
+    ensures { marks.new ≡ replicate (length marks.old) false }
+{
+    marks.fill(false);
+}
+
 // Marks the edges of a list. False if one of them is not at the node, or was marked before.
 fn mark_list<E, Ix: IndexType>(
     edges: &Vec<Slot<E, Ix>>,
     list: &Vec<EdgeIndex<Ix>>,
     n: usize,
     dir: Direction,
-    marks: &mut Marks,
+    marks: &mut [bool],
 ) -> bool
     requires fits { vec_len edges.now ≤ length marks.old }
     ensures decided { IsTrue result
@@ -48,10 +69,10 @@ fn mark_list<E, Ix: IndexType>(
 {
     for e in list {
         let i = e.index();
-        if !is_at(edges, i, n, dir) || marks.is_marked(i) {
+        if !is_at(edges, i, n, dir) || is_marked(marks, i) {
             return false;
         }
-        marks.mark(i);
+        mark(marks, i);
     }
     true
 }
@@ -73,7 +94,7 @@ fn mark_lists<N, E, Ix: IndexType>(
     edges: &Vec<Slot<E, Ix>>,
     rows: &Vec<Row<Ix>>,
     dir: Direction,
-    marks: &mut Marks,
+    marks: &mut [bool],
 ) -> bool
     requires fits { vec_len edges.now ≤ length marks.old }
     ensures decided { IsTrue result
@@ -99,12 +120,12 @@ fn mark_lists<N, E, Ix: IndexType>(
 }
 
 // Whether each edge is marked.
-fn leaves_none<E, Ix: IndexType>(edges: &Vec<Slot<E, Ix>>, marks: &Marks) -> bool
+fn leaves_none<E, Ix: IndexType>(edges: &Vec<Slot<E, Ix>>, marks: &[bool]) -> bool
     requires fits { vec_len edges.now ≤ length marks.now }
     ensures { IsTrue result ↔ LeavesNone (edges_by Ix.number edges.now.items) marks.now }
 {
     for e in 0..edges.len() {
-        if edges[e].is_some() && !marks.is_marked(e) {
+        if edges[e].is_some() && !is_marked(marks, e) {
             return false;
         }
     }
@@ -117,7 +138,7 @@ fn is_rearranged<N, E, Ix: IndexType>(
     edges: &Vec<Slot<E, Ix>>,
     rows: &Vec<Row<Ix>>,
     dir: Direction,
-    marks: &mut Marks,
+    marks: &mut [bool],
 ) -> bool
     requires fits { length marks.old ≡ vec_len edges.now }
     ensures decided { IsTrue result
@@ -125,7 +146,7 @@ fn is_rearranged<N, E, Ix: IndexType>(
         (map (numbers_of Ix.number) rows.now.items) }
     ensures kept { length marks.new ≡ length marks.old }
 {
-    marks.clear();
+    unmark(marks);
     mark_lists(nodes, edges, rows, dir, marks) && leaves_none(edges, marks)
 }
 
@@ -141,10 +162,11 @@ pub(super) fn are_orders<N, E, Ix: IndexType>(
         ↔ AreOrders (graph_of_slots nodes.now.items (edges_by Ix.number edges.now.items))
         (map (numbers_of Ix.number) rows.now.items)) }
 {
-    let mut marks = Marks::new(alloc);
-    marks.grow(edges.len())?;
+    let mut list = Vec::new(alloc);
+    list.resize(edges.len(), false)?;
+    let marks = list.as_mut_slice();
     Ok(
-        is_rearranged(nodes, edges, rows, Direction::Outgoing, &mut marks)
-            && is_rearranged(nodes, edges, rows, Direction::Incoming, &mut marks),
+        is_rearranged(nodes, edges, rows, Direction::Outgoing, marks)
+            && is_rearranged(nodes, edges, rows, Direction::Incoming, marks),
     )
 }

@@ -10,7 +10,7 @@ use crate::order::search::reaches_below;
 use daggy_base::index::{IndexType, NodeIndex};
 use daggy_base::link::Link;
 use daggy_base::source::EdgeSource;
-use daggy_search::{Scratch, write_out};
+use daggy_search::Scratch;
 
 /// Updates a topological order for a new edge from `a` to `b`, as in incremental topological
 /// ordering after Pearce and Kelly: moves nodes so that `a` precedes `b`. Returns false if the edge
@@ -91,26 +91,13 @@ fn move_reached<Ix: IndexType, S: EdgeSource<Ix>>(
         (place list.old.nodes (Ix.number a))) }
     ensures same_capacity { scratch.new ≡ scratch.old }
 {
-    // Called only for their postconditions: the nodes exist, and are in the list.
+    // Called only for its postcondition: what exists is in the list.
     let _exists = source.contains_node(b);
-    let _count = list.len();
-    scratch.marks.clear();
-    write_out(&mut scratch.stack, scratch.marks.len(), Link::end());
-    write_out(&mut scratch.cursors, scratch.marks.len(), Link::end());
     let limit = list.links.label(a.index());
-    let found = scratch.cursors.as_mut_slice();
-    let Some(count) = reaches_below(
-        source,
-        b,
-        a,
-        &list.links,
-        limit,
-        &mut scratch.marks,
-        scratch.stack.as_mut_slice(),
-        found,
-    ) else {
+    let work = &mut scratch.work;
+    let Some(count) = reaches_below(source, b, a, &list.links, limit, work) else {
         return false;
     };
-    list.move_after(Link::of_node(a), found, count);
+    list.move_after(Link::of_node(a), &mut scratch.work, count);
     true
 }

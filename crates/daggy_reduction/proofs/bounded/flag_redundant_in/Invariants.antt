@@ -1,5 +1,6 @@
 use Rattle.std.proofs.Common.{◌≡◌, ◌-◌, ◌≤◌, length, map, take}
 use Rattle.daggy_reduction.specs.SearchSpan.{edges_spanned}
+use Rattle.daggy_search.specs.Work.{IsSized}
 use Rattle.daggy_reduction.proofs.SweptNodes.{Sweeping}
 use Rattle.daggy_reduction.proofs.bounded.flag_redundant_in.Given as goal
 
@@ -7,15 +8,14 @@ abbrev pub invariant-nodes : goal.invariant-nodes
 invariant-nodes g l =
     record {
       within : l.k ≤ l.count;
-      entered : length l.entered ≡ length l.fn.entered;
-      met : length l.met ≡ length l.fn.met;
-      queue : length l.queue ≡ length l.fn.queue;
+      sized : IsSized l.fn.work.size l.work;
+      aside : l.work.cursors ≡ l.initial.work.cursors;
       flags : length l.flags ≡ length l.fn.flags;
       sweep : Sweeping record {
         end = g.Ix.IndexType.greatest;
         graph = g.S.EdgeSource.graph l.fn.source;
         cost = edges_spanned (g.S.EdgeSource.graph l.fn.source) l.order;
-        below = take l.count l.below;
+        below = take l.count l.initial.work.cursors;
         looks = g.S.EdgeSource.looks l.fn.source;
       } record {
         graph = g.S.EdgeSource.graph l.source;

@@ -10,7 +10,7 @@ use Rattle.daggy_reduction.proofs.BoundedQueue.{steps_start, few_spanned, round_
 use Rattle.daggy_reduction.proofs.QueueState.{Entered, looked_once, edge_here, head_low, child_low}
 use Rattle.daggy_reduction.proofs.QueueState.{child_exists_here, room_here, entered, left_out, visited, next_here}
 use Rattle.daggy_reduction.proofs.bounded.meet_round.Given.{Over}
-use Rattle.daggy_reduction.proofs.bounded.meet_round.Goals.{At-children, After-look-v}
+use Rattle.daggy_reduction.proofs.bounded.meet_round.Goals.{At-children, After-look-v, After-index-else-index-end}
 use Rattle.daggy_reduction.proofs.bounded.meet_round.Goals as goal
 use Rattle.daggy_reduction.proofs.bounded.meet_round.Goals.{then-stands_before-3, else-stands_before-3}
 
@@ -45,8 +45,8 @@ smaller g c =
 
 pub children-init : goal.children-init
 children-init g c =
-    begins_here g.Ix.IndexType.greatest c.args.order.now refl c.requires.cleared c.requires.entered_fit
-    c.requires.queue_fits c.first-e.ensures
+    begins_here g.Ix.IndexType.greatest c.args.order.now refl c.requires.cleared c.requires.fits
+    c.requires.sized c.first-e.ensures
 
 pub look-v-requires : goal.look-v-requires
 look-v-requires g c =
@@ -61,17 +61,17 @@ pub stands_before-requires-clause-second : goal.stands_before-requires-clause-se
 stands_before-requires-clause-second g c =
     (c.requires.ordered.exact _).1 (child_node g (goal.at.stands_before-requires-clause-second g c).After-look-v)
 
-pub enter-len-requires-clause-mark : goal.enter-len-requires-clause-mark
-enter-len-requires-clause-mark g c =
+pub enter-len-requires-clause-low : goal.enter-len-requires-clause-low
+enter-len-requires-clause-low g c =
     let s = c.children.invariant in
     low_node c.requires.well_formed c.requires.ordered c.requires.exists s _
-    (last_node g (goal.at.enter-len-requires-clause-mark g c).At-children)
+    (last_node g (goal.at.enter-len-requires-clause-low g c).At-children)
 
-pub enter-len-requires-clause-queue_fits : goal.enter-len-requires-clause-queue_fits
-enter-len-requires-clause-queue_fits g c unseen =
+pub enter-len-requires-clause-room : goal.enter-len-requires-clause-room
+enter-len-requires-clause-room g c unseen =
     let s = c.children.invariant in
     has_room c.requires.well_formed c.requires.ordered c.requires.exists s _
-    (last_node g (goal.at.enter-len-requires-clause-queue_fits g c).At-children) unseen
+    (last_node g (goal.at.enter-len-requires-clause-room g c).At-children) unseen
 
 pub stands_before-requires-else-stands_before-clause-first :
     goal.stands_before-requires-else-stands_before-clause-first
@@ -85,19 +85,19 @@ stands_before-requires-else-stands_before-clause-second g c =
     (c.requires.ordered.exact _).1
     (last_node g (goal.at.stands_before-requires-else-stands_before-clause-second g c).At-children)
 
-pub enter-len-requires-then-stands_before-2-clause-mark :
-    goal.enter-len-requires-then-stands_before-2-clause-mark
-enter-len-requires-then-stands_before-2-clause-mark g c =
+pub enter-len-requires-then-stands_before-2-clause-low :
+    goal.enter-len-requires-then-stands_before-2-clause-low
+enter-len-requires-then-stands_before-2-clause-low g c =
     let s = c.children.invariant in
     low_node c.requires.well_formed c.requires.ordered c.requires.exists s _
-    (child_node g (goal.at.enter-len-requires-then-stands_before-2-clause-mark g c).After-look-v)
+    (child_node g (goal.at.enter-len-requires-then-stands_before-2-clause-low g c).After-look-v)
 
-pub enter-len-requires-then-stands_before-2-clause-queue_fits :
-    goal.enter-len-requires-then-stands_before-2-clause-queue_fits
-enter-len-requires-then-stands_before-2-clause-queue_fits g c unseen =
+pub enter-len-requires-then-stands_before-2-clause-room :
+    goal.enter-len-requires-then-stands_before-2-clause-room
+enter-len-requires-then-stands_before-2-clause-room g c unseen =
     let s = c.children.invariant in
     has_room c.requires.well_formed c.requires.ordered c.requires.exists s _
-    (child_node g (goal.at.enter-len-requires-then-stands_before-2-clause-queue_fits g c).After-look-v) unseen
+    (child_node g (goal.at.enter-len-requires-then-stands_before-2-clause-room g c).After-look-v) unseen
 
 pub children-smaller-then-stands_before : goal.children-smaller-then-stands_before
 children-smaller-then-stands_before g c =
@@ -156,12 +156,13 @@ returns-then-len-eq0-clause-counted g c =
 pub steps-init : goal.steps-init
 steps-init g c =
     steps_start c.requires.well_formed c.requires.ordered c.requires.exists c.children.invariant (cc)
-    c.if-len-eq0.false c.args.met.now c.requires.met_fit
+    c.if-len-eq0.false
 
 pub overflow_add-head : goal.overflow_add-head
 overflow_add-head g c =
     let s = c.steps.invariant in
-    let h : c.steps.head + 1 ≤ length c.steps.queue = omega (arith, head_low c.requires.well_formed s, s.high) in
+    let h : c.steps.head + 1 ≤ c.args.work.now.size = omega (arith, head_low c.requires.well_formed s, s.high) in
+    let small = c.requires.sized.small in
     search rules
 
 pub returns-then-head-len-clause-met : goal.returns-then-head-len-clause-met
@@ -174,28 +175,22 @@ returns-then-head-len-clause-counted g c =
     few_spanned c.requires.well_formed c.requires.ordered c.requires.exists c.children.invariant (cc)
     c.steps.invariant
 
-pub bounds-queue-head : goal.bounds-queue-head
-bounds-queue-head g c =
+pub node-requires : goal.node-requires
+node-requires g c =
     let s = c.steps.invariant in
     let apart : c.steps.head + 1 ≢ c.steps.len = c.if-head-len.false in
-    omega (arith, head_low c.requires.well_formed s, s.high, apart)
-
-pub offset_bounds-queue-head : goal.offset_bounds-queue-head
-offset_bounds-queue-head g c =
-    let s = c.steps.invariant in
-    let h : c.steps.head + 1 ≤ length c.steps.queue = omega (arith, head_low c.requires.well_formed s, s.high) in
-    search rules
+    omega (arith, head_low c.requires.well_formed s, s.high, s.sized.nodes_are, apart)
 
 pub steps-smaller-then-index-end : goal.steps-smaller-then-index-end
 steps-smaller-then-index-end g c = omega (arith, head_low c.requires.well_formed c.steps.invariant)
 
 pub steps-preserved-then-index-end : goal.steps-preserved-then-index-end
 steps-preserved-then-index-end g c =
-    next_here c.requires.well_formed c.steps.invariant (cc) (c.steps.head + 1) c.index-queue-head.result refl
-    c.if-head-len.false c.index-queue-head.is
+    next_here c.requires.well_formed c.steps.invariant (cc) (c.steps.head + 1) c.node.result refl
+    c.if-head-len.false (c.node.ensures _)
     (c.first-e-then-index-end.ensures
     ∙ ap (λ n. first_of g.Ix.IndexType.greatest (out_list (g.S.EdgeSource.graph c.steps.source) n))
-    c.node.ensures.value)
+    c.node-then-index-end.ensures.value)
 
 pub look-v-requires-else-index-end : goal.look-v-requires-else-index-end
 look-v-requires-else-index-end g c =
@@ -214,27 +209,46 @@ stands_before-requires-else-index-end-clause-second g c =
     (c.requires.ordered.exact _).1
     (last_node g (goal.at.stands_before-requires-else-index-end-clause-second g c).At-children)
 
-pub enter-len-requires-then-stands_before-3-clause-mark :
-    goal.enter-len-requires-then-stands_before-3-clause-mark
-enter-len-requires-then-stands_before-3-clause-mark g c =
+pub enter-len-requires-then-stands_before-3-clause-low :
+    goal.enter-len-requires-then-stands_before-3-clause-low
+enter-len-requires-then-stands_before-3-clause-low g c =
     let s = c.steps.invariant in
     omega (
       arith,
       child_low c.requires.well_formed s (λ h. c.if-index-end.false cc)
           c.look-v-else-index-end.ensures.gives,
       s.fits,
+      s.sized.entered_are,
     )
 
-pub enter-len-requires-then-stands_before-3-clause-queue_fits :
-    goal.enter-len-requires-then-stands_before-3-clause-queue_fits
-enter-len-requires-then-stands_before-3-clause-queue_fits g c unseen =
+pub enter-len-requires-then-stands_before-3-clause-room :
+    goal.enter-len-requires-then-stands_before-3-clause-room
+enter-len-requires-then-stands_before-3-clause-room g c unseen =
     let s = c.steps.invariant in
     omega (
       arith,
       room_here c.requires.well_formed s (λ h. c.if-index-end.false cc)
           c.look-v-else-index-end.ensures.gives unseen,
-      s.capacity,
+      s.sized.nodes_are,
     )
+
+-- the child is in the queue, or stands too late
+entry : (g : Over) (c : After-index-else-index-end g)
+    → Entered c.requires.well_formed c.steps.invariant (λ h. c.if-index-end.false cc)
+    c.look-v-else-index-end.ensures.gives c.if-stands_before-3.work c.if-stands_before-3.len
+entry g c =
+    let here : g.Ix.IndexType.number c.steps.e ≢ g.Ix.IndexType.greatest = λ h. c.if-index-end.false cc in
+    let s = c.steps.invariant in
+    let look = c.look-v-else-index-end.ensures.gives in
+    elim c.if-stands_before-3.branch [
+      | then-stands_before-3 b ↦
+          rw (b.work-is, b.len-is)
+          (entered c.requires.well_formed s here look (b.if-stands_before-3.ensures.0 refl)
+          b.enter-len-then-stands_before-3.ensures.there b.enter-len-then-stands_before-3.ensures.put)
+      | else-stands_before-3 b ↦
+          rw (b.work-is, b.len-is)
+          (left_out c.requires.well_formed s here look (not_before (λ h. false≢true (b.if-stands_before-3.ensures.1 h))))
+    ]
 
 pub mark_unless_first-requires : goal.mark_unless_first-requires
 mark_unless_first-requires g c =
@@ -242,7 +256,8 @@ mark_unless_first-requires g c =
     omega (
       arith,
       child_low c.requires.well_formed s (λ h. c.if-index-end.false cc) c.look-v-else-index-end.ensures.gives,
-      s.met_fits,
+      s.fits,
+      (entry g (goal.at.mark_unless_first-requires g c).After-index-else-index-end).sized_still.marked_are,
       c.index-else-index-end.ensures.value,
     )
 
@@ -265,22 +280,8 @@ steps-smaller g c =
 pub steps-preserved : goal.steps-preserved
 steps-preserved g c =
     let here : g.Ix.IndexType.number c.steps.e ≢ g.Ix.IndexType.greatest = λ h. c.if-index-end.false cc in
-    let s = c.steps.invariant in
     let at = c.index-else-index-end.ensures.value in
-    let look = c.look-v-else-index-end.ensures.gives in
-    let entry : Entered c.requires.well_formed s here look c.if-stands_before-3.entered c.if-stands_before-3.queue
-    c.if-stands_before-3.len =
-    elim c.if-stands_before-3.branch [
-      | then-stands_before-3 b ↦
-          rw (b.entered-is, b.queue-is, b.len-is)
-          (entered c.requires.well_formed s here look (b.if-stands_before-3.ensures.0 refl)
-          b.enter-len-then-stands_before-3.ensures.there b.enter-len-then-stands_before-3.ensures.put)
-      | else-stands_before-3 b ↦ rw (
-        b.entered-is,
-        b.queue-is,
-        b.len-is,
-      ) (left_out c.requires.well_formed s here look (not_before (λ h. false≢true (b.if-stands_before-3.ensures.1 h))))
-    ] in
-    visited c.requires.well_formed s here look c.look-v-else-index-end.ensures.same
-    c.look-v-else-index-end.ensures.counted
-    entry (rw (sym at) c.mark_unless_first.ensures.later) c.mark_unless_first.ensures.first
+    visited c.requires.well_formed c.steps.invariant here c.look-v-else-index-end.ensures.gives
+    c.look-v-else-index-end.ensures.same c.look-v-else-index-end.ensures.counted
+    (entry g (goal.at.steps-preserved g c).After-index-else-index-end) (rw (sym at) c.mark_unless_first.ensures.later)
+    c.mark_unless_first.ensures.first

@@ -12,13 +12,11 @@ invariant-children g l =
       graph = g.S.EdgeSource.graph l.fn.source;
       order = l.order;
       node = g.Ix.IndexType.number l.fn.u;
-      marks = length l.fn.entered;
-      places = length l.fn.queue;
+      begun = l.fn.work;
       looks = g.S.EdgeSource.looks l.fn.source;
     } record {
       graph = g.S.EdgeSource.graph l.source;
-      marks = l.entered;
-      queue = l.queue;
+      work = l.work;
       len = l.len;
       last = g.Ix.IndexType.number l.last;
       edge = g.Ix.IndexType.number l.e;
@@ -38,17 +36,13 @@ invariant-steps g l =
       Inside = Inside l.order (g.Ix.IndexType.number l.last);
       Beyond = Beyond l.order (g.Ix.IndexType.number l.last);
       starts = g.Ix.IndexType.number l.fn.u ∷ [];
-      before = l.fn.met;
+      before = l.fn.work.marked;
     } record {
-      marks = length l.fn.entered;
-      met = length l.fn.met;
-      places = length l.fn.queue;
+      begun = l.fn.work;
       looks = g.S.EdgeSource.looks l.fn.source;
     } record {
       graph = g.S.EdgeSource.graph l.source;
-      marks = l.entered;
-      met = l.met;
-      queue = l.queue;
+      work = l.work;
       len = l.len;
       head = l.head;
       edge = g.Ix.IndexType.number l.e;

@@ -1,4 +1,4 @@
-use Rattle.std.proofs.Common.{rules, ◌≢◌, ◌+◌, ◌≤◌, ◌∙◌, sym, ap, refl, arith, length}
+use Rattle.std.proofs.Common.{rules, ◌≢◌, ◌+◌, ◌≤◌, ◌∙◌, sym, ap, refl, arith}
 use Rattle.daggy_base.specs.Graph.{out_list}
 use Rattle.daggy_base.specs.Cursor.{first_of}
 use Rattle.daggy_reduction.proofs.QueueState.{few, looked_once, edge_here, head_low, child_low, room_here, entered}
@@ -8,18 +8,15 @@ use Rattle.daggy_reduction.proofs.closure.close.Goals as goal
 pub steps-init : goal.steps-init
 steps-init g c =
     let graph = g.S.EdgeSource.graph c.args.source.now in
-    starts_here g.Ix.IndexType.greatest c.requires.queued c.requires.some record {
-      fits = c.requires.entered_fit;
-      met_fits = c.requires.met_fit;
-      capacity = c.requires.queue_fits;
-      high = c.requires.within;
-    } c.index-queue-0.is refl
-    (c.first-e.ensures ∙ ap (λ n. first_of g.Ix.IndexType.greatest (out_list graph n)) c.node.ensures.value)
+    starts_here g.Ix.IndexType.greatest c.requires.queued c.requires.some c.requires.fits c.requires.sized
+    c.requires.within (c.node.ensures _) refl
+    (c.first-e.ensures ∙ ap (λ n. first_of g.Ix.IndexType.greatest (out_list graph n)) c.node-2.ensures.value)
 
 pub overflow_add-head : goal.overflow_add-head
 overflow_add-head g c =
     let s = c.steps.invariant in
-    let h : c.steps.head + 1 ≤ length c.steps.queue = omega (arith, head_low c.requires.well_formed s, s.high) in
+    let h : c.steps.head + 1 ≤ c.args.work.now.size = omega (arith, head_low c.requires.well_formed s, s.high) in
+    let small = c.requires.sized.small in
     search rules
 
 pub returns-then-head-len-clause-closed : goal.returns-then-head-len-clause-closed
@@ -33,54 +30,52 @@ returns-then-head-len-clause-met g c =
 pub returns-then-head-len-clause-counted : goal.returns-then-head-len-clause-counted
 returns-then-head-len-clause-counted g c = few c.requires.well_formed c.steps.invariant
 
-pub bounds-queue-head : goal.bounds-queue-head
-bounds-queue-head g c =
+pub node-requires-then-index-end : goal.node-requires-then-index-end
+node-requires-then-index-end g c =
     let s = c.steps.invariant in
     let apart : c.steps.head + 1 ≢ c.steps.len = c.if-head-len.false in
-    omega (arith, head_low c.requires.well_formed s, s.high, apart)
-
-pub offset_bounds-queue-head : goal.offset_bounds-queue-head
-offset_bounds-queue-head g c =
-    let s = c.steps.invariant in
-    let h : c.steps.head + 1 ≤ length c.steps.queue = omega (arith, head_low c.requires.well_formed s, s.high) in
-    search rules
+    omega (arith, head_low c.requires.well_formed s, s.high, s.sized.nodes_are, apart)
 
 pub steps-smaller-then-index-end : goal.steps-smaller-then-index-end
 steps-smaller-then-index-end g c = omega (arith, head_low c.requires.well_formed c.steps.invariant)
 
 pub steps-preserved-then-index-end : goal.steps-preserved-then-index-end
 steps-preserved-then-index-end g c =
-    next_here c.requires.well_formed c.steps.invariant (cc) (c.steps.head + 1) c.index-queue-head.result refl
-    c.if-head-len.false c.index-queue-head.is
+    next_here c.requires.well_formed c.steps.invariant (cc) (c.steps.head + 1) c.node-then-index-end.result refl
+    c.if-head-len.false (c.node-then-index-end.ensures _)
     (c.first-e-then-index-end.ensures
     ∙ ap (λ n. first_of g.Ix.IndexType.greatest (out_list (g.S.EdgeSource.graph c.steps.source) n))
-    c.node-then-index-end.ensures.value)
+    c.node-then-index-end-2.ensures.value)
 
 pub look-v-requires : goal.look-v-requires
 look-v-requires g c =
     edge_here c.requires.well_formed c.steps.invariant (λ h. c.if-index-end.false cc)
 
-pub enter-len-requires-clause-mark : goal.enter-len-requires-clause-mark
-enter-len-requires-clause-mark g c =
+pub enter-len-requires-clause-low : goal.enter-len-requires-clause-low
+enter-len-requires-clause-low g c =
     let s = c.steps.invariant in
-    omega (arith, child_low c.requires.well_formed s (λ h. c.if-index-end.false cc) c.look-v.ensures.gives, s.fits)
+    omega (arith, child_low c.requires.well_formed s (λ h. c.if-index-end.false cc) c.look-v.ensures.gives, s.fits, s.sized.entered_are)
 
-pub enter-len-requires-clause-queue_fits : goal.enter-len-requires-clause-queue_fits
-enter-len-requires-clause-queue_fits g c unseen =
+pub enter-len-requires-clause-room : goal.enter-len-requires-clause-room
+enter-len-requires-clause-room g c unseen =
     let s = c.steps.invariant in
     omega (
       arith,
       room_here c.requires.well_formed s (λ h. c.if-index-end.false cc) c.look-v.ensures.gives unseen,
-      s.capacity,
+      s.sized.nodes_are,
     )
 
 pub mark_unless_first-requires : goal.mark_unless_first-requires
 mark_unless_first-requires g c =
+    let here : g.Ix.IndexType.number c.steps.e ≢ g.Ix.IndexType.greatest = λ h. c.if-index-end.false cc in
     let s = c.steps.invariant in
+    let entry = entered c.requires.well_formed s here c.look-v.ensures.gives tt c.enter-len.ensures.there
+    c.enter-len.ensures.put in
     omega (
       arith,
-      child_low c.requires.well_formed s (λ h. c.if-index-end.false cc) c.look-v.ensures.gives,
-      s.met_fits,
+      child_low c.requires.well_formed s here c.look-v.ensures.gives,
+      s.fits,
+      entry.sized_still.marked_are,
       c.index-else-index-end.ensures.value,
     )
 

@@ -1,4 +1,4 @@
-use Rattle.std.proofs.Common.{◌+◌, ◌-◌, ◌*◌, length, take}
+use Rattle.std.proofs.Common.{◌+◌, ◌-◌, ◌*◌, take}
 use Rattle.daggy_base.specs.Graph.{edge_count}
 use Rattle.daggy_reduction.proofs.QueueState.{Draining}
 use Rattle.daggy_reduction.proofs.QueueProgress.{Anywhere, Nowhere}
@@ -11,18 +11,14 @@ invariant-steps g l =
       graph = g.S.EdgeSource.graph l.fn.source;
       Inside = Anywhere;
       Beyond = Nowhere;
-      starts = take l.fn.len l.fn.queue;
-      before = l.fn.met;
+      starts = take l.fn.len l.fn.work.nodes;
+      before = l.fn.work.marked;
     } record {
-      marks = length l.fn.entered;
-      met = length l.fn.met;
-      places = length l.fn.queue;
+      begun = l.fn.work;
       looks = g.S.EdgeSource.looks l.fn.source;
     } record {
       graph = g.S.EdgeSource.graph l.source;
-      marks = l.entered;
-      met = l.met;
-      queue = l.queue;
+      work = l.work;
       len = l.len;
       head = l.head;
       edge = g.Ix.IndexType.number l.e;

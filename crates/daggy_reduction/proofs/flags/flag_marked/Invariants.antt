@@ -9,7 +9,7 @@ invariant-edges g l =
       end = g.Ix.IndexType.greatest;
       graph = g.S.EdgeSource.graph l.fn.source;
       node = g.Ix.IndexType.number l.fn.u;
-      marks = l.fn.marks;
+      marks = l.fn.work.marked;
       flags = map g.Ix.IndexType.number l.fn.flags;
       looks = g.S.EdgeSource.looks l.fn.source;
     } record {

@@ -22,18 +22,18 @@ returns-then-not-is_marked-clause-decided g c =
       λ t. absurd (false≢true t),
       λ all.
           absurd (false≢true (sym c.if-not-is_marked.true ∙ c.is_marked.ensures
-          ∙ ap (λ z. get_or c.args.marks.now z false) c.index-in-edges.ensures.value ∙ all v joined)),
+          ∙ ap (λ z. get_or c.args.work.now.marked z false) c.index-in-edges.ensures.value ∙ all v joined)),
     )
 
 pub edges-preserved : goal.edges-preserved
 edges-preserved g c =
     let here : g.Ix.IndexType.number c.edges.e ≢ g.Ix.IndexType.greatest = λ h. c.edges-test.true cc in
     let v = g.Ix.IndexType.number c.look-v.result.0 in
-    let this : get_or c.args.marks.now v false ≡ true =
-    sym (ap (λ z. get_or c.args.marks.now z false) c.index-in-edges.ensures.value) ∙ sym c.is_marked.ensures
+    let this : get_or c.args.work.now.marked v false ≡ true =
+    sym (ap (λ z. get_or c.args.work.now.marked z false) c.index-in-edges.ensures.value) ∙ sym c.is_marked.ensures
     ∙ c.if-not-is_marked.false in
     looking_on c.requires.well_formed c.edges.invariant here c.look-v.ensures.gives
-    (λ n. get_or c.args.marks.now n false ≡ true) c.look-v.ensures.same c.look-v.ensures.counted (λ n m. m) this
+    (λ n. get_or c.args.work.now.marked n false ≡ true) c.look-v.ensures.same c.look-v.ensures.counted (λ n m. m) this
 
 pub returns-clause-decided : goal.returns-clause-decided
 returns-clause-decided g c =

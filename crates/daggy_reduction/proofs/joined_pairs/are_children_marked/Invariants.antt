@@ -7,7 +7,7 @@ abbrev pub invariant-edges : goal.invariant-edges
 invariant-edges g l =
     Looking g.Ix.IndexType.greatest (g.S.EdgeSource.graph l.fn.source) (g.S.EdgeSource.graph l.source)
     (g.Ix.IndexType.number l.fn.u) (g.Ix.IndexType.number l.e) (g.S.EdgeSource.looks l.fn.source)
-    (g.S.EdgeSource.looks l.source) (λ n. get_or l.fn.marks n false ≡ true)
+    (g.S.EdgeSource.looks l.source) (λ n. get_or l.fn.work.marked n false ≡ true)
 
 abbrev pub decreases-edges : goal.decreases-edges
 decreases-edges g l =

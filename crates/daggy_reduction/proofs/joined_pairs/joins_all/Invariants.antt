@@ -7,12 +7,12 @@ invariant-nodes g l =
     Comparing record {
       one = g.A.EdgeSource.graph l.fn.a;
       other = g.B.EdgeSource.graph l.fn.b;
-      marks = l.fn.marks;
+      size = l.fn.work.size;
       bound = l.bound;
     } record {
       one = g.A.EdgeSource.graph l.a;
       other = g.B.EdgeSource.graph l.b;
-      marks = l.marks;
+      size = l.work.size;
       node = l.n;
     }
 

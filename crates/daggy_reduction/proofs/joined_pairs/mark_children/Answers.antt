@@ -1,5 +1,6 @@
 use Rattle.std.proofs.Common.{◌≡◌, ◌≢◌, ◌<◌, Bool, true, false, inl, inr, List, length, get_or, set, sym, ap, subst}
 use Rattle.std.proofs.Common.{◌∙◌, arith}
+use Rattle.daggy_search.specs.Work.{Work}
 use Rattle.daggy_reduction.proofs.Children.{Looking, Marking, looking_edge, looked_low, looked_child, looking_on}
 use Rattle.daggy_reduction.proofs.Children.{all_looked, mark_one, marks_grow}
 use Rattle.daggy_reduction.proofs.joined_pairs.mark_children.Goals as goal
@@ -20,21 +21,21 @@ pub edges-preserved : goal.edges-preserved
 edges-preserved g c =
     let here : g.Ix.IndexType.number c.edges.e ≢ g.Ix.IndexType.greatest = λ h. c.edges-test.true cc in
     let v = g.Ix.IndexType.number c.look-v.result.0 in
-    let marks = c.edges.marks in
+    let marks = c.edges.work.marked in
     let looking = c.edges.invariant.looking in
     let gives = c.look-v.ensures.gives in
     let sized = c.edges.invariant.marking.sized in
     let low : v < length marks = let under = looked_low c.requires.well_formed looking here gives in
     omega (arith, under, c.requires.fits, sized) in
-    let is : c.mark.new.self ≡ set marks v true =
-    c.mark.ensures ∙ ap (λ z. set marks z true) c.index-in-edges.ensures.value in
+    let is : c.mark.new.self.marked ≡ set marks v true =
+    ap (λ (w : Work). w.marked) c.mark.ensures ∙ ap (λ z. set marks z true) c.index-in-edges.ensures.value in
     let old = g.S.EdgeSource.graph c.args.source.now in
     let u = g.Ix.IndexType.number c.args.u in
     let L : List Bool → Type 0 = λ z.
     Looking g.Ix.IndexType.greatest old (g.S.EdgeSource.graph c.look-v.new.self) u
     (g.Ix.IndexType.number c.look-v.result.1) (g.S.EdgeSource.looks c.args.source.now)
     (g.S.EdgeSource.looks c.look-v.new.self) (λ n. get_or z n false ≡ true) in
-    let M : List Bool → Type 0 = λ z. Marking old u c.args.marks.now z in
+    let M : List Bool → Type 0 = λ z. Marking old u c.args.work.now.marked z in
     let grown = marks_grow marks v low in
     record {
       looking =
@@ -44,6 +45,7 @@ edges-preserved g c =
       marking =
           subst M (sym is)
           (mark_one c.edges.invariant.marking v low (looked_child c.requires.well_formed looking here gives));
+      size = ap (λ (w : Work). w.size) c.mark.ensures ∙ c.edges.invariant.size;
     }
 
 pub returns-clause-marked : goal.returns-clause-marked

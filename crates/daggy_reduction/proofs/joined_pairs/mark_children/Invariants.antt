@@ -8,8 +8,10 @@ invariant-edges g l =
     record {
       looking : Looking g.Ix.IndexType.greatest (g.S.EdgeSource.graph l.fn.source) (g.S.EdgeSource.graph l.source)
           (g.Ix.IndexType.number l.fn.u) (g.Ix.IndexType.number l.e) (g.S.EdgeSource.looks l.fn.source)
-          (g.S.EdgeSource.looks l.source) (λ n. get_or l.marks n false ≡ true);
-      marking : Marking (g.S.EdgeSource.graph l.fn.source) (g.Ix.IndexType.number l.fn.u) l.fn.marks l.marks;
+          (g.S.EdgeSource.looks l.source) (λ n. get_or l.work.marked n false ≡ true);
+      marking : Marking (g.S.EdgeSource.graph l.fn.source) (g.Ix.IndexType.number l.fn.u) l.fn.work.marked
+          l.work.marked;
+      size : l.work.size ≡ l.fn.work.size;
     }
 
 abbrev pub decreases-edges : goal.decreases-edges

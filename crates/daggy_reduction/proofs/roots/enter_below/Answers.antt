@@ -1,9 +1,4 @@
-use Rattle.std.proofs.Common.{map, take}
-use Rattle.daggy_reduction.proofs.QueuedRoots.{closure_below}
 use Rattle.daggy_reduction.proofs.roots.enter_below.Goals as goal
 
 pub returns-clause-below : goal.returns-clause-below
-returns-clause-below g c =
-    closure_below (g.S.EdgeSource.graph c.args.source.now) (map g.Ix.IndexType.number c.args.roots.now)
-    (take c.enter_roots-len.result c.enter_roots-len.new.queue) (take c.close.result c.close.new.queue)
-    c.enter_roots-len.ensures.exact c.close.ensures.closed
+returns-clause-below g c = rw c.lay_aside.ensures.aside c.queue_below-len.ensures.below

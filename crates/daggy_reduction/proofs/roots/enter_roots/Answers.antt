@@ -25,18 +25,18 @@ root_is g c =
 pub roots-init : goal.roots-init
 roots-init g c =
     rooting_start (g.S.EdgeSource.graph c.args.source.now) (map g.Ix.IndexType.number c.args.roots.now)
-    c.args.entered.now c.args.queue.now c.requires.entered_fit c.requires.queue_fits c.requires.cleared
+    c.requires.fits c.requires.sized c.requires.cleared
 
-pub enter-len-requires-clause-mark : goal.enter-len-requires-clause-mark
-enter-len-requires-clause-mark g c =
-    let at = goal.at.enter-len-requires-clause-mark g c in
+pub enter-len-requires-clause-low : goal.enter-len-requires-clause-low
+enter-len-requires-clause-low g c =
+    let at = goal.at.enter-len-requires-clause-low g c in
     let root = g.Ix.IndexType.number c.index-roots-k.result in
     root_low c.roots.invariant (within g at.In-roots) root (root_is g at.After-index-roots-k)
     (c.if-contains_node.ensures.exists.0 cc)
 
-pub enter-len-requires-clause-queue_fits : goal.enter-len-requires-clause-queue_fits
-enter-len-requires-clause-queue_fits g c unseen =
-    let at = goal.at.enter-len-requires-clause-queue_fits g c in
+pub enter-len-requires-clause-room : goal.enter-len-requires-clause-room
+enter-len-requires-clause-room g c unseen =
+    let at = goal.at.enter-len-requires-clause-room g c in
     let root = g.Ix.IndexType.number c.index-roots-k.result in
     root_room c.roots.invariant (within g at.In-roots) root (root_is g at.After-index-roots-k)
     (c.if-contains_node.ensures.exists.0 cc) unseen
@@ -48,11 +48,11 @@ roots-preserved g c =
     let s = c.roots.invariant in
     elim c.if-contains_node.branch [
       | then-contains_node w ↦
-          rw (w.entered-is, w.queue-is, w.len-is)
+          rw (w.work-is, w.len-is)
           (root_entered s (within g at.In-roots) root (root_is g at.After-index-roots-k)
           (w.if-contains_node.ensures.exists.0 cc) w.enter-len.ensures.there w.enter-len.ensures.put)
       | else-contains_node w ↦
-          rw (w.entered-is, w.queue-is, w.len-is)
+          rw (w.work-is, w.len-is)
           (root_missing s (within g at.In-roots) root (root_is g at.After-index-roots-k)
           (λ h. false≢true (w.if-contains_node.ensures.exists.1 h)))
     ]

@@ -7,9 +7,8 @@ invariant-roots g l =
     Rooting record {
       graph = g.S.EdgeSource.graph l.fn.source;
       nodes = map g.Ix.IndexType.number l.fn.roots;
-      marks = length l.fn.entered;
-      places = length l.fn.queue;
-    } record { marks = l.entered; queue = l.queue; len = l.len; seen = l.k }
+      size = l.fn.work.size;
+    } record { work = l.work; len = l.len; seen = l.k }
 
 abbrev pub decreases-roots : goal.decreases-roots
 decreases-roots g l = length l.fn.roots - l.k

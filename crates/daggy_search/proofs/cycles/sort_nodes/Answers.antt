@@ -7,11 +7,11 @@ use Rattle.daggy_search.proofs.SortNodesState.{Sorting, rests, skipped, begins, 
 use Rattle.daggy_search.proofs.SortNodesState.{place_free, looked_once, edge_here, node_low, walked, steps_back}
 use Rattle.daggy_search.proofs.SortNodesState.{child_low, room_here, way_round, steps_over, steps_in}
 use Rattle.daggy_search.proofs.cycles.sort_nodes.Given.{Over}
-use Rattle.daggy_search.proofs.cycles.sort_nodes.Goals.{After-look-v, Then-not-is_marked, Then-index-end}
+use Rattle.daggy_search.proofs.cycles.sort_nodes.Goals.{After-look-v, Then-not-is_entered, Then-index-end}
 use Rattle.daggy_search.proofs.cycles.sort_nodes.Goals as goal
 use Rattle.daggy_search.proofs.cycles.sort_nodes.Goals.{then-not-contains_node-via-then-not-contains_node}
 use Rattle.daggy_search.proofs.cycles.sort_nodes.Goals.{
-  then-not-contains_node-via-else-not-contains_node+then-is_marked,
+  then-not-contains_node-via-else-not-contains_node+then-is_entered,
 }
 
 -- a place is left for the node that is finished
@@ -28,29 +28,26 @@ looked : (g : Over) (c : After-look-v g)
 looked g c = looked_once c.node_bound-bound.ensures.well_formed c.steps.invariant (here g c) c.look-v.ensures.counted
 
 -- the child is within the lists
-v_low : (g : Over) (c : After-look-v g) → g.Ix.IndexType.number c.look-v.result.0 < length c.steps.discovered
+v_low : (g : Over) (c : After-look-v g) → g.Ix.IndexType.number c.look-v.result.0 < length c.steps.work.entered
 v_low g c = child_low c.node_bound-bound.ensures.well_formed c.steps.invariant (here g c) c.look-v.ensures.gives
 
 -- there is room for a child that is not discovered yet
-room : (g : Over) (c : Then-not-is_marked g) → c.steps.len + 1 < length c.steps.discovered
+room : (g : Over) (c : Then-not-is_entered g) → c.steps.len + 1 < c.args.work.now.size
 room g c =
     let here : g.Ix.IndexType.number c.steps.e ≢ g.Ix.IndexType.greatest = λ h. c.if-index-end.false cc in
-    let unseen : get_or c.steps.discovered (g.Ix.IndexType.number c.look-v.result.0) false ≡ false = cc in
+    let unseen : get_or c.steps.work.entered (g.Ix.IndexType.number c.look-v.result.0) false ≡ false = cc in
     room_here c.node_bound-bound.ensures.well_formed c.steps.invariant here c.look-v.ensures.gives unseen
 
 pub roots-init : goal.roots-init
 roots-init g c =
     let now : Sorting _ _ = record {
       graph = g.S.EdgeSource.graph c.args.source.now;
-      discovered = c.args.discovered.now;
-      finished = c.args.finished.now;
-      stack = c.args.stack.now;
-      cursors = c.args.cursors.now;
-      top = length c.args.stack.now;
+      work = c.begin.new.self;
+      top = c.len-top.result;
       looks = g.S.EdgeSource.looks c.args.source.now;
     } in
-    rests now c.requires.marks_fit c.requires.finished_fits c.requires.stack_fits c.requires.cursors_fit
-    c.requires.none_discovered c.requires.none_finished
+    rests now c.requires c.begin.ensures.sized c.begin.ensures.cleared
+    (c.len-top.ensures ∙ c.begin.ensures.sized.size_is)
 
 pub new-root-requires : goal.new-root-requires
 new-root-requires g c =
@@ -68,20 +65,20 @@ roots-preserved-then-not-contains_node g c =
           (λ h.
           absurd (false≢true (sym w.if-not-contains_node.true ∙ c.contains_node.ensures.exists.1 (let P : ℕ → Type 0 =
           λ z. HasNode (g.S.EdgeSource.graph c.roots.source) z in subst P (sym c.new-root.ensures.number) h))))
-      | then-not-contains_node-via-else-not-contains_node+then-is_marked w ↦
-          (λ h. sym w.is_marked.ensures ∙ w.if-is_marked.true)
+      | then-not-contains_node-via-else-not-contains_node+then-is_entered w ↦
+          (λ h. sym w.is_entered.ensures ∙ w.if-is_entered.true)
     ])
 
 pub steps-init : goal.steps-init
 steps-init g c =
     let exists : HasNode (g.S.EdgeSource.graph c.roots.source) (g.Ix.IndexType.number c.new-root.result) =
     search rules in
-    let unseen : get_or c.roots.discovered c.roots.i false ≡ false = cc in
-    rw c.mark.ensures (begins c.node_bound-bound.ensures.well_formed c.roots.invariant exists unseen
+    let unseen : get_or c.roots.work.entered c.roots.i false ≡ false = cc in
+    rw c.enter.ensures (begins c.node_bound-bound.ensures.well_formed c.roots.invariant exists unseen
     c.new-root.ensures.number c.first-e.ensures)
 
-pub mark-requires-then-index-end : goal.mark-requires-then-index-end
-mark-requires-then-index-end g c =
+pub mark-requires : goal.mark-requires
+mark-requires g c =
     omega (
       arith,
       node_low c.node_bound-bound.ensures.well_formed c.steps.invariant,
@@ -98,54 +95,66 @@ steps-preserved-then-index-end g c =
     let at_end : g.Ix.IndexType.number c.steps.e ≡ g.Ix.IndexType.greatest = cc in
     let w = c.node_bound-bound.ensures.well_formed in
     let node_read : (d : ℕ)
-    → g.Ix.IndexType.number c.node-n.result
-    ≡ get_or (set c.steps.stack (c.steps.top - 1) (g.Ix.IndexType.number c.steps.n)) (c.steps.len - 1) d = λ d.
-    c.node-n.ensures.value ∙ rw (sym c.put.ensures) (c.link_at.ensures d) in
-    rw (c.mark-then-index-end.ensures, c.put.ensures) (steps_back w c.steps.invariant at_end
-    c.index-then-index-end.ensures.value (free g at.Then-index-end) c.if-len-eq0.false refl node_read
-    (λ d. c.edge-e.ensures.value ∙ c.link_at-then-index-end.ensures d))
+    → get_or c.put_node.new.self.nodes (c.steps.len - 1) d
+    ≡ get_or (set c.steps.work.nodes (c.steps.top - 1) (g.Ix.IndexType.number c.steps.n)) (c.steps.len - 1) d = λ d.
+    rw (c.put_node.ensures, c.of_node.ensures, c.mark.ensures) refl in
+    let cursor_read : (d : ℕ)
+    → get_or c.put_node.new.self.cursors (c.steps.len - 1) d ≡ get_or c.steps.work.cursors (c.steps.len - 1) d = λ d.
+    rw (c.put_node.ensures, c.mark.ensures) refl in
+    rw (c.put_node.ensures, c.of_node.ensures, c.mark.ensures) (steps_back w c.steps.invariant at_end
+    c.index-then-index-end.ensures.value (free g at.Then-index-end) c.if-len-eq0.false refl
+    (λ d. c.node-n.ensures.value ∙ c.node.ensures d ∙ node_read d)
+    (λ d. c.edge-e.ensures.value ∙ c.cursor.ensures d ∙ cursor_read d))
 
 pub look-v-requires : goal.look-v-requires
 look-v-requires g c =
     let here : g.Ix.IndexType.number c.steps.e ≢ g.Ix.IndexType.greatest = λ h. c.if-index-end.false cc in
     edge_here c.node_bound-bound.ensures.well_formed c.steps.invariant here
 
-pub is_marked-requires-else-index-end : goal.is_marked-requires-else-index-end
-is_marked-requires-else-index-end g c =
-    omega (arith, v_low g (goal.at.is_marked-requires-else-index-end g c).After-look-v, c.index-child.ensures.value)
+pub is_entered-requires-else-index-end : goal.is_entered-requires-else-index-end
+is_entered-requires-else-index-end g c =
+    omega (arith, v_low g (goal.at.is_entered-requires-else-index-end g c).After-look-v, c.index-child.ensures.value)
 
-pub mark-requires-then-not-is_marked : goal.mark-requires-then-not-is_marked
-mark-requires-then-not-is_marked g c =
-    omega (arith, v_low g (goal.at.mark-requires-then-not-is_marked g c).After-look-v, c.index-child.ensures.value)
+pub enter-requires-then-not-is_entered : goal.enter-requires-then-not-is_entered
+enter-requires-then-not-is_entered g c =
+    omega (arith, v_low g (goal.at.enter-requires-then-not-is_entered g c).After-look-v, c.index-child.ensures.value)
 
-pub put-requires-then-not-is_marked : goal.put-requires-then-not-is_marked
-put-requires-then-not-is_marked g c =
-    let at = goal.at.put-requires-then-not-is_marked g c in
-    omega (arith, room g at.Then-not-is_marked, c.steps.invariant.sizes.stack_fits)
+pub put_node-requires-then-not-is_entered : goal.put_node-requires-then-not-is_entered
+put_node-requires-then-not-is_entered g c =
+    let low = room g (goal.at.put_node-requires-then-not-is_entered g c).Then-not-is_entered in
+    rw c.enter-then-not-is_entered.ensures (omega (arith, low, c.steps.invariant.sizes.sized.nodes_are))
 
-pub put_edge-requires : goal.put_edge-requires
-put_edge-requires g c =
-    omega (arith, room g (goal.at.put_edge-requires g c).Then-not-is_marked, c.steps.invariant.sizes.cursors_fit)
+pub put_cursor-requires : goal.put_cursor-requires
+put_cursor-requires g c =
+    let low = room g (goal.at.put_cursor-requires g c).Then-not-is_entered in
+    rw (c.put_node-then-not-is_entered.ensures, c.enter-then-not-is_entered.ensures)
+    (omega (arith, low, c.steps.invariant.sizes.sized.cursors_are))
 
 pub overflow_add-len : goal.overflow_add-len
 overflow_add-len g c =
-    let h : c.steps.len + 1 < length c.steps.discovered =
-    room g (goal.at.overflow_add-len g c).Then-not-is_marked in
+    let h : c.steps.len + 1 < c.args.work.now.size =
+    room g (goal.at.overflow_add-len g c).Then-not-is_entered in
     search rules
 
-pub steps-smaller-then-not-is_marked : goal.steps-smaller-then-not-is_marked
-steps-smaller-then-not-is_marked g c =
-    omega (arith, looked g (goal.at.steps-smaller-then-not-is_marked g c).After-look-v, c.look-v.ensures.counted)
+pub steps-smaller-then-not-is_entered : goal.steps-smaller-then-not-is_entered
+steps-smaller-then-not-is_entered g c =
+    omega (arith, looked g (goal.at.steps-smaller-then-not-is_entered g c).After-look-v, c.look-v.ensures.counted)
 
-pub steps-preserved-then-not-is_marked : goal.steps-preserved-then-not-is_marked
-steps-preserved-then-not-is_marked g c =
-    let at = goal.at.steps-preserved-then-not-is_marked g c in
-    let unseen : get_or c.steps.discovered (g.Ix.IndexType.number c.look-v.result.0) false ≡ false = cc in
+pub steps-preserved-then-not-is_entered : goal.steps-preserved-then-not-is_entered
+steps-preserved-then-not-is_entered g c =
+    let at = goal.at.steps-preserved-then-not-is_entered g c in
+    let unseen : get_or c.steps.work.entered (g.Ix.IndexType.number c.look-v.result.0) false ≡ false = cc in
     let s =
     steps_in c.node_bound-bound.ensures.well_formed c.steps.invariant (here g at.After-look-v) c.look-v.ensures.gives
     c.look-v.ensures.same c.look-v.ensures.counted c.index-child.ensures.value unseen
-    c.first-e-then-not-is_marked.ensures in
-    rw (c.put-then-not-is_marked.ensures, c.put_edge.ensures, c.mark-then-not-is_marked.ensures) s
+    c.first-e-then-not-is_entered.ensures in
+    rw (
+      c.put_cursor.ensures,
+      c.of_edge.ensures,
+      c.put_node-then-not-is_entered.ensures,
+      c.of_node-then-not-is_entered.ensures,
+      c.enter-then-not-is_entered.ensures,
+    ) s
 
 pub steps-smaller : goal.steps-smaller
 steps-smaller g c =
@@ -154,27 +163,27 @@ steps-smaller g c =
 pub steps-preserved : goal.steps-preserved
 steps-preserved g c =
     let at = goal.at.steps-preserved g c in
-    let seen : get_or c.steps.finished (g.Ix.IndexType.number c.look-v.result.0) false ≡ true = cc in
+    let seen : get_or c.steps.work.marked (g.Ix.IndexType.number c.look-v.result.0) false ≡ true = cc in
     steps_over c.node_bound-bound.ensures.well_formed c.steps.invariant (here g at.After-look-v) c.look-v.ensures.gives
     c.look-v.ensures.same c.look-v.ensures.counted seen
 
-pub returns-else-is_marked-2-clause-cyclic : goal.returns-else-is_marked-2-clause-cyclic
-returns-else-is_marked-2-clause-cyclic g c =
-    let at = goal.at.returns-else-is_marked-2-clause-cyclic g c in
-    let seen : get_or c.steps.discovered (g.Ix.IndexType.number c.look-v.result.0) false ≡ true = cc in
-    let unleft : get_or c.steps.finished (g.Ix.IndexType.number c.look-v.result.0) false ≡ false = cc in
+pub returns-else-is_marked-clause-cyclic : goal.returns-else-is_marked-clause-cyclic
+returns-else-is_marked-clause-cyclic g c =
+    let at = goal.at.returns-else-is_marked-clause-cyclic g c in
+    let seen : get_or c.steps.work.entered (g.Ix.IndexType.number c.look-v.result.0) false ≡ true = cc in
+    let unleft : get_or c.steps.work.marked (g.Ix.IndexType.number c.look-v.result.0) false ≡ false = cc in
     way_round c.node_bound-bound.ensures.well_formed c.steps.invariant (here g at.After-look-v)
     c.look-v.ensures.gives seen unleft
 
-pub returns-else-is_marked-2-clause-counted : goal.returns-else-is_marked-2-clause-counted
-returns-else-is_marked-2-clause-counted g c =
-    looked g (goal.at.returns-else-is_marked-2-clause-counted g c).After-look-v
+pub returns-else-is_marked-clause-counted : goal.returns-else-is_marked-clause-counted
+returns-else-is_marked-clause-counted g c =
+    looked g (goal.at.returns-else-is_marked-clause-counted g c).After-look-v
 
 pub roots-preserved : goal.roots-preserved
 roots-preserved g c =
     let at_end : g.Ix.IndexType.number c.steps.e ≡ g.Ix.IndexType.greatest = cc in
     let w = c.node_bound-bound.ensures.well_formed in
-    rw (c.mark-then-index-end.ensures, c.put.ensures) (walked w c.steps.invariant at_end
+    rw (c.put_node.ensures, c.of_node.ensures, c.mark.ensures) (walked w c.steps.invariant at_end
     c.index-then-index-end.ensures.value (free g (goal.at.roots-preserved g c).Then-index-end) c.if-len-eq0.true)
 
 pub returns-clause-sorted : goal.returns-clause-sorted

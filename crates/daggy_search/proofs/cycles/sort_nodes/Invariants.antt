@@ -1,4 +1,4 @@
-use Rattle.std.proofs.Common.{◌+◌, ◌-◌, ◌*◌, length}
+use Rattle.std.proofs.Common.{◌+◌, ◌-◌, ◌*◌}
 use Rattle.daggy_base.specs.Graph.{edge_count}
 use Rattle.daggy_search.proofs.SortNodesState.{Resting, Walking}
 use Rattle.daggy_search.proofs.cycles.sort_nodes.Given as goal
@@ -7,15 +7,11 @@ abbrev pub invariant-roots : goal.invariant-roots
 invariant-roots g l =
     Resting g.Ix.IndexType.greatest record {
       graph = g.S.EdgeSource.graph l.fn.source;
-      discovered = length l.fn.discovered;
-      finished = length l.fn.finished;
+      size = l.fn.work.size;
       looks = g.S.EdgeSource.looks l.fn.source;
     } l.i record {
       graph = g.S.EdgeSource.graph l.source;
-      discovered = l.discovered;
-      finished = l.finished;
-      stack = l.stack;
-      cursors = l.cursors;
+      work = l.work;
       top = l.top;
       looks = g.S.EdgeSource.looks l.source;
     }
@@ -24,15 +20,11 @@ abbrev pub invariant-steps : goal.invariant-steps
 invariant-steps g l =
     Walking g.Ix.IndexType.greatest record {
       graph = g.S.EdgeSource.graph l.fn.source;
-      discovered = length l.fn.discovered;
-      finished = length l.fn.finished;
+      size = l.fn.work.size;
       looks = g.S.EdgeSource.looks l.fn.source;
     } (l.i + 1) record {
       graph = g.S.EdgeSource.graph l.source;
-      discovered = l.discovered;
-      finished = l.finished;
-      stack = l.stack;
-      cursors = l.cursors;
+      work = l.work;
       top = l.top;
       looks = g.S.EdgeSource.looks l.source;
     } record {

@@ -7,5 +7,5 @@ abbrev pub invariant-nodes : goal.invariant-nodes
 invariant-nodes g l =
     (l.links.labels ≡ l.fn.links.labels)
     × ((before behind : List ℕ) → l.fn.links.nodes ≡ before ++ l.fn.a ∷ behind
-    → ((n : ℕ) → Contains l.nodes n → Contains before n)
-    → Moving l.fn.a l.at (take l.i l.nodes) before behind l.links.nodes)
+    → ((n : ℕ) → Contains (take l.count l.work.nodes) n → Contains before n)
+    → Moving l.fn.a l.at (take l.i (take l.count l.work.nodes)) before behind l.links.nodes)

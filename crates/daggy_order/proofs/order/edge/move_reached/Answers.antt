@@ -1,9 +1,7 @@
-use Rattle.std.proofs.Common.{◌≡◌, ◌+◌, ◌<◌, ◌≤◌, ◌↔◌, ℕ, ◌∙◌, sym, ap, subst, arith, inl, inr, false}
-use Rattle.std.proofs.Common.{length, get_or, take, replicate}
+use Rattle.std.proofs.Common.{◌≡◌, ◌+◌, ◌<◌, ◌≤◌, ◌↔◌, ℕ, ◌∙◌, sym, ap, subst, arith, inl, inr}
+use Rattle.std.proofs.Common.{get_or, take}
 use Rattle.std.specs.List.{Contains}
-use Rattle.std.proofs.lemmas.Bool.{cases_lt}
 use Rattle.std.proofs.lemmas.Option.{none-some}
-use Rattle.std.proofs.lemmas.List.{get_or-replicate, get_or_past, length-replicate}
 use Rattle.daggy_base.specs.Path.{Reaches}
 use Rattle.daggy_base.specs.Ordered.{place, stretch, edges_from}
 use Rattle.daggy_order.specs.Links.{Stored, IsLabelled, IsMoved, StandBefore}
@@ -57,7 +55,7 @@ counted g c s is =
 exact : (g : Over) (c : In-Some g)
     → c.label-limit.result ≡ get_or c.list.inside.links.labels (g.Ix.IndexType.number c.args.a) 0
     → (n : ℕ)
-    → Contains (take c.in-Some.count c.reaches_below.new.found) n
+    → Contains (take c.in-Some.count c.reaches_below.new.work.nodes) n
     ↔ (
     Reaches (g.S.EdgeSource.graph c.args.source.now) (g.Ix.IndexType.number c.args.b) n
     × (
@@ -99,14 +97,6 @@ reaches_below-requires-clause-before g c =
     let at = (goal.at.reaches_below-requires-clause-before g c).After-label-limit in
     omega (arith, lower g at, limit_is g at)
 
-pub reaches_below-requires-clause-cleared : goal.reaches_below-requires-clause-cleared
-reaches_below-requires-clause-cleared g c n =
-    let count : ℕ = length c.scratch.inside.marks in
-    ap (λ z. get_or z n false) c.clear.ensures ∙ elim (cases_lt n count) [
-      | inl within ↦ get_or-replicate count n false false within
-      | inr past ↦ get_or_past (replicate count false) n false (omega (arith, past, length-replicate count false))
-    ]
-
 pub returns-in_default-clause-counted : goal.returns-in_default-clause-counted
 returns-in_default-clause-counted g c =
     let at = goal.at.returns-in_default-clause-counted g c in
@@ -117,17 +107,17 @@ move_after-requires-clause-stand g c =
     let at = goal.at.move_after-requires-clause-stand g c in
     let w = c.contains_node-exists.ensures.well_formed in
     let P : ℕ → Type 0 = λ z.
-    StandBefore c.args.list.now.nodes z (take c.in-Some.count c.reaches_below.new.found) in
+    StandBefore c.args.list.now.nodes z (take c.in-Some.count c.reaches_below.new.work.nodes) in
     subst P (sym c.of_node.ensures) (found_before w c.requires.ordered (labelled g at.After-label-limit) _ _
     c.requires.parent c.requires.child _ (exact g at.In-Some (limit_is g at.After-label-limit)))
 
 -- the list after the move
 module _ (g : Over) (c : After-move_after g) where
-  moved : IsMoved (g.Ix.IndexType.number c.args.a) (take c.in-Some.count c.reaches_below.new.found)
+  moved : IsMoved (g.Ix.IndexType.number c.args.a) (take c.in-Some.count c.reaches_below.new.work.nodes)
       c.args.list.now.nodes c.move_after.new.self.nodes
   moved =
       let P : ℕ → Type 0 = λ z.
-      IsMoved z (take c.in-Some.count c.reaches_below.new.found) c.args.list.now.nodes c.move_after.new.self.nodes in
+      IsMoved z (take c.in-Some.count c.reaches_below.new.work.nodes) c.args.list.now.nodes c.move_after.new.self.nodes in
       subst P c.of_node.ensures c.move_after.ensures.moved
 
   missed : Reaches (g.S.EdgeSource.graph c.args.source.now) (g.Ix.IndexType.number c.args.b)

@@ -1,36 +1,45 @@
-use Rattle.std.proofs.Common.{rules, ◌≡◌, ◌≢◌, ◌+◌, ◌-◌, ◌<◌, ◌≤◌, ◌∙◌, sym, ap, refl, arith, inl, inr, false, true}
-use Rattle.std.proofs.Common.{◌↔◌, length, get_or, take, subst, ℕ}
+use Rattle.std.proofs.Common.{rules, ◌≡◌, ◌≢◌, ◌+◌, ◌<◌, ◌≤◌, ◌∙◌, sym, ap, refl, arith, inl, inr, false, true}
+use Rattle.std.proofs.Common.{◌↔◌, length, get_or, set, take, [], subst, ℕ}
 use Rattle.std.proofs.lemmas.Option.{none-some}
+use Rattle.std.proofs.lemmas.List.{drop_all, length-take-le}
 use Rattle.daggy_base.proofs.Lists.{contains_mem, mem_contains}
 use Rattle.daggy_base.proofs.Sorted.{distinct_from_unique}
 use Rattle.daggy_base.specs.Graph.{out_list, edge_count}
 use Rattle.daggy_base.specs.Path.{Reaches}
 use Rattle.daggy_base.specs.Cursor.{first_of}
 use Rattle.daggy_base.proofs.OutEdgesRead.{below_bound}
-use Rattle.daggy_search.proofs.SearchState.{Reading, starts, edge_here, popped_here, child_low, room_here, child_found}
-use Rattle.daggy_search.proofs.SearchState.{moves_on, pushes, looked_once, room_marks}
+use Rattle.daggy_search.proofs.SearchState.{Reading, starts, edge_here, child_low, child_found}
+use Rattle.daggy_search.proofs.SearchState.{moves_on, puts, reads_next, looked_once}
+use Rattle.daggy_search.proofs.Sized.{sized_put_node}
 use Rattle.daggy_order.proofs.BoundedSearch.{Below, Beyond, finds_first, finds_room, finds_more, few_below}
+use Rattle.daggy_order.proofs.BoundedSearch.{none_waits, first_waits, one_waits}
 use Rattle.daggy_order.proofs.BoundedSearch.{looked_below, IsOver, missed, exactly, child_placed}
 use Rattle.daggy_order.proofs.order.search.reaches_below.Given.{Over}
-use Rattle.daggy_order.proofs.order.search.reaches_below.Goals.{Start, Then-len-eq0, After-look-v, Then-not-is_marked}
+use Rattle.daggy_order.proofs.order.search.reaches_below.Goals.{Start, At-steps, Then-head-count, After-look-v, Then-not-is_entered}
 use Rattle.daggy_order.proofs.order.search.reaches_below.Goals as goal
 
 -- the first node is within the lists
-from_low : (g : Over) (c : Start g) → g.Ix.IndexType.number c.args.from < length c.args.marks.now
+from_low : (g : Over) (c : Start g) → g.Ix.IndexType.number c.args.from < c.args.work.now.size
 from_low g c =
     omega (
       arith,
       below_bound (g.S.EdgeSource.graph c.args.source.now).nodes (g.Ix.IndexType.number c.args.from) c.requires.exists,
-      c.requires.marks_fit,
+      c.requires.fits,
     )
 
+-- the places of the nodes that were found
+in_use : (g : Over) (c : At-steps g) → c.steps.count ≤ length c.steps.work.nodes
+in_use g c =
+    let sized = c.steps.invariant.0.sized in
+    omega (arith, c.steps.invariant.1.fits, sized.entered_are, sized.nodes_are)
+
 -- at the end all nodes are met that from reaches and that are lower than the limit, and to is not met
-ended : (g : Over) (c : Then-len-eq0 g)
+ended : (g : Over) (c : Then-head-count g)
     → (Reaches (g.S.EdgeSource.graph c.args.source.now) (g.Ix.IndexType.number c.args.from)
     (g.Ix.IndexType.number c.args.to) → ⊥)
     × (
     (n : ℕ)
-    → (get_or c.steps.marks n false ≡ true)
+    → (get_or c.steps.work.entered n false ≡ true)
     ↔ (
     Reaches (g.S.EdgeSource.graph c.args.source.now) (g.Ix.IndexType.number c.args.from) n
     × (get_or c.args.links.now.labels n 0 < c.args.limit)
@@ -38,12 +47,16 @@ ended : (g : Over) (c : Then-len-eq0 g)
     )
 ended g c =
     let at_end : g.Ix.IndexType.number c.steps.e ≡ g.Ix.IndexType.greatest = cc in
+    let sized = c.steps.invariant.0.sized in
+    let long =
+    length-take-le c.steps.count c.steps.work.nodes
+    (omega (arith, c.steps.invariant.1.fits, sized.entered_are, sized.nodes_are)) in
     let over : IsOver g.Ix.IndexType.greatest _ _ c.args.links.now.labels c.args.limit (g.Ix.IndexType.number c.args.to) =
     record {
       ascending = c.requires.ascending;
       so_far = c.steps.invariant.0;
       ended = at_end;
-      empty = c.if-len-eq0.true;
+      empty = drop_all (c.steps.head + 1) (take c.steps.count c.steps.work.nodes) (omega (arith, c.if-head-count.true, long));
       limit_is = c.requires.limit_is;
     } in
     (missed c.requires.well_formed over, exactly c.requires.well_formed over)
@@ -58,7 +71,7 @@ looked : (g : Over) (c : After-look-v g)
 looked g c = looked_once c.requires.well_formed c.steps.invariant.0 (here g c) c.look-v.ensures.counted
 
 -- the child is within the lists
-v_low : (g : Over) (c : After-look-v g) → g.Ix.IndexType.number c.look-v.result.0 < length c.steps.marks
+v_low : (g : Over) (c : After-look-v g) → g.Ix.IndexType.number c.look-v.result.0 < length c.steps.work.entered
 v_low g c = child_low c.requires.well_formed c.steps.invariant.0 (here g c) c.look-v.ensures.gives
 
 v_placed : (g : Over) (c : After-look-v g) → g.Ix.IndexType.number c.look-v.result.0 < length c.args.links.now.labels
@@ -67,76 +80,114 @@ v_placed g c =
     c.requires.placed (here g c) c.look-v.ensures.gives
 
 -- the child has no mark yet
-unseen : (g : Over) (c : Then-not-is_marked g)
-    → get_or c.steps.marks (g.Ix.IndexType.number c.look-v.result.0) false ≡ false
+unseen : (g : Over) (c : Then-not-is_entered g)
+    → get_or c.steps.work.entered (g.Ix.IndexType.number c.look-v.result.0) false ≡ false
 unseen g c = cc
 
-pub mark-requires : goal.mark-requires
-mark-requires g c =
-    let at = goal.at.mark-requires g c in omega (arith, from_low g at.Start, c.index.ensures.value)
+-- the list of the nodes that are found is long enough
+capacity : (g : Over) (c : After-look-v g) → length c.steps.work.entered ≤ length c.steps.work.nodes
+capacity g c = omega (arith, c.steps.invariant.0.sized.entered_are, c.steps.invariant.0.sized.nodes_are)
 
-pub write-requires : goal.write-requires
-write-requires g c =
-    let at = goal.at.write-requires g c in omega (arith, from_low g at.Start, c.requires.found_fits)
+-- one more has room
+room : (g : Over) (c : Then-not-is_entered g) → c.steps.count < c.args.work.now.size
+room g c =
+    let s = c.steps.invariant.0 in
+    let low : g.Ix.IndexType.number c.look-v.result.0 < length c.steps.work.entered =
+    child_low c.requires.well_formed s (λ h. c.if-index-end.false cc) c.look-v.ensures.gives in
+    omega (
+      arith,
+      finds_room c.steps.invariant.1 (omega (arith, s.sized.entered_are, s.sized.nodes_are)) _ low (unseen g c),
+      s.sized.entered_are,
+    )
+
+pub enter-requires : goal.enter-requires
+enter-requires g c =
+    let at = goal.at.enter-requires g c in
+    omega (arith, from_low g at.Start, c.index.ensures.value, c.begin.ensures.sized.entered_are)
+
+pub put_node-requires : goal.put_node-requires
+put_node-requires g c =
+    let at = goal.at.put_node-requires g c in
+    rw c.enter.ensures (omega (arith, from_low g at.Start, c.begin.ensures.sized.nodes_are))
 
 pub steps-init : goal.steps-init
 steps-init g c =
     let at = goal.at.steps-init g c in
+    let sized = c.begin.ensures.sized in
+    let work = c.begin.new.self in
+    let cleared = c.begin.ensures.cleared in
     let found =
-    finds_first c.args.marks.now c.args.found.now
-    c.requires.cleared (from_low g at.Start) c.requires.found_fits c.index.ensures.value c.of_node.ensures in
+    finds_first work.entered work.nodes cleared.none_entered (omega (arith, from_low g at.Start, sized.entered_are))
+    (omega (arith, sized.entered_are, sized.nodes_are)) c.index.ensures.value c.of_node.ensures in
     let now : Reading _ _ = record {
       graph = g.S.EdgeSource.graph c.args.source.now;
-      marks = c.args.marks.now;
-      stack = c.args.stack.now;
-      len = 0;
+      work = record work { nodes = set work.nodes 0 c.of_node.result };
+      waiting = [];
       edge = g.Ix.IndexType.number c.first-e.result;
       looks = g.S.EdgeSource.looks c.args.source.now;
     } in (
-      rw c.mark.ensures (starts now c.requires.well_formed {Keep = Below c.args.links.now.labels c.args.limit}
+      rw (c.put_node.ensures, c.enter.ensures, none_waits (set work.nodes 0 c.of_node.result)) (starts now c.requires.well_formed
+          {Keep = Below c.args.links.now.labels c.args.limit}
           {Skip = Beyond c.args.links.now.labels c.args.limit (g.Ix.IndexType.number c.args.to)} c.requires.exists
-          c.requires.cleared c.requires.before c.requires.marks_fit c.requires.stack_fits c.index.ensures.value
-          c.first-e.ensures),
-      rw (c.mark.ensures, c.write.ensures) found,
+          (record { none_entered = cleared.none_entered; none_marked = cleared.none_marked }) c.requires.before
+          c.requires.fits (sized_put_node sized 0 c.of_node.result) c.index.ensures.value c.first-e.ensures),
+      rw (c.put_node.ensures, c.enter.ensures) found,
+      omega arith,
     )
 
-pub returns-then-len-eq0-clause-decided : goal.returns-then-len-eq0-clause-decided
-returns-then-len-eq0-clause-decided g c =
-    let at = goal.at.returns-then-len-eq0-clause-decided g c in
-    (λ h. absurd (none-some c.steps.count (sym h)), λ r. absurd ((ended g at.Then-len-eq0).0 r))
+pub returns-then-head-count-clause-decided : goal.returns-then-head-count-clause-decided
+returns-then-head-count-clause-decided g c =
+    let at = goal.at.returns-then-head-count-clause-decided g c in
+    (λ h. absurd (none-some c.steps.count (sym h)), λ r. absurd ((ended g at.Then-head-count).0 r))
 
-pub returns-then-len-eq0-clause-found : goal.returns-then-len-eq0-clause-found
-returns-then-len-eq0-clause-found g c =
+pub returns-then-head-count-clause-found : goal.returns-then-head-count-clause-found
+returns-then-head-count-clause-found g c =
     let f = c.steps.invariant.1 in
-    let is = (ended g (goal.at.returns-then-len-eq0-clause-found g c).Then-len-eq0).1 in (
-      omega (arith, f.fits, f.capacity),
+    let is = (ended g (goal.at.returns-then-head-count-clause-found g c).Then-head-count).1 in (
+      in_use g (goal.at.returns-then-head-count-clause-found g c).At-steps,
       (
-        distinct_from_unique (take c.steps.count c.steps.found) f.once,
+        distinct_from_unique (take c.steps.count c.steps.work.nodes) f.once,
         λ n. (
-          λ h. (is n).0 ((f.exact n).1 (contains_mem (take c.steps.count c.steps.found) n h)),
-          λ h. mem_contains (take c.steps.count c.steps.found) n ((f.exact n).0 ((is n).1 h)),
+          λ h. (is n).0 ((f.exact n).1 (contains_mem (take c.steps.count c.steps.work.nodes) n h)),
+          λ h. mem_contains (take c.steps.count c.steps.work.nodes) n ((f.exact n).0 ((is n).1 h)),
         ),
       ),
     )
 
-pub offset_bounds-stack-len : goal.offset_bounds-stack-len
-offset_bounds-stack-len g c =
-    let high = c.steps.invariant.0.high in
-    let within : c.steps.len - 1 < length c.steps.stack = omega (arith, high, c.if-len-eq0.false) in
+pub returns-then-head-count-clause-counted : goal.returns-then-head-count-clause-counted
+returns-then-head-count-clause-counted g c =
+    few_below c.requires.well_formed c.args.links.now.labels c.args.limit c.requires.ascending c.steps.invariant.0
+
+pub overflow_add-head : goal.overflow_add-head
+overflow_add-head g c =
+    let h : c.steps.head + 1 ≤ c.args.work.now.size =
+    omega (
+      arith,
+      c.steps.invariant.2,
+      c.steps.invariant.1.fits,
+      c.steps.invariant.0.sized.entered_are,
+    ) in
+    let small = c.begin.ensures.sized.small in
     search rules
 
-pub returns-then-len-eq0-clause-counted : goal.returns-then-len-eq0-clause-counted
-returns-then-len-eq0-clause-counted g c =
-    few_below c.requires.well_formed c.args.links.now.labels c.args.limit c.requires.ascending c.steps.invariant.0
+pub node-requires : goal.node-requires
+node-requires g c =
+    let apart : c.steps.head + 1 ≢ c.steps.count = c.if-head-count.false in
+    omega (arith, c.steps.invariant.2, in_use g (goal.at.node-requires g c).At-steps, apart)
 
 pub steps-preserved-then-index-end : goal.steps-preserved-then-index-end
 steps-preserved-then-index-end g c =
-    let at_end : g.Ix.IndexType.number c.steps.e ≡ g.Ix.IndexType.greatest = cc in (
-      popped_here c.requires.well_formed c.steps.invariant.0 at_end c.if-len-eq0.false refl c.index-stack-len.is
+    let at_end : g.Ix.IndexType.number c.steps.e ≡ g.Ix.IndexType.greatest = cc in
+    let apart : c.steps.head + 1 ≢ c.steps.count = c.if-head-count.false in
+    let low : c.steps.head + 1 < c.steps.count = omega (arith, c.steps.invariant.2, apart) in (
+      reads_next c.requires.well_formed c.steps.invariant.0 at_end c.node.result
+          (first_waits c.steps.work.nodes low (in_use g (goal.at.steps-preserved-then-index-end g c).At-steps)
+          (c.node.ensures c.node.result))
           (c.first-e-then-index-end.ensures
           ∙ ap (λ n. first_of g.Ix.IndexType.greatest (out_list (g.S.EdgeSource.graph c.steps.source) n))
-          c.node.ensures.value),
+          c.node-then-index-end.ensures.value),
       c.steps.invariant.1,
+      low,
     )
 
 pub look-v-requires : goal.look-v-requires
@@ -148,42 +199,23 @@ pub label-requires : goal.label-requires
 label-requires g c =
     omega (arith, v_placed g (goal.at.label-requires g c).After-look-v, c.index-i.ensures.value)
 
-pub is_marked-requires : goal.is_marked-requires
-is_marked-requires g c =
-    omega (arith, v_low g (goal.at.is_marked-requires g c).After-look-v, c.index-i.ensures.value)
+pub is_entered-requires : goal.is_entered-requires
+is_entered-requires g c =
+    omega (arith, v_low g (goal.at.is_entered-requires g c).After-look-v, c.index-i.ensures.value)
 
-pub mark-requires-then-not-is_marked : goal.mark-requires-then-not-is_marked
-mark-requires-then-not-is_marked g c =
-    omega (arith, v_low g (goal.at.mark-requires-then-not-is_marked g c).After-look-v, c.index-i.ensures.value)
+pub enter-requires-then-not-is_entered : goal.enter-requires-then-not-is_entered
+enter-requires-then-not-is_entered g c =
+    omega (arith, v_low g (goal.at.enter-requires-then-not-is_entered g c).After-look-v, c.index-i.ensures.value)
 
-pub write-requires-then-not-is_marked : goal.write-requires-then-not-is_marked
-write-requires-then-not-is_marked g c =
-    let at = goal.at.write-requires-then-not-is_marked g c in
-    room_here c.requires.well_formed c.steps.invariant.0 (here g at.After-look-v) c.look-v.ensures.gives
-    (unseen g at.Then-not-is_marked)
-
-pub write-requires-then-not-is_marked-2 : goal.write-requires-then-not-is_marked-2
-write-requires-then-not-is_marked-2 g c =
-    let at = goal.at.write-requires-then-not-is_marked-2 g c in
-    omega (
-      arith,
-      c.steps.invariant.1.capacity,
-      finds_room c.steps.invariant.1 _ (v_low g at.After-look-v) (unseen g at.Then-not-is_marked),
-    )
+pub put_node-requires-then-not-is_entered : goal.put_node-requires-then-not-is_entered
+put_node-requires-then-not-is_entered g c =
+    let low = room g (goal.at.put_node-requires-then-not-is_entered g c).Then-not-is_entered in
+    rw c.enter-then-not-is_entered.ensures (omega (arith, low, c.steps.invariant.0.sized.nodes_are))
 
 pub overflow_add-count : goal.overflow_add-count
 overflow_add-count g c =
-    let at = goal.at.overflow_add-count g c in
-    let h : c.steps.count < length c.steps.marks =
-    finds_room c.steps.invariant.1 _ (v_low g at.After-look-v) (unseen g at.Then-not-is_marked) in
-    search rules
-
-pub overflow_add-len : goal.overflow_add-len
-overflow_add-len g c =
-    let at = goal.at.overflow_add-len g c in
-    let h : c.steps.len + 1 < length c.steps.marks =
-    room_marks c.requires.well_formed c.steps.invariant.0 (here g at.After-look-v) c.look-v.ensures.gives
-    (unseen g at.Then-not-is_marked) in
+    let h = room g (goal.at.overflow_add-count g c).Then-not-is_entered in
+    let small = c.begin.ensures.sized.small in
     search rules
 
 pub returns-then-i-target-clause-decided : goal.returns-then-i-target-clause-decided
@@ -203,41 +235,53 @@ returns-then-i-target-clause-counted g c =
     looked_below c.requires.well_formed c.args.links.now.labels c.args.limit c.requires.ascending c.steps.invariant.0 ns all
     (here g (goal.at.returns-then-i-target-clause-counted g c).After-look-v) c.look-v.ensures.counted
 
-pub steps-smaller-then-not-is_marked : goal.steps-smaller-then-not-is_marked
-steps-smaller-then-not-is_marked g c =
-    omega (arith, looked g (goal.at.steps-smaller-then-not-is_marked g c).After-look-v, c.look-v.ensures.counted)
+pub steps-smaller-then-not-is_entered : goal.steps-smaller-then-not-is_entered
+steps-smaller-then-not-is_entered g c =
+    omega (arith, looked g (goal.at.steps-smaller-then-not-is_entered g c).After-look-v, c.look-v.ensures.counted)
 
-pub steps-smaller-else-not-is_marked : goal.steps-smaller-else-not-is_marked
-steps-smaller-else-not-is_marked g c =
-    omega (arith, looked g (goal.at.steps-smaller-else-not-is_marked g c).After-look-v, c.look-v.ensures.counted)
+pub steps-smaller-else-not-is_entered : goal.steps-smaller-else-not-is_entered
+steps-smaller-else-not-is_entered g c =
+    omega (arith, looked g (goal.at.steps-smaller-else-not-is_entered g c).After-look-v, c.look-v.ensures.counted)
 
 pub steps-smaller : goal.steps-smaller
 steps-smaller g c =
     omega (arith, looked g (goal.at.steps-smaller g c).After-look-v, c.look-v.ensures.counted)
 
-pub steps-preserved-then-not-is_marked : goal.steps-preserved-then-not-is_marked
-steps-preserved-then-not-is_marked g c =
-    let at = goal.at.steps-preserved-then-not-is_marked g c in
+pub steps-preserved-then-not-is_entered : goal.steps-preserved-then-not-is_entered
+steps-preserved-then-not-is_entered g c =
+    let at = goal.at.steps-preserved-then-not-is_entered g c in
     let low : get_or c.args.links.now.labels (g.Ix.IndexType.number c.look-v.result.0) 0 < c.args.limit =
     rw (← c.index-i.ensures.value) (omega (arith, c.label.ensures, c.if-label-limit.true)) in
-    let s =
-    pushes c.requires.well_formed c.steps.invariant.0 (here g at.After-look-v) c.look-v.ensures.gives
-    c.look-v.ensures.same c.look-v.ensures.counted c.index-i.ensures.value low (unseen g at.Then-not-is_marked) in
+    let s = c.steps.invariant.0 in
+    let v = g.Ix.IndexType.number c.look-v.result.0 in
+    let within : c.steps.count < length c.steps.work.nodes =
+    omega (arith, room g at.Then-not-is_entered, s.sized.nodes_are) in
     let f =
-    finds_more c.steps.invariant.1 _ (v_low g at.After-look-v) (unseen g at.Then-not-is_marked) c.index-i.result
-    c.of_node-then-not-is_marked-2.result c.index-i.ensures.value c.of_node-then-not-is_marked-2.ensures in (
-      rw (c.write-then-not-is_marked.ensures, c.of_node-then-not-is_marked.ensures, c.mark-then-not-is_marked.ensures)
-          s,
-      rw (c.write-then-not-is_marked-2.ensures, c.mark-then-not-is_marked.ensures) f,
+    finds_more c.steps.invariant.1 (capacity g at.After-look-v) v (v_low g at.After-look-v)
+    (unseen g at.Then-not-is_entered) c.index-i.result v c.index-i.ensures.value refl in (
+      rw (
+        c.put_node-then-not-is_entered.ensures,
+        c.of_node-then-not-is_entered.ensures,
+        c.enter-then-not-is_entered.ensures,
+        one_waits c.steps.work.nodes {head = c.steps.head + 1} v (omega (arith, c.steps.invariant.2)) within,
+      ) (puts c.requires.well_formed s (here g at.After-look-v) c.look-v.ensures.gives c.look-v.ensures.same
+          c.look-v.ensures.counted c.index-i.ensures.value low (unseen g at.Then-not-is_entered) c.steps.count),
+      rw (
+        c.put_node-then-not-is_entered.ensures,
+        c.of_node-then-not-is_entered.ensures,
+        c.enter-then-not-is_entered.ensures,
+      ) f,
+      omega (arith, c.steps.invariant.2),
     )
 
-pub steps-preserved-else-not-is_marked : goal.steps-preserved-else-not-is_marked
-steps-preserved-else-not-is_marked g c =
-    let at = goal.at.steps-preserved-else-not-is_marked g c in
-    let seen : get_or c.steps.marks (g.Ix.IndexType.number c.look-v.result.0) false ≡ true = cc in (
+pub steps-preserved-else-not-is_entered : goal.steps-preserved-else-not-is_entered
+steps-preserved-else-not-is_entered g c =
+    let at = goal.at.steps-preserved-else-not-is_entered g c in
+    let seen : get_or c.steps.work.entered (g.Ix.IndexType.number c.look-v.result.0) false ≡ true = cc in (
       moves_on c.requires.well_formed c.steps.invariant.0 (here g at.After-look-v) c.look-v.ensures.gives
           c.look-v.ensures.same c.look-v.ensures.counted (inl seen),
       c.steps.invariant.1,
+      c.steps.invariant.2,
     )
 
 pub steps-preserved : goal.steps-preserved
@@ -250,4 +294,5 @@ steps-preserved g c =
       moves_on c.requires.well_formed c.steps.invariant.0 (here g at.After-look-v) c.look-v.ensures.gives
           c.look-v.ensures.same c.look-v.ensures.counted (inr (high, apart)),
       c.steps.invariant.1,
+      c.steps.invariant.2,
     )

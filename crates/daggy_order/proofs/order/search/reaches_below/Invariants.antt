@@ -1,4 +1,4 @@
-use Rattle.std.proofs.Common.{◌+◌, ◌-◌, ◌*◌, length}
+use Rattle.std.proofs.Common.{◌+◌, ◌-◌, ◌*◌, ◌<◌, drop, take}
 use Rattle.daggy_base.specs.Graph.{edge_count}
 use Rattle.daggy_order.proofs.BoundedSearch.{SearchingBelow, Finding}
 use Rattle.daggy_order.proofs.order.search.reaches_below.Given as goal
@@ -8,20 +8,19 @@ invariant-steps g l =
     SearchingBelow g.Ix.IndexType.greatest l.links.labels l.limit (g.Ix.IndexType.number l.fn.to) record {
       graph = g.S.EdgeSource.graph l.fn.source;
       from = g.Ix.IndexType.number l.fn.from;
-      marks = length l.fn.marks;
+      size = l.fn.work.size;
       looks = g.S.EdgeSource.looks l.fn.source;
     } record {
       graph = g.S.EdgeSource.graph l.source;
-      marks = l.marks;
-      stack = l.stack;
-      len = l.len;
+      work = l.work;
+      waiting = drop (l.head + 1) (take l.count l.work.nodes);
       edge = g.Ix.IndexType.number l.e;
       looks = g.S.EdgeSource.looks l.source;
     }
-    × Finding l.marks l.found (length l.fn.found) l.count
+    × Finding l.work.entered l.work.nodes l.count × (l.head < l.count)
 
 abbrev pub decreases-steps : goal.decreases-steps
 decreases-steps g l =
     2
     * (edge_count (g.S.EdgeSource.graph l.fn.source) + g.S.EdgeSource.looks l.fn.source - g.S.EdgeSource.looks l.source)
-    + l.len
+    + (l.count - l.head)

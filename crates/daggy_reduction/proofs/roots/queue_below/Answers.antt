@@ -1,0 +1,9 @@
+use Rattle.std.proofs.Common.{map, take}
+use Rattle.daggy_reduction.proofs.QueuedRoots.{closure_below}
+use Rattle.daggy_reduction.proofs.roots.queue_below.Goals as goal
+
+pub returns-clause-below : goal.returns-clause-below
+returns-clause-below g c =
+    closure_below (g.S.EdgeSource.graph c.args.source.now) (map g.Ix.IndexType.number c.args.roots.now)
+    (take c.enter_roots-len.result c.enter_roots-len.new.work.nodes) (take c.close.result c.close.new.work.nodes)
+    c.enter_roots-len.ensures.exact c.close.ensures.closed

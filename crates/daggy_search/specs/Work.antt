@@ -1,0 +1,51 @@
+-- The working memory of a search, as it is seen and as it is stored.
+use Rattle.std.specs.Prelude.{◌≡◌, ℕ, ◌+◌, ◌^◌, ◌<◌, ◌≤◌, ◌==◌, ◌||◌, nat_lt, Bool, false, List, length, map, slice_index, slice_index_or}
+use Rattle.daggy_search.specs.declared.worklist.Entry.{Entry}
+
+-- for how many nodes there is memory, whether each was entered and whether it was marked, and a list of nodes with a
+-- cursor for each
+pub record Work : Type 0 where
+  pub size : ℕ
+  pub entered : List Bool
+  pub marked : List Bool
+  pub nodes : List ℕ
+  pub cursors : List ℕ
+
+-- it has so many of each
+pub record IsSized (size : ℕ) (work : Work) : Type 0 where
+  pub size_is : work.size ≡ size
+  pub entered_are : length work.entered ≡ size
+  pub marked_are : length work.marked ≡ size
+  pub nodes_are : length work.nodes ≡ size
+  pub cursors_are : length work.cursors ≡ size
+  pub small : size < 2 ^ 64
+
+-- nothing was entered or marked
+pub record IsCleared (work : Work) : Type 0 where
+  pub none_entered : (n : ℕ) → slice_index_or work.entered n false ≡ false
+  pub none_marked : (n : ℕ) → slice_index_or work.marked n false ≡ false
+
+-- whether a stamp says so in a round
+abbrev pub has_entered : (round stamp : ℕ) → Bool
+has_entered round stamp = nat_lt (round + 1) stamp
+
+abbrev pub has_marked : (round stamp : ℕ) → Bool
+has_marked round stamp = (stamp == round + 1) || (stamp == round + 3)
+
+-- no stamp is above the top one
+abbrev pub AreLow : (top : ℕ) → List ℕ → Type 0
+AreLow top stamps = (n : ℕ) → slice_index stamps n ≤ top
+
+-- what is stored at first
+abbrev pub blank : {I : Type 0} → (end : ℕ) → Entry I
+blank end = record { stamp = 0; node = end; cursor = end }
+
+-- what is stored, field by field
+abbrev pub stamps_of : {I : Type 0} → List (Entry I) → List ℕ
+stamps_of entries = map (λ e. e.stamp) entries
+
+abbrev pub nodes_of : {I : Type 0} → List (Entry I) → List ℕ
+nodes_of entries = map (λ e. e.node) entries
+
+abbrev pub cursors_of : {I : Type 0} → List (Entry I) → List ℕ
+cursors_of entries = map (λ e. e.cursor) entries
