@@ -27,6 +27,14 @@ plain x = record { parent = x.parent; child = x.child; weight = x.weight }
 abbrev pub plain_edge : {E Ix : Type 0} → Edge E Ix → Option (PlainEdge E)
 plain_edge x = Some (plain x)
 
+-- the node with the weight v, and the same links
+abbrev pub node_with : {N V Ix : Type 0} → Node N Ix → V → Node V Ix
+node_with x v = record { weight = v; first_out = x.first_out; first_in = x.first_in }
+
+-- the edge with the weight v, and the same ends and links
+abbrev pub edge_with : {E V Ix : Type 0} → Edge E Ix → V → Edge V Ix
+edge_with x v = record { weight = v; parent = x.parent; child = x.child; next_out = x.next_out; next_in = x.next_in }
+
 -- the node with e as the first edge of its list of that direction
 abbrev pub with_first : {N Ix : Type 0} → Direction → Node N Ix → ℕ → Node N Ix
 with_first Outgoing x e = record x { first_out = e }

@@ -12,8 +12,7 @@ ghost use Rattle.daggy_cells.specs.Fields.{weight_of, plain_edge, with_first, en
 ghost use Rattle.daggy_cells.specs.Fields.{with_end, with_end_renamed, firsts_of, nexts_of};
 ghost use Rattle.daggy_cells.specs.Fields.{ends_of, list_from, with_lists_emptied, KeepsNodes};
 ghost use Rattle.daggy_cells.specs.Fields.{KeepsEdges, IsReady, IsHead, Redirects, Threads};
-ghost use Rattle.daggy_cells.specs.Fields.{order_at};
-ghost use Rattle.daggy_cells.specs.MappedCells.{node_with, edge_with};
+ghost use Rattle.daggy_cells.specs.Fields.{order_at, node_with, edge_with};
 
 use crate::cell::{Edge, Node};
 use daggy_base::index::{Direction, EdgeIndex, IndexType};

@@ -1,12 +1,11 @@
-use Rattle.std.proofs.Common.{map, subst, sym}
+use Rattle.std.proofs.Common.{map, subst, sym, ap, ◌∙◌}
 use Rattle.daggy_graph.specs.Stored.{stored_graph}
-use Rattle.daggy_base.specs.Mapping.{IsMapped, weight_in}
-use Rattle.daggy_cells.specs.MappedCells.{MapsCells, node_weight_in, node_with, edge_weight_in, edge_with}
+use Rattle.daggy_base.specs.Mapping.{MapsSlots, IsMapped, weight_in, with_weight}
 use Rattle.daggy_graph.proofs.MappingLemmas.{MapsStored, Stores-mapped, IsMapped-stored}
 use Rattle.daggy_graph.proofs.graph.DiGraph.map.Given.{Over}
 use Rattle.daggy_graph.proofs.graph.DiGraph.map.Goals.{After-map_edges}
 use Rattle.daggy_base.specs.CallsInTurn.{CanCallAtSlots, CanCallAtNodes, CanCallAtEdges}
-use Rattle.daggy_cells.specs.Fields.{weight_of, plain_edge}
+use Rattle.daggy_cells.specs.Fields.{weight_of, plain_edge, firsts_of, nexts_of, ends_of}
 use Rattle.daggy_graph.proofs.graph.DiGraph.map.Goals as goal
 
 -- the new slots are the mapped old ones
@@ -18,11 +17,14 @@ mapped g c =
     let edges' = c.map_edges.new.new.items in
     record {
       for_nodes =
-          subst (λ l. MapsCells (goal.F-step g) g.Ix.IndexType.of node_weight_in node_with c.args.f 0 l nodes')
-          c.as_slice.ensures.value c.map_nodes.ensures;
+          subst (λ l. MapsSlots (goal.F-step g) g.Ix.IndexType.of (λ w. w) (λ w v. v) c.args.f 0 (map weight_of l)
+          (map weight_of nodes')) c.as_slice.ensures.value c.map_nodes.ensures.mapped;
       for_edges =
-          subst (λ l. MapsCells (goal.G-step g) g.Ix.IndexType.of edge_weight_in edge_with c.args.g 0 l edges')
-          c.as_slice-2.ensures.value c.map_edges.ensures;
+          subst (λ l. MapsSlots (goal.G-step g) g.Ix.IndexType.of weight_in with_weight c.args.g 0 (map plain_edge l)
+          (map plain_edge edges')) c.as_slice-2.ensures.value c.map_edges.ensures.mapped;
+      firsts = λ dir. c.map_nodes.ensures.links dir ∙ ap (firsts_of dir) c.as_slice.ensures.value;
+      nexts = λ dir. c.map_edges.ensures.links dir ∙ ap (nexts_of dir) c.as_slice-2.ensures.value;
+      ends = λ dir. c.map_edges.ensures.ends dir ∙ ap (ends_of dir) c.as_slice-2.ensures.value;
     }
 
 pub map_nodes-requires-clause-callable : goal.map_nodes-requires-clause-callable
