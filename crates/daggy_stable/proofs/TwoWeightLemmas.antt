@@ -1,5 +1,5 @@
 -- Another weight in two slots at once.
-use Rattle.std.proofs.Common.{◌≡◌, ℕ, zero, suc, ◌<◌, List, [], ◌∷◌, ◌++◌, map, take, drop, length, get_or, set}
+use Rattle.std.proofs.Common.{◌≡◌, ◌≢◌, ℕ, zero, suc, ◌<◌, List, [], ◌∷◌, ◌++◌, map, take, drop, length, get_or, set}
 use Rattle.std.proofs.Common.{slice_get, Option, Some, None, IsSome, refl, sym, ap, subst, ◌∙◌, arith}
 use Rattle.std.proofs.lemmas.Option.{same_Some, none-some}
 use Rattle.std.specs.Borrow.{MutBor}
@@ -12,7 +12,7 @@ use Rattle.daggy_cells.specs.declared.cell.Node.{Node}
 use Rattle.daggy_cells.specs.declared.cell.Edge.{Edge}
 use Rattle.daggy_base.specs.Calls.{CalledAtTwo}
 use Rattle.daggy_cells.specs.Cells.{changed_at, node_of_weight, edge_of_weight}
-use Rattle.daggy_cells.proofs.CellLemmas.{changed_is_set, length-changed, item_at, refilled, called_at}
+use Rattle.daggy_cells.proofs.CellLemmas.{changed_is_set, length-changed, item_at, refilled, called_at, called_through}
 use Rattle.daggy_base.proofs.MappedSlots.{slot_read}
 use Rattle.daggy_stable.specs.Cells.{node_weight_in, edge_weight_in, with_node_weights, with_edge_weights}
 use Rattle.daggy_stable.specs.Stored.{weight_of, plain_edge, stored_graph, Stores}
@@ -20,21 +20,6 @@ use Rattle.daggy_stable.proofs.Changes.{node_inside}
 use Rattle.daggy_stable.proofs.StoredRemoval.{weight_plain}
 use Rattle.daggy_stable.proofs.Stores.{some_is, edge_within}
 use Rattle.daggy_stable.proofs.StoredWeights.{node_weighed, edge_weighed}
-
--- A call at what two slots hold, which leaves all but the weights as it was. A cell c shows weight c, and put o c is c
--- with o in place of its weight.
-module _ {C W F R : Type 0} (weight : C → Option W) (put : Option W → C → C)
-    (g : Once F (MutBor W × (MutBor W × Unit {0})) (R × (MutBor W × (MutBor W × Unit {0})))) (f : F) where
-  pub called_in_slots : (x y : C) {x' y' : C} {r : R}
-      → CalledAtTwo g f (weight x) (weight y) {S = Option W × Option W} r (λ v w. (Some v, Some w))
-      (weight x', weight y')
-      → x' ≡ put (weight x') x → y' ≡ put (weight y') y
-      → CalledAtTwo g f (weight x) (weight y) {S = C × C} r (λ v w. (put (Some v) x, put (Some w) y)) (x', y')
-  called_in_slots x y {x'} {y'} {r} call x_is y_is =
-      called_at call.first call.second
-      call.first_left call.second_left call.shows.0 call.shows.1 call.called
-      (ap (λ z. (z, y')) x_is ∙ ap (λ z. (put (weight x') x, z)) y_is
-      ∙ ap (λ z. (put z.0 x, put z.1 y)) call.leaves)
 
 pub slot_got : {A B : Type 0} (f : A → Option B) (xs : List A) (i : ℕ) (x : A)
     → slice_get xs i ≡ Some x → slot (map f xs) i ≡ f x
@@ -51,7 +36,25 @@ pub edge_weight_read : {E Ix : Type 0} (edges : List (Edge (Option E) Ix)) (e : 
 edge_weight_read edges e x within is =
     ap (option_map (λ z. z.weight)) (slot_read plain_edge edges e x within is) ∙ weight_plain x
 
-still_some : {A B : Type 0} (f : A → B) (o : Option A) → IsSome o → IsSome (option_map f o)
+-- A call at what two slots hold, which leaves all but the weights as it was. A cell c shows weight c, and put o c is c
+-- with o in place of its weight; read says what is shown at a place of a list.
+module _ {C W F R : Type 0} (weight : C → Option W) (put : Option W → C → C) (read : List C → ℕ → Option W)
+    (got : (xs : List C) (i : ℕ) (x : C) → slice_get xs i ≡ Some x → read xs i ≡ weight x)
+    (g : Once F (MutBor W × (MutBor W × Unit {0})) (R × (MutBor W × (MutBor W × Unit {0})))) (f : F) where
+  pub slots_called : {old new : List C} {a b : ℕ} {x y x' y' : C} {r : R}
+      → a ≢ b → slice_get old a ≡ Some x → slice_get old b ≡ Some y → new ≡ set (set old a x') b y'
+      → CalledAtTwo g f (weight x) (weight y) {S = Option W × Option W} r (λ v w. (Some v, Some w))
+      (weight x', weight y')
+      → x' ≡ put (weight x') x → y' ≡ put (weight y') y
+      → CalledAtTwo g f (read old a) (read old b) r
+      (λ v w. changed_at (put (Some w)) (changed_at (put (Some v)) old a) b) new
+  slots_called {old} {new} {a} {b} {x} {y} {x'} {y'} other x_is y_is new_is call x'_is y'_is =
+      called_through weight (λ v z. put (Some v) z) g f old other x_is y_is new_is (got old a x x_is) (got old b y y_is)
+      (called_at call.first call.second call.first_left call.second_left call.shows.0 call.shows.1 call.called
+      (ap (λ z. (z, y')) x'_is ∙ ap (λ z. (put (weight x') x, z)) y'_is
+      ∙ ap (λ z. (put z.0 x, put z.1 y)) call.leaves))
+
+pub still_some : {A B : Type 0} (f : A → B) (o : Option A) → IsSome o → IsSome (option_map f o)
 still_some f None has = has
 still_some f (Some x) has = refl
 
@@ -146,42 +149,35 @@ module _ {N E Ix : Type 0} {end : ℕ} {nodes : List (Node (Option N) Ix)} {edge
       (edge_weighed once b w y second (y_is ∙ ap (λ k. get_or edges k y) j_is)))
 
 -- what is seen of a state, where it is stored
-module _ {N E Ix : Type 0} {end : ℕ} (nodes : List (Node (Option N) Ix)) (edges : List (Edge (Option E) Ix))
+module _ {N E Ix : Type 0} {end : ℕ} {nodes : List (Node (Option N) Ix)} {edges : List (Edge (Option E) Ix)}
     {node_head edge_head nodes_counted edges_counted : ℕ} (stored : Stores end nodes edges node_head edge_head
-    nodes_counted edges_counted (stored_graph end nodes edges node_head edge_head)) (k : ℕ) (s : State N E)
-    (view : record { graph = stored_graph end nodes edges node_head edge_head; looks = k } ≡ s) (n i : ℕ)
+    nodes_counted edges_counted (stored_graph end nodes edges node_head edge_head)) {k : ℕ} {s : State N E}
+    (view : record { graph = stored_graph end nodes edges node_head edge_head; looks = k } ≡ s) {n i : ℕ}
     (i_is : i ≡ n) where
-  pub node_has : IsSome (node_weight s.graph n) → IsSome (slot (map weight_of nodes) n)
-  node_has has = subst (λ z. IsSome (node_weight z.graph n)) (sym view) has
-
-  pub edge_has : IsSome (edge_at s.graph n) → IsSome (slot (map plain_edge edges) n)
-  edge_has has = subst (λ z. IsSome (edge_at z.graph n)) (sym view) has
-
   pub node_stands : IsSome (node_weight s.graph n) → i < length nodes
-  node_stands has = omega (arith, node_inside stored n (node_has has), i_is)
+  node_stands has =
+      omega (arith, node_inside stored n (subst (λ z. IsSome (node_weight z.graph n)) (sym view) has), i_is)
 
   pub edge_stands : IsSome (edge_at s.graph n) → i < length edges
   edge_stands has =
-      let found = some_is _ (edge_has has) in
+      let found =
+      some_is (slot (map plain_edge edges) n) (subst (λ z. IsSome (edge_at z.graph n)) (sym view) has) in
       omega (arith, edge_within stored n found.0 found.1, i_is)
 
-  pub node_seen : (lent : List (Node (Option N) Ix)) → lent ≡ nodes → node_weight s.graph n ≡ node_weight_in lent i
-  node_seen lent lent_is =
+  pub node_seen : {lent : List (Node (Option N) Ix)} → lent ≡ nodes → node_weight s.graph n ≡ node_weight_in lent i
+  node_seen lent_is =
       ap (λ z. node_weight z.graph n) (sym view) ∙ ap (node_weight_in nodes) (sym i_is)
       ∙ ap (λ l. node_weight_in l i) (sym lent_is)
 
-  pub edge_seen : (lent : List (Edge (Option E) Ix)) → lent ≡ edges → edge_weight s.graph n ≡ edge_weight_in lent i
-  edge_seen lent lent_is =
+  pub edge_seen : {lent : List (Edge (Option E) Ix)} → lent ≡ edges → edge_weight s.graph n ≡ edge_weight_in lent i
+  edge_seen lent_is =
       ap (λ z. edge_weight z.graph n) (sym view) ∙ ap (edge_weight_in edges) (sym i_is)
       ∙ ap (λ l. edge_weight_in l i) (sym lent_is)
 
-  pub node_cell : (x : Node (Option N) Ix)
+  pub node_cell : {x : Node (Option N) Ix}
       → IsSome (node_weight s.graph n) → x ≡ get_or nodes i x → node_weight s.graph n ≡ x.weight
-  node_cell x has is = node_seen nodes refl ∙ slot_read weight_of nodes i x (node_stands has) is
+  node_cell {x} has is = node_seen refl ∙ slot_read weight_of nodes i x (node_stands has) is
 
-  pub edge_cell : (x : Edge (Option E) Ix)
+  pub edge_cell : {x : Edge (Option E) Ix}
       → IsSome (edge_at s.graph n) → x ≡ get_or edges i x → edge_weight s.graph n ≡ x.weight
-  edge_cell x has is = edge_seen edges refl ∙ edge_weight_read edges i x (edge_stands has) is
-
-  pub edge_weighs : IsSome (edge_at s.graph n) → IsSome (edge_weight s.graph n)
-  edge_weighs has = still_some (λ x. x.weight) (edge_at s.graph n) has
+  edge_cell {x} has is = edge_seen refl ∙ edge_weight_read edges i x (edge_stands has) is
