@@ -3,7 +3,7 @@ use Rattle.std.proofs.Common.{◌≡◌, ◌≢◌, ℕ, zero, suc, ◌+◌, ◌
 use Rattle.std.proofs.Common.{Some, None, is_some, slice_get, refl, sym, ap, subst, ◌∙◌, inl, inr, arith, Contains}
 use Rattle.std.specs.List.{count_by}
 use Rattle.std.proofs.lemmas.Bool.{cases_eq, cases_lt}
-use Rattle.std.proofs.lemmas.List.{length-set, length_push, length-take-le}
+use Rattle.std.proofs.lemmas.List.{length-set, length-take-le}
 use Rattle.daggy_base.proofs.Slots.{count_cons}
 use Rattle.std.proofs.lemmas.Option.{slice_get_within, same_Some, none-some}
 use Rattle.std.proofs.lemmas.Map.Made.{Contains-tail}
@@ -12,9 +12,8 @@ use Rattle.daggy_base.specs.Cursor.{first_of, after}
 use Rattle.daggy_base.proofs.OutEdgesRead.{slot_get}
 use Rattle.daggy_base.proofs.FullSlots.{count_full, full_from}
 use Rattle.daggy_cells.specs.Links.{follow, IsLinkedList}
-use Rattle.daggy_base.proofs.Lists.{Contains-nil, Contains-here, Contains-there, slice_get-set_same}
-use Rattle.daggy_base.proofs.Lists.{slice_get-set_other, slice_get-push_new, slice_get-push_other, slice_get-take}
-use Rattle.daggy_base.proofs.Lists.{slice_get-take_past}
+use Rattle.daggy_base.proofs.Lists.{Contains-here, Contains-there, slice_get-set_same, slice_get-set_other}
+use Rattle.daggy_base.proofs.Lists.{slice_get-take, slice_get-take_past}
 use Rattle.daggy_cells.proofs.LinkedLists.{after_here, after_there, row_is, IsLinkedList-tail}
 use Rattle.daggy_cells.proofs.LinkedListChanges.{IsLinkedList-kept}
 use Rattle.daggy_stable.specs.Stored.{IsThreaded}
@@ -122,26 +121,6 @@ module _ {A : Type 0} where
           long = same_length ∙ t.long;
           few = t.few;
         }
-
-    pub made : IsThreaded end slots links head count [] → (x : A) → length slots < end → (links' : List ℕ)
-        → length links' ≡ suc (length slots) → IsThreaded end (slots ++ Some x ∷ []) links' head (suc count) []
-    made t x index_left links' long =
-        record {
-          linked = record { starts = t.linked.starts; distinct = tt; goes_on = λ e p. absurd (Contains-nil e p) };
-          exact = λ i. (λ p. absurd (Contains-nil i p), λ q. absurd (never i q));
-          counted = ap suc t.counted ∙ sym (count_push slots x);
-          long = omega (arith, long, length_push slots (Some x));
-          few = omega (arith, index_left, length_push slots (Some x));
-        }
-      where
-        never : (i : ℕ) → slice_get (slots ++ Some x ∷ []) i ≡ Some None → ⊥
-        never i q =
-            elim (cases_eq i (length slots)) [
-              | inl same ↦
-                  none-some x (sym (same_Some (Some x) None
-                  (sym (slice_get-push_new slots (Some x)) ∙ ap (slice_get (slots ++ Some x ∷ [])) (sym same) ∙ q)))
-              | inr other ↦ Contains-nil i ((t.exact i).1 (sym (slice_get-push_other slots (Some x) i other) ∙ q))
-            ]
 
     pub filled : {v : ℕ} {vs : List ℕ} → IsThreaded end slots links head count (v ∷ vs)
         → (x : A) (links' : List ℕ) (head' : ℕ) → length links' ≡ length links

@@ -3,7 +3,8 @@ use Rattle.daggy_base.specs.Graph.{edge_count}
 use Rattle.daggy_base.specs.Adding.{with_edge}
 use Rattle.daggy_cells.proofs.States.{state_changed}
 use Rattle.daggy_stable.proofs.Stores.{stored_is, Stores-itself, edges_long}
-use Rattle.daggy_stable.proofs.Changes.{IsPutFirst, node_inside, edge_made_code}
+use Rattle.daggy_stable.proofs.Changes.{IsPutFirst, node_inside}
+use Rattle.daggy_stable.proofs.BuiltSlots.{edge_made_code}
 use Rattle.daggy_stable.proofs.stable_graph.StableDiGraph.make_edge.Given.{Over}
 use Rattle.daggy_stable.proofs.stable_graph.StableDiGraph.make_edge.Goals.{After-put_first-x}
 use Rattle.daggy_stable.proofs.stable_graph.StableDiGraph.make_edge.Goals as goal
