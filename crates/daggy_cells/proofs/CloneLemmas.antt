@@ -43,7 +43,8 @@ module _ {A W : Type 0} (is : W → W → Type 0) (weight : A → W) (with : A �
   )
 
   -- slots that show an A are copied, where R says what the copy of a cell may be
-  pub slots_cloned : {C : Type 0} (R : C → C → Type 0) (read : C → Option A) → ((x y : C) → R x y → AreCloned (read x) (read y))
+  pub slots_cloned : {C : Type 0} (R : C → C → Type 0) (read : C → Option A)
+      → ((x y : C) → R x y → AreCloned (read x) (read y))
       → (i : ℕ) (xs ys : List C) → AllZip R xs ys
       → MapsSlots (clone_step is) (λ n. n) weight with tt i (map read xs) (map read ys)
   slots_cloned R read cloned i [] [] z = refl

@@ -1,7 +1,8 @@
 -- How a loop maps the slots in turn.
-use Rattle.std.proofs.Common.{◌≡◌, ◌⊎◌, inl, inr, ℕ, ◌+◌, ◌<◌, ◌≤◌, List, [], ◌∷◌, ◌++◌, map, length, take, drop, get_or, Option, Some}
-use Rattle.std.proofs.Common.{None, refl, sym, ap, subst, ◌∙◌, arith, append-nil, append_assoc}
-use Rattle.std.proofs.lemmas.List.{length_push, length-map, get_or-map, map_push, drop_more, drop_all, take_more, take_all}
+use Rattle.std.proofs.Common.{◌≡◌, ◌⊎◌, inl, inr, ℕ, ◌+◌, ◌<◌, ◌≤◌, List, [], ◌∷◌, ◌++◌, map, length, take, drop}
+use Rattle.std.proofs.Common.{get_or, Option, Some, None, refl, sym, ap, subst, ◌∙◌, arith, append-nil, append_assoc}
+use Rattle.std.proofs.lemmas.List.{length_push, length-map, get_or-map, map_push, drop_more, drop_all, take_more}
+use Rattle.std.proofs.lemmas.List.{take_all}
 use Rattle.std.specs.Borrow.{Bor}
 use Rattle.daggy_base.specs.declared.index.Direction.{Direction}
 use Rattle.daggy_base.specs.Mapping.{CalledAt, MapsSlots}
@@ -98,8 +99,8 @@ module _ {C D X : Type 0} (keep : C → X) (keep' : D → X) where
       → length cells ≤ i → map keep' new ≡ take i (map keep cells) → map keep' new ≡ map keep cells
   kept_all cells new i past kept = kept ∙ take_all i (map keep cells) (omega (arith, past, length-map cells keep))
 
-module _ {F I W V A B C D K : Type 0} (of : ℕ → I) (pre : F → I → Bor W → Type 0) (step : F → I → Bor W → V → F → Type 0)
-    (weight : A → W) (with : A → V → B) (read : C → Option A) (read' : D → Option B) (link : K → C → ℕ)
+module _ {F I W V A B C D K : Type 0} (of : ℕ → I) (pre : F → I → Bor W → Type 0)
+    (step : F → I → Bor W → V → F → Type 0) (weight : A → W) (with : A → V → B) (read : C → Option A) (read' : D → Option B) (link : K → C → ℕ)
     (link' : K → D → ℕ) (first : F) (old : List C) where
   -- the cells below i are mapped, and keep their links
   pub record MappedBelow (f : F) (new : List D) (i : ℕ) : Type 0 where

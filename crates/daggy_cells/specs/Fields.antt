@@ -1,5 +1,6 @@
 -- What stored nodes and edges hold, in their lists.
-use Rattle.std.specs.Prelude.{◌≡◌, ℕ, ◌<◌, ◌≤◌, Option, Some, List, length, map, slice_index, slice_set, Contains}
+use Rattle.std.specs.Prelude.{◌≡◌, ◌==◌, ℕ, ◌<◌, ◌≤◌, Bool, Option, Some, List, length, map, slice_index, slice_set}
+use Rattle.std.specs.Prelude.{Contains}
 use Rattle.daggy_base.specs.Graph.{Graph, Edge as PlainEdge}
 use Rattle.daggy_base.specs.Removal.{renamed}
 use Rattle.daggy_cells.specs.Raw.{raw_first, raw_next}
@@ -79,6 +80,10 @@ nexts_of dir edges = map (raw_next dir) edges
 -- for each edge the end in whose list of that direction it stands
 abbrev pub ends_of : {E Ix : Type 0} → Direction → List (Edge E Ix) → List ℕ
 ends_of dir edges = map (end_at dir) edges
+
+-- whether the e-th edge enters the node n
+abbrev pub enters : {E Ix : Type 0} → List (Edge E Ix) → (n e : ℕ) → Bool
+enters edges n e = slice_index (ends_of Incoming edges) e == n
 
 -- the list that begins with this edge
 abbrev pub list_from : {E Ix : Type 0} → Direction → List (Edge E Ix) → ℕ → List ℕ

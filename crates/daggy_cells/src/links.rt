@@ -1,6 +1,7 @@
 //! The links between stored nodes and edges, and changes to them, for the stores that keep them.
 ghost use Rattle.std.specs.Prelude.{◌≡◌, ◌≢◌, ℕ, ◌<◌, ◌≤◌, ◌↔◌, length, map, slice_get, slice_set};
 ghost use Rattle.std.specs.Prelude.{slice_index, Contains, Some};
+ghost use Rattle.std.specs.List.{find};
 ghost use Rattle.daggy_base.specs.declared.index.Direction.{Direction};
 ghost use Rattle.daggy_base.specs.declared.index.Direction.TheVariants.{Outgoing, Incoming};
 ghost use Rattle.daggy_base.specs.Cursor.{after};
@@ -12,7 +13,8 @@ ghost use Rattle.daggy_cells.specs.Fields.{weight_of, plain_edge, with_first, en
 ghost use Rattle.daggy_cells.specs.Fields.{with_end, with_end_renamed, firsts_of, nexts_of};
 ghost use Rattle.daggy_cells.specs.Fields.{ends_of, list_from, with_lists_emptied, KeepsNodes};
 ghost use Rattle.daggy_cells.specs.Fields.{KeepsEdges, IsReady, IsHead, Redirects, Threads};
-ghost use Rattle.daggy_cells.specs.Fields.{order_at, node_with, edge_with};
+ghost use Rattle.daggy_cells.specs.Fields.{order_at, node_with, edge_with, enters};
+ghost use Rattle.daggy_cells.specs.Rest.{IsOnList};
 
 use crate::cell::{Edge, Node};
 use daggy_base::index::{Direction, EdgeIndex, IndexType};
@@ -206,6 +208,35 @@ fn find_before<E, Ix: IndexType>(
             return e;
         }
         e = next;
+    }
+}
+
+/// The first edge into `child` of the out list that begins with `first`, or `None`.
+///
+/// # Complexity
+///
+/// O(edges of the list).
+#[inline]
+pub fn find_to<E, Ix: IndexType>(
+    edges: &Vec<Edge<E, Ix>>,
+    first: Link<Ix>,
+    child: usize,
+) -> Option<Link<Ix>>
+    requires { IsOnList Ix.greatest Outgoing edges.now.items first }
+    ensures { result
+        ≡ find (enters edges.now.items child) (list_from Outgoing edges.now.items first) }
+{
+    let mut e = first;
+    'along: loop {
+        let i = e.index();
+        if i >= edges.len() {
+            return None;
+        }
+        let x = &edges[i];
+        if end(x, Direction::Incoming).index() == child {
+            return Some(e);
+        }
+        e = next(x, Direction::Outgoing);
     }
 }
 

@@ -1,6 +1,5 @@
 -- What of a stored graph stays where its weights are written.
-use Rattle.std.proofs.Common.{◌≡◌, ℕ, List, map}
-use Rattle.std.proofs.Common.{refl, ◌⊎◌, inl, inr}
+use Rattle.std.proofs.Common.{◌≡◌, ℕ, List, map, refl, ◌⊎◌, inl, inr}
 use Rattle.std.specs.Borrow.{MutBor}
 use Rattle.daggy_base.specs.declared.index.Direction.{Direction}
 use Rattle.daggy_base.specs.declared.index.Direction.TheVariants.{Outgoing, Incoming}

@@ -1,7 +1,6 @@
 -- What of a stored graph stays where its slots are mapped.
-use Rattle.std.proofs.Common.{◌≡◌, ℕ, zero, suc, ◌+◌, ◌↔◌, List, [], ◌∷◌, map, length}
-use Rattle.std.proofs.Common.{Option, Some, None, is_some, slice_get, refl, sym, ap, subst, ◌∙◌, arith}
-use Rattle.std.proofs.Common.{Contains}
+use Rattle.std.proofs.Common.{◌≡◌, ℕ, zero, suc, ◌+◌, ◌↔◌, List, [], ◌∷◌, map, length, Option, Some, None, is_some}
+use Rattle.std.proofs.Common.{slice_get, refl, sym, ap, subst, ◌∙◌, arith, Contains}
 use Rattle.std.proofs.lemmas.Option.{same_Some, none-some}
 use Rattle.std.specs.Borrow.{Bor}
 use Rattle.std.specs.List.{count_by}

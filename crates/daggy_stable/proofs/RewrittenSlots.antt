@@ -1,6 +1,5 @@
 -- What of a stored graph stays where the weights in its slots are written.
-use Rattle.std.proofs.Common.{◌≡◌, ℕ, ◌+◌, List, [], ◌∷◌, map, Option}
-use Rattle.std.proofs.Common.{Some, None, refl, sym, ap}
+use Rattle.std.proofs.Common.{◌≡◌, ℕ, ◌+◌, List, [], ◌∷◌, map, Option, Some, None, refl, sym, ap}
 use Rattle.std.specs.Borrow.{Bor, MutBor}
 use Rattle.daggy_base.specs.declared.index.Direction.{Direction}
 use Rattle.daggy_base.specs.Mapping.{MapsSlots, weight_in, with_weight}

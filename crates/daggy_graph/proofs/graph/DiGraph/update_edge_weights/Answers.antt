@@ -12,11 +12,13 @@ write_edges-requires-clause-callable g c =
 
 pub invariant_of-self : goal.invariant_of-self
 invariant_of-self g c =
-    Stores-edges_rewritten (goal.F-step g) g.Ix.IndexType.of c.args.f _ _ _ c.write_edges.ensures.written c.write_edges.ensures.links c.write_edges.ensures.ends
+    Stores-edges_rewritten (goal.F-step g) g.Ix.IndexType.of c.args.f _ _ _ c.write_edges.ensures.written
+    c.write_edges.ensures.links c.write_edges.ensures.ends
     g.Ix.IndexType.greatest c.self.invariant
 
 pub returns-clause-written : goal.returns-clause-written
 returns-clause-written g c =
     let now = stored_graph c.self.inside.nodes.items c.write_edges.new.edges.items in
     subst (λ s. RewritesEdges g.Ix.IndexType.of (goal.F-step g) c.args.f s.graph now) c.self.view_is
-    (RewritesEdges-stored (goal.F-step g) g.Ix.IndexType.of c.args.f _ _ _ c.write_edges.ensures.written c.write_edges.ensures.links c.write_edges.ensures.ends)
+    (RewritesEdges-stored (goal.F-step g) g.Ix.IndexType.of c.args.f _ _ _ c.write_edges.ensures.written
+    c.write_edges.ensures.links c.write_edges.ensures.ends)

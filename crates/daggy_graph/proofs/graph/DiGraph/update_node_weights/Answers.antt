@@ -12,11 +12,13 @@ write_nodes-requires-clause-callable g c =
 
 pub invariant_of-self : goal.invariant_of-self
 invariant_of-self g c =
-    Stores-nodes_rewritten (goal.F-step g) g.Ix.IndexType.of c.args.f _ _ _ c.write_nodes.ensures.written c.write_nodes.ensures.links
+    Stores-nodes_rewritten (goal.F-step g) g.Ix.IndexType.of c.args.f _ _ _ c.write_nodes.ensures.written
+    c.write_nodes.ensures.links
     g.Ix.IndexType.greatest c.self.invariant
 
 pub returns-clause-written : goal.returns-clause-written
 returns-clause-written g c =
     let now = stored_graph c.write_nodes.new.nodes.items c.self.inside.edges.items in
     subst (λ s. RewritesNodes g.Ix.IndexType.of (goal.F-step g) c.args.f s.graph now) c.self.view_is
-    (RewritesNodes-stored (goal.F-step g) g.Ix.IndexType.of c.args.f _ _ _ c.write_nodes.ensures.written c.write_nodes.ensures.links)
+    (RewritesNodes-stored (goal.F-step g) g.Ix.IndexType.of c.args.f _ _ _ c.write_nodes.ensures.written
+    c.write_nodes.ensures.links)

@@ -7,7 +7,7 @@ use Rattle.daggy_graph.proofs.graph.map.map_nodes.Given as goal
 abbrev pub invariant-each : goal.invariant-each
 invariant-each g l =
     record {
-      below : MappedBelow g.Ix.IndexType.of (goal.F-pre g) (goal.F-step g) (λ w. w) (λ w v. v) weight_of weight_of raw_first raw_first
-          l.fn.f l.nodes l.f l.new.items l.i;
+      below : MappedBelow g.Ix.IndexType.of (goal.F-pre g) (goal.F-step g) (λ w. w) (λ w v. v) weight_of weight_of
+          raw_first raw_first l.fn.f l.nodes l.f l.new.items l.i;
       capacity : length l.nodes ≤ vec_capacity l.new;
     }
