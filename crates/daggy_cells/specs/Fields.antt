@@ -129,6 +129,22 @@ Redirects dir nodes edges old new nodes' edges' =
     Redirected (list_from dir edges (slice_index (firsts_of dir nodes) n)) n old new (firsts_of dir nodes)
     (nexts_of dir edges) (firsts_of dir nodes') (nexts_of dir edges')
 
+-- the first links of a and b lead to the edge e, and the nodes have their weights and their other links
+pub record AreLedTo {N Ix : Type 0} (nodes nodes' : List (Node N Ix)) (a b e : ℕ) : Type 0 where
+  pub weights : map weight_of nodes' ≡ map weight_of nodes
+  pub outs : firsts_of Outgoing nodes' ≡ slice_set (firsts_of Outgoing nodes) a e
+  pub ins : firsts_of Incoming nodes' ≡ slice_set (firsts_of Incoming nodes) b e
+
+-- what is stored of an edge from a to b that goes first in their lists
+abbrev pub edge_put_first : {N E Ix : Type 0} → List (Node N Ix) → (a b : ℕ) → E → Edge E Ix
+edge_put_first nodes a b w = record {
+  weight = w;
+  parent = a;
+  child = b;
+  next_out = slice_index (firsts_of Outgoing nodes) a;
+  next_in = slice_index (firsts_of Incoming nodes) b;
+}
+
 -- what `thread` promises: the list is threaded as that of n
 pub record Threads {N E Ix : Type 0} (end : ℕ) (dir : Direction) (nodes : List (Node N Ix)) (edges : List (Edge E Ix))
     (n : ℕ) (list : List ℕ) (nodes' : List (Node N Ix)) (edges' : List (Edge E Ix)) : Type 0 where

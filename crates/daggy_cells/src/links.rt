@@ -13,7 +13,8 @@ ghost use Rattle.daggy_cells.specs.Fields.{weight_of, plain_edge, with_first, en
 ghost use Rattle.daggy_cells.specs.Fields.{with_end, with_end_renamed, firsts_of, nexts_of};
 ghost use Rattle.daggy_cells.specs.Fields.{ends_of, list_from, with_lists_emptied, KeepsNodes};
 ghost use Rattle.daggy_cells.specs.Fields.{KeepsEdges, IsReady, IsHead, Redirects, Threads};
-ghost use Rattle.daggy_cells.specs.Fields.{order_at, node_with, edge_with, enters};
+ghost use Rattle.daggy_cells.specs.Fields.{order_at, node_with, edge_with, enters, AreLedTo};
+ghost use Rattle.daggy_cells.specs.Fields.{edge_put_first};
 ghost use Rattle.daggy_cells.specs.Rest.{IsOnList};
 
 use crate::cell::{Edge, Node};
@@ -161,19 +162,9 @@ pub fn put_first<N, E, Ix: IndexType>(
 ) -> Edge<E, Ix>
     requires parent { a < length nodes.old.items }
     requires child { b < length nodes.old.items }
-    ensures edge { result ≡ record {
-      weight = weight;
-      parent = a;
-      child = b;
-      next_out = slice_index (firsts_of Outgoing nodes.old.items) a;
-      next_in = slice_index (firsts_of Incoming nodes.old.items) b;
-    } }
+    ensures edge { result ≡ edge_put_first nodes.old.items a b weight }
     ensures len { length nodes.new.items ≡ length nodes.old.items }
-    ensures weights { map weight_of nodes.new.items ≡ map weight_of nodes.old.items }
-    ensures out { firsts_of Outgoing nodes.new.items
-        ≡ slice_set (firsts_of Outgoing nodes.old.items) a e }
-    ensures into { firsts_of Incoming nodes.new.items
-        ≡ slice_set (firsts_of Incoming nodes.old.items) b e }
+    ensures led { AreLedTo nodes.old.items nodes.new.items a b e }
 {
     let u = a.index();
     let v = b.index();

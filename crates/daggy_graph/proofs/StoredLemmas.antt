@@ -16,7 +16,8 @@ use Rattle.daggy_cells.proofs.LinkedListChanges.{rows_are, AreLinkedLists-node, 
 use Rattle.daggy_cells.proofs.LinkedListChanges.{ListsEach-edge}
 use Rattle.daggy_base.proofs.Lists.{map-set_same}
 use Rattle.daggy_base.proofs.MappedSlots.{slot_is}
-use Rattle.daggy_cells.proofs.FieldLemmas.{same_graph, AreLedTo, edge_put_first}
+use Rattle.daggy_cells.proofs.FieldLemmas.{same_graph}
+use Rattle.daggy_cells.specs.Fields.{AreLedTo, edge_put_first}
 
 module _ {N E Ix : Type 0} (end : ℕ) (nodes : List (Node N Ix)) (edges : List (Edge E Ix)) where
   -- what is stored is what the view shows

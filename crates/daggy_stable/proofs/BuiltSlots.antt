@@ -22,7 +22,8 @@ use Rattle.daggy_base.proofs.Lists.{slice_get-push_other}
 use Rattle.daggy_cells.proofs.LinkedLists.{after_here, after_there}
 use Rattle.daggy_cells.proofs.LinkedListChanges.{row_push, linked_within, IsLinkedList-kept, AreLinkedLists-node}
 use Rattle.daggy_cells.proofs.LinkedListChanges.{AreLinkedLists-kept}
-use Rattle.daggy_cells.proofs.FieldLemmas.{firsts_as_many, AreLedTo, edge_put_first}
+use Rattle.daggy_cells.proofs.FieldLemmas.{firsts_as_many}
+use Rattle.daggy_cells.specs.Fields.{AreLedTo, edge_put_first}
 use Rattle.daggy_stable.specs.Stored.{weight_of, plain_edge, shown, list_firsts, end_of, IsThreaded, Stores}
 use Rattle.daggy_base.proofs.SlotLists.{slot_push_new, slot_push_other, none_past, vacant_down_more, of_slots_node}
 use Rattle.daggy_base.proofs.SlotLists.{of_slots_left, of_slots_taken}
