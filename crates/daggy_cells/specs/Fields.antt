@@ -121,13 +121,20 @@ pub record IsHead {N E Ix : Type 0} (dir : Direction) (nodes : List (Node N Ix))
   pub node_is : node ≡ slice_index (ends_of dir edges) e
   pub first_is : first ≡ slice_index (firsts_of dir nodes) (slice_index (ends_of dir edges) e)
 
--- what `redirect` promises
+-- the link to old leads to new
 abbrev pub Redirects : {N E Ix : Type 0}
     → Direction → List (Node N Ix) → List (Edge E Ix) → (old new : ℕ) → List (Node N Ix) → List (Edge E Ix) → Type 0
 Redirects dir nodes edges old new nodes' edges' =
     let n = slice_index (ends_of dir edges) old in
     Redirected (list_from dir edges (slice_index (firsts_of dir nodes) n)) n old new (firsts_of dir nodes)
     (nexts_of dir edges) (firsts_of dir nodes') (nexts_of dir edges')
+
+-- what `redirect` promises: the link to old leads to new, and nothing else changed
+pub record IsRedirected {N E Ix : Type 0} (dir : Direction) (nodes : List (Node N Ix)) (edges : List (Edge E Ix))
+    (old new : ℕ) (nodes' : List (Node N Ix)) (edges' : List (Edge E Ix)) : Type 0 where
+  pub links : Redirects dir nodes edges old new nodes' edges'
+  pub keeps : KeepsNodes dir nodes nodes'
+  pub keeps_edges : KeepsEdges dir edges edges'
 
 -- the first links of a and b lead to the edge e, and the nodes have their weights and their other links
 pub record AreLedTo {N Ix : Type 0} (nodes nodes' : List (Node N Ix)) (a b e : ℕ) : Type 0 where

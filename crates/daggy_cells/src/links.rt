@@ -12,7 +12,7 @@ ghost use Rattle.daggy_cells.specs.Raw.{raw_first, raw_next};
 ghost use Rattle.daggy_cells.specs.Fields.{weight_of, plain_edge, with_first, end_at, with_next};
 ghost use Rattle.daggy_cells.specs.Fields.{with_end, with_end_renamed, firsts_of, nexts_of};
 ghost use Rattle.daggy_cells.specs.Fields.{ends_of, list_from, with_lists_emptied, KeepsNodes};
-ghost use Rattle.daggy_cells.specs.Fields.{KeepsEdges, IsReady, IsHead, Redirects, Threads};
+ghost use Rattle.daggy_cells.specs.Fields.{KeepsEdges, IsReady, IsHead, IsRedirected, Threads};
 ghost use Rattle.daggy_cells.specs.Fields.{order_at, node_with, edge_with, enters, AreLedTo};
 ghost use Rattle.daggy_cells.specs.Fields.{edge_put_first};
 ghost use Rattle.daggy_cells.specs.Rest.{IsOnList};
@@ -292,10 +292,8 @@ pub fn redirect<N, E, Ix: IndexType>(
 )
     requires ready { IsReady Ix.greatest dir nodes.old.items edges.old.items old }
     requires head { IsHead dir nodes.old.items edges.old.items old head.node head.first }
-    ensures links { Redirects dir nodes.old.items edges.old.items old new nodes.new.items
+    ensures { IsRedirected dir nodes.old.items edges.old.items old new nodes.new.items
         edges.new.items }
-    ensures nodes { KeepsNodes dir nodes.old.items nodes.new.items }
-    ensures edges { KeepsEdges dir edges.old.items edges.new.items }
 {
     let first = head.first;
     if first.index() == old.index() {
