@@ -5,22 +5,18 @@ use Rattle.std.specs.List.{count_by}
 use Rattle.std.specs.Option.{option_map}
 use Rattle.std.proofs.lemmas.Bool.{cases_eq}
 use Rattle.std.proofs.lemmas.List.{length_push, length-map, map_push}
-use Rattle.std.proofs.lemmas.Option.{same_Some, none-some}
-use Rattle.std.proofs.lemmas.Map.Made.{Contains-tail}
 use Rattle.daggy_base.specs.declared.index.Direction.{Direction}
 use Rattle.daggy_base.specs.declared.index.Direction.TheVariants.{Outgoing, Incoming}
 use Rattle.daggy_base.specs.Graph.{Graph, Edge as PlainEdge, slot, near_end}
-use Rattle.daggy_base.specs.Cursor.{after}
 use Rattle.daggy_cells.specs.declared.cell.Node.{Node}
 use Rattle.daggy_cells.specs.declared.cell.Edge.{Edge}
 use Rattle.daggy_cells.specs.Links.{nth_list, AreLinkedLists, ListsBy}
 use Rattle.daggy_cells.specs.Raw.{raw_first, raw_next}
 use Rattle.daggy_base.specs.FromSlots.{graph_of_slots, vacant_down}
 use Rattle.daggy_cells.specs.Fields.{firsts_of, nexts_of, lists_at}
-use Rattle.daggy_base.proofs.Lists.{Contains-here, Contains-there, slice_get-push_old, slice_get-push_new}
+use Rattle.daggy_base.proofs.Lists.{slice_get-push_old, slice_get-push_new}
 use Rattle.daggy_base.proofs.Lists.{slice_get-push_other}
-use Rattle.daggy_cells.proofs.LinkedLists.{after_here, after_there}
-use Rattle.daggy_cells.proofs.LinkedListChanges.{row_push, linked_within, IsLinkedList-kept, AreLinkedLists-node}
+use Rattle.daggy_cells.proofs.LinkedListChanges.{row_push, linked_within, AreLinkedLists-node}
 use Rattle.daggy_cells.proofs.LinkedListChanges.{AreLinkedLists-kept}
 use Rattle.daggy_cells.proofs.FieldLemmas.{firsts_as_many}
 use Rattle.daggy_cells.specs.Fields.{AreLedTo, edge_put_first}
@@ -30,7 +26,7 @@ use Rattle.daggy_base.proofs.SlotLists.{of_slots_left, of_slots_taken}
 use Rattle.daggy_stable.proofs.Shown.{shown_push}
 use Rattle.daggy_base.proofs.Slots.{count_cons}
 use Rattle.daggy_base.specs.Adding.{with_node, with_edge}
-use Rattle.daggy_stable.proofs.Slots.{counted_full, count_push, vacant_inside, slot_inside}
+use Rattle.daggy_stable.proofs.Slots.{one_vacant, one_taken, counted_full, count_push, vacant_inside, slot_inside}
 use Rattle.daggy_stable.proofs.Stores.{weights_seen, nodes_long, edges_long, some_is}
 use Rattle.daggy_stable.proofs.Changes.{AreNodes, IsPutFirst, fresh_node, edge_put}
 
@@ -76,62 +72,19 @@ module _ {A : Type 0} where
     pub threaded_taken : (x : A) (l : ℕ)
         → IsThreaded end (slots ++ Some x ∷ []) (links ++ l ∷ []) head (count + 1) vacant
     threaded_taken x l =
-        record {
-          linked = IsLinkedList-kept end links (links ++ l ∷ []) head vacant t.linked (old_link l);
-          exact = λ i. (
-            λ p. slice_get-push_other slots (Some x) i (λ same. omega (arith, same, inside i p)) ∙ (t.exact i).0 p,
-            λ q. elim (cases_eq i (length slots)) [
-              | inl last ↦
-                  absurd (none-some x (sym (same_Some (Some x) None
-                  (sym (slice_get-push_new slots (Some x)) ∙ ap (slice_get (slots ++ Some x ∷ [])) (sym last) ∙ q))))
-              | inr other ↦ (t.exact i).1 (sym (slice_get-push_other slots (Some x) i other) ∙ q)
-            ],
-          );
-          counted = omega (arith, t.counted, count_push slots x);
-          long = as_long (Some x) l;
-          few = omega (arith, index_left, length_push slots (Some x));
-        }
+        one_taken t (length slots) (λ p. omega (arith, inside (length slots) p))
+        (λ i other. slice_get-push_other slots (Some x) i other) (old_link l)
+        (omega (arith, t.counted, count_push slots x)) (as_long (Some x) l)
+        (omega (arith, index_left, length_push slots (Some x))) x (slice_get-push_new slots (Some x))
 
     -- a vacant one
     pub threaded_vacant : IsThreaded end (slots ++ None ∷ []) (links ++ head ∷ []) (length slots) count
         (length slots ∷ vacant)
     threaded_vacant =
-        let e = length slots in
-        record {
-          linked = record {
-            starts = refl;
-            distinct = (λ p. omega (arith, inside e p), t.linked.distinct);
-            goes_on = λ f p.
-                elim (cases_eq e f) [
-                  | inl same ↦
-                      subst (λ z. slice_get (links ++ head ∷ []) z ≡ Some (after end (e ∷ vacant) z)) same
-                      (ap (slice_get (links ++ head ∷ [])) (sym t.long) ∙ slice_get-push_new links head
-                      ∙ ap Some (t.linked.starts ∙ sym (after_here end e vacant)))
-                  | inr other ↦
-                      let there = Contains-tail e vacant f other p in
-                      old_link head f there ∙ t.linked.goes_on f there
-                      ∙ ap Some (sym (after_there end e f vacant other))
-                ];
-          };
-          exact = λ i. (
-            λ p. elim (cases_eq e i) [
-              | inl same ↦
-                  subst (λ z. slice_get (slots ++ None ∷ []) z ≡ Some None) same (slice_get-push_new slots None)
-              | inr other ↦
-                  slice_get-push_other slots None i (λ same. other (sym same))
-                  ∙ (t.exact i).0 (Contains-tail e vacant i other p)
-            ],
-            λ q. elim (cases_eq e i) [
-              | inl same ↦ subst (Contains (e ∷ vacant)) same (Contains-here e vacant)
-              | inr other ↦
-                  Contains-there e i vacant
-                  ((t.exact i).1 (sym (slice_get-push_other slots None i (λ same. other (sym same))) ∙ q))
-            ],
-          );
-          counted = t.counted ∙ sym (count_push_vacant slots);
-          long = as_long None head;
-          few = omega (arith, index_left, length_push slots None);
-        }
+        one_vacant t (length slots) (λ p. omega (arith, inside (length slots) p))
+        (λ i other. slice_get-push_other slots None i other) (old_link head) (t.counted ∙ sym (count_push_vacant slots))
+        (as_long None head) (omega (arith, index_left, length_push slots None)) (slice_get-push_new slots None)
+        (ap (slice_get (links ++ head ∷ [])) (sym t.long) ∙ slice_get-push_new links head)
 
 module _ {N E Ix : Type 0} {end : ℕ} {nodes : List (Node (Option N) Ix)} {edges : List (Edge (Option E) Ix)}
     {node_head edge_head nodes_counted edges_counted : ℕ} {g : Graph N E}

@@ -12,7 +12,7 @@ use Rattle.daggy_cells.specs.declared.cell.Node.{Node}
 use Rattle.daggy_cells.specs.declared.cell.Edge.{Edge}
 use Rattle.daggy_base.specs.Calls.{CalledAtTwo}
 use Rattle.daggy_cells.specs.Cells.{changed_at, node_of_weight, edge_of_weight}
-use Rattle.daggy_cells.proofs.CellLemmas.{changed_is_set, length-changed, item_at, refilled, called_at, called_through}
+use Rattle.daggy_cells.proofs.CellLemmas.{changed_is_set, item_at, called_at, called_through, twice_changed}
 use Rattle.daggy_base.proofs.MappedSlots.{slot_read}
 use Rattle.daggy_stable.specs.Cells.{node_weight_in, edge_weight_in, with_node_weights, with_edge_weights}
 use Rattle.daggy_stable.specs.Stored.{weight_of, plain_edge, stored_graph, Stores}
@@ -74,8 +74,7 @@ module _ {N E Ix : Type 0} {end : ℕ} {nodes : List (Node (Option N) Ix)} {edge
       (with_node_weight g n w)
   node_changed n w has =
       let x = item_at nodes n (node_inside s n has) in
-      subst (λ l. Stores end l edges node_head edge_head nodes_counted edges_counted (with_node_weight g n w))
-      (sym (changed_is_set (node_of_weight (Some w)) nodes n x.0 x.1)) (node_weighed s n w x.0 has x.1)
+      rw (changed_is_set (node_of_weight (Some w)) nodes n x.0 x.1) (node_weighed s n w x.0 has x.1)
 
   edge_changed : (e : ℕ) (w : E) → IsSome (edge_at g e)
       → Stores end nodes (changed_at (edge_of_weight (Some w)) edges e) node_head edge_head nodes_counted edges_counted
@@ -83,8 +82,7 @@ module _ {N E Ix : Type 0} {end : ℕ} {nodes : List (Node (Option N) Ix)} {edge
   edge_changed e w has =
       let found = some_is _ has in
       let x = item_at edges e (edge_within s e found.0 found.1) in
-      subst (λ l. Stores end nodes l node_head edge_head nodes_counted edges_counted (with_edge_weight g e w))
-      (sym (changed_is_set (edge_of_weight (Some w)) edges e x.0 x.1)) (edge_weighed s e w x.0 has x.1)
+      rw (changed_is_set (edge_of_weight (Some w)) edges e x.0 x.1) (edge_weighed s e w x.0 has x.1)
 
 module _ {N E Ix : Type 0} {end : ℕ} {nodes : List (Node (Option N) Ix)} {edges : List (Edge (Option E) Ix)}
     {node_head edge_head nodes_counted edges_counted : ℕ} {g : Graph N E}
@@ -95,37 +93,20 @@ module _ {N E Ix : Type 0} {end : ℕ} {nodes : List (Node (Option N) Ix)} {edge
       → IsSome (slot g.nodes b) → n ≡ length nodes → lent ≡ nodes → new ≡ with_node_weights lent i j v w
       → Stores end (take n (new ++ drop (length new) nodes)) edges node_head edge_head nodes_counted edges_counted
       (with_node_weight (with_node_weight g a v) b w)
-  nodes_updated {n} {lent} {new} v w first second n_is lent_is new_is =
-      let once = changed_at (node_of_weight (Some v)) nodes a in
-      let is : new ≡ with_node_weights nodes a b v w =
-      new_is ∙ ap (λ l. with_node_weights l i j v w) lent_is ∙ ap (λ k. with_node_weights nodes k j v w) i_is
-      ∙ ap (λ k. with_node_weights nodes a k v w) j_is in
-      let long : length new ≡ length nodes =
-      ap length is ∙ length-changed (node_of_weight (Some w)) once b
-      ∙ length-changed (node_of_weight (Some v)) nodes a in
-      let twice = node_changed (node_changed s a v first) b w (still_there g.nodes a b (Some v) refl second) in
-      subst (λ l. Stores end l edges node_head edge_head nodes_counted edges_counted
-      (with_node_weight (with_node_weight g a v) b w)) (sym is ∙ refilled n nodes new n_is long) twice
+  nodes_updated v w first second n_is lent_is new_is =
+      rw (twice_changed (node_of_weight (Some v)) (node_of_weight (Some w)) i_is j_is n_is lent_is new_is)
+      (node_changed (node_changed s a v first) b w (still_there g.nodes a b (Some v) refl second))
 
   -- two of edges
   pub edges_updated : {n : ℕ} {lent new : List (Edge (Option E) Ix)} (v w : E) → IsSome (edge_at g a)
       → IsSome (edge_at g b) → n ≡ length edges → lent ≡ edges → new ≡ with_edge_weights lent i j v w
       → Stores end nodes (take n (new ++ drop (length new) edges)) node_head edge_head nodes_counted edges_counted
       (with_edge_weight (with_edge_weight g a v) b w)
-  edges_updated {n} {lent} {new} v w first second n_is lent_is new_is =
-      let once = changed_at (edge_of_weight (Some v)) edges a in
-      let is : new ≡ with_edge_weights edges a b v w =
-      new_is ∙ ap (λ l. with_edge_weights l i j v w) lent_is ∙ ap (λ k. with_edge_weights edges k j v w) i_is
-      ∙ ap (λ k. with_edge_weights edges a k v w) j_is in
-      let long : length new ≡ length edges =
-      ap length is ∙ length-changed (edge_of_weight (Some w)) once b
-      ∙ length-changed (edge_of_weight (Some v)) edges a in
-      let held =
-      still_there g.edges a b (option_map (edge_with_weight v) (edge_at g a))
-      (still_some (edge_with_weight v) (edge_at g a) first) second in
-      let twice = edge_changed (edge_changed s a v first) b w held in
-      subst (λ l. Stores end nodes l node_head edge_head nodes_counted edges_counted
-      (with_edge_weight (with_edge_weight g a v) b w)) (sym is ∙ refilled n edges new n_is long) twice
+  edges_updated v w first second n_is lent_is new_is =
+      rw (twice_changed (edge_of_weight (Some v)) (edge_of_weight (Some w)) i_is j_is n_is lent_is new_is)
+      (edge_changed (edge_changed s a v first) b w
+      (still_there g.edges a b (option_map (edge_with_weight v) (edge_at g a))
+      (still_some (edge_with_weight v) (edge_at g a) first) second))
 
   -- one of a node and one of an edge
   pub both_updated : {x : Node (Option N) Ix} {y : Edge (Option E) Ix} {v' : Option N} {w' : Option E} {v : N} {w : E}
@@ -133,20 +114,9 @@ module _ {N E Ix : Type 0} {end : ℕ} {nodes : List (Node (Option N) Ix)} {edge
       → w' ≡ Some w
       → Stores end (set nodes i (node_of_weight v' x)) (set edges j (edge_of_weight w' y)) node_head edge_head
       nodes_counted edges_counted (with_edge_weight (with_node_weight g a v) b w)
-  both_updated {x} {y} {v'} {w'} {v} {w} first second x_is y_is v_is w_is =
-      let cell = set nodes i (node_of_weight v' x) in
-      let once : Stores end (set nodes i (node_of_weight v' x)) edges node_head edge_head nodes_counted edges_counted
-      (with_node_weight g a v) =
-      subst (λ o. Stores end (set nodes i (node_of_weight o x)) edges node_head edge_head nodes_counted edges_counted
-      (with_node_weight g a v)) (sym v_is)
-      (subst (λ k. Stores end (set nodes k (node_of_weight (Some v) x)) edges node_head edge_head nodes_counted
-      edges_counted (with_node_weight g a v)) (sym i_is)
-      (node_weighed s a v x first (x_is ∙ ap (λ k. get_or nodes k x) i_is))) in
-      subst (λ o. Stores end cell (set edges j (edge_of_weight o y)) node_head edge_head nodes_counted edges_counted
-      (with_edge_weight (with_node_weight g a v) b w)) (sym w_is)
-      (subst (λ k. Stores end cell (set edges k (edge_of_weight (Some w) y)) node_head edge_head nodes_counted
-      edges_counted (with_edge_weight (with_node_weight g a v) b w)) (sym j_is)
-      (edge_weighed once b w y second (y_is ∙ ap (λ k. get_or edges k y) j_is)))
+  both_updated {x} {y} first second x_is y_is v_is w_is =
+      rw (i_is, j_is, v_is, w_is)
+      (edge_weighed (node_weighed s a _ x first (rw i_is at x_is)) b _ y second (rw j_is at y_is))
 
 -- what is seen of a state, where it is stored
 module _ {N E Ix : Type 0} {end : ℕ} {nodes : List (Node (Option N) Ix)} {edges : List (Edge (Option E) Ix)}
