@@ -79,6 +79,15 @@ module _ {C : Type 0} where
   refilled n xs ys n_is same =
       sym (ap (λ k. take k (ys ++ drop (length ys) xs)) (n_is ∙ sym same) ∙ take-append_seam ys (drop (length ys) xs))
 
+  -- a whole list that was lent, and comes back with two items changed
+  pub twice_changed : (j k : C → C) {old lent new : List C} {n a b i l : ℕ}
+      → i ≡ a → l ≡ b → n ≡ length old → lent ≡ old → new ≡ changed_at k (changed_at j lent i) l
+      → take n (new ++ drop (length new) old) ≡ changed_at k (changed_at j old a) b
+  twice_changed j k {old} {lent} {new} {n} {a} {b} {i} {l} i_is l_is n_is lent_is new_is =
+      let is : new ≡ changed_at k (changed_at j old a) b = rw (← lent_is, ← i_is, ← l_is) new_is in
+      sym (refilled n old new n_is
+      (ap length is ∙ length-changed k (changed_at j old a) b ∙ length-changed j old a)) ∙ is
+
   -- items that are changed are written
   set_once : (k : C → C) (xs : List C) (i : ℕ) (x : C) → slice_get xs i ≡ Some x → set xs i (k x) ≡ changed_at k xs i
   set_once k xs i x is = sym (changed_is_set k xs i x (sym (get_or_from_slice_get xs i x x is)))

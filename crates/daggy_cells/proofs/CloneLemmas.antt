@@ -1,10 +1,14 @@
 -- Copies of stored nodes and edges: they are mapped, each weight to its clone.
-use Rattle.std.proofs.Common.{◌≡◌, ℕ, ◌+◌, List, [], ◌∷◌, refl, sym, ap, ◌∙◌}
+use Rattle.std.proofs.Common.{◌≡◌, ℕ, ◌+◌, List, [], ◌∷◌, map, Option, Some, None, refl, ap}
 use Rattle.std.specs.List.{AllZip}
+use Rattle.daggy_base.specs.declared.index.Direction.{Direction}
+use Rattle.daggy_base.specs.declared.index.Direction.TheVariants.{Outgoing, Incoming}
+use Rattle.daggy_base.specs.Copying.{clone_step}
+use Rattle.daggy_base.specs.Mapping.{MapsSlots}
 use Rattle.daggy_cells.specs.declared.cell.Node.{Node}
 use Rattle.daggy_cells.specs.declared.cell.Edge.{Edge}
-use Rattle.daggy_base.specs.Copying.{clone_step}
-use Rattle.daggy_cells.specs.MappedCells.{MapsCells, node_weight_in, node_with, edge_weight_in, edge_with}
+use Rattle.daggy_cells.specs.Fields.{firsts_of, nexts_of, ends_of}
+use Rattle.daggy_cells.specs.Raw.{raw_first, raw_next}
 
 -- a node is a clone of another, and an edge, where its weight is one and its links are the same
 abbrev pub IsNodeClone : {N Ix : Type 0} → (N → N → Type 0) → Node N Ix → Node N Ix → Type 0
@@ -15,47 +19,66 @@ IsEdgeClone is x y =
     is x.weight y.weight
     × ((x.parent ≡ y.parent) × ((x.child ≡ y.child) × ((x.next_out ≡ y.next_out) × (x.next_in ≡ y.next_in))))
 
-node_like : {N Ix : Type 0} (is : N → N → Type 0) (x y : Node N Ix) → IsNodeClone is x y → y ≡ node_with x y.weight
-node_like {N} {Ix} is x y p =
-    let mk : ℕ → ℕ → Node N Ix = λ o i. record { weight = y.weight; first_out = o; first_in = i } in
-    ap (λ o. mk o y.first_in) (sym p.1.0) ∙ ap (mk x.first_out) (sym p.1.1)
+module _ {A W : Type 0} (is : W → W → Type 0) (weight : A → W) (with : A → W → A) where
+  -- what a slot and its copy hold
+  abbrev pub AreCloned : Option A → Option A → Type 0
+  AreCloned None None = Unit {0}
+  AreCloned None (Some b) = ⊥
+  AreCloned (Some a) None = ⊥
+  AreCloned (Some a) (Some b) = is (weight a) (weight b) × (b ≡ with a (weight b))
 
-edge_like : {E Ix : Type 0} (is : E → E → Type 0) (x y : Edge E Ix) → IsEdgeClone is x y → y ≡ edge_with x y.weight
-edge_like {E} {Ix} is x y p =
-    let mk : ℕ → ℕ → ℕ → ℕ → Edge E Ix = λ a b o i. record {
-      weight = y.weight;
-      parent = a;
-      child = b;
-      next_out = o;
-      next_in = i;
-    } in
-    ap (λ a. mk a y.child y.next_out y.next_in) (sym p.1.0) ∙ ap (λ b. mk x.parent b y.next_out y.next_in) (sym p.1.1.0)
-    ∙ ap (λ o. mk x.parent x.child o y.next_in) (sym p.1.1.1.0) ∙ ap (mk x.parent x.child x.next_out) (sym p.1.1.1.1)
+  slot_cloned : (i : ℕ) (o p : Option A) (xs ys : List (Option A))
+      → AreCloned o p → MapsSlots (clone_step is) (λ n. n) weight with tt (i + 1) xs ys
+      → MapsSlots (clone_step is) (λ n. n) weight with tt i (o ∷ xs) (p ∷ ys)
+  slot_cloned i None None xs ys c m = (ys, refl, m)
+  slot_cloned i None (Some b) xs ys c m = absurd c
+  slot_cloned i (Some a) None xs ys c m = absurd c
+  slot_cloned i (Some a) (Some b) xs ys c m = (
+    weight b,
+    tt,
+    record { shown = record { ref_ptr = (0, 0); now = weight a }; shows = refl; called = c.0 },
+    ys,
+    ap (λ z. Some z ∷ ys) c.1,
+    m,
+  )
 
-pub nodes_cloned : {N Ix : Type 0} (is : N → N → Type 0) (i : ℕ) (xs ys : List (Node N Ix))
-    → AllZip (IsNodeClone is) xs ys → MapsCells (clone_step is) (λ n. n) node_weight_in node_with tt i xs ys
-nodes_cloned is i [] [] z = refl
-nodes_cloned is i [] (y ∷ ys) z = absurd z
-nodes_cloned is i (x ∷ xs) [] z = absurd z
-nodes_cloned is i (x ∷ xs) (y ∷ ys) z = (
-  y.weight,
-  tt,
-  record { shown = record { ref_ptr = (0, 0); now = x.weight }; shows = refl; called = z.0.0 },
-  ys,
-  ap (λ l. l ∷ ys) (node_like is x y z.0),
-  nodes_cloned is (i + 1) xs ys z.1,
-)
+  -- slots that show an A are copied, where R says what the copy of a cell may be
+  pub slots_cloned : {C : Type 0} (R : C → C → Type 0) (read : C → Option A)
+      → ((x y : C) → R x y → AreCloned (read x) (read y))
+      → (i : ℕ) (xs ys : List C) → AllZip R xs ys
+      → MapsSlots (clone_step is) (λ n. n) weight with tt i (map read xs) (map read ys)
+  slots_cloned R read cloned i [] [] z = refl
+  slots_cloned R read cloned i [] (y ∷ ys) z = absurd z
+  slots_cloned R read cloned i (x ∷ xs) [] z = absurd z
+  slots_cloned R read cloned i (x ∷ xs) (y ∷ ys) z =
+      slot_cloned i (read x) (read y) (map read xs) (map read ys) (cloned x y z.0)
+      (slots_cloned R read cloned (i + 1) xs ys z.1)
 
-pub edges_cloned : {E Ix : Type 0} (is : E → E → Type 0) (i : ℕ) (xs ys : List (Edge E Ix))
-    → AllZip (IsEdgeClone is) xs ys → MapsCells (clone_step is) (λ n. n) edge_weight_in edge_with tt i xs ys
-edges_cloned is i [] [] z = refl
-edges_cloned is i [] (y ∷ ys) z = absurd z
-edges_cloned is i (x ∷ xs) [] z = absurd z
-edges_cloned is i (x ∷ xs) (y ∷ ys) z = (
-  y.weight,
-  tt,
-  record { shown = record { ref_ptr = (0, 0); now = x.weight }; shows = refl; called = z.0.0 },
-  ys,
-  ap (λ l. l ∷ ys) (edge_like is x y z.0),
-  edges_cloned is (i + 1) xs ys z.1,
-)
+-- and what is no weight is the same
+kept : {C : Type 0} (R : C → C → Type 0) (part : C → ℕ) → ((x y : C) → R x y → part x ≡ part y)
+    → (xs ys : List C) → AllZip R xs ys → map part ys ≡ map part xs
+kept R part same [] [] z = refl
+kept R part same [] (y ∷ ys) z = absurd z
+kept R part same (x ∷ xs) [] z = absurd z
+kept R part same (x ∷ xs) (y ∷ ys) z = rw (same x y z.0) (ap (λ l. part y ∷ l) (kept R part same xs ys z.1))
+
+pub firsts_cloned : {N Ix : Type 0} (is : N → N → Type 0) (xs ys : List (Node N Ix))
+    → AllZip (IsNodeClone is) xs ys → (dir : Direction) → firsts_of dir ys ≡ firsts_of dir xs
+firsts_cloned is xs ys z = elim [
+  | Outgoing ↦ kept (IsNodeClone is) (raw_first Outgoing) (λ x y c. c.1.0) xs ys z
+  | Incoming ↦ kept (IsNodeClone is) (raw_first Incoming) (λ x y c. c.1.1) xs ys z
+]
+
+pub nexts_cloned : {E Ix : Type 0} (is : E → E → Type 0) (xs ys : List (Edge E Ix))
+    → AllZip (IsEdgeClone is) xs ys → (dir : Direction) → nexts_of dir ys ≡ nexts_of dir xs
+nexts_cloned is xs ys z = elim [
+  | Outgoing ↦ kept (IsEdgeClone is) (raw_next Outgoing) (λ x y c. c.1.1.1.0) xs ys z
+  | Incoming ↦ kept (IsEdgeClone is) (raw_next Incoming) (λ x y c. c.1.1.1.1) xs ys z
+]
+
+pub ends_cloned : {E Ix : Type 0} (is : E → E → Type 0) (xs ys : List (Edge E Ix))
+    → AllZip (IsEdgeClone is) xs ys → (dir : Direction) → ends_of dir ys ≡ ends_of dir xs
+ends_cloned is xs ys z = elim [
+  | Outgoing ↦ kept (IsEdgeClone is) (λ x. x.parent) (λ x y c. c.1.0) xs ys z
+  | Incoming ↦ kept (IsEdgeClone is) (λ x. x.child) (λ x y c. c.1.1.0) xs ys z
+]

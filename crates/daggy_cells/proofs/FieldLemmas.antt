@@ -8,7 +8,7 @@ use Rattle.daggy_base.specs.declared.index.Direction.{Direction}
 use Rattle.daggy_base.specs.declared.index.Direction.TheVariants.{Outgoing, Incoming}
 use Rattle.daggy_cells.specs.Raw.{raw_first, raw_next}
 use Rattle.daggy_cells.specs.Fields.{weight_of, with_first, with_next, plain_edge, end_at, firsts_of, nexts_of}
-use Rattle.daggy_cells.specs.Fields.{KeepsNodes, KeepsEdges}
+use Rattle.daggy_cells.specs.Fields.{KeepsNodes, KeepsEdges, AreLedTo}
 use Rattle.daggy_base.proofs.Lists.{map-set_same}
 
 -- there is a first link for each node
@@ -28,22 +28,6 @@ same_graph {N} {E} g {a} {b} {c} {d} {e} {f} p q r s t u =
     ap (λ x. mk x b c d e f) p ∙ ap (λ x. mk g.nodes x c d e f) q ∙ ap (λ x. mk g.nodes g.edges x d e f) r
     ∙ ap (λ x. mk g.nodes g.edges g.out_lists x e f) s ∙ ap (λ x. mk g.nodes g.edges g.out_lists g.in_lists x f) t
     ∙ ap (λ x. mk g.nodes g.edges g.out_lists g.in_lists g.vacant_nodes x) u
-
--- the first links of a and b lead to the edge e, and the nodes have their weights and their other links
-pub record AreLedTo {N Ix : Type 0} (nodes nodes' : List (Node N Ix)) (a b e : ℕ) : Type 0 where
-  pub weights : map weight_of nodes' ≡ map weight_of nodes
-  pub outs : firsts_of Outgoing nodes' ≡ set (firsts_of Outgoing nodes) a e
-  pub ins : firsts_of Incoming nodes' ≡ set (firsts_of Incoming nodes) b e
-
--- what is stored of an edge from a to b that goes first in their lists
-abbrev pub edge_put_first : {N E Ix : Type 0} → List (Node N Ix) → (a b : ℕ) → E → Edge E Ix
-edge_put_first nodes a b w = record {
-  weight = w;
-  parent = a;
-  child = b;
-  next_out = get_or (firsts_of Outgoing nodes) a 0;
-  next_in = get_or (firsts_of Incoming nodes) b 0;
-}
 
 -- a write of one link
 

@@ -12,3 +12,5 @@ pub mod CellLemmas
 pub mod CloneLemmas
 pub mod MappingLemmas
 pub mod RestLemmas
+pub mod MappedSlots
+pub mod WrittenSlots

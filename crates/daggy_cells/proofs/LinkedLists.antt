@@ -274,6 +274,10 @@ IsRest-shorter end nexts e old next whole r goes limit =
     subst (λ z. follow nexts (length nexts) z ≡ r.more) same then in
     rw (now, then') (omega arith)
 
+pub find_same : (p q : ℕ → Bool) (l : List ℕ) → ((e : ℕ) → Contains l e → p e ≡ q e) → find p l ≡ find q l
+find_same p q [] h = refl
+find_same p q (x ∷ xs) h = rw (h x (Contains-here x xs), find_same p q xs (λ e k. h e (Contains-there x e xs k))) refl
+
 -- a search along a list from e on, which still has the whole answer to give
 pub record IsScan (end : ℕ) (nexts : List ℕ) (p : ℕ → Bool) (e : ℕ) (answer : Option ℕ) : Type 0 where
   pub rest : List ℕ

@@ -6,7 +6,7 @@ use Rattle.daggy_cells.specs.declared.cell.Edge.{Edge}
 use Rattle.daggy_base.specs.declared.index.Direction.{Direction}
 use Rattle.daggy_cells.specs.Links.{nth_list, IsLinkedList, AreLinkedLists, Redirected}
 use Rattle.daggy_cells.specs.Raw.{raw_first, raw_next}
-use Rattle.daggy_cells.specs.Fields.{firsts_of, nexts_of, ends_of, list_from, KeepsNodes, KeepsEdges, IsReady}
+use Rattle.daggy_cells.specs.Fields.{firsts_of, nexts_of, ends_of, list_from, IsReady}
 use Rattle.daggy_cells.specs.Fields.{IsHead, Redirects}
 use Rattle.daggy_cells.proofs.LinkedLists.{row_is}
 
@@ -62,13 +62,6 @@ list_of_end {dir = dir} {nodes} {n = n} linked end_is n_in few = record {
   end_is = end_is;
   few = few;
 }
-
--- one call of `redirect`
-pub record Step {N E Ix : Type 0} (dir : Direction) (nodes : List (Node N Ix)) (edges : List (Edge E Ix)) (old new : ℕ)
-    (nodes' : List (Node N Ix)) (edges' : List (Edge E Ix)) : Type 0 where
-  pub links : Redirects dir nodes edges old new nodes' edges'
-  pub keeps : KeepsNodes dir nodes nodes'
-  pub keeps_edges : KeepsEdges dir edges edges'
 
 -- a list begins where it did while the first links and the ends of its direction stay
 pub head_kept : {N E Ix : Type 0} {dir : Direction} {nodes nodes' : List (Node N Ix)} {edges edges' : List (Edge E Ix)}

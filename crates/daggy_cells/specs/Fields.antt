@@ -1,5 +1,6 @@
 -- What stored nodes and edges hold, in their lists.
-use Rattle.std.specs.Prelude.{◌≡◌, ℕ, ◌<◌, ◌≤◌, Option, Some, List, length, map, slice_index, slice_set, Contains}
+use Rattle.std.specs.Prelude.{◌≡◌, ◌==◌, ℕ, ◌<◌, ◌≤◌, Bool, Option, Some, List, length, map, slice_index, slice_set}
+use Rattle.std.specs.Prelude.{Contains}
 use Rattle.daggy_base.specs.Graph.{Graph, Edge as PlainEdge}
 use Rattle.daggy_base.specs.Removal.{renamed}
 use Rattle.daggy_cells.specs.Raw.{raw_first, raw_next}
@@ -26,6 +27,14 @@ plain x = record { parent = x.parent; child = x.child; weight = x.weight }
 -- the edge that a stored edge shows, whose slot is never vacant
 abbrev pub plain_edge : {E Ix : Type 0} → Edge E Ix → Option (PlainEdge E)
 plain_edge x = Some (plain x)
+
+-- the node with the weight v, and the same links
+abbrev pub node_with : {N V Ix : Type 0} → Node N Ix → V → Node V Ix
+node_with x v = record { weight = v; first_out = x.first_out; first_in = x.first_in }
+
+-- the edge with the weight v, and the same ends and links
+abbrev pub edge_with : {E V Ix : Type 0} → Edge E Ix → V → Edge V Ix
+edge_with x v = record { weight = v; parent = x.parent; child = x.child; next_out = x.next_out; next_in = x.next_in }
 
 -- the node with e as the first edge of its list of that direction
 abbrev pub with_first : {N Ix : Type 0} → Direction → Node N Ix → ℕ → Node N Ix
@@ -72,6 +81,10 @@ nexts_of dir edges = map (raw_next dir) edges
 abbrev pub ends_of : {E Ix : Type 0} → Direction → List (Edge E Ix) → List ℕ
 ends_of dir edges = map (end_at dir) edges
 
+-- whether the e-th edge enters the node n
+abbrev pub enters : {E Ix : Type 0} → List (Edge E Ix) → (n e : ℕ) → Bool
+enters edges n e = slice_index (ends_of Incoming edges) e == n
+
 -- the list that begins with this edge
 abbrev pub list_from : {E Ix : Type 0} → Direction → List (Edge E Ix) → ℕ → List ℕ
 list_from dir edges first = follow (nexts_of dir edges) (length (nexts_of dir edges)) first
@@ -108,13 +121,36 @@ pub record IsHead {N E Ix : Type 0} (dir : Direction) (nodes : List (Node N Ix))
   pub node_is : node ≡ slice_index (ends_of dir edges) e
   pub first_is : first ≡ slice_index (firsts_of dir nodes) (slice_index (ends_of dir edges) e)
 
--- what `redirect` promises
+-- the link to old leads to new
 abbrev pub Redirects : {N E Ix : Type 0}
     → Direction → List (Node N Ix) → List (Edge E Ix) → (old new : ℕ) → List (Node N Ix) → List (Edge E Ix) → Type 0
 Redirects dir nodes edges old new nodes' edges' =
     let n = slice_index (ends_of dir edges) old in
     Redirected (list_from dir edges (slice_index (firsts_of dir nodes) n)) n old new (firsts_of dir nodes)
     (nexts_of dir edges) (firsts_of dir nodes') (nexts_of dir edges')
+
+-- what `redirect` promises: the link to old leads to new, and nothing else changed
+pub record IsRedirected {N E Ix : Type 0} (dir : Direction) (nodes : List (Node N Ix)) (edges : List (Edge E Ix))
+    (old new : ℕ) (nodes' : List (Node N Ix)) (edges' : List (Edge E Ix)) : Type 0 where
+  pub links : Redirects dir nodes edges old new nodes' edges'
+  pub keeps : KeepsNodes dir nodes nodes'
+  pub keeps_edges : KeepsEdges dir edges edges'
+
+-- the first links of a and b lead to the edge e, and the nodes have their weights and their other links
+pub record AreLedTo {N Ix : Type 0} (nodes nodes' : List (Node N Ix)) (a b e : ℕ) : Type 0 where
+  pub weights : map weight_of nodes' ≡ map weight_of nodes
+  pub outs : firsts_of Outgoing nodes' ≡ slice_set (firsts_of Outgoing nodes) a e
+  pub ins : firsts_of Incoming nodes' ≡ slice_set (firsts_of Incoming nodes) b e
+
+-- what is stored of an edge from a to b that goes first in their lists
+abbrev pub edge_put_first : {N E Ix : Type 0} → List (Node N Ix) → (a b : ℕ) → E → Edge E Ix
+edge_put_first nodes a b w = record {
+  weight = w;
+  parent = a;
+  child = b;
+  next_out = slice_index (firsts_of Outgoing nodes) a;
+  next_in = slice_index (firsts_of Incoming nodes) b;
+}
 
 -- what `thread` promises: the list is threaded as that of n
 pub record Threads {N E Ix : Type 0} (end : ℕ) (dir : Direction) (nodes : List (Node N Ix)) (edges : List (Edge E Ix))

@@ -2,6 +2,5 @@ pub mod Links
 pub mod Raw
 pub mod Fields
 pub mod Cells
-pub mod MappedCells
 pub mod Referring
 pub mod Rest

@@ -1,6 +1,7 @@
 //! The links between stored nodes and edges, and changes to them, for the stores that keep them.
 ghost use Rattle.std.specs.Prelude.{◌≡◌, ◌≢◌, ℕ, ◌<◌, ◌≤◌, ◌↔◌, length, map, slice_get, slice_set};
 ghost use Rattle.std.specs.Prelude.{slice_index, Contains, Some};
+ghost use Rattle.std.specs.List.{find};
 ghost use Rattle.daggy_base.specs.declared.index.Direction.{Direction};
 ghost use Rattle.daggy_base.specs.declared.index.Direction.TheVariants.{Outgoing, Incoming};
 ghost use Rattle.daggy_base.specs.Cursor.{after};
@@ -11,9 +12,10 @@ ghost use Rattle.daggy_cells.specs.Raw.{raw_first, raw_next};
 ghost use Rattle.daggy_cells.specs.Fields.{weight_of, plain_edge, with_first, end_at, with_next};
 ghost use Rattle.daggy_cells.specs.Fields.{with_end, with_end_renamed, firsts_of, nexts_of};
 ghost use Rattle.daggy_cells.specs.Fields.{ends_of, list_from, with_lists_emptied, KeepsNodes};
-ghost use Rattle.daggy_cells.specs.Fields.{KeepsEdges, IsReady, IsHead, Redirects, Threads};
-ghost use Rattle.daggy_cells.specs.Fields.{order_at};
-ghost use Rattle.daggy_cells.specs.MappedCells.{node_with, edge_with};
+ghost use Rattle.daggy_cells.specs.Fields.{KeepsEdges, IsReady, IsHead, IsRedirected, Threads};
+ghost use Rattle.daggy_cells.specs.Fields.{order_at, node_with, edge_with, enters, AreLedTo};
+ghost use Rattle.daggy_cells.specs.Fields.{edge_put_first};
+ghost use Rattle.daggy_cells.specs.Rest.{IsOnList};
 
 use crate::cell::{Edge, Node};
 use daggy_base::index::{Direction, EdgeIndex, IndexType};
@@ -160,19 +162,9 @@ pub fn put_first<N, E, Ix: IndexType>(
 ) -> Edge<E, Ix>
     requires parent { a < length nodes.old.items }
     requires child { b < length nodes.old.items }
-    ensures edge { result ≡ record {
-      weight = weight;
-      parent = a;
-      child = b;
-      next_out = slice_index (firsts_of Outgoing nodes.old.items) a;
-      next_in = slice_index (firsts_of Incoming nodes.old.items) b;
-    } }
+    ensures edge { result ≡ edge_put_first nodes.old.items a b weight }
     ensures len { length nodes.new.items ≡ length nodes.old.items }
-    ensures weights { map weight_of nodes.new.items ≡ map weight_of nodes.old.items }
-    ensures out { firsts_of Outgoing nodes.new.items
-        ≡ slice_set (firsts_of Outgoing nodes.old.items) a e }
-    ensures into { firsts_of Incoming nodes.new.items
-        ≡ slice_set (firsts_of Incoming nodes.old.items) b e }
+    ensures led { AreLedTo nodes.old.items nodes.new.items a b e }
 {
     let u = a.index();
     let v = b.index();
@@ -207,6 +199,35 @@ fn find_before<E, Ix: IndexType>(
             return e;
         }
         e = next;
+    }
+}
+
+/// The first edge into `child` of the out list that begins with `first`, or `None`.
+///
+/// # Complexity
+///
+/// O(edges of the list).
+#[inline]
+pub fn find_to<E, Ix: IndexType>(
+    edges: &Vec<Edge<E, Ix>>,
+    first: Link<Ix>,
+    child: usize,
+) -> Option<Link<Ix>>
+    requires { IsOnList Ix.greatest Outgoing edges.now.items first }
+    ensures { result
+        ≡ find (enters edges.now.items child) (list_from Outgoing edges.now.items first) }
+{
+    let mut e = first;
+    'along: loop {
+        let i = e.index();
+        if i >= edges.len() {
+            return None;
+        }
+        let x = &edges[i];
+        if end(x, Direction::Incoming).index() == child {
+            return Some(e);
+        }
+        e = next(x, Direction::Outgoing);
     }
 }
 
@@ -271,10 +292,8 @@ pub fn redirect<N, E, Ix: IndexType>(
 )
     requires ready { IsReady Ix.greatest dir nodes.old.items edges.old.items old }
     requires head { IsHead dir nodes.old.items edges.old.items old head.node head.first }
-    ensures links { Redirects dir nodes.old.items edges.old.items old new nodes.new.items
+    ensures { IsRedirected dir nodes.old.items edges.old.items old new nodes.new.items
         edges.new.items }
-    ensures nodes { KeepsNodes dir nodes.old.items nodes.new.items }
-    ensures edges { KeepsEdges dir edges.old.items edges.new.items }
 {
     let first = head.first;
     if first.index() == old.index() {

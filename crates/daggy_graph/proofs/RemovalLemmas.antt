@@ -22,7 +22,8 @@ use Rattle.daggy_cells.proofs.LinkedLists.{first_of-without}
 use Rattle.daggy_cells.proofs.LinkedListChanges.{row-map, row_within, AreLinkedLists-with_edge_unlinked}
 use Rattle.daggy_cells.proofs.LinkedListChanges.{AreLinkedLists-renamed, AreLinkedLists-cut, ListsEach-removed}
 use Rattle.daggy_base.proofs.Lists.{IsSwapRemoved, IsSwapRemoved-from, IsSwapRemoved-mapped, map-swap_remove}
-use Rattle.daggy_cells.proofs.RedirectLemmas.{IsListOf, list_of_end, Ready-row, Redirected-list_from, Step, head_kept}
+use Rattle.daggy_cells.proofs.RedirectLemmas.{IsListOf, list_of_end, Ready-row, Redirected-list_from, head_kept}
+use Rattle.daggy_cells.specs.Fields.{IsRedirected}
 
 -- the edge e is there, and `last` is the last one
 pub record HasLastEdge {E Ix : Type 0} (edges : List (Edge E Ix)) (e last : ℕ) : Type 0 where
@@ -92,7 +93,7 @@ module _ {N E Ix : Type 0} {end : ℕ} {nodes : List (Node N Ix)} {edges : List 
           (there dir e has.inside)
 
       taken_out : {new : ℕ} {nodes'' : List (Node N Ix)} {edges'' : List (Edge E Ix)}
-          → new ≡ get_or (nexts_of dir edges) e 0 → Step dir nodes' edges' e new nodes'' edges''
+          → new ≡ get_or (nexts_of dir edges) e 0 → IsRedirected dir nodes' edges' e new nodes'' edges''
           → IsTakenOut end dir g e edges nodes'' edges''
       taken_out {new} {nodes''} {edges''} new_is step =
           let goes : slice_get (nexts_of dir edges') e ≡ Some new =
@@ -151,7 +152,7 @@ module _ {N E Ix : Type 0} {end : ℕ} {nodes : List (Node N Ix)} {edges : List 
           Ready-row list_of_last last_in (omega (arith, has.long, long')) (last_there differs)
 
       renamed_links : {nodes'' : List (Node N Ix)} {edges'' : List (Edge E Ix)} (nexts : List ℕ) → e ≢ last
-          → Step dir nodes' edges' last e nodes'' edges'' → IsSwapRemoved (nexts_of dir edges'') nexts e last
+          → IsRedirected dir nodes' edges' last e nodes'' edges'' → IsSwapRemoved (nexts_of dir edges'') nexts e last
           → AreLinkedLists end (firsts_of dir nodes'') nexts
           (map (map (renamed last e)) (map (without e) (lists_at dir g)))
       renamed_links {nodes''} {edges''} nexts differs step moves =
@@ -279,7 +280,7 @@ module _ {N E Ix : Type 0} {end : ℕ} {nodes : List (Node N Ix)} {edges : List 
   ready_1 = unlink_ready s has same
 
   module _ {out into : ℕ} (nexts : AreNexts edges e out into) {n1 : List (Node N Ix)} {e1 : List (Edge E Ix)}
-      (s1 : Step Outgoing nodes edges e out n1 e1) where
+      (s1 : IsRedirected Outgoing nodes edges e out n1 e1) where
     out_1 : IsTakenOut end Outgoing g e edges n1 e1
     out_1 = taken_out s has same nexts.out_is s1
 
@@ -292,7 +293,7 @@ module _ {N E Ix : Type 0} {end : ℕ} {nodes : List (Node N Ix)} {edges : List 
     pub head_2 : {node first : ℕ} → IsHead Incoming nodes edges e node first → IsHead Incoming n1 e1 e node first
     head_2 = head_kept s1.keeps.firsts (s1.keeps_edges.ends Incoming)
 
-    module _ {n2 : List (Node N Ix)} {e2 : List (Edge E Ix)} (s2 : Step Incoming n1 e1 e into n2 e2) where
+    module _ {n2 : List (Node N Ix)} {e2 : List (Edge E Ix)} (s2 : IsRedirected Incoming n1 e1 e into n2 e2) where
       ends_2 : (d : Direction) → ends_of d e2 ≡ ends_of d edges
       ends_2 d = s2.keeps_edges.ends d ∙ s1.keeps_edges.ends d
 
@@ -323,7 +324,7 @@ module _ {N E Ix : Type 0} {end : ℕ} {nodes : List (Node N Ix)} {edges : List 
             | Incoming ↦ λ nexts moves. cut_links s has in_2 nexts same moves
           ])
 
-      module _ {n3 : List (Node N Ix)} {e3 : List (Edge E Ix)} (s3 : Step Outgoing n2 e2 last e n3 e3) where
+      module _ {n3 : List (Node N Ix)} {e3 : List (Edge E Ix)} (s3 : IsRedirected Outgoing n2 e2 last e n3 e3) where
         ends_3 : (d : Direction) → ends_of d e3 ≡ ends_of d edges
         ends_3 d = s3.keeps_edges.ends d ∙ ends_2 d
 
@@ -340,7 +341,7 @@ module _ {N E Ix : Type 0} {end : ℕ} {nodes : List (Node N Ix)} {edges : List 
             → first' ≡ renamed e into first → IsHead Incoming n3 e3 last node' first'
         head_4 head = moved_head s has in_3 head nexts.into_is
 
-        module _ {n4 : List (Node N Ix)} {e4 : List (Edge E Ix)} (s4 : Step Incoming n3 e3 last e n4 e4) where
+        module _ {n4 : List (Node N Ix)} {e4 : List (Edge E Ix)} (s4 : IsRedirected Incoming n3 e3 last e n4 e4) where
           pub detached_other : e ≢ last → IsDetached end g e n4 e4
           detached_other differs =
               IsDetached-from s has (record {

@@ -1,13 +1,15 @@
 -- What an iterator has left, before and after a step.
-use Rattle.std.proofs.Common.{◌≡◌, ℕ, zero, suc, List, [], ◌∷◌, map, length, Option, slice_get, refl, sym, ap, subst}
-use Rattle.std.proofs.Common.{◌∙◌, inl, inr, arith}
+use Rattle.std.proofs.Common.{◌≡◌, ◌<◌, ℕ, zero, suc, List, [], ◌∷◌, map, length, Option, slice_get, refl, sym, ap}
+use Rattle.std.proofs.Common.{subst, ◌∙◌, inl, inr, arith}
 use Rattle.std.proofs.lemmas.List.{length-map}
+use Rattle.std.proofs.lemmas.Option.{slice_get_within}
 use Rattle.std.proofs.lemmas.Bool.{cases_lt}
-use Rattle.std.specs.List.{filter_map}
+use Rattle.std.specs.List.{filter_map, find}
 use Rattle.std.specs.Option.{option_map}
 use Rattle.daggy_base.specs.declared.index.Direction.{Direction}
 use Rattle.daggy_base.specs.declared.index.Direction.TheVariants.{Outgoing, Incoming}
 use Rattle.daggy_base.specs.Cursor.{first_of}
+use Rattle.daggy_base.specs.Finding.{leads_to, find_edge}
 use Rattle.daggy_base.specs.Graph.{slot, list_at}
 use Rattle.daggy_cells.specs.declared.cell.Node.{Node}
 use Rattle.daggy_cells.specs.declared.cell.Edge.{Edge}
@@ -15,9 +17,10 @@ use Rattle.daggy_base.specs.Iterating.{edges_at}
 use Rattle.daggy_cells.specs.Links.{nth_list, IsLinkedList}
 use Rattle.daggy_cells.specs.Raw.{raw_next}
 use Rattle.daggy_cells.specs.Rest.{edges_left, IsOnList}
-use Rattle.daggy_cells.specs.Fields.{nexts_of, firsts_of, list_from, plain, plain_edge, lists_at}
+use Rattle.daggy_cells.specs.Fields.{nexts_of, firsts_of, ends_of, end_at, list_from, plain, plain_edge, lists_at}
+use Rattle.daggy_cells.specs.Fields.{enters}
 use Rattle.daggy_graph.specs.Stored.{stored_graph, Stores}
-use Rattle.daggy_cells.proofs.LinkedLists.{row_is}
+use Rattle.daggy_cells.proofs.LinkedLists.{row_is, find_same}
 use Rattle.daggy_base.proofs.Lists.{Contains-nil}
 use Rattle.daggy_cells.proofs.LinkedListChanges.{row_past}
 use Rattle.daggy_cells.proofs.RestLemmas.{at_index}
@@ -84,3 +87,26 @@ module _ {N E Ix : Type 0} (end : ℕ) (nodes : List (Node N Ix)) (edges : List 
       ∙ filter_map_same (λ i. option_map (λ x. at_index i (plain x)) (slice_get edges i))
       (λ i. option_map (λ x. at_index i x) (slot (map plain_edge edges) i)) (λ i. same_edge edges i i)
       (list_at dir (stored_graph nodes edges) n)
+
+-- whether an edge enters the node v
+enters_seen : {N E Ix : Type 0} (nodes : List (Node N Ix)) (v : ℕ) (edges : List (Edge E Ix)) (e : ℕ)
+    → e < length edges → enters edges v e ≡ leads_to (stored_graph nodes edges) v e
+enters_seen nodes v [] e within = absurd (omega (arith, within))
+enters_seen nodes v (x ∷ xs) zero within = refl
+enters_seen nodes v (x ∷ xs) (suc e) within = enters_seen nodes v xs e (omega (arith, within))
+
+-- what is found along the links is what is found in the list
+pub found_to : {N E Ix : Type 0} (end : ℕ) (nodes : List (Node N Ix)) (edges : List (Edge E Ix))
+    → Stores end nodes edges (stored_graph nodes edges)
+    → (n v e : ℕ) → e ≡ first_of end (list_at Outgoing (stored_graph nodes edges) n)
+    → find (enters edges v) (list_from Outgoing edges e) ≡ find_edge (stored_graph nodes edges) n v
+found_to end nodes edges s n v e is =
+    let g = stored_graph nodes edges in
+    ap (find (enters edges v)) (walk_begins end nodes edges s Outgoing n e is)
+    ∙ find_same (enters edges v) (leads_to g v) (nth_list (lists_at Outgoing g) n) (λ f p.
+    enters_seen nodes v edges f (omega (
+      arith,
+      slice_get_within (ends_of Outgoing edges) f n ((s.listed Outgoing n f).0 p),
+      length-map edges (end_at Outgoing),
+    )))
+    ∙ ap (find (leads_to g v)) (list_is nodes edges Outgoing n)

@@ -1,9 +1,8 @@
 -- How each change keeps what a graph stores.
-use Rattle.std.proofs.Common.{◌≡◌, ℕ, ◌<◌, List, [], ◌∷◌, ◌++◌, length, get_or, set, Some, unwrap_or, eqb, false}
-use Rattle.std.proofs.Common.{refl, sym, ap, subst, ◌∙◌, arith}
+use Rattle.std.proofs.Common.{◌≡◌, ℕ, ◌<◌, List, [], ◌∷◌, ◌++◌, length, get_or, set, Some, refl, sym, ap, subst, ◌∙◌}
+use Rattle.std.proofs.Common.{arith}
 use Rattle.std.proofs.lemmas.List.{length-set, length_push, length-map, map-set, map_push}
 use Rattle.daggy_base.specs.Graph.{Graph, Edge as PlainEdge, slot}
-use Rattle.daggy_base.specs.Finding.{leads_to}
 use Rattle.std.specs.Option.{option_map}
 use Rattle.daggy_base.specs.Adding.{with_node, with_edge}
 use Rattle.daggy_cells.specs.declared.cell.Node.{Node}
@@ -17,7 +16,8 @@ use Rattle.daggy_cells.proofs.LinkedListChanges.{rows_are, AreLinkedLists-node, 
 use Rattle.daggy_cells.proofs.LinkedListChanges.{ListsEach-edge}
 use Rattle.daggy_base.proofs.Lists.{map-set_same}
 use Rattle.daggy_base.proofs.MappedSlots.{slot_is}
-use Rattle.daggy_cells.proofs.FieldLemmas.{same_graph, AreLedTo, edge_put_first}
+use Rattle.daggy_cells.proofs.FieldLemmas.{same_graph}
+use Rattle.daggy_cells.specs.Fields.{AreLedTo, edge_put_first}
 
 module _ {N E Ix : Type 0} (end : ℕ) (nodes : List (Node N Ix)) (edges : List (Edge E Ix)) where
   -- what is stored is what the view shows
@@ -134,13 +134,6 @@ module _ {N E Ix : Type 0} (end : ℕ) (nodes : List (Node N Ix)) (edges : List 
       → length nodes < end → {x : Node N Ix} → x ≡ record { weight = w; first_out = end; first_in = end }
       → {nodes' : List (Node N Ix)} → nodes' ≡ nodes ++ x ∷ [] → Stores end nodes' edges (with_node g w)
   Stores-node_code w few x_is pushed = rw (pushed, x_is) (Stores-node w few)
-
-module _ {N E Ix : Type 0} (nodes : List (Node N Ix)) (edges : List (Edge E Ix)) where
-  pub leads_to_read : (v e : ℕ) (x : Edge E Ix)
-      → e < length edges → x ≡ get_or edges e x → leads_to (stored_graph nodes edges) v e ≡ eqb x.child v
-  leads_to_read v e x within is =
-      let P : Edge E Ix → PlainEdge E = λ z. record { parent = z.parent; child = z.child; weight = z.weight } in
-      ap (λ o. unwrap_or (option_map (λ z. eqb z.child v) o) false) (slot_is P edges e x within is)
 
 pub Stores-edge_weight : {N E Ix : Type 0} {end : ℕ} {nodes : List (Node N Ix)} {edges : List (Edge E Ix)}
     {g : Graph N E}

@@ -1,6 +1,6 @@
 -- Another weight at two places at once.
 use Rattle.std.proofs.Common.{◌≡◌, ℕ, zero, suc, ◌<◌, List, [], ◌∷◌, ◌++◌, map, take, drop, length, get_or, set}
-use Rattle.std.proofs.Common.{slice_get, Option, Some, None, refl, sym, ap, subst, ◌∙◌, arith}
+use Rattle.std.proofs.Common.{slice_get, Option, Some, None, refl, sym, ap, ◌∙◌, arith}
 use Rattle.std.proofs.lemmas.Option.{slice_get_read}
 use Rattle.std.specs.Option.{option_map}
 use Rattle.daggy_base.specs.Graph.{Graph, slot, node_weight}
@@ -12,7 +12,7 @@ use Rattle.daggy_cells.specs.Fields.{plain}
 use Rattle.daggy_graph.specs.Stored.{stored_graph, Stores}
 use Rattle.daggy_cells.specs.Cells.{changed_at, node_of_weight, edge_of_weight, node_weight_at, edge_weight_at}
 use Rattle.daggy_cells.specs.Cells.{with_node_weights, with_edge_weights}
-use Rattle.daggy_cells.proofs.CellLemmas.{changed_is_set, length-changed, item_at, refilled}
+use Rattle.daggy_cells.proofs.CellLemmas.{changed_is_set, length-changed, item_at, twice_changed}
 use Rattle.daggy_graph.proofs.StoredLemmas.{Stores-weight, Stores-edge_weight}
 
 pub slots_read : {A B : Type 0} (f : A → B) (xs : List A) (i : ℕ)
@@ -32,49 +32,31 @@ module _ {N E Ix : Type 0} (end : ℕ) (nodes : List (Node N Ix)) (edges : List 
       → a < length nodes → Stores end (changed_at (node_of_weight v) nodes a) edges (with_node_weight g a v)
   node_stored a v within =
       let x = item_at nodes a within in
-      subst (λ l. Stores end l edges (with_node_weight g a v)) (sym (changed_is_set (node_of_weight v) nodes a x.0 x.1))
-      (Stores-weight end nodes edges g s a v x.0 x.1)
+      rw (changed_is_set (node_of_weight v) nodes a x.0 x.1) (Stores-weight end nodes edges g s a v x.0 x.1)
 
   edge_stored : (a : ℕ) (v : E)
       → a < length edges → Stores end nodes (changed_at (edge_of_weight v) edges a) (with_edge_weight g a v)
   edge_stored a v within =
       let x = item_at edges a within in
-      subst (λ l. Stores end nodes l (with_edge_weight g a v)) (sym (changed_is_set (edge_of_weight v) edges a x.0 x.1))
-      (Stores-edge_weight s a v within x.1)
+      rw (changed_is_set (edge_of_weight v) edges a x.0 x.1) (Stores-edge_weight s a v within x.1)
 
 module _ {N E Ix : Type 0} {end : ℕ} {nodes : List (Node N Ix)} {edges : List (Edge E Ix)} {g : Graph N E}
     (s : Stores end nodes edges g) {n a b i j : ℕ} (i_is : i ≡ a) (j_is : j ≡ b) where
   pub nodes_updated : {lent new : List (Node N Ix)} (v w : N)
       → a < length nodes → b < length nodes → n ≡ length nodes → lent ≡ nodes → new ≡ with_node_weights lent i j v w
       → Stores end (take n (new ++ drop (length new) nodes)) edges (with_node_weight (with_node_weight g a v) b w)
-  nodes_updated {lent} {new} v w a_in b_in n_is lent_is new_is =
-      let once = changed_at (node_of_weight v) nodes a in
-      let is : new ≡ with_node_weights nodes a b v w =
-      new_is ∙ ap (λ l. with_node_weights l i j v w) lent_is ∙ ap (λ k. with_node_weights nodes k j v w) i_is
-      ∙ ap (λ k. with_node_weights nodes a k v w) j_is in
-      let once_long : length once ≡ length nodes = length-changed (node_of_weight v) nodes a in
-      let long : length new ≡ length nodes = ap length is ∙ length-changed (node_of_weight w) once b ∙ once_long in
-      let twice =
-      node_stored end once edges (with_node_weight g a v) (node_stored end nodes edges g s a v a_in) b w
-      (omega (arith, once_long, b_in)) in
-      subst (λ l. Stores end l edges (with_node_weight (with_node_weight g a v) b w))
-      (sym is ∙ refilled n nodes new n_is long) twice
+  nodes_updated v w a_in b_in n_is lent_is new_is =
+      rw (twice_changed (node_of_weight v) (node_of_weight w) i_is j_is n_is lent_is new_is) (node_stored end _ edges
+      (with_node_weight g a v) (node_stored end nodes edges g s a v a_in) b w
+      (omega (arith, length-changed (node_of_weight v) nodes a, b_in)))
 
   pub edges_updated : {lent new : List (Edge E Ix)} (v w : E)
       → a < length edges → b < length edges → n ≡ length edges → lent ≡ edges → new ≡ with_edge_weights lent i j v w
       → Stores end nodes (take n (new ++ drop (length new) edges)) (with_edge_weight (with_edge_weight g a v) b w)
-  edges_updated {lent} {new} v w a_in b_in n_is lent_is new_is =
-      let once = changed_at (edge_of_weight v) edges a in
-      let is : new ≡ with_edge_weights edges a b v w =
-      new_is ∙ ap (λ l. with_edge_weights l i j v w) lent_is ∙ ap (λ k. with_edge_weights edges k j v w) i_is
-      ∙ ap (λ k. with_edge_weights edges a k v w) j_is in
-      let once_long : length once ≡ length edges = length-changed (edge_of_weight v) edges a in
-      let long : length new ≡ length edges = ap length is ∙ length-changed (edge_of_weight w) once b ∙ once_long in
-      let twice =
-      edge_stored end nodes once (with_edge_weight g a v) (edge_stored end nodes edges g s a v a_in) b w
-      (omega (arith, once_long, b_in)) in
-      subst (λ l. Stores end nodes l (with_edge_weight (with_edge_weight g a v) b w))
-      (sym is ∙ refilled n edges new n_is long) twice
+  edges_updated v w a_in b_in n_is lent_is new_is =
+      rw (twice_changed (edge_of_weight v) (edge_of_weight w) i_is j_is n_is lent_is new_is) (edge_stored end nodes _
+      (with_edge_weight g a v) (edge_stored end nodes edges g s a v a_in) b w
+      (omega (arith, length-changed (edge_of_weight v) edges a, b_in)))
 
 module _ {N E Ix : Type 0} {end : ℕ} {nodes : List (Node N Ix)} {edges : List (Edge E Ix)} {g : Graph N E}
     (s : Stores end nodes edges g) {n e i j : ℕ} (i_is : i ≡ n) (j_is : j ≡ e) where
@@ -82,17 +64,9 @@ module _ {N E Ix : Type 0} {end : ℕ} {nodes : List (Node N Ix)} {edges : List 
       → e < length edges → x ≡ get_or nodes i x → y ≡ get_or edges j y
       → Stores end (set nodes i (node_of_weight v x)) (set edges j (edge_of_weight w y))
       (with_edge_weight (with_node_weight g n v) e w)
-  both_updated {x} {y} v w within x_is y_is =
-      let once = Stores-weight end nodes edges g s i v x x_is in
-      subst (λ k. Stores end (set nodes i (node_of_weight v x)) (set edges j (edge_of_weight w y))
-      (with_edge_weight (with_node_weight g k v) e w)) i_is
-      (subst (λ k. Stores end (set nodes i (node_of_weight v x)) (set edges j (edge_of_weight w y))
-      (with_edge_weight (with_node_weight g i v) k w)) j_is
-      (Stores-edge_weight once j w (omega (
-        arith,
-        within,
-        j_is,
-      )) y_is))
+  both_updated {x} v w within x_is y_is =
+      rw (← i_is, ← j_is) (Stores-edge_weight (Stores-weight end nodes edges g s i v x x_is) j w
+      (omega (arith, within, j_is)) y_is)
 
 module _ {N E Ix : Type 0} (nodes : List (Node N Ix)) (edges : List (Edge E Ix)) (k : ℕ) (s : State N E)
     (view : record { graph = stored_graph nodes edges; looks = k } ≡ s) (n i : ℕ) (i_is : i ≡ n) where

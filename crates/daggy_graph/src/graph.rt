@@ -39,7 +39,7 @@ use daggy_base::index::{DefaultIx, Direction, EdgeIndex, IndexType, NodeIndex};
 use daggy_base::link::Link;
 use daggy_base::looks::Looks;
 pub use daggy_cells::cell::{Edge, Node};
-use daggy_cells::links;
+use daggy_cells::links::{self, find_to};
 pub use daggy_cells::reference::EdgeReference;
 use std::alloc::Global;
 use std::marker::Model;
@@ -209,22 +209,8 @@ impl<N, E, Ix: IndexType> DiGraph<N, E, Ix> {
         ensures { option_map Ix.number result
             ≡ edge_between self.now.graph (Ix.number a) (Ix.number b) }
     {
-        let u = a.index();
-        let v = b.index();
-        if u >= self.nodes.len() {
-            return None;
-        }
-        let mut e = links::first(&self.nodes[u], Direction::Outgoing);
-        'along: loop {
-            let i = e.index();
-            if i >= self.edges.len() {
-                return None;
-            }
-            let x = &self.edges[i];
-            if links::end(x, Direction::Incoming).index() == v {
-                return Some(e.edge());
-            }
-            e = links::next(x, Direction::Outgoing);
-        }
+        let first = self.first_edge(a, Direction::Outgoing);
+        let e = find_to(&self.edges, Link::of_edge(first), b.index())?;
+        Some(e.edge())
     }
 }

@@ -1,37 +1,34 @@
 -- What one more slot makes of what is stored.
-use Rattle.std.proofs.Common.{◌≡◌, ◌≢◌, ℕ, ◌+◌, ◌<◌, not, cond, List, [], ◌∷◌, ◌++◌, map, length, get_or, set, Option}
-use Rattle.std.proofs.Common.{Some, None, is_some, slice_get, refl, sym, ap, subst, ◌∙◌, inl, inr, arith}
-use Rattle.std.proofs.Common.{Contains}
+use Rattle.std.proofs.Common.{◌≡◌, ℕ, ◌+◌, ◌<◌, not, cond, List, [], ◌∷◌, ◌++◌, map, length, set, Option, Some, None}
+use Rattle.std.proofs.Common.{is_some, slice_get, refl, sym, ap, subst, ◌∙◌, inl, inr, arith, Contains}
 use Rattle.std.specs.List.{count_by}
 use Rattle.std.specs.Option.{option_map}
 use Rattle.std.proofs.lemmas.Bool.{cases_eq}
-use Rattle.std.proofs.lemmas.List.{length-set, length_push, length-map, map_push}
-use Rattle.std.proofs.lemmas.Option.{same_Some, none-some}
-use Rattle.std.proofs.lemmas.Map.Made.{Contains-tail}
+use Rattle.std.proofs.lemmas.List.{length_push, length-map, map_push}
 use Rattle.daggy_base.specs.declared.index.Direction.{Direction}
 use Rattle.daggy_base.specs.declared.index.Direction.TheVariants.{Outgoing, Incoming}
-use Rattle.daggy_base.specs.Graph.{Graph, Edge as PlainEdge, slot, edge_at, near_end}
-use Rattle.daggy_base.specs.Cursor.{after}
+use Rattle.daggy_base.specs.Graph.{Graph, Edge as PlainEdge, slot, near_end}
 use Rattle.daggy_cells.specs.declared.cell.Node.{Node}
 use Rattle.daggy_cells.specs.declared.cell.Edge.{Edge}
 use Rattle.daggy_cells.specs.Links.{nth_list, AreLinkedLists, ListsBy}
 use Rattle.daggy_cells.specs.Raw.{raw_first, raw_next}
 use Rattle.daggy_base.specs.FromSlots.{graph_of_slots, vacant_down}
 use Rattle.daggy_cells.specs.Fields.{firsts_of, nexts_of, lists_at}
-use Rattle.daggy_base.proofs.Lists.{Contains-here, Contains-there, slice_get-push_old, slice_get-push_new}
-use Rattle.daggy_base.proofs.Lists.{slice_get-push_other, slice_get-set_other}
-use Rattle.daggy_cells.proofs.LinkedLists.{after_here, after_there}
-use Rattle.daggy_cells.proofs.LinkedListChanges.{row_push, linked_within, IsLinkedList-kept, AreLinkedLists-node}
-use Rattle.daggy_cells.proofs.LinkedListChanges.{AreLinkedLists-put, AreLinkedLists-kept, ListsBy-put}
-use Rattle.daggy_cells.proofs.FieldLemmas.{firsts_as_many, AreLedTo, edge_put_first}
+use Rattle.daggy_base.proofs.Lists.{slice_get-push_old, slice_get-push_new}
+use Rattle.daggy_base.proofs.Lists.{slice_get-push_other}
+use Rattle.daggy_cells.proofs.LinkedListChanges.{row_push, linked_within, AreLinkedLists-node}
+use Rattle.daggy_cells.proofs.LinkedListChanges.{AreLinkedLists-kept}
+use Rattle.daggy_cells.proofs.FieldLemmas.{firsts_as_many}
+use Rattle.daggy_cells.specs.Fields.{AreLedTo, edge_put_first}
 use Rattle.daggy_stable.specs.Stored.{weight_of, plain_edge, shown, list_firsts, end_of, IsThreaded, Stores}
 use Rattle.daggy_base.proofs.SlotLists.{slot_push_new, slot_push_other, none_past, vacant_down_more, of_slots_node}
 use Rattle.daggy_base.proofs.SlotLists.{of_slots_left, of_slots_taken}
-use Rattle.daggy_stable.proofs.Shown.{shown_some, shown-set, shown_push}
+use Rattle.daggy_stable.proofs.Shown.{shown_push}
 use Rattle.daggy_base.proofs.Slots.{count_cons}
-use Rattle.daggy_stable.proofs.Slots.{count_push, vacant_inside, rethreaded, slot_not_vacant, slot_inside}
-use Rattle.daggy_stable.proofs.Stores.{weights_seen, nodes_long, edges_long, firsts_long, some_is}
-use Rattle.daggy_stable.proofs.Changes.{AreNodes, IsPutFirst}
+use Rattle.daggy_base.specs.Adding.{with_node, with_edge}
+use Rattle.daggy_stable.proofs.Slots.{one_vacant, one_taken, counted_full, count_push, vacant_inside, slot_inside}
+use Rattle.daggy_stable.proofs.Stores.{weights_seen, nodes_long, edges_long, some_is}
+use Rattle.daggy_stable.proofs.Changes.{AreNodes, IsPutFirst, fresh_node, edge_put}
 
 module _ {A : Type 0} where
   count_push_vacant : (xs : List (Option A)) → count_by is_some (xs ++ None ∷ []) ≡ count_by is_some xs
@@ -75,62 +72,19 @@ module _ {A : Type 0} where
     pub threaded_taken : (x : A) (l : ℕ)
         → IsThreaded end (slots ++ Some x ∷ []) (links ++ l ∷ []) head (count + 1) vacant
     threaded_taken x l =
-        record {
-          linked = IsLinkedList-kept end links (links ++ l ∷ []) head vacant t.linked (old_link l);
-          exact = λ i. (
-            λ p. slice_get-push_other slots (Some x) i (λ same. omega (arith, same, inside i p)) ∙ (t.exact i).0 p,
-            λ q. elim (cases_eq i (length slots)) [
-              | inl last ↦
-                  absurd (none-some x (sym (same_Some (Some x) None
-                  (sym (slice_get-push_new slots (Some x)) ∙ ap (slice_get (slots ++ Some x ∷ [])) (sym last) ∙ q))))
-              | inr other ↦ (t.exact i).1 (sym (slice_get-push_other slots (Some x) i other) ∙ q)
-            ],
-          );
-          counted = omega (arith, t.counted, count_push slots x);
-          long = as_long (Some x) l;
-          few = omega (arith, index_left, length_push slots (Some x));
-        }
+        one_taken t (length slots) (λ p. omega (arith, inside (length slots) p))
+        (λ i other. slice_get-push_other slots (Some x) i other) (old_link l)
+        (omega (arith, t.counted, count_push slots x)) (as_long (Some x) l)
+        (omega (arith, index_left, length_push slots (Some x))) x (slice_get-push_new slots (Some x))
 
     -- a vacant one
     pub threaded_vacant : IsThreaded end (slots ++ None ∷ []) (links ++ head ∷ []) (length slots) count
         (length slots ∷ vacant)
     threaded_vacant =
-        let e = length slots in
-        record {
-          linked = record {
-            starts = refl;
-            distinct = (λ p. omega (arith, inside e p), t.linked.distinct);
-            goes_on = λ f p.
-                elim (cases_eq e f) [
-                  | inl same ↦
-                      subst (λ z. slice_get (links ++ head ∷ []) z ≡ Some (after end (e ∷ vacant) z)) same
-                      (ap (slice_get (links ++ head ∷ [])) (sym t.long) ∙ slice_get-push_new links head
-                      ∙ ap Some (t.linked.starts ∙ sym (after_here end e vacant)))
-                  | inr other ↦
-                      let there = Contains-tail e vacant f other p in
-                      old_link head f there ∙ t.linked.goes_on f there
-                      ∙ ap Some (sym (after_there end e f vacant other))
-                ];
-          };
-          exact = λ i. (
-            λ p. elim (cases_eq e i) [
-              | inl same ↦
-                  subst (λ z. slice_get (slots ++ None ∷ []) z ≡ Some None) same (slice_get-push_new slots None)
-              | inr other ↦
-                  slice_get-push_other slots None i (λ same. other (sym same))
-                  ∙ (t.exact i).0 (Contains-tail e vacant i other p)
-            ],
-            λ q. elim (cases_eq e i) [
-              | inl same ↦ subst (Contains (e ∷ vacant)) same (Contains-here e vacant)
-              | inr other ↦
-                  Contains-there e i vacant
-                  ((t.exact i).1 (sym (slice_get-push_other slots None i (λ same. other (sym same))) ∙ q))
-            ],
-          );
-          counted = t.counted ∙ sym (count_push_vacant slots);
-          long = as_long None head;
-          few = omega (arith, index_left, length_push slots None);
-        }
+        one_vacant t (length slots) (λ p. omega (arith, inside (length slots) p))
+        (λ i other. slice_get-push_other slots None i other) (old_link head) (t.counted ∙ sym (count_push_vacant slots))
+        (as_long None head) (omega (arith, index_left, length_push slots None)) (slice_get-push_new slots None)
+        (ap (slice_get (links ++ head ∷ [])) (sym t.long) ∙ slice_get-push_new links head)
 
 module _ {N E Ix : Type 0} {end : ℕ} {nodes : List (Node (Option N) Ix)} {edges : List (Edge (Option E) Ix)}
     {node_head edge_head nodes_counted edges_counted : ℕ} {g : Graph N E}
@@ -293,66 +247,15 @@ module _ {N E Ix : Type 0} {end : ℕ} {nodes : List (Node (Option N) Ix)} {edge
     abbrev line : PlainEdge E
     line = record { parent = a; child = b; weight = w }
 
-    found_a : (from : N) × (slot g.nodes a ≡ Some from)
-    found_a = some_is _ ends.parent
+    more : (dir : Direction) → nexts_of dir (edges ++ cell ∷ []) ≡ nexts_of dir edges ++ raw_next dir cell ∷ []
+    more dir = map_push (raw_next dir) edges cell
 
-    found_b : (into : N) × (slot g.nodes b ≡ Some into)
-    found_b = some_is _ ends.child
-
-    node_slots' : IsThreaded end g.nodes (firsts_of Outgoing nodes') node_head nodes_counted g.vacant_nodes
-    node_slots' =
-        rethreaded s.node_slots
-        (firsts_of Outgoing nodes') (ap length led.outs ∙ length-set (firsts_of Outgoing nodes) a (length edges))
-        (λ f p.
-        let other : f ≢ a = λ same.
-        slot_not_vacant g.nodes a found_a.0 found_a.1
-        ((s.node_slots.exact a).0 (subst (Contains g.vacant_nodes) same p)) in
-        ap (λ l. slice_get l f) led.outs ∙ slice_get-set_other (firsts_of Outgoing nodes) a f (length edges) other)
-
-    vacant_yet : edge_at g (length edges) ≡ None
-    vacant_yet = none_past g.edges (length edges) (omega (arith, edges_long s))
-
-    side_linked : (dir : Direction) (n : ℕ) (wn : N)
-        → slot g.nodes n ≡ Some wn → firsts_of dir nodes' ≡ set (firsts_of dir nodes) n (length edges)
-        → raw_next dir cell ≡ get_or (firsts_of dir nodes) n 0
-        → AreLinkedLists end (list_firsts end dir nodes') (nexts_of dir (edges ++ cell ∷ []))
-        (set (lists_at dir g) n (length edges ∷ nth_list (lists_at dir g) n))
-    side_linked dir n wn at firsts next =
-        let at' : slot (map weight_of nodes) n ≡ Some wn = ap (λ l. slot l n) (sym s.nodes_are) ∙ at in
-        let is : set (list_firsts end dir nodes) n (length edges) ≡ list_firsts end dir nodes' =
-        sym (shown-set end (map weight_of nodes) (firsts_of dir nodes) n (length edges) wn at')
-        ∙ ap (shown end (map weight_of nodes)) (sym firsts)
-        ∙ ap (λ l. shown end l (firsts_of dir nodes')) (sym (weights_seen _ _ led.weights)) in
-        let more : nexts_of dir (edges ++ cell ∷ []) ≡ nexts_of dir edges ++ raw_next dir cell ∷ [] =
-        map_push (raw_next dir) edges cell in
-        let long : length (nexts_of dir edges) ≡ length edges = length-map edges (raw_next dir) in
-        let within : n < length (list_firsts end dir nodes) =
-        omega (arith, firsts_long s dir, slot_inside g.nodes n wn at, nodes_long s) in
-        subst (λ z. AreLinkedLists end z (nexts_of dir (edges ++ cell ∷ []))
-        (set (lists_at dir g) n (length edges ∷ nth_list (lists_at dir g) n))) is
-        (AreLinkedLists-put n (length edges) (s.linked dir) within
-        (λ m p. none-some m (sym (ap (option_map (near_end dir)) vacant_yet) ∙ (s.listed dir m (length edges)).0 p))
-        (ap (slice_get (nexts_of dir (edges ++ cell ∷ []))) (sym long)
-        ∙ ap (λ l. slice_get l (length (nexts_of dir edges))) more
+    link : (dir : Direction)
+        → slice_get (nexts_of dir (edges ++ cell ∷ [])) (length edges) ≡ Some (raw_next dir cell)
+    link dir =
+        ap (slice_get (nexts_of dir (edges ++ cell ∷ []))) (sym (length-map edges (raw_next dir)))
+        ∙ ap (λ l. slice_get l (length (nexts_of dir edges))) (more dir)
         ∙ slice_get-push_new (nexts_of dir edges) (raw_next dir cell)
-        ∙ ap Some (next ∙ sym
-        (shown_some end (map weight_of nodes) (firsts_of dir nodes) n wn (firsts_as_many weight_of dir nodes) at')))
-        (λ f other within_f.
-        ap (λ l. slice_get l f) more ∙ slice_get-push_old (nexts_of dir edges) (raw_next dir cell) f within_f))
-
-    side_listed : (dir : Direction) (n : ℕ) (wn : N) → slot g.nodes n ≡ Some wn → near_end dir line ≡ n
-        → ListsBy (λ e. option_map (near_end dir) (slot (g.edges ++ Some line ∷ []) e))
-        (set (lists_at dir g) n (length edges ∷ nth_list (lists_at dir g) n))
-    side_listed dir n wn at is =
-        let within : n < length (lists_at dir g) =
-        omega (arith, (s.linked dir).rows, firsts_long s dir, slot_inside g.nodes n wn at, nodes_long s) in
-        ListsBy-put (end_of dir g) _ (lists_at dir g) (length edges) (s.listed dir) within
-        (ap (option_map (near_end dir)) vacant_yet)
-        (ap (option_map (near_end dir))
-        (ap (slot (g.edges ++ Some line ∷ [])) (sym (edges_long s)) ∙ slot_push_new g.edges (Some line))
-        ∙ ap Some is)
-        (λ f other.
-        ap (option_map (near_end dir)) (slot_push_other g.edges (Some line) f (λ same. other (same ∙ edges_long s))))
 
     pub edge_taken : Stores end nodes' (edges ++ cell ∷ []) node_head edge_head nodes_counted (edges_counted + 1)
         (record {
@@ -366,22 +269,44 @@ module _ {N E Ix : Type 0} {end : ℕ} {nodes : List (Node (Option N) Ix)} {edge
     edge_taken =
         let threaded =
         threaded_taken s.edge_slots (omega (arith, index_left, edges_long s)) line (raw_next Outgoing cell) in
-        record {
-          nodes_are = s.nodes_are ∙ sym (weights_seen _ _ led.weights);
-          edges_are = ap (λ l. l ++ Some line ∷ []) s.edges_are ∙ sym (map_push plain_edge edges cell);
-          linked = elim [
-            | Outgoing ↦ side_linked Outgoing a found_a.0 found_a.1 led.outs refl
-            | Incoming ↦ side_linked Incoming b found_b.0 found_b.1 led.ins refl
-          ];
-          listed = elim [
-            | Outgoing ↦ side_listed Outgoing a found_a.0 found_a.1 refl
-            | Incoming ↦ side_listed Incoming b found_b.0 found_b.1 refl
-          ];
-          node_slots = node_slots';
-          edge_slots =
-              subst (λ l. IsThreaded end (g.edges ++ Some line ∷ []) l edge_head (edges_counted + 1) g.vacant_edges)
-              (sym (map_push (raw_next Outgoing) edges cell)) threaded;
-        }
+        edge_put s {e = length edges} ends led {slots = g.edges ++ Some line ∷ []} (record {
+          free = none_past g.edges (length edges) (omega (arith, edges_long s));
+          plains = map_push plain_edge edges cell ∙ ap (λ l. l ++ Some line ∷ []) (sym s.edges_are);
+          here = ap (slot (g.edges ++ Some line ∷ [])) (sym (edges_long s)) ∙ slot_push_new g.edges (Some line);
+          elsewhere = λ f other. slot_push_other g.edges (Some line) f (λ same. other (same ∙ edges_long s));
+          link = elim [ Outgoing ↦ link Outgoing | Incoming ↦ link Incoming ];
+          others = λ dir f other inside.
+              ap (λ l. slice_get l f) (more dir)
+              ∙ slice_get-push_old (nexts_of dir edges) (raw_next dir cell) f
+              (omega (arith, inside, length-map edges (raw_next dir)));
+        })
+        (subst (λ l. IsThreaded end (g.edges ++ Some line ∷ []) l edge_head (edges_counted + 1) g.vacant_edges)
+        (sym (more Outgoing)) threaded)
+
+  -- where no slot is vacant, a new one is the next, in the words of the code
+  pub node_made_code : (w : N) {y : Node (Option N) Ix} {reserved_cells nodes' : List (Node (Option N) Ix)}
+      → g.vacant_nodes ≡ [] → nodes_counted < end → y ≡ fresh_node end w → reserved_cells ≡ nodes
+      → nodes' ≡ reserved_cells ++ y ∷ []
+      → Stores end nodes' edges node_head edge_head (nodes_counted + 1) edges_counted (with_node g w)
+  node_made_code w {y} none few y_is reserved pushed =
+      let full =
+      counted_full (subst (IsThreaded end g.nodes (firsts_of Outgoing nodes) node_head nodes_counted) none
+      s.node_slots) in
+      let made = node_taken (fresh_node end w) w refl (omega (arith, few, full, nodes_long s)) in
+      rw (pushed, reserved, y_is, none) (rw none at made)
+
+  pub edge_made_code : {a b u v e : ℕ} {w : E} {y : Edge (Option E) Ix} {nodes' : List (Node (Option N) Ix)}
+      {edges' : List (Edge (Option E) Ix)}
+      → AreNodes g a b → u ≡ a → v ≡ b → IsPutFirst nodes nodes' u v e (Some w) y
+      → e ≡ length edges → g.vacant_edges ≡ [] → edges_counted < end → edges' ≡ edges ++ y ∷ []
+      → Stores end nodes' edges' node_head edge_head nodes_counted (edges_counted + 1) (with_edge g a b w)
+  edge_made_code {a} {b} {w = w} {y} {nodes'} ends u_is v_is put e_is none few pushed =
+      let put_at : IsPutFirst nodes nodes' a b (length edges) (Some w) y = rw (← u_is, ← v_is, ← e_is) put in
+      let full =
+      counted_full (subst (IsThreaded end g.edges (nexts_of Outgoing edges) edge_head edges_counted) none
+      s.edge_slots) in
+      let made = edge_taken w ends (omega (arith, few, full, edges_long s)) put_at.led in
+      rw (pushed, put_at.stored, none, edges_long s) (rw none at made)
 
 -- what is stored is the graph that the slots make, in the words of the code
 module _ {N E Ix : Type 0} (end : ℕ) where

@@ -1,28 +1,25 @@
 -- What each change of nodes and edges makes of what is stored.
-use Rattle.std.proofs.Common.{◌≡◌, ◌≢◌, ℕ, zero, suc, ◌+◌, ◌<◌, ◌≤◌, List, [], ◌∷◌, ◌++◌, map, length, get_or, set}
-use Rattle.std.proofs.Common.{Option, Some, None, IsSome, slice_get, refl, sym, ap, subst, ◌∙◌, arith, Contains}
+use Rattle.std.proofs.Common.{◌≡◌, ◌≢◌, ℕ, zero, suc, ◌+◌, ◌<◌, ◌≤◌, List, [], ◌∷◌, map, length, get_or, set, Option}
+use Rattle.std.proofs.Common.{Some, None, IsSome, slice_get, refl, sym, ap, subst, ◌∙◌, arith, Contains}
 use Rattle.std.specs.Option.{option_map, option_and_then}
-use Rattle.std.proofs.lemmas.List.{length-set, length_push, length-map, map-set, map_push, set-get_or}
+use Rattle.std.proofs.lemmas.List.{length-set, length-map, map-set, set-get_or}
 use Rattle.std.proofs.lemmas.Option.{none-some, unwrap_or-slice_get}
 use Rattle.daggy_base.specs.declared.index.Direction.{Direction}
 use Rattle.daggy_base.specs.declared.index.Direction.TheVariants.{Outgoing, Incoming}
-use Rattle.daggy_base.specs.Graph.{Graph, Edge as PlainEdge, slot, near_end}
-use Rattle.daggy_base.specs.Adding.{next_slot, next_edge, with_slot_filled, remaining_vacant, with_node, with_edge}
-use Rattle.daggy_base.proofs.Slots.{slot_taken_new}
-use Rattle.daggy_base.proofs.PathsWithNewNode.{free_slots, next_is_free}
+use Rattle.daggy_base.specs.Graph.{Graph, Edge as PlainEdge, slot, edge_at, near_end}
+use Rattle.daggy_base.specs.Adding.{with_node, with_edge}
 use Rattle.daggy_cells.specs.declared.cell.Node.{Node}
 use Rattle.daggy_cells.specs.declared.cell.Edge.{Edge}
 use Rattle.daggy_cells.specs.Links.{nth_list, AreLinkedLists, ListsBy}
 use Rattle.daggy_cells.specs.Raw.{raw_first, raw_next}
 use Rattle.daggy_cells.specs.Fields.{firsts_of, nexts_of, lists_at}
-use Rattle.daggy_base.proofs.Lists.{slice_get-set_other, slice_get-set_same, slice_get-push_other, slice_get-push_old}
-use Rattle.daggy_base.proofs.Lists.{slice_get-push_new, slice_get_mapped}
-use Rattle.daggy_cells.proofs.LinkedListChanges.{row_push, AreLinkedLists-node, AreLinkedLists-put, ListsBy-put}
-use Rattle.daggy_cells.proofs.FieldLemmas.{firsts_as_many, AreLedTo, edge_put_first}
+use Rattle.daggy_base.proofs.Lists.{slice_get-set_other, slice_get-set_same, slice_get_mapped}
+use Rattle.daggy_cells.proofs.LinkedListChanges.{AreLinkedLists-put, ListsBy-put}
+use Rattle.daggy_cells.proofs.FieldLemmas.{firsts_as_many}
+use Rattle.daggy_cells.specs.Fields.{AreLedTo, edge_put_first}
 use Rattle.daggy_stable.specs.Stored.{weight_of, plain_edge, shown, list_firsts, end_of, IsThreaded, Stores}
-use Rattle.daggy_stable.proofs.Slots.{made, filled, rethreaded, slot_not_vacant, counted_full, vacant_none, vacant_some}
-use Rattle.daggy_stable.proofs.Slots.{vacant_inside}
-use Rattle.daggy_stable.proofs.Shown.{shown_some, shown-set, shown-fill, shown_push}
+use Rattle.daggy_stable.proofs.Slots.{filled, rethreaded, slot_not_vacant, vacant_none, vacant_some, vacant_inside}
+use Rattle.daggy_stable.proofs.Shown.{shown_some, shown-set, shown-fill}
 use Rattle.daggy_stable.proofs.Stores.{weights_seen, nodes_long, edges_long, firsts_long, none_shown, some_is}
 
 -- a node as it is stored at first
@@ -40,13 +37,17 @@ pub record IsPutFirst {N E Ix : Type 0} (nodes nodes' : List (Node N Ix)) (a b e
   pub led : AreLedTo nodes nodes' a b e
   pub stored : y ≡ edge_put_first nodes a b w
 
--- the new edge is stored in the next slot, before the first edges of its ends, and the other edges keep their links
-record IsNewEdge {N E Ix : Type 0} (nodes : List (Node (Option N) Ix)) (edges edges' : List (Edge (Option E) Ix))
-    (g : Graph N E) (new : PlainEdge E) : Type 0 where
-  plains : map plain_edge edges' ≡ with_slot_filled g.edges g.vacant_edges (Some new)
-  link : (dir : Direction)
-      → slice_get (nexts_of dir edges') (next_edge g) ≡ Some (get_or (firsts_of dir nodes) (near_end dir new) 0)
-  others : (dir : Direction) (f : ℕ) → f ≢ next_edge g → f < length edges
+-- the new edge is stored in the slot e, which was vacant or past the end, before the first edges of its ends, and the
+-- other edges keep their links; the slots are then these
+pub record IsNewEdge {N E Ix : Type 0} (nodes : List (Node (Option N) Ix)) (edges edges' : List (Edge (Option E) Ix))
+    (g : Graph N E) (new : PlainEdge E) (e : ℕ) (slots : List (Option (PlainEdge E))) : Type 0 where
+  pub free : edge_at g e ≡ None
+  pub plains : map plain_edge edges' ≡ slots
+  pub here : slot slots e ≡ Some new
+  pub elsewhere : (f : ℕ) → f ≢ e → slot slots f ≡ edge_at g f
+  pub link : (dir : Direction)
+      → slice_get (nexts_of dir edges') e ≡ Some (get_or (firsts_of dir nodes) (near_end dir new) 0)
+  pub others : (dir : Direction) (f : ℕ) → f ≢ e → f < length edges
       → slice_get (nexts_of dir edges') f ≡ slice_get (nexts_of dir edges) f
 
 raw_fresh : {N : Type 0} (Ix : Type 0) (dir : Direction) (end : ℕ) (w : N)
@@ -57,11 +58,6 @@ raw_fresh Ix Incoming end w = refl
 set_empty : (lists : List (List ℕ)) (n : ℕ) → nth_list lists n ≡ [] → set lists n [] ≡ lists
 set_empty lists n empty = ap (set lists n) (sym empty ∙ unwrap_or-slice_get lists n []) ∙ set-get_or lists n []
 
-slot_taken_other : {A : Type 0} (xs : List (Option A)) (vacant : List ℕ) (x : A) (i : ℕ)
-    → i ≢ next_slot xs vacant → slot (with_slot_filled xs vacant (Some x)) i ≡ slot xs i
-slot_taken_other xs [] x i other = ap (option_and_then (λ z. z)) (slice_get-push_other xs (Some x) i other)
-slot_taken_other xs (v ∷ vs) x i other = ap (option_and_then (λ z. z)) (slice_get-set_other xs v i (Some x) other)
-
 slot_in : {N Ix : Type 0} (cells : List (Node (Option N) Ix)) (i : ℕ) (y : N)
     → slot (map weight_of cells) i ≡ Some y → i < length cells
 slot_in [] i y p = absurd (none-some y p)
@@ -71,41 +67,6 @@ slot_in (c ∷ cs) (suc i) y p = let more = slot_in cs i y p in omega (arith, mo
 module _ {N E Ix : Type 0} {end : ℕ} {nodes : List (Node (Option N) Ix)} {edges : List (Edge (Option E) Ix)}
     {node_head edge_head nodes_counted edges_counted : ℕ} {g : Graph N E}
     (s : Stores end nodes edges node_head edge_head nodes_counted edges_counted g) where
-  -- one more node, in a new slot
-  pub node_made : (w : N) → g.vacant_nodes ≡ [] → nodes_counted < end
-      → Stores end (nodes ++ fresh_node end w ∷ []) edges node_head edge_head (suc nodes_counted) edges_counted
-      (with_node g w)
-  node_made w none index_left =
-      let x : Node (Option N) Ix = fresh_node end w in
-      let t : IsThreaded end g.nodes (firsts_of Outgoing nodes) node_head nodes_counted [] =
-      subst (IsThreaded end g.nodes (firsts_of Outgoing nodes) node_head nodes_counted) none s.node_slots in
-      let full = counted_full t in
-      let firsts : (dir : Direction) → list_firsts end dir nodes ++ end ∷ [] ≡ list_firsts end dir (nodes ++ x ∷ []) =
-      λ dir.
-      sym (ap (λ l. shown end l (firsts_of dir (nodes ++ x ∷ []))) (map_push weight_of nodes x)
-      ∙ ap (shown end (map weight_of nodes ++ Some w ∷ []))
-      (map_push (raw_first dir) nodes x ∙ ap (λ z. firsts_of dir nodes ++ z ∷ []) (raw_fresh Ix dir end w))
-      ∙ shown_push end (map weight_of nodes) (firsts_of dir nodes) w end (firsts_as_many weight_of dir nodes)) in
-      let links : (dir : Direction)
-      → AreLinkedLists end (list_firsts end dir (nodes ++ x ∷ [])) (nexts_of dir edges) (lists_at dir g ++ [] ∷ []) =
-      λ dir.
-      subst (λ z. AreLinkedLists end z (nexts_of dir edges) (lists_at dir g ++ [] ∷ [])) (firsts dir)
-      (AreLinkedLists-node end _ _ _ (s.linked dir)) in
-      let lists : (dir : Direction) → ListsBy (end_of dir g) (lists_at dir g ++ [] ∷ []) = λ dir n e.
-      rw (row_push (lists_at dir g) n) (s.listed dir n e) in
-      let long : length (firsts_of Outgoing (nodes ++ x ∷ [])) ≡ suc (length g.nodes) =
-      omega (arith, length-map (nodes ++ x ∷ []) (raw_first Outgoing), length_push nodes x, nodes_long s) in
-      rw none (
-      record {
-        nodes_are = ap (λ l. l ++ Some w ∷ []) s.nodes_are ∙ sym (map_push weight_of nodes x);
-        edges_are = s.edges_are;
-        linked = elim [ Outgoing ↦ links Outgoing | Incoming ↦ links Incoming ];
-        listed = elim [ Outgoing ↦ lists Outgoing | Incoming ↦ lists Incoming ];
-        node_slots =
-            made t w (omega (arith, index_left, full)) (firsts_of Outgoing (nodes ++ x ∷ [])) long;
-        edge_slots = s.edge_slots;
-      })
-
   -- one more node, in the slot vacated last
   pub node_filled : (w : N) (v : ℕ) (vs : List ℕ) (head' : ℕ)
       → g.vacant_nodes ≡ v ∷ vs → slice_get (firsts_of Outgoing nodes) v ≡ Some head'
@@ -154,63 +115,51 @@ module _ {N E Ix : Type 0} {end : ℕ} {nodes : List (Node (Option N) Ix)} {edge
       })
 
   -- one more edge
-  module _ {u v : ℕ} {w : E} (ends : AreNodes g u v) {nodes' : List (Node (Option N) Ix)}
-      (led : AreLedTo nodes nodes' u v (next_edge g)) {edges' : List (Edge (Option E) Ix)}
-      (stored : IsNewEdge nodes edges edges' g (record { parent = u; child = v; weight = w })) where
-    abbrev new : PlainEdge E
-    new = record { parent = u; child = v; weight = w }
-
+  module _ {u v e : ℕ} {w : E} (ends : AreNodes g u v) {nodes' : List (Node (Option N) Ix)}
+      (led : AreLedTo nodes nodes' u v e) {edges' : List (Edge (Option E) Ix)} {slots : List (Option (PlainEdge E))}
+      (stored : IsNewEdge nodes edges edges' g (record { parent = u; child = v; weight = w }) e slots) where
     found_u : (from : N) × (slot g.nodes u ≡ Some from)
     found_u = some_is _ ends.parent
 
     found_v : (into : N) × (slot g.nodes v ≡ Some into)
     found_v = some_is _ ends.child
 
-    edge_slots_vacant : slot g.edges (next_edge g) ≡ None
-    edge_slots_vacant =
-        next_is_free g.edges g.vacant_edges
-        (free_slots g.edges g.vacant_edges (record { exact = s.edge_slots.exact; once = s.edge_slots.linked.distinct }))
-
     node_slots' : IsThreaded end g.nodes (firsts_of Outgoing nodes') node_head nodes_counted g.vacant_nodes
     node_slots' =
         rethreaded s.node_slots
-        (firsts_of Outgoing nodes') (ap length led.outs ∙ length-set (firsts_of Outgoing nodes) u (next_edge g)) (λ f p.
+        (firsts_of Outgoing nodes') (ap length led.outs ∙ length-set (firsts_of Outgoing nodes) u e) (λ f p.
         let other : f ≢ u = λ same.
         slot_not_vacant g.nodes u found_u.0 found_u.1
         ((s.node_slots.exact u).0 (subst (Contains g.vacant_nodes) same p)) in
-        ap (λ l. slice_get l f) led.outs ∙ slice_get-set_other (firsts_of Outgoing nodes) u f (next_edge g) other)
+        ap (λ l. slice_get l f) led.outs ∙ slice_get-set_other (firsts_of Outgoing nodes) u f e other)
 
     one_side : (dir : Direction) (n : ℕ) (wn : N)
-        → slot g.nodes n ≡ Some wn → firsts_of dir nodes' ≡ set (firsts_of dir nodes) n (next_edge g)
-        → slice_get (nexts_of dir edges') (next_edge g) ≡ Some (get_or (firsts_of dir nodes) n 0)
+        → slot g.nodes n ≡ Some wn → firsts_of dir nodes' ≡ set (firsts_of dir nodes) n e
+        → slice_get (nexts_of dir edges') e ≡ Some (get_or (firsts_of dir nodes) n 0)
         → AreLinkedLists end (list_firsts end dir nodes') (nexts_of dir edges')
-        (set (lists_at dir g) n (next_edge g ∷ nth_list (lists_at dir g) n))
+        (set (lists_at dir g) n (e ∷ nth_list (lists_at dir g) n))
     one_side dir n wn at firsts new_link =
         let at' : slot (map weight_of nodes) n ≡ Some wn = ap (λ l. slot l n) (sym s.nodes_are) ∙ at in
-        let is : set (list_firsts end dir nodes) n (next_edge g) ≡ list_firsts end dir nodes' =
-        sym (shown-set end (map weight_of nodes) (firsts_of dir nodes) n (next_edge g) wn at')
+        let is : set (list_firsts end dir nodes) n e ≡ list_firsts end dir nodes' =
+        sym (shown-set end (map weight_of nodes) (firsts_of dir nodes) n e wn at')
         ∙ ap (shown end (map weight_of nodes)) (sym firsts)
         ∙ ap (λ l. shown end l (firsts_of dir nodes')) (sym (weights_seen _ _ led.weights)) in
         let within : n < length (list_firsts end dir nodes) =
         omega (arith, firsts_long s dir, slot_in nodes n wn at') in
         subst (λ z. AreLinkedLists end z (nexts_of dir edges')
-        (set (lists_at dir g) n (next_edge g ∷ nth_list (lists_at dir g) n))) is
-        (AreLinkedLists-put n (next_edge g) (s.linked dir) within
-        (λ m p.
-        none-some m (sym (ap (option_map (near_end dir)) edge_slots_vacant) ∙ (s.listed dir m (next_edge g)).0 p))
+        (set (lists_at dir g) n (e ∷ nth_list (lists_at dir g) n))) is
+        (AreLinkedLists-put n e (s.linked dir) within
+        (λ m p. none-some m (sym (ap (option_map (near_end dir)) stored.free) ∙ (s.listed dir m e).0 p))
         (new_link
         ∙ ap Some (sym
         (shown_some end (map weight_of nodes) (firsts_of dir nodes) n wn (firsts_as_many weight_of dir nodes) at')))
         (λ f other inside. stored.others dir f other (omega (arith, inside, length-map edges (raw_next dir)))))
 
-    side_listed : (dir : Direction) (n : ℕ) (wn : N) → slot g.nodes n ≡ Some wn → near_end dir new ≡ n
-        → ListsBy (λ e. option_map (near_end dir)
-        (slot (with_slot_filled g.edges g.vacant_edges (Some (record { parent = u; child = v; weight = w }))) e))
-        (set (lists_at dir g) n (next_edge g ∷ nth_list (lists_at dir g) n))
+    side_listed : (dir : Direction) (n : ℕ) (wn : N) → slot g.nodes n ≡ Some wn
+        → near_end dir (record { parent = u; child = v; weight = w }) ≡ n
+        → ListsBy (λ f. option_map (near_end dir) (slot slots f))
+        (set (lists_at dir g) n (e ∷ nth_list (lists_at dir g) n))
     side_listed dir n wn at is =
-        let free =
-        free_slots g.edges g.vacant_edges
-        (record { exact = s.edge_slots.exact; once = s.edge_slots.linked.distinct }) in
         let within : n < length (lists_at dir g) =
         omega (
           arith,
@@ -218,16 +167,21 @@ module _ {N E Ix : Type 0} {end : ℕ} {nodes : List (Node (Option N) Ix)} {edge
           firsts_long s dir,
           slot_in nodes n wn (ap (λ l. slot l n) (sym s.nodes_are) ∙ at),
         ) in
-        ListsBy-put (end_of dir g) _ (lists_at dir g) (next_edge g) (s.listed dir) within
-        (ap (option_map (near_end dir)) edge_slots_vacant)
-        (ap (option_map (near_end dir)) (slot_taken_new g.edges g.vacant_edges new free) ∙ ap Some is)
-        (λ f other. ap (option_map (near_end dir)) (slot_taken_other g.edges g.vacant_edges new f other))
+        ListsBy-put (end_of dir g) _ (lists_at dir g) e (s.listed dir) within
+        (ap (option_map (near_end dir)) stored.free)
+        (ap (option_map (near_end dir)) stored.here ∙ ap Some is)
+        (λ f other. ap (option_map (near_end dir)) (stored.elsewhere f other))
 
-    edge_put : {edge_head' edges_counted' : ℕ}
-        → IsThreaded end
-        (with_slot_filled g.edges g.vacant_edges (Some (record { parent = u; child = v; weight = w })))
-        (nexts_of Outgoing edges') edge_head' edges_counted' (remaining_vacant g.vacant_edges)
-        → Stores end nodes' edges' node_head edge_head' nodes_counted edges_counted' (with_edge g u v w)
+    pub edge_put : {edge_head' edges_counted' : ℕ} {vacant : List ℕ}
+        → IsThreaded end slots (nexts_of Outgoing edges') edge_head' edges_counted' vacant
+        → Stores end nodes' edges' node_head edge_head' nodes_counted edges_counted' (record {
+          nodes = g.nodes;
+          edges = slots;
+          out_lists = set g.out_lists u (e ∷ nth_list g.out_lists u);
+          in_lists = set g.in_lists v (e ∷ nth_list g.in_lists v);
+          vacant_nodes = g.vacant_nodes;
+          vacant_edges = vacant;
+        })
     edge_put threaded =
         record {
           nodes_are = s.nodes_are ∙ sym (weights_seen _ _ led.weights);
@@ -305,16 +259,6 @@ module _ {N E Ix : Type 0} {end : ℕ} {nodes : List (Node (Option N) Ix)} {edge
       (λ k. Stores end (set nodes node_head (fresh_node end w)) edges head' edge_head k edges_counted (with_node g w))
       more (node_filled s w node_head found.0 head' found.1 goes))
 
-  pub node_made_code : (w : N) {y : Node (Option N) Ix} {reserved_cells nodes' : List (Node (Option N) Ix)}
-      → g.vacant_nodes ≡ [] → nodes_counted < end → y ≡ fresh_node end w → reserved_cells ≡ nodes
-      → nodes' ≡ reserved_cells ++ y ∷ []
-      → Stores end nodes' edges node_head edge_head (nodes_counted + 1) edges_counted (with_node g w)
-  node_made_code w none few y_is reserved pushed =
-      let more : suc nodes_counted ≡ nodes_counted + 1 = omega arith in
-      rw (pushed, reserved, y_is) (subst
-      (λ k. Stores end (nodes ++ fresh_node end w ∷ []) edges node_head edge_head k edges_counted (with_node g w)) more
-      (node_made s w none few))
-
   module _ {a b : ℕ} (w : E) (ends : AreNodes g a b) where
     -- what is stored of the new edge
     abbrev cell : Edge (Option E) Ix
@@ -329,7 +273,6 @@ module _ {N E Ix : Type 0} {end : ℕ} {nodes : List (Node (Option N) Ix)} {edge
         → Stores end nodes' (set edges edge_head cell) node_head head' nodes_counted (suc edges_counted)
         (with_edge g a b w)
     edge_filled {vs} {head'} {nodes'} some within goes led =
-        let e_is : next_edge g ≡ edge_head = ap (next_slot g.edges) some in
         let t : IsThreaded end g.edges (nexts_of Outgoing edges) edge_head edges_counted (edge_head ∷ vs) =
         subst (IsThreaded end g.edges (nexts_of Outgoing edges) edge_head edges_counted) some s.edge_slots in
         let written : (dir : Direction)
@@ -337,9 +280,9 @@ module _ {N E Ix : Type 0} {end : ℕ} {nodes : List (Node (Option N) Ix)} {edge
         λ dir.
         map-set (raw_next dir) edges edge_head cell in
         let link : (dir : Direction)
-        → slice_get (nexts_of dir (set edges edge_head cell)) (next_edge g) ≡ Some (raw_next dir cell) =
+        → slice_get (nexts_of dir (set edges edge_head cell)) edge_head ≡ Some (raw_next dir cell) =
         λ dir.
-        ap (slice_get (nexts_of dir (set edges edge_head cell))) e_is ∙ ap (λ l. slice_get l edge_head) (written dir)
+        ap (λ l. slice_get l edge_head) (written dir)
         ∙ slice_get-set_same (nexts_of dir edges) edge_head (raw_next dir cell)
         (omega (arith, within, length-map edges (raw_next dir))) in
         let others : (dir : Direction) (f : ℕ)
@@ -352,58 +295,19 @@ module _ {N E Ix : Type 0} {end : ℕ} {nodes : List (Node (Option N) Ix)} {edge
         let threaded =
         filled t new_edge (nexts_of Outgoing (set edges edge_head cell)) head' long
         (λ f p. others Outgoing f (λ same. t.linked.distinct.0 (subst (Contains vs) same p))) goes in
-        edge_put s ends (subst (AreLedTo nodes nodes' a b) (sym e_is) led) record {
+        let slots = set g.edges edge_head (Some new_edge) in
+        rw some (edge_put s {e = edge_head} ends led {slots = slots} (record {
+          free = ap (option_and_then (λ z. z)) ((t.exact edge_head).0 (0, omega arith, refl));
           plains =
-              map-set plain_edge edges edge_head cell ∙ ap (λ l. set l edge_head (Some new_edge)) (sym s.edges_are)
-              ∙ sym (ap (λ z. with_slot_filled g.edges z (Some new_edge)) some);
+              map-set plain_edge edges edge_head cell ∙ ap (λ l. set l edge_head (Some new_edge)) (sym s.edges_are);
+          here =
+              ap (option_and_then (λ z. z))
+              (slice_get-set_same g.edges edge_head (Some new_edge) (omega (arith, within, edges_long s)));
+          elsewhere = λ f other.
+              ap (option_and_then (λ z. z)) (slice_get-set_other g.edges edge_head f (Some new_edge) other);
           link = elim [ Outgoing ↦ link Outgoing | Incoming ↦ link Incoming ];
-          others = λ dir f other inside. others dir f (λ same. other (same ∙ sym e_is));
-        }
-        (subst (λ z. IsThreaded end (with_slot_filled g.edges z (Some new_edge))
-        (nexts_of Outgoing (set edges edge_head cell)) head' (suc edges_counted) (remaining_vacant z)) (sym some)
-        threaded)
-
-    edge_made : {nodes' : List (Node (Option N) Ix)} → g.vacant_edges ≡ [] → edges_counted < end
-        → AreLedTo nodes nodes' a b (length edges)
-        → Stores end nodes' (edges ++ cell ∷ []) node_head edge_head nodes_counted (suc edges_counted)
-        (with_edge g a b w)
-    edge_made {nodes'} none few led =
-        let e_is : next_edge g ≡ length edges = ap (next_slot g.edges) none ∙ edges_long s in
-        let t : IsThreaded end g.edges (nexts_of Outgoing edges) edge_head edges_counted [] =
-        subst (IsThreaded end g.edges (nexts_of Outgoing edges) edge_head edges_counted) none s.edge_slots in
-        let full = counted_full t in
-        let written : (dir : Direction)
-        → nexts_of dir (edges ++ cell ∷ []) ≡ nexts_of dir edges ++ raw_next dir cell ∷ [] =
-        λ dir.
-        map_push (raw_next dir) edges cell in
-        let link : (dir : Direction)
-        → slice_get (nexts_of dir (edges ++ cell ∷ [])) (next_edge g) ≡ Some (raw_next dir cell) =
-        λ dir.
-        ap (slice_get (nexts_of dir (edges ++ cell ∷ []))) (e_is ∙ sym (length-map edges (raw_next dir)))
-        ∙ ap (λ l. slice_get l (length (nexts_of dir edges))) (written dir)
-        ∙ slice_get-push_new (nexts_of dir edges) (raw_next dir cell) in
-        let long : length (nexts_of Outgoing (edges ++ cell ∷ [])) ≡ suc (length g.edges) =
-        omega (
-          arith,
-          ap length (written Outgoing),
-          length_push (nexts_of Outgoing edges) (raw_next Outgoing cell),
-          t.long,
-        ) in
-        let threaded =
-        made t new_edge (omega (arith, few, full)) (nexts_of Outgoing (edges ++ cell ∷ [])) long in
-        edge_put s ends (subst (AreLedTo nodes nodes' a b) (sym e_is) led) record {
-          plains =
-              map_push plain_edge edges cell ∙ ap (λ l. l ++ Some new_edge ∷ []) (sym s.edges_are)
-              ∙ sym (ap (λ z. with_slot_filled g.edges z (Some new_edge)) none);
-          link = elim [ Outgoing ↦ link Outgoing | Incoming ↦ link Incoming ];
-          others = λ dir f other inside.
-              ap (λ l. slice_get l f) (written dir)
-              ∙ slice_get-push_old (nexts_of dir edges) (raw_next dir cell) f
-              (omega (arith, inside, length-map edges (raw_next dir)));
-        }
-        (subst (λ z. IsThreaded end (with_slot_filled g.edges z (Some new_edge))
-        (nexts_of Outgoing (edges ++ cell ∷ [])) edge_head (suc edges_counted) (remaining_vacant z)) (sym none)
-        threaded)
+          others = λ dir f other inside. others dir f other;
+        }) threaded)
 
   pub edge_filled_code : {a b u v i head' : ℕ} {w : E} {x y : Edge (Option E) Ix} {nodes' : List (Node (Option N) Ix)}
       → AreNodes g a b → u ≡ a → v ≡ b → IsPutFirst nodes nodes' u v edge_head (Some w) y
@@ -417,17 +321,6 @@ module _ {N E Ix : Type 0} {end : ℕ} {nodes : List (Node (Option N) Ix)} {edge
       let put_at : IsPutFirst nodes nodes' a b edge_head (Some w) y = rw (← u_is, ← v_is) put in
       let whole = edge_filled w ends found.1 found.2 goes put_at.led in
       rw (i_is, put_at.stored, ← more) whole
-
-  pub edge_made_code : {a b u v e : ℕ} {w : E} {y : Edge (Option E) Ix} {nodes' : List (Node (Option N) Ix)}
-      {edges' : List (Edge (Option E) Ix)}
-      → AreNodes g a b → u ≡ a → v ≡ b → IsPutFirst nodes nodes' u v e (Some w) y
-      → e ≡ length edges → g.vacant_edges ≡ [] → edges_counted < end → edges' ≡ edges ++ y ∷ []
-      → Stores end nodes' edges' node_head edge_head nodes_counted (edges_counted + 1) (with_edge g a b w)
-  edge_made_code {a} {b} {w = w} {y} {nodes'} ends u_is v_is put e_is none few pushed =
-      let more : suc edges_counted ≡ edges_counted + 1 = omega arith in
-      let put_at : IsPutFirst nodes nodes' a b (length edges) (Some w) y = rw (← u_is, ← v_is, ← e_is) put in
-      let whole = edge_made w ends none few put_at.led in
-      rw (pushed, put_at.stored, ← more) whole
 
   pub node_inside : (n : ℕ) → IsSome (slot g.nodes n) → n < length nodes
   node_inside n p = let found = some_is _ p in slot_in nodes n found.0 (ap (λ l. slot l n) (sym s.nodes_are) ∙ found.1)

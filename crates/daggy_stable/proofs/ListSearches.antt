@@ -1,69 +1,13 @@
--- Searching a list for an edge, and slots for the last that is not vacant.
-use Rattle.std.proofs.Common.{◌≡◌, ℕ, zero, suc, ◌-◌, ◌<◌, ◌≤◌, Bool, true, false, eqb, List, [], ◌∷◌, map, length}
-use Rattle.std.proofs.Common.{get_or, take, Option, Some, None, is_some, true≢false, unwrap_or, refl, sym, ap, ◌∙◌}
-use Rattle.std.proofs.Common.{arith, Contains}
-use Rattle.std.specs.List.{find}
+-- Searching slots for the last that is not vacant.
+use Rattle.std.proofs.Common.{◌≡◌, ℕ, zero, suc, ◌-◌, ◌<◌, ◌≤◌, Bool, true, false, List, [], ◌∷◌, map, length, get_or}
+use Rattle.std.proofs.Common.{take, Option, Some, None, is_some, true≢false, refl, sym, ap, ◌∙◌, arith}
 use Rattle.std.specs.Option.{option_map}
-use Rattle.std.proofs.lemmas.List.{length-map, get_or-map, take_all}
+use Rattle.std.proofs.lemmas.List.{length-map, take_all}
 use Rattle.std.proofs.lemmas.Option.{none-some}
-use Rattle.daggy_base.specs.declared.index.Direction.TheVariants.{Outgoing, Incoming}
-use Rattle.daggy_base.specs.Graph.{Graph, Edge as PlainEdge, slot, edge_at, bound_of, bound_step}
-use Rattle.daggy_base.specs.Finding.{leads_to, find_edge}
-use Rattle.daggy_base.specs.Cursor.{first_of}
-use Rattle.daggy_cells.specs.declared.cell.Node.{Node}
+use Rattle.daggy_base.specs.Graph.{slot, bound_of, bound_step}
 use Rattle.daggy_cells.specs.declared.cell.Edge.{Edge}
-use Rattle.daggy_cells.specs.Fields.{end_at, nexts_of, ends_of, lists_at}
-use Rattle.daggy_cells.specs.Links.{nth_list}
-use Rattle.daggy_base.proofs.Lists.{Contains-here, Contains-there}
-use Rattle.daggy_cells.proofs.LinkedLists.{IsScan}
 use Rattle.daggy_base.proofs.MappedSlots.{slot_read}
-use Rattle.daggy_stable.specs.Stored.{plain, plain_edge, Stores}
-use Rattle.daggy_stable.proofs.Stores.{reads_itself, end_back, edge_within, end_stored, row_from}
-
--- whether the stored edge has v as its child
-abbrev pub child_is : {E Ix : Type 0} → List (Edge (Option E) Ix) → ℕ → ℕ → Bool
-child_is edges v e = eqb (get_or (ends_of Incoming edges) e 0) v
-
-pub child_seen : {E Ix : Type 0} (v : ℕ) (edges : List (Edge (Option E) Ix)) (e : ℕ) (x : Edge (Option E) Ix)
-    → e < length edges → x ≡ get_or edges e x → child_is edges v e ≡ eqb (end_at Incoming x) v
-child_seen v edges e x within is =
-    ap (λ z. eqb z v) (get_or-map (end_at Incoming) edges e x 0 within ∙ ap (end_at Incoming) (sym is))
-
-find_same : (p q : ℕ → Bool) (l : List ℕ) → ((e : ℕ) → Contains l e → p e ≡ q e) → find p l ≡ find q l
-find_same p q [] h = refl
-find_same p q (x ∷ xs) h = rw (h x (Contains-here x xs), find_same p q xs (λ e k. h e (Contains-there x e xs k))) refl
-
-module _ {N E Ix : Type 0} {end : ℕ} {nodes : List (Node (Option N) Ix)} {edges : List (Edge (Option E) Ix)}
-    {node_head edge_head nodes_counted edges_counted : ℕ} {g : Graph N E}
-    (s : Stores end nodes edges node_head edge_head nodes_counted edges_counted g) where
-  child_read : (v e : ℕ) (y : PlainEdge E) → edge_at g e ≡ Some y → child_is edges v e ≡ leads_to g v e
-  child_read v e y at =
-      let within = edge_within s e y at in
-      go edges refl within
-    where
-      go : (cells : List (Edge (Option E) Ix)) → cells ≡ edges → e < length cells → child_is edges v e ≡ leads_to g v e
-      go [] is p = absurd (omega (arith, p))
-      go (d ∷ ds) is p =
-          let inside : e < length edges = omega (arith, p, ap length is) in
-          let x = get_or edges e d in
-          let reads : x ≡ get_or edges e x = reads_itself edges e d inside in
-          ap (λ z. eqb z v)
-          (get_or-map (end_at Incoming) edges e d 0 inside ∙ end_stored s Incoming e y x at inside reads)
-          ∙ sym (ap (λ o. unwrap_or (option_map (λ z. eqb z.child v) o) false) at)
-
-  pub scan_start : (n v : ℕ)
-      → IsScan end (nexts_of Outgoing edges) (child_is edges v) (first_of end (nth_list (lists_at Outgoing g) n))
-      (find_edge g n v)
-  scan_start n v =
-      record {
-        rest = nth_list (lists_at Outgoing g) n;
-        from_here = row_from s Outgoing n;
-        same = find_same (child_is edges v) (leads_to g v) (nth_list (lists_at Outgoing g) n) (λ e p.
-            let found = end_back s Outgoing n e ((s.listed Outgoing n e).0 p) in
-            child_read v e found.0 found.1);
-      }
-
--- the last slot that is not vacant
+use Rattle.daggy_stable.specs.Stored.{plain, plain_edge}
 
 pub bound_found : {A : Type 0} (xs : List (Option A)) (n : ℕ) (x : A)
     → slot xs n ≡ Some x → bound_of (take (suc n) xs) ≡ suc n

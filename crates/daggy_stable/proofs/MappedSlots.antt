@@ -1,8 +1,6 @@
--- How a loop maps the slots in turn, and what of a stored graph stays.
-use Rattle.std.proofs.Common.{◌≡◌, ℕ, zero, suc, ◌+◌, ◌<◌, ◌≤◌, ◌↔◌, List, [], ◌∷◌, ◌++◌, map, length, take, drop}
-use Rattle.std.proofs.Common.{get_or, Option, Some, None, is_some, slice_get, refl, sym, ap, subst, ◌∙◌, arith}
-use Rattle.std.proofs.Common.{append-nil, append_assoc, Contains}
-use Rattle.std.proofs.lemmas.List.{length-map, get_or-map, map_push, drop_more, drop_all, take_more, take_all}
+-- What of a stored graph stays where its slots are mapped.
+use Rattle.std.proofs.Common.{◌≡◌, ℕ, zero, suc, ◌+◌, ◌↔◌, List, [], ◌∷◌, map, length, Option, Some, None, is_some}
+use Rattle.std.proofs.Common.{slice_get, refl, sym, ap, subst, ◌∙◌, arith, Contains}
 use Rattle.std.proofs.lemmas.Option.{same_Some, none-some}
 use Rattle.std.specs.Borrow.{Bor}
 use Rattle.std.specs.List.{count_by}
@@ -13,107 +11,12 @@ use Rattle.daggy_base.specs.Graph.{Graph, Edge as PlainEdge, slot, near_end}
 use Rattle.daggy_cells.specs.declared.cell.Node.{Node}
 use Rattle.daggy_cells.specs.declared.cell.Edge.{Edge}
 use Rattle.daggy_cells.specs.Links.{follow, linked_lists, nth_list, IsLinkedList, AreLinkedLists, ListsBy}
-use Rattle.daggy_base.specs.Mapping.{CalledAt, MapsSlots, IsMapped, weight_in, with_weight}
-use Rattle.daggy_cells.specs.MappedCells.{node_with, edge_with}
-use Rattle.daggy_cells.specs.Raw.{raw_first, raw_next}
+use Rattle.daggy_base.specs.Mapping.{MapsSlots, IsMapped, weight_in, with_weight}
 use Rattle.daggy_cells.specs.Fields.{firsts_of, nexts_of}
 use Rattle.daggy_cells.proofs.MappingLemmas.{mapped_length}
 use Rattle.daggy_stable.specs.Stored.{weight_of, plain_edge, shown, list_firsts, end_of, stored_graph, IsThreaded}
 use Rattle.daggy_stable.specs.Stored.{Stores}
 use Rattle.daggy_base.proofs.Slots.{count_cons}
-
--- what is left maps as the whole did
-pub record MappedSlots {F I W V A B : Type 0} (step : F → I → Bor W → V → F → Type 0) (of : ℕ → I) (weight : A → W)
-    (with : A → V → B) (first : F) (old : List (Option A)) (f : F) (new : List (Option B)) (i : ℕ) : Type 0 where
-  pub rest : (later : List (Option B)) → MapsSlots step of weight with f i (drop i old) later
-      → MapsSlots step of weight with first 0 old (new ++ later)
-
--- a loop reads the cell x at the place i
-pub record Reads {C : Type 0} (cells : List C) (i : ℕ) (x : C) : Type 0 where
-  pub within : i < length cells
-  pub is : x ≡ get_or cells i x
-
--- so does a loop over slots that are read from cells
-module _ {A C : Type 0} (read : C → Option A) {cells : List C} {i : ℕ} {x : C} (at : Reads cells i x) where
-  slots_within : i < length (map read cells)
-  slots_within = omega (arith, at.within, length-map cells read)
-
-  slot_is : get_or (map read cells) i None ≡ read x
-  slot_is = get_or-map read cells i x None at.within ∙ ap read (sym at.is)
-
-module _ {F I W V A B : Type 0} {step : F → I → Bor W → V → F → Type 0} {of : ℕ → I} {weight : A → W}
-    {with : A → V → B} {first : F} where
-  MappedSlots-passed : {old : List (Option A)} {f : F} {new : List (Option B)} {i : ℕ} → i < length old
-      → get_or old i None ≡ None → MappedSlots step of weight with first old f new i
-      → MappedSlots step of weight with first old f (new ++ None ∷ []) (i + 1)
-  MappedSlots-passed {old} {f} {new} {i} within read kept =
-      let gap : drop i old ≡ None ∷ drop (i + 1) old =
-      drop_more old i None within ∙ ap (λ y. y ∷ drop (i + 1) old) read in
-      record { rest = λ later more. rw (append_assoc) (kept.rest (None ∷ later) (rw gap (later, refl, more))) }
-
-  MappedSlots-called : {old : List (Option A)} {f next : F} {new : List (Option B)} {i : ℕ} {x : A} {v : V}
-      → i < length old → get_or old i None ≡ Some x → CalledAt step of f i (weight x) v next
-      → MappedSlots step of weight with first old f new i
-      → MappedSlots step of weight with first old next (new ++ Some (with x v) ∷ []) (i + 1)
-  MappedSlots-called {old} {f} {next} {new} {i} {x} {v} within read called kept =
-      let slots : drop i old ≡ Some x ∷ drop (i + 1) old =
-      drop_more old i None within ∙ ap (λ y. y ∷ drop (i + 1) old) read in
-      record {
-        rest = λ later more.
-            rw (append_assoc) (kept.rest (Some (with x v) ∷ later) (rw slots (v, next, called, later, refl, more)));
-      }
-
-  pub MappedSlots-done : {old : List (Option A)} {f : F} {new : List (Option B)} {i : ℕ}
-      → length old ≤ i → MappedSlots step of weight with first old f new i
-      → MapsSlots step of weight with first 0 old new
-  MappedSlots-done {old} {new = new} {i} past kept =
-      rw (append-nil new) at (kept.rest [] (rw (drop_all i old past) refl))
-
-  -- the same by cells, of which read and read' are the slots
-  module _ {C D : Type 0} (read : C → Option A) (read' : D → Option B) {cells : List C} (new : List D) {f : F}
-      {i : ℕ} {x : C} (y : D) (at : Reads cells i x) where
-    pub MappedSlots-pass : read x ≡ None → read' y ≡ None
-        → MappedSlots step of weight with first (map read cells) f (map read' new) i
-        → MappedSlots step of weight with first (map read cells) f (map read' (new ++ y ∷ [])) (i + 1)
-    MappedSlots-pass none none' kept =
-        subst (λ l. MappedSlots step of weight with first (map read cells) f l (i + 1))
-        (sym (map_push read' new y ∙ ap (λ z. map read' new ++ z ∷ []) none'))
-        (MappedSlots-passed (slots_within read at) (slot_is read at ∙ none) kept)
-
-    pub MappedSlots-call : (next : F) {a : A} (v : V) → read x ≡ Some a → read' y ≡ Some (with a v)
-        → CalledAt step of f i (weight a) v next
-        → MappedSlots step of weight with first (map read cells) f (map read' new) i
-        → MappedSlots step of weight with first (map read cells) next (map read' (new ++ y ∷ [])) (i + 1)
-    MappedSlots-call next v some some' called kept =
-        subst (λ l. MappedSlots step of weight with first (map read cells) next l (i + 1))
-        (sym (map_push read' new y ∙ ap (λ z. map read' new ++ z ∷ []) some'))
-        (MappedSlots-called (slots_within read at) (slot_is read at ∙ some) called kept)
-
--- what each cell keeps of its own
-module _ {C D X : Type 0} (keep : C → X) (keep' : D → X) where
-  pub kept_more : {cells : List C} (new : List D) {i : ℕ} {x : C} (y : D)
-      → Reads cells i x → keep' y ≡ keep x → map keep' new ≡ take i (map keep cells)
-      → map keep' (new ++ y ∷ []) ≡ take (i + 1) (map keep cells)
-  kept_more {cells} new {i} {x} y at same kept =
-      let inside : i < length (map keep cells) = omega (arith, at.within, length-map cells keep) in
-      map_push keep' new y ∙ ap (λ l. l ++ keep' y ∷ []) kept
-      ∙ ap (λ z. take i (map keep cells) ++ z ∷ [])
-      (same ∙ ap keep at.is ∙ sym (get_or-map keep cells i x (keep x) at.within))
-      ∙ sym (take_more (map keep cells) i (keep x) inside)
-
-  pub kept_all : (cells : List C) (new : List D) (i : ℕ)
-      → length cells ≤ i → map keep' new ≡ take i (map keep cells) → map keep' new ≡ map keep cells
-  kept_all cells new i past kept = kept ∙ take_all i (map keep cells) (omega (arith, past, length-map cells keep))
-
-pub node_like_links : {N V Ix : Type 0} (dir : Direction) (x : Node N Ix) (v : V)
-    → raw_first dir (node_with x v) ≡ raw_first dir x
-node_like_links Outgoing x v = refl
-node_like_links Incoming x v = refl
-
-pub edge_like_links : {E W Ix : Type 0} (dir : Direction) (x : Edge E Ix) (w : W)
-    → raw_next dir (edge_with x w) ≡ raw_next dir x
-edge_like_links Outgoing x w = refl
-edge_like_links Incoming x w = refl
 
 -- what mapped slots have in common with the old
 module _ {F I W V A B : Type 0} (step : F → I → Bor W → V → F → Type 0) (of : ℕ → I) (weight : A → W)

@@ -1,9 +1,12 @@
 -- What is left of a list of a node's edges, before and after a step.
-use Rattle.std.proofs.Common.{◌≡◌, ℕ, ◌<◌, ◌≤◌, List, [], ◌∷◌, map, length, get_or, Option, Some, IsSome, is_some, sym}
-use Rattle.std.proofs.Common.{ap, subst, ◌∙◌, arith, Contains}
-use Rattle.std.specs.List.{filter_map, cons_option}
+use Rattle.std.proofs.Common.{◌≡◌, ℕ, zero, suc, ◌<◌, ◌≤◌, List, [], ◌∷◌, map, length, get_or, Option, Some, None}
+use Rattle.std.proofs.Common.{IsSome, is_some, false, eqb, unwrap_or, refl, sym, ap, subst, ◌∙◌, arith, Contains}
+use Rattle.std.specs.List.{filter_map, cons_option, find}
+use Rattle.std.specs.Option.{option_map}
 use Rattle.std.proofs.lemmas.List.{length-map}
 use Rattle.daggy_base.specs.declared.index.Direction.{Direction}
+use Rattle.daggy_base.specs.declared.index.Direction.TheVariants.{Outgoing}
+use Rattle.daggy_base.specs.Finding.{leads_to, find_edge}
 use Rattle.daggy_base.specs.Cursor.{first_of}
 use Rattle.daggy_base.specs.Graph.{Graph, Edge as PlainEdge, slot, list_at}
 use Rattle.daggy_cells.specs.declared.cell.Node.{Node}
@@ -11,13 +14,13 @@ use Rattle.daggy_cells.specs.declared.cell.Edge.{Edge}
 use Rattle.daggy_base.specs.Iterating.{edges_at}
 use Rattle.daggy_cells.specs.Links.{nth_list, IsLinkedList}
 use Rattle.daggy_cells.specs.Raw.{raw_next}
-use Rattle.daggy_cells.specs.Fields.{nexts_of, lists_at, list_from}
-use Rattle.daggy_cells.proofs.LinkedLists.{row_is}
+use Rattle.daggy_cells.specs.Fields.{nexts_of, lists_at, list_from, enters}
+use Rattle.daggy_cells.proofs.LinkedLists.{row_is, find_same}
 use Rattle.daggy_base.proofs.Lists.{Contains-here, Contains-there}
 use Rattle.daggy_cells.proofs.RestLemmas.{step_on, IsOnList-step, follow_past, follow_few, filter_map_few}
 use Rattle.daggy_base.proofs.MappedSlots.{slot_read}
 use Rattle.daggy_stable.specs.Rest.{numbered_edge, edges_left, IsOnFullList}
-use Rattle.daggy_stable.specs.Stored.{plain_edge, Stores}
+use Rattle.daggy_stable.specs.Stored.{plain, plain_edge, Stores}
 use Rattle.daggy_stable.proofs.ListSearches.{plain_some}
 use Rattle.daggy_stable.proofs.Stores.{row_from, nexts_few, list_seen, end_back, edges_long, is_some_at}
 
@@ -94,3 +97,29 @@ module _ {N E Ix : Type 0} {end : ℕ} {nodes : List (Node (Option N) Ix)} {edge
   left_begins =
       ap (filter_map (λ i. numbered_edge i (slot (map plain_edge edges) i))) (walk_begins ∙ list_seen s dir n)
       ∙ ap (λ l. filter_map (λ i. numbered_edge i (slot l i)) (list_at dir g n)) (sym s.edges_are)
+
+-- whether an edge that is there enters the node v
+enters_seen : {E Ix : Type 0} (v : ℕ) (edges : List (Edge (Option E) Ix)) (e : ℕ)
+    → IsSome (slot (map plain_edge edges) e)
+    → enters edges v e ≡ unwrap_or (option_map (λ x. eqb x.child v) (slot (map plain_edge edges) e)) false
+enters_seen v [] e has = absurd cc
+enters_seen {E} v (x ∷ xs) zero has = go x.weight has
+  where
+    go : (o : Option E) → IsSome (option_map (plain x) o)
+        → eqb x.child v ≡ unwrap_or (option_map (λ z. eqb z.child v) (option_map (plain x) o)) false
+    go None has = absurd cc
+    go (Some w) has = refl
+enters_seen v (x ∷ xs) (suc e) has = enters_seen v xs e has
+
+-- what is found along the links is what is found in the list
+pub found_to : {N E Ix : Type 0} {end : ℕ} {nodes : List (Node (Option N) Ix)} {edges : List (Edge (Option E) Ix)}
+    {node_head edge_head nodes_counted edges_counted : ℕ} {g : Graph N E}
+    → Stores end nodes edges node_head edge_head nodes_counted edges_counted g
+    → (n v e : ℕ) → e ≡ first_of end (list_at Outgoing g n)
+    → find (enters edges v) (list_from Outgoing edges e) ≡ find_edge g n v
+found_to {edges = edges} {g = g} s n v e is =
+    let on = IsOnFullList-begins s Outgoing n e is in
+    find_same (enters edges v) (leads_to g v) (list_from Outgoing edges e) (λ f p.
+    enters_seen v edges f (on.full f p)
+    ∙ ap (λ l. unwrap_or (option_map (λ x. eqb x.child v) (slot l f)) false) (sym s.edges_are))
+    ∙ ap (find (leads_to g v)) (walk_begins s Outgoing n e is ∙ list_seen s Outgoing n)

@@ -3,7 +3,7 @@ use Rattle.std.proofs.Common.{◌≡◌, ◌≢◌, ℕ, zero, suc, ◌+◌, ◌
 use Rattle.std.proofs.Common.{Some, None, is_some, slice_get, refl, sym, ap, subst, ◌∙◌, inl, inr, arith, Contains}
 use Rattle.std.specs.List.{count_by}
 use Rattle.std.proofs.lemmas.Bool.{cases_eq, cases_lt}
-use Rattle.std.proofs.lemmas.List.{length-set, length_push, length-take-le}
+use Rattle.std.proofs.lemmas.List.{length-set, length-take-le}
 use Rattle.daggy_base.proofs.Slots.{count_cons}
 use Rattle.std.proofs.lemmas.Option.{slice_get_within, same_Some, none-some}
 use Rattle.std.proofs.lemmas.Map.Made.{Contains-tail}
@@ -12,9 +12,8 @@ use Rattle.daggy_base.specs.Cursor.{first_of, after}
 use Rattle.daggy_base.proofs.OutEdgesRead.{slot_get}
 use Rattle.daggy_base.proofs.FullSlots.{count_full, full_from}
 use Rattle.daggy_cells.specs.Links.{follow, IsLinkedList}
-use Rattle.daggy_base.proofs.Lists.{Contains-nil, Contains-here, Contains-there, slice_get-set_same}
-use Rattle.daggy_base.proofs.Lists.{slice_get-set_other, slice_get-push_new, slice_get-push_other, slice_get-take}
-use Rattle.daggy_base.proofs.Lists.{slice_get-take_past}
+use Rattle.daggy_base.proofs.Lists.{Contains-here, Contains-there, slice_get-set_same, slice_get-set_other}
+use Rattle.daggy_base.proofs.Lists.{slice_get-take, slice_get-take_past}
 use Rattle.daggy_cells.proofs.LinkedLists.{after_here, after_there, row_is, IsLinkedList-tail}
 use Rattle.daggy_cells.proofs.LinkedListChanges.{IsLinkedList-kept}
 use Rattle.daggy_stable.specs.Stored.{IsThreaded}
@@ -123,26 +122,6 @@ module _ {A : Type 0} where
           few = t.few;
         }
 
-    pub made : IsThreaded end slots links head count [] → (x : A) → length slots < end → (links' : List ℕ)
-        → length links' ≡ suc (length slots) → IsThreaded end (slots ++ Some x ∷ []) links' head (suc count) []
-    made t x index_left links' long =
-        record {
-          linked = record { starts = t.linked.starts; distinct = tt; goes_on = λ e p. absurd (Contains-nil e p) };
-          exact = λ i. (λ p. absurd (Contains-nil i p), λ q. absurd (never i q));
-          counted = ap suc t.counted ∙ sym (count_push slots x);
-          long = omega (arith, long, length_push slots (Some x));
-          few = omega (arith, index_left, length_push slots (Some x));
-        }
-      where
-        never : (i : ℕ) → slice_get (slots ++ Some x ∷ []) i ≡ Some None → ⊥
-        never i q =
-            elim (cases_eq i (length slots)) [
-              | inl same ↦
-                  none-some x (sym (same_Some (Some x) None
-                  (sym (slice_get-push_new slots (Some x)) ∙ ap (slice_get (slots ++ Some x ∷ [])) (sym same) ∙ q)))
-              | inr other ↦ Contains-nil i ((t.exact i).1 (sym (slice_get-push_other slots (Some x) i other) ∙ q))
-            ]
-
     pub filled : {v : ℕ} {vs : List ℕ} → IsThreaded end slots links head count (v ∷ vs)
         → (x : A) (links' : List ℕ) (head' : ℕ) → length links' ≡ length links
         → ((f : ℕ) → Contains vs f → slice_get links' f ≡ slice_get links f) → slice_get links v ≡ Some head'
@@ -177,19 +156,21 @@ module _ {A : Type 0} where
           few = omega (arith, t.few, length-set slots v (Some x));
         }
 
-    module _ {vacant : List ℕ} (t : IsThreaded end slots links head count vacant) (e : ℕ) (x : A)
-        (at : slot slots e ≡ Some x) where
-      pub not_listed : ¬ Contains vacant e
-      not_listed p = slot_not_vacant slots e x at ((t.exact e).0 p)
-
-      pub vacated : (links' : List ℕ) (count' : ℕ) → length links' ≡ length links → slice_get links' e ≡ Some head
-          → ((f : ℕ) → Contains vacant f → slice_get links' f ≡ slice_get links f) → count ≡ suc count'
-          → IsThreaded end (set slots e None) links' e count' (e ∷ vacant)
-      vacated links' count' same_length goes kept count_is =
+    -- one slot is another, and the vacant ones keep their links
+    module _ {vacant : List ℕ} (t : IsThreaded end slots links head count vacant) (e : ℕ) (fresh : ¬ Contains vacant e)
+        {slots' : List (Option A)} {links' : List ℕ} {count' : ℕ}
+        (others : (i : ℕ) → i ≢ e → slice_get slots' i ≡ slice_get slots i)
+        (kept : (f : ℕ) → Contains vacant f → slice_get links' f ≡ slice_get links f)
+        (counted : count' ≡ count_by is_some slots') (long : length links' ≡ length slots')
+        (few : length slots' ≤ end) where
+      -- which is vacant, and leads to those that were vacant
+      pub one_vacant : slice_get slots' e ≡ Some None → slice_get links' e ≡ Some head
+          → IsThreaded end slots' links' e count' (e ∷ vacant)
+      one_vacant none goes =
           record {
             linked = record {
               starts = refl;
-              distinct = (not_listed, t.linked.distinct);
+              distinct = (fresh, t.linked.distinct);
               goes_on = λ f p.
                   elim (cases_eq e f) [
                     | inl same ↦
@@ -202,24 +183,53 @@ module _ {A : Type 0} where
             };
             exact = λ i. (
               λ p. elim (cases_eq e i) [
-                | inl same ↦
-                    subst (λ z. slice_get (set slots e None) z ≡ Some None) same
-                    (slice_get-set_same slots e None (slot_inside slots e x at))
-                | inr other ↦
-                    slice_get-set_other slots e i None (λ same. other (sym same))
-                    ∙ (t.exact i).0 (Contains-tail e vacant i other p)
+                | inl same ↦ subst (λ z. slice_get slots' z ≡ Some None) same none
+                | inr other ↦ others i (λ same. other (sym same)) ∙ (t.exact i).0 (Contains-tail e vacant i other p)
               ],
               λ q. elim (cases_eq e i) [
                 | inl same ↦ subst (Contains (e ∷ vacant)) same (Contains-here e vacant)
                 | inr other ↦
-                    Contains-there e i vacant
-                    ((t.exact i).1 (sym (slice_get-set_other slots e i None (λ same. other (sym same))) ∙ q))
+                    Contains-there e i vacant ((t.exact i).1 (sym (others i (λ same. other (sym same))) ∙ q))
               ],
             );
-            counted = let step = count_vacate slots e x at in omega (arith, step, count_is, t.counted);
-            long = same_length ∙ t.long ∙ sym (length-set slots e None);
-            few = omega (arith, t.few, length-set slots e None);
+            counted = counted;
+            long = long;
+            few = few;
           }
+
+      -- which is not
+      pub one_taken : (x : A) → slice_get slots' e ≡ Some (Some x) → IsThreaded end slots' links' head count' vacant
+      one_taken x some =
+          record {
+            linked = IsLinkedList-kept end links links' head vacant t.linked kept;
+            exact = λ i. (
+              λ p. others i (λ same. fresh (subst (Contains vacant) same p)) ∙ (t.exact i).0 p,
+              λ q. elim (cases_eq i e) [
+                | inl same ↦
+                    absurd (none-some x
+                    (sym (same_Some (Some x) None (sym some ∙ ap (slice_get slots') (sym same) ∙ q))))
+                | inr other ↦ (t.exact i).1 (sym (others i other) ∙ q)
+              ],
+            );
+            counted = counted;
+            long = long;
+            few = few;
+          }
+
+    module _ {vacant : List ℕ} (t : IsThreaded end slots links head count vacant) (e : ℕ) (x : A)
+        (at : slot slots e ≡ Some x) where
+      pub not_listed : ¬ Contains vacant e
+      not_listed p = slot_not_vacant slots e x at ((t.exact e).0 p)
+
+      pub vacated : (links' : List ℕ) (count' : ℕ) → length links' ≡ length links → slice_get links' e ≡ Some head
+          → ((f : ℕ) → Contains vacant f → slice_get links' f ≡ slice_get links f) → count ≡ suc count'
+          → IsThreaded end (set slots e None) links' e count' (e ∷ vacant)
+      vacated links' count' same_length goes kept count_is =
+          let step = count_vacate slots e x at in
+          one_vacant t e not_listed (λ i other. slice_get-set_other slots e i None other) kept
+          (omega (arith, step, count_is, t.counted)) (same_length ∙ t.long ∙ sym (length-set slots e None))
+          (omega (arith, t.few, length-set slots e None)) (slice_get-set_same slots e None (slot_inside slots e x at))
+          goes
 
       pub cut : (links' : List ℕ) (count' : ℕ) → e + 1 ≡ length slots → length links' ≡ e
           → ((f : ℕ) → Contains vacant f → slice_get links' f ≡ slice_get links f) → count ≡ suc count'
@@ -246,21 +256,7 @@ module _ {A : Type 0} where
       -- something else in a slot that is not vacant
       pub renewed : (y : A) → IsThreaded end (set slots e (Some y)) links head count vacant
       renewed y =
-          record {
-            linked = t.linked;
-            exact = λ i. (
-              λ p.
-                  slice_get-set_other slots e i (Some y) (λ same. not_listed (subst (Contains vacant) same p))
-                  ∙ (t.exact i).0 p,
-              λ q. elim (cases_eq i e) [
-                | inl same ↦
-                    absurd (none-some y
-                    (sym (same_Some (Some y) None (sym (slice_get-set_same slots e (Some y) (slot_inside slots e x at))
-                    ∙ ap (slice_get (set slots e (Some y))) (sym same) ∙ q))))
-                | inr other ↦ (t.exact i).1 (sym (slice_get-set_other slots e i (Some y) other) ∙ q)
-              ],
-            );
-            counted = t.counted ∙ sym (count_keep slots e x y at);
-            long = t.long ∙ sym (length-set slots e (Some y));
-            few = omega (arith, t.few, length-set slots e (Some y));
-          }
+          one_taken t e not_listed (λ i other. slice_get-set_other slots e i (Some y) other) (λ f p. refl)
+          (t.counted ∙ sym (count_keep slots e x y at)) (t.long ∙ sym (length-set slots e (Some y)))
+          (omega (arith, t.few, length-set slots e (Some y))) y
+          (slice_get-set_same slots e (Some y) (slot_inside slots e x at))

@@ -19,7 +19,7 @@ use Rattle.daggy_cells.specs.declared.cell.Edge.{Edge}
 use Rattle.daggy_cells.specs.Links.{nth_list, IsLinkedList, AreLinkedLists, ListsBy, Redirected}
 use Rattle.daggy_cells.specs.Raw.{raw_first, raw_next}
 use Rattle.daggy_cells.specs.Fields.{with_first, with_next, firsts_of, nexts_of, ends_of, end_at, lists_at}
-use Rattle.daggy_cells.specs.Fields.{weight_of as stored_weight, plain_edge as stored_edge, IsReady, Redirects}
+use Rattle.daggy_cells.specs.Fields.{plain_edge as stored_edge, IsReady, Redirects, IsRedirected}
 use Rattle.daggy_base.proofs.Lists.{Contains-nil, slice_get-set_other, slice_get-set_same, slice_get-take}
 use Rattle.daggy_base.proofs.Lists.{slice_get-take_past, map_so_far}
 use Rattle.daggy_cells.proofs.LinkedLists.{Contains-from_without}
@@ -27,10 +27,10 @@ use Rattle.daggy_cells.proofs.LinkedListChanges.{row-map, row_past, row_within, 
 use Rattle.daggy_cells.proofs.LinkedListChanges.{AreLinkedLists-with_edge_unlinked, ListsBy-without, linked_within}
 use Rattle.daggy_cells.proofs.LinkedListChanges.{AreLinkedLists-none, ListsBy-none}
 use Rattle.daggy_base.proofs.MappedSlots.{slot_read}
-use Rattle.daggy_cells.proofs.RedirectLemmas.{IsListOf, Step, Ready-row, Redirected-list_from}
+use Rattle.daggy_cells.proofs.RedirectLemmas.{IsListOf, Ready-row, Redirected-list_from}
 use Rattle.daggy_cells.proofs.FieldLemmas.{firsts_as_many}
 use Rattle.daggy_stable.specs.Stored.{weight_of, plain, plain_edge, shown, list_firsts, end_of, with_links_emptied}
-use Rattle.daggy_stable.specs.Stored.{with_lists_emptied, IsThreaded, Stores}
+use Rattle.daggy_stable.specs.Stored.{with_lists_emptied, IsThreaded, IsUnlinked, Stores}
 use Rattle.daggy_stable.proofs.Slots.{rethreaded, vacated, cut, slot_not_vacant, not_listed, count_vacate}
 use Rattle.daggy_stable.proofs.Shown.{length-shown, shown_some, shown-set, shown-set_vacant, shown-vacate, shown-take}
 use Rattle.daggy_stable.proofs.Stores.{reads_itself, nodes_long, edges_long, firsts_long, row_from, first_shown}
@@ -51,13 +51,6 @@ edges_seen {E} {Ix} xs ys same = sym (joined xs) ∙ ap (map part_of) same ∙ j
     joined : (xs : List (Edge (Option E) Ix)) → map part_of (map stored_edge xs) ≡ map plain_edge xs
     joined [] = refl
     joined (x ∷ xs) = ap (λ l. plain_edge x ∷ l) (joined xs)
-
--- the edge is taken out of its lists, and the nodes and edges keep their weights, ends and other links
-pub record IsUnlinked {N E Ix : Type 0} (nodes nodes' : List (Node N Ix)) (edges edges' : List (Edge E Ix)) (e : ℕ)
-    : Type 0 where
-  pub weights : map stored_weight nodes' ≡ map stored_weight nodes
-  pub plains : map stored_edge edges' ≡ map stored_edge edges
-  pub links : (dir : Direction) → Redirects dir nodes edges e (get_or (nexts_of dir edges) e 0) nodes' edges'
 
 slot-set_same : {A : Type 0} (xs : List (Option A)) (i : ℕ) (o : Option A) → i < length xs → slot (set xs i o) i ≡ o
 slot-set_same xs i o within = ap (option_and_then (λ z. z)) (slice_get-set_same xs i o within)
@@ -468,7 +461,7 @@ ready_kept dir {nodes} {nodes'} {edges} {edges'} {old} firsts nexts ends r =
 
 pub both_redirected : {N E Ix : Type 0} {nodes n1 n2 : List (Node N Ix)} {edges e1 e2 : List (Edge E Ix)}
     {e out into : ℕ}
-    → Step Outgoing nodes edges e out n1 e1 → Step Incoming n1 e1 e into n2 e2
+    → IsRedirected Outgoing nodes edges e out n1 e1 → IsRedirected Incoming n1 e1 e into n2 e2
     → out ≡ get_or (nexts_of Outgoing edges) e 0 → into ≡ get_or (nexts_of Incoming edges) e 0
     → (dir : Direction) → Redirects dir nodes edges e (get_or (nexts_of dir edges) e 0) n2 e2
 both_redirected s1 s2 out_is into_is =

@@ -1,6 +1,6 @@
 -- How a graph with vacant slots is stored.
 use Rattle.std.specs.Prelude.{◌≡◌, ℕ, ◌≤◌, ◌↔◌, Option, Some, None, is_some, List, [], ◌∷◌, length, map, count_by}
-use Rattle.std.specs.Prelude.{slice_get, Contains}
+use Rattle.std.specs.Prelude.{slice_get, slice_index, Contains}
 use Rattle.std.specs.Option.{option_map}
 use Rattle.daggy_base.specs.declared.index.Direction.{Direction}
 use Rattle.daggy_base.specs.declared.index.Direction.TheVariants.{Outgoing, Incoming}
@@ -8,7 +8,8 @@ use Rattle.daggy_base.specs.Graph.{Graph, Edge as PlainEdge, edge_at, near_end}
 use Rattle.daggy_cells.specs.declared.cell.Node.{Node}
 use Rattle.daggy_cells.specs.declared.cell.Edge.{Edge}
 use Rattle.daggy_cells.specs.Links.{follow, linked_lists, IsLinkedList, AreLinkedLists, ListsBy}
-use Rattle.daggy_cells.specs.Fields.{firsts_of, nexts_of, lists_at}
+use Rattle.daggy_cells.specs.Fields.{weight_of as stored_weight, plain_edge as stored_edge, firsts_of, nexts_of, lists_at}
+use Rattle.daggy_cells.specs.Fields.{Redirects}
 
 -- the weight of a stored node, if its slot is not vacant
 abbrev pub weight_of : {N Ix : Type 0} → Node (Option N) Ix → Option N
@@ -78,3 +79,10 @@ pub record Stores {N E Ix : Type 0} (end : ℕ) (nodes : List (Node (Option N) I
   pub listed : (dir : Direction) → ListsBy (end_of dir g) (lists_at dir g)
   pub node_slots : IsThreaded end g.nodes (firsts_of Outgoing nodes) node_head nodes_counted g.vacant_nodes
   pub edge_slots : IsThreaded end g.edges (nexts_of Outgoing edges) edge_head edges_counted g.vacant_edges
+
+-- the edge is taken out of its lists, and the nodes and edges keep their weights, ends and other links
+pub record IsUnlinked {N E Ix : Type 0} (nodes nodes' : List (Node N Ix)) (edges edges' : List (Edge E Ix)) (e : ℕ)
+    : Type 0 where
+  pub weights : map stored_weight nodes' ≡ map stored_weight nodes
+  pub plains : map stored_edge edges' ≡ map stored_edge edges
+  pub links : (dir : Direction) → Redirects dir nodes edges e (slice_index (nexts_of dir edges) e) nodes' edges'

@@ -32,7 +32,7 @@ use daggy_base::index::{DefaultIx, Direction, EdgeIndex, IndexType, NodeIndex};
 use daggy_base::link::Link;
 use daggy_base::looks::Looks;
 use daggy_cells::cell::{Edge, Node};
-use daggy_cells::links;
+use daggy_cells::links::{self, find_to};
 use std::alloc::Global;
 use std::marker::Model;
 
@@ -163,18 +163,8 @@ impl<N, E, Ix: IndexType> StableDiGraph<N, E, Ix> {
         ensures { option_map Ix.number result
             ≡ edge_between self.now.graph (Ix.number a) (Ix.number b) }
     {
-        let v = b.index();
-        let mut e = Link::of_edge(self.first_edge(a, Direction::Outgoing));
-        'along: loop {
-            let i = e.index();
-            if i >= self.edges.len() {
-                return None;
-            }
-            let x = &self.edges[i];
-            if links::end(x, Direction::Incoming).index() == v {
-                return Some(e.edge());
-            }
-            e = links::next(x, Direction::Outgoing);
-        }
+        let first = self.first_edge(a, Direction::Outgoing);
+        let e = find_to(&self.edges, Link::of_edge(first), b.index())?;
+        Some(e.edge())
     }
 }

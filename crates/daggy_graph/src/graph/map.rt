@@ -1,10 +1,9 @@
 //! The same graph with other weights.
 ghost use Rattle.std.specs.Prelude.{◌≡◌, ◌≤◌, [], map, length, vec_capacity, IfOk};
-ghost use Rattle.daggy_base.specs.Mapping.{IsMapped, weight_in};
+ghost use Rattle.daggy_base.specs.declared.index.Direction.{Direction};
+ghost use Rattle.daggy_base.specs.Mapping.{MapsSlots, IsMapped, weight_in, with_weight};
 ghost use Rattle.daggy_base.specs.CallsInTurn.{CanCallAtSlots, CanCallAtNodes, CanCallAtEdges};
-ghost use Rattle.daggy_cells.specs.Fields.{weight_of, plain_edge};
-ghost use Rattle.daggy_cells.specs.MappedCells.{MapsCells, node_weight_in, node_with};
-ghost use Rattle.daggy_cells.specs.MappedCells.{edge_weight_in, edge_with};
+ghost use Rattle.daggy_cells.specs.Fields.{weight_of, plain_edge, firsts_of, nexts_of, ends_of};
 
 use crate::graph::{DiGraph, Edge, Node};
 use daggy_base::index::{EdgeIndex, IndexType, NodeIndex};
@@ -22,7 +21,9 @@ fn map_nodes<N, V, Ix: IndexType, F: FnMut(NodeIndex<Ix>, &N) -> V>(
     requires few { length nodes.now ≤ Ix.greatest }
     requires capacity { length nodes.now ≤ vec_capacity new.old }
     requires empty { new.old.items ≡ [] }
-    ensures { MapsCells F.step Ix.of node_weight_in node_with f 0 nodes.now new.new.items }
+    ensures mapped { MapsSlots F.step Ix.of (λ w. w) (λ w v. v) f 0 (map weight_of nodes.now)
+        (map weight_of new.new.items) }
+    ensures links { (dir : Direction) → firsts_of dir new.new.items ≡ firsts_of dir nodes.now }
 {
     'each: for i in 0..nodes.len() {
         let x = &nodes[i];
@@ -41,7 +42,10 @@ fn map_edges<E, V, Ix: IndexType, G: FnMut(EdgeIndex<Ix>, &E) -> V>(
     requires few { length edges.now ≤ Ix.greatest }
     requires capacity { length edges.now ≤ vec_capacity new.old }
     requires empty { new.old.items ≡ [] }
-    ensures { MapsCells G.step Ix.of edge_weight_in edge_with g 0 edges.now new.new.items }
+    ensures mapped { MapsSlots G.step Ix.of weight_in with_weight g 0 (map plain_edge edges.now)
+        (map plain_edge new.new.items) }
+    ensures links { (dir : Direction) → nexts_of dir new.new.items ≡ nexts_of dir edges.now }
+    ensures ends { (dir : Direction) → ends_of dir new.new.items ≡ ends_of dir edges.now }
 {
     'each: for i in 0..edges.len() {
         let x = &edges[i];

@@ -1,12 +1,11 @@
 //! Mutable access to all weights by a closure.
 ghost use Rattle.std.specs.Prelude.{◌≡◌, ◌≤◌, length, map};
-ghost use Rattle.daggy_base.specs.Mapping.{weight_in};
+ghost use Rattle.daggy_base.specs.declared.index.Direction.{Direction};
+ghost use Rattle.daggy_base.specs.Mapping.{MapsSlots, weight_in, with_weight};
 ghost use Rattle.daggy_base.specs.CallsInTurn.{CanCallAtSlots, TakesToWrite};
 ghost use Rattle.daggy_base.specs.CallsInTurn.{CanLendNodes, CanLendEdges};
-ghost use Rattle.daggy_cells.specs.Fields.{weight_of, plain_edge};
+ghost use Rattle.daggy_cells.specs.Fields.{weight_of, plain_edge, firsts_of, nexts_of, ends_of};
 ghost use Rattle.daggy_base.specs.Rewriting.{Leaves, RewritesNodes, RewritesEdges};
-ghost use Rattle.daggy_cells.specs.MappedCells.{MapsCells, node_weight_in, node_with};
-ghost use Rattle.daggy_cells.specs.MappedCells.{edge_weight_in, edge_with};
 
 use crate::graph::{DiGraph, Edge, Node};
 use daggy_base::index::{EdgeIndex, IndexType, NodeIndex};
@@ -47,8 +46,10 @@ fn write_nodes<N, Ix: IndexType, F: FnMut(NodeIndex<Ix>, &mut N)>(
     requires callable { CanCallAtSlots Ix.of (TakesToWrite F.pre) (Leaves F.step) (λ w. w) f
         (map weight_of nodes.old.items) }
     requires few { length nodes.old.items ≤ Ix.greatest }
-    ensures { MapsCells (Leaves F.step) Ix.of node_weight_in node_with f 0 nodes.old.items
-        nodes.new.items }
+    ensures written { MapsSlots (Leaves F.step) Ix.of (λ w. w) (λ w v. v) f 0
+        (map weight_of nodes.old.items) (map weight_of nodes.new.items) }
+    ensures links { (dir : Direction) → firsts_of dir nodes.new.items
+        ≡ firsts_of dir nodes.old.items }
 {
     'each: for i in 0..nodes.len() {
         let x = &mut nodes[i];
@@ -64,8 +65,12 @@ fn write_edges<E, Ix: IndexType, F: FnMut(EdgeIndex<Ix>, &mut E)>(
     requires callable { CanCallAtSlots Ix.of (TakesToWrite F.pre) (Leaves F.step) weight_in f
         (map plain_edge edges.old.items) }
     requires few { length edges.old.items ≤ Ix.greatest }
-    ensures { MapsCells (Leaves F.step) Ix.of edge_weight_in edge_with f 0 edges.old.items
-        edges.new.items }
+    ensures written { MapsSlots (Leaves F.step) Ix.of weight_in with_weight f 0
+        (map plain_edge edges.old.items) (map plain_edge edges.new.items) }
+    ensures links { (dir : Direction) → nexts_of dir edges.new.items
+        ≡ nexts_of dir edges.old.items }
+    ensures ends { (dir : Direction) → ends_of dir edges.new.items
+        ≡ ends_of dir edges.old.items }
 {
     'each: for i in 0..edges.len() {
         let x = &mut edges[i];

@@ -1,28 +1,25 @@
 //! The trait of stores for the compact store.
-ghost use Rattle.std.specs.Prelude.{◌≡◌, ℕ, ◌+◌, ◌<◌, ◌↔◌, IsTrue, IfOk, OnOk, IfErr, OnErr};
-ghost use Rattle.std.specs.Prelude.{OnSome, IfNone, Some, [], ◌≤◌, length, map, option_copied};
+ghost use Rattle.std.specs.Prelude.{◌≡◌, ◌+◌, ◌<◌, ◌↔◌, IsTrue, IfOk, OnOk, IfErr, OnErr};
+ghost use Rattle.std.specs.Prelude.{OnSome, IfNone, Some, [], ◌≤◌, length, option_copied};
 ghost use Rattle.std.specs.Prelude.{refl};
 ghost use Rattle.std.specs.Borrow.{sem};
 ghost use Rattle.std.specs.Option.{option_map};
-ghost use Rattle.daggy_base.specs.Graph.{empty, HasNode, HasEdge, node_weight, edge_at, list_at};
+ghost use Rattle.daggy_base.specs.Graph.{HasNode, HasEdge, node_weight, edge_at, list_at};
 ghost use Rattle.daggy_base.specs.Graph.{ends_of, pair_of, node_bound as node_bound_of};
-ghost use Rattle.daggy_base.specs.Graph.{node_count as node_count_of, edge_count as edge_count_of};
+ghost use Rattle.daggy_base.specs.Graph.{edge_count as edge_count_of};
 ghost use Rattle.daggy_base.specs.Graph.{IsCompact};
-ghost use Rattle.daggy_base.specs.WellFormed.{IsWellFormed, IsIsolated};
+ghost use Rattle.daggy_base.specs.WellFormed.{IsIsolated};
 ghost use Rattle.daggy_base.specs.Cursor.{first_of, cursor_after};
-ghost use Rattle.daggy_base.specs.Adding.{next_node, next_edge, with_node, with_edge};
+ghost use Rattle.daggy_base.specs.Adding.{next_edge, with_edge};
 ghost use Rattle.daggy_base.specs.Finding.{find_edge as edge_between};
 ghost use Rattle.daggy_base.specs.Weights.{edge_weight, with_node_weight, with_edge_weight};
 ghost use Rattle.daggy_base.specs.FromSlots.{graph_of_slots, edges_by, MakeGraph};
-ghost use Rattle.daggy_base.specs.Orders.{numbers_of, with_orders, AreOrders};
 ghost use Rattle.daggy_base.specs.TakingBack.{with_edge_taken_back, with_node_taken_back};
-ghost use Rattle.daggy_base.specs.Removal.{without_edge, without_node, without_all_edges};
+ghost use Rattle.daggy_base.specs.Removal.{without_edge, without_node, with_node_isolated};
 ghost use Rattle.daggy_base.specs.declared.kind.Kind.TheVariants.{Compact};
-ghost use Rattle.daggy_base.specs.Removal.{with_node_isolated};
 ghost use Rattle.daggy_base.specs.State.{with_graph};
 ghost use Rattle.daggy_graph.specs.Lends.{lends_node, lends_edge};
 ghost use Rattle.daggy_base.specs.declared.index.Direction.{Direction};
-ghost use Rattle.daggy_base.specs.declared.error.NodeError.TheVariants.{Memory as NodeMemory};
 ghost use Rattle.daggy_base.specs.declared.error.EdgeError.TheVariants.{Memory as EdgeMemory};
 
 use crate::graph::DiGraph;
@@ -50,10 +47,7 @@ impl<N: Drop, E: Drop, Ix: IndexType> Store<Ix> for DiGraph<N, E, Ix> {
 
     ghost edge_written_looks = { λ s e w. refl };
 
-    fn new(alloc: Global) -> Self
-        ensures graph { result.graph ≡ empty }
-        ensures looks { result.looks ≡ 0 }
-    {
+    fn new(alloc: Global) -> Self {
         DiGraph::new(alloc)
     }
 
@@ -139,24 +133,17 @@ impl<N: Drop, E: Drop, Ix: IndexType> Store<Ix> for DiGraph<N, E, Ix> {
     }
 
     #[inline]
-    fn can_add_node(&self) -> bool
-        ensures { IsTrue result ↔ (node_count_of self.now.graph < Ix.greatest) }
-    {
+    fn can_add_node(&self) -> bool {
         self.can_add_node()
     }
 
     #[inline]
-    fn can_add_edge(&self) -> bool
-        ensures { IsTrue result ↔ (edge_count_of self.now.graph < Ix.greatest) }
-    {
+    fn can_add_edge(&self) -> bool {
         self.can_add_edge()
     }
 
     #[inline]
-    fn slots_with_node(&self) -> usize
-        requires { node_count_of self.now.graph < Ix.greatest }
-        ensures { (w : N) → length (with_node self.now.graph w).nodes ≡ result }
-    {
+    fn slots_with_node(&self) -> usize {
         let _fits = NodeIndex::<Ix>::end().index();
         self.node_count() + 1
     }
@@ -196,14 +183,7 @@ impl<N: Drop, E: Drop, Ix: IndexType> Store<Ix> for DiGraph<N, E, Ix> {
     }
 
     #[inline]
-    fn add_node(&mut self, weight: N) -> Result<NodeIndex<Ix>, NodeError<N>>
-        requires { node_count_of self.old.graph < Ix.greatest }
-        ensures index { IfOk result (λ n. Ix.number n ≡ next_node self.old.graph) }
-        ensures added { OnOk result (self.new.graph ≡ with_node self.old.graph weight) }
-        ensures refusal { IfErr result (λ e. e ≡ NodeMemory weight) }
-        ensures unchanged { OnErr result (self.new.graph ≡ self.old.graph) }
-        ensures counted { self.new.looks ≡ self.old.looks }
-    {
+    fn add_node(&mut self, weight: N) -> Result<NodeIndex<Ix>, NodeError<N>> {
         self.add_node(weight)
     }
 
@@ -289,26 +269,15 @@ impl<N: Drop, E: Drop, Ix: IndexType> Store<Ix> for DiGraph<N, E, Ix> {
         weight
     }
 
-    fn set_orders(&mut self, orders: &[(Vec<EdgeIndex<Ix>>, Vec<EdgeIndex<Ix>>)])
-        requires { AreOrders self.old.graph (map (numbers_of Ix.number) orders.now) }
-        ensures ordered { self.new.graph
-            ≡ with_orders self.old.graph (map (numbers_of Ix.number) orders.now) }
-        ensures counted { self.new.looks ≡ self.old.looks }
-    {
+    fn set_orders(&mut self, orders: &[(Vec<EdgeIndex<Ix>>, Vec<EdgeIndex<Ix>>)]) {
         DiGraph::set_orders(self, orders)
     }
 
-    fn clear(&mut self)
-        ensures cleared { self.new.graph ≡ empty }
-        ensures counted { self.new.looks ≡ self.old.looks }
-    {
+    fn clear(&mut self) {
         DiGraph::clear(self)
     }
 
-    fn clear_edges(&mut self)
-        ensures cleared { self.new.graph ≡ without_all_edges self.old.graph }
-        ensures counted { self.new.looks ≡ self.old.looks }
-    {
+    fn clear_edges(&mut self) {
         DiGraph::clear_edges(self)
     }
 }

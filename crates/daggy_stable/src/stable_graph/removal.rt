@@ -1,5 +1,5 @@
 //! Removing edges and nodes.
-ghost use Rattle.std.specs.Prelude.{◌≡◌, ℕ, ◌<◌, length, map, slice_index, OnSome, IfNone, Some};
+ghost use Rattle.std.specs.Prelude.{◌≡◌, ◌<◌, length, map, OnSome, IfNone, Some};
 ghost use Rattle.std.specs.Prelude.{[]};
 ghost use Rattle.std.specs.Option.{option_map};
 ghost use Rattle.daggy_base.specs.declared.index.Direction.{Direction};
@@ -10,9 +10,8 @@ ghost use Rattle.daggy_base.specs.Removal.{with_node_isolated, with_node_dropped
 ghost use Rattle.daggy_base.specs.Removal.{without_all_edges};
 ghost use Rattle.daggy_base.specs.WellFormed.{IsIsolated};
 ghost use Rattle.daggy_base.specs.State.{with_graph};
-ghost use Rattle.daggy_cells.specs.Fields.{weight_of as stored_weight, plain_edge as stored_edge};
-ghost use Rattle.daggy_cells.specs.Fields.{nexts_of, IsReady, Redirects};
-ghost use Rattle.daggy_stable.specs.Stored.{with_lists_emptied};
+ghost use Rattle.daggy_cells.specs.Fields.{IsReady};
+ghost use Rattle.daggy_stable.specs.Stored.{with_lists_emptied, IsUnlinked};
 
 use crate::stable_graph::StableDiGraph;
 use daggy_base::index::{Direction, EdgeIndex, IndexType, NodeIndex};
@@ -160,11 +159,7 @@ pub(super) fn unlink<N, E, Ix: IndexType>(
     e: Link<Ix>,
 )
     requires { (dir : Direction) → IsReady Ix.greatest dir nodes.old.items edges.old.items e }
-    ensures links { (dir : Direction)
-        → Redirects dir nodes.old.items edges.old.items e
-        (slice_index (nexts_of dir edges.old.items) e) nodes.new.items edges.new.items }
-    ensures nodes { map stored_weight nodes.new.items ≡ map stored_weight nodes.old.items }
-    ensures edges { map stored_edge edges.new.items ≡ map stored_edge edges.old.items }
+    ensures { IsUnlinked nodes.old.items nodes.new.items edges.old.items edges.new.items e }
 {
     let i = e.index();
     // Both list heads are loaded before a list is walked, so that the loads overlap.

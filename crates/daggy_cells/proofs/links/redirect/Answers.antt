@@ -1,4 +1,4 @@
-use Rattle.std.proofs.Common.{◌≡◌, ◌≢◌, ◌<◌, length, get_or, set, Contains, sym, ap, subst, ◌∙◌, arith}
+use Rattle.std.proofs.Common.{◌≡◌, ◌≢◌, ◌<◌, length, get_or, set, Contains, refl, sym, ap, subst, ◌∙◌, arith}
 use Rattle.std.proofs.lemmas.List.{length-map}
 use Rattle.std.proofs.lemmas.Option.{slice_get_within}
 use Rattle.daggy_base.specs.Cursor.{after}
@@ -27,8 +27,8 @@ index_mut-requires-else-index g c =
     slice_get_within (nexts_of c.args.dir c.args.edges.now.items) _ _ (c.requires.ready.linked.goes_on _ listed') in
     omega (arith, within, length-map c.args.edges.now.items (raw_next c.args.dir), c.index-j.ensures.value)
 
-pub returns-then-index-clause-links : goal.returns-then-index-clause-links
-returns-then-index-clause-links g c =
+pub returns-then-index : goal.returns-then-index
+returns-then-index g c =
     let n = get_or (ends_of c.args.dir c.args.edges.now.items) c.args.old 0 in
     let first = get_or (firsts_of c.args.dir c.args.nodes.now.items) n 0 in
     let list = list_from c.args.dir c.args.edges.now.items first in
@@ -42,18 +42,20 @@ returns-then-index-clause-links g c =
     c.args.dir
     ∙ ap (λ z. set (firsts_of c.args.dir c.args.nodes.now.items) z c.args.new)
     (c.index-i.ensures.value ∙ c.requires.head.node_is) in
-    subst (λ z. Redirected list n c.args.old c.args.new (firsts_of c.args.dir c.args.nodes.now.items)
-    (nexts_of c.args.dir c.args.edges.now.items) z (nexts_of c.args.dir c.args.edges.now.items)) (sym written)
-    (Redirected-first g.Ix.IndexType.greatest list n c.args.old c.args.new c.requires.ready.linked here inside)
+    record {
+      links =
+          subst (λ z. Redirected list n c.args.old c.args.new (firsts_of c.args.dir c.args.nodes.now.items)
+          (nexts_of c.args.dir c.args.edges.now.items) z (nexts_of c.args.dir c.args.edges.now.items)) (sym written)
+          (Redirected-first g.Ix.IndexType.greatest list n c.args.old c.args.new c.requires.ready.linked here inside);
+      keeps =
+          subst (λ z. KeepsNodes c.args.dir c.args.nodes.now.items (set c.args.nodes.now.items c.index-i.result z))
+          (sym c.set_first.ensures) (KeepsNodes-set c.args.nodes.now.items c.index-i.result c.index_mut.result.now c.args.new
+          c.index_mut.ensures.value c.args.dir);
+      keeps_edges = record { edges = refl; ends = λ d. refl; nexts = refl };
+    }
 
-pub returns-then-index-clause-nodes : goal.returns-then-index-clause-nodes
-returns-then-index-clause-nodes g c =
-    subst (λ z. KeepsNodes c.args.dir c.args.nodes.now.items (set c.args.nodes.now.items c.index-i.result z))
-    (sym c.set_first.ensures) (KeepsNodes-set c.args.nodes.now.items c.index-i.result c.index_mut.result.now c.args.new
-    c.index_mut.ensures.value c.args.dir)
-
-pub returns-else-index-clause-links : goal.returns-else-index-clause-links
-returns-else-index-clause-links g c =
+pub returns-else-index : goal.returns-else-index
+returns-else-index g c =
     let n = get_or (ends_of c.args.dir c.args.edges.now.items) c.args.old 0 in
     let first = get_or (firsts_of c.args.dir c.args.nodes.now.items) n 0 in
     let list = list_from c.args.dir c.args.edges.now.items first in
@@ -74,13 +76,15 @@ returns-else-index-clause-links g c =
     ∙ nexts_of-set c.args.edges.now.items c.index-j.result c.index_mut-else-index.result.now c.args.new
     c.index_mut-else-index.ensures.value c.args.dir
     ∙ ap (λ z. set (nexts_of c.args.dir c.args.edges.now.items) z c.args.new) c.index-j.ensures.value in
-    subst (λ z. Redirected list n c.args.old c.args.new (firsts_of c.args.dir c.args.nodes.now.items)
-    (nexts_of c.args.dir c.args.edges.now.items) (firsts_of c.args.dir c.args.nodes.now.items) z) (sym written)
-    (Redirected-later c.find_before-before.result
-    c.requires.ready.linked later listed before inside)
-
-pub returns-else-index-clause-edges : goal.returns-else-index-clause-edges
-returns-else-index-clause-edges g c =
-    subst (λ z. KeepsEdges c.args.dir c.args.edges.now.items (set c.args.edges.now.items c.index-j.result z))
-    (sym c.set_next.ensures) (KeepsEdges-set c.args.edges.now.items c.index-j.result c.index_mut-else-index.result.now
-    c.args.new c.index_mut-else-index.ensures.value c.args.dir)
+    record {
+      links =
+          subst (λ z. Redirected list n c.args.old c.args.new (firsts_of c.args.dir c.args.nodes.now.items)
+          (nexts_of c.args.dir c.args.edges.now.items) (firsts_of c.args.dir c.args.nodes.now.items) z) (sym written)
+          (Redirected-later c.find_before-before.result
+          c.requires.ready.linked later listed before inside);
+      keeps = record { weights = refl; firsts = refl };
+      keeps_edges =
+          subst (λ z. KeepsEdges c.args.dir c.args.edges.now.items (set c.args.edges.now.items c.index-j.result z))
+          (sym c.set_next.ensures) (KeepsEdges-set c.args.edges.now.items c.index-j.result c.index_mut-else-index.result.now
+          c.args.new c.index_mut-else-index.ensures.value c.args.dir);
+    }

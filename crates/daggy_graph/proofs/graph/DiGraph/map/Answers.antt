@@ -1,12 +1,10 @@
-use Rattle.std.proofs.Common.{map, subst, sym}
-use Rattle.daggy_graph.specs.Stored.{stored_graph}
-use Rattle.daggy_base.specs.Mapping.{IsMapped, weight_in}
-use Rattle.daggy_cells.specs.MappedCells.{MapsCells, node_weight_in, node_with, edge_weight_in, edge_with}
+use Rattle.std.proofs.Common.{map, subst, sym, ap, ◌∙◌}
+use Rattle.daggy_base.specs.Mapping.{MapsSlots, weight_in, with_weight}
 use Rattle.daggy_graph.proofs.MappingLemmas.{MapsStored, Stores-mapped, IsMapped-stored}
 use Rattle.daggy_graph.proofs.graph.DiGraph.map.Given.{Over}
 use Rattle.daggy_graph.proofs.graph.DiGraph.map.Goals.{After-map_edges}
-use Rattle.daggy_base.specs.CallsInTurn.{CanCallAtSlots, CanCallAtNodes, CanCallAtEdges}
-use Rattle.daggy_cells.specs.Fields.{weight_of, plain_edge}
+use Rattle.daggy_base.specs.CallsInTurn.{CanCallAtSlots}
+use Rattle.daggy_cells.specs.Fields.{weight_of, plain_edge, firsts_of, nexts_of, ends_of}
 use Rattle.daggy_graph.proofs.graph.DiGraph.map.Goals as goal
 
 -- the new slots are the mapped old ones
@@ -18,26 +16,27 @@ mapped g c =
     let edges' = c.map_edges.new.new.items in
     record {
       for_nodes =
-          subst (λ l. MapsCells (goal.F-step g) g.Ix.IndexType.of node_weight_in node_with c.args.f 0 l nodes')
-          c.as_slice.ensures.value c.map_nodes.ensures;
+          subst (λ l. MapsSlots (goal.F-step g) g.Ix.IndexType.of (λ w. w) (λ w v. v) c.args.f 0 (map weight_of l)
+          (map weight_of nodes')) c.as_slice.ensures.value c.map_nodes.ensures.mapped;
       for_edges =
-          subst (λ l. MapsCells (goal.G-step g) g.Ix.IndexType.of edge_weight_in edge_with c.args.g 0 l edges')
-          c.as_slice-2.ensures.value c.map_edges.ensures;
+          subst (λ l. MapsSlots (goal.G-step g) g.Ix.IndexType.of weight_in with_weight c.args.g 0 (map plain_edge l)
+          (map plain_edge edges')) c.as_slice-2.ensures.value c.map_edges.ensures.mapped;
+      firsts = λ dir. c.map_nodes.ensures.links dir ∙ ap (firsts_of dir) c.as_slice.ensures.value;
+      nexts = λ dir. c.map_edges.ensures.links dir ∙ ap (nexts_of dir) c.as_slice-2.ensures.value;
+      ends = λ dir. c.map_edges.ensures.ends dir ∙ ap (ends_of dir) c.as_slice-2.ensures.value;
     }
 
 pub map_nodes-requires-clause-callable : goal.map_nodes-requires-clause-callable
 map_nodes-requires-clause-callable g c =
     subst (λ l. CanCallAtSlots g.Ix.IndexType.of (goal.F-pre g) (goal.F-step g) (λ w. w) c.args.f
     (map weight_of l)) (sym c.as_slice.ensures.value)
-    (subst (λ s. CanCallAtNodes g.Ix.IndexType.of (goal.F-pre g) (goal.F-step g) c.args.f s.graph)
-    (sym c.self.view_is) c.requires.nodes)
+    (rw (← c.self.view_is) at c.requires.nodes)
 
 pub map_edges-requires-clause-callable : goal.map_edges-requires-clause-callable
 map_edges-requires-clause-callable g c =
     subst (λ l. CanCallAtSlots g.Ix.IndexType.of (goal.G-pre g) (goal.G-step g) weight_in c.args.g
     (map plain_edge l)) (sym c.as_slice-2.ensures.value)
-    (subst (λ s. CanCallAtEdges g.Ix.IndexType.of (goal.G-pre g) (goal.G-step g) c.args.g s.graph)
-    (sym c.self.view_is) c.requires.edges)
+    (rw (← c.self.view_is) at c.requires.edges)
 
 pub invariant_of-result : goal.invariant_of-result
 invariant_of-result g c =
@@ -45,6 +44,4 @@ invariant_of-result g c =
 
 pub returns-clause-mapped : goal.returns-clause-mapped
 returns-clause-mapped g c =
-    subst (λ s. IsMapped g.Ix.IndexType.of (goal.F-step g) (goal.G-step g) c.args.f c.args.g s.graph
-    (stored_graph c.map_nodes.new.new.items c.map_edges.new.new.items)) c.self.view_is
-    (IsMapped-stored (mapped g (goal.at.returns-clause-mapped g c).After-map_edges))
+    rw (← c.self.view_is) (IsMapped-stored (mapped g (goal.at.returns-clause-mapped g c).After-map_edges))

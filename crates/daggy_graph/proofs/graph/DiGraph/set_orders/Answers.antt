@@ -1,6 +1,6 @@
-use Rattle.std.proofs.Common.{map, sym, subst, ◌∙◌}
+use Rattle.std.proofs.Common.{map, sym, ◌∙◌}
 use Rattle.std.proofs.lemmas.List.{length-map}
-use Rattle.daggy_base.specs.Orders.{numbers_of, with_orders, AreOrders}
+use Rattle.daggy_base.specs.Orders.{numbers_of, with_orders}
 use Rattle.daggy_cells.proofs.States.{state_changed}
 use Rattle.daggy_graph.proofs.StoredLemmas.{stored_is, Stores-itself}
 use Rattle.daggy_graph.proofs.ListOrdersKept.{as_many, can_thread, ordered}
@@ -8,28 +8,22 @@ use Rattle.daggy_graph.proofs.graph.DiGraph.set_orders.Goals as goal
 
 pub thread_nodes-requires-clause-count : goal.thread_nodes-requires-clause-count
 thread_nodes-requires-clause-count g c =
-    let orders = map (numbers_of g.Ix.IndexType.number) c.args.orders.now in
-    let are = subst (λ s. AreOrders s.graph orders) (sym c.self.view_is) c.requires in
-    sym (length-map c.args.orders.now (numbers_of g.Ix.IndexType.number)) ∙ as_many c.self.invariant orders are
+    sym (length-map c.args.orders.now (numbers_of g.Ix.IndexType.number))
+    ∙ as_many c.self.invariant _ (rw (← c.self.view_is) at c.requires)
 
 pub thread_nodes-requires-clause-lists : goal.thread_nodes-requires-clause-lists
 thread_nodes-requires-clause-lists g c =
-    let orders = map (numbers_of g.Ix.IndexType.number) c.args.orders.now in
-    let are = subst (λ s. AreOrders s.graph orders) (sym c.self.view_is) c.requires in
-    can_thread c.self.invariant orders are
+    can_thread c.self.invariant _ (rw (← c.self.view_is) at c.requires)
 
 pub invariant_of-self : goal.invariant_of-self
 invariant_of-self g c =
-    let orders = map (numbers_of g.Ix.IndexType.number) c.args.orders.now in
-    let are = subst (λ s. AreOrders s.graph orders) (sym c.self.view_is) c.requires in
-    Stores-itself _ _ _ _ (ordered c.self.invariant orders are _ _ c.thread_nodes.ensures.nodes
-    c.thread_nodes.ensures.edges c.thread_nodes.ensures.linked)
+    Stores-itself _ _ _ _ (ordered c.self.invariant _ (rw (← c.self.view_is) at c.requires) _ _
+    c.thread_nodes.ensures.nodes c.thread_nodes.ensures.edges c.thread_nodes.ensures.linked)
 
 pub returns : goal.returns
 returns g c =
-    let orders = map (numbers_of g.Ix.IndexType.number) c.args.orders.now in
-    let are = subst (λ s. AreOrders s.graph orders) (sym c.self.view_is) c.requires in
     let stored =
-    ordered c.self.invariant orders are _ _ c.thread_nodes.ensures.nodes c.thread_nodes.ensures.edges
-    c.thread_nodes.ensures.linked in
-    state_changed _ _ _ _ (λ h. with_orders h orders) c.self.view_is (stored_is _ _ _ _ stored)
+    ordered c.self.invariant _ (rw (← c.self.view_is) at c.requires) _ _ c.thread_nodes.ensures.nodes
+    c.thread_nodes.ensures.edges c.thread_nodes.ensures.linked in
+    state_changed _ _ _ _ (λ h. with_orders h (map (numbers_of g.Ix.IndexType.number) c.args.orders.now))
+    c.self.view_is (stored_is _ _ _ _ stored)

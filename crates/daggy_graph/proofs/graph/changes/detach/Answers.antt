@@ -1,11 +1,10 @@
 use Rattle.std.proofs.Common.{◌≢◌, sym, ◌∙◌, arith}
 use Rattle.daggy_base.specs.declared.index.Direction.TheVariants.{Outgoing, Incoming}
-use Rattle.daggy_cells.proofs.RedirectLemmas.{Step, next_is}
+use Rattle.daggy_cells.proofs.RedirectLemmas.{next_is}
 use Rattle.daggy_graph.proofs.RemovalLemmas.{HasLastEdge, AreNexts, n_in, ready_1, ready_2, ready_3, ready_4}
 use Rattle.daggy_graph.proofs.RemovalLemmas.{head_2, head_3, head_4, detached_last, detached_other}
 use Rattle.daggy_graph.proofs.graph.changes.detach.Given.{Over}
-use Rattle.daggy_graph.proofs.graph.changes.detach.Goals.{After-new-moved, After-redirect, After-redirect-2}
-use Rattle.daggy_graph.proofs.graph.changes.detach.Goals.{After-redirect-then-i-index}
+use Rattle.daggy_graph.proofs.graph.changes.detach.Goals.{After-new-moved, After-redirect}
 use Rattle.daggy_graph.proofs.graph.changes.detach.Goals as goal
 
 has : (g : Over) (c : After-new-moved g) → HasLastEdge c.args.edges.now.items c.args.e c.new-moved.result
@@ -27,34 +26,6 @@ nexts g c =
           c.next-next_in.ensures
           ∙ next_is Incoming edges _ c.args.e _ c.index-2.ensures c.index-i.ensures.value c.requires.edge;
     }
-
--- the calls in turn
-step_1 : (g : Over) (c : After-redirect g)
-    → Step Outgoing c.args.nodes.now.items c.args.edges.now.items c.args.e c.next-next_out.result
-    c.redirect.new.nodes.items c.redirect.new.edges.items
-step_1 g c = record {
-  links = c.redirect.ensures.links;
-  keeps = c.redirect.ensures.nodes;
-  keeps_edges = c.redirect.ensures.edges;
-}
-
-step_2 : (g : Over) (c : After-redirect-2 g)
-    → Step Incoming c.redirect.new.nodes.items c.redirect.new.edges.items c.args.e c.next-next_in.result
-    c.redirect-2.new.nodes.items c.redirect-2.new.edges.items
-step_2 g c = record {
-  links = c.redirect-2.ensures.links;
-  keeps = c.redirect-2.ensures.nodes;
-  keeps_edges = c.redirect-2.ensures.edges;
-}
-
-step_3 : (g : Over) (c : After-redirect-then-i-index g)
-    → Step Outgoing c.redirect-2.new.nodes.items c.redirect-2.new.edges.items c.new-moved.result c.args.e
-    c.redirect-then-i-index.new.nodes.items c.redirect-then-i-index.new.edges.items
-step_3 g c = record {
-  links = c.redirect-then-i-index.ensures.links;
-  keeps = c.redirect-then-i-index.ensures.nodes;
-  keeps_edges = c.redirect-then-i-index.ensures.edges;
-}
 
 pub of-out-requires-clause-node : goal.of-out-requires-clause-node
 of-out-requires-clause-node g c =
@@ -82,28 +53,24 @@ redirect-requires-clause-ready g c =
 pub redirect-requires-2-clause-ready : goal.redirect-requires-2-clause-ready
 redirect-requires-2-clause-ready g c =
     let at = goal.at.redirect-requires-2-clause-ready g c in
-    ready_2 c.requires.stored (has g at.After-new-moved) (nexts g at.After-redirect)
-    (step_1 g at.After-redirect)
+    ready_2 c.requires.stored (has g at.After-new-moved) (nexts g at.After-redirect) c.redirect.ensures
 
 pub redirect-requires-2-clause-head : goal.redirect-requires-2-clause-head
 redirect-requires-2-clause-head g c =
     let at = goal.at.redirect-requires-2-clause-head g c in
-    head_2 c.requires.stored (has g at.After-new-moved) (nexts g at.After-redirect)
-    (step_1 g at.After-redirect) c.of-into.ensures
+    head_2 c.requires.stored (has g at.After-new-moved) (nexts g at.After-redirect) c.redirect.ensures c.of-into.ensures
 
 pub redirect-requires-then-i-index-clause-ready : goal.redirect-requires-then-i-index-clause-ready
 redirect-requires-then-i-index-clause-ready g c =
     let at = goal.at.redirect-requires-then-i-index-clause-ready g c in
     let differs : c.args.e ≢ c.new-moved.result = λ q.
     c.if-i-index.true (c.index-i.ensures.value ∙ q ∙ sym c.index-3.ensures.value) in
-    ready_3 c.requires.stored (has g at.After-new-moved) (nexts g at.After-redirect)
-    (step_1 g at.After-redirect) (step_2 g at.After-redirect-2) differs
+    ready_3 c.requires.stored (has g at.After-new-moved) (nexts g at.After-redirect) c.redirect.ensures c.redirect-2.ensures differs
 
 pub redirect-requires-then-i-index-clause-head : goal.redirect-requires-then-i-index-clause-head
 redirect-requires-then-i-index-clause-head g c =
     let at = goal.at.redirect-requires-then-i-index-clause-head g c in
-    head_3 c.requires.stored (has g at.After-new-moved) (nexts g at.After-redirect)
-    (step_1 g at.After-redirect) (step_2 g at.After-redirect-2)
+    head_3 c.requires.stored (has g at.After-new-moved) (nexts g at.After-redirect) c.redirect.ensures c.redirect-2.ensures
     c.of-moved_out.ensures c.without-out.ensures.node c.without-out.ensures.first
 
 pub redirect-requires-then-i-index-2-clause-ready : goal.redirect-requires-then-i-index-2-clause-ready
@@ -111,16 +78,14 @@ redirect-requires-then-i-index-2-clause-ready g c =
     let at = goal.at.redirect-requires-then-i-index-2-clause-ready g c in
     let differs : c.args.e ≢ c.new-moved.result = λ q.
     c.if-i-index.true (c.index-i.ensures.value ∙ q ∙ sym c.index-3.ensures.value) in
-    ready_4 c.requires.stored (has g at.After-new-moved) (nexts g at.After-redirect)
-    (step_1 g at.After-redirect) (step_2 g at.After-redirect-2)
-    (step_3 g at.After-redirect-then-i-index) differs
+    ready_4 c.requires.stored (has g at.After-new-moved) (nexts g at.After-redirect) c.redirect.ensures c.redirect-2.ensures
+    c.redirect-then-i-index.ensures differs
 
 pub redirect-requires-then-i-index-2-clause-head : goal.redirect-requires-then-i-index-2-clause-head
 redirect-requires-then-i-index-2-clause-head g c =
     let at = goal.at.redirect-requires-then-i-index-2-clause-head g c in
-    head_4 c.requires.stored (has g at.After-new-moved) (nexts g at.After-redirect)
-    (step_1 g at.After-redirect) (step_2 g at.After-redirect-2)
-    (step_3 g at.After-redirect-then-i-index) c.of-moved_into.ensures c.without-into.ensures.node
+    head_4 c.requires.stored (has g at.After-new-moved) (nexts g at.After-redirect) c.redirect.ensures c.redirect-2.ensures
+    c.redirect-then-i-index.ensures c.of-moved_into.ensures c.without-into.ensures.node
     c.without-into.ensures.first
 
 pub returns-then-i-index-clause-detached : goal.returns-then-i-index-clause-detached
@@ -128,20 +93,11 @@ returns-then-i-index-clause-detached g c =
     let at = goal.at.returns-then-i-index-clause-detached g c in
     let differs : c.args.e ≢ c.new-moved.result = λ q.
     c.if-i-index.true (c.index-i.ensures.value ∙ q ∙ sym c.index-3.ensures.value) in
-    let last : Step Incoming c.redirect-then-i-index.new.nodes.items c.redirect-then-i-index.new.edges.items
-    c.new-moved.result c.args.e c.redirect-then-i-index-2.new.nodes.items c.redirect-then-i-index-2.new.edges.items =
-    record {
-      links = c.redirect-then-i-index-2.ensures.links;
-      keeps = c.redirect-then-i-index-2.ensures.nodes;
-      keeps_edges = c.redirect-then-i-index-2.ensures.edges;
-    } in
-    detached_other c.requires.stored (has g at.After-new-moved) (nexts g at.After-redirect)
-    (step_1 g at.After-redirect) (step_2 g at.After-redirect-2)
-    (step_3 g at.After-redirect-then-i-index) last differs
+    detached_other c.requires.stored (has g at.After-new-moved) (nexts g at.After-redirect) c.redirect.ensures c.redirect-2.ensures
+    c.redirect-then-i-index.ensures c.redirect-then-i-index-2.ensures differs
 
 pub returns-else-i-index-clause-detached : goal.returns-else-i-index-clause-detached
 returns-else-i-index-clause-detached g c =
     let at = goal.at.returns-else-i-index-clause-detached g c in
-    detached_last c.requires.stored (has g at.After-new-moved) (nexts g at.After-redirect)
-    (step_1 g at.After-redirect) (step_2 g at.After-redirect-2)
+    detached_last c.requires.stored (has g at.After-new-moved) (nexts g at.After-redirect) c.redirect.ensures c.redirect-2.ensures
     (sym c.index-i.ensures.value ∙ c.if-i-index.false ∙ c.index-3.ensures.value)

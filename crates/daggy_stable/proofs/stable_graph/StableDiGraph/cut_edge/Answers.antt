@@ -9,7 +9,7 @@ use Rattle.daggy_cells.proofs.States.{state_changed}
 use Rattle.daggy_cells.specs.Fields.{plain_edge as stored_edge}
 use Rattle.daggy_stable.specs.Stored.{stored_graph}
 use Rattle.daggy_stable.proofs.Stores.{stored_is, Stores-itself, edges_long}
-use Rattle.daggy_stable.proofs.StoredRemoval.{IsUnlinked, edges_some, ready_code, cell_weight, edge_cut_code}
+use Rattle.daggy_stable.proofs.StoredRemoval.{edges_some, ready_code, cell_weight, edge_cut_code}
 use Rattle.daggy_stable.proofs.StoredRemoval.{popped, popped_last}
 use Rattle.daggy_stable.proofs.stable_graph.StableDiGraph.cut_edge.Given.{Over}
 use Rattle.daggy_stable.proofs.stable_graph.StableDiGraph.cut_edge.Goals.{After-of_edge, After-unlink}
@@ -32,21 +32,11 @@ last g c =
       edges_long c.self.invariant,
     )
 
--- it is taken out of its lists
-unlinked : (g : Over) (c : After-unlink g)
-    → IsUnlinked c.self.inside.nodes.items c.unlink.new.nodes.items c.self.inside.edges.items c.unlink.new.edges.items
-    c.of_edge.result
-unlinked g c = record {
-  weights = c.unlink.ensures.nodes;
-  plains = c.unlink.ensures.edges;
-  links = c.unlink.ensures.links;
-}
-
 -- and still is the last after that
 long : (g : Over) (c : After-unlink g) → c.of_edge.result + 1 ≡ vec_len c.unlink.new.edges
 long g c =
     let same : length c.unlink.new.edges.items ≡ length c.self.inside.edges.items =
-    sym (length-map c.unlink.new.edges.items stored_edge) ∙ ap length c.unlink.ensures.edges
+    sym (length-map c.unlink.new.edges.items stored_edge) ∙ ap length c.unlink.ensures.plains
     ∙ length-map c.self.inside.edges.items stored_edge in
     omega (arith, last g c, same)
 
@@ -66,7 +56,7 @@ invariant_of-self g c =
     let at = goal.at.invariant_of-self g c in
     let left = c.pop.ensures.rest ∙ popped c.unlink.new.edges.items c.of_edge.result _ (long g at.After-unlink) in
     rw left (Stores-itself
-    (edge_cut_code c.self.invariant (there g at.After-of_edge) (unlinked g at.After-unlink) (last g at.After-unlink)))
+    (edge_cut_code c.self.invariant (there g at.After-of_edge) c.unlink.ensures (last g at.After-unlink)))
 
 pub returns-clause-value : goal.returns-clause-value
 returns-clause-value g c =
@@ -74,7 +64,7 @@ returns-clause-value g c =
     let reads =
     popped_last c.unlink.new.edges.items c.of_edge.result _ _ c.unwrap-x.result (long g at.After-unlink)
     (c.pop.ensures.value c.unwrap-x.result (omega (arith, long g at.After-unlink))) c.unwrap-x.ensures in
-    cell_weight c.self.invariant (there g at.After-of_edge) (unlinked g at.After-unlink) c.unwrap-x.result reads
+    cell_weight c.self.invariant (there g at.After-of_edge) c.unlink.ensures c.unwrap-x.result reads
     ∙ ap (λ s. option_map (λ z. z.weight) (edge_at s.graph c.of_edge.result)) c.self.view_is
     ∙ ap (λ z. option_map (λ z. z.weight) (edge_at c.args.self.now.graph z)) c.of_edge.ensures
 
@@ -82,14 +72,11 @@ pub returns-clause-removed : goal.returns-clause-removed
 returns-clause-removed g c =
     let at = goal.at.returns-clause-removed g c in
     let end = g.Ix.IndexType.greatest in
-    let was =
-    stored_graph end c.self.inside.nodes.items c.self.inside.edges.items c.self.inside.first_vacant_node
-    c.self.inside.first_vacant_edge in
     let left = c.pop.ensures.rest ∙ popped c.unlink.new.edges.items c.of_edge.result _ (long g at.After-unlink) in
     let stored =
-    edge_cut_code c.self.invariant (there g at.After-of_edge) (unlinked g at.After-unlink) (last g at.After-unlink) in
-    state_changed _ was _ _ (λ h. with_edge_taken_back true h (g.Ix.IndexType.number c.args.e)) c.self.view_is
+    edge_cut_code c.self.invariant (there g at.After-of_edge) c.unlink.ensures (last g at.After-unlink) in
+    state_changed _ _ _ _ (λ h. with_edge_taken_back true h (g.Ix.IndexType.number c.args.e)) c.self.view_is
     (ap
     (λ l. stored_graph end c.unlink.new.nodes.items l c.self.inside.first_vacant_node c.self.inside.first_vacant_edge)
     left
-    ∙ stored_is stored ∙ ap (with_edge_taken_back true was) c.of_edge.ensures)
+    ∙ stored_is stored ∙ ap (with_edge_taken_back true _) c.of_edge.ensures)

@@ -1,29 +1,13 @@
-use Rattle.std.proofs.Common.{Some, sym, ap, ◌∙◌, arith}
+use Rattle.std.proofs.Common.{sym, ap, ◌∙◌, arith}
 use Rattle.daggy_base.specs.Adding.{next_slot, next_edge, with_edge}
 use Rattle.daggy_cells.proofs.States.{state_changed}
 use Rattle.daggy_stable.proofs.Stores.{stored_is, Stores-itself}
-use Rattle.daggy_stable.proofs.Changes.{IsPutFirst, edge_next, node_inside, edge_filled_code}
-use Rattle.daggy_stable.proofs.stable_graph.StableDiGraph.fill_edge.Given.{Over}
-use Rattle.daggy_stable.proofs.stable_graph.StableDiGraph.fill_edge.Goals.{After-put_first-x}
+use Rattle.daggy_stable.proofs.Changes.{edge_next, node_inside, edge_filled_code}
 use Rattle.daggy_stable.proofs.stable_graph.StableDiGraph.fill_edge.Goals as goal
-
--- the new edge goes first in the lists of its ends
-put : (g : Over) (c : After-put_first-x g)
-    → IsPutFirst c.self.inside.nodes.items c.put_first-x.new.nodes.items c.of_node.result c.of_node-2.result
-    c.self.inside.first_vacant_edge (Some c.args.weight) c.put_first-x.result
-put g c = record {
-  led = record {
-    weights = c.put_first-x.ensures.weights;
-    outs = c.put_first-x.ensures.out;
-    ins = c.put_first-x.ensures.into;
-  };
-  stored = c.put_first-x.ensures.edge;
-}
 
 pub index-requires : goal.index-requires
 index-requires g c =
-    let found =
-    edge_next c.self.invariant (λ q. c.requires.some (ap (λ s. s.graph.vacant_edges) (sym c.self.view_is) ∙ q)) in
+    let found = edge_next c.self.invariant (rw (← c.self.view_is) at c.requires.some) in
     omega (arith, found.2, c.index-i.ensures.value)
 
 pub put_first-x-requires-clause-parent : goal.put_first-x-requires-clause-parent
@@ -38,34 +22,30 @@ put_first-x-requires-clause-child g c =
 
 pub index_mut-requires : goal.index_mut-requires
 index_mut-requires g c =
-    let found =
-    edge_next c.self.invariant (λ q. c.requires.some (ap (λ s. s.graph.vacant_edges) (sym c.self.view_is) ∙ q)) in
+    let found = edge_next c.self.invariant (rw (← c.self.view_is) at c.requires.some) in
     omega (arith, found.2, c.index-i.ensures.value)
 
 pub invariant_of-self : goal.invariant_of-self
 invariant_of-self g c =
-    let at = goal.at.invariant_of-self g c in
     let a_in = rw (← c.self.view_is) at c.requires.parent in
     let b_in = rw (← c.self.view_is) at c.requires.child in
     Stores-itself (edge_filled_code c.self.invariant (record { parent = a_in; child = b_in }) c.of_node.ensures
-    c.of_node-2.ensures (put g at.After-put_first-x)
-    (λ q. c.requires.some (ap (λ s. s.graph.vacant_edges) (sym c.self.view_is) ∙ q)) c.index-i.ensures.value
+    c.of_node-2.ensures (record { led = c.put_first-x.ensures.led; stored = c.put_first-x.ensures.edge })
+    (rw (← c.self.view_is) at c.requires.some) c.index-i.ensures.value
     c.index.ensures c.next-self-inside.ensures)
 
 pub returns-clause-index : goal.returns-clause-index
 returns-clause-index g c =
-    let found =
-    edge_next c.self.invariant (λ q. c.requires.some (ap (λ s. s.graph.vacant_edges) (sym c.self.view_is) ∙ q)) in
+    let found = edge_next c.self.invariant (rw (← c.self.view_is) at c.requires.some) in
     c.edge.ensures.value ∙ sym (ap (λ s. next_edge s.graph) (sym c.self.view_is) ∙ ap (next_slot _) found.1)
 
 pub returns-clause-added : goal.returns-clause-added
 returns-clause-added g c =
-    let at = goal.at.returns-clause-added g c in
     let a_in = rw (← c.self.view_is) at c.requires.parent in
     let b_in = rw (← c.self.view_is) at c.requires.child in
     state_changed _ _ _ _
     (λ h. with_edge h (g.Ix.IndexType.number c.args.a) (g.Ix.IndexType.number c.args.b) c.args.weight) c.self.view_is
     (stored_is (edge_filled_code c.self.invariant (record { parent = a_in; child = b_in }) c.of_node.ensures
-    c.of_node-2.ensures (put g at.After-put_first-x)
-    (λ q. c.requires.some (ap (λ s. s.graph.vacant_edges) (sym c.self.view_is) ∙ q)) c.index-i.ensures.value
+    c.of_node-2.ensures (record { led = c.put_first-x.ensures.led; stored = c.put_first-x.ensures.edge })
+    (rw (← c.self.view_is) at c.requires.some) c.index-i.ensures.value
     c.index.ensures c.next-self-inside.ensures))

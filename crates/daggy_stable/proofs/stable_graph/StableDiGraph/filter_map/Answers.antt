@@ -1,13 +1,13 @@
 use Rattle.std.proofs.Common.{map, take, sym, ap, subst, ◌∙◌, arith}
 use Rattle.daggy_base.specs.Graph.{node_bound, edge_bound, bound_of}
 use Rattle.daggy_base.specs.Filtering.{ListsDescend}
-use Rattle.daggy_base.specs.FilteringInPlace.{KeepsSlots, IsFilteredInPlace}
+use Rattle.daggy_base.specs.FilteringInPlace.{KeepsSlots}
 use Rattle.daggy_base.specs.Mapping.{weight_in, with_weight}
-use Rattle.daggy_stable.specs.Stored.{weight_of, plain_edge, stored_graph}
+use Rattle.daggy_stable.specs.Stored.{weight_of, plain_edge}
 use Rattle.daggy_stable.proofs.Stores.{nodes_long, edges_long, Stores-empty}
 use Rattle.daggy_base.proofs.SlotLists.{of_slots_descend}
 use Rattle.daggy_stable.proofs.KeptSlots.{slice_long, slice_few, slice_read, slice_joined}
-use Rattle.daggy_base.specs.CallsInTurn.{CanCallAtSlots, CanCallAtSomeSlots, CanCallAtNodes, CanCallAtSomeEdges}
+use Rattle.daggy_base.specs.CallsInTurn.{CanCallAtSlots, CanCallAtSomeSlots}
 use Rattle.daggy_base.proofs.CallsInTurn.{call_up_to, call_some_up_to}
 use Rattle.daggy_stable.proofs.stable_graph.StableDiGraph.filter_map.Goals as goal
 
@@ -49,8 +49,7 @@ filter_nodes-requires-clause-callable g c =
     (c.node_bound-node_bound.ensures ∙ sym (ap (λ s. node_bound s.graph) c.self.view_is)) c.deref.ensures.value))
     (call_up_to g.Ix.IndexType.of (goal.F-pre g) (goal.F-step g) (λ w. w) c.args.f _
     (map weight_of c.self.inside.nodes.items)
-    (subst (λ s. CanCallAtNodes g.Ix.IndexType.of (goal.F-pre g) (goal.F-step g) c.args.f s.graph)
-    (sym c.self.view_is) c.requires.nodes))
+    (rw (← c.self.view_is) at c.requires.nodes))
 
 pub filter_edges-requires-clause-callable : goal.filter_edges-requires-clause-callable
 filter_edges-requires-clause-callable g c =
@@ -59,8 +58,7 @@ filter_edges-requires-clause-callable g c =
     (c.edge_bound-edge_bound.ensures ∙ sym (ap (λ s. edge_bound s.graph) c.self.view_is)) c.deref-2.ensures.value))
     (call_some_up_to g.Ix.IndexType.of (goal.G-pre g) (goal.G-step g) weight_in c.args.g _
     (map plain_edge c.self.inside.edges.items)
-    (subst (λ s. CanCallAtSomeEdges g.Ix.IndexType.of (goal.G-pre g) (goal.G-step g) c.args.g s.graph)
-    (sym c.self.view_is) c.requires.edges))
+    (rw (← c.self.view_is) at c.requires.edges))
 
 pub returns-clause-filtered : goal.returns-clause-filtered
 returns-clause-filtered g c =
@@ -70,8 +68,6 @@ returns-clause-filtered g c =
     let edges = map plain_edge c.filter_edges.new.new.cells.items in
     let cells = c.self.inside.nodes.items in
     let rows = c.self.inside.edges.items in
-    let old =
-    stored_graph g.Ix.IndexType.greatest cells rows c.self.inside.first_vacant_node c.self.inside.first_vacant_edge in
     let nodes_read =
     slice_read weight_of cells c.deref.result.now _
     (c.node_bound-node_bound.ensures ∙ sym (ap (λ s. node_bound s.graph) c.self.view_is)) c.deref.ensures.value in
@@ -87,8 +83,7 @@ returns-clause-filtered g c =
     let kept_edges =
     subst (λ l. KeepsSlots (goal.G-step g) of weight_in with_weight c.args.g 0 l edges) edges_read
     c.filter_edges.ensures.kept in
-    subst (λ s. IsFilteredInPlace of (goal.F-step g) (goal.G-step g) c.args.f c.args.g s.graph c.built.result.graph)
-    c.self.view_is (record {
+    rw (← c.self.view_is) (record {
       nodes = nodes;
       edges = edges;
       keeps_nodes = kept_nodes;

@@ -1,25 +1,11 @@
-use Rattle.std.proofs.Common.{Some, rules, ◌≡◌, ◌<◌, length, ap, ◌∙◌, arith}
+use Rattle.std.proofs.Common.{rules, ◌≡◌, ◌<◌, length, ap, ◌∙◌, arith}
 use Rattle.daggy_base.specs.Graph.{edge_count}
 use Rattle.daggy_base.specs.Adding.{with_edge}
 use Rattle.daggy_cells.proofs.States.{state_changed}
 use Rattle.daggy_stable.proofs.Stores.{stored_is, Stores-itself, edges_long}
-use Rattle.daggy_stable.proofs.Changes.{IsPutFirst, node_inside, edge_made_code}
-use Rattle.daggy_stable.proofs.stable_graph.StableDiGraph.make_edge.Given.{Over}
-use Rattle.daggy_stable.proofs.stable_graph.StableDiGraph.make_edge.Goals.{After-put_first-x}
+use Rattle.daggy_stable.proofs.Changes.{node_inside}
+use Rattle.daggy_stable.proofs.BuiltSlots.{edge_made_code}
 use Rattle.daggy_stable.proofs.stable_graph.StableDiGraph.make_edge.Goals as goal
-
--- the new edge goes first in the lists of its ends
-put : (g : Over) (c : After-put_first-x g)
-    → IsPutFirst c.self.inside.nodes.items c.put_first-x.new.nodes.items c.of_node.result c.of_node-2.result
-    c.new-e.result (Some c.args.weight) c.put_first-x.result
-put g c = record {
-  led = record {
-    weights = c.put_first-x.ensures.weights;
-    outs = c.put_first-x.ensures.out;
-    ins = c.put_first-x.ensures.into;
-  };
-  stored = c.put_first-x.ensures.edge;
-}
 
 pub invariant_of-self : goal.invariant_of-self
 invariant_of-self g c = rw c.reserve.ensures.items c.self.invariant
@@ -39,7 +25,6 @@ put_first-x-requires-clause-child g c =
 
 pub invariant_of-self-2 : goal.invariant_of-self-2
 invariant_of-self-2 g c =
-    let at = goal.at.invariant_of-self-2 g c in
     let a_in = rw (← c.self.view_is) at c.requires.parent in
     let b_in = rw (← c.self.view_is) at c.requires.child in
     let few : c.self.inside.edge_count < g.Ix.IndexType.greatest =
@@ -53,12 +38,11 @@ invariant_of-self-2 g c =
     omega (arith, c.new-e.ensures, c.len.ensures, ap length c.reserve.ensures.items) in
     let pushed = rw c.reserve.ensures.items at c.push_reserved.ensures.items in
     Stores-itself (edge_made_code c.self.invariant (record { parent = a_in; child = b_in }) c.of_node.ensures
-    c.of_node-2.ensures (put g at.After-put_first-x) new
+    c.of_node-2.ensures (record { led = c.put_first-x.ensures.led; stored = c.put_first-x.ensures.edge }) new
     (ap (λ s. s.graph.vacant_edges) c.self.view_is ∙ c.requires.none) few pushed)
 
 pub returns-clause-added : goal.returns-clause-added
 returns-clause-added g c =
-    let at = goal.at.returns-clause-added g c in
     let a_in = rw (← c.self.view_is) at c.requires.parent in
     let b_in = rw (← c.self.view_is) at c.requires.child in
     let few : c.self.inside.edge_count < g.Ix.IndexType.greatest =
@@ -74,7 +58,7 @@ returns-clause-added g c =
     state_changed _ _ _ _
     (λ h. with_edge h (g.Ix.IndexType.number c.args.a) (g.Ix.IndexType.number c.args.b) c.args.weight) c.self.view_is
     (stored_is (edge_made_code c.self.invariant (record { parent = a_in; child = b_in }) c.of_node.ensures
-    c.of_node-2.ensures (put g at.After-put_first-x) new
+    c.of_node-2.ensures (record { led = c.put_first-x.ensures.led; stored = c.put_first-x.ensures.edge }) new
     (ap (λ s. s.graph.vacant_edges) c.self.view_is ∙ c.requires.none) few pushed))
 
 pub new-e-requires : goal.new-e-requires

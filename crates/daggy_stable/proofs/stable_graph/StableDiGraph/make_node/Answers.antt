@@ -3,7 +3,7 @@ use Rattle.daggy_base.specs.Graph.{node_count}
 use Rattle.daggy_base.specs.Adding.{with_node}
 use Rattle.daggy_cells.proofs.States.{state_changed}
 use Rattle.daggy_stable.proofs.Stores.{stored_is, Stores-itself}
-use Rattle.daggy_stable.proofs.Changes.{node_made_code}
+use Rattle.daggy_stable.proofs.BuiltSlots.{node_made_code}
 use Rattle.daggy_stable.proofs.stable_graph.StableDiGraph.make_node.Goals as goal
 
 pub push_reserved-requires : goal.push_reserved-requires

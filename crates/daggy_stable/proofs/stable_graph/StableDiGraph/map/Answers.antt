@@ -1,12 +1,12 @@
 use Rattle.std.proofs.Common.{map, length, subst, sym, ap, ◌∙◌, arith}
-use Rattle.daggy_base.specs.Mapping.{MapsSlots, IsMapped, weight_in, with_weight}
+use Rattle.daggy_base.specs.Mapping.{MapsSlots, weight_in, with_weight}
 use Rattle.daggy_cells.specs.Fields.{firsts_of, nexts_of}
-use Rattle.daggy_stable.specs.Stored.{weight_of, plain_edge, stored_graph}
+use Rattle.daggy_stable.specs.Stored.{weight_of, plain_edge}
 use Rattle.daggy_stable.proofs.Stores.{edges_long}
 use Rattle.daggy_stable.proofs.MappedSlots.{MapsStored, Stores-mapped, IsMapped-stored}
 use Rattle.daggy_stable.proofs.stable_graph.StableDiGraph.map.Given.{Over}
 use Rattle.daggy_stable.proofs.stable_graph.StableDiGraph.map.Goals.{After-map_edges}
-use Rattle.daggy_base.specs.CallsInTurn.{CanCallAtSlots, CanCallAtNodes, CanCallAtEdges}
+use Rattle.daggy_base.specs.CallsInTurn.{CanCallAtSlots}
 use Rattle.daggy_stable.proofs.stable_graph.StableDiGraph.map.Goals as goal
 
 -- the new slots are the mapped old ones
@@ -31,15 +31,13 @@ pub map_nodes-requires-clause-callable : goal.map_nodes-requires-clause-callable
 map_nodes-requires-clause-callable g c =
     subst (λ l. CanCallAtSlots g.Ix.IndexType.of (goal.F-pre g) (goal.F-step g) (λ w. w) c.args.f
     (map weight_of l)) (sym c.as_slice.ensures.value)
-    (subst (λ s. CanCallAtNodes g.Ix.IndexType.of (goal.F-pre g) (goal.F-step g) c.args.f s.graph)
-    (sym c.self.view_is) c.requires.nodes)
+    (rw (← c.self.view_is) at c.requires.nodes)
 
 pub map_edges-requires-clause-callable : goal.map_edges-requires-clause-callable
 map_edges-requires-clause-callable g c =
     subst (λ l. CanCallAtSlots g.Ix.IndexType.of (goal.G-pre g) (goal.G-step g) weight_in c.args.g
     (map plain_edge l)) (sym c.as_slice-2.ensures.value)
-    (subst (λ s. CanCallAtEdges g.Ix.IndexType.of (goal.G-pre g) (goal.G-step g) c.args.g s.graph)
-    (sym c.self.view_is) c.requires.edges)
+    (rw (← c.self.view_is) at c.requires.edges)
 
 pub map_edges-requires-clause-few : goal.map_edges-requires-clause-few
 map_edges-requires-clause-few g c =
@@ -52,9 +50,4 @@ invariant_of-result g c =
 
 pub returns-clause-mapped : goal.returns-clause-mapped
 returns-clause-mapped g c =
-    let end = g.Ix.IndexType.greatest in
-    subst (λ s. IsMapped g.Ix.IndexType.of (goal.F-step g) (goal.G-step g) c.args.f c.args.g s.graph
-    (stored_graph end c.map_nodes.new.new.items c.map_edges.new.new.items c.self.inside.first_vacant_node
-    c.self.inside.first_vacant_edge)) c.self.view_is
-    (IsMapped-stored (mapped g (goal.at.returns-clause-mapped g c).After-map_edges) end c.self.inside.first_vacant_node
-    c.self.inside.first_vacant_edge)
+    rw (← c.self.view_is) (IsMapped-stored (mapped g (goal.at.returns-clause-mapped g c).After-map_edges) _ _ _)

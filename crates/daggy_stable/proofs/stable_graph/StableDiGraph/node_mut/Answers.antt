@@ -1,11 +1,11 @@
-use Rattle.std.proofs.Common.{◌<◌, map, length, is_some, arith, refl, sym, ap, ◌∙◌}
+use Rattle.std.proofs.Common.{IsSome, subst, arith, refl, sym, ap, ◌∙◌}
 use Rattle.std.specs.Option.{option_copied_mut}
 use Rattle.daggy_base.specs.Graph.{node_weight}
 use Rattle.daggy_base.specs.Weights.{with_node_weight}
 use Rattle.daggy_cells.proofs.States.{state_changed}
-use Rattle.daggy_stable.specs.Stored.{weight_of, stored_graph}
-use Rattle.daggy_stable.proofs.Stores.{stored_is, Stores-itself, some_is, nodes_long, node_read}
-use Rattle.daggy_stable.proofs.Slots.{slot_inside}
+use Rattle.daggy_stable.specs.Stored.{stored_graph}
+use Rattle.daggy_stable.proofs.Stores.{stored_is, Stores-itself}
+use Rattle.daggy_stable.proofs.Changes.{node_inside}
 use Rattle.daggy_stable.proofs.StoredRemoval.{node_weight_read}
 use Rattle.daggy_stable.proofs.StoredWeights.{node_weighed}
 use Rattle.daggy_stable.proofs.stable_graph.StableDiGraph.node_mut.Goals as goal
@@ -45,16 +45,12 @@ returns g c =
 
 pub index_mut-x-requires : goal.index_mut-x-requires
 index_mut-x-requires g c =
-    let found = some_is _ (rw (← c.self.view_is, ← c.index.ensures.value) at c.requires) in
-    let within = slot_inside (map weight_of c.self.inside.nodes.items) c.index.result found.0 found.1 in
-    omega (arith, within, nodes_long c.self.invariant)
+    let has = rw (← c.self.view_is, ← c.index.ensures.value) at c.requires in
+    omega (arith, node_inside c.self.invariant c.index.result has)
 
 pub unwrap-requires : goal.unwrap-requires
 unwrap-requires g c =
-    let nodes = c.self.inside.nodes.items in
-    let x = c.index_mut-x.result.now in
-    let found = some_is _ (rw (← c.self.view_is, ← c.index.ensures.value) at c.requires) in
-    let within = slot_inside (map weight_of nodes) c.index.result found.0 found.1 in
-    let inside : c.index.result < length nodes = omega (arith, within, nodes_long c.self.invariant) in
+    let has = rw (← c.self.view_is, ← c.index.ensures.value) at c.requires in
     c.as_mut.ensures.variant
-    ∙ ap is_some (sym (node_read c.self.invariant c.index.result x inside c.index_mut-x.ensures.value) ∙ found.1)
+    ∙ subst (λ o. IsSome o) (sym (node_weight_read c.self.invariant c.index.result c.index.result
+    c.index_mut-x.result.now has refl c.index_mut-x.ensures.value)) has

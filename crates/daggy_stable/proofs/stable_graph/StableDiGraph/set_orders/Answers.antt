@@ -1,6 +1,6 @@
-use Rattle.std.proofs.Common.{map, sym, subst, ◌∙◌}
+use Rattle.std.proofs.Common.{map, sym, ◌∙◌}
 use Rattle.std.proofs.lemmas.List.{length-map}
-use Rattle.daggy_base.specs.Orders.{numbers_of, with_orders, AreOrders}
+use Rattle.daggy_base.specs.Orders.{numbers_of, with_orders}
 use Rattle.daggy_cells.proofs.States.{state_changed}
 use Rattle.daggy_stable.proofs.Stores.{stored_is, Stores-itself}
 use Rattle.daggy_stable.proofs.ListOrdersKept.{as_many, can_thread, ordered}
@@ -8,30 +8,24 @@ use Rattle.daggy_stable.proofs.stable_graph.StableDiGraph.set_orders.Goals as go
 
 pub thread_nodes-requires-clause-count : goal.thread_nodes-requires-clause-count
 thread_nodes-requires-clause-count g c =
-    let orders = map (numbers_of g.Ix.IndexType.number) c.args.orders.now in
-    let are = subst (λ s. AreOrders s.graph orders) (sym c.self.view_is) c.requires in
-    sym (length-map c.args.orders.now (numbers_of g.Ix.IndexType.number)) ∙ as_many c.self.invariant orders are
+    sym (length-map c.args.orders.now (numbers_of g.Ix.IndexType.number))
+    ∙ as_many c.self.invariant _ (rw (← c.self.view_is) at c.requires)
 
 pub thread_nodes-requires-clause-lists : goal.thread_nodes-requires-clause-lists
 thread_nodes-requires-clause-lists g c =
-    let orders = map (numbers_of g.Ix.IndexType.number) c.args.orders.now in
-    let are = subst (λ s. AreOrders s.graph orders) (sym c.self.view_is) c.requires in
-    can_thread c.self.invariant orders are
+    can_thread c.self.invariant _ (rw (← c.self.view_is) at c.requires)
 
 pub invariant_of-self : goal.invariant_of-self
 invariant_of-self g c =
-    let orders = map (numbers_of g.Ix.IndexType.number) c.args.orders.now in
-    let are = subst (λ s. AreOrders s.graph orders) (sym c.self.view_is) c.requires in
     let made = c.thread_nodes.ensures in
-    Stores-itself (ordered c.self.invariant orders are made.linked made.nodes made.edges made.vacant_nodes
-    made.other_edges made.as_many)
+    Stores-itself (ordered c.self.invariant _ (rw (← c.self.view_is) at c.requires) made.linked made.nodes made.edges
+    made.vacant_nodes made.other_edges made.as_many)
 
 pub returns : goal.returns
 returns g c =
-    let orders = map (numbers_of g.Ix.IndexType.number) c.args.orders.now in
-    let are = subst (λ s. AreOrders s.graph orders) (sym c.self.view_is) c.requires in
     let made = c.thread_nodes.ensures in
     let stored =
-    ordered c.self.invariant orders are made.linked made.nodes made.edges made.vacant_nodes made.other_edges
-    made.as_many in
-    state_changed _ _ _ _ (λ h. with_orders h orders) c.self.view_is (stored_is stored)
+    ordered c.self.invariant _ (rw (← c.self.view_is) at c.requires) made.linked made.nodes made.edges
+    made.vacant_nodes made.other_edges made.as_many in
+    state_changed _ _ _ _ (λ h. with_orders h (map (numbers_of g.Ix.IndexType.number) c.args.orders.now))
+    c.self.view_is (stored_is stored)

@@ -1,123 +1,76 @@
-use Rattle.std.proofs.Common.{Some, IsSome, sym, ap, subst, ◌∙◌, arith}
-use Rattle.std.specs.Prelude.{length}
+use Rattle.std.proofs.Common.{IsSome, length, sym, ap, subst, ◌∙◌, arith}
 use Rattle.daggy_base.specs.Weights.{with_edge_weight}
 use Rattle.daggy_cells.specs.Cells.{edge_of_weight}
-use Rattle.daggy_cells.proofs.CellLemmas.{called_at, called_through}
+use Rattle.daggy_cells.proofs.CellLemmas.{called_at}
 use Rattle.daggy_cells.proofs.States.{state_changed}
+use Rattle.daggy_stable.specs.Cells.{edge_weight_in}
 use Rattle.daggy_stable.specs.Stored.{stored_graph}
 use Rattle.daggy_stable.proofs.Stores.{stored_is, Stores-itself}
-use Rattle.daggy_stable.proofs.TwoWeightLemmas.{edges_updated, edge_has, edge_stands, edge_seen, edge_weighs}
-use Rattle.daggy_stable.proofs.TwoWeightLemmas.{called_in_slots, edge_weight_got}
+use Rattle.daggy_stable.proofs.TwoWeightLemmas.{edges_updated, edge_stands, edge_seen, slots_called, edge_weight_got}
+use Rattle.daggy_stable.proofs.TwoWeightLemmas.{still_some}
 use Rattle.daggy_stable.proofs.stable_graph.StableDiGraph.update_two_edges.Goals as goal
 
 pub at_two-requires-clause-first : goal.at_two-requires-clause-first
 at_two-requires-clause-first g c =
-    let nodes = c.self.inside.nodes.items in
-    let edges = c.self.inside.edges.items in
-    let lent_is = c.as_mut_slice.ensures.value in
     omega (
       arith,
-      edge_stands nodes edges c.self.invariant _ c.args.self.now c.self.view_is
-          (g.Ix.IndexType.number c.args.a) c.index.result c.index.ensures.value c.requires.first,
-      ap length lent_is,
+      edge_stands c.self.invariant c.self.view_is c.index.ensures.value c.requires.first,
+      ap length c.as_mut_slice.ensures.value,
     )
 
 pub at_two-requires-clause-second : goal.at_two-requires-clause-second
 at_two-requires-clause-second g c =
-    let nodes = c.self.inside.nodes.items in
-    let edges = c.self.inside.edges.items in
-    let lent_is = c.as_mut_slice.ensures.value in
     omega (
       arith,
-      edge_stands nodes edges c.self.invariant _ c.args.self.now c.self.view_is
-          (g.Ix.IndexType.number c.args.b) c.index-2.result c.index-2.ensures.value c.requires.second,
-      ap length lent_is,
+      edge_stands c.self.invariant c.self.view_is c.index-2.ensures.value c.requires.second,
+      ap length c.as_mut_slice.ensures.value,
     )
 
 pub at_two-requires-clause-callable : goal.at_two-requires-clause-callable
-at_two-requires-clause-callable g c =
-    let nodes = c.self.inside.nodes.items in
-    let edges = c.self.inside.edges.items in
+at_two-requires-clause-callable g c p q p_is q_is =
+    let lent = c.as_mut_slice.result.now in
     let lent_is = c.as_mut_slice.ensures.value in
-    let first_seen =
-    edge_seen nodes edges c.self.invariant _ c.args.self.now c.self.view_is (g.Ix.IndexType.number c.args.a)
-    c.index.result c.index.ensures.value _ lent_is in
-    let second_seen =
-    edge_seen nodes edges c.self.invariant _ c.args.self.now c.self.view_is (g.Ix.IndexType.number c.args.b)
-    c.index-2.result c.index-2.ensures.value _ lent_is in
-    λ p q p_is q_is.
-    let first_at = first_seen ∙ edge_weight_got c.as_mut_slice.result.now c.index.result p.now p_is in
-    let second_at = second_seen ∙ edge_weight_got c.as_mut_slice.result.now c.index-2.result q.now q_is in (
-      subst (λ o. IsSome o) first_at (edge_weighs nodes edges c.self.invariant _ c.args.self.now
-          c.self.view_is
-          (g.Ix.IndexType.number c.args.a) c.index.result c.index.ensures.value c.requires.first),
-      subst (λ o. IsSome o) second_at (edge_weighs nodes edges c.self.invariant _ c.args.self.now
-          c.self.view_is
-          (g.Ix.IndexType.number c.args.b) c.index-2.result c.index-2.ensures.value c.requires.second),
-      λ v w v_is w_is. c.requires.callable v w (first_at ∙ v_is) (second_at ∙ w_is),
+    let first =
+    edge_seen c.self.invariant c.self.view_is c.index.ensures.value lent_is
+    ∙ edge_weight_got lent c.index.result p.now p_is in
+    let second =
+    edge_seen c.self.invariant c.self.view_is c.index-2.ensures.value lent_is
+    ∙ edge_weight_got lent c.index-2.result q.now q_is in (
+      subst (λ o. IsSome o) first (still_some (λ x. x.weight) _ c.requires.first),
+      subst (λ o. IsSome o) second (still_some (λ x. x.weight) _ c.requires.second),
+      λ v w v_is w_is. c.requires.callable v w (first ∙ v_is) (second ∙ w_is),
     )
 
 pub invariant_of-self : goal.invariant_of-self
 invariant_of-self g c =
-    let nodes = c.self.inside.nodes.items in
-    let edges = c.self.inside.edges.items in
-    let lent_is = c.as_mut_slice.ensures.value in
     let sent = c.at_two.ensures in
     let r =
-    called_through (λ z. z.weight) (λ v x. edge_of_weight (Some v) x) g.F.FnOnce c.args.f _
+    slots_called (λ z. z.weight) edge_of_weight edge_weight_in edge_weight_got g.F.FnOnce c.args.f
     (λ same. c.requires.different (sym c.index.ensures.value ∙ same ∙ c.index-2.ensures.value))
-    sent.shows.0 sent.shows.1 sent.leaves
-    (edge_weight_got c.as_mut_slice.result.now c.index.result sent.first.now sent.shows.0)
-    (edge_weight_got c.as_mut_slice.result.now c.index-2.result sent.second.now sent.shows.1)
-    (called_in_slots (λ z. z.weight) edge_of_weight g.F.FnOnce c.args.f _ _ sent.called.0 sent.called.1
-    sent.called.2) in
-    let a = g.Ix.IndexType.number c.args.a in
-    let b = g.Ix.IndexType.number c.args.b in
-    let first =
-    edge_has nodes edges c.self.invariant _ c.args.self.now c.self.view_is (g.Ix.IndexType.number c.args.a)
-    c.index.result c.index.ensures.value c.requires.first in
-    let second =
-    edge_has nodes edges c.self.invariant _ c.args.self.now c.self.view_is (g.Ix.IndexType.number c.args.b)
-    c.index-2.result c.index-2.ensures.value c.requires.second in
-    let stored =
-    edges_updated c.self.invariant a b c.index.ensures.value c.index-2.ensures.value r.first_left.now
-    r.second_left.now first second c.self.inside.edges.ok.0 lent_is r.leaves in
-    Stores-itself stored
+    sent.shows.0 sent.shows.1 sent.leaves sent.called.0 sent.called.1 sent.called.2 in
+    Stores-itself (edges_updated c.self.invariant _ _ c.index.ensures.value c.index-2.ensures.value
+    r.first_left.now r.second_left.now (rw (← c.self.view_is) at c.requires.first)
+    (rw (← c.self.view_is) at c.requires.second) c.self.inside.edges.ok.0 c.as_mut_slice.ensures.value r.leaves)
 
 pub returns : goal.returns
 returns g c =
-    let nodes = c.self.inside.nodes.items in
-    let edges = c.self.inside.edges.items in
-    let lent_is = c.as_mut_slice.ensures.value in
     let sent = c.at_two.ensures in
     let r =
-    called_through (λ z. z.weight) (λ v x. edge_of_weight (Some v) x) g.F.FnOnce c.args.f _
+    slots_called (λ z. z.weight) edge_of_weight edge_weight_in edge_weight_got g.F.FnOnce c.args.f
     (λ same. c.requires.different (sym c.index.ensures.value ∙ same ∙ c.index-2.ensures.value))
-    sent.shows.0 sent.shows.1 sent.leaves
-    (edge_weight_got c.as_mut_slice.result.now c.index.result sent.first.now sent.shows.0)
-    (edge_weight_got c.as_mut_slice.result.now c.index-2.result sent.second.now sent.shows.1)
-    (called_in_slots (λ z. z.weight) edge_of_weight g.F.FnOnce c.args.f _ _ sent.called.0 sent.called.1
-    sent.called.2) in
+    sent.shows.0 sent.shows.1 sent.leaves sent.called.0 sent.called.1 sent.called.2 in
     let a = g.Ix.IndexType.number c.args.a in
     let b = g.Ix.IndexType.number c.args.b in
-    let first =
-    edge_has nodes edges c.self.invariant _ c.args.self.now c.self.view_is (g.Ix.IndexType.number c.args.a)
-    c.index.result c.index.ensures.value c.requires.first in
-    let second =
-    edge_has nodes edges c.self.invariant _ c.args.self.now c.self.view_is (g.Ix.IndexType.number c.args.b)
-    c.index-2.result c.index-2.ensures.value c.requires.second in
+    let lent_is = c.as_mut_slice.ensures.value in
     let stored =
     edges_updated c.self.invariant a b c.index.ensures.value c.index-2.ensures.value r.first_left.now
-    r.second_left.now first second c.self.inside.edges.ok.0 lent_is r.leaves in
-    let was =
-    stored_graph g.Ix.IndexType.greatest nodes edges c.self.inside.first_vacant_node c.self.inside.first_vacant_edge in
+    r.second_left.now (rw (← c.self.view_is) at c.requires.first) (rw (← c.self.view_is) at c.requires.second)
+    c.self.inside.edges.ok.0 lent_is r.leaves in
     called_at r.first r.second r.first_left r.second_left
-    (edge_seen nodes edges c.self.invariant _ c.args.self.now c.self.view_is (g.Ix.IndexType.number c.args.a)
-    c.index.result c.index.ensures.value _ lent_is
-    ∙ r.shows.0)
-    (edge_seen nodes edges c.self.invariant _ c.args.self.now c.self.view_is (g.Ix.IndexType.number c.args.b)
-    c.index-2.result c.index-2.ensures.value _ lent_is
-    ∙ r.shows.1)
+    (edge_seen c.self.invariant c.self.view_is c.index.ensures.value lent_is ∙ r.shows.0)
+    (edge_seen c.self.invariant c.self.view_is c.index-2.ensures.value lent_is ∙ r.shows.1)
     r.called
-    (state_changed _ was _ _ (λ h. with_edge_weight (with_edge_weight h a r.first_left.now) b r.second_left.now)
-    c.self.view_is (stored_is stored))
+    (state_changed _ (stored_graph g.Ix.IndexType.greatest c.self.inside.nodes.items c.self.inside.edges.items
+    c.self.inside.first_vacant_node c.self.inside.first_vacant_edge) _ _
+    (λ h. with_edge_weight (with_edge_weight h a r.first_left.now) b r.second_left.now) c.self.view_is
+    (stored_is stored))

@@ -4,23 +4,10 @@ use Rattle.daggy_base.specs.Graph.{edge_at}
 use Rattle.daggy_base.specs.Removal.{without_edge}
 use Rattle.daggy_base.specs.declared.kind.Kind.TheVariants.{Stable}
 use Rattle.daggy_cells.proofs.States.{state_changed}
-use Rattle.daggy_stable.specs.Stored.{stored_graph}
 use Rattle.daggy_stable.proofs.Stores.{stored_is, Stores-itself}
-use Rattle.daggy_stable.proofs.StoredRemoval.{IsUnlinked, edges_some, ready_code, edge_inside, removed_weight}
+use Rattle.daggy_stable.proofs.StoredRemoval.{edges_some, ready_code, edge_inside, removed_weight}
 use Rattle.daggy_stable.proofs.StoredRemoval.{edge_removed_code}
-use Rattle.daggy_stable.proofs.stable_graph.StableDiGraph.vacate_edge.Given.{Over}
-use Rattle.daggy_stable.proofs.stable_graph.StableDiGraph.vacate_edge.Goals.{After-unlink}
 use Rattle.daggy_stable.proofs.stable_graph.StableDiGraph.vacate_edge.Goals as goal
-
--- the edge is taken out of its lists
-unlinked : (g : Over) (c : After-unlink g)
-    → IsUnlinked c.self.inside.nodes.items c.unlink.new.nodes.items c.self.inside.edges.items c.unlink.new.edges.items
-    c.of_edge-link.result
-unlinked g c = record {
-  weights = c.unlink.ensures.nodes;
-  plains = c.unlink.ensures.edges;
-  links = c.unlink.ensures.links;
-}
 
 pub unlink-requires : goal.unlink-requires
 unlink-requires g c =
@@ -29,9 +16,8 @@ unlink-requires g c =
 
 pub index_mut-x-requires : goal.index_mut-x-requires
 index_mut-x-requires g c =
-    let at = goal.at.index_mut-x-requires g c in
     let has = rw (← c.self.view_is, ← c.of_edge-link.ensures) at c.requires in
-    let within = edge_inside c.self.invariant has (unlinked g at.After-unlink) in
+    let within = edge_inside c.self.invariant has c.unlink.ensures in
     omega (arith, within, c.index.ensures.value)
 
 pub overflow_sub-self : goal.overflow_sub-self
@@ -42,29 +28,23 @@ overflow_sub-self g c =
 
 pub invariant_of-self : goal.invariant_of-self
 invariant_of-self g c =
-    let at = goal.at.invariant_of-self g c in
     let has = rw (← c.self.view_is, ← c.of_edge-link.ensures) at c.requires in
-    Stores-itself (edge_removed_code c.self.invariant has (unlinked g at.After-unlink) c.index_mut-x.result.now
+    Stores-itself (edge_removed_code c.self.invariant has c.unlink.ensures c.index_mut-x.result.now
     c.index.ensures.value c.set_next.ensures c.take-weight.ensures.after)
 
 pub returns-clause-value : goal.returns-clause-value
 returns-clause-value g c =
-    let at = goal.at.returns-clause-value g c in
     let has = rw (← c.self.view_is, ← c.of_edge-link.ensures) at c.requires in
-    removed_weight c.self.invariant has (unlinked g at.After-unlink) c.index.ensures.value
+    removed_weight c.self.invariant has c.unlink.ensures c.index.ensures.value
     c.index_mut-x.ensures.value c.set_next.ensures c.take-weight.ensures.value
     ∙ ap (λ s. option_map (λ z. z.weight) (edge_at s.graph c.of_edge-link.result)) c.self.view_is
     ∙ ap (λ z. option_map (λ z. z.weight) (edge_at c.args.self.now.graph z)) c.of_edge-link.ensures
 
 pub returns-clause-removed : goal.returns-clause-removed
 returns-clause-removed g c =
-    let at = goal.at.returns-clause-removed g c in
     let has = rw (← c.self.view_is, ← c.of_edge-link.ensures) at c.requires in
-    let was =
-    stored_graph g.Ix.IndexType.greatest c.self.inside.nodes.items c.self.inside.edges.items
-    c.self.inside.first_vacant_node c.self.inside.first_vacant_edge in
     let stored =
-    edge_removed_code c.self.invariant has (unlinked g at.After-unlink) c.index_mut-x.result.now c.index.ensures.value
+    edge_removed_code c.self.invariant has c.unlink.ensures c.index_mut-x.result.now c.index.ensures.value
     c.set_next.ensures c.take-weight.ensures.after in
-    state_changed _ was _ _ (λ h. without_edge Stable h (g.Ix.IndexType.number c.args.e)) c.self.view_is
-    (stored_is stored ∙ ap (without_edge Stable was) c.of_edge-link.ensures)
+    state_changed _ _ _ _ (λ h. without_edge Stable h (g.Ix.IndexType.number c.args.e)) c.self.view_is
+    (stored_is stored ∙ ap (without_edge Stable _) c.of_edge-link.ensures)

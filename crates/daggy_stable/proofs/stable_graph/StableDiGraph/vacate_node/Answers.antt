@@ -1,10 +1,8 @@
-use Rattle.std.proofs.Common.{◌≡◌, [], ap, ◌∙◌, arith}
-use Rattle.daggy_base.specs.declared.index.Direction.{Direction}
-use Rattle.daggy_base.specs.Graph.{node_weight, list_at}
+use Rattle.std.proofs.Common.{ap, ◌∙◌, arith}
+use Rattle.daggy_base.specs.Graph.{node_weight}
 use Rattle.daggy_base.specs.Removal.{with_node_dropped}
 use Rattle.daggy_base.specs.declared.kind.Kind.TheVariants.{Stable}
 use Rattle.daggy_cells.proofs.States.{state_changed}
-use Rattle.daggy_stable.specs.Stored.{stored_graph}
 use Rattle.daggy_stable.proofs.Stores.{stored_is, Stores-itself}
 use Rattle.daggy_stable.proofs.Changes.{node_inside}
 use Rattle.daggy_stable.proofs.StoredRemoval.{nodes_some, node_dropped_code, node_weight_read}
@@ -19,12 +17,7 @@ overflow_sub-self g c =
 pub invariant_of-self : goal.invariant_of-self
 invariant_of-self g c =
     let has = rw (← c.self.view_is, ← c.of_node-link.ensures) at c.requires.node in
-    let was =
-    stored_graph g.Ix.IndexType.greatest c.self.inside.nodes.items c.self.inside.edges.items
-    c.self.inside.first_vacant_node c.self.inside.first_vacant_edge in
-    let empty : (d : Direction) → list_at d was c.of_node-link.result ≡ [] = λ d.
-    ap (λ s. list_at d s.graph c.of_node-link.result) c.self.view_is
-    ∙ ap (list_at d c.args.self.now.graph) c.of_node-link.ensures ∙ c.requires.no_edges d in
+    let empty = rw (← c.self.view_is, ← c.of_node-link.ensures) at c.requires.no_edges in
     Stores-itself (node_dropped_code c.self.invariant c.of_node-link.result has empty c.index_mut-x.result.now
     c.set_first.new.x c.take-weight.new.self c.index.ensures.value c.set_first.ensures c.take-weight.ensures.after)
 
@@ -40,17 +33,12 @@ returns-clause-value g c =
 pub returns-clause-dropped : goal.returns-clause-dropped
 returns-clause-dropped g c =
     let has = rw (← c.self.view_is, ← c.of_node-link.ensures) at c.requires.node in
-    let was =
-    stored_graph g.Ix.IndexType.greatest c.self.inside.nodes.items c.self.inside.edges.items
-    c.self.inside.first_vacant_node c.self.inside.first_vacant_edge in
-    let empty : (d : Direction) → list_at d was c.of_node-link.result ≡ [] = λ d.
-    ap (λ s. list_at d s.graph c.of_node-link.result) c.self.view_is
-    ∙ ap (list_at d c.args.self.now.graph) c.of_node-link.ensures ∙ c.requires.no_edges d in
+    let empty = rw (← c.self.view_is, ← c.of_node-link.ensures) at c.requires.no_edges in
     let stored =
     node_dropped_code c.self.invariant c.of_node-link.result has empty c.index_mut-x.result.now c.set_first.new.x
     c.take-weight.new.self c.index.ensures.value c.set_first.ensures c.take-weight.ensures.after in
-    state_changed _ was _ _ (λ h. with_node_dropped Stable h (g.Ix.IndexType.number c.args.n)) c.self.view_is
-    (stored_is stored ∙ ap (with_node_dropped Stable was) c.of_node-link.ensures)
+    state_changed _ _ _ _ (λ h. with_node_dropped Stable h (g.Ix.IndexType.number c.args.n)) c.self.view_is
+    (stored_is stored ∙ ap (with_node_dropped Stable _) c.of_node-link.ensures)
 
 pub index_mut-x-requires : goal.index_mut-x-requires
 index_mut-x-requires g c =

@@ -7,14 +7,8 @@ pub returns-clause-stored : goal.returns-clause-stored
 returns-clause-stored g c =
     let last : c.new-e.result ≡ length c.args.edges.now.cells.items = omega (arith, c.new-e.ensures, c.len.ensures) in
     rw c.push_reserved.ensures.items (built_edge_taken _ c.requires.stored
-    (record { parent = c.requires.parent; child = c.requires.child }) c.requires.index_left last (record {
-      led = record {
-        weights = c.put_first-x.ensures.weights;
-        outs = c.put_first-x.ensures.out;
-        ins = c.put_first-x.ensures.into;
-      };
-      stored = c.put_first-x.ensures.edge;
-    }))
+    (record { parent = c.requires.parent; child = c.requires.child }) c.requires.index_left last
+    (record { led = c.put_first-x.ensures.led; stored = c.put_first-x.ensures.edge }))
 
 pub returns-clause-nodes : goal.returns-clause-nodes
-returns-clause-nodes g c = weights_seen _ _ c.put_first-x.ensures.weights
+returns-clause-nodes g c = weights_seen _ _ c.put_first-x.ensures.led.weights

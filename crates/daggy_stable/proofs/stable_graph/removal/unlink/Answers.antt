@@ -22,15 +22,15 @@ redirect-requires g c = record { ready = c.requires Outgoing; head = c.of-out.en
 
 pub redirect-requires-2 : goal.redirect-requires-2
 redirect-requires-2 g c =
-    let ends = c.redirect.ensures.edges.ends Incoming in
+    let ends = c.redirect.ensures.keeps_edges.ends Incoming in
     record {
       ready =
-          ready_kept Incoming c.redirect.ensures.nodes.firsts c.redirect.ensures.edges.nexts ends (c.requires Incoming);
-      head = head_kept c.redirect.ensures.nodes.firsts ends c.of-into.ensures;
+          ready_kept Incoming c.redirect.ensures.keeps.firsts c.redirect.ensures.keeps_edges.nexts ends (c.requires Incoming);
+      head = head_kept c.redirect.ensures.keeps.firsts ends c.of-into.ensures;
     }
 
-pub returns-clause-links : goal.returns-clause-links
-returns-clause-links g c =
+pub returns : goal.returns
+returns g c =
     let edges = c.args.edges.now.items in
     let e = c.args.e in
     let within = (c.requires Outgoing).edge in
@@ -38,15 +38,8 @@ returns-clause-links g c =
     c.next-next_out.ensures ∙ next_is Outgoing edges _ e _ c.index.ensures c.index-i.ensures.value within in
     let into_is : c.next-next_in.result ≡ get_or (nexts_of Incoming edges) e 0 =
     c.next-next_in.ensures ∙ next_is Incoming edges _ e _ c.index-2.ensures c.index-i.ensures.value within in
-    both_redirected
-    (record {
-      links = c.redirect.ensures.links;
-      keeps = c.redirect.ensures.nodes;
-      keeps_edges = c.redirect.ensures.edges;
-    })
-    (record {
-      links = c.redirect-2.ensures.links;
-      keeps = c.redirect-2.ensures.nodes;
-      keeps_edges = c.redirect-2.ensures.edges;
-    })
-    out_is into_is
+    record {
+      weights = c.redirect-2.ensures.keeps.weights ∙ c.redirect.ensures.keeps.weights;
+      plains = c.redirect-2.ensures.keeps_edges.edges ∙ c.redirect.ensures.keeps_edges.edges;
+      links = both_redirected c.redirect.ensures c.redirect-2.ensures out_is into_is;
+    }

@@ -2,7 +2,7 @@ use Rattle.std.proofs.Common.{refl, sym, ap, ◌<◌, length, arith}
 use Rattle.std.specs.Option.{option_map}
 use Rattle.daggy_base.specs.declared.index.Direction.TheVariants.{Outgoing, Incoming}
 use Rattle.daggy_stable.specs.Stored.{plain}
-use Rattle.daggy_stable.proofs.RewrittenSlots.{written_none, may_lend, written_vacant, written_called, written_all}
+use Rattle.daggy_cells.proofs.WrittenSlots.{written_none, may_lend, written_vacant, written_called, written_all}
 use Rattle.daggy_stable.proofs.stable_graph.rewriting.write_edges.Goals.{in-Some, in_default}
 use Rattle.daggy_stable.proofs.stable_graph.rewriting.write_edges.Goals as goal
 

@@ -1,7 +1,7 @@
 use Rattle.daggy_base.specs.Mapping.{weight_in, with_weight}
 use Rattle.daggy_cells.specs.Raw.{raw_next}
 use Rattle.daggy_stable.specs.Stored.{plain_edge}
-use Rattle.daggy_stable.proofs.RewrittenSlots.{WrittenBelow}
+use Rattle.daggy_cells.proofs.WrittenSlots.{WrittenBelow}
 use Rattle.daggy_stable.proofs.stable_graph.rewriting.write_edges.Given as goal
 
 abbrev pub invariant-each : goal.invariant-each

@@ -1,6 +1,6 @@
 use Rattle.std.proofs.Common.{refl, sym, ◌<◌, length, arith}
 use Rattle.daggy_base.specs.declared.index.Direction.TheVariants.{Outgoing, Incoming}
-use Rattle.daggy_stable.proofs.RewrittenSlots.{written_none, may_lend, written_vacant, written_called, written_all}
+use Rattle.daggy_cells.proofs.WrittenSlots.{written_none, may_lend, written_vacant, written_called, written_all}
 use Rattle.daggy_stable.proofs.stable_graph.rewriting.write_nodes.Goals.{in-Some, in_default}
 use Rattle.daggy_stable.proofs.stable_graph.rewriting.write_nodes.Goals as goal
 

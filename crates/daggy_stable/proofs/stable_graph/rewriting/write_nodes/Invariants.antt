@@ -1,6 +1,6 @@
 use Rattle.daggy_cells.specs.Raw.{raw_first}
 use Rattle.daggy_stable.specs.Stored.{weight_of}
-use Rattle.daggy_stable.proofs.RewrittenSlots.{WrittenBelow}
+use Rattle.daggy_cells.proofs.WrittenSlots.{WrittenBelow}
 use Rattle.daggy_stable.proofs.stable_graph.rewriting.write_nodes.Given as goal
 
 abbrev pub invariant-each : goal.invariant-each

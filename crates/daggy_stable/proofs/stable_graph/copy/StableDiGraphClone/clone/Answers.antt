@@ -1,5 +1,6 @@
 use Rattle.daggy_base.specs.Copying.{clone_step}
-use Rattle.daggy_stable.proofs.CopiedSlots.{node_slots_cloned, edge_slots_cloned, firsts_cloned, nexts_cloned}
+use Rattle.daggy_cells.proofs.CloneLemmas.{firsts_cloned, nexts_cloned}
+use Rattle.daggy_stable.proofs.CopiedSlots.{node_slots_cloned, edge_slots_cloned}
 use Rattle.daggy_stable.proofs.MappedSlots.{MapsStored, Stores-mapped, IsMapped-stored}
 use Rattle.daggy_stable.proofs.stable_graph.copy.StableDiGraphClone.clone.Given.{Over}
 use Rattle.daggy_stable.proofs.stable_graph.copy.StableDiGraphClone.clone.Goals.{In_ok-clone-2}
@@ -13,10 +14,10 @@ mapped g c =
     let nodes = c.in_ok-clone.ensures.cases.0 in
     let edges = c.in_ok-clone-2.ensures.cases.0 in
     record {
-      for_nodes = node_slots_cloned _ g.N.Clone.is_clone (λ x y r. r) (λ x r. r) (λ x r. r) 0 _ _ nodes;
-      for_edges = edge_slots_cloned _ g.E.Clone.is_clone (λ x y r. r) (λ x r. r) (λ x r. r) 0 _ _ edges;
-      firsts = firsts_cloned _ g.N.Clone.is_clone (λ x y r. r) (λ x r. r) (λ x r. r) _ _ nodes;
-      nexts = nexts_cloned _ g.E.Clone.is_clone (λ x y r. r) (λ x r. r) (λ x r. r) _ _ edges;
+      for_nodes = node_slots_cloned _ g.N.Clone.is_clone (λ x y r. r) (λ x r. r) (λ x r. r) _ _ nodes;
+      for_edges = edge_slots_cloned _ g.E.Clone.is_clone (λ x y r. r) (λ x r. r) (λ x r. r) _ _ edges;
+      firsts = firsts_cloned _ _ _ nodes;
+      nexts = nexts_cloned _ _ _ edges;
     }
 
 pub invariant_of-result : goal.invariant_of-result
