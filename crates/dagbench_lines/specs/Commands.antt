@@ -90,26 +90,26 @@ single_by_name name words =
     or_else (adding_by_name name words) (or_else (removing_by_name name words) (asking_by_name name words))
 
 -- what a line may ask: a step of the graph, or the document of the graph
-pub data Asked : Type 0 where
-  Step : Request ℤ ℤ → Asked
-  Document : Asked
+pub data LineRequest : Type 0 where
+  Step : Request ℤ ℤ → LineRequest
+  Document : LineRequest
 
-abbrev pub document_by_name : (name : List ℕ) → List (List ℕ) → Option Asked
+abbrev pub document_by_name : (name : List ℕ) → List (List ℕ) → Option LineRequest
 document_by_name name words = if bytes_eq name (codes "json") then if_done words Document else None
 
 -- a line is a name and what stands after it
-abbrev pub asked_by_words : List (List ℕ) → Option Asked
+abbrev pub asked_by_words : List (List ℕ) → Option LineRequest
 asked_by_words [] = None
 asked_by_words (name ∷ words) =
     or_else (option_map (λ request. Step request) (or_else (single_by_name name words) (listing_by_name name words)))
     (document_by_name name words)
 
 -- what a line asks. A line of more than 4,096 bytes asks nothing
-unfoldable pub asked_in : List ℕ → Option Asked
+unfoldable pub asked_in : List ℕ → Option LineRequest
 asked_in line = if nat_lt 4096 (length line) then None else asked_by_words (words_of line)
 
 -- what takes room of its own: a step that holds a list, and a document
-abbrev pub TakesRoom : Asked → Type 0
+abbrev pub TakesRoom : LineRequest → Type 0
 TakesRoom (Step (Edges edges)) = Unit {0}
 TakesRoom (Step (Reduce roots)) = Unit {0}
 TakesRoom Document = Unit {0}

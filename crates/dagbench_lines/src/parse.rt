@@ -14,8 +14,8 @@ ghost use Rattle.dagbench_lines.specs.Commands.{two_indices as two_indices_of};
 ghost use Rattle.dagbench_lines.specs.Commands.{ends_and_weight as ends_and_weight_of};
 ghost use Rattle.dagbench_lines.specs.Commands.{index_and_weights as index_and_weights_of};
 
-use crate::items::Items;
-use crate::roots::Roots;
+use crate::edge_list::EdgeList;
+use crate::node_list::NodeList;
 use crate::words::{edge, first_index, first_weight, first_word, node};
 use daggy_commands::command::Command;
 use std::alloc::{AllocError, Global};
@@ -25,7 +25,7 @@ pub const LONGEST_LINE: usize = 4096;
 
 /// What a line asks.
 #[derive(Drop)]
-pub enum Asked {
+pub enum LineRequest {
     /// That a command is carried out.
     Command(Command<i64, i64, u32>),
     /// The document of the dag.
@@ -36,7 +36,7 @@ pub enum Asked {
 ///
 /// The error says that there was no room for the list that a command holds.
 #[tactic(auto, unfolding(crate::specs::Commands::asked_in))]
-pub fn parse(alloc: Global, line: &[u8]) -> Result<Option<Asked>, AllocError>
+pub fn parse(alloc: Global, line: &[u8]) -> Result<Option<LineRequest>, AllocError>
     ensures asked { IfOk result (λ asked. option_map asked_of asked ≡ asked_in line.now) }
     ensures no_room { OnErr result (IsSomeAnd (asked_in line.now) TakesRoom) }
 {
@@ -46,7 +46,7 @@ pub fn parse(alloc: Global, line: &[u8]) -> Result<Option<Asked>, AllocError>
     by_words(alloc, line)
 }
 
-fn by_words(alloc: Global, line: &[u8]) -> Result<Option<Asked>, AllocError>
+fn by_words(alloc: Global, line: &[u8]) -> Result<Option<LineRequest>, AllocError>
     ensures asked { IfOk result (λ asked.
         option_map asked_of asked ≡ asked_by_words (words_of line.now)) }
     ensures no_room { OnErr result (IsSomeAnd (asked_by_words (words_of line.now)) TakesRoom) }
@@ -55,19 +55,19 @@ fn by_words(alloc: Global, line: &[u8]) -> Result<Option<Asked>, AllocError>
         return Ok(None);
     };
     if let Some(command) = single(name, rest) {
-        return Ok(Some(Asked::Command(command)));
+        return Ok(Some(LineRequest::Command(command)));
     }
     match listing(alloc, name, rest)? {
-        Some(command) => Ok(Some(Asked::Command(command))),
+        Some(command) => Ok(Some(LineRequest::Command(command))),
         None => Ok(document(name, rest)),
     }
 }
 
-fn document(name: &[u8], rest: &[u8]) -> Option<Asked>
+fn document(name: &[u8], rest: &[u8]) -> Option<LineRequest>
     ensures { option_map asked_of result ≡ document_by_name name.now (words_of rest.now) }
 {
     if name == b"json".as_slice() {
-        if_done(rest, Asked::Document)
+        if_done(rest, LineRequest::Document)
     } else {
         None
     }
@@ -85,15 +85,15 @@ fn listing(
         (λ request. TakesRoom (Step request))) }
 {
     if name == b"edges".as_slice() {
-        let Some(items) = Items::new(rest) else {
+        let Some(edges) = EdgeList::new(rest) else {
             return Ok(None);
         };
-        Ok(Some(Command::Edges(items.into_edges(alloc)?)))
+        Ok(Some(Command::Edges(edges.into_edges(alloc)?)))
     } else if name == b"reduce".as_slice() {
-        let Some(roots) = Roots::new(rest) else {
+        let Some(nodes) = NodeList::new(rest) else {
             return Ok(None);
         };
-        Ok(Some(Command::Reduce(roots.into_nodes(alloc)?)))
+        Ok(Some(Command::Reduce(nodes.into_nodes(alloc)?)))
     } else {
         Ok(None)
     }
