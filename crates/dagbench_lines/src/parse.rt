@@ -6,7 +6,6 @@ ghost use Rattle.dagbench_lines.specs.Cutting.{words_of};
 ghost use Rattle.dagbench_lines.specs.Saying.{asked_of};
 ghost use Rattle.dagbench_lines.specs.Commands.{asked_in, asked_by_words, document_by_name, Step};
 ghost use Rattle.dagbench_lines.specs.Commands.{TakesRoom, listing_by_name, single_by_name};
-ghost use Rattle.dagbench_lines.specs.Commands.{adding_by_name, removing_by_name, asking_by_name};
 ghost use Rattle.dagbench_lines.specs.Commands.{if_done as if_done_of};
 ghost use Rattle.dagbench_lines.specs.Commands.{weight_alone as weight_alone_of};
 ghost use Rattle.dagbench_lines.specs.Commands.{index_alone as index_alone_of};
@@ -99,25 +98,10 @@ fn listing(
     }
 }
 
+#[tactic(auto, unfolding(crate::specs::Commands::single_by_name))]
 fn single(name: &[u8], rest: &[u8]) -> Option<Command<i64, i64, u32>>
     ensures { option_map (request_of (λ i. i)) result
         ≡ single_by_name name.now (words_of rest.now) }
-{
-    let adding = adding(name, rest);
-    if adding.is_some() {
-        return adding;
-    }
-    let removing = removing(name, rest);
-    if removing.is_some() {
-        return removing;
-    }
-    asking(name, rest)
-}
-
-#[tactic(auto, unfolding(crate::specs::Commands::adding_by_name))]
-fn adding(name: &[u8], rest: &[u8]) -> Option<Command<i64, i64, u32>>
-    ensures { option_map (request_of (λ i. i)) result
-        ≡ adding_by_name name.now (words_of rest.now) }
 {
     if name == b"node".as_slice() {
         Some(Command::Node(weight_alone(rest)?))
@@ -133,17 +117,7 @@ fn adding(name: &[u8], rest: &[u8]) -> Option<Command<i64, i64, u32>>
     } else if name == b"parent".as_slice() {
         let (child, edge, weight) = index_and_weights(rest)?;
         Some(Command::Parent(node(child), edge, weight))
-    } else {
-        None
-    }
-}
-
-#[tactic(auto, unfolding(crate::specs::Commands::removing_by_name))]
-fn removing(name: &[u8], rest: &[u8]) -> Option<Command<i64, i64, u32>>
-    ensures { option_map (request_of (λ i. i)) result
-        ≡ removing_by_name name.now (words_of rest.now) }
-{
-    if name == b"rmnode".as_slice() {
+    } else if name == b"rmnode".as_slice() {
         Some(Command::RemoveNode(node(index_alone(rest)?)))
     } else if name == b"rmedge".as_slice() {
         Some(Command::RemoveEdge(edge(index_alone(rest)?)))
@@ -151,17 +125,7 @@ fn removing(name: &[u8], rest: &[u8]) -> Option<Command<i64, i64, u32>>
         if_done(rest, Command::ClearEdges)
     } else if name == b"clear".as_slice() {
         if_done(rest, Command::Clear)
-    } else {
-        None
-    }
-}
-
-#[tactic(auto, unfolding(crate::specs::Commands::asking_by_name))]
-fn asking(name: &[u8], rest: &[u8]) -> Option<Command<i64, i64, u32>>
-    ensures { option_map (request_of (λ i. i)) result
-        ≡ asking_by_name name.now (words_of rest.now) }
-{
-    if name == b"find".as_slice() {
+    } else if name == b"find".as_slice() {
         let (parent, child) = two_indices(rest)?;
         Some(Command::Find(node(parent), node(child)))
     } else if name == b"ends".as_slice() {
