@@ -4,15 +4,21 @@ use Rattle.std.proofs.Common.{inr}
 use Rattle.std.specs.Option.{MatchOption, IsSomeAnd}
 use Rattle.daggy.specs.Graph.{Graph}
 use Rattle.daggy_base.specs.declared.kind.Kind.{Kind}
-use Rattle.dagbench_lines.specs.Commands.{Asked, asked_in, TakesRoom}
+use Rattle.std.specs.Result.{OnOk}
+use Rattle.dagbench_lines.specs.Cutting.{newline}
+use Rattle.dagbench_lines.specs.Commands.{LineRequest, asked_in, TakesRoom}
 use Rattle.dagbench_lines.specs.Streams.{Appends}
-use Rattle.dagbench_engine.specs.Transcripts.{IsAnswered}
-use Rattle.dagbench_engine.specs.Progress.{AnswersLine}
+use Rattle.dagbench_engine.specs.Transcripts.{IsAnswered, IsAnswer}
+
+-- the line was answered after what had been written
+abbrev pub AnswersLine : Kind → (line : List ℕ) (old new : Graph ℤ ℤ) (written_old written_new : List ℕ) → Type 0
+AnswersLine kind line old new written_old written_new =
+    (text : List ℕ) × IsAnswer kind old line text new × (written_new ≡ written_old ++ (text ++ newline ∷ []))
 
 module _ (kind : Kind) (line : List ℕ) (g : Graph ℤ ℤ) (before now : List ℕ) where
   -- one that asks nothing
   pub none_answered : {A E : Type 0} (r : Result A E) → None ≡ asked_in line
-      → Appends r before now (codes "bad line" ++ 10 ∷ []) → AnswersLine kind r line g g before now
+      → Appends r before now (codes "bad line" ++ 10 ∷ []) → OnOk r (AnswersLine kind line g g before now)
   none_answered (Err e) says appended = tt
   none_answered (Ok x) says appended = (
     codes "bad line",
@@ -21,7 +27,7 @@ module _ (kind : Kind) (line : List ℕ) (g : Graph ℤ ℤ) (before now : List 
     appended,
   )
 
-  no_room : (o : Option Asked) → IsSomeAnd o TakesRoom
+  no_room : (o : Option LineRequest) → IsSomeAnd o TakesRoom
       → MatchOption o ((codes "memory" ≡ codes "bad line") × (g ≡ g))
       (λ asked. IsAnswered kind g asked (codes "memory") g)
   no_room None holds = absurd holds
@@ -29,6 +35,6 @@ module _ (kind : Kind) (line : List ℕ) (g : Graph ℤ ℤ) (before now : List 
 
   -- one whose list finds no room
   pub no_room_answered : {A E : Type 0} (r : Result A E) → IsSomeAnd (asked_in line) TakesRoom
-      → Appends r before now (codes "memory" ++ 10 ∷ []) → AnswersLine kind r line g g before now
+      → Appends r before now (codes "memory" ++ 10 ∷ []) → OnOk r (AnswersLine kind line g g before now)
   no_room_answered (Err e) holds appended = tt
   no_room_answered (Ok x) holds appended = (codes "memory", no_room (asked_in line) holds, appended)

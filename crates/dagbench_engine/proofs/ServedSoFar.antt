@@ -11,11 +11,11 @@ use Rattle.daggy.specs.Graph.{Graph, empty}
 use Rattle.daggy_base.specs.declared.kind.Kind.{Kind}
 use Rattle.dagbench_lines.specs.Cutting.{Lacks, newline, lines_of, ended_lines_of, words_of}
 use Rattle.dagbench_lines.specs.Commands.{asked_in, asked_by_words}
-use Rattle.dagbench_lines.specs.Streams.{Appends}
 use Rattle.dagbench_engine.specs.Transcripts.{IsAnswered, IsAnswer, IsTranscript}
-use Rattle.dagbench_engine.specs.Plans.{IsClose}
+use Rattle.dagbench_engine.specs.Plans.{IsTrailer}
 use Rattle.dagbench_engine.specs.Serving.{Serves}
-use Rattle.dagbench_engine.specs.Progress.{IsServed, IsDone, AnswersLine, GoesOn, ended}
+use Rattle.dagbench_engine.specs.Progress.{IsServed, IsDone, GoesOn, ended}
+use Rattle.dagbench_engine.proofs.AnswersAtOnce.{AnswersLine}
 use Rattle.dagbench_lines.proofs.Cuts.{cut_at-first, cut_at-last, ended_at-first, ended_at-none}
 
 -- whole lines, and what stands behind them
@@ -159,7 +159,7 @@ module _ (kind : Kind) (given_old given written_old written : List ℕ) (graph :
 
   pub ends_line : (rest answered : List ℕ) (new : Graph ℤ ℤ) (now : List ℕ)
       → Lacks newline rest → asked_in answered ≡ asked_in (take 4097 (kept ++ rest))
-      → AnswersLine {A = Unit {0}} {E = Unit {0}} kind (Ok tt) answered graph new written now
+      → AnswersLine kind answered graph new written now
       → IsServed kind given_old (given ++ (rest ++ newline ∷ [])) written_old now new []
   ends_line rest answered new now lacks says answer =
       let line = s.front ++ rest in
@@ -205,7 +205,7 @@ module _ (kind : Kind) (given_old given written_old written : List ℕ) (graph :
 
   -- and otherwise if the last one is answered too
   pub ends_unended : (new : Graph ℤ ℤ) (now : List ℕ)
-      → 0 < length kept → AnswersLine {A = Unit {0}} {E = Unit {0}} kind (Ok tt) kept graph new written now
+      → 0 < length kept → AnswersLine kind kept graph new written now
       → IsDone kind given_old given written_old now new
   ends_unended new now some answer =
       let last : lines_of s.front ≡ s.front ∷ [] =
@@ -239,29 +239,29 @@ module _ (kind : Kind) (given_old given written_old written : List ℕ) (graph :
         input = flat_map ended s.lines ++ s.front;
         output = s.text;
         graph = graph;
-        close = [];
+        trailer = [];
         given = s.given_is;
         taken = is ∙ s.written_is ∙ ap (λ t. written_old ++ t) (sym (append-nil s.text));
         answers = subst (λ ls. IsTranscript kind empty ls s.text graph) (sym lines) s.answers;
-        closes = refl;
+        is_trailer = refl;
       }
 
 -- what is written behind the answers
-closed : {kind : Kind} {plans : Bool} {given_old given written_old written : List ℕ} (close : List ℕ) {taken : List ℕ}
+closed : {kind : Kind} {plans : Bool} {given_old given written_old written : List ℕ} (trailer : List ℕ) {taken : List ℕ}
     {graph : Graph ℤ ℤ}
     → IsDone kind given_old given written_old written graph
-    → IsClose plans graph close → taken ≡ written ++ close
+    → IsTrailer plans graph trailer → taken ≡ written ++ trailer
     → Serves kind plans lines_of given_old given written_old taken
-closed {kind} {plans} {given_old} {given} {written_old} close {taken} {graph} done closes is =
+closed {kind} {plans} {given_old} {given} {written_old} trailer {taken} {graph} done is_trailer is =
     record {
       input = done.input;
       output = done.text;
       graph = graph;
-      close = close;
+      trailer = trailer;
       given = done.given_is;
-      taken = is ∙ ap (λ t. t ++ close) done.written_is ∙ append_assoc written_old done.text close;
+      taken = is ∙ ap (λ t. t ++ trailer) done.written_is ∙ append_assoc written_old done.text trailer;
       answers = done.answers;
-      closes = closes;
+      is_trailer = is_trailer;
     }
 
 -- the test of a length
@@ -277,7 +277,7 @@ something_there (x ∷ xs) is = omega arith
 pub at_once : {A E : Type 0} (kind : Kind) (r : Result A E) (rest written now : List ℕ) (graph new : Graph ℤ ℤ)
     {kept : List ℕ}
     → kept ≡ []
-    → AnswersLine kind r rest graph new written now
+    → OnOk r (AnswersLine kind rest graph new written now)
     → OnOk r (Lacks newline rest → GoesOn kind (rest ++ newline ∷ []) written now graph new kept kept)
 at_once kind (Err e) rest written now graph new none answer = tt
 at_once kind (Ok x) rest written now graph new {kept} none answer = λ lacks given_old given written_old so_far.
@@ -288,7 +288,7 @@ at_once kind (Ok x) rest written now graph new {kept} none answer = λ lacks giv
 pub at_last : {kind : Kind} (rest : List ℕ) {answered written now : List ℕ} {graph new : Graph ℤ ℤ}
     {kept kept_new : List ℕ}
     → answered ≡ take 4097 (kept ++ rest) → kept_new ≡ []
-    → AnswersLine {A = Unit {0}} {E = Unit {0}} kind (Ok tt) answered graph new written now → Lacks newline rest
+    → AnswersLine kind answered graph new written now → Lacks newline rest
     → GoesOn kind (rest ++ newline ∷ []) written now graph new kept kept_new
 at_last {kind} rest {answered} {written} {now} {graph} {new} {kept} is none answer lacks
     given_old given written_old so_far =
@@ -305,11 +305,6 @@ Passed kind block rest written_before written graph_before graph kept_before kep
     → IsServed kind given_old given written_old written_before graph_before kept_before
     → (passed : List ℕ) × (block ≡ passed ++ rest)
     × IsServed kind given_old (given ++ passed) written_old written graph kept
-
-pub none_passed : {kind : Kind} {block written : List ℕ} {graph : Graph ℤ ℤ} {kept : List ℕ}
-    → Passed kind block block written written graph graph kept kept
-none_passed {kind} {block} {written} {graph} {kept} given_old given written_old so_far =
-    ([], refl, subst (λ g. IsServed kind given_old g written_old written graph kept) (sym (append-nil given)) so_far)
 
 pub line_passed : {kind : Kind} {block rest : List ℕ} (line : List ℕ) {behind written_before written now : List ℕ}
     {graph_before graph new : Graph ℤ ℤ} {kept_before kept kept_new : List ℕ}
@@ -352,25 +347,23 @@ last_ended kind written graph kept none given_old given written_old so_far =
 pub last_unended : {A E : Type 0} (kind : Kind) (r : Result A E) (written now : List ℕ) (graph new : Graph ℤ ℤ)
     {kept answered : List ℕ}
     → 0 < length kept → answered ≡ kept
-    → AnswersLine kind r answered graph new written now
+    → OnOk r (AnswersLine kind answered graph new written now)
     → OnOk r ((given_old given written_old : List ℕ) → IsServed kind given_old given written_old written graph kept
     → IsDone kind given_old given written_old now new)
 last_unended kind (Err e) written now graph new some is answer = tt
 last_unended kind (Ok x) written now graph new {kept} some is answer = λ given_old given written_old so_far.
     ends_unended kind given_old given written_old written graph kept so_far new now some
-    (subst (λ line. AnswersLine {A = Unit {0}} {E = Unit {0}} kind (Ok tt) line graph new written now) is answer)
+    (subst (λ line. AnswersLine kind line graph new written now) is answer)
 
 -- the end
-pub finished : {A E : Type 0} {kind : Kind} (plans : Bool) (r : Result A E) {written between : List ℕ}
-    (taken output taken_new : List ℕ) {graph new : Graph ℤ ℤ} {kept : List ℕ}
+pub finished : {A E : Type 0} (Q : Type 0) {kind : Kind} (plans : Bool) (r : Result A E)
+    {written between now : List ℕ} (taken : List ℕ) {graph new : Graph ℤ ℤ} {kept : List ℕ}
     → ((given_old given written_old : List ℕ) → IsServed kind given_old given written_old written graph kept
     → IsDone kind given_old given written_old between new)
-    → ((close : List ℕ) × IsClose plans new close × (taken ++ output ≡ between ++ close))
-    → Appends r taken taken_new output
+    → ((trailer : List ℕ) × IsTrailer plans new trailer × (now ≡ between ++ trailer))
+    → OnOk r ((taken ≡ now) × Q)
     → OnOk r ((given_old given written_old : List ℕ) → IsServed kind given_old given written_old written graph kept
-    → Serves kind plans lines_of given_old given written_old taken_new)
-finished {kind} plans (Err e) {written} {between} taken output taken_new {graph} {new} {kept} done close appended = tt
-finished {kind} plans (Ok x) {written} {between} taken output taken_new {graph} {new} {kept} done close appended =
-    λ given_old given written_old so_far.
-    closed close.0
-    (done given_old given written_old so_far) close.1 (appended ∙ close.2)
+    → Serves kind plans lines_of given_old given written_old taken)
+finished Q plans (Err e) taken done trailer flush = tt
+finished Q plans (Ok x) taken done trailer flush = λ given_old given written_old so_far.
+    closed trailer.0 (done given_old given written_old so_far) trailer.1 (flush.0 ∙ trailer.2)

@@ -1,21 +1,9 @@
--- The text of a plan.
+-- What is written after the answers.
 use Rattle.std.specs.Prelude.{◌≡◌, ℕ, ℤ, ◌⊎◌, Bool, true, false, List, [], ◌∷◌, ◌++◌, codes}
-use Rattle.std.specs.List.{flat_map}
 use Rattle.daggy.specs.Graph.{Graph}
 use Rattle.daggy.specs.Plans.{IsPlan, IsByLevels, IsChain, IsShortest}
 use Rattle.dagbench_lines.specs.Cutting.{newline}
-use Rattle.dagbench_lines.specs.Replies.{node_text, spaced, parted}
-
--- a stage with its nodes
-abbrev pub stage_text : List ℕ → List ℕ
-stage_text stage = codes "stage" ++ spaced node_text stage
-
--- each with its newline: the stages, and then the chain
-abbrev pub stages_text : List (List ℕ) → List ℕ
-stages_text stages = flat_map (λ stage. stage_text stage ++ newline ∷ []) stages
-
-abbrev pub plan_text : (stages : List (List ℕ)) (chain : List ℕ) → List ℕ
-plan_text stages chain = stages_text stages ++ (codes "chain " ++ parted node_text chain ++ newline ∷ [])
+use Rattle.dagbench_lines.specs.Replies.{plan_text}
 
 -- as few stages as can be, each node in that of its level, with a node of each in the chain
 pub record IsPlanned (g : Graph ℤ ℤ) (stages : List (List ℕ)) (chain : List ℕ) : Type 0 where
@@ -27,10 +15,11 @@ pub record IsPlanned (g : Graph ℤ ℤ) (stages : List (List ℕ)) (chain : Lis
 -- a plan of the graph is written, or that there was no memory for one
 abbrev pub IsPlanText : Graph ℤ ℤ → List ℕ → Type 0
 IsPlanText g text =
-    ((stages : List (List ℕ)) × (chain : List ℕ) × IsPlanned g stages chain × (text ≡ plan_text stages chain))
+    ((stages : List (List ℕ)) × (chain : List ℕ) × IsPlanned g stages chain
+    × (text ≡ plan_text (λ stage. stage) stages chain))
     ⊎ (text ≡ codes "memory" ++ newline ∷ [])
 
 -- what is written after the answers: nothing, or a plan if there is to be one
-abbrev pub IsClose : (plans : Bool) → Graph ℤ ℤ → List ℕ → Type 0
-IsClose false g text = text ≡ []
-IsClose true g text = IsPlanText g text
+abbrev pub IsTrailer : (plans : Bool) → Graph ℤ ℤ → List ℕ → Type 0
+IsTrailer false g text = text ≡ []
+IsTrailer true g text = IsPlanText g text

@@ -1,17 +1,10 @@
 -- How far a run has come: what was given, what was written, and what is kept of a line that has not ended.
-use Rattle.std.specs.Prelude.{◌≡◌, ℕ, List, [], ◌∷◌, ◌++◌, take, Result, Ok, Err, ℤ}
+use Rattle.std.specs.Prelude.{◌≡◌, ℕ, List, [], ◌∷◌, ◌++◌, take, ℤ}
 use Rattle.std.specs.List.{flat_map, AllByRecursion}
 use Rattle.daggy.specs.Graph.{Graph, empty}
 use Rattle.daggy_base.specs.declared.kind.Kind.{Kind}
 use Rattle.dagbench_lines.specs.Cutting.{newline, Lacks, lines_of, kept_count}
-use Rattle.dagbench_engine.specs.Transcripts.{IsAnswer, IsTranscript}
-
--- after an Ok the line was answered after what had been written
-abbrev pub AnswersLine : {A E : Type 0}
-    → Kind → Result A E → (line : List ℕ) → (old new : Graph ℤ ℤ) → (written_old written_new : List ℕ) → Type 0
-AnswersLine kind (Ok x) line old new written_old written_new =
-    (text : List ℕ) × IsAnswer kind old line text new × (written_new ≡ written_old ++ (text ++ newline ∷ []))
-AnswersLine kind (Err e) line old new written_old written_new = Unit {0}
+use Rattle.dagbench_engine.specs.Transcripts.{IsTranscript}
 
 -- a line with its newline
 abbrev pub ended : List ℕ → List ℕ

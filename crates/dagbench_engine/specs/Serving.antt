@@ -3,7 +3,7 @@ use Rattle.std.specs.Prelude.{◌≡◌, Bool, List, ℕ, ◌++◌, ℤ}
 use Rattle.daggy.specs.Graph.{Graph, empty}
 use Rattle.daggy_base.specs.declared.kind.Kind.{Kind}
 use Rattle.dagbench_engine.specs.Transcripts.{IsTranscript}
-use Rattle.dagbench_engine.specs.Plans.{IsClose}
+use Rattle.dagbench_engine.specs.Plans.{IsTrailer}
 
 -- What the source gave is an input, and what the sink took are the answers to the lines in it, from the empty graph of
 -- that kind on, and after them a plan of the graph that they left, if there is to be one.
@@ -12,8 +12,8 @@ pub record Serves (kind : Kind) (plans : Bool) (lines_in : List ℕ → List (Li
   pub input : List ℕ
   pub output : List ℕ
   pub graph : Graph ℤ ℤ
-  pub close : List ℕ
+  pub trailer : List ℕ
   pub given : given_new ≡ given_old ++ input
-  pub taken : taken_new ≡ taken_old ++ (output ++ close)
+  pub taken : taken_new ≡ taken_old ++ (output ++ trailer)
   pub answers : IsTranscript kind empty (lines_in input) output graph
-  pub closes : IsClose plans graph close
+  pub is_trailer : IsTrailer plans graph trailer

@@ -4,7 +4,7 @@ use Rattle.daggy.specs.Graph.{Graph}
 use Rattle.daggy_base.specs.declared.kind.Kind.{Kind}
 use Rattle.daggy.specs.Answers.{Answer}
 use Rattle.daggy.specs.Steps.{IsStep}
-use Rattle.dagbench_lines.specs.Commands.{Asked, Step, Document, asked_in, TakesRoom}
+use Rattle.dagbench_lines.specs.Commands.{LineRequest, Step, Document, asked_in, TakesRoom}
 use Rattle.dagbench_lines.specs.Cutting.{newline}
 use Rattle.dagbench_engine.specs.Documents.{IsDocumentText}
 use Rattle.dagbench_lines.specs.Replies.{text_of}
@@ -14,13 +14,13 @@ abbrev pub index_count : ℕ
 index_count = 4294967295
 
 -- the text of a step from one graph to the next, or of the document of a graph that stays as it is
-abbrev pub IsCarriedOut : Kind → Graph ℤ ℤ → Asked → (text : List ℕ) → Graph ℤ ℤ → Type 0
+abbrev pub IsCarriedOut : Kind → Graph ℤ ℤ → LineRequest → (text : List ℕ) → Graph ℤ ℤ → Type 0
 IsCarriedOut kind old (Step request) text new =
     (answer : Answer ℤ ℤ) × IsStep kind index_count old request answer new × (text ≡ text_of answer)
 IsCarriedOut kind old Document text new = IsDocumentText old text × (new ≡ old)
 
 -- what is asked is carried out, or there was no room for it
-abbrev pub IsAnswered : Kind → Graph ℤ ℤ → Asked → (text : List ℕ) → Graph ℤ ℤ → Type 0
+abbrev pub IsAnswered : Kind → Graph ℤ ℤ → LineRequest → (text : List ℕ) → Graph ℤ ℤ → Type 0
 IsAnswered kind old asked text new =
     IsCarriedOut kind old asked text new ⊎ (TakesRoom asked × (text ≡ codes "memory") × (new ≡ old))
 

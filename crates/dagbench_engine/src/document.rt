@@ -1,12 +1,12 @@
 //! The document of the dag, as one line of text.
-ghost use Rattle.std.specs.Prelude.{◌≡◌, IfSome, IfOk, OnOk, ◌++◌, ◌∷◌, [], List, ℕ};
+ghost use Rattle.std.specs.Prelude.{IfSome, IfOk};
 ghost use Rattle.serde_json.specs.View.{view};
 ghost use Rattle.daggy.specs.Document.{IsDocumentOf};
 ghost use Rattle.dagbench_engine.specs.Documents.{StandsFor, IsDocumentText, TellsDocument};
-ghost use Rattle.dagbench_lines.specs.Streams.{CountsFaults};
+ghost use Rattle.dagbench_lines.specs.Writing.{WritesLine};
 
-use dagbench_lines::output::Output;
 use dagbench_lines::stream::{Fault, Sink};
+use dagbench_lines::writer::Writer;
 use daggy::json::{dag_to_json, stable_to_json};
 use daggy::run::GuardedDag;
 use daggy::{Dag, StableDag};
@@ -52,17 +52,14 @@ fn document_text<D: Documented>(alloc: Global, dag: &D) -> Option<Vec<u8>>
 pub fn put_document<D: Documented, K: Sink>(
     alloc: Global,
     dag: &D,
-    output: &mut Output,
-    sink: &mut K,
+    writer: &mut Writer<K>,
 ) -> Result<(), Fault>
-    ensures text { OnOk result ((text : List ℕ) × TellsDocument (D.graph dag.now) text
-        × (K.taken sink.new ++ output.new
-        ≡ (K.taken sink.old ++ output.old) ++ (text ++ 10 ∷ []))) }
-    ensures counted { CountsFaults result (K.failures sink.old) (K.failures sink.new) }
+    ensures { WritesLine K.taken K.failures result writer.old writer.new
+        (TellsDocument (D.graph dag.now)) }
 {
     let Some(text) = document_text(alloc, dag) else {
-        return output.put(sink, b"memory\n");
+        return writer.put(b"memory\n");
     };
-    output.put(sink, text.as_slice())?;
-    output.put(sink, b"\n")
+    writer.put(text.as_slice())?;
+    writer.put(b"\n")
 }

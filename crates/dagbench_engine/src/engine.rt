@@ -1,13 +1,12 @@
 //! The engine: a line in, its answer out.
-ghost use Rattle.std.specs.Prelude.{◌≡◌, ◌++◌};
-ghost use Rattle.dagbench_lines.specs.Streams.{CountsFaults};
-ghost use Rattle.dagbench_engine.specs.Progress.{AnswersLine};
+ghost use Rattle.dagbench_lines.specs.Writing.{WritesLine};
+ghost use Rattle.dagbench_engine.specs.Transcripts.{IsAnswer};
 
 use crate::document::{Documented, put_document};
-use dagbench_lines::output::Output;
-use dagbench_lines::parse::{Asked, parse};
+use dagbench_lines::parse::{LineRequest, parse};
 use dagbench_lines::reply::put_reply;
 use dagbench_lines::stream::{Fault, Sink};
+use dagbench_lines::writer::Writer;
 use daggy::run::perform;
 use std::alloc::Global;
 
@@ -17,20 +16,18 @@ pub fn answer<D: Documented, K: Sink>(
     alloc: Global,
     dag: &mut D,
     line: &[u8],
-    output: &mut Output,
-    sink: &mut K,
+    writer: &mut Writer<K>,
 ) -> Result<(), Fault>
-    ensures answered { AnswersLine D.KIND result line.now (D.graph dag.old) (D.graph dag.new)
-        (K.taken sink.old ++ output.old) (K.taken sink.new ++ output.new) }
-    ensures counted { CountsFaults result (K.failures sink.old) (K.failures sink.new) }
+    ensures { WritesLine K.taken K.failures result writer.old writer.new
+        (λ text. IsAnswer D.KIND (D.graph dag.old) line.now text (D.graph dag.new)) }
 {
     match parse(alloc, line) {
-        Ok(Some(Asked::Command(command))) => {
+        Ok(Some(LineRequest::Command(command))) => {
             let reply = perform(dag, command);
-            put_reply(reply, output, sink)
+            put_reply(reply, writer)
         }
-        Ok(Some(Asked::Document)) => put_document(alloc, dag, output, sink),
-        Ok(None) => output.put(sink, b"bad line\n"),
-        Err(_) => output.put(sink, b"memory\n"),
+        Ok(Some(LineRequest::Document)) => put_document(alloc, dag, writer),
+        Ok(None) => writer.put(b"bad line\n"),
+        Err(_) => writer.put(b"memory\n"),
     }
 }

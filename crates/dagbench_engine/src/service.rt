@@ -3,6 +3,7 @@ ghost use Rattle.std.specs.Prelude.{◌≡◌, ◌<◌, ◌↔◌, [], ◌++◌,
 ghost use Rattle.daggy.specs.Graph.{empty};
 ghost use Rattle.dagbench_engine.specs.Arguments.{kind_of, plans as plans_of};
 ghost use Rattle.dagbench_lines.specs.Cutting.{lines_of, ended_lines_of};
+ghost use Rattle.dagbench_lines.specs.Writing.{sink_of, written, IsSameSink};
 ghost use Rattle.dagbench_engine.specs.Serving.{Serves};
 ghost use Rattle.dagbench_engine.specs.Ends.{IsRun};
 
@@ -11,6 +12,7 @@ use crate::mode::Mode;
 use crate::session::Session;
 use crate::stop::Stop;
 use dagbench_lines::stream::{Sink, Source};
+use dagbench_lines::writer::{Writer, room};
 use daggy::{Dag, StableDag};
 use std::alloc::Global;
 
@@ -82,10 +84,14 @@ fn serve_with<D: Documented, S: Source, K: Sink>(
     let Ok(mut block) = vec![in alloc; 0u8; BLOCK] else {
         return Err(Stop::Memory);
     };
+    let Ok(mut pending) = room(alloc) else {
+        return Err(Stop::Memory);
+    };
     let Ok(session) = Session::new(alloc, dag) else {
         return Err(Stop::Memory);
     };
-    run(session, plans, block.as_mut_slice(), source, sink)
+    let mut writer = Writer::new(&mut pending, sink);
+    run(session, plans, block.as_mut_slice(), source, &mut writer)
 }
 
 /// The run of a new session, which reads block by block.
@@ -94,30 +100,31 @@ fn run<D: Documented, S: Source, K: Sink>(
     plans: bool,
     block: &mut [u8],
     source: &mut S,
-    sink: &mut K,
+    writer: &mut Writer<K>,
 ) -> Result<(), Stop>
     requires block_not_empty { 0 < length block.old }
     requires graph { D.graph session.dag ≡ empty }
-    requires nothing { (session.line ≡ []) × (session.output ≡ []) }
-    ensures { IsRun D.KIND plans result
+    requires nothing { (session.line ≡ []) × (written K.taken writer.old ≡ K.taken (sink_of writer.old)) }
+    ensures same_sink { IsSameSink writer.old writer.new }
+    ensures run { IsRun D.KIND plans result
         (record {
           given = S.given source.old;
           remaining = S.remaining source.old;
-          taken = K.taken sink.old;
+          taken = K.taken (sink_of writer.old);
           failed_reads = S.failures source.old;
-          failed_writes = K.failures sink.old;
+          failed_writes = K.failures (sink_of writer.old);
         })
         (record {
           given = S.given source.new;
           remaining = S.remaining source.new;
-          taken = K.taken sink.new;
+          taken = K.taken (sink_of writer.new);
           failed_reads = S.failures source.new;
-          failed_writes = K.failures sink.new;
+          failed_writes = K.failures (sink_of writer.new);
         })
         (S.is_ended source.new) }
 {
     'reads: loop {
-        let Ok(()) = session.output.flush(sink) else {
+        let Ok(()) = writer.flush() else {
             return Err(Stop::Write);
         };
         let Ok(count) = source.read(block) else {
@@ -126,11 +133,11 @@ fn run<D: Documented, S: Source, K: Sink>(
         if count == 0 {
             break;
         }
-        let Ok(()) = session.take_block(&block[..count], sink) else {
+        let Ok(()) = session.take_block(&block[..count], writer) else {
             return Err(Stop::Write);
         };
     }
-    let Ok(()) = session.finish(plans, sink) else {
+    let Ok(()) = session.finish(plans, writer) else {
         return Err(Stop::Write);
     };
     Ok(())

@@ -1,28 +1,26 @@
 //! A graph that is being served, with what is kept between two blocks of input.
 ghost use Rattle.std.specs.Prelude.{◌≡◌, ℕ, List, [], ◌∷◌, ◌++◌, IfOk, OnOk};
 ghost use Rattle.dagbench_lines.specs.Cutting.{Lacks, newline, lines_of};
-ghost use Rattle.dagbench_lines.specs.Streams.{CountsFaults};
+ghost use Rattle.dagbench_lines.specs.Writing.{sink_of, written, KeepsSink};
 ghost use Rattle.dagbench_engine.specs.Serving.{Serves};
 ghost use Rattle.dagbench_engine.specs.Progress.{GoesOn, IsServed, IsDone};
 
 use crate::document::Documented;
 use crate::engine::answer;
-use crate::plan::put_close;
+use crate::plan::put_trailer;
 use dagbench_lines::line::Line;
-use dagbench_lines::output::Output;
 use dagbench_lines::stream::{Fault, Sink};
 use dagbench_lines::words::split_at_byte;
+use dagbench_lines::writer::Writer;
 use std::alloc::{AllocError, Global};
 
-/// The graph, the line whose newline has not come, and the answers that the sink has not taken.
+/// The graph, and the line whose newline has not come.
 #[derive(Drop)]
 pub struct Session<D> {
     /// The graph.
     pub dag: D,
     /// The line whose newline has not come.
     pub line: Line,
-    /// The answers that the sink has not taken.
-    pub output: Output,
     alloc: Global,
 }
 
@@ -30,51 +28,39 @@ impl<D: Documented> Session<D> {
     /// Begins with this graph.
     pub fn new(alloc: Global, dag: D) -> Result<Session<D>, AllocError>
         ensures dag { IfOk result (λ session. session.dag ≡ dag) }
-        ensures nothing { IfOk result (λ session. (session.line ≡ []) × (session.output ≡ [])) }
+        ensures nothing { IfOk result (λ session. session.line ≡ []) }
     {
         let line = Line::new(alloc)?;
-        let output = Output::new(alloc)?;
-        Ok(Session {
-            dag,
-            line,
-            output,
-            alloc,
-        })
+        Ok(Session { dag, line, alloc })
     }
 
     /// Answers the line that ends with this rest.
-    fn end_line<K: Sink>(&mut self, rest: &[u8], sink: &mut K) -> Result<(), Fault>
+    fn end_line<K: Sink>(&mut self, rest: &[u8], writer: &mut Writer<K>) -> Result<(), Fault>
         ensures served { OnOk result
             (Lacks newline rest.now → GoesOn D.KIND (rest.now ++ newline ∷ [])
-            (K.taken sink.old ++ self.old.output) (K.taken sink.new ++ self.new.output)
+            (written K.taken writer.old) (written K.taken writer.new)
             (D.graph self.old.dag) (D.graph self.new.dag) self.old.line self.new.line) }
-        ensures counted { CountsFaults result (K.failures sink.old) (K.failures sink.new) }
+        ensures sink { KeepsSink K.failures result writer.old writer.new }
     {
         if self.line.is_empty() {
-            return answer(self.alloc, &mut self.dag, rest, &mut self.output, sink);
+            return answer(self.alloc, &mut self.dag, rest, writer);
         }
         self.line.keep(rest);
-        answer(
-            self.alloc,
-            &mut self.dag,
-            self.line.as_slice(),
-            &mut self.output,
-            sink,
-        )?;
+        answer(self.alloc, &mut self.dag, self.line.as_slice(), writer)?;
         self.line.clear();
         Ok(())
     }
 
     /// Answers the lines that end in a block of input, and keeps what stands after them.
-    pub fn take_block<K: Sink>(&mut self, block: &[u8], sink: &mut K) -> Result<(), Fault>
+    pub fn take_block<K: Sink>(&mut self, block: &[u8], writer: &mut Writer<K>) -> Result<(), Fault>
         ensures served { OnOk result (GoesOn D.KIND block.now
-            (K.taken sink.old ++ self.old.output) (K.taken sink.new ++ self.new.output)
+            (written K.taken writer.old) (written K.taken writer.new)
             (D.graph self.old.dag) (D.graph self.new.dag) self.old.line self.new.line) }
-        ensures counted { CountsFaults result (K.failures sink.old) (K.failures sink.new) }
+        ensures sink { KeepsSink K.failures result writer.old writer.new }
     {
         let mut rest = block;
         'lines: while let Some((line, behind)) = split_at_byte(b'\n', rest) {
-            self.end_line(line, sink)?;
+            self.end_line(line, writer)?;
             rest = behind;
         }
         self.line.keep(rest);
@@ -82,37 +68,31 @@ impl<D: Documented> Session<D> {
     }
 
     /// Answers the last line, if its newline did not come.
-    fn end_last_line<K: Sink>(&mut self, sink: &mut K) -> Result<(), Fault>
+    fn end_last_line<K: Sink>(&mut self, writer: &mut Writer<K>) -> Result<(), Fault>
         ensures done { OnOk result ((given_old given written_old : List ℕ)
-            → IsServed D.KIND given_old given written_old (K.taken sink.old ++ self.old.output)
+            → IsServed D.KIND given_old given written_old (written K.taken writer.old)
             (D.graph self.old.dag) self.old.line
-            → IsDone D.KIND given_old given written_old (K.taken sink.new ++ self.new.output)
+            → IsDone D.KIND given_old given written_old (written K.taken writer.new)
             (D.graph self.new.dag)) }
-        ensures counted { CountsFaults result (K.failures sink.old) (K.failures sink.new) }
+        ensures sink { KeepsSink K.failures result writer.old writer.new }
     {
         if self.line.is_empty() {
             return Ok(());
         }
-        answer(
-            self.alloc,
-            &mut self.dag,
-            self.line.as_slice(),
-            &mut self.output,
-            sink,
-        )
+        answer(self.alloc, &mut self.dag, self.line.as_slice(), writer)
     }
 
     /// Answers the last line, if its newline did not come, writes a plan if there is to be one, and
     /// hands all to the sink.
-    pub fn finish<K: Sink>(&mut self, plans: bool, sink: &mut K) -> Result<(), Fault>
+    pub fn finish<K: Sink>(&mut self, plans: bool, writer: &mut Writer<K>) -> Result<(), Fault>
         ensures served { OnOk result ((given_old given written_old : List ℕ)
-            → IsServed D.KIND given_old given written_old (K.taken sink.old ++ self.old.output)
+            → IsServed D.KIND given_old given written_old (written K.taken writer.old)
             (D.graph self.old.dag) self.old.line
-            → Serves D.KIND plans lines_of given_old given written_old (K.taken sink.new)) }
-        ensures counted { CountsFaults result (K.failures sink.old) (K.failures sink.new) }
+            → Serves D.KIND plans lines_of given_old given written_old (K.taken (sink_of writer.new))) }
+        ensures sink { KeepsSink K.failures result writer.old writer.new }
     {
-        self.end_last_line(sink)?;
-        put_close(self.alloc, plans, &self.dag, &mut self.output, sink)?;
-        self.output.flush(sink)
+        self.end_last_line(writer)?;
+        put_trailer(self.alloc, plans, &self.dag, writer)?;
+        writer.flush()
     }
 }

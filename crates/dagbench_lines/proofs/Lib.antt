@@ -4,5 +4,5 @@ pub mod KeptFront
 pub mod Listed
 pub mod WrittenBytes
 mod Units
-pub mod ListedRoots
+pub mod ListedNodes
 pub mod ParsedLines

@@ -52,29 +52,19 @@ listing_by_name name words =
     else if bytes_eq name (codes "reduce") then option_map (λ roots. Reduce roots) (indices_by_words words)
     else None
 
--- what is added
-unfoldable pub adding_by_name : (name : List ℕ) → List (List ℕ) → Option (Request ℤ ℤ)
-adding_by_name name words =
+-- what holds no list
+unfoldable pub single_by_name : (name : List ℕ) → List (List ℕ) → Option (Request ℤ ℤ)
+single_by_name name words =
     if bytes_eq name (codes "node") then option_map (λ weight. Node weight) (weight_alone words)
     else if bytes_eq name (codes "edge") then option_map (λ x. Edge x) (ends_and_weight words)
     else if bytes_eq name (codes "update") then option_map (λ x. Update x) (ends_and_weight words)
     else if bytes_eq name (codes "child") then option_map (λ x. Child x.0 x.1 x.2) (index_and_weights words)
     else if bytes_eq name (codes "parent") then option_map (λ x. Parent x.0 x.1 x.2) (index_and_weights words)
-    else None
-
--- what is removed
-unfoldable pub removing_by_name : (name : List ℕ) → List (List ℕ) → Option (Request ℤ ℤ)
-removing_by_name name words =
-    if bytes_eq name (codes "rmnode") then option_map (λ n. RemoveNode n) (index_alone words)
+    else if bytes_eq name (codes "rmnode") then option_map (λ n. RemoveNode n) (index_alone words)
     else if bytes_eq name (codes "rmedge") then option_map (λ e. RemoveEdge e) (index_alone words)
     else if bytes_eq name (codes "clearedges") then if_done words ClearEdges
     else if bytes_eq name (codes "clear") then if_done words Clear
-    else None
-
--- what is asked for
-unfoldable pub asking_by_name : (name : List ℕ) → List (List ℕ) → Option (Request ℤ ℤ)
-asking_by_name name words =
-    if bytes_eq name (codes "find") then option_map (λ x. Find x.0 x.1) (two_indices words)
+    else if bytes_eq name (codes "find") then option_map (λ x. Find x.0 x.1) (two_indices words)
     else if bytes_eq name (codes "ends") then option_map (λ e. Ends e) (index_alone words)
     else if bytes_eq name (codes "children") then option_map (λ n. Children n) (index_alone words)
     else if bytes_eq name (codes "parents") then option_map (λ n. Parents n) (index_alone words)
@@ -84,32 +74,27 @@ abbrev pub or_else : {A : Type 0} → Option A → Option A → Option A
 or_else None other = other
 or_else (Some x) other = Some x
 
--- what holds no list
-abbrev pub single_by_name : (name : List ℕ) → List (List ℕ) → Option (Request ℤ ℤ)
-single_by_name name words =
-    or_else (adding_by_name name words) (or_else (removing_by_name name words) (asking_by_name name words))
-
 -- what a line may ask: a step of the graph, or the document of the graph
-pub data Asked : Type 0 where
-  Step : Request ℤ ℤ → Asked
-  Document : Asked
+pub data LineRequest : Type 0 where
+  Step : Request ℤ ℤ → LineRequest
+  Document : LineRequest
 
-abbrev pub document_by_name : (name : List ℕ) → List (List ℕ) → Option Asked
+abbrev pub document_by_name : (name : List ℕ) → List (List ℕ) → Option LineRequest
 document_by_name name words = if bytes_eq name (codes "json") then if_done words Document else None
 
 -- a line is a name and what stands after it
-abbrev pub asked_by_words : List (List ℕ) → Option Asked
+abbrev pub asked_by_words : List (List ℕ) → Option LineRequest
 asked_by_words [] = None
 asked_by_words (name ∷ words) =
     or_else (option_map (λ request. Step request) (or_else (single_by_name name words) (listing_by_name name words)))
     (document_by_name name words)
 
 -- what a line asks. A line of more than 4,096 bytes asks nothing
-unfoldable pub asked_in : List ℕ → Option Asked
+unfoldable pub asked_in : List ℕ → Option LineRequest
 asked_in line = if nat_lt 4096 (length line) then None else asked_by_words (words_of line)
 
 -- what takes room of its own: a step that holds a list, and a document
-abbrev pub TakesRoom : Asked → Type 0
+abbrev pub TakesRoom : LineRequest → Type 0
 TakesRoom (Step (Edges edges)) = Unit {0}
 TakesRoom (Step (Reduce roots)) = Unit {0}
 TakesRoom Document = Unit {0}

@@ -4,6 +4,7 @@ pub mod Listing
 pub mod Commands
 pub mod Saying
 pub mod Streams
+pub mod Writing
 pub mod Devices
 pub mod Failing
 pub mod Replies

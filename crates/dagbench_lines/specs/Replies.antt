@@ -1,10 +1,11 @@
--- The texts of answers, without their newline.
+-- The texts of answers, without their newline, and of plans.
 use Rattle.std.specs.Prelude.{ℕ, Option, Some, None, List, [], ◌∷◌, ◌++◌, codes, decimal, ℤ}
 use Rattle.std.specs.List.{flat_map}
 use Rattle.std.specs.Fmt.{signed_decimal}
 use Rattle.daggy_base.specs.Answers.{Weights, OfEdges, Answer, Node, Edge, EdgeNode, Edges, Found, Ends, NodeGone}
 use Rattle.daggy_base.specs.Answers.{EdgeGone}
 use Rattle.daggy_base.specs.Answers.{Walk, Done, Missing, Full, Cycle, CycleAll, Memory}
+use Rattle.dagbench_lines.specs.Cutting.{newline}
 
 abbrev pub node_text : ℕ → List ℕ
 node_text n = codes "n" ++ decimal n
@@ -57,3 +58,11 @@ text_of (Full weights) = codes "full" ++ back_text weights
 text_of (Cycle weight) = codes "cycle" ++ spaced signed_decimal (weight ∷ [])
 text_of (CycleAll weights) = codes "cycle" ++ spaced signed_decimal weights
 text_of (Memory weights) = codes "memory" ++ back_text weights
+
+-- a plan by lines: each stage with its nodes, and then the chain
+abbrev pub stages_text : {A : Type 0} → (nodes : A → List ℕ) → (stages : List A) → List ℕ
+stages_text nodes stages = flat_map (λ stage. (codes "stage" ++ spaced node_text (nodes stage)) ++ newline ∷ []) stages
+
+abbrev pub plan_text : {A : Type 0} → (nodes : A → List ℕ) → (stages : List A) (chain : List ℕ) → List ℕ
+plan_text nodes stages chain =
+    stages_text nodes stages ++ (codes "chain " ++ parted node_text chain ++ newline ∷ [])

@@ -6,14 +6,15 @@
 #![tactic(auto)]
 
 pub mod device;
+mod edge_list;
 mod history;
-mod items;
 pub mod line;
 pub mod memory;
-pub mod output;
+mod node_list;
 pub mod parse;
-pub mod piece;
+mod piece;
+pub mod plan;
 pub mod reply;
-mod roots;
 pub mod stream;
 pub mod words;
+pub mod writer;

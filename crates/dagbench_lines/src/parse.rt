@@ -6,7 +6,6 @@ ghost use Rattle.dagbench_lines.specs.Cutting.{words_of};
 ghost use Rattle.dagbench_lines.specs.Saying.{asked_of};
 ghost use Rattle.dagbench_lines.specs.Commands.{asked_in, asked_by_words, document_by_name, Step};
 ghost use Rattle.dagbench_lines.specs.Commands.{TakesRoom, listing_by_name, single_by_name};
-ghost use Rattle.dagbench_lines.specs.Commands.{adding_by_name, removing_by_name, asking_by_name};
 ghost use Rattle.dagbench_lines.specs.Commands.{if_done as if_done_of};
 ghost use Rattle.dagbench_lines.specs.Commands.{weight_alone as weight_alone_of};
 ghost use Rattle.dagbench_lines.specs.Commands.{index_alone as index_alone_of};
@@ -14,8 +13,8 @@ ghost use Rattle.dagbench_lines.specs.Commands.{two_indices as two_indices_of};
 ghost use Rattle.dagbench_lines.specs.Commands.{ends_and_weight as ends_and_weight_of};
 ghost use Rattle.dagbench_lines.specs.Commands.{index_and_weights as index_and_weights_of};
 
-use crate::items::Items;
-use crate::roots::Roots;
+use crate::edge_list::EdgeList;
+use crate::node_list::NodeList;
 use crate::words::{edge, first_index, first_weight, first_word, node};
 use daggy_base::command::Command;
 use std::alloc::{AllocError, Global};
@@ -25,7 +24,7 @@ pub const LONGEST_LINE: usize = 4096;
 
 /// What a line asks.
 #[derive(Drop)]
-pub enum Asked {
+pub enum LineRequest {
     /// That a command is carried out.
     Command(Command<i64, i64, u32>),
     /// The document of the dag.
@@ -36,7 +35,7 @@ pub enum Asked {
 ///
 /// The error says that there was no room for the list that a command holds.
 #[tactic(auto, unfolding(crate::specs::Commands::asked_in))]
-pub fn parse(alloc: Global, line: &[u8]) -> Result<Option<Asked>, AllocError>
+pub fn parse(alloc: Global, line: &[u8]) -> Result<Option<LineRequest>, AllocError>
     ensures asked { IfOk result (λ asked. option_map asked_of asked ≡ asked_in line.now) }
     ensures no_room { OnErr result (IsSomeAnd (asked_in line.now) TakesRoom) }
 {
@@ -46,7 +45,7 @@ pub fn parse(alloc: Global, line: &[u8]) -> Result<Option<Asked>, AllocError>
     by_words(alloc, line)
 }
 
-fn by_words(alloc: Global, line: &[u8]) -> Result<Option<Asked>, AllocError>
+fn by_words(alloc: Global, line: &[u8]) -> Result<Option<LineRequest>, AllocError>
     ensures asked { IfOk result (λ asked.
         option_map asked_of asked ≡ asked_by_words (words_of line.now)) }
     ensures no_room { OnErr result (IsSomeAnd (asked_by_words (words_of line.now)) TakesRoom) }
@@ -55,19 +54,19 @@ fn by_words(alloc: Global, line: &[u8]) -> Result<Option<Asked>, AllocError>
         return Ok(None);
     };
     if let Some(command) = single(name, rest) {
-        return Ok(Some(Asked::Command(command)));
+        return Ok(Some(LineRequest::Command(command)));
     }
     match listing(alloc, name, rest)? {
-        Some(command) => Ok(Some(Asked::Command(command))),
+        Some(command) => Ok(Some(LineRequest::Command(command))),
         None => Ok(document(name, rest)),
     }
 }
 
-fn document(name: &[u8], rest: &[u8]) -> Option<Asked>
+fn document(name: &[u8], rest: &[u8]) -> Option<LineRequest>
     ensures { option_map asked_of result ≡ document_by_name name.now (words_of rest.now) }
 {
     if name == b"json".as_slice() {
-        if_done(rest, Asked::Document)
+        if_done(rest, LineRequest::Document)
     } else {
         None
     }
@@ -85,39 +84,24 @@ fn listing(
         (λ request. TakesRoom (Step request))) }
 {
     if name == b"edges".as_slice() {
-        let Some(items) = Items::new(rest) else {
+        let Some(edges) = EdgeList::new(rest) else {
             return Ok(None);
         };
-        Ok(Some(Command::Edges(items.into_edges(alloc)?)))
+        Ok(Some(Command::Edges(edges.into_edges(alloc)?)))
     } else if name == b"reduce".as_slice() {
-        let Some(roots) = Roots::new(rest) else {
+        let Some(nodes) = NodeList::new(rest) else {
             return Ok(None);
         };
-        Ok(Some(Command::Reduce(roots.into_nodes(alloc)?)))
+        Ok(Some(Command::Reduce(nodes.into_nodes(alloc)?)))
     } else {
         Ok(None)
     }
 }
 
+#[tactic(auto, unfolding(crate::specs::Commands::single_by_name))]
 fn single(name: &[u8], rest: &[u8]) -> Option<Command<i64, i64, u32>>
     ensures { option_map (request_of (λ i. i)) result
         ≡ single_by_name name.now (words_of rest.now) }
-{
-    let adding = adding(name, rest);
-    if adding.is_some() {
-        return adding;
-    }
-    let removing = removing(name, rest);
-    if removing.is_some() {
-        return removing;
-    }
-    asking(name, rest)
-}
-
-#[tactic(auto, unfolding(crate::specs::Commands::adding_by_name))]
-fn adding(name: &[u8], rest: &[u8]) -> Option<Command<i64, i64, u32>>
-    ensures { option_map (request_of (λ i. i)) result
-        ≡ adding_by_name name.now (words_of rest.now) }
 {
     if name == b"node".as_slice() {
         Some(Command::Node(weight_alone(rest)?))
@@ -133,17 +117,7 @@ fn adding(name: &[u8], rest: &[u8]) -> Option<Command<i64, i64, u32>>
     } else if name == b"parent".as_slice() {
         let (child, edge, weight) = index_and_weights(rest)?;
         Some(Command::Parent(node(child), edge, weight))
-    } else {
-        None
-    }
-}
-
-#[tactic(auto, unfolding(crate::specs::Commands::removing_by_name))]
-fn removing(name: &[u8], rest: &[u8]) -> Option<Command<i64, i64, u32>>
-    ensures { option_map (request_of (λ i. i)) result
-        ≡ removing_by_name name.now (words_of rest.now) }
-{
-    if name == b"rmnode".as_slice() {
+    } else if name == b"rmnode".as_slice() {
         Some(Command::RemoveNode(node(index_alone(rest)?)))
     } else if name == b"rmedge".as_slice() {
         Some(Command::RemoveEdge(edge(index_alone(rest)?)))
@@ -151,17 +125,7 @@ fn removing(name: &[u8], rest: &[u8]) -> Option<Command<i64, i64, u32>>
         if_done(rest, Command::ClearEdges)
     } else if name == b"clear".as_slice() {
         if_done(rest, Command::Clear)
-    } else {
-        None
-    }
-}
-
-#[tactic(auto, unfolding(crate::specs::Commands::asking_by_name))]
-fn asking(name: &[u8], rest: &[u8]) -> Option<Command<i64, i64, u32>>
-    ensures { option_map (request_of (λ i. i)) result
-        ≡ asking_by_name name.now (words_of rest.now) }
-{
-    if name == b"find".as_slice() {
+    } else if name == b"find".as_slice() {
         let (parent, child) = two_indices(rest)?;
         Some(Command::Find(node(parent), node(child)))
     } else if name == b"ends".as_slice() {

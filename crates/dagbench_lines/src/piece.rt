@@ -1,136 +1,117 @@
 //! The pieces that replies are made of, and lists of them.
-ghost use Rattle.std.specs.Prelude.{◌≡◌, ℕ, List, ◌++◌, decimal, codes};
+ghost use Rattle.std.specs.Prelude.{ℕ, List, decimal};
 ghost use Rattle.std.specs.Fmt.{signed_decimal};
-ghost use Rattle.dagbench_lines.specs.Streams.{CountsFaults, Appends};
+ghost use Rattle.dagbench_lines.specs.Writing.{Writes};
 ghost use Rattle.dagbench_lines.specs.Replies.{node_text, edge_text, ends_text, item_text, if_any};
 ghost use Rattle.dagbench_lines.specs.Replies.{spaced, parted};
 
-use crate::output::Output;
 use crate::stream::{Fault, Sink};
+use crate::writer::Writer;
 use daggy_base::index::{EdgeIndex, NodeIndex};
 use daggy_base::command::Neighbor;
 use itoa::Buffer;
 
 /// A piece of a reply.
-pub trait Piece: Copy {
+pub trait WriteText: Copy {
     // Its text.
     ghost text: { Self → List ℕ };
 
     /// Writes its text.
-    fn put<K: Sink>(self, output: &mut Output, sink: &mut K) -> Result<(), Fault>
-        ensures text { Appends result (K.taken sink.old ++ output.old)
-            (K.taken sink.new ++ output.new) (text self) }
-        ensures counted { CountsFaults result (K.failures sink.old) (K.failures sink.new) };
+    fn put<K: Sink>(self, writer: &mut Writer<K>) -> Result<(), Fault>
+        ensures { Writes K.taken K.failures result writer.old writer.new (text self) };
 }
 
 /// An index in decimal.
-fn put_index<K: Sink>(index: usize, output: &mut Output, sink: &mut K) -> Result<(), Fault>
-    ensures text { Appends result (K.taken sink.old ++ output.old) (K.taken sink.new ++ output.new)
-        (decimal index) }
-    ensures counted { CountsFaults result (K.failures sink.old) (K.failures sink.new) }
+fn put_index<K: Sink>(index: usize, writer: &mut Writer<K>) -> Result<(), Fault>
+    ensures { Writes K.taken K.failures result writer.old writer.new (decimal index) }
 {
     let mut digits = Buffer::new();
-    output.put(sink, digits.format(index).as_bytes())
+    writer.put(digits.format(index).as_bytes())
 }
 
 /// A weight is written in decimal.
-impl Piece for i64 {
+impl WriteText for i64 {
     ghost text = { signed_decimal };
 
-    fn put<K: Sink>(self, output: &mut Output, sink: &mut K) -> Result<(), Fault> {
+    fn put<K: Sink>(self, writer: &mut Writer<K>) -> Result<(), Fault> {
         let mut digits = Buffer::new();
-        output.put(sink, digits.format(self).as_bytes())
+        writer.put(digits.format(self).as_bytes())
     }
 }
 
 /// A node is written as `n` and its index.
-impl Piece for NodeIndex<u32> {
+impl WriteText for NodeIndex<u32> {
     ghost text = { node_text };
 
-    fn put<K: Sink>(self, output: &mut Output, sink: &mut K) -> Result<(), Fault> {
-        output.put(sink, b"n")?;
-        put_index(self.index(), output, sink)
+    fn put<K: Sink>(self, writer: &mut Writer<K>) -> Result<(), Fault> {
+        writer.put(b"n")?;
+        put_index(self.index(), writer)
     }
 }
 
 /// An edge is written as `e` and its index.
-impl Piece for EdgeIndex<u32> {
+impl WriteText for EdgeIndex<u32> {
     ghost text = { edge_text };
 
-    fn put<K: Sink>(self, output: &mut Output, sink: &mut K) -> Result<(), Fault> {
-        output.put(sink, b"e")?;
-        put_index(self.index(), output, sink)
+    fn put<K: Sink>(self, writer: &mut Writer<K>) -> Result<(), Fault> {
+        writer.put(b"e")?;
+        put_index(self.index(), writer)
     }
 }
 
 /// An edge of a walk, with the index of the node that it leads to after a colon.
-impl Piece for Neighbor<u32> {
+impl WriteText for Neighbor<u32> {
     ghost text = { item_text };
 
-    fn put<K: Sink>(self, output: &mut Output, sink: &mut K) -> Result<(), Fault> {
-        self.0.put(output, sink)?;
-        output.put(sink, b":")?;
-        put_index(self.1.index(), output, sink)
+    fn put<K: Sink>(self, writer: &mut Writer<K>) -> Result<(), Fault> {
+        self.0.put(writer)?;
+        writer.put(b":")?;
+        put_index(self.1.index(), writer)
     }
 }
 
 /// The ends of an edge, parted by a space.
-impl Piece for (NodeIndex<u32>, NodeIndex<u32>) {
+impl WriteText for (NodeIndex<u32>, NodeIndex<u32>) {
     ghost text = { ends_text };
 
-    fn put<K: Sink>(self, output: &mut Output, sink: &mut K) -> Result<(), Fault> {
-        self.0.put(output, sink)?;
-        output.put(sink, b" ")?;
-        self.1.put(output, sink)
+    fn put<K: Sink>(self, writer: &mut Writer<K>) -> Result<(), Fault> {
+        self.0.put(writer)?;
+        writer.put(b" ")?;
+        self.1.put(writer)
     }
 }
 
 /// Writes a piece, or that there is none.
-pub fn put_if_any<T: Piece, K: Sink>(
+pub fn put_if_any<T: WriteText, K: Sink>(
     piece: Option<T>,
-    output: &mut Output,
-    sink: &mut K,
+    writer: &mut Writer<K>,
 ) -> Result<(), Fault>
-    ensures text { Appends result (K.taken sink.old ++ output.old) (K.taken sink.new ++ output.new)
-        (if_any T.text piece) }
-    ensures counted { CountsFaults result (K.failures sink.old) (K.failures sink.new) }
+    ensures { Writes K.taken K.failures result writer.old writer.new (if_any T.text piece) }
 {
     match piece {
-        Some(piece) => piece.put(output, sink),
-        None => output.put(sink, b"none"),
+        Some(piece) => piece.put(writer),
+        None => writer.put(b"none"),
     }
 }
 
 /// Writes pieces, each after a space.
-pub fn put_each<T: Piece, K: Sink>(
-    pieces: &[T],
-    output: &mut Output,
-    sink: &mut K,
-) -> Result<(), Fault>
-    ensures text { Appends result (K.taken sink.old ++ output.old) (K.taken sink.new ++ output.new)
-        (spaced T.text pieces.now) }
-    ensures counted { CountsFaults result (K.failures sink.old) (K.failures sink.new) }
+pub fn put_each<T: WriteText, K: Sink>(pieces: &[T], writer: &mut Writer<K>) -> Result<(), Fault>
+    ensures { Writes K.taken K.failures result writer.old writer.new (spaced T.text pieces.now) }
 {
     for piece in pieces {
-        output.put(sink, b" ")?;
-        (*piece).put(output, sink)?;
+        writer.put(b" ")?;
+        (*piece).put(writer)?;
     }
     Ok(())
 }
 
 /// Writes pieces parted by spaces, or a dash if there is none.
-pub fn put_parted<T: Piece, K: Sink>(
-    pieces: &[T],
-    output: &mut Output,
-    sink: &mut K,
-) -> Result<(), Fault>
-    ensures text { Appends result (K.taken sink.old ++ output.old) (K.taken sink.new ++ output.new)
-        (parted T.text pieces.now) }
-    ensures counted { CountsFaults result (K.failures sink.old) (K.failures sink.new) }
+pub fn put_parted<T: WriteText, K: Sink>(pieces: &[T], writer: &mut Writer<K>) -> Result<(), Fault>
+    ensures { Writes K.taken K.failures result writer.old writer.new (parted T.text pieces.now) }
 {
     let Some((first, others)) = pieces.split_first() else {
-        return output.put(sink, b"-");
+        return writer.put(b"-");
     };
-    (*first).put(output, sink)?;
-    put_each(others, output, sink)
+    (*first).put(writer)?;
+    put_each(others, writer)
 }

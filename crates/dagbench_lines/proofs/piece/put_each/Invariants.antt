@@ -1,10 +1,9 @@
-use Rattle.std.proofs.Common.{◌≡◌, ◌++◌, take}
+use Rattle.std.proofs.Common.{take, Ok}
 use Rattle.dagbench_lines.specs.Replies.{spaced}
+use Rattle.dagbench_lines.specs.Writing.{Writes}
 use Rattle.dagbench_lines.proofs.piece.put_each.Given as goal
 
 abbrev pub invariant-loop-piece : goal.invariant-loop-piece
-invariant-loop-piece g l = record {
-  text : g.K.Sink.taken l.sink ++ l.output
-      ≡ (g.K.Sink.taken l.fn.sink ++ l.fn.output) ++ spaced g.T.Piece.text (take l.piece-index l.pieces);
-  counted : g.K.Sink.failures l.sink ≡ g.K.Sink.failures l.fn.sink;
-}
+invariant-loop-piece g l =
+    Writes {A = Unit {0}} {E = Unit {0}} g.K.Sink.taken g.K.Sink.failures (Ok tt) l.fn.writer l.writer
+    (spaced g.T.WriteText.text (take l.piece-index l.pieces))

@@ -6,4 +6,4 @@ returns-then-is_empty-clause-done g c = last_ended _ _ _ _ (nothing_there _ c.if
 
 pub returns-clause-done : goal.returns-clause-done
 returns-clause-done g c =
-    last_unended _ _ _ _ _ _ (something_there _ c.if-is_empty.ensures) c.as_slice.ensures c.answer.ensures.answered
+    last_unended _ _ _ _ _ _ (something_there _ c.if-is_empty.ensures) c.as_slice.ensures c.answer.ensures.0

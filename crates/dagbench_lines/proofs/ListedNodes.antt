@@ -25,25 +25,25 @@ by_none : (o : Option ℕ) (words : List (List ℕ))
 by_none None words first = refl
 by_none (Some m) words first = absurd cc
 
-pub same_after_root : (words rest : List (List ℕ)) (n : ℕ)
+pub same_after_node : (words rest : List (List ℕ)) (n : ℕ)
     → first_by index_of words ≡ Some (n, rest) → is_some (indices_by_words rest) ≡ is_some (indices_by_words words)
-same_after_root [] rest n first = absurd cc
-same_after_root (word ∷ words) rest n first =
+same_after_node [] rest n first = absurd cc
+same_after_node (word ∷ words) rest n first =
     sym (ap is_some (by_index (index_of word) words rest n first) ∙ is_some_with (indices_by_words rest) n)
 
-root_shorter : (o : Option ℕ) (words rest : List (List ℕ)) (n : ℕ)
+node_shorter : (o : Option ℕ) (words rest : List (List ℕ)) (n : ℕ)
     → option_map (beside words) o ≡ Some (n, rest) → words ≡ rest
-root_shorter None words rest n first = absurd cc
-root_shorter (Some m) words rest n first = ap (λ (x : ℕ × List (List ℕ)). x.1) (same_Some _ _ first)
+node_shorter None words rest n first = absurd cc
+node_shorter (Some m) words rest n first = ap (λ (x : ℕ × List (List ℕ)). x.1) (same_Some _ _ first)
 
-pub shorter_root : (words rest : List (List ℕ)) (n : ℕ)
+pub shorter_node : (words rest : List (List ℕ)) (n : ℕ)
     → first_by index_of words ≡ Some (n, rest) → length rest < length words
-shorter_root [] rest n first = absurd cc
-shorter_root (word ∷ words) rest n first = let same = root_shorter (index_of word) words rest n first in
+shorter_node [] rest n first = absurd cc
+shorter_node (word ∷ words) rest n first = let same = node_shorter (index_of word) words rest n first in
     omega (arith, ap length same)
 
-pub none_after_root : (words whole : List (List ℕ)) → (words ≡ [] → ⊥) → first_by index_of words ≡ None
+pub none_after_node : (words whole : List (List ℕ)) → (words ≡ [] → ⊥) → first_by index_of words ≡ None
     → is_some (indices_by_words words) ≡ is_some (indices_by_words whole) → indices_by_words whole ≡ None
-none_after_root [] whole some first same = absurd (some refl)
-none_after_root (word ∷ words) whole some first same =
+none_after_node [] whole some first same = absurd (some refl)
+none_after_node (word ∷ words) whole some first same =
     not_some (indices_by_words whole) (sym same ∙ ap is_some (by_none (index_of word) words first))

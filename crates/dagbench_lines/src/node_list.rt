@@ -10,11 +10,11 @@ use std::marker::Model;
 
 /// The nodes that a line lists, which are read from its words when a list of them is asked for.
 #[derive(Drop)]
-pub struct Roots<'a> {
+pub struct NodeList<'a> {
     words: &'a [u8],
 }
 
-impl<'a> Model for Roots<'a> {
+impl<'a> Model for NodeList<'a> {
     ghost use Rattle.std.specs.Prelude.{ℕ, List, [], unwrap_or, IsSome};
     ghost use Rattle.dagbench_lines.specs.Cutting.{words_of};
     ghost use Rattle.dagbench_lines.specs.Listing.{indices_by_words};
@@ -26,17 +26,17 @@ impl<'a> Model for Roots<'a> {
     ghost invariant = { λ s. IsSome (indices_by_words (words_of s.words.now)) };
 }
 
-impl<'a> Roots<'a> {
+impl<'a> NodeList<'a> {
     /// The nodes that these words list, if all of them do.
-    pub fn new(words: &'a [u8]) -> Option<Roots<'a>>
+    pub fn new(words: &'a [u8]) -> Option<NodeList<'a>>
         ensures { result ≡ indices_by_words (words_of words.now) }
     {
         let mut rest = words;
-        'roots: while first_word(rest).is_some() {
+        'nodes: while first_word(rest).is_some() {
             let (_, behind) = first_index(rest)?;
             rest = behind;
         }
-        Some(Roots { words })
+        Some(NodeList { words })
     }
 
     /// The nodes in a list.
@@ -45,7 +45,7 @@ impl<'a> Roots<'a> {
     {
         let mut nodes = Vec::new(alloc);
         let mut rest = self.words;
-        'roots: while let Some((n, behind)) = first_index(rest) {
+        'nodes: while let Some((n, behind)) = first_index(rest) {
             nodes.push(node(n))?;
             rest = behind;
         }

@@ -2,7 +2,7 @@ use Rattle.std.proofs.Common.{◌≡◌, ◌++◌, [], length, IsSome}
 use Rattle.std.specs.Option.{unwrap_or}
 use Rattle.dagbench_lines.specs.Cutting.{words_of}
 use Rattle.dagbench_lines.specs.Listing.{edges_by_words}
-use Rattle.dagbench_lines.proofs.items.Items.into_edges.Given as goal
+use Rattle.dagbench_lines.proofs.edge_list.EdgeList.into_edges.Given as goal
 
 abbrev pub invariant-edges : goal.invariant-edges
 invariant-edges l =

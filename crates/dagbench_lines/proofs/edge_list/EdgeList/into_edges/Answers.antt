@@ -4,7 +4,7 @@ use Rattle.std.proofs.Math.Facts.{to_z-of_z}
 use Rattle.dagbench_lines.specs.Cutting.{words_of}
 use Rattle.dagbench_lines.specs.Listing.{edges_by_words}
 use Rattle.dagbench_lines.proofs.Listed.{first_listed, none_listed, shorter_rest}
-use Rattle.dagbench_lines.proofs.items.Items.into_edges.Goals as goal
+use Rattle.dagbench_lines.proofs.edge_list.EdgeList.into_edges.Goals as goal
 
 pub edges-smaller : goal.edges-smaller
 edges-smaller c = shorter_rest (words_of c.edges.rest.now) (words_of c.in-Some.behind.now) _ (sym c.in-Some.ensures)

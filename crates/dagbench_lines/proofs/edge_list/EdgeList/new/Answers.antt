@@ -1,7 +1,7 @@
 use Rattle.std.proofs.Common.{◌≡◌, [], sym, ◌∙◌}
 use Rattle.dagbench_lines.specs.Cutting.{words_of}
 use Rattle.dagbench_lines.proofs.Listed.{same_after_first, none_after_first, shorter_rest, some_word}
-use Rattle.dagbench_lines.proofs.items.Items.new.Goals as goal
+use Rattle.dagbench_lines.proofs.edge_list.EdgeList.new.Goals as goal
 
 pub returns-in_err-behind : goal.returns-in_err-behind
 returns-in_err-behind c =

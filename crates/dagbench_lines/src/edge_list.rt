@@ -11,11 +11,11 @@ use std::marker::Model;
 
 /// The edges that a line lists, which are read from its words when a list of them is asked for.
 #[derive(Drop)]
-pub struct Items<'a> {
+pub struct EdgeList<'a> {
     words: &'a [u8],
 }
 
-impl<'a> Model for Items<'a> {
+impl<'a> Model for EdgeList<'a> {
     ghost use Rattle.std.specs.Prelude.{ℕ, List, [], unwrap_or, IsSome, ℤ};
     ghost use Rattle.dagbench_lines.specs.Cutting.{words_of};
     ghost use Rattle.dagbench_lines.specs.Listing.{edges_by_words};
@@ -45,9 +45,9 @@ fn new_edge(parent: u32, child: u32, weight: i64) -> NewEdge<i64, u32>
     (node(parent), node(child), weight)
 }
 
-impl<'a> Items<'a> {
+impl<'a> EdgeList<'a> {
     /// The edges that these words list, if all of them do.
-    pub fn new(words: &'a [u8]) -> Option<Items<'a>>
+    pub fn new(words: &'a [u8]) -> Option<EdgeList<'a>>
         ensures { result ≡ edges_by_words (words_of words.now) }
     {
         let mut rest = words;
@@ -55,7 +55,7 @@ impl<'a> Items<'a> {
             let (_, behind) = first_edge(rest)?;
             rest = behind;
         }
-        Some(Items { words })
+        Some(EdgeList { words })
     }
 
     /// The edges in a list.

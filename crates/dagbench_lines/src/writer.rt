@@ -1,0 +1,60 @@
+//! Text that is gathered before it goes to a sink.
+ghost use Rattle.std.specs.Prelude.{◌≡◌, [], ◌++◌, IfOk, OnOk};
+ghost use Rattle.dagbench_lines.specs.Writing.{sink_of, written, Flushes, Writes};
+
+use crate::stream::{Fault, Sink};
+use std::alloc::{AllocError, Global};
+
+/// How many bytes are gathered.
+const BLOCK: usize = 0x1_0000;
+
+/// Room for the bytes that a writer gathers.
+pub fn room(alloc: Global) -> Result<Vec<u8>, AllocError>
+    ensures { IfOk result (λ room. room.items ≡ []) }
+{
+    Vec::with_capacity(alloc, BLOCK)
+}
+
+/// Text on its way to a sink, gathered in a block that is lent to it.
+#[derive(Drop)]
+pub struct Writer<'a, K> {
+    pending: &'a mut Vec<u8>,
+    sink: &'a mut K,
+}
+
+impl<'a, K: Sink> Writer<'a, K> {
+    /// Writes to this sink. What stands in the block goes there first.
+    pub fn new(pending: &'a mut Vec<u8>, sink: &'a mut K) -> Writer<'a, K>
+        ensures written { written K.taken result ≡ K.taken sink.old ++ pending.old.items }
+        ensures sink { sink_of result ≡ sink.old }
+        ensures lent { result.sink.ghost_name ≡ sink.entry.ghost_name }
+    {
+        Writer { pending, sink }
+    }
+
+    /// Hands all pending bytes to the sink, which isn't called if there are none.
+    pub fn flush(&mut self) -> Result<(), Fault>
+        ensures { Flushes K.taken K.failures result self.old self.new }
+    {
+        if self.pending.is_empty() {
+            return Ok(());
+        }
+        self.sink.put(self.pending.as_slice())?;
+        self.pending.clear();
+        Ok(())
+    }
+
+    /// Writes text.
+    pub fn put(&mut self, text: &[u8]) -> Result<(), Fault>
+        ensures { Writes K.taken K.failures result self.old self.new text.now }
+    {
+        if BLOCK - self.pending.len().min(BLOCK) < text.len() {
+            self.flush()?;
+        }
+        if BLOCK < text.len() || self.pending.extend_from_slice(text).is_err() {
+            self.flush()?;
+            self.sink.put(text)?;
+        }
+        Ok(())
+    }
+}
