@@ -7,8 +7,8 @@ ghost use Rattle.dagbench_lines.specs.Replies.{spaced, parted};
 
 use crate::stream::{Fault, Sink};
 use crate::writer::Writer;
-use daggy_base::index::{EdgeIndex, NodeIndex};
 use daggy_base::command::Neighbor;
+use daggy_base::index::{EdgeIndex, NodeIndex};
 use itoa::Buffer;
 
 /// A piece of a reply.
