@@ -2,8 +2,7 @@
 use Rattle.std.proofs.Common.{◌≡◌, ◌≢◌, ℕ, zero, suc, ◌<◌, List, [], ◌∷◌, ◌++◌, take, drop, length, get_or, set}
 use Rattle.std.proofs.Common.{slice_get, Option, Some, refl, sym, ap, ◌∙◌, arith}
 use Rattle.std.proofs.Math.Seq.{take-append_seam}
-use Rattle.std.proofs.lemmas.List.{length-set, get_or_append_left, get_or-append-add, set-append_left}
-use Rattle.std.proofs.lemmas.List.{set-append_right}
+use Rattle.std.proofs.lemmas.List.{length-set, get_or_append_left, get_or-append-add, set-append_left, set-append_right}
 use Rattle.std.proofs.lemmas.Option.{same_Some, slice_get_read, get_or_from_slice_get}
 use Rattle.std.specs.Borrow.{MutBor}
 use Rattle.std.specs.Fn.{Once}
@@ -27,17 +26,21 @@ called_at p q p' q' p_is q_is called leaves = record {
 
 module _ {C : Type 0} where
   -- an item of the list, read in one of its parts
-  module _ (old front back : List C) (is : old ≡ front ++ back) (i : ℕ) (x : C) where
-    pub item_left : i < length old → i < length front → x ≡ get_or front i x → slice_get old i ≡ Some x
+  module _ (old front back : List C) (is : old ≡ front ++ back) (i : ℕ) {x : C} where
+    pub item_left : i < length old → i < length front
+        → x ≡ get_or front i x → slice_get old i ≡ Some (get_or front i x)
     item_left within first reads =
         slice_get_read old (length old) i x refl within
         (reads ∙ sym (get_or_append_left front back x i first) ∙ ap (λ l. get_or l i x) (sym is))
+        ∙ ap Some reads
 
-    pub item_right : i < length old → length front ≡ i → x ≡ get_or back 0 x → slice_get old i ≡ Some x
+    pub item_right : i < length old → length front ≡ i
+        → x ≡ get_or back 0 x → slice_get old i ≡ Some (get_or back 0 x)
     item_right within at reads =
         slice_get_read old (length old) i x refl within
         (reads ∙ sym (get_or-append-add front back 0 x) ∙ ap (λ n. get_or (front ++ back) n x) (omega (arith, at))
         ∙ ap (λ l. get_or l i x) (sym is))
+        ∙ ap Some reads
 
   -- two items written in the parts: the one at i in front of the cut, and the first one behind it
   module _ (old front back : List C) (is : old ≡ front ++ back) (i : ℕ) {n : ℕ} (x y : C) (at : length front ≡ n)

@@ -16,6 +16,10 @@ pub firsts_as_many : {N V Ix : Type 0} (f : Node N Ix → V) (dir : Direction) (
     → length (firsts_of dir nodes) ≡ length (map f nodes)
 firsts_as_many f dir nodes = length-map nodes (raw_first dir) ∙ sym (length-map nodes f)
 
+-- two lists that show the same
+pub as_many : {A B : Type 0} (f : A → B) (xs ys : List A) → map f xs ≡ map f ys → length xs ≡ length ys
+as_many f xs ys same = sym (length-map xs f) ∙ ap length same ∙ length-map ys f
+
 -- a graph by its parts
 pub same_graph : {N E : Type 0} (g : Graph N E) {a : List (Option N)} {b : List (Option (PlainEdge E))}
     {c d : List (List ℕ)} {e f : List ℕ}

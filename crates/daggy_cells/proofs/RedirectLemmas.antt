@@ -6,8 +6,7 @@ use Rattle.daggy_cells.specs.declared.cell.Edge.{Edge}
 use Rattle.daggy_base.specs.declared.index.Direction.{Direction}
 use Rattle.daggy_cells.specs.Links.{nth_list, IsLinkedList, AreLinkedLists, Redirected}
 use Rattle.daggy_cells.specs.Raw.{raw_first, raw_next}
-use Rattle.daggy_cells.specs.Fields.{firsts_of, nexts_of, ends_of, list_from, IsReady}
-use Rattle.daggy_cells.specs.Fields.{IsHead, Redirects}
+use Rattle.daggy_cells.specs.Fields.{firsts_of, nexts_of, ends_of, list_from, IsReady, IsHead, Redirects}
 use Rattle.daggy_cells.proofs.LinkedLists.{row_is}
 
 -- n is the edge's end of that direction, l is n's list, and the edges are few enough for the links

@@ -15,7 +15,7 @@ use Rattle.daggy_base.specs.declared.index.Direction.TheVariants.{Outgoing, Inco
 use Rattle.daggy_cells.specs.Links.{nth_list, AreLinkedLists, ListsEach}
 use Rattle.daggy_cells.specs.Raw.{raw_first, raw_next}
 use Rattle.daggy_cells.specs.Fields.{weight_of, plain_edge, end_at, firsts_of, nexts_of, ends_of, lists_at, IsReady}
-use Rattle.daggy_cells.specs.Fields.{IsHead}
+use Rattle.daggy_cells.specs.Fields.{IsHead, IsRedirected}
 use Rattle.daggy_graph.specs.Stored.{Stores, IsDetached}
 use Rattle.daggy_cells.proofs.LinkedLists.{Contains-from_without, Contains-without, renamed_other, first_cases}
 use Rattle.daggy_cells.proofs.LinkedLists.{first_of-without}
@@ -23,7 +23,6 @@ use Rattle.daggy_cells.proofs.LinkedListChanges.{row-map, row_within, AreLinkedL
 use Rattle.daggy_cells.proofs.LinkedListChanges.{AreLinkedLists-renamed, AreLinkedLists-cut, ListsEach-removed}
 use Rattle.daggy_base.proofs.Lists.{IsSwapRemoved, IsSwapRemoved-from, IsSwapRemoved-mapped, map-swap_remove}
 use Rattle.daggy_cells.proofs.RedirectLemmas.{IsListOf, list_of_end, Ready-row, Redirected-list_from, head_kept}
-use Rattle.daggy_cells.specs.Fields.{IsRedirected}
 
 -- the edge e is there, and `last` is the last one
 pub record HasLastEdge {E Ix : Type 0} (edges : List (Edge E Ix)) (e last : ℕ) : Type 0 where

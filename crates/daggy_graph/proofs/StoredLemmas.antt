@@ -10,14 +10,13 @@ use Rattle.daggy_cells.specs.declared.cell.Edge.{Edge}
 use Rattle.daggy_base.specs.declared.index.Direction.TheVariants.{Outgoing, Incoming}
 use Rattle.daggy_base.specs.Weights.{edge_with_weight}
 use Rattle.daggy_cells.specs.Raw.{raw_first, raw_next}
-use Rattle.daggy_cells.specs.Fields.{weight_of, plain_edge, end_at, lists_from}
+use Rattle.daggy_cells.specs.Fields.{weight_of, plain_edge, end_at, lists_from, AreLedTo, edge_put_first}
 use Rattle.daggy_graph.specs.Stored.{stored_graph, Stores}
 use Rattle.daggy_cells.proofs.LinkedListChanges.{rows_are, AreLinkedLists-node, ListsEach-node, AreLinkedLists-edge}
 use Rattle.daggy_cells.proofs.LinkedListChanges.{ListsEach-edge}
 use Rattle.daggy_base.proofs.Lists.{map-set_same}
 use Rattle.daggy_base.proofs.MappedSlots.{slot_is}
 use Rattle.daggy_cells.proofs.FieldLemmas.{same_graph}
-use Rattle.daggy_cells.specs.Fields.{AreLedTo, edge_put_first}
 
 module _ {N E Ix : Type 0} (end : ℕ) (nodes : List (Node N Ix)) (edges : List (Edge E Ix)) where
   -- what is stored is what the view shows

@@ -7,19 +7,16 @@ use Rattle.std.proofs.lemmas.Bool.{cases_eq}
 use Rattle.std.proofs.lemmas.List.{length_push, length-map, map_push}
 use Rattle.daggy_base.specs.declared.index.Direction.{Direction}
 use Rattle.daggy_base.specs.declared.index.Direction.TheVariants.{Outgoing, Incoming}
-use Rattle.daggy_base.specs.Graph.{Graph, Edge as PlainEdge, slot, near_end}
+use Rattle.daggy_base.specs.Graph.{Graph, Edge as PlainEdge, slot, near_end, edge_count}
 use Rattle.daggy_cells.specs.declared.cell.Node.{Node}
 use Rattle.daggy_cells.specs.declared.cell.Edge.{Edge}
 use Rattle.daggy_cells.specs.Links.{nth_list, AreLinkedLists, ListsBy}
 use Rattle.daggy_cells.specs.Raw.{raw_first, raw_next}
 use Rattle.daggy_base.specs.FromSlots.{graph_of_slots, vacant_down}
-use Rattle.daggy_cells.specs.Fields.{firsts_of, nexts_of, lists_at}
-use Rattle.daggy_base.proofs.Lists.{slice_get-push_old, slice_get-push_new}
-use Rattle.daggy_base.proofs.Lists.{slice_get-push_other}
-use Rattle.daggy_cells.proofs.LinkedListChanges.{row_push, linked_within, AreLinkedLists-node}
-use Rattle.daggy_cells.proofs.LinkedListChanges.{AreLinkedLists-kept}
+use Rattle.daggy_cells.specs.Fields.{firsts_of, nexts_of, lists_at, AreLedTo, edge_put_first}
+use Rattle.daggy_base.proofs.Lists.{slice_get-push_old, slice_get-push_new, slice_get-push_other}
+use Rattle.daggy_cells.proofs.LinkedListChanges.{row_push, linked_within, AreLinkedLists-node, AreLinkedLists-kept}
 use Rattle.daggy_cells.proofs.FieldLemmas.{firsts_as_many}
-use Rattle.daggy_cells.specs.Fields.{AreLedTo, edge_put_first}
 use Rattle.daggy_stable.specs.Stored.{weight_of, plain_edge, shown, list_firsts, end_of, IsThreaded, Stores}
 use Rattle.daggy_base.proofs.SlotLists.{slot_push_new, slot_push_other, none_past, vacant_down_more, of_slots_node}
 use Rattle.daggy_base.proofs.SlotLists.{of_slots_left, of_slots_taken}
@@ -153,11 +150,7 @@ module _ {N E Ix : Type 0} {end : ℕ} {nodes : List (Node (Option N) Ix)} {edge
         ∙ shown_push end (map weight_of nodes) (firsts_of dir nodes) w end (firsts_as_many weight_of dir nodes) in
         let threaded =
         threaded_taken s.node_slots (omega (arith, index_left, nodes_long s)) w (raw_first Outgoing x) in
-        let moved =
-        subst (λ l. IsThreaded end (g.nodes ++ Some w ∷ []) l node_head (nodes_counted + 1) g.vacant_nodes)
-        (sym (firsts_more Outgoing)) threaded in
-        node_slot firsts node_head (nodes_counted + 1) g.vacant_nodes (subst (λ o. IsThreaded end (g.nodes ++ o ∷ [])
-        (firsts_of Outgoing (nodes ++ x ∷ [])) node_head (nodes_counted + 1) g.vacant_nodes) (sym some) moved)
+        node_slot firsts node_head (nodes_counted + 1) g.vacant_nodes (rw (firsts_more Outgoing, some) threaded)
 
     pub node_left : x ≡ record { weight = None; first_out = node_head; first_in = end } → length nodes < end
         → Stores end (nodes ++ x ∷ []) edges (length nodes) edge_head nodes_counted edges_counted (record {
@@ -178,18 +171,8 @@ module _ {N E Ix : Type 0} {end : ℕ} {nodes : List (Node (Option N) Ix)} {edge
         (firsts_as_many weight_of dir nodes) in
         let threaded =
         threaded_vacant s.node_slots (omega (arith, index_left, nodes_long s)) in
-        let links : firsts_of Outgoing nodes ++ node_head ∷ [] ≡ firsts_of Outgoing (nodes ++ x ∷ []) =
-        ap (λ z. firsts_of Outgoing nodes ++ z ∷ []) (sym (ap (raw_first Outgoing) is)) ∙ sym (firsts_more Outgoing) in
-        let moved =
-        subst
-        (λ l. IsThreaded end (g.nodes ++ None ∷ []) l (length g.nodes) nodes_counted (length g.nodes ∷ g.vacant_nodes))
-        links threaded in
-        let at =
-        subst (λ k. IsThreaded end (g.nodes ++ None ∷ []) (firsts_of Outgoing (nodes ++ x ∷ [])) k nodes_counted
-        (k ∷ g.vacant_nodes)) (nodes_long s) moved in
         node_slot firsts (length nodes) nodes_counted (length nodes ∷ g.vacant_nodes)
-        (subst (λ o. IsThreaded end (g.nodes ++ o ∷ []) (firsts_of Outgoing (nodes ++ x ∷ [])) (length nodes)
-        nodes_counted (length nodes ∷ g.vacant_nodes)) (sym none) at)
+        (rw (firsts_more Outgoing, ap (raw_first Outgoing) is, none, ← nodes_long s) threaded)
 
   -- one more slot of an edge, which is vacant
   pub edge_left : (y : Edge (Option E) Ix) → y.weight ≡ None → y.next_out ≡ edge_head → length edges < end
@@ -216,12 +199,6 @@ module _ {N E Ix : Type 0} {end : ℕ} {nodes : List (Node (Option N) Ix)} {edge
       (λ p. same ∙ (s.listed dir n e).0 p, λ q. (s.listed dir n e).1 (sym same ∙ q)) in
       let threaded =
       threaded_vacant s.edge_slots (omega (arith, index_left, edges_long s)) in
-      let thread : nexts_of Outgoing edges ++ edge_head ∷ [] ≡ nexts_of Outgoing (edges ++ y ∷ []) =
-      ap (λ z. nexts_of Outgoing edges ++ z ∷ []) (sym head_is) ∙ sym (more Outgoing) in
-      let moved =
-      subst
-      (λ l. IsThreaded end (g.edges ++ None ∷ []) l (length g.edges) edges_counted (length g.edges ∷ g.vacant_edges))
-      thread threaded in
       record {
         nodes_are = s.nodes_are;
         edges_are =
@@ -230,9 +207,7 @@ module _ {N E Ix : Type 0} {end : ℕ} {nodes : List (Node (Option N) Ix)} {edge
         linked = elim [ Outgoing ↦ links Outgoing | Incoming ↦ links Incoming ];
         listed = elim [ Outgoing ↦ lists Outgoing | Incoming ↦ lists Incoming ];
         node_slots = s.node_slots;
-        edge_slots =
-            subst (λ k. IsThreaded end (g.edges ++ None ∷ []) (nexts_of Outgoing (edges ++ y ∷ [])) k edges_counted
-            (k ∷ g.vacant_edges)) (edges_long s) moved;
+        edge_slots = rw (← edges_long s, more Outgoing, head_is) threaded;
       }
     where
       plain_none : y.weight ≡ None → plain_edge y ≡ None
@@ -280,8 +255,7 @@ module _ {N E Ix : Type 0} {end : ℕ} {nodes : List (Node (Option N) Ix)} {edge
               ∙ slice_get-push_old (nexts_of dir edges) (raw_next dir cell) f
               (omega (arith, inside, length-map edges (raw_next dir)));
         })
-        (subst (λ l. IsThreaded end (g.edges ++ Some line ∷ []) l edge_head (edges_counted + 1) g.vacant_edges)
-        (sym (more Outgoing)) threaded)
+        (rw (more Outgoing) threaded)
 
   -- where no slot is vacant, a new one is the next, in the words of the code
   pub node_made_code : (w : N) {y : Node (Option N) Ix} {reserved_cells nodes' : List (Node (Option N) Ix)}
@@ -298,14 +272,14 @@ module _ {N E Ix : Type 0} {end : ℕ} {nodes : List (Node (Option N) Ix)} {edge
   pub edge_made_code : {a b u v e : ℕ} {w : E} {y : Edge (Option E) Ix} {nodes' : List (Node (Option N) Ix)}
       {edges' : List (Edge (Option E) Ix)}
       → AreNodes g a b → u ≡ a → v ≡ b → IsPutFirst nodes nodes' u v e (Some w) y
-      → e ≡ length edges → g.vacant_edges ≡ [] → edges_counted < end → edges' ≡ edges ++ y ∷ []
+      → e ≡ length edges → g.vacant_edges ≡ [] → edge_count g < end → edges' ≡ edges ++ y ∷ []
       → Stores end nodes' edges' node_head edge_head nodes_counted (edges_counted + 1) (with_edge g a b w)
   edge_made_code {a} {b} {w = w} {y} {nodes'} ends u_is v_is put e_is none few pushed =
       let put_at : IsPutFirst nodes nodes' a b (length edges) (Some w) y = rw (← u_is, ← v_is, ← e_is) put in
       let full =
       counted_full (subst (IsThreaded end g.edges (nexts_of Outgoing edges) edge_head edges_counted) none
       s.edge_slots) in
-      let made = edge_taken w ends (omega (arith, few, full, edges_long s)) put_at.led in
+      let made = edge_taken w ends (omega (arith, few, s.edge_slots.counted, full, edges_long s)) put_at.led in
       rw (pushed, put_at.stored, none, edges_long s) (rw none at made)
 
 -- what is stored is the graph that the slots make, in the words of the code

@@ -12,11 +12,10 @@ use Rattle.daggy_cells.specs.declared.cell.Node.{Node}
 use Rattle.daggy_cells.specs.declared.cell.Edge.{Edge}
 use Rattle.daggy_cells.specs.Links.{nth_list, AreLinkedLists, ListsBy}
 use Rattle.daggy_cells.specs.Raw.{raw_first, raw_next}
-use Rattle.daggy_cells.specs.Fields.{firsts_of, nexts_of, lists_at}
+use Rattle.daggy_cells.specs.Fields.{firsts_of, nexts_of, lists_at, AreLedTo, edge_put_first}
 use Rattle.daggy_base.proofs.Lists.{slice_get-set_other, slice_get-set_same, slice_get_mapped}
 use Rattle.daggy_cells.proofs.LinkedListChanges.{AreLinkedLists-put, ListsBy-put}
 use Rattle.daggy_cells.proofs.FieldLemmas.{firsts_as_many}
-use Rattle.daggy_cells.specs.Fields.{AreLedTo, edge_put_first}
 use Rattle.daggy_stable.specs.Stored.{weight_of, plain_edge, shown, list_firsts, end_of, IsThreaded, Stores}
 use Rattle.daggy_stable.proofs.Slots.{filled, rethreaded, slot_not_vacant, vacant_none, vacant_some, vacant_inside}
 use Rattle.daggy_stable.proofs.Shown.{shown_some, shown-set, shown-fill}

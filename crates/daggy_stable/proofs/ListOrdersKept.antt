@@ -1,6 +1,6 @@
 -- What other orders of its lists keep of what a graph stores.
 use Rattle.std.proofs.Common.{◌≡◌, ◌≢◌, ℕ, suc, ◌+◌, ◌<◌, cond, List, map, length, take, get_or, set, Option, Some}
-use Rattle.std.proofs.Common.{None, is_some, slice_get, refl, sym, ap, subst, ◌∙◌, arith, Contains}
+use Rattle.std.proofs.Common.{true, false, None, is_some, slice_get, refl, sym, ap, subst, ◌∙◌, arith, Contains}
 use Rattle.std.specs.List.{count_by}
 use Rattle.std.specs.Option.{option_map}
 use Rattle.std.proofs.lemmas.List.{length-map}
@@ -22,9 +22,10 @@ use Rattle.daggy_cells.specs.Fields.{weight_of as stored_weight, plain_edge as s
 use Rattle.daggy_cells.specs.Fields.{lists_at, order_at, Threads}
 use Rattle.daggy_cells.proofs.ListOrders.{can_thread_all, rows_listed}
 use Rattle.daggy_cells.proofs.RethreadedLists.{none_below, below_empty, below_threaded, all_threaded}
-use Rattle.daggy_cells.proofs.FieldLemmas.{firsts_as_many}
+use Rattle.daggy_cells.proofs.FieldLemmas.{firsts_as_many, as_many as same_long}
 use Rattle.daggy_stable.specs.Stored.{weight_of, plain_edge, shown, list_firsts, Stores}
 use Rattle.daggy_stable.specs.Ordering.{new_lists}
+use Rattle.daggy_stable.proofs.ListSearches.{none_from, some_from}
 use Rattle.daggy_stable.proofs.Shown.{length-shown, shown_none, shown-set}
 use Rattle.daggy_stable.proofs.Slots.{rethreaded}
 use Rattle.daggy_stable.proofs.Stores.{edges_long, well_formed, weights_seen}
@@ -64,15 +65,20 @@ module _ {N E Ix : Type 0} (end : ℕ) (nodes : List (Node (Option N) Ix)) (edge
   module _ {nodes' : List (Node (Option N) Ix)} {edges' : List (Edge (Option E) Ix)} {i next : ℕ}
       (o : IsOrdering nodes' edges' i next) where
     pub as_many_nodes : length nodes' ≡ length nodes
-    as_many_nodes = sym (length-map nodes' weight_of) ∙ ap length o.weights ∙ length-map nodes weight_of
+    as_many_nodes = same_long weight_of _ _ o.weights
 
     pub as_many_edges : length edges' ≡ length edges
-    as_many_edges = sym (length-map edges' plain_edge) ∙ ap length o.lines ∙ length-map edges plain_edge
+    as_many_edges = same_long plain_edge _ _ o.lines
 
     -- what is read at i
-    pub read_slot : (x : Node (Option N) Ix)
-        → i < length nodes' → x ≡ get_or nodes' i x → slot (map weight_of nodes) i ≡ x.weight
-    read_slot x within is = ap (λ l. slot l i) (sym o.weights) ∙ slot_read weight_of nodes' i x within is
+    read_slot : (x : Node (Option N) Ix)
+        → i < length nodes → x ≡ get_or nodes' i x → slot (map weight_of nodes) i ≡ x.weight
+    read_slot x within is =
+        ap (λ l. slot l i) (sym o.weights) ∙ slot_read weight_of nodes' i x (omega (arith, within, as_many_nodes)) is
+
+    pub taken_at : (x : Node (Option N) Ix) → i < length nodes → x ≡ get_or nodes' i x → is_some x.weight ≡ true
+        → (w : N) × (slot (map weight_of nodes) i ≡ Some w)
+    taken_at x within is some = let there = some_from x.weight some in (there.0, read_slot x within is ∙ there.1)
 
     -- all are threaded
     pub ordering_done : i ≡ length nodes → (dir : Direction)
@@ -86,12 +92,13 @@ module _ {N E Ix : Type 0} (end : ℕ) (nodes : List (Node (Option N) Ix)) (edge
         all_threaded i end (o.rows dir) (all ∙ sym firsts) (lists ∙ sym firsts)
 
     -- a vacant slot is passed over
-    pub ordering_vacant : i < length nodes' → slot (map weight_of nodes) i ≡ None
-        → IsOrdering nodes' edges' (i + 1) next
-    ordering_vacant within none =
-        let slots : i < length (map weight_of nodes) =
-        omega (arith, within, as_many_nodes, length-map nodes weight_of) in
-        let still : i < length (map weight_of nodes') = omega (arith, within, length-map nodes' weight_of) in
+    pub ordering_vacant : (x : Node (Option N) Ix) → i < length nodes → x ≡ get_or nodes' i x
+        → is_some x.weight ≡ false → IsOrdering nodes' edges' (i + 1) next
+    ordering_vacant x within is vacant =
+        let none = read_slot x within is ∙ none_from x.weight vacant in
+        let slots : i < length (map weight_of nodes) = omega (arith, within, length-map nodes weight_of) in
+        let still : i < length (map weight_of nodes') =
+        omega (arith, within, as_many_nodes, length-map nodes' weight_of) in
         let none' : slot (map weight_of nodes') i ≡ None = ap (λ l. slot l i) o.weights ∙ none in
         let bit = ap (λ z. cond (is_some z) 1 0) none in
         let more = counted_to (map weight_of nodes) i 0 slots bit in
@@ -107,10 +114,9 @@ module _ {N E Ix : Type 0} (end : ℕ) (nodes : List (Node (Option N) Ix)) (edge
         }
 
     -- the lists of a node that exists
-    module _ (w : N) (within : i < length nodes') (some : slot (map weight_of nodes) i ≡ Some w) where
-      pub order_left : length orders ≡ count_by is_some (map weight_of nodes) → next < length orders
-      order_left count = let before = count_before (map weight_of nodes) i w some in
-          omega (arith, before, count, o.counted)
+    module _ (w : N) (within : i < length nodes) (some : slot (map weight_of nodes) i ≡ Some w) where
+      pub order_left : {m : ℕ} → m ≡ count_by is_some (map weight_of nodes) → next < m
+      order_left count = omega (arith, count_before (map weight_of nodes) i w some, count, o.counted)
 
       pub row_is : (dir : Direction) (list : List ℕ)
           → nth_list (map (order_at dir) orders) next ≡ list → nth_list (new_lists dir nodes orders) i ≡ list
@@ -126,8 +132,7 @@ module _ {N E Ix : Type 0} (end : ℕ) (nodes : List (Node (Option N) Ix)) (edge
           → map stored_weight nodes'' ≡ map stored_weight nodes' → map stored_edge edges'' ≡ map stored_edge edges'
           → IsOrdering nodes'' edges'' (i + 1) (next + 1)
       ordering_step can order reads nodes'' edges'' made same_weights same_lines =
-          let slots : i < length (map weight_of nodes) =
-          omega (arith, within, as_many_nodes, length-map nodes weight_of) in
+          let slots : i < length (map weight_of nodes) = omega (arith, within, length-map nodes weight_of) in
           let some' : slot (map weight_of nodes') i ≡ Some w = ap (λ l. slot l i) o.weights ∙ some in
           let weights' = weights_seen nodes'' nodes' same_weights in
           let bit = ap (λ z. cond (is_some z) 1 0) some in
@@ -146,6 +151,7 @@ module _ {N E Ix : Type 0} (end : ℕ) (nodes : List (Node (Option N) Ix)) (edge
                 (omega (
                   arith,
                   within,
+                  as_many_nodes,
                   length-shown end (map weight_of nodes') (firsts_of dir nodes') (firsts_as_many weight_of dir nodes'),
                   length-map nodes' weight_of,
                 ))

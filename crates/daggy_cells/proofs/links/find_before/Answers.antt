@@ -1,7 +1,7 @@
-use Rattle.std.proofs.Common.{◌≡◌, ◌<◌, length, get_or, slice_get, Some, Contains, sym, ap, subst, ◌∙◌, arith}
+use Rattle.std.proofs.Common.{◌≡◌, ◌<◌, length, slice_get, Some, sym, ap, ◌∙◌, arith}
 use Rattle.std.proofs.lemmas.List.{length-map}
 use Rattle.daggy_cells.specs.Raw.{raw_next}
-use Rattle.daggy_cells.specs.Fields.{nexts_of, list_from}
+use Rattle.daggy_cells.specs.Fields.{nexts_of}
 use Rattle.daggy_cells.proofs.LinkedLists.{IsRest-start, IsRest-step, IsRest-within, IsRest-found, IsRest-shorter}
 use Rattle.daggy_base.proofs.Lists.{slice_get_mapped}
 use Rattle.daggy_cells.proofs.links.find_before.Given.{Over}
@@ -14,8 +14,7 @@ goes : (g : Over) (c : After-next-next g)
 goes g c =
     let within : c.along.e < length (nexts_of c.args.dir c.args.edges.now) =
     IsRest-within _ _ _ _ _ c.along.invariant in
-    let reads : c.index-edges-i.result ≡ get_or c.args.edges.now c.along.e c.index-edges-i.result =
-    c.index-edges-i.is ∙ ap (λ z. get_or c.args.edges.now z c.index-edges-i.result) c.index-i.ensures.value in
+    let reads = rw c.index-i.ensures.value at c.index-edges-i.is in
     let inside : c.along.e < length c.args.edges.now
     = omega (arith, within, length-map c.args.edges.now (raw_next c.args.dir)) in
     slice_get_mapped (raw_next c.args.dir) c.args.edges.now c.along.e c.index-edges-i.result inside reads
@@ -23,8 +22,7 @@ goes g c =
 
 pub along-init : goal.along-init
 along-init g c =
-    IsRest-start _ _ _ _ _ c.requires.linked (subst (Contains (list_from c.args.dir c.args.edges.now c.args.first))
-    (sym c.index-target.ensures.value) c.requires.listed) (λ q. c.requires.later (q ∙ c.index-target.ensures.value))
+    rw c.index-target.ensures.value (IsRest-start _ _ _ _ _ c.requires.linked c.requires.listed c.requires.later)
 
 pub offset_bounds-edges-i : goal.offset_bounds-edges-i
 offset_bounds-edges-i g c =

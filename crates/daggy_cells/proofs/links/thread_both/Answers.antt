@@ -1,39 +1,23 @@
-use Rattle.std.proofs.Common.{map, length, sym, ap, subst, ◌∙◌, arith}
-use Rattle.std.proofs.lemmas.List.{length-map}
+use Rattle.std.proofs.Common.{map, ap, ◌∙◌, arith}
 use Rattle.daggy_base.specs.declared.index.Direction.TheVariants.{Outgoing, Incoming}
 use Rattle.daggy_base.specs.Orders.{numbers_of}
 use Rattle.daggy_cells.specs.Fields.{weight_of, plain_edge}
-use Rattle.daggy_cells.specs.Links.{CanThread}
+use Rattle.daggy_cells.proofs.FieldLemmas.{as_many}
 use Rattle.daggy_cells.proofs.RethreadedLists.{CanThread-as_long, threads_both}
 use Rattle.daggy_cells.proofs.links.thread_both.Goals as goal
 
 pub thread-requires-clause-list : goal.thread-requires-clause-list
 thread-requires-clause-list g c =
-    subst (λ l. CanThread (length c.args.edges.now.items) (map g.Ix.IndexType.number l)) (sym c.as_slice.ensures.value)
-    (c.requires.lists Outgoing)
+    rw c.as_slice.ensures.value (c.requires.lists Outgoing)
 
 pub thread-requires-2-clause-node : goal.thread-requires-2-clause-node
 thread-requires-2-clause-node g c =
-    omega (
-      arith,
-      c.requires.node,
-      ap length c.thread.ensures.nodes.weights,
-      length-map c.args.nodes.now.items weight_of,
-      length-map c.thread.new.nodes.items weight_of,
-    )
+    omega (arith, c.requires.node, as_many weight_of _ _ c.thread.ensures.nodes.weights)
 
 pub thread-requires-2-clause-list : goal.thread-requires-2-clause-list
 thread-requires-2-clause-list g c =
-    let as_many = ap length c.thread.ensures.edges.edges in
-    let can =
-    CanThread-as_long _ (length c.thread.new.edges.items) _ (c.requires.lists Incoming) (omega (
-      arith,
-      as_many,
-      length-map c.args.edges.now.items plain_edge,
-      length-map c.thread.new.edges.items plain_edge,
-    )) in
-    subst (λ l. CanThread (length c.thread.new.edges.items) (map g.Ix.IndexType.number l))
-    (sym c.as_slice-2.ensures.value) can
+    rw c.as_slice-2.ensures.value (CanThread-as_long _ _ _ (c.requires.lists Incoming)
+    (as_many plain_edge _ _ c.thread.ensures.edges.edges))
 
 pub returns-clause-links : goal.returns-clause-links
 returns-clause-links g c =

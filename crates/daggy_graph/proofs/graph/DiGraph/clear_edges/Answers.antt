@@ -14,7 +14,6 @@ invariant_of-self g c =
 pub returns : goal.returns
 returns g c =
     let stored = Stores-with_lists_emptied _ _ _ _ c.self.invariant in
-    state_changed _ (stored_graph c.self.inside.nodes.items c.self.inside.edges.items) _ _ without_all_edges
-    c.self.view_is
+    state_changed _ _ _ _ without_all_edges c.self.view_is
     (ap (λ l. stored_graph l c.clear.new.self.items) c.unlink_all.ensures ∙ ap (stored_graph _) c.clear.ensures.items
     ∙ stored_is _ _ _ _ stored)

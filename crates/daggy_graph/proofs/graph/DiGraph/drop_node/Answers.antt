@@ -1,15 +1,12 @@
-use Rattle.std.proofs.Common.{◌<◌}
-use Rattle.daggy_graph.specs.Stored.{Stores}
-use Rattle.std.proofs.Common.{◌≡◌, ◌-◌, [], map, length, get_or, sym, ap, ◌∙◌, arith}
-use Rattle.std.specs.List.{swap_remove}
+use Rattle.std.proofs.Common.{◌<◌, ◌≡◌, ◌-◌, [], length, sym, ap, ◌∙◌, arith}
+use Rattle.daggy_graph.specs.Stored.{Stores, stored_graph}
 use Rattle.daggy_base.specs.declared.index.Direction.{Direction}
 use Rattle.daggy_base.specs.declared.index.Direction.TheVariants.{Outgoing, Incoming}
 use Rattle.daggy_base.specs.Graph.{node_weight}
 use Rattle.daggy_base.specs.Removal.{with_node_dropped}
 use Rattle.daggy_base.specs.declared.kind.Kind.TheVariants.{Compact}
 use Rattle.daggy_cells.specs.Links.{nth_list}
-use Rattle.daggy_cells.specs.Fields.{lists_at, with_end_renamed}
-use Rattle.daggy_graph.specs.Stored.{stored_graph}
+use Rattle.daggy_cells.specs.Fields.{lists_at}
 use Rattle.daggy_cells.proofs.States.{state_changed}
 use Rattle.daggy_graph.proofs.StoredLemmas.{stored_is, Stores-itself}
 use Rattle.daggy_base.proofs.MappedSlots.{slot_within, slot_is}
@@ -31,23 +28,15 @@ stored g c =
     let n = g.Ix.IndexType.number c.args.n in
     let nodes = c.self.inside.nodes.items in
     let edges = c.self.inside.edges.items in
-    let last = length nodes - 1 in
     let inside = slot_within (λ x. x.weight) nodes n (rw (← c.self.view_is) at c.requires.node) in
-    let left = c.swap_remove-weight.result in
-    let nodes_is : c.swap_remove-weight.new.self.items ≡ swap_remove nodes n left =
-    c.swap_remove-weight.ensures.items ∙ ap (λ z. swap_remove nodes z left) c.index-i.ensures.value in
-    let edges_is : c.reown_last.new.edges.items
-    ≡ map (with_end_renamed Incoming last n) (map (with_end_renamed Outgoing last n) edges) =
-    c.reown_last.ensures
-    ∙ ap (λ z. map (with_end_renamed Incoming last z) (map (with_end_renamed Outgoing last z) edges))
-    c.of_node.ensures in
     let empty : (d : Direction) → nth_list (lists_at d (stored_graph nodes edges)) n ≡ [] =
     elim [
       | Outgoing ↦ ap (λ s. nth_list s.graph.out_lists n) c.self.view_is ∙ c.requires.no_edges Outgoing
       | Incoming ↦ ap (λ s. nth_list s.graph.in_lists n) c.self.view_is ∙ c.requires.no_edges Incoming
     ] in
-    rw (nodes_is, edges_is)
-    (Stores-dropped nodes edges c.self.invariant n last left inside (omega (arith, inside)) empty)
+    rw (c.swap_remove-weight.ensures.items, c.index-i.ensures.value, c.reown_last.ensures, c.of_node.ensures)
+    (Stores-dropped nodes edges c.self.invariant n (length nodes - 1) c.swap_remove-weight.result inside
+    (omega (arith, inside)) empty)
 
 pub reown_last-requires-clause-node : goal.reown_last-requires-clause-node
 reown_last-requires-clause-node g c =
@@ -64,8 +53,7 @@ pub returns-clause-value : goal.returns-clause-value
 returns-clause-value g c =
     let n = g.Ix.IndexType.number c.args.n in
     let nodes = c.self.inside.nodes.items in
-    let reads =
-    c.swap_remove-weight.ensures.value ∙ ap (λ z. get_or nodes z c.swap_remove-weight.result) c.index-i.ensures.value in
+    let reads = rw c.index-i.ensures.value at c.swap_remove-weight.ensures.value in
     ap (λ s. node_weight s.graph n) (sym c.self.view_is)
     ∙ slot_is (λ x. x.weight) nodes n c.swap_remove-weight.result
     (within g (goal.at.returns-clause-value g c).After-self) reads
@@ -73,6 +61,5 @@ returns-clause-value g c =
 pub returns-clause-dropped : goal.returns-clause-dropped
 returns-clause-dropped g c =
     let n = g.Ix.IndexType.number c.args.n in
-    state_changed _ (stored_graph c.self.inside.nodes.items c.self.inside.edges.items) _ _
-    (λ h. with_node_dropped Compact h n) c.self.view_is
+    state_changed _ _ _ _ (λ h. with_node_dropped Compact h n) c.self.view_is
     (stored_is _ _ _ _ (stored g (goal.at.returns-clause-dropped g c).After-swap_remove-weight))

@@ -1,4 +1,4 @@
-use Rattle.std.proofs.Common.{◌≡◌, get_or, ap, ◌∙◌}
+use Rattle.std.proofs.Common.{ap, ◌∙◌}
 use Rattle.daggy_base.specs.Graph.{edge_at}
 use Rattle.daggy_base.specs.Cursor.{cursor_after}
 use Rattle.daggy_base.proofs.MappedSlots.{slot_within}
@@ -13,8 +13,7 @@ returns g c =
     let within =
     slot_within (λ z. record { parent = z.parent; child = z.child; weight = z.weight }) edges e
     (rw (← c.self.view_is) at c.requires) in
-    let reads : c.index-x.result.now ≡ get_or edges e c.index-x.result.now =
-    c.index-x.ensures ∙ ap (λ z. get_or edges z c.index-x.result.now) c.index.ensures.value in
+    let reads = rw c.index.ensures.value at c.index-x.ensures in
     c.edge.ensures.value ∙ c.next.ensures
     ∙ cursor_shown end c.self.inside.nodes.items edges c.args.dir c.self.invariant e c.index-x.result.now within reads
     ∙ ap (λ s. cursor_after c.args.dir end s.graph e (edge_at s.graph e)) c.self.view_is

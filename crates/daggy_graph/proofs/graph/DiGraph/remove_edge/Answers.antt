@@ -1,12 +1,11 @@
-use Rattle.std.proofs.Common.{◌≡◌, ◌<◌, ◌≤◌, map, length, refl, sym, ap, subst, ◌∙◌, arith}
-use Rattle.std.specs.List.{swap_remove}
+use Rattle.std.proofs.Common.{◌<◌, ◌≤◌, map, length, refl, sym, ap, ◌∙◌, arith}
 use Rattle.std.specs.Option.{option_map}
-use Rattle.std.proofs.lemmas.List.{length-map}
 use Rattle.daggy_base.specs.Graph.{edge_at, slot}
 use Rattle.daggy_base.specs.Removal.{without_edge}
 use Rattle.daggy_base.specs.declared.kind.Kind.TheVariants.{Compact}
 use Rattle.daggy_cells.specs.Fields.{plain, plain_edge}
-use Rattle.daggy_graph.specs.Stored.{stored_graph, Stores}
+use Rattle.daggy_graph.specs.Stored.{stored_graph}
+use Rattle.daggy_cells.proofs.FieldLemmas.{as_many}
 use Rattle.daggy_cells.proofs.States.{state_changed}
 use Rattle.daggy_graph.proofs.StoredLists.{got_none, edge_got}
 use Rattle.daggy_graph.proofs.StoredLemmas.{stored_is, Stores-itself}
@@ -15,23 +14,16 @@ use Rattle.daggy_graph.proofs.graph.DiGraph.remove_edge.Goals as goal
 
 pub invariant_of-self : goal.invariant_of-self
 invariant_of-self g c =
-    let same : c.swap_remove-weight.new.self.items
-    ≡ swap_remove c.detach.new.edges.items c.of_edge.result c.swap_remove-weight.result =
-    c.swap_remove-weight.ensures.items
-    ∙ ap (λ z. swap_remove c.detach.new.edges.items z c.swap_remove-weight.result)
-    (c.index-i.ensures.value ∙ sym c.of_edge.ensures) in
+    let same = rw (c.index-i.ensures.value ∙ sym c.of_edge.ensures) at c.swap_remove-weight.ensures.items in
     let stored = c.detach.ensures.detached c.swap_remove-weight.result in
-    subst (λ z. Stores g.Ix.IndexType.greatest c.detach.new.nodes.items z (stored_graph c.detach.new.nodes.items z))
-    (sym same) (Stores-itself _ _ _ _ stored)
+    rw same (Stores-itself _ _ _ _ stored)
 
 pub returns-clause-value : goal.returns-clause-value
 returns-clause-value g c =
     let e = g.Ix.IndexType.number c.args.e in
     let left = c.detach.new.edges.items in
-    let was = c.self.inside.edges.items in
-    let long : length left ≡ length was =
-    sym (length-map left plain_edge) ∙ ap length c.detach.ensures.edges ∙ length-map was plain_edge in
-    let within : c.index-i.result < length left = omega (arith, long, c.if-i-len.false, c.len.ensures) in
+    let within : c.index-i.result < length left =
+    omega (arith, as_many plain_edge _ _ c.detach.ensures.edges, c.if-i-len.false, c.len.ensures) in
     let there =
     slot_is plain left c.index-i.result c.swap_remove-weight.result within c.swap_remove-weight.ensures.value in
     sym (ap (option_map (λ x. x.weight)) (
@@ -40,11 +32,7 @@ returns-clause-value g c =
 
 pub returns-clause-removed : goal.returns-clause-removed
 returns-clause-removed g c =
-    let same : c.swap_remove-weight.new.self.items
-    ≡ swap_remove c.detach.new.edges.items c.of_edge.result c.swap_remove-weight.result =
-    c.swap_remove-weight.ensures.items
-    ∙ ap (λ z. swap_remove c.detach.new.edges.items z c.swap_remove-weight.result)
-    (c.index-i.ensures.value ∙ sym c.of_edge.ensures) in
+    let same = rw (c.index-i.ensures.value ∙ sym c.of_edge.ensures) at c.swap_remove-weight.ensures.items in
     let stored = c.detach.ensures.detached c.swap_remove-weight.result in
     let was = stored_graph c.self.inside.nodes.items c.self.inside.edges.items in
     state_changed _ was _ _ (λ h. without_edge Compact h (g.Ix.IndexType.number c.args.e)) c.self.view_is
@@ -66,8 +54,4 @@ detach-requires-clause-edge g c =
 
 pub swap_remove-weight-requires : goal.swap_remove-weight-requires
 swap_remove-weight-requires g c =
-    let left = c.detach.new.edges.items in
-    let was = c.self.inside.edges.items in
-    let long : length left ≡ length was =
-    sym (length-map left plain_edge) ∙ ap length c.detach.ensures.edges ∙ length-map was plain_edge in
-    omega (arith, long, c.if-i-len.false, c.len.ensures)
+    omega (arith, as_many plain_edge _ _ c.detach.ensures.edges, c.if-i-len.false, c.len.ensures)

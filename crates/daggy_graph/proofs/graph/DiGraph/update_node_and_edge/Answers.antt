@@ -1,7 +1,6 @@
 use Rattle.std.proofs.Common.{arith}
 use Rattle.daggy_base.specs.Weights.{with_node_weight, with_edge_weight}
 use Rattle.daggy_cells.specs.Fields.{plain}
-use Rattle.daggy_graph.specs.Stored.{stored_graph}
 use Rattle.daggy_graph.proofs.StoredLemmas.{stored_is, Stores-itself}
 use Rattle.daggy_base.proofs.MappedSlots.{slot_within}
 use Rattle.daggy_cells.proofs.States.{state_changed}
@@ -29,8 +28,7 @@ returns g c =
     (edge_read nodes edges _ c.args.self.now c.self.view_is e c.index-2.result c.index-2.ensures.value
     c.index_mut-y.result.now e_in c.index_mut-y.ensures.value)
     c.f.ensures
-    (state_changed _ (stored_graph nodes edges) _ _
-    (λ h. with_edge_weight (with_node_weight h n c.f.new.arg2) e c.f.new.arg3) c.self.view_is
+    (state_changed _ _ _ _ (λ h. with_edge_weight (with_node_weight h n c.f.new.arg2) e c.f.new.arg3) c.self.view_is
     (stored_is _ _ _ _ (both_updated c.self.invariant c.index.ensures.value c.index-2.ensures.value
     _ _ e_in c.index_mut-x.ensures.value c.index_mut-y.ensures.value)))
 

@@ -2,7 +2,6 @@ use Rattle.std.proofs.Common.{length, Some, sym, ap, ◌∙◌, arith}
 use Rattle.std.specs.Option.{option_map}
 use Rattle.daggy_base.specs.Weights.{with_edge_weight}
 use Rattle.daggy_cells.specs.Fields.{plain}
-use Rattle.daggy_graph.specs.Stored.{stored_graph}
 use Rattle.daggy_graph.proofs.StoredLemmas.{stored_is, Stores-itself}
 use Rattle.daggy_base.proofs.MappedSlots.{slot_within}
 use Rattle.daggy_cells.specs.Cells.{edge_of_weight}
@@ -66,7 +65,7 @@ returns g c =
     (edge_shown nodes edges _ c.args.self.now c.self.view_is b c.index-2.result c.index-2.ensures.value _ _
     c.as_mut_slice.ensures.value r.shows.1)
     r.called
-    (state_changed _ (stored_graph nodes edges) _ _
+    (state_changed _ _ _ _
     (λ h. with_edge_weight (with_edge_weight h a r.first_left.now) b r.second_left.now) c.self.view_is
     (stored_is _ _ _ _
     (edges_updated c.self.invariant c.index.ensures.value c.index-2.ensures.value r.first_left.now

@@ -1,4 +1,4 @@
-use Rattle.std.proofs.Common.{◌≡◌, ◌<◌, ◌+◌, None, map, length, refl, sym, subst, ◌∙◌, arith}
+use Rattle.std.proofs.Common.{◌≡◌, ◌<◌, None, map, length, refl, sym, ◌∙◌, arith}
 use Rattle.std.proofs.lemmas.List.{length-map}
 use Rattle.daggy_base.specs.Graph.{Edge as PlainEdge}
 use Rattle.daggy_graph.specs.Stored.{stored_graph}
@@ -6,7 +6,7 @@ use Rattle.daggy_cells.specs.Fields.{plain_edge}
 use Rattle.daggy_base.specs.Filtering.{new_ends}
 use Rattle.daggy_graph.proofs.StoredLemmas.{stored_is, Stores-itself}
 use Rattle.daggy_cells.proofs.MappingLemmas.{CalledAt-from_step}
-use Rattle.daggy_graph.proofs.FilterLemmas.{EdgesBelow, EdgesBelow-passed, EdgesBelow-called, EdgesBelow-done, both_are}
+use Rattle.daggy_graph.proofs.FilterLemmas.{EdgesBelow-passed, EdgesBelow-called, EdgesBelow-done, both_are}
 use Rattle.daggy_graph.proofs.FilterLemmas.{named_within, Holds-read}
 use Rattle.daggy_base.proofs.CallsInTurn.{may_call_some, called_some_on, passed_on}
 use Rattle.daggy_base.specs.Mapping.{weight_in}
@@ -72,8 +72,7 @@ each-preserved g c =
       omega (arith, c.keep_edge.ensures.len, c.each.invariant.2),
       c.keep_edge.ensures.nodes ∙ c.each.invariant.3,
       Stores-itself _ _ _ _ c.keep_edge.ensures.stored,
-      subst (λ z. EdgesBelow (goal.G-step g) g.Ix.IndexType.of c.args.names.now.items c.args.g (map plain_edge edges)
-          start c.g-answer.new.self z (c.each.i + 1)) (sym shown) next,
+      rw shown next,
     )
 
 pub returns-clause-filtered : goal.returns-clause-filtered

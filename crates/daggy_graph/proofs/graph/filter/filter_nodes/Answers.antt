@@ -1,11 +1,11 @@
-use Rattle.std.proofs.Common.{◌<◌, ◌+◌, map, length, refl, sym, ap, subst, ◌∙◌, arith}
+use Rattle.std.proofs.Common.{◌<◌, ◌+◌, map, length, refl, ap, ◌∙◌, arith}
 use Rattle.std.proofs.lemmas.List.{length-map, length_push}
 use Rattle.daggy_graph.specs.Stored.{stored_graph}
 use Rattle.daggy_cells.specs.Fields.{weight_of}
-use Rattle.daggy_base.specs.Filtering.{named, with_kept_node}
+use Rattle.daggy_base.specs.Filtering.{named}
 use Rattle.daggy_graph.proofs.StoredLemmas.{stored_is, Stores-itself}
 use Rattle.daggy_cells.proofs.MappingLemmas.{CalledAt-from_step}
-use Rattle.daggy_graph.proofs.FilterLemmas.{FilteredBelow, FilteredBelow-called, FilteredBelow-done, Holds-read}
+use Rattle.daggy_graph.proofs.FilterLemmas.{FilteredBelow-called, FilteredBelow-done, Holds-read}
 use Rattle.daggy_base.proofs.CallsInTurn.{may_call, called_on}
 use Rattle.daggy_graph.proofs.graph.filter.filter_nodes.Goals as goal
 
@@ -28,13 +28,7 @@ each-preserved g c =
     let next =
     FilteredBelow-called (goal.F-step g) g.Ix.IndexType.of c.args.f (map weight_of nodes)
     c.each.names.items h held called c.each.invariant.7 in
-    let shown = stored_is _ _ _ _ c.keep_node.ensures.stored in
-    let one =
-    subst (λ ns. FilteredBelow (goal.F-step g) g.Ix.IndexType.of c.args.f (map weight_of nodes) c.f-answer.new.self ns
-    (with_kept_node h c.f-answer.result) (c.each.i + 1)) (sym c.keep_node.ensures.names) next in
-    let both =
-    subst (λ z. FilteredBelow (goal.F-step g) g.Ix.IndexType.of c.args.f (map weight_of nodes) c.f-answer.new.self
-    c.keep_node.new.names.items z (c.each.i + 1)) (sym shown) one in (
+    let shown = stored_is _ _ _ _ c.keep_node.ensures.stored in (
       called_on g.Ix.IndexType.of (goal.F-pre g) (goal.F-step g) (λ w. w) weight_of c.args.nodes.now within
           c.index-nodes-i.is refl called
           c.each.invariant.0,
@@ -45,7 +39,7 @@ each-preserved g c =
           ∙ ap (λ n. n + 1) c.each.invariant.4,
       c.keep_node.ensures.below c.each.invariant.5,
       Stores-itself _ _ _ _ c.keep_node.ensures.stored,
-      both,
+      rw (c.keep_node.ensures.names, shown) next,
     )
 
 pub returns-clause-filtered : goal.returns-clause-filtered

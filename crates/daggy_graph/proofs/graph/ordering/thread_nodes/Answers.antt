@@ -1,9 +1,10 @@
-use Rattle.std.proofs.Common.{◌≡◌, ◌<◌, map, length, refl, ap, subst, ◌∙◌, arith}
+use Rattle.std.proofs.Common.{◌≡◌, ◌<◌, map, length, refl, subst, ◌∙◌, arith}
 use Rattle.std.proofs.lemmas.List.{length-map}
 use Rattle.daggy_base.specs.Orders.{numbers_of}
 use Rattle.daggy_cells.specs.Fields.{weight_of, plain_edge, firsts_of, order_at}
 use Rattle.daggy_cells.specs.Raw.{raw_first}
 use Rattle.daggy_cells.specs.Links.{CanThread}
+use Rattle.daggy_cells.proofs.FieldLemmas.{as_many}
 use Rattle.daggy_cells.proofs.ListOrders.{order_read}
 use Rattle.daggy_cells.proofs.RethreadedLists.{CanThread-as_long, none_below, below_threaded, all_threaded}
 use Rattle.daggy_graph.proofs.graph.ordering.thread_nodes.Goals as goal
@@ -13,46 +14,26 @@ each-init g c = record { weights = refl; lines = refl; rows = λ dir. none_below
 
 pub thread_both-requires-clause-node : goal.thread_both-requires-clause-node
 thread_both-requires-clause-node g c =
-    omega (
-      arith,
-      c.each-test.true,
-      c.len-i-end.ensures,
-      ap length c.each.invariant.weights,
-      length-map c.args.nodes.now.items weight_of,
-      length-map c.each.nodes.items weight_of,
-    )
+    omega (arith, c.each-test.true, c.len-i-end.ensures, as_many weight_of _ _ c.each.invariant.weights)
 
 pub thread_both-requires-clause-lists : goal.thread_both-requires-clause-lists
 thread_both-requires-clause-lists g c =
     let within : c.each.i < length c.args.orders.now =
     omega (arith, c.each-test.true, c.len-i-end.ensures, c.requires.count) in
-    let as_many : length c.each.edges.items ≡ length c.args.edges.now.items =
-    omega (
-      arith,
-      ap length c.each.invariant.lines,
-      length-map c.args.edges.now.items plain_edge,
-      length-map c.each.edges.items plain_edge,
-    ) in
     λ dir.
     let read =
     order_read g.Ix.IndexType.number dir c.args.orders.now c.each.i c.index-orders-i.result within
     c.index-orders-i.is in
     CanThread-as_long _ _ _
-    (subst (CanThread (length c.args.edges.now.items)) read ((c.requires.lists dir).each c.each.i)) as_many
+    (subst (CanThread (length c.args.edges.now.items)) read ((c.requires.lists dir).each c.each.i))
+    (as_many plain_edge _ _ c.each.invariant.lines)
 
 pub each-preserved : goal.each-preserved
 each-preserved g c =
     let within : c.each.i < length c.args.orders.now =
     omega (arith, c.each-test.true, c.len-i-end.ensures, c.requires.count) in
     let inside : c.each.i < length c.each.nodes.items =
-    omega (
-      arith,
-      c.each-test.true,
-      c.len-i-end.ensures,
-      ap length c.each.invariant.weights,
-      length-map c.args.nodes.now.items weight_of,
-      length-map c.each.nodes.items weight_of,
-    ) in
+    omega (arith, c.each-test.true, c.len-i-end.ensures, as_many weight_of _ _ c.each.invariant.weights) in
     record {
       weights = c.thread_both.ensures.nodes ∙ c.each.invariant.weights;
       lines = c.thread_both.ensures.edges ∙ c.each.invariant.lines;
@@ -70,13 +51,7 @@ returns-clause-linked g c =
     let number = g.Ix.IndexType.number in
     λ dir.
     let firsts : length (firsts_of dir c.each.nodes.items) ≡ length c.args.nodes.now.items =
-    omega (
-      arith,
-      ap length c.each.invariant.weights,
-      length-map c.args.nodes.now.items weight_of,
-      length-map c.each.nodes.items weight_of,
-      length-map c.each.nodes.items (raw_first dir),
-    ) in
+    omega (arith, as_many weight_of _ _ c.each.invariant.weights, length-map c.each.nodes.items (raw_first dir)) in
     let lists : length (map (order_at dir) (map (numbers_of number) c.args.orders.now)) ≡ length c.args.orders.now =
     length-map (map (numbers_of number) c.args.orders.now) (order_at dir)
     ∙ length-map c.args.orders.now (numbers_of number) in

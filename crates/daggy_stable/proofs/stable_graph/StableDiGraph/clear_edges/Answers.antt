@@ -15,8 +15,7 @@ pub returns : goal.returns
 returns g c =
     let end = g.Ix.IndexType.greatest in
     let stored = Stores-emptied c.self.invariant c.end-self-inside.result c.end-self-inside.ensures.value in
-    state_changed _ (stored_graph end c.self.inside.nodes.items c.self.inside.edges.items
-    c.self.inside.first_vacant_node c.self.inside.first_vacant_edge) _ _ without_all_edges c.self.view_is
+    state_changed _ _ _ _ without_all_edges c.self.view_is
     (ap (λ l. stored_graph end c.empty_lists.new.nodes.items l c.self.inside.first_vacant_node c.end-self-inside.result)
     c.clear.ensures.items
     ∙ ap (λ l. stored_graph end l [] c.self.inside.first_vacant_node c.end-self-inside.result) c.empty_lists.ensures

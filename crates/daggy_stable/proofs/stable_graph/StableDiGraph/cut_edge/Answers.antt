@@ -1,16 +1,13 @@
 use Rattle.std.specs.Vec.{vec_len}
 use Rattle.daggy_base.specs.Graph.{HasEdge}
-use Rattle.std.proofs.Common.{◌≡◌, ◌+◌, true, length, sym, ap, ◌∙◌, arith}
-use Rattle.std.specs.Option.{option_map}
-use Rattle.std.proofs.lemmas.List.{length-map}
-use Rattle.daggy_base.specs.Graph.{edge_at}
+use Rattle.std.proofs.Common.{◌≡◌, ◌+◌, true, length, ap, ◌∙◌, arith}
 use Rattle.daggy_base.specs.TakingBack.{with_edge_taken_back}
+use Rattle.daggy_cells.proofs.FieldLemmas.{as_many}
 use Rattle.daggy_cells.proofs.States.{state_changed}
 use Rattle.daggy_cells.specs.Fields.{plain_edge as stored_edge}
 use Rattle.daggy_stable.specs.Stored.{stored_graph}
 use Rattle.daggy_stable.proofs.Stores.{stored_is, Stores-itself, edges_long}
-use Rattle.daggy_stable.proofs.StoredRemoval.{edges_some, ready_code, cell_weight, edge_cut_code}
-use Rattle.daggy_stable.proofs.StoredRemoval.{popped, popped_last}
+use Rattle.daggy_stable.proofs.StoredRemoval.{edges_some, ready_code, cell_weight, edge_cut_code, popped, popped_last}
 use Rattle.daggy_stable.proofs.stable_graph.StableDiGraph.cut_edge.Given.{Over}
 use Rattle.daggy_stable.proofs.stable_graph.StableDiGraph.cut_edge.Goals.{After-of_edge, After-unlink}
 use Rattle.daggy_stable.proofs.stable_graph.StableDiGraph.cut_edge.Goals as goal
@@ -34,11 +31,7 @@ last g c =
 
 -- and still is the last after that
 long : (g : Over) (c : After-unlink g) → c.of_edge.result + 1 ≡ vec_len c.unlink.new.edges
-long g c =
-    let same : length c.unlink.new.edges.items ≡ length c.self.inside.edges.items =
-    sym (length-map c.unlink.new.edges.items stored_edge) ∙ ap length c.unlink.ensures.plains
-    ∙ length-map c.self.inside.edges.items stored_edge in
-    omega (arith, last g c, same)
+long g c = omega (arith, last g c, as_many stored_edge _ _ c.unlink.ensures.plains)
 
 pub unlink-requires : goal.unlink-requires
 unlink-requires g c = ready_code c.self.invariant c.of_edge.result (there g (goal.at.unlink-requires g c).After-of_edge)
@@ -64,9 +57,8 @@ returns-clause-value g c =
     let reads =
     popped_last c.unlink.new.edges.items c.of_edge.result _ _ c.unwrap-x.result (long g at.After-unlink)
     (c.pop.ensures.value c.unwrap-x.result (omega (arith, long g at.After-unlink))) c.unwrap-x.ensures in
-    cell_weight c.self.invariant (there g at.After-of_edge) c.unlink.ensures c.unwrap-x.result reads
-    ∙ ap (λ s. option_map (λ z. z.weight) (edge_at s.graph c.of_edge.result)) c.self.view_is
-    ∙ ap (λ z. option_map (λ z. z.weight) (edge_at c.args.self.now.graph z)) c.of_edge.ensures
+    rw (← c.self.view_is, ← c.of_edge.ensures) (cell_weight c.self.invariant (there g at.After-of_edge)
+    c.unlink.ensures c.unwrap-x.result reads)
 
 pub returns-clause-removed : goal.returns-clause-removed
 returns-clause-removed g c =

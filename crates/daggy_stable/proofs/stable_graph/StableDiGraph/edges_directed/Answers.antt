@@ -1,12 +1,11 @@
-use Rattle.std.proofs.Common.{sym, ap, subst, ◌∙◌, arith}
-use Rattle.daggy_stable.specs.Rest.{edges_left, IsOnFullList}
+use Rattle.std.proofs.Common.{ap, ◌∙◌, arith}
+use Rattle.daggy_stable.specs.Rest.{edges_left}
 use Rattle.daggy_stable.proofs.RestOfList.{IsOnFullList-begins, left_begins, left_few}
 use Rattle.daggy_stable.proofs.stable_graph.StableDiGraph.edges_directed.Goals as goal
 
 pub invariant_of-result : goal.invariant_of-result
 invariant_of-result g c =
-    subst (λ l. IsOnFullList g.Ix.IndexType.greatest c.args.dir l c.of_edge.result) (sym c.as_slice.ensures.value)
-    (IsOnFullList-begins c.self.invariant c.args.dir _ _
+    rw c.as_slice.ensures.value (IsOnFullList-begins c.self.invariant c.args.dir _ _
     (c.of_edge.ensures ∙ (rw (← c.self.view_is) at c.first_edge-first.ensures)))
 
 pub returns-clause-rest : goal.returns-clause-rest

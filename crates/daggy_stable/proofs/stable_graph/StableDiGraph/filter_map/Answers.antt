@@ -1,13 +1,10 @@
-use Rattle.std.proofs.Common.{map, take, sym, ap, subst, ◌∙◌, arith}
-use Rattle.daggy_base.specs.Graph.{node_bound, edge_bound, bound_of}
-use Rattle.daggy_base.specs.Filtering.{ListsDescend}
-use Rattle.daggy_base.specs.FilteringInPlace.{KeepsSlots}
-use Rattle.daggy_base.specs.Mapping.{weight_in, with_weight}
+use Rattle.std.proofs.Common.{map, sym, ap, ◌∙◌, arith}
+use Rattle.daggy_base.specs.Graph.{node_bound, edge_bound}
+use Rattle.daggy_base.specs.Mapping.{weight_in}
 use Rattle.daggy_stable.specs.Stored.{weight_of, plain_edge}
 use Rattle.daggy_stable.proofs.Stores.{nodes_long, edges_long, Stores-empty}
 use Rattle.daggy_base.proofs.SlotLists.{of_slots_descend}
 use Rattle.daggy_stable.proofs.KeptSlots.{slice_long, slice_few, slice_read, slice_joined}
-use Rattle.daggy_base.specs.CallsInTurn.{CanCallAtSlots, CanCallAtSomeSlots}
 use Rattle.daggy_base.proofs.CallsInTurn.{call_up_to, call_some_up_to}
 use Rattle.daggy_stable.proofs.stable_graph.StableDiGraph.filter_map.Goals as goal
 
@@ -44,45 +41,33 @@ filter_edges-requires-clause-few g c =
 
 pub filter_nodes-requires-clause-callable : goal.filter_nodes-requires-clause-callable
 filter_nodes-requires-clause-callable g c =
-    subst (CanCallAtSlots g.Ix.IndexType.of (goal.F-pre g) (goal.F-step g) (λ w. w) c.args.f)
-    (sym (slice_read weight_of c.self.inside.nodes.items c.deref.result.now _
-    (c.node_bound-node_bound.ensures ∙ sym (ap (λ s. node_bound s.graph) c.self.view_is)) c.deref.ensures.value))
+    rw (slice_read weight_of c.self.inside.nodes.items c.deref.result.now _
+    (c.node_bound-node_bound.ensures ∙ sym (ap (λ s. node_bound s.graph) c.self.view_is)) c.deref.ensures.value)
     (call_up_to g.Ix.IndexType.of (goal.F-pre g) (goal.F-step g) (λ w. w) c.args.f _
     (map weight_of c.self.inside.nodes.items)
     (rw (← c.self.view_is) at c.requires.nodes))
 
 pub filter_edges-requires-clause-callable : goal.filter_edges-requires-clause-callable
 filter_edges-requires-clause-callable g c =
-    subst (CanCallAtSomeSlots g.Ix.IndexType.of (goal.G-pre g) (goal.G-step g) weight_in c.args.g)
-    (sym (slice_read plain_edge c.self.inside.edges.items c.deref-2.result.now _
-    (c.edge_bound-edge_bound.ensures ∙ sym (ap (λ s. edge_bound s.graph) c.self.view_is)) c.deref-2.ensures.value))
+    rw (slice_read plain_edge c.self.inside.edges.items c.deref-2.result.now _
+    (c.edge_bound-edge_bound.ensures ∙ sym (ap (λ s. edge_bound s.graph) c.self.view_is)) c.deref-2.ensures.value)
     (call_some_up_to g.Ix.IndexType.of (goal.G-pre g) (goal.G-step g) weight_in c.args.g _
     (map plain_edge c.self.inside.edges.items)
     (rw (← c.self.view_is) at c.requires.edges))
 
 pub returns-clause-filtered : goal.returns-clause-filtered
 returns-clause-filtered g c =
-    let of = g.Ix.IndexType.of in
     let before = map weight_of c.filter_nodes.new.new.cells.items in
     let nodes = map weight_of c.filter_edges.new.nodes.cells.items in
     let edges = map plain_edge c.filter_edges.new.new.cells.items in
-    let cells = c.self.inside.nodes.items in
-    let rows = c.self.inside.edges.items in
     let nodes_read =
-    slice_read weight_of cells c.deref.result.now _
+    slice_read weight_of c.self.inside.nodes.items c.deref.result.now _
     (c.node_bound-node_bound.ensures ∙ sym (ap (λ s. node_bound s.graph) c.self.view_is)) c.deref.ensures.value in
     let edges_read =
-    slice_joined before nodes rows c.deref-2.result.now _ c.filter_edges.ensures.nodes
+    slice_joined before nodes c.self.inside.edges.items c.deref-2.result.now _ c.filter_edges.ensures.nodes
     (c.edge_bound-edge_bound.ensures ∙ sym (ap (λ s. edge_bound s.graph) c.self.view_is)) c.deref-2.ensures.value in
-    let kept =
-    subst (λ l. KeepsSlots (goal.F-step g) of (λ w. w) (λ w v. v) c.args.f 0 l before) nodes_read
-    c.filter_nodes.ensures.kept in
-    let kept_nodes =
-    subst (λ l. KeepsSlots (goal.F-step g) of (λ w. w) (λ w v. v) c.args.f 0
-    (take (bound_of (map weight_of cells)) (map weight_of cells)) l) (sym c.filter_edges.ensures.nodes) kept in
-    let kept_edges =
-    subst (λ l. KeepsSlots (goal.G-step g) of weight_in with_weight c.args.g 0 l edges) edges_read
-    c.filter_edges.ensures.kept in
+    let kept_nodes = rw (nodes_read, ← c.filter_edges.ensures.nodes) at c.filter_nodes.ensures.kept in
+    let kept_edges = rw edges_read at c.filter_edges.ensures.kept in
     rw (← c.self.view_is) (record {
       nodes = nodes;
       edges = edges;
@@ -92,7 +77,4 @@ returns-clause-filtered g c =
     })
 
 pub returns-clause-descending : goal.returns-clause-descending
-returns-clause-descending g c =
-    let nodes = map weight_of c.filter_edges.new.nodes.cells.items in
-    let edges = map plain_edge c.filter_edges.new.new.cells.items in
-    subst ListsDescend (sym (ap (λ s. s.graph) c.built.ensures)) (of_slots_descend nodes edges)
+returns-clause-descending g c = rw c.built.ensures (of_slots_descend _ _)

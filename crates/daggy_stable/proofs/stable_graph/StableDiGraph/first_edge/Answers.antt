@@ -1,4 +1,4 @@
-use Rattle.std.proofs.Common.{◌≡◌, ◌<◌, ◌≤◌, length, get_or, not, ap, ◌∙◌, arith}
+use Rattle.std.proofs.Common.{◌<◌, ◌≤◌, length, not, ap, ◌∙◌, arith}
 use Rattle.daggy_stable.proofs.Stores.{node_read, node_beyond, first_listed, none_listed}
 use Rattle.daggy_stable.proofs.ListSearches.{none_from, some_from}
 use Rattle.daggy_stable.proofs.stable_graph.StableDiGraph.first_edge.Goals as goal
@@ -8,9 +8,7 @@ returns-then-is_none g c =
     let nodes = c.self.inside.nodes.items in
     let n = g.Ix.IndexType.number c.args.n in
     let x = c.in-Some.x.now in
-    let reads : x ≡ get_or nodes n x =
-    c.in-Some.ensures.lookup.1 ∙ ap (λ l. get_or l c.index.result x) c.deref.ensures.value
-    ∙ ap (λ i. get_or nodes i x) c.index.ensures.value in
+    let reads = rw c.index.ensures.value at (rw c.deref.ensures.value at c.in-Some.ensures.lookup.1) in
     let within : n < length nodes =
     omega (arith, c.in-Some.ensures.lookup.3.0, ap length c.deref.ensures.value, c.index.ensures.value) in
     let none = none_from x.weight (c.is_none.ensures ∙ ap not c.if-is_none.true) in
@@ -22,9 +20,7 @@ returns-else-is_none g c =
     let nodes = c.self.inside.nodes.items in
     let n = g.Ix.IndexType.number c.args.n in
     let x = c.in-Some.x.now in
-    let reads : x ≡ get_or nodes n x =
-    c.in-Some.ensures.lookup.1 ∙ ap (λ l. get_or l c.index.result x) c.deref.ensures.value
-    ∙ ap (λ i. get_or nodes i x) c.index.ensures.value in
+    let reads = rw c.index.ensures.value at (rw c.deref.ensures.value at c.in-Some.ensures.lookup.1) in
     let within : n < length nodes =
     omega (arith, c.in-Some.ensures.lookup.3.0, ap length c.deref.ensures.value, c.index.ensures.value) in
     let some = some_from x.weight (c.is_none.ensures ∙ ap not c.if-is_none.false) in

@@ -1,5 +1,4 @@
-use Rattle.std.proofs.Common.{rules, ◌≡◌, ◌<◌, length, ap, ◌∙◌, arith}
-use Rattle.daggy_base.specs.Graph.{edge_count}
+use Rattle.std.proofs.Common.{rules, ◌≡◌, length, ap, arith}
 use Rattle.daggy_base.specs.Adding.{with_edge}
 use Rattle.daggy_cells.proofs.States.{state_changed}
 use Rattle.daggy_stable.proofs.Stores.{stored_is, Stores-itself, edges_long}
@@ -27,31 +26,17 @@ pub invariant_of-self-2 : goal.invariant_of-self-2
 invariant_of-self-2 g c =
     let a_in = rw (← c.self.view_is) at c.requires.parent in
     let b_in = rw (← c.self.view_is) at c.requires.child in
-    let few : c.self.inside.edge_count < g.Ix.IndexType.greatest =
-    omega (
-      arith,
-      c.requires.index_left,
-      ap (λ s. edge_count s.graph) c.self.view_is,
-      c.self.invariant.edge_slots.counted,
-    ) in
     let new : c.new-e.result ≡ length c.self.inside.edges.items =
     omega (arith, c.new-e.ensures, c.len.ensures, ap length c.reserve.ensures.items) in
     let pushed = rw c.reserve.ensures.items at c.push_reserved.ensures.items in
     Stores-itself (edge_made_code c.self.invariant (record { parent = a_in; child = b_in }) c.of_node.ensures
     c.of_node-2.ensures (record { led = c.put_first-x.ensures.led; stored = c.put_first-x.ensures.edge }) new
-    (ap (λ s. s.graph.vacant_edges) c.self.view_is ∙ c.requires.none) few pushed)
+    (rw (← c.self.view_is) at c.requires.none) (rw (← c.self.view_is) at c.requires.index_left) pushed)
 
 pub returns-clause-added : goal.returns-clause-added
 returns-clause-added g c =
     let a_in = rw (← c.self.view_is) at c.requires.parent in
     let b_in = rw (← c.self.view_is) at c.requires.child in
-    let few : c.self.inside.edge_count < g.Ix.IndexType.greatest =
-    omega (
-      arith,
-      c.requires.index_left,
-      ap (λ s. edge_count s.graph) c.self.view_is,
-      c.self.invariant.edge_slots.counted,
-    ) in
     let new : c.new-e.result ≡ length c.self.inside.edges.items =
     omega (arith, c.new-e.ensures, c.len.ensures, ap length c.reserve.ensures.items) in
     let pushed = rw c.reserve.ensures.items at c.push_reserved.ensures.items in
@@ -59,7 +44,7 @@ returns-clause-added g c =
     (λ h. with_edge h (g.Ix.IndexType.number c.args.a) (g.Ix.IndexType.number c.args.b) c.args.weight) c.self.view_is
     (stored_is (edge_made_code c.self.invariant (record { parent = a_in; child = b_in }) c.of_node.ensures
     c.of_node-2.ensures (record { led = c.put_first-x.ensures.led; stored = c.put_first-x.ensures.edge }) new
-    (ap (λ s. s.graph.vacant_edges) c.self.view_is ∙ c.requires.none) few pushed))
+    (rw (← c.self.view_is) at c.requires.none) (rw (← c.self.view_is) at c.requires.index_left) pushed))
 
 pub new-e-requires : goal.new-e-requires
 new-e-requires g c =

@@ -1,4 +1,4 @@
-use Rattle.std.proofs.Common.{◌≡◌, arith, get_or, ap, ◌∙◌}
+use Rattle.std.proofs.Common.{arith, ap, ◌∙◌}
 use Rattle.daggy_base.specs.Graph.{edge_at}
 use Rattle.daggy_base.specs.Cursor.{cursor_after}
 use Rattle.daggy_stable.proofs.Stores.{some_is, edge_within, cursor_shown}
@@ -6,11 +6,9 @@ use Rattle.daggy_stable.proofs.stable_graph.StableDiGraph.next_edge.Goals as goa
 
 pub returns : goal.returns
 returns g c =
-    let edges = c.self.inside.edges.items in
     let e = g.Ix.IndexType.number c.args.e in
     let found = some_is _ (rw (← c.self.view_is) at c.requires) in
-    let reads : c.index-x.result.now ≡ get_or edges e c.index-x.result.now =
-    c.index-x.ensures ∙ ap (λ z. get_or edges z c.index-x.result.now) c.index.ensures.value in
+    let reads = rw c.index.ensures.value at c.index-x.ensures in
     c.edge.ensures.value ∙ c.next.ensures
     ∙ cursor_shown c.self.invariant c.args.dir e found.0 c.index-x.result.now found.1
     (edge_within c.self.invariant e found.0 found.1) reads

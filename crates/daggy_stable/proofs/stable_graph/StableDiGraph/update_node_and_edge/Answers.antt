@@ -3,7 +3,6 @@ use Rattle.daggy_base.specs.Graph.{node_weight}
 use Rattle.daggy_base.specs.Weights.{edge_weight, with_node_weight, with_edge_weight}
 use Rattle.daggy_cells.proofs.CellLemmas.{called_at}
 use Rattle.daggy_cells.proofs.States.{state_changed}
-use Rattle.daggy_stable.specs.Stored.{stored_graph}
 use Rattle.daggy_stable.proofs.Stores.{stored_is, Stores-itself}
 use Rattle.daggy_stable.proofs.TwoWeightLemmas.{both_updated, edge_stands, node_cell, edge_cell, still_some}
 use Rattle.daggy_stable.proofs.stable_graph.StableDiGraph.update_node_and_edge.Given.{Over}
@@ -65,7 +64,5 @@ returns g c =
     called_at r.first r.second r.first_left r.second_left
     (node_is g at.After-index_mut-x ∙ r.shows.0) (edge_is g at.After-index_mut-y ∙ r.shows.1)
     r.called
-    (state_changed _ (stored_graph g.Ix.IndexType.greatest c.self.inside.nodes.items c.self.inside.edges.items
-    c.self.inside.first_vacant_node c.self.inside.first_vacant_edge) _ _
-    (λ h. with_edge_weight (with_node_weight h n r.first_left.now) e r.second_left.now)
+    (state_changed _ _ _ _ (λ h. with_edge_weight (with_node_weight h n r.first_left.now) e r.second_left.now)
     c.self.view_is (stored_is stored))

@@ -4,7 +4,6 @@ use Rattle.daggy_cells.specs.Cells.{edge_of_weight}
 use Rattle.daggy_cells.proofs.CellLemmas.{called_at}
 use Rattle.daggy_cells.proofs.States.{state_changed}
 use Rattle.daggy_stable.specs.Cells.{edge_weight_in}
-use Rattle.daggy_stable.specs.Stored.{stored_graph}
 use Rattle.daggy_stable.proofs.Stores.{stored_is, Stores-itself}
 use Rattle.daggy_stable.proofs.TwoWeightLemmas.{edges_updated, edge_stands, edge_seen, slots_called, edge_weight_got}
 use Rattle.daggy_stable.proofs.TwoWeightLemmas.{still_some}
@@ -70,7 +69,6 @@ returns g c =
     (edge_seen c.self.invariant c.self.view_is c.index.ensures.value lent_is ∙ r.shows.0)
     (edge_seen c.self.invariant c.self.view_is c.index-2.ensures.value lent_is ∙ r.shows.1)
     r.called
-    (state_changed _ (stored_graph g.Ix.IndexType.greatest c.self.inside.nodes.items c.self.inside.edges.items
-    c.self.inside.first_vacant_node c.self.inside.first_vacant_edge) _ _
+    (state_changed _ _ _ _
     (λ h. with_edge_weight (with_edge_weight h a r.first_left.now) b r.second_left.now) c.self.view_is
     (stored_is stored))

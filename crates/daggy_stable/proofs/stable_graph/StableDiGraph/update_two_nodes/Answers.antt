@@ -4,7 +4,7 @@ use Rattle.daggy_cells.specs.Cells.{node_of_weight}
 use Rattle.daggy_cells.proofs.CellLemmas.{called_at}
 use Rattle.daggy_cells.proofs.States.{state_changed}
 use Rattle.daggy_stable.specs.Cells.{node_weight_in}
-use Rattle.daggy_stable.specs.Stored.{weight_of, stored_graph}
+use Rattle.daggy_stable.specs.Stored.{weight_of}
 use Rattle.daggy_stable.proofs.Stores.{stored_is, Stores-itself}
 use Rattle.daggy_stable.proofs.TwoWeightLemmas.{nodes_updated, node_stands, node_seen, slots_called, slot_got}
 use Rattle.daggy_stable.proofs.stable_graph.StableDiGraph.update_two_nodes.Goals as goal
@@ -69,7 +69,6 @@ returns g c =
     (node_seen c.self.invariant c.self.view_is c.index.ensures.value lent_is ∙ r.shows.0)
     (node_seen c.self.invariant c.self.view_is c.index-2.ensures.value lent_is ∙ r.shows.1)
     r.called
-    (state_changed _ (stored_graph g.Ix.IndexType.greatest c.self.inside.nodes.items c.self.inside.edges.items
-    c.self.inside.first_vacant_node c.self.inside.first_vacant_edge) _ _
+    (state_changed _ _ _ _
     (λ h. with_node_weight (with_node_weight h a r.first_left.now) b r.second_left.now) c.self.view_is
     (stored_is stored))

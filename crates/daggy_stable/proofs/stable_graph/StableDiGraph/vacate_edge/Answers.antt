@@ -1,12 +1,9 @@
 use Rattle.std.proofs.Common.{ap, ◌∙◌, arith}
-use Rattle.std.specs.Option.{option_map}
-use Rattle.daggy_base.specs.Graph.{edge_at}
 use Rattle.daggy_base.specs.Removal.{without_edge}
 use Rattle.daggy_base.specs.declared.kind.Kind.TheVariants.{Stable}
 use Rattle.daggy_cells.proofs.States.{state_changed}
 use Rattle.daggy_stable.proofs.Stores.{stored_is, Stores-itself}
-use Rattle.daggy_stable.proofs.StoredRemoval.{edges_some, ready_code, edge_inside, removed_weight}
-use Rattle.daggy_stable.proofs.StoredRemoval.{edge_removed_code}
+use Rattle.daggy_stable.proofs.StoredRemoval.{edges_some, ready_code, edge_inside, removed_weight, edge_removed_code}
 use Rattle.daggy_stable.proofs.stable_graph.StableDiGraph.vacate_edge.Goals as goal
 
 pub unlink-requires : goal.unlink-requires
@@ -35,10 +32,8 @@ invariant_of-self g c =
 pub returns-clause-value : goal.returns-clause-value
 returns-clause-value g c =
     let has = rw (← c.self.view_is, ← c.of_edge-link.ensures) at c.requires in
-    removed_weight c.self.invariant has c.unlink.ensures c.index.ensures.value
-    c.index_mut-x.ensures.value c.set_next.ensures c.take-weight.ensures.value
-    ∙ ap (λ s. option_map (λ z. z.weight) (edge_at s.graph c.of_edge-link.result)) c.self.view_is
-    ∙ ap (λ z. option_map (λ z. z.weight) (edge_at c.args.self.now.graph z)) c.of_edge-link.ensures
+    rw (← c.self.view_is, ← c.of_edge-link.ensures) (removed_weight c.self.invariant has c.unlink.ensures
+    c.index.ensures.value c.index_mut-x.ensures.value c.set_next.ensures c.take-weight.ensures.value)
 
 pub returns-clause-removed : goal.returns-clause-removed
 returns-clause-removed g c =

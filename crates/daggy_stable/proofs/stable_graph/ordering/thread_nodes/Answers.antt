@@ -1,13 +1,11 @@
-use Rattle.std.proofs.Common.{◌≡◌, ◌<◌, map, length, subst, ◌∙◌, arith}
-use Rattle.std.proofs.lemmas.List.{length-map}
+use Rattle.std.proofs.Common.{◌<◌, length, subst, arith}
 use Rattle.daggy_base.specs.declared.index.Direction.TheVariants.{Outgoing}
 use Rattle.daggy_base.specs.Orders.{numbers_of}
 use Rattle.daggy_cells.specs.Links.{CanThread}
 use Rattle.daggy_cells.proofs.ListOrders.{order_read}
 use Rattle.daggy_cells.proofs.RethreadedLists.{CanThread-as_long}
-use Rattle.daggy_stable.proofs.ListSearches.{none_from, some_from}
 use Rattle.daggy_stable.proofs.ListOrdersKept.{ordering_start, ordering_vacant, ordering_step, ordering_done}
-use Rattle.daggy_stable.proofs.ListOrdersKept.{order_left, row_is, read_slot, as_many_nodes, as_many_edges}
+use Rattle.daggy_stable.proofs.ListOrdersKept.{order_left, row_is, taken_at, as_many_nodes, as_many_edges}
 use Rattle.daggy_stable.proofs.stable_graph.ordering.thread_nodes.Goals as goal
 
 pub each-init : goal.each-init
@@ -15,25 +13,14 @@ each-init g c = ordering_start _ _ _ _
 
 pub each-preserved-then-is_none : goal.each-preserved-then-is_none
 each-preserved-then-is_none g c =
-    let inside : c.each.i < length c.each.nodes.items =
-    omega (arith, c.each-test.true, c.len-i-end.ensures, as_many_nodes _ _ _ _ c.each.invariant) in
-    let none =
-    read_slot _ _ _ _ c.each.invariant c.index.result.now inside c.index.ensures
-    ∙ none_from _ c.if-is_none.ensures in
-    ordering_vacant _ _ _ _ c.each.invariant inside none
+    ordering_vacant _ _ _ _ c.each.invariant c.index.result.now (omega (arith, c.each-test.true, c.len-i-end.ensures))
+    c.index.ensures c.if-is_none.ensures
 
 pub bounds-orders-next : goal.bounds-orders-next
 bounds-orders-next g c =
-    let inside : c.each.i < length c.each.nodes.items =
-    omega (arith, c.each-test.true, c.len-i-end.ensures, as_many_nodes _ _ _ _ c.each.invariant) in
-    let some = some_from _ c.if-is_none.ensures in
-    let at = read_slot _ _ _ _ c.each.invariant c.index.result.now inside c.index.ensures ∙ some.1 in
-    let orders = map (numbers_of g.Ix.IndexType.number) c.args.orders.now in
-    let many : length orders ≡ length c.args.orders.now =
-    length-map c.args.orders.now (numbers_of g.Ix.IndexType.number) in
-    let left = order_left _ _ _ _ c.each.invariant some.0 inside at (many ∙ c.requires.count) in
-    let within : c.each.next < length c.args.orders.now = omega (arith, left, many) in
-    within
+    let inside : c.each.i < length c.args.nodes.now.items = omega (arith, c.each-test.true, c.len-i-end.ensures) in
+    let some = taken_at _ _ _ _ c.each.invariant c.index.result.now inside c.index.ensures c.if-is_none.ensures in
+    order_left _ _ _ _ c.each.invariant some.0 inside some.1 c.requires.count
 
 pub thread_both-requires-clause-node : goal.thread_both-requires-clause-node
 thread_both-requires-clause-node g c =
@@ -41,36 +28,24 @@ thread_both-requires-clause-node g c =
 
 pub thread_both-requires-clause-lists : goal.thread_both-requires-clause-lists
 thread_both-requires-clause-lists g c =
-    let inside : c.each.i < length c.each.nodes.items =
-    omega (arith, c.each-test.true, c.len-i-end.ensures, as_many_nodes _ _ _ _ c.each.invariant) in
-    let some = some_from _ c.if-is_none.ensures in
-    let at = read_slot _ _ _ _ c.each.invariant c.index.result.now inside c.index.ensures ∙ some.1 in
-    let orders = map (numbers_of g.Ix.IndexType.number) c.args.orders.now in
-    let many : length orders ≡ length c.args.orders.now =
-    length-map c.args.orders.now (numbers_of g.Ix.IndexType.number) in
-    let left = order_left _ _ _ _ c.each.invariant some.0 inside at (many ∙ c.requires.count) in
-    let within : c.each.next < length c.args.orders.now = omega (arith, left, many) in
+    let inside : c.each.i < length c.args.nodes.now.items = omega (arith, c.each-test.true, c.len-i-end.ensures) in
+    let some = taken_at _ _ _ _ c.each.invariant c.index.result.now inside c.index.ensures c.if-is_none.ensures in
+    let within = order_left _ _ _ _ c.each.invariant some.0 inside some.1 c.requires.count in
     λ dir.
     let read =
     order_read g.Ix.IndexType.number dir c.args.orders.now c.each.next c.index-orders-next.result within
     c.index-orders-next.is in
-    let row = row_is _ _ _ _ c.each.invariant some.0 inside at dir _ read in
+    let row = row_is _ _ _ _ c.each.invariant some.0 inside some.1 dir _ read in
     CanThread-as_long _ _ _
     (subst (CanThread (length c.args.edges.now.items)) row ((c.requires.lists dir).each c.each.i))
     (as_many_edges _ _ _ _ c.each.invariant)
 
 pub each-preserved : goal.each-preserved
 each-preserved g c =
-    let inside : c.each.i < length c.each.nodes.items =
-    omega (arith, c.each-test.true, c.len-i-end.ensures, as_many_nodes _ _ _ _ c.each.invariant) in
-    let some = some_from _ c.if-is_none.ensures in
-    let at = read_slot _ _ _ _ c.each.invariant c.index.result.now inside c.index.ensures ∙ some.1 in
-    let orders = map (numbers_of g.Ix.IndexType.number) c.args.orders.now in
-    let many : length orders ≡ length c.args.orders.now =
-    length-map c.args.orders.now (numbers_of g.Ix.IndexType.number) in
-    let left = order_left _ _ _ _ c.each.invariant some.0 inside at (many ∙ c.requires.count) in
-    let within : c.each.next < length c.args.orders.now = omega (arith, left, many) in
-    ordering_step _ _ _ _ c.each.invariant some.0 inside at c.requires.lists
+    let inside : c.each.i < length c.args.nodes.now.items = omega (arith, c.each-test.true, c.len-i-end.ensures) in
+    let some = taken_at _ _ _ _ c.each.invariant c.index.result.now inside c.index.ensures c.if-is_none.ensures in
+    let within = order_left _ _ _ _ c.each.invariant some.0 inside some.1 c.requires.count in
+    ordering_step _ _ _ _ c.each.invariant some.0 inside some.1 c.requires.lists
     (numbers_of g.Ix.IndexType.number c.index-orders-next.result)
     (λ dir.
     order_read g.Ix.IndexType.number dir c.args.orders.now c.each.next c.index-orders-next.result within

@@ -1,8 +1,8 @@
-use Rattle.std.proofs.Common.{◌≡◌, ◌∷◌, ◌<◌, length, get_or, sym, ap, subst, ◌∙◌, arith, rules}
+use Rattle.std.proofs.Common.{◌∷◌, ◌<◌, length, sym, ap, ◌∙◌, arith, rules}
 use Rattle.daggy_cells.specs.Raw.{raw_next}
 use Rattle.daggy_cells.specs.Referring.{referred}
 use Rattle.daggy_cells.specs.Fields.{plain}
-use Rattle.daggy_cells.specs.Rest.{edges_left, IsOnList}
+use Rattle.daggy_cells.specs.Rest.{edges_left}
 use Rattle.daggy_cells.proofs.RestLemmas.{edges_past, IsOnList-step, at_index, edges_step}
 use Rattle.daggy_graph.proofs.graph.lists.EdgesIterator.next.Goals as goal
 
@@ -18,21 +18,16 @@ pub invariant_of-self : goal.invariant_of-self
 invariant_of-self g c =
     let within : c.self.inside.next < length c.self.inside.edges.now =
     omega (arith, c.if-i-self.false, c.index-i.ensures.value) in
-    let reads : c.index-self-i.result ≡ get_or c.self.inside.edges.now c.self.inside.next c.index-self-i.result =
-    c.index-self-i.is ∙ ap (λ z. get_or c.self.inside.edges.now z c.index-self-i.result) c.index-i.ensures.value in
-    let next : c.next-self-inside.result ≡ raw_next c.self.inside.dir c.index-self-i.result =
-    c.next-self-inside.ensures ∙ ap (raw_next c.self.inside.dir) (sym c.index-self-i.is) in
-    subst (IsOnList g.Ix.IndexType.greatest c.self.inside.dir c.self.inside.edges.now) (sym next)
-    (IsOnList-step _ _ _ _ c.index-self-i.result within reads c.self.invariant)
+    let reads = rw c.index-i.ensures.value at c.index-self-i.is in
+    let next = rw (← c.index-self-i.is) at c.next-self-inside.ensures in
+    rw next (IsOnList-step _ _ _ _ c.index-self-i.result within reads c.self.invariant)
 
 pub returns-clause-steps : goal.returns-clause-steps
 returns-clause-steps g c =
     let within : c.self.inside.next < length c.self.inside.edges.now =
     omega (arith, c.if-i-self.false, c.index-i.ensures.value) in
-    let reads : c.index-self-i.result ≡ get_or c.self.inside.edges.now c.self.inside.next c.index-self-i.result =
-    c.index-self-i.is ∙ ap (λ z. get_or c.self.inside.edges.now z c.index-self-i.result) c.index-i.ensures.value in
-    let next : c.next-self-inside.result ≡ raw_next c.self.inside.dir c.index-self-i.result =
-    c.next-self-inside.ensures ∙ ap (raw_next c.self.inside.dir) (sym c.index-self-i.is) in
+    let reads = rw c.index-i.ensures.value at c.index-self-i.is in
+    let next = rw (← c.index-self-i.is) at c.next-self-inside.ensures in
     let rest = edges_left c.self.inside.dir c.self.inside.edges.now in
     sym c.self.view_is
     ∙ edges_step g.Ix.IndexType.greatest c.self.inside.dir c.self.inside.edges.now c.self.inside.next

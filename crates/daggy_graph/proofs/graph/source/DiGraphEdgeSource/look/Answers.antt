@@ -1,4 +1,4 @@
-use Rattle.std.proofs.Common.{◌≡◌, ◌+◌, get_or, arith, ap, ◌∙◌}
+use Rattle.std.proofs.Common.{◌+◌, arith, ap, ◌∙◌}
 use Rattle.daggy_cells.specs.Fields.{plain}
 use Rattle.daggy_base.proofs.MappedSlots.{slot_within}
 use Rattle.daggy_graph.proofs.WellFormedLemmas.{look_shown}
@@ -9,8 +9,7 @@ returns-clause-gives g c =
     let edges = c.self.inside.edges.items in
     let e = g.Ix.IndexType.number c.args.e in
     let within = slot_within plain edges e (rw (← c.self.view_is) at c.requires) in
-    let reads : c.index-x.result.now ≡ get_or edges e c.index-x.result.now =
-    c.index-x.ensures ∙ ap (λ z. get_or edges z c.index-x.result.now) c.index.ensures.value in
+    let reads = rw c.index.ensures.value at c.index-x.ensures in
     rw (← c.self.view_is) (look_shown g.Ix.IndexType.greatest c.self.inside.nodes.items edges c.self.invariant e
     c.index-x.result.now within reads c.target.ensures c.next_edge.ensures)
 

@@ -1,7 +1,6 @@
 use Rattle.std.proofs.Common.{◌≡◌, ◌∷◌, ◌<◌, Some, IsSome, length, get_or, sym, ap, subst, ◌∙◌, arith, rules}
-use Rattle.daggy_cells.specs.Raw.{raw_next}
 use Rattle.daggy_cells.specs.Referring.{referred}
-use Rattle.daggy_stable.specs.Rest.{numbered_edge, edges_left, IsOnFullList}
+use Rattle.daggy_stable.specs.Rest.{numbered_edge, edges_left}
 use Rattle.daggy_stable.specs.Stored.{plain_edge}
 use Rattle.daggy_stable.proofs.RestOfList.{left_past, weight_there, IsOnFullList-step, left_step}
 use Rattle.daggy_stable.proofs.stable_graph.lists.EdgesIterator.next.Goals as goal
@@ -18,8 +17,7 @@ pub reference-requires : goal.reference-requires
 reference-requires g c =
     let within : c.self.inside.next < length c.self.inside.edges.now =
     omega (arith, c.if-i-self.false, c.index-i.ensures.value) in
-    let reads : c.index-self-i.result ≡ get_or c.self.inside.edges.now c.self.inside.next c.index-self-i.result =
-    c.index-self-i.is ∙ ap (λ z. get_or c.self.inside.edges.now z c.index-self-i.result) c.index-i.ensures.value in
+    let reads = rw c.index-i.ensures.value at c.index-self-i.is in
     subst (λ x. IsSome x.weight) c.index-self-i.is (weight_there c.self.inside.dir c.self.inside.edges.now
     g.Ix.IndexType.greatest c.self.inside.next c.index-self-i.result within reads c.self.invariant)
 
@@ -27,22 +25,17 @@ pub invariant_of-self : goal.invariant_of-self
 invariant_of-self g c =
     let within : c.self.inside.next < length c.self.inside.edges.now =
     omega (arith, c.if-i-self.false, c.index-i.ensures.value) in
-    let reads : c.index-self-i.result ≡ get_or c.self.inside.edges.now c.self.inside.next c.index-self-i.result =
-    c.index-self-i.is ∙ ap (λ z. get_or c.self.inside.edges.now z c.index-self-i.result) c.index-i.ensures.value in
-    let next : c.next-self-inside.result ≡ raw_next c.self.inside.dir c.index-self-i.result =
-    c.next-self-inside.ensures ∙ ap (raw_next c.self.inside.dir) (sym c.index-self-i.is) in
-    subst (IsOnFullList g.Ix.IndexType.greatest c.self.inside.dir c.self.inside.edges.now) (sym next)
-    (IsOnFullList-step c.self.inside.dir c.self.inside.edges.now g.Ix.IndexType.greatest c.self.inside.next
+    let reads = rw c.index-i.ensures.value at c.index-self-i.is in
+    let next = rw (← c.index-self-i.is) at c.next-self-inside.ensures in
+    rw next (IsOnFullList-step c.self.inside.dir c.self.inside.edges.now g.Ix.IndexType.greatest c.self.inside.next
     c.index-self-i.result within reads c.self.invariant)
 
 pub returns-clause-steps : goal.returns-clause-steps
 returns-clause-steps g c =
     let within : c.self.inside.next < length c.self.inside.edges.now =
     omega (arith, c.if-i-self.false, c.index-i.ensures.value) in
-    let reads : c.index-self-i.result ≡ get_or c.self.inside.edges.now c.self.inside.next c.index-self-i.result =
-    c.index-self-i.is ∙ ap (λ z. get_or c.self.inside.edges.now z c.index-self-i.result) c.index-i.ensures.value in
-    let next : c.next-self-inside.result ≡ raw_next c.self.inside.dir c.index-self-i.result =
-    c.next-self-inside.ensures ∙ ap (raw_next c.self.inside.dir) (sym c.index-self-i.is) in
+    let reads = rw c.index-i.ensures.value at c.index-self-i.is in
+    let next = rw (← c.index-self-i.is) at c.next-self-inside.ensures in
     let at : numbered_edge c.self.inside.next (plain_edge c.index-self-i.result)
     ≡ Some (referred g.Ix.IndexType.number c.reference.result) =
     ap (λ x. numbered_edge c.self.inside.next (plain_edge x)) c.index-self-i.is
