@@ -9,7 +9,7 @@ use Rattle.daggy_base.specs.Mapping.{weight_in, with_weight}
 use Rattle.daggy_json.specs.Restoring.{IsCopyAs, trimmed}
 use Rattle.daggy_json.proofs.MarkedLists.{row}
 use Rattle.daggy_json.proofs.CopiedSlots.{AreCopied, stands, copied_there, copied_after, copied_before, copied_none}
-use Rattle.daggy_json.proofs.CopiedSlots.{copied_length, copied_down, copied_bound, copied_front}
+use Rattle.daggy_json.proofs.CopiedSlots.{copied_length, copied_down, copied_bound, copied_cut}
 
 -- no cycle comes with nodes and edges that were there
 pub acyclic_again : {N E V W : Type 0} (old : Graph N E) (new : Graph V W) → ((n : ℕ) → HasNode new n → HasNode old n)
@@ -44,9 +44,8 @@ module _ {N E V W : Type 0} (node_as : N → V → Type 0) (edge_as : E → W �
   joined_was : (u v : ℕ) → AreJoined new u v → AreJoined old u v
   joined_was u v j =
       let m = edge_before j.0 _ j.2 in
-      let P : ℕ → Type 0 = λ z. AreJoined old z v in
-      let Q : ℕ → Type 0 = λ z. AreJoined old m.0.parent z in
-      subst P (ap (λ (y : Edge W). y.parent) m.3) (subst Q (ap (λ (y : Edge W). y.child) m.3) (j.0, m.0.weight, m.2))
+      subst (λ z. AreJoined old z v) (ap (λ (y : Edge W). y.parent) m.3)
+      (subst (λ z. AreJoined old m.0.parent z) (ap (λ (y : Edge W). y.child) m.3) (j.0, m.0.weight, m.2))
 
   pub copy_acyclic : IsAcyclic old → IsAcyclic new
   copy_acyclic = acyclic_again old new node_was joined_was
@@ -116,17 +115,8 @@ module _ {N E V W : Type 0} (node_as : N → V → Type 0) (edge_as : E → W �
   pub copy_trimmed : IsCopyAs node_as edge_as (trimmed old) (trimmed new)
   copy_trimmed =
       let nodes = copied_bound node_as (λ w. w) (λ w v. v) 0 old.nodes new.nodes copy.nodes in
-      let edges = copied_bound edge_as weight_in with_weight 0 old.edges new.edges copy.edges in
-      let P : ℕ → Type 0 = λ n.
-      AreCopied node_as (λ w. w) (λ w v. v) 0 (take (node_bound old) old.nodes) (take n new.nodes) in
-      let Q : ℕ → Type 0 = λ n.
-      AreCopied edge_as weight_in with_weight 0 (take (edge_bound old) old.edges) (take n new.edges) in
-      let front : P (node_bound new) =
-      subst P (sym nodes)
-      (copied_front node_as (λ w. w) (λ w v. v) (node_bound old) 0 old.nodes new.nodes copy.nodes) in
-      let front_edges : Q (edge_bound new) =
-      subst Q (sym edges)
-      (copied_front edge_as weight_in with_weight (edge_bound old) 0 old.edges new.edges copy.edges) in
+      let front = copied_cut node_as (λ w. w) (λ w v. v) 0 old.nodes new.nodes copy.nodes in
+      let front_edges = copied_cut edge_as weight_in with_weight 0 old.edges new.edges copy.edges in
       record {
         nodes = front;
         edges = front_edges;
@@ -151,18 +141,14 @@ module _ {W V U : Type 0} (first : W → V → Type 0) (second : V → U → Typ
     pub copied_through : (i : ℕ) (xs : List (Option A)) (ys : List (Option B)) (zs : List (Option C))
         → AreCopied first weight with i xs ys → AreCopied second weight_b with_b i ys zs
         → AreCopied both weight with_a i xs zs
-    copied_through i [] ys zs m n =
-        let P : List (Option B) → Type 0 = λ l. AreCopied second weight_b with_b i l zs in subst P m n
+    copied_through i [] ys zs m n = rw m at n
     copied_through i (None ∷ xs) ys zs (later, is, more) n =
-        let P : List (Option B) → Type 0 = λ l. AreCopied second weight_b with_b i l zs in
-        let m = subst P is n in
+        let m = rw is at n in
         (m.0, m.1, copied_through (i + 1) xs later m.0 more m.2)
     copied_through i (Some x ∷ xs) ys zs (v, next, called, later, is, more) n =
-        let P : List (Option B) → Type 0 = λ l. AreCopied second weight_b with_b i l zs in
-        let m = subst P is n in
-        let shown : second v m.0 =
-        subst (λ k. second k m.0) (m.2.shows ∙ given x v) m.2.called in
-        let here : first (weight x) v = subst (λ k. first k v) called.shows called.called in (
+        let m = rw is at n in
+        let shown = rw (m.2.shows ∙ given x v) at m.2.called in
+        let here = rw called.shows at called.called in (
           m.0,
           tt,
           stands both weight with_a (weight x) m.0 i (through (weight x) v m.0 here shown),
@@ -216,8 +202,7 @@ copy_weaker node_as node_less edge_as edge_less nodes edges g h copy =
     copied_weaker more less weaker weight with i (Some x ∷ xs) ys (v, next, called, later, is, rest) = (
       v,
       tt,
-      stands less weight with (weight x) v i
-          (weaker (weight x) v (subst (λ k. more k v) called.shows called.called)),
+      stands less weight with (weight x) v i (weaker (weight x) v (rw called.shows at called.called)),
       later,
       is,
       copied_weaker more less weaker weight with (i + 1) xs later rest,

@@ -49,15 +49,11 @@ module _ {A B W V : Type 0} (weight_as : W → V → Type 0) (weight : A → W) 
       → AreCopied i xs ys → (k : ℕ) → PlaceAs (slice_get xs k) (slice_get ys k)
   copied_at i [] ys m k = ap (λ l. slice_get l k) m
   copied_at i (None ∷ xs) ys (later, is, more) zero = (None, refl, ap (λ l. slice_get l zero) is)
-  copied_at i (None ∷ xs) ys (later, is, more) (suc k) =
-      subst (PlaceAs (slice_get xs k)) (ap (λ l. slice_get l (suc k)) (sym is)) (copied_at (i + 1) xs later more k)
-  copied_at i (Some x ∷ xs) ys (v, next, called, later, is, more) zero = (
-    Some (with x v),
-    (v, subst (λ w. weight_as w v) called.shows called.called, refl),
-    ap (λ l. slice_get l zero) is,
-  )
+  copied_at i (None ∷ xs) ys (later, is, more) (suc k) = rw is (copied_at (i + 1) xs later more k)
+  copied_at i (Some x ∷ xs) ys (v, next, called, later, is, more) zero =
+      (Some (with x v), (v, rw called.shows at called.called, refl), ap (λ l. slice_get l zero) is)
   copied_at i (Some x ∷ xs) ys (v, next, called, later, is, more) (suc k) =
-      subst (PlaceAs (slice_get xs k)) (ap (λ l. slice_get l (suc k)) (sym is)) (copied_at (i + 1) xs later more k)
+      rw is (copied_at (i + 1) xs later more k)
 
   there_at : (p : Option (Option A)) (q : Option (Option B)) → PlaceAs p q
       → is_some (option_and_then (λ z. z) q) ≡ is_some (option_and_then (λ z. z) p)
@@ -124,19 +120,15 @@ module _ {A B W V : Type 0} (weight_as : W → V → Type 0) (weight : A → W) 
   pub copied_numbers : (i : ℕ) (xs : List (Option A)) (ys : List (Option B))
       → AreCopied i xs ys → map (λ p. p.0) (numbered i ys) ≡ map (λ p. p.0) (numbered i xs)
   copied_numbers i [] ys m = ap (λ (l : List (Option B)). map (λ p. p.0) (numbered i l)) m
-  copied_numbers i (None ∷ xs) ys (later, is, more) =
-      ap (λ (l : List (Option B)). map (λ p. p.0) (numbered i l)) is ∙ copied_numbers (i + 1) xs later more
+  copied_numbers i (None ∷ xs) ys (later, is, more) = rw is (copied_numbers (i + 1) xs later more)
   copied_numbers i (Some x ∷ xs) ys (v, next, called, later, is, more) =
-      ap (λ (l : List (Option B)). map (λ p. p.0) (numbered i l)) is
-      ∙ ap (λ l. i ∷ l) (copied_numbers (i + 1) xs later more)
+      rw is (ap (λ l. i ∷ l) (copied_numbers (i + 1) xs later more))
 
   pub copied_vacant : (i : ℕ) (xs : List (Option A)) (ys : List (Option B))
       → AreCopied i xs ys → vacant_from i ys ≡ vacant_from i xs
   copied_vacant i [] ys m = ap (vacant_from i) m
-  copied_vacant i (None ∷ xs) ys (later, is, more) =
-      ap (vacant_from i) is ∙ ap (λ l. i ∷ l) (copied_vacant (i + 1) xs later more)
-  copied_vacant i (Some x ∷ xs) ys (v, next, called, later, is, more) =
-      ap (vacant_from i) is ∙ copied_vacant (i + 1) xs later more
+  copied_vacant i (None ∷ xs) ys (later, is, more) = rw is (ap (λ l. i ∷ l) (copied_vacant (i + 1) xs later more))
+  copied_vacant i (Some x ∷ xs) ys (v, next, called, later, is, more) = rw is (copied_vacant (i + 1) xs later more)
 
   pub copied_down : (i : ℕ) (xs : List (Option A)) (ys : List (Option B))
       → AreCopied i xs ys → vacant_down ys ≡ vacant_down xs
@@ -170,17 +162,20 @@ module _ {A B W V : Type 0} (weight_as : W → V → Type 0) (weight : A → W) 
   copied_front (suc n) i (Some x ∷ xs) ys (v, next, called, later, is, more) =
       (v, next, called, take n later, ap (take (suc n)) is, copied_front n (i + 1) xs later more)
 
+  pub copied_cut : (i : ℕ) (xs : List (Option A)) (ys : List (Option B))
+      → AreCopied i xs ys → AreCopied i (take (bound_of xs) xs) (take (bound_of ys) ys)
+  copied_cut i xs ys m = rw (copied_bound i xs ys m) (copied_front (bound_of xs) i xs ys m)
+
   -- what is held stands for something
   module _ (weight_of : B → V) (given : (x : A) (v : V) → weight_of (with x v) ≡ v) where
     pub copied_from : (i : ℕ) (xs : List (Option A)) (ys : List (Option B)) → AreCopied i xs ys → (v : V)
         → Contains (map (λ p. weight_of p.1) (numbered i ys)) v → (w : W) × weight_as w v
     copied_from i [] ys m v c =
-        let none : Contains [] v = subst (λ l. Contains (map (λ p. weight_of p.1) (numbered i l)) v) m c in
-        let within = none.1 in absurd (omega (arith, within))
+        let none = rw m at c in let within = none.1 in absurd (omega (arith, within))
     copied_from i (None ∷ xs) ys (later, is, more) v c =
-        copied_from (i + 1) xs later more v (subst (λ l. Contains (map (λ p. weight_of p.1) (numbered i l)) v) is c)
+        copied_from (i + 1) xs later more v (rw is at c)
     copied_from i (Some x ∷ xs) ys (u, next, called, later, is, more) v c =
-        go (copied_from (i + 1) xs later more v) (subst (λ l. Contains (map (λ p. weight_of p.1) (numbered i l)) v) is c)
+        go (copied_from (i + 1) xs later more v) (rw is at c)
       where
         go : (Contains (map (λ p. weight_of p.1) (numbered (i + 1) later)) v → (w : W) × weight_as w v)
             → Contains (weight_of (with x u) ∷ map (λ p. weight_of p.1) (numbered (i + 1) later)) v

@@ -6,7 +6,8 @@ use Rattle.std.proofs.Common.{length-drop}
 use Rattle.std.specs.Prelude.{◌⊎◌, Contains}
 use Rattle.std.specs.Option.{option_map}
 use Rattle.std.proofs.lemmas.Bool.{false≢true, cases_eq, cases_lt}
-use Rattle.std.proofs.lemmas.List.{get_or-set_other, get_or-set_same, drop_all}
+use Rattle.std.proofs.Math.ListN.{get_or-map}
+use Rattle.std.proofs.lemmas.List.{get_or-set_other, get_or-set_same, get_or_default, drop_all}
 use Rattle.std.proofs.lemmas.List.Sums.{sum_by-cons}
 use Rattle.daggy_base.specs.WellFormed.{AreDistinct}
 use Rattle.daggy_base.specs.Graph.{slot}
@@ -117,11 +118,11 @@ marks_come m (a ∷ es) low e c =
 abbrev pub row : List (List ℕ) → ℕ → List ℕ
 row lists n = unwrap_or (slice_get lists n) []
 
-at_next : (P : ℕ → ℕ → Bool) (i j e : ℕ) → P (i + 1 + j) e ≡ true → P (i + suc j) e ≡ true
-at_next P i j e h = ap (λ k. P k e) (let q : i + suc j ≡ i + 1 + j = omega arith in q) ∙ h
+at_next : (P : ℕ → ℕ → Bool) (i j e : ℕ) → P (i + suc j) e ≡ P (i + 1 + j) e
+at_next P i j e = ap (λ k. P k e) (let q : i + suc j ≡ i + 1 + j = omega arith in q)
 
-at_here : (P : ℕ → ℕ → Bool) (i e : ℕ) → P i e ≡ true → P (i + 0) e ≡ true
-at_here P i e h = ap (λ k. P k e) (let q : i + 0 ≡ i = omega arith in q) ∙ h
+at_here : (P : ℕ → ℕ → Bool) (i e : ℕ) → P (i + 0) e ≡ P i e
+at_here P i e = ap (λ k. P k e) (let q : i + 0 ≡ i = omega arith in q)
 
 pub count_none : {N : Type 0} (slots : List (Option N)) → count_by is_some (None ∷ slots) ≡ count_by is_some slots
 count_none slots = sum_by-cons (λ y. cond (is_some y) 1 0) None slots ∙ zero-add (count_by is_some slots)
@@ -161,7 +162,7 @@ module _ {N : Type 0} (P : ℕ → ℕ → Bool) where
             elim j as (λ j. IsSome (slot (None ∷ slots) j)
             → (e : ℕ) → Contains (row (lists_by_slots (None ∷ slots) lists) j) e → P (i + j) e ≡ true) [
               | zero ↦ λ s. absurd (false≢true s)
-              | suc k ↦ λ s e c. at_next P i k e (r.pass k s e c)
+              | suc k ↦ λ s e c. at_next P i k e ∙ r.pass k s e c
             ];
         once =
             λ j.
@@ -181,8 +182,8 @@ module _ {N : Type 0} (P : ℕ → ℕ → Bool) where
             λ j.
             elim j as (λ j. IsSome (slot (Some x ∷ slots) j)
             → (e : ℕ) → Contains (row (lists_by_slots (Some x ∷ slots) (l ∷ lists)) j) e → P (i + j) e ≡ true) [
-              | zero ↦ λ s e c. at_here P i e (marked_pass (P i) m l h.0 e c)
-              | suc k ↦ λ s e c. at_next P i k e (r.pass k s e c)
+              | zero ↦ λ s e c. at_here P i e ∙ marked_pass (P i) m l h.0 e c
+              | suc k ↦ λ s e c. at_next P i k e ∙ r.pass k s e c
             ];
         once =
             λ j.
@@ -243,36 +244,33 @@ module _ {N : Type 0} (P : ℕ → ℕ → Bool) where
   all_from one i m [] [] count r before = refl
   all_from one i m [] (l ∷ lists) count r before = absurd (omega arith)
   all_from one i m (None ∷ slots) lists count r before =
-      all_from one (i + 1) m slots lists (count ∙ count_none slots)
-      (record { pass = λ j s e c. back i j e (r.pass (suc j) s e c); once = λ j s. r.once (suc j) s }) (λ e h. let b =
-      before e h in (b.0, omega (arith, b.1), b.2))
-    where
-      back : (i j e : ℕ) → P (i + suc j) e ≡ true → P (i + 1 + j) e ≡ true
-      back i j e h = ap (λ k. P k e) (let q : i + 1 + j ≡ i + suc j = omega arith in q) ∙ h
+      all_from one (i + 1) m slots lists (count ∙ count_none slots) (record {
+        pass = λ j s e c. sym (at_next P i j e) ∙ r.pass (suc j) s e c;
+        once = λ j s. r.once (suc j) s;
+      }) (λ e h. let b = before e h in (b.0, omega (arith, b.1), b.2))
   all_from one i m (Some x ∷ slots) [] count r before = absurd (omega (arith, count, count_some x slots))
   all_from one i m (Some x ∷ slots) (l ∷ lists) count r before = (
-    marked_from (P i) m l (λ e c. here i e (r.pass 0 refl e c)) (r.once 0 refl) unmarked,
-    all_from one (i + 1) (marked_with m l) slots lists (omega (arith, count, count_some x slots))
-        (record { pass = λ j s e c. back i j e (r.pass (suc j) s e c); once = λ j s. r.once (suc j) s }) later,
+    marked_from (P i) m l here (r.once 0 refl) unmarked,
+    all_from one (i + 1) (marked_with m l) slots lists (omega (arith, count, count_some x slots)) (record {
+      pass = λ j s e c. sym (at_next P i j e) ∙ r.pass (suc j) s e c;
+      once = λ j s. r.once (suc j) s;
+    }) later,
   )
     where
-      back : (i j e : ℕ) → P (i + suc j) e ≡ true → P (i + 1 + j) e ≡ true
-      back i j e h = ap (λ k. P k e) (let q : i + 1 + j ≡ i + suc j = omega arith in q) ∙ h
-
-      here : (i e : ℕ) → P (i + 0) e ≡ true → P i e ≡ true
-      here i e h = ap (λ k. P k e) (let q : i ≡ i + 0 = omega arith in q) ∙ h
+      here : (e : ℕ) → Contains l e → P i e ≡ true
+      here e c = sym (at_here P i e) ∙ r.pass 0 refl e c
 
       unmarked : (e : ℕ) → Contains l e → get_or m e false ≡ false
       unmarked e c =
           is_false (get_or m e false) (λ t. let q = before e t in
-          let same : q.0 ≡ i = one q.0 i e q.2 (here i e (r.pass 0 refl e c)) in
-          absurd (omega (arith, q.1)))
+          let same = one q.0 i e q.2 (here e c) in
+          absurd (omega (arith, q.1, same)))
 
       later : (e : ℕ) → get_or (marked_with m l) e false ≡ true → (k : ℕ) × (k < i + 1) × (P k e ≡ true)
       later e h =
           elim (marks_came m l e h) [
             | inl old ↦ (let b = before e old in (b.0, omega (arith, b.1), b.2))
-            | inr new ↦ (i, omega arith, here i e (r.pass 0 refl e new))
+            | inr new ↦ (i, omega arith, here e new)
           ]
 
 -- ---- in the words of the loops
@@ -292,23 +290,17 @@ module _ {p : ℕ → Bool} {m₀ m : List Bool} {es : List ℕ} {i : ℕ} (s : 
   pub marked_on : i < length es → (e : ℕ) → e ≡ get_or es i e → p e ≡ true → get_or m e false ≡ false
       → (m' : List Bool) → m' ≡ set m e true → MarkedSoFar p m₀ es (i + 1) m'
   marked_on low e is pass fresh m' more =
-      let at = next_is low e is in
-      let P : List ℕ → Type 0 = λ k. Marked p m k in
-      let Q : List Bool → Type 0 = λ k. Marked p k (drop (i + 1) es) in
-      record {
-        forth = λ h. let q : Marked p m (e ∷ drop (i + 1) es) = subst P at (s.forth h) in subst Q (sym more) q.2;
-        back = λ h. let q : Marked p m (e ∷ drop (i + 1) es) = (pass, fresh, subst Q more h) in
-            s.back (subst P (sym at) q);
-        with_all = s.with_all ∙ (ap (marked_with m) at ∙ ap (λ k. marked_with k (drop (i + 1) es)) (sym more));
-        kept = ap length more ∙ (length-set m e true ∙ s.kept);
-      }
+      let next = next_is low e is in
+      rw more (record {
+        forth = λ h. let q = rw next at (s.forth h) in q.2;
+        back = λ h. s.back (rw next (pass, fresh, h));
+        with_all = rw next at s.with_all;
+        kept = length-set m e true ∙ s.kept;
+      })
 
   pub marked_wrong : i < length es → (e : ℕ) → e ≡ get_or es i e → ((p e ≡ true) × (get_or m e false ≡ false) → ⊥)
       → Marked p m₀ es → ⊥
-  marked_wrong low e is wrong h =
-      let P : List ℕ → Type 0 = λ k. Marked p m k in
-      let q : Marked p m (e ∷ drop (i + 1) es) = subst P (next_is low e is) (s.forth h) in
-      wrong (q.0, q.1)
+  marked_wrong low e is wrong h = let q = rw (next_is low e is) at (s.forth h) in wrong (q.0, q.1)
 
 -- the lists of the first n slots were marked
 pub record ListsSoFar {N : Type 0} (P : ℕ → ℕ → Bool) (m₀ : List Bool) (slots : List (Option N)) (lists : List (List ℕ))
@@ -332,65 +324,38 @@ module _ {N : Type 0} {P : ℕ → ℕ → Bool} {m₀ m : List Bool} {slots : L
       drop-cons lists passed l low
       ∙ (ap (λ k. k ∷ drop (suc passed) lists) (sym is) ∙ ap (λ k. l ∷ drop k lists) (sym (add-one passed)))
 
-  lists_skip : n < length slots → (o : Option N) → o ≡ get_or slots n o → is_some o ≡ false
-      → ListsSoFar P m₀ slots lists (n + 1) passed m
-  lists_skip low None is vacant =
-      let at = slot_at low None is in
-      let Q : List (Option N) → Type 0 = λ k. AllMarked P n m k (drop passed lists) in
-      record {
-        forth = λ h. let q : AllMarked P n m (None ∷ drop (n + 1) slots) (drop passed lists) = subst Q at (s.forth h) in
-            q;
-        back = λ h. let q : AllMarked P n m (None ∷ drop (n + 1) slots) (drop passed lists) = h in
-            s.back (subst Q (sym at) q);
-        with_all = s.with_all ∙ ap (λ k. marked_by m k (drop passed lists)) at;
+  pub lists_skipped : n < length slots → (o : Option N) → o ≡ get_or slots n o → is_some o ≡ false
+      → (passed' : ℕ) (m' : List Bool) → passed' ≡ passed → m' ≡ m → ListsSoFar P m₀ slots lists (n + 1) passed' m'
+  lists_skipped low None is vacant passed' m' same_passed same =
+      let next = slot_at low None is in
+      rw (same_passed, same) (record {
+        forth = λ h. rw next at (s.forth h);
+        back = λ h. s.back (rw next h);
+        with_all = rw next at s.with_all;
         kept = s.kept;
         within = s.within;
-      }
-  lists_skip low (Some x) is vacant = absurd (false≢true (sym vacant))
+      })
+  lists_skipped low (Some x) is vacant passed' m' same_passed same = absurd (false≢true (sym vacant))
 
   lists_on : n < length slots → (o : Option N) → o ≡ get_or slots n o → is_some o ≡ true → passed < length lists
       → {l : List ℕ} → l ≡ get_or lists passed l → Marked (P n) m l → {m' : List Bool} → m' ≡ marked_with m l
       → ListsSoFar P m₀ slots lists (n + 1) (passed + 1) m'
   lists_on low None is some more here marked after = absurd (false≢true some)
   lists_on low (Some x) is some more {l} here marked after =
-      let at = slot_at low (Some x) is in
-      let at_list = list_at more l here in
-      let Q : List (Option N) → Type 0 = λ k. AllMarked P n m k (drop passed lists) in
-      let R : List (List ℕ) → Type 0 = λ k. AllMarked P n m (Some x ∷ drop (n + 1) slots) k in
-      let T : List Bool → Type 0 = λ k. AllMarked P (n + 1) k (drop (n + 1) slots) (drop (passed + 1) lists) in
-      record {
-        forth = λ h.
-            let q : AllMarked P n m (Some x ∷ drop (n + 1) slots) (l ∷ drop (passed + 1) lists) =
-            subst R at_list (subst Q at (s.forth h)) in
-            subst T (sym after) q.1;
-        back = λ h.
-            let q : AllMarked P n m (Some x ∷ drop (n + 1) slots) (l ∷ drop (passed + 1) lists) = (
-              marked,
-              subst T after h,
-            ) in
-            s.back (subst Q (sym at) (subst R (sym at_list) q));
-        with_all =
-            s.with_all
-            ∙ (ap (λ k. marked_by m k (drop passed lists)) at
-            ∙ (ap (λ k. marked_by m (Some x ∷ drop (n + 1) slots) k) at_list
-            ∙ ap (λ k. marked_by k (drop (n + 1) slots) (drop (passed + 1) lists)) (sym after)));
-        kept = ap length after ∙ (long_marked m l ∙ s.kept);
+      let next = slot_at low (Some x) is in
+      let list = list_at more l here in
+      rw after (record {
+        forth = λ h. let q = rw (next, list) at (s.forth h) in q.1;
+        back = λ h. s.back (rw (next, list) (marked, h));
+        with_all = rw (next, list) at s.with_all;
+        kept = long_marked m l ∙ s.kept;
         within = omega arith;
-      }
-
-  pub lists_skipped : n < length slots → (o : Option N) → o ≡ get_or slots n o → is_some o ≡ false
-      → (passed' : ℕ) (m' : List Bool) → passed' ≡ passed → m' ≡ m → ListsSoFar P m₀ slots lists (n + 1) passed' m'
-  lists_skipped low o is vacant passed' m' same_passed same =
-      let R : ℕ → Type 0 = λ k. ListsSoFar P m₀ slots lists (n + 1) k m' in
-      let T : List Bool → Type 0 = λ k. ListsSoFar P m₀ slots lists (n + 1) passed k in
-      subst R (sym same_passed) (subst T (sym same) (lists_skip low o is vacant))
+      })
 
   pub lists_passed : n < length slots → {o : Option N} → o ≡ get_or slots n o → is_some o ≡ true → passed < length lists
       → {l : List ℕ} → l ≡ get_or lists passed l → Marked (P n) m l → {passed' : ℕ} {m' : List Bool}
       → passed' ≡ passed + 1 → m' ≡ marked_with m l → ListsSoFar P m₀ slots lists (n + 1) passed' m'
-  lists_passed low {o} is some more {l} here marked {passed'} {m'} next after =
-      let R : ℕ → Type 0 = λ k. ListsSoFar P m₀ slots lists (n + 1) k m' in
-      subst R (sym next) (lists_on low o is some more here marked after)
+  lists_passed low {o} is some more here marked next after = rw next (lists_on low o is some more here marked after)
 
   -- a list is missing, or can't be marked
   pub lists_wrong : n < length slots → (o : Option N) → o ≡ get_or slots n o → is_some o ≡ true
@@ -398,67 +363,39 @@ module _ {N : Type 0} {P : ℕ → ℕ → Bool} {m₀ m : List Bool} {slots : L
       → AllMarked P 0 m₀ slots lists → ⊥
   lists_wrong low None is some wrong h = absurd (false≢true some)
   lists_wrong low (Some x) is some wrong h =
-      let Q : List (Option N) → Type 0 = λ k. AllMarked P n m k (drop passed lists) in
-      let R : List (List ℕ) → Type 0 = λ k. AllMarked P n m (Some x ∷ drop (n + 1) slots) k in
-      let q : AllMarked P n m (Some x ∷ drop (n + 1) slots) (drop passed lists) =
-      subst Q (slot_at low (Some x) is) (s.forth h) in
+      let q = rw (slot_at low (Some x) is) at (s.forth h) in
       elim (cases_lt passed (length lists)) [
         | inl more ↦ (
-            let at = list_at more (get_or lists passed []) (get_or_any lists passed more) in
-            let r : AllMarked P n m (Some x ∷ drop (n + 1) slots) (get_or lists passed [] ∷ drop (passed + 1) lists) =
-            subst R at q in
-            wrong more (get_or lists passed []) (get_or_any lists passed more) r.0
+            let here = get_or_default lists passed [] (get_or lists passed []) more in
+            let r = rw (list_at more _ here) at q in
+            wrong more _ here r.0
             )
-        | inr over ↦
-            (let r : AllMarked P n m (Some x ∷ drop (n + 1) slots) [] = subst R (drop_all passed lists over) q in r)
+        | inr over ↦ rw (drop_all passed lists over) at q
       ]
-    where
-      get_or_any : (ls : List (List ℕ)) (k : ℕ) → k < length ls → get_or ls k [] ≡ get_or ls k (get_or ls k [])
-      get_or_any [] k low = absurd (omega arith)
-      get_or_any (y ∷ ls) zero low = refl
-      get_or_any (y ∷ ls) (suc k) low = get_or_any' ls k (get_or ls k []) (omega arith)
-        where
-          get_or_any' : (ls : List (List ℕ)) (k : ℕ) (d : List ℕ) → k < length ls → get_or ls k [] ≡ get_or ls k d
-          get_or_any' [] k d low = absurd (omega arith)
-          get_or_any' (y ∷ ls) zero d low = refl
-          get_or_any' (y ∷ ls) (suc k) d low = get_or_any' ls k d (omega arith)
 
   pub lists_whole : length slots ≤ n
       → (passed ≡ length lists → AllMarked P 0 m₀ slots lists × (m ≡ marked_by m₀ slots lists))
       × (AllMarked P 0 m₀ slots lists → passed ≡ length lists)
   lists_whole past =
-      let Q : List (Option N) → Type 0 = λ k. AllMarked P n m k (drop passed lists) in (
-        λ e. (
-            let none : drop passed lists ≡ [] = drop_all passed lists (omega arith) in
-            let q : AllMarked {N = N} P n m [] (drop passed lists) = none in (
-              s.back (subst Q (sym (drop_all n slots past)) q),
-              sym (s.with_all ∙ ap (λ k. marked_by m k (drop passed lists)) (drop_all n slots past)),
-            )
-            ),
-        λ h. (
-            let q : AllMarked {N = N} P n m [] (drop passed lists) = subst Q (drop_all n slots past) (s.forth h) in
-            let left : length (drop passed lists) ≡ 0 = ap length q in
-            omega (arith, length-drop passed lists, left, s.within)
-            ),
+      let end = drop_all n slots past in (
+        λ e.
+            let none = drop_all passed lists (omega arith) in
+            (s.back (rw end none), sym (rw end at s.with_all)),
+        λ h.
+            let none : drop passed lists ≡ [] = rw end at (s.forth h) in
+            omega (arith, length-drop passed lists, ap length none, s.within),
       )
 
 -- ---- what the code reads
 
 pub same_read : {A : Type 0} (xs : List A) (i : ℕ) (x y : A)
     → i < length xs → x ≡ get_or xs i x → y ≡ get_or xs i y → x ≡ y
-same_read [] i x y low here there = absurd (omega arith)
-same_read (z ∷ xs) zero x y low here there = here ∙ sym there
-same_read (z ∷ xs) (suc i) x y low here there = same_read xs i x y (omega arith) here there
-
-get_or_mapped : {A B : Type 0} (f : A → B) (xs : List A) (i : ℕ) (x : A) → get_or (map f xs) i (f x) ≡ f (get_or xs i x)
-get_or_mapped f [] i x = refl
-get_or_mapped f (y ∷ xs) zero x = refl
-get_or_mapped f (y ∷ xs) (suc i) x = get_or_mapped f xs i x
+same_read xs i x y low here there = here ∙ get_or_default xs i x y low ∙ sym there
 
 pub read_mapped : {A B : Type 0} (f : A → B) (xs : List A) (i : ℕ) (x : A) (e : B)
     → x ≡ get_or xs i x → e ≡ f x → e ≡ get_or (map f xs) i e
 read_mapped f xs i x e here is =
-    is ∙ (ap f here ∙ (sym (get_or_mapped f xs i x) ∙ ap (λ k. get_or (map f xs) i k) (sym is)))
+    is ∙ (ap f here ∙ (sym (get_or-map f xs i x) ∙ ap (λ k. get_or (map f xs) i k) (sym is)))
 
 pub read_twice : {A B C : Type 0} (f : A → B) (h : B → C) (xs : List A) (i : ℕ) (x : A) (e : C)
     → x ≡ get_or xs i x → e ≡ h (f x) → e ≡ get_or (map h (map f xs)) i e

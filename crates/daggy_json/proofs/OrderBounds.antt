@@ -4,7 +4,8 @@ use Rattle.std.proofs.Common.{List, [], ◌∷◌, length, map, count_by, cond, 
 use Rattle.std.proofs.Common.{arith}
 use Rattle.std.specs.Prelude.{Contains, option_and_then}
 use Rattle.std.specs.Option.{option_map}
-use Rattle.std.proofs.lemmas.Bool.{false≢true, cases_lt, lt-ltb}
+use Rattle.std.proofs.lemmas.Bool.{cases_lt, lt-ltb}
+use Rattle.std.proofs.lemmas.Option.{none-some}
 use Rattle.std.proofs.lemmas.List.{length-map}
 use Rattle.serde_json.specs.Data.{Data}
 use Rattle.daggy_base.specs.declared.index.Direction.{Direction}
@@ -46,11 +47,8 @@ module _ {A : Type 0} {strong weak : Data → Option A} {Past : A → Type 0} (n
           → strong d ≡ o → all_in strong ds ≡ p → option_and_then (λ x. option_map (λ r. x ∷ r) p) o ≡ Some xs
           → ((r : List A) → all_in strong ds ≡ Some r → all_in weak ds ≡ Some r)
           → option_and_then (λ x. option_map (λ r. x ∷ r) (all_in weak ds)) (weak d) ≡ Some xs
-      at None p is is' q rest = cc
-      at (Some x) None is is' q rest = cc
-      at (Some x) (Some r) is is' q rest =
-          ap (λ o. option_and_then (λ x. option_map (λ r. x ∷ r) (all_in weak ds)) o) (n.some d x is)
-          ∙ (ap (λ p. option_map (λ r. x ∷ r) p) (rest r is') ∙ q)
+      at (Some x) (Some r) is is' q rest = rw (n.some d x is, rest r is') q
+      at _ _ is is' q rest = cc
 
   all_past : (ds : List Data) (xs : List A) → all_in strong ds ≡ None → all_in weak ds ≡ Some xs → HasPast Past xs
   all_past [] xs h k = cc
@@ -62,8 +60,6 @@ module _ {A : Type 0} {strong weak : Data → Option A} {Past : A → Type 0} (n
           → option_and_then (λ x. option_map (λ r. x ∷ r) p) o ≡ None
           → option_and_then (λ x. option_map (λ r. x ∷ r) p') o' ≡ Some xs
           → ((r : List A) → all_in strong ds ≡ None → all_in weak ds ≡ Some r → HasPast Past r) → HasPast Past xs
-      at o None p p' give q k rest = cc
-      at o (Some y) p None give q k rest = cc
       at None (Some y) p (Some r) give q k rest =
           let same : y ∷ r ≡ xs = cc in
           subst (HasPast Past) same (0, y, refl, n.none d y give.strong_first give.weak_first)
@@ -71,17 +67,16 @@ module _ {A : Type 0} {strong weak : Data → Option A} {Past : A → Type 0} (n
           let same : y ∷ r ≡ xs = cc in
           let later = rest r give.strong_rest give.weak_rest in
           subst (HasPast Past) same (suc later.0, later.1, later.2, later.3)
-      at (Some x) (Some y) (Some z) (Some r) give q k rest = cc
+      at _ _ _ _ give q k rest = cc
 
   -- and the same of an array
   array_some : (d : Data) (xs : List A)
       → option_and_then (all_in strong) (array_in d) ≡ Some xs → option_and_then (all_in weak) (array_in d) ≡ Some xs
-  array_some d xs h = at (array_in d) h
-    where
-      at : (o : Option (List Data))
-          → option_and_then (all_in strong) o ≡ Some xs → option_and_then (all_in weak) o ≡ Some xs
-      at None q = q
-      at (Some ds) q = all_some ds xs q
+  array_some d xs =
+      elim (array_in d) as (λ o. option_and_then (all_in strong) o ≡ Some xs → option_and_then (all_in weak) o ≡ Some xs) [
+        | None ↦ λ q. q
+        | Some ds ↦ all_some ds xs
+      ]
 
   array_past : (d : Data) (xs : List A) → option_and_then (all_in strong) (array_in d) ≡ None
       → option_and_then (all_in weak) (array_in d) ≡ Some xs → HasPast Past xs
@@ -109,11 +104,7 @@ index_narrows bound = record {
         below false q = cc
 
     past : (x : ℕ) → cond (ltb x bound) (Some x) None ≡ None → bound ≤ x
-    past x h = elim (cases_lt x bound) [ inl a ↦ absurd (wrong (ltb x bound) (lt-ltb x bound a) h) | inr b ↦ b ]
-      where
-        wrong : (b : Bool) → b ≡ true → cond b (Some x) None ≡ None → ⊥
-        wrong true e q = cc
-        wrong false e q = false≢true e
+    past x h = elim (cases_lt x bound) [ inl a ↦ absurd (none-some x (sym (rw (lt-ltb x bound a) at h))) | inr b ↦ b ]
 
 -- an index past the bound, in one of the two lists
 abbrev RowPast : ℕ → List ℕ × List ℕ → Type 0
@@ -128,44 +119,34 @@ row_narrows bound = record { some = λ d x h. some_at (array_in d) x h; none = �
     some_two : (a b : Data) {x : List ℕ × List ℕ} (o p o' p' : Option (List ℕ))
         → ((r : List ℕ) → o ≡ Some r → o' ≡ Some r) → ((r : List ℕ) → p ≡ Some r → p' ≡ Some r) → both o p ≡ Some x
         → both o' p' ≡ Some x
-    some_two a b None p o' p' f g h = cc
-    some_two a b (Some r) None o' p' f g h = cc
-    some_two a b (Some r) (Some s) o' p' f g h =
-        ap (λ k. both k p') (f r refl) ∙ (ap (λ k. both (Some r) k) (g s refl) ∙ h)
+    some_two a b (Some r) (Some s) o' p' f g h = rw (f r refl, g s refl) h
+    some_two a b _ _ o' p' f g h = cc
 
     some_at : (o : Option (List Data)) (x : List ℕ × List ℕ)
         → option_and_then (row bound) o ≡ Some x → option_and_then pair o ≡ Some x
-    some_at None x h = h
-    some_at (Some []) x h = h
-    some_at (Some (a ∷ [])) x h = h
     some_at (Some (a ∷ b ∷ [])) x h =
         some_two a b (indices_in bound a) (indices_in bound b) (numbers_in a) (numbers_in b)
         (array_some (index_narrows bound) a) (array_some (index_narrows bound) b) h
-    some_at (Some (a ∷ b ∷ c ∷ ds)) x h = h
+    some_at _ x h = h
 
     none_two : (x : List ℕ × List ℕ) (o p o' p' : Option (List ℕ))
         → ((r : List ℕ) → o ≡ None → o' ≡ Some r → HasPast (λ e. bound ≤ e) r)
         → ((r : List ℕ) → p ≡ None → p' ≡ Some r → HasPast (λ e. bound ≤ e) r)
         → both o p ≡ None → both o' p' ≡ Some x → RowPast bound x
-    none_two x o p None p' f g h k = cc
-    none_two x o p (Some r) None f g h k = cc
     none_two x None p (Some r) (Some s) f g h k =
         let pair_is : List ℕ × List ℕ = (r, s) in
         let same : pair_is ≡ x = cc in subst (RowPast bound) same (Outgoing, f r refl refl)
     none_two x (Some o) None (Some r) (Some s) f g h k =
         let pair_is : List ℕ × List ℕ = (r, s) in
         let same : pair_is ≡ x = cc in subst (RowPast bound) same (Incoming, g s refl refl)
-    none_two x (Some o) (Some p) (Some r) (Some s) f g h k = cc
+    none_two x _ _ _ _ f g h k = cc
 
     none_at : (o : Option (List Data)) (x : List ℕ × List ℕ)
         → option_and_then (row bound) o ≡ None → option_and_then pair o ≡ Some x → RowPast bound x
-    none_at None x h k = cc
-    none_at (Some []) x h k = cc
-    none_at (Some (a ∷ [])) x h k = cc
     none_at (Some (a ∷ b ∷ [])) x h k =
         none_two x (indices_in bound a) (indices_in bound b) (numbers_in a) (numbers_in b)
         (array_past (index_narrows bound) a) (array_past (index_narrows bound) b) h k
-    none_at (Some (a ∷ b ∷ c ∷ ds)) x h k = cc
+    none_at _ x h k = cc
 
 -- ---- the orders
 

@@ -1,6 +1,6 @@
 -- The slots so far, where the weights and the holes are put together.
 use Rattle.std.proofs.Common.{◌≡◌, ℕ, suc, ◌+◌, ◌<◌, ◌≤◌, inl, inr, Option, Some, None, List, [], ◌∷◌, ◌++◌, length}
-use Rattle.std.proofs.Common.{get_or, take, drop, map, refl, sym, ap, subst, ◌∙◌, arith, add-one, add-zero, drop-cons}
+use Rattle.std.proofs.Common.{get_or, take, drop, map, refl, sym, ap, ◌∙◌, arith, add-one, add-zero, drop-cons}
 use Rattle.std.proofs.Common.{length-append, length-drop, append_assoc}
 use Rattle.std.proofs.lemmas.Bool.{cases_lt, false≢true}
 use Rattle.std.specs.Prelude.{◌↔◌, IsSome}
@@ -18,21 +18,15 @@ pub record Placed {N : Type 0} (holes : List ℕ) (weights : List N) (passed : �
   pub counted : length slots + length rest + length holes ≡ length weights + length holes + passed
   pub within : passed ≤ length holes
 
-placed_starts : {N : Type 0} (holes : List ℕ) (weights : List N)
-    → Ascend 0 (length weights + length holes) holes → Placed holes weights 0 [] weights
-placed_starts holes weights h = record {
+pub starts_at : {N : Type 0} (holes : List ℕ) (weights : List N) (slots : List (Option N)) (rest : List N)
+    → slots ≡ [] → rest ≡ weights → Ascend 0 (length weights + length holes) holes → Placed holes weights 0 slots rest
+starts_at holes weights slots rest none whole h = rw (none, whole) (record {
   vacant = refl;
   given = refl;
   ascend = h;
   counted = omega arith;
   within = omega arith;
-}
-
-pub starts_at : {N : Type 0} (holes : List ℕ) (weights : List N) (slots : List (Option N)) (rest : List N)
-    → slots ≡ [] → rest ≡ weights → Ascend 0 (length weights + length holes) holes → Placed holes weights 0 slots rest
-starts_at holes weights slots rest none whole h =
-    subst (λ k. Placed holes weights 0 k rest) (sym none)
-    (subst (λ k. Placed holes weights 0 [] k) (sym whole) (placed_starts holes weights h))
+})
 
 vacant_none : {N : Type 0} (i : ℕ) (xs : List (Option N))
     → vacant_from i (xs ++ None ∷ []) ≡ vacant_from i xs ++ (i + length xs) ∷ []
@@ -77,36 +71,26 @@ module _ {N : Type 0} {holes : List ℕ} {weights : List N} {passed : ℕ} {slot
   long : (o : Option N) (slots' : List (Option N)) → slots' ≡ slots ++ o ∷ [] → length slots' ≡ length slots + 1
   long o slots' more = ap length more ∙ length-append slots (o ∷ [])
 
-  pub hole_placed : (h : ℕ) → passed < length holes → h ≡ get_or holes passed 0 → h ≡ length slots
-      → (slots' : List (Option N)) → slots' ≡ slots ++ None ∷ [] → Placed holes weights (passed + 1) slots' rest
-  hole_placed h low is here slots' more =
-      let at : drop passed holes ≡ h ∷ drop (passed + 1) holes =
-      drop-cons holes passed 0 low
-      ∙ (ap (λ k. k ∷ drop (suc passed) holes) (sym is) ∙ ap (λ k. h ∷ drop k holes) (sym (add-one passed))) in
-      let P : List ℕ → Type 0 = λ k. Ascend (length slots) (length weights + length holes) k in
-      let a : Ascend (length slots) (length weights + length holes) (h ∷ drop (passed + 1) holes) =
-      subst P at s.ascend in
-      let l = long None slots' more in
-      let Q : ℕ → Type 0 = λ k. Ascend k (length weights + length holes) (drop (passed + 1) holes) in
-      let same : h + 1 ≡ length slots' = omega arith in
-      record {
-        vacant =
-            ap (vacant_from 0) more
-            ∙ (vacant_none 0 slots
-            ∙ (ap (λ k. k ++ (0 + length slots) ∷ []) s.vacant
-            ∙ (ap (λ k. take passed holes ++ k ∷ []) (let e : 0 + length slots ≡ get_or holes passed 0 = omega arith in
-            e)
-            ∙ sym (take_more holes passed 0 low))));
-        given =
-            ap (λ k. map (λ p. p.1) (numbered 0 k) ++ rest) more ∙ (ap (λ k. k ++ rest) (given_none 0 slots) ∙ s.given);
-        ascend = subst Q same a.2;
-        counted = omega (arith, s.counted, l);
-        within = omega arith;
-      }
-
   -- the hole that comes next
   next_hole : passed < length holes → drop passed holes ≡ get_or holes passed 0 ∷ drop (suc passed) holes
   next_hole low = drop-cons holes passed 0 low
+
+  pub hole_placed : (h : ℕ) → passed < length holes → h ≡ get_or holes passed 0 → h ≡ length slots
+      → (slots' : List (Option N)) → slots' ≡ slots ++ None ∷ [] → Placed holes weights (passed + 1) slots' rest
+  hole_placed h low is here slots' more =
+      let a = rw (next_hole low) at s.ascend in
+      let l = long None slots' more in
+      let next : length slots' ≡ get_or holes passed 0 + 1 = omega arith in
+      let e : 0 + length slots ≡ get_or holes passed 0 = omega arith in
+      record {
+        vacant =
+            rw (more, vacant_none 0 slots, s.vacant, take_more holes passed 0 low)
+            (ap (λ k. take passed holes ++ k ∷ []) e);
+        given = rw (more, given_none 0 slots) s.given;
+        ascend = rw (next, add-one passed) a.2;
+        counted = omega (arith, s.counted, l);
+        within = omega arith;
+      }
 
   left : length (drop passed holes) + passed ≡ length holes
   left = omega (arith, length-drop passed holes, s.within)
@@ -118,19 +102,13 @@ module _ {N : Type 0} {holes : List ℕ} {weights : List N} {passed : ℕ} {slot
   ascends_on other less =
       elim (cases_lt passed (length holes)) [
         | inl low ↦ (
-            let P : List ℕ → Type 0 = λ k. Ascend (length slots) (length weights + length holes) k in
-            let Q : List ℕ → Type 0 = λ k. Ascend (length slots + 1) (length weights + length holes) k in
+            let next = next_hole low in
             let a =
             above (length slots) (length weights + length holes) (get_or holes passed 0) (drop (suc passed) holes)
-            (subst P (next_hole low) s.ascend) (other low) in
-            let long_left : length (drop passed holes) ≡ length (get_or holes passed 0 ∷ drop (suc passed) holes) =
-            ap length (next_hole low) in
-            (subst Q (sym (next_hole low)) a.0, omega (arith, a.1, long_left, left, s.counted))
+            (rw next at s.ascend) (other low) in
+            (rw next a.0, omega (arith, a.1, ap length next, left, s.counted))
             )
-        | inr over ↦ (
-            let Q : List ℕ → Type 0 = λ k. Ascend (length slots + 1) (length weights + length holes) k in
-            (subst Q (sym (drop_all passed holes over)) tt, omega (arith, s.counted, s.within))
-            )
+        | inr over ↦ (rw (drop_all passed holes over) tt, omega (arith, s.counted, s.within))
       ]
 
   pub weight_placed : (o : Option N) (rest' : List N) (slots' : List (Option N))
@@ -143,16 +121,13 @@ module _ {N : Type 0} {holes : List ℕ} {weights : List N} {passed : ℕ} {slot
   weight_placed (Some w) rest' slots' other less empty is more =
       let l = long (Some w) slots' more in
       let a = ascends_on other less in
-      let Q : ℕ → Type 0 = λ k. Ascend k (length weights + length holes) (drop passed holes) in
       let shorter : length rest ≡ length rest' + 1 = ap length is ∙ sym (add-one (length rest')) in
       record {
         vacant = ap (vacant_from 0) more ∙ (vacant_some 0 slots w ∙ s.vacant);
         given =
-            ap (λ k. map (λ p. p.1) (numbered 0 k) ++ rest') more
-            ∙ (ap (λ k. k ++ rest') (given_some 0 slots w)
-            ∙ (append_assoc (map (λ p. p.1) (numbered 0 slots)) (w ∷ []) rest'
-            ∙ (ap (λ k. map (λ p. p.1) (numbered 0 slots) ++ k) (sym is) ∙ s.given)));
-        ascend = subst Q (sym l) a.0;
+            rw (more, given_some 0 slots w)
+            (append_assoc (map (λ p. p.1) (numbered 0 slots)) (w ∷ []) rest' ∙ rw is at s.given);
+        ascend = rw l a.0;
         counted = omega (arith, s.counted, l, shorter);
         within = s.within;
       }
@@ -161,10 +136,7 @@ module _ {N : Type 0} {holes : List ℕ} {weights : List N} {passed : ℕ} {slot
   placed_whole all =
       let none : length holes ≤ passed = elim (cases_lt passed (length holes)) [
         | inl low ↦ (
-            let P : List ℕ → Type 0 = λ k. Ascend (length slots) (length weights + length holes) k in
-            let a : Ascend (length slots) (length weights + length holes)
-            (get_or holes passed 0 ∷ drop (suc passed) holes) =
-            subst P (next_hole low) s.ascend in
+            let a = rw (next_hole low) at s.ascend in
             absurd (omega (arith, a.0, a.1, all))
             )
         | inr over ↦ over

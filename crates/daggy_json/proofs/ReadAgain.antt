@@ -13,8 +13,7 @@ use Rattle.daggy_json.specs.Reading.{Parts, parts_in, array_in, whole_in, all_in
 use Rattle.daggy_json.specs.Reading.{triple_in, ReadsEach, IsEntryRead, HasEnds}
 use Rattle.daggy_base.specs.Mapping.{weight_in, with_weight}
 use Rattle.daggy_json.specs.declared.error.ReadError.{ReadError}
-use Rattle.daggy_json.specs.declared.error.ReadError.TheVariants.{Shape, Property, Holes, Full, Weight, BadEndpoint}
-use Rattle.daggy_json.specs.declared.error.ReadError.TheVariants.{Orders, Cycle, Memory}
+use Rattle.daggy_json.specs.declared.error.ReadError.TheVariants.{Shape, Weight, BadEndpoint}
 use Rattle.daggy_json.proofs.CopiedSlots.{SlotAs}
 use Rattle.daggy_json.proofs.FoundParts.{list_of-items_of}
 use Rattle.daggy_json.proofs.MarkedLists.{row}
@@ -115,9 +114,8 @@ module _ {A B : Type 0} (reads : Data → Result B ReadError → Type 0) (stands
 pub zip_both : {A B : Type 0} (R : A → B → Type 0) (P : A → Type 0) (xs : List A) (ys : List B)
     → AllZip R xs ys → ((i : ℕ) (x : A) → slice_get xs i ≡ Some x → P x) → AllZip (λ x y. R x y × P x) xs ys
 zip_both R P [] [] w all = tt
-zip_both R P [] (y ∷ ys) w all = w
-zip_both R P (x ∷ xs) [] w all = w
 zip_both R P (x ∷ xs) (y ∷ ys) w all = ((w.0, all 0 x refl), zip_both R P xs ys w.1 (λ i z e. all (suc i) z e))
+zip_both R P _ _ w all = w
 
 -- ---- a weight and an entry
 
@@ -129,9 +127,6 @@ Through weight_as answers w v = (d : Data) × weight_as w d × answers d (Some v
 abbrev pub IsRefused : {W V : Type 0}
     → (weight_as : W → Data → Type 0) → (answers : Data → Option V → Type 0) → List W → Type 0
 IsRefused {W} weight_as answers ws = (w : W) × Contains ws w × (d : Data) × weight_as w d × answers d None
-
-abbrev edge_with : {E : Type 0} → ℕ → ℕ → E → Option (Edge E)
-edge_with a b w = Some (record { parent = a; child = b; weight = w })
 
 -- what an edge slot needs in order to be read
 abbrev pub CanBeRead : {N E : Type 0} → (stable : Bool) → List (Option N) → Option (Edge E) → Type 0
@@ -150,7 +145,7 @@ module _ {N E F : Type 0} (stable : Bool) (nodes : List (Option N)) (weight_as :
 
   null_read : (d : Data) (r : Result (Option (Edge E)) ReadError)
       → d ≡ null → stable ≡ true → IsEntryRead stable nodes answers d r → EntryRead None r
-  null_read d r is may says = go r (subst (λ k. IsEntryRead stable nodes answers k r) is says)
+  null_read d r is may says = go r (rw is at says)
     where
       go : (r : Result (Option (Edge E)) ReadError) → IsEntryRead stable nodes answers null r → EntryRead None r
       go (Ok None) s = refl
@@ -158,12 +153,7 @@ module _ {N E F : Type 0} (stable : Bool) (nodes : List (Option N)) (weight_as :
       go (Err Shape) s = absurd (s.1 (may, refl))
       go (Err BadEndpoint) s = let none : triple_in null ≡ None = refl in absurd cc
       go (Err Weight) s = let none : triple_in null ≡ None = refl in absurd cc
-      go (Err Property) s = absurd s
-      go (Err Holes) s = absurd s
-      go (Err Full) s = absurd s
-      go (Err Orders) s = absurd s
-      go (Err Cycle) s = absurd s
-      go (Err Memory) s = absurd s
+      go (Err _) s = absurd s
 
   edge_read : (x : Edge F) (w : Data) (r : Result (Option (Edge E)) ReadError)
       → weight_as x.weight w → HasEnds nodes (x.parent, x.child, w)
@@ -182,14 +172,9 @@ module _ {N E F : Type 0} (stable : Bool) (nodes : List (Option N)) (weight_as :
       one_edge p q v a e s =
           let old : ℕ × ℕ × Data = (x.parent, x.child, w) in
           let new : ℕ × ℕ × Data = (p, q, a) in
-          let whole_is : old ≡ new = cc in
-          let P : Data → Type 0 = λ k. answers k (Some v) in
-          let parent : p ≡ x.parent = ap (λ (t : ℕ × ℕ × Data). t.0) (sym whole_is) in
-          let child : q ≡ x.child = ap (λ (t : ℕ × ℕ × Data). t.1) (sym whole_is) in (
-            v,
-            (w, stands, subst P (ap (λ (t : ℕ × ℕ × Data). t.2) (sym whole_is)) s),
-            ap (λ k. edge_with k q v) parent ∙ ap (λ k. edge_with x.parent k v) child,
-          )
+          let same : new ≡ old = cc in
+          rw (ap (λ (t : ℕ × ℕ × Data). t.0) same, ap (λ (t : ℕ × ℕ × Data). t.1) same)
+          (v, (w, stands, rw (ap (λ (t : ℕ × ℕ × Data). t.2) same) at s), refl)
 
       go : (r : Result (Option (Edge E)) ReadError)
           → IsEntryRead stable nodes answers (listed (whole x.parent ∷ whole x.child ∷ w ∷ [])) r
@@ -203,20 +188,13 @@ module _ {N E F : Type 0} (stable : Bool) (nodes : List (Option N)) (weight_as :
       go (Err Weight) s =
           let same : triple_of ≡ Some s.0 = sym found ∙ s.1 in
           let whole_is : (x.parent, x.child, w) ≡ s.0 = cc in
-          let P : Data → Type 0 = λ k. answers k None in
-          (refl, (x, refl, w, stands, subst P (sym (ap (λ (t : ℕ × ℕ × Data). t.2) whole_is)) s.3))
-      go (Err Property) s = absurd s
-      go (Err Holes) s = absurd s
-      go (Err Full) s = absurd s
-      go (Err Orders) s = absurd s
-      go (Err Cycle) s = absurd s
-      go (Err Memory) s = absurd s
+          (refl, (x, refl, w, stands, rw (ap (λ (t : ℕ × ℕ × Data). t.2) (sym whole_is)) at s.3))
+      go (Err _) s = absurd s
 
   pub entry_read : (x : Option (Edge F)) (d : Data) (r : Result (Option (Edge E)) ReadError)
       → IsEntry weight_as x d × CanBeRead stable nodes x → IsEntryRead stable nodes answers d r → EntryRead x r
   entry_read None d r w says = null_read d r w.0 w.1 says
-  entry_read (Some x) d r w says =
-      edge_read x w.0.0 r w.0.1 w.1 (subst (λ k. IsEntryRead stable nodes answers k r) w.0.2 says)
+  entry_read (Some x) d r w says = edge_read x w.0.0 r w.0.1 w.1 (rw w.0.2 at says)
 
 -- ---- lists by slots
 
@@ -230,13 +208,11 @@ rows_again f i [] (l ∷ lists) long at empty = absurd (omega (arith, long))
 rows_again f i (x ∷ xs) [] long at empty = absurd (omega (arith, long))
 rows_again f i (None ∷ xs) (l ∷ lists) long at empty =
     let head : l ≡ [] = empty 0 (omega arith) refl in
-    ap (λ k. k ∷ lists_by_slots xs (map f (map (λ p. p.0) (numbered (i + 1) xs)))) (sym head)
-    ∙ ap (λ k. l ∷ k)
+    rw head (ap (λ k. [] ∷ k)
     (rows_again f (i + 1) xs lists (omega (arith, long)) (λ k s. ap f (let e : i + 1 + k ≡ i + suc k = omega arith in e)
-    ∙ at (suc k) s) (λ k low none. empty (suc k) (omega (arith, low)) none))
+    ∙ at (suc k) s) (λ k low none. empty (suc k) (omega (arith, low)) none)))
 rows_again f i (Some x ∷ xs) (l ∷ lists) long at empty =
     let head : f i ≡ l = ap f (let e : i ≡ i + 0 = omega arith in e) ∙ at 0 refl in
-    ap (λ k. k ∷ lists_by_slots xs (map f (map (λ p. p.0) (numbered (i + 1) xs)))) head
-    ∙ ap (λ k. l ∷ k)
+    rw head (ap (λ k. l ∷ k)
     (rows_again f (i + 1) xs lists (omega (arith, long)) (λ k s. ap f (let e : i + 1 + k ≡ i + suc k = omega arith in e)
-    ∙ at (suc k) s) (λ k low none. empty (suc k) (omega (arith, low)) none))
+    ∙ at (suc k) s) (λ k low none. empty (suc k) (omega (arith, low)) none)))

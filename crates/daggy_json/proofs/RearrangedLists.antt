@@ -130,7 +130,6 @@ module _ {E : Type 0} (dir : Direction) (edges : List (Option (Edge E))) where
           let none = replicate (length edges) false in
           let r = rows_are (has_end dir edges) 0 none nodes lists low_marks h.0 in
           let low = slot_low nodes n exists in
-          let P : List ℕ → Type 0 = λ k. IsOrder (list_at dir (graph_of_slots nodes edges) n) k in
           let start : (e : ℕ) → has_end dir edges (0 + n) e ≡ true → has_end dir edges n e ≡ true = λ e q.
           ap (λ k. has_end dir edges k e) (let z : n ≡ 0 + n = omega arith in z) ∙ q in
           let found : (e : ℕ)
@@ -146,7 +145,7 @@ module _ {E : Type 0} (dir : Direction) (edges : List (Option (Edge E))) where
                 subst (λ k. Contains (row (lists_by_slots nodes lists) k) e) (one_end new.0 n e there here) new.1.listed
                 )
           ] in
-          subst P (sym (ordered_at dir rows n)) (record {
+          rw (ordered_at dir rows n) (record {
             exact = λ e. (λ c. in_list_has n e low (start e (r.pass n exists e c)), found e);
             once = r.once n exists;
           })
@@ -168,8 +167,7 @@ module _ {E : Type 0} (dir : Direction) (edges : List (Option (Edge E))) where
           order_of : (n : ℕ) → IsSome (slot nodes n)
               → IsOrder (list_at dir (graph_of_slots nodes edges) n)
               (row (lists_by_slots nodes (map (chosen dir) rows)) n)
-          order_of n s = let P : List ℕ → Type 0 = λ k. IsOrder (list_at dir (graph_of_slots nodes edges) n) k in
-              subst P (ordered_at dir rows n) (orders n s)
+          order_of n s = rw (ordered_at dir rows n) at (orders n s)
 
           all : AllMarked (has_end dir edges) 0 (replicate (length edges) false) nodes (map (chosen dir) rows)
           all =

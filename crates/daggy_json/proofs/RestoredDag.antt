@@ -19,19 +19,18 @@ use Rattle.daggy_base.specs.WellFormed.{ListsEdges, IsWellFormed, IsDag}
 use Rattle.daggy_base.specs.Path.{IsAcyclic}
 use Rattle.daggy_base.specs.Iterating.{numbered, node_identifiers, node_weights, edge_weights}
 use Rattle.daggy_base.specs.Mapping.{weight_in, with_weight}
-use Rattle.daggy_base.specs.FromSlots.{graph_of_slots, has_end}
+use Rattle.daggy_base.specs.FromSlots.{graph_of_slots}
 use Rattle.daggy_base.specs.Orders.{lists_by_slots, with_orders, IsOrder, AreOrders}
 use Rattle.daggy_base.proofs.FullSlots.{IsFull, full_from}
 use Rattle.daggy_base.proofs.Lists.{Contains-here, slice_get-take}
 use Rattle.daggy_base.proofs.EdgeTakenBack.{same_graph}
 use Rattle.daggy_base.proofs.Copies.{copy_same}
 use Rattle.daggy_json.specs.Document.{listed, row_of, holes_of, IsEntry, IsDocumentOf}
-use Rattle.daggy_json.specs.Reading.{Parts, parts_in, AreHoles, AreFew, AreSlots, IsLaidOut, IsWeight}
+use Rattle.daggy_json.specs.Reading.{Parts, orders_in, parts_in, AreHoles, AreFew, AreSlots, IsLaidOut, IsWeight}
 use Rattle.daggy_json.specs.Reading.{IsEntryRead, IsOrdered, IsTested, Then, IsLinked, IsFilled, IsRead}
 use Rattle.daggy_json.specs.Restoring.{ReadsOnly, trimmed, IsCopyAs, ReadsTo, CanBeRefused, HasRefused}
 use Rattle.daggy_json.specs.declared.error.ReadError.{ReadError}
-use Rattle.daggy_json.specs.declared.error.ReadError.TheVariants.{Shape, Property, Holes, Full, Weight, BadEndpoint}
-use Rattle.daggy_json.specs.declared.error.ReadError.TheVariants.{Orders, Cycle, Memory}
+use Rattle.daggy_json.specs.declared.error.ReadError.TheVariants.{Shape, Property, Holes, Full, Weight, Memory}
 use Rattle.daggy_json.proofs.NumberedSlots.{numbered_bounded}
 use Rattle.daggy_json.proofs.MarkedLists.{row}
 use Rattle.daggy_json.proofs.RearrangedLists.{slot_low, end_some, end_is, in_list_has, in_list_ends}
@@ -67,9 +66,8 @@ nothing_in (x ∷ l) h = absurd (h x (Contains-here x l))
 zip_weaker : {A B : Type 0} (R S : A → B → Type 0)
     → ((x : A) (y : B) → R x y → S x y) → (xs : List A) (ys : List B) → AllZip R xs ys → AllZip S xs ys
 zip_weaker R S f [] [] z = z
-zip_weaker R S f [] (y ∷ ys) z = z
-zip_weaker R S f (x ∷ xs) [] z = z
 zip_weaker R S f (x ∷ xs) (y ∷ ys) z = (f x y z.0, zip_weaker R S f xs ys z.1)
+zip_weaker R S f _ _ z = z
 
 -- ---- the graph that is read
 
@@ -215,9 +213,8 @@ module _ {N E : Type 0} (limit : ℕ) (g : Graph N E) (w : IsWellFormed limit g)
                         let y =
                         copied_after edge_as weight_in with_weight 0 kept_edges edges copied_edges e x.0
                         (edge_kept e x.0 x.1) in
-                        let P : ℕ → Type 0 = λ k. has_end dir edges k e ≡ true in
                         in_list_has dir edges nodes n e low
-                        (subst P (near_again dir x.0 y.0 ∙ x.2) (end_is dir edges e (with_weight x.0 y.0) y.2)),
+                        (rw (sym x.2 ∙ sym (near_again dir x.0 y.0)) (end_is dir edges e (with_weight x.0 y.0) y.2)),
                     λ c. let y = end_some dir edges n e (in_list_ends dir edges nodes n e low c) in
                         let x =
                         copied_before edge_as weight_in with_weight 0 kept_edges edges copied_edges e y.0 y.1 in
@@ -236,12 +233,7 @@ no_layout_fault limit stable p directed holes few None s = refl
 no_layout_fault limit stable p directed holes few (Some Property) s = absurd (s directed)
 no_layout_fault limit stable p directed holes few (Some Holes) s = absurd (s.1 holes)
 no_layout_fault limit stable p directed holes few (Some Full) s = absurd (s.2 few)
-no_layout_fault limit stable p directed holes few (Some Shape) s = absurd s
-no_layout_fault limit stable p directed holes few (Some Weight) s = absurd s
-no_layout_fault limit stable p directed holes few (Some BadEndpoint) s = absurd s
-no_layout_fault limit stable p directed holes few (Some Orders) s = absurd s
-no_layout_fault limit stable p directed holes few (Some Cycle) s = absurd s
-no_layout_fault limit stable p directed holes few (Some Memory) s = absurd s
+no_layout_fault limit stable p directed holes few (Some _) s = absurd s
 
 -- the slots that are left of the edges hold no others
 edge_weight_in : {E : Type 0} (n i : ℕ) (xs : List (Option (Edge E))) (z : Edge E)
@@ -323,17 +315,13 @@ module _ {M F N E : Type 0} (limit : ℕ) (stable : Bool) (node_as : M → Data 
     ordered : (edges : List (Option (Edge E))) → AreCopied edge_weights_read weight_in with_weight 0 left_edges edges
         → (r : Result (Graph N E) ReadError)
         → Then (IsOrdered (graph_of_slots nodes edges) part.orders) IsTested r → IsReadAgain r
-    ordered edges copied_edges r t =
-        let Q : Option Data → Type 0 = λ o. IsOrdered (graph_of_slots nodes edges) o t.0 in go t.0 (subst Q ids t.1) t.2
+    ordered edges copied_edges r t = go t.0 t.1 t.2
       where
         whole_orders : List (List ℕ × List ℕ)
         whole_orders = orders limit g dag.well_formed
 
-        rows : Option Data
-        rows = Some (listed (map (row_of g) (map (λ p. p.0) (numbered 0 left))))
-
-        ids : part.orders ≡ rows
-        ids = ap (λ k. Some (listed (map (row_of g) (map (λ p. p.0) k)))) (sym (numbered_bounded 0 g.nodes))
+        again : orders_in (listed (map (row_of g) (node_identifiers g))) ≡ Some whole_orders
+        again = rw (numbered_bounded 0 g.nodes) (orders_again g _)
 
         copy : IsCopyAs weights_read edge_weights_read (trimmed g) (with_orders (graph_of_slots nodes edges) whole_orders)
         copy = made_copy limit g dag.well_formed weights_read edge_weights_read nodes copied edges copied_edges
@@ -341,21 +329,19 @@ module _ {M F N E : Type 0} (limit : ℕ) (stable : Bool) (node_as : M → Data 
         tested : (h : Graph N E)
             → h ≡ with_orders (graph_of_slots nodes edges) whole_orders → (r : Result (Graph N E) ReadError)
             → IsTested h r → IsReadAgain r
-        tested h same (Ok k) s =
-            subst (IsCopyAs weights_read edge_weights_read (trimmed g)) (sym (s.1 ∙ same)) copy
+        tested h same (Ok k) s = rw (s.1 ∙ same) copy
         tested h same (Err e) s =
             absurd (s.0 (subst IsAcyclic (sym same)
             (made_acyclic limit g dag.well_formed weights_read edge_weights_read nodes copied edges copied_edges
             dag.acyclic)))
 
-        go : (x : Result (Graph N E) ReadError) → IsOrdered (graph_of_slots nodes edges) rows x
+        go : (x : Result (Graph N E) ReadError) → IsOrdered (graph_of_slots nodes edges) part.orders x
             → MatchResult x (λ h. IsTested h r) (λ e. r ≡ Err e) → IsReadAgain r
         go (Ok h) s next =
-            let read : Some s.0 ≡ Some whole_orders = sym s.1 ∙ orders_again g _ in
-            let same : s.0 ≡ whole_orders = cc in
+            let same = same_Some s.0 whole_orders (sym s.1 ∙ again) in
             tested h (s.3 ∙ ap (with_orders (graph_of_slots nodes edges)) same) r next
         go (Err e) s next =
-            absurd (s.0 whole_orders (orders_again g _)
+            absurd (s.0 whole_orders again
             (orders_fit limit g dag.well_formed weights_read edge_weights_read nodes copied edges copied_edges))
 
     abbrev Reads : Data → Result (Option (Edge E)) ReadError → Type 0
@@ -387,17 +373,8 @@ module _ {M F N E : Type 0} (limit : ℕ) (stable : Bool) (node_as : M → Data 
         go (Err e) (z, has, (k, entry, reads)) next =
             let refused = entry_read stable nodes edge_as edge_answers z k (Err e) entry reads in
             let found = refused.1 in
-            let P : Option (Edge F) → Type 0 = λ o. Contains left_edges o in
-            subst IsReadAgain (sym next) (
-              refused.0,
-              inr (
-                found.0.weight,
-                edge_weight_in (edge_bound g) 0 g.edges found.0 (subst P found.1 has),
-                found.2,
-                found.3,
-                found.4,
-              ),
-            )
+            let listed_there = edge_weight_in (edge_bound g) 0 g.edges found.0 (rw found.1 at has) in
+            rw next (refused.0, inr (found.0.weight, listed_there, found.2, found.3, found.4))
 
   abbrev Staged : Result (Graph N E) ReadError → Parts → Option ReadError → Type 0
   Staged r p fault = MatchOption fault (IsFilled limit stable node_answers edge_answers p r) (λ e. r ≡ Err e)
@@ -428,13 +405,10 @@ module _ {M F N E : Type 0} (limit : ℕ) (stable : Bool) (node_as : M → Data 
           × IsLinked limit stable node_answers edge_answers part nodes r) (λ e. r ≡ Err e)
           → IsReadAgain r
       go (Ok ws) zip (nodes, slots, next) =
-          let P : List M → Type 0 = λ k. AllZip weights_read k (map (λ p. p.1) (numbered 0 nodes)) in
-          let Q : List N → Type 0 = λ k. AllZip weights_read (node_weights g) k in
-          let values : P (map (λ p. p.1) (numbered 0 left)) =
-          subst P (ap (map (λ p. p.1)) (sym (numbered_bounded 0 g.nodes))) (subst Q (sym slots.given) zip) in
-          linked nodes (copied_nodes weights_read 0 left nodes slots.vacant values) r next
+          linked nodes (copied_nodes weights_read 0 left nodes slots.vacant
+          (rw (numbered_bounded 0 g.nodes, slots.given) zip)) r next
       go (Err e) (w, has, (k, stands, (refused, weight))) next =
-          subst IsReadAgain (sym next) (weight, inl (w, has, k, stands, refused))
+          rw next (weight, inl (w, has, k, stands, refused))
 
 -- what was written of a dag is read as that dag, if each of its weights is read as it was
 pub restored : {N E : Type 0} (limit : ℕ) (stable : Bool) (node_answers : Data → Option N → Type 0)

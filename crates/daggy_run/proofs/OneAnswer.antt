@@ -53,10 +53,7 @@ module _ {N E : Type 0} (limit : ℕ) where
   same_node g weight (Node n) other fa fb s t = absurd t
   same_node g weight (Full (OfNode v)) (Memory w) fa fb s t = absurd fb
   same_node g weight (Full (OfNode v)) (Node m) fa fb s t = absurd (omega (arith, s.0, t.0))
-  same_node g weight (Full (OfNode v)) (Full (OfNode w)) fa fb s t = (
-    ap (λ x. Full (OfNode x)) (s.1 ∙ sym t.1),
-    s.2 ∙ sym t.2,
-  )
+  same_node g weight (Full (OfNode v)) (Full (OfNode w)) fa fb s t = (rw (s.1 ∙ sym t.1), s.2 ∙ sym t.2)
   same_node g weight (Full (OfNode v)) other fa fb s t = absurd t
   same_node g weight other b fa fb s t = absurd s
 
@@ -72,20 +69,14 @@ module _ {N E : Type 0} (limit : ℕ) where
   same_edge g x (Edge e) other fa fb s t = absurd t
   same_edge g x (Missing (OfEdge v)) (Memory w) fa fb s t = absurd fb
   same_edge g x (Missing (OfEdge v)) (Edge f) fa fb s t = absurd (s.0 t.0.0)
-  same_edge g x (Missing (OfEdge v)) (Missing (OfEdge w)) fa fb s t = (
-    ap (λ y. Missing (OfEdge y)) (s.1 ∙ sym t.1),
-    s.2 ∙ sym t.2,
-  )
+  same_edge g x (Missing (OfEdge v)) (Missing (OfEdge w)) fa fb s t = (rw (s.1 ∙ sym t.1), s.2 ∙ sym t.2)
   same_edge g x (Missing (OfEdge v)) (Full (OfEdge w)) fa fb s t = absurd (s.0 t.0.0)
   same_edge g x (Missing (OfEdge v)) (Cycle w) fa fb s t = absurd (s.0 t.0)
   same_edge g x (Missing (OfEdge v)) other fa fb s t = absurd t
   same_edge g x (Full (OfEdge v)) (Memory w) fa fb s t = absurd fb
   same_edge g x (Full (OfEdge v)) (Edge f) fa fb s t = absurd (omega (arith, s.0.1, t.0.1))
   same_edge g x (Full (OfEdge v)) (Missing (OfEdge w)) fa fb s t = absurd (t.0 s.0.0)
-  same_edge g x (Full (OfEdge v)) (Full (OfEdge w)) fa fb s t = (
-    ap (λ y. Full (OfEdge y)) (s.1 ∙ sym t.1),
-    s.2 ∙ sym t.2,
-  )
+  same_edge g x (Full (OfEdge v)) (Full (OfEdge w)) fa fb s t = (rw (s.1 ∙ sym t.1), s.2 ∙ sym t.2)
   same_edge g x (Full (OfEdge v)) (Cycle w) fa fb s t = absurd (omega (arith, s.0.1, t.1))
   same_edge g x (Full (OfEdge v)) other fa fb s t = absurd t
   same_edge g x (Cycle v) (Memory w) fa fb s t = absurd fb
@@ -111,8 +102,7 @@ module _ {N E : Type 0} (limit : ℕ) where
   same_neighbor g x (Memory w) b fa fb s t = absurd fa
   same_neighbor g x (EdgeNode e m) (Memory w) fa fb s t = absurd fb
   same_neighbor g x (EdgeNode e m) (EdgeNode f o) fa fb s t =
-      let one : e ≡ f = s.1 ∙ sym t.1 in
-      let other : m ≡ o = s.2 ∙ sym t.2 in (ap (λ y. EdgeNode y m) one ∙ ap (EdgeNode f) other, s.3 ∙ sym t.3)
+      (rw (s.1 ∙ sym t.1, s.2 ∙ sym t.2), s.3 ∙ sym t.3)
   same_neighbor g x (EdgeNode e m) (Missing (OfEdgeNode f w)) fa fb s t = absurd (t.0 s.0.0)
   same_neighbor g x (EdgeNode e m) (Full (OfEdgeNode f w)) fa fb s t =
       absurd (no_room limit _ _ s.0.1 s.0.2 t.1)
@@ -120,9 +110,7 @@ module _ {N E : Type 0} (limit : ℕ) where
   same_neighbor g x (Missing (OfEdgeNode e v)) (Memory w) fa fb s t = absurd fb
   same_neighbor g x (Missing (OfEdgeNode e v)) (EdgeNode f o) fa fb s t = absurd (s.0 t.0.0)
   same_neighbor g x (Missing (OfEdgeNode e v)) (Missing (OfEdgeNode f w)) fa fb s t =
-      let one : e ≡ f = s.1 ∙ sym t.1 in
-      let other : v ≡ w = s.2 ∙ sym t.2 in
-      (ap (λ y. Missing (OfEdgeNode y v)) one ∙ ap (λ y. Missing (OfEdgeNode f y)) other, s.3 ∙ sym t.3)
+      (rw (s.1 ∙ sym t.1, s.2 ∙ sym t.2), s.3 ∙ sym t.3)
   same_neighbor g x (Missing (OfEdgeNode e v)) (Full (OfEdgeNode f w)) fa fb s t = absurd (s.0 t.0)
   same_neighbor g x (Missing (OfEdgeNode e v)) other fa fb s t = absurd t
   same_neighbor g x (Full (OfEdgeNode e v)) (Memory w) fa fb s t = absurd fb
@@ -130,9 +118,7 @@ module _ {N E : Type 0} (limit : ℕ) where
       absurd (no_room limit _ _ t.0.1 t.0.2 s.1)
   same_neighbor g x (Full (OfEdgeNode e v)) (Missing (OfEdgeNode f w)) fa fb s t = absurd (t.0 s.0)
   same_neighbor g x (Full (OfEdgeNode e v)) (Full (OfEdgeNode f w)) fa fb s t =
-      let one : e ≡ f = s.2 ∙ sym t.2 in
-      let other : v ≡ w = s.3 ∙ sym t.3 in
-      (ap (λ y. Full (OfEdgeNode y v)) one ∙ ap (λ y. Full (OfEdgeNode f y)) other, s.4 ∙ sym t.4)
+      (rw (s.2 ∙ sym t.2, s.3 ∙ sym t.3), s.4 ∙ sym t.4)
   same_neighbor g x (Full (OfEdgeNode e v)) other fa fb s t = absurd t
   same_neighbor g x other b fa fb s t = absurd s
 
@@ -163,11 +149,10 @@ module _ {N E : Type 0} (limit : ℕ) where
   one_fault g (x ∷ front) (y ∷ other) behind rest {at} {it} same a b =
       let here : x ≡ y = cc in
       let there : front ++ at ∷ behind ≡ other ++ it ∷ rest = cc in
-      let P : NewEdge E → Type 0 = λ z. IsFaultAfter (with_edge g z.0 z.1 z.2) other it in
       let r =
       one_fault (with_edge g x.0 x.1 x.2) front other behind rest there
       (record { faultless = a.faultless.2; faulty = a.faulty })
-      (subst P (sym here) (record { faultless = b.faultless.2; faulty = b.faulty })) in
+      (rw here (record { faultless = b.faultless.2; faulty = b.faulty })) in
       record { fronts = ap (λ z. z ∷ front) here ∙ ap (λ zs. y ∷ zs) r.fronts; ats = r.ats }
 
   no_fault : (g : Graph N E) (edges front behind : List (NewEdge E)) (at : NewEdge E)
@@ -178,8 +163,7 @@ module _ {N E : Type 0} (limit : ℕ) where
   no_fault g (x ∷ edges) (y ∷ front) behind at same f a =
       let here : y ≡ x = cc in
       let there : edges ≡ front ++ at ∷ behind = cc in
-      let Q : NewEdge E → Type 0 = λ z. IsFaulty (with_edges (with_edge g z.0 z.1 z.2) front) at in
-      no_fault (with_edge g x.0 x.1 x.2) edges front behind at there f.2 (subst Q here a)
+      no_fault (with_edge g x.0 x.1 x.2) edges front behind at there f.2 (rw here at a)
 
   module _ (g : Graph N E) (edges : List (NewEdge E)) where
     -- two stops are at the same edge
@@ -205,9 +189,7 @@ module _ {N E : Type 0} (limit : ℕ) where
         → StopsAt limit g edges LacksEnd l ls → StopsAt limit g edges (LacksIndex limit) m bs → ⊥
     apart l m ls bs s t =
         let one = same_stop LacksEnd (LacksIndex limit) by_end by_index s t in
-        let P : List (NewEdge E) → Type 0 = λ front. LacksEnd (with_edges g front) s.at in
-        let Q : NewEdge E → Type 0 = λ at. LacksEnd (with_edges g t.front) at in
-        subst Q one.ats (subst P one.fronts s.cause) t.cause.0
+        let lacks = rw (one.fronts, one.ats) at s.cause in lacks t.cause.0
 
     faultless_no_end : (l : E) (ls : List E) → IsFaultless limit g edges → StopsAt limit g edges LacksEnd l ls → ⊥
     faultless_no_end l ls f s =
@@ -222,10 +204,7 @@ module _ {N E : Type 0} (limit : ℕ) where
         → FindsMemory a → FindsMemory b → IsBatchStep limit g edges a h → IsBatchStep limit g edges b k → Agree a b h k
     same_series (Memory w) b fa fb s t = absurd fa
     same_series (Edges es) (Memory w) fa fb s t = absurd fb
-    same_series (Edges es) (Edges fs) fa fb s t = (
-      ap Edges (s.indices_are ∙ sym t.indices_are),
-      s.added ∙ sym t.added,
-    )
+    same_series (Edges es) (Edges fs) fa fb s t = (rw (s.indices_are ∙ sym t.indices_are), s.added ∙ sym t.added)
     same_series (Edges es) (Missing (OfEdges l ls)) fa fb s t = absurd (faultless_no_end l ls s.faultless t.0)
     same_series (Edges es) (Full (OfEdges l ls)) fa fb s t = absurd (faultless_no_index l ls s.faultless t.0)
     same_series (Edges es) (CycleAll ws) fa fb s t = absurd (t.0.cyclic s.acyclic)
@@ -254,10 +233,7 @@ module _ {N E : Type 0} (limit : ℕ) where
     same_series (CycleAll vs) (Edges es) fa fb s t = absurd (s.0.cyclic t.acyclic)
     same_series (CycleAll vs) (Missing (OfEdges l ls)) fa fb s t = absurd (faultless_no_end l ls s.0.faultless t.0)
     same_series (CycleAll vs) (Full (OfEdges l ls)) fa fb s t = absurd (faultless_no_index l ls s.0.faultless t.0)
-    same_series (CycleAll vs) (CycleAll ws) fa fb s t = (
-      ap CycleAll (s.0.weights_are ∙ sym t.0.weights_are),
-      s.1 ∙ sym t.1,
-    )
+    same_series (CycleAll vs) (CycleAll ws) fa fb s t = (rw (s.0.weights_are ∙ sym t.0.weights_are), s.1 ∙ sym t.1)
     same_series (CycleAll vs) other fa fb s t = absurd t
     same_series other b fa fb s t = absurd s
 
@@ -317,13 +293,11 @@ module _ {N E : Type 0} (limit : ℕ) where
   same_step g (request.Edges edges) a b both fa fb s t = same_series g edges a b fa fb s t
   same_step g (request.Find u v) a b both fa fb s t = same_find g u v a b s t
   same_step g (request.Ends e) a b both fa fb s t = same_ends g e a b s t
-  same_step g (request.RemoveNode n) a b both fa fb s t = absurd both
-  same_step g (request.RemoveEdge e) a b both fa fb s t = absurd both
   same_step g (request.Children n) a b both fa fb s t = same_children g n a b fa fb s t
   same_step g (request.Parents n) a b both fa fb s t = same_parents g n a b fa fb s t
   same_step g request.ClearEdges a b both fa fb s t = same_clear_edges g a b s t
   same_step g request.Clear a b both fa fb s t = same_clear g a b s t
-  same_step g (request.Reduce roots) a b both fa fb s t = absurd both
+  same_step g other a b both fa fb s t = absurd both
 
   pub same_run : (g : Graph N E) (requests : List (Request N E)) (answers others : List (Answer N E)) {h k : Graph N E}
       → AllByRecursion IsForBothKinds requests → AllByRecursion FindsMemory answers → AllByRecursion FindsMemory others
@@ -332,13 +306,11 @@ module _ {N E : Type 0} (limit : ℕ) where
   same_run g [] [] [] both fa fb s t = (refl, t ∙ sym s)
   same_run g (q ∷ requests) (a ∷ answers) (b ∷ others) {h} {k} both fa fb s t =
       let here = same_step g q b a both.0 fb.0 fa.0 t.1 s.1 in
-      let P : Graph N E → Type 0 = λ mid. IsRun Compact limit mid requests others k in
-      let there = same_run s.0 requests answers others both.1 fa.1 fb.1 s.2 (subst P here.1 t.2) in
+      let there = same_run s.0 requests answers others both.1 fa.1 fb.1 s.2 (rw here.1 at t.2) in
       (ap (λ x. x ∷ others) here.0 ∙ ap (λ xs. a ∷ xs) there.0, there.1)
-  same_run g [] (a ∷ answers) others both fa fb s t = absurd s
-  same_run g [] [] (b ∷ others) both fa fb s t = absurd t
-  same_run g (q ∷ requests) [] others both fa fb s t = absurd s
-  same_run g (q ∷ requests) (a ∷ answers) [] both fa fb s t = absurd t
+  same_run g [] [] _ both fa fb s t = absurd t
+  same_run g (q ∷ requests) (a ∷ answers) _ both fa fb s t = absurd t
+  same_run g _ _ others both fa fb s t = absurd s
 
   -- what a run of a kind says, where memory is found, is what the compact kind says
   pub as_compact : (kind : Kind) (g : Graph N E) (requests : List (Request N E)) (answers : List (Answer N E))

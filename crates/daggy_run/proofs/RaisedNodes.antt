@@ -69,17 +69,13 @@ module _ (R R' : ℕ → ℕ → Type 0) (n c : ℕ) (keeps : (u v : ℕ) → R 
 
       noted : (v : ℕ) → 0 < slice_index levels' v → (v ≡ c) ⊎ (v ≡ c → ⊥)
           → IsLowest (λ u. R' u v × (slice_index levels' u + 1 ≡ slice_index levels' v)) (slice_index parents' v)
-      noted v high (inl e) =
-          let P : ℕ → Type 0 = λ z.
-          IsLowest (λ u. R' u z × (slice_index levels' u + 1 ≡ slice_index levels' z)) (slice_index parents' z) in
-          subst P (sym e) t.noted
+      noted v high (inl e) = rw e t.noted
       noted v high (inr d) =
           let same = same_levels v d in
           let old = f.found.noted v (omega arith) in
-          let P : ℕ → Type 0 = λ z. IsLowest (λ u. R' u v × (slice_index levels' u + 1 ≡ slice_index levels' v)) z in
           let p = slice_index parents v in
           let first : R' p v = keeps p v old.here.0 in
-          subst P (sym (same_parents v d)) (record {
+          rw (same_parents v d) (record {
             here = (first, omega (arith, old.here.1, same_levels p (no_parent p v first)));
             least = λ m h. elim (cases m v h.0) [
               | inl r ↦ old.least m (r, omega (arith, h.1, same_levels m (no_parent m v h.0)))
@@ -112,13 +108,12 @@ module _ (R R' : ℕ → ℕ → Type 0) (n c : ℕ) (keeps : (u v : ℕ) → R 
       let others : (v : ℕ) → (v ≡ c → ⊥) → slice_index now v ≡ slice_index levels v = λ v d.
       get_or-set_other levels c v level 0 d in
       let is : slice_index (set parents c n) c ≡ n = get_or-set_same parents c n 0 low_parent in
-      let P : ℕ → Type 0 = λ z. IsLowest (λ u. R' u c × (slice_index now u + 1 ≡ slice_index now c)) z in
       rw (h.1, h.2) (together most level levels parents now (set parents c n) f others
       (λ v d. get_or-set_other parents c v n 0 d) (record {
         up = omega (arith, h.0);
         reach = omega arith;
         few = omega (arith, f.low);
-        noted = subst P (sym is) (record {
+        noted = rw is (record {
           here = (here, omega (arith, f.level_is, others n (no_parent n c here)));
           least = λ m k. elim (cases m c k.0) [
             | inl r ↦ absurd (omega (arith, f.found.above m c r, others m (no_parent m c k.0), k.1, h.0))
@@ -128,14 +123,13 @@ module _ (R R' : ℕ → ℕ → Type 0) (n c : ℕ) (keeps : (u v : ℕ) → R 
       }))
   raised_more {most} {level} {levels} {parents} low low_parent f (inr (inl h)) =
       let is : slice_index (set parents c n) c ≡ n = get_or-set_same parents c n 0 low_parent in
-      let P : ℕ → Type 0 = λ z. IsLowest (λ u. R' u c × (slice_index levels u + 1 ≡ slice_index levels c)) z in
       let old = f.found.noted c (omega (arith, f.level_is, h.0)) in
       rw (h.2, h.3) (together most level levels parents levels (set parents c n) f (λ v d. refl)
       (λ v d. get_or-set_other parents c v n 0 d) (record {
         up = omega arith;
         reach = omega (arith, h.0);
         few = f.found.few c;
-        noted = subst P (sym is) (record {
+        noted = rw is (record {
           here = (here, omega (arith, f.level_is, h.0));
           least = λ m k. elim (cases m c k.0) [
             | inl r ↦ omega (arith, old.least m (r, k.1), h.1)
@@ -277,7 +271,6 @@ module _ {N E : Type 0} (end : ℕ) (g : Graph N E) (w : IsWellFormed end g) {n 
         } in
         let sizes = raised_parents level levels levels' parents' inside raised in
         let P : ℕ → Type 0 = λ z. Mem z (v ∷ s.met) in
-        let Q : ℕ → Type 0 = λ z. AreJoined g n z in
         record {
           passed = suc s.passed;
           met = v ∷ s.met;
@@ -286,7 +279,7 @@ module _ {N E : Type 0} (end : ℕ) (g : Graph N E) (w : IsWellFormed end g) {n 
           looked =
               looked_more end g w n s.passed e s.cursor here v next look P
               (λ j x lt a. inr (s.looked j x lt a)) (inl refl);
-          real = λ z m. elim m [ inl q ↦ subst Q (sym q) joined | inr b ↦ s.real z b ];
+          real = λ z m. elim m [ inl q ↦ rw q joined | inr b ↦ s.real z b ];
           found = λ waiting most nx before.
               raised_more (Half g n waiting s.met) (Half g n waiting (v ∷ s.met)) n v
               (λ a b r. elim r [ inl p ↦ inl p | inr q ↦ inr (q.0, inr q.1) ]) (inr (refl, inl refl))
@@ -297,7 +290,7 @@ module _ {N E : Type 0} (end : ℕ) (g : Graph N E) (w : IsWellFormed end g) {n 
               (λ b r. let waits : Contains waiting v = nx.children v joined in
               elim r [
                 | inl p ↦ p.1 (Contains-there n v waiting waits)
-                | inr q ↦ nx.once (let W : ℕ → Type 0 = λ z. Contains waiting z in subst W q.0 waits)
+                | inr q ↦ nx.once (rw q.0 at waits)
               ]) (omega (arith, s.levels_fit))
               (omega (arith, s.parents_fit)) (s.found waiting most nx before) raised;
           levels_fit = raised_levels n level v levels parents levels' parents' raised ∙ s.levels_fit;
@@ -315,12 +308,9 @@ module _ {N E : Type 0} (end : ℕ) (g : Graph N E) (w : IsWellFormed end g) {n 
         all_read end g w n s.passed e s.cursor s.within at P s.looked in
         same_pairs (Half g n waiting s.met) (IsPassed g waiting) (λ u v r. elim r [
           | inl p ↦ (p.0, λ k. p.1 (Contains-there n u waiting k))
-          | inr q ↦ (
-            let J : ℕ → Type 0 = λ z. AreJoined g z v in subst J (sym q.0) (s.real v q.1),
-            λ k. nx.once (let W : ℕ → Type 0 = λ z. Contains waiting z in subst W q.0 k),
-          )
+          | inr q ↦ (rw q.0 (s.real v q.1), λ k. nx.once (rw q.0 at k))
         ]) (λ u v p. elim (cases_eq u n) [
-          | inl k ↦ inr (k, all v (let J : ℕ → Type 0 = λ z. AreJoined g z v in subst J k p.0))
+          | inl k ↦ inr (k, all v (rw k at p.0))
           | inr d ↦ inl (p.0, λ k. elim (Contains-cases n u waiting k) [ inl z ↦ d (sym z) | inr z ↦ p.1 z ])
         ]) (most + 1) levels parents f.found
 
@@ -407,14 +397,11 @@ module _ {N E : Type 0} (end : ℕ) (g : Graph N E) (w : IsWellFormed end g) {le
       → Leveling g levels' parents' rest
   leveling_on {levels'} {parents'} raised =
       let same : (s.done ++ n ∷ []) ++ rest ≡ s.done ++ n ∷ rest = append_assoc s.done (n ∷ []) rest in
-      let P : List ℕ → Type 0 = λ z. IsOrderOf g z in
-      let Q : ℕ → Type 0 = λ z. AreLevels (IsPassed g rest) z levels' parents' in
-      let more : length s.done + 1 ≡ length (s.done ++ n ∷ []) = omega (arith, length-append s.done (n ∷ [])) in
       record {
         done = s.done ++ n ∷ [];
-        ordered = subst P (sym same) s.ordered;
+        ordered = rw same s.ordered;
         fits = omega (arith, ap length same, s.fits);
-        found = subst Q more (raised rest (length s.done) is_next s.found);
+        found = rw (length-append s.done (n ∷ [])) (raised rest (length s.done) is_next s.found);
       }
 
 pub leveling_ends : {N E : Type 0} (g : Graph N E) (levels parents waiting : List ℕ)
