@@ -4,6 +4,7 @@ use Rattle.std.proofs.Common.{length, map, refl, sym, ap, subst, ◌∙◌, arit
 use Rattle.std.specs.Prelude.{MatchOption, Result, Ok, Err}
 use Rattle.std.specs.Option.{option_map}
 use Rattle.std.proofs.lemmas.Bool.{false≢true}
+use Rattle.std.proofs.lemmas.Option.{same_Some}
 use Rattle.std.specs.Borrow.{Bor}
 use Rattle.serde_json.specs.Data.{Data}
 use Rattle.serde_json.specs.View.{view}
@@ -14,7 +15,7 @@ use Rattle.daggy_base.specs.declared.index.Direction.TheVariants.{Outgoing, Inco
 use Rattle.daggy_base.specs.Graph.{Graph, Edge, slot, near_end}
 use Rattle.daggy_base.specs.FromSlots.{graph_of_slots}
 use Rattle.daggy_json.specs.declared.error.ReadError.{ReadError}
-use Rattle.daggy_json.specs.declared.error.ReadError.TheVariants.{Shape, Orders}
+use Rattle.daggy_json.specs.declared.error.ReadError.TheVariants.{Orders}
 use Rattle.daggy_base.specs.Orders.{with_orders, AreOrders}
 use Rattle.daggy_json.specs.Reading.{Parts, parts_in, orders_in, IsLaidOut, IsRead, IsFilled, IsLinked, ReadsEach}
 use Rattle.daggy_json.specs.Reading.{IsWeight, IsEntryRead, AreSlots, IsOrdered, IsTested}
@@ -26,11 +27,7 @@ module _ {N E : Type 0} (limit : ℕ) (stable : Bool) (node_answers : Data → O
     on : (r : Result (Graph N E) ReadError) (fault : Option ReadError) → IsLaidOut limit stable p fault
         → MatchOption fault (IsFilled limit stable node_answers edge_answers p r) (λ e. r ≡ Err e)
         → IsRead limit stable node_answers edge_answers d r
-    on r fault laid next =
-        let P : Option Parts → Type 0 = λ o.
-        MatchOption o (r ≡ Err Shape) (λ p. (fault : Option ReadError) × IsLaidOut limit stable p fault
-        × MatchOption fault (IsFilled limit stable node_answers edge_answers p r) (λ e. r ≡ Err e)) in
-        subst P (sym is) (fault, laid, next)
+    on r fault laid next = rw is (fault, laid, next)
 
     pub layout_fault : (e : ReadError)
         → IsLaidOut limit stable p (Some e) → IsRead limit stable node_answers edge_answers d (Err e)
@@ -67,25 +64,16 @@ module _ {N E : Type 0} (g : Graph N E) (o : Option (Bor Value)) (v : Bor Value)
   pub ordered_fault : ((orders : List (List ℕ × List ℕ)) → orders_in (view v.now) ≡ Some orders
       → AreOrders g orders → ⊥)
       → IsOrdered g (option_map (λ d. view d.now) o) (Err Orders)
-  ordered_fault h =
-      let P : Option (Bor Value) → Type 0 = λ k. IsOrdered g (option_map (λ d. view d.now) k) (Err Orders) in
-      let here : IsOrdered g (Some (view v.now)) (Err Orders) = (h, refl) in
-      subst P (sym is) here
+  ordered_fault h = rw is (h, refl)
 
   pub ordered_with : (rows : List (List ℕ × List ℕ)) → orders_in (view v.now) ≡ Some rows → AreOrders g rows
       → IsOrdered g (option_map (λ d. view d.now) o) (Ok (with_orders g rows))
-  ordered_with rows some are =
-      let P : Option (Bor Value) → Type 0 = λ k.
-      IsOrdered g (option_map (λ d. view d.now) k) (Ok (with_orders g rows)) in
-      let here : IsOrdered g (Some (view v.now)) (Ok (with_orders g rows)) = (rows, some, are, refl) in
-      subst P (sym is) here
+  ordered_with rows some are = rw is (rows, some, are, refl)
 
 pub not_these : {N E : Type 0} (g : Graph N E) (d : Data) (rows : List (List ℕ × List ℕ)) → orders_in d ≡ Some rows
     → (AreOrders g rows → ⊥) → (orders : List (List ℕ × List ℕ)) → orders_in d ≡ Some orders → AreOrders g orders → ⊥
 not_these g d rows some wrong orders other are =
-    let same : Some orders ≡ Some rows = sym other ∙ some in
-    let equal : orders ≡ rows = cc in
-    wrong (subst (AreOrders g) equal are)
+    wrong (subst (AreOrders g) (same_Some orders rows (sym other ∙ some)) are)
 
 -- ---- lengths, and ends
 

@@ -1,8 +1,7 @@
 -- Lists that are marked one edge after the other, and what the marks say at the end.
 use Rattle.std.proofs.Common.{◌≡◌, ◌≢◌, ℕ, zero, suc, ◌+◌, ◌<◌, ◌≤◌, inl, inr, Bool, true, false, Option, Some, None}
 use Rattle.std.proofs.Common.{IsSome, is_some, List, [], ◌∷◌, length, get_or, set, drop, map, cond, count_by, unwrap_or}
-use Rattle.std.proofs.Common.{slice_get, refl, sym, ap, subst, ◌∙◌, arith, add-one, zero-add, drop-cons, length-set}
-use Rattle.std.proofs.Common.{length-drop}
+use Rattle.std.proofs.Common.{slice_get, refl, sym, ap, subst, ◌∙◌, arith, zero-add, length-set, length-drop}
 use Rattle.std.specs.Prelude.{◌⊎◌, Contains}
 use Rattle.std.specs.Option.{option_map}
 use Rattle.std.proofs.lemmas.Bool.{false≢true, cases_eq, cases_lt}
@@ -13,6 +12,7 @@ use Rattle.daggy_base.specs.WellFormed.{AreDistinct}
 use Rattle.daggy_base.specs.Graph.{slot}
 use Rattle.daggy_base.proofs.Lists.{Contains-nil, Contains-here, Contains-there, Contains-cases}
 use Rattle.daggy_base.specs.Orders.{lists_by_slots}
+use Rattle.daggy_json.proofs.FoundParts.{drop_at}
 use Rattle.daggy_json.specs.Found.{Marked, marked_with, AllMarked, marked_by}
 
 is_false : (b : Bool) → (b ≡ true → ⊥) → b ≡ false
@@ -283,14 +283,10 @@ pub record MarkedSoFar (p : ℕ → Bool) (m₀ : List Bool) (es : List ℕ) (i 
   pub kept : length m ≡ length m₀
 
 module _ {p : ℕ → Bool} {m₀ m : List Bool} {es : List ℕ} {i : ℕ} (s : MarkedSoFar p m₀ es i m) where
-  next_is : i < length es → (e : ℕ) → e ≡ get_or es i e → drop i es ≡ e ∷ drop (i + 1) es
-  next_is low e is =
-      drop-cons es i e low ∙ (ap (λ k. k ∷ drop (suc i) es) (sym is) ∙ ap (λ k. e ∷ drop k es) (sym (add-one i)))
-
   pub marked_on : i < length es → (e : ℕ) → e ≡ get_or es i e → p e ≡ true → get_or m e false ≡ false
       → (m' : List Bool) → m' ≡ set m e true → MarkedSoFar p m₀ es (i + 1) m'
   marked_on low e is pass fresh m' more =
-      let next = next_is low e is in
+      let next = drop_at es i e low is in
       rw more (record {
         forth = λ h. let q = rw next at (s.forth h) in q.2;
         back = λ h. s.back (rw next (pass, fresh, h));
@@ -300,7 +296,7 @@ module _ {p : ℕ → Bool} {m₀ m : List Bool} {es : List ℕ} {i : ℕ} (s : 
 
   pub marked_wrong : i < length es → (e : ℕ) → e ≡ get_or es i e → ((p e ≡ true) × (get_or m e false ≡ false) → ⊥)
       → Marked p m₀ es → ⊥
-  marked_wrong low e is wrong h = let q = rw (next_is low e is) at (s.forth h) in wrong (q.0, q.1)
+  marked_wrong low e is wrong h = let q = rw (drop_at es i e low is) at (s.forth h) in wrong (q.0, q.1)
 
 -- the lists of the first n slots were marked
 pub record ListsSoFar {N : Type 0} (P : ℕ → ℕ → Bool) (m₀ : List Bool) (slots : List (Option N)) (lists : List (List ℕ))
@@ -313,21 +309,10 @@ pub record ListsSoFar {N : Type 0} (P : ℕ → ℕ → Bool) (m₀ : List Bool)
 
 module _ {N : Type 0} {P : ℕ → ℕ → Bool} {m₀ m : List Bool} {slots : List (Option N)} {lists : List (List ℕ)}
     {n passed : ℕ} (s : ListsSoFar P m₀ slots lists n passed m) where
-  slot_at : n < length slots → (o : Option N) → o ≡ get_or slots n o → drop n slots ≡ o ∷ drop (n + 1) slots
-  slot_at low o is =
-      drop-cons slots n o low
-      ∙ (ap (λ k. k ∷ drop (suc n) slots) (sym is) ∙ ap (λ k. o ∷ drop k slots) (sym (add-one n)))
-
-  list_at : passed < length lists → (l : List ℕ) → l ≡ get_or lists passed l
-      → drop passed lists ≡ l ∷ drop (passed + 1) lists
-  list_at low l is =
-      drop-cons lists passed l low
-      ∙ (ap (λ k. k ∷ drop (suc passed) lists) (sym is) ∙ ap (λ k. l ∷ drop k lists) (sym (add-one passed)))
-
   pub lists_skipped : n < length slots → (o : Option N) → o ≡ get_or slots n o → is_some o ≡ false
       → (passed' : ℕ) (m' : List Bool) → passed' ≡ passed → m' ≡ m → ListsSoFar P m₀ slots lists (n + 1) passed' m'
   lists_skipped low None is vacant passed' m' same_passed same =
-      let next = slot_at low None is in
+      let next = drop_at slots n None low is in
       rw (same_passed, same) (record {
         forth = λ h. rw next at (s.forth h);
         back = λ h. s.back (rw next h);
@@ -342,8 +327,8 @@ module _ {N : Type 0} {P : ℕ → ℕ → Bool} {m₀ m : List Bool} {slots : L
       → ListsSoFar P m₀ slots lists (n + 1) (passed + 1) m'
   lists_on low None is some more here marked after = absurd (false≢true some)
   lists_on low (Some x) is some more {l} here marked after =
-      let next = slot_at low (Some x) is in
-      let list = list_at more l here in
+      let next = drop_at slots n (Some x) low is in
+      let list = drop_at lists passed l more here in
       rw after (record {
         forth = λ h. let q = rw (next, list) at (s.forth h) in q.1;
         back = λ h. s.back (rw (next, list) (marked, h));
@@ -363,11 +348,11 @@ module _ {N : Type 0} {P : ℕ → ℕ → Bool} {m₀ m : List Bool} {slots : L
       → AllMarked P 0 m₀ slots lists → ⊥
   lists_wrong low None is some wrong h = absurd (false≢true some)
   lists_wrong low (Some x) is some wrong h =
-      let q = rw (slot_at low (Some x) is) at (s.forth h) in
+      let q = rw (drop_at slots n (Some x) low is) at (s.forth h) in
       elim (cases_lt passed (length lists)) [
         | inl more ↦ (
             let here = get_or_default lists passed [] (get_or lists passed []) more in
-            let r = rw (list_at more _ here) at q in
+            let r = rw (drop_at lists passed _ more here) at q in
             wrong more _ here r.0
             )
         | inr over ↦ rw (drop_all passed lists over) at q
