@@ -151,47 +151,28 @@ module _ {N : Type 0} (P : ℕ → ℕ → Bool) where
         → IsSome (slot slots j) → (e : ℕ) → Contains (row (lists_by_slots slots lists) j) e → P (i + j) e ≡ true
     pub once : (j : ℕ) → IsSome (slot slots j) → AreDistinct (row (lists_by_slots slots lists) j)
 
-  pub rows_are : (i : ℕ) (m : List Bool) (slots : List (Option N)) (lists : List (List ℕ))
-      → ((k e : ℕ) → P k e ≡ true → e < length m) → AllMarked P i m slots lists → IsLinkedList i slots lists
-  rows_are i m [] lists low h = record { pass = λ j s. absurd (false≢true s); once = λ j s. absurd (false≢true s) }
-  rows_are i m (None ∷ slots) lists low h =
-      let r = rows_are (i + 1) m slots lists low h in
-      record {
-        pass =
-            λ j.
-            elim j as (λ j. IsSome (slot (None ∷ slots) j)
-            → (e : ℕ) → Contains (row (lists_by_slots (None ∷ slots) lists) j) e → P (i + j) e ≡ true) [
-              | zero ↦ λ s. absurd (false≢true s)
-              | suc k ↦ λ s e c. at_next P i k e ∙ r.pass k s e c
-            ];
-        once =
-            λ j.
-            elim j
-            as (λ j. IsSome (slot (None ∷ slots) j) → AreDistinct (row (lists_by_slots (None ∷ slots) lists) j)) [
-              | zero ↦ λ s. absurd (false≢true s)
-              | suc k ↦ λ s. r.once k s
-            ];
-      }
-  rows_are i m (Some x ∷ slots) [] low h = absurd h
-  rows_are i m (Some x ∷ slots) (l ∷ lists) low h =
+  linked_at : (i : ℕ) (m : List Bool) (slots : List (Option N)) (lists : List (List ℕ))
+      → ((k e : ℕ) → P k e ≡ true → e < length m) → AllMarked P i m slots lists → (j : ℕ) → IsSome (slot slots j)
+      → ((e : ℕ) → Contains (row (lists_by_slots slots lists) j) e → P (i + j) e ≡ true)
+      × AreDistinct (row (lists_by_slots slots lists) j)
+  linked_at i m [] lists low h j s = absurd (false≢true s)
+  linked_at i m (None ∷ slots) lists low h zero s = absurd (false≢true s)
+  linked_at i m (None ∷ slots) lists low h (suc j) s =
+      let r = linked_at (i + 1) m slots lists low h j s in (λ e c. at_next P i j e ∙ r.0 e c, r.1)
+  linked_at i m (Some x ∷ slots) [] low h j s = absurd h
+  linked_at i m (Some x ∷ slots) (l ∷ lists) low h zero s =
+      (λ e c. at_here P i e ∙ marked_pass (P i) m l h.0 e c, marked_once (P i) m l (low i) h.0)
+  linked_at i m (Some x ∷ slots) (l ∷ lists) low h (suc j) s =
       let low' : (k e : ℕ) → P k e ≡ true → e < length (marked_with m l) = λ k e q.
       omega (arith, low k e q, long_marked m l) in
-      let r = rows_are (i + 1) (marked_with m l) slots lists low' h.1 in
+      let r = linked_at (i + 1) (marked_with m l) slots lists low' h.1 j s in (λ e c. at_next P i j e ∙ r.0 e c, r.1)
+
+  pub rows_are : (i : ℕ) (m : List Bool) (slots : List (Option N)) (lists : List (List ℕ))
+      → ((k e : ℕ) → P k e ≡ true → e < length m) → AllMarked P i m slots lists → IsLinkedList i slots lists
+  rows_are i m slots lists low h =
       record {
-        pass =
-            λ j.
-            elim j as (λ j. IsSome (slot (Some x ∷ slots) j)
-            → (e : ℕ) → Contains (row (lists_by_slots (Some x ∷ slots) (l ∷ lists)) j) e → P (i + j) e ≡ true) [
-              | zero ↦ λ s e c. at_here P i e ∙ marked_pass (P i) m l h.0 e c
-              | suc k ↦ λ s e c. at_next P i k e ∙ r.pass k s e c
-            ];
-        once =
-            λ j.
-            elim j as (λ j. IsSome (slot (Some x ∷ slots) j)
-            → AreDistinct (row (lists_by_slots (Some x ∷ slots) (l ∷ lists)) j)) [
-              | zero ↦ λ s. marked_once (P i) m l (λ e q. low i e q) h.0
-              | suc k ↦ λ s. r.once k s
-            ];
+        pass = λ j s. let r = linked_at i m slots lists low h j s in r.0;
+        once = λ j s. let r = linked_at i m slots lists low h j s in r.1;
       }
 
   -- what is marked stands in a list of a node

@@ -1,6 +1,6 @@
 -- Weights and entries that were read so far.
 use Rattle.std.proofs.Common.{◌≡◌, ℕ, suc, ◌+◌, ◌<◌, Bool, IsSome, Option, Some, None, List, [], ◌∷◌, ◌++◌, length}
-use Rattle.std.proofs.Common.{get_or, take, drop, map, sym, ap, ◌∙◌, add-one, drop-cons}
+use Rattle.std.proofs.Common.{get_or, take, drop, map, sym, ap, ◌∙◌, drop-cons}
 use Rattle.std.specs.Prelude.{Result, Ok, Err}
 use Rattle.std.specs.List.{AllZip}
 use Rattle.std.proofs.lemmas.List.{map-append, take_more, take-append-drop}
@@ -46,13 +46,6 @@ module _ {A : Type 0} (reads : Data → Result A ReadError → Type 0) where
 pub record AscendSoFar (high : ℕ) (hs : List ℕ) (i low : ℕ) : Type 0 where
   pub forth : Ascend 0 high hs → Ascend low high (drop i hs)
   pub back : Ascend low high (drop i hs) → Ascend 0 high hs
-
-module _ {high : ℕ} {hs : List ℕ} {i low : ℕ} (s : AscendSoFar high hs i low) where
-  here : i < length hs → drop i hs ≡ get_or hs i 0 ∷ drop (i + 1) hs
-  here within = drop-cons hs i 0 within ∙ ap (λ k. get_or hs i 0 ∷ drop k hs) (sym (add-one i))
-
-  at : i < length hs → (h : ℕ) → h ≡ get_or hs i 0 → drop i hs ≡ h ∷ drop (i + 1) hs
-  at within h is = here within ∙ ap (λ k. k ∷ drop (i + 1) hs) (sym is)
 
 -- ---- entries
 
