@@ -46,9 +46,8 @@ more_values as_data vs vs' v xs x so_far is more =
 pub zip_more : {A B : Type 0} (R : A → B → Type 0) (xs : List A) (ys : List B) (x : A) (y : B)
     → AllZip R xs ys → R x y → AllZip R (xs ++ x ∷ []) (ys ++ y ∷ [])
 zip_more R [] [] x y all here = (here, tt)
-zip_more R [] (z ∷ zs) x y all here = absurd all
-zip_more R (z ∷ zs) [] x y all here = absurd all
 zip_more R (z ∷ zs) (w ∷ ws) x y all here = (all.0, zip_more R zs ws x y all.1 here)
+zip_more R _ _ x y all here = absurd all
 
 pub zip_values : {A : Type 0} (R : A → Data → Type 0) (vs vs' : List Value) (v : Value) (xs : List A) (x : A)
     → AllZip R xs (map view vs) → R x (view v) → vs' ≡ vs ++ v ∷ [] → AllZip R (xs ++ x ∷ []) (map view vs')

@@ -87,11 +87,10 @@ module _ {A B : Type 0} (reads : Data → Result B ReadError → Type 0) (stands
   each_ok : (xs : List A) (ds : List Data) (ys : List B) → AllZip stands xs ds → AllZip (λ d y. reads d (Ok y)) ds ys
       → AllZip (λ x y. ReadsThrough x (Ok y)) xs ys
   each_ok [] [] [] w r = tt
-  each_ok [] [] (y ∷ ys) w r = absurd r
-  each_ok [] (d ∷ ds) ys w r = absurd w
-  each_ok (x ∷ xs) [] ys w r = absurd w
-  each_ok (x ∷ xs) (d ∷ ds) [] w r = absurd r
   each_ok (x ∷ xs) (d ∷ ds) (y ∷ ys) w r = ((d, w.0, r.0), each_ok xs ds ys w.1 r.1)
+  each_ok [] [] _ w r = absurd r
+  each_ok (x ∷ xs) (d ∷ ds) _ w r = absurd r
+  each_ok _ _ ys w r = absurd w
 
   one_err : (xs : List A) (before : List Data) (at : Data) (after : List Data) (e : ReadError)
       → AllZip stands xs (before ++ at ∷ after) → reads at (Err e) → (x : A) × Contains xs x × ReadsThrough x (Err e)
