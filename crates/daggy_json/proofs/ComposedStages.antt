@@ -4,6 +4,7 @@ use Rattle.std.proofs.Common.{length, map, refl, sym, ap, subst, ◌∙◌, arit
 use Rattle.std.specs.Prelude.{MatchOption, Result, Ok, Err}
 use Rattle.std.specs.Option.{option_map}
 use Rattle.std.proofs.lemmas.Bool.{false≢true}
+use Rattle.std.proofs.lemmas.List.{length-map}
 use Rattle.std.proofs.lemmas.Option.{same_Some}
 use Rattle.std.specs.Borrow.{Bor}
 use Rattle.serde_json.specs.Data.{Data}
@@ -20,6 +21,7 @@ use Rattle.daggy_base.specs.Orders.{with_orders, AreOrders}
 use Rattle.daggy_json.specs.Reading.{Parts, parts_in, orders_in, IsLaidOut, IsRead, IsFilled, IsLinked, ReadsEach}
 use Rattle.daggy_json.specs.Reading.{IsWeight, IsEntryRead, AreSlots, IsOrdered, IsTested}
 use Rattle.daggy_json.specs.Found.{EndsExist, IsNodesFault}
+use Rattle.daggy_json.proofs.TrimmedSlots.{slots_split}
 
 module _ {N E : Type 0} (limit : ℕ) (stable : Bool) (node_answers : Data → Option N → Type 0)
     (edge_answers : Data → Option E → Type 0) (d : Data) where
@@ -77,16 +79,10 @@ not_these g d rows some wrong orders other are =
 
 -- ---- lengths, and ends
 
-slots_long : {N : Type 0} (i : ℕ) (xs : List (Option N))
-    → length xs ≡ length (vacant_from i xs) + length (map (λ p. p.1) (numbered i xs))
-slots_long i [] = refl
-slots_long i (None ∷ xs) = let r = slots_long (i + 1) xs in omega arith
-slots_long i (Some x ∷ xs) = let r = slots_long (i + 1) xs in omega arith
-
 pub placed_long : {N : Type 0} (slots : List (Option N)) (holes : List ℕ) (weights : List N)
     → AreSlots slots holes weights → length slots ≡ length weights + length holes
 placed_long slots holes weights s =
-    omega (arith, slots_long 0 slots, ap length s.vacant, ap length s.given)
+    omega (arith, slots_split 0 slots, length-map (numbered 0 slots) (λ p. p.1), ap length s.vacant, ap length s.given)
 
 pub ends_exist : {N E : Type 0} (stable : Bool) (nodes : List (Option N)) (answers : Data → Option E → Type 0)
     (ds : List Data) (edges : List (Option (Edge E)))
