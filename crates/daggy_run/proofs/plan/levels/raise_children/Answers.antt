@@ -36,23 +36,17 @@ child_edge-child-requires g c =
     has_edge g.Ix.IndexType.greatest (g.D.GuardedDag.graph c.args.dag.now) c.node_bound-bound.ensures.dag.well_formed _
     s.passed _ s.cursor here
 
-pub raise-requires-clause-levels : goal.raise-requires-clause-levels
-raise-requires-clause-levels g c =
+pub raise-requires : goal.raise-requires
+raise-requires g c =
     let here : g.Ix.IndexType.number c.edges.e ≢ g.Ix.IndexType.greatest = λ h.
     c.edges-test.true (c.index-in-edges.ensures.value ∙ (h ∙ sym (c.index-end.ensures.value ∙ c.end.ensures.number))) in
     let low =
     child_low g.Ix.IndexType.greatest (g.D.GuardedDag.graph c.args.dag.now) c.node_bound-bound.ensures.dag.well_formed
     c.requires.exists c.edges.invariant here _ _ c.child_edge-child.ensures in
-    omega (arith, low, c.index-in-edges-2.ensures.value, c.edges.invariant.levels_fit, c.edges.levels.ok.0)
-
-pub raise-requires-clause-parents : goal.raise-requires-clause-parents
-raise-requires-clause-parents g c =
-    let here : g.Ix.IndexType.number c.edges.e ≢ g.Ix.IndexType.greatest = λ h.
-    c.edges-test.true (c.index-in-edges.ensures.value ∙ (h ∙ sym (c.index-end.ensures.value ∙ c.end.ensures.number))) in
-    let low =
-    child_low g.Ix.IndexType.greatest (g.D.GuardedDag.graph c.args.dag.now) c.node_bound-bound.ensures.dag.well_formed
-    c.requires.exists c.edges.invariant here _ _ c.child_edge-child.ensures in
-    omega (arith, low, c.index-in-edges-2.ensures.value, c.edges.invariant.parents_fit, c.edges.parents.ok.0)
+    record {
+      levels = omega (arith, low, c.index-in-edges-2.ensures.value, c.edges.invariant.levels_fit, c.edges.levels.ok.0);
+      parents = omega (arith, low, c.index-in-edges-2.ensures.value, c.edges.invariant.parents_fit, c.edges.parents.ok.0);
+    }
 
 pub edges-smaller : goal.edges-smaller
 edges-smaller g c =
