@@ -95,8 +95,7 @@ module _ {E : Type 0} (dir : Direction) (edges : List (Option (Edge E))) where
     pub in_list_has : (n e : ℕ)
         → n < length nodes → has_end dir edges n e ≡ true → Contains (list_at dir (graph_of_slots nodes edges) n) e
     in_list_has n e low h =
-        subst (λ k. Contains k e) (sym (at_dir dir n ∙ lists_at n low))
-        (down_has (has_end dir edges n) (length edges) e (end_below n e h) h)
+        rw (at_dir dir n ∙ lists_at n low) (down_has (has_end dir edges n) (length edges) e (end_below n e h) h)
 
     pub in_list_ends : (n e : ℕ)
         → n < length nodes → Contains (list_at dir (graph_of_slots nodes edges) n) e → has_end dir edges n e ≡ true
