@@ -4,6 +4,8 @@ use Rattle.std.proofs.Common.{length, map, refl, sym, ap, subst, ◌∙◌, arit
 use Rattle.std.specs.Prelude.{MatchOption, Result, Ok, Err}
 use Rattle.std.specs.Option.{option_map}
 use Rattle.std.proofs.lemmas.Bool.{false≢true}
+use Rattle.std.proofs.lemmas.List.{length-map}
+use Rattle.std.proofs.lemmas.Option.{same_Some}
 use Rattle.std.specs.Borrow.{Bor}
 use Rattle.serde_json.specs.Data.{Data}
 use Rattle.serde_json.specs.View.{view}
@@ -14,11 +16,12 @@ use Rattle.daggy_base.specs.declared.index.Direction.TheVariants.{Outgoing, Inco
 use Rattle.daggy_base.specs.Graph.{Graph, Edge, slot, near_end}
 use Rattle.daggy_base.specs.FromSlots.{graph_of_slots}
 use Rattle.daggy_json.specs.declared.error.ReadError.{ReadError}
-use Rattle.daggy_json.specs.declared.error.ReadError.TheVariants.{Shape, Orders}
+use Rattle.daggy_json.specs.declared.error.ReadError.TheVariants.{Orders}
 use Rattle.daggy_base.specs.Orders.{with_orders, AreOrders}
 use Rattle.daggy_json.specs.Reading.{Parts, parts_in, orders_in, IsLaidOut, IsRead, IsFilled, IsLinked, ReadsEach}
 use Rattle.daggy_json.specs.Reading.{IsWeight, IsEntryRead, AreSlots, IsOrdered, IsTested}
 use Rattle.daggy_json.specs.Found.{EndsExist, IsNodesFault}
+use Rattle.daggy_json.proofs.TrimmedSlots.{slots_split}
 
 module _ {N E : Type 0} (limit : ℕ) (stable : Bool) (node_answers : Data → Option N → Type 0)
     (edge_answers : Data → Option E → Type 0) (d : Data) where
@@ -26,11 +29,7 @@ module _ {N E : Type 0} (limit : ℕ) (stable : Bool) (node_answers : Data → O
     on : (r : Result (Graph N E) ReadError) (fault : Option ReadError) → IsLaidOut limit stable p fault
         → MatchOption fault (IsFilled limit stable node_answers edge_answers p r) (λ e. r ≡ Err e)
         → IsRead limit stable node_answers edge_answers d r
-    on r fault laid next =
-        let P : Option Parts → Type 0 = λ o.
-        MatchOption o (r ≡ Err Shape) (λ p. (fault : Option ReadError) × IsLaidOut limit stable p fault
-        × MatchOption fault (IsFilled limit stable node_answers edge_answers p r) (λ e. r ≡ Err e)) in
-        subst P (sym is) (fault, laid, next)
+    on r fault laid next = rw is (fault, laid, next)
 
     pub layout_fault : (e : ReadError)
         → IsLaidOut limit stable p (Some e) → IsRead limit stable node_answers edge_answers d (Err e)
@@ -67,38 +66,23 @@ module _ {N E : Type 0} (g : Graph N E) (o : Option (Bor Value)) (v : Bor Value)
   pub ordered_fault : ((orders : List (List ℕ × List ℕ)) → orders_in (view v.now) ≡ Some orders
       → AreOrders g orders → ⊥)
       → IsOrdered g (option_map (λ d. view d.now) o) (Err Orders)
-  ordered_fault h =
-      let P : Option (Bor Value) → Type 0 = λ k. IsOrdered g (option_map (λ d. view d.now) k) (Err Orders) in
-      let here : IsOrdered g (Some (view v.now)) (Err Orders) = (h, refl) in
-      subst P (sym is) here
+  ordered_fault h = rw is (h, refl)
 
   pub ordered_with : (rows : List (List ℕ × List ℕ)) → orders_in (view v.now) ≡ Some rows → AreOrders g rows
       → IsOrdered g (option_map (λ d. view d.now) o) (Ok (with_orders g rows))
-  ordered_with rows some are =
-      let P : Option (Bor Value) → Type 0 = λ k.
-      IsOrdered g (option_map (λ d. view d.now) k) (Ok (with_orders g rows)) in
-      let here : IsOrdered g (Some (view v.now)) (Ok (with_orders g rows)) = (rows, some, are, refl) in
-      subst P (sym is) here
+  ordered_with rows some are = rw is (rows, some, are, refl)
 
 pub not_these : {N E : Type 0} (g : Graph N E) (d : Data) (rows : List (List ℕ × List ℕ)) → orders_in d ≡ Some rows
     → (AreOrders g rows → ⊥) → (orders : List (List ℕ × List ℕ)) → orders_in d ≡ Some orders → AreOrders g orders → ⊥
 not_these g d rows some wrong orders other are =
-    let same : Some orders ≡ Some rows = sym other ∙ some in
-    let equal : orders ≡ rows = cc in
-    wrong (subst (AreOrders g) equal are)
+    wrong (subst (AreOrders g) (same_Some orders rows (sym other ∙ some)) are)
 
 -- ---- lengths, and ends
-
-slots_long : {N : Type 0} (i : ℕ) (xs : List (Option N))
-    → length xs ≡ length (vacant_from i xs) + length (map (λ p. p.1) (numbered i xs))
-slots_long i [] = refl
-slots_long i (None ∷ xs) = let r = slots_long (i + 1) xs in omega arith
-slots_long i (Some x ∷ xs) = let r = slots_long (i + 1) xs in omega arith
 
 pub placed_long : {N : Type 0} (slots : List (Option N)) (holes : List ℕ) (weights : List N)
     → AreSlots slots holes weights → length slots ≡ length weights + length holes
 placed_long slots holes weights s =
-    omega (arith, slots_long 0 slots, ap length s.vacant, ap length s.given)
+    omega (arith, slots_split 0 slots, length-map (numbered 0 slots) (λ p. p.1), ap length s.vacant, ap length s.given)
 
 pub ends_exist : {N E : Type 0} (stable : Bool) (nodes : List (Option N)) (answers : Data → Option E → Type 0)
     (ds : List Data) (edges : List (Option (Edge E)))

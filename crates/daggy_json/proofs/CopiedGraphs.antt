@@ -63,8 +63,7 @@ module _ {N E V W : Type 0} (node_as : N → V → Type 0) (edge_as : E → W �
               (with_weight x.0 v.0, v.2, ends x.0 v.0 ∙ x.2),
           λ h.
               let x = edge_before e h.0 h.1 in
-              subst (λ l. Contains l e) (sym (same n))
-              ((w.exact n e).1 (x.0, x.2, sym (ends x.0 x.1) ∙ ap end_new x.3 ∙ h.2)),
+              rw (same n) ((w.exact n e).1 (x.0, x.2, sym (ends x.0 x.1) ∙ ap end_new x.3 ∙ h.2)),
         );
         once = λ n. subst AreDistinct (sym (same n)) (w.once n);
       }

@@ -31,8 +31,6 @@ module _ {A B W V : Type 0} (weight_as : W → V → Type 0) (weight : A → W) 
 
   pub copied_zip : (i : ℕ) (xs : List (Option A)) (ys : List (Option B)) → AllZip SlotAs xs ys → AreCopied i xs ys
   copied_zip i [] [] z = refl
-  copied_zip i [] (y ∷ ys) z = absurd z
-  copied_zip i (x ∷ xs) [] z = absurd z
   copied_zip i (None ∷ xs) (y ∷ ys) z = (ys, ap (λ k. k ∷ ys) z.0, copied_zip (i + 1) xs ys z.1)
   copied_zip i (Some x ∷ xs) (y ∷ ys) z = (
     z.0.0,
@@ -42,6 +40,7 @@ module _ {A B W V : Type 0} (weight_as : W → V → Type 0) (weight : A → W) 
     ap (λ k. k ∷ ys) z.0.2,
     copied_zip (i + 1) xs ys z.1,
   )
+  copied_zip i _ _ z = absurd z
 
   -- ---- at a place
 

@@ -33,8 +33,7 @@ module _ {N E : Type 0} (g : Graph N E) where
   pub tested_with : (h : Graph N E) (o : Option (List (List ℕ × List ℕ))) (rows : List (List ℕ × List ℕ))
       → o ≡ Some rows → h ≡ with_orders g rows → IsAcyclic g → IsTested (ordered g o) (Ok h)
   tested_with h o rows is same acyclic =
-      let P : Option (List (List ℕ × List ℕ)) → Type 0 = λ z. IsTested (ordered g z) (Ok h) in
-      subst P (sym is) (acyclic_ordered (Some rows) acyclic, same)
+      subst (λ z. IsTested (ordered g z) (Ok h)) (sym is) (acyclic_ordered (Some rows) acyclic, same)
 
   pub tested_cyclic : (o : Option (List (List ℕ × List ℕ))) → ¬ IsAcyclic g → IsTested (ordered g o) (Err Cycle)
   tested_cyclic o cyclic = (λ a. cyclic (cyclic_ordered o a), refl)
@@ -46,8 +45,7 @@ pub tested_made : {N E A : Type 0} {g : Graph N E} {made new : Graph N E} {o : O
     → o ≡ Some (f rows) → made ≡ g → slice ≡ rows → new ≡ with_orders made (f slice) → IsAcyclic made
     → IsTested (ordered g o) (Ok new)
 tested_made {N} {E} {A} {g} {made} {new} {o} {rows} {slice} f is same_graph same_rows ordered_is acyclic =
-    let P : Graph N E → Type 0 = λ z. IsAcyclic z in
     let same : new ≡ with_orders g (f rows) =
     ordered_is
     ∙ (ap (λ (z : Graph N E). with_orders z (f slice)) same_graph ∙ ap (λ z. with_orders g (f z)) same_rows) in
-    tested_with g new o (f rows) is same (subst P same_graph acyclic)
+    tested_with g new o (f rows) is same (subst IsAcyclic same_graph acyclic)

@@ -1,12 +1,12 @@
 -- What is found in a value.
-use Rattle.std.proofs.Common.{◌≡◌, ℕ, suc, ◌+◌, ◌<◌, ◌≤◌, Option, Some, None, List, [], ◌∷◌, ◌++◌, length, get_or, drop}
-use Rattle.std.proofs.Common.{map, refl, sym, ap, ◌∙◌, arith, add-one, drop-cons, append_assoc}
+use Rattle.std.proofs.Common.{◌≡◌, ℕ, ◌+◌, ◌<◌, ◌≤◌, Option, Some, None, List, [], ◌∷◌, ◌++◌, length, get_or, drop, map}
+use Rattle.std.proofs.Common.{refl, sym, ap, ◌∙◌, arith, append_assoc}
 use Rattle.std.specs.Prelude.{option_and_then, Result, Ok}
 use Rattle.std.specs.Option.{option_map}
 use Rattle.std.specs.Fn.{Shared}
 use Rattle.std.specs.Borrow.{Bor}
 use Rattle.std.specs.declared.alloc.AllocError.{AllocError}
-use Rattle.std.proofs.lemmas.List.{drop_all, append-nil}
+use Rattle.std.proofs.lemmas.List.{drop_all, drop_more, append-nil}
 use Rattle.serde_json.specs.Data.{Data}
 use Rattle.serde_json.specs.Find.{as_array}
 use Rattle.serde_json.specs.View.{view, items_of}
@@ -35,9 +35,9 @@ array_none d e = ap (option_map list_of) (sym e)
 
 -- ---- one by one
 
-drop_at : (vs : List Value) (i : ℕ) (v : Value) → i < length vs → v ≡ get_or vs i v → drop i vs ≡ v ∷ drop (i + 1) vs
-drop_at vs i v low is =
-    drop-cons vs i v low ∙ (ap (λ k. k ∷ drop (suc i) vs) (sym is) ∙ ap (λ k. v ∷ drop k vs) (sym (add-one i)))
+pub drop_at : {A : Type 0} (xs : List A) (i : ℕ) (x : A)
+    → i < length xs → x ≡ get_or xs i x → drop i xs ≡ x ∷ drop (i + 1) xs
+drop_at xs i x low is = drop_more xs i x low ∙ ap (λ k. k ∷ drop (i + 1) xs) (sym is)
 
 module _ {A : Type 0} (one : Data → Option A) where
   -- the first i gave xs
@@ -54,30 +54,19 @@ module _ {A : Type 0} (one : Data → Option A) where
         → all_in one (map view vs)
         ≡ option_map (λ r. xs ++ r)
         (option_and_then (λ x. option_map (λ r. x ∷ r) (all_in one (map view (drop (i + 1) vs)))) o)
-    at_next v o low is gives =
-        s.is
-        ∙ (ap (λ k. option_map (λ r. xs ++ r) (all_in one (map view k))) (drop_at vs i v low is)
-        ∙ ap (λ k. option_map (λ r. xs ++ r)
-        (option_and_then (λ x. option_map (λ r. x ∷ r) (all_in one (map view (drop (i + 1) vs)))) k)) gives)
+    at_next v o low is gives = rw (drop_at vs i v low is, gives) at s.is
 
     pub all_more : (v : Value) (x : A) (xs' : List A)
         → i < length vs → v ≡ get_or vs i v → one (view v) ≡ Some x → xs' ≡ xs ++ x ∷ [] → AllSoFar vs (i + 1) xs'
     all_more v x xs' low is gives more =
-        record {
-          is =
-              at_next v (Some x) low is gives
-              ∙ (joined x xs _
-              ∙ ap (λ k. option_map (λ r. k ++ r) (all_in one (map view (drop (i + 1) vs)))) (sym more));
-        }
+        record { is = rw more (at_next v (Some x) low is gives ∙ joined x xs _) }
 
     pub all_none : (v : Value)
         → i < length vs → v ≡ get_or vs i v → one (view v) ≡ None → None ≡ all_in one (map view vs)
     all_none v low is gives = sym (at_next v None low is gives)
 
     pub all_whole : length vs ≤ i → Some xs ≡ all_in one (map view vs)
-    all_whole past =
-        sym (s.is ∙ (ap (λ k. option_map (λ r. xs ++ r) (all_in one (map view k))) (drop_all i vs past)
-        ∙ ap Some (append-nil xs)))
+    all_whole past = sym (rw (drop_all i vs past, append-nil xs) at s.is)
 
 -- ---- parts of an array
 
@@ -88,28 +77,17 @@ array_found items None d e = sym (array_none d e)
 array_found items (Some v) d e = sym (array_some d (items v) e)
 
 pub not_triple : (vs : List Value) → (length vs ≡ 3 → ⊥) → triple (map view vs) ≡ None
-not_triple [] h = refl
-not_triple (a ∷ []) h = refl
-not_triple (a ∷ b ∷ []) h = refl
 not_triple (a ∷ b ∷ c ∷ []) h = absurd (h refl)
-not_triple (a ∷ b ∷ c ∷ d ∷ vs) h = refl
+not_triple _ h = refl
 
 pub triple_is : (vs : List Value) (a b w : Value) → length vs ≡ 3 → a ≡ get_or vs 0 a → b ≡ get_or vs 1 b
     → w ≡ get_or vs 2 w → triple (map view vs) ≡ triple (view a ∷ view b ∷ view w ∷ [])
-triple_is [] a b w long x y z = absurd (omega arith)
-triple_is (k ∷ []) a b w long x y z = absurd (omega arith)
-triple_is (k ∷ l ∷ []) a b w long x y z = absurd (omega arith)
-triple_is (k ∷ l ∷ m ∷ []) a b w long x y z =
-    ap (λ h. triple (view h ∷ view l ∷ view m ∷ [])) (sym x)
-    ∙ (ap (λ h. triple (view a ∷ view h ∷ view m ∷ [])) (sym y)
-    ∙ ap (λ h. triple (view a ∷ view b ∷ view h ∷ [])) (sym z))
-triple_is (k ∷ l ∷ m ∷ n ∷ vs) a b w long x y z = absurd (omega arith)
+triple_is (k ∷ l ∷ m ∷ []) a b w long x y z = rw (x, y, z)
+triple_is _ a b w long x y z = absurd (omega arith)
 
 pub not_row : (bound : ℕ) (vs : List Value) → (length vs ≡ 2 → ⊥) → row bound (map view vs) ≡ None
-not_row bound [] h = refl
-not_row bound (a ∷ []) h = refl
 not_row bound (a ∷ b ∷ []) h = absurd (h refl)
-not_row bound (a ∷ b ∷ c ∷ vs) h = refl
+not_row bound _ h = refl
 
 module _ (d : Data) (vs : List Value) (array : Some (items_of (map view vs)) ≡ as_array d) where
   pub no_triple : (length vs ≡ 3 → ⊥) → None ≡ triple_in d
@@ -120,9 +98,8 @@ module _ (d : Data) (vs : List Value) (array : Some (items_of (map view vs)) ≡
       → (x y : Option ℕ) → x ≡ whole_in (view a) → y ≡ whole_in (view b)
       → option_and_then (λ p. option_map (λ c. (p, c, view w)) y) x ≡ triple_in d
   triple_found a {b} {w} long e f h x y first second =
-      ap (λ k. option_and_then (λ p. option_map (λ c. (p, c, view w)) y) k) first
-      ∙ (ap (λ k. option_and_then (λ p. option_map (λ c. (p, c, view w)) k) (whole_in (view a))) second
-      ∙ sym (ap (option_and_then triple) (array_some d vs array) ∙ triple_is vs a b w long e f h))
+      rw (first, second)
+      (sym (ap (option_and_then triple) (array_some d vs array) ∙ triple_is vs a b w long e f h))
 
   pub no_row : (bound : ℕ) → (length vs ≡ 2 → ⊥) → None ≡ row_in bound d
   no_row bound h = sym (ap (option_and_then (row bound)) (array_some d vs array) ∙ not_row bound vs h)

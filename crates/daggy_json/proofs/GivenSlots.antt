@@ -1,6 +1,6 @@
 -- Slots and orders of a document, as a dag is made of them.
 use Rattle.std.proofs.Common.{◌≡◌, ℕ, zero, suc, ◌+◌, ◌<◌, ◌≤◌, List, [], ◌∷◌, length, map, Option, Some, None, IsSome}
-use Rattle.std.proofs.Common.{refl, sym, subst, arith}
+use Rattle.std.proofs.Common.{refl, arith}
 use Rattle.std.specs.Option.{option_map}
 use Rattle.std.proofs.lemmas.List.{length-map}
 use Rattle.daggy_base.specs.declared.index.Direction.TheVariants.{Outgoing, Incoming}
@@ -26,8 +26,7 @@ module _ {N E A : Type 0} (f : A → Edge E) (nodes : List (Option N)) (edges : 
   full_edges : vacant_from 0 edges ≡ [] → (i : ℕ) → i < length (map (option_map f) edges)
       → IsSome (slot (map (option_map f) edges) i)
   full_edges h i low =
-      let P : Option (Edge E) → Type 0 = λ z. IsSome z in
-      subst P (sym (slot-map f edges i))
+      rw (slot-map f edges i)
       (some_mapped f (slot edges i) (full_from 0 edges h i (omega (arith, length-map edges (option_map f)))))
 
   -- no slot is vacant

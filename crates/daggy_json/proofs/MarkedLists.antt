@@ -1,8 +1,7 @@
 -- Lists that are marked one edge after the other, and what the marks say at the end.
 use Rattle.std.proofs.Common.{◌≡◌, ◌≢◌, ℕ, zero, suc, ◌+◌, ◌<◌, ◌≤◌, inl, inr, Bool, true, false, Option, Some, None}
 use Rattle.std.proofs.Common.{IsSome, is_some, List, [], ◌∷◌, length, get_or, set, drop, map, cond, count_by, unwrap_or}
-use Rattle.std.proofs.Common.{slice_get, refl, sym, ap, subst, ◌∙◌, arith, add-one, zero-add, drop-cons, length-set}
-use Rattle.std.proofs.Common.{length-drop}
+use Rattle.std.proofs.Common.{slice_get, refl, sym, ap, subst, ◌∙◌, arith, zero-add, length-set, length-drop}
 use Rattle.std.specs.Prelude.{◌⊎◌, Contains}
 use Rattle.std.specs.Option.{option_map}
 use Rattle.std.proofs.lemmas.Bool.{false≢true, cases_eq, cases_lt}
@@ -13,6 +12,7 @@ use Rattle.daggy_base.specs.WellFormed.{AreDistinct}
 use Rattle.daggy_base.specs.Graph.{slot}
 use Rattle.daggy_base.proofs.Lists.{Contains-nil, Contains-here, Contains-there, Contains-cases}
 use Rattle.daggy_base.specs.Orders.{lists_by_slots}
+use Rattle.daggy_json.proofs.FoundParts.{drop_at}
 use Rattle.daggy_json.specs.Found.{Marked, marked_with, AllMarked, marked_by}
 
 is_false : (b : Bool) → (b ≡ true → ⊥) → b ≡ false
@@ -151,47 +151,28 @@ module _ {N : Type 0} (P : ℕ → ℕ → Bool) where
         → IsSome (slot slots j) → (e : ℕ) → Contains (row (lists_by_slots slots lists) j) e → P (i + j) e ≡ true
     pub once : (j : ℕ) → IsSome (slot slots j) → AreDistinct (row (lists_by_slots slots lists) j)
 
-  pub rows_are : (i : ℕ) (m : List Bool) (slots : List (Option N)) (lists : List (List ℕ))
-      → ((k e : ℕ) → P k e ≡ true → e < length m) → AllMarked P i m slots lists → IsLinkedList i slots lists
-  rows_are i m [] lists low h = record { pass = λ j s. absurd (false≢true s); once = λ j s. absurd (false≢true s) }
-  rows_are i m (None ∷ slots) lists low h =
-      let r = rows_are (i + 1) m slots lists low h in
-      record {
-        pass =
-            λ j.
-            elim j as (λ j. IsSome (slot (None ∷ slots) j)
-            → (e : ℕ) → Contains (row (lists_by_slots (None ∷ slots) lists) j) e → P (i + j) e ≡ true) [
-              | zero ↦ λ s. absurd (false≢true s)
-              | suc k ↦ λ s e c. at_next P i k e ∙ r.pass k s e c
-            ];
-        once =
-            λ j.
-            elim j
-            as (λ j. IsSome (slot (None ∷ slots) j) → AreDistinct (row (lists_by_slots (None ∷ slots) lists) j)) [
-              | zero ↦ λ s. absurd (false≢true s)
-              | suc k ↦ λ s. r.once k s
-            ];
-      }
-  rows_are i m (Some x ∷ slots) [] low h = absurd h
-  rows_are i m (Some x ∷ slots) (l ∷ lists) low h =
+  linked_at : (i : ℕ) (m : List Bool) (slots : List (Option N)) (lists : List (List ℕ))
+      → ((k e : ℕ) → P k e ≡ true → e < length m) → AllMarked P i m slots lists → (j : ℕ) → IsSome (slot slots j)
+      → ((e : ℕ) → Contains (row (lists_by_slots slots lists) j) e → P (i + j) e ≡ true)
+      × AreDistinct (row (lists_by_slots slots lists) j)
+  linked_at i m [] lists low h j s = absurd (false≢true s)
+  linked_at i m (None ∷ slots) lists low h zero s = absurd (false≢true s)
+  linked_at i m (None ∷ slots) lists low h (suc j) s =
+      let r = linked_at (i + 1) m slots lists low h j s in (λ e c. at_next P i j e ∙ r.0 e c, r.1)
+  linked_at i m (Some x ∷ slots) [] low h j s = absurd h
+  linked_at i m (Some x ∷ slots) (l ∷ lists) low h zero s =
+      (λ e c. at_here P i e ∙ marked_pass (P i) m l h.0 e c, marked_once (P i) m l (low i) h.0)
+  linked_at i m (Some x ∷ slots) (l ∷ lists) low h (suc j) s =
       let low' : (k e : ℕ) → P k e ≡ true → e < length (marked_with m l) = λ k e q.
       omega (arith, low k e q, long_marked m l) in
-      let r = rows_are (i + 1) (marked_with m l) slots lists low' h.1 in
+      let r = linked_at (i + 1) (marked_with m l) slots lists low' h.1 j s in (λ e c. at_next P i j e ∙ r.0 e c, r.1)
+
+  pub rows_are : (i : ℕ) (m : List Bool) (slots : List (Option N)) (lists : List (List ℕ))
+      → ((k e : ℕ) → P k e ≡ true → e < length m) → AllMarked P i m slots lists → IsLinkedList i slots lists
+  rows_are i m slots lists low h =
       record {
-        pass =
-            λ j.
-            elim j as (λ j. IsSome (slot (Some x ∷ slots) j)
-            → (e : ℕ) → Contains (row (lists_by_slots (Some x ∷ slots) (l ∷ lists)) j) e → P (i + j) e ≡ true) [
-              | zero ↦ λ s e c. at_here P i e ∙ marked_pass (P i) m l h.0 e c
-              | suc k ↦ λ s e c. at_next P i k e ∙ r.pass k s e c
-            ];
-        once =
-            λ j.
-            elim j as (λ j. IsSome (slot (Some x ∷ slots) j)
-            → AreDistinct (row (lists_by_slots (Some x ∷ slots) (l ∷ lists)) j)) [
-              | zero ↦ λ s. marked_once (P i) m l (λ e q. low i e q) h.0
-              | suc k ↦ λ s. r.once k s
-            ];
+        pass = λ j s. let r = linked_at i m slots lists low h j s in r.0;
+        once = λ j s. let r = linked_at i m slots lists low h j s in r.1;
       }
 
   -- what is marked stands in a list of a node
@@ -283,14 +264,10 @@ pub record MarkedSoFar (p : ℕ → Bool) (m₀ : List Bool) (es : List ℕ) (i 
   pub kept : length m ≡ length m₀
 
 module _ {p : ℕ → Bool} {m₀ m : List Bool} {es : List ℕ} {i : ℕ} (s : MarkedSoFar p m₀ es i m) where
-  next_is : i < length es → (e : ℕ) → e ≡ get_or es i e → drop i es ≡ e ∷ drop (i + 1) es
-  next_is low e is =
-      drop-cons es i e low ∙ (ap (λ k. k ∷ drop (suc i) es) (sym is) ∙ ap (λ k. e ∷ drop k es) (sym (add-one i)))
-
   pub marked_on : i < length es → (e : ℕ) → e ≡ get_or es i e → p e ≡ true → get_or m e false ≡ false
       → (m' : List Bool) → m' ≡ set m e true → MarkedSoFar p m₀ es (i + 1) m'
   marked_on low e is pass fresh m' more =
-      let next = next_is low e is in
+      let next = drop_at es i e low is in
       rw more (record {
         forth = λ h. let q = rw next at (s.forth h) in q.2;
         back = λ h. s.back (rw next (pass, fresh, h));
@@ -300,7 +277,7 @@ module _ {p : ℕ → Bool} {m₀ m : List Bool} {es : List ℕ} {i : ℕ} (s : 
 
   pub marked_wrong : i < length es → (e : ℕ) → e ≡ get_or es i e → ((p e ≡ true) × (get_or m e false ≡ false) → ⊥)
       → Marked p m₀ es → ⊥
-  marked_wrong low e is wrong h = let q = rw (next_is low e is) at (s.forth h) in wrong (q.0, q.1)
+  marked_wrong low e is wrong h = let q = rw (drop_at es i e low is) at (s.forth h) in wrong (q.0, q.1)
 
 -- the lists of the first n slots were marked
 pub record ListsSoFar {N : Type 0} (P : ℕ → ℕ → Bool) (m₀ : List Bool) (slots : List (Option N)) (lists : List (List ℕ))
@@ -313,21 +290,10 @@ pub record ListsSoFar {N : Type 0} (P : ℕ → ℕ → Bool) (m₀ : List Bool)
 
 module _ {N : Type 0} {P : ℕ → ℕ → Bool} {m₀ m : List Bool} {slots : List (Option N)} {lists : List (List ℕ)}
     {n passed : ℕ} (s : ListsSoFar P m₀ slots lists n passed m) where
-  slot_at : n < length slots → (o : Option N) → o ≡ get_or slots n o → drop n slots ≡ o ∷ drop (n + 1) slots
-  slot_at low o is =
-      drop-cons slots n o low
-      ∙ (ap (λ k. k ∷ drop (suc n) slots) (sym is) ∙ ap (λ k. o ∷ drop k slots) (sym (add-one n)))
-
-  list_at : passed < length lists → (l : List ℕ) → l ≡ get_or lists passed l
-      → drop passed lists ≡ l ∷ drop (passed + 1) lists
-  list_at low l is =
-      drop-cons lists passed l low
-      ∙ (ap (λ k. k ∷ drop (suc passed) lists) (sym is) ∙ ap (λ k. l ∷ drop k lists) (sym (add-one passed)))
-
   pub lists_skipped : n < length slots → (o : Option N) → o ≡ get_or slots n o → is_some o ≡ false
       → (passed' : ℕ) (m' : List Bool) → passed' ≡ passed → m' ≡ m → ListsSoFar P m₀ slots lists (n + 1) passed' m'
   lists_skipped low None is vacant passed' m' same_passed same =
-      let next = slot_at low None is in
+      let next = drop_at slots n None low is in
       rw (same_passed, same) (record {
         forth = λ h. rw next at (s.forth h);
         back = λ h. s.back (rw next h);
@@ -342,8 +308,8 @@ module _ {N : Type 0} {P : ℕ → ℕ → Bool} {m₀ m : List Bool} {slots : L
       → ListsSoFar P m₀ slots lists (n + 1) (passed + 1) m'
   lists_on low None is some more here marked after = absurd (false≢true some)
   lists_on low (Some x) is some more {l} here marked after =
-      let next = slot_at low (Some x) is in
-      let list = list_at more l here in
+      let next = drop_at slots n (Some x) low is in
+      let list = drop_at lists passed l more here in
       rw after (record {
         forth = λ h. let q = rw (next, list) at (s.forth h) in q.1;
         back = λ h. s.back (rw (next, list) (marked, h));
@@ -363,11 +329,11 @@ module _ {N : Type 0} {P : ℕ → ℕ → Bool} {m₀ m : List Bool} {slots : L
       → AllMarked P 0 m₀ slots lists → ⊥
   lists_wrong low None is some wrong h = absurd (false≢true some)
   lists_wrong low (Some x) is some wrong h =
-      let q = rw (slot_at low (Some x) is) at (s.forth h) in
+      let q = rw (drop_at slots n (Some x) low is) at (s.forth h) in
       elim (cases_lt passed (length lists)) [
         | inl more ↦ (
             let here = get_or_default lists passed [] (get_or lists passed []) more in
-            let r = rw (list_at more _ here) at q in
+            let r = rw (drop_at lists passed _ more here) at q in
             wrong more _ here r.0
             )
         | inr over ↦ rw (drop_all passed lists over) at q

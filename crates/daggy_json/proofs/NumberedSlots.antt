@@ -1,6 +1,6 @@
 -- Slots that are gone through one by one, up to the bound.
 use Rattle.std.proofs.Common.{◌≡◌, ℕ, zero, suc, ◌+◌, ◌<◌, Option, Some, None, is_some, true, false, List, [], ◌∷◌}
-use Rattle.std.proofs.Common.{◌++◌, length, take, refl, sym, ap, subst, add-zero, arith}
+use Rattle.std.proofs.Common.{◌++◌, length, take, refl, sym, ap, add-zero, zero-add, add-one, arith}
 use Rattle.std.proofs.lemmas.Bool.{false≢true}
 use Rattle.daggy_base.specs.Graph.{slot, bound_of, bound_step}
 use Rattle.daggy_base.specs.Iterating.{numbered}
@@ -13,15 +13,10 @@ numbered_some : {A : Type 0} (i n : ℕ) (xs : List (Option A)) (w : A)
 numbered_some i n [] w e = cc
 numbered_some i zero (None ∷ xs) w e = cc
 numbered_some i zero (Some x ∷ xs) w e = let same : x ≡ w = cc in rw (add-zero i, same) refl
-numbered_some {A} i (suc n) (None ∷ xs) w e =
-    let P : ℕ → Type 0 = λ k. numbered (i + 1) (take (suc n) xs) ≡ numbered (i + 1) (take n xs) ++ (k, w) ∷ [] in
-    let k : i + 1 + n ≡ i + suc n = omega arith in
-    subst P k (numbered_some (i + 1) n xs w e)
-numbered_some {A} i (suc n) (Some x ∷ xs) w e =
-    let P : ℕ → Type 0 = λ k.
-    (i, x) ∷ numbered (i + 1) (take (suc n) xs) ≡ (i, x) ∷ numbered (i + 1) (take n xs) ++ (k, w) ∷ [] in
-    let k : i + 1 + n ≡ i + suc n = omega arith in
-    subst P k (ap (λ z. (i, x) ∷ z) (numbered_some (i + 1) n xs w e))
+numbered_some i (suc n) (None ∷ xs) w e =
+    let k : i + suc n ≡ i + 1 + n = omega arith in rw k (numbered_some (i + 1) n xs w e)
+numbered_some i (suc n) (Some x ∷ xs) w e =
+    let k : i + suc n ≡ i + 1 + n = omega arith in rw k (ap (λ z. (i, x) ∷ z) (numbered_some (i + 1) n xs w e))
 
 numbered_none : {A : Type 0} (i n : ℕ) (xs : List (Option A))
     → slot xs n ≡ None → numbered i (take (suc n) xs) ≡ numbered i (take n xs)
@@ -34,19 +29,11 @@ numbered_none i (suc n) (Some x ∷ xs) e = ap (λ z. (i, x) ∷ z) (numbered_no
 
 pub numbered_passes : {A : Type 0} (n : ℕ) (xs : List (Option A)) (w : A)
     → slot xs n ≡ Some w → numbered 0 (take (n + 1) xs) ≡ numbered 0 (take n xs) ++ (n, w) ∷ []
-numbered_passes {A} n xs w e =
-    let P : ℕ → Type 0 = λ k. numbered 0 (take k xs) ≡ numbered 0 (take n xs) ++ (n, w) ∷ [] in
-    let Q : ℕ → Type 0 = λ k. numbered 0 (take (suc n) xs) ≡ numbered 0 (take n xs) ++ (k, w) ∷ [] in
-    let more : suc n ≡ n + 1 = omega arith in
-    let same : 0 + n ≡ n = omega arith in
-    subst P more (subst Q same (numbered_some 0 n xs w e))
+numbered_passes n xs w e = rw (add-one n) (rw (zero-add n) at (numbered_some 0 n xs w e))
 
 pub numbered_skips : {A : Type 0} (n : ℕ) (xs : List (Option A))
     → slot xs n ≡ None → numbered 0 (take (n + 1) xs) ≡ numbered 0 (take n xs)
-numbered_skips {A} n xs e =
-    let P : ℕ → Type 0 = λ k. numbered 0 (take k xs) ≡ numbered 0 (take n xs) in
-    let more : suc n ≡ n + 1 = omega arith in
-    subst P more (numbered_none 0 n xs e)
+numbered_skips n xs e = rw (add-one n) (numbered_none 0 n xs e)
 
 -- behind the bound nothing is left
 at_step : {A : Type 0} (i : ℕ) (x : Option A) (xs : List (Option A)) (b : ℕ)
@@ -74,30 +61,17 @@ vacant_some i (suc n) (Some x ∷ xs) e = vacant_some (i + 1) n xs e
 vacant_none : {A : Type 0} (i n : ℕ) (xs : List (Option A)) → n < length xs → is_some (slot xs n) ≡ false
     → vacant_from i (take (suc n) xs) ≡ vacant_from i (take n xs) ++ (i + n) ∷ []
 vacant_none i n [] low e = absurd (omega arith)
-vacant_none i zero (None ∷ xs) low e = let P : ℕ → Type 0 = λ k. i ∷ [] ≡ k ∷ [] in subst P (sym (add-zero i)) refl
+vacant_none i zero (None ∷ xs) low e = rw (add-zero i) refl
 vacant_none i zero (Some x ∷ xs) low e = absurd (false≢true (sym e))
-vacant_none {A} i (suc n) (None ∷ xs) low e =
-    let P : ℕ → Type 0 = λ k.
-    i ∷ vacant_from (i + 1) (take (suc n) xs) ≡ i ∷ vacant_from (i + 1) (take n xs) ++ k ∷ [] in
-    let k : i + 1 + n ≡ i + suc n = omega arith in
-    subst P k (ap (λ z. i ∷ z) (vacant_none (i + 1) n xs (omega arith) e))
-vacant_none {A} i (suc n) (Some x ∷ xs) low e =
-    let P : ℕ → Type 0 = λ k. vacant_from (i + 1) (take (suc n) xs) ≡ vacant_from (i + 1) (take n xs) ++ k ∷ [] in
-    let k : i + 1 + n ≡ i + suc n = omega arith in
-    subst P k (vacant_none (i + 1) n xs (omega arith) e)
+vacant_none i (suc n) (None ∷ xs) low e =
+    let k : i + suc n ≡ i + 1 + n = omega arith in rw k (ap (λ z. i ∷ z) (vacant_none (i + 1) n xs (omega arith) e))
+vacant_none i (suc n) (Some x ∷ xs) low e =
+    let k : i + suc n ≡ i + 1 + n = omega arith in rw k (vacant_none (i + 1) n xs (omega arith) e)
 
 pub vacant_passes : {A : Type 0} (n : ℕ) (xs : List (Option A)) → n < length xs → is_some (slot xs n) ≡ false
     → vacant_from 0 (take (n + 1) xs) ≡ vacant_from 0 (take n xs) ++ n ∷ []
-vacant_passes {A} n xs low e =
-    let P : ℕ → Type 0 = λ k. vacant_from 0 (take k xs) ≡ vacant_from 0 (take n xs) ++ n ∷ [] in
-    let Q : ℕ → Type 0 = λ k. vacant_from 0 (take (suc n) xs) ≡ vacant_from 0 (take n xs) ++ k ∷ [] in
-    let more : suc n ≡ n + 1 = omega arith in
-    let same : 0 + n ≡ n = omega arith in
-    subst P more (subst Q same (vacant_none 0 n xs low e))
+vacant_passes n xs low e = rw (add-one n) (rw (zero-add n) at (vacant_none 0 n xs low e))
 
 pub vacant_skips : {A : Type 0} (n : ℕ) (xs : List (Option A))
     → is_some (slot xs n) ≡ true → vacant_from 0 (take (n + 1) xs) ≡ vacant_from 0 (take n xs)
-vacant_skips {A} n xs e =
-    let P : ℕ → Type 0 = λ k. vacant_from 0 (take k xs) ≡ vacant_from 0 (take n xs) in
-    let more : suc n ≡ n + 1 = omega arith in
-    subst P more (vacant_some 0 n xs e)
+vacant_skips n xs e = rw (add-one n) (vacant_some 0 n xs e)

@@ -16,9 +16,9 @@ use Rattle.daggy_base.proofs.Lists.{Contains-here, Contains-there}
 use Rattle.daggy_base.specs.Orders.{lists_by_slots, with_orders, AreOrders}
 use Rattle.daggy_json.specs.Reading.{whole_in, all_in, array_in, numbers_in, pair, pair_in, orders_in}
 use Rattle.daggy_json.specs.Found.{index_in, indices_in, row, row_in, rows_in, chosen}
-use Rattle.daggy_json.proofs.MarkedLists.{count_none, count_some}
+use Rattle.daggy_json.proofs.MarkedLists.{count_none, count_some, slot_within}
 use Rattle.daggy_json.proofs.MarkedLists as marking
-use Rattle.daggy_json.proofs.RearrangedLists.{in_list_ends, end_below, ordered_at, slot_low}
+use Rattle.daggy_json.proofs.RearrangedLists.{in_list_ends, end_below, ordered_at}
 
 -- ---- what one of a list gives
 
@@ -190,10 +190,8 @@ orders_none nodes edges bound is d none rows some orders =
     let at =
     node_of nodes (map (chosen dir) rows) bad.0 (chosen dir bad.1) (length-map rows (chosen dir) ∙ orders.count)
     (chosen_at dir rows bad.0 bad.1 bad.2) in
-    let inside : Contains (list_at dir (with_orders (graph_of_slots nodes edges) rows) at.0) e =
-    subst (λ k. Contains k e) (sym (ordered_at dir edges nodes dir rows at.0 ∙ at.2))
-    (listed_at (chosen dir bad.1) worst.0 e worst.2) in
+    let inside = listed_at (chosen dir bad.1) worst.0 e worst.2 in
     let ends =
-    in_list_ends dir edges nodes at.0 e (slot_low dir edges nodes nodes at.0 at.1)
-    (((orders.each dir at.0 at.1).exact e).0 inside) in
+    in_list_ends dir edges nodes at.0 e (slot_within nodes at.0 at.1)
+    (((orders.each dir at.0 at.1).exact e).0 (rw (ordered_at dir edges nodes dir rows at.0 ∙ at.2) inside)) in
     omega (arith, end_below dir edges at.0 e ends, worst.3, is)

@@ -41,23 +41,18 @@ slot_read (x ∷ xs) (suc i) = slot_read xs i
 pub more_values : {A : Type 0} (as_data : A → Data) (vs vs' : List Value) (v : Value) (xs : List A) (x : A)
     → map view vs ≡ map as_data xs → view v ≡ as_data x → vs' ≡ vs ++ v ∷ [] → map view vs' ≡ map as_data (xs ++ x ∷ [])
 more_values as_data vs vs' v xs x so_far is more =
-    ap (map view) more
-    ∙ (map-append view vs (v ∷ [])
-    ∙ (ap (λ k. k ++ view v ∷ []) so_far
-    ∙ (ap (λ k. map as_data xs ++ k ∷ []) is ∙ sym (map-append as_data xs (x ∷ [])))))
+    rw (more, map-append view vs (v ∷ []), so_far, is) (sym (map-append as_data xs (x ∷ [])))
 
 pub zip_more : {A B : Type 0} (R : A → B → Type 0) (xs : List A) (ys : List B) (x : A) (y : B)
     → AllZip R xs ys → R x y → AllZip R (xs ++ x ∷ []) (ys ++ y ∷ [])
 zip_more R [] [] x y all here = (here, tt)
-zip_more R [] (z ∷ zs) x y all here = absurd all
-zip_more R (z ∷ zs) [] x y all here = absurd all
 zip_more R (z ∷ zs) (w ∷ ws) x y all here = (all.0, zip_more R zs ws x y all.1 here)
+zip_more R _ _ x y all here = absurd all
 
 pub zip_values : {A : Type 0} (R : A → Data → Type 0) (vs vs' : List Value) (v : Value) (xs : List A) (x : A)
     → AllZip R xs (map view vs) → R x (view v) → vs' ≡ vs ++ v ∷ [] → AllZip R (xs ++ x ∷ []) (map view vs')
 zip_values R vs vs' v xs x so_far here more =
-    let e : map view vs' ≡ map view vs ++ view v ∷ [] = ap (map view) more ∙ map-append view vs (v ∷ []) in
-    subst (AllZip R (xs ++ x ∷ [])) (sym e) (zip_more R xs (map view vs) x (view v) so_far here)
+    rw (more, map-append view vs (v ∷ [])) (zip_more R xs (map view vs) x (view v) so_far here)
 
 -- ---- holes
 
@@ -106,19 +101,17 @@ module _ {A : Type 0} (slots : List (Option A)) {i n : ℕ} (at : n ≡ i) where
       → R w (view v) → vs' ≡ vs ++ v ∷ []
       → AllZip R (map (λ p. p.1) (numbered 0 (take (i + 1) slots))) (map view vs')
   weight_more R vs {vs'} v so_far w some is more =
-      let e : map (λ p. p.1) (numbered 0 (take (i + 1) slots)) ≡ map (λ p. p.1) (numbered 0 (take i slots)) ++ w ∷ [] =
-      ap (map (λ p. p.1)) (numbered_passes i slots w (ap (slot slots) (sym at) ∙ sym some))
-      ∙ map-append (λ p. p.1) (numbered 0 (take i slots)) ((i, w) ∷ []) in
-      subst (λ k. AllZip R k (map view vs')) (sym e) (zip_values R vs vs' v _ w so_far is more)
+      rw (
+        numbered_passes i slots w (ap (slot slots) (sym at) ∙ sym some),
+        map-append (λ (p : ℕ × A). p.1) (numbered 0 (take i slots)) ((i, w) ∷ []),
+      )
+      (zip_values R vs vs' v _ w so_far is more)
 
   pub weight_kept : (R : A → Data → Type 0) {vs vs' : List Value}
       → AllZip R (map (λ p. p.1) (numbered 0 (take i slots))) (map view vs) → None ≡ slot slots n → vs' ≡ vs
       → AllZip R (map (λ p. p.1) (numbered 0 (take (i + 1) slots))) (map view vs')
-  weight_kept R {vs} {vs'} so_far vacant same =
-      let e : map (λ p. p.1) (numbered 0 (take (i + 1) slots)) ≡ map (λ p. p.1) (numbered 0 (take i slots)) =
-      ap (map (λ p. p.1)) (numbered_skips i slots (ap (slot slots) (sym at) ∙ sym vacant)) in
-      subst (λ k. AllZip R k (map view vs')) (sym e)
-      (subst (λ k. AllZip R (map (λ p. p.1) (numbered 0 (take i slots))) (map view k)) (sym same) so_far)
+  weight_kept R so_far vacant same =
+      rw (numbered_skips i slots (ap (slot slots) (sym at) ∙ sym vacant), same) so_far
 
   -- ---- entries
 
@@ -126,9 +119,8 @@ module _ {A : Type 0} (slots : List (Option A)) {i n : ℕ} (at : n ≡ i) where
       → i < length slots → AllZip R (take i slots) (map view vs) → R (slot slots n) (view v) → vs' ≡ vs ++ v ∷ []
       → AllZip R (take (i + 1) slots) (map view vs')
   entry_more R vs {vs'} v low so_far entry more =
-      let e : take (i + 1) slots ≡ take i slots ++ slot slots n ∷ [] =
-      take_more slots i None low ∙ ap (λ k. take i slots ++ k ∷ []) (sym (ap (slot slots) at ∙ slot_read slots i)) in
-      subst (λ k. AllZip R k (map view vs')) (sym e) (zip_values R vs vs' v _ _ so_far entry more)
+      rw (take_more slots i None low, sym (ap (slot slots) at ∙ slot_read slots i))
+      (zip_values R vs vs' v _ _ so_far entry more)
 
 -- ---- up to the bound
 
@@ -145,8 +137,7 @@ pub weights_whole : {A : Type 0} (slots : List (Option A)) (R : A → Data → T
     → i ≡ bound_of slots → AllZip R (map (λ p. p.1) (numbered 0 (take i slots))) (map view vs)
     → AllZip R (map (λ p. p.1) (numbered 0 slots)) (map view vs)
 weights_whole slots R vs i is so_far =
-    subst (λ k. AllZip R (map (λ p. p.1) k) (map view vs))
-    (ap (λ k. numbered 0 (take k slots)) is ∙ numbered_bounded 0 slots) so_far
+    rw (sym (numbered_bounded 0 slots), sym is) so_far
 
 -- ---- an entry
 

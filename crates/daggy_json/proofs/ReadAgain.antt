@@ -2,15 +2,14 @@
 use Rattle.std.proofs.Common.{◌≡◌, ℕ, suc, ◌+◌, ◌<◌, Bool, true, Option, Some, None, IsSome, List, [], ◌∷◌, ◌++◌}
 use Rattle.std.proofs.Common.{length, map, slice_get, refl, sym, ap, subst, ◌∙◌, arith}
 use Rattle.std.specs.Prelude.{Result, Ok, Err, MatchResult, Contains, option_and_then, codes}
-use Rattle.std.specs.Option.{option_map}
 use Rattle.std.specs.List.{AllZip}
 use Rattle.serde_json.specs.Data.{Data, null}
 use Rattle.daggy_base.specs.Graph.{Graph, Edge, slot, out_list, in_list}
 use Rattle.daggy_base.specs.Iterating.{numbered}
 use Rattle.daggy_base.specs.Orders.{lists_by_slots}
 use Rattle.daggy_json.specs.Document.{whole, listed, wholes, row_of, document_of, IsEntry}
-use Rattle.daggy_json.specs.Reading.{Parts, parts_in, array_in, whole_in, all_in, numbers_in, pair_in, orders_in}
-use Rattle.daggy_json.specs.Reading.{triple_in, ReadsEach, IsEntryRead, HasEnds}
+use Rattle.daggy_json.specs.Reading.{parts_in, array_in, whole_in, all_in, numbers_in, pair_in, orders_in, triple_in}
+use Rattle.daggy_json.specs.Reading.{ReadsEach, IsEntryRead, HasEnds}
 use Rattle.daggy_base.specs.Mapping.{weight_in, with_weight}
 use Rattle.daggy_json.specs.declared.error.ReadError.{ReadError}
 use Rattle.daggy_json.specs.declared.error.ReadError.TheVariants.{Shape, Weight, BadEndpoint}
@@ -27,8 +26,7 @@ all_again : {A : Type 0} (one : Data → Option A) (as_data : A → Data)
     → ((x : A) → one (as_data x) ≡ Some x) → (xs : List A) → all_in one (map as_data xs) ≡ Some xs
 all_again one as_data again [] = refl
 all_again one as_data again (x ∷ xs) =
-    ap (option_and_then (λ y. option_map (λ ys. y ∷ ys) (all_in one (map as_data xs)))) (again x)
-    ∙ ap (option_map (λ ys. x ∷ ys)) (all_again one as_data again xs)
+    rw (again x, all_again one as_data again xs)
 
 pub numbers_again : (ns : List ℕ) → numbers_in (wholes ns) ≡ Some ns
 numbers_again ns =
@@ -40,8 +38,7 @@ lists_of g n = (out_list g n, in_list g n)
 
 row_again : (a b : List ℕ) → pair_in (listed (wholes a ∷ wholes b ∷ [])) ≡ Some (a, b)
 row_again a b =
-    ap (λ o. option_and_then (λ p. option_map (λ c. (p, c)) (numbers_in (wholes b))) o) (numbers_again a)
-    ∙ ap (option_map (λ c. (a, c))) (numbers_again b)
+    rw (numbers_again a, numbers_again b)
 
 pub orders_again : {N E : Type 0} (g : Graph N E) (ns : List ℕ)
     → orders_in (listed (map (row_of g) ns)) ≡ Some (map (lists_of g) ns)
@@ -50,9 +47,7 @@ orders_again g ns = ap (option_and_then (all_in pair_in)) (array_again (map (row
     go : (ns : List ℕ) → all_in pair_in (map (row_of g) ns) ≡ Some (map (lists_of g) ns)
     go [] = refl
     go (n ∷ ns) =
-        ap (option_and_then (λ y. option_map (λ ys. y ∷ ys) (all_in pair_in (map (row_of g) ns))))
-        (row_again (out_list g n) (in_list g n))
-        ∙ ap (option_map (λ ys. lists_of g n ∷ ys)) (go ns)
+        rw (row_again (out_list g n) (in_list g n), go ns)
 
 -- the parts of a document
 pub parts_again : (entries : List Data) (holes : List ℕ) (weights orders : List Data)
@@ -64,18 +59,12 @@ pub parts_again : (entries : List Data) (holes : List ℕ) (weights orders : Lis
       orders = Some (listed orders);
     })
 parts_again entries holes weights orders =
-    let made : List Data → List ℕ → List Data → Parts = λ ns hs es. record {
-      nodes = ns;
-      holes = hs;
-      property = codes "directed";
-      edges = es;
-      orders = Some (listed orders);
-    } in
-    ap (option_and_then
-    (λ ns. option_and_then (λ hs. option_map (made ns hs) (array_in (listed entries))) (numbers_in (wholes holes))))
-    (array_again weights)
-    ∙ ap (option_and_then (λ hs. option_map (made weights hs) (array_in (listed entries)))) (numbers_again holes)
-    ∙ ap (option_map (made weights holes)) (array_again entries)
+    rw (
+      list_of-items_of weights,
+      list_of-items_of (map whole holes),
+      all_again whole_in whole (λ n. refl) holes,
+      list_of-items_of entries,
+    )
 
 -- ---- one after another
 
@@ -87,11 +76,10 @@ module _ {A B : Type 0} (reads : Data → Result B ReadError → Type 0) (stands
   each_ok : (xs : List A) (ds : List Data) (ys : List B) → AllZip stands xs ds → AllZip (λ d y. reads d (Ok y)) ds ys
       → AllZip (λ x y. ReadsThrough x (Ok y)) xs ys
   each_ok [] [] [] w r = tt
-  each_ok [] [] (y ∷ ys) w r = absurd r
-  each_ok [] (d ∷ ds) ys w r = absurd w
-  each_ok (x ∷ xs) [] ys w r = absurd w
-  each_ok (x ∷ xs) (d ∷ ds) [] w r = absurd r
   each_ok (x ∷ xs) (d ∷ ds) (y ∷ ys) w r = ((d, w.0, r.0), each_ok xs ds ys w.1 r.1)
+  each_ok [] [] _ w r = absurd r
+  each_ok (x ∷ xs) (d ∷ ds) _ w r = absurd r
+  each_ok _ _ ys w r = absurd w
 
   one_err : (xs : List A) (before : List Data) (at : Data) (after : List Data) (e : ReadError)
       → AllZip stands xs (before ++ at ∷ after) → reads at (Err e) → (x : A) × Contains xs x × ReadsThrough x (Err e)

@@ -16,7 +16,8 @@ use Rattle.daggy_base.specs.FromSlots.{down_from, has_end, lists_down, graph_of_
 use Rattle.daggy_base.proofs.Lists.{Contains-nil, Contains-here, Contains-there, Contains-cases}
 use Rattle.daggy_base.specs.Orders.{lists_by_slots, with_orders, IsOrder, AreOrders}
 use Rattle.daggy_json.specs.Found.{chosen, AllMarked, marked_by, LeavesNone, AreRearranged, EndsExist}
-use Rattle.daggy_json.proofs.MarkedLists.{row, rows_count, rows_are, stands_in, gets_marked, all_from}
+use Rattle.daggy_json.proofs.MarkedLists.{row, rows_count, rows_are, stands_in, gets_marked, all_from, slot_within}
+use Rattle.daggy_json.proofs.Parts.{slot_some}
 
 -- ---- numbers below k that pass
 
@@ -94,8 +95,7 @@ module _ {E : Type 0} (dir : Direction) (edges : List (Option (Edge E))) where
     pub in_list_has : (n e : ℕ)
         → n < length nodes → has_end dir edges n e ≡ true → Contains (list_at dir (graph_of_slots nodes edges) n) e
     in_list_has n e low h =
-        subst (λ k. Contains k e) (sym (at_dir dir n ∙ lists_at n low))
-        (down_has (has_end dir edges n) (length edges) e (end_below n e h) h)
+        rw (at_dir dir n ∙ lists_at n low) (down_has (has_end dir edges n) (length edges) e (end_below n e h) h)
 
     pub in_list_ends : (n e : ℕ)
         → n < length nodes → Contains (list_at dir (graph_of_slots nodes edges) n) e → has_end dir edges n e ≡ true
@@ -107,11 +107,6 @@ module _ {E : Type 0} (dir : Direction) (edges : List (Option (Edge E))) where
         ≡ row (lists_by_slots nodes (map (chosen d) rows)) n
     ordered_at Outgoing rows n = refl
     ordered_at Incoming rows n = refl
-
-    pub slot_low : (xs : List (Option N)) (n : ℕ) → IsSome (slot xs n) → n < length xs
-    slot_low [] n h = absurd (false≢true h)
-    slot_low (x ∷ xs) zero h = omega arith
-    slot_low (x ∷ xs) (suc n) h = let r = slot_low xs n h in omega arith
 
     none_marked : (k e : ℕ) → get_or (replicate k false) e false ≡ true → ⊥
     none_marked zero e h = false≢true h
@@ -129,7 +124,7 @@ module _ {E : Type 0} (dir : Direction) (edges : List (Option (Edge E))) where
           let lists = map (chosen dir) rows in
           let none = replicate (length edges) false in
           let r = rows_are (has_end dir edges) 0 none nodes lists low_marks h.0 in
-          let low = slot_low nodes n exists in
+          let low = slot_within nodes n exists in
           let start : (e : ℕ) → has_end dir edges (0 + n) e ≡ true → has_end dir edges n e ≡ true = λ e q.
           ap (λ k. has_end dir edges k e) (let z : n ≡ 0 + n = omega arith in z) ∙ q in
           let found : (e : ℕ)
@@ -175,22 +170,18 @@ module _ {E : Type 0} (dir : Direction) (edges : List (Option (Edge E))) where
               (record {
                 pass = λ n s e c.
                     ap (λ k. has_end dir edges k e) (let z : 0 + n ≡ n = omega arith in z)
-                    ∙ in_list_ends n e (slot_low nodes n s) (((order_of n s).exact e).0 c);
+                    ∙ in_list_ends n e (slot_within nodes n s) (((order_of n s).exact e).0 c);
                 once = λ n s. (order_of n s).once;
               }) (λ e h. absurd (none_marked (length edges) e h))
 
           none_left : LeavesNone edges (marked_by (replicate (length edges) false) nodes (map (chosen dir) rows))
           none_left e s =
-              let x = some_edge (slot edges e) s in
+              let x = slot_some (slot edges e) s in
               let n = near_end dir x.0 in
               let exists = ends e x.0 x.1 in
-              let here = in_list_has n e (slot_low nodes n exists) (end_is e x.0 x.1) in
+              let here = in_list_has n e (slot_within nodes n exists) (end_is e x.0 x.1) in
               gets_marked (has_end dir edges) 0 _ nodes _ low_marks all n
               (record { exists = exists; listed = ((order_of n exists).exact e).1 here })
-            where
-              some_edge : (o : Option (Edge E)) → is_some o ≡ true → (x : Edge E) × (o ≡ Some x)
-              some_edge None t = absurd (false≢true t)
-              some_edge (Some x) t = (x, refl)
 
 -- ---- both directions
 

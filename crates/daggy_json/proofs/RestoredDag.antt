@@ -32,8 +32,8 @@ use Rattle.daggy_json.specs.Restoring.{ReadsOnly, trimmed, IsCopyAs, ReadsTo, Ca
 use Rattle.daggy_json.specs.declared.error.ReadError.{ReadError}
 use Rattle.daggy_json.specs.declared.error.ReadError.TheVariants.{Shape, Property, Holes, Full, Weight, Memory}
 use Rattle.daggy_json.proofs.NumberedSlots.{numbered_bounded}
-use Rattle.daggy_json.proofs.MarkedLists.{row}
-use Rattle.daggy_json.proofs.RearrangedLists.{slot_low, end_some, end_is, in_list_has, in_list_ends}
+use Rattle.daggy_json.proofs.MarkedLists.{row, slot_within}
+use Rattle.daggy_json.proofs.RearrangedLists.{end_some, end_is, in_list_has, in_list_ends}
 use Rattle.daggy_json.proofs.TrimmedSlots.{slot_bounded, vacant_ascend, slots_split, numbered_count}
 use Rattle.daggy_json.proofs.TrimmedSlots.{vacant_full, take_full, down_full}
 use Rattle.daggy_json.proofs.CopiedSlots.{AreCopied, SlotAs, copied_there, copied_length, copied_numbers, copied_down}
@@ -53,9 +53,6 @@ get_front (suc n) (y ∷ xs) (suc i) x e = get_front n xs i x e
 
 full_front : {A : Type 0} (n : ℕ) (xs : List (Option A)) → IsFull xs → IsFull (take n xs)
 full_front n xs h i e = h i (get_front n xs i None e)
-
-slot_is : {A : Type 0} (xs : List (Option A)) (i : ℕ) (x : Option A) → slice_get xs i ≡ Some x → slot xs i ≡ x
-slot_is xs i x e = ap (option_and_then (λ z. z)) e
 
 nothing_in : (l : List ℕ) → ((e : ℕ) → Contains l e → ⊥) → l ≡ []
 nothing_in [] h = refl
@@ -141,7 +138,7 @@ module _ {N E : Type 0} (limit : ℕ) (g : Graph N E) (w : IsWellFormed limit g)
         absurd (full_front (edge_bound g) g.edges
         (full_from g.edges g.vacant_edges w.edge_slots (compact refl).edges) i at)
     entries_fit stable compact i (Some x) at =
-        let was = edge_was i x (slot_is kept_edges i (Some x) at) in
+        let was = edge_was i x (ap (option_and_then (λ z. z)) at) in
         (node_kept x.parent (w.parents i x was), node_kept x.child (w.children i x was))
 
     -- the lists of one direction
@@ -163,7 +160,7 @@ module _ {N E : Type 0} (limit : ℕ) (g : Graph N E) (w : IsWellFormed limit g)
           ∙ rows_again (row lists) 0 nodes (take (node_bound g) lists) front_long
           (λ k s.
           ap (row lists) (let e : 0 + k ≡ k = omega arith in e)
-          ∙ sym (front_row k (slot_low Outgoing kept_edges nodes nodes k s)))
+          ∙ sym (front_row k (slot_within nodes k s)))
           (λ k low none. front_row k low ∙ empty k (sym (there k) ∙ ap is_some none))
 
     module _ (edges : List (Option (Edge W))) (copied_edges : AreCopied edge_as weight_in with_weight 0 kept_edges edges) where
@@ -206,7 +203,7 @@ module _ {N E : Type 0} (limit : ℕ) (g : Graph N E) (w : IsWellFormed limit g)
                 length-map (map (λ p. p.0) (numbered 0 kept)) (lists_of g) ∙ ap length (sym numbers)
                 ∙ length-map (numbered 0 nodes) (λ p. p.0) ∙ numbered_count 0 nodes;
             each = λ dir n exists.
-                let low = slot_low dir edges nodes nodes n exists in
+                let low = slot_within nodes n exists in
                 subst (IsOrder (list_at dir (graph_of_slots nodes edges) n)) (sym (list_again dir n low)) (record {
                   exact = λ e. (
                     λ c. let x = ((of_side dir).exact n e).0 c in

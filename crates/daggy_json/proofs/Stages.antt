@@ -1,6 +1,6 @@
 -- Weights and entries that were read so far.
 use Rattle.std.proofs.Common.{◌≡◌, ℕ, suc, ◌+◌, ◌<◌, Bool, IsSome, Option, Some, None, List, [], ◌∷◌, ◌++◌, length}
-use Rattle.std.proofs.Common.{get_or, take, drop, map, sym, ap, subst, ◌∙◌, add-one, drop-cons}
+use Rattle.std.proofs.Common.{get_or, take, drop, map, sym, ap, ◌∙◌, drop-cons}
 use Rattle.std.specs.Prelude.{Result, Ok, Err}
 use Rattle.std.specs.List.{AllZip}
 use Rattle.std.proofs.lemmas.List.{map-append, take_more, take-append-drop}
@@ -33,11 +33,7 @@ module _ {A : Type 0} (reads : Data → Result A ReadError → Type 0) where
         let e : map view (take (i + 1) vs) ≡ map view (take i vs) ++ view v ∷ [] =
         ap (map view) (take_more vs i v low ∙ ap (λ k. take i vs ++ k ∷ []) (sym is))
         ∙ map-append view (take i vs) (v ∷ []) in
-        let P : List Data → Type 0 = λ k. AllZip (λ d x. reads d (Ok x)) k xs' in
-        let Q : List A → Type 0 = λ k. AllZip (λ d x. reads d (Ok x)) (map view (take i vs) ++ view v ∷ []) k in
-        record {
-          each = subst P (sym e) (subst Q (sym more) (zip_more (λ d x. reads d (Ok x)) _ xs (view v) x s.each gives));
-        }
+        record { each = rw (e, more) (zip_more (λ d x. reads d (Ok x)) _ xs (view v) x s.each gives) }
 
     pub each_fault : (v : Value) (e : ReadError)
         → i < length vs → v ≡ get_or vs i v → reads (view v) (Err e) → ReadsEach reads (map view vs) (Err e)
@@ -51,13 +47,6 @@ pub record AscendSoFar (high : ℕ) (hs : List ℕ) (i low : ℕ) : Type 0 where
   pub forth : Ascend 0 high hs → Ascend low high (drop i hs)
   pub back : Ascend low high (drop i hs) → Ascend 0 high hs
 
-module _ {high : ℕ} {hs : List ℕ} {i low : ℕ} (s : AscendSoFar high hs i low) where
-  here : i < length hs → drop i hs ≡ get_or hs i 0 ∷ drop (i + 1) hs
-  here within = drop-cons hs i 0 within ∙ ap (λ k. get_or hs i 0 ∷ drop k hs) (sym (add-one i))
-
-  at : i < length hs → (h : ℕ) → h ≡ get_or hs i 0 → drop i hs ≡ h ∷ drop (i + 1) hs
-  at within h is = here within ∙ ap (λ k. k ∷ drop (i + 1) hs) (sym is)
-
 -- ---- entries
 
 module _ {N E : Type 0} (stable : Bool) (nodes : List (Option N)) (answers : Data → Option E → Type 0) (d : Data)
@@ -65,13 +54,12 @@ module _ {N E : Type 0} (stable : Bool) (nodes : List (Option N)) (answers : Dat
     (child : IsSome (slot nodes q)) where
   pub entry_some : {p' q' : ℕ} (x : E) → p' ≡ p → q' ≡ q → answers w (Some x)
       → IsEntryRead stable nodes answers d (Ok (Some (record { parent = p'; child = q'; weight = x })))
-  entry_some {p'} x is is' says =
-      let P : ℕ → Type 0 = λ k. IsSome (slot nodes k) in (
-        w,
-        sym found ∙ (ap (λ k. Some (k, q, w)) (sym is) ∙ ap (λ k. Some (p', k, w)) (sym is')),
-        (subst P (sym is) parent, subst P (sym is') child),
-        says,
-      )
+  entry_some {p'} x is is' says = (
+    w,
+    sym found ∙ (ap (λ k. Some (k, q, w)) (sym is) ∙ ap (λ k. Some (p', k, w)) (sym is')),
+    (rw is parent, rw is' child),
+    says,
+  )
 
   pub entry_refused : answers w None → IsEntryRead stable nodes answers d (Err Weight)
   entry_refused says = ((p, q, w), sym found, (parent, child), says)

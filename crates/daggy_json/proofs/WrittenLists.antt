@@ -1,6 +1,6 @@
 -- What was written of a list so far.
 use Rattle.std.proofs.Common.{◌≡◌, ◌≢◌, ℕ, suc, ◌<◌, ◌≤◌, inl, inr, Some, List, [], ◌∷◌, ◌++◌, length, get_or, take}
-use Rattle.std.proofs.Common.{drop, map, sym, ap, subst, ◌∙◌, add-one, arith, length-append}
+use Rattle.std.proofs.Common.{drop, map, sym, ap, ◌∙◌, add-one, arith, length-append}
 use Rattle.std.proofs.lemmas.Bool.{cases_lt}
 use Rattle.std.proofs.lemmas.List.{map-append, take_more, take_all}
 use Rattle.daggy_base.specs.declared.index.Direction.{Direction}
@@ -45,8 +45,7 @@ module _ {N E : Type 0} {end : ℕ} {g : Graph N E} (w : IsWellFormed end g) whe
     pub listed_edge : e ≢ end → (x : Edge E) × (edge_at g e ≡ Some x) × (near_end dir x ≡ n)
     listed_edge h =
         let p = part h in
-        member_at dir n e (let P : ℕ → Type 0 = λ z. Mem z (list_at dir g n) in
-        subst P (sym p.1) (mem_at _ (length vs) end p.0))
+        member_at dir n e (rw p.1 (mem_at _ (length vs) end p.0))
 
     pub listed_whole : e ≡ end → map view vs ≡ map whole (list_at dir g n)
     listed_whole at_end =
@@ -77,10 +76,7 @@ module _ {N E : Type 0} {end : ℕ} {g : Graph N E} (w : IsWellFormed end g) whe
         record {
           within = omega (arith, p.0, long);
           written =
-              ap (map view) more
-              ∙ (map-append view vs (v ∷ [])
-              ∙ (ap (λ k. k ++ view v ∷ []) s.written
-              ∙ (ap (λ k. map whole (take (length vs) list) ++ k ∷ []) is
-              ∙ (sym (map-append whole (take (length vs) list) (e ∷ [])) ∙ ap (map whole) (sym longer)))));
+              rw (longer, more, map-append view vs (v ∷ []), s.written, is)
+              (sym (map-append whole (take (length vs) list) (e ∷ [])));
           cursor = next ∙ (after_x ∙ (behind ∙ ap (λ k. first_of end (drop k list)) (sym long)));
         }

@@ -1,11 +1,11 @@
 -- The document of a dag is also that of a dag of values.
 use Rattle.std.proofs.Common.{◌≡◌, ℕ, zero, suc, ◌+◌, ◌≤◌, Option, Some, None, List, [], ◌∷◌, map, take, refl, sym, ap}
-use Rattle.std.proofs.Common.{subst, ◌∙◌, arith}
+use Rattle.std.proofs.Common.{◌∙◌, arith}
 use Rattle.std.specs.List.{AllZip}
 use Rattle.std.proofs.lemmas.Option.{none-some}
 use Rattle.serde_json.specs.Data.{Data}
 use Rattle.daggy_base.specs.Graph.{Graph, Edge, bound_of, bound_step, edge_bound, IsCompact}
-use Rattle.daggy_base.specs.Iterating.{numbered, node_identifiers, node_weights}
+use Rattle.daggy_base.specs.Iterating.{numbered, node_identifiers}
 use Rattle.daggy_base.specs.WellFormed.{IsDag}
 use Rattle.daggy_base.specs.declared.kind.Kind.{Kind}
 use Rattle.daggy_base.specs.declared.kind.Kind.TheVariants.{Compact}
@@ -103,8 +103,6 @@ module _ {N E : Type 0} (kind : Kind) (limit : ℕ) (node_as : N → Data → Ty
   document =
       let bound : edge_bound values ≡ edge_bound g =
       copied_bound edge_as weight_in with_weight 0 g.edges linked.0 linked.1 in
-      let P : ℕ → Type 0 = λ n. AllZip (IsEntry (λ w v. w ≡ v)) (take n linked.0) doc.entries in
-      let Q : List Data → Type 0 = λ ws. AllZip (λ w v. w ≡ v) (node_weights values) ws in
       let front = copy_trimmed node_as edge_as g values copied in
       let holes : holes_of values ≡ holes_of g =
       copied_vacant node_as (λ w. w) (λ w v. v) 0 _ _ front.nodes in
@@ -113,8 +111,8 @@ module _ {N E : Type 0} (kind : Kind) (limit : ℕ) (node_as : N → Data → Ty
       record {
         entries = doc.entries;
         weights = doc.weights;
-        edges = subst P (sym bound) linked.2;
-        nodes = subst Q filled.2 (zip_refl (node_weights values));
+        edges = rw bound linked.2;
+        nodes = rw filled.2 (zip_refl doc.weights);
         is =
             doc.is ∙ ap (λ hs. document_of doc.entries (map whole hs) doc.weights (map (row_of g) (node_identifiers g)))
             (sym holes)

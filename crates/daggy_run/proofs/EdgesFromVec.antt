@@ -50,8 +50,7 @@ module _ {I N E : Type 0} (number : I → ℕ) (limit : ℕ) (items : List (I ×
       → IsAcyclic new → AddsAll limit old (map (by_numbers number) items) indices new
   all_added {old} {new} {indices} added acyclic =
       let all : added.given ≡ items = given_all added.given items s here count added.drained in
-      let P : List (I × I × E) → Type 0 = λ xs. AddsAll limit old (map (by_numbers number) xs) indices new in
-      subst P all (record {
+      rw (sym all) (record {
         faultless = added.faultless;
         acyclic = subst IsAcyclic added.added acyclic;
         indices_are = added.indices;
@@ -83,8 +82,7 @@ module _ {I N E : Type 0} (number : I → ℕ) (limit : ℕ) (items : List (I ×
       → batch.ClosesCycle number limit gives s g weights → ClosesCycle limit g (map (by_numbers number) items) weights
   closes g weights cycle =
       let all : cycle.given ≡ items = given_all cycle.given items s here count cycle.drained in
-      let P : List (I × I × E) → Type 0 = λ xs. ClosesCycle limit g (map (by_numbers number) xs) weights in
-      subst P all (record {
+      rw (sym all) (record {
         faultless = cycle.faultless;
         cyclic = cycle.cyclic;
         weights_are = cycle.weights_are ∙ weights_by_numbers number cycle.given;

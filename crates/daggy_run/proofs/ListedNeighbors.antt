@@ -58,11 +58,7 @@ module _ {N E : Type 0} (dir : Direction) (end : ℕ) (g : Graph N E) (w : IsWel
         → map (pair_of number) more ++ items_of dir g (rest_of_walk dir g next) ≡ whole
     grows {cursor} {next} item listed s more_is so_far =
         let step = steps cursor next (pair_of number item) s in
-        let left = items_of dir g (rest_of_walk dir g next) in
-        ap (λ xs. map (pair_of number) xs ++ left) more_is
-        ∙ ap (λ xs. xs ++ left) (map-append (pair_of number) listed (item ∷ []))
-        ∙ append_assoc (map (pair_of number) listed) (pair_of number item ∷ []) left
-        ∙ ap (λ xs. map (pair_of number) listed ++ xs) (sym step.items) ∙ so_far
+        rw (more_is, map-append (pair_of number) listed (item ∷ []), append_assoc) (rw step.items at so_far)
 
     pub fewer_left : (cursor next : ℕ) (item : I × I) → IsWalkStep dir end g cursor (Some (pair_of number item)) next
         → length (rest_of_walk dir g next) < length (rest_of_walk dir g cursor)

@@ -47,11 +47,10 @@ module _ {N E : Type 0} (limit : ℕ) where
       → IsStep Compact limit g (request.Node weight) a h → IsStep Compact limit g (request.Node weight) b k
       → Agree a b h k
   same_node g weight (Memory w) b fa fb s t = absurd fa
-  same_node g weight (Node n) (Memory w) fa fb s t = absurd fb
+  same_node g weight a (Memory w) fa fb s t = absurd fb
   same_node g weight (Node n) (Node m) fa fb s t = (ap Node (s.1 ∙ sym t.1), s.2 ∙ sym t.2)
   same_node g weight (Node n) (Full (OfNode v)) fa fb s t = absurd (omega (arith, s.0, t.0))
   same_node g weight (Node n) other fa fb s t = absurd t
-  same_node g weight (Full (OfNode v)) (Memory w) fa fb s t = absurd fb
   same_node g weight (Full (OfNode v)) (Node m) fa fb s t = absurd (omega (arith, s.0, t.0))
   same_node g weight (Full (OfNode v)) (Full (OfNode w)) fa fb s t = (rw (s.1 ∙ sym t.1), s.2 ∙ sym t.2)
   same_node g weight (Full (OfNode v)) other fa fb s t = absurd t
@@ -61,25 +60,22 @@ module _ {N E : Type 0} (limit : ℕ) where
   same_edge : (g : Graph N E) (x : NewEdge E) (a b : Answer N E) {h k : Graph N E} → FindsMemory a → FindsMemory b
       → IsEdgeStep limit g x a h → IsEdgeStep limit g x b k → Agree a b h k
   same_edge g x (Memory w) b fa fb s t = absurd fa
-  same_edge g x (Edge e) (Memory w) fa fb s t = absurd fb
+  same_edge g x a (Memory w) fa fb s t = absurd fb
   same_edge g x (Edge e) (Edge f) fa fb s t = (ap Edge (s.1 ∙ sym t.1), s.2 ∙ sym t.2)
   same_edge g x (Edge e) (Missing (OfEdge w)) fa fb s t = absurd (t.0 s.0.0)
   same_edge g x (Edge e) (Full (OfEdge w)) fa fb s t = absurd (omega (arith, s.0.1, t.0.1))
   same_edge g x (Edge e) (Cycle w) fa fb s t = absurd (s.0.2 t.2)
   same_edge g x (Edge e) other fa fb s t = absurd t
-  same_edge g x (Missing (OfEdge v)) (Memory w) fa fb s t = absurd fb
   same_edge g x (Missing (OfEdge v)) (Edge f) fa fb s t = absurd (s.0 t.0.0)
   same_edge g x (Missing (OfEdge v)) (Missing (OfEdge w)) fa fb s t = (rw (s.1 ∙ sym t.1), s.2 ∙ sym t.2)
   same_edge g x (Missing (OfEdge v)) (Full (OfEdge w)) fa fb s t = absurd (s.0 t.0.0)
   same_edge g x (Missing (OfEdge v)) (Cycle w) fa fb s t = absurd (s.0 t.0)
   same_edge g x (Missing (OfEdge v)) other fa fb s t = absurd t
-  same_edge g x (Full (OfEdge v)) (Memory w) fa fb s t = absurd fb
   same_edge g x (Full (OfEdge v)) (Edge f) fa fb s t = absurd (omega (arith, s.0.1, t.0.1))
   same_edge g x (Full (OfEdge v)) (Missing (OfEdge w)) fa fb s t = absurd (t.0 s.0.0)
   same_edge g x (Full (OfEdge v)) (Full (OfEdge w)) fa fb s t = (rw (s.1 ∙ sym t.1), s.2 ∙ sym t.2)
   same_edge g x (Full (OfEdge v)) (Cycle w) fa fb s t = absurd (omega (arith, s.0.1, t.1))
   same_edge g x (Full (OfEdge v)) other fa fb s t = absurd t
-  same_edge g x (Cycle v) (Memory w) fa fb s t = absurd fb
   same_edge g x (Cycle v) (Edge f) fa fb s t = absurd (t.0.2 s.2)
   same_edge g x (Cycle v) (Missing (OfEdge w)) fa fb s t = absurd (t.0 s.0)
   same_edge g x (Cycle v) (Full (OfEdge w)) fa fb s t = absurd (omega (arith, s.1, t.0.1))
@@ -100,20 +96,18 @@ module _ {N E : Type 0} (limit : ℕ) where
       → FindsMemory a → FindsMemory b → IsNeighborStep x.dir limit g x.at x.edge x.node a h
       → IsNeighborStep x.dir limit g x.at x.edge x.node b k → Agree a b h k
   same_neighbor g x (Memory w) b fa fb s t = absurd fa
-  same_neighbor g x (EdgeNode e m) (Memory w) fa fb s t = absurd fb
+  same_neighbor g x a (Memory w) fa fb s t = absurd fb
   same_neighbor g x (EdgeNode e m) (EdgeNode f o) fa fb s t =
       (rw (s.1 ∙ sym t.1, s.2 ∙ sym t.2), s.3 ∙ sym t.3)
   same_neighbor g x (EdgeNode e m) (Missing (OfEdgeNode f w)) fa fb s t = absurd (t.0 s.0.0)
   same_neighbor g x (EdgeNode e m) (Full (OfEdgeNode f w)) fa fb s t =
       absurd (no_room limit _ _ s.0.1 s.0.2 t.1)
   same_neighbor g x (EdgeNode e m) other fa fb s t = absurd t
-  same_neighbor g x (Missing (OfEdgeNode e v)) (Memory w) fa fb s t = absurd fb
   same_neighbor g x (Missing (OfEdgeNode e v)) (EdgeNode f o) fa fb s t = absurd (s.0 t.0.0)
   same_neighbor g x (Missing (OfEdgeNode e v)) (Missing (OfEdgeNode f w)) fa fb s t =
       (rw (s.1 ∙ sym t.1, s.2 ∙ sym t.2), s.3 ∙ sym t.3)
   same_neighbor g x (Missing (OfEdgeNode e v)) (Full (OfEdgeNode f w)) fa fb s t = absurd (s.0 t.0)
   same_neighbor g x (Missing (OfEdgeNode e v)) other fa fb s t = absurd t
-  same_neighbor g x (Full (OfEdgeNode e v)) (Memory w) fa fb s t = absurd fb
   same_neighbor g x (Full (OfEdgeNode e v)) (EdgeNode f o) fa fb s t =
       absurd (no_room limit _ _ t.0.1 t.0.2 s.1)
   same_neighbor g x (Full (OfEdgeNode e v)) (Missing (OfEdgeNode f w)) fa fb s t = absurd (t.0 s.0)
@@ -203,13 +197,12 @@ module _ {N E : Type 0} (limit : ℕ) where
     same_series : (a b : Answer N E) {h k : Graph N E}
         → FindsMemory a → FindsMemory b → IsBatchStep limit g edges a h → IsBatchStep limit g edges b k → Agree a b h k
     same_series (Memory w) b fa fb s t = absurd fa
-    same_series (Edges es) (Memory w) fa fb s t = absurd fb
+    same_series a (Memory w) fa fb s t = absurd fb
     same_series (Edges es) (Edges fs) fa fb s t = (rw (s.indices_are ∙ sym t.indices_are), s.added ∙ sym t.added)
     same_series (Edges es) (Missing (OfEdges l ls)) fa fb s t = absurd (faultless_no_end l ls s.faultless t.0)
     same_series (Edges es) (Full (OfEdges l ls)) fa fb s t = absurd (faultless_no_index l ls s.faultless t.0)
     same_series (Edges es) (CycleAll ws) fa fb s t = absurd (t.0.cyclic s.acyclic)
     same_series (Edges es) other fa fb s t = absurd t
-    same_series (Missing (OfEdges l ls)) (Memory w) fa fb s t = absurd fb
     same_series (Missing (OfEdges l ls)) (Edges es) fa fb s t = absurd (faultless_no_end l ls t.faultless s.0)
     same_series (Missing (OfEdges l ls)) (Missing (OfEdges m bs)) fa fb s t =
         let same =
@@ -219,7 +212,6 @@ module _ {N E : Type 0} (limit : ℕ) where
     same_series (Missing (OfEdges l ls)) (Full (OfEdges m bs)) fa fb s t = absurd (apart l m ls bs s.0 t.0)
     same_series (Missing (OfEdges l ls)) (CycleAll ws) fa fb s t = absurd (faultless_no_end l ls t.0.faultless s.0)
     same_series (Missing (OfEdges l ls)) other fa fb s t = absurd t
-    same_series (Full (OfEdges l ls)) (Memory w) fa fb s t = absurd fb
     same_series (Full (OfEdges l ls)) (Edges es) fa fb s t = absurd (faultless_no_index l ls t.faultless s.0)
     same_series (Full (OfEdges l ls)) (Missing (OfEdges m bs)) fa fb s t = absurd (apart m l bs ls t.0 s.0)
     same_series (Full (OfEdges l ls)) (Full (OfEdges m bs)) fa fb s t =
@@ -229,7 +221,6 @@ module _ {N E : Type 0} (limit : ℕ) where
         (ap (λ y. Full (OfEdges y ls)) same.0 ∙ ap (λ ys. Full (OfEdges m ys)) same.1, s.1 ∙ sym t.1)
     same_series (Full (OfEdges l ls)) (CycleAll ws) fa fb s t = absurd (faultless_no_index l ls t.0.faultless s.0)
     same_series (Full (OfEdges l ls)) other fa fb s t = absurd t
-    same_series (CycleAll vs) (Memory w) fa fb s t = absurd fb
     same_series (CycleAll vs) (Edges es) fa fb s t = absurd (s.0.cyclic t.acyclic)
     same_series (CycleAll vs) (Missing (OfEdges l ls)) fa fb s t = absurd (faultless_no_end l ls s.0.faultless t.0)
     same_series (CycleAll vs) (Full (OfEdges l ls)) fa fb s t = absurd (faultless_no_index l ls s.0.faultless t.0)

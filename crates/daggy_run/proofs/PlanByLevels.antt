@@ -1,6 +1,6 @@
 -- Levels, stages by levels and the chain back through them make a plan, and none is shorter.
 use Rattle.std.proofs.Common.{◌≡◌, ◌≢◌, ℕ, zero, suc, ◌+◌, ◌-◌, ◌<◌, ◌≤◌, ◌⊎◌, inl, inr, List, [], ◌∷◌, ◌++◌, length}
-use Rattle.std.proofs.Common.{slice_index, slice_index_or, Contains, refl, sym, ap, subst, ◌∙◌, arith}
+use Rattle.std.proofs.Common.{slice_index, slice_index_or, Contains, refl, sym, ap, subst, ◌∙◌, add-one, arith}
 use Rattle.std.proofs.lemmas.List.{get_or_past, length-append}
 use Rattle.std.proofs.lemmas.Bool.{cases_lt}
 use Rattle.daggy_base.specs.Graph.{Graph, HasNode, node_bound}
@@ -60,9 +60,7 @@ stands_within : (stages : List (List ℕ)) (k n : ℕ) → StandsIn stages k n �
 stands_within stages k n h =
     elim (cases_lt k (length stages)) [
       | inl low ↦ low
-      | inr high ↦
-          (let P : List ℕ → Type 0 = λ z. Contains z n in
-          absurd (Contains-nil n (subst P (get_or_past stages k [] high) h)))
+      | inr high ↦ absurd (Contains-nil n (rw (get_or_past stages k [] high) at h))
     ]
 
 -- a path goes from stage to stage
@@ -127,14 +125,12 @@ module _ {N E : Type 0} (end : ℕ) (g : Graph N E) (w : IsWellFormed end g) (le
     full k low none =
         let p = s.long k low in
         let q = down (slice_index levels p.0 - k) p.0 k p.1 (omega (arith, p.2)) in
-        let P : List ℕ → Type 0 = λ z. Contains z q.0 in
-        Contains-nil q.0 (subst P none (stands q.0 k q.1 q.2))
+        Contains-nil q.0 (rw none at (stands q.0 k q.1 q.2))
 
     pub by_levels : IsByLevels g stages
     by_levels =
         record {
-          levels = λ n k a. let p = (s.exact k n).0 a in
-              let P : ℕ → Type 0 = λ z. IsLevel g n z in subst P p.2 (level_is n p.1);
+          levels = λ n k a. let p = (s.exact k n).0 a in rw (sym p.2) (level_is n p.1);
           full = full;
           ascending = s.ascending;
         }
@@ -151,8 +147,7 @@ module _ {N E : Type 0} (end : ℕ) (g : Graph N E) (w : IsWellFormed end g) (le
     module _ (chain : List ℕ) (b : IsBack parents stages chain) where
       last_is : (k : ℕ) → k + 1 ≡ length stages → IsLowest (StandsIn stages k) (slice_index chain k)
       last_is k last =
-          let P : ℕ → Type 0 = λ z. IsLowest (StandsIn stages k) z in
-          subst P (sym (b.last k last)) (first_lowest (slice_index_or stages k []) (last_full k last) (s.ascending k))
+          rw (b.last k last) (first_lowest (slice_index_or stages k []) (last_full k last) (s.ascending k))
 
       -- the parent of a node of the next stage
       before : (k : ℕ) → k + 1 < length stages → StandsIn stages (k + 1) (slice_index chain (k + 1))
@@ -162,8 +157,7 @@ module _ {N E : Type 0} (end : ℕ) (g : Graph N E) (w : IsWellFormed end g) (le
           let q = (s.exact (k + 1) v).0 next in
           let old = f.noted v (omega (arith, q.2)) in
           let j : AreJoined g (slice_index parents v) v = old.here.0 in
-          let P : ℕ → Type 0 = λ z. IsLowest (λ n. StandsIn stages k n × AreJoined g n v) z in
-          subst P (sym (b.back k low)) (record {
+          rw (b.back k low) (record {
             here = (stands (slice_index parents v) k (w.parents j.0 _ j.2) (omega (arith, old.here.1, q.2)), j);
             least = λ m h. let r = (s.exact k m).0 h.0 in old.least m (h.1, omega (arith, r.2, q.2));
           })
@@ -186,13 +180,9 @@ module _ {N E : Type 0} (end : ℕ) (g : Graph N E) (w : IsWellFormed end g) (le
       whole_path (x ∷ cs) is =
           inr (path_of g x cs (λ k low.
           let q = (s.exact k (slice_index chain k)).0 (chain_stands k (omega (arith, b.as_long, ap length is))) in
-          let P : List ℕ → Type 0 = λ z. HasNode g (slice_index z k) in
-          subst P is q.1) (λ k low.
+          rw is at q.1) (λ k low.
           let p = chain_parents k (omega (arith, b.as_long, ap length is)) in
-          let next : k + 1 ≡ suc k = omega arith in
-          let P : List ℕ → Type 0 = λ z. AreJoined g (slice_index z k) (slice_index z (suc k)) in
-          let Q : ℕ → Type 0 = λ z. AreJoined g (slice_index chain k) (slice_index chain z) in
-          subst P is (subst Q next p.here.1)))
+          rw (add-one k, is) at p.here.1))
 
       pub is_chain : IsChain g stages chain
       is_chain = record { as_long = b.as_long; path = whole_path chain refl; last = last_is; parents = chain_parents }
@@ -225,21 +215,17 @@ module _ {N E : Type 0} (end : ℕ) (g : Graph N E) (w : IsWellFormed end g) {le
 
   pub last_some : (k : ℕ) → k + 1 ≡ length stages' → slice_index_or stages' k [] ≢ []
   last_some k last =
-      let P : List (List ℕ) → Type 0 = λ z. slice_index_or z k [] ≢ [] in
-      subst P (sym same_stages) (last_full end g w levels parents found.0 found.1 (node_bound g) refl stages by_found k
+      rw same_stages (last_full end g w levels parents found.0 found.1 (node_bound g) refl stages by_found k
       (omega (arith, ap length same_stages)))
 
   pub last_within : (k : ℕ) → k + 1 ≡ length stages' → slice_index (slice_index_or stages' k []) 0 < node_bound g
   last_within k last =
-      let P : List (List ℕ) → Type 0 = λ z. slice_index (slice_index_or z k []) 0 < node_bound g in
-      subst P (sym same_stages) (last_low end g w levels parents found.0 found.1 (node_bound g) refl stages by_found k
+      rw same_stages (last_low end g w levels parents found.0 found.1 (node_bound g) refl stages by_found k
       (omega (arith, ap length same_stages)))
 
   pub planned : {parents' chain : List ℕ} → parents' ≡ parents → IsBack parents' stages' chain → Planned g stages chain
   planned {parents'} {chain} same_parents back =
-      let P : List (List ℕ) → Type 0 = λ z. IsBack parents z chain in
-      let Q : List ℕ → Type 0 = λ z. IsBack z stages' chain in
-      let b : IsBack parents stages chain = subst P same_stages (subst Q same_parents back) in
+      let b = rw (same_parents, same_stages) at back in
       record {
         plan = is_plan end g w levels parents found.0 found.1 (node_bound g) refl stages by_found;
         levels = by_levels end g w levels parents found.0 found.1 (node_bound g) refl stages by_found;

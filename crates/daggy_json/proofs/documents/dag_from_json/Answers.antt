@@ -1,8 +1,7 @@
-use Rattle.std.proofs.Common.{inl, inr, false, subst, ◌∙◌}
+use Rattle.std.proofs.Common.{inl, inr, false, ◌∙◌}
 use Rattle.std.proofs.lemmas.Result.{MatchResult-weaker}
 use Rattle.serde_json.specs.View.{view}
 use Rattle.daggy_json.specs.Weight.{ReadsAs}
-use Rattle.daggy_json.specs.Restoring.{IsCopyAs, ReadsTo}
 use Rattle.daggy_json.proofs.RestoredDag.{restored, values_again, compact_same, answers_again}
 use Rattle.daggy_json.proofs.documents.dag_from_json.Goals as goal
 
@@ -23,7 +22,5 @@ returns-clause-restored_shape g c = λ graph dag compact doc.
     (values_again g.Ix.IndexType.greatest false (ReadsAs g.F.Fn c.args.fn_node) (ReadsAs g.G.Fn c.args.fn_edge) graph dag
     (λ e. compact) (view c.args.value.now) doc)
     c.read.ensures.ok c.read.ensures.err)
-    (λ d copy.
-    subst (λ h. IsCopyAs (ReadsTo (ReadsAs g.F.Fn c.args.fn_node)) (ReadsTo (ReadsAs g.G.Fn c.args.fn_edge)) h d.graph)
-    (compact_same g.Ix.IndexType.greatest graph dag.well_formed compact) copy)
+    (λ d copy. rw (compact_same g.Ix.IndexType.greatest graph dag.well_formed compact) at copy)
     (λ e h. h)

@@ -15,9 +15,7 @@ use Rattle.daggy_json.proofs.making.make.Goals as goal
 tested_bare : {N E : Type 0} {g made : Graph N E} {o : Option (List (List ℕ × List ℕ))}
     → o ≡ None → made ≡ g → IsAcyclic made → IsTested (ordered g o) (Ok made)
 tested_bare {N} {E} {g} {made} {o} none same acyclic =
-    let P : Option (List (List ℕ × List ℕ)) → Type 0 = λ z. IsTested (ordered g z) (Ok made) in
-    let A : Graph N E → Type 0 = λ z. IsAcyclic z in
-    subst P (sym none) (subst A same acyclic, same)
+    subst (λ z. IsTested (ordered g z) (Ok made)) (sym none) (subst IsAcyclic same acyclic, same)
 
 pub from_slots-requires-clause-makes_graph : goal.from_slots-requires-clause-makes_graph
 from_slots-requires-clause-makes_graph g c =

@@ -20,38 +20,11 @@ chain_back-requires-clause-first g c = λ k last.
     (omega (arith, last, stages_long g.Ix.IndexType.number c.as_slice-2.result.now)) in
     omega (arith, low, c.as_slice-3.ensures.len, c.in_ok-found.ensures.parents)
 
-pub returns-clause-plan : goal.returns-clause-plan
-returns-clause-plan g c =
+pub returns : goal.returns
+returns g c =
     let p =
     planned g.Ix.IndexType.greatest (g.D.GuardedDag.graph c.args.dag.now) c.levels_of.ensures.dag.well_formed
     c.in_ok-found.ensures.found c.as_slice.ensures.value
     (ap (stages_of g.Ix.IndexType.number) c.as_slice-2.ensures.value) c.in_ok-stages.ensures
     c.as_slice-3.ensures.value c.in_ok-chain.ensures in
-    p.plan
-
-pub returns-clause-by_levels : goal.returns-clause-by_levels
-returns-clause-by_levels g c =
-    let p =
-    planned g.Ix.IndexType.greatest (g.D.GuardedDag.graph c.args.dag.now) c.levels_of.ensures.dag.well_formed
-    c.in_ok-found.ensures.found c.as_slice.ensures.value
-    (ap (stages_of g.Ix.IndexType.number) c.as_slice-2.ensures.value) c.in_ok-stages.ensures
-    c.as_slice-3.ensures.value c.in_ok-chain.ensures in
-    p.levels
-
-pub returns-clause-chain : goal.returns-clause-chain
-returns-clause-chain g c =
-    let p =
-    planned g.Ix.IndexType.greatest (g.D.GuardedDag.graph c.args.dag.now) c.levels_of.ensures.dag.well_formed
-    c.in_ok-found.ensures.found c.as_slice.ensures.value
-    (ap (stages_of g.Ix.IndexType.number) c.as_slice-2.ensures.value) c.in_ok-stages.ensures
-    c.as_slice-3.ensures.value c.in_ok-chain.ensures in
-    p.path
-
-pub returns-clause-shortest : goal.returns-clause-shortest
-returns-clause-shortest g c =
-    let p =
-    planned g.Ix.IndexType.greatest (g.D.GuardedDag.graph c.args.dag.now) c.levels_of.ensures.dag.well_formed
-    c.in_ok-found.ensures.found c.as_slice.ensures.value
-    (ap (stages_of g.Ix.IndexType.number) c.as_slice-2.ensures.value) c.in_ok-stages.ensures
-    c.as_slice-3.ensures.value c.in_ok-chain.ensures in
-    p.shortest
+    record { plan = p.plan; by_levels = p.levels; chain = p.path; shortest = p.shortest }

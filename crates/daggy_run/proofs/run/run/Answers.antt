@@ -58,10 +58,4 @@ returns-clause-run g c =
 
 pub returns-clause-as_compact : goal.returns-clause-as_compact
 returns-clause-as_compact g c =
-    let given = c.into_iter-command-iterator.ensures.into_iter_gives in
-    let all =
-    YieldsList-end (YieldsList-from_vec {s = c.into_iter-command-iterator.result} c.args.commands.items given.0
-    (given.1 ∙ c.args.commands.ok.0)) c.commands.yielded c.commands.command-iterator c.commands.yielded_by c.next.result
-    c.next.new.self c.in-None.is c.next.ensures.steps in
-    as_compact g.Ix.IndexType.greatest g.D.GuardedDag.KIND _ _ _ _
-    (run_whole g.D.GuardedDag.KIND g.Ix.IndexType.greatest _ _ _ _ _ all.0 c.commands.invariant.run)
+    as_compact g.Ix.IndexType.greatest g.D.GuardedDag.KIND _ _ _ _ (returns-clause-run g c)

@@ -107,6 +107,3 @@ returns-clause-full_edges g c =
     λ compact.
     full_entries c.args.stable c.in_ok-nodes.nodes.items (ReadsAs g.G.Fn c.args.fn_edge.now)
     (edge_of g.Ix.IndexType.number) compact 0 _ c.in_ok-edges.edges.items c.in_ok-edges.ensures.ok
-
-pub returns-clause-orders : goal.returns-clause-orders
-returns-clause-orders g c = c.in_ok-orders.ensures.orders

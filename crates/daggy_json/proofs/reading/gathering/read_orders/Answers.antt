@@ -34,6 +34,3 @@ returns-clause-ok g c =
     (sym c.in_ok-rows.ensures ∙ ap (option_map (λ v. map (numbers_of g.Ix.IndexType.number) v.items)) c.in-Some-2.is) in
     ordered_with _ c.args.orders c.in-Some.value c.in-Some.is _ some
     (c.in_ok-are_orders.ensures.0 c.if-not-branch.false)
-
-pub returns-clause-orders : goal.returns-clause-orders
-returns-clause-orders g c = c.in_ok-are_orders.ensures.0 c.if-not-branch.false

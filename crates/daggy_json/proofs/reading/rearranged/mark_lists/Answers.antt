@@ -1,10 +1,8 @@
-use Rattle.std.proofs.Common.{◌≡◌, ℕ, length, map, List, subst, sym, ◌∙◌, arith, rules}
-use Rattle.std.specs.Option.{option_map}
+use Rattle.std.proofs.Common.{◌≡◌, length, map, sym, ◌∙◌, arith, rules}
 use Rattle.std.proofs.lemmas.Bool.{false≢true, eqb-true, eq-eqb}
 use Rattle.std.proofs.lemmas.List.{length-map}
-use Rattle.daggy_base.specs.FromSlots.{has_end}
 use Rattle.daggy_base.specs.Orders.{numbers_of}
-use Rattle.daggy_json.specs.Found.{edge_of, chosen, Marked}
+use Rattle.daggy_json.specs.Found.{chosen}
 use Rattle.daggy_json.proofs.MarkedLists.{lists_skipped, lists_passed, lists_wrong, lists_whole, read_twice}
 use Rattle.daggy_json.proofs.MarkedLists.{same_read}
 use Rattle.daggy_json.proofs.reading.rearranged.mark_lists.Goals as goal
@@ -28,15 +26,12 @@ returns-then-passed-len-clause-decided g c =
             | then-passed-len-via-then-passed-len w ↦
                 absurd (omega (arith, more, long, w.if-passed-len.true, c.len.ensures))
             | then-passed-len-via-else-passed-len+then-not-mark_list w ↦ (
-                let P : List ℕ → Type 0 = λ k.
-                Marked (has_end c.args.dir (map (option_map (edge_of g.Ix.IndexType.number)) c.args.edges.now.items)
-                c.loop-n.n) c.loop-n.marks k in
                 let here =
                 read_twice (numbers_of g.Ix.IndexType.number) (chosen c.args.dir) rows c.loop-n.passed
                 w.index-else-passed-len.result.now (map g.Ix.IndexType.number w.list_of.result.now.items)
                 w.index-else-passed-len.ensures w.list_of.ensures in
                 false≢true (sym w.if-not-mark_list.true
-                ∙ w.mark_list.ensures.decided.1 (subst P (same_read _ c.loop-n.passed _ _ more is here) marked))
+                ∙ w.mark_list.ensures.decided.1 (rw (same_read _ c.loop-n.passed _ _ more is here) at marked))
                 )
           ]) h),
     )

@@ -1,6 +1,6 @@
-use Rattle.std.proofs.Common.{◌≡◌, ◌∙◌, ℕ, List, replicate, sym, ap, subst, arith}
-use Rattle.daggy_run.proofs.RaisedNodes.{Leveling, AreInside, resized, zeros_inside, leveling_starts, next_exists}
-use Rattle.daggy_run.proofs.RaisedNodes.{leveling_on, leveling_ends}
+use Rattle.std.proofs.Common.{◌≡◌, ◌∙◌, ℕ, replicate, ap, arith}
+use Rattle.daggy_run.proofs.RaisedNodes.{resized, zeros_inside, leveling_starts, next_exists, leveling_on}
+use Rattle.daggy_run.proofs.RaisedNodes.{leveling_ends}
 use Rattle.daggy_run.proofs.plan.levels.levels_of.Goals as goal
 
 pub nodes-init : goal.nodes-init
@@ -13,15 +13,13 @@ nodes-init g c =
     resized _ _ bound _ c.new.result c.new-parents.ensures.items c.new-parents.ensures.len
     c.in_ok-resize-2.ensures.items
     ∙ ap (λ (x : ℕ). replicate bound x) c.new.ensures in
-    let P : List ℕ → Type 0 = λ z. Leveling graph z c.resize-2.new.self.items c.topological_order-nodes.result in
-    let Q : List ℕ → Type 0 = λ z. AreInside z in
     record {
       leveling =
-          subst P (sym levels) (leveling_starts g.Ix.IndexType.greatest graph c.node_bound-bound.ensures.dag.well_formed
+          rw levels (leveling_starts g.Ix.IndexType.greatest graph c.node_bound-bound.ensures.dag.well_formed
           _ _ bound c.topological_order-nodes.ensures.ordered c.topological_order-nodes.ensures.fits);
       levels_fit = omega (arith, c.in_ok-resize.ensures.len, c.node_bound-bound.ensures.value);
       parents_fit = omega (arith, c.in_ok-resize-2.ensures.len, c.node_bound-bound.ensures.value);
-      inside = subst Q (sym parents) (zeros_inside bound);
+      inside = rw parents (zeros_inside bound);
     }
 
 pub raise_children-requires-clause-exists : goal.raise_children-requires-clause-exists

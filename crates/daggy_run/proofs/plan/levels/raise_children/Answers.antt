@@ -1,7 +1,6 @@
-use Rattle.std.proofs.Common.{◌≡◌, ◌≢◌, ◌+◌, ◌∙◌, ℕ, get_or, slice_index, sym, ap, subst, arith}
+use Rattle.std.proofs.Common.{◌≡◌, ◌≢◌, ◌+◌, ◌∙◌, ℕ, sym, ap, arith}
 use Rattle.std.proofs.lemmas.List.{get_or_read}
 use Rattle.daggy_base.proofs.OutEdgesRead.{below_bound, has_edge}
-use Rattle.daggy_run.specs.Levels.{IsRaised}
 use Rattle.daggy_run.proofs.RaisedNodes.{raising_starts, child_low, raising_on, raising_ends, fewer_left}
 use Rattle.daggy_run.proofs.plan.levels.raise_children.Goals as goal
 
@@ -13,24 +12,18 @@ index-requires-2 g c =
 pub overflow_add-level : goal.overflow_add-level
 overflow_add-level g c =
     let low = below_bound (g.D.GuardedDag.graph c.args.dag.now).nodes _ c.requires.exists in
-    let is : c.index-2.result.now ≡ get_or c.args.levels.now.items c.index.result 0 =
-    get_or_read c.args.levels.now.items c.index.result c.index-2.result.now
-    (omega (arith, low, c.requires.levels, c.args.levels.now.ok.0, c.index.ensures.value)) c.index-2.ensures 0 in
-    let at : c.index-2.result.now ≡ slice_index c.args.levels.now.items (g.Ix.IndexType.number c.args.n) =
-    is ∙ ap (slice_index c.args.levels.now.items) c.index.ensures.value in
-    omega (arith, at, c.requires.level_fits)
+    let reads = rw c.index.ensures.value at (get_or_read c.args.levels.now.items c.index.result c.index-2.result.now
+    (omega (arith, low, c.requires.levels, c.args.levels.now.ok.0, c.index.ensures.value)) c.index-2.ensures 0) in
+    omega (arith, reads, c.requires.level_fits)
 
 pub edges-init : goal.edges-init
 edges-init g c =
     let low = below_bound (g.D.GuardedDag.graph c.args.dag.now).nodes _ c.requires.exists in
-    let is : c.index-2.result.now ≡ get_or c.args.levels.now.items c.index.result 0 =
-    get_or_read c.args.levels.now.items c.index.result c.index-2.result.now
-    (omega (arith, low, c.requires.levels, c.args.levels.now.ok.0, c.index.ensures.value)) c.index-2.ensures 0 in
-    let at : c.index-2.result.now ≡ slice_index c.args.levels.now.items (g.Ix.IndexType.number c.args.n) =
-    is ∙ ap (slice_index c.args.levels.now.items) c.index.ensures.value in
+    let reads = rw c.index.ensures.value at (get_or_read c.args.levels.now.items c.index.result c.index-2.result.now
+    (omega (arith, low, c.requires.levels, c.args.levels.now.ok.0, c.index.ensures.value)) c.index-2.ensures 0) in
     raising_starts g.Ix.IndexType.greatest (g.D.GuardedDag.graph c.args.dag.now)
     c.node_bound-bound.ensures.dag.well_formed c.requires.exists c.first_child-e.ensures
-    (ap (λ (z : ℕ). z + 1) at) (omega (arith, c.requires.levels, c.args.levels.now.ok.0))
+    (ap (λ (z : ℕ). z + 1) reads) (omega (arith, c.requires.levels, c.args.levels.now.ok.0))
     (omega (arith, c.requires.parents, c.args.parents.now.ok.0))
     (λ k within. let old = c.requires.within k (omega (arith, c.args.parents.now.ok.0)) in
     omega (arith, old, c.args.parents.now.ok.0))
@@ -43,23 +36,17 @@ child_edge-child-requires g c =
     has_edge g.Ix.IndexType.greatest (g.D.GuardedDag.graph c.args.dag.now) c.node_bound-bound.ensures.dag.well_formed _
     s.passed _ s.cursor here
 
-pub raise-requires-clause-levels : goal.raise-requires-clause-levels
-raise-requires-clause-levels g c =
+pub raise-requires : goal.raise-requires
+raise-requires g c =
     let here : g.Ix.IndexType.number c.edges.e ≢ g.Ix.IndexType.greatest = λ h.
     c.edges-test.true (c.index-in-edges.ensures.value ∙ (h ∙ sym (c.index-end.ensures.value ∙ c.end.ensures.number))) in
     let low =
     child_low g.Ix.IndexType.greatest (g.D.GuardedDag.graph c.args.dag.now) c.node_bound-bound.ensures.dag.well_formed
     c.requires.exists c.edges.invariant here _ _ c.child_edge-child.ensures in
-    omega (arith, low, c.index-in-edges-2.ensures.value, c.edges.invariant.levels_fit, c.edges.levels.ok.0)
-
-pub raise-requires-clause-parents : goal.raise-requires-clause-parents
-raise-requires-clause-parents g c =
-    let here : g.Ix.IndexType.number c.edges.e ≢ g.Ix.IndexType.greatest = λ h.
-    c.edges-test.true (c.index-in-edges.ensures.value ∙ (h ∙ sym (c.index-end.ensures.value ∙ c.end.ensures.number))) in
-    let low =
-    child_low g.Ix.IndexType.greatest (g.D.GuardedDag.graph c.args.dag.now) c.node_bound-bound.ensures.dag.well_formed
-    c.requires.exists c.edges.invariant here _ _ c.child_edge-child.ensures in
-    omega (arith, low, c.index-in-edges-2.ensures.value, c.edges.invariant.parents_fit, c.edges.parents.ok.0)
+    record {
+      levels = omega (arith, low, c.index-in-edges-2.ensures.value, c.edges.invariant.levels_fit, c.edges.levels.ok.0);
+      parents = omega (arith, low, c.index-in-edges-2.ensures.value, c.edges.invariant.parents_fit, c.edges.parents.ok.0);
+    }
 
 pub edges-smaller : goal.edges-smaller
 edges-smaller g c =
@@ -70,12 +57,9 @@ pub edges-preserved : goal.edges-preserved
 edges-preserved g c =
     let here : g.Ix.IndexType.number c.edges.e ≢ g.Ix.IndexType.greatest = λ h.
     c.edges-test.true (c.index-in-edges.ensures.value ∙ (h ∙ sym (c.index-end.ensures.value ∙ c.end.ensures.number))) in
-    let P : ℕ → Type 0 = λ z.
-    IsRaised (g.Ix.IndexType.number c.args.n) (c.index-2.result.now + 1) z c.edges.levels.items c.edges.parents.items
-    c.raise.new.levels.items c.raise.new.parents.items in
     raising_on g.Ix.IndexType.greatest (g.D.GuardedDag.graph c.args.dag.now) c.node_bound-bound.ensures.dag.well_formed
     c.requires.exists c.edges.invariant here c.child_edge-child.ensures
-    (subst P c.index-in-edges-2.ensures.value c.raise.ensures.raised)
+    (rw c.index-in-edges-2.ensures.value at c.raise.ensures.raised)
 
 pub returns-clause-raised : goal.returns-clause-raised
 returns-clause-raised g c =
