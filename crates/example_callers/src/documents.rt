@@ -11,8 +11,8 @@ ghost use Rattle.daggy_json.specs.declared.error.ReadError.TheVariants.{Memory};
 ghost use Rattle.example_callers.specs.Documents.{HasSameText};
 
 use daggy_dag::acyclic::{Dag, StableDag};
-use daggy_json::error::ReadError;
 use daggy_json::documents::{dag_from_json, dag_to_json, stable_from_json, stable_to_json};
+use daggy_json::error::ReadError;
 use serde_json::Value;
 use std::alloc::{AllocError, Global};
 

@@ -5,8 +5,8 @@ use super::support::{
 use daggy_base::index::{Direction, EdgeIndex, NodeIndex};
 use daggy_base::source::EdgeSource;
 use daggy_base::store::Store;
-use daggy_graph::graph::DiGraph;
 use daggy_dag::slot_capacity::Room;
+use daggy_graph::graph::DiGraph;
 use daggy_stable::stable_graph::StableDiGraph;
 use std::alloc::Global;
 use std::process::Abort;
