@@ -23,14 +23,13 @@ where
         ensures looks { S.looks result.now ≡ self.now.looks }
         ensures acyclic { IsAcyclic (S.graph result.now) }
     {
-        self.guarded.invariant();
-        &self.guarded.store
+        &self.store
     }
 
     /// The allocator of the dag.
     #[inline]
     pub fn allocator(&self) -> Global {
-        self.guarded.scratch.allocator()
+        self.scratch.allocator()
     }
 
     /// Unwraps the graph, without copying. It is no longer kept acyclic.
@@ -40,7 +39,7 @@ where
         ensures looks { S.looks result ≡ self.looks }
         ensures acyclic { IsAcyclic (S.graph result) }
     {
-        self.guarded.store
+        self.store
     }
 }
 
@@ -52,7 +51,7 @@ impl<N: Drop, E: Drop, Ix: IndexType> Acyclic<N, E, Ix, DiGraph<N, E, Ix>> {
         ensures looks { result.0.looks ≡ self.looks }
         ensures ordered { IsOrderOf result.0.graph result.1 }
     {
-        (self.guarded.store, self.guarded.order)
+        (self.store, self.order)
     }
 }
 

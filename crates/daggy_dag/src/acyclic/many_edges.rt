@@ -13,6 +13,7 @@ use daggy_base::error::{EdgeError, EdgesError, ElementError};
 use daggy_base::index::{IndexType, NodeIndex};
 use daggy_base::store::Store;
 use daggy_guard::edge_indices::EdgeIndices;
+use daggy_guard::{edge_batch, elements, extension};
 use std::alloc::Global;
 
 impl<N: Drop, E: Drop, Ix: IndexType, S> Acyclic<N, E, Ix, S>
@@ -49,7 +50,7 @@ where
         ensures looked { self.old.looks ≤ self.new.looks }
         ensures counted { self.new.looks ≤ self.old.looks + most_looks self.old.graph result }
     {
-        self.guarded.add_edges(items)
+        edge_batch::add_edges(&mut self.store, &mut self.order, &mut self.scratch, items)
     }
 
     /// Adds the edges that `items` yields, one by one, first adding default nodes until the
@@ -80,7 +81,7 @@ where
         ensures counted { self.new.looks
             ≤ self.old.looks + extension_looks self.old.graph self.new.graph }
     {
-        self.guarded.extend_with_edges(items)
+        extension::extend_with_edges(&mut self.store, &mut self.order, &mut self.scratch, items)
     }
 
     /// A dag of the edges that `items` yields, as [`extend_with_edges`](Acyclic::extend_with_edges)
@@ -129,7 +130,7 @@ where
         ensures acyclic { IfOk result (λ dag. IsAcyclic dag.graph) }
     {
         let mut dag: Acyclic<N, E, Ix, S> = Acyclic::new(alloc);
-        match dag.guarded.add_elements(items) {
+        match elements::add_elements(&mut dag.store, &mut dag.order, &mut dag.scratch, items) {
             Ok(()) => Ok(dag),
             Err(error) => Err(error),
         }
