@@ -1,5 +1,5 @@
 -- The working memory of a search, as it is seen and as it is stored.
-use Rattle.std.specs.Prelude.{◌≡◌, ℕ, ◌+◌, ◌^◌, ◌<◌, ◌≤◌, ◌==◌, ◌||◌, nat_lt, Bool, false, List, length, map, slice_index, slice_index_or}
+use Rattle.std.specs.Prelude.{◌≡◌, ℕ, ◌^◌, ◌<◌, ◌≤◌, ◌==◌, Bool, false, List, length, map, slice_index, slice_index_or}
 use Rattle.daggy_search.specs.declared.worklist.Entry.{Entry}
 
 -- for how many nodes there is memory, whether each was entered and whether it was marked, and a list of nodes with a
@@ -25,24 +25,24 @@ pub record IsCleared (work : Work) : Type 0 where
   pub none_entered : (n : ℕ) → slice_index_or work.entered n false ≡ false
   pub none_marked : (n : ℕ) → slice_index_or work.marked n false ≡ false
 
--- whether a stamp says so in a round
-abbrev pub has_entered : (round stamp : ℕ) → Bool
-has_entered round stamp = nat_lt (round + 1) stamp
+-- whether a stamp is of a round
+abbrev pub is_of : (round stamp : ℕ) → Bool
+is_of round stamp = stamp == round
 
-abbrev pub has_marked : (round stamp : ℕ) → Bool
-has_marked round stamp = (stamp == round + 1) || (stamp == round + 3)
-
--- no stamp is above the top one
-abbrev pub AreLow : (top : ℕ) → List ℕ → Type 0
-AreLow top stamps = (n : ℕ) → slice_index stamps n ≤ top
+-- no stamp is of a later round
+abbrev pub AreLow : (round : ℕ) → List ℕ → Type 0
+AreLow round stamps = (n : ℕ) → slice_index stamps n ≤ round
 
 -- what is stored at first
 abbrev pub blank : {I : Type 0} → (end : ℕ) → Entry I
-blank end = record { stamp = 0; node = end; cursor = end }
+blank end = record { entered = 0; marked = 0; node = end; cursor = end }
 
 -- what is stored, field by field
-abbrev pub stamps_of : {I : Type 0} → List (Entry I) → List ℕ
-stamps_of entries = map (λ e. e.stamp) entries
+abbrev pub entered_of : {I : Type 0} → List (Entry I) → List ℕ
+entered_of entries = map (λ e. e.entered) entries
+
+abbrev pub marked_of : {I : Type 0} → List (Entry I) → List ℕ
+marked_of entries = map (λ e. e.marked) entries
 
 abbrev pub nodes_of : {I : Type 0} → List (Entry I) → List ℕ
 nodes_of entries = map (λ e. e.node) entries
