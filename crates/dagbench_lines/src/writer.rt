@@ -27,7 +27,7 @@ impl<'a, K: Sink> Writer<'a, K> {
     pub fn new(pending: &'a mut Vec<u8>, sink: &'a mut K) -> Writer<'a, K>
         ensures written { written K.taken result ≡ K.taken sink.old ++ pending.old.items }
         ensures sink { sink_of result ≡ sink.old }
-        ensures lent { result.sink.ghost_name ≡ sink.entry.ghost_name }
+        ensures same_reference { result.sink.ghost_name ≡ sink.entry.ghost_name }
     {
         Writer { pending, sink }
     }

@@ -32,18 +32,29 @@ none_pass : (test : ℕ → Bool) (xs : List ℕ) → ((n : ℕ) → Mem n xs �
 none_pass test [] h = refl
 none_pass test (x ∷ xs) h = filter_no test x xs (h x (inl refl)) ∙ none_pass test xs (λ n m. h n (inr m))
 
+-- no path leads to an earlier place
+pub reached_later : {N E : Type 0} (g : Graph N E) (order : List ℕ) → IsOrderOf g order
+    → (u v : ℕ) → Reaches g u v → place order u ≤ place order v
+reached_later g order ord u v r =
+    let P : ℕ → Type 0 = λ z. place order u ≤ place order z in
+    reaches_stays g P (λ x y h j. omega (arith, h, ord.sorted x y j)) u v r (omega arith)
+
 module _ {N E : Type 0} {end : ℕ} {g : Graph N E} (w : IsWellFormed end g) {labels nodes : List ℕ}
     (ord : IsOrderOf g nodes) (s : IsLabelled labels nodes) where
   pub stands_in : (n : ℕ) → HasNode g n → Mem n nodes
   stands_in n h = contains_mem nodes n ((ord.exact n).1 h)
 
-  pub ascending : (u v : ℕ) → AreJoined g u v → get_or labels u 0 < get_or labels v 0
-  ascending u v j =
-      let before = ord.sorted u v j in
-      elim (label_places s u v (stands_in u (w.parents j.0 _ j.2)) (stands_in v (w.children j.0 _ j.2))) [
+  -- labels by places
+  pub lower_label : (u v : ℕ)
+      → HasNode g u → HasNode g v → place nodes u < place nodes v → get_or labels u 0 < get_or labels v 0
+  lower_label u v has_u has_v before =
+      elim (label_places s u v (stands_in u has_u) (stands_in v has_v)) [
         | inl e ↦ absurd (omega (arith, before, ap (place nodes) e))
         | inr r ↦ elim r [ inl up ↦ up.0 | inr down ↦ absurd (omega (arith, before, down.1)) ]
       ]
+
+  pub ascending : (u v : ℕ) → AreJoined g u v → get_or labels u 0 < get_or labels v 0
+  ascending u v j = lower_label u v (w.parents j.0 _ j.2) (w.children j.0 _ j.2) (ord.sorted u v j)
 
   pub placed : (n : ℕ) → HasNode g n → n < length labels
   placed n h = label_within s n (stands_in n h)

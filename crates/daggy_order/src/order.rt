@@ -14,11 +14,13 @@ use std::marker::Model;
 mod edge;
 mod naming;
 mod nodes;
+mod reaching;
 mod search;
 mod sorting;
 
 pub use edge::order_edge;
 pub use nodes::Nodes;
+pub use reaching::reaches_in;
 
 /// An ordered list of distinct nodes that can be added at both ends, removed and moved.
 ///

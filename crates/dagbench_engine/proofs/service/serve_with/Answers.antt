@@ -8,7 +8,7 @@ returns-clause-end g c = run_ends _ _ _ _ _ _ c.run.ensures.run
 
 pub returns-clause-served : goal.returns-clause-served
 returns-clause-served g c =
-    let name = sym (c.run.ensures.same_sink ∙ c.new-writer.ensures.lent) in
+    let name = sym (c.run.ensures.same_sink ∙ c.new-writer.ensures.same_reference) in
     run_serves _ _ _ _ _ _ c.run.ensures.run (search rules) (search rules)
 
 pub returns-clause-whole : goal.returns-clause-whole
@@ -19,10 +19,10 @@ returns-clause-read g c = run_tells_read _ _ _ _ _ _ c.run.ensures.run
 
 pub returns-clause-write : goal.returns-clause-write
 returns-clause-write g c =
-    let name = sym (c.run.ensures.same_sink ∙ c.new-writer.ensures.lent) in
+    let name = sym (c.run.ensures.same_sink ∙ c.new-writer.ensures.same_reference) in
     run_tells_write _ _ _ _ _ _ c.run.ensures.run (search rules) (search rules)
 
 pub returns-clause-replied : goal.returns-clause-replied
 returns-clause-replied g c =
-    let name = sym (c.run.ensures.same_sink ∙ c.new-writer.ensures.lent) in
+    let name = sym (c.run.ensures.same_sink ∙ c.new-writer.ensures.same_reference) in
     run_replies _ _ _ _ _ _ c.run.ensures.run (search rules) (search rules)

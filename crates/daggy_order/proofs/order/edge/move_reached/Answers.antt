@@ -1,12 +1,11 @@
-use Rattle.std.proofs.Common.{◌≡◌, ◌+◌, ◌<◌, ◌≤◌, ◌↔◌, ℕ, ◌∙◌, sym, ap, subst, arith, inl, inr}
+use Rattle.std.proofs.Common.{◌≡◌, ◌+◌, ◌<◌, ◌≤◌, ◌↔◌, ℕ, ◌∙◌, sym, ap, subst, arith}
 use Rattle.std.proofs.Common.{get_or, take}
 use Rattle.std.specs.List.{Contains}
 use Rattle.std.proofs.lemmas.Option.{none-some}
 use Rattle.daggy_base.specs.Path.{Reaches}
 use Rattle.daggy_base.specs.Ordered.{place, stretch, edges_from}
 use Rattle.daggy_order.specs.Links.{Stored, IsLabelled, IsMoved, StandBefore}
-use Rattle.daggy_order.proofs.Labelled.{label_places}
-use Rattle.daggy_order.proofs.OrderEdgeResult.{stands_in, ascending, placed, between, found_before, new_order}
+use Rattle.daggy_order.proofs.OrderEdgeResult.{lower_label, ascending, placed, between, found_before, new_order}
 use Rattle.daggy_order.proofs.OrderEdgeResult.{new_before, new_parted}
 use Rattle.daggy_order.proofs.order.edge.move_reached.Given.{Over}
 use Rattle.daggy_order.proofs.order.edge.move_reached.Goals.{After-label-limit, After-reaches_below, In-Some, After-move_after}
@@ -27,15 +26,8 @@ lower : (g : Over) (c : After-label-limit g)
     → get_or c.list.inside.links.labels (g.Ix.IndexType.number c.args.b) 0
     < get_or c.list.inside.links.labels (g.Ix.IndexType.number c.args.a) 0
 lower g c =
-    let w = c.contains_node-exists.ensures.well_formed in
-    let s = labelled g c in
-    let a : ℕ = g.Ix.IndexType.number c.args.a in
-    let b : ℕ = g.Ix.IndexType.number c.args.b in
-    let stands = stands_in w c.requires.ordered s in
-    elim (label_places s b a (stands b c.requires.child) (stands a c.requires.parent)) [
-      | inl e ↦ absurd (omega (arith, c.requires.behind, ap (place c.args.list.now.nodes) e))
-      | inr r ↦ elim r [ inl up ↦ up.0 | inr down ↦ absurd (omega (arith, c.requires.behind, down.1)) ]
-    ]
+    lower_label c.contains_node-exists.ensures.well_formed c.requires.ordered (labelled g c) (g.Ix.IndexType.number c.args.b)
+    (g.Ix.IndexType.number c.args.a) c.requires.child c.requires.parent c.requires.behind
 
 -- the search looks at edges of nodes between b and a
 counted : (g : Over) (c : After-reaches_below g)

@@ -1,11 +1,11 @@
 use Rattle.std.proofs.Common.{◌≡◌, ◌≢◌, ◌+◌, ◌<◌, ◌≤◌, ℕ, List, ◌++◌, ◌∙◌, sym, subst, arith}
 use Rattle.std.proofs.lemmas.Bool.{false≢true}
-use Rattle.daggy_search.proofs.SearchProgress.{reaches_stays}
 use Rattle.daggy_base.specs.Graph.{HasNode}
 use Rattle.daggy_base.specs.Ordered.{IsOrderOf, IsParted, place, stretch, edges_from}
 use Rattle.daggy_base.proofs.Lists.{Mem, contains_mem, mem_contains}
 use Rattle.std.specs.List.{range_with_len}
 use Rattle.daggy_base.proofs.Sorted.{same_place}
+use Rattle.daggy_order.proofs.OrderEdgeResult.{reached_later}
 use Rattle.daggy_order.proofs.Tails.{high, tailed_bare, bare_is}
 use Rattle.daggy_order.proofs.order.edge.order_edge.Given.{Over}
 use Rattle.daggy_order.proofs.order.edge.order_edge.Goals.{Else-index, After-flush-order-inside, After-move_reached}
@@ -23,17 +23,12 @@ is g c = bare_is c.move_reached.new.list.nodes _ _ c.flush-order-inside.ensures.
 
 pub returns-then-stands_before-clause-decided : goal.returns-then-stands_before-clause-decided
 returns-then-stands_before-clause-decided g c =
-    let order : List ℕ = c.args.order.now in
-    let a : ℕ = g.Ix.IndexType.number c.args.a in
-    let b : ℕ = g.Ix.IndexType.number c.args.b in
-    let P : ℕ → Type 0 = λ z. place order b ≤ place order z in
-    let before : place order a < place order b = c.stands_before.ensures.0 c.if-stands_before.true in (
+    let before = c.stands_before.ensures.0 c.if-stands_before.true in (
       λ e. absurd (false≢true (sym e)),
       λ r. absurd (omega (
         arith,
         before,
-        reaches_stays (g.S.EdgeSource.graph c.args.source.now) P
-            (λ x y h j. omega (arith, h, c.requires.ordered.sorted x y j)) b a r (omega arith),
+        reached_later (g.S.EdgeSource.graph c.args.source.now) c.args.order.now c.requires.ordered _ _ r,
       )),
     )
 

@@ -1,0 +1,83 @@
+//! Whether a path leads from one node to another, by an order of the nodes.
+ghost use Rattle.std.specs.Prelude.{◌≡◌, ◌+◌, ◌<◌, ◌≤◌, ◌↔◌, IsTrue};
+ghost use Rattle.daggy_base.specs.Graph.{HasNode, node_bound};
+ghost use Rattle.daggy_base.specs.Path.{Reaches};
+ghost use Rattle.daggy_base.specs.Ordered.{IsOrderOf, place, stretch, edges_from};
+
+use crate::list::LabeledList;
+use crate::order::Order;
+use crate::order::search::reaches_below;
+use daggy_base::index::{IndexType, NodeIndex};
+use daggy_base::source::EdgeSource;
+use daggy_search::Scratch;
+
+/// As [`reaches`](daggy_search::reaches), by a topological order of the nodes.
+///
+/// # Complexity
+///
+/// O(1) if `b` precedes `a`. Otherwise it searches the nodes reachable from `a` that precede `b`.
+/// Does not allocate.
+pub fn reaches_in<Ix: IndexType, S: EdgeSource<Ix>>(
+    source: &mut S,
+    order: &mut Order<Ix>,
+    a: NodeIndex<Ix>,
+    b: NodeIndex<Ix>,
+    scratch: &mut Scratch<Ix>,
+) -> bool
+    requires ordered { IsOrderOf (S.graph source.old) order.old }
+    requires scratch_fits { node_bound (S.graph source.old) ≤ scratch.old.nodes }
+    ensures decided { IsTrue result ↔ Reaches (S.graph source.old) (Ix.number a) (Ix.number b) }
+    ensures same { S.graph source.new ≡ S.graph source.old }
+    ensures kept { order.new ≡ order.old }
+    ensures looked { S.looks source.old ≤ S.looks source.new }
+    ensures counted { S.looks source.new ≤ S.looks source.old
+        + edges_from (S.graph source.old)
+        (stretch order.old (place order.old (Ix.number a)) (place order.old (Ix.number b))) }
+    ensures unlooked { place order.old (Ix.number b) ≤ place order.old (Ix.number a)
+        → S.looks source.new ≡ S.looks source.old }
+    ensures same_capacity { scratch.new ≡ scratch.old }
+{
+    if !source.contains_node(a) {
+        return false;
+    }
+    if !source.contains_node(b) {
+        return false;
+    }
+    if a.index() == b.index() {
+        return true;
+    }
+    if !order.stands_before(a, b) {
+        return false;
+    }
+    let tail = order.tail;
+    order.tail = order.list.flush(tail);
+    reaches_along(source, &order.list, a, b, scratch)
+}
+
+// Whether a path leads from `a` to `b`, which `a` precedes.
+fn reaches_along<Ix: IndexType, S: EdgeSource<Ix>>(
+    source: &mut S,
+    list: &LabeledList<Ix>,
+    a: NodeIndex<Ix>,
+    b: NodeIndex<Ix>,
+    scratch: &mut Scratch<Ix>,
+) -> bool
+    requires from { HasNode (S.graph source.old) (Ix.number a) }
+    requires to { HasNode (S.graph source.old) (Ix.number b) }
+    requires ordered { IsOrderOf (S.graph source.old) list.now.nodes }
+    requires before { place list.now.nodes (Ix.number a) < place list.now.nodes (Ix.number b) }
+    requires scratch_fits { node_bound (S.graph source.old) ≤ scratch.old.nodes }
+    ensures decided { IsTrue result ↔ Reaches (S.graph source.old) (Ix.number a) (Ix.number b) }
+    ensures same { S.graph source.new ≡ S.graph source.old }
+    ensures looked { S.looks source.old ≤ S.looks source.new }
+    ensures counted { S.looks source.new ≤ S.looks source.old
+        + edges_from (S.graph source.old)
+        (stretch list.now.nodes (place list.now.nodes (Ix.number a))
+        (place list.now.nodes (Ix.number b))) }
+    ensures same_capacity { scratch.new ≡ scratch.old }
+{
+    // Called only for its postcondition: what exists is in the list.
+    let _exists = source.contains_node(b);
+    let limit = list.links.label(b.index());
+    reaches_below(source, a, b, &list.links, limit, &mut scratch.work).is_none()
+}
