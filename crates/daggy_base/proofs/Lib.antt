@@ -23,3 +23,4 @@ pub mod EdgeTakenBack
 pub mod SlotLists
 pub mod Orders
 pub mod ItemsInTurn
+pub mod Flags

@@ -25,6 +25,7 @@ pub mod Rewriting
 pub mod Iterating
 pub mod Calls
 pub mod IndexMembers
+pub mod Bits
 pub mod CallsInTurn
 pub mod Requests
 pub mod Answers

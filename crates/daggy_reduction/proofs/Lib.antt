@@ -18,3 +18,10 @@ pub mod Shapes
 pub mod QueuedChildren
 pub mod BoundedQueue
 pub mod SpannedLooks
+pub mod GatheredRows
+pub mod MarkedPlaces
+pub mod BlockRows
+pub mod BlockFlags
+pub mod PlacedNodes
+pub mod BlockSweep
+pub mod FoundEdges

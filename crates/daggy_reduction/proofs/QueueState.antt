@@ -1,5 +1,5 @@
 -- The state of a queue that is read, by the variables of its code.
-use Rattle.std.proofs.Common.{◌≡◌, ◌≢◌, ℕ, zero, suc, ◌+◌, ◌<◌, ◌≤◌, Bool, true, false, ◌⊎◌, ◌↔◌, inl, inr, List, []}
+use Rattle.std.proofs.Common.{◌≡◌, ◌≢◌, ℕ, zero, suc, ◌+◌, ◌<◌, ◌≤◌, Bool, true, false, ◌⊎◌, ◌↔◌, inl, inr, List, [], Contains}
 use Rattle.std.proofs.Common.{◌∷◌, ◌++◌, length, get_or, take, set, refl, sym, ap, subst, ◌∙◌, arith}
 use Rattle.std.proofs.lemmas.List.{take_more_set, length-take-le, length-append, get_or-set_same, get_or-take}
 use Rattle.daggy_base.specs.Graph.{Graph, HasNode, HasEdge, out_list, node_bound, edge_count}
@@ -315,6 +315,12 @@ module _ {N E : Type 0} {end : ℕ} {g₀ : Graph N E} (w : IsWellFormed end g�
         later = s.going.later;
         begins = s.going.begins;
       }
+
+  -- the entered nodes are those in the queue
+  pub entered_are : (n : ℕ) → (get_or now.work.entered n false ≡ true) ↔ Contains (take now.len now.work.nodes) n
+  entered_are n =
+      let m = s.going.marked n in
+      (λ t. mem_contains _ n (m.0 t), λ c. m.1 (contains_mem _ n c))
 
   pub meets_children : MeetsChildren g₀ (take now.len now.work.nodes) before now.work.marked
   meets_children n =

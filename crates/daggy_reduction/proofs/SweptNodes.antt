@@ -50,7 +50,7 @@ pub record Sweeping {N E : Type 0} (sweep : Sweep N E) (now : Swept N E) : Type 
   pub counted : now.looks ≤ sweep.looks + edge_count sweep.graph + total sweep.cost (take now.count sweep.below)
       + length (lists_of sweep.graph (take now.count sweep.below))
 
-more_times : (a b m : ℕ) → a ≤ b → a * m ≤ b * m
+pub more_times : (a b m : ℕ) → a ≤ b → a * m ≤ b * m
 more_times zero b m h = omega (arith, zero-mul m)
 more_times (suc a) zero m h = absurd (omega (arith, h))
 more_times (suc a) (suc b) m h = let less = more_times a b m (omega (arith, h)) in
@@ -126,6 +126,13 @@ some_there (y ∷ xs) (suc x) h = some_there xs x h
 pub below_exists : {N E : Type 0} (g : Graph N E) (roots : List ℕ) (n : ℕ) → IsBelow g roots n → HasNode g n
 below_exists g roots n b = let P : ℕ → Type 0 = λ z. HasNode g z in subst P b.3.2 (has_last g b.0 b.3.0 b.3.1)
 
+-- distinct nodes are no more than exist
+pub few_there : {N E : Type 0} (g : Graph N E) (xs : List ℕ)
+    → AreDistinct xs → ((n : ℕ) → Contains xs n → HasNode g n) → length xs ≤ node_count g
+few_there g xs distinct there =
+    pigeon is_some None refl xs g.nodes (unique_from_distinct xs distinct)
+    (λ x m. some_there g.nodes x (there x (mem_contains xs x m)))
+
 module _ {N E : Type 0} {sweep : Sweep N E} (w : IsWellFormed sweep.end sweep.graph) (roots : List ℕ)
     {now : Swept N E} (s : Sweeping sweep now) (past : length sweep.below ≤ now.count)
     (exact : (n : ℕ) → Contains sweep.below n ↔ IsBelow sweep.graph roots n) (distinct : AreDistinct sweep.below) where
@@ -158,13 +165,7 @@ module _ {N E : Type 0} {sweep : Sweep N E} (w : IsWellFormed sweep.end sweep.gr
 
   few_nodes : length sweep.below ≤ node_count sweep.graph
   few_nodes =
-      pigeon is_some None refl sweep.below sweep.graph.nodes (unique_from_distinct sweep.below distinct) (λ x m. (
-      let has = below_exists sweep.graph roots x ((exact x).0 (mem_contains sweep.below x m)) in
-      go x has
-      ))
-    where
-      go : (x : ℕ) → HasNode sweep.graph x → is_some (get_or sweep.graph.nodes x None) ≡ true
-      go x has = some_there sweep.graph.nodes x has
+      few_there sweep.graph sweep.below distinct (λ n c. below_exists sweep.graph roots n ((exact n).0 c))
 
   -- one search for each node below, and each list read once more before and after them
   pub looks_total : now.looks ≤ sweep.looks + 2 * edge_count sweep.graph + total sweep.cost sweep.below

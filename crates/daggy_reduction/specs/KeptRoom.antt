@@ -16,4 +16,5 @@ scratch_type Ix m =
 -- once what was lent of the scratch is given back, it has the room that it had
 abbrev pub keeps_room : (Ix : RattleType) → IndexMembers Ix.Denot → MutBor (Room Ix.Denot) → Fml
 keeps_room Ix m s =
-    Rests (scratch_type Ix m) s (λ new. (new.nodes ≡ s.now.nodes) × (new.edges ≡ s.now.edges))
+    Rests (scratch_type Ix m) s (λ new.
+    (new.nodes ≡ s.now.nodes) × (new.edges ≡ s.now.edges) × (new.rows ≡ s.now.rows))

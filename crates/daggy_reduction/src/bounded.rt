@@ -172,6 +172,7 @@ pub(crate) fn leave_redundant_in<Ix: IndexType, S: EdgeSource<Ix>>(
         + all_spanned (S.graph source.old) order.now order.now }
     ensures nodes_kept { scratch.new.nodes ≡ scratch.old.nodes }
     ensures edges_kept { scratch.new.edges ≡ scratch.old.edges }
+    ensures rows_kept { scratch.new.rows ≡ scratch.old.rows }
 {
     let _well_formed = source.node_bound();
     let bound = source.edge_bound();

@@ -1,6 +1,6 @@
 //! Breadth-first search.
 ghost use Rattle.std.specs.Prelude.{◌≡◌, ◌≢◌, ℕ, ◌+◌, ◌<◌, ◌≤◌, ◌^◌, true, false, length, take};
-ghost use Rattle.std.specs.Prelude.{slice_set, slice_index_or};
+ghost use Rattle.std.specs.Prelude.{slice_set, slice_index_or, ◌↔◌, Contains};
 ghost use Rattle.daggy_base.specs.Graph.{node_bound, edge_count};
 ghost use Rattle.daggy_base.specs.WellFormed.{IsWellFormed};
 ghost use Rattle.daggy_search.specs.Work.{IsSized};
@@ -67,6 +67,8 @@ pub(crate) fn close<Ix: IndexType, S: EdgeSource<Ix>>(
         (take len work.old.nodes) (take result work.new.nodes) }
     ensures met { MeetsChildren (S.graph source.old)
         (take result work.new.nodes) work.old.marked work.new.marked }
+    ensures entered { (n : ℕ) → (slice_index_or work.new.entered n false ≡ true)
+        ↔ Contains (take result work.new.nodes) n }
     ensures looked { S.looks source.old ≤ S.looks source.new }
     ensures counted { S.looks source.new ≤ S.looks source.old + edge_count (S.graph source.old) }
     ensures within { result ≤ work.old.size }

@@ -1,6 +1,8 @@
 //! The transitive reduction: which edges it removes, and what it keeps and loses.
 #![tactic(auto)]
 
+mod block;
+pub mod blocks;
 pub mod bounded;
 mod closure;
 mod flags;

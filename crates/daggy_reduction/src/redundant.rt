@@ -97,6 +97,7 @@ fn leave_redundant<Ix: IndexType, S: EdgeSource<Ix>>(
         + (node_count (S.graph source.old) + 2) * edge_count (S.graph source.old) }
     ensures nodes_kept { scratch.new.nodes ≡ scratch.old.nodes }
     ensures edges_kept { scratch.new.edges ≡ scratch.old.edges }
+    ensures rows_kept { scratch.new.rows ≡ scratch.old.rows }
 {
     let _well_formed = source.node_bound();
     let bound = source.edge_bound();

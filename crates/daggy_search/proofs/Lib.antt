@@ -4,3 +4,4 @@ pub mod Entries
 pub mod FinishingOrder
 pub mod SearchState
 pub mod SortNodesState
+pub mod RowWords

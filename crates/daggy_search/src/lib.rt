@@ -3,11 +3,14 @@
 
 mod cycles;
 mod reach;
+mod row;
 mod scratch;
 mod worklist;
 
 pub use cycles::{is_acyclic, sort_nodes};
 pub use reach::reaches;
+#[doc(hidden)]
+pub use row::{BLOCK, Row};
 pub use scratch::Scratch;
 #[doc(hidden)]
 pub use worklist::{NodeKey, Worklist};

@@ -1,12 +1,15 @@
 //! The memory of searches.
-ghost use Rattle.std.specs.Prelude.{◌≡◌, ℕ, ◌≤◌, ◌↔◌, IsTrue, IsOk, OnOk, []};
+ghost use Rattle.std.specs.Prelude.{◌≡◌, ℕ, ◌≤◌, ◌↔◌, IsTrue, IsOk, OnOk, [], vec_len};
 
+use crate::row::Row;
 use crate::worklist::Worklist;
 use daggy_base::index::{EdgeIndex, IndexType};
+use daggy_base::reserved::reserve;
 use std::alloc::{AllocError, Global};
 use std::marker::Model;
 
-/// The memory of searches: a worklist, and a list for the edges that a search finds.
+/// The memory of searches: a worklist, a list for the edges that a search finds, and rows of bits for
+/// a search by blocks of nodes.
 ///
 /// A search does not allocate: it uses a scratch that was made large enough before. Memory for
 /// nodes is only reserved then, and initialised by the first search, so a graph that is never
@@ -18,6 +21,9 @@ pub struct Scratch<Ix: IndexType> {
     /// For the edges that a search finds.
     #[doc(hidden)]
     pub found: Vec<EdgeIndex<Ix>>,
+    /// A row for each node, for a search by blocks.
+    #[doc(hidden)]
+    pub rows: Vec<Row>,
 }
 
 impl<Ix: IndexType> Model for Scratch<Ix> {
@@ -27,17 +33,35 @@ impl<Ix: IndexType> Model for Scratch<Ix> {
     ghost Value = { Room Ix };
 
     ghost view = { λ s.
-        record { nodes = s.work.size; edges = vec_len s.found; found = s.found.items } };
+        record {
+          nodes = s.work.size;
+          edges = vec_len s.found;
+          rows = vec_len s.rows;
+          found = s.found.items;
+        } };
+}
+
+// Appends empty rows until there are `len`.
+fn grow_rows(rows: &mut Vec<Row>, len: usize) -> Result<(), AllocError>
+    ensures ok { OnOk result (len ≤ vec_len rows.new) }
+    ensures more { vec_len rows.old ≤ vec_len rows.new }
+{
+    reserve(rows, len)?;
+    'rows: while rows.len() < len {
+        rows.push(Row::new())?;
+    }
+    Ok(())
 }
 
 impl<Ix: IndexType> Scratch<Ix> {
     /// Does not allocate; fits only the empty graph.
     pub fn new(alloc: Global) -> Self
-        ensures { result ≡ record { nodes = 0; edges = 0; found = [] } }
+        ensures { result ≡ record { nodes = 0; edges = 0; rows = 0; found = [] } }
     {
         Scratch {
             work: Worklist::new(alloc),
             found: Vec::new(alloc),
+            rows: Vec::new(alloc),
         }
     }
 
@@ -62,12 +86,28 @@ impl<Ix: IndexType> Scratch<Ix> {
         ensures ok { OnOk result ((node_bound ≤ self.new.nodes) × (edge_bound ≤ self.new.edges)) }
         ensures kept { (self.old.nodes ≤ self.new.nodes) × (self.old.edges ≤ self.new.edges) }
         ensures succeeds { node_bound ≤ self.old.nodes → edge_bound ≤ self.old.edges → IsOk result }
+        ensures rows_kept { self.new.rows ≡ self.old.rows }
     {
         if self.work.len() < node_bound {
             self.work.grow(node_bound)?;
         }
         if self.found.len() < edge_bound {
             self.found.resize(edge_bound, EdgeIndex::end())?;
+        }
+        Ok(())
+    }
+
+    /// Reserves a row for each node below a bound, which a search by blocks needs, 64 bytes each. It
+    /// still fits what it fitted before, also after an error.
+    #[inline]
+    pub fn reserve_rows(&mut self, node_bound: usize) -> Result<(), AllocError>
+        ensures ok { OnOk result (node_bound ≤ self.new.rows) }
+        ensures more { self.old.rows ≤ self.new.rows }
+        ensures kept { (self.new.nodes ≡ self.old.nodes) × (self.new.edges ≡ self.old.edges) }
+        ensures succeeds { node_bound ≤ self.old.rows → IsOk result }
+    {
+        if self.rows.len() < node_bound {
+            grow_rows(&mut self.rows, node_bound)?;
         }
         Ok(())
     }

@@ -1,4 +1,3 @@
-pub mod Flags
 pub mod RecursiveSteps
 pub mod MatrixRows
 pub mod AdapterSteps

@@ -1,5 +1,4 @@
 pub mod Adapters
-pub mod Bits
 pub mod Ends
 pub mod Fused
 pub mod Leading

@@ -14,7 +14,7 @@ pub struct Bits {
 
 impl Model for Bits {
     ghost use Rattle.std.specs.Prelude.{List, Bool, ◌*◌, ◌≤◌, vec_len};
-    ghost use Rattle.daggy_walk.specs.Bits.{flags};
+    ghost use Rattle.daggy_base.specs.Bits.{flags};
 
     ghost Value = { List Bool };
 

@@ -10,7 +10,7 @@ returns g c =
     sym (c.front.ensures.value ∙ (ap (λ z. take c.leave_redundant_in-count.result z) c.as_slice.ensures.value
     ∙ ap (λ z. take c.leave_redundant_in-count.result z.found) c.scratch.view_is)) in
     let view = c.scratch.view_is in (
-      (refl, λ _. tt, (ap (λ z. z.nodes) view ∙ found.nodes_kept, ap (λ z. z.edges) view ∙ found.edges_kept)),
+      (refl, λ _. tt, (ap (λ z. z.nodes) view ∙ found.nodes_kept, ap (λ z. z.edges) view ∙ found.edges_kept, ap (λ z. z.rows) view ∙ found.rows_kept)),
       record {
         same = found.same;
         ascending = subst (λ z. IsAscending (map g.Ix.IndexType.number z)) is found.ascending;

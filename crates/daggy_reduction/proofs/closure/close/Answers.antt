@@ -2,7 +2,7 @@ use Rattle.std.proofs.Common.{rules, ◌≢◌, ◌+◌, ◌≤◌, ◌∙◌, s
 use Rattle.daggy_base.specs.Graph.{out_list}
 use Rattle.daggy_base.specs.Cursor.{first_of}
 use Rattle.daggy_reduction.proofs.QueueState.{few, looked_once, edge_here, head_low, child_low, room_here, entered}
-use Rattle.daggy_reduction.proofs.QueueState.{visited, next_here, is_closure, meets_children, starts_here}
+use Rattle.daggy_reduction.proofs.QueueState.{visited, next_here, is_closure, entered_are, meets_children, starts_here}
 use Rattle.daggy_reduction.proofs.closure.close.Goals as goal
 
 pub steps-init : goal.steps-init
@@ -26,6 +26,10 @@ returns-then-head-len-clause-closed g c =
 pub returns-then-head-len-clause-met : goal.returns-then-head-len-clause-met
 returns-then-head-len-clause-met g c =
     meets_children c.requires.well_formed c.steps.invariant (cc) c.if-head-len.true
+
+pub returns-then-head-len-clause-entered : goal.returns-then-head-len-clause-entered
+returns-then-head-len-clause-entered g c =
+    entered_are c.requires.well_formed c.steps.invariant (cc) c.if-head-len.true
 
 pub returns-then-head-len-clause-counted : goal.returns-then-head-len-clause-counted
 returns-then-head-len-clause-counted g c = few c.requires.well_formed c.steps.invariant

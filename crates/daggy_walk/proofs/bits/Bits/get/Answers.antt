@@ -1,5 +1,5 @@
 use Rattle.std.proofs.Common.{◌<◌, false, length, get_or, ap, ◌∙◌, arith}
-use Rattle.daggy_walk.proofs.Flags.{length-flags, flag_read, tests_set}
+use Rattle.daggy_base.proofs.Flags.{length-flags, flag_read, tests_set}
 use Rattle.daggy_walk.proofs.bits.Bits.get.Goals as goal
 
 pub index-requires : goal.index-requires

@@ -1,5 +1,5 @@
 use Rattle.std.proofs.Common.{length, sym, ap, ◌∙◌}
-use Rattle.daggy_walk.proofs.Flags.{length-flags}
+use Rattle.daggy_base.proofs.Flags.{length-flags}
 use Rattle.daggy_walk.proofs.bits.Bits.len.Goals as goal
 
 pub returns : goal.returns

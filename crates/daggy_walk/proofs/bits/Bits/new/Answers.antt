@@ -1,6 +1,6 @@
 use Rattle.std.proofs.Common.{ap, ◌∙◌}
-use Rattle.daggy_walk.specs.Bits.{flags}
-use Rattle.daggy_walk.proofs.Flags.{flags_clear}
+use Rattle.daggy_base.specs.Bits.{flags}
+use Rattle.daggy_base.proofs.Flags.{flags_clear}
 use Rattle.daggy_walk.proofs.bits.Bits.new.Goals as goal
 
 pub returns : goal.returns

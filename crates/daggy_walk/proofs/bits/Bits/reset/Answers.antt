@@ -1,6 +1,6 @@
 use Rattle.std.proofs.Common.{length, ap, ◌∙◌, arith}
-use Rattle.daggy_walk.specs.Bits.{flags}
-use Rattle.daggy_walk.proofs.Flags.{length-flags, flags_clear}
+use Rattle.daggy_base.specs.Bits.{flags}
+use Rattle.daggy_base.proofs.Flags.{length-flags, flags_clear}
 use Rattle.daggy_walk.proofs.bits.Bits.reset.Goals as goal
 
 pub returns-in_err-resize-clause-succeeds : goal.returns-in_err-resize-clause-succeeds

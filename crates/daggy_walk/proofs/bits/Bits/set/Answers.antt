@@ -1,5 +1,5 @@
 use Rattle.std.proofs.Common.{◌<◌, false, true, not, length, get_or, set, ap, ◌∙◌, arith}
-use Rattle.daggy_walk.proofs.Flags.{length-flags, flag_read, flag_set, tests_clear}
+use Rattle.daggy_base.proofs.Flags.{length-flags, flag_read, flag_set, tests_clear}
 use Rattle.daggy_walk.proofs.bits.Bits.set.Goals as goal
 
 pub index-word-requires : goal.index-word-requires

@@ -9,7 +9,7 @@ use Rattle.std.proofs.lemmas.List.FromFn.{length-map-range_with_len, get_or-map-
 use Rattle.std.proofs.lemmas.Nat.Bits.{shr_and_one, bit_at-lt, bit_at-zero, bit_at_set_same, bit_at_set_other}
 use Rattle.std.specs.Prelude.{bit_and, bit_or}
 use Rattle.std.specs.Int.{bit_at}
-use Rattle.daggy_walk.specs.Bits.{flag_at, flags}
+use Rattle.daggy_base.specs.Bits.{flag_at, flags}
 
 pub length-flags : (words : List ℕ) (n : ℕ) → length (flags words n) ≡ n
 length-flags words n = length-map-range_with_len (flag_at words) 0 n
@@ -71,7 +71,7 @@ other_flag words i j other within =
       | inr elsewhere ↦ ap (λ w. bit_at w (j % 64) == 1) (get_or-set_other words (i / 64) (j / 64) _ 0 elsewhere)
     ]
 
-set_here : (words : List ℕ) (n i : ℕ) → i < n → n ≤ 64 * length words
+pub set_here : (words : List ℕ) (n i : ℕ) → i < n → n ≤ 64 * length words
     → flags (set words (i / 64) (set_in (get_or words (i / 64) 0) i)) n ≡ set (flags words n) i true
 set_here words n i within fits =
     let new : List ℕ = set words (i / 64) (set_in (get_or words (i / 64) 0) i) in

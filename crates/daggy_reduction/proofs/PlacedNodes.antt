@@ -1,0 +1,287 @@
+-- The nodes below some roots, listed in an order with the place of each.
+use Rattle.std.proofs.Common.{◌≡◌, ◌≢◌, ℕ, ◌+◌, ◌<◌, ◌≤◌, Bool, true, false, ◌⊎◌, ◌↔◌, inl, inr, List, [], ◌∷◌}
+use Rattle.std.proofs.Common.{not, length-append, length-set, append_assoc, append-nil, ◌++◌, length, get_or, set, take, refl, sym, ap, subst, ◌∙◌, arith, Contains}
+use Rattle.std.specs.List.{filter}
+use Rattle.std.proofs.lemmas.Bool.{cases_eq}
+use Rattle.std.proofs.lemmas.List.{get_or-set_same, get_or-set_other, get_or-take, length-take-le, take-set}
+use Rattle.std.proofs.lemmas.List.{take_more}
+use Rattle.std.proofs.lemmas.List.Filters.{length-filter_both}
+use Rattle.std.proofs.lemmas.List.Elements.{filter-append}
+use Rattle.daggy_base.specs.Graph.{Graph, node_bound, node_count}
+use Rattle.daggy_base.specs.Path.{AreJoined}
+use Rattle.daggy_base.specs.Reduction.{IsBelow}
+use Rattle.daggy_base.specs.WellFormed.{IsWellFormed}
+use Rattle.daggy_base.specs.Ordered.{IsOrderOf, place}
+use Rattle.daggy_base.proofs.Lists.{Mem, Unique, mem_at, mem_right, mem_contains, contains_mem}
+use Rattle.daggy_base.proofs.Lists.{fewer_than, unique_from_distinct}
+use Rattle.daggy_base.proofs.OutEdgesRead.{below_bound}
+use Rattle.daggy_base.proofs.PathsWithEdge.{reaches_on}
+use Rattle.daggy_base.proofs.Sorted.{mem_filter, filter_mem, place_same, place_other, unique_cross}
+use Rattle.daggy_base.proofs.ListParts.{filter_yes, filter_no}
+use Rattle.daggy_reduction.specs.Blocks.{IsPlaced}
+use Rattle.daggy_reduction.proofs.FlaggedRedundant.{joined_exist}
+use Rattle.daggy_reduction.proofs.Paths.{reaches_one}
+use Rattle.daggy_reduction.proofs.QueueProgress.{take_none}
+use Rattle.daggy_search.specs.Work.{Work, IsSized}
+use Rattle.daggy_search.proofs.Sized.{sized_put_node, sized_put_cursor}
+use Rattle.daggy_reduction.proofs.SweptNodes.{below_exists, few_there}
+
+either : (b : Bool) → (b ≡ false) ⊎ (b ≡ true)
+either false = inl refl
+either true = inr refl
+
+-- an element stands at its place
+pub place_at : (xs : List ℕ) (x : ℕ) → Mem x xs → (place xs x < length xs) × (get_or xs (place xs x) 0 ≡ x)
+place_at [] x m = absurd m
+place_at (y ∷ xs) x m =
+    elim (cases_eq y x) [
+      | inl e ↦
+          (let p = place_same y x xs e in
+          (omega (arith, p), ap (λ k. get_or (y ∷ xs) k 0) p ∙ e))
+      | inr ne ↦
+          (let later : Mem x xs = elim m [ inl e ↦ absurd (ne (sym e)) | inr l ↦ l ] in
+          let p = place_other y x xs ne in
+          let r = place_at xs x later in
+          (omega (arith, p, r.0), ap (λ k. get_or (y ∷ xs) k 0) p ∙ r.1))
+    ]
+
+-- some of a list stand as they stood
+pub filter_places : (p : ℕ → Bool) (xs : List ℕ) (u v : ℕ) → p u ≡ true → p v ≡ true → place xs u < place xs v
+    → place (filter p xs) u < place (filter p xs) v
+filter_places p [] u v pu pv h = absurd (omega (arith, h))
+filter_places p (x ∷ xs) u v pu pv h =
+    elim (cases_eq x v) [
+      | inl e ↦ absurd (omega (arith, h, place_same x v xs e))
+      | inr nv ↦ elim (cases_eq x u) [
+        | inl e ↦
+            (let yes = filter_yes p x xs (ap p e ∙ pu) in
+            let P : List ℕ → Type 0 = λ z. place z u < place z v in
+            let at = place_same x u (filter p xs) e in
+            let later = place_other x v (filter p xs) nv in
+            let less : place (x ∷ filter p xs) u < place (x ∷ filter p xs) v = omega (arith, at, later) in
+            subst P (sym yes) less)
+        | inr nu ↦
+            (let rest : place xs u < place xs v = omega (arith, h, place_other x u xs nu, place_other x v xs nv) in
+            let below = filter_places p xs u v pu pv rest in
+            go below nu nv (p x) refl)
+      ]
+    ]
+  where
+    go : place (filter p xs) u < place (filter p xs) v → x ≢ u → x ≢ v → (b : Bool) → b ≡ p x
+        → place (filter p (x ∷ xs)) u < place (filter p (x ∷ xs)) v
+    go below nu nv true is =
+        let P : List ℕ → Type 0 = λ z. place z u < place z v in
+        let less : place (x ∷ filter p xs) u < place (x ∷ filter p xs) v =
+        omega (arith, below, place_other x u (filter p xs) nu, place_other x v (filter p xs) nv) in
+        subst P (sym (filter_yes p x xs (sym is))) less
+    go below nu nv false is =
+        let P : List ℕ → Type 0 = λ z. place z u < place z v in
+        subst P (sym (filter_no p x xs (sym is))) below
+
+module _ {N E : Type 0} {end : ℕ} {g : Graph N E} (w : IsWellFormed end g) (order : List ℕ) (ord : IsOrderOf g order)
+    (roots : List ℕ) (p : ℕ → Bool) (below : (n : ℕ) → (p n ≡ true) ↔ IsBelow g roots n) where
+  pub listed_below : (n : ℕ) → Contains (filter p order) n ↔ IsBelow g roots n
+  listed_below n = (
+    λ c. (below n).0 (filter_mem p order n (contains_mem (filter p order) n c)).1,
+    λ b.
+        mem_contains (filter p order) n
+        (mem_filter p order n (contains_mem order n ((ord.exact n).1 (below_exists g roots n b))) ((below n).1 b)),
+  )
+
+  pub all_placed : (nodes places : List ℕ) → nodes ≡ filter p order
+      → ((k : ℕ) → k < length nodes → get_or places (get_or nodes k 0) 0 ≡ k) → IsPlaced g nodes places
+  all_placed nodes places is at =
+      record {
+        exist = λ n c. below_exists g roots n ((listed n).0 c);
+        at = at;
+        closed = closed;
+        sorted = λ u v c j.
+            (let cv = closed u v c j in
+            let pu = place_is u c in
+            let pv = place_is v cv in
+            let less =
+            filter_places p order u v ((below u).1 ((listed u).0 c)) ((below v).1 ((listed v).0 cv)) (ord.sorted u v j) in
+            omega (arith, pu, pv, less, ap (λ z. place z u) is, ap (λ z. place z v) is));
+      }
+    where
+      listed : (n : ℕ) → Contains nodes n ↔ IsBelow g roots n
+      listed n = let P : List ℕ → Type 0 = λ z. Contains z n ↔ IsBelow g roots n in subst P (sym is) (listed_below n)
+
+      closed : (u v : ℕ) → Contains nodes u → AreJoined g u v → Contains nodes v
+      closed u v c j =
+          let b = (listed u).0 c in
+          let ends = joined_exist end g w u v j in
+          (listed v).1 (b.0, b.1, b.2, reaches_on g b.0 u v b.3 (reaches_one g u v ends.0 ends.1 j))
+
+      place_is : (n : ℕ) → Contains nodes n → get_or places n 0 ≡ place nodes n
+      place_is n c =
+          let a = place_at nodes n (contains_mem nodes n c) in
+          ap (λ z. get_or places z 0) (sym a.1) ∙ at (place nodes n) a.0
+
+pub filter_short : (p : ℕ → Bool) (xs : List ℕ) → length (filter p xs) ≤ length xs
+filter_short p xs = omega (arith, length-filter_both p (λ x. not (p x)) (λ x. refl) xs)
+
+-- the marked ones among the first nodes of an order listed, with their places
+pub record Listing (p : ℕ → Bool) (order rest nodes places : List ℕ) (len : ℕ) : Type 0 where
+  pub done : List ℕ
+  pub whole : order ≡ done ++ rest
+  pub few : len ≤ length done
+  pub listed : take len nodes ≡ filter p done
+  pub placed : (k : ℕ) → k < len → get_or places (get_or nodes k 0) 0 ≡ k
+
+pub list_start : (p : ℕ → Bool) (order rest nodes places : List ℕ) → rest ≡ order → Listing p order rest nodes places 0
+list_start p order rest nodes places is =
+    record {
+      done = [];
+      whole = sym is;
+      few = omega arith;
+      listed = take_none nodes;
+      placed = λ k low. absurd (omega (arith, low));
+    }
+
+module _ {p : ℕ → Bool} {order rest nodes places : List ℕ} {len : ℕ} (s : Listing p order rest nodes places len)
+    (n : ℕ) (rest' : List ℕ) (next : rest ≡ n ∷ rest') where
+  pub next_listed : Contains order n
+  next_listed =
+      let P : List ℕ → Type 0 = λ z. Mem n z in
+      mem_contains order n
+      (subst P (sym (s.whole ∙ ap (λ z. s.done ++ z) next)) (mem_right s.done (n ∷ rest') n (inl refl)))
+
+  pub next_few : len < length order
+  next_few =
+      omega (
+        arith,
+        s.few,
+        ap (λ (z : List ℕ). length z) (s.whole ∙ ap (λ z. s.done ++ z) next),
+        length-append s.done (n ∷ rest'),
+      )
+
+  pub list_on : (nodes' places' : List ℕ) (len' : ℕ) → Unique order → n < length places → len < length nodes
+      → (p n ≡ false → (nodes' ≡ nodes) × (places' ≡ places) × (len' ≡ len))
+      → (p n ≡ true → (nodes' ≡ set nodes len n) × (places' ≡ set places n len) × (len' ≡ len + 1))
+      → Listing p order rest' nodes' places' len'
+  list_on nodes' places' len' once low room passed put = go (p n) refl
+    where
+      whole' : order ≡ (s.done ++ n ∷ []) ++ rest'
+      whole' = s.whole ∙ ap (λ z. s.done ++ z) next ∙ sym (append_assoc s.done (n ∷ []) rest')
+
+      long : length (s.done ++ n ∷ []) ≡ length s.done + 1
+      long = length-append s.done (n ∷ []) ∙ omega arith
+
+      go : (b : Bool) → b ≡ p n → Listing p order rest' nodes' places' len'
+      go false is =
+          let h = passed (sym is) in
+          record {
+            done = s.done ++ n ∷ [];
+            whole = whole';
+            few = omega (arith, s.few, long, h.2);
+            listed =
+                ap (λ z. take len' z) h.0 ∙ ap (λ z. take z nodes) h.2 ∙ s.listed
+                ∙ sym (filter-append p s.done (n ∷ []) ∙ ap (λ z. filter p s.done ++ z) (filter_no p n [] (sym is))
+                ∙ append-nil (filter p s.done));
+            placed = λ k below.
+                (let at = s.placed k (omega (arith, below, h.2)) in
+                ap (λ z. get_or z (get_or nodes' k 0) 0) h.1 ∙ ap (λ z. get_or places (get_or z k 0) 0) h.0 ∙ at);
+          }
+      go true is =
+          let h = put (sym is) in
+          let front : take len (set nodes len n) ≡ take len nodes = take-set nodes len n in
+          let last : get_or (set nodes len n) len 0 ≡ n = get_or-set_same nodes len n 0 room in
+          let inside : len < length (set nodes len n) = omega (arith, room, length-set nodes len n) in
+          let grown : take (len + 1) (set nodes len n) ≡ take len nodes ++ n ∷ [] =
+          take_more (set nodes len n) len 0 inside ∙ ap (λ z. z ++ get_or (set nodes len n) len 0 ∷ []) front
+          ∙ ap (λ z. take len nodes ++ z ∷ []) last in
+          let cross = unique_cross s.done (n ∷ rest') (
+          let U : List ℕ → Type 0 = λ z. Unique z in
+          subst U (s.whole ∙ ap (λ z. s.done ++ z) next) once) in
+          record {
+            done = s.done ++ n ∷ [];
+            whole = whole';
+            few = omega (arith, s.few, long, h.2);
+            listed =
+                ap (λ z. take len' z) h.0 ∙ ap (λ z. take z (set nodes len n)) h.2 ∙ grown
+                ∙ ap (λ z. z ++ n ∷ []) s.listed
+                ∙ sym (filter-append p s.done (n ∷ []) ∙ ap (λ z. filter p s.done ++ z) (filter_yes p n [] (sym is)));
+            placed = λ k below.
+                (let at : get_or (set places n len) (get_or (set nodes len n) k 0) 0 ≡ k =
+                elim (cases_eq k len) [
+                  | inl here ↦
+                      ap (λ z. get_or (set places n len) (get_or (set nodes len n) z 0) 0) here
+                      ∙ ap (λ z. get_or (set places n len) z 0) last ∙ get_or-set_same places n len 0 low ∙ sym here
+                  | inr other ↦
+                      (let early : k < len = omega (arith, below, h.2, other) in
+                      let y = get_or nodes k 0 in
+                      let same : get_or (set nodes len n) k 0 ≡ y = get_or-set_other nodes len k n 0 other in
+                      let sized : length (take len nodes) ≡ len = length-take-le len nodes (omega (arith, room)) in
+                      let M : ℕ → Type 0 = λ z. Mem z (take len nodes) in
+                      let D : List ℕ → Type 0 = λ z. Mem y z in
+                      let there : Mem y (take len nodes) =
+                      subst M (get_or-take len nodes k 0 early)
+                      (mem_at (take len nodes) k 0 (omega (arith, early, sized))) in
+                      let old : Mem y s.done = (filter_mem p s.done y (subst D s.listed there)).0 in
+                      let apart : y ≢ n = λ e. cross y old (inl e) in
+                      ap (λ z. get_or (set places n len) z 0) same ∙ get_or-set_other places n y len 0 apart
+                      ∙ s.placed k early)
+                ] in
+                ap (λ z. get_or z (get_or nodes' k 0) 0) h.1 ∙ ap (λ z. get_or (set places n len) (get_or z k 0) 0) h.0
+                ∙ at);
+          }
+
+-- the next node of the order was listed in a worklist if it was entered, and passed over if not
+module _ {size : ℕ} {work : Work} (sized : IsSized size work) {before : List Bool} (same : work.entered ≡ before)
+    {order rest : List ℕ} {len : ℕ} (once : Unique order) {n : ℕ} (low : n < size) (fits : length order ≤ size)
+    (s : Listing (λ k. get_or before k false) order rest work.nodes work.cursors len) where
+  pub listed_or_passed : (rest' : List ℕ) → rest ≡ n ∷ rest' → {work' : Work} {len' : ℕ}
+      → (get_or work.entered n false ≡ false → (work' ≡ work) × (len' ≡ len))
+      → (get_or work.entered n false ≡ true → (work' ≡ record work {
+        nodes = set work.nodes len n;
+        cursors = set work.cursors n len;
+      }) × (len' ≡ len + 1))
+      → IsSized size work' × (work'.entered ≡ before)
+      × Listing (λ k. get_or before k false) order rest' work'.nodes work'.cursors len'
+  listed_or_passed rest' next {work'} {len'} passed put = (kept.0, kept.1, listing)
+    where
+      listing : Listing (λ k. get_or before k false) order rest' work'.nodes work'.cursors len'
+      listing =
+          list_on s n rest' next work'.nodes work'.cursors len' once (omega (arith, low, sized.cursors_are))
+          (omega (arith, next_few s n rest' next, fits, sized.nodes_are))
+          (λ h.
+          let p = passed (ap (λ z. get_or z n false) same ∙ h) in
+          (ap (λ (z : Work). z.nodes) p.0, ap (λ (z : Work). z.cursors) p.0, p.1))
+          (λ h.
+          let p = put (ap (λ z. get_or z n false) same ∙ h) in
+          (ap (λ (z : Work). z.nodes) p.0, ap (λ (z : Work). z.cursors) p.0, p.1))
+
+      kept : IsSized size work' × (work'.entered ≡ before)
+      kept = elim (either (get_or work.entered n false)) [
+        | inl out ↦ (let p = passed out in rw p.0 (sized, same))
+        | inr there ↦ (let p = put there in rw p.0 (sized_put_cursor (sized_put_node sized len n) n len, same))
+      ]
+
+pub list_whole : {p : ℕ → Bool} {order rest nodes places : List ℕ} {len : ℕ} → Listing p order rest nodes places len
+    → rest ≡ [] → take len nodes ≡ filter p order
+list_whole {p} {order} {rest} {nodes} {places} {len} s none =
+    s.listed ∙ ap (filter p) (sym (s.whole ∙ ap (λ z. s.done ++ z) none ∙ append-nil s.done))
+
+pub list_few : {p : ℕ → Bool} {order rest nodes places : List ℕ} {len : ℕ}
+    → Listing p order rest nodes places len → len ≤ length order
+list_few {p} {order} {rest} s =
+    omega (arith, s.few, ap (λ (z : List ℕ). length z) s.whole, length-append s.done rest)
+
+-- the first nodes of a list stand at their places
+pub placed_front : (nodes places : List ℕ) (count : ℕ) → count ≤ length nodes
+    → ((k : ℕ) → k < count → get_or places (get_or nodes k 0) 0 ≡ k) → (k : ℕ) → k < length (take count nodes)
+    → get_or places (get_or (take count nodes) k 0) 0 ≡ k
+placed_front nodes places count within at k low =
+    let early : k < count = omega (arith, low, length-take-le count nodes within) in
+    ap (λ z. get_or places z 0) (get_or-take count nodes k 0 early) ∙ at k early
+
+-- an order has no more nodes than there are indices in use
+pub order_short : {N E : Type 0} {g : Graph N E} (order : List ℕ) → IsOrderOf g order → length order ≤ node_bound g
+order_short {N} {E} {g} order ord =
+    fewer_than order (node_bound g) (unique_from_distinct order ord.once)
+    (λ x m. below_bound g.nodes x ((ord.exact x).0 (mem_contains order x m)))
+
+-- and no more than there are nodes
+pub order_few : {N E : Type 0} {g : Graph N E} (order : List ℕ) → IsOrderOf g order → length order ≤ node_count g
+order_few {N} {E} {g} order ord = few_there g order ord.once (λ n c. (ord.exact n).0 c)

@@ -1,0 +1,26 @@
+use Rattle.std.proofs.Common.{length, map, take}
+use Rattle.daggy_reduction.proofs.BlockFlags.{Working}
+use Rattle.daggy_reduction.proofs.block.flag_block.Given as goal
+
+abbrev pub invariant-nodes : goal.invariant-nodes
+invariant-nodes g l =
+    Working record {
+      end = g.Ix.IndexType.greatest;
+      graph = g.S.EdgeSource.graph l.fn.source;
+      nodes = take l.fn.count l.fn.work.nodes;
+      places = l.fn.work.cursors;
+      low = l.block.low;
+      high = l.block.high;
+      room = length l.fn.rows;
+      flags = map g.Ix.IndexType.number l.fn.flags;
+      looks = g.S.EdgeSource.looks l.fn.source;
+    } record {
+      graph = g.S.EdgeSource.graph l.source;
+      rows = l.rows;
+      flags = map g.Ix.IndexType.number l.flags;
+      left = l.k;
+      looks = g.S.EdgeSource.looks l.source;
+    }
+
+abbrev pub decreases-nodes : goal.decreases-nodes
+decreases-nodes g l = l.k

@@ -1,0 +1,9 @@
+use Rattle.std.proofs.Common.{map}
+use Rattle.daggy_reduction.proofs.MarkedPlaces.{none_to_flag}
+use Rattle.daggy_reduction.proofs.block.flag_indirect.Goals as goal
+
+pub returns-else-not-is_disjoint-clause-flagged : goal.returns-else-not-is_disjoint-clause-flagged
+returns-else-not-is_disjoint-clause-flagged g c =
+    none_to_flag c.requires.well_formed c.args.work.now.cursors c.requires.places_fit c.args.block.low
+    c.args.block.high (g.Ix.IndexType.number c.args.u) c.args.reached.now.direct c.args.reached.now.indirect
+    c.requires.direct (c.is_disjoint.ensures (cc)) (map g.Ix.IndexType.number c.args.flags.now)
