@@ -24,3 +24,4 @@ pub mod SlotLists
 pub mod Orders
 pub mod ItemsInTurn
 pub mod Flags
+pub mod EdgeEnds

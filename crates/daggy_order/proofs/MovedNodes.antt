@@ -204,7 +204,7 @@ module _ (labels : List ℕ) where
         ]
 
 -- differing members of a list are no more than its members
-no_longer : (xs ys : List ℕ) → Unique xs → ((x : ℕ) → Mem x xs → Mem x ys) → length xs ≤ length ys
+pub no_longer : (xs ys : List ℕ) → Unique xs → ((x : ℕ) → Mem x xs → Mem x ys) → length xs ≤ length ys
 no_longer [] ys u h = omega arith
 no_longer (x ∷ xs) ys u h =
     let s = split_at ys x (h x (inl refl)) in

@@ -52,7 +52,7 @@ latest_over g order k (f ∷ es) e x m at =
       | inr b ↦ latest_over g order (max k c) es e x b at
     ]
 
-last_over : {N E : Type 0} (end : ℕ) (g : Graph N E)
+pub last_over : {N E : Type 0} (end : ℕ) (g : Graph N E)
     → IsWellFormed end g → (order : List ℕ) (u v : ℕ) → AreJoined g u v → place order v ≤ last_place g order u
 last_over end g w order u v j =
     latest_over g order (place order u) (out_list g u) j.0 _ (listed end g w u j.0 _ j.2 refl) j.2

@@ -25,3 +25,6 @@ pub mod BlockFlags
 pub mod PlacedNodes
 pub mod BlockSweep
 pub mod FoundEdges
+pub mod NotedEdges
+pub mod SpanSums
+pub mod BlockLooks

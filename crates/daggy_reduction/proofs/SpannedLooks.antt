@@ -33,7 +33,7 @@ total_within cost (x ∷ xs) ys u h =
     ]) in
     omega (arith, rest, ap (total cost) s.2, total_mid cost s.0 x s.1)
 
-total_is : {N E : Type 0} (g : Graph N E) (order us : List ℕ)
+pub total_is : {N E : Type 0} (g : Graph N E) (order us : List ℕ)
     → all_spanned g order us ≡ total (edges_spanned g order) us
 total_is g order [] = refl
 total_is g order (u ∷ us) = omega (arith, total_is g order us)

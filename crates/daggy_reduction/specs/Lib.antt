@@ -5,3 +5,4 @@ pub mod SearchSpan
 pub mod Blocks
 pub mod AnyWeights
 pub mod KeptRoom
+pub mod Spans

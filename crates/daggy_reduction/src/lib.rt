@@ -4,6 +4,7 @@
 mod block;
 pub mod blocks;
 pub mod bounded;
+mod choice;
 mod closure;
 mod flags;
 pub mod joined_pairs;
@@ -11,3 +12,4 @@ pub mod reduce;
 pub mod reduction_laws;
 pub mod redundant;
 mod roots;
+mod spans;

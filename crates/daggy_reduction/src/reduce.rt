@@ -8,7 +8,7 @@ ghost use Rattle.daggy_base.specs.Ordered.{IsOrderOf};
 ghost use Rattle.daggy_reduction.specs.Comparison.{IsAscending, JoinsAll};
 ghost use Rattle.daggy_reduction.specs.SearchSpan.{all_spanned};
 
-use crate::bounded::leave_redundant_in;
+use crate::choice::leave_redundant_either_way;
 use crate::redundant::front;
 use daggy_base::index::{EdgeIndex, IndexType, NodeIndex};
 use daggy_base::store::Store;
@@ -64,7 +64,7 @@ pub fn transitive_reduce<Ix: IndexType, S: Store<Ix>>(
     let nodes = store.node_bound();
     let edges = store.edge_bound();
     scratch.reserve(nodes, edges)?;
-    let count = leave_redundant_in(store, order, roots, scratch);
+    let count = leave_redundant_either_way(store, order, roots, scratch);
     remove_edges(store, front(scratch.found.as_slice(), count));
     Ok(())
 }

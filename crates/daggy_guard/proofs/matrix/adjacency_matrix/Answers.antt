@@ -1,7 +1,8 @@
 use Rattle.std.proofs.Common.{◌≤◌, arith}
 use Rattle.daggy_base.specs.Graph.{edge_bound}
 use Rattle.daggy_base.proofs.PathsWithNode.{bound_low}
-use Rattle.daggy_guard.proofs.FilledMatrix.{edge_here, no_edge_here, parent_low, child_low, past_vacant, past_edge}
+use Rattle.daggy_base.proofs.EdgeEnds.{edge_here, no_edge_here, parent_low, child_low}
+use Rattle.daggy_guard.proofs.FilledMatrix.{past_vacant, past_edge}
 use Rattle.daggy_guard.proofs.FilledMatrix.{past_all}
 use Rattle.daggy_guard.proofs.matrix.adjacency_matrix.Goals as goal
 use Rattle.daggy_guard.proofs.matrix.adjacency_matrix.Goals.{in-Some, in_default}

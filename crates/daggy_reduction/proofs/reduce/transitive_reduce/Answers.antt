@@ -24,20 +24,20 @@ reduced_so kind roots old {mid} {new} {handed} {gone} is same removed up exact =
 -- the edges that are handed over are those that were found
 handed : (g : Over) (c : After-front g)
     → map g.Ix.IndexType.number c.front.result.now
-    ≡ map g.Ix.IndexType.number (take c.leave_redundant_in-count.result c.leave_redundant_in-count.new.scratch.found)
+    ≡ map g.Ix.IndexType.number (take c.leave_redundant_either_way-count.result c.leave_redundant_either_way-count.new.scratch.found)
 handed g c =
     ap (map g.Ix.IndexType.number)
-    (c.front.ensures.value ∙ (ap (λ z. take c.leave_redundant_in-count.result z) c.as_slice.ensures.value
-    ∙ ap (λ z. take c.leave_redundant_in-count.result z.found) c.scratch.view_is))
+    (c.front.ensures.value ∙ (ap (λ z. take c.leave_redundant_either_way-count.result z) c.as_slice.ensures.value
+    ∙ ap (λ z. take c.leave_redundant_either_way-count.result z.found) c.scratch.view_is))
 
 -- what is left is a reduction
 reduction : (g : Over) (c : After-remove_edges g)
     → map g.Ix.IndexType.number c.front.result.now
-    ≡ map g.Ix.IndexType.number (take c.leave_redundant_in-count.result c.leave_redundant_in-count.new.scratch.found)
+    ≡ map g.Ix.IndexType.number (take c.leave_redundant_either_way-count.result c.leave_redundant_either_way-count.new.scratch.found)
     → IsReduction g.S.Store.KIND (map g.Ix.IndexType.number c.args.roots.now)
     (g.S.EdgeSource.graph c.args.store.now) (g.S.EdgeSource.graph c.remove_edges.new.store)
 reduction g c is =
-    let found = c.leave_redundant_in-count.ensures in
+    let found = c.leave_redundant_either_way-count.ensures in
     reduced_so g.S.Store.KIND (map g.Ix.IndexType.number c.args.roots.now) (g.S.EdgeSource.graph c.args.store.now) is
     found.same c.remove_edges.ensures.removed found.ascending found.exact
 
@@ -45,7 +45,7 @@ pub remove_edges-requires-clause-ascending : goal.remove_edges-requires-clause-a
 remove_edges-requires-clause-ascending g c =
     let at = goal.at.remove_edges-requires-clause-ascending g c in
     let P : List ℕ → Type 0 = λ z. IsAscending z in
-    subst P (sym (handed g at.After-front)) c.leave_redundant_in-count.ensures.ascending
+    subst P (sym (handed g at.After-front)) c.leave_redundant_either_way-count.ensures.ascending
 
 pub remove_edges-requires-clause-exist : goal.remove_edges-requires-clause-exist
 remove_edges-requires-clause-exist g c =
@@ -54,8 +54,8 @@ remove_edges-requires-clause-exist g c =
     let M : List ℕ → Type 0 = λ z. Contains z e in
     let H : Option (Edge g.row.S-EdgeWeight.Denot) → Type 0 = λ z. IsSome z in
     let G : Graph g.row.S-NodeWeight.Denot g.row.S-EdgeWeight.Denot → Type 0 = λ z. HasEdge z e in
-    let red = (c.leave_redundant_in-count.ensures.exact e).0 (subst M (handed g at.After-front) m) in
-    subst G (sym c.leave_redundant_in-count.ensures.same) (subst H (sym red.at) cc)
+    let red = (c.leave_redundant_either_way-count.ensures.exact e).0 (subst M (handed g at.After-front) m) in
+    subst G (sym c.leave_redundant_either_way-count.ensures.same) (subst H (sym red.at) cc)
     )
 
 pub returns-clause-reduced : goal.returns-clause-reduced
@@ -74,6 +74,6 @@ pub returns-clause-nodes : goal.returns-clause-nodes
 returns-clause-nodes g c =
     let handed = map g.Ix.IndexType.number c.front.result.now in
     ap (λ (z : Graph g.row.S-NodeWeight.Denot g.row.S-EdgeWeight.Denot). z.nodes) c.remove_edges.ensures.removed
-    ∙ nodes_kept g.S.Store.KIND (reverse handed) (g.S.EdgeSource.graph c.leave_redundant_in-count.new.source)
+    ∙ nodes_kept g.S.Store.KIND (reverse handed) (g.S.EdgeSource.graph c.leave_redundant_either_way-count.new.store)
     ∙ ap (λ (z : Graph g.row.S-NodeWeight.Denot g.row.S-EdgeWeight.Denot). z.nodes)
-    c.leave_redundant_in-count.ensures.same
+    c.leave_redundant_either_way-count.ensures.same

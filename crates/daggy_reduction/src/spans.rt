@@ -1,0 +1,132 @@
+//! How many edges searches would look at, told from the ends of all edges.
+ghost use Rattle.std.specs.Prelude.{◌≡◌, ℕ, ◌+◌, ◌<◌, ◌≤◌, ◌⊎◌, length, take, Contains};
+ghost use Rattle.std.specs.Prelude.{slice_index, slice_index_or, slice_set};
+ghost use Rattle.daggy_base.specs.Graph.{node_bound, out_list};
+ghost use Rattle.daggy_base.specs.Path.{AreJoined};
+ghost use Rattle.daggy_base.specs.Ordered.{IsOrderOf, place};
+ghost use Rattle.daggy_base.specs.WellFormed.{AreDistinct};
+ghost use Rattle.daggy_search.specs.Work.{IsSized};
+ghost use Rattle.daggy_reduction.specs.SearchSpan.{all_spanned};
+ghost use Rattle.daggy_reduction.specs.Spans.{sum_at};
+
+use daggy_base::index::{EdgeIndex, IndexType, NodeIndex};
+use daggy_base::link::Link;
+use daggy_base::store::Store;
+use daggy_order::order::Order;
+use daggy_search::Worklist;
+
+// Resets the nodes to `end`, and the cursors to 0.
+fn reset<Ix: IndexType>(work: &mut Worklist<Ix>)
+    requires { IsSized work.old.size work.old }
+    ensures nodes { (n : ℕ) → slice_index_or work.new.nodes n Ix.greatest ≡ Ix.greatest }
+    ensures cursors { (n : ℕ) → slice_index work.new.cursors n ≡ 0 }
+    ensures kept { IsSized work.old.size work.new }
+{
+    let end = Link::end();
+    let mut i = 0;
+    'entries: while i < work.len() {
+        work.put_node(i, end);
+        work.put_cursor(i, Link::new(0));
+        i += 1;
+    }
+}
+
+// Counts an edge from `a` to `b` in the cursor of `a`, whose node becomes `b` unless a later child
+// of `a` is there.
+#[inline]
+fn note_edge<Ix: IndexType>(
+    order: &Order<Ix>,
+    a: NodeIndex<Ix>,
+    b: NodeIndex<Ix>,
+    work: &mut Worklist<Ix>,
+)
+    requires low { Ix.number a < work.old.size }
+    requires sized { IsSized work.old.size work.old }
+    requires few { slice_index work.old.cursors (Ix.number a) < Ix.greatest }
+    requires held { Contains order.now (Ix.number b) }
+    requires last_held { (slice_index_or work.old.nodes (Ix.number a) Ix.greatest ≡ Ix.greatest)
+        ⊎ Contains order.now (slice_index_or work.old.nodes (Ix.number a) Ix.greatest) }
+    ensures counted { work.new.cursors ≡ slice_set work.old.cursors (Ix.number a)
+        (slice_index work.old.cursors (Ix.number a) + 1) }
+    ensures child { (work.new.nodes ≡ work.old.nodes)
+        ⊎ (work.new.nodes ≡ slice_set work.old.nodes (Ix.number a) (Ix.number b)) }
+    ensures kept { IsSized work.old.size work.new }
+{
+    let i = a.index();
+    let count = work.cursor(i).index();
+    work.put_cursor(i, Link::new(count + 1));
+    let last = work.node(i);
+    if last.index() == Link::<Ix>::end().index() || order.stands_before(last.node(), b) {
+        work.put_node(i, Link::of_node(b));
+    }
+}
+
+// Notes how many edges leave each node, and the last child of each.
+fn note_edges<Ix: IndexType, S: Store<Ix>>(store: &S, order: &Order<Ix>, work: &mut Worklist<Ix>)
+    requires ordered { IsOrderOf (S.graph store.now) order.now }
+    requires fits { node_bound (S.graph store.now) ≤ work.old.size }
+    ensures degrees { (n : ℕ)
+        → slice_index work.new.cursors n ≤ length (out_list (S.graph store.now) n) }
+    ensures children { (n : ℕ) → (slice_index_or work.new.nodes n Ix.greatest ≡ Ix.greatest)
+        ⊎ AreJoined (S.graph store.now) n (slice_index_or work.new.nodes n Ix.greatest) }
+    ensures kept { IsSized work.old.size work.new }
+{
+    let _well_formed = store.node_bound();
+    work.begin();
+    reset(work);
+    let bound = store.edge_bound();
+    let mut e = 0;
+    'edges: while e < bound {
+        if let Some((a, b)) = store.edge_endpoints(EdgeIndex::new(e)) {
+            note_edge(order, a, b, work);
+        }
+        e += 1;
+    }
+}
+
+// Replaces the count at each node by the sum of those before it in the order.
+fn sum_before<Ix: IndexType>(order: &Order<Ix>, work: &mut Worklist<Ix>)
+    requires distinct { AreDistinct order.now }
+    requires low { (n : ℕ) → Contains order.now n → n < work.old.size }
+    requires few { sum_at work.old.cursors order.now ≤ Ix.greatest }
+    requires sized { IsSized work.old.size work.old }
+    ensures sums { (n : ℕ) → Contains order.now n → slice_index work.new.cursors n
+        ≡ sum_at work.old.cursors (take (place order.now n) order.now) }
+    ensures same { work.new.nodes ≡ work.old.nodes }
+    ensures kept { IsSized work.old.size work.new }
+{
+    let mut sum = 0;
+    'nodes: for n in order.nodes() {
+        let i = n.index();
+        let count = work.cursor(i).index();
+        work.put_cursor(i, Link::new(sum));
+        sum += count;
+    }
+}
+
+// The sum over all nodes of how many edges leave the nodes from each up to its last child, or the
+// greatest number if it is more.
+pub(crate) fn spanned<Ix: IndexType, S: Store<Ix>>(
+    store: &S,
+    order: &Order<Ix>,
+    work: &mut Worklist<Ix>,
+) -> usize
+    requires ordered { IsOrderOf (S.graph store.now) order.now }
+    requires fits { node_bound (S.graph store.now) ≤ work.old.size }
+    ensures most { result ≤ all_spanned (S.graph store.now) order.now order.now }
+    ensures kept { work.new.size ≡ work.old.size }
+{
+    let _well_formed = store.node_bound();
+    note_edges(store, order, work);
+    sum_before(order, work);
+    let end = Link::<Ix>::end().index();
+    let mut sum = 0usize;
+    'nodes: for n in order.nodes() {
+        let i = n.index();
+        let last = work.node(i).index();
+        if last != end {
+            sum = sum.saturating_add(work.cursor(last).index() - work.cursor(i).index());
+        }
+    }
+    sum
+}
