@@ -1,4 +1,4 @@
-use Rattle.std.proofs.Common.{◌≡◌, List, length, map, take, ap, arith}
+use Rattle.std.proofs.Common.{List, length, map, take, ap, arith}
 use Rattle.std.specs.Vec.{with_items}
 use Rattle.daggy_reduction.proofs.FoundEdges.{AreFound, bound_real, are_found}
 use Rattle.daggy_reduction.proofs.redundant.leave_redundant.Given.{Over}
