@@ -2,6 +2,7 @@
 pub use daggy_base::looks::Looks;
 pub use daggy_base::source::EdgeSource;
 pub use daggy_order::order::{Nodes, Order, order_edge};
+pub use daggy_reduction::blocks::redundant_edges_by_blocks;
 pub use daggy_reduction::bounded::redundant_edges_in;
 pub use daggy_reduction::reduction_laws::{reduction_is_least, reductions_are_alike};
 pub use daggy_reduction::redundant::redundant_edges;

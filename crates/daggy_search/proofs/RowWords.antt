@@ -7,7 +7,7 @@ use Rattle.std.proofs.lemmas.List.{get_or-set_same, get_or-set_other, get_or_pas
 use Rattle.std.proofs.lemmas.Nat.Bits.{bit_at-lt, bit_at-zero, bit_at_and, bit_at_or}
 use Rattle.std.specs.Prelude.{bit_and, bit_or}
 use Rattle.std.specs.Int.{bit_at}
-use Rattle.daggy_base.specs.Bits.{flag_at, flags}
+use Rattle.daggy_base.specs.Bits.{flags}
 use Rattle.daggy_base.proofs.Flags.{length-flags, flag_of, set_in, set_here}
 
 -- a flag is a bit of its word

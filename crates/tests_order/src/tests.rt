@@ -1,6 +1,7 @@
 //! What no contract says: that calls succeed, that an order and a plain search answer alike, and
 //! how often an edge is looked at.
 
+mod blocks;
 mod counted;
 mod edges;
 mod kept;

@@ -7,6 +7,7 @@ use super::support::{holds, made, same};
 use daggy_base::index::{EdgeIndex, NodeIndex};
 use daggy_base::source::EdgeSource;
 use daggy_order::order::{Order, order_edge};
+use daggy_reduction::blocks::redundant_edges_by_blocks;
 use daggy_reduction::bounded::redundant_edges_in;
 use daggy_reduction::redundant::redundant_edges;
 use daggy_search::{Scratch, reaches};
@@ -108,7 +109,7 @@ impl Kept {
     }
 
     /// Asserts that these edges are redundant below some roots, whether the order bounds the
-    /// searches or not, and gives how many looks they took where it does.
+    /// searches or not, and by blocks, and gives how many looks the bounded searches took.
     pub fn are_redundant(
         &mut self,
         rt: &impl Abort,
@@ -117,7 +118,15 @@ impl Kept {
     ) -> usize {
         let (nodes, edges) = (self.graph.node_bound(), self.graph.edge_bound());
         made(rt, self.scratch.reserve(nodes, edges));
+        made(rt, self.scratch.reserve_rows(nodes));
         let found = redundant_edges(&mut self.scratch, &mut self.graph, roots);
+        are(rt, found, wanted);
+        let found = redundant_edges_by_blocks(
+            &mut self.scratch,
+            &mut self.graph,
+            &self.order,
+            roots,
+        );
         are(rt, found, wanted);
         let _before = self.graph.looks();
         let found = redundant_edges_in(&mut self.scratch, &mut self.graph, &self.order, roots);
