@@ -27,6 +27,7 @@ fn tries(
 // cycle.
 fn agrees(rt: &impl Abort, kept: &mut Kept, a: NodeIndex<u8>, b: NodeIndex<u8>) {
     let closes = kept.reaches(b, a);
+    same(rt, kept.reaches_in(b, a), closes);
     let added = kept.add_edge(rt, a, b);
     same(rt, added, !closes);
     if added {

@@ -6,7 +6,7 @@ use super::counted::Counted;
 use super::support::{holds, made, same};
 use daggy_base::index::{EdgeIndex, NodeIndex};
 use daggy_base::source::EdgeSource;
-use daggy_order::order::{Order, order_edge};
+use daggy_order::order::{Order, order_edge, reaches_in};
 use daggy_reduction::blocks::redundant_edges_by_blocks;
 use daggy_reduction::bounded::redundant_edges_in;
 use daggy_reduction::redundant::redundant_edges;
@@ -106,6 +106,11 @@ impl Kept {
     /// Whether a path leads from one node to another, by a search of the whole graph.
     pub fn reaches(&mut self, from: NodeIndex<u8>, to: NodeIndex<u8>) -> bool {
         reaches(&mut self.graph, from, to, &mut self.scratch)
+    }
+
+    /// As `reaches`, by the order.
+    pub fn reaches_in(&mut self, from: NodeIndex<u8>, to: NodeIndex<u8>) -> bool {
+        reaches_in(&mut self.graph, &mut self.order, from, to, &mut self.scratch)
     }
 
     /// Asserts that these edges are redundant below some roots, whether the order bounds the
