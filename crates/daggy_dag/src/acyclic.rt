@@ -261,7 +261,7 @@ where
     /// let reap = dag.add_node("reap")?;
     /// let days = dag.add_edge(sow, reap, 90)?;
     /// assert!(rt; dag.edge_weight(days) == Some(&90));
-    /// // It would close a cycle, so the weight comes back.
+    /// // The edge would close a cycle; the error returns its weight.
     /// assert!(rt; dag.add_edge(reap, sow, 5) == Err(EdgeError::WouldCycle(WouldCycle(5))));
     /// ```
     #[inline]
