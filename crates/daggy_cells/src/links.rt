@@ -1,4 +1,4 @@
-//! The links between stored nodes and edges, and changes to them, for the stores that keep them.
+//! The links between stored nodes and edges, and the changes that stores make to them.
 ghost use Rattle.std.specs.Prelude.{◌≡◌, ◌≢◌, ℕ, ◌<◌, ◌≤◌, ◌↔◌, length, map, slice_get, slice_set};
 ghost use Rattle.std.specs.Prelude.{slice_index, Contains, Some};
 ghost use Rattle.std.specs.List.{find};
@@ -67,7 +67,7 @@ pub fn set_first<N, Ix: IndexType>(x: &mut Node<N, Ix>, dir: Direction, e: Link<
     }
 }
 
-/// A stored edge with its ends, and with the edges after it in its two lists.
+/// A stored edge with these endpoints, and with the edges after it in its two lists.
 #[inline]
 pub fn new_edge<E, Ix: IndexType>(
     weight: E,
@@ -93,7 +93,7 @@ pub fn new_edge<E, Ix: IndexType>(
     }
 }
 
-/// An edge with the ends and the links of `x`.
+/// An edge with the endpoints and the links of `x`.
 #[inline]
 pub fn edge_like<E, W, Ix: IndexType>(x: &Edge<E, Ix>, weight: W) -> Edge<W, Ix>
     ensures { result ≡ edge_with x.now weight }
@@ -150,7 +150,7 @@ fn set_end<E, Ix: IndexType>(x: &mut Edge<E, Ix>, dir: Direction, n: Link<Ix>)
     }
 }
 
-/// Puts the edge `e` first in the out list of `a` and in the in list of `b`, and returns the cell
+/// Puts the edge `e` first in the out list of `a` and in the in list of `b`, and returns the edge
 /// to store.
 #[inline]
 pub fn put_first<N, E, Ix: IndexType>(
@@ -258,8 +258,8 @@ impl<Ix: IndexType> ListHead<Ix> {
         ListHead { node, first }
     }
 
-    /// The head of the same list after the edge `e` was taken out of its own list, which may be
-    /// another one. `next` is the edge that followed `e` there, or `end`.
+    /// The head of this list after the edge `e` is taken out of its list, which may be this one or
+    /// another. `next` is the edge after `e` there, or `end`.
     #[inline]
     pub fn without(self, e: Link<Ix>, next: Link<Ix>) -> Self
         ensures node { result.node ≡ self.node }
@@ -363,7 +363,7 @@ pub fn thread<N, E, Ix: IndexType>(
     set_first(&mut nodes[n], dir, after);
 }
 
-/// Links both lists of the node `n` in these orders, the out list and the in list.
+/// Links the out list and the in list of the node `n` in these orders.
 pub fn thread_both<N, E, Ix: IndexType>(
     nodes: &mut Vec<Node<N, Ix>>,
     edges: &mut Vec<Edge<E, Ix>>,

@@ -1,4 +1,4 @@
-//! Adding nodes and edges to what is stored, and taking them out of their lists.
+//! Adding stored nodes and edges, and unlinking them.
 ghost use Rattle.std.specs.Prelude.{◌≡◌, ◌+◌, ◌-◌, ◌<◌, length, map, vec_len, vec_capacity};
 ghost use Rattle.daggy_base.specs.declared.index.Direction.TheVariants.{Outgoing, Incoming};
 ghost use Rattle.daggy_base.specs.Adding.{with_node, with_edge};
@@ -10,7 +10,7 @@ use daggy_base::link::Link;
 use daggy_cells::cell::{Edge, Node};
 use daggy_cells::links::{self, ListHead, put_first, redirect, reown};
 
-// Adds a node, within the capacity that is there.
+// Adds a node, within the capacity.
 #[inline]
 pub(super) fn put_node<N, E, Ix: IndexType>(
     nodes: &mut Vec<Node<N, Ix>>,
@@ -33,7 +33,7 @@ pub(super) fn put_node<N, E, Ix: IndexType>(
     n
 }
 
-// Adds an edge from a to b, within the capacity that is there.
+// Adds an edge from `a` to `b`, within the capacity.
 #[inline]
 pub(super) fn put_edge<N, E, Ix: IndexType>(
     nodes: &mut Vec<Node<N, Ix>>,
@@ -61,8 +61,8 @@ pub(super) fn put_edge<N, E, Ix: IndexType>(
     e
 }
 
-// Unlinks `e` from its two lists, and redirects the links to the last edge to `e`, whose place it
-// takes next.
+// Unlinks `e` from its two lists, and redirects the links to the last edge to `e`: the caller then
+// moves the last edge to that index.
 pub(super) fn detach<N, E, Ix: IndexType>(
     nodes: &mut Vec<Node<N, Ix>>,
     edges: &mut Vec<Edge<E, Ix>>,
@@ -94,7 +94,8 @@ pub(super) fn detach<N, E, Ix: IndexType>(
     }
 }
 
-// Makes `n` the endpoint of the edges of the last node, which takes its place next.
+// Makes `n` the endpoint of the edges of the last node: the caller then moves the last node to that
+// index.
 pub(super) fn reown_last<N, E, Ix: IndexType>(
     nodes: &Vec<Node<N, Ix>>,
     edges: &mut Vec<Edge<E, Ix>>,

@@ -1,4 +1,4 @@
-//! Other orders of the lists of a graph.
+//! Permuting the lists of a graph.
 ghost use Rattle.std.specs.Prelude.{◌≡◌, map, length};
 ghost use Rattle.daggy_base.specs.declared.index.Direction.{Direction};
 ghost use Rattle.daggy_base.specs.Orders.{numbers_of, with_orders, AreOrders};
@@ -10,7 +10,7 @@ use crate::graph::{DiGraph, Edge, Node};
 use daggy_base::index::{EdgeIndex, IndexType};
 use daggy_cells::links::thread_both;
 
-// Threads the lists of each node in these orders.
+// Links the lists of each node in these orders.
 fn thread_nodes<N, E, Ix: IndexType>(
     nodes: &mut Vec<Node<N, Ix>>,
     edges: &mut Vec<Edge<E, Ix>>,

@@ -17,8 +17,8 @@ use daggy_base::link::Link;
 use daggy_cells::links::unlink_all;
 
 impl<N, E, Ix: IndexType> DiGraph<N, E, Ix> {
-    /// Removes an edge and returns its weight, if the edge exists. The edge with the last index
-    /// gets its index.
+    /// Removes an edge and returns its weight, if the edge exists. The edge with the last index is
+    /// moved into the freed index.
     ///
     /// # Complexity
     ///
@@ -42,7 +42,7 @@ impl<N, E, Ix: IndexType> DiGraph<N, E, Ix> {
     ///
     /// First the edges out of it are removed, each time the first of the list, and then those into
     /// it. Each removal moves the last edge into the freed index. Finally the node with the last
-    /// index gets the index of this node.
+    /// index is moved into the freed index.
     ///
     /// # Complexity
     ///
@@ -68,7 +68,7 @@ impl<N, E, Ix: IndexType> DiGraph<N, E, Ix> {
         Some(self.drop_node(n))
     }
 
-    // Removes the first edge of n's list in direction `dir` until the list is empty.
+    // Removes the first edge of the node's list in direction `dir` until the list is empty.
     fn clear_front(&mut self, n: NodeIndex<Ix>, dir: Direction)
     where
         E: Drop,
@@ -89,7 +89,8 @@ impl<N, E, Ix: IndexType> DiGraph<N, E, Ix> {
         }
     }
 
-    // Removes a node that has no edges, and the node with the last index gets its index.
+    // Removes a node that has no edges, and moves the node with the last index into the freed
+    // index.
     pub(super) fn drop_node(&mut self, n: NodeIndex<Ix>) -> N
         requires node { HasNode self.old.graph (Ix.number n) }
         requires no_edges { (d : Direction) → list_at d self.old.graph (Ix.number n) ≡ [] }
@@ -106,7 +107,7 @@ impl<N, E, Ix: IndexType> DiGraph<N, E, Ix> {
 
     /// Removes all nodes and edges. The capacity is kept.
     ///
-    /// The cost grows with the number of nodes and edges.
+    /// O(nodes + edges).
     pub fn clear(&mut self)
     where
         N: Drop,
@@ -119,7 +120,7 @@ impl<N, E, Ix: IndexType> DiGraph<N, E, Ix> {
 
     /// Removes all edges, and keeps the nodes. The capacity is kept.
     ///
-    /// The cost grows with the number of nodes and edges.
+    /// O(nodes + edges).
     pub fn clear_edges(&mut self)
     where
         E: Drop,

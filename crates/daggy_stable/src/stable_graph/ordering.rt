@@ -1,4 +1,4 @@
-//! Other orders of the lists of a graph.
+//! Permuting the lists of a graph.
 ghost use Rattle.std.specs.Prelude.{◌≡◌, ℕ, ◌≤◌, None, is_some, map, length, count_by, slice_get};
 ghost use Rattle.std.specs.Prelude.{Contains};
 ghost use Rattle.daggy_base.specs.declared.index.Direction.{Direction};
@@ -16,7 +16,7 @@ use daggy_base::index::{EdgeIndex, IndexType};
 use daggy_cells::cell::{Edge, Node};
 use daggy_cells::links::thread_both;
 
-// Threads the lists of each node that exists in these orders.
+// Links the lists of each existing node in these orders.
 fn thread_nodes<N, E, Ix: IndexType>(
     nodes: &mut Vec<Node<Option<N>, Ix>>,
     edges: &mut Vec<Edge<Option<E>, Ix>>,
