@@ -1,4 +1,4 @@
--- The lists of a graph as lists that can be threaded.
+-- The lists of a graph can be linked.
 use Rattle.std.proofs.Common.{◌≡◌, ℕ, zero, suc, ◌<◌, List, [], ◌∷◌, map, length, get_or, Option, Some, None, is_some}
 use Rattle.std.proofs.Common.{refl, sym, ap, ◌∙◌, arith}
 use Rattle.std.specs.Global.{Vec}

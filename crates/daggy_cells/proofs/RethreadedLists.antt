@@ -1,4 +1,4 @@
--- Threading lists anew.
+-- Linking lists in a new order.
 use Rattle.std.proofs.Common.{◌≡◌, ℕ, zero, suc, ◌+◌, ◌<◌, ◌≤◌, List, [], ◌∷◌, map, length, get_or, set, drop, Some}
 use Rattle.std.proofs.Common.{slice_get, refl, sym, ap, subst, ◌∙◌, inl, inr, arith, Contains}
 use Rattle.std.proofs.lemmas.Bool.{cases_eq}

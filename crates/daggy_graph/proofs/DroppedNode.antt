@@ -1,4 +1,4 @@
--- The last node in the place of a node that has no edges.
+-- Moving the last node into the index of a node without edges.
 use Rattle.std.proofs.Common.{◌≡◌, ◌≢◌, ◌↔◌, ℕ, suc, ◌-◌, ◌<◌, ◌≤◌, List, [], ◌∷◌, map, length, get_or, set, Option}
 use Rattle.std.proofs.Common.{Some, None, slice_get, unwrap_or, refl, sym, ap, subst, ◌∙◌, inl, inr, arith, Contains}
 use Rattle.std.specs.List.{swap_remove}

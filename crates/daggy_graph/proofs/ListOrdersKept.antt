@@ -1,4 +1,4 @@
--- What other orders of its lists keep of what a graph stores.
+-- What stays of a stored graph when its lists are permuted.
 use Rattle.std.proofs.Common.{◌≡◌, ℕ, List, map, length, Some, is_some, sym, ap, subst, ◌∙◌, arith}
 use Rattle.std.specs.List.{count_by}
 use Rattle.std.proofs.lemmas.List.{length-map}

@@ -1,4 +1,4 @@
--- What each change of nodes and edges makes of what is stored.
+-- What is stored after each change of nodes and edges.
 use Rattle.std.proofs.Common.{◌≡◌, ◌≢◌, ℕ, zero, suc, ◌+◌, ◌<◌, ◌≤◌, List, [], ◌∷◌, map, length, get_or, set, Option}
 use Rattle.std.proofs.Common.{Some, None, IsSome, slice_get, refl, sym, ap, subst, ◌∙◌, arith, Contains}
 use Rattle.std.specs.Option.{option_map, option_and_then}

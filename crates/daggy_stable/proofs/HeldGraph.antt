@@ -1,4 +1,4 @@
--- Cells that hold a graph in which no slot is vacant store it.
+-- Slots that hold a graph without vacant slots store it.
 use Rattle.std.proofs.Common.{◌≡◌, ℕ, zero, suc, ◌<◌, ◌≤◌, ◌↔◌, List, [], ◌∷◌, map, length, get_or, Option, Some, None}
 use Rattle.std.proofs.Common.{is_some, slice_get, refl, sym, ap, subst, ◌∙◌, arith, Contains}
 use Rattle.std.specs.List.{count_by}

@@ -1,4 +1,4 @@
--- What other orders of its lists keep of what a graph stores.
+-- What stays of a stored graph when its lists are permuted.
 use Rattle.std.proofs.Common.{◌≡◌, ◌≢◌, ℕ, suc, ◌+◌, ◌<◌, cond, List, map, length, take, get_or, set, Option, Some}
 use Rattle.std.proofs.Common.{true, false, None, is_some, slice_get, refl, sym, ap, subst, ◌∙◌, arith, Contains}
 use Rattle.std.specs.List.{count_by}

@@ -1,4 +1,4 @@
--- What a removal makes of what is stored.
+-- What is stored after a removal.
 use Rattle.std.proofs.Common.{◌≡◌, ◌≢◌, ℕ, zero, suc, ◌+◌, ◌-◌, ◌<◌, ◌≤◌, List, [], ◌∷◌, ◌++◌, map, length, get_or, set}
 use Rattle.std.proofs.Common.{take, drop, Option, Some, None, IsSome, OnSome, IfNone, slice_get, unwrap_or, true, refl}
 use Rattle.std.proofs.Common.{sym, ap, subst, ◌∙◌, inl, inr, arith, Contains}

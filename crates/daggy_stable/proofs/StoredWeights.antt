@@ -1,4 +1,4 @@
--- What another weight makes of what is stored.
+-- What is stored after a weight is written.
 use Rattle.std.proofs.Common.{◌≡◌, ℕ, List, map, get_or, set, Option, Some, IsSome, refl, sym, ap, subst, ◌∙◌, inl, inr}
 use Rattle.std.specs.Option.{option_map, option_and_then}
 use Rattle.std.proofs.lemmas.Bool.{cases_eq}
