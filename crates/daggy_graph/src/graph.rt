@@ -102,7 +102,7 @@ impl<N, E, Ix: IndexType> DiGraph<N, E, Ix> {
     ///
     /// # Errors
     ///
-    /// `Memory` with the weight if an allocation fails; the graph is unchanged.
+    /// Returns `Memory` with the weight if an allocation fails; the graph is unchanged.
     ///
     /// # Complexity
     ///
@@ -128,7 +128,7 @@ impl<N, E, Ix: IndexType> DiGraph<N, E, Ix> {
     ///
     /// # Errors
     ///
-    /// `Memory` with the weight if an allocation fails; the graph is unchanged.
+    /// Returns `Memory` with the weight if an allocation fails; the graph is unchanged.
     ///
     /// # Complexity
     ///

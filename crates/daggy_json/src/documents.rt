@@ -51,7 +51,7 @@ fn write<
 ///
 /// # Errors
 ///
-/// `Memory` if an allocation fails.
+/// Returns `Memory` if an allocation fails.
 ///
 /// # Complexity
 ///
@@ -105,7 +105,7 @@ pub fn stable_to_json<
 ///
 /// # Errors
 ///
-/// The first fault of the value, or `Memory` if an allocation fails.
+/// Returns the first fault of the value, or `Memory` if an allocation fails.
 ///
 /// # Complexity
 ///

@@ -199,7 +199,7 @@ fn assemble(
 ///
 /// # Errors
 ///
-/// `Memory` if an allocation fails.
+/// Returns `Memory` if an allocation fails.
 ///
 /// # Complexity
 ///

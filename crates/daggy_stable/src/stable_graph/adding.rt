@@ -20,7 +20,7 @@ impl<N: Drop, E: Drop, Ix: IndexType> StableDiGraph<N, E, Ix> {
     ///
     /// # Errors
     ///
-    /// `Memory` with the weight if an allocation fails; the graph is unchanged.
+    /// Returns `Memory` with the weight if an allocation fails; the graph is unchanged.
     ///
     /// # Complexity
     ///
@@ -80,7 +80,7 @@ impl<N: Drop, E: Drop, Ix: IndexType> StableDiGraph<N, E, Ix> {
     ///
     /// # Errors
     ///
-    /// `Memory` with the weight if an allocation fails; the graph is unchanged.
+    /// Returns `Memory` with the weight if an allocation fails; the graph is unchanged.
     ///
     /// # Complexity
     ///
