@@ -5,7 +5,7 @@ use Rattle.daggy_base.specs.Graph.{Graph, Edge as PlainEdge}
 use Rattle.daggy_base.specs.Removal.{renamed}
 use Rattle.daggy_cells.specs.Raw.{raw_first, raw_next}
 use Rattle.daggy_base.specs.Cursor.{first_of}
-use Rattle.daggy_cells.specs.Links.{follow, linked_lists, IsLinkedList, Redirected, Rethreads}
+use Rattle.daggy_cells.specs.Links.{follow, linked_lists, IsLinkedList, Redirected, Relinked}
 use Rattle.daggy_cells.specs.declared.cell.Node.{Node}
 use Rattle.daggy_cells.specs.declared.cell.Edge.{Edge}
 use Rattle.daggy_base.specs.declared.index.Direction.{Direction}
@@ -152,11 +152,11 @@ edge_put_first nodes a b w = record {
   next_in = slice_index (firsts_of Incoming nodes) b;
 }
 
--- the postcondition of `thread`: the list is linked as that of n
-pub record Threads {N E Ix : Type 0} (end : ℕ) (dir : Direction) (nodes : List (Node N Ix)) (edges : List (Edge E Ix))
+-- the postcondition of `relink`: the list is linked as that of n
+pub record Relinks {N E Ix : Type 0} (end : ℕ) (dir : Direction) (nodes : List (Node N Ix)) (edges : List (Edge E Ix))
     (n : ℕ) (list : List ℕ) (nodes' : List (Node N Ix)) (edges' : List (Edge E Ix)) : Type 0 where
   pub first : firsts_of dir nodes' ≡ slice_set (firsts_of dir nodes) n (first_of end list)
-  pub nexts : Rethreads end list (nexts_of dir edges) (nexts_of dir edges')
+  pub nexts : Relinked end list (nexts_of dir edges) (nexts_of dir edges')
 
 -- of a node's two lists, the one in that direction
 abbrev pub order_at : Direction → List ℕ × List ℕ → List ℕ

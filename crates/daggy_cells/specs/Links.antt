@@ -46,23 +46,23 @@ pub record Redirected (list : List ℕ) (n old new : ℕ) (firsts nexts firsts' 
   pub outside : (e : ℕ) → ¬ Contains list e → slice_get nexts' e ≡ slice_get nexts e
 
 -- the elements of the list are distinct, and each has a link
-pub record CanThread (count : ℕ) (list : List ℕ) : Type 0 where
+pub record CanLink (count : ℕ) (list : List ℕ) : Type 0 where
   pub once : AreDistinct list
   pub within : (e : ℕ) → Contains list e → e < count
 
 -- the links of the elements form this list, and every other link is unchanged
-pub record Rethreads (end : ℕ) (list nexts nexts' : List ℕ) : Type 0 where
+pub record Relinked (end : ℕ) (list nexts nexts' : List ℕ) : Type 0 where
   pub same_length : length nexts' ≡ length nexts
   pub inside : (e : ℕ) → Contains list e → slice_get nexts' e ≡ Some (after end list e)
   pub outside : (e : ℕ) → ¬ Contains list e → slice_get nexts' e ≡ slice_get nexts e
 
 -- each of the lists can be linked, and no two of them share an element
-pub record CanThreadAll (count : ℕ) (lists : List (List ℕ)) : Type 0 where
-  pub each : (n : ℕ) → CanThread count (nth_list lists n)
+pub record CanLinkAll (count : ℕ) (lists : List (List ℕ)) : Type 0 where
+  pub each : (n : ℕ) → CanLink count (nth_list lists n)
   pub apart : (n m e : ℕ) → Contains (nth_list lists n) e → Contains (nth_list lists m) e → n ≡ m
 
 -- the links form the first i of the lists, and the links of elements that are in no list are unchanged
-pub record AreThreadedBelow (i end : ℕ) (nexts firsts' nexts' : List ℕ) (lists : List (List ℕ)) : Type 0 where
+pub record AreLinkedBelow (i end : ℕ) (nexts firsts' nexts' : List ℕ) (lists : List (List ℕ)) : Type 0 where
   pub same_length : length nexts' ≡ length nexts
   pub rows : (n : ℕ) → n < i → IsLinkedList end nexts' (slice_index firsts' n) (nth_list lists n)
   pub others : (e : ℕ) → ((n : ℕ) → ¬ Contains (nth_list lists n) e) → slice_get nexts' e ≡ slice_get nexts e

@@ -7,12 +7,12 @@ ghost use Rattle.daggy_base.specs.declared.index.Direction.TheVariants.{Outgoing
 ghost use Rattle.daggy_base.specs.Cursor.{after};
 ghost use Rattle.daggy_base.specs.Removal.{renamed};
 ghost use Rattle.daggy_base.specs.Orders.{numbers_of};
-ghost use Rattle.daggy_cells.specs.Links.{IsLinkedList, CanThread};
+ghost use Rattle.daggy_cells.specs.Links.{IsLinkedList, CanLink};
 ghost use Rattle.daggy_cells.specs.Raw.{raw_first, raw_next};
 ghost use Rattle.daggy_cells.specs.Fields.{weight_of, plain_edge, with_first, end_at, with_next};
 ghost use Rattle.daggy_cells.specs.Fields.{with_end, with_end_renamed, firsts_of, nexts_of};
 ghost use Rattle.daggy_cells.specs.Fields.{ends_of, list_from, with_lists_emptied, KeepsNodes};
-ghost use Rattle.daggy_cells.specs.Fields.{KeepsEdges, IsReady, IsHead, IsRedirected, Threads};
+ghost use Rattle.daggy_cells.specs.Fields.{KeepsEdges, IsReady, IsHead, IsRedirected, Relinks};
 ghost use Rattle.daggy_cells.specs.Fields.{order_at, node_with, edge_with, enters, AreLedTo};
 ghost use Rattle.daggy_cells.specs.Fields.{edge_put_first};
 ghost use Rattle.daggy_cells.specs.Rest.{IsOnList};
@@ -131,7 +131,7 @@ pub fn set_next<E, Ix: IndexType>(x: &mut Edge<E, Ix>, dir: Direction, e: Link<I
 
 /// The link to the node whose list in direction `dir` holds the edge.
 #[inline]
-pub fn end<E, Ix: IndexType>(x: &Edge<E, Ix>, dir: Direction) -> Link<Ix>
+pub fn endpoint<E, Ix: IndexType>(x: &Edge<E, Ix>, dir: Direction) -> Link<Ix>
     ensures { result ≡ end_at dir x.now }
 {
     match dir {
@@ -141,7 +141,7 @@ pub fn end<E, Ix: IndexType>(x: &Edge<E, Ix>, dir: Direction) -> Link<Ix>
 }
 
 #[inline]
-fn set_end<E, Ix: IndexType>(x: &mut Edge<E, Ix>, dir: Direction, n: Link<Ix>)
+fn set_endpoint<E, Ix: IndexType>(x: &mut Edge<E, Ix>, dir: Direction, n: Link<Ix>)
     ensures { x.new ≡ with_end dir x.old n }
 {
     match dir {
@@ -224,7 +224,7 @@ pub fn find_to<E, Ix: IndexType>(
             return None;
         }
         let x = &edges[i];
-        if end(x, Direction::Incoming).index() == child {
+        if endpoint(x, Direction::Incoming).index() == child {
             return Some(e);
         }
         e = next(x, Direction::Outgoing);
@@ -253,7 +253,7 @@ impl<Ix: IndexType> ListHead<Ix> {
         requires node { slice_index (ends_of dir edges.now.items) e < length nodes.now.items }
         ensures { IsHead dir nodes.now.items edges.now.items e result.node result.first }
     {
-        let node = end(&edges[e.index()], dir);
+        let node = endpoint(&edges[e.index()], dir);
         let first = first(&nodes[node.index()], dir);
         ListHead { node, first }
     }
@@ -308,7 +308,7 @@ pub fn redirect<N, E, Ix: IndexType>(
 
 /// Makes `to` the endpoint of all edges of the list that begins with `first`, which are those of
 /// the node `from`.
-pub fn reown<E, Ix: IndexType>(
+pub fn reassign<E, Ix: IndexType>(
     edges: &mut Vec<Edge<E, Ix>>,
     dir: Direction,
     first: Link<Ix>,
@@ -331,13 +331,13 @@ pub fn reown<E, Ix: IndexType>(
             return;
         }
         let x = &mut edges[i];
-        set_end(x, dir, to);
+        set_endpoint(x, dir, to);
         e = next(x, dir);
     }
 }
 
 /// Links the edges of `list`, in this order, as the list of node `n` in direction `dir`.
-pub fn thread<N, E, Ix: IndexType>(
+pub fn relink<N, E, Ix: IndexType>(
     nodes: &mut Vec<Node<N, Ix>>,
     edges: &mut Vec<Edge<E, Ix>>,
     dir: Direction,
@@ -345,8 +345,8 @@ pub fn thread<N, E, Ix: IndexType>(
     list: &[EdgeIndex<Ix>],
 )
     requires node { n < length nodes.old.items }
-    requires list { CanThread (length edges.old.items) (map Ix.number list.now) }
-    ensures links { Threads Ix.greatest dir nodes.old.items edges.old.items n
+    requires list { CanLink (length edges.old.items) (map Ix.number list.now) }
+    ensures links { Relinks Ix.greatest dir nodes.old.items edges.old.items n
         (map Ix.number list.now) nodes.new.items edges.new.items }
     ensures nodes { KeepsNodes dir nodes.old.items nodes.new.items }
     ensures edges { KeepsEdges dir edges.old.items edges.new.items }
@@ -364,7 +364,7 @@ pub fn thread<N, E, Ix: IndexType>(
 }
 
 /// Links the out list and the in list of the node `n` in these orders.
-pub fn thread_both<N, E, Ix: IndexType>(
+pub fn relink_both<N, E, Ix: IndexType>(
     nodes: &mut Vec<Node<N, Ix>>,
     edges: &mut Vec<Edge<E, Ix>>,
     n: usize,
@@ -372,19 +372,19 @@ pub fn thread_both<N, E, Ix: IndexType>(
 )
     requires node { n < length nodes.old.items }
     requires lists { (dir : Direction)
-        → CanThread (length edges.old.items) (order_at dir (numbers_of Ix.number order.now)) }
+        → CanLink (length edges.old.items) (order_at dir (numbers_of Ix.number order.now)) }
     ensures links { (dir : Direction)
-        → Threads Ix.greatest dir nodes.old.items edges.old.items n
+        → Relinks Ix.greatest dir nodes.old.items edges.old.items n
         (order_at dir (numbers_of Ix.number order.now)) nodes.new.items edges.new.items }
     ensures nodes { map weight_of nodes.new.items ≡ map weight_of nodes.old.items }
     ensures edges { map plain_edge edges.new.items ≡ map plain_edge edges.old.items }
 {
-    thread(nodes, edges, Direction::Outgoing, n, order.0.as_slice());
-    thread(nodes, edges, Direction::Incoming, n, order.1.as_slice());
+    relink(nodes, edges, Direction::Outgoing, n, order.0.as_slice());
+    relink(nodes, edges, Direction::Incoming, n, order.1.as_slice());
 }
 
 /// Empties every list.
-pub fn unlink_all<N, Ix: IndexType>(nodes: &mut Vec<Node<N, Ix>>)
+pub fn clear_lists<N, Ix: IndexType>(nodes: &mut Vec<Node<N, Ix>>)
     ensures { nodes.new.items ≡ map (with_lists_emptied Ix.greatest) nodes.old.items }
 {
     let end = Link::end();

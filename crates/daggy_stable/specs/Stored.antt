@@ -63,7 +63,7 @@ abbrev pub with_lists_emptied : {N Ix : Type 0} → (end : ℕ) → Node (Option
 with_lists_emptied end x = with_links_emptied end x.weight x
 
 -- the links form the list of vacant slots, and `count` slots are occupied
-pub record IsThreaded {A : Type 0} (end : ℕ) (slots : List (Option A)) (links : List ℕ) (head count : ℕ)
+pub record IsFreeList {A : Type 0} (end : ℕ) (slots : List (Option A)) (links : List ℕ) (head count : ℕ)
     (vacant : List ℕ) : Type 0 where
   pub linked : IsLinkedList end links head vacant
   pub exact : (i : ℕ) → Contains vacant i ↔ (slice_get slots i ≡ Some None)
@@ -78,8 +78,8 @@ pub record Stores {N E Ix : Type 0} (end : ℕ) (nodes : List (Node (Option N) I
   pub edges_are : g.edges ≡ map plain_edge edges
   pub linked : (dir : Direction) → AreLinkedLists end (list_firsts end dir nodes) (nexts_of dir edges) (lists_at dir g)
   pub listed : (dir : Direction) → ListsBy (end_of dir g) (lists_at dir g)
-  pub node_slots : IsThreaded end g.nodes (firsts_of Outgoing nodes) node_head nodes_counted g.vacant_nodes
-  pub edge_slots : IsThreaded end g.edges (nexts_of Outgoing edges) edge_head edges_counted g.vacant_edges
+  pub node_slots : IsFreeList end g.nodes (firsts_of Outgoing nodes) node_head nodes_counted g.vacant_nodes
+  pub edge_slots : IsFreeList end g.edges (nexts_of Outgoing edges) edge_head edges_counted g.vacant_edges
 
 -- the edge is taken out of its two lists, and all weights, endpoints and other links are unchanged
 pub record IsUnlinked {N E Ix : Type 0} (nodes nodes' : List (Node N Ix)) (edges edges' : List (Edge E Ix)) (e : ℕ)

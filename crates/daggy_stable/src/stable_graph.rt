@@ -116,8 +116,8 @@ impl<N, E, Ix: IndexType> StableDiGraph<N, E, Ix> {
                 if x.weight.is_none() {
                     return None;
                 }
-                let parent = links::end(x, Direction::Outgoing);
-                let child = links::end(x, Direction::Incoming);
+                let parent = links::endpoint(x, Direction::Outgoing);
+                let child = links::endpoint(x, Direction::Incoming);
                 Some((parent.node(), child.node()))
             }
             None => None,

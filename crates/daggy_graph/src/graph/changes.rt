@@ -8,7 +8,7 @@ ghost use Rattle.daggy_graph.specs.Stored.{stored_graph, IsDetached, Stores};
 use daggy_base::index::{Direction, IndexType};
 use daggy_base::link::Link;
 use daggy_cells::cell::{Edge, Node};
-use daggy_cells::links::{self, ListHead, put_first, redirect, reown};
+use daggy_cells::links::{self, ListHead, put_first, reassign, redirect};
 
 // Adds a node, within the capacity.
 #[inline]
@@ -96,7 +96,7 @@ pub(super) fn detach<N, E, Ix: IndexType>(
 
 // Makes `n` the endpoint of the edges of the last node: the caller then moves the last node to that
 // index.
-pub(super) fn reown_last<N, E, Ix: IndexType>(
+pub(super) fn reassign_last<N, E, Ix: IndexType>(
     nodes: &Vec<Node<N, Ix>>,
     edges: &mut Vec<Edge<E, Ix>>,
     n: Link<Ix>,
@@ -115,7 +115,7 @@ pub(super) fn reown_last<N, E, Ix: IndexType>(
         let from = Link::new(last);
         let out = links::first(&nodes[last], Direction::Outgoing);
         let into = links::first(&nodes[last], Direction::Incoming);
-        reown(edges, Direction::Outgoing, out, from, n);
-        reown(edges, Direction::Incoming, into, from, n);
+        reassign(edges, Direction::Outgoing, out, from, n);
+        reassign(edges, Direction::Incoming, into, from, n);
     }
 }

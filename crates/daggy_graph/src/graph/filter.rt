@@ -80,7 +80,7 @@ fn filter_nodes<N, V, W, Ix: IndexType, F: FnMut(NodeIndex<Ix>, &N) -> Option<V>
 }
 
 #[inline]
-fn name_of<Ix: IndexType>(names: &Vec<Option<Link<Ix>>>, n: Link<Ix>) -> Option<Link<Ix>>
+fn new_index<Ix: IndexType>(names: &Vec<Option<Link<Ix>>>, n: Link<Ix>) -> Option<Link<Ix>>
     ensures { result ≡ slot names.now.items n }
 {
     match names.get(n.index()) {
@@ -91,15 +91,15 @@ fn name_of<Ix: IndexType>(names: &Vec<Option<Link<Ix>>>, n: Link<Ix>) -> Option<
 
 // The new endpoints of an edge, if both were kept.
 #[inline]
-fn kept_ends<E, Ix: IndexType>(
+fn kept_endpoints<E, Ix: IndexType>(
     names: &Vec<Option<Link<Ix>>>,
     x: &Edge<E, Ix>,
 ) -> Option<(Link<Ix>, Link<Ix>)>
     ensures { result ≡ both (slot names.now.items x.now.parent) (slot names.now.items x.now.child) }
 {
-    let parent = links::end(x, Direction::Outgoing);
-    let child = links::end(x, Direction::Incoming);
-    match (name_of(names, parent), name_of(names, child)) {
+    let parent = links::endpoint(x, Direction::Outgoing);
+    let child = links::endpoint(x, Direction::Incoming);
+    match (new_index(names, parent), new_index(names, child)) {
         (Some(a), Some(b)) => Some((a, b)),
         _ => None,
     }
@@ -152,7 +152,7 @@ fn filter_edges<N, E, W, Ix: IndexType, G: FnMut(EdgeIndex<Ix>, &E) -> Option<W>
 {
     'each: for i in 0..edges.len() {
         let x = &edges[i];
-        let ends = match kept_ends(names, x) {
+        let ends = match kept_endpoints(names, x) {
             Some(ends) => ends,
             None => continue,
         };

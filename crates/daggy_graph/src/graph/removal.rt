@@ -10,11 +10,11 @@ ghost use Rattle.daggy_base.specs.Removal.{without_all_edges};
 ghost use Rattle.daggy_base.specs.WellFormed.{IsIsolated};
 ghost use Rattle.daggy_base.specs.State.{with_graph};
 
-use crate::graph::changes::{detach, reown_last};
+use crate::graph::changes::{detach, reassign_last};
 use crate::graph::{DiGraph, Edge, Node};
 use daggy_base::index::{Direction, EdgeIndex, IndexType, NodeIndex};
 use daggy_base::link::Link;
-use daggy_cells::links::unlink_all;
+use daggy_cells::links::clear_lists;
 
 impl<N, E, Ix: IndexType> DiGraph<N, E, Ix> {
     /// Removes an edge and returns its weight, if the edge exists. The edge with the last index is
@@ -100,7 +100,7 @@ impl<N, E, Ix: IndexType> DiGraph<N, E, Ix> {
         ensures no_more_slots { length self.new.graph.nodes ≤ length self.old.graph.nodes }
     {
         let i = n.index();
-        reown_last(&self.nodes, &mut self.edges, Link::of_node(n));
+        reassign_last(&self.nodes, &mut self.edges, Link::of_node(n));
         let Node { weight, .. } = self.nodes.swap_remove(i);
         weight
     }
@@ -127,6 +127,6 @@ impl<N, E, Ix: IndexType> DiGraph<N, E, Ix> {
         ensures { self.new ≡ with_graph self.old (without_all_edges self.old.graph) }
     {
         self.edges.clear();
-        unlink_all(&mut self.nodes);
+        clear_lists(&mut self.nodes);
     }
 }

@@ -51,7 +51,7 @@ fn filter_nodes<N, V, W, Ix: IndexType, F: FnMut(NodeIndex<Ix>, &N) -> Option<V>
 }
 
 #[inline]
-fn stayed<N, Ix: IndexType>(nodes: &SlotBuilder<Node<Option<N>, Ix>, Ix>, n: Link<Ix>) -> bool
+fn was_kept<N, Ix: IndexType>(nodes: &SlotBuilder<Node<Option<N>, Ix>, Ix>, n: Link<Ix>) -> bool
     ensures { result ≡ is_some (slot (map weight_of nodes.now.cells.items) n) }
 {
     match nodes.cells.get(n.index()) {
@@ -70,10 +70,10 @@ fn joined_weight<'a, N, E, Ix: IndexType>(
         ≡ option_map weight_in
         (if_ends_exist (map weight_of nodes.now.cells.items) (plain_edge x.now)) }
 {
-    if !stayed(nodes, links::end(x, Direction::Outgoing)) {
+    if !was_kept(nodes, links::endpoint(x, Direction::Outgoing)) {
         return None;
     }
-    if !stayed(nodes, links::end(x, Direction::Incoming)) {
+    if !was_kept(nodes, links::endpoint(x, Direction::Incoming)) {
         return None;
     }
     x.weight.as_ref()
@@ -109,8 +109,8 @@ fn filter_edges<N, E, W, Ix: IndexType, G: FnMut(EdgeIndex<Ix>, &E) -> Option<W>
             }
         };
         let answer = g(EdgeIndex::new(i), old);
-        let a = links::end(x, Direction::Outgoing);
-        let b = links::end(x, Direction::Incoming);
+        let a = links::endpoint(x, Direction::Outgoing);
+        let b = links::endpoint(x, Direction::Incoming);
         keep_edge(nodes, new, a, b, answer);
     }
 }

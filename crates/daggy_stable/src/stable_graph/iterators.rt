@@ -201,8 +201,8 @@ pub(super) fn reference<'a, E, Ix: IndexType>(
     requires { IsSome x.now.weight }
     ensures { numbered_edge (Ix.number e) (plain_edge x.now) ≡ Some (referred Ix.number result) }
 {
-    let source = links::end(x, Direction::Outgoing).node();
-    let target = links::end(x, Direction::Incoming).node();
+    let source = links::endpoint(x, Direction::Outgoing).node();
+    let target = links::endpoint(x, Direction::Incoming).node();
     EdgeReference::from_parts(e, source, target, x.weight.as_ref().unwrap())
 }
 

@@ -62,7 +62,7 @@ impl<N: Drop, E: Drop, Ix: IndexType> EdgeSource<Ix> for StableDiGraph<N, E, Ix>
     {
         self.looks.take();
         let x = &self.edges[e.index()];
-        let child = links::end(x, Direction::Incoming);
+        let child = links::endpoint(x, Direction::Incoming);
         let next = links::next(x, Direction::Outgoing);
         (child.node(), next.edge())
     }
