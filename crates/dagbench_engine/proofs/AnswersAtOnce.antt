@@ -1,4 +1,4 @@
--- Answers to lines that are not carried out.
+-- Answers to lines that are not carried out: bad lines, and requests for which memory ran out.
 use Rattle.std.proofs.Common.{◌≡◌, ℕ, ℤ, List, [], ◌∷◌, ◌++◌, codes, Option, Some, None, Result, Ok, Err, refl, subst}
 use Rattle.std.proofs.Common.{inr}
 use Rattle.std.specs.Option.{MatchOption, IsSomeAnd}

@@ -1,4 +1,4 @@
--- Documents whose weights are whole numbers, and their texts.
+-- Documents whose weights are integers, and their texts.
 use Rattle.std.proofs.Common.{◌≡◌, ℕ, ℤ, List, [], ◌∷◌, ◌++◌, codes, Option, Some, None, Result, Ok, Err, false, refl}
 use Rattle.std.proofs.Common.{ap, ◌∙◌, append_assoc, inr}
 use Rattle.std.specs.List.{AllZip}

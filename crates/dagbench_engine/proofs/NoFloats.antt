@@ -1,4 +1,4 @@
--- No weight of a document is a float, so that its text is known.
+-- No weight in a document is a float, so its text is determined.
 use Rattle.std.proofs.Common.{◌≡◌, ℕ, ℤ, pos, negsuc, false, List, [], ◌∷◌, Option, Some, None, map, refl, take}
 use Rattle.std.specs.List.{AllZip}
 use Rattle.serde_json.specs.Data.{Data}

@@ -1,4 +1,4 @@
--- How what was served grows.
+-- What has been served so far, and how it grows.
 use Rattle.std.proofs.Common.{◌≡◌, ℕ, zero, suc, ◌<◌, ◌==◌, Bool, true, false, List, [], ◌∷◌, ◌++◌, length, take, None}
 use Rattle.std.proofs.Common.{Result, Ok, Err, nat_lt, codes, refl, sym, ap, subst, ◌∙◌, inl, inr, append_assoc}
 use Rattle.std.proofs.Common.{append-nil, arith, ℤ}

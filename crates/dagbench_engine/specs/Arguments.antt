@@ -25,7 +25,7 @@ kind_of PlanCompact = kind.Compact
 kind_of Stable = kind.Stable
 kind_of PlanStable = kind.Stable
 
--- whether there is to be a plan
+-- whether a plan is written at the end
 abbrev pub plans : Mode → Bool
 plans Compact = false
 plans Stable = false

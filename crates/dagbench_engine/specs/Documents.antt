@@ -6,7 +6,7 @@ use Rattle.serde_json.specs.Written.{compact_text}
 use Rattle.daggy.specs.Graph.{Graph}
 use Rattle.daggy.specs.Document.{IsDocumentOf}
 
--- a weight stands in a document as a whole number
+-- a weight is encoded as an integer
 abbrev pub StandsFor : ℤ → Data → Type 0
 StandsFor weight d = d ≡ number (of_integer weight)
 
@@ -14,6 +14,6 @@ StandsFor weight d = d ≡ number (of_integer weight)
 abbrev pub IsDocumentText : Graph ℤ ℤ → List ℕ → Type 0
 IsDocumentText g text = (d : Data) × IsDocumentOf StandsFor StandsFor g d × (text ≡ compact_text d)
 
--- the text of the document of the graph, or that there was no room for it
+-- the text of the document of the graph, or `memory`
 abbrev pub TellsDocument : Graph ℤ ℤ → List ℕ → Type 0
 TellsDocument g text = IsDocumentText g text ⊎ (text ≡ codes "memory")

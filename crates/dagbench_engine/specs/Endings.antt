@@ -3,7 +3,7 @@ use Rattle.std.specs.Prelude.{ℕ, Option, Some, None, Result, Ok, Err, List, []
 use Rattle.dagbench_engine.specs.declared.stop.Stop.{Stop}
 use Rattle.dagbench_engine.specs.declared.stop.Stop.TheVariants.{Read, Write, Memory}
 
--- the status, and the text on standard error. Without a run the arguments were wrong
+-- the exit status and the text on standard error; `None` is for wrong arguments
 abbrev pub ending_of : Option (Result (Unit {0}) Stop) → ℕ × List ℕ
 ending_of None = (2, codes "usage: dagbench compact|stable|plan compact|plan stable\n")
 ending_of (Some (Ok done)) = (0, [])

@@ -1,4 +1,4 @@
--- What holds of the devices where a run ends.
+-- The devices at the end of a run.
 use Rattle.std.specs.Prelude.{◌≡◌, ℕ, ◌+◌, Bool, true, false, Option, List, ◌++◌, Result, Ok, Err, IfSome}
 use Rattle.daggy_base.specs.declared.kind.Kind.{Kind}
 use Rattle.dagbench_engine.specs.declared.stop.Stop.{Stop}
@@ -6,8 +6,8 @@ use Rattle.dagbench_engine.specs.declared.stop.Stop.TheVariants.{Read, Write, Me
 use Rattle.dagbench_lines.specs.Cutting.{lines_of, ended_lines_of}
 use Rattle.dagbench_engine.specs.Serving.{Serves}
 
--- What a run has exchanged with its devices: the bytes that the source gave, those that it tells to be still to come,
--- those that the sink took, and how many calls of each failed.
+-- What a run has exchanged with its devices: the bytes that the source has given, those that remain if it knows them,
+-- those that the sink has taken, and how many calls of each failed.
 pub record Exchange : Type 0 where
   pub given : List ℕ
   pub remaining : Option (List ℕ)
@@ -15,8 +15,8 @@ pub record Exchange : Type 0 where
   pub failed_reads : ℕ
   pub failed_writes : ℕ
 
--- The run of a new session: at most one call failed, the one that is told, and want of memory is not told. An Ok comes
--- only once all was given that was still to come. There is no plan where the source failed.
+-- A run of a new session. At most one call fails, and the result says which; `Memory` is not a result. The run is `Ok`
+-- only if the source has given all its remaining bytes. If the source fails, no plan is written.
 abbrev pub IsRun : Kind → (plans : Bool) → Result (Unit {0}) Stop → (old new : Exchange) → (is_ended : Bool) → Type 0
 IsRun kind plans (Ok done) old new is_ended =
     Serves kind plans lines_of old.given new.given old.taken new.taken × (is_ended ≡ true)

@@ -1,4 +1,4 @@
--- How far a run has come: what was given, what was written, and what is kept of a line that has not ended.
+-- The state of a run: what was given, what was written, and what is kept of an unfinished line.
 use Rattle.std.specs.Prelude.{◌≡◌, ℕ, List, [], ◌∷◌, ◌++◌, take, ℤ}
 use Rattle.std.specs.List.{flat_map, AllByRecursion}
 use Rattle.daggy.specs.Graph.{Graph, empty}
@@ -10,8 +10,8 @@ use Rattle.dagbench_engine.specs.Transcripts.{IsTranscript}
 abbrev pub ended : List ℕ → List ℕ
 ended line = line ++ newline ∷ []
 
--- So far: what was given are whole lines and the front of one more. The whole ones are answered. Of the front, what
--- tells what it says is kept.
+-- The bytes given so far are whole lines and the front of one more. The whole lines are answered. Of the front, the
+-- first `kept_count` bytes are kept.
 pub record IsServed (kind : Kind) (given_old given written_old written : List ℕ) (graph : Graph ℤ ℤ)
     (kept : List ℕ) : Type 0 where
   pub lines : List (List ℕ)
@@ -24,7 +24,7 @@ pub record IsServed (kind : Kind) (given_old given written_old written : List �
   pub unended : Lacks newline front
   pub kept_is : kept ≡ take kept_count front
 
--- whatever was served before, the rest of the input is served now
+-- whatever was served before, `given_more` is served now
 abbrev pub GoesOn : Kind
     → (given_more written_old written_new : List ℕ) (graph_old graph_new : Graph ℤ ℤ) (kept_old kept_new : List ℕ)
     → Type 0
@@ -33,7 +33,7 @@ GoesOn kind given_more written_old written_new graph_old graph_new kept_old kept
     → IsServed kind given_start given written_start written_old graph_old kept_old
     → IsServed kind given_start (given ++ given_more) written_start written_new graph_new kept_new
 
--- all lines of what was given are answered, also one whose newline did not come
+-- all lines given are answered, also a last line without a newline
 pub record IsDone (kind : Kind) (given_old given written_old written : List ℕ) (graph : Graph ℤ ℤ) : Type 0 where
   pub input : List ℕ
   pub text : List ℕ

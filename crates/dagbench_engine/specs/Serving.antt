@@ -1,12 +1,12 @@
--- What a whole run does to its devices.
+-- A whole run: what it reads and writes.
 use Rattle.std.specs.Prelude.{◌≡◌, Bool, List, ℕ, ◌++◌, ℤ}
 use Rattle.daggy.specs.Graph.{Graph, empty}
 use Rattle.daggy_base.specs.declared.kind.Kind.{Kind}
 use Rattle.dagbench_engine.specs.Transcripts.{IsTranscript}
 use Rattle.dagbench_engine.specs.Plans.{IsTrailer}
 
--- What the source gave is an input, and what the sink took are the answers to the lines in it, from the empty graph of
--- that kind on, and after them a plan of the graph that they left, if there is to be one.
+-- The source gave an input, and the sink took the answers to its lines, from the empty graph of that kind on, and then
+-- a plan of the final graph if `plans`.
 pub record Serves (kind : Kind) (plans : Bool) (lines_in : List ℕ → List (List ℕ))
     (given_old given_new taken_old taken_new : List ℕ) : Type 0 where
   pub input : List ℕ

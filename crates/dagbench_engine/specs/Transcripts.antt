@@ -1,4 +1,4 @@
--- What lines are answered, and what they make of the graph.
+-- The answers to lines, and the graphs after them.
 use Rattle.std.specs.Prelude.{◌≡◌, ℕ, ◌⊎◌, List, [], ◌∷◌, ◌++◌, MatchOption, codes, ℤ}
 use Rattle.daggy.specs.Graph.{Graph}
 use Rattle.daggy_base.specs.declared.kind.Kind.{Kind}
@@ -9,22 +9,22 @@ use Rattle.dagbench_lines.specs.Cutting.{newline}
 use Rattle.dagbench_engine.specs.Documents.{IsDocumentText}
 use Rattle.dagbench_lines.specs.Replies.{text_of}
 
--- how many nodes there can be, and how many edges
+-- the most nodes that there can be, and the most edges
 abbrev pub index_count : ℕ
 index_count = 4294967295
 
--- the text of a step from one graph to the next, or of the document of a graph that stays as it is
+-- the text of a step from one graph to the next, or of the document of an unchanged graph
 abbrev pub IsCarriedOut : Kind → Graph ℤ ℤ → LineRequest → (text : List ℕ) → Graph ℤ ℤ → Type 0
 IsCarriedOut kind old (Step request) text new =
     (answer : Answer ℤ ℤ) × IsStep kind index_count old request answer new × (text ≡ text_of answer)
 IsCarriedOut kind old Document text new = IsDocumentText old text × (new ≡ old)
 
--- what is asked is carried out, or there was no room for it
+-- the request is carried out; or memory for it ran out, and the graph is unchanged
 abbrev pub IsAnswered : Kind → Graph ℤ ℤ → LineRequest → (text : List ℕ) → Graph ℤ ℤ → Type 0
 IsAnswered kind old asked text new =
     IsCarriedOut kind old asked text new ⊎ (TakesRoom asked × (text ≡ codes "memory") × (new ≡ old))
 
--- what a line may be answered: if it asks nothing, that it is bad
+-- a possible answer to a line: `bad line` if it asks for nothing
 abbrev pub IsAnswer : Kind → Graph ℤ ℤ → (line text : List ℕ) → Graph ℤ ℤ → Type 0
 IsAnswer kind old line text new = MatchOption (asked_in line)
     ((text ≡ codes "bad line") × (new ≡ old))

@@ -1,4 +1,4 @@
-//! The document of the dag, as one line of text.
+//! Writing the document of a dag as a line.
 ghost use Rattle.std.specs.Prelude.{IfSome, IfOk};
 ghost use Rattle.serde_json.specs.View.{view};
 ghost use Rattle.daggy.specs.Document.{IsDocumentOf};
@@ -13,15 +13,15 @@ use daggy::{Dag, StableDag};
 use serde_json::Value;
 use std::alloc::{AllocError, Global};
 
-/// A dag that can be written as a document. Both kinds can.
+/// A dag that can be written as a document, as both kinds can.
 pub trait Documented: GuardedDag<i64, i64, u32> + Drop {
-    /// The document of the dag, with weights as numbers. `None` says that there was no memory.
+    /// The document of the dag, with weights as numbers, or `None` if an allocation fails.
     fn to_json(&self, alloc: Global) -> Option<Value>
         ensures { IfSome result (λ v.
             IsDocumentOf StandsFor StandsFor (Self.graph self.now) (view v)) };
 }
 
-/// A weight as it stands in a document.
+/// A weight as a JSON value.
 fn number(weight: &i64) -> Result<Value, AllocError>
     ensures { IfOk result (λ v. StandsFor weight.now (view v)) }
 {
@@ -40,7 +40,7 @@ impl Documented for StableDag<i64, i64, u32> {
     }
 }
 
-/// The text of the document of a dag. `None` says that there was no memory.
+/// The text of the document of a dag, or `None` if an allocation fails.
 fn document_text<D: Documented>(alloc: Global, dag: &D) -> Option<Vec<u8>>
     ensures { IfSome result (λ text. IsDocumentText (D.graph dag.now) text.items) }
 {
@@ -48,7 +48,7 @@ fn document_text<D: Documented>(alloc: Global, dag: &D) -> Option<Vec<u8>>
     document.to_vec(alloc).ok()
 }
 
-/// Writes the document of a dag as a line, or that there was no memory for it.
+/// Writes the document of a dag as a line, or `memory` if an allocation fails.
 pub fn put_document<D: Documented, K: Sink>(
     alloc: Global,
     dag: &D,

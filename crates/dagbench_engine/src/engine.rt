@@ -1,4 +1,4 @@
-//! The engine: a line in, its answer out.
+//! Answering a line.
 ghost use Rattle.dagbench_lines.specs.Writing.{WritesLine};
 ghost use Rattle.dagbench_engine.specs.Transcripts.{IsAnswer};
 
@@ -10,8 +10,8 @@ use dagbench_lines::writer::Writer;
 use daggy::run::perform;
 use std::alloc::Global;
 
-/// Answers a line. It takes no memory but what its command asks for: what the graph grows by, the
-/// list that the line holds, those of the reply to it, and a document with its text.
+/// Answers a line. Allocates only for what the line asks for: growth of the graph, the list in the
+/// line, lists in the reply, and a document with its text.
 pub fn answer<D: Documented, K: Sink>(
     alloc: Global,
     dag: &mut D,

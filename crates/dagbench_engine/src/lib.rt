@@ -1,7 +1,8 @@
-//! A graph that is driven by lines of commands: what the line program does between its devices.
+//! A dag driven by lines of commands: the line program, except for its devices.
 //!
-//! [`serve`] reads lines from a [`Source`] and writes the answers to a [`Sink`]. A [`Device`] makes
-//! one of a reader or a writer, and [`MemorySource`] and [`MemorySink`] hold their bytes.
+//! [`serve`] reads lines from a [`Source`] and writes the answers to a [`Sink`]. A [`Device`] is a
+//! source or a sink over a reader or a writer of std; [`MemorySource`] and [`MemorySink`] are in
+//! memory.
 #![tactic(auto)]
 
 mod document;

@@ -2,12 +2,12 @@
 ghost use Rattle.std.specs.Prelude.{◌≡◌, map, string_bytes};
 ghost use Rattle.dagbench_engine.specs.Arguments.{mode_by_words};
 
-/// The kind of graph that is served, and whether a plan of it is written at the end.
+/// The kind of the dag, and whether a plan of it is written at the end.
 #[derive(Clone, Copy, Debug, PartialEq, Eq)]
 pub enum Mode {
-    /// Removals move the last index to the gap.
+    /// A removal moves the last node or edge into the freed index.
     Compact,
-    /// Removals change no other index.
+    /// A removal changes no other index.
     Stable,
     /// As `Compact`, with a plan at the end.
     PlanCompact,
@@ -15,7 +15,7 @@ pub enum Mode {
     PlanStable,
 }
 
-/// What the arguments after the program's name ask for, None for wrong ones.
+/// The mode that the arguments after the program's name ask for, or `None` if they are wrong.
 pub fn mode_of(arguments: &[String]) -> Option<Mode>
     ensures { result ≡ mode_by_words (map string_bytes arguments.now) }
 {

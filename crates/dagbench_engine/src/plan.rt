@@ -8,7 +8,7 @@ use dagbench_lines::writer::Writer;
 use daggy::run::{GuardedDag, plan};
 use std::alloc::Global;
 
-/// Writes a plan of a dag: its stages, and then its chain, or that there was no memory for one.
+/// Writes a plan of a dag, its stages and then its chain, or `memory` if an allocation fails.
 fn put_plan_of<D: GuardedDag<i64, i64, u32>, K: Sink>(
     alloc: Global,
     dag: &D,
@@ -23,7 +23,7 @@ fn put_plan_of<D: GuardedDag<i64, i64, u32>, K: Sink>(
     put_plan(plan.stages.as_slice(), plan.chain.as_slice(), writer)
 }
 
-/// Writes what stands after the answers: a plan of the dag, if there is to be one.
+/// Writes what follows the answers: a plan of the dag if `plans`, otherwise nothing.
 pub fn put_trailer<D: GuardedDag<i64, i64, u32>, K: Sink>(
     alloc: Global,
     plans: bool,

@@ -19,11 +19,11 @@ use std::alloc::Global;
 /// How many bytes are read at once.
 const BLOCK: usize = 0x1_0000;
 
-/// Reads lines until the end of the source, and writes the answer to each. What was answered is
-/// handed to the sink before more is read.
+/// Reads lines until the end of the source, and writes the answer to each. The answers to the lines
+/// read so far are flushed before more is read.
 ///
-/// The mode says which kind of graph is served, and whether at the end of the source a plan of it
-/// is written: each stage as a line, and then the chain, or that there was no memory for one.
+/// The mode is the kind of the dag, and whether a plan of it is written at the end of the source:
+/// each stage as a line and then the chain, or `memory` if an allocation fails.
 pub fn serve<S: Source, K: Sink>(
     alloc: Global,
     mode: Mode,
@@ -34,15 +34,15 @@ pub fn serve<S: Source, K: Sink>(
     ensures served { OnOk result (Serves (kind_of mode) (plans_of mode) lines_of
         (S.given source.old) (S.given source.new) (K.taken sink.old) (K.taken sink.new)) }
 
-    // If the source tells what is still to come, all of it was given.
+    // If the source knows its remaining bytes, it has given all of them.
     ensures whole { OnOk result (IfSome (S.remaining source.old)
         (λ input. S.given source.new ≡ S.given source.old ++ input)) }
 
-    // A fault is told exactly where its device failed.
+    // A fault is reported if and only if its device failed.
     ensures read { (result ≡ Err Stop.Read) ↔ (S.failures source.old < S.failures source.new) }
     ensures write { (result ≡ Err Stop.Write) ↔ (K.failures sink.old < K.failures sink.new) }
 
-    // At a read fault each line whose newline came has its answer.
+    // After a read fault, each line that ended with a newline has its answer.
     ensures replied { result ≡ Err Stop.Read → Serves (kind_of mode) false ended_lines_of
         (S.given source.old) (S.given source.new) (K.taken sink.old) (K.taken sink.new) }
     ensures memory { result ≡ Err Stop.Memory → (source.new ≡ source.old) × (sink.new ≡ sink.old) }
@@ -55,7 +55,7 @@ pub fn serve<S: Source, K: Sink>(
     }
 }
 
-/// Serves this graph, which is empty, and plans it at the end if that is asked for.
+/// Serves this empty dag, and writes a plan of it at the end if `plans`.
 fn serve_with<D: Documented, S: Source, K: Sink>(
     alloc: Global,
     dag: D,
@@ -68,15 +68,15 @@ fn serve_with<D: Documented, S: Source, K: Sink>(
     ensures served { OnOk result (Serves D.KIND plans lines_of
         (S.given source.old) (S.given source.new) (K.taken sink.old) (K.taken sink.new)) }
 
-    // If the source tells what is still to come, all of it was given.
+    // If the source knows its remaining bytes, it has given all of them.
     ensures whole { OnOk result (IfSome (S.remaining source.old)
         (λ input. S.given source.new ≡ S.given source.old ++ input)) }
 
-    // A fault is told exactly where its device failed.
+    // A fault is reported if and only if its device failed.
     ensures read { (result ≡ Err Stop.Read) ↔ (S.failures source.old < S.failures source.new) }
     ensures write { (result ≡ Err Stop.Write) ↔ (K.failures sink.old < K.failures sink.new) }
 
-    // At a read fault each line whose newline came has its answer.
+    // After a read fault, each line that ended with a newline has its answer.
     ensures replied { result ≡ Err Stop.Read → Serves D.KIND false ended_lines_of
         (S.given source.old) (S.given source.new) (K.taken sink.old) (K.taken sink.new) }
     ensures memory { result ≡ Err Stop.Memory → (source.new ≡ source.old) × (sink.new ≡ sink.old) }
@@ -94,7 +94,7 @@ fn serve_with<D: Documented, S: Source, K: Sink>(
     run(session, plans, block.as_mut_slice(), source, &mut writer)
 }
 
-/// The run of a new session, which reads block by block.
+/// Runs a new session, reading block by block.
 fn run<D: Documented, S: Source, K: Sink>(
     mut session: Session<D>,
     plans: bool,

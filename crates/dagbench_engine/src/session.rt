@@ -1,4 +1,4 @@
-//! A graph that is being served, with what is kept between two blocks of input.
+//! What is kept between two blocks of input.
 ghost use Rattle.std.specs.Prelude.{◌≡◌, ℕ, List, [], ◌∷◌, ◌++◌, IfOk, OnOk};
 ghost use Rattle.dagbench_lines.specs.Cutting.{Lacks, newline, lines_of};
 ghost use Rattle.dagbench_lines.specs.Writing.{sink_of, written, KeepsSink};
@@ -14,18 +14,18 @@ use dagbench_lines::words::split_at_byte;
 use dagbench_lines::writer::Writer;
 use std::alloc::{AllocError, Global};
 
-/// The graph, and the line whose newline has not come.
+/// The dag, and the unfinished line.
 #[derive(Drop)]
 pub struct Session<D> {
     /// The graph.
     pub dag: D,
-    /// The line whose newline has not come.
+    /// The unfinished line.
     pub line: Line,
     alloc: Global,
 }
 
 impl<D: Documented> Session<D> {
-    /// Begins with this graph.
+    /// A session with this dag.
     pub fn new(alloc: Global, dag: D) -> Result<Session<D>, AllocError>
         ensures dag { IfOk result (λ session. session.dag ≡ dag) }
         ensures nothing { IfOk result (λ session. session.line ≡ []) }
@@ -34,7 +34,7 @@ impl<D: Documented> Session<D> {
         Ok(Session { dag, line, alloc })
     }
 
-    /// Answers the line that ends with this rest.
+    /// Answers the unfinished line, which ends with `rest`.
     fn end_line<K: Sink>(&mut self, rest: &[u8], writer: &mut Writer<K>) -> Result<(), Fault>
         ensures served { OnOk result
             (Lacks newline rest.now → GoesOn D.KIND (rest.now ++ newline ∷ [])
@@ -51,7 +51,7 @@ impl<D: Documented> Session<D> {
         Ok(())
     }
 
-    /// Answers the lines that end in a block of input, and keeps what stands after them.
+    /// Answers the lines that end in a block of input, and keeps the rest of the block.
     pub fn take_block<K: Sink>(&mut self, block: &[u8], writer: &mut Writer<K>) -> Result<(), Fault>
         ensures served { OnOk result (GoesOn D.KIND block.now
             (written K.taken writer.old) (written K.taken writer.new)
@@ -67,7 +67,7 @@ impl<D: Documented> Session<D> {
         Ok(())
     }
 
-    /// Answers the last line, if its newline did not come.
+    /// Answers the last line, if it has no newline.
     fn end_last_line<K: Sink>(&mut self, writer: &mut Writer<K>) -> Result<(), Fault>
         ensures done { OnOk result ((given_old given written_old : List ℕ)
             → IsServed D.KIND given_old given written_old (written K.taken writer.old)
@@ -82,8 +82,8 @@ impl<D: Documented> Session<D> {
         answer(self.alloc, &mut self.dag, self.line.as_slice(), writer)
     }
 
-    /// Answers the last line, if its newline did not come, writes a plan if there is to be one, and
-    /// hands all to the sink.
+    /// Answers the last line if it has no newline, writes a plan if `plans`, and flushes the
+    /// writer.
     pub fn finish<K: Sink>(&mut self, plans: bool, writer: &mut Writer<K>) -> Result<(), Fault>
         ensures served { OnOk result ((given_old given written_old : List ℕ)
             → IsServed D.KIND given_old given written_old (written K.taken writer.old)

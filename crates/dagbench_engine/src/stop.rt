@@ -9,11 +9,11 @@ pub enum Stop {
     Read,
     /// The sink failed.
     Write,
-    /// There was no room for the buffers.
+    /// Memory for the buffers could not be allocated.
     Memory,
 }
 
-/// The exit status, and what is told on standard error. None stands for wrong arguments.
+/// The exit status, and the text for standard error. `None` is for wrong arguments.
 pub fn ending(run: Option<&Result<(), Stop>>) -> (u8, &'static str)
     ensures { (result.0, result.1.now) ≡ ending_of (option_copied run.entry) }
 {

@@ -1,4 +1,4 @@
--- How large the numbers of few digits are.
+-- Bounds of numbers with few digits.
 use Rattle.std.proofs.Common.{ℕ, ◌^◌, ◌<◌, ◌≤◌, arith, lit<}
 use Rattle.std.proofs.Math.Nat.{pow-le-pow_right}
 

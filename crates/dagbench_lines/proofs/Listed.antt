@@ -1,4 +1,4 @@
--- The edges that words list, one by one.
+-- Reading a list of edges from words, one by one.
 use Rattle.std.proofs.Common.{◌≡◌, ℕ, suc, ◌<◌, ◌≤◌, true, false, List, [], ◌∷◌, length, Option, Some, None, IsSome}
 use Rattle.std.proofs.Common.{is_some, MatchOption, refl, sym, ap, ◌∙◌, arith, ℤ}
 use Rattle.std.specs.Option.{option_map, unwrap_or}

@@ -1,4 +1,4 @@
--- What is read of a line, and lists of indices by their numbers.
+-- A parsed line, and lists of indices by their numbers.
 use Rattle.std.proofs.Common.{◌≡◌, ℕ, ℤ, List, [], ◌∷◌, map, Result, refl, sym, ap, subst, ◌∙◌}
 use Rattle.std.specs.Option.{option_map}
 use Rattle.daggy_base.specs.Graph.{pair_of}

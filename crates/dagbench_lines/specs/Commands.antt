@@ -1,4 +1,4 @@
--- What lines ask.
+-- What lines ask for.
 use Rattle.std.specs.Prelude.{ℕ, nat_lt, Option, Some, None, List, [], ◌∷◌, length, codes, ℤ, if◌then◌else◌}
 use Rattle.std.specs.Option.{option_map}
 use Rattle.std.specs.Str.{bytes_eq}
@@ -14,7 +14,7 @@ abbrev pub if_done : {A : Type 0} → List (List ℕ) → A → Option A
 if_done [] x = Some x
 if_done (word ∷ words) x = None
 
--- what stands after a name, with nothing after it
+-- the arguments of a command, if nothing follows them
 unfoldable pub weight_alone : List (List ℕ) → Option ℤ
 weight_alone words = do
   weight ← first_by weight_of words
@@ -45,14 +45,14 @@ index_and_weights words = do
   node ← first_by weight_of edge.1
   if_done node.1 (index.0, edge.0, node.0)
 
--- what holds a list, by its name and by what stands after it
+-- the commands with a list, by name and arguments
 unfoldable pub listing_by_name : (name : List ℕ) → List (List ℕ) → Option (Request ℤ ℤ)
 listing_by_name name words =
     if bytes_eq name (codes "edges") then option_map (λ edges. Edges edges) (edges_by_words words)
     else if bytes_eq name (codes "reduce") then option_map (λ roots. Reduce roots) (indices_by_words words)
     else None
 
--- what holds no list
+-- the commands without a list, by name and arguments
 unfoldable pub single_by_name : (name : List ℕ) → List (List ℕ) → Option (Request ℤ ℤ)
 single_by_name name words =
     if bytes_eq name (codes "node") then option_map (λ weight. Node weight) (weight_alone words)
@@ -74,7 +74,7 @@ abbrev pub or_else : {A : Type 0} → Option A → Option A → Option A
 or_else None other = other
 or_else (Some x) other = Some x
 
--- what a line may ask: a step of the graph, or the document of the graph
+-- what a line may ask for: a step of the graph, or the document of the graph
 pub data LineRequest : Type 0 where
   Step : Request ℤ ℤ → LineRequest
   Document : LineRequest
@@ -82,18 +82,18 @@ pub data LineRequest : Type 0 where
 abbrev pub document_by_name : (name : List ℕ) → List (List ℕ) → Option LineRequest
 document_by_name name words = if bytes_eq name (codes "json") then if_done words Document else None
 
--- a line is a name and what stands after it
+-- a line is a name and its arguments
 abbrev pub asked_by_words : List (List ℕ) → Option LineRequest
 asked_by_words [] = None
 asked_by_words (name ∷ words) =
     or_else (option_map (λ request. Step request) (or_else (single_by_name name words) (listing_by_name name words)))
     (document_by_name name words)
 
--- what a line asks. A line of more than 4,096 bytes asks nothing
+-- what a line asks for: nothing if it has more than 4,096 bytes
 unfoldable pub asked_in : List ℕ → Option LineRequest
 asked_in line = if nat_lt 4096 (length line) then None else asked_by_words (words_of line)
 
--- what takes room of its own: a step that holds a list, and a document
+-- the requests that need memory of their own: a step with a list, and the document
 abbrev pub TakesRoom : LineRequest → Type 0
 TakesRoom (Step (Edges edges)) = Unit {0}
 TakesRoom (Step (Reduce roots)) = Unit {0}

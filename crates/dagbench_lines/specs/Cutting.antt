@@ -7,7 +7,7 @@ abbrev pub with_first : ℕ → List (List ℕ) → List (List ℕ)
 with_first b [] = (b ∷ []) ∷ []
 with_first b (piece ∷ pieces) = (b ∷ piece) ∷ pieces
 
--- the pieces between separators. An empty rest after the last separator is no piece
+-- the pieces between separators; an empty rest after the last separator is not a piece
 abbrev pub cut_at : (separator : ℕ) → List ℕ → List (List ℕ)
 cut_at separator [] = []
 cut_at separator (b ∷ bytes) =
@@ -18,7 +18,7 @@ abbrev pub with_first_if_any : ℕ → List (List ℕ) → List (List ℕ)
 with_first_if_any b [] = []
 with_first_if_any b (piece ∷ pieces) = (b ∷ piece) ∷ pieces
 
--- the pieces whose separator came
+-- the pieces that are followed by a separator
 abbrev pub ended_at : (separator : ℕ) → List ℕ → List (List ℕ)
 ended_at separator [] = []
 ended_at separator (b ∷ bytes) =
@@ -32,7 +32,7 @@ Lacks separator (b ∷ bytes) = (b ≢ separator) × Lacks separator bytes
 abbrev pub newline : ℕ
 newline = 10
 
--- the most bytes that are kept of a line whose newline has not come
+-- the most bytes kept of an unfinished line
 abbrev pub kept_count : ℕ
 kept_count = 4097
 
@@ -43,7 +43,7 @@ space = 32
 abbrev pub lines_of : List ℕ → List (List ℕ)
 lines_of input = cut_at newline input
 
--- the lines of an input whose newline came
+-- the lines of an input that end with a newline
 abbrev pub ended_lines_of : List ℕ → List (List ℕ)
 ended_lines_of input = ended_at newline input
 
@@ -51,6 +51,6 @@ abbrev pub is_word : List ℕ → Bool
 is_word [] = false
 is_word (b ∷ bytes) = true
 
--- the words of a line: spaces, one or more, stand between them
+-- the words of a line, separated by one or more spaces
 abbrev pub words_of : List ℕ → List (List ℕ)
 words_of line = filter is_word (cut_at space line)

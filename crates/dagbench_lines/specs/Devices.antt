@@ -1,9 +1,9 @@
--- What a clause sees of the program's devices.
+-- What contracts see of a device.
 use Rattle.std.specs.Prelude.{◌≡◌, ℕ, ◌+◌, ◌<◌, ◌≤◌, ◌^◌, ◌⊎◌, Bool, false, Option, List, [], length, take, Result, Ok}
 use Rattle.std.specs.Prelude.{Err}
 use Rattle.std.specs.Io.KnownBytes.{Appends, Consumes, IsAtEnd, Keeps}
 
--- what went through a device: the bytes, whether its end was met, and how many calls failed
+-- what went through a device: the bytes, whether the end was reached, and how many calls failed
 pub record Passed : Type 0 where
   pub bytes : List ℕ
   pub is_ended : Bool
@@ -12,7 +12,7 @@ pub record Passed : Type 0 where
 abbrev pub nothing_passed : Passed
 nothing_passed = record { bytes = []; is_ended = false; failures = 0 }
 
--- a source that holds its bytes: all of them, how many it gave, and how many calls still pass before one fails
+-- a source in memory: all its bytes, how many it has given, and how many calls succeed before one fails
 pub record SourceState : Type 0 where
   pub bytes : List ℕ
   pub at : ℕ
@@ -20,22 +20,22 @@ pub record SourceState : Type 0 where
   pub is_ended : Bool
   pub failures : ℕ
 
--- a sink that holds what it took, and how many calls still pass before one fails
+-- a sink in memory: what it has taken, and how many calls succeed before one fails
 pub record SinkState : Type 0 where
   pub taken : List ℕ
   pub passes : Option ℕ
   pub failures : ℕ
 
--- a reader or a writer, with what it gave and what it took
+-- a reader or a writer, with what it has given and taken
 pub record DeviceState (D : Type 0) : Type 0 where
   pub device : D
   pub left : ℕ
   pub given : Passed
   pub taken : Passed
 
--- What a call on a source took from the bytes that were still to come, where they are known. At an Ok of n they lost
--- the first n bytes of the buffer, and none only if none was left or there was no room. At an Err they lost nothing, or
--- more than a source may give.
+-- What a read takes from the remaining bytes, if these are known. `Ok n` takes n bytes and returns them at the front of
+-- the buffer; n is 0 only if no byte is left or the buffer is empty. `Err` takes nothing, or so many bytes that the
+-- source would have given 2^64 or more.
 abbrev pub TakesFrom : {E : Type 0}
     → (left_old left_new : Option (List ℕ)) → (given : List ℕ) → Result ℕ E → (buffer : List ℕ) → Type 0
 TakesFrom left_old left_new given (Ok n) buffer =
@@ -44,7 +44,7 @@ TakesFrom left_old left_new given (Err e) buffer =
     Keeps left_old left_new
     ⊎ ((n : ℕ) × Consumes left_old left_new (take n buffer) × (2 ^ 64 ≤ length given + length (take n buffer)))
 
--- What a call on a sink put into its writer: at an Ok all the bytes, at an Err some front of them.
+-- What a write puts into the writer: all the bytes if it is `Ok`, the first of them, possibly none, if it is `Err`.
 abbrev pub PutsInto : {A E : Type 0} → (held_old held_new : Option (List ℕ)) → Result A E → (bytes : List ℕ) → Type 0
 PutsInto held_old held_new (Ok x) bytes = Appends held_old held_new bytes
 PutsInto held_old held_new (Err e) bytes = (n : ℕ) × Appends held_old held_new (take n bytes)

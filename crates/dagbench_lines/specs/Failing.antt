@@ -1,7 +1,7 @@
 -- Which call of a device in memory fails.
 use Rattle.std.specs.Prelude.{ℕ, zero, suc, Option, Some, None}
 
--- how many calls still pass before one fails, after one more call. After the failure all pass
+-- how many calls succeed before one fails, after one more call; after the failure all calls succeed
 abbrev pub passes_after : Option ℕ → Option ℕ
 passes_after None = None
 passes_after (Some zero) = None

@@ -1,4 +1,4 @@
--- What the words of a line list.
+-- The lists in the words of a line.
 use Rattle.std.specs.Prelude.{ℕ, Option, Some, None, List, [], ◌∷◌, ℤ}
 use Rattle.std.specs.Option.{option_map}
 use Rattle.dagbench_lines.specs.Numbers.{index_of, weight_of}
@@ -8,12 +8,12 @@ abbrev pub ◌>>=◌ : {A B : Type 0} → Option A → (A → Option B) → Opti
 None >>= f = None
 (Some x) >>= f = f x
 
--- the first word, by what it means, and the words after it
+-- the meaning of the first word, and the words after it
 abbrev pub first_by : {A : Type 0} → (List ℕ → Option A) → List (List ℕ) → Option (A × List (List ℕ))
 first_by meaning [] = None
 first_by meaning (word ∷ words) = option_map (λ x. (x, words)) (meaning word)
 
--- an edge that is listed, and the words after it
+-- the first edge of a list, and the words after it
 unfoldable pub first_edge_of : List (List ℕ) → Option ((ℕ × ℕ × ℤ) × List (List ℕ))
 first_edge_of words = do
   parent ← first_by index_of words
@@ -21,7 +21,7 @@ first_edge_of words = do
   weight ← first_by weight_of child.1
   Some ((parent.0, child.0, weight.0), weight.1)
 
--- any number of edges: three words each
+-- a list of edges, three words each
 abbrev pub edges_by_words : List (List ℕ) → Option (List (ℕ × ℕ × ℤ))
 edges_by_words [] = Some []
 edges_by_words (parent ∷ []) = None
@@ -33,7 +33,7 @@ edges_by_words (parent ∷ child ∷ weight ∷ words) = do
   edges ← edges_by_words words
   Some ((p, c, w) ∷ edges)
 
--- any number of indices, a word each
+-- a list of indices, a word each
 abbrev pub indices_by_words : List (List ℕ) → Option (List ℕ)
 indices_by_words [] = Some []
 indices_by_words (word ∷ words) = do

@@ -1,4 +1,4 @@
--- The numbers that words spell.
+-- Numbers in words.
 use Rattle.std.specs.Prelude.{ℕ, ◌+◌, ◌-◌, ◌*◌, ◌==◌, ◌&&◌, nat_le, Bool, Option, Some, None, List, [], ◌∷◌, length, ℤ}
 use Rattle.std.specs.Prelude.{pos, neg_ℤ, if◌then◌else◌}
 use Rattle.std.specs.Option.{option_map}
@@ -6,12 +6,12 @@ use Rattle.std.specs.Option.{option_map}
 abbrev pub is_digit : ℕ → Bool
 is_digit b = nat_le 48 b && nat_le b 57
 
--- the number that digits spell which stand after those of n
+-- n followed by these digits, as one number
 abbrev pub number_after : ℕ → List ℕ → Option ℕ
 number_after n [] = Some n
 number_after n (b ∷ bytes) = if is_digit b then number_after (n * 10 + (b - 48)) bytes else None
 
--- the number of a word of one digit to `most` digits
+-- the number in a word of one to `most` digits
 abbrev pub number_of : (most : ℕ) → List ℕ → Option ℕ
 number_of most word = if nat_le 1 (length word) && nat_le (length word) most then number_after 0 word else None
 
@@ -19,11 +19,11 @@ abbrev pub at_most : (limit : ℕ) → Option ℕ → Option ℕ
 at_most limit None = None
 at_most limit (Some n) = if nat_le n limit then Some n else None
 
--- an index: one to ten digits, a number of 32 bits
+-- an index: one to ten digits, at most 2^32 - 1
 abbrev pub index_of : List ℕ → Option ℕ
 index_of word = at_most 4294967295 (number_of 10 word)
 
--- a weight: a minus or none, and one to nineteen digits, a signed number of 64 bits
+-- a weight: an optional minus sign and one to nineteen digits, within a signed 64-bit integer
 abbrev pub weight_of : List ℕ → Option ℤ
 weight_of [] = None
 weight_of (b ∷ bytes) =

@@ -1,4 +1,4 @@
--- The texts of answers, without their newline, and of plans.
+-- The texts of answers, without the newline, and of plans.
 use Rattle.std.specs.Prelude.{ℕ, Option, Some, None, List, [], ◌∷◌, ◌++◌, codes, decimal, ℤ}
 use Rattle.std.specs.List.{flat_map}
 use Rattle.std.specs.Fmt.{signed_decimal}
@@ -13,7 +13,7 @@ node_text n = codes "n" ++ decimal n
 abbrev pub edge_text : ℕ → List ℕ
 edge_text e = codes "e" ++ decimal e
 
--- the ends of an edge; an edge and the node that it leads to; what had this weight
+-- the endpoints of an edge; an edge and the node that it leads to; the weight of what was removed
 abbrev pub ends_text : ℕ × ℕ → List ℕ
 ends_text ends = node_text ends.0 ++ codes " " ++ node_text ends.1
 
@@ -23,21 +23,21 @@ item_text item = edge_text item.0 ++ codes ":" ++ decimal item.1
 abbrev pub weight_text : ℤ → List ℕ
 weight_text weight = codes "weight " ++ signed_decimal weight
 
--- pieces, each after a space
+-- the texts of some values, each after a space
 abbrev pub spaced : {A : Type 0} → (text : A → List ℕ) → List A → List ℕ
 spaced text xs = flat_map (λ x. codes " " ++ text x) xs
 
--- pieces parted by spaces, or a dash if there is none
+-- the texts of some values, separated by spaces, or a dash if there are none
 abbrev pub parted : {A : Type 0} → (text : A → List ℕ) → List A → List ℕ
 parted text [] = codes "-"
 parted text (x ∷ xs) = text x ++ spaced text xs
 
--- what there is, if there is anything
+-- the text of a value, or `none`
 abbrev pub if_any : {A : Type 0} → (text : A → List ℕ) → Option A → List ℕ
 if_any text None = codes "none"
 if_any text (Some x) = text x
 
--- the weights of many edges that are returned. Other weights are not told
+-- the returned weights of a list of edges; other returned weights are not written
 abbrev pub back_text : Weights ℤ ℤ → List ℕ
 back_text (OfEdges last before) = spaced signed_decimal (last ∷ before)
 back_text other = []
@@ -59,7 +59,7 @@ text_of (Cycle weight) = codes "cycle" ++ spaced signed_decimal (weight ∷ [])
 text_of (CycleAll weights) = codes "cycle" ++ spaced signed_decimal weights
 text_of (Memory weights) = codes "memory" ++ back_text weights
 
--- a plan by lines: each stage with its nodes, and then the chain
+-- a plan in lines: each stage with its nodes, and then the chain
 abbrev pub stages_text : {A : Type 0} → (nodes : A → List ℕ) → (stages : List A) → List ℕ
 stages_text nodes stages = flat_map (λ stage. (codes "stage" ++ spaced node_text (nodes stage)) ++ newline ∷ []) stages
 

@@ -1,4 +1,4 @@
--- What is read of a line, as what the line asks.
+-- A parsed line, as what the line asks for.
 use Rattle.daggy_base.specs.Requests.{request_of}
 use Rattle.dagbench_lines.specs.Commands as line
 use Rattle.dagbench_lines.specs.declared.parse.LineRequest.{LineRequest}

@@ -8,8 +8,7 @@ use crate::stream::{Fault, Sink, Source};
 use std::io::{Read, Write};
 use std::marker::Model;
 
-/// A reader or a writer. Each of its errors is a failure, and so is the byte after the first 2^64
-/// - 1 that are read.
+/// A reader or a writer. Each of its errors is a fault, and so is reading more than 2^64 - 1 bytes.
 #[derive(Drop)]
 pub struct Device<D> {
     device: D,
@@ -43,7 +42,7 @@ impl<D> Model for Device<D> {
 }
 
 impl<D> Device<D> {
-    /// Nothing was read or written yet.
+    /// A device that has read and written nothing.
     pub fn new(device: D) -> Device<D>
         ensures device { result.device ≡ device }
         ensures given { result.given ≡ nothing_passed }
@@ -57,7 +56,7 @@ impl<D> Device<D> {
         }
     }
 
-    /// The bytes were read, if so many are left.
+    /// Records that these bytes were read. Fails if they exceed the limit.
     fn give(&mut self, bytes: &[u8]) -> Result<(), Fault>
         ensures device { self.new.device ≡ self.old.device }
         ensures bytes { Appends result self.old.given.bytes self.new.given.bytes bytes.now }
@@ -83,7 +82,7 @@ impl<D> Device<D> {
 impl<R: Read> Source for Device<R> {
     ghost given = { λ s. s.given.bytes };
 
-    // What the reader tells of its bytes.
+    // The remaining bytes of the reader, if it knows them.
     ghost remaining = { λ s. R.remaining s.device };
 
     ghost is_ended = { λ s. s.given.is_ended };
@@ -110,7 +109,7 @@ impl<R: Read> Source for Device<R> {
     }
 }
 
-/// Writes all the bytes and flushes. Each error ends it, also an interruption.
+/// Writes all the bytes and flushes. Stops at any error, also at an interruption.
 fn write_out<W: Write>(device: &mut W, bytes: &[u8]) -> Result<(), Fault>
     ensures { PutsInto (W.contents device.old) (W.contents device.new) result bytes.now }
 {
@@ -139,7 +138,7 @@ impl<W: Write> Sink for Device<W> {
         ensures bytes { Appends result self.old.taken.bytes self.new.taken.bytes bytes.now }
         ensures counted { CountsFaults result self.old.taken.failures self.new.taken.failures }
 
-        // If the writer exposes its bytes, they are what was taken.
+        // If the contents of the writer are known, the bytes were appended to them.
         ensures writer { PutsInto (W.contents self.old.device) (W.contents self.new.device)
             result bytes.now }
     {

@@ -1,4 +1,4 @@
-//! The edges that a line lists.
+//! The edges listed in a line.
 ghost use Rattle.std.specs.Prelude.{◌≡◌, IfOk};
 ghost use Rattle.std.specs.Option.{option_map};
 ghost use Rattle.dagbench_lines.specs.Cutting.{words_of};
@@ -9,7 +9,7 @@ use daggy_base::command::NewEdge;
 use std::alloc::{AllocError, Global};
 use std::marker::Model;
 
-/// The edges that a line lists, which are read from its words when a list of them is asked for.
+/// The edges listed in a line. They are parsed again by `into_edges`, so this does not allocate.
 #[derive(Drop)]
 pub struct EdgeList<'a> {
     words: &'a [u8],
@@ -27,7 +27,7 @@ impl<'a> Model for EdgeList<'a> {
     ghost invariant = { λ s. IsSome (edges_by_words (words_of s.words.now)) };
 }
 
-/// The edge that the first three words say, and what stands after them.
+/// The edge in the first three words, and the rest of the line.
 #[tactic(auto, unfolding(crate::specs::Listing::first_edge_of))]
 fn first_edge(words: &[u8]) -> Option<((u32, u32, i64), &[u8])>
     ensures { option_map (λ parts. (parts.0, words_of parts.1.now)) result
@@ -46,7 +46,7 @@ fn new_edge(parent: u32, child: u32, weight: i64) -> NewEdge<i64, u32>
 }
 
 impl<'a> EdgeList<'a> {
-    /// The edges that these words list, if all of them do.
+    /// The edges listed by these words, or `None` if the words are not a list of edges.
     pub fn new(words: &'a [u8]) -> Option<EdgeList<'a>>
         ensures { result ≡ edges_by_words (words_of words.now) }
     {
@@ -58,7 +58,7 @@ impl<'a> EdgeList<'a> {
         Some(EdgeList { words })
     }
 
-    /// The edges in a list.
+    /// The edges as a `Vec`.
     pub fn into_edges(self, alloc: Global) -> Result<Vec<NewEdge<i64, u32>>, AllocError>
         ensures { IfOk result (λ edges. edges.items ≡ self.entry) }
     {

@@ -1,10 +1,11 @@
-//! What a device did, for clauses alone. It takes no bytes, and its methods do nothing at run time.
+//! What a device did, for contracts only. It has no size, and its methods do nothing at run time.
 ghost use Rattle.std.specs.Prelude.{◌≡◌, ℕ, ◌+◌, Bool, true, false, List, [], ◌++◌};
 ghost use Rattle.std.specs.Borrow.{ftrue};
 
 use std::marker::Model;
 
-/// The bytes that went through a device, whether its end was met, and how many of its calls failed.
+/// The bytes that went through a device, whether the end was reached, and how many of its calls
+/// failed.
 #[derive(Drop)]
 pub struct History {
     pub ghost bytes: { List ℕ },
@@ -17,14 +18,14 @@ impl Model for History {
 }
 
 impl History {
-    /// Nothing was done.
+    /// An empty history.
     pub fn new() -> History
         ensures { result ≡ record { bytes = []; is_ended = false; failures = 0 } }
     {
         History {}
     }
 
-    /// Then these bytes went through.
+    /// This history, and then these bytes.
     pub fn and_bytes(&self, _bytes: &[u8]) -> History
         ensures { result ≡ record {
           bytes = self.now.bytes ++ _bytes.now;
@@ -35,7 +36,7 @@ impl History {
         History {}
     }
 
-    /// Then the end was met.
+    /// This history, and then the end.
     pub fn and_end(&self) -> History
         ensures { result
             ≡ record { bytes = self.now.bytes; is_ended = true; failures = self.now.failures } }
@@ -43,7 +44,7 @@ impl History {
         History {}
     }
 
-    /// Then a call failed.
+    /// This history, and then a failed call.
     pub fn and_failure(&self) -> History
         ensures { result ≡ record {
           bytes = self.now.bytes;

@@ -1,4 +1,4 @@
-//! The front of a line whose newline has not come.
+//! The front of an unfinished line.
 ghost use Rattle.std.specs.Prelude.{◌≡◌, ℕ, ◌≤◌, ◌==◌, List, [], ◌++◌, IfOk, take, length, vec_len};
 ghost use Rattle.std.specs.Prelude.{vec_capacity};
 ghost use Rattle.dagbench_lines.specs.Cutting.{kept_count};
@@ -7,10 +7,10 @@ use crate::parse::LONGEST_LINE;
 use std::alloc::{AllocError, Global};
 use std::marker::Model;
 
-/// How many bytes are kept of a line: one more than a command can have.
+/// The most bytes kept of a line: one more than a command can have.
 const KEPT: usize = LONGEST_LINE + 1;
 
-/// The first bytes of a line, as many as it takes to know what the line says.
+/// The first bytes of a line: all that are needed to parse it.
 #[derive(Drop)]
 pub struct Line {
     bytes: Vec<u8>,
@@ -25,7 +25,7 @@ impl Model for Line {
 }
 
 impl Line {
-    /// Nothing is kept yet. All the room is taken here.
+    /// An empty line. Allocates all the memory that it will need.
     pub fn new(alloc: Global) -> Result<Line, AllocError>
         ensures { IfOk result (λ line. line ≡ []) }
     {
@@ -33,7 +33,7 @@ impl Line {
         Ok(Line { bytes })
     }
 
-    /// Keeps more bytes of the line, as far as there is room.
+    /// Appends bytes of the line, as far as there is room.
     pub fn keep(&mut self, more: &[u8])
         ensures { self.new ≡ take kept_count (self.old ++ more.now) }
     {
@@ -42,7 +42,7 @@ impl Line {
         let _ = self.bytes.extend_from_slice(front);
     }
 
-    /// Begins the next line.
+    /// Clears it for the next line.
     pub fn clear(&mut self)
         ensures { self.new ≡ [] }
     {

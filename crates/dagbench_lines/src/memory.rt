@@ -1,4 +1,4 @@
-//! A source and a sink that hold their bytes, and fail where they are told to.
+//! A source and a sink in memory, which can be told to fail.
 ghost use Rattle.std.specs.Prelude.{◌≡◌, ◌≢◌, ◌↔◌, ℕ, ◌≤◌, ◌<◌, ◌^◌, ◌++◌, ◌-◌, min, List, []};
 ghost use Rattle.std.specs.Prelude.{None, Some, false, take, drop, length, IsOk, IsErr, IfOk, OnOk};
 ghost use Rattle.dagbench_lines.specs.Devices.{TakesFrom};
@@ -28,7 +28,7 @@ fn pass(passes: &mut Option<usize>) -> Result<(), Fault>
     }
 }
 
-/// Copies as many bytes as both have room for, and gives their number.
+/// Copies as many bytes as both slices have, and returns their number.
 fn copy_front(from: &[u8], to: &mut [u8]) -> usize
     ensures count { result ≡ min (length from.now) (length to.new) }
     ensures copied { (result ≤ length to.new) × (take result to.new ≡ take result from.now) }
@@ -38,7 +38,7 @@ fn copy_front(from: &[u8], to: &mut [u8]) -> usize
     count
 }
 
-/// A source of bytes that it holds.
+/// A source that holds its bytes.
 #[derive(Drop)]
 pub struct MemorySource {
     bytes: Vec<u8>,
@@ -65,8 +65,7 @@ impl Model for MemorySource {
 }
 
 impl MemorySource {
-    /// Gives these bytes, and then the end. If `passes` is some number, the call after so many ones
-    /// fails.
+    /// A source of these bytes. If `passes` is `Some(n)`, the call after n successful calls fails.
     pub fn new(bytes: Vec<u8>, passes: Option<usize>) -> MemorySource
         ensures { result ≡ record {
           bytes = bytes.items;
@@ -84,7 +83,7 @@ impl MemorySource {
         }
     }
 
-    /// Gives the bytes that come next, as many as the buffer has room for, and their number.
+    /// Copies the next bytes to the buffer, as many as it has room for, and returns their number.
     fn give(&mut self, buffer: &mut [u8]) -> usize
         ensures count { result ≡ min (length self.old.bytes - self.old.at) (length buffer.new) }
         ensures bytes { take self.new.at self.new.bytes
@@ -119,11 +118,11 @@ impl Source for MemorySource {
         ensures end { MeetsEnd result self.old.is_ended self.new.is_ended buffer.new }
         ensures counted { CountsFaults result self.old.failures self.new.failures }
 
-        // It gives as much as there is and as there is room for.
+        // It gives as many bytes as are left and as the buffer has room for.
         ensures count { IfOk result (λ n.
             n ≡ min (length self.old.bytes - self.old.at) (length buffer.new)) }
 
-        // It fails where it was told to, and nowhere else.
+        // It fails when it was told to, and only then.
         ensures fault { IsOk result ↔ (self.old.passes ≢ Some 0) }
         ensures next { self.new.passes ≡ passes_after self.old.passes }
     {
@@ -139,7 +138,7 @@ impl Source for MemorySource {
     }
 }
 
-/// A sink that holds what it took.
+/// A sink that holds what it has taken.
 #[derive(Drop)]
 pub struct MemorySink {
     taken: Vec<u8>,
@@ -157,7 +156,7 @@ impl Model for MemorySink {
 }
 
 impl MemorySink {
-    /// Has taken nothing. If `passes` is some number, the call after so many ones fails.
+    /// An empty sink. If `passes` is `Some(n)`, the call after n successful calls fails.
     pub fn new(alloc: Global, passes: Option<usize>) -> MemorySink
         ensures { result ≡ record { taken = []; passes = passes; failures = 0 } }
     {
@@ -168,7 +167,7 @@ impl MemorySink {
         }
     }
 
-    /// What it took.
+    /// The bytes that it has taken.
     pub fn bytes(&self) -> &[u8]
         ensures { result.now ≡ self.now.taken }
     {
@@ -185,7 +184,7 @@ impl Sink for MemorySink {
         ensures bytes { Appends result self.old.taken self.new.taken bytes.now }
         ensures counted { CountsFaults result self.old.failures self.new.failures }
 
-        // It fails where it was told to.
+        // It fails when it was told to.
         ensures fault { self.old.passes ≡ Some 0 → IsErr result }
         ensures next { self.new.passes ≡ passes_after self.old.passes }
     {

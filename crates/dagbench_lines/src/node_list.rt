@@ -1,4 +1,4 @@
-//! The nodes that a line lists.
+//! The nodes listed in a line.
 ghost use Rattle.std.specs.Prelude.{◌≡◌, IfOk};
 ghost use Rattle.dagbench_lines.specs.Cutting.{words_of};
 ghost use Rattle.dagbench_lines.specs.Listing.{indices_by_words};
@@ -8,7 +8,7 @@ use daggy_base::index::NodeIndex;
 use std::alloc::{AllocError, Global};
 use std::marker::Model;
 
-/// The nodes that a line lists, which are read from its words when a list of them is asked for.
+/// The nodes listed in a line. They are parsed again by `into_nodes`, so this does not allocate.
 #[derive(Drop)]
 pub struct NodeList<'a> {
     words: &'a [u8],
@@ -27,7 +27,7 @@ impl<'a> Model for NodeList<'a> {
 }
 
 impl<'a> NodeList<'a> {
-    /// The nodes that these words list, if all of them do.
+    /// The nodes listed by these words, or `None` if the words are not a list of nodes.
     pub fn new(words: &'a [u8]) -> Option<NodeList<'a>>
         ensures { result ≡ indices_by_words (words_of words.now) }
     {
@@ -39,7 +39,7 @@ impl<'a> NodeList<'a> {
         Some(NodeList { words })
     }
 
-    /// The nodes in a list.
+    /// The nodes as a `Vec`.
     pub fn into_nodes(self, alloc: Global) -> Result<Vec<NodeIndex<u32>>, AllocError>
         ensures { IfOk result (λ nodes. nodes.items ≡ self.entry) }
     {

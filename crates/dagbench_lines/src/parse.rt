@@ -1,4 +1,4 @@
-//! What a line says.
+//! Parsing a line.
 ghost use Rattle.std.specs.Prelude.{◌≡◌, IfOk, OnErr, IsSomeAnd};
 ghost use Rattle.std.specs.Option.{option_map};
 ghost use Rattle.daggy_base.specs.Requests.{request_of};
@@ -19,21 +19,21 @@ use crate::words::{edge, first_index, first_weight, first_word, node};
 use daggy_base::command::Command;
 use std::alloc::{AllocError, Global};
 
-/// The most bytes of a line that can be a command, its newline not counted.
+/// The most bytes that a command can have, not counting the newline.
 pub const LONGEST_LINE: usize = 4096;
 
-/// What a line asks.
+/// What a line asks for.
 #[derive(Drop)]
 pub enum LineRequest {
-    /// That a command is carried out.
+    /// A command to carry out.
     Command(Command<i64, i64, u32>),
     /// The document of the dag.
     Document,
 }
 
-/// What a line asks, or `None` if it asks nothing.
+/// Parses a line. Returns `None` if it is neither a command nor `json`.
 ///
-/// The error says that there was no room for the list that a command holds.
+/// Returns `AllocError` if an allocation for the list of a command fails.
 #[tactic(auto, unfolding(crate::specs::Commands::asked_in))]
 pub fn parse(alloc: Global, line: &[u8]) -> Result<Option<LineRequest>, AllocError>
     ensures asked { IfOk result (λ asked. option_map asked_of asked ≡ asked_in line.now) }
@@ -139,7 +139,7 @@ fn single(name: &[u8], rest: &[u8]) -> Option<Command<i64, i64, u32>>
     }
 }
 
-// x, if the line has no word.
+// `x`, if the line has no word left.
 fn if_done<T: Drop>(line: &[u8], x: T) -> Option<T>
     ensures { result ≡ if_done_of (words_of line.now) x }
 {

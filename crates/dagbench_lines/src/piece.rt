@@ -1,4 +1,4 @@
-//! The pieces that replies are made of, and lists of them.
+//! Writing the parts of a reply.
 ghost use Rattle.std.specs.Prelude.{ℕ, List, decimal};
 ghost use Rattle.std.specs.Fmt.{signed_decimal};
 ghost use Rattle.dagbench_lines.specs.Writing.{Writes};
@@ -11,7 +11,7 @@ use daggy_base::command::Neighbor;
 use daggy_base::index::{EdgeIndex, NodeIndex};
 use itoa::Buffer;
 
-/// A piece of a reply.
+/// A value with a text in replies.
 pub trait WriteText: Copy {
     // Its text.
     ghost text: { Self → List ℕ };
@@ -29,7 +29,7 @@ fn put_index<K: Sink>(index: usize, writer: &mut Writer<K>) -> Result<(), Fault>
     writer.put(digits.format(index).as_bytes())
 }
 
-/// A weight is written in decimal.
+/// The weight in decimal.
 impl WriteText for i64 {
     ghost text = { signed_decimal };
 
@@ -39,7 +39,7 @@ impl WriteText for i64 {
     }
 }
 
-/// A node is written as `n` and its index.
+/// `n` and the index of the node.
 impl WriteText for NodeIndex<u32> {
     ghost text = { node_text };
 
@@ -49,7 +49,7 @@ impl WriteText for NodeIndex<u32> {
     }
 }
 
-/// An edge is written as `e` and its index.
+/// `e` and the index of the edge.
 impl WriteText for EdgeIndex<u32> {
     ghost text = { edge_text };
 
@@ -59,7 +59,7 @@ impl WriteText for EdgeIndex<u32> {
     }
 }
 
-/// An edge of a walk, with the index of the node that it leads to after a colon.
+/// The edge, a colon, and the index of the node that it leads to.
 impl WriteText for Neighbor<u32> {
     ghost text = { item_text };
 
@@ -70,7 +70,7 @@ impl WriteText for Neighbor<u32> {
     }
 }
 
-/// The ends of an edge, parted by a space.
+/// The two endpoints of an edge, separated by a space.
 impl WriteText for (NodeIndex<u32>, NodeIndex<u32>) {
     ghost text = { ends_text };
 
@@ -81,7 +81,7 @@ impl WriteText for (NodeIndex<u32>, NodeIndex<u32>) {
     }
 }
 
-/// Writes a piece, or that there is none.
+/// Writes a value, or `none`.
 pub fn put_if_any<T: WriteText, K: Sink>(
     piece: Option<T>,
     writer: &mut Writer<K>,
@@ -94,7 +94,7 @@ pub fn put_if_any<T: WriteText, K: Sink>(
     }
 }
 
-/// Writes pieces, each after a space.
+/// Writes some values, each after a space.
 pub fn put_each<T: WriteText, K: Sink>(pieces: &[T], writer: &mut Writer<K>) -> Result<(), Fault>
     ensures { Writes K.taken K.failures result writer.old writer.new (spaced T.text pieces.now) }
 {
@@ -105,7 +105,7 @@ pub fn put_each<T: WriteText, K: Sink>(pieces: &[T], writer: &mut Writer<K>) -> 
     Ok(())
 }
 
-/// Writes pieces parted by spaces, or a dash if there is none.
+/// Writes some values, separated by spaces, or a dash if there are none.
 pub fn put_parted<T: WriteText, K: Sink>(pieces: &[T], writer: &mut Writer<K>) -> Result<(), Fault>
     ensures { Writes K.taken K.failures result writer.old writer.new (parted T.text pieces.now) }
 {

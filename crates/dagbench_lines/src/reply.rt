@@ -1,4 +1,4 @@
-//! The texts of replies, which go out piece by piece and take no memory.
+//! Writing replies. Does not allocate.
 ghost use Rattle.std.specs.Prelude.{◌∷◌, [], ◌++◌};
 ghost use Rattle.daggy_base.specs.Answers.{answer_of, weights_of};
 ghost use Rattle.dagbench_lines.specs.Writing.{Writes};
@@ -9,7 +9,7 @@ use crate::stream::{Fault, Sink};
 use crate::writer::Writer;
 use daggy_base::command::{Back, Reply};
 
-/// The weight of what was removed, if there was anything.
+/// Writes the weight of what was removed, or `none`.
 fn put_gone<K: Sink>(weight: Option<i64>, writer: &mut Writer<K>) -> Result<(), Fault>
     ensures { Writes K.taken K.failures result writer.old writer.new (if_any weight_text weight) }
 {
@@ -20,7 +20,7 @@ fn put_gone<K: Sink>(weight: Option<i64>, writer: &mut Writer<K>) -> Result<(), 
     weight.put(writer)
 }
 
-/// Why nothing was done, and the weights of many edges that are handed back.
+/// Writes why nothing was done, and the returned weights if the command had a list of edges.
 fn put_refusal<K: Sink>(
     cause: &[u8],
     back: Back<i64, i64>,

@@ -1,4 +1,4 @@
-//! The words of a line, and the numbers that they spell.
+//! The words of a line, and the numbers in them.
 ghost use Rattle.std.specs.Prelude.{◌≡◌, ℕ, ◌+◌, ◌≤◌, ◌∷◌, [], ◌++◌, length, MatchOption};
 ghost use Rattle.std.specs.Option.{option_map};
 ghost use Rattle.dagbench_lines.specs.Cutting.{Lacks, words_of};
@@ -8,7 +8,7 @@ ghost use Rattle.dagbench_lines.specs.Listing.{first_by};
 use daggy_base::index::{EdgeIndex, NodeIndex};
 use memchr::memchr;
 
-/// What stands before the first separator, and what stands after it.
+/// The bytes before the first separator, and those after it, or `None` if there is none.
 pub fn split_at_byte(separator: u8, bytes: &[u8]) -> Option<(&[u8], &[u8])>
     ensures { MatchOption result (Lacks separator bytes.now)
         (λ parts.
@@ -23,7 +23,7 @@ pub fn split_at_byte(separator: u8, bytes: &[u8]) -> Option<(&[u8], &[u8])>
     }
 }
 
-/// The bytes from the first one on that is no space.
+/// The line without leading spaces.
 fn without_spaces(line: &[u8]) -> &[u8]
     ensures words { words_of result.now ≡ words_of line.now }
     ensures first { (rest : _) → result.now ≡ 32 ∷ rest → ⊥ }
@@ -53,7 +53,7 @@ pub fn first_word(line: &[u8]) -> Option<(&[u8], &[u8])>
     }
 }
 
-/// The number that one digit to `most` digits spell.
+/// The number in a word of one to `most` digits.
 fn number(word: &[u8], most: usize) -> Option<u64>
     requires { most ≤ 19 }
     ensures { result ≡ number_of most word.now }
@@ -71,7 +71,7 @@ fn number(word: &[u8], most: usize) -> Option<u64>
     Some(number)
 }
 
-/// The index that a word spells.
+/// The index in a word.
 fn index(word: &[u8]) -> Option<u32>
     ensures { result ≡ index_of word.now }
 {
@@ -79,7 +79,7 @@ fn index(word: &[u8]) -> Option<u32>
     u32::try_from(number).ok()
 }
 
-/// The weight that a word spells.
+/// The weight in a word.
 fn weight(word: &[u8]) -> Option<i64>
     ensures { result ≡ weight_of word.now }
 {
@@ -96,14 +96,14 @@ fn weight(word: &[u8]) -> Option<i64>
     }
 }
 
-/// The node of this index.
+/// The node with this index.
 pub fn node(index: u32) -> NodeIndex<u32>
     ensures { result ≡ index }
 {
     NodeIndex::new(index as usize)
 }
 
-/// The edge of this index.
+/// The edge with this index.
 pub fn edge(index: u32) -> EdgeIndex<u32>
     ensures { result ≡ index }
 {

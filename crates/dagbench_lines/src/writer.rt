@@ -1,21 +1,21 @@
-//! Text that is gathered before it goes to a sink.
+//! A buffered writer over a sink.
 ghost use Rattle.std.specs.Prelude.{◌≡◌, [], ◌++◌, IfOk, OnOk};
 ghost use Rattle.dagbench_lines.specs.Writing.{sink_of, written, Flushes, Writes};
 
 use crate::stream::{Fault, Sink};
 use std::alloc::{AllocError, Global};
 
-/// How many bytes are gathered.
+/// The size of the buffer.
 const BLOCK: usize = 0x1_0000;
 
-/// Room for the bytes that a writer gathers.
+/// A buffer for a writer.
 pub fn room(alloc: Global) -> Result<Vec<u8>, AllocError>
     ensures { IfOk result (λ room. room.items ≡ []) }
 {
     Vec::with_capacity(alloc, BLOCK)
 }
 
-/// Text on its way to a sink, gathered in a block that is lent to it.
+/// Writes text to a sink through a borrowed buffer.
 #[derive(Drop)]
 pub struct Writer<'a, K> {
     pending: &'a mut Vec<u8>,
@@ -23,7 +23,7 @@ pub struct Writer<'a, K> {
 }
 
 impl<'a, K: Sink> Writer<'a, K> {
-    /// Writes to this sink. What stands in the block goes there first.
+    /// A writer over this sink. What is already in the buffer is written first.
     pub fn new(pending: &'a mut Vec<u8>, sink: &'a mut K) -> Writer<'a, K>
         ensures written { written K.taken result ≡ K.taken sink.old ++ pending.old.items }
         ensures sink { sink_of result ≡ sink.old }
@@ -32,7 +32,7 @@ impl<'a, K: Sink> Writer<'a, K> {
         Writer { pending, sink }
     }
 
-    /// Hands all pending bytes to the sink, which isn't called if there are none.
+    /// Writes all pending bytes to the sink, which is not called if there are none.
     pub fn flush(&mut self) -> Result<(), Fault>
         ensures { Flushes K.taken K.failures result self.old self.new }
     {

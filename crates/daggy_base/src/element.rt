@@ -5,7 +5,7 @@ use crate::index::NodeIndex;
 
 /// What an edge can be made of: its endpoints, with or without a weight.
 ///
-/// A pair of nodes stands for an edge of the default weight.
+/// A pair of nodes is an edge with the default weight.
 pub trait IntoWeightedEdge<E> {
     /// What names a node.
     type NodeId;
@@ -46,7 +46,7 @@ pub enum Element<N, E> {
         /// The weight of the node.
         weight: N,
     },
-    /// An edge between nodes that stand before it in the list.
+    /// An edge between nodes that come before it in the list.
     Edge {
         /// The position of the node that it leads from.
         source: usize,

@@ -1,4 +1,4 @@
--- Two items of a list at once: the list cut between them, a call at both, and a call at the weights that they hold.
+-- Two items of a list at once: the list split between them, a call with both, and a call with their weights.
 use Rattle.std.proofs.Common.{◌≡◌, ◌≢◌, ℕ, zero, suc, ◌<◌, List, [], ◌∷◌, ◌++◌, take, drop, length, get_or, set}
 use Rattle.std.proofs.Common.{slice_get, Option, Some, refl, sym, ap, ◌∙◌, arith}
 use Rattle.std.proofs.Math.Seq.{take-append_seam}

@@ -1,4 +1,4 @@
--- Copies of stored nodes and edges: they are mapped, each weight to its clone.
+-- Clones of stored nodes and edges: each weight is mapped to its clone.
 use Rattle.std.proofs.Common.{◌≡◌, ℕ, ◌+◌, List, [], ◌∷◌, map, Option, Some, None, refl, ap}
 use Rattle.std.specs.List.{AllZip}
 use Rattle.daggy_base.specs.declared.index.Direction.{Direction}

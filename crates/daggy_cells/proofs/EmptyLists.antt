@@ -1,4 +1,4 @@
--- Nodes whose lists are emptied one after another.
+-- Emptying the lists of nodes, node by node.
 use Rattle.std.proofs.Common.{◌≡◌, ℕ, suc, ◌<◌, List, ◌++◌, map, length, get_or, set, take, drop, sym, ap, ◌∙◌}
 use Rattle.daggy_cells.specs.declared.cell.Node.{Node}
 use Rattle.daggy_cells.specs.Fields.{with_lists_emptied}

@@ -19,7 +19,7 @@ use Rattle.daggy_cells.proofs.LinkedLists.{renamed_here, renamed_other, row_spli
 use Rattle.daggy_cells.proofs.LinkedLists.{after_here}
 
 -- the edges so far, where the rest of the list from e on still has the node from
-pub record IsReowning {E Ix : Type 0} (end : ℕ) (dir : Direction) (from to : ℕ) (old now : List (Edge E Ix))
+pub record IsReassigning {E Ix : Type 0} (end : ℕ) (dir : Direction) (from to : ℕ) (old now : List (Edge E Ix))
     (e : ℕ) : Type 0 where
   pub rest : List ℕ
   pub linked : IsLinkedList end (nexts_of dir now) e rest
@@ -45,20 +45,20 @@ module _ {E Ix : Type 0} (end : ℕ) (dir : Direction) (from to : ℕ) where
   next_with Incoming x n = refl
 
   -- an edge that has another node stays as it is
-  reowned_other : (x : Edge E Ix) → end_at dir x ≢ from → with_end_renamed dir from to x ≡ x
-  reowned_other x differs = ap (with_end dir x) (renamed_other from to (end_at dir x) differs) ∙ with_same dir x
+  reassigned_other : (x : Edge E Ix) → end_at dir x ≢ from → with_end_renamed dir from to x ≡ x
+  reassigned_other x differs = ap (with_end dir x) (renamed_other from to (end_at dir x) differs) ∙ with_same dir x
 
-  map-reowned_none : (es : List (Edge E Ix))
+  map-reassigned_none : (es : List (Edge E Ix))
       → ((f : ℕ) → slice_get (ends_of dir es) f ≢ Some from) → map (with_end_renamed dir from to) es ≡ es
-  map-reowned_none [] none = refl
-  map-reowned_none (x ∷ xs) none =
-      ap (λ z. z ∷ map (with_end_renamed dir from to) xs) (reowned_other x (λ q. none 0 (ap Some q)))
-      ∙ ap (λ l. x ∷ l) (map-reowned_none xs (λ f q. none (suc f) q))
+  map-reassigned_none [] none = refl
+  map-reassigned_none (x ∷ xs) none =
+      ap (λ z. z ∷ map (with_end_renamed dir from to) xs) (reassigned_other x (λ q. none 0 (ap Some q)))
+      ∙ ap (λ l. x ∷ l) (map-reassigned_none xs (λ f q. none (suc f) q))
 
-  pub reowning_done : (old now : List (Edge E Ix)) (e : ℕ)
-      → IsReowning end dir from to old now e → length now ≤ e → now ≡ map (with_end_renamed dir from to) old
-  reowning_done old now e r past =
-      sym (map-reowned_none now (λ f q. nothing r.rest r.linked f ((r.exact f).1 q))) ∙ r.same
+  pub reassigning_done : (old now : List (Edge E Ix)) (e : ℕ)
+      → IsReassigning end dir from to old now e → length now ≤ e → now ≡ map (with_end_renamed dir from to) old
+  reassigning_done old now e r past =
+      sym (map-reassigned_none now (λ f q. nothing r.rest r.linked f ((r.exact f).1 q))) ∙ r.same
     where
       nothing : (rest : List ℕ) → IsLinkedList end (nexts_of dir now) e rest → (f : ℕ) → Contains rest f → ⊥
       nothing [] row f p = Contains-nil f p
@@ -68,7 +68,7 @@ module _ {E Ix : Type 0} (end : ℕ) (dir : Direction) (from to : ℕ) where
           absurd (omega (arith, within, past, row.starts, length-map now (raw_next dir)))
 
   -- a step
-  module _ (old now : List (Edge E Ix)) (e : ℕ) (x : Edge E Ix) (r : IsReowning end dir from to old now e)
+  module _ (old now : List (Edge E Ix)) (e : ℕ) (x : Edge E Ix) (r : IsReassigning end dir from to old now e)
       (within : e < length now) (few : length now ≤ end) (is : x ≡ get_or now e x) (differ : from ≢ to) where
     nexts_long : length (nexts_of dir now) ≡ length now
     nexts_long = length-map now (raw_next dir)
@@ -100,8 +100,8 @@ module _ {E Ix : Type 0} (end : ℕ) (dir : Direction) (from to : ℕ) where
     ends_now : ends_of dir (set now e (with_end dir x to)) ≡ set (ends_of dir now) e to
     ends_now = map-set (end_at dir) now e (with_end dir x to) ∙ ap (set (ends_of dir now) e) (end_with dir x to)
 
-    pub reowning_step : IsReowning end dir from to old (set now e (with_end dir x to)) (raw_next dir x)
-    reowning_step =
+    pub reassigning_step : IsReassigning end dir from to old (set now e (with_end dir x to)) (raw_next dir x)
+    reassigning_step =
         let now' = set now e (with_end dir x to) in
         record {
           rest = split.0;
@@ -136,9 +136,9 @@ module _ {E Ix : Type 0} (end : ℕ) (dir : Direction) (from to : ℕ) where
           long = length-set now e (with_end dir x to) ∙ r.long;
         }
 
-    pub reowning_shorter : length (list_from dir (set now e (with_end dir x to)) (raw_next dir x))
+    pub reassigning_shorter : length (list_from dir (set now e (with_end dir x to)) (raw_next dir x))
         < length (list_from dir now e)
-    reowning_shorter =
+    reassigning_shorter =
         let limit : length (nexts_of dir now) ≤ end = omega (arith, few, nexts_long) in
         let here = row_is end e (nexts_of dir now) (e ∷ split.0) row_e limit in
         let tail =
@@ -148,16 +148,16 @@ module _ {E Ix : Type 0} (end : ℕ) (dir : Direction) (from to : ℕ) where
         rw (nexts_same, here, tail) (omega arith)
 
   -- in the words of the code
-  pub reowning_code : {old now : List (Edge E Ix)} {e i next : ℕ} {x y : Edge E Ix}
-      → IsReowning end dir from to old now e → i ≡ e → i < length now → length now ≤ end → x ≡ get_or now i x
+  pub reassigning_code : {old now : List (Edge E Ix)} {e i next : ℕ} {x y : Edge E Ix}
+      → IsReassigning end dir from to old now e → i ≡ e → i < length now → length now ≤ end → x ≡ get_or now i x
       → y ≡ with_end dir x to → next ≡ raw_next dir y → from ≢ to
-      → IsReowning end dir from to old (set now i y) next
+      → IsReassigning end dir from to old (set now i y) next
       × (length (list_from dir (set now i y) next) < length (list_from dir now e))
-  reowning_code {old} {now} {e} {i} {next} {x} {y} r i_is within few is y_is next_is differ =
+  reassigning_code {old} {now} {e} {i} {next} {x} {y} r i_is within few is y_is next_is differ =
       let is_e : x ≡ get_or now e x = is ∙ ap (λ z. get_or now z x) i_is in
       let in_e : e < length now = omega (arith, within, i_is) in
       let next_x : next ≡ raw_next dir x = next_is ∙ ap (raw_next dir) y_is ∙ next_with dir x to in
       let written : set now i y ≡ set now e (with_end dir x to) = ap (λ z. set now z y) i_is ∙ ap (set now e) y_is in (
-        rw (written, next_x) (reowning_step old now e x r in_e few is_e differ),
-        rw (written, next_x) (reowning_shorter old now e x r in_e few is_e differ),
+        rw (written, next_x) (reassigning_step old now e x r in_e few is_e differ),
+        rw (written, next_x) (reassigning_shorter old now e x r in_e few is_e differ),
       )

@@ -1,4 +1,4 @@
--- What lists of stored nodes and edges hold, before and after a write.
+-- The fields of lists of stored nodes and edges, before and after a write.
 use Rattle.std.proofs.Common.{◌≡◌, ℕ, List, map, length, get_or, set, Option, refl, sym, ap, ◌∙◌}
 use Rattle.std.proofs.lemmas.List.{length-map, map-set}
 use Rattle.daggy_base.specs.Graph.{Graph, Edge as PlainEdge}

@@ -1,4 +1,4 @@
--- Removing the front of a list until it is empty.
+-- Removing the first edge of a list until it is empty.
 use Rattle.std.proofs.Common.{◌≡◌, ℕ, suc, ◌-◌, ◌<◌, List, [], ◌∷◌, map, length, Option, Some, None, IfNone, OnSome}
 use Rattle.std.proofs.Common.{is_some, true, false, true≢false, slice_get, refl, sym, ap, subst, ◌∙◌, arith, Contains}
 use Rattle.std.specs.Option.{option_map, option_and_then}

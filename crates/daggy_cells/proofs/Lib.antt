@@ -5,7 +5,7 @@ pub mod States
 pub mod RedirectLemmas
 pub mod EndsRenamed
 pub mod IsolatedNode
-pub mod RethreadedLists
+pub mod RelinkedLists
 pub mod ListOrders
 pub mod EmptyLists
 pub mod CellLemmas

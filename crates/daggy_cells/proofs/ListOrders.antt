@@ -1,4 +1,4 @@
--- The lists of a graph as lists that can be threaded.
+-- The lists of a graph can be linked.
 use Rattle.std.proofs.Common.{◌≡◌, ℕ, zero, suc, ◌<◌, List, [], ◌∷◌, map, length, get_or, Option, Some, None, is_some}
 use Rattle.std.proofs.Common.{refl, sym, ap, ◌∙◌, arith}
 use Rattle.std.specs.Global.{Vec}
@@ -11,7 +11,7 @@ use Rattle.daggy_base.specs.WellFormed.{ListsEdges, IsWellFormed}
 use Rattle.daggy_base.specs.Orders.{numbers_of}
 use Rattle.daggy_base.proofs.OutEdgesRead.{below_bound}
 use Rattle.daggy_base.proofs.PathsWithNode.{bound_low}
-use Rattle.daggy_cells.specs.Links.{nth_list, ListsBy, CanThreadAll}
+use Rattle.daggy_cells.specs.Links.{nth_list, ListsBy, CanLinkAll}
 use Rattle.daggy_cells.specs.Fields.{lists_at, order_at}
 
 module _ {N E : Type 0} {limit : ℕ} (g : Graph N E) (w : IsWellFormed limit g) where
@@ -19,7 +19,7 @@ module _ {N E : Type 0} {limit : ℕ} (g : Graph N E) (w : IsWellFormed limit g)
   edge_inside e x at = let below = below_bound g.edges e (ap is_some at) in omega (arith, below, bound_low g.edges)
 
   can_side : (count : ℕ) → length g.edges ≡ count
-      → (near : Edge E → ℕ) (lists : List (List ℕ)) → ListsEdges g near (nth_list lists) → CanThreadAll count lists
+      → (near : Edge E → ℕ) (lists : List (List ℕ)) → ListsEdges g near (nth_list lists) → CanLinkAll count lists
   can_side count long near lists l =
       record {
         each = λ n. record {
@@ -33,9 +33,9 @@ module _ {N E : Type 0} {limit : ℕ} (g : Graph N E) (w : IsWellFormed limit g)
             sym x.2 ∙ ap near (same_Some x.0 y.0 (sym x.1 ∙ y.1)) ∙ y.2;
       }
 
-  pub can_thread_all : (count : ℕ) → length g.edges ≡ count → (dir : Direction) → CanThreadAll count (lists_at dir g)
-  can_thread_all count long Outgoing = can_side count long (near_end Outgoing) g.out_lists w.out_of
-  can_thread_all count long Incoming = can_side count long (near_end Incoming) g.in_lists w.in_of
+  pub can_link_all : (count : ℕ) → length g.edges ≡ count → (dir : Direction) → CanLinkAll count (lists_at dir g)
+  can_link_all count long Outgoing = can_side count long (near_end Outgoing) g.out_lists w.out_of
+  can_link_all count long Incoming = can_side count long (near_end Incoming) g.in_lists w.in_of
 
   listed_side : (near : Edge E → ℕ) (lists : List (List ℕ))
       → ListsEdges g near (nth_list lists) → ListsBy (λ e. option_map near (edge_at g e)) lists

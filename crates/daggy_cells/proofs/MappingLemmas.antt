@@ -1,4 +1,4 @@
--- What calls give that map slots in turn.
+-- What the calls that map the slots in turn return.
 use Rattle.std.proofs.Common.{◌≡◌, ℕ, suc, ◌+◌, List, [], ◌∷◌, length, Option, Some, None, refl, ap, ◌∙◌}
 use Rattle.std.specs.Borrow.{Bor}
 use Rattle.daggy_base.specs.Mapping.{CalledAt, MapsSlots}

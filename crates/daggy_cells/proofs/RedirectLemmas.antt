@@ -1,4 +1,4 @@
--- One link led elsewhere: when it can be, and what it makes of a list.
+-- Redirecting one link: when it is allowed, and what it does to a list.
 use Rattle.std.proofs.Common.{◌≡◌, ℕ, ◌<◌, ◌≤◌, List, length, get_or, sym, ap, subst, ◌∙◌, arith, Contains}
 use Rattle.std.proofs.lemmas.List.{length-map, get_or-map}
 use Rattle.daggy_cells.specs.declared.cell.Node.{Node}

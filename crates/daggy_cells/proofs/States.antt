@@ -1,4 +1,4 @@
--- What the state of a graph shows of its nodes and edges.
+-- The state of a graph, and its nodes and edges.
 use Rattle.std.proofs.Common.{◌≡◌, ℕ, ap, ◌∙◌}
 use Rattle.daggy_base.specs.Graph.{Graph}
 use Rattle.daggy_base.specs.State.{State, with_graph}

@@ -1,4 +1,4 @@
--- How a loop hands the weights in slots out in turn.
+-- A loop that passes the weights in slots to a closure in turn.
 use Rattle.std.proofs.Common.{◌≡◌, ℕ, ◌+◌, ◌<◌, ◌≤◌, List, ◌∷◌, [], ◌++◌, map, length, take, drop, get_or, set, Option}
 use Rattle.std.proofs.Common.{Some, None, refl, sym, ap, subst, ◌∙◌, arith}
 use Rattle.std.proofs.lemmas.List.{length-map, length-set, drop_more, take_all, take_more_set, drop-set-lt}

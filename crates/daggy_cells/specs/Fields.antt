@@ -1,11 +1,11 @@
--- What stored nodes and edges hold, in their lists.
+-- The fields of stored nodes and edges, and of lists of them.
 use Rattle.std.specs.Prelude.{◌≡◌, ◌==◌, ℕ, ◌<◌, ◌≤◌, Bool, Option, Some, List, length, map, slice_index, slice_set}
 use Rattle.std.specs.Prelude.{Contains}
 use Rattle.daggy_base.specs.Graph.{Graph, Edge as PlainEdge}
 use Rattle.daggy_base.specs.Removal.{renamed}
 use Rattle.daggy_cells.specs.Raw.{raw_first, raw_next}
 use Rattle.daggy_base.specs.Cursor.{first_of}
-use Rattle.daggy_cells.specs.Links.{follow, linked_lists, IsLinkedList, Redirected, Rethreads}
+use Rattle.daggy_cells.specs.Links.{follow, linked_lists, IsLinkedList, Redirected, Relinked}
 use Rattle.daggy_cells.specs.declared.cell.Node.{Node}
 use Rattle.daggy_cells.specs.declared.cell.Edge.{Edge}
 use Rattle.daggy_base.specs.declared.index.Direction.{Direction}
@@ -16,7 +16,7 @@ abbrev pub other : Direction → Direction
 other Outgoing = Incoming
 other Incoming = Outgoing
 
--- the weight that a stored node shows, whose slot is never vacant
+-- the weight of a compact node, whose slot is never vacant
 abbrev pub weight_of : {N Ix : Type 0} → Node N Ix → Option N
 weight_of x = Some x.weight
 
@@ -24,7 +24,7 @@ weight_of x = Some x.weight
 abbrev pub plain : {E Ix : Type 0} → Edge E Ix → PlainEdge E
 plain x = record { parent = x.parent; child = x.child; weight = x.weight }
 
--- the edge that a stored edge shows, whose slot is never vacant
+-- the edge in a compact slot, which is never vacant
 abbrev pub plain_edge : {E Ix : Type 0} → Edge E Ix → Option (PlainEdge E)
 plain_edge x = Some (plain x)
 
@@ -32,31 +32,31 @@ plain_edge x = Some (plain x)
 abbrev pub node_with : {N V Ix : Type 0} → Node N Ix → V → Node V Ix
 node_with x v = record { weight = v; first_out = x.first_out; first_in = x.first_in }
 
--- the edge with the weight v, and the same ends and links
+-- the edge with the weight v, and the same endpoints and links
 abbrev pub edge_with : {E V Ix : Type 0} → Edge E Ix → V → Edge V Ix
 edge_with x v = record { weight = v; parent = x.parent; child = x.child; next_out = x.next_out; next_in = x.next_in }
 
--- the node with e as the first edge of its list of that direction
+-- the node with e as the first edge of its list in that direction
 abbrev pub with_first : {N Ix : Type 0} → Direction → Node N Ix → ℕ → Node N Ix
 with_first Outgoing x e = record x { first_out = e }
 with_first Incoming x e = record x { first_in = e }
 
--- the edge with e after it in its list of that direction
+-- the edge with e after it in its list in that direction
 abbrev pub with_next : {E Ix : Type 0} → Direction → Edge E Ix → ℕ → Edge E Ix
 with_next Outgoing x e = record x { next_out = e }
 with_next Incoming x e = record x { next_in = e }
 
--- the end in whose list of that direction the edge stands
+-- the endpoint whose list in that direction has the edge
 abbrev pub end_at : {E Ix : Type 0} → Direction → Edge E Ix → ℕ
 end_at Outgoing x = x.parent
 end_at Incoming x = x.child
 
--- the edge with another end of that direction
+-- the edge with n as that endpoint
 abbrev pub with_end : {E Ix : Type 0} → Direction → Edge E Ix → ℕ → Edge E Ix
 with_end Outgoing x n = record x { parent = n }
 with_end Incoming x n = record x { child = n }
 
--- the edge with its end renamed
+-- the edge with that endpoint renamed
 abbrev pub with_end_renamed : {E Ix : Type 0} → Direction → (from to : ℕ) → Edge E Ix → Edge E Ix
 with_end_renamed dir from to x = with_end dir x (renamed from to (end_at dir x))
 
@@ -64,20 +64,20 @@ with_end_renamed dir from to x = with_end dir x (renamed from to (end_at dir x))
 abbrev pub with_lists_emptied : {N Ix : Type 0} → (end : ℕ) → Node N Ix → Node N Ix
 with_lists_emptied end x = record x { first_out = end; first_in = end }
 
--- the lists of that direction, one for each node
+-- the lists in that direction, one for each node
 abbrev pub lists_at : {N E : Type 0} → Direction → Graph N E → List (List ℕ)
 lists_at Outgoing g = g.out_lists
 lists_at Incoming g = g.in_lists
 
--- the first edge of each node's list of that direction
+-- the first edge of each node's list in that direction
 abbrev pub firsts_of : {N Ix : Type 0} → Direction → List (Node N Ix) → List ℕ
 firsts_of dir nodes = map (raw_first dir) nodes
 
--- the edge after each edge in its list of that direction
+-- for each edge, the edge after it in its list in that direction
 abbrev pub nexts_of : {E Ix : Type 0} → Direction → List (Edge E Ix) → List ℕ
 nexts_of dir edges = map (raw_next dir) edges
 
--- for each edge the end in whose list of that direction it stands
+-- for each edge, the endpoint whose list in that direction has it
 abbrev pub ends_of : {E Ix : Type 0} → Direction → List (Edge E Ix) → List ℕ
 ends_of dir edges = map (end_at dir) edges
 
@@ -89,7 +89,7 @@ enters edges n e = slice_index (ends_of Incoming edges) e == n
 abbrev pub list_from : {E Ix : Type 0} → Direction → List (Edge E Ix) → ℕ → List ℕ
 list_from dir edges first = follow (nexts_of dir edges) (length (nexts_of dir edges)) first
 
--- the lists of all nodes, by following the links
+-- the lists of all nodes, found by following the links
 abbrev pub lists_from : {N E Ix : Type 0} → Direction → List (Node N Ix) → List (Edge E Ix) → List (List ℕ)
 lists_from dir nodes edges = linked_lists (firsts_of dir nodes) (nexts_of dir edges)
 
@@ -104,7 +104,7 @@ pub record KeepsEdges {E Ix : Type 0} (dir : Direction) (old new : List (Edge E 
   pub ends : (d : Direction) → ends_of d new ≡ ends_of d old
   pub nexts : nexts_of (other dir) new ≡ nexts_of (other dir) old
 
--- what `redirect` asks of its caller
+-- the precondition of `redirect`
 pub record IsReady {N E Ix : Type 0} (end : ℕ) (dir : Direction) (nodes : List (Node N Ix)) (edges : List (Edge E Ix))
     (old : ℕ) : Type 0 where
   pub edge : old < length edges
@@ -115,13 +115,13 @@ pub record IsReady {N E Ix : Type 0} (end : ℕ) (dir : Direction) (nodes : List
       Contains (list_from dir edges first) old
   pub few : length edges ≤ end
 
--- the list of that direction that the edge stands in is the node's, and begins with `first`
+-- the list in that direction that has the edge e is that of `node`, and begins with `first`
 pub record IsHead {N E Ix : Type 0} (dir : Direction) (nodes : List (Node N Ix)) (edges : List (Edge E Ix))
     (e node first : ℕ) : Type 0 where
   pub node_is : node ≡ slice_index (ends_of dir edges) e
   pub first_is : first ≡ slice_index (firsts_of dir nodes) (slice_index (ends_of dir edges) e)
 
--- the link to old leads to new
+-- the link to old is replaced by a link to new
 abbrev pub Redirects : {N E Ix : Type 0}
     → Direction → List (Node N Ix) → List (Edge E Ix) → (old new : ℕ) → List (Node N Ix) → List (Edge E Ix) → Type 0
 Redirects dir nodes edges old new nodes' edges' =
@@ -129,20 +129,20 @@ Redirects dir nodes edges old new nodes' edges' =
     Redirected (list_from dir edges (slice_index (firsts_of dir nodes) n)) n old new (firsts_of dir nodes)
     (nexts_of dir edges) (firsts_of dir nodes') (nexts_of dir edges')
 
--- what `redirect` promises: the link to old leads to new, and nothing else changed
+-- the postcondition of `redirect`: the link to old is replaced by a link to new, and nothing else changes
 pub record IsRedirected {N E Ix : Type 0} (dir : Direction) (nodes : List (Node N Ix)) (edges : List (Edge E Ix))
     (old new : ℕ) (nodes' : List (Node N Ix)) (edges' : List (Edge E Ix)) : Type 0 where
   pub links : Redirects dir nodes edges old new nodes' edges'
   pub keeps : KeepsNodes dir nodes nodes'
   pub keeps_edges : KeepsEdges dir edges edges'
 
--- the first links of a and b lead to the edge e, and the nodes have their weights and their other links
+-- e is now the first edge in the out list of a and in the in list of b, and nothing else of the nodes changed
 pub record AreLedTo {N Ix : Type 0} (nodes nodes' : List (Node N Ix)) (a b e : ℕ) : Type 0 where
   pub weights : map weight_of nodes' ≡ map weight_of nodes
   pub outs : firsts_of Outgoing nodes' ≡ slice_set (firsts_of Outgoing nodes) a e
   pub ins : firsts_of Incoming nodes' ≡ slice_set (firsts_of Incoming nodes) b e
 
--- what is stored of an edge from a to b that goes first in their lists
+-- the stored edge from a to b that is put first in their lists
 abbrev pub edge_put_first : {N E Ix : Type 0} → List (Node N Ix) → (a b : ℕ) → E → Edge E Ix
 edge_put_first nodes a b w = record {
   weight = w;
@@ -152,13 +152,13 @@ edge_put_first nodes a b w = record {
   next_in = slice_index (firsts_of Incoming nodes) b;
 }
 
--- what `thread` promises: the list is threaded as that of n
-pub record Threads {N E Ix : Type 0} (end : ℕ) (dir : Direction) (nodes : List (Node N Ix)) (edges : List (Edge E Ix))
+-- the postcondition of `relink`: the list is linked as that of n
+pub record Relinks {N E Ix : Type 0} (end : ℕ) (dir : Direction) (nodes : List (Node N Ix)) (edges : List (Edge E Ix))
     (n : ℕ) (list : List ℕ) (nodes' : List (Node N Ix)) (edges' : List (Edge E Ix)) : Type 0 where
   pub first : firsts_of dir nodes' ≡ slice_set (firsts_of dir nodes) n (first_of end list)
-  pub nexts : Rethreads end list (nexts_of dir edges) (nexts_of dir edges')
+  pub nexts : Relinked end list (nexts_of dir edges) (nexts_of dir edges')
 
--- the list of that direction of the two that are given for a node
+-- of a node's two lists, the one in that direction
 abbrev pub order_at : Direction → List ℕ × List ℕ → List ℕ
 order_at Outgoing p = p.0
 order_at Incoming p = p.1

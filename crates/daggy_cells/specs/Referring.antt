@@ -1,4 +1,4 @@
--- What a reference to an edge tells.
+-- What a reference to an edge holds.
 use Rattle.std.specs.Prelude.{ℕ}
 use Rattle.daggy_base.specs.Graph.{Edge as PlainEdge}
 use Rattle.daggy_cells.specs.declared.reference.EdgeReference.{EdgeReference}

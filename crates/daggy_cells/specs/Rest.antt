@@ -1,4 +1,4 @@
--- What iterators have left.
+-- What iterators still have to yield.
 use Rattle.std.specs.Prelude.{ℕ, ◌≤◌, List, length, slice_get}
 use Rattle.std.specs.List.{filter_map}
 use Rattle.std.specs.Option.{option_map}
@@ -12,7 +12,7 @@ use Rattle.daggy_cells.specs.Fields.{nexts_of, list_from, plain}
 abbrev pub edges_left : {E Ix : Type 0} → Direction → List (Edge E Ix) → ℕ → List (ℕ × PlainEdge E)
 edges_left dir edges e = filter_map (λ i. option_map (λ x. (i, plain x)) (slice_get edges i)) (list_from dir edges e)
 
--- the links thread a list from e on, and there is an index for each edge
+-- the links form a list from e on, and there are no more edges than indices
 pub record IsOnList {E Ix : Type 0} (end : ℕ) (dir : Direction) (edges : List (Edge E Ix)) (e : ℕ) : Type 0 where
   pub linked : IsLinkedList end (nexts_of dir edges) e (list_from dir edges e)
   pub few : length edges ≤ end

@@ -15,7 +15,7 @@ pub struct Node<N, Ix: IndexType = DefaultIx> {
     pub(crate) first_in: Link<Ix>,
 }
 
-/// An edge as it is stored: its weight, its ends, and the edge after it in each of its lists.
+/// An edge as it is stored: its weight, its endpoints, and the edge after it in each of its lists.
 #[derive(Clone, Debug, Drop)]
 pub struct Edge<E, Ix: IndexType = DefaultIx> {
     /// The weight of the edge.
@@ -27,7 +27,7 @@ pub struct Edge<E, Ix: IndexType = DefaultIx> {
 }
 
 impl<N, Ix: IndexType> Node<N, Ix> {
-    /// The first edge of those that leave the node, or of those that enter it, or `end`.
+    /// The first edge of the node's out list or in list, or `end` if that list is empty.
     #[inline]
     pub fn next_edge(&self, dir: Direction) -> EdgeIndex<Ix>
         ensures { Ix.number result ≡ raw_first dir self.now }
@@ -53,8 +53,8 @@ impl<E, Ix: IndexType> Edge<E, Ix> {
         self.child.node()
     }
 
-    /// The edge after this one among those that leave its source, or among those that enter its
-    /// target, or `end`.
+    /// The edge after this one in the out list of its source, or in the in list of its target, or
+    /// `end` if it is the last.
     #[inline]
     pub fn next_edge(&self, dir: Direction) -> EdgeIndex<Ix>
         ensures { Ix.number result ≡ raw_next dir self.now }

@@ -1,4 +1,4 @@
-//! The cells of the stores: nodes and edges with links to each other.
+//! What the stores are made of: nodes and edges with links between them.
 #![tactic(auto)]
 
 pub mod cell;

@@ -1,4 +1,4 @@
-//! The links between stored nodes and edges, and changes to them, for the stores that keep them.
+//! The links between stored nodes and edges, and the changes that stores make to them.
 ghost use Rattle.std.specs.Prelude.{◌≡◌, ◌≢◌, ℕ, ◌<◌, ◌≤◌, ◌↔◌, length, map, slice_get, slice_set};
 ghost use Rattle.std.specs.Prelude.{slice_index, Contains, Some};
 ghost use Rattle.std.specs.List.{find};
@@ -7,12 +7,12 @@ ghost use Rattle.daggy_base.specs.declared.index.Direction.TheVariants.{Outgoing
 ghost use Rattle.daggy_base.specs.Cursor.{after};
 ghost use Rattle.daggy_base.specs.Removal.{renamed};
 ghost use Rattle.daggy_base.specs.Orders.{numbers_of};
-ghost use Rattle.daggy_cells.specs.Links.{IsLinkedList, CanThread};
+ghost use Rattle.daggy_cells.specs.Links.{IsLinkedList, CanLink};
 ghost use Rattle.daggy_cells.specs.Raw.{raw_first, raw_next};
 ghost use Rattle.daggy_cells.specs.Fields.{weight_of, plain_edge, with_first, end_at, with_next};
 ghost use Rattle.daggy_cells.specs.Fields.{with_end, with_end_renamed, firsts_of, nexts_of};
 ghost use Rattle.daggy_cells.specs.Fields.{ends_of, list_from, with_lists_emptied, KeepsNodes};
-ghost use Rattle.daggy_cells.specs.Fields.{KeepsEdges, IsReady, IsHead, IsRedirected, Threads};
+ghost use Rattle.daggy_cells.specs.Fields.{KeepsEdges, IsReady, IsHead, IsRedirected, Relinks};
 ghost use Rattle.daggy_cells.specs.Fields.{order_at, node_with, edge_with, enters, AreLedTo};
 ghost use Rattle.daggy_cells.specs.Fields.{edge_put_first};
 ghost use Rattle.daggy_cells.specs.Rest.{IsOnList};
@@ -67,7 +67,7 @@ pub fn set_first<N, Ix: IndexType>(x: &mut Node<N, Ix>, dir: Direction, e: Link<
     }
 }
 
-/// A stored edge with its ends, and with the edges after it in its two lists.
+/// A stored edge with these endpoints, and with the edges after it in its two lists.
 #[inline]
 pub fn new_edge<E, Ix: IndexType>(
     weight: E,
@@ -93,7 +93,7 @@ pub fn new_edge<E, Ix: IndexType>(
     }
 }
 
-/// An edge with the ends and the links of `x`.
+/// An edge with the endpoints and the links of `x`.
 #[inline]
 pub fn edge_like<E, W, Ix: IndexType>(x: &Edge<E, Ix>, weight: W) -> Edge<W, Ix>
     ensures { result ≡ edge_with x.now weight }
@@ -131,7 +131,7 @@ pub fn set_next<E, Ix: IndexType>(x: &mut Edge<E, Ix>, dir: Direction, e: Link<I
 
 /// The link to the node whose list in direction `dir` holds the edge.
 #[inline]
-pub fn end<E, Ix: IndexType>(x: &Edge<E, Ix>, dir: Direction) -> Link<Ix>
+pub fn endpoint<E, Ix: IndexType>(x: &Edge<E, Ix>, dir: Direction) -> Link<Ix>
     ensures { result ≡ end_at dir x.now }
 {
     match dir {
@@ -141,7 +141,7 @@ pub fn end<E, Ix: IndexType>(x: &Edge<E, Ix>, dir: Direction) -> Link<Ix>
 }
 
 #[inline]
-fn set_end<E, Ix: IndexType>(x: &mut Edge<E, Ix>, dir: Direction, n: Link<Ix>)
+fn set_endpoint<E, Ix: IndexType>(x: &mut Edge<E, Ix>, dir: Direction, n: Link<Ix>)
     ensures { x.new ≡ with_end dir x.old n }
 {
     match dir {
@@ -150,7 +150,7 @@ fn set_end<E, Ix: IndexType>(x: &mut Edge<E, Ix>, dir: Direction, n: Link<Ix>)
     }
 }
 
-/// Puts the edge `e` first in the out list of `a` and in the in list of `b`, and returns the cell
+/// Puts the edge `e` first in the out list of `a` and in the in list of `b`, and returns the edge
 /// to store.
 #[inline]
 pub fn put_first<N, E, Ix: IndexType>(
@@ -224,7 +224,7 @@ pub fn find_to<E, Ix: IndexType>(
             return None;
         }
         let x = &edges[i];
-        if end(x, Direction::Incoming).index() == child {
+        if endpoint(x, Direction::Incoming).index() == child {
             return Some(e);
         }
         e = next(x, Direction::Outgoing);
@@ -253,13 +253,13 @@ impl<Ix: IndexType> ListHead<Ix> {
         requires node { slice_index (ends_of dir edges.now.items) e < length nodes.now.items }
         ensures { IsHead dir nodes.now.items edges.now.items e result.node result.first }
     {
-        let node = end(&edges[e.index()], dir);
+        let node = endpoint(&edges[e.index()], dir);
         let first = first(&nodes[node.index()], dir);
         ListHead { node, first }
     }
 
-    /// The head of the same list after the edge `e` was taken out of its own list, which may be
-    /// another one. `next` is the edge that followed `e` there, or `end`.
+    /// The head of this list after the edge `e` is taken out of its list, which may be this one or
+    /// another. `next` is the edge after `e` there, or `end`.
     #[inline]
     pub fn without(self, e: Link<Ix>, next: Link<Ix>) -> Self
         ensures node { result.node ≡ self.node }
@@ -308,7 +308,7 @@ pub fn redirect<N, E, Ix: IndexType>(
 
 /// Makes `to` the endpoint of all edges of the list that begins with `first`, which are those of
 /// the node `from`.
-pub fn reown<E, Ix: IndexType>(
+pub fn reassign<E, Ix: IndexType>(
     edges: &mut Vec<Edge<E, Ix>>,
     dir: Direction,
     first: Link<Ix>,
@@ -331,13 +331,13 @@ pub fn reown<E, Ix: IndexType>(
             return;
         }
         let x = &mut edges[i];
-        set_end(x, dir, to);
+        set_endpoint(x, dir, to);
         e = next(x, dir);
     }
 }
 
 /// Links the edges of `list`, in this order, as the list of node `n` in direction `dir`.
-pub fn thread<N, E, Ix: IndexType>(
+pub fn relink<N, E, Ix: IndexType>(
     nodes: &mut Vec<Node<N, Ix>>,
     edges: &mut Vec<Edge<E, Ix>>,
     dir: Direction,
@@ -345,8 +345,8 @@ pub fn thread<N, E, Ix: IndexType>(
     list: &[EdgeIndex<Ix>],
 )
     requires node { n < length nodes.old.items }
-    requires list { CanThread (length edges.old.items) (map Ix.number list.now) }
-    ensures links { Threads Ix.greatest dir nodes.old.items edges.old.items n
+    requires list { CanLink (length edges.old.items) (map Ix.number list.now) }
+    ensures links { Relinks Ix.greatest dir nodes.old.items edges.old.items n
         (map Ix.number list.now) nodes.new.items edges.new.items }
     ensures nodes { KeepsNodes dir nodes.old.items nodes.new.items }
     ensures edges { KeepsEdges dir edges.old.items edges.new.items }
@@ -363,8 +363,8 @@ pub fn thread<N, E, Ix: IndexType>(
     set_first(&mut nodes[n], dir, after);
 }
 
-/// Links both lists of the node `n` in these orders, the out list and the in list.
-pub fn thread_both<N, E, Ix: IndexType>(
+/// Links the out list and the in list of the node `n` in these orders.
+pub fn relink_both<N, E, Ix: IndexType>(
     nodes: &mut Vec<Node<N, Ix>>,
     edges: &mut Vec<Edge<E, Ix>>,
     n: usize,
@@ -372,19 +372,19 @@ pub fn thread_both<N, E, Ix: IndexType>(
 )
     requires node { n < length nodes.old.items }
     requires lists { (dir : Direction)
-        → CanThread (length edges.old.items) (order_at dir (numbers_of Ix.number order.now)) }
+        → CanLink (length edges.old.items) (order_at dir (numbers_of Ix.number order.now)) }
     ensures links { (dir : Direction)
-        → Threads Ix.greatest dir nodes.old.items edges.old.items n
+        → Relinks Ix.greatest dir nodes.old.items edges.old.items n
         (order_at dir (numbers_of Ix.number order.now)) nodes.new.items edges.new.items }
     ensures nodes { map weight_of nodes.new.items ≡ map weight_of nodes.old.items }
     ensures edges { map plain_edge edges.new.items ≡ map plain_edge edges.old.items }
 {
-    thread(nodes, edges, Direction::Outgoing, n, order.0.as_slice());
-    thread(nodes, edges, Direction::Incoming, n, order.1.as_slice());
+    relink(nodes, edges, Direction::Outgoing, n, order.0.as_slice());
+    relink(nodes, edges, Direction::Incoming, n, order.1.as_slice());
 }
 
 /// Empties every list.
-pub fn unlink_all<N, Ix: IndexType>(nodes: &mut Vec<Node<N, Ix>>)
+pub fn clear_lists<N, Ix: IndexType>(nodes: &mut Vec<Node<N, Ix>>)
     ensures { nodes.new.items ≡ map (with_lists_emptied Ix.greatest) nodes.old.items }
 {
     let end = Link::end();

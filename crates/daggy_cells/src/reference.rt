@@ -1,4 +1,4 @@
-//! Edges as a graph lends them.
+//! References to the edges of a graph.
 ghost use Rattle.std.specs.Prelude.{◌≡◌};
 ghost use Rattle.daggy_cells.specs.Referring.{referred};
 
@@ -6,9 +6,10 @@ use daggy_base::index::{DefaultIx, EdgeIndex, IndexType, NodeIndex};
 use std::alloc::AllocError;
 use std::fmt;
 
-/// An edge of a graph: its index, its ends and its weight.
+/// A reference to an edge of a graph: its index, its endpoints and its weight.
 pub struct EdgeReference<'a, E, Ix = DefaultIx> {
-    // No typed index stands here, so that a function can take a reference by value.
+    // The fields are plain indices rather than typed ones, so that a function can take a reference
+    // by value.
     id: Ix,
     source: Ix,
     target: Ix,
@@ -16,8 +17,7 @@ pub struct EdgeReference<'a, E, Ix = DefaultIx> {
 }
 
 impl<'a, E, Ix: IndexType> EdgeReference<'a, E, Ix> {
-    /// The reference to an edge of this index, these ends and this weight, for stores that lend
-    /// their edges.
+    /// A reference to an edge with this index, these endpoints and this weight. For stores.
     #[inline]
     pub fn from_parts(
         id: EdgeIndex<Ix>,
@@ -47,7 +47,7 @@ impl<'a, E, Ix: IndexType> EdgeReference<'a, E, Ix> {
         EdgeIndex::new(self.id.index())
     }
 
-    /// The node that the edge leaves, whichever list it was found in.
+    /// The node that the edge leaves, also if it was found in an in list.
     #[inline]
     pub fn source(&self) -> NodeIndex<Ix>
         ensures { result ≡ self.now.source }
@@ -63,7 +63,7 @@ impl<'a, E, Ix: IndexType> EdgeReference<'a, E, Ix> {
         NodeIndex::new(self.target.index())
     }
 
-    /// The weight of the edge, which can be kept for as long as the graph is lent.
+    /// The weight of the edge. It borrows the graph, not this reference.
     #[inline]
     pub fn weight(&self) -> &'a E
         ensures { result.now ≡ self.now.weight.now }

@@ -34,7 +34,7 @@ edge_cursor_type N E Ix S m t =
     (record { KIND = t.KIND; node_written = t.node_written; edge_written = t.edge_written })
     (record { graph = t.graph; looks = t.looks })
 
--- the cursor behind the node n, with this weight there
+-- the cursor after the node n, with this weight at n
 abbrev pub behind_node : {N E Ix S : Type 0} → NodeWeightsMut N E Ix S → ℕ → N → NodeWeightsMut N E Ix S
 behind_node c n w = record {
   dag = record {

@@ -225,7 +225,7 @@ where
     ///
     /// # Errors
     ///
-    /// `NodeError::Memory` with the weight if an allocation fails; the dag is unchanged.
+    /// Returns `NodeError::Memory` with the weight if an allocation fails; the dag is unchanged.
     #[inline]
     pub fn add_node(&mut self, weight: N) -> Result<NodeIndex<Ix>, NodeError<N>>
         requires { node_count_of self.old.graph < Ix.greatest }
@@ -243,9 +243,9 @@ where
     ///
     /// # Errors
     ///
-    /// `EdgeError::WouldCycle` if `b` already reaches `a`, so that the edge would close a cycle.
-    /// This is decided first, and does not allocate. `EdgeError::Memory` if an allocation fails.
-    /// Each error holds the weight, and the dag is unchanged.
+    /// Returns `EdgeError::WouldCycle` if `b` already reaches `a`, so that the edge would close a
+    /// cycle; this is decided first, and does not allocate. Returns `EdgeError::Memory` if an
+    /// allocation fails. Each error holds the weight, and the dag is unchanged.
     ///
     /// # Complexity
     ///
@@ -261,7 +261,7 @@ where
     /// let reap = dag.add_node("reap")?;
     /// let days = dag.add_edge(sow, reap, 90)?;
     /// assert!(rt; dag.edge_weight(days) == Some(&90));
-    /// // It would close a cycle, so the weight comes back.
+    /// // The edge would close a cycle; the error returns its weight.
     /// assert!(rt; dag.add_edge(reap, sow, 5) == Err(EdgeError::WouldCycle(WouldCycle(5))));
     /// ```
     #[inline]
@@ -358,7 +358,7 @@ where
     ///
     /// # Errors
     ///
-    /// `ChildError::Memory` with both weights if an allocation fails; the dag is unchanged.
+    /// Returns `ChildError::Memory` with both weights if an allocation fails; the dag is unchanged.
     ///
     /// # Examples
     ///
@@ -403,7 +403,7 @@ where
     ///
     /// # Errors
     ///
-    /// `ChildError::Memory` with both weights if an allocation fails; the dag is unchanged.
+    /// Returns `ChildError::Memory` with both weights if an allocation fails; the dag is unchanged.
     #[inline]
     pub fn add_parent(
         &mut self,

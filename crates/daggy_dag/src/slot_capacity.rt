@@ -111,8 +111,8 @@ fn put_edges<E: Drop, Ix: IndexType>(old: Vec<Edge<E, Ix>>, slots: &mut Vec<Edge
 fn edge_slot<E, Ix: IndexType>(x: Edge<E, Ix>) -> Edge<Option<E>, Ix>
     ensures { result ≡ slotted_edge x }
 {
-    let parent = links::end(&x, Direction::Outgoing);
-    let child = links::end(&x, Direction::Incoming);
+    let parent = links::endpoint(&x, Direction::Outgoing);
+    let child = links::endpoint(&x, Direction::Incoming);
     let next_out = links::next(&x, Direction::Outgoing);
     let next_in = links::next(&x, Direction::Incoming);
     links::new_edge(Some(x.weight), parent, child, next_out, next_in)

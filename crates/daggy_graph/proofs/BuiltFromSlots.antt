@@ -1,4 +1,4 @@
--- What one more node or edge makes of a graph that given slots make.
+-- One more node or edge in a graph that is made of given slots.
 use Rattle.std.proofs.Common.{◌≡◌, ℕ, ◌<◌, List, [], ◌∷◌, ◌++◌, map, length, Option, Some, IsSome, refl, sym, ap, subst}
 use Rattle.std.proofs.Common.{◌∙◌, arith}
 use Rattle.std.proofs.lemmas.List.{length-map}

@@ -1,4 +1,4 @@
--- The last node in the place of a node that has no edges.
+-- Moving the last node into the index of a node without edges.
 use Rattle.std.proofs.Common.{◌≡◌, ◌≢◌, ◌↔◌, ℕ, suc, ◌-◌, ◌<◌, ◌≤◌, List, [], ◌∷◌, map, length, get_or, set, Option}
 use Rattle.std.proofs.Common.{Some, None, slice_get, unwrap_or, refl, sym, ap, subst, ◌∙◌, inl, inr, arith, Contains}
 use Rattle.std.specs.List.{swap_remove}
@@ -183,16 +183,16 @@ Stores-dropped {N} {E} {Ix} {end} nodes edges {g} s i last x i_in long empty =
     }
 
 -- where it is the last node, nothing is renamed
-pub reowned_none : {E Ix : Type 0} (i : ℕ) (es : List (Edge E Ix))
+pub reassigned_none : {E Ix : Type 0} (i : ℕ) (es : List (Edge E Ix))
     → map (with_end_renamed Incoming i i) (map (with_end_renamed Outgoing i i) es) ≡ es
-reowned_none i [] = refl
-reowned_none {E} {Ix} i (x ∷ xs) =
+reassigned_none i [] = refl
+reassigned_none {E} {Ix} i (x ∷ xs) =
     let mk : ℕ → ℕ → Edge E Ix = λ p c. record x { parent = p; child = c } in
     ap (λ p. mk p (renamed i i x.child) ∷ map (with_end_renamed Incoming i i) (map (with_end_renamed Outgoing i i) xs))
     (renamed_itself i x.parent)
     ∙ ap (λ c. mk x.parent c ∷ map (with_end_renamed Incoming i i) (map (with_end_renamed Outgoing i i) xs))
     (renamed_itself i x.child)
-    ∙ ap (λ l. x ∷ l) (reowned_none i xs)
+    ∙ ap (λ l. x ∷ l) (reassigned_none i xs)
 
 pub nexts_kept_out : {E Ix : Type 0} (a b : ℕ) (es : List (Edge E Ix))
     → nexts_of Incoming (map (with_end_renamed Outgoing a b) es) ≡ nexts_of Incoming es
@@ -204,14 +204,14 @@ pub ends_kept_out : {E Ix : Type 0} (a b : ℕ) (es : List (Edge E Ix))
 ends_kept_out a b [] = refl
 ends_kept_out a b (x ∷ xs) = ap (λ l. x.child ∷ l) (ends_kept_out a b xs)
 
--- what `reown` asks, for the list of the node m
-pub reown_ready : {N E Ix : Type 0} {end : ℕ} {nodes : List (Node N Ix)} {edges : List (Edge E Ix)} {g : Graph N E}
+-- what `reassign` asks, for the list of the node m
+pub reassign_ready : {N E Ix : Type 0} {end : ℕ} {nodes : List (Node N Ix)} {edges : List (Edge E Ix)} {g : Graph N E}
     → Stores end nodes edges g → (dir : Direction) (edges' : List (Edge E Ix))
     → nexts_of dir edges' ≡ nexts_of dir edges → ends_of dir edges' ≡ ends_of dir edges
     → {m k : ℕ} {first : ℕ} {x : Node N Ix} → k < length nodes → k ≡ m → x ≡ get_or nodes k x → first ≡ raw_first dir x
     → IsLinkedList end (nexts_of dir edges') first (list_from dir edges' first)
     × ((e : ℕ) → Contains (list_from dir edges' first) e ↔ (slice_get (ends_of dir edges') e ≡ Some m))
-reown_ready {N} {E} {Ix} {end} {nodes} {edges} {g} s dir edges' nexts_same ends_same {m} {k} {first} {x} k_in k_is x_is
+reassign_ready {N} {E} {Ix} {end} {nodes} {edges} {g} s dir edges' nexts_same ends_same {m} {k} {first} {x} k_in k_is x_is
     first_is =
     let at : first ≡ get_or (firsts_of dir nodes) k 0 =
     first_is ∙ ap (raw_first dir) x_is ∙ sym (get_or-map (raw_first dir) nodes k x 0 k_in) in

@@ -1,4 +1,4 @@
--- What other orders of its lists keep of what a graph stores.
+-- What stays of a stored graph when its lists are permuted.
 use Rattle.std.proofs.Common.{◌≡◌, ℕ, List, map, length, Some, is_some, sym, ap, subst, ◌∙◌, arith}
 use Rattle.std.specs.List.{count_by}
 use Rattle.std.proofs.lemmas.List.{length-map}
@@ -11,9 +11,9 @@ use Rattle.daggy_base.proofs.MappedSlots.{count-slots}
 use Rattle.daggy_base.proofs.Orders.{rows_by_full, well_formed_with_orders}
 use Rattle.daggy_cells.specs.declared.cell.Node.{Node}
 use Rattle.daggy_cells.specs.declared.cell.Edge.{Edge}
-use Rattle.daggy_cells.specs.Links.{nth_list, AreLinkedLists, ListsEach, CanThreadAll}
+use Rattle.daggy_cells.specs.Links.{nth_list, AreLinkedLists, ListsEach, CanLinkAll}
 use Rattle.daggy_cells.specs.Fields.{weight_of, plain_edge, firsts_of, nexts_of, ends_of, lists_at, order_at}
-use Rattle.daggy_cells.proofs.ListOrders.{can_thread_all}
+use Rattle.daggy_cells.proofs.ListOrders.{can_link_all}
 use Rattle.daggy_graph.specs.Stored.{Stores}
 use Rattle.daggy_graph.proofs.WellFormedLemmas.{IsWellFormed-stored, end_shown, end_stored}
 
@@ -33,9 +33,9 @@ module _ {N E Ix : Type 0} {end : ℕ} {nodes : List (Node N Ix)} {edges : List 
       ap (λ l. lists_by_slots l (map (λ p. p.1) orders)) s.nodes_are
       ∙ rows_by_full (λ x. x.weight) nodes (map (λ p. p.1) orders) (length-map orders (λ p. p.1) ∙ as_many)
 
-  pub can_thread : (dir : Direction) → CanThreadAll (length edges) (map (order_at dir) orders)
-  can_thread dir =
-      subst (CanThreadAll (length edges)) (rows_same dir) (can_thread_all (with_orders g orders) well_formed
+  pub can_link : (dir : Direction) → CanLinkAll (length edges) (map (order_at dir) orders)
+  can_link dir =
+      subst (CanLinkAll (length edges)) (rows_same dir) (can_link_all (with_orders g orders) well_formed
       (length edges) (ap length s.edges_are ∙ length-map edges plain_edge) dir)
 
   module _ (nodes' : List (Node N Ix)) (edges' : List (Edge E Ix))

@@ -1,4 +1,4 @@
--- What of a stored graph stays where its weights are mapped.
+-- What stays of a stored graph when its weights are mapped.
 use Rattle.std.proofs.Common.{◌≡◌, ℕ, List, map, length, refl, sym, ap, subst, ◌∙◌, arith}
 use Rattle.std.proofs.lemmas.List.{length-map}
 use Rattle.std.specs.Borrow.{Bor}

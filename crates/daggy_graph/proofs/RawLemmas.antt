@@ -1,4 +1,4 @@
--- What the slices of stored nodes and edges tell.
+-- What the slices of stored nodes and edges show.
 use Rattle.std.proofs.Common.{◌≡◌, ℕ, zero, suc, List, [], ◌∷◌, map, get_or, Some, slice_get, refl, sym, ap}
 use Rattle.std.proofs.lemmas.List.{length-map}
 use Rattle.std.proofs.lemmas.Option.{slice_get_within, same_Some, none-some}

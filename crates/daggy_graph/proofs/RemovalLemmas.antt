@@ -1,4 +1,4 @@
--- How an edge is taken out: out of its two lists, and the last edge into its place.
+-- Removing an edge: it is unlinked from its two lists, and the last edge is moved into its index.
 use Rattle.std.proofs.Common.{◌≡◌, ◌≢◌, ℕ, suc, ◌-◌, ◌<◌, ◌≤◌, List, map, length, get_or, set, take, Some, None}
 use Rattle.std.proofs.Common.{slice_get, refl, sym, ap, subst, inl, inr, ◌∙◌, arith, Contains}
 use Rattle.std.proofs.lemmas.Bool.{cases_eq}

@@ -1,4 +1,4 @@
--- What of a stored graph stays where its weights are written.
+-- What stays of a stored graph when its weights are written.
 use Rattle.std.proofs.Common.{◌≡◌, ℕ, List, map, refl, ◌⊎◌, inl, inr}
 use Rattle.std.specs.Borrow.{MutBor}
 use Rattle.daggy_base.specs.declared.index.Direction.{Direction}

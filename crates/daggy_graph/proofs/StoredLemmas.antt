@@ -1,4 +1,4 @@
--- How each change keeps what a graph stores.
+-- Each change keeps the invariant of a stored graph.
 use Rattle.std.proofs.Common.{◌≡◌, ℕ, ◌<◌, List, [], ◌∷◌, ◌++◌, length, get_or, set, Some, refl, sym, ap, subst, ◌∙◌}
 use Rattle.std.proofs.Common.{arith}
 use Rattle.std.proofs.lemmas.List.{length-set, length_push, length-map, map-set, map_push}

@@ -1,4 +1,4 @@
--- What a cursor over weights to write ends as, once the loan of one weight ends.
+-- A cursor over mutable references to weights, after the borrow of one weight ends.
 use Rattle.std.specs.Prelude.{◌+◌, [], Option}
 use Rattle.std.specs.Borrow.{LendsIf, Fml, RattleType, MutBor}
 use mir.Syntax.{named}
@@ -10,7 +10,7 @@ use Rattle.daggy_graph.specs.declared.graph.cursors.EdgeWeightsMut.{EdgeWeightsM
 use Rattle.daggy_graph.specs.contracts.graph.cursors.NodeWeightsMut.{the_row as node_weights_type}
 use Rattle.daggy_graph.specs.contracts.graph.cursors.EdgeWeightsMut.{the_row as edge_weights_type}
 
--- the type of a cursor, whose lifetime is the second of the signature
+-- the type of a cursor over the weights of nodes, with the second lifetime of the signature
 abbrev pub node_cursor_type : (N E Ix : RattleType) → IndexMembers Ix.Denot → RattleType
 node_cursor_type N E Ix m =
     node_weights_type (record { mir = named 1; lft = [] }) N E Ix
@@ -28,7 +28,7 @@ edge_cursor_type N E Ix m =
     (record { partial_cmp = m.partial_cmp }) (record { hash_input = m.hash_input })
     (record { debug_output = m.debug_output })
 
--- the cursor one step further, with this weight at the index that it was at
+-- the cursor one step further, with this weight written at the index that it was at
 abbrev pub nodes_moved : {N E Ix : Type 0} → NodeWeightsMut N E Ix → N → NodeWeightsMut N E Ix
 nodes_moved c w = record {
   graph = record {
@@ -39,7 +39,7 @@ nodes_moved c w = record {
   index = c.index + 1;
 }
 
--- the same of a cursor over the weights of edges
+-- the same for a cursor over the weights of edges
 abbrev pub edges_moved : {N E Ix : Type 0} → EdgeWeightsMut N E Ix → E → EdgeWeightsMut N E Ix
 edges_moved c w = record {
   graph = record {
@@ -51,8 +51,8 @@ edges_moved c w = record {
 }
 
 module _ (N E Ix : RattleType) (m : IndexMembers Ix.Denot) where
-  -- once the loan of the next node ends, the cursor is one step further and the node has the weight that was left; at
-  -- `None` all is as it was
+  -- once the borrow r of the next node's weight ends, the cursor is one step further, and the node has the last weight
+  -- written through r; at `None` nothing changes
   abbrev pub nodes_lend_next : MutBor (NodeWeightsMut N.Denot E.Denot Ix.Denot) → Option (MutBor N.Denot) → Fml
   nodes_lend_next c r = LendsIf (node_cursor_type N E Ix m) N c r (nodes_moved c.now) c.now
 

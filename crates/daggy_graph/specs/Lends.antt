@@ -1,4 +1,4 @@
--- What a graph ends as, where a `&mut` to one of its weights is returned.
+-- A graph after the borrow of one of its weights ends.
 use Rattle.std.specs.Prelude.{Option}
 use Rattle.std.specs.Borrow.{Lends, LendsIf, Fml, RattleType, MutBor}
 use Rattle.daggy_base.specs.State.{State, with_graph}
@@ -18,7 +18,7 @@ module _ (N E Ix : RattleType) (m : IndexMembers Ix.Denot) (s : MutBor (State N.
   abbrev pub lends_node : MutBor N.Denot → Fml
   lends_node r = Lends (graph_type N E Ix m) N s r (λ w. with_graph s.now (with_node_weight s.now.graph (m.number n) w))
 
-  -- the same where r is a reference, and at `None` the graph stays as it is
+  -- the same if r is `Some`; at `None` nothing changes
   abbrev pub lends_node_if : Option (MutBor N.Denot) → Fml
   lends_node_if r =
       LendsIf (graph_type N E Ix m) N s r (λ w. with_graph s.now (with_node_weight s.now.graph (m.number n) w)) s.now
@@ -28,7 +28,7 @@ module _ (N E Ix : RattleType) (m : IndexMembers Ix.Denot) (s : MutBor (State N.
   abbrev pub lends_edge : MutBor E.Denot → Fml
   lends_edge r = Lends (graph_type N E Ix m) E s r (λ w. with_graph s.now (with_edge_weight s.now.graph (m.number e) w))
 
-  -- the same where r is a reference, and at `None` the graph stays as it is
+  -- the same if r is `Some`; at `None` nothing changes
   abbrev pub lends_edge_if : Option (MutBor E.Denot) → Fml
   lends_edge_if r =
       LendsIf (graph_type N E Ix m) E s r (λ w. with_graph s.now (with_edge_weight s.now.graph (m.number e) w)) s.now

@@ -1,4 +1,4 @@
--- How a graph is stored.
+-- How a compact graph is stored.
 use Rattle.std.specs.Prelude.{◌≡◌, ℕ, ◌≤◌, List, [], length, map}
 use Rattle.daggy_base.specs.Graph.{Graph}
 use Rattle.std.specs.List.{swap_remove}
@@ -12,7 +12,7 @@ use Rattle.daggy_base.specs.declared.index.Direction.{Direction}
 use Rattle.daggy_base.specs.declared.index.Direction.TheVariants.{Outgoing, Incoming}
 use Rattle.daggy_cells.specs.Fields.{weight_of, plain_edge, lists_at, firsts_of, nexts_of, ends_of, lists_from}
 
--- the graph that the nodes and the edges store
+-- the graph that these nodes and edges store
 abbrev pub stored_graph : {N E Ix : Type 0} → List (Node N Ix) → List (Edge E Ix) → Graph N E
 stored_graph nodes edges =
     record {
@@ -24,7 +24,7 @@ stored_graph nodes edges =
       vacant_edges = [];
     }
 
--- this graph is what the nodes and the edges store
+-- these nodes and edges store the graph g
 pub record Stores {N E Ix : Type 0} (end : ℕ) (nodes : List (Node N Ix)) (edges : List (Edge E Ix))
     (g : Graph N E) : Type 0 where
   pub nodes_are : g.nodes ≡ map weight_of nodes
@@ -36,11 +36,11 @@ pub record Stores {N E Ix : Type 0} (end : ℕ) (nodes : List (Node N Ix)) (edge
   pub few_nodes : length nodes ≤ end
   pub few_edges : length edges ≤ end
 
--- once the last edge takes the place of e, what is stored is the graph without e
+-- once the last edge is moved to the index e, the nodes and edges store the graph without e
 abbrev pub IsDetached : {N E Ix : Type 0} → (end : ℕ) → Graph N E → ℕ → List (Node N Ix) → List (Edge E Ix) → Type 0
 IsDetached {N} {E} {Ix} end g e nodes edges =
     (x : Edge E Ix) → Stores end nodes (swap_remove edges e x) (without_edge Compact g e)
 
--- what is stored is the graph that these slots make
+-- the nodes and edges store the graph made of these slots
 abbrev pub IsBuilt : {N E Ix : Type 0} → (end : ℕ) → List (Node N Ix) → List (Edge E Ix) → Type 0
 IsBuilt end nodes edges = Stores end nodes edges (graph_of_slots (map weight_of nodes) (map plain_edge edges))

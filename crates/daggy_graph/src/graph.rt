@@ -49,8 +49,7 @@ use std::marker::Model;
 /// Its nodes are numbered from 0 to their count, and so are its edges. A removal moves the last
 /// node or edge into the freed index. All operations are O(1) unless stated otherwise.
 ///
-/// `Ix` is the integer type of the indices. It bounds how many nodes and how many edges there may
-/// be.
+/// `Ix` is the integer type of the indices. It limits the number of nodes and the number of edges.
 #[derive(Drop)]
 pub struct DiGraph<N, E, Ix: IndexType = DefaultIx> {
     nodes: Vec<Node<N, Ix>>,
@@ -103,7 +102,7 @@ impl<N, E, Ix: IndexType> DiGraph<N, E, Ix> {
     ///
     /// # Errors
     ///
-    /// `Memory` with the weight if an allocation fails; the graph is unchanged.
+    /// Returns `Memory` with the weight if an allocation fails; the graph is unchanged.
     ///
     /// # Complexity
     ///
@@ -129,7 +128,7 @@ impl<N, E, Ix: IndexType> DiGraph<N, E, Ix> {
     ///
     /// # Errors
     ///
-    /// `Memory` with the weight if an allocation fails; the graph is unchanged.
+    /// Returns `Memory` with the weight if an allocation fails; the graph is unchanged.
     ///
     /// # Complexity
     ///
@@ -175,7 +174,7 @@ impl<N, E, Ix: IndexType> DiGraph<N, E, Ix> {
         }
     }
 
-    /// The first edge of those that leave the node, or of those that enter it, or `end`.
+    /// The first edge of the node's out list or in list, or `end` if that list is empty.
     #[inline]
     pub fn first_edge(&self, n: NodeIndex<Ix>, dir: Direction) -> EdgeIndex<Ix>
         ensures { Ix.number result
@@ -187,8 +186,8 @@ impl<N, E, Ix: IndexType> DiGraph<N, E, Ix> {
         }
     }
 
-    /// The edge after this one among those that leave its parent, or among those that enter its
-    /// child, or `end`.
+    /// The edge after this one in the out list of its parent, or in the in list of its child, or
+    /// `end` if it is the last.
     #[inline]
     pub fn next_edge(&self, e: EdgeIndex<Ix>, dir: Direction) -> EdgeIndex<Ix>
         requires { HasEdge self.now.graph (Ix.number e) }

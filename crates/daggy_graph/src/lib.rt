@@ -1,4 +1,4 @@
-//! The compact store: a graph whose nodes and edges fill their indices without gaps.
+//! The compact store: a graph whose nodes, and whose edges, are numbered without gaps.
 #![tactic(auto)]
 
 pub mod graph;

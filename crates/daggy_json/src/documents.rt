@@ -51,7 +51,7 @@ fn write<
 ///
 /// # Errors
 ///
-/// `Memory` if an allocation fails.
+/// Returns `Memory` if an allocation fails.
 ///
 /// # Complexity
 ///
@@ -105,7 +105,7 @@ pub fn stable_to_json<
 ///
 /// # Errors
 ///
-/// The first fault of the value, or `Memory` if an allocation fails.
+/// Returns the first fault of the value, or `Memory` if an allocation fails.
 ///
 /// # Complexity
 ///
@@ -125,13 +125,13 @@ pub fn dag_from_json<
     ensures err { IfErr result
         (λ e. (e ≡ Memory) ⊎ IsRead {N = N} {E = E} Ix.greatest false (ReadsAs F.Fn fn_node)
         (ReadsAs G.Fn fn_edge) (view value.now) (Err e)) }
-    // The document of a dag, if each of its weights is read as it was.
+    // The document of a dag is read as that dag, if each encoded weight decodes only to itself.
     ensures restored { (g : Graph N E) → IsDag Ix.greatest g → IsCompact g
         → IsDocumentOf (ReadsOnly (ReadsAs F.Fn fn_node)) (ReadsOnly (ReadsAs G.Fn fn_edge)) g
         (view value.now)
         → MatchResult result (λ d. d.graph ≡ g) (λ e. e ≡ Memory) }
-    // The document of a dag of encoded weights: it comes back with what each of them is read as,
-    // unless one is refused.
+    // The document of a dag of encoded weights is read with each weight decoded, unless one is
+    // rejected.
     ensures restored_shape { (g : Graph Data Data) → IsDag Ix.greatest g → IsCompact g
         → IsDocumentOf (λ w v. w ≡ v) (λ w v. w ≡ v) g (view value.now)
         → MatchResult result
@@ -161,13 +161,13 @@ pub fn stable_from_json<
     ensures err { IfErr result
         (λ e. (e ≡ Memory) ⊎ IsRead {N = N} {E = E} Ix.greatest true (ReadsAs F.Fn fn_node)
         (ReadsAs G.Fn fn_edge) (view value.now) (Err e)) }
-    // The document of a dag, if each of its weights is read as it was.
+    // The document of a dag is read as that dag, if each encoded weight decodes only to itself.
     ensures restored { (g : Graph N E) → IsDag Ix.greatest g
         → IsDocumentOf (ReadsOnly (ReadsAs F.Fn fn_node)) (ReadsOnly (ReadsAs G.Fn fn_edge)) g
         (view value.now)
         → MatchResult result (λ d. d.graph ≡ trimmed g) (λ e. e ≡ Memory) }
-    // The document of a dag of encoded weights: it comes back with what each of them is read as,
-    // unless one is refused.
+    // The document of a dag of encoded weights is read with each weight decoded, unless one is
+    // rejected.
     ensures restored_shape { (g : Graph Data Data) → IsDag Ix.greatest g
         → IsDocumentOf (λ w v. w ≡ v) (λ w v. w ≡ v) g (view value.now)
         → MatchResult result

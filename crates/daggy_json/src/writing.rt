@@ -14,7 +14,7 @@ use daggy_base::store::Store;
 use serde_json::{Value, json};
 use std::alloc::{AllocError, Global};
 
-// What stands for the weights of the nodes, by ascending index.
+// The encoded weights of the nodes, by ascending index.
 fn write_weights<Ix: IndexType, S: Store<Ix>, F: Fn(&S::NodeWeight) -> Result<Value, AllocError>>(
     alloc: Global,
     store: &S,
@@ -199,7 +199,7 @@ fn assemble(
 ///
 /// # Errors
 ///
-/// `Memory` if an allocation fails.
+/// Returns `Memory` if an allocation fails.
 ///
 /// # Complexity
 ///

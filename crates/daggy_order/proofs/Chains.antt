@@ -1,4 +1,4 @@
--- Chains of nodes that lead to one another, and how a node is put in or taken out.
+-- Chains of linked nodes, and putting in or taking out a node.
 use Rattle.std.proofs.Common.{◌≡◌, ◌≢◌, ℕ, suc, inl, inr, List, [], ◌∷◌, ◌++◌, length, get_or, eqb, refl, sym, ap}
 use Rattle.std.proofs.Common.{subst, ◌∙◌}
 use Rattle.std.proofs.lemmas.Bool.{eq-eqb, ne_eqb, cond-true, cond-false}

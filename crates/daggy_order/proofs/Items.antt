@@ -1,4 +1,4 @@
--- Lists of stored nodes: what is read from them, and what a write changes.
+-- Lists of stored items: what is read from them, and what a write changes.
 use Rattle.std.proofs.Common.{◌≡◌, ◌≢◌, ℕ, ◌<◌, List, length, get_or, set, map, cond, eqb, sym, ap, ◌∙◌}
 use Rattle.std.proofs.lemmas.List.{length-map, get_or-map, get_or-set_same, get_or-set_other}
 use Rattle.std.proofs.Math.ListN.{get_or-map as get_or-mapped}

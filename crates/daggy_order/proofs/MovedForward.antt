@@ -1,4 +1,4 @@
--- A node that is put first, or right before another, where an order stays one.
+-- When an order of a graph stays one after a node is moved to the front, or right before another.
 use Rattle.std.proofs.Common.{◌≡◌, ◌≢◌, ℕ, ◌<◌, ◌≤◌, inl, inr, Bool, true, not, eqb, List, ◌∷◌, ◌++◌}
 use Rattle.std.proofs.Common.{refl, sym, ap, subst, ◌∙◌, arith, append_assoc}
 use Rattle.std.proofs.lemmas.Bool.{cases_eq}

@@ -1,4 +1,4 @@
--- Nodes of a list that are put first in their order.
+-- Moving nodes to the front of a list, in their order.
 use Rattle.std.proofs.Common.{◌≡◌, ℕ, zero, suc, ◌+◌, ◌≤◌, ◌++◌, inl, inr, not, eqb, List, [], ◌∷◌, length, drop}
 use Rattle.std.proofs.Common.{get_or, refl, sym, ap, subst, ◌∙◌, arith}
 use Rattle.std.specs.Prelude.{◌↔◌}

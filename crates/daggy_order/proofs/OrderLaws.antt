@@ -1,4 +1,4 @@
--- Orders of a graph's nodes: what one says of the graph, and which changes of the graph leave one.
+-- Orders of a graph: what an order says about the graph, and which changes of the graph keep it one.
 use Rattle.std.proofs.Common.{◌≡◌, ℕ, zero, suc, ◌-◌, ◌<◌, ◌⊎◌, ◌↔◌, inl, inr, Bool, true, not, eqb, List, [], ◌∷◌}
 use Rattle.std.proofs.Common.{◌++◌, length, map, set, get_or, Option, Some, None, IsSome, refl, sym, ap, subst, ◌∙◌}
 use Rattle.std.proofs.Common.{arith}

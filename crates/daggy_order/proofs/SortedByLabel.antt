@@ -1,4 +1,4 @@
--- Nodes sorted by their labels and put behind another.
+-- Nodes sorted by label and moved to after another one.
 use Rattle.std.proofs.Common.{◌≡◌, ℕ, ◌^◌, inl, inr, List, [], ◌∷◌, ◌++◌, length, get_or, not, refl, sym, ap, subst}
 use Rattle.std.proofs.Common.{◌∙◌, arith}
 use Rattle.std.specs.List.{Contains, filter}

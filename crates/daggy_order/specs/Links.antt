@@ -1,4 +1,4 @@
--- How the nodes of an order lead to one another, and their labels.
+-- The links between the nodes of an order, and their labels.
 use Rattle.std.specs.Prelude.{◌≡◌, ◌≢◌, ℕ, zero, suc, ◌+◌, ◌-◌, ◌<◌, ◌≤◌, ◌==◌, ◌^◌, List, [], ◌∷◌, ◌++◌, length, drop, map}
 use Rattle.std.specs.Prelude.{filter, not, Bool, true, ◌↔◌, slice_index, slice_index_or, Contains, if◌then◌else◌}
 use Rattle.daggy_base.specs.Cursor.{first_of}
@@ -12,19 +12,19 @@ pub record Listed : Type 0 where
   pub labels : List ℕ
   pub capacity : ℕ
 
--- what is stored at an index that no node of the list has
+-- the item stored at the index of a node that is not in the list
 abbrev pub vacant : {I : Type 0} → (end : ℕ) → Item I
 vacant end = record { next = end; previous = end; label = 0 }
 
--- the node after each node
+-- the `next` link of each item
 abbrev pub nexts_of : {I : Type 0} → List (Item I) → List ℕ
 nexts_of items = map (λ x. x.next) items
 
--- the node before each node
+-- the `previous` link of each item
 abbrev pub previous_of : {I : Type 0} → List (Item I) → List ℕ
 previous_of items = map (λ x. x.previous) items
 
--- the label of each node
+-- the label of each item
 abbrev pub labels_of : {I : Type 0} → List (Item I) → List ℕ
 labels_of items = map (λ x. x.label) items
 
@@ -33,43 +33,43 @@ pub record Stored : Type 0 where
   pub nodes : List ℕ
   pub capacity : ℕ
 
--- as many nodes as `count`, each the one that the node before it leads to
+-- `count` nodes along these links, from `from` on
 abbrev pub nodes_from : (end : ℕ) → List ℕ → (from count : ℕ) → List ℕ
 nodes_from end next from zero = []
 nodes_from end next from (suc count) = from ∷ nodes_from end next (slice_index_or next from end) count
 
--- where a node leads, and `end`, which stands before the first node and after the last, leads to `outer`
+-- the link of a node; `end` is a sentinel before the first node and after the last, and its link is `outer`
 abbrev pub neighbor : (end outer : ℕ) → List ℕ → ℕ → ℕ
 neighbor end outer links n = if n == end then outer else slice_index_or links n end
 
--- after a change of where nodes lead, p leads to q, and each other node where it led
+-- the link of p is now q, and every other link is unchanged
 pub record LeadsTo (old new : ℕ → ℕ) (p q : ℕ) : Type 0 where
   pub led : new p ≡ q
   pub others : (k : ℕ) → k ≢ p → new k ≡ old k
 
--- from p over nodes to q, each leads to what follows it, and back to what stands before it
+-- from p along the nodes to q, each is linked to the one after it, and back to the one before it
 abbrev pub IsLinkChain : (next previous : ℕ → ℕ) → (p : ℕ) → List ℕ → (q : ℕ) → Type 0
 IsLinkChain next previous p [] q = (next p ≡ q) × (previous q ≡ p)
 IsLinkChain next previous p (x ∷ xs) q = (next p ≡ x) × (previous x ≡ p) × IsLinkChain next previous x xs q
 
--- what the links of a list keep
+-- the invariant of the links of a list
 pub record AreLinksOf (end : ℕ) (next previous : List ℕ) (first last : ℕ) (nodes : List ℕ) : Type 0 where
   pub chained : IsLinkChain (neighbor end first next) (neighbor end last previous) end nodes end
   pub distinct : AreDistinct (end ∷ nodes)
   pub within : (n : ℕ) → Contains nodes n → n < length previous
 
--- labels that ascend along a list, all above `low` and below `high`
+-- the labels ascend along a list, and all are above `low` and below `high`
 abbrev pub LabelsAscend : (labels : List ℕ) → (low : ℕ) → List ℕ → (high : ℕ) → Type 0
 LabelsAscend labels low [] high = low < high
 LabelsAscend labels low (n ∷ nodes) high =
     (low < slice_index labels n) × LabelsAscend labels (slice_index labels n) nodes high
 
--- labels that ascend along an order, and are 0 for what is not in it
+-- the labels ascend along a list, and are 0 for a node that is not in it
 pub record IsLabelled (labels nodes : List ℕ) : Type 0 where
   pub ascending : LabelsAscend labels 0 nodes (2 ^ 64)
   pub held : (n : ℕ) → 0 < slice_index labels n → Contains nodes n
 
--- a part of a list: `count` nodes, of which the first is `from`
+-- `run` is a part of the list: `count` nodes from `from` on
 pub record IsSegment (end : ℕ) (nodes : List ℕ) (from count : ℕ) (before run behind : List ℕ) : Type 0 where
   pub is : nodes ≡ before ++ (run ++ behind)
   pub counted : length run ≡ count
@@ -82,8 +82,7 @@ pub record HasSegment (end : ℕ) (nodes : List ℕ) (from count : ℕ) : Type 0
   pub behind : List ℕ
   pub is_run : IsSegment end nodes from count before run behind
 
--- labels that ascend along a list but for `count` nodes after a, of which the first is `from`, and `after` what
--- follows the last
+-- the labels ascend along a list, except for the `count` nodes after a, from `from` up to, not including, `after`
 pub record HasGap (end : ℕ) (labels nodes : List ℕ) (a from count after : ℕ) : Type 0 where
   pub before : List ℕ
   pub run : List ℕ
@@ -94,37 +93,37 @@ pub record HasGap (end : ℕ) (labels nodes : List ℕ) (a from count after : �
   pub ends : after ≡ first_of end behind
   pub ascending : LabelsAscend labels 0 (before ++ a ∷ behind) (2 ^ 64)
 
--- labels that ascend along a list but for the last node n, before which stands `last`
+-- the labels ascend along a list, except for its last node n; `last` is the node before n
 pub record HasLast (labels nodes : List ℕ) (last n : ℕ) : Type 0 where
   pub before : List ℕ
   pub is : nodes ≡ before ++ n ∷ []
   pub ends : (ns : List ℕ) (m : ℕ) → before ≡ ns ++ m ∷ [] → last ≡ m
   pub ascending : LabelsAscend labels 0 before (2 ^ 64)
 
--- labels that ascend along a list but for the first node n, after which stands `first`
+-- the labels ascend along a list, except for its first node n; `first` is the node after n
 pub record HasFirst (end : ℕ) (labels nodes : List ℕ) (first n : ℕ) : Type 0 where
   pub behind : List ℕ
   pub is : nodes ≡ n ∷ behind
   pub begins : first ≡ first_of end behind
   pub ascending : LabelsAscend labels 0 behind (2 ^ 64)
 
--- the last nodes of a list, as many as `left`
+-- the last `left` nodes of a list
 abbrev pub last_nodes : (left : ℕ) → List ℕ → List ℕ
 last_nodes left nodes = drop (length nodes - left) nodes
 
--- where one is who has yet to go over the last nodes of a list
+-- the position of an iteration that has yet to yield the last `left` nodes of a list
 pub record IsAt (end : ℕ) (nodes : List ℕ) (left at : ℕ) : Type 0 where
   pub within : left ≤ length nodes
   pub here : at ≡ first_of end (last_nodes left nodes)
 
--- nodes that stand before a
+-- each of these nodes comes before a
 pub record StandBefore (nodes : List ℕ) (a : ℕ) (ns : List ℕ) : Type 0 where
   pub before : List ℕ
   pub behind : List ℕ
   pub is : nodes ≡ before ++ a ∷ behind
   pub stand : (n : ℕ) → Contains ns n → Contains before n
 
--- Of the nodes before a, those in `ns` are put after it, ordered as they stood.
+-- The nodes of `ns`, which come before a, are moved to right after it, in their old order.
 pub record IsMoved (a : ℕ) (ns old new : List ℕ) : Type 0 where
   pub test : ℕ → Bool
   pub exact : (n : ℕ) → (test n ≡ true) ↔ Contains ns n
@@ -138,15 +137,16 @@ abbrev pub without_all : List ℕ → List ℕ → List ℕ
 without_all [] nodes = nodes
 without_all (n ∷ ns) nodes = without_all ns (without n nodes)
 
--- nodes that are written, after which stand nodes in turn that are not: these are above all others, and there is
--- memory to write them
+-- the linked nodes are followed by a run of `count` consecutive indices from `from` on: these are above all linked
+-- nodes, and there is memory to link them
 pub record IsTailed (end : ℕ) (nodes : List ℕ) (capacity from count index_bound : ℕ) : Type 0 where
   pub below : (n : ℕ) → Contains nodes n → n < from
   pub real : from + count ≤ end
   pub within : index_bound ≤ capacity
   pub fits : 0 < count → from + count ≤ index_bound
 
--- where one is who has yet to go over the last nodes of a list, and after it over nodes in turn
+-- the position of an iteration that has yet to yield the last `left` nodes of a list and then `count` consecutive
+-- indices from `from` on
 pub record IsAmong (end : ℕ) (nodes : List ℕ) (left at from count : ℕ) : Type 0 where
   pub written : IsAt end nodes left at
   pub real : from + count ≤ end

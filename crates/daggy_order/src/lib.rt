@@ -1,4 +1,4 @@
-//! A topological order of a graph's nodes that is maintained as edges come.
+//! A topological order of a graph's nodes that is maintained as edges are added.
 #![tactic(auto)]
 
 mod list;

@@ -22,7 +22,7 @@ mod moving;
 /// An ordered list of distinct nodes that can be added at both ends, removed and moved.
 ///
 /// Each node is linked to its neighbors and has a label. Labels ascend along the list, so comparing
-/// two of them tells which node comes first.
+/// the labels of two nodes tells which comes first.
 #[derive(Drop)]
 pub struct LabeledList<Ix: IndexType> {
     pub(crate) links: Links<Ix>,
@@ -47,7 +47,7 @@ pub struct Tail {
     pub index_bound: usize,
 }
 
-// Puts a node last, for which there is room.
+// Puts a node last. There must be room for it.
 #[inline]
 fn put_last<Ix: IndexType>(links: &mut Links<Ix>, n: Link<Ix>)
     requires labelled { IsLabelled links.old.labels links.old.nodes }
@@ -63,7 +63,7 @@ fn put_last<Ix: IndexType>(links: &mut Links<Ix>, n: Link<Ix>)
     links.label_last(last, n);
 }
 
-// Puts a node first, for which there is room.
+// Puts a node first. There must be room for it.
 #[inline]
 fn put_first<Ix: IndexType>(links: &mut Links<Ix>, n: Link<Ix>)
     requires labelled { IsLabelled links.old.labels links.old.nodes }
@@ -78,7 +78,7 @@ fn put_first<Ix: IndexType>(links: &mut Links<Ix>, n: Link<Ix>)
     links.label_first(first, n);
 }
 
-// Puts a node before another, for which there is room.
+// Puts a node before another. There must be room for it.
 fn put_before<Ix: IndexType>(links: &mut Links<Ix>, b: Link<Ix>, n: Link<Ix>)
     requires labelled { IsLabelled links.old.labels links.old.nodes }
     requires held { Contains links.old.nodes b }
@@ -115,7 +115,7 @@ fn take_out<Ix: IndexType>(links: &mut Links<Ix>, n: NodeIndex<Ix>)
     links.remove(Link::of_node(n));
 }
 
-// Puts a run of nodes last, for which there is room.
+// Puts a run of nodes last. There must be room for them.
 fn put_run<Ix: IndexType>(links: &mut Links<Ix>, from: usize, count: usize)
     requires labelled { IsLabelled links.old.labels links.old.nodes }
     requires below { (n : ℕ) → Contains links.old.nodes n → n < from }
@@ -130,7 +130,7 @@ fn put_run<Ix: IndexType>(links: &mut Links<Ix>, from: usize, count: usize)
 }
 
 impl<Ix: IndexType> LabeledList<Ix> {
-    /// A list of no nodes. Does not allocate.
+    /// An empty list. Does not allocate.
     pub fn new(alloc: Global) -> Self
         ensures { result.nodes ≡ [] }
     {
@@ -206,8 +206,7 @@ impl<Ix: IndexType> LabeledList<Ix> {
         Ok(self.links.capacity())
     }
 
-    /// Links the nodes of a tail, for which there is memory. Returns the tail that is left, which
-    /// has no nodes.
+    /// Links the nodes of a tail, within the capacity. Returns the empty tail that is left.
     #[inline]
     pub fn flush(&mut self, tail: Tail) -> Tail
         requires { IsTailed Ix.greatest self.old.nodes self.old.capacity tail.from tail.count
@@ -242,7 +241,7 @@ impl<Ix: IndexType> LabeledList<Ix> {
     ///
     /// # Complexity
     ///
-    /// Amortized O(1); if labels reach the end of their range, once in many million nodes, all
+    /// Amortized O(1). If labels reach the end of their range, which takes many million nodes, all
     /// nodes are relabelled.
     #[inline]
     pub fn push(&mut self, n: NodeIndex<Ix>) -> Result<(), AllocError>
@@ -284,7 +283,7 @@ impl<Ix: IndexType> LabeledList<Ix> {
         self.links.set_label(m.index(), label);
     }
 
-    /// Puts a node first, at the cost of `push`.
+    /// Puts a node first. Costs the same as `push`.
     #[inline]
     pub fn push_first(&mut self, n: NodeIndex<Ix>) -> Result<(), AllocError>
         requires real { Ix.number n < Ix.greatest }
@@ -346,7 +345,7 @@ impl<Ix: IndexType> LabeledList<Ix> {
         at.node()
     }
 
-    /// The same list, in memory of its own.
+    /// A copy of the list.
     pub fn try_clone(&self) -> Result<Self, AllocError>
         ensures { IfOk result (λ o. o.nodes ≡ self.now.nodes) }
     {

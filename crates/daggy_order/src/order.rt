@@ -25,7 +25,7 @@ pub use reaching::reaches_in;
 /// An ordered list of distinct nodes that can be added at both ends, removed and moved.
 ///
 /// A trailing run of consecutive indices is stored as a range. The first change of any other kind
-/// links the run, in memory reserved when the nodes were pushed; each node is linked at
+/// links the nodes of the run, in memory reserved when they were pushed. Each node is linked at
 /// most once, so `push` stays amortized O(1).
 #[derive(Drop)]
 pub struct Order<Ix: IndexType = DefaultIx> {
@@ -104,7 +104,7 @@ impl<Ix: IndexType> Order<Ix> {
     ///
     /// # Complexity
     ///
-    /// Amortized O(1); if labels reach the end of their range, once in many million nodes, all
+    /// Amortized O(1). If labels reach the end of their range, which takes many million nodes, all
     /// nodes are relabelled.
     #[inline]
     pub fn push(&mut self, n: NodeIndex<Ix>) -> Result<(), AllocError>
@@ -121,7 +121,7 @@ impl<Ix: IndexType> Order<Ix> {
         self.push_cold(n)
     }
 
-    // `push` if the node is not the next consecutive index, or there is no memory for it.
+    // `push` of a node that does not continue the run, or for which memory must be allocated.
     #[inline(never)]
     fn push_cold(&mut self, n: NodeIndex<Ix>) -> Result<(), AllocError>
         requires real { Ix.number n < Ix.greatest }
@@ -175,7 +175,7 @@ impl<Ix: IndexType> Order<Ix> {
         self.reserve(other.list.capacity())
     }
 
-    /// Takes a node out. O(1), plus the nodes still to be linked.
+    /// Takes a node out. O(1), plus the length of a run still to be linked.
     #[inline]
     pub fn remove(&mut self, n: NodeIndex<Ix>)
         requires { Contains self.old (Ix.number n) }
@@ -190,7 +190,7 @@ impl<Ix: IndexType> Order<Ix> {
     }
 
     /// Renames a node to `m`, in its place, as when a graph moves its last node into a freed index.
-    /// O(1), plus the nodes still to be linked.
+    /// O(1), plus the length of a run still to be linked.
     #[inline]
     pub fn rename(&mut self, n: NodeIndex<Ix>, m: NodeIndex<Ix>)
         requires held { Contains self.old (Ix.number n) }
@@ -204,7 +204,7 @@ impl<Ix: IndexType> Order<Ix> {
         }
     }
 
-    /// Puts a node first, at the cost of `push`.
+    /// Puts a node first. Costs the same as `push`.
     // Out of line, to keep what adds a node on either side small where it is inlined.
     #[inline(never)]
     pub fn push_first(&mut self, n: NodeIndex<Ix>) -> Result<(), AllocError>
@@ -219,8 +219,8 @@ impl<Ix: IndexType> Order<Ix> {
         Ok(())
     }
 
-    /// Moves a node to the front. O(1), plus the nodes still to be linked, unless labels reach the
-    /// start of their range.
+    /// Moves a node to the front. O(1), plus the length of a run still to be linked, unless labels
+    /// reach the start of their range.
     #[inline(never)]
     pub fn move_first(&mut self, n: NodeIndex<Ix>)
         requires { Contains self.old (Ix.number n) }
@@ -230,8 +230,8 @@ impl<Ix: IndexType> Order<Ix> {
         self.list.move_first(n);
     }
 
-    /// Moves a node right before another. O(1), plus the nodes still to be linked, unless labels
-    /// leave no room.
+    /// Moves a node right before another. O(1), plus the length of a run still to be linked, unless
+    /// labels leave no room.
     #[inline(never)]
     pub fn move_before(&mut self, n: NodeIndex<Ix>, b: NodeIndex<Ix>)
         requires held { Contains self.old (Ix.number n) }
@@ -270,7 +270,7 @@ impl<Ix: IndexType> Order<Ix> {
         }
     }
 
-    /// The same list, in memory of its own.
+    /// A copy of the order.
     pub fn try_clone(&self) -> Result<Self, AllocError>
         ensures { IfOk result (λ o. o ≡ self.now) }
     {

@@ -1,4 +1,4 @@
--- A queue of nodes that stand before the last child of the first one.
+-- A queue whose nodes all come before the last child of its first node.
 use Rattle.std.proofs.Common.{◌≡◌, ◌≢◌, ℕ, ◌+◌, ◌<◌, ◌≤◌, max, Bool, true, false, ◌⊎◌, ◌↔◌, inl, inr}
 use Rattle.std.proofs.Common.{Some, List, [], ◌∷◌, length, get_or, take, refl, sym, ap, subst, ◌∙◌, arith}
 use Rattle.std.proofs.Math.Nat.{le-max_left, le-max_right}

@@ -1,4 +1,5 @@
--- A reduction is the least graph of its reachability, and two are alike exactly if their reachability is.
+-- A reduction is the least graph of its reachability; two reductions join the same pairs if and only if their
+-- reachability is the same.
 use Rattle.std.proofs.Common.{ℕ, ◌↔◌, List, [], ◌∷◌}
 use Rattle.daggy_base.specs.Graph.{Graph, HasNode}
 use Rattle.daggy_base.specs.Path.{AreJoined, IsPath, IsAcyclic}

@@ -1,4 +1,4 @@
--- The children of a node gone through, edge by edge.
+-- Iterating over the children of a node, edge by edge.
 use Rattle.std.proofs.Common.{◌≡◌, ◌≢◌, ℕ, suc, ◌+◌, ◌<◌, ◌≤◌, Bool, true, false, ◌⊎◌, ◌↔◌, inl, inr, List, length}
 use Rattle.std.proofs.Common.{get_or, drop, set, refl, sym, subst, ◌∙◌, arith, length-set}
 use Rattle.std.proofs.lemmas.Bool.{false≢true, cases_lt}

@@ -1,4 +1,4 @@
--- The edges of an ascending list removed one by one, the last one first.
+-- Removing the edges of an ascending list one by one, the last one first.
 use Rattle.std.proofs.Common.{◌≡◌, ℕ, zero, suc, ◌+◌, ◌<◌, ◌≤◌, ◌↔◌, inl, inr, List, [], ◌∷◌, ◌++◌, length, get_or}
 use Rattle.std.proofs.Common.{drop, reverse, Option, Some, None, refl, sym, ap, subst, ◌∙◌, arith, Contains, IsSome}
 use Rattle.std.proofs.Common.{OnSome, option_map}

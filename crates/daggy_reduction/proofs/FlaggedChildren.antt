@@ -1,4 +1,4 @@
--- A node's edges gone through, while those to marked children are flagged.
+-- Flagging the edges of a node to marked children, one by one.
 use Rattle.std.proofs.Common.{◌≡◌, ◌≢◌, ℕ, suc, ◌+◌, ◌<◌, ◌≤◌, Bool, true, false, ◌⊎◌, ◌↔◌, inl, inr, Some, List}
 use Rattle.std.proofs.Common.{length, get_or, drop, set, refl, sym, ap, subst, ◌∙◌, arith, length-set}
 use Rattle.std.proofs.lemmas.List.{get_or-set_other, get_or-set_same}

@@ -1,4 +1,4 @@
--- Edges flagged by marks are those that a longer way makes redundant.
+-- The edges flagged by marks are those that a longer path makes redundant.
 use Rattle.std.proofs.Common.{◌≡◌, ℕ, suc, ◌+◌, ◌<◌, Bool, true, false, ◌⊎◌, ◌↔◌, inl, inr, List, [], ◌∷◌, length}
 use Rattle.std.proofs.Common.{get_or, take, set, sym, ap, subst, ◌∙◌, arith}
 use Rattle.std.proofs.lemmas.Bool.{false≢true}

@@ -1,4 +1,4 @@
--- The flagged ones of a list, put in front of it.
+-- Moving the flagged edges to the front of a list.
 use Rattle.std.proofs.Common.{◌≡◌, ◌≢◌, ℕ, zero, suc, ◌+◌, ◌<◌, ◌≤◌, ◌↔◌, inl, inr, List, [], ◌∷◌, ◌++◌, length, get_or}
 use Rattle.std.proofs.Common.{set, take, refl, sym, ap, subst, ◌∙◌, arith, length-set, eqb, Contains}
 use Rattle.std.proofs.lemmas.List.{take_more_set, get_or-set_other}

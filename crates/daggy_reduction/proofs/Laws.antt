@@ -1,4 +1,4 @@
--- What a reduction keeps and loses, from its definition.
+-- What a reduction keeps and removes, from its definition.
 use Rattle.std.proofs.Common.{◌≡◌, ℕ, inl, inr, List, sym, subst}
 use Rattle.daggy_base.specs.Graph.{Graph}
 use Rattle.daggy_base.specs.Path.{IsAcyclic}

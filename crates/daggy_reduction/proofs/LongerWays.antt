@@ -1,4 +1,4 @@
--- The children of what a node reaches are those that it reaches by a longer way.
+-- The children of the nodes that a node reaches are those that it reaches by a longer path.
 use Rattle.std.proofs.Common.{◌≡◌, ◌≢◌, ℕ, ◌↔◌, inl, inr, List, [], ◌∷◌, Contains, refl, sym, ap, subst}
 use Rattle.daggy_base.specs.Graph.{Graph, HasNode}
 use Rattle.daggy_base.specs.Path.{AreJoined, IsPath, Reaches, IsAcyclic, end_of}

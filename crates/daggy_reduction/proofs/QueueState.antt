@@ -1,4 +1,4 @@
--- The state of a queue that is read, by the variables of its code.
+-- The state of such a queue, in the variables of its code.
 use Rattle.std.proofs.Common.{◌≡◌, ◌≢◌, ℕ, zero, suc, ◌+◌, ◌<◌, ◌≤◌, Bool, true, false, ◌⊎◌, ◌↔◌, inl, inr, List, [], Contains}
 use Rattle.std.proofs.Common.{◌∷◌, ◌++◌, length, get_or, take, set, refl, sym, ap, subst, ◌∙◌, arith}
 use Rattle.std.proofs.lemmas.List.{take_more_set, length-take-le, length-append, get_or-set_same, get_or-take}

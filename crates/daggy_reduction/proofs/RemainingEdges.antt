@@ -1,4 +1,4 @@
--- What removing edges from the highest index down leaves: below the index just removed no edge was renamed.
+-- The edges left when edges are removed from the highest index down: no edge below the index just removed is renamed.
 use Rattle.std.proofs.Common.{◌≡◌, ◌≢◌, ℕ, zero, suc, ◌-◌, ◌<◌, ◌⊎◌, ◌↔◌, inl, inr, List, [], ◌∷◌, length, get_or, set}
 use Rattle.std.proofs.Common.{take, Option, Some, None, refl, sym, ap, subst, ◌∙◌, arith}
 use Rattle.std.proofs.lemmas.Bool.{cases_eq}

@@ -1,4 +1,4 @@
--- Dags compared by the reductions of copies.
+-- Comparing dags by the reductions of copies.
 use Rattle.std.proofs.Common.{◌≡◌, ℕ, zero, suc, ◌<◌, ◌↔◌, List, [], ◌∷◌, length, Option, Some, None, IsSome, refl}
 use Rattle.std.proofs.Common.{arith, Contains}
 use Rattle.daggy_base.specs.Graph.{Graph, HasNode, slot, node_count}

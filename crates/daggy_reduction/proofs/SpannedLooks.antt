@@ -1,4 +1,4 @@
--- How many looks the searches take that stay before the last child.
+-- How many edges are read by the searches that stay before the last child.
 use Rattle.std.proofs.Common.{◌≡◌, ℕ, ◌+◌, ◌≤◌, ◌↔◌, inl, inr, List, [], ◌∷◌, ◌++◌, drop, take, refl, ap}
 use Rattle.std.proofs.Common.{subst, arith, Contains}
 use Rattle.daggy_base.specs.Graph.{Graph, out_list, edge_count}

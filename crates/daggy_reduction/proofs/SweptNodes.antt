@@ -1,4 +1,4 @@
--- The nodes below the roots swept one by one, while their redundant edges are flagged.
+-- Flagging the redundant edges of the nodes below the roots, node by node.
 use Rattle.std.proofs.Common.{◌≡◌, ℕ, zero, suc, ◌+◌, ◌*◌, ◌<◌, ◌≤◌, true, ◌↔◌, inl, inr, Option, None, IsSome, is_some}
 use Rattle.std.proofs.Common.{List, [], ◌∷◌, ◌++◌, length, get_or, take, refl, sym, ap, subst, ◌∙◌, arith, Contains}
 use Rattle.std.proofs.Math.Nat.{suc-mul, zero-mul}

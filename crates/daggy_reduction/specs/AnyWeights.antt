@@ -1,4 +1,4 @@
--- Reductions compared with other graphs, whatever the weights and the limits of indices are.
+-- Reductions compared with other graphs, for any types of weights and any index limits.
 use Rattle.std.specs.Prelude.{ℕ, ◌↔◌, List}
 use Rattle.daggy_base.specs.Graph.{Graph}
 use Rattle.daggy_base.specs.Path.{AreJoined}
@@ -7,7 +7,7 @@ use Rattle.daggy_base.specs.WellFormed.{IsDag}
 use Rattle.daggy_base.specs.Reduction.{IsBelow, IsReduction}
 use Rattle.daggy_reduction.specs.Comparison.{HaveSameNodes, JoinSamePairs, HaveSameReachability, ReachAll}
 
--- g is a dag, and new its reduction from roots that reach all of its nodes
+-- g is a dag, and new is its reduction from roots that reach all of its nodes
 pub record IsReducedDag {N E : Type 0} (g new : Graph N E) : Type 0 where
   pub limit : ℕ
   pub dag : IsDag limit g
@@ -16,14 +16,13 @@ pub record IsReducedDag {N E : Type 0} (g new : Graph N E) : Type 0 where
   pub all : ReachAll g roots
   pub reduced : IsReduction kind roots g new
 
--- The reductions of two dags on the same nodes join the same pairs exactly if the same nodes reach each other in the
--- two dags.
+-- The reductions of two dags on the same nodes join the same pairs if and only if the dags have the same reachability.
 abbrev pub AreAlike : (N E M F : Type 0) → Type 0
 AreAlike N E M F =
     (g g' : Graph N E) (h h' : Graph M F) → IsReducedDag g g' → IsReducedDag h h' → HaveSameNodes g h
     → JoinSamePairs g' h' ↔ HaveSameReachability g h
 
--- every graph of the same reachability as a dag joins the pairs that its reduction joins below the roots
+-- every graph with the same reachability as a dag joins the pairs that the dag's reduction joins below the roots
 abbrev pub IsLeastOfAll : (N E M F : Type 0) → Type 0
 IsLeastOfAll N E M F =
     (limit : ℕ) (kind : Kind) (roots : List ℕ) (g g' : Graph N E) (h : Graph M F) → IsDag limit g

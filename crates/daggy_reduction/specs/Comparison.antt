@@ -15,11 +15,11 @@ module _ {N E M F : Type 0} (g : Graph N E) (h : Graph M F) where
   abbrev pub JoinsAll : Type 0
   JoinsAll = (u v : ℕ) → AreJoined g u v → AreJoined h u v
 
-  -- the same pairs are joined
+  -- both join the same pairs
   abbrev pub JoinSamePairs : Type 0
   JoinSamePairs = (u v : ℕ) → AreJoined g u v ↔ AreJoined h u v
 
-  -- the same nodes reach each other
+  -- both have the same reachability
   abbrev pub HaveSameReachability : Type 0
   HaveSameReachability = (u v : ℕ) → Reaches g u v ↔ Reaches h u v
 
@@ -29,26 +29,27 @@ IsAscending [] = Unit {0}
 IsAscending (x ∷ []) = Unit {0}
 IsAscending (x ∷ y ∷ xs) = (x < y) × IsAscending (y ∷ xs)
 
--- each node is reached by some root that exists
+-- each node is reachable from an existing root
 abbrev pub ReachAll : {N E : Type 0} → Graph N E → List ℕ → Type 0
 ReachAll g roots = (n : ℕ) → HasNode g n → IsBelow g roots n
 
--- new joins exactly the pairs of old that no longer way makes redundant under these roots
+-- new has the nodes of old and joins the pairs that old joins, except those below the roots that a longer path connects
+-- too
 pub record LosesRoundPairs {N E : Type 0} (roots : List ℕ) (old new : Graph N E) : Type 0 where
   pub nodes : HaveSameNodes old new
   pub joined : (u v : ℕ) → AreJoined new u v → AreJoined old u v
   pub kept : (u v : ℕ) → AreJoined old u v → AreJoined new u v ⊎ (IsBelow old roots u × ReachesIndirectly old u v)
   pub lost : (u v : ℕ) → AreJoined new u v → IsBelow old roots u → ReachesIndirectly old u v → ⊥
 
--- below the roots new joins exactly the covers of old
+-- below the roots, new joins two nodes if and only if one covers the other in old
 abbrev pub JoinsCovers : {N E : Type 0} → (roots : List ℕ) (old new : Graph N E) → Type 0
 JoinsCovers roots old new = (u v : ℕ) → IsBelow old roots u → AreJoined new u v ↔ Covers old u v
 
--- elsewhere new joins what old joins
+-- elsewhere, new joins the same pairs as old
 abbrev pub JoinsOthers : {N E : Type 0} → (roots : List ℕ) (old new : Graph N E) → Type 0
 JoinsOthers roots old new = (u v : ℕ) → ¬ IsBelow old roots u → AreJoined new u v ↔ AreJoined old u v
 
--- every graph of the same reachability joins the pairs that new joins below the roots
+-- every graph with the same reachability joins the pairs that new joins below the roots
 abbrev pub IsLeast : {N E : Type 0} → (roots : List ℕ) (old new : Graph N E) → Type 0
 IsLeast {N} {E} roots old new =
     (h : Graph N E) → HaveSameReachability old h → (u v : ℕ) → IsBelow old roots u → AreJoined new u v → AreJoined h u v
@@ -57,7 +58,7 @@ IsLeast {N} {E} roots old new =
 abbrev pub HasNoneRedundant : {N E : Type 0} → (roots : List ℕ) → Graph N E → Type 0
 HasNoneRedundant roots g = (e : ℕ) → ¬ IsRedundant g roots e
 
--- A dag on the same nodes, and its reduction from roots that reach all of its nodes.
+-- h is a dag on the nodes of old, and h' is its reduction from roots that reach all of its nodes
 pub record IsReducedFrom {N E : Type 0} (limit : ℕ) (old : Graph N E) (h h' : Graph N E) : Type 0 where
   pub dag : IsDag limit h
   pub nodes : HaveSameNodes old h
@@ -66,14 +67,14 @@ pub record IsReducedFrom {N E : Type 0} (limit : ℕ) (old : Graph N E) (h h' : 
   pub all : ReachAll h roots
   pub reduced : IsReduction kind roots h h'
 
--- New joins the same pairs as the reduction of another dag on the same nodes exactly if the two had the same
--- reachability, where the roots reach all nodes.
+-- If the roots reach all nodes: new joins the same pairs as the reduction of another dag on the same nodes if and only
+-- if old has the same reachability as that dag.
 abbrev pub IsCanonical : {N E : Type 0} → (limit : ℕ) (roots : List ℕ) (old new : Graph N E) → Type 0
 IsCanonical {N} {E} limit roots old new =
     ReachAll old roots → (h h' : Graph N E) → IsReducedFrom limit old h h'
     → JoinSamePairs new h' ↔ HaveSameReachability old h
 
--- a dag with the nodes and the reachability of g, reduced from roots that reach all of its nodes
+-- shape is the reduction of a dag with the nodes and the reachability of g, from roots that reach all nodes
 pub record IsReducedShape {N E M F : Type 0} (limit : ℕ) (g : Graph N E) (shape : Graph M F) : Type 0 where
   pub whole : Graph M F
   pub dag : IsDag limit whole

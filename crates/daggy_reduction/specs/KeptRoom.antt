@@ -1,4 +1,4 @@
--- What room a scratch has once a `&` to what was found in it is given back.
+-- The capacity of a scratch after a `&` into it ends.
 use Rattle.std.specs.Prelude.{◌≡◌}
 use Rattle.std.specs.Borrow.{Fml, RattleType, MutBor}
 use Rattle.std.specs.Io.BufRead.{Rests}
@@ -6,14 +6,14 @@ use Rattle.daggy_base.specs.IndexMembers.{IndexMembers}
 use Rattle.daggy_search.specs.Room.{Room}
 use Rattle.daggy_search.specs.contracts.scratch.Scratch.{the_row}
 
--- the type of a scratch over these indices
+-- the type of a scratch with indices of this type
 abbrev pub scratch_type : (Ix : RattleType) → IndexMembers Ix.Denot → RattleType
 scratch_type Ix m =
     the_row Ix (record { number = m.number; of = m.of; greatest = m.greatest; of_number = m.of_number })
     (record { cmp = m.cmp }) (record { eq = m.eq }) (record { partial_cmp = m.partial_cmp })
     (record { hash_input = m.hash_input }) (record { debug_output = m.debug_output })
 
--- once what was lent of the scratch is given back, it has the room that it had
+-- once the borrow of the scratch ends, its capacity is what it was before
 abbrev pub keeps_room : (Ix : RattleType) → IndexMembers Ix.Denot → MutBor (Room Ix.Denot) → Fml
 keeps_room Ix m s =
     Rests (scratch_type Ix m) s (λ new.

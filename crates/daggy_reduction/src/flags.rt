@@ -1,4 +1,5 @@
-//! Flags of edges, kept in a list of indices: each flag is the edge's own index.
+//! Flags of edges in a list of indices: a flagged edge has its own index there, any other edge
+//! `end`.
 ghost use Rattle.std.specs.Prelude.{◌≡◌, ℕ, ◌+◌, ◌<◌, ◌≤◌, true, false, map, length, take};
 ghost use Rattle.std.specs.Prelude.{slice_set, slice_index_or};
 ghost use Rattle.daggy_base.specs.Graph.{out_list, node_bound, edge_bound};
@@ -69,8 +70,8 @@ pub(crate) fn flag_marked<Ix: IndexType, S: EdgeSource<Ix>>(
     }
 }
 
-// Moves the flagged edges to the front, in ascending order, and returns how many there are. The
-// flags are lost.
+// Moves the indices of the flagged edges to the front, in ascending order, and returns how many
+// there are. This overwrites the flags.
 pub(crate) fn gather_flagged<Ix: IndexType>(flags: &mut [EdgeIndex<Ix>], bound: usize) -> usize
     requires within { bound ≤ length flags.old }
     requires real { bound ≤ Ix.greatest }

@@ -1,4 +1,4 @@
-//! The joined pairs of two graphs.
+//! Whether two graphs join the same pairs.
 ghost use Rattle.std.specs.Prelude.{◌≡◌, ℕ, ◌≤◌, ◌↔◌, ◌⊎◌, true, false, length, slice_index_or};
 ghost use Rattle.std.specs.Prelude.{IsTrue};
 ghost use Rattle.daggy_base.specs.Graph.{node_bound};

@@ -1,4 +1,5 @@
-//! The transitive reduction: which edges it removes, and what it keeps and loses.
+//! The transitive reduction of a graph: its redundant edges, their removal, and what the result
+//! promises.
 #![tactic(auto)]
 
 mod block;

@@ -1,4 +1,4 @@
-//! The reduction of any store.
+//! The transitive reduction of any store.
 ghost use Rattle.std.specs.Prelude.{◌≡◌, ℕ, ◌+◌, ◌*◌, ◌≤◌, map, reverse, Contains, OnOk, OnErr};
 ghost use Rattle.daggy_base.specs.Graph.{HasEdge, node_count, edge_count};
 ghost use Rattle.daggy_base.specs.Removal.{without_edges};
@@ -32,8 +32,8 @@ fn remove_edges<Ix: IndexType, S: Store<Ix>>(store: &mut S, edges: &[EdgeIndex<I
     }
 }
 
-/// Removes the edges that are redundant below some roots: first all of them are found, then they
-/// are removed, from the highest index down.
+/// Removes the edges that are redundant below some roots: finds them all first, then removes them
+/// from the highest index down.
 ///
 /// # Errors
 ///

@@ -1,28 +1,28 @@
 //! Laws of reductions, over graphs of any weights.
 //!
-//! A law does nothing when it runs. A caller calls it beside the reductions that it speaks of, with
-//! the types of their weights, and its proof has the law from there on.
+//! A law is a function that does nothing at run time. Call it next to the reductions that it is
+//! about, with the types of their weights; its postcondition then holds in the caller's proof.
 ghost use Rattle.daggy_reduction.specs.AnyWeights.{AreAlike, IsLeastOfAll};
 
 /// Two dags on the same nodes, each reduced from roots that reach all of its nodes, join the same
-/// pairs exactly if the same nodes reached each other in the two dags before.
+/// pairs if and only if they had the same reachability before.
 ///
-/// The weights are of the types `N` and `E` in one dag, and `M` and `F` in the other. The limits of
-/// indices, the kinds of dag and the roots may differ too.
+/// The weights have the types `N` and `E` in one dag, and `M` and `F` in the other. The index
+/// types, the kinds of dag and the roots may differ too.
 ///
-/// Call it beside two calls of `transitive_reduce`. The law asks for what these say of the graphs
-/// before and after them, and for the dags' invariant.
+/// Call it next to two calls of `transitive_reduce`. The law needs only their postconditions and
+/// the invariants of the dags.
 pub fn reductions_are_alike<N, E, M, F>()
     ensures { AreAlike N E M F }
 {}
 
-/// Every graph of the same reachability as a dag joins the pairs that the dag still joins below the
-/// roots from which it was reduced.
+/// Every graph with the same reachability as a dag joins the pairs that the dag still joins, after
+/// its reduction, below the roots.
 ///
-/// The weights are of the types `N` and `E` in the dag, and `M` and `F` in the other graph.
+/// The weights have the types `N` and `E` in the dag, and `M` and `F` in the other graph.
 ///
-/// Call it beside a call of `transitive_reduce`. The law asks for what that says of the graphs
-/// before and after it, and for the dag's invariant.
+/// Call it next to a call of `transitive_reduce`. The law needs only its postcondition and the
+/// invariant of the dag.
 pub fn reduction_is_least<N, E, M, F>()
     ensures { IsLeastOfAll N E M F }
 {}

@@ -47,8 +47,7 @@ fn flag_round<Ix: IndexType, S: EdgeSource<Ix>>(
     flag_marked(source, u, work, flags);
 }
 
-// Flags the edges that are redundant below some roots: `flags` has an index at the places of those
-// edges, and `end` elsewhere.
+// Flags the edges that are redundant below some roots, and clears all other flags.
 fn flag_redundant<Ix: IndexType, S: EdgeSource<Ix>>(
     source: &mut S,
     roots: &[NodeIndex<Ix>],
@@ -77,7 +76,7 @@ fn flag_redundant<Ix: IndexType, S: EdgeSource<Ix>>(
     }
 }
 
-// Leaves the redundant edges below some roots in front of `scratch.found`, and returns how many
+// Writes the redundant edges below some roots to the front of `scratch.found`, and returns how many
 // there are.
 fn leave_redundant<Ix: IndexType, S: EdgeSource<Ix>>(
     source: &mut S,
@@ -106,7 +105,7 @@ fn leave_redundant<Ix: IndexType, S: EdgeSource<Ix>>(
     gather_flagged(flags, bound)
 }
 
-// The first ones of a list.
+// The first `count` items of a list.
 pub(crate) fn front<T>(list: &[T], count: usize) -> &[T]
     requires { count ≤ length list.now }
     ensures value { result.now ≡ take count list.now }
@@ -116,7 +115,7 @@ pub(crate) fn front<T>(list: &[T], count: usize) -> &[T]
 
 /// The edges that are redundant below some roots, each once, in ascending order.
 ///
-/// They are lent by the scratch, which fits the same graphs afterwards.
+/// The result borrows the scratch, whose capacity does not change.
 ///
 /// # Complexity
 ///

@@ -16,7 +16,7 @@ use daggy_base::source::EdgeSource;
 use daggy_order::order::Order;
 use daggy_search::Worklist;
 
-// Puts the roots that exist into a queue, and returns how many there are.
+// Queues the roots that exist, and returns how many there are.
 fn enter_roots<Ix: IndexType, S: EdgeSource<Ix>>(
     source: &S,
     roots: &[NodeIndex<Ix>],
@@ -43,7 +43,7 @@ fn enter_roots<Ix: IndexType, S: EdgeSource<Ix>>(
     len
 }
 
-// Puts all nodes reachable from the existing roots into a queue, and returns how many there are.
+// Queues all nodes reachable from the existing roots, and returns how many there are.
 fn queue_below<Ix: IndexType, S: EdgeSource<Ix>>(
     source: &mut S,
     roots: &[NodeIndex<Ix>],
@@ -71,7 +71,7 @@ fn queue_below<Ix: IndexType, S: EdgeSource<Ix>>(
     close(source, work, len)
 }
 
-// Puts the first nodes of a worklist in the places of the cursors.
+// Copies the first `count` nodes of a worklist over its first cursors.
 fn lay_aside<Ix: IndexType>(work: &mut Worklist<Ix>, count: usize)
     requires within { count ≤ work.old.size }
     requires sized { IsSized work.old.size work.old }
@@ -85,8 +85,8 @@ fn lay_aside<Ix: IndexType>(work: &mut Worklist<Ix>, count: usize)
     }
 }
 
-// Puts all nodes reachable from the existing roots in the places of the cursors, and returns how
-// many there are.
+// Writes all nodes reachable from the existing roots over the first cursors, and returns how many
+// there are.
 pub(crate) fn enter_below<Ix: IndexType, S: EdgeSource<Ix>>(
     source: &mut S,
     roots: &[NodeIndex<Ix>],

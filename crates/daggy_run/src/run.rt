@@ -16,7 +16,7 @@ use std::alloc::Global;
 ///
 /// # Errors
 ///
-/// Returns the commands if there is no memory for the replies; none was carried out.
+/// Returns the commands if memory for the replies cannot be allocated; none was carried out.
 pub fn run<N: Drop, E: Drop, Ix: IndexType, D: GuardedDag<N, E, Ix>>(
     alloc: Global,
     dag: &mut D,

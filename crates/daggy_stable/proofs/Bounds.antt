@@ -1,4 +1,4 @@
--- How many slots there are, and where the last that is not vacant is.
+-- The number of slots, and the last occupied slot.
 use Rattle.std.proofs.Common.{◌≡◌, ◌≢◌, ℕ, zero, suc, ◌+◌, ◌≤◌, List, [], ◌∷◌, length, set, Option, Some, None, OnSome}
 use Rattle.std.proofs.Common.{IfNone, refl, ap, ◌∙◌, arith}
 use Rattle.std.proofs.lemmas.List.{length-set, length_push}

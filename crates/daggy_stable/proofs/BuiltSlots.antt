@@ -1,4 +1,4 @@
--- What one more slot makes of what is stored.
+-- One more slot in a stored graph.
 use Rattle.std.proofs.Common.{◌≡◌, ℕ, ◌+◌, ◌<◌, not, cond, List, [], ◌∷◌, ◌++◌, map, length, set, Option, Some, None}
 use Rattle.std.proofs.Common.{is_some, slice_get, refl, sym, ap, subst, ◌∙◌, inl, inr, arith, Contains}
 use Rattle.std.specs.List.{count_by}
@@ -17,7 +17,7 @@ use Rattle.daggy_cells.specs.Fields.{firsts_of, nexts_of, lists_at, AreLedTo, ed
 use Rattle.daggy_base.proofs.Lists.{slice_get-push_old, slice_get-push_new, slice_get-push_other}
 use Rattle.daggy_cells.proofs.LinkedListChanges.{row_push, linked_within, AreLinkedLists-node, AreLinkedLists-kept}
 use Rattle.daggy_cells.proofs.FieldLemmas.{firsts_as_many}
-use Rattle.daggy_stable.specs.Stored.{weight_of, plain_edge, shown, list_firsts, end_of, IsThreaded, Stores}
+use Rattle.daggy_stable.specs.Stored.{weight_of, plain_edge, shown, list_firsts, end_of, IsFreeList, Stores}
 use Rattle.daggy_base.proofs.SlotLists.{slot_push_new, slot_push_other, none_past, vacant_down_more, of_slots_node}
 use Rattle.daggy_base.proofs.SlotLists.{of_slots_left, of_slots_taken}
 use Rattle.daggy_stable.proofs.Shown.{shown_push}
@@ -55,7 +55,7 @@ module _ {A : Type 0} where
       ap (λ ls. l ∷ ls) (shown_push_vacant end zs links new (omega (arith, long)))
 
   module _ {end : ℕ} {slots : List (Option A)} {links : List ℕ} {head count : ℕ} {vacant : List ℕ}
-      (t : IsThreaded end slots links head count vacant) (index_left : length slots < end) where
+      (t : IsFreeList end slots links head count vacant) (index_left : length slots < end) where
     inside : (f : ℕ) → Contains vacant f → f < length slots
     inside = vacant_inside t
 
@@ -66,18 +66,18 @@ module _ {A : Type 0} where
     as_long x l = omega (arith, length_push links l, length_push slots x, t.long)
 
     -- a slot that is not vacant
-    pub threaded_taken : (x : A) (l : ℕ)
-        → IsThreaded end (slots ++ Some x ∷ []) (links ++ l ∷ []) head (count + 1) vacant
-    threaded_taken x l =
+    pub free_list_with_taken : (x : A) (l : ℕ)
+        → IsFreeList end (slots ++ Some x ∷ []) (links ++ l ∷ []) head (count + 1) vacant
+    free_list_with_taken x l =
         one_taken t (length slots) (λ p. omega (arith, inside (length slots) p))
         (λ i other. slice_get-push_other slots (Some x) i other) (old_link l)
         (omega (arith, t.counted, count_push slots x)) (as_long (Some x) l)
         (omega (arith, index_left, length_push slots (Some x))) x (slice_get-push_new slots (Some x))
 
     -- a vacant one
-    pub threaded_vacant : IsThreaded end (slots ++ None ∷ []) (links ++ head ∷ []) (length slots) count
+    pub free_list_with_vacant : IsFreeList end (slots ++ None ∷ []) (links ++ head ∷ []) (length slots) count
         (length slots ∷ vacant)
-    threaded_vacant =
+    free_list_with_vacant =
         one_vacant t (length slots) (λ p. omega (arith, inside (length slots) p))
         (λ i other. slice_get-push_other slots None i other) (old_link head) (t.counted ∙ sym (count_push_vacant slots))
         (as_long None head) (omega (arith, index_left, length_push slots None)) (slice_get-push_new slots None)
@@ -90,7 +90,7 @@ module _ {N E Ix : Type 0} {end : ℕ} {nodes : List (Node (Option N) Ix)} {edge
   module _ (x : Node (Option N) Ix) where
     pub node_slot : ((dir : Direction) → list_firsts end dir (nodes ++ x ∷ []) ≡ list_firsts end dir nodes ++ end ∷ [])
         → (head' count' : ℕ) (vacant : List ℕ)
-        → IsThreaded end (g.nodes ++ x.weight ∷ []) (firsts_of Outgoing (nodes ++ x ∷ [])) head' count' vacant
+        → IsFreeList end (g.nodes ++ x.weight ∷ []) (firsts_of Outgoing (nodes ++ x ∷ [])) head' count' vacant
         → Stores end (nodes ++ x ∷ []) edges head' edge_head count' edges_counted (record {
           nodes = g.nodes ++ x.weight ∷ [];
           edges = g.edges;
@@ -99,7 +99,7 @@ module _ {N E Ix : Type 0} {end : ℕ} {nodes : List (Node (Option N) Ix)} {edge
           vacant_nodes = vacant;
           vacant_edges = g.vacant_edges;
         })
-    node_slot firsts head' count' vacant threaded =
+    node_slot firsts head' count' vacant free_list =
         let links : (dir : Direction)
         → AreLinkedLists end (list_firsts end dir (nodes ++ x ∷ [])) (nexts_of dir edges) (lists_at dir g ++ [] ∷ []) =
         λ dir.
@@ -112,7 +112,7 @@ module _ {N E Ix : Type 0} {end : ℕ} {nodes : List (Node (Option N) Ix)} {edge
           edges_are = s.edges_are;
           linked = elim [ Outgoing ↦ links Outgoing | Incoming ↦ links Incoming ];
           listed = elim [ Outgoing ↦ lists Outgoing | Incoming ↦ lists Incoming ];
-          node_slots = threaded;
+          node_slots = free_list;
           edge_slots = s.edge_slots;
         }
 
@@ -148,9 +148,9 @@ module _ {N E Ix : Type 0} {end : ℕ} {nodes : List (Node (Option N) Ix)} {edge
         ∙ ap (λ o. shown end (map weight_of nodes ++ o ∷ []) (firsts_of dir nodes ++ raw_first dir x ∷ [])) some
         ∙ ap (λ z. shown end (map weight_of nodes ++ Some w ∷ []) (firsts_of dir nodes ++ z ∷ [])) (at_end dir)
         ∙ shown_push end (map weight_of nodes) (firsts_of dir nodes) w end (firsts_as_many weight_of dir nodes) in
-        let threaded =
-        threaded_taken s.node_slots (omega (arith, index_left, nodes_long s)) w (raw_first Outgoing x) in
-        node_slot firsts node_head (nodes_counted + 1) g.vacant_nodes (rw (firsts_more Outgoing, some) threaded)
+        let free_list =
+        free_list_with_taken s.node_slots (omega (arith, index_left, nodes_long s)) w (raw_first Outgoing x) in
+        node_slot firsts node_head (nodes_counted + 1) g.vacant_nodes (rw (firsts_more Outgoing, some) free_list)
 
     pub node_left : x ≡ record { weight = None; first_out = node_head; first_in = end } → length nodes < end
         → Stores end (nodes ++ x ∷ []) edges (length nodes) edge_head nodes_counted edges_counted (record {
@@ -169,10 +169,10 @@ module _ {N E Ix : Type 0} {end : ℕ} {nodes : List (Node (Option N) Ix)} {edge
         ∙ ap (λ o. shown end (map weight_of nodes ++ o ∷ []) (firsts_of dir nodes ++ raw_first dir x ∷ [])) none
         ∙ shown_push_vacant end (map weight_of nodes) (firsts_of dir nodes) (raw_first dir x)
         (firsts_as_many weight_of dir nodes) in
-        let threaded =
-        threaded_vacant s.node_slots (omega (arith, index_left, nodes_long s)) in
+        let free_list =
+        free_list_with_vacant s.node_slots (omega (arith, index_left, nodes_long s)) in
         node_slot firsts (length nodes) nodes_counted (length nodes ∷ g.vacant_nodes)
-        (rw (firsts_more Outgoing, ap (raw_first Outgoing) is, none, ← nodes_long s) threaded)
+        (rw (firsts_more Outgoing, ap (raw_first Outgoing) is, none, ← nodes_long s) free_list)
 
   -- one more slot of an edge, which is vacant
   pub edge_left : (y : Edge (Option E) Ix) → y.weight ≡ None → y.next_out ≡ edge_head → length edges < end
@@ -197,8 +197,8 @@ module _ {N E Ix : Type 0} {end : ℕ} {nodes : List (Node (Option N) Ix)} {edge
       → ListsBy (λ e. option_map (near_end dir) (slot (g.edges ++ None ∷ []) e)) (lists_at dir g) =
       λ dir n e. let same = ap (option_map (near_end dir)) (slot_push_vacant g.edges e) in
       (λ p. same ∙ (s.listed dir n e).0 p, λ q. (s.listed dir n e).1 (sym same ∙ q)) in
-      let threaded =
-      threaded_vacant s.edge_slots (omega (arith, index_left, edges_long s)) in
+      let free_list =
+      free_list_with_vacant s.edge_slots (omega (arith, index_left, edges_long s)) in
       record {
         nodes_are = s.nodes_are;
         edges_are =
@@ -207,7 +207,7 @@ module _ {N E Ix : Type 0} {end : ℕ} {nodes : List (Node (Option N) Ix)} {edge
         linked = elim [ Outgoing ↦ links Outgoing | Incoming ↦ links Incoming ];
         listed = elim [ Outgoing ↦ lists Outgoing | Incoming ↦ lists Incoming ];
         node_slots = s.node_slots;
-        edge_slots = rw (← edges_long s, more Outgoing, head_is) threaded;
+        edge_slots = rw (← edges_long s, more Outgoing, head_is) free_list;
       }
     where
       plain_none : y.weight ≡ None → plain_edge y ≡ None
@@ -242,8 +242,8 @@ module _ {N E Ix : Type 0} {end : ℕ} {nodes : List (Node (Option N) Ix)} {edge
           vacant_edges = g.vacant_edges;
         })
     edge_taken =
-        let threaded =
-        threaded_taken s.edge_slots (omega (arith, index_left, edges_long s)) line (raw_next Outgoing cell) in
+        let free_list =
+        free_list_with_taken s.edge_slots (omega (arith, index_left, edges_long s)) line (raw_next Outgoing cell) in
         edge_put s {e = length edges} ends led {slots = g.edges ++ Some line ∷ []} (record {
           free = none_past g.edges (length edges) (omega (arith, edges_long s));
           plains = map_push plain_edge edges cell ∙ ap (λ l. l ++ Some line ∷ []) (sym s.edges_are);
@@ -255,7 +255,7 @@ module _ {N E Ix : Type 0} {end : ℕ} {nodes : List (Node (Option N) Ix)} {edge
               ∙ slice_get-push_old (nexts_of dir edges) (raw_next dir cell) f
               (omega (arith, inside, length-map edges (raw_next dir)));
         })
-        (rw (more Outgoing) threaded)
+        (rw (more Outgoing) free_list)
 
   -- where no slot is vacant, a new one is the next, in the words of the code
   pub node_made_code : (w : N) {y : Node (Option N) Ix} {reserved_cells nodes' : List (Node (Option N) Ix)}
@@ -264,7 +264,7 @@ module _ {N E Ix : Type 0} {end : ℕ} {nodes : List (Node (Option N) Ix)} {edge
       → Stores end nodes' edges node_head edge_head (nodes_counted + 1) edges_counted (with_node g w)
   node_made_code w {y} none few y_is reserved pushed =
       let full =
-      counted_full (subst (IsThreaded end g.nodes (firsts_of Outgoing nodes) node_head nodes_counted) none
+      counted_full (subst (IsFreeList end g.nodes (firsts_of Outgoing nodes) node_head nodes_counted) none
       s.node_slots) in
       let made = node_taken (fresh_node end w) w refl (omega (arith, few, full, nodes_long s)) in
       rw (pushed, reserved, y_is, none) (rw none at made)
@@ -277,7 +277,7 @@ module _ {N E Ix : Type 0} {end : ℕ} {nodes : List (Node (Option N) Ix)} {edge
   edge_made_code {a} {b} {w = w} {y} {nodes'} ends u_is v_is put e_is none few pushed =
       let put_at : IsPutFirst nodes nodes' a b (length edges) (Some w) y = rw (← u_is, ← v_is, ← e_is) put in
       let full =
-      counted_full (subst (IsThreaded end g.edges (nexts_of Outgoing edges) edge_head edges_counted) none
+      counted_full (subst (IsFreeList end g.edges (nexts_of Outgoing edges) edge_head edges_counted) none
       s.edge_slots) in
       let made = edge_taken w ends (omega (arith, few, s.edge_slots.counted, full, edges_long s)) put_at.led in
       rw (pushed, put_at.stored, none, edges_long s) (rw none at made)

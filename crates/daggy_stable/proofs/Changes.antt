@@ -1,4 +1,4 @@
--- What each change of nodes and edges makes of what is stored.
+-- What is stored after each change of nodes and edges.
 use Rattle.std.proofs.Common.{◌≡◌, ◌≢◌, ℕ, zero, suc, ◌+◌, ◌<◌, ◌≤◌, List, [], ◌∷◌, map, length, get_or, set, Option}
 use Rattle.std.proofs.Common.{Some, None, IsSome, slice_get, refl, sym, ap, subst, ◌∙◌, arith, Contains}
 use Rattle.std.specs.Option.{option_map, option_and_then}
@@ -16,8 +16,8 @@ use Rattle.daggy_cells.specs.Fields.{firsts_of, nexts_of, lists_at, AreLedTo, ed
 use Rattle.daggy_base.proofs.Lists.{slice_get-set_other, slice_get-set_same, slice_get_mapped}
 use Rattle.daggy_cells.proofs.LinkedListChanges.{AreLinkedLists-put, ListsBy-put}
 use Rattle.daggy_cells.proofs.FieldLemmas.{firsts_as_many}
-use Rattle.daggy_stable.specs.Stored.{weight_of, plain_edge, shown, list_firsts, end_of, IsThreaded, Stores}
-use Rattle.daggy_stable.proofs.Slots.{filled, rethreaded, slot_not_vacant, vacant_none, vacant_some, vacant_inside}
+use Rattle.daggy_stable.specs.Stored.{weight_of, plain_edge, shown, list_firsts, end_of, IsFreeList, Stores}
+use Rattle.daggy_stable.proofs.Slots.{filled, relinked, slot_not_vacant, vacant_none, vacant_some, vacant_inside}
 use Rattle.daggy_stable.proofs.Shown.{shown_some, shown-set, shown-fill}
 use Rattle.daggy_stable.proofs.Stores.{weights_seen, nodes_long, edges_long, firsts_long, none_shown, some_is}
 
@@ -73,8 +73,8 @@ module _ {N E Ix : Type 0} {end : ℕ} {nodes : List (Node (Option N) Ix)} {edge
       (with_node g w)
   node_filled w v vs head' some goes =
       let x : Node (Option N) Ix = fresh_node end w in
-      let t : IsThreaded end g.nodes (firsts_of Outgoing nodes) node_head nodes_counted (v ∷ vs) =
-      subst (IsThreaded end g.nodes (firsts_of Outgoing nodes) node_head nodes_counted) some s.node_slots in
+      let t : IsFreeList end g.nodes (firsts_of Outgoing nodes) node_head nodes_counted (v ∷ vs) =
+      subst (IsFreeList end g.nodes (firsts_of Outgoing nodes) node_head nodes_counted) some s.node_slots in
       let vacant : slice_get g.nodes v ≡ Some None = (t.exact v).0 (0, omega arith, refl) in
       let vacant' : slice_get (map weight_of nodes) v ≡ Some None =
       ap (λ l. slice_get l v) (sym s.nodes_are) ∙ vacant in
@@ -123,9 +123,9 @@ module _ {N E Ix : Type 0} {end : ℕ} {nodes : List (Node (Option N) Ix)} {edge
     found_v : (into : N) × (slot g.nodes v ≡ Some into)
     found_v = some_is _ ends.child
 
-    node_slots' : IsThreaded end g.nodes (firsts_of Outgoing nodes') node_head nodes_counted g.vacant_nodes
+    node_slots' : IsFreeList end g.nodes (firsts_of Outgoing nodes') node_head nodes_counted g.vacant_nodes
     node_slots' =
-        rethreaded s.node_slots
+        relinked s.node_slots
         (firsts_of Outgoing nodes') (ap length led.outs ∙ length-set (firsts_of Outgoing nodes) u e) (λ f p.
         let other : f ≢ u = λ same.
         slot_not_vacant g.nodes u found_u.0 found_u.1
@@ -172,7 +172,7 @@ module _ {N E Ix : Type 0} {end : ℕ} {nodes : List (Node (Option N) Ix)} {edge
         (λ f other. ap (option_map (near_end dir)) (stored.elsewhere f other))
 
     pub edge_put : {edge_head' edges_counted' : ℕ} {vacant : List ℕ}
-        → IsThreaded end slots (nexts_of Outgoing edges') edge_head' edges_counted' vacant
+        → IsFreeList end slots (nexts_of Outgoing edges') edge_head' edges_counted' vacant
         → Stores end nodes' edges' node_head edge_head' nodes_counted edges_counted' (record {
           nodes = g.nodes;
           edges = slots;
@@ -181,7 +181,7 @@ module _ {N E Ix : Type 0} {end : ℕ} {nodes : List (Node (Option N) Ix)} {edge
           vacant_nodes = g.vacant_nodes;
           vacant_edges = vacant;
         })
-    edge_put threaded =
+    edge_put free_list =
         record {
           nodes_are = s.nodes_are ∙ sym (weights_seen _ _ led.weights);
           edges_are = sym stored.plains;
@@ -194,7 +194,7 @@ module _ {N E Ix : Type 0} {end : ℕ} {nodes : List (Node (Option N) Ix)} {edge
             | Incoming ↦ side_listed Incoming v found_v.0 found_v.1 refl
           ];
           node_slots = node_slots';
-          edge_slots = threaded;
+          edge_slots = free_list;
         }
 
 -- in the words of the code
@@ -229,7 +229,7 @@ module _ {N E Ix : Type 0} {end : ℕ} {nodes : List (Node (Option N) Ix)} {edge
           → g.vacant_nodes ≡ vacant → (vs : List ℕ) × (g.vacant_nodes ≡ node_head ∷ vs) × (node_head < length nodes)
       go [] is = absurd (some is)
       go (v ∷ vs) is =
-          let t = subst (IsThreaded end g.nodes (firsts_of Outgoing nodes) node_head nodes_counted) is s.node_slots in
+          let t = subst (IsFreeList end g.nodes (firsts_of Outgoing nodes) node_head nodes_counted) is s.node_slots in
           let within =
           vacant_inside t v (0, omega arith, refl) in
           (vs, is ∙ ap (λ z. z ∷ vs) (sym t.linked.starts), omega (arith, within, t.linked.starts, nodes_long s))
@@ -241,7 +241,7 @@ module _ {N E Ix : Type 0} {end : ℕ} {nodes : List (Node (Option N) Ix)} {edge
           → g.vacant_edges ≡ vacant → (vs : List ℕ) × (g.vacant_edges ≡ edge_head ∷ vs) × (edge_head < length edges)
       go [] is = absurd (some is)
       go (v ∷ vs) is =
-          let t = subst (IsThreaded end g.edges (nexts_of Outgoing edges) edge_head edges_counted) is s.edge_slots in
+          let t = subst (IsFreeList end g.edges (nexts_of Outgoing edges) edge_head edges_counted) is s.edge_slots in
           let within =
           vacant_inside t v (0, omega arith, refl) in
           (vs, is ∙ ap (λ z. z ∷ vs) (sym t.linked.starts), omega (arith, within, t.linked.starts, edges_long s))
@@ -272,8 +272,8 @@ module _ {N E Ix : Type 0} {end : ℕ} {nodes : List (Node (Option N) Ix)} {edge
         → Stores end nodes' (set edges edge_head cell) node_head head' nodes_counted (suc edges_counted)
         (with_edge g a b w)
     edge_filled {vs} {head'} {nodes'} some within goes led =
-        let t : IsThreaded end g.edges (nexts_of Outgoing edges) edge_head edges_counted (edge_head ∷ vs) =
-        subst (IsThreaded end g.edges (nexts_of Outgoing edges) edge_head edges_counted) some s.edge_slots in
+        let t : IsFreeList end g.edges (nexts_of Outgoing edges) edge_head edges_counted (edge_head ∷ vs) =
+        subst (IsFreeList end g.edges (nexts_of Outgoing edges) edge_head edges_counted) some s.edge_slots in
         let written : (dir : Direction)
         → nexts_of dir (set edges edge_head cell) ≡ set (nexts_of dir edges) edge_head (raw_next dir cell) =
         λ dir.
@@ -291,7 +291,7 @@ module _ {N E Ix : Type 0} {end : ℕ} {nodes : List (Node (Option N) Ix)} {edge
         ∙ slice_get-set_other (nexts_of dir edges) edge_head f (raw_next dir cell) other in
         let long : length (nexts_of Outgoing (set edges edge_head cell)) ≡ length (nexts_of Outgoing edges) =
         ap length (written Outgoing) ∙ length-set (nexts_of Outgoing edges) edge_head (raw_next Outgoing cell) in
-        let threaded =
+        let free_list =
         filled t new_edge (nexts_of Outgoing (set edges edge_head cell)) head' long
         (λ f p. others Outgoing f (λ same. t.linked.distinct.0 (subst (Contains vs) same p))) goes in
         let slots = set g.edges edge_head (Some new_edge) in
@@ -306,7 +306,7 @@ module _ {N E Ix : Type 0} {end : ℕ} {nodes : List (Node (Option N) Ix)} {edge
               ap (option_and_then (λ z. z)) (slice_get-set_other g.edges edge_head f (Some new_edge) other);
           link = elim [ Outgoing ↦ link Outgoing | Incoming ↦ link Incoming ];
           others = λ dir f other inside. others dir f other;
-        }) threaded)
+        }) free_list)
 
   pub edge_filled_code : {a b u v i head' : ℕ} {w : E} {x y : Edge (Option E) Ix} {nodes' : List (Node (Option N) Ix)}
       → AreNodes g a b → u ≡ a → v ≡ b → IsPutFirst nodes nodes' u v edge_head (Some w) y

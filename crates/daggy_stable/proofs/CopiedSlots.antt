@@ -1,4 +1,4 @@
--- Slots are copied: each weight in them is mapped to its clone.
+-- Clones of slots: each weight is mapped to its clone.
 use Rattle.std.proofs.Common.{◌≡◌, ℕ, List, map, Option, Some, None, refl, sym, ap, ◌∙◌}
 use Rattle.std.specs.List.{AllZip}
 use Rattle.std.specs.Option.{option_map}

@@ -1,4 +1,4 @@
--- Cells that hold a graph in which no slot is vacant store it.
+-- Slots that hold a graph without vacant slots store it.
 use Rattle.std.proofs.Common.{◌≡◌, ℕ, zero, suc, ◌<◌, ◌≤◌, ◌↔◌, List, [], ◌∷◌, map, length, get_or, Option, Some, None}
 use Rattle.std.proofs.Common.{is_some, slice_get, refl, sym, ap, subst, ◌∙◌, arith, Contains}
 use Rattle.std.specs.List.{count_by}
@@ -18,7 +18,7 @@ use Rattle.daggy_cells.specs.Raw.{raw_first, raw_next}
 use Rattle.daggy_cells.specs.Fields.{firsts_of, nexts_of, lists_at}
 use Rattle.daggy_base.proofs.Lists.{Contains-nil}
 use Rattle.daggy_stable.specs.Held.{HoldsGraph}
-use Rattle.daggy_stable.specs.Stored.{weight_of, plain_edge, shown, list_firsts, end_of, IsThreaded, Stores}
+use Rattle.daggy_stable.specs.Stored.{weight_of, plain_edge, shown, list_firsts, end_of, IsFreeList, Stores}
 use Rattle.daggy_stable.proofs.Slots.{slot_inside}
 
 -- slots that are shown one by one
@@ -51,11 +51,11 @@ shown_full end (Some x ∷ xs) (l ∷ links) long full =
     ap (λ z. l ∷ z) (shown_full end xs links (omega (arith, long)) (λ i. full (suc i)))
 
 -- no slot is vacant
-none_threaded : {A : Type 0} (end : ℕ) (slots : List (Option A)) {links : List ℕ} (vacant : List ℕ) (count : ℕ)
+none_linked : {A : Type 0} (end : ℕ) (slots : List (Option A)) {links : List ℕ} (vacant : List ℕ) (count : ℕ)
     → vacant ≡ [] → ((i : ℕ) → Contains vacant i ↔ (slice_get slots i ≡ Some None)) → count ≡ count_by is_some slots
     → length links ≡ length slots → length slots ≤ end
-    → IsThreaded end slots links end count vacant
-none_threaded end slots {links} vacant count none exact counted long few =
+    → IsFreeList end slots links end count vacant
+none_linked end slots {links} vacant count none exact counted long few =
     record {
       linked =
           subst (IsLinkedList end links end) (sym none)
@@ -152,11 +152,11 @@ module _ {N E Ix : Type 0} (end : ℕ) (g : Graph N E) {nodes : List (Node (Opti
         linked = elim [ Outgoing ↦ linked Outgoing | Incoming ↦ linked Incoming ];
         listed = elim [ Outgoing ↦ listed Outgoing | Incoming ↦ listed Incoming ];
         node_slots =
-            none_threaded end g.nodes g.vacant_nodes nodes_counted h.compact.nodes h.well_formed.node_slots.exact
+            none_linked end g.nodes g.vacant_nodes nodes_counted h.compact.nodes h.well_formed.node_slots.exact
             (nodes_many ∙ h.node_cells.count ∙ sym (count_full g.nodes nodes_full))
             (length-map nodes (raw_first Outgoing) ∙ h.node_cells.count) h.well_formed.few_nodes;
         edge_slots =
-            none_threaded end g.edges g.vacant_edges edges_counted h.compact.edges h.well_formed.edge_slots.exact
+            none_linked end g.edges g.vacant_edges edges_counted h.compact.edges h.well_formed.edge_slots.exact
             (edges_many ∙ h.edge_cells.count ∙ sym (count_full g.edges edges_full))
             (length-map edges (raw_next Outgoing) ∙ h.edge_cells.count) h.well_formed.few_edges;
       })

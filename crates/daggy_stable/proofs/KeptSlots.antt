@@ -1,4 +1,4 @@
--- How a loop keeps slots in turn.
+-- A loop that keeps slots in turn.
 use Rattle.std.proofs.Common.{◌≡◌, ℕ, ◌+◌, ◌<◌, ◌≤◌, Bool, true, false, cond, List, [], ◌∷◌, ◌++◌, map, length, take}
 use Rattle.std.proofs.Common.{drop, get_or, Option, Some, None, IsSome, is_some, refl, sym, ap, ◌∙◌, arith, append-nil}
 use Rattle.std.proofs.Common.{append_assoc}

@@ -1,4 +1,4 @@
--- What other orders of its lists keep of what a graph stores.
+-- What stays of a stored graph when its lists are permuted.
 use Rattle.std.proofs.Common.{◌≡◌, ◌≢◌, ℕ, suc, ◌+◌, ◌<◌, cond, List, map, length, take, get_or, set, Option, Some}
 use Rattle.std.proofs.Common.{true, false, None, is_some, slice_get, refl, sym, ap, subst, ◌∙◌, arith, Contains}
 use Rattle.std.specs.List.{count_by}
@@ -17,17 +17,17 @@ use Rattle.daggy_base.proofs.Orders.{length-lists_by_slots, row_vacant, row_take
 use Rattle.daggy_base.proofs.Orders.{well_formed_with_orders}
 use Rattle.daggy_cells.specs.declared.cell.Node.{Node}
 use Rattle.daggy_cells.specs.declared.cell.Edge.{Edge}
-use Rattle.daggy_cells.specs.Links.{nth_list, AreLinkedLists, CanThreadAll, AreThreadedBelow}
+use Rattle.daggy_cells.specs.Links.{nth_list, AreLinkedLists, CanLinkAll, AreLinkedBelow}
 use Rattle.daggy_cells.specs.Fields.{weight_of as stored_weight, plain_edge as stored_edge, firsts_of, nexts_of}
-use Rattle.daggy_cells.specs.Fields.{lists_at, order_at, Threads}
-use Rattle.daggy_cells.proofs.ListOrders.{can_thread_all, rows_listed}
-use Rattle.daggy_cells.proofs.RethreadedLists.{none_below, below_empty, below_threaded, all_threaded}
+use Rattle.daggy_cells.specs.Fields.{lists_at, order_at, Relinks}
+use Rattle.daggy_cells.proofs.ListOrders.{can_link_all, rows_listed}
+use Rattle.daggy_cells.proofs.RelinkedLists.{none_below, below_empty, below_linked, all_linked}
 use Rattle.daggy_cells.proofs.FieldLemmas.{firsts_as_many, as_many as same_long}
 use Rattle.daggy_stable.specs.Stored.{weight_of, plain_edge, shown, list_firsts, Stores}
 use Rattle.daggy_stable.specs.Ordering.{new_lists}
 use Rattle.daggy_stable.proofs.ListSearches.{none_from, some_from}
 use Rattle.daggy_stable.proofs.Shown.{length-shown, shown_none, shown-set}
-use Rattle.daggy_stable.proofs.Slots.{rethreaded}
+use Rattle.daggy_stable.proofs.Slots.{relinked}
 use Rattle.daggy_stable.proofs.Stores.{edges_long, well_formed, weights_seen}
 use Rattle.daggy_stable.proofs.StoredRemoval.{edges_seen}
 
@@ -39,7 +39,7 @@ counted_to xs i bit within is =
     let same = ap (λ k. count_by is_some (take k xs)) next in
     omega (arith, same, step, is)
 
--- the lists of the nodes before the index i are threaded, and so many of those exist
+-- the lists of the nodes before the index i are linked, and so many of those nodes exist
 module _ {N E Ix : Type 0} (end : ℕ) (nodes : List (Node (Option N) Ix)) (edges : List (Edge (Option E) Ix))
     (orders : List (List ℕ × List ℕ)) where
   pub record IsOrdering (nodes' : List (Node (Option N) Ix)) (edges' : List (Edge (Option E) Ix))
@@ -48,7 +48,7 @@ module _ {N E Ix : Type 0} (end : ℕ) (nodes : List (Node (Option N) Ix)) (edge
     pub lines : map plain_edge edges' ≡ map plain_edge edges
     pub counted : next ≡ count_by is_some (take i (map weight_of nodes))
     pub rows : (dir : Direction)
-        → AreThreadedBelow i end (nexts_of dir edges) (list_firsts end dir nodes') (nexts_of dir edges')
+        → AreLinkedBelow i end (nexts_of dir edges) (list_firsts end dir nodes') (nexts_of dir edges')
         (new_lists dir nodes orders)
     pub vacant : (n : ℕ) → slot (map weight_of nodes) n ≡ None
         → slice_get (firsts_of Outgoing nodes') n ≡ slice_get (firsts_of Outgoing nodes) n
@@ -80,7 +80,7 @@ module _ {N E Ix : Type 0} (end : ℕ) (nodes : List (Node (Option N) Ix)) (edge
         → (w : N) × (slot (map weight_of nodes) i ≡ Some w)
     taken_at x within is some = let there = some_from x.weight some in (there.0, read_slot x within is ∙ there.1)
 
-    -- all are threaded
+    -- all are linked
     pub ordering_done : i ≡ length nodes → (dir : Direction)
         → AreLinkedLists end (list_firsts end dir nodes') (nexts_of dir edges') (new_lists dir nodes orders)
     ordering_done all dir =
@@ -89,7 +89,7 @@ module _ {N E Ix : Type 0} (end : ℕ) (nodes : List (Node (Option N) Ix)) (edge
         ∙ length-map nodes' weight_of ∙ as_many_nodes in
         let lists : length (new_lists dir nodes orders) ≡ length nodes =
         length-lists_by_slots (map weight_of nodes) (map (order_at dir) orders) ∙ length-map nodes weight_of in
-        all_threaded i end (o.rows dir) (all ∙ sym firsts) (lists ∙ sym firsts)
+        all_linked i end (o.rows dir) (all ∙ sym firsts) (lists ∙ sym firsts)
 
     -- a vacant slot is passed over
     pub ordering_vacant : (x : Node (Option N) Ix) → i < length nodes → x ≡ get_or nodes' i x
@@ -124,11 +124,11 @@ module _ {N E Ix : Type 0} (end : ℕ) (nodes : List (Node (Option N) Ix)) (edge
           row_taken (map weight_of nodes) (map (order_at dir) orders) i w some
           ∙ ap (nth_list (map (order_at dir) orders)) (sym o.counted) ∙ is
 
-      pub ordering_step : ((dir : Direction) → CanThreadAll (length edges) (new_lists dir nodes orders))
+      pub ordering_step : ((dir : Direction) → CanLinkAll (length edges) (new_lists dir nodes orders))
           → (order : List ℕ × List ℕ)
           → ((dir : Direction) → nth_list (map (order_at dir) orders) next ≡ order_at dir order)
           → (nodes'' : List (Node (Option N) Ix)) (edges'' : List (Edge (Option E) Ix))
-          → ((dir : Direction) → Threads end dir nodes' edges' i (order_at dir order) nodes'' edges'')
+          → ((dir : Direction) → Relinks end dir nodes' edges' i (order_at dir order) nodes'' edges'')
           → map stored_weight nodes'' ≡ map stored_weight nodes' → map stored_edge edges'' ≡ map stored_edge edges'
           → IsOrdering nodes'' edges'' (i + 1) (next + 1)
       ordering_step can order reads nodes'' edges'' made same_weights same_lines =
@@ -147,7 +147,7 @@ module _ {N E Ix : Type 0} (end : ℕ) (nodes : List (Node (Option N) Ix)) (edge
             lines = edges_seen edges'' edges' same_lines ∙ o.lines;
             counted = omega (arith, o.counted, more);
             rows = λ dir.
-                below_threaded i end (o.rows dir) (can dir)
+                below_linked i end (o.rows dir) (can dir)
                 (omega (
                   arith,
                   within,
@@ -176,10 +176,10 @@ module _ {N E Ix : Type 0} {end : ℕ} {nodes : List (Node (Option N) Ix)} {edge
   rows_same Outgoing = ap (λ l. lists_by_slots l (map (λ p. p.0) orders)) s.nodes_are
   rows_same Incoming = ap (λ l. lists_by_slots l (map (λ p. p.1) orders)) s.nodes_are
 
-  pub can_thread : (dir : Direction) → CanThreadAll (length edges) (new_lists dir nodes orders)
-  can_thread dir =
-      subst (CanThreadAll (length edges)) (rows_same dir)
-      (can_thread_all (with_orders g orders) still_well_formed (length edges) (edges_long s) dir)
+  pub can_link : (dir : Direction) → CanLinkAll (length edges) (new_lists dir nodes orders)
+  can_link dir =
+      subst (CanLinkAll (length edges)) (rows_same dir)
+      (can_link_all (with_orders g orders) still_well_formed (length edges) (edges_long s) dir)
 
   -- no vacant edge stands in a list
   not_listed : (e : ℕ)
@@ -212,9 +212,9 @@ module _ {N E Ix : Type 0} {end : ℕ} {nodes : List (Node (Option N) Ix)} {edge
             (linked dir);
         listed = rows_listed (with_orders g orders) still_well_formed;
         node_slots =
-            rethreaded s.node_slots (firsts_of Outgoing nodes') firsts_as_long
+            relinked s.node_slots (firsts_of Outgoing nodes') firsts_as_long
             (λ f p.
             vacant f (ap (λ l. slot l f) (sym s.nodes_are) ∙ slot_vacant g.nodes f ((s.node_slots.exact f).0 p)));
         edge_slots =
-            rethreaded s.edge_slots (nexts_of Outgoing edges') as_long (λ f p. others f (not_listed f p));
+            relinked s.edge_slots (nexts_of Outgoing edges') as_long (λ f p. others f (not_listed f p));
       }

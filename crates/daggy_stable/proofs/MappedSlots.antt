@@ -1,4 +1,4 @@
--- What of a stored graph stays where its slots are mapped.
+-- What stays of a stored graph when its slots are mapped.
 use Rattle.std.proofs.Common.{◌≡◌, ℕ, zero, suc, ◌+◌, ◌↔◌, List, [], ◌∷◌, map, length, Option, Some, None, is_some}
 use Rattle.std.proofs.Common.{slice_get, refl, sym, ap, subst, ◌∙◌, arith, Contains}
 use Rattle.std.proofs.lemmas.Option.{same_Some, none-some}
@@ -14,7 +14,7 @@ use Rattle.daggy_cells.specs.Links.{follow, linked_lists, nth_list, IsLinkedList
 use Rattle.daggy_base.specs.Mapping.{MapsSlots, IsMapped, weight_in, with_weight}
 use Rattle.daggy_cells.specs.Fields.{firsts_of, nexts_of}
 use Rattle.daggy_cells.proofs.MappingLemmas.{mapped_length}
-use Rattle.daggy_stable.specs.Stored.{weight_of, plain_edge, shown, list_firsts, end_of, stored_graph, IsThreaded}
+use Rattle.daggy_stable.specs.Stored.{weight_of, plain_edge, shown, list_firsts, end_of, stored_graph, IsFreeList}
 use Rattle.daggy_stable.specs.Stored.{Stores}
 use Rattle.daggy_base.proofs.Slots.{count_cons}
 
@@ -82,12 +82,12 @@ module _ {F I W V A B : Type 0} (step : F → I → Bor W → V → F → Type 0
   mapped_keep h k same f i (Some x ∷ xs) ys (v, next, called, later, is, more) (suc e) =
       ap (λ l. option_map k (slot l (suc e))) is ∙ mapped_keep h k same next (i + 1) xs later more e
 
-  -- they are threaded as the old
-  mapped_threaded : {end : ℕ} (f : F) {xs : List (Option A)} {ys : List (Option B)} {links links' : List ℕ}
+  -- they form the same free list as the old links
+  mapped_free_list : {end : ℕ} (f : F) {xs : List (Option A)} {ys : List (Option B)} {links links' : List ℕ}
       {head count : ℕ} {vacant : List ℕ}
-      → MapsSlots step of weight with f 0 xs ys → links' ≡ links → IsThreaded end xs links head count vacant
-      → IsThreaded end ys links' head count vacant
-  mapped_threaded {end} f {xs} {ys} {links} {links'} {head} {count} {vacant} m same t =
+      → MapsSlots step of weight with f 0 xs ys → links' ≡ links → IsFreeList end xs links head count vacant
+      → IsFreeList end ys links' head count vacant
+  mapped_free_list {end} f {xs} {ys} {links} {links'} {head} {count} {vacant} m same t =
       let long = mapped_length step of weight with f 0 xs ys m in
       record {
         linked = subst (λ l. IsLinkedList end l head vacant) (sym same) t.linked;
@@ -177,10 +177,10 @@ module _ {N E V W Ix F G I : Type 0} {of : ℕ → I} {step_f : F → I → Bor 
           | Outgoing ↦ listed_again Outgoing (s.listed Outgoing)
           | Incoming ↦ listed_again Incoming (s.listed Incoming)
         ];
-        node_slots = subst (IsThreaded end new.nodes (firsts_of Outgoing nodes') node_head nodes_counted) (sym vacant)
-            (mapped_threaded step_f of (λ w. w) (λ w v. v) f m.for_nodes (m.firsts Outgoing) s.node_slots);
-        edge_slots = subst (IsThreaded end new.edges (nexts_of Outgoing edges') edge_head edges_counted) (sym vacant')
-            (mapped_threaded step_g of weight_in with_weight g m.for_edges (m.nexts Outgoing) s.edge_slots);
+        node_slots = subst (IsFreeList end new.nodes (firsts_of Outgoing nodes') node_head nodes_counted) (sym vacant)
+            (mapped_free_list step_f of (λ w. w) (λ w v. v) f m.for_nodes (m.firsts Outgoing) s.node_slots);
+        edge_slots = subst (IsFreeList end new.edges (nexts_of Outgoing edges') edge_head edges_counted) (sym vacant')
+            (mapped_free_list step_g of weight_in with_weight g m.for_edges (m.nexts Outgoing) s.edge_slots);
       }
 
   pub IsMapped-stored : IsMapped of step_f step_g f g old new

@@ -1,4 +1,4 @@
--- What is left of a list of a node's edges, before and after a step.
+-- The rest of a list of a node's edges, before and after a step.
 use Rattle.std.proofs.Common.{◌≡◌, ℕ, zero, suc, ◌<◌, ◌≤◌, List, [], ◌∷◌, map, length, get_or, Option, Some, None}
 use Rattle.std.proofs.Common.{IsSome, is_some, false, eqb, unwrap_or, refl, sym, ap, subst, ◌∙◌, arith, Contains}
 use Rattle.std.specs.List.{filter_map, cons_option, find}

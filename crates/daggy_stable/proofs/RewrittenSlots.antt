@@ -1,4 +1,4 @@
--- What of a stored graph stays where the weights in its slots are written.
+-- What stays of a stored graph when the weights in its slots are written.
 use Rattle.std.proofs.Common.{◌≡◌, ℕ, ◌+◌, List, [], ◌∷◌, map, Option, Some, None, refl, sym, ap}
 use Rattle.std.specs.Borrow.{Bor, MutBor}
 use Rattle.daggy_base.specs.declared.index.Direction.{Direction}

@@ -1,4 +1,4 @@
--- Links, where a vacant slot's leads nowhere.
+-- The links of occupied slots, with `end` for vacant ones.
 use Rattle.std.proofs.Common.{◌≡◌, ℕ, zero, suc, ◌<◌, List, [], ◌∷◌, ◌++◌, length, get_or, set, take, Option, Some}
 use Rattle.std.proofs.Common.{None, slice_get, refl, sym, ap, arith}
 use Rattle.std.proofs.lemmas.Option.{same_Some, none-some}

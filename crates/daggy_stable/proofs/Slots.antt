@@ -1,4 +1,4 @@
--- Slots: one made, one filled, one vacated, one cut off.
+-- Slots: adding one, filling one, vacating one, removing the last.
 use Rattle.std.proofs.Common.{◌≡◌, ◌≢◌, ℕ, zero, suc, ◌+◌, ◌<◌, ◌≤◌, List, [], ◌∷◌, ◌++◌, length, set, take, Option}
 use Rattle.std.proofs.Common.{Some, None, is_some, slice_get, refl, sym, ap, subst, ◌∙◌, inl, inr, arith, Contains}
 use Rattle.std.specs.List.{count_by}
@@ -16,7 +16,7 @@ use Rattle.daggy_base.proofs.Lists.{Contains-here, Contains-there, slice_get-set
 use Rattle.daggy_base.proofs.Lists.{slice_get-take, slice_get-take_past}
 use Rattle.daggy_cells.proofs.LinkedLists.{after_here, after_there, row_is, IsLinkedList-tail}
 use Rattle.daggy_cells.proofs.LinkedListChanges.{IsLinkedList-kept}
-use Rattle.daggy_stable.specs.Stored.{IsThreaded}
+use Rattle.daggy_stable.specs.Stored.{IsFreeList}
 
 module _ {A : Type 0} where
   -- how many are not vacant
@@ -87,33 +87,33 @@ module _ {A : Type 0} where
 
   module _ {end : ℕ} {slots : List (Option A)} {links : List ℕ} {head count : ℕ} where
     pub vacant_inside : {vacant : List ℕ}
-        → IsThreaded end slots links head count vacant → (i : ℕ) → Contains vacant i → i < length slots
+        → IsFreeList end slots links head count vacant → (i : ℕ) → Contains vacant i → i < length slots
     vacant_inside t i p = slice_get_within slots i _ ((t.exact i).0 p)
 
     -- where the head leads
     pub vacant_none : (vacant : List ℕ)
-        → IsThreaded end slots links head count vacant → length slots ≤ head → vacant ≡ []
+        → IsFreeList end slots links head count vacant → length slots ≤ head → vacant ≡ []
     vacant_none [] t past = refl
     vacant_none (v ∷ vs) t past =
         absurd (omega (arith, past, t.linked.starts, vacant_inside t v (Contains-here v vs)))
 
     pub vacant_some : (vacant : List ℕ)
-        → IsThreaded end slots links head count vacant → head < length slots → (rest : List ℕ) × (vacant ≡ head ∷ rest)
+        → IsFreeList end slots links head count vacant → head < length slots → (rest : List ℕ) × (vacant ≡ head ∷ rest)
     vacant_some [] t within = absurd (omega (arith, within, t.linked.starts, t.few))
     vacant_some (v ∷ vs) t within = (vs, ap (λ z. z ∷ vs) (sym t.linked.starts))
 
     pub vacant_is : {vacant : List ℕ}
-        → IsThreaded end slots links head count vacant → follow links (length links) head ≡ vacant
+        → IsFreeList end slots links head count vacant → follow links (length links) head ≡ vacant
     vacant_is {vacant} t = row_is end head links vacant t.linked (omega (arith, t.long, t.few))
 
-    pub counted_full : IsThreaded end slots links head count [] → count ≡ length slots
+    pub counted_full : IsFreeList end slots links head count [] → count ≡ length slots
     counted_full t = t.counted ∙ count_full slots (full_from slots [] (record { exact = t.exact; once = tt }) refl)
 
     -- other links, which are the same at vacant slots
-    pub rethreaded : {vacant : List ℕ} → IsThreaded end slots links head count vacant → (links' : List ℕ)
+    pub relinked : {vacant : List ℕ} → IsFreeList end slots links head count vacant → (links' : List ℕ)
         → length links' ≡ length links → ((f : ℕ) → Contains vacant f → slice_get links' f ≡ slice_get links f)
-        → IsThreaded end slots links' head count vacant
-    rethreaded {vacant} t links' same_length kept =
+        → IsFreeList end slots links' head count vacant
+    relinked {vacant} t links' same_length kept =
         record {
           linked = IsLinkedList-kept end links links' head vacant t.linked kept;
           exact = t.exact;
@@ -122,10 +122,10 @@ module _ {A : Type 0} where
           few = t.few;
         }
 
-    pub filled : {v : ℕ} {vs : List ℕ} → IsThreaded end slots links head count (v ∷ vs)
+    pub filled : {v : ℕ} {vs : List ℕ} → IsFreeList end slots links head count (v ∷ vs)
         → (x : A) (links' : List ℕ) (head' : ℕ) → length links' ≡ length links
         → ((f : ℕ) → Contains vs f → slice_get links' f ≡ slice_get links f) → slice_get links v ≡ Some head'
-        → IsThreaded end (set slots v (Some x)) links' head' (suc count) vs
+        → IsFreeList end (set slots v (Some x)) links' head' (suc count) vs
     filled {v} {vs} t x links' head' same_length kept goes =
         let at_v : IsLinkedList end links v (v ∷ vs) =
         subst (λ z. IsLinkedList end links z (v ∷ vs)) t.linked.starts t.linked in
@@ -157,7 +157,7 @@ module _ {A : Type 0} where
         }
 
     -- one slot is another, and the vacant ones keep their links
-    module _ {vacant : List ℕ} (t : IsThreaded end slots links head count vacant) (e : ℕ) (fresh : ¬ Contains vacant e)
+    module _ {vacant : List ℕ} (t : IsFreeList end slots links head count vacant) (e : ℕ) (fresh : ¬ Contains vacant e)
         {slots' : List (Option A)} {links' : List ℕ} {count' : ℕ}
         (others : (i : ℕ) → i ≢ e → slice_get slots' i ≡ slice_get slots i)
         (kept : (f : ℕ) → Contains vacant f → slice_get links' f ≡ slice_get links f)
@@ -165,7 +165,7 @@ module _ {A : Type 0} where
         (few : length slots' ≤ end) where
       -- which is vacant, and leads to those that were vacant
       pub one_vacant : slice_get slots' e ≡ Some None → slice_get links' e ≡ Some head
-          → IsThreaded end slots' links' e count' (e ∷ vacant)
+          → IsFreeList end slots' links' e count' (e ∷ vacant)
       one_vacant none goes =
           record {
             linked = record {
@@ -198,7 +198,7 @@ module _ {A : Type 0} where
           }
 
       -- which is not
-      pub one_taken : (x : A) → slice_get slots' e ≡ Some (Some x) → IsThreaded end slots' links' head count' vacant
+      pub one_taken : (x : A) → slice_get slots' e ≡ Some (Some x) → IsFreeList end slots' links' head count' vacant
       one_taken x some =
           record {
             linked = IsLinkedList-kept end links links' head vacant t.linked kept;
@@ -216,14 +216,14 @@ module _ {A : Type 0} where
             few = few;
           }
 
-    module _ {vacant : List ℕ} (t : IsThreaded end slots links head count vacant) (e : ℕ) (x : A)
+    module _ {vacant : List ℕ} (t : IsFreeList end slots links head count vacant) (e : ℕ) (x : A)
         (at : slot slots e ≡ Some x) where
       pub not_listed : ¬ Contains vacant e
       not_listed p = slot_not_vacant slots e x at ((t.exact e).0 p)
 
       pub vacated : (links' : List ℕ) (count' : ℕ) → length links' ≡ length links → slice_get links' e ≡ Some head
           → ((f : ℕ) → Contains vacant f → slice_get links' f ≡ slice_get links f) → count ≡ suc count'
-          → IsThreaded end (set slots e None) links' e count' (e ∷ vacant)
+          → IsFreeList end (set slots e None) links' e count' (e ∷ vacant)
       vacated links' count' same_length goes kept count_is =
           let step = count_vacate slots e x at in
           one_vacant t e not_listed (λ i other. slice_get-set_other slots e i None other) kept
@@ -233,7 +233,7 @@ module _ {A : Type 0} where
 
       pub cut : (links' : List ℕ) (count' : ℕ) → e + 1 ≡ length slots → length links' ≡ e
           → ((f : ℕ) → Contains vacant f → slice_get links' f ≡ slice_get links f) → count ≡ suc count'
-          → IsThreaded end (take e slots) links' head count' vacant
+          → IsFreeList end (take e slots) links' head count' vacant
       cut links' count' last links_long kept count_is =
           let short : length (take e slots) ≡ e = length-take-le e slots (omega (arith, last)) in
           record {
@@ -254,7 +254,7 @@ module _ {A : Type 0} where
           }
 
       -- something else in a slot that is not vacant
-      pub renewed : (y : A) → IsThreaded end (set slots e (Some y)) links head count vacant
+      pub renewed : (y : A) → IsFreeList end (set slots e (Some y)) links head count vacant
       renewed y =
           one_taken t e not_listed (λ i other. slice_get-set_other slots e i (Some y) other) (λ f p. refl)
           (t.counted ∙ sym (count_keep slots e x y at)) (t.long ∙ sym (length-set slots e (Some y)))

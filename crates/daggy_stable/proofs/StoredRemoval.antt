@@ -1,4 +1,4 @@
--- What a removal makes of what is stored.
+-- What is stored after a removal.
 use Rattle.std.proofs.Common.{◌≡◌, ◌≢◌, ℕ, zero, suc, ◌+◌, ◌-◌, ◌<◌, ◌≤◌, List, [], ◌∷◌, ◌++◌, map, length, get_or, set}
 use Rattle.std.proofs.Common.{take, drop, Option, Some, None, IsSome, OnSome, IfNone, slice_get, unwrap_or, true, refl}
 use Rattle.std.proofs.Common.{sym, ap, subst, ◌∙◌, inl, inr, arith, Contains}
@@ -30,8 +30,8 @@ use Rattle.daggy_base.proofs.MappedSlots.{slot_read}
 use Rattle.daggy_cells.proofs.RedirectLemmas.{IsListOf, Ready-row, Redirected-list_from}
 use Rattle.daggy_cells.proofs.FieldLemmas.{firsts_as_many}
 use Rattle.daggy_stable.specs.Stored.{weight_of, plain, plain_edge, shown, list_firsts, end_of, with_links_emptied}
-use Rattle.daggy_stable.specs.Stored.{with_lists_emptied, IsThreaded, IsUnlinked, Stores}
-use Rattle.daggy_stable.proofs.Slots.{rethreaded, vacated, cut, slot_not_vacant, not_listed, count_vacate}
+use Rattle.daggy_stable.specs.Stored.{with_lists_emptied, IsFreeList, IsUnlinked, Stores}
+use Rattle.daggy_stable.proofs.Slots.{relinked, vacated, cut, slot_not_vacant, not_listed, count_vacate}
 use Rattle.daggy_stable.proofs.Shown.{length-shown, shown_some, shown-set, shown-set_vacant, shown-vacate, shown-take}
 use Rattle.daggy_stable.proofs.Stores.{reads_itself, nodes_long, edges_long, firsts_long, row_from, first_shown}
 use Rattle.daggy_stable.proofs.Stores.{listed_within, near_exists, edge_within, end_stored, stands, some_is, node_read}
@@ -160,13 +160,13 @@ module _ {N E Ix : Type 0} {end : ℕ} {nodes : List (Node (Option N) Ix)} {edge
             was.1,
           )
 
-      node_slots' : IsThreaded end g.nodes (firsts_of Outgoing nodes') node_head nodes_counted g.vacant_nodes
+      node_slots' : IsFreeList end g.nodes (firsts_of Outgoing nodes') node_head nodes_counted g.vacant_nodes
       node_slots' =
           let r = raw_red Outgoing in
           let n = near_end Outgoing y in
           let found = near_exists s Outgoing n e (there Outgoing) in
           let new = renamed e (get_or (nexts_of Outgoing edges) e 0) (get_or (firsts_of Outgoing nodes) n 0) in
-          rethreaded s.node_slots
+          relinked s.node_slots
           (firsts_of Outgoing nodes') (ap length r.first ∙ length-set (firsts_of Outgoing nodes) n new) (λ f p.
           let other : f ≢ n = λ same.
           slot_not_vacant g.nodes n found.0 found.1
@@ -658,7 +658,7 @@ Stores-emptied {N} {E} {Ix} {end} {nodes} {edges} {node_head} {edge_head} {nodes
       linked = elim [ Outgoing ↦ links Outgoing | Incoming ↦ links Incoming ];
       listed = elim [ Outgoing ↦ lists Outgoing | Incoming ↦ lists Incoming ];
       node_slots =
-          rethreaded s.node_slots (firsts_of Outgoing (map (with_lists_emptied end) nodes))
+          relinked s.node_slots (firsts_of Outgoing (map (with_lists_emptied end) nodes))
           (length-map (map (with_lists_emptied end) nodes) (raw_first Outgoing)
           ∙ length-map nodes (with_lists_emptied end) ∙ sym (length-map nodes (raw_first Outgoing)))
           (λ f p. emptied_vacant end nodes f (ap (λ l. slice_get l f) (sym s.nodes_are) ∙ (s.node_slots.exact f).0 p));

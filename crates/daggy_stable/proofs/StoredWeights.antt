@@ -1,4 +1,4 @@
--- What another weight makes of what is stored.
+-- What is stored after a weight is written.
 use Rattle.std.proofs.Common.{◌≡◌, ℕ, List, map, get_or, set, Option, Some, IsSome, refl, sym, ap, subst, ◌∙◌, inl, inr}
 use Rattle.std.specs.Option.{option_map, option_and_then}
 use Rattle.std.proofs.lemmas.Bool.{cases_eq}
@@ -13,7 +13,7 @@ use Rattle.daggy_cells.specs.Links.{AreLinkedLists, ListsBy}
 use Rattle.daggy_cells.specs.Raw.{raw_first, raw_next}
 use Rattle.daggy_cells.specs.Fields.{firsts_of, nexts_of, lists_at}
 use Rattle.daggy_base.proofs.Lists.{slice_get-set_same, slice_get-set_other, map-set_same}
-use Rattle.daggy_stable.specs.Stored.{weight_of, plain_edge, shown, list_firsts, end_of, IsThreaded, Stores}
+use Rattle.daggy_stable.specs.Stored.{weight_of, plain_edge, shown, list_firsts, end_of, IsFreeList, Stores}
 use Rattle.daggy_stable.proofs.Slots.{renewed, slot_inside}
 use Rattle.daggy_stable.proofs.Shown.{shown-renew}
 use Rattle.daggy_stable.proofs.Stores.{some_is, cell_of, edge_within}
@@ -48,7 +48,7 @@ module _ {N E Ix : Type 0} {end : ℕ} {nodes : List (Node (Option N) Ix)} {edge
         linked = elim [ Outgoing ↦ links Outgoing | Incoming ↦ links Incoming ];
         listed = elim [ Outgoing ↦ s.listed Outgoing | Incoming ↦ s.listed Incoming ];
         node_slots =
-            subst (λ z. IsThreaded end (set g.nodes n (Some w)) z node_head nodes_counted g.vacant_nodes)
+            subst (λ z. IsFreeList end (set g.nodes n (Some w)) z node_head nodes_counted g.vacant_nodes)
             (sym (firsts Outgoing)) (renewed s.node_slots n found.0 found.1 w);
         edge_slots = s.edge_slots;
       }
@@ -95,7 +95,7 @@ module _ {N E Ix : Type 0} {end : ℕ} {nodes : List (Node (Option N) Ix)} {edge
       → ListsBy (λ f.
       option_map (near_end dir) (slot (set g.edges e (Some (edge_with_weight w y))) f)) (lists_at dir g) =
       λ dir n f. (λ p. same_end dir f ∙ (s.listed dir n f).0 p, λ q. (s.listed dir n f).1 (sym (same_end dir f) ∙ q)) in
-      let threaded =
+      let free_list =
       renewed s.edge_slots e y found.1 (edge_with_weight w y) in
       rw new_is (
       record {
@@ -108,6 +108,6 @@ module _ {N E Ix : Type 0} {end : ℕ} {nodes : List (Node (Option N) Ix)} {edge
         node_slots = s.node_slots;
         edge_slots =
             subst
-            (λ z. IsThreaded end (set g.edges e (Some (edge_with_weight w y))) z edge_head edges_counted g.vacant_edges)
-            (sym (nexts Outgoing)) threaded;
+            (λ z. IsFreeList end (set g.edges e (Some (edge_with_weight w y))) z edge_head edges_counted g.vacant_edges)
+            (sym (nexts Outgoing)) free_list;
       })

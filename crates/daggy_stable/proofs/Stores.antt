@@ -20,7 +20,7 @@ use Rattle.daggy_base.proofs.Lists.{Contains-nil, Contains-here, slice_get_mappe
 use Rattle.daggy_cells.proofs.LinkedListChanges.{row_within, row_past, rows_are, linked_within}
 use Rattle.daggy_cells.proofs.FieldLemmas.{same_graph, firsts_as_many}
 use Rattle.daggy_base.proofs.MappedSlots.{slot_read, slot_beyond}
-use Rattle.daggy_stable.specs.Stored.{weight_of, plain, plain_edge, list_firsts, end_of, stored_graph, IsThreaded}
+use Rattle.daggy_stable.specs.Stored.{weight_of, plain, plain_edge, list_firsts, end_of, stored_graph, IsFreeList}
 use Rattle.daggy_stable.specs.Stored.{Stores}
 use Rattle.daggy_stable.proofs.Slots.{vacant_is}
 use Rattle.daggy_stable.proofs.Shown.{length-shown, shown_some, shown_none}
@@ -284,7 +284,7 @@ module _ {N E Ix : Type 0} {end : ℕ} {nodes : List (Node (Option N) Ix)} {edge
         few_edges = s.edge_slots.few;
       }
 
-pub no_slots : (A : Type 0) (end head : ℕ) → head ≡ end → IsThreaded {A = A} end [] [] head 0 []
+pub no_slots : (A : Type 0) (end head : ℕ) → head ≡ end → IsFreeList {A = A} end [] [] head 0 []
 no_slots A end head is =
     record {
       linked = record { starts = is; distinct = tt; goes_on = λ e p. absurd (Contains-nil e p) };

@@ -1,4 +1,4 @@
--- Another weight in two slots at once.
+-- Writing the weights in two slots at once.
 use Rattle.std.proofs.Common.{◌≡◌, ◌≢◌, ℕ, zero, suc, ◌<◌, List, [], ◌∷◌, ◌++◌, map, take, drop, length, get_or, set}
 use Rattle.std.proofs.Common.{slice_get, Option, Some, None, IsSome, refl, sym, ap, subst, ◌∙◌, arith}
 use Rattle.std.proofs.lemmas.Option.{same_Some, none-some}

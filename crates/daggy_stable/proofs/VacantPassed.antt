@@ -1,4 +1,4 @@
--- What is left once the vacant slots in front are passed over.
+-- The slots left after leading vacant slots are skipped.
 use Rattle.std.proofs.Common.{◌≡◌, ℕ, ◌+◌, ◌≤◌, Bool, true, false, cond, List, [], ◌∷◌, map, length, Option, Some, None}
 use Rattle.std.proofs.Common.{is_some, is_none, refl, sym, ap, ◌∙◌, arith}
 use Rattle.std.specs.Option.{option_map}

@@ -1,4 +1,4 @@
--- What iterators have left.
+-- What iterators still have to yield.
 use Rattle.std.specs.Prelude.{ℕ, Option, List, map, IsSome, Contains}
 use Rattle.std.specs.List.{filter_map}
 use Rattle.std.specs.Option.{option_map}
@@ -9,7 +9,7 @@ use Rattle.daggy_cells.specs.Rest.{IsOnList}
 use Rattle.daggy_cells.specs.Fields.{list_from}
 use Rattle.daggy_stable.specs.Stored.{plain_edge}
 
--- what a slot holds, with its index
+-- the edge in a slot, if there is one, with its index
 abbrev pub numbered_edge : {E : Type 0} → ℕ → Option (PlainEdge E) → Option (ℕ × PlainEdge E)
 numbered_edge i x = option_map (λ y. (i, y)) x
 

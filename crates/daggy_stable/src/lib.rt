@@ -1,4 +1,4 @@
-//! The stable store: a graph in slots, where a removal vacates a slot and moves nothing.
+//! The stable store: a graph in slots. A removal vacates a slot and changes no other index.
 #![tactic(auto)]
 
 pub mod stable_graph;

@@ -1,4 +1,4 @@
-//! A directed graph in slots, whose indices outlive removals.
+//! A directed graph with stable indices.
 ghost use Rattle.std.specs.Prelude.{◌≡◌, ◌<◌, ◌↔◌, IsTrue};
 ghost use Rattle.std.specs.Option.{option_map};
 ghost use Rattle.daggy_base.specs.Graph.{empty, edge_at, HasNode, HasEdge, list_at, ends_of};
@@ -36,13 +36,13 @@ use daggy_cells::links::{self, find_to};
 use std::alloc::Global;
 use std::marker::Model;
 
-/// A directed graph whose indices outlive removals. Parallel edges and self-loops are allowed.
+/// A directed graph whose indices stay valid when others are removed. Parallel edges and self-loops
+/// are allowed.
 ///
 /// A removal leaves a vacant slot and changes no other index. Adding reuses the slot vacated last,
 /// and makes a new slot only if none is vacant. All operations are O(1) unless stated otherwise.
 ///
-/// `Ix` is the integer type of the indices. It bounds how many nodes and how many edges there may
-/// be.
+/// `Ix` is the integer type of the indices. It limits the number of nodes and the number of edges.
 #[derive(Drop)]
 pub struct StableDiGraph<N, E, Ix: IndexType = DefaultIx> {
     nodes: Vec<Node<Option<N>, Ix>>,
@@ -116,15 +116,15 @@ impl<N, E, Ix: IndexType> StableDiGraph<N, E, Ix> {
                 if x.weight.is_none() {
                     return None;
                 }
-                let parent = links::end(x, Direction::Outgoing);
-                let child = links::end(x, Direction::Incoming);
+                let parent = links::endpoint(x, Direction::Outgoing);
+                let child = links::endpoint(x, Direction::Incoming);
                 Some((parent.node(), child.node()))
             }
             None => None,
         }
     }
 
-    /// The first edge of those that leave the node, or of those that enter it, or `end`.
+    /// The first edge of the node's out list or in list, or `end` if that list is empty.
     #[inline]
     pub fn first_edge(&self, n: NodeIndex<Ix>, dir: Direction) -> EdgeIndex<Ix>
         ensures { Ix.number result
@@ -141,8 +141,8 @@ impl<N, E, Ix: IndexType> StableDiGraph<N, E, Ix> {
         }
     }
 
-    /// The edge after this one among those that leave its parent, or among those that enter its
-    /// child, or `end`.
+    /// The edge after this one in the out list of its parent, or in the in list of its child, or
+    /// `end` if it is the last.
     #[inline]
     pub fn next_edge(&self, e: EdgeIndex<Ix>, dir: Direction) -> EdgeIndex<Ix>
         requires { HasEdge self.now.graph (Ix.number e) }

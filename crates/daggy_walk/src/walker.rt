@@ -103,6 +103,6 @@ pub trait FusedWalker<G>: Walker<G> {
         let _ = graph;
     }
 
-    // After a step that gave nothing, the next one gives nothing.
+    // After a step that yielded nothing, the next one yields nothing.
     ghost rests: { (g : G) → Rests (λ w o v. Self.walk_gives w g o v) };
 }

@@ -1,7 +1,7 @@
-//! Which targets need which: a program of a user of `daggy`.
+//! Which targets need which: a program that uses `daggy`.
 //!
-//! It reads lines `target: dependency dependency ..`, as in a build file. Lines that it does not
-//! take are reported at once. At the end it prints a line for each target, with what it needs.
+//! It reads lines `target: dependency dependency ..`, as in a build file. Lines that it rejects are
+//! reported at once. At the end it prints a line for each target, with what the target needs.
 #![tactic(auto)]
 
 mod targets;
@@ -11,7 +11,7 @@ use anyhow::{Context, Result};
 use daggy::WouldCycle;
 use std::io::{BufRead, BufReader};
 
-/// The target and the words behind its colon, or `None` if the line has another form.
+/// The target and the words after its colon, or `None` if the line has another form.
 fn parse(text: &str) -> Option<(&str, &str)> {
     let (before, after) = text.split_once(':')?;
     let mut words = before.split_whitespace();
@@ -22,8 +22,8 @@ fn parse(text: &str) -> Option<(&str, &str)> {
     Some((target, after))
 }
 
-/// Adds what a line says. A line of another form is reported and left out, and so is a dependency
-/// that would close a cycle.
+/// Adds the target and the dependencies of a line. A line of another form is reported and left out,
+/// and so is a dependency that would close a cycle.
 fn take_line(rt: &impl Print, targets: &mut Targets, text: &str, line: u32) -> Result<()> {
     if text.trim().is_empty() {
         return Ok(());
@@ -43,7 +43,7 @@ fn take_line(rt: &impl Print, targets: &mut Targets, text: &str, line: u32) -> R
     Ok(())
 }
 
-/// Takes the lines of standard input, which are numbered from 1.
+/// Reads the lines of standard input, numbered from 1.
 fn take_lines(rt: &(impl Input + Print + AllocGlobal), targets: &mut Targets) -> Result<()> {
     let input = BufReader::new(rt.alloc(), rt.reader())?;
     let mut number = 0u32;

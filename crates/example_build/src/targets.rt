@@ -28,7 +28,7 @@ impl Targets {
         }
     }
 
-    /// The node of that name, which is added if there is none.
+    /// The node of that name. Adds it if there is none.
     pub fn node(&mut self, name: &str) -> Result<NodeIndex> {
         match self.by_name.entry(String::from_str(self.alloc, name)?)? {
             Entry::Occupied(known) => Ok(*known.get()),
@@ -41,10 +41,10 @@ impl Targets {
         }
     }
 
-    /// Notes that `target` needs `dependency`, as that line says. Where this was noted before, the
-    /// later line takes the place of the earlier one.
+    /// Records that `target` needs `dependency`, and the line that says so. If this is already
+    /// recorded, the later line replaces the earlier one.
     ///
-    /// A refusal hands the line back. It says that `dependency` is `target` or needs it already.
+    /// Returns the line if `dependency` is `target` or already needs it.
     pub fn add_dependency(
         &mut self,
         target: &str,
@@ -54,7 +54,7 @@ impl Targets {
         let parent = self.node(target)?;
         let child = self.node(dependency)?;
         let dag = &mut self.dag;
-        // What `update_edge` requires. Both nodes are there, but nothing says so of a map's values.
+        // What `update_edge` requires. Both nodes exist, but no contract says so of a map's values.
         ensure!(dag.can_add_edge(), "too many dependencies");
         ensure!(
             dag.contains_node(parent) && dag.contains_node(child),

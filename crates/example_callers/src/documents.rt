@@ -1,5 +1,5 @@
-//! Callers that write a dag of texts as a document and read it back. Each text is copied, so what is
-//! read is not equal to what was written, but a copy of it.
+//! Callers that write a dag of `String` weights as a document and read it back. Each text is
+//! copied, so the dag that is read is not equal to the one that was written, but a copy of it.
 ghost use Rattle.std.specs.Prelude.{◌≡◌, IfOk, MatchResult, string_bytes};
 ghost use Rattle.std.specs.Option.{option_map};
 ghost use Rattle.serde_json.specs.Data.{string};
@@ -23,7 +23,7 @@ fn encoded(text: &String) -> Result<Value, AllocError>
     Ok(Value::String(text.clone()?))
 }
 
-// The text that the value is; any other value is refused.
+// The text of a string value, or `None` for any other value.
 fn decoded(value: &Value) -> Result<Option<String>, AllocError>
     ensures { IfOk result (λ o. option_map string_bytes o ≡ as_str (view value.now)) }
 {
@@ -33,8 +33,8 @@ fn decoded(value: &Value) -> Result<Option<String>, AllocError>
     }
 }
 
-/// The dag that the document of a dag of texts is read as: the same indices, ends and lists, and
-/// the same texts. Fails only if an allocation fails.
+/// Writes a dag as a document and reads it: the result has the same indices, endpoints and lists,
+/// and the same texts. Fails only if an allocation fails.
 pub fn read_back(alloc: Global, dag: &Dag<String, String>) -> Result<Dag<String, String>, ReadError>
     ensures { MatchResult result
         (λ d. IsCopy HasSameText HasSameText dag.now.graph d.graph) (λ e. e ≡ Memory) }
@@ -45,7 +45,7 @@ pub fn read_back(alloc: Global, dag: &Dag<String, String>) -> Result<Dag<String,
     dag_from_json(alloc, &value, decoded, decoded)
 }
 
-/// The same of a stable dag, whose vacant slots past the greatest index in use are gone then.
+/// The same for a stable dag, whose trailing vacant slots are dropped.
 pub fn read_back_stable(
     alloc: Global,
     dag: &StableDag<String, String>,

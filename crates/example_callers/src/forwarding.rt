@@ -1,9 +1,9 @@
-//! Callers that hand on closures which may always be called.
+//! Callers that pass on closures that can always be called.
 use daggy_base::index::NodeIndex;
 use daggy_dag::acyclic::Dag;
 use std::alloc::AllocError;
 
-/// The dag with the weights of its nodes mapped by a function of the weight alone.
+/// The dag with the weights of its nodes mapped by a function of only the weight.
 pub fn mapped<E: Copy + Drop, F: Fn(u32) -> u32>(
     dag: &Dag<u32, E>,
     f: F,
@@ -23,7 +23,7 @@ pub fn mapped_by<E: Copy + Drop, F: FnMut(NodeIndex, &u32) -> u32>(
     dag.map(f, |_, weight| *weight)
 }
 
-/// The part of a dag whose nodes a closure keeps.
+/// The part of a dag with the nodes that a closure keeps.
 pub fn kept_by<E: Copy + Drop, F: FnMut(NodeIndex, &u32) -> Option<u32>>(
     dag: &Dag<u32, E>,
     f: F,

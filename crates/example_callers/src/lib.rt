@@ -1,6 +1,6 @@
-//! Callers of the library that are proved: they copy dags, write all weights, go along all children
-//! or parents of a node, use closures that index tables, compare two reductions, and write dags of
-//! texts and read them back.
+//! Proved callers of the library: they copy dags, write all weights, iterate over the children or
+//! parents of a node, use closures that index tables, compare two reductions, and write and read
+//! dags of `String` weights.
 #![tactic(auto)]
 
 pub mod copies;

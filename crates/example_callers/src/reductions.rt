@@ -25,8 +25,8 @@ where
     Ok(nodes)
 }
 
-/// Reduces two dags on the same nodes, each from all of its nodes. They join the same pairs then
-/// exactly if the same nodes reached each other in the two before.
+/// Reduces two dags on the same nodes, each from all of its nodes. Afterwards they join the same
+/// pairs if and only if they had the same reachability before.
 ///
 /// The weights, the types of index and the kinds of dag differ.
 pub fn reduce_both<N: Drop, E: Drop, M: Drop, F: Drop, Ix: IndexType, Jx: IndexType>(

@@ -1,4 +1,4 @@
-//! Callers that go along all children, or all parents, of a node.
+//! Callers that iterate over all children, or all parents, of a node.
 ghost use Rattle.std.specs.Prelude.{◌≡◌, IfOk, length, map};
 ghost use Rattle.daggy_base.specs.Graph.{out_list};
 

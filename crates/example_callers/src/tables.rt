@@ -1,4 +1,4 @@
-//! Callers whose closures use tables that have a place for each node.
+//! Callers whose closures index tables with an entry for each node.
 ghost use Rattle.std.specs.Prelude.{◌≤◌, length};
 ghost use Rattle.daggy_base.specs.Graph.{node_bound};
 
@@ -25,7 +25,7 @@ pub fn move_weights<E: Drop>(dag: &mut Dag<u32, E>, table: &mut [u32])
     });
 }
 
-/// Adds to the weight of each node what a table has for it.
+/// Adds to the weight of each node its entry in a table.
 pub fn add_weights<E: Drop>(dag: &mut StableDag<u32, E>, table: &[u32])
     requires { node_bound dag.old.graph ≤ length table.now }
 {

@@ -1,4 +1,4 @@
--- Small graphs whose parts are known by hand. Weights are numbers.
+-- Small graphs, written out by hand. Weights are numbers.
 use Rattle.std.specs.Prelude.{ℕ, List, [], ◌∷◌}
 use Rattle.daggy_base.specs.Graph.{Graph, Edge, empty}
 use Rattle.daggy_base.specs.Adding.{with_node, with_edge}
@@ -78,7 +78,7 @@ shortcuts =
     (line 0 1 1 ∷ line 0 2 2 ∷ line 0 3 3 ∷ line 0 4 4 ∷ line 1 3 5 ∷ line 2 3 6 ∷ line 2 4 7 ∷ line 3 4 8 ∷ [])
     five_nodes
 
--- a shortcut beside two edges of one pair, which is no shortcut
+-- a shortcut, and two parallel edges, which are no shortcut
 abbrev pub doubled_step : Graph ℕ ℕ
 doubled_step = with_lines (line 0 1 1 ∷ line 0 2 2 ∷ line 1 2 3 ∷ line 1 2 4 ∷ line 2 3 5 ∷ []) four_nodes
 

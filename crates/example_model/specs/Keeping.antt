@@ -12,7 +12,7 @@ unless_ten w = if w == 10 then None else Some w
 abbrev pub drops_ten : ℕ → ℕ → Bor ℕ → Option ℕ → ℕ → Type 0
 drops_ten f i shown r next = (r ≡ unless_ten shown.now) × (next ≡ f)
 
--- a closure that gives the number of its calls before
+-- a closure that returns the number of its earlier calls
 abbrev pub numbers_its_calls : ℕ → ℕ → Bor ℕ → Option ℕ → ℕ → Type 0
 numbers_its_calls f i shown r next = (r ≡ Some f) × (next ≡ f + 1)
 

@@ -10,7 +10,7 @@ fn add_edge(rt: HostRuntime) -> Result<(), Fail> {
     let reap = dag.add_node("reap")?;
     let days = dag.add_edge(sow, reap, 90)?;
     assert!(rt; dag.edge_weight(days) == Some(&90));
-    // It would close a cycle, so the weight comes back.
+    // The edge would close a cycle; the error returns its weight.
     assert!(rt; dag.add_edge(reap, sow, 5) == Err(EdgeError::WouldCycle(WouldCycle(5))));
     Ok(())
 }
@@ -94,7 +94,7 @@ fn transitive_reduce(rt: HostRuntime) -> Result<(), Fail> {
     let mut roots = Vec::new(rt.alloc());
     roots.push(sow)?;
     dag.transitive_reduce(roots)?;
-    // By way of `hoe` the way is longer.
+    // `hoe` is on a longer path to `reap`.
     assert!(rt; dag.find_edge(sow, reap).is_none());
     assert!(rt; dag.edge_count() == 2);
     Ok(())

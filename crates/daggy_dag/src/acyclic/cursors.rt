@@ -74,7 +74,7 @@ where
         }
     }
 
-    // The index of the first node from `from` on, or an index behind all slots.
+    // The index of the first node from `from` on, or an index after all slots.
     #[inline]
     fn node_from(&self, from: usize) -> usize
         ensures place { result ≡ next_slot S.KIND self.now.graph.nodes from }
@@ -92,7 +92,7 @@ where
         i
     }
 
-    // The index of the first edge from `from` on, or an index behind all slots.
+    // The index of the first edge from `from` on, or an index after all slots.
     #[inline]
     fn edge_from(&self, from: usize) -> usize
         ensures place { result ≡ next_slot S.KIND self.now.graph.edges from }

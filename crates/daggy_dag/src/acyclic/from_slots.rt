@@ -29,7 +29,8 @@ where
     ///
     /// # Errors
     ///
-    /// `SlotsError::Cycle` if the edges close a cycle, `SlotsError::Memory` if an allocation fails.
+    /// Returns `SlotsError::Cycle` if the edges close a cycle, `SlotsError::Memory` if an
+    /// allocation fails.
     ///
     /// # Complexity
     ///

@@ -31,9 +31,9 @@ where
     ///
     /// # Errors
     ///
-    /// It stops at the first invalid item (missing endpoint, no index left, out of memory) and
-    /// consumes no further items. Otherwise `WouldCycle` if all edges together close a cycle. The
-    /// error holds every weight consumed so far, and the dag is unchanged.
+    /// Stops at the first invalid item (missing endpoint, no index left, out of memory) and
+    /// consumes no further items. Otherwise returns `WouldCycle` if all edges together close a
+    /// cycle. The error holds every weight consumed so far, and the dag is unchanged.
     pub fn add_edges<I: IntoIterator<Item = (NodeIndex<Ix>, NodeIndex<Ix>, E)>>(
         &mut self,
         items: I,
@@ -61,7 +61,8 @@ where
     ///
     /// # Errors
     ///
-    /// Holds the weight of the edge that failed. Nodes that were added for that edge stay too.
+    /// The error holds the weight of the edge that failed. Nodes that were added for that edge stay
+    /// too.
     pub fn extend_with_edges<
         T: IntoWeightedEdge<E, NodeId = NodeIndex<Ix>>,
         I: IntoIterator<Item = T>,
@@ -115,8 +116,8 @@ where
     ///
     /// # Errors
     ///
-    /// It stops at the first element that fails: the error holds its weight, and what was made
-    /// before is dropped.
+    /// Stops at the first element that fails: the error holds its weight, and what was made before
+    /// is dropped.
     pub fn from_elements<I: IntoIterator<Item = Element<N, E>>>(
         alloc: Global,
         items: I,

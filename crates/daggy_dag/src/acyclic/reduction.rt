@@ -46,7 +46,7 @@ where
     /// let mut roots = Vec::new(rt.alloc());
     /// roots.push(sow)?;
     /// dag.transitive_reduce(roots)?;
-    /// // By way of `hoe` the way is longer.
+    /// // `hoe` is on a longer path to `reap`.
     /// assert!(rt; dag.find_edge(sow, reap).is_none());
     /// assert!(rt; dag.edge_count() == 2);
     /// ```

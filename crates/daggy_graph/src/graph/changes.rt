@@ -1,4 +1,4 @@
-//! Adding nodes and edges to what is stored, and taking them out of their lists.
+//! Adding stored nodes and edges, and unlinking them.
 ghost use Rattle.std.specs.Prelude.{◌≡◌, ◌+◌, ◌-◌, ◌<◌, length, map, vec_len, vec_capacity};
 ghost use Rattle.daggy_base.specs.declared.index.Direction.TheVariants.{Outgoing, Incoming};
 ghost use Rattle.daggy_base.specs.Adding.{with_node, with_edge};
@@ -8,9 +8,9 @@ ghost use Rattle.daggy_graph.specs.Stored.{stored_graph, IsDetached, Stores};
 use daggy_base::index::{Direction, IndexType};
 use daggy_base::link::Link;
 use daggy_cells::cell::{Edge, Node};
-use daggy_cells::links::{self, ListHead, put_first, redirect, reown};
+use daggy_cells::links::{self, ListHead, put_first, reassign, redirect};
 
-// Adds a node, within the capacity that is there.
+// Adds a node, within the capacity.
 #[inline]
 pub(super) fn put_node<N, E, Ix: IndexType>(
     nodes: &mut Vec<Node<N, Ix>>,
@@ -33,7 +33,7 @@ pub(super) fn put_node<N, E, Ix: IndexType>(
     n
 }
 
-// Adds an edge from a to b, within the capacity that is there.
+// Adds an edge from `a` to `b`, within the capacity.
 #[inline]
 pub(super) fn put_edge<N, E, Ix: IndexType>(
     nodes: &mut Vec<Node<N, Ix>>,
@@ -61,8 +61,8 @@ pub(super) fn put_edge<N, E, Ix: IndexType>(
     e
 }
 
-// Unlinks `e` from its two lists, and redirects the links to the last edge to `e`, whose place it
-// takes next.
+// Unlinks `e` from its two lists, and redirects the links to the last edge to `e`: the caller then
+// moves the last edge to that index.
 pub(super) fn detach<N, E, Ix: IndexType>(
     nodes: &mut Vec<Node<N, Ix>>,
     edges: &mut Vec<Edge<E, Ix>>,
@@ -94,8 +94,9 @@ pub(super) fn detach<N, E, Ix: IndexType>(
     }
 }
 
-// Makes `n` the endpoint of the edges of the last node, which takes its place next.
-pub(super) fn reown_last<N, E, Ix: IndexType>(
+// Makes `n` the endpoint of the edges of the last node: the caller then moves the last node to that
+// index.
+pub(super) fn reassign_last<N, E, Ix: IndexType>(
     nodes: &Vec<Node<N, Ix>>,
     edges: &mut Vec<Edge<E, Ix>>,
     n: Link<Ix>,
@@ -114,7 +115,7 @@ pub(super) fn reown_last<N, E, Ix: IndexType>(
         let from = Link::new(last);
         let out = links::first(&nodes[last], Direction::Outgoing);
         let into = links::first(&nodes[last], Direction::Incoming);
-        reown(edges, Direction::Outgoing, out, from, n);
-        reown(edges, Direction::Incoming, into, from, n);
+        reassign(edges, Direction::Outgoing, out, from, n);
+        reassign(edges, Direction::Incoming, into, from, n);
     }
 }

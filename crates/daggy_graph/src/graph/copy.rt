@@ -1,4 +1,4 @@
-//! A copy of a graph.
+//! Cloning a graph.
 ghost use Rattle.std.specs.Prelude.{◌≡◌, IfOk};
 ghost use Rattle.daggy_base.specs.Copying.{IsCopy};
 
@@ -22,8 +22,7 @@ impl<N: Clone + Drop, E: Clone + Drop, Ix: IndexType> Clone for DiGraph<N, E, Ix
 }
 
 impl<N, E, Ix: IndexType> DiGraph<N, E, Ix> {
-    /// A graph with the same nodes and edges under the same indices, and in the same lists, with a
-    /// clone of each weight.
+    /// A graph with the same indices and lists, and with a clone of each weight.
     ///
     /// # Errors
     ///

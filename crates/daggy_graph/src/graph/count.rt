@@ -1,4 +1,4 @@
-//! How many nodes and edges there are, and whether there is room for more.
+//! How many nodes and edges there are, and whether an index is left for one more.
 ghost use Rattle.std.specs.Prelude.{◌≡◌, ◌<◌, ◌↔◌, length, IsTrue};
 ghost use Rattle.daggy_base.specs.Graph.{node_count as node_count_of, edge_count as edge_count_of};
 ghost use Rattle.daggy_base.specs.Graph.{IsCompact};
@@ -30,7 +30,7 @@ impl<N, E, Ix: IndexType> DiGraph<N, E, Ix> {
         self.edges.len()
     }
 
-    /// Whether the index type has an index left for one more node.
+    /// Whether an index is left for one more node.
     #[inline]
     pub fn can_add_node(&self) -> bool
         ensures { IsTrue result ↔ (node_count_of self.now.graph < Ix.greatest) }
@@ -38,7 +38,7 @@ impl<N, E, Ix: IndexType> DiGraph<N, E, Ix> {
         self.node_count() < NodeIndex::<Ix>::end().index()
     }
 
-    /// Whether the index type has an index left for one more edge.
+    /// Whether an index is left for one more edge.
     #[inline]
     pub fn can_add_edge(&self) -> bool
         ensures { IsTrue result ↔ (edge_count_of self.now.graph < Ix.greatest) }

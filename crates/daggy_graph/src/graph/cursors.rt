@@ -9,7 +9,7 @@ ghost use Rattle.daggy_graph.specs.Cursors.{nodes_lend_next, edges_lend_next};
 use crate::graph::DiGraph;
 use daggy_base::index::{DefaultIx, EdgeIndex, IndexType, NodeIndex};
 
-/// Lends the weights of the nodes, one at a time, by ascending index.
+/// Mutable references to the weights of the nodes, one at a time, by ascending index.
 ///
 /// A lending cursor, not an `Iterator`: each reference must end before the next call.
 #[derive(Drop)]
@@ -18,7 +18,7 @@ pub struct NodeWeightsMut<'a, N, E, Ix: IndexType = DefaultIx> {
     index: usize,
 }
 
-/// Lends the weights of the edges, one at a time, by ascending index.
+/// Mutable references to the weights of the edges, one at a time, by ascending index.
 ///
 /// A lending cursor, not an `Iterator`: each reference must end before the next call.
 #[derive(Drop)]
@@ -56,7 +56,7 @@ impl<N, E, Ix: IndexType> DiGraph<N, E, Ix> {
 }
 
 impl<'a, N, E, Ix: IndexType> NodeWeightsMut<'a, N, E, Ix> {
-    /// The weight of the next node, or `None` if there is none left.
+    /// The weight of the next node, or `None` if no node is left.
     #[inline]
     pub fn next(&mut self) -> Option<&mut N>
         ensures* writes_back { sem 𝓛
@@ -75,7 +75,7 @@ impl<'a, N, E, Ix: IndexType> NodeWeightsMut<'a, N, E, Ix> {
 }
 
 impl<'a, N, E, Ix: IndexType> EdgeWeightsMut<'a, N, E, Ix> {
-    /// The weight of the next edge, or `None` if there is none left.
+    /// The weight of the next edge, or `None` if no edge is left.
     #[inline]
     pub fn next(&mut self) -> Option<&mut E>
         ensures* writes_back { sem 𝓛

@@ -20,7 +20,7 @@ use daggy_base::looks::Looks;
 use daggy_cells::links;
 use std::alloc::AllocError;
 
-// Adds the node if there is a weight for it, and notes its new index.
+// Adds a node if `answer` has a weight for it, and appends its new index to `names`.
 fn keep_node<N, E, Ix: IndexType>(
     nodes: &mut Vec<Node<N, Ix>>,
     edges: &Vec<Edge<E, Ix>>,
@@ -51,7 +51,7 @@ fn keep_node<N, E, Ix: IndexType>(
     }
 }
 
-// Adds the nodes that f keeps, within the capacity that is there.
+// Adds the nodes that `f` keeps, within the capacity.
 fn filter_nodes<N, V, W, Ix: IndexType, F: FnMut(NodeIndex<Ix>, &N) -> Option<V>>(
     nodes: &[Node<N, Ix>],
     new: &mut Vec<Node<V, Ix>>,
@@ -80,7 +80,7 @@ fn filter_nodes<N, V, W, Ix: IndexType, F: FnMut(NodeIndex<Ix>, &N) -> Option<V>
 }
 
 #[inline]
-fn name_of<Ix: IndexType>(names: &Vec<Option<Link<Ix>>>, n: Link<Ix>) -> Option<Link<Ix>>
+fn new_index<Ix: IndexType>(names: &Vec<Option<Link<Ix>>>, n: Link<Ix>) -> Option<Link<Ix>>
     ensures { result ≡ slot names.now.items n }
 {
     match names.get(n.index()) {
@@ -89,23 +89,23 @@ fn name_of<Ix: IndexType>(names: &Vec<Option<Link<Ix>>>, n: Link<Ix>) -> Option<
     }
 }
 
-// The new ends of an edge, if both stayed.
+// The new endpoints of an edge, if both were kept.
 #[inline]
-fn kept_ends<E, Ix: IndexType>(
+fn kept_endpoints<E, Ix: IndexType>(
     names: &Vec<Option<Link<Ix>>>,
     x: &Edge<E, Ix>,
 ) -> Option<(Link<Ix>, Link<Ix>)>
     ensures { result ≡ both (slot names.now.items x.now.parent) (slot names.now.items x.now.child) }
 {
-    let parent = links::end(x, Direction::Outgoing);
-    let child = links::end(x, Direction::Incoming);
-    match (name_of(names, parent), name_of(names, child)) {
+    let parent = links::endpoint(x, Direction::Outgoing);
+    let child = links::endpoint(x, Direction::Incoming);
+    match (new_index(names, parent), new_index(names, child)) {
         (Some(a), Some(b)) => Some((a, b)),
         _ => None,
     }
 }
 
-// Adds the edge if there is a weight for it.
+// Adds an edge if `answer` has a weight for it.
 fn keep_edge<N, E, Ix: IndexType>(
     nodes: &mut Vec<Node<N, Ix>>,
     edges: &mut Vec<Edge<E, Ix>>,
@@ -129,7 +129,7 @@ fn keep_edge<N, E, Ix: IndexType>(
     }
 }
 
-// Adds the edges that g keeps of those whose ends both stayed, within the capacity that is there.
+// Adds the edges that `g` keeps, of those whose endpoints were both kept, within the capacity.
 fn filter_edges<N, E, W, Ix: IndexType, G: FnMut(EdgeIndex<Ix>, &E) -> Option<W>>(
     edges: &[Edge<E, Ix>],
     names: &Vec<Option<Link<Ix>>>,
@@ -152,7 +152,7 @@ fn filter_edges<N, E, W, Ix: IndexType, G: FnMut(EdgeIndex<Ix>, &E) -> Option<W>
 {
     'each: for i in 0..edges.len() {
         let x = &edges[i];
-        let ends = match kept_ends(names, x) {
+        let ends = match kept_endpoints(names, x) {
             Some(ends) => ends,
             None => continue,
         };
@@ -166,8 +166,8 @@ impl<N, E, Ix: IndexType> DiGraph<N, E, Ix> {
     /// each node by ascending index, and then `g` with each edge whose endpoints were both kept.
     ///
     /// The nodes that are kept get new indices from 0 on, in their old order. The edges that are
-    /// kept are added again by ascending index, so each list is in descending index order. If
-    /// nothing is left out, each node and edge keeps its index.
+    /// kept are added by ascending index, so each list is in descending index order. If nothing is
+    /// left out, each node and edge keeps its index.
     ///
     /// # Errors
     ///

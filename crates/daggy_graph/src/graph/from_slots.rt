@@ -1,4 +1,4 @@
-//! A graph that is made of given slots.
+//! Making a graph of given slots.
 ghost use Rattle.std.specs.Prelude.{◌≡◌, ◌≤◌, [], map, length, vec_capacity, IfOk};
 ghost use Rattle.std.specs.Option.{option_map};
 ghost use Rattle.daggy_base.specs.Graph.{IsCompact};
@@ -14,7 +14,7 @@ use daggy_base::link::Link;
 use daggy_base::looks::Looks;
 use std::alloc::{AllocError, Global};
 
-// Adds each node, within the capacity that is there.
+// Adds each node, within the capacity.
 fn make_nodes<N: Drop, E, Ix: IndexType>(
     given: Vec<Option<N>>,
     nodes: &mut Vec<Node<N, Ix>>,
@@ -38,7 +38,7 @@ fn make_nodes<N: Drop, E, Ix: IndexType>(
     }
 }
 
-// Adds each edge, within the capacity that is there.
+// Adds each edge, within the capacity.
 fn make_edges<N, E: Drop, Ix: IndexType>(
     given: Vec<Option<(NodeIndex<Ix>, NodeIndex<Ix>, E)>>,
     nodes: &mut Vec<Node<N, Ix>>,
@@ -68,8 +68,8 @@ fn make_edges<N, E: Drop, Ix: IndexType>(
 }
 
 impl<N, E, Ix: IndexType> DiGraph<N, E, Ix> {
-    /// A graph of explicit slots, none of them vacant, where an edge names its parent and its
-    /// child.
+    /// A graph of explicit slots, none of them vacant. An edge slot has the parent, the child and
+    /// the weight.
     ///
     /// Each list is in descending index order.
     ///

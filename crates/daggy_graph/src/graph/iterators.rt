@@ -280,7 +280,7 @@ impl<'a, N, Ix: IndexType> fmt::Debug for NodeReferences<'a, N, Ix> {
     }
 }
 
-// The reference to an edge that is stored.
+// A reference to a stored edge.
 #[inline]
 pub(super) fn reference<'a, E, Ix: IndexType>(
     e: Link<Ix>,

@@ -11,7 +11,7 @@ use daggy_base::looks::Looks;
 use daggy_cells::links;
 use std::alloc::AllocError;
 
-// Makes the nodes of the new graph, within the capacity that is there.
+// Makes the nodes of the new graph, within the capacity.
 fn map_nodes<N, V, Ix: IndexType, F: FnMut(NodeIndex<Ix>, &N) -> V>(
     nodes: &[Node<N, Ix>],
     new: &mut Vec<Node<V, Ix>>,
@@ -32,7 +32,7 @@ fn map_nodes<N, V, Ix: IndexType, F: FnMut(NodeIndex<Ix>, &N) -> V>(
     }
 }
 
-// Makes the edges of the new graph, within the capacity that is there.
+// Makes the edges of the new graph, within the capacity.
 fn map_edges<E, V, Ix: IndexType, G: FnMut(EdgeIndex<Ix>, &E) -> V>(
     edges: &[Edge<E, Ix>],
     new: &mut Vec<Edge<V, Ix>>,

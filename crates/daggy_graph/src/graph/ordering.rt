@@ -1,24 +1,24 @@
-//! Other orders of the lists of a graph.
+//! Permuting the lists of a graph.
 ghost use Rattle.std.specs.Prelude.{◌≡◌, map, length};
 ghost use Rattle.daggy_base.specs.declared.index.Direction.{Direction};
 ghost use Rattle.daggy_base.specs.Orders.{numbers_of, with_orders, AreOrders};
 ghost use Rattle.daggy_base.specs.State.{with_graph};
 ghost use Rattle.daggy_cells.specs.Fields.{weight_of, plain_edge, firsts_of, nexts_of, order_at};
-ghost use Rattle.daggy_cells.specs.Links.{AreLinkedLists, CanThreadAll};
+ghost use Rattle.daggy_cells.specs.Links.{AreLinkedLists, CanLinkAll};
 
 use crate::graph::{DiGraph, Edge, Node};
 use daggy_base::index::{EdgeIndex, IndexType};
-use daggy_cells::links::thread_both;
+use daggy_cells::links::relink_both;
 
-// Threads the lists of each node in these orders.
-fn thread_nodes<N, E, Ix: IndexType>(
+// Links the lists of each node in these orders.
+fn relink_nodes<N, E, Ix: IndexType>(
     nodes: &mut Vec<Node<N, Ix>>,
     edges: &mut Vec<Edge<E, Ix>>,
     orders: &[(Vec<EdgeIndex<Ix>>, Vec<EdgeIndex<Ix>>)],
 )
     requires count { length orders.now ≡ length nodes.old.items }
     requires lists { (dir : Direction)
-        → CanThreadAll (length edges.old.items)
+        → CanLinkAll (length edges.old.items)
         (map (order_at dir) (map (numbers_of Ix.number) orders.now)) }
     ensures linked { (dir : Direction)
         → AreLinkedLists Ix.greatest (firsts_of dir nodes.new.items) (nexts_of dir edges.new.items)
@@ -28,7 +28,7 @@ fn thread_nodes<N, E, Ix: IndexType>(
 {
     'each: for i in 0..nodes.len() {
         let order = &orders[i];
-        thread_both(nodes, edges, i, order);
+        relink_both(nodes, edges, i, order);
     }
 }
 
@@ -45,6 +45,6 @@ impl<N, E, Ix: IndexType> DiGraph<N, E, Ix> {
             ≡ with_graph self.old
             (with_orders self.old.graph (map (numbers_of Ix.number) orders.now)) }
     {
-        thread_nodes(&mut self.nodes, &mut self.edges, orders);
+        relink_nodes(&mut self.nodes, &mut self.edges, orders);
     }
 }

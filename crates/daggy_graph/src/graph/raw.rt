@@ -5,7 +5,7 @@ use crate::graph::{DiGraph, Edge, Node};
 use daggy_base::index::IndexType;
 
 impl<N, E, Ix: IndexType> DiGraph<N, E, Ix> {
-    /// The nodes as they are stored, by their indices.
+    /// The nodes as they are stored, by index.
     #[inline]
     pub fn raw_nodes(&self) -> &[Node<N, Ix>]
         ensures { ShowsNodes Ix.greatest self.now.graph result.now }
@@ -13,7 +13,7 @@ impl<N, E, Ix: IndexType> DiGraph<N, E, Ix> {
         self.nodes.as_slice()
     }
 
-    /// The edges as they are stored, by their indices.
+    /// The edges as they are stored, by index.
     #[inline]
     pub fn raw_edges(&self) -> &[Edge<E, Ix>]
         ensures { ShowsEdges Ix.greatest self.now.graph result.now }
@@ -21,7 +21,7 @@ impl<N, E, Ix: IndexType> DiGraph<N, E, Ix> {
         self.edges.as_slice()
     }
 
-    /// The nodes and the edges as they are stored, by their indices.
+    /// The nodes and the edges as they are stored, by index.
     #[inline]
     pub fn into_raw(self) -> (Vec<Node<N, Ix>>, Vec<Edge<E, Ix>>)
         ensures nodes { ShowsNodes Ix.greatest self.graph result.0.items }

@@ -10,15 +10,15 @@ ghost use Rattle.daggy_base.specs.Removal.{without_all_edges};
 ghost use Rattle.daggy_base.specs.WellFormed.{IsIsolated};
 ghost use Rattle.daggy_base.specs.State.{with_graph};
 
-use crate::graph::changes::{detach, reown_last};
+use crate::graph::changes::{detach, reassign_last};
 use crate::graph::{DiGraph, Edge, Node};
 use daggy_base::index::{Direction, EdgeIndex, IndexType, NodeIndex};
 use daggy_base::link::Link;
-use daggy_cells::links::unlink_all;
+use daggy_cells::links::clear_lists;
 
 impl<N, E, Ix: IndexType> DiGraph<N, E, Ix> {
-    /// Removes an edge and returns its weight, if the edge exists. The edge with the last index
-    /// gets its index.
+    /// Removes an edge and returns its weight, if the edge exists. The edge with the last index is
+    /// moved into the freed index.
     ///
     /// # Complexity
     ///
@@ -42,7 +42,7 @@ impl<N, E, Ix: IndexType> DiGraph<N, E, Ix> {
     ///
     /// First the edges out of it are removed, each time the first of the list, and then those into
     /// it. Each removal moves the last edge into the freed index. Finally the node with the last
-    /// index gets the index of this node.
+    /// index is moved into the freed index.
     ///
     /// # Complexity
     ///
@@ -68,7 +68,7 @@ impl<N, E, Ix: IndexType> DiGraph<N, E, Ix> {
         Some(self.drop_node(n))
     }
 
-    // Removes the first edge of n's list in direction `dir` until the list is empty.
+    // Removes the first edge of the node's list in direction `dir` until the list is empty.
     fn clear_front(&mut self, n: NodeIndex<Ix>, dir: Direction)
     where
         E: Drop,
@@ -89,7 +89,8 @@ impl<N, E, Ix: IndexType> DiGraph<N, E, Ix> {
         }
     }
 
-    // Removes a node that has no edges, and the node with the last index gets its index.
+    // Removes a node that has no edges, and moves the node with the last index into the freed
+    // index.
     pub(super) fn drop_node(&mut self, n: NodeIndex<Ix>) -> N
         requires node { HasNode self.old.graph (Ix.number n) }
         requires no_edges { (d : Direction) → list_at d self.old.graph (Ix.number n) ≡ [] }
@@ -99,14 +100,14 @@ impl<N, E, Ix: IndexType> DiGraph<N, E, Ix> {
         ensures no_more_slots { length self.new.graph.nodes ≤ length self.old.graph.nodes }
     {
         let i = n.index();
-        reown_last(&self.nodes, &mut self.edges, Link::of_node(n));
+        reassign_last(&self.nodes, &mut self.edges, Link::of_node(n));
         let Node { weight, .. } = self.nodes.swap_remove(i);
         weight
     }
 
     /// Removes all nodes and edges. The capacity is kept.
     ///
-    /// The cost grows with the number of nodes and edges.
+    /// O(nodes + edges).
     pub fn clear(&mut self)
     where
         N: Drop,
@@ -119,13 +120,13 @@ impl<N, E, Ix: IndexType> DiGraph<N, E, Ix> {
 
     /// Removes all edges, and keeps the nodes. The capacity is kept.
     ///
-    /// The cost grows with the number of nodes and edges.
+    /// O(nodes + edges).
     pub fn clear_edges(&mut self)
     where
         E: Drop,
         ensures { self.new ≡ with_graph self.old (without_all_edges self.old.graph) }
     {
         self.edges.clear();
-        unlink_all(&mut self.nodes);
+        clear_lists(&mut self.nodes);
     }
 }

@@ -38,7 +38,7 @@ impl<N, E, Ix: IndexType> DiGraph<N, E, Ix> {
     }
 }
 
-// Calls f with the weight of each node.
+// Calls `f` with each node and its weight.
 fn write_nodes<N, Ix: IndexType, F: FnMut(NodeIndex<Ix>, &mut N)>(
     nodes: &mut Vec<Node<N, Ix>>,
     mut f: F,
@@ -57,7 +57,7 @@ fn write_nodes<N, Ix: IndexType, F: FnMut(NodeIndex<Ix>, &mut N)>(
     }
 }
 
-// Calls f with the weight of each edge.
+// Calls `f` with each edge and its weight.
 fn write_edges<E, Ix: IndexType, F: FnMut(EdgeIndex<Ix>, &mut E)>(
     edges: &mut Vec<Edge<E, Ix>>,
     mut f: F,

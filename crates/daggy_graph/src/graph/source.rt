@@ -1,4 +1,4 @@
-//! The trait of searched graphs for the compact store.
+//! `EdgeSource` for the compact store.
 ghost use Rattle.std.specs.Prelude.{◌≡◌, ◌+◌, ◌↔◌, IsTrue};
 ghost use Rattle.daggy_base.specs.Graph.{HasNode, HasEdge, out_list, node_bound as node_bound_of};
 ghost use Rattle.daggy_base.specs.Graph.{edge_bound as edge_bound_of};

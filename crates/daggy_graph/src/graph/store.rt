@@ -1,4 +1,4 @@
-//! The trait of stores for the compact store.
+//! `Store` for the compact store.
 ghost use Rattle.std.specs.Prelude.{◌≡◌, ◌+◌, ◌<◌, ◌↔◌, IsTrue, IfOk, OnOk, IfErr, OnErr};
 ghost use Rattle.std.specs.Prelude.{OnSome, IfNone, Some, [], ◌≤◌, length, option_copied};
 ghost use Rattle.std.specs.Prelude.{refl};

@@ -29,7 +29,7 @@ fn find_triple<'v>(value: &'v Value) -> Option<(usize, usize, &'v Value)>
     Some((parent, child, third))
 }
 
-// Whether a node stands in the slot.
+// Whether there is a node in the slot.
 fn is_node<N>(nodes: &Vec<Option<N>>, i: usize) -> bool
     ensures { IsTrue result ↔ IsSome (slot nodes.now.items i) }
 {

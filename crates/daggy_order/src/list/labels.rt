@@ -16,7 +16,7 @@ const LOWEST: u64 = 1 << 61;
 
 const HIGHEST: u64 = LOWEST + (1 << 63);
 
-// The widest gap between the labels of `count` nodes between two labels, or 0 if there is no room.
+// The widest gap at which `count` labels fit between `low` and `high`, or 0 if there is no room.
 #[inline]
 fn gap_between(low: u64, high: u64, count: usize) -> u64
     requires order { low ≤ high }
@@ -28,8 +28,8 @@ fn gap_between(low: u64, high: u64, count: usize) -> u64
 }
 
 impl<Ix: IndexType> Links<Ix> {
-    // Labels `count` nodes from `from` on, each by `gap` above the one before it, and the first by
-    // `gap` above `low`.
+    // Labels `count` nodes from `from` on: the first gets `low + gap`, and each of the others `gap`
+    // more than the one before it.
     fn assign(&mut self, from: Link<Ix>, count: usize, low: u64, gap: u64)
         requires run { HasSegment Ix.greatest self.old.nodes from count }
         requires some { 0 < gap }
@@ -130,7 +130,7 @@ impl<Ix: IndexType> Links<Ix> {
         }
     }
 
-    /// Labels a node that was put last, after `last`, or into an empty list.
+    /// Labels a node that was just put last, after `last`, or into an empty list.
     #[inline]
     pub fn label_last(&mut self, last: Link<Ix>, n: Link<Ix>)
         requires { HasLast self.old.labels self.old.nodes last n }
@@ -152,7 +152,7 @@ impl<Ix: IndexType> Links<Ix> {
         }
     }
 
-    /// Labels a node that was put first, before `first`, or into an empty list.
+    /// Labels a node that was just put first, before `first`, or into an empty list.
     #[inline]
     pub fn label_first(&mut self, first: Link<Ix>, n: Link<Ix>)
         requires { HasFirst Ix.greatest self.old.labels self.old.nodes first n }

@@ -14,8 +14,8 @@ use daggy_base::reserved::reserve;
 use std::alloc::{AllocError, Global};
 use std::marker::Model;
 
-/// A node as it is stored: the nodes before and after it, and its label, which is 0 for a node
-/// that is not in the list.
+/// What is stored of a node: the nodes before and after it, and its label, which is 0 if the node
+/// is not in the list.
 #[derive(Clone, Copy, Drop)]
 pub struct Item<Ix: IndexType> {
     pub next: Link<Ix>,
@@ -57,7 +57,7 @@ impl<Ix: IndexType> Model for Links<Ix> {
 const STRETCH: usize = 512;
 
 impl<Ix: IndexType> Item<Ix> {
-    // What is stored at an index that no node of the list has.
+    // The item stored at the index of a node that is not in the list.
     #[inline]
     fn vacant() -> Self
         ensures { result ≡ vacant Ix.greatest }
@@ -70,7 +70,7 @@ impl<Ix: IndexType> Item<Ix> {
     }
 }
 
-// Makes `items` so long, with vacant items at the end.
+// Lengthens `items` to `len`, with vacant items at the end.
 #[inline]
 fn lengthen<Ix: IndexType>(items: &mut Vec<Item<Ix>>, len: usize) -> Result<(), AllocError>
     requires { vec_len items.old ≤ len }
@@ -83,8 +83,8 @@ fn lengthen<Ix: IndexType>(items: &mut Vec<Item<Ix>>, len: usize) -> Result<(), 
     items.resize(len, Item::vacant())
 }
 
-// Makes `items` longer than `n`, with vacant items at the end. They double while they are few, but
-// not beyond the capacity, if that is enough.
+// Makes `items` longer than `n`, with vacant items at the end. A short list doubles, but does not
+// grow beyond its capacity if that suffices.
 #[inline]
 fn grow<Ix: IndexType>(items: &mut Vec<Item<Ix>>, n: usize) -> Result<(), AllocError>
     requires { n + 1 < 2 ^ 64 }
@@ -185,7 +185,7 @@ fn join<Ix: IndexType>(
 }
 
 impl<Ix: IndexType> Links<Ix> {
-    /// A list of no nodes. Does not allocate.
+    /// An empty list. Does not allocate.
     pub fn new(alloc: Global) -> Self
         ensures nodes { result.nodes ≡ [] }
         ensures labels { result.labels ≡ [] }
@@ -209,7 +209,7 @@ impl<Ix: IndexType> Links<Ix> {
         self.count
     }
 
-    /// The number below which an index can be put in without growing.
+    /// Nodes with an index below this can be put in without growing.
     #[inline]
     pub fn index_bound(&self) -> usize
         ensures { result ≡ length self.now.labels }
@@ -306,7 +306,7 @@ impl<Ix: IndexType> Links<Ix> {
         reserve(&mut self.items, bound)
     }
 
-    /// Makes room for nodes below `bound`, within the capacity.
+    /// Makes room for all nodes with an index below `bound`, within the capacity.
     pub fn use_memory(&mut self, bound: usize)
         requires { bound ≤ self.old.capacity }
         ensures long { bound ≤ length self.new.labels }
@@ -416,7 +416,7 @@ impl<Ix: IndexType> Links<Ix> {
         self.count = 0;
     }
 
-    /// The same list, in memory of its own.
+    /// A copy of the list.
     pub fn try_clone(&self) -> Result<Self, AllocError>
         ensures nodes { IfOk result (λ l. l.nodes ≡ self.now.nodes) }
         ensures labels { IfOk result (λ l. l.labels ≡ self.now.labels) }

@@ -28,7 +28,8 @@ impl<Ix: IndexType> NodeKey<Ix> for Links<Ix> {
     }
 }
 
-// Puts the first nodes of a worklist, which stand before `a`, after it, in their order.
+// Moves the first `count` nodes of a worklist, which come before `a`, to right after it, in their
+// order.
 fn put_all_after<Ix: IndexType>(
     links: &mut Links<Ix>,
     a: Link<Ix>,
@@ -55,8 +56,8 @@ fn put_all_after<Ix: IndexType>(
 }
 
 impl<Ix: IndexType> LabeledList<Ix> {
-    /// Moves the first `count` nodes of a worklist, which stand before `a`, to after it, in their
-    /// old order. Sorts that part of the worklist. A few neighbors may be relabelled.
+    /// Moves the first `count` nodes of a worklist, which come before `a`, to right after it, in
+    /// their old order. Sorts that part of the worklist. A few neighbors may be relabelled.
     pub fn move_after(&mut self, a: Link<Ix>, work: &mut Worklist<Ix>, count: usize)
         requires within { count ≤ length work.old.nodes }
         requires stand { StandBefore self.old.nodes a (take count work.old.nodes) }

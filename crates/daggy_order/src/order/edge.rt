@@ -1,4 +1,4 @@
-//! How an order makes way for an edge.
+//! Updating an order for a new edge.
 ghost use Rattle.std.specs.Prelude.{◌≡◌, ℕ, ◌+◌, ◌<◌, ◌≤◌, ◌↔◌, true, false};
 ghost use Rattle.daggy_base.specs.Graph.{HasNode, node_bound};
 ghost use Rattle.daggy_base.specs.Path.{Reaches};
@@ -49,7 +49,7 @@ pub fn order_edge<Ix: IndexType, S: EdgeSource<Ix>>(
         → S.looks source.new ≡ S.looks source.old }
     ensures same_capacity { scratch.new ≡ scratch.old }
 {
-    // Called only for its postcondition: what exists is in the order.
+    // Called only for its postcondition: existing nodes are in the order.
     let _exists = source.contains_node(b);
     if order.stands_before(a, b) {
         return true;
@@ -62,8 +62,8 @@ pub fn order_edge<Ix: IndexType, S: EdgeSource<Ix>>(
     move_reached(source, &mut order.list, a, b, scratch)
 }
 
-// Moves what `b` reaches before `a` to after `a`. Returns false, with the list unchanged, if `b`
-// reaches `a`.
+// Moves the nodes before `a` that `b` reaches to after `a`. Returns false, with the list unchanged,
+// if `b` reaches `a`.
 fn move_reached<Ix: IndexType, S: EdgeSource<Ix>>(
     source: &mut S,
     list: &mut LabeledList<Ix>,
@@ -91,7 +91,7 @@ fn move_reached<Ix: IndexType, S: EdgeSource<Ix>>(
         (place list.old.nodes (Ix.number a))) }
     ensures same_capacity { scratch.new ≡ scratch.old }
 {
-    // Called only for its postcondition: what exists is in the list.
+    // Called only for its postcondition: existing nodes are in the list.
     let _exists = source.contains_node(b);
     let limit = list.links.label(a.index());
     let work = &mut scratch.work;

@@ -8,8 +8,8 @@ use daggy_base::index::{IndexType, NodeIndex};
 use daggy_base::link::Link;
 
 impl<Ix: IndexType> Order<Ix> {
-    /// Keeps the nodes that have a new index, under that index and in their old order. `names` has
-    /// the new index of each node that is kept.
+    /// Renames each node to its new index in `names`, and removes the nodes without one. The order
+    /// of the rest does not change.
     ///
     /// # Complexity
     ///

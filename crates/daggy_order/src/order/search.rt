@@ -13,9 +13,9 @@ use daggy_base::link::Link;
 use daggy_base::source::EdgeSource;
 use daggy_search::Worklist;
 
-// Collects at the front of a worklist, breadth first, the nodes reachable from `from` whose label is below `limit`
-// (the label of `to`), and returns how many. Returns `None` if `to` is reachable. Every parent's
-// label is lower than its children's.
+// Collects at the front of a worklist, breadth first, the nodes reachable from `from` whose label
+// is below `limit` (the label of `to`), and returns how many. Returns `None` if `to` is reachable.
+// Each parent's label must be lower than its children's.
 pub(crate) fn reaches_below<Ix: IndexType, S: EdgeSource<Ix>>(
     source: &mut S,
     from: NodeIndex<Ix>,

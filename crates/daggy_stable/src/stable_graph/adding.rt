@@ -20,7 +20,7 @@ impl<N: Drop, E: Drop, Ix: IndexType> StableDiGraph<N, E, Ix> {
     ///
     /// # Errors
     ///
-    /// `Memory` with the weight if an allocation fails; the graph is unchanged.
+    /// Returns `Memory` with the weight if an allocation fails; the graph is unchanged.
     ///
     /// # Complexity
     ///
@@ -40,7 +40,7 @@ impl<N: Drop, E: Drop, Ix: IndexType> StableDiGraph<N, E, Ix> {
         self.make_node(weight)
     }
 
-    // Adds a node in the slot that was vacated last. Out of line, to keep the inlined part small.
+    // Adds a node in the slot vacated last. Out of line, to keep the inlined part small.
     #[inline(never)]
     fn fill_node(&mut self, weight: N) -> NodeIndex<Ix>
         requires { self.old.graph.vacant_nodes ≢ [] }
@@ -80,7 +80,7 @@ impl<N: Drop, E: Drop, Ix: IndexType> StableDiGraph<N, E, Ix> {
     ///
     /// # Errors
     ///
-    /// `Memory` with the weight if an allocation fails; the graph is unchanged.
+    /// Returns `Memory` with the weight if an allocation fails; the graph is unchanged.
     ///
     /// # Complexity
     ///
@@ -107,7 +107,7 @@ impl<N: Drop, E: Drop, Ix: IndexType> StableDiGraph<N, E, Ix> {
         self.make_edge(a, b, weight)
     }
 
-    // Adds an edge in the slot that was vacated last. Out of line, as `fill_node` is.
+    // Adds an edge in the slot vacated last. Out of line, as `fill_node` is.
     #[inline(never)]
     fn fill_edge(&mut self, a: NodeIndex<Ix>, b: NodeIndex<Ix>, weight: E) -> EdgeIndex<Ix>
         requires some { self.old.graph.vacant_edges ≢ [] }

@@ -1,4 +1,4 @@
-//! Slots that are made one by one, and the graph of them.
+//! Building a graph slot by slot.
 ghost use Rattle.std.specs.Prelude.{◌≡◌, ◌<◌, ◌≤◌, None, [], ◌∷◌, ◌++◌, map, length, vec_len};
 ghost use Rattle.std.specs.Prelude.{vec_capacity, IsSome, IfOk};
 ghost use Rattle.std.specs.Option.{option_map};
@@ -15,7 +15,7 @@ use daggy_cells::cell::{Edge, Node};
 use daggy_cells::links::{self, put_first};
 use std::alloc::{AllocError, Global};
 
-// Slots that are made one by one, and which of them was made vacant last.
+// The slots so far, the last vacant one among them, and how many are occupied.
 #[derive(Drop)]
 pub(super) struct SlotBuilder<T, Ix: IndexType> {
     pub(super) cells: Vec<T>,
@@ -38,7 +38,7 @@ impl<T: Drop, Ix: IndexType> SlotBuilder<T, Ix> {
     }
 }
 
-// Makes the next slot of a node, which is vacant if there is no weight for it.
+// Appends a node slot, vacant if there is no weight.
 pub(super) fn keep_node<N, E, Ix: IndexType>(
     nodes: &mut SlotBuilder<Node<Option<N>, Ix>, Ix>,
     edges: &SlotBuilder<Edge<Option<E>, Ix>, Ix>,
@@ -68,7 +68,7 @@ pub(super) fn keep_node<N, E, Ix: IndexType>(
     }
 }
 
-// Makes the next slot of an edge, which is vacant.
+// Appends a vacant edge slot.
 pub(super) fn leave_edge<N, E, Ix: IndexType>(
     nodes: &SlotBuilder<Node<Option<N>, Ix>, Ix>,
     edges: &mut SlotBuilder<Edge<Option<E>, Ix>, Ix>,
@@ -89,7 +89,7 @@ pub(super) fn leave_edge<N, E, Ix: IndexType>(
     edges.first_vacant = e;
 }
 
-// Makes the next slot of an edge from `a` to `b`, which is vacant if there is no weight for it.
+// Appends a slot for an edge from `a` to `b`, vacant if there is no weight.
 pub(super) fn keep_edge<N, E, Ix: IndexType>(
     nodes: &mut SlotBuilder<Node<Option<N>, Ix>, Ix>,
     edges: &mut SlotBuilder<Edge<Option<E>, Ix>, Ix>,
@@ -121,7 +121,7 @@ pub(super) fn keep_edge<N, E, Ix: IndexType>(
     edges.count += 1;
 }
 
-// The graph of all the slots.
+// The graph of these slots.
 pub(super) fn built<N, E, Ix: IndexType>(
     nodes: SlotBuilder<Node<Option<N>, Ix>, Ix>,
     edges: SlotBuilder<Edge<Option<E>, Ix>, Ix>,

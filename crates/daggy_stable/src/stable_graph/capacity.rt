@@ -1,4 +1,4 @@
-//! A graph with capacity.
+//! Capacity.
 ghost use Rattle.std.specs.Prelude.{◌≡◌, ◌<◌, ◌^◌, IfOk, OnOk};
 ghost use Rattle.daggy_base.specs.Graph.{empty};
 

@@ -1,4 +1,4 @@
-//! A copy of a graph.
+//! Cloning a graph.
 ghost use Rattle.std.specs.Prelude.{◌≡◌, IfOk};
 ghost use Rattle.daggy_base.specs.Copying.{IsCopy};
 
@@ -26,8 +26,8 @@ impl<N: Clone + Drop, E: Clone + Drop, Ix: IndexType> Clone for StableDiGraph<N,
 }
 
 impl<N, E, Ix: IndexType> StableDiGraph<N, E, Ix> {
-    /// A graph with the same nodes and edges under the same indices, in the same lists, with a
-    /// clone of each weight, and with the same vacant slots, which are taken in the same order.
+    /// A graph with the same indices and lists, with a clone of each weight, and with the same
+    /// vacant slots, which are reused in the same order.
     ///
     /// # Errors
     ///

@@ -1,4 +1,4 @@
-//! How many nodes, edges and slots there are, and whether there is room for more.
+//! How many nodes, edges and slots there are, and whether an index is left for one more.
 ghost use Rattle.std.specs.Prelude.{◌≡◌, ◌<◌, ◌↔◌, length, IsTrue};
 ghost use Rattle.daggy_base.specs.Graph.{node_count as node_count_of, edge_count as edge_count_of};
 ghost use Rattle.daggy_base.specs.Graph.{node_bound as node_bound_of, edge_bound as edge_bound_of};
@@ -26,7 +26,7 @@ impl<N, E, Ix: IndexType> StableDiGraph<N, E, Ix> {
         self.edge_count
     }
 
-    /// How many slots of nodes there are, vacant or not.
+    /// How many node slots there are, occupied or vacant.
     #[inline]
     pub fn node_slots(&self) -> usize
         ensures { result ≡ length self.now.graph.nodes }
@@ -34,7 +34,7 @@ impl<N, E, Ix: IndexType> StableDiGraph<N, E, Ix> {
         self.nodes.len()
     }
 
-    /// How many slots of edges there are, vacant or not.
+    /// How many edge slots there are, occupied or vacant.
     #[inline]
     pub fn edge_slots(&self) -> usize
         ensures { result ≡ length self.now.graph.edges }
@@ -80,7 +80,7 @@ impl<N, E, Ix: IndexType> StableDiGraph<N, E, Ix> {
         0
     }
 
-    /// Whether the index type has an index left for one more node.
+    /// Whether an index is left for one more node.
     #[inline]
     pub fn can_add_node(&self) -> bool
         ensures { IsTrue result ↔ (node_count_of self.now.graph < Ix.greatest) }
@@ -88,7 +88,7 @@ impl<N, E, Ix: IndexType> StableDiGraph<N, E, Ix> {
         self.node_count() < NodeIndex::<Ix>::end().index()
     }
 
-    /// Whether the index type has an index left for one more edge.
+    /// Whether an index is left for one more edge.
     #[inline]
     pub fn can_add_edge(&self) -> bool
         ensures { IsTrue result ↔ (edge_count_of self.now.graph < Ix.greatest) }

@@ -19,7 +19,7 @@ use daggy_cells::cell::{Edge, Node};
 use daggy_cells::links;
 use std::alloc::AllocError;
 
-// Makes the slots of the nodes that f keeps, within the capacity that is there.
+// Makes a slot for each node slot, occupied by what `f` keeps, within the capacity.
 fn filter_nodes<N, V, W, Ix: IndexType, F: FnMut(NodeIndex<Ix>, &N) -> Option<V>>(
     nodes: &[Node<Option<N>, Ix>],
     new: &mut SlotBuilder<Node<Option<V>, Ix>, Ix>,
@@ -51,7 +51,7 @@ fn filter_nodes<N, V, W, Ix: IndexType, F: FnMut(NodeIndex<Ix>, &N) -> Option<V>
 }
 
 #[inline]
-fn stayed<N, Ix: IndexType>(nodes: &SlotBuilder<Node<Option<N>, Ix>, Ix>, n: Link<Ix>) -> bool
+fn was_kept<N, Ix: IndexType>(nodes: &SlotBuilder<Node<Option<N>, Ix>, Ix>, n: Link<Ix>) -> bool
     ensures { result ≡ is_some (slot (map weight_of nodes.now.cells.items) n) }
 {
     match nodes.cells.get(n.index()) {
@@ -60,7 +60,7 @@ fn stayed<N, Ix: IndexType>(nodes: &SlotBuilder<Node<Option<N>, Ix>, Ix>, n: Lin
     }
 }
 
-// The weight of an edge, if the edge exists and both its ends stayed.
+// The weight of an edge, if the edge exists and both its endpoints were kept.
 #[inline]
 fn joined_weight<'a, N, E, Ix: IndexType>(
     nodes: &SlotBuilder<Node<Option<N>, Ix>, Ix>,
@@ -70,17 +70,17 @@ fn joined_weight<'a, N, E, Ix: IndexType>(
         ≡ option_map weight_in
         (if_ends_exist (map weight_of nodes.now.cells.items) (plain_edge x.now)) }
 {
-    if !stayed(nodes, links::end(x, Direction::Outgoing)) {
+    if !was_kept(nodes, links::endpoint(x, Direction::Outgoing)) {
         return None;
     }
-    if !stayed(nodes, links::end(x, Direction::Incoming)) {
+    if !was_kept(nodes, links::endpoint(x, Direction::Incoming)) {
         return None;
     }
     x.weight.as_ref()
 }
 
-// Makes the slots of the edges that g keeps of those whose ends both stayed, within the capacity
-// that is there.
+// Makes a slot for each edge slot, occupied by what `g` keeps of the edges whose endpoints were
+// both kept, within the capacity.
 fn filter_edges<N, E, W, Ix: IndexType, G: FnMut(EdgeIndex<Ix>, &E) -> Option<W>>(
     edges: &[Edge<Option<E>, Ix>],
     nodes: &mut SlotBuilder<Node<Option<N>, Ix>, Ix>,
@@ -109,8 +109,8 @@ fn filter_edges<N, E, W, Ix: IndexType, G: FnMut(EdgeIndex<Ix>, &E) -> Option<W>
             }
         };
         let answer = g(EdgeIndex::new(i), old);
-        let a = links::end(x, Direction::Outgoing);
-        let b = links::end(x, Direction::Incoming);
+        let a = links::endpoint(x, Direction::Outgoing);
+        let b = links::endpoint(x, Direction::Incoming);
         keep_edge(nodes, new, a, b, answer);
     }
 }

@@ -1,4 +1,4 @@
-//! A graph of cells that were made elsewhere.
+//! Making a graph of slots that were filled elsewhere.
 ghost use Rattle.std.specs.Prelude.{◌≡◌};
 ghost use Rattle.daggy_base.specs.Graph.{Graph};
 ghost use Rattle.daggy_stable.specs.Held.{HoldsGraph};
@@ -10,7 +10,7 @@ use daggy_base::looks::Looks;
 use daggy_cells::cell::{Edge, Node};
 
 impl<N, E, Ix: IndexType> StableDiGraph<N, E, Ix> {
-    /// The graph that these cells hold, which has no vacant slot.
+    /// The graph in these slots, none of which is vacant.
     ///
     /// # Complexity
     ///

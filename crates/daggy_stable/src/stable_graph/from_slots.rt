@@ -1,4 +1,4 @@
-//! A graph that is made of given slots.
+//! Making a graph of given slots.
 ghost use Rattle.std.specs.Prelude.{◌≡◌, ◌≤◌, [], map, length, vec_capacity, IfOk};
 ghost use Rattle.std.specs.Option.{option_map};
 ghost use Rattle.daggy_base.specs.FromSlots.{graph_of_slots, edge_of, edges_by, MakeGraph};
@@ -12,7 +12,7 @@ use daggy_base::link::Link;
 use daggy_cells::cell::{Edge, Node};
 use std::alloc::{AllocError, Global};
 
-// Makes a slot of each node, within the capacity that is there.
+// Makes the node slots, within the capacity.
 fn make_nodes<N: Drop, E, Ix: IndexType>(
     given: Vec<Option<N>>,
     nodes: &mut SlotBuilder<Node<Option<N>, Ix>, Ix>,
@@ -31,7 +31,7 @@ fn make_nodes<N: Drop, E, Ix: IndexType>(
     }
 }
 
-// Makes a slot of each edge, within the capacity that is there.
+// Makes the edge slots, within the capacity.
 fn make_edges<N, E: Drop, Ix: IndexType>(
     given: Vec<Option<(NodeIndex<Ix>, NodeIndex<Ix>, E)>>,
     nodes: &mut SlotBuilder<Node<Option<N>, Ix>, Ix>,
@@ -63,7 +63,8 @@ fn make_edges<N, E: Drop, Ix: IndexType>(
 }
 
 impl<N, E, Ix: IndexType> StableDiGraph<N, E, Ix> {
-    /// A graph of explicit slots, where an edge names its parent and its child.
+    /// A graph of explicit slots; `None` leaves a slot vacant. An edge slot has the parent, the
+    /// child and the weight.
     ///
     /// Each list is in descending index order, and the highest vacant slot is reused first.
     ///

@@ -1,4 +1,4 @@
-//! Iterating over full slots.
+//! Iterating over occupied slots.
 ghost use Rattle.std.specs.Prelude.{◌≡◌, ◌+◌, ◌<◌, ◌≤◌, ◌^◌, Bool, Some, None, [], is_none, length};
 ghost use Rattle.std.specs.Prelude.{IfSome, IfNone};
 ghost use Rattle.daggy_stable.specs.FullSlots.{next_full as next_full_of};
@@ -6,7 +6,7 @@ ghost use Rattle.daggy_stable.specs.FullSlots.{next_full as next_full_of};
 use daggy_base::index::IndexType;
 use daggy_cells::cell::{Edge, Node};
 
-// What is stored in a slot.
+// A node or an edge in a slot.
 pub(super) trait Slot {
     ghost vacant: { Self → Bool };
 
@@ -32,7 +32,7 @@ impl<E, Ix: IndexType> Slot for Edge<Option<E>, Ix> {
     }
 }
 
-// The slots that are still to be gone through, and the index of the first of them.
+// The slots left to iterate over, and the index of the first of them.
 #[derive(Drop)]
 pub(super) struct FullSlots<'a, C> {
     pub(super) cells: &'a [C],
@@ -40,7 +40,7 @@ pub(super) struct FullSlots<'a, C> {
 }
 
 impl<'a, C: Slot> FullSlots<'a, C> {
-    // The next slot that is not vacant, with its index.
+    // The next occupied slot, with its index.
     #[inline]
     pub(super) fn next_full(&mut self) -> Option<(usize, &'a C)>
         requires { self.old.index + length self.old.cells.now < 2 ^ 64 }

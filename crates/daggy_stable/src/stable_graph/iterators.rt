@@ -192,7 +192,7 @@ impl<'a, N, Ix: IndexType> fmt::Debug for NodeWeights<'a, N, Ix> {
     }
 }
 
-// The reference to an edge that is stored.
+// A reference to a stored edge.
 #[inline]
 pub(super) fn reference<'a, E, Ix: IndexType>(
     e: EdgeIndex<Ix>,
@@ -201,8 +201,8 @@ pub(super) fn reference<'a, E, Ix: IndexType>(
     requires { IsSome x.now.weight }
     ensures { numbered_edge (Ix.number e) (plain_edge x.now) ≡ Some (referred Ix.number result) }
 {
-    let source = links::end(x, Direction::Outgoing).node();
-    let target = links::end(x, Direction::Incoming).node();
+    let source = links::endpoint(x, Direction::Outgoing).node();
+    let target = links::endpoint(x, Direction::Incoming).node();
     EdgeReference::from_parts(e, source, target, x.weight.as_ref().unwrap())
 }
 
@@ -325,8 +325,7 @@ impl<'a, E, Ix: IndexType> fmt::Debug for EdgeWeights<'a, E, Ix> {
 }
 
 impl<N, E, Ix: IndexType> StableDiGraph<N, E, Ix> {
-    /// The weights of the nodes, by ascending index. Going over all of them costs all slots, vacant
-    /// ones too.
+    /// The weights of the nodes, by ascending index. O(slots) in total, occupied or vacant.
     #[inline]
     pub fn node_weights(&self) -> NodeWeights<'_, N, Ix>
         ensures rest { result ≡ node_weights_of self.now.graph }
@@ -337,8 +336,7 @@ impl<N, E, Ix: IndexType> StableDiGraph<N, E, Ix> {
         }
     }
 
-    /// The weights of the edges, by ascending index. Going over all of them costs all slots, vacant
-    /// ones too.
+    /// The weights of the edges, by ascending index. O(slots) in total, occupied or vacant.
     #[inline]
     pub fn edge_weights(&self) -> EdgeWeights<'_, E, Ix>
         ensures rest { result ≡ edge_weights_of self.now.graph }
@@ -349,8 +347,7 @@ impl<N, E, Ix: IndexType> StableDiGraph<N, E, Ix> {
         }
     }
 
-    /// The indices of the nodes, in ascending order. Going over all of them costs all slots, vacant
-    /// ones too.
+    /// The indices of the nodes, in ascending order. O(slots) in total, occupied or vacant.
     #[inline]
     pub fn node_identifiers(&self) -> NodeIdentifiers<'_, N, Ix>
         ensures rest { result ≡ node_identifiers_of self.now.graph }
@@ -361,8 +358,7 @@ impl<N, E, Ix: IndexType> StableDiGraph<N, E, Ix> {
         }
     }
 
-    /// The nodes by ascending index, each with its weight. Going over all of them costs all slots,
-    /// vacant ones too.
+    /// The nodes by ascending index, each with its weight. O(slots) in total, occupied or vacant.
     #[inline]
     pub fn node_references(&self) -> NodeReferences<'_, N, Ix>
         ensures rest { result ≡ node_references_of self.now.graph }
@@ -376,7 +372,7 @@ impl<N, E, Ix: IndexType> StableDiGraph<N, E, Ix> {
         }
     }
 
-    /// The edges, by ascending index. Going over all of them costs all slots, vacant ones too.
+    /// The edges, by ascending index. O(slots) in total, occupied or vacant.
     #[inline]
     pub fn edge_references(&self) -> EdgeReferences<'_, E, Ix>
         ensures rest { result ≡ edge_references_of self.now.graph }

@@ -78,7 +78,7 @@ impl<'a, E, Ix: IndexType> fmt::Debug for Edges<'a, E, Ix> {
     }
 }
 
-/// The far ends of the edges of one list of a node, in the order of the list.
+/// The far endpoints of the edges of one list of a node, in the order of the list.
 #[derive(Drop)]
 pub struct Neighbors<'a, E, Ix: IndexType = DefaultIx> {
     edges: Edges<'a, E, Ix>,
@@ -131,7 +131,7 @@ impl<'a, E, Ix: IndexType> fmt::Debug for Neighbors<'a, E, Ix> {
 }
 
 impl<N, E, Ix: IndexType> StableDiGraph<N, E, Ix> {
-    /// The edges that leave a node, newest first, or none if the node does not exist.
+    /// The edges that leave a node, newest first. Empty if the node does not exist.
     #[inline]
     pub fn edges(&self, n: NodeIndex<Ix>) -> Edges<'_, E, Ix>
         ensures rest { result ≡ edges_at Outgoing self.now.graph (Ix.number n) }
@@ -140,7 +140,7 @@ impl<N, E, Ix: IndexType> StableDiGraph<N, E, Ix> {
         self.edges_directed(n, Direction::Outgoing)
     }
 
-    /// The edges that leave a node, or those that enter it, newest first, or none if the node does
+    /// The edges that leave a node, or those that enter it, newest first. Empty if the node does
     /// not exist.
     #[inline]
     pub fn edges_directed(&self, n: NodeIndex<Ix>, dir: Direction) -> Edges<'_, E, Ix>
@@ -155,7 +155,7 @@ impl<N, E, Ix: IndexType> StableDiGraph<N, E, Ix> {
         }
     }
 
-    /// The children of a node, one for each edge that leaves it, newest first, or none if the node
+    /// The children of a node, one for each edge that leaves it, newest first. Empty if the node
     /// does not exist.
     #[inline]
     pub fn neighbors(&self, n: NodeIndex<Ix>) -> Neighbors<'_, E, Ix>
@@ -165,8 +165,8 @@ impl<N, E, Ix: IndexType> StableDiGraph<N, E, Ix> {
         self.neighbors_directed(n, Direction::Outgoing)
     }
 
-    /// The children of a node, or its parents, one for each edge that leaves it, or that enters it,
-    /// newest first, or none if the node does not exist.
+    /// The children of a node, one for each edge that leaves it, or its parents, one for each edge
+    /// that enters it, newest first. Empty if the node does not exist.
     #[inline]
     pub fn neighbors_directed(&self, n: NodeIndex<Ix>, dir: Direction) -> Neighbors<'_, E, Ix>
         ensures rest { result ≡ neighbors_at dir self.now.graph (Ix.number n) }

@@ -13,7 +13,7 @@ use daggy_cells::cell::{Edge, Node};
 use daggy_cells::links;
 use std::alloc::AllocError;
 
-// Makes the nodes of the new graph, within the capacity that is there.
+// Makes the node slots of the new graph, within the capacity.
 fn map_nodes<N, V, Ix: IndexType, F: FnMut(NodeIndex<Ix>, &N) -> V>(
     nodes: &[Node<Option<N>, Ix>],
     new: &mut Vec<Node<Option<V>, Ix>>,
@@ -41,7 +41,7 @@ fn map_nodes<N, V, Ix: IndexType, F: FnMut(NodeIndex<Ix>, &N) -> V>(
     }
 }
 
-// Makes the edges of the new graph, within the capacity that is there.
+// Makes the edge slots of the new graph, within the capacity.
 fn map_edges<E, W, Ix: IndexType, G: FnMut(EdgeIndex<Ix>, &E) -> W>(
     edges: &[Edge<Option<E>, Ix>],
     new: &mut Vec<Edge<Option<W>, Ix>>,
@@ -70,9 +70,8 @@ fn map_edges<E, W, Ix: IndexType, G: FnMut(EdgeIndex<Ix>, &E) -> W>(
 }
 
 impl<N, E, Ix: IndexType> StableDiGraph<N, E, Ix> {
-    /// A graph with the same nodes and edges under the same indices, in the same lists, and with
-    /// the same vacant slots, whose weights are what the closures give: `f` is called with each
-    /// node by ascending index, and then `g` with each edge.
+    /// A graph with the same indices, lists and vacant slots, and with the weights returned by the
+    /// closures: `f` is called with each node by ascending index, and then `g` with each edge.
     ///
     /// # Errors
     ///

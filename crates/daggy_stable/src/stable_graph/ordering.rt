@@ -1,4 +1,4 @@
-//! Other orders of the lists of a graph.
+//! Permuting the lists of a graph.
 ghost use Rattle.std.specs.Prelude.{◌≡◌, ℕ, ◌≤◌, None, is_some, map, length, count_by, slice_get};
 ghost use Rattle.std.specs.Prelude.{Contains};
 ghost use Rattle.daggy_base.specs.declared.index.Direction.{Direction};
@@ -7,24 +7,24 @@ ghost use Rattle.daggy_base.specs.Graph.{slot};
 ghost use Rattle.daggy_base.specs.Orders.{numbers_of, with_orders, AreOrders};
 ghost use Rattle.daggy_base.specs.State.{with_graph};
 ghost use Rattle.daggy_cells.specs.Fields.{firsts_of, nexts_of};
-ghost use Rattle.daggy_cells.specs.Links.{nth_list, AreLinkedLists, CanThreadAll};
+ghost use Rattle.daggy_cells.specs.Links.{nth_list, AreLinkedLists, CanLinkAll};
 ghost use Rattle.daggy_stable.specs.Stored.{weight_of, plain_edge, list_firsts};
 ghost use Rattle.daggy_stable.specs.Ordering.{new_lists};
 
 use crate::stable_graph::StableDiGraph;
 use daggy_base::index::{EdgeIndex, IndexType};
 use daggy_cells::cell::{Edge, Node};
-use daggy_cells::links::thread_both;
+use daggy_cells::links::relink_both;
 
-// Threads the lists of each node that exists in these orders.
-fn thread_nodes<N, E, Ix: IndexType>(
+// Links the lists of each existing node in these orders.
+fn relink_nodes<N, E, Ix: IndexType>(
     nodes: &mut Vec<Node<Option<N>, Ix>>,
     edges: &mut Vec<Edge<Option<E>, Ix>>,
     orders: &[(Vec<EdgeIndex<Ix>>, Vec<EdgeIndex<Ix>>)],
 )
     requires count { length orders.now ≡ count_by is_some (map weight_of nodes.old.items) }
     requires lists { (dir : Direction)
-        → CanThreadAll (length edges.old.items)
+        → CanLinkAll (length edges.old.items)
         (new_lists dir nodes.old.items (map (numbers_of Ix.number) orders.now)) }
     ensures linked { (dir : Direction)
         → AreLinkedLists Ix.greatest (list_firsts Ix.greatest dir nodes.new.items)
@@ -50,7 +50,7 @@ fn thread_nodes<N, E, Ix: IndexType>(
             continue;
         }
         let order = &orders[next];
-        thread_both(nodes, edges, i, order);
+        relink_both(nodes, edges, i, order);
         next += 1;
     }
 }
@@ -68,6 +68,6 @@ impl<N, E, Ix: IndexType> StableDiGraph<N, E, Ix> {
             ≡ with_graph self.old
             (with_orders self.old.graph (map (numbers_of Ix.number) orders.now)) }
     {
-        thread_nodes(&mut self.nodes, &mut self.edges, orders);
+        relink_nodes(&mut self.nodes, &mut self.edges, orders);
     }
 }

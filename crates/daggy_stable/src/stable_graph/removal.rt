@@ -37,7 +37,7 @@ impl<N, E, Ix: IndexType> StableDiGraph<N, E, Ix> {
         self.vacate_edge(e)
     }
 
-    // Takes an edge out of its lists, and vacates its slot.
+    // Unlinks an edge from its two lists, and vacates its slot.
     pub(super) fn vacate_edge(&mut self, e: EdgeIndex<Ix>) -> Option<E>
         requires { HasEdge self.old.graph (Ix.number e) }
         ensures value { result ≡ option_map (λ x. x.weight) (edge_at self.old.graph (Ix.number e)) }
@@ -82,7 +82,7 @@ impl<N, E, Ix: IndexType> StableDiGraph<N, E, Ix> {
         self.vacate_node(n)
     }
 
-    // Removes the first edge of n's list in direction `dir` until the list is empty.
+    // Removes the first edge of the node's list in direction `dir` until the list is empty.
     fn clear_front(&mut self, n: NodeIndex<Ix>, dir: Direction)
     where
         E: Drop,
@@ -122,7 +122,7 @@ impl<N, E, Ix: IndexType> StableDiGraph<N, E, Ix> {
 
     /// Removes all nodes and edges, and all slots. The capacity is kept.
     ///
-    /// The cost grows with the number of slots.
+    /// O(slots).
     pub fn clear(&mut self)
     where
         N: Drop,
@@ -139,7 +139,7 @@ impl<N, E, Ix: IndexType> StableDiGraph<N, E, Ix> {
 
     /// Removes all edges and all edge slots, and keeps the nodes. The capacity is kept.
     ///
-    /// The cost grows with the number of slots.
+    /// O(slots).
     pub fn clear_edges(&mut self)
     where
         E: Drop,
@@ -152,7 +152,7 @@ impl<N, E, Ix: IndexType> StableDiGraph<N, E, Ix> {
     }
 }
 
-// Takes an edge out of its two lists.
+// Unlinks an edge from its two lists.
 pub(super) fn unlink<N, E, Ix: IndexType>(
     nodes: &mut Vec<Node<N, Ix>>,
     edges: &mut Vec<Edge<E, Ix>>,

@@ -1,4 +1,4 @@
-//! The trait of searched graphs for the stable store.
+//! `EdgeSource` for the stable store.
 ghost use Rattle.std.specs.Prelude.{◌≡◌, ◌+◌, ◌↔◌, IsTrue};
 ghost use Rattle.daggy_base.specs.Graph.{HasNode, HasEdge, out_list, node_bound as node_bound_of};
 ghost use Rattle.daggy_base.specs.Graph.{edge_bound as edge_bound_of};
@@ -62,7 +62,7 @@ impl<N: Drop, E: Drop, Ix: IndexType> EdgeSource<Ix> for StableDiGraph<N, E, Ix>
     {
         self.looks.take();
         let x = &self.edges[e.index()];
-        let child = links::end(x, Direction::Incoming);
+        let child = links::endpoint(x, Direction::Incoming);
         let next = links::next(x, Direction::Outgoing);
         (child.node(), next.edge())
     }

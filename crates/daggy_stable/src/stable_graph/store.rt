@@ -1,4 +1,4 @@
-//! The trait of stores for the stable store.
+//! `Store` for the stable store.
 ghost use Rattle.std.specs.Prelude.{◌≡◌, ◌+◌, ◌<◌, ◌↔◌, IsTrue, IfOk, OnOk, IfErr, OnErr};
 ghost use Rattle.std.specs.Prelude.{OnSome, IfNone, Some, [], ◌≤◌, length, option_copied};
 ghost use Rattle.std.specs.Prelude.{refl};

@@ -1,4 +1,4 @@
-//! Undoing the adding of nodes and edges.
+//! Undoing additions.
 ghost use Rattle.std.specs.Prelude.{◌≡◌, ◌+◌, IsTrue, true, Some, [], length};
 ghost use Rattle.daggy_base.specs.declared.index.Direction.{Direction};
 ghost use Rattle.daggy_base.specs.Graph.{node_weight, HasNode, HasEdge, list_at};
@@ -13,13 +13,12 @@ use daggy_base::index::{EdgeIndex, IndexType, NodeIndex};
 use daggy_base::link::Link;
 
 impl<N, E, Ix: IndexType> StableDiGraph<N, E, Ix> {
-    /// Undoes the adding of an edge, and returns its weight. The slot is removed if it was new
-    /// (`made`), and freed otherwise.
+    /// Undoes the addition of an edge, and returns its weight. The slot is removed if it was new
+    /// (`made`), and vacated otherwise.
     ///
     /// # Complexity
     ///
-    /// O(edges before it in its two lists): O(1) for the edge that was added last. Does not
-    /// allocate.
+    /// O(edges before it in its two lists), so O(1) for the edge added last. Does not allocate.
     pub fn take_back_edge(&mut self, e: EdgeIndex<Ix>, made: bool) -> E
         requires exists { HasEdge self.old.graph (Ix.number e) }
         requires last { IsTrue made → Ix.number e + 1 ≡ length self.old.graph.edges }
@@ -34,7 +33,7 @@ impl<N, E, Ix: IndexType> StableDiGraph<N, E, Ix> {
         self.vacate_edge(e).unwrap()
     }
 
-    // Takes the edge in the last slot out of its lists, and cuts the slot off.
+    // Unlinks the edge in the last slot from its two lists, and removes the slot.
     fn cut_edge(&mut self, e: EdgeIndex<Ix>) -> Option<E>
         requires exists { HasEdge self.old.graph (Ix.number e) }
         requires last { Ix.number e + 1 ≡ length self.old.graph.edges }
@@ -48,10 +47,10 @@ impl<N, E, Ix: IndexType> StableDiGraph<N, E, Ix> {
         x.weight
     }
 
-    /// Undoes the adding of a node without edges, and returns its weight. The slot is removed if it
-    /// was new (`made`), and freed otherwise.
+    /// Undoes the addition of a node without edges, and returns its weight. The slot is removed if
+    /// it was new (`made`), and vacated otherwise.
     ///
-    /// It cannot fail for want of memory.
+    /// O(1). Does not allocate.
     pub fn take_back_node(&mut self, n: NodeIndex<Ix>, made: bool) -> N
         requires exists { HasNode self.old.graph (Ix.number n) }
         requires no_edges { (dir : Direction) → list_at dir self.old.graph (Ix.number n) ≡ [] }
@@ -67,7 +66,7 @@ impl<N, E, Ix: IndexType> StableDiGraph<N, E, Ix> {
         self.vacate_node(n).unwrap()
     }
 
-    // Cuts off the last slot, which is that of a node that has no edges.
+    // Removes the last slot, which holds a node without edges.
     fn cut_node(&mut self, n: NodeIndex<Ix>) -> Option<N>
         requires exists { HasNode self.old.graph (Ix.number n) }
         requires no_edges { (dir : Direction) → list_at dir self.old.graph (Ix.number n) ≡ [] }

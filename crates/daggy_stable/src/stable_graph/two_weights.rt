@@ -120,7 +120,7 @@ impl<N, E, Ix: IndexType> StableDiGraph<N, E, Ix> {
     }
 }
 
-// Calls f with what two slots hold.
+// Calls `f` with the weights in two slots.
 #[inline]
 fn at_slots<V, W, R, F: FnOnce(&mut V, &mut W) -> R>(
     x: &mut Option<V>,
@@ -138,7 +138,7 @@ fn at_slots<V, W, R, F: FnOnce(&mut V, &mut W) -> R>(
     f(v, w)
 }
 
-// The same where both slots are of one type: a closure over one type is not taken for a bound over
+// The same for two slots of one type: a closure bound over one type does not satisfy a bound over
 // two.
 #[inline]
 fn at_pair<W, R, F: FnOnce(&mut W, &mut W) -> R>(x: &mut Option<W>, y: &mut Option<W>, f: F) -> R

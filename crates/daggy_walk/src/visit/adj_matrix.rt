@@ -30,7 +30,7 @@ impl<Ix> Model for AdjMatrix<Ix> {
     ghost invariant = { λ m. (length m.bits ≡ m.bound * m.bound) × (m.bound * m.bound < 2 ^ 64) };
 }
 
-/// Where the flag of a pair stands.
+/// The position of the flag of a pair.
 #[inline]
 fn place(bound: usize, a: usize, b: usize) -> usize
     requires row { a < bound }

@@ -63,7 +63,7 @@ pub trait GetAdjacencyMatrix: Data {
     /// A set of pairs of nodes.
     type AdjMatrix;
 
-    // The pairs that a matrix stands for.
+    // The pairs in a matrix.
     ghost pairs: { Self.AdjMatrix → List (List Bool) };
 
     /// The pairs of nodes that an edge joins.

@@ -17,7 +17,7 @@ pub fn the_first_node_is_node_0()
     ensures next { next_node (with_node nothing 5) ≡ 1 }
 {}
 
-/// What does not exist has no weight, no ends and no edges.
+/// A missing node has no weight and no edges, and a missing edge no weight and no endpoints.
 pub fn an_empty_graph_has_nothing()
     ensures node { node_weight nothing 0 ≡ None }
     ensures edge { edge_at nothing 0 ≡ None }
@@ -27,7 +27,7 @@ pub fn an_empty_graph_has_nothing()
     ensures edges { edge_bound nothing ≡ 0 }
 {}
 
-/// The edges that leave a node stand newest first.
+/// The edges that leave a node are in its out list, newest first.
 pub fn edges_that_leave_stand_newest_first()
     ensures root { out_list fan 0 ≡ 2 ∷ 1 ∷ 0 ∷ [] }
     ensures first_child { in_list fan 1 ≡ 0 ∷ [] }
@@ -35,14 +35,14 @@ pub fn edges_that_leave_stand_newest_first()
     ensures next { next_edge fan ≡ 3 }
 {}
 
-/// The edges that enter a node stand newest first.
+/// The edges that enter a node are in its in list, newest first.
 pub fn edges_that_enter_stand_newest_first()
     ensures two { in_list triangle 2 ≡ 2 ∷ 1 ∷ [] }
     ensures one { in_list triangle 1 ≡ 0 ∷ [] }
     ensures none { in_list triangle 0 ≡ [] }
 {}
 
-/// Where nothing was removed, counts and bounds are how often something was added.
+/// If nothing was removed, counts and bounds are the number of additions.
 pub fn counts_are_of_what_was_added()
     ensures nodes { node_count fan ≡ 4 }
     ensures edges { edge_count fan ≡ 3 }
@@ -50,12 +50,12 @@ pub fn counts_are_of_what_was_added()
     ensures edge_bound { edge_bound fan ≡ 3 }
 {}
 
-/// An edge keeps its ends and its weight.
+/// An edge keeps its endpoints and its weight.
 pub fn edges_keep_their_ends_and_weights()
     ensures { triangle.edges ≡ Some (line 0 1 10) ∷ Some (line 0 2 20) ∷ Some (line 1 2 30) ∷ [] }
 {}
 
-/// Each edge names the edge after it, in both of its lists.
+/// Each edge has a next edge in both of its lists.
 pub fn each_edge_names_the_next()
     ensures first_out { first_of end (out_list triangle 0) ≡ 1 }
     ensures next_out { cursor_after Outgoing end triangle 1 (edge_at triangle 1) ≡ 0 }
@@ -65,15 +65,14 @@ pub fn each_edge_names_the_next()
     ensures last_in { cursor_after Incoming end triangle 1 (edge_at triangle 1) ≡ end }
 {}
 
-/// An edge from a node to itself stands in both lists of that node. A graph that is no dag may have
-/// one.
+/// A self-loop is in both lists of its node. A graph that is not a dag may have one.
 pub fn a_self_loop_stands_in_both_lists()
     ensures leaves { out_list self_loop 0 ≡ 0 ∷ [] }
     ensures enters { in_list self_loop 0 ≡ 0 ∷ [] }
     ensures nodes { self_loop.nodes ≡ one_node.nodes }
 {}
 
-/// Edges of one pair are edges of their own.
+/// Parallel edges are distinct edges.
 pub fn parallel_edges_are_edges_of_their_own()
     ensures leaves { out_list pair 0 ≡ 1 ∷ 0 ∷ [] }
     ensures enters { in_list pair 1 ≡ 1 ∷ 0 ∷ [] }

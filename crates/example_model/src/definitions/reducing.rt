@@ -6,8 +6,8 @@ ghost use Rattle.daggy_base.specs.Reduction.{IsReduction, Covers};
 ghost use Rattle.example_model.specs.Examples.{line, with_lines, shortcuts, doubled_step};
 ghost use Rattle.example_model.specs.Examples.{turned_triangle};
 
-/// Of the eight edges of five nodes three are redundant. The reduction is as before once one of
-/// them came back and was reduced away again.
+/// Three of eight edges between five nodes are redundant. Adding one of them back and reducing
+/// again leaves the same reduction.
 pub fn the_reduction_of_five_nodes()
     ensures before { IsReduction Compact (0 ∷ []) shortcuts
         (without_edges Compact shortcuts (6 ∷ 3 ∷ 2 ∷ [])) }
@@ -15,7 +15,7 @@ pub fn the_reduction_of_five_nodes()
         IsReduction Compact (0 ∷ []) (with_lines (line 0 4 9 ∷ []) reduced) reduced }
 {}
 
-/// Edges of one pair do not make one another redundant.
+/// Parallel edges do not make each other redundant.
 pub fn parallel_edges_stay()
     ensures { IsReduction Compact (0 ∷ []) doubled_step
         (without_edges Compact doubled_step (1 ∷ [])) }
@@ -29,7 +29,7 @@ pub fn edges_above_the_roots_stay()
         (without_edges Compact turned_triangle (2 ∷ [])) }
 {}
 
-/// What lies at the end of one step covers, and what lies beyond it does not.
+/// A node covers its children, but not what they reach.
 pub fn nothing_stands_between_a_cover()
     ensures covers { Covers turned_triangle 0 1 }
     ensures not { Covers turned_triangle 0 2 → ⊥ }

@@ -1,4 +1,4 @@
-//! Removal where slots stay vacant, and are taken again.
+//! Removal in the stable kind: slots become vacant, and are reused.
 ghost use Rattle.std.specs.Prelude.{◌≡◌, ℕ, List, [], ◌∷◌, Some, None, true, false};
 ghost use Rattle.daggy_base.specs.Graph.{Graph, node_weight, edge_at, out_list, in_list};
 ghost use Rattle.daggy_base.specs.Graph.{node_count, edge_count, node_bound, edge_bound};
@@ -9,7 +9,7 @@ ghost use Rattle.daggy_base.specs.TakingBack.{with_edge_taken_back};
 ghost use Rattle.example_model.specs.Examples.{line, fan, triangle, diamond, chain};
 ghost use Rattle.example_model.specs.Examples.{two_children, with_lines, with_nodes};
 
-/// Removing an edge moves nothing, and its slot is taken next.
+/// Removing an edge moves nothing, and its slot is reused next.
 pub fn a_vacated_edge_slot_is_taken_next()
     ensures edges { (without_edge Stable chain 0).edges ≡ None ∷ Some (line 1 2 20) ∷ [] }
     ensures next { next_edge (without_edge Stable chain 0) ≡ 0 }
@@ -20,7 +20,7 @@ pub fn a_vacated_edge_slot_is_taken_next()
     ensures bound { edge_bound (without_edge Stable chain 0) ≡ 2 }
 {}
 
-/// Of several vacated slots the one vacated last is taken first.
+/// Of several vacant slots, the one vacated last is reused first.
 pub fn the_slot_vacated_last_is_taken_first()
     ensures first { next_edge (without_edges Stable fan (0 ∷ 2 ∷ 1 ∷ [])) ≡ 1 }
     ensures second { next_edge (with_edge (without_edges Stable fan (0 ∷ 2 ∷ 1 ∷ [])) 0 1 5) ≡ 2 }
@@ -32,7 +32,7 @@ pub fn the_slot_vacated_last_is_taken_first()
         ≡ 3 }
 {}
 
-/// Removing a node vacates its slot and those of its edges. All else keeps its index.
+/// Removing a node vacates its slot and those of its edges. Everything else keeps its index.
 pub fn removing_a_node_vacates_slots()
     ensures nodes { (without_node Stable two_children 1).nodes ≡ Some 10 ∷ None ∷ Some 30 ∷ [] }
     ensures edges { (without_node Stable two_children 1).edges ≡ None ∷ Some (line 0 2 5) ∷ [] }
@@ -43,7 +43,7 @@ pub fn removing_a_node_vacates_slots()
     ensures count { node_count (without_node Stable two_children 1) ≡ 2 }
 {}
 
-/// A node in a slot that was vacant has no edges, and those of the others are as before.
+/// A node in a reused slot has no edges, and the edges of the others are unchanged.
 pub fn a_node_in_a_vacated_slot_has_no_edges()
     ensures weight { node_weight (with_node (without_node Stable two_children 1) 40) 1 ≡ Some 40 }
     ensures entering { in_list (with_node (without_node Stable two_children 1) 40) 1 ≡ [] }
@@ -52,14 +52,15 @@ pub fn a_node_in_a_vacated_slot_has_no_edges()
     ensures next { next_node (with_node (without_node Stable two_children 1) 40) ≡ 3 }
 {}
 
-/// The edges that leave a removed node are vacated newest first, and then those that enter it.
+/// First the edges that leave a removed node are vacated, newest first, and then those that enter
+/// it.
 pub fn slots_of_a_removed_node_are_vacated_newest_first()
     ensures leaving { (without_node Stable fan 0).vacant_edges ≡ 0 ∷ 1 ∷ 2 ∷ [] }
     ensures entering { (without_node Stable diamond 3).vacant_edges ≡ 2 ∷ 3 ∷ [] }
     ensures both { (without_node Stable diamond 1).vacant_edges ≡ 0 ∷ 2 ∷ [] }
 {}
 
-/// Bounds are those of the greatest slots that are taken, and not of all slots.
+/// Bounds are those of the greatest occupied slots, not of all slots.
 pub fn bounds_pass_over_vacant_slots_at_the_end()
     ensures last_node { node_bound (without_node Stable fan 3) ≡ 3 }
     ensures last_edge { edge_bound (without_node Stable fan 3) ≡ 2 }
@@ -71,8 +72,7 @@ pub fn bounds_pass_over_vacant_slots_at_the_end()
         ≡ 0 }
 {}
 
-/// Taking back the edge that was added last gives the graph before, whether its slot was new or
-/// vacant.
+/// Taking back the edge that was added last restores the graph, whether its slot was new or reused.
 pub fn taking_an_edge_back_gives_the_graph_before()
     ensures made { with_edge_taken_back true (with_edge fan 1 2 9) 3 ≡ fan }
     ensures reused { let g = without_edges Stable fan (0 ∷ 2 ∷ []) in

@@ -1,4 +1,4 @@
-//! Steps of walkers, and looks at edges.
+//! Steps of walkers, and reads of edges.
 ghost use Rattle.std.specs.Prelude.{◌≡◌, ℕ, List, [], ◌∷◌, Some, None};
 ghost use Rattle.daggy_base.specs.declared.index.Direction.TheVariants.{Outgoing, Incoming};
 ghost use Rattle.daggy_base.specs.Graph.{out_list, in_list};
@@ -10,7 +10,7 @@ ghost use Rattle.daggy_base.specs.Look.{IsLook};
 ghost use Rattle.example_model.specs.Examples.{end, fan, triangle, shortcuts, two_children};
 ghost use Rattle.example_model.specs.Examples.{nothing, self_loop};
 
-/// A walk over the children of a node gives its edges newest first, and then nothing.
+/// A walk over the children of a node yields its edges newest first, and then nothing.
 pub fn a_walk_over_children_goes_newest_first()
     ensures starts { first_of end (out_list fan 0) ≡ 2 }
     ensures newest { IsWalkStep Outgoing end fan 2 (Some (2, 3)) 1 }
@@ -19,7 +19,7 @@ pub fn a_walk_over_children_goes_newest_first()
     ensures over { IsWalkStep Outgoing end fan end None end }
 {}
 
-/// A walk over the parents of a node gives its edges newest first, here after a removal that moved
+/// A walk over the parents of a node yields its edges newest first, here after a removal that moved
 /// edges.
 pub fn a_walk_over_parents_goes_newest_first()
     ensures starts { first_of end (in_list (without_edge Compact triangle 0) 2) ≡ 0 }
@@ -27,8 +27,8 @@ pub fn a_walk_over_parents_goes_newest_first()
     ensures oldest { IsWalkStep Incoming end (without_edge Compact triangle 0) 1 (Some (1, 0)) end }
 {}
 
-/// After three of eight edges went, the two edges that enter a node are met in the order of their
-/// age.
+/// After three of eight edges are removed, the two edges that enter a node are still yielded newest
+/// first.
 pub fn a_walk_over_parents_after_removals()
     ensures starts { first_of end (in_list (without_edges Compact shortcuts (6 ∷ 3 ∷ 2 ∷ [])) 3)
         ≡ 2 }
@@ -38,13 +38,13 @@ pub fn a_walk_over_parents_after_removals()
         (Some (4, 1)) end }
 {}
 
-/// Over a missing node there is no step.
+/// A walk over a missing node yields nothing.
 pub fn a_missing_node_has_no_children()
     ensures starts { first_of end (out_list nothing 0) ≡ end }
     ensures over { IsWalkStep Outgoing end nothing end None end }
 {}
 
-/// A walker whose edge was removed stays where it is. Once its index is an edge again, it goes on
+/// A walker whose edge was removed stays where it is. Once its index is used again, it continues
 /// along the list of that edge.
 pub fn a_stale_walker_waits_for_its_index()
     ensures starts { first_of end (out_list two_children 0) ≡ 1 }
@@ -53,25 +53,25 @@ pub fn a_stale_walker_waits_for_its_index()
         (with_edge (without_edge Compact two_children 1) 1 2 7) 1 (Some (1, 2)) end }
 {}
 
-/// A walker whose edge moved to another index follows the edge that took its place.
+/// A walker whose edge moved to another index continues from the edge that got its index.
 pub fn a_stale_walker_follows_the_index()
     ensures moved { IsWalkStep Outgoing end (without_edge Compact fan 0) 0 (Some (0, 3)) 1 }
     ensures gone { IsWalkStep Outgoing end (without_edge Compact fan 0) 2 None 2 }
 {}
 
-/// An edge in a vacated slot does not exist, so a walker at it stays.
+/// An edge in a vacated slot does not exist, so a walker at it stays there.
 pub fn a_walker_at_a_vacated_slot_stays()
     ensures vacated { IsWalkStep Outgoing end (without_edge Stable fan 1) 1 None 1 }
     ensures other { IsWalkStep Outgoing end (without_edge Stable fan 1) 2 (Some (2, 3)) 0 }
 {}
 
-/// Along an edge from a node to itself a step leads to that node.
+/// A step along a self-loop leads to its node.
 pub fn a_step_along_a_self_loop_stays_at_its_node()
     ensures forward { IsWalkStep Outgoing end self_loop 0 (Some (0, 0)) end }
     ensures backward { IsWalkStep Incoming end self_loop 0 (Some (0, 0)) end }
 {}
 
-/// A look at an edge tells its child and the edge after it among those that leave its parent.
+/// A look at an edge returns its child and the edge after it in the out list of its parent.
 pub fn a_look_tells_the_child_and_the_next_edge()
     ensures newest { IsLook end fan 2 3 1 }
     ensures oldest { IsLook end fan 0 1 end }

@@ -57,7 +57,7 @@ pub returns-then-index-child : goal.returns-then-index-child
 returns-then-index-child g c =
     let at = goal.at.returns-then-index-child g c in
     let met : eqb (end_at Incoming c.index-x.result.now) c.args.child ≡ true =
-    eq-eqb _ _ (sym c.end.ensures ∙ sym c.index.ensures.value ∙ c.if-index-child.true) in
+    eq-eqb _ _ (sym c.endpoint.ensures ∙ sym c.index.ensures.value ∙ c.if-index-child.true) in
     sym (IsScan-here _ _ _ _ _ c.along.invariant (within g at.After-index-x) (limit g at.At-along)
     (seen g at.After-index-x ∙ met))
 
@@ -71,6 +71,6 @@ pub along-preserved : goal.along-preserved
 along-preserved g c =
     let at = goal.at.along-preserved g c in
     let other : eqb (end_at Incoming c.index-x.result.now) c.args.child ≡ false =
-    ne_eqb _ _ (λ q. c.if-index-child.false (c.index.ensures.value ∙ c.end.ensures ∙ q)) in
+    ne_eqb _ _ (λ q. c.if-index-child.false (c.index.ensures.value ∙ c.endpoint.ensures ∙ q)) in
     IsScan-step c.along.invariant (within g at.After-index-x) (limit g at.At-along) (seen g at.After-index-x ∙ other)
     (goes g at.After-index-x ∙ ap Some (sym c.next-e.ensures))

@@ -11,7 +11,7 @@ use daggy_stable::stable_graph::StableDiGraph;
 use std::alloc::{AllocError, Global};
 use std::marker::PhantomData;
 
-// Memory for a graph of so many nodes and edges, and for its searches.
+// Memory for a graph of this many nodes and edges, and for its searches.
 fn room_for<N: Drop, E: Drop, Ix: IndexType>(
     alloc: Global,
     nodes: usize,

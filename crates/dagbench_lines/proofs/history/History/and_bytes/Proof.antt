@@ -1,4 +1,4 @@
--- The history that `and_bytes` makes has the bytes behind the old ones.
+-- The history that `and_bytes` returns has the bytes appended.
 use Rattle.std.proofs.Common.{[], ◌∷◌, ◌++◌, refl}
 use Rattle.std.proofs.raw_atomic.Walks.{proved}
 use mir.Syntax.{named}

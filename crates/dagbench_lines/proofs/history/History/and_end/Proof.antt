@@ -1,4 +1,4 @@
--- The history that `and_end` makes has met the end.
+-- The history that `and_end` returns has reached the end.
 use Rattle.std.proofs.Common.{[], ◌∷◌, true, refl}
 use Rattle.std.proofs.raw_atomic.Walks.{proved}
 use mir.Syntax.{named}

@@ -1,4 +1,4 @@
--- The history that `and_failure` makes has one more failure.
+-- The history that `and_failure` returns has one more failure.
 use Rattle.std.proofs.Common.{[], ◌∷◌, ◌+◌, refl}
 use Rattle.std.proofs.raw_atomic.Walks.{proved}
 use mir.Syntax.{named}

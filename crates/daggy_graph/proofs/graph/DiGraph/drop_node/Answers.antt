@@ -21,7 +21,7 @@ within g c = slot_within (λ x. x.weight) c.self.inside.nodes.items _ (rw (← c
 
 -- the changed lists store the graph without the node
 stored : (g : Over) (c : After-swap_remove-weight g)
-    → Stores g.Ix.IndexType.greatest c.swap_remove-weight.new.self.items c.reown_last.new.edges.items
+    → Stores g.Ix.IndexType.greatest c.swap_remove-weight.new.self.items c.reassign_last.new.edges.items
     (with_node_dropped Compact (stored_graph c.self.inside.nodes.items c.self.inside.edges.items)
     (g.Ix.IndexType.number c.args.n))
 stored g c =
@@ -34,13 +34,13 @@ stored g c =
       | Outgoing ↦ ap (λ s. nth_list s.graph.out_lists n) c.self.view_is ∙ c.requires.no_edges Outgoing
       | Incoming ↦ ap (λ s. nth_list s.graph.in_lists n) c.self.view_is ∙ c.requires.no_edges Incoming
     ] in
-    rw (c.swap_remove-weight.ensures.items, c.index-i.ensures.value, c.reown_last.ensures, c.of_node.ensures)
+    rw (c.swap_remove-weight.ensures.items, c.index-i.ensures.value, c.reassign_last.ensures, c.of_node.ensures)
     (Stores-dropped nodes edges c.self.invariant n (length nodes - 1) c.swap_remove-weight.result inside
     (omega (arith, inside)) empty)
 
-pub reown_last-requires-clause-node : goal.reown_last-requires-clause-node
-reown_last-requires-clause-node g c =
-    omega (arith, within g (goal.at.reown_last-requires-clause-node g c).After-self, c.of_node.ensures)
+pub reassign_last-requires-clause-node : goal.reassign_last-requires-clause-node
+reassign_last-requires-clause-node g c =
+    omega (arith, within g (goal.at.reassign_last-requires-clause-node g c).After-self, c.of_node.ensures)
 
 pub swap_remove-weight-requires : goal.swap_remove-weight-requires
 swap_remove-weight-requires g c =

@@ -14,8 +14,8 @@ returns-then-is_none g c =
 pub returns-else-is_none : goal.returns-else-is_none
 returns-else-is_none g c =
     let lookup = c.in-Some.ensures.lookup in
-    let parent = c.node.ensures.value ∙ c.end-parent.ensures in
-    let child = c.node-in-Some.ensures.value ∙ c.end-child.ensures in
+    let parent = c.node.ensures.value ∙ c.endpoint-parent.ensures in
+    let child = c.node-in-Some.ensures.value ∙ c.endpoint-child.ensures in
     (λ i. Some (parent i, child i))
     ∙ sym (plain_ends c.in-Some.x.now (c.is_none.ensures ∙ ap not c.if-is_none.false))
     ∙ ap (option_map ends_of) (edge_got c.self.invariant _ c.args.self.now c.self.view_is c.index.ensures.value

@@ -56,13 +56,13 @@ pub keep_edge-requires-clause-parent : goal.keep_edge-requires-clause-parent
 keep_edge-requires-clause-parent g c =
     let now = map weight_of c.each.nodes.cells.items in
     let j = joined_is now c.index-edges-i.result c.in-Some.old.now c.in-Some.ensures in
-    subst (λ n. IsSome (slot now n)) (sym c.end-a.ensures) j.parent
+    subst (λ n. IsSome (slot now n)) (sym c.endpoint-a.ensures) j.parent
 
 pub keep_edge-requires-clause-child : goal.keep_edge-requires-clause-child
 keep_edge-requires-clause-child g c =
     let now = map weight_of c.each.nodes.cells.items in
     let j = joined_is now c.index-edges-i.result c.in-Some.old.now c.in-Some.ensures in
-    subst (λ n. IsSome (slot now n)) (sym c.end-b.ensures) j.child
+    subst (λ n. IsSome (slot now n)) (sym c.endpoint-b.ensures) j.child
 
 pub each-preserved : goal.each-preserved
 each-preserved g c =
@@ -84,8 +84,8 @@ each-preserved g c =
     CalledAt-from_step (goal.G-step g) g.Ix.IndexType.of c.each.g c.each.i _ r c.g-answer.new.self
     (rw c.new.ensures.value at c.g-answer.ensures) in
     let made =
-    ap (λ a. before ++ option_map (between a c.end-b.result) r ∷ []) c.end-a.ensures
-    ∙ ap (λ b. before ++ option_map (between x.parent b) r ∷ []) c.end-b.ensures in
+    ap (λ a. before ++ option_map (between a c.endpoint-b.result) r ∷ []) c.endpoint-a.ensures
+    ∙ ap (λ b. before ++ option_map (between x.parent b) r ∷ []) c.endpoint-b.ensures in
     record {
       callable =
           called_some_on g.Ix.IndexType.of (goal.G-pre g) (goal.G-step g) weight_in plain_edge c.args.edges.now within

@@ -8,7 +8,7 @@ returns-clause-gives g c =
     let has = rw (← c.self.view_is) at c.requires in
     let x = c.index-x.result.now in
     let reads = rw c.index.ensures.value at c.index-x.ensures in
-    rw (← c.self.view_is) (look_shown c.self.invariant e _ _ x has reads (c.node.ensures.value ∙ c.end-child.ensures)
+    rw (← c.self.view_is) (look_shown c.self.invariant e _ _ x has reads (c.node.ensures.value ∙ c.endpoint-child.ensures)
     (c.edge.ensures.value ∙ c.next-next.ensures))
 
 pub index-x-requires : goal.index-x-requires

@@ -1,4 +1,4 @@
--- Threading lists anew.
+-- Linking lists in a new order.
 use Rattle.std.proofs.Common.{◌≡◌, ℕ, zero, suc, ◌+◌, ◌<◌, ◌≤◌, List, [], ◌∷◌, map, length, get_or, set, drop, Some}
 use Rattle.std.proofs.Common.{slice_get, refl, sym, ap, subst, ◌∙◌, inl, inr, arith, Contains}
 use Rattle.std.proofs.lemmas.Bool.{cases_eq}
@@ -12,9 +12,9 @@ use Rattle.daggy_base.proofs.Lists.{Contains-nil, Contains-here, Contains-there,
 use Rattle.daggy_base.proofs.Lists.{slice_get-set_other}
 use Rattle.daggy_cells.specs.declared.cell.Node.{Node}
 use Rattle.daggy_cells.specs.declared.cell.Edge.{Edge}
-use Rattle.daggy_cells.specs.Links.{nth_list, AreLinkedLists, CanThread, Rethreads, CanThreadAll, AreThreadedBelow}
+use Rattle.daggy_cells.specs.Links.{nth_list, AreLinkedLists, CanLink, Relinked, CanLinkAll, AreLinkedBelow}
 use Rattle.daggy_cells.specs.Raw.{raw_next}
-use Rattle.daggy_cells.specs.Fields.{firsts_of, nexts_of, with_first, with_next, KeepsNodes, KeepsEdges, Threads}
+use Rattle.daggy_cells.specs.Fields.{firsts_of, nexts_of, with_first, with_next, KeepsNodes, KeepsEdges, Relinks}
 use Rattle.daggy_cells.specs.Fields.{order_at}
 use Rattle.daggy_cells.proofs.LinkedLists.{after_here, after_there}
 use Rattle.daggy_cells.proofs.FieldLemmas.{KeepsNodes-set, KeepsEdges-set, firsts_of-set, nexts_of-set}
@@ -34,16 +34,16 @@ AreDistinct-drop (suc k) (y ∷ ys) d = AreDistinct-drop k ys d.1
 
 -- one more element in front
 
-Rethreads-none : (end : ℕ) (nexts : List ℕ) → Rethreads end [] nexts nexts
-Rethreads-none end nexts = record {
+Relinked-none : (end : ℕ) (nexts : List ℕ) → Relinked end [] nexts nexts
+Relinked-none end nexts = record {
   same_length = refl;
   inside = λ e p. absurd (Contains-nil e p);
   outside = λ e p. refl;
 }
 
-Rethreads-front : (end e : ℕ) (rest nexts nexts' : List ℕ) → ¬ Contains rest e → e < length nexts'
-    → Rethreads end rest nexts nexts' → Rethreads end (e ∷ rest) nexts (set nexts' e (first_of end rest))
-Rethreads-front end e rest nexts nexts' out within r =
+Relinked-front : (end e : ℕ) (rest nexts nexts' : List ℕ) → ¬ Contains rest e → e < length nexts'
+    → Relinked end rest nexts nexts' → Relinked end (e ∷ rest) nexts (set nexts' e (first_of end rest))
+Relinked-front end e rest nexts nexts' out within r =
     record {
       same_length = length-set nexts' e (first_of end rest) ∙ r.same_length;
       inside = λ f p.
@@ -72,42 +72,42 @@ KeepsEdges-both dir old now new k l = record {
   nexts = l.nexts ∙ k.nexts;
 }
 
--- the list from the place `left` on is threaded, and begins with `after`
+-- the list is linked from the position `left` on, and begins with `after` there
 module _ {E Ix : Type 0} (end : ℕ) (dir : Direction) (list : List ℕ) (old : List (Edge E Ix)) where
-  pub record IsThreading (now : List (Edge E Ix)) (left after : ℕ) : Type 0 where
+  pub record IsRelinking (now : List (Edge E Ix)) (left after : ℕ) : Type 0 where
     pub bound : left ≤ length list
     pub first : after ≡ first_of end (drop left list)
-    pub nexts : Rethreads end (drop left list) (nexts_of dir old) (nexts_of dir now)
+    pub nexts : Relinked end (drop left list) (nexts_of dir old) (nexts_of dir now)
     pub keeps : KeepsEdges dir old now
 
-  pub threading_start : (left after : ℕ) → left ≡ length list → after ≡ end → IsThreading old left after
-  threading_start left after left_is after_is =
+  pub relinking_start : (left after : ℕ) → left ≡ length list → after ≡ end → IsRelinking old left after
+  relinking_start left after left_is after_is =
       let nothing : drop left list ≡ [] = drop_all left list (omega (arith, left_is)) in
       record {
         bound = omega (arith, left_is);
         first = after_is ∙ sym (ap (first_of end) nothing);
         nexts =
-            subst (λ l. Rethreads end l (nexts_of dir old) (nexts_of dir old)) (sym nothing)
-            (Rethreads-none end (nexts_of dir old));
+            subst (λ l. Relinked end l (nexts_of dir old) (nexts_of dir old)) (sym nothing)
+            (Relinked-none end (nexts_of dir old));
         keeps = record { edges = refl; ends = λ d. refl; nexts = refl };
       }
 
-  -- the element before is threaded too
-  pub threading_step : CanThread (length old) list
-      → {now : List (Edge E Ix)} {left k after i e : ℕ} {x x' : Edge E Ix} → IsThreading now left after → left ≡ suc k
-      → e ≡ get_or list k e → i ≡ e → x ≡ get_or now i x → x' ≡ with_next dir x after → IsThreading (set now i x') k e
-  threading_step can {now} {left} {k} {after} {i} {e} {x} {x'} t left_is e_is i_is x_is x'_is =
+  -- the element before is linked too
+  pub relinking_step : CanLink (length old) list
+      → {now : List (Edge E Ix)} {left k after i e : ℕ} {x x' : Edge E Ix} → IsRelinking now left after → left ≡ suc k
+      → e ≡ get_or list k e → i ≡ e → x ≡ get_or now i x → x' ≡ with_next dir x after → IsRelinking (set now i x') k e
+  relinking_step can {now} {left} {k} {after} {i} {e} {x} {x'} t left_is e_is i_is x_is x'_is =
       let k_in : k < length list = omega (arith, left_is, t.bound) in
       let rest = drop (k + 1) list in
       let from : drop left list ≡ rest = ap (λ n. drop n list) (omega (arith, left_is)) in
       let split : drop k list ≡ e ∷ rest = drop_more list k e k_in ∙ ap (λ z. z ∷ rest) (sym e_is) in
       let out = (subst AreDistinct split (AreDistinct-drop k list can.once)).0 in
       let within : e < length old = can.within e (k, k_in, sym e_is) in
-      let t_rest : Rethreads end rest (nexts_of dir old) (nexts_of dir now) =
-      subst (λ l. Rethreads end l (nexts_of dir old) (nexts_of dir now)) from t.nexts in
+      let t_rest : Relinked end rest (nexts_of dir old) (nexts_of dir now) =
+      subst (λ l. Relinked end l (nexts_of dir old) (nexts_of dir now)) from t.nexts in
       let e_in : e < length (nexts_of dir now) =
       omega (arith, within, t_rest.same_length, length-map old (raw_next dir)) in
-      let more = Rethreads-front end e rest (nexts_of dir old) (nexts_of dir now) out e_in t_rest in
+      let more = Relinked-front end e rest (nexts_of dir old) (nexts_of dir now) out e_in t_rest in
       let written : nexts_of dir (set now i x') ≡ set (nexts_of dir now) e (first_of end rest) =
       ap (λ z. nexts_of dir (set now i z)) x'_is ∙ nexts_of-set now i x after x_is dir
       ∙ ap (λ z. set (nexts_of dir now) z after) i_is
@@ -116,30 +116,30 @@ module _ {E Ix : Type 0} (end : ℕ) (dir : Direction) (list : List ℕ) (old : 
         bound = omega (arith, k_in);
         first = sym (ap (first_of end) split);
         nexts =
-            subst (λ l. Rethreads end l (nexts_of dir old) (nexts_of dir (set now i x'))) (sym split)
-            (subst (Rethreads end (e ∷ rest) (nexts_of dir old)) (sym written) more);
+            subst (λ l. Relinked end l (nexts_of dir old) (nexts_of dir (set now i x'))) (sym split)
+            (subst (Relinked end (e ∷ rest) (nexts_of dir old)) (sym written) more);
         keeps =
             KeepsEdges-both dir old now (set now i x') t.keeps
             (subst (λ z. KeepsEdges dir now (set now i z)) (sym x'_is) (KeepsEdges-set now i x after x_is dir));
       }
 
-  pub threading_within : CanThread (length old) list → {now : List (Edge E Ix)} {left k after : ℕ} (e : ℕ)
-      → IsThreading now left after → left ≡ suc k → e ≡ get_or list k e → e < length now
-  threading_within can {now} {left} {k} e t left_is e_is =
+  pub relinking_within : CanLink (length old) list → {now : List (Edge E Ix)} {left k after : ℕ} (e : ℕ)
+      → IsRelinking now left after → left ≡ suc k → e ≡ get_or list k e → e < length now
+  relinking_within can {now} {left} {k} e t left_is e_is =
       let within : e < length old = can.within e (k, omega (arith, left_is, t.bound), sym e_is) in
       omega (arith, within, t.nexts.same_length, length-map old (raw_next dir), length-map now (raw_next dir))
 
-  pub threading_done : {N : Type 0} {nodes : List (Node N Ix)} {now : List (Edge E Ix)} {left after n : ℕ}
+  pub relinking_done : {N : Type 0} {nodes : List (Node N Ix)} {now : List (Edge E Ix)} {left after n : ℕ}
       {x x' : Node N Ix}
-      → IsThreading now left after → left ≡ 0 → x ≡ get_or nodes n x → x' ≡ with_first dir x after
-      → Threads end dir nodes old n list (set nodes n x') now × KeepsNodes dir nodes (set nodes n x')
-  threading_done {N} {nodes} {now} {left} {after} {n} {x} t left_is x_is x'_is =
+      → IsRelinking now left after → left ≡ 0 → x ≡ get_or nodes n x → x' ≡ with_first dir x after
+      → Relinks end dir nodes old n list (set nodes n x') now × KeepsNodes dir nodes (set nodes n x')
+  relinking_done {N} {nodes} {now} {left} {after} {n} {x} t left_is x_is x'_is =
       let whole : drop left list ≡ list = ap (λ k. drop k list) left_is in (
         record {
           first =
               ap (λ z. firsts_of dir (set nodes n z)) x'_is ∙ firsts_of-set nodes n x after x_is dir
               ∙ ap (set (firsts_of dir nodes) n) (t.first ∙ ap (first_of end) whole);
-          nexts = subst (λ l. Rethreads end l (nexts_of dir old) (nexts_of dir now)) whole t.nexts;
+          nexts = subst (λ l. Relinked end l (nexts_of dir old) (nexts_of dir now)) whole t.nexts;
         },
         subst (λ z. KeepsNodes dir nodes (set nodes n z)) (sym x'_is) (KeepsNodes-set nodes n x after x_is dir),
       )
@@ -150,54 +150,54 @@ pub number_read : {I : Type 0} (number : I → ℕ) (items : List I) (k e : ℕ)
 number_read number items k e x within x_is e_is =
     sym (get_or-map number items k x e within ∙ ap number (sym x_is) ∙ sym e_is)
 
-pub CanThread-as_long : (count count' : ℕ) (list : List ℕ)
-    → CanThread count list → count' ≡ count → CanThread count' list
-CanThread-as_long count count' list can same = record {
+pub CanLink-as_long : (count count' : ℕ) (list : List ℕ)
+    → CanLink count list → count' ≡ count → CanLink count' list
+CanLink-as_long count count' list can same = record {
   once = can.once;
   within = λ e p. let below = can.within e p in omega (arith, below, same);
 }
 
 -- both directions
 
--- the list is threaded as that of n, and only the links of that direction differ
-pub record ThreadsOnly {N E Ix : Type 0} (end : ℕ) (dir : Direction) (nodes : List (Node N Ix))
+-- the list is linked as that of n, and only the links of that direction differ
+pub record RelinksOnly {N E Ix : Type 0} (end : ℕ) (dir : Direction) (nodes : List (Node N Ix))
     (edges : List (Edge E Ix)) (n : ℕ) (list : List ℕ) (nodes' : List (Node N Ix)) (edges' : List (Edge E Ix))
     : Type 0 where
-  pub links : Threads end dir nodes edges n list nodes' edges'
+  pub links : Relinks end dir nodes edges n list nodes' edges'
   pub keeps : KeepsNodes dir nodes nodes'
   pub keeps_edges : KeepsEdges dir edges edges'
 
 module _ {N E Ix : Type 0} {end n : ℕ} {nodes middle nodes' : List (Node N Ix)}
     {edges between edges' : List (Edge E Ix)} where
   -- a list of each direction, one after the other
-  pub threads_both : (order : List ℕ × List ℕ) {out into : List ℕ}
-      → out ≡ order.0 → into ≡ order.1 → ThreadsOnly end Outgoing nodes edges n out middle between
-      → ThreadsOnly end Incoming middle between n into nodes' edges'
-      → (dir : Direction) → Threads end dir nodes edges n (order_at dir order) nodes' edges'
-  threads_both order {out} {into} out_is into_is first second =
+  pub relinks_both : (order : List ℕ × List ℕ) {out into : List ℕ}
+      → out ≡ order.0 → into ≡ order.1 → RelinksOnly end Outgoing nodes edges n out middle between
+      → RelinksOnly end Incoming middle between n into nodes' edges'
+      → (dir : Direction) → Relinks end dir nodes edges n (order_at dir order) nodes' edges'
+  relinks_both order {out} {into} out_is into_is first second =
       elim [
         | Outgoing ↦ record {
           first =
               second.keeps.firsts ∙ first.links.first
               ∙ ap (λ z. set (firsts_of Outgoing nodes) n (first_of end z)) out_is;
           nexts =
-              subst (λ z. Rethreads end z (nexts_of Outgoing edges) (nexts_of Outgoing edges')) out_is
-              (subst (Rethreads end out (nexts_of Outgoing edges)) (sym second.keeps_edges.nexts) first.links.nexts);
+              subst (λ z. Relinked end z (nexts_of Outgoing edges) (nexts_of Outgoing edges')) out_is
+              (subst (Relinked end out (nexts_of Outgoing edges)) (sym second.keeps_edges.nexts) first.links.nexts);
         }
         | Incoming ↦ record {
           first =
               second.links.first ∙ ap (λ l. set l n (first_of end into)) first.keeps.firsts
               ∙ ap (λ z. set (firsts_of Incoming nodes) n (first_of end z)) into_is;
           nexts =
-              subst (λ z. Rethreads end z (nexts_of Incoming edges) (nexts_of Incoming edges')) into_is
-              (subst (λ m. Rethreads end into m (nexts_of Incoming edges')) first.keeps_edges.nexts second.links.nexts);
+              subst (λ z. Relinked end z (nexts_of Incoming edges) (nexts_of Incoming edges')) into_is
+              (subst (λ m. Relinked end into m (nexts_of Incoming edges')) first.keeps_edges.nexts second.links.nexts);
         }
       ]
 
 -- the lists in turn
 
 pub none_below : (end : ℕ) (nexts firsts : List ℕ) (lists : List (List ℕ))
-    → AreThreadedBelow 0 end nexts firsts nexts lists
+    → AreLinkedBelow 0 end nexts firsts nexts lists
 none_below end nexts firsts lists = record {
   same_length = refl;
   rows = λ n within. absurd (omega (arith, within));
@@ -205,9 +205,9 @@ none_below end nexts firsts lists = record {
 }
 
 module _ (i end : ℕ) {nexts firsts nexts' : List ℕ} {lists : List (List ℕ)}
-    (t : AreThreadedBelow i end nexts firsts nexts' lists) where
+    (t : AreLinkedBelow i end nexts firsts nexts' lists) where
   pub below_empty : get_or firsts i 0 ≡ end → nth_list lists i ≡ []
-      → AreThreadedBelow (i + 1) end nexts firsts nexts' lists
+      → AreLinkedBelow (i + 1) end nexts firsts nexts' lists
   below_empty first_is empty =
       record {
         same_length = t.same_length;
@@ -221,11 +221,11 @@ module _ (i end : ℕ) {nexts firsts nexts' : List ℕ} {lists : List (List ℕ)
         others = t.others;
       }
 
-  pub below_threaded : {count : ℕ} → CanThreadAll count lists → i < length firsts
+  pub below_linked : {count : ℕ} → CanLinkAll count lists → i < length firsts
       → (list : List ℕ) {firsts' nexts'' : List ℕ} → nth_list lists i ≡ list → firsts' ≡ set firsts i
       (first_of end list)
-      → Rethreads end list nexts' nexts'' → AreThreadedBelow (i + 1) end nexts firsts' nexts'' lists
-  below_threaded can inside list {firsts'} list_is first_is r =
+      → Relinked end list nexts' nexts'' → AreLinkedBelow (i + 1) end nexts firsts' nexts'' lists
+  below_linked can inside list {firsts'} list_is first_is r =
       record {
         same_length = r.same_length ∙ t.same_length;
         rows = λ n within.
@@ -252,5 +252,5 @@ module _ (i end : ℕ) {nexts firsts nexts' : List ℕ} {lists : List (List ℕ)
         others = λ e p. r.outside e (λ q. p i (subst (λ l. Contains l e) (sym list_is) q)) ∙ t.others e p;
       }
 
-  pub all_threaded : i ≡ length firsts → length lists ≡ length firsts → AreLinkedLists end firsts nexts' lists
-  all_threaded all rows = record { rows = rows; each = λ n within. t.rows n (omega (arith, within, all)) }
+  pub all_linked : i ≡ length firsts → length lists ≡ length firsts → AreLinkedLists end firsts nexts' lists
+  all_linked all rows = record { rows = rows; each = λ n within. t.rows n (omega (arith, within, all)) }

@@ -1,6 +1,6 @@
 use Rattle.std.proofs.Common.{arith}
 use Rattle.daggy_cells.proofs.EmptyLists.{unlinking_step}
-use Rattle.daggy_cells.proofs.links.unlink_all.Goals as goal
+use Rattle.daggy_cells.proofs.links.clear_lists.Goals as goal
 
 pub loop-i-preserved : goal.loop-i-preserved
 loop-i-preserved g c =

@@ -2,7 +2,7 @@ use Rattle.std.proofs.Common.{is_some, map, sym, ap, ◌∙◌}
 use Rattle.daggy_base.specs.Graph.{slot}
 use Rattle.daggy_base.proofs.MappedSlots.{slot_read, slot_beyond}
 use Rattle.daggy_stable.specs.Stored.{weight_of}
-use Rattle.daggy_stable.proofs.stable_graph.filter.stayed.Goals as goal
+use Rattle.daggy_stable.proofs.stable_graph.filter.was_kept.Goals as goal
 
 pub returns-in-Some : goal.returns-in-Some
 returns-in-Some g c =

@@ -1,6 +1,6 @@
 use Rattle.std.proofs.Common.{◌≡◌, ◌++◌, map, take, drop}
 use Rattle.daggy_cells.specs.Fields.{with_lists_emptied}
-use Rattle.daggy_cells.proofs.links.unlink_all.Given as goal
+use Rattle.daggy_cells.proofs.links.clear_lists.Given as goal
 
 abbrev pub invariant-loop-i : goal.invariant-loop-i
 invariant-loop-i g l =

@@ -1,7 +1,7 @@
 use Rattle.std.proofs.Common.{map}
 use Rattle.daggy_base.specs.Orders.{numbers_of}
 use Rattle.daggy_stable.proofs.ListOrdersKept.{IsOrdering}
-use Rattle.daggy_stable.proofs.stable_graph.ordering.thread_nodes.Given as goal
+use Rattle.daggy_stable.proofs.stable_graph.ordering.relink_nodes.Given as goal
 
 abbrev pub invariant-each : goal.invariant-each
 invariant-each g l =
