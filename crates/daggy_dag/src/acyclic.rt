@@ -4,6 +4,8 @@ ghost use Rattle.std.specs.Prelude.{IfErr, OnErr, OnSome, IfSome, IfNone, IsOkAn
 ghost use Rattle.std.specs.Prelude.{option_copied};
 ghost use Rattle.std.specs.Option.{option_map};
 ghost use Rattle.daggy_base.specs.Graph.{empty, HasNode, node_weight as weight_at, edge_at};
+ghost use Rattle.daggy_base.specs.Graph.{node_bound};
+ghost use Rattle.daggy_base.specs.Ordered.{IsOrderOf};
 ghost use Rattle.daggy_base.specs.Graph.{ends_of, pair_of, node_count as node_count_of};
 ghost use Rattle.daggy_base.specs.Graph.{edge_count as edge_count_of, out_list, in_list, IsCompact};
 ghost use Rattle.daggy_base.specs.Path.{Reaches, IsAcyclic};
@@ -28,7 +30,7 @@ use daggy_base::error::{ChildError, EdgeError, NodeError};
 use daggy_base::index::{DefaultIx, Direction, EdgeIndex, IndexType, NodeIndex};
 use daggy_base::store::Store;
 use daggy_graph::graph::DiGraph;
-use daggy_guard::guard;
+use daggy_guard::guard::Guarded;
 use daggy_order::order::Order;
 use daggy_search::Scratch;
 use daggy_stable::stable_graph::StableDiGraph;
@@ -69,9 +71,7 @@ pub use walkers::{Children, Parents};
 /// search. Adding a node reserves the memory that later cycle searches need, so those never fail.
 #[derive(Drop)]
 pub struct Acyclic<N, E, Ix: IndexType, S: Store<Ix, NodeWeight = N, EdgeWeight = E>> {
-    store: S,
-    order: Order<Ix>,
-    scratch: Scratch<Ix>,
+    guarded: Guarded<Ix, S>,
     node_weight: PhantomData<N>,
     edge_weight: PhantomData<E>,
 }
@@ -104,17 +104,11 @@ impl<N, E, Ix: IndexType, S> Model for Acyclic<N, E, Ix, S>
 where
     S: Store<Ix, NodeWeight = N, EdgeWeight = E>,
 {
-    ghost use Rattle.std.specs.Prelude.{◌≤◌};
-    ghost use Rattle.daggy_base.specs.Graph.{node_bound};
     ghost use Rattle.daggy_base.specs.State.{State};
-    ghost use Rattle.daggy_base.specs.Ordered.{IsOrderOf};
 
     ghost Value = { State N E };
 
-    ghost view = { λ d. record { graph = S.graph d.store; looks = S.looks d.store } };
-
-    ghost invariant = { λ d.
-        IsOrderOf (S.graph d.store) d.order × (node_bound (S.graph d.store) ≤ d.scratch.nodes) };
+    ghost view = { λ d. d.guarded };
 }
 
 impl<N: Drop, E: Drop, Ix: IndexType, S> Acyclic<N, E, Ix, S>
@@ -126,9 +120,21 @@ where
         ensures { result ≡ record { graph = empty; looks = 0 } }
     {
         Acyclic {
-            store: S::new(alloc),
-            order: Order::new(alloc),
-            scratch: Scratch::new(alloc),
+            guarded: Guarded::new(alloc),
+            node_weight: PhantomData,
+            edge_weight: PhantomData,
+        }
+    }
+
+    // A dag of a store, an order of its nodes, and scratch that fits searches of its graph.
+    fn from_parts(store: S, order: Order<Ix>, scratch: Scratch<Ix>) -> Self
+        requires { IsOrderOf (S.graph store) order
+            × (node_bound (S.graph store) ≤ scratch.nodes) }
+        ensures value { result ≡ record { graph = S.graph store; looks = S.looks store } }
+        ensures acyclic { IsAcyclic result.graph }
+    {
+        Acyclic {
+            guarded: Guarded::from_parts(store, order, scratch),
             node_weight: PhantomData,
             edge_weight: PhantomData,
         }
@@ -141,8 +147,8 @@ where
         ensures dag { IsDag Ix.greatest self.now.graph }
         ensures compact { S.KIND ≡ Compact → IsCompact self.now.graph }
     {
-        self.store.invariant();
-        self.store.node_count()
+        self.guarded.invariant();
+        self.guarded.store.node_count()
     }
 
     /// How many edges there are.
@@ -152,8 +158,8 @@ where
         ensures dag { IsDag Ix.greatest self.now.graph }
         ensures compact { S.KIND ≡ Compact → IsCompact self.now.graph }
     {
-        self.store.invariant();
-        self.store.edge_count()
+        self.guarded.invariant();
+        self.guarded.store.edge_count()
     }
 
     /// Whether the index type has an index left for one more node.
@@ -161,7 +167,7 @@ where
     pub fn can_add_node(&self) -> bool
         ensures { IsTrue result ↔ (node_count_of self.now.graph < Ix.greatest) }
     {
-        self.store.can_add_node()
+        self.guarded.store.can_add_node()
     }
 
     /// Whether the index type has an index left for one more edge.
@@ -169,7 +175,7 @@ where
     pub fn can_add_edge(&self) -> bool
         ensures { IsTrue result ↔ (edge_count_of self.now.graph < Ix.greatest) }
     {
-        self.store.can_add_edge()
+        self.guarded.store.can_add_edge()
     }
 
     /// Whether the node exists.
@@ -177,7 +183,7 @@ where
     pub fn contains_node(&self, n: NodeIndex<Ix>) -> bool
         ensures { IsTrue result ↔ HasNode self.now.graph (Ix.number n) }
     {
-        self.store.contains_node(n)
+        self.guarded.store.contains_node(n)
     }
 
     /// The weight of a node, or `None` if there is no such node.
@@ -185,7 +191,7 @@ where
     pub fn node_weight(&self, n: NodeIndex<Ix>) -> Option<&N>
         ensures { option_copied result ≡ weight_at self.now.graph (Ix.number n) }
     {
-        self.store.node_weight(n)
+        self.guarded.store.node_weight(n)
     }
 
     /// The weight of an edge, or `None` if there is no such edge.
@@ -193,7 +199,7 @@ where
     pub fn edge_weight(&self, e: EdgeIndex<Ix>) -> Option<&E>
         ensures { option_copied result ≡ edge_weight_at self.now.graph (Ix.number e) }
     {
-        self.store.edge_weight(e)
+        self.guarded.store.edge_weight(e)
     }
 
     /// The parent and the child of an edge, or `None` if there is no such edge.
@@ -202,7 +208,7 @@ where
         ensures { option_map (pair_of Ix.number) result
             ≡ option_map ends_of (edge_at self.now.graph (Ix.number e)) }
     {
-        self.store.edge_endpoints(e)
+        self.guarded.store.edge_endpoints(e)
     }
 
     /// The newest edge from `a` to `b`, or `None` if there is none.
@@ -216,7 +222,7 @@ where
         ensures ends { OnSome result
             (HasNode self.now.graph (Ix.number a) × HasNode self.now.graph (Ix.number b)) }
     {
-        let store = &self.store;
+        let store = &self.guarded.store;
         store.invariant();
         store.find_edge(a, b)
     }
@@ -236,7 +242,7 @@ where
         ensures acyclic { IsAcyclic self.new.graph }
         ensures counted { self.new.looks ≡ self.old.looks }
     {
-        guard::add_node(&mut self.store, &mut self.order, &mut self.scratch, weight)
+        self.guarded.add_node(weight)
     }
 
     /// Adds an edge from `a` to `b`, and returns its index.
@@ -289,14 +295,7 @@ where
         ensures ready { Reaches self.old.graph (Ix.number a) (Ix.number b)
             → self.new.looks ≡ self.old.looks }
     {
-        guard::add_edge(
-            &mut self.store,
-            &mut self.order,
-            &mut self.scratch,
-            a,
-            b,
-            weight,
-        )
+        self.guarded.add_edge(a, b, weight)
     }
 
     /// Replaces the weight of the edge that [`find_edge`](Acyclic::find_edge) returns for `a` and
@@ -342,14 +341,7 @@ where
         ensures ready { Reaches self.old.graph (Ix.number a) (Ix.number b)
             → self.new.looks ≡ self.old.looks }
     {
-        guard::update_edge(
-            &mut self.store,
-            &mut self.order,
-            &mut self.scratch,
-            a,
-            b,
-            weight,
-        )
+        self.guarded.update_edge(a, b, weight)
     }
 
     /// Adds a node and an edge from `parent` to it, or neither. Returns both indices.
@@ -386,15 +378,8 @@ where
         ensures unchanged { OnErr result (self.new ≡ self.old) }
         ensures acyclic { IsAcyclic self.new.graph }
     {
-        guard::add_neighbor(
-            &mut self.store,
-            &mut self.order,
-            &mut self.scratch,
-            parent,
-            Direction::Outgoing,
-            edge,
-            node,
-        )
+        self.guarded
+            .add_neighbor(parent, Direction::Outgoing, edge, node)
     }
 
     /// Adds a node and an edge from it to `child`, or neither. Returns both indices.
@@ -422,15 +407,8 @@ where
         ensures unchanged { OnErr result (self.new ≡ self.old) }
         ensures acyclic { IsAcyclic self.new.graph }
     {
-        guard::add_neighbor(
-            &mut self.store,
-            &mut self.order,
-            &mut self.scratch,
-            child,
-            Direction::Incoming,
-            edge,
-            node,
-        )
+        self.guarded
+            .add_neighbor(child, Direction::Incoming, edge, node)
     }
 
     /// Removes an edge and returns its weight, or `None` if there is no such edge.
@@ -445,7 +423,7 @@ where
         ensures keeps { S.KIND ≡ Stable → KeepsIndices self.old.graph self.new.graph }
         ensures acyclic { IsAcyclic self.new.graph }
     {
-        guard::remove_edge(&mut self.store, e)
+        self.guarded.remove_edge(e)
     }
 
     /// Removes a node with its edges and returns its weight, or `None` if there is no such node.
@@ -475,7 +453,7 @@ where
         ensures keeps { S.KIND ≡ Stable → KeepsIndices self.old.graph self.new.graph }
         ensures acyclic { IsAcyclic self.new.graph }
     {
-        guard::remove_node(&mut self.store, &mut self.order, n)
+        self.guarded.remove_node(n)
     }
 
     /// Removes everything, vacant slots included; indices start from 0 again.
@@ -483,8 +461,8 @@ where
         ensures cleared { self.new ≡ with_graph self.old empty }
         ensures acyclic { IsAcyclic self.new.graph }
     {
-        self.store.clear();
-        self.order.clear();
+        self.guarded.store.clear();
+        self.guarded.order.clear();
     }
 
     /// Removes all edges and the slots of edges, and keeps the nodes and the vacant slots of nodes.
@@ -492,7 +470,7 @@ where
         ensures cleared { self.new ≡ with_graph self.old (without_all_edges self.old.graph) }
         ensures acyclic { IsAcyclic self.new.graph }
     {
-        self.store.clear_edges();
+        self.guarded.store.clear_edges();
     }
 
     /// A walker over the children of a node, newest edge first. Empty if the node does not exist.
@@ -518,9 +496,9 @@ where
             ≡ out_list self.now.graph (Ix.number n) }
         ensures fits { length (rest_of_walk Outgoing self.now.graph (Ix.number result)) < 2 ^ 64 }
     {
-        self.store.invariant();
+        self.guarded.store.invariant();
         Children {
-            edge: self.store.first_edge(n, Direction::Outgoing),
+            edge: self.guarded.store.first_edge(n, Direction::Outgoing),
             node_weight: PhantomData,
             edge_weight: PhantomData,
         }
@@ -535,9 +513,9 @@ where
             ≡ in_list self.now.graph (Ix.number n) }
         ensures fits { length (rest_of_walk Incoming self.now.graph (Ix.number result)) < 2 ^ 64 }
     {
-        self.store.invariant();
+        self.guarded.store.invariant();
         Parents {
-            edge: self.store.first_edge(n, Direction::Incoming),
+            edge: self.guarded.store.first_edge(n, Direction::Incoming),
             node_weight: PhantomData,
             edge_weight: PhantomData,
         }

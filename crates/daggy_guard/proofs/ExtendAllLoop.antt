@@ -6,35 +6,28 @@ use Rattle.std.specs.List.{AllZip, FoldsTo}
 use Rattle.std.specs.Iterator.{Yields}
 use Rattle.std.proofs.lemmas.Fn.{FoldsTo-push}
 use Rattle.std.proofs.lemmas.List.{map-append}
-use Rattle.daggy_base.specs.Graph.{Graph, node_bound}
+use Rattle.daggy_base.specs.Graph.{Graph}
 use Rattle.daggy_base.specs.declared.error.EdgeError.{EdgeError}
-use Rattle.daggy_base.specs.Ordered.{IsOrderOf}
 use Rattle.daggy_base.specs.Adding.{NewEdge, by_numbers}
 use Rattle.daggy_guard.specs.Extension.{IsExtended, IsStopped, Stops}
 use Rattle.daggy_guard.proofs.ItemsSoFar.{zip_more}
 
--- what the loop has so far: the graph, the items that were given, the order, and for how many nodes there is room
+-- what the loop has so far: the graph, and the items that were given
 pub record Progress (A N E : Type 0) : Type 0 where
   pub graph : Graph N E
   pub given : List A
-  pub order : List ℕ
-  pub room : ℕ
 
--- the graph `old` was extended by the items that were given, and the order is one of the graph that it became
+-- the graph `old` was extended by the items that were given
 pub record Extending {I A N E : Type 0} (IsDefault : N → Type 0) (number : I → ℕ) (limit : ℕ)
     (becomes : A → I × I × E → Type 0) (old : Graph N E) (now : Progress A N E) : Type 0 where
   pub edges : List (I × I × E)
   pub become : AllZip becomes now.given edges
   pub extension : FoldsTo (IsExtended IsDefault limit) old (map (by_numbers number) edges) now.graph
-  pub ordered : IsOrderOf now.graph now.order
-  pub fits : node_bound now.graph ≤ now.room
 
 pub extending_starts : {I A N E : Type 0} {IsDefault : N → Type 0} {number : I → ℕ} {limit : ℕ}
-    {becomes : A → I × I × E → Type 0} (g : Graph N E) (order : List ℕ) (room : ℕ)
-    → IsOrderOf g order → node_bound g ≤ room
-    → Extending IsDefault number limit becomes g record { graph = g; given = []; order = order; room = room }
-extending_starts g order room ordered fits =
-    record { edges = []; become = tt; extension = refl; ordered = ordered; fits = fits }
+    {becomes : A → I × I × E → Type 0} (g : Graph N E)
+    → Extending IsDefault number limit becomes g record { graph = g; given = [] }
+extending_starts g = record { edges = []; become = tt; extension = refl }
 
 module _ {I A N E : Type 0} {IsDefault : N → Type 0} {number : I → ℕ} {limit : ℕ} {becomes : A → I × I × E → Type 0}
     {old : Graph N E} {now : Progress A N E} (s : Extending IsDefault number limit becomes old now) where
@@ -44,8 +37,6 @@ module _ {I A N E : Type 0} {IsDefault : N → Type 0} {number : I → ℕ} {lim
     pub is : becomes x edge
     pub extended : IsExtended IsDefault limit now.graph (by_numbers number edge) after.graph
     pub given : after.given ≡ now.given ++ x ∷ []
-    pub ordered : IsOrderOf after.graph after.order
-    pub fits : node_bound after.graph ≤ after.room
 
   pub extending_on : {x : A} {after : Progress A N E}
       → IsNext x after → Extending IsDefault number limit becomes old after
@@ -59,8 +50,6 @@ module _ {I A N E : Type 0} {IsDefault : N → Type 0} {number : I → ℕ} {lim
             subst P (sym (map-append (by_numbers number) s.edges (m.edge ∷ [])))
             (FoldsTo-push (IsExtended IsDefault limit) old (map (by_numbers number) s.edges) now.graph
             (by_numbers number m.edge) after.graph s.extension m.extended);
-        ordered = m.ordered;
-        fits = m.fits;
       }
 
   pub stops : {S : Type 0} {gives : S → Option A → S → Type 0} {items : S} {error : EdgeError E} {new : Graph N E}

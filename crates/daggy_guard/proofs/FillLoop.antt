@@ -2,11 +2,10 @@
 use Rattle.std.proofs.Common.{◌≡◌, ℕ, ◌+◌, ◌≤◌, List, [], ◌∷◌, ◌++◌, length, refl, sym, ap, ◌∙◌, arith}
 use Rattle.std.specs.List.{AllByRecursion}
 use Rattle.std.proofs.lemmas.List.{length-append}
-use Rattle.daggy_base.specs.Graph.{Graph, node_count, node_bound, edge_count}
+use Rattle.daggy_base.specs.Graph.{Graph, node_count, edge_count}
 use Rattle.daggy_base.specs.Adding.{with_node}
 use Rattle.daggy_base.specs.WellFormed.{IsWellFormed}
 use Rattle.daggy_base.proofs.PathsWithNewNode.{free_slots}
-use Rattle.daggy_base.specs.Ordered.{IsOrderOf}
 use Rattle.daggy_guard.specs.Extension.{with_nodes, missing, IsPartFilled}
 use Rattle.daggy_guard.proofs.AcceptedEdges.{count_taken}
 
@@ -24,36 +23,22 @@ pub edges_kept : {N E : Type 0} (g : Graph N E) (ws : List N) → edge_count (wi
 edges_kept g [] = refl
 edges_kept g (w ∷ ws) = edges_kept (with_node g w) ws
 
-pub record Filling {N E : Type 0} (IsDefault : N → Type 0) (last : ℕ) (old now : Graph N E) (order : List ℕ)
-    (capacity : ℕ) : Type 0 where
+pub record Filling {N E : Type 0} (IsDefault : N → Type 0) (last : ℕ) (old now : Graph N E) : Type 0 where
   pub weights : List N
   pub defaults : AllByRecursion IsDefault weights
   pub added : now ≡ with_nodes old weights
   pub within : length weights ≤ missing IsDefault old last
   pub count : node_count now ≡ node_count old + length weights
-  pub ordered : IsOrderOf now order
-  pub fits : node_bound now ≤ capacity
 
-pub filling_starts : {N E : Type 0} (IsDefault : N → Type 0) (last : ℕ) (g : Graph N E) (order : List ℕ) (capacity : ℕ)
-    → IsOrderOf g order → node_bound g ≤ capacity → Filling IsDefault last g g order capacity
-filling_starts IsDefault last g order capacity ordered fits =
-    record {
-      weights = [];
-      defaults = tt;
-      added = refl;
-      within = omega arith;
-      count = omega arith;
-      ordered = ordered;
-      fits = fits;
-    }
+pub filling_starts : {N E : Type 0} (IsDefault : N → Type 0) (last : ℕ) (g : Graph N E) → Filling IsDefault last g g
+filling_starts IsDefault last g =
+    record { weights = []; defaults = tt; added = refl; within = omega arith; count = omega arith }
 
-module _ {N E : Type 0} {IsDefault : N → Type 0} {last : ℕ} {old now : Graph N E} {order : List ℕ} {capacity : ℕ}
-    (s : Filling IsDefault last old now order capacity) where
+module _ {N E : Type 0} {IsDefault : N → Type 0} {last : ℕ} {old now : Graph N E}
+    (s : Filling IsDefault last old now) where
   pub filling_on : {limit : ℕ} → IsWellFormed limit now → node_count now ≤ last → (w : N) → IsDefault w
-      → {new : Graph N E} → new ≡ with_node now w → {order' : List ℕ} → IsOrderOf new order'
-      → {capacity' : ℕ} → node_bound new ≤ capacity'
-      → Filling IsDefault last old new order' capacity'
-  filling_on f few w default is ordered fits =
+      → {new : Graph N E} → new ≡ with_node now w → Filling IsDefault last old new
+  filling_on f few w default is =
       let one : node_count (with_node now w) ≡ node_count now + 1 =
       omega (arith, count_taken now.nodes now.vacant_nodes w (free_slots now.nodes now.vacant_nodes f.node_slots)) in
       record {
@@ -62,8 +47,6 @@ module _ {N E : Type 0} {IsDefault : N → Type 0} {last : ℕ} {old now : Graph
         added = is ∙ ap (λ z. with_node z w) s.added ∙ sym (nodes_more old s.weights w);
         within = omega (arith, s.within, s.count, few, length-append s.weights (w ∷ []));
         count = omega (arith, ap node_count is, one, s.count, length-append s.weights (w ∷ []));
-        ordered = ordered;
-        fits = fits;
       }
 
   pub fewer_missing : (limit : ℕ) → IsWellFormed limit now → (w : N) → (new : Graph N E) → new ≡ with_node now w

@@ -2,19 +2,23 @@
 use Rattle.std.proofs.Common.{◌≡◌, ℕ, ◌≤◌, length, Result, Ok, Err, OnOk, OnErr, IfOk, Option, Some, None, OnSome}
 use Rattle.std.proofs.Common.{IfNone, sym, ap, subst, ◌∙◌}
 use Rattle.daggy_base.specs.Graph.{Graph, node_bound}
-use Rattle.daggy_base.specs.Path.{IsAcyclic}
+use Rattle.daggy_base.specs.State.{State}
 use Rattle.daggy_base.specs.Adding.{with_node, with_edge, next_edge, ComesFirst}
 use Rattle.daggy_base.specs.WellFormed.{IsWellFormed}
 use Rattle.daggy_base.proofs.NewestEdge.{comes_first}
 use Rattle.daggy_base.specs.Removal.{without_edge}
 use Rattle.daggy_base.specs.declared.kind.Kind.{Kind}
-use Rattle.daggy_base.proofs.PathsWithoutEdge.{acyclic_without_edge, bound_same}
+use Rattle.daggy_base.proofs.PathsWithoutEdge.{bound_same}
 use Rattle.daggy_base.proofs.PathsWithNode.{fits_after}
 use Rattle.daggy_guard.specs.EdgeBatch.{HasEnds}
 use Rattle.daggy_base.specs.Adding.{NewEdge}
 
-acyclic_kept : {N E : Type 0} (old new : Graph N E) → IsAcyclic old → new ≡ old → IsAcyclic new
-acyclic_kept {N} {E} old new acyclic same = let P : Graph N E → Type 0 = λ z. IsAcyclic z in subst P (sym same) acyclic
+-- equal states have the same graph and the same count
+pub same_graph : {N E : Type 0} {s t : State N E} → s ≡ t → s.graph ≡ t.graph
+same_graph {N} {E} same = ap (λ (z : State N E). z.graph) same
+
+pub same_looks : {N E : Type 0} {s t : State N E} → s ≡ t → s.looks ≡ t.looks
+same_looks {N} {E} same = ap (λ (z : State N E). z.looks) same
 
 pub node_fits : {R F N E : Type 0} (r : Result R F) (old new : Graph N E) (w : N) {slots after : ℕ}
     → ((w : N) → length (with_node old w).nodes ≡ slots)
@@ -28,12 +32,6 @@ node_fits {R} {F} {N} {E} (Err e) old new w {slots} {after} many fits capacity a
 
 -- a graph without the edge, whether it was there or not
 module _ {A N E : Type 0} (kind : Kind) (old new : Graph N E) (e : ℕ) where
-  pub acyclic_edge_gone : (r : Option A)
-      → OnSome r (new ≡ without_edge kind old e) → IfNone r (new ≡ old) → IsAcyclic old → IsAcyclic new
-  acyclic_edge_gone None removed missing acyclic = acyclic_kept old new acyclic missing
-  acyclic_edge_gone (Some a) removed missing acyclic =
-      acyclic_kept (without_edge kind old e) new (acyclic_without_edge kind old e acyclic) removed
-
   pub bound_edge_gone : (r : Option A)
       → OnSome r (new ≡ without_edge kind old e) → IfNone r (new ≡ old) → node_bound new ≡ node_bound old
   bound_edge_gone None removed missing = ap node_bound missing

@@ -8,7 +8,6 @@ pub mod FillLoop
 pub mod RefusedEdge
 pub mod ItemsSoFar
 pub mod ExtendAllLoop
-pub mod ElementsLoop
 pub mod FilledMatrix
 pub mod PackedSort
 pub mod StandingAfterEdge

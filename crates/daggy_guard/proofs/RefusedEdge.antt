@@ -1,5 +1,5 @@
 -- Why an edge is refused after a search, in the words of the code that asks for one.
-use Rattle.std.proofs.Common.{◌≡◌, ℕ, max, ◌↔◌, ◌⊎◌, inl, inr, Option, Some, None, IfSome, is_some, true, Result, Err}
+use Rattle.std.proofs.Common.{◌≡◌, ℕ, max, ◌↔◌, ◌⊎◌, inl, inr, Option, Some, None, IfSome, is_some, true, Result, Ok, Err, IfErr}
 use Rattle.std.proofs.Common.{refl, sym, ap, subst, ◌∙◌}
 use Rattle.std.specs.Option.{option_map}
 use Rattle.std.proofs.lemmas.Bool.{false≢true}
@@ -15,6 +15,15 @@ use Rattle.daggy_guard.specs.Extension.{IsFilled, HasIndices, IsStopped}
 memory_no_cycle : {R E : Type 0} (result : Result R (EdgeError E)) (w : E)
     → result ≡ Err (Memory w) → result ≡ Err (WouldCycle (record { 0 = w })) → ⊥
 memory_no_cycle result w a b = cc
+
+pub ok_not_err : {R F : Type 0} {result : Result R F} {x : R} {error : F} → result ≡ Ok x → result ≡ Err error → ⊥
+ok_not_err ok err = cc
+
+-- an edge to which no path leads back fails for want of memory alone
+pub no_cycle : {R E Back : Type 0} (result : Result R (EdgeError E)) (w : E) → IfErr result (λ e. e ≡ Memory w)
+    → (Back → ⊥) → (result ≡ Err (WouldCycle (record { 0 = w }))) ↔ Back
+no_cycle (Ok e) w refusal apart = (λ h. absurd cc, λ back. absurd (apart back))
+no_cycle (Err e) w refusal apart = (λ h. absurd cc, λ back. absurd (apart back))
 
 -- a guard refused an edge of weight w, for want of memory, or for a cycle exactly if a path leads back
 pub record IsGuardRefusal {R E : Type 0} (w : E) (Back : Type 0) (result : Result R (EdgeError E))

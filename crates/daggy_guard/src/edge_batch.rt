@@ -16,7 +16,7 @@ ghost use Rattle.daggy_guard.specs.BatchProgress.{item_looks, looks_left, refusa
 ghost use Rattle.daggy_guard.specs.declared.edge_batch.Standing.TheVariants.{Closed};
 
 use crate::edge_indices::EdgeIndices;
-use crate::guard::make_way;
+use crate::guard::{Guarded, make_way};
 use crate::packed::sort;
 use daggy_base::error::{EdgesError, WouldCycle};
 use daggy_base::index::{EdgeIndex, IndexType, NodeIndex};
@@ -294,34 +294,30 @@ fn add_all<
     Ok(EdgeIndices::new(edges))
 }
 
-/// Adds all the edges that `items` yields, or none.
-pub fn add_edges<
-    Ix: IndexType,
-    S: Store<Ix>,
-    I: IntoIterator<Item = (NodeIndex<Ix>, NodeIndex<Ix>, S::EdgeWeight)>,
->(
-    store: &mut S,
-    order: &mut Order<Ix>,
-    scratch: &mut Scratch<Ix>,
-    items: I,
-) -> Result<EdgeIndices<Ix>, EdgesError<S::EdgeWeight>>
-    requires ends { IsFiniteIterable I.into_iter_gives I.IntoIter.can_next I.IntoIter.remaining
-        items }
-    requires fits { node_bound (S.graph store.old) ≤ scratch.old.nodes }
-    requires ordered { IsOrderOf (S.graph store.old) order.old }
-    ensures added { IfOk result (λ edges. (it : I.IntoIter) × I.into_iter_gives items it
-        × IsAdded Ix.number Ix.greatest I.IntoIter.next_gives it (S.graph store.old)
-        (S.graph store.new) edges) }
-    ensures refused { IfErr result (λ error. (it : I.IntoIter) × I.into_iter_gives items it
-        × IsRefused Ix.number Ix.greatest I.IntoIter.next_gives it (S.graph store.old) error) }
-    ensures unchanged { OnErr result (S.graph store.new ≡ S.graph store.old) }
-    ensures acyclic { IsAcyclic (S.graph store.new) }
-    ensures ordered { IsOrderOf (S.graph store.new) order.new }
-    ensures fits { node_bound (S.graph store.new) ≤ scratch.new.nodes }
-    ensures same_capacity { scratch.new ≡ scratch.old }
-    ensures looked { S.looks store.old ≤ S.looks store.new }
-    ensures counted { S.looks store.new
-        ≤ S.looks store.old + most_looks (S.graph store.old) result }
-{
-    add_all(store, order, scratch, items.into_iter())
+impl<Ix: IndexType, S: Store<Ix>> Guarded<Ix, S> {
+    /// Adds all the edges that `items` yields, or none.
+    pub fn add_edges<I: IntoIterator<Item = (NodeIndex<Ix>, NodeIndex<Ix>, S::EdgeWeight)>>(
+        &mut self,
+        items: I,
+    ) -> Result<EdgeIndices<Ix>, EdgesError<S::EdgeWeight>>
+        requires ends { IsFiniteIterable I.into_iter_gives I.IntoIter.can_next I.IntoIter.remaining
+            items }
+        ensures added { IfOk result (λ edges. (it : I.IntoIter) × I.into_iter_gives items it
+            × IsAdded Ix.number Ix.greatest I.IntoIter.next_gives it self.old.graph
+            self.new.graph edges) }
+        ensures refused { IfErr result (λ error. (it : I.IntoIter) × I.into_iter_gives items it
+            × IsRefused Ix.number Ix.greatest I.IntoIter.next_gives it self.old.graph error) }
+        ensures unchanged { OnErr result (self.new.graph ≡ self.old.graph) }
+        ensures acyclic { IsAcyclic self.new.graph }
+        ensures looked { self.old.looks ≤ self.new.looks }
+        ensures counted { self.new.looks
+            ≤ self.old.looks + most_looks self.old.graph result }
+    {
+        add_all(
+            &mut self.store,
+            &mut self.order,
+            &mut self.scratch,
+            items.into_iter(),
+        )
+    }
 }

@@ -3,13 +3,15 @@ ghost use Rattle.std.specs.Prelude.{◌≡◌, ℕ, ◌+◌, ◌<◌, ◌≤◌,
 ghost use Rattle.std.specs.Prelude.{map, Err, None, IfOk, OnOk, IfErr, OnErr, OnSome, IfSome};
 ghost use Rattle.std.specs.Prelude.{IfNone, IsOkAnd, IsTrue};
 ghost use Rattle.daggy_base.specs.Graph.{Graph, HasNode, node_weight, node_count, edge_count};
-ghost use Rattle.daggy_base.specs.Graph.{node_bound};
+ghost use Rattle.daggy_base.specs.Graph.{node_bound, empty, IsCompact};
 ghost use Rattle.daggy_base.specs.Path.{AreJoined, Reaches, IsAcyclic};
 ghost use Rattle.daggy_base.specs.Adding.{next_node, next_edge, with_node, with_edge, with_link};
 ghost use Rattle.daggy_base.specs.Adding.{with_neighbor, ComesFirst};
 ghost use Rattle.daggy_base.specs.Finding.{find_edge as edge_between};
 ghost use Rattle.daggy_base.specs.Weights.{edge_weight, with_edge_weight};
 ghost use Rattle.daggy_base.specs.Removal.{without, renamed, without_edge, without_node};
+ghost use Rattle.daggy_base.specs.WellFormed.{IsDag};
+ghost use Rattle.daggy_base.specs.declared.kind.Kind.TheVariants.{Compact};
 ghost use Rattle.daggy_base.specs.Ordered.{IsOrderOf, place};
 ghost use Rattle.daggy_guard.specs.NewNode.{IsAddedNode, with_end};
 ghost use Rattle.daggy_base.specs.declared.error.NodeError.TheVariants.{Memory as NodeMemory};
@@ -23,7 +25,253 @@ use daggy_base::index::{Direction, EdgeIndex, IndexType, NodeIndex};
 use daggy_base::store::Store;
 use daggy_order::order::{Order, order_edge};
 use daggy_search::Scratch;
-use std::alloc::AllocError;
+use std::alloc::{AllocError, Global};
+use std::marker::{Model, PhantomData};
+
+/// A store whose graph is acyclic, with a topological order of its nodes and the memory of
+/// searches, which fits searches of the graph.
+#[derive(Drop)]
+pub struct Guarded<Ix: IndexType, S: Store<Ix>> {
+    #[doc(hidden)]
+    pub store: S,
+    #[doc(hidden)]
+    pub order: Order<Ix>,
+    #[doc(hidden)]
+    pub scratch: Scratch<Ix>,
+    // Only for the checker, which looks for the lifetimes of borrowed weights among the fields.
+    node_weight: PhantomData<S::NodeWeight>,
+    edge_weight: PhantomData<S::EdgeWeight>,
+}
+
+impl<Ix: IndexType, S: Store<Ix>> Model for Guarded<Ix, S> {
+    ghost use Rattle.std.specs.Prelude.{◌≤◌};
+    ghost use Rattle.daggy_base.specs.Graph.{node_bound};
+    ghost use Rattle.daggy_base.specs.Ordered.{IsOrderOf};
+    ghost use Rattle.daggy_base.specs.State.{State};
+
+    ghost Value = { State S.NodeWeight S.EdgeWeight };
+
+    ghost view = { λ g. record { graph = S.graph g.store; looks = S.looks g.store } };
+
+    ghost invariant = { λ g.
+        IsOrderOf (S.graph g.store) g.order × (node_bound (S.graph g.store) ≤ g.scratch.nodes) };
+}
+
+impl<Ix: IndexType, S: Store<Ix>> Guarded<Ix, S> {
+    /// An empty graph. Does not allocate.
+    pub fn new(alloc: Global) -> Self
+        ensures { result ≡ record { graph = empty; looks = 0 } }
+    {
+        Guarded {
+            store: S::new(alloc),
+            order: Order::new(alloc),
+            scratch: Scratch::new(alloc),
+            node_weight: PhantomData,
+            edge_weight: PhantomData,
+        }
+    }
+
+    /// A store with an order of its nodes, and scratch that fits searches of its graph.
+    pub fn from_parts(store: S, order: Order<Ix>, scratch: Scratch<Ix>) -> Self
+        requires ordered { IsOrderOf (S.graph store) order }
+        requires fits { node_bound (S.graph store) ≤ scratch.nodes }
+        ensures { result ≡ record { graph = S.graph store; looks = S.looks store } }
+    {
+        Guarded {
+            store,
+            order,
+            scratch,
+            node_weight: PhantomData,
+            edge_weight: PhantomData,
+        }
+    }
+
+    /// Does nothing. Called for its contract: what always holds.
+    #[inline]
+    pub fn invariant(&self)
+        ensures dag { IsDag Ix.greatest self.now.graph }
+        ensures compact { S.KIND ≡ Compact → IsCompact self.now.graph }
+    {
+        self.store.invariant();
+    }
+
+    /// Adds a node, last in the order.
+    #[inline]
+    pub fn add_node(
+        &mut self,
+        weight: S::NodeWeight,
+    ) -> Result<NodeIndex<Ix>, NodeError<S::NodeWeight>>
+        requires index_left { node_count self.old.graph < Ix.greatest }
+        ensures added { IfOk result (λ n. (Ix.number n ≡ next_node self.old.graph)
+            × (self.new.graph ≡ with_node self.old.graph weight)) }
+        ensures refusal { IfErr result (λ e. e ≡ NodeMemory weight) }
+        ensures unchanged { OnErr result (self.new.graph ≡ self.old.graph) }
+        ensures acyclic { IsAcyclic self.new.graph }
+        ensures counted { self.new.looks ≡ self.old.looks }
+    {
+        self.store.invariant();
+        put_node(
+            &mut self.store,
+            &mut self.order,
+            &mut self.scratch,
+            Direction::Outgoing,
+            weight,
+        )
+    }
+
+    /// Adds an edge from `a` to `b`, unless a path leads from `b` to `a`, and updates the order.
+    #[inline]
+    pub fn add_edge(
+        &mut self,
+        a: NodeIndex<Ix>,
+        b: NodeIndex<Ix>,
+        weight: S::EdgeWeight,
+    ) -> Result<EdgeIndex<Ix>, EdgeError<S::EdgeWeight>>
+        requires parent { HasNode self.old.graph (Ix.number a) }
+        requires child { HasNode self.old.graph (Ix.number b) }
+        requires index_left { edge_count self.old.graph < Ix.greatest }
+        ensures cycle { (result ≡ Err (ByCycle (record { 0 = weight })))
+            ↔ Reaches self.old.graph (Ix.number b) (Ix.number a) }
+        ensures refusal { IfErr result (λ e.
+            (e ≡ ByCycle (record { 0 = weight })) ⊎ (e ≡ EdgeMemory weight)) }
+        ensures added { IfOk result (λ e. (Ix.number e ≡ next_edge self.old.graph)
+            × (self.new.graph ≡ with_edge self.old.graph (Ix.number a) (Ix.number b) weight)) }
+        ensures first { IfOk result (λ e. ComesFirst self.old.graph self.new.graph
+            (Ix.number a) (Ix.number b) (Ix.number e)) }
+        ensures unchanged { OnErr result (self.new.graph ≡ self.old.graph) }
+        ensures acyclic { IsAcyclic self.new.graph }
+        ensures looked { self.old.looks ≤ self.new.looks }
+        ensures counted { self.new.looks ≤ self.old.looks + edge_count self.old.graph }
+        ensures ready { Reaches self.old.graph (Ix.number a) (Ix.number b)
+            → self.new.looks ≡ self.old.looks }
+    {
+        self.store.invariant();
+        if !make_way(&mut self.store, &mut self.order, &mut self.scratch, a, b) {
+            return Err(EdgeError::WouldCycle(WouldCycle(weight)));
+        }
+        self.store.add_edge(a, b, weight)
+    }
+
+    /// Replaces the weight of the edge that is found between `a` and `b`, or adds an edge as
+    /// [`add_edge`](Guarded::add_edge) does if there is none.
+    pub fn update_edge(
+        &mut self,
+        a: NodeIndex<Ix>,
+        b: NodeIndex<Ix>,
+        weight: S::EdgeWeight,
+    ) -> Result<EdgeIndex<Ix>, EdgeError<S::EdgeWeight>>
+        requires parent { HasNode self.old.graph (Ix.number a) }
+        requires child { HasNode self.old.graph (Ix.number b) }
+        requires index_left { edge_between self.old.graph (Ix.number a) (Ix.number b) ≡ None
+            → edge_count self.old.graph < Ix.greatest }
+        ensures replaced { IfSome (edge_between self.old.graph (Ix.number a) (Ix.number b)) (λ e.
+            IsOkAnd result (λ updated. Ix.number updated ≡ e)
+            × (self.new.graph ≡ with_edge_weight self.old.graph e weight)
+            × (self.new.looks ≡ self.old.looks)) }
+        ensures cycle { (result ≡ Err (ByCycle (record { 0 = weight })))
+            ↔ Reaches self.old.graph (Ix.number b) (Ix.number a) }
+        ensures refusal { IfErr result (λ e.
+            (e ≡ ByCycle (record { 0 = weight })) ⊎ (e ≡ EdgeMemory weight)) }
+        ensures added { edge_between self.old.graph (Ix.number a) (Ix.number b) ≡ None
+            → IfOk result (λ e.
+            (Ix.number e ≡ next_edge self.old.graph)
+            × (self.new.graph ≡ with_edge self.old.graph (Ix.number a) (Ix.number b) weight)) }
+        ensures unchanged { OnErr result (self.new.graph ≡ self.old.graph) }
+        ensures acyclic { IsAcyclic self.new.graph }
+        ensures looked { self.old.looks ≤ self.new.looks }
+        ensures counted { self.new.looks ≤ self.old.looks + edge_count self.old.graph }
+        ensures ready { Reaches self.old.graph (Ix.number a) (Ix.number b)
+            → self.new.looks ≡ self.old.looks }
+    {
+        self.store.invariant();
+        match self.store.find_edge(a, b) {
+            Some(e) => {
+                let _old = self.store.replace_edge_weight(e, weight);
+                Ok(e)
+            }
+            None => self.add_edge(a, b, weight),
+        }
+    }
+
+    /// Adds a node, and an edge from `n` to it or from it to `n`, or neither. A new child is last in
+    /// the order, a new parent first.
+    #[inline]
+    pub fn add_neighbor(
+        &mut self,
+        n: NodeIndex<Ix>,
+        dir: Direction,
+        edge: S::EdgeWeight,
+        weight: S::NodeWeight,
+    ) -> Result<(EdgeIndex<Ix>, NodeIndex<Ix>), ChildError<S::NodeWeight, S::EdgeWeight>>
+        requires node { HasNode self.old.graph (Ix.number n) }
+        requires edge_index_left { edge_count self.old.graph < Ix.greatest }
+        requires node_index_left { node_count self.old.graph < Ix.greatest }
+        ensures added { IfOk result (λ r. (Ix.number r.0 ≡ next_edge self.old.graph)
+            × (Ix.number r.1 ≡ next_node self.old.graph)
+            × (self.new.graph ≡ with_neighbor dir self.old.graph (Ix.number n) edge weight)) }
+        ensures refusal { IfErr result (λ e. e ≡ ChildMemory edge weight) }
+        ensures unchanged { OnErr result (self.new.graph ≡ self.old.graph) }
+        ensures acyclic { IsAcyclic self.new.graph }
+        ensures counted { self.new.looks ≡ self.old.looks }
+    {
+        self.store.invariant();
+        let slot_count = self.store.node_slots();
+        let new = match put_node(
+            &mut self.store,
+            &mut self.order,
+            &mut self.scratch,
+            dir,
+            weight,
+        ) {
+            Ok(new) => new,
+            Err(error) => return Err(ChildError::Memory(edge, error.into_weight())),
+        };
+        match link(&mut self.store, dir, n, new, edge) {
+            Ok(e) => Ok((e, new)),
+            Err(error) => {
+                self.order.remove(new);
+                let weight = take_back(&mut self.store, new, slot_count);
+                Err(ChildError::Memory(error.into_weight(), weight))
+            }
+        }
+    }
+
+    /// Removes an edge, if it exists. The order remains valid.
+    pub fn remove_edge(&mut self, e: EdgeIndex<Ix>) -> Option<S::EdgeWeight>
+        ensures gives { result ≡ edge_weight self.old.graph (Ix.number e) }
+        ensures removed { OnSome result
+            (self.new.graph ≡ without_edge S.KIND self.old.graph (Ix.number e)) }
+        ensures missing { IfNone result (self.new.graph ≡ self.old.graph) }
+        ensures acyclic { IsAcyclic self.new.graph }
+        ensures counted { self.new.looks ≡ self.old.looks }
+    {
+        self.store.remove_edge(e)
+    }
+
+    /// Removes a node with its edges, if it exists, and takes it out of the order.
+    pub fn remove_node(&mut self, n: NodeIndex<Ix>) -> Option<S::NodeWeight>
+        ensures gives { result ≡ node_weight self.old.graph (Ix.number n) }
+        ensures removed { OnSome result
+            (self.new.graph ≡ without_node S.KIND self.old.graph (Ix.number n)) }
+        ensures missing { IfNone result (self.new.graph ≡ self.old.graph) }
+        ensures acyclic { IsAcyclic self.new.graph }
+        ensures counted { self.new.looks ≡ self.old.looks }
+    {
+        let slot_count = self.store.node_slots();
+        // Never taken: this is a prefetch.
+        if !touch_neighbors(&self.store, n, Direction::Outgoing)
+            || !touch_neighbors(&self.store, n, Direction::Incoming)
+        {
+            return None;
+        }
+        self.store.invariant();
+        let weight = self.store.remove_node(n)?;
+        let last = slot_count - 1;
+        let moved = self.store.node_slots() == last;
+        take_out(&mut self.order, n, last, moved);
+        Some(weight)
+    }
+}
 
 // Puts a new node last in an order if edges will lead to it, or first if they will leave it.
 #[inline]
@@ -103,31 +351,6 @@ fn put_node<Ix: IndexType, S: Store<Ix>>(
             Err(NodeError::Memory(weight))
         }
     }
-}
-
-/// Adds a node, last in the order. The scratch fits searches of the graph with that node.
-#[inline]
-pub fn add_node<Ix: IndexType, S: Store<Ix>>(
-    store: &mut S,
-    order: &mut Order<Ix>,
-    scratch: &mut Scratch<Ix>,
-    weight: S::NodeWeight,
-) -> Result<NodeIndex<Ix>, NodeError<S::NodeWeight>>
-    requires index_left { node_count (S.graph store.old) < Ix.greatest }
-    requires fits { node_bound (S.graph store.old) ≤ scratch.old.nodes }
-    requires ordered { IsOrderOf (S.graph store.old) order.old }
-    ensures added { IfOk result (λ n. (Ix.number n ≡ next_node (S.graph store.old))
-        × (S.graph store.new ≡ with_node (S.graph store.old) weight)) }
-    ensures refusal { IfErr result (λ e. e ≡ NodeMemory weight) }
-    ensures unchanged { OnErr result (S.graph store.new ≡ S.graph store.old) }
-    ensures acyclic { IsAcyclic (S.graph store.new) }
-    ensures ordered { IsOrderOf (S.graph store.new) order.new }
-    ensures fits { node_bound (S.graph store.new) ≤ scratch.new.nodes }
-    ensures capacity_kept { scratch.old.nodes ≤ scratch.new.nodes }
-    ensures counted { S.looks store.new ≡ S.looks store.old }
-{
-    store.invariant();
-    put_node(store, order, scratch, Direction::Outgoing, weight)
 }
 
 // Whether an edge leads to a node.
@@ -211,92 +434,6 @@ pub(crate) fn make_way<Ix: IndexType, S: Store<Ix>>(
     order_edge(store, order, a, b, scratch)
 }
 
-/// Adds an edge from `a` to `b`, unless a path leads from `b` to `a`, and updates the order.
-#[inline]
-pub fn add_edge<Ix: IndexType, S: Store<Ix>>(
-    store: &mut S,
-    order: &mut Order<Ix>,
-    scratch: &mut Scratch<Ix>,
-    a: NodeIndex<Ix>,
-    b: NodeIndex<Ix>,
-    weight: S::EdgeWeight,
-) -> Result<EdgeIndex<Ix>, EdgeError<S::EdgeWeight>>
-    requires parent { HasNode (S.graph store.old) (Ix.number a) }
-    requires child { HasNode (S.graph store.old) (Ix.number b) }
-    requires index_left { edge_count (S.graph store.old) < Ix.greatest }
-    requires fits { node_bound (S.graph store.old) ≤ scratch.old.nodes }
-    requires ordered { IsOrderOf (S.graph store.old) order.old }
-    ensures cycle { (result ≡ Err (ByCycle (record { 0 = weight })))
-        ↔ Reaches (S.graph store.old) (Ix.number b) (Ix.number a) }
-    ensures refusal { IfErr result (λ e.
-        (e ≡ ByCycle (record { 0 = weight })) ⊎ (e ≡ EdgeMemory weight)) }
-    ensures added { IfOk result (λ e. (Ix.number e ≡ next_edge (S.graph store.old))
-        × (S.graph store.new ≡ with_edge (S.graph store.old) (Ix.number a) (Ix.number b) weight)) }
-    ensures first { IfOk result (λ e. ComesFirst (S.graph store.old) (S.graph store.new)
-        (Ix.number a) (Ix.number b) (Ix.number e)) }
-    ensures unchanged { OnErr result (S.graph store.new ≡ S.graph store.old) }
-    ensures acyclic { IsAcyclic (S.graph store.new) }
-    ensures ordered { IsOrderOf (S.graph store.new) order.new }
-    ensures looked { S.looks store.old ≤ S.looks store.new }
-    ensures counted { S.looks store.new ≤ S.looks store.old + edge_count (S.graph store.old) }
-    ensures ready { Reaches (S.graph store.old) (Ix.number a) (Ix.number b)
-        → S.looks store.new ≡ S.looks store.old }
-    ensures same_capacity { scratch.new ≡ scratch.old }
-{
-    store.invariant();
-    if !make_way(store, order, scratch, a, b) {
-        return Err(EdgeError::WouldCycle(WouldCycle(weight)));
-    }
-    store.add_edge(a, b, weight)
-}
-
-/// Replaces the weight of the edge that is found between `a` and `b`, or adds an edge as
-/// [`add_edge`] does if there is none.
-pub fn update_edge<Ix: IndexType, S: Store<Ix>>(
-    store: &mut S,
-    order: &mut Order<Ix>,
-    scratch: &mut Scratch<Ix>,
-    a: NodeIndex<Ix>,
-    b: NodeIndex<Ix>,
-    weight: S::EdgeWeight,
-) -> Result<EdgeIndex<Ix>, EdgeError<S::EdgeWeight>>
-    requires parent { HasNode (S.graph store.old) (Ix.number a) }
-    requires child { HasNode (S.graph store.old) (Ix.number b) }
-    requires index_left { edge_between (S.graph store.old) (Ix.number a) (Ix.number b) ≡ None
-        → edge_count (S.graph store.old) < Ix.greatest }
-    requires fits { node_bound (S.graph store.old) ≤ scratch.old.nodes }
-    requires ordered { IsOrderOf (S.graph store.old) order.old }
-    ensures replaced { IfSome (edge_between (S.graph store.old) (Ix.number a) (Ix.number b)) (λ e.
-        IsOkAnd result (λ updated. Ix.number updated ≡ e)
-        × (S.graph store.new ≡ with_edge_weight (S.graph store.old) e weight)
-        × (S.looks store.new ≡ S.looks store.old)) }
-    ensures cycle { (result ≡ Err (ByCycle (record { 0 = weight })))
-        ↔ Reaches (S.graph store.old) (Ix.number b) (Ix.number a) }
-    ensures refusal { IfErr result (λ e.
-        (e ≡ ByCycle (record { 0 = weight })) ⊎ (e ≡ EdgeMemory weight)) }
-    ensures added { edge_between (S.graph store.old) (Ix.number a) (Ix.number b) ≡ None
-        → IfOk result (λ e.
-        (Ix.number e ≡ next_edge (S.graph store.old))
-        × (S.graph store.new ≡ with_edge (S.graph store.old) (Ix.number a) (Ix.number b) weight)) }
-    ensures unchanged { OnErr result (S.graph store.new ≡ S.graph store.old) }
-    ensures acyclic { IsAcyclic (S.graph store.new) }
-    ensures ordered { IsOrderOf (S.graph store.new) order.new }
-    ensures looked { S.looks store.old ≤ S.looks store.new }
-    ensures counted { S.looks store.new ≤ S.looks store.old + edge_count (S.graph store.old) }
-    ensures ready { Reaches (S.graph store.old) (Ix.number a) (Ix.number b)
-        → S.looks store.new ≡ S.looks store.old }
-    ensures fits { node_bound (S.graph store.new) ≤ scratch.new.nodes }
-{
-    store.invariant();
-    match store.find_edge(a, b) {
-        Some(e) => {
-            let _old = store.replace_edge_weight(e, weight);
-            Ok(e)
-        }
-        None => add_edge(store, order, scratch, a, b, weight),
-    }
-}
-
 // Adds an edge from `n` to `new`, or from `new` to `n`.
 #[inline]
 fn link<Ix: IndexType, S: Store<Ix>>(
@@ -320,67 +457,6 @@ fn link<Ix: IndexType, S: Store<Ix>>(
         Direction::Outgoing => store.add_edge(n, new, edge),
         Direction::Incoming => store.add_edge(new, n, edge),
     }
-}
-
-/// Adds a node, and an edge from `n` to it or from it to `n`, or neither. A new child is last in
-/// the order, a new parent first.
-#[inline]
-pub fn add_neighbor<Ix: IndexType, S: Store<Ix>>(
-    store: &mut S,
-    order: &mut Order<Ix>,
-    scratch: &mut Scratch<Ix>,
-    n: NodeIndex<Ix>,
-    dir: Direction,
-    edge: S::EdgeWeight,
-    weight: S::NodeWeight,
-) -> Result<(EdgeIndex<Ix>, NodeIndex<Ix>), ChildError<S::NodeWeight, S::EdgeWeight>>
-    requires node { HasNode (S.graph store.old) (Ix.number n) }
-    requires edge_index_left { edge_count (S.graph store.old) < Ix.greatest }
-    requires node_index_left { node_count (S.graph store.old) < Ix.greatest }
-    requires fits { node_bound (S.graph store.old) ≤ scratch.old.nodes }
-    requires ordered { IsOrderOf (S.graph store.old) order.old }
-    ensures added { IfOk result (λ r. (Ix.number r.0 ≡ next_edge (S.graph store.old))
-        × (Ix.number r.1 ≡ next_node (S.graph store.old))
-        × (S.graph store.new ≡ with_neighbor dir (S.graph store.old) (Ix.number n) edge weight)) }
-    ensures refusal { IfErr result (λ e. e ≡ ChildMemory edge weight) }
-    ensures unchanged { OnErr result (S.graph store.new ≡ S.graph store.old) }
-    ensures acyclic { IsAcyclic (S.graph store.new) }
-    ensures ordered { IsOrderOf (S.graph store.new) order.new }
-    ensures counted { S.looks store.new ≡ S.looks store.old }
-    ensures fits { node_bound (S.graph store.new) ≤ scratch.new.nodes }
-{
-    store.invariant();
-    let slot_count = store.node_slots();
-    let new = match put_node(store, order, scratch, dir, weight) {
-        Ok(new) => new,
-        Err(error) => return Err(ChildError::Memory(edge, error.into_weight())),
-    };
-    match link(store, dir, n, new, edge) {
-        Ok(e) => Ok((e, new)),
-        Err(error) => {
-            order.remove(new);
-            let weight = take_back(store, new, slot_count);
-            Err(ChildError::Memory(error.into_weight(), weight))
-        }
-    }
-}
-
-/// Removes an edge, if it exists. The order remains valid.
-pub fn remove_edge<Ix: IndexType, S: Store<Ix>>(
-    store: &mut S,
-    e: EdgeIndex<Ix>,
-) -> Option<S::EdgeWeight>
-    ensures gives { result ≡ edge_weight (S.graph store.old) (Ix.number e) }
-    ensures removed { OnSome result
-        (S.graph store.new ≡ without_edge S.KIND (S.graph store.old) (Ix.number e)) }
-    ensures missing { IfNone result (S.graph store.new ≡ S.graph store.old) }
-    ensures acyclic { IsAcyclic (S.graph store.old) → IsAcyclic (S.graph store.new) }
-    ensures ordered { (order : List ℕ)
-        → IsOrderOf (S.graph store.old) order → IsOrderOf (S.graph store.new) order }
-    ensures bound { node_bound (S.graph store.new) ≡ node_bound (S.graph store.old) }
-    ensures counted { S.looks store.new ≡ S.looks store.old }
-{
-    store.remove_edge(e)
 }
 
 // Takes a removed node out of an order. If the node with index `last` moved to its index, that node
@@ -407,7 +483,7 @@ fn take_out<Ix: IndexType>(order: &mut Order<Ix>, n: NodeIndex<Ix>, last: usize,
 // the removal before it; here reads at different neighbors overlap, and wait only for the walk
 // along the node's own list. The compiler does not know the answer, so it keeps the reads.
 #[inline]
-fn far_lists_begin<Ix: IndexType, S: Store<Ix>>(store: &S, n: NodeIndex<Ix>, dir: Direction) -> bool
+fn touch_neighbors<Ix: IndexType, S: Store<Ix>>(store: &S, n: NodeIndex<Ix>, dir: Direction) -> bool
     ensures { IsTrue result }
 {
     store.invariant();
@@ -425,35 +501,4 @@ fn far_lists_begin<Ix: IndexType, S: Store<Ix>>(store: &S, n: NodeIndex<Ix>, dir
         }
     }
     true
-}
-
-/// Removes a node with its edges, if it exists, and takes it out of the order.
-pub fn remove_node<Ix: IndexType, S: Store<Ix>>(
-    store: &mut S,
-    order: &mut Order<Ix>,
-    n: NodeIndex<Ix>,
-) -> Option<S::NodeWeight>
-    requires ordered { IsOrderOf (S.graph store.old) order.old }
-    ensures gives { result ≡ node_weight (S.graph store.old) (Ix.number n) }
-    ensures removed { OnSome result
-        (S.graph store.new ≡ without_node S.KIND (S.graph store.old) (Ix.number n)) }
-    ensures missing { IfNone result (S.graph store.new ≡ S.graph store.old) }
-    ensures acyclic { IsAcyclic (S.graph store.new) }
-    ensures ordered { IsOrderOf (S.graph store.new) order.new }
-    ensures bound { node_bound (S.graph store.new) ≤ node_bound (S.graph store.old) }
-    ensures counted { S.looks store.new ≡ S.looks store.old }
-{
-    let slot_count = store.node_slots();
-    // Never taken: this is a prefetch.
-    if !far_lists_begin(store, n, Direction::Outgoing)
-        || !far_lists_begin(store, n, Direction::Incoming)
-    {
-        return None;
-    }
-    store.invariant();
-    let weight = store.remove_node(n)?;
-    let last = slot_count - 1;
-    let moved = store.node_slots() == last;
-    take_out(order, n, last, moved);
-    Some(weight)
 }

@@ -80,11 +80,11 @@ where
         ensures place { result ≡ next_slot S.KIND self.now.graph.nodes from }
         ensures exists { result < length self.now.graph.nodes → HasNode self.now.graph result }
     {
-        self.store.invariant();
-        let slots = self.store.node_slots();
+        self.guarded.store.invariant();
+        let slots = self.guarded.store.node_slots();
         let mut i = from;
         'along: while i < slots {
-            if self.store.contains_node(NodeIndex::new(i)) {
+            if self.guarded.store.contains_node(NodeIndex::new(i)) {
                 return i;
             }
             i += 1;
@@ -98,11 +98,11 @@ where
         ensures place { result ≡ next_slot S.KIND self.now.graph.edges from }
         ensures exists { result < length self.now.graph.edges → HasEdge self.now.graph result }
     {
-        self.store.invariant();
-        let slots = self.store.edge_slots();
+        self.guarded.store.invariant();
+        let slots = self.guarded.store.edge_slots();
         let mut i = from;
         'along: while i < slots {
-            if self.store.contains_edge(EdgeIndex::new(i)) {
+            if self.guarded.store.contains_edge(EdgeIndex::new(i)) {
                 return i;
             }
             i += 1;

@@ -9,6 +9,8 @@ where
     S: Store<Ix, NodeWeight = N, EdgeWeight = E> + fmt::Debug,
 {
     fn fmt<W: fmt::Write>(&self, f: &mut fmt::Formatter<W>) -> fmt::Result {
-        f.debug_struct("Dag").field("graph", &self.store).finish()
+        f.debug_struct("Dag")
+            .field("graph", &self.guarded.store)
+            .finish()
     }
 }

@@ -49,9 +49,9 @@ where
         ensures fits { length result < 2 ^ 64 }
     {
         // Called only for its postcondition: there are no more nodes than a `usize` counts.
-        let _slots = self.store.node_slots();
+        let _slots = self.guarded.store.node_slots();
         Externals {
-            store: &self.store,
+            store: &self.guarded.store,
             direction: dir,
             next: 0,
             index: PhantomData,

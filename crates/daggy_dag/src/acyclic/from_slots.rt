@@ -15,7 +15,6 @@ use daggy_base::store::Store;
 use daggy_order::order::Order;
 use daggy_search::Scratch;
 use std::alloc::Global;
-use std::marker::PhantomData;
 
 impl<N: Drop, E: Drop, Ix: IndexType, S> Acyclic<N, E, Ix, S>
 where
@@ -58,13 +57,7 @@ where
             return Err(SlotsError::Memory);
         };
         match Order::sorted(alloc, &mut store, &mut scratch) {
-            Ok(Some(order)) => Ok(Acyclic {
-                store,
-                order,
-                scratch,
-                node_weight: PhantomData,
-                edge_weight: PhantomData,
-            }),
+            Ok(Some(order)) => Ok(Acyclic::from_parts(store, order, scratch)),
             Ok(None) => Err(SlotsError::Cycle),
             Err(_) => Err(SlotsError::Memory),
         }
@@ -83,6 +76,6 @@ where
             (with_orders self.old.graph (map (numbers_of Ix.number) orders.now)) }
         ensures acyclic { IsAcyclic self.new.graph }
     {
-        self.store.set_orders(orders);
+        self.guarded.store.set_orders(orders);
     }
 }

@@ -23,13 +23,14 @@ where
         ensures looks { S.looks result.now ≡ self.now.looks }
         ensures acyclic { IsAcyclic (S.graph result.now) }
     {
-        &self.store
+        self.guarded.invariant();
+        &self.guarded.store
     }
 
     /// The allocator of the dag.
     #[inline]
     pub fn allocator(&self) -> Global {
-        self.scratch.allocator()
+        self.guarded.scratch.allocator()
     }
 
     /// Unwraps the graph, without copying. It is no longer kept acyclic.
@@ -39,7 +40,7 @@ where
         ensures looks { S.looks result ≡ self.looks }
         ensures acyclic { IsAcyclic (S.graph result) }
     {
-        self.store
+        self.guarded.store
     }
 }
 
@@ -51,7 +52,7 @@ impl<N: Drop, E: Drop, Ix: IndexType> Acyclic<N, E, Ix, DiGraph<N, E, Ix>> {
         ensures looks { result.0.looks ≡ self.looks }
         ensures ordered { IsOrderOf result.0.graph result.1 }
     {
-        (self.store, self.order)
+        (self.guarded.store, self.guarded.order)
     }
 }
 

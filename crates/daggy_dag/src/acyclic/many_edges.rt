@@ -13,7 +13,6 @@ use daggy_base::error::{EdgeError, EdgesError, ElementError};
 use daggy_base::index::{IndexType, NodeIndex};
 use daggy_base::store::Store;
 use daggy_guard::edge_indices::EdgeIndices;
-use daggy_guard::{edge_batch, elements, extension};
 use std::alloc::Global;
 
 impl<N: Drop, E: Drop, Ix: IndexType, S> Acyclic<N, E, Ix, S>
@@ -50,7 +49,7 @@ where
         ensures looked { self.old.looks ≤ self.new.looks }
         ensures counted { self.new.looks ≤ self.old.looks + most_looks self.old.graph result }
     {
-        edge_batch::add_edges(&mut self.store, &mut self.order, &mut self.scratch, items)
+        self.guarded.add_edges(items)
     }
 
     /// Adds the edges that `items` yields, one by one, first adding default nodes until the
@@ -82,7 +81,7 @@ where
         ensures counted { self.new.looks
             ≤ self.old.looks + extension_looks self.old.graph self.new.graph }
     {
-        extension::extend_with_edges(&mut self.store, &mut self.order, &mut self.scratch, items)
+        self.guarded.extend_with_edges(items)
     }
 
     /// A dag of the edges that `items` yields, as [`extend_with_edges`](Acyclic::extend_with_edges)
@@ -131,7 +130,7 @@ where
         ensures acyclic { IfOk result (λ dag. IsAcyclic dag.graph) }
     {
         let mut dag: Acyclic<N, E, Ix, S> = Acyclic::new(alloc);
-        match elements::add_elements(&mut dag.store, &mut dag.order, &mut dag.scratch, items) {
+        match dag.guarded.add_elements(items) {
             Ok(()) => Ok(dag),
             Err(error) => Err(error),
         }

@@ -72,9 +72,9 @@ where
             + (node_count_of self.old.graph + 2) * edge_count_of self.old.graph }
     {
         reduce::transitive_reduce(
-            &mut self.store,
-            &self.order,
-            &mut self.scratch,
+            &mut self.guarded.store,
+            &self.guarded.order,
+            &mut self.guarded.scratch,
             roots.as_slice(),
         )
     }

@@ -56,7 +56,7 @@ where
         ensures fits { length result < 2 ^ 64 }
     {
         TopologicalOrder {
-            nodes: self.order.nodes(),
+            nodes: self.guarded.order.nodes(),
         }
     }
 }

@@ -105,7 +105,7 @@ where
         ensures value { result ≡ node_bound_of self.now.graph }
         ensures fits { node_bound_of self.now.graph ≤ Ix.greatest }
     {
-        EdgeSource::node_bound(&self.store)
+        EdgeSource::node_bound(&self.guarded.store)
     }
 
     #[inline]
@@ -138,7 +138,7 @@ where
         ensures bound { IfOk result (λ map. length map ≡ node_bound_of self.now.graph) }
         ensures empty { IfOk result (λ map. (n : ℕ) → ¬ IsVisited map n) }
     {
-        NodeSet::new(self.scratch.allocator(), self.node_bound())
+        NodeSet::new(self.guarded.scratch.allocator(), self.node_bound())
     }
 
     fn reset_map(&self, map: &mut NodeSet<Ix>) -> Result<(), AllocError>
@@ -193,7 +193,7 @@ where
         ensures { IfOk result (λ matrix.
             (a b : ℕ) → HasPair matrix a b ↔ AreJoined self.now.graph a b) }
     {
-        matrix::adjacency_matrix(&self.store, self.scratch.allocator())
+        matrix::adjacency_matrix(&self.guarded.store, self.guarded.scratch.allocator())
     }
 
     #[inline]

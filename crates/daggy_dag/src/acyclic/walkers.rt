@@ -70,8 +70,8 @@ where
 
     #[inline]
     fn walk_next(&mut self, dag: &Acyclic<N, E, Ix, S>) -> Option<(EdgeIndex<Ix>, NodeIndex<Ix>)> {
-        dag.store.invariant();
-        walk::step(&dag.store, Direction::Outgoing, &mut self.edge)
+        dag.guarded.store.invariant();
+        walk::step(&dag.guarded.store, Direction::Outgoing, &mut self.edge)
     }
 }
 
@@ -148,8 +148,8 @@ where
 
     #[inline]
     fn walk_next(&mut self, dag: &Acyclic<N, E, Ix, S>) -> Option<(EdgeIndex<Ix>, NodeIndex<Ix>)> {
-        dag.store.invariant();
-        walk::step(&dag.store, Direction::Incoming, &mut self.edge)
+        dag.guarded.store.invariant();
+        walk::step(&dag.guarded.store, Direction::Incoming, &mut self.edge)
     }
 }
 

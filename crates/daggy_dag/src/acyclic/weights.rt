@@ -37,7 +37,7 @@ where
             (lends_edge_if N.row E.row Ix.row S.row Ix.IndexType S.Store self.entry e result) }
         ensures value { option_copied_mut result ≡ edge_weight_at self.old.graph (Ix.number e) }
     {
-        if self.store.contains_edge(e) {
+        if self.guarded.store.contains_edge(e) {
             Some(&mut self[e])
         } else {
             None
@@ -57,7 +57,7 @@ where
 
     #[inline]
     fn index(&self, n: NodeIndex<Ix>) -> &N {
-        self.store.node_weight(n).unwrap()
+        self.guarded.store.node_weight(n).unwrap()
     }
 }
 
@@ -73,7 +73,7 @@ where
 
     #[inline]
     fn index(&self, e: EdgeIndex<Ix>) -> &E {
-        self.store.edge_weight(e).unwrap()
+        self.guarded.store.edge_weight(e).unwrap()
     }
 }
 
@@ -88,8 +88,8 @@ where
             (lends_node N.row E.row Ix.row S.row Ix.IndexType S.Store self.entry n result) }
         ensures value { weight_at self.old.graph (Ix.number n) ≡ Some result.now }
     {
-        self.store.invariant();
-        self.store.node_mut(n)
+        self.guarded.store.invariant();
+        self.guarded.store.node_mut(n)
     }
 }
 
@@ -104,7 +104,7 @@ where
             (lends_edge N.row E.row Ix.row S.row Ix.IndexType S.Store self.entry e result) }
         ensures value { edge_weight_at self.old.graph (Ix.number e) ≡ Some result.now }
     {
-        self.store.invariant();
-        self.store.edge_mut(e)
+        self.guarded.store.invariant();
+        self.guarded.store.edge_mut(e)
     }
 }

@@ -10,7 +10,6 @@ use daggy_graph::graph::DiGraph;
 use daggy_order::order::Order;
 use daggy_search::Scratch;
 use std::alloc::{AllocError, Global};
-use std::marker::PhantomData;
 
 /// Returns a dag with the same indices and lists, and with a clone of each weight.
 impl<N: Clone + Drop, E: Clone + Drop, Ix: IndexType> Clone
@@ -19,17 +18,11 @@ impl<N: Clone + Drop, E: Clone + Drop, Ix: IndexType> Clone
         IsCopy N.is_clone E.is_clone d.graph copy.graph × (copy.looks ≡ 0) };
 
     fn clone(&self) -> Result<Self, AllocError> {
-        let mut scratch = Scratch::new(self.scratch.allocator());
-        scratch.reserve(self.store.node_count(), 0)?;
-        let order = self.order.try_clone()?;
-        let store = self.store.clone()?;
-        Ok(Acyclic {
-            store,
-            order,
-            scratch,
-            node_weight: PhantomData,
-            edge_weight: PhantomData,
-        })
+        let mut scratch = Scratch::new(self.guarded.scratch.allocator());
+        scratch.reserve(self.guarded.store.node_count(), 0)?;
+        let order = self.guarded.order.try_clone()?;
+        let store = self.guarded.store.clone()?;
+        Ok(Acyclic::from_parts(store, order, scratch))
     }
 }
 
@@ -51,13 +44,7 @@ impl<N: Drop, E: Drop, Ix: IndexType> Acyclic<N, E, Ix, DiGraph<N, E, Ix>> {
         scratch.reserve(nodes, 0)?;
         let mut order = Order::new(alloc);
         order.reserve(nodes)?;
-        Ok(Acyclic {
-            store,
-            order,
-            scratch,
-            node_weight: PhantomData,
-            edge_weight: PhantomData,
-        })
+        Ok(Acyclic::from_parts(store, order, scratch))
     }
 
     /// A dag with the same nodes and edges under the same indices, and in the same lists, with a
@@ -97,10 +84,10 @@ impl<N: Drop, E: Drop, Ix: IndexType> Acyclic<N, E, Ix, DiGraph<N, E, Ix>> {
         ensures same { self.new ≡ self.old }
         ensures fits { OnOk result (length self.new.graph.nodes + additional < 2 ^ 63) }
     {
-        self.store.reserve_nodes(additional)?;
-        let nodes = self.store.node_count() + additional;
-        self.order.reserve(nodes)?;
-        self.scratch.reserve(nodes, 0)
+        self.guarded.store.reserve_nodes(additional)?;
+        let nodes = self.guarded.store.node_count() + additional;
+        self.guarded.order.reserve(nodes)?;
+        self.guarded.scratch.reserve(nodes, 0)
     }
 
     /// Reserves the least capacity for `additional` more nodes, for their order and for searches.
@@ -113,10 +100,10 @@ impl<N: Drop, E: Drop, Ix: IndexType> Acyclic<N, E, Ix, DiGraph<N, E, Ix>> {
         ensures same { self.new ≡ self.old }
         ensures fits { OnOk result (length self.new.graph.nodes + additional < 2 ^ 63) }
     {
-        self.store.reserve_exact_nodes(additional)?;
-        let nodes = self.store.node_count() + additional;
-        self.order.reserve(nodes)?;
-        self.scratch.reserve(nodes, 0)
+        self.guarded.store.reserve_exact_nodes(additional)?;
+        let nodes = self.guarded.store.node_count() + additional;
+        self.guarded.order.reserve(nodes)?;
+        self.guarded.scratch.reserve(nodes, 0)
     }
 
     /// Reserves capacity for at least `additional` more edges.
@@ -129,7 +116,7 @@ impl<N: Drop, E: Drop, Ix: IndexType> Acyclic<N, E, Ix, DiGraph<N, E, Ix>> {
         ensures same { self.new ≡ self.old }
         ensures fits { OnOk result (length self.new.graph.edges + additional < 2 ^ 63) }
     {
-        self.store.reserve_edges(additional)
+        self.guarded.store.reserve_edges(additional)
     }
 
     /// Reserves the least capacity for `additional` more edges.
@@ -142,7 +129,7 @@ impl<N: Drop, E: Drop, Ix: IndexType> Acyclic<N, E, Ix, DiGraph<N, E, Ix>> {
         ensures same { self.new ≡ self.old }
         ensures fits { OnOk result (length self.new.graph.edges + additional < 2 ^ 63) }
     {
-        self.store.reserve_exact_edges(additional)
+        self.guarded.store.reserve_exact_edges(additional)
     }
 
     /// Shrinks the capacity of nodes and edges to fit. The memory for searches stays.
@@ -154,7 +141,7 @@ impl<N: Drop, E: Drop, Ix: IndexType> Acyclic<N, E, Ix, DiGraph<N, E, Ix>> {
     pub fn shrink_to_fit(&mut self) -> Result<(), AllocError>
         ensures { self.new ≡ self.old }
     {
-        self.store.shrink_to_fit()
+        self.guarded.store.shrink_to_fit()
     }
 
     /// Shrinks the capacity of nodes to fit. The memory for searches stays.
@@ -166,7 +153,7 @@ impl<N: Drop, E: Drop, Ix: IndexType> Acyclic<N, E, Ix, DiGraph<N, E, Ix>> {
     pub fn shrink_to_fit_nodes(&mut self) -> Result<(), AllocError>
         ensures { self.new ≡ self.old }
     {
-        self.store.shrink_to_fit_nodes()
+        self.guarded.store.shrink_to_fit_nodes()
     }
 
     /// Shrinks the capacity of edges to fit.
@@ -178,6 +165,6 @@ impl<N: Drop, E: Drop, Ix: IndexType> Acyclic<N, E, Ix, DiGraph<N, E, Ix>> {
     pub fn shrink_to_fit_edges(&mut self) -> Result<(), AllocError>
         ensures { self.new ≡ self.old }
     {
-        self.store.shrink_to_fit_edges()
+        self.guarded.store.shrink_to_fit_edges()
     }
 }

@@ -11,7 +11,6 @@ use daggy_base::index::{EdgeIndex, IndexType, NodeIndex};
 use daggy_graph::graph::DiGraph;
 use daggy_search::Scratch;
 use std::alloc::AllocError;
-use std::marker::PhantomData;
 
 impl<N: Drop, E: Drop, Ix: IndexType> Acyclic<N, E, Ix, DiGraph<N, E, Ix>> {
     /// A dag with the same indices and lists, and with the weights returned by the closures: `f` is
@@ -37,17 +36,11 @@ impl<N: Drop, E: Drop, Ix: IndexType> Acyclic<N, E, Ix, DiGraph<N, E, Ix>> {
         ensures acyclic { IfOk result (λ d. IsAcyclic d.graph) }
         ensures looks { IfOk result (λ d. d.looks ≡ 0) }
     {
-        let mut scratch = Scratch::new(self.scratch.allocator());
-        scratch.reserve(self.store.node_count(), 0)?;
-        let order = self.order.try_clone()?;
-        let store = self.store.map(f, g)?;
-        Ok(Acyclic {
-            store,
-            order,
-            scratch,
-            node_weight: PhantomData,
-            edge_weight: PhantomData,
-        })
+        let mut scratch = Scratch::new(self.guarded.scratch.allocator());
+        scratch.reserve(self.guarded.store.node_count(), 0)?;
+        let order = self.guarded.order.try_clone()?;
+        let store = self.guarded.store.map(f, g)?;
+        Ok(Acyclic::from_parts(store, order, scratch))
     }
 
     /// A dag of the nodes and edges for which the closures return a weight: `f` is called with each
@@ -81,17 +74,11 @@ impl<N: Drop, E: Drop, Ix: IndexType> Acyclic<N, E, Ix, DiGraph<N, E, Ix>> {
         ensures acyclic { IfOk result (λ d. IsAcyclic d.graph) }
         ensures looks { IfOk result (λ d. d.looks ≡ 0) }
     {
-        let mut scratch = Scratch::new(self.scratch.allocator());
-        scratch.reserve(self.store.node_count(), 0)?;
-        let mut order = self.order.try_clone()?;
-        let (store, names) = self.store.filter_map_named(f, g)?;
+        let mut scratch = Scratch::new(self.guarded.scratch.allocator());
+        scratch.reserve(self.guarded.store.node_count(), 0)?;
+        let mut order = self.guarded.order.try_clone()?;
+        let (store, names) = self.guarded.store.filter_map_named(f, g)?;
         order.rename_all(names.as_slice());
-        Ok(Acyclic {
-            store,
-            order,
-            scratch,
-            node_weight: PhantomData,
-            edge_weight: PhantomData,
-        })
+        Ok(Acyclic::from_parts(store, order, scratch))
     }
 }

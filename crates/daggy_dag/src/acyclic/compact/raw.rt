@@ -17,7 +17,7 @@ impl<N: Drop, E: Drop, Ix: IndexType> Acyclic<N, E, Ix, DiGraph<N, E, Ix>> {
     pub fn raw_nodes(&self) -> RawNodes<'_, N, Ix>
         ensures { ShowsNodes Ix.greatest self.now.graph result.now }
     {
-        self.store.raw_nodes()
+        self.guarded.store.raw_nodes()
     }
 
     /// The edges as they are stored, by index.
@@ -25,6 +25,6 @@ impl<N: Drop, E: Drop, Ix: IndexType> Acyclic<N, E, Ix, DiGraph<N, E, Ix>> {
     pub fn raw_edges(&self) -> RawEdges<'_, E, Ix>
         ensures { ShowsEdges Ix.greatest self.now.graph result.now }
     {
-        self.store.raw_edges()
+        self.guarded.store.raw_edges()
     }
 }

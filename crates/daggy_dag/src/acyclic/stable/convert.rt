@@ -9,7 +9,6 @@ use daggy_base::index::IndexType;
 use daggy_search::Scratch;
 use daggy_stable::stable_graph::StableDiGraph;
 use std::alloc::{AllocError, Global};
-use std::marker::PhantomData;
 
 // Memory for a graph of this many nodes and edges, and for its searches.
 fn room_for<N: Drop, E: Drop, Ix: IndexType>(
@@ -49,13 +48,7 @@ impl<N: Drop, E: Drop, Ix: IndexType> Acyclic<N, E, Ix, StableDiGraph<N, E, Ix>>
             Ok((scratch, room)) => {
                 let (graph, order) = dag.into_parts();
                 let store = room.fill(graph);
-                Ok(Acyclic {
-                    store,
-                    order,
-                    scratch,
-                    node_weight: PhantomData,
-                    edge_weight: PhantomData,
-                })
+                Ok(Acyclic::from_parts(store, order, scratch))
             }
             Err(_) => Err(dag),
         }

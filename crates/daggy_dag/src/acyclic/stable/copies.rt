@@ -10,7 +10,6 @@ use daggy_order::order::Order;
 use daggy_search::Scratch;
 use daggy_stable::stable_graph::StableDiGraph;
 use std::alloc::{AllocError, Global};
-use std::marker::PhantomData;
 
 /// Returns a dag with the same slots and lists, and with a clone of each weight.
 impl<N: Clone + Drop, E: Clone + Drop, Ix: IndexType> Clone
@@ -19,17 +18,11 @@ impl<N: Clone + Drop, E: Clone + Drop, Ix: IndexType> Clone
         IsCopy N.is_clone E.is_clone d.graph copy.graph × (copy.looks ≡ 0) };
 
     fn clone(&self) -> Result<Self, AllocError> {
-        let mut scratch = Scratch::new(self.scratch.allocator());
-        scratch.reserve(self.store.node_slots(), 0)?;
-        let order = self.order.try_clone()?;
-        let store = self.store.clone()?;
-        Ok(Acyclic {
-            store,
-            order,
-            scratch,
-            node_weight: PhantomData,
-            edge_weight: PhantomData,
-        })
+        let mut scratch = Scratch::new(self.guarded.scratch.allocator());
+        scratch.reserve(self.guarded.store.node_slots(), 0)?;
+        let order = self.guarded.order.try_clone()?;
+        let store = self.guarded.store.clone()?;
+        Ok(Acyclic::from_parts(store, order, scratch))
     }
 }
 
@@ -51,13 +44,7 @@ impl<N: Drop, E: Drop, Ix: IndexType> Acyclic<N, E, Ix, StableDiGraph<N, E, Ix>>
         scratch.reserve(nodes, 0)?;
         let mut order = Order::new(alloc);
         order.reserve(nodes)?;
-        Ok(Acyclic {
-            store,
-            order,
-            scratch,
-            node_weight: PhantomData,
-            edge_weight: PhantomData,
-        })
+        Ok(Acyclic::from_parts(store, order, scratch))
     }
 
     /// A dag with the same nodes and edges under the same indices, in the same lists, with a clone

@@ -19,7 +19,7 @@ impl<N: Drop, E: Drop, Ix: IndexType> Acyclic<N, E, Ix, StableDiGraph<N, E, Ix>>
         ensures rest { result ≡ node_identifiers_of self.now.graph }
         ensures fits { length result < 2 ^ 64 }
     {
-        self.store.node_identifiers()
+        self.guarded.store.node_identifiers()
     }
 
     /// The nodes by ascending index, each with its weight.
@@ -28,7 +28,7 @@ impl<N: Drop, E: Drop, Ix: IndexType> Acyclic<N, E, Ix, StableDiGraph<N, E, Ix>>
         ensures rest { result ≡ node_references_of self.now.graph }
         ensures fits { length result < 2 ^ 64 }
     {
-        self.store.node_references()
+        self.guarded.store.node_references()
     }
 
     /// The edges, by ascending index.
@@ -37,7 +37,7 @@ impl<N: Drop, E: Drop, Ix: IndexType> Acyclic<N, E, Ix, StableDiGraph<N, E, Ix>>
         ensures rest { result ≡ edge_references_of self.now.graph }
         ensures fits { length result < 2 ^ 64 }
     {
-        self.store.edge_references()
+        self.guarded.store.edge_references()
     }
 
     /// The edges from a node to its children, newest first, or none if the node does not exist.
@@ -46,7 +46,7 @@ impl<N: Drop, E: Drop, Ix: IndexType> Acyclic<N, E, Ix, StableDiGraph<N, E, Ix>>
         ensures rest { result ≡ edges_at Outgoing self.now.graph (Ix.number n) }
         ensures fits { length result < 2 ^ 64 }
     {
-        self.store.edges(n)
+        self.guarded.store.edges(n)
     }
 
     /// The edges from a node to its children, or those from its parents to it, newest first, or
@@ -56,7 +56,7 @@ impl<N: Drop, E: Drop, Ix: IndexType> Acyclic<N, E, Ix, StableDiGraph<N, E, Ix>>
         ensures rest { result ≡ edges_at dir self.now.graph (Ix.number n) }
         ensures fits { length result < 2 ^ 64 }
     {
-        self.store.edges_directed(n, dir)
+        self.guarded.store.edges_directed(n, dir)
     }
 
     /// The children of a node, one for each edge that leaves it, newest first, or none if the node
@@ -66,7 +66,7 @@ impl<N: Drop, E: Drop, Ix: IndexType> Acyclic<N, E, Ix, StableDiGraph<N, E, Ix>>
         ensures rest { result ≡ neighbors_at Outgoing self.now.graph (Ix.number n) }
         ensures fits { length result < 2 ^ 64 }
     {
-        self.store.neighbors(n)
+        self.guarded.store.neighbors(n)
     }
 
     /// The children of a node, or its parents, one for each edge that leaves it, or that enters it,
@@ -76,6 +76,6 @@ impl<N: Drop, E: Drop, Ix: IndexType> Acyclic<N, E, Ix, StableDiGraph<N, E, Ix>>
         ensures rest { result ≡ neighbors_at dir self.now.graph (Ix.number n) }
         ensures fits { length result < 2 ^ 64 }
     {
-        self.store.neighbors_directed(n, dir)
+        self.guarded.store.neighbors_directed(n, dir)
     }
 }

@@ -15,7 +15,6 @@ use daggy_order::order::Order;
 use daggy_search::Scratch;
 use daggy_stable::stable_graph::StableDiGraph;
 use std::alloc::AllocError;
-use std::marker::PhantomData;
 
 // Takes the nodes out of an order that a graph does not have. Each is below `slots`.
 fn keep_existing<Ix: IndexType, S: Store<Ix>>(store: &S, order: &mut Order<Ix>, slots: usize)
@@ -55,18 +54,12 @@ impl<N: Drop, E: Drop, Ix: IndexType> Acyclic<N, E, Ix, StableDiGraph<N, E, Ix>>
         ensures acyclic { IfOk result (λ d. IsAcyclic d.graph) }
         ensures looks { IfOk result (λ d. d.looks ≡ 0) }
     {
-        self.store.invariant();
-        let mut scratch = Scratch::new(self.scratch.allocator());
-        scratch.reserve(self.store.node_slots(), 0)?;
-        let order = self.order.try_clone()?;
-        let store = self.store.map(f, g)?;
-        Ok(Acyclic {
-            store,
-            order,
-            scratch,
-            node_weight: PhantomData,
-            edge_weight: PhantomData,
-        })
+        self.guarded.store.invariant();
+        let mut scratch = Scratch::new(self.guarded.scratch.allocator());
+        scratch.reserve(self.guarded.store.node_slots(), 0)?;
+        let order = self.guarded.order.try_clone()?;
+        let store = self.guarded.store.map(f, g)?;
+        Ok(Acyclic::from_parts(store, order, scratch))
     }
 
     /// A dag of the nodes and edges for which the closures return a weight: `f` is called with each
@@ -97,20 +90,14 @@ impl<N: Drop, E: Drop, Ix: IndexType> Acyclic<N, E, Ix, StableDiGraph<N, E, Ix>>
         ensures acyclic { IfOk result (λ d. IsAcyclic d.graph) }
         ensures looks { IfOk result (λ d. d.looks ≡ 0) }
     {
-        self.store.invariant();
-        let mut scratch = Scratch::new(self.scratch.allocator());
-        let slots = self.store.node_slots();
+        self.guarded.store.invariant();
+        let mut scratch = Scratch::new(self.guarded.scratch.allocator());
+        let slots = self.guarded.store.node_slots();
         scratch.reserve(slots, 0)?;
-        let mut order = self.order.try_clone()?;
-        let store = self.store.filter_map(f, g)?;
+        let mut order = self.guarded.order.try_clone()?;
+        let store = self.guarded.store.filter_map(f, g)?;
         store.invariant();
         keep_existing(&store, &mut order, slots);
-        Ok(Acyclic {
-            store,
-            order,
-            scratch,
-            node_weight: PhantomData,
-            edge_weight: PhantomData,
-        })
+        Ok(Acyclic::from_parts(store, order, scratch))
     }
 }

@@ -21,8 +21,8 @@ impl<N: Drop, E: Drop, Ix: IndexType> Acyclic<N, E, Ix, StableDiGraph<N, E, Ix>>
         ensures acyclic { IsAcyclic self.new.graph }
         ensures looks { self.new.looks ≡ self.old.looks }
     {
-        self.store.invariant();
-        self.store.update_node_weights(f);
+        self.guarded.store.invariant();
+        self.guarded.store.update_node_weights(f);
     }
 
     /// Calls `f` with each edge by ascending index and a mutable reference to its weight.
@@ -36,7 +36,7 @@ impl<N: Drop, E: Drop, Ix: IndexType> Acyclic<N, E, Ix, StableDiGraph<N, E, Ix>>
         ensures acyclic { IsAcyclic self.new.graph }
         ensures looks { self.new.looks ≡ self.old.looks }
     {
-        self.store.invariant();
-        self.store.update_edge_weights(f);
+        self.guarded.store.invariant();
+        self.guarded.store.update_edge_weights(f);
     }
 }

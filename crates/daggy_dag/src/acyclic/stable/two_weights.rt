@@ -37,8 +37,8 @@ impl<N: Drop, E: Drop, Ix: IndexType> Acyclic<N, E, Ix, StableDiGraph<N, E, Ix>>
             self.new }
         ensures acyclic { IsAcyclic self.new.graph }
     {
-        self.store.invariant();
-        self.store.update_two_nodes(a, b, f)
+        self.guarded.store.invariant();
+        self.guarded.store.update_two_nodes(a, b, f)
     }
 
     /// Calls `f` with mutable references to the weights of two edges, and returns its result.
@@ -65,8 +65,8 @@ impl<N: Drop, E: Drop, Ix: IndexType> Acyclic<N, E, Ix, StableDiGraph<N, E, Ix>>
             self.new }
         ensures acyclic { IsAcyclic self.new.graph }
     {
-        self.store.invariant();
-        self.store.update_two_edges(a, b, f)
+        self.guarded.store.invariant();
+        self.guarded.store.update_two_edges(a, b, f)
     }
 
     /// Calls `f` with mutable references to the weights of a node and an edge, and returns its
@@ -93,7 +93,7 @@ impl<N: Drop, E: Drop, Ix: IndexType> Acyclic<N, E, Ix, StableDiGraph<N, E, Ix>>
             self.new }
         ensures acyclic { IsAcyclic self.new.graph }
     {
-        self.store.invariant();
-        self.store.update_node_and_edge(n, e, f)
+        self.guarded.store.invariant();
+        self.guarded.store.update_node_and_edge(n, e, f)
     }
 }

@@ -12,7 +12,8 @@ returns g c =
     let number = g.Ix.IndexType.number in
     let now = c.args.self.now.graph in
     let end = g.Ix.IndexType.greatest in
-    let graph : g.S.EdgeSource.graph c.self.inside.store ≡ now = cc in
+    let graph : g.S.EdgeSource.graph c.self-inside.inside.0.0.store ≡ now =
+    ap (λ s. s.graph) (ap (λ i. i.guarded) c.self-inside.view_is ∙ c.self.view_is) in
     let well_formed = subst (IsWellFormed end) graph c.invariant.ensures.well_formed in
     let first = c.first_edge.ensures ∙ ap (λ k. first_of end (list_at Outgoing k (number c.args.n))) graph in
     let whole = ap (rest_of_walk Outgoing now) first ∙ whole_walk end now well_formed Outgoing (number c.args.n) in

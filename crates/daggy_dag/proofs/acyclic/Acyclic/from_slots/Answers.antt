@@ -3,7 +3,6 @@ use Rattle.daggy_base.specs.Graph.{Graph, node_bound}
 use Rattle.daggy_base.specs.Path.{IsAcyclic}
 use Rattle.daggy_search.specs.Room.{Room}
 use Rattle.daggy_base.proofs.PathsWithNode.{bound_low}
-use Rattle.daggy_order.proofs.OrderLaws.{acyclic_from_order}
 use Rattle.daggy_dag.proofs.OrderKept.{stays_so}
 use Rattle.daggy_dag.proofs.acyclic.Acyclic.from_slots.Goals as goal
 
@@ -23,8 +22,8 @@ found P o x is h = subst (λ z. IfSome z P) is h
 missed : {A B : Type 0} (o : Option A) → o ≡ None → IfNone o B → B
 missed {A} {B} o is h = subst (λ (z : Option A). IfNone z B) is h
 
-pub invariant_of-result : goal.invariant_of-result
-invariant_of-result g c =
+pub from_parts-requires : goal.from_parts-requires
+from_parts-requires g c =
     let low = bound_low (g.S.EdgeSource.graph c.in-Ok.store).nodes in
     let fits : node_bound (g.S.EdgeSource.graph c.in-Ok.store) ≤ c.reserve.new.self.nodes =
     omega (arith, low, c.node_slots.ensures, c.in-Ok-reserve.ensures.ok.0) in
@@ -34,13 +33,6 @@ invariant_of-result g c =
     found _ c.in-Ok-Some.field-0 c.in-Ok-Some.order c.in-Ok-Some.field-0-is c.in-Ok-Some.ensures.ordered in
     stays_so c.in-Ok-Some.order c.sorted.new.scratch.nodes _ _ c.sorted.ensures.same
     (ordered, omega (arith, fits, capacity))
-
-pub returns-in-Ok-Some-clause-acyclic : goal.returns-in-Ok-Some-clause-acyclic
-returns-in-Ok-Some-clause-acyclic g c =
-    let P : Graph _ _ → Type 0 = λ z. IsAcyclic z in
-    let ordered =
-    found _ c.in-Ok-Some.field-0 c.in-Ok-Some.order c.in-Ok-Some.field-0-is c.in-Ok-Some.ensures.ordered in
-    subst P (sym c.sorted.ensures.same) (acyclic_from_order c.in-Ok-Some.order ordered)
 
 pub returns-in-Ok-None-clause-cycle : goal.returns-in-Ok-None-clause-cycle
 returns-in-Ok-None-clause-cycle g c =

@@ -5,8 +5,7 @@ use Rattle.daggy_dag.proofs.acyclic.Acyclic.node_from.Given as goal
 
 abbrev pub invariant-along : goal.invariant-along
 invariant-along g l =
-    next_slot Stable (g.S.EdgeSource.graph l.self-inside.store).nodes l.from
-    ≡ next_slot Stable (g.S.EdgeSource.graph l.self-inside.store).nodes l.i
+    next_slot Stable l.fn.self.graph.nodes l.from ≡ next_slot Stable l.fn.self.graph.nodes l.i
 
 abbrev pub decreases-along : goal.decreases-along
 decreases-along g l = l.slots - l.i

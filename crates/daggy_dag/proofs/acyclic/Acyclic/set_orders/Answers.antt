@@ -7,4 +7,4 @@ use Rattle.daggy_dag.proofs.acyclic.Acyclic.set_orders.Goals as goal
 pub returns-clause-acyclic : goal.returns-clause-acyclic
 returns-clause-acyclic g c =
     let P : Graph _ _ → Type 0 = λ z. IsAcyclic z in
-    subst P (sym c.set_orders.ensures.ordered) (acyclic_from_order c.self.inside.order c.self.invariant.0)
+    subst P (sym c.set_orders.ensures.ordered) (acyclic_from_order c.self-inside.inside.0.0.order c.self-inside.invariant.0)

@@ -1,4 +1,4 @@
-use Rattle.std.proofs.Common.{◌≡◌, List, ℕ, map, ap, subst, OnOk}
+use Rattle.std.proofs.Common.{◌≡◌, List, ℕ, map, ap, subst, OnOk, ◌∙◌}
 use Rattle.daggy_base.specs.Graph.{Graph}
 use Rattle.daggy_base.specs.State.{State}
 use Rattle.daggy_base.specs.Path.{IsAcyclic}
@@ -19,7 +19,7 @@ roots g c = map g.Ix.IndexType.number c.args.roots.items
 
 -- the stored graph before and after
 abbrev old : (g : Over) → After-transitive_reduce g → Graph g.row.N.Denot g.row.E.Denot
-old g c = g.S.EdgeSource.graph c.self.inside.store
+old g c = g.S.EdgeSource.graph c.self-inside.inside.0.0.store
 
 abbrev new : (g : Over) → After-transitive_reduce g → Graph g.row.N.Denot g.row.E.Denot
 new g c = g.S.EdgeSource.graph c.transitive_reduce.new.store
@@ -31,7 +31,7 @@ reduced g c =
     (ap (map g.Ix.IndexType.number) c.as_slice.ensures.value) c.transitive_reduce.ensures.reduced
 
 acyclic : (g : Over) (c : After-transitive_reduce g) → IsAcyclic (old g c)
-acyclic g c = acyclic_from_order _ c.self.invariant.0
+acyclic g c = acyclic_from_order _ c.self-inside.invariant.0
 
 -- what holds of the stored graph, and a reduction gives, holds of the dag
 shown : (g : Over) (c : After-transitive_reduce g) (P : Graph g.row.N.Denot g.row.E.Denot → Type 0)
@@ -39,7 +39,7 @@ shown : (g : Over) (c : After-transitive_reduce g) (P : Graph g.row.N.Denot g.ro
     → OnOk c.transitive_reduce.result (P c.args.self.now.graph)
 shown g c P law =
     let Q : State g.row.N.Denot g.row.E.Denot → Type 0 = λ s. OnOk c.transitive_reduce.result (P s.graph) in
-    subst Q c.self.view_is (on_ok c.transitive_reduce.result law (reduced g c))
+    subst Q (ap (λ i. i.guarded) c.self-inside.view_is ∙ c.self.view_is) (on_ok c.transitive_reduce.result law (reduced g c))
 
 pub returns-clause-reachability : goal.returns-clause-reachability
 returns-clause-reachability g c =
@@ -88,15 +88,16 @@ returns-clause-keeps g c =
     shown g at (λ z. (g.S.Store.KIND ≡ Stable → KeepsIndices z (new g at)))
     (law_indices g.S.Store.KIND (roots g at) (old g at) (new g at))
 
-pub invariant_of-self : goal.invariant_of-self
-invariant_of-self g c =
+pub invariant_of-self-inside : goal.invariant_of-self-inside
+invariant_of-self-inside g c =
     let reduce = c.transitive_reduce.ensures in
-    kept_fewer c.self.inside.order c.self.inside.scratch.nodes c.transitive_reduce.new.scratch.nodes
-    (g.S.EdgeSource.graph c.self.inside.store) (g.S.EdgeSource.graph c.transitive_reduce.new.store) reduce.nodes
-    reduce.fewer c.self.invariant reduce.capacity_kept
+    kept_fewer c.self-inside.inside.0.0.order c.self-inside.inside.0.0.scratch.nodes c.transitive_reduce.new.scratch.nodes
+    (g.S.EdgeSource.graph c.self-inside.inside.0.0.store) (g.S.EdgeSource.graph c.transitive_reduce.new.store) reduce.nodes
+    reduce.fewer c.self-inside.invariant reduce.capacity_kept
 
 pub returns-clause-acyclic : goal.returns-clause-acyclic
-returns-clause-acyclic g c = acyclic_from_order _ (invariant_of-self g c).0
+returns-clause-acyclic g c =
+    acyclic_from_order _ (invariant_of-self-inside g (goal.at.returns-clause-acyclic g c).After-transitive_reduce).0
 
 pub transitive_reduce-requires : goal.transitive_reduce-requires
-transitive_reduce-requires g c = c.self.invariant.0
+transitive_reduce-requires g c = c.self-inside.invariant.0

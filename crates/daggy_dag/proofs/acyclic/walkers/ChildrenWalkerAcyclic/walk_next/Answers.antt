@@ -1,4 +1,4 @@
-use Rattle.std.proofs.Common.{◌≡◌}
+use Rattle.std.proofs.Common.{◌≡◌, ap, ◌∙◌}
 use Rattle.daggy_base.specs.declared.index.Direction.TheVariants.{Outgoing}
 use Rattle.daggy_dag.proofs.WalkSteps.{steps, falls}
 use Rattle.daggy_dag.proofs.acyclic.walkers.ChildrenWalkerAcyclic.walk_next.Goals as goal
@@ -6,8 +6,9 @@ use Rattle.daggy_dag.proofs.acyclic.walkers.ChildrenWalkerAcyclic.walk_next.Goal
 pub returns : goal.returns
 returns g c =
     let number = g.Ix.IndexType.number in
-    let store = g.S.EdgeSource.graph c.dag.inside.store in
-    let graph : store ≡ c.args.dag.now.graph = cc in
+    let store = g.S.EdgeSource.graph c.dag-inside.inside.0.0.store in
+    let graph : store ≡ c.args.dag.now.graph =
+    ap (λ s. s.graph) (ap (λ i. i.guarded) c.dag-inside.view_is ∙ c.dag.view_is) in
     let cursor : number c.self.inside.edge ≡ number c.args.self.now = cc in
     let stepped =
     steps number Outgoing _ c.step.result _ c.invariant.ensures.well_formed graph cursor c.step.ensures in

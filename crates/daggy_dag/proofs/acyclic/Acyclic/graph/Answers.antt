@@ -1,5 +1,0 @@
-use Rattle.daggy_order.proofs.OrderLaws.{acyclic_from_order}
-use Rattle.daggy_dag.proofs.acyclic.Acyclic.graph.Goals as goal
-
-pub returns-clause-acyclic : goal.returns-clause-acyclic
-returns-clause-acyclic g c = acyclic_from_order c.self.inside.order c.self.invariant.0
