@@ -11,3 +11,4 @@ pub mod OrderOfExisting
 pub mod NodesBelow
 pub mod NextSlots
 pub mod SlottedGraph
+pub mod JoinedByEdge

@@ -45,6 +45,7 @@ mod externals;
 mod from_slots;
 mod graph;
 mod many_edges;
+mod paths;
 mod recursive;
 mod reduction;
 mod stable;

@@ -3,10 +3,8 @@ use Rattle.std.proofs.Common.{◌≡◌, ℕ, ◌+◌, ◌<◌, ◌≤◌, ◌�
 use Rattle.std.proofs.Common.{inl, inr, arith}
 use Rattle.std.proofs.lemmas.Bool.{cases_eq}
 use Rattle.std.specs.Prelude.{◌↔◌, IsSome, unwrap_or}
-use Rattle.std.specs.Option.{option_map}
-use Rattle.daggy_base.specs.Graph.{Graph, Edge, edge_at, node_bound, edge_bound, ends_of}
+use Rattle.daggy_base.specs.Graph.{Graph, Edge, edge_at, node_bound, edge_bound}
 use Rattle.daggy_base.specs.Path.{AreJoined}
-use Rattle.daggy_base.specs.WellFormed.{IsWellFormed}
 use Rattle.daggy_base.proofs.OutEdgesRead.{below_bound}
 use Rattle.daggy_walk.specs.Visit.{HasPair}
 

@@ -9,4 +9,5 @@ pub mod extension;
 pub mod guard;
 pub mod matrix;
 mod packed;
+pub mod paths;
 pub mod walk;

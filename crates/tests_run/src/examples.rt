@@ -99,3 +99,14 @@ fn transitive_reduce(rt: HostRuntime) -> Result<(), Fail> {
     assert!(rt; dag.edge_count() == 2);
     Ok(())
 }
+
+#[test]
+fn reaches(rt: HostRuntime) -> Result<(), Fail> {
+    let mut dag: Dag<&'static str, u32> = Dag::new(rt.alloc());
+    let sow = dag.add_node("sow")?;
+    let (_, hoe) = dag.add_child(sow, 30, "hoe")?;
+    let (_, reap) = dag.add_child(hoe, 60, "reap")?;
+    assert!(rt; dag.reaches(sow, reap));
+    assert!(rt; !dag.reaches(reap, hoe));
+    Ok(())
+}

@@ -1,0 +1,73 @@
+//! Whether a path leads from one node to another.
+ghost use Rattle.std.specs.Prelude.{◌≡◌, ◌+◌, ◌≤◌, ◌↔◌, IsTrue};
+ghost use Rattle.daggy_base.specs.Graph.{edge_count as edge_count_of};
+ghost use Rattle.daggy_base.specs.Path.{AreJoined, Reaches};
+
+use crate::acyclic::Acyclic;
+use daggy_base::index::{IndexType, NodeIndex};
+use daggy_base::store::Store;
+
+impl<N: Drop, E: Drop, Ix: IndexType, S> Acyclic<N, E, Ix, S>
+where
+    S: Store<Ix, NodeWeight = N, EdgeWeight = E>,
+{
+    /// Whether a path leads from `a` to `b`. A single node is a path, so an existing node reaches
+    /// itself; a missing node reaches nothing.
+    ///
+    /// The graph is unchanged; the call needs `&mut self` because it searches in memory of the dag.
+    ///
+    /// # Complexity
+    ///
+    /// O(1) if `b` precedes `a` in the dag's order. Otherwise a search from `a` that stays before
+    /// `b` in the order. Does not allocate.
+    ///
+    /// # Examples
+    ///
+    /// ```
+    /// let mut dag: Dag<&'static str, u32> = Dag::new(rt.alloc());
+    /// let sow = dag.add_node("sow")?;
+    /// let (_, hoe) = dag.add_child(sow, 30, "hoe")?;
+    /// let (_, reap) = dag.add_child(hoe, 60, "reap")?;
+    /// assert!(rt; dag.reaches(sow, reap));
+    /// assert!(rt; !dag.reaches(reap, hoe));
+    /// ```
+    pub fn reaches(&mut self, a: NodeIndex<Ix>, b: NodeIndex<Ix>) -> bool
+        ensures decided { IsTrue result ↔ Reaches self.old.graph (Ix.number a) (Ix.number b) }
+        ensures same { self.new.graph ≡ self.old.graph }
+        ensures looked { self.old.looks ≤ self.new.looks }
+        ensures counted { self.new.looks ≤ self.old.looks + edge_count_of self.old.graph }
+        ensures ready { Reaches self.old.graph (Ix.number b) (Ix.number a)
+            → self.new.looks ≡ self.old.looks }
+    {
+        self.guarded.reaches(a, b)
+    }
+
+    /// Whether an edge from `a` to `b` would close a cycle: whether `b` already reaches `a`. For
+    /// existing nodes, [`add_edge`](Acyclic::add_edge) returns `EdgeError::WouldCycle` if and only
+    /// if this is true.
+    ///
+    /// # Complexity
+    ///
+    /// As [`reaches`](Acyclic::reaches) from `b` to `a`.
+    pub fn would_close_cycle(&mut self, a: NodeIndex<Ix>, b: NodeIndex<Ix>) -> bool
+        ensures decided { IsTrue result ↔ Reaches self.old.graph (Ix.number b) (Ix.number a) }
+        ensures same { self.new.graph ≡ self.old.graph }
+        ensures looked { self.old.looks ≤ self.new.looks }
+        ensures counted { self.new.looks ≤ self.old.looks + edge_count_of self.old.graph }
+        ensures ready { Reaches self.old.graph (Ix.number a) (Ix.number b)
+            → self.new.looks ≡ self.old.looks }
+    {
+        self.reaches(b, a)
+    }
+
+    /// Whether an edge leads from `a` to `b`.
+    ///
+    /// # Complexity
+    ///
+    /// As [`find_edge`](Acyclic::find_edge).
+    pub fn contains_edge(&self, a: NodeIndex<Ix>, b: NodeIndex<Ix>) -> bool
+        ensures { IsTrue result ↔ AreJoined self.now.graph (Ix.number a) (Ix.number b) }
+    {
+        self.find_edge(a, b).is_some()
+    }
+}

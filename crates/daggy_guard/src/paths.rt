@@ -1,0 +1,24 @@
+//! Whether a path leads from one node to another.
+ghost use Rattle.std.specs.Prelude.{◌≡◌, ◌+◌, ◌≤◌, ◌↔◌, IsTrue};
+ghost use Rattle.daggy_base.specs.Graph.{edge_count};
+ghost use Rattle.daggy_base.specs.Path.{Reaches};
+
+use crate::guard::Guarded;
+use daggy_base::index::{IndexType, NodeIndex};
+use daggy_base::store::Store;
+use daggy_order::order::reaches_in;
+
+impl<Ix: IndexType, S: Store<Ix>> Guarded<Ix, S> {
+    /// Whether a path leads from `a` to `b`, by the order.
+    pub fn reaches(&mut self, a: NodeIndex<Ix>, b: NodeIndex<Ix>) -> bool
+        ensures decided { IsTrue result ↔ Reaches self.old.graph (Ix.number a) (Ix.number b) }
+        ensures same { self.new.graph ≡ self.old.graph }
+        ensures looked { self.old.looks ≤ self.new.looks }
+        ensures counted { self.new.looks ≤ self.old.looks + edge_count self.old.graph }
+        ensures ready { Reaches self.old.graph (Ix.number b) (Ix.number a)
+            → self.new.looks ≡ self.old.looks }
+    {
+        self.store.invariant();
+        reaches_in(&mut self.store, &mut self.order, a, b, &mut self.scratch)
+    }
+}
