@@ -1,7 +1,7 @@
 //! Calls while memory is refused once. `.ci/checks/refused_allocations.sh` runs the tests with no
 //! allocation refused, and then with each in turn. In each test exactly one call answers that there
 //! was no memory if an allocation of the test was refused, and none does otherwise. Only the sort of
-//! a long series can do without, and need not answer.
+//! a long series and a reduction by blocks can do without, and need not answer.
 #![tactic(auto)]
 
 #[cfg(test)]

@@ -35,6 +35,7 @@ pub enum Scenario {
     OfElements,
     OfSlots,
     Reduction,
+    ReductionByBlocks,
     Copies(Way),
     Capacity,
     Sets,
@@ -57,14 +58,17 @@ fn play<S: Kind>(rt: &(impl Abort + Env), alloc: Global, scenario: Scenario) {
         Scenario::OfElements => dag_of_elements::<S>(rt, alloc, &mut refused),
         Scenario::OfSlots => dag_of_slots::<S>(rt, alloc, &mut refused),
         Scenario::Reduction => reduction::<S>(rt, alloc, &mut refused),
+        Scenario::ReductionByBlocks => reduction_by_blocks::<S>(rt, alloc, &mut refused),
         Scenario::Copies(way) => copies::<S>(rt, alloc, way, &mut refused),
         Scenario::Capacity => capacity::<S>(rt, alloc, &mut refused),
         Scenario::Sets => sets::<S>(rt, alloc, &mut refused),
         Scenario::Faults => faults::<S>(rt, alloc, &mut refused),
     }
     match scenario {
-        // The sort of a long series can do without memory of its own.
-        Scenario::LongSeries | Scenario::ReservedNodes => has_cause(rt, refused),
+        // The sort of a long series can do without memory of its own, and so can a reduction.
+        Scenario::LongSeries | Scenario::ReservedNodes | Scenario::ReductionByBlocks => {
+            has_cause(rt, refused)
+        }
         _ => answered(rt, refused),
     }
 }
@@ -435,4 +439,18 @@ fn reduction<S: Kind>(rt: &impl Abort, alloc: Global, refused: &mut bool) {
     counts(rt, &dag, nodes, edges);
     let gone = dag.find_edge(NodeIndex::new(0), NodeIndex::new(3));
     holds(rt, gone.is_none());
+}
+
+// An edge leads from each of twelve nodes to every later one, so the redundant edges are found by
+// blocks. If there is no memory for the rows, they are found by searches, and nothing is refused.
+fn reduction_by_blocks<S: Kind>(rt: &impl Abort, alloc: Global, refused: &mut bool) {
+    let mut dag: Plain<S> = fan(rt, alloc, 0, refused);
+    for _ in 1..12 {
+        let n = add_node_again(rt, &mut dag, refused);
+        for a in 0..n.index() {
+            join_again(rt, &mut dag, (a, n.index()), false, refused);
+        }
+    }
+    reduce_again(rt, alloc, &mut dag, refused);
+    same(rt, dag.edge_count(), 11);
 }

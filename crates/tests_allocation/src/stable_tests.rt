@@ -115,3 +115,8 @@ fn a_compact_dag_becomes_a_stable_one_or_comes_back(rt: HostRuntime) {
     is_fan(&rt, &whole, 1, false);
     answered(&rt, refused);
 }
+
+#[test]
+fn a_reduction_needs_no_memory_for_blocks(rt: HostRuntime) {
+    stable(&rt, rt.alloc(), Scenario::ReductionByBlocks);
+}

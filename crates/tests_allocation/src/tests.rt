@@ -205,3 +205,8 @@ fn a_refused_comparison_is_made_again(rt: HostRuntime) {
     counts(&rt, &other, 4, 4);
     answered(&rt, refused);
 }
+
+#[test]
+fn a_reduction_needs_no_memory_for_blocks(rt: HostRuntime) {
+    compact(&rt, rt.alloc(), Scenario::ReductionByBlocks);
+}

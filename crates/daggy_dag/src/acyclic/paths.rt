@@ -68,6 +68,7 @@ where
     pub fn contains_edge(&self, a: NodeIndex<Ix>, b: NodeIndex<Ix>) -> bool
         ensures { IsTrue result ↔ AreJoined self.now.graph (Ix.number a) (Ix.number b) }
     {
+        self.guarded.invariant();
         self.find_edge(a, b).is_some()
     }
 }
