@@ -110,7 +110,13 @@ impl Kept {
 
     /// As `reaches`, by the order.
     pub fn reaches_in(&mut self, from: NodeIndex<u8>, to: NodeIndex<u8>) -> bool {
-        reaches_in(&mut self.graph, &mut self.order, from, to, &mut self.scratch)
+        reaches_in(
+            &mut self.graph,
+            &mut self.order,
+            from,
+            to,
+            &mut self.scratch,
+        )
     }
 
     /// Asserts that these edges are redundant below some roots, whether the order bounds the
