@@ -1,9 +1,8 @@
 -- The stages of reading, put together.
-use Rattle.std.proofs.Common.{◌≡◌, ℕ, zero, suc, ◌+◌, inl, inr, Bool, false, Option, Some, None, IsSome, List, [], ◌∷◌}
+use Rattle.std.proofs.Common.{◌≡◌, ℕ, zero, suc, ◌+◌, inl, inr, Option, Some, None, IsSome, List, [], ◌∷◌}
 use Rattle.std.proofs.Common.{length, map, refl, sym, ap, subst, ◌∙◌, arith}
 use Rattle.std.specs.Prelude.{MatchOption, Result, Ok, Err}
 use Rattle.std.specs.Option.{option_map}
-use Rattle.std.proofs.lemmas.Bool.{false≢true}
 use Rattle.std.proofs.lemmas.List.{length-map}
 use Rattle.std.proofs.lemmas.Option.{same_Some}
 use Rattle.std.specs.Borrow.{Bor}
@@ -11,6 +10,8 @@ use Rattle.serde_json.specs.Data.{Data}
 use Rattle.serde_json.specs.View.{view}
 use Rattle.serde_json.specs.declared.value.Value.{Value}
 use Rattle.daggy_base.specs.Iterating.{numbered}
+use Rattle.daggy_base.specs.declared.kind.Kind.{Kind}
+use Rattle.daggy_base.specs.declared.kind.Kind.TheVariants.{Compact}
 use Rattle.daggy_json.specs.Document.{vacant_from}
 use Rattle.daggy_base.specs.declared.index.Direction.TheVariants.{Outgoing, Incoming}
 use Rattle.daggy_base.specs.Graph.{Graph, Edge, slot, near_end}
@@ -23,41 +24,41 @@ use Rattle.daggy_json.specs.Reading.{IsWeight, IsEntryRead, AreSlots, IsOrdered,
 use Rattle.daggy_json.specs.Found.{EndsExist, IsNodesFault}
 use Rattle.daggy_json.proofs.TrimmedSlots.{slots_split}
 
-module _ {N E : Type 0} (limit : ℕ) (stable : Bool) (node_answers : Data → Option N → Type 0)
+module _ {N E : Type 0} (limit : ℕ) (kind : Kind) (node_answers : Data → Option N → Type 0)
     (edge_answers : Data → Option E → Type 0) (d : Data) where
   module _ (p : Parts) (is : parts_in d ≡ Some p) where
-    on : (r : Result (Graph N E) ReadError) (fault : Option ReadError) → IsLaidOut limit stable p fault
-        → MatchOption fault (IsFilled limit stable node_answers edge_answers p r) (λ e. r ≡ Err e)
-        → IsRead limit stable node_answers edge_answers d r
+    on : (r : Result (Graph N E) ReadError) (fault : Option ReadError) → IsLaidOut limit kind p fault
+        → MatchOption fault (IsFilled limit kind node_answers edge_answers p r) (λ e. r ≡ Err e)
+        → IsRead limit kind node_answers edge_answers d r
     on r fault laid next = rw is (fault, laid, next)
 
     pub layout_fault : (e : ReadError)
-        → IsLaidOut limit stable p (Some e) → IsRead limit stable node_answers edge_answers d (Err e)
+        → IsLaidOut limit kind p (Some e) → IsRead limit kind node_answers edge_answers d (Err e)
     layout_fault e laid = on (Err e) (Some e) laid refl
 
-    module _ (laid : IsLaidOut limit stable p None) where
+    module _ (laid : IsLaidOut limit kind p None) where
       pub weight_fault : (e : ReadError)
-          → ReadsEach (IsWeight node_answers) p.nodes (Err e) → IsRead limit stable node_answers edge_answers d (Err e)
+          → ReadsEach (IsWeight node_answers) p.nodes (Err e) → IsRead limit kind node_answers edge_answers d (Err e)
       weight_fault e h = on (Err e) None laid (Err e, h, refl)
 
       module _ (weights : List N) (read : ReadsEach (IsWeight node_answers) p.nodes (Ok weights))
           {nodes : List (Option N)} (placed : AreSlots nodes p.holes weights) where
-        linked : (r : Result (Graph N E) ReadError) → IsLinked limit stable node_answers edge_answers p nodes r
-            → IsRead limit stable node_answers edge_answers d r
+        linked : (r : Result (Graph N E) ReadError) → IsLinked limit kind node_answers edge_answers p nodes r
+            → IsRead limit kind node_answers edge_answers d r
         linked r h = on r None laid (Ok weights, read, (nodes, placed, h))
 
-        pub entry_fault : (e : ReadError) → ReadsEach (IsEntryRead stable nodes edge_answers) p.edges (Err e)
-            → IsRead limit stable node_answers edge_answers d (Err e)
+        pub entry_fault : (e : ReadError) → ReadsEach (IsEntryRead kind nodes edge_answers) p.edges (Err e)
+            → IsRead limit kind node_answers edge_answers d (Err e)
         entry_fault e h = linked (Err e) (Err e, h, refl)
 
         module _ (edges : List (Option (Edge E)))
-            (entries : ReadsEach (IsEntryRead stable nodes edge_answers) p.edges (Ok edges)) where
+            (entries : ReadsEach (IsEntryRead kind nodes edge_answers) p.edges (Ok edges)) where
           pub orders_fault : (e : ReadError) → IsOrdered (graph_of_slots nodes edges) p.orders (Err e)
-              → IsRead limit stable node_answers edge_answers d (Err e)
+              → IsRead limit kind node_answers edge_answers d (Err e)
           orders_fault e h = linked (Err e) (Ok edges, entries, (Err e, h, refl))
 
           pub is_read : (g : Graph N E) → IsOrdered (graph_of_slots nodes edges) p.orders (Ok g)
-              → (r : Result (Graph N E) ReadError) → IsTested g r → IsRead limit stable node_answers edge_answers d r
+              → (r : Result (Graph N E) ReadError) → IsTested g r → IsRead limit kind node_answers edge_answers d r
           is_read g h r t = linked r (Ok edges, entries, (Ok g, h, t))
 
 -- ---- orders
@@ -84,41 +85,41 @@ pub placed_long : {N : Type 0} (slots : List (Option N)) (holes : List ℕ) (wei
 placed_long slots holes weights s =
     omega (arith, slots_split 0 slots, length-map (numbered 0 slots) (λ p. p.1), ap length s.vacant, ap length s.given)
 
-pub ends_exist : {N E : Type 0} (stable : Bool) (nodes : List (Option N)) (answers : Data → Option E → Type 0)
+pub ends_exist : {N E : Type 0} (kind : Kind) (nodes : List (Option N)) (answers : Data → Option E → Type 0)
     (ds : List Data) (edges : List (Option (Edge E)))
-    → ReadsEach (IsEntryRead stable nodes answers) ds (Ok edges) → EndsExist nodes edges
-ends_exist stable nodes answers [] [] h dir e x is = cc
-ends_exist stable nodes answers [] (y ∷ edges) h dir e x is = absurd h
-ends_exist stable nodes answers (d ∷ ds) [] h dir e x is = cc
-ends_exist stable nodes answers (d ∷ ds) (None ∷ edges) h dir zero x is = cc
-ends_exist stable nodes answers (d ∷ ds) (Some y ∷ edges) h dir zero x is =
+    → ReadsEach (IsEntryRead kind nodes answers) ds (Ok edges) → EndsExist nodes edges
+ends_exist kind nodes answers [] [] h dir e x is = cc
+ends_exist kind nodes answers [] (y ∷ edges) h dir e x is = absurd h
+ends_exist kind nodes answers (d ∷ ds) [] h dir e x is = cc
+ends_exist kind nodes answers (d ∷ ds) (None ∷ edges) h dir zero x is = cc
+ends_exist kind nodes answers (d ∷ ds) (Some y ∷ edges) h dir zero x is =
     let same : y ≡ x = cc in
     let ends = h.0.2 in
     subst (λ k. IsSome (slot nodes (near_end dir k))) same (elim dir as (λ dir. IsSome (slot nodes (near_end dir y))) [
       | Outgoing ↦ ends.0
       | Incoming ↦ ends.1
     ])
-ends_exist stable nodes answers (d ∷ ds) (y ∷ edges) h dir (suc e) x is =
-    ends_exist stable nodes answers ds edges h.1 dir e x is
+ends_exist kind nodes answers (d ∷ ds) (y ∷ edges) h dir (suc e) x is =
+    ends_exist kind nodes answers ds edges h.1 dir e x is
 
 -- a fault up to the nodes
-pub nodes_fault : {N E : Type 0} (limit : ℕ) (stable : Bool) (node_answers : Data → Option N → Type 0)
+pub nodes_fault : {N E : Type 0} (limit : ℕ) (kind : Kind) (node_answers : Data → Option N → Type 0)
     (edge_answers : Data → Option E → Type 0) (d : Data) (p : Parts)
-    → parts_in d ≡ Some p → (e : ReadError) → IsNodesFault limit stable node_answers p e
-    → IsRead limit stable node_answers edge_answers d (Err e)
-nodes_fault limit stable node_answers edge_answers d p is e (inl laid) =
-    layout_fault limit stable node_answers edge_answers d p is e laid
-nodes_fault limit stable node_answers edge_answers d p is e (inr h) =
-    weight_fault limit stable node_answers edge_answers d p is h.0 e h.1
+    → parts_in d ≡ Some p → (e : ReadError) → IsNodesFault limit kind node_answers p e
+    → IsRead limit kind node_answers edge_answers d (Err e)
+nodes_fault limit kind node_answers edge_answers d p is e (inl laid) =
+    layout_fault limit kind node_answers edge_answers d p is e laid
+nodes_fault limit kind node_answers edge_answers d p is e (inr h) =
+    weight_fault limit kind node_answers edge_answers d p is h.0 e h.1
 
 -- where no slot may be vacant, none is
-pub full_entries : {N E T : Type 0} (stable : Bool) (nodes : List (Option N)) (answers : Data → Option E → Type 0)
+pub full_entries : {N E T : Type 0} (kind : Kind) (nodes : List (Option N)) (answers : Data → Option E → Type 0)
     (edge : T → Edge E)
-    → stable ≡ false → (i : ℕ) (ds : List Data) (xs : List (Option T))
-    → ReadsEach (IsEntryRead stable nodes answers) ds (Ok (map (option_map edge) xs)) → vacant_from i xs ≡ []
-full_entries stable nodes answers edge compact i [] [] h = refl
-full_entries stable nodes answers edge compact i [] (x ∷ xs) h = absurd h
-full_entries stable nodes answers edge compact i (d ∷ ds) [] h = absurd h
-full_entries stable nodes answers edge compact i (d ∷ ds) (None ∷ xs) h = absurd (false≢true (sym compact ∙ h.0.0))
-full_entries stable nodes answers edge compact i (d ∷ ds) (Some x ∷ xs) h =
-    full_entries stable nodes answers edge compact (i + 1) ds xs h.1
+    → kind ≡ Compact → (i : ℕ) (ds : List Data) (xs : List (Option T))
+    → ReadsEach (IsEntryRead kind nodes answers) ds (Ok (map (option_map edge) xs)) → vacant_from i xs ≡ []
+full_entries kind nodes answers edge compact i [] [] h = refl
+full_entries kind nodes answers edge compact i [] (x ∷ xs) h = absurd h
+full_entries kind nodes answers edge compact i (d ∷ ds) [] h = absurd h
+full_entries kind nodes answers edge compact i (d ∷ ds) (None ∷ xs) h = absurd (let bad = sym compact ∙ h.0.0 in cc)
+full_entries kind nodes answers edge compact i (d ∷ ds) (Some x ∷ xs) h =
+    full_entries kind nodes answers edge compact (i + 1) ds xs h.1

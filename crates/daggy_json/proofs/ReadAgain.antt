@@ -1,5 +1,5 @@
 -- What was written is read again, part by part.
-use Rattle.std.proofs.Common.{◌≡◌, ℕ, suc, ◌+◌, ◌<◌, Bool, true, Option, Some, None, IsSome, List, [], ◌∷◌, ◌++◌}
+use Rattle.std.proofs.Common.{◌≡◌, ℕ, suc, ◌+◌, ◌<◌, Option, Some, None, IsSome, List, [], ◌∷◌, ◌++◌}
 use Rattle.std.proofs.Common.{length, map, slice_get, refl, sym, ap, subst, ◌∙◌, arith}
 use Rattle.std.specs.Prelude.{Result, Ok, Err, MatchResult, Contains, option_and_then, codes}
 use Rattle.std.specs.List.{AllZip}
@@ -7,6 +7,8 @@ use Rattle.serde_json.specs.Data.{Data, null}
 use Rattle.daggy_base.specs.Graph.{Graph, Edge, slot, out_list, in_list}
 use Rattle.daggy_base.specs.Iterating.{numbered}
 use Rattle.daggy_base.specs.Orders.{lists_by_slots}
+use Rattle.daggy_base.specs.declared.kind.Kind.{Kind}
+use Rattle.daggy_base.specs.declared.kind.Kind.TheVariants.{Stable}
 use Rattle.daggy_json.specs.Document.{whole, listed, wholes, row_of, document_of, IsEntry}
 use Rattle.daggy_json.specs.Reading.{parts_in, array_in, whole_in, all_in, numbers_in, pair_in, orders_in, triple_in}
 use Rattle.daggy_json.specs.Reading.{ReadsEach, IsEntryRead, HasEnds}
@@ -117,11 +119,11 @@ abbrev pub IsRefused : {W V : Type 0}
 IsRefused {W} weight_as answers ws = (w : W) × Contains ws w × (d : Data) × weight_as w d × answers d None
 
 -- what an edge slot needs in order to be read
-abbrev pub CanBeRead : {N E : Type 0} → (stable : Bool) → List (Option N) → Option (Edge E) → Type 0
-CanBeRead stable nodes None = stable ≡ true
-CanBeRead stable nodes (Some x) = IsSome (slot nodes x.parent) × IsSome (slot nodes x.child)
+abbrev pub CanBeRead : {N E : Type 0} → (kind : Kind) → List (Option N) → Option (Edge E) → Type 0
+CanBeRead kind nodes None = kind ≡ Stable
+CanBeRead kind nodes (Some x) = IsSome (slot nodes x.parent) × IsSome (slot nodes x.child)
 
-module _ {N E F : Type 0} (stable : Bool) (nodes : List (Option N)) (weight_as : F → Data → Type 0)
+module _ {N E F : Type 0} (kind : Kind) (nodes : List (Option N)) (weight_as : F → Data → Type 0)
     (answers : Data → Option E → Type 0) where
   -- the edge is there, and a value that stands for its weight may be refused
   abbrev pub IsRefusedEdge : Option (Edge F) → Type 0
@@ -132,10 +134,10 @@ module _ {N E F : Type 0} (stable : Bool) (nodes : List (Option N)) (weight_as :
       MatchResult r (SlotAs (Through weight_as answers) weight_in with_weight x) (λ e. (e ≡ Weight) × IsRefusedEdge x)
 
   null_read : (d : Data) (r : Result (Option (Edge E)) ReadError)
-      → d ≡ null → stable ≡ true → IsEntryRead stable nodes answers d r → EntryRead None r
+      → d ≡ null → kind ≡ Stable → IsEntryRead kind nodes answers d r → EntryRead None r
   null_read d r is may says = go r (rw is at says)
     where
-      go : (r : Result (Option (Edge E)) ReadError) → IsEntryRead stable nodes answers null r → EntryRead None r
+      go : (r : Result (Option (Edge E)) ReadError) → IsEntryRead kind nodes answers null r → EntryRead None r
       go (Ok None) s = refl
       go (Ok (Some x)) s = let none : triple_in null ≡ None = refl in absurd cc
       go (Err Shape) s = absurd (s.1 (may, refl))
@@ -145,7 +147,7 @@ module _ {N E F : Type 0} (stable : Bool) (nodes : List (Option N)) (weight_as :
 
   edge_read : (x : Edge F) (w : Data) (r : Result (Option (Edge E)) ReadError)
       → weight_as x.weight w → HasEnds nodes (x.parent, x.child, w)
-      → IsEntryRead stable nodes answers (listed (whole x.parent ∷ whole x.child ∷ w ∷ [])) r → EntryRead (Some x) r
+      → IsEntryRead kind nodes answers (listed (whole x.parent ∷ whole x.child ∷ w ∷ [])) r → EntryRead (Some x) r
   edge_read x w r stands ends says = go r says
     where
       triple_of : Option (ℕ × ℕ × Data)
@@ -165,7 +167,7 @@ module _ {N E F : Type 0} (stable : Bool) (nodes : List (Option N)) (weight_as :
           (v, (w, stands, rw (ap (λ (t : ℕ × ℕ × Data). t.2) same) at s), refl)
 
       go : (r : Result (Option (Edge E)) ReadError)
-          → IsEntryRead stable nodes answers (listed (whole x.parent ∷ whole x.child ∷ w ∷ [])) r
+          → IsEntryRead kind nodes answers (listed (whole x.parent ∷ whole x.child ∷ w ∷ [])) r
           → EntryRead (Some x) r
       go (Ok None) s = absurd (let bad = s.1 in cc)
       go (Ok (Some y)) s = one_edge y.parent y.child y.weight s.0 s.1 s.3
@@ -180,7 +182,7 @@ module _ {N E F : Type 0} (stable : Bool) (nodes : List (Option N)) (weight_as :
       go (Err _) s = absurd s
 
   pub entry_read : (x : Option (Edge F)) (d : Data) (r : Result (Option (Edge E)) ReadError)
-      → IsEntry weight_as x d × CanBeRead stable nodes x → IsEntryRead stable nodes answers d r → EntryRead x r
+      → IsEntry weight_as x d × CanBeRead kind nodes x → IsEntryRead kind nodes answers d r → EntryRead x r
   entry_read None d r w says = null_read d r w.0 w.1 says
   entry_read (Some x) d r w says = edge_read x w.0.0 r w.0.1 w.1 (rw w.0.2 at says)
 

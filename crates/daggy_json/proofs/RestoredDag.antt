@@ -1,5 +1,5 @@
 -- The document of a dag is read as that dag.
-use Rattle.std.proofs.Common.{◌≡◌, ℕ, zero, suc, ◌+◌, ◌<◌, inl, inr, ◌⊎◌, Bool, true, false, min, Option, Some, None}
+use Rattle.std.proofs.Common.{◌≡◌, ℕ, zero, suc, ◌+◌, ◌<◌, inl, inr, ◌⊎◌, true, false, min, Option, Some, None}
 use Rattle.std.proofs.Common.{IsSome, is_some, List, [], ◌∷◌, length, map, take, slice_get, unwrap_or, refl, sym, ap}
 use Rattle.std.proofs.Common.{subst, ◌∙◌, arith}
 use Rattle.std.specs.Prelude.{Result, Ok, Err, IfOk, IfErr, MatchOption, MatchResult, Contains, codes, option_and_then}
@@ -25,6 +25,8 @@ use Rattle.daggy_base.proofs.FullSlots.{IsFull, full_from}
 use Rattle.daggy_base.proofs.Lists.{Contains-here, slice_get-take}
 use Rattle.daggy_base.proofs.EdgeTakenBack.{same_graph}
 use Rattle.daggy_base.proofs.Copies.{copy_same}
+use Rattle.daggy_base.specs.declared.kind.Kind.{Kind}
+use Rattle.daggy_base.specs.declared.kind.Kind.TheVariants.{Compact, Stable}
 use Rattle.daggy_json.specs.Document.{listed, row_of, holes_of, IsEntry, IsDocumentOf}
 use Rattle.daggy_json.specs.Reading.{Parts, orders_in, parts_in, AreHoles, AreFew, AreSlots, IsLaidOut, IsWeight}
 use Rattle.daggy_json.specs.Reading.{IsEntryRead, IsOrdered, IsTested, Then, IsLinked, IsFilled, IsRead}
@@ -131,13 +133,13 @@ module _ {N E : Type 0} (limit : ℕ) (g : Graph N E) (w : IsWellFormed limit g)
     node_kept n s = there n ∙ subst (λ o. is_some o ≡ true) (sym (slot_bounded g.nodes n)) s
 
     -- each entry can be read
-    entries_fit : (stable : Bool) → (stable ≡ false → IsCompact g)
-        → (i : ℕ) (x : Option (Edge E)) → slice_get kept_edges i ≡ Some x → CanBeRead stable nodes x
-    entries_fit true compact i None at = refl
-    entries_fit false compact i None at =
+    entries_fit : (kind : Kind) → (kind ≡ Compact → IsCompact g)
+        → (i : ℕ) (x : Option (Edge E)) → slice_get kept_edges i ≡ Some x → CanBeRead kind nodes x
+    entries_fit Stable compact i None at = refl
+    entries_fit Compact compact i None at =
         absurd (full_front (edge_bound g) g.edges
         (full_from g.edges g.vacant_edges w.edge_slots (compact refl).edges) i at)
-    entries_fit stable compact i (Some x) at =
+    entries_fit kind compact i (Some x) at =
         let was = edge_was i x (ap (option_and_then (λ z. z)) at) in
         (node_kept x.parent (w.parents i x was), node_kept x.child (w.children i x was))
 
@@ -224,13 +226,13 @@ module _ {N E : Type 0} (limit : ℕ) (g : Graph N E) (w : IsWellFormed limit g)
 
 -- ---- the stages
 
-no_layout_fault : (limit : ℕ) (stable : Bool) (p : Parts) → p.property ≡ codes "directed" → AreHoles stable p
-    → AreFew limit p → (fault : Option ReadError) → IsLaidOut limit stable p fault → fault ≡ None
-no_layout_fault limit stable p directed holes few None s = refl
-no_layout_fault limit stable p directed holes few (Some Property) s = absurd (s directed)
-no_layout_fault limit stable p directed holes few (Some Holes) s = absurd (s.1 holes)
-no_layout_fault limit stable p directed holes few (Some Full) s = absurd (s.2 few)
-no_layout_fault limit stable p directed holes few (Some _) s = absurd s
+no_layout_fault : (limit : ℕ) (kind : Kind) (p : Parts) → p.property ≡ codes "directed" → AreHoles kind p
+    → AreFew limit p → (fault : Option ReadError) → IsLaidOut limit kind p fault → fault ≡ None
+no_layout_fault limit kind p directed holes few None s = refl
+no_layout_fault limit kind p directed holes few (Some Property) s = absurd (s directed)
+no_layout_fault limit kind p directed holes few (Some Holes) s = absurd (s.1 holes)
+no_layout_fault limit kind p directed holes few (Some Full) s = absurd (s.2 few)
+no_layout_fault limit kind p directed holes few (Some _) s = absurd s
 
 -- the slots that are left of the edges hold no others
 edge_weight_in : {E : Type 0} (n i : ℕ) (xs : List (Option (Edge E))) (z : Edge E)
@@ -247,9 +249,9 @@ edge_weight_in (suc n) i (Some y ∷ xs) z (suc k, low, is) =
     let within = more.1 in
     (suc more.0, omega (arith, within), more.2)
 
-module _ {M F N E : Type 0} (limit : ℕ) (stable : Bool) (node_as : M → Data → Type 0) (edge_as : F → Data → Type 0)
+module _ {M F N E : Type 0} (limit : ℕ) (kind : Kind) (node_as : M → Data → Type 0) (edge_as : F → Data → Type 0)
     (node_answers : Data → Option N → Type 0) (edge_answers : Data → Option E → Type 0) (g : Graph M F)
-    (dag : IsDag limit g) (compact : stable ≡ false → IsCompact g) (d : Data) (doc : IsDocumentOf node_as edge_as g d) where
+    (dag : IsDag limit g) (compact : kind ≡ Compact → IsCompact g) (d : Data) (doc : IsDocumentOf node_as edge_as g d) where
   abbrev weights_read : M → N → Type 0
   weights_read = Through node_as node_answers
 
@@ -289,9 +291,9 @@ module _ {M F N E : Type 0} (limit : ℕ) (stable : Bool) (node_as : M → Data 
         slots_split 0 left,
       )
 
-  laid_out : (fault : Option ReadError) → IsLaidOut limit stable part fault → fault ≡ None
+  laid_out : (fault : Option ReadError) → IsLaidOut limit kind part fault → fault ≡ None
   laid_out =
-      no_layout_fault limit stable part refl (record {
+      no_layout_fault limit kind part refl (record {
         ascend =
             vacant_ascend 0 (length doc.weights + length (holes_of g)) left (omega (arith, few_slots));
         none = λ e.
@@ -342,19 +344,19 @@ module _ {M F N E : Type 0} (limit : ℕ) (stable : Bool) (node_as : M → Data 
             (orders_fit limit g dag.well_formed weights_read edge_weights_read nodes copied edges copied_edges))
 
     abbrev Reads : Data → Result (Option (Edge E)) ReadError → Type 0
-    Reads = IsEntryRead stable nodes edge_answers
+    Reads = IsEntryRead kind nodes edge_answers
 
     abbrev Entry : Option (Edge F) → Data → Type 0
-    Entry x k = IsEntry edge_as x k × CanBeRead stable nodes x
+    Entry x k = IsEntry edge_as x k × CanBeRead kind nodes x
 
     linked : (r : Result (Graph N E) ReadError)
-        → IsLinked limit stable node_answers edge_answers part nodes r → IsReadAgain r
+        → IsLinked limit kind node_answers edge_answers part nodes r → IsReadAgain r
     linked r t = go t.0 (each_read Reads Entry left_edges doc.entries t.0 written t.1) t.2
       where
         written : AllZip Entry left_edges doc.entries
         written =
-            zip_both (IsEntry edge_as) (CanBeRead stable nodes) left_edges doc.entries doc.edges
-            (entries_fit limit g dag.well_formed weights_read edge_weights_read nodes copied stable compact)
+            zip_both (IsEntry edge_as) (CanBeRead kind nodes) left_edges doc.entries doc.edges
+            (entries_fit limit g dag.well_formed weights_read edge_weights_read nodes copied kind compact)
 
         go : (x : Result (List (Option (Edge E))) ReadError)
             → MatchResult x (λ ys. AllZip (λ z y. ReadsThrough Reads Entry z (Ok y)) left_edges ys)
@@ -366,19 +368,19 @@ module _ {M F N E : Type 0} (limit : ℕ) (stable : Bool) (node_as : M → Data 
             ordered edges
             (copied_zip edge_weights_read weight_in with_weight 0 left_edges edges
             (zip_weaker (λ z y. ReadsThrough Reads Entry z (Ok y)) (SlotAs edge_weights_read weight_in with_weight)
-            (λ z y h. entry_read stable nodes edge_as edge_answers z h.0 (Ok y) h.1 h.2) left_edges edges zip)) r next
+            (λ z y h. entry_read kind nodes edge_as edge_answers z h.0 (Ok y) h.1 h.2) left_edges edges zip)) r next
         go (Err e) (z, has, (k, entry, reads)) next =
-            let refused = entry_read stable nodes edge_as edge_answers z k (Err e) entry reads in
+            let refused = entry_read kind nodes edge_as edge_answers z k (Err e) entry reads in
             let found = refused.1 in
             let listed_there = edge_weight_in (edge_bound g) 0 g.edges found.0 (rw found.1 at has) in
             rw next (refused.0, inr (found.0.weight, listed_there, found.2, found.3, found.4))
 
   abbrev Staged : Result (Graph N E) ReadError → Parts → Option ReadError → Type 0
-  Staged r p fault = MatchOption fault (IsFilled limit stable node_answers edge_answers p r) (λ e. r ≡ Err e)
+  Staged r p fault = MatchOption fault (IsFilled limit kind node_answers edge_answers p r) (λ e. r ≡ Err e)
 
   -- what was written of a dag is read as that dag, with what may be read of its weights
   pub read_again : (r : Result (Graph N E) ReadError)
-      → IsRead limit stable node_answers edge_answers d r → IsReadAgain r
+      → IsRead limit kind node_answers edge_answers d r → IsReadAgain r
   read_again r read = go filled.0 (each_read (IsWeight node_answers) node_as (node_weights g) doc.weights filled.0
       doc.nodes filled.1) filled.2
     where
@@ -386,12 +388,12 @@ module _ {M F N E : Type 0} (limit : ℕ) (stable : Bool) (node_as : M → Data 
       found =
           ap parts_in doc.is ∙ parts_again doc.entries (holes_of g) doc.weights (map (row_of g) (node_identifiers g))
 
-      staged : (fault : Option ReadError) × IsLaidOut limit stable part fault × Staged r part fault
+      staged : (fault : Option ReadError) × IsLaidOut limit kind part fault × Staged r part fault
       staged =
           MatchOption-at_some (r ≡ Err Shape)
-          (λ p. (fault : Option ReadError) × IsLaidOut limit stable p fault × Staged r p fault) part found read
+          (λ p. (fault : Option ReadError) × IsLaidOut limit kind p fault × Staged r p fault) part found read
 
-      filled : IsFilled limit stable node_answers edge_answers part r
+      filled : IsFilled limit kind node_answers edge_answers part r
       filled = subst (Staged r part) (laid_out staged.0 staged.1) staged.2
 
       go : (x : Result (List N) ReadError)
@@ -399,7 +401,7 @@ module _ {M F N E : Type 0} (limit : ℕ) (stable : Bool) (node_as : M → Data 
           (λ ws. AllZip (λ w y. ReadsThrough (IsWeight node_answers) node_as w (Ok y)) (node_weights g) ws)
           (λ e. (w : M) × Contains (node_weights g) w × ReadsThrough (IsWeight node_answers) node_as w (Err e))
           → MatchResult x (λ ws. (nodes : List (Option N)) × AreSlots nodes (holes_of g) ws
-          × IsLinked limit stable node_answers edge_answers part nodes r) (λ e. r ≡ Err e)
+          × IsLinked limit kind node_answers edge_answers part nodes r) (λ e. r ≡ Err e)
           → IsReadAgain r
       go (Ok ws) zip (nodes, slots, next) =
           linked nodes (copied_nodes weights_read 0 left nodes slots.vacant
@@ -408,14 +410,14 @@ module _ {M F N E : Type 0} (limit : ℕ) (stable : Bool) (node_as : M → Data 
           rw next (weight, inl (w, has, k, stands, refused))
 
 -- what was written of a dag is read as that dag, if each of its weights is read as it was
-pub restored : {N E : Type 0} (limit : ℕ) (stable : Bool) (node_answers : Data → Option N → Type 0)
-    (edge_answers : Data → Option E → Type 0) (g : Graph N E) → IsDag limit g → (stable ≡ false → IsCompact g)
+pub restored : {N E : Type 0} (limit : ℕ) (kind : Kind) (node_answers : Data → Option N → Type 0)
+    (edge_answers : Data → Option E → Type 0) (g : Graph N E) → IsDag limit g → (kind ≡ Compact → IsCompact g)
     → (d : Data) → IsDocumentOf (ReadsOnly node_answers) (ReadsOnly edge_answers) g d
     → (r : Result (Graph N E) ReadError)
-    → IsRead limit stable node_answers edge_answers d r → MatchResult r (λ h. h ≡ trimmed g) (λ e. ⊥)
-restored limit stable node_answers edge_answers g dag compact d doc r read =
+    → IsRead limit kind node_answers edge_answers d r → MatchResult r (λ h. h ≡ trimmed g) (λ e. ⊥)
+restored limit kind node_answers edge_answers g dag compact d doc r read =
     MatchResult-weaker r
-    (read_again limit stable (ReadsOnly node_answers) (ReadsOnly edge_answers) node_answers edge_answers g dag compact d
+    (read_again limit kind (ReadsOnly node_answers) (ReadsOnly edge_answers) node_answers edge_answers g dag compact d
     doc r read)
     (copy_same (Through (ReadsOnly node_answers) node_answers) (Through (ReadsOnly edge_answers) edge_answers)
     (only node_answers) (only edge_answers) (trimmed g))
@@ -432,15 +434,15 @@ restored limit stable node_answers edge_answers g dag compact d doc r read =
     never answers ws (w, has, d, reads, refused) = none-some w (reads None refused)
 
 -- what was written of a dag of values is read as that dag, with what may be read of them
-pub values_again : {N E : Type 0} (limit : ℕ) (stable : Bool) (node_answers : Data → Option N → Type 0)
-    (edge_answers : Data → Option E → Type 0) (g : Graph Data Data) → IsDag limit g → (stable ≡ false → IsCompact g)
+pub values_again : {N E : Type 0} (limit : ℕ) (kind : Kind) (node_answers : Data → Option N → Type 0)
+    (edge_answers : Data → Option E → Type 0) (g : Graph Data Data) → IsDag limit g → (kind ≡ Compact → IsCompact g)
     → (d : Data) → IsDocumentOf (λ w v. w ≡ v) (λ w v. w ≡ v) g d → (r : Result (Graph N E) ReadError)
-    → IsRead limit stable node_answers edge_answers d r
+    → IsRead limit kind node_answers edge_answers d r
     → MatchResult r (IsCopyAs (ReadsTo node_answers) (ReadsTo edge_answers) (trimmed g))
     (λ e. (e ≡ Weight) × HasRefused node_answers edge_answers g)
-values_again limit stable node_answers edge_answers g dag compact d doc r read =
+values_again limit kind node_answers edge_answers g dag compact d doc r read =
     MatchResult-weaker r
-    (read_again limit stable (λ w v. w ≡ v) (λ w v. w ≡ v) node_answers edge_answers g dag compact d doc r read)
+    (read_again limit kind (λ w v. w ≡ v) (λ w v. w ≡ v) node_answers edge_answers g dag compact d doc r read)
     (copy_weaker (Through (λ w v. w ≡ v) node_answers) (ReadsTo node_answers) (Through (λ w v. w ≡ v) edge_answers)
     (ReadsTo edge_answers) (given node_answers) (given edge_answers) (trimmed g))
     (λ e h. (

@@ -1,5 +1,5 @@
 -- Weights and entries that were read so far.
-use Rattle.std.proofs.Common.{◌≡◌, ℕ, suc, ◌+◌, ◌<◌, Bool, IsSome, Option, Some, None, List, [], ◌∷◌, ◌++◌, length}
+use Rattle.std.proofs.Common.{◌≡◌, ℕ, suc, ◌+◌, ◌<◌, IsSome, Option, Some, None, List, [], ◌∷◌, ◌++◌, length}
 use Rattle.std.proofs.Common.{get_or, take, drop, map, sym, ap, ◌∙◌, drop-cons}
 use Rattle.std.specs.Prelude.{Result, Ok, Err}
 use Rattle.std.specs.List.{AllZip}
@@ -7,6 +7,7 @@ use Rattle.std.proofs.lemmas.List.{map-append, take_more, take-append-drop}
 use Rattle.serde_json.specs.Data.{Data}
 use Rattle.serde_json.specs.View.{view}
 use Rattle.serde_json.specs.declared.value.Value.{Value}
+use Rattle.daggy_base.specs.declared.kind.Kind.{Kind}
 use Rattle.daggy_json.specs.Reading.{ReadsEach, Ascend, triple_in, IsEntryRead}
 use Rattle.daggy_base.specs.Graph.{slot}
 use Rattle.daggy_json.specs.declared.error.ReadError.{ReadError}
@@ -49,11 +50,11 @@ pub record AscendSoFar (high : ℕ) (hs : List ℕ) (i low : ℕ) : Type 0 where
 
 -- ---- entries
 
-module _ {N E : Type 0} (stable : Bool) (nodes : List (Option N)) (answers : Data → Option E → Type 0) (d : Data)
+module _ {N E : Type 0} (kind : Kind) (nodes : List (Option N)) (answers : Data → Option E → Type 0) (d : Data)
     {p q : ℕ} {w : Data} (found : Some (p, q, w) ≡ triple_in d) (parent : IsSome (slot nodes p))
     (child : IsSome (slot nodes q)) where
   pub entry_some : {p' q' : ℕ} (x : E) → p' ≡ p → q' ≡ q → answers w (Some x)
-      → IsEntryRead stable nodes answers d (Ok (Some (record { parent = p'; child = q'; weight = x })))
+      → IsEntryRead kind nodes answers d (Ok (Some (record { parent = p'; child = q'; weight = x })))
   entry_some {p'} x is is' says = (
     w,
     sym found ∙ (ap (λ k. Some (k, q, w)) (sym is) ∙ ap (λ k. Some (p', k, w)) (sym is')),
@@ -61,5 +62,5 @@ module _ {N E : Type 0} (stable : Bool) (nodes : List (Option N)) (answers : Dat
     says,
   )
 
-  pub entry_refused : answers w None → IsEntryRead stable nodes answers d (Err Weight)
+  pub entry_refused : answers w None → IsEntryRead kind nodes answers d (Err Weight)
   entry_refused says = ((p, q, w), sym found, (parent, child), says)

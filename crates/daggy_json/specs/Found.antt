@@ -11,6 +11,7 @@ use Rattle.daggy_base.specs.declared.index.Direction.{Direction}
 use Rattle.daggy_base.specs.declared.index.Direction.TheVariants.{Outgoing, Incoming}
 use Rattle.daggy_base.specs.Graph.{Graph, Edge, slot, near_end}
 use Rattle.daggy_base.specs.FromSlots.{has_end}
+use Rattle.daggy_base.specs.declared.kind.Kind.{Kind}
 pub use Rattle.daggy_base.specs.FromSlots.{edge_of}
 use Rattle.daggy_base.specs.Orders.{with_orders, numbers_of}
 use Rattle.daggy_json.specs.Reading.{Parts, whole_in, array_in, all_in, IsLaidOut, ReadsEach, IsWeight, AreSlots}
@@ -111,14 +112,14 @@ EndsExist {N} {E} nodes edges =
 
 -- the nodes were read, in a document with a valid layout
 abbrev pub AreNodesRead : {N : Type 0}
-    → (limit : ℕ) (stable : Bool) (answers : Data → Option N → Type 0) → Parts → List (Option N) → Type 0
-AreNodesRead {N} limit stable answers p nodes =
-    IsLaidOut limit stable p None
+    → (limit : ℕ) (kind : Kind) (answers : Data → Option N → Type 0) → Parts → List (Option N) → Type 0
+AreNodesRead {N} limit kind answers p nodes =
+    IsLaidOut limit kind p None
     × ((weights : List N) × ReadsEach (IsWeight answers) p.nodes (Ok weights) × AreSlots nodes p.holes weights)
 
 -- the first fault up to that point
 abbrev pub IsNodesFault : {N : Type 0}
-    → (limit : ℕ) (stable : Bool) (answers : Data → Option N → Type 0) → Parts → ReadError → Type 0
-IsNodesFault {N} limit stable answers p e =
-    IsLaidOut limit stable p (Some e)
-    ⊎ (IsLaidOut limit stable p None × ReadsEach {A = N} (IsWeight answers) p.nodes (Err e))
+    → (limit : ℕ) (kind : Kind) (answers : Data → Option N → Type 0) → Parts → ReadError → Type 0
+IsNodesFault {N} limit kind answers p e =
+    IsLaidOut limit kind p (Some e)
+    ⊎ (IsLaidOut limit kind p None × ReadsEach {A = N} (IsWeight answers) p.nodes (Err e))

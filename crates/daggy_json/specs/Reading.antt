@@ -1,5 +1,5 @@
 -- What a value is read as: a graph, or its first fault.
-use Rattle.std.specs.Prelude.{◌≡◌, ℕ, ◌+◌, ◌<◌, ◌≤◌, Bool, true, false, Option, Some, None, IsSome, option_and_then}
+use Rattle.std.specs.Prelude.{◌≡◌, ℕ, ◌+◌, ◌<◌, ◌≤◌, Option, Some, None, IsSome, option_and_then}
 use Rattle.std.specs.Prelude.{Result, Ok, Err, List, [], ◌∷◌, ◌++◌, length, map, codes, MatchOption, MatchResult}
 use Rattle.std.specs.List.{AllZip}
 use Rattle.std.specs.Option.{option_map}
@@ -9,6 +9,8 @@ use Rattle.daggy_base.specs.Graph.{Graph, Edge, slot}
 use Rattle.daggy_base.specs.FromSlots.{graph_of_slots}
 use Rattle.daggy_base.specs.Iterating.{numbered}
 use Rattle.daggy_base.specs.Path.{IsAcyclic}
+use Rattle.daggy_base.specs.declared.kind.Kind.{Kind}
+use Rattle.daggy_base.specs.declared.kind.Kind.TheVariants.{Compact, Stable}
 use Rattle.daggy_json.specs.Document.{vacant_from}
 use Rattle.daggy_base.specs.Orders.{AreOrders, with_orders}
 use Rattle.daggy_json.specs.declared.error.ReadError.{ReadError}
@@ -83,10 +85,10 @@ Ascend low high (h ∷ hs) = (low ≤ h) × (h < high) × Ascend (h + 1) high hs
 abbrev pub slots_of : Parts → ℕ
 slots_of p = length p.nodes + length p.holes
 
--- the holes ascend below the number of slots; there are none if no slot may be vacant
-pub record AreHoles (stable : Bool) (p : Parts) : Type 0 where
+-- the holes ascend below the number of slots; there are none in the compact kind
+pub record AreHoles (kind : Kind) (p : Parts) : Type 0 where
   pub ascend : Ascend 0 (slots_of p) p.holes
-  pub none : stable ≡ false → p.holes ≡ []
+  pub none : kind ≡ Compact → p.holes ≡ []
 
 -- there is an index for each slot
 pub record AreFew (limit : ℕ) (p : Parts) : Type 0 where
@@ -94,12 +96,12 @@ pub record AreFew (limit : ℕ) (p : Parts) : Type 0 where
   pub edges : length p.edges ≤ limit
 
 -- the property, the holes and the numbers of slots, checked in this order
-abbrev pub IsLaidOut : (limit : ℕ) (stable : Bool) → Parts → Option ReadError → Type 0
-IsLaidOut limit stable p None = (p.property ≡ codes "directed") × AreHoles stable p × AreFew limit p
-IsLaidOut limit stable p (Some Property) = ¬ (p.property ≡ codes "directed")
-IsLaidOut limit stable p (Some Holes) = (p.property ≡ codes "directed") × ¬ AreHoles stable p
-IsLaidOut limit stable p (Some Full) = (p.property ≡ codes "directed") × AreHoles stable p × ¬ AreFew limit p
-IsLaidOut limit stable p (Some _) = ⊥
+abbrev pub IsLaidOut : (limit : ℕ) (kind : Kind) → Parts → Option ReadError → Type 0
+IsLaidOut limit kind p None = (p.property ≡ codes "directed") × AreHoles kind p × AreFew limit p
+IsLaidOut limit kind p (Some Property) = ¬ (p.property ≡ codes "directed")
+IsLaidOut limit kind p (Some Holes) = (p.property ≡ codes "directed") × ¬ AreHoles kind p
+IsLaidOut limit kind p (Some Full) = (p.property ≡ codes "directed") × AreHoles kind p × ¬ AreFew limit p
+IsLaidOut limit kind p (Some _) = ⊥
 
 -- ---- weights and entries
 
@@ -135,17 +137,17 @@ abbrev pub HasEnds : {N : Type 0} → List (Option N) → ℕ × ℕ × Data →
 HasEnds nodes t = IsSome (slot nodes t.0) × IsSome (slot nodes t.1)
 
 -- the entry of an edge slot: its shape, its endpoints and its weight, checked in this order
-abbrev pub IsEntryRead : {N E : Type 0} → (stable : Bool) → (nodes : List (Option N))
+abbrev pub IsEntryRead : {N E : Type 0} → (kind : Kind) → (nodes : List (Option N))
     → (answers : Data → Option E → Type 0) → Data → Result (Option (Edge E)) ReadError → Type 0
-IsEntryRead stable nodes answers d (Ok None) = (stable ≡ true) × (d ≡ null)
-IsEntryRead stable nodes answers d (Ok (Some x)) =
+IsEntryRead kind nodes answers d (Ok None) = (kind ≡ Stable) × (d ≡ null)
+IsEntryRead kind nodes answers d (Ok (Some x)) =
     (w : Data) × (triple_in d ≡ Some (x.parent, x.child, w)) × HasEnds nodes (x.parent, x.child, w)
     × answers w (Some x.weight)
-IsEntryRead stable nodes answers d (Err Shape) = (triple_in d ≡ None) × ¬ ((stable ≡ true) × (d ≡ null))
-IsEntryRead stable nodes answers d (Err BadEndpoint) = (t : ℕ × ℕ × Data) × (triple_in d ≡ Some t) × ¬ HasEnds nodes t
-IsEntryRead stable nodes answers d (Err Weight) =
+IsEntryRead kind nodes answers d (Err Shape) = (triple_in d ≡ None) × ¬ ((kind ≡ Stable) × (d ≡ null))
+IsEntryRead kind nodes answers d (Err BadEndpoint) = (t : ℕ × ℕ × Data) × (triple_in d ≡ Some t) × ¬ HasEnds nodes t
+IsEntryRead kind nodes answers d (Err Weight) =
     (t : ℕ × ℕ × Data) × (triple_in d ≡ Some t) × HasEnds nodes t × answers t.2 None
-IsEntryRead stable nodes answers d (Err _) = ⊥
+IsEntryRead kind nodes answers d (Err _) = ⊥
 
 -- ---- orders and cycles
 
@@ -182,12 +184,12 @@ abbrev pub Then : {A B : Type 0}
     → (Result A ReadError → Type 0) → (A → Result B ReadError → Type 0) → Result B ReadError → Type 0
 Then {A} first next r = (x : Result A ReadError) × first x × MatchResult x (λ a. next a r) (λ e. r ≡ Err e)
 
-module _ {N E : Type 0} (limit : ℕ) (stable : Bool) (node_answers : Data → Option N → Type 0)
+module _ {N E : Type 0} (limit : ℕ) (kind : Kind) (node_answers : Data → Option N → Type 0)
     (edge_answers : Data → Option E → Type 0) where
   -- the edges between these nodes, the orders, and whether there is a cycle
   abbrev pub IsLinked : Parts → List (Option N) → Result (Graph N E) ReadError → Type 0
   IsLinked p nodes =
-      Then (ReadsEach (IsEntryRead stable nodes edge_answers) p.edges)
+      Then (ReadsEach (IsEntryRead kind nodes edge_answers) p.edges)
       (λ edges. Then (IsOrdered (graph_of_slots nodes edges) p.orders) IsTested)
 
   -- the weights of the nodes in their slots, and then the rest
@@ -196,8 +198,8 @@ module _ {N E : Type 0} (limit : ℕ) (stable : Bool) (node_answers : Data → O
       Then (ReadsEach (IsWeight node_answers) p.nodes)
       (λ weights r. (nodes : List (Option N)) × AreSlots nodes p.holes weights × IsLinked p nodes r)
 
-  -- The value is read as this graph, or this is its first fault. Slots may be vacant in the stable kind.
+  -- the value is read as this graph, or this is its first fault
   abbrev pub IsRead : Data → Result (Graph N E) ReadError → Type 0
   IsRead d r =
       MatchOption (parts_in d) (r ≡ Err Shape) (λ p.
-      (fault : Option ReadError) × IsLaidOut limit stable p fault × MatchOption fault (IsFilled p r) (λ e. r ≡ Err e))
+      (fault : Option ReadError) × IsLaidOut limit kind p fault × MatchOption fault (IsFilled p r) (λ e. r ≡ Err e))

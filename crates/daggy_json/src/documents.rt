@@ -1,5 +1,5 @@
 //! Dags of both kinds, written as JSON values and read from them.
-ghost use Rattle.std.specs.Prelude.{◌≡◌, ◌⊎◌, true, false, Ok, Err, IfOk, IfErr, MatchResult};
+ghost use Rattle.std.specs.Prelude.{◌≡◌, ◌⊎◌, Ok, Err, IfOk, IfErr, MatchResult};
 ghost use Rattle.serde_json.specs.Data.{Data};
 ghost use Rattle.serde_json.specs.View.{view};
 ghost use Rattle.daggy_base.specs.Graph.{Graph, IsCompact};
@@ -120,10 +120,10 @@ pub fn dag_from_json<
     requires nodes { F.IsAlwaysCallable fn_node }
     requires edges { G.IsAlwaysCallable fn_edge }
     ensures ok { IfOk result (λ d.
-        IsRead Ix.greatest false (ReadsAs F.Fn fn_node) (ReadsAs G.Fn fn_edge) (view value.now)
+        IsRead Ix.greatest Compact (ReadsAs F.Fn fn_node) (ReadsAs G.Fn fn_edge) (view value.now)
         (Ok d.graph)) }
     ensures err { IfErr result
-        (λ e. (e ≡ Memory) ⊎ IsRead {N = N} {E = E} Ix.greatest false (ReadsAs F.Fn fn_node)
+        (λ e. (e ≡ Memory) ⊎ IsRead {N = N} {E = E} Ix.greatest Compact (ReadsAs F.Fn fn_node)
         (ReadsAs G.Fn fn_edge) (view value.now) (Err e)) }
     // The document of a dag is read as that dag, if each encoded weight decodes only to itself.
     ensures restored { (g : Graph N E) → IsDag Ix.greatest g → IsCompact g
@@ -139,7 +139,7 @@ pub fn dag_from_json<
         (λ e. (e ≡ Memory)
         ⊎ (e ≡ Weight) × HasRefused (ReadsAs F.Fn fn_node) (ReadsAs G.Fn fn_edge) g) }
 {
-    read(alloc, value, false, &fn_node, &fn_edge)
+    read(alloc, value, &fn_node, &fn_edge)
 }
 
 /// The stable dag that a value is read as, as [`dag_from_json`] reads a dag. Node slots are vacant
@@ -156,10 +156,10 @@ pub fn stable_from_json<
     requires nodes { F.IsAlwaysCallable fn_node }
     requires edges { G.IsAlwaysCallable fn_edge }
     ensures ok { IfOk result (λ d.
-        IsRead Ix.greatest true (ReadsAs F.Fn fn_node) (ReadsAs G.Fn fn_edge) (view value.now)
+        IsRead Ix.greatest Stable (ReadsAs F.Fn fn_node) (ReadsAs G.Fn fn_edge) (view value.now)
         (Ok d.graph)) }
     ensures err { IfErr result
-        (λ e. (e ≡ Memory) ⊎ IsRead {N = N} {E = E} Ix.greatest true (ReadsAs F.Fn fn_node)
+        (λ e. (e ≡ Memory) ⊎ IsRead {N = N} {E = E} Ix.greatest Stable (ReadsAs F.Fn fn_node)
         (ReadsAs G.Fn fn_edge) (view value.now) (Err e)) }
     // The document of a dag is read as that dag, if each encoded weight decodes only to itself.
     ensures restored { (g : Graph N E) → IsDag Ix.greatest g
@@ -176,5 +176,5 @@ pub fn stable_from_json<
         (λ e. (e ≡ Memory)
         ⊎ (e ≡ Weight) × HasRefused (ReadsAs F.Fn fn_node) (ReadsAs G.Fn fn_edge) g) }
 {
-    read(alloc, value, true, &fn_node, &fn_edge)
+    read(alloc, value, &fn_node, &fn_edge)
 }

@@ -1,5 +1,5 @@
 //! Building the dag of a valid document.
-ghost use Rattle.std.specs.Prelude.{◌≡◌, ◌≤◌, ◌⊎◌, [], false, Ok, Err, map, length, IfOk, IfErr};
+ghost use Rattle.std.specs.Prelude.{◌≡◌, ◌≤◌, ◌⊎◌, [], Ok, Err, map, length, IfOk, IfErr};
 ghost use Rattle.std.specs.Prelude.{IfSome};
 ghost use Rattle.std.specs.Option.{option_map};
 ghost use Rattle.serde_json.specs.View.{view};
@@ -59,7 +59,7 @@ fn make<N: Drop, E: Drop, Ix: IndexType, S: Store<Ix, NodeWeight = N, EdgeWeight
     Ok(dag)
 }
 
-// The dag that the value is read as. Slots may be vacant if `stable`.
+// The dag that the value is read as.
 pub(crate) fn read<
     N: Drop,
     E: Drop,
@@ -67,22 +67,15 @@ pub(crate) fn read<
     S: Store<Ix, NodeWeight = N, EdgeWeight = E>,
     F: Fn(&Value) -> Result<Option<N>, AllocError>,
     G: Fn(&Value) -> Result<Option<E>, AllocError>,
->(
-    alloc: Global,
-    value: &Value,
-    stable: bool,
-    fn_node: &F,
-    fn_edge: &G,
-) -> Result<Acyclic<N, E, Ix, S>, ReadError>
+>(alloc: Global, value: &Value, fn_node: &F, fn_edge: &G) -> Result<Acyclic<N, E, Ix, S>, ReadError>
     requires nodes { F.IsAlwaysCallable fn_node.now }
     requires edges { G.IsAlwaysCallable fn_edge.now }
-    requires kind { S.KIND ≡ Compact → stable ≡ false }
     ensures ok { IfOk result (λ d.
-        IsRead Ix.greatest stable (ReadsAs F.Fn fn_node.now) (ReadsAs G.Fn fn_edge.now)
+        IsRead Ix.greatest S.KIND (ReadsAs F.Fn fn_node.now) (ReadsAs G.Fn fn_edge.now)
         (view value.now) (Ok d.graph)) }
     ensures err { IfErr result
-        (λ e. (e ≡ Memory) ⊎ IsRead {N = N} {E = E} Ix.greatest stable (ReadsAs F.Fn fn_node.now)
+        (λ e. (e ≡ Memory) ⊎ IsRead {N = N} {E = E} Ix.greatest S.KIND (ReadsAs F.Fn fn_node.now)
         (ReadsAs G.Fn fn_edge.now) (view value.now) (Err e)) }
 {
-    make(alloc, gather(alloc, value, stable, fn_node, fn_edge)?)
+    make(alloc, gather(alloc, value, S::KIND, fn_node, fn_edge)?)
 }

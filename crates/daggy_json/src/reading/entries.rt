@@ -12,6 +12,7 @@ ghost use Rattle.daggy_json.specs.declared.error.ReadError.TheVariants.{Memory};
 
 use crate::error::ReadError;
 use daggy_base::index::{IndexType, NodeIndex};
+use daggy_base::kind::Kind;
 use serde_json::Value;
 use std::alloc::{AllocError, Global};
 
@@ -39,19 +40,19 @@ fn is_node<N>(nodes: &Vec<Option<N>>, i: usize) -> bool
 // An entry of an edge slot.
 fn read_entry<N, E: Drop, Ix: IndexType, G: Fn(&Value) -> Result<Option<E>, AllocError>>(
     value: &Value,
-    stable: bool,
+    kind: Kind,
     nodes: &Vec<Option<N>>,
     fn_edge: &G,
 ) -> Result<Option<(NodeIndex<Ix>, NodeIndex<Ix>, E)>, ReadError>
     requires callable { G.IsAlwaysCallable fn_edge.now }
     requires few { vec_len nodes.now ≤ Ix.greatest }
     ensures ok { IfOk result
-        (λ x. IsEntryRead stable nodes.now.items (ReadsAs G.Fn fn_edge.now) (view value.now)
+        (λ x. IsEntryRead kind nodes.now.items (ReadsAs G.Fn fn_edge.now) (view value.now)
         (Ok (option_map (edge_of Ix.number) x))) }
     ensures err { IfErr result (λ e. (e ≡ Memory)
-        ⊎ IsEntryRead stable nodes.now.items (ReadsAs G.Fn fn_edge.now) (view value.now) (Err e)) }
+        ⊎ IsEntryRead kind nodes.now.items (ReadsAs G.Fn fn_edge.now) (view value.now) (Err e)) }
 {
-    if stable && value.is_null() {
+    if kind == Kind::Stable && value.is_null() {
         return Ok(None);
     }
     let Some(found) = find_triple(value) else {
@@ -76,23 +77,23 @@ pub(super) fn read_entries<
 >(
     alloc: Global,
     list: &Vec<Value>,
-    stable: bool,
+    kind: Kind,
     nodes: &Vec<Option<N>>,
     fn_edge: &G,
 ) -> Result<Vec<Option<(NodeIndex<Ix>, NodeIndex<Ix>, E)>>, ReadError>
     requires callable { G.IsAlwaysCallable fn_edge.now }
     requires few { vec_len nodes.now ≤ Ix.greatest }
     ensures ok { IfOk result
-        (λ v. ReadsEach (IsEntryRead stable nodes.now.items (ReadsAs G.Fn fn_edge.now))
+        (λ v. ReadsEach (IsEntryRead kind nodes.now.items (ReadsAs G.Fn fn_edge.now))
         (map view list.now.items) (Ok (edges_by Ix.number v.items))) }
     ensures err { IfErr result (λ e. (e ≡ Memory)
-        ⊎ ReadsEach (IsEntryRead stable nodes.now.items (ReadsAs G.Fn fn_edge.now))
+        ⊎ ReadsEach (IsEntryRead kind nodes.now.items (ReadsAs G.Fn fn_edge.now))
         (map view list.now.items) (Err e)) }
 {
     let mut edges = Vec::new(alloc);
     edges.reserve(list.len())?;
     for value in list {
-        edges.push(read_entry(value, stable, nodes, fn_edge)?)?;
+        edges.push(read_entry(value, kind, nodes, fn_edge)?)?;
     }
     Ok(edges)
 }

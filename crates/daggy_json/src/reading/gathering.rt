@@ -1,11 +1,12 @@
 //! The slots and the orders of a document, before a dag is made of them.
-ghost use Rattle.std.specs.Prelude.{◌≡◌, ◌≤◌, ◌⊎◌, [], false, IfSome, Result, Ok, Err, map, length};
+ghost use Rattle.std.specs.Prelude.{◌≡◌, ◌≤◌, ◌⊎◌, [], IfSome, Result, Ok, Err, map, length};
 ghost use Rattle.std.specs.Prelude.{vec_len, IfOk, IfErr};
 ghost use Rattle.std.specs.Option.{option_map};
 ghost use Rattle.serde_json.specs.View.{view};
 ghost use Rattle.daggy_base.specs.Graph.{Graph};
 ghost use Rattle.daggy_base.specs.FromSlots.{graph_of_slots, edges_by};
 ghost use Rattle.daggy_base.specs.Orders.{AreOrders, numbers_of};
+ghost use Rattle.daggy_base.specs.declared.kind.Kind.TheVariants.{Compact};
 ghost use Rattle.daggy_json.specs.Document.{vacant_from};
 ghost use Rattle.daggy_json.specs.Reading.{IsOrdered, IsRead, IsTested};
 ghost use Rattle.daggy_json.specs.Found.{ordered, orders_by, EndsExist, parts_of, AreNodesRead};
@@ -22,6 +23,7 @@ use crate::reading::parts::{Parts, read_parts};
 use crate::reading::rearranged::{Slot, are_orders};
 use crate::reading::weights::{place_weights, read_weights};
 use daggy_base::index::IndexType;
+use daggy_base::kind::Kind;
 use serde_json::Value;
 use std::alloc::{AllocError, Global};
 
@@ -73,25 +75,25 @@ pub struct Gathered<N, E, Ix> {
 fn gather_nodes<N: Drop, Ix: IndexType, F: Fn(&Value) -> Result<Option<N>, AllocError>>(
     alloc: Global,
     parts: &Parts,
-    stable: bool,
+    kind: Kind,
     fn_node: &F,
 ) -> Result<Vec<Option<N>>, ReadError>
     requires { F.IsAlwaysCallable fn_node.now }
-    ensures ok { IfOk result (λ v. AreNodesRead Ix.greatest stable (ReadsAs F.Fn fn_node.now)
+    ensures ok { IfOk result (λ v. AreNodesRead Ix.greatest kind (ReadsAs F.Fn fn_node.now)
         (parts_of parts.now.nodes.now.items parts.now.holes.items parts.now.property.now
         parts.now.edges.now.items parts.now.orders) v.items) }
     ensures err { IfErr result
-        (λ e. (e ≡ Memory) ⊎ IsNodesFault Ix.greatest stable (ReadsAs F.Fn fn_node.now)
+        (λ e. (e ≡ Memory) ⊎ IsNodesFault Ix.greatest kind (ReadsAs F.Fn fn_node.now)
         (parts_of parts.now.nodes.now.items parts.now.holes.items parts.now.property.now
         parts.now.edges.now.items parts.now.orders) e) }
 {
-    check_layout::<Ix>(stable, parts)?;
+    check_layout::<Ix>(kind, parts)?;
     let weights = read_weights(alloc, parts.nodes, fn_node)?;
     Ok(place_weights(alloc, weights, &parts.holes)?)
 }
 
 /// The slots and the orders of the document that a value is read as, or its first fault. Cycles are
-/// not checked. Slots may be vacant if `stable`.
+/// not checked. Slots may be vacant in the stable kind.
 pub fn gather<
     N: Drop,
     E: Drop,
@@ -101,7 +103,7 @@ pub fn gather<
 >(
     alloc: Global,
     value: &Value,
-    stable: bool,
+    kind: Kind,
     fn_node: &F,
     fn_edge: &G,
 ) -> Result<Gathered<N, E, Ix>, ReadError>
@@ -110,23 +112,23 @@ pub fn gather<
     ensures ok { IfOk result (λ s. (r : Result (Graph N E) ReadError)
         → IsTested (ordered (graph_of_slots s.nodes.items (edges_by Ix.number s.edges.items))
         (orders_by Ix.number s.orders)) r
-        → IsRead Ix.greatest stable (ReadsAs F.Fn fn_node.now) (ReadsAs G.Fn fn_edge.now)
+        → IsRead Ix.greatest kind (ReadsAs F.Fn fn_node.now) (ReadsAs G.Fn fn_edge.now)
         (view value.now) r) }
     ensures few_nodes { IfOk result (λ s. length s.nodes.items ≤ Ix.greatest) }
     ensures few_edges { IfOk result (λ s. length s.edges.items ≤ Ix.greatest) }
     ensures ends { IfOk result (λ s. EndsExist s.nodes.items (edges_by Ix.number s.edges.items)) }
-    ensures full_nodes { IfOk result (λ s. stable ≡ false → vacant_from 0 s.nodes.items ≡ []) }
-    ensures full_edges { IfOk result (λ s. stable ≡ false → vacant_from 0 s.edges.items ≡ []) }
+    ensures full_nodes { IfOk result (λ s. kind ≡ Compact → vacant_from 0 s.nodes.items ≡ []) }
+    ensures full_edges { IfOk result (λ s. kind ≡ Compact → vacant_from 0 s.edges.items ≡ []) }
     ensures orders { IfOk result (λ s. IfSome s.orders (λ v.
         AreOrders (graph_of_slots s.nodes.items (edges_by Ix.number s.edges.items))
         (map (numbers_of Ix.number) v.items))) }
     ensures err { IfErr result
-        (λ e. (e ≡ Memory) ⊎ IsRead {N = N} {E = E} Ix.greatest stable (ReadsAs F.Fn fn_node.now)
+        (λ e. (e ≡ Memory) ⊎ IsRead {N = N} {E = E} Ix.greatest kind (ReadsAs F.Fn fn_node.now)
         (ReadsAs G.Fn fn_edge.now) (view value.now) (Err e)) }
 {
     let parts = read_parts(alloc, value)?;
-    let nodes = gather_nodes::<N, Ix, F>(alloc, &parts, stable, fn_node)?;
-    let edges = read_entries(alloc, parts.edges, stable, &nodes, fn_edge)?;
+    let nodes = gather_nodes::<N, Ix, F>(alloc, &parts, kind, fn_node)?;
+    let edges = read_entries(alloc, parts.edges, kind, &nodes, fn_edge)?;
     let orders = read_orders(alloc, parts.orders, &nodes, &edges)?;
     Ok(Gathered {
         nodes,

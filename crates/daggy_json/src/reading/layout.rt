@@ -7,6 +7,7 @@ ghost use Rattle.daggy_json.specs.Found.{parts_of};
 use crate::error::ReadError;
 use crate::reading::parts::Parts;
 use daggy_base::index::{IndexType, NodeIndex};
+use daggy_base::kind::Kind;
 
 // Whether the holes ascend and are below the number of slots.
 fn ascends(holes: &Vec<usize>, slots: usize) -> bool
@@ -23,11 +24,11 @@ fn ascends(holes: &Vec<usize>, slots: usize) -> bool
 }
 
 // Tests the property, the holes and the numbers of slots.
-pub(super) fn check_layout<Ix: IndexType>(stable: bool, parts: &Parts) -> Result<(), ReadError>
-    ensures ok { OnOk result (IsLaidOut Ix.greatest stable
+pub(super) fn check_layout<Ix: IndexType>(kind: Kind, parts: &Parts) -> Result<(), ReadError>
+    ensures ok { OnOk result (IsLaidOut Ix.greatest kind
         (parts_of parts.now.nodes.now.items parts.now.holes.items parts.now.property.now
         parts.now.edges.now.items parts.now.orders) None) }
-    ensures err { IfErr result (λ e. IsLaidOut Ix.greatest stable
+    ensures err { IfErr result (λ e. IsLaidOut Ix.greatest kind
         (parts_of parts.now.nodes.now.items parts.now.holes.items parts.now.property.now
         parts.now.edges.now.items parts.now.orders) (Some e)) }
 {
@@ -36,7 +37,7 @@ pub(super) fn check_layout<Ix: IndexType>(stable: bool, parts: &Parts) -> Result
     }
     let greatest = NodeIndex::<Ix>::end().index();
     let slots = parts.nodes.len() + parts.holes.len();
-    if !ascends(&parts.holes, slots) || (!stable && !parts.holes.is_empty()) {
+    if !ascends(&parts.holes, slots) || (kind == Kind::Compact && !parts.holes.is_empty()) {
         return Err(ReadError::Holes);
     }
     if slots > greatest || parts.edges.len() > greatest {

@@ -1,7 +1,7 @@
-use Rattle.std.proofs.Common.{inl, inr, true, sym}
-use Rattle.std.proofs.lemmas.Bool.{false≢true}
+use Rattle.std.proofs.Common.{inl, inr}
 use Rattle.std.proofs.lemmas.Result.{MatchResult-weaker}
 use Rattle.serde_json.specs.View.{view}
+use Rattle.daggy_base.specs.declared.kind.Kind.TheVariants.{Stable}
 use Rattle.daggy_json.specs.Weight.{ReadsAs}
 use Rattle.daggy_json.proofs.RestoredDag.{restored, values_again, answers_again}
 use Rattle.daggy_json.proofs.documents.stable_from_json.Goals as goal
@@ -10,14 +10,14 @@ pub returns-clause-restored : goal.returns-clause-restored
 returns-clause-restored g c = λ graph dag doc.
     MatchResult-weaker c.read.result
     (answers_again (λ d. d.graph) _ _ c.read.result _
-    (restored g.Ix.IndexType.greatest true (ReadsAs g.F.Fn c.args.fn_node) (ReadsAs g.G.Fn c.args.fn_edge) graph dag
-    (λ e. absurd (false≢true (sym e))) (view c.args.value.now) doc)
+    (restored g.Ix.IndexType.greatest Stable (ReadsAs g.F.Fn c.args.fn_node) (ReadsAs g.G.Fn c.args.fn_edge) graph dag
+    (λ e. absurd cc) (view c.args.value.now) doc)
     c.read.ensures.ok c.read.ensures.err)
     (λ d same. same) (λ e h. elim h [ inl memory ↦ memory | inr none ↦ absurd none ])
 
 pub returns-clause-restored_shape : goal.returns-clause-restored_shape
 returns-clause-restored_shape g c = λ graph dag doc.
     answers_again (λ d. d.graph) _ _ c.read.result _
-    (values_again g.Ix.IndexType.greatest true (ReadsAs g.F.Fn c.args.fn_node) (ReadsAs g.G.Fn c.args.fn_edge) graph dag
-    (λ e. absurd (false≢true (sym e))) (view c.args.value.now) doc)
+    (values_again g.Ix.IndexType.greatest Stable (ReadsAs g.F.Fn c.args.fn_node) (ReadsAs g.G.Fn c.args.fn_edge) graph dag
+    (λ e. absurd cc) (view c.args.value.now) doc)
     c.read.ensures.ok c.read.ensures.err

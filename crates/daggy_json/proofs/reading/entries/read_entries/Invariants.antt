@@ -8,5 +8,5 @@ use Rattle.daggy_json.proofs.reading.entries.read_entries.Given as goal
 
 abbrev pub invariant-loop-value : goal.invariant-loop-value
 invariant-loop-value g l =
-    EachSoFar (IsEntryRead l.stable l.nodes.items (ReadsAs g.G.Fn l.fn_edge)) l.list.items l.value-index
+    EachSoFar (IsEntryRead l.kind l.nodes.items (ReadsAs g.G.Fn l.fn_edge)) l.list.items l.value-index
     (map (option_map (edge_of g.Ix.IndexType.number)) l.edges.items)

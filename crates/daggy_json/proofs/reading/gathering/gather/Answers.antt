@@ -18,7 +18,7 @@ returns-in_err-nodes-clause-err g c =
     elim c.in_err-nodes.ensures.err [
       | inl h ↦ inl h
       | inr h ↦
-          inr (nodes_fault g.Ix.IndexType.greatest c.args.stable (ReadsAs g.F.Fn c.args.fn_node.now)
+          inr (nodes_fault g.Ix.IndexType.greatest c.args.kind (ReadsAs g.F.Fn c.args.fn_node.now)
           (ReadsAs g.G.Fn c.args.fn_edge.now) (view c.args.value.now) _ c.in_ok-parts.ensures.ok _ h)
     ]
 
@@ -36,14 +36,14 @@ returns-in_err-edges-clause-err g c =
     elim c.in_err-edges.ensures.err [
       | inl h ↦ inl h
       | inr h ↦
-          inr (entry_fault g.Ix.IndexType.greatest c.args.stable (ReadsAs g.F.Fn c.args.fn_node.now)
+          inr (entry_fault g.Ix.IndexType.greatest c.args.kind (ReadsAs g.F.Fn c.args.fn_node.now)
           (ReadsAs g.G.Fn c.args.fn_edge.now) (view c.args.value.now) _ c.in_ok-parts.ensures.ok n.0 n.1.0 n.1.1
           n.1.2 _ h)
     ]
 
 pub read_orders-requires-clause-ends : goal.read_orders-requires-clause-ends
 read_orders-requires-clause-ends g c =
-    ends_exist c.args.stable c.in_ok-nodes.nodes.items (ReadsAs g.G.Fn c.args.fn_edge.now) _ _ c.in_ok-edges.ensures.ok
+    ends_exist c.args.kind c.in_ok-nodes.nodes.items (ReadsAs g.G.Fn c.args.fn_edge.now) _ _ c.in_ok-edges.ensures.ok
 
 pub read_orders-requires-clause-few : goal.read_orders-requires-clause-few
 read_orders-requires-clause-few g c =
@@ -61,7 +61,7 @@ pub returns-clause-ok : goal.returns-clause-ok
 returns-clause-ok g c =
     let n = c.in_ok-nodes.ensures.ok in
     λ r t.
-    is_read g.Ix.IndexType.greatest c.args.stable (ReadsAs g.F.Fn c.args.fn_node.now)
+    is_read g.Ix.IndexType.greatest c.args.kind (ReadsAs g.F.Fn c.args.fn_node.now)
     (ReadsAs g.G.Fn c.args.fn_edge.now) (view c.args.value.now) _ c.in_ok-parts.ensures.ok n.0 n.1.0 n.1.1 n.1.2 _
     c.in_ok-edges.ensures.ok _ c.in_ok-orders.ensures.ok r t
 
@@ -73,7 +73,7 @@ returns-in_err-orders-clause-err g c =
     elim c.in_err-orders.ensures.err [
       | inl h ↦ inl h
       | inr h ↦
-          inr (orders_fault g.Ix.IndexType.greatest c.args.stable (ReadsAs g.F.Fn c.args.fn_node.now)
+          inr (orders_fault g.Ix.IndexType.greatest c.args.kind (ReadsAs g.F.Fn c.args.fn_node.now)
           (ReadsAs g.G.Fn c.args.fn_edge.now) (view c.args.value.now) _ c.in_ok-parts.ensures.ok n.0 n.1.0 n.1.1 n.1.2
           _ c.in_ok-edges.ensures.ok _ h)
     ]
@@ -95,7 +95,7 @@ returns-clause-few_edges g c =
 
 pub returns-clause-ends : goal.returns-clause-ends
 returns-clause-ends g c =
-    ends_exist c.args.stable c.in_ok-nodes.nodes.items (ReadsAs g.G.Fn c.args.fn_edge.now) _ _ c.in_ok-edges.ensures.ok
+    ends_exist c.args.kind c.in_ok-nodes.nodes.items (ReadsAs g.G.Fn c.args.fn_edge.now) _ _ c.in_ok-edges.ensures.ok
 
 pub returns-clause-full_nodes : goal.returns-clause-full_nodes
 returns-clause-full_nodes g c =
@@ -105,5 +105,5 @@ returns-clause-full_nodes g c =
 pub returns-clause-full_edges : goal.returns-clause-full_edges
 returns-clause-full_edges g c =
     λ compact.
-    full_entries c.args.stable c.in_ok-nodes.nodes.items (ReadsAs g.G.Fn c.args.fn_edge.now)
+    full_entries c.args.kind c.in_ok-nodes.nodes.items (ReadsAs g.G.Fn c.args.fn_edge.now)
     (edge_of g.Ix.IndexType.number) compact 0 _ c.in_ok-edges.edges.items c.in_ok-edges.ensures.ok
