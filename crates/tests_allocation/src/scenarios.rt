@@ -441,16 +441,16 @@ fn reduction<S: Kind>(rt: &impl Abort, alloc: Global, refused: &mut bool) {
     holds(rt, gone.is_none());
 }
 
-// An edge leads from each of twelve nodes to every later one, so the redundant edges are found by
+// An edge leads from each of ten nodes to every later one, so the redundant edges are found by
 // blocks. If there is no memory for the rows, they are found by searches, and nothing is refused.
 fn reduction_by_blocks<S: Kind>(rt: &impl Abort, alloc: Global, refused: &mut bool) {
     let mut dag: Plain<S> = fan(rt, alloc, 0, refused);
-    for _ in 1..12 {
+    for _ in 1..10 {
         let n = add_node_again(rt, &mut dag, refused);
         for a in 0..n.index() {
             join_again(rt, &mut dag, (a, n.index()), false, refused);
         }
     }
     reduce_again(rt, alloc, &mut dag, refused);
-    same(rt, dag.edge_count(), 11);
+    same(rt, dag.edge_count(), 9);
 }
