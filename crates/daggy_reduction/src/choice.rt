@@ -14,15 +14,15 @@ use daggy_base::store::Store;
 use daggy_order::order::Order;
 use daggy_search::{BLOCK, Scratch, Worklist};
 
-// About how many nodes a search reaches in a graph of this size: eight to the power of how many
-// edges leave a node.
+// About how many nodes a search reaches in a random graph of this size: 8^c, if c edges leave a node
+// on average.
 fn nodes_reached(nodes: usize, edges: usize) -> usize {
     let exponent = edges.saturating_mul(3) / nodes.max(1);
     1 << exponent.min(62)
 }
 
-// Whether blocks take fewer looks than the searches are expected to take. Those stay before the
-// last child of a node, and reach only so many nodes there.
+// Whether blocks take fewer looks than the searches are expected to take. A search stays before the
+// last child of its node, and reaches about `nodes_reached` nodes if there are as many.
 fn blocks_pay<Ix: IndexType, S: Store<Ix>>(
     store: &S,
     order: &Order<Ix>,

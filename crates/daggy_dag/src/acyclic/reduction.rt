@@ -28,7 +28,7 @@ where
     ///
     /// # Errors
     ///
-    /// Returns `AllocError` if an allocation fails; the dag is unchanged.
+    /// Returns `AllocError` if the memory for searches cannot be allocated; the dag is unchanged.
     ///
     /// # Complexity
     ///

@@ -12,7 +12,7 @@ use daggy_stable::stable_graph::StableDiGraph;
 use std::alloc::Global;
 use std::process::Abort;
 
-// Adds so many nodes.
+// Adds `count` nodes.
 fn add_nodes<S: Store<u16, NodeWeight = u32, EdgeWeight = u32>>(
     rt: &impl Abort,
     store: &mut S,
