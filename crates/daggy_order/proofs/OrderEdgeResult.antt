@@ -102,8 +102,17 @@ module _ {N E : Type 0} {end : ℕ} {g : Graph N E} (w : IsWellFormed end g) {la
         (stood_no_later b n (stands_in b has_b) (stands_in n h) above)
         (stood_before n a (stands_in n h) (stands_in a has_a) below) at.0))
 
-    module _ (ns : List ℕ)
-        (exact : (n : ℕ) → Contains ns n ↔ (Reaches g b n × (get_or labels n 0 < get_or labels a 0))) where
+    -- a lower label is an earlier place
+    pub lower_earlier : (n : ℕ) → HasNode g n → (get_or labels n 0 < get_or labels a 0) ↔ (place nodes n < place nodes a)
+    lower_earlier n h = (stood_before n a (stands_in n h) (stands_in a has_a), lower_label n a h has_a)
+
+    module _ (ns : List ℕ) (found : (n : ℕ) → Contains ns n ↔ (Reaches g b n × (place nodes n < place nodes a))) where
+      exact : (n : ℕ) → Contains ns n ↔ (Reaches g b n × (get_or labels n 0 < get_or labels a 0))
+      exact n = (
+        λ c. (let e = (found n).0 c in (e.0, (lower_earlier n (reached_exists g b n e.0)).1 e.1)),
+        λ r. (found n).1 (r.0, (lower_earlier n (reached_exists g b n r.0)).0 r.1),
+      )
+
       pub found_before : StandBefore nodes a ns
       found_before =
           let at = split_at nodes a (stands_in a has_a) in
@@ -127,8 +136,11 @@ module _ {N E : Type 0} {end : ℕ} {g : Graph N E} (w : IsWellFormed end g) {la
                 );
           }
 
-      module _ (missed : Reaches g b a → ⊥) (before : get_or labels b 0 < get_or labels a 0) (new : List ℕ)
+      module _ (missed : Reaches g b a → ⊥) (behind : place nodes b < place nodes a) (new : List ℕ)
           (m : IsMoved a ns nodes new) where
+        before : get_or labels b 0 < get_or labels a 0
+        before = lower_label b a has_b has_a behind
+
         b_found : Contains ns b
         b_found = (exact b).1 (([], has_b, refl), before)
 

@@ -6,7 +6,7 @@ ghost use Rattle.daggy_base.specs.Ordered.{IsOrderOf, IsParted, place, stretch, 
 
 use crate::list::LabeledList;
 use crate::order::Order;
-use crate::order::search::reaches_below;
+use crate::order::search::reaches_before;
 use daggy_base::index::{IndexType, NodeIndex};
 use daggy_base::link::Link;
 use daggy_base::source::EdgeSource;
@@ -91,11 +91,7 @@ fn move_reached<Ix: IndexType, S: EdgeSource<Ix>>(
         (place list.old.nodes (Ix.number a))) }
     ensures same_capacity { scratch.new ≡ scratch.old }
 {
-    // Called only for its postcondition: existing nodes are in the list.
-    let _exists = source.contains_node(b);
-    let limit = list.links.label(a.index());
-    let work = &mut scratch.work;
-    let Some(count) = reaches_below(source, b, a, &list.links, limit, work) else {
+    let Some(count) = reaches_before(source, b, a, list, &mut scratch.work) else {
         return false;
     };
     list.move_after(Link::of_node(a), &mut scratch.work, count);

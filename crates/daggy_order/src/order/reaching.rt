@@ -1,12 +1,11 @@
 //! Whether a path leads from one node to another, by an order of the nodes.
-ghost use Rattle.std.specs.Prelude.{◌≡◌, ◌+◌, ◌<◌, ◌≤◌, ◌↔◌, IsTrue};
-ghost use Rattle.daggy_base.specs.Graph.{HasNode, node_bound};
+ghost use Rattle.std.specs.Prelude.{◌≡◌, ◌+◌, ◌≤◌, ◌↔◌, IsTrue};
+ghost use Rattle.daggy_base.specs.Graph.{node_bound};
 ghost use Rattle.daggy_base.specs.Path.{Reaches};
 ghost use Rattle.daggy_base.specs.Ordered.{IsOrderOf, place, stretch, edges_from};
 
-use crate::list::LabeledList;
 use crate::order::Order;
-use crate::order::search::reaches_below;
+use crate::order::search::reaches_before;
 use daggy_base::index::{IndexType, NodeIndex};
 use daggy_base::source::EdgeSource;
 use daggy_search::Scratch;
@@ -51,33 +50,5 @@ pub fn reaches_in<Ix: IndexType, S: EdgeSource<Ix>>(
     }
     let tail = order.tail;
     order.tail = order.list.flush(tail);
-    reaches_along(source, &order.list, a, b, scratch)
-}
-
-// Whether a path leads from `a` to `b`, which `a` precedes.
-fn reaches_along<Ix: IndexType, S: EdgeSource<Ix>>(
-    source: &mut S,
-    list: &LabeledList<Ix>,
-    a: NodeIndex<Ix>,
-    b: NodeIndex<Ix>,
-    scratch: &mut Scratch<Ix>,
-) -> bool
-    requires from { HasNode (S.graph source.old) (Ix.number a) }
-    requires to { HasNode (S.graph source.old) (Ix.number b) }
-    requires ordered { IsOrderOf (S.graph source.old) list.now.nodes }
-    requires before { place list.now.nodes (Ix.number a) < place list.now.nodes (Ix.number b) }
-    requires scratch_fits { node_bound (S.graph source.old) ≤ scratch.old.nodes }
-    ensures decided { IsTrue result ↔ Reaches (S.graph source.old) (Ix.number a) (Ix.number b) }
-    ensures same { S.graph source.new ≡ S.graph source.old }
-    ensures looked { S.looks source.old ≤ S.looks source.new }
-    ensures counted { S.looks source.new ≤ S.looks source.old
-        + edges_from (S.graph source.old)
-        (stretch list.now.nodes (place list.now.nodes (Ix.number a))
-        (place list.now.nodes (Ix.number b))) }
-    ensures same_capacity { scratch.new ≡ scratch.old }
-{
-    // Called only for its postcondition: what exists is in the list.
-    let _exists = source.contains_node(b);
-    let limit = list.links.label(b.index());
-    reaches_below(source, a, b, &list.links, limit, &mut scratch.work).is_none()
+    reaches_before(source, a, b, &order.list, &mut scratch.work).is_none()
 }

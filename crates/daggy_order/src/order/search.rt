@@ -5,8 +5,10 @@ ghost use Rattle.std.specs.Prelude.{IfSome};
 ghost use Rattle.daggy_base.specs.Graph.{HasNode, node_bound};
 ghost use Rattle.daggy_base.specs.Path.{AreJoined, Reaches};
 ghost use Rattle.daggy_base.specs.WellFormed.{IsWellFormed, AreDistinct};
-ghost use Rattle.daggy_base.specs.Ordered.{edges_from};
+ghost use Rattle.daggy_base.specs.Ordered.{IsOrderOf, place, stretch, edges_from};
+ghost use Rattle.daggy_order.specs.Links.{IsLabelled};
 
+use crate::list::LabeledList;
 use crate::list::links::Links;
 use daggy_base::index::{EdgeIndex, IndexType, NodeIndex};
 use daggy_base::link::Link;
@@ -77,4 +79,40 @@ pub(crate) fn reaches_below<Ix: IndexType, S: EdgeSource<Ix>>(
             e = next;
         }
     }
+}
+
+// As `reaches_below`, by a list of all nodes in topological order in which `from` precedes `to`:
+// collects the nodes reachable from `from` that precede `to`.
+pub(crate) fn reaches_before<Ix: IndexType, S: EdgeSource<Ix>>(
+    source: &mut S,
+    from: NodeIndex<Ix>,
+    to: NodeIndex<Ix>,
+    list: &LabeledList<Ix>,
+    work: &mut Worklist<Ix>,
+) -> Option<usize>
+    requires from { HasNode (S.graph source.old) (Ix.number from) }
+    requires to { HasNode (S.graph source.old) (Ix.number to) }
+    requires ordered { IsOrderOf (S.graph source.old) list.now.nodes }
+    requires before { place list.now.nodes (Ix.number from) < place list.now.nodes (Ix.number to) }
+    requires fits { node_bound (S.graph source.old) ≤ work.old.size }
+    ensures decided { (result ≡ None)
+        ↔ Reaches (S.graph source.old) (Ix.number from) (Ix.number to) }
+    ensures found { IfSome result (λ k. (k ≤ length work.new.nodes) × (AreDistinct (take k work.new.nodes)
+        × ((n : ℕ) → Contains (take k work.new.nodes) n
+        ↔ (Reaches (S.graph source.old) (Ix.number from) n
+        × (place list.now.nodes n < place list.now.nodes (Ix.number to)))))) }
+    ensures well_formed { IsWellFormed Ix.greatest (S.graph source.old) }
+    ensures labelled { (labels : List ℕ) × IsLabelled labels list.now.nodes }
+    ensures same { S.graph source.new ≡ S.graph source.old }
+    ensures looked { S.looks source.old ≤ S.looks source.new }
+    ensures counted { S.looks source.new ≤ S.looks source.old
+        + edges_from (S.graph source.old)
+        (stretch list.now.nodes (place list.now.nodes (Ix.number from))
+        (place list.now.nodes (Ix.number to))) }
+    ensures kept { work.new.size ≡ work.old.size }
+{
+    // Called only for its postcondition: existing nodes are in the list.
+    let _exists = source.contains_node(to);
+    let limit = list.links.label(to.index());
+    reaches_below(source, from, to, &list.links, limit, work)
 }
