@@ -41,6 +41,7 @@ mod compact;
 mod comparing;
 mod cursors;
 mod debug;
+mod descendants;
 mod externals;
 mod from_slots;
 mod graph;

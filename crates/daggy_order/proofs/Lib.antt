@@ -15,3 +15,4 @@ pub mod SortedListChanges
 pub mod OrderLaws
 pub mod MovedForward
 pub mod RenumberedNodes
+pub mod SortedByPlace

@@ -18,6 +18,7 @@ use std::marker::Model;
 mod labels;
 pub(crate) mod links;
 mod moving;
+mod sorting;
 
 /// An ordered list of distinct nodes that can be added at both ends, removed and moved.
 ///

@@ -28,3 +28,6 @@ pub mod FoundEdges
 pub mod NotedEdges
 pub mod SpanSums
 pub mod BlockLooks
+pub mod ListedChildren
+pub mod AffectedNodes
+pub mod OrderedParts

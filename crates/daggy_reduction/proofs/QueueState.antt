@@ -6,12 +6,13 @@ use Rattle.daggy_base.specs.Graph.{Graph, HasNode, HasEdge, out_list, node_bound
 use Rattle.daggy_base.specs.Cursor.{first_of}
 use Rattle.daggy_base.specs.WellFormed.{IsWellFormed, AreDistinct}
 use Rattle.daggy_base.specs.Look.{IsLook}
+use Rattle.daggy_base.specs.Ordered.{edges_from}
 use Rattle.daggy_base.proofs.Lists.{Mem, Unique, mem_right, mem_contains, contains_mem, unique_from_distinct}
 use Rattle.daggy_base.proofs.OutEdgesRead.{below_bound}
 use Rattle.daggy_search.specs.Work.{Work, IsSized}
 use Rattle.daggy_search.proofs.Sized.{sized_entered, sized_marked, sized_put_node}
 use Rattle.daggy_reduction.specs.Closure.{IsQueue, IsClosure, MeetsChildren}
-use Rattle.daggy_reduction.proofs.QueueProgress.{Task, to_all, Queue, Queueing, looked_within}
+use Rattle.daggy_reduction.proofs.QueueProgress.{Task, to_all, Queue, Queueing, looked_within, looked_from}
 use Rattle.daggy_reduction.proofs.QueueProgress.{look_within, edge_exists, head_within, has_room, found_exists}
 use Rattle.daggy_reduction.proofs.QueueProgress.{moved, meets_child, pushed, next_node, all_reached, all_met}
 use Rattle.daggy_reduction.proofs.QueueProgress.{started}
@@ -75,6 +76,11 @@ module _ {N E : Type 0} {task : Task N E} (w : IsWellFormed task.end task.graph)
 
   pub few : now.looks ≤ start.looks + edge_count g₀
   few = omega (arith, s.counted, looked_within w s.going)
+
+  pub few_visited : (ns : List ℕ) → ((n : ℕ) → Contains (take now.len now.work.nodes) n → Contains ns n)
+      → now.looks ≤ start.looks + edges_from g₀ ns
+  few_visited ns all =
+      omega (arith, s.counted, looked_from w s.going ns (λ n m. contains_mem ns n (all n (mem_contains _ n m))))
 
   pub looked_once : now.edge ≢ end → {looks' : ℕ} → looks' ≡ now.looks + 1 → looks' ≤ start.looks + edge_count g₀
   looked_once here one_more = omega (arith, s.counted, look_within w s.going here)

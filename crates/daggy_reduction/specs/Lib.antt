@@ -6,3 +6,4 @@ pub mod Blocks
 pub mod AnyWeights
 pub mod KeptRoom
 pub mod Spans
+pub mod Descendants

@@ -1,7 +1,8 @@
 //! Breadth-first search.
-ghost use Rattle.std.specs.Prelude.{◌≡◌, ◌≢◌, ℕ, ◌+◌, ◌<◌, ◌≤◌, ◌^◌, true, false, length, take};
+ghost use Rattle.std.specs.Prelude.{◌≡◌, ◌≢◌, ℕ, ◌+◌, ◌<◌, ◌≤◌, ◌^◌, true, false, length, take, List};
 ghost use Rattle.std.specs.Prelude.{slice_set, slice_index_or, ◌↔◌, Contains};
 ghost use Rattle.daggy_base.specs.Graph.{node_bound, edge_count};
+ghost use Rattle.daggy_base.specs.Ordered.{edges_from};
 ghost use Rattle.daggy_base.specs.WellFormed.{IsWellFormed};
 ghost use Rattle.daggy_search.specs.Work.{IsSized};
 ghost use Rattle.daggy_reduction.specs.Closure.{IsQueue, IsClosure, MeetsChildren};
@@ -71,6 +72,9 @@ pub(crate) fn close<Ix: IndexType, S: EdgeSource<Ix>>(
         ↔ Contains (take result work.new.nodes) n }
     ensures looked { S.looks source.old ≤ S.looks source.new }
     ensures counted { S.looks source.new ≤ S.looks source.old + edge_count (S.graph source.old) }
+    ensures visited { (ns : List ℕ)
+        → ((n : ℕ) → Contains (take result work.new.nodes) n → Contains ns n)
+        → S.looks source.new ≤ S.looks source.old + edges_from (S.graph source.old) ns }
     ensures within { result ≤ work.old.size }
     ensures kept { IsSized work.old.size work.new }
     ensures aside { work.new.cursors ≡ work.old.cursors }

@@ -2,6 +2,7 @@
 //! promises.
 #![tactic(auto)]
 
+pub mod affected;
 mod block;
 pub mod blocks;
 pub mod bounded;

@@ -1,8 +1,8 @@
 //! The nodes reachable from some roots.
-ghost use Rattle.std.specs.Prelude.{◌≡◌, ℕ, ◌+◌, ◌<◌, ◌≤◌, ◌↔◌, true, false, map, length, take};
+ghost use Rattle.std.specs.Prelude.{◌≡◌, ℕ, ◌+◌, ◌<◌, ◌≤◌, ◌↔◌, true, false, map, length, take, List};
 ghost use Rattle.std.specs.Prelude.{filter, slice_index, slice_index_or, slice_set, Contains};
 ghost use Rattle.daggy_base.specs.Graph.{HasNode, node_bound, node_count, edge_count};
-ghost use Rattle.daggy_base.specs.Ordered.{IsOrderOf};
+ghost use Rattle.daggy_base.specs.Ordered.{IsOrderOf, edges_from};
 ghost use Rattle.daggy_base.specs.Reduction.{IsBelow};
 ghost use Rattle.daggy_base.specs.WellFormed.{IsWellFormed, AreDistinct};
 ghost use Rattle.daggy_search.specs.Work.{IsSized, IsCleared};
@@ -44,7 +44,7 @@ fn enter_roots<Ix: IndexType, S: EdgeSource<Ix>>(
 }
 
 // Queues all nodes reachable from the existing roots, and returns how many there are.
-fn queue_below<Ix: IndexType, S: EdgeSource<Ix>>(
+pub(crate) fn queue_below<Ix: IndexType, S: EdgeSource<Ix>>(
     source: &mut S,
     roots: &[NodeIndex<Ix>],
     work: &mut Worklist<Ix>,
@@ -60,6 +60,9 @@ fn queue_below<Ix: IndexType, S: EdgeSource<Ix>>(
         ↔ IsBelow (S.graph source.old) (map Ix.number roots.now) n }
     ensures looked { S.looks source.old ≤ S.looks source.new }
     ensures counted { S.looks source.new ≤ S.looks source.old + edge_count (S.graph source.old) }
+    ensures visited { (ns : List ℕ)
+        → ((n : ℕ) → IsBelow (S.graph source.old) (map Ix.number roots.now) n → Contains ns n)
+        → S.looks source.new ≤ S.looks source.old + edges_from (S.graph source.old) ns }
     ensures within { result ≤ work.old.size }
     ensures kept { IsSized work.old.size work.new }
 {

@@ -5,3 +5,4 @@ pub mod FinishingOrder
 pub mod SearchState
 pub mod SortNodesState
 pub mod RowWords
+pub mod ReversedGraph

@@ -1,3 +1,4 @@
 pub mod Sorting
 pub mod Work
 pub mod Room
+pub mod Reversed

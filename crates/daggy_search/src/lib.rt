@@ -3,12 +3,14 @@
 
 mod cycles;
 mod reach;
+mod reversed;
 mod row;
 mod scratch;
 mod worklist;
 
 pub use cycles::{is_acyclic, sort_nodes};
 pub use reach::reaches;
+pub use reversed::Reversed;
 #[doc(hidden)]
 pub use row::{BLOCK, Row};
 pub use scratch::Scratch;

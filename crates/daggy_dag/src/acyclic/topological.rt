@@ -1,12 +1,13 @@
 //! The nodes of a dag in topological order.
-ghost use Rattle.std.specs.Prelude.{◌≡◌, ◌<◌, ◌^◌, length};
+ghost use Rattle.std.specs.Prelude.{◌≡◌, ℕ, List, ◌<◌, ◌^◌, ◌↔◌, IsTrue, length};
 ghost use Rattle.std.specs.Iterator.{YieldsFirstBy, item_count};
-ghost use Rattle.daggy_base.specs.Ordered.{IsOrderOf};
+ghost use Rattle.daggy_base.specs.Graph.{HasNode};
+ghost use Rattle.daggy_base.specs.Ordered.{IsOrderOf, place};
 
 use crate::acyclic::Acyclic;
 use daggy_base::index::{DefaultIx, IndexType, NodeIndex};
 use daggy_base::store::Store;
-use daggy_order::order::Nodes;
+use daggy_order::order::{Nodes, Order};
 use std::alloc::AllocError;
 use std::fmt;
 use std::iter::{ExactSizeIterator, FusedIterator};
@@ -58,6 +59,33 @@ where
         TopologicalOrder {
             nodes: self.guarded.order.nodes(),
         }
+    }
+
+    /// The topological order that the dag keeps, to ask for positions.
+    #[inline]
+    pub fn order(&self) -> &Order<Ix>
+        ensures { IsOrderOf self.now.graph result.now }
+    {
+        &self.guarded.order
+    }
+
+    /// Whether `a` precedes `b` in the order that the dag keeps. False if a node is missing.
+    ///
+    /// A parent precedes its children. If neither node reaches the other, the answer may change
+    /// when edges are added.
+    ///
+    /// # Complexity
+    ///
+    /// O(1).
+    #[inline]
+    pub fn stands_before(&self, a: NodeIndex<Ix>, b: NodeIndex<Ix>) -> bool
+        ensures { (order : List ℕ) × IsOrderOf self.now.graph order
+            × (IsTrue result ↔ (HasNode self.now.graph (Ix.number a)
+            × HasNode self.now.graph (Ix.number b)
+            × (place order (Ix.number a) < place order (Ix.number b)))) }
+    {
+        let order = &self.guarded.order;
+        order.holds(a) && order.holds(b) && order.stands_before(a, b)
     }
 }
 

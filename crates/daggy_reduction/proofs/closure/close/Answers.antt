@@ -1,7 +1,7 @@
 use Rattle.std.proofs.Common.{rules, ◌≢◌, ◌+◌, ◌≤◌, ◌∙◌, sym, ap, refl, arith}
 use Rattle.daggy_base.specs.Graph.{out_list}
 use Rattle.daggy_base.specs.Cursor.{first_of}
-use Rattle.daggy_reduction.proofs.QueueState.{few, looked_once, edge_here, head_low, child_low, room_here, entered}
+use Rattle.daggy_reduction.proofs.QueueState.{few, few_visited, looked_once, edge_here, head_low, child_low, room_here, entered}
 use Rattle.daggy_reduction.proofs.QueueState.{visited, next_here, is_closure, entered_are, meets_children, starts_here}
 use Rattle.daggy_reduction.proofs.closure.close.Goals as goal
 
@@ -33,6 +33,9 @@ returns-then-head-len-clause-entered g c =
 
 pub returns-then-head-len-clause-counted : goal.returns-then-head-len-clause-counted
 returns-then-head-len-clause-counted g c = few c.requires.well_formed c.steps.invariant
+
+pub returns-then-head-len-clause-visited : goal.returns-then-head-len-clause-visited
+returns-then-head-len-clause-visited g c = few_visited c.requires.well_formed c.steps.invariant
 
 pub node-requires-then-index-end : goal.node-requires-then-index-end
 node-requires-then-index-end g c =

@@ -13,3 +13,7 @@ returns-clause-entered g c n =
     let below = returns-clause-below g c n in
     let entered = c.close.ensures.entered n in
     (λ t. below.0 (entered.0 t), λ b. entered.1 (below.1 b))
+
+pub returns-clause-visited : goal.returns-clause-visited
+returns-clause-visited g c ns all =
+    c.close.ensures.visited ns (λ n has. all n ((returns-clause-below g c n).0 has))

@@ -1,0 +1,20 @@
+use Rattle.std.proofs.Common.{◌≡◌, map, ap, ◌∙◌}
+use Rattle.std.proofs.lemmas.Result.{IfOk-weaker}
+use Rattle.daggy_base.specs.Reduction.{IsBelow}
+use Rattle.daggy_guard.proofs.GuardedChange.{same_graph}
+use Rattle.daggy_reduction.specs.Descendants.{IsDescendantOfAny, IsSortedPart, IsOrderOfPart}
+use Rattle.daggy_reduction.proofs.AffectedNodes.{below_exists}
+use Rattle.daggy_reduction.proofs.OrderedParts.{order_of_part, descends_exists}
+use Rattle.daggy_dag.proofs.acyclic.Acyclic.descendants.Goals as goal
+
+pub returns-clause-found : goal.returns-clause-found
+returns-clause-found g c =
+    let number = g.Ix.IndexType.number in
+    let given = map number c.args.nodes.now in
+    let order = c.self-inside.inside.0.0.order in
+    let graph = g.S.EdgeSource.graph c.self-inside.inside.0.0.store in
+    rw (← same_graph (ap (λ i. i.guarded) c.self-inside.view_is ∙ c.self.view_is))
+    (IfOk-weaker c.descendants.result (λ found. IsSortedPart order (IsDescendantOfAny graph given) (map number found.items))
+    (λ found. IsOrderOfPart graph (IsDescendantOfAny graph given) (map number found.items)) (λ found s.
+    order_of_part graph order c.self-inside.invariant.0 (descends_exists graph given) (map number found.items) s)
+    c.descendants.ensures.found)

@@ -1,0 +1,44 @@
+use Rattle.std.proofs.Common.{◌≡◌, ℕ, List, ◌++◌, ◌≤◌, length, take, drop, map, subst, sym, Contains}
+use Rattle.std.specs.List.Sorted.{IsPermutation}
+use Rattle.daggy_search.proofs.Entries.{come_back}
+use Rattle.daggy_reduction.specs.Descendants.{IsSortedPart}
+use Rattle.daggy_base.specs.Reduction.{IsBelow}
+use Rattle.daggy_reduction.proofs.AffectedNodes.{below_exists, part_sorted}
+use Rattle.daggy_reduction.proofs.affected.affected.Given.{Over}
+use Rattle.daggy_reduction.proofs.affected.affected.Goals.{After-sort_by_place}
+use Rattle.daggy_reduction.proofs.affected.affected.Goals as goal
+
+pub sort_by_place-requires : goal.sort_by_place-requires
+sort_by_place-requires g c n has =
+    let number = g.Ix.IndexType.number in
+    let graph = g.S.EdgeSource.graph c.args.source.now in
+    let P : List g.row.Ix.Denot → Type 0 = λ z. Contains (map number z) n in
+    let Q : List ℕ → Type 0 = λ z. Contains z n in
+    c.requires.held n (below_exists graph (map number c.args.nodes.now) n
+    ((c.queue_below-count.ensures.below n).0 (subst Q c.in_ok-found.ensures (subst P c.as_mut_slice.ensures.value has))))
+
+sorted : (g : Over) (c : After-sort_by_place g) → IsPermutation c.in_ok-found.found.items c.sort_by_place.new.nodes
+sorted g c = rw (← c.as_mut_slice.ensures.value) c.sort_by_place.ensures.same
+
+back : (g : Over) (c : After-sort_by_place g)
+    → take c.in_ok-found.found.len (c.sort_by_place.new.nodes ++ drop (length c.sort_by_place.new.nodes) c.in_ok-found.found.items)
+    ≡ c.sort_by_place.new.nodes
+back g c = come_back c.in_ok-found.found.items c.sort_by_place.new.nodes c.in_ok-found.found.len (sorted g c) c.in_ok-found.found.ok.0
+
+found : (g : Over) (c : After-sort_by_place g)
+    → IsSortedPart c.args.order.now (IsBelow (g.S.EdgeSource.graph c.args.source.now) (map g.Ix.IndexType.number c.args.nodes.now))
+    (map g.Ix.IndexType.number c.sort_by_place.new.nodes)
+found g c =
+    part_sorted g.Ix.IndexType.number c.args.order.now _ c.queue_below-count.ensures.below
+    c.queue_below-count.ensures.distinct c.in_ok-found.found.items c.sort_by_place.new.nodes c.in_ok-found.ensures
+    (sorted g c) c.sort_by_place.ensures.sorted
+
+pub returns-clause-found : goal.returns-clause-found
+returns-clause-found g c =
+    let at = (goal.at.returns-clause-found g c).After-sort_by_place in
+    rw (back g at) (found g at)
+
+pub returns-clause-visited : goal.returns-clause-visited
+returns-clause-visited g c =
+    let at = (goal.at.returns-clause-visited g c).After-sort_by_place in
+    rw (back g at) (c.queue_below-count.ensures.visited _ (λ n b. ((found g at).exact n).1 b))

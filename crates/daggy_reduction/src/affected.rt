@@ -1,0 +1,157 @@
+//! The nodes reachable from some nodes, in an order.
+ghost use Rattle.std.specs.Prelude.{◌≡◌, ℕ, ◌+◌, ◌≤◌, ◌↔◌, ◌⊎◌, map, take, length, Contains};
+ghost use Rattle.std.specs.Prelude.{IfOk, OnOk};
+ghost use Rattle.daggy_base.specs.Graph.{HasNode, node_bound, edge_count, out_list};
+ghost use Rattle.daggy_base.specs.Ordered.{edges_from};
+ghost use Rattle.daggy_base.specs.Path.{AreJoined};
+ghost use Rattle.daggy_base.specs.Reduction.{IsBelow};
+ghost use Rattle.daggy_base.specs.WellFormed.{IsWellFormed};
+ghost use Rattle.daggy_reduction.specs.Descendants.{IsChildOfAny, IsDescendantOfAny, IsSortedPart};
+
+use crate::roots::queue_below;
+use daggy_base::index::{EdgeIndex, IndexType, NodeIndex};
+use daggy_base::source::EdgeSource;
+use daggy_order::order::Order;
+use daggy_search::{Scratch, Worklist};
+use std::alloc::{AllocError, Global};
+
+// Appends the children of a node to a list, one for each edge.
+fn push_children<Ix: IndexType, S: EdgeSource<Ix>>(
+    source: &mut S,
+    u: NodeIndex<Ix>,
+    children: &mut Vec<NodeIndex<Ix>>,
+) -> Result<(), AllocError>
+    requires well_formed { IsWellFormed Ix.greatest (S.graph source.old) }
+    ensures same { S.graph source.new ≡ S.graph source.old }
+    ensures looked { S.looks source.old ≤ S.looks source.new }
+    ensures counted { S.looks source.new
+        ≤ S.looks source.old + length (out_list (S.graph source.old) (Ix.number u)) }
+    ensures exact { OnOk result ((n : ℕ) → Contains (map Ix.number children.new.items) n
+        ↔ (Contains (map Ix.number children.old.items) n
+        ⊎ AreJoined (S.graph source.old) (Ix.number u) n)) }
+{
+    let end = EdgeIndex::<Ix>::end().index();
+    let mut e = source.first(u);
+    'edges: while e.index() != end {
+        let (v, next) = source.look(e);
+        children.push(v)?;
+        e = next;
+    }
+    Ok(())
+}
+
+// The children of some nodes, one for each edge.
+fn children_of<Ix: IndexType, S: EdgeSource<Ix>>(
+    alloc: Global,
+    source: &mut S,
+    nodes: &[NodeIndex<Ix>],
+) -> Result<Vec<NodeIndex<Ix>>, AllocError>
+    requires well_formed { IsWellFormed Ix.greatest (S.graph source.old) }
+    ensures same { S.graph source.new ≡ S.graph source.old }
+    ensures looked { S.looks source.old ≤ S.looks source.new }
+    ensures counted { S.looks source.new
+        ≤ S.looks source.old + edges_from (S.graph source.old) (map Ix.number nodes.now) }
+    ensures exact { IfOk result (λ found. (n : ℕ) → Contains (map Ix.number found.items) n
+        ↔ IsChildOfAny (S.graph source.old) (map Ix.number nodes.now) n) }
+{
+    let mut children = Vec::new(alloc);
+    let mut k = 0;
+    'nodes: while k < nodes.len() {
+        push_children(source, nodes[k], &mut children)?;
+        k += 1;
+    }
+    Ok(children)
+}
+
+// The first `count` nodes of a worklist.
+fn front_nodes<Ix: IndexType>(
+    alloc: Global,
+    work: &Worklist<Ix>,
+    count: usize,
+) -> Result<Vec<NodeIndex<Ix>>, AllocError>
+    requires { count ≤ length work.now.nodes }
+    ensures { IfOk result (λ found. map Ix.number found.items ≡ take count work.now.nodes) }
+{
+    let mut found = Vec::with_capacity(alloc, count)?;
+    'nodes: for i in 0..count {
+        found.push(work.node(i).node())?;
+    }
+    Ok(found)
+}
+
+/// The existing nodes of `nodes` and all nodes reachable from them, each once, by their positions
+/// in an order of all nodes.
+///
+/// # Errors
+///
+/// Returns `AllocError` if the memory for the list cannot be allocated.
+///
+/// # Complexity
+///
+/// O(nodes and edges visited), and sorting the nodes found.
+pub fn affected<Ix: IndexType, S: EdgeSource<Ix>>(
+    alloc: Global,
+    source: &mut S,
+    order: &mut Order<Ix>,
+    nodes: &[NodeIndex<Ix>],
+    scratch: &mut Scratch<Ix>,
+) -> Result<Vec<NodeIndex<Ix>>, AllocError>
+    requires held { (n : ℕ) → HasNode (S.graph source.old) n → Contains order.old n }
+    requires scratch_fits { node_bound (S.graph source.old) ≤ scratch.old.nodes }
+    ensures found { IfOk result (λ found. IsSortedPart order.old
+        (IsBelow (S.graph source.old) (map Ix.number nodes.now)) (map Ix.number found.items)) }
+    ensures same { S.graph source.new ≡ S.graph source.old }
+    ensures kept { order.new ≡ order.old }
+    ensures looked { S.looks source.old ≤ S.looks source.new }
+    ensures counted { S.looks source.new ≤ S.looks source.old + edge_count (S.graph source.old) }
+    ensures visited { IfOk result (λ found. S.looks source.new
+        ≤ S.looks source.old + edges_from (S.graph source.old) (map Ix.number found.items)) }
+    ensures same_capacity { scratch.new ≡ scratch.old }
+{
+    // Called only for its postcondition: the graph is well formed.
+    let _bound = source.node_bound();
+    let count = queue_below(source, nodes, &mut scratch.work);
+    let mut found = front_nodes(alloc, &scratch.work, count)?;
+    order.sort_by_place(found.as_mut_slice());
+    Ok(found)
+}
+
+/// The descendants of some nodes, each once, by their positions in an order of all nodes: the nodes
+/// to which a path of one or more edges leads from one of `nodes`.
+///
+/// # Errors
+///
+/// Returns `AllocError` if the memory for the list, or for the children of `nodes`, cannot be
+/// allocated.
+///
+/// # Complexity
+///
+/// O(nodes and edges visited), and sorting the nodes found.
+pub fn descendants<Ix: IndexType, S: EdgeSource<Ix>>(
+    alloc: Global,
+    source: &mut S,
+    order: &mut Order<Ix>,
+    nodes: &[NodeIndex<Ix>],
+    scratch: &mut Scratch<Ix>,
+) -> Result<Vec<NodeIndex<Ix>>, AllocError>
+    requires held { (n : ℕ) → HasNode (S.graph source.old) n → Contains order.old n }
+    requires scratch_fits { node_bound (S.graph source.old) ≤ scratch.old.nodes }
+    ensures found { IfOk result (λ found. IsSortedPart order.old
+        (IsDescendantOfAny (S.graph source.old) (map Ix.number nodes.now))
+        (map Ix.number found.items)) }
+    ensures same { S.graph source.new ≡ S.graph source.old }
+    ensures kept { order.new ≡ order.old }
+    ensures looked { S.looks source.old ≤ S.looks source.new }
+    ensures counted { S.looks source.new ≤ S.looks source.old
+        + (edges_from (S.graph source.old) (map Ix.number nodes.now)
+        + edge_count (S.graph source.old)) }
+    ensures visited { IfOk result (λ found. S.looks source.new ≤ S.looks source.old
+        + (edges_from (S.graph source.old) (map Ix.number nodes.now)
+        + edges_from (S.graph source.old) (map Ix.number found.items))) }
+    ensures same_capacity { scratch.new ≡ scratch.old }
+{
+    // Called only for its postcondition: the graph is well formed.
+    let _bound = source.node_bound();
+    let children = children_of(alloc, source, nodes)?;
+    affected(alloc, source, order, children.as_slice(), scratch)
+}
