@@ -13,6 +13,8 @@ mod faults;
 #[cfg(test)]
 mod observed;
 #[cfg(test)]
+mod queries;
+#[cfg(test)]
 mod run_tests;
 #[cfg(test)]
 mod scenarios;

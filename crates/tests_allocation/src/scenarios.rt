@@ -6,6 +6,7 @@ use crate::again::{
 };
 use crate::faults::faults;
 use crate::observed::{counts, is_fan, state_of};
+use crate::queries::queries;
 use crate::slots::{edge_slots, node_slots};
 use crate::support::{
     Calls, Compact, Kind, Plain, Stable, answered, has_cause, holds, made, refuse, same,
@@ -39,6 +40,7 @@ pub enum Scenario {
     Copies(Way),
     Capacity,
     Sets,
+    Queries,
     Faults,
 }
 
@@ -62,6 +64,7 @@ fn play<S: Kind>(rt: &(impl Abort + Env), alloc: Global, scenario: Scenario) {
         Scenario::Copies(way) => copies::<S>(rt, alloc, way, &mut refused),
         Scenario::Capacity => capacity::<S>(rt, alloc, &mut refused),
         Scenario::Sets => sets::<S>(rt, alloc, &mut refused),
+        Scenario::Queries => queries::<S>(rt, alloc, &mut refused),
         Scenario::Faults => faults::<S>(rt, alloc, &mut refused),
     }
     match scenario {

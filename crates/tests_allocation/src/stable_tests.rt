@@ -96,6 +96,11 @@ fn refused_sets_and_matrices_are_asked_again(rt: HostRuntime) {
 }
 
 #[test]
+fn refused_questions_are_asked_again(rt: HostRuntime) {
+    stable(&rt, rt.alloc(), Scenario::Queries);
+}
+
+#[test]
 fn faults_are_told_or_the_refusal(rt: HostRuntime) {
     stable(&rt, rt.alloc(), Scenario::Faults);
 }

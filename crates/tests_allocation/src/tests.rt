@@ -98,6 +98,11 @@ fn refused_sets_and_matrices_are_asked_again(rt: HostRuntime) {
 }
 
 #[test]
+fn refused_questions_are_asked_again(rt: HostRuntime) {
+    compact(&rt, rt.alloc(), Scenario::Queries);
+}
+
+#[test]
 fn faults_are_told_or_the_refusal(rt: HostRuntime) {
     compact(&rt, rt.alloc(), Scenario::Faults);
 }

@@ -3,6 +3,7 @@
 
 mod acts;
 mod adding;
+mod asking;
 mod compact;
 mod comparing;
 mod converting;

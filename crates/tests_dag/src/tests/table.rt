@@ -2,6 +2,7 @@
 //! loop.
 //!
 //! A test is proved too, and a call costs it more than a row, so the calls stand here alone.
+use super::asking::{Question, ask as ask_of_paths};
 use super::large::{search_dense_graph, search_long_chain};
 use super::many_edges::{add_sorted_list, end_at_a_fault};
 use super::ordering::{sort_long_series, sort_round_vacant_slots, tell_length};
@@ -49,6 +50,7 @@ pub enum Call<'a> {
     Parents(usize),
     Externals(Direction),
     Order,
+    Ask(Question<'a>),
     // Writes a weight where it is lent, if there is such a node or edge.
     LendNode(usize, u32),
     LendEdge(usize, u32),
@@ -449,6 +451,7 @@ pub fn play_row<Ix: IndexType, S: Store<Ix, NodeWeight = u32, EdgeWeight = u32>>
         Call::Parents(n) => is_walk_of_parents(rt, alloc, dag, n, wanted),
         Call::Externals(dir) => are_external(rt, alloc, dag, dir, wanted),
         Call::Order => is_ordered(rt, alloc, dag, wanted),
+        Call::Ask(question) => ask_of_paths(rt, alloc, dag, question, wanted),
         _ => is(rt, change_many(rt, alloc, dag, call), wanted),
     }
 }
@@ -471,6 +474,8 @@ pub fn play<Ix: IndexType, S: Store<Ix, NodeWeight = u32, EdgeWeight = u32>>(
 pub enum Scene<'a> {
     /// A table is played.
     Rows(&'a [Row<'a>]),
+    /// Two tables are played, one after the other.
+    Twice(&'a [Row<'a>], &'a [Row<'a>]),
     /// A dag is made of edges, whose weights are 0, with this answer, and a table is played over
     /// it.
     OfPairs(&'a [(usize, usize)], Answer<'a>, &'a [Row<'a>]),
@@ -503,6 +508,10 @@ fn show<Ix: IndexType, S: Store<Ix, NodeWeight = u32, EdgeWeight = u32>>(
 ) {
     match scene {
         Scene::Rows(rows) => play(rt, alloc, dag, rows),
+        Scene::Twice(first, second) => {
+            play(rt, alloc, dag, first);
+            play(rt, alloc, dag, second);
+        }
         Scene::OfPairs(pairs, wanted, rows) => {
             of_pairs::<Ix, S>(rt, alloc, pairs, wanted, rows);
         }

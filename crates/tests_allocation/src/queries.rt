@@ -1,0 +1,58 @@
+//! Questions whose answers take memory, while memory is refused once.
+use crate::again::small_fan;
+use crate::observed::state_of;
+use crate::support::{Kind, Plain, made, refuse, same};
+use daggy::NodeIndex;
+use std::alloc::{AllocError, Global};
+use std::process::Abort;
+
+// What is asked about a node.
+#[derive(Clone, Copy)]
+enum Question {
+    Affected,
+    Descendants,
+    Ancestors,
+}
+
+// How many nodes the answer has.
+fn ask<S: Kind>(dag: &mut Plain<S>, question: Question, n: usize) -> Result<usize, AllocError> {
+    let nodes = [NodeIndex::new(n)];
+    let found = match question {
+        Question::Affected => dag.affected(&nodes)?,
+        Question::Descendants => dag.descendants(&nodes)?,
+        Question::Ancestors => dag.ancestors(&nodes)?,
+    };
+    Ok(found.len())
+}
+
+// Asks again if that was refused. The dag stays as it is.
+fn ask_again<S: Kind>(
+    rt: &impl Abort,
+    dag: &mut Plain<S>,
+    question: Question,
+    n: usize,
+    wanted: usize,
+    refused: &mut bool,
+) {
+    let before = state_of(dag);
+    let count = match ask(dag, question, n) {
+        Ok(count) => count,
+        Err(AllocError) => {
+            refuse(rt, refused);
+            same(rt, state_of(dag), before);
+            made(rt, ask(dag, question, n))
+        }
+    };
+    same(rt, count, wanted);
+    same(rt, state_of(dag), before);
+}
+
+/// What depends on the root of a small fan, and on what its last child depends.
+pub fn queries<S: Kind>(rt: &impl Abort, alloc: Global, refused: &mut bool) {
+    let mut dag: Plain<S> = small_fan(rt, alloc, refused);
+    let nodes = dag.node_count();
+    let others = nodes.wrapping_sub(1);
+    ask_again(rt, &mut dag, Question::Affected, 0, nodes, refused);
+    ask_again(rt, &mut dag, Question::Descendants, 0, others, refused);
+    ask_again(rt, &mut dag, Question::Ancestors, 3, 1, refused);
+}

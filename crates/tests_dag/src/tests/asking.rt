@@ -1,0 +1,189 @@
+//! What a dag is asked about paths, and about what depends on what.
+use super::support::{made, node, same};
+use super::table::{Answer, Call, Row, Scene, both, compact, is, stable};
+use daggy_base::index::{IndexType, NodeIndex};
+use daggy_base::store::Store;
+use daggy_dag::acyclic::Acyclic;
+use std::alloc::Global;
+use std::process::Abort;
+
+/// A question about some nodes.
+#[derive(Clone, Copy)]
+pub enum Question<'a> {
+    Reaches(usize, usize),
+    ClosesCycle(usize, usize),
+    Joined(usize, usize),
+    Before(usize, usize),
+    Affected(&'a [usize]),
+    Descendants(&'a [usize]),
+    Ancestors(&'a [usize]),
+}
+
+fn nodes<Ix: IndexType>(rt: &impl Abort, alloc: Global, indices: &[usize]) -> Vec<NodeIndex<Ix>> {
+    let mut nodes = Vec::new(alloc);
+    for i in indices {
+        made(rt, nodes.push(node(rt, *i)));
+    }
+    nodes
+}
+
+fn are<Ix: IndexType>(rt: &impl Abort, alloc: Global, found: &[NodeIndex<Ix>], wanted: Answer<'_>) {
+    let mut indices = Vec::new(alloc);
+    for n in found {
+        made(rt, indices.push(n.index()));
+    }
+    is(rt, Answer::Nodes(indices.as_slice()), wanted);
+}
+
+fn yes(answer: bool) -> Answer<'static> {
+    if answer {
+        Answer::Done
+    } else {
+        Answer::Nothing
+    }
+}
+
+/// Asks a question, and asserts its answer: `Done` for yes, `Nothing` for no.
+pub fn ask<Ix: IndexType, S: Store<Ix, NodeWeight = u32, EdgeWeight = u32>>(
+    rt: &impl Abort,
+    alloc: Global,
+    dag: &mut Acyclic<u32, u32, Ix, S>,
+    question: Question<'_>,
+    wanted: Answer<'_>,
+) {
+    match question {
+        Question::Reaches(a, b) => is(rt, yes(dag.reaches(node(rt, a), node(rt, b))), wanted),
+        Question::ClosesCycle(a, b) => {
+            is(
+                rt,
+                yes(dag.would_close_cycle(node(rt, a), node(rt, b))),
+                wanted,
+            );
+        }
+        Question::Joined(a, b) => is(rt, yes(dag.contains_edge(node(rt, a), node(rt, b))), wanted),
+        Question::Before(a, b) => is(rt, yes(dag.stands_before(node(rt, a), node(rt, b))), wanted),
+        Question::Affected(given) => {
+            let given = nodes(rt, alloc, given);
+            let found = made(rt, dag.affected(given.as_slice()));
+            are(rt, alloc, found.as_slice(), wanted);
+        }
+        Question::Descendants(given) => {
+            let given = nodes(rt, alloc, given);
+            let found = made(rt, dag.descendants(given.as_slice()));
+            are(rt, alloc, found.as_slice(), wanted);
+        }
+        Question::Ancestors(given) => {
+            let given = nodes(rt, alloc, given);
+            let found = made(rt, dag.ancestors(given.as_slice()));
+            are(rt, alloc, found.as_slice(), wanted);
+        }
+    }
+}
+
+// A path through the nodes 0, 1, 2 and 3, and two edges beside it.
+const PATH: &[Row<'static>] = &[
+    (Call::Nodes(4), Answer::Done),
+    (
+        Call::Extend(&[(0, 1, 1), (1, 2, 1), (2, 3, 1), (0, 3, 1), (0, 3, 1)]),
+        Answer::Done,
+    ),
+];
+
+#[test]
+fn a_dag_tells_of_paths(rt: HostRuntime) {
+    const ROWS: &[Row<'static>] = &[
+        (Call::Ask(Question::Reaches(0, 3)), Answer::Done),
+        (Call::Ask(Question::Reaches(3, 0)), Answer::Nothing),
+        (Call::Ask(Question::Reaches(2, 2)), Answer::Done),
+        (Call::Ask(Question::Reaches(0, 9)), Answer::Nothing),
+        (Call::Ask(Question::Reaches(9, 9)), Answer::Nothing),
+        (Call::Ask(Question::ClosesCycle(3, 1)), Answer::Done),
+        (Call::Ask(Question::ClosesCycle(1, 3)), Answer::Nothing),
+        (Call::Ask(Question::Joined(0, 3)), Answer::Done),
+        (Call::Ask(Question::Joined(0, 2)), Answer::Nothing),
+        (Call::Ask(Question::Before(0, 3)), Answer::Done),
+        (Call::Ask(Question::Before(3, 0)), Answer::Nothing),
+        (Call::Ask(Question::Before(0, 0)), Answer::Nothing),
+        (Call::Ask(Question::Before(0, 9)), Answer::Nothing),
+        (Call::Ask(Question::Before(9, 0)), Answer::Nothing),
+    ];
+    both(&rt, rt.alloc(), Scene::Twice(PATH, ROWS));
+}
+
+#[test]
+fn a_dag_tells_what_depends_on_what(rt: HostRuntime) {
+    const ROWS: &[Row<'static>] = &[
+        (
+            Call::Ask(Question::Affected(&[2, 9, 1, 1])),
+            Answer::Nodes(&[1, 2, 3]),
+        ),
+        (Call::Ask(Question::Affected(&[3])), Answer::Nodes(&[3])),
+        (Call::Ask(Question::Affected(&[9])), Answer::Nodes(&[])),
+        (
+            Call::Ask(Question::Descendants(&[0])),
+            Answer::Nodes(&[1, 2, 3]),
+        ),
+        (
+            Call::Ask(Question::Descendants(&[2, 1])),
+            Answer::Nodes(&[2, 3]),
+        ),
+        (
+            Call::Ask(Question::Descendants(&[3, 9])),
+            Answer::Nodes(&[]),
+        ),
+        (
+            Call::Ask(Question::Ancestors(&[3])),
+            Answer::Nodes(&[0, 1, 2]),
+        ),
+        (
+            Call::Ask(Question::Ancestors(&[2, 1])),
+            Answer::Nodes(&[0, 1]),
+        ),
+        (Call::Ask(Question::Ancestors(&[0, 9])), Answer::Nodes(&[])),
+        // Asking changes nothing.
+        (Call::Order, Answer::Nodes(&[0, 1, 2, 3])),
+    ];
+    both(&rt, rt.alloc(), Scene::Twice(PATH, ROWS));
+}
+
+#[test]
+fn an_empty_dag_has_no_answers(rt: HostRuntime) {
+    const ROWS: &[Row<'static>] = &[
+        (Call::Ask(Question::Reaches(0, 0)), Answer::Nothing),
+        (Call::Ask(Question::Before(0, 1)), Answer::Nothing),
+        (Call::Ask(Question::Affected(&[0])), Answer::Nodes(&[])),
+        (Call::Ask(Question::Descendants(&[])), Answer::Nodes(&[])),
+        (Call::Ask(Question::Ancestors(&[0])), Answer::Nodes(&[])),
+    ];
+    both(&rt, rt.alloc(), Scene::Rows(ROWS));
+}
+
+#[test]
+fn no_path_leads_through_a_removed_node(rt: HostRuntime) {
+    // Node 3 gets the index that is gone.
+    const ROWS: &[Row<'static>] = &[
+        (Call::RemoveNode(1), Answer::Weight(1)),
+        (Call::Ask(Question::Reaches(0, 1)), Answer::Done),
+        (Call::Ask(Question::Reaches(0, 2)), Answer::Nothing),
+        (
+            Call::Ask(Question::Affected(&[0, 3])),
+            Answer::Nodes(&[0, 1]),
+        ),
+        (Call::Ask(Question::Descendants(&[2])), Answer::Nodes(&[1])),
+        (Call::Ask(Question::Ancestors(&[2])), Answer::Nodes(&[])),
+    ];
+    const AFTER: &[Row<'static>] = &[
+        (Call::RemoveNode(1), Answer::Weight(1)),
+        (Call::Ask(Question::Reaches(0, 3)), Answer::Done),
+        (Call::Ask(Question::Reaches(0, 2)), Answer::Nothing),
+        (Call::Ask(Question::Reaches(1, 1)), Answer::Nothing),
+        (
+            Call::Ask(Question::Affected(&[0, 1])),
+            Answer::Nodes(&[0, 3]),
+        ),
+        (Call::Ask(Question::Descendants(&[1])), Answer::Nodes(&[])),
+        (Call::Ask(Question::Ancestors(&[2])), Answer::Nodes(&[])),
+    ];
+    compact(&rt, rt.alloc(), Scene::Twice(PATH, ROWS));
+    stable(&rt, rt.alloc(), Scene::Twice(PATH, AFTER));
+}
