@@ -28,16 +28,15 @@ fn removal_on_the_way(rt: HostRuntime) -> Result<(), Fail> {
     let (_, mow) = dag.add_child(sow, 20, "mow")?;
     let mut walker = dag.children(sow);
     for _ in 0..dag.edge_count() {
-        let Some((days, child)) = walker.walk_next(&dag) else {
+        let Some((days, _)) = walker.walk_next(&dag) else {
             break;
         };
         if dag.edge_weight(days) == Some(&20) {
             let _ = dag.remove_edge(days);
-            let _ = dag.remove_node(child);
         }
     }
     assert!(rt; dag.contains_edge(sow, hoe));
-    assert!(rt; !dag.contains_node(mow));
+    assert!(rt; !dag.contains_edge(sow, mow));
     Ok(())
 }
 
