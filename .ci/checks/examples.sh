@@ -1,6 +1,5 @@
 #!/usr/bin/env bash
-# Each example in the docs of the library is the body of a test in crates/tests_run/src/examples.rt, or is checked by
-# readme.rt beside it.
+# Each example in the docs of the library is the body of a test in crates/tests_run/src/examples.rt. Other examples: docs.sh.
 set -u
 cd "$(dirname "$0")/../.." || exit 1
 exec python3 - <<'PYTHON'

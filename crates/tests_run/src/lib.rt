@@ -1,4 +1,4 @@
-//! What stands on a dag, by example: commands, documents, and the first example of the README.
+//! What stands on a dag, by example: commands, documents, and the examples of the docs.
 #![tactic(auto)]
 
 #[cfg(test)]
@@ -8,4 +8,4 @@ mod documents;
 #[cfg(test)]
 mod examples;
 #[cfg(test)]
-mod readme;
+mod examples_using;

@@ -1,0 +1,107 @@
+#!/usr/bin/env bash
+# The first example of the README is the text of a test, each block of code in docs/USING.md stands in a file that the gate
+# checks, and each run in the README and in docs/COMMANDS.md prints what stands there.
+set -u
+cd "$(dirname "$0")/../.." || exit 1
+exec python3 - <<'PYTHON'
+import glob
+import os
+import re
+import shlex
+import subprocess
+import sys
+import tempfile
+
+EXAMPLE = "crates/example_garden/src/tests.rt"
+PROGRAM = os.path.abspath("crates/dagbench/out/dagbench")
+bad = 0
+
+
+def complain(text):
+    global bad
+    bad += 1
+    print(text)
+
+
+def text_of(path):
+    with open(path, encoding="utf-8") as file:
+        return file.read()
+
+
+def blocks(text, language):
+    return re.findall(rf"^```{language}\n(.*?)^```$", text, re.M | re.S)
+
+
+readme = text_of("README.md")
+first = blocks(readme, "rust")[0]
+test = text_of(EXAMPLE).partition("\n")[2]
+if first != test:
+    complain(f"the first example of the README is not {EXAMPLE} below its first line")
+
+
+# Code without doc comments, attributes, blank lines and the indentation that all of it has. A line `// ..` parts a block.
+def code_of(text):
+    lines = [line for line in text.split("\n") if line.strip() and not re.match(r"\s*(//[/!]|#\[)", line)]
+    margin = min((len(line) - len(line.lstrip()) for line in lines), default=0)
+    return [line[margin:] for line in lines]
+
+
+def stands_in(part, lines):
+    """Whether the lines of a part follow one another in a file, at any indentation."""
+    for at, line in enumerate(lines):
+        margin = line[: len(line) - len(line.lstrip())]
+        if line.lstrip() == part[0] and lines[at : at + len(part)] == [margin + it for it in part]:
+            return True
+    return False
+
+
+gated = [line.split(":")[0].split()[0] for line in text_of("crates.txt").split("\n") if ":" in line.split("#")[0]]
+files = [path for name in gated for path in glob.glob(f"crates/{name}/src/**/*.rt", recursive=True)]
+sources = {path: code_of(text_of(path)) for path in files}
+page = text_of("docs/USING.md")
+if blocks(page, "text") != [text_of("crates/example_garden/stdout")]:
+    complain("docs/USING.md: the program of .ci/use prints something else")
+using = blocks(page, "rust")
+for block in using:
+    parts = [code_of(part) for part in re.split(r"^ *// \.\.$", block, flags=re.M)]
+    if not any(all(stands_in(part, lines) for part in parts if part) for lines in sources.values()):
+        complain(f"docs/USING.md: no file has this:\n{block}")
+proofs = [text_of(path) for name in gated for path in glob.glob(f"crates/{name}/proofs/**/*.antt", recursive=True)]
+for block in blocks(page, "antt"):
+    if not any(block in text for text in proofs):
+        complain(f"docs/USING.md: no file has this:\n{block}")
+
+# The runs: arguments, input, output.
+runs = []
+quick = re.search(r"printf '(.*?)' > /tmp/lines && \(cd crates/dagbench && rt try -- (.*?) < /tmp/lines\)", readme)
+prints = re.search(r"It prints ((?:`[^`]*`,\s+)*`[^`]*`)", readme[quick.end() :]) if quick else None
+if prints:
+    said = re.findall(r"`([^`]*)`", prints[1])
+    runs.append((quick[2].split(), quick[1].encode().decode("unicode_escape"), "".join(f"{it}\n" for it in said)))
+else:
+    complain("README.md has no run of the line program")
+commands = text_of("docs/COMMANDS.md")
+shown = re.findall(r"^```sh\nrt try -- ([^\n]*?) <<'END'\n(.*?)^END\n```\n\nIt prints:\n\n```text\n(.*?)^```$", commands, re.M | re.S)
+if not shown or len(shown) != len(blocks(commands, "sh")):
+    complain("docs/COMMANDS.md has a run of another form")
+runs += [(shlex.split(words), sent, said) for words, sent, said in shown]
+
+if os.access(PROGRAM, os.X_OK):
+    for words, sent, said in runs:
+        run = subprocess.run([PROGRAM, *words], input=sent, capture_output=True, text=True)
+        if run.returncode != 0 or run.stderr or run.stdout != said:
+            complain(f"dagbench {' '.join(words)} prints\n{run.stdout}{run.stderr}and not\n{said}")
+else:
+    # `rt ci` has not built the program, so it is tried.
+    with tempfile.TemporaryDirectory() as cases:
+        for at, (words, sent, said) in enumerate(runs):
+            for name, text in [("", sent), (".args", "".join(f"{it}\n" for it in words)), (".stdout", said)]:
+                with open(f"{cases}/run{at}{name}", "w", encoding="utf-8") as file:
+                    file.write(text)
+        run = subprocess.run(["rt", "try", "--cases", cases], cwd="crates/dagbench", capture_output=True, text=True)
+        if run.returncode != 0:
+            complain(run.stdout + run.stderr)
+
+print(f"{len(using)} blocks of code and {len(runs)} runs, {bad} bad")
+sys.exit(bad > 0)
+PYTHON

@@ -1,0 +1,66 @@
+//! The recipes of `docs/USING.md` that are no example of a call. `.ci/checks/docs.sh` compares the
+//! texts.
+
+use daggy::run::plan;
+use daggy::{Dag, StableDag, Walker};
+use std::test::Fail;
+
+#[test]
+fn stages_of_a_plan(rt: HostRuntime) -> Result<(), Fail> {
+    let mut dag: Dag<&'static str, u32> = Dag::new(rt.alloc());
+    let sow = dag.add_node("sow")?;
+    let (_, hoe) = dag.add_child(sow, 30, "hoe")?;
+    let (_, mow) = dag.add_child(sow, 20, "mow")?;
+    let (_, reap) = dag.add_child(hoe, 60, "reap")?;
+    let plan = plan(rt.alloc(), &dag)?;
+    assert!(rt; plan.stages.len() == 3);
+    assert!(rt; plan.stages[1].as_slice() == [hoe, mow].as_slice());
+    // A path with a node in each stage, so no plan has fewer stages.
+    assert!(rt; plan.chain.as_slice() == [sow, hoe, reap].as_slice());
+    Ok(())
+}
+
+#[test]
+fn removal_on_the_way(rt: HostRuntime) -> Result<(), Fail> {
+    let mut dag: StableDag<&'static str, u32> = StableDag::new(rt.alloc());
+    let sow = dag.add_node("sow")?;
+    let (_, hoe) = dag.add_child(sow, 30, "hoe")?;
+    let (_, mow) = dag.add_child(sow, 20, "mow")?;
+    let mut walker = dag.children(sow);
+    for _ in 0..dag.edge_count() {
+        let Some((days, _)) = walker.walk_next(&dag) else {
+            break;
+        };
+        if dag.edge_weight(days) == Some(&20) {
+            let _ = dag.remove_edge(days);
+        }
+    }
+    assert!(rt; dag.contains_edge(sow, hoe));
+    assert!(rt; !dag.contains_edge(sow, mow));
+    Ok(())
+}
+
+#[test]
+fn weights_in_order(rt: HostRuntime) -> Result<(), Fail> {
+    let mut dag: Dag<u32, u32> = Dag::new(rt.alloc());
+    let sow = dag.add_node(0)?;
+    let (_, hoe) = dag.add_child(sow, 30, 0)?;
+    let (_, reap) = dag.add_child(hoe, 60, 0)?;
+    let mut nodes = Vec::new(rt.alloc());
+    for n in dag.topological_order() {
+        nodes.push(n)?;
+    }
+    for n in nodes {
+        let mut start = 0;
+        for (days, parent) in dag.parents(n).iter(&dag) {
+            if let (Some(begun), Some(days)) = (dag.node_weight(parent), dag.edge_weight(days)) {
+                start = start.max(begun.saturating_add(*days));
+            }
+        }
+        if let Some(weight) = dag.node_weight_mut(n) {
+            *weight = start;
+        }
+    }
+    assert!(rt; dag.node_weight(reap) == Some(&90));
+    Ok(())
+}
