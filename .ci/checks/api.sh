@@ -2,5 +2,5 @@
 # docs/API.md is what .ci/api makes of the sources.
 set -u
 cd "$(dirname "$0")/../.." || exit 1
-made=$(.ci/api --print) || exit 1
+made=$(python3 .ci/api --print) || exit 1
 diff docs/API.md <(printf '%s\n' "$made") || { echo 'run .ci/api'; exit 1; }

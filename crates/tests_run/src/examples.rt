@@ -110,3 +110,14 @@ fn reaches(rt: HostRuntime) -> Result<(), Fail> {
     assert!(rt; !dag.reaches(reap, hoe));
     Ok(())
 }
+
+#[test]
+fn affected(rt: HostRuntime) -> Result<(), Fail> {
+    let mut dag: Dag<&'static str, u32> = Dag::new(rt.alloc());
+    let sow = dag.add_node("sow")?;
+    let (_, reap) = dag.add_child(sow, 90, "reap")?;
+    let (_, hoe) = dag.add_parent(reap, 60, "hoe")?;
+    let found = dag.affected(&[hoe])?;
+    assert!(rt; found.as_slice() == &[hoe, reap]);
+    Ok(())
+}
