@@ -39,13 +39,6 @@ order_kept {N} {E} {old} {new} {order} ord same = let P : Graph N E → Type 0 =
 pub acyclic_by : {N E : Type 0} {old new : Graph N E} {order : List ℕ} → IsOrderOf old order → new ≡ old → IsAcyclic new
 acyclic_by {order = order} ord same = acyclic_from_order order (order_kept ord same)
 
--- a node does not stand after one that it reaches
-pub no_later : {N E : Type 0} {g : Graph N E} {order : List ℕ}
-    → IsOrderOf g order → (u v : ℕ) → Reaches g u v → place order u ≤ place order v
-no_later {N} {E} {g} {order} ord u v r =
-    let P : ℕ → Type 0 = λ z. place order u ≤ place order z in
-    reaches_stays g P (λ x y h j. omega (arith, h, ord.sorted x y j)) u v r (omega arith)
-
 -- the edges that leave a stretch of it
 pub few_edges : {N E : Type 0} {end : ℕ} {g : Graph N E} {order : List ℕ}
     → IsWellFormed end g → IsOrderOf g order → (low high : ℕ) → edges_from g (stretch order low high) ≤ edge_count g

@@ -12,6 +12,7 @@ enum Question {
     Affected,
     Descendants,
     Ancestors,
+    PathFromRoot,
 }
 
 // How many nodes the answer has.
@@ -21,6 +22,10 @@ fn ask<S: Kind>(dag: &mut Plain<S>, question: Question, n: usize) -> Result<usiz
         Question::Affected => dag.affected(&nodes)?,
         Question::Descendants => dag.descendants(&nodes)?,
         Question::Ancestors => dag.ancestors(&nodes)?,
+        Question::PathFromRoot => match dag.path(NodeIndex::new(0), NodeIndex::new(n))? {
+            Some(path) => path,
+            None => return Ok(0),
+        },
     };
     Ok(found.len())
 }
@@ -47,7 +52,8 @@ fn ask_again<S: Kind>(
     same(rt, state_of(dag), before);
 }
 
-/// What depends on the root of a small fan, and on what its last child depends.
+/// What depends on the root of a small fan, on what its last child depends, and a path between
+/// the two.
 pub fn queries<S: Kind>(rt: &impl Abort, alloc: Global, refused: &mut bool) {
     let mut dag: Plain<S> = small_fan(rt, alloc, refused);
     let nodes = dag.node_count();
@@ -55,4 +61,5 @@ pub fn queries<S: Kind>(rt: &impl Abort, alloc: Global, refused: &mut bool) {
     ask_again(rt, &mut dag, Question::Affected, 0, nodes, refused);
     ask_again(rt, &mut dag, Question::Descendants, 0, others, refused);
     ask_again(rt, &mut dag, Question::Ancestors, 3, 1, refused);
+    ask_again(rt, &mut dag, Question::PathFromRoot, 3, 2, refused);
 }

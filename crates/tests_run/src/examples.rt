@@ -121,3 +121,16 @@ fn affected(rt: HostRuntime) -> Result<(), Fail> {
     assert!(rt; found.as_slice() == &[hoe, reap]);
     Ok(())
 }
+
+#[test]
+fn path(rt: HostRuntime) -> Result<(), Fail> {
+    let mut dag: Dag<&'static str, u32> = Dag::new(rt.alloc());
+    let sow = dag.add_node("sow")?;
+    let (_, hoe) = dag.add_child(sow, 30, "hoe")?;
+    let (_, reap) = dag.add_child(hoe, 60, "reap")?;
+    // The cycle that an edge from `reap` to `sow` would close.
+    let cycle = dag.path(sow, reap)?;
+    assert!(rt; cycle.is_some_and(|nodes| nodes.as_slice() == &[sow, hoe, reap]));
+    assert!(rt; dag.path(reap, sow)?.is_none());
+    Ok(())
+}

@@ -1,11 +1,13 @@
-//! Whether a path leads from one node to another.
-ghost use Rattle.std.specs.Prelude.{◌≡◌, ◌+◌, ◌≤◌, ◌↔◌, IsTrue};
+//! Whether a path leads from one node to another, and which is shortest.
+ghost use Rattle.std.specs.Prelude.{◌≡◌, ◌+◌, ◌≤◌, ◌↔◌, IsTrue, Ok, None, map, IfOk, IfSome};
+ghost use Rattle.daggy_order.specs.Paths.{IsShortestPath};
 ghost use Rattle.daggy_base.specs.Graph.{edge_count as edge_count_of};
 ghost use Rattle.daggy_base.specs.Path.{AreJoined, Reaches};
 
 use crate::acyclic::Acyclic;
 use daggy_base::index::{IndexType, NodeIndex};
 use daggy_base::store::Store;
+use std::alloc::AllocError;
 
 impl<N: Drop, E: Drop, Ix: IndexType, S> Acyclic<N, E, Ix, S>
 where
@@ -58,6 +60,50 @@ where
             → self.new.looks ≡ self.old.looks }
     {
         self.reaches(b, a)
+    }
+
+    /// Returns a shortest path from `a` to `b`, as its nodes in order, or `None` if no path leads
+    /// from `a` to `b`. The path from an existing node to itself is that node alone.
+    ///
+    /// An edge from `a` to `b` is rejected as a cycle if there is a path from `b` to `a`; that path
+    /// and the edge are the cycle.
+    ///
+    /// # Errors
+    ///
+    /// Returns `AllocError` if the memory for the path cannot be allocated.
+    ///
+    /// # Complexity
+    ///
+    /// As [`reaches`](Acyclic::reaches), and the length of the path.
+    ///
+    /// # Examples
+    ///
+    /// ```
+    /// let mut dag: Dag<&'static str, u32> = Dag::new(rt.alloc());
+    /// let sow = dag.add_node("sow")?;
+    /// let (_, hoe) = dag.add_child(sow, 30, "hoe")?;
+    /// let (_, reap) = dag.add_child(hoe, 60, "reap")?;
+    /// // The cycle that an edge from `reap` to `sow` would close.
+    /// let cycle = dag.path(sow, reap)?;
+    /// assert!(rt; cycle.is_some_and(|nodes| nodes.as_slice() == &[sow, hoe, reap]));
+    /// assert!(rt; dag.path(reap, sow)?.is_none());
+    /// ```
+    pub fn path(
+        &mut self,
+        a: NodeIndex<Ix>,
+        b: NodeIndex<Ix>,
+    ) -> Result<Option<Vec<NodeIndex<Ix>>>, AllocError>
+        ensures path { IfOk result (λ found. IfSome found (λ path.
+            IsShortestPath self.old.graph (Ix.number a) (Ix.number b)
+            (map Ix.number path.items))) }
+        ensures none { (result ≡ Ok None) ↔ ¬ Reaches self.old.graph (Ix.number a) (Ix.number b) }
+        ensures same { self.new.graph ≡ self.old.graph }
+        ensures looked { self.old.looks ≤ self.new.looks }
+        ensures counted { self.new.looks ≤ self.old.looks + edge_count_of self.old.graph }
+        ensures ready { Reaches self.old.graph (Ix.number b) (Ix.number a)
+            → self.new.looks ≡ self.old.looks }
+    {
+        self.guarded.path(a, b)
     }
 
     /// Whether an edge leads from `a` to `b`.

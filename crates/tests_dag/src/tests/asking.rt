@@ -17,6 +17,7 @@ pub enum Question<'a> {
     Affected(&'a [usize]),
     Descendants(&'a [usize]),
     Ancestors(&'a [usize]),
+    Path(usize, usize),
 }
 
 fn nodes<Ix: IndexType>(rt: &impl Abort, alloc: Global, indices: &[usize]) -> Vec<NodeIndex<Ix>> {
@@ -77,6 +78,10 @@ pub fn ask<Ix: IndexType, S: Store<Ix, NodeWeight = u32, EdgeWeight = u32>>(
             let found = made(rt, dag.ancestors(given.as_slice()));
             are(rt, alloc, found.as_slice(), wanted);
         }
+        Question::Path(a, b) => match made(rt, dag.path(node(rt, a), node(rt, b))) {
+            Some(path) => are(rt, alloc, path.as_slice(), wanted),
+            None => is(rt, Answer::Nothing, wanted),
+        },
     }
 }
 
@@ -101,6 +106,12 @@ fn a_dag_tells_of_paths(rt: HostRuntime) {
         (Call::Ask(Question::ClosesCycle(1, 3)), Answer::Nothing),
         (Call::Ask(Question::Joined(0, 3)), Answer::Done),
         (Call::Ask(Question::Joined(0, 2)), Answer::Nothing),
+        (Call::Ask(Question::Path(0, 2)), Answer::Nodes(&[0, 1, 2])),
+        // The edge from 0 to 3 is shorter than the path through all nodes.
+        (Call::Ask(Question::Path(0, 3)), Answer::Nodes(&[0, 3])),
+        (Call::Ask(Question::Path(2, 2)), Answer::Nodes(&[2])),
+        (Call::Ask(Question::Path(3, 0)), Answer::Nothing),
+        (Call::Ask(Question::Path(0, 9)), Answer::Nothing),
         (Call::Ask(Question::Before(0, 3)), Answer::Done),
         (Call::Ask(Question::Before(3, 0)), Answer::Nothing),
         (Call::Ask(Question::Before(0, 0)), Answer::Nothing),
@@ -150,6 +161,7 @@ fn a_dag_tells_what_depends_on_what(rt: HostRuntime) {
 fn an_empty_dag_has_no_answers(rt: HostRuntime) {
     const ROWS: &[Row<'static>] = &[
         (Call::Ask(Question::Reaches(0, 0)), Answer::Nothing),
+        (Call::Ask(Question::Path(0, 0)), Answer::Nothing),
         (Call::Ask(Question::Before(0, 1)), Answer::Nothing),
         (Call::Ask(Question::Affected(&[0])), Answer::Nodes(&[])),
         (Call::Ask(Question::Descendants(&[])), Answer::Nodes(&[])),

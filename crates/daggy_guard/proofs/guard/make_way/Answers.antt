@@ -2,7 +2,8 @@ use Rattle.std.proofs.Common.{◌≢◌, ◌<◌, ◌≤◌, ◌∙◌, inl, inr
 use Rattle.std.proofs.lemmas.Bool.{false≢true, cases_lt}
 use Rattle.daggy_base.specs.Ordered.{IsOrderOf, place}
 use Rattle.daggy_order.proofs.MovedForward.{order_moved_before, order_moved_first}
-use Rattle.daggy_guard.proofs.OrderAfterChange.{few_edges, no_later}
+use Rattle.daggy_order.proofs.OrderEdgeResult.{reached_later}
+use Rattle.daggy_guard.proofs.OrderAfterChange.{few_edges}
 use Rattle.daggy_guard.proofs.ParentsAsked.{not_reached}
 use Rattle.daggy_guard.proofs.guard.make_way.Given.{Over}
 use Rattle.daggy_guard.proofs.guard.make_way.Goals.{After-move_before}
@@ -29,7 +30,7 @@ moved g c =
 pub returns-then-stands_before-clause-decided : goal.returns-then-stands_before-clause-decided
 returns-then-stands_before-clause-decided g c = (
   λ h. absurd (false≢true (sym h)),
-  λ r. absurd (omega (arith, c.stands_before.ensures.0 c.if-stands_before.true, no_later c.requires.ordered _ _ r)),
+  λ r. absurd (omega (arith, c.stands_before.ensures.0 c.if-stands_before.true, reached_later _ _ c.requires.ordered _ _ r)),
 )
 
 pub returns-then-not-has_parents-clause-decided : goal.returns-then-not-has_parents-clause-decided
@@ -80,4 +81,4 @@ returns-clause-counted g c =
     )
 
 pub returns-clause-ready : goal.returns-clause-ready
-returns-clause-ready g c r = c.order_edge.ensures.unlooked (no_later c.requires.ordered _ _ r)
+returns-clause-ready g c r = c.order_edge.ensures.unlooked (reached_later _ _ c.requires.ordered _ _ r)

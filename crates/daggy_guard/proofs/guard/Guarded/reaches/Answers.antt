@@ -3,7 +3,8 @@ use Rattle.daggy_base.specs.Graph.{edge_count}
 use Rattle.daggy_base.specs.Path.{Reaches}
 use Rattle.daggy_base.specs.Ordered.{place}
 use Rattle.daggy_guard.proofs.GuardedChange.{same_graph, same_looks}
-use Rattle.daggy_guard.proofs.OrderAfterChange.{few_edges, no_later}
+use Rattle.daggy_order.proofs.OrderEdgeResult.{reached_later}
+use Rattle.daggy_guard.proofs.OrderAfterChange.{few_edges}
 use Rattle.daggy_guard.proofs.guard.Guarded.reaches.Goals as goal
 
 pub returns-clause-counted : goal.returns-clause-counted
@@ -23,4 +24,4 @@ returns-clause-ready g c r =
     let a = g.Ix.IndexType.number c.args.a in
     let b = g.Ix.IndexType.number c.args.b in
     let back = subst (λ z. Reaches z b a) (sym (same_graph c.self.view_is)) r in
-    c.reaches_in.ensures.unlooked (no_later c.self.invariant.0 b a back) ∙ same_looks c.self.view_is
+    c.reaches_in.ensures.unlooked (reached_later _ _ c.self.invariant.0 b a back) ∙ same_looks c.self.view_is
