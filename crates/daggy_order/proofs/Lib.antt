@@ -15,3 +15,6 @@ pub mod SortedListChanges
 pub mod OrderLaws
 pub mod MovedForward
 pub mod RenumberedNodes
+pub mod Levels
+pub mod NotedParents
+pub mod WaysBack
