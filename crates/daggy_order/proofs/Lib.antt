@@ -16,3 +16,6 @@ pub mod OrderLaws
 pub mod MovedForward
 pub mod RenumberedNodes
 pub mod SortedByPlace
+pub mod Levels
+pub mod NotedParents
+pub mod WaysBack

@@ -1,5 +1,5 @@
 -- The order after `order_edge`.
-use Rattle.std.proofs.Common.{◌≡◌, ℕ, ◌+◌, ◌<◌, ◌≤◌, Bool, true, false, not, ◌⊎◌, ◌↔◌, ◌^◌, inl, inr, List, [], ◌∷◌}
+use Rattle.std.proofs.Common.{◌≡◌, ◌≢◌, ℕ, ◌+◌, ◌<◌, ◌≤◌, Bool, true, false, not, ◌⊎◌, ◌↔◌, ◌^◌, inl, inr, List, [], ◌∷◌}
 use Rattle.std.proofs.Common.{◌++◌, length, get_or, take, drop, refl, sym, ap, subst, ◌∙◌, arith, append_assoc}
 use Rattle.std.specs.List.{filter, Contains}
 use Rattle.std.proofs.lemmas.List.{length-append, take_at, drop_at, append-nil}
@@ -16,7 +16,7 @@ use Rattle.daggy_base.specs.Ordered.{IsOrderOf, IsParted, place, stretch}
 use Rattle.daggy_order.specs.Links.{LabelsAscend, IsLabelled, IsMoved, StandBefore}
 use Rattle.daggy_order.proofs.BoundedSearch.{reached_exists}
 use Rattle.daggy_base.proofs.Sorted.{place_at, Sorted, distinct_from_unique, unique_cross, sorted_from_places}
-use Rattle.daggy_base.proofs.Sorted.{places_from_sorted, parts, parts_in, parts_out, parts_unique, parts_sorted}
+use Rattle.daggy_base.proofs.Sorted.{same_place, places_from_sorted, parts, parts_in, parts_out, parts_unique, parts_sorted}
 use Rattle.daggy_base.proofs.Sorted.{parts_before, apart, place_same, place_right}
 use Rattle.daggy_base.proofs.ListParts.{filter_yes, filter_no, in_stretch}
 use Rattle.daggy_order.proofs.AscendingLabels.{asc_before, asc_behind}
@@ -38,6 +38,14 @@ pub reached_later : {N E : Type 0} (g : Graph N E) (order : List ℕ) → IsOrde
 reached_later g order ord u v r =
     let P : ℕ → Type 0 = λ z. place order u ≤ place order z in
     reaches_stays g P (λ x y h j. omega (arith, h, ord.sorted x y j)) u v r (omega arith)
+
+-- nor to another node that does not come later
+pub not_reached : {N E : Type 0} (g : Graph N E) (order : List ℕ) → IsOrderOf g order
+    → (u v : ℕ) → HasNode g u → HasNode g v → u ≢ v → (place order u < place order v → ⊥) → Reaches g u v → ⊥
+not_reached g order ord u v has_u has_v differ late r =
+    let m = contains_mem order u ((ord.exact u).1 has_u) in
+    let n = contains_mem order v ((ord.exact v).1 has_v) in
+    differ (same_place order u v m n (omega (arith, late, reached_later g order ord u v r)))
 
 module _ {N E : Type 0} {end : ℕ} {g : Graph N E} (w : IsWellFormed end g) {labels nodes : List ℕ}
     (ord : IsOrderOf g nodes) (s : IsLabelled labels nodes) where

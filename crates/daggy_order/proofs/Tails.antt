@@ -108,6 +108,15 @@ module _ {end : ℕ} {nodes : List ℕ} {capacity from count index_bound : ℕ}
         | inr b ↦ turn_high from count k b
       ]
 
+  -- all nodes are written
+  pub tailed_flushed : {nodes' : List ℕ} {capacity' from' count' index_bound' : ℕ}
+      → nodes' ≡ nodes ++ range_with_len from count → from' ≡ from + count → count' ≡ 0 → index_bound' ≡ 0
+      → IsTailed end nodes' capacity' from' count' index_bound'
+  tailed_flushed {nodes'} all from_is none no_room =
+      tailed_bare none no_room (omega (arith, from_is, s.real)) (λ k m.
+      let P : List ℕ → Type 0 = λ z. Mem k z in
+      omega (arith, from_is, high k (subst P all m)))
+
   pub in_written : (k : ℕ) → k < from → Mem k (nodes ++ range_with_len from count) → Mem k nodes
   in_written k low m =
       elim (mem_cases nodes (range_with_len from count) k m) [

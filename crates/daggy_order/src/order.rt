@@ -14,12 +14,14 @@ use std::marker::Model;
 mod edge;
 mod naming;
 mod nodes;
+mod path;
 mod reaching;
 mod search;
 mod sorting;
 
 pub use edge::order_edge;
 pub use nodes::Nodes;
+pub use path::path_in;
 pub use reaching::reaches_in;
 
 /// An ordered list of distinct nodes that can be added at both ends, removed and moved.

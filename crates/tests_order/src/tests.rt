@@ -6,6 +6,7 @@ mod counted;
 mod edges;
 mod kept;
 mod lists;
+mod paths;
 mod random;
 mod redundant;
 mod sorting;
