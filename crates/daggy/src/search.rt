@@ -1,7 +1,7 @@
 //! Searches over any graph whose edges can be read one at a time.
 pub use daggy_base::looks::Looks;
 pub use daggy_base::source::EdgeSource;
-pub use daggy_order::order::{Nodes, Order, order_edge, reaches_in};
+pub use daggy_order::order::{Nodes, Order, order_edge, path_in, reaches_in};
 pub use daggy_reduction::affected::{affected, descendants};
 pub use daggy_reduction::blocks::redundant_edges_by_blocks;
 pub use daggy_reduction::bounded::redundant_edges_in;
