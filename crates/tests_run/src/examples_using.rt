@@ -21,6 +21,25 @@ fn stages_of_a_plan(rt: HostRuntime) -> Result<(), Fail> {
 }
 
 #[test]
+fn what_depends_on_what(rt: HostRuntime) -> Result<(), Fail> {
+    let mut dag: Dag<&'static str, u32> = Dag::new(rt.alloc());
+    let sow = dag.add_node("sow")?;
+    let (_, hoe) = dag.add_child(sow, 30, "hoe")?;
+    let (_, reap) = dag.add_child(hoe, 60, "reap")?;
+    // What reaping depends on, and what is to be done again if hoeing changes.
+    let before = dag.ancestors(&[reap])?;
+    assert!(rt; before.as_slice() == [sow, hoe].as_slice());
+    let again = dag.affected(&[hoe])?;
+    assert!(rt; again.as_slice() == [hoe, reap].as_slice());
+    // Whether an edge from `reap` to `sow` would be rejected, and the cycle that it would close.
+    assert!(rt; dag.would_close_cycle(reap, sow));
+    let cycle = dag.path(sow, reap)?;
+    assert!(rt; cycle.is_some_and(|nodes| nodes.len() == 3));
+    assert!(rt; dag.stands_before(sow, reap) && !dag.reaches(reap, sow));
+    Ok(())
+}
+
+#[test]
 fn removal_on_the_way(rt: HostRuntime) -> Result<(), Fail> {
     let mut dag: StableDag<&'static str, u32> = StableDag::new(rt.alloc());
     let sow = dag.add_node("sow")?;
