@@ -67,8 +67,8 @@ impl Row {
     /// Whether the rows have no node in common.
     #[inline]
     pub fn is_disjoint(&self, other: &Row) -> bool
-        ensures { result ≡ true → (i : ℕ) → slice_index_or self.now i false ≡ true
-            → slice_index_or other.now i false ≡ false }
+        ensures { result ≡ true ↔ ((i : ℕ) → slice_index_or self.now i false ≡ true
+            → slice_index_or other.now i false ≡ false) }
     {
         let mut common = 0;
         let mut k = 0;

@@ -6,4 +6,4 @@ pub returns-else-not-is_disjoint-clause-flagged : goal.returns-else-not-is_disjo
 returns-else-not-is_disjoint-clause-flagged g c =
     none_to_flag c.requires.well_formed c.args.work.now.cursors c.requires.places_fit c.args.block.low
     c.args.block.high (g.Ix.IndexType.number c.args.u) c.args.reached.now.direct c.args.reached.now.indirect
-    c.requires.direct (c.is_disjoint.ensures (cc)) (map g.Ix.IndexType.number c.args.flags.now)
+    c.requires.direct (c.is_disjoint.ensures.0 (cc)) (map g.Ix.IndexType.number c.args.flags.now)

@@ -1,17 +1,16 @@
-use Rattle.std.proofs.Common.{false, get_or, sym, ap, ◌∙◌, arith}
-use Rattle.daggy_search.proofs.RowWords.{met_more, met_whole, none_met}
+use Rattle.std.proofs.Common.{arith}
+use Rattle.daggy_search.proofs.RowWords.{met_none, met_more, none_met}
 use Rattle.daggy_search.proofs.row.Row.is_disjoint.Goals as goal
 
 pub words-init : goal.words-init
-words-init c = λ m j low. absurd (omega (arith, low))
+words-init c = (met_none _ _, omega arith)
 
 pub words-preserved : goal.words-preserved
-words-preserved c = met_more _ _ c.words.common c.words.k c.words.invariant
+words-preserved c = (met_more _ _ c.words.common c.words.k c.words.invariant.0, omega (arith, c.words-test.true))
 
 pub returns : goal.returns
-returns c h i t =
-    let a = c.self.inside.words in
-    let b = c.other.inside.words in
-    let whole = met_whole a b c.words.common c.words.k c.words.invariant c.words-test.false h in
-    sym (ap (λ z. get_or z i false) c.other.view_is)
-    ∙ none_met a b 512 (omega arith) whole i (ap (λ z. get_or z i false) c.self.view_is ∙ t)
+returns c =
+    rw (← c.self.view_is, ← c.other.view_is)
+    (none_met c.self.inside.words c.other.inside.words c.words.common c.words.k
+    (omega (arith, c.words.auto.common-fits)) (omega (arith, c.words.invariant.1, c.words-test.false))
+    c.words.invariant.0)
