@@ -50,7 +50,7 @@ fn flag_blocks<Ix: IndexType, S: EdgeSource<Ix>>(
     }
 }
 
-// Leaves the redundant edges below some roots in front of `scratch.found`, and returns how many
+// Writes the redundant edges below some roots to the front of `scratch.found`, and returns how many
 // there are.
 pub(crate) fn leave_redundant_by_blocks<Ix: IndexType, S: EdgeSource<Ix>>(
     source: &mut S,

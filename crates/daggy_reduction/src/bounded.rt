@@ -148,7 +148,7 @@ fn flag_redundant_in<Ix: IndexType, S: EdgeSource<Ix>>(
     }
 }
 
-// Leaves the redundant edges below some roots in front of `scratch.found`, and returns how many
+// Writes the redundant edges below some roots to the front of `scratch.found`, and returns how many
 // there are.
 pub(crate) fn leave_redundant_in<Ix: IndexType, S: EdgeSource<Ix>>(
     source: &mut S,
