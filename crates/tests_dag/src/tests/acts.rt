@@ -98,6 +98,18 @@ fn through<S: Kind>(
         nodes,
     );
     same(rt, made(rt, S::edges(alloc, dag)).as_slice(), edges);
+    let (of_nodes, of_edges) = made(rt, S::weights(alloc, dag));
+    for (weight, (_, wanted)) in of_nodes.iter().zip(nodes) {
+        same(rt, *weight, *wanted);
+    }
+    for (weight, (_, _, _, wanted)) in of_edges.iter().zip(edges) {
+        same(rt, *weight, *wanted);
+    }
+    same(
+        rt,
+        (of_nodes.len(), of_edges.len()),
+        (nodes.len(), edges.len()),
+    );
 }
 
 fn along<S: Kind>(

@@ -55,6 +55,9 @@ pub trait Kind: Store<u8, NodeWeight = u32, EdgeWeight = u32> {
     /// The nodes of a dag with their weights.
     fn weighted_nodes(alloc: Global, dag: &Plain<Self>) -> Result<Vec<(usize, u32)>, AllocError>;
 
+    /// The weights of the nodes of a dag, and those of its edges.
+    fn weights(alloc: Global, dag: &Plain<Self>) -> Result<(Vec<u32>, Vec<u32>), AllocError>;
+
     /// The edges of a dag.
     fn edges(alloc: Global, dag: &Plain<Self>) -> Result<Vec<Line>, AllocError>;
 
@@ -133,6 +136,10 @@ fn small_edge(index: usize) -> EdgeIndex<u8> {
 
 fn index(n: NodeIndex<u8>) -> usize {
     n.index()
+}
+
+fn copied(weight: &u32) -> u32 {
+    *weight
 }
 
 fn list_of<T: Drop, I: Iterator<Item = T> + Drop>(
@@ -222,6 +229,12 @@ impl Kind for Compact {
 
     fn weighted_nodes(alloc: Global, dag: &Plain<Self>) -> Result<Vec<(usize, u32)>, AllocError> {
         weighted_list_of(alloc, dag.node_references())
+    }
+
+    fn weights(alloc: Global, dag: &Plain<Self>) -> Result<(Vec<u32>, Vec<u32>), AllocError> {
+        let nodes = list_of(alloc, dag.node_weights().map(copied))?;
+        let edges = list_of(alloc, dag.edge_weights().map(copied))?;
+        Ok((nodes, edges))
     }
 
     fn edges(alloc: Global, dag: &Plain<Self>) -> Result<Vec<Line>, AllocError> {
@@ -314,6 +327,12 @@ impl Kind for Stable {
 
     fn weighted_nodes(alloc: Global, dag: &Plain<Self>) -> Result<Vec<(usize, u32)>, AllocError> {
         weighted_list_of(alloc, dag.node_references())
+    }
+
+    fn weights(alloc: Global, dag: &Plain<Self>) -> Result<(Vec<u32>, Vec<u32>), AllocError> {
+        let nodes = list_of(alloc, dag.node_weights().map(copied))?;
+        let edges = list_of(alloc, dag.edge_weights().map(copied))?;
+        Ok((nodes, edges))
     }
 
     fn edges(alloc: Global, dag: &Plain<Self>) -> Result<Vec<Line>, AllocError> {

@@ -5,11 +5,15 @@ ghost use Rattle.daggy_base.specs.Iterating.{node_identifiers as node_identifier
 ghost use Rattle.daggy_base.specs.Iterating.{node_references as node_references_of};
 ghost use Rattle.daggy_base.specs.Iterating.{edge_references as edge_references_of, edges_at};
 ghost use Rattle.daggy_base.specs.Iterating.{neighbors_at};
+ghost use Rattle.daggy_base.specs.Iterating.{node_weights as node_weights_of};
+ghost use Rattle.daggy_base.specs.Iterating.{edge_weights as edge_weights_of};
 
 use crate::acyclic::Acyclic;
 use daggy_base::index::{Direction, IndexType, NodeIndex};
 use daggy_stable::stable_graph::StableDiGraph;
-use daggy_stable::stable_graph::iterators::{EdgeReferences, NodeIdentifiers, NodeReferences};
+use daggy_stable::stable_graph::iterators::{
+    EdgeReferences, EdgeWeights, NodeIdentifiers, NodeReferences, NodeWeights,
+};
 use daggy_stable::stable_graph::lists::{Edges, Neighbors};
 
 impl<N: Drop, E: Drop, Ix: IndexType> Acyclic<N, E, Ix, StableDiGraph<N, E, Ix>> {
@@ -29,6 +33,24 @@ impl<N: Drop, E: Drop, Ix: IndexType> Acyclic<N, E, Ix, StableDiGraph<N, E, Ix>>
         ensures fits { length result < 2 ^ 64 }
     {
         self.guarded.store.node_references()
+    }
+
+    /// The weights of the nodes, by ascending index.
+    #[inline]
+    pub fn node_weights(&self) -> NodeWeights<'_, N, Ix>
+        ensures rest { result ≡ node_weights_of self.now.graph }
+        ensures fits { length result < 2 ^ 64 }
+    {
+        self.guarded.store.node_weights()
+    }
+
+    /// The weights of the edges, by ascending index.
+    #[inline]
+    pub fn edge_weights(&self) -> EdgeWeights<'_, E, Ix>
+        ensures rest { result ≡ edge_weights_of self.now.graph }
+        ensures fits { length result < 2 ^ 64 }
+    {
+        self.guarded.store.edge_weights()
     }
 
     /// The edges, by ascending index.
