@@ -40,7 +40,7 @@ use std::marker::Model;
 /// ready.done(&dag, reap);
 /// assert!(rt; ready.is_finished());
 /// ```
-#[derive(Drop)]
+#[derive(Debug, Drop)]
 pub struct Ready<Ix: IndexType = DefaultIx> {
     // By node index, the number of edges from parents that are not done.
     waiting: Vec<usize>,

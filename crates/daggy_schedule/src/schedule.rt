@@ -10,6 +10,7 @@ use daggy_base::index::{DefaultIx, IndexType, NodeIndex};
 use daggy_base::store::Store;
 use daggy_dag::acyclic::Acyclic;
 use std::alloc::{AllocError, Global};
+use thiserror::Error;
 
 mod early;
 mod late;
@@ -36,11 +37,13 @@ pub struct Schedule<Ix: IndexType = DefaultIx> {
 }
 
 /// Why there is no schedule.
-#[derive(Debug, Drop)]
+#[derive(Clone, Copy, Debug, Eq, Error, PartialEq)]
 pub enum ScheduleError {
     /// The durations along some path sum up to 2^64 or more.
+    #[error("a path takes too long")]
     Overflow,
     /// An allocation failed.
+    #[error("out of memory")]
     Memory,
 }
 
