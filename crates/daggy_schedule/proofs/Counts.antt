@@ -118,22 +118,6 @@ next_closer end ds e (y ∷ ys) next u absent is =
     ∙ ap (λ z. length ds + z) (place_other e y (y ∷ ys) ne ∙ ap suc (place_same y y ys refl))) in
     omega (arith, there, place_split ds e (y ∷ ys) u, length-append ds (e ∷ y ∷ ys))
 
-pub count_some : (p : ℕ → Bool) (xs : List ℕ) → count_of p xs ≢ 0 → (k : ℕ) × Mem k xs × (p k ≡ true)
-count_some p [] h = absurd (h refl)
-count_some p (x ∷ xs) h =
-    elim (by_flag (p x)) [
-      | inl t ↦ (x, inl refl, t)
-      | inr f ↦ (
-          let here : one (p x) ≡ 0 = ap one f in
-          let r = count_some p xs (λ z. h (omega (arith, here, z))) in
-          (r.0, inr r.1, r.2)
-          )
-    ]
-  where
-    by_flag : (b : Bool) → (b ≡ true) ⊎ (b ≡ false)
-    by_flag true = inl refl
-    by_flag false = inr refl
-
 pub count_map : (p : ℕ → Bool) (f : ℕ → ℕ) (xs : List ℕ) → count_of p (map f xs) ≡ count_of (λ k. p (f k)) xs
 count_map p f [] = refl
 count_map p f (x ∷ xs) = ap (λ k. one (p (f x)) + k) (count_map p f xs)

@@ -10,8 +10,9 @@ use Rattle.daggy_base.specs.WellFormed.{AreDistinct}
 use Rattle.daggy_base.proofs.Lists.{Mem, Unique, mem_left, mem_right, mem_cases, mem_contains, contains_mem}
 use Rattle.daggy_base.proofs.Lists.{unique_from_distinct, distinct_from_unique, unique_right, Contains-here, Contains-there}
 use Rattle.daggy_base.proofs.Sorted.{unique_cross, unique_left}
-use Rattle.daggy_schedule.specs.Work.{Work, IsSet, is_set, IsIdle, IsUnderWayBy, Shape, MayBegin}
+use Rattle.daggy_schedule.specs.Work.{Work, IsSet, is_set, IsIdle, IsUnderWayBy, Shape, MayBegin, are_distinct}
 use Rattle.daggy_schedule.specs.Queue.{IsKept, count_of}
+use Rattle.daggy_schedule.proofs.Members.{among_in, among_out, distinct_unique, unique_distinct}
 use Rattle.daggy_schedule.proofs.Counts.{count_none, count_rises, count_all, count_most, count_full, count_append}
 
 -- ---- flags
@@ -113,9 +114,9 @@ module _ {waiting queue : List ℕ} {head tail : ℕ} {out done : List Bool} {fi
       unique_cross (take head queue) (drop head (take tail queue)) once_all n
       (contains_mem (take head queue) n ((k.handed n).0 o)) (contains_mem (drop head (take tail queue)) n c)
 
-  pub ready_once : AreDistinct (drop head (take tail queue))
+  pub ready_once : are_distinct (drop head (take tail queue)) ≡ true
   ready_once =
-      distinct_from_unique (drop head (take tail queue))
+      unique_distinct (drop head (take tail queue))
       (unique_right (take head queue) (drop head (take tail queue)) once_all)
 
   -- ---- one node more is handed out
@@ -288,7 +289,7 @@ module _ (old new : Work) (n : ℕ) (first : old.ready ≡ n ∷ new.ready)
   was_ready = let P : List ℕ → Type 0 = λ z. Contains z n in subst P (sym first) (Contains-here n new.ready)
 
   once_first : Unique (n ∷ new.ready)
-  once_first = let P : List ℕ → Type 0 = λ z. Unique z in subst P first (unique_from_distinct old.ready u.once)
+  once_first = let P : List ℕ → Type 0 = λ z. Unique z in subst P first (distinct_unique old.ready u.once)
 
   now : (m : ℕ) → MayBegin shape old.done m → MayBegin shape new.done m
   now m = let P : List Bool → Type 0 = λ z. MayBegin shape old.done m → MayBegin shape z m in subst P (sym done) (λ h. h)
@@ -307,36 +308,36 @@ module _ (old new : Work) (n : ℕ) (first : old.ready ≡ n ∷ new.ready)
         ready = λ m. (
           λ c. (
               let M : List ℕ → Type 0 = λ z. Contains z m in
-              let r = (u.ready m).0 (subst M (sym first) (Contains-there n m new.ready c)) in (
+              let r = (u.ready m).0 (among_in old.ready m (subst M (sym first) (Contains-there n m new.ready (among_out new.ready m c)))) in (
                 now m r.0,
                 λ o. elim ((outs m).0 o) [
                   | inl before ↦ r.1 before
                   | inr e ↦
                       (let P : ℕ → Type 0 = λ z. Mem z new.ready in
-                      once_first.0 (subst P e (contains_mem new.ready m c)))
+                      once_first.0 (subst P e (contains_mem new.ready m (among_out new.ready m c))))
                 ],
               )
               ),
           λ r. (
               let M : List ℕ → Type 0 = λ z. Contains z m in
-              let c = subst M first ((u.ready m).1 (then m r.0, λ o. r.1 ((outs m).1 (inl o)))) in
+              let c = subst M first (among_out old.ready m ((u.ready m).1 (then m r.0, λ o. r.1 ((outs m).1 (inl o))))) in
               elim (contains_mem (n ∷ new.ready) m c) [
                 | inl e ↦ absurd (r.1 ((outs m).1 (inr e)))
-                | inr there ↦ mem_contains new.ready m there
+                | inr there ↦ among_in new.ready m (mem_contains new.ready m there)
               ]
               ),
         );
-        once = distinct_from_unique new.ready once_first.1;
+        once = unique_distinct new.ready once_first.1;
         out = λ m o. now m (elim ((outs m).0 o) [
           | inl before ↦ u.out m before
           | inr e ↦
-              (let P : ℕ → Type 0 = λ z. MayBegin shape old.done z in subst P (sym e) ((u.ready n).0 was_ready).0)
+              (let P : ℕ → Type 0 = λ z. MayBegin shape old.done z in subst P (sym e) ((u.ready n).0 (among_in old.ready n was_ready)).0)
         ]);
         done = λ m d. (outs m).1 (inl (u.done m (set_now m d)));
         idle = (
           λ i. absurd (i.1 n (
             (outs n).1 (inr refl),
-            λ d. ((u.ready n).0 was_ready).1 (u.done n (set_now n d)),
+            λ d. ((u.ready n).0 (among_in old.ready n was_ready)).1 (u.done n (set_now n d)),
           )),
           λ all. absurd (
               let i = u.idle.1 (λ m h. set_now m (all m h)) in

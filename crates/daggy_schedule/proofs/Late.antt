@@ -89,11 +89,6 @@ module _ {N E : Type 0} {end : ℕ} {g : Graph N E} (w : IsWellFormed end g) {or
       let P : List ℕ → Type 0 = λ z. Mem n z in
       (ord.exact n).0 (mem_contains order n (subst P (sym split) (mem_mid before behind n)))
 
-  behind_exists : (u : ℕ) → Mem u behind → HasNode g u
-  behind_exists u m =
-      let P : List ℕ → Type 0 = λ z. Mem u z in
-      (ord.exact u).0 (mem_contains order u (subst P (sym split) (mem_right before (n ∷ behind) u (inr m))))
-
   -- the children of a node stand behind it
   children_behind : (v : ℕ) → AreJoined g n v → Mem v behind
   children_behind v j =

@@ -2,6 +2,7 @@ pub mod Counts
 pub mod Released
 pub mod Parents
 pub mod Releasing
+pub mod Members
 pub mod Keeping
 pub mod Idle
 pub mod UnderWay

@@ -28,17 +28,6 @@ pub record Chaining {N E : Type 0} (end : ℕ) (g : Graph N E) (parents : List �
   pub sum : (d starts finishes : List ℕ) → AreNoted end g d starts parents finishes
       → span d (reverse pushed) + get_or finishes n 0 ≡ get_or finishes last 0
 
-pub chains_none : {N E : Type 0} (end : ℕ) (g : Graph N E) (parents : List ℕ) (last : ℕ) (pushed : List ℕ)
-    → pushed ≡ [] → HasNode g last → Chaining end g parents last pushed last
-chains_none end g parents last pushed none exists =
-    let whole : Chaining end g parents last [] last = record {
-      path = exists;
-      exists = exists;
-      sum = λ d ss fs noted. omega arith;
-    } in
-    let P : List ℕ → Type 0 = λ z. Chaining end g parents last z last in
-    subst P (sym none) whole
-
 pub not_end : {N E : Type 0} {end : ℕ} {g : Graph N E} → IsWellFormed end g → (n : ℕ) → HasNode g n → n ≢ end
 not_end {g = g} w n h e = omega (arith, below_bound g.nodes n h, bound_low g.nodes, w.few_nodes, e)
 

@@ -229,19 +229,6 @@ first_rest end e (x ∷ xs) is ne = (xs, ap (λ z. z ∷ xs) (sym is))
 
 module _ {N E : Type 0} {end : ℕ} {g : Graph N E} (w : IsWellFormed end g) {n : ℕ} {done : List Bool}
     {was : List ℕ} {e : ℕ} {waiting queue : List ℕ} (s : Releasing end g n done was e waiting queue) where
-  -- at the end all are counted off
-  pub all_released : e ≡ end → IsCounted g done [] waiting queue
-  all_released h = from s.rest s.split s.at_rest s.counted
-    where
-      from : (xs : List ℕ) → out_list g n ≡ s.before ++ xs → e ≡ first_of end xs → IsCounted g done xs waiting queue
-          → IsCounted g done [] waiting queue
-      from [] split is c = c
-      from (y ∷ ys) split is c =
-          let M : List ℕ → Type 0 = λ z. Mem y z in
-          let p = leaves end g w n y (subst M (sym split) (mem_mid s.before ys y)) in
-          let low = edge_below end g w y p.0 p.1 in
-          absurd (omega (arith, low, is, h))
-
   nothing_left : e ≡ end → (xs : List ℕ) → out_list g n ≡ s.before ++ xs → e ≡ first_of end xs → xs ≡ []
   nothing_left h [] split is = refl
   nothing_left h (y ∷ ys) split is =
@@ -249,6 +236,12 @@ module _ {N E : Type 0} {end : ℕ} {g : Graph N E} (w : IsWellFormed end g) {n 
       let p = leaves end g w n y (subst M (sym split) (mem_mid s.before ys y)) in
       let low = edge_below end g w y p.0 p.1 in
       absurd (omega (arith, low, is, h))
+
+  -- at the end all are counted off
+  pub all_released : e ≡ end → IsCounted g done [] waiting queue
+  all_released h =
+      let P : List ℕ → Type 0 = λ z. IsCounted g done z waiting queue in
+      subst P (nothing_left h s.rest s.split s.at_rest) s.counted
 
   pub all_queued : e ≡ end → queue ≡ was ++ each_last (filter (waits_for_none waiting) (children_of g n))
   all_queued h =
@@ -399,6 +392,3 @@ module _ {N E : Type 0} {end : ℕ} {g : Graph N E} (w : IsWellFormed end g) {n 
             let P : ℕ → Type 0 = λ z. Releasing end g n done was next (set waiting z one_less) (queue ++ z ∷ []) in
             subst P child_is
             (released_queued released_edge.0 released_edge.1 set_done low_there one_less is_there next next_at none)
-
-pub ends_at : {o : Option (ℕ × ℕ)} {p c i : ℕ} → Some (p, c) ≡ o → i ≡ c → Some (p, i) ≡ o
-ends_at {o} {p} {c} {i} is same = ap (λ z. Some (p, z)) same ∙ is

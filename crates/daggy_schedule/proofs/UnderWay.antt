@@ -11,6 +11,7 @@ use Rattle.daggy_base.proofs.Lists.{Mem, mem_contains, contains_mem, Contains-ni
 use Rattle.daggy_schedule.specs.Work.{IsSet, is_set, IsUnderWay, MayBegin, shape_of, parents_of, children_of}
 use Rattle.daggy_schedule.specs.Work.{parent_or, child_or, has_done_parents, released, each_last}
 use Rattle.daggy_schedule.specs.Queue.{IsCounted, IsKept, count_of, waits_for_none}
+use Rattle.daggy_schedule.proofs.Members.{among_in, among_out}
 use Rattle.daggy_schedule.proofs.Counts.{count_zero, count_none, count_same, count_map, count_is}
 use Rattle.daggy_schedule.proofs.Keeping.{by_set, unset_flag, set_more, from_out, from_ready, out_or_ready, not_both}
 use Rattle.daggy_schedule.proofs.Keeping.{ready_once, done_low}
@@ -123,7 +124,10 @@ module _ {N E : Type 0} {end : ℕ} {g : Graph N E} (w : IsWellFormed end g) whe
       under_way =
           record {
             waits = λ n h. slice_get-get_or waiting n 0 (within n h) ∙ ap Some (waits_count s n h);
-            ready = ready_begins;
+            ready = λ n. (
+              λ a. (ready_begins n).0 (among_out (drop head (take tail queue)) n a),
+              λ r. among_in (drop head (take tail queue)) n ((ready_begins n).1 r),
+            );
             once = ready_once k;
             out = λ n o. (queued_begins s n).0 (from_out k n o);
             done = k.begun;
@@ -177,14 +181,14 @@ module _ {N E : Type 0} {end : ℕ} {g : Graph N E} (w : IsWellFormed end g) whe
             queued = λ n. (
               λ c. (
                   let may : MayBegin (shape_of g) done n =
-                  elim (out_or_ready k n c) [ inl o ↦ u.out n o | inr r ↦ ((u.ready n).0 r).0 ] in
+                  elim (out_or_ready k n c) [ inl o ↦ u.out n o | inr r ↦ ((u.ready n).0 (among_in (drop head (take tail queue)) n r)).0 ] in
                   (may.0, begins_zero n may)
                   ),
               λ r. (
                   let may = zero_begins n r.0 r.1 in
                   elim (by_set out n) [
                     | inl o ↦ from_out k n o
-                    | inr not_out ↦ from_ready k n ((u.ready n).1 (may, not_out))
+                    | inr not_out ↦ from_ready k n (among_out (drop head (take tail queue)) n ((u.ready n).1 (may, not_out)))
                   ]
                   ),
             );

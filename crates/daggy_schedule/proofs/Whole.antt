@@ -43,6 +43,3 @@ module _ {N E : Type 0} {end : ℕ} {g : Graph N E} {d starts parents finishes :
       none : (path : List ℕ) → IsPath g path → 2 ^ 64 ≤ span d path → ⊥
       none [] p long = p
       none (x ∷ rest) p long = omega (arith, along x rest p, fits, long)
-
-  pub last_node : (last ≡ end) ⊎ HasNode g last
-  last_node = elim l.is_last [ inl p ↦ inr p.0 | inr none ↦ inl none.2 ]

@@ -1,8 +1,7 @@
 -- Nodes that are worked off, each after its parents.
-use Rattle.std.specs.Prelude.{◌≡◌, ℕ, ◌==◌, ◌||◌, ◌↔◌, Bool, true, false, not, is_some, Option, Some, None, List, [], ◌∷◌}
+use Rattle.std.specs.Prelude.{◌≡◌, ℕ, ◌==◌, ◌||◌, ◌&&◌, ◌↔◌, Bool, true, false, not, is_some, Option, Some, None, List, [], ◌∷◌}
 use Rattle.std.specs.Prelude.{map, length, filter, count_by, slice_get, slice_index_or, Contains, if◌then◌else◌}
 use Rattle.daggy_base.specs.Graph.{Graph, Edge, node_weight, edge_at, in_list, out_list}
-use Rattle.daggy_base.specs.WellFormed.{AreDistinct}
 
 -- the parent of an edge, or 0 if there is no edge
 abbrev pub parent_or : {E : Type 0} → Option (Edge E) → ℕ
@@ -30,6 +29,16 @@ pub record Shape : Type 0 where
 -- the shape of a graph
 abbrev pub shape_of : {N E : Type 0} → Graph N E → Shape
 shape_of g = record { has_node = λ n. is_some (node_weight g n); parents = parents_of g }
+
+-- whether a number is in a list
+abbrev pub is_among : List ℕ → ℕ → Bool
+is_among [] x = false
+is_among (y ∷ ys) x = (y == x) || is_among ys x
+
+-- whether no number of a list occurs twice
+abbrev pub are_distinct : List ℕ → Bool
+are_distinct [] = true
+are_distinct (x ∷ xs) = not (is_among xs x) && are_distinct xs
 
 -- Nodes that are worked off: how many edges from parents that are not done lead to each node; the nodes that can begin,
 -- the one to be handed out next first; and by index whether a node was handed out, and whether it is done.
@@ -69,8 +78,8 @@ MayBegin shape done n = (shape.has_node n ≡ true) × ((u : ℕ) → Contains (
 pub record IsUnderWayBy (shape : Shape) (work : Work) : Type 0 where
   pub waits : (n : ℕ) → shape.has_node n ≡ true
       → slice_get work.waiting n ≡ Some (count_by (λ u. not (is_set work.done u)) (shape.parents n))
-  pub ready : (n : ℕ) → Contains work.ready n ↔ (MayBegin shape work.done n × ¬ IsSet work.out n)
-  pub once : AreDistinct work.ready
+  pub ready : (n : ℕ) → (is_among work.ready n ≡ true) ↔ (MayBegin shape work.done n × ¬ IsSet work.out n)
+  pub once : are_distinct work.ready ≡ true
   pub out : (n : ℕ) → IsSet work.out n → MayBegin shape work.done n
   pub done : (n : ℕ) → IsSet work.done n → IsSet work.out n
   pub idle : IsIdle work ↔ AreAllDone shape work
@@ -86,11 +95,6 @@ has_no_parents g n = length (in_list g n) == 0
 -- no edge leads to the node from a parent that is not done
 abbrev pub has_done_parents : {N E : Type 0} → Graph N E → List Bool → ℕ → Bool
 has_done_parents g done n = count_by (λ u. not (is_set done u)) (parents_of g n) == 0
-
--- whether a number is in a list
-abbrev pub is_among : List ℕ → ℕ → Bool
-is_among [] x = false
-is_among (y ∷ ys) x = (y == x) || is_among ys x
 
 -- each number of a list once: where it occurs last
 abbrev pub each_last : List ℕ → List ℕ

@@ -2,8 +2,9 @@ use Rattle.std.proofs.Common.{◌≡◌, ◌≢◌, ◌+◌, ◌-◌, ◌<◌, �
 use Rattle.std.proofs.Common.{sym, ap, subst, ◌∙◌, arith, is_some, vec_len, rules}
 use Rattle.std.proofs.lemmas.List.{get_or-set_same, get_or_default, take_more_set, take-set-le, length-set, length-take-le}
 use Rattle.daggy_schedule.proofs.Releasing.{Releasing, releasing_from, all_released, released_edge, shorter}
-use Rattle.daggy_schedule.proofs.Releasing.{child_exists, child_wait, child_room, child_past, child_queued, ends_at}
+use Rattle.daggy_schedule.proofs.Releasing.{child_exists, child_wait, child_room, child_past, child_queued}
 use Rattle.daggy_schedule.proofs.Releasing.{all_queued}
+use Rattle.daggy_schedule.proofs.Passing.{ends_at}
 use Rattle.daggy_schedule.proofs.ready.release.Goals as goal
 
 pub children-init : goal.children-init
