@@ -8,7 +8,7 @@ use Rattle.daggy_base.specs.WellFormed.{IsWellFormed, AreDistinct}
 use Rattle.daggy_base.proofs.Lists.{Mem, mem_cases, mem_mid, mem_contains, contains_mem, unique_from_distinct}
 use Rattle.daggy_base.proofs.Lists.{Contains-from_map}
 use Rattle.daggy_base.proofs.Sorted.{place_right, place_same, unique_cross}
-use Rattle.daggy_schedule.specs.Work.{IsSet, IsIdle, AreAllDone, MayBegin, shape_of, parents_of, parent_or}
+use Rattle.daggy_schedule.specs.Work.{IsSet, IsIdle, AreAllDone, MayBegin, parents_of, parent_or}
 use Rattle.daggy_schedule.proofs.Keeping.{by_set}
 
 none_left : (xs : List ℕ) → ((x : ℕ) → Contains xs x → ⊥) → xs ≡ []
@@ -49,10 +49,10 @@ module _ {N E : Type 0} {end : ℕ} {g : Graph N E} (w : IsWellFormed end g) (or
       subst P is (subst Q q.2 (p.0, q.0.weight, q.1))
 
   module _ (waiting ready : List ℕ) (out done : List Bool)
-      (begins : (n : ℕ) → Contains ready n ↔ (MayBegin (shape_of g) done n × (IsSet out n → ⊥)))
-      (outs : (n : ℕ) → IsSet out n → MayBegin (shape_of g) done n) (begun : (n : ℕ) → IsSet done n → IsSet out n) where
+      (begins : (n : ℕ) → Contains ready n ↔ (MayBegin g done n × (IsSet out n → ⊥)))
+      (outs : (n : ℕ) → IsSet out n → MayBegin g done n) (begun : (n : ℕ) → IsSet done n → IsSet out n) where
     module _ (none : ready ≡ []) (none_out : (n : ℕ) → IsSet out n → (IsSet done n → ⊥) → ⊥) where
-      done_next : (x : ℕ) → MayBegin (shape_of g) done x → IsSet done x
+      done_next : (x : ℕ) → MayBegin g done x → IsSet done x
       done_next x may =
           elim (by_set done x) [
             | inl t ↦ t
@@ -85,7 +85,7 @@ module _ {N E : Type 0} {end : ℕ} {g : Graph N E} (w : IsWellFormed end g) (or
           ]
 
     pub idle_is_finished : IsIdle (record { waiting = waiting; ready = ready; out = out; done = done })
-        ↔ AreAllDone (shape_of g) (record { waiting = waiting; ready = ready; out = out; done = done })
+        ↔ AreAllDone g (record { waiting = waiting; ready = ready; out = out; done = done })
     idle_is_finished = (
       λ idle n h. all_from idle.0 (λ m o d. idle.1 m (o, d)) [] order refl (λ k q. absurd q) n
           (contains_mem order n ((ord.exact n).1 h)),

@@ -6,11 +6,12 @@ use Rattle.std.proofs.lemmas.List.{drop-append-le, length-take-le, length-drop}
 use Rattle.std.proofs.Common.{not, Some}
 use Rattle.std.specs.List.{count_by, slice_get}
 use Rattle.std.proofs.lemmas.Bool.{false≢true, cases_eq}
+use Rattle.daggy_base.specs.Graph.{Graph}
 use Rattle.daggy_base.specs.WellFormed.{AreDistinct}
 use Rattle.daggy_base.proofs.Lists.{Mem, Unique, mem_left, mem_right, mem_cases, mem_contains, contains_mem}
-use Rattle.daggy_base.proofs.Lists.{unique_from_distinct, distinct_from_unique, unique_right, Contains-here, Contains-there}
+use Rattle.daggy_base.proofs.Lists.{unique_from_distinct, unique_right, Contains-here, Contains-there}
 use Rattle.daggy_base.proofs.Sorted.{unique_cross, unique_left}
-use Rattle.daggy_schedule.specs.Work.{Work, IsSet, is_set, IsIdle, IsUnderWayBy, Shape, MayBegin, are_distinct}
+use Rattle.daggy_schedule.specs.Work.{Work, IsSet, is_set, IsIdle, IsUnderWay, MayBegin, parents_of, are_distinct}
 use Rattle.daggy_schedule.specs.Queue.{IsKept, count_of}
 use Rattle.daggy_schedule.proofs.Members.{among_in, among_out, distinct_unique, unique_distinct}
 use Rattle.daggy_schedule.proofs.Counts.{count_none, count_rises, count_all, count_most, count_full, count_append}
@@ -280,31 +281,31 @@ module _ {waiting queue : List ℕ} {head tail : ℕ} {out done : List Bool} {fi
             );
           }
 
--- ---- the next node is handed out, in any graph
+-- ---- the next node is handed out
 
 module _ (old new : Work) (n : ℕ) (first : old.ready ≡ n ∷ new.ready)
     (outs : (m : ℕ) → IsSet new.out m ↔ (IsSet old.out m ⊎ (m ≡ n))) (waiting : new.waiting ≡ old.waiting)
-    (done : new.done ≡ old.done) (shape : Shape) (u : IsUnderWayBy shape old) where
+    (done : new.done ≡ old.done) {N E : Type 0} {g : Graph N E} (u : IsUnderWay g old) where
   was_ready : Contains old.ready n
   was_ready = let P : List ℕ → Type 0 = λ z. Contains z n in subst P (sym first) (Contains-here n new.ready)
 
   once_first : Unique (n ∷ new.ready)
   once_first = let P : List ℕ → Type 0 = λ z. Unique z in subst P first (distinct_unique old.ready u.once)
 
-  now : (m : ℕ) → MayBegin shape old.done m → MayBegin shape new.done m
-  now m = let P : List Bool → Type 0 = λ z. MayBegin shape old.done m → MayBegin shape z m in subst P (sym done) (λ h. h)
+  now : (m : ℕ) → MayBegin g old.done m → MayBegin g new.done m
+  now m = let P : List Bool → Type 0 = λ z. MayBegin g old.done m → MayBegin g z m in subst P (sym done) (λ h. h)
 
-  then : (m : ℕ) → MayBegin shape new.done m → MayBegin shape old.done m
-  then m = let P : List Bool → Type 0 = λ z. MayBegin shape z m → MayBegin shape old.done m in subst P (sym done) (λ h. h)
+  then : (m : ℕ) → MayBegin g new.done m → MayBegin g old.done m
+  then m = let P : List Bool → Type 0 = λ z. MayBegin g z m → MayBegin g old.done m in subst P (sym done) (λ h. h)
 
   set_now : (m : ℕ) → IsSet new.done m → IsSet old.done m
   set_now m h = ap (λ z. is_set z m) (sym done) ∙ h
 
-  pub handed_on : IsUnderWayBy shape new
+  pub handed_on : IsUnderWay g new
   handed_on =
       record {
         waits = λ m h. ap (λ z. slice_get z m) waiting ∙ (u.waits m h
-            ∙ ap (λ z. Some (count_by (λ v. not (is_set z v)) (shape.parents m))) (sym done));
+            ∙ ap (λ z. Some (count_by (λ v. not (is_set z v)) (parents_of g m))) (sym done));
         ready = λ m. (
           λ c. (
               let M : List ℕ → Type 0 = λ z. Contains z m in
@@ -331,7 +332,7 @@ module _ (old new : Work) (n : ℕ) (first : old.ready ≡ n ∷ new.ready)
         out = λ m o. now m (elim ((outs m).0 o) [
           | inl before ↦ u.out m before
           | inr e ↦
-              (let P : ℕ → Type 0 = λ z. MayBegin shape old.done z in subst P (sym e) ((u.ready n).0 (among_in old.ready n was_ready)).0)
+              (let P : ℕ → Type 0 = λ z. MayBegin g old.done z in subst P (sym e) ((u.ready n).0 (among_in old.ready n was_ready)).0)
         ]);
         done = λ m d. (outs m).1 (inl (u.done m (set_now m d)));
         idle = (

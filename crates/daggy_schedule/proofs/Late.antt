@@ -9,7 +9,7 @@ use Rattle.daggy_base.specs.Cursor.{first_of, cursor_after}
 use Rattle.daggy_base.specs.declared.index.Direction.TheVariants.{Outgoing}
 use Rattle.daggy_base.specs.Ordered.{IsOrderOf, place}
 use Rattle.daggy_base.specs.WellFormed.{IsWellFormed, AreDistinct}
-use Rattle.daggy_base.proofs.Lists.{Mem, Unique, mem_cases, mem_mid, mem_right, mem_contains, contains_mem, unique_from_distinct}
+use Rattle.daggy_base.proofs.Lists.{Mem, Unique, mem_cases, mem_mid, mem_contains, contains_mem, unique_from_distinct}
 use Rattle.daggy_base.proofs.Lists.{unique_right}
 use Rattle.daggy_base.proofs.Sorted.{place_left, place_right, place_same, unique_cross}
 use Rattle.daggy_schedule.specs.Times.{AreFeasible, AreDoneBy, AreLatest}

@@ -8,7 +8,7 @@ use Rattle.daggy_base.specs.Graph.{Graph, Edge, HasNode, edge_at, in_list, out_l
 use Rattle.daggy_base.specs.Ordered.{IsOrderOf}
 use Rattle.daggy_base.specs.WellFormed.{IsWellFormed}
 use Rattle.daggy_base.proofs.Lists.{Mem, mem_contains, contains_mem, Contains-nil, Contains-map, Contains-from_map}
-use Rattle.daggy_schedule.specs.Work.{IsSet, is_set, IsUnderWay, MayBegin, shape_of, parents_of, children_of}
+use Rattle.daggy_schedule.specs.Work.{IsSet, is_set, IsUnderWay, MayBegin, parents_of, children_of}
 use Rattle.daggy_schedule.specs.Work.{parent_or, child_or, has_done_parents, released, each_last}
 use Rattle.daggy_schedule.specs.Queue.{IsCounted, IsKept, count_of, waits_for_none}
 use Rattle.daggy_schedule.proofs.Members.{among_in, among_out}
@@ -68,7 +68,7 @@ module _ {N E : Type 0} {end : ℕ} {g : Graph N E} (w : IsWellFormed end g) whe
         let p = entered n e m in still_is e p.0 p.1)
         ∙ sym (count_parents g done n))
 
-    zero_done : (n : ℕ) → HasNode g n → get_or waiting n 0 ≡ 0 → MayBegin (shape_of g) done n
+    zero_done : (n : ℕ) → HasNode g n → get_or waiting n 0 ≡ 0 → MayBegin g done n
     zero_done n h z = (
       h,
       λ u c. (
@@ -84,13 +84,13 @@ module _ {N E : Type 0} {end : ℕ} {g : Graph N E} (w : IsWellFormed end g) whe
           ),
     )
 
-    done_zero : (n : ℕ) → MayBegin (shape_of g) done n → get_or waiting n 0 ≡ 0
+    done_zero : (n : ℕ) → MayBegin g done n → get_or waiting n 0 ≡ 0
     done_zero n may =
         s.waits n may.0 ∙ count_none s.still (in_list g n) (λ e m.
         let p = entered n e m in
         s.settled e p.0 p.1 (may.1 p.0.parent (parent_there n e p.0 p.1 m)) (λ c. Contains-nil e c))
 
-    pub queued_begins : (n : ℕ) → Contains queue n ↔ MayBegin (shape_of g) done n
+    pub queued_begins : (n : ℕ) → Contains queue n ↔ MayBegin g done n
     queued_begins n = (
       λ c. let q = (s.queued n).0 c in zero_done n q.0 q.1,
       λ may. (s.queued n).1 (may.0, done_zero n may),
@@ -109,7 +109,7 @@ module _ {N E : Type 0} {end : ℕ} {g : Graph N E} (w : IsWellFormed end g) whe
 
     module _ (s : IsCounted g done [] waiting (take tail queue))
         (within : (n : ℕ) → HasNode g n → n < length waiting) (order : List ℕ) (ord : IsOrderOf g order) where
-      ready_begins : (n : ℕ) → Contains (drop head (take tail queue)) n ↔ (MayBegin (shape_of g) done n × (IsSet out n → ⊥))
+      ready_begins : (n : ℕ) → Contains (drop head (take tail queue)) n ↔ (MayBegin g done n × (IsSet out n → ⊥))
       ready_begins n = (
         λ c. ((queued_begins s n).0 (from_ready k n c), not_both k n c),
         λ r. elim (out_or_ready k n ((queued_begins s n).1 r.0)) [ inl o ↦ absurd (r.1 o) | inr c ↦ c ],
@@ -149,13 +149,13 @@ module _ {N E : Type 0} {end : ℕ} {g : Graph N E} (w : IsWellFormed end g) whe
       waits_are : (n : ℕ) → HasNode g n → get_or waiting n 0 ≡ count_of (from_undone g done) (in_list g n)
       waits_are n h = get_or_from_slice_get waiting n _ 0 (u.waits n h) ∙ count_parents g done n
 
-      begins_zero : (n : ℕ) → MayBegin (shape_of g) done n → get_or waiting n 0 ≡ 0
+      begins_zero : (n : ℕ) → MayBegin g done n → get_or waiting n 0 ≡ 0
       begins_zero n may =
           waits_are n may.0 ∙ count_none (from_undone g done) (in_list g n) (λ e m.
           let p = entered n e m in
           ap (λ o. not (is_set done (parent_or o))) p.1 ∙ ap not (may.1 p.0.parent (parent_there n e p.0 p.1 m)))
 
-      zero_begins : (n : ℕ) → HasNode g n → get_or waiting n 0 ≡ 0 → MayBegin (shape_of g) done n
+      zero_begins : (n : ℕ) → HasNode g n → get_or waiting n 0 ≡ 0 → MayBegin g done n
       zero_begins n h z = (
         h,
         λ v c. (
@@ -180,7 +180,7 @@ module _ {N E : Type 0} {end : ℕ} {g : Graph N E} (w : IsWellFormed end g) whe
             waits = waits_are;
             queued = λ n. (
               λ c. (
-                  let may : MayBegin (shape_of g) done n =
+                  let may : MayBegin g done n =
                   elim (out_or_ready k n c) [ inl o ↦ u.out n o | inr r ↦ ((u.ready n).0 (among_in (drop head (take tail queue)) n r)).0 ] in
                   (may.0, begins_zero n may)
                   ),

@@ -1,5 +1,5 @@
 -- A whole schedule, by its parts.
-use Rattle.std.proofs.Common.{◌≡◌, ℕ, ◌+◌, ◌<◌, ◌≤◌, ◌^◌, ◌⊎◌, inl, inr, List, [], ◌∷◌, get_or, sym, ap, ◌∙◌, arith}
+use Rattle.std.proofs.Common.{◌≡◌, ℕ, ◌+◌, ◌<◌, ◌≤◌, ◌^◌, inl, inr, List, [], ◌∷◌, get_or, sym, ap, ◌∙◌, arith}
 use Rattle.daggy_base.specs.Graph.{Graph, HasNode}
 use Rattle.daggy_base.specs.Path.{IsPath}
 use Rattle.daggy_schedule.specs.Times.{span, AreEarliest, IsMakespan, IsCritical, TakesTooLong}

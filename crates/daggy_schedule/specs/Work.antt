@@ -1,7 +1,7 @@
 -- Nodes that are worked off, each after its parents.
-use Rattle.std.specs.Prelude.{◌≡◌, ℕ, ◌==◌, ◌||◌, ◌&&◌, ◌↔◌, Bool, true, false, not, is_some, Option, Some, None, List, [], ◌∷◌}
+use Rattle.std.specs.Prelude.{◌≡◌, ℕ, ◌==◌, ◌||◌, ◌&&◌, ◌↔◌, Bool, true, false, not, Option, Some, None, List, [], ◌∷◌}
 use Rattle.std.specs.Prelude.{map, length, filter, count_by, slice_get, slice_index_or, Contains, if◌then◌else◌}
-use Rattle.daggy_base.specs.Graph.{Graph, Edge, node_weight, edge_at, in_list, out_list}
+use Rattle.daggy_base.specs.Graph.{Graph, Edge, HasNode, edge_at, in_list, out_list}
 
 -- the parent of an edge, or 0 if there is no edge
 abbrev pub parent_or : {E : Type 0} → Option (Edge E) → ℕ
@@ -20,15 +20,6 @@ parents_of g n = map (λ e. parent_or (edge_at g e)) (in_list g n)
 -- the children of a node, one for each edge that leaves it, in the order of its out list
 abbrev pub children_of : {N E : Type 0} → Graph N E → ℕ → List ℕ
 children_of g n = map (λ e. child_or (edge_at g e)) (out_list g n)
-
--- what the work on a graph depends on: which nodes there are, and the parents of each, one for each edge
-pub record Shape : Type 0 where
-  pub has_node : ℕ → Bool
-  pub parents : ℕ → List ℕ
-
--- the shape of a graph
-abbrev pub shape_of : {N E : Type 0} → Graph N E → Shape
-shape_of g = record { has_node = λ n. is_some (node_weight g n); parents = parents_of g }
 
 -- whether a number is in a list
 abbrev pub is_among : List ℕ → ℕ → Bool
@@ -65,28 +56,24 @@ abbrev pub IsIdle : Work → Type 0
 IsIdle work = (work.ready ≡ []) × ((n : ℕ) → ¬ IsOut work n)
 
 -- all nodes are done
-abbrev pub AreAllDone : Shape → Work → Type 0
-AreAllDone shape work = (n : ℕ) → shape.has_node n ≡ true → IsSet work.done n
+abbrev pub AreAllDone : {N E : Type 0} → Graph N E → Work → Type 0
+AreAllDone g work = (n : ℕ) → HasNode g n → IsSet work.done n
 
 -- the node exists, and all of its parents are done
-abbrev pub MayBegin : Shape → List Bool → ℕ → Type 0
-MayBegin shape done n = (shape.has_node n ≡ true) × ((u : ℕ) → Contains (shape.parents n) u → IsSet done u)
+abbrev pub MayBegin : {N E : Type 0} → Graph N E → List Bool → ℕ → Type 0
+MayBegin g done n = HasNode g n × ((u : ℕ) → Contains (parents_of g n) u → IsSet done u)
 
--- Each node waits for the edges from parents that are not done. Ready, each once, are exactly the nodes whose parents
--- are all done and that were not handed out. Only such nodes were handed out, and only nodes that were handed out are
--- done. Work that is idle is finished.
-pub record IsUnderWayBy (shape : Shape) (work : Work) : Type 0 where
-  pub waits : (n : ℕ) → shape.has_node n ≡ true
-      → slice_get work.waiting n ≡ Some (count_by (λ u. not (is_set work.done u)) (shape.parents n))
-  pub ready : (n : ℕ) → (is_among work.ready n ≡ true) ↔ (MayBegin shape work.done n × ¬ IsSet work.out n)
+-- The nodes of the graph are worked off. Each node waits for the edges from parents that are not done. Ready, each once,
+-- are exactly the nodes whose parents are all done and that were not handed out. Only such nodes were handed out, and only
+-- nodes that were handed out are done. Work that is idle is finished.
+pub record IsUnderWay {N E : Type 0} (g : Graph N E) (work : Work) : Type 0 where
+  pub waits : (n : ℕ) → HasNode g n
+      → slice_get work.waiting n ≡ Some (count_by (λ u. not (is_set work.done u)) (parents_of g n))
+  pub ready : (n : ℕ) → (is_among work.ready n ≡ true) ↔ (MayBegin g work.done n × ¬ IsSet work.out n)
   pub once : are_distinct work.ready ≡ true
-  pub out : (n : ℕ) → IsSet work.out n → MayBegin shape work.done n
+  pub out : (n : ℕ) → IsSet work.out n → MayBegin g work.done n
   pub done : (n : ℕ) → IsSet work.done n → IsSet work.out n
-  pub idle : IsIdle work ↔ AreAllDone shape work
-
--- the nodes of the graph are worked off
-abbrev pub IsUnderWay : {N E : Type 0} → Graph N E → Work → Type 0
-IsUnderWay g work = IsUnderWayBy (shape_of g) work
+  pub idle : IsIdle work ↔ AreAllDone g work
 
 -- no edge leads to the node
 abbrev pub has_no_parents : {N E : Type 0} → Graph N E → ℕ → Bool

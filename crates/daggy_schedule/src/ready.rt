@@ -3,7 +3,7 @@ ghost use Rattle.std.specs.Prelude.{◌≡◌, ℕ, ◌+◌, ◌<◌, ◌≤◌,
 ghost use Rattle.std.specs.Prelude.{IsTrue, IsNone, IfSome, IfOk, take, length, filter};
 ghost use Rattle.daggy_base.specs.Graph.{HasNode, in_list, out_list};
 ghost use Rattle.daggy_base.specs.Ordered.{IsOrderOf};
-ghost use Rattle.daggy_schedule.specs.Work.{Shape, IsSet, IsOut, IsIdle, IsUnderWay, IsUnderWayBy};
+ghost use Rattle.daggy_schedule.specs.Work.{IsSet, IsOut, IsIdle, IsUnderWay};
 ghost use Rattle.daggy_schedule.specs.Work.{has_no_parents, released, each_last, children_of};
 ghost use Rattle.daggy_schedule.specs.Queue.{IsCounted, waits_for_none};
 
@@ -32,11 +32,11 @@ use std::marker::Model;
 /// let sow = dag.add_node("sow")?;
 /// let (_, reap) = dag.add_child(sow, 90, "reap")?;
 /// let mut ready = Ready::new(rt.alloc(), &dag)?;
-/// assert!(rt; ready.next() == Some(sow));
+/// assert!(rt; ready.next(&dag) == Some(sow));
 /// // Its parent is not done yet.
-/// assert!(rt; ready.next().is_none());
+/// assert!(rt; ready.next(&dag).is_none());
 /// ready.done(&dag, sow);
-/// assert!(rt; ready.next() == Some(reap));
+/// assert!(rt; ready.next(&dag) == Some(reap));
 /// ready.done(&dag, reap);
 /// assert!(rt; ready.is_finished());
 /// ```
@@ -126,7 +126,10 @@ impl<Ix: IndexType> Ready<Ix> {
     }
 
     /// Hands out the node that has been ready for longest, or returns `None` if none is ready.
-    pub fn next(&mut self) -> Option<NodeIndex<Ix>>
+    pub fn next<N: Drop, E: Drop, S>(&mut self, dag: &Acyclic<N, E, Ix, S>) -> Option<NodeIndex<Ix>>
+    where
+        S: Store<Ix, NodeWeight = N, EdgeWeight = E>,
+        requires { IsUnderWay dag.now.graph self.old }
         ensures none { IsNone result ↔ (self.old.ready ≡ []) }
         ensures first { IfSome result (λ n. self.old.ready ≡ Ix.number n ∷ self.new.ready) }
         ensures out { IfSome result (λ n. (m : ℕ)
@@ -135,9 +138,9 @@ impl<Ix: IndexType> Ready<Ix> {
         ensures unchanged { IsNone result → self.new ≡ self.old }
         ensures done { self.new.done ≡ self.old.done }
         ensures waiting { self.new.waiting ≡ self.old.waiting }
-        ensures under_way { (shape : Shape) → IsUnderWayBy shape self.old
-            → IsUnderWayBy shape self.new }
+        ensures under_way { IsUnderWay dag.now.graph self.new }
     {
+        let _ = dag;
         if self.head == self.tail {
             return None;
         }

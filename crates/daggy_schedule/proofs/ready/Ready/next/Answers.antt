@@ -1,5 +1,5 @@
-use Rattle.std.proofs.Common.{◌≡◌, ◌∙◌, ◌<◌, ◌↔◌, ◌⊎◌, ℕ, true, length, set, arith, subst, rules, vec_len, refl, inr, ◌+◌, drop, take}
-use Rattle.daggy_schedule.specs.Work.{Work, IsSet, IsUnderWayBy}
+use Rattle.std.proofs.Common.{◌≡◌, ◌∙◌, ◌<◌, ◌↔◌, ◌⊎◌, ℕ, true, length, set, arith, subst, rules, vec_len, refl, sym, inr, ◌+◌, drop, take}
+use Rattle.daggy_schedule.specs.Work.{Work, IsSet, IsUnderWay}
 use Rattle.daggy_schedule.proofs.Keeping.{hand_out, next_low, read_next, set_more, next_first, next_undone, handed_on}
 use Rattle.daggy_schedule.proofs.ready.Ready.next.Goals as goal
 
@@ -52,7 +52,6 @@ returns-clause-is_out g c =
 
 pub returns-clause-under_way : goal.returns-clause-under_way
 returns-clause-under_way g c =
-    λ shape u.
     let k = c.self.invariant in
     let lt : c.self.inside.head < c.self.inside.tail = omega (arith, k.handed_low, c.if-self.false) in
     let is = read_next k lt c.index-2.result c.index.result.now (c.index-2.ensures.value ∙ c.node-n.ensures.value)
@@ -71,6 +70,6 @@ returns-clause-under_way g c =
       out = set out n true;
       done = done;
     } in
-    let P : Work → Type 0 = λ z. IsUnderWayBy shape z → IsUnderWayBy shape new in
-    subst P c.self.view_is
-    (handed_on old new n (next_first k lt n is) (set_more out n (next_low k lt n is)) refl refl shape) u
+    let U : Work → Type 0 = λ z. IsUnderWay c.args.dag.now.graph z in
+    let under = subst U (sym c.self.view_is) c.requires in
+    handed_on old new n (next_first k lt n is) (set_more out n (next_low k lt n is)) refl refl under
