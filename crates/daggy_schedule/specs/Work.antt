@@ -65,7 +65,7 @@ MayBegin g done n = HasNode g n × ((u : ℕ) → Contains (parents_of g n) u �
 
 -- The nodes of the graph are worked off. Each node waits for the edges from parents that are not done. Ready, each once,
 -- are exactly the nodes whose parents are all done and that were not handed out. Only such nodes were handed out, and only
--- nodes that were handed out are done. Work that is idle is finished.
+-- nodes that were handed out are done. The work is idle exactly if all nodes are done.
 pub record IsUnderWay {N E : Type 0} (g : Graph N E) (work : Work) : Type 0 where
   pub waits : (n : ℕ) → HasNode g n
       → slice_get work.waiting n ≡ Some (count_by (λ u. not (is_set work.done u)) (parents_of g n))

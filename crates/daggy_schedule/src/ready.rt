@@ -17,8 +17,11 @@ use std::marker::Model;
 /// The nodes of a dag as they are worked off: each is handed out once, after all of its parents are
 /// done.
 ///
-/// It does not borrow the dag, so whoever holds both can pass them around freely. While nodes are
-/// worked off, the dag must keep its nodes and edges.
+/// It does not borrow the dag; each call that needs the dag borrows it for that call. Until all nodes
+/// are done, no node and no edge may be added or removed.
+///
+/// The calls say that the work on this dag is under way, and ask for that. A struct that keeps both
+/// states it once, as `ghost under_way: { IsUnderWay dag.now.graph ready }`.
 ///
 /// # Complexity
 ///
@@ -125,7 +128,12 @@ impl<Ix: IndexType> Ready<Ix> {
         })
     }
 
-    /// Hands out the node that has been ready for longest, or returns `None` if none is ready.
+    /// Hands out the node that has been ready for longest, or returns `None` if none is ready: then
+    /// some node that is out has to be done first, or all are done.
+    ///
+    /// # Complexity
+    ///
+    /// O(1).
     pub fn next<N: Drop, E: Drop, S>(&mut self, dag: &Acyclic<N, E, Ix, S>) -> Option<NodeIndex<Ix>>
     where
         S: Store<Ix, NodeWeight = N, EdgeWeight = E>,
@@ -191,7 +199,7 @@ impl<Ix: IndexType> Ready<Ix> {
         );
     }
 
-    /// Whether no node is ready and none is out. All nodes are done then.
+    /// Whether no node is ready and none is out. That is so exactly if all nodes are done.
     pub fn is_finished(&self) -> bool
         ensures { IsTrue result ↔ IsIdle self.now }
     {
