@@ -1,0 +1,16 @@
+pub mod Counts
+pub mod Released
+pub mod Parents
+pub mod Releasing
+pub mod Members
+pub mod Keeping
+pub mod Idle
+pub mod UnderWay
+pub mod Starting
+pub mod Passing
+pub mod Delays
+pub mod Timing
+pub mod PathBack
+pub mod Late
+pub mod Whole
+pub mod Durations

@@ -1,0 +1,69 @@
+-- A path that is gone back by the noted parents.
+use Rattle.std.proofs.Common.{◌≡◌, ◌≢◌, ℕ, ◌+◌, ◌⊎◌, inl, inr, List, [], ◌∷◌, ◌++◌, get_or, refl, sym, ap, subst, ◌∙◌}
+use Rattle.std.proofs.Common.{arith, reverse, map}
+use Rattle.std.proofs.lemmas.List.{reverse-append, map-append}
+use Rattle.daggy_base.specs.Graph.{Graph, HasNode}
+use Rattle.daggy_base.specs.Path.{AreJoined, IsPath}
+use Rattle.daggy_base.specs.WellFormed.{IsWellFormed}
+use Rattle.daggy_base.proofs.OutEdgesRead.{below_bound}
+use Rattle.daggy_base.proofs.PathsWithNode.{bound_low}
+use Rattle.daggy_schedule.specs.Times.{span}
+use Rattle.daggy_schedule.specs.Passes.{AreNoted}
+
+turned : (ns : List ℕ) (n : ℕ) → reverse (ns ++ n ∷ []) ≡ n ∷ reverse ns
+turned ns n = reverse-append ns (n ∷ [])
+
+pub map_reverse : {A : Type 0} (f : A → ℕ) (xs : List A) → map f (reverse xs) ≡ reverse (map f xs)
+map_reverse f [] = refl
+map_reverse f (x ∷ xs) =
+    ap (map f) (reverse-append (x ∷ []) xs)
+    ∙ (map-append f (reverse xs) (x ∷ [])
+    ∙ (ap (λ z. z ++ f x ∷ []) (map_reverse f xs) ∙ sym (reverse-append (f x ∷ []) (map f xs))))
+
+-- What was gone through, the last node first, follows n on a path, and takes from when n finishes to the end.
+pub record Chaining {N E : Type 0} (end : ℕ) (g : Graph N E) (parents : List ℕ) (last : ℕ) (pushed : List ℕ) (n : ℕ)
+    : Type 0 where
+  pub path : IsPath g (n ∷ reverse pushed)
+  pub exists : HasNode g n
+  pub sum : (d starts finishes : List ℕ) → AreNoted end g d starts parents finishes
+      → span d (reverse pushed) + get_or finishes n 0 ≡ get_or finishes last 0
+
+pub not_end : {N E : Type 0} {end : ℕ} {g : Graph N E} → IsWellFormed end g → (n : ℕ) → HasNode g n → n ≢ end
+not_end {g = g} w n h e = omega (arith, below_bound g.nodes n h, bound_low g.nodes, w.few_nodes, e)
+
+module _ {N E : Type 0} {end : ℕ} {g : Graph N E} (w : IsWellFormed end g) {parents : List ℕ} {last : ℕ}
+    {pushed : List ℕ} {n : ℕ} (s : Chaining end g parents last pushed n) where
+  pub chains_one : (p : ℕ) → p ≡ get_or parents n 0 → p ≢ end
+      → ((get_or parents n 0 ≡ end) ⊎ AreJoined g (get_or parents n 0) n) → {pushed' : List ℕ}
+      → pushed' ≡ pushed ++ n ∷ [] → Chaining end g parents last pushed' p
+  chains_one p is apart noted {pushed'} more =
+      let q = get_or parents n 0 in
+      let j : AreJoined g q n = elim noted [ inl e ↦ absurd (apart (is ∙ e)) | inr j ↦ j ] in
+      let exists : HasNode g q = w.parents j.0 _ j.2 in
+      let whole : Chaining end g parents last (pushed ++ n ∷ []) q = record {
+        path =
+            let P : List ℕ → Type 0 = λ z. IsPath g (q ∷ z) in
+            subst P (sym (turned pushed n)) (exists, j, s.path);
+        exists = exists;
+        sum = λ d ss fs a.
+            elim (a.noted n s.exists) [
+              | inl none ↦ absurd (apart (is ∙ none.0))
+              | inr k ↦
+                  omega (arith, s.sum d ss fs a, ap (span d) (turned pushed n), a.takes n s.exists, k.1)
+            ];
+      } in
+      rw (more, is) whole
+
+  module _ (chain : List ℕ) (is : chain ≡ reverse (pushed ++ n ∷ [])) where
+    pub chain_path : IsPath g chain
+    chain_path = let P : List ℕ → Type 0 = λ z. IsPath g z in subst P (sym (is ∙ turned pushed n)) s.path
+
+    pub chain_sum : get_or parents n 0 ≡ end → (d starts finishes : List ℕ) → AreNoted end g d starts parents finishes
+        → span d chain ≡ get_or finishes last 0
+    chain_sum none d ss fs a =
+        elim (a.noted n s.exists) [
+          | inl k ↦ omega (arith, ap (span d) (is ∙ turned pushed n), a.takes n s.exists, k.1, s.sum d ss fs a)
+          | inr k ↦
+              (let H : ℕ → Type 0 = λ z. HasNode g z in
+              absurd (not_end w end (subst H none (w.parents k.0.0 _ k.0.2)) refl))
+        ]

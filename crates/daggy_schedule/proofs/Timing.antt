@@ -1,0 +1,265 @@
+-- Nodes that get their times in the order of a graph.
+use Rattle.std.proofs.Common.{◌≡◌, ◌≢◌, ℕ, ◌+◌, ◌<◌, ◌≤◌, ◌⊎◌, ◌^◌, inl, inr, List, [], ◌∷◌, ◌++◌, length, get_or, set, replicate}
+use Rattle.std.proofs.Common.{refl, sym, ap, subst, ◌∙◌, arith, append_assoc, append-nil}
+use Rattle.std.proofs.lemmas.Bool.{cases_lt}
+use Rattle.std.proofs.lemmas.List.{get_or-set_same, get_or-set_other, get_or-replicate}
+use Rattle.daggy_base.specs.Graph.{Graph, HasNode, node_bound}
+use Rattle.daggy_base.specs.Path.{AreJoined, IsPath, end_of}
+use Rattle.daggy_base.specs.Ordered.{IsOrderOf, place}
+use Rattle.daggy_base.specs.WellFormed.{IsWellFormed, AreDistinct}
+use Rattle.daggy_base.proofs.Lists.{Mem, mem_left, mem_right, mem_cases, mem_mid, mem_contains, contains_mem}
+use Rattle.daggy_base.proofs.Lists.{unique_from_distinct}
+use Rattle.daggy_base.proofs.OutEdgesRead.{below_bound}
+use Rattle.daggy_base.proofs.LongerPaths.{path_more}
+use Rattle.daggy_base.proofs.Sorted.{place_left, place_right, unique_cross}
+use Rattle.daggy_schedule.specs.Times.{span, AreFeasible, AreEarliest, TakesTooLong}
+use Rattle.daggy_schedule.specs.Passes.{AreDelayed, AreNoted, IsLast}
+
+span_more : (d xs : List ℕ) (n : ℕ) → span d (xs ++ n ∷ []) ≡ span d xs + get_or d n 0
+span_more d [] n = omega arith
+span_more d (x ∷ xs) n = omega (arith, span_more d xs n)
+
+-- a path that ends with n, and how long it takes
+abbrev Ends : {N E : Type 0} → Graph N E → (d : List ℕ) (n time : ℕ) → Type 0
+Ends g d n time =
+    (u : ℕ) × (rest : List ℕ) × IsPath g (u ∷ rest) × (end_of u rest ≡ n) × (span d (u ∷ rest) ≡ time)
+
+ends_more : {N E : Type 0} (g : Graph N E) (d : List ℕ) (p n time : ℕ) → Ends g d p time → AreJoined g p n → HasNode g n
+    → Ends g d n (time + get_or d n 0)
+ends_more g d p n time e j h =
+    let more = path_more g e.0 e.1 p n e.2 e.3 j h in
+    (e.0, e.1 ++ n ∷ [], more.0, more.1, omega (arith, span_more d (e.0 ∷ e.1) n, e.4))
+
+-- The nodes of `done` have their times, and those of `waiting` have the starts that they can have by these.
+pub record Timing {N E : Type 0} (end : ℕ) (g : Graph N E) (order d starts parents finishes : List ℕ) (makespan last : ℕ)
+    (waiting : List ℕ) : Type 0 where
+  pub done : List ℕ
+  pub split : order ≡ done ++ waiting
+  pub above : (u v : ℕ) → Mem u done → AreJoined g u v → get_or finishes u 0 ≤ get_or starts v 0
+  pub takes : (u : ℕ) → Mem u done → get_or starts u 0 + get_or d u 0 ≡ get_or finishes u 0
+  pub noted : (v : ℕ) → HasNode g v → ((get_or parents v 0 ≡ end) × (get_or starts v 0 ≡ 0))
+      ⊎ (Mem (get_or parents v 0) done × AreJoined g (get_or parents v 0) v
+      × (get_or finishes (get_or parents v 0) 0 ≡ get_or starts v 0))
+  pub reached : (n : ℕ) → Mem n done → Ends g d n (get_or finishes n 0)
+  pub most : (n : ℕ) → Mem n done → get_or finishes n 0 ≤ makespan
+  pub latest : ((done ≡ []) × (makespan ≡ 0) × (last ≡ end)) ⊎ (Mem last done × (get_or finishes last 0 ≡ makespan))
+
+pub timing_none : {N E : Type 0} (end : ℕ) (g : Graph N E) (order d : List ℕ) {k e time last : ℕ} → k ≡ node_bound g
+    → e ≡ end → time ≡ 0 → last ≡ end
+    → Timing end g order d (replicate k 0) (replicate k e) (replicate k 0) time last order
+timing_none end g order d {k} {e} is es zero at =
+    record {
+      done = [];
+      split = refl;
+      above = λ u v m. absurd m;
+      takes = λ u m. absurd m;
+      noted = λ v h.
+          (let low : v < k = omega (arith, below_bound g.nodes v h, is) in
+          inl (get_or-replicate k v e 0 low ∙ es, get_or-replicate k v 0 0 low));
+      reached = λ n m. absurd m;
+      most = λ n m. absurd m;
+      latest = inl (refl, zero, at);
+    }
+
+module _ {N E : Type 0} {end : ℕ} {g : Graph N E} (w : IsWellFormed end g) {order : List ℕ} (ord : IsOrderOf g order)
+    {d starts parents finishes : List ℕ} {makespan last : ℕ} {waiting : List ℕ} {n : ℕ} {rest : List ℕ}
+    (is : waiting ≡ n ∷ rest) (past : Timing end g order d starts parents finishes makespan last waiting) where
+  s : Timing end g order d starts parents finishes makespan last (n ∷ rest)
+  s = subst (λ (z : List ℕ). Timing end g order d starts parents finishes makespan last z) is past
+
+  pub next_exists : HasNode g n
+  next_exists =
+      let P : List ℕ → Type 0 = λ z. Mem n z in
+      (ord.exact n).0 (mem_contains order n (subst P (sym s.split) (mem_mid s.done rest n)))
+
+  not_done_self : Mem n s.done → ⊥
+  not_done_self k =
+      let D : List ℕ → Type 0 = λ z. AreDistinct z in
+      unique_cross s.done (n ∷ rest) (unique_from_distinct _ (subst D s.split ord.once)) n k (inl refl)
+
+  -- no child of it has its times
+  not_done : (x : ℕ) → Mem x s.done → AreJoined g n x → ⊥
+  not_done x m j =
+      let P : List ℕ → Type 0 = λ z. place z n < place z x in
+      let low : place (s.done ++ n ∷ rest) n < place (s.done ++ n ∷ rest) x = subst P s.split (ord.sorted n x j) in
+      omega (arith, low, place_left s.done (n ∷ rest) x m, place_right s.done (n ∷ rest) n not_done_self)
+
+  -- a path takes as long as the node is to wait, and then as the node takes
+  pub next_reached : Ends g d n (get_or starts n 0 + get_or d n 0)
+  next_reached =
+      elim (s.noted n next_exists) [
+        | inl none ↦ (n, [], next_exists, refl, omega (arith, none.1))
+        | inr p ↦
+            (let from = ends_more g d (get_or parents n 0) n (get_or finishes (get_or parents n 0) 0)
+            (s.reached (get_or parents n 0) p.0) p.1 next_exists in
+            (from.0, from.1, from.2, from.3, omega (arith, from.4, p.2)))
+      ]
+
+  pub takes_too_long : 2 ^ 64 ≤ get_or starts n 0 + get_or d n 0 → TakesTooLong g d
+  takes_too_long long = (let e = next_reached in (e.0 ∷ e.1, e.2, omega (arith, e.4, long)))
+
+  pub timing_one : (finish : ℕ) → finish ≡ get_or starts n 0 + get_or d n 0 → (i : ℕ) → i ≡ n → n < length finishes
+      → {starts' parents' : List ℕ} → AreDelayed g n finish starts parents starts' parents'
+      → {makespan' last' : ℕ} → (finish < makespan → (makespan' ≡ makespan) × (last' ≡ last))
+      → (makespan ≤ finish → (makespan' ≡ finish) × (last' ≡ n))
+      → Timing end g order d starts' parents' (set finishes i finish) makespan' last' rest
+  timing_one finish sum i at low {starts'} {parents'} delayed {makespan'} {last'} later taken =
+      let finishes' = set finishes n finish in
+      let here : get_or finishes' n 0 ≡ finish = get_or-set_same finishes n finish 0 low in
+      let apart : (u : ℕ) → Mem u s.done → u ≢ n = λ u m e.
+      (let P : ℕ → Type 0 = λ z. Mem z s.done in not_done_self (subst P e m)) in
+      let other : (u : ℕ) → Mem u s.done → get_or finishes' u 0 ≡ get_or finishes u 0 = λ u m.
+      get_or-set_other finishes n u finish 0 (apart u m) in
+      let kept : (u : ℕ) → (AreJoined g n u → ⊥) → get_or starts' u 0 ≡ get_or starts u 0 = λ u none.
+      elim (delayed.noted u) [ inl k ↦ k.0 | inr k ↦ absurd (none k.0) ] in
+      let self : get_or starts' n 0 ≡ get_or starts n 0 = kept n (λ j. absurd (omega (arith, ord.sorted n n j))) in
+      let cases : (u : ℕ) → Mem u (s.done ++ n ∷ []) → Mem u s.done ⊎ (u ≡ n) = λ u m.
+      elim (mem_cases s.done (n ∷ []) u m) [
+        | inl a ↦ inl a
+        | inr b ↦ elim b [ inl e ↦ inr e | inr none ↦ absurd none ]
+      ] in
+      let into : (u : ℕ) → Mem u s.done → Mem u (s.done ++ n ∷ []) = λ u m. mem_left s.done (n ∷ []) u m in
+      let last_in : Mem n (s.done ++ n ∷ []) = mem_right s.done (n ∷ []) n (inl refl) in
+      let bound : (makespan ≤ makespan') × (finish ≤ makespan') =
+      elim (cases_lt finish makespan) [
+        | inl less ↦ (let h = later less in (omega (arith, h.0), omega (arith, h.0, less)))
+        | inr enough ↦ (let h = taken enough in (omega (arith, h.0, enough), omega (arith, h.0)))
+      ] in
+      let whole : Timing end g order d starts' parents' finishes' makespan' last' rest = record {
+        done = s.done ++ n ∷ [];
+        split = s.split ∙ sym (append_assoc s.done (n ∷ []) rest);
+        above = λ u v m j.
+            elim (cases u m) [
+              | inl a ↦ omega (arith, other u a, s.above u v a j, delayed.up v)
+              | inr e ↦
+                  (let J : ℕ → Type 0 = λ z. AreJoined g z v in
+                  omega (arith, ap (λ z. get_or finishes' z 0) e, here, delayed.late v (subst J e j)))
+            ];
+        takes = λ u m.
+            elim (cases u m) [
+              | inl a ↦ omega (arith, other u a, s.takes u a, kept u (not_done u a))
+              | inr e ↦
+                  omega (
+                    arith,
+                    ap (λ z. get_or finishes' z 0) e,
+                    ap (λ z. get_or starts' z 0) e,
+                    ap (λ z. get_or d z 0) e,
+                    here,
+                    self,
+                    sum,
+                  )
+            ];
+        noted = λ v h.
+            elim (delayed.noted v) [
+              | inl k ↦
+                  elim (s.noted v h) [
+                    | inl none ↦ inl (k.1 ∙ none.0, k.0 ∙ none.1)
+                    | inr p ↦
+                        (let P : ℕ → Type 0 = λ z.
+                        Mem z (s.done ++ n ∷ []) × AreJoined g z v × (get_or finishes' z 0 ≡ get_or starts' v 0) in
+                        inr (subst P (sym k.1) (into _ p.0, p.1, other _ p.0 ∙ (p.2 ∙ sym k.0))))
+                  ]
+              | inr k ↦
+                  (let P : ℕ → Type 0 = λ z.
+                  Mem z (s.done ++ n ∷ []) × AreJoined g z v × (get_or finishes' z 0 ≡ get_or starts' v 0) in
+                  inr (subst P (sym k.2) (last_in, k.0, here ∙ sym k.1)))
+            ];
+        reached = λ u m.
+            elim (cases u m) [
+              | inl a ↦
+                  (let P : ℕ → Type 0 = λ z. Ends g d u z in subst P (sym (other u a)) (s.reached u a))
+              | inr e ↦
+                  (let P : ℕ → Type 0 = λ z. Ends g d n z in
+                  let Q : ℕ → Type 0 = λ z. Ends g d z (get_or finishes' z 0) in
+                  subst Q (sym e) (subst P (sym (here ∙ sum)) next_reached))
+            ];
+        most = λ u m.
+            elim (cases u m) [
+              | inl a ↦ omega (arith, other u a, s.most u a, bound.0)
+              | inr e ↦ omega (arith, ap (λ z. get_or finishes' z 0) e, here, bound.1)
+            ];
+        latest =
+            elim (cases_lt finish makespan) [
+              | inl less ↦
+                  (let h = later less in
+                  elim s.latest [
+                    | inl none ↦ absurd (omega (arith, none.1, less))
+                    | inr p ↦
+                        (let P : ℕ → Type 0 = λ z. Mem z (s.done ++ n ∷ []) × (get_or finishes' z 0 ≡ makespan') in
+                        inr (subst P (sym h.1) (into last p.0, other last p.0 ∙ (p.1 ∙ sym h.0))))
+                  ])
+              | inr enough ↦
+                  (let h = taken enough in
+                  let P : ℕ → Type 0 = λ z. Mem z (s.done ++ n ∷ []) × (get_or finishes' z 0 ≡ makespan') in
+                  inr (subst P (sym h.1) (last_in, here ∙ sym h.0)))
+            ];
+      } in
+      rw at whole
+
+-- ---- when all have their times
+
+module _ {N E : Type 0} {end : ℕ} {g : Graph N E} (w : IsWellFormed end g) {order : List ℕ} (ord : IsOrderOf g order)
+    {d starts parents finishes : List ℕ} {makespan last : ℕ} {waiting : List ℕ} (is : waiting ≡ [])
+    (past : Timing end g order d starts parents finishes makespan last waiting) where
+  t : Timing end g order d starts parents finishes makespan last []
+  t = subst (λ (z : List ℕ). Timing end g order d starts parents finishes makespan last z) is past
+
+  held : (n : ℕ) → HasNode g n → Mem n t.done
+  held n h =
+      let whole : order ≡ t.done = t.split ∙ append-nil t.done in
+      let P : List ℕ → Type 0 = λ z. Mem n z in
+      subst P whole (contains_mem order n ((ord.exact n).1 h))
+
+  exists : (n : ℕ) → Mem n t.done → HasNode g n
+  exists n m =
+      let whole : order ≡ t.done = t.split ∙ append-nil t.done in
+      let P : List ℕ → Type 0 = λ z. Mem n z in
+      (ord.exact n).0 (mem_contains order n (subst P (sym whole) m))
+
+  pub all_noted : AreNoted end g d starts parents finishes
+  all_noted =
+      record {
+        takes = λ n h. t.takes n (held n h);
+        noted = λ n h. elim (t.noted n h) [ inl none ↦ inl none | inr p ↦ inr (p.1, p.2) ];
+      }
+
+  feasible_along : (start : ℕ → ℕ) → AreFeasible g d start → (x : ℕ) (rest : List ℕ) → IsPath g (x ∷ rest)
+      → start x + span d (x ∷ rest) ≤ start (end_of x rest) + get_or d (end_of x rest) 0
+  feasible_along start f x [] p = omega arith
+  feasible_along start f x (v ∷ rest) p = omega (arith, f x v p.1, feasible_along start f v rest p.2)
+
+  pub all_earliest : AreEarliest g d (λ n. get_or starts n 0)
+  all_earliest =
+      record {
+        feasible = λ u v j.
+            (let m = held u (w.parents j.0 _ j.2) in omega (arith, t.takes u m, t.above u v m j));
+        least = λ other f n h.
+            (let e = t.reached n (held n h) in
+            omega (
+              arith,
+              e.4,
+              t.takes n (held n h),
+              feasible_along other f e.0 e.1 e.2,
+              ap other e.3,
+              ap (λ z. get_or d z 0) e.3,
+            ));
+      }
+
+  pub last_finish : IsLast end g finishes makespan last
+  last_finish =
+      record {
+        most = λ n h. t.most n (held n h);
+        is_last = elim t.latest [
+          | inl none ↦
+              (let P : List ℕ → Type 0 = λ z. (n : ℕ) → HasNode g n → Mem n z in
+              inr (λ n h. absurd (subst P none.0 held n h), none.1, none.2))
+          | inr p ↦ inl (exists last p.0, p.1)
+        ];
+      }
+
+-- the same for some order of the nodes
+pub record IsTiming {N E : Type 0} (end : ℕ) (g : Graph N E) (d starts parents finishes : List ℕ) (makespan last : ℕ)
+    (waiting : List ℕ) : Type 0 where
+  pub order : List ℕ
+  pub ordered : IsOrderOf g order
+  pub timing : Timing end g order d starts parents finishes makespan last waiting

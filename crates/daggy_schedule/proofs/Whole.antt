@@ -1,0 +1,45 @@
+-- A whole schedule, by its parts.
+use Rattle.std.proofs.Common.{◌≡◌, ℕ, ◌+◌, ◌<◌, ◌≤◌, ◌^◌, inl, inr, List, [], ◌∷◌, get_or, sym, ap, ◌∙◌, arith}
+use Rattle.daggy_base.specs.Graph.{Graph, HasNode}
+use Rattle.daggy_base.specs.Path.{IsPath}
+use Rattle.daggy_schedule.specs.Times.{span, AreEarliest, IsMakespan, IsCritical, TakesTooLong}
+use Rattle.daggy_schedule.specs.Passes.{AreNoted, IsLast}
+
+module _ {N E : Type 0} {end : ℕ} {g : Graph N E} {d starts parents finishes : List ℕ} {makespan last : ℕ}
+    (a : AreNoted end g d starts parents finishes) (early : AreEarliest g d (λ n. get_or starts n 0))
+    (l : IsLast end g finishes makespan last) where
+  met : (n : ℕ) → HasNode g n → get_or starts n 0 + get_or d n 0 ≤ makespan
+  met n h = omega (arith, a.takes n h, l.most n h)
+
+  pub whole_makespan : IsMakespan g d (λ n. get_or starts n 0) makespan
+  whole_makespan =
+      record {
+        met = met;
+        least = λ other earlier f by.
+            elim l.is_last [
+              | inl p ↦ omega (arith, p.1, a.takes last p.0, early.least other f last p.0, by last p.0)
+              | inr none ↦ omega (arith, none.1)
+            ];
+      }
+
+  pub whole_critical : (path : List ℕ) → (last ≡ end → path ≡ []) → (HasNode g last → IsPath g path)
+      → (HasNode g last → span d path ≡ get_or finishes last 0) → IsCritical g d path makespan
+  whole_critical path empty joined sum =
+      elim l.is_last [
+        | inl p ↦ record { path = inl (joined p.0); sum = sum p.0 ∙ p.1 }
+        | inr none ↦ record {
+          path = inr (empty none.2, none.0);
+          sum = ap (span d) (empty none.2) ∙ sym none.1;
+        }
+      ]
+
+  along : (x : ℕ) (rest : List ℕ) → IsPath g (x ∷ rest) → get_or starts x 0 + span d (x ∷ rest) ≤ makespan
+  along x [] p = omega (arith, met x p)
+  along x (v ∷ rest) p = omega (arith, early.feasible x v p.1, along v rest p.2)
+
+  pub whole_fits : makespan < 2 ^ 64 → TakesTooLong g d → ⊥
+  whole_fits fits t = none t.0 t.1 t.2
+    where
+      none : (path : List ℕ) → IsPath g path → 2 ^ 64 ≤ span d path → ⊥
+      none [] p long = p
+      none (x ∷ rest) p long = omega (arith, along x rest p, fits, long)

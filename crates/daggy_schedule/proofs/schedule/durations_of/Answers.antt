@@ -1,0 +1,58 @@
+use Rattle.std.proofs.Common.{◌≡◌, ◌∙◌, refl, ap, subst, arith, vec_len}
+use Rattle.daggy_base.specs.Graph.{Graph, node_weight}
+use Rattle.daggy_base.proofs.PathsWithNode.{bound_low}
+use Rattle.daggy_schedule.specs.Times.{AreDurations}
+use Rattle.daggy_schedule.proofs.Durations.{called_one, called_none, called_all}
+use Rattle.daggy_schedule.proofs.schedule.durations_of.Goals.{in-Some, in_default}
+use Rattle.daggy_schedule.proofs.schedule.durations_of.Goals as goal
+
+pub new-n-requires : goal.new-n-requires
+new-n-requires g c =
+    let graph = g.S.EdgeSource.graph c.graph-store.result.now in
+    omega (
+      arith,
+      c.nodes-test.true,
+      c.node_bound-bound.ensures.value,
+      bound_low graph.nodes,
+      c.node_bound-bound.ensures.well_formed.few_nodes,
+    )
+
+pub nodes-preserved : goal.nodes-preserved
+nodes-preserved g c =
+    let graph = g.S.EdgeSource.graph c.graph-store.result.now in
+    let of = g.Ix.IndexType.of in
+    let post = goal.F-post g in
+    let i = c.nodes.i in
+    let s = c.nodes.invariant in
+    let at : node_weight graph (g.Ix.IndexType.number c.new-n.result) ≡ node_weight graph i =
+    ap (λ z. node_weight graph z) c.new-n.ensures.number in
+    elim c.match-node_weight.branch [
+      | in-Some w ↦ (
+          let P : _ → Type 0 = λ z. post c.args.f z w.in-Some.weight w.f.result in
+          record {
+            sized = ap vec_len w.durations-is ∙ s.sized;
+            called =
+                called_one of post c.args.f graph i c.nodes.durations.items s.called w.in-Some.weight.now w.in-Some.weight
+                (w.in-Some.ensures ∙ at) refl w.f.result (subst P c.new-n.ensures.value w.f.ensures)
+                (omega (arith, s.sized, c.nodes-test.true, c.nodes.durations.ok.0)) c.match-node_weight.durations.items
+                (ap (λ z. z.items) w.durations-is);
+          }
+          )
+      | in_default w ↦
+          record {
+            sized = ap vec_len w.durations-is ∙ s.sized;
+            called =
+                called_none of post c.args.f graph i c.nodes.durations.items s.called (w.in_default.ensures ∙ at)
+                c.match-node_weight.durations.items (ap (λ z. z.items) w.durations-is);
+          }
+    ]
+
+pub returns-clause-called : goal.returns-clause-called
+returns-clause-called g c =
+    let graph = g.S.EdgeSource.graph c.graph-store.result.now in
+    let of = g.Ix.IndexType.of in
+    let post = goal.F-post g in
+    let P : Graph _ _ → Type 0 = λ z. AreDurations of post c.args.f z c.nodes.durations.items in
+    subst P c.graph-store.ensures.graph
+    (called_all of post c.args.f graph c.nodes.i c.nodes.durations.items c.nodes.invariant.called c.node_bound-bound.result
+    c.node_bound-bound.ensures.value (omega (arith, c.nodes-test.false)))

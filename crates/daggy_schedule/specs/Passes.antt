@@ -1,0 +1,35 @@
+-- What the passes over the nodes hand on, first in the order and then against it.
+use Rattle.std.specs.Prelude.{◌≡◌, ℕ, ◌+◌, ◌≤◌, ◌⊎◌, List, slice_index}
+use Rattle.daggy_base.specs.Graph.{Graph, HasNode}
+use Rattle.daggy_base.specs.Path.{AreJoined}
+
+-- the children of n start no earlier than it finishes, and each that was put off for that notes n
+pub record AreDelayed {N E : Type 0} (g : Graph N E) (n finish : ℕ) (starts parents starts' parents' : List ℕ) : Type 0 where
+  pub late : (v : ℕ) → AreJoined g n v → finish ≤ slice_index starts' v
+  pub up : (v : ℕ) → slice_index starts v ≤ slice_index starts' v
+  pub noted : (v : ℕ)
+      → ((slice_index starts' v ≡ slice_index starts v) × (slice_index parents' v ≡ slice_index parents v))
+      ⊎ (AreJoined g n v × (slice_index starts' v ≡ finish) × (slice_index parents' v ≡ n))
+
+-- Each node takes its duration. It starts at 0 and notes `end`, or it notes a parent and starts when that finishes.
+pub record AreNoted {N E : Type 0} (end : ℕ) (g : Graph N E) (durations starts parents finishes : List ℕ) : Type 0 where
+  pub takes : (n : ℕ) → HasNode g n → slice_index starts n + slice_index durations n ≡ slice_index finishes n
+  pub noted : (n : ℕ) → HasNode g n → ((slice_index parents n ≡ end) × (slice_index starts n ≡ 0))
+      ⊎ (AreJoined g (slice_index parents n) n
+      × (slice_index finishes (slice_index parents n) ≡ slice_index starts n))
+
+-- the makespan is when the last node finishes; there is one unless there are no nodes
+pub record IsLast {N E : Type 0} (end : ℕ) (g : Graph N E) (finishes : List ℕ) (makespan last : ℕ) : Type 0 where
+  pub most : (n : ℕ) → HasNode g n → slice_index finishes n ≤ makespan
+  pub is_last : (HasNode g last × (slice_index finishes last ≡ makespan))
+      ⊎ (((n : ℕ) → ¬ HasNode g n) × (makespan ≡ 0) × (last ≡ end))
+
+-- how much later each node starts at the latest
+abbrev pub later_by : (starts slack : List ℕ) → ℕ → ℕ
+later_by starts slack n = slice_index starts n + slice_index slack n
+
+-- the latest time at which n finishes: the least of the makespan and the latest starts of its children
+pub record IsLatestFinish {N E : Type 0} (g : Graph N E) (n : ℕ) (start : ℕ → ℕ) (makespan finish : ℕ) : Type 0 where
+  pub most : finish ≤ makespan
+  pub below : (v : ℕ) → AreJoined g n v → finish ≤ start v
+  pub met : (finish ≡ makespan) ⊎ ((v : ℕ) × AreJoined g n v × (finish ≡ start v))

@@ -1,0 +1,62 @@
+-- When the nodes of a graph start and finish, with a duration for each.
+use Rattle.std.specs.Prelude.{◌≡◌, ℕ, ◌+◌, ◌<◌, ◌≤◌, ◌^◌, ◌⊎◌, Some, List, [], ◌∷◌, slice_index}
+use Rattle.std.specs.Borrow.{Bor}
+use Rattle.daggy_base.specs.Graph.{Graph, HasNode, node_weight, node_bound}
+use Rattle.daggy_base.specs.Path.{AreJoined, IsPath}
+
+module _ {N F I : Type 0} (of : ℕ → I) where
+  -- f may have returned this duration for the node n of weight w
+  abbrev pub IsDuration : (post : F → I → Bor N → ℕ → Type 0) → F → ℕ → N → (duration : ℕ) → Type 0
+  IsDuration post f n w duration = (shown : Bor N) × (shown.now ≡ w) × post f (of n) shown duration
+
+module _ {N E F I : Type 0} (of : ℕ → I) where
+  -- f may be called with the index of each existing node, which is below the bound, and a `&` to its weight
+  abbrev pub CanCallAtEachNode : (pre : F → I → Bor N → Type 0) → F → Graph N E → Type 0
+  CanCallAtEachNode pre f g =
+      (n : ℕ) (w : N) → node_weight g n ≡ Some w → n < node_bound g → (shown : Bor N) → shown.now ≡ w
+      → pre f (of n) shown
+
+  -- each existing node has a duration that f returned for it
+  abbrev pub AreDurations : (post : F → I → Bor N → ℕ → Type 0) → F → Graph N E → List ℕ → Type 0
+  AreDurations post f g durations =
+      (n : ℕ) (w : N) → node_weight g n ≡ Some w → IsDuration of post f n w (slice_index durations n)
+
+-- the sum of the durations of the nodes of a list
+abbrev pub span : (durations : List ℕ) → List ℕ → ℕ
+span durations [] = 0
+span durations (n ∷ ns) = slice_index durations n + span durations ns
+
+-- the durations along some path sum up to 2 ^ 64 or more
+abbrev pub TakesTooLong : {N E : Type 0} → Graph N E → (durations : List ℕ) → Type 0
+TakesTooLong g durations = (path : List ℕ) × IsPath g path × (2 ^ 64 ≤ span durations path)
+
+-- no node starts before its parents have finished
+abbrev pub AreFeasible : {N E : Type 0} → Graph N E → (durations : List ℕ) (start : ℕ → ℕ) → Type 0
+AreFeasible g durations start = (u v : ℕ) → AreJoined g u v → start u + slice_index durations u ≤ start v
+
+-- all nodes have finished by then
+abbrev pub AreDoneBy : {N E : Type 0} → Graph N E → (durations : List ℕ) (start : ℕ → ℕ) (time : ℕ) → Type 0
+AreDoneBy g durations start time = (n : ℕ) → HasNode g n → start n + slice_index durations n ≤ time
+
+-- feasible starts, of which none can be earlier
+pub record AreEarliest {N E : Type 0} (g : Graph N E) (durations : List ℕ) (start : ℕ → ℕ) : Type 0 where
+  pub feasible : AreFeasible g durations start
+  pub least : (other : ℕ → ℕ) → AreFeasible g durations other → (n : ℕ) → HasNode g n → start n ≤ other n
+
+-- feasible starts with which all have finished by then, of which none can be later
+pub record AreLatest {N E : Type 0} (g : Graph N E) (durations : List ℕ) (start : ℕ → ℕ) (time : ℕ) : Type 0 where
+  pub feasible : AreFeasible g durations start
+  pub met : AreDoneBy g durations start time
+  pub greatest : (other : ℕ → ℕ) → AreFeasible g durations other → AreDoneBy g durations other time
+      → (n : ℕ) → HasNode g n → other n ≤ start n
+
+-- with these starts all have finished by then, and with no feasible starts earlier
+pub record IsMakespan {N E : Type 0} (g : Graph N E) (durations : List ℕ) (start : ℕ → ℕ) (time : ℕ) : Type 0 where
+  pub met : AreDoneBy g durations start time
+  pub least : (other : ℕ → ℕ) (earlier : ℕ) → AreFeasible g durations other → AreDoneBy g durations other earlier
+      → time ≤ earlier
+
+-- a path, or nothing if there are no nodes, whose durations sum up to the time
+pub record IsCritical {N E : Type 0} (g : Graph N E) (durations nodes : List ℕ) (time : ℕ) : Type 0 where
+  pub path : IsPath g nodes ⊎ ((nodes ≡ []) × ((n : ℕ) → ¬ HasNode g n))
+  pub sum : span durations nodes ≡ time

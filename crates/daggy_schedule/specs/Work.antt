@@ -1,0 +1,93 @@
+-- Nodes that are worked off, each after its parents.
+use Rattle.std.specs.Prelude.{◌≡◌, ℕ, ◌==◌, ◌||◌, ◌&&◌, ◌↔◌, Bool, true, false, not, Option, Some, None, List, [], ◌∷◌}
+use Rattle.std.specs.Prelude.{map, length, filter, count_by, slice_get, slice_index_or, Contains, if◌then◌else◌}
+use Rattle.daggy_base.specs.Graph.{Graph, Edge, HasNode, edge_at, in_list, out_list}
+
+-- the parent of an edge, or 0 if there is no edge
+abbrev pub parent_or : {E : Type 0} → Option (Edge E) → ℕ
+parent_or None = 0
+parent_or (Some x) = x.parent
+
+-- the child of an edge, or 0 if there is no edge
+abbrev pub child_or : {E : Type 0} → Option (Edge E) → ℕ
+child_or None = 0
+child_or (Some x) = x.child
+
+-- the parents of a node, one for each edge that leads to it
+abbrev pub parents_of : {N E : Type 0} → Graph N E → ℕ → List ℕ
+parents_of g n = map (λ e. parent_or (edge_at g e)) (in_list g n)
+
+-- the children of a node, one for each edge that leaves it, in the order of its out list
+abbrev pub children_of : {N E : Type 0} → Graph N E → ℕ → List ℕ
+children_of g n = map (λ e. child_or (edge_at g e)) (out_list g n)
+
+-- whether a number is in a list
+abbrev pub is_among : List ℕ → ℕ → Bool
+is_among [] x = false
+is_among (y ∷ ys) x = (y == x) || is_among ys x
+
+-- whether no number of a list occurs twice
+abbrev pub are_distinct : List ℕ → Bool
+are_distinct [] = true
+are_distinct (x ∷ xs) = not (is_among xs x) && are_distinct xs
+
+-- Nodes that are worked off: how many edges from parents that are not done lead to each node; the nodes that can begin,
+-- the one to be handed out next first; and by index whether a node was handed out, and whether it is done.
+pub record Work : Type 0 where
+  pub waiting : List ℕ
+  pub ready : List ℕ
+  pub out : List Bool
+  pub done : List Bool
+
+-- a flag at an index
+abbrev pub is_set : List Bool → ℕ → Bool
+is_set flags n = slice_index_or flags n false
+
+-- the flag at an index is set
+abbrev pub IsSet : List Bool → ℕ → Type 0
+IsSet flags n = is_set flags n ≡ true
+
+-- the node was handed out, and is not done
+abbrev pub IsOut : Work → ℕ → Type 0
+IsOut work n = IsSet work.out n × ¬ IsSet work.done n
+
+-- nothing can begin, and nothing is out
+abbrev pub IsIdle : Work → Type 0
+IsIdle work = (work.ready ≡ []) × ((n : ℕ) → ¬ IsOut work n)
+
+-- all nodes are done
+abbrev pub AreAllDone : {N E : Type 0} → Graph N E → Work → Type 0
+AreAllDone g work = (n : ℕ) → HasNode g n → IsSet work.done n
+
+-- the node exists, and all of its parents are done
+abbrev pub MayBegin : {N E : Type 0} → Graph N E → List Bool → ℕ → Type 0
+MayBegin g done n = HasNode g n × ((u : ℕ) → Contains (parents_of g n) u → IsSet done u)
+
+-- The nodes of the graph are worked off. Each node waits for the edges from parents that are not done. Ready, each once,
+-- are exactly the nodes whose parents are all done and that were not handed out. Only such nodes were handed out, and only
+-- nodes that were handed out are done. The work is idle exactly if all nodes are done.
+pub record IsUnderWay {N E : Type 0} (g : Graph N E) (work : Work) : Type 0 where
+  pub waits : (n : ℕ) → HasNode g n
+      → slice_get work.waiting n ≡ Some (count_by (λ u. not (is_set work.done u)) (parents_of g n))
+  pub ready : (n : ℕ) → (is_among work.ready n ≡ true) ↔ (MayBegin g work.done n × ¬ IsSet work.out n)
+  pub once : are_distinct work.ready ≡ true
+  pub out : (n : ℕ) → IsSet work.out n → MayBegin g work.done n
+  pub done : (n : ℕ) → IsSet work.done n → IsSet work.out n
+  pub idle : IsIdle work ↔ AreAllDone g work
+
+-- no edge leads to the node
+abbrev pub has_no_parents : {N E : Type 0} → Graph N E → ℕ → Bool
+has_no_parents g n = length (in_list g n) == 0
+
+-- no edge leads to the node from a parent that is not done
+abbrev pub has_done_parents : {N E : Type 0} → Graph N E → List Bool → ℕ → Bool
+has_done_parents g done n = count_by (λ u. not (is_set done u)) (parents_of g n) == 0
+
+-- each number of a list once: where it occurs last
+abbrev pub each_last : List ℕ → List ℕ
+each_last [] = []
+each_last (x ∷ xs) = if is_among xs x then each_last xs else x ∷ each_last xs
+
+-- the children of a node whose parents are all done, in the order of its out list, each at its last edge there
+abbrev pub released : {N E : Type 0} → Graph N E → List Bool → ℕ → List ℕ
+released g done n = each_last (filter (has_done_parents g done) (children_of g n))

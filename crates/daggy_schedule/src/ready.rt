@@ -1,0 +1,269 @@
+//! Which nodes of a dag can begin, while others are being done.
+ghost use Rattle.std.specs.Prelude.{◌≡◌, ℕ, ◌+◌, ◌<◌, ◌≤◌, ◌↔◌, ◌⊎◌, ◌∷◌, ◌++◌, [], List};
+ghost use Rattle.std.specs.Prelude.{IsTrue, IsNone, IfSome, IfOk, take, length, filter};
+ghost use Rattle.daggy_base.specs.Graph.{HasNode, in_list, out_list};
+ghost use Rattle.daggy_base.specs.Ordered.{IsOrderOf};
+ghost use Rattle.daggy_schedule.specs.Work.{IsSet, IsOut, IsIdle, IsUnderWay};
+ghost use Rattle.daggy_schedule.specs.Work.{has_no_parents, released, each_last, children_of};
+ghost use Rattle.daggy_schedule.specs.Queue.{IsCounted, waits_for_none};
+
+use daggy_base::index::{DefaultIx, Direction, EdgeIndex, IndexType, NodeIndex};
+use daggy_base::link::Link;
+use daggy_base::store::Store;
+use daggy_dag::acyclic::Acyclic;
+use std::alloc::{AllocError, Global};
+use std::marker::Model;
+
+/// The nodes of a dag as they are worked off: each is handed out once, after all of its parents are
+/// done.
+///
+/// It does not borrow the dag; each call that needs the dag borrows it for that call. Until all nodes
+/// are done, no node and no edge may be added or removed.
+///
+/// The calls say that the work on this dag is under way, and ask for that. A struct that keeps both
+/// states it once, as `ghost under_way: { IsUnderWay dag.now.graph ready }`.
+///
+/// # Complexity
+///
+/// O(nodes + edges) for a whole run. [`new`](Ready::new) allocates all the memory; no other call
+/// does.
+///
+/// # Examples
+///
+/// ```
+/// let mut dag: Dag<&'static str, u32> = Dag::new(rt.alloc());
+/// let sow = dag.add_node("sow")?;
+/// let (_, reap) = dag.add_child(sow, 90, "reap")?;
+/// let mut ready = Ready::new(rt.alloc(), &dag)?;
+/// assert!(rt; ready.next(&dag) == Some(sow));
+/// // Its parent is not done yet.
+/// assert!(rt; ready.next(&dag).is_none());
+/// ready.done(&dag, sow);
+/// assert!(rt; ready.next(&dag) == Some(reap));
+/// ready.done(&dag, reap);
+/// assert!(rt; ready.is_finished());
+/// ```
+#[derive(Debug, Drop)]
+pub struct Ready<Ix: IndexType = DefaultIx> {
+    // By node index, the number of edges from parents that are not done.
+    waiting: Vec<usize>,
+    // The nodes that became ready, in turn. Those before `head` were handed out.
+    queue: Vec<Link<Ix>>,
+    head: usize,
+    tail: usize,
+    out: Vec<bool>,
+    done: Vec<bool>,
+    // How many nodes are done.
+    finished: usize,
+}
+
+impl<Ix: IndexType> Model for Ready<Ix> {
+    ghost use Rattle.std.specs.Prelude.{take, drop};
+    ghost use Rattle.daggy_schedule.specs.Work.{Work};
+    ghost use Rattle.daggy_schedule.specs.Queue.{IsKept};
+
+    ghost Value = { Work };
+
+    ghost view = { λ r. record {
+      waiting = r.waiting.items;
+      ready = drop r.head (take r.tail r.queue.items);
+      out = r.out.items;
+      done = r.done.items;
+    } };
+
+    ghost invariant = { λ r.
+        IsKept r.waiting.items r.queue.items r.head r.tail r.out.items r.done.items r.finished };
+}
+
+impl<Ix: IndexType> Ready<Ix> {
+    /// Starts the work on a dag: the nodes without parents are ready, in the dag's topological
+    /// order.
+    ///
+    /// # Errors
+    ///
+    /// Returns `AllocError` if an allocation fails.
+    ///
+    /// # Complexity
+    ///
+    /// O(nodes + edges).
+    pub fn new<N: Drop, E: Drop, S>(
+        alloc: Global,
+        dag: &Acyclic<N, E, Ix, S>,
+    ) -> Result<Self, AllocError>
+    where
+        S: Store<Ix, NodeWeight = N, EdgeWeight = E>,
+        ensures ready { IfOk result (λ r. (order : List ℕ) × IsOrderOf dag.now.graph order
+            × (r.ready ≡ filter (has_no_parents dag.now.graph) order)) }
+        ensures none_out { IfOk result (λ r. (n : ℕ) → ¬ IsSet r.out n) }
+        ensures under_way { IfOk result (λ r. IsUnderWay dag.now.graph r) }
+    {
+        let store = dag.graph();
+        let bound = store.node_bound();
+        let mut waiting = Vec::new(alloc);
+        waiting.resize(bound, 0usize)?;
+        let mut queue = Vec::new(alloc);
+        queue.resize(bound, Link::end())?;
+        let mut out = Vec::new(alloc);
+        out.resize(bound, false)?;
+        let mut done = Vec::new(alloc);
+        done.resize(bound, false)?;
+        let mut tail = 0;
+        let mut nodes = dag.topological_order();
+        'nodes: while let Some(n) = nodes.next() {
+            let count = count_parents(store, n);
+            waiting[n.index()] = count;
+            if count == 0 {
+                queue[tail] = Link::of_node(n);
+                tail += 1;
+            }
+        }
+        Ok(Ready {
+            waiting,
+            queue,
+            head: 0,
+            tail,
+            out,
+            done,
+            finished: 0,
+        })
+    }
+
+    /// Hands out the node that has been ready for longest, or returns `None` if none is ready: then
+    /// some node that is out has to be done first, or all are done.
+    ///
+    /// # Complexity
+    ///
+    /// O(1).
+    pub fn next<N: Drop, E: Drop, S>(&mut self, dag: &Acyclic<N, E, Ix, S>) -> Option<NodeIndex<Ix>>
+    where
+        S: Store<Ix, NodeWeight = N, EdgeWeight = E>,
+        requires { IsUnderWay dag.now.graph self.old }
+        ensures none { IsNone result ↔ (self.old.ready ≡ []) }
+        ensures first { IfSome result (λ n. self.old.ready ≡ Ix.number n ∷ self.new.ready) }
+        ensures out { IfSome result (λ n. (m : ℕ)
+            → IsSet self.new.out m ↔ (IsSet self.old.out m ⊎ (m ≡ Ix.number n))) }
+        ensures is_out { IfSome result (λ n. IsOut self.new (Ix.number n)) }
+        ensures unchanged { IsNone result → self.new ≡ self.old }
+        ensures done { self.new.done ≡ self.old.done }
+        ensures waiting { self.new.waiting ≡ self.old.waiting }
+        ensures under_way { IsUnderWay dag.now.graph self.new }
+    {
+        let _ = dag;
+        if self.head == self.tail {
+            return None;
+        }
+        let n = self.queue[self.head].node();
+        self.head += 1;
+        self.out[n.index()] = true;
+        Some(n)
+    }
+
+    /// Whether a node was handed out and is not done yet.
+    pub fn is_out(&self, n: NodeIndex<Ix>) -> bool
+        ensures { IsTrue result ↔ IsOut self.now (Ix.number n) }
+    {
+        let i = n.index();
+        i < self.out.len() && self.out[i] && !(i < self.done.len() && self.done[i])
+    }
+
+    /// Notes that a node that was handed out is done. Its children whose parents are all done then
+    /// are ready, behind those that were, in the order of the edges that leave the node.
+    ///
+    /// # Complexity
+    ///
+    /// O(children of the node).
+    pub fn done<N: Drop, E: Drop, S>(&mut self, dag: &Acyclic<N, E, Ix, S>, n: NodeIndex<Ix>)
+    where
+        S: Store<Ix, NodeWeight = N, EdgeWeight = E>,
+        requires under_way { IsUnderWay dag.now.graph self.old }
+        requires out { IsOut self.old (Ix.number n) }
+        ensures done { (m : ℕ)
+            → IsSet self.new.done m ↔ (IsSet self.old.done m ⊎ (m ≡ Ix.number n)) }
+        ensures ready { self.new.ready
+            ≡ self.old.ready ++ released dag.now.graph self.new.done (Ix.number n) }
+        ensures out { self.new.out ≡ self.old.out }
+        ensures under_way { IsUnderWay dag.now.graph self.new }
+    {
+        let store = dag.graph();
+        store.invariant();
+        let _order = dag.topological_order();
+        self.done[n.index()] = true;
+        self.finished += 1;
+        self.tail = release(
+            store,
+            n,
+            &self.done,
+            &mut self.waiting,
+            &mut self.queue,
+            self.tail,
+        );
+    }
+
+    /// Whether no node is ready and none is out. That is so exactly if all nodes are done.
+    pub fn is_finished(&self) -> bool
+        ensures { IsTrue result ↔ IsIdle self.now }
+    {
+        self.finished == self.tail
+    }
+}
+
+// How many edges lead to a node.
+fn count_parents<Ix: IndexType, S: Store<Ix>>(store: &S, n: NodeIndex<Ix>) -> usize
+    ensures { result ≡ length (in_list (S.graph store.now) (Ix.number n)) }
+{
+    store.invariant();
+    let end = EdgeIndex::<Ix>::end().index();
+    let mut e = store.first_edge(n, Direction::Incoming);
+    let mut count = 0;
+    'parents: while e.index() != end {
+        count += 1;
+        e = store.next_edge(e, Direction::Incoming);
+    }
+    count
+}
+
+// Counts off the edges that leave a node that is done, and queues the children that wait for none
+// then.
+fn release<Ix: IndexType, S: Store<Ix>>(
+    store: &S,
+    n: NodeIndex<Ix>,
+    done: &Vec<bool>,
+    waiting: &mut Vec<usize>,
+    queue: &mut Vec<Link<Ix>>,
+    tail: usize,
+) -> usize
+    requires within { (m : ℕ) → HasNode (S.graph store.now) m → m < length waiting.old.items }
+    requires room { length queue.old.items ≡ length waiting.old.items }
+    requires low { tail ≤ length queue.old.items }
+    requires done { IsSet done.now.items (Ix.number n) }
+    requires counted { IsCounted (S.graph store.now) done.now.items
+        (out_list (S.graph store.now) (Ix.number n)) waiting.old.items (take tail queue.old.items) }
+    ensures counted { IsCounted (S.graph store.now) done.now.items [] waiting.new.items
+        (take result queue.new.items) }
+    ensures later { tail ≤ result }
+    ensures low { result ≤ length queue.new.items }
+    ensures kept { take tail queue.new.items ≡ take tail queue.old.items }
+    ensures queued { take result queue.new.items ≡ take tail queue.old.items
+        ++ each_last (filter (waits_for_none waiting.new.items)
+        (children_of (S.graph store.now) (Ix.number n))) }
+    ensures waiting_long { length waiting.new.items ≡ length waiting.old.items }
+    ensures queue_long { length queue.new.items ≡ length queue.old.items }
+{
+    store.invariant();
+    let mut at = tail;
+    let end = EdgeIndex::<Ix>::end().index();
+    let mut e = store.first_edge(n, Direction::Outgoing);
+    'children: while e.index() != end {
+        let ends = store.edge_endpoints(e);
+        e = store.next_edge(e, Direction::Outgoing);
+        if let Some((_parent, child)) = ends {
+            let i = child.index();
+            waiting[i] -= 1;
+            if waiting[i] == 0 {
+                queue[at] = Link::of_node(child);
+                at += 1;
+            }
+        }
+    }
+    at
+}

@@ -1,0 +1,157 @@
+//! How early and how late the nodes of a dag can start, with a duration for each.
+ghost use Rattle.std.specs.Prelude.{◌≡◌, ℕ, ◌+◌, List, map, Err, IfOk, vec_len, slice_index};
+ghost use Rattle.daggy_base.specs.Graph.{HasNode, node_bound};
+ghost use Rattle.daggy_schedule.specs.Times.{CanCallAtEachNode, AreDurations, TakesTooLong};
+ghost use Rattle.daggy_schedule.specs.Times.{AreEarliest, AreLatest, IsMakespan, IsCritical};
+ghost use Rattle.daggy_schedule.specs.declared.schedule.ScheduleError.TheVariants.{Overflow};
+ghost use Rattle.daggy_schedule.specs.declared.schedule.ScheduleError.TheVariants.{Memory as OutOfMemory};
+
+use daggy_base::index::{DefaultIx, IndexType, NodeIndex};
+use daggy_base::store::Store;
+use daggy_dag::acyclic::Acyclic;
+use std::alloc::{AllocError, Global};
+use thiserror::Error;
+
+mod early;
+mod late;
+
+use early::{earliest, path_back};
+use late::{nodes_in_order, slack_of};
+
+/// When each node of a dag starts and finishes. The lists are by node index, with 0 where there is
+/// no node.
+#[derive(Debug, Drop)]
+pub struct Schedule<Ix: IndexType = DefaultIx> {
+    /// How long each node takes.
+    pub durations: Vec<u64>,
+    /// When each node can start at the earliest: all of its parents have finished.
+    pub starts: Vec<u64>,
+    /// When each node finishes if it starts at the earliest.
+    pub finishes: Vec<u64>,
+    /// How much later each node can start, with no later makespan.
+    pub slack: Vec<u64>,
+    /// A path whose durations sum up to the makespan. Empty only if there are no nodes.
+    pub critical: Vec<NodeIndex<Ix>>,
+    /// When all nodes have finished, at the earliest.
+    pub makespan: u64,
+}
+
+/// Why there is no schedule.
+#[derive(Clone, Copy, Debug, Eq, Error, PartialEq)]
+pub enum ScheduleError {
+    /// The durations along some path sum up to 2^64 or more.
+    #[error("a path takes too long")]
+    Overflow,
+    /// An allocation failed.
+    #[error("out of memory")]
+    Memory,
+}
+
+impl From<AllocError> for ScheduleError {
+    ghost from_gives = { λ _ e. e ≡ OutOfMemory };
+
+    fn from(_error: AllocError) -> ScheduleError {
+        ScheduleError::Memory
+    }
+}
+
+impl<Ix: IndexType> Schedule<Ix> {
+    /// When each node can start and finish if it waits for its parents alone, how much later it can
+    /// start, and a critical path. `durations` is called once with each node.
+    ///
+    /// # Errors
+    ///
+    /// Returns `ScheduleError::Overflow` if the durations along some path sum up to 2^64 or more, and
+    /// `ScheduleError::Memory` if an allocation fails before that is seen.
+    ///
+    /// # Complexity
+    ///
+    /// O(nodes + edges), plus the calls.
+    ///
+    /// # Examples
+    ///
+    /// ```
+    /// let mut dag: Dag<u64, ()> = Dag::new(rt.alloc());
+    /// let sow = dag.add_node(1)?;
+    /// let (_, water) = dag.add_child(sow, (), 60)?;
+    /// let (_, reap) = dag.add_child(water, (), 2)?;
+    /// let (_, scarecrow) = dag.add_child(sow, (), 5)?;
+    /// let plan = Schedule::new(rt.alloc(), &dag, |_, days| *days)?;
+    /// assert!(rt; plan.makespan == 63);
+    /// assert!(rt; plan.critical.as_slice() == [sow, water, reap]);
+    /// assert!(rt; plan.starts[scarecrow.index()] == 1);
+    /// assert!(rt; plan.slack[scarecrow.index()] == 57);
+    /// ```
+    pub fn new<N: Drop, E: Drop, S, F: Fn(NodeIndex<Ix>, &N) -> u64>(
+        alloc: Global,
+        dag: &Acyclic<N, E, Ix, S>,
+        durations: F,
+    ) -> Result<Self, ScheduleError>
+    where
+        S: Store<Ix, NodeWeight = N, EdgeWeight = E>,
+        requires { CanCallAtEachNode Ix.of F.pre durations dag.now.graph }
+        ensures durations { IfOk result (λ s.
+            AreDurations Ix.of F.post durations dag.now.graph s.durations.items) }
+        ensures starts { IfOk result (λ s.
+            AreEarliest dag.now.graph s.durations.items (slice_index s.starts.items)) }
+        ensures finishes { IfOk result (λ s. (n : ℕ) → HasNode dag.now.graph n
+            → slice_index s.finishes.items n
+            ≡ slice_index s.starts.items n + slice_index s.durations.items n) }
+        ensures makespan { IfOk result (λ s.
+            IsMakespan dag.now.graph s.durations.items (slice_index s.starts.items) s.makespan) }
+        ensures slack { IfOk result (λ s. AreLatest dag.now.graph s.durations.items
+            (λ n. slice_index s.starts.items n + slice_index s.slack.items n) s.makespan) }
+        ensures critical { IfOk result (λ s. IsCritical dag.now.graph s.durations.items
+            (map Ix.number s.critical.items) s.makespan) }
+        ensures fits { IfOk result (λ s. ¬ TakesTooLong dag.now.graph s.durations.items) }
+        ensures overflow { result ≡ Err Overflow → (durations' : List ℕ)
+            × AreDurations Ix.of F.post durations dag.now.graph durations'
+            × TakesTooLong dag.now.graph durations' }
+    {
+        let durations = durations_of(alloc, dag, durations)?;
+        let early = earliest(alloc, dag, durations.as_slice())?;
+        let order = nodes_in_order(alloc, dag)?;
+        let slack = slack_of(alloc, dag, order.as_slice(), durations.as_slice(), &early)?;
+        let critical = path_back(
+            alloc,
+            dag,
+            order.as_slice(),
+            early.last,
+            early.parents.as_slice(),
+        )?;
+        Ok(Schedule {
+            durations,
+            starts: early.starts,
+            finishes: early.finishes,
+            slack,
+            critical,
+            makespan: early.makespan,
+        })
+    }
+}
+
+// What the closure returns for each node.
+fn durations_of<N: Drop, E: Drop, Ix: IndexType, S, F: Fn(NodeIndex<Ix>, &N) -> u64>(
+    alloc: Global,
+    dag: &Acyclic<N, E, Ix, S>,
+    f: F,
+) -> Result<Vec<u64>, AllocError>
+where
+    S: Store<Ix, NodeWeight = N, EdgeWeight = E>,
+    requires { CanCallAtEachNode Ix.of F.pre f dag.now.graph }
+    ensures called { IfOk result (λ durations.
+        AreDurations Ix.of F.post f dag.now.graph durations.items) }
+    ensures sized { IfOk result (λ durations. vec_len durations ≡ node_bound dag.now.graph) }
+{
+    let store = dag.graph();
+    let bound = store.node_bound();
+    let mut durations = Vec::new(alloc);
+    durations.resize(bound, 0u64)?;
+    'nodes: for i in 0..bound {
+        let n = NodeIndex::new(i);
+        if let Some(weight) = store.node_weight(n) {
+            durations[i] = f(n, weight);
+        }
+    }
+    Ok(durations)
+}

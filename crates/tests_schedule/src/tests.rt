@@ -1,0 +1,7 @@
+//! What no contract says: that calls succeed, and what they answer for dags that were worked out by
+//! hand.
+
+mod refusals;
+mod schedules;
+mod support;
+mod workers;

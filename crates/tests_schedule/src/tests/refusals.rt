@@ -1,0 +1,70 @@
+//! Calls while memory is refused once. `rt try --test --fail-alloc N` refuses the Nth allocation: a
+//! call that is refused says so, and succeeds when it is made again.
+use super::support::{Plain, made, node, same};
+use daggy_base::index::NodeIndex;
+use daggy_base::store::Store;
+use daggy_graph::graph::DiGraph;
+use daggy_schedule::ready::Ready;
+use daggy_schedule::schedule::{Schedule, ScheduleError};
+use daggy_stable::stable_graph::StableDiGraph;
+use std::alloc::{AllocError, Global};
+use std::process::Abort;
+
+// A dag with a node and its child, each added again if that is refused.
+fn two_nodes<S: Store<u32, NodeWeight = u64, EdgeWeight = ()>>(
+    rt: &impl Abort,
+    alloc: Global,
+) -> Plain<S> {
+    let mut dag = Plain::<S>::new(alloc);
+    assert!(rt; dag.can_add_node());
+    if dag.add_node(2).is_err() {
+        made(rt, dag.add_node(2));
+    }
+    let parent = node(rt, 0);
+    assert!(rt; dag.contains_node(parent) && dag.can_add_node() && dag.can_add_edge());
+    if dag.add_child(parent, (), 3).is_err() {
+        made(rt, dag.add_child(parent, (), 3));
+    }
+    dag
+}
+
+fn ready_again<S: Store<u32, NodeWeight = u64, EdgeWeight = ()>>(
+    rt: &impl Abort,
+    alloc: Global,
+    dag: &Plain<S>,
+) {
+    let mut ready = match Ready::new(alloc, dag) {
+        Ok(ready) => ready,
+        Err(AllocError) => made(rt, Ready::new(alloc, dag)),
+    };
+    same(rt, ready.next(dag).map(NodeIndex::index), Some(0));
+}
+
+fn schedule_again<S: Store<u32, NodeWeight = u64, EdgeWeight = ()>>(
+    rt: &impl Abort,
+    alloc: Global,
+    dag: &Plain<S>,
+) {
+    let plan = match Schedule::new(alloc, dag, |_, duration| *duration) {
+        Ok(plan) => plan,
+        Err(ScheduleError::Memory) => made(rt, Schedule::new(alloc, dag, |_, duration| *duration)),
+        Err(ScheduleError::Overflow) => panic!(rt; "no path takes too long"),
+    };
+    same(rt, plan.makespan, 5);
+}
+
+fn again<S: Store<u32, NodeWeight = u64, EdgeWeight = ()>>(rt: &impl Abort, alloc: Global) {
+    let dag = two_nodes::<S>(rt, alloc);
+    ready_again(rt, alloc, &dag);
+    schedule_again(rt, alloc, &dag);
+}
+
+#[test]
+fn refused_calls_are_made_again(rt: HostRuntime) {
+    again::<DiGraph<u64, (), u32>>(&rt, rt.alloc());
+}
+
+#[test]
+fn refused_calls_on_a_stable_dag_are_made_again(rt: HostRuntime) {
+    again::<StableDiGraph<u64, (), u32>>(&rt, rt.alloc());
+}

@@ -1,0 +1,101 @@
+//! Schedules that were worked out by hand.
+ghost use Rattle.std.specs.Prelude.{◌≤◌, length};
+ghost use Rattle.daggy_base.specs.Graph.{node_bound};
+
+use super::support::{Plain, dag_of, holds, lists, made, node, same, times};
+use daggy_base::source::EdgeSource;
+use daggy_base::store::Store;
+use daggy_graph::graph::DiGraph;
+use daggy_schedule::schedule::{Schedule, ScheduleError};
+use daggy_stable::stable_graph::StableDiGraph;
+use std::alloc::Global;
+use std::process::Abort;
+
+fn plans<S: Store<u32, NodeWeight = u64, EdgeWeight = ()>>(rt: &impl Abort, alloc: Global) {
+    let edges = [(0, 1), (0, 2), (1, 3), (2, 3), (2, 4), (0, 2)];
+    let dag = dag_of::<S>(rt, alloc, &[3, 2, 5, 1, 4], &edges);
+    let plan = made(rt, Schedule::new(alloc, &dag, |_, duration| *duration));
+    times(rt, plan.durations.as_slice(), &[3, 2, 5, 1, 4]);
+    times(rt, plan.starts.as_slice(), &[0, 3, 3, 8, 8]);
+    times(rt, plan.finishes.as_slice(), &[3, 5, 8, 9, 12]);
+    times(rt, plan.slack.as_slice(), &[0, 6, 0, 3, 0]);
+    same(rt, plan.makespan, 12);
+    lists(rt, plan.critical.as_slice(), &[0, 2, 4]);
+}
+
+// A schedule with the durations of a table.
+fn by_table<S: Store<u32, NodeWeight = u64, EdgeWeight = ()>>(
+    alloc: Global,
+    dag: &Plain<S>,
+    table: &[u64],
+) -> Result<Schedule, ScheduleError>
+    requires { node_bound dag.now.graph ≤ length table.now }
+{
+    Schedule::new(alloc, dag, |n, _| table[n.index()])
+}
+
+fn plans_by_table<S: Store<u32, NodeWeight = u64, EdgeWeight = ()>>(
+    rt: &impl Abort,
+    alloc: Global,
+) {
+    let dag = dag_of::<S>(rt, alloc, &[0, 0, 0], &[(2, 0), (2, 1)]);
+    let table = [4, 6, 1];
+    assert!(rt; dag.graph().node_bound() <= table.len());
+    let plan = made(rt, by_table(alloc, &dag, &table));
+    times(rt, plan.starts.as_slice(), &[1, 1, 0]);
+    times(rt, plan.slack.as_slice(), &[2, 0, 0]);
+    lists(rt, plan.critical.as_slice(), &[2, 1]);
+}
+
+fn plans_none<S: Store<u32, NodeWeight = u64, EdgeWeight = ()>>(rt: &impl Abort, alloc: Global) {
+    let none = dag_of::<S>(rt, alloc, &[], &[]);
+    let plan = made(rt, Schedule::new(alloc, &none, |_, duration| *duration));
+    same(rt, plan.makespan, 0);
+    lists(rt, plan.critical.as_slice(), &[]);
+    let idle = dag_of::<S>(rt, alloc, &[0, 0], &[(0, 1)]);
+    let plan = made(rt, Schedule::new(alloc, &idle, |_, duration| *duration));
+    same(rt, plan.makespan, 0);
+    holds(rt, !plan.critical.is_empty());
+}
+
+fn plans_too_much<S: Store<u32, NodeWeight = u64, EdgeWeight = ()>>(
+    rt: &impl Abort,
+    alloc: Global,
+) {
+    let dag = dag_of::<S>(rt, alloc, &[u64::MAX, 1, u64::MAX], &[(0, 1)]);
+    holds(
+        rt,
+        matches!(
+            Schedule::new(alloc, &dag, |_, duration| *duration),
+            Err(ScheduleError::Overflow)
+        ),
+    );
+    let dag = dag_of::<S>(rt, alloc, &[u64::MAX - 1, 1, u64::MAX], &[(0, 1)]);
+    let plan = made(rt, Schedule::new(alloc, &dag, |_, duration| *duration));
+    same(rt, plan.makespan, u64::MAX);
+}
+
+#[test]
+fn schedules_of_dags(rt: HostRuntime) {
+    plans::<DiGraph<u64, (), u32>>(&rt, rt.alloc());
+    plans_by_table::<DiGraph<u64, (), u32>>(&rt, rt.alloc());
+    plans_none::<DiGraph<u64, (), u32>>(&rt, rt.alloc());
+    plans_too_much::<DiGraph<u64, (), u32>>(&rt, rt.alloc());
+}
+
+#[test]
+fn schedules_of_stable_dags(rt: HostRuntime) {
+    let alloc = rt.alloc();
+    plans::<StableDiGraph<u64, (), u32>>(&rt, alloc);
+    plans_by_table::<StableDiGraph<u64, (), u32>>(&rt, alloc);
+    plans_none::<StableDiGraph<u64, (), u32>>(&rt, alloc);
+    plans_too_much::<StableDiGraph<u64, (), u32>>(&rt, alloc);
+    let edges = [(0, 1), (1, 2), (0, 3)];
+    let mut dag = dag_of::<StableDiGraph<u64, (), u32>>(&rt, alloc, &[2, 9, 1, 3], &edges);
+    holds(&rt, dag.remove_node(node(&rt, 1)).is_some());
+    let plan = made(&rt, Schedule::new(alloc, &dag, |_, duration| *duration));
+    times(&rt, plan.starts.as_slice(), &[0, 0, 0, 2]);
+    times(&rt, plan.slack.as_slice(), &[0, 0, 4, 0]);
+    same(&rt, plan.makespan, 5);
+    lists(&rt, plan.critical.as_slice(), &[0, 3]);
+}
