@@ -19,13 +19,14 @@
 //!
 //! [`graph`] and [`stable_graph`] are the stores below, which may hold cycles, [`search`] finds
 //! paths in any graph, and [`visit`] has traits for generic code. [`run`] carries out lists of
-//! commands over a dag of either kind.
+//! commands over a dag of either kind, and [`schedule`] works off its nodes.
 #![tactic(auto)]
 
 pub mod graph;
 pub mod index;
 pub mod json;
 pub mod run;
+pub mod schedule;
 pub mod search;
 pub mod stable_graph;
 

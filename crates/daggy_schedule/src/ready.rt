@@ -131,6 +131,8 @@ impl<Ix: IndexType> Ready<Ix> {
     /// Hands out the node that has been ready for longest, or returns `None` if none is ready: then
     /// some node that is out has to be done first, or all are done.
     ///
+    /// `dag` is not read. It names the dag of which the nodes are worked off, for the contract.
+    ///
     /// # Complexity
     ///
     /// O(1).

@@ -90,6 +90,10 @@ impl<Ix: IndexType> Schedule<Ix> {
     where
         S: Store<Ix, NodeWeight = N, EdgeWeight = E>,
         requires { CanCallAtEachNode Ix.of F.pre durations dag.now.graph }
+        ensures sized { IfOk result (λ s. (vec_len s.durations ≡ node_bound dag.now.graph)
+            × (vec_len s.starts ≡ node_bound dag.now.graph)
+            × (vec_len s.finishes ≡ node_bound dag.now.graph)
+            × (vec_len s.slack ≡ node_bound dag.now.graph)) }
         ensures durations { IfOk result (λ s.
             AreDurations Ix.of F.post durations dag.now.graph s.durations.items) }
         ensures starts { IfOk result (λ s.

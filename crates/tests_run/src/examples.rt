@@ -1,5 +1,6 @@
 //! The examples in the docs of the dag's calls. `.ci/checks/examples.sh` compares the texts.
 
+use daggy::schedule::{Ready, Schedule};
 use daggy::{Dag, EdgeError, StableDag, Walker, WouldCycle};
 use std::test::Fail;
 
@@ -132,5 +133,36 @@ fn path(rt: HostRuntime) -> Result<(), Fail> {
     let cycle = dag.path(sow, reap)?;
     assert!(rt; cycle.is_some_and(|nodes| nodes.as_slice() == &[sow, hoe, reap]));
     assert!(rt; dag.path(reap, sow)?.is_none());
+    Ok(())
+}
+
+#[test]
+fn ready(rt: HostRuntime) -> Result<(), Fail> {
+    let mut dag: Dag<&'static str, u32> = Dag::new(rt.alloc());
+    let sow = dag.add_node("sow")?;
+    let (_, reap) = dag.add_child(sow, 90, "reap")?;
+    let mut ready = Ready::new(rt.alloc(), &dag)?;
+    assert!(rt; ready.next(&dag) == Some(sow));
+    // Its parent is not done yet.
+    assert!(rt; ready.next(&dag).is_none());
+    ready.done(&dag, sow);
+    assert!(rt; ready.next(&dag) == Some(reap));
+    ready.done(&dag, reap);
+    assert!(rt; ready.is_finished());
+    Ok(())
+}
+
+#[test]
+fn schedule(rt: HostRuntime) -> Result<(), Fail> {
+    let mut dag: Dag<u64, ()> = Dag::new(rt.alloc());
+    let sow = dag.add_node(1)?;
+    let (_, water) = dag.add_child(sow, (), 60)?;
+    let (_, reap) = dag.add_child(water, (), 2)?;
+    let (_, scarecrow) = dag.add_child(sow, (), 5)?;
+    let plan = Schedule::new(rt.alloc(), &dag, |_, days| *days)?;
+    assert!(rt; plan.makespan == 63);
+    assert!(rt; plan.critical.as_slice() == [sow, water, reap]);
+    assert!(rt; plan.starts[scarecrow.index()] == 1);
+    assert!(rt; plan.slack[scarecrow.index()] == 57);
     Ok(())
 }

@@ -78,7 +78,8 @@ where
         (Ix.number early.now.last) }
     requires starts { vec_len early.now.starts ≡ node_bound dag.now.graph }
     requires finishes { vec_len early.now.finishes ≡ node_bound dag.now.graph }
-    ensures { IfOk result (λ slack. AreLatest dag.now.graph durations.now
+    ensures sized { IfOk result (λ slack. vec_len slack ≡ node_bound dag.now.graph) }
+    ensures latest { IfOk result (λ slack. AreLatest dag.now.graph durations.now
         (later_by early.now.starts.items slack.items) early.now.makespan) }
 {
     let store = dag.graph();

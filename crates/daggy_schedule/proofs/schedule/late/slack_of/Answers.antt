@@ -250,8 +250,8 @@ nodes-preserved g c =
           subst E (sym (behind_node number c.args.order.now k c.index-order-k.result low c.index-order-k.is)) more;
     }
 
-pub returns : goal.returns
-returns g c =
+pub returns-clause-latest : goal.returns-clause-latest
+returns-clause-latest g c =
     let W : Graph _ _ → Type 0 = λ z. IsWellFormed g.Ix.IndexType.greatest z in
     let w = subst W c.graph-store.ensures.graph c.node_bound.ensures.well_formed in
     let order = map g.Ix.IndexType.number c.args.order.now in
