@@ -1,6 +1,6 @@
 -- Lists that end in a run of consecutive indices.
 use Rattle.std.proofs.Common.{◌≡◌, ℕ, zero, suc, ◌+◌, ◌-◌, ◌<◌, ◌≤◌, ◌⊎◌, inl, inr, List, [], ◌∷◌, ◌++◌, length, map}
-use Rattle.std.proofs.Common.{get_or, drop, eqb, refl, sym, ap, subst, ◌∙◌, arith, append_assoc, append-nil}
+use Rattle.std.proofs.Common.{get_or, eqb, refl, sym, ap, subst, ◌∙◌, arith, append_assoc, append-nil}
 use Rattle.std.specs.List.{Contains, range_with_len}
 use Rattle.std.proofs.lemmas.Bool.{cases_eq, cases_lt, eq-eqb, ne_eqb, cond-true, cond-false}
 use Rattle.std.proofs.lemmas.List.{length-append, get_or-append_right}
@@ -9,7 +9,7 @@ use Rattle.daggy_base.specs.Removal.{without, renamed}
 use Rattle.daggy_base.proofs.Lists.{Mem, Unique, mem_right, mem_cases, unique_append, contains_mem, mem_contains}
 use Rattle.daggy_base.proofs.Lists.{fewer_than}
 use Rattle.daggy_base.specs.Ordered.{place}
-use Rattle.daggy_order.specs.Links.{IsTailed, last_nodes}
+use Rattle.daggy_order.specs.Links.{IsTailed}
 use Rattle.daggy_base.proofs.Sorted.{place_same, place_other, place_left, place_right}
 use Rattle.daggy_order.proofs.LinkedNodes.{without_mid}
 
@@ -274,13 +274,3 @@ renamed_below n m from (x ∷ xs) low all k h =
       ]
       | inr b ↦ renamed_below n m from xs low (λ j i. all j (inr i)) k b
     ]
-
--- the last nodes of a list, when none of them is left
-pub few_none : (nodes : List ℕ) (left : ℕ) → left ≡ 0 → last_nodes left nodes ≡ []
-few_none nodes left none =
-    let all : length nodes - left ≡ length nodes = omega (arith, none) in
-    ap (λ k. drop k nodes) all ∙ gone nodes
-  where
-    gone : (xs : List ℕ) → drop (length xs) xs ≡ []
-    gone [] = refl
-    gone (x ∷ xs) = gone xs

@@ -1,7 +1,8 @@
 -- The links between the nodes of an order, and their labels.
-use Rattle.std.specs.Prelude.{◌≡◌, ◌≢◌, ℕ, zero, suc, ◌+◌, ◌-◌, ◌<◌, ◌≤◌, ◌==◌, ◌^◌, List, [], ◌∷◌, ◌++◌, length, drop, map}
+use Rattle.std.specs.Prelude.{◌≡◌, ◌≢◌, ℕ, zero, suc, ◌+◌, ◌-◌, ◌<◌, ◌≤◌, ◌==◌, ◌^◌, List, [], ◌∷◌, ◌++◌, length, take, drop, map}
 use Rattle.std.specs.Prelude.{filter, not, Bool, true, ◌↔◌, slice_index, slice_index_or, Contains, if◌then◌else◌}
 use Rattle.daggy_base.specs.Cursor.{first_of}
+use Rattle.daggy_base.specs.Ordered.{place}
 use Rattle.daggy_base.specs.Removal.{without}
 use Rattle.daggy_base.specs.WellFormed.{AreDistinct}
 use Rattle.daggy_order.specs.declared.list.links.Item.{Item}
@@ -107,14 +108,15 @@ pub record HasFirst (end : ℕ) (labels nodes : List ℕ) (first n : ℕ) : Type
   pub begins : first ≡ first_of end behind
   pub ascending : LabelsAscend labels 0 behind (2 ^ 64)
 
--- the last `left` nodes of a list
-abbrev pub last_nodes : (left : ℕ) → List ℕ → List ℕ
-last_nodes left nodes = drop (length nodes - left) nodes
+-- `left` nodes of a list, from `at` on
+abbrev pub nodes_at : (left at : ℕ) → List ℕ → List ℕ
+nodes_at left at nodes = take left (drop (place nodes at) nodes)
 
--- the position of an iteration that has yet to yield the last `left` nodes of a list
-pub record IsAt (end : ℕ) (nodes : List ℕ) (left at : ℕ) : Type 0 where
-  pub within : left ≤ length nodes
-  pub here : at ≡ first_of end (last_nodes left nodes)
+-- the position of an iteration that has yet to yield `left` nodes of a list: `at` is the first of them, `back` the last
+pub record IsAt (nodes : List ℕ) (left at back : ℕ) : Type 0 where
+  pub distinct : AreDistinct nodes
+  pub within : place nodes at + left ≤ length nodes
+  pub ends : left ≢ 0 → back ≡ slice_index nodes (place nodes at + (left - 1))
 
 -- each of these nodes comes before a
 pub record StandBefore (nodes : List ℕ) (a : ℕ) (ns : List ℕ) : Type 0 where
@@ -145,9 +147,9 @@ pub record IsTailed (end : ℕ) (nodes : List ℕ) (capacity from count index_bo
   pub within : index_bound ≤ capacity
   pub fits : 0 < count → from + count ≤ index_bound
 
--- the position of an iteration that has yet to yield the last `left` nodes of a list and then `count` consecutive
--- indices from `from` on
-pub record IsAmong (end : ℕ) (nodes : List ℕ) (left at from count : ℕ) : Type 0 where
-  pub written : IsAt end nodes left at
+-- the position of an iteration that has yet to yield `left` nodes of a list, the first at `at` and the last at `back`,
+-- and then `count` consecutive indices from `from` on
+pub record IsAmong (end : ℕ) (nodes : List ℕ) (left at back from count : ℕ) : Type 0 where
+  pub written : IsAt nodes left at back
   pub real : from + count ≤ end
   pub few : left ≤ from

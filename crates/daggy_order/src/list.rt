@@ -167,6 +167,24 @@ impl<Ix: IndexType> LabeledList<Ix> {
         self.links.next(n)
     }
 
+    /// The last node, or `end`.
+    #[inline]
+    pub fn last(&self) -> Link<Ix>
+        ensures { (ns : List ℕ) (n : ℕ) → self.now.nodes ≡ ns ++ n ∷ [] → result ≡ n }
+    {
+        self.links.last()
+    }
+
+    /// The node before a node, or `end`.
+    #[inline]
+    pub fn previous(&self, n: Link<Ix>) -> Link<Ix>
+        requires { Contains self.now.nodes n }
+        ensures { (ns ms : List ℕ) (m : ℕ)
+            → self.now.nodes ≡ ns ++ m ∷ (n ∷ ms) → result ≡ m }
+    {
+        self.links.previous(n)
+    }
+
     /// Whether it holds the node.
     #[inline]
     pub fn holds(&self, n: NodeIndex<Ix>) -> bool

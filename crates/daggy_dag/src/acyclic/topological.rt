@@ -1,6 +1,6 @@
 //! The nodes of a dag in topological order.
 ghost use Rattle.std.specs.Prelude.{◌≡◌, ℕ, List, ◌<◌, ◌^◌, ◌↔◌, IsTrue, length};
-ghost use Rattle.std.specs.Iterator.{YieldsFirstBy, item_count};
+ghost use Rattle.std.specs.Iterator.{YieldsFirstBy, YieldsLastBy, item_count};
 ghost use Rattle.daggy_base.specs.Graph.{HasNode};
 ghost use Rattle.daggy_base.specs.Ordered.{IsOrderOf, place};
 
@@ -10,10 +10,11 @@ use daggy_base::store::Store;
 use daggy_order::order::{Nodes, Order};
 use std::alloc::AllocError;
 use std::fmt;
-use std::iter::{ExactSizeIterator, FusedIterator};
+use std::iter::{DoubleEndedIterator, ExactSizeIterator, FusedIterator};
 use std::marker::Model;
 
-/// An iterator over the nodes of a dag in topological order.
+/// An iterator over the nodes of a dag in topological order. It can be read from both ends, so
+/// `.rev()` gives children before parents.
 ///
 /// # Complexity
 ///
@@ -36,7 +37,8 @@ where
     S: Store<Ix, NodeWeight = N, EdgeWeight = E>,
 {
     /// Returns an iterator over the nodes in topological order: each parent comes before its
-    /// children. It is the order that the dag keeps, so nothing is searched or sorted.
+    /// children. It is the order that the dag keeps, so nothing is searched or sorted. It can be
+    /// read from both ends, so `.rev()` gives children before parents.
     ///
     /// Adding a node or an edge may change the order.
     ///
@@ -104,6 +106,15 @@ impl<'a, Ix: IndexType> Iterator for TopologicalOrder<'a, Ix> {
     #[inline]
     fn size_hint(&self) -> (usize, Option<usize>) {
         self.nodes.size_hint()
+    }
+}
+
+impl<'a, Ix: IndexType> DoubleEndedIterator for TopologicalOrder<'a, Ix> {
+    ghost next_back_gives = { YieldsLastBy Ix.number (λ rest. rest) };
+
+    #[inline]
+    fn next_back(&mut self) -> Option<NodeIndex<Ix>> {
+        self.nodes.next_back()
     }
 }
 

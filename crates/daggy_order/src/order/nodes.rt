@@ -1,6 +1,6 @@
 //! Iterating over an order.
 ghost use Rattle.std.specs.Prelude.{◌≡◌, ◌<◌, ◌^◌, length};
-ghost use Rattle.std.specs.Iterator.{YieldsFirstBy, item_count};
+ghost use Rattle.std.specs.Iterator.{YieldsFirstBy, YieldsLastBy, item_count};
 
 use crate::list::LabeledList;
 use crate::order::Order;
@@ -8,14 +8,15 @@ use daggy_base::index::{DefaultIx, IndexType, NodeIndex};
 use daggy_base::link::Link;
 use std::alloc::AllocError;
 use std::fmt;
-use std::iter::{ExactSizeIterator, FusedIterator};
+use std::iter::{DoubleEndedIterator, ExactSizeIterator, FusedIterator};
 use std::marker::Model;
 
-/// The nodes of an order, from the first to the last.
+/// The nodes of an order, from the first to the last. Can be read from both ends.
 #[derive(Drop)]
 pub struct Nodes<'a, Ix: IndexType = DefaultIx> {
     list: &'a LabeledList<Ix>,
     at: Link<Ix>,
+    back: Link<Ix>,
     left: usize,
     from: usize,
     count: usize,
@@ -24,15 +25,15 @@ pub struct Nodes<'a, Ix: IndexType = DefaultIx> {
 impl<'a, Ix: IndexType> Model for Nodes<'a, Ix> {
     ghost use Rattle.std.specs.Prelude.{ℕ, List, ◌++◌};
     ghost use Rattle.std.specs.List.{range_with_len};
-    ghost use Rattle.daggy_order.specs.Links.{last_nodes, IsAmong};
+    ghost use Rattle.daggy_order.specs.Links.{nodes_at, IsAmong};
 
     ghost Value = { List ℕ };
 
     ghost view = { λ it.
-        last_nodes it.left it.list.now.nodes ++ range_with_len it.from it.count };
+        nodes_at it.left it.at it.list.now.nodes ++ range_with_len it.from it.count };
 
     ghost invariant = { λ it.
-        IsAmong Ix.greatest it.list.now.nodes it.left it.at it.from it.count };
+        IsAmong Ix.greatest it.list.now.nodes it.left it.at it.back it.from it.count };
 }
 
 impl<Ix: IndexType> Order<Ix> {
@@ -45,6 +46,7 @@ impl<Ix: IndexType> Order<Ix> {
         Nodes {
             list: &self.list,
             at: self.list.first(),
+            back: self.list.last(),
             left: self.list.len(),
             from: self.tail.from,
             count: self.tail.count,
@@ -83,6 +85,25 @@ impl<'a, Ix: IndexType> Iterator for Nodes<'a, Ix> {
     }
 }
 
+impl<'a, Ix: IndexType> DoubleEndedIterator for Nodes<'a, Ix> {
+    ghost next_back_gives = { YieldsLastBy Ix.number (λ rest. rest) };
+
+    #[inline]
+    fn next_back(&mut self) -> Option<NodeIndex<Ix>> {
+        if self.count == 0 {
+            if self.left == 0 {
+                return None;
+            }
+            let n = self.back;
+            self.back = self.list.previous(n);
+            self.left -= 1;
+            return Some(n.node());
+        }
+        self.count -= 1;
+        Some(NodeIndex::new(self.from + self.count))
+    }
+}
+
 impl<'a, Ix: IndexType> ExactSizeIterator for Nodes<'a, Ix> {
     #[inline]
     fn len(&self) -> usize {
@@ -99,6 +120,7 @@ impl<'a, Ix: IndexType> Clone for Nodes<'a, Ix> {
         Ok(Nodes {
             list: self.list,
             at: self.at,
+            back: self.back,
             left: self.left,
             from: self.from,
             count: self.count,

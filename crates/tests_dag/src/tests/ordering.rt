@@ -27,6 +27,34 @@ fn an_order_tells_its_length(rt: HostRuntime) {
     both(&rt, rt.alloc(), Scene::Length);
 }
 
+/// An order is read from its end, and from both ends till they meet.
+pub fn read_backwards<Ix: IndexType, S: Store<Ix, NodeWeight = u32, EdgeWeight = u32>>(
+    rt: &impl Abort,
+    dag: &mut Acyclic<u32, u32, Ix, S>,
+) {
+    fill_nodes(rt, dag, 4);
+    for (e, ends) in [(3, 1), (1, 2), (2, 0)].iter().enumerate() {
+        is(rt, edge_added(rt, dag, *ends, 1), Answer::Edge(e));
+    }
+    let mut order = dag.topological_order().rev();
+    for n in [0, 2, 1, 3] {
+        same(rt, order.next(), Some(node(rt, n)));
+    }
+    same(rt, order.next(), None);
+    let mut order = dag.topological_order();
+    for (first, last) in [(3, 0), (1, 2)] {
+        same(rt, order.next(), Some(node(rt, first)));
+        same(rt, order.next_back(), Some(node(rt, last)));
+    }
+    same(rt, order.len(), 0);
+    same(rt, order.next_back(), None);
+}
+
+#[test]
+fn an_order_is_read_backwards(rt: HostRuntime) {
+    both(&rt, rt.alloc(), Scene::Backwards);
+}
+
 #[test]
 fn what_is_removed_leaves_the_order(rt: HostRuntime) {
     const ROWS: &[Row<'static>] = &[

@@ -5,7 +5,7 @@
 use super::asking::{Question, ask as ask_of_paths};
 use super::large::{search_dense_graph, search_long_chain};
 use super::many_edges::{add_sorted_list, end_at_a_fault};
-use super::ordering::{sort_long_series, sort_round_vacant_slots, tell_length};
+use super::ordering::{read_backwards, sort_long_series, sort_round_vacant_slots, tell_length};
 use super::reducing::reduce_diamonds;
 use super::support::{edge, holds, made, node, same};
 use daggy_base::element::Element;
@@ -491,6 +491,8 @@ pub enum Scene<'a> {
     Fault,
     /// The order tells its length.
     Length,
+    /// The order is read from its end.
+    Backwards,
     /// A search for cycles along a path of as many nodes as there can be.
     LongChain,
     /// A search for cycles in a graph with many edges.
@@ -535,6 +537,7 @@ fn show_much<Ix: IndexType, S: Store<Ix, NodeWeight = u32, EdgeWeight = u32>>(
         Scene::SortedList => add_sorted_list(rt, alloc, dag),
         Scene::Fault => end_at_a_fault(rt, alloc, dag),
         Scene::Length => tell_length(rt, dag),
+        Scene::Backwards => read_backwards(rt, dag),
         Scene::LongChain => search_long_chain(rt, dag),
         Scene::DenseGraph => search_dense_graph(rt, dag),
         Scene::Diamonds => reduce_diamonds(rt, alloc, dag),

@@ -1,4 +1,4 @@
-use super::support::{holds, lists, made};
+use super::support::{holds, lists, made, same};
 use daggy_base::index::NodeIndex;
 use daggy_order::order::Order;
 use std::process::Abort;
@@ -108,6 +108,58 @@ fn many_nodes_are_taken_out(rt: HostRuntime) {
         remove(&rt, &mut order, n);
     }
     lists(&rt, &order, &[198, 197, 199]);
+}
+
+// The index of a node that was read, if there was one.
+fn index(n: Option<NodeIndex<u8>>) -> Option<usize> {
+    match n {
+        Some(n) => Some(n.index()),
+        None => None,
+    }
+}
+
+#[test]
+fn nodes_are_read_from_both_ends(rt: HostRuntime) {
+    let mut order: Order<u8> = Order::new(rt.alloc());
+    // Five nodes are linked, and a run of two follows them.
+    for n in [3, 0, 5, 1, 4, 6, 7] {
+        push(&rt, &mut order, n, false);
+    }
+    let mut nodes = order.nodes();
+    for (first, last) in [(3, 7), (0, 6), (5, 4)] {
+        same(&rt, index(nodes.next()), Some(first));
+        same(&rt, index(nodes.next_back()), Some(last));
+    }
+    same(&rt, nodes.len(), 1);
+    let mut copy = made(&rt, nodes.clone());
+    same(&rt, index(nodes.next_back()), Some(1));
+    same(&rt, index(nodes.next_back()), None);
+    same(&rt, index(nodes.next()), None);
+    same(&rt, index(copy.next()), Some(1));
+    same(&rt, index(copy.next()), None);
+    same(&rt, index(copy.next_back()), None);
+    let mut back = order.nodes().rev();
+    for n in [7, 6, 4, 1, 5, 0, 3] {
+        same(&rt, index(back.next()), Some(n));
+    }
+    same(&rt, index(back.next()), None);
+}
+
+#[test]
+fn both_ends_meet_in_the_run(rt: HostRuntime) {
+    let mut order: Order<u8> = Order::new(rt.alloc());
+    for n in [2, 3, 4, 5, 6] {
+        push(&rt, &mut order, n, false);
+    }
+    let mut nodes = order.nodes();
+    for (first, last) in [(2, 6), (3, 5)] {
+        same(&rt, index(nodes.next()), Some(first));
+        same(&rt, index(nodes.next_back()), Some(last));
+    }
+    same(&rt, nodes.size_hint(), (1, Some(1)));
+    same(&rt, index(nodes.next()), Some(4));
+    same(&rt, index(nodes.next()), None);
+    same(&rt, index(nodes.next_back()), None);
 }
 
 #[test]

@@ -1,9 +1,9 @@
 use Rattle.std.proofs.Common.{◌≡◌, ◌-◌, ◌+◌, ℕ, List, [], ◌∷◌, ◌++◌, sym, ap, ◌∙◌, arith}
 use Rattle.std.specs.List.{range_with_len}
 use Rattle.daggy_base.proofs.Lists.{mem_contains}
-use Rattle.daggy_order.specs.Links.{last_nodes}
-use Rattle.daggy_order.proofs.OrderSteps.{at_in, at_rest, at_next}
-use Rattle.daggy_order.proofs.Tails.{few_none, turn_first}
+use Rattle.daggy_order.specs.Links.{nodes_at}
+use Rattle.daggy_order.proofs.OrderSteps.{at_in, at_rest, at_next, nodes_none}
+use Rattle.daggy_order.proofs.Tails.{turn_first}
 use Rattle.daggy_order.proofs.order.nodes.NodesIterator.next.Goals as goal
 
 pub next-self-inside-requires : goal.next-self-inside-requires
@@ -31,7 +31,8 @@ pub returns-then-self-eq0-clause-steps : goal.returns-then-self-eq0-clause-steps
 returns-then-self-eq0-clause-steps g c =
     let nodes : List ℕ = c.self.inside.list.now.nodes in
     let ahead : List ℕ = range_with_len (c.self.inside.from + 1) (c.self.inside.count - 1) in
-    let none : last_nodes c.self.inside.left nodes ≡ [] = few_none nodes c.self.inside.left c.if-self-eq0.true in
+    let none : nodes_at c.self.inside.left c.self.inside.at nodes ≡ [] =
+    nodes_none nodes c.self.inside.left c.self.inside.at c.if-self-eq0.true in
     sym c.self.view_is
     ∙ (ap (λ (z : List ℕ). z ++ range_with_len c.self.inside.from c.self.inside.count) none
     ∙ (turn_first c.self.inside.from c.self.inside.count c.if-self-eq0-2.false
@@ -40,8 +41,10 @@ returns-then-self-eq0-clause-steps g c =
 
 pub returns-clause-steps : goal.returns-clause-steps
 returns-clause-steps g c =
+    let nodes : List ℕ = c.self.inside.list.now.nodes in
+    let ahead : List ℕ = range_with_len c.self.inside.from c.self.inside.count in
+    let next : ℕ = c.next-self-inside.result in
     sym c.self.view_is
-    ∙ (ap (λ (z : List ℕ). z ++ range_with_len c.self.inside.from c.self.inside.count)
-    (at_rest c.self.invariant.written c.if-self-eq0.false)
-    ∙ ap (λ (z : ℕ). z ∷ (last_nodes (c.self.inside.left - 1) c.self.inside.list.now.nodes ++ range_with_len
-    c.self.inside.from c.self.inside.count)) (sym c.node.ensures.value))
+    ∙ (ap (λ (z : List ℕ). z ++ ahead)
+    (at_rest c.self.invariant.written c.if-self-eq0.false next c.next-self-inside.ensures)
+    ∙ ap (λ (z : ℕ). z ∷ (nodes_at (c.self.inside.left - 1) next nodes ++ ahead)) (sym c.node.ensures.value))
