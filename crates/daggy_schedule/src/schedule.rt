@@ -78,7 +78,7 @@ impl<Ix: IndexType> Schedule<Ix> {
     /// let (_, scarecrow) = dag.add_child(sow, (), 5)?;
     /// let plan = Schedule::new(rt.alloc(), &dag, |_, days| *days)?;
     /// assert!(rt; plan.makespan == 63);
-    /// assert!(rt; plan.critical.as_slice() == [sow, water, reap]);
+    /// assert!(rt; plan.critical.as_slice() == [sow, water, reap].as_slice());
     /// assert!(rt; plan.starts[scarecrow.index()] == 1);
     /// assert!(rt; plan.slack[scarecrow.index()] == 57);
     /// ```

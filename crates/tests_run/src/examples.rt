@@ -119,7 +119,7 @@ fn affected(rt: HostRuntime) -> Result<(), Fail> {
     let (_, reap) = dag.add_child(sow, 90, "reap")?;
     let (_, hoe) = dag.add_parent(reap, 60, "hoe")?;
     let found = dag.affected(&[hoe])?;
-    assert!(rt; found.as_slice() == &[hoe, reap]);
+    assert!(rt; found.as_slice() == [hoe, reap].as_slice());
     Ok(())
 }
 
@@ -131,7 +131,7 @@ fn path(rt: HostRuntime) -> Result<(), Fail> {
     let (_, reap) = dag.add_child(hoe, 60, "reap")?;
     // The cycle that an edge from `reap` to `sow` would close.
     let cycle = dag.path(sow, reap)?;
-    assert!(rt; cycle.is_some_and(|nodes| nodes.as_slice() == &[sow, hoe, reap]));
+    assert!(rt; cycle.is_some_and(|nodes| nodes.as_slice() == [sow, hoe, reap].as_slice()));
     assert!(rt; dag.path(reap, sow)?.is_none());
     Ok(())
 }
@@ -161,7 +161,7 @@ fn schedule(rt: HostRuntime) -> Result<(), Fail> {
     let (_, scarecrow) = dag.add_child(sow, (), 5)?;
     let plan = Schedule::new(rt.alloc(), &dag, |_, days| *days)?;
     assert!(rt; plan.makespan == 63);
-    assert!(rt; plan.critical.as_slice() == [sow, water, reap]);
+    assert!(rt; plan.critical.as_slice() == [sow, water, reap].as_slice());
     assert!(rt; plan.starts[scarecrow.index()] == 1);
     assert!(rt; plan.slack[scarecrow.index()] == 57);
     Ok(())

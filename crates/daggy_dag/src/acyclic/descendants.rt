@@ -36,7 +36,7 @@ where
     /// let (_, reap) = dag.add_child(sow, 90, "reap")?;
     /// let (_, hoe) = dag.add_parent(reap, 60, "hoe")?;
     /// let found = dag.affected(&[hoe])?;
-    /// assert!(rt; found.as_slice() == &[hoe, reap]);
+    /// assert!(rt; found.as_slice() == [hoe, reap].as_slice());
     /// ```
     pub fn affected(&mut self, nodes: &[NodeIndex<Ix>]) -> Result<Vec<NodeIndex<Ix>>, AllocError>
         ensures found { IfOk result (λ found. IsOrderOfPart self.old.graph

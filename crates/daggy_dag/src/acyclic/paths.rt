@@ -85,7 +85,7 @@ where
     /// let (_, reap) = dag.add_child(hoe, 60, "reap")?;
     /// // The cycle that an edge from `reap` to `sow` would close.
     /// let cycle = dag.path(sow, reap)?;
-    /// assert!(rt; cycle.is_some_and(|nodes| nodes.as_slice() == &[sow, hoe, reap]));
+    /// assert!(rt; cycle.is_some_and(|nodes| nodes.as_slice() == [sow, hoe, reap].as_slice()));
     /// assert!(rt; dag.path(reap, sow)?.is_none());
     /// ```
     pub fn path(
