@@ -4,10 +4,11 @@ use crate::writing::{write_edge, write_node};
 use daggy_base::index::{EdgeIndex, IndexType, NodeIndex};
 use daggy_base::source::EdgeSource;
 use daggy_base::store::Store;
+use daggy_dag::acyclic::Acyclic;
 use std::fmt::{self, Display, Formatter, Write};
 use std::marker::PhantomData;
 
-/// A graph that displays itself in the language of graphviz, for the program `dot`:
+/// A graph that displays itself in the language of graphviz, for the program `dot`, as:
 ///
 ///     digraph {
 ///         0 [ label = "sow" ]
@@ -17,6 +18,18 @@ use std::marker::PhantomData;
 ///
 /// The nodes come by ascending index, then the edges by ascending index, each with its label. It
 /// does not allocate.
+///
+/// # Examples
+///
+/// ```
+/// let mut dag: Dag<&'static str, u32> = Dag::new(rt.alloc());
+/// let sow = dag.add_node("sow")?;
+/// let (_, reap) = dag.add_child(sow, 90, "reap")?;
+/// let path = [sow, reap];
+/// let picture = format!(in rt.alloc(); "{}", Dot::new(&dag).bold(&path))?;
+/// let line = "0 -> 1 [ label = \"90\" style = bold ]";
+/// assert!(rt; picture.as_str().contains(line));
+/// ```
 #[derive(Drop)]
 pub struct Dot<
     'a,
@@ -40,6 +53,11 @@ impl<'a, N: Drop, E: Drop, Ix: IndexType, S> Dot<'a, N, E, Ix, S>
 where
     S: Store<Ix, NodeWeight = N, EdgeWeight = E>,
 {
+    /// A picture of a dag, with the weights as labels.
+    pub fn new(dag: &'a Acyclic<N, E, Ix, S>) -> Self {
+        Dot::of_graph(dag.graph())
+    }
+
     /// A picture of a graph, which may have cycles, with the weights as labels.
     pub fn of_graph(graph: &'a S) -> Self {
         Dot {

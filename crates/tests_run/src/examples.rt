@@ -1,5 +1,6 @@
 //! The examples in the docs of the dag's calls. `.ci/checks/examples.sh` compares the texts.
 
+use daggy::dot::Dot;
 use daggy::{Dag, EdgeError, StableDag, Walker, WouldCycle};
 use std::test::Fail;
 
@@ -132,5 +133,17 @@ fn path(rt: HostRuntime) -> Result<(), Fail> {
     let cycle = dag.path(sow, reap)?;
     assert!(rt; cycle.is_some_and(|nodes| nodes.as_slice() == &[sow, hoe, reap]));
     assert!(rt; dag.path(reap, sow)?.is_none());
+    Ok(())
+}
+
+#[test]
+fn dot(rt: HostRuntime) -> Result<(), Fail> {
+    let mut dag: Dag<&'static str, u32> = Dag::new(rt.alloc());
+    let sow = dag.add_node("sow")?;
+    let (_, reap) = dag.add_child(sow, 90, "reap")?;
+    let path = [sow, reap];
+    let picture = format!(in rt.alloc(); "{}", Dot::new(&dag).bold(&path))?;
+    let line = "0 -> 1 [ label = \"90\" style = bold ]";
+    assert!(rt; picture.as_str().contains(line));
     Ok(())
 }
