@@ -19,9 +19,10 @@
 //!
 //! [`graph`] and [`stable_graph`] are the stores below, which may hold cycles, [`search`] finds
 //! paths in any graph, and [`visit`] has traits for generic code. [`run`] carries out lists of
-//! commands over a dag of either kind, and [`schedule`] works off its nodes.
+//! commands over a dag of either kind, [`schedule`] works off its nodes, and [`dot`] draws it.
 #![tactic(auto)]
 
+pub mod dot;
 pub mod graph;
 pub mod index;
 pub mod json;

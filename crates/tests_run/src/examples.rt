@@ -1,5 +1,6 @@
 //! The examples in the docs of the dag's calls. `.ci/checks/examples.sh` compares the texts.
 
+use daggy::dot::Dot;
 use daggy::schedule::{Ready, Schedule};
 use daggy::{Dag, EdgeError, StableDag, Walker, WouldCycle};
 use std::test::Fail;
@@ -164,5 +165,17 @@ fn schedule(rt: HostRuntime) -> Result<(), Fail> {
     assert!(rt; plan.critical.as_slice() == [sow, water, reap].as_slice());
     assert!(rt; plan.starts[scarecrow.index()] == 1);
     assert!(rt; plan.slack[scarecrow.index()] == 57);
+    Ok(())
+}
+
+#[test]
+fn dot(rt: HostRuntime) -> Result<(), Fail> {
+    let mut dag: Dag<&'static str, u32> = Dag::new(rt.alloc());
+    let sow = dag.add_node("sow")?;
+    let (_, reap) = dag.add_child(sow, 90, "reap")?;
+    let path = [sow, reap];
+    let picture = format!(in rt.alloc(); "{}", Dot::new(&dag).bold(&path))?;
+    let line = "0 -> 1 [ label = \"90\" style = bold ]";
+    assert!(rt; picture.as_str().contains(line));
     Ok(())
 }

@@ -1,6 +1,7 @@
 //! The recipes of `docs/USING.md` that are no example of a call. `.ci/checks/docs.sh` compares the
 //! texts.
 
+use daggy::dot::Dot;
 use daggy::run::plan;
 use daggy::{Dag, StableDag, Walker};
 use std::test::Fail;
@@ -81,5 +82,19 @@ fn weights_in_order(rt: HostRuntime) -> Result<(), Fail> {
         }
     }
     assert!(rt; dag.node_weight(reap) == Some(&90));
+    Ok(())
+}
+
+#[test]
+fn picture_of_a_plan(rt: HostRuntime) -> Result<(), Fail> {
+    let mut dag: Dag<&'static str, u32> = Dag::new(rt.alloc());
+    let sow = dag.add_node("sow")?;
+    dag.add_child(sow, 90, "reap")?;
+    let plan = plan(rt.alloc(), &dag)?;
+    let dot = Dot::new(&dag)
+        .ranks(plan.stages.as_slice())
+        .bold(plan.chain.as_slice());
+    let picture = format!(in rt.alloc(); "{dot}")?;
+    assert!(rt; picture.as_str().contains("{ rank = same; 0; }"));
     Ok(())
 }

@@ -1,0 +1,45 @@
+//! What stands at the nodes and at the edges of a picture.
+ghost use Rattle.std.specs.Prelude.{ℕ, List, [], Option, Some, None};
+ghost use Rattle.std.specs.Fmt.{DisplaysOnOk};
+ghost use Rattle.daggy_dot.specs.Escapes.{label_of};
+
+use crate::escapes::write_label;
+use std::fmt::{self, Display, Formatter, Write};
+
+/// The labels of nodes or of edges, by index and weight.
+///
+/// A type of one's own writes each label by [`write_label`], from anything that is `Display`, as
+/// from a text or from `format_args!`. It may write other attributes too, as `shape = box`.
+pub trait Label<I, T> {
+    // What is written, or `None` if nothing is said of it.
+    ghost text: { Self → I → T → Option (List ℕ) } = { λ _ _ _. None };
+
+    /// Writes the attributes, each with a space after it, as [`write_label`] writes a label.
+    fn write<W: Write>(&self, index: I, weight: &T, f: &mut Formatter<W>) -> fmt::Result
+        ensures { DisplaysOnOk W.write_str_gives f.old result (text self.now index weight.now)
+            f.new };
+}
+
+/// The weights, as `Display` writes them.
+#[derive(Clone, Copy, Debug)]
+pub struct WeightLabels;
+
+impl<I: Drop, T: Display> Label<I, T> for WeightLabels {
+    ghost text = { λ _ _ weight. label_of (T.output weight) };
+
+    fn write<W: Write>(&self, _index: I, weight: &T, f: &mut Formatter<W>) -> fmt::Result {
+        write_label(weight, f)
+    }
+}
+
+/// No labels.
+#[derive(Clone, Copy, Debug)]
+pub struct NoLabels;
+
+impl<I: Drop, T> Label<I, T> for NoLabels {
+    ghost text = { λ _ _ _. Some [] };
+
+    fn write<W: Write>(&self, _index: I, _weight: &T, _f: &mut Formatter<W>) -> fmt::Result {
+        Ok(())
+    }
+}

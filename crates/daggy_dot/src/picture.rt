@@ -1,0 +1,190 @@
+//! A graph in the language of graphviz.
+use crate::labels::{Label, NoLabels, WeightLabels};
+use crate::writing::{write_edge, write_node};
+use daggy_base::index::{EdgeIndex, IndexType, NodeIndex};
+use daggy_base::source::EdgeSource;
+use daggy_base::store::Store;
+use daggy_dag::acyclic::Acyclic;
+use std::fmt::{self, Display, Formatter, Write};
+use std::marker::PhantomData;
+
+/// A graph that displays itself in the language of graphviz, for the program `dot`, as:
+///
+///     digraph {
+///         0 [ label = "sow" ]
+///         1 [ label = "reap" ]
+///         0 -> 1 [ label = "90" ]
+///     }
+///
+/// The nodes come by ascending index, then the edges by ascending index, each with its label. It
+/// does not allocate.
+///
+/// # Examples
+///
+/// ```
+/// let mut dag: Dag<&'static str, u32> = Dag::new(rt.alloc());
+/// let sow = dag.add_node("sow")?;
+/// let (_, reap) = dag.add_child(sow, 90, "reap")?;
+/// let path = [sow, reap];
+/// let picture = format!(in rt.alloc(); "{}", Dot::new(&dag).bold(&path))?;
+/// let line = "0 -> 1 [ label = \"90\" style = bold ]";
+/// assert!(rt; picture.as_str().contains(line));
+/// ```
+#[derive(Drop)]
+pub struct Dot<
+    'a,
+    N,
+    E,
+    Ix: IndexType,
+    S: Store<Ix, NodeWeight = N, EdgeWeight = E>,
+    L = WeightLabels,
+    M = WeightLabels,
+> {
+    graph: &'a S,
+    node_labels: L,
+    edge_labels: M,
+    stages: &'a [Vec<NodeIndex<Ix>>],
+    path: &'a [NodeIndex<Ix>],
+    node_weight: PhantomData<N>,
+    edge_weight: PhantomData<E>,
+}
+
+impl<'a, N: Drop, E: Drop, Ix: IndexType, S> Dot<'a, N, E, Ix, S>
+where
+    S: Store<Ix, NodeWeight = N, EdgeWeight = E>,
+{
+    /// A picture of a dag, with the weights as labels.
+    pub fn new(dag: &'a Acyclic<N, E, Ix, S>) -> Self {
+        Dot::of_graph(dag.graph())
+    }
+
+    /// A picture of a graph, which may have cycles, with the weights as labels.
+    pub fn of_graph(graph: &'a S) -> Self {
+        Dot {
+            graph,
+            node_labels: WeightLabels,
+            edge_labels: WeightLabels,
+            stages: &[],
+            path: &[],
+            node_weight: PhantomData,
+            edge_weight: PhantomData,
+        }
+    }
+}
+
+impl<'a, N: Drop, E: Drop, Ix: IndexType, S, L: Drop, M: Drop> Dot<'a, N, E, Ix, S, L, M>
+where
+    S: Store<Ix, NodeWeight = N, EdgeWeight = E>,
+{
+    /// Takes other labels for the nodes.
+    pub fn node_labels<K>(self, labels: K) -> Dot<'a, N, E, Ix, S, K, M> {
+        Dot {
+            graph: self.graph,
+            node_labels: labels,
+            edge_labels: self.edge_labels,
+            stages: self.stages,
+            path: self.path,
+            node_weight: PhantomData,
+            edge_weight: PhantomData,
+        }
+    }
+
+    /// Takes other labels for the edges.
+    pub fn edge_labels<K>(self, labels: K) -> Dot<'a, N, E, Ix, S, L, K> {
+        Dot {
+            graph: self.graph,
+            node_labels: self.node_labels,
+            edge_labels: labels,
+            stages: self.stages,
+            path: self.path,
+            node_weight: PhantomData,
+            edge_weight: PhantomData,
+        }
+    }
+
+    /// Leaves out the labels of the edges.
+    pub fn no_edge_labels(self) -> Dot<'a, N, E, Ix, S, L, NoLabels> {
+        self.edge_labels(NoLabels)
+    }
+
+    /// Puts the nodes of each stage on one rank, as those of a plan. Nodes that do not exist are
+    /// left out.
+    pub fn ranks(self, stages: &'a [Vec<NodeIndex<Ix>>]) -> Self {
+        Dot { stages, ..self }
+    }
+
+    /// Draws the nodes of a path in bold, and the edges from each of them to the next.
+    ///
+    /// # Complexity
+    ///
+    /// The picture then takes O((nodes + edges) · length of the path).
+    pub fn bold(self, path: &'a [NodeIndex<Ix>]) -> Self {
+        Dot { path, ..self }
+    }
+
+    // Writes the existing nodes of a stage.
+    fn write_stage<W: Write>(&self, stage: &[NodeIndex<Ix>], f: &mut Formatter<W>) -> fmt::Result {
+        f.write_str("    { rank = same; ")?;
+        for n in stage {
+            if self.graph.contains_node(*n) {
+                let x = n.index();
+                write!(f, "{x}; ")?;
+            }
+        }
+        f.write_str("}\n")
+    }
+
+    fn write_stages<W: Write>(&self, f: &mut Formatter<W>) -> fmt::Result {
+        for stage in self.stages {
+            self.write_stage(stage.as_slice(), f)?;
+        }
+        Ok(())
+    }
+}
+
+impl<N: Drop, E: Drop, Ix: IndexType, S, L, M> Dot<'_, N, E, Ix, S, L, M>
+where
+    S: Store<Ix, NodeWeight = N, EdgeWeight = E>,
+    L: Label<NodeIndex<Ix>, N> + Drop,
+    M: Label<EdgeIndex<Ix>, E> + Drop,
+{
+    fn write_nodes<W: Write>(&self, f: &mut Formatter<W>) -> fmt::Result {
+        self.graph.invariant();
+        'nodes: for x in 0..self.graph.node_slots() {
+            let n = NodeIndex::new(x);
+            if let Some(weight) = self.graph.node_weight(n) {
+                write_node(n, weight, &self.node_labels, self.path, f)?;
+            }
+        }
+        Ok(())
+    }
+
+    fn write_edges<W: Write>(&self, f: &mut Formatter<W>) -> fmt::Result {
+        self.graph.invariant();
+        'edges: for x in 0..self.graph.edge_slots() {
+            let e = EdgeIndex::new(x);
+            if let (Some(ends), Some(weight)) = (
+                self.graph.edge_endpoints(e),
+                self.graph.edge_weight(e),
+            ) {
+                write_edge(e, ends, weight, &self.edge_labels, self.path, f)?;
+            }
+        }
+        Ok(())
+    }
+}
+
+impl<N: Drop, E: Drop, Ix: IndexType, S, L, M> Display for Dot<'_, N, E, Ix, S, L, M>
+where
+    S: Store<Ix, NodeWeight = N, EdgeWeight = E>,
+    L: Label<NodeIndex<Ix>, N> + Drop,
+    M: Label<EdgeIndex<Ix>, E> + Drop,
+{
+    fn fmt<W: Write>(&self, f: &mut Formatter<W>) -> fmt::Result {
+        f.write_str("digraph {\n")?;
+        self.write_nodes(f)?;
+        self.write_edges(f)?;
+        self.write_stages(f)?;
+        f.write_str("}\n")
+    }
+}

@@ -1,0 +1,256 @@
+//! What no contract says: the text of a whole picture.
+
+use daggy_base::index::{EdgeIndex, NodeIndex};
+use daggy_base::source::EdgeSource;
+use daggy_base::store::Store;
+use daggy_dot::{Dot, Label, NoLabels, write_label};
+use daggy_graph::graph::DiGraph;
+use daggy_stable::stable_graph::StableDiGraph;
+use std::alloc::Global;
+use std::fmt::{self, Display, Formatter, Write};
+use std::process::Abort;
+use std::test::Fail;
+
+type Text = &'static str;
+
+// The index of a node.
+fn node(rt: &impl Abort, x: usize) -> NodeIndex {
+    assert!(rt; x <= NodeIndex::<u32>::end().index());
+    NodeIndex::new(x)
+}
+
+// A graph with these weights, and these edges by the numbers of their ends.
+fn made<N: Copy + Drop, E: Copy + Drop, S: Store<u32, NodeWeight = N, EdgeWeight = E>>(
+    rt: &impl Abort,
+    alloc: Global,
+    nodes: &[N],
+    edges: &[(usize, usize, E)],
+) -> S {
+    let mut graph = S::new(alloc);
+    for weight in nodes {
+        assert!(rt; graph.can_add_node());
+        let _ = graph.add_node(*weight);
+    }
+    for edge in edges {
+        let (a, b) = (node(rt, edge.0), node(rt, edge.1));
+        assert!(rt; graph.contains_node(a) && graph.contains_node(b));
+        assert!(rt; graph.can_add_edge());
+        let _ = graph.add_edge(a, b, edge.2);
+    }
+    graph
+}
+
+// Asserts the whole text of a picture.
+fn shows<D: Display + Drop>(
+    rt: &impl Abort,
+    alloc: Global,
+    dot: D,
+    text: &str,
+) -> Result<(), Fail> {
+    let shown = format!(in alloc; "{dot}")?;
+    assert_eq!(rt; shown.as_str(), text);
+    Ok(())
+}
+
+#[test]
+fn an_empty_graph(rt: HostRuntime) -> Result<(), Fail> {
+    let graph: DiGraph<Text, u32, u32> = DiGraph::new(rt.alloc());
+    shows(&rt, rt.alloc(), Dot::of_graph(&graph), "digraph {\n}\n")
+}
+
+#[test]
+fn two_nodes(rt: HostRuntime) -> Result<(), Fail> {
+    let graph: DiGraph<Text, u32, u32> = made(&rt, rt.alloc(), &["sow", "reap"], &[(0, 1, 90)]);
+    let text = "digraph {
+    0 [ label = \"sow\" ]
+    1 [ label = \"reap\" ]
+    0 -> 1 [ label = \"90\" ]
+}
+";
+    shows(&rt, rt.alloc(), Dot::of_graph(&graph), text)
+}
+
+#[test]
+fn escapes(rt: HostRuntime) -> Result<(), Fail> {
+    let names = ["say \"sow\"\nC:\\new\\", "日本 \u{1F33E}"];
+    let graph: DiGraph<Text, Text, u32> = made(
+        &rt,
+        rt.alloc(),
+        &names,
+        &[(0, 1, "säen & <b>&amp;</b>")],
+    );
+    let text = "digraph {
+    0 [ label = \"say \\\"sow\\\"\\nC:\\\\new\\\\\" ]
+    1 [ label = \"日本 \u{1F33E}\" ]
+    0 -> 1 [ label = \"säen &amp; <b>&amp;amp;</b>\" ]
+}
+";
+    shows(&rt, rt.alloc(), Dot::of_graph(&graph), text)
+}
+
+#[test]
+fn parallel_edges_and_a_cycle(rt: HostRuntime) -> Result<(), Fail> {
+    let edges = [(0, 1, 90), (0, 1, 80), (1, 0, 5)];
+    let graph: StableDiGraph<Text, u32, u32> = made(&rt, rt.alloc(), &["sow", "reap"], &edges);
+    let text = "digraph {
+    0 [ label = \"sow\" style = bold ]
+    1 [ label = \"reap\" style = bold ]
+    0 -> 1 [ label = \"90\" style = bold ]
+    0 -> 1 [ label = \"80\" style = bold ]
+    1 -> 0 [ label = \"5\" ]
+}
+";
+    let path = [node(&rt, 0), node(&rt, 1)];
+    shows(&rt, rt.alloc(), Dot::of_graph(&graph).bold(&path), text)
+}
+
+#[test]
+fn vacant_slots(rt: HostRuntime) -> Result<(), Fail> {
+    let edges = [(0, 1, 30), (0, 2, 90)];
+    let mut graph: StableDiGraph<Text, u32, u32> = made(
+        &rt,
+        rt.alloc(),
+        &["sow", "hoe", "reap"],
+        &edges,
+    );
+    let (sow, hoe, reap) = (node(&rt, 0), node(&rt, 1), node(&rt, 2));
+    let _ = graph.remove_node(hoe);
+    // A node that does not exist is on no rank, and no edge is on a path past it.
+    let stages = vec![in rt.alloc(); vec![in rt.alloc(); sow]?, vec![in rt.alloc(); hoe, reap]?]?;
+    let path = [sow, hoe, reap];
+    let text = "digraph {
+    0 [ label = \"sow\" style = bold ]
+    2 [ label = \"reap\" style = bold ]
+    0 -> 2 [ label = \"90\" ]
+    { rank = same; 0; }
+    { rank = same; 2; }
+}
+";
+    let dot = Dot::of_graph(&graph).ranks(stages.as_slice()).bold(&path);
+    shows(&rt, rt.alloc(), dot, text)
+}
+
+// Labels a node by its index and its weight, in a box.
+#[derive(Drop)]
+struct Boxes<'a> {
+    unit: &'a str,
+}
+
+impl Label<NodeIndex, u32> for Boxes<'_> {
+    fn write<W: Write>(&self, n: NodeIndex, days: &u32, f: &mut Formatter<W>) -> fmt::Result {
+        let (x, days, unit) = (n.index(), *days, self.unit);
+        write_label(format_args!("{x}: {days} {unit}"), f)?;
+        f.write_str("shape = box ")
+    }
+}
+
+// Labels an edge by its index.
+#[derive(Drop)]
+struct Numbers;
+
+impl Label<EdgeIndex, ()> for Numbers {
+    fn write<W: Write>(&self, e: EdgeIndex, _weight: &(), f: &mut Formatter<W>) -> fmt::Result {
+        write_label(e.index(), f)
+    }
+}
+
+#[test]
+fn labels_of_ones_own(rt: HostRuntime) -> Result<(), Fail> {
+    let graph: DiGraph<u32, (), u32> = made(&rt, rt.alloc(), &[3, 5], &[(0, 1, ())]);
+    let text = "digraph {
+    0 [ label = \"0: 3 \\\"days\\\"\" shape = box ]
+    1 [ label = \"1: 5 \\\"days\\\"\" shape = box ]
+    0 -> 1 [ label = \"0\" ]
+}
+";
+    let labels = Boxes { unit: "\"days\"" };
+    let dot = Dot::of_graph(&graph)
+        .node_labels(labels)
+        .edge_labels(Numbers);
+    shows(&rt, rt.alloc(), dot, text)
+}
+
+#[test]
+fn no_labels(rt: HostRuntime) -> Result<(), Fail> {
+    let graph: DiGraph<u32, (), u32> = made(&rt, rt.alloc(), &[3, 5], &[(0, 1, ())]);
+    let text = "digraph {
+    0 [ label = \"3\" style = bold ]
+    1 [ label = \"5\" ]
+    0 -> 1 [ ]
+}
+";
+    let path = [node(&rt, 0)];
+    let dot = Dot::of_graph(&graph).no_edge_labels().bold(&path);
+    shows(&rt, rt.alloc(), dot, text)?;
+    let text = "digraph {
+    0 [ ]
+    1 [ ]
+    0 -> 1 [ ]
+}
+";
+    let dot = Dot::of_graph(&graph).node_labels(NoLabels).no_edge_labels();
+    shows(&rt, rt.alloc(), dot, text)
+}
+
+#[test]
+fn ranks_and_a_path(rt: HostRuntime) -> Result<(), Fail> {
+    let names = ["sow", "hoe", "mow", "reap"];
+    let edges = [(0, 1, 30), (0, 2, 20), (1, 3, 60)];
+    let graph: DiGraph<Text, u32, u32> = made(&rt, rt.alloc(), &names, &edges);
+    let (sow, hoe) = (node(&rt, 0), node(&rt, 1));
+    let (mow, reap) = (node(&rt, 2), node(&rt, 3));
+    let stages = vec![in rt.alloc();
+        vec![in rt.alloc(); sow]?,
+        vec![in rt.alloc(); hoe, mow]?,
+        vec![in rt.alloc(); reap]?,
+    ]?;
+    let path = [sow, hoe, reap];
+    let text = "digraph {
+    0 [ label = \"sow\" style = bold ]
+    1 [ label = \"hoe\" style = bold ]
+    2 [ label = \"mow\" ]
+    3 [ label = \"reap\" style = bold ]
+    0 -> 1 [ label = \"30\" style = bold ]
+    0 -> 2 [ label = \"20\" ]
+    1 -> 3 [ label = \"60\" style = bold ]
+    { rank = same; 0; }
+    { rank = same; 1; 2; }
+    { rank = same; 3; }
+}
+";
+    let dot = Dot::of_graph(&graph).bold(&path).ranks(stages.as_slice());
+    shows(&rt, rt.alloc(), dot, text)
+}
+
+// A writer with room for so many bytes.
+#[derive(Drop)]
+struct Narrow {
+    room: usize,
+}
+
+impl Write for Narrow {
+    fn write_str(&mut self, s: &str) -> fmt::Result {
+        if s.len() > self.room {
+            return Err(fmt::Error);
+        }
+        self.room -= s.len();
+        Ok(())
+    }
+}
+
+#[test]
+fn a_writer_that_fails(rt: HostRuntime) -> Result<(), Fail> {
+    let graph: DiGraph<Text, u32, u32> = made(&rt, rt.alloc(), &["s\"w", "reap"], &[(0, 1, 90)]);
+    let path = [node(&rt, 0), node(&rt, 1)];
+    let stages = vec![in rt.alloc(); vec![in rt.alloc(); path[0], path[1]]?]?;
+    let dot = Dot::of_graph(&graph).bold(&path).ranks(stages.as_slice());
+    let whole = format!(in rt.alloc(); "{dot}")?.len();
+    for room in 0..whole {
+        let mut out = Narrow { room };
+        assert!(rt; out.write(&dot).is_err());
+    }
+    let mut out = Narrow { room: whole };
+    assert!(rt; out.write(&dot).is_ok());
+    assert!(rt; out.room == 0);
+    Ok(())
+}
