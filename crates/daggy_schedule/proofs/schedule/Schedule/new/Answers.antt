@@ -33,7 +33,7 @@ returns-clause-slack g c =
     let graph = c.args.dag.now.graph in
     let early = c.in_ok-early.early in
     let P : List ℕ → Type 0 = λ d. AreLatest graph d (later_by early.starts.items c.in_ok-slack.slack.items) early.makespan in
-    subst P c.as_slice-3.ensures.value c.in_ok-slack.ensures
+    subst P c.as_slice-3.ensures.value c.in_ok-slack.ensures.latest
 
 pub returns-clause-critical : goal.returns-clause-critical
 returns-clause-critical g c =
