@@ -1,6 +1,6 @@
 #!/usr/bin/env bash
-# The first example of the README is the text of a test, each block of code in docs/USING.md stands in a file that the gate
-# checks, and each run in the README and in docs/COMMANDS.md prints what stands there.
+# The first example of the README is the text of a test, each block of code in docs/USING.md and docs/SHEET.md stands in a
+# file that the gate checks, and each run in the README, in docs/COMMANDS.md and in docs/SHEET.md prints what stands there.
 set -u
 cd "$(dirname "$0")/../.." || exit 1
 exec python3 - <<'PYTHON'
@@ -13,7 +13,6 @@ import sys
 import tempfile
 
 EXAMPLE = "crates/example_garden/src/tests.rt"
-PROGRAM = os.path.abspath("crates/dagbench/out/dagbench")
 bad = 0
 
 
@@ -61,47 +60,68 @@ sources = {path: code_of(text_of(path)) for path in files}
 page = text_of("docs/USING.md")
 if blocks(page, "text") != [text_of("crates/example_garden/stdout")]:
     complain("docs/USING.md: the program of .ci/use prints something else")
-using = blocks(page, "rust")
-for block in using:
+sheet = text_of("docs/SHEET.md")
+using = [("docs/USING.md", block) for block in blocks(page, "rust")]
+using += [("docs/SHEET.md", block) for block in blocks(sheet, "rust")]
+for path, block in using:
     parts = [code_of(part) for part in re.split(r"^ *// \.\.$", block, flags=re.M)]
     if not any(all(stands_in(part, lines) for part in parts if part) for lines in sources.values()):
-        complain(f"docs/USING.md: no file has this:\n{block}")
+        complain(f"{path}: no file has this:\n{block}")
 proofs = [text_of(path) for name in gated for path in glob.glob(f"crates/{name}/proofs/**/*.antt", recursive=True)]
 for block in blocks(page, "antt"):
     if not any(block in text for text in proofs):
         complain(f"docs/USING.md: no file has this:\n{block}")
 
-# The runs: arguments, input, output.
+# The runs of the line program: arguments, input, output, and what is on standard error.
 runs = []
 quick = re.search(r"printf '(.*?)' > /tmp/lines && \(cd crates/dagbench && rt try -- (.*?) < /tmp/lines\)", readme)
 prints = re.search(r"It prints ((?:`[^`]*`,\s+)*`[^`]*`)", readme[quick.end() :]) if quick else None
 if prints:
     said = re.findall(r"`([^`]*)`", prints[1])
-    runs.append((quick[2].split(), quick[1].encode().decode("unicode_escape"), "".join(f"{it}\n" for it in said)))
+    runs.append((quick[2].split(), quick[1].encode().decode("unicode_escape"), "".join(f"{it}\n" for it in said), ""))
 else:
     complain("README.md has no run of the line program")
 commands = text_of("docs/COMMANDS.md")
 shown = re.findall(r"^```sh\nrt try -- ([^\n]*?) <<'END'\n(.*?)^END\n```\n\nIt prints:\n\n```text\n(.*?)^```$", commands, re.M | re.S)
 if not shown or len(shown) != len(blocks(commands, "sh")):
     complain("docs/COMMANDS.md has a run of another form")
-runs += [(shlex.split(words), sent, said) for words, sent, said in shown]
+runs += [(shlex.split(words), sent, said, "") for words, sent, said in shown]
 
-if os.access(PROGRAM, os.X_OK):
-    for words, sent, said in runs:
-        run = subprocess.run([PROGRAM, *words], input=sent, capture_output=True, text=True)
-        if run.returncode != 0 or run.stderr or run.stdout != said:
-            complain(f"dagbench {' '.join(words)} prints\n{run.stdout}{run.stderr}and not\n{said}")
-else:
+# Those of the spreadsheet.
+shown = re.findall(
+    r"^```sh\nrt try <<'END'\n(.*?)^END\n```\n\nIt prints:\n\n```text\n(.*?)^```\n\nand on standard error:\n\n```text\n(.*?)^```$",
+    sheet,
+    re.M | re.S,
+)
+if not shown or len(shown) != len(blocks(sheet, "sh")):
+    complain("docs/SHEET.md has a run of another form")
+calculations = [([], *texts) for texts in shown]
+
+
+def compare(name, runs):
+    """Runs the program of that name, which ends with status 1 if it complains on standard error."""
+    program = os.path.abspath(f"crates/{name}/out/{name}")
+    if os.access(program, os.X_OK):
+        for words, sent, said, told in runs:
+            run = subprocess.run([program, *words], input=sent, capture_output=True, text=True)
+            if (run.returncode, run.stdout, run.stderr) != (1 if told else 0, said, told):
+                complain(f"{name} {' '.join(words)} prints\n{run.stdout}{run.stderr}and not\n{said}{told}")
+        return
     # `rt ci` has not built the program, so it is tried.
     with tempfile.TemporaryDirectory() as cases:
-        for at, (words, sent, said) in enumerate(runs):
-            for name, text in [("", sent), (".args", "".join(f"{it}\n" for it in words)), (".stdout", said)]:
-                with open(f"{cases}/run{at}{name}", "w", encoding="utf-8") as file:
+        for at, (words, sent, _, _) in enumerate(runs):
+            for end, text in [("", sent), (".args", "".join(f"{it}\n" for it in words))]:
+                with open(f"{cases}/run{at}{end}", "w", encoding="utf-8") as file:
                     file.write(text)
-        run = subprocess.run(["rt", "try", "--cases", cases], cwd="crates/dagbench", capture_output=True, text=True)
-        if run.returncode != 0:
-            complain(run.stdout + run.stderr)
+        run = subprocess.run(["rt", "try", "--cases", cases], cwd=f"crates/{name}", capture_output=True, text=True)
+        wanted = "".join(f"== run{at}\n{said}" for at, (_, _, said, _) in enumerate(runs))
+        if run.stdout != wanted or not all(told in run.stderr for _, _, _, told in runs):
+            complain(f"{name} prints\n{run.stdout}{run.stderr}")
 
-print(f"{len(using)} blocks of code and {len(runs)} runs, {bad} bad")
+
+compare("dagbench", runs)
+compare("example_sheet", calculations)
+
+print(f"{len(using)} blocks of code and {len(runs) + len(calculations)} runs, {bad} bad")
 sys.exit(bad > 0)
 PYTHON

@@ -35,6 +35,7 @@ pub use Rattle.daggy_reduction.specs.Comparison
 pub use Rattle.daggy_reduction.specs.SearchSpan
 pub use Rattle.daggy_reduction.specs.AnyWeights
 pub use Rattle.daggy_reduction.specs.KeptRoom
+pub use Rattle.daggy_reduction.specs.Descendants
 pub use Rattle.daggy_search.specs.Room
 pub use Rattle.daggy_base.specs.Look
 pub use Rattle.daggy_base.specs.Errors
