@@ -37,6 +37,10 @@ pub use Rattle.daggy_reduction.specs.AnyWeights
 pub use Rattle.daggy_reduction.specs.KeptRoom
 pub use Rattle.daggy_reduction.specs.Descendants
 pub use Rattle.daggy_search.specs.Room
+pub use Rattle.daggy_search.specs.Reversed
+pub use Rattle.daggy_order.specs.Paths
+pub use Rattle.daggy_schedule.specs.Work
+pub use Rattle.daggy_schedule.specs.Times
 pub use Rattle.daggy_base.specs.Look
 pub use Rattle.daggy_base.specs.Errors
 pub use Rattle.daggy_base.specs.Capacity
