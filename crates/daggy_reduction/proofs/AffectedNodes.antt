@@ -1,12 +1,12 @@
 -- The nodes of a queue, sorted by their positions in an order.
-use Rattle.std.proofs.Common.{◌≡◌, ℕ, ◌+◌, ◌<◌, ◌≤◌, ◌↔◌, List, length, map, sym, subst, arith, Contains}
+use Rattle.std.proofs.Common.{◌≡◌, ℕ, ◌↔◌, List, map, sym, subst, arith, Contains}
 use Rattle.std.specs.List.Sorted.{IsPermutation, IsNonDecreasingBy}
 use Rattle.std.proofs.lemmas.List.Sorted.{Contains-permutation, IsPermutation-sym, IsPermutation-map, length_permutation}
 use Rattle.daggy_base.specs.Graph.{Graph, HasNode}
 use Rattle.daggy_base.specs.Ordered.{place}
 use Rattle.daggy_base.specs.Reduction.{IsBelow}
 use Rattle.daggy_base.specs.WellFormed.{AreDistinct, IsWellFormed}
-use Rattle.daggy_base.proofs.Lists.{Mem, Unique, mem_contains, contains_mem, unique_from_distinct, distinct_from_unique}
+use Rattle.daggy_base.proofs.Lists.{Unique, mem_contains, contains_mem, unique_from_distinct, distinct_from_unique}
 use Rattle.daggy_order.proofs.BoundedSearch.{reached_exists}
 use Rattle.daggy_order.proofs.MovedNodes.{unique_same}
 use Rattle.daggy_search.proofs.Entries.{map_sorted}

@@ -1,11 +1,11 @@
 -- Parts of a graph sorted by their positions in a topological order.
-use Rattle.std.proofs.Common.{◌≡◌, ℕ, ◌<◌, ◌≤◌, ◌↔◌, List, [], ◌∷◌, get_or, inl, inr, refl, sym, ap, subst, ◌∙◌, arith, Contains}
+use Rattle.std.proofs.Common.{◌≡◌, ℕ, ◌≤◌, ◌↔◌, List, [], ◌∷◌, inl, inr, refl, sym, ap, subst, arith, Contains}
 use Rattle.std.proofs.lemmas.Bool.{cases_lt}
 use Rattle.daggy_base.specs.Graph.{Graph, HasNode}
 use Rattle.daggy_base.specs.Ordered.{IsOrderOf, place}
 use Rattle.daggy_base.specs.Path.{AreJoined, Reaches, IsPath, end_of}
 use Rattle.daggy_base.specs.WellFormed.{IsWellFormed}
-use Rattle.daggy_base.proofs.Lists.{Mem, mem_contains, contains_mem}
+use Rattle.daggy_base.proofs.Lists.{Mem, contains_mem}
 use Rattle.daggy_base.proofs.LongerPaths.{reaches_more}
 use Rattle.daggy_base.proofs.Sorted.{place_at, same_place}
 use Rattle.daggy_order.proofs.BoundedSearch.{reached_exists}

@@ -1,4 +1,4 @@
-use Rattle.std.proofs.Common.{◌≡◌, ℕ, List, ◌++◌, ◌≤◌, length, take, drop, map, subst, sym, Contains}
+use Rattle.std.proofs.Common.{◌≡◌, ℕ, List, ◌++◌, length, take, drop, map, subst, Contains}
 use Rattle.std.specs.List.Sorted.{IsPermutation}
 use Rattle.daggy_search.proofs.Entries.{come_back}
 use Rattle.daggy_reduction.specs.Descendants.{IsSortedPart}

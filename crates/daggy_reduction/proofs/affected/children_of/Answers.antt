@@ -1,9 +1,8 @@
-use Rattle.std.proofs.Common.{◌≡◌, ◌≤◌, ◌<◌, ◌+◌, ◌↔◌, ◌⊎◌, ℕ, List, length, map, take, get_or, refl, ap, sym, subst, ◌∙◌, arith, Contains}
+use Rattle.std.proofs.Common.{◌≡◌, ◌≤◌, ◌<◌, ◌+◌, ◌↔◌, ◌⊎◌, ℕ, length, map, take, get_or, refl, ap, sym, subst, ◌∙◌, arith, Contains}
 use Rattle.std.proofs.lemmas.List.{length-map, get_or-map}
 use Rattle.daggy_base.specs.Graph.{Graph, out_list}
 use Rattle.daggy_base.specs.Ordered.{edges_from}
 use Rattle.daggy_base.specs.Path.{AreJoined}
-use Rattle.daggy_base.proofs.Lists.{mem_contains, contains_mem}
 use Rattle.daggy_reduction.proofs.ListedChildren.{list_children, list_none, all_listed, edges_more, edges_from_take}
 use Rattle.daggy_reduction.proofs.affected.children_of.Goals as goal
 use Rattle.daggy_reduction.proofs.affected.children_of.Given.{Over}

@@ -1,4 +1,4 @@
-use Rattle.std.proofs.Common.{map, List, ℕ, Vec, Global}
+use Rattle.std.proofs.Common.{map}
 use Rattle.std.proofs.lemmas.Result.{IfOk-weaker}
 use Rattle.daggy_base.specs.Reduction.{IsBelow}
 use Rattle.daggy_reduction.specs.Descendants.{IsSortedPart, IsDescendantOfAny}

@@ -1,8 +1,8 @@
-use Rattle.std.proofs.Common.{◌≡◌, ◌≢◌, ℕ, List, [], ◌∷◌, ◌++◌, inl, inr, map, ap, refl, sym, subst, ◌∙◌}
+use Rattle.std.proofs.Common.{◌≡◌, ◌≢◌, [], ◌∷◌, ◌++◌, inl, inr, map, ap, refl, ◌∙◌}
 use Rattle.std.proofs.lemmas.List.{map-append}
 use Rattle.daggy_base.proofs.Lists.{Mem, mem_left, mem_right, mem_contains, contains_mem}
-use Rattle.daggy_reduction.proofs.Children.{Looking, looking_edge, looked_child, looking_on, all_looked}
-use Rattle.daggy_reduction.proofs.ListedChildren.{Listing, list_one}
+use Rattle.daggy_reduction.proofs.Children.{looking_edge, looked_child, looking_on, all_looked}
+use Rattle.daggy_reduction.proofs.ListedChildren.{list_one}
 use Rattle.daggy_reduction.proofs.affected.push_children.Goals as goal
 
 pub look-v-requires : goal.look-v-requires
