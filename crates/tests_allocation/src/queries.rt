@@ -16,13 +16,13 @@ enum Question {
 }
 
 // How many nodes the answer has.
-fn ask<S: Kind>(dag: &mut Plain<S>, question: Question, n: usize) -> Result<usize, AllocError> {
-    let nodes = [NodeIndex::new(n)];
+fn ask<S: Kind>(dag: &mut Plain<S>, question: Question, n: NodeIndex) -> Result<usize, AllocError> {
+    let nodes = [n];
     let found = match question {
         Question::Affected => dag.affected(&nodes)?,
         Question::Descendants => dag.descendants(&nodes)?,
         Question::Ancestors => dag.ancestors(&nodes)?,
-        Question::PathFromRoot => match dag.path(NodeIndex::new(0), NodeIndex::new(n))? {
+        Question::PathFromRoot => match dag.path(NodeIndex::new(0), n)? {
             Some(path) => path,
             None => return Ok(0),
         },
@@ -35,7 +35,7 @@ fn ask_again<S: Kind>(
     rt: &impl Abort,
     dag: &mut Plain<S>,
     question: Question,
-    n: usize,
+    n: NodeIndex,
     wanted: usize,
     refused: &mut bool,
 ) {
@@ -58,8 +58,9 @@ pub fn queries<S: Kind>(rt: &impl Abort, alloc: Global, refused: &mut bool) {
     let mut dag: Plain<S> = small_fan(rt, alloc, refused);
     let nodes = dag.node_count();
     let others = nodes.wrapping_sub(1);
-    ask_again(rt, &mut dag, Question::Affected, 0, nodes, refused);
-    ask_again(rt, &mut dag, Question::Descendants, 0, others, refused);
-    ask_again(rt, &mut dag, Question::Ancestors, 3, 1, refused);
-    ask_again(rt, &mut dag, Question::PathFromRoot, 3, 2, refused);
+    let (root, last) = (NodeIndex::new(0), NodeIndex::new(3));
+    ask_again(rt, &mut dag, Question::Affected, root, nodes, refused);
+    ask_again(rt, &mut dag, Question::Descendants, root, others, refused);
+    ask_again(rt, &mut dag, Question::Ancestors, last, 1, refused);
+    ask_again(rt, &mut dag, Question::PathFromRoot, last, 2, refused);
 }
