@@ -1,1 +1,4 @@
+pub mod Edges
 pub mod Escaping
+pub mod Lines
+pub mod Ranks

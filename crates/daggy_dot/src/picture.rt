@@ -1,4 +1,10 @@
 //! A graph in the language of graphviz.
+ghost use Rattle.std.specs.Prelude.{◌≡◌, length, map, vec_items};
+ghost use Rattle.std.specs.Fmt.{DisplaysOnOk, WritesOnOk};
+ghost use Rattle.std.specs.List.{flat_map};
+ghost use Rattle.daggy_dot.specs.Picture.{IsPlain, with_node_labels, with_edge_labels};
+ghost use Rattle.daggy_dot.specs.Picture.{line_of_node, line_of_edge, lines_of, rank_line};
+
 use crate::labels::{Label, NoLabels, WeightLabels};
 use crate::writing::{write_edge, write_node};
 use daggy_base::index::{EdgeIndex, IndexType, NodeIndex};
@@ -6,7 +12,7 @@ use daggy_base::source::EdgeSource;
 use daggy_base::store::Store;
 use daggy_dag::acyclic::Acyclic;
 use std::fmt::{self, Display, Formatter, Write};
-use std::marker::PhantomData;
+use std::marker::{Model, PhantomData};
 
 /// A graph that displays itself in the language of graphviz, for the program `dot`, as:
 ///
@@ -49,17 +55,39 @@ pub struct Dot<
     edge_weight: PhantomData<E>,
 }
 
+impl<'a, N, E, Ix: IndexType, S, L, M> Model for Dot<'a, N, E, Ix, S, L, M>
+where
+    S: Store<Ix, NodeWeight = N, EdgeWeight = E>,
+{
+    ghost use Rattle.std.specs.Prelude.{map, vec_items};
+    ghost use Rattle.daggy_dot.specs.Picture.{Drawing};
+
+    ghost Value = { Drawing N E L M Ix };
+
+    ghost view = { λ dot. record {
+      graph = S.graph dot.graph.now;
+      node_labels = dot.node_labels;
+      edge_labels = dot.edge_labels;
+      stages = map vec_items dot.stages.now;
+      path = dot.path.now;
+    } };
+}
+
 impl<'a, N: Drop, E: Drop, Ix: IndexType, S> Dot<'a, N, E, Ix, S>
 where
     S: Store<Ix, NodeWeight = N, EdgeWeight = E>,
 {
     /// A picture of a dag, with the weights as labels.
-    pub fn new(dag: &'a Acyclic<N, E, Ix, S>) -> Self {
+    pub fn new(dag: &'a Acyclic<N, E, Ix, S>) -> Self
+        ensures { IsPlain result dag.now.graph }
+    {
         Dot::of_graph(dag.graph())
     }
 
     /// A picture of a graph, which may have cycles, with the weights as labels.
-    pub fn of_graph(graph: &'a S) -> Self {
+    pub fn of_graph(graph: &'a S) -> Self
+        ensures { IsPlain result (S.graph graph.now) }
+    {
         Dot {
             graph,
             node_labels: WeightLabels,
@@ -77,7 +105,9 @@ where
     S: Store<Ix, NodeWeight = N, EdgeWeight = E>,
 {
     /// Takes other labels for the nodes.
-    pub fn node_labels<K>(self, labels: K) -> Dot<'a, N, E, Ix, S, K, M> {
+    pub fn node_labels<K>(self, labels: K) -> Dot<'a, N, E, Ix, S, K, M>
+        ensures { result ≡ with_node_labels self.entry labels }
+    {
         Dot {
             graph: self.graph,
             node_labels: labels,
@@ -90,7 +120,9 @@ where
     }
 
     /// Takes other labels for the edges.
-    pub fn edge_labels<K>(self, labels: K) -> Dot<'a, N, E, Ix, S, L, K> {
+    pub fn edge_labels<K>(self, labels: K) -> Dot<'a, N, E, Ix, S, L, K>
+        ensures { result ≡ with_edge_labels self.entry labels }
+    {
         Dot {
             graph: self.graph,
             node_labels: self.node_labels,
@@ -103,13 +135,17 @@ where
     }
 
     /// Leaves out the labels of the edges.
-    pub fn no_edge_labels(self) -> Dot<'a, N, E, Ix, S, L, NoLabels> {
+    pub fn no_edge_labels(self) -> Dot<'a, N, E, Ix, S, L, NoLabels>
+        ensures { result ≡ with_edge_labels self.entry result.edge_labels }
+    {
         self.edge_labels(NoLabels)
     }
 
     /// Puts the nodes of each stage on one rank, as those of a plan. Nodes that do not exist are
     /// left out.
-    pub fn ranks(self, stages: &'a [Vec<NodeIndex<Ix>>]) -> Self {
+    pub fn ranks(self, stages: &'a [Vec<NodeIndex<Ix>>]) -> Self
+        ensures { result ≡ record self.entry { stages = map vec_items stages.now } }
+    {
         Dot { stages, ..self }
     }
 
@@ -118,12 +154,17 @@ where
     /// # Complexity
     ///
     /// The picture then takes O((nodes + edges) · length of the path).
-    pub fn bold(self, path: &'a [NodeIndex<Ix>]) -> Self {
+    pub fn bold(self, path: &'a [NodeIndex<Ix>]) -> Self
+        ensures { result ≡ record self.entry { path = path.now } }
+    {
         Dot { path, ..self }
     }
 
     // Writes the existing nodes of a stage.
-    fn write_stage<W: Write>(&self, stage: &[NodeIndex<Ix>], f: &mut Formatter<W>) -> fmt::Result {
+    fn write_stage<W: Write>(&self, stage: &[NodeIndex<Ix>], f: &mut Formatter<W>) -> fmt::Result
+        ensures { WritesOnOk W.write_str_gives f.old result
+            (rank_line Ix.number self.now.graph stage.now) f.new }
+    {
         f.write_str("    { rank = same; ")?;
         for n in stage {
             if self.graph.contains_node(*n) {
@@ -134,7 +175,10 @@ where
         f.write_str("}\n")
     }
 
-    fn write_stages<W: Write>(&self, f: &mut Formatter<W>) -> fmt::Result {
+    fn write_stages<W: Write>(&self, f: &mut Formatter<W>) -> fmt::Result
+        ensures { WritesOnOk W.write_str_gives f.old result
+            (flat_map (rank_line Ix.number self.now.graph) self.now.stages) f.new }
+    {
         for stage in self.stages {
             self.write_stage(stage.as_slice(), f)?;
         }
@@ -148,7 +192,11 @@ where
     L: Label<NodeIndex<Ix>, N> + Drop,
     M: Label<EdgeIndex<Ix>, E> + Drop,
 {
-    fn write_nodes<W: Write>(&self, f: &mut Formatter<W>) -> fmt::Result {
+    fn write_nodes<W: Write>(&self, f: &mut Formatter<W>) -> fmt::Result
+        ensures { DisplaysOnOk W.write_str_gives f.old result
+            (lines_of (line_of_node Ix.number Ix.of L.text self.now) self.now.graph.nodes
+            (length self.now.graph.nodes)) f.new }
+    {
         self.graph.invariant();
         'nodes: for x in 0..self.graph.node_slots() {
             let n = NodeIndex::new(x);
@@ -159,15 +207,18 @@ where
         Ok(())
     }
 
-    fn write_edges<W: Write>(&self, f: &mut Formatter<W>) -> fmt::Result {
+    fn write_edges<W: Write>(&self, f: &mut Formatter<W>) -> fmt::Result
+        ensures { DisplaysOnOk W.write_str_gives f.old result
+            (lines_of (line_of_edge Ix.number Ix.of M.text self.now) self.now.graph.edges
+            (length self.now.graph.edges)) f.new }
+    {
         self.graph.invariant();
         'edges: for x in 0..self.graph.edge_slots() {
             let e = EdgeIndex::new(x);
-            if let (Some(ends), Some(weight)) = (
-                self.graph.edge_endpoints(e),
-                self.graph.edge_weight(e),
-            ) {
-                write_edge(e, ends, weight, &self.edge_labels, self.path, f)?;
+            if let Some(ends) = self.graph.edge_endpoints(e) {
+                if let Some(weight) = self.graph.edge_weight(e) {
+                    write_edge(e, ends, weight, &self.edge_labels, self.path, f)?;
+                }
             }
         }
         Ok(())
@@ -180,6 +231,10 @@ where
     L: Label<NodeIndex<Ix>, N> + Drop,
     M: Label<EdgeIndex<Ix>, E> + Drop,
 {
+    ghost use Rattle.daggy_dot.specs.Picture.{picture};
+
+    ghost output = { picture Ix.number Ix.of L.text M.text };
+
     fn fmt<W: Write>(&self, f: &mut Formatter<W>) -> fmt::Result {
         f.write_str("digraph {\n")?;
         self.write_nodes(f)?;

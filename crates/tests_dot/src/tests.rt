@@ -1,4 +1,4 @@
-//! What no contract says: the text of a whole picture.
+//! The text of a whole picture, written out.
 
 use daggy_base::index::{EdgeIndex, NodeIndex};
 use daggy_base::source::EdgeSource;
@@ -222,7 +222,7 @@ fn ranks_and_a_path(rt: HostRuntime) -> Result<(), Fail> {
     shows(&rt, rt.alloc(), dot, text)
 }
 
-// A writer with room for so many bytes.
+// A writer with room for a number of bytes.
 #[derive(Drop)]
 struct Narrow {
     room: usize,
