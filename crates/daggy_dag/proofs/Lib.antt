@@ -12,3 +12,5 @@ pub mod NodesBelow
 pub mod NextSlots
 pub mod SlottedGraph
 pub mod JoinedByEdge
+pub mod NumberedSlots
+pub mod Retained

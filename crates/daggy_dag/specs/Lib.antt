@@ -3,3 +3,4 @@ pub mod Slots
 pub mod Cursors
 pub mod Walks
 pub mod SlottedCells
+pub mod Retaining

@@ -49,6 +49,7 @@ mod many_edges;
 mod paths;
 mod recursive;
 mod reduction;
+mod retain;
 mod stable;
 mod topological;
 mod visit;

@@ -17,7 +17,7 @@ slot_inside [] i y h = absurd cc
 slot_inside (x ∷ xs) zero y h = omega arith
 slot_inside (x ∷ xs) (suc i) y h = let more = slot_inside xs i y h in omega (arith, more)
 
-slot_front : {A : Type 0} (xs : List (Option A)) (n i : ℕ) → i < n → slot (take n xs) i ≡ slot xs i
+pub slot_front : {A : Type 0} (xs : List (Option A)) (n i : ℕ) → i < n → slot (take n xs) i ≡ slot xs i
 slot_front [] zero i p = refl
 slot_front [] (suc n) i p = refl
 slot_front (x ∷ xs) zero i p = absurd (omega arith)

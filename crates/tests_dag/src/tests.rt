@@ -16,6 +16,7 @@ mod many_edges;
 mod ordering;
 mod reducing;
 mod removing;
+mod retaining;
 mod rewriting;
 mod searching;
 mod slot_reuse;

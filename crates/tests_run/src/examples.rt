@@ -50,6 +50,30 @@ fn remove_node(rt: HostRuntime) -> Result<(), Fail> {
 }
 
 #[test]
+fn retain_nodes(rt: HostRuntime) -> Result<(), Fail> {
+    let mut dag: Dag<u32, u32> = Dag::new(rt.alloc());
+    let sow = dag.add_node(1)?;
+    let (_, water) = dag.add_child(sow, 90, 60)?;
+    let _ = dag.add_child(water, 1, 2)?;
+    dag.retain_nodes(|_, days| *days < 60);
+    assert!(rt; dag.node_count() == 2);
+    assert!(rt; dag.edge_count() == 0);
+    Ok(())
+}
+
+#[test]
+fn retain_edges(rt: HostRuntime) -> Result<(), Fail> {
+    let mut dag: Dag<u32, u32> = Dag::new(rt.alloc());
+    let sow = dag.add_node(1)?;
+    let (days, water) = dag.add_child(sow, 90, 60)?;
+    let _ = dag.add_child(water, 1, 2)?;
+    dag.retain_edges(|_, days| *days > 1);
+    assert!(rt; dag.edge_count() == 1);
+    assert!(rt; dag.edge_weight(days) == Some(&90));
+    Ok(())
+}
+
+#[test]
 fn stable_dag(rt: HostRuntime) -> Result<(), Fail> {
     let mut dag: StableDag<&'static str, u32> = StableDag::new(rt.alloc());
     let sow = dag.add_node("sow")?;

@@ -16,9 +16,8 @@ impl<N: Drop, E: Drop, Ix: IndexType, S> Acyclic<N, E, Ix, S>
 where
     S: Store<Ix, NodeWeight = N, EdgeWeight = E>,
 {
-    /// Returns `nodes` and their descendants, each once and parents before children: what is to be
-    /// computed again after `nodes` changed, in an order in which to do it. Missing nodes are
-    /// ignored.
+    /// Returns `nodes` and their descendants, each once and parents before children: what to
+    /// recompute after `nodes` changed, in the order to do it. Missing nodes are ignored.
     ///
     /// # Errors
     ///

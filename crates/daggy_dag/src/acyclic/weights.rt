@@ -16,7 +16,7 @@ impl<N: Drop, E: Drop, Ix: IndexType, S> Acyclic<N, E, Ix, S>
 where
     S: Store<Ix, NodeWeight = N, EdgeWeight = E>,
 {
-    /// The weight of a node, to be written, or `None` if there is no such node.
+    /// A mutable reference to the weight of a node, or `None` if there is no such node.
     #[inline]
     pub fn node_weight_mut(&mut self, n: NodeIndex<Ix>) -> Option<&mut N>
         ensures* writes_back { sem 𝓛
@@ -30,7 +30,7 @@ where
         }
     }
 
-    /// The weight of an edge, to be written, or `None` if there is no such edge.
+    /// A mutable reference to the weight of an edge, or `None` if there is no such edge.
     #[inline]
     pub fn edge_weight_mut(&mut self, e: EdgeIndex<Ix>) -> Option<&mut E>
         ensures* writes_back { sem 𝓛

@@ -1,0 +1,49 @@
+-- The graph after a closure was asked of each node, or of each edge, whether it stays.
+use Rattle.std.specs.Prelude.{◌≡◌, ℕ, zero, suc, Bool, if◌then◌else◌, Option, Some, None, List, length}
+use Rattle.std.specs.Borrow.{Bor}
+use Rattle.std.specs.Iterator.{CallableAtEachTurn, YieldsLast}
+use Rattle.daggy_base.specs.declared.kind.Kind.{Kind}
+use Rattle.daggy_base.specs.CallsInTurn.{TakesSlot, CalledAtSlot}
+use Rattle.daggy_base.specs.Graph.{Graph, Edge, node_weight, edge_at}
+use Rattle.daggy_base.specs.Iterating.{numbered}
+use Rattle.daggy_base.specs.Mapping.{CalledAt, weight_in}
+use Rattle.daggy_base.specs.Removal.{without_node, without_edge}
+
+module _ {F I W A : Type 0} (of : ℕ → I) (pre : F → I → Bor W → Type 0)
+    (step : F → I → Bor W → Bool → F → Type 0) (weight : A → W) where
+  -- f may be asked of each occupied slot, the last one first, whatever it answered before
+  abbrev pub CanAskDown : List (Option A) → F → List (ℕ × A) → Type 0
+  CanAskDown slots f left =
+      CallableAtEachTurn (YieldsLast (λ l. l)) (CalledAtSlot of pre step weight) (TakesSlot of pre step weight slots) left f
+
+module _ {F I W A G : Type 0} (of : ℕ → I) (step : F → I → Bor W → Bool → F → Type 0) (weight : A → W)
+    (at : G → ℕ → Option A) (removed : G → ℕ → G) where
+  -- f was asked of what stands at n, if anything does, and became next; h is g without it if the answer was no
+  abbrev pub Asks : F → G → ℕ → Option A → F → G → Type 0
+  Asks f g n None next h = (next ≡ f) × (h ≡ g)
+  Asks f g n (Some x) next h =
+      (stays : Bool) × CalledAt step of f n (weight x) stays next × (h ≡ (if stays then g else removed g n))
+
+  -- f was asked of all that stands below n, the last one first, and h is what was left
+  abbrev pub AsksDown : F → G → ℕ → G → Type 0
+  AsksDown f g zero h = h ≡ g
+  AsksDown f g (suc n) h = (next : F) × (left : G) × Asks f g n (at g n) next left × AsksDown next left n h
+
+module _ {N E F I : Type 0} (of : ℕ → I) where
+  -- f may be asked of each node in descending index order, whatever it answered before
+  abbrev pub CanAskNodes : (pre : F → I → Bor N → Type 0) → (step : F → I → Bor N → Bool → F → Type 0)
+      → F → Graph N E → Type 0
+  CanAskNodes pre step f g = CanAskDown of pre step (λ w. w) g.nodes f (numbered 0 g.nodes)
+
+  -- the same for edges
+  abbrev pub CanAskEdges : (pre : F → I → Bor E → Type 0) → (step : F → I → Bor E → Bool → F → Type 0)
+      → F → Graph N E → Type 0
+  CanAskEdges pre step f g = CanAskDown of pre step weight_in g.edges f (numbered 0 g.edges)
+
+  -- f was asked of each node in descending index order, and each of which it said no was removed with its edges
+  abbrev pub RetainsNodes : (step : F → I → Bor N → Bool → F → Type 0) → Kind → F → Graph N E → Graph N E → Type 0
+  RetainsNodes step kind f g h = AsksDown of step (λ w. w) node_weight (without_node kind) f g (length g.nodes) h
+
+  -- the same for edges
+  abbrev pub RetainsEdges : (step : F → I → Bor E → Bool → F → Type 0) → Kind → F → Graph N E → Graph N E → Type 0
+  RetainsEdges step kind f g h = AsksDown of step weight_in edge_at (without_edge kind) f g (length g.edges) h
