@@ -21,7 +21,7 @@ refusing() { # NUMBER PROGRAM COMMAND..: runs the command; in the program of tha
   LD_PRELOAD=$shim FAIL_ALLOCATION=$number FAIL_ALLOCATION_OF=$program FAIL_ALLOCATION_MARK=$shim.mark "$@"
 }
 
-was_refused() { # whether the last run that was refusing had so many allocations
+was_refused() { # whether the last run that was refusing had that many allocations
   [ -e "$shim.mark" ]
 }
 
@@ -35,6 +35,6 @@ is_told_once() { # TEXT: whether it speaks of memory once if an allocation was r
   if was_refused; then [ "$count" = 1 ] || { [ "$count" = 0 ] && [ "$untold" = 1 ]; }; else [ "$count" = 0 ]; fi
 }
 
-had_refusals() { # NUMBER LEAST: whether so many allocations were refused before this one, which was not; else says how many were
+had_refusals() { # NUMBER LEAST: whether at least LEAST allocations were refused before this one, which was not; else says how many were
   [ "$1" -gt "$2" ] || { echo "only $(($1 - 1)) allocations"; return 1; }
 }

@@ -28,7 +28,7 @@ def plan(kind, lines, after):
 
 
 def built(nodes, edges, vacant):
-    """The lines that build a dag whose nodes stand behind so many vacant indices."""
+    """The lines that build a dag whose nodes come after that many vacant indices."""
     lines = ['node 1'] * (vacant + nodes) + [f'edge {a + vacant} {b + vacant} 1' for a, b in edges]
     return lines + [f'rmnode {n}' for n in range(vacant)]
 

@@ -1,5 +1,5 @@
 #!/usr/bin/env bash
-# The tests with no allocation refused, and then with each refused in turn, until no test has so many: in each test exactly one call
+# The tests with no allocation refused, and then with each refused in turn, until no test has that many: in each test exactly one call
 # answers that there was no memory if an allocation of the test was refused, and none does otherwise.
 set -u
 . "$(dirname "$0")/../refusing.sh"

@@ -28,7 +28,7 @@ series() { # from the files ours and theirs: medians, their ratio, and that of t
 
 asked() { case "$1" in *"$wanted"*) true ;; *) false ;; esac; }
 
-workload() { # ROUNDS NAME NODES EDGES ..: two series of so many rounds
+workload() { # ROUNDS NAME NODES EDGES ..: two series of ROUNDS rounds
   local rounds=$1 same=equal ours theirs
   shift
   asked "$*" || return 0

@@ -74,14 +74,14 @@ pub trait DataMapMut: DataMap {
 
     ghost edge_written: { Self → Self.EdgeId → Self.EdgeWeight → Self };
 
-    /// The weight of a node, to be written, or `None` if there is no such node.
+    /// A mutable reference to the weight of a node, or `None` if there is no such node.
     fn node_weight_mut(&mut self, id: Self::NodeId) -> Option<&mut Self::NodeWeight>
         ensures* writes_back { sem 𝓛 (LendsIf Self.row Self.NodeWeight.row self.entry result
             (node_written self.entry.now id) self.entry.now) }
         ensures value { option_copied_mut result
             ≡ weight_at (Self.graph self.old) (Self.node_number id) };
 
-    /// The weight of an edge, to be written, or `None` if there is no such edge.
+    /// A mutable reference to the weight of an edge, or `None` if there is no such edge.
     fn edge_weight_mut(&mut self, id: Self::EdgeId) -> Option<&mut Self::EdgeWeight>
         ensures* writes_back { sem 𝓛 (LendsIf Self.row Self.EdgeWeight.row self.entry result
             (edge_written self.entry.now id) self.entry.now) }
