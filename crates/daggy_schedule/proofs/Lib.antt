@@ -14,3 +14,6 @@ pub mod PathBack
 pub mod Late
 pub mod Whole
 pub mod Durations
+pub mod FirstTaken
+pub mod Led
+pub mod Ordering

@@ -2,3 +2,5 @@ pub mod Work
 pub mod Queue
 pub mod Times
 pub mod Passes
+pub mod LeastFirst
+pub mod Entries

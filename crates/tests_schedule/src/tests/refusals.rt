@@ -1,9 +1,10 @@
 //! Calls while memory is refused once. `rt try --test --fail-alloc N` refuses the Nth allocation: a
 //! call that is refused says so, and succeeds when it is made again.
-use super::support::{Plain, made, node, same};
+use super::support::{Plain, lists, made, node, same};
 use daggy_base::index::NodeIndex;
 use daggy_base::store::Store;
 use daggy_graph::graph::DiGraph;
+use daggy_schedule::order_by::topological_order_by;
 use daggy_schedule::ready::Ready;
 use daggy_schedule::schedule::{Schedule, ScheduleError};
 use daggy_stable::stable_graph::StableDiGraph;
@@ -53,10 +54,23 @@ fn schedule_again<S: Store<u32, NodeWeight = u64, EdgeWeight = ()>>(
     same(rt, plan.makespan, 5);
 }
 
+fn order_again<S: Store<u32, NodeWeight = u64, EdgeWeight = ()>>(
+    rt: &impl Abort,
+    alloc: Global,
+    dag: &Plain<S>,
+) {
+    let order = match topological_order_by(alloc, dag, |_, key| *key) {
+        Ok(order) => order,
+        Err(AllocError) => made(rt, topological_order_by(alloc, dag, |_, key| *key)),
+    };
+    lists(rt, order.as_slice(), &[0, 1]);
+}
+
 fn again<S: Store<u32, NodeWeight = u64, EdgeWeight = ()>>(rt: &impl Abort, alloc: Global) {
     let dag = two_nodes::<S>(rt, alloc);
     ready_again(rt, alloc, &dag);
     schedule_again(rt, alloc, &dag);
+    order_again(rt, alloc, &dag);
 }
 
 #[test]
