@@ -17,3 +17,9 @@ pub mod Durations
 pub mod FirstTaken
 pub mod Led
 pub mod Ordering
+pub mod Shift
+pub mod Load
+pub mod Shop
+pub mod Undone
+pub mod Urgent
+pub mod Working

@@ -4,3 +4,5 @@ pub mod Times
 pub mod Passes
 pub mod LeastFirst
 pub mod Entries
+pub mod Assignments
+pub mod Floor

@@ -2,6 +2,7 @@
 #![tactic(auto)]
 
 mod candidates;
+pub mod on_workers;
 pub mod order_by;
 pub mod ready;
 pub mod schedule;
