@@ -14,3 +14,12 @@ pub mod PathBack
 pub mod Late
 pub mod Whole
 pub mod Durations
+pub mod FirstTaken
+pub mod Led
+pub mod Ordering
+pub mod Shift
+pub mod Load
+pub mod Shop
+pub mod Undone
+pub mod Urgent
+pub mod Working

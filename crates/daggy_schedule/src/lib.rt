@@ -1,5 +1,8 @@
 //! Working off the nodes of a dag, each after its parents: which can begin, and how early.
 #![tactic(auto)]
 
+mod candidates;
+pub mod on_workers;
+pub mod order_by;
 pub mod ready;
 pub mod schedule;

@@ -1,6 +1,8 @@
 //! What no contract says: that calls succeed, and what they answer for dags that were worked out by
 //! hand.
 
+mod assignments;
+mod orders;
 mod refusals;
 mod schedules;
 mod support;

@@ -1,13 +1,16 @@
 //! Calls while memory is refused once. `rt try --test --fail-alloc N` refuses the Nth allocation: a
 //! call that is refused says so, and succeeds when it is made again.
-use super::support::{Plain, made, node, same};
+use super::support::{Plain, lists, made, node, same};
 use daggy_base::index::NodeIndex;
 use daggy_base::store::Store;
 use daggy_graph::graph::DiGraph;
+use daggy_schedule::on_workers::schedule_on;
+use daggy_schedule::order_by::topological_order_by;
 use daggy_schedule::ready::Ready;
 use daggy_schedule::schedule::{Schedule, ScheduleError};
 use daggy_stable::stable_graph::StableDiGraph;
 use std::alloc::{AllocError, Global};
+use std::num::NonZeroUsize;
 use std::process::Abort;
 
 // A dag with a node and its child, each added again if that is refused.
@@ -53,10 +56,40 @@ fn schedule_again<S: Store<u32, NodeWeight = u64, EdgeWeight = ()>>(
     same(rt, plan.makespan, 5);
 }
 
+fn order_again<S: Store<u32, NodeWeight = u64, EdgeWeight = ()>>(
+    rt: &impl Abort,
+    alloc: Global,
+    dag: &Plain<S>,
+) {
+    let order = match topological_order_by(alloc, dag, |_, key| *key) {
+        Ok(order) => order,
+        Err(AllocError) => made(rt, topological_order_by(alloc, dag, |_, key| *key)),
+    };
+    lists(rt, order.as_slice(), &[0, 1]);
+}
+
+fn assign_again<S: Store<u32, NodeWeight = u64, EdgeWeight = ()>>(
+    rt: &impl Abort,
+    alloc: Global,
+    dag: &Plain<S>,
+) {
+    let one = NonZeroUsize::MIN;
+    let plan = match schedule_on(alloc, dag, |_, duration| *duration, one) {
+        Ok(plan) => plan,
+        Err(ScheduleError::Memory) => {
+            made(rt, schedule_on(alloc, dag, |_, duration| *duration, one))
+        }
+        Err(ScheduleError::Overflow) => panic!(rt; "the nodes do not take too long"),
+    };
+    same(rt, plan.makespan, 5);
+}
+
 fn again<S: Store<u32, NodeWeight = u64, EdgeWeight = ()>>(rt: &impl Abort, alloc: Global) {
     let dag = two_nodes::<S>(rt, alloc);
     ready_again(rt, alloc, &dag);
     schedule_again(rt, alloc, &dag);
+    order_again(rt, alloc, &dag);
+    assign_again(rt, alloc, &dag);
 }
 
 #[test]

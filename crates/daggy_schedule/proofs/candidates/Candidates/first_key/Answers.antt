@@ -1,0 +1,14 @@
+use Rattle.std.proofs.Common.{◌≡◌, ◌<◌, ℕ, List, length, refl, subst, arith, rules, Contains}
+use Rattle.std.specs.BinaryHeap.{heap_items, heap_len}
+use Rattle.daggy_schedule.proofs.FirstTaken.{first_entry}
+use Rattle.daggy_schedule.proofs.candidates.Candidates.first_key.Goals as goal
+
+pub returns-clause-first : goal.returns-clause-first
+returns-clause-first g c =
+    let number = g.Ix.IndexType.number in
+    let r = c.in_ok-first.first.now in
+    let items = heap_items c.self.inside.heap in
+    let size : heap_len c.self.inside.heap ≡ length items = search rules in
+    let low : 0 < length items = omega (arith, size, c.in_ok-first.ensures.variant.0 refl) in
+    let P : List (_ × ℕ) → Type 0 = λ z. Contains z (r.0.0, number r.0.1) in
+    (number r.0.1, subst P c.self.view_is (first_entry number items r low c.in_ok-first.ensures.lookup))

@@ -1,0 +1,37 @@
+use Rattle.std.proofs.Common.{◌≡◌, List, ℕ, Err, sym, ap, subst}
+use Rattle.std.specs.Int.NonZero.{non_zero_usize_get}
+use Rattle.std.specs.Result.{IsErrAnd}
+use Rattle.daggy_schedule.specs.declared.schedule.ScheduleError.TheVariants.{Overflow}
+use Rattle.daggy_schedule.specs.Times.{AreDurations}
+use Rattle.daggy_schedule.specs.Assignments.{AreKeptBusy}
+use Rattle.daggy_schedule.proofs.Load.{too_long}
+use Rattle.daggy_schedule.proofs.on_workers.schedule_on.Goals as goal
+
+pub returns-in_err-plan-clause-overflow : goal.returns-in_err-plan-clause-overflow
+returns-in_err-plan-clause-overflow g c is =
+    let error = c.in_err-plan.field-0.0 in
+    let E : _ → Type 0 = λ z. IsErrAnd z (λ e. e ≡ error) in
+    let same : Overflow ≡ error = subst E is c.from_residual.ensures.1 in
+    let h = c.in_err-plan.ensures.overflow (ap Err (sym same)) in
+    (h.0, h.1, too_long c.args.dag.now.graph h.0 h.2)
+
+pub returns-clause-durations : goal.returns-clause-durations
+returns-clause-durations g c =
+    let P : _ → Type 0 = λ z. AreDurations g.Ix.IndexType.of (goal.F-post g) c.args.durations c.args.dag.now.graph z.items in
+    subst P (sym c.into_assignment.ensures.durations) c.in_ok-plan.ensures.durations
+
+pub returns-clause-busy : goal.returns-clause-busy
+returns-clause-busy g c =
+    let graph = c.args.dag.now.graph in
+    let made = c.into_assignment.result in
+    let shop = c.in_ok-shop.shop in
+    let count = c.get.result in
+    let D : _ → Type 0 = λ z. AreKeptBusy graph z.items made.starts.items made.workers.items (non_zero_usize_get c.args.workers) in
+    let S : List ℕ → Type 0 = λ z.
+    AreKeptBusy graph c.in_ok-plan.plan.durations.items z made.workers.items (non_zero_usize_get c.args.workers) in
+    let W : List ℕ → Type 0 = λ z.
+    AreKeptBusy graph c.in_ok-plan.plan.durations.items shop.starts z (non_zero_usize_get c.args.workers) in
+    let C : ℕ → Type 0 = λ z. AreKeptBusy graph c.in_ok-plan.plan.durations.items shop.starts shop.workers z in
+    subst D (sym c.into_assignment.ensures.durations)
+    (subst S (sym c.into_assignment.ensures.starts)
+    (subst W (sym c.into_assignment.ensures.workers) (subst C c.get.ensures.value c.in_ok-shop.ensures.busy)))

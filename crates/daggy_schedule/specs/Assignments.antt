@@ -1,0 +1,52 @@
+-- Nodes that are done by workers, each of which does one node at a time.
+use Rattle.std.specs.Prelude.{◌≡◌, ◌≢◌, ℕ, ◌+◌, ◌-◌, ◌*◌, ◌^◌, ◌<◌, ◌≤◌, ◌⊎◌, List, slice_index}
+use Rattle.daggy_base.specs.Graph.{Graph, HasNode}
+use Rattle.std.specs.Ordering.{nat_cmp}
+use Rattle.daggy_base.specs.Path.{AreJoined}
+use Rattle.daggy_base.specs.Ordered.{IsOrderOf}
+use Rattle.daggy_schedule.specs.Times.{span, AreFeasible, AreDoneBy, AreLatest, IsCritical}
+use Rattle.daggy_schedule.specs.LeastFirst.{Precedes}
+
+-- Each node starts after its parents have finished, and is done by a worker below the count, who has either finished it
+-- when another starts or starts it when that has finished. The makespan is when the last node finishes.
+pub record IsAssignment {N E : Type 0} (g : Graph N E) (durations starts workers : List ℕ) (count makespan : ℕ) : Type 0 where
+  pub feasible : AreFeasible g durations (slice_index starts)
+  pub below : (n : ℕ) → HasNode g n → slice_index workers n < count
+  pub apart : (n m : ℕ) → HasNode g n → HasNode g m → n ≢ m → slice_index workers n ≡ slice_index workers m
+      → (slice_index starts n + slice_index durations n ≤ slice_index starts m)
+      ⊎ (slice_index starts m + slice_index durations m ≤ slice_index starts n)
+  pub met : AreDoneBy g durations (slice_index starts) makespan
+  pub last : ((n : ℕ) × HasNode g n × (slice_index starts n + slice_index durations n ≡ makespan))
+      ⊎ (((n : ℕ) → ¬ HasNode g n) × (makespan ≡ 0))
+
+-- no worker is idle while a node whose parents have finished waits
+abbrev pub AreKeptBusy : {N E : Type 0} → Graph N E → (durations starts workers : List ℕ) (count : ℕ) → Type 0
+AreKeptBusy g durations starts workers count =
+    (m time : ℕ) → HasNode g m
+    → ((u : ℕ) → AreJoined g u m → slice_index starts u + slice_index durations u ≤ time) → time < slice_index starts m
+    → (worker : ℕ) → worker < count
+    → (n : ℕ) × HasNode g n × (slice_index workers n ≡ worker) × (slice_index starts n ≤ time)
+    × (time < slice_index starts n + slice_index durations n)
+
+-- A node that starts while another waits, whose parents have finished before, comes first: by the latest starts with which
+-- all nodes can finish by some time if each waits for its parents alone, and then by the indices. The earlier its latest
+-- start, the longer is the longest path from a node.
+pub record IsMostUrgentFirst {N E : Type 0} (g : Graph N E) (durations starts : List ℕ) : Type 0 where
+  pub time : ℕ
+  pub latest : ℕ → ℕ
+  pub are_latest : AreLatest g durations latest time
+  pub first : (n m : ℕ) → HasNode g n → HasNode g m → slice_index starts n < slice_index starts m
+      → ((u : ℕ) → AreJoined g u m → slice_index starts u + slice_index durations u < slice_index starts n)
+      → Precedes nat_cmp (latest n, n) (latest m, m)
+
+-- Graham's bound: as many times the makespan as there are workers is at most all durations together, and one time less
+-- the durations along the longest path.
+pub record IsWithinBound {N E : Type 0} (g : Graph N E) (durations : List ℕ) (count makespan : ℕ) : Type 0 where
+  pub path : List ℕ
+  pub longest : ℕ
+  pub critical : IsCritical g durations path longest
+  pub bound : (order : List ℕ) → IsOrderOf g order → count * makespan ≤ span durations order + (count - 1) * longest
+
+-- the durations of all nodes sum up to 2 ^ 64 or more
+abbrev pub TakeTooLong : {N E : Type 0} → Graph N E → (durations : List ℕ) → Type 0
+TakeTooLong g durations = (order : List ℕ) → IsOrderOf g order → 2 ^ 64 ≤ span durations order

@@ -1,0 +1,64 @@
+-- Workers that do nodes: what waits and what is being done, with keys, and which workers are free.
+use Rattle.std.specs.Prelude.{◌≡◌, ℕ, ◌+◌, ◌<◌, ◌≤◌, ◌^◌, ◌⊎◌, List, [], ◌∷◌, ◌++◌, length, Contains, slice_index, slice_set, IsPermutation}
+use Rattle.std.specs.List.{AllByRecursion}
+use Rattle.std.specs.Ordering.{nat_cmp}
+use Rattle.daggy_schedule.specs.LeastFirst.{Precedes, nodes_of}
+
+-- Which nodes wait, with their latest starts; which are being done, with their finishes; who is free; when each node that
+-- was begun started, and by whom it is done; and what time it is.
+pub record Floor : Type 0 where
+  pub waiting : List (ℕ × ℕ)
+  pub running : List (ℕ × ℕ)
+  pub free : List ℕ
+  pub starts : List ℕ
+  pub workers : List ℕ
+  pub now : ℕ
+
+-- a node with its latest start waits
+pub record Waits (p : ℕ × ℕ) (old new : Floor) : Type 0 where
+  pub added : IsPermutation (p ∷ old.waiting) new.waiting
+  pub running : new.running ≡ old.running
+  pub free : new.free ≡ old.free
+  pub starts : new.starts ≡ old.starts
+  pub workers : new.workers ≡ old.workers
+  pub now : new.now ≡ old.now
+
+-- a worker that was free, or else the next one
+abbrev pub IsIdleWorker : (busy : ℕ) (free left : List ℕ) → ℕ → Type 0
+IsIdleWorker busy free left worker =
+    IsPermutation free (worker ∷ left) ⊎ ((free ≡ []) × (left ≡ []) × (worker ≡ busy))
+
+-- a node that waits is taken by a worker that does nothing
+pub record Begins (durations : List ℕ) (count : ℕ) (old new : Floor) : Type 0 where
+  pub key : ℕ
+  pub node : ℕ
+  pub finish : ℕ
+  pub worker : ℕ
+  pub taken : IsPermutation old.waiting ((key, node) ∷ new.waiting)
+  pub first : AllByRecursion (Precedes nat_cmp (key, node)) new.waiting
+  pub finish_is : finish ≡ old.now + slice_index durations node
+  pub added : IsPermutation ((finish, node) ∷ old.running) new.running
+  pub room : length old.running < count
+  pub hired : IsIdleWorker (length old.running) old.free new.free worker
+  pub starts : new.starts ≡ slice_set old.starts node old.now
+  pub workers : new.workers ≡ slice_set old.workers node worker
+  pub now : new.now ≡ old.now
+
+-- the node that finishes next does so, and its worker is free
+pub record Finishes (n : ℕ) (old new : Floor) : Type 0 where
+  pub taken : IsPermutation old.running ((new.now, n) ∷ new.running)
+  pub first : AllByRecursion (λ p. new.now ≤ p.0) new.running
+  pub free : new.free ≡ old.free ++ slice_index old.workers n ∷ []
+  pub waiting : new.waiting ≡ old.waiting
+  pub starts : new.starts ≡ old.starts
+  pub workers : new.workers ≡ old.workers
+
+-- no node can begin: none waits, all workers are busy, or a node has to be finished first
+abbrev pub IsStuck : (count : ℕ) → Floor → Type 0
+IsStuck count floor =
+    (floor.waiting ≡ []) ⊎ ((count ≤ length floor.running) ⊎ ((n : ℕ) × Contains floor.running (floor.now, n)))
+
+-- a node that waits would finish at 2 ^ 64 or later
+abbrev pub IsTooLate : (durations : List ℕ) → Floor → Type 0
+IsTooLate durations floor =
+    (n : ℕ) × Contains (nodes_of floor.waiting) n × (2 ^ 64 ≤ floor.now + slice_index durations n)

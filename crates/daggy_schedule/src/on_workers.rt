@@ -1,0 +1,147 @@
+//! Schedules on workers, each of which does one node at a time.
+ghost use Rattle.std.specs.Prelude.{◌≡◌, ◌<◌, ℕ, List, map, Err, IfOk, vec_len, length, slice_index};
+ghost use Rattle.std.specs.Int.NonZero.{non_zero_usize_get};
+ghost use Rattle.daggy_base.specs.Graph.{node_bound};
+ghost use Rattle.daggy_schedule.specs.Times.{CanCallAtEachNode, AreDurations, AreEarliest, AreLatest};
+ghost use Rattle.daggy_schedule.specs.Times.{AreDoneBy, IsCritical};
+ghost use Rattle.daggy_schedule.specs.Passes.{later_by};
+ghost use Rattle.daggy_schedule.specs.Assignments.{IsAssignment, AreKeptBusy, IsMostUrgentFirst};
+ghost use Rattle.daggy_schedule.specs.Assignments.{IsWithinBound, TakeTooLong};
+ghost use Rattle.daggy_schedule.specs.declared.schedule.ScheduleError.TheVariants.{Overflow};
+
+use crate::ready::Ready;
+use crate::schedule::{Schedule, ScheduleError};
+use daggy_base::index::{IndexType, NodeIndex};
+use daggy_base::store::Store;
+use daggy_dag::acyclic::Acyclic;
+use std::alloc::Global;
+use std::num::NonZeroUsize;
+
+mod shop;
+
+use shop::Shop;
+
+/// Which worker does each node, and when. The lists are by node index, with 0 where there is no
+/// node.
+#[derive(Debug, Drop)]
+pub struct Assignment {
+    /// How long each node takes.
+    pub durations: Vec<u64>,
+    /// When each node starts: all of its parents have finished, and its worker is free.
+    pub starts: Vec<u64>,
+    /// The worker that does each node. The first has number 0.
+    pub workers: Vec<usize>,
+    /// When all nodes have finished.
+    pub makespan: u64,
+}
+
+/// Assigns the nodes of a dag to workers, each of which does one node at a time. A worker that is free
+/// takes, of the nodes whose parents have all finished, the one from which the longest path leads, of
+/// equal ones the one with the smallest index. `durations` is called once with each node.
+///
+/// No way to do the nodes on as many workers takes less than half the time.
+///
+/// # Errors
+///
+/// Returns `ScheduleError::Overflow` only if the durations of all nodes sum up to 2^64 or more, and
+/// `ScheduleError::Memory` if an allocation fails.
+///
+/// # Complexity
+///
+/// O(nodes x log(nodes) + edges), plus the calls.
+///
+/// # Examples
+///
+/// ```
+/// let mut dag: Dag<u64, ()> = Dag::new(rt.alloc());
+/// let dig = dag.add_node(2)?;
+/// let (_, sow) = dag.add_child(dig, (), 3)?;
+/// let fence = dag.add_node(4)?;
+/// let plan = schedule_on(rt.alloc(), &dag, |_, hours| *hours, NonZeroUsize::MIN)?;
+/// assert!(rt; plan.makespan == 9);
+/// let two = NonZeroUsize::MIN.saturating_add(1);
+/// let plan = schedule_on(rt.alloc(), &dag, |_, hours| *hours, two)?;
+/// assert!(rt; plan.makespan == 5);
+/// assert!(rt; plan.workers[dig.index()] == plan.workers[sow.index()]);
+/// assert!(rt; plan.workers[fence.index()] == 1);
+/// ```
+pub fn schedule_on<N: Drop, E: Drop, Ix: IndexType, S, F: Fn(NodeIndex<Ix>, &N) -> u64>(
+    alloc: Global,
+    dag: &Acyclic<N, E, Ix, S>,
+    durations: F,
+    workers: NonZeroUsize,
+) -> Result<Assignment, ScheduleError>
+where
+    S: Store<Ix, NodeWeight = N, EdgeWeight = E>,
+    requires { CanCallAtEachNode Ix.of F.pre durations dag.now.graph }
+    ensures sized { IfOk result (λ a. (vec_len a.durations ≡ node_bound dag.now.graph)
+        × (vec_len a.starts ≡ node_bound dag.now.graph)
+        × (vec_len a.workers ≡ node_bound dag.now.graph)) }
+    ensures durations { IfOk result (λ a.
+        AreDurations Ix.of F.post durations dag.now.graph a.durations.items) }
+    ensures assigned { IfOk result (λ a. IsAssignment dag.now.graph a.durations.items a.starts.items
+        a.workers.items (non_zero_usize_get workers) a.makespan) }
+    ensures busy { IfOk result (λ a. AreKeptBusy dag.now.graph a.durations.items a.starts.items
+        a.workers.items (non_zero_usize_get workers)) }
+    ensures urgent { IfOk result (λ a.
+        IsMostUrgentFirst dag.now.graph a.durations.items a.starts.items) }
+    ensures bound { IfOk result (λ a. IsWithinBound dag.now.graph a.durations.items
+        (non_zero_usize_get workers) a.makespan) }
+    ensures overflow { result ≡ Err Overflow → (durations' : List ℕ)
+        × AreDurations Ix.of F.post durations dag.now.graph durations'
+        × TakeTooLong dag.now.graph durations' }
+{
+    let plan = Schedule::new(alloc, dag, durations)?;
+    let shop = work_off(alloc, dag, &plan, workers.get())?;
+    Ok(shop.into_assignment(plan.durations))
+}
+
+// Lets the workers do all nodes. Of the nodes that are ready, the one that has to start first for the
+// makespan of the plan is begun first.
+fn work_off<N: Drop, E: Drop, Ix: IndexType, S>(
+    alloc: Global,
+    dag: &Acyclic<N, E, Ix, S>,
+    plan: &Schedule<Ix>,
+    count: usize,
+) -> Result<Shop<Ix>, ScheduleError>
+where
+    S: Store<Ix, NodeWeight = N, EdgeWeight = E>,
+    requires some { 0 < count }
+    requires durations { vec_len plan.now.durations ≡ node_bound dag.now.graph }
+    requires starts { vec_len plan.now.starts ≡ node_bound dag.now.graph }
+    requires slack { vec_len plan.now.slack ≡ node_bound dag.now.graph }
+    requires earliest { AreEarliest dag.now.graph plan.now.durations.items
+        (slice_index plan.now.starts.items) }
+    requires latest { AreLatest dag.now.graph plan.now.durations.items
+        (later_by plan.now.starts.items plan.now.slack.items) plan.now.makespan }
+    requires met { AreDoneBy dag.now.graph plan.now.durations.items
+        (slice_index plan.now.starts.items) plan.now.makespan }
+    requires critical { IsCritical dag.now.graph plan.now.durations.items
+        (map Ix.number plan.now.critical.items) plan.now.makespan }
+    ensures sized { IfOk result (λ s. (length s.starts ≡ node_bound dag.now.graph)
+        × (length s.workers ≡ node_bound dag.now.graph)) }
+    ensures assigned { IfOk result (λ s. IsAssignment dag.now.graph plan.now.durations.items s.starts
+        s.workers count s.now) }
+    ensures busy { IfOk result (λ s. AreKeptBusy dag.now.graph plan.now.durations.items s.starts
+        s.workers count) }
+    ensures urgent { IfOk result (λ s.
+        IsMostUrgentFirst dag.now.graph plan.now.durations.items s.starts) }
+    ensures bound { IfOk result (λ s.
+        IsWithinBound dag.now.graph plan.now.durations.items count s.now) }
+    ensures overflow { result ≡ Err Overflow
+        → TakeTooLong dag.now.graph plan.now.durations.items }
+{
+    let mut ready = Ready::new(alloc, dag)?;
+    let mut shop = Shop::new(alloc, dag.graph().node_bound())?;
+    'events: loop {
+        'ready: while let Some(n) = ready.next(dag) {
+            let i = n.index();
+            shop.add(plan.starts[i] + plan.slack[i], n)?;
+        }
+        'begin: while shop.begin_next(plan.durations.as_slice(), count)? {}
+        let Some(n) = shop.finish_next()? else {
+            return Ok(shop);
+        };
+        ready.done(dag, n);
+    }
+}

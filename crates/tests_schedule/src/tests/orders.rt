@@ -1,0 +1,53 @@
+//! Orders by keys that were worked out by hand.
+use super::support::{Plain, dag_of, holds, lists, made, node};
+use daggy_base::store::Store;
+use daggy_graph::graph::DiGraph;
+use daggy_schedule::order_by::topological_order_by;
+use daggy_stable::stable_graph::StableDiGraph;
+use std::alloc::Global;
+use std::cmp::Reverse;
+use std::process::Abort;
+
+fn orders<S: Store<u32, NodeWeight = u64, EdgeWeight = ()>>(rt: &impl Abort, alloc: Global) {
+    let none = dag_of::<S>(rt, alloc, &[], &[]);
+    let order = made(rt, topological_order_by(alloc, &none, |_, key| *key));
+    lists(rt, order.as_slice(), &[]);
+    // Node 4 waits for node 0, and node 1 for node 4.
+    let edges = [(0, 4), (4, 1), (2, 3), (0, 4)];
+    let dag = dag_of::<S>(rt, alloc, &[7, 1, 5, 5, 2, 5], &edges);
+    let order = made(rt, topological_order_by(alloc, &dag, |_, key| *key));
+    lists(rt, order.as_slice(), &[2, 3, 5, 0, 4, 1]);
+    let order = made(rt, topological_order_by(alloc, &dag, |_, key| Reverse(*key)));
+    lists(rt, order.as_slice(), &[0, 2, 3, 5, 4, 1]);
+    // All keys are equal: the smallest index comes first.
+    let order = made(rt, topological_order_by(alloc, &dag, |_, _| ()));
+    lists(rt, order.as_slice(), &[0, 2, 3, 4, 1, 5]);
+}
+
+// The order of two dags that are alike is the same, whatever the order of their edges.
+fn orders_alike<S: Store<u32, NodeWeight = u64, EdgeWeight = ()>>(rt: &impl Abort, alloc: Global) {
+    let first = dag_of::<S>(rt, alloc, &[0; 5], &[(3, 0), (3, 1), (3, 4), (2, 4)]);
+    let second = dag_of::<S>(rt, alloc, &[0; 5], &[(2, 4), (3, 4), (3, 1), (3, 0)]);
+    for dag in [first, second] {
+        let order = made(rt, topological_order_by(alloc, &dag, |n, _| n.index() % 2));
+        lists(rt, order.as_slice(), &[2, 3, 0, 4, 1]);
+    }
+}
+
+#[test]
+fn orders_of_dags(rt: HostRuntime) {
+    orders::<DiGraph<u64, (), u32>>(&rt, rt.alloc());
+    orders_alike::<DiGraph<u64, (), u32>>(&rt, rt.alloc());
+}
+
+#[test]
+fn orders_of_stable_dags(rt: HostRuntime) {
+    let alloc = rt.alloc();
+    orders::<StableDiGraph<u64, (), u32>>(&rt, alloc);
+    orders_alike::<StableDiGraph<u64, (), u32>>(&rt, alloc);
+    let edges = [(3, 1), (1, 0), (3, 2)];
+    let mut dag = dag_of::<StableDiGraph<u64, (), u32>>(&rt, alloc, &[9, 1, 4, 6], &edges);
+    holds(&rt, dag.remove_node(node(&rt, 1)).is_some());
+    let order = made(&rt, topological_order_by(alloc, &dag, |_, key| *key));
+    lists(&rt, order.as_slice(), &[3, 2, 0]);
+}
