@@ -1,0 +1,8 @@
+pub mod Members
+pub mod Edges
+pub mod Fresh
+pub mod Marks
+pub mod Meeting
+pub mod Begin
+pub mod Breadth
+pub mod Reaching

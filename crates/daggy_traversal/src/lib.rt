@@ -1,0 +1,5 @@
+//! Walks over the nodes that one node reaches: breadth first, depth first, and in postorder.
+#![tactic(auto)]
+
+pub mod bfs;
+mod neighbors;
