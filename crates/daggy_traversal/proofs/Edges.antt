@@ -1,6 +1,6 @@
 -- What is left of the list of a node, from one of its edges on.
 use Rattle.std.proofs.Common.{◌≡◌, ◌≢◌, ℕ, ◌<◌, ◌⊎◌, inl, inr, Option, Some, None, List, [], ◌∷◌, eqb}
-use Rattle.std.proofs.Common.{map, refl, sym, ap, subst, ◌∙◌, arith, if◌then◌else◌}
+use Rattle.std.proofs.Common.{map, refl, sym, ap, subst, ◌∙◌, arith}
 use Rattle.std.proofs.lemmas.Bool.{cond-true, cond-false, eq-eqb, ne_eqb, cases_eq}
 use Rattle.daggy_base.specs.declared.index.Direction.{Direction}
 use Rattle.daggy_base.specs.declared.index.Direction.TheVariants.{Outgoing, Incoming}
@@ -9,25 +9,20 @@ use Rattle.daggy_base.specs.WellFormed.{IsWellFormed}
 use Rattle.daggy_base.specs.Cursor.{first_of, after}
 use Rattle.daggy_base.proofs.Lists.{Mem, Unique, mem_contains, contains_mem, unique_from_distinct}
 use Rattle.daggy_base.proofs.OutEdgesRead.{edge_below, below_bound}
-use Rattle.daggy_traversal.specs.Traversal.{LeadsTo, IsNeighbor, neighbors, far_or}
+use Rattle.daggy_traversal.specs.Traversal.{LeadsTo, IsNeighbor, neighbors, far_or, rest_from, edges_left, neighbors_left}
 use Rattle.daggy_traversal.proofs.Members.{mem_map, mem_of_map}
 
--- a list from a member on
-abbrev pub from : (xs : List ℕ) (e : ℕ) → List ℕ
-from [] e = []
-from (x ∷ xs) e = if eqb x e then x ∷ xs else from xs e
+from_here : (xs : List ℕ) (x e : ℕ) → x ≡ e → rest_from (x ∷ xs) e ≡ x ∷ xs
+from_here xs x e h = cond-true {A = List ℕ} (eqb x e) (x ∷ xs) (rest_from xs e) (eq-eqb x e h)
 
-from_here : (xs : List ℕ) (x e : ℕ) → x ≡ e → from (x ∷ xs) e ≡ x ∷ xs
-from_here xs x e h = cond-true {A = List ℕ} (eqb x e) (x ∷ xs) (from xs e) (eq-eqb x e h)
+from_there : (xs : List ℕ) (x e : ℕ) → x ≢ e → rest_from (x ∷ xs) e ≡ rest_from xs e
+from_there xs x e h = cond-false {A = List ℕ} (eqb x e) (x ∷ xs) (rest_from xs e) (ne_eqb x e h)
 
-from_there : (xs : List ℕ) (x e : ℕ) → x ≢ e → from (x ∷ xs) e ≡ from xs e
-from_there xs x e h = cond-false {A = List ℕ} (eqb x e) (x ∷ xs) (from xs e) (ne_eqb x e h)
-
-from_first : (xs : List ℕ) (end : ℕ) → from xs (first_of end xs) ≡ xs
+from_first : (xs : List ℕ) (end : ℕ) → rest_from xs (first_of end xs) ≡ xs
 from_first [] end = refl
 from_first (x ∷ xs) end = from_here xs x x refl
 
-from_none : (xs : List ℕ) (end : ℕ) → (Mem end xs → ⊥) → from xs end ≡ []
+from_none : (xs : List ℕ) (end : ℕ) → (Mem end xs → ⊥) → rest_from xs end ≡ []
 from_none [] end none = refl
 from_none (x ∷ xs) end none =
     from_there xs x end (λ h. none (inl (sym h))) ∙ from_none xs end (λ m. none (inr m))
@@ -57,7 +52,7 @@ after_mem (x ∷ xs) e end =
       ])
     ]
 
-from_after : (xs : List ℕ) (e end : ℕ) → Unique xs → (Mem end xs → ⊥) → Mem e xs → from xs e ≡ e ∷ from xs (after end xs e)
+from_after : (xs : List ℕ) (e end : ℕ) → Unique xs → (Mem end xs → ⊥) → Mem e xs → rest_from xs e ≡ e ∷ rest_from xs (after end xs e)
 from_after [] e end u none m = absurd m
 from_after (x ∷ xs) e end u none m =
     elim (cases_eq x e) [
@@ -69,7 +64,7 @@ from_after (x ∷ xs) e end u none m =
           ] in
           from_here xs x e same
           ∙ (ap (λ z. z ∷ xs) same
-          ∙ sym (ap (λ z. e ∷ from (x ∷ xs) z) next
+          ∙ sym (ap (λ z. e ∷ rest_from (x ∷ xs) z) next
           ∙ ap (λ z. e ∷ z) (from_there xs x (first_of end xs) apart ∙ from_first xs end)))
           )
       | inr other ↦ (
@@ -81,18 +76,9 @@ from_after (x ∷ xs) e end u none m =
           let there : Mem e xs = elim m [ inl h ↦ absurd (other (sym h)) | inr b ↦ b ] in
           from_there xs x e other
           ∙ (from_after xs e end u.1 (λ b. none (inr b)) there
-          ∙ sym (ap (λ z. e ∷ from (x ∷ xs) z) next ∙ ap (λ z. e ∷ z) (from_there xs x (after end xs e) apart)))
+          ∙ sym (ap (λ z. e ∷ rest_from (x ∷ xs) z) next ∙ ap (λ z. e ∷ z) (from_there xs x (after end xs e) apart)))
           )
     ]
-
--- the edges of a list from one of them on, which tells the list
-abbrev pub edges_left : {N E : Type 0} → Direction → Graph N E → (e : ℕ) → Option (Edge E) → List ℕ
-edges_left dir g e None = []
-edges_left dir g e (Some x) = from (list_at dir g (near_end dir x)) e
-
--- the neighbors at these edges
-abbrev pub left : {N E : Type 0} → Direction → Graph N E → (e : ℕ) → List ℕ
-left dir g e = map (λ k. far_or dir (edge_at g k)) (edges_left dir g e (edge_at g e))
 
 module _ {N E : Type 0} {end : ℕ} {g : Graph N E} (w : IsWellFormed end g) where
   listed_by : (dir : Direction) (n e : ℕ)
@@ -140,44 +126,44 @@ module _ {N E : Type 0} {end : ℕ} {g : Graph N E} (w : IsWellFormed end g) (di
       let P : ℕ → Type 0 = λ z. HasNode g z in
       below_bound g.nodes v (subst P (sym step.far) (far_by w dir step.edge e step.at))
 
-  edges_at : (n e : ℕ) → (e ≡ end) ⊎ Mem e (list_at dir g n) → edges_left dir g e (edge_at g e) ≡ from (list_at dir g n) e
+  edges_at : (n e : ℕ) → (e ≡ end) ⊎ Mem e (list_at dir g n) → edges_left dir g e (edge_at g e) ≡ rest_from (list_at dir g n) e
   edges_at n e h =
       elim h [
         | inl is ↦ (
-            let P : ℕ → Type 0 = λ z. edges_left dir g z (edge_at g z) ≡ from (list_at dir g n) z in
+            let P : ℕ → Type 0 = λ z. edges_left dir g z (edge_at g z) ≡ rest_from (list_at dir g n) z in
             subst P (sym is) (by_edge (edge_at g end) refl)
             )
         | inr m ↦ (
             let p = listed_edge n e m in
-            ap (λ z. edges_left dir g e z) p.1 ∙ ap (λ z. from (list_at dir g z) e) p.2
+            ap (λ z. edges_left dir g e z) p.1 ∙ ap (λ z. rest_from (list_at dir g z) e) p.2
             )
       ]
     where
-      by_edge : (o : Option (Edge E)) → edge_at g end ≡ o → edges_left dir g end o ≡ from (list_at dir g n) end
+      by_edge : (o : Option (Edge E)) → edge_at g end ≡ o → edges_left dir g end o ≡ rest_from (list_at dir g n) end
       by_edge None is = sym (from_none (list_at dir g n) end (no_end n))
       by_edge (Some x) is = absurd (omega (arith, edge_below end g w end x is))
 
   -- from the first edge on all neighbors are left
-  pub left_first : (n e : ℕ) → e ≡ first_of end (list_at dir g n) → left dir g e ≡ neighbors dir g n
+  pub left_first : (n e : ℕ) → e ≡ first_of end (list_at dir g n) → neighbors_left dir g e ≡ neighbors dir g n
   left_first n e is =
       let P : ℕ → Type 0 = λ z. (z ≡ end) ⊎ Mem z (list_at dir g n) in
       ap (λ z. map (λ k. far_or dir (edge_at g k)) z)
       (edges_at n e (subst P (sym is) (first_mem (list_at dir g n) end))
-      ∙ (ap (λ z. from (list_at dir g n) z) is ∙ from_first (list_at dir g n) end))
+      ∙ (ap (λ z. rest_from (list_at dir g n) z) is ∙ from_first (list_at dir g n) end))
 
   -- one neighbor less
-  pub left_next : {e v next : ℕ} → IsNeighbor dir end g e v next → left dir g e ≡ v ∷ left dir g next
+  pub left_next : {e v next : ℕ} → IsNeighbor dir end g e v next → neighbors_left dir g e ≡ v ∷ neighbors_left dir g next
   left_next {e} {v} {next} step =
       let n = near_end dir step.edge in
       let xs = list_at dir g n in
       let m : Mem e xs = edge_listed e step.edge step.at in
       let far : ℕ → ℕ = λ k. far_or dir (edge_at g k) in
       let P : ℕ → Type 0 = λ z. (z ≡ end) ⊎ Mem z xs in
-      let after_is : edges_left dir g next (edge_at g next) ≡ from xs (after end xs e) =
-      edges_at n next (subst P (sym step.next_is) (after_mem xs e end)) ∙ ap (λ z. from xs z) step.next_is in
+      let after_is : edges_left dir g next (edge_at g next) ≡ rest_from xs (after end xs e) =
+      edges_at n next (subst P (sym step.next_is) (after_mem xs e end)) ∙ ap (λ z. rest_from xs z) step.next_is in
       let here : far e ≡ v = ap (λ o. far_or dir o) step.at ∙ sym step.far in
       ap (map far) (edges_at n e (inr m) ∙ from_after xs e end (list_once n) (no_end n) m)
-      ∙ (ap (λ z. z ∷ map far (from xs (after end xs e))) here ∙ ap (λ z. v ∷ map far z) (sym after_is))
+      ∙ (ap (λ z. z ∷ map far (rest_from xs (after end xs e))) here ∙ ap (λ z. v ∷ map far z) (sym after_is))
 
   pub neighbor_leads : (n v : ℕ) → Mem v (neighbors dir g n) → LeadsTo dir g n v
   neighbor_leads n v m =

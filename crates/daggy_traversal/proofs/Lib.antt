@@ -1,3 +1,4 @@
+mod Nothing
 pub mod Members
 pub mod Edges
 pub mod Fresh
@@ -5,4 +6,7 @@ pub mod Marks
 pub mod Meeting
 pub mod Begin
 pub mod Breadth
+pub mod Others
+pub mod Descending
+pub mod Depth
 pub mod Reaching

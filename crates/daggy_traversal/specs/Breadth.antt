@@ -1,9 +1,7 @@
 -- Walks breadth first.
-use Rattle.std.specs.Prelude.{◌≡◌, ℕ, ◌≤◌, ◌+◌, ◌↔◌, Bool, Option, List, [], ◌∷◌, ◌++◌, Contains, if◌then◌else◌}
+use Rattle.std.specs.Prelude.{◌≡◌, ℕ, ◌≤◌, ◌+◌, Option, List, [], ◌∷◌, ◌++◌, Contains, if◌then◌else◌}
 use Rattle.daggy_base.specs.declared.index.Direction.{Direction}
 use Rattle.daggy_base.specs.Graph.{Graph, node_bound}
-use Rattle.daggy_base.specs.WellFormed.{AreDistinct}
-use Rattle.daggy_walk.specs.Visit.{IsVisited}
 use Rattle.daggy_traversal.specs.Traversal.{LeadsFar, IsAway, neighbors, is_among, first_new, begin}
 
 -- A walk breadth first: the node that it starts from; its direction; the nodes that were given, in turn; those that were
@@ -50,8 +48,3 @@ pub record IsBreadthFirst {N E : Type 0} (g : Graph N E) (walk : Breadth) : Type
   pub close : (m n : ℕ) → Contains walk.waiting m → Contains walk.waiting n
       → IsWithin g walk.dir walk.start 1 m n
   pub room : node_bound g ≤ walk.bound
-
--- the set has the nodes of the list, each of which is there once
-pub record AreMarked (set : List Bool) (nodes : List ℕ) : Type 0 where
-  pub exact : (n : ℕ) → IsVisited set n ↔ Contains nodes n
-  pub once : AreDistinct nodes

@@ -3,8 +3,8 @@ ghost use Rattle.std.specs.Prelude.{◌≡◌, ℕ, ◌≤◌, ◌↔◌, ◌∷
 ghost use Rattle.std.specs.Prelude.{IsNone, IfNone, IfSome, IfOk};
 ghost use Rattle.std.specs.Option.{option_map};
 ghost use Rattle.daggy_base.specs.Graph.{node_bound};
-ghost use Rattle.daggy_traversal.specs.Traversal.{LeadsFar, neighbors, AreAllGiven};
-ghost use Rattle.daggy_traversal.specs.Breadth.{IsBreadthFirst, IsWithin, AreMarked};
+ghost use Rattle.daggy_traversal.specs.Traversal.{LeadsFar, neighbors, AreAllGiven, AreMarked};
+ghost use Rattle.daggy_traversal.specs.Breadth.{IsBreadthFirst, IsWithin};
 ghost use Rattle.daggy_traversal.specs.Breadth.{next_in_breadth, fresh};
 
 use crate::neighbors::next_neighbor;
@@ -48,7 +48,8 @@ pub struct Bfs<Ix: IndexType = DefaultIx> {
 
 impl<Ix: IndexType> Model for Bfs<Ix> {
     ghost use Rattle.std.specs.Prelude.{◌≤◌, take, drop, length, vec_capacity};
-    ghost use Rattle.daggy_traversal.specs.Breadth.{Breadth, AreMarked};
+    ghost use Rattle.daggy_traversal.specs.Breadth.{Breadth};
+    ghost use Rattle.daggy_traversal.specs.Traversal.{AreMarked};
 
     ghost Value = { Breadth };
 

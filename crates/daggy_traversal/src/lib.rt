@@ -2,4 +2,6 @@
 #![tactic(auto)]
 
 pub mod bfs;
+pub mod dfs;
+mod given;
 mod neighbors;

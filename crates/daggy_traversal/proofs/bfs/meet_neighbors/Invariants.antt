@@ -1,7 +1,6 @@
 use Rattle.std.proofs.Common.{◌≤◌, length, vec_capacity}
-use Rattle.daggy_traversal.specs.Traversal.{neighbors}
+use Rattle.daggy_traversal.specs.Traversal.{neighbors, neighbors_left}
 use Rattle.daggy_traversal.proofs.Fresh.{with_fresh}
-use Rattle.daggy_traversal.proofs.Edges.{left}
 use Rattle.daggy_traversal.proofs.Meeting.{Meeting}
 use Rattle.daggy_traversal.proofs.bfs.meet_neighbors.Given as goal
 
@@ -16,4 +15,4 @@ invariant-edges g l =
     }
 
 abbrev pub decreases-edges : goal.decreases-edges
-decreases-edges g l = length (left l.dir (g.S.EdgeSource.graph l.graph) (g.Ix.IndexType.number l.e))
+decreases-edges g l = length (neighbors_left l.dir (g.S.EdgeSource.graph l.graph) (g.Ix.IndexType.number l.e))

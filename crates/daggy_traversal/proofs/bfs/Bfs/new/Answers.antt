@@ -3,7 +3,7 @@ use Rattle.std.proofs.Common.{vec_capacity}
 use Rattle.std.proofs.lemmas.Bool.{false≢true}
 use Rattle.daggy_base.proofs.OutEdgesRead.{below_bound}
 use Rattle.daggy_traversal.specs.Traversal.{begin}
-use Rattle.daggy_traversal.specs.Breadth.{AreMarked}
+use Rattle.daggy_traversal.specs.Traversal.{AreMarked}
 use Rattle.daggy_traversal.proofs.Begin.{begin_here, begin_none}
 use Rattle.daggy_traversal.proofs.Marks.{marked_none, marked_more, marked_by}
 use Rattle.daggy_traversal.proofs.Breadth.{breadth_begins}
