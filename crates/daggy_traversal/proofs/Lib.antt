@@ -9,4 +9,7 @@ pub mod Breadth
 pub mod Others
 pub mod Descending
 pub mod Depth
+pub mod Seeking
+pub mod GoingDown
+pub mod Postorder
 pub mod Reaching

@@ -19,6 +19,10 @@ module _ {N E : Type 0} {end : ℕ} {g : Graph N E} (w : IsWellFormed end g) whe
   far_node Outgoing u v j = child_exists u v j
   far_node Incoming u v j = parent_exists v u j
 
+  pub near_node : (dir : Direction) (u v : ℕ) → LeadsTo dir g u v → HasNode g u
+  near_node Outgoing u v j = parent_exists u v j
+  near_node Incoming u v j = child_exists v u j
+
   -- one edge more
   pub leads_farther : (dir : Direction) (a u v : ℕ) → LeadsFar dir g a u → LeadsTo dir g u v → LeadsFar dir g a v
   leads_farther Outgoing a u v r j = reaches_more g a u v r j (child_exists u v j)

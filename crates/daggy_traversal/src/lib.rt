@@ -5,3 +5,4 @@ pub mod bfs;
 pub mod dfs;
 mod given;
 mod neighbors;
+pub mod post_order;
