@@ -1,0 +1,42 @@
+-- Walks depth first.
+use Rattle.std.specs.Prelude.{◌≡◌, ℕ, ◌≤◌, Bool, true, Option, List, [], ◌∷◌, ◌++◌, length, Contains, if◌then◌else◌}
+use Rattle.daggy_base.specs.declared.index.Direction.{Direction}
+use Rattle.daggy_base.specs.Graph.{Graph, HasNode, node_bound}
+use Rattle.daggy_base.specs.WellFormed.{AreDistinct}
+use Rattle.daggy_traversal.specs.Traversal.{LeadsFar, neighbors, neighbors_left, without_old, first_new, begin}
+
+-- A walk depth first: the node that it starts from; its direction; the nodes that were given, in turn; whether the start
+-- is still to come; of each node on the way to the one given last, the edge to look at next; and a bound of the indices
+-- that it has room for.
+pub record Depth : Type 0 where
+  pub start : ℕ
+  pub dir : Direction
+  pub given : List ℕ
+  pub waits : Bool
+  pub cursors : List ℕ
+  pub bound : ℕ
+
+-- the neighbors of the nodes of a list, those of its last node first
+abbrev pub neighbors_back : {N E : Type 0} → Direction → Graph N E → List ℕ → List ℕ
+neighbors_back dir g [] = []
+neighbors_back dir g (n ∷ ns) = neighbors_back dir g ns ++ neighbors dir g n
+
+-- The node that comes next: the first that was not given among the neighbors of the given nodes, those of the node given
+-- last first, and then the start.
+abbrev pub next_in_depth : {N E : Type 0} → Graph N E → Direction → (start : ℕ) (given : List ℕ) → Option ℕ
+next_in_depth g dir start given = first_new given (neighbors_back dir g given ++ begin g start)
+
+-- the neighbors that are left at some cursors, those at the last cursor first
+abbrev pub ahead : {N E : Type 0} → Direction → Graph N E → (cursors : List ℕ) → List ℕ
+ahead dir g [] = []
+ahead dir g (e ∷ es) = ahead dir g es ++ neighbors_left dir g e
+
+-- A walk over this graph. What the cursors leave of the neighbors of the given nodes are all those that were not given.
+pub record IsDepthFirst {N E : Type 0} (g : Graph N E) (walk : Depth) : Type 0 where
+  pub left : without_old walk.given (ahead walk.dir g walk.cursors ++ (if walk.waits then walk.start ∷ [] else []))
+      ≡ without_old walk.given (neighbors_back walk.dir g walk.given ++ begin g walk.start)
+  pub once : AreDistinct walk.given
+  pub reached : (n : ℕ) → Contains walk.given n → LeadsFar walk.dir g walk.start n
+  pub first : walk.waits ≡ true → HasNode g walk.start × (walk.given ≡ []) × (walk.cursors ≡ [])
+  pub few : length walk.cursors ≤ length walk.given
+  pub room : node_bound g ≤ walk.bound

@@ -1,0 +1,4 @@
+pub mod Traversal
+pub mod Breadth
+pub mod Depth
+pub mod Postorder

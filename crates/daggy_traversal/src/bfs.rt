@@ -1,0 +1,167 @@
+//! Walking breadth first.
+ghost use Rattle.std.specs.Prelude.{◌≡◌, ℕ, ◌≤◌, ◌↔◌, ◌∷◌, ◌++◌, [], length, vec_capacity, Contains};
+ghost use Rattle.std.specs.Prelude.{IsNone, IfNone, IfSome, IfOk};
+ghost use Rattle.std.specs.Option.{option_map};
+ghost use Rattle.daggy_base.specs.Graph.{node_bound};
+ghost use Rattle.daggy_traversal.specs.Traversal.{LeadsFar, neighbors, AreAllGiven, AreMarked};
+ghost use Rattle.daggy_traversal.specs.Breadth.{IsBreadthFirst, IsWithin};
+ghost use Rattle.daggy_traversal.specs.Breadth.{next_in_breadth, fresh};
+
+use crate::neighbors::next_neighbor;
+use daggy_base::index::{DefaultIx, Direction, IndexType, NodeIndex};
+use daggy_base::link::Link;
+use daggy_base::store::Store;
+use daggy_walk::visit::NodeSet;
+use std::alloc::{AllocError, Global};
+use std::marker::Model;
+
+/// The nodes that a node reaches, breadth first: a node that fewer edges lead to comes earlier.
+///
+/// It does not borrow the graph; each step borrows it for that step. Until the walk ends, no node
+/// and no edge may be added or removed.
+///
+/// The calls say that the walk on this graph is under way, and ask for that. A struct that keeps
+/// both states it once, as `ghost under_way: { IsBreadthFirst (S.graph graph.now) walk }`.
+///
+/// # Complexity
+///
+/// O(nodes + edges) for a whole walk, with at most one look at each edge. [`new`](Bfs::new)
+/// allocates all the memory; no other call does.
+///
+/// # Examples
+///
+/// ```
+/// let mut walk = Bfs::new(rt.alloc(), dag.graph(), sow, Direction::Outgoing)?;
+/// while let Some(n) = walk.next(dag.graph()) {
+///     println!(rt; "{}", n.index())?;
+/// }
+/// ```
+#[derive(Debug, Drop)]
+pub struct Bfs<Ix: IndexType = DefaultIx> {
+    start: NodeIndex<Ix>,
+    dir: Direction,
+    // The nodes that were met, in turn. Those before `head` were given.
+    queue: Vec<Link<Ix>>,
+    head: usize,
+    met: NodeSet<Ix>,
+}
+
+impl<Ix: IndexType> Model for Bfs<Ix> {
+    ghost use Rattle.std.specs.Prelude.{◌≤◌, take, drop, length, vec_capacity};
+    ghost use Rattle.daggy_traversal.specs.Breadth.{Breadth};
+    ghost use Rattle.daggy_traversal.specs.Traversal.{AreMarked};
+
+    ghost Value = { Breadth };
+
+    ghost view = { λ b. record {
+      start = Ix.number b.start;
+      dir = b.dir;
+      given = take b.head b.queue.items;
+      waiting = drop b.head b.queue.items;
+      bound = length b.met;
+    } };
+
+    ghost invariant = { λ b. AreMarked b.met b.queue.items
+        × (b.head ≤ length b.queue.items) × (length b.met ≤ vec_capacity b.queue) };
+}
+
+impl<Ix: IndexType> Bfs<Ix> {
+    /// A walk that starts from the node `start`, along the edges or against them. If the node does
+    /// not exist, the walk gives nothing.
+    ///
+    /// # Errors
+    ///
+    /// Returns `AllocError` if an allocation fails.
+    ///
+    /// # Complexity
+    ///
+    /// O(nodes / 64).
+    pub fn new<S: Store<Ix>>(
+        alloc: Global,
+        graph: &S,
+        start: NodeIndex<Ix>,
+        dir: Direction,
+    ) -> Result<Self, AllocError>
+        ensures start { IfOk result (λ walk. walk.start ≡ Ix.number start) }
+        ensures dir { IfOk result (λ walk. walk.dir ≡ dir) }
+        ensures none_given { IfOk result (λ walk. walk.given ≡ []) }
+        ensures under_way { IfOk result (λ walk. IsBreadthFirst (S.graph graph.now) walk) }
+    {
+        let bound = graph.node_bound();
+        let mut met = NodeSet::new(alloc, bound)?;
+        let mut queue = Vec::with_capacity(alloc, bound)?;
+        if graph.contains_node(start) {
+            let _new = met.visit(start);
+            queue.push_reserved(Link::of_node(start));
+        }
+        Ok(Bfs {
+            start,
+            dir,
+            queue,
+            head: 0,
+            met,
+        })
+    }
+
+    /// Gives the next node, or `None` if all nodes that the start reaches were given.
+    ///
+    /// The start comes first. The neighbors of a node come in the order of its list, after those of
+    /// each node that came before it.
+    ///
+    /// # Complexity
+    ///
+    /// O(edges in the list of the node).
+    pub fn next<S: Store<Ix>>(&mut self, graph: &S) -> Option<NodeIndex<Ix>>
+        requires { IsBreadthFirst (S.graph graph.now) self.old }
+        ensures next { option_map Ix.number result
+            ≡ next_in_breadth (S.graph graph.now) self.old.dir self.old.start self.old.given }
+        ensures none { IsNone result
+            ↔ AreAllGiven (S.graph graph.now) self.old.dir self.old.start self.old.given }
+        ensures reached { IfSome result (λ n.
+            LeadsFar self.old.dir (S.graph graph.now) self.old.start (Ix.number n)) }
+        ensures once { IfSome result (λ n. ¬ Contains self.old.given (Ix.number n)) }
+        ensures distance { IfSome result (λ n. (m : ℕ) → Contains self.old.given m
+            → IsWithin (S.graph graph.now) self.old.dir self.old.start 0 m (Ix.number n)) }
+        ensures given { IfSome result (λ n. self.new.given ≡ self.old.given ++ Ix.number n ∷ []) }
+        ensures unchanged { IfNone result (self.new ≡ self.old) }
+        ensures start { self.new.start ≡ self.old.start }
+        ensures dir { self.new.dir ≡ self.old.dir }
+        ensures under_way { IsBreadthFirst (S.graph graph.now) self.new }
+    {
+        graph.invariant();
+        if self.head == self.queue.len() {
+            return None;
+        }
+        let n = self.queue[self.head].node();
+        self.head += 1;
+        meet_neighbors(graph, self.dir, n, &mut self.queue, &mut self.met);
+        Some(n)
+    }
+}
+
+// Queues the neighbors of a node that were not met.
+fn meet_neighbors<Ix: IndexType, S: Store<Ix>>(
+    graph: &S,
+    dir: Direction,
+    n: NodeIndex<Ix>,
+    queue: &mut Vec<Link<Ix>>,
+    met: &mut NodeSet<Ix>,
+)
+    requires bound { node_bound (S.graph graph.now) ≤ length met.old }
+    requires room { length met.old ≤ vec_capacity queue.old }
+    requires marked { AreMarked met.old queue.old.items }
+    ensures met { queue.new.items ≡ queue.old.items
+        ++ fresh queue.old.items (neighbors dir (S.graph graph.now) (Ix.number n)) }
+    ensures marked { AreMarked met.new queue.new.items }
+    ensures bound { length met.new ≡ length met.old }
+    ensures room { length met.old ≤ vec_capacity queue.new }
+{
+    graph.invariant();
+    let mut e = graph.first_edge(n, dir);
+    'edges: while let Some((v, next)) = next_neighbor(graph, dir, e) {
+        e = next;
+        if met.visit(v) {
+            queue.push_reserved(Link::of_node(v));
+        }
+    }
+}

@@ -1,0 +1,193 @@
+//! Walking depth first.
+ghost use Rattle.std.specs.Prelude.{◌≡◌, ℕ, ◌≤◌, ◌↔◌, ◌∷◌, ◌++◌, [], length, vec_capacity, Contains};
+ghost use Rattle.std.specs.Prelude.{IsNone, IfNone, IfSome, IfOk};
+ghost use Rattle.std.specs.Option.{option_map};
+ghost use Rattle.daggy_base.specs.Graph.{HasNode, node_bound};
+ghost use Rattle.daggy_traversal.specs.Traversal.{LeadsFar, neighbors, AreAllGiven, AreMarked};
+ghost use Rattle.daggy_traversal.specs.Traversal.{first_new, without_old};
+ghost use Rattle.daggy_traversal.specs.Depth.{IsDepthFirst, next_in_depth, ahead};
+
+use crate::given::Given;
+use crate::neighbors::next_neighbor;
+use daggy_base::index::{DefaultIx, Direction, IndexType, NodeIndex};
+use daggy_base::link::Link;
+use daggy_base::store::Store;
+use daggy_walk::visit::NodeSet;
+use std::alloc::{AllocError, Global};
+use std::marker::Model;
+
+/// The nodes that a node reaches, depth first and in preorder: each node comes before those that
+/// are reached through it.
+///
+/// It does not borrow the graph; each step borrows it for that step. Until the walk ends, no node
+/// and no edge may be added or removed.
+///
+/// The calls say that the walk on this graph is under way, and ask for that. A struct that keeps
+/// both states it once, as `ghost under_way: { IsDepthFirst (S.graph graph.now) walk }`.
+///
+/// # Complexity
+///
+/// O(nodes + edges) for a whole walk, with at most one look at each edge. [`new`](Dfs::new)
+/// allocates all the memory; no other call does.
+///
+/// # Examples
+///
+/// ```
+/// let mut walk = Dfs::new(rt.alloc(), dag.graph(), sow, Direction::Outgoing)?;
+/// while let Some(n) = walk.next(dag.graph()) {
+///     println!(rt; "{}", n.index())?;
+/// }
+/// ```
+#[derive(Drop)]
+pub struct Dfs<Ix: IndexType = DefaultIx> {
+    start: NodeIndex<Ix>,
+    dir: Direction,
+    // Whether the start is still to come.
+    waits: bool,
+    // Of each node on the way to the one given last, the edge to look at next.
+    cursors: Vec<Link<Ix>>,
+    // The nodes that were given.
+    met: NodeSet<Ix>,
+    given: Given,
+}
+
+impl<Ix: IndexType> Model for Dfs<Ix> {
+    ghost use Rattle.std.specs.Prelude.{◌≤◌, length, vec_capacity};
+    ghost use Rattle.daggy_traversal.specs.Traversal.{AreMarked};
+    ghost use Rattle.daggy_traversal.specs.Depth.{Depth};
+
+    ghost Value = { Depth };
+
+    ghost view = { λ d. record {
+      start = Ix.number d.start;
+      dir = d.dir;
+      given = d.given.nodes;
+      waits = d.waits;
+      cursors = d.cursors.items;
+      bound = length d.met;
+    } };
+
+    ghost invariant = { λ d.
+        AreMarked d.met d.given.nodes × (length d.met ≤ vec_capacity d.cursors) };
+}
+
+impl<Ix: IndexType> Dfs<Ix> {
+    /// A walk that starts from the node `start`, along the edges or against them. If the node does
+    /// not exist, the walk gives nothing.
+    ///
+    /// # Errors
+    ///
+    /// Returns `AllocError` if an allocation fails.
+    ///
+    /// # Complexity
+    ///
+    /// O(nodes / 64).
+    pub fn new<S: Store<Ix>>(
+        alloc: Global,
+        graph: &S,
+        start: NodeIndex<Ix>,
+        dir: Direction,
+    ) -> Result<Self, AllocError>
+        ensures start { IfOk result (λ walk. walk.start ≡ Ix.number start) }
+        ensures dir { IfOk result (λ walk. walk.dir ≡ dir) }
+        ensures none_given { IfOk result (λ walk. walk.given ≡ []) }
+        ensures under_way { IfOk result (λ walk. IsDepthFirst (S.graph graph.now) walk) }
+    {
+        let bound = graph.node_bound();
+        let met = NodeSet::new(alloc, bound)?;
+        let cursors = Vec::with_capacity(alloc, bound)?;
+        Ok(Dfs {
+            start,
+            dir,
+            waits: graph.contains_node(start),
+            cursors,
+            met,
+            given: Given::new(),
+        })
+    }
+
+    /// Gives the next node, or `None` if all nodes that the start reaches were given.
+    ///
+    /// The start comes first. Then comes the first neighbor, in the order of the list, that was not
+    /// given, of the node given last that has such a neighbor.
+    ///
+    /// # Complexity
+    ///
+    /// O(nodes + edges) for all calls together.
+    pub fn next<S: Store<Ix>>(&mut self, graph: &S) -> Option<NodeIndex<Ix>>
+        requires { IsDepthFirst (S.graph graph.now) self.old }
+        ensures next { option_map Ix.number result
+            ≡ next_in_depth (S.graph graph.now) self.old.dir self.old.start self.old.given }
+        ensures none { IsNone result
+            ↔ AreAllGiven (S.graph graph.now) self.old.dir self.old.start self.old.given }
+        ensures reached { IfSome result (λ n.
+            LeadsFar self.old.dir (S.graph graph.now) self.old.start (Ix.number n)) }
+        ensures once { IfSome result (λ n. ¬ Contains self.old.given (Ix.number n)) }
+        ensures given { IfSome result (λ n. self.new.given ≡ self.old.given ++ Ix.number n ∷ []) }
+        ensures kept { IfNone result (self.new.given ≡ self.old.given) }
+        ensures start { self.new.start ≡ self.old.start }
+        ensures dir { self.new.dir ≡ self.old.dir }
+        ensures under_way { IsDepthFirst (S.graph graph.now) self.new }
+    {
+        graph.invariant();
+        if self.waits {
+            self.waits = false;
+            let start = self.start;
+            let _new = self.met.visit(start);
+            self.given.push(start.index());
+            let first = graph.first_edge(start, self.dir);
+            self.cursors.push_reserved(Link::of_edge(first));
+            return Some(start);
+        }
+        advance(
+            graph,
+            self.dir,
+            &mut self.cursors,
+            &mut self.met,
+            &mut self.given,
+        )
+    }
+}
+
+// Moves the cursors on to the first neighbor that was not given, and gives it. Its cursor is last
+// then.
+fn advance<Ix: IndexType, S: Store<Ix>>(
+    graph: &S,
+    dir: Direction,
+    cursors: &mut Vec<Link<Ix>>,
+    met: &mut NodeSet<Ix>,
+    given: &mut Given,
+) -> Option<NodeIndex<Ix>>
+    requires bound { node_bound (S.graph graph.now) ≤ length met.old }
+    requires room { length met.old ≤ vec_capacity cursors.old }
+    requires few { length cursors.old.items ≤ length given.old.nodes }
+    requires marked { AreMarked met.old given.old.nodes }
+    ensures next { option_map Ix.number result
+        ≡ first_new given.old.nodes (ahead dir (S.graph graph.now) cursors.old.items) }
+    ensures given { IfSome result (λ n.
+        given.new.nodes ≡ given.old.nodes ++ Ix.number n ∷ []) }
+    ensures kept { IfNone result (given.new.nodes ≡ given.old.nodes) }
+    ensures exists { IfSome result (λ n. HasNode (S.graph graph.now) (Ix.number n)) }
+    ensures left { IfSome result (λ n.
+        without_old given.new.nodes (ahead dir (S.graph graph.now) cursors.new.items)
+        ≡ without_old given.new.nodes (neighbors dir (S.graph graph.now) (Ix.number n)
+        ++ ahead dir (S.graph graph.now) cursors.old.items)) }
+    ensures over { IfNone result (cursors.new.items ≡ []) }
+    ensures few { length cursors.new.items ≤ length given.new.nodes }
+    ensures marked { AreMarked met.new given.new.nodes }
+    ensures bound { length met.new ≡ length met.old }
+    ensures room { length met.old ≤ vec_capacity cursors.new }
+{
+    graph.invariant();
+    'steps: while let Some(at) = cursors.pop() {
+        if let Some((n, next)) = next_neighbor(graph, dir, at.edge()) {
+            cursors.push_reserved(Link::of_edge(next));
+            if met.visit(n) {
+                given.push(n.index());
+                cursors.push_reserved(Link::of_edge(graph.first_edge(n, dir)));
+                return Some(n);
+            }
+        }
+    }
+    None
+}

@@ -1,0 +1,27 @@
+//! Reading the list of a node.
+ghost use Rattle.std.specs.Prelude.{◌≡◌, None, IfNone, IfSome};
+ghost use Rattle.daggy_base.specs.Graph.{edge_at};
+ghost use Rattle.daggy_traversal.specs.Traversal.{IsNeighbor};
+
+use daggy_base::index::{Direction, EdgeIndex, IndexType, NodeIndex};
+use daggy_base::store::Store;
+
+/// The node at the far end of the edge `e`, and the edge after `e` in its list, or `end`. Returns
+/// `None` if there is no edge `e`.
+#[inline]
+pub fn next_neighbor<Ix: IndexType, S: Store<Ix>>(
+    graph: &S,
+    dir: Direction,
+    e: EdgeIndex<Ix>,
+) -> Option<(NodeIndex<Ix>, EdgeIndex<Ix>)>
+    ensures none { IfNone result (edge_at (S.graph graph.now) (Ix.number e) ≡ None) }
+    ensures some { IfSome result (λ found. IsNeighbor dir Ix.greatest (S.graph graph.now)
+        (Ix.number e) (Ix.number found.0) (Ix.number found.1)) }
+{
+    let (parent, child) = graph.edge_endpoints(e)?;
+    let n = match dir {
+        Direction::Outgoing => child,
+        Direction::Incoming => parent,
+    };
+    Some((n, graph.next_edge(e, dir)))
+}

@@ -1,0 +1,228 @@
+//! Walking depth first, in postorder.
+ghost use Rattle.std.specs.Prelude.{◌≡◌, ℕ, ◌≤◌, ◌↔◌, ◌⊎◌, ◌∷◌, ◌++◌, [], length, vec_capacity};
+ghost use Rattle.std.specs.Prelude.{IsNone, IfNone, IfSome, IfOk, List, Contains};
+ghost use Rattle.daggy_base.specs.Graph.{HasNode, node_bound};
+ghost use Rattle.daggy_base.specs.Path.{IsAcyclic};
+ghost use Rattle.daggy_traversal.specs.Traversal.{LeadsTo, LeadsFar, AreAllGiven, AreMarked, begin};
+ghost use Rattle.daggy_traversal.specs.Traversal.{neighbors_left, without_old};
+ghost use Rattle.daggy_traversal.specs.Postorder.{IsPostorder, GivesLast, AreLeft};
+
+use crate::given::Given;
+use crate::neighbors::next_neighbor;
+use daggy_base::index::{DefaultIx, Direction, EdgeIndex, IndexType, NodeIndex};
+use daggy_base::link::Link;
+use daggy_base::store::Store;
+use daggy_walk::visit::NodeSet;
+use std::alloc::{AllocError, Global};
+use std::marker::Model;
+
+/// The nodes that a node reaches, depth first and in postorder: each node comes after its
+/// neighbors, except for those that lead back to it.
+///
+/// It does not borrow the graph; each step borrows it for that step. Until the walk ends, no node
+/// and no edge may be added or removed.
+///
+/// The calls say that the walk on this graph is under way, and ask for that. A struct that keeps
+/// both states it once, as `ghost under_way: { IsPostorder (S.graph graph.now) walk }`.
+///
+/// # Complexity
+///
+/// O(nodes + edges) for a whole walk, with at most one look at each edge.
+/// [`new`](DfsPostOrder::new) allocates all the memory; no other call does.
+///
+/// # Examples
+///
+/// ```
+/// let mut walk = DfsPostOrder::new(rt.alloc(), dag.graph(), sow, Direction::Outgoing)?;
+/// while let Some(n) = walk.next(dag.graph()) {
+///     println!(rt; "{}", n.index())?;
+/// }
+/// ```
+#[derive(Drop)]
+pub struct DfsPostOrder<Ix: IndexType = DefaultIx> {
+    start: NodeIndex<Ix>,
+    dir: Direction,
+    // The nodes on the way from the start to the one that was met last.
+    path: Vec<Link<Ix>>,
+    // Of each node on the path, the edge to look at next.
+    cursors: Vec<Link<Ix>>,
+    // The nodes that were given, and those on the path.
+    met: NodeSet<Ix>,
+    given: Given,
+}
+
+impl<Ix: IndexType> Model for DfsPostOrder<Ix> {
+    ghost use Rattle.std.specs.Prelude.{◌≤◌, ◌++◌, length, vec_capacity};
+    ghost use Rattle.daggy_traversal.specs.Traversal.{AreMarked};
+    ghost use Rattle.daggy_traversal.specs.Postorder.{Postorder};
+
+    ghost Value = { Postorder };
+
+    ghost view = { λ d. record {
+      start = Ix.number d.start;
+      dir = d.dir;
+      given = d.given.nodes;
+      path = d.path.items;
+      cursors = d.cursors.items;
+      bound = length d.met;
+    } };
+
+    ghost invariant = { λ d. AreMarked d.met (d.given.nodes ++ d.path.items)
+        × (length d.met ≤ vec_capacity d.path) × (length d.met ≤ vec_capacity d.cursors) };
+}
+
+impl<Ix: IndexType> DfsPostOrder<Ix> {
+    /// A walk that starts from the node `start`, along the edges or against them. If the node does
+    /// not exist, the walk gives nothing.
+    ///
+    /// # Errors
+    ///
+    /// Returns `AllocError` if an allocation fails.
+    ///
+    /// # Complexity
+    ///
+    /// O(nodes / 64).
+    pub fn new<S: Store<Ix>>(
+        alloc: Global,
+        graph: &S,
+        start: NodeIndex<Ix>,
+        dir: Direction,
+    ) -> Result<Self, AllocError>
+        ensures start { IfOk result (λ walk. walk.start ≡ Ix.number start) }
+        ensures dir { IfOk result (λ walk. walk.dir ≡ dir) }
+        ensures none_given { IfOk result (λ walk. walk.given ≡ []) }
+        ensures path { IfOk result (λ walk.
+            walk.path ≡ begin (S.graph graph.now) (Ix.number start)) }
+        ensures under_way { IfOk result (λ walk. IsPostorder (S.graph graph.now) walk) }
+    {
+        let bound = graph.node_bound();
+        let mut met = NodeSet::new(alloc, bound)?;
+        let mut path = Vec::with_capacity(alloc, bound)?;
+        let mut cursors = Vec::with_capacity(alloc, bound)?;
+        if graph.contains_node(start) {
+            let _new = met.visit(start);
+            path.push_reserved(Link::of_node(start));
+            cursors.push_reserved(Link::of_edge(graph.first_edge(start, dir)));
+        }
+        Ok(DfsPostOrder {
+            start,
+            dir,
+            path,
+            cursors,
+            met,
+            given: Given::new(),
+        })
+    }
+
+    /// Gives the next node, or `None` if all nodes that the start reaches were given.
+    ///
+    /// From the node that was met last, the walk goes down to the first neighbor, in the order of
+    /// the list, that was not met, and so on. It gives the node at which there is none, and goes
+    /// back up from it. The start comes last.
+    ///
+    /// # Complexity
+    ///
+    /// O(nodes + edges) for all calls together.
+    pub fn next<S: Store<Ix>>(&mut self, graph: &S) -> Option<NodeIndex<Ix>>
+        requires { IsPostorder (S.graph graph.now) self.old }
+        ensures next { IfSome result (λ n. GivesLast self.old.dir (S.graph graph.now)
+            self.old.given self.old.path self.new.path (Ix.number n)) }
+        ensures none { IsNone result
+            ↔ AreAllGiven (S.graph graph.now) self.old.dir self.old.start self.old.given }
+        ensures reached { IfSome result (λ n.
+            LeadsFar self.old.dir (S.graph graph.now) self.old.start (Ix.number n)) }
+        ensures once { IfSome result (λ n. ¬ Contains self.old.given (Ix.number n)) }
+        ensures after { IfSome result (λ n. (v : ℕ)
+            → LeadsTo self.old.dir (S.graph graph.now) (Ix.number n) v
+            → Contains self.old.given v ⊎ LeadsFar self.old.dir (S.graph graph.now) v (Ix.number n)) }
+        ensures acyclic { IsAcyclic (S.graph graph.now) → IfSome result (λ n. (v : ℕ)
+            → LeadsTo self.old.dir (S.graph graph.now) (Ix.number n) v
+            → Contains self.old.given v) }
+        ensures given { IfSome result (λ n. self.new.given ≡ self.old.given ++ Ix.number n ∷ []) }
+        ensures unchanged { IfNone result (self.new ≡ self.old) }
+        ensures start { self.new.start ≡ self.old.start }
+        ensures dir { self.new.dir ≡ self.old.dir }
+        ensures under_way { IsPostorder (S.graph graph.now) self.new }
+    {
+        graph.invariant();
+        descend(
+            graph,
+            self.dir,
+            &mut self.path,
+            &mut self.cursors,
+            &mut self.met,
+            &mut self.given,
+        )
+    }
+}
+
+// The first neighbor that was not met, from the edge `e` on, and the edge after it.
+fn next_new<Ix: IndexType, S: Store<Ix>>(
+    graph: &S,
+    dir: Direction,
+    e: EdgeIndex<Ix>,
+    met: &NodeSet<Ix>,
+) -> Option<(NodeIndex<Ix>, EdgeIndex<Ix>)>
+    ensures none { IfNone result ((nodes : List ℕ) → AreMarked met.now nodes
+        → without_old nodes (neighbors_left dir (S.graph graph.now) (Ix.number e)) ≡ []) }
+    ensures some { IfSome result (λ found. (nodes : List ℕ) → AreMarked met.now nodes
+        → without_old nodes (neighbors_left dir (S.graph graph.now) (Ix.number e))
+        ≡ Ix.number found.0 ∷ without_old nodes
+        (neighbors_left dir (S.graph graph.now) (Ix.number found.1))) }
+    ensures exists { IfSome result (λ found. HasNode (S.graph graph.now) (Ix.number found.0)) }
+{
+    graph.invariant();
+    let mut e = e;
+    'edges: while let Some((v, next)) = next_neighbor(graph, dir, e) {
+        if !met.is_visited(v) {
+            return Some((v, next));
+        }
+        e = next;
+    }
+    None
+}
+
+// Goes down to a node all of whose neighbors were met, and gives it.
+fn descend<Ix: IndexType, S: Store<Ix>>(
+    graph: &S,
+    dir: Direction,
+    path: &mut Vec<Link<Ix>>,
+    cursors: &mut Vec<Link<Ix>>,
+    met: &mut NodeSet<Ix>,
+    given: &mut Given,
+) -> Option<NodeIndex<Ix>>
+    requires bound { node_bound (S.graph graph.now) ≤ length met.old }
+    requires path_room { length met.old ≤ vec_capacity path.old }
+    requires room { length met.old ≤ vec_capacity cursors.old }
+    requires marked { AreMarked met.old (given.old.nodes ++ path.old.items) }
+    requires left { AreLeft dir (S.graph graph.now) (given.old.nodes ++ path.old.items)
+        path.old.items cursors.old.items }
+    ensures next { IfSome result (λ n. GivesLast dir (S.graph graph.now)
+        given.old.nodes path.old.items path.new.items (Ix.number n)) }
+    ensures over { IfNone result (path.old.items ≡ []) }
+    ensures given { IfSome result (λ n.
+        given.new.nodes ≡ given.old.nodes ++ Ix.number n ∷ []) }
+    ensures kept { IfNone result (given.new.nodes ≡ given.old.nodes) }
+    ensures path_kept { IfNone result (path.new.items ≡ path.old.items) }
+    ensures cursors_kept { IfNone result (cursors.new.items ≡ cursors.old.items) }
+    ensures left { AreLeft dir (S.graph graph.now) (given.new.nodes ++ path.new.items)
+        path.new.items cursors.new.items }
+    ensures marked { AreMarked met.new (given.new.nodes ++ path.new.items) }
+    ensures bound { length met.new ≡ length met.old }
+    ensures path_room { length met.old ≤ vec_capacity path.new }
+    ensures room { length met.old ≤ vec_capacity cursors.new }
+{
+    graph.invariant();
+    'nodes: while let Some(at) = cursors.pop() {
+        let Some((v, next)) = next_new(graph, dir, at.edge(), met) else {
+            let n = path.take_last().node();
+            given.push(n.index());
+            return Some(n);
+        };
+        cursors.push_reserved(Link::of_edge(next));
+        let _new = met.visit(v);
+        path.push_reserved(Link::of_node(v));
+        cursors.push_reserved(Link::of_edge(graph.first_edge(v, dir)));
+    }
+    None
+}
