@@ -1,8 +1,9 @@
 //! A dag whose nodes are named by keys: `Named`.
 ghost use Rattle.std.specs.Prelude.{◌≡◌, ℕ, ◌<◌, ◌≤◌, ◌↔◌, ◌⊎◌, ◌++◌, [], ◌∷◌, Some, None, Ok, Err, IsTrue};
-ghost use Rattle.std.specs.Prelude.{IsSome, IfOk, IfErr, OnOk, OnErr, IfSome, IfNone, map, option_copied};
+ghost use Rattle.std.specs.Prelude.{IsSome, IfOk, IsOkAnd, IfErr, OnOk, OnErr, IfSome, IfNone, map, option_copied};
 ghost use Rattle.std.specs.Prelude.{slice_set, length, vec_len, vec_capacity};
-ghost use Rattle.std.specs.Option.{option_map};
+ghost use Rattle.std.specs.Borrow.{sem};
+ghost use Rattle.std.specs.Option.{option_map, option_copied_mut};
 ghost use Rattle.daggy_base.specs.Adding.{next_node, next_edge, with_node, with_edge};
 ghost use Rattle.daggy_base.specs.Adding.{with_slot_filled};
 ghost use Rattle.daggy_base.specs.Graph.{empty, slot, HasNode, node_weight, edge_count as edge_count_of};
@@ -18,6 +19,7 @@ ghost use Rattle.indexmap.specs.IndexMap.{index_map_len, spare, get, IsUnique, I
 ghost use Rattle.daggy_named.specs.Naming.{key_at, index_in, weight_in, IsNamed};
 ghost use Rattle.daggy_named.specs.Naming.{ForNodes};
 ghost use Rattle.daggy_named.specs.Places.{keys_at, IsKept};
+ghost use Rattle.daggy_named.specs.Lends.{lends_weight};
 ghost use Rattle.daggy_named.specs.declared.error.AddError.TheVariants as refused;
 ghost use Rattle.daggy_named.specs.declared.error.DependError.TheVariants as depend;
 
@@ -52,7 +54,7 @@ use std::marker::Model;
 /// assert!(rt; plan.remove(&"sow") == Some(("sow", 1)));
 /// assert!(rt; plan.index_of(&"sow").is_none());
 /// ```
-#[derive(Drop)]
+#[derive(Debug, Drop)]
 pub struct Named<K: Eq + Hash, N: Drop, E: Drop, Ix: IndexType = DefaultIx> {
     dag: StableDag<N, E, Ix>,
     // Each key, with its node.
@@ -178,6 +180,33 @@ impl<K: Eq + Hash + Drop, N: Drop, E: Drop, Ix: IndexType> Named<K, N, E, Ix> {
         }
     }
 
+    /// The index of the node with this key. If there is none, it is added with the weight, as
+    /// [`add`](Named::add) adds it; otherwise the key and the weight are dropped.
+    ///
+    /// # Errors
+    ///
+    /// As [`add`](Named::add), but for a key that is taken.
+    pub fn get_or_add(&mut self, key: K, weight: N) -> Result<NodeIndex<Ix>, AddError<K, N>>
+        ensures present { IfSome (index_in K.eq self.old.keys key) (λ n.
+            IsOkAnd result (λ r. Ix.number r ≡ n) × (self.new ≡ self.old)) }
+        ensures full { (result ≡ Err (refused.Full key weight))
+            ↔ ((index_in K.eq self.old.keys key ≡ None)
+            × (Ix.greatest ≤ node_count_of self.old.graph)) }
+        ensures refusal { IfErr result (λ e.
+            (e ≡ refused.Full key weight) ⊎ (e ≡ refused.Memory key weight)) }
+        ensures added { index_in K.eq self.old.keys key ≡ None → IfOk result (λ n.
+            (Ix.number n ≡ next_node self.old.graph)
+            × (self.new.graph ≡ with_node self.old.graph weight)
+            × (self.new.keys
+            ≡ with_slot_filled self.old.keys self.old.graph.vacant_nodes (Some key))) }
+        ensures unchanged { OnErr result (self.new ≡ self.old) }
+    {
+        if let Some(n) = self.index_of(&key) {
+            return Ok(n);
+        }
+        self.add(key, weight)
+    }
+
     /// Adds an edge from the node with the key `on` to the node with the key `what`, which depends
     /// on it, and returns the index of the edge.
     ///
@@ -252,6 +281,16 @@ impl<K: Eq + Hash + Drop, N: Drop, E: Drop, Ix: IndexType> Named<K, N, E, Ix> {
             return Ok(None);
         };
         self.dag.path(child, parent)
+    }
+
+    /// The weight of the node with this key, to be written, or `None` if there is none.
+    pub fn weight_mut(&mut self, key: &K) -> Option<&mut N>
+        ensures* writes_back { sem 𝓛 (lends_weight K.row N.row E.row Ix.row K.Hash Ix.IndexType Ix.Clone
+            self.entry key.now result) }
+        ensures value { option_copied_mut result ≡ weight_in K.eq self.old key.now }
+    {
+        let n = self.index_of(key)?;
+        self.dag.node_weight_mut(n)
     }
 
     /// Removes the node with this key and its edges, and returns its key and its weight, or `None`
