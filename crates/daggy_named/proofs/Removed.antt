@@ -298,15 +298,3 @@ pub slots_without : {A B : Type 0} (xs : List (Option A)) (ys : List (Option B))
     → map is_some (set xs n None) ≡ map is_some (set ys n None)
 slots_without xs ys n same =
     map-set is_some xs n None ∙ ap (λ l. set l n false) same ∙ sym (map-set is_some ys n None)
-
--- a weight is written
-pub kept_written : {K I N : Type 0} {eq : K → K → Bool} {number : I → ℕ} {nodes : List (Option N)} {entries : List (K × I)}
-    {places : List (Option ℕ)} (n : ℕ) (w : N) → is_some (slot nodes n) ≡ true → IsKept eq number nodes entries places
-    → IsKept eq number (set nodes n (Some w)) entries places
-kept_written {K} {I} {N} {eq} {number} {nodes} {entries} {places} n w there kept =
-    let held = what_is (slot nodes n) there in
-    let at = slot_within nodes n held.0 held.1 in
-    let same : map is_some (set nodes n (Some w)) ≡ map is_some nodes =
-    map-set_same is_some nodes n (Some held.0) (Some w)
-    (sym (get_or_from_slice_get nodes n (Some held.0) (Some held.0) at)) refl in
-    record { slots = kept.slots ∙ sym same; back = kept.back; forth = kept.forth; once = kept.once }

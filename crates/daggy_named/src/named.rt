@@ -1,13 +1,13 @@
 //! A dag whose nodes are named by keys: `Named`.
-ghost use Rattle.std.specs.Prelude.{◌≡◌, ℕ, ◌<◌, ◌≤◌, ◌↔◌, ◌⊎◌, ◌++◌, [], ◌∷◌, Some, None, Ok, Err, IsTrue};
-ghost use Rattle.std.specs.Prelude.{IsSome, IfOk, IsOkAnd, IfErr, OnOk, OnErr, IfSome, IfNone, map, option_copied};
-ghost use Rattle.std.specs.Prelude.{slice_set, length, vec_len, vec_capacity};
+ghost use Rattle.std.specs.Prelude.{◌≡◌, ℕ, ◌<◌, ◌≤◌, ◌↔◌, ◌⊎◌, ◌++◌, [], ◌∷◌, Some, None, Ok, Err};
+ghost use Rattle.std.specs.Prelude.{IsTrue, IsSome, IfOk, IsOkAnd, IfErr, OnOk, OnErr, IfSome, IfNone};
+ghost use Rattle.std.specs.Prelude.{map, length, option_copied, slice_set, vec_len, vec_capacity};
 ghost use Rattle.std.specs.Borrow.{sem};
 ghost use Rattle.std.specs.Option.{option_map, option_copied_mut};
 ghost use Rattle.daggy_base.specs.Adding.{next_node, next_edge, with_node, with_edge};
 ghost use Rattle.daggy_base.specs.Adding.{with_slot_filled};
-ghost use Rattle.daggy_base.specs.Graph.{empty, slot, HasNode, node_weight, edge_count as edge_count_of};
-ghost use Rattle.daggy_base.specs.Graph.{node_count as node_count_of};
+ghost use Rattle.daggy_base.specs.Graph.{empty, slot, HasNode, node_weight};
+ghost use Rattle.daggy_base.specs.Graph.{node_count as node_count_of, edge_count as edge_count_of};
 ghost use Rattle.daggy_base.specs.Path.{Reaches};
 ghost use Rattle.daggy_base.specs.WellFormed.{IsDag};
 ghost use Rattle.daggy_base.specs.Removal.{without_node};
@@ -16,8 +16,7 @@ ghost use Rattle.daggy_base.specs.declared.error.EdgeError.TheVariants.{WouldCyc
 ghost use Rattle.daggy_base.specs.declared.error.EdgeError.TheVariants.{Memory as EdgeMemory};
 ghost use Rattle.daggy_base.specs.declared.kind.Kind.TheVariants.{Stable};
 ghost use Rattle.indexmap.specs.IndexMap.{index_map_len, spare, get, IsUnique, IsUnchanged};
-ghost use Rattle.daggy_named.specs.Naming.{key_at, index_in, weight_in, IsNamed};
-ghost use Rattle.daggy_named.specs.Naming.{ForNodes};
+ghost use Rattle.daggy_named.specs.Naming.{key_at, index_in, weight_in, IsNamed, ForNodes};
 ghost use Rattle.daggy_named.specs.Places.{keys_at, IsKept};
 ghost use Rattle.daggy_named.specs.Lends.{lends_weight};
 ghost use Rattle.daggy_named.specs.declared.error.AddError.TheVariants as refused;
@@ -74,7 +73,8 @@ impl<K: Eq + Hash, N: Drop, E: Drop, Ix: IndexType> Model for Named<K, N, E, Ix>
       keys = keys_at d.nodes.entries d.places.items;
     } };
 
-    ghost invariant = { λ d. IsKept K.eq Ix.number d.dag.graph.nodes d.nodes.entries d.places.items };
+    ghost invariant = { λ d.
+        IsKept K.eq Ix.number d.dag.graph.nodes d.nodes.entries d.places.items };
 }
 
 impl<K: Eq + Hash + Drop, N: Drop, E: Drop, Ix: IndexType> Named<K, N, E, Ix> {
@@ -285,8 +285,8 @@ impl<K: Eq + Hash + Drop, N: Drop, E: Drop, Ix: IndexType> Named<K, N, E, Ix> {
 
     /// The weight of the node with this key, to be written, or `None` if there is none.
     pub fn weight_mut(&mut self, key: &K) -> Option<&mut N>
-        ensures* writes_back { sem 𝓛 (lends_weight K.row N.row E.row Ix.row K.Hash Ix.IndexType Ix.Clone
-            self.entry key.now result) }
+        ensures* writes_back { sem 𝓛 (lends_weight K.row N.row E.row Ix.row
+            K.Hash Ix.IndexType Ix.Clone self.entry key.now result) }
         ensures value { option_copied_mut result ≡ weight_in K.eq self.old key.now }
     {
         let n = self.index_of(key)?;

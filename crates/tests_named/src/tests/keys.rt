@@ -26,6 +26,20 @@ fn numbers_name_nodes(rt: HostRuntime) {
 }
 
 #[test]
+fn a_key_is_added_once(rt: HostRuntime) {
+    let mut dag: Named<u32, u64, ()> = Named::new(rt.alloc());
+    let seven = made(&rt, dag.get_or_add(7, 70));
+    let nine = made(&rt, dag.get_or_add(9, 90));
+    same(&rt, made(&rt, dag.get_or_add(7, 71)), seven);
+    same(&rt, (dag.node_count(), dag.index_of(&9)), (2, Some(nine)));
+    same(
+        &rt,
+        (dag.weight(&7), dag.weight(&9)),
+        (Some(&70), Some(&90)),
+    );
+}
+
+#[test]
 fn weights_are_written_by_key(rt: HostRuntime) {
     let mut dag: Named<u32, u64, u64> = Named::new(rt.alloc());
     made(&rt, dag.add(7, 70));

@@ -1,4 +1,4 @@
-use Rattle.daggy_named.proofs.Removed.{kept_written}
+use Rattle.daggy_named.proofs.Written.{kept_written}
 use Rattle.daggy_named.proofs.named.Named.weight_mut.Goals as goal
 
 pub invariant_of-self-lent : goal.invariant_of-self-lent
