@@ -17,7 +17,8 @@ use Rattle.daggy_named.proofs.Slots.{free_too, next_too, same_length, map-with_s
 
 -- one more entry does not change the keys at the places of the others
 keys_at_push : {K I : Type 0} (entries : List (K × I)) (e : K × I) (places : List (Option ℕ))
-    → ((n p : ℕ) → slot places n ≡ Some p → p < length entries) → keys_at (entries ++ e ∷ []) places ≡ keys_at entries places
+    → ((n p : ℕ) → slot places n ≡ Some p → p < length entries)
+    → keys_at (entries ++ e ∷ []) places ≡ keys_at entries places
 keys_at_push entries e [] low = refl
 keys_at_push entries e (None ∷ xs) low = ap (λ l. None ∷ l) (keys_at_push entries e xs (λ n. low (suc n)))
 keys_at_push entries e (Some p ∷ xs) low =
@@ -26,7 +27,8 @@ keys_at_push entries e (Some p ∷ xs) low =
     λ j. head j ∷ keys_at_push entries e xs (λ n. low (suc n)) j
 
 module _ {K I N : Type 0} {eq : K → K → Bool} {number : I → ℕ} {nodes : List (Option N)} {entries : List (K × I)}
-    {places : List (Option ℕ)} (kept : IsKept eq number nodes entries places) (vacant : List ℕ) (free : IsFree nodes vacant)
+    {places : List (Option ℕ)} (kept : IsKept eq number nodes entries places) (vacant : List ℕ)
+    (free : IsFree nodes vacant)
     (k : K) (i : I) (at : number i ≡ next_slot nodes vacant) where
   within : (n p : ℕ) → slot places n ≡ Some p → p < length entries
   within n p is = let e = kept.forth n p is in slice_get_within entries p (e.0, e.1) e.2
@@ -60,8 +62,10 @@ module _ {K I N : Type 0} {eq : K → K → Bool} {number : I → ℕ} {nodes : 
               slot_taken_kept places vacant (length entries) (number i') p free_place
               (kept.back p k' i' (sym (slice_get-push_old entries (k, i) p below) ∙ is))
           | inr past ↦
-              let last : p ≡ length entries = omega (arith, past, slice_get_within new p (k', i') is, length_push entries (k, i)) in
-              let same : i' ≡ i = same_node k' k i' i is (ap (slice_get new) last ∙ slice_get-push_new entries (k, i)) in
+              let last : p ≡ length entries =
+              omega (arith, past, slice_get_within new p (k', i') is, length_push entries (k, i)) in
+              let same : i' ≡ i =
+              same_node k' k i' i is (ap (slice_get new) last ∙ slice_get-push_new entries (k, i)) in
               ap (slot (with_slot_filled places vacant (Some (length entries)))) (ap number same ∙ at_place)
               ∙ slot_taken_new places vacant (length entries) free_place ∙ ap Some (sym last)
         ];
@@ -81,7 +85,8 @@ module _ {K I N : Type 0} {eq : K → K → Bool} {number : I → ℕ} {nodes : 
       → (number i ≡ length places → places' ≡ places ++ x ∷ []) → places' ≡ with_slot_filled places vacant x
   place_filled places' x written pushed = by vacant free_place at_place
     where
-      by : (vacant : List ℕ) → IsFree places vacant → number i ≡ next_slot places vacant → places' ≡ with_slot_filled places vacant x
+      by : (vacant : List ℕ) → IsFree places vacant → number i ≡ next_slot places vacant
+          → places' ≡ with_slot_filled places vacant x
       by [] f a = pushed a
       by (v ∷ vs) f a =
           written (omega (arith, a, slice_get_within places v None f)) ∙ ap (λ n. set places n x) a
@@ -93,7 +98,8 @@ module _ {K I N : Type 0} {eq : K → K → Bool} {number : I → ℕ} {nodes : 
       by [] f a = omega (arith, a)
       by (v ∷ vs) f a = omega (arith, a, slice_get_within places v None f)
 
-  module _ {entries' : List (K × I)} {places' : List (Option ℕ)} (same : entries' ≡ entries) (same_places : places' ≡ places) where
+  module _ {entries' : List (K × I)} {places' : List (Option ℕ)} (same : entries' ≡ entries)
+      (same_places : places' ≡ places) where
     pub low_entered : number i ≤ length places'
     low_entered = omega (arith, place_low, ap length same_places)
 
@@ -118,5 +124,7 @@ module _ {K I N : Type 0} {eq : K → K → Bool} {number : I → ℕ} {nodes : 
           → IsKept eq number (with_slot_filled nodes vacant (Some w)) left left_places
       kept_entered w once =
           let kept' = kept_added w (subst (λ l. IsDistinct eq (keys_of l)) entries_are once) in
-          let P : List (K × I) → List (Option ℕ) → Type 0 = λ l m. IsKept eq number (with_slot_filled nodes vacant (Some w)) l m in
-          subst (λ l. P l left_places) (sym entries_are) (subst (λ m. P (entries ++ (k, i) ∷ []) m) (sym places_are) kept')
+          let P : List (K × I) → List (Option ℕ) → Type 0 =
+          λ l m. IsKept eq number (with_slot_filled nodes vacant (Some w)) l m in
+          subst (λ l. P l left_places) (sym entries_are)
+          (subst (λ m. P (entries ++ (k, i) ∷ []) m) (sym places_are) kept')

@@ -1,5 +1,6 @@
 -- What is told of an edge that is refused, and the nodes of two keys.
-use Rattle.std.proofs.Common.{◌≡◌, ◌↔◌, ◌⊎◌, inl, inr, ℕ, Bool, List, Option, Some, Result, Ok, Err, IfOk, sym, ap, subst, ◌∙◌}
+use Rattle.std.proofs.Common.{◌≡◌, ◌↔◌, ◌⊎◌, inl, inr, ℕ, Bool, List, Option, Some, Result, Ok, Err, IfOk, sym, ap}
+use Rattle.std.proofs.Common.{subst, ◌∙◌}
 use Rattle.daggy_base.specs.declared.error.EdgeError.{EdgeError}
 use Rattle.daggy_base.specs.declared.error.EdgeError.TheVariants as edge
 use Rattle.daggy_named.specs.Naming.{index_in, ForNodes}

@@ -16,12 +16,14 @@ none_passes test (e ∷ es) none p k i at = by (test e.0) refl p at (λ f n. non
   where
     by : (b : Bool) → test e.0 ≡ b → (p : ℕ) → slice_get (e ∷ es) p ≡ Some (k, i)
         → (lookup test es ≡ None → (n : ℕ) → slice_get es n ≡ Some (k, i) → test k ≡ false) → test k ≡ false
-    by true is p at rest = absurd (let found : Some e.1 ≡ None = sym (ap (λ c. cond c (Some e.1) (lookup test es)) is) ∙ none in cc)
+    by true is p at rest = absurd (let found : Some e.1 ≡ None = sym (ap (λ c. cond c (Some e.1) (lookup test es)) is)
+        ∙ none in cc)
     by false is zero at rest = let same : k ≡ e.0 = cc in ap test same ∙ is
     by false is (suc p) at rest = rest (sym (ap (λ c. cond c (Some e.1) (lookup test es)) is) ∙ none) p at
 
 -- two entries with equal keys are the same
-pub same_entry : {K I : Type 0} (eq : K → K → Bool) → IsEquivalence eq → (entries : List (K × I)) → IsDistinct eq (keys_of entries)
+pub same_entry : {K I : Type 0} (eq : K → K → Bool) → IsEquivalence eq → (entries : List (K × I))
+    → IsDistinct eq (keys_of entries)
     → (p q : ℕ) (a b : K) (i j : I) → slice_get entries p ≡ Some (a, i) → slice_get entries q ≡ Some (b, j)
     → eq a b ≡ true → i ≡ j
 same_entry eq laws entries once p q a b i j at_p at_q same =

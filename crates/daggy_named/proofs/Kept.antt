@@ -16,13 +16,15 @@ use Rattle.daggy_named.proofs.Entries.{none_passes, same_entry}
 
 module _ {K I : Type 0} (entries : List (K × I)) where
   -- the key of a slot
-  pub slot-keys_at : (places : List (Option ℕ)) (n : ℕ) → slot (keys_at entries places) n ≡ option_and_then (key_in entries) (slot places n)
+  pub slot-keys_at : (places : List (Option ℕ)) (n : ℕ)
+      → slot (keys_at entries places) n ≡ option_and_then (key_in entries) (slot places n)
   slot-keys_at [] n = refl
   slot-keys_at (x ∷ xs) zero = refl
   slot-keys_at (x ∷ xs) (suc n) = slot-keys_at xs n
 
   -- a key is where a place is
-  pub marks-keys_at : (places : List (Option ℕ)) → ((n p : ℕ) → slot places n ≡ Some p → is_some (slice_get entries p) ≡ true)
+  pub marks-keys_at : (places : List (Option ℕ)) → ((n p : ℕ) → slot places n ≡ Some p
+      → is_some (slice_get entries p) ≡ true)
       → map is_some (keys_at entries places) ≡ map is_some places
   marks-keys_at [] there = refl
   marks-keys_at (None ∷ xs) there = ap (λ l. false ∷ l) (marks-keys_at xs (λ n. there (suc n)))
@@ -32,7 +34,8 @@ module _ {K I : Type 0} (entries : List (K × I)) where
       λ j. key j ∷ marks-keys_at xs (λ n. there (suc n)) j
 
 -- the place and the entry of a key
-pub record IsAt {K I : Type 0} (number : I → ℕ) (entries : List (K × I)) (places : List (Option ℕ)) (n : ℕ) (k : K) : Type 0 where
+pub record IsAt {K I : Type 0} (number : I → ℕ) (entries : List (K × I)) (places : List (Option ℕ))
+    (n : ℕ) (k : K) : Type 0 where
   pub p : ℕ
   pub i : I
   pub place : slot places n ≡ Some p
@@ -45,15 +48,23 @@ module _ {K I N : Type 0} {eq : K → K → Bool} (laws : IsEquivalence eq) {num
   key_at_place n k at = by (slot places n) refl
     where
       by : (o : Option ℕ) → slot places n ≡ o → IsAt number entries places n k
-      by None is = absurd (let none : None ≡ Some k = sym (slot-keys_at entries places n ∙ ap (option_and_then (key_in entries)) is) ∙ at in cc)
+      by None is = absurd (let none : None ≡ Some k = sym (slot-keys_at entries places n
+          ∙ ap (option_and_then (key_in entries)) is) ∙ at in cc)
       by (Some p) is =
           let e = kept.forth n p is in
           let seen : Some e.0 ≡ Some k = sym (slot-keys_at entries places n ∙ ap (option_and_then (key_in entries)) is
           ∙ ap (option_map (λ e. e.0)) e.2) ∙ at in
           let same : e.0 ≡ k = cc in
-          record { p = p; i = e.1; place = is; entry = subst (λ z. slice_get entries p ≡ Some (z, e.1)) same e.2; node = e.3 }
+          record {
+            p = p;
+            i = e.1;
+            place = is;
+            entry = subst (λ z. slice_get entries p ≡ Some (z, e.1)) same e.2;
+            node = e.3;
+          }
 
-  pub key_of_entry : (p : ℕ) (k : K) (i : I) → slice_get entries p ≡ Some (k, i) → slot (keys_at entries places) (number i) ≡ Some k
+  pub key_of_entry : (p : ℕ) (k : K) (i : I) → slice_get entries p ≡ Some (k, i)
+      → slot (keys_at entries places) (number i) ≡ Some k
   key_of_entry p k i at =
       slot-keys_at entries places (number i) ∙ ap (option_and_then (key_in entries)) (kept.back p k i at)
       ∙ ap (option_map (λ e. e.0)) at
@@ -62,7 +73,8 @@ module _ {K I N : Type 0} {eq : K → K → Bool} (laws : IsEquivalence eq) {num
   marks = marks-keys_at entries places (λ n p at. ap is_some (kept.forth n p at).2) ∙ kept.slots
 
   -- no two nodes have equal keys
-  pub named_once : (m n : ℕ) (a b : K) → slot (keys_at entries places) m ≡ Some a → slot (keys_at entries places) n ≡ Some b
+  pub named_once : (m n : ℕ) (a b : K) → slot (keys_at entries places) m ≡ Some a
+      → slot (keys_at entries places) n ≡ Some b
       → eq a b ≡ true → m ≡ n
   named_once m n a b at_m at_n same =
       let e = key_at_place m a at_m in
@@ -83,7 +95,8 @@ module _ {K I N : Type 0} {eq : K → K → Bool} (laws : IsEquivalence eq) {num
     slot_of n x y at is = ap (option_and_then (λ z. z)) at ∙ is
 
     -- a look-up finds the index of the key
-    pub found : (r : Option I) → r ≡ lookup (eq k) entries → option_map number r ≡ index_in eq (keys_at entries places) k
+    pub found : (r : Option I) → r ≡ lookup (eq k) entries
+        → option_map number r ≡ index_in eq (keys_at entries places) k
     found None none =
         sym (position_none (is_named eq k) (keys_at entries places) (λ m x at. by m x at (is_named eq k x) refl))
       where
@@ -110,7 +123,8 @@ module _ {K I N : Type 0} {eq : K → K → Bool} (laws : IsEquivalence eq) {num
         let e = place_from_lookup (eq k) entries i (sym some) in
         sym (same_marks places nodes kept.slots (number i)) ∙ ap is_some (kept.back e.0 e.1 i e.2)
 
-pub kept_empty : {K I N : Type 0} {eq : K → K → Bool} {number : I → ℕ} {nodes : List (Option N)} {entries : List (K × I)}
+pub kept_empty : {K I N : Type 0} {eq : K → K → Bool}
+    {number : I → ℕ} {nodes : List (Option N)} {entries : List (K × I)}
     {places : List (Option ℕ)} → nodes ≡ [] → entries ≡ [] → places ≡ [] → IsKept eq number nodes entries places
 unfolding IsDistinct
 kept_empty {K} {I} {N} {eq} {number} {nodes} {entries} {places} no_nodes no_entries no_places =
@@ -121,11 +135,13 @@ kept_empty {K} {I} {N} {eq} {number} {nodes} {entries} {places} no_nodes no_entr
       once = tt;
     } in
     let by_nodes : IsKept eq number nodes [] [] = subst (λ z. IsKept eq number z [] []) (sym no_nodes) none in
-    let by_entries : IsKept eq number nodes entries [] = subst (λ z. IsKept eq number nodes z []) (sym no_entries) by_nodes in
+    let by_entries : IsKept eq number nodes entries [] =
+    subst (λ z. IsKept eq number nodes z []) (sym no_entries) by_nodes in
     subst (λ z. IsKept eq number nodes entries z) (sym no_places) by_entries
 
 -- the key of a slot, by what is read on the way to it
-pub key_read : {K I : Type 0} (entries : List (K × I)) (places : List (Option ℕ)) (n : ℕ) {lent : List (Option ℕ)} {index place : ℕ}
+pub key_read : {K I : Type 0} (entries : List (K × I)) (places : List (Option ℕ)) (n : ℕ) {lent : List (Option ℕ)}
+    {index place : ℕ}
     {x : Option ℕ} → lent ≡ places → index ≡ n → index < length lent → x ≡ get_or lent index x → x ≡ Some place
     → key_in entries place ≡ slot (keys_at entries places) n
 key_read entries places n {lent} {index} {place} {x} lent_is index_is low read is =
@@ -135,13 +151,16 @@ key_read entries places n {lent} {index} {place} {x} lent_is index_is low read i
     ∙ ap (λ o. option_and_then (key_in entries) (option_and_then (λ z. z) o)) (at ∙ ap Some is))
 
 -- nothing is found where no node has the key
-pub none_found : {K I N : Type 0} {eq : K → K → Bool} (laws : IsEquivalence eq) {number : I → ℕ} {nodes : List (Option N)}
+pub none_found : {K I N : Type 0} {eq : K → K → Bool} (laws : IsEquivalence eq)
+    {number : I → ℕ} {nodes : List (Option N)}
     {entries : List (K × I)} {places : List (Option ℕ)} → IsKept eq number nodes entries places → (k : K) (r : Option I)
     → option_map number r ≡ index_in eq (keys_at entries places) k → is_some r ≡ false → lookup (eq k) entries ≡ None
-none_found {K} {I} {N} {eq} laws {number} {nodes} {entries} {places} kept k r is none = by (lookup (eq k) entries) refl r is none
+none_found {K} {I} {N} {eq} laws {number} {nodes} {entries} {places} kept k r is none = by (lookup (eq k) entries) refl
+    r is none
   where
     by : (o : Option I) → lookup (eq k) entries ≡ o → (r : Option I)
-        → option_map number r ≡ index_in eq (keys_at entries places) k → is_some r ≡ false → lookup (eq k) entries ≡ None
+        → option_map number r ≡ index_in eq (keys_at entries places) k → is_some r ≡ false
+        → lookup (eq k) entries ≡ None
     by None o_is r is none = o_is
     by (Some i) o_is (Some j) is none = absurd (false≢true (sym none))
     by (Some i) o_is None is none =

@@ -1,6 +1,7 @@
 -- A key that is taken out of the entries, the last entry moving into its place.
 use Rattle.std.proofs.Common.{◌≡◌, ◌≢◌, ℕ, ◌-◌, ◌<◌, Bool, true, false, List, length, map, set, ◌⊎◌, inl, inr}
-use Rattle.std.proofs.Common.{Option, Some, None, is_some, get_or, slice_get, option_and_then, refl, sym, ap, subst, ◌∙◌, arith}
+use Rattle.std.proofs.Common.{Option, Some, None, is_some, get_or, slice_get, option_and_then, refl, sym, ap, subst}
+use Rattle.std.proofs.Common.{◌∙◌, arith}
 use Rattle.std.proofs.lemmas.Bool.{cases_lt, cases_eq}
 use Rattle.std.proofs.lemmas.List.{length-map, map-set, length-set}
 use Rattle.std.proofs.lemmas.Option.{slice_get_within, slice_get-get_or, slice_get_read, get_or_from_slice_get}
@@ -9,7 +10,8 @@ use Rattle.std.specs.List.{IsDistinct, swap_remove}
 use Rattle.std.specs.Map.{keys_of}
 use Rattle.std.specs.Option.{IfSome}
 use Rattle.daggy_base.specs.Graph.{slot}
-use Rattle.daggy_base.proofs.Lists.{IsSwapRemoved, IsSwapRemoved-from, slice_get-set_same, slice_get-set_other, map-set_same}
+use Rattle.daggy_base.proofs.Lists.{IsSwapRemoved, IsSwapRemoved-from, slice_get-set_same, slice_get-set_other}
+use Rattle.daggy_base.proofs.Lists.{map-set_same}
 use Rattle.daggy_named.specs.Places.{IsKept, key_in, keys_at}
 use Rattle.daggy_named.proofs.Slots.{slot_within, same_slots, same_option, what_is}
 use Rattle.daggy_named.proofs.Entries.{same_node, when_some}
@@ -66,7 +68,13 @@ module _ {K I N : Type 0} {eq : K → K → Bool} {number : I → ℕ} {nodes : 
                 place = inl (same, refl, apart);
               }
           | inr differs ↦
-              record { q' = q; found = sym (r.kept q below differs) ∙ is; other = differs; place = inr (differs, refl, below) }
+              record {
+                q' = q;
+                found = sym (r.kept q below differs)
+                    ∙ is;
+                other = differs;
+                place = inr (differs, refl, below);
+              }
         ]
         | inr past ↦ absurd (none_there (r.gone q past) is)
       ]
@@ -99,7 +107,8 @@ module _ {K I N : Type 0} {eq : K → K → Bool} {number : I → ℕ} {nodes : 
       ∙ sym (map-set is_some nodes (number i) None)
 
   module _ (once : IsDistinct eq (keys_of left)) where
-    left_alone : slice_get left p ≡ None → IsKept eq number (set nodes (number i) None) left (set places (number i) None)
+    left_alone : slice_get left p ≡ None → IsKept eq number (set nodes (number i) None) left
+        (set places (number i) None)
     left_alone gone =
         let is_last : (p ≢ last) → ⊥ = λ apart.
         none_there gone (r.moved apart ∙ slice_get-get_or entries last (k, i) (omega (arith, r.long))) in
@@ -112,7 +121,8 @@ module _ {K I N : Type 0} {eq : K → K → Bool} {number : I → ℕ} {nodes : 
               slot_set_other places (number i) (number i') None (apart_from s.q' (k', i') s.found s.other)
               ∙ kept_back ∙ ap Some same;
           forth = λ j q is. elim (cases_eq j (number i)) [
-            | inl same ↦ absurd (none_there (ap (slot (set places (number i) None)) same ∙ slot_set_same places (number i) None here_low) is)
+            | inl same ↦ absurd (none_there (ap (slot (set places (number i) None)) same
+                ∙ slot_set_same places (number i) None here_low) is)
             | inr differs ↦
                 let old = sym (slot_set_other places (number i) j None differs) ∙ is in
                 let e = kept.forth j q old in
@@ -154,7 +164,8 @@ module _ {K I N : Type 0} {eq : K → K → Bool} {number : I → ℕ} {nodes : 
               elim t.place [
                 | inl z ↦
                     let same : i' ≡ e.1 = same_node k' e.0 i' e.1 (ap (slice_get left) (sym z.0) ∙ is) moved in
-                    ap (slot (set gone m (Some p))) (ap number same) ∙ slot_set_same gone m (Some p) m_low ∙ ap Some (sym z.0)
+                    ap (slot (set gone m (Some p))) (ap number same) ∙ slot_set_same gone m (Some p) m_low
+                    ∙ ap Some (sym z.0)
                 | inr z ↦
                     let old : slot places (number i') ≡ Some q = kept.back t.q' k' i' t.found ∙ ap Some z.1 in
                     let not_m : number i' ≢ m = λ same.
@@ -170,14 +181,16 @@ module _ {K I N : Type 0} {eq : K → K → Bool} {number : I → ℕ} {nodes : 
             | inr not_m ↦
                 let in_gone : slot gone j ≡ Some q = sym (slot_set_other gone m j (Some p) not_m) ∙ is in
                 elim (cases_eq j (number i)) [
-                  | inl same ↦ absurd (none_there (ap (slot gone) same ∙ slot_set_same places (number i) None here_low) in_gone)
+                  | inl same ↦ absurd (none_there (ap (slot gone) same
+                      ∙ slot_set_same places (number i) None here_low) in_gone)
                   | inr differs ↦
                       let old = sym (slot_set_other places (number i) j None differs) ∙ in_gone in
                       let f = kept.forth j q old in
                       let apart = own_place j q old differs in
                       let below : q < last = elim (cases_eq q last) [
                         | inl same ↦
-                            absurd (not_m (sym f.3 ∙ ap number (same_node f.0 e.0 f.1 e.1 (ap (slice_get entries) (sym same) ∙ f.2) at_last)))
+                            absurd (not_m (sym f.3 ∙ ap number (same_node f.0 e.0 f.1 e.1
+                            (ap (slice_get entries) (sym same) ∙ f.2) at_last)))
                         | inr before ↦ omega (arith, before, r.long, slice_get_within entries q (f.0, f.1) f.2)
                       ] in
                       (f.0, f.1, r.kept q below apart ∙ f.2, f.3)
@@ -219,7 +232,8 @@ module _ {K I N : Type 0} {eq : K → K → Bool} {number : I → ℕ} {nodes : 
             | inl same ↦
                 same_option _ _ (λ x is. absurd ((key_left j x is).1 same))
                 (λ x is. absurd (none_there (ap (slot (set keys (number i) None)) same
-                ∙ slot_set_same keys (number i) None (omega (arith, here_low, length-map places (option_and_then (key_in entries))))) is))
+                ∙ slot_set_same keys (number i) None (omega
+                (arith, here_low, length-map places (option_and_then (key_in entries))))) is))
             | inr differs ↦
                 same_option _ _
                 (λ x is. slot_set_other keys (number i) j None differs ∙ (key_left j x is).0)
@@ -227,7 +241,8 @@ module _ {K I N : Type 0} {eq : K → K → Bool} {number : I → ℕ} {nodes : 
           ])
 
 -- the place of a node, as it is read
-place_read : (places : List (Option ℕ)) (n : ℕ) {index place : ℕ} {x : Option ℕ} → index ≡ n → is_some (slot places n) ≡ true
+place_read : (places : List (Option ℕ)) (n : ℕ) {index place : ℕ} {x : Option ℕ} → index ≡ n
+    → is_some (slot places n) ≡ true
     → x ≡ get_or places index x → x ≡ Some place → slot places n ≡ Some place
 place_read places n {index} {place} {x} index_is there read is =
     let held = what_is (slot places n) there in
@@ -241,7 +256,8 @@ module _ {K I : Type 0} {eq : K → K → Bool} (laws : IsEquivalence eq) {numbe
     (n : ℕ) {index place : ℕ} {x : Option ℕ} (index_is : index ≡ n) (there : is_some (slot places n) ≡ true)
     (read : x ≡ get_or places index x) (is_place : x ≡ Some place)
     {o : Option (K × I)} (p : K × I) (entry : o ≡ slice_get entries place) (some : o ≡ Some p)
-    (left : List (K × I)) (leaves : IfSome o (λ e. left ≡ swap_remove entries place e)) (once : IsDistinct eq (keys_of left)) where
+    (left : List (K × I)) (leaves : IfSome o (λ e. left ≡ swap_remove entries place e))
+    (once : IsDistinct eq (keys_of left)) where
   at : slot places n ≡ Some place
   at = place_read places n index_is there read is_place
 
@@ -279,7 +295,8 @@ module _ {K I : Type 0} {eq : K → K → Bool} (laws : IsEquivalence eq) {numbe
       subst (λ m. keys_at left (vacated number places place n e') ≡ set (keys_at entries places) m None) node_is
       (keys_removed kept place p.0 p.1 took left (length entries - 1) removed once laws
       (vacated number places place n e') (length-vacated e')
-      (subst (λ m. IsKept eq number (set places m None) left (vacated number places place n e')) (sym node_is) (taken e' is)))
+      (subst (λ m. IsKept eq number (set places m None) left (vacated number places place n e')) (sym node_is)
+      (taken e' is)))
 
   -- the entry that moved names a node with a slot
   pub moved_low : (e : K × I) → Some e ≡ slice_get left place → number e.1 < length places
@@ -288,13 +305,15 @@ module _ {K I : Type 0} {eq : K → K → Bool} (laws : IsEquivalence eq) {numbe
       slot_low places (number e.1) s.q' (kept.back s.q' e.0 e.1 s.found)
 
 -- the places suit other slots that are occupied alike
-pub kept_for : {K I A B : Type 0} {eq : K → K → Bool} {number : I → ℕ} {nodes : List (Option A)} (others : List (Option B))
+pub kept_for : {K I A B : Type 0} {eq : K → K → Bool}
+    {number : I → ℕ} {nodes : List (Option A)} (others : List (Option B))
     {entries : List (K × I)} {places : List (Option ℕ)} → map is_some nodes ≡ map is_some others
     → IsKept eq number nodes entries places → IsKept eq number others entries places
 kept_for others same kept =
     record { slots = kept.slots ∙ same; back = kept.back; forth = kept.forth; once = kept.once }
 
-pub slots_without : {A B : Type 0} (xs : List (Option A)) (ys : List (Option B)) (n : ℕ) → map is_some xs ≡ map is_some ys
+pub slots_without : {A B : Type 0} (xs : List (Option A)) (ys : List (Option B)) (n : ℕ)
+    → map is_some xs ≡ map is_some ys
     → map is_some (set xs n None) ≡ map is_some (set ys n None)
 slots_without xs ys n same =
     map-set is_some xs n None ∙ ap (λ l. set l n false) same ∙ sym (map-set is_some ys n None)

@@ -1,6 +1,8 @@
 -- Lists of slots: which are occupied, and when two lists are the same.
-use Rattle.std.proofs.Common.{◌≡◌, ℕ, zero, suc, ◌≤◌, Bool, true, false, cond, List, [], ◌∷◌, length, map, get_or, inl, inr}
-use Rattle.std.proofs.Common.{Option, Some, None, is_some, slice_get, position, nat_lt, lt-ltb, refl, sym, ap, ◌∙◌, arith}
+use Rattle.std.proofs.Common.{◌≡◌, ℕ, zero, suc, ◌≤◌, Bool, true, false, cond, List, [], ◌∷◌, length, map, get_or, inl}
+use Rattle.std.proofs.Common.{inr}
+use Rattle.std.proofs.Common.{Option, Some, None, is_some, slice_get, position, nat_lt, lt-ltb, refl, sym, ap, ◌∙◌}
+use Rattle.std.proofs.Common.{arith}
 use Rattle.std.proofs.lemmas.Bool.{false≢true, cases_lt}
 use Rattle.std.proofs.lemmas.List.Sums.{fails_before_first}
 use Rattle.std.proofs.lemmas.List.{length-map, map-append, map-set}
@@ -21,12 +23,14 @@ pub what_is : {A : Type 0} (o : Option A) → is_some o ≡ true → (x : A) × 
 what_is None h = absurd (false≢true h)
 what_is (Some x) h = (x, refl)
 
-pub slot_within : {A : Type 0} (xs : List (Option A)) (n : ℕ) (x : A) → slot xs n ≡ Some x → slice_get xs n ≡ Some (Some x)
+pub slot_within : {A : Type 0} (xs : List (Option A)) (n : ℕ) (x : A) → slot xs n ≡ Some x
+    → slice_get xs n ≡ Some (Some x)
 slot_within [] n x at = absurd cc
 slot_within (y ∷ ys) zero x at = ap Some at
 slot_within (y ∷ ys) (suc n) x at = slot_within ys n x at
 
-pub same_option : {A : Type 0} (a b : Option A) → ((x : A) → a ≡ Some x → b ≡ Some x) → ((x : A) → b ≡ Some x → a ≡ Some x) → a ≡ b
+pub same_option : {A : Type 0} (a b : Option A) → ((x : A) → a ≡ Some x → b ≡ Some x) → ((x : A) → b ≡ Some x
+    → a ≡ Some x) → a ≡ b
 same_option None None there back = refl
 same_option None (Some y) there back = back y refl
 same_option (Some x) b there back = sym (there x refl)
@@ -52,12 +56,14 @@ module _ {A B : Type 0} (xs : List (Option A)) (ys : List (Option B)) (same : ma
   occupied_too n y at = what_is (slot xs n) (same_marks n ∙ ap is_some at)
 
 -- what a slot holds, by its mark
-vacant_mark : {A : Type 0} (xs : List (Option A)) (v : ℕ) → slice_get xs v ≡ Some None → slice_get (map is_some xs) v ≡ Some false
+vacant_mark : {A : Type 0} (xs : List (Option A)) (v : ℕ) → slice_get xs v ≡ Some None
+    → slice_get (map is_some xs) v ≡ Some false
 vacant_mark [] v at = absurd cc
 vacant_mark (x ∷ xs) zero at = let e : x ≡ None = cc in ap (λ z. Some (is_some z)) e
 vacant_mark (x ∷ xs) (suc v) at = vacant_mark xs v at
 
-vacant_by_mark : {A : Type 0} (xs : List (Option A)) (v : ℕ) → slice_get (map is_some xs) v ≡ Some false → slice_get xs v ≡ Some None
+vacant_by_mark : {A : Type 0} (xs : List (Option A)) (v : ℕ) → slice_get (map is_some xs) v ≡ Some false
+    → slice_get xs v ≡ Some None
 vacant_by_mark [] v at = absurd cc
 vacant_by_mark (None ∷ xs) zero at = refl
 vacant_by_mark (Some x ∷ xs) zero at = absurd cc
@@ -88,7 +94,8 @@ not_found m n none =
     ]
 
 -- the index of the only element that passes a test
-pub position_only : {A : Type 0} (test : A → Bool) (xs : List A) (n : ℕ) (x : A) → slice_get xs n ≡ Some x → test x ≡ true
+pub position_only : {A : Type 0} (test : A → Bool) (xs : List A) (n : ℕ) (x : A) → slice_get xs n ≡ Some x
+    → test x ≡ true
     → ((m : ℕ) (y : A) → slice_get xs m ≡ Some y → test y ≡ true → m ≡ n) → position test xs ≡ Some n
 position_only test [] n x at passes only = absurd cc
 position_only test (y ∷ ys) n x at passes only = by (position test (y ∷ ys)) refl
@@ -100,7 +107,12 @@ position_only test (y ∷ ys) n x at passes only = by (position test (y ∷ ys))
     by None is =
         let reads : get_or (y ∷ ys) n x ≡ x = get_or_from_slice_get (y ∷ ys) n x x at in
         let fails : test x ≡ false = ap test (sym reads) ∙ fails_before_first test (y ∷ ys) n x
-        (omega (arith, slice_get_within (y ∷ ys) n x at, not_found (position_or_len test (y ∷ ys)) (length (y ∷ ys)) is)) in
+        (omega (
+          arith,
+          slice_get_within (y ∷ ys) n x at,
+          not_found (position_or_len test (y ∷ ys)) (length (y ∷ ys))
+              is,
+        )) in
         absurd (false≢true (sym fails ∙ passes))
 
 pub position_none : {A : Type 0} (test : A → Bool) (xs : List A)

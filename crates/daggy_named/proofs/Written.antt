@@ -6,7 +6,8 @@ use Rattle.daggy_base.proofs.Lists.{map-set_same}
 use Rattle.daggy_named.specs.Places.{IsKept}
 use Rattle.daggy_named.proofs.Slots.{slot_within, what_is}
 
-pub kept_written : {K I N : Type 0} {eq : K → K → Bool} {number : I → ℕ} {nodes : List (Option N)} {entries : List (K × I)}
+pub kept_written : {K I N : Type 0} {eq : K → K → Bool}
+    {number : I → ℕ} {nodes : List (Option N)} {entries : List (K × I)}
     {places : List (Option ℕ)} (n : ℕ) (w : N) → is_some (slot nodes n) ≡ true → IsKept eq number nodes entries places
     → IsKept eq number (set nodes n (Some w)) entries places
 kept_written {K} {I} {N} {eq} {number} {nodes} {entries} {places} n w there kept =

@@ -1,5 +1,6 @@
 -- A graph whose nodes are named by keys.
-use Rattle.std.specs.Prelude.{◌≡◌, ℕ, Bool, true, false, Option, Some, None, List, map, is_some, position, option_and_then}
+use Rattle.std.specs.Prelude.{◌≡◌, ℕ, Bool, true, false, Option, Some, None, List, map, is_some, position}
+use Rattle.std.specs.Prelude.{option_and_then}
 use Rattle.daggy_base.specs.Graph.{Graph, slot, node_weight}
 use Rattle.daggy_base.specs.Weights.{with_node_weight}
 

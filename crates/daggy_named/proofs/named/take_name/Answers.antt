@@ -35,7 +35,8 @@ returns-in-Some-clause-kept g c =
     let n = g.Ix.IndexType.number c.args.n in
     let P : ℕ → ℕ → Type 0 = λ a b. IsKept g.K.PartialEq.eq g.Ix.IndexType.number (set places n None)
     c.swap_remove_index.new.self.entries (set (set places a None) b (Some c.unwrap-place.result)) in
-    subst (λ a. P a c.index-moved.result) (sym c.index-3.ensures.value) (subst (λ b. P n b) (sym c.index-moved.ensures.value)
+    subst (λ a. P a c.index-moved.result) (sym c.index-3.ensures.value)
+    (subst (λ b. P n b) (sym c.index-moved.ensures.value)
     (taken g.met.K.Eq.laws c.requires.kept (g.Ix.IndexType.number c.args.n) c.index.ensures.value
     c.requires.there c.index-2.ensures c.unwrap-place.ensures c.unwrap-key.result c.swap_remove_index.ensures.entry
     c.unwrap-key.ensures c.swap_remove_index.new.self.entries c.swap_remove_index.ensures.entries

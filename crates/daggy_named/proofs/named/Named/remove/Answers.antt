@@ -26,5 +26,6 @@ invariant_of-self g c =
     let nodes_are : new.graph.nodes ≡ set old.graph.nodes n None =
     ap (λ d. d.graph.nodes) removed ∙ ap (λ l. set l n None) (nodes_isolated Stable old.graph n) in
     kept_for new.graph.nodes
-    (slots_without c.self.inside.places.items old.graph.nodes n c.self.invariant.slots ∙ ap (map is_some) (sym nodes_are))
+    (slots_without c.self.inside.places.items old.graph.nodes n c.self.invariant.slots
+    ∙ ap (map is_some) (sym nodes_are))
     c.take_name-key.ensures.kept
