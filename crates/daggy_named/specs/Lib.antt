@@ -1,0 +1,4 @@
+pub mod Naming
+pub mod Places
+pub mod Refused
+pub mod Lends

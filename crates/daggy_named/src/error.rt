@@ -1,0 +1,67 @@
+//! Why a named node or a dependency was not added. Each error holds what the call took.
+ghost use Rattle.std.specs.Prelude.{◌≡◌};
+ghost use Rattle.daggy_named.specs.Refused.{key_and_weight_of, weight_of};
+
+use thiserror::Error;
+
+/// A node was not added. It holds the key and the weight of that node.
+#[derive(Debug, Drop, Eq, Error, PartialEq)]
+pub enum AddError<K, N> {
+    /// Another node has the key.
+    #[error("the key is taken")]
+    Taken(K, N),
+    /// The index type has no index left.
+    #[error("no index left")]
+    Full(K, N),
+    /// Out of memory for the node.
+    #[error("out of memory")]
+    Memory(K, N),
+}
+
+impl<K, N> AddError<K, N> {
+    /// Returns the key and the weight that the call took.
+    pub fn into_parts(self) -> (K, N)
+        ensures { result ≡ key_and_weight_of self }
+    {
+        match self {
+            AddError::Taken(key, weight)
+            | AddError::Full(key, weight)
+            | AddError::Memory(key, weight) => (key, weight),
+        }
+    }
+}
+
+/// A dependency was not added. It holds the weight of its edge.
+#[derive(Debug, Drop, Eq, Error, PartialEq)]
+pub enum DependError<E> {
+    /// No node has the key of what is needed.
+    #[error("no node has the key of what is needed")]
+    UnknownOn(E),
+    /// No node has the key of what needs it.
+    #[error("no node has the key of what needs it")]
+    UnknownWhat(E),
+    /// The index type has no index left.
+    #[error("no index left")]
+    Full(E),
+    /// What is needed needs the other already, so the edge would close a cycle.
+    #[error("would close a cycle")]
+    WouldCycle(E),
+    /// Out of memory for the edge.
+    #[error("out of memory")]
+    Memory(E),
+}
+
+impl<E> DependError<E> {
+    /// Returns the weight that the call took.
+    pub fn into_weight(self) -> E
+        ensures { result ≡ weight_of self }
+    {
+        match self {
+            DependError::UnknownOn(weight)
+            | DependError::UnknownWhat(weight)
+            | DependError::Full(weight)
+            | DependError::WouldCycle(weight)
+            | DependError::Memory(weight) => weight,
+        }
+    }
+}

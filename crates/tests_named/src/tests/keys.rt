@@ -1,0 +1,128 @@
+//! Keys that are numbers, borrowed texts and owned texts.
+use super::support::{goes, made, same};
+use daggy_named::error::{AddError, DependError};
+use daggy_named::named::Named;
+use std::alloc::Global;
+use std::process::Abort;
+
+#[test]
+fn numbers_name_nodes(rt: HostRuntime) {
+    let mut dag: Named<u32, u64, u64> = Named::new(rt.alloc());
+    same(&rt, dag.is_empty(), true);
+    let seven = made(&rt, dag.add(7, 70));
+    let nine = made(&rt, dag.add(9, 90));
+    same(&rt, (seven.index(), nine.index()), (0, 1));
+    same(&rt, (dag.node_count(), dag.is_empty()), (2, false));
+    same(&rt, dag.index_of(&9), Some(nine));
+    same(&rt, dag.index_of(&8), None);
+    same(&rt, dag.key_of(seven), Some(&7));
+    same(&rt, dag.weight(&7), Some(&70));
+    same(&rt, dag.weight(&8), None);
+    same(&rt, dag.add(7, 71), Err(AddError::Taken(7, 71)));
+    same(&rt, dag.weight(&7), Some(&70));
+    let edge = made(&rt, dag.depend(&7, &9, 5));
+    same(&rt, dag.dag().edge_endpoints(edge), Some((seven, nine)));
+    same(&rt, dag.dag().edge_weight(edge), Some(&5));
+}
+
+#[test]
+fn a_key_is_added_once(rt: HostRuntime) {
+    let mut dag: Named<u32, u64, ()> = Named::new(rt.alloc());
+    let seven = made(&rt, dag.get_or_add(7, 70));
+    let nine = made(&rt, dag.get_or_add(9, 90));
+    same(&rt, made(&rt, dag.get_or_add(7, 71)), seven);
+    same(&rt, (dag.node_count(), dag.index_of(&9)), (2, Some(nine)));
+    same(
+        &rt,
+        (dag.weight(&7), dag.weight(&9)),
+        (Some(&70), Some(&90)),
+    );
+}
+
+#[test]
+fn weights_are_written_by_key(rt: HostRuntime) {
+    let mut dag: Named<u32, u64, u64> = Named::new(rt.alloc());
+    made(&rt, dag.add(7, 70));
+    made(&rt, dag.add(9, 90));
+    if let Some(weight) = dag.weight_mut(&9) {
+        *weight += 1;
+    }
+    same(&rt, dag.weight_mut(&8).is_some(), false);
+    same(&rt, dag.weight(&7), Some(&70));
+    same(&rt, dag.weight(&9), Some(&91));
+}
+
+#[test]
+fn texts_name_nodes(rt: HostRuntime) {
+    let mut dag: Named<&'static str, u32, u32> = Named::new(rt.alloc());
+    let sow = made(&rt, dag.add("sow", 1));
+    let hoe = made(&rt, dag.add("hoe", 2));
+    let reap = made(&rt, dag.add("reap", 3));
+    made(&rt, dag.depend(&"sow", &"hoe", 30));
+    made(&rt, dag.depend(&"hoe", &"reap", 60));
+    same(&rt, dag.key_of(hoe), Some(&"hoe"));
+    same(
+        &rt,
+        dag.depend(&"reap", &"sow", 5),
+        Err(DependError::WouldCycle(5)),
+    );
+    // The path that the refused edge would close.
+    goes(
+        &rt,
+        made(&rt, dag.cycle(&"reap", &"sow")),
+        &[sow, hoe, reap],
+    );
+    same(&rt, made(&rt, dag.cycle(&"sow", &"reap")).is_some(), false);
+    same(&rt, made(&rt, dag.cycle(&"sow", &"mow")).is_some(), false);
+    same(&rt, made(&rt, dag.cycle(&"mow", &"sow")).is_some(), false);
+    // A node needs itself by no path at all.
+    same(
+        &rt,
+        dag.depend(&"hoe", &"hoe", 6),
+        Err(DependError::WouldCycle(6)),
+    );
+    goes(&rt, made(&rt, dag.cycle(&"hoe", &"hoe")), &[hoe]);
+    // The first key that is unknown is told.
+    same(
+        &rt,
+        dag.depend(&"mow", &"sow", 7),
+        Err(DependError::UnknownOn(7)),
+    );
+    same(
+        &rt,
+        dag.depend(&"sow", &"mow", 8),
+        Err(DependError::UnknownWhat(8)),
+    );
+    same(
+        &rt,
+        dag.depend(&"mow", &"rake", 9),
+        Err(DependError::UnknownOn(9)),
+    );
+    same(&rt, dag.dag().edge_count(), 2);
+}
+
+fn text(rt: &impl Abort, alloc: Global, of: &str) -> String {
+    made(rt, String::from_str(alloc, of))
+}
+
+#[test]
+fn owned_texts_name_nodes(rt: HostRuntime) {
+    let alloc = rt.alloc();
+    let (sow, reap) = (text(&rt, alloc, "sow"), text(&rt, alloc, "reap"));
+    let mut dag: Named<String, u32, u32> = Named::new(alloc);
+    let first = made(&rt, dag.add(text(&rt, alloc, "sow"), 1));
+    let second = made(&rt, dag.add(text(&rt, alloc, "reap"), 2));
+    made(&rt, dag.depend(&sow, &reap, 90));
+    same(&rt, dag.index_of(&sow), Some(first));
+    same(&rt, dag.key_of(second), Some(&reap));
+    same(
+        &rt,
+        dag.depend(&reap, &sow, 5),
+        Err(DependError::WouldCycle(5)),
+    );
+    let taken = dag.add(text(&rt, alloc, "sow"), 3);
+    same(&rt, taken, Err(AddError::Taken(text(&rt, alloc, "sow"), 3)));
+    same(&rt, dag.remove(&sow), Some((text(&rt, alloc, "sow"), 1)));
+    same(&rt, dag.index_of(&sow), None);
+    same(&rt, dag.weight(&reap), Some(&2));
+}
