@@ -42,6 +42,14 @@ pub use Rattle.daggy_order.specs.Paths
 pub use Rattle.daggy_dag.specs.Retaining
 pub use Rattle.daggy_schedule.specs.Work
 pub use Rattle.daggy_schedule.specs.Times
+pub use Rattle.daggy_schedule.specs.LeastFirst
+pub use Rattle.daggy_schedule.specs.Assignments
+pub use Rattle.daggy_traversal.specs.Traversal
+pub use Rattle.daggy_traversal.specs.Breadth
+pub use Rattle.daggy_traversal.specs.Depth
+pub use Rattle.daggy_traversal.specs.Postorder
+pub use Rattle.daggy_named.specs.Naming
+pub use Rattle.daggy_dot.specs.Picture
 pub use Rattle.daggy_base.specs.Look
 pub use Rattle.daggy_base.specs.Errors
 pub use Rattle.daggy_base.specs.Capacity

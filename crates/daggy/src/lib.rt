@@ -19,17 +19,20 @@
 //!
 //! [`graph`] and [`stable_graph`] are the stores below, which may hold cycles, [`search`] finds
 //! paths in any graph, and [`visit`] has traits for generic code. [`run`] carries out lists of
-//! commands over a dag of either kind, [`schedule`] works off its nodes, and [`dot`] draws it.
+//! commands over a dag of either kind, [`schedule`] works off its nodes, [`traversal`] walks over what
+//! a node reaches, and [`dot`] draws it. In [`named`] the nodes have keys.
 #![tactic(auto)]
 
 pub mod dot;
 pub mod graph;
 pub mod index;
 pub mod json;
+pub mod named;
 pub mod run;
 pub mod schedule;
 pub mod search;
 pub mod stable_graph;
+pub mod traversal;
 
 pub use daggy_base::element::IntoWeightedEdge;
 pub use daggy_base::error::{

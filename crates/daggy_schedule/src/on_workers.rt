@@ -39,7 +39,7 @@ pub struct Assignment {
 /// takes, of the nodes whose parents have all finished, the one from which the longest path leads, of
 /// equal ones the one with the smallest index. `durations` is called once with each node.
 ///
-/// No way to do the nodes on as many workers takes less than half the time.
+/// No other schedule on as many workers has a makespan of half of this one or less.
 ///
 /// # Errors
 ///

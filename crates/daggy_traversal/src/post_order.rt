@@ -33,10 +33,15 @@ use std::marker::Model;
 /// # Examples
 ///
 /// ```
+/// let mut dag: Dag<&'static str, u32> = Dag::new(rt.alloc());
+/// let sow = dag.add_node("sow")?;
+/// let (_, water) = dag.add_child(sow, 1, "water")?;
+/// let (_, reap) = dag.add_child(water, 90, "reap")?;
 /// let mut walk = DfsPostOrder::new(rt.alloc(), dag.graph(), sow, Direction::Outgoing)?;
-/// while let Some(n) = walk.next(dag.graph()) {
-///     println!(rt; "{}", n.index())?;
-/// }
+/// assert!(rt; walk.next(dag.graph()) == Some(reap));
+/// assert!(rt; walk.next(dag.graph()) == Some(water));
+/// assert!(rt; walk.next(dag.graph()) == Some(sow));
+/// assert!(rt; walk.next(dag.graph()).is_none());
 /// ```
 #[derive(Drop)]
 pub struct DfsPostOrder<Ix: IndexType = DefaultIx> {

@@ -1,8 +1,11 @@
 //! The examples in the docs of the dag's calls. `.ci/checks/examples.sh` compares the texts.
 
 use daggy::dot::Dot;
-use daggy::schedule::{Ready, Schedule};
-use daggy::{Dag, EdgeError, StableDag, Walker, WouldCycle};
+use daggy::named::{DependError, Named};
+use daggy::schedule::{Ready, Schedule, schedule_on, topological_order_by};
+use daggy::traversal::{Bfs, Dfs, DfsPostOrder};
+use daggy::{Dag, Direction, EdgeError, StableDag, Walker, WouldCycle};
+use std::num::NonZeroUsize;
 use std::test::Fail;
 
 #[test]
@@ -201,5 +204,89 @@ fn dot(rt: HostRuntime) -> Result<(), Fail> {
     let picture = format!(in rt.alloc(); "{}", Dot::new(&dag).bold(&path))?;
     let line = "0 -> 1 [ label = \"90\" style = bold ]";
     assert!(rt; picture.as_str().contains(line));
+    Ok(())
+}
+
+#[test]
+fn named(rt: HostRuntime) -> Result<(), Fail> {
+    let mut plan: Named<&'static str, u32, ()> = Named::new(rt.alloc());
+    let sow = plan.add("sow", 1)?;
+    let reap = plan.add("reap", 2)?;
+    plan.depend(&"sow", &"reap", ())?;
+    assert!(rt; plan.index_of(&"reap") == Some(reap));
+    assert!(rt; plan.key_of(sow) == Some(&"sow"));
+    assert!(rt; plan.depend(&"reap", &"sow", ()) == Err(DependError::WouldCycle(())));
+    assert!(rt; plan.remove(&"sow") == Some(("sow", 1)));
+    assert!(rt; plan.index_of(&"sow").is_none());
+    Ok(())
+}
+
+#[test]
+fn on_workers(rt: HostRuntime) -> Result<(), Fail> {
+    let mut dag: Dag<u64, ()> = Dag::new(rt.alloc());
+    let dig = dag.add_node(2)?;
+    let (_, sow) = dag.add_child(dig, (), 3)?;
+    let fence = dag.add_node(4)?;
+    let plan = schedule_on(rt.alloc(), &dag, |_, hours| *hours, NonZeroUsize::MIN)?;
+    assert!(rt; plan.makespan == 9);
+    let two = NonZeroUsize::MIN.saturating_add(1);
+    let plan = schedule_on(rt.alloc(), &dag, |_, hours| *hours, two)?;
+    assert!(rt; plan.makespan == 5);
+    assert!(rt; plan.workers[dig.index()] == plan.workers[sow.index()]);
+    assert!(rt; plan.workers[fence.index()] == 1);
+    Ok(())
+}
+
+#[test]
+fn order_by(rt: HostRuntime) -> Result<(), Fail> {
+    let mut dag: Dag<&'static str, ()> = Dag::new(rt.alloc());
+    let water = dag.add_node("water")?;
+    let sow = dag.add_node("sow")?;
+    let dig = dag.add_node("dig")?;
+    dag.add_edge(sow, water, ())?;
+    let order = topological_order_by(rt.alloc(), &dag, |_, name| *name)?;
+    assert!(rt; order.as_slice() == [dig, sow, water].as_slice());
+    Ok(())
+}
+
+#[test]
+fn breadth_first(rt: HostRuntime) -> Result<(), Fail> {
+    let mut dag: Dag<&'static str, u32> = Dag::new(rt.alloc());
+    let sow = dag.add_node("sow")?;
+    let (_, water) = dag.add_child(sow, 1, "water")?;
+    let (_, reap) = dag.add_child(water, 90, "reap")?;
+    let mut walk = Bfs::new(rt.alloc(), dag.graph(), sow, Direction::Outgoing)?;
+    assert!(rt; walk.next(dag.graph()) == Some(sow));
+    assert!(rt; walk.next(dag.graph()) == Some(water));
+    assert!(rt; walk.next(dag.graph()) == Some(reap));
+    assert!(rt; walk.next(dag.graph()).is_none());
+    Ok(())
+}
+
+#[test]
+fn depth_first(rt: HostRuntime) -> Result<(), Fail> {
+    let mut dag: Dag<&'static str, u32> = Dag::new(rt.alloc());
+    let sow = dag.add_node("sow")?;
+    let (_, water) = dag.add_child(sow, 1, "water")?;
+    let (_, reap) = dag.add_child(water, 90, "reap")?;
+    let mut walk = Dfs::new(rt.alloc(), dag.graph(), sow, Direction::Outgoing)?;
+    assert!(rt; walk.next(dag.graph()) == Some(sow));
+    assert!(rt; walk.next(dag.graph()) == Some(water));
+    assert!(rt; walk.next(dag.graph()) == Some(reap));
+    assert!(rt; walk.next(dag.graph()).is_none());
+    Ok(())
+}
+
+#[test]
+fn postorder(rt: HostRuntime) -> Result<(), Fail> {
+    let mut dag: Dag<&'static str, u32> = Dag::new(rt.alloc());
+    let sow = dag.add_node("sow")?;
+    let (_, water) = dag.add_child(sow, 1, "water")?;
+    let (_, reap) = dag.add_child(water, 90, "reap")?;
+    let mut walk = DfsPostOrder::new(rt.alloc(), dag.graph(), sow, Direction::Outgoing)?;
+    assert!(rt; walk.next(dag.graph()) == Some(reap));
+    assert!(rt; walk.next(dag.graph()) == Some(water));
+    assert!(rt; walk.next(dag.graph()) == Some(sow));
+    assert!(rt; walk.next(dag.graph()).is_none());
     Ok(())
 }

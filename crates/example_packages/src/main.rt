@@ -1,0 +1,109 @@
+//! What the packages of a Debian system need: a program that uses `daggy`.
+//!
+//! It reads the list of packages that `dpkg` keeps, and prints an order in which to install them, or
+//! a picture.
+#![tactic(auto)]
+
+mod needs;
+mod status;
+
+use crate::needs::Needs;
+use crate::status::{BadLine, Packages};
+use anyhow::{Context, Result};
+use clap::{Arg, ArgAction, Command};
+use std::alloc::{AllocError, Global};
+use std::io::{BufRead, BufReader, Read};
+use std::process::ExitCode;
+use std::rt::{Env, Files};
+use std::{env, fs};
+
+static DETAILS: &str = "\
+The input has the form of /var/lib/dpkg/status: a paragraph for each package, of lines `Field: \
+value`. The fields Package, Status, Installed-Size, Provides, Depends and Pre-Depends are read. Of \
+alternatives, as in `Depends: mawk | gawk`, the first that is installed or provided counts.
+
+The packages are printed in stages: each needs only packages of earlier stages, and no division into \
+fewer stages is possible. The last line is the path of packages that are the most to install one \
+after another, by their sizes.
+
+A need that would close a cycle is left out, and the cycle is reported on standard error, and so are \
+needs that nothing meets, and bad lines.
+
+Exit status: 0 if every line was good, 1 if one was bad, 2 if the arguments are wrong, the input \
+cannot be read, or memory runs out.";
+
+/// The command line.
+fn command<'a>(alloc: Global) -> Result<Command<'a>, AllocError> {
+    let dot = Arg::new(alloc, "dot")
+        .long("dot")
+        .action(ArgAction::SetTrue)
+        .help("Print a picture for graphviz instead of the stages");
+    let file = Arg::new(alloc, "file")
+        .value_name("FILE")
+        .help("The file to read [default: standard input]");
+    Command::new(alloc, "example_packages")
+        .about("Prints the packages of a Debian system in stages, each after what it needs.")
+        .after_help(DETAILS)
+        .arg(dot)?
+        .arg(file)
+}
+
+/// Reads all lines, numbered from 1. Bad ones are reported; returns how many there were.
+fn read<R: Read + Drop>(
+    rt: &(impl Eprint + AllocGlobal),
+    input: R,
+    packages: &mut Packages,
+) -> Result<u64> {
+    let input = BufReader::new(rt.alloc(), input)?;
+    let mut number = 0u64;
+    let mut bad = 0u64;
+    for line in input.split(rt.alloc(), b'\n') {
+        number = number.checked_add(1).context("too many lines")?;
+        match packages.take_line(line?.as_slice()) {
+            Ok(()) => {}
+            Err(BadLine::Memory(error)) => return Err(error.into()),
+            Err(error) => {
+                eprintln!(rt; "line {number}: {error}")?;
+                bad = bad.saturating_add(1);
+            }
+        }
+    }
+    Ok(bad)
+}
+
+/// Runs the program, and returns its exit status.
+fn run(rt: &(impl Env + Files + Input + Print + Eprint + AllocGlobal)) -> Result<u8> {
+    let words: Vec<String> = env::args(rt)?.collect(rt.alloc())?;
+    let matches = match command(rt.alloc())?.try_get_matches_from(words.as_slice()) {
+        Ok(matches) => matches,
+        Err(error) => {
+            error.print(rt)?;
+            return Ok(if error.use_stderr() { 2 } else { 0 });
+        }
+    };
+    let mut packages = Packages::new(rt.alloc());
+    let bad = match matches.get_str("file") {
+        Some(path) => {
+            let file = fs::open(rt, path).with_context(|| format_args!("{path}"))?;
+            read(rt, file, &mut packages)?
+        }
+        None => read(rt, rt.reader(), &mut packages)?,
+    };
+    let needs = Needs::of(rt, packages.as_slice())?;
+    if matches.get_flag("dot") {
+        needs.draw(rt)?;
+    } else {
+        needs.print(rt)?;
+    }
+    Ok(if bad == 0 { 0 } else { 1 })
+}
+
+fn main(rt: HostRuntime) -> ExitCode {
+    match run(&rt) {
+        Ok(status) => ExitCode::from(status),
+        Err(error) => {
+            let _ = eprintln!(rt; "example_packages: {error:#}");
+            ExitCode::from(2)
+        }
+    }
+}
