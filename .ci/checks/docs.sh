@@ -1,6 +1,7 @@
 #!/usr/bin/env bash
-# The first example of the README is the text of a test, each block of code in docs/USING.md and docs/SHEET.md stands in a
-# file that the gate checks, and each run in the README, in docs/COMMANDS.md and in docs/SHEET.md prints what stands there.
+# The first example of the README is the text of a test, each block of code in docs/USING.md and in the pages of the examples
+# stands in a file that the gate checks, and each run in the README, in docs/COMMANDS.md and in those pages prints what stands
+# there.
 set -u
 cd "$(dirname "$0")/../.." || exit 1
 exec python3 - <<'PYTHON'
@@ -60,9 +61,8 @@ sources = {path: code_of(text_of(path)) for path in files}
 page = text_of("docs/USING.md")
 if blocks(page, "text") != [text_of("crates/example_garden/stdout")]:
     complain("docs/USING.md: the program of .ci/use prints something else")
-sheet = text_of("docs/SHEET.md")
-using = [("docs/USING.md", block) for block in blocks(page, "rust")]
-using += [("docs/SHEET.md", block) for block in blocks(sheet, "rust")]
+pages = {"docs/SHEET.md": "example_sheet", "docs/PACKAGES.md": "example_packages"}
+using = [(path, block) for path in ["docs/USING.md", *pages] for block in blocks(text_of(path), "rust")]
 for path, block in using:
     parts = [code_of(part) for part in re.split(r"^ *// \.\.$", block, flags=re.M)]
     if not any(all(stands_in(part, lines) for part in parts if part) for lines in sources.values()):
@@ -87,15 +87,17 @@ if not shown or len(shown) != len(blocks(commands, "sh")):
     complain("docs/COMMANDS.md has a run of another form")
 runs += [(shlex.split(words), sent, said, "") for words, sent, said in shown]
 
-# Those of the spreadsheet.
-shown = re.findall(
-    r"^```sh\nrt try <<'END'\n(.*?)^END\n```\n\nIt prints:\n\n```text\n(.*?)^```\n\nand on standard error:\n\n```text\n(.*?)^```$",
-    sheet,
-    re.M | re.S,
-)
-if not shown or len(shown) != len(blocks(sheet, "sh")):
-    complain("docs/SHEET.md has a run of another form")
-calculations = [([], *texts) for texts in shown]
+# Those of the examples.
+examples = []
+for path, name in pages.items():
+    shown = re.findall(
+        r"^```sh\nrt try <<'END'\n(.*?)^END\n```\n\nIt prints:\n\n```text\n(.*?)^```\n\nand on standard error:\n\n```text\n(.*?)^```$",
+        text_of(path),
+        re.M | re.S,
+    )
+    if not shown or len(shown) != len(blocks(text_of(path), "sh")):
+        complain(f"{path} has a run of another form")
+    examples.append((name, [([], *texts) for texts in shown]))
 
 
 def compare(name, runs):
@@ -120,8 +122,9 @@ def compare(name, runs):
 
 
 compare("dagbench", runs)
-compare("example_sheet", calculations)
+for name, shown in examples:
+    compare(name, shown)
 
-print(f"{len(using)} blocks of code and {len(runs) + len(calculations)} runs, {bad} bad")
+print(f"{len(using)} blocks of code and {len(runs) + sum(len(shown) for _, shown in examples)} runs, {bad} bad")
 sys.exit(bad > 0)
 PYTHON

@@ -87,8 +87,8 @@ impl Needs {
         for alternatives in package.needs.as_slice() {
             let Some(needed) = self.found(alternatives.as_slice()) else {
                 eprint!(rt; "{} needs", package.name)?;
-                for name in alternatives.as_slice() {
-                    eprint!(rt; " {name}")?;
+                for (i, name) in alternatives.as_slice().iter().enumerate() {
+                    eprint!(rt; "{} {name}", if i == 0 { "" } else { " |" })?;
                 }
                 eprintln!(rt; ", not installed")?;
                 continue;

@@ -1,22 +1,16 @@
 //! Dags of which a closure keeps some nodes, or some edges.
 use super::acts::{TRIANGLE, dag_of};
-use super::kinds::{Compact, Plain, Stable, note};
+use super::kinds::{Compact, Kind, Plain, Stable, note};
 use super::support::{holds, same};
 use super::table::{Answer, Call, Row, play};
 use daggy_base::source::EdgeSource;
-use daggy_base::store::Store;
 use daggy_walk::visit::NodeIndexable;
 use std::alloc::Global;
 use std::cell::Cell;
 use std::process::Abort;
 
 // Keeps the nodes of a triangle but those of one weight, and asserts what is left.
-fn keeps_nodes<S: Store<u8, NodeWeight = u32, EdgeWeight = u32>>(
-    rt: &impl Abort,
-    alloc: Global,
-    without: u32,
-    left: &[Row<'_>],
-) {
+fn keeps_nodes<S: Kind>(rt: &impl Abort, alloc: Global, without: u32, left: &[Row<'_>]) {
     let mut dag: Plain<S> = dag_of(rt, alloc, &TRIANGLE);
     let calls = Cell::new(0);
     dag.retain_nodes(|n, weight| {
@@ -28,12 +22,7 @@ fn keeps_nodes<S: Store<u8, NodeWeight = u32, EdgeWeight = u32>>(
 }
 
 // The same for its edges.
-fn keeps_edges<S: Store<u8, NodeWeight = u32, EdgeWeight = u32>>(
-    rt: &impl Abort,
-    alloc: Global,
-    without: u32,
-    left: &[Row<'_>],
-) {
+fn keeps_edges<S: Kind>(rt: &impl Abort, alloc: Global, without: u32, left: &[Row<'_>]) {
     let mut dag: Plain<S> = dag_of(rt, alloc, &TRIANGLE);
     let calls = Cell::new(0);
     dag.retain_edges(|e, weight| {
