@@ -52,9 +52,6 @@ module _ {A B : Type 0} (xs : List (Option A)) (ys : List (Option B)) (same : ma
   pub same_marks : (n : ℕ) → is_some (slot xs n) ≡ is_some (slot ys n)
   same_marks n = marked xs n ∙ ap (λ l. get_or l n false) same ∙ sym (marked ys n)
 
-  pub occupied_too : (n : ℕ) (y : B) → slot ys n ≡ Some y → (x : A) × (slot xs n ≡ Some x)
-  occupied_too n y at = what_is (slot xs n) (same_marks n ∙ ap is_some at)
-
 -- what a slot holds, by its mark
 vacant_mark : {A : Type 0} (xs : List (Option A)) (v : ℕ) → slice_get xs v ≡ Some None
     → slice_get (map is_some xs) v ≡ Some false

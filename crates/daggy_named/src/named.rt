@@ -38,7 +38,9 @@ use std::marker::Model;
 ///
 /// # Complexity
 ///
-/// The key of a node is found in O(1), and the node of a key in O(1) on average.
+/// The key of a node is found in O(1), and the node of a key in O(1) on average. Otherwise a call
+/// costs as much as the call of the dag that it makes: `add_node`, `add_edge`, `path` or
+/// `remove_node`.
 ///
 /// # Examples
 ///
@@ -266,6 +268,18 @@ impl<K: Eq + Hash + Drop, N: Drop, E: Drop, Ix: IndexType> Named<K, N, E, Ix> {
     /// # Errors
     ///
     /// Returns `AllocError` if the memory for the path cannot be allocated.
+    ///
+    /// # Examples
+    ///
+    /// ```
+    /// let mut plan: Named<&'static str, u32, ()> = Named::new(rt.alloc());
+    /// let sow = plan.add("sow", 1)?;
+    /// let reap = plan.add("reap", 2)?;
+    /// plan.depend(&"sow", &"reap", ())?;
+    /// // The cycle that an edge from `reap` to `sow` would close.
+    /// let cycle = plan.cycle(&"reap", &"sow")?;
+    /// assert!(rt; cycle.is_some_and(|nodes| nodes.as_slice() == [sow, reap].as_slice()));
+    /// ```
     pub fn cycle(&mut self, on: &K, what: &K) -> Result<Option<Vec<NodeIndex<Ix>>>, AllocError>
         ensures path { IfOk result (λ found. IfSome found (λ path.
             ForNodes K.eq self.old.keys on.now what.now (λ u v.

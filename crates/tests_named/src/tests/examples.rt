@@ -16,3 +16,15 @@ fn a_plan_by_names(rt: HostRuntime) -> Result<(), Fail> {
     assert!(rt; plan.index_of(&"sow").is_none());
     Ok(())
 }
+
+#[test]
+fn the_cycle_of_a_plan(rt: HostRuntime) -> Result<(), Fail> {
+    let mut plan: Named<&'static str, u32, ()> = Named::new(rt.alloc());
+    let sow = plan.add("sow", 1)?;
+    let reap = plan.add("reap", 2)?;
+    plan.depend(&"sow", &"reap", ())?;
+    // The cycle that an edge from `reap` to `sow` would close.
+    let cycle = plan.cycle(&"reap", &"sow")?;
+    assert!(rt; cycle.is_some_and(|nodes| nodes.as_slice() == [sow, reap].as_slice()));
+    Ok(())
+}

@@ -15,14 +15,14 @@ fn numbers_name_nodes(rt: HostRuntime) {
     same(&rt, (dag.node_count(), dag.is_empty()), (2, false));
     same(&rt, dag.index_of(&9), Some(nine));
     same(&rt, dag.index_of(&8), None);
-    same(&rt, dag.key_of(seven), Some(&7));
-    same(&rt, dag.weight(&7), Some(&70));
-    same(&rt, dag.weight(&8), None);
+    same(&rt, dag.key_of(seven).copied(), Some(7));
+    same(&rt, dag.weight(&7).copied(), Some(70));
+    same(&rt, dag.weight(&8).copied(), None);
     same(&rt, dag.add(7, 71), Err(AddError::Taken(7, 71)));
-    same(&rt, dag.weight(&7), Some(&70));
+    same(&rt, dag.weight(&7).copied(), Some(70));
     let edge = made(&rt, dag.depend(&7, &9, 5));
     same(&rt, dag.dag().edge_endpoints(edge), Some((seven, nine)));
-    same(&rt, dag.dag().edge_weight(edge), Some(&5));
+    same(&rt, dag.dag().edge_weight(edge).copied(), Some(5));
 }
 
 #[test]
