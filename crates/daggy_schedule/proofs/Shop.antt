@@ -1,6 +1,7 @@
 -- What the next node of a shop is.
-use Rattle.std.proofs.Common.{◌≡◌, ℕ, ◌<◌, ◌≤◌, ◌⊎◌, inl, inr, List, [], ◌∷◌, refl, IsPermutation, arith, Contains}
+use Rattle.std.proofs.Common.{◌≢◌, ◌≡◌, ℕ, ◌<◌, ◌≤◌, ◌⊎◌, inl, inr, List, [], ◌∷◌, refl, IsPermutation, arith, Contains}
 use Rattle.std.proofs.lemmas.List.Sorted.{IsPermutation-map, IsPermutation-sym}
+use Rattle.std.proofs.lemmas.List.Elements.{All-from_recursion, All-contains}
 use Rattle.std.proofs.lemmas.Cmp.{ranked}
 use Rattle.std.specs.Ordering.{nat_cmp, MatchOrdering}
 use Rattle.std.specs.List.{AllByRecursion}
@@ -24,3 +25,18 @@ first_low p (q ∷ qs) h = (low (nat_cmp p.0 q.0) (ranked p.0 q.0 _ refl) h.0, f
     low Less is c = omega (arith, is)
     low Equal is c = omega (arith, is)
     low Greater is c = elim c [ inl e ↦ absurd cc | inr e ↦ (let f = e.0 in absurd cc) ]
+
+-- if the first to finish does not do so now, none does
+pub all_later : (now finish : ℕ) (ps : List (ℕ × ℕ)) → AllByRecursion (λ p. now ≤ p.0) ps
+    → (n : ℕ) × Contains ps (finish, n) × AllByRecursion (Precedes nat_cmp (finish, n)) ps → finish ≢ now
+    → AllByRecursion (λ p. now < p.0) ps
+all_later now finish ps ends first other =
+    let low : now ≤ finish =
+    All-contains (λ (p : ℕ × ℕ). now ≤ p.0) ps (finish, first.0)
+    (All-from_recursion (λ (p : ℕ × ℕ). now ≤ p.0) ps ends) first.1 in
+    more ps (first_low (finish, first.0) ps first.2) low
+  where
+    more : (qs : List (ℕ × ℕ)) → AllByRecursion (λ q. finish ≤ q.0) qs → now ≤ finish
+        → AllByRecursion (λ q. now < q.0) qs
+    more [] h low = tt
+    more (q ∷ qs) h low = (omega (arith, h.0, low, other), more qs h.1 low)

@@ -18,6 +18,10 @@ use Rattle.daggy_schedule.proofs.Keeping.{by_set}
 use Rattle.daggy_schedule.proofs.Ordering.{mem_shuffled, parent_joined, joined_parent}
 use Rattle.daggy_schedule.proofs.Shift.{IsShift, HasBegun, staff_of, finish}
 
+-- u starts before n, and finishes by the time when that starts
+abbrev pub IsInTime : (d starts : List ℕ) → (n u : ℕ) → Type 0
+IsInTime d starts n u = (get_or starts u 0 < get_or starts n 0) × (finish d starts u ≤ get_or starts n 0)
+
 module _ {N E : Type 0} (g : Graph N E) (d : List ℕ) (latest : ℕ → ℕ) where
   abbrev pub Comes : ℕ → ℕ → Type 0
   Comes n m = Precedes nat_cmp (latest n, n) (latest m, m)
@@ -25,9 +29,9 @@ module _ {N E : Type 0} (g : Graph N E) (d : List ℕ) (latest : ℕ → ℕ) wh
   pub record IsUrgent (work : Work) (waiting running : List (ℕ × ℕ)) (starts : List ℕ) : Type 0 where
     pub keys : AllByRecursion (λ p. p.0 ≡ latest p.1) waiting
     pub unbegun : (n m : ℕ) → HasBegun work running n → HasNode g m → (HasBegun work running m → ⊥)
-        → ((u : ℕ) → AreJoined g u m → HasBegun work running u × (finish d starts u < get_or starts n 0)) → Comes n m
+        → ((u : ℕ) → AreJoined g u m → HasBegun work running u × IsInTime d starts n u) → Comes n m
     pub begun : (n m : ℕ) → HasBegun work running n → HasBegun work running m → get_or starts n 0 < get_or starts m 0
-        → ((u : ℕ) → AreJoined g u m → finish d starts u < get_or starts n 0) → Comes n m
+        → ((u : ℕ) → AreJoined g u m → IsInTime d starts n u) → Comes n m
 
 -- all workers do something at a time
 abbrev pub AllBusy : (d : List ℕ) (count : ℕ) (work : Work) (running : List (ℕ × ℕ)) (starts staff : List ℕ) → ℕ → Type 0
@@ -228,19 +232,31 @@ module _ {N E : Type 0} {g : Graph N E} {d : List ℕ} {count : ℕ} {work : Wor
           | inr b ↦ (b, omega (arith, ends, start_kept u (old u b)))
         ]
 
+    -- what started before now was begun before
+    began : (u : ℕ) → HasBegun work more u → get_or starts' u 0 < now → HasBegun work running u
+    began u b low =
+        elim (split u b) [
+          | inl same ↦ absurd (omega (arith, low, ap (λ z. get_or starts' z 0) same, start_now))
+          | inr b ↦ b
+        ]
+
     module _ {latest : ℕ → ℕ} (r : IsUrgent g d latest work waiting running starts)
-        (first : AllByRecursion (Precedes nat_cmp (k, n)) left) where
+        (first : AllByRecursion (Precedes nat_cmp (k, n)) left) (later : AllByRecursion (λ p. now < p.0) running) where
+      later_on : (u : ℕ) → Mem u (nodes_of running) → now < finish d starts u
+      later_on u m = of_node (λ p. now < p.0) (finish d starts) running s.keys later u m
+
       left_keys : (k ≡ latest n) × AllByRecursion (λ p. p.0 ≡ latest p.1) left
       left_keys = every_shuffled (λ p. p.0 ≡ latest p.1) waiting ((k, n) ∷ left) taken r.keys
 
       -- the new node comes before what waits
       comes_first : (m : ℕ) → HasNode g m → (HasBegun work more m → ⊥)
-          → ((u : ℕ) → AreJoined g u m → HasBegun work more u × (finish d starts' u < now)) → Comes g d latest n m
+          → ((u : ℕ) → AreJoined g u m → HasBegun work more u × (get_or starts' u 0 < now) × (finish d starts' u ≤ now))
+          → Comes g d latest n m
       comes_first m has not come =
           let parents : (u : ℕ) → AreJoined g u m → IsSet work.done u = λ u j.
           (let h = come u j in
-          let e = early u now (omega arith) h.0 h.1 in
-          elim e.0 [ inl b ↦ b | inr runs ↦ absurd (omega (arith, runs_on u runs, e.1)) ]) in
+          let e = began u h.0 h.1 in
+          elim e [ inl b ↦ b | inr runs ↦ absurd (omega (arith, later_on u runs, h.2, start_kept u (old u (inr runs)))) ]) in
           let there = waits_if m has (λ b. not (still_begun m b)) parents in
           let in_left : Mem m (nodes_of left) =
           elim (mem_shuffled (nodes_of waiting) (n ∷ nodes_of left) m taken_nodes there) [
@@ -262,13 +278,23 @@ module _ {N E : Type 0} {g : Graph N E} {d : List ℕ} {count : ℕ} {work : Wor
                 elim (split a b) [
                   | inl same ↦ (
                       let C : ℕ → Type 0 = λ z. Comes g d latest z m in
-                      subst C (sym same) (comes_first m has not (λ u j. let h = come u j in
-                      (h.0, omega (arith, h.1, ap (λ z. get_or starts' z 0) same, start_now))))
+                      subst C (sym same) (comes_first m has not (λ u j. let h = come u j in (
+                        h.0,
+                        omega (arith, h.1.0, ap (λ z. get_or starts' z 0) same, start_now),
+                        omega (arith, h.1.1, ap (λ z. get_or starts' z 0) same, start_now),
+                      )))
                       )
                   | inr b ↦
                       r.unbegun a m b has (λ c. not (still_begun m c)) (λ u j.
                       let h = come u j in
-                      early u (get_or starts a 0) (started a b) h.0 (omega (arith, h.1, start_kept a (old a b))))
+                      let kept = start_kept a (old a b) in
+                      let e = began u h.0 (omega (arith, h.1.0, kept, started a b)) in (
+                        e,
+                        (
+                          omega (arith, h.1.0, kept, start_kept u (old u e)),
+                          omega (arith, h.1.1, kept, start_kept u (old u e)),
+                        ),
+                      ))
                 ];
             begun = λ a m b c less come.
                 elim (split a b) [
@@ -296,15 +322,11 @@ module _ {N E : Type 0} {g : Graph N E} {d : List ℕ} {count : ℕ} {work : Wor
                         let J : ℕ → ℕ → Type 0 = λ u z. AreJoined g u z in
                         let may = under.out n ((s.outs n).1 (inl waited)).0 in
                         subst C (sym also) (r.unbegun a n a_old may.0 unbegun_before (λ u j.
-                        let u_done = may.1 u (joined_parent w u n j) in (
-                          inl u_done,
-                          omega (
-                            arith,
-                            come u (subst (J u) (sym also) j),
-                            start_kept u (old u (inl u_done)),
-                            start_kept a (old a a_old),
-                          ),
-                        )))
+                        let u_done = may.1 u (joined_parent w u n j) in
+                        let h = come u (subst (J u) (sym also) j) in
+                        let kept_u = start_kept u (old u (inl u_done)) in
+                        let kept_a = start_kept a (old a a_old) in
+                        (inl u_done, (omega (arith, h.0, kept_u, kept_a), omega (arith, h.1, kept_u, kept_a)))))
                         )
                     | inr m_old ↦
                         r.begun a m a_old m_old (omega (
@@ -313,12 +335,10 @@ module _ {N E : Type 0} {g : Graph N E} {d : List ℕ} {count : ℕ} {work : Wor
                           start_kept a (old a a_old),
                           start_kept m (old m m_old),
                         )) (λ u j.
-                        omega (
-                          arith,
-                          come u j,
-                          start_kept u (old u (inl (parents_done u m m_old j))),
-                          start_kept a (old a a_old),
-                        ))
+                        let h = come u j in
+                        let kept_u = start_kept u (old u (inl (parents_done u m m_old j))) in
+                        let kept_a = start_kept a (old a a_old) in
+                        (omega (arith, h.0, kept_u, kept_a), omega (arith, h.1, kept_u, kept_a)))
                   ]
                 ];
           }

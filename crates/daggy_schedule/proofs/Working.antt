@@ -18,11 +18,11 @@ use Rattle.daggy_schedule.specs.Assignments.{IsAssignment, AreKeptBusy, IsWithin
 use Rattle.daggy_schedule.specs.Floor.{Floor, Waits, Begins, Finishes, IsStuck, IsTooLate}
 use Rattle.daggy_schedule.proofs.Members.{among_in}
 use Rattle.daggy_schedule.proofs.Shift.{IsShift, HasBegun, shift_from, shift_wait, shift_begin, shift_finish, shift_done}
-use Rattle.daggy_schedule.proofs.Shift.{later, finishes_at, all_done, finish}
+use Rattle.daggy_schedule.proofs.Shift.{later, finishes_at, all_done}
 use Rattle.daggy_schedule.proofs.Load.{IsLoaded, loaded_from, loaded_wait, loaded_begin, loaded_finish, loaded_done}
 use Rattle.daggy_schedule.proofs.Load.{begins_too_long}
 use Rattle.daggy_schedule.proofs.Shop.{taken_contains}
-use Rattle.daggy_schedule.proofs.Urgent.{IsUrgent, AreKeen, Comes, urgent_from, urgent_wait, urgent_begin, urgent_finish}
+use Rattle.daggy_schedule.proofs.Urgent.{IsInTime, IsUrgent, AreKeen, Comes, urgent_from, urgent_wait, urgent_begin, urgent_finish}
 use Rattle.daggy_schedule.proofs.Urgent.{keen_from, keen_wait, keen_begin, keen_finish}
 use Rattle.daggy_schedule.proofs.Undone.{released_joined}
 
@@ -154,7 +154,7 @@ module _ {N E : Type 0} {g : Graph N E} {d est : List ℕ} {latest : ℕ → ℕ
               (unbegun b.node waits) (omega (arith, low, s.starts_long));
           urgent =
               urgent_begin s.shift w s.under none_ready after.waiting after.running b.key b.node b.finish b.worker b.taken
-              b.finish_is b.added (omega (arith, low, s.starts_long)) (omega (arith, low, s.workers_long)) s.urgent b.first;
+              b.finish_is b.added (omega (arith, low, s.starts_long)) (omega (arith, low, s.workers_long)) s.urgent b.first b.later;
           keen =
               keen_begin s.shift w s.under none_ready after.waiting after.running b.key b.node b.finish b.worker b.taken
               b.finish_is b.added (omega (arith, low, s.starts_long)) (omega (arith, low, s.workers_long)) s.keen;
@@ -269,5 +269,5 @@ module _ {N E : Type 0} {g : Graph N E} {d est : List ℕ} {latest : ℕ → ℕ
         (n, (s.under.out n (s.under.done n is_done)).0, busy.2, busy.3, busy.4)
 
     pub working_urgent : (n m : ℕ) → HasNode g n → HasNode g m → get_or floor.starts n 0 < get_or floor.starts m 0
-        → ((u : ℕ) → AreJoined g u m → finish d floor.starts u < get_or floor.starts n 0) → Comes g d latest n m
+        → ((u : ℕ) → AreJoined g u m → IsInTime d floor.starts n u) → Comes g d latest n m
     working_urgent n m a b = s.urgent.begun n m (inl (done_all n a)) (inl (done_all m b))

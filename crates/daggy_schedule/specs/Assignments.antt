@@ -28,15 +28,16 @@ AreKeptBusy g durations starts workers count =
     → (n : ℕ) × HasNode g n × (slice_index workers n ≡ worker) × (slice_index starts n ≤ time)
     × (time < slice_index starts n + slice_index durations n)
 
--- A node that starts while another waits, whose parents have finished before, comes first: by the latest starts with which
--- all nodes can finish by some time if each waits for its parents alone, and then by the indices. The earlier its latest
--- start, the longer is the longest path from a node.
+-- A node that starts while another waits, whose parents have started before and finished by then, comes first: by the
+-- latest starts with which all nodes can finish by some time if each waits for its parents alone, and then by the
+-- indices. The earlier its latest start, the longer is the longest path from a node.
 pub record IsMostUrgentFirst {N E : Type 0} (g : Graph N E) (durations starts : List ℕ) : Type 0 where
   pub time : ℕ
   pub latest : ℕ → ℕ
   pub are_latest : AreLatest g durations latest time
   pub first : (n m : ℕ) → HasNode g n → HasNode g m → slice_index starts n < slice_index starts m
-      → ((u : ℕ) → AreJoined g u m → slice_index starts u + slice_index durations u < slice_index starts n)
+      → ((u : ℕ) → AreJoined g u m → (slice_index starts u < slice_index starts n)
+      × (slice_index starts u + slice_index durations u ≤ slice_index starts n))
       → Precedes nat_cmp (latest n, n) (latest m, m)
 
 -- Graham's bound: as many times the makespan as there are workers is at most all durations together, and one time less

@@ -28,7 +28,7 @@ abbrev pub IsIdleWorker : (busy : ℕ) (free left : List ℕ) → ℕ → Type 0
 IsIdleWorker busy free left worker =
     IsPermutation free (worker ∷ left) ⊎ ((free ≡ []) × (left ≡ []) × (worker ≡ busy))
 
--- a node that waits is taken by a worker that does nothing
+-- a node that waits is taken by a worker that does nothing, when all that finishes by now has finished
 pub record Begins (durations : List ℕ) (count : ℕ) (old new : Floor) : Type 0 where
   pub key : ℕ
   pub node : ℕ
@@ -36,6 +36,7 @@ pub record Begins (durations : List ℕ) (count : ℕ) (old new : Floor) : Type 
   pub worker : ℕ
   pub taken : IsPermutation old.waiting ((key, node) ∷ new.waiting)
   pub first : AllByRecursion (Precedes nat_cmp (key, node)) new.waiting
+  pub later : AllByRecursion (λ p. old.now < p.0) old.running
   pub finish_is : finish ≡ old.now + slice_index durations node
   pub added : IsPermutation ((finish, node) ∷ old.running) new.running
   pub room : length old.running < count

@@ -55,7 +55,8 @@ impl<K: Ord + Drop, Ix: IndexType> Candidates<K, Ix> {
     where
         K: Copy,
         ensures none { IsNone result → self.now ≡ [] }
-        ensures first { IfSome result (λ key. (n : ℕ) × Contains self.now (key, n)) }
+        ensures first { IfSome result (λ key. (n : ℕ) × Contains self.now (key, n)
+            × AllByRecursion (Precedes K.cmp (key, n)) self.now) }
     {
         let first = self.heap.peek()?;
         Some(first.0.0)

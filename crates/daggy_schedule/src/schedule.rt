@@ -39,8 +39,8 @@ pub struct Schedule<Ix: IndexType = DefaultIx> {
 /// Why there is no schedule.
 #[derive(Clone, Copy, Debug, Eq, Error, PartialEq)]
 pub enum ScheduleError {
-    /// The durations along some path sum up to 2^64 or more.
-    #[error("a path takes too long")]
+    /// The durations along some path, or of all nodes on workers, sum up to 2^64 or more.
+    #[error("the nodes take too long")]
     Overflow,
     /// An allocation failed.
     #[error("out of memory")]

@@ -1,6 +1,7 @@
 //! Workers that do nodes, as time goes on.
-ghost use Rattle.std.specs.Prelude.{◌≡◌, ◌∷◌, ℕ, ◌<◌, [], length, replicate, true, false, Ok, Err, IfOk};
+ghost use Rattle.std.specs.Prelude.{◌≡◌, ◌∷◌, ℕ, ◌<◌, ◌≤◌, [], length, replicate, true, false, Ok, Err, IfOk};
 ghost use Rattle.std.specs.Prelude.{OnOk, Contains, MatchOption, vec_len, slice_set};
+ghost use Rattle.std.specs.List.{AllByRecursion};
 ghost use Rattle.daggy_schedule.specs.LeastFirst.{nodes_of};
 ghost use Rattle.daggy_schedule.specs.Floor.{Waits, Begins, Finishes, IsStuck, IsTooLate, IsIdleWorker};
 ghost use Rattle.daggy_schedule.specs.declared.schedule.ScheduleError.TheVariants.{Overflow};
@@ -81,6 +82,7 @@ impl<Ix: IndexType> Shop<Ix> {
             → n < length self.old.workers }
         requires durations { (n : ℕ) → Contains (nodes_of self.old.waiting) n
             → n < length durations.now }
+        requires ends { AllByRecursion (λ p. self.old.now ≤ p.0) self.old.running }
         ensures begun { result ≡ Ok true → Begins durations.now count self.old self.new }
         ensures stuck { result ≡ Ok false → (self.new ≡ self.old) × IsStuck count self.old }
         ensures overflow { result ≡ Err Overflow → IsTooLate durations.now self.old }

@@ -310,3 +310,6 @@ events-preserved g c =
     let s = subst I c.ready-in-ready.view_is c.begin.invariant in
     working_finish s.working w c.requires.earliest.feasible s.none_ready stuck.1 c.done.new.self c.finish_next.new.self n ends
     c.done.ensures.done c.done.ensures.out c.done.ensures.ready c.done.ensures.under_way
+
+pub begin_next-requires-clause-ends : goal.begin_next-requires-clause-ends
+begin_next-requires-clause-ends g c = c.begin.invariant.working.shift.ends

@@ -1,6 +1,9 @@
 use Rattle.std.proofs.Common.{◌≡◌, ◌<◌, ℕ, List, length, refl, subst, arith, rules, Contains}
 use Rattle.std.specs.BinaryHeap.{heap_items, heap_len}
-use Rattle.daggy_schedule.proofs.FirstTaken.{first_entry}
+use Rattle.std.specs.List.{AllByRecursion}
+use Rattle.daggy_schedule.specs.LeastFirst.{Precedes}
+use Rattle.daggy_schedule.specs.Entries.{entries}
+use Rattle.daggy_schedule.proofs.FirstTaken.{first_entry, first_of_all}
 use Rattle.daggy_schedule.proofs.candidates.Candidates.first_key.Goals as goal
 
 pub returns-clause-first : goal.returns-clause-first
@@ -10,5 +13,12 @@ returns-clause-first g c =
     let items = heap_items c.self.inside.heap in
     let size : heap_len c.self.inside.heap ≡ length items = search rules in
     let low : 0 < length items = omega (arith, size, c.in_ok-first.ensures.variant.0 refl) in
-    let P : List (_ × ℕ) → Type 0 = λ z. Contains z (r.0.0, number r.0.1) in
-    (number r.0.1, subst P c.self.view_is (first_entry number items r low c.in_ok-first.ensures.lookup))
+    let P : List (_ × ℕ) → Type 0 = λ z.
+    Contains z (r.0.0, number r.0.1) × AllByRecursion (Precedes g.K.Ord.cmp (r.0.0, number r.0.1)) z in
+    let here : P (entries number items) = (
+      first_entry number items r low c.in_ok-first.ensures.lookup,
+      first_of_all g.met.K.Ord.total number g.met.Ix.IndexType.order r items
+          (c.in_ok-first.ensures.greatest c.self.invariant),
+    ) in
+    let there = subst P c.self.view_is here in
+    (number r.0.1, there.0, there.1)

@@ -1,8 +1,10 @@
-use Rattle.std.proofs.Common.{◌≡◌, ◌<◌, ◌∙◌, ℕ, length, get_or, set, sym, ap, subst, arith, rules, refl, vec_len}
+use Rattle.std.proofs.Common.{List, ◌≤◌, ◌≡◌, ◌<◌, ◌∙◌, ℕ, length, get_or, set, sym, ap, subst, arith, rules, refl, vec_len}
 use Rattle.std.proofs.Common.{Contains}
 use Rattle.daggy_schedule.specs.LeastFirst.{nodes_of}
 use Rattle.daggy_schedule.specs.Floor.{Floor, Begins, IsTooLate, IsIdleWorker}
-use Rattle.daggy_schedule.proofs.Shop.{taken_contains}
+use Rattle.std.specs.List.{AllByRecursion}
+use Rattle.daggy_schedule.proofs.Shop.{taken_contains, all_later}
+use Rattle.daggy_schedule.proofs.on_workers.shop.Shop.begin_next.Goals.{in-Some+else-finish-self, in_default}
 use Rattle.daggy_schedule.proofs.on_workers.shop.Shop.begin_next.Given.{Over}
 use Rattle.daggy_schedule.proofs.on_workers.shop.Shop.begin_next.Goals.{After-index-i}
 use Rattle.daggy_schedule.proofs.on_workers.shop.Shop.begin_next.Goals as goal
@@ -82,6 +84,18 @@ returns-clause-begun g c _ =
     } in
     let P : Floor → Type 0 = λ z. Begins durations c.args.count z new in
     let busy = c.len-busy.ensures in
+    let E : Floor → Type 0 = λ z. AllByRecursion (λ p. z.now ≤ p.0) z.running in
+    let ends = subst E (sym c.self.view_is) c.requires.ends in
+    let later_runs : AllByRecursion (λ p. c.self.inside.now < p.0) c.self.inside.running =
+    elim c.match-first_key.branch [
+      | in-Some+else-finish-self w ↦
+          all_later c.self.inside.now w.in-Some.finish c.self.inside.running ends w.in-Some.ensures.first
+          w.if-finish-self.false
+      | in_default w ↦ (
+          let N : List (ℕ × ℕ) → Type 0 = λ z. AllByRecursion (λ p. c.self.inside.now < p.0) z in
+          subst N (sym (w.in_default.ensures.none refl)) tt
+          )
+    ] in
     let H : ℕ → Type 0 = λ z. IsIdleWorker z c.self.inside.free.items c.idle_worker-worker.new.free.items c.idle_worker-worker.result in
     subst P c.self.view_is (record {
       key = first.0;
@@ -90,6 +104,7 @@ returns-clause-begun g c _ =
       worker = c.idle_worker-worker.result;
       taken = c.in-Some-take_first.ensures.taken;
       first = c.in-Some-take_first.ensures.first;
+      later = later_runs;
       finish_is = omega (arith, c.in-Some-checked_add.ensures.1, ap (λ z. get_or durations z 0) at);
       added = c.in_ok-add.ensures;
       room = omega (arith, c.if-busy-count.false, busy);
