@@ -3,4 +3,5 @@
 
 mod orders;
 mod refusals;
+mod shared;
 mod support;
