@@ -1,37 +1,37 @@
 -- Steps of a walk breadth first.
-use Rattle.std.proofs.Common.{◌≡◌, ℕ, zero, suc, ◌+◌, ◌≤◌, ◌⊎◌, inl, inr, List, [], ◌∷◌, ◌++◌, refl, sym}
+use Rattle.std.proofs.Common.{◌≡◌, true, ℕ, zero, suc, ◌+◌, ◌≤◌, ◌⊎◌, inl, inr, List, [], ◌∷◌, ◌++◌, refl, sym}
 use Rattle.std.proofs.Common.{ap, subst, ◌∙◌, ◌<◌, arith, append_assoc, Contains, take, drop, length, get_or}
 use Rattle.std.proofs.lemmas.List.{append-nil, append_cancel_left, take_more, drop_more, take-append-le}
 use Rattle.std.proofs.lemmas.List.{take-append-drop, drop_all}
 use Rattle.daggy_base.specs.declared.index.Direction.{Direction}
 use Rattle.daggy_base.specs.Graph.{Graph, HasNode, node_bound}
 use Rattle.daggy_base.specs.WellFormed.{IsWellFormed}
-use Rattle.daggy_base.proofs.Lists.{Mem, Unique, mem_contains, contains_mem, mem_left, mem_right, mem_cases}
+use Rattle.daggy_base.proofs.Lists.{mem_mid, Mem, Unique, mem_contains, contains_mem, mem_left, mem_right, mem_cases}
 use Rattle.daggy_traversal.specs.Traversal.{LeadsTo, LeadsFar, IsAway, neighbors, begin, AreAllGiven}
-use Rattle.daggy_traversal.specs.Breadth.{Breadth, IsBreadthFirst, IsWithin, ComeByDistance, neighbors_of, fresh}
-use Rattle.daggy_traversal.specs.Breadth.{next_in_breadth}
-use Rattle.daggy_traversal.proofs.Members.{mem_or_not}
+use Rattle.daggy_traversal.specs.Breadth.{Breadth, IsBreadthFirst, IsWithin, fresh, next_in_breadth}
+use Rattle.daggy_traversal.specs.Traversal.{neighbors_of, are_found}
+use Rattle.daggy_traversal.proofs.Found.{neighbors_of_append, neighbors_of_has, found_first, found_rest, found_push, given_few}
+use Rattle.daggy_traversal.proofs.Members.{mem_or_not, not_before}
 use Rattle.daggy_traversal.proofs.Begin.{begin_here, begin_none, begin_only, node_or_not}
 use Rattle.daggy_traversal.proofs.Edges.{neighbor_leads, leads_neighbor}
 use Rattle.daggy_traversal.proofs.Reaching.{leads_farther, leads_nowhere, leads_within, start_exists}
 use Rattle.daggy_traversal.proofs.Fresh.{with_fresh, fresh_append, fresh_once, fresh_has, fresh_only, first_in, next_waits}
 
-pub neighbors_of_append : {N E : Type 0} (dir : Direction) (g : Graph N E) (xs ys : List ℕ)
-    → neighbors_of dir g (xs ++ ys) ≡ neighbors_of dir g xs ++ neighbors_of dir g ys
-neighbors_of_append dir g [] ys = refl
-neighbors_of_append dir g (x ∷ xs) ys =
-    ap (λ z. neighbors dir g x ++ z) (neighbors_of_append dir g xs ys)
-    ∙ sym (append_assoc (neighbors dir g x) (neighbors_of dir g xs) (neighbors_of dir g ys))
+-- no node of a list is farther from the start than a later one
+abbrev pub ComeByDistance : {N E : Type 0} → Graph N E → Direction → (start : ℕ) → List ℕ → Type 0
+ComeByDistance g dir start [] = Unit {0}
+ComeByDistance g dir start (m ∷ ms) =
+    ((n : ℕ) → Contains ms n → IsWithin g dir start 0 m n) × ComeByDistance g dir start ms
 
-pub neighbors_of_has : {N E : Type 0} (dir : Direction) (g : Graph N E) (xs : List ℕ) (u v : ℕ)
-    → Mem u xs → Mem v (neighbors dir g u) → Mem v (neighbors_of dir g xs)
-neighbors_of_has dir g [] u v m n = absurd m
-neighbors_of_has dir g (x ∷ xs) u v m n =
-    elim m [
-      | inl same ↦ mem_left (neighbors dir g x) (neighbors_of dir g xs) v
-          (let P : ℕ → Type 0 = λ z. Mem v (neighbors dir g z) in subst P same n)
-      | inr there ↦ mem_right (neighbors dir g x) (neighbors_of dir g xs) v (neighbors_of_has dir g xs u v there n)
-    ]
+-- Given or waiting are the start and the neighbors of the given nodes, by their distance from the start, and those that
+-- wait differ by at most one.
+pub record Spreads {N E : Type 0} (g : Graph N E) (walk : Breadth) : Type 0 where
+  pub met : walk.given ++ walk.waiting ≡ fresh [] (begin g walk.start ++ neighbors_of walk.dir g walk.given)
+  pub reached : (n : ℕ) → Contains (walk.given ++ walk.waiting) n → LeadsFar walk.dir g walk.start n
+  pub sorted : ComeByDistance g walk.dir walk.start (walk.given ++ walk.waiting)
+  pub close : (m n : ℕ) → Contains walk.waiting m → Contains walk.waiting n
+      → IsWithin g walk.dir walk.start 1 m n
+  pub room : node_bound g ≤ walk.bound
 
 -- distances
 module _ {N E : Type 0} (g : Graph N E) (dir : Direction) (start : ℕ) where
@@ -80,7 +80,7 @@ module _ {N E : Type 0} (g : Graph N E) (dir : Direction) (start : ℕ) where
   )
 
 -- a walk that is under way
-module _ {N E : Type 0} {end : ℕ} {g : Graph N E} (w : IsWellFormed end g) {b : Breadth} (s : IsBreadthFirst g b) where
+module _ {N E : Type 0} {end : ℕ} {g : Graph N E} (w : IsWellFormed end g) {b : Breadth} (s : Spreads g b) where
   met : List ℕ
   met = b.given ++ b.waiting
 
@@ -231,7 +231,7 @@ module _ {N E : Type 0} {end : ℕ} {g : Graph N E} (w : IsWellFormed end g) {b 
             | inr new ↦ inr new
           ]
 
-      pub breadth_on : IsBreadthFirst g b'
+      pub breadth_on : Spreads g b'
       breadth_on =
           let M = b.given ++ b.waiting in
           let new = fresh M (neighbors b.dir g n) in
@@ -285,7 +285,7 @@ seen start dir queue head bound =
     record { start = start; dir = dir; given = take head queue; waiting = drop head queue; bound = bound }
 
 -- the step from the head of the queue on
-module _ {N E : Type 0} {end : ℕ} {g : Graph N E} (w : IsWellFormed end g) {b : Breadth} (s : IsBreadthFirst g b)
+module _ {N E : Type 0} {end : ℕ} {g : Graph N E} (w : IsWellFormed end g) {b : Breadth} (s : Spreads g b)
     {start : ℕ} {dir : Direction} (queue : List ℕ) (head : ℕ) {bound : ℕ} (is : seen start dir queue head bound ≡ b)
     (low : head < length queue) {x n : ℕ} (read : x ≡ get_or queue head x) (value : n ≡ x) where
   pub head_waits : b.waiting ≡ n ∷ drop (head + 1) queue
@@ -294,7 +294,7 @@ module _ {N E : Type 0} {end : ℕ} {g : Graph N E} (w : IsWellFormed end g) {b 
       ∙ (drop_more queue head x low ∙ ap (λ z. z ∷ drop (head + 1) queue) (sym read ∙ sym value))
 
   pub head_goes_on : {queue' : List ℕ} {bound' : ℕ} → queue' ≡ with_fresh queue (neighbors dir g n)
-      → bound' ≡ bound → IsBreadthFirst g (seen start dir queue' (head + 1) bound')
+      → bound' ≡ bound → Spreads g (seen start dir queue' (head + 1) bound')
   head_goes_on {queue'} {bound'} more same_bound =
       let all : b.given ++ b.waiting ≡ queue =
       ap (λ (z : Breadth). z.given ++ z.waiting) (sym is) ∙ take-append-drop head queue in
@@ -318,7 +318,7 @@ queue_over queue head is past = ap (λ (z : Breadth). z.waiting) (sym is) ∙ dr
 
 -- a walk that begins
 pub breadth_begins : {N E : Type 0} (g : Graph N E) {b : Breadth} → b.given ≡ [] → b.waiting ≡ begin g b.start
-    → node_bound g ≤ b.bound → IsBreadthFirst g b
+    → node_bound g ≤ b.bound → Spreads g b
 breadth_begins g {b} none waits room =
     let all : b.given ++ b.waiting ≡ begin g b.start = ap (λ z. z ++ b.waiting) none ∙ waits in
     let only : (x : ℕ) → Mem x (b.given ++ b.waiting) → (x ≡ b.start) × HasNode g b.start = λ x m.
@@ -347,3 +347,117 @@ breadth_begins g {b} none waits room =
           | inl exists ↦ begin_here g b.start exists ∙ sym (ap (λ z. fresh [] z) (begin_here g b.start exists))
           | inr none ↦ begin_none g b.start none ∙ sym (ap (λ z. fresh [] z) (begin_none g b.start none))
         ]
+
+-- a walk that is under way has come as it spreads
+module _ {N E : Type 0} {end : ℕ} {g : Graph N E} (w : IsWellFormed end g) (start : ℕ) (dir : Direction) (bound : ℕ) where
+  -- the next node of those that were given waits first
+  next_given : (done : List ℕ) (x : ℕ) (todo V waiting : List ℕ)
+      → Spreads g record { start = start; dir = dir; given = done; waiting = V; bound = bound }
+      → (done ++ x ∷ todo) ++ waiting ≡ fresh [] (begin g start ++ neighbors_of dir g (done ++ x ∷ todo))
+      → are_found dir g start done (x ∷ todo) ≡ true → (rest : List ℕ) × (V ≡ x ∷ rest)
+  next_given done x todo V waiting s met found = by_waiting V s.met all
+    where
+      whole : with_fresh (done ++ V) (neighbors_of dir g (x ∷ todo)) ≡ (done ++ x ∷ todo) ++ waiting
+      whole =
+          let here = begin g start ++ neighbors_of dir g done in
+          let later = neighbors_of dir g (x ∷ todo) in
+          ap (λ z. with_fresh z later) s.met
+          ∙ (sym (fresh_append [] here later)
+          ∙ (ap (λ z. fresh [] z) (append_assoc (begin g start) (neighbors_of dir g done) later
+          ∙ ap (λ z. begin g start ++ z) (sym (neighbors_of_append dir g done (x ∷ todo)))) ∙ sym met))
+
+      all : V ++ fresh (done ++ V) (neighbors_of dir g (x ∷ todo)) ≡ x ∷ (todo ++ waiting)
+      all =
+          let new = fresh (done ++ V) (neighbors_of dir g (x ∷ todo)) in
+          append_cancel_left done (V ++ new) (x ∷ (todo ++ waiting))
+          (sym (append_assoc done V new) ∙ (whole ∙ append_assoc done (x ∷ todo) waiting))
+
+      out : Mem x done → ⊥
+      out =
+          let P : List ℕ → Type 0 = λ z. Unique z in
+          let once : Unique ((done ++ x ∷ todo) ++ waiting) = subst P (sym met)
+          (fresh_once [] (begin g start ++ neighbors_of dir g (done ++ x ∷ todo)) tt) in
+          not_before done (todo ++ waiting) x (subst P (append_assoc done (x ∷ todo) waiting
+          ∙ sym (append_assoc done (x ∷ []) (todo ++ waiting))) once)
+
+      by_waiting : (U : List ℕ) → done ++ U ≡ fresh [] (begin g start ++ neighbors_of dir g done)
+          → U ++ fresh (done ++ V) (neighbors_of dir g (x ∷ todo)) ≡ x ∷ (todo ++ waiting)
+          → (rest : List ℕ) × (U ≡ x ∷ rest)
+      by_waiting [] m h =
+          let P : List ℕ → Type 0 = λ z. Mem x z in
+          absurd (out (subst P (append-nil done) (subst P (sym m) (fresh_has []
+          (begin g start ++ neighbors_of dir g done) x (found_first dir g start done x todo found)))))
+      by_waiting (y ∷ rest) m h = let same : y ≡ x = cc in (rest, ap (λ z. z ∷ rest) same)
+
+  replay : (done todo V waiting : List ℕ)
+      → Spreads g record { start = start; dir = dir; given = done; waiting = V; bound = bound }
+      → (done ++ todo) ++ waiting ≡ fresh [] (begin g start ++ neighbors_of dir g (done ++ todo))
+      → are_found dir g start done todo ≡ true
+      → Spreads g record { start = start; dir = dir; given = done ++ todo; waiting = waiting; bound = bound }
+  replay done [] V waiting s met found =
+      let is : done ++ [] ≡ done = append-nil done in
+      let same : V ≡ waiting =
+      append_cancel_left done V waiting (s.met ∙ (ap (λ z. fresh [] (begin g start ++ neighbors_of dir g z)) (sym is)
+      ∙ (sym met ∙ ap (λ z. z ++ waiting) is))) in
+      let P : List ℕ → List ℕ → Type 0 = λ a b.
+      Spreads g record { start = start; dir = dir; given = a; waiting = b; bound = bound } in
+      subst (P (done ++ [])) same (subst (λ (a : List ℕ). P a V) (sym is) s)
+  replay done (x ∷ todo) V waiting s met found =
+      let r = next_given done x todo V waiting s met found in
+      let new = fresh (done ++ V) (neighbors dir g x) in
+      let whole : (done ++ x ∷ []) ++ (r.0 ++ new) ≡ (done ++ V) ++ new =
+      append_assoc done (x ∷ []) (r.0 ++ new)
+      ∙ (sym (append_assoc done (x ∷ r.0) new) ∙ ap (λ z. (done ++ z) ++ new) (sym r.1)) in
+      let goes : Spreads g record { start = start; dir = dir; given = done ++ x ∷ []; waiting = r.0 ++ new; bound = bound } =
+      breadth_on w s x r.0 r.1 record { start = start; dir = dir; given = done ++ x ∷ []; waiting = r.0 ++ new; bound = bound }
+      refl refl refl refl whole in
+      let whole_list : (done ++ x ∷ []) ++ todo ≡ done ++ x ∷ todo = append_assoc done (x ∷ []) todo in
+      let M : List ℕ → Type 0 = λ z. z ++ waiting ≡ fresh [] (begin g start ++ neighbors_of dir g z) in
+      let P : List ℕ → Type 0 = λ z.
+      Spreads g record { start = start; dir = dir; given = z; waiting = waiting; bound = bound } in
+      subst P whole_list (replay (done ++ x ∷ []) todo (r.0 ++ new) waiting goes (subst M (sym whole_list) met)
+      (found_rest dir g start done x todo found))
+
+pub spreads : {N E : Type 0} {end : ℕ} {g : Graph N E} → IsWellFormed end g → {b : Breadth} → IsBreadthFirst g b → Spreads g b
+spreads {g = g} w {b} s =
+    replay w b.start b.dir b.bound [] b.given (begin g b.start) b.waiting (breadth_begins g refl refl s.room) s.met s.found
+
+-- what such a walk keeps
+pub breadth_kept : {N E : Type 0} {g : Graph N E} {b : Breadth} → Spreads g b
+    → are_found b.dir g b.start [] b.given ≡ true → IsBreadthFirst g b
+breadth_kept s found = record { met = s.met; found = found; room = s.room }
+
+-- the nodes that wait were found
+pub waiting_found : {N E : Type 0} {g : Graph N E} {b : Breadth} → IsBreadthFirst g b → (n : ℕ) (rest : List ℕ)
+    → b.waiting ≡ n ∷ rest → are_found b.dir g b.start [] (b.given ++ n ∷ []) ≡ true
+waiting_found {g = g} {b = b} s n rest waits =
+    let P : List ℕ → Type 0 = λ z. Mem n z in
+    let here : Mem n (b.given ++ b.waiting) = subst (λ (z : List ℕ). P (b.given ++ z)) (sym waits) (mem_mid b.given rest n) in
+    found_push b.dir g b.start [] b.given n s.found
+    (fresh_only [] (begin g b.start ++ neighbors_of b.dir g b.given) n (subst P s.met here)).0
+
+pub breadth_few : {N E : Type 0} {end : ℕ} {g : Graph N E} → IsWellFormed end g → {b : Breadth} → IsBreadthFirst g b
+    → length b.given ≤ node_bound g
+breadth_few {g = g} w {b} s =
+    let t = spreads w s in
+    given_few w b.dir b.start b.given (unique_left b.given (once w t)) (λ x m.
+    t.reached x (mem_contains (b.given ++ b.waiting) x (mem_left b.given b.waiting x m)))
+  where
+    unique_left : (xs : List ℕ) → Unique (xs ++ b.waiting) → Unique xs
+    unique_left [] u = tt
+    unique_left (x ∷ xs) u = (λ m. u.0 (mem_left xs b.waiting x m), unique_left xs u.1)
+
+-- the node at the head of the queue was found
+pub head_found : {N E : Type 0} {g : Graph N E} {b : Breadth} → IsBreadthFirst g b → {start : ℕ} {dir : Direction}
+    (queue : List ℕ) (head : ℕ) {bound : ℕ} → seen start dir queue head bound ≡ b → head < length queue → {x n : ℕ}
+    → x ≡ get_or queue head x → n ≡ x → {rest : List ℕ} → b.waiting ≡ n ∷ rest → {queue' : List ℕ}
+    → queue' ≡ with_fresh queue (neighbors dir g n) → are_found dir g start [] (take (head + 1) queue') ≡ true
+head_found {g = g} {b = b} s {start} {dir} queue head is low {x} {n} read value {rest} waits {queue'} more =
+    let here : take (head + 1) queue ≡ take head queue ++ n ∷ [] =
+    take_more queue head x low ∙ ap (λ z. take head queue ++ z ∷ []) (sym read ∙ sym value) in
+    let long : take (head + 1) queue' ≡ take (head + 1) queue =
+    ap (λ z. take (head + 1) z) more
+    ∙ take-append-le (head + 1) queue (fresh queue (neighbors dir g n)) (omega (arith, low)) in
+    let P : Breadth → Type 0 = λ z. are_found z.dir g z.start [] (z.given ++ n ∷ []) ≡ true in
+    let Q : List ℕ → Type 0 = λ z. are_found dir g start [] z ≡ true in
+    subst Q (sym (long ∙ here)) (subst P (sym is) (waiting_found s n rest waits))

@@ -12,6 +12,9 @@ use Rattle.daggy_base.specs.WellFormed.{IsWellFormed, AreDistinct}
 use Rattle.daggy_base.proofs.Lists.{Mem, Unique, mem_contains, contains_mem, mem_left, mem_right, mem_cases, unique_mid}
 use Rattle.daggy_base.proofs.Lists.{unique_from_distinct, distinct_from_unique}
 use Rattle.daggy_traversal.specs.Traversal.{LeadsFar, neighbors, begin, first_new, without_old, AreAllGiven}
+use Rattle.daggy_traversal.specs.Traversal.{neighbors_of, are_found}
+use Rattle.daggy_traversal.proofs.Found.{found_push, found_far, given_few, neighbors_of_has}
+use Rattle.daggy_traversal.proofs.Members.{distinct_unique, unique_distinct}
 use Rattle.daggy_traversal.specs.Depth.{Depth, IsDepthFirst, neighbors_back, next_in_depth, ahead}
 use Rattle.daggy_traversal.proofs.Begin.{begin_here, begin_none, begin_only, node_or_not}
 use Rattle.daggy_traversal.proofs.Edges.{neighbor_leads, leads_neighbor, left_first}
@@ -45,6 +48,17 @@ neighbors_back_of dir g (x ∷ ns) v m =
       | inr here ↦ (x, inl refl, here)
     ]
 
+-- What the cursors leave of the neighbors of the given nodes are all those that were not given; and those that were are
+-- reached.
+pub record Dives {N E : Type 0} (g : Graph N E) (walk : Depth) : Type 0 where
+  pub left : without_old walk.given (ahead walk.dir g walk.cursors ++ cond walk.waits (walk.start ∷ []) [])
+      ≡ without_old walk.given (neighbors_back walk.dir g walk.given ++ begin g walk.start)
+  pub once : AreDistinct walk.given
+  pub reached : (n : ℕ) → Contains walk.given n → LeadsFar walk.dir g walk.start n
+  pub first : walk.waits ≡ true → HasNode g walk.start × (walk.given ≡ []) × (walk.cursors ≡ [])
+  pub few : length walk.cursors ≤ length walk.given
+  pub room : node_bound g ≤ walk.bound
+
 -- the start, if it is still to come
 abbrev pub pending : (waits : Bool) (start : ℕ) → List ℕ
 pending waits start = cond waits (start ∷ []) []
@@ -53,7 +67,7 @@ pub none_pending : (waits : Bool) (start : ℕ) (xs : List ℕ) → waits ≡ fa
 none_pending waits start xs h = ap (λ b. xs ++ pending b start) h ∙ append-nil xs
 
 -- a walk that is under way
-module _ {N E : Type 0} {end : ℕ} {g : Graph N E} (w : IsWellFormed end g) {d : Depth} (s : IsDepthFirst g d) where
+module _ {N E : Type 0} {end : ℕ} {g : Graph N E} (w : IsWellFormed end g) {d : Depth} (s : Dives g d) where
   depth_next : next_in_depth g d.dir d.start d.given
       ≡ first_new d.given (ahead d.dir g d.cursors ++ pending d.waits d.start)
   depth_next =
@@ -116,7 +130,7 @@ module _ {N E : Type 0} {end : ℕ} {g : Graph N E} (w : IsWellFormed end g) {d 
         → d'.given ≡ d.given ++ n ∷ [] → length d'.cursors ≤ length d'.given
         → without_old d'.given (ahead d.dir g d'.cursors)
         ≡ without_old d'.given (neighbors d.dir g n ++ (ahead d.dir g d.cursors ++ pending d.waits d.start))
-        → IsDepthFirst g d'
+        → Dives g d'
     depth_on {d'} same_start same_dir same_bound over gave few left =
         let more = d.given ++ n ∷ [] in
         let before = neighbors_back d.dir g d.given ++ begin g d.start in
@@ -185,7 +199,7 @@ module _ {N E : Type 0} {end : ℕ} {g : Graph N E} (w : IsWellFormed end g) {d 
 -- a walk that begins
 pub depth_begins : {N E : Type 0} (g : Graph N E) {d : Depth} → d.given ≡ [] → d.cursors ≡ []
     → (d.waits ≡ true → HasNode g d.start) → (HasNode g d.start → d.waits ≡ true) → node_bound g ≤ d.bound
-    → IsDepthFirst g d
+    → Dives g d
 depth_begins g {d} none empty there waits room =
     let start_is : pending d.waits d.start ≡ begin g d.start = elim (node_or_not g d.start) [
       | inl exists ↦ ap (λ b. pending b d.start) (waits exists) ∙ sym (begin_here g d.start exists)
@@ -216,7 +230,7 @@ nothing_in [] h = refl
 nothing_in (x ∷ xs) h = cc
 
 -- a step by the cursors, which gives a node if there is one
-module _ {N E : Type 0} {end : ℕ} {g : Graph N E} (w : IsWellFormed end g) {d : Depth} (s : IsDepthFirst g d)
+module _ {N E : Type 0} {end : ℕ} {g : Graph N E} (w : IsWellFormed end g) {d : Depth} (s : Dives g d)
     (begun : d.waits ≡ false) {A : Type 0} (number : A → ℕ) where
   pub step_next : (o : Option A) → option_map number o ≡ first_new d.given (ahead d.dir g d.cursors)
       → option_map number o ≡ next_in_depth g d.dir d.start d.given
@@ -246,7 +260,7 @@ module _ {N E : Type 0} {end : ℕ} {g : Graph N E} (w : IsWellFormed end g) {d 
       → IfSome o (λ a. without_old given' (ahead d.dir g cursors')
       ≡ without_old given' (neighbors d.dir g (number a) ++ ahead d.dir g d.cursors))
       → IfNone o (cursors' ≡ []) → length cursors' ≤ length given'
-      → IsDepthFirst g record {
+      → Dives g record {
         start = d.start;
         dir = d.dir;
         given = given';
@@ -277,3 +291,63 @@ module _ {N E : Type 0} {end : ℕ} {g : Graph N E} (w : IsWellFormed end g) {d 
       let cursors = ahead d.dir g d.cursors in
       depth_on w s n (sym (step_next (Some a) h)) refl refl same_bound begun gave few
       (left ∙ ap (λ z. without_old given' (neighbors d.dir g n ++ z)) (sym (none_pending d.waits d.start cursors begun)))
+
+-- what the fields of a walk are seen as
+abbrev pub dived : (start : ℕ) (dir : Direction) (given : List ℕ) (waits : Bool) (cursors : List ℕ) (bound : ℕ) → Depth
+dived start dir given waits cursors bound =
+    record { start = start; dir = dir; given = given; waits = waits; cursors = cursors; bound = bound }
+
+-- a walk that is under way does so
+pub dives : {N E : Type 0} {end : ℕ} {g : Graph N E} → IsWellFormed end g → {d : Depth} → IsDepthFirst g d → Dives g d
+dives {g = g} w {d} s = record {
+  left = s.left;
+  once = distinct_from_unique d.given (distinct_unique d.given s.once);
+  reached = λ n c. found_far w d.dir d.start [] d.given (λ x m. absurd m) s.found n (contains_mem d.given n c);
+  first = s.first;
+  few = s.few;
+  room = s.room;
+}
+
+-- what such a walk keeps
+pub depth_kept : {N E : Type 0} {g : Graph N E} {d : Depth} → Dives g d
+    → are_found d.dir g d.start [] d.given ≡ true → IsDepthFirst g d
+depth_kept {d = d} s found = record {
+  left = s.left;
+  once = unique_distinct d.given (unique_from_distinct d.given s.once);
+  found = found;
+  first = s.first;
+  few = s.few;
+  room = s.room;
+}
+
+-- the node that comes next was found
+pub next_found : {N E : Type 0} {g : Graph N E} {d : Depth} → IsDepthFirst g d → (n : ℕ)
+    → next_in_depth g d.dir d.start d.given ≡ Some n → are_found d.dir g d.start [] (d.given ++ n ∷ []) ≡ true
+next_found {g = g} {d = d} s n next =
+    let X = begin g d.start in
+    let m = (new_is d.given (neighbors_back d.dir g d.given ++ X) n next).0 in
+    found_push d.dir g d.start [] d.given n s.found (elim (mem_cases (neighbors_back d.dir g d.given) X n m) [
+      | inl later ↦ (
+          let r = neighbors_back_of d.dir g d.given n later in
+          mem_right X (neighbors_of d.dir g d.given) n (neighbors_of_has d.dir g d.given r.0 n r.1 r.2)
+          )
+      | inr first ↦ mem_left X (neighbors_of d.dir g d.given) n first
+    ])
+
+-- the same of a step, which gives a node if there is one
+pub step_found : {N E : Type 0} {g : Graph N E} {d : Depth} → IsDepthFirst g d → {A : Type 0} (number : A → ℕ)
+    (o : Option A) → option_map number o ≡ next_in_depth g d.dir d.start d.given → (given' : List ℕ)
+    → IfSome o (λ a. given' ≡ d.given ++ number a ∷ []) → IfNone o (given' ≡ d.given)
+    → are_found d.dir g d.start [] given' ≡ true
+step_found {g = g} {d = d} s number None h given' gave kept =
+    let P : List ℕ → Type 0 = λ z. are_found d.dir g d.start [] z ≡ true in subst P (sym kept) s.found
+step_found {g = g} {d = d} s number (Some a) h given' gave kept =
+    let P : List ℕ → Type 0 = λ z. are_found d.dir g d.start [] z ≡ true in
+    subst P (sym gave) (next_found s (number a) (sym h))
+
+pub depth_few : {N E : Type 0} {end : ℕ} {g : Graph N E} → IsWellFormed end g → {d : Depth} → IsDepthFirst g d
+    → length d.given ≤ node_bound g
+depth_few {g = g} w {d} s =
+    let t = dives w s in
+    given_few w d.dir d.start d.given (unique_from_distinct d.given t.once) (λ x m.
+    t.reached x (mem_contains d.given x m))

@@ -1,6 +1,6 @@
 -- How a path goes down to a node that has no neighbor which was not met.
 use Rattle.std.proofs.Common.{◌≡◌, ℕ, ◌+◌, ◌-◌, ◌<◌, ◌≤◌, Bool, ◌⊎◌, ◌↔◌, inl, inr, Some, List, []}
-use Rattle.std.proofs.Common.{◌∷◌, ◌++◌, length, refl, sym, ap, subst, ◌∙◌, arith, append_assoc}
+use Rattle.std.proofs.Common.{map, ◌∷◌, ◌++◌, length, refl, sym, ap, subst, ◌∙◌, arith, append_assoc}
 use Rattle.std.proofs.lemmas.List.{append-nil, length_push, length-append, same_from_push, nil_from_length}
 use Rattle.daggy_base.specs.declared.index.Direction.{Direction}
 use Rattle.daggy_base.specs.Graph.{Graph, HasNode, node_bound, list_at}
@@ -36,16 +36,44 @@ others_alike old old' into out (x ∷ xs) =
           ∙ (ap (λ z. x ∷ z) (others_alike old old' into out xs) ∙ sym (others_new old' xs x (λ m. none (out x m))))
     ]
 
+-- of the neighbors of each node on a path, those before its cursor were met
+abbrev pub LeftEach : {N E : Type 0} → Direction → Graph N E → (met path cursors : List ℕ) → Type 0
+LeftEach dir g met [] [] = Unit {0}
+LeftEach dir g met [] (e ∷ es) = ⊥
+LeftEach dir g met (n ∷ ns) [] = ⊥
+LeftEach dir g met (n ∷ ns) (e ∷ es) =
+    (without_old met (neighbors dir g n) ≡ without_old met (neighbors_left dir g e)) × LeftEach dir g met ns es
+
+pub left_each : {N E : Type 0} (dir : Direction) (g : Graph N E) (met path cursors : List ℕ)
+    → AreLeft dir g met path cursors → LeftEach dir g met path cursors
+left_each dir g met [] [] h = tt
+left_each dir g met [] (e ∷ es) h = cc
+left_each dir g met (n ∷ ns) [] h = cc
+left_each dir g met (n ∷ ns) (e ∷ es) h =
+    let here : without_old met (neighbors dir g n) ≡ without_old met (neighbors_left dir g e) = cc in
+    let rest : AreLeft dir g met ns es = cc in
+    (here, left_each dir g met ns es rest)
+
+pub left_all : {N E : Type 0} (dir : Direction) (g : Graph N E) (met path cursors : List ℕ)
+    → LeftEach dir g met path cursors → AreLeft dir g met path cursors
+left_all dir g met [] [] h = refl
+left_all dir g met [] (e ∷ es) h = absurd h
+left_all dir g met (n ∷ ns) [] h = absurd h
+left_all dir g met (n ∷ ns) (e ∷ es) h =
+    let rest = left_all dir g met ns es h.1 in
+    ap (λ z. z ∷ map (λ k. without_old met (neighbors dir g k)) ns) h.0
+    ∙ ap (λ z. without_old met (neighbors_left dir g e) ∷ z) rest
+
 -- the cursors of a path
 module _ {N E : Type 0} (dir : Direction) (g : Graph N E) where
-  pub left_long : (met path cursors : List ℕ) → AreLeft dir g met path cursors → length cursors ≡ length path
+  pub left_long : (met path cursors : List ℕ) → LeftEach dir g met path cursors → length cursors ≡ length path
   left_long met [] [] h = refl
   left_long met [] (e ∷ es) h = absurd h
   left_long met (n ∷ ns) [] h = absurd h
   left_long met (n ∷ ns) (e ∷ es) h = omega (arith, left_long met ns es h.1)
 
   pub left_more : (met more path cursors : List ℕ)
-      → AreLeft dir g met path cursors → AreLeft dir g (met ++ more) path cursors
+      → LeftEach dir g met path cursors → LeftEach dir g (met ++ more) path cursors
   left_more met more [] [] h = tt
   left_more met more [] (e ∷ es) h = absurd h
   left_more met more (n ∷ ns) [] h = absurd h
@@ -55,7 +83,7 @@ module _ {N E : Type 0} (dir : Direction) (g : Graph N E) where
   )
 
   pub left_alike : (met met' : List ℕ) → ((xs : List ℕ) → without_old met xs ≡ without_old met' xs)
-      → (path cursors : List ℕ) → AreLeft dir g met path cursors → AreLeft dir g met' path cursors
+      → (path cursors : List ℕ) → LeftEach dir g met path cursors → LeftEach dir g met' path cursors
   left_alike met met' same [] [] h = tt
   left_alike met met' same [] (e ∷ es) h = absurd h
   left_alike met met' same (n ∷ ns) [] h = absurd h
@@ -64,9 +92,9 @@ module _ {N E : Type 0} (dir : Direction) (g : Graph N E) where
     left_alike met met' same ns es h.1,
   )
 
-  pub left_push : (met path cursors : List ℕ) (n e : ℕ) → AreLeft dir g met path cursors
+  pub left_push : (met path cursors : List ℕ) (n e : ℕ) → LeftEach dir g met path cursors
       → without_old met (neighbors dir g n) ≡ without_old met (neighbors_left dir g e)
-      → AreLeft dir g met (path ++ n ∷ []) (cursors ++ e ∷ [])
+      → LeftEach dir g met (path ++ n ∷ []) (cursors ++ e ∷ [])
   left_push met [] [] n e h here = (here, tt)
   left_push met [] (x ∷ xs) n e h here = absurd h
   left_push met (y ∷ ys) [] n e h here = absurd h
@@ -77,10 +105,10 @@ module _ {N E : Type 0} (dir : Direction) (g : Graph N E) where
     pub front : List ℕ
     pub node : ℕ
     pub is : path ≡ front ++ node ∷ []
-    pub left : AreLeft dir g met front es
+    pub left : LeftEach dir g met front es
     pub here : without_old met (neighbors dir g node) ≡ without_old met (neighbors_left dir g e)
 
-  pub left_last : (met path es : List ℕ) (e : ℕ) → AreLeft dir g met path (es ++ e ∷ []) → Last met path es e
+  pub left_last : (met path es : List ℕ) (e : ℕ) → LeftEach dir g met path (es ++ e ∷ []) → Last met path es e
   left_last met [] [] e h = absurd h
   left_last met [] (x ∷ xs) e h = absurd h
   left_last met (n ∷ []) [] e h = record { front = []; node = n; is = refl; left = tt; here = h.0 }
@@ -112,7 +140,7 @@ pub record Down {N E : Type 0} (dir : Direction) (g : Graph N E) (given before :
   pub is : path ≡ before ++ more
   pub rooted : before ≡ [] → path ≡ []
   pub down : GoesDown dir g given before more
-  pub left : AreLeft dir g (given ++ path) path cursors
+  pub left : LeftEach dir g (given ++ path) path cursors
   pub marked : AreMarked met (given ++ path)
   pub sized : length met ≡ bound
 
@@ -137,7 +165,7 @@ module _ {N E : Type 0} {end : ℕ} {g : Graph N E} (w : IsWellFormed end g) {di
     (fits : node_bound g ≤ bound) (es : List ℕ) (e : ℕ) (popped : cursors ≡ es ++ e ∷ []) {at : ℕ} (value : at ≡ e) where
   last : Last dir g (given ++ path) path es at
   last =
-      let P : List ℕ → Type 0 = λ z. AreLeft dir g (given ++ path) path z in
+      let P : List ℕ → Type 0 = λ z. LeftEach dir g (given ++ path) path z in
       left_last dir g (given ++ path) path es at
       (subst P (popped ∙ ap (λ z. es ++ z ∷ []) (sym value)) s.left)
 
@@ -175,11 +203,11 @@ module _ {N E : Type 0} {end : ℕ} {g : Graph N E} (w : IsWellFormed end g) {di
       gave_n : given' ≡ given ++ n ∷ []
       gave_n = gave ∙ ap (λ k. given ++ k ∷ []) m_is
 
-      pub gives_left : {es' : List ℕ} → es' ≡ es → AreLeft dir g (given' ++ path') path' es'
+      pub gives_left : {es' : List ℕ} → es' ≡ es → LeftEach dir g (given' ++ path') path' es'
       gives_left {es'} same =
-          let P : List ℕ → List ℕ → List ℕ → Type 0 = λ a b z. AreLeft dir g a b z in
+          let P : List ℕ → List ℕ → List ℕ → Type 0 = λ a b z. LeftEach dir g a b z in
           let met' = (given ++ n ∷ []) ++ path' in
-          let here : AreLeft dir g met' last.front es =
+          let here : LeftEach dir g met' last.front es =
           left_alike dir g (given ++ path) met' (others_alike (given ++ path) met' into out) last.front es last.left in
           subst (P (given' ++ path') path') (sym same)
           (subst (λ (a : List ℕ). P a path' es) (ap (λ z. z ++ path') (sym gave_n))
@@ -267,12 +295,12 @@ module _ {N E : Type 0} {end : ℕ} {g : Graph N E} (w : IsWellFormed end g) {di
           ∙ (ap (λ z. without_old (v ∷ []) z) new_here
           ∙ (others_old (v ∷ []) (without_old more (neighbors_left dir g next)) v (inl refl)
           ∙ sym (others_more more (v ∷ []) (neighbors_left dir g next)))) in
-          let above : AreLeft dir g (more ++ v ∷ []) (last.front ++ last.node ∷ []) (es ++ next ∷ []) =
+          let above : LeftEach dir g (more ++ v ∷ []) (last.front ++ last.node ∷ []) (es ++ next ∷ []) =
           left_push dir g (more ++ v ∷ []) last.front es last.node next
           (left_more dir g more (v ∷ []) last.front es last.left) moved_on in
           let here : neighbors_left dir g b ≡ neighbors dir g v = left_first w dir v b (b_is ∙ (f_is ∙ first_is)) in
-          let L : List ℕ → List ℕ → List ℕ → Type 0 = λ m p c. AreLeft dir g m p c in
-          let whole : AreLeft dir g (more ++ v ∷ []) ((last.front ++ last.node ∷ []) ++ v ∷ []) ((es ++ next ∷ []) ++ b ∷ []) =
+          let L : List ℕ → List ℕ → List ℕ → Type 0 = λ m p c. LeftEach dir g m p c in
+          let whole : LeftEach dir g (more ++ v ∷ []) ((last.front ++ last.node ∷ []) ++ v ∷ []) ((es ++ next ∷ []) ++ b ∷ []) =
           left_push dir g (more ++ v ∷ []) (last.front ++ last.node ∷ []) (es ++ next ∷ []) v b above
           (ap (λ z. without_old (more ++ v ∷ []) z) (sym here)) in
           let cursors_are : cursors' ≡ (es ++ next ∷ []) ++ b ∷ [] =

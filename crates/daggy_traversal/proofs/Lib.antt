@@ -5,6 +5,7 @@ pub mod Fresh
 pub mod Marks
 pub mod Meeting
 pub mod Begin
+pub mod Found
 pub mod Breadth
 pub mod Others
 pub mod Descending

@@ -1,10 +1,10 @@
 -- The members of a list, by a test and by a fact.
 use Rattle.std.proofs.Common.{◌≡◌, ℕ, Bool, true, false, ◌||◌, ◌⊎◌, inl, inr, List, [], ◌∷◌, eqb, refl, sym, ap, ◌∙◌}
-use Rattle.std.proofs.Common.{◌++◌, subst, append_assoc}
+use Rattle.std.proofs.Common.{◌++◌, ◌&&◌, not, subst, append_assoc}
 use Rattle.std.proofs.Common.{map}
 use Rattle.std.proofs.lemmas.Bool.{eq-eqb, eqb-true, false≢true}
 use Rattle.daggy_base.proofs.Lists.{Mem, Unique, mem_left, mem_right, mem_cases, mem_mid, unique_mid}
-use Rattle.daggy_traversal.specs.Traversal.{is_among}
+use Rattle.daggy_traversal.specs.Traversal.{is_among, are_distinct}
 
 either : (a b : Bool) → (a || b) ≡ true → (a ≡ true) ⊎ (b ≡ true)
 either true b h = inl refl
@@ -55,6 +55,32 @@ mem_of_map f (y ∷ ys) z m =
       | inl same ↦ (y, inl refl, sym same)
       | inr there ↦ let p = mem_of_map f ys z there in (p.0, inr p.1, p.2)
     ]
+
+both : (a b : Bool) → (a && b) ≡ true → (a ≡ true) × (b ≡ true)
+both true b h = (refl, h)
+both false b h = absurd (false≢true h)
+
+pub and_left : (a b : Bool) → (a && b) ≡ true → a ≡ true
+and_left a b h = (both a b h).0
+
+pub and_right : (a b : Bool) → (a && b) ≡ true → b ≡ true
+and_right a b h = (both a b h).1
+
+pub and_both : (a b : Bool) → a ≡ true → b ≡ true → (a && b) ≡ true
+and_both true b x y = y
+and_both false b x y = absurd (false≢true x)
+
+pub distinct_unique : (xs : List ℕ) → are_distinct xs ≡ true → Unique xs
+distinct_unique [] h = tt
+distinct_unique (x ∷ xs) h = (
+  λ m. false≢true (ap not (sym (mem_among xs x m)) ∙ and_left (not (is_among xs x)) (are_distinct xs) h),
+  distinct_unique xs (and_right (not (is_among xs x)) (are_distinct xs) h),
+)
+
+pub unique_distinct : (xs : List ℕ) → Unique xs → are_distinct xs ≡ true
+unique_distinct [] u = refl
+unique_distinct (x ∷ xs) u =
+    and_both (not (is_among xs x)) (are_distinct xs) (ap not (not_among xs x u.0)) (unique_distinct xs u.1)
 
 -- a number from the end of one list moved to the end of another
 pub turned : (xs ys : List ℕ) (n x : ℕ) → Mem x (xs ++ (ys ++ n ∷ [])) → Mem x ((xs ++ n ∷ []) ++ ys)

@@ -9,16 +9,22 @@ use Rattle.daggy_base.specs.declared.index.Direction.TheVariants.{Outgoing, Inco
 use Rattle.daggy_base.specs.Graph.{Graph, HasNode, node_bound}
 use Rattle.daggy_base.specs.Path.{end_of, IsAcyclic}
 use Rattle.daggy_base.specs.WellFormed.{IsWellFormed, AreDistinct}
-use Rattle.daggy_base.proofs.Lists.{Mem, Unique, mem_contains, contains_mem, mem_left, mem_right, mem_cases, mem_mid}
+use Rattle.daggy_base.proofs.Lists.{Mem, Unique, mem_contains, contains_mem, mem_left, mem_cases, mem_mid}
 use Rattle.daggy_base.proofs.Lists.{unique_from_distinct}
 use Rattle.daggy_traversal.specs.Traversal.{LeadsTo, LeadsFar, neighbors, neighbors_left, without_old, begin}
 use Rattle.daggy_traversal.specs.Traversal.{AreAllGiven}
-use Rattle.daggy_traversal.specs.Postorder.{Postorder, IsPostorder, LeadsAlong, GoesDown, GivesLast, AreLeft}
-use Rattle.daggy_traversal.proofs.Begin.{begin_here, begin_none, begin_only, node_or_not}
+use Rattle.daggy_traversal.specs.Postorder.{Postorder, IsPostorder, GoesDown, GivesLast, AreLeft, is_way, leads_along}
+use Rattle.daggy_traversal.proofs.Begin.{begin_here, begin_none, node_or_not}
 use Rattle.daggy_traversal.proofs.Edges.{neighbor_leads, leads_neighbor}
-use Rattle.daggy_traversal.proofs.Members.{turned, turned_back, not_before, not_both}
+use Rattle.daggy_traversal.proofs.Members.{turned, not_before, among_mem, mem_among, and_left, and_right, and_both}
+use Rattle.daggy_traversal.proofs.Members.{distinct_unique, unique_distinct}
+use Rattle.daggy_base.proofs.Lists.{fewer_than, distinct_from_unique}
+use Rattle.daggy_base.proofs.OutEdgesRead.{below_bound}
+use Rattle.daggy_traversal.specs.Traversal.{is_among}
+use Rattle.std.proofs.Common.{eqb, true, length}
+use Rattle.std.proofs.lemmas.Bool.{eq-eqb, eqb-true}
 use Rattle.daggy_traversal.proofs.Others.{new_is, none_new}
-use Rattle.daggy_traversal.proofs.Reaching.{near_node, far_node, leads_farther, leads_nowhere, leads_within, start_exists}
+use Rattle.daggy_traversal.proofs.Reaching.{far_exists, near_node, far_node, leads_farther, leads_nowhere, leads_within, start_exists}
 
 last_mem : (u : ℕ) (rest : List ℕ) → Mem (end_of u rest) (u ∷ rest)
 last_mem u [] = inl refl
@@ -28,21 +34,55 @@ last_there : (path : List ℕ) → path ≢ [] → Mem (end_of 0 path) path
 last_there [] some = absurd (some refl)
 last_there (u ∷ rest) some = last_mem u rest
 
-module _ {N E : Type 0} (dir : Direction) (g : Graph N E) where
-  along_push : (u : ℕ) (rest : List ℕ) (v : ℕ)
-      → LeadsAlong dir g (u ∷ rest) → LeadsTo dir g (end_of u rest) v → LeadsAlong dir g (u ∷ (rest ++ v ∷ []))
-  along_push u [] v along leads = (leads, tt)
-  along_push u (x ∷ rest) v along leads = (along.0, along_push x rest v along.1 leads)
+-- each node of a list leads to the next
+abbrev LeadsAlong : {N E : Type 0} → Direction → Graph N E → List ℕ → Type 0
+LeadsAlong dir g [] = Unit {0}
+LeadsAlong dir g (u ∷ []) = Unit {0}
+LeadsAlong dir g (u ∷ v ∷ rest) = LeadsTo dir g u v × LeadsAlong dir g (v ∷ rest)
 
-  along_more : (path : List ℕ) (v : ℕ) → path ≢ []
-      → LeadsAlong dir g path → LeadsTo dir g (end_of 0 path) v → LeadsAlong dir g (path ++ v ∷ [])
-  along_more [] v some along leads = absurd (some refl)
-  along_more (u ∷ rest) v some along leads = along_push u rest v along leads
+module _ {N E : Type 0} (dir : Direction) (g : Graph N E) (start : ℕ) where
+  steps_push : (u : ℕ) (rest : List ℕ) (v : ℕ) → leads_along dir g u rest ≡ true
+      → Mem v (neighbors dir g (end_of u rest)) → leads_along dir g u (rest ++ v ∷ []) ≡ true
+  steps_push u [] v h m = and_both (is_among (neighbors dir g u) v) true (mem_among (neighbors dir g u) v m) refl
+  steps_push u (x ∷ rest) v h m =
+      and_both (is_among (neighbors dir g u) x) (leads_along dir g x (rest ++ v ∷ []))
+      (and_left (is_among (neighbors dir g u) x) (leads_along dir g x rest) h)
+      (steps_push x rest v (and_right (is_among (neighbors dir g u) x) (leads_along dir g x rest) h) m)
 
-  along_front : (xs ys : List ℕ) → LeadsAlong dir g (xs ++ ys) → LeadsAlong dir g xs
-  along_front [] ys along = tt
-  along_front (x ∷ []) ys along = tt
-  along_front (x ∷ y ∷ xs) ys along = (along.0, along_front (y ∷ xs) ys along.1)
+  way_push : (path : List ℕ) (v : ℕ) → path ≢ [] → is_way dir g start path ≡ true
+      → Mem v (neighbors dir g (end_of 0 path)) → is_way dir g start (path ++ v ∷ []) ≡ true
+  way_push [] v some h m = absurd (some refl)
+  way_push (u ∷ rest) v some h m =
+      and_both (eqb u start) (leads_along dir g u (rest ++ v ∷ []))
+      (and_left (eqb u start) (leads_along dir g u rest) h)
+      (steps_push u rest v (and_right (eqb u start) (leads_along dir g u rest) h) m)
+
+  steps_front : (u : ℕ) (xs ys : List ℕ) → leads_along dir g u (xs ++ ys) ≡ true → leads_along dir g u xs ≡ true
+  steps_front u [] ys h = refl
+  steps_front u (x ∷ xs) ys h =
+      and_both (is_among (neighbors dir g u) x) (leads_along dir g x xs)
+      (and_left (is_among (neighbors dir g u) x) (leads_along dir g x (xs ++ ys)) h)
+      (steps_front x xs ys (and_right (is_among (neighbors dir g u) x) (leads_along dir g x (xs ++ ys)) h))
+
+  way_front : (xs ys : List ℕ) → is_way dir g start (xs ++ ys) ≡ true → is_way dir g start xs ≡ true
+  way_front [] ys h = refl
+  way_front (u ∷ xs) ys h =
+      and_both (eqb u start) (leads_along dir g u xs) (and_left (eqb u start) (leads_along dir g u (xs ++ ys)) h)
+      (steps_front u xs ys (and_right (eqb u start) (leads_along dir g u (xs ++ ys)) h))
+
+  goes_way : (given path more : List ℕ) → path ≢ [] → is_way dir g start path ≡ true
+      → GoesDown dir g given path more → is_way dir g start (path ++ more) ≡ true
+  goes_way given path [] some way down =
+      let P : List ℕ → Type 0 = λ z. is_way dir g start z ≡ true in subst P (sym (append-nil path)) way
+  goes_way given path (v ∷ more) some way down =
+      let found = new_is (given ++ path) (neighbors dir g (end_of 0 path)) v down.0 in
+      let P : List ℕ → Type 0 = λ z. is_way dir g start z ≡ true in
+      subst P (append_assoc path (v ∷ []) more)
+      (goes_way given (path ++ v ∷ []) more (not_empty path) (way_push path v some way found.0) down.1)
+    where
+      not_empty : (xs : List ℕ) → xs ++ v ∷ [] ≢ []
+      not_empty [] h = cc
+      not_empty (x ∷ xs) h = cc
 
 -- the last node of a path is reached from each
 module _ {N E : Type 0} {end : ℕ} {g : Graph N E} (w : IsWellFormed end g) (dir : Direction) where
@@ -71,30 +111,39 @@ module _ {N E : Type 0} {end : ℕ} {g : Graph N E} (w : IsWellFormed end g) (di
       rest y [] h = tt
       rest y (z ∷ ys) h = h.1
 
-  module _ (start : ℕ) (given : List ℕ) where
-    goes_far : (path more : List ℕ) → path ≢ [] → LeadsAlong dir g path
-        → ((x : ℕ) → Mem x path → LeadsFar dir g start x) → GoesDown dir g given path more
-        → LeadsAlong dir g (path ++ more) × ((x : ℕ) → Mem x (path ++ more) → LeadsFar dir g start x)
-    goes_far path [] some along far down =
-        let P : List ℕ → Type 0 = λ z. LeadsAlong dir g z × ((x : ℕ) → Mem x z → LeadsFar dir g start x) in
-        subst P (sym (append-nil path)) (along, far)
-    goes_far path (v ∷ more) some along far down =
-        let found = new_is (given ++ path) (neighbors dir g (end_of 0 path)) v down.0 in
-        let leads = neighbor_leads w dir (end_of 0 path) v found.0 in
-        let reached = leads_farther w dir start (end_of 0 path) v (far (end_of 0 path) (last_there path some)) leads in
-        let P : List ℕ → Type 0 = λ z. LeadsAlong dir g z × ((x : ℕ) → Mem x z → LeadsFar dir g start x) in
-        subst P (append_assoc path (v ∷ []) more) (goes_far (path ++ v ∷ []) more (not_empty path)
-        (along_more dir g path v some along leads) (λ x m. elim (mem_cases path (v ∷ []) x m) [
-          | inl old ↦ far x old
-          | inr new ↦ elim new [
-            | inl same ↦ (let Q : ℕ → Type 0 = λ z. LeadsFar dir g start z in subst Q (sym same) reached)
-            | inr none ↦ absurd none
-          ]
-        ]) down.1)
-      where
-        not_empty : (xs : List ℕ) → xs ++ v ∷ [] ≢ []
-        not_empty [] h = cc
-        not_empty (x ∷ xs) h = cc
+  steps_along : (u : ℕ) (rest : List ℕ) → leads_along dir g u rest ≡ true → LeadsAlong dir g (u ∷ rest)
+  steps_along u [] h = tt
+  steps_along u (v ∷ rest) h = (
+    neighbor_leads w dir u v (among_mem (neighbors dir g u) v
+        (and_left (is_among (neighbors dir g u) v) (leads_along dir g v rest) h)),
+    steps_along v rest (and_right (is_among (neighbors dir g u) v) (leads_along dir g v rest) h),
+  )
+
+  way_along : (start : ℕ) (path : List ℕ) → is_way dir g start path ≡ true → LeadsAlong dir g path
+  way_along start [] h = tt
+  way_along start (u ∷ rest) h = steps_along u rest (and_right (eqb u start) (leads_along dir g u rest) h)
+
+  steps_far : (a u : ℕ) (rest : List ℕ) → LeadsFar dir g a u → LeadsAlong dir g (u ∷ rest) → (x : ℕ)
+      → Mem x (u ∷ rest) → LeadsFar dir g a x
+  steps_far a u [] far along x m =
+      elim m [
+        | inl same ↦ (let P : ℕ → Type 0 = λ z. LeadsFar dir g a z in subst P (sym same) far)
+        | inr none ↦ absurd none
+      ]
+  steps_far a u (v ∷ rest) far along x m =
+      elim m [
+        | inl same ↦ (let P : ℕ → Type 0 = λ z. LeadsFar dir g a z in subst P (sym same) far)
+        | inr there ↦ steps_far a v rest (leads_farther w dir a u v far along.0) along.1 x there
+      ]
+
+  way_far : (start : ℕ) (path : List ℕ) → is_way dir g start path ≡ true → HasNode g start
+      → (x : ℕ) → Mem x path → LeadsFar dir g start x
+  way_far start [] h exists x m = absurd m
+  way_far start (u ∷ rest) h exists x m =
+      let same : u ≡ start = eqb-true u start (and_left (eqb u start) (leads_along dir g u rest) h) in
+      let P : ℕ → Type 0 = λ z. LeadsFar dir g start z in
+      steps_far start u rest (subst P (sym same) (leads_nowhere g dir start exists))
+      (way_along start (u ∷ rest) h) x m
 
 -- in an acyclic graph no neighbor leads back
 pub no_way_back : {N E : Type 0} (g : Graph N E) (dir : Direction) → IsAcyclic g → (n v : ℕ) → HasNode g n → HasNode g v
@@ -102,8 +151,19 @@ pub no_way_back : {N E : Type 0} (g : Graph N E) (dir : Direction) → IsAcyclic
 no_way_back g Outgoing acyclic n v here there leads back = acyclic n v back.0 (here, leads, back.1) back.2
 no_way_back g Incoming acyclic n v here there leads back = acyclic v n back.0 (there, leads, back.1) back.2
 
+-- What was met is given or on the path, and the neighbors of what was given were met.
+pub record Winds {N E : Type 0} (g : Graph N E) (walk : Postorder) : Type 0 where
+  pub left : AreLeft walk.dir g (walk.given ++ walk.path) walk.path walk.cursors
+  pub way : is_way walk.dir g walk.start walk.path ≡ true
+  pub once : AreDistinct (walk.given ++ walk.path)
+  pub exists : walk.path ≢ [] → HasNode g walk.start
+  pub present : (n : ℕ) → Contains walk.given n → HasNode g n
+  pub first : HasNode g walk.start → Contains (walk.given ++ walk.path) walk.start
+  pub done : (u v : ℕ) → Contains walk.given u → LeadsTo walk.dir g u v → Contains (walk.given ++ walk.path) v
+  pub room : node_bound g ≤ walk.bound
+
 -- a walk that is under way
-module _ {N E : Type 0} {end : ℕ} {g : Graph N E} (w : IsWellFormed end g) {p : Postorder} (s : IsPostorder g p) where
+module _ {N E : Type 0} {end : ℕ} {g : Graph N E} (w : IsWellFormed end g) {p : Postorder} (s : Winds g p) where
   pub post_over : p.path ≡ [] → AreAllGiven g p.dir p.start p.given
   post_over none n far =
       let P : ℕ → Type 0 = λ z. Mem z p.given in
@@ -117,15 +177,14 @@ module _ {N E : Type 0} {end : ℕ} {g : Graph N E} (w : IsWellFormed end g) {p 
 
   -- n comes next
   module _ {path' : List ℕ} {n : ℕ} (gives : GivesLast p.dir g p.given p.path path' n) where
-    far_down : LeadsAlong p.dir g (p.path ++ gives.more) × ((x : ℕ) → Mem x (p.path ++ gives.more) → LeadsFar p.dir g p.start x)
-    far_down =
-        goes_far w p.dir p.start p.given p.path gives.more gives.some s.along
-        (λ x m. s.reached x (mem_contains (p.given ++ p.path) x (mem_right p.given p.path x m))) gives.down
+    way_down : is_way p.dir g p.start (p.path ++ gives.more) ≡ true
+    way_down = goes_way p.dir g p.start p.given p.path gives.more gives.some s.way gives.down
 
     pub post_far : LeadsFar p.dir g p.start n
     post_far =
         let P : List ℕ → Type 0 = λ z. Mem n z in
-        far_down.1 n (subst P (sym gives.last) (mem_mid path' [] n))
+        way_far w p.dir p.start (p.path ++ gives.more) way_down (s.exists gives.some) n
+        (subst P (sym gives.last) (mem_mid path' [] n))
 
     -- the neighbors of n are given or on the path
     around : (v : ℕ) → LeadsTo p.dir g n v → Mem v (p.given ++ (path' ++ n ∷ []))
@@ -140,7 +199,7 @@ module _ {N E : Type 0} {end : ℕ} {g : Graph N E} (w : IsWellFormed end g) {p 
         elim (mem_cases p.given (path' ++ n ∷ []) v (around v leads)) [
           | inl old ↦ inl (mem_contains p.given v old)
           | inr there ↦
-              inr (along_far w p.dir path' n v (subst P gives.last far_down.0) (far_node w p.dir n v leads) there)
+              inr (along_far w p.dir path' n v (subst P gives.last (way_along w p.dir p.start (p.path ++ gives.more) way_down)) (far_node w p.dir n v leads) there)
         ]
 
     pub post_acyclic : IsAcyclic g → (v : ℕ) → LeadsTo p.dir g n v → Contains p.given v
@@ -174,7 +233,7 @@ module _ {N E : Type 0} {end : ℕ} {g : Graph N E} (w : IsWellFormed end g) {p 
           (mem_left (p.given ++ p.path) gives.more x (contains_mem (p.given ++ p.path) x c)))
 
       pub post_on : {cursors' : List ℕ} {bound' : ℕ} → bound' ≡ p.bound
-          → AreLeft p.dir g (given' ++ path') path' cursors' → IsPostorder g record {
+          → AreLeft p.dir g (given' ++ path') path' cursors' → Winds g record {
             start = p.start;
             dir = p.dir;
             given = given';
@@ -183,18 +242,22 @@ module _ {N E : Type 0} {end : ℕ} {g : Graph N E} (w : IsWellFormed end g) {p 
             bound = bound';
           }
       post_on same_bound left =
-          let A : List ℕ → Type 0 = λ z. LeadsAlong p.dir g z in
-          let Q : ℕ → List ℕ → Type 0 = λ x z. Mem x (z ++ path') in
+          let A : List ℕ → Type 0 = λ z. is_way p.dir g p.start z ≡ true in
           let G : ℕ → List ℕ → Type 0 = λ x z. Mem x z in
           record {
             left = left;
-            along = along_front p.dir g path' (n ∷ []) (subst A gives.last far_down.0);
+            way = way_front p.dir g p.start path' (n ∷ []) (subst A gives.last way_down);
             once = once;
-            reached = λ x c.
-                elim (mem_cases p.given (path' ++ n ∷ []) x
-                (turned_back p.given path' n x (subst (Q x) gave (contains_mem (given' ++ path') x c)))) [
-                  | inl old ↦ s.reached x (mem_contains (p.given ++ p.path) x (mem_left p.given p.path x old))
-                  | inr there ↦ far_down.1 x (subst (G x) (sym gives.last) there)
+            exists = λ _. s.exists gives.some;
+            present = λ x c.
+                elim (mem_cases p.given (n ∷ []) x (subst (G x) gave (contains_mem given' x c))) [
+                  | inl old ↦ s.present x (mem_contains p.given x old)
+                  | inr new ↦ elim new [
+                    | inl same ↦
+                        (let H : ℕ → Type 0 = λ z. HasNode g z in
+                        subst H (sym same) (far_exists g p.dir p.start n post_far))
+                    | inr none ↦ absurd none
+                  ]
                 ];
             first = λ exists. kept_old p.start (s.first exists);
             done = λ u v c leads.
@@ -212,15 +275,8 @@ module _ {N E : Type 0} {end : ℕ} {g : Graph N E} (w : IsWellFormed end g) {p 
             room = omega (arith, s.room, same_bound);
           }
 
-  pub some_on_path : (x : ℕ) (rest : List ℕ) → p.path ≡ x ∷ rest → AreAllGiven g p.dir p.start p.given → ⊥
-  some_on_path x rest is all =
-      let P : List ℕ → Type 0 = λ z. Mem x z in
-      let on : Mem x p.path = subst P (sym is) (inl refl) in
-      not_both p.given p.path x (unique_from_distinct (p.given ++ p.path) s.once)
-      (contains_mem p.given x (all x (s.reached x (mem_contains (p.given ++ p.path) x (mem_right p.given p.path x on))))) on
-
 -- a step, which gives a node if there is one
-module _ {N E : Type 0} {end : ℕ} {g : Graph N E} (w : IsWellFormed end g) {p : Postorder} (s : IsPostorder g p)
+module _ {N E : Type 0} {end : ℕ} {g : Graph N E} (w : IsWellFormed end g) {p : Postorder} (s : Winds g p)
     {A : Type 0} (number : A → ℕ) (path' given' : List ℕ) where
   pub step_far : (o : Option A) → IfSome o (λ a. GivesLast p.dir g p.given p.path path' (number a))
       → IfSome o (λ a. LeadsFar p.dir g p.start (number a))
@@ -255,7 +311,7 @@ module _ {N E : Type 0} {end : ℕ} {g : Graph N E} (w : IsWellFormed end g) {p 
   pub step_on : (o : Option A) → IfSome o (λ a. GivesLast p.dir g p.given p.path path' (number a))
       → IfSome o (λ a. given' ≡ p.given ++ number a ∷ []) → IfNone o (given' ≡ p.given) → IfNone o (path' ≡ p.path)
       → AreDistinct (given' ++ path') → {cursors' : List ℕ} {bound' : ℕ} → bound' ≡ p.bound
-      → AreLeft p.dir g (given' ++ path') path' cursors' → IsPostorder g record {
+      → AreLeft p.dir g (given' ++ path') path' cursors' → Winds g record {
         start = p.start;
         dir = p.dir;
         given = given';
@@ -264,20 +320,22 @@ module _ {N E : Type 0} {end : ℕ} {g : Graph N E} (w : IsWellFormed end g) {p 
         bound = bound';
       }
   step_on None gives gave kept path_kept once same_bound left =
-      let P : List ℕ → List ℕ → Type 0 = λ a b. LeadsAlong p.dir g b
-      × ((x : ℕ) → Contains (a ++ b) x → LeadsFar p.dir g p.start x)
+      let P : List ℕ → List ℕ → Type 0 = λ a b. (is_way p.dir g p.start b ≡ true)
+      × (b ≢ [] → HasNode g p.start)
+      × ((x : ℕ) → Contains a x → HasNode g x)
       × (HasNode g p.start → Contains (a ++ b) p.start)
       × ((u v : ℕ) → Contains a u → LeadsTo p.dir g u v → Contains (a ++ b) v) in
       let same : P given' path' =
       subst (λ (a : List ℕ). P a path') (sym kept)
-      (subst (P p.given) (sym path_kept) (s.along, s.reached, s.first, s.done)) in
+      (subst (P p.given) (sym path_kept) (s.way, s.exists, s.present, s.first, s.done)) in
       record {
         left = left;
-        along = same.0;
+        way = same.0;
         once = once;
-        reached = same.1;
-        first = same.2;
-        done = same.3;
+        exists = same.1;
+        present = same.2;
+        first = same.3;
+        done = same.4;
         room = omega (arith, s.room, same_bound);
       }
   step_on (Some a) gives gave kept path_kept once same_bound left = post_on w s gives gave once same_bound left
@@ -285,23 +343,27 @@ module _ {N E : Type 0} {end : ℕ} {g : Graph N E} (w : IsWellFormed end g) {p 
 -- a walk that begins
 pub post_begins : {N E : Type 0} (g : Graph N E) {p : Postorder} → p.given ≡ [] → p.path ≡ begin g p.start
     → AreLeft p.dir g (p.given ++ p.path) p.path p.cursors → AreDistinct (p.given ++ p.path) → node_bound g ≤ p.bound
-    → IsPostorder g p
+    → Winds g p
 post_begins g {p} none path_is left once room =
     let all : p.given ++ p.path ≡ begin g p.start = ap (λ z. z ++ p.path) none ∙ path_is in
     let M : ℕ → List ℕ → Type 0 = λ x z. Mem x z in
-    let A : List ℕ → Type 0 = λ z. LeadsAlong p.dir g z in
+    let A : List ℕ → Type 0 = λ z. is_way p.dir g p.start z ≡ true in
     let D : List ℕ → Type 0 = λ z. (u v : ℕ) → Contains z u → LeadsTo p.dir g u v → Contains (p.given ++ p.path) v in
+    let B : List ℕ → Type 0 = λ z. (x : ℕ) → Contains z x → HasNode g x in
     record {
       left = left;
-      along = subst A (sym path_is) (elim (node_or_not g p.start) [
-        | inl exists ↦ subst A (sym (begin_here g p.start exists)) tt
-        | inr missing ↦ subst A (sym (begin_none g p.start missing)) tt
+      way = subst A (sym path_is) (elim (node_or_not g p.start) [
+        | inl exists ↦ subst A (sym (begin_here g p.start exists))
+            (and_both (eqb p.start p.start) true (eq-eqb p.start p.start refl) refl)
+        | inr missing ↦ subst A (sym (begin_none g p.start missing)) refl
       ]);
       once = once;
-      reached = λ x c.
-          let o = begin_only g p.start x (subst (M x) all (contains_mem (p.given ++ p.path) x c)) in
-          let P : ℕ → Type 0 = λ z. LeadsFar p.dir g p.start z in
-          subst P (sym o.0) (leads_nowhere g p.dir p.start o.1);
+      exists = λ some.
+          elim (node_or_not g p.start) [
+            | inl here ↦ here
+            | inr missing ↦ absurd (some (path_is ∙ begin_none g p.start missing))
+          ];
+      present = subst B (sym none) (λ x c. absurd (contains_mem [] x c));
       first = λ exists. mem_contains (p.given ++ p.path) p.start
           (subst (M p.start) (sym (all ∙ begin_here g p.start exists)) (inl refl));
       done = subst D (sym none) (λ u v c leads. absurd (contains_mem [] u c));
@@ -314,10 +376,47 @@ pub left_by : {N E : Type 0} (dir : Direction) (g : Graph N E) (met : List ℕ) 
 left_by dir g met n e {path} {cursors} path_is cursors_are first =
     let P : List ℕ → List ℕ → Type 0 = λ a b. AreLeft dir g met a b in
     subst (P path) (sym cursors_are) (subst (λ (a : List ℕ). P a (e ∷ [])) (sym path_is)
-    (ap (λ z. without_old met z) (sym first), tt))
+    (ap (λ z. without_old met z ∷ []) (sym first)))
 
 pub none_by : {N E : Type 0} (dir : Direction) (g : Graph N E) (met : List ℕ) {path cursors : List ℕ}
     → path ≡ [] → cursors ≡ [] → AreLeft dir g met path cursors
 none_by dir g met {path} {cursors} path_is cursors_are =
     let P : List ℕ → List ℕ → Type 0 = λ a b. AreLeft dir g met a b in
-    subst (P path) (sym cursors_are) (subst (λ (a : List ℕ). P a []) (sym path_is) tt)
+    subst (P path) (sym cursors_are) (subst (λ (a : List ℕ). P a []) (sym path_is) refl)
+
+-- a walk that is under way does so
+pub winds : {N E : Type 0} {g : Graph N E} {p : Postorder} → IsPostorder g p → Winds g p
+winds {p = p} s = record {
+  left = s.left;
+  way = s.way;
+  once = distinct_from_unique (p.given ++ p.path) (distinct_unique (p.given ++ p.path) s.once);
+  exists = s.exists;
+  present = λ n c. s.present n (mem_among p.given n (contains_mem p.given n c));
+  first = λ exists. mem_contains (p.given ++ p.path) p.start (among_mem (p.given ++ p.path) p.start (s.first exists));
+  done = λ u v c leads. mem_contains (p.given ++ p.path) v
+      (among_mem (p.given ++ p.path) v (s.done u v (mem_among p.given u (contains_mem p.given u c)) leads));
+  room = s.room;
+}
+
+-- what such a walk keeps
+pub post_kept : {N E : Type 0} {g : Graph N E} {p : Postorder} → Winds g p → IsPostorder g p
+post_kept {p = p} s = record {
+  left = s.left;
+  way = s.way;
+  once = unique_distinct (p.given ++ p.path) (unique_from_distinct (p.given ++ p.path) s.once);
+  exists = s.exists;
+  present = λ n m. s.present n (mem_contains p.given n (among_mem p.given n m));
+  first = λ exists. mem_among (p.given ++ p.path) p.start (contains_mem (p.given ++ p.path) p.start (s.first exists));
+  done = λ u v m leads. mem_among (p.given ++ p.path) v (contains_mem (p.given ++ p.path) v
+      (s.done u v (mem_contains p.given u (among_mem p.given u m)) leads));
+  room = s.room;
+}
+
+pub post_few : {N E : Type 0} {g : Graph N E} {p : Postorder} → Winds g p → length p.given ≤ node_bound g
+post_few {g = g} {p = p} s =
+    fewer_than p.given (node_bound g) (unique_left p.given (unique_from_distinct (p.given ++ p.path) s.once)) (λ x m.
+    below_bound g.nodes x (s.present x (mem_contains p.given x m)))
+  where
+    unique_left : (xs : List ℕ) → Unique (xs ++ p.path) → Unique xs
+    unique_left [] u = tt
+    unique_left (x ∷ xs) u = (λ m. u.0 (mem_left xs p.path x m), unique_left xs u.1)

@@ -45,6 +45,11 @@ start_exists g Outgoing a v r = path_begins g a r.0 r.1
 start_exists g Incoming a v r =
     let P : ℕ → Type 0 = λ z. HasNode g z in subst P r.2 (path_ends g v r.0 r.1)
 
+pub far_exists : {N E : Type 0} (g : Graph N E) (dir : Direction) (a v : ℕ) → LeadsFar dir g a v → HasNode g v
+far_exists g Outgoing a v r =
+    let P : ℕ → Type 0 = λ z. HasNode g z in subst P r.2 (path_ends g a r.0 r.1)
+far_exists g Incoming a v r = path_begins g v r.0 r.1
+
 -- a set of nodes that no edge leads out of has all that its members reach
 path_stays : {N E : Type 0} (g : Graph N E) (P : ℕ → Type 0) → ((u v : ℕ) → P u → AreJoined g u v → P v)
     → (u : ℕ) (rest : List ℕ) → IsPath g (u ∷ rest) → P u → P (end_of u rest)

@@ -1,9 +1,9 @@
 -- Walks depth first.
-use Rattle.std.specs.Prelude.{◌≡◌, ℕ, ◌≤◌, Bool, true, Option, List, [], ◌∷◌, ◌++◌, length, Contains, if◌then◌else◌}
+use Rattle.std.specs.Prelude.{◌≡◌, ℕ, ◌≤◌, Bool, true, Option, List, [], ◌∷◌, ◌++◌, length, if◌then◌else◌}
 use Rattle.daggy_base.specs.declared.index.Direction.{Direction}
 use Rattle.daggy_base.specs.Graph.{Graph, HasNode, node_bound}
-use Rattle.daggy_base.specs.WellFormed.{AreDistinct}
-use Rattle.daggy_traversal.specs.Traversal.{LeadsFar, neighbors, neighbors_left, without_old, first_new, begin}
+use Rattle.daggy_traversal.specs.Traversal.{neighbors, neighbors_left, without_old, first_new, begin, are_distinct}
+use Rattle.daggy_traversal.specs.Traversal.{are_found}
 
 -- A walk depth first: the node that it starts from; its direction; the nodes that were given, in turn; whether the start
 -- is still to come; of each node on the way to the one given last, the edge to look at next; and a bound of the indices
@@ -35,8 +35,8 @@ ahead dir g (e ∷ es) = ahead dir g es ++ neighbors_left dir g e
 pub record IsDepthFirst {N E : Type 0} (g : Graph N E) (walk : Depth) : Type 0 where
   pub left : without_old walk.given (ahead walk.dir g walk.cursors ++ (if walk.waits then walk.start ∷ [] else []))
       ≡ without_old walk.given (neighbors_back walk.dir g walk.given ++ begin g walk.start)
-  pub once : AreDistinct walk.given
-  pub reached : (n : ℕ) → Contains walk.given n → LeadsFar walk.dir g walk.start n
+  pub once : are_distinct walk.given ≡ true
+  pub found : are_found walk.dir g walk.start [] walk.given ≡ true
   pub first : walk.waits ≡ true → HasNode g walk.start × (walk.given ≡ []) × (walk.cursors ≡ [])
   pub few : length walk.cursors ≤ length walk.given
   pub room : node_bound g ≤ walk.bound

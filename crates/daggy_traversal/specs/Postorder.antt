@@ -1,10 +1,10 @@
 -- Walks depth first in postorder.
-use Rattle.std.specs.Prelude.{◌≡◌, ◌≢◌, ℕ, ◌≤◌, Some, None, List, [], ◌∷◌, ◌++◌, Contains}
+use Rattle.std.specs.Prelude.{◌≡◌, ◌≢◌, ℕ, ◌≤◌, ◌==◌, ◌&&◌, Bool, true, Some, None, List, [], ◌∷◌, ◌++◌, map}
 use Rattle.daggy_base.specs.declared.index.Direction.{Direction}
 use Rattle.daggy_base.specs.Graph.{Graph, HasNode, node_bound}
 use Rattle.daggy_base.specs.Path.{end_of}
-use Rattle.daggy_base.specs.WellFormed.{AreDistinct}
-use Rattle.daggy_traversal.specs.Traversal.{LeadsTo, LeadsFar, neighbors, neighbors_left, without_old, first_new}
+use Rattle.daggy_traversal.specs.Traversal.{LeadsTo, neighbors, neighbors_left, without_old, first_new, is_among}
+use Rattle.daggy_traversal.specs.Traversal.{are_distinct}
 
 -- A walk in postorder: the node that it starts from; its direction; the nodes that were given, in turn; the path from the
 -- start to the node that was met last; of each node on it, the edge to look at next; and a bound of the indices that it
@@ -17,11 +17,15 @@ pub record Postorder : Type 0 where
   pub cursors : List ℕ
   pub bound : ℕ
 
--- each node of a list leads to the next
-abbrev pub LeadsAlong : {N E : Type 0} → Direction → Graph N E → List ℕ → Type 0
-LeadsAlong dir g [] = Unit {0}
-LeadsAlong dir g (u ∷ []) = Unit {0}
-LeadsAlong dir g (u ∷ v ∷ rest) = LeadsTo dir g u v × LeadsAlong dir g (v ∷ rest)
+-- whether each node of a list is a neighbor of the one before it, and the first of u
+abbrev pub leads_along : {N E : Type 0} → Direction → Graph N E → (u : ℕ) → List ℕ → Bool
+leads_along dir g u [] = true
+leads_along dir g u (v ∷ rest) = is_among (neighbors dir g u) v && leads_along dir g v rest
+
+-- whether a list is empty or a path from the start
+abbrev pub is_way : {N E : Type 0} → Direction → Graph N E → (start : ℕ) (path : List ℕ) → Bool
+is_way dir g start [] = true
+is_way dir g start (u ∷ rest) = (u == start) && leads_along dir g u rest
 
 -- a path goes on by more nodes, each the first neighbor of the one before that is neither given nor on the path
 abbrev pub GoesDown : {N E : Type 0} → Direction → Graph N E → (given path more : List ℕ) → Type 0
@@ -41,18 +45,17 @@ pub record GivesLast {N E : Type 0} (dir : Direction) (g : Graph N E) (given pat
 
 -- of the neighbors of each node on a path, those before its cursor were met
 abbrev pub AreLeft : {N E : Type 0} → Direction → Graph N E → (met path cursors : List ℕ) → Type 0
-AreLeft dir g met [] [] = Unit {0}
-AreLeft dir g met [] (e ∷ es) = ⊥
-AreLeft dir g met (n ∷ ns) [] = ⊥
-AreLeft dir g met (n ∷ ns) (e ∷ es) =
-    (without_old met (neighbors dir g n) ≡ without_old met (neighbors_left dir g e)) × AreLeft dir g met ns es
+AreLeft dir g met path cursors =
+    map (λ n. without_old met (neighbors dir g n)) path ≡ map (λ e. without_old met (neighbors_left dir g e)) cursors
 
 -- A walk over this graph. What was met is given or on the path, and the neighbors of what was given were met.
 pub record IsPostorder {N E : Type 0} (g : Graph N E) (walk : Postorder) : Type 0 where
   pub left : AreLeft walk.dir g (walk.given ++ walk.path) walk.path walk.cursors
-  pub along : LeadsAlong walk.dir g walk.path
-  pub once : AreDistinct (walk.given ++ walk.path)
-  pub reached : (n : ℕ) → Contains (walk.given ++ walk.path) n → LeadsFar walk.dir g walk.start n
-  pub first : HasNode g walk.start → Contains (walk.given ++ walk.path) walk.start
-  pub done : (u v : ℕ) → Contains walk.given u → LeadsTo walk.dir g u v → Contains (walk.given ++ walk.path) v
+  pub way : is_way walk.dir g walk.start walk.path ≡ true
+  pub once : are_distinct (walk.given ++ walk.path) ≡ true
+  pub exists : walk.path ≢ [] → HasNode g walk.start
+  pub present : (n : ℕ) → is_among walk.given n ≡ true → HasNode g n
+  pub first : HasNode g walk.start → is_among (walk.given ++ walk.path) walk.start ≡ true
+  pub done : (u v : ℕ) → is_among walk.given u ≡ true → LeadsTo walk.dir g u v
+      → is_among (walk.given ++ walk.path) v ≡ true
   pub room : node_bound g ≤ walk.bound

@@ -1,5 +1,6 @@
 -- Walks that give each node that one node reaches, in a direction of the edges.
-use Rattle.std.specs.Prelude.{◌≡◌, ℕ, zero, suc, ◌==◌, ◌||◌, ◌↔◌, Bool, false, not, Option, Some, None, List, [], ◌∷◌}
+use Rattle.std.specs.Prelude.{◌≡◌, ℕ, zero, suc, ◌==◌, ◌||◌, ◌&&◌, ◌↔◌, Bool, true, false, not, Option, Some, None, List, []}
+use Rattle.std.specs.Prelude.{◌∷◌, ◌++◌}
 use Rattle.std.specs.Prelude.{map, filter, is_some, Contains, if◌then◌else◌}
 use Rattle.daggy_base.specs.declared.index.Direction.{Direction}
 use Rattle.daggy_base.specs.declared.index.Direction.TheVariants.{Outgoing, Incoming}
@@ -52,6 +53,11 @@ abbrev pub is_among : List ℕ → ℕ → Bool
 is_among [] x = false
 is_among (y ∷ ys) x = (y == x) || is_among ys x
 
+-- whether no number of a list occurs twice
+abbrev pub are_distinct : List ℕ → Bool
+are_distinct [] = true
+are_distinct (x ∷ xs) = not (is_among xs x) && are_distinct xs
+
 -- the numbers of a list that are not among others
 abbrev pub without_old : (old : List ℕ) → List ℕ → List ℕ
 without_old old xs = filter (λ x. not (is_among old x)) xs
@@ -64,6 +70,17 @@ first_new old (x ∷ xs) = if is_among old x then first_new old xs else Some x
 -- the start, if it exists
 abbrev pub begin : {N E : Type 0} → Graph N E → (start : ℕ) → List ℕ
 begin g start = if is_some (node_weight g start) then start ∷ [] else []
+
+-- the neighbors of the nodes of a list, one node after another
+abbrev pub neighbors_of : {N E : Type 0} → Direction → Graph N E → List ℕ → List ℕ
+neighbors_of dir g [] = []
+neighbors_of dir g (n ∷ ns) = neighbors dir g n ++ neighbors_of dir g ns
+
+-- whether each node of a list is the start, or a neighbor of a node before it or of the given ones
+abbrev pub are_found : {N E : Type 0} → Direction → Graph N E → (start : ℕ) (given : List ℕ) → List ℕ → Bool
+are_found dir g start given [] = true
+are_found dir g start given (x ∷ xs) =
+    is_among (begin g start ++ neighbors_of dir g given) x && are_found dir g start (given ++ x ∷ []) xs
 
 -- all nodes that the start reaches were given
 abbrev pub AreAllGiven : {N E : Type 0} → Graph N E → Direction → (start : ℕ) (given : List ℕ) → Type 0

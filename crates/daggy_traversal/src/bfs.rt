@@ -129,6 +129,7 @@ impl<Ix: IndexType> Bfs<Ix> {
             → IsWithin (S.graph graph.now) self.old.dir self.old.start 0 m (Ix.number n)) }
         ensures given { IfSome result (λ n. self.new.given ≡ self.old.given ++ Ix.number n ∷ []) }
         ensures unchanged { IfNone result (self.new ≡ self.old) }
+        ensures few { length self.new.given ≤ node_bound (S.graph graph.now) }
         ensures start { self.new.start ≡ self.old.start }
         ensures dir { self.new.dir ≡ self.old.dir }
         ensures under_way { IsBreadthFirst (S.graph graph.now) self.new }

@@ -130,6 +130,7 @@ impl<Ix: IndexType> Dfs<Ix> {
         ensures once { IfSome result (λ n. ¬ Contains self.old.given (Ix.number n)) }
         ensures given { IfSome result (λ n. self.new.given ≡ self.old.given ++ Ix.number n ∷ []) }
         ensures kept { IfNone result (self.new.given ≡ self.old.given) }
+        ensures few { length self.new.given ≤ node_bound (S.graph graph.now) }
         ensures start { self.new.start ≡ self.old.start }
         ensures dir { self.new.dir ≡ self.old.dir }
         ensures under_way { IsDepthFirst (S.graph graph.now) self.new }

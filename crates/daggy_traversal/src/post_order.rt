@@ -145,6 +145,7 @@ impl<Ix: IndexType> DfsPostOrder<Ix> {
             → Contains self.old.given v) }
         ensures given { IfSome result (λ n. self.new.given ≡ self.old.given ++ Ix.number n ∷ []) }
         ensures unchanged { IfNone result (self.new ≡ self.old) }
+        ensures few { length self.new.given ≤ node_bound (S.graph graph.now) }
         ensures start { self.new.start ≡ self.old.start }
         ensures dir { self.new.dir ≡ self.old.dir }
         ensures under_way { IsPostorder (S.graph graph.now) self.new }

@@ -1,6 +1,7 @@
 use Rattle.std.proofs.Common.{rules, ◌≡◌, ◌∙◌, ◌++◌, ◌∷◌, [], refl, sym, ap, arith, length, vec_len}
 use Rattle.std.proofs.lemmas.List.{append-nil, nil_from_length, length_push, length-append}
-use Rattle.daggy_traversal.proofs.GoingDown.{path_over, before_over, gives_last, gives_left, gives_marked, new_low}
+use Rattle.daggy_traversal.proofs.Postorder.{none_by}
+use Rattle.daggy_traversal.proofs.GoingDown.{left_each, left_all, path_over, before_over, gives_last, gives_left, gives_marked, new_low}
 use Rattle.daggy_traversal.proofs.GoingDown.{new_room, cursors_room, down_smaller, goes_on_down, left_long}
 use Rattle.daggy_traversal.proofs.post_order.descend.Given.{Over}
 use Rattle.daggy_traversal.proofs.post_order.descend.Goals.{In_default}
@@ -13,7 +14,8 @@ nodes-init g c = record {
     is = sym (append-nil c.args.path.now.items);
     rooted = λ empty. empty;
     down = tt;
-    left = c.requires.left;
+    left = left_each c.args.dir (g.S.EdgeSource.graph c.args.graph.now)
+        (c.args.given.now.nodes ++ c.args.path.now.items) c.args.path.now.items c.args.cursors.now.items c.requires.left;
     marked = c.requires.marked;
     sized = refl;
   };
@@ -30,11 +32,12 @@ returns-in_default-next_new-clause-next g c =
 
 pub returns-in_default-next_new-clause-left : goal.returns-in_default-next_new-clause-left
 returns-in_default-next_new-clause-left g c =
-    gives_left c.invariant.ensures.well_formed c.nodes.invariant.down c.requires.bound c.pop.new.self.items
+    left_all c.args.dir (g.S.EdgeSource.graph c.args.graph.now) (c.push.new.self.nodes ++ c.take_last.new.self.items)
+    c.take_last.new.self.items c.pop.new.self.items (gives_left c.invariant.ensures.well_formed c.nodes.invariant.down c.requires.bound c.pop.new.self.items
     c.in-Some.at c.in-Some.ensures.items c.edge.ensures.value c.in_default-next_new.ensures.none
     c.take_last.new.self.items c.take_last.result c.take_last.ensures.items
     (c.push.ensures ∙ ap (λ z. z ++ c.index.result ∷ []) c.nodes.invariant.same)
-    (c.index.ensures.value ∙ c.node-n.ensures.value) refl
+    (c.index.ensures.value ∙ c.node-n.ensures.value) refl)
 
 pub returns-in_default-next_new-clause-marked : goal.returns-in_default-next_new-clause-marked
 returns-in_default-next_new-clause-marked g c =
@@ -133,6 +136,19 @@ returns-clause-cursors_kept g c =
       arith,
       ap (λ z. length z) (before_over c.nodes.invariant.down (none g c)),
       left_long c.args.dir (g.S.EdgeSource.graph c.args.graph.now) (c.args.given.now.nodes ++ c.args.path.now.items)
-          c.args.path.now.items c.args.cursors.now.items c.requires.left,
+          c.args.path.now.items c.args.cursors.now.items (left_each c.args.dir (g.S.EdgeSource.graph c.args.graph.now)
+          (c.args.given.now.nodes ++ c.args.path.now.items) c.args.path.now.items c.args.cursors.now.items c.requires.left),
     ) in
     nil_from_length c.pop.new.self.items popped ∙ sym (nil_from_length c.args.cursors.now.items before)
+
+pub returns-clause-left : goal.returns-clause-left
+returns-clause-left g c =
+    let popped : length c.pop.new.self.items ≡ 0 =
+    omega (
+      arith,
+      none g c,
+      ap (λ z. length z) c.in_default.ensures.items,
+      length-append c.pop.new.self.items [],
+    ) in
+    none_by c.args.dir (g.S.EdgeSource.graph c.args.graph.now) (c.nodes.given.nodes ++ c.nodes.path.items)
+    (path_over c.nodes.invariant.down (none g c)) (nil_from_length c.pop.new.self.items popped)

@@ -6,7 +6,7 @@ use Rattle.daggy_traversal.specs.Traversal.{begin}
 use Rattle.daggy_traversal.specs.Traversal.{AreMarked}
 use Rattle.daggy_traversal.proofs.Begin.{begin_here, begin_none}
 use Rattle.daggy_traversal.proofs.Marks.{marked_none, marked_more, marked_by}
-use Rattle.daggy_traversal.proofs.Breadth.{breadth_begins}
+use Rattle.daggy_traversal.proofs.Breadth.{breadth_begins, breadth_kept}
 use Rattle.daggy_traversal.proofs.bfs.Bfs.new.Given.{Over}
 use Rattle.daggy_traversal.proofs.bfs.Bfs.new.Goals.{then-contains_node, else-contains_node, Joined-contains_node}
 use Rattle.daggy_traversal.proofs.bfs.Bfs.new.Goals as goal
@@ -75,4 +75,4 @@ invariant_of-result g c = (marked g c, omega arith, omega (arith, sized g c, roo
 
 pub returns-clause-under_way : goal.returns-clause-under_way
 returns-clause-under_way g c =
-    breadth_begins (g.S.EdgeSource.graph c.args.graph.now) refl (queue_is g c) (omega (arith, sized g c, c.node_bound-bound.ensures.value))
+    breadth_kept (breadth_begins (g.S.EdgeSource.graph c.args.graph.now) refl (queue_is g c) (omega (arith, sized g c, c.node_bound-bound.ensures.value))) refl

@@ -7,7 +7,7 @@ use Rattle.daggy_traversal.specs.Postorder.{AreLeft}
 use Rattle.daggy_traversal.proofs.Begin.{begin_here, begin_none}
 use Rattle.daggy_traversal.proofs.Edges.{left_first}
 use Rattle.daggy_traversal.proofs.Marks.{marked_none, marked_more, marked_by}
-use Rattle.daggy_traversal.proofs.Postorder.{post_begins, left_by, none_by}
+use Rattle.daggy_traversal.proofs.Postorder.{post_kept, post_begins, left_by, none_by}
 use Rattle.daggy_traversal.proofs.post_order.DfsPostOrder.new.Given.{Over}
 use Rattle.daggy_traversal.proofs.post_order.DfsPostOrder.new.Goals.{then-contains_node, else-contains_node}
 use Rattle.daggy_traversal.proofs.post_order.DfsPostOrder.new.Goals.{Joined-contains_node}
@@ -117,6 +117,6 @@ pub returns-clause-under_way : goal.returns-clause-under_way
 returns-clause-under_way g c =
     let j = (goal.at.returns-clause-under_way g c).Joined-contains_node in
     let whole = marked_by refl (ap (λ z. z ++ c.if-contains_node.path.items) c.new-2.ensures) (marked g j) in
-    post_begins (g.S.EdgeSource.graph c.args.graph.now) c.new-2.ensures (path_is g j)
+    post_kept (post_begins (g.S.EdgeSource.graph c.args.graph.now) c.new-2.ensures (path_is g j)
     (left g j (c.new-2.result.nodes ++ c.if-contains_node.path.items)) whole.once
-    (omega (arith, sized g j, c.node_bound-bound.ensures.value))
+    (omega (arith, sized g j, c.node_bound-bound.ensures.value)))

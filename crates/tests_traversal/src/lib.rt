@@ -1,0 +1,5 @@
+//! Walks over graphs, by example.
+#![tactic(auto)]
+
+#[cfg(test)]
+mod tests;
