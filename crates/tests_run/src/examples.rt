@@ -222,6 +222,18 @@ fn named(rt: HostRuntime) -> Result<(), Fail> {
 }
 
 #[test]
+fn cycle_by_names(rt: HostRuntime) -> Result<(), Fail> {
+    let mut plan: Named<&'static str, u32, ()> = Named::new(rt.alloc());
+    let sow = plan.add("sow", 1)?;
+    let reap = plan.add("reap", 2)?;
+    plan.depend(&"sow", &"reap", ())?;
+    // The cycle that an edge from `reap` to `sow` would close.
+    let cycle = plan.cycle(&"reap", &"sow")?;
+    assert!(rt; cycle.is_some_and(|nodes| nodes.as_slice() == [sow, reap].as_slice()));
+    Ok(())
+}
+
+#[test]
 fn on_workers(rt: HostRuntime) -> Result<(), Fail> {
     let mut dag: Dag<u64, ()> = Dag::new(rt.alloc());
     let dig = dag.add_node(2)?;
