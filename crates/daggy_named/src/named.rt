@@ -182,12 +182,15 @@ impl<K: Eq + Hash + Drop, N: Drop, E: Drop, Ix: IndexType> Named<K, N, E, Ix> {
         }
     }
 
-    /// The index of the node with this key. If there is none, it is added with the weight, as
-    /// [`add`](Named::add) adds it; otherwise the key and the weight are dropped.
+    /// Returns the index of the node with this key, which is added with the weight if there is none.
+    /// If there is one, the key and the weight are dropped.
     ///
     /// # Errors
     ///
-    /// As [`add`](Named::add), but for a key that is taken.
+    /// Each error holds the key and the weight, and the dag is unchanged.
+    ///
+    /// - `AddError::Full` if the index type has no index left.
+    /// - `AddError::Memory` if an allocation fails.
     pub fn get_or_add(&mut self, key: K, weight: N) -> Result<NodeIndex<Ix>, AddError<K, N>>
         ensures present { IfSome (index_in K.eq self.old.keys key) (λ n.
             IsOkAnd result (λ r. Ix.number r ≡ n) × (self.new ≡ self.old)) }
@@ -297,7 +300,7 @@ impl<K: Eq + Hash + Drop, N: Drop, E: Drop, Ix: IndexType> Named<K, N, E, Ix> {
         self.dag.path(child, parent)
     }
 
-    /// The weight of the node with this key, to be written, or `None` if there is none.
+    /// A mutable reference to the weight of the node with this key, or `None` if there is none.
     pub fn weight_mut(&mut self, key: &K) -> Option<&mut N>
         ensures* writes_back { sem 𝓛 (lends_weight K.row N.row E.row Ix.row
             K.Hash Ix.IndexType Ix.Clone self.entry key.now result) }

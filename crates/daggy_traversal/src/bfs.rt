@@ -72,7 +72,7 @@ impl<Ix: IndexType> Model for Bfs<Ix> {
 
 impl<Ix: IndexType> Bfs<Ix> {
     /// A walk that starts from the node `start`, along the edges or against them. If the node does
-    /// not exist, the walk gives nothing.
+    /// not exist, the walk yields nothing.
     ///
     /// # Errors
     ///
@@ -108,7 +108,7 @@ impl<Ix: IndexType> Bfs<Ix> {
         })
     }
 
-    /// Gives the next node, or `None` if all nodes that the start reaches were given.
+    /// Returns the next node, or `None` if there are no more nodes that the start reaches.
     ///
     /// The start comes first. The neighbors of a node come in the order of its list, after those of
     /// each node that came before it.

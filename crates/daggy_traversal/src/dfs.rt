@@ -78,7 +78,7 @@ impl<Ix: IndexType> Model for Dfs<Ix> {
 
 impl<Ix: IndexType> Dfs<Ix> {
     /// A walk that starts from the node `start`, along the edges or against them. If the node does
-    /// not exist, the walk gives nothing.
+    /// not exist, the walk yields nothing.
     ///
     /// # Errors
     ///
@@ -111,7 +111,7 @@ impl<Ix: IndexType> Dfs<Ix> {
         })
     }
 
-    /// Gives the next node, or `None` if all nodes that the start reaches were given.
+    /// Returns the next node, or `None` if there are no more nodes that the start reaches.
     ///
     /// The start comes first. Then comes the first neighbor, in the order of the list, that was not
     /// given, of the node given last that has such a neighbor.

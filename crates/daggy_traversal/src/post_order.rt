@@ -78,7 +78,7 @@ impl<Ix: IndexType> Model for DfsPostOrder<Ix> {
 
 impl<Ix: IndexType> DfsPostOrder<Ix> {
     /// A walk that starts from the node `start`, along the edges or against them. If the node does
-    /// not exist, the walk gives nothing.
+    /// not exist, the walk yields nothing.
     ///
     /// # Errors
     ///
@@ -119,7 +119,7 @@ impl<Ix: IndexType> DfsPostOrder<Ix> {
         })
     }
 
-    /// Gives the next node, or `None` if all nodes that the start reaches were given.
+    /// Returns the next node, or `None` if there are no more nodes that the start reaches.
     ///
     /// From the node that was met last, the walk goes down to the first neighbor, in the order of
     /// the list, that was not met, and so on. It gives the node at which there is none, and goes
