@@ -1,62 +1,140 @@
-//! Which targets need which: a program that uses `daggy`.
+//! What is to be built, and when: a program that uses `daggy`.
 //!
-//! It reads lines `target: dependency dependency ..`, as in a build file. Lines that it rejects are
-//! reported at once. At the end it prints a line for each target, with what the target needs.
+//! It reads lines `target seconds @time: dependency ..`, and prints how workers build all targets that
+//! are out of date.
 #![tactic(auto)]
 
+mod line;
 mod targets;
+mod workers;
 
+use crate::line::{BadLine, parse};
 use crate::targets::Targets;
 use anyhow::{Context, Result};
-use daggy::WouldCycle;
-use std::io::{BufRead, BufReader};
+use clap::{Arg, ArgAction, Command};
+use std::alloc::{AllocError, Global};
+use std::io::{BufRead, BufReader, Read};
+use std::num::NonZeroUsize;
+use std::process::ExitCode;
+use std::rt::{Env, Files};
+use std::{env, fs};
 
-/// The target and the words after its colon, or `None` if the line has another form.
-fn parse(text: &str) -> Option<(&str, &str)> {
-    let (before, after) = text.split_once(':')?;
-    let mut words = before.split_whitespace();
-    let target = words.next()?;
-    if words.next().is_some() || after.contains(':') {
-        return None;
-    }
-    Some((target, after))
+static DETAILS: &str = "\
+Each line has the form `target seconds: dependency ..`: how long the target takes, and what it needs. \
+`@time` behind the seconds says when it was built last, as a whole number. A name that has no line is \
+a source, which is there. Empty lines and lines that begin with `#` are skipped.
+
+A target is out of date if it was not built yet, if it was built before something that it needs, or \
+if something that it needs is out of date. Each one that a worker begins is printed, with the time \
+and the number of the worker.
+
+A bad line, or a dependency by which a target would need itself, is left out and reported on standard \
+error.
+
+Exit status: 0 if every line was good, 1 if one was bad, 2 if the arguments are wrong, the input \
+cannot be read, or memory runs out.";
+
+/// The command line.
+fn command<'a>(alloc: Global) -> Result<Command<'a>, AllocError> {
+    let workers = Arg::new(alloc, "workers")
+        .long("workers")
+        .value_name("N")
+        .help("How many targets are built side by side [default: 1]");
+    let dry_run = Arg::new(alloc, "dry-run")
+        .long("dry-run")
+        .action(ArgAction::SetTrue)
+        .help("Print what is out of date, each after what it needs, and build nothing");
+    let plan = Arg::new(alloc, "plan")
+        .long("plan")
+        .action(ArgAction::SetTrue)
+        .help("Print a schedule on the workers, longest path first, and build nothing");
+    let file = Arg::new(alloc, "file")
+        .value_name("FILE")
+        .help("The file to read [default: standard input]");
+    Command::new(alloc, "example_build")
+        .about("Builds what is out of date, by several workers.")
+        .after_help(DETAILS)
+        .arg(workers)?
+        .arg(dry_run)?
+        .arg(plan)?
+        .arg(file)
 }
 
-/// Adds the target and the dependencies of a line. A line of another form is reported and left out,
-/// and so is a dependency that would close a cycle.
-fn take_line(rt: &impl Print, targets: &mut Targets, text: &str, line: u32) -> Result<()> {
-    if text.trim().is_empty() {
+/// Takes a line. An empty one, and one that begins with `#`, says nothing.
+fn take_line(
+    rt: &(impl Eprint + AllocGlobal),
+    targets: &mut Targets,
+    bytes: &[u8],
+) -> Result<(), BadLine> {
+    let text = str::from_utf8(bytes).map_err(|_| BadLine::NotText)?.trim();
+    if text.is_empty() || text.starts_with('#') {
         return Ok(());
     }
-    let Some((target, dependencies)) = parse(text) else {
-        println!(rt; "line {line}: not of the form `target: dependency ..`")?;
-        return Ok(());
-    };
-    targets.node(target)?;
-    for dependency in dependencies.split_whitespace() {
-        if let Some(WouldCycle(line)) = targets.add_dependency(target, dependency, line)? {
-            println!(rt;
-                "line {line}: {target} cannot need {dependency}, that would close a cycle"
-            )?;
+    targets.add(rt, parse(text)?)
+}
+
+/// Takes all lines, numbered from 1, and returns how many were bad.
+fn take_lines<R: Read + Drop>(
+    rt: &(impl Eprint + AllocGlobal),
+    input: R,
+    targets: &mut Targets,
+) -> Result<u64> {
+    let input = BufReader::new(rt.alloc(), input)?;
+    let mut number = 0u64;
+    let mut bad = 0u64;
+    for line in input.split(rt.alloc(), b'\n') {
+        number = number.checked_add(1).context("too many lines")?;
+        match take_line(rt, targets, line?.as_slice()) {
+            Ok(()) => {}
+            Err(BadLine::Failed(error)) => return Err(error),
+            Err(error) => {
+                eprintln!(rt; "line {number}: {error}")?;
+                bad = bad.saturating_add(1);
+            }
         }
     }
-    Ok(())
+    Ok(bad)
 }
 
-/// Reads the lines of standard input, numbered from 1.
-fn take_lines(rt: &(impl Input + Print + AllocGlobal), targets: &mut Targets) -> Result<()> {
-    let input = BufReader::new(rt.alloc(), rt.reader())?;
-    let mut number = 0u32;
-    for line in input.lines(rt.alloc()) {
-        number = number.checked_add(1).context("too many lines")?;
-        take_line(rt, targets, line?.as_str(), number)?;
-    }
-    Ok(())
-}
-
-fn main(rt: HostRuntime) -> Result<()> {
+/// Runs the program, and returns its exit status.
+fn run(rt: &(impl Env + Files + Input + Print + Eprint + AllocGlobal)) -> Result<u8> {
+    let words: Vec<String> = env::args(rt)?.collect(rt.alloc())?;
+    let matches = match command(rt.alloc())?.try_get_matches_from(words.as_slice()) {
+        Ok(matches) => matches,
+        Err(error) => {
+            error.print(rt)?;
+            return Ok(if error.use_stderr() { 2 } else { 0 });
+        }
+    };
+    let workers = match matches.get_str("workers") {
+        Some(count) => count.parse().ok().and_then(NonZeroUsize::new),
+        None => Some(NonZeroUsize::MIN),
+    };
+    let workers = workers.context("the number of workers is not a whole number above 0")?;
     let mut targets = Targets::new(rt.alloc());
-    take_lines(&rt, &mut targets)?;
-    targets.print(&rt)?;
-    Ok(())
+    let bad = match matches.get_str("file") {
+        Some(path) => {
+            let file = fs::open(rt, path).with_context(|| format_args!("{path}"))?;
+            take_lines(rt, file, &mut targets)?
+        }
+        None => take_lines(rt, rt.reader(), &mut targets)?,
+    };
+    if matches.get_flag("dry-run") {
+        targets.print_outdated(rt)?;
+    } else if matches.get_flag("plan") {
+        targets.print_plan(rt, workers)?;
+    } else {
+        targets.build(rt, workers)?;
+    }
+    Ok(if bad == 0 { 0 } else { 1 })
+}
+
+fn main(rt: HostRuntime) -> ExitCode {
+    match run(&rt) {
+        Ok(status) => ExitCode::from(status),
+        Err(error) => {
+            let _ = eprintln!(rt; "example_build: {error:#}");
+            ExitCode::from(2)
+        }
+    }
 }

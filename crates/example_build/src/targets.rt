@@ -1,21 +1,32 @@
-//! Named targets and what they need.
-use anyhow::{Result, ensure};
-use daggy::{Dag, EdgeError, NodeIndex, WouldCycle};
-use std::alloc::Global;
-use std::collections::HashMap;
-use std::collections::hash_map::Entry;
-use std::io;
+//! Targets, and what is out of date.
+use crate::line::{BadLine, Line};
+use crate::workers::Shop;
+use anyhow::{Context, Result, bail};
+use daggy::named::{DependError, Named};
+use daggy::schedule::{Schedule, schedule_on, topological_order_by};
+use daggy::{NodeIndex, Walker};
+use std::alloc::{AllocError, Global};
+use std::num::NonZeroUsize;
 
-/// Targets, and which of them need which.
-///
-/// A target is a node, and its name is the weight. An edge leads from a target to a dependency, so
-/// the children of a target are its dependencies. The weight of an edge is the number of the line
-/// that it came from.
+/// A target, or a source.
+#[derive(Clone, Copy, Debug)]
+pub struct Target {
+    /// Whether it has a line. A source has none.
+    pub given: bool,
+    pub seconds: u64,
+    pub time: Option<u64>,
+}
+
+/// The targets by name. An edge leads from a target to each that needs it.
 #[derive(Drop)]
 pub struct Targets {
     alloc: Global,
-    dag: Dag<String, u32>,
-    by_name: HashMap<String, NodeIndex>,
+    by_name: Named<String, Target, ()>,
+}
+
+/// The name of a target.
+fn name(targets: &Named<String, Target, ()>, n: NodeIndex) -> &str {
+    targets.key_of(n).map_or("", String::as_str)
 }
 
 impl Targets {
@@ -23,61 +34,150 @@ impl Targets {
     pub fn new(alloc: Global) -> Targets {
         Targets {
             alloc,
-            dag: Dag::new(alloc),
-            by_name: HashMap::new(alloc),
+            by_name: Named::new(alloc),
         }
     }
 
-    /// The node of that name. Adds it if there is none.
-    pub fn node(&mut self, name: &str) -> Result<NodeIndex> {
-        match self.by_name.entry(String::from_str(self.alloc, name)?)? {
-            Entry::Occupied(known) => Ok(*known.get()),
-            Entry::Vacant(place) => {
-                ensure!(self.dag.can_add_node(), "too many targets");
-                let node = self.dag.add_node(String::from_str(self.alloc, name)?)?;
-                place.insert(node);
-                Ok(node)
+    /// The key of a target or a source, which is added as a source if it is new.
+    fn named(&mut self, name: &str) -> Result<String> {
+        let source = Target {
+            given: false,
+            seconds: 0,
+            time: Some(0),
+        };
+        let key = String::from_str(self.alloc, name)?;
+        self.by_name.get_or_add(key.clone()?, source)?;
+        Ok(key)
+    }
+
+    /// Adds the target of a line, and what it needs. A dependency that would close a cycle is reported
+    /// and left out.
+    pub fn add(&mut self, rt: &(impl Eprint + AllocGlobal), line: Line<'_>) -> Result<(), BadLine> {
+        let key = self.named(line.target)?;
+        if let Some(target) = self.by_name.weight_mut(&key) {
+            if target.given {
+                return Err(BadLine::Twice);
+            }
+            *target = Target {
+                given: true,
+                seconds: line.seconds,
+                time: line.time,
+            };
+        }
+        for word in line.dependencies.split_whitespace() {
+            self.depend(rt, word, &key)?;
+        }
+        Ok(())
+    }
+
+    /// Adds that a target needs something.
+    fn depend(&mut self, rt: &impl Eprint, needed: &str, target: &String) -> Result<()> {
+        let needed = self.named(needed)?;
+        match self.by_name.depend(&needed, target, ()) {
+            Ok(_) => {}
+            Err(DependError::WouldCycle(())) => {
+                eprint!(rt; "cycle: {target}")?;
+                if let Some(path) = self.by_name.cycle(&needed, target)? {
+                    for n in path.as_slice().iter().rev() {
+                        eprint!(rt; " needs {}", name(&self.by_name, *n))?;
+                    }
+                }
+                eprintln!(rt; "")?;
+            }
+            Err(error) => bail!("{error}"),
+        }
+        Ok(())
+    }
+
+    /// Which targets are out of date, by index.
+    fn outdated(&self) -> Result<Vec<bool>, AllocError> {
+        let dag = self.by_name.dag();
+        let mut outdated = Vec::new(self.alloc);
+        outdated.resize(dag.node_bound(), false)?;
+        for n in dag.topological_order() {
+            let Some(target) = dag.node_weight(n) else {
+                continue;
+            };
+            let mut is_old = target.given && target.time.is_none();
+            for (_, parent) in dag.parents(n).iter(dag) {
+                let later = dag
+                    .node_weight(parent)
+                    .is_some_and(|needed| needed.time > target.time);
+                is_old = is_old || later || outdated.get(parent.index()) == Some(&true);
+            }
+            if let Some(flag) = outdated.get_mut(n.index()) {
+                *flag = is_old;
             }
         }
+        Ok(outdated)
     }
 
-    /// Records that `target` needs `dependency`, and the line that says so. If this is already
-    /// recorded, the later line replaces the earlier one.
-    ///
-    /// Returns the line if `dependency` is `target` or already needs it.
-    pub fn add_dependency(
-        &mut self,
-        target: &str,
-        dependency: &str,
-        line: u32,
-    ) -> Result<Option<WouldCycle<u32>>> {
-        let parent = self.node(target)?;
-        let child = self.node(dependency)?;
-        let dag = &mut self.dag;
-        // What `update_edge` requires. Both nodes exist, but no contract says so of a map's values.
-        ensure!(dag.can_add_edge(), "too many dependencies");
-        ensure!(
-            dag.contains_node(parent) && dag.contains_node(child),
-            "no such target"
-        );
-        match dag.update_edge(parent, child, line) {
-            Ok(_) => Ok(None),
-            Err(EdgeError::WouldCycle(refused)) => Ok(Some(refused)),
-            Err(other) => Err(other.into()),
+    /// Prints the targets that are out of date, each after what it needs; which comes first otherwise
+    /// is decided by the names.
+    pub fn print_outdated(&self, rt: &impl Print) -> Result<()> {
+        let outdated = self.outdated()?;
+        let targets = &self.by_name;
+        let order = topological_order_by(self.alloc, targets.dag(), |n, _| name(targets, n))?;
+        for n in order {
+            if outdated.get(n.index()) == Some(&true) {
+                println!(rt; "{}", name(targets, n))?;
+            }
         }
+        Ok(())
     }
 
-    /// Prints a line for each target, by ascending index, with its dependencies, the newest first.
-    pub fn print(&self, rt: &impl Print) -> io::Result<()> {
-        for (n, name) in self.dag.node_references() {
-            print!(rt; "{name}:")?;
-            for child in self.dag.neighbors(n) {
-                if let Some(name) = self.dag.node_weight(child) {
-                    print!(rt; " {name}")?;
+    /// Prints when which worker builds each target that is out of date, where the longest path comes
+    /// first, and the longest path.
+    pub fn print_plan(&self, rt: &impl Print, workers: NonZeroUsize) -> Result<()> {
+        let outdated = self.outdated()?;
+        let targets = &self.by_name;
+        let dag = targets.dag();
+        let seconds = |n: NodeIndex, target: &Target| match outdated.get(n.index()) {
+            Some(true) => target.seconds,
+            _ => 0,
+        };
+        let plan = schedule_on(self.alloc, dag, seconds, workers)?;
+        for n in topological_order_by(self.alloc, dag, |n, _| name(targets, n))? {
+            let i = n.index();
+            if outdated.get(i) == Some(&true) {
+                if let (Some(start), Some(worker)) = (plan.starts.get(i), plan.workers.get(i)) {
+                    println!(rt; "{start} s, worker {worker}: {}", name(targets, n))?;
                 }
             }
-            println!(rt; "")?;
         }
+        let longest = Schedule::new(self.alloc, dag, seconds)?;
+        print!(rt; "{} s, at least {} s:", plan.makespan, longest.makespan)?;
+        for n in longest.critical {
+            print!(rt; " {}", name(targets, n))?;
+        }
+        println!(rt; "")?;
+        Ok(())
+    }
+
+    /// Lets workers build what is out of date, each target as soon as it is ready and a worker is
+    /// free, and prints what they begin.
+    pub fn build(&self, rt: &impl Print, workers: NonZeroUsize) -> Result<()> {
+        let outdated = self.outdated()?;
+        let targets = &self.by_name;
+        let dag = targets.dag();
+        let mut shop = Shop::new(self.alloc, dag, workers)?;
+        for _ in 0..=dag.node_count() {
+            while let Some(n) = shop.next() {
+                let seconds = match (dag.node_weight(n), outdated.get(n.index())) {
+                    (Some(target), Some(true)) => target.seconds,
+                    _ => {
+                        shop.skip(n);
+                        continue;
+                    }
+                };
+                let worker = shop.begin(n, seconds).context("the times are too long")?;
+                println!(rt; "{} s, worker {worker}: {}", shop.time, name(targets, n))?;
+            }
+            if !shop.finish() {
+                break;
+            }
+        }
+        println!(rt; "{} s", shop.time)?;
         Ok(())
     }
 }
