@@ -61,7 +61,7 @@ sources = {path: code_of(text_of(path)) for path in files}
 page = text_of("docs/USING.md")
 if blocks(page, "text") != [text_of("crates/example_garden/stdout")]:
     complain("docs/USING.md: the program of .ci/use prints something else")
-pages = {"docs/SHEET.md": "example_sheet", "docs/PACKAGES.md": "example_packages"}
+pages = {"docs/SHEET.md": "example_sheet", "docs/PACKAGES.md": "example_packages", "docs/BUILD.md": "example_build"}
 using = [(path, block) for path in ["docs/USING.md", *pages] for block in blocks(text_of(path), "rust")]
 for path, block in using:
     parts = [code_of(part) for part in re.split(r"^ *// \.\.$", block, flags=re.M)]
@@ -91,13 +91,13 @@ runs += [(shlex.split(words), sent, said, "") for words, sent, said in shown]
 examples = []
 for path, name in pages.items():
     shown = re.findall(
-        r"^```sh\nrt try <<'END'\n(.*?)^END\n```\n\nIt prints:\n\n```text\n(.*?)^```\n\nand on standard error:\n\n```text\n(.*?)^```$",
+        r"^```sh\nrt try(?: -- ([^\n]*?))? <<'END'\n(.*?)^END\n```\n\nIt prints:\n\n```text\n(.*?)^```\n\nand on standard error:\n\n```text\n(.*?)^```$",
         text_of(path),
         re.M | re.S,
     )
     if not shown or len(shown) != len(blocks(text_of(path), "sh")):
         complain(f"{path} has a run of another form")
-    examples.append((name, [([], *texts) for texts in shown]))
+    examples.append((name, [(shlex.split(words), *texts) for words, *texts in shown]))
 
 
 def compare(name, runs):

@@ -4,6 +4,7 @@ use crate::workers::Shop;
 use anyhow::{Context, Result, bail};
 use daggy::named::{DependError, Named};
 use daggy::schedule::{Schedule, schedule_on, topological_order_by};
+use daggy::visit::NodeIndexable;
 use daggy::{NodeIndex, Walker};
 use std::alloc::{AllocError, Global};
 use std::num::NonZeroUsize;

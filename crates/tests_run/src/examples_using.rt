@@ -41,6 +41,22 @@ fn what_depends_on_what(rt: HostRuntime) -> Result<(), Fail> {
 }
 
 #[test]
+fn children_of_a_node(rt: HostRuntime) -> Result<(), Fail> {
+    let mut dag: Dag<&'static str, u32> = Dag::new(rt.alloc());
+    let sow = dag.add_node("sow")?;
+    let (_, _hoe) = dag.add_child(sow, 30, "hoe")?;
+    let (_, _mow) = dag.add_child(sow, 20, "mow")?;
+    let mut names = Vec::new(rt.alloc());
+    for child in dag.neighbors(sow) {
+        if let Some(name) = dag.node_weight(child) {
+            names.push(*name)?;
+        }
+    }
+    assert!(rt; names.as_slice() == ["mow", "hoe"].as_slice());
+    Ok(())
+}
+
+#[test]
 fn removal_on_the_way(rt: HostRuntime) -> Result<(), Fail> {
     let mut dag: StableDag<&'static str, u32> = StableDag::new(rt.alloc());
     let sow = dag.add_node("sow")?;
