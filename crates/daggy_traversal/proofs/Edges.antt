@@ -9,7 +9,7 @@ use Rattle.daggy_base.specs.WellFormed.{IsWellFormed}
 use Rattle.daggy_base.specs.Cursor.{first_of, after}
 use Rattle.daggy_base.proofs.Lists.{Mem, Unique, mem_contains, contains_mem, unique_from_distinct}
 use Rattle.daggy_base.proofs.OutEdgesRead.{edge_below, below_bound}
-use Rattle.daggy_traversal.specs.Traversal.{LeadsTo, IsNeighbor, neighbors, far_or, rest_from, edges_left, neighbors_left}
+use Rattle.daggy_traversal.specs.Traversal.{far_of, LeadsTo, IsNeighbor, neighbors, far_or, rest_from, edges_left, neighbors_left}
 use Rattle.daggy_traversal.proofs.Members.{mem_map, mem_of_map}
 
 from_here : (xs : List ℕ) (x e : ℕ) → x ≡ e → rest_from (x ∷ xs) e ≡ x ∷ xs
@@ -97,6 +97,11 @@ module _ {N E : Type 0} {end : ℕ} {g : Graph N E} (w : IsWellFormed end g) whe
   far_by : (dir : Direction) (x : Edge E) (e : ℕ) → edge_at g e ≡ Some x → HasNode g (far_end dir x)
   far_by Outgoing x e at = w.children e x at
   far_by Incoming x e at = w.parents e x at
+
+pub far_same : {E : Type 0} (dir : Direction) (x : Edge E) (parent child : ℕ)
+    → parent ≡ x.parent → child ≡ x.child → far_of dir parent child ≡ far_end dir x
+far_same Outgoing x parent child p c = c
+far_same Incoming x parent child p c = p
 
 leads_by : {N E : Type 0} (g : Graph N E) (dir : Direction) (e : ℕ) (x : Edge E)
     → edge_at g e ≡ Some x → LeadsTo dir g (near_end dir x) (far_end dir x)

@@ -25,6 +25,11 @@ abbrev pub IsAway : {N E : Type 0} → Direction → Graph N E → (u v edges : 
 IsAway dir g u v zero = HasNode g u × (u ≡ v)
 IsAway dir g u v (suc edges) = (w : ℕ) × IsAway dir g u w edges × LeadsTo dir g w v
 
+-- of the ends of an edge, the one that it leads to in the direction
+abbrev pub far_of : Direction → (parent child : ℕ) → ℕ
+far_of Outgoing parent child = child
+far_of Incoming parent child = parent
+
 -- the node that an edge leads to in the direction, or 0 if there is no edge
 abbrev pub far_or : {E : Type 0} → Direction → Option (Edge E) → ℕ
 far_or dir None = 0

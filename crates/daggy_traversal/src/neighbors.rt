@@ -1,7 +1,7 @@
 //! Reading the list of a node.
 ghost use Rattle.std.specs.Prelude.{◌≡◌, None, IfNone, IfSome};
 ghost use Rattle.daggy_base.specs.Graph.{edge_at};
-ghost use Rattle.daggy_traversal.specs.Traversal.{IsNeighbor};
+ghost use Rattle.daggy_traversal.specs.Traversal.{IsNeighbor, far_of};
 
 use daggy_base::index::{Direction, EdgeIndex, IndexType, NodeIndex};
 use daggy_base::store::Store;
@@ -19,9 +19,20 @@ pub fn next_neighbor<Ix: IndexType, S: Store<Ix>>(
         (Ix.number e) (Ix.number found.0) (Ix.number found.1)) }
 {
     let (parent, child) = graph.edge_endpoints(e)?;
-    let n = match dir {
+    Some((far_end(dir, parent, child), graph.next_edge(e, dir)))
+}
+
+// The end of an edge that it leads to in the direction.
+#[inline]
+fn far_end<Ix: IndexType>(
+    dir: Direction,
+    parent: NodeIndex<Ix>,
+    child: NodeIndex<Ix>,
+) -> NodeIndex<Ix>
+    ensures { Ix.number result ≡ far_of dir (Ix.number parent) (Ix.number child) }
+{
+    match dir {
         Direction::Outgoing => child,
         Direction::Incoming => parent,
-    };
-    Some((n, graph.next_edge(e, dir)))
+    }
 }
