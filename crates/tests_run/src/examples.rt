@@ -1,8 +1,9 @@
 //! The examples in the docs of the dag's calls. `.ci/checks/examples.sh` compares the texts.
 
 use daggy::dot::Dot;
-use daggy::schedule::{Ready, Schedule};
+use daggy::schedule::{Ready, Schedule, schedule_on, topological_order_by};
 use daggy::{Dag, EdgeError, StableDag, Walker, WouldCycle};
+use std::num::NonZeroUsize;
 use std::test::Fail;
 
 #[test]
@@ -165,6 +166,31 @@ fn schedule(rt: HostRuntime) -> Result<(), Fail> {
     assert!(rt; plan.critical.as_slice() == [sow, water, reap].as_slice());
     assert!(rt; plan.starts[scarecrow.index()] == 1);
     assert!(rt; plan.slack[scarecrow.index()] == 57);
+    Ok(())
+}
+
+#[test]
+fn order_by(rt: HostRuntime) -> Result<(), Fail> {
+    let mut dag: Dag<&'static str, ()> = Dag::new(rt.alloc());
+    let sow = dag.add_node("sow")?;
+    let (_, water) = dag.add_child(sow, (), "a pail of water")?;
+    let dig = dag.add_node("dig")?;
+    let order = topological_order_by(rt.alloc(), &dag, |_, name| *name)?;
+    assert!(rt; order.as_slice() == [dig, sow, water].as_slice());
+    Ok(())
+}
+
+#[test]
+fn on_workers(rt: HostRuntime) -> Result<(), Fail> {
+    let mut dag: Dag<u64, ()> = Dag::new(rt.alloc());
+    let dig = dag.add_node(2)?;
+    dag.add_child(dig, (), 3)?;
+    dag.add_node(4)?;
+    let two = NonZeroUsize::MIN.saturating_add(1);
+    let plan = schedule_on(rt.alloc(), &dag, |_, hours| *hours, two)?;
+    assert!(rt; plan.makespan == 5);
+    assert!(rt; plan.starts.as_slice() == [0, 2, 0].as_slice());
+    assert!(rt; plan.workers.as_slice() == [0, 0, 1].as_slice());
     Ok(())
 }
 
