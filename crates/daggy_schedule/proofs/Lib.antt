@@ -23,3 +23,4 @@ pub mod Shop
 pub mod Undone
 pub mod Urgent
 pub mod Working
+pub mod Graham

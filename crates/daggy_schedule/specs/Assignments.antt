@@ -48,6 +48,12 @@ pub record IsWithinBound {N E : Type 0} (g : Graph N E) (durations : List ℕ) (
   pub critical : IsCritical g durations path longest
   pub bound : (order : List ℕ) → IsOrderOf g order → count * makespan ≤ span durations order + (count - 1) * longest
 
+-- no way to do the nodes on as many workers is faster than that by more than a factor of 2 - 1 / count
+abbrev pub IsNearBest : {N E : Type 0} → Graph N E → (durations : List ℕ) (count makespan : ℕ) → Type 0
+IsNearBest g durations count makespan =
+    (starts workers : List ℕ) (time : ℕ) → IsAssignment g durations starts workers count time
+    → count * makespan ≤ (2 * count - 1) * time
+
 -- the durations of all nodes sum up to 2 ^ 64 or more
 abbrev pub TakeTooLong : {N E : Type 0} → Graph N E → (durations : List ℕ) → Type 0
 TakeTooLong g durations = (order : List ℕ) → IsOrderOf g order → 2 ^ 64 ≤ span durations order

@@ -6,7 +6,7 @@ ghost use Rattle.daggy_schedule.specs.Times.{CanCallAtEachNode, AreDurations, Ar
 ghost use Rattle.daggy_schedule.specs.Times.{AreDoneBy, IsCritical};
 ghost use Rattle.daggy_schedule.specs.Passes.{later_by};
 ghost use Rattle.daggy_schedule.specs.Assignments.{IsAssignment, AreKeptBusy, IsMostUrgentFirst};
-ghost use Rattle.daggy_schedule.specs.Assignments.{IsWithinBound, TakeTooLong};
+ghost use Rattle.daggy_schedule.specs.Assignments.{IsWithinBound, IsNearBest, TakeTooLong};
 ghost use Rattle.daggy_schedule.specs.declared.schedule.ScheduleError.TheVariants.{Overflow};
 
 use crate::ready::Ready;
@@ -39,7 +39,7 @@ pub struct Assignment {
 /// takes, of the nodes whose parents have all finished, the one from which the longest path leads, of
 /// equal ones the one with the smallest index. `durations` is called once with each node.
 ///
-/// No other schedule on as many workers has a makespan of half of this one or less.
+/// The makespan is less than twice the least that is possible on as many workers, unless it is 0.
 ///
 /// # Errors
 ///
@@ -55,15 +55,13 @@ pub struct Assignment {
 /// ```
 /// let mut dag: Dag<u64, ()> = Dag::new(rt.alloc());
 /// let dig = dag.add_node(2)?;
-/// let (_, sow) = dag.add_child(dig, (), 3)?;
-/// let fence = dag.add_node(4)?;
-/// let plan = schedule_on(rt.alloc(), &dag, |_, hours| *hours, NonZeroUsize::MIN)?;
-/// assert!(rt; plan.makespan == 9);
+/// dag.add_child(dig, (), 3)?;
+/// dag.add_node(4)?;
 /// let two = NonZeroUsize::MIN.saturating_add(1);
 /// let plan = schedule_on(rt.alloc(), &dag, |_, hours| *hours, two)?;
 /// assert!(rt; plan.makespan == 5);
-/// assert!(rt; plan.workers[dig.index()] == plan.workers[sow.index()]);
-/// assert!(rt; plan.workers[fence.index()] == 1);
+/// assert!(rt; plan.starts.as_slice() == [0, 2, 0].as_slice());
+/// assert!(rt; plan.workers.as_slice() == [0, 0, 1].as_slice());
 /// ```
 pub fn schedule_on<N: Drop, E: Drop, Ix: IndexType, S, F: Fn(NodeIndex<Ix>, &N) -> u64>(
     alloc: Global,
@@ -86,6 +84,8 @@ where
     ensures urgent { IfOk result (λ a.
         IsMostUrgentFirst dag.now.graph a.durations.items a.starts.items) }
     ensures bound { IfOk result (λ a. IsWithinBound dag.now.graph a.durations.items
+        (non_zero_usize_get workers) a.makespan) }
+    ensures near_best { IfOk result (λ a. IsNearBest dag.now.graph a.durations.items
         (non_zero_usize_get workers) a.makespan) }
     ensures overflow { result ≡ Err Overflow → (durations' : List ℕ)
         × AreDurations Ix.of F.post durations dag.now.graph durations'
@@ -128,6 +128,8 @@ where
         IsMostUrgentFirst dag.now.graph plan.now.durations.items s.starts) }
     ensures bound { IfOk result (λ s.
         IsWithinBound dag.now.graph plan.now.durations.items count s.now) }
+    ensures near_best { IfOk result (λ s.
+        IsNearBest dag.now.graph plan.now.durations.items count s.now) }
     ensures overflow { result ≡ Err Overflow
         → TakeTooLong dag.now.graph plan.now.durations.items }
 {

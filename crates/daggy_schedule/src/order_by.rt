@@ -29,10 +29,9 @@ use std::alloc::{AllocError, Global};
 ///
 /// ```
 /// let mut dag: Dag<&'static str, ()> = Dag::new(rt.alloc());
-/// let water = dag.add_node("water")?;
 /// let sow = dag.add_node("sow")?;
+/// let (_, water) = dag.add_child(sow, (), "a pail of water")?;
 /// let dig = dag.add_node("dig")?;
-/// dag.add_edge(sow, water, ())?;
 /// let order = topological_order_by(rt.alloc(), &dag, |_, name| *name)?;
 /// assert!(rt; order.as_slice() == [dig, sow, water].as_slice());
 /// ```

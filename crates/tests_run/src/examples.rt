@@ -196,6 +196,31 @@ fn schedule(rt: HostRuntime) -> Result<(), Fail> {
 }
 
 #[test]
+fn order_by(rt: HostRuntime) -> Result<(), Fail> {
+    let mut dag: Dag<&'static str, ()> = Dag::new(rt.alloc());
+    let sow = dag.add_node("sow")?;
+    let (_, water) = dag.add_child(sow, (), "a pail of water")?;
+    let dig = dag.add_node("dig")?;
+    let order = topological_order_by(rt.alloc(), &dag, |_, name| *name)?;
+    assert!(rt; order.as_slice() == [dig, sow, water].as_slice());
+    Ok(())
+}
+
+#[test]
+fn on_workers(rt: HostRuntime) -> Result<(), Fail> {
+    let mut dag: Dag<u64, ()> = Dag::new(rt.alloc());
+    let dig = dag.add_node(2)?;
+    dag.add_child(dig, (), 3)?;
+    dag.add_node(4)?;
+    let two = NonZeroUsize::MIN.saturating_add(1);
+    let plan = schedule_on(rt.alloc(), &dag, |_, hours| *hours, two)?;
+    assert!(rt; plan.makespan == 5);
+    assert!(rt; plan.starts.as_slice() == [0, 2, 0].as_slice());
+    assert!(rt; plan.workers.as_slice() == [0, 0, 1].as_slice());
+    Ok(())
+}
+
+#[test]
 fn dot(rt: HostRuntime) -> Result<(), Fail> {
     let mut dag: Dag<&'static str, u32> = Dag::new(rt.alloc());
     let sow = dag.add_node("sow")?;

@@ -51,7 +51,7 @@ fn schedule_again<S: Store<u32, NodeWeight = u64, EdgeWeight = ()>>(
     let plan = match Schedule::new(alloc, dag, |_, duration| *duration) {
         Ok(plan) => plan,
         Err(ScheduleError::Memory) => made(rt, Schedule::new(alloc, dag, |_, duration| *duration)),
-        Err(ScheduleError::Overflow) => panic!(rt; "no path takes too long"),
+        Err(ScheduleError::Overflow) => panic!(rt; "the nodes do not take too long"),
     };
     same(rt, plan.makespan, 5);
 }

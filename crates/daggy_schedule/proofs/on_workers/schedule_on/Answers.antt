@@ -3,7 +3,7 @@ use Rattle.std.specs.Int.NonZero.{non_zero_usize_get}
 use Rattle.std.specs.Result.{IsErrAnd}
 use Rattle.daggy_schedule.specs.declared.schedule.ScheduleError.TheVariants.{Overflow}
 use Rattle.daggy_schedule.specs.Times.{AreDurations}
-use Rattle.daggy_schedule.specs.Assignments.{AreKeptBusy}
+use Rattle.daggy_schedule.specs.Assignments.{AreKeptBusy, IsNearBest}
 use Rattle.daggy_schedule.proofs.Load.{too_long}
 use Rattle.daggy_schedule.proofs.on_workers.schedule_on.Goals as goal
 
@@ -35,3 +35,14 @@ returns-clause-busy g c =
     subst D (sym c.into_assignment.ensures.durations)
     (subst S (sym c.into_assignment.ensures.starts)
     (subst W (sym c.into_assignment.ensures.workers) (subst C c.get.ensures.value c.in_ok-shop.ensures.busy)))
+
+pub returns-clause-near_best : goal.returns-clause-near_best
+returns-clause-near_best g c =
+    let graph = c.args.dag.now.graph in
+    let made = c.into_assignment.result in
+    let count = non_zero_usize_get c.args.workers in
+    let D : _ → Type 0 = λ z. IsNearBest graph z.items count made.makespan in
+    let M : ℕ → Type 0 = λ z. IsNearBest graph c.in_ok-plan.plan.durations.items count z in
+    let C : ℕ → Type 0 = λ z. IsNearBest graph c.in_ok-plan.plan.durations.items z c.in_ok-shop.shop.now in
+    subst D (sym c.into_assignment.ensures.durations)
+    (subst M (sym c.into_assignment.ensures.makespan) (subst C c.get.ensures.value c.in_ok-shop.ensures.near_best))

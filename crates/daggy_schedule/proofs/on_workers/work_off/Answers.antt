@@ -5,7 +5,8 @@ use Rattle.daggy_schedule.specs.LeastFirst.{nodes_of}
 use Rattle.std.specs.Option.{MatchOption}
 use Rattle.std.specs.Result.{IsErrAnd}
 use Rattle.daggy_schedule.specs.declared.schedule.ScheduleError.TheVariants.{Overflow}
-use Rattle.daggy_schedule.specs.Assignments.{IsAssignment, AreKeptBusy, IsMostUrgentFirst, IsWithinBound}
+use Rattle.daggy_schedule.specs.Assignments.{IsAssignment, AreKeptBusy, IsMostUrgentFirst, IsWithinBound, IsNearBest}
+use Rattle.daggy_schedule.proofs.Graham.{near_best}
 use Rattle.std.proofs.lemmas.List.{get_or_default}
 use Rattle.std.proofs.lemmas.List.Sorted.{length_permutation}
 use Rattle.daggy_base.specs.Graph.{Graph, node_bound}
@@ -243,6 +244,26 @@ returns-in_default-2-clause-bound g c =
     subst P (sym (none.1 ∙ stuck.0))
     (working_bound c.begin.invariant.working w c.begin.invariant.none_ready runs stuck.1 c.requires.some
     (map g.Ix.IndexType.number plan.critical.items) plan.makespan c.requires.critical c.requires.met)
+
+pub returns-in_default-2-clause-near_best : goal.returns-in_default-2-clause-near_best
+returns-in_default-2-clause-near_best g c =
+    let graph = c.args.dag.now.graph in
+    let plan = c.args.plan.now in
+    let end = g.Ix.IndexType.greatest in
+    let W : Graph _ _ → Type 0 = λ z. IsWellFormed end z in
+    let w = subst W c.graph.ensures.graph c.node_bound.ensures.well_formed in
+    let stuck = c.in_ok-begin_next.ensures.stuck (ap Ok c.if-branch.false) in
+    let M : _ → Type 0 = λ z. MatchOption z ((c.begin_next.new.self.running ≡ [])
+    × (c.finish_next.new.self ≡ c.begin_next.new.self)) (λ n.
+    Finishes (g.Ix.IndexType.number n) c.begin_next.new.self c.finish_next.new.self) in
+    let none = subst M c.in_default-2.is c.in_ok-n.ensures in
+    let R : Floor → Type 0 = λ z. z.running ≡ [] in
+    let runs = subst R stuck.0 none.0 in
+    let P : Floor → Type 0 = λ z. IsNearBest graph plan.durations.items c.args.count z.now in
+    subst P (sym (none.1 ∙ stuck.0))
+    (near_best c.in_ok-ready.ensures.ready.0 c.in_ok-ready.ensures.ready.1 c.requires.some
+    (working_bound c.begin.invariant.working w c.begin.invariant.none_ready runs stuck.1 c.requires.some
+    (map g.Ix.IndexType.number plan.critical.items) plan.makespan c.requires.critical c.requires.met))
 
 pub done-requires-clause-out : goal.done-requires-clause-out
 done-requires-clause-out g c =
