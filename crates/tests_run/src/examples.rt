@@ -259,34 +259,6 @@ fn cycle_by_names(rt: HostRuntime) -> Result<(), Fail> {
 }
 
 #[test]
-fn on_workers(rt: HostRuntime) -> Result<(), Fail> {
-    let mut dag: Dag<u64, ()> = Dag::new(rt.alloc());
-    let dig = dag.add_node(2)?;
-    let (_, sow) = dag.add_child(dig, (), 3)?;
-    let fence = dag.add_node(4)?;
-    let plan = schedule_on(rt.alloc(), &dag, |_, hours| *hours, NonZeroUsize::MIN)?;
-    assert!(rt; plan.makespan == 9);
-    let two = NonZeroUsize::MIN.saturating_add(1);
-    let plan = schedule_on(rt.alloc(), &dag, |_, hours| *hours, two)?;
-    assert!(rt; plan.makespan == 5);
-    assert!(rt; plan.workers[dig.index()] == plan.workers[sow.index()]);
-    assert!(rt; plan.workers[fence.index()] == 1);
-    Ok(())
-}
-
-#[test]
-fn order_by(rt: HostRuntime) -> Result<(), Fail> {
-    let mut dag: Dag<&'static str, ()> = Dag::new(rt.alloc());
-    let water = dag.add_node("water")?;
-    let sow = dag.add_node("sow")?;
-    let dig = dag.add_node("dig")?;
-    dag.add_edge(sow, water, ())?;
-    let order = topological_order_by(rt.alloc(), &dag, |_, name| *name)?;
-    assert!(rt; order.as_slice() == [dig, sow, water].as_slice());
-    Ok(())
-}
-
-#[test]
 fn breadth_first(rt: HostRuntime) -> Result<(), Fail> {
     let mut dag: Dag<&'static str, u32> = Dag::new(rt.alloc());
     let sow = dag.add_node("sow")?;
