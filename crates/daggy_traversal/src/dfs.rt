@@ -14,6 +14,7 @@ use daggy_base::link::Link;
 use daggy_base::store::Store;
 use daggy_walk::visit::NodeSet;
 use std::alloc::{AllocError, Global};
+use std::fmt;
 use std::marker::Model;
 
 /// The nodes that a node reaches, depth first and in preorder: each node comes before those that
@@ -33,10 +34,13 @@ use std::marker::Model;
 /// # Examples
 ///
 /// ```
+/// let mut dag: Dag<&'static str, u32> = Dag::new(rt.alloc());
+/// let sow = dag.add_node("sow")?;
+/// let (_, reap) = dag.add_child(sow, 90, "reap")?;
 /// let mut walk = Dfs::new(rt.alloc(), dag.graph(), sow, Direction::Outgoing)?;
-/// while let Some(n) = walk.next(dag.graph()) {
-///     println!(rt; "{}", n.index())?;
-/// }
+/// assert!(rt; walk.next(dag.graph()) == Some(sow));
+/// assert!(rt; walk.next(dag.graph()) == Some(reap));
+/// assert!(rt; walk.next(dag.graph()).is_none());
 /// ```
 #[derive(Drop)]
 pub struct Dfs<Ix: IndexType = DefaultIx> {
@@ -191,4 +195,13 @@ fn advance<Ix: IndexType, S: Store<Ix>>(
         }
     }
     None
+}
+
+impl<Ix: IndexType> fmt::Debug for Dfs<Ix> {
+    fn fmt<W: fmt::Write>(&self, f: &mut fmt::Formatter<W>) -> fmt::Result {
+        f.debug_struct("Dfs")
+            .field("start", &self.start)
+            .field("dir", &self.dir)
+            .finish_non_exhaustive()
+    }
 }
