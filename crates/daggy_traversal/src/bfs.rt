@@ -13,6 +13,7 @@ use daggy_base::link::Link;
 use daggy_base::store::Store;
 use daggy_walk::visit::NodeSet;
 use std::alloc::{AllocError, Global};
+use std::fmt;
 use std::marker::Model;
 
 /// The nodes that a node reaches, breadth first: a node that fewer edges lead to comes earlier.
@@ -41,7 +42,7 @@ use std::marker::Model;
 /// assert!(rt; walk.next(dag.graph()) == Some(reap));
 /// assert!(rt; walk.next(dag.graph()).is_none());
 /// ```
-#[derive(Debug, Drop)]
+#[derive(Drop)]
 pub struct Bfs<Ix: IndexType = DefaultIx> {
     start: NodeIndex<Ix>,
     dir: Direction,
@@ -169,5 +170,14 @@ fn meet_neighbors<Ix: IndexType, S: Store<Ix>>(
         if met.visit(v) {
             queue.push_reserved(Link::of_node(v));
         }
+    }
+}
+
+impl<Ix: IndexType> fmt::Debug for Bfs<Ix> {
+    fn fmt<W: fmt::Write>(&self, f: &mut fmt::Formatter<W>) -> fmt::Result {
+        f.debug_struct("Bfs")
+            .field("start", &self.start)
+            .field("dir", &self.dir)
+            .finish_non_exhaustive()
     }
 }

@@ -14,6 +14,7 @@ use daggy_base::link::Link;
 use daggy_base::store::Store;
 use daggy_walk::visit::NodeSet;
 use std::alloc::{AllocError, Global};
+use std::fmt;
 use std::marker::Model;
 
 /// The nodes that a node reaches, depth first and in preorder: each node comes before those that
@@ -196,4 +197,13 @@ fn advance<Ix: IndexType, S: Store<Ix>>(
         }
     }
     None
+}
+
+impl<Ix: IndexType> fmt::Debug for Dfs<Ix> {
+    fn fmt<W: fmt::Write>(&self, f: &mut fmt::Formatter<W>) -> fmt::Result {
+        f.debug_struct("Dfs")
+            .field("start", &self.start)
+            .field("dir", &self.dir)
+            .finish_non_exhaustive()
+    }
 }

@@ -14,6 +14,7 @@ use daggy_base::link::Link;
 use daggy_base::store::Store;
 use daggy_walk::visit::NodeSet;
 use std::alloc::{AllocError, Global};
+use std::fmt;
 use std::marker::Model;
 
 /// The nodes that a node reaches, depth first and in postorder: each node comes after its
@@ -231,4 +232,13 @@ fn descend<Ix: IndexType, S: Store<Ix>>(
         cursors.push_reserved(Link::of_edge(graph.first_edge(v, dir)));
     }
     None
+}
+
+impl<Ix: IndexType> fmt::Debug for DfsPostOrder<Ix> {
+    fn fmt<W: fmt::Write>(&self, f: &mut fmt::Formatter<W>) -> fmt::Result {
+        f.debug_struct("DfsPostOrder")
+            .field("start", &self.start)
+            .field("dir", &self.dir)
+            .finish_non_exhaustive()
+    }
 }
