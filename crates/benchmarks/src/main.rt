@@ -71,7 +71,7 @@ fn measured<R: AllocGlobal + CpuClock>(rt: &R, request: Request) -> io::Result<F
         figures = request.workload.run(rt, request.stable, request.sizes)?;
         seconds.push(figures.seconds)?;
     }
-    seconds.sort_unstable_by(f64::total_cmp);
+    seconds.sort_unstable_by(|a, b| a.total_cmp(b));
     figures.seconds = seconds
         .get(seconds.len() / 2)
         .copied()

@@ -75,18 +75,21 @@ impl Targets {
     fn depend(&mut self, rt: &impl Eprint, needed: &str, target: &String) -> Result<()> {
         let needed = self.named(needed)?;
         match self.by_name.depend(&needed, target, ()) {
-            Ok(_) => {}
-            Err(DependError::WouldCycle(())) => {
-                eprint!(rt; "cycle: {target}")?;
-                if let Some(path) = self.by_name.cycle(&needed, target)? {
-                    for n in path.as_slice().iter().rev() {
-                        eprint!(rt; " needs {}", name(&self.by_name, *n))?;
-                    }
-                }
-                eprintln!(rt; "")?;
-            }
+            Ok(_) => Ok(()),
+            Err(DependError::WouldCycle(())) => self.report_cycle(rt, &needed, target),
             Err(error) => bail!("{error}"),
         }
+    }
+
+    /// Reports the cycle that a dependency would close.
+    fn report_cycle(&mut self, rt: &impl Eprint, needed: &String, target: &String) -> Result<()> {
+        eprint!(rt; "cycle: {target}")?;
+        if let Some(path) = self.by_name.cycle(needed, target)? {
+            for n in path.as_slice().iter().rev() {
+                eprint!(rt; " needs {}", name(&self.by_name, *n))?;
+            }
+        }
+        eprintln!(rt; "")?;
         Ok(())
     }
 

@@ -6,7 +6,7 @@ use daggy::dot::{Dot, Label, write_label};
 use daggy::named::{DependError, Named};
 use daggy::run::plan;
 use daggy::schedule::Schedule;
-use std::alloc::Global;
+use std::alloc::{AllocError, Global};
 use std::collections::HashMap;
 use std::fmt::{self, Formatter, Write};
 use std::io;
@@ -72,20 +72,22 @@ impl Needs {
     }
 
     /// The first of some alternatives that is installed, or the package that provides it.
-    fn found<'a>(&'a self, alternatives: &'a [String]) -> Option<&'a String> {
-        alternatives.iter().find_map(|name| {
+    fn found(&self, alternatives: &[String]) -> Result<Option<String>, AllocError> {
+        for name in alternatives {
             if self.packages.index_of(name).is_some() {
-                Some(name)
-            } else {
-                self.providers.get(name)
+                return Ok(Some(name.clone()?));
             }
-        })
+            if let Some(provider) = self.providers.get(name) {
+                return Ok(Some(provider.clone()?));
+            }
+        }
+        Ok(None)
     }
 
     /// Adds what a package needs.
     fn depend_all(&mut self, rt: &impl Eprint, package: &Package) -> Result<()> {
         for alternatives in package.needs.as_slice() {
-            let Some(needed) = self.found(alternatives.as_slice()) else {
+            let Some(needed) = self.found(alternatives.as_slice())? else {
                 eprint!(rt; "{} needs", package.name)?;
                 for (i, name) in alternatives.as_slice().iter().enumerate() {
                     eprint!(rt; "{} {name}", if i == 0 { "" } else { " |" })?;
@@ -93,7 +95,6 @@ impl Needs {
                 eprintln!(rt; ", not installed")?;
                 continue;
             };
-            let needed = needed.clone()?;
             if needed != package.name {
                 self.depend(rt, &needed, &package.name)?;
             }
@@ -104,18 +105,21 @@ impl Needs {
     /// Adds that one package needs another. If that would close a cycle, the cycle is reported.
     fn depend(&mut self, rt: &impl Eprint, needed: &String, package: &String) -> Result<()> {
         match self.packages.depend(needed, package, ()) {
-            Ok(_) => {}
-            Err(DependError::WouldCycle(())) => {
-                eprint!(rt; "cycle: {package}")?;
-                if let Some(path) = self.packages.cycle(needed, package)? {
-                    for n in path.as_slice().iter().rev() {
-                        eprint!(rt; " needs {}", name(&self.packages, *n))?;
-                    }
-                }
-                eprintln!(rt; "")?;
-            }
+            Ok(_) => Ok(()),
+            Err(DependError::WouldCycle(())) => self.report_cycle(rt, needed, package),
             Err(error) => bail!("{error}"),
         }
+    }
+
+    /// Reports the cycle that a need would close.
+    fn report_cycle(&mut self, rt: &impl Eprint, needed: &String, package: &String) -> Result<()> {
+        eprint!(rt; "cycle: {package}")?;
+        if let Some(path) = self.packages.cycle(needed, package)? {
+            for n in path.as_slice().iter().rev() {
+                eprint!(rt; " needs {}", name(&self.packages, *n))?;
+            }
+        }
+        eprintln!(rt; "")?;
         Ok(())
     }
 
@@ -142,17 +146,25 @@ impl Needs {
 
     /// Prints a picture, with a rank for each stage and the critical path in bold.
     pub fn draw(&self, rt: &impl Print) -> Result<()> {
-        let dag = self.packages.dag();
-        let plan = plan(self.alloc, dag)?;
-        let schedule = Schedule::new(self.alloc, dag, |_, size| *size)?;
-        let picture = Dot::new(dag)
-            .node_labels(Names {
-                packages: &self.packages,
-            })
-            .no_edge_labels()
-            .ranks(plan.stages.as_slice())
-            .bold(schedule.critical.as_slice());
-        print!(rt; "{picture}")?;
+        let plan = plan(self.alloc, self.packages.dag())?;
+        let schedule = Schedule::new(self.alloc, self.packages.dag(), |_, size| *size)?;
+        let (stages, path) = (plan.stages.as_slice(), schedule.critical.as_slice());
+        print_picture(rt, &self.packages, stages, path)?;
         Ok(())
     }
+}
+
+/// Prints a picture of the packages.
+fn print_picture<'a>(
+    rt: &impl Print,
+    packages: &'a Named<String, u64, ()>,
+    stages: &'a [Vec<NodeIndex>],
+    path: &'a [NodeIndex],
+) -> io::Result<()> {
+    let picture = Dot::new(packages.dag())
+        .node_labels(Names { packages })
+        .no_edge_labels()
+        .ranks(stages)
+        .bold(path);
+    print!(rt; "{picture}")
 }
