@@ -66,22 +66,22 @@ impl<'a> Shop<'a> {
 
     /// Goes on to the next time at which a worker has finished. Returns false if none works.
     pub fn finish(&mut self) -> bool {
-        let mut next: Option<(u64, NodeIndex)> = None;
-        for work in self.workers.as_slice() {
-            if let Some((end, n)) = work {
-                if next.is_none_or(|(first, _)| *end < first) {
-                    next = Some((*end, *n));
-                }
+        let mut next: Option<(u64, usize, NodeIndex)> = None;
+        for (worker, work) in self.workers.as_slice().iter().enumerate() {
+            let Some((end, n)) = *work else {
+                continue;
+            };
+            match next {
+                Some((first, _, _)) if first <= end => {}
+                _ => next = Some((end, worker, n)),
             }
         }
-        let Some((end, n)) = next else {
+        let Some((end, worker, n)) = next else {
             return false;
         };
         self.time = end;
-        for work in self.workers.as_mut_slice() {
-            if *work == next {
-                *work = None;
-            }
+        if let Some(work) = self.workers.get_mut(worker) {
+            *work = None;
         }
         self.skip(n);
         true
