@@ -2,8 +2,7 @@
 # Times this library and a peer on the same workloads, one run of each in turn, and prints the table of
 # docs/BENCHMARKS.md: two series, of each the medians, their ratio, and the ratio of the least times.
 #   compare.sh PEER_BENCH PEER_PROGRAM [ROW]     PEER_PROGRAM may be -; with ROW, the rows alone whose text holds it
-# PEER_BENCH NAME NODES EDGES [--kind stable] --reps N prints a line that ends with seconds, the median of N repetitions, and on
-# standard error `check .. VALUE`.
+# PEER_BENCH NAME NODES EDGES [--kind stable] --reps 1 prints a line that ends with seconds, and on standard error `check .. VALUE`.
 # PEER_PROGRAM compact reads command lines and writes replies.
 set -eu
 peer_bench=$(realpath "$1")
@@ -29,9 +28,6 @@ series() { # from the files ours and theirs: medians, their ratio, and that of t
 
 asked() { case "$1" in *"$wanted"*) true ;; *) false ;; esac; }
 
-# How often a run repeats its workload: once if it is large enough to be timed.
-repetitions=1
-
 workload() { # ROUNDS NAME NODES EDGES ..: two series of ROUNDS rounds
   local rounds=$1 same=equal ours theirs
   shift
@@ -41,9 +37,9 @@ workload() { # ROUNDS NAME NODES EDGES ..: two series of ROUNDS rounds
     : > "$work/ours"
     : > "$work/theirs"
     for _ in $(seq "$rounds"); do
-      "$our_bench" "$@" --reps "$repetitions" 2> "$work/check" | awk '{ print $NF }' >> "$work/ours"
+      "$our_bench" "$@" 2> "$work/check" | awk '{ print $NF }' >> "$work/ours"
       ours=$(awk '/^check/ { print $NF }' "$work/check")
-      "$peer_bench" "$@" --reps "$repetitions" 2> "$work/check" | awk '{ print $NF }' >> "$work/theirs"
+      "$peer_bench" "$@" --reps 1 2> "$work/check" | awk '{ print $NF }' >> "$work/theirs"
       theirs=$(awk '/^check/ { print $NF }' "$work/check")
       [ -n "$ours" ] && [ "$ours" = "$theirs" ] || same=DIFFERENT
     done
@@ -106,19 +102,4 @@ workload 5 remove_nodes 400000 400000 --kind stable
 workload 11 reduce 10 10
 workload 11 json_write 100000 500000
 workload 11 json_read 100000 500000
-
-# The sizes that most dags have, warm.
-small() { # REPETITIONS NODES EDGES
-  repetitions=$1
-  for name in build_sorted build_random add_edges add_child_tree walk_children map_weights copy edge_list remove_edges \
-    remove_nodes; do
-    workload 11 "$name" "$2" "$3"
-    workload 11 "$name" "$2" "$3" --kind stable
-  done
-  repetitions=1
-}
-small 2001 30 60
-small 301 300 900
-small 31 3000 9000
-small 7 10000 50000
 [ "$peer_program" = "-" ] || program 5

@@ -1,6 +1,6 @@
 //! Times one workload: `benchmarks NAME NODES EDGES` prints `NAME NODES SECONDS`, and a check
-//! value on standard error. Behind these, `--kind stable` asks for a workload of the stable dag, and
-//! `--reps N` for the median of N repetitions in one process.
+//! value on standard error. With `--kind stable` behind these the workload is one of the stable
+//! dag.
 #![tactic(auto)]
 
 mod builds;
@@ -18,7 +18,6 @@ mod removals;
 mod workload;
 
 use crate::commands::write_commands;
-use crate::figures::Figures;
 use crate::inputs::Sizes;
 use crate::workload::Workload;
 use std::io::{BufWriter, Write};
@@ -30,9 +29,8 @@ use std::{env, io};
 #[derive(Clone, Copy)]
 struct Request {
     workload: Workload,
-    sizes: Sizes,
     stable: bool,
-    repetitions: u32,
+    sizes: Sizes,
 }
 
 fn sizes_of(nodes: &str, edges: &str) -> Option<Sizes> {
@@ -42,54 +40,36 @@ fn sizes_of(nodes: &str, edges: &str) -> Option<Sizes> {
 }
 
 fn chosen(words: &[String]) -> Option<Request> {
-    let [name, nodes, edges, options @ ..] = words else {
-        return None;
-    };
-    let mut request = Request {
-        workload: Workload::named(name.as_str())?,
-        sizes: sizes_of(nodes.as_str(), edges.as_str())?,
-        stable: false,
-        repetitions: 1,
-    };
-    let mut options = options;
-    while let [option, value, rest @ ..] = options {
-        match (option.as_str(), value.as_str()) {
-            ("--kind", "stable") => request.stable = true,
-            ("--reps", count) => request.repetitions = count.parse::<u32>().ok()?,
-            _ => return None,
+    let (name, nodes, edges, stable) = match words {
+        [name, nodes, edges] => (name, nodes, edges, false),
+        [name, nodes, edges, option, kind] => {
+            if option.as_str() != "--kind" || kind.as_str() != "stable" {
+                return None;
+            }
+            (name, nodes, edges, true)
         }
-        options = rest;
-    }
-    options.is_empty().then_some(request)
-}
-
-// The median of the repetitions, and the check value of the last one.
-fn measured<R: AllocGlobal + CpuClock>(rt: &R, request: Request) -> io::Result<Figures> {
-    let mut figures = request.workload.run(rt, request.stable, request.sizes)?;
-    let mut seconds = vec![in rt.alloc(); figures.seconds]?;
-    for _ in 1..request.repetitions {
-        figures = request.workload.run(rt, request.stable, request.sizes)?;
-        seconds.push(figures.seconds)?;
-    }
-    seconds.sort_unstable_by(|a, b| a.total_cmp(b));
-    figures.seconds = seconds
-        .get(seconds.len() / 2)
-        .copied()
-        .unwrap_or(figures.seconds);
-    Ok(figures)
+        _ => return None,
+    };
+    let workload = Workload::named(name.as_str())?;
+    let sizes = sizes_of(nodes.as_str(), edges.as_str())?;
+    Some(Request {
+        workload,
+        stable,
+        sizes,
+    })
 }
 
 fn time<R: Print + Eprint + AllocGlobal + CpuClock>(
     rt: &R,
     name: &str,
-    request: Request,
+    chosen: Request,
 ) -> io::Result<()> {
-    let figures = measured(rt, request)?;
-    let nodes = request.sizes.nodes;
+    let figures = chosen.workload.run(rt, chosen.stable, chosen.sizes)?;
+    let nodes = chosen.sizes.nodes;
     let check = figures.check;
     let seconds = figures.seconds;
     eprintln!(rt; "check {name} {nodes} {check}")?;
-    println!(rt; "{name} {nodes} {seconds:.9}")
+    println!(rt; "{name} {nodes} {seconds:.6}")
 }
 
 // How many command lines are asked for.
@@ -116,7 +96,7 @@ fn main(rt: HostRuntime) -> io::Result<ExitCode> {
         return Ok(ExitCode::SUCCESS);
     }
     let Some(chosen) = chosen(words.as_slice()) else {
-        eprintln!(rt; "usage: benchmarks NAME NODES EDGES [--kind stable] [--reps N]")?;
+        eprintln!(rt; "usage: benchmarks NAME NODES EDGES [--kind stable]")?;
         return Ok(ExitCode::from(2));
     };
     let name = words.first().map_or("", String::as_str);

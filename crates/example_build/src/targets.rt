@@ -166,7 +166,10 @@ impl Targets {
         let dag = targets.dag();
         let mut shop = Shop::new(self.alloc, dag, workers)?;
         for _ in 0..=dag.node_count() {
-            while let Some(n) = shop.next() {
+            for _ in 0..dag.node_count() {
+                let Some(n) = shop.next() else {
+                    break;
+                };
                 let seconds = match (dag.node_weight(n), outdated.get(n.index())) {
                     (Some(target), Some(true)) => target.seconds,
                     _ => {
