@@ -1,10 +1,10 @@
 -- A loop that asks a closure of each slot, the last one first.
-use Rattle.std.proofs.Common.{◌≡◌, ◌∙◌, ℕ, zero, suc, ◌+◌, ◌<◌, ◌≤◌, Bool, true, false, List, [], ◌∷◌, ◌++◌, ◌-◌, get_or, set, length, take, refl, sym, ap, subst, arith}
+use Rattle.std.proofs.Common.{◌≡◌, ◌∙◌, ℕ, suc, ◌+◌, ◌<◌, ◌≤◌, Bool, true, false, List, [], ◌∷◌, ◌++◌, ◌-◌, get_or, set, length, take, refl, sym, ap, subst, arith}
 use Rattle.std.proofs.Math.Seq.{take-length}
-use Rattle.std.specs.Prelude.{Option, Some, None, is_some, if◌then◌else◌}
+use Rattle.std.specs.Prelude.{Option, Some, None, is_some}
 use Rattle.std.specs.Option.{option_map}
 use Rattle.std.specs.Borrow.{Bor}
-use Rattle.daggy_base.specs.CallsInTurn.{TakesSlot, CalledAtSlot}
+use Rattle.daggy_base.specs.CallsInTurn.{TakesSlot}
 use Rattle.daggy_base.specs.declared.kind.Kind.{Kind}
 use Rattle.daggy_base.specs.declared.kind.Kind.TheVariants.{Compact, Stable}
 use Rattle.daggy_base.specs.Graph.{Graph, Edge, slot}

@@ -4,7 +4,7 @@ use Rattle.std.specs.Borrow.{Bor}
 use Rattle.std.specs.Iterator.{CallableAtEachTurn, YieldsLast}
 use Rattle.daggy_base.specs.declared.kind.Kind.{Kind}
 use Rattle.daggy_base.specs.CallsInTurn.{TakesSlot, CalledAtSlot}
-use Rattle.daggy_base.specs.Graph.{Graph, Edge, node_weight, edge_at}
+use Rattle.daggy_base.specs.Graph.{Graph, node_weight, edge_at}
 use Rattle.daggy_base.specs.Iterating.{numbered}
 use Rattle.daggy_base.specs.Mapping.{CalledAt, weight_in}
 use Rattle.daggy_base.specs.Removal.{without_node, without_edge}

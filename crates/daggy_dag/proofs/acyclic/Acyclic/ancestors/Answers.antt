@@ -1,4 +1,4 @@
-use Rattle.std.proofs.Common.{◌≡◌, map, sym, ap, subst, ◌∙◌}
+use Rattle.std.proofs.Common.{map, sym, ap, subst, ◌∙◌}
 use Rattle.std.proofs.lemmas.Result.{IfOk-weaker}
 use Rattle.std.specs.Prelude.{IfOk}
 use Rattle.daggy_base.specs.WellFormed.{IsWellFormed}

@@ -1,4 +1,4 @@
-use Rattle.std.proofs.Common.{◌≡◌, ◌∙◌, ℕ, ◌+◌, ◌-◌, ap, sym, subst, arith, rules, refl, true, false, length}
+use Rattle.std.proofs.Common.{◌≡◌, ◌∙◌, ◌+◌, ◌-◌, ap, sym, subst, arith, rules, true, false, length}
 use Rattle.std.specs.Prelude.{Some, OnSome}
 use Rattle.daggy_base.specs.State.{with_graph}
 use Rattle.daggy_base.specs.Weights.{edge_weight}

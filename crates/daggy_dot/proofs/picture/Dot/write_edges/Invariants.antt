@@ -1,4 +1,3 @@
-use Rattle.std.proofs.Common.{ℕ, List}
 use Rattle.std.specs.Prelude.{IfSome}
 use Rattle.std.specs.Fmt.{IsPlainFormatter, HasWritten}
 use Rattle.daggy_dot.specs.Picture.{line_of_edge, lines_of}
