@@ -26,8 +26,8 @@ use std::marker::Model;
 ///
 /// # Complexity
 ///
-/// O(nodes + edges) for a whole walk, with at most one look at each edge. [`new`](Bfs::new)
-/// allocates all the memory; no other call does.
+/// O(nodes + edges) for a whole walk. [`new`](Bfs::new) allocates all the memory; no other call
+/// does.
 ///
 /// # Examples
 ///

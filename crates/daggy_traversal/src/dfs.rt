@@ -28,8 +28,8 @@ use std::marker::Model;
 ///
 /// # Complexity
 ///
-/// O(nodes + edges) for a whole walk, with at most one look at each edge. [`new`](Dfs::new)
-/// allocates all the memory; no other call does.
+/// O(nodes + edges) for a whole walk. [`new`](Dfs::new) allocates all the memory; no other call
+/// does.
 ///
 /// # Examples
 ///
@@ -114,8 +114,8 @@ impl<Ix: IndexType> Dfs<Ix> {
 
     /// Returns the next node, or `None` if there are no more nodes that the start reaches.
     ///
-    /// The start comes first. Then comes the first neighbor, in the order of the list, that was not
-    /// given, of the node given last that has such a neighbor.
+    /// The start comes first. After that, the next node is the first new neighbor, in the order of
+    /// the list, of the latest node that still has one.
     ///
     /// # Complexity
     ///

@@ -122,9 +122,9 @@ impl<Ix: IndexType> DfsPostOrder<Ix> {
 
     /// Returns the next node, or `None` if there are no more nodes that the start reaches.
     ///
-    /// From the node that was met last, the walk goes down to the first neighbor, in the order of
-    /// the list, that was not met, and so on. It gives the node at which there is none, and goes
-    /// back up from it. The start comes last.
+    /// The walk goes down from neighbor to neighbor, each time to the first new one in the order of
+    /// the list, until a node has none. It returns that node, and goes back up. The start comes
+    /// last.
     ///
     /// # Complexity
     ///

@@ -1,7 +1,6 @@
 //! What no contract says: that calls succeed, and what they answer for small dags, for keys of three
 //! types.
 
-mod examples;
 mod keys;
 mod limits;
 mod refusals;

@@ -82,7 +82,7 @@ fn texts_name_nodes(rt: HostRuntime) {
         Err(DependError::WouldCycle(6)),
     );
     goes(&rt, made(&rt, dag.cycle(&"hoe", &"hoe")), &[hoe]);
-    // The first key that is unknown is told.
+    // If both keys are unknown, the error names the first.
     same(
         &rt,
         dag.depend(&"mow", &"sow", 7),

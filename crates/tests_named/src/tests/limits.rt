@@ -10,7 +10,7 @@ fn no_index_is_left(rt: HostRuntime) {
         made(&rt, dag.add(key, ()));
     }
     same(&rt, dag.add(255, ()), Err(AddError::Full(255, ())));
-    // A key that is taken is told first.
+    // A taken key is reported before a lack of indices.
     same(&rt, dag.add(3, ()), Err(AddError::Taken(3, ())));
     for _edge in 0..255 {
         made(&rt, dag.depend(&0, &1, ()));

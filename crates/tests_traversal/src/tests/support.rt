@@ -44,7 +44,7 @@ pub fn node(rt: &impl Abort, x: usize) -> NodeIndex {
     NodeIndex::new(x)
 }
 
-/// A graph with so many nodes and these edges, the last edge of a node first in its lists.
+/// A graph with this many nodes, and these edges. A later edge comes earlier in its lists.
 pub fn graph_of<S: Store<u32, NodeWeight = (), EdgeWeight = ()>>(
     rt: &impl Abort,
     alloc: Global,
