@@ -28,8 +28,8 @@ use std::marker::Model;
 ///
 /// # Complexity
 ///
-/// O(nodes + edges) for a whole walk, with at most one look at each edge.
-/// [`new`](DfsPostOrder::new) allocates all the memory; no other call does.
+/// O(nodes + edges) for a whole walk. [`new`](DfsPostOrder::new) allocates all the memory; no other
+/// call does.
 ///
 /// # Examples
 ///

@@ -152,7 +152,11 @@ impl Packages {
             }
             Field::Needs => {
                 for need in value.split(',') {
-                    package.needs.push(names(self.alloc, need, '|')?)?;
+                    let alternatives = names(self.alloc, need, '|')?;
+                    // A line that goes on in the next one ends with a comma.
+                    if !alternatives.is_empty() {
+                        package.needs.push(alternatives)?;
+                    }
                 }
             }
             Field::Other => {}
