@@ -3,17 +3,18 @@ use Rattle.std.proofs.Common.{◌≡◌, ℕ, suc, ◌+◌, ◌-◌, ◌<◌, �
 use Rattle.std.proofs.Common.{◌∷◌, length, get_or, set, take, refl, sym, ap, subst, ◌∙◌, arith, Contains}
 use Rattle.std.proofs.lemmas.Bool.{cases_eq}
 use Rattle.std.proofs.lemmas.List.{get_or-set_same, get_or-set_other, get_or-take, length-take-le}
-use Rattle.daggy_base.specs.Graph.{Graph, Edge, HasNode, edge_at, node_bound}
+use Rattle.daggy_base.specs.Graph.{Graph, Edge, HasNode, edge_at}
 use Rattle.daggy_base.specs.Path.{AreJoined, IsPath, end_of}
 use Rattle.daggy_base.specs.Reduction.{ReachesIndirectly}
 use Rattle.daggy_base.specs.WellFormed.{IsWellFormed}
 use Rattle.daggy_base.proofs.Lists.{Unique, mem_at, place_of, mem_contains, contains_mem}
-use Rattle.daggy_base.proofs.OutEdgesRead.{joins, below_bound}
+use Rattle.daggy_base.proofs.OutEdgesRead.{joins}
 use Rattle.daggy_base.proofs.PathsWithEdge.{reaches_itself}
-use Rattle.daggy_reduction.specs.Flags.{IsFlagged, FlagsMarked}
-use Rattle.daggy_reduction.specs.Blocks.{ReachesOn, IsPlaced, IsRow, AreRows, HasChildAt, HasChildWith, HasBits}
-use Rattle.daggy_reduction.specs.Blocks.{row_marks}
-use Rattle.daggy_reduction.proofs.MarkedPlaces.{marked_is, in_row_means}
+use Rattle.daggy_search.specs.declared.adjacency.Arc.{Arc}
+use Rattle.daggy_reduction.specs.Flags.{IsFlagged}
+use Rattle.daggy_reduction.specs.Blocks.{ReachesOn, IsPlaced, IsRow, AreRows, HasBits, AreArcsOf, HasArcTo}
+use Rattle.daggy_reduction.specs.Blocks.{MarksArcs, is_in_row}
+use Rattle.daggy_reduction.proofs.MarkedPlaces.{in_row_means}
 
 -- the nodes of a list, each with its place, are distinct
 pub unique_by : (f : ℕ → ℕ) (c : ℕ) (xs : List ℕ)
@@ -26,6 +27,33 @@ unique_by f c (x ∷ xs) at = (
       let later : f (get_or xs k.0 0) ≡ c + suc k.0 = at (suc k.0) (omega (arith, k.1)) in
       absurd (omega (arith, first, later, ap f k.2))),
   unique_by f (suc c) xs (λ k low. at (suc k) (omega (arith, low)) ∙ omega arith),
+)
+
+-- u has a child at the place i of a block
+abbrev pub HasChildAt : {N E : Type 0} → Graph N E → (places : List ℕ) (low high u i : ℕ) → Type 0
+HasChildAt g places low high u i =
+    (v : ℕ) × AreJoined g u v × (get_or places v 0 < high) × (get_or places v 0 ≡ low + i)
+
+-- u has a child whose row has the bit i
+abbrev pub HasChildWith : {N E : Type 0}
+    → Graph N E → (places : List ℕ) (high : ℕ) (rows : List (List Bool)) (u i : ℕ) → Type 0
+HasChildWith g places high rows u i =
+    (v : ℕ) × AreJoined g u v × (get_or places v 0 < high)
+    × (get_or (get_or rows (get_or places v 0) []) i false ≡ true)
+
+-- the arcs of a node lead to the places of its children
+pub to_children : {N E I : Type 0} (number : I → ℕ) {end : ℕ} {g : Graph N E} → IsWellFormed end g
+    → (places : List ℕ) (u : ℕ) (arcs : List (Arc I)) → AreArcsOf number g places u arcs → (At : ℕ → Type 0)
+    → HasArcTo arcs At ↔ ((v : ℕ) × AreJoined g u v × At (get_or places v 0))
+to_children {N} {E} {I} number {end} {g} w places u arcs are At = (
+  λ (a, has, at).
+      (let l = (are (number a.edge) a.place).0 (a, has, refl, refl) in
+      (l.edge.child, joins end g w (number a.edge) u l.edge l.at l.parent, subst At (sym l.place) at)),
+  λ (v, j, at).
+      (let p = get_or places v 0 in
+      let x : Edge E = record { parent = u; child = v; weight = j.1 } in
+      let a = (are j.0 p).1 (record { edge = x; at = j.2; parent = refl; place = refl }) in
+      (a.0, a.1, subst At (sym a.3) at)),
 )
 
 -- e leaves u and leads to a node of a block, and a longer way leads there too
@@ -163,32 +191,33 @@ module _ {N E : Type 0} {g : Graph N E} {nodes places : List ℕ} (pl : IsPlaced
         ]
 
     -- the edges that leave the node get the flags that they should
-    pub flags_here : {end : ℕ} → IsWellFormed end g → node_bound g ≤ length places → (indirect : List Bool)
+    pub flags_here : {I : Type 0} (number : I → ℕ) {end : ℕ} → IsWellFormed end g → (arcs : List (Arc I))
+        → AreArcsOf number g places u arcs → (indirect : List Bool)
         → IsRow nodes low high (ReachesIndirectly g u) indirect → (old new : List ℕ)
-        → FlagsMarked end g u (row_marks places low high indirect) old new → (e : ℕ)
+        → MarksArcs end number arcs (is_in_row low high indirect) old new → (e : ℕ)
         → IsFlagged end new e ↔ (IsFlagged end old e ⊎ LeadsFrom g places low high u e)
-    flags_here {end} w fits indirect is old new marked e =
+    flags_here {I} number {end} w arcs are indirect is old new marked e =
         let R : ℕ → Type 0 = λ z. ReachesIndirectly g u z in (
           λ f. elim ((marked e).0 f) [
             | inl a ↦ inl a
-            | inr l ↦
-                (let v = l.edge.child in
-                let p = get_or places v 0 in
-                let inside : v < length places = omega (arith, below_bound g.nodes v (w.children e l.edge l.at), fits) in
-                let h =
-                (in_row_means low high indirect p).0 (sym (marked_is places low high indirect v p inside refl) ∙ l.child) in
+            | inr (a, has, e_is, m) ↦
+                (let l = (are e a.place).0 (a, has, e_is, refl) in
+                let v = l.edge.child in
+                let p = a.place in
+                let h = (in_row_means low high indirect p).0 m in
                 let joined = joins end g w e u l.edge l.at l.parent in
                 let at = there v (pl.closed u v u_listed joined) in
                 let place_is : low + (p - low) ≡ p = omega (arith, h.0) in
                 let round_at = (is (p - low) (omega (arith, place_is, h.1))).0 h.2 in
-                let node_is : get_or nodes (low + (p - low)) 0 ≡ v = ap (λ z. get_or nodes z 0) place_is ∙ at.1 in
+                let node_is : get_or nodes (low + (p - low)) 0 ≡ v =
+                ap (λ z. get_or nodes z 0) (place_is ∙ sym l.place) ∙ at.1 in
                 inr (record {
                   edge = l.edge;
                   at = l.at;
                   parent = l.parent;
                   round = subst R node_is round_at;
-                  from = h.0;
-                  till = h.1;
+                  from = omega (arith, h.0, l.place);
+                  till = omega (arith, h.1, l.place);
                 }))
           ],
           λ t. (marked e).1 (elim t [
@@ -196,15 +225,13 @@ module _ {N E : Type 0} {g : Graph N E} {nodes places : List ℕ} (pl : IsPlaced
             | inr l ↦
                 (let v = l.edge.child in
                 let p = get_or places v 0 in
-                let inside : v < length places = omega (arith, below_bound g.nodes v (w.children e l.edge l.at), fits) in
+                let a = (are e p).1 (record { edge = l.edge; at = l.at; parent = l.parent; place = refl }) in
                 let joined = joins end g w e u l.edge l.at l.parent in
                 let at = there v (pl.closed u v u_listed joined) in
                 let place_is : low + (p - low) ≡ p = omega (arith, l.from) in
                 let node_is : get_or nodes (low + (p - low)) 0 ≡ v = ap (λ z. get_or nodes z 0) place_is ∙ at.1 in
                 let flag = (is (p - low) (omega (arith, place_is, l.till))).1 (subst R (sym node_is) l.round) in
-                let mark =
-                marked_is places low high indirect v p inside refl
-                ∙ (in_row_means low high indirect p).1 (l.from, l.till, flag) in
-                inr (record { edge = l.edge; at = l.at; parent = l.parent; child = mark }))
+                let mark = (in_row_means low high indirect p).1 (l.from, l.till, flag) in
+                inr (a.0, a.1, a.2, ap (is_in_row low high indirect) a.3 ∙ mark))
           ]),
         )

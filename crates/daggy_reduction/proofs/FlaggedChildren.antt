@@ -13,7 +13,7 @@ use Rattle.daggy_base.proofs.OutEdgesRead.{leaves, listed, edge_below, below_bou
 use Rattle.daggy_base.proofs.OutEdgesRead.{child_exists, next_cursor}
 use Rattle.daggy_reduction.specs.Flags.{IsFlagged, LeavesToMarked, FlagsMarked}
 
-set_flag : (end : ℕ) (flags : List ℕ) (e : ℕ)
+pub set_flag : (end : ℕ) (flags : List ℕ) (e : ℕ)
     → e < length flags → e < end → (k : ℕ) → IsFlagged end (set flags e e) k ↔ (IsFlagged end flags k ⊎ (k ≡ e))
 set_flag end flags e within low k =
     elim (cases_eq k e) [

@@ -18,7 +18,8 @@ pub mod Shapes
 pub mod QueuedChildren
 pub mod BoundedQueue
 pub mod SpannedLooks
-pub mod GatheredRows
+pub mod ListedArcs
+pub mod PassedArcs
 pub mod MarkedPlaces
 pub mod BlockRows
 pub mod BlockFlags
@@ -27,7 +28,6 @@ pub mod BlockSweep
 pub mod FoundEdges
 pub mod NotedEdges
 pub mod SpanSums
-pub mod BlockLooks
 pub mod ListedChildren
 pub mod AffectedNodes
 pub mod OrderedParts

@@ -1,21 +1,11 @@
--- Nodes marked by the bits of their places in the row of a block.
+-- Edges marked by the bits of places in the row of a block.
 use Rattle.std.proofs.Common.{◌≡◌, ℕ, suc, ◌+◌, ◌-◌, ◌<◌, ◌≤◌, Bool, true, false, ◌&&◌, ◌↔◌, inl, inr, List}
-use Rattle.std.proofs.Common.{length, get_or, refl, sym, ap, ◌∙◌, arith}
+use Rattle.std.proofs.Common.{get_or, refl, sym, ◌∙◌, arith}
 use Rattle.std.proofs.Math.Dec.{leb, ltb}
 use Rattle.std.proofs.lemmas.Bool.{false≢true}
 use Rattle.std.proofs.lemmas.Bool.Decides.{leb_tells}
-use Rattle.std.proofs.lemmas.List.{get_or-map}
-use Rattle.daggy_base.specs.Graph.{Graph, node_bound}
-use Rattle.daggy_base.specs.WellFormed.{IsWellFormed}
-use Rattle.daggy_base.proofs.OutEdgesRead.{joins, below_bound}
-use Rattle.daggy_reduction.specs.Flags.{FlagsMarked}
-use Rattle.daggy_reduction.specs.Blocks.{is_in_row, row_marks, HasBits, HasChildAt}
-
--- the mark of a node is what its place tells
-pub marked_is : (places : List ℕ) (low high : ℕ) (row : List Bool) (v p : ℕ)
-    → v < length places → p ≡ get_or places v 0 → get_or (row_marks places low high row) v false ≡ is_in_row low high row p
-marked_is places low high row v p within at =
-    get_or-map (is_in_row low high row) places v 0 false within ∙ ap (is_in_row low high row) (sym at)
+use Rattle.daggy_search.specs.declared.adjacency.Arc.{Arc}
+use Rattle.daggy_reduction.specs.Blocks.{is_in_row, HasBits, HasArcTo, MarksArcs}
 
 all_three : (a b c : Bool) → (a && (b && c)) ≡ true → (a ≡ true) × (b ≡ true) × (c ≡ true)
 all_three true true true h = (refl, refl, refl)
@@ -47,25 +37,21 @@ in_row_means low high row p = (
       (tests_at_most (suc p) high (omega (arith, till))) has,
 )
 
--- where no child has its bit, no edge is to be flagged
-pub none_to_flag : {N E : Type 0} {end : ℕ} {g : Graph N E} → IsWellFormed end g → (places : List ℕ)
-    → node_bound g ≤ length places → (low high u : ℕ) (direct indirect : List Bool)
-    → HasBits (HasChildAt g places low high u) direct
+-- where no arc has its bit, no edge is to be flagged
+pub none_to_flag : {I : Type 0} (number : I → ℕ) (end : ℕ) (arcs : List (Arc I)) (low high : ℕ)
+    (direct indirect : List Bool) → HasBits (λ i. HasArcTo arcs (λ p. (p < high) × (p ≡ low + i))) direct
     → ((i : ℕ) → get_or indirect i false ≡ true → get_or direct i false ≡ false)
-    → (flags : List ℕ) → FlagsMarked end g u (row_marks places low high indirect) flags flags
-none_to_flag {N} {E} {end} {g} w places fits low high u direct indirect children apart flags e = (
+    → (flags : List ℕ) → MarksArcs end number arcs (is_in_row low high indirect) flags flags
+none_to_flag number end arcs low high direct indirect children apart flags e = (
   λ f. inl f,
   λ t.
       elim t [
         | inl f ↦ f
-        | inr l ↦
-            (let v = l.edge.child in
-            let within : v < length places = omega (arith, below_bound g.nodes v (w.children e l.edge l.at), fits) in
-            let p = get_or places v 0 in
-            let h = (in_row_means low high indirect p).0 (sym (marked_is places low high indirect v p within refl) ∙ l.child) in
-            let i = p - low in
-            let place_is : p ≡ low + i = omega (arith, h.0) in
-            let child = (children i).1 (v, joins end g w e u l.edge l.at l.parent, h.1, place_is) in
+        | inr (a, has, _, m) ↦
+            (let h = (in_row_means low high indirect a.place).0 m in
+            let i = a.place - low in
+            let place_is : a.place ≡ low + i = omega (arith, h.0) in
+            let child = (children i).1 (a, has, (h.1, place_is)) in
             absurd (false≢true (sym (apart i h.2) ∙ child)))
       ],
 )

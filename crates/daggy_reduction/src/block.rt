@@ -1,15 +1,15 @@
 //! The transitive closure of a block of nodes, by rows of bits, and the redundant edges into it.
 ghost use Rattle.std.specs.Prelude.{◌≡◌, ℕ, ◌+◌, ◌*◌, ◌<◌, ◌≤◌, ◌↔◌, ◌⊎◌, [], true, false, map, length};
-ghost use Rattle.std.specs.Prelude.{take, slice_index_or, slice_set};
-ghost use Rattle.daggy_base.specs.Graph.{out_list, node_bound, edge_bound, edge_count};
+ghost use Rattle.std.specs.Prelude.{take, slice_index_or, slice_set, Contains};
+ghost use Rattle.daggy_base.specs.Graph.{node_bound, edge_bound};
 ghost use Rattle.daggy_base.specs.WellFormed.{IsWellFormed};
-ghost use Rattle.daggy_reduction.specs.Flags.{IsFlagged, FlagsMarked};
-ghost use Rattle.daggy_reduction.specs.Blocks.{IsPlaced, HasBits, HasChildAt, HasChildWith};
-ghost use Rattle.daggy_reduction.specs.Blocks.{is_in_row, row_marks, LeadsInto};
+ghost use Rattle.daggy_reduction.specs.Flags.{IsFlagged};
+ghost use Rattle.daggy_reduction.specs.Blocks.{IsPlaced, HasBits, AreArcs, HasArcTo, MarksArcs};
+ghost use Rattle.daggy_reduction.specs.Blocks.{is_in_row, LeadsInto};
 
-use daggy_base::index::{EdgeIndex, IndexType, NodeIndex};
+use daggy_base::index::{EdgeIndex, IndexType};
 use daggy_base::source::EdgeSource;
-use daggy_search::{BLOCK, Row, Worklist};
+use daggy_search::{Adjacency, Arc, BLOCK, Row, Worklist};
 
 // The nodes of an order at the places from `low` on, before `high`.
 #[derive(Clone, Copy, Drop)]
@@ -63,36 +63,22 @@ fn reach_over(reached: &mut Reached, p: usize, block: Block, rows: &[Row])
     }
 }
 
-// What `u` reaches in a block, by the rows of its children.
-fn reach_from<Ix: IndexType, S: EdgeSource<Ix>>(
-    source: &mut S,
-    u: NodeIndex<Ix>,
-    work: &Worklist<Ix>,
-    block: Block,
-    rows: &[Row],
-) -> Reached
-    requires well_formed { IsWellFormed Ix.greatest (S.graph source.old) }
-    requires places_fit { node_bound (S.graph source.old) ≤ length work.now.cursors }
+// What a node reaches in a block, by the rows of its children.
+fn reach_from<Ix: IndexType>(arcs: &[Arc<Ix>], block: Block, rows: &[Row]) -> Reached
     requires rows_fit { block.high ≤ length rows.now }
     requires few { block.high ≤ block.low + 512 }
-    ensures same { S.graph source.new ≡ S.graph source.old }
-    ensures direct { HasBits (HasChildAt (S.graph source.old) work.now.cursors
-        block.low block.high (Ix.number u)) result.direct }
-    ensures indirect { HasBits (HasChildWith (S.graph source.old) work.now.cursors
-        block.high rows.now (Ix.number u)) result.indirect }
-    ensures counted { S.looks source.new
-        ≡ S.looks source.old + length (out_list (S.graph source.old) (Ix.number u)) }
+    ensures direct { HasBits (λ i. HasArcTo arcs.now
+        (λ p. (p < block.high) × (p ≡ block.low + i))) result.direct }
+    ensures indirect { HasBits (λ i. HasArcTo arcs.now
+        (λ p. (p < block.high) × (slice_index_or (slice_index_or rows.now p []) i false ≡ true)))
+        result.indirect }
 {
-    let end = EdgeIndex::<Ix>::end().index();
     let mut reached = Reached {
         direct: Row::new(),
         indirect: Row::new(),
     };
-    let mut e = source.first(u);
-    'edges: while e.index() != end {
-        let (v, next) = source.look(e);
-        reach_over(&mut reached, work.cursor(v.index()).index(), block, rows);
-        e = next;
+    'arcs: for k in 0..arcs.len() {
+        reach_over(&mut reached, arcs[k].place.index(), block, rows);
     }
     reached
 }
@@ -120,62 +106,43 @@ fn flag_if_in_row<Ix: IndexType>(
     }
 }
 
-// Flags the edges of `u` whose children are in the row of a block.
-fn flag_row<Ix: IndexType, S: EdgeSource<Ix>>(
-    source: &mut S,
-    u: NodeIndex<Ix>,
-    work: &Worklist<Ix>,
-    block: Block,
-    row: &Row,
-    flags: &mut [EdgeIndex<Ix>],
-)
-    requires well_formed { IsWellFormed Ix.greatest (S.graph source.old) }
-    requires places_fit { node_bound (S.graph source.old) ≤ length work.now.cursors }
-    requires flags_fit { edge_bound (S.graph source.old) ≤ length flags.old }
+// Flags the edges of a node whose children are in the row of a block.
+fn flag_row<Ix: IndexType>(arcs: &[Arc<Ix>], block: Block, row: &Row, flags: &mut [EdgeIndex<Ix>])
+    requires real { (a : Arc Ix) → Contains arcs.now a → Ix.number a.edge < Ix.greatest }
+    requires flags_fit { (a : Arc Ix)
+        → Contains arcs.now a → Ix.number a.edge < length flags.old }
     requires few { block.high ≤ block.low + 512 }
-    ensures same { S.graph source.new ≡ S.graph source.old }
-    ensures flagged { FlagsMarked Ix.greatest (S.graph source.old) (Ix.number u)
-        (row_marks work.now.cursors block.low block.high row.now)
+    ensures flagged { MarksArcs Ix.greatest Ix.number arcs.now
+        (is_in_row block.low block.high row.now)
         (map Ix.number flags.old) (map Ix.number flags.new) }
-    ensures counted { S.looks source.new
-        ≡ S.looks source.old + length (out_list (S.graph source.old) (Ix.number u)) }
     ensures kept { length flags.new ≡ length flags.old }
 {
-    let end = EdgeIndex::<Ix>::end().index();
-    let mut e = source.first(u);
-    'edges: while e.index() != end {
-        let (v, next) = source.look(e);
-        flag_if_in_row(flags, e, work.cursor(v.index()).index(), block, row);
-        e = next;
+    'arcs: for k in 0..arcs.len() {
+        let arc = arcs[k];
+        flag_if_in_row(flags, arc.edge, arc.place.index(), block, row);
     }
 }
 
-// Flags the edges of `u` into a block whose children are also reachable by a longer path.
-fn flag_indirect<Ix: IndexType, S: EdgeSource<Ix>>(
-    source: &mut S,
-    u: NodeIndex<Ix>,
-    work: &Worklist<Ix>,
+// Flags the edges of a node into a block whose children are also reachable by a longer path.
+fn flag_indirect<Ix: IndexType>(
+    arcs: &[Arc<Ix>],
     block: Block,
     reached: &Reached,
     flags: &mut [EdgeIndex<Ix>],
 )
-    requires well_formed { IsWellFormed Ix.greatest (S.graph source.old) }
-    requires places_fit { node_bound (S.graph source.old) ≤ length work.now.cursors }
-    requires flags_fit { edge_bound (S.graph source.old) ≤ length flags.old }
+    requires real { (a : Arc Ix) → Contains arcs.now a → Ix.number a.edge < Ix.greatest }
+    requires flags_fit { (a : Arc Ix)
+        → Contains arcs.now a → Ix.number a.edge < length flags.old }
     requires few { block.high ≤ block.low + 512 }
-    requires direct { HasBits (HasChildAt (S.graph source.old) work.now.cursors
-        block.low block.high (Ix.number u)) reached.now.direct }
-    ensures same { S.graph source.new ≡ S.graph source.old }
-    ensures flagged { FlagsMarked Ix.greatest (S.graph source.old) (Ix.number u)
-        (row_marks work.now.cursors block.low block.high reached.now.indirect)
+    requires direct { HasBits (λ i. HasArcTo arcs.now
+        (λ p. (p < block.high) × (p ≡ block.low + i))) reached.now.direct }
+    ensures flagged { MarksArcs Ix.greatest Ix.number arcs.now
+        (is_in_row block.low block.high reached.now.indirect)
         (map Ix.number flags.old) (map Ix.number flags.new) }
-    ensures looked { S.looks source.old ≤ S.looks source.new }
-    ensures counted { S.looks source.new
-        ≤ S.looks source.old + length (out_list (S.graph source.old) (Ix.number u)) }
     ensures kept { length flags.new ≡ length flags.old }
 {
     if !reached.indirect.is_disjoint(&reached.direct) {
-        flag_row(source, u, work, block, &reached.indirect, flags);
+        flag_row(arcs, block, &reached.indirect, flags);
     }
 }
 
@@ -192,47 +159,50 @@ fn union(reached: Reached) -> Row
 }
 
 // Flags the redundant edges into the block that begins at the place `low`, of the first `count`
-// nodes of a worklist, and returns where it ends.
+// nodes of a worklist, and returns where it ends. `source` is not read. It names the graph, for the
+// contract.
 //
 // The nodes before the end of the block get their rows from the last one to the first: each row is
 // the union of the children's rows and of the children themselves.
 pub(crate) fn flag_block<Ix: IndexType, S: EdgeSource<Ix>>(
-    source: &mut S,
+    source: &S,
     work: &Worklist<Ix>,
+    adjacency: &Adjacency<Ix>,
     low: usize,
     count: usize,
     rows: &mut [Row],
     flags: &mut [EdgeIndex<Ix>],
 ) -> usize
-    requires well_formed { IsWellFormed Ix.greatest (S.graph source.old) }
-    requires placed { IsPlaced (S.graph source.old)
+    requires well_formed { IsWellFormed Ix.greatest (S.graph source.now) }
+    requires placed { IsPlaced (S.graph source.now)
         (take count work.now.nodes) work.now.cursors }
+    requires listed { AreArcs Ix.number (S.graph source.now)
+        (take count work.now.nodes) work.now.cursors adjacency.now.rows }
+    requires all { length adjacency.now.rows ≡ count }
     requires more { low < count }
     requires within { count ≤ length work.now.nodes }
-    requires places_fit { node_bound (S.graph source.old) ≤ length work.now.cursors }
+    requires places_fit { node_bound (S.graph source.now) ≤ length work.now.cursors }
     requires rows_fit { count ≤ length rows.old }
-    requires flags_fit { edge_bound (S.graph source.old) ≤ length flags.old }
-    ensures same { S.graph source.new ≡ S.graph source.old }
+    requires flags_fit { edge_bound (S.graph source.now) ≤ length flags.old }
     ensures flagged { (e : ℕ) → IsFlagged Ix.greatest (map Ix.number flags.new) e
         ↔ (IsFlagged Ix.greatest (map Ix.number flags.old) e
-        ⊎ LeadsInto (S.graph source.old)
+        ⊎ LeadsInto (S.graph source.now)
         (take count work.now.nodes) work.now.cursors low result e) }
     ensures some { low < result }
     ensures last { result ≤ count }
     ensures full { result < count → result ≡ low + 512 }
-    ensures looked { S.looks source.old ≤ S.looks source.new }
-    ensures counted { S.looks source.new
-        ≤ S.looks source.old + 2 * edge_count (S.graph source.old) }
     ensures rows_kept { length rows.new ≡ length rows.old }
     ensures kept { length flags.new ≡ length flags.old }
 {
+    let _ = source;
+    let _ = work;
     let block = block_at(low, count);
     let mut k = block.high;
     'nodes: while k > 0 {
         k -= 1;
-        let u = work.node(k).node();
-        let reached = reach_from(source, u, work, block, rows);
-        flag_indirect(source, u, work, block, &reached, flags);
+        let arcs = adjacency.row(k);
+        let reached = reach_from(arcs, block, rows);
+        flag_indirect(arcs, block, &reached, flags);
         rows[k] = union(reached);
     }
     block.high

@@ -1,6 +1,6 @@
 //! Redundant edges, found by rows of bits for a block of nodes at a time.
-ghost use Rattle.std.specs.Prelude.{◌≡◌, ℕ, ◌+◌, ◌*◌, ◌/◌, ◌≤◌, ◌↔◌, map, length, take, Contains};
-ghost use Rattle.daggy_base.specs.Graph.{node_bound, edge_bound, node_count, edge_count};
+ghost use Rattle.std.specs.Prelude.{◌≡◌, ℕ, ◌+◌, ◌*◌, ◌≤◌, ◌↔◌, map, length, take, Contains};
+ghost use Rattle.daggy_base.specs.Graph.{node_bound, edge_bound, edge_count};
 ghost use Rattle.daggy_base.specs.Reduction.{IsRedundant};
 ghost use Rattle.daggy_base.specs.Ordered.{IsOrderOf};
 ghost use Rattle.daggy_reduction.specs.Flags.{IsFlagged};
@@ -8,6 +8,7 @@ ghost use Rattle.daggy_reduction.specs.Comparison.{IsAscending};
 ghost use Rattle.std.specs.Borrow.{sem};
 ghost use Rattle.daggy_reduction.specs.KeptRoom.{keeps_room};
 
+use crate::arcs::list_arcs;
 use crate::block::flag_block;
 use crate::flags::{gather_flagged, unflag};
 use crate::redundant::front;
@@ -15,7 +16,7 @@ use crate::roots::list_below;
 use daggy_base::index::{EdgeIndex, IndexType, NodeIndex};
 use daggy_base::source::EdgeSource;
 use daggy_order::order::Order;
-use daggy_search::{Row, Scratch, Worklist};
+use daggy_search::{Adjacency, Row, Scratch, Worklist};
 
 // Flags the edges that are redundant below some roots, block by block.
 fn flag_blocks<Ix: IndexType, S: EdgeSource<Ix>>(
@@ -23,30 +24,35 @@ fn flag_blocks<Ix: IndexType, S: EdgeSource<Ix>>(
     order: &Order<Ix>,
     roots: &[NodeIndex<Ix>],
     work: &mut Worklist<Ix>,
+    adjacency: &mut Adjacency<Ix>,
     rows: &mut [Row],
     flags: &mut [EdgeIndex<Ix>],
 )
     requires ordered { IsOrderOf (S.graph source.old) order.now }
     requires fits { node_bound (S.graph source.old) ≤ work.old.size }
+    requires arcs_fit { edge_bound (S.graph source.old) ≤ adjacency.old.arc_room }
+    requires arc_rows_fit { node_bound (S.graph source.old) ≤ adjacency.old.row_room }
     requires rows_fit { node_bound (S.graph source.old) ≤ length rows.old }
     requires flags_fit { edge_bound (S.graph source.old) ≤ length flags.old }
     ensures same { S.graph source.new ≡ S.graph source.old }
     ensures flagged { (e : ℕ) → IsFlagged Ix.greatest (map Ix.number flags.new) e
         ↔ IsRedundant (S.graph source.old) (map Ix.number roots.now) e }
     ensures looked { S.looks source.old ≤ S.looks source.new }
-    ensures counted { S.looks source.new ≤ S.looks source.old + edge_count (S.graph source.old)
-        + (node_count (S.graph source.old) + 511) / 512
-        * (2 * edge_count (S.graph source.old)) }
+    ensures counted { S.looks source.new
+        ≤ S.looks source.old + 2 * edge_count (S.graph source.old) }
     ensures kept { work.new.size ≡ work.old.size }
+    ensures arc_room { adjacency.old.arc_room ≤ adjacency.new.arc_room }
+    ensures arc_row_room { adjacency.old.row_room ≤ adjacency.new.row_room }
     ensures rows_kept { length rows.new ≡ length rows.old }
     ensures flags_kept { length flags.new ≡ length flags.old }
 {
     let _well_formed = source.node_bound();
     unflag(flags);
     let count = list_below(source, order, roots, work);
+    list_arcs(source, work, count, adjacency);
     let mut low = 0;
     'sweep: while low < count {
-        low = flag_block(source, work, low, count, rows, flags);
+        low = flag_block(source, work, adjacency, low, count, rows, flags);
     }
 }
 
@@ -68,18 +74,19 @@ pub(crate) fn leave_redundant_by_blocks<Ix: IndexType, S: EdgeSource<Ix>>(
     ensures exact { (e : ℕ) → Contains (map Ix.number (take result scratch.new.found)) e
         ↔ IsRedundant (S.graph source.old) (map Ix.number roots.now) e }
     ensures looked { S.looks source.old ≤ S.looks source.new }
-    ensures counted { S.looks source.new ≤ S.looks source.old + edge_count (S.graph source.old)
-        + (node_count (S.graph source.old) + 511) / 512
-        * (2 * edge_count (S.graph source.old)) }
+    ensures counted { S.looks source.new
+        ≤ S.looks source.old + 2 * edge_count (S.graph source.old) }
     ensures nodes_kept { scratch.new.nodes ≡ scratch.old.nodes }
     ensures edges_kept { scratch.new.edges ≡ scratch.old.edges }
     ensures rows_kept { scratch.new.rows ≡ scratch.old.rows }
 {
     let _well_formed = source.node_bound();
     let bound = source.edge_bound();
+    let work = &mut scratch.work;
+    let adjacency = &mut scratch.adjacency;
     let rows = scratch.rows.as_mut_slice();
     let flags = scratch.found.as_mut_slice();
-    flag_blocks(source, order, roots, &mut scratch.work, rows, flags);
+    flag_blocks(source, order, roots, work, adjacency, rows, flags);
     gather_flagged(flags, bound)
 }
 
@@ -88,8 +95,8 @@ pub(crate) fn leave_redundant_by_blocks<Ix: IndexType, S: EdgeSource<Ix>>(
 ///
 /// # Complexity
 ///
-/// Looks at each edge at most twice for each block of 512 nodes, and once besides. Does not
-/// allocate.
+/// Looks at each edge at most twice: once to find the nodes, and once to list the edges side by side.
+/// It goes over this list at most twice for each block of 512 nodes. Does not allocate.
 pub fn redundant_edges_by_blocks<'s, Ix: IndexType, S: EdgeSource<Ix>>(
     scratch: &'s mut Scratch<Ix>,
     source: &mut S,
@@ -105,9 +112,8 @@ pub fn redundant_edges_by_blocks<'s, Ix: IndexType, S: EdgeSource<Ix>>(
     ensures exact { (e : ℕ) → Contains (map Ix.number result.now) e
         ↔ IsRedundant (S.graph source.old) (map Ix.number roots.now) e }
     ensures looked { S.looks source.old ≤ S.looks source.new }
-    ensures counted { S.looks source.new ≤ S.looks source.old + edge_count (S.graph source.old)
-        + (node_count (S.graph source.old) + 511) / 512
-        * (2 * edge_count (S.graph source.old)) }
+    ensures counted { S.looks source.new
+        ≤ S.looks source.old + 2 * edge_count (S.graph source.old) }
     ensures* rests { sem 𝓛 (keeps_room Ix.row Ix.IndexType scratch.entry) }
 {
     let count = leave_redundant_by_blocks(source, order, roots, scratch);

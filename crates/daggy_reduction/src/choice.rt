@@ -1,5 +1,5 @@
 //! Whether redundant edges are found by searches or by blocks.
-ghost use Rattle.std.specs.Prelude.{◌≡◌, ℕ, ◌+◌, ◌*◌, ◌/◌, ◌≤◌, ◌↔◌, true, map, length, take, Contains};
+ghost use Rattle.std.specs.Prelude.{◌≡◌, ℕ, ◌+◌, ◌*◌, ◌≤◌, ◌↔◌, map, length, take, Contains};
 ghost use Rattle.daggy_base.specs.Graph.{node_bound, edge_bound, node_count, edge_count};
 ghost use Rattle.daggy_base.specs.Ordered.{IsOrderOf};
 ghost use Rattle.daggy_base.specs.Reduction.{IsRedundant};
@@ -30,9 +30,6 @@ fn blocks_pay<Ix: IndexType, S: Store<Ix>>(
 ) -> bool
     requires ordered { IsOrderOf (S.graph store.now) order.now }
     requires fits { node_bound (S.graph store.now) ≤ work.old.size }
-    ensures fewer { result ≡ true
-        → (node_count (S.graph store.now) + 511) / 512 * (2 * edge_count (S.graph store.now))
-        ≤ all_spanned (S.graph store.now) order.now order.now }
     ensures kept { work.new.size ≡ work.old.size }
 {
     let nodes = store.node_count();

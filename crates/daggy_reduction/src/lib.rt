@@ -3,6 +3,7 @@
 #![tactic(auto)]
 
 pub mod affected;
+mod arcs;
 mod block;
 pub mod blocks;
 pub mod bounded;

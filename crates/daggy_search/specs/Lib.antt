@@ -1,4 +1,5 @@
 pub mod Sorting
 pub mod Work
 pub mod Room
+pub mod Rows
 pub mod Reversed

@@ -1,6 +1,7 @@
 //! The memory of searches.
 ghost use Rattle.std.specs.Prelude.{◌≡◌, ℕ, ◌≤◌, ◌↔◌, IsTrue, IsOk, OnOk, [], vec_len};
 
+use crate::adjacency::Adjacency;
 use crate::row::Row;
 use crate::worklist::Worklist;
 use daggy_base::index::{EdgeIndex, IndexType};
@@ -8,8 +9,8 @@ use daggy_base::reserved::reserve;
 use std::alloc::{AllocError, Global};
 use std::marker::Model;
 
-/// The memory of searches: a worklist, a list for the edges that a search finds, and rows of bits for
-/// a search by blocks of nodes.
+/// The memory of searches: a worklist, a list for the edges that a search finds, and for a search by
+/// blocks of nodes a row of bits and the edges that leave it for each node.
 ///
 /// A search does not allocate: it uses a scratch that was made large enough before. Memory for
 /// nodes is only reserved then, and initialised by the first search, so a graph that is never
@@ -24,10 +25,14 @@ pub struct Scratch<Ix: IndexType> {
     /// A row for each node, for a search by blocks.
     #[doc(hidden)]
     pub rows: Vec<Row>,
+    /// The edges that leave each node, for a search by blocks. There is memory for as many rows as
+    /// `rows` has, and for as many edges as `found` has.
+    #[doc(hidden)]
+    pub adjacency: Adjacency<Ix>,
 }
 
 impl<Ix: IndexType> Model for Scratch<Ix> {
-    ghost use Rattle.std.specs.Prelude.{vec_len};
+    ghost use Rattle.std.specs.Prelude.{◌≤◌, vec_len};
     ghost use Rattle.daggy_search.specs.Room.{Room};
 
     ghost Value = { Room Ix };
@@ -39,12 +44,16 @@ impl<Ix: IndexType> Model for Scratch<Ix> {
           rows = vec_len s.rows;
           found = s.found.items;
         } };
+
+    ghost invariant = { λ s.
+        (vec_len s.found ≤ s.adjacency.arc_room) × (vec_len s.rows ≤ s.adjacency.row_room) };
 }
 
 // Appends empty rows until there are `len`.
 fn grow_rows(rows: &mut Vec<Row>, len: usize) -> Result<(), AllocError>
     ensures ok { OnOk result (len ≤ vec_len rows.new) }
     ensures more { vec_len rows.old ≤ vec_len rows.new }
+    ensures most { vec_len rows.old ≤ len → vec_len rows.new ≤ len }
 {
     reserve(rows, len)?;
     'rows: while rows.len() < len {
@@ -62,6 +71,7 @@ impl<Ix: IndexType> Scratch<Ix> {
             work: Worklist::new(alloc),
             found: Vec::new(alloc),
             rows: Vec::new(alloc),
+            adjacency: Adjacency::new(alloc),
         }
     }
 
@@ -92,12 +102,13 @@ impl<Ix: IndexType> Scratch<Ix> {
             self.work.grow(node_bound)?;
         }
         if self.found.len() < edge_bound {
+            self.adjacency.reserve_arcs(edge_bound)?;
             self.found.resize(edge_bound, EdgeIndex::end())?;
         }
         Ok(())
     }
 
-    /// Reserves a row for each node below a bound, which a search by blocks needs, 64 bytes each. It
+    /// Reserves a row for each node below a bound, which a search by blocks needs, 72 bytes each. It
     /// still fits what it fitted before, also after an error.
     #[inline]
     pub fn reserve_rows(&mut self, node_bound: usize) -> Result<(), AllocError>
@@ -107,7 +118,8 @@ impl<Ix: IndexType> Scratch<Ix> {
         ensures succeeds { node_bound ≤ self.old.rows → IsOk result }
     {
         if self.rows.len() < node_bound {
-            grow_rows(&mut self.rows, node_bound)?;
+            self.adjacency.reserve_rows(node_bound)?;
+            return grow_rows(&mut self.rows, node_bound);
         }
         Ok(())
     }

@@ -13,14 +13,7 @@ invariant-nodes g l =
       high = l.block.high;
       room = length l.fn.rows;
       flags = map g.Ix.IndexType.number l.fn.flags;
-      looks = g.S.EdgeSource.looks l.fn.source;
-    } record {
-      graph = g.S.EdgeSource.graph l.source;
-      rows = l.rows;
-      flags = map g.Ix.IndexType.number l.flags;
-      left = l.k;
-      looks = g.S.EdgeSource.looks l.source;
-    }
+    } record { rows = l.rows; flags = map g.Ix.IndexType.number l.flags; left = l.k }
 
 abbrev pub decreases-nodes : goal.decreases-nodes
 decreases-nodes g l = l.k

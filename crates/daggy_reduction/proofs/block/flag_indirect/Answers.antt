@@ -4,6 +4,6 @@ use Rattle.daggy_reduction.proofs.block.flag_indirect.Goals as goal
 
 pub returns-else-not-is_disjoint-clause-flagged : goal.returns-else-not-is_disjoint-clause-flagged
 returns-else-not-is_disjoint-clause-flagged g c =
-    none_to_flag c.requires.well_formed c.args.work.now.cursors c.requires.places_fit c.args.block.low
-    c.args.block.high (g.Ix.IndexType.number c.args.u) c.args.reached.now.direct c.args.reached.now.indirect
-    c.requires.direct (c.is_disjoint.ensures.0 (cc)) (map g.Ix.IndexType.number c.args.flags.now)
+    none_to_flag g.Ix.IndexType.number g.Ix.IndexType.greatest c.args.arcs.now c.args.block.low c.args.block.high c.args.reached.now.direct
+    c.args.reached.now.indirect c.requires.direct (c.is_disjoint.ensures.0 (cc))
+    (map g.Ix.IndexType.number c.args.flags.now)

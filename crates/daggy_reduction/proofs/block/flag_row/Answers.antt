@@ -1,84 +1,45 @@
-use Rattle.std.proofs.Common.{◌≡◌, ◌<◌, length, get_or, sym, ap, ◌∙◌, arith}
+use Rattle.std.proofs.Common.{map, refl, ◌∙◌, arith}
 use Rattle.std.proofs.lemmas.List.{length-map}
 use Rattle.daggy_reduction.specs.Blocks.{is_in_row}
-use Rattle.daggy_reduction.proofs.FlaggedChildren.{flags_start, edge_here, looked_whole, passed_less, child_low}
-use Rattle.daggy_reduction.proofs.FlaggedChildren.{edge_low, flags_on, flags_marked}
-use Rattle.daggy_reduction.proofs.MarkedPlaces.{marked_is}
-use Rattle.daggy_reduction.proofs.block.flag_row.Given.{Over}
-use Rattle.daggy_reduction.proofs.block.flag_row.Goals.{After-index-in-edges}
+use Rattle.daggy_reduction.proofs.PassedArcs.{flags_start, flags_on, flags_whole, passed_has}
 use Rattle.daggy_reduction.proofs.block.flag_row.Goals as goal
 
--- the child has a place
-low : (g : Over) (c : After-index-in-edges g)
-    → g.Ix.IndexType.number c.look-v.result.0 < length c.args.work.now.cursors
-low g c =
-    omega (
-      arith,
-      child_low c.requires.well_formed c.edges.invariant (λ h. c.edges-test.true cc) c.look-v.ensures.gives,
-      length-map c.args.work.now.cursors (is_in_row c.args.block.low c.args.block.high c.args.row.now),
-    )
-
-pub edges-init : goal.edges-init
-edges-init g c =
-    flags_start _ (g.Ix.IndexType.number c.first-e.result)
-    (omega (arith, c.requires.flags_fit, length-map c.args.flags.now g.Ix.IndexType.number))
-    (omega (
-      arith,
-      c.requires.places_fit,
-      length-map c.args.work.now.cursors (is_in_row c.args.block.low c.args.block.high c.args.row.now),
-    ))
-    c.first-e.ensures
-
-pub look-v-requires : goal.look-v-requires
-look-v-requires g c = edge_here c.requires.well_formed c.edges.invariant (λ h. c.edges-test.true cc)
+pub arcs-init : goal.arcs-init
+arcs-init g c = (
+  flags_start g.Ix.IndexType.greatest g.Ix.IndexType.number c.args.arcs.now
+  (is_in_row c.args.block.low c.args.block.high c.args.row.now) (map g.Ix.IndexType.number c.args.flags.now),
+  refl,
+)
 
 pub flag_if_in_row-requires-clause-edge : goal.flag_if_in_row-requires-clause-edge
 flag_if_in_row-requires-clause-edge g c =
     omega (
       arith,
-      edge_low c.requires.well_formed c.edges.invariant (λ h. c.edges-test.true cc) c.look-v.ensures.gives,
-      length-map c.edges.flags g.Ix.IndexType.number,
+      c.arcs.invariant.1,
+      c.requires.flags_fit c.index-arcs-k.result
+      (passed_has c.args.arcs.now c.arcs.k c.index-arcs-k.result c.arcs-test.true c.index-arcs-k.is),
     )
 
-pub edges-smaller : goal.edges-smaller
-edges-smaller g c =
-    let s = c.edges.invariant in
-    omega (
-      arith,
-      passed_less c.requires.well_formed s (λ h. c.edges-test.true cc),
-      s.counted,
-      c.look-v.ensures.counted,
+pub arcs-preserved : goal.arcs-preserved
+arcs-preserved g c =
+    let number = g.Ix.IndexType.number in
+    let a = c.index-arcs-k.result in
+    let has = passed_has c.args.arcs.now c.arcs.k a c.arcs-test.true c.index-arcs-k.is in
+    let mark = is_in_row c.args.block.low c.args.block.high c.args.row.now in (
+      flags_on g.Ix.IndexType.greatest number c.args.arcs.now mark c.arcs.k a c.arcs-test.true c.index-arcs-k.is
+      c.index.result c.index.ensures.value (map number c.args.flags.now) (map number c.arcs.flags) (map number c.flag_if_in_row.new.flags)
+      (omega (arith, c.arcs.invariant.1, c.requires.flags_fit a has, length-map c.arcs.flags number))
+      (c.requires.real a has) c.arcs.invariant.0 c.flag_if_in_row.ensures.flagged
+      c.flag_if_in_row.ensures.passed,
+      c.flag_if_in_row.ensures.kept ∙ c.arcs.invariant.1,
     )
-
-pub cursor-requires : goal.cursor-requires
-cursor-requires g c =
-    omega (arith, low g (goal.at.cursor-requires g c).After-index-in-edges, c.index-in-edges.ensures.value)
-
-pub edges-preserved : goal.edges-preserved
-edges-preserved g c =
-    let places = c.args.work.now.cursors in
-    let v = g.Ix.IndexType.number c.look-v.result.0 in
-    let at : c.index-in-edges-2.result ≡ get_or places v 0 =
-    c.index-in-edges-2.ensures.value ∙ c.cursor.ensures 0
-    ∙ ap (λ z. get_or places z 0) c.index-in-edges.ensures.value in
-    let mark =
-    marked_is places c.args.block.low c.args.block.high c.args.row.now v c.index-in-edges-2.result
-    (low g (goal.at.edges-preserved g c).After-index-in-edges) at in
-    flags_on c.requires.well_formed c.edges.invariant (λ h. c.edges-test.true cc) c.look-v.ensures.gives
-    c.look-v.ensures.same c.look-v.ensures.counted (λ h. c.flag_if_in_row.ensures.flagged (sym mark ∙ h))
-    (λ h. c.flag_if_in_row.ensures.passed (sym mark ∙ h))
 
 pub returns-clause-flagged : goal.returns-clause-flagged
-returns-clause-flagged g c = flags_marked c.requires.well_formed c.edges.invariant (cc)
-
-pub returns-clause-counted : goal.returns-clause-counted
-returns-clause-counted g c = looked_whole c.requires.well_formed c.edges.invariant (cc)
+returns-clause-flagged g c =
+    let number = g.Ix.IndexType.number in
+    flags_whole g.Ix.IndexType.greatest number c.args.arcs.now
+    (is_in_row c.args.block.low c.args.block.high c.args.row.now) c.arcs.k (omega (arith, c.arcs-test.false))
+    (map number c.args.flags.now) (map number c.arcs.flags) c.arcs.invariant.0
 
 pub returns-clause-kept : goal.returns-clause-kept
-returns-clause-kept g c =
-    omega (
-      arith,
-      c.edges.invariant.sized,
-      length-map c.edges.flags g.Ix.IndexType.number,
-      length-map c.args.flags.now g.Ix.IndexType.number,
-    )
+returns-clause-kept g c = c.arcs.invariant.1

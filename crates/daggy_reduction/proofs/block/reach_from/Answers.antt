@@ -1,47 +1,35 @@
-use Rattle.std.proofs.Common.{◌≡◌, ◌≢◌, get_or, ap, ◌∙◌, arith}
-use Rattle.daggy_reduction.proofs.GatheredRows.{gather_start, gather_edge, gather_less, gather_counted, gather_direct}
-use Rattle.daggy_reduction.proofs.GatheredRows.{gather_indirect, gather_low, gather_on}
+use Rattle.std.proofs.Common.{◌≡◌, ◌<◌, ◌+◌, true, false, get_or, [], ap, sym, ◌∙◌, arith}
+use Rattle.daggy_search.specs.declared.adjacency.Arc.{Arc}
+use Rattle.daggy_reduction.proofs.PassedArcs.{bits_start, bits_on, bits_whole}
 use Rattle.daggy_reduction.proofs.block.reach_from.Goals as goal
 
-pub edges-init : goal.edges-init
-edges-init g c = gather_start _ c.requires.places_fit c.first-e.ensures c.new.ensures c.new-2.ensures
+pub arcs-init : goal.arcs-init
+arcs-init g c = (
+  bits_start c.args.arcs.now (λ i p. (p < c.args.block.high) × (p ≡ c.args.block.low + i)) 512 c.new.ensures,
+  bits_start c.args.arcs.now
+  (λ i p. (p < c.args.block.high) × (get_or (get_or c.args.rows.now p []) i false ≡ true)) 512 c.new-2.ensures,
+)
 
-pub look-v-requires : goal.look-v-requires
-look-v-requires g c = gather_edge c.requires.well_formed c.edges.invariant (λ h. c.edges-test.true cc)
-
-pub edges-smaller : goal.edges-smaller
-edges-smaller g c =
-    let s = c.edges.invariant in
-    omega (
-      arith,
-      gather_less c.requires.well_formed s (λ h. c.edges-test.true cc),
-      s.counted,
-      c.look-v.ensures.counted,
-    )
-
-pub cursor-requires : goal.cursor-requires
-cursor-requires g c =
-    omega (
-      arith,
-      gather_low c.requires.well_formed c.edges.invariant (λ h. c.edges-test.true cc) c.look-v.ensures.gives,
-      c.index-in-edges.ensures.value,
-    )
-
-pub edges-preserved : goal.edges-preserved
-edges-preserved g c =
-    let here : g.Ix.IndexType.number c.edges.e ≢ g.Ix.IndexType.greatest = λ h. c.edges-test.true cc in
-    let places = c.args.work.now.cursors in
-    let at : c.index-in-edges-2.result ≡ get_or places (g.Ix.IndexType.number c.look-v.result.0) 0 =
-    c.index-in-edges-2.ensures.value ∙ c.cursor.ensures 0
-    ∙ ap (λ z. get_or places z 0) c.index-in-edges.ensures.value in
-    gather_on c.requires.well_formed c.edges.invariant here c.look-v.ensures.gives at c.look-v.ensures.same
-    c.look-v.ensures.counted c.reach_over.ensures.direct c.reach_over.ensures.indirect
+pub arcs-preserved : goal.arcs-preserved
+arcs-preserved g c =
+    let place_is : c.index.result ≡ c.index-arcs-k.result.place =
+    c.index.ensures.value ∙ ap (λ (z : Arc g.row.Ix.Denot). z.place) (sym c.index-arcs-k.is) in (
+  bits_on c.args.arcs.now c.arcs.k c.index-arcs-k.result c.arcs-test.true c.index-arcs-k.is c.index.result
+  place_is (λ i p. (p < c.args.block.high) × (p ≡ c.args.block.low + i)) c.arcs.reached.direct c.reach_over.new.reached.direct
+  c.arcs.invariant.0 c.reach_over.ensures.direct,
+  bits_on c.args.arcs.now c.arcs.k c.index-arcs-k.result c.arcs-test.true c.index-arcs-k.is c.index.result
+  place_is (λ i p. (p < c.args.block.high) × (get_or (get_or c.args.rows.now p []) i false ≡ true))
+  c.arcs.reached.indirect c.reach_over.new.reached.indirect
+  c.arcs.invariant.1 c.reach_over.ensures.indirect,
+)
 
 pub returns-clause-direct : goal.returns-clause-direct
-returns-clause-direct g c = gather_direct c.requires.well_formed c.edges.invariant (cc)
+returns-clause-direct g c =
+    bits_whole c.args.arcs.now c.arcs.k (omega (arith, c.arcs-test.false))
+    (λ i p. (p < c.args.block.high) × (p ≡ c.args.block.low + i)) c.arcs.reached.direct c.arcs.invariant.0
 
 pub returns-clause-indirect : goal.returns-clause-indirect
-returns-clause-indirect g c = gather_indirect c.requires.well_formed c.edges.invariant (cc)
-
-pub returns-clause-counted : goal.returns-clause-counted
-returns-clause-counted g c = gather_counted c.requires.well_formed c.edges.invariant (cc)
+returns-clause-indirect g c =
+    bits_whole c.args.arcs.now c.arcs.k (omega (arith, c.arcs-test.false))
+    (λ i p. (p < c.args.block.high) × (get_or (get_or c.args.rows.now p []) i false ≡ true))
+    c.arcs.reached.indirect c.arcs.invariant.1

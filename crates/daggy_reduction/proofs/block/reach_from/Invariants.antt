@@ -1,28 +1,10 @@
-use Rattle.std.proofs.Common.{◌+◌, ◌-◌, length}
-use Rattle.daggy_base.specs.Graph.{out_list}
-use Rattle.daggy_reduction.proofs.GatheredRows.{Gathering}
+use Rattle.std.proofs.Common.{◌≡◌, ◌+◌, ◌<◌, true, false, take, get_or, []}
+use Rattle.daggy_reduction.specs.Blocks.{HasBits, HasArcTo}
 use Rattle.daggy_reduction.proofs.block.reach_from.Given as goal
 
-abbrev pub invariant-edges : goal.invariant-edges
-invariant-edges g l =
-    Gathering record {
-      end = g.Ix.IndexType.greatest;
-      graph = g.S.EdgeSource.graph l.fn.source;
-      node = g.Ix.IndexType.number l.fn.u;
-      places = l.fn.work.cursors;
-      low = l.fn.block.low;
-      high = l.fn.block.high;
-      rows = l.fn.rows;
-      looks = g.S.EdgeSource.looks l.fn.source;
-    } record {
-      graph = g.S.EdgeSource.graph l.source;
-      edge = g.Ix.IndexType.number l.e;
-      looks = g.S.EdgeSource.looks l.source;
-      direct = l.reached.direct;
-      indirect = l.reached.indirect;
-    }
-
-abbrev pub decreases-edges : goal.decreases-edges
-decreases-edges g l =
-    length (out_list (g.S.EdgeSource.graph l.fn.source) (g.Ix.IndexType.number l.fn.u))
-    + g.S.EdgeSource.looks l.fn.source - g.S.EdgeSource.looks l.source
+abbrev pub invariant-arcs : goal.invariant-arcs
+invariant-arcs g l =
+    HasBits (λ i. HasArcTo (take l.k l.fn.arcs) (λ p. (p < l.fn.block.high) × (p ≡ l.fn.block.low + i)))
+    l.reached.direct
+    × HasBits (λ i. HasArcTo (take l.k l.fn.arcs)
+    (λ p. (p < l.fn.block.high) × (get_or (get_or l.fn.rows p []) i false ≡ true))) l.reached.indirect

@@ -6,19 +6,12 @@ abbrev pub invariant-sweep : goal.invariant-sweep
 invariant-sweep g l =
     Blocks record {
       end = g.Ix.IndexType.greatest;
-      graph = g.S.EdgeSource.graph l.initial.source;
+      graph = g.S.EdgeSource.graph l.source;
       nodes = take l.count l.work.nodes;
       places = l.work.cursors;
       rows = length l.fn.rows;
       flags = length l.fn.flags;
-      looks = g.S.EdgeSource.looks l.initial.source;
-    } record {
-      graph = g.S.EdgeSource.graph l.source;
-      rows = length l.rows;
-      flags = map g.Ix.IndexType.number l.flags;
-      low = l.low;
-      looks = g.S.EdgeSource.looks l.source;
-    }
+    } record { rows = length l.rows; flags = map g.Ix.IndexType.number l.flags; low = l.low }
 
 abbrev pub decreases-sweep : goal.decreases-sweep
 decreases-sweep g l = l.count - l.low
