@@ -2,7 +2,8 @@
 # Times this library and a peer on the same workloads, one run of each in turn, and prints the table of
 # docs/BENCHMARKS.md: two series, of each the medians, their ratio, and the ratio of the least times.
 #   compare.sh PEER_BENCH PEER_PROGRAM [ROW]     PEER_PROGRAM may be -; with ROW, the rows alone whose text holds it
-# PEER_BENCH NAME NODES EDGES [--kind stable] --reps 1 prints a line that ends with seconds, and on standard error `check .. VALUE`.
+# PEER_BENCH NAME NODES EDGES [--kind stable] --reps COUNT prints a line that ends with seconds, the median of COUNT runs
+# in one process, and on standard error `check .. VALUE`.
 # PEER_PROGRAM compact reads command lines and writes replies.
 set -eu
 peer_bench=$(realpath "$1")
@@ -28,6 +29,8 @@ series() { # from the files ours and theirs: medians, their ratio, and that of t
 
 asked() { case "$1" in *"$wanted"*) true ;; *) false ;; esac; }
 
+reps=1 # how often a workload is repeated in each process
+
 workload() { # ROUNDS NAME NODES EDGES ..: two series of ROUNDS rounds
   local rounds=$1 same=equal ours theirs
   shift
@@ -37,15 +40,25 @@ workload() { # ROUNDS NAME NODES EDGES ..: two series of ROUNDS rounds
     : > "$work/ours"
     : > "$work/theirs"
     for _ in $(seq "$rounds"); do
-      "$our_bench" "$@" 2> "$work/check" | awk '{ print $NF }' >> "$work/ours"
+      "$our_bench" "$@" --reps "$reps" 2> "$work/check" | awk '{ print $NF }' >> "$work/ours"
       ours=$(awk '/^check/ { print $NF }' "$work/check")
-      "$peer_bench" "$@" --reps 1 2> "$work/check" | awk '{ print $NF }' >> "$work/theirs"
+      "$peer_bench" "$@" --reps "$reps" 2> "$work/check" | awk '{ print $NF }' >> "$work/theirs"
       theirs=$(awk '/^check/ { print $NF }' "$work/check")
       [ -n "$ours" ] && [ "$ours" = "$theirs" ] || same=DIFFERENT
     done
     series
   done
   echo " $same |"
+}
+
+small() { # NODES EDGES REPS: dags of the sizes that most people have, of both kinds, in warm caches
+  reps=$3
+  for name in build_sorted build_random build_lowhigh add_edges add_child_tree walk_children map_weights copy edge_list \
+    update_hit remove_edges remove_nodes; do
+    workload 5 "$name" "$1" "$2"
+    workload 5 "$name" "$1" "$2" --kind stable
+  done
+  reps=1
 }
 
 program() { # ROUNDS
@@ -99,6 +112,16 @@ workload 21 remove_nodes 1000 5000
 workload 21 remove_nodes 1000 5000 --kind stable
 workload 5 remove_nodes 400000 400000
 workload 5 remove_nodes 400000 400000 --kind stable
+for kind in compact stable; do
+  workload 7 many_small 5 100000 --kind "$kind"
+  workload 7 many_emptied 5 100000 --kind "$kind"
+  workload 7 chain_back 100000 0 --kind "$kind"
+  workload 7 hub_back 100000 0 --kind "$kind"
+done
+small 30 60 8001
+small 300 900 2001
+small 3000 9000 301
+small 10000 50000 41
 workload 11 reduce 10 10
 workload 11 json_write 100000 500000
 workload 11 json_read 100000 500000

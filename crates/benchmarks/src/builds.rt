@@ -1,5 +1,5 @@
 //! Dags that are made of lists of edges.
-use crate::figures::{Figures, since};
+use crate::figures::{Figures, median, since};
 use crate::graph::{Graph, Kind, mixed, weight_of};
 use crate::inputs::{
     Pairs, Sizes, low_high_pairs, mixed_pairs, older_pairs, random_pairs, sorted_pairs,
@@ -71,23 +71,27 @@ pub fn timed_build<G: Kind, R: AllocGlobal + CpuClock>(
     sizes: Sizes,
 ) -> io::Result<Figures> {
     let pairs = input.pairs(rt.alloc(), sizes)?;
-    let start = rt.process_cpu_time()?;
-    let mut dag = nodes_alone::<G>(rt.alloc(), sizes.nodes)?;
-    let refused = put_pairs(&mut dag, pairs.as_slice());
-    let seconds = since(rt, start)?;
-    let check = mixed(dag.edge_sum(), refused);
-    Ok(Figures { seconds, check })
+    median(rt.alloc(), sizes.reps, || {
+        let start = rt.process_cpu_time()?;
+        let mut dag = nodes_alone::<G>(rt.alloc(), sizes.nodes)?;
+        let refused = put_pairs(&mut dag, pairs.as_slice());
+        let time = since(rt, start)?;
+        let check = mixed(dag.edge_sum(), refused);
+        Ok(Figures { time, check })
+    })
 }
 
 /// Adding all edges by one call.
 pub fn add_edges<G: Kind, R: AllocGlobal + CpuClock>(rt: &R, sizes: Sizes) -> io::Result<Figures> {
     let pairs = random_pairs(rt.alloc(), sizes)?;
-    let mut dag = nodes_alone::<G>(rt.alloc(), sizes.nodes)?;
-    let start = rt.process_cpu_time()?;
-    dag.put_edges(pairs.as_slice())?;
-    let seconds = since(rt, start)?;
-    let check = dag.edge_sum();
-    Ok(Figures { seconds, check })
+    median(rt.alloc(), sizes.reps, || {
+        let mut dag = nodes_alone::<G>(rt.alloc(), sizes.nodes)?;
+        let start = rt.process_cpu_time()?;
+        dag.put_edges(pairs.as_slice())?;
+        let time = since(rt, start)?;
+        let check = dag.edge_sum();
+        Ok(Figures { time, check })
+    })
 }
 
 // A tree in which each node is the child of a random one before it.
@@ -104,11 +108,71 @@ fn tree<G: Graph>(alloc: Global, nodes: u32) -> Result<G, AllocError> {
 /// Adding each node as a child.
 pub fn add_child_tree<G: Kind, R: AllocGlobal + CpuClock>(
     rt: &R,
-    nodes: u32,
+    sizes: Sizes,
 ) -> io::Result<Figures> {
-    let start = rt.process_cpu_time()?;
-    let dag = tree::<G>(rt.alloc(), nodes)?;
-    let seconds = since(rt, start)?;
-    let check = dag.edge_sum();
-    Ok(Figures { seconds, check })
+    median(rt.alloc(), sizes.reps, || {
+        let start = rt.process_cpu_time()?;
+        let dag = tree::<G>(rt.alloc(), sizes.nodes)?;
+        let time = since(rt, start)?;
+        let check = dag.edge_sum();
+        Ok(Figures { time, check })
+    })
+}
+
+/// Updating edges that exist, each once.
+pub fn update_edges<G: Kind, R: AllocGlobal + CpuClock>(
+    rt: &R,
+    sizes: Sizes,
+) -> io::Result<Figures> {
+    let pairs = sorted_pairs(rt.alloc(), sizes)?;
+    let built = build::<G>(rt.alloc(), sizes.nodes, pairs.as_slice())?;
+    median(rt.alloc(), sizes.reps, || {
+        let mut dag = built.copy()?;
+        let start = rt.process_cpu_time()?;
+        let mut check = 0u64;
+        for (a, b) in pairs.as_slice() {
+            if let Some(e) = dag.put_update(*a, *b, 7) {
+                check = mixed(check, e as u64);
+            }
+        }
+        let time = since(rt, start)?;
+        Ok(Figures { time, check })
+    })
+}
+
+/// The older nodes that new ones lead to.
+#[derive(Clone, Copy)]
+pub enum Older {
+    /// The one before.
+    Last,
+    /// The first.
+    First,
+}
+
+// The nodes, and an edge from each to an older one.
+fn backward<G: Graph>(alloc: Global, older: Older, nodes: u32) -> Result<G, AllocError> {
+    let mut dag = nodes_alone::<G>(alloc, nodes)?;
+    for i in 1..nodes {
+        let child = match older {
+            Older::Last => i - 1,
+            Older::First => 0,
+        };
+        let _e = dag.put_edge(i, child, 1);
+    }
+    Ok(dag)
+}
+
+/// Adding the nodes, and then an edge from each to an older one.
+pub fn build_backward<G: Kind, R: AllocGlobal + CpuClock>(
+    rt: &R,
+    older: Older,
+    sizes: Sizes,
+) -> io::Result<Figures> {
+    median(rt.alloc(), sizes.reps, || {
+        let start = rt.process_cpu_time()?;
+        let dag = backward::<G>(rt.alloc(), older, sizes.nodes)?;
+        let time = since(rt, start)?;
+        let check = (dag.edges() as u64).wrapping_add(dag.walked(1));
+        Ok(Figures { time, check })
+    })
 }

@@ -1,6 +1,7 @@
 //! A dag in which edges and nodes come and go.
-use crate::figures::{Figures, since};
+use crate::figures::{Figures, median, since};
 use crate::graph::{Graph, mixed};
+use crate::inputs::Sizes;
 use crate::random::Random;
 use std::alloc::{AllocError, Global};
 use std::io;
@@ -117,12 +118,17 @@ impl<G: Graph> Churn<G> {
     }
 }
 
-/// Edges and nodes that come and go in a dag of `nodes` nodes.
-pub fn come_and_go<G: Graph, R: AllocGlobal + CpuClock>(rt: &R, nodes: u32) -> io::Result<Figures> {
-    let mut churn: Churn<G> = Churn::new(rt.alloc(), nodes)?;
-    let start = rt.process_cpu_time()?;
-    churn.run(nodes)?;
-    let seconds = since(rt, start)?;
-    let check = churn.check(nodes);
-    Ok(Figures { seconds, check })
+/// Edges and nodes that come and go.
+pub fn come_and_go<G: Graph, R: AllocGlobal + CpuClock>(
+    rt: &R,
+    sizes: Sizes,
+) -> io::Result<Figures> {
+    median(rt.alloc(), sizes.reps, || {
+        let mut churn: Churn<G> = Churn::new(rt.alloc(), sizes.nodes)?;
+        let start = rt.process_cpu_time()?;
+        churn.run(sizes.nodes)?;
+        let time = since(rt, start)?;
+        let check = churn.check(sizes.nodes);
+        Ok(Figures { time, check })
+    })
 }

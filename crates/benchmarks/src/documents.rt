@@ -24,9 +24,9 @@ pub fn json_write<G: Kind, R: AllocGlobal + CpuClock>(rt: &R, sizes: Sizes) -> i
     let dag = sorted::<G>(rt.alloc(), sizes)?;
     let start = rt.process_cpu_time()?;
     let document = dag.document(rt.alloc())?;
-    let seconds = since(rt, start)?;
+    let time = since(rt, start)?;
     let check = edges_sum(&document);
-    Ok(Figures { seconds, check })
+    Ok(Figures { time, check })
 }
 
 /// Reading the document of a dag.
@@ -35,7 +35,7 @@ pub fn json_read<G: Kind, R: AllocGlobal + CpuClock>(rt: &R, sizes: Sizes) -> io
     let document = dag.document(rt.alloc())?;
     let start = rt.process_cpu_time()?;
     let other = G::of_document(rt.alloc(), &document)?;
-    let seconds = since(rt, start)?;
+    let time = since(rt, start)?;
     let check = other.edge_sum();
-    Ok(Figures { seconds, check })
+    Ok(Figures { time, check })
 }

@@ -22,6 +22,10 @@ pub trait Graph: Drop {
     /// Adds an edge, and gives its index. One that would close a cycle is not added.
     fn put_edge(&mut self, a: u32, b: u32, weight: i64) -> Option<usize>;
 
+    /// Sets the weight of the edge between two nodes, or adds one, and gives its index. One that
+    /// would close a cycle is not added.
+    fn put_update(&mut self, a: u32, b: u32, weight: i64) -> Option<usize>;
+
     /// Adds a node below another. The error says that it was refused.
     fn put_child(&mut self, parent: u32, weight: i64) -> Result<(), AllocError>;
 
@@ -154,6 +158,18 @@ impl<S: Store<u32, NodeWeight = i64, EdgeWeight = i64>> Graph for Acyclic<i64, i
             return None;
         }
         match self.add_edge(a, b, weight) {
+            Ok(e) => Some(e.index()),
+            Err(_) => None,
+        }
+    }
+
+    #[inline]
+    fn put_update(&mut self, a: u32, b: u32, weight: i64) -> Option<usize> {
+        let (a, b) = (node(a), node(b));
+        if !self.contains_node(a) || !self.contains_node(b) || !self.can_add_edge() {
+            return None;
+        }
+        match self.update_edge(a, b, weight) {
             Ok(e) => Some(e.index()),
             Err(_) => None,
         }

@@ -2,11 +2,12 @@
 use crate::random::Random;
 use std::alloc::{AllocError, Global};
 
-/// How large a graph is.
+/// How large a graph is, and how often its workload is run.
 #[derive(Clone, Copy)]
 pub struct Sizes {
     pub nodes: u32,
     pub edges: u32,
+    pub reps: u32,
 }
 
 /// The parents and the children of edges.

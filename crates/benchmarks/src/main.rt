@@ -1,6 +1,6 @@
 //! Times one workload: `benchmarks NAME NODES EDGES` prints `NAME NODES SECONDS`, and a check
-//! value on standard error. With `--kind stable` behind these the workload is one of the stable
-//! dag.
+//! value on standard error. After these, `--kind stable` asks for a stable dag, and `--reps COUNT`
+//! for the median of so many runs in one process.
 #![tactic(auto)]
 
 mod builds;
@@ -15,6 +15,7 @@ mod random;
 mod readings;
 mod reductions;
 mod removals;
+mod small;
 mod workload;
 
 use crate::commands::write_commands;
@@ -33,43 +34,45 @@ struct Request {
     sizes: Sizes,
 }
 
-fn sizes_of(nodes: &str, edges: &str) -> Option<Sizes> {
-    let nodes = nodes.parse::<u32>().ok()?;
-    let edges = edges.parse::<u32>().ok()?;
-    Some(Sizes { nodes, edges })
-}
-
-fn chosen(words: &[String]) -> Option<Request> {
-    let (name, nodes, edges, stable) = match words {
-        [name, nodes, edges] => (name, nodes, edges, false),
-        [name, nodes, edges, option, kind] => {
-            if option.as_str() != "--kind" || kind.as_str() != "stable" {
-                return None;
+impl Request {
+    fn of_words(words: &[String]) -> Option<Request> {
+        let [name, nodes, edges, options @ ..] = words else {
+            return None;
+        };
+        let mut request = Request {
+            workload: Workload::named(name.as_str())?,
+            stable: false,
+            sizes: Sizes {
+                nodes: nodes.as_str().parse::<u32>().ok()?,
+                edges: edges.as_str().parse::<u32>().ok()?,
+                reps: 1,
+            },
+        };
+        let mut options = options.iter();
+        while let Some(option) = options.next() {
+            let value = options.next()?;
+            match (option.as_str(), value.as_str()) {
+                ("--kind", "compact") => request.stable = false,
+                ("--kind", "stable") => request.stable = true,
+                ("--reps", count) => request.sizes.reps = count.parse::<u32>().ok()?,
+                _ => return None,
             }
-            (name, nodes, edges, true)
         }
-        _ => return None,
-    };
-    let workload = Workload::named(name.as_str())?;
-    let sizes = sizes_of(nodes.as_str(), edges.as_str())?;
-    Some(Request {
-        workload,
-        stable,
-        sizes,
-    })
+        Some(request)
+    }
 }
 
 fn time<R: Print + Eprint + AllocGlobal + CpuClock>(
     rt: &R,
     name: &str,
-    chosen: Request,
+    request: Request,
 ) -> io::Result<()> {
-    let figures = chosen.workload.run(rt, chosen.stable, chosen.sizes)?;
-    let nodes = chosen.sizes.nodes;
+    let figures = request.workload.run(rt, request.stable, request.sizes)?;
+    let nodes = request.sizes.nodes;
     let check = figures.check;
-    let seconds = figures.seconds;
+    let seconds = figures.time.as_secs_f64();
     eprintln!(rt; "check {name} {nodes} {check}")?;
-    println!(rt; "{name} {nodes} {seconds:.6}")
+    println!(rt; "{name} {nodes} {seconds:.9}")
 }
 
 // How many command lines are asked for.
@@ -95,11 +98,11 @@ fn main(rt: HostRuntime) -> io::Result<ExitCode> {
         out.flush()?;
         return Ok(ExitCode::SUCCESS);
     }
-    let Some(chosen) = chosen(words.as_slice()) else {
-        eprintln!(rt; "usage: benchmarks NAME NODES EDGES [--kind stable]")?;
+    let Some(request) = Request::of_words(words.as_slice()) else {
+        eprintln!(rt; "usage: benchmarks NAME NODES EDGES [--kind compact|stable] [--reps COUNT]")?;
         return Ok(ExitCode::from(2));
     };
     let name = words.first().map_or("", String::as_str);
-    time(&rt, name, chosen)?;
+    time(&rt, name, request)?;
     Ok(ExitCode::SUCCESS)
 }

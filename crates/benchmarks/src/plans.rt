@@ -1,6 +1,6 @@
 //! Plans of the nodes of a dag.
 use crate::builds::build;
-use crate::figures::{Figures, since};
+use crate::figures::{Figures, median, since};
 use crate::graph::{Graph, mixed};
 use crate::inputs::{Sizes, low_high_pairs};
 use daggy::NodeIndex;
@@ -23,9 +23,11 @@ pub fn plan_stages<G: Graph, R: AllocGlobal + CpuClock>(
 ) -> io::Result<Figures> {
     let pairs = low_high_pairs(rt.alloc(), sizes)?;
     let dag = build::<G>(rt.alloc(), sizes.nodes, pairs.as_slice())?;
-    let start = rt.process_cpu_time()?;
-    let stages = dag.stages(rt.alloc())?;
-    let seconds = since(rt, start)?;
-    let check = stages_sum(stages.as_slice());
-    Ok(Figures { seconds, check })
+    median(rt.alloc(), sizes.reps, || {
+        let start = rt.process_cpu_time()?;
+        let stages = dag.stages(rt.alloc())?;
+        let time = since(rt, start)?;
+        let check = stages_sum(stages.as_slice());
+        Ok(Figures { time, check })
+    })
 }

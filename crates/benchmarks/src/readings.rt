@@ -1,6 +1,6 @@
 //! Dags that are gone through and copied.
 use crate::builds::sorted;
-use crate::figures::{Figures, since};
+use crate::figures::{Figures, median, since};
 use crate::graph::{Graph, Kind};
 use crate::inputs::Sizes;
 use std::io;
@@ -60,13 +60,15 @@ pub fn read<G: Kind, R: AllocGlobal + CpuClock>(
     sizes: Sizes,
 ) -> io::Result<Figures> {
     let dag = sorted::<G>(rt.alloc(), sizes)?;
-    let start = rt.process_cpu_time()?;
-    let mut check = 0u64;
-    for _ in 0..10u8 {
-        check = check.wrapping_add(reading.sum(&dag, sizes.nodes));
-    }
-    let seconds = since(rt, start)?;
-    Ok(Figures { seconds, check })
+    median(rt.alloc(), sizes.reps, || {
+        let start = rt.process_cpu_time()?;
+        let mut check = 0u64;
+        for _ in 0..10u8 {
+            check = check.wrapping_add(reading.sum(&dag, sizes.nodes));
+        }
+        let time = since(rt, start)?;
+        Ok(Figures { time, check })
+    })
 }
 
 /// Making a dag with other weights.
@@ -75,18 +77,22 @@ pub fn map_weights<G: Kind, R: AllocGlobal + CpuClock>(
     sizes: Sizes,
 ) -> io::Result<Figures> {
     let dag = sorted::<G>(rt.alloc(), sizes)?;
-    let start = rt.process_cpu_time()?;
-    let other = dag.plus_one()?;
-    let seconds = since(rt, start)?;
-    let check = other.edge_sum();
-    Ok(Figures { seconds, check })
+    median(rt.alloc(), sizes.reps, || {
+        let start = rt.process_cpu_time()?;
+        let other = dag.plus_one()?;
+        let time = since(rt, start)?;
+        let check = other.edge_sum();
+        Ok(Figures { time, check })
+    })
 }
 
 pub fn copy<G: Kind, R: AllocGlobal + CpuClock>(rt: &R, sizes: Sizes) -> io::Result<Figures> {
     let dag = sorted::<G>(rt.alloc(), sizes)?;
-    let start = rt.process_cpu_time()?;
-    let other = dag.copy()?;
-    let seconds = since(rt, start)?;
-    let check = other.edge_sum();
-    Ok(Figures { seconds, check })
+    median(rt.alloc(), sizes.reps, || {
+        let start = rt.process_cpu_time()?;
+        let other = dag.copy()?;
+        let time = since(rt, start)?;
+        let check = other.edge_sum();
+        Ok(Figures { time, check })
+    })
 }

@@ -1,7 +1,7 @@
 //! Dags that are reduced.
 use crate::builds::build;
-use crate::figures::{Figures, since};
-use crate::graph::{Graph, node};
+use crate::figures::{Figures, median, since};
+use crate::graph::{Kind, node};
 use crate::inputs::{Layers, Sizes, layered_pairs, low_high_pairs};
 use daggy::NodeIndex;
 use std::alloc::{AllocError, Global};
@@ -18,23 +18,26 @@ fn first_nodes(alloc: Global, count: u32) -> Result<Vec<NodeIndex<u32>>, AllocEr
 }
 
 // Reducing the dag of these edges below its first nodes.
-fn reduce<G: Graph, R: AllocGlobal + CpuClock>(
+fn reduce<G: Kind, R: AllocGlobal + CpuClock>(
     rt: &R,
-    nodes: u32,
+    sizes: Sizes,
     pairs: &[(u32, u32)],
     roots: u32,
 ) -> io::Result<Figures> {
-    let mut dag = build::<G>(rt.alloc(), nodes, pairs)?;
-    let start = rt.process_cpu_time()?;
-    let roots = first_nodes(rt.alloc(), roots)?;
-    dag.reduce(roots)?;
-    let seconds = since(rt, start)?;
-    let check = dag.edges() as u64;
-    Ok(Figures { seconds, check })
+    let built = build::<G>(rt.alloc(), sizes.nodes, pairs)?;
+    median(rt.alloc(), sizes.reps, || {
+        let mut dag = built.copy()?;
+        let start = rt.process_cpu_time()?;
+        let roots = first_nodes(rt.alloc(), roots)?;
+        dag.reduce(roots)?;
+        let time = since(rt, start)?;
+        let check = dag.edges() as u64;
+        Ok(Figures { time, check })
+    })
 }
 
 /// Reduces layers of nodes: `sizes` has the number of layers, and the number of nodes in each.
-pub fn reduce_layers<G: Graph, R: AllocGlobal + CpuClock>(
+pub fn reduce_layers<G: Kind, R: AllocGlobal + CpuClock>(
     rt: &R,
     sizes: Sizes,
 ) -> io::Result<Figures> {
@@ -43,15 +46,18 @@ pub fn reduce_layers<G: Graph, R: AllocGlobal + CpuClock>(
         width: sizes.edges,
     };
     let pairs = layered_pairs(rt.alloc(), layers)?;
-    let nodes = layers.count.saturating_mul(layers.width);
-    reduce::<G, R>(rt, nodes, pairs.as_slice(), layers.width)
+    let sizes = Sizes {
+        nodes: layers.count.saturating_mul(layers.width),
+        ..sizes
+    };
+    reduce::<G, R>(rt, sizes, pairs.as_slice(), layers.width)
 }
 
 /// Reducing a random dag below all its nodes.
-pub fn reduce_random<G: Graph, R: AllocGlobal + CpuClock>(
+pub fn reduce_random<G: Kind, R: AllocGlobal + CpuClock>(
     rt: &R,
     sizes: Sizes,
 ) -> io::Result<Figures> {
     let pairs = low_high_pairs(rt.alloc(), sizes)?;
-    reduce::<G, R>(rt, sizes.nodes, pairs.as_slice(), sizes.nodes)
+    reduce::<G, R>(rt, sizes, pairs.as_slice(), sizes.nodes)
 }

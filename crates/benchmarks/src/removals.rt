@@ -1,6 +1,6 @@
 //! Dags whose nodes or edges are removed.
 use crate::builds::sorted;
-use crate::figures::{Figures, since};
+use crate::figures::{Figures, median, since};
 use crate::graph::{Kind, mixed};
 use crate::inputs::{Sizes, shuffled};
 use crate::random::Random;
@@ -54,13 +54,15 @@ pub fn remove<G: Kind, R: AllocGlobal + CpuClock>(
     };
     let order = shuffled(rt.alloc(), &mut Random::new(2), count)?;
     let built = sorted::<G>(rt.alloc(), sizes)?;
-    let mut dag = built.copy()?;
-    let start = rt.process_cpu_time()?;
-    let check = if G::keeps_indices() {
-        take_in_turn(&mut dag, part, order.as_slice())
-    } else {
-        take_at_random(&mut dag, part, count)
-    };
-    let seconds = since(rt, start)?;
-    Ok(Figures { seconds, check })
+    median(rt.alloc(), sizes.reps, || {
+        let mut dag = built.copy()?;
+        let start = rt.process_cpu_time()?;
+        let check = if G::keeps_indices() {
+            take_in_turn(&mut dag, part, order.as_slice())
+        } else {
+            take_at_random(&mut dag, part, count)
+        };
+        let time = since(rt, start)?;
+        Ok(Figures { time, check })
+    })
 }

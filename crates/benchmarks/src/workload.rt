@@ -1,5 +1,7 @@
 //! What is timed, by name.
-use crate::builds::{Input, add_child_tree, add_edges, timed_build};
+use crate::builds::{
+    Input, Older, add_child_tree, add_edges, build_backward, timed_build, update_edges,
+};
 use crate::churn::come_and_go;
 use crate::documents::{json_read, json_write};
 use crate::figures::Figures;
@@ -9,6 +11,7 @@ use crate::plans::plan_stages;
 use crate::readings::{Reading, copy, map_weights, read};
 use crate::reductions::{reduce_layers, reduce_random};
 use crate::removals::{Part, remove};
+use crate::small::{Life, many};
 use daggy::{Dag, StableDag};
 use std::io;
 use std::rt::CpuClock;
@@ -21,8 +24,11 @@ type Stable = StableDag<i64, i64, u32>;
 #[derive(Clone, Copy)]
 pub enum Workload {
     Build(Input),
+    Backward(Older),
     AddEdges,
+    UpdateEdges,
     AddChildTree,
+    Many(Life),
     Read(Reading),
     MapWeights,
     Copy,
@@ -43,7 +49,12 @@ impl Workload {
             "build_sorted" => Some(Workload::Build(Input::Sorted)),
             "build_older" => Some(Workload::Build(Input::Older)),
             "build_mixed" => Some(Workload::Build(Input::Mixed)),
+            "chain_back" => Some(Workload::Backward(Older::Last)),
+            "hub_back" => Some(Workload::Backward(Older::First)),
             "add_edges" => Some(Workload::AddEdges),
+            "update_hit" => Some(Workload::UpdateEdges),
+            "many_small" => Some(Workload::Many(Life::Walked)),
+            "many_emptied" => Some(Workload::Many(Life::Emptied)),
             "add_child_tree" => Some(Workload::AddChildTree),
             "walk_children" => Some(Workload::Read(Reading::WalkChildren)),
             "fold_children" => Some(Workload::Read(Reading::FoldChildren)),
@@ -84,15 +95,18 @@ impl Workload {
     ) -> io::Result<Figures> {
         match self {
             Workload::Build(input) => timed_build::<G, R>(rt, input, sizes),
+            Workload::Backward(older) => build_backward::<G, R>(rt, older, sizes),
+            Workload::UpdateEdges => update_edges::<G, R>(rt, sizes),
+            Workload::Many(life) => many::<G, R>(rt, life, sizes),
             Workload::AddEdges => add_edges::<G, R>(rt, sizes),
-            Workload::AddChildTree => add_child_tree::<G, R>(rt, sizes.nodes),
+            Workload::AddChildTree => add_child_tree::<G, R>(rt, sizes),
             Workload::Read(reading) => read::<G, R>(rt, reading, sizes),
             Workload::MapWeights => map_weights::<G, R>(rt, sizes),
             Workload::Copy => copy::<G, R>(rt, sizes),
             Workload::Remove(part) => remove::<G, R>(rt, part, sizes),
             Workload::ReduceLayers => reduce_layers::<G, R>(rt, sizes),
             Workload::ReduceRandom => reduce_random::<G, R>(rt, sizes),
-            Workload::Churn => come_and_go::<G, R>(rt, sizes.nodes),
+            Workload::Churn => come_and_go::<G, R>(rt, sizes),
             Workload::Plan => plan_stages::<G, R>(rt, sizes),
             Workload::JsonWrite => json_write::<G, R>(rt, sizes),
             Workload::JsonRead => json_read::<G, R>(rt, sizes),
