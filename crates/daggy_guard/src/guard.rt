@@ -259,8 +259,9 @@ impl<Ix: IndexType, S: Store<Ix>> Guarded<Ix, S> {
     {
         let slot_count = self.store.node_slots();
         // Never taken: this is a prefetch.
-        if !touch_neighbors(&self.store, n, Direction::Outgoing)
-            || !touch_neighbors(&self.store, n, Direction::Incoming)
+        if self.store.edge_slots() >= PREFETCH_FROM
+            && !(touch_neighbors(&self.store, n, Direction::Outgoing)
+                && touch_neighbors(&self.store, n, Direction::Incoming))
         {
             return None;
         }
@@ -272,6 +273,10 @@ impl<Ix: IndexType, S: Store<Ix>> Guarded<Ix, S> {
         Some(weight)
     }
 }
+
+// The number of edges from which on a graph is expected not to fit the second-level cache, so that a
+// prefetch pays.
+const PREFETCH_FROM: usize = 1 << 15;
 
 // Puts a new node last in an order if edges will lead to it, or first if they will leave it.
 #[inline]
