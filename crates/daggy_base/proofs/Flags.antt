@@ -1,8 +1,8 @@
 -- Flags in words: reading, setting and clearing one.
-use Rattle.std.proofs.Common.{◌≡◌, ◌≢◌, ℕ, ◌*◌, ◌/◌, ◌%◌, ◌^◌, ◌==◌, ◌<◌, ◌≤◌, true, false, not, List, length, get_or}
+use Rattle.std.proofs.Common.{◌≡◌, ◌≢◌, ℕ, ◌*◌, ◌/◌, ◌%◌, ◌^◌, ◌==◌, ◌<◌, ◌≤◌, ◌⊎◌, ◌↔◌, true, false, not, List, length, get_or, max}
 use Rattle.std.proofs.Common.{set, replicate, sym, ap, ◌∙◌, inl, inr, arith, w64}
-use Rattle.std.proofs.lemmas.Bool.{cases_eq, cases_lt}
-use Rattle.std.proofs.lemmas.Bool.Decides.{nat_tests}
+use Rattle.std.proofs.lemmas.Bool.{cases_eq, cases_lt, false≢true}
+use Rattle.std.proofs.lemmas.Bool.Decides.{nat_tests, eqb_tells}
 use Rattle.std.proofs.lemmas.List.{ext_get_or, get_or-set_same, get_or-set_other, get_or-replicate, get_or_past}
 use Rattle.std.proofs.lemmas.List.{get_or_default, length-set, length-replicate}
 use Rattle.std.proofs.lemmas.List.FromFn.{length-map-range_with_len, get_or-map-range_with_len}
@@ -118,3 +118,27 @@ flags_clear words n =
     (λ j below.
     let low : j < n = omega (arith, below, length-flags (replicate words 0) n) in
     flag_of (replicate words 0) n j low ∙ no_flag words j ∙ sym (get_or-replicate n j false false low))
+
+-- a flag is a bit of its word
+pub flag_bit : (words : List ℕ) (n i : ℕ)
+    → (get_or (flags words n) i false ≡ true) ↔ ((i < n) × (bit_at (get_or words (i / 64) 0) (i % 64) ≡ 1))
+flag_bit words n i =
+    elim (cases_lt i n) [
+      | inl low ↦ elim (eqb_tells (bit_at (get_or words (i / 64) 0) (i % 64)) 1) [
+        | inl is ↦ (λ _. (low, is.1), λ _. flag_of words n i low ∙ is.0)
+        | inr clear ↦ (
+          λ t. absurd (false≢true (sym (flag_of words n i low ∙ clear.0) ∙ t)),
+          λ b. absurd (clear.1 b.1),
+        )
+      ]
+      | inr past ↦ (
+        λ t.
+            absurd (false≢true
+            (sym (get_or_past (flags words n) i false (omega (arith, length-flags words n, past))) ∙ t)),
+        λ b. absurd (omega (arith, past, b.0)),
+      )
+    ]
+
+-- one of two bits is set
+pub either_bit : (a b : ℕ) → a < 2 → b < 2 → max a b ≡ 1 → (a ≡ 1) ⊎ (b ≡ 1)
+either_bit a b low low' h = elim (cases_eq a 1) [ inl is ↦ inl is | inr other ↦ inr (omega (arith, low, low', h, other)) ]

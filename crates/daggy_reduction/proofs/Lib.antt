@@ -31,3 +31,4 @@ pub mod SpanSums
 pub mod ListedChildren
 pub mod AffectedNodes
 pub mod OrderedParts
+pub mod Closing

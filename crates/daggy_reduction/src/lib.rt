@@ -16,3 +16,4 @@ pub mod reduction_laws;
 pub mod redundant;
 mod roots;
 mod spans;
+pub mod transitive_closure;

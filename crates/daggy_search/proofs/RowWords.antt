@@ -8,30 +8,7 @@ use Rattle.std.proofs.lemmas.Nat.Bits.{bit_at-lt, bit_at-zero, bit_at_and, bit_a
 use Rattle.std.specs.Prelude.{bit_and, bit_or}
 use Rattle.std.specs.Int.{bit_at}
 use Rattle.daggy_base.specs.Bits.{flags}
-use Rattle.daggy_base.proofs.Flags.{length-flags, flag_of, set_in, set_here}
-
--- a flag is a bit of its word
-pub flag_bit : (words : List ℕ) (n i : ℕ)
-    → (get_or (flags words n) i false ≡ true) ↔ ((i < n) × (bit_at (get_or words (i / 64) 0) (i % 64) ≡ 1))
-flag_bit words n i =
-    elim (cases_lt i n) [
-      | inl low ↦ elim (eqb_tells (bit_at (get_or words (i / 64) 0) (i % 64)) 1) [
-        | inl is ↦ (λ _. (low, is.1), λ _. flag_of words n i low ∙ is.0)
-        | inr clear ↦ (
-          λ t. absurd (false≢true (sym (flag_of words n i low ∙ clear.0) ∙ t)),
-          λ b. absurd (clear.1 b.1),
-        )
-      ]
-      | inr past ↦ (
-        λ t.
-            absurd (false≢true
-            (sym (get_or_past (flags words n) i false (omega (arith, length-flags words n, past))) ∙ t)),
-        λ b. absurd (omega (arith, past, b.0)),
-      )
-    ]
-
-either_bit : (a b : ℕ) → a < 2 → b < 2 → max a b ≡ 1 → (a ≡ 1) ⊎ (b ≡ 1)
-either_bit a b low low' h = elim (cases_eq a 1) [ inl is ↦ inl is | inr other ↦ inr (omega (arith, low, low', h, other)) ]
+use Rattle.daggy_base.proofs.Flags.{length-flags, flag_bit, either_bit, set_in, set_here}
 
 -- the words of two rows united
 pub flags_united : (a b new : List ℕ) (n : ℕ)

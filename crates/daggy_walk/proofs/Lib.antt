@@ -1,3 +1,4 @@
 pub mod RecursiveSteps
 pub mod MatrixRows
 pub mod AdapterSteps
+pub mod UnitedWords

@@ -5,3 +5,4 @@ pub mod Leading
 pub mod Parts
 pub mod Visit
 pub mod Walking
+pub mod United

@@ -10,10 +10,10 @@ IsVisited set n = IsTrue (slice_index_or set n false)
 abbrev pub HasPair : List (List Bool) → ℕ → ℕ → Type 0
 HasPair matrix a b = IsVisited (slice_index_or matrix a []) b
 
--- a matrix from its rows, one after another
-abbrev pub row_of : ℕ → List Bool → ℕ → List Bool
-row_of bound flags a = map (λ b. slice_index_or flags (a * bound + b) false) (range_with_len 0 bound)
+-- a row of a matrix, of which each row takes so many flags of all
+abbrev pub row_of : (bound width : ℕ) → List Bool → ℕ → List Bool
+row_of bound width flags a = map (λ b. slice_index_or flags (a * width + b) false) (range_with_len 0 bound)
 
 -- the matrix of these flags, with as many rows and columns as the bound
-abbrev pub rows : ℕ → List Bool → List (List Bool)
-rows bound flags = map (row_of bound flags) (range_with_len 0 bound)
+abbrev pub rows : (bound width : ℕ) → List Bool → List (List Bool)
+rows bound width flags = map (row_of bound width flags) (range_with_len 0 bound)

@@ -1,6 +1,8 @@
 //! Flags in a row, a bit each.
-ghost use Rattle.std.specs.Prelude.{◌≡◌, ℕ, ◌<◌, ◌≤◌, List, Bool, true, false, not, length};
+ghost use Rattle.std.specs.Prelude.{◌≡◌, ℕ, ◌+◌, ◌-◌, ◌*◌, ◌<◌, ◌≤◌, ◌⊎◌, ◌↔◌, List, Bool, true, false};
+ghost use Rattle.std.specs.Prelude.{not, length};
 ghost use Rattle.std.specs.Prelude.{slice_set, slice_index_or, replicate, OnOk, OnErr, IfOk, IsOk};
+ghost use Rattle.daggy_walk.specs.United.{AreUnited};
 
 use std::alloc::{AllocError, Global};
 use std::marker::Model;
@@ -21,6 +23,18 @@ impl Model for Bits {
     ghost view = { λ b. flags b.words.items b.len };
 
     ghost invariant = { λ b. b.len ≤ 64 * vec_len b.words };
+}
+
+// Sets the bits in `count` words, from `to` on, that are set in as many words from `from` on.
+fn unite(words: &mut [u64], to: usize, from: usize, count: usize)
+    requires to { to + count ≤ length words.old }
+    requires from { from + count ≤ length words.old }
+    requires apart { (to + count ≤ from) ⊎ (from + count ≤ to) }
+    ensures { AreUnited words.old words.new to from count }
+{
+    'words: for k in 0..count {
+        words[to + k] = words[to + k] | words[from + k];
+    }
 }
 
 impl Bits {
@@ -69,5 +83,20 @@ impl Bits {
         let word = self.words[i / 64];
         self.words[i / 64] = word | (1u64 << (i % 64));
         (word >> (i % 64)) & 1 == 0
+    }
+
+    /// Sets the flags in `count` words, from the word `to` on, that are set in as many words from the
+    /// word `from` on.
+    pub fn unite_words(&mut self, to: usize, from: usize, count: usize)
+        requires to { 64 * (to + count) ≤ length self.old }
+        requires from { 64 * (from + count) ≤ length self.old }
+        requires apart { (to + count ≤ from) ⊎ (from + count ≤ to) }
+        ensures united { (i : ℕ) → (slice_index_or self.new i false ≡ true)
+            ↔ ((slice_index_or self.old i false ≡ true)
+            ⊎ ((64 * to ≤ i) × (i < 64 * (to + count))
+            × (slice_index_or self.old (i - 64 * to + 64 * from) false ≡ true))) }
+        ensures same { length self.new ≡ length self.old }
+    {
+        unite(self.words.as_mut_slice(), to, from, count);
     }
 }

@@ -130,6 +130,19 @@ fn transitive_reduce(rt: HostRuntime) -> Result<(), Fail> {
 }
 
 #[test]
+fn transitive_closure(rt: HostRuntime) -> Result<(), Fail> {
+    let mut dag: Dag<&'static str, u32> = Dag::new(rt.alloc());
+    let sow = dag.add_node("sow")?;
+    let (_, hoe) = dag.add_child(sow, 30, "hoe")?;
+    let (_, reap) = dag.add_child(hoe, 60, "reap")?;
+    let closure = dag.transitive_closure()?;
+    assert!(rt; closure.has(sow, reap));
+    assert!(rt; !closure.has(reap, hoe));
+    assert!(rt; !closure.has(sow, sow));
+    Ok(())
+}
+
+#[test]
 fn reaches(rt: HostRuntime) -> Result<(), Fail> {
     let mut dag: Dag<&'static str, u32> = Dag::new(rt.alloc());
     let sow = dag.add_node("sow")?;

@@ -11,35 +11,38 @@ use std::marker::{Model, PhantomData};
 
 /// A set of pairs of nodes whose indices are below a bound.
 ///
-/// It takes a bit for each pair of indices below its bound.
+/// It takes a bit for each pair of indices below its bound, and each row fills whole words.
 #[derive(Drop)]
 pub struct AdjMatrix<Ix> {
     bits: Bits,
     bound: usize,
+    // How many bits a row takes.
+    width: usize,
     index: PhantomData<Ix>,
 }
 
 impl<Ix> Model for AdjMatrix<Ix> {
-    ghost use Rattle.std.specs.Prelude.{◌≡◌, ◌*◌, ◌^◌, ◌<◌, List, Bool, length};
+    ghost use Rattle.std.specs.Prelude.{◌≡◌, ◌*◌, ◌/◌, ◌^◌, ◌<◌, ◌≤◌, List, Bool, length};
     ghost use Rattle.daggy_walk.specs.Visit.{rows};
 
     ghost Value = { List (List Bool) };
 
-    ghost view = { λ m. rows m.bound m.bits };
+    ghost view = { λ m. rows m.bound m.width m.bits };
 
-    ghost invariant = { λ m. (length m.bits ≡ m.bound * m.bound) × (m.bound * m.bound < 2 ^ 64) };
+    ghost invariant = { λ m. (length m.bits ≡ m.bound * m.width) × (m.bound * m.width < 2 ^ 64)
+        × (m.bound ≤ m.width) × (m.width ≡ 64 * (m.width / 64)) };
 }
 
 /// The position of the flag of a pair.
 #[inline]
-fn place(bound: usize, a: usize, b: usize) -> usize
+fn place(bound: usize, width: usize, a: usize, b: usize) -> usize
     requires row { a < bound }
-    requires column { b < bound }
-    requires fits { bound * bound < 2 ^ 64 }
-    ensures value { result ≡ a * bound + b }
-    ensures within { result < bound * bound }
+    requires column { b < width }
+    requires fits { bound * width < 2 ^ 64 }
+    ensures value { result ≡ a * width + b }
+    ensures within { result < bound * width }
 {
-    a * bound + b
+    a * width + b
 }
 
 impl<Ix: IndexType> AdjMatrix<Ix> {
@@ -58,13 +61,17 @@ impl<Ix: IndexType> AdjMatrix<Ix> {
         ensures empty { IfOk result (λ matrix. (a b : ℕ) → ¬ HasPair matrix a b) }
         ensures fits { OnOk result (bound * bound < 2 ^ 64) }
     {
-        let Some(count) = bound.checked_mul(bound) else {
+        let Some(width) = bound.div_ceil(64).checked_mul(64) else {
+            return Err(AllocError);
+        };
+        let Some(count) = bound.checked_mul(width) else {
             return Err(AllocError);
         };
         let bits = Bits::new(alloc, count)?;
         Ok(AdjMatrix {
             bits,
             bound,
+            width,
             index: PhantomData,
         })
     }
@@ -78,8 +85,27 @@ impl<Ix: IndexType> AdjMatrix<Ix> {
             ↔ (((u ≡ Ix.number a) × (v ≡ Ix.number b)) ⊎ HasPair self.old u v) }
         ensures bound { length self.new ≡ length self.old }
     {
-        let i = place(self.bound, a.index(), b.index());
+        let i = place(self.bound, self.width, a.index(), b.index());
         self.bits.set(i);
+    }
+
+    /// Adds a pair from `a` for each pair from `b`, to the same node.
+    ///
+    /// # Complexity
+    ///
+    /// O(bound / 64).
+    pub fn join_row(&mut self, a: NodeIndex<Ix>, b: NodeIndex<Ix>)
+        requires source { Ix.number a < length self.old }
+        requires target { Ix.number b < length self.old }
+        ensures joined { (u v : ℕ) → HasPair self.new u v
+            ↔ (((u ≡ Ix.number a) × HasPair self.old (Ix.number b) v) ⊎ HasPair self.old u v) }
+        ensures bound { length self.new ≡ length self.old }
+    {
+        let words = self.width / 64;
+        let (to, from) = (a.index(), b.index());
+        if to != from {
+            self.bits.unite_words(to * words, from * words, words);
+        }
     }
 
     /// Whether the matrix has a pair; false if an index is past its bound.
@@ -88,7 +114,9 @@ impl<Ix: IndexType> AdjMatrix<Ix> {
         ensures { IsTrue result ↔ HasPair self.now (Ix.number a) (Ix.number b) }
     {
         let (row, column) = (a.index(), b.index());
-        row < self.bound && column < self.bound && self.bits.get(place(self.bound, row, column))
+        row < self.bound
+            && column < self.bound
+            && self.bits.get(place(self.bound, self.width, row, column))
     }
 }
 

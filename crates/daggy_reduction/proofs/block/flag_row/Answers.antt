@@ -7,7 +7,7 @@ use Rattle.daggy_reduction.proofs.block.flag_row.Goals as goal
 pub arcs-init : goal.arcs-init
 arcs-init g c = (
   flags_start g.Ix.IndexType.greatest g.Ix.IndexType.number c.args.arcs.now
-  (is_in_row c.args.block.low c.args.block.high c.args.row.now) (map g.Ix.IndexType.number c.args.flags.now),
+      (is_in_row c.args.block.low c.args.block.high c.args.row.now) (map g.Ix.IndexType.number c.args.flags.now),
   refl,
 )
 
@@ -17,7 +17,7 @@ flag_if_in_row-requires-clause-edge g c =
       arith,
       c.arcs.invariant.1,
       c.requires.flags_fit c.index-arcs-k.result
-      (passed_has c.args.arcs.now c.arcs.k c.index-arcs-k.result c.arcs-test.true c.index-arcs-k.is),
+          (passed_has c.args.arcs.now c.arcs.k c.index-arcs-k.result c.arcs-test.true c.index-arcs-k.is),
     )
 
 pub arcs-preserved : goal.arcs-preserved
@@ -27,10 +27,10 @@ arcs-preserved g c =
     let has = passed_has c.args.arcs.now c.arcs.k a c.arcs-test.true c.index-arcs-k.is in
     let mark = is_in_row c.args.block.low c.args.block.high c.args.row.now in (
       flags_on g.Ix.IndexType.greatest number c.args.arcs.now mark c.arcs.k a c.arcs-test.true c.index-arcs-k.is
-      c.index.result c.index.ensures.value (map number c.args.flags.now) (map number c.arcs.flags) (map number c.flag_if_in_row.new.flags)
-      (omega (arith, c.arcs.invariant.1, c.requires.flags_fit a has, length-map c.arcs.flags number))
-      (c.requires.real a has) c.arcs.invariant.0 c.flag_if_in_row.ensures.flagged
-      c.flag_if_in_row.ensures.passed,
+          c.index.result c.index.ensures.value (map number c.args.flags.now) (map number c.arcs.flags) (map number c.flag_if_in_row.new.flags)
+          (omega (arith, c.arcs.invariant.1, c.requires.flags_fit a has, length-map c.arcs.flags number))
+          (c.requires.real a has) c.arcs.invariant.0 c.flag_if_in_row.ensures.flagged
+          c.flag_if_in_row.ensures.passed,
       c.flag_if_in_row.ensures.kept ∙ c.arcs.invariant.1,
     )
 

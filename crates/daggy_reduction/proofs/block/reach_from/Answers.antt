@@ -7,21 +7,21 @@ pub arcs-init : goal.arcs-init
 arcs-init g c = (
   bits_start c.args.arcs.now (λ i p. (p < c.args.block.high) × (p ≡ c.args.block.low + i)) 512 c.new.ensures,
   bits_start c.args.arcs.now
-  (λ i p. (p < c.args.block.high) × (get_or (get_or c.args.rows.now p []) i false ≡ true)) 512 c.new-2.ensures,
+      (λ i p. (p < c.args.block.high) × (get_or (get_or c.args.rows.now p []) i false ≡ true)) 512 c.new-2.ensures,
 )
 
 pub arcs-preserved : goal.arcs-preserved
 arcs-preserved g c =
     let place_is : c.index.result ≡ c.index-arcs-k.result.place =
     c.index.ensures.value ∙ ap (λ (z : Arc g.row.Ix.Denot). z.place) (sym c.index-arcs-k.is) in (
-  bits_on c.args.arcs.now c.arcs.k c.index-arcs-k.result c.arcs-test.true c.index-arcs-k.is c.index.result
-  place_is (λ i p. (p < c.args.block.high) × (p ≡ c.args.block.low + i)) c.arcs.reached.direct c.reach_over.new.reached.direct
-  c.arcs.invariant.0 c.reach_over.ensures.direct,
-  bits_on c.args.arcs.now c.arcs.k c.index-arcs-k.result c.arcs-test.true c.index-arcs-k.is c.index.result
-  place_is (λ i p. (p < c.args.block.high) × (get_or (get_or c.args.rows.now p []) i false ≡ true))
-  c.arcs.reached.indirect c.reach_over.new.reached.indirect
-  c.arcs.invariant.1 c.reach_over.ensures.indirect,
-)
+      bits_on c.args.arcs.now c.arcs.k c.index-arcs-k.result c.arcs-test.true c.index-arcs-k.is c.index.result
+          place_is (λ i p. (p < c.args.block.high) × (p ≡ c.args.block.low + i)) c.arcs.reached.direct c.reach_over.new.reached.direct
+          c.arcs.invariant.0 c.reach_over.ensures.direct,
+      bits_on c.args.arcs.now c.arcs.k c.index-arcs-k.result c.arcs-test.true c.index-arcs-k.is c.index.result
+          place_is (λ i p. (p < c.args.block.high) × (get_or (get_or c.args.rows.now p []) i false ≡ true))
+          c.arcs.reached.indirect c.reach_over.new.reached.indirect
+          c.arcs.invariant.1 c.reach_over.ensures.indirect,
+    )
 
 pub returns-clause-direct : goal.returns-clause-direct
 returns-clause-direct g c =

@@ -9,7 +9,7 @@ place-i-requires-clause-row g c =
       c.requires.source,
       c.index.ensures.value,
       ap length c.self.view_is,
-      length-rows c.self.inside.bound c.self.inside.bits,
+      length-rows c.self.inside.bound c.self.inside.width c.self.inside.bits,
     )
 
 pub place-i-requires-clause-column : goal.place-i-requires-clause-column
@@ -19,7 +19,7 @@ place-i-requires-clause-column g c =
       c.requires.target,
       c.index-2.ensures.value,
       ap length c.self.view_is,
-      length-rows c.self.inside.bound c.self.inside.bits,
+      length-rows c.self.inside.bound c.self.inside.width c.self.inside.bits,
     )
 
 pub returns-clause-joined : goal.returns-clause-joined
@@ -30,7 +30,7 @@ returns-clause-joined g c =
       c.requires.source,
       c.index.ensures.value,
       ap length c.self.view_is,
-      length-rows c.self.inside.bound c.self.inside.bits,
+      length-rows c.self.inside.bound c.self.inside.width c.self.inside.bits,
     ) in
     let column : c.index-2.result < c.self.inside.bound =
     omega (
@@ -38,10 +38,10 @@ returns-clause-joined g c =
       c.requires.target,
       c.index-2.ensures.value,
       ap length c.self.view_is,
-      length-rows c.self.inside.bound c.self.inside.bits,
+      length-rows c.self.inside.bound c.self.inside.width c.self.inside.bits,
     ) in
     rw c.set.ensures.after
-    (pair_set c.self.inside.bound c.self.inside.bits c.self.view_is c.self.invariant.0 record {
+    (pair_set c.self.inside.bound c.self.inside.width c.self.inside.bits c.self.view_is c.self.invariant.0 c.self.invariant.2 record {
       row = c.index.result;
       column = c.index-2.result;
       row_is = c.index.ensures.value;
