@@ -13,6 +13,7 @@ pub use Rattle.daggy_base.specs.TakingBack
 pub use Rattle.daggy_guard.specs.EdgeBatch
 pub use Rattle.daggy_guard.specs.Extension
 pub use Rattle.daggy_guard.specs.Elements
+pub use Rattle.daggy_guard.specs.Parents
 pub use Rattle.daggy_walk.specs.Visit
 pub use Rattle.daggy_walk.specs.Walking
 pub use Rattle.daggy_walk.specs.Adapters

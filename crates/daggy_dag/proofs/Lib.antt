@@ -14,3 +14,5 @@ pub mod SlottedGraph
 pub mod JoinedByEdge
 pub mod NumberedSlots
 pub mod Retained
+pub mod ParentsSet
+pub mod EdgesSorted

@@ -46,6 +46,7 @@ mod externals;
 mod from_slots;
 mod graph;
 mod many_edges;
+mod parents;
 mod paths;
 mod recursive;
 mod reduction;
