@@ -16,3 +16,4 @@ pub mod NumberedSlots
 pub mod Retained
 pub mod ParentsSet
 pub mod EdgesSorted
+pub mod EdgesAlong
