@@ -42,6 +42,7 @@ pub use Rattle.daggy_search.specs.Reversed
 pub use Rattle.daggy_order.specs.Paths
 pub use Rattle.daggy_dag.specs.Retaining
 pub use Rattle.daggy_dag.specs.EdgePaths
+pub use Rattle.daggy_dag.specs.Connecting
 pub use Rattle.daggy_schedule.specs.Work
 pub use Rattle.daggy_schedule.specs.Times
 pub use Rattle.daggy_schedule.specs.LeastFirst

@@ -43,7 +43,7 @@ pub use daggy_base::index::{DefaultIx, Direction, EdgeIndex, IndexType, NodeInde
 pub use daggy_base::store::Store;
 pub use daggy_cells::reference::EdgeReference;
 pub use daggy_dag::acyclic::{
-    Acyclic, Children, Dag, EdgeWeightsMut, Externals, NodeWeightsMut, Parents,
+    Acyclic, Children, Dag, EdgeWeightsMut, EdgesConnecting, Externals, NodeWeightsMut, Parents,
     RawEdges, RawNodes, RecursiveWalk, StableDag, TopologicalOrder, same_reachability,
 };
 pub use daggy_graph::graph::lists::Edges;

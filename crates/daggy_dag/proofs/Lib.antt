@@ -17,3 +17,4 @@ pub mod Retained
 pub mod ParentsSet
 pub mod EdgesSorted
 pub mod EdgesAlong
+pub mod ConnectingEdges

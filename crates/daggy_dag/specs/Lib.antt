@@ -5,3 +5,4 @@ pub mod Walks
 pub mod SlottedCells
 pub mod Retaining
 pub mod EdgePaths
+pub mod Connecting
