@@ -13,6 +13,7 @@ pub use Rattle.daggy_base.specs.TakingBack
 pub use Rattle.daggy_guard.specs.EdgeBatch
 pub use Rattle.daggy_guard.specs.Extension
 pub use Rattle.daggy_guard.specs.Elements
+pub use Rattle.daggy_guard.specs.Parents
 pub use Rattle.daggy_walk.specs.Visit
 pub use Rattle.daggy_walk.specs.Walking
 pub use Rattle.daggy_walk.specs.Adapters
@@ -40,6 +41,8 @@ pub use Rattle.daggy_search.specs.Room
 pub use Rattle.daggy_search.specs.Reversed
 pub use Rattle.daggy_order.specs.Paths
 pub use Rattle.daggy_dag.specs.Retaining
+pub use Rattle.daggy_dag.specs.EdgePaths
+pub use Rattle.daggy_dag.specs.Connecting
 pub use Rattle.daggy_schedule.specs.Work
 pub use Rattle.daggy_schedule.specs.Times
 pub use Rattle.daggy_schedule.specs.LeastFirst

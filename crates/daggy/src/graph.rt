@@ -5,6 +5,6 @@ pub use daggy_cells::reference::EdgeReference;
 pub use daggy_graph::graph::DiGraph;
 pub use daggy_graph::graph::cursors::{EdgeWeightsMut, NodeWeightsMut};
 pub use daggy_graph::graph::iterators::{
-    EdgeReferences, EdgeWeights, NodeIdentifiers, NodeReferences, NodeWeights,
+    EdgeIdentifiers, EdgeReferences, EdgeWeights, NodeIdentifiers, NodeReferences, NodeWeights,
 };
 pub use daggy_graph::graph::lists::{Edges, Neighbors};

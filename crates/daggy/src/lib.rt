@@ -36,14 +36,15 @@ pub mod traversal;
 
 pub use daggy_base::element::IntoWeightedEdge;
 pub use daggy_base::error::{
-    ChildError, EdgeError, EdgesError, ElementError, NodeError, SlotsError, WouldCycle,
+    ChildError, EdgeError, EdgesError, ElementError, NodeError, ParentsError, SlotsError,
+    WouldCycle,
 };
 pub use daggy_base::index::{DefaultIx, Direction, EdgeIndex, IndexType, NodeIndex};
 pub use daggy_base::store::Store;
 pub use daggy_cells::reference::EdgeReference;
 pub use daggy_dag::acyclic::{
-    Acyclic, Children, Dag, EdgeWeightsMut, Externals, NodeWeightsMut, Parents, RawEdges, RawNodes,
-    RecursiveWalk, StableDag, TopologicalOrder, same_reachability,
+    Acyclic, Children, Dag, EdgeWeightsMut, EdgesConnecting, Externals, NodeWeightsMut, Parents,
+    RawEdges, RawNodes, RecursiveWalk, StableDag, TopologicalOrder, same_reachability,
 };
 pub use daggy_graph::graph::lists::Edges;
 pub use daggy_guard::edge_indices::EdgeIndices;

@@ -2,6 +2,6 @@
 pub use daggy_dag::slot_capacity::Room;
 pub use daggy_stable::stable_graph::StableDiGraph;
 pub use daggy_stable::stable_graph::iterators::{
-    EdgeReferences, EdgeWeights, NodeIdentifiers, NodeReferences, NodeWeights,
+    EdgeIdentifiers, EdgeReferences, EdgeWeights, NodeIdentifiers, NodeReferences, NodeWeights,
 };
 pub use daggy_stable::stable_graph::lists::{Edges, Neighbors};

@@ -23,6 +23,10 @@ edge_references g = numbered 0 g.edges
 abbrev pub node_identifiers : {N E : Type 0} → Graph N E → List ℕ
 node_identifiers g = map (λ p. p.0) (node_references g)
 
+-- the indices of the edges, in ascending order
+abbrev pub edge_identifiers : {N E : Type 0} → Graph N E → List ℕ
+edge_identifiers g = map (λ p. p.0) (edge_references g)
+
 -- the weights of the nodes, in ascending index order
 abbrev pub node_weights : {N E : Type 0} → Graph N E → List N
 node_weights g = map (λ p. p.1) (node_references g)

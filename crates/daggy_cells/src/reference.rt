@@ -7,6 +7,7 @@ use std::alloc::AllocError;
 use std::fmt;
 
 /// A reference to an edge of a graph: its index, its endpoints and its weight.
+#[derive(Eq, PartialEq)]
 pub struct EdgeReference<'a, E, Ix = DefaultIx> {
     // The fields are plain indices rather than typed ones, so that a function can take a reference
     // by value.

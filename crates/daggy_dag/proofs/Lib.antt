@@ -14,3 +14,7 @@ pub mod SlottedGraph
 pub mod JoinedByEdge
 pub mod NumberedSlots
 pub mod Retained
+pub mod ParentsSet
+pub mod EdgesSorted
+pub mod EdgesAlong
+pub mod ConnectingEdges

@@ -4,3 +4,5 @@ pub mod Cursors
 pub mod Walks
 pub mod SlottedCells
 pub mod Retaining
+pub mod EdgePaths
+pub mod Connecting

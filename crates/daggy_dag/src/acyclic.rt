@@ -39,6 +39,7 @@ use std::marker::{Model, PhantomData};
 
 mod compact;
 mod comparing;
+mod connecting;
 mod cursors;
 mod debug;
 mod descendants;
@@ -46,6 +47,7 @@ mod externals;
 mod from_slots;
 mod graph;
 mod many_edges;
+mod parents;
 mod paths;
 mod recursive;
 mod reduction;
@@ -58,6 +60,7 @@ mod weights;
 
 pub use compact::raw::{RawEdges, RawNodes};
 pub use comparing::same_reachability;
+pub use connecting::EdgesConnecting;
 pub use cursors::{EdgeWeightsMut, NodeWeightsMut};
 pub use externals::Externals;
 pub use recursive::RecursiveWalk;

@@ -72,7 +72,7 @@ weights_numbered number (x ∷ xs) = ap (λ z. x.2 ∷ z) (weights_numbered numb
 
 module _ {N E : Type 0} {limit : ℕ} {kind : Kind} {before now : Graph N E} {xs : List (NewEdge E)} {edges : List ℕ}
     {slots : ℕ} (s : IsBatchSoFar limit kind before now xs edges slots) where
-  series_on : (x : NewEdge E) (new : Graph N E) → IsWellFormed limit now → new ≡ with_edge now x.0 x.1 x.2
+  pub series_on : (x : NewEdge E) (new : Graph N E) → IsWellFormed limit now → new ≡ with_edge now x.0 x.1 x.2
       → (edges' : List ℕ) → edges' ≡ edges ++ next_edge now ∷ []
       → IsBatchSoFar limit kind before new (xs ++ x ∷ []) edges' slots
   series_on x new f is edges' noted =

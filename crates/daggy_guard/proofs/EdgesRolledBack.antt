@@ -26,13 +26,20 @@ pub record ItemAt {N E : Type 0} (g : Graph N E) (xs : List (NewEdge E)) (k : �
   pub graph_is : with_edges g (take (suc k) xs) ≡ with_edge (with_edges g (take k xs)) item.0 item.1 item.2
   pub index_is : (d : ℕ) → get_or (new_edges g xs) k d ≡ next_edge (with_edges g (take k xs))
   pub weights_are : drop k (map (λ (x : NewEdge E). x.2) xs) ≡ item.2 ∷ drop (suc k) (map (λ (x : NewEdge E). x.2) xs)
+  pub rest_is : drop k xs ≡ item ∷ drop (suc k) xs
 
 pub item_at : {N E : Type 0} (g : Graph N E) (xs : List (NewEdge E)) (k : ℕ) → k < length xs → ItemAt g xs k
 item_at g [] k h = absurd (omega arith)
-item_at g (x ∷ xs) zero h = record { item = x; graph_is = refl; index_is = λ d. refl; weights_are = refl }
+item_at g (x ∷ xs) zero h = record { item = x; graph_is = refl; index_is = λ d. refl; weights_are = refl; rest_is = refl }
 item_at g (x ∷ xs) (suc k) h =
     let more = item_at (with_edge g x.0 x.1 x.2) xs k (omega arith) in
-    record { item = more.item; graph_is = more.graph_is; index_is = more.index_is; weights_are = more.weights_are }
+    record {
+      item = more.item;
+      graph_is = more.graph_is;
+      index_is = more.index_is;
+      weights_are = more.weights_are;
+      rest_is = more.rest_is;
+    }
 
 -- vacant slots are old ones, and new ones come behind them
 abbrev AreBelow : ℕ → List ℕ → Type 0
@@ -128,7 +135,7 @@ length-new_edges : {N E : Type 0} (g : Graph N E) (xs : List (NewEdge E)) → le
 length-new_edges g [] = refl
 length-new_edges g (x ∷ xs) = ap suc (length-new_edges (with_edge g x.0 x.1 x.2) xs)
 
-take_all : {A : Type 0} (xs : List A) → take (length xs) xs ≡ xs
+pub take_all : {A : Type 0} (xs : List A) → take (length xs) xs ≡ xs
 take_all [] = refl
 take_all (x ∷ xs) = ap (λ z. x ∷ z) (take_all xs)
 
@@ -175,7 +182,7 @@ pub record IsLast {N E : Type 0} (start : Start N E) (now : Progress N E) (k e :
 -- one step of the loop
 module _ {N E : Type 0} {limit : ℕ} {kind : Kind} {start : Start N E} {now : Progress N E}
     (s : Rolling limit kind start now) {k e : ℕ} (last : IsLast start now k e) where
-  here : ItemAt start.graph start.items k
+  pub here : ItemAt start.graph start.items k
   here = item_at start.graph start.items k (omega (arith, s.within, last.one))
 
   abbrev at_k : Graph N E
@@ -193,7 +200,7 @@ module _ {N E : Type 0} {limit : ℕ} {kind : Kind} {start : Start N E} {now : P
   free_k : IsFree at_k.edges at_k.vacant_edges
   free_k = free_edge at_k 0 0 here.item.2 limit fine_k
 
-  edge_there : edge_at now.graph e ≡ Some (record { parent = here.item.0; child = here.item.1; weight = here.item.2 })
+  pub edge_there : edge_at now.graph e ≡ Some (record { parent = here.item.0; child = here.item.1; weight = here.item.2 })
   edge_there =
       let P : Graph N E → Type 0 = λ z.
       edge_at z e ≡ Some (record { parent = here.item.0; child = here.item.1; weight = here.item.2 }) in

@@ -13,3 +13,6 @@ pub mod PackedSort
 pub mod StandingAfterEdge
 pub mod WalkedEdges
 pub mod ParentsAsked
+pub mod KeptBefore
+pub mod ParentsInTurn
+pub mod ParentsTakenBack

@@ -3,3 +3,4 @@ pub mod BatchProgress
 pub mod Extension
 pub mod Elements
 pub mod NewNode
+pub mod Parents

@@ -415,6 +415,9 @@ pub(crate) fn make_way<Ix: IndexType, S: Store<Ix>>(
     ensures decided { result ≡ false ↔ Reaches (S.graph store.old) (Ix.number b) (Ix.number a) }
     ensures ordered { IsOrderOf (S.graph store.old) order.new }
     ensures before { result ≡ true → place order.new (Ix.number a) < place order.new (Ix.number b) }
+    ensures kept_before { result ≡ true
+        → (u : ℕ) → place order.old u < place order.old (Ix.number b)
+        → place order.new u < place order.new (Ix.number b) }
     ensures same { S.graph store.new ≡ S.graph store.old }
     ensures looked { S.looks store.old ≤ S.looks store.new }
     ensures counted { S.looks store.new ≤ S.looks store.old + edge_count (S.graph store.old) }

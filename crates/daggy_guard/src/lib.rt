@@ -9,5 +9,6 @@ pub mod extension;
 pub mod guard;
 pub mod matrix;
 mod packed;
+pub mod parents;
 pub mod paths;
 pub mod walk;

@@ -31,7 +31,7 @@ slot_front_within (x ∷ xs) zero i y h = absurd cc
 slot_front_within (x ∷ xs) (suc n) zero y h = omega arith
 slot_front_within (x ∷ xs) (suc n) (suc i) y h = let more = slot_front_within xs n i y h in omega (arith, more)
 
-slot_set_same : {A : Type 0} (xs : List (Option A)) (i : ℕ) (o : Option A) → i < length xs → slot (set xs i o) i ≡ o
+pub slot_set_same : {A : Type 0} (xs : List (Option A)) (i : ℕ) (o : Option A) → i < length xs → slot (set xs i o) i ≡ o
 slot_set_same [] i o within = absurd (omega arith)
 slot_set_same (x ∷ xs) zero o within = refl
 slot_set_same (x ∷ xs) (suc i) o within = slot_set_same xs i o (omega arith)
@@ -45,7 +45,7 @@ slot_set_other (x ∷ xs) zero (suc f) o other = refl
 slot_set_other (x ∷ xs) (suc i) zero o other = refl
 slot_set_other (x ∷ xs) (suc i) (suc f) o other = slot_set_other xs i f o (λ e. other (ap suc e))
 
-slot_or : {A : Type 0} (xs : List (Option A)) (i : ℕ) (y : A) → slot xs i ≡ Some y → get_or xs i None ≡ Some y
+pub slot_or : {A : Type 0} (xs : List (Option A)) (i : ℕ) (y : A) → slot xs i ≡ Some y → get_or xs i None ≡ Some y
 slot_or [] i y h = absurd cc
 slot_or (x ∷ xs) zero y h = h
 slot_or (x ∷ xs) (suc i) y h = slot_or xs i y h

@@ -17,7 +17,8 @@ use daggy_search::Scratch;
 use std::alloc::AllocError;
 
 // Removes the edges of a list, the last one first.
-fn remove_edges<Ix: IndexType, S: Store<Ix>>(store: &mut S, edges: &[EdgeIndex<Ix>])
+#[doc(hidden)]
+pub fn remove_edges<Ix: IndexType, S: Store<Ix>>(store: &mut S, edges: &[EdgeIndex<Ix>])
     requires ascending { IsAscending (map Ix.number edges.now) }
     requires exist { (e : ℕ)
         → Contains (map Ix.number edges.now) e → HasEdge (S.graph store.old) e }

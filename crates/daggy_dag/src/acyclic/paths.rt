@@ -1,13 +1,37 @@
-//! Whether a path leads from one node to another, and which is shortest.
+//! Whether a path leads from one node to another, and which is shortest, as nodes or as edges.
 ghost use Rattle.std.specs.Prelude.{◌≡◌, ◌+◌, ◌≤◌, ◌↔◌, IsTrue, Ok, None, map, IfOk, IfSome};
 ghost use Rattle.daggy_order.specs.Paths.{IsShortestPath};
 ghost use Rattle.daggy_base.specs.Graph.{edge_count as edge_count_of};
-ghost use Rattle.daggy_base.specs.Path.{AreJoined, Reaches};
+ghost use Rattle.daggy_base.specs.Path.{AreJoined, IsPath, Reaches};
+ghost use Rattle.daggy_dag.specs.EdgePaths.{AreFoundAlong, IsShortestEdgePath};
 
 use crate::acyclic::Acyclic;
-use daggy_base::index::{IndexType, NodeIndex};
+use daggy_base::index::{EdgeIndex, IndexType, NodeIndex};
 use daggy_base::store::Store;
-use std::alloc::AllocError;
+use std::alloc::{AllocError, Global};
+
+// The edges along a path.
+fn edges_along<Ix: IndexType, S: Store<Ix>>(
+    alloc: Global,
+    store: &S,
+    nodes: &[NodeIndex<Ix>],
+) -> Result<Vec<EdgeIndex<Ix>>, AllocError>
+    requires { IsPath (S.graph store.now) (map Ix.number nodes.now) }
+    ensures { IfOk result (λ edges. AreFoundAlong (S.graph store.now) (map Ix.number nodes.now)
+        (map Ix.number edges.items)) }
+{
+    store.invariant();
+    let mut edges = Vec::new(alloc);
+    let mut at = 0;
+    'nodes: while at + 1 < nodes.len() {
+        // There is one, since each node is joined to the next.
+        if let Some(e) = store.find_edge(nodes[at], nodes[at + 1]) {
+            edges.push(e)?;
+        }
+        at += 1;
+    }
+    Ok(edges)
+}
 
 impl<N: Drop, E: Drop, Ix: IndexType, S> Acyclic<N, E, Ix, S>
 where
@@ -104,6 +128,53 @@ where
             → self.new.looks ≡ self.old.looks }
     {
         self.guarded.path(a, b)
+    }
+
+    /// Returns the edges along a shortest path from `a` to `b`, in order, or `None` if no path leads
+    /// from `a` to `b`. From an existing node to itself there are none.
+    ///
+    /// Between each node of the path and the next it is the edge that
+    /// [`find_edge`](Acyclic::find_edge) returns, the newest of parallel ones.
+    ///
+    /// # Errors
+    ///
+    /// Returns `AllocError` if the memory for the path or for its edges cannot be allocated.
+    ///
+    /// # Complexity
+    ///
+    /// As [`path`](Acyclic::path), and `find_edge` for each edge.
+    ///
+    /// # Examples
+    ///
+    /// ```
+    /// let mut dag: Dag<&'static str, u32> = Dag::new(rt.alloc());
+    /// let sow = dag.add_node("sow")?;
+    /// let (days, hoe) = dag.add_child(sow, 30, "hoe")?;
+    /// let (more, reap) = dag.add_child(hoe, 60, "reap")?;
+    /// let edges = dag.path_edges(sow, reap)?;
+    /// assert!(rt; edges.is_some_and(|edges| edges.as_slice() == [days, more].as_slice()));
+    /// assert!(rt; dag.path_edges(reap, sow)?.is_none());
+    /// ```
+    pub fn path_edges(
+        &mut self,
+        a: NodeIndex<Ix>,
+        b: NodeIndex<Ix>,
+    ) -> Result<Option<Vec<EdgeIndex<Ix>>>, AllocError>
+        ensures path { IfOk result (λ found. IfSome found (λ edges.
+            IsShortestEdgePath self.old.graph (Ix.number a) (Ix.number b)
+            (map Ix.number edges.items))) }
+        ensures none { (result ≡ Ok None) ↔ ¬ Reaches self.old.graph (Ix.number a) (Ix.number b) }
+        ensures same { self.new.graph ≡ self.old.graph }
+        ensures looked { self.old.looks ≤ self.new.looks }
+        ensures counted { self.new.looks ≤ self.old.looks + edge_count_of self.old.graph }
+        ensures ready { Reaches self.old.graph (Ix.number b) (Ix.number a)
+            → self.new.looks ≡ self.old.looks }
+    {
+        let Some(nodes) = self.path(a, b)? else {
+            return Ok(None);
+        };
+        let alloc = self.guarded.scratch.allocator();
+        Ok(Some(edges_along(alloc, &self.guarded.store, nodes.as_slice())?))
     }
 
     /// Whether an edge leads from `a` to `b`.

@@ -6,6 +6,7 @@ ghost use Rattle.daggy_cells.specs.Fields.{plain};
 ghost use Rattle.daggy_base.specs.Iterating.{node_weights as node_weights_of};
 ghost use Rattle.daggy_base.specs.Iterating.{edge_weights as edge_weights_of};
 ghost use Rattle.daggy_base.specs.Iterating.{node_identifiers as node_identifiers_of};
+ghost use Rattle.daggy_base.specs.Iterating.{edge_identifiers as edge_identifiers_of};
 ghost use Rattle.daggy_base.specs.Iterating.{node_references as node_references_of};
 ghost use Rattle.daggy_base.specs.Iterating.{edge_references as edge_references_of};
 
@@ -366,6 +367,76 @@ impl<'a, E, Ix: IndexType> fmt::Debug for EdgeReferences<'a, E, Ix> {
     }
 }
 
+/// The indices of the edges, in ascending order. It does not borrow the graph.
+#[derive(Drop)]
+pub struct EdgeIdentifiers<Ix: IndexType = DefaultIx> {
+    next: Link<Ix>,
+    end: Link<Ix>,
+}
+
+impl<Ix: IndexType> Model for EdgeIdentifiers<Ix> {
+    ghost use Rattle.std.specs.Prelude.{ℕ, ◌-◌, ◌≤◌, List};
+    ghost use Rattle.std.specs.List.{range_with_len};
+
+    ghost Value = { List ℕ };
+
+    ghost view = { λ it. range_with_len it.next (it.end - it.next) };
+
+    ghost invariant = { λ it. it.end ≤ Ix.greatest };
+}
+
+impl<Ix: IndexType> Iterator for EdgeIdentifiers<Ix> {
+    type Item = EdgeIndex<Ix>;
+
+    ghost next_gives = { YieldsFirstBy Ix.number (λ rest. rest) };
+
+    ghost remaining = { item_count (λ rest. rest) };
+
+    #[inline]
+    fn next(&mut self) -> Option<EdgeIndex<Ix>> {
+        let e = self.next.index();
+        if e >= self.end.index() {
+            return None;
+        }
+        self.next = Link::new(e + 1);
+        Some(EdgeIndex::new(e))
+    }
+
+    #[inline]
+    fn size_hint(&self) -> (usize, Option<usize>) {
+        let left = self.len();
+        (left, Some(left))
+    }
+}
+
+impl<Ix: IndexType> ExactSizeIterator for EdgeIdentifiers<Ix> {
+    #[inline]
+    fn len(&self) -> usize {
+        self.end.index().saturating_sub(self.next.index())
+    }
+}
+
+impl<Ix: IndexType> FusedIterator for EdgeIdentifiers<Ix> {}
+
+impl<Ix: IndexType> Clone for EdgeIdentifiers<Ix> {
+    ghost is_clone = { λ a b. a ≡ b };
+
+    fn clone(&self) -> Result<Self, AllocError> {
+        Ok(EdgeIdentifiers {
+            next: self.next,
+            end: self.end,
+        })
+    }
+}
+
+impl<Ix: IndexType> fmt::Debug for EdgeIdentifiers<Ix> {
+    fn fmt<W: fmt::Write>(&self, f: &mut fmt::Formatter<W>) -> fmt::Result {
+        f.debug_struct("EdgeIdentifiers")
+            .field("remaining", &self.len())
+            .finish()
+    }
+}
+
 impl<N, E, Ix: IndexType> DiGraph<N, E, Ix> {
     /// The weights of the nodes, by ascending index.
     #[inline]
@@ -399,6 +470,17 @@ impl<N, E, Ix: IndexType> DiGraph<N, E, Ix> {
             next: Link::new(0),
             end: Link::new(self.nodes.len()),
         }
+    }
+
+    /// The indices of the edges, in ascending order. It does not borrow the graph.
+    #[inline]
+    pub fn edge_identifiers(&self) -> EdgeIdentifiers<Ix>
+        ensures rest { result ≡ edge_identifiers_of self.now.graph }
+        ensures fits { length result < 2 ^ 64 }
+    {
+        let next = Link::new(0);
+        let end = Link::new(self.edges.len());
+        EdgeIdentifiers { next, end }
     }
 
     /// The nodes by ascending index, each with its weight.

@@ -4,6 +4,7 @@ ghost use Rattle.std.specs.Iterator.{YieldsFirstRef, YieldsFirstBy, item_count};
 ghost use Rattle.daggy_base.specs.Iterating.{node_weights as node_weights_of};
 ghost use Rattle.daggy_base.specs.Iterating.{edge_weights as edge_weights_of};
 ghost use Rattle.daggy_base.specs.Iterating.{node_identifiers as node_identifiers_of};
+ghost use Rattle.daggy_base.specs.Iterating.{edge_identifiers as edge_identifiers_of};
 ghost use Rattle.daggy_base.specs.Iterating.{node_references as node_references_of};
 ghost use Rattle.daggy_base.specs.Iterating.{edge_references as edge_references_of};
 ghost use Rattle.daggy_cells.specs.Referring.{referred};
@@ -324,6 +325,57 @@ impl<'a, E, Ix: IndexType> fmt::Debug for EdgeWeights<'a, E, Ix> {
     }
 }
 
+/// The indices of the edges, in ascending order.
+#[derive(Drop)]
+pub struct EdgeIdentifiers<'a, E, Ix: IndexType = DefaultIx> {
+    edges: EdgeReferences<'a, E, Ix>,
+}
+
+impl<'a, E, Ix: IndexType> Model for EdgeIdentifiers<'a, E, Ix> {
+    ghost use Rattle.std.specs.Prelude.{ℕ, List, map};
+
+    ghost Value = { List ℕ };
+
+    ghost view = { λ it. map (λ p. p.0) it.edges };
+}
+
+impl<'a, E, Ix: IndexType> Iterator for EdgeIdentifiers<'a, E, Ix> {
+    type Item = EdgeIndex<Ix>;
+
+    ghost next_gives = { YieldsFirstBy Ix.number (λ rest. rest) };
+
+    ghost remaining = { item_count (λ rest. rest) };
+
+    #[inline]
+    fn next(&mut self) -> Option<EdgeIndex<Ix>> {
+        let x = self.edges.next()?;
+        Some(x.id())
+    }
+
+    #[inline]
+    fn size_hint(&self) -> (usize, Option<usize>) {
+        self.edges.size_hint()
+    }
+}
+
+impl<'a, E, Ix: IndexType> FusedIterator for EdgeIdentifiers<'a, E, Ix> {}
+
+impl<'a, E, Ix: IndexType> Clone for EdgeIdentifiers<'a, E, Ix> {
+    ghost is_clone = { λ a b. a ≡ b };
+
+    fn clone(&self) -> Result<Self, AllocError> {
+        Ok(EdgeIdentifiers {
+            edges: self.edges.clone()?,
+        })
+    }
+}
+
+impl<'a, E, Ix: IndexType> fmt::Debug for EdgeIdentifiers<'a, E, Ix> {
+    fn fmt<W: fmt::Write>(&self, f: &mut fmt::Formatter<W>) -> fmt::Result {
+        f.debug_struct("EdgeIdentifiers").finish_non_exhaustive()
+    }
+}
+
 impl<N, E, Ix: IndexType> StableDiGraph<N, E, Ix> {
     /// The weights of the nodes, by ascending index. O(slots) in total, occupied or vacant.
     #[inline]
@@ -355,6 +407,17 @@ impl<N, E, Ix: IndexType> StableDiGraph<N, E, Ix> {
     {
         NodeIdentifiers {
             nodes: self.node_references(),
+        }
+    }
+
+    /// The indices of the edges, in ascending order. O(slots) in total, occupied or vacant.
+    #[inline]
+    pub fn edge_identifiers(&self) -> EdgeIdentifiers<'_, E, Ix>
+        ensures rest { result ≡ edge_identifiers_of self.now.graph }
+        ensures fits { length result < 2 ^ 64 }
+    {
+        EdgeIdentifiers {
+            edges: self.edge_references(),
         }
     }
 

@@ -2,6 +2,7 @@
 ghost use Rattle.std.specs.Prelude.{◌≡◌, ◌<◌, ◌^◌, length};
 ghost use Rattle.daggy_base.specs.declared.index.Direction.TheVariants.{Outgoing};
 ghost use Rattle.daggy_base.specs.Iterating.{node_identifiers as node_identifiers_of};
+ghost use Rattle.daggy_base.specs.Iterating.{edge_identifiers as edge_identifiers_of};
 ghost use Rattle.daggy_base.specs.Iterating.{node_references as node_references_of};
 ghost use Rattle.daggy_base.specs.Iterating.{edge_references as edge_references_of, edges_at};
 ghost use Rattle.daggy_base.specs.Iterating.{neighbors_at};
@@ -12,7 +13,7 @@ use crate::acyclic::Acyclic;
 use daggy_base::index::{Direction, IndexType, NodeIndex};
 use daggy_graph::graph::DiGraph;
 use daggy_graph::graph::iterators::{
-    EdgeReferences, EdgeWeights, NodeIdentifiers, NodeReferences, NodeWeights,
+    EdgeIdentifiers, EdgeReferences, EdgeWeights, NodeIdentifiers, NodeReferences, NodeWeights,
 };
 use daggy_graph::graph::lists::{Edges, Neighbors};
 
@@ -24,6 +25,33 @@ impl<N: Drop, E: Drop, Ix: IndexType> Acyclic<N, E, Ix, DiGraph<N, E, Ix>> {
         ensures fits { length result < 2 ^ 64 }
     {
         self.guarded.store.node_identifiers()
+    }
+
+    /// The indices of the edges, in ascending order. It does not borrow the dag.
+    #[inline]
+    pub fn edge_identifiers(&self) -> EdgeIdentifiers<Ix>
+        ensures rest { result ≡ edge_identifiers_of self.now.graph }
+        ensures fits { length result < 2 ^ 64 }
+    {
+        self.guarded.store.edge_identifiers()
+    }
+
+    /// The same as [`node_identifiers`](Acyclic::node_identifiers).
+    #[inline]
+    pub fn node_indices(&self) -> NodeIdentifiers<Ix>
+        ensures rest { result ≡ node_identifiers_of self.now.graph }
+        ensures fits { length result < 2 ^ 64 }
+    {
+        self.node_identifiers()
+    }
+
+    /// The same as [`edge_identifiers`](Acyclic::edge_identifiers).
+    #[inline]
+    pub fn edge_indices(&self) -> EdgeIdentifiers<Ix>
+        ensures rest { result ≡ edge_identifiers_of self.now.graph }
+        ensures fits { length result < 2 ^ 64 }
+    {
+        self.edge_identifiers()
     }
 
     /// The nodes by ascending index, each with its weight.

@@ -1,12 +1,14 @@
 use Rattle.std.proofs.Common.{◌≢◌, ◌<◌, ◌≤◌, ◌∙◌, inl, inr, sym, arith}
 use Rattle.std.proofs.lemmas.Bool.{false≢true, cases_lt}
 use Rattle.daggy_base.specs.Ordered.{IsOrderOf, place}
+use Rattle.daggy_base.proofs.Lists.{contains_mem}
 use Rattle.daggy_order.proofs.MovedForward.{order_moved_before, order_moved_first}
 use Rattle.daggy_order.proofs.OrderEdgeResult.{reached_later}
 use Rattle.daggy_guard.proofs.OrderAfterChange.{few_edges}
 use Rattle.daggy_guard.proofs.ParentsAsked.{not_reached}
 use Rattle.daggy_guard.proofs.guard.make_way.Given.{Over}
-use Rattle.daggy_guard.proofs.guard.make_way.Goals.{After-move_before}
+use Rattle.daggy_guard.proofs.KeptBefore.{kept_first, kept_moved, kept_parted, strictly_behind}
+use Rattle.daggy_guard.proofs.guard.make_way.Goals.{After-move_before, After-index-2}
 use Rattle.daggy_guard.proofs.guard.make_way.Goals as goal
 
 -- where all parents of a stand before b, a does too once it is put there, and the order stays one
@@ -26,6 +28,42 @@ moved g c =
     order_moved_before c.invariant.ensures.well_formed c.args.order.now a b c.requires.ordered differs
     behind (c.parents_stand_before.ensures c.if-parents_stand_before.true) c.requires.parent c.requires.child
     c.move_before.new.self c.move_before.ensures
+
+-- a does not precede b
+behind : (g : Over) (c : After-index-2 g)
+    → place c.args.order.now (g.Ix.IndexType.number c.args.b) ≤ place c.args.order.now (g.Ix.IndexType.number c.args.a)
+behind g c =
+    let a = g.Ix.IndexType.number c.args.a in
+    let b = g.Ix.IndexType.number c.args.b in
+    elim (cases_lt (place c.args.order.now a) (place c.args.order.now b)) [
+      | inl l ↦ absurd (false≢true (sym c.if-stands_before.false ∙ c.stands_before.ensures.1 l))
+      | inr h ↦ h
+    ]
+
+pub returns-then-not-has_parents-clause-kept_before : goal.returns-then-not-has_parents-clause-kept_before
+returns-then-not-has_parents-clause-kept_before g c t u h =
+    let a = g.Ix.IndexType.number c.args.a in
+    let b = g.Ix.IndexType.number c.args.b in
+    let differs : a ≢ b = λ e. c.if-index.true (c.index.ensures.value ∙ (e ∙ sym c.index-2.ensures.value)) in
+    rw c.move_first.ensures (kept_first c.args.order.now a b u differs h)
+
+pub returns-then-parents_stand_before-clause-kept_before : goal.returns-then-parents_stand_before-clause-kept_before
+returns-then-parents_stand_before-clause-kept_before g c t u h =
+    let a = g.Ix.IndexType.number c.args.a in
+    let b = g.Ix.IndexType.number c.args.b in
+    let differs : a ≢ b = λ e. c.if-index.true (c.index.ensures.value ∙ (e ∙ sym c.index-2.ensures.value)) in
+    kept_moved c.args.order.now c.move_before.new.self a b u differs
+    (contains_mem c.args.order.now b ((c.requires.ordered.exact b).1 c.requires.child))
+    (behind g (goal.at.returns-then-parents_stand_before-clause-kept_before g c).After-index-2) c.move_before.ensures h
+
+pub returns-clause-kept_before : goal.returns-clause-kept_before
+returns-clause-kept_before g c t u h =
+    let a = g.Ix.IndexType.number c.args.a in
+    let b = g.Ix.IndexType.number c.args.b in
+    let late = strictly_behind c.requires.ordered a b c.requires.parent c.requires.child
+    (behind g (goal.at.returns-clause-kept_before g c).After-index-2)
+    (λ r. false≢true (sym (c.order_edge.ensures.decided.1 r) ∙ t)) in
+    kept_parted _ a b u c.args.order.now c.order_edge.new.order (c.order_edge.ensures.moved t late) h
 
 pub returns-then-stands_before-clause-decided : goal.returns-then-stands_before-clause-decided
 returns-then-stands_before-clause-decided g c = (

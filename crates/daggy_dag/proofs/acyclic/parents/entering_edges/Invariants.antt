@@ -1,0 +1,14 @@
+use Rattle.std.proofs.Common.{◌≡◌, ◌++◌, map, length}
+use Rattle.daggy_base.specs.Graph.{in_list}
+use Rattle.daggy_base.specs.declared.index.Direction.TheVariants.{Incoming}
+use Rattle.daggy_dag.specs.Walks.{rest_of_walk}
+use Rattle.daggy_dag.proofs.acyclic.parents.entering_edges.Given as goal
+
+abbrev pub invariant-edges : goal.invariant-edges
+invariant-edges g l =
+    let graph = g.S.EdgeSource.graph l.store in
+    map g.Ix.IndexType.number l.edges.items ++ rest_of_walk Incoming graph (g.Ix.IndexType.number l.cursor)
+    ≡ in_list graph (g.Ix.IndexType.number l.fn.n)
+
+abbrev pub decreases-edges : goal.decreases-edges
+decreases-edges g l = length (rest_of_walk Incoming (g.S.EdgeSource.graph l.store) (g.Ix.IndexType.number l.cursor))
