@@ -4,6 +4,8 @@
 #   compare.sh PEER_BENCH PEER_PROGRAM [ROW]     PEER_PROGRAM may be -; with ROW, the rows alone whose text holds it
 # PEER_BENCH NAME NODES EDGES [--kind stable] --reps COUNT prints a line that ends with seconds, the median of COUNT runs
 # in one process, and on standard error `check .. VALUE`.
+# With PEER_REDUCTION in the environment, reductions below all nodes are compared with that program too: PEER_REDUCTION
+# SHAPE NODES EDGES prints a line that ends with the seconds of one reduction of such a dag, of its own making.
 # PEER_PROGRAM compact reads command lines and writes replies.
 set -eu
 peer_bench=$(realpath "$1")
@@ -59,6 +61,23 @@ small() { # NODES EDGES REPS: dags of the sizes that most people have, of both k
     workload 5 "$name" "$1" "$2" --kind stable
   done
   reps=1
+}
+
+reduction() { # ROUNDS SHAPE NODES EDGES: the dags are alike, and not the same, so no check values are compared
+  local rounds=$1
+  shift
+  asked "reduce_$*" || return 0
+  printf '| reduce_%s |' "$*"
+  for _ in 1 2; do
+    : > "$work/ours"
+    : > "$work/theirs"
+    for _ in $(seq "$rounds"); do
+      "$our_bench" "reduce_$1" "$2" "$3" 2> /dev/null | awk '{ print $NF }' >> "$work/ours"
+      "$PEER_REDUCTION" "$@" | awk '{ print $NF }' >> "$work/theirs"
+    done
+    series
+  done
+  echo " |"
 }
 
 program() { # ROUNDS
@@ -125,4 +144,13 @@ small 10000 50000 41
 workload 11 reduce 10 10
 workload 11 json_write 100000 500000
 workload 11 json_read 100000 500000
+if [ -n "${PEER_REDUCTION:-}" ]; then
+  reduction 11 random 2000 20000
+  reduction 7 random 4000 40000
+  reduction 3 random 16000 160000
+  reduction 3 local 20000 100000
+  reduction 3 chain 100000 0
+  reduction 7 complete 1000 0
+  reduction 11 diamonds 121 0
+fi
 [ "$peer_program" = "-" ] || program 5

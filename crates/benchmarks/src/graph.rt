@@ -50,6 +50,9 @@ pub trait Graph: Drop {
     /// Reduces what is below these roots.
     fn reduce(&mut self, roots: Vec<NodeIndex<u32>>) -> Result<(), AllocError>;
 
+    /// Makes the transitive closure, and tells whether it pairs two nodes.
+    fn closed(&mut self, a: u32, b: u32) -> Result<bool, AllocError>;
+
     /// The nodes in stages, each node behind its parents.
     fn stages(&self, alloc: Global) -> Result<Vec<Vec<NodeIndex<u32>>>, AllocError>;
 }
@@ -229,6 +232,11 @@ impl<S: Store<u32, NodeWeight = i64, EdgeWeight = i64>> Graph for Acyclic<i64, i
 
     fn reduce(&mut self, roots: Vec<NodeIndex<u32>>) -> Result<(), AllocError> {
         self.transitive_reduce(roots)
+    }
+
+    fn closed(&mut self, a: u32, b: u32) -> Result<bool, AllocError> {
+        let closure = self.transitive_closure()?;
+        Ok(closure.has(node(a), node(b)))
     }
 
     fn stages(&self, alloc: Global) -> Result<Vec<Vec<NodeIndex<u32>>>, AllocError> {

@@ -99,6 +99,58 @@ pub fn mixed_pairs(alloc: Global, sizes: Sizes) -> Result<Pairs, AllocError> {
     Ok(pairs)
 }
 
+/// Edges that lead at most 50 nodes on.
+pub fn local_pairs(alloc: Global, sizes: Sizes) -> Result<Pairs, AllocError> {
+    let mut random = Random::new(1);
+    let mut pairs = Vec::new(alloc);
+    if sizes.nodes < 2 {
+        return Ok(pairs);
+    }
+    let last = sizes.nodes - 1;
+    for _ in 0..sizes.edges {
+        let parent = random.below(last);
+        let span = last.saturating_sub(parent).clamp(1, 50);
+        let child = parent.saturating_add(1).saturating_add(random.below(span));
+        pairs.push((parent, child))?;
+    }
+    Ok(pairs)
+}
+
+/// An edge from each node to the next.
+pub fn chain_pairs(alloc: Global, sizes: Sizes) -> Result<Pairs, AllocError> {
+    let mut pairs = Vec::new(alloc);
+    for child in 1..sizes.nodes {
+        pairs.push((child - 1, child))?;
+    }
+    Ok(pairs)
+}
+
+/// An edge from each node to all later ones.
+pub fn complete_pairs(alloc: Global, sizes: Sizes) -> Result<Pairs, AllocError> {
+    let mut pairs = Vec::new(alloc);
+    for child in 1..sizes.nodes {
+        for parent in 0..child {
+            pairs.push((parent, child))?;
+        }
+    }
+    Ok(pairs)
+}
+
+/// Diamonds of four nodes one after another, each beginning where the one before ends.
+pub fn diamond_pairs(alloc: Global, sizes: Sizes) -> Result<Pairs, AllocError> {
+    let mut pairs = Vec::new(alloc);
+    for k in 0..sizes.nodes.saturating_sub(1) / 3 {
+        let top = k.saturating_mul(3);
+        let (left, right) = (top.saturating_add(1), top.saturating_add(2));
+        let bottom = top.saturating_add(3);
+        pairs.push((top, left))?;
+        pairs.push((top, right))?;
+        pairs.push((left, bottom))?;
+        pairs.push((right, bottom))?;
+    }
+    Ok(pairs)
+}
+
 /// How many layers there are, and how many nodes each has.
 #[derive(Clone, Copy)]
 pub struct Layers {

@@ -2,11 +2,36 @@
 use crate::builds::build;
 use crate::figures::{Figures, median, since};
 use crate::graph::{Kind, node};
-use crate::inputs::{Layers, Sizes, layered_pairs, low_high_pairs};
+use crate::inputs::{
+    Layers, Pairs, Sizes, chain_pairs, complete_pairs, diamond_pairs, layered_pairs, local_pairs,
+    low_high_pairs,
+};
 use daggy::NodeIndex;
 use std::alloc::{AllocError, Global};
 use std::io;
 use std::rt::CpuClock;
+
+/// What a dag that is reduced below all its nodes is like.
+#[derive(Clone, Copy)]
+pub enum Shape {
+    Random,
+    Local,
+    Chain,
+    Complete,
+    Diamonds,
+}
+
+impl Shape {
+    fn pairs(self, alloc: Global, sizes: Sizes) -> Result<Pairs, AllocError> {
+        match self {
+            Shape::Random => low_high_pairs(alloc, sizes),
+            Shape::Local => local_pairs(alloc, sizes),
+            Shape::Chain => chain_pairs(alloc, sizes),
+            Shape::Complete => complete_pairs(alloc, sizes),
+            Shape::Diamonds => diamond_pairs(alloc, sizes),
+        }
+    }
+}
 
 // The first nodes.
 fn first_nodes(alloc: Global, count: u32) -> Result<Vec<NodeIndex<u32>>, AllocError> {
@@ -53,11 +78,26 @@ pub fn reduce_layers<G: Kind, R: AllocGlobal + CpuClock>(
     reduce::<G, R>(rt, sizes, pairs.as_slice(), layers.width)
 }
 
-/// Reducing a random dag below all its nodes.
-pub fn reduce_random<G: Kind, R: AllocGlobal + CpuClock>(
+/// Reducing a dag below all its nodes.
+pub fn reduce_all<G: Kind, R: AllocGlobal + CpuClock>(
     rt: &R,
+    shape: Shape,
     sizes: Sizes,
 ) -> io::Result<Figures> {
-    let pairs = low_high_pairs(rt.alloc(), sizes)?;
+    let pairs = shape.pairs(rt.alloc(), sizes)?;
     reduce::<G, R>(rt, sizes, pairs.as_slice(), sizes.nodes)
+}
+
+/// Closing a random dag.
+pub fn close<G: Kind, R: AllocGlobal + CpuClock>(rt: &R, sizes: Sizes) -> io::Result<Figures> {
+    let pairs = low_high_pairs(rt.alloc(), sizes)?;
+    let built = build::<G>(rt.alloc(), sizes.nodes, pairs.as_slice())?;
+    median(rt.alloc(), sizes.reps, || {
+        let mut dag = built.copy()?;
+        let start = rt.process_cpu_time()?;
+        let last = dag.closed(0, sizes.nodes.saturating_sub(1))?;
+        let time = since(rt, start)?;
+        let check = u64::from(last);
+        Ok(Figures { time, check })
+    })
 }

@@ -9,7 +9,7 @@ use crate::graph::Kind;
 use crate::inputs::Sizes;
 use crate::plans::plan_stages;
 use crate::readings::{Reading, copy, map_weights, read};
-use crate::reductions::{reduce_layers, reduce_random};
+use crate::reductions::{Shape, close, reduce_all, reduce_layers};
 use crate::removals::{Part, remove};
 use crate::small::{Life, many};
 use daggy::{Dag, StableDag};
@@ -34,7 +34,8 @@ pub enum Workload {
     Copy,
     Remove(Part),
     ReduceLayers,
-    ReduceRandom,
+    Reduce(Shape),
+    Close,
     Churn,
     Plan,
     JsonWrite,
@@ -65,7 +66,12 @@ impl Workload {
             "remove_nodes" => Some(Workload::Remove(Part::Nodes)),
             "remove_edges" => Some(Workload::Remove(Part::Edges)),
             "reduce" => Some(Workload::ReduceLayers),
-            "reduce_random" => Some(Workload::ReduceRandom),
+            "reduce_random" => Some(Workload::Reduce(Shape::Random)),
+            "reduce_local" => Some(Workload::Reduce(Shape::Local)),
+            "reduce_chain" => Some(Workload::Reduce(Shape::Chain)),
+            "reduce_complete" => Some(Workload::Reduce(Shape::Complete)),
+            "reduce_diamonds" => Some(Workload::Reduce(Shape::Diamonds)),
+            "close" => Some(Workload::Close),
             "churn" => Some(Workload::Churn),
             "plan" => Some(Workload::Plan),
             "json_write" => Some(Workload::JsonWrite),
@@ -105,7 +111,8 @@ impl Workload {
             Workload::Copy => copy::<G, R>(rt, sizes),
             Workload::Remove(part) => remove::<G, R>(rt, part, sizes),
             Workload::ReduceLayers => reduce_layers::<G, R>(rt, sizes),
-            Workload::ReduceRandom => reduce_random::<G, R>(rt, sizes),
+            Workload::Reduce(shape) => reduce_all::<G, R>(rt, shape, sizes),
+            Workload::Close => close::<G, R>(rt, sizes),
             Workload::Churn => come_and_go::<G, R>(rt, sizes),
             Workload::Plan => plan_stages::<G, R>(rt, sizes),
             Workload::JsonWrite => json_write::<G, R>(rt, sizes),
