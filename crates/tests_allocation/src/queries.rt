@@ -13,6 +13,7 @@ enum Question {
     Descendants,
     Ancestors,
     PathFromRoot,
+    PairedWithRoot,
 }
 
 // How many nodes the answer has.
@@ -26,6 +27,10 @@ fn ask<S: Kind>(dag: &mut Plain<S>, question: Question, n: NodeIndex) -> Result<
             Some(path) => path,
             None => return Ok(0),
         },
+        Question::PairedWithRoot => {
+            let closure = dag.transitive_closure()?;
+            return Ok(usize::from(closure.has(NodeIndex::new(0), n)));
+        }
     };
     Ok(found.len())
 }
@@ -53,7 +58,7 @@ fn ask_again<S: Kind>(
 }
 
 /// What depends on the root of a small fan, on what its last child depends, and a path between
-/// the two.
+/// the two, and whether the closure pairs them.
 pub fn queries<S: Kind>(rt: &impl Abort, alloc: Global, refused: &mut bool) {
     let mut dag: Plain<S> = small_fan(rt, alloc, refused);
     let nodes = dag.node_count();
@@ -63,4 +68,5 @@ pub fn queries<S: Kind>(rt: &impl Abort, alloc: Global, refused: &mut bool) {
     ask_again(rt, &mut dag, Question::Descendants, root, others, refused);
     ask_again(rt, &mut dag, Question::Ancestors, last, 1, refused);
     ask_again(rt, &mut dag, Question::PathFromRoot, last, 2, refused);
+    ask_again(rt, &mut dag, Question::PairedWithRoot, last, 1, refused);
 }

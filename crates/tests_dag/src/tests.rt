@@ -4,6 +4,7 @@
 mod acts;
 mod adding;
 mod asking;
+mod closing;
 mod compact;
 mod comparing;
 mod converting;
