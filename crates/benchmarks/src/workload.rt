@@ -1,7 +1,7 @@
 //! What is timed, by name.
 use crate::builds::{Input, add_child_tree, add_edges, timed_build};
 use crate::churn::come_and_go;
-use crate::documents::{json_read, json_write};
+use crate::documents::{json_read, json_stream, json_write};
 use crate::figures::Figures;
 use crate::graph::Kind;
 use crate::inputs::Sizes;
@@ -32,6 +32,7 @@ pub enum Workload {
     Churn,
     Plan,
     JsonWrite,
+    JsonStream,
     JsonRead,
 }
 
@@ -58,6 +59,7 @@ impl Workload {
             "churn" => Some(Workload::Churn),
             "plan" => Some(Workload::Plan),
             "json_write" => Some(Workload::JsonWrite),
+            "json_stream" => Some(Workload::JsonStream),
             "json_read" => Some(Workload::JsonRead),
             _ => None,
         }
@@ -95,6 +97,7 @@ impl Workload {
             Workload::Churn => come_and_go::<G, R>(rt, sizes.nodes),
             Workload::Plan => plan_stages::<G, R>(rt, sizes),
             Workload::JsonWrite => json_write::<G, R>(rt, sizes),
+            Workload::JsonStream => json_stream::<G, R>(rt, sizes),
             Workload::JsonRead => json_read::<G, R>(rt, sizes),
         }
     }
