@@ -1,5 +1,5 @@
 //! The document of a graph, written token by token.
-ghost use Rattle.std.specs.Prelude.{map, take};
+ghost use Rattle.std.specs.Prelude.{◌≤◌, IsTrue, map, take};
 ghost use Rattle.daggy_base.specs.Graph.{edge_at, edge_bound, list_at};
 ghost use Rattle.daggy_base.specs.Iterating.{node_identifiers, node_weights};
 ghost use Rattle.daggy_json.specs.Document.{whole, listed, wholes, holes_of, row_of};
@@ -16,6 +16,9 @@ use json::Token;
 use serde_json::Value;
 use std::alloc::AllocError;
 use std::io::Write;
+
+/// The number of nodes whose lists are walked along at once.
+const AHEAD: usize = 16;
 
 // The entry of an edge slot.
 fn stream_entry<
@@ -142,6 +145,42 @@ fn stream_row<W: Write, Ix: IndexType, S: Store<Ix>>(
     out.token(Token::EndArray);
 }
 
+// Walks along a list of a node. The answer is always true.
+#[inline]
+fn touch_list<Ix: IndexType, S: Store<Ix>>(store: &S, n: NodeIndex<Ix>, dir: Direction) -> bool
+    ensures { IsTrue result }
+{
+    store.invariant();
+    let end = EdgeIndex::<Ix>::end().index();
+    let mut e = store.first_edge(n, dir);
+    'edges: while e.index() != end {
+        if !store.contains_edge(e) {
+            return false;
+        }
+        e = store.next_edge(e, dir);
+    }
+    true
+}
+
+// Walks along the lists of the nodes from `from` up to `to`. The answer is always true.
+//
+// This is a prefetch. A walk along one list waits for each edge before the next; here the walks
+// along many lists overlap. The compiler does not know the answer, so it keeps them.
+fn touch_lists<Ix: IndexType, S: Store<Ix>>(store: &S, from: usize, to: usize) -> bool
+    requires { to ≤ Ix.greatest }
+    ensures { IsTrue result }
+{
+    for i in from..to {
+        let n = NodeIndex::new(i);
+        if !touch_list(store, n, Direction::Outgoing)
+            || !touch_list(store, n, Direction::Incoming)
+        {
+            return false;
+        }
+    }
+    true
+}
+
 // The lists of the nodes, by ascending index.
 fn stream_orders<W: Write, Ix: IndexType, S: Store<Ix>>(store: &S, out: &mut TextWriter<'_, W>)
     ensures { Writes W.contents out.old out.new (AreTokensOf
@@ -151,6 +190,10 @@ fn stream_orders<W: Write, Ix: IndexType, S: Store<Ix>>(store: &S, out: &mut Tex
     out.token(Token::BeginArray);
     let mut i = 0;
     'nodes: while i < bound {
+        // Never taken: this is a prefetch.
+        if i % AHEAD == 0 && !touch_lists(store, i, bound.min(i.saturating_add(AHEAD))) {
+            return;
+        }
         let n = NodeIndex::new(i);
         if store.contains_node(n) {
             stream_row(store, n, out);

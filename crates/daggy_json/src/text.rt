@@ -148,6 +148,15 @@ impl<'a, W: Write> TextWriter<'a, W> {
         }
     }
 
+    #[inline]
+    fn put_byte(&mut self, byte: u8)
+        ensures { Puts W.contents self.old self.new (byte ∷ []) }
+    {
+        if self.block.try_push(byte).is_err() {
+            self.put_beyond(&[byte]);
+        }
+    }
+
     // Writes bytes that do not fit into the block.
     #[cold]
     fn put_beyond(&mut self, bytes: &[u8])
@@ -170,18 +179,18 @@ impl<'a, W: Write> TextWriter<'a, W> {
             let (high, low) = (hex_digit(byte / 16), hex_digit(byte % 16));
             self.put(&[b'\\', b'u', b'0', b'0', high, low]);
         } else {
-            self.put(&[byte]);
+            self.put_byte(byte);
         }
     }
 
     fn put_quoted(&mut self, text: &str)
         ensures { Puts W.contents self.old self.new (quoted text.now) }
     {
-        self.put(b"\"");
+        self.put_byte(b'"');
         for byte in text.as_bytes() {
             self.put_escaped(*byte);
         }
-        self.put(b"\"");
+        self.put_byte(b'"');
     }
 
     // The comma before a token, if a value came before it.
@@ -191,7 +200,7 @@ impl<'a, W: Write> TextWriter<'a, W> {
             (separator self.old.after_value (token_of token.entry)) }
     {
         if self.after_value && begins(token) {
-            self.put(b",");
+            self.put_byte(b',');
         }
     }
 
@@ -202,13 +211,13 @@ impl<'a, W: Write> TextWriter<'a, W> {
         ensures { Puts W.contents self.old self.new (token_text (token_of token.entry)) }
     {
         match token {
-            Token::BeginObject => self.put(b"{"),
-            Token::EndObject => self.put(b"}"),
-            Token::BeginArray => self.put(b"["),
-            Token::EndArray => self.put(b"]"),
+            Token::BeginObject => self.put_byte(b'{'),
+            Token::EndObject => self.put_byte(b'}'),
+            Token::BeginArray => self.put_byte(b'['),
+            Token::EndArray => self.put_byte(b']'),
             Token::Key(name) => {
                 self.put_quoted(name);
-                self.put(b":");
+                self.put_byte(b':');
             }
             Token::String(text) => self.put_quoted(text),
             Token::Number(text) => self.put(text.as_bytes()),

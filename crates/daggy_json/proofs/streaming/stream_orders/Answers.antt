@@ -1,6 +1,7 @@
 use Rattle.std.proofs.Common.{ℕ, ◌+◌, List, map, take, ap, sym, subst, ◌∙◌, arith}
 use Rattle.std.proofs.lemmas.Bool.{false≢true}
 use Rattle.json.specs.Token.{Token}
+use Rattle.daggy_base.proofs.PathsWithNode.{bound_low}
 use Rattle.daggy_base.specs.Iterating.{numbered, node_identifiers}
 use Rattle.daggy_json.specs.Document.{row_of}
 use Rattle.daggy_json.specs.Passing.{Writes, AreTokensOf}
@@ -10,6 +11,16 @@ use Rattle.daggy_json.proofs.TokenTrees.{Each}
 use Rattle.daggy_json.proofs.WrittenTokens.{slot_filled, slot_vacant, writes_more, writes_array_of}
 use Rattle.daggy_json.proofs.streaming.stream_orders.Goals as goal
 use Rattle.daggy_json.proofs.streaming.stream_orders.Goals.{then-contains_node, else-contains_node}
+
+pub touch_lists-requires : goal.touch_lists-requires
+touch_lists-requires g c =
+    omega (
+      arith,
+      c.min.ensures,
+      bound_low (g.S.EdgeSource.graph c.args.store.now).nodes,
+      c.node_bound-bound.ensures.value,
+      c.node_bound-bound.ensures.well_formed.few_nodes,
+    )
 
 pub new-n-requires : goal.new-n-requires
 new-n-requires g c =

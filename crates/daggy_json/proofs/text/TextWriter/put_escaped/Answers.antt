@@ -19,4 +19,4 @@ pub returns-else-byte-lt32 : goal.returns-else-byte-lt32
 unfolding escape_byte
 returns-else-byte-lt32 g c =
     let is : c.args.byte ∷ [] ≡ escape_byte c.args.byte = search rules in
-    subst (λ l. Puts g.W.Write.contents c.args.self.now c.put-else-byte-lt32.new.self l) is c.put-else-byte-lt32.ensures
+    subst (λ l. Puts g.W.Write.contents c.args.self.now c.put_byte.new.self l) is c.put_byte.ensures

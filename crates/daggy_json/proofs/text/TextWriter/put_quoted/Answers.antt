@@ -31,5 +31,5 @@ returns g c =
     let whole : i.0 ++ 34 ∷ [] ≡ escape text ++ 34 ∷ [] =
     ap (λ l. i.0 ++ l) (sym (append-nil (34 ∷ [])) ∙ sym (escape_end text c.loop-byte.byte-index (34 ∷ []) (omega arith))) ∙ i.2 in
     let same : text ≡ c.args.text.now = c.as_bytes-byte-items.ensures.value in
-    subst (λ l. Puts g.W.Write.contents c.args.self.now c.put-2.new.self l)
-    (ap (λ l. 34 ∷ l) (whole ∙ ap (λ t. escape t ++ 34 ∷ []) same)) (puts_then c.put.ensures (puts_then i.1 c.put-2.ensures))
+    subst (λ l. Puts g.W.Write.contents c.args.self.now c.put_byte-2.new.self l)
+    (ap (λ l. 34 ∷ l) (whole ∙ ap (λ t. escape t ++ 34 ∷ []) same)) (puts_then c.put_byte.ensures (puts_then i.1 c.put_byte-2.ensures))
