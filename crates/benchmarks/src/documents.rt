@@ -29,6 +29,23 @@ pub fn json_write<G: Kind, R: AllocGlobal + CpuClock>(rt: &R, sizes: Sizes) -> i
     Ok(Figures { time, check })
 }
 
+/// Writing the text of a document.
+pub fn json_stream<G: Kind, R: AllocGlobal + CpuClock>(
+    rt: &R,
+    sizes: Sizes,
+) -> io::Result<Figures> {
+    let dag = sorted::<G>(rt.alloc(), sizes)?;
+    let mut text = Vec::new(rt.alloc());
+    let start = rt.process_cpu_time()?;
+    dag.write_document(&mut text)?;
+    let seconds = since(rt, start)?;
+    let mut check = 0u64;
+    for byte in &text {
+        check = mixed(check, u64::from(*byte));
+    }
+    Ok(Figures { seconds, check })
+}
+
 /// Reading the document of a dag.
 pub fn json_read<G: Kind, R: AllocGlobal + CpuClock>(rt: &R, sizes: Sizes) -> io::Result<Figures> {
     let dag = sorted::<G>(rt.alloc(), sizes)?;

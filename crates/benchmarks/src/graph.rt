@@ -1,5 +1,7 @@
 //! What the workloads ask of a dag.
-use daggy::json::{dag_from_json, dag_to_json, stable_from_json, stable_to_json};
+use daggy::json::{
+    StreamError, dag_from_json, dag_to_json, stable_from_json, stable_to_json, write_json,
+};
 use daggy::run::{Plan, plan};
 use daggy::walker::{Filter, Take};
 use daggy::{Dag, EdgeIndex, NodeIndex, StableDag, Walker};
@@ -7,6 +9,7 @@ use daggy_base::store::Store;
 use daggy_dag::acyclic::Acyclic;
 use serde_json::Value;
 use std::alloc::{AllocError, Global};
+use std::io::{self, ErrorKind, Write};
 
 /// A dag with whole numbers as weights, whose nodes and edges are named by plain numbers.
 pub trait Graph: Drop {
@@ -73,6 +76,9 @@ pub trait Kind: Graph {
     /// The JSON value of the dag.
     fn document(&self, alloc: Global) -> Result<Value, AllocError>;
 
+    /// Writes the text of that value.
+    fn write_document<W: Write>(&self, out: &mut W) -> io::Result<()>;
+
     /// The dag that a value is read as. The error says that it was refused.
     fn of_document(alloc: Global, document: &Value) -> Result<Self, AllocError>;
 }
@@ -108,6 +114,17 @@ fn edge_number(id: usize, source: usize, target: usize, weight: i64) -> u64 {
 // A weight as a document has it.
 fn written(weight: &i64) -> Result<Value, AllocError> {
     Ok(Value::from(*weight))
+}
+
+fn stream<S: Store<u32, NodeWeight = i64, EdgeWeight = i64>, W: Write>(
+    dag: &Acyclic<i64, i64, u32, S>,
+    out: &mut W,
+) -> io::Result<()> {
+    match write_json(dag, out, written, written) {
+        Ok(()) => Ok(()),
+        Err(StreamError::Io(error)) => Err(error),
+        Err(StreamError::Memory) => Err(io::Error::from(ErrorKind::OutOfMemory)),
+    }
 }
 
 // The weight that a value of a document is.
@@ -278,6 +295,10 @@ impl Kind for Dag<i64, i64, u32> {
         }
     }
 
+    fn write_document<W: Write>(&self, out: &mut W) -> io::Result<()> {
+        stream(self, out)
+    }
+
     fn of_document(alloc: Global, document: &Value) -> Result<Self, AllocError> {
         match dag_from_json(alloc, document, weight_in, weight_in) {
             Ok(dag) => Ok(dag),
@@ -317,6 +338,10 @@ impl Kind for StableDag<i64, i64, u32> {
             Ok(document) => Ok(document),
             Err(_) => Err(AllocError),
         }
+    }
+
+    fn write_document<W: Write>(&self, out: &mut W) -> io::Result<()> {
+        stream(self, out)
     }
 
     fn of_document(alloc: Global, document: &Value) -> Result<Self, AllocError> {

@@ -3,7 +3,7 @@ use crate::builds::{
     Input, Older, add_child_tree, add_edges, build_backward, timed_build, update_edges,
 };
 use crate::churn::come_and_go;
-use crate::documents::{json_read, json_write};
+use crate::documents::{json_read, json_stream, json_write};
 use crate::figures::Figures;
 use crate::graph::Kind;
 use crate::inputs::Sizes;
@@ -39,6 +39,7 @@ pub enum Workload {
     Churn,
     Plan,
     JsonWrite,
+    JsonStream,
     JsonRead,
 }
 
@@ -75,6 +76,7 @@ impl Workload {
             "churn" => Some(Workload::Churn),
             "plan" => Some(Workload::Plan),
             "json_write" => Some(Workload::JsonWrite),
+            "json_stream" => Some(Workload::JsonStream),
             "json_read" => Some(Workload::JsonRead),
             _ => None,
         }
@@ -116,6 +118,7 @@ impl Workload {
             Workload::Churn => come_and_go::<G, R>(rt, sizes),
             Workload::Plan => plan_stages::<G, R>(rt, sizes),
             Workload::JsonWrite => json_write::<G, R>(rt, sizes),
+            Workload::JsonStream => json_stream::<G, R>(rt, sizes),
             Workload::JsonRead => json_read::<G, R>(rt, sizes),
         }
     }

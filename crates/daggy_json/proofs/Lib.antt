@@ -1,6 +1,14 @@
+pub mod PassedBytes
+pub mod PassedTokens
+pub mod TokenTrees
+pub mod ValueTokens
 pub mod NumberedSlots
+pub mod ListCursors
 pub mod WrittenLists
 pub mod Parts
+pub mod WrittenTokens
+pub mod WrittenDocuments
+pub mod StreamedDocuments
 pub mod FoundParts
 pub mod Stages
 pub mod PlacedSlots

@@ -1,6 +1,7 @@
 -- Slots that are gone through one by one, up to the bound.
 use Rattle.std.proofs.Common.{◌≡◌, ℕ, zero, suc, ◌+◌, ◌<◌, Option, Some, None, is_some, true, false, List, [], ◌∷◌}
-use Rattle.std.proofs.Common.{◌++◌, length, take, refl, sym, ap, add-zero, zero-add, add-one, arith}
+use Rattle.std.proofs.Common.{◌++◌, length, map, take, refl, sym, ap, ◌∙◌, add-zero, zero-add, add-one, arith}
+use Rattle.std.proofs.lemmas.List.{map-append}
 use Rattle.std.proofs.lemmas.Bool.{false≢true}
 use Rattle.daggy_base.specs.Graph.{slot, bound_of, bound_step}
 use Rattle.daggy_base.specs.Iterating.{numbered}
@@ -47,3 +48,24 @@ vacant_passes n xs low e = rw (add-one n) (rw (zero-add n) at (vacant_none 0 n x
 pub vacant_skips : {A : Type 0} (n : ℕ) (xs : List (Option A))
     → is_some (slot xs n) ≡ true → vacant_from 0 (take (n + 1) xs) ≡ vacant_from 0 (take n xs)
 vacant_skips n xs e = rw (add-one n) (vacant_some 0 n xs e)
+
+-- ---- the numbers, and what is in the slots
+
+pub numbers_pass : {A : Type 0} (n : ℕ) (xs : List (Option A)) (x : A) → slot xs n ≡ Some x
+    → map (λ p. p.0) (numbered 0 (take (n + 1) xs)) ≡ map (λ p. p.0) (numbered 0 (take n xs)) ++ n ∷ []
+numbers_pass n xs x some =
+    ap (map (λ p. p.0)) (numbered_passes n xs x some) ∙ map-append (λ p. p.0) (numbered 0 (take n xs)) ((n, x) ∷ [])
+
+pub contents_pass : {A : Type 0} (n : ℕ) (xs : List (Option A)) (x : A) → slot xs n ≡ Some x
+    → map (λ p. p.1) (numbered 0 (take (n + 1) xs)) ≡ map (λ p. p.1) (numbered 0 (take n xs)) ++ x ∷ []
+contents_pass n xs x some =
+    ap (map (λ p. p.1)) (numbered_passes n xs x some) ∙ map-append (λ p. p.1) (numbered 0 (take n xs)) ((n, x) ∷ [])
+
+slots_more : {A : Type 0} (n : ℕ) (xs : List (Option A)) → n < length xs → take (suc n) xs ≡ take n xs ++ slot xs n ∷ []
+slots_more n [] low = absurd (omega arith)
+slots_more zero (x ∷ xs) low = refl
+slots_more (suc n) (x ∷ xs) low = ap (λ l. x ∷ l) (slots_more n xs (omega arith))
+
+pub slots_pass : {A : Type 0} (n : ℕ) (xs : List (Option A)) → n < length xs
+    → take (n + 1) xs ≡ take n xs ++ slot xs n ∷ []
+slots_pass n xs low = rw (add-one n) (slots_more n xs low)

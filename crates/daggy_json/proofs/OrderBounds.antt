@@ -10,10 +10,10 @@ use Rattle.std.proofs.lemmas.List.{length-map}
 use Rattle.serde_json.specs.Data.{Data}
 use Rattle.daggy_base.specs.declared.index.Direction.{Direction}
 use Rattle.daggy_base.specs.declared.index.Direction.TheVariants.{Outgoing, Incoming}
-use Rattle.daggy_base.specs.Graph.{Edge, slot, list_at}
+use Rattle.daggy_base.specs.Graph.{Edge, slot}
 use Rattle.daggy_base.specs.FromSlots.{graph_of_slots}
 use Rattle.daggy_base.proofs.Lists.{Contains-here, Contains-there}
-use Rattle.daggy_base.specs.Orders.{lists_by_slots, with_orders, AreOrders}
+use Rattle.daggy_base.specs.Orders.{lists_by_slots, AreOrders}
 use Rattle.daggy_json.specs.Reading.{whole_in, all_in, array_in, numbers_in, pair, pair_in, orders_in}
 use Rattle.daggy_json.specs.Found.{index_in, indices_in, row, row_in, rows_in, chosen}
 use Rattle.daggy_json.proofs.MarkedLists.{count_none, count_some, slot_within}

@@ -3,3 +3,5 @@ pub mod Weight
 pub mod Reading
 pub mod Found
 pub mod Restoring
+pub mod Streaming
+pub mod Passing

@@ -1,5 +1,5 @@
 //! Dags of both kinds, written as JSON values and read from them.
-ghost use Rattle.std.specs.Prelude.{◌≡◌, ◌⊎◌, Ok, Err, IfOk, IfErr, MatchResult};
+ghost use Rattle.std.specs.Prelude.{◌≡◌, ◌⊎◌, Ok, Err, IfOk, OnOk, IfErr, MatchResult};
 ghost use Rattle.serde_json.specs.Data.{Data};
 ghost use Rattle.serde_json.specs.View.{view};
 ghost use Rattle.daggy_base.specs.Graph.{Graph, IsCompact};
@@ -10,16 +10,20 @@ ghost use Rattle.daggy_json.specs.Weight.{WritesAs, ReadsAs};
 ghost use Rattle.daggy_json.specs.Reading.{IsRead};
 ghost use Rattle.daggy_json.specs.Restoring.{ReadsOnly, trimmed, IsCopyAs, ReadsTo};
 ghost use Rattle.daggy_json.specs.Restoring.{HasRefused, HasValues};
+ghost use Rattle.daggy_json.specs.Streaming.{HasDocument, HasFront, OrNull};
 ghost use Rattle.daggy_json.specs.declared.error.ReadError.TheVariants.{Memory, Weight};
 
-use crate::error::{ReadError, WriteError};
+use crate::error::{ReadError, StreamError, WriteError};
 use crate::making::read;
+use crate::streaming::stream_document;
+use crate::text::TextWriter;
 use crate::writing::write_document;
 use daggy_base::index::IndexType;
 use daggy_base::store::Store;
 use daggy_dag::acyclic::{Acyclic, Dag, StableDag};
 use serde_json::Value;
 use std::alloc::{AllocError, Global};
+use std::io::Write;
 
 // The document of a dag of either kind.
 fn write<
@@ -94,6 +98,63 @@ pub fn stable_to_json<
         dag.now.graph (view v)) }
 {
     write(alloc, dag, &fn_node, &fn_edge)
+}
+
+/// Writes the document of a dag of either kind to a writer, as compact text: the bytes that
+/// [`dag_to_json`] and `Value::to_vec` make, without the value. It does not allocate, and does not
+/// flush the writer.
+///
+/// `fn_node` encodes the weight of a node, and `fn_edge` that of an edge.
+///
+/// # Errors
+///
+/// Returns `Memory` if one of these functions fails, otherwise `Io` with the writer's error. Then
+/// a front of the text was written.
+///
+/// # Complexity
+///
+/// O(nodes + edges), plus the calls. After an error the writer is not called again, but the rest of
+/// the dag is still gone through.
+///
+/// # Examples
+///
+/// ```
+/// let mut dag: Dag<u32, u32> = Dag::new(rt.alloc());
+/// let sow = dag.add_node(1)?;
+/// let _ = dag.add_child(sow, 90, 2)?;
+/// let mut text = Vec::new(rt.alloc());
+/// write_json(
+///     &dag,
+///     &mut text,
+///     |n| Ok(Value::from(*n)),
+///     |e| Ok(Value::from(*e)),
+/// )?;
+/// assert!(rt; text.starts_with(b"{\"edge_property\":\"directed\",\"edges\":[[0,1,90]],"));
+/// ```
+pub fn write_json<
+    W: Write,
+    N: Drop,
+    E: Drop,
+    Ix: IndexType,
+    S: Store<Ix, NodeWeight = N, EdgeWeight = E>,
+    F: Fn(&N) -> Result<Value, AllocError> + Drop,
+    G: Fn(&E) -> Result<Value, AllocError> + Drop,
+>(dag: &Acyclic<N, E, Ix, S>, writer: &mut W, fn_node: F, fn_edge: G) -> Result<(), StreamError>
+    requires nodes { F.IsAlwaysCallable fn_node }
+    requires edges { G.IsAlwaysCallable fn_edge }
+    ensures document { OnOk result (HasDocument (WritesAs F.Fn fn_node) (WritesAs G.Fn fn_edge)
+        dag.now.graph (W.contents writer.old) (W.contents writer.new)) }
+    ensures fault { IfErr result (λ e. ¬ (e ≡ StreamError.Memory)
+        → HasFront (WritesAs F.Fn fn_node) (WritesAs G.Fn fn_edge)
+        dag.now.graph (W.contents writer.old) (W.contents writer.new)) }
+    // After the failure null may stand for a weight.
+    ensures memory { result ≡ Err StreamError.Memory
+        → HasFront (OrNull (WritesAs F.Fn fn_node)) (OrNull (WritesAs G.Fn fn_edge))
+        dag.now.graph (W.contents writer.old) (W.contents writer.new) }
+{
+    let mut out = TextWriter::new(writer);
+    stream_document(dag.graph(), &fn_node, &fn_edge, &mut out);
+    out.finish()
 }
 
 /// The dag that a value is read as: an object as [`dag_to_json`] returns it. Other members are

@@ -4,6 +4,7 @@ ghost use Rattle.daggy_json.specs.declared.error.WriteError.TheVariants.{Memory}
 ghost use Rattle.daggy_json.specs.declared.error.ReadError.TheVariants.{Memory as ReadMemory};
 
 use std::alloc::{AllocError, AllocFailed};
+use std::io;
 use thiserror::Error;
 
 /// Writing a document failed.
@@ -12,6 +13,17 @@ pub enum WriteError {
     /// Out of memory, here or in a function that encodes a weight.
     #[error("out of memory")]
     Memory,
+}
+
+/// Writing a document to a writer failed.
+#[derive(Debug, Drop, Error)]
+pub enum StreamError {
+    /// Out of memory in a function that encodes a weight.
+    #[error("out of memory")]
+    Memory,
+    /// The writer failed.
+    #[error("{0}")]
+    Io(io::Error),
 }
 
 /// Reading a document failed. The error is the first fault, in the order of the variants; edge

@@ -6,4 +6,7 @@ pub mod documents;
 pub mod error;
 mod making;
 pub mod reading;
+mod streaming;
+mod text;
+mod values;
 pub mod writing;

@@ -2,6 +2,7 @@
 
 mod random;
 mod reading;
+mod streaming;
 mod support;
 mod texts;
 mod writing;

@@ -1,10 +1,12 @@
 //! The examples in the docs of the dag's calls. `.ci/checks/examples.sh` compares the texts.
 
 use daggy::dot::Dot;
+use daggy::json::write_json;
 use daggy::named::{DependError, Named};
 use daggy::schedule::{Ready, Schedule, schedule_on, topological_order_by};
 use daggy::traversal::{Bfs, Dfs, DfsPostOrder};
 use daggy::{Dag, Direction, EdgeError, StableDag, Walker, WouldCycle};
+use serde_json::Value;
 use std::num::NonZeroUsize;
 use std::test::Fail;
 
@@ -310,5 +312,21 @@ fn postorder(rt: HostRuntime) -> Result<(), Fail> {
     assert!(rt; walk.next(dag.graph()) == Some(water));
     assert!(rt; walk.next(dag.graph()) == Some(sow));
     assert!(rt; walk.next(dag.graph()).is_none());
+    Ok(())
+}
+
+#[test]
+fn document_text(rt: HostRuntime) -> Result<(), Fail> {
+    let mut dag: Dag<u32, u32> = Dag::new(rt.alloc());
+    let sow = dag.add_node(1)?;
+    let _ = dag.add_child(sow, 90, 2)?;
+    let mut text = Vec::new(rt.alloc());
+    write_json(
+        &dag,
+        &mut text,
+        |n| Ok(Value::from(*n)),
+        |e| Ok(Value::from(*e)),
+    )?;
+    assert!(rt; text.starts_with(b"{\"edge_property\":\"directed\",\"edges\":[[0,1,90]],"));
     Ok(())
 }

@@ -2,8 +2,12 @@
 //! texts.
 
 use daggy::dot::Dot;
+use daggy::json::write_json;
 use daggy::run::plan;
 use daggy::{Dag, StableDag, Walker};
+use serde_json::Value;
+use std::alloc::AllocError;
+use std::io::{BufWriter, Write};
 use std::test::Fail;
 
 #[test]
@@ -112,5 +116,21 @@ fn picture_of_a_plan(rt: HostRuntime) -> Result<(), Fail> {
         .bold(plan.chain.as_slice());
     let picture = format!(in rt.alloc(); "{dot}")?;
     assert!(rt; picture.as_str().contains("{ rank = same; 0; }"));
+    Ok(())
+}
+
+fn encoded(text: &String) -> Result<Value, AllocError> {
+    Ok(Value::String(text.clone()?))
+}
+
+#[test]
+fn document_to_a_file(rt: HostRuntime) -> Result<(), Fail> {
+    let mut dag: Dag<String, String> = Dag::new(rt.alloc());
+    let _ = dag.add_node(String::from_str(rt.alloc(), "sow")?)?;
+    let file = Vec::new(rt.alloc());
+    let mut out = BufWriter::new(rt.alloc(), file)?;
+    write_json(&dag, &mut out, encoded, encoded)?;
+    out.flush()?;
+    assert!(rt; out.get_ref().starts_with(b"{\"edge_property\":"));
     Ok(())
 }

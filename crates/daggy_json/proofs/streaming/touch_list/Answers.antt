@@ -1,0 +1,29 @@
+use Rattle.std.proofs.Common.{◌≡◌, ◌≢◌, is_some, sym, ap, ◌∙◌, arith, ◌+◌}
+use Rattle.std.proofs.lemmas.Bool.{false≢true}
+use Rattle.daggy_json.proofs.ListCursors.{at_edge, at_next, at_closer}
+use Rattle.daggy_json.proofs.streaming.touch_list.Goals as goal
+
+pub edges-init : goal.edges-init
+edges-init g c = (0, record { within = omega arith; cursor = c.first_edge-e.ensures })
+
+pub next_edge-e-requires : goal.next_edge-e-requires
+next_edge-e-requires g c =
+    let here : g.Ix.IndexType.number c.edges.e ≢ g.Ix.IndexType.greatest = λ h. c.edges-test.true cc in
+    ap is_some (at_edge c.invariant.ensures.well_formed _ _ c.edges.invariant.1 here).1
+
+pub edges-smaller : goal.edges-smaller
+edges-smaller g c =
+    let here : g.Ix.IndexType.number c.edges.e ≢ g.Ix.IndexType.greatest = λ h. c.edges-test.true cc in
+    at_closer c.invariant.ensures.well_formed _ _ c.edges.invariant.1 here c.next_edge-e.ensures
+
+pub edges-preserved : goal.edges-preserved
+edges-preserved g c =
+    let here : g.Ix.IndexType.number c.edges.e ≢ g.Ix.IndexType.greatest = λ h. c.edges-test.true cc in
+    let i = c.edges.invariant in
+    (i.0 + 1, at_next c.invariant.ensures.well_formed _ _ i.1 here c.next_edge-e.ensures)
+
+pub returns-then-not-contains_edge : goal.returns-then-not-contains_edge
+returns-then-not-contains_edge g c =
+    let here : g.Ix.IndexType.number c.edges.e ≢ g.Ix.IndexType.greatest = λ h. c.edges-test.true cc in
+    let found = ap is_some (at_edge c.invariant.ensures.well_formed _ _ c.edges.invariant.1 here).1 in
+    absurd (false≢true (sym c.if-not-contains_edge.true ∙ c.contains_edge.ensures.1 found))
