@@ -13,9 +13,10 @@ enum Question {
     Descendants,
     Ancestors,
     PathFromRoot,
+    EdgesFromRoot,
 }
 
-// How many nodes the answer has.
+// How many nodes, or edges, the answer has.
 fn ask<S: Kind>(dag: &mut Plain<S>, question: Question, n: NodeIndex) -> Result<usize, AllocError> {
     let nodes = [n];
     let found = match question {
@@ -26,6 +27,10 @@ fn ask<S: Kind>(dag: &mut Plain<S>, question: Question, n: NodeIndex) -> Result<
             Some(path) => path,
             None => return Ok(0),
         },
+        Question::EdgesFromRoot => {
+            let edges = dag.path_edges(NodeIndex::new(0), n)?;
+            return Ok(edges.map_or(0, |edges| edges.len()));
+        }
     };
     Ok(found.len())
 }
@@ -63,4 +68,5 @@ pub fn queries<S: Kind>(rt: &impl Abort, alloc: Global, refused: &mut bool) {
     ask_again(rt, &mut dag, Question::Descendants, root, others, refused);
     ask_again(rt, &mut dag, Question::Ancestors, last, 1, refused);
     ask_again(rt, &mut dag, Question::PathFromRoot, last, 2, refused);
+    ask_again(rt, &mut dag, Question::EdgesFromRoot, last, 1, refused);
 }

@@ -14,6 +14,7 @@ mod kinds;
 mod large;
 mod many_edges;
 mod ordering;
+mod parents;
 mod reducing;
 mod removing;
 mod retaining;
