@@ -3,10 +3,12 @@
 //!
 //! At most one slot of a node and one of an edge are vacant, so the least free index comes next. A
 //! node weighs its index, and an edge 100 more than its own.
-use crate::observed::{counts, free_edge, free_node, is_fan, nth, state_of};
+use crate::observed::{counts, free_edge, free_node, is_fan, mix, nth, state_of};
 use crate::support::{Kind, Plain, holds, made, refuse, same};
 use daggy::index::Direction;
-use daggy::{ChildError, EdgeError, EdgeIndex, EdgeIndices, EdgesError, NodeError, NodeIndex};
+use daggy::{
+    ChildError, EdgeError, EdgeIndex, EdgeIndices, EdgesError, NodeError, NodeIndex, ParentsError,
+};
 use std::alloc::Global;
 use std::process::Abort;
 
@@ -179,6 +181,48 @@ fn come_back(rt: &impl Abort, last: usize, before: &[usize], edges: usize, gap: 
         k -= 1;
         same(rt, *weight, nth(gap, k) + 100);
     }
+}
+
+/// Replaces the edges that enter a node by one from the parent of each item.
+pub fn set_parents<S: Kind>(
+    rt: &impl Abort,
+    dag: &mut Plain<S>,
+    n: NodeIndex,
+    items: Vec<(NodeIndex, usize)>,
+) -> Result<(), ParentsError<usize>> {
+    assert!(rt; dag.contains_node(n));
+    assert!(rt; dag.contains_parents(items.as_slice()));
+    dag.set_parents(n, items)
+}
+
+/// The same, once more after a refusal. The items come back as they were.
+pub fn set_parents_again<S: Kind>(
+    rt: &impl Abort,
+    dag: &mut Plain<S>,
+    n: NodeIndex,
+    items: Vec<(NodeIndex, usize)>,
+    refused: &mut bool,
+) {
+    let (sum, before) = (sum_of(items.as_slice()), state_of(dag));
+    match set_parents(rt, dag, n, items) {
+        Ok(()) => {}
+        Err(ParentsError::Memory(items)) => {
+            refuse(rt, refused);
+            same(rt, sum_of(items.as_slice()), sum);
+            same(rt, state_of(dag), before);
+            made(rt, set_parents(rt, dag, n, items));
+        }
+        Err(_) => panic!(rt; "no other refusal has a cause"),
+    }
+}
+
+// A number of all items in their order.
+fn sum_of(items: &[(NodeIndex, usize)]) -> usize {
+    let mut sum = items.len();
+    for (n, weight) in items {
+        sum = mix(mix(sum, n.index()), *weight);
+    }
+    sum
 }
 
 fn extend<S: Kind>(

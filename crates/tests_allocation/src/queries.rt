@@ -13,10 +13,11 @@ enum Question {
     Descendants,
     Ancestors,
     PathFromRoot,
+    EdgesFromRoot,
     PairedWithRoot,
 }
 
-// How many nodes the answer has.
+// How many nodes, or edges, the answer has.
 fn ask<S: Kind>(dag: &mut Plain<S>, question: Question, n: NodeIndex) -> Result<usize, AllocError> {
     let nodes = [n];
     let found = match question {
@@ -27,6 +28,10 @@ fn ask<S: Kind>(dag: &mut Plain<S>, question: Question, n: NodeIndex) -> Result<
             Some(path) => path,
             None => return Ok(0),
         },
+        Question::EdgesFromRoot => {
+            let edges = dag.path_edges(NodeIndex::new(0), n)?;
+            return Ok(edges.map_or(0, |edges| edges.len()));
+        }
         Question::PairedWithRoot => {
             let closure = dag.transitive_closure()?;
             return Ok(usize::from(closure.has(NodeIndex::new(0), n)));
@@ -68,5 +73,6 @@ pub fn queries<S: Kind>(rt: &impl Abort, alloc: Global, refused: &mut bool) {
     ask_again(rt, &mut dag, Question::Descendants, root, others, refused);
     ask_again(rt, &mut dag, Question::Ancestors, last, 1, refused);
     ask_again(rt, &mut dag, Question::PathFromRoot, last, 2, refused);
+    ask_again(rt, &mut dag, Question::EdgesFromRoot, last, 1, refused);
     ask_again(rt, &mut dag, Question::PairedWithRoot, last, 1, refused);
 }

@@ -2,7 +2,7 @@
 //! node and one of an edge, which are taken first.
 use crate::again::{
     add_edges, add_edges_again, add_neighbor_again, add_node, add_node_again, extend_again, fan,
-    fill, join, join_again, small_fan,
+    fill, join, join_again, set_parents_again, small_fan,
 };
 use crate::faults::faults;
 use crate::observed::{counts, is_fan, state_of};
@@ -28,6 +28,7 @@ pub enum Scenario {
     ParallelEdges,
     Children,
     Parents,
+    ParentsSet,
     Series,
     LongSeries,
     ReservedNodes,
@@ -52,6 +53,7 @@ fn play<S: Kind>(rt: &(impl Abort + Env), alloc: Global, scenario: Scenario) {
         Scenario::ParallelEdges => parallel_edges::<S>(rt, alloc, &mut refused),
         Scenario::Children => children::<S>(rt, alloc, &mut refused),
         Scenario::Parents => parents::<S>(rt, alloc, &mut refused),
+        Scenario::ParentsSet => parents_set::<S>(rt, alloc, &mut refused),
         Scenario::Series => series::<S>(rt, alloc, &mut refused),
         Scenario::LongSeries => long_series::<S>(rt, alloc, &mut refused),
         Scenario::ReservedNodes => reserved_nodes::<S>(rt, alloc, &mut refused),
@@ -151,6 +153,35 @@ fn parents<S: Kind>(rt: &impl Abort, alloc: Global, refused: &mut bool) {
         add_neighbor_again(rt, &mut dag, root, Direction::Incoming, refused);
         holds(rt, edges < 64);
         counts(rt, &dag, edges + 3, edges + 2);
+    }
+}
+
+// The parents of a node, for which memory was refused once.
+fn items(
+    rt: &impl Abort,
+    alloc: Global,
+    count: usize,
+    refused: &mut bool,
+) -> Vec<(NodeIndex, usize)> {
+    let mut items = Vec::new(alloc);
+    if items.reserve(count).is_err() {
+        refuse(rt, refused);
+        made(rt, items.reserve(count));
+    }
+    for i in 0..count {
+        made(rt, items.push((NodeIndex::new(i % 4), i)));
+    }
+    items
+}
+
+// The parents of a node, replaced by more and by fewer.
+fn parents_set<S: Kind>(rt: &impl Abort, alloc: Global, refused: &mut bool) {
+    let mut dag: Plain<S> = fan(rt, alloc, 5, refused);
+    let n = NodeIndex::new(5);
+    for (count, edges) in [(3, 7), (40, 44), (2, 6), (0, 4), (9, 13)] {
+        let items = items(rt, alloc, count, refused);
+        set_parents_again(rt, &mut dag, n, items, refused);
+        counts(rt, &dag, 6, edges);
     }
 }
 

@@ -31,6 +31,11 @@ fn a_refused_parent_comes_back_with_its_edge(rt: HostRuntime) {
 }
 
 #[test]
+fn refused_parents_come_back_as_they_were(rt: HostRuntime) {
+    stable(&rt, rt.alloc(), Scenario::ParentsSet);
+}
+
+#[test]
 fn a_refused_series_comes_back_whole(rt: HostRuntime) {
     stable(&rt, rt.alloc(), Scenario::Series);
 }

@@ -15,6 +15,7 @@ mod kinds;
 mod large;
 mod many_edges;
 mod ordering;
+mod parents;
 mod reducing;
 mod removing;
 mod retaining;

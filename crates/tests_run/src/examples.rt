@@ -42,6 +42,20 @@ fn add_child(rt: HostRuntime) -> Result<(), Fail> {
 }
 
 #[test]
+fn set_parents(rt: HostRuntime) -> Result<(), Fail> {
+    let mut dag: StableDag<&'static str, u32> = StableDag::new(rt.alloc());
+    let water = dag.add_node("water")?;
+    let seeds = dag.add_node("seeds")?;
+    let (_, bed) = dag.add_child(water, 1, "bed")?;
+    let mut parents = Vec::new(rt.alloc());
+    parents.push((seeds, 2))?;
+    dag.set_parents(bed, parents)?;
+    assert!(rt; !dag.contains_edge(water, bed));
+    assert!(rt; dag.contains_edge(seeds, bed));
+    Ok(())
+}
+
+#[test]
 fn remove_node(rt: HostRuntime) -> Result<(), Fail> {
     let mut dag: Dag<&'static str, u32> = Dag::new(rt.alloc());
     let sow = dag.add_node("sow")?;
@@ -100,6 +114,19 @@ fn children(rt: HostRuntime) -> Result<(), Fail> {
     let (_, mow) = dag.add_child(sow, 30, "mow")?;
     assert!(rt; walker.walk_next(&dag).is_none());
     assert!(rt; dag.parents(mow).walk_next(&dag).is_some());
+    Ok(())
+}
+
+#[test]
+fn edges_connecting(rt: HostRuntime) -> Result<(), Fail> {
+    let mut dag: Dag<&'static str, u32> = Dag::new(rt.alloc());
+    let sow = dag.add_node("sow")?;
+    let (days, reap) = dag.add_child(sow, 90, "reap")?;
+    let more = dag.add_edge(sow, reap, 80)?;
+    let mut edges = dag.edges_connecting(sow, reap);
+    assert!(rt; edges.next().is_some_and(|edge| edge.id() == more));
+    assert!(rt; edges.next().is_some_and(|edge| edge.id() == days));
+    assert!(rt; edges.next().is_none());
     Ok(())
 }
 
@@ -176,6 +203,18 @@ fn path(rt: HostRuntime) -> Result<(), Fail> {
     let cycle = dag.path(sow, reap)?;
     assert!(rt; cycle.is_some_and(|nodes| nodes.as_slice() == [sow, hoe, reap].as_slice()));
     assert!(rt; dag.path(reap, sow)?.is_none());
+    Ok(())
+}
+
+#[test]
+fn path_edges(rt: HostRuntime) -> Result<(), Fail> {
+    let mut dag: Dag<&'static str, u32> = Dag::new(rt.alloc());
+    let sow = dag.add_node("sow")?;
+    let (days, hoe) = dag.add_child(sow, 30, "hoe")?;
+    let (more, reap) = dag.add_child(hoe, 60, "reap")?;
+    let edges = dag.path_edges(sow, reap)?;
+    assert!(rt; edges.is_some_and(|edges| edges.as_slice() == [days, more].as_slice()));
+    assert!(rt; dag.path_edges(reap, sow)?.is_none());
     Ok(())
 }
 

@@ -142,8 +142,7 @@ where
     ///
     /// # Complexity
     ///
-    /// As `add_edge` for each item, and O(k log k) for k edges that entered `n`, beside their
-    /// removal. What else the dag holds does not matter.
+    /// As `add_edge` for each item, O(k log k) for the k edges that entered `n`, and their removal.
     ///
     /// # Examples
     ///

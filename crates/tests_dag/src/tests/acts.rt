@@ -98,6 +98,18 @@ fn through<S: Kind>(
         nodes,
     );
     same(rt, made(rt, S::edges(alloc, dag)).as_slice(), edges);
+    let (node_indices, edge_indices) = made(rt, S::indices(alloc, dag));
+    for (n, (wanted, _)) in node_indices.iter().zip(nodes) {
+        same(rt, *n, *wanted);
+    }
+    for (e, (wanted, _, _, _)) in edge_indices.iter().zip(edges) {
+        same(rt, *e, *wanted);
+    }
+    same(
+        rt,
+        (node_indices.len(), edge_indices.len()),
+        (nodes.len(), edges.len()),
+    );
     let (of_nodes, of_edges) = made(rt, S::weights(alloc, dag));
     for (weight, (_, wanted)) in of_nodes.iter().zip(nodes) {
         same(rt, *weight, *wanted);

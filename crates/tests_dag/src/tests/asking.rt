@@ -1,7 +1,7 @@
 //! What a dag is asked about paths, and about what depends on what.
 use super::support::{made, node, same};
 use super::table::{Answer, Call, Row, Scene, both, compact, is, stable};
-use daggy_base::index::{IndexType, NodeIndex};
+use daggy_base::index::{EdgeIndex, IndexType, NodeIndex};
 use daggy_base::store::Store;
 use daggy_dag::acyclic::Acyclic;
 use std::alloc::Global;
@@ -18,6 +18,7 @@ pub enum Question<'a> {
     Descendants(&'a [usize]),
     Ancestors(&'a [usize]),
     Path(usize, usize),
+    PathEdges(usize, usize),
 }
 
 fn nodes<Ix: IndexType>(rt: &impl Abort, alloc: Global, indices: &[usize]) -> Vec<NodeIndex<Ix>> {
@@ -34,6 +35,19 @@ fn are<Ix: IndexType>(rt: &impl Abort, alloc: Global, found: &[NodeIndex<Ix>], w
         made(rt, indices.push(n.index()));
     }
     is(rt, Answer::Nodes(indices.as_slice()), wanted);
+}
+
+fn are_edges<Ix: IndexType>(
+    rt: &impl Abort,
+    alloc: Global,
+    found: &[EdgeIndex<Ix>],
+    wanted: Answer<'_>,
+) {
+    let mut indices = Vec::new(alloc);
+    for e in found {
+        made(rt, indices.push(e.index()));
+    }
+    is(rt, Answer::Edges(indices.as_slice()), wanted);
 }
 
 fn yes(answer: bool) -> Answer<'static> {
@@ -82,6 +96,10 @@ pub fn ask<Ix: IndexType, S: Store<Ix, NodeWeight = u32, EdgeWeight = u32>>(
             Some(path) => are(rt, alloc, path.as_slice(), wanted),
             None => is(rt, Answer::Nothing, wanted),
         },
+        Question::PathEdges(a, b) => match made(rt, dag.path_edges(node(rt, a), node(rt, b))) {
+            Some(edges) => are_edges(rt, alloc, edges.as_slice(), wanted),
+            None => is(rt, Answer::Nothing, wanted),
+        },
     }
 }
 
@@ -112,6 +130,12 @@ fn a_dag_tells_of_paths(rt: HostRuntime) {
         (Call::Ask(Question::Path(2, 2)), Answer::Nodes(&[2])),
         (Call::Ask(Question::Path(3, 0)), Answer::Nothing),
         (Call::Ask(Question::Path(0, 9)), Answer::Nothing),
+        (Call::Ask(Question::PathEdges(0, 2)), Answer::Edges(&[0, 1])),
+        // The newer one of the two edges from 0 to 3.
+        (Call::Ask(Question::PathEdges(0, 3)), Answer::Edges(&[4])),
+        (Call::Ask(Question::PathEdges(2, 2)), Answer::Edges(&[])),
+        (Call::Ask(Question::PathEdges(3, 0)), Answer::Nothing),
+        (Call::Ask(Question::PathEdges(9, 9)), Answer::Nothing),
         (Call::Ask(Question::Before(0, 3)), Answer::Done),
         (Call::Ask(Question::Before(3, 0)), Answer::Nothing),
         (Call::Ask(Question::Before(0, 0)), Answer::Nothing),
@@ -162,6 +186,7 @@ fn an_empty_dag_has_no_answers(rt: HostRuntime) {
     const ROWS: &[Row<'static>] = &[
         (Call::Ask(Question::Reaches(0, 0)), Answer::Nothing),
         (Call::Ask(Question::Path(0, 0)), Answer::Nothing),
+        (Call::Ask(Question::PathEdges(0, 0)), Answer::Nothing),
         (Call::Ask(Question::Before(0, 1)), Answer::Nothing),
         (Call::Ask(Question::Affected(&[0])), Answer::Nodes(&[])),
         (Call::Ask(Question::Descendants(&[])), Answer::Nodes(&[])),
@@ -175,6 +200,8 @@ fn no_path_leads_through_a_removed_node(rt: HostRuntime) {
     // Node 3 gets the index that is gone.
     const ROWS: &[Row<'static>] = &[
         (Call::RemoveNode(1), Answer::Weight(1)),
+        (Call::Ask(Question::PathEdges(0, 1)), Answer::Edges(&[1])),
+        (Call::Ask(Question::PathEdges(0, 2)), Answer::Nothing),
         (Call::Ask(Question::Reaches(0, 1)), Answer::Done),
         (Call::Ask(Question::Reaches(0, 2)), Answer::Nothing),
         (
@@ -186,6 +213,8 @@ fn no_path_leads_through_a_removed_node(rt: HostRuntime) {
     ];
     const AFTER: &[Row<'static>] = &[
         (Call::RemoveNode(1), Answer::Weight(1)),
+        (Call::Ask(Question::PathEdges(0, 3)), Answer::Edges(&[4])),
+        (Call::Ask(Question::PathEdges(0, 2)), Answer::Nothing),
         (Call::Ask(Question::Reaches(0, 3)), Answer::Done),
         (Call::Ask(Question::Reaches(0, 2)), Answer::Nothing),
         (Call::Ask(Question::Reaches(1, 1)), Answer::Nothing),

@@ -1,5 +1,8 @@
+use super::acts::{TRIANGLE, dag_of};
+use super::kinds::{Plain, Stable};
+use super::support::{holds, same};
 use super::table::{Answer, Call, Scene, compact_by};
-use daggy_base::index::IndexType;
+use daggy_base::index::{EdgeIndex, IndexType, NodeIndex};
 use std::alloc::Global;
 use std::process::Abort;
 
@@ -23,4 +26,24 @@ fn each_index_type_serves(rt: HostRuntime) {
     joins_two_nodes::<u16>(&rt, rt.alloc());
     joins_two_nodes::<u32>(&rt, rt.alloc());
     joins_two_nodes::<usize>(&rt, rt.alloc());
+}
+
+#[test]
+fn an_index_becomes_a_number(rt: HostRuntime) {
+    same(&rt, usize::from(NodeIndex::<u8>::new(7)), 7);
+    same(&rt, usize::from(EdgeIndex::<u8>::new(8)), 8);
+    same(&rt, NodeIndex::<u8>::default(), NodeIndex::new(0));
+    same(&rt, EdgeIndex::<u8>::default(), EdgeIndex::new(0));
+}
+
+#[test]
+fn references_to_one_edge_are_equal(rt: HostRuntime) {
+    let dag: Plain<Stable> = dag_of(&rt, rt.alloc(), &TRIANGLE);
+    let mut edges = dag.edge_references();
+    let (first, second) = (edges.next(), edges.next());
+    holds(
+        &rt,
+        first.is_some() && first == dag.edge_references().next(),
+    );
+    holds(&rt, second.is_some() && first != second);
 }

@@ -45,6 +45,28 @@ fn lists_of_a_dag_are_gone_through(rt: HostRuntime) {
 }
 
 #[test]
+fn edges_from_one_node_to_another_are_gone_through(rt: HostRuntime) {
+    const ROWS: &[Row<'static>] = &[
+        (Call::Connecting(0, 1), Answer::Walk(&[(0, 1)])),
+        (Call::Edge(0, 1, 7), Answer::Edge(3)),
+        (Call::Edge(0, 1, 8), Answer::Edge(4)),
+        (
+            Call::Connecting(0, 1),
+            Answer::Walk(&[(4, 1), (3, 1), (0, 1)]),
+        ),
+        (Call::Connecting(0, 2), Answer::Walk(&[(1, 2)])),
+        (Call::Connecting(1, 0), Answer::Walk(&[])),
+        (Call::Connecting(9, 1), Answer::Walk(&[])),
+        (Call::Connecting(0, 9), Answer::Walk(&[])),
+        (Call::RemoveEdge(4), Answer::Weight(8)),
+        (Call::Connecting(0, 1), Answer::Walk(&[(3, 1), (0, 1)])),
+        (Call::Clear, Answer::Done),
+        (Call::Connecting(0, 1), Answer::Walk(&[])),
+    ];
+    table::both(&rt, rt.alloc(), Scene::Twice(&TRIANGLE, ROWS));
+}
+
+#[test]
 fn a_stable_dag_tells_how_many_slots_may_follow(rt: HostRuntime) {
     let mut dag: Plain<Stable> = dag_of(&rt, rt.alloc(), &TRIANGLE);
     same(&rt, dag.remove_node(NodeIndex::new(1)), Some(11));

@@ -52,6 +52,9 @@ pub trait Kind: Store<u8, NodeWeight = u32, EdgeWeight = u32> {
     /// The nodes of a dag.
     fn nodes(alloc: Global, dag: &Plain<Self>) -> Result<Vec<usize>, AllocError>;
 
+    /// The indices of the nodes of a dag, and those of its edges.
+    fn indices(alloc: Global, dag: &Plain<Self>) -> Result<(Vec<usize>, Vec<usize>), AllocError>;
+
     /// The nodes of a dag with their weights.
     fn weighted_nodes(alloc: Global, dag: &Plain<Self>) -> Result<Vec<(usize, u32)>, AllocError>;
 
@@ -227,6 +230,12 @@ impl Kind for Compact {
         list_of(alloc, dag.node_identifiers().map(index))
     }
 
+    fn indices(alloc: Global, dag: &Plain<Self>) -> Result<(Vec<usize>, Vec<usize>), AllocError> {
+        let nodes = list_of(alloc, dag.node_indices().map(usize::from))?;
+        let edges = list_of(alloc, dag.edge_indices().map(usize::from))?;
+        Ok((nodes, edges))
+    }
+
     fn weighted_nodes(alloc: Global, dag: &Plain<Self>) -> Result<Vec<(usize, u32)>, AllocError> {
         weighted_list_of(alloc, dag.node_references())
     }
@@ -323,6 +332,12 @@ impl Kind for Stable {
 
     fn nodes(alloc: Global, dag: &Plain<Self>) -> Result<Vec<usize>, AllocError> {
         list_of(alloc, dag.node_identifiers().map(index))
+    }
+
+    fn indices(alloc: Global, dag: &Plain<Self>) -> Result<(Vec<usize>, Vec<usize>), AllocError> {
+        let nodes = list_of(alloc, dag.node_indices().map(usize::from))?;
+        let edges = list_of(alloc, dag.edge_indices().map(usize::from))?;
+        Ok((nodes, edges))
     }
 
     fn weighted_nodes(alloc: Global, dag: &Plain<Self>) -> Result<Vec<(usize, u32)>, AllocError> {

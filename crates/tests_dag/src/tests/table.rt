@@ -6,6 +6,7 @@ use super::asking::{Question, ask as ask_of_paths};
 use super::large::{search_dense_graph, search_long_chain};
 use super::many_edges::{add_sorted_list, end_at_a_fault};
 use super::ordering::{read_backwards, sort_long_series, sort_round_vacant_slots, tell_length};
+use super::parents::{lack_some, set_parents};
 use super::reducing::reduce_diamonds;
 use super::support::{edge, holds, made, node, same};
 use daggy_base::element::Element;
@@ -36,6 +37,10 @@ pub enum Call<'a> {
     Fill(usize, usize),
     // Removes the redundant edges below some roots.
     Reduce(&'a [usize]),
+    // Replaces the edges that enter a node.
+    SetParents(usize, &'a [(usize, u32)]),
+    // Whether not all of these nodes exist.
+    LackSome(&'a [(usize, u32)]),
     RemoveNode(usize),
     RemoveEdge(usize),
     ClearEdges,
@@ -48,6 +53,8 @@ pub enum Call<'a> {
     Find(usize, usize),
     Children(usize),
     Parents(usize),
+    // The edges from one node to another.
+    Connecting(usize, usize),
     Externals(Direction),
     Order,
     Ask(Question<'a>),
@@ -294,6 +301,22 @@ fn is_walk_of_parents<Ix: IndexType, S: Store<Ix, NodeWeight = u32, EdgeWeight =
     is(rt, Answer::Walk(walk.as_slice()), wanted);
 }
 
+fn are_connecting<Ix: IndexType, S: Store<Ix, NodeWeight = u32, EdgeWeight = u32>>(
+    rt: &impl Abort,
+    alloc: Global,
+    dag: &Acyclic<u32, u32, Ix, S>,
+    ends: (usize, usize),
+    wanted: Answer<'_>,
+) {
+    let mut edges = Vec::new(alloc);
+    for edge in dag.edges_connecting(node(rt, ends.0), node(rt, ends.1)) {
+        same(rt, dag.edge_weight(edge.id()), Some(edge.weight()));
+        same(rt, edge.source().index(), ends.0);
+        made(rt, edges.push((edge.id().index(), edge.target().index())));
+    }
+    is(rt, Answer::Walk(edges.as_slice()), wanted);
+}
+
 fn is_ordered<Ix: IndexType, S: Store<Ix, NodeWeight = u32, EdgeWeight = u32>>(
     rt: &impl Abort,
     alloc: Global,
@@ -449,9 +472,12 @@ pub fn play_row<Ix: IndexType, S: Store<Ix, NodeWeight = u32, EdgeWeight = u32>>
         Call::Edges(edges) => all_added(rt, alloc, dag, edges, wanted),
         Call::Children(n) => is_walk_of_children(rt, alloc, dag, n, wanted),
         Call::Parents(n) => is_walk_of_parents(rt, alloc, dag, n, wanted),
+        Call::Connecting(a, b) => are_connecting(rt, alloc, dag, (a, b), wanted),
         Call::Externals(dir) => are_external(rt, alloc, dag, dir, wanted),
         Call::Order => is_ordered(rt, alloc, dag, wanted),
         Call::Ask(question) => ask_of_paths(rt, alloc, dag, question, wanted),
+        Call::SetParents(n, parents) => set_parents(rt, alloc, dag, n, parents, wanted),
+        Call::LackSome(parents) => is(rt, lack_some(rt, alloc, dag, parents), wanted),
         _ => is(rt, change_many(rt, alloc, dag, call), wanted),
     }
 }
