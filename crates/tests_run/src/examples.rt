@@ -2,7 +2,7 @@
 
 use daggy::dot::Dot;
 use daggy::named::{DependError, Named};
-use daggy::schedule::{Ready, Schedule, schedule_on, topological_order_by};
+use daggy::schedule::{Ready, ReadyByKey, Schedule, schedule_on, topological_order_by};
 use daggy::traversal::{Bfs, Dfs, DfsPostOrder};
 use daggy::{Dag, Direction, EdgeError, StableDag, Walker, WouldCycle};
 use std::num::NonZeroUsize;
@@ -175,6 +175,25 @@ fn ready(rt: HostRuntime) -> Result<(), Fail> {
     assert!(rt; ready.next(&dag).is_none());
     ready.done(&dag, sow);
     assert!(rt; ready.next(&dag) == Some(reap));
+    ready.done(&dag, reap);
+    assert!(rt; ready.is_finished());
+    Ok(())
+}
+
+#[test]
+fn ready_by_key(rt: HostRuntime) -> Result<(), Fail> {
+    let mut dag: Dag<&'static str, ()> = Dag::new(rt.alloc());
+    let sow = dag.add_node("sow")?;
+    let (_, reap) = dag.add_child(sow, (), "reap by hand")?;
+    let fence = dag.add_node("build a fence")?;
+    // The longest name first.
+    let mut ready = ReadyByKey::new(rt.alloc(), &dag, |_, name| name.len())?;
+    assert!(rt; ready.next(&dag) == Some(fence));
+    assert!(rt; ready.next(&dag) == Some(sow));
+    assert!(rt; ready.next(&dag).is_none());
+    ready.done(&dag, sow);
+    assert!(rt; ready.next(&dag) == Some(reap));
+    ready.done(&dag, fence);
     ready.done(&dag, reap);
     assert!(rt; ready.is_finished());
     Ok(())
