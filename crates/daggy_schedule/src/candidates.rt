@@ -89,7 +89,7 @@ impl<K: Ord + Drop, Ix: IndexType> Candidates<K, Ix> {
             IsPermutation self.old.items ((p.0, Ix.number p.1) ∷ self.new.items)) }
         ensures first { IfSome result (λ p.
             AllByRecursion (Precedes K.cmp (p.0, Ix.number p.1)) self.new.items) }
-        ensures capacity { self.new.capacity ≡ self.old.capacity }
+        ensures capacity { self.old.capacity ≤ self.new.capacity }
     {
         let Reverse(first) = self.heap.pop()?;
         Some(first)

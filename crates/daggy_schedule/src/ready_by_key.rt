@@ -1,6 +1,6 @@
 //! Which nodes of a dag can begin, by keys: the one with the greatest key first.
-ghost use Rattle.std.specs.Prelude.{◌≡◌, ℕ, ◌+◌, ◌<◌, ◌≤◌, ◌↔◌, ◌⊎◌, ◌∷◌, ◌++◌, [], List, None};
-ghost use Rattle.std.specs.Prelude.{IsTrue, IsNone, IsSome, IfSome, IfOk, All, Contains, IsPermutation};
+ghost use Rattle.std.specs.Prelude.{◌≡◌, ℕ, ◌+◌, ◌<◌, ◌≤◌, ◌↔◌, ◌⊎◌, ◌++◌, [], List, None};
+ghost use Rattle.std.specs.Prelude.{IsTrue, IsNone, IfSome, IfOk, All, Contains, IsPermutation};
 ghost use Rattle.std.specs.Prelude.{length, filter, slice_set, vec_len};
 ghost use Rattle.daggy_base.specs.Graph.{HasNode, slot, node_bound};
 ghost use Rattle.daggy_base.specs.Ordered.{IsOrderOf};
@@ -48,11 +48,11 @@ use std::marker::Model;
 /// // The longest name first.
 /// let mut ready = ReadyByKey::new(rt.alloc(), &dag, |_, name| name.len())?;
 /// assert!(rt; ready.next(&dag) == Some(fence));
+/// ready.done(&dag, fence);
 /// assert!(rt; ready.next(&dag) == Some(sow));
 /// assert!(rt; ready.next(&dag).is_none());
 /// ready.done(&dag, sow);
 /// assert!(rt; ready.next(&dag) == Some(reap));
-/// ready.done(&dag, fence);
 /// ready.done(&dag, reap);
 /// assert!(rt; ready.is_finished());
 /// ```
