@@ -3,7 +3,7 @@ use Rattle.std.proofs.Common.{◌≡◌, ◌↔◌, ◌⊎◌, inl, inr, ℕ, Bo
 use Rattle.std.proofs.Common.{subst, ◌∙◌}
 use Rattle.daggy_base.specs.declared.error.EdgeError.{EdgeError}
 use Rattle.daggy_base.specs.declared.error.EdgeError.TheVariants as edge
-use Rattle.daggy_named.specs.Naming.{index_in, ForNodes}
+use Rattle.daggy_named.specs.Naming.{index_by, ForNodes}
 use Rattle.daggy_named.specs.declared.error.DependError.{DependError}
 use Rattle.daggy_named.specs.declared.error.DependError.TheVariants as depend
 
@@ -42,12 +42,12 @@ module _ {I E : Type 0} {w : E} {r : Result I (EdgeError E)} {t : Result I (Depe
   ok_told P Q (told_cycle r_is t_is) follows holds = subst (λ z. IfOk z Q) (sym t_is) tt
   ok_told P Q (told_memory r_is t_is) follows holds = subst (λ z. IfOk z Q) (sym t_is) tt
 
-module _ {K : Type 0} (eq : K → K → Bool) (keys : List (Option K)) (a b : K) (P : ℕ → ℕ → Type 0) {u v : ℕ}
-    (a_is : Some u ≡ index_in eq keys a) (b_is : Some v ≡ index_in eq keys b) where
-  pub for_nodes : P u v → ForNodes eq keys a b P
+module _ {K : Type 0} (a b : K → Bool) (keys : List (Option K)) (P : ℕ → ℕ → Type 0) {u v : ℕ}
+    (a_is : Some u ≡ index_by a keys) (b_is : Some v ≡ index_by b keys) where
+  pub for_nodes : P u v → ForNodes a b keys P
   for_nodes holds = (u, v, sym a_is, sym b_is, holds)
 
-  pub from_nodes : ForNodes eq keys a b P → P u v
+  pub from_nodes : ForNodes a b keys P → P u v
   from_nodes h =
       let a_same : Some h.0 ≡ Some u = sym h.2 ∙ sym a_is in
       let b_same : Some h.1 ≡ Some v = sym h.3 ∙ sym b_is in

@@ -9,7 +9,7 @@ use Rattle.std.specs.List.{IsDistinct}
 use Rattle.std.specs.Map.{lookup}
 use Rattle.std.specs.Option.{option_map, IfSome}
 use Rattle.daggy_base.specs.Graph.{Graph, slot}
-use Rattle.daggy_named.specs.Naming.{IsNamed, is_named, index_in}
+use Rattle.daggy_named.specs.Naming.{IsNamed, is_named, index_by}
 use Rattle.daggy_named.specs.Places.{IsKept, key_in, keys_at}
 use Rattle.daggy_named.proofs.Slots.{slot_within, same_marks, what_is, position_only, position_none}
 use Rattle.daggy_named.proofs.Entries.{none_passes, same_entry}
@@ -85,8 +85,8 @@ module _ {K I N : Type 0} {eq : K → K → Bool} (laws : IsEquivalence eq) {num
       → IsNamed eq (record { graph = g; keys = keys_at entries places })
   are_named g is = record { exact = marks ∙ ap (map is_some) (sym is); once = named_once }
 
-  module _ (k : K) where
-    passing : (x : Option K) → is_named eq k x ≡ true → (y : K) × (x ≡ Some y) × (eq k y ≡ true)
+  module _ {test : K → Bool} (alike : (x y : K) → test x ≡ true → test y ≡ eq x y) where
+    passing : (x : Option K) → is_named test x ≡ true → (y : K) × (x ≡ Some y) × (test y ≡ true)
     passing None h = absurd (false≢true h)
     passing (Some y) h = (y, refl, h)
 
@@ -95,32 +95,32 @@ module _ {K I N : Type 0} {eq : K → K → Bool} (laws : IsEquivalence eq) {num
     slot_of n x y at is = ap (option_and_then (λ z. z)) at ∙ is
 
     -- a look-up finds the index of the key
-    pub found : (r : Option I) → r ≡ lookup (eq k) entries
-        → option_map number r ≡ index_in eq (keys_at entries places) k
+    pub found : (r : Option I) → r ≡ lookup test entries
+        → option_map number r ≡ index_by test (keys_at entries places)
     found None none =
-        sym (position_none (is_named eq k) (keys_at entries places) (λ m x at. by m x at (is_named eq k x) refl))
+        sym (position_none (is_named test) (keys_at entries places) (λ m x at. by m x at (is_named test x) refl))
       where
         by : (m : ℕ) (x : Option K) → slice_get (keys_at entries places) m ≡ Some x
-            → (b : Bool) → is_named eq k x ≡ b → is_named eq k x ≡ false
+            → (b : Bool) → is_named test x ≡ b → is_named test x ≡ false
         by m x at false is = is
         by m x at true is =
             let y = passing x is in
             let e = key_at_place m y.0 (slot_of m x y.0 at y.1) in
-            absurd (false≢true (sym (none_passes (eq k) entries (sym none) e.p y.0 e.i e.entry) ∙ y.2))
+            absurd (false≢true (sym (none_passes test entries (sym none) e.p y.0 e.i e.entry) ∙ y.2))
     found (Some i) some =
-        let e = place_from_lookup (eq k) entries i (sym some) in
-        sym (position_only (is_named eq k) (keys_at entries places) (number i) (Some e.1)
+        let e = place_from_lookup test entries i (sym some) in
+        sym (position_only (is_named test) (keys_at entries places) (number i) (Some e.1)
         (slot_within (keys_at entries places) (number i) e.1 (key_of_entry e.0 e.1 i e.2)) e.3
         (λ m x at passes.
         let y = passing x passes in
-        let same : eq y.0 e.1 ≡ true = sym (laws.congr k y.0 e.1 y.2) ∙ e.3 in
+        let same : eq y.0 e.1 ≡ true = sym (alike y.0 e.1 y.2) ∙ e.3 in
         named_once m (number i) y.0 e.1 (slot_of m x y.0 at y.1) (key_of_entry e.0 e.1 i e.2) same))
 
     -- and that of an existing node
-    pub found_exists : (r : Option I) → r ≡ lookup (eq k) entries → IfSome r (λ i. IsSome (slot nodes (number i)))
+    pub found_exists : (r : Option I) → r ≡ lookup test entries → IfSome r (λ i. IsSome (slot nodes (number i)))
     found_exists None none = tt
     found_exists (Some i) some =
-        let e = place_from_lookup (eq k) entries i (sym some) in
+        let e = place_from_lookup test entries i (sym some) in
         sym (same_marks places nodes kept.slots (number i)) ∙ ap is_some (kept.back e.0 e.1 i e.2)
 
 pub kept_empty : {K I N : Type 0} {eq : K → K → Bool}
@@ -154,14 +154,14 @@ key_read entries places n {lent} {index} {place} {x} lent_is index_is low read i
 pub none_found : {K I N : Type 0} {eq : K → K → Bool} (laws : IsEquivalence eq)
     {number : I → ℕ} {nodes : List (Option N)}
     {entries : List (K × I)} {places : List (Option ℕ)} → IsKept eq number nodes entries places → (k : K) (r : Option I)
-    → option_map number r ≡ index_in eq (keys_at entries places) k → is_some r ≡ false → lookup (eq k) entries ≡ None
+    → option_map number r ≡ index_by (eq k) (keys_at entries places) → is_some r ≡ false → lookup (eq k) entries ≡ None
 none_found {K} {I} {N} {eq} laws {number} {nodes} {entries} {places} kept k r is none = by (lookup (eq k) entries) refl
     r is none
   where
     by : (o : Option I) → lookup (eq k) entries ≡ o → (r : Option I)
-        → option_map number r ≡ index_in eq (keys_at entries places) k → is_some r ≡ false
+        → option_map number r ≡ index_by (eq k) (keys_at entries places) → is_some r ≡ false
         → lookup (eq k) entries ≡ None
     by None o_is r is none = o_is
     by (Some i) o_is (Some j) is none = absurd (false≢true (sym none))
     by (Some i) o_is None is none =
-        absurd (let both : Some (number i) ≡ None = found laws kept k (Some i) (sym o_is) ∙ sym is in cc)
+        absurd (let both : Some (number i) ≡ None = found laws kept (laws.congr k) (Some i) (sym o_is) ∙ sym is in cc)

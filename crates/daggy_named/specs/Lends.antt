@@ -1,10 +1,10 @@
 -- A dag by names after the `&mut` to one of its weights ends.
-use Rattle.std.specs.Prelude.{Option}
+use Rattle.std.specs.Prelude.{Bool, Option}
 use Rattle.std.specs.Borrow.{LendsIf, Fml, RattleType, MutBor}
 use Rattle.std.specs.HashMap.Lent.{HashMembers}
 use Rattle.std.specs.declared.clone.Clone as clone
 use Rattle.daggy_base.specs.IndexMembers.{IndexMembers}
-use Rattle.daggy_named.specs.Naming.{Naming, index_in, with_weight}
+use Rattle.daggy_named.specs.Naming.{Naming, index_by, with_weight}
 use Rattle.daggy_named.specs.contracts.named.Named.{the_row}
 
 -- the type of a dag by names
@@ -17,8 +17,8 @@ named_type K N E Ix k m copy =
     (record { hash_input = m.hash_input }) (record { debug_output = m.debug_output })
 
 module _ (K N E Ix : RattleType) (k : HashMembers K.Denot) (m : IndexMembers Ix.Denot) (copy : clone.Ghosts Ix.Denot)
-    (s : MutBor (Naming K.Denot N.Denot E.Denot)) (key : K.Denot) where
-  -- when the borrow r ends, the node with the key has the last weight written through r; at `None` nothing changes
+    (s : MutBor (Naming K.Denot N.Denot E.Denot)) (test : K.Denot → Bool) where
+  -- when the borrow r ends, the node whose key passes the test has the last weight written through r; at `None` nothing changes
   abbrev pub lends_weight : Option (MutBor N.Denot) → Fml
   lends_weight r =
-      LendsIf (named_type K N E Ix k m copy) N s r (with_weight s.now (index_in k.eq s.now.keys key)) s.now
+      LendsIf (named_type K N E Ix k m copy) N s r (with_weight s.now (index_by test s.now.keys)) s.now

@@ -13,20 +13,24 @@ pub record Naming (K N E : Type 0) : Type 0 where
 abbrev pub key_at : {K : Type 0} → List (Option K) → ℕ → Option K
 key_at keys n = slot keys n
 
--- whether a slot has a key that is equal to k
-abbrev pub is_named : {K : Type 0} → (K → K → Bool) → K → Option K → Bool
-is_named eq k None = false
-is_named eq k (Some x) = eq k x
+-- whether a slot has a key that passes a test
+abbrev pub is_named : {K : Type 0} → (K → Bool) → Option K → Bool
+is_named test None = false
+is_named test (Some x) = test x
+
+-- the index of the node whose key passes a test, if there is one
+abbrev pub index_by : {K : Type 0} → (K → Bool) → List (Option K) → Option ℕ
+index_by test keys = position (is_named test) keys
 
 -- the index of the node with the key k, if there is one
 abbrev pub index_in : {K : Type 0} → (K → K → Bool) → List (Option K) → K → Option ℕ
-index_in eq keys k = position (is_named eq k) keys
+index_in eq keys k = index_by (eq k) keys
+
+-- the weight of the node whose key passes a test, if there is one
+abbrev pub weight_by : {K N E : Type 0} → (K → Bool) → Naming K N E → Option N
+weight_by test s = option_and_then (node_weight s.graph) (index_by test s.keys)
 
 module _ {K N E : Type 0} (eq : K → K → Bool) where
-  -- the weight of the node with the key k, if there is one
-  abbrev pub weight_in : Naming K N E → K → Option N
-  weight_in s k = option_and_then (node_weight s.graph) (index_in eq s.keys k)
-
   -- exactly the existing nodes have a key, and no two have equal keys
   pub record IsNamed (s : Naming K N E) : Type 0 where
     pub exact : map is_some s.keys ≡ map is_some s.graph.nodes
@@ -37,6 +41,6 @@ abbrev pub with_weight : {K N E : Type 0} → Naming K N E → Option ℕ → N 
 with_weight s None w = s
 with_weight s (Some n) w = record { graph = with_node_weight s.graph n w; keys = s.keys }
 
--- the nodes with the keys a and b exist, and P holds of their indices
-abbrev pub ForNodes : {K : Type 0} → (K → K → Bool) → List (Option K) → (a b : K) → (ℕ → ℕ → Type 0) → Type 0
-ForNodes eq keys a b P = (u : ℕ) × (v : ℕ) × (index_in eq keys a ≡ Some u) × (index_in eq keys b ≡ Some v) × P u v
+-- nodes whose keys pass two tests exist, and P holds of their indices
+abbrev pub ForNodes : {K : Type 0} → (a b : K → Bool) → List (Option K) → (ℕ → ℕ → Type 0) → Type 0
+ForNodes a b keys P = (u : ℕ) × (v : ℕ) × (index_by a keys ≡ Some u) × (index_by b keys ≡ Some v) × P u v

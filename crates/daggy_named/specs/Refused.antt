@@ -12,8 +12,8 @@ key_and_weight_of (add.Memory k w) = (k, w)
 
 -- the weight of the edge that was refused
 abbrev pub weight_of : {E : Type 0} → DependError E → E
-weight_of (depend.UnknownOn w) = w
-weight_of (depend.UnknownWhat w) = w
+weight_of (depend.UnknownDependency w) = w
+weight_of (depend.UnknownDependent w) = w
 weight_of (depend.Full w) = w
 weight_of (depend.WouldCycle w) = w
 weight_of (depend.Memory w) = w

@@ -36,10 +36,10 @@ impl<K, N> AddError<K, N> {
 pub enum DependError<E> {
     /// No node has the key of what is needed.
     #[error("no node has the key of what is needed")]
-    UnknownOn(E),
+    UnknownDependency(E),
     /// No node has the key of what needs it.
     #[error("no node has the key of what needs it")]
-    UnknownWhat(E),
+    UnknownDependent(E),
     /// The index type has no index left.
     #[error("no index left")]
     Full(E),
@@ -57,8 +57,8 @@ impl<E> DependError<E> {
         ensures { result ≡ weight_of self }
     {
         match self {
-            DependError::UnknownOn(weight)
-            | DependError::UnknownWhat(weight)
+            DependError::UnknownDependency(weight)
+            | DependError::UnknownDependent(weight)
             | DependError::Full(weight)
             | DependError::WouldCycle(weight)
             | DependError::Memory(weight) => weight,

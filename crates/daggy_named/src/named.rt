@@ -16,7 +16,7 @@ ghost use Rattle.daggy_base.specs.declared.error.EdgeError.TheVariants.{WouldCyc
 ghost use Rattle.daggy_base.specs.declared.error.EdgeError.TheVariants.{Memory as EdgeMemory};
 ghost use Rattle.daggy_base.specs.declared.kind.Kind.TheVariants.{Stable};
 ghost use Rattle.indexmap.specs.IndexMap.{index_map_len, spare, get, IsUnique, IsUnchanged};
-ghost use Rattle.daggy_named.specs.Naming.{key_at, index_in, weight_in, IsNamed, ForNodes};
+ghost use Rattle.daggy_named.specs.Naming.{key_at, index_in, index_by, weight_by, IsNamed, ForNodes};
 ghost use Rattle.daggy_named.specs.Places.{keys_at, IsKept};
 ghost use Rattle.daggy_named.specs.Lends.{lends_weight};
 ghost use Rattle.daggy_named.specs.declared.error.AddError.TheVariants as refused;
@@ -26,7 +26,7 @@ use crate::error::{AddError, DependError};
 use daggy_base::error::EdgeError;
 use daggy_base::index::{DefaultIx, EdgeIndex, IndexType, NodeIndex};
 use daggy_dag::acyclic::StableDag;
-use indexmap::IndexMap;
+use indexmap::{Equivalent, IndexMap};
 use std::alloc::{AllocError, Global};
 use std::hash::Hash;
 use std::marker::Model;
@@ -35,6 +35,9 @@ use std::marker::Model;
 ///
 /// Nodes have indices too, which outlive removals. What a [`StableDag`] answers about them,
 /// [`dag`](Named::dag) answers.
+///
+/// A call that looks up a key takes a `&K` or what stands for one, as the look-ups of `IndexMap` do:
+/// with `String` keys a `&str`.
 ///
 /// # Complexity
 ///
@@ -48,12 +51,12 @@ use std::marker::Model;
 /// let mut plan: Named<&'static str, u32, ()> = Named::new(rt.alloc());
 /// let sow = plan.add("sow", 1)?;
 /// let reap = plan.add("reap", 2)?;
-/// plan.depend(&"sow", &"reap", ())?;
-/// assert!(rt; plan.index_of(&"reap") == Some(reap));
+/// plan.depend("sow", "reap", ())?;
+/// assert!(rt; plan.index_of("reap") == Some(reap));
 /// assert!(rt; plan.key_of(sow) == Some(&"sow"));
-/// assert!(rt; plan.depend(&"reap", &"sow", ()) == Err(DependError::WouldCycle(())));
-/// assert!(rt; plan.remove(&"sow") == Some(("sow", 1)));
-/// assert!(rt; plan.index_of(&"sow").is_none());
+/// assert!(rt; plan.depend("reap", "sow", ()) == Err(DependError::WouldCycle(())));
+/// assert!(rt; plan.remove("sow") == Some(("sow", 1)));
+/// assert!(rt; plan.index_of("sow").is_none());
 /// ```
 #[derive(Debug, Drop)]
 pub struct Named<K: Eq + Hash, N: Drop, E: Drop, Ix: IndexType = DefaultIx> {
@@ -116,8 +119,8 @@ impl<K: Eq + Hash + Drop, N: Drop, E: Drop, Ix: IndexType> Named<K, N, E, Ix> {
     }
 
     /// The index of the node with this key, or `None` if there is none.
-    pub fn index_of(&self, key: &K) -> Option<NodeIndex<Ix>>
-        ensures found { option_map Ix.number result ≡ index_in K.eq self.now.keys key.now }
+    pub fn index_of<Q: Equivalent<K>>(&self, key: Q) -> Option<NodeIndex<Ix>>
+        ensures found { option_map Ix.number result ≡ index_by (Q.equivalent key) self.now.keys }
         ensures exists { IfSome result (λ n. HasNode self.now.graph (Ix.number n)) }
     {
         self.nodes.get(key).copied()
@@ -133,8 +136,8 @@ impl<K: Eq + Hash + Drop, N: Drop, E: Drop, Ix: IndexType> Named<K, N, E, Ix> {
     }
 
     /// The weight of the node with this key, or `None` if there is none.
-    pub fn weight(&self, key: &K) -> Option<&N>
-        ensures { option_copied result ≡ weight_in K.eq self.now key.now }
+    pub fn weight<Q: Equivalent<K>>(&self, key: Q) -> Option<&N>
+        ensures { option_copied result ≡ weight_by (Q.equivalent key) self.now }
     {
         self.dag.node_weight(self.index_of(key)?)
     }
@@ -219,39 +222,44 @@ impl<K: Eq + Hash + Drop, N: Drop, E: Drop, Ix: IndexType> Named<K, N, E, Ix> {
     ///
     /// Each error holds the weight, and the dag is unchanged. In this order:
     ///
-    /// - `DependError::UnknownOn` if no node has the key `on`.
-    /// - `DependError::UnknownWhat` if no node has the key `what`.
+    /// - `DependError::UnknownDependency` if no node has the key `on`.
+    /// - `DependError::UnknownDependent` if no node has the key `what`.
     /// - `DependError::Full` if the index type has no index left.
     /// - `DependError::WouldCycle` if a path leads from `what` to `on`, so that the edge would close
     ///   a cycle. [`cycle`](Named::cycle) returns such a path.
     /// - `DependError::Memory` if an allocation fails.
-    pub fn depend(&mut self, on: &K, what: &K, weight: E) -> Result<EdgeIndex<Ix>, DependError<E>>
-        ensures unknown_on { (result ≡ Err (depend.UnknownOn weight))
-            ↔ (index_in K.eq self.old.keys on.now ≡ None) }
-        ensures unknown_what { (result ≡ Err (depend.UnknownWhat weight))
-            ↔ (IsSome (index_in K.eq self.old.keys on.now)
-            × (index_in K.eq self.old.keys what.now ≡ None)) }
+    pub fn depend<Q: Equivalent<K>>(
+        &mut self,
+        on: Q,
+        what: Q,
+        weight: E,
+    ) -> Result<EdgeIndex<Ix>, DependError<E>>
+        ensures unknown_dependency { (result ≡ Err (depend.UnknownDependency weight))
+            ↔ (index_by (Q.equivalent on) self.old.keys ≡ None) }
+        ensures unknown_dependent { (result ≡ Err (depend.UnknownDependent weight))
+            ↔ (IsSome (index_by (Q.equivalent on) self.old.keys)
+            × (index_by (Q.equivalent what) self.old.keys ≡ None)) }
         ensures full { (result ≡ Err (depend.Full weight))
-            ↔ ForNodes K.eq self.old.keys on.now what.now
+            ↔ ForNodes (Q.equivalent on) (Q.equivalent what) self.old.keys
             (λ _ _. Ix.greatest ≤ edge_count_of self.old.graph) }
         ensures cycle { (result ≡ Err (depend.WouldCycle weight))
-            ↔ ForNodes K.eq self.old.keys on.now what.now
+            ↔ ForNodes (Q.equivalent on) (Q.equivalent what) self.old.keys
             (λ u v. (edge_count_of self.old.graph < Ix.greatest) × Reaches self.old.graph v u) }
         ensures refusal { IfErr result (λ e.
-            (e ≡ depend.UnknownOn weight) ⊎ (e ≡ depend.UnknownWhat weight)
+            (e ≡ depend.UnknownDependency weight) ⊎ (e ≡ depend.UnknownDependent weight)
             ⊎ (e ≡ depend.Full weight) ⊎ (e ≡ depend.WouldCycle weight)
             ⊎ (e ≡ depend.Memory weight)) }
         ensures added { IfOk result (λ e. (Ix.number e ≡ next_edge self.old.graph)
-            × ForNodes K.eq self.old.keys on.now what.now
+            × ForNodes (Q.equivalent on) (Q.equivalent what) self.old.keys
             (λ u v. self.new.graph ≡ with_edge self.old.graph u v weight)) }
         ensures keys { self.new.keys ≡ self.old.keys }
         ensures unchanged { OnErr result (self.new ≡ self.old) }
     {
         let Some(parent) = self.index_of(on) else {
-            return Err(DependError::UnknownOn(weight));
+            return Err(DependError::UnknownDependency(weight));
         };
         let Some(child) = self.index_of(what) else {
-            return Err(DependError::UnknownWhat(weight));
+            return Err(DependError::UnknownDependent(weight));
         };
         if !self.dag.can_add_edge() {
             return Err(DependError::Full(weight));
@@ -278,16 +286,20 @@ impl<K: Eq + Hash + Drop, N: Drop, E: Drop, Ix: IndexType> Named<K, N, E, Ix> {
     /// let mut plan: Named<&'static str, u32, ()> = Named::new(rt.alloc());
     /// let sow = plan.add("sow", 1)?;
     /// let reap = plan.add("reap", 2)?;
-    /// plan.depend(&"sow", &"reap", ())?;
+    /// plan.depend("sow", "reap", ())?;
     /// // The cycle that an edge from `reap` to `sow` would close.
-    /// let cycle = plan.cycle(&"reap", &"sow")?;
+    /// let cycle = plan.cycle("reap", "sow")?;
     /// assert!(rt; cycle.is_some_and(|nodes| nodes.as_slice() == [sow, reap].as_slice()));
     /// ```
-    pub fn cycle(&mut self, on: &K, what: &K) -> Result<Option<Vec<NodeIndex<Ix>>>, AllocError>
+    pub fn cycle<Q: Equivalent<K>>(
+        &mut self,
+        on: Q,
+        what: Q,
+    ) -> Result<Option<Vec<NodeIndex<Ix>>>, AllocError>
         ensures path { IfOk result (λ found. IfSome found (λ path.
-            ForNodes K.eq self.old.keys on.now what.now (λ u v.
+            ForNodes (Q.equivalent on) (Q.equivalent what) self.old.keys (λ u v.
             IsShortestPath self.old.graph v u (map Ix.number path.items)))) }
-        ensures none { (result ≡ Ok None) ↔ ¬ ForNodes K.eq self.old.keys on.now what.now
+        ensures none { (result ≡ Ok None) ↔ ¬ ForNodes (Q.equivalent on) (Q.equivalent what) self.old.keys
             (λ u v. Reaches self.old.graph v u) }
         ensures same { self.new ≡ self.old }
     {
@@ -301,10 +313,10 @@ impl<K: Eq + Hash + Drop, N: Drop, E: Drop, Ix: IndexType> Named<K, N, E, Ix> {
     }
 
     /// A mutable reference to the weight of the node with this key, or `None` if there is none.
-    pub fn weight_mut(&mut self, key: &K) -> Option<&mut N>
+    pub fn weight_mut<Q: Equivalent<K>>(&mut self, key: Q) -> Option<&mut N>
         ensures* writes_back { sem 𝓛 (lends_weight K.row N.row E.row Ix.row
-            K.Hash Ix.IndexType Ix.Clone self.entry key.now result) }
-        ensures value { option_copied_mut result ≡ weight_in K.eq self.old key.now }
+            K.Hash Ix.IndexType Ix.Clone self.entry (Q.equivalent key) result) }
+        ensures value { option_copied_mut result ≡ weight_by (Q.equivalent key) self.old }
     {
         let n = self.index_of(key)?;
         self.dag.node_weight_mut(n)
@@ -314,13 +326,13 @@ impl<K: Eq + Hash + Drop, N: Drop, E: Drop, Ix: IndexType> Named<K, N, E, Ix> {
     /// if there is no such node.
     ///
     /// No other index changes, and the next node that is added gets this one.
-    pub fn remove(&mut self, key: &K) -> Option<(K, N)>
-        ensures removed { IfSome (index_in K.eq self.old.keys key.now) (λ n.
+    pub fn remove<Q: Equivalent<K>>(&mut self, key: Q) -> Option<(K, N)>
+        ensures removed { IfSome (index_by (Q.equivalent key) self.old.keys) (λ n.
             (option_map (λ r. r.0) result ≡ key_at self.old.keys n)
             × (option_map (λ r. r.1) result ≡ node_weight self.old.graph n)
             × (self.new.graph ≡ without_node Stable self.old.graph n)
             × (self.new.keys ≡ slice_set self.old.keys n None)) }
-        ensures found { IsSome result ↔ IsSome (index_in K.eq self.old.keys key.now) }
+        ensures found { IsSome result ↔ IsSome (index_by (Q.equivalent key) self.old.keys) }
         ensures missing { IfNone result (self.new ≡ self.old) }
     {
         let n = self.index_of(key)?;

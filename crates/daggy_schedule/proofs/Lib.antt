@@ -19,8 +19,11 @@ pub mod Led
 pub mod Ordering
 pub mod Shift
 pub mod Load
-pub mod Shop
+pub mod Workers
 pub mod Undone
 pub mod Urgent
 pub mod Working
 pub mod Graham
+pub mod KeysFrom
+pub mod Gathered
+pub mod ByKeys

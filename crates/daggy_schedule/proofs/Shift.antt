@@ -16,7 +16,7 @@ use Rattle.daggy_base.proofs.Sorted.{unique_cross}
 use Rattle.daggy_schedule.specs.Work.{Work, IsSet, IsOut, IsUnderWay, MayBegin}
 use Rattle.daggy_schedule.specs.LeastFirst.{nodes_of}
 use Rattle.daggy_schedule.specs.Assignments.{IsAssignment}
-use Rattle.daggy_schedule.specs.Floor.{IsIdleWorker}
+use Rattle.daggy_schedule.specs.Workers.{IsIdleWorker}
 use Rattle.daggy_schedule.proofs.Ordering.{unique_shuffled, mem_shuffled, joined_parent}
 
 -- the node is being done, or it is done

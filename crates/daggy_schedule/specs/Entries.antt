@@ -4,6 +4,11 @@ use Rattle.std.specs.Ordering.{ordering_then}
 use Rattle.std.specs.declared.cmp.Ordering.{Ordering}
 use Rattle.std.specs.declared.cmp.Reverse.{Reverse}
 
+-- what a heap of keys and nodes has, and for how many it has memory
+pub record Waiting (K : Type 0) : Type 0 where
+  pub items : List (K × ℕ)
+  pub capacity : ℕ
+
 module _ {K I : Type 0} where
   -- the keys and the nodes of the elements of a heap
   abbrev pub entries : (number : I → ℕ) → List (Reverse (K × I)) → List (K × ℕ)

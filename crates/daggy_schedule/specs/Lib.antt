@@ -5,4 +5,6 @@ pub mod Passes
 pub mod LeastFirst
 pub mod Entries
 pub mod Assignments
-pub mod Floor
+pub mod Workers
+pub mod ByKey
+pub mod KeyQueue

@@ -5,4 +5,5 @@ mod candidates;
 pub mod on_workers;
 pub mod order_by;
 pub mod ready;
+pub mod ready_by_key;
 pub mod schedule;

@@ -17,9 +17,9 @@ use daggy_dag::acyclic::Acyclic;
 use std::alloc::Global;
 use std::num::NonZeroUsize;
 
-mod shop;
+mod workers;
 
-use shop::Shop;
+use workers::Workers;
 
 /// Which worker does each node, and when. The lists are by node index, with 0 where there is no
 /// node.
@@ -92,8 +92,8 @@ where
         × TakeTooLong dag.now.graph durations' }
 {
     let plan = Schedule::new(alloc, dag, durations)?;
-    let shop = work_off(alloc, dag, &plan, workers.get())?;
-    Ok(shop.into_assignment(plan.durations))
+    let done = work_off(alloc, dag, &plan, workers.get())?;
+    Ok(done.into_assignment(plan.durations))
 }
 
 // Lets the workers do all nodes. Of the nodes that are ready, the one that has to start first for the
@@ -103,7 +103,7 @@ fn work_off<N: Drop, E: Drop, Ix: IndexType, S>(
     dag: &Acyclic<N, E, Ix, S>,
     plan: &Schedule<Ix>,
     count: usize,
-) -> Result<Shop<Ix>, ScheduleError>
+) -> Result<Workers<Ix>, ScheduleError>
 where
     S: Store<Ix, NodeWeight = N, EdgeWeight = E>,
     requires some { 0 < count }
@@ -134,15 +134,15 @@ where
         → TakeTooLong dag.now.graph plan.now.durations.items }
 {
     let mut ready = Ready::new(alloc, dag)?;
-    let mut shop = Shop::new(alloc, dag.graph().node_bound())?;
+    let mut workers = Workers::new(alloc, dag.graph().node_bound())?;
     'events: loop {
         'ready: while let Some(n) = ready.next(dag) {
             let i = n.index();
-            shop.add(plan.starts[i] + plan.slack[i], n)?;
+            workers.add(plan.starts[i] + plan.slack[i], n)?;
         }
-        'begin: while shop.begin_next(plan.durations.as_slice(), count)? {}
-        let Some(n) = shop.finish_next()? else {
-            return Ok(shop);
+        'begin: while workers.begin_next(plan.durations.as_slice(), count)? {}
+        let Some(n) = workers.finish_next()? else {
+            return Ok(workers);
         };
         ready.done(dag, n);
     }

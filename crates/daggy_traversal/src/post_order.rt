@@ -34,13 +34,19 @@ use std::marker::Model;
 /// # Examples
 ///
 /// ```
-/// let mut dag: Dag<&'static str, u32> = Dag::new(rt.alloc());
+/// let mut dag: Dag<&'static str, ()> = Dag::new(rt.alloc());
 /// let sow = dag.add_node("sow")?;
-/// let (_, water) = dag.add_child(sow, 1, "water")?;
-/// let (_, reap) = dag.add_child(water, 90, "reap")?;
+/// let (_, hoe) = dag.add_child(sow, (), "hoe")?;
+/// let (_, reap) = dag.add_child(hoe, (), "reap")?;
+/// let (_, eat) = dag.add_child(reap, (), "eat")?;
+/// let (_, water) = dag.add_child(sow, (), "water")?;
+/// dag.add_edge(water, reap, ())?;
+/// // Each comes after its children.
 /// let mut walk = DfsPostOrder::new(rt.alloc(), dag.graph(), sow, Direction::Outgoing)?;
+/// assert!(rt; walk.next(dag.graph()) == Some(eat));
 /// assert!(rt; walk.next(dag.graph()) == Some(reap));
 /// assert!(rt; walk.next(dag.graph()) == Some(water));
+/// assert!(rt; walk.next(dag.graph()) == Some(hoe));
 /// assert!(rt; walk.next(dag.graph()) == Some(sow));
 /// assert!(rt; walk.next(dag.graph()).is_none());
 /// ```

@@ -39,23 +39,25 @@ impl Targets {
         }
     }
 
-    /// The key of a target or a source, which is added as a source if it is new.
-    fn named(&mut self, name: &str) -> Result<String> {
-        let source = Target {
-            given: false,
-            seconds: 0,
-            time: Some(0),
-        };
-        let key = String::from_str(self.alloc, name)?;
-        self.by_name.get_or_add(key.clone()?, source)?;
-        Ok(key)
+    /// Adds a source, unless the name has a target or a source.
+    fn add_name(&mut self, name: &str) -> Result<()> {
+        if self.by_name.index_of(name).is_none() {
+            let source = Target {
+                given: false,
+                seconds: 0,
+                time: Some(0),
+            };
+            self.by_name
+                .add(String::from_str(self.alloc, name)?, source)?;
+        }
+        Ok(())
     }
 
     /// Adds the target of a line, and what it needs. A dependency that would close a cycle is reported
     /// and left out.
     pub fn add(&mut self, rt: &(impl Eprint + AllocGlobal), line: Line<'_>) -> Result<(), BadLine> {
-        let key = self.named(line.target)?;
-        if let Some(target) = self.by_name.weight_mut(&key) {
+        self.add_name(line.target)?;
+        if let Some(target) = self.by_name.weight_mut(line.target) {
             if target.given {
                 return Err(BadLine::Twice);
             }
@@ -66,23 +68,23 @@ impl Targets {
             };
         }
         for word in line.dependencies.split_whitespace() {
-            self.depend(rt, word, &key)?;
+            self.depend(rt, word, line.target)?;
         }
         Ok(())
     }
 
     /// Adds that a target needs something.
-    fn depend(&mut self, rt: &impl Eprint, needed: &str, target: &String) -> Result<()> {
-        let needed = self.named(needed)?;
-        match self.by_name.depend(&needed, target, ()) {
+    fn depend(&mut self, rt: &impl Eprint, needed: &str, target: &str) -> Result<()> {
+        self.add_name(needed)?;
+        match self.by_name.depend(needed, target, ()) {
             Ok(_) => Ok(()),
-            Err(DependError::WouldCycle(())) => self.report_cycle(rt, &needed, target),
+            Err(DependError::WouldCycle(())) => self.report_cycle(rt, needed, target),
             Err(error) => bail!("{error}"),
         }
     }
 
     /// Reports the cycle that a dependency would close.
-    fn report_cycle(&mut self, rt: &impl Eprint, needed: &String, target: &String) -> Result<()> {
+    fn report_cycle(&mut self, rt: &impl Eprint, needed: &str, target: &str) -> Result<()> {
         eprint!(rt; "cycle: {target}")?;
         if let Some(path) = self.by_name.cycle(needed, target)? {
             for n in path.as_slice().iter().rev() {

@@ -3,7 +3,7 @@
 use daggy::dot::Dot;
 use daggy::json::write_json;
 use daggy::named::{DependError, Named};
-use daggy::schedule::{Ready, Schedule, schedule_on, topological_order_by};
+use daggy::schedule::{Ready, ReadyByKey, Schedule, schedule_on, topological_order_by};
 use daggy::traversal::{Bfs, Dfs, DfsPostOrder};
 use daggy::{Dag, Direction, EdgeError, StableDag, Walker, WouldCycle};
 use serde_json::Value;
@@ -235,6 +235,25 @@ fn ready(rt: HostRuntime) -> Result<(), Fail> {
 }
 
 #[test]
+fn ready_by_key(rt: HostRuntime) -> Result<(), Fail> {
+    let mut dag: Dag<&'static str, ()> = Dag::new(rt.alloc());
+    let sow = dag.add_node("sow")?;
+    let (_, reap) = dag.add_child(sow, (), "reap by hand")?;
+    let fence = dag.add_node("build a fence")?;
+    // The longest name first.
+    let mut ready = ReadyByKey::new(rt.alloc(), &dag, |_, name| name.len())?;
+    assert!(rt; ready.next(&dag) == Some(fence));
+    ready.done(&dag, fence);
+    assert!(rt; ready.next(&dag) == Some(sow));
+    assert!(rt; ready.next(&dag).is_none());
+    ready.done(&dag, sow);
+    assert!(rt; ready.next(&dag) == Some(reap));
+    ready.done(&dag, reap);
+    assert!(rt; ready.is_finished());
+    Ok(())
+}
+
+#[test]
 fn schedule(rt: HostRuntime) -> Result<(), Fail> {
     let mut dag: Dag<u64, ()> = Dag::new(rt.alloc());
     let sow = dag.add_node(1)?;
@@ -291,12 +310,12 @@ fn named(rt: HostRuntime) -> Result<(), Fail> {
     let mut plan: Named<&'static str, u32, ()> = Named::new(rt.alloc());
     let sow = plan.add("sow", 1)?;
     let reap = plan.add("reap", 2)?;
-    plan.depend(&"sow", &"reap", ())?;
-    assert!(rt; plan.index_of(&"reap") == Some(reap));
+    plan.depend("sow", "reap", ())?;
+    assert!(rt; plan.index_of("reap") == Some(reap));
     assert!(rt; plan.key_of(sow) == Some(&"sow"));
-    assert!(rt; plan.depend(&"reap", &"sow", ()) == Err(DependError::WouldCycle(())));
-    assert!(rt; plan.remove(&"sow") == Some(("sow", 1)));
-    assert!(rt; plan.index_of(&"sow").is_none());
+    assert!(rt; plan.depend("reap", "sow", ()) == Err(DependError::WouldCycle(())));
+    assert!(rt; plan.remove("sow") == Some(("sow", 1)));
+    assert!(rt; plan.index_of("sow").is_none());
     Ok(())
 }
 
@@ -305,50 +324,68 @@ fn cycle_by_names(rt: HostRuntime) -> Result<(), Fail> {
     let mut plan: Named<&'static str, u32, ()> = Named::new(rt.alloc());
     let sow = plan.add("sow", 1)?;
     let reap = plan.add("reap", 2)?;
-    plan.depend(&"sow", &"reap", ())?;
+    plan.depend("sow", "reap", ())?;
     // The cycle that an edge from `reap` to `sow` would close.
-    let cycle = plan.cycle(&"reap", &"sow")?;
+    let cycle = plan.cycle("reap", "sow")?;
     assert!(rt; cycle.is_some_and(|nodes| nodes.as_slice() == [sow, reap].as_slice()));
     Ok(())
 }
 
 #[test]
 fn breadth_first(rt: HostRuntime) -> Result<(), Fail> {
-    let mut dag: Dag<&'static str, u32> = Dag::new(rt.alloc());
+    let mut dag: Dag<&'static str, ()> = Dag::new(rt.alloc());
     let sow = dag.add_node("sow")?;
-    let (_, water) = dag.add_child(sow, 1, "water")?;
-    let (_, reap) = dag.add_child(water, 90, "reap")?;
+    let (_, hoe) = dag.add_child(sow, (), "hoe")?;
+    let (_, reap) = dag.add_child(hoe, (), "reap")?;
+    let (_, eat) = dag.add_child(reap, (), "eat")?;
+    let (_, water) = dag.add_child(sow, (), "water")?;
+    dag.add_edge(water, reap, ())?;
+    // The children of `sow` come before `reap`, the one with the newer edge first.
     let mut walk = Bfs::new(rt.alloc(), dag.graph(), sow, Direction::Outgoing)?;
     assert!(rt; walk.next(dag.graph()) == Some(sow));
     assert!(rt; walk.next(dag.graph()) == Some(water));
+    assert!(rt; walk.next(dag.graph()) == Some(hoe));
     assert!(rt; walk.next(dag.graph()) == Some(reap));
+    assert!(rt; walk.next(dag.graph()) == Some(eat));
     assert!(rt; walk.next(dag.graph()).is_none());
     Ok(())
 }
 
 #[test]
 fn depth_first(rt: HostRuntime) -> Result<(), Fail> {
-    let mut dag: Dag<&'static str, u32> = Dag::new(rt.alloc());
+    let mut dag: Dag<&'static str, ()> = Dag::new(rt.alloc());
     let sow = dag.add_node("sow")?;
-    let (_, water) = dag.add_child(sow, 1, "water")?;
-    let (_, reap) = dag.add_child(water, 90, "reap")?;
+    let (_, hoe) = dag.add_child(sow, (), "hoe")?;
+    let (_, reap) = dag.add_child(hoe, (), "reap")?;
+    let (_, eat) = dag.add_child(reap, (), "eat")?;
+    let (_, water) = dag.add_child(sow, (), "water")?;
+    dag.add_edge(water, reap, ())?;
+    // All that `water` reaches comes before `hoe`.
     let mut walk = Dfs::new(rt.alloc(), dag.graph(), sow, Direction::Outgoing)?;
     assert!(rt; walk.next(dag.graph()) == Some(sow));
     assert!(rt; walk.next(dag.graph()) == Some(water));
     assert!(rt; walk.next(dag.graph()) == Some(reap));
+    assert!(rt; walk.next(dag.graph()) == Some(eat));
+    assert!(rt; walk.next(dag.graph()) == Some(hoe));
     assert!(rt; walk.next(dag.graph()).is_none());
     Ok(())
 }
 
 #[test]
 fn postorder(rt: HostRuntime) -> Result<(), Fail> {
-    let mut dag: Dag<&'static str, u32> = Dag::new(rt.alloc());
+    let mut dag: Dag<&'static str, ()> = Dag::new(rt.alloc());
     let sow = dag.add_node("sow")?;
-    let (_, water) = dag.add_child(sow, 1, "water")?;
-    let (_, reap) = dag.add_child(water, 90, "reap")?;
+    let (_, hoe) = dag.add_child(sow, (), "hoe")?;
+    let (_, reap) = dag.add_child(hoe, (), "reap")?;
+    let (_, eat) = dag.add_child(reap, (), "eat")?;
+    let (_, water) = dag.add_child(sow, (), "water")?;
+    dag.add_edge(water, reap, ())?;
+    // Each comes after its children.
     let mut walk = DfsPostOrder::new(rt.alloc(), dag.graph(), sow, Direction::Outgoing)?;
+    assert!(rt; walk.next(dag.graph()) == Some(eat));
     assert!(rt; walk.next(dag.graph()) == Some(reap));
     assert!(rt; walk.next(dag.graph()) == Some(water));
+    assert!(rt; walk.next(dag.graph()) == Some(hoe));
     assert!(rt; walk.next(dag.graph()) == Some(sow));
     assert!(rt; walk.next(dag.graph()).is_none());
     Ok(())

@@ -2,6 +2,7 @@
 //! hand.
 
 mod assignments;
+mod keys;
 mod orders;
 mod refusals;
 mod schedules;

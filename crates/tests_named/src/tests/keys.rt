@@ -86,17 +86,17 @@ fn texts_name_nodes(rt: HostRuntime) {
     same(
         &rt,
         dag.depend(&"mow", &"sow", 7),
-        Err(DependError::UnknownOn(7)),
+        Err(DependError::UnknownDependency(7)),
     );
     same(
         &rt,
         dag.depend(&"sow", &"mow", 8),
-        Err(DependError::UnknownWhat(8)),
+        Err(DependError::UnknownDependent(8)),
     );
     same(
         &rt,
         dag.depend(&"mow", &"rake", 9),
-        Err(DependError::UnknownOn(9)),
+        Err(DependError::UnknownDependency(9)),
     );
     same(&rt, dag.dag().edge_count(), 2);
 }
@@ -125,4 +125,40 @@ fn owned_texts_name_nodes(rt: HostRuntime) {
     same(&rt, dag.remove(&sow), Some((text(&rt, alloc, "sow"), 1)));
     same(&rt, dag.index_of(&sow), None);
     same(&rt, dag.weight(&reap), Some(&2));
+}
+
+// Calls take a borrowed text where the keys are owned ones.
+#[test]
+fn borrowed_texts_find_owned_ones(rt: HostRuntime) {
+    let alloc = rt.alloc();
+    let mut dag: Named<String, u32, u32> = Named::new(alloc);
+    same(&rt, dag.index_of("sow"), None);
+    let sow = made(&rt, dag.add(text(&rt, alloc, "sow"), 1));
+    let reap = made(&rt, dag.add(text(&rt, alloc, "reap"), 2));
+    same(&rt, dag.index_of("sow"), Some(sow));
+    same(&rt, dag.index_of("so"), None);
+    same(&rt, dag.weight("reap"), Some(&2));
+    made(&rt, dag.depend("sow", "reap", 90));
+    same(
+        &rt,
+        dag.depend("reap", "sow", 5),
+        Err(DependError::WouldCycle(5)),
+    );
+    same(
+        &rt,
+        dag.depend("mow", "reap", 6),
+        Err(DependError::UnknownDependency(6)),
+    );
+    same(
+        &rt,
+        dag.depend("reap", "mow", 7),
+        Err(DependError::UnknownDependent(7)),
+    );
+    goes(&rt, made(&rt, dag.cycle("reap", "sow")), &[sow, reap]);
+    if let Some(weight) = dag.weight_mut("sow") {
+        *weight = 3;
+    }
+    same(&rt, dag.remove("sow"), Some((text(&rt, alloc, "sow"), 3)));
+    same(&rt, dag.remove("sow"), None);
+    same(&rt, dag.weight("reap"), Some(&2));
 }

@@ -20,7 +20,7 @@ fn no_index_is_left(rt: HostRuntime) {
     same(
         &rt,
         dag.depend(&1, &255, ()),
-        Err(DependError::UnknownWhat(())),
+        Err(DependError::UnknownDependent(())),
     );
     // A removal makes room.
     same(&rt, dag.remove(&1), Some((1, ())));

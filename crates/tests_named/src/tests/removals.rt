@@ -25,7 +25,11 @@ fn a_removed_key_is_free_again(rt: HostRuntime) {
         (dag.key_of(one), dag.key_of(two), dag.key_of(three)),
         (Some(&1), None, Some(&3)),
     );
-    same(&rt, dag.depend(&1, &2, 4), Err(DependError::UnknownWhat(4)));
+    same(
+        &rt,
+        dag.depend(&1, &2, 4),
+        Err(DependError::UnknownDependent(4)),
+    );
     // No path leads from 1 to 3 any more.
     made(&rt, dag.depend(&3, &1, 31));
     // The next node gets the index that was vacated.

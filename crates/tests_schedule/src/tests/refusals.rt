@@ -7,6 +7,7 @@ use daggy_graph::graph::DiGraph;
 use daggy_schedule::on_workers::schedule_on;
 use daggy_schedule::order_by::topological_order_by;
 use daggy_schedule::ready::Ready;
+use daggy_schedule::ready_by_key::ReadyByKey;
 use daggy_schedule::schedule::{Schedule, ScheduleError};
 use daggy_stable::stable_graph::StableDiGraph;
 use std::alloc::{AllocError, Global};
@@ -39,6 +40,18 @@ fn ready_again<S: Store<u32, NodeWeight = u64, EdgeWeight = ()>>(
     let mut ready = match Ready::new(alloc, dag) {
         Ok(ready) => ready,
         Err(AllocError) => made(rt, Ready::new(alloc, dag)),
+    };
+    same(rt, ready.next(dag).map(NodeIndex::index), Some(0));
+}
+
+fn ready_by_key_again<S: Store<u32, NodeWeight = u64, EdgeWeight = ()>>(
+    rt: &impl Abort,
+    alloc: Global,
+    dag: &Plain<S>,
+) {
+    let mut ready = match ReadyByKey::new(alloc, dag, |_, key| *key) {
+        Ok(ready) => ready,
+        Err(AllocError) => made(rt, ReadyByKey::new(alloc, dag, |_, key| *key)),
     };
     same(rt, ready.next(dag).map(NodeIndex::index), Some(0));
 }
@@ -87,6 +100,7 @@ fn assign_again<S: Store<u32, NodeWeight = u64, EdgeWeight = ()>>(
 fn again<S: Store<u32, NodeWeight = u64, EdgeWeight = ()>>(rt: &impl Abort, alloc: Global) {
     let dag = two_nodes::<S>(rt, alloc);
     ready_again(rt, alloc, &dag);
+    ready_by_key_again(rt, alloc, &dag);
     schedule_again(rt, alloc, &dag);
     order_again(rt, alloc, &dag);
     assign_again(rt, alloc, &dag);

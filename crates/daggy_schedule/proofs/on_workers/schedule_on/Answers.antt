@@ -24,17 +24,17 @@ pub returns-clause-busy : goal.returns-clause-busy
 returns-clause-busy g c =
     let graph = c.args.dag.now.graph in
     let made = c.into_assignment.result in
-    let shop = c.in_ok-shop.shop in
+    let done = c.in_ok-done.done in
     let count = c.get.result in
     let D : _ → Type 0 = λ z. AreKeptBusy graph z.items made.starts.items made.workers.items (non_zero_usize_get c.args.workers) in
     let S : List ℕ → Type 0 = λ z.
     AreKeptBusy graph c.in_ok-plan.plan.durations.items z made.workers.items (non_zero_usize_get c.args.workers) in
     let W : List ℕ → Type 0 = λ z.
-    AreKeptBusy graph c.in_ok-plan.plan.durations.items shop.starts z (non_zero_usize_get c.args.workers) in
-    let C : ℕ → Type 0 = λ z. AreKeptBusy graph c.in_ok-plan.plan.durations.items shop.starts shop.workers z in
+    AreKeptBusy graph c.in_ok-plan.plan.durations.items done.starts z (non_zero_usize_get c.args.workers) in
+    let C : ℕ → Type 0 = λ z. AreKeptBusy graph c.in_ok-plan.plan.durations.items done.starts done.workers z in
     subst D (sym c.into_assignment.ensures.durations)
     (subst S (sym c.into_assignment.ensures.starts)
-    (subst W (sym c.into_assignment.ensures.workers) (subst C c.get.ensures.value c.in_ok-shop.ensures.busy)))
+    (subst W (sym c.into_assignment.ensures.workers) (subst C c.get.ensures.value c.in_ok-done.ensures.busy)))
 
 pub returns-clause-near_best : goal.returns-clause-near_best
 returns-clause-near_best g c =
@@ -43,6 +43,6 @@ returns-clause-near_best g c =
     let count = non_zero_usize_get c.args.workers in
     let D : _ → Type 0 = λ z. IsNearBest graph z.items count made.makespan in
     let M : ℕ → Type 0 = λ z. IsNearBest graph c.in_ok-plan.plan.durations.items count z in
-    let C : ℕ → Type 0 = λ z. IsNearBest graph c.in_ok-plan.plan.durations.items z c.in_ok-shop.shop.now in
+    let C : ℕ → Type 0 = λ z. IsNearBest graph c.in_ok-plan.plan.durations.items z c.in_ok-done.done.now in
     subst D (sym c.into_assignment.ensures.durations)
-    (subst M (sym c.into_assignment.ensures.makespan) (subst C c.get.ensures.value c.in_ok-shop.ensures.near_best))
+    (subst M (sym c.into_assignment.ensures.makespan) (subst C c.get.ensures.value c.in_ok-done.ensures.near_best))

@@ -14,8 +14,8 @@ use Rattle.daggy_base.specs.WellFormed.{IsWellFormed}
 use Rattle.daggy_base.proofs.OutEdgesRead.{below_bound}
 use Rattle.daggy_schedule.specs.Work.{Work}
 use Rattle.daggy_schedule.specs.Passes.{later_by}
-use Rattle.daggy_schedule.specs.Floor.{Floor, Begins, Finishes, IsTooLate}
-use Rattle.daggy_schedule.proofs.Shop.{taken_contains}
+use Rattle.daggy_schedule.specs.Workers.{Progress, Begins, Finishes, IsTooLate}
+use Rattle.daggy_schedule.proofs.Workers.{taken_contains}
 use Rattle.daggy_schedule.proofs.Undone.{undone, undone_falls}
 use Rattle.daggy_schedule.proofs.Working.{IsWorking, IsStarting, working_from, working_wait, working_begin, working_finish}
 use Rattle.daggy_schedule.proofs.Working.{waiting_low, running_low, running_out, working_too_late, working_assigned}
@@ -28,10 +28,10 @@ events-init g c =
     let plan = c.args.plan.now in
     let bound = c.node_bound.result in
     let is : bound ≡ node_bound graph = c.node_bound.ensures.value ∙ ap node_bound c.graph.ensures.graph in
-    let P : Floor → Type 0 = λ z.
+    let P : Progress → Type 0 = λ z.
     IsWorking graph plan.durations.items plan.starts.items (later_by plan.starts.items plan.slack.items) c.args.count
     c.in_ok-ready.ready z in
-    subst P (sym c.in_ok-shop.ensures)
+    subst P (sym c.in_ok-workers.ensures)
     (working_from graph plan.durations.items plan.starts.items (later_by plan.starts.items plan.slack.items) c.args.count
     c.in_ok-ready.ready bound is c.in_ok-ready.ensures.under_way c.in_ok-ready.ensures.none_out)
 
@@ -102,7 +102,7 @@ begin-init g c =
     let plan = c.args.plan.now in
     let P : Work → Type 0 = λ z.
     IsStarting graph plan.durations.items plan.starts.items (later_by plan.starts.items plan.slack.items) c.args.count z
-    c.ready.shop in
+    c.ready.workers in
     subst P (sym (c.ready-in-ready.view_is ∙ c.in_default.ensures.unchanged refl)) (record {
       working = c.ready.invariant.working;
       none_ready = c.in_default.ensures.none.0 refl;
@@ -125,7 +125,7 @@ returns-in_err-begin_next-clause-overflow g c is =
     let end = g.Ix.IndexType.greatest in
     let W : Graph _ _ → Type 0 = λ z. IsWellFormed end z in
     let w = subst W c.graph.ensures.graph c.node_bound.ensures.well_formed in
-    let P : List ℕ → Type 0 = λ z. IsTooLate z c.begin.shop in
+    let P : List ℕ → Type 0 = λ z. IsTooLate z c.begin.workers in
     let error = c.in_err-begin_next.field-0.0 in
     let E : _ → Type 0 = λ z. IsErrAnd z (λ e. e ≡ error) in
     let same : Overflow ≡ error = subst E is c.from_residual-in_err-begin_next.ensures.1 in
@@ -135,14 +135,14 @@ returns-in_err-begin_next-clause-overflow g c is =
 pub begin-smaller : goal.begin-smaller
 begin-smaller g c =
     let b = c.in_ok-begin_next.ensures.begun (ap Ok c.if-branch.true) in
-    omega (arith, length_permutation c.begin.shop.waiting ((b.key, b.node) ∷ c.begin_next.new.self.waiting) b.taken)
+    omega (arith, length_permutation c.begin.workers.waiting ((b.key, b.node) ∷ c.begin_next.new.self.waiting) b.taken)
 
 pub begin-preserved : goal.begin-preserved
 begin-preserved g c =
     let end = g.Ix.IndexType.greatest in
     let W : Graph _ _ → Type 0 = λ z. IsWellFormed end z in
     let w = subst W c.graph.ensures.graph c.node_bound.ensures.well_formed in
-    let B : List ℕ → Type 0 = λ z. Begins z c.args.count c.begin.shop c.begin_next.new.self in
+    let B : List ℕ → Type 0 = λ z. Begins z c.args.count c.begin.workers c.begin_next.new.self in
     let b = subst B c.as_slice.ensures.value (c.in_ok-begin_next.ensures.begun (ap Ok c.if-branch.true)) in
     record {
       working = working_begin c.begin.invariant.working w c.begin.invariant.none_ready c.begin_next.new.self b;
@@ -153,7 +153,7 @@ pub finish_next-requires : goal.finish_next-requires
 finish_next-requires g c =
     let stuck = c.in_ok-begin_next.ensures.stuck (ap Ok c.if-branch.false) in
     let w = c.begin.invariant.working in
-    let P : Floor → Type 0 = λ z. (n : ℕ) → Contains (nodes_of z.running) n → n < length z.workers in
+    let P : Progress → Type 0 = λ z. (n : ℕ) → Contains (nodes_of z.running) n → n < length z.workers in
     subst P (sym stuck.0) (λ n runs. omega (arith, running_low w n runs, w.workers_long))
 
 pub returns-in_default-2-clause-sized : goal.returns-in_default-2-clause-sized
@@ -164,7 +164,7 @@ returns-in_default-2-clause-sized g c =
     × (c.finish_next.new.self ≡ c.begin_next.new.self)) (λ n.
     Finishes (g.Ix.IndexType.number n) c.begin_next.new.self c.finish_next.new.self) in
     let none = subst M c.in_default-2.is c.in_ok-n.ensures in
-    let P : Floor → Type 0 = λ z. (length z.starts ≡ node_bound c.args.dag.now.graph)
+    let P : Progress → Type 0 = λ z. (length z.starts ≡ node_bound c.args.dag.now.graph)
     × (length z.workers ≡ node_bound c.args.dag.now.graph) in
     subst P (sym (none.1 ∙ stuck.0)) (w.starts_long, w.workers_long)
 
@@ -180,9 +180,9 @@ returns-in_default-2-clause-assigned g c =
     × (c.finish_next.new.self ≡ c.begin_next.new.self)) (λ n.
     Finishes (g.Ix.IndexType.number n) c.begin_next.new.self c.finish_next.new.self) in
     let none = subst M c.in_default-2.is c.in_ok-n.ensures in
-    let R : Floor → Type 0 = λ z. z.running ≡ [] in
+    let R : Progress → Type 0 = λ z. z.running ≡ [] in
     let runs = subst R stuck.0 none.0 in
-    let P : Floor → Type 0 = λ z. IsAssignment graph plan.durations.items z.starts z.workers c.args.count z.now in
+    let P : Progress → Type 0 = λ z. IsAssignment graph plan.durations.items z.starts z.workers c.args.count z.now in
     subst P (sym (none.1 ∙ stuck.0))
     (working_assigned c.begin.invariant.working w c.begin.invariant.none_ready runs stuck.1 c.requires.some)
 
@@ -198,9 +198,9 @@ returns-in_default-2-clause-busy g c =
     × (c.finish_next.new.self ≡ c.begin_next.new.self)) (λ n.
     Finishes (g.Ix.IndexType.number n) c.begin_next.new.self c.finish_next.new.self) in
     let none = subst M c.in_default-2.is c.in_ok-n.ensures in
-    let R : Floor → Type 0 = λ z. z.running ≡ [] in
+    let R : Progress → Type 0 = λ z. z.running ≡ [] in
     let runs = subst R stuck.0 none.0 in
-    let P : Floor → Type 0 = λ z. AreKeptBusy graph plan.durations.items z.starts z.workers c.args.count in
+    let P : Progress → Type 0 = λ z. AreKeptBusy graph plan.durations.items z.starts z.workers c.args.count in
     subst P (sym (none.1 ∙ stuck.0))
     (working_busy c.begin.invariant.working w c.begin.invariant.none_ready runs stuck.1 c.requires.some)
 
@@ -216,9 +216,9 @@ returns-in_default-2-clause-urgent g c =
     × (c.finish_next.new.self ≡ c.begin_next.new.self)) (λ n.
     Finishes (g.Ix.IndexType.number n) c.begin_next.new.self c.finish_next.new.self) in
     let none = subst M c.in_default-2.is c.in_ok-n.ensures in
-    let R : Floor → Type 0 = λ z. z.running ≡ [] in
+    let R : Progress → Type 0 = λ z. z.running ≡ [] in
     let runs = subst R stuck.0 none.0 in
-    let P : Floor → Type 0 = λ z. IsMostUrgentFirst graph plan.durations.items z.starts in
+    let P : Progress → Type 0 = λ z. IsMostUrgentFirst graph plan.durations.items z.starts in
     subst P (sym (none.1 ∙ stuck.0)) (record {
       time = plan.makespan;
       latest = later_by plan.starts.items plan.slack.items;
@@ -238,9 +238,9 @@ returns-in_default-2-clause-bound g c =
     × (c.finish_next.new.self ≡ c.begin_next.new.self)) (λ n.
     Finishes (g.Ix.IndexType.number n) c.begin_next.new.self c.finish_next.new.self) in
     let none = subst M c.in_default-2.is c.in_ok-n.ensures in
-    let R : Floor → Type 0 = λ z. z.running ≡ [] in
+    let R : Progress → Type 0 = λ z. z.running ≡ [] in
     let runs = subst R stuck.0 none.0 in
-    let P : Floor → Type 0 = λ z. IsWithinBound graph plan.durations.items c.args.count z.now in
+    let P : Progress → Type 0 = λ z. IsWithinBound graph plan.durations.items c.args.count z.now in
     subst P (sym (none.1 ∙ stuck.0))
     (working_bound c.begin.invariant.working w c.begin.invariant.none_ready runs stuck.1 c.requires.some
     (map g.Ix.IndexType.number plan.critical.items) plan.makespan c.requires.critical c.requires.met)
@@ -257,9 +257,9 @@ returns-in_default-2-clause-near_best g c =
     × (c.finish_next.new.self ≡ c.begin_next.new.self)) (λ n.
     Finishes (g.Ix.IndexType.number n) c.begin_next.new.self c.finish_next.new.self) in
     let none = subst M c.in_default-2.is c.in_ok-n.ensures in
-    let R : Floor → Type 0 = λ z. z.running ≡ [] in
+    let R : Progress → Type 0 = λ z. z.running ≡ [] in
     let runs = subst R stuck.0 none.0 in
-    let P : Floor → Type 0 = λ z. IsNearBest graph plan.durations.items c.args.count z.now in
+    let P : Progress → Type 0 = λ z. IsNearBest graph plan.durations.items c.args.count z.now in
     subst P (sym (none.1 ∙ stuck.0))
     (near_best c.in_ok-ready.ensures.ready.0 c.in_ok-ready.ensures.ready.1 c.requires.some
     (working_bound c.begin.invariant.working w c.begin.invariant.none_ready runs stuck.1 c.requires.some
@@ -277,14 +277,14 @@ done-requires-clause-out g c =
     let M : _ → Type 0 = λ z. MatchOption z ((c.begin_next.new.self.running ≡ [])
     × (c.finish_next.new.self ≡ c.begin_next.new.self)) (λ n.
     Finishes (g.Ix.IndexType.number n) c.begin_next.new.self c.finish_next.new.self) in
-    let F : Floor → Type 0 = λ z. Finishes n z c.finish_next.new.self in
+    let F : Progress → Type 0 = λ z. Finishes n z c.finish_next.new.self in
     let ends = subst F stuck.0 (subst M c.in-Some-2.is c.in_ok-n.ensures) in
     let I : Work → Type 0 = λ z.
     IsStarting graph plan.durations.items plan.starts.items (later_by plan.starts.items plan.slack.items) c.args.count z
-    c.begin.shop in
+    c.begin.workers in
     let s = subst I c.ready-in-ready.view_is c.begin.invariant in
     running_out s.working n
-    (taken_contains c.begin.shop.running c.finish_next.new.self.running c.finish_next.new.self.now n ends.taken)
+    (taken_contains c.begin.workers.running c.finish_next.new.self.running c.finish_next.new.self.now n ends.taken)
 
 pub events-smaller : goal.events-smaller
 events-smaller g c =
@@ -298,14 +298,14 @@ events-smaller g c =
     let M : _ → Type 0 = λ z. MatchOption z ((c.begin_next.new.self.running ≡ [])
     × (c.finish_next.new.self ≡ c.begin_next.new.self)) (λ n.
     Finishes (g.Ix.IndexType.number n) c.begin_next.new.self c.finish_next.new.self) in
-    let F : Floor → Type 0 = λ z. Finishes n z c.finish_next.new.self in
+    let F : Progress → Type 0 = λ z. Finishes n z c.finish_next.new.self in
     let ends = subst F stuck.0 (subst M c.in-Some-2.is c.in_ok-n.ensures) in
     let I : Work → Type 0 = λ z.
     IsStarting graph plan.durations.items plan.starts.items (later_by plan.starts.items plan.slack.items) c.args.count z
-    c.begin.shop in
+    c.begin.workers in
     let s = subst I c.ready-in-ready.view_is c.begin.invariant in
     let out = running_out s.working n
-    (taken_contains c.begin.shop.running c.finish_next.new.self.running c.finish_next.new.self.now n ends.taken) in
+    (taken_contains c.begin.workers.running c.finish_next.new.self.running c.finish_next.new.self.now n ends.taken) in
     let low = below_bound graph.nodes n (s.working.under.out n out.0).0 in
     let falls = undone_falls c.next.new.self.done c.done.new.self.done n c.done.ensures.done (node_bound graph) low out.1 in
     let same = ap (λ z. z.done) (c.in_default.ensures.unchanged refl) ∙ c.ready.invariant.same_done in
@@ -323,11 +323,11 @@ events-preserved g c =
     let M : _ → Type 0 = λ z. MatchOption z ((c.begin_next.new.self.running ≡ [])
     × (c.finish_next.new.self ≡ c.begin_next.new.self)) (λ n.
     Finishes (g.Ix.IndexType.number n) c.begin_next.new.self c.finish_next.new.self) in
-    let F : Floor → Type 0 = λ z. Finishes n z c.finish_next.new.self in
+    let F : Progress → Type 0 = λ z. Finishes n z c.finish_next.new.self in
     let ends = subst F stuck.0 (subst M c.in-Some-2.is c.in_ok-n.ensures) in
     let I : Work → Type 0 = λ z.
     IsStarting graph plan.durations.items plan.starts.items (later_by plan.starts.items plan.slack.items) c.args.count z
-    c.begin.shop in
+    c.begin.workers in
     let s = subst I c.ready-in-ready.view_is c.begin.invariant in
     working_finish s.working w c.requires.earliest.feasible s.none_ready stuck.1 c.done.new.self c.finish_next.new.self n ends
     c.done.ensures.done c.done.ensures.out c.done.ensures.ready c.done.ensures.under_way

@@ -8,7 +8,7 @@ use Rattle.daggy_schedule.proofs.on_workers.work_off.Given as goal
 abbrev pub invariant-events : goal.invariant-events
 invariant-events g l =
     IsWorking l.dag.graph l.plan.durations.items l.plan.starts.items
-    (later_by l.plan.starts.items l.plan.slack.items) l.count l.ready l.shop
+    (later_by l.plan.starts.items l.plan.slack.items) l.count l.ready l.workers
 
 abbrev pub decreases-events : goal.decreases-events
 decreases-events g l = undone (node_bound l.dag.graph) l.ready.done
@@ -17,7 +17,7 @@ abbrev pub invariant-ready : goal.invariant-ready
 invariant-ready g l =
     record {
       working : IsWorking l.dag.graph l.plan.durations.items l.plan.starts.items
-          (later_by l.plan.starts.items l.plan.slack.items) l.count l.ready l.shop;
+          (later_by l.plan.starts.items l.plan.slack.items) l.count l.ready l.workers;
       same_done : l.ready.done ≡ l.initial.ready.done;
     }
 
@@ -32,7 +32,7 @@ invariant-begin g l =
       ready = drop l.ready-inside.head (take l.ready-inside.tail l.ready-inside.queue.items);
       out = l.ready-inside.out.items;
       done = l.ready-inside.done.items;
-    }) l.shop
+    }) l.workers
 
 abbrev pub decreases-begin : goal.decreases-begin
-decreases-begin g l = length l.shop.waiting
+decreases-begin g l = length l.workers.waiting

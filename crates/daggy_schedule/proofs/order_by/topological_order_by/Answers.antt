@@ -57,7 +57,7 @@ ready-preserved-in-Continue-branch-3 g c =
     (weight, at, subst P (sym (g.Ix.IndexType.of_number c.in-Some.n)) c.key.ensures) in
     record {
       under_way = given.under_way;
-      ordering = ordering_wait c.ready.invariant.ordering c.next.new.self c.add.new.self c.key.result n (ap is_some at) key fresh
+      ordering = ordering_wait c.ready.invariant.ordering c.next.new.self c.add.new.self.items c.key.result n (ap is_some at) key fresh
           given.is_out given.out given.done c.in_ok-add.ensures;
     }
 
@@ -90,7 +90,7 @@ done-requires-clause-out g c =
     let P : Work → Type 0 = λ z. IsOut z n in
     subst P (sym (c.in_default.ensures.unchanged refl))
     (waits_out c.ready.invariant.ordering c.node_count.ensures.dag.well_formed c.ready.invariant.under_way none
-    c.take_first.new.self first.0 n c.in-Some-take_first.ensures.taken)
+    c.take_first.new.self.items first.0 n c.in-Some-take_first.ensures.taken)
 
 pub order-smaller : goal.order-smaller
 order-smaller g c =
@@ -100,7 +100,7 @@ order-smaller g c =
     let n = number first.1 in
     let items = c.order.order.items in
     let room = ordering_room c.ready.invariant.ordering c.node_count.ensures.dag.well_formed c.ready.invariant.under_way none
-    c.take_first.new.self first.0 n c.in-Some-take_first.ensures.taken in
+    c.take_first.new.self.items first.0 n c.in-Some-take_first.ensures.taken in
     omega (
       arith,
       room,
@@ -120,16 +120,16 @@ order-preserved g c =
     let same = c.in_default.ensures.unchanged refl in
     let none = c.in_default.ensures.none.0 refl in
     let IsKey = IsKeyOf g.Ix.IndexType.of (goal.F-post g) c.args.key graph in
-    let S : Work → Type 0 = λ z. IsOrdering g.K.Ord.cmp IsKey graph z c.ready.candidates (map number items) in
+    let S : Work → Type 0 = λ z. IsOrdering g.K.Ord.cmp IsKey graph z c.ready.candidates.items (map number items) in
     let U : Work → Type 0 = λ z. IsUnderWay graph z in
     let R : Work → Type 0 = λ z. z.ready ≡ [] in
     let more : map number c.push.new.self.items ≡ map number items ++ n ∷ [] =
     ap (map number) c.in_ok-push.ensures.items ∙ map-append number items (first.1 ∷ []) in
-    let O : List ℕ → Type 0 = λ z. IsOrdering g.K.Ord.cmp IsKey graph c.done.new.self c.take_first.new.self z in
+    let O : List ℕ → Type 0 = λ z. IsOrdering g.K.Ord.cmp IsKey graph c.done.new.self c.take_first.new.self.items z in
     record {
       under_way = c.done.ensures.under_way;
       ordering = subst O (sym more) (ordering_next (subst S (sym same) c.ready.invariant.ordering)
           c.node_count.ensures.dag.well_formed (subst U (sym same) c.ready.invariant.under_way) (subst R (sym same) none)
-          c.done.new.self c.take_first.new.self first.0 n c.in-Some-take_first.ensures.taken c.in-Some-take_first.ensures.first
+          c.done.new.self c.take_first.new.self.items first.0 n c.in-Some-take_first.ensures.taken c.in-Some-take_first.ensures.first
           c.done.ensures.done c.done.ensures.out);
     }

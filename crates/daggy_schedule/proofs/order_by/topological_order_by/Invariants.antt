@@ -10,7 +10,7 @@ invariant-order g l =
     record {
       under_way : IsUnderWay l.dag.graph l.ready;
       ordering : IsOrdering g.K.Ord.cmp (IsKeyOf g.Ix.IndexType.of (goal.F-post g) l.key l.dag.graph) l.dag.graph l.ready
-          l.candidates (map g.Ix.IndexType.number l.order.items);
+          l.candidates.items (map g.Ix.IndexType.number l.order.items);
     }
 
 abbrev pub decreases-order : goal.decreases-order
@@ -21,7 +21,7 @@ invariant-ready g l =
     record {
       under_way : IsUnderWay l.dag.graph l.ready;
       ordering : IsOrdering g.K.Ord.cmp (IsKeyOf g.Ix.IndexType.of (goal.F-post g) l.key l.dag.graph) l.dag.graph l.ready
-          l.candidates (map g.Ix.IndexType.number l.order.items);
+          l.candidates.items (map g.Ix.IndexType.number l.order.items);
     }
 
 abbrev pub decreases-ready : goal.decreases-ready

@@ -11,9 +11,9 @@ returns-clause-none g c =
     let P : ℕ → ℕ → Type 0 = λ u v. Reaches s.graph v u in
     let no = c.path.ensures.none in (
       λ is at. no.0 is (subst (λ z. Reaches z.graph v u) (sym c.self.view_is)
-          (from_nodes g.K.PartialEq.eq s.keys c.args.on.now c.args.what.now P
+          (from_nodes (g.Q.Equivalent.equivalent c.args.on) (g.Q.Equivalent.equivalent c.args.what) s.keys P
           c.in-Some.ensures.found c.in-Some-index_of.ensures.found at)),
-      λ none. no.1 (λ r. none (for_nodes g.K.PartialEq.eq s.keys c.args.on.now c.args.what.now P
+      λ none. no.1 (λ r. none (for_nodes (g.Q.Equivalent.equivalent c.args.on) (g.Q.Equivalent.equivalent c.args.what) s.keys P
           c.in-Some.ensures.found c.in-Some-index_of.ensures.found
           (subst (λ z. Reaches z.graph v u) c.self.view_is r))),
     )

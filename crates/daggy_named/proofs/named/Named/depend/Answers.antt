@@ -16,7 +16,7 @@ returns-then-not-can_add_edge-clause-full g c =
       | inl below ↦ absurd (false≢true (sym c.if-not-can_add_edge.true ∙ c.can_add_edge.ensures.1 below))
       | inr above ↦ above
     ] in (
-      λ _. for_nodes g.K.PartialEq.eq s.keys c.args.on.now c.args.what.now (λ _ _. end ≤ edge_count s.graph)
+      λ _. for_nodes (g.Q.Equivalent.equivalent c.args.on) (g.Q.Equivalent.equivalent c.args.what) s.keys (λ _ _. end ≤ edge_count s.graph)
           c.in-Some.ensures.found c.in-Some-index_of.ensures.found
           (subst (λ z. end ≤ edge_count z.graph) c.self.view_is full),
       λ _. refl,
@@ -37,13 +37,13 @@ returns-clause-cycle g c =
     let P : ℕ → ℕ → Type 0 = λ u v. edge_count s.graph < end × Reaches s.graph v u in
     let room : edge_count c.self.inside.dag.graph < end = c.can_add_edge.ensures.0 c.if-not-can_add_edge.false in
     let decided = cycle_told t c.add_edge.ensures.cycle in (
-      λ is. for_nodes g.K.PartialEq.eq s.keys c.args.on.now c.args.what.now P
+      λ is. for_nodes (g.Q.Equivalent.equivalent c.args.on) (g.Q.Equivalent.equivalent c.args.what) s.keys P
           c.in-Some.ensures.found c.in-Some-index_of.ensures.found (
             subst (λ z. edge_count z.graph < end) c.self.view_is room,
             subst (λ z. Reaches z.graph v u) c.self.view_is (decided.0 is),
           ),
       λ at. decided.1 (subst (λ z. Reaches z.graph v u) (sym c.self.view_is)
-          (from_nodes g.K.PartialEq.eq s.keys c.args.on.now c.args.what.now P
+          (from_nodes (g.Q.Equivalent.equivalent c.args.on) (g.Q.Equivalent.equivalent c.args.what) s.keys P
           c.in-Some.ensures.found c.in-Some-index_of.ensures.found at).1),
     )
 
@@ -64,10 +64,10 @@ returns-clause-added g c =
     ok_told
     (λ e. (g.Ix.IndexType.number e ≡ next_edge old) × (new ≡ with_edge old u v c.args.weight))
     (λ e. (g.Ix.IndexType.number e ≡ next_edge s.graph)
-    × ForNodes g.K.PartialEq.eq s.keys c.args.on.now c.args.what.now P) t
+    × ForNodes (g.Q.Equivalent.equivalent c.args.on) (g.Q.Equivalent.equivalent c.args.what) s.keys P) t
     (λ e p. (
       p.0 ∙ ap (λ z. next_edge z.graph) c.self.view_is,
-      for_nodes g.K.PartialEq.eq s.keys c.args.on.now c.args.what.now P
+      for_nodes (g.Q.Equivalent.equivalent c.args.on) (g.Q.Equivalent.equivalent c.args.what) s.keys P
           c.in-Some.ensures.found c.in-Some-index_of.ensures.found
           (p.1 ∙ ap (λ z. with_edge z.graph u v c.args.weight) c.self.view_is),
     ))

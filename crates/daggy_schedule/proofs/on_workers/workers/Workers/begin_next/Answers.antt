@@ -1,33 +1,33 @@
 use Rattle.std.proofs.Common.{List, ◌≤◌, ◌≡◌, ◌<◌, ◌∙◌, ℕ, length, get_or, set, sym, ap, subst, arith, rules, refl, vec_len}
 use Rattle.std.proofs.Common.{Contains}
 use Rattle.daggy_schedule.specs.LeastFirst.{nodes_of}
-use Rattle.daggy_schedule.specs.Floor.{Floor, Begins, IsTooLate, IsIdleWorker}
+use Rattle.daggy_schedule.specs.Workers.{Progress, Begins, IsTooLate, IsIdleWorker}
 use Rattle.std.specs.List.{AllByRecursion}
-use Rattle.daggy_schedule.proofs.Shop.{taken_contains, all_later}
-use Rattle.daggy_schedule.proofs.on_workers.shop.Shop.begin_next.Goals.{in-Some+else-finish-self, in_default}
-use Rattle.daggy_schedule.proofs.on_workers.shop.Shop.begin_next.Given.{Over}
-use Rattle.daggy_schedule.proofs.on_workers.shop.Shop.begin_next.Goals.{After-index-i}
-use Rattle.daggy_schedule.proofs.on_workers.shop.Shop.begin_next.Goals as goal
+use Rattle.daggy_schedule.proofs.Workers.{taken_contains, all_later}
+use Rattle.daggy_schedule.proofs.on_workers.workers.Workers.begin_next.Goals.{in-Some+else-finish-self, in_default}
+use Rattle.daggy_schedule.proofs.on_workers.workers.Workers.begin_next.Given.{Over}
+use Rattle.daggy_schedule.proofs.on_workers.workers.Workers.begin_next.Goals.{After-index-i}
+use Rattle.daggy_schedule.proofs.on_workers.workers.Workers.begin_next.Goals as goal
 
-waited : (g : Over) (c : After-index-i g) → Contains (nodes_of c.self.inside.waiting) (g.Ix.IndexType.number c.in-Some-take_first.first.1)
+waited : (g : Over) (c : After-index-i g) → Contains (nodes_of c.self.inside.waiting.items) (g.Ix.IndexType.number c.in-Some-take_first.first.1)
 waited g c =
     let first = c.in-Some-take_first.first in
-    taken_contains c.self.inside.waiting c.take_first.new.self first.0 (g.Ix.IndexType.number first.1)
+    taken_contains c.self.inside.waiting.items c.take_first.new.self.items first.0 (g.Ix.IndexType.number first.1)
     c.in-Some-take_first.ensures.taken
 
 low_durations : (g : Over) (c : After-index-i g) → g.Ix.IndexType.number c.in-Some-take_first.first.1 < length c.args.durations.now
 low_durations g c =
-    let P : Floor → Type 0 = λ z. (m : ℕ) → Contains (nodes_of z.waiting) m → m < length c.args.durations.now in
+    let P : Progress → Type 0 = λ z. (m : ℕ) → Contains (nodes_of z.waiting) m → m < length c.args.durations.now in
     subst P (sym c.self.view_is) c.requires.durations _ (waited g c)
 
 low_starts : (g : Over) (c : After-index-i g) → g.Ix.IndexType.number c.in-Some-take_first.first.1 < length c.self.inside.starts.items
 low_starts g c =
-    let P : Floor → Type 0 = λ z. (m : ℕ) → Contains (nodes_of z.waiting) m → m < length z.starts in
+    let P : Progress → Type 0 = λ z. (m : ℕ) → Contains (nodes_of z.waiting) m → m < length z.starts in
     subst P (sym c.self.view_is) c.requires.starts _ (waited g c)
 
 low_workers : (g : Over) (c : After-index-i g) → g.Ix.IndexType.number c.in-Some-take_first.first.1 < length c.self.inside.workers.items
 low_workers g c =
-    let P : Floor → Type 0 = λ z. (m : ℕ) → Contains (nodes_of z.waiting) m → m < length z.workers in
+    let P : Progress → Type 0 = λ z. (m : ℕ) → Contains (nodes_of z.waiting) m → m < length z.workers in
     subst P (sym c.self.view_is) c.requires.workers _ (waited g c)
 
 pub offset_bounds-durations-i : goal.offset_bounds-durations-i
@@ -40,10 +40,10 @@ pub returns-in_default-checked_add-clause-overflow : goal.returns-in_default-che
 returns-in_default-checked_add-clause-overflow g c _ =
     let n = g.Ix.IndexType.number c.in-Some-take_first.first.1 in
     let durations = c.args.durations.now in
-    let P : Floor → Type 0 = λ z. IsTooLate durations z in
+    let P : Progress → Type 0 = λ z. IsTooLate durations z in
     let too_late : IsTooLate durations (record {
-      waiting = c.self.inside.waiting;
-      running = c.self.inside.running;
+      waiting = c.self.inside.waiting.items;
+      running = c.self.inside.running.items;
       free = c.self.inside.free.items;
       starts = c.self.inside.starts.items;
       workers = c.self.inside.workers.items;
@@ -74,22 +74,22 @@ returns-clause-begun g c _ =
     let durations = c.args.durations.now in
     let at = c.index-i.ensures.value in
     let finish = c.in-Some-checked_add.finish in
-    let new : Floor = record {
-      waiting = c.take_first.new.self;
-      running = c.add.new.self;
+    let new : Progress = record {
+      waiting = c.take_first.new.self.items;
+      running = c.add.new.self.items;
       free = c.idle_worker-worker.new.free.items;
       starts = c.note.new.starts.items;
       workers = c.note.new.workers.items;
       now = c.self.inside.now;
     } in
-    let P : Floor → Type 0 = λ z. Begins durations c.args.count z new in
+    let P : Progress → Type 0 = λ z. Begins durations c.args.count z new in
     let busy = c.len-busy.ensures in
-    let E : Floor → Type 0 = λ z. AllByRecursion (λ p. z.now ≤ p.0) z.running in
+    let E : Progress → Type 0 = λ z. AllByRecursion (λ p. z.now ≤ p.0) z.running in
     let ends = subst E (sym c.self.view_is) c.requires.ends in
-    let later_runs : AllByRecursion (λ p. c.self.inside.now < p.0) c.self.inside.running =
+    let later_runs : AllByRecursion (λ p. c.self.inside.now < p.0) c.self.inside.running.items =
     elim c.match-first_key.branch [
       | in-Some+else-finish-self w ↦
-          all_later c.self.inside.now w.in-Some.finish c.self.inside.running ends w.in-Some.ensures.first
+          all_later c.self.inside.now w.in-Some.finish c.self.inside.running.items ends w.in-Some.ensures.first
           w.if-finish-self.false
       | in_default w ↦ (
           let N : List (ℕ × ℕ) → Type 0 = λ z. AllByRecursion (λ p. c.self.inside.now < p.0) z in

@@ -3,7 +3,7 @@ ghost use Rattle.std.specs.Prelude.{◌≡◌, ◌∷◌, ℕ, ◌<◌, ◌≤�
 ghost use Rattle.std.specs.Prelude.{OnOk, Contains, MatchOption, vec_len, slice_set};
 ghost use Rattle.std.specs.List.{AllByRecursion};
 ghost use Rattle.daggy_schedule.specs.LeastFirst.{nodes_of};
-ghost use Rattle.daggy_schedule.specs.Floor.{Waits, Begins, Finishes, IsStuck, IsTooLate, IsIdleWorker};
+ghost use Rattle.daggy_schedule.specs.Workers.{Waits, Begins, Finishes, IsStuck, IsTooLate, IsIdleWorker};
 ghost use Rattle.daggy_schedule.specs.declared.schedule.ScheduleError.TheVariants.{Overflow};
 
 use crate::candidates::Candidates;
@@ -15,7 +15,7 @@ use std::marker::Model;
 
 // Which nodes wait and which are being done, and who is free.
 #[derive(Drop)]
-pub(super) struct Shop<Ix: IndexType> {
+pub(super) struct Workers<Ix: IndexType> {
     // With their latest starts.
     waiting: Candidates<u64, Ix>,
     // With their finishes.
@@ -26,14 +26,14 @@ pub(super) struct Shop<Ix: IndexType> {
     now: u64,
 }
 
-impl<Ix: IndexType> Model for Shop<Ix> {
-    ghost use Rattle.daggy_schedule.specs.Floor.{Floor};
+impl<Ix: IndexType> Model for Workers<Ix> {
+    ghost use Rattle.daggy_schedule.specs.Workers.{Progress};
 
-    ghost Value = { Floor };
+    ghost Value = { Progress };
 
     ghost view = { λ s. record {
-      waiting = s.waiting;
-      running = s.running;
+      waiting = s.waiting.items;
+      running = s.running.items;
       free = s.free.items;
       starts = s.starts.items;
       workers = s.workers.items;
@@ -41,7 +41,7 @@ impl<Ix: IndexType> Model for Shop<Ix> {
     } };
 }
 
-impl<Ix: IndexType> Shop<Ix> {
+impl<Ix: IndexType> Workers<Ix> {
     // Nobody does anything yet. The lists are `bound` long.
     pub fn new(alloc: Global, bound: usize) -> Result<Self, AllocError>
         ensures { IfOk result (λ s. s ≡ record {
@@ -57,7 +57,7 @@ impl<Ix: IndexType> Shop<Ix> {
         starts.resize(bound, 0u64)?;
         let mut workers = Vec::new(alloc);
         workers.resize(bound, 0usize)?;
-        Ok(Shop {
+        Ok(Workers {
             waiting: Candidates::new(alloc),
             running: Candidates::new(alloc),
             free: Vec::new(alloc),

@@ -6,7 +6,7 @@ use Rattle.daggy_schedule.specs.LeastFirst.{Precedes, nodes_of}
 
 -- Which nodes wait, with their latest starts; which are being done, with their finishes; who is free; when each node that
 -- was begun started, and by whom it is done; and what time it is.
-pub record Floor : Type 0 where
+pub record Progress : Type 0 where
   pub waiting : List (ℕ × ℕ)
   pub running : List (ℕ × ℕ)
   pub free : List ℕ
@@ -15,7 +15,7 @@ pub record Floor : Type 0 where
   pub now : ℕ
 
 -- a node with its latest start waits
-pub record Waits (p : ℕ × ℕ) (old new : Floor) : Type 0 where
+pub record Waits (p : ℕ × ℕ) (old new : Progress) : Type 0 where
   pub added : IsPermutation (p ∷ old.waiting) new.waiting
   pub running : new.running ≡ old.running
   pub free : new.free ≡ old.free
@@ -29,7 +29,7 @@ IsIdleWorker busy free left worker =
     IsPermutation free (worker ∷ left) ⊎ ((free ≡ []) × (left ≡ []) × (worker ≡ busy))
 
 -- a node that waits is taken by a worker that does nothing, when all that finishes by now has finished
-pub record Begins (durations : List ℕ) (count : ℕ) (old new : Floor) : Type 0 where
+pub record Begins (durations : List ℕ) (count : ℕ) (old new : Progress) : Type 0 where
   pub key : ℕ
   pub node : ℕ
   pub finish : ℕ
@@ -46,7 +46,7 @@ pub record Begins (durations : List ℕ) (count : ℕ) (old new : Floor) : Type 
   pub now : new.now ≡ old.now
 
 -- the node that finishes next does so, and its worker is free
-pub record Finishes (n : ℕ) (old new : Floor) : Type 0 where
+pub record Finishes (n : ℕ) (old new : Progress) : Type 0 where
   pub taken : IsPermutation old.running ((new.now, n) ∷ new.running)
   pub first : AllByRecursion (λ p. new.now ≤ p.0) new.running
   pub free : new.free ≡ old.free ++ slice_index old.workers n ∷ []
@@ -55,11 +55,11 @@ pub record Finishes (n : ℕ) (old new : Floor) : Type 0 where
   pub workers : new.workers ≡ old.workers
 
 -- no node can begin: none waits, all workers are busy, or a node has to be finished first
-abbrev pub IsStuck : (count : ℕ) → Floor → Type 0
-IsStuck count floor =
-    (floor.waiting ≡ []) ⊎ ((count ≤ length floor.running) ⊎ ((n : ℕ) × Contains floor.running (floor.now, n)))
+abbrev pub IsStuck : (count : ℕ) → Progress → Type 0
+IsStuck count progress =
+    (progress.waiting ≡ []) ⊎ ((count ≤ length progress.running) ⊎ ((n : ℕ) × Contains progress.running (progress.now, n)))
 
 -- a node that waits would finish at 2 ^ 64 or later
-abbrev pub IsTooLate : (durations : List ℕ) → Floor → Type 0
-IsTooLate durations floor =
-    (n : ℕ) × Contains (nodes_of floor.waiting) n × (2 ^ 64 ≤ floor.now + slice_index durations n)
+abbrev pub IsTooLate : (durations : List ℕ) → Progress → Type 0
+IsTooLate durations progress =
+    (n : ℕ) × Contains (nodes_of progress.waiting) n × (2 ^ 64 ≤ progress.now + slice_index durations n)

@@ -1,6 +1,6 @@
 use Rattle.std.proofs.Common.{List, ◌∷◌, ℕ, IsPermutation, inl, sym, subst}
 use Rattle.std.proofs.lemmas.List.Sorted.{IsPermutation-to_front}
-use Rattle.daggy_schedule.proofs.on_workers.shop.idle_worker.Goals as goal
+use Rattle.daggy_schedule.proofs.on_workers.workers.idle_worker.Goals as goal
 
 pub returns-in-Some : goal.returns-in-Some
 returns-in-Some c =

@@ -1,0 +1,146 @@
+//! The questions, each with its answer in a line.
+use crate::walks::{breadth_first, depth_first, in_postorder};
+use anyhow::{Result, bail};
+use daggy::schedule::{Schedule, topological_order_by};
+use daggy::{Acyclic, EdgeIndex, NodeIndex, Store};
+use std::alloc::{AllocError, Global};
+use std::io::{self, Write};
+
+/// A dag of either kind, with a key and a duration of each node as its weight.
+pub type Timed<S> = Acyclic<u64, (), u32, S>;
+
+/// A dag of nodes with these weights, without edges.
+pub fn dag_of<S: Store<u32, NodeWeight = u64, EdgeWeight = ()>>(
+    alloc: Global,
+    weights: &[u64],
+) -> Result<Timed<S>> {
+    let mut dag = Timed::<S>::new(alloc);
+    for weight in weights {
+        if !dag.can_add_node() {
+            bail!("too many nodes");
+        }
+        dag.add_node(*weight)?;
+    }
+    Ok(dag)
+}
+
+/// Adds an edge.
+pub fn add_edge<S: Store<u32, NodeWeight = u64, EdgeWeight = ()>>(
+    dag: &mut Timed<S>,
+    parent: NodeIndex,
+    child: NodeIndex,
+) -> Result<()> {
+    if !dag.contains_node(parent) || !dag.contains_node(child) || !dag.can_add_edge() {
+        bail!("no such nodes, or too many edges");
+    }
+    dag.add_edge(parent, child, ())?;
+    Ok(())
+}
+
+/// Writes whether a path leads from a node to another, and how many edges a shortest one has.
+pub fn write_path<S: Store<u32, NodeWeight = u64, EdgeWeight = ()>, W: Write>(
+    out: &mut W,
+    dag: &mut Timed<S>,
+    from: NodeIndex,
+    to: NodeIndex,
+) -> Result<()> {
+    let (a, b) = (from.index(), to.index());
+    let reaches = dag.reaches(from, to);
+    write!(out, "path {a} {b}: {reaches}")?;
+    if let Some(path) = dag.path(from, to)? {
+        write!(out, " {}", path.len().saturating_sub(1))?;
+    }
+    writeln!(out)?;
+    Ok(())
+}
+
+/// Writes the answers to all other questions. In the end it reduces the dag.
+pub fn write_rest<S: Store<u32, NodeWeight = u64, EdgeWeight = ()>, W: Write>(
+    alloc: Global,
+    out: &mut W,
+    dag: &mut Timed<S>,
+) -> Result<()> {
+    let order = topological_order_by(alloc, dag, |_, key| *key)?;
+    write!(out, "order:")?;
+    write_nodes(out, order.as_slice())?;
+    let plan = Schedule::new(alloc, dag, |_, duration| *duration)?;
+    writeln!(out, "makespan: {}", plan.makespan)?;
+    for n in order.iter() {
+        write_relatives(out, dag, *n)?;
+        write_walks(alloc, out, dag.graph(), *n)?;
+    }
+    dag.transitive_reduce(order)?;
+    write_edges(alloc, out, dag)?;
+    Ok(())
+}
+
+// Writes the ancestors and the descendants of a node, by ascending index.
+fn write_relatives<S: Store<u32, NodeWeight = u64, EdgeWeight = ()>, W: Write>(
+    out: &mut W,
+    dag: &mut Timed<S>,
+    n: NodeIndex,
+) -> Result<()> {
+    let mut ancestors = dag.ancestors(&[n])?;
+    ancestors.sort()?;
+    write!(out, "ancestors {}:", n.index())?;
+    write_nodes(out, ancestors.as_slice())?;
+    let mut descendants = dag.descendants(&[n])?;
+    descendants.sort()?;
+    write!(out, "descendants {}:", n.index())?;
+    write_nodes(out, descendants.as_slice())?;
+    Ok(())
+}
+
+// Writes the nodes that a node reaches, in three orders.
+fn write_walks<S: Store<u32, NodeWeight = u64, EdgeWeight = ()>, W: Write>(
+    alloc: Global,
+    out: &mut W,
+    graph: &S,
+    n: NodeIndex,
+) -> Result<()> {
+    write!(out, "bfs:")?;
+    write_nodes(out, breadth_first(alloc, graph, n)?.as_slice())?;
+    write!(out, "dfs:")?;
+    write_nodes(out, depth_first(alloc, graph, n)?.as_slice())?;
+    write!(out, "postorder:")?;
+    write_nodes(out, in_postorder(alloc, graph, n)?.as_slice())?;
+    Ok(())
+}
+
+// Writes the indices of nodes.
+fn write_nodes<W: Write>(out: &mut W, nodes: &[NodeIndex]) -> io::Result<()> {
+    for n in nodes {
+        write!(out, " {}", n.index())?;
+    }
+    writeln!(out)
+}
+
+// The endpoints of each edge, in ascending order.
+fn edges_of<S: Store<u32, NodeWeight = u64, EdgeWeight = ()>>(
+    alloc: Global,
+    dag: &Timed<S>,
+) -> Result<Vec<(usize, usize)>, AllocError> {
+    let mut edges = Vec::new(alloc);
+    let end = EdgeIndex::<u32>::end().index();
+    for i in 0..dag.graph().edge_slots().min(end) {
+        if let Some((parent, child)) = dag.edge_endpoints(EdgeIndex::new(i)) {
+            edges.push((parent.index(), child.index()))?;
+        }
+    }
+    edges.sort()?;
+    Ok(edges)
+}
+
+// Writes all edges.
+fn write_edges<S: Store<u32, NodeWeight = u64, EdgeWeight = ()>, W: Write>(
+    alloc: Global,
+    out: &mut W,
+    dag: &Timed<S>,
+) -> Result<()> {
+    write!(out, "reduction:")?;
+    for (parent, child) in edges_of(alloc, dag)?.iter() {
+        write!(out, " {parent}-{child}")?;
+    }
+    writeln!(out)?;
+    Ok(())
+}
