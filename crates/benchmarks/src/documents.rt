@@ -1,6 +1,6 @@
 //! Dags that are written as documents and read.
 use crate::builds::sorted;
-use crate::figures::{Figures, since};
+use crate::figures::{Figures, median, since};
 use crate::graph::{Kind, mixed};
 use crate::inputs::Sizes;
 use serde_json::Value;
@@ -22,11 +22,13 @@ fn edges_sum(document: &Value) -> u64 {
 /// Writing a dag.
 pub fn json_write<G: Kind, R: AllocGlobal + CpuClock>(rt: &R, sizes: Sizes) -> io::Result<Figures> {
     let dag = sorted::<G>(rt.alloc(), sizes)?;
-    let start = rt.process_cpu_time()?;
-    let document = dag.document(rt.alloc())?;
-    let time = since(rt, start)?;
-    let check = edges_sum(&document);
-    Ok(Figures { time, check })
+    median(rt.alloc(), sizes.reps, || {
+        let start = rt.process_cpu_time()?;
+        let document = dag.document(rt.alloc())?;
+        let time = since(rt, start)?;
+        let check = edges_sum(&document);
+        Ok(Figures { time, check })
+    })
 }
 
 /// Writing the text of a document.
@@ -35,24 +37,28 @@ pub fn json_stream<G: Kind, R: AllocGlobal + CpuClock>(
     sizes: Sizes,
 ) -> io::Result<Figures> {
     let dag = sorted::<G>(rt.alloc(), sizes)?;
-    let mut text = Vec::new(rt.alloc());
-    let start = rt.process_cpu_time()?;
-    dag.write_document(&mut text)?;
-    let seconds = since(rt, start)?;
-    let mut check = 0u64;
-    for byte in &text {
-        check = mixed(check, u64::from(*byte));
-    }
-    Ok(Figures { seconds, check })
+    median(rt.alloc(), sizes.reps, || {
+        let mut text = Vec::new(rt.alloc());
+        let start = rt.process_cpu_time()?;
+        dag.write_document(&mut text)?;
+        let time = since(rt, start)?;
+        let mut check = 0u64;
+        for byte in &text {
+            check = mixed(check, u64::from(*byte));
+        }
+        Ok(Figures { time, check })
+    })
 }
 
 /// Reading the document of a dag.
 pub fn json_read<G: Kind, R: AllocGlobal + CpuClock>(rt: &R, sizes: Sizes) -> io::Result<Figures> {
     let dag = sorted::<G>(rt.alloc(), sizes)?;
     let document = dag.document(rt.alloc())?;
-    let start = rt.process_cpu_time()?;
-    let other = G::of_document(rt.alloc(), &document)?;
-    let time = since(rt, start)?;
-    let check = other.edge_sum();
-    Ok(Figures { time, check })
+    median(rt.alloc(), sizes.reps, || {
+        let start = rt.process_cpu_time()?;
+        let other = G::of_document(rt.alloc(), &document)?;
+        let time = since(rt, start)?;
+        let check = other.edge_sum();
+        Ok(Figures { time, check })
+    })
 }
