@@ -207,6 +207,10 @@ pub fn dag_from_json<
 /// at the holes, and edge slots at `null`; the highest vacant slot is reused first. So a written
 /// document restores the dag but for the order of its vacant slots, and those after the greatest
 /// index in use.
+///
+/// # Errors
+///
+/// Returns the first fault of the value, or `Memory` if an allocation fails.
 pub fn stable_from_json<
     N: Drop,
     E: Drop,
