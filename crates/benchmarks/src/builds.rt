@@ -40,7 +40,7 @@ fn nodes_alone<G: Graph>(alloc: Global, nodes: u32) -> Result<G, AllocError> {
     Ok(dag)
 }
 
-// Adds edges one by one, and gives how many were refused.
+// Adds edges one by one, and returns how many were rejected.
 fn put_pairs<G: Graph>(dag: &mut G, pairs: &[(u32, u32)]) -> u64 {
     let mut refused = 0u64;
     for (i, (a, b)) in pairs.iter().enumerate() {

@@ -1,4 +1,4 @@
-//! What a run of a workload gives.
+//! The result of a run of a workload.
 ghost use Rattle.std.specs.Prelude.{IfOk};
 
 use std::alloc::Global;

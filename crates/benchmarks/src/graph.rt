@@ -22,10 +22,10 @@ pub trait Graph: Drop {
     /// Adds a node. The error says that it was refused.
     fn put_node(&mut self, weight: i64) -> Result<usize, AllocError>;
 
-    /// Adds an edge, and gives its index. One that would close a cycle is not added.
+    /// Adds an edge, and returns its index. One that would close a cycle is not added.
     fn put_edge(&mut self, a: u32, b: u32, weight: i64) -> Option<usize>;
 
-    /// Sets the weight of the edge between two nodes, or adds one, and gives its index. One that
+    /// Sets the weight of the edge between two nodes, or adds one, and returns its index. One that
     /// would close a cycle is not added.
     fn put_update(&mut self, a: u32, b: u32, weight: i64) -> Option<usize>;
 
@@ -35,10 +35,10 @@ pub trait Graph: Drop {
     /// Adds all edges at once. The error says that they were refused.
     fn put_edges(&mut self, pairs: &[(u32, u32)]) -> Result<(), AllocError>;
 
-    /// Removes a node and gives its weight, or 0 if there is none.
+    /// Removes a node and returns its weight, or 0 if there is none.
     fn take_node(&mut self, n: u32) -> i64;
 
-    /// Removes an edge and gives its weight, or 0 if there is none.
+    /// Removes an edge and returns its weight, or 0 if there is none.
     fn take_edge(&mut self, e: u32) -> i64;
 
     /// A number of the walk over the children of a node.
@@ -53,10 +53,10 @@ pub trait Graph: Drop {
     /// Reduces what is below these roots.
     fn reduce(&mut self, roots: Vec<NodeIndex<u32>>) -> Result<(), AllocError>;
 
-    /// Makes the transitive closure, and tells whether it pairs two nodes.
+    /// Computes the transitive closure, and returns whether it has a pair of nodes.
     fn closed(&mut self, a: u32, b: u32) -> Result<bool, AllocError>;
 
-    /// The nodes in stages, each node behind its parents.
+    /// The nodes in stages, each node after its parents.
     fn stages(&self, alloc: Global) -> Result<Vec<Vec<NodeIndex<u32>>>, AllocError>;
 }
 

@@ -7,7 +7,7 @@ use daggy::NodeIndex;
 use std::io;
 use std::rt::CpuClock;
 
-// A number of the stages in which the nodes stand.
+// A check value of the stages of the nodes.
 fn stages_sum(stages: &[Vec<NodeIndex<u32>>]) -> u64 {
     let mut sum = 0u64;
     for stage in stages {

@@ -14,7 +14,7 @@ pub enum Part {
     Edges,
 }
 
-// Removes one and gives its weight.
+// Removes one and returns its weight.
 #[inline]
 fn take<G: Kind>(dag: &mut G, part: Part, i: u32) -> i64 {
     match part {

@@ -34,8 +34,8 @@ pub record DeviceState (D : Type 0) : Type 0 where
   pub taken : Passed
 
 -- What a read takes from the remaining bytes, if these are known. `Ok n` takes n bytes and returns them at the front of
--- the buffer; n is 0 only if no byte is left or the buffer is empty. `Err` takes nothing, or so many bytes that the
--- source would have given 2^64 or more.
+-- the buffer; n is 0 only if no byte is left or the buffer is empty. `Err` takes nothing, or the source has returned
+-- 2^64 bytes or more.
 abbrev pub TakesFrom : {E : Type 0}
     → (left_old left_new : Option (List ℕ)) → (given : List ℕ) → Result ℕ E → (buffer : List ℕ) → Type 0
 TakesFrom left_old left_new given (Ok n) buffer =

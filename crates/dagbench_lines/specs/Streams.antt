@@ -12,7 +12,7 @@ abbrev pub Appends : {A E : Type 0} → Result A E → (old new text : List ℕ)
 Appends (Ok x) old new text = new ≡ old ++ text
 Appends (Err e) old new text = Unit {0}
 
--- `Ok n` gives the first n bytes of the buffer; `Err` gives none
+-- `Ok n` returns the first n bytes of the buffer; `Err` returns none
 abbrev pub Gives : {E : Type 0} → Result ℕ E → (old new buffer : List ℕ) → Type 0
 Gives (Ok n) old new buffer = (n ≤ length buffer) × (new ≡ old ++ take n buffer)
 Gives (Err e) old new buffer = new ≡ old

@@ -18,13 +18,13 @@ module _ {F I W A : Type 0} (of : ℕ → I) (pre : F → I → Bor W → Type 0
 
 module _ {F I W A G : Type 0} (of : ℕ → I) (step : F → I → Bor W → Bool → F → Type 0) (weight : A → W)
     (at : G → ℕ → Option A) (removed : G → ℕ → G) where
-  -- f was asked of what stands at n, if anything does, and became next; h is g without it if the answer was no
+  -- f was called with what is at n, if anything is, and became next; h is g without it if f returned false
   abbrev pub Asks : F → G → ℕ → Option A → F → G → Type 0
   Asks f g n None next h = (next ≡ f) × (h ≡ g)
   Asks f g n (Some x) next h =
       (stays : Bool) × CalledAt step of f n (weight x) stays next × (h ≡ (if stays then g else removed g n))
 
-  -- f was asked of all that stands below n, the last one first, and h is what was left
+  -- f was called with all that is below n, the last one first, and h is what remained
   abbrev pub AsksDown : F → G → ℕ → G → Type 0
   AsksDown f g zero h = h ≡ g
   AsksDown f g (suc n) h = (next : F) × (left : G) × Asks f g n (at g n) next left × AsksDown next left n h

@@ -1,4 +1,4 @@
-//! What stands at the nodes and at the edges of a picture.
+//! The labels of the nodes and edges of a picture.
 ghost use Rattle.std.specs.Prelude.{ℕ, List, [], Option, Some, None};
 ghost use Rattle.std.specs.Fmt.{DisplaysOnOk};
 ghost use Rattle.daggy_dot.specs.Escapes.{label_of};

@@ -49,8 +49,7 @@ pub fn make_way_for_parents<Ix: IndexType, S: Store<Ix>>(
     true
 }
 
-// Takes back the edges of the first items, the last one first, and puts each item back behind those
-// that are left.
+// Removes the edges of the first items, the newest first, and appends each item to the others again.
 fn take_back_parents<Ix: IndexType, S: Store<Ix>>(
     store: &mut S,
     edges: &[EdgeIndex<Ix>],

@@ -50,7 +50,7 @@ pub enum ReadError {
     /// An edge has an end that does not exist.
     #[error("no such endpoint")]
     BadEndpoint,
-    /// `orders` does not give for each node a rearrangement of its lists.
+    /// `orders` is not a rearrangement of each node's lists.
     #[error("wrong orders")]
     Orders,
     /// The graph has a cycle.

@@ -13,8 +13,8 @@ key_in entries place = option_map (λ e. e.0) (slice_get entries place)
 abbrev pub keys_at : {K I : Type 0} → List (K × I) → List (Option ℕ) → List (Option K)
 keys_at entries places = map (option_and_then (key_in entries)) places
 
--- Each slot that has a node has a place. The entry there names that node, and each entry stands at the place of the
--- node that it names. No two entries have equal keys.
+-- Each slot that has a node has a place. The entry there names that node, and each entry is at the place of the node
+-- that it names. No two entries have equal keys.
 pub record IsKept {K I N : Type 0} (eq : K → K → Bool) (number : I → ℕ) (nodes : List (Option N))
     (entries : List (K × I)) (places : List (Option ℕ)) : Type 0 where
   pub slots : map is_some places ≡ map is_some nodes

@@ -36,8 +36,8 @@ use std::marker::Model;
 /// Nodes have indices too, which outlive removals. What a [`StableDag`] answers about them,
 /// [`dag`](Named::dag) answers.
 ///
-/// A call that looks up a key takes a `&K` or what stands for one, as the look-ups of `IndexMap` do:
-/// with `String` keys a `&str`.
+/// A call that looks up a key takes a `&K` or an equivalent value, as the look-ups of `IndexMap` do: a
+/// `&str` if the keys are `String`s.
 ///
 /// # Complexity
 ///

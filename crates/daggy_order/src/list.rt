@@ -23,7 +23,7 @@ mod sorting;
 /// An ordered list of distinct nodes that can be added at both ends, removed and moved.
 ///
 /// Each node is linked to its neighbors and has a label. Labels ascend along the list, so comparing
-/// the labels of two nodes tells which comes first.
+/// the labels of two nodes shows which comes first.
 #[derive(Drop)]
 pub struct LabeledList<Ix: IndexType> {
     pub(crate) links: Links<Ix>,

@@ -34,7 +34,7 @@ AreRows g nodes low high k rows =
 abbrev pub HasBits : (ℕ → Type 0) → List Bool → Type 0
 HasBits At row = (i : ℕ) → (slice_index_or row i false ≡ true) ↔ At i
 
--- e leaves u, and its child stands at the place p
+-- e leaves u, and its child is at the place p
 pub record IsArcTo {N E : Type 0} (g : Graph N E) (places : List ℕ) (u e p : ℕ) : Type 0 where
   pub edge : Edge E
   pub at : edge_at g e ≡ Some edge

@@ -29,7 +29,7 @@ AreKeptBusy g durations starts workers count =
     × (time < slice_index starts n + slice_index durations n)
 
 -- A node that starts while another waits, whose parents have started before and finished by then, comes first: by the
--- latest starts with which all nodes can finish by some time if each waits for its parents alone, and then by the
+-- latest starts with which all nodes can finish by some time if each waits only for its parents, and then by the
 -- indices. The earlier its latest start, the longer is the longest path from a node.
 pub record IsMostUrgentFirst {N E : Type 0} (g : Graph N E) (durations starts : List ℕ) : Type 0 where
   pub time : ℕ

@@ -6,7 +6,7 @@ use Rattle.daggy_schedule.specs.Work.{Work, IsSet}
 use Rattle.daggy_schedule.specs.LeastFirst.{nodes_of}
 
 module _ {K : Type 0} where
-  -- candidates by keys that are turned round, with the keys as they were
+  -- candidates by reversed keys, with the keys themselves
   abbrev pub turned_back : List (Reverse K × ℕ) → List (K × ℕ)
   turned_back ps = map (λ p. (p.0.0, p.1)) ps
 

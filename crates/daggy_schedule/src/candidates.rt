@@ -56,7 +56,7 @@ impl<K: Ord + Drop, Ix: IndexType> Candidates<K, Ix> {
         Ok(())
     }
 
-    // Where there is room for one more.
+    // Within the capacity, so that it does not allocate.
     pub fn add_reserved(&mut self, key: K, n: NodeIndex<Ix>)
         requires { length self.old.items < self.old.capacity }
         ensures added { IsPermutation ((key, Ix.number n) ∷ self.old.items) self.new.items }

@@ -14,8 +14,8 @@ use std::alloc::{AllocError, Global};
 /// The nodes of a dag, each after its parents: of the nodes whose parents have all come, the one
 /// with the least key comes next, of equal keys the one with the smallest index.
 ///
-/// So the order depends on the nodes, the pairs that are joined and the keys alone, and not on how
-/// the dag was made. `key` is called once with each node.
+/// So the order depends only on the nodes, the joined pairs and the keys, and not on how the dag was
+/// built. `key` is called once with each node.
 ///
 /// # Errors
 ///

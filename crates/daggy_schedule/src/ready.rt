@@ -169,7 +169,7 @@ impl<Ix: IndexType> Ready<Ix> {
     }
 
     /// Notes that a node that was handed out is done. Its children whose parents are all done then
-    /// are ready, behind those that were, in the order of the edges that leave the node.
+    /// are ready, after those already ready, in the order of the edges that leave the node.
     ///
     /// # Complexity
     ///

@@ -56,7 +56,7 @@ impl From<AllocError> for ScheduleError {
 }
 
 impl<Ix: IndexType> Schedule<Ix> {
-    /// When each node can start and finish if it waits for its parents alone, how much later it can
+    /// When each node can start and finish if it waits only for its parents, how much later it can
     /// start, and a critical path. `durations` is called once with each node.
     ///
     /// # Errors

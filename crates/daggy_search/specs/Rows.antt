@@ -15,7 +15,7 @@ abbrev pub AreRising : (from : ℕ) → List ℕ → (till : ℕ) → Type 0
 AreRising from [] till = from ≤ till
 AreRising from (end ∷ ends) till = (from ≤ end) × AreRising end ends till
 
--- a list cut at places: the parts, and what is behind the last of them; the list begins at the place from
+-- a list cut at places: the parts, and what comes after the last place; the list begins at the place from
 abbrev pub rows_from : {A : Type 0} → (from : ℕ) → (ends : List ℕ) → List A → List (List A)
 rows_from from [] xs = []
 rows_from from (end ∷ ends) xs = take (end - from) xs ∷ rows_from end ends (drop (end - from) xs)

@@ -4,7 +4,7 @@ use Rattle.daggy_base.specs.Graph.{Graph, HasNode}
 use Rattle.daggy_base.specs.Path.{AreJoined}
 use Rattle.daggy_base.specs.WellFormed.{AreDistinct}
 
--- each node of the list leads to later nodes of it alone
+-- each node of the list leads only to later nodes of it
 abbrev pub LeadsOnward : {N E : Type 0} → Graph N E → List ℕ → Type 0
 LeadsOnward g [] = Unit {0}
 LeadsOnward g (u ∷ us) = ((v : ℕ) → AreJoined g u v → Contains us v) × LeadsOnward g us

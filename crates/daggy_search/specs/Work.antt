@@ -11,7 +11,7 @@ pub record Work : Type 0 where
   pub nodes : List ℕ
   pub cursors : List ℕ
 
--- it has so many of each
+-- memory for `size` nodes: each list has as many entries
 pub record IsSized (size : ℕ) (work : Work) : Type 0 where
   pub size_is : work.size ≡ size
   pub entered_are : length work.entered ≡ size

@@ -73,7 +73,7 @@ impl<Ix: IndexType> Adjacency<Ix> {
         }
     }
 
-    /// Reserves memory for so many arcs.
+    /// Reserves memory for `count` arcs.
     pub fn reserve_arcs(&mut self, count: usize) -> Result<(), AllocError>
         ensures ok { OnOk result (count ≤ self.new.arc_room) }
         ensures arc_room { self.old.arc_room ≤ self.new.arc_room }
@@ -82,7 +82,7 @@ impl<Ix: IndexType> Adjacency<Ix> {
         reserve(&mut self.arcs, count)
     }
 
-    /// Reserves memory for so many rows.
+    /// Reserves memory for `count` rows.
     pub fn reserve_rows(&mut self, count: usize) -> Result<(), AllocError>
         ensures ok { OnOk result (count ≤ self.new.row_room) }
         ensures row_room { self.old.row_room ≤ self.new.row_room }

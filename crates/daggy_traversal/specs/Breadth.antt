@@ -23,7 +23,7 @@ abbrev pub fresh : (old : List ℕ) → List ℕ → List ℕ
 fresh old [] = []
 fresh old (x ∷ xs) = if is_among old x then fresh old xs else x ∷ fresh (old ++ x ∷ []) xs
 
--- for each path from the start to n, one to m is at most so many edges longer
+-- for each path from the start to n there is one to m with at most `more` edges more
 abbrev pub IsWithin : {N E : Type 0} → Graph N E → Direction → (start more m n : ℕ) → Type 0
 IsWithin g dir start more m n =
     (edges : ℕ) → IsAway dir g start n edges → (fewer : ℕ) × IsAway dir g start m fewer × (fewer ≤ edges + more)

@@ -1,4 +1,4 @@
--- Walks that give each node that one node reaches, in a direction of the edges.
+-- Walks over all nodes that one node reaches, in a direction of the edges.
 use Rattle.std.specs.Prelude.{◌≡◌, ℕ, zero, suc, ◌==◌, ◌||◌, ◌&&◌, ◌↔◌, Bool, true, false, not, Option, Some, None, List, []}
 use Rattle.std.specs.Prelude.{◌∷◌, ◌++◌}
 use Rattle.std.specs.Prelude.{map, filter, is_some, Contains, if◌then◌else◌}
@@ -20,7 +20,7 @@ abbrev pub LeadsFar : {N E : Type 0} → Direction → Graph N E → ℕ → ℕ
 LeadsFar Outgoing g u v = Reaches g u v
 LeadsFar Incoming g u v = Reaches g v u
 
--- a path of so many edges leads from u to v in the direction
+-- a path with this number of edges leads from u to v in the direction
 abbrev pub IsAway : {N E : Type 0} → Direction → Graph N E → (u v edges : ℕ) → Type 0
 IsAway dir g u v zero = HasNode g u × (u ≡ v)
 IsAway dir g u v (suc edges) = (w : ℕ) × IsAway dir g u w edges × LeadsTo dir g w v

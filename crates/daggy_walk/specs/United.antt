@@ -1,7 +1,7 @@
 -- Words of bits of which some are united with others.
 use Rattle.std.specs.Prelude.{◌≡◌, ℕ, ◌+◌, ◌-◌, ◌<◌, ◌≤◌, ◌⊎◌, List, length, slice_index, bit_or}
 
--- the words from `to` on, so many of them, are united with those from `from` on
+-- the k words from `to` on are united with the k words from `from` on
 pub record AreUnited (old now : List ℕ) (to from k : ℕ) : Type 0 where
   pub sized : length now ≡ length old
   pub done : (m : ℕ) → to ≤ m → m < to + k → slice_index now m ≡ bit_or (slice_index old m) (slice_index old (m - to + from))

@@ -10,7 +10,7 @@ IsVisited set n = IsTrue (slice_index_or set n false)
 abbrev pub HasPair : List (List Bool) → ℕ → ℕ → Type 0
 HasPair matrix a b = IsVisited (slice_index_or matrix a []) b
 
--- a row of a matrix, of which each row takes so many flags of all
+-- a row of a matrix; each row takes `width` of the flags
 abbrev pub row_of : (bound width : ℕ) → List Bool → ℕ → List Bool
 row_of bound width flags a = map (λ b. slice_index_or flags (a * width + b) false) (range_with_len 0 bound)
 

@@ -42,7 +42,7 @@ pub trait Walker<G>: Drop {
     // may.
     ghost can_walk: { Self → G → Type 0 } = { λ _ _. ⊤ };
 
-    // Whether a step from this walker over this graph may give this item and leave that walker.
+    // Whether a step from this walker over this graph may yield this item and leave that walker.
     ghost walk_gives: { Self → G → Option Self.Item → Self → Type 0 };
 
     // How many items may still come, as long as the graph is this one.

@@ -1,4 +1,4 @@
--- Closures by what their calls give, and what they keep of three nodes.
+-- Closures by what their calls return, and what they keep of three nodes.
 use Rattle.std.specs.Prelude.{◌≡◌, ℕ, ◌+◌, ◌==◌, Option, Some, None, [], ◌∷◌, if◌then◌else◌}
 use Rattle.std.specs.Borrow.{Bor}
 use Rattle.daggy_base.specs.Graph.{Graph}

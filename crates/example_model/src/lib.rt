@@ -1,4 +1,4 @@
-//! Examples that are proved: what the definitions give on small graphs.
+//! Examples that are proved: what the definitions mean on small graphs.
 #![tactic(auto)]
 
 pub mod definitions;

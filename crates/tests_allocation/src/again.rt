@@ -170,8 +170,8 @@ pub fn add_edges_again<S: Kind>(
     holds(rt, added.next().is_none());
 }
 
-// Asserts that the weights of a refused batch come back: those of the edges from the next one on,
-// up to the last one accepted, which stands first.
+// Asserts that the weights of a refused batch are returned: those of the edges from the next one on,
+// up to the last one accepted, which comes first.
 fn come_back(rt: &impl Abort, last: usize, before: &[usize], edges: usize, gap: bool) {
     holds(rt, edges < 100 && before.len() < 100);
     let mut k = edges + before.len();
@@ -195,7 +195,7 @@ pub fn set_parents<S: Kind>(
     dag.set_parents(n, items)
 }
 
-/// The same, once more after a refusal. The items come back as they were.
+/// The same, once more after a refusal, which returns the items unchanged.
 pub fn set_parents_again<S: Kind>(
     rt: &impl Abort,
     dag: &mut Plain<S>,

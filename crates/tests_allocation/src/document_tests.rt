@@ -62,7 +62,7 @@ fn refuse_writing(rt: &impl Abort, error: WriteError, refused: &mut bool) {
 const CYCLIC: &str = "{\"edge_property\":\"directed\",\"edges\":[[0,1,4],[1,0,5]],\"nodes\":[2,3]}";
 
 // Reads a document and writes its dag, each a second time if the first is refused, and asserts that
-// the document comes back. Then reads one that has a cycle, likewise, and asserts that it is told.
+// the document is returned. Then reads one that has a cycle, likewise, and asserts the error.
 fn comes_back<
     D: Drop,
     R: Fn(Global, &Value) -> Result<D, ReadError> + Drop,

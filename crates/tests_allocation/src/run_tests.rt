@@ -68,8 +68,7 @@ fn came_back(rt: &impl Abort, back: HandedBack, wanted: HandedBack) {
     }
 }
 
-// Runs a command alone, and again if that was refused. The weights are what comes back, and the
-// reply is what is wanted.
+// Runs one command, and again if memory was refused. Asserts the returned weights and the reply.
 fn replies<D: GuardedDag<usize, usize, u32>>(
     rt: &impl Abort,
     alloc: Global,

@@ -1,5 +1,5 @@
-//! What the tests of both kinds do. Where a removal leaves a gap they begin with one: a slot of a
-//! node and one of an edge, which are taken first.
+//! What the tests of both kinds do. If a removal leaves a gap, they begin with two: a slot of a node
+//! and one of an edge, which are reused first.
 use crate::again::{
     add_edges, add_edges_again, add_neighbor_again, add_node, add_node_again, extend_again, fan,
     fill, join, join_again, set_parents_again, small_fan,
@@ -253,7 +253,7 @@ fn dag_for<S: Kind>(
     }
 }
 
-// Nodes that memory is reserved for. It is still there behind a long batch, which is sorted.
+// Nodes that memory is reserved for. It is still there after a long batch, which is sorted.
 fn reserved_nodes<S: Kind>(rt: &(impl Abort + Env), alloc: Global, refused: &mut bool) {
     let mut dag: Plain<S> = dag_for(rt, alloc, 20, 0, refused);
     for i in 0..3 {

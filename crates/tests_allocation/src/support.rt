@@ -1,6 +1,6 @@
 //! The assertions, the dags of both kinds, and the one refusal.
 //!
-//! Each `assert_eq!` is proved where it stands, so it stands here once, and tests call it. What is
+//! Each `assert_eq!` costs a proof, so it is written here once, and tests call it. What is
 //! generic over the store serves both kinds of dag.
 ghost use Rattle.std.specs.Prelude.{◌≡◌, IsTrue, Ok};
 
@@ -47,7 +47,7 @@ pub type Compact = DiGraph<usize, usize, u32>;
 /// The store of the stable kind.
 pub type Stable = StableDiGraph<usize, usize, u32>;
 
-/// Counts a call, and gives the weight that it was called with.
+/// Counts a call, and returns the weight that it was called with.
 pub fn counted(calls: &mut usize, weight: &usize) -> usize {
     *calls = calls.wrapping_add(1);
     *weight
@@ -131,7 +131,7 @@ pub fn refuse(rt: &impl Abort, refused: &mut bool) {
     *refused = true;
 }
 
-// Whether an allocation was refused so far. `.ci/fail_allocation.c` tells it in the environment; by
+// Whether an allocation was refused so far. `.ci/fail_allocation.c` says so in the environment; by
 // itself no test is refused.
 fn was_refused(rt: &impl Env) -> bool {
     let mut told = [0u8; 8];

@@ -1,4 +1,4 @@
-//! What stands on a dag, by example: commands, documents, and the examples of the docs.
+//! What is built on a dag, by example: commands, documents, and the examples of the docs.
 #![tactic(auto)]
 
 #[cfg(test)]

@@ -1,4 +1,4 @@
-//! The two stores and what they stand on, by example.
+//! The two stores and what they are built on, by example.
 #![tactic(auto)]
 
 #[cfg(test)]

@@ -14,7 +14,7 @@ use std::iter::{DoubleEndedIterator, ExactSizeIterator, FusedIterator};
 use std::marker::Model;
 
 /// An iterator over the nodes of a dag in topological order. It can be read from both ends, so
-/// `.rev()` gives children before parents.
+/// `.rev()` yields children before parents.
 ///
 /// # Complexity
 ///
@@ -38,7 +38,7 @@ where
 {
     /// Returns an iterator over the nodes in topological order: each parent comes before its
     /// children. It is the order that the dag keeps, so nothing is searched or sorted. It can be
-    /// read from both ends, so `.rev()` gives children before parents.
+    /// read from both ends, so `.rev()` yields children before parents.
     ///
     /// Adding a node or an edge may change the order.
     ///

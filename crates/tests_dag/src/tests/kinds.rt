@@ -81,7 +81,7 @@ pub trait Kind: Store<u8, NodeWeight = u32, EdgeWeight = u32> {
     ) -> Result<Vec<Line>, AllocError>;
 }
 
-/// Notes a call behind those before it, as two digits: 1 for a node or 2 for an edge, and the
+/// Appends a call to the notes, as two digits: 1 for a node or 2 for an edge, and the
 /// index.
 pub fn note(calls: &Cell<u64>, kind: u64, index: usize) {
     let digits = kind.wrapping_mul(10).wrapping_add(index as u64);

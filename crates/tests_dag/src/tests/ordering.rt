@@ -9,7 +9,7 @@ use daggy_dag::acyclic::Acyclic;
 use std::alloc::Global;
 use std::process::Abort;
 
-/// An order tells its length.
+/// An order has an exact length.
 pub fn tell_length<Ix: IndexType, S: Store<Ix, NodeWeight = u32, EdgeWeight = u32>>(
     rt: &impl Abort,
     dag: &mut Acyclic<u32, u32, Ix, S>,
@@ -79,7 +79,7 @@ fn what_is_removed_leaves_the_order(rt: HostRuntime) {
     stable(&rt, rt.alloc(), Scene::Rows(AFTER));
 }
 
-// So many edges that they are sorted at the end: one beside the other from 0 to 1, and then a path
+// Enough edges that they are sorted at the end: parallel ones from 0 to 1, and then a path
 // through nodes, which leads to older ones.
 fn long_path(rt: &impl Abort, alloc: Global, back: &[(usize, usize)]) -> Vec<(usize, usize, u32)> {
     let mut path = Vec::new(alloc);
@@ -92,7 +92,7 @@ fn long_path(rt: &impl Abort, alloc: Global, back: &[(usize, usize)]) -> Vec<(us
     path
 }
 
-/// These indices, and all from `from` to `end` behind them.
+/// These indices, then all from `from` to `end`.
 pub fn indices(
     rt: &impl Abort,
     alloc: Global,

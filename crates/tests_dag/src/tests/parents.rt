@@ -21,7 +21,7 @@ fn items<Ix: IndexType>(
     items
 }
 
-// Asserts that the items came back as they were, and how many they are.
+// Asserts that the items were returned unchanged, and how many they are.
 fn came_back<Ix: IndexType>(
     rt: &impl Abort,
     back: &[(NodeIndex<Ix>, u32)],
@@ -36,7 +36,7 @@ fn came_back<Ix: IndexType>(
     count
 }
 
-/// Replaces the edges that enter a node. `Cycle` and `NoIndex` tell how many items came back.
+/// Replaces the edges that enter a node. `Cycle` and `NoIndex` say how many items were returned.
 pub fn set_parents<Ix: IndexType, S: Store<Ix, NodeWeight = u32, EdgeWeight = u32>>(
     rt: &impl Abort,
     alloc: Global,

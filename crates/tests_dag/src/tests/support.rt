@@ -1,6 +1,6 @@
 //! The assertions, and indices that are small enough.
 //!
-//! Each `assert_eq!` is proved where it stands, so it stands here once, and tests call it.
+//! Each `assert_eq!` costs a proof, so it is written here once, and tests call it.
 ghost use Rattle.std.specs.Prelude.{◌≡◌, IsTrue, Ok};
 
 use daggy_base::index::{EdgeIndex, IndexType, NodeIndex};

@@ -1,7 +1,7 @@
 //! Calls of a dag of either kind and their answers as rows of a table, made and compared in one
 //! loop.
 //!
-//! A test is proved too, and a call costs it more than a row, so the calls stand here alone.
+//! A test is proved too, and a call costs it more than a row, so the calls are only here.
 use super::asking::{Question, ask as ask_of_paths};
 use super::large::{search_dense_graph, search_long_chain};
 use super::many_edges::{add_sorted_list, end_at_a_fault};
@@ -275,7 +275,7 @@ pub fn walk<Ix: IndexType, S: Store<Ix, NodeWeight = u32, EdgeWeight = u32>>(
     walk
 }
 
-// Asserts which edges and nodes a walk over the children of a node gives.
+// Asserts which edges and nodes a walk over the children of a node yields.
 fn is_walk_of_children<Ix: IndexType, S: Store<Ix, NodeWeight = u32, EdgeWeight = u32>>(
     rt: &impl Abort,
     alloc: Global,
@@ -515,7 +515,7 @@ pub enum Scene<'a> {
     SortedList,
     /// A series has items at fault.
     Fault,
-    /// The order tells its length.
+    /// The order has an exact length.
     Length,
     /// The order is read from its end.
     Backwards,

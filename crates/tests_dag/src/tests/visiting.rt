@@ -221,7 +221,7 @@ fn a_compact_dag_has_a_node_at_each_index(rt: HostRuntime) {
     same(&rt, is_full(&dag), true);
 }
 
-// A matrix has the pairs of its time, and it and a set tell their bounds.
+// A matrix has the pairs of its time, and it and a set know their bounds.
 fn keep_pairs<S: Kind>(rt: &impl Abort, alloc: Global, dag: &mut Plain<S>) {
     let (a, b, c) = (NodeIndex::new(0), NodeIndex::new(1), NodeIndex::new(2));
     let matrix = made(rt, dag.adjacency_matrix());

@@ -42,7 +42,7 @@ fn arguments_name_the_kind(rt: HostRuntime) -> Result<(), Fail> {
     Ok(())
 }
 
-/// A run that ended so gives this status and this text.
+/// A run that ended so has this status and writes this text.
 fn tell(rt: &impl Abort, outcome: Option<&Result<(), Stop>>, status: u8, text: &str) {
     let (found, told) = ending(outcome);
     assert!(rt; found == status);

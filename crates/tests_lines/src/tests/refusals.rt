@@ -114,7 +114,7 @@ fn are_replies(alloc: Global, mode: Mode, replies: &[u8]) -> Result<bool, AllocE
 #[test]
 fn a_refused_request_is_the_reply_to_one_line(rt: HostRuntime) {
     for mode in [Mode::Compact, Mode::Stable] {
-        // Where a request of the test itself or of its sink is refused, there is nothing to see.
+        // If a request of the test itself or of its sink is refused, there is nothing to compare.
         let Ok((outcome, taken)) = run_without(rt.alloc(), mode, SCRIPT.len()) else {
             continue;
         };

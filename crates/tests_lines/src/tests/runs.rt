@@ -227,7 +227,7 @@ fn a_fault_is_told_where_its_device_failed(rt: HostRuntime) -> Result<(), Fail> 
         ended(&rt, found, outcome);
         same(&rt, taken.as_slice(), wanted.as_bytes());
 
-        // There is no plan behind a fault.
+        // There is no plan after a fault.
         if outcome.is_err() {
             let (found, taken) = run(rt.alloc(), Mode::PlanStable, input, reads, writes)?;
             ended(&rt, found, outcome);

@@ -1,6 +1,6 @@
 //! The assertions.
 //!
-//! Each `assert_eq!` is proved where it stands, so it stands here once, and tests call it.
+//! Each `assert_eq!` costs a proof, so it is written here once, and tests call it.
 ghost use Rattle.std.specs.Prelude.{◌≡◌, Ok};
 
 use daggy_base::index::{IndexType, NodeIndex};

@@ -4,7 +4,7 @@ use super::support::{holds, lists, same};
 use daggy_base::index::NodeIndex;
 use std::process::Abort;
 
-// Asserts whether an order makes way for an edge, after how many looks at most, and how it stands
+// Asserts whether an order can be updated for an edge, after how many looks at most, and what it is
 // then.
 fn tries(
     rt: &impl Abort,

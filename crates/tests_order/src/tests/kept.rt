@@ -23,7 +23,7 @@ fn are(rt: &impl Abort, found: &[EdgeIndex<u8>], wanted: &[usize]) {
     }
 }
 
-/// An edge is added to it where its order can make way.
+/// An edge is added to it if its order can be updated.
 #[derive(Drop)]
 pub struct Kept {
     pub graph: Counted,
@@ -70,17 +70,17 @@ impl Kept {
         n
     }
 
-    /// Its nodes sorted anew, whatever its order is.
+    /// Its nodes, sorted from scratch.
     pub fn sorted(&mut self, rt: &impl Abort, alloc: Global) -> Option<Order<u8>> {
         made(rt, Order::sorted(alloc, &mut self.graph, &mut self.scratch))
     }
 
-    /// Sorts its order anew.
+    /// Sorts its order from scratch.
     pub fn sort(&mut self) -> bool {
         self.order.sort(&mut self.graph, &mut self.scratch)
     }
 
-    /// Whether the order can make way for an edge.
+    /// Whether the order can be updated for an edge.
     pub fn makes_way(&mut self, rt: &impl Abort, a: NodeIndex<u8>, b: NodeIndex<u8>) -> bool
         ensures { result ≡ false ↔ Reaches self.old.graph b a }
     {
@@ -120,7 +120,7 @@ impl Kept {
     }
 
     /// Asserts that these edges are redundant below some roots, whether the order bounds the
-    /// searches or not, and by blocks, and gives how many looks the bounded searches took.
+    /// searches or not, and by blocks, and returns how many looks the bounded searches took.
     pub fn are_redundant(
         &mut self,
         rt: &impl Abort,

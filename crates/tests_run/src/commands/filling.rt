@@ -42,7 +42,7 @@ fn no_index_is_left_for_an_edge(rt: HostRuntime) {
         (Ask::Edges(&[(1, 0, 7)]), Get::Full(Weights::Edges(7, &[]))),
         (Ask::Node(3), Get::Node(2)),
     ];
-    // What is missing comes before that no index is left, and a cycle behind it.
+    // `missing` comes before `full`, and `full` before a cycle.
     both(&rt, rt.alloc(), Scene::FullOfEdges(ROWS));
 }
 

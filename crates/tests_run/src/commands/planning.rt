@@ -36,7 +36,7 @@ fn each_node_stands_behind_its_parents(rt: HostRuntime) {
             Get::Edges(&[0, 1, 2, 3]),
         ),
     ];
-    // Two nodes before one, and one behind it that the first leads to as well.
+    // Two nodes before one, and one after it that the first leads to as well.
     let scene = Scene::Plan(ROWS, &[&[0, 1, 3], &[2], &[4]], &[0, 2, 4]);
     both(&rt, rt.alloc(), scene);
 }

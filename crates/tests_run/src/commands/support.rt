@@ -237,7 +237,7 @@ pub enum Scene<'a> {
     Plan(&'a [Row<'a>], &'a [&'a [u8]], &'a [u8]),
     /// The children of a node are gone along one by one.
     Along,
-    /// The dag tells its kind.
+    /// The kind of the dag.
     OfKind(Kind),
 }
 

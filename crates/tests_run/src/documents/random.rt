@@ -76,7 +76,7 @@ fn random_dag<S: Store<u8, NodeWeight = u64, EdgeWeight = u64>>(
     dag
 }
 
-// The same weights stand under the same indices, and the lists are the same.
+// The same weights are at the same indices, and the lists are the same.
 fn same_nodes<S: Store<u8, NodeWeight = u64, EdgeWeight = u64>>(
     rt: &impl Abort,
     found: &S,

@@ -143,7 +143,7 @@ fn reordered(rt: &impl Abort, alloc: Global) -> Small {
     dag
 }
 
-// Writes to a writer that fails after so many calls, each of 7 bytes, and asserts what it took.
+// Writes to a writer that takes 7 bytes a call and fails after `calls` calls, and asserts what it took.
 fn fault_after(rt: &impl Abort, alloc: Global, dag: &Small, calls: usize) -> Option<ErrorKind> {
     let mut out = Failing {
         taken: Vec::new(alloc),

@@ -39,7 +39,7 @@ impl<'a, K: Ord + Drop, S: Store<u32, NodeWeight = u64, EdgeWeight = ()>> Shop<'
 }
 
 // Up to `workers` nodes are out at a time, and the one that began first finishes, until all is done.
-// The nodes as they were begun.
+// The nodes, in the order in which they began.
 fn work_off<K: Ord + Drop, S: Store<u32, NodeWeight = u64, EdgeWeight = ()>>(
     alloc: Global,
     dag: &Plain<S>,

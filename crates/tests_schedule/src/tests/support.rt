@@ -1,6 +1,6 @@
 //! The assertions, and the dags.
 //!
-//! Each `assert_eq!` is proved where it stands, so it stands here once, and tests call it. What is
+//! Each `assert_eq!` costs a proof, so it is written here once, and tests call it. What is
 //! generic over the store serves both kinds of dag.
 ghost use Rattle.std.specs.Prelude.{◌≡◌, IsTrue, Ok};
 

@@ -38,7 +38,7 @@ impl<'a, S: Store<u32, NodeWeight = u64, EdgeWeight = ()>> Shop<'a, S> {
 }
 
 // Up to three workers take what is ready, and the one that began first finishes, until all is done.
-// The nodes as they were finished.
+// The nodes, in the order in which they were finished.
 fn work_off<S: Store<u32, NodeWeight = u64, EdgeWeight = ()>>(
     alloc: Global,
     dag: &Plain<S>,

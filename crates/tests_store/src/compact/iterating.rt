@@ -16,7 +16,7 @@ fn line(e: EdgeReference<'_, u32, u32>) -> Line {
     )
 }
 
-// Asserts which nodes an iterator gives with their weights, and that it gives no more.
+// Asserts which nodes an iterator yields with their weights, and that it then ends.
 fn weighted(rt: &impl Abort, mut nodes: NodeReferences<'_, u32, u32>, wanted: &[(usize, u32)]) {
     for node in wanted {
         let Some((n, weight)) = nodes.next() else {

@@ -1,6 +1,6 @@
 //! The assertions, calls whose conditions are asserted first, and graphs as numbers.
 //!
-//! Each `assert_eq!` is proved where it stands, so it stands here once, and tests call it.
+//! Each `assert_eq!` costs a proof, so it is written here once, and tests call it.
 ghost use Rattle.std.specs.Prelude.{◌≡◌, IsTrue, Ok};
 ghost use Rattle.std.specs.Iterator.{IsFinite};
 
@@ -47,7 +47,7 @@ pub fn made<T: Drop, E: Drop>(rt: &impl Abort, answer: Result<T, E>) -> T
     }
 }
 
-/// Asserts that an iterator gives these values and no more.
+/// Asserts that an iterator yields these values and then ends.
 pub fn gives<T: PartialEq + Debug + Copy + Drop, I: Iterator<Item = T> + Drop>(
     rt: &impl Abort,
     items: I,

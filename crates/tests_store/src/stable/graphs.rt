@@ -236,7 +236,7 @@ fn closures_read_tables_of_the_size_of_the_graph(rt: HostRuntime) {
 }
 
 // Two nodes and the edges 1 and 0 between them, of which the second was added last, with vacant
-// slots behind them.
+// slots after them.
 fn reused(rt: &impl Abort, alloc: Global) -> PlainGraph {
     let mut graph = graph_of(rt, alloc, &[10, 11, 12], &TRIANGLE);
     for (e, weight) in [(2, 102), (0, 100), (1, 101)] {

@@ -15,7 +15,7 @@ fn line(e: EdgeReference<'_, u32, u32>) -> (usize, usize, usize, u32) {
     )
 }
 
-// Asserts which nodes an iterator gives with their weights, and that it gives no more.
+// Asserts which nodes an iterator yields with their weights, and that it then ends.
 fn weighted(rt: &impl Abort, mut nodes: NodeReferences<'_, u32, u32>, wanted: &[(usize, u32)]) {
     for node in wanted {
         let Some((n, weight)) = nodes.next() else {
@@ -31,7 +31,7 @@ fn index(n: NodeIndex) -> usize {
 }
 
 // The nodes 1, 3 and 4 and the edges 1 -> 4 and 1 -> 3, with vacant slots before, between and
-// behind them.
+// after them.
 fn gappy(rt: &impl Abort, alloc: Global) -> PlainGraph {
     let mut graph = graph_of(rt, alloc, &[10, 11, 12, 13, 14, 15], &[]);
     for (n, weight) in [(5, 15), (0, 10), (2, 12)] {

@@ -1,6 +1,6 @@
 //! The assertions, the graphs, and whole walks over them.
 //!
-//! Each `assert_eq!` is proved where it stands, so it stands here once, and tests call it. What is
+//! Each `assert_eq!` costs a proof, so it is written here once, and tests call it. What is
 //! generic over the store serves both kinds.
 ghost use Rattle.std.specs.Prelude.{◌≡◌, IsTrue, Ok};
 ghost use Rattle.daggy_traversal.specs.Breadth.{IsBreadthFirst};
@@ -173,7 +173,7 @@ pub fn lists(rt: &impl Abort, found: &[NodeIndex], wanted: &[usize]) {
     }
 }
 
-/// Asserts what the three walks from a node give.
+/// Asserts what the three walks from a node yield.
 pub fn walks<S: Store<u32, NodeWeight = (), EdgeWeight = ()>>(
     rt: &impl Abort,
     alloc: Global,

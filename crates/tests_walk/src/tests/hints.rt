@@ -10,7 +10,7 @@ use std::alloc::Global;
 use std::iter::FusedIterator;
 use std::process::Abort;
 
-/// Asserts the bound on the items that a walk as an iterator tells.
+/// Asserts the size hint of a walk as an iterator.
 fn tells<G, W: Walker<G>>(rt: &impl Abort, graph: &G, walker: W, wanted: Option<usize>) {
     let items = walker.iter(graph);
     same(rt, items.size_hint(), (0, wanted));

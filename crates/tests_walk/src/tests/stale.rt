@@ -35,7 +35,7 @@ fn begun<S: Store<u32, NodeWeight = u32, EdgeWeight = u32>>(
 }
 
 // A walk over the children of a node that had none when it was begun has ended. One that is begun
-// after an edge was added gives it, and a copy of it does so too.
+// after an edge was added yields it, and so does a copy of it.
 fn begun_before_and_after<S: Store<u32, NodeWeight = u32, EdgeWeight = u32>>(
     rt: &impl Abort,
     alloc: Global,

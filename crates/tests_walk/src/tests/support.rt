@@ -1,6 +1,6 @@
 //! The assertions, dags of numbers, and walks as numbers.
 //!
-//! Each `assert_eq!` is proved where it stands, so it stands here once, and tests call it. What is
+//! Each `assert_eq!` costs a proof, so it is written here once, and tests call it. What is
 //! generic over the store serves both kinds of dag.
 ghost use Rattle.std.specs.Prelude.{◌≡◌, IsTrue, Ok};
 
@@ -15,7 +15,7 @@ use std::process::Abort;
 /// A dag of either kind whose weights are numbers.
 pub type Plain<S> = Acyclic<u32, u32, u32, S>;
 
-/// What a walker over such a dag gives.
+/// What a walker over such a dag yields.
 pub type Step = (EdgeIndex, NodeIndex);
 
 /// Asserts that what was found is what is wanted.
@@ -140,7 +140,7 @@ pub fn six<S: Store<u32, NodeWeight = u32, EdgeWeight = u32>>(
     )
 }
 
-/// The number of the node that a step gives.
+/// The number of the node that a step yields.
 pub fn far(step: Option<Step>) -> Option<usize> {
     match step {
         Some(item) => Some(item.1.index()),
@@ -148,7 +148,7 @@ pub fn far(step: Option<Step>) -> Option<usize> {
     }
 }
 
-/// The numbers of the edge and of the node that a step gives.
+/// The numbers of the edge and of the node that a step yields.
 pub fn numbers(step: Option<Step>) -> Option<(usize, usize)> {
     match step {
         Some(item) => Some((item.0.index(), item.1.index())),
@@ -178,7 +178,7 @@ pub fn edge_weight<S: Store<u32, NodeWeight = u32, EdgeWeight = u32>>(
     }
 }
 
-/// Asserts that a walk as an iterator gives these edges and nodes, and no more.
+/// Asserts that a walk as an iterator yields these edges and nodes, and then ends.
 pub fn lists<G, W: FiniteWalker<G, Item = Step>>(
     rt: &impl Abort,
     graph: &G,
@@ -195,7 +195,7 @@ pub fn lists<G, W: FiniteWalker<G, Item = Step>>(
     same(rt, count, wanted.len());
 }
 
-/// Takes steps, and asserts which edges and nodes they give.
+/// Takes steps, and asserts which edges and nodes they yield.
 pub fn steps<G, W: Walker<G, Item = Step>>(
     rt: &impl Abort,
     graph: &G,
@@ -210,7 +210,7 @@ pub fn steps<G, W: Walker<G, Item = Step>>(
     }
 }
 
-/// Takes steps, and asserts which nodes they give.
+/// Takes steps, and asserts which nodes they yield.
 pub fn goes<G, W: Walker<G, Item = Step>>(
     rt: &impl Abort,
     graph: &G,
