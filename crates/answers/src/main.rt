@@ -6,6 +6,7 @@
 //! other questions, and reduces the dag.
 #![tactic(auto)]
 
+mod edges;
 mod line;
 mod questions;
 mod walks;

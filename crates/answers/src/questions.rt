@@ -1,9 +1,14 @@
 //! The questions, each with its answer in a line.
+ghost use Rattle.std.specs.Prelude.{◌≡◌, OnOk, OnErr, IfOk};
+ghost use Rattle.daggy_base.specs.Adding.{with_edge};
+ghost use Rattle.answers.specs.Answers.{HasOnly};
+
+use crate::edges::sorted_endpoints;
 use crate::walks::{breadth_first, depth_first, in_postorder};
 use anyhow::{Result, bail};
 use daggy::schedule::{Schedule, topological_order_by};
-use daggy::{Acyclic, EdgeIndex, NodeIndex, Store};
-use std::alloc::{AllocError, Global};
+use daggy::{Acyclic, NodeIndex, Store};
+use std::alloc::Global;
 use std::io::{self, Write};
 
 /// A dag of either kind, with a key and a duration of each node as its weight.
@@ -13,7 +18,9 @@ pub type Timed<S> = Acyclic<u64, (), u32, S>;
 pub fn dag_of<S: Store<u32, NodeWeight = u64, EdgeWeight = ()>>(
     alloc: Global,
     weights: &[u64],
-) -> Result<Timed<S>> {
+) -> Result<Timed<S>>
+    ensures { IfOk result (λ dag. HasOnly weights.now dag.graph) }
+{
     let mut dag = Timed::<S>::new(alloc);
     for weight in weights {
         if !dag.can_add_node() {
@@ -29,7 +36,11 @@ pub fn add_edge<S: Store<u32, NodeWeight = u64, EdgeWeight = ()>>(
     dag: &mut Timed<S>,
     parent: NodeIndex,
     child: NodeIndex,
-) -> Result<()> {
+) -> Result<()>
+    ensures added { OnOk result
+        (dag.new.graph ≡ with_edge dag.old.graph parent.entry child.entry ()) }
+    ensures unchanged { OnErr result (dag.new.graph ≡ dag.old.graph) }
+{
     if !dag.contains_node(parent) || !dag.contains_node(child) || !dag.can_add_edge() {
         bail!("no such nodes, or too many edges");
     }
@@ -43,7 +54,9 @@ pub fn write_path<S: Store<u32, NodeWeight = u64, EdgeWeight = ()>, W: Write>(
     dag: &mut Timed<S>,
     from: NodeIndex,
     to: NodeIndex,
-) -> Result<()> {
+) -> Result<()>
+    ensures { dag.new.graph ≡ dag.old.graph }
+{
     let (a, b) = (from.index(), to.index());
     let reaches = dag.reaches(from, to);
     write!(out, "path {a} {b}: {reaches}")?;
@@ -79,7 +92,9 @@ fn write_relatives<S: Store<u32, NodeWeight = u64, EdgeWeight = ()>, W: Write>(
     out: &mut W,
     dag: &mut Timed<S>,
     n: NodeIndex,
-) -> Result<()> {
+) -> Result<()>
+    ensures { dag.new.graph ≡ dag.old.graph }
+{
     let mut ancestors = dag.ancestors(&[n])?;
     ancestors.sort()?;
     write!(out, "ancestors {}:", n.index())?;
@@ -115,22 +130,6 @@ fn write_nodes<W: Write>(out: &mut W, nodes: &[NodeIndex]) -> io::Result<()> {
     writeln!(out)
 }
 
-// The endpoints of each edge, in ascending order.
-fn edges_of<S: Store<u32, NodeWeight = u64, EdgeWeight = ()>>(
-    alloc: Global,
-    dag: &Timed<S>,
-) -> Result<Vec<(usize, usize)>, AllocError> {
-    let mut edges = Vec::new(alloc);
-    let end = EdgeIndex::<u32>::end().index();
-    for i in 0..dag.graph().edge_slots().min(end) {
-        if let Some((parent, child)) = dag.edge_endpoints(EdgeIndex::new(i)) {
-            edges.push((parent.index(), child.index()))?;
-        }
-    }
-    edges.sort()?;
-    Ok(edges)
-}
-
 // Writes all edges.
 fn write_edges<S: Store<u32, NodeWeight = u64, EdgeWeight = ()>, W: Write>(
     alloc: Global,
@@ -138,7 +137,7 @@ fn write_edges<S: Store<u32, NodeWeight = u64, EdgeWeight = ()>, W: Write>(
     dag: &Timed<S>,
 ) -> Result<()> {
     write!(out, "reduction:")?;
-    for (parent, child) in edges_of(alloc, dag)?.iter() {
+    for (parent, child) in sorted_endpoints(alloc, dag)?.iter() {
         write!(out, " {parent}-{child}")?;
     }
     writeln!(out)?;

@@ -1,14 +1,20 @@
 //! The nodes that a node reaches, in three orders.
+ghost use Rattle.std.specs.Prelude.{map, IfOk};
+ghost use Rattle.answers.specs.Answers.{AreReached};
+
 use daggy::traversal::{Bfs, Dfs, DfsPostOrder};
-use daggy::{Direction, NodeIndex, Store};
+use daggy::{Direction, IndexType, NodeIndex, Store};
 use std::alloc::{AllocError, Global};
 
 /// Breadth first.
-pub fn breadth_first<S: Store<u32>>(
+pub fn breadth_first<Ix: IndexType, S: Store<Ix>>(
     alloc: Global,
     graph: &S,
-    start: NodeIndex,
-) -> Result<Vec<NodeIndex>, AllocError> {
+    start: NodeIndex<Ix>,
+) -> Result<Vec<NodeIndex<Ix>>, AllocError>
+    ensures { IfOk result (λ nodes.
+        AreReached (S.graph graph.now) (Ix.number start) (map Ix.number nodes.items)) }
+{
     let mut walk = Bfs::new(alloc, graph, start, Direction::Outgoing)?;
     let mut nodes = Vec::new(alloc);
     'walk: while let Some(n) = walk.next(graph) {
@@ -18,11 +24,14 @@ pub fn breadth_first<S: Store<u32>>(
 }
 
 /// Depth first, in preorder.
-pub fn depth_first<S: Store<u32>>(
+pub fn depth_first<Ix: IndexType, S: Store<Ix>>(
     alloc: Global,
     graph: &S,
-    start: NodeIndex,
-) -> Result<Vec<NodeIndex>, AllocError> {
+    start: NodeIndex<Ix>,
+) -> Result<Vec<NodeIndex<Ix>>, AllocError>
+    ensures { IfOk result (λ nodes.
+        AreReached (S.graph graph.now) (Ix.number start) (map Ix.number nodes.items)) }
+{
     let mut walk = Dfs::new(alloc, graph, start, Direction::Outgoing)?;
     let mut nodes = Vec::new(alloc);
     'walk: while let Some(n) = walk.next(graph) {
@@ -32,11 +41,14 @@ pub fn depth_first<S: Store<u32>>(
 }
 
 /// Depth first, in postorder.
-pub fn in_postorder<S: Store<u32>>(
+pub fn in_postorder<Ix: IndexType, S: Store<Ix>>(
     alloc: Global,
     graph: &S,
-    start: NodeIndex,
-) -> Result<Vec<NodeIndex>, AllocError> {
+    start: NodeIndex<Ix>,
+) -> Result<Vec<NodeIndex<Ix>>, AllocError>
+    ensures { IfOk result (λ nodes.
+        AreReached (S.graph graph.now) (Ix.number start) (map Ix.number nodes.items)) }
+{
     let mut walk = DfsPostOrder::new(alloc, graph, start, Direction::Outgoing)?;
     let mut nodes = Vec::new(alloc);
     'walk: while let Some(n) = walk.next(graph) {

@@ -4,6 +4,7 @@ use Rattle.std.specs.Option.{option_map}
 use Rattle.dagbench_lines.specs.Numbers.{index_of, weight_of}
 
 infixl 10 ◌>>=◌
+-- what the function makes of the content, if there is any
 abbrev pub ◌>>=◌ : {A B : Type 0} → Option A → (A → Option B) → Option B
 None >>= f = None
 (Some x) >>= f = f x

@@ -7,6 +7,7 @@ use Rattle.daggy_base.specs.Answers.{EdgeGone}
 use Rattle.daggy_base.specs.Answers.{Walk, Done, Missing, Full, Cycle, CycleAll, Memory}
 use Rattle.dagbench_lines.specs.Cutting.{newline}
 
+-- the text of an index of a node, and of an index of an edge
 abbrev pub node_text : ℕ → List ℕ
 node_text n = codes "n" ++ decimal n
 

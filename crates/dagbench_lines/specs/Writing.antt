@@ -4,6 +4,7 @@ use Rattle.dagbench_lines.specs.Cutting.{newline}
 use Rattle.dagbench_lines.specs.Streams.{CountsFaults, Appends}
 use Rattle.dagbench_lines.specs.declared.writer.Writer.{Writer}
 
+-- the sink of a writer
 abbrev pub sink_of : {K : Type 0} → Writer K → K
 sink_of w = w.sink.now
 

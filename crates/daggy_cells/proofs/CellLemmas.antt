@@ -7,7 +7,7 @@ use Rattle.std.proofs.lemmas.Option.{same_Some, slice_get_read, get_or_from_slic
 use Rattle.std.specs.Borrow.{MutBor}
 use Rattle.std.specs.Fn.{Once}
 use Rattle.daggy_base.specs.Calls.{CalledAtTwo}
-use Rattle.daggy_cells.specs.Cells.{changed_at}
+use Rattle.daggy_cells.proofs.Weights.{changed_at}
 
 pub called_at : {F X Y R S : Type 0}
     {g : Once F (MutBor X × (MutBor Y × Unit {0})) (R × (MutBor X × (MutBor Y × Unit {0})))} {f : F} {x : Option X}

@@ -8,6 +8,7 @@ pub mod IsolatedNode
 pub mod RelinkedLists
 pub mod ListOrders
 pub mod EmptyLists
+pub mod Weights
 pub mod CellLemmas
 pub mod CloneLemmas
 pub mod MappingLemmas

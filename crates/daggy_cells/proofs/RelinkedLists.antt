@@ -12,7 +12,8 @@ use Rattle.daggy_base.proofs.Lists.{Contains-nil, Contains-here, Contains-there,
 use Rattle.daggy_base.proofs.Lists.{slice_get-set_other}
 use Rattle.daggy_cells.specs.declared.cell.Node.{Node}
 use Rattle.daggy_cells.specs.declared.cell.Edge.{Edge}
-use Rattle.daggy_cells.specs.Links.{nth_list, AreLinkedLists, CanLink, Relinked, CanLinkAll, AreLinkedBelow}
+use Rattle.std.specs.Prelude.{slice_index}
+use Rattle.daggy_cells.specs.Links.{nth_list, IsLinkedList, AreLinkedLists, CanLink, Relinked, CanLinkAll}
 use Rattle.daggy_cells.specs.Raw.{raw_next}
 use Rattle.daggy_cells.specs.Fields.{firsts_of, nexts_of, with_first, with_next, KeepsNodes, KeepsEdges, Relinks}
 use Rattle.daggy_cells.specs.Fields.{order_at}
@@ -193,6 +194,12 @@ module _ {N E Ix : Type 0} {end n : ℕ} {nodes middle nodes' : List (Node N Ix)
               (subst (λ m. Relinked end into m (nexts_of Incoming edges')) first.keeps_edges.nexts second.links.nexts);
         }
       ]
+
+-- the links form the first i of the lists, and the links of elements that are in no list are unchanged
+pub record AreLinkedBelow (i end : ℕ) (nexts firsts' nexts' : List ℕ) (lists : List (List ℕ)) : Type 0 where
+  pub same_length : length nexts' ≡ length nexts
+  pub rows : (n : ℕ) → n < i → IsLinkedList end nexts' (slice_index firsts' n) (nth_list lists n)
+  pub others : (e : ℕ) → ((n : ℕ) → ¬ Contains (nth_list lists n) e) → slice_get nexts' e ≡ slice_get nexts e
 
 -- the lists in turn
 

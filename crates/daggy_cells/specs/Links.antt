@@ -60,9 +60,3 @@ pub record Relinked (end : ℕ) (list nexts nexts' : List ℕ) : Type 0 where
 pub record CanLinkAll (count : ℕ) (lists : List (List ℕ)) : Type 0 where
   pub each : (n : ℕ) → CanLink count (nth_list lists n)
   pub apart : (n m e : ℕ) → Contains (nth_list lists n) e → Contains (nth_list lists m) e → n ≡ m
-
--- the links form the first i of the lists, and the links of elements that are in no list are unchanged
-pub record AreLinkedBelow (i end : ℕ) (nexts firsts' nexts' : List ℕ) (lists : List (List ℕ)) : Type 0 where
-  pub same_length : length nexts' ≡ length nexts
-  pub rows : (n : ℕ) → n < i → IsLinkedList end nexts' (slice_index firsts' n) (nth_list lists n)
-  pub others : (e : ℕ) → ((n : ℕ) → ¬ Contains (nth_list lists n) e) → slice_get nexts' e ≡ slice_get nexts e

@@ -10,8 +10,8 @@ use Rattle.daggy_cells.specs.declared.cell.Node.{Node}
 use Rattle.daggy_cells.specs.declared.cell.Edge.{Edge}
 use Rattle.daggy_cells.specs.Fields.{plain}
 use Rattle.daggy_graph.specs.Stored.{stored_graph, Stores}
-use Rattle.daggy_cells.specs.Cells.{changed_at, node_of_weight, edge_of_weight, node_weight_at, edge_weight_at}
-use Rattle.daggy_cells.specs.Cells.{with_node_weights, with_edge_weights}
+use Rattle.daggy_cells.specs.Cells.{node_of_weight, edge_of_weight}
+use Rattle.daggy_cells.proofs.Weights.{changed_at, node_weight_at, edge_weight_at, with_node_weights, with_edge_weights}
 use Rattle.daggy_cells.proofs.CellLemmas.{changed_is_set, length-changed, item_at, twice_changed}
 use Rattle.daggy_graph.proofs.StoredLemmas.{Stores-weight, Stores-edge_weight}
 

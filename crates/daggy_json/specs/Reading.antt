@@ -19,6 +19,7 @@ use Rattle.daggy_json.specs.declared.error.ReadError.TheVariants.{Orders, Cycle}
 
 -- ---- the parts of a document
 
+-- the items of an array as a list
 abbrev pub list_of : Items → List Data
 list_of no_items = []
 list_of (item d ds) = d ∷ list_of ds

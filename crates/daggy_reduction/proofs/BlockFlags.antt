@@ -8,7 +8,8 @@ use Rattle.daggy_base.specs.WellFormed.{IsWellFormed}
 use Rattle.daggy_base.proofs.OutEdgesRead.{joins}
 use Rattle.daggy_search.specs.declared.adjacency.Arc.{Arc}
 use Rattle.daggy_reduction.specs.Flags.{IsFlagged}
-use Rattle.daggy_reduction.specs.Blocks.{IsPlaced, AreRows, HasBits, AreArcsOf, HasArcTo, MarksArcs, is_in_row, LeadsInto}
+use Rattle.daggy_reduction.proofs.BlockRows.{AreRows}
+use Rattle.daggy_reduction.specs.Blocks.{IsPlaced, HasBits, AreArcsOf, HasArcTo, MarksArcs, is_in_row, LeadsInto}
 use Rattle.daggy_reduction.proofs.BlockRows.{LeadsFrom, HasChildAt, HasChildWith, to_children, there, listed_at}
 use Rattle.daggy_reduction.proofs.BlockRows.{row_direct, row_indirect, row_both, rows_on, flags_here}
 

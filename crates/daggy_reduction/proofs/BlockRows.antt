@@ -12,9 +12,22 @@ use Rattle.daggy_base.proofs.OutEdgesRead.{joins}
 use Rattle.daggy_base.proofs.PathsWithEdge.{reaches_itself}
 use Rattle.daggy_search.specs.declared.adjacency.Arc.{Arc}
 use Rattle.daggy_reduction.specs.Flags.{IsFlagged}
-use Rattle.daggy_reduction.specs.Blocks.{ReachesOn, IsPlaced, IsRow, AreRows, HasBits, AreArcsOf, HasArcTo}
-use Rattle.daggy_reduction.specs.Blocks.{MarksArcs, is_in_row}
+use Rattle.std.specs.Prelude.{slice_index, slice_index_or}
+use Rattle.daggy_reduction.specs.Descendants.{IsDescendantOf}
+use Rattle.daggy_reduction.specs.Blocks.{IsPlaced, HasBits, AreArcsOf, HasArcTo, MarksArcs, is_in_row}
 use Rattle.daggy_reduction.proofs.MarkedPlaces.{in_row_means}
+
+-- the row of a block, from the place low up to the place high, has exactly the nodes to which a relation holds
+abbrev pub IsRow : (nodes : List ℕ) (low high : ℕ) → (ℕ → Type 0) → List Bool → Type 0
+IsRow nodes low high To row =
+    (i : ℕ) → low + i < high → (slice_index_or row i false ≡ true) ↔ To (slice_index nodes (low + i))
+
+-- from the place k on, the rows of a block have what their nodes reach
+abbrev pub AreRows : {N E : Type 0}
+    → Graph N E → (nodes : List ℕ) (low high k : ℕ) → List (List Bool) → Type 0
+AreRows g nodes low high k rows =
+    (m : ℕ) → k ≤ m → m < high
+    → IsRow nodes low high (IsDescendantOf g (slice_index nodes m)) (slice_index_or rows m [])
 
 -- the nodes of a list, each with its place, are distinct
 pub unique_by : (f : ℕ → ℕ) (c : ℕ) (xs : List ℕ)
@@ -131,8 +144,8 @@ module _ {N E : Type 0} {g : Graph N E} {nodes places : List ℕ} (pl : IsPlaced
               let at = there v v_listed in
               let later : suc m ≤ get_or places v 0 = omega (arith, pl.sorted u v u_listed h.1, pl.at m here) in
               let on = (are (get_or places v 0) later h.2 i low_i).0 h.3 in
-              let P : ℕ → Type 0 = λ z. ReachesOn g z t in
-              let r : ReachesOn g v t = subst P at.1 on in
+              let P : ℕ → Type 0 = λ z. IsDescendantOf g z t in
+              let r : IsDescendantOf g v t = subst P at.1 on in
               (v, r.0, r.2.0, (u_exists, h.1, (pl.exist v v_listed, r.1, r.2.1)), r.2.2)),
           λ r.
               (let v = r.0 in
@@ -145,8 +158,8 @@ module _ {N E : Type 0} {g : Graph N E} {nodes places : List ℕ} (pl : IsPlaced
               let before : get_or places v 0 < high =
               omega (arith, pl.sorted v r.1 v_listed r.3.2.1, up.0, ends, low_i) in
               let later : suc m ≤ get_or places v 0 = omega (arith, pl.sorted u v u_listed r.3.1, pl.at m here) in
-              let P : ℕ → Type 0 = λ z. ReachesOn g z t in
-              let on : ReachesOn g v t = (r.1, r.3.2.1, (r.2, r.3.2.2, r.4)) in
+              let P : ℕ → Type 0 = λ z. IsDescendantOf g z t in
+              let on : IsDescendantOf g v t = (r.1, r.3.2.1, (r.2, r.3.2.2, r.4)) in
               let flag = (are (get_or places v 0) later before i low_i).1 (subst P (sym at.1) on) in
               (has i).1 (v, r.3.1, before, flag)),
         )
@@ -155,7 +168,7 @@ module _ {N E : Type 0} {g : Graph N E} {nodes places : List ℕ} (pl : IsPlaced
     pub row_both : (direct indirect row : List Bool) → IsRow nodes low high (AreJoined g u) direct
         → IsRow nodes low high (ReachesIndirectly g u) indirect
         → ((i : ℕ) → (get_or row i false ≡ true) ↔ ((get_or direct i false ≡ true) ⊎ (get_or indirect i false ≡ true)))
-        → IsRow nodes low high (ReachesOn g u) row
+        → IsRow nodes low high (IsDescendantOf g u) row
     row_both direct indirect row d r both i low_i =
         let t = get_or nodes (low + i) 0 in
         let t_exists : HasNode g t = pl.exist t (listed_at (low + i) (omega (arith, low_i, within))) in
@@ -176,15 +189,15 @@ module _ {N E : Type 0} {g : Graph N E} {nodes places : List ℕ} (pl : IsPlaced
 
     -- one row more is right
     pub rows_on : (rows : List (List Bool)) (row : List Bool) → m < length rows
-        → AreRows g nodes low high (suc m) rows → IsRow nodes low high (ReachesOn g u) row
+        → AreRows g nodes low high (suc m) rows → IsRow nodes low high (IsDescendantOf g u) row
         → AreRows g nodes low high m (set rows m row)
     rows_on rows row room are is n from till =
-        let Q : List Bool → Type 0 = λ z. IsRow nodes low high (ReachesOn g (get_or nodes n 0)) z in
+        let Q : List Bool → Type 0 = λ z. IsRow nodes low high (IsDescendantOf g (get_or nodes n 0)) z in
         elim (cases_eq n m) [
           | inl same ↦
               (let P : ℕ → Type 0 = λ z.
-              IsRow nodes low high (ReachesOn g (get_or nodes z 0)) (get_or (set rows m row) z []) in
-              let R : List Bool → Type 0 = λ z. IsRow nodes low high (ReachesOn g u) z in
+              IsRow nodes low high (IsDescendantOf g (get_or nodes z 0)) (get_or (set rows m row) z []) in
+              let R : List Bool → Type 0 = λ z. IsRow nodes low high (IsDescendantOf g u) z in
               subst P (sym same) (subst R (sym (get_or-set_same rows m row [] room)) is))
           | inr other ↦
               subst Q (sym (get_or-set_other rows m n row [] other)) (are n (omega (arith, from, other)) till)

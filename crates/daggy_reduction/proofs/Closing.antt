@@ -16,7 +16,7 @@ use Rattle.daggy_base.proofs.OutEdgesRead.{next_cursor, lists_of, lists_few}
 use Rattle.daggy_base.proofs.PathsWithEdge.{reaches_itself}
 use Rattle.daggy_base.proofs.Sorted.{place_left, place_right, unique_cross}
 use Rattle.daggy_walk.specs.Visit.{HasPair}
-use Rattle.daggy_reduction.specs.Blocks.{ReachesOn}
+use Rattle.daggy_reduction.specs.Descendants.{IsDescendantOf}
 use Rattle.daggy_reduction.proofs.ListedArcs.{Passed, passed_step, passed_whole}
 
 -- What is joined: the graph and the number past all its edges, the node whose edges are gone through, the matrix from
@@ -188,7 +188,7 @@ pub record Closing {N E : Type 0} (t : Whole N E) (now : Far N E) : Type 0 where
   pub bound : length now.matrix ≡ node_bound t.graph
   pub done : List ℕ
   pub split : t.order ≡ now.left ++ done
-  pub pairs : (u v : ℕ) → HasPair now.matrix u v ↔ (Contains done u × ReachesOn t.graph u v)
+  pub pairs : (u v : ℕ) → HasPair now.matrix u v ↔ (Contains done u × IsDescendantOf t.graph u v)
   pub counted : now.looks ≡ t.looks + length (lists_of t.graph done)
 
 pub closing_start : {N E : Type 0} (t : Whole N E) (matrix : List (List Bool)) (left : List ℕ) → left ≡ t.order
@@ -222,7 +222,7 @@ module _ {N E : Type 0} {t : Whole N E} (w : IsWellFormed t.end t.graph) (ordere
       let P : List ℕ → Type 0 = λ z. Unique z in subst P s.split (unique_from_distinct t.order ordered.once) in
       omega (arith, s.counted, lists_few t.end t.graph w s.done (unique_right now.left s.done all))
 
-  pub closing_whole : now.left ≡ [] → (u v : ℕ) → HasPair now.matrix u v ↔ ReachesOn t.graph u v
+  pub closing_whole : now.left ≡ [] → (u v : ℕ) → HasPair now.matrix u v ↔ IsDescendantOf t.graph u v
   closing_whole none u v =
       let all : t.order ≡ s.done = s.split ∙ ap (λ z. z ++ s.done) none in
       let C : List ℕ → Type 0 = λ z. Contains z u in (
@@ -286,14 +286,14 @@ module _ {N E : Type 0} {t : Whole N E} (w : IsWellFormed t.end t.graph) (ordere
               | inr q ↦
                   (let J : Graph N E → Type 0 = λ z. AreJoined z n q.1.0 in
                   let j = subst J s.same q.1.1 in
-                  let R : ℕ → Type 0 = λ z. Contains (n ∷ s.done) z × ReachesOn t.graph z v in
+                  let R : ℕ → Type 0 = λ z. Contains (n ∷ s.done) z × IsDescendantOf t.graph z v in
                   subst R (sym q.0) ((0, omega arith, refl), (q.1.0, j, reached q.1.0 j v q.1.2)))
             ],
             λ p. (joined u v).1 (elim (Contains-append_cases (n ∷ []) s.done u p.0) [
               | inr before ↦ inl ((s.pairs u v).1 (before, p.1))
               | inl here ↦
                   (let is : u ≡ n = only u here in
-                  let R : ℕ → Type 0 = λ z. ReachesOn t.graph z v in
+                  let R : ℕ → Type 0 = λ z. IsDescendantOf t.graph z v in
                   let r = subst R is p.1 in
                   let J : Graph N E → Type 0 = λ z. AreJoined z n r.0 in
                   inr (is, (r.0, subst J (sym s.same) r.1, from r.0 r.1 v r.2)))

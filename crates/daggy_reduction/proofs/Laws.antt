@@ -7,8 +7,9 @@ use Rattle.daggy_base.specs.declared.kind.Kind.{Kind}
 use Rattle.daggy_base.specs.declared.kind.Kind.TheVariants.{Stable}
 use Rattle.daggy_base.specs.WellFormed.{IsWellFormed}
 use Rattle.daggy_base.specs.Reduction.{IsReduction}
-use Rattle.daggy_reduction.specs.Comparison.{LosesRoundPairs, JoinsAll, HaveSameReachability, JoinsCovers, JoinsOthers}
+use Rattle.daggy_reduction.specs.Comparison.{JoinsAll, HaveSameReachability, JoinsCovers, JoinsOthers}
 use Rattle.daggy_reduction.specs.Comparison.{IsLeast, HasNoneRedundant, IsCanonical}
+use Rattle.daggy_reduction.proofs.LostPairs.{LosesRoundPairs}
 use Rattle.daggy_reduction.proofs.RemainingEdges.{reduction_loses}
 use Rattle.daggy_reduction.proofs.ReachabilityKept.{same_reachability}
 use Rattle.daggy_reduction.proofs.CoverPairs.{joined_exactly}

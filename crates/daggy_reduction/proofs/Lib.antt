@@ -1,4 +1,5 @@
 pub mod Paths
+pub mod LostPairs
 pub mod ReachabilityKept
 pub mod CoverPairs
 pub mod Canonical

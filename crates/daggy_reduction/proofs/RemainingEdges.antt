@@ -10,7 +10,7 @@ use Rattle.daggy_base.specs.declared.kind.Kind.TheVariants.{Compact, Stable}
 use Rattle.daggy_base.specs.Reduction.{IsDescending, IsReduction, IsBelow, ReachesIndirectly}
 use Rattle.daggy_base.proofs.Lists.{Mem, contains_mem, mem_contains}
 use Rattle.daggy_base.proofs.PathsWithoutEdge.{slot_of}
-use Rattle.daggy_reduction.specs.Comparison.{LosesRoundPairs}
+use Rattle.daggy_reduction.proofs.LostPairs.{LosesRoundPairs}
 
 pub slot_inside : {A : Type 0} (xs : List (Option A)) (i : ℕ) (y : A) → slot xs i ≡ Some y → i < length xs
 slot_inside [] i y h = absurd cc

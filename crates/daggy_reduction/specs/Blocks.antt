@@ -7,28 +7,12 @@ use Rattle.daggy_base.specs.Reduction.{ReachesIndirectly}
 use Rattle.daggy_search.specs.declared.adjacency.Arc.{Arc}
 use Rattle.daggy_reduction.specs.Flags.{IsFlagged}
 
--- a path of one or more edges leads from u to v
-abbrev pub ReachesOn : {N E : Type 0} → Graph N E → ℕ → ℕ → Type 0
-ReachesOn g u v = (w : ℕ) × AreJoined g u w × Reaches g w v
-
 -- existing nodes and all that they reach, each parent before its children, with the place of each
 pub record IsPlaced {N E : Type 0} (g : Graph N E) (nodes places : List ℕ) : Type 0 where
   pub exist : (n : ℕ) → Contains nodes n → HasNode g n
   pub at : (k : ℕ) → k < length nodes → slice_index places (slice_index nodes k) ≡ k
   pub closed : (u v : ℕ) → Contains nodes u → AreJoined g u v → Contains nodes v
   pub sorted : (u v : ℕ) → Contains nodes u → AreJoined g u v → slice_index places u < slice_index places v
-
--- the row of a block, from the place low up to the place high, has exactly the nodes to which a relation holds
-abbrev pub IsRow : (nodes : List ℕ) (low high : ℕ) → (ℕ → Type 0) → List Bool → Type 0
-IsRow nodes low high To row =
-    (i : ℕ) → low + i < high → (slice_index_or row i false ≡ true) ↔ To (slice_index nodes (low + i))
-
--- from the place k on, the rows of a block have what their nodes reach
-abbrev pub AreRows : {N E : Type 0}
-    → Graph N E → (nodes : List ℕ) (low high k : ℕ) → List (List Bool) → Type 0
-AreRows g nodes low high k rows =
-    (m : ℕ) → k ≤ m → m < high
-    → IsRow nodes low high (ReachesOn g (slice_index nodes m)) (slice_index_or rows m [])
 
 -- exactly the bits are set for which it holds
 abbrev pub HasBits : (ℕ → Type 0) → List Bool → Type 0

@@ -33,14 +33,6 @@ IsAscending (x ∷ y ∷ xs) = (x < y) × IsAscending (y ∷ xs)
 abbrev pub ReachAll : {N E : Type 0} → Graph N E → List ℕ → Type 0
 ReachAll g roots = (n : ℕ) → HasNode g n → IsBelow g roots n
 
--- new has the nodes of old and joins the pairs that old joins, except those below the roots that a longer path connects
--- too
-pub record LosesRoundPairs {N E : Type 0} (roots : List ℕ) (old new : Graph N E) : Type 0 where
-  pub nodes : HaveSameNodes old new
-  pub joined : (u v : ℕ) → AreJoined new u v → AreJoined old u v
-  pub kept : (u v : ℕ) → AreJoined old u v → AreJoined new u v ⊎ (IsBelow old roots u × ReachesIndirectly old u v)
-  pub lost : (u v : ℕ) → AreJoined new u v → IsBelow old roots u → ReachesIndirectly old u v → ⊥
-
 -- below the roots, new joins two nodes if and only if one covers the other in old
 abbrev pub JoinsCovers : {N E : Type 0} → (roots : List ℕ) (old new : Graph N E) → Type 0
 JoinsCovers roots old new = (u v : ℕ) → IsBelow old roots u → AreJoined new u v ↔ Covers old u v

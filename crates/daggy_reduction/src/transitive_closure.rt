@@ -5,7 +5,7 @@ ghost use Rattle.daggy_base.specs.Ordered.{IsOrderOf};
 ghost use Rattle.daggy_base.specs.Path.{AreJoined};
 ghost use Rattle.daggy_base.specs.WellFormed.{IsWellFormed};
 ghost use Rattle.daggy_walk.specs.Visit.{HasPair};
-ghost use Rattle.daggy_reduction.specs.Blocks.{ReachesOn};
+ghost use Rattle.daggy_reduction.specs.Descendants.{IsDescendantOf};
 
 use daggy_base::index::{EdgeIndex, IndexType, NodeIndex};
 use daggy_base::source::EdgeSource;
@@ -58,7 +58,7 @@ pub fn transitive_closure<Ix: IndexType, S: EdgeSource<Ix>>(
 ) -> Result<AdjMatrix<Ix>, AllocError>
     requires ordered { IsOrderOf (S.graph source.old) order.now }
     ensures closure { IfOk result (λ matrix.
-        (a b : ℕ) → HasPair matrix a b ↔ ReachesOn (S.graph source.old) a b) }
+        (a b : ℕ) → HasPair matrix a b ↔ IsDescendantOf (S.graph source.old) a b) }
     ensures same { S.graph source.new ≡ S.graph source.old }
     ensures looked { S.looks source.old ≤ S.looks source.new }
     ensures counted { S.looks source.new ≤ S.looks source.old + edge_count (S.graph source.old) }

@@ -5,6 +5,7 @@ pub mod ListSearches
 pub mod Changes
 pub mod StoredRemoval
 pub mod StoredWeights
+pub mod SlotWeights
 pub mod TwoWeightLemmas
 pub mod Bounds
 pub mod HeldGraph

@@ -17,11 +17,11 @@ use Rattle.daggy_base.proofs.Orders.{length-lists_by_slots, row_vacant, row_take
 use Rattle.daggy_base.proofs.Orders.{well_formed_with_orders}
 use Rattle.daggy_cells.specs.declared.cell.Node.{Node}
 use Rattle.daggy_cells.specs.declared.cell.Edge.{Edge}
-use Rattle.daggy_cells.specs.Links.{nth_list, AreLinkedLists, CanLinkAll, AreLinkedBelow}
+use Rattle.daggy_cells.specs.Links.{nth_list, AreLinkedLists, CanLinkAll}
 use Rattle.daggy_cells.specs.Fields.{weight_of as stored_weight, plain_edge as stored_edge, firsts_of, nexts_of}
 use Rattle.daggy_cells.specs.Fields.{lists_at, order_at, Relinks}
 use Rattle.daggy_cells.proofs.ListOrders.{can_link_all, rows_listed}
-use Rattle.daggy_cells.proofs.RelinkedLists.{none_below, below_empty, below_linked, all_linked}
+use Rattle.daggy_cells.proofs.RelinkedLists.{AreLinkedBelow, none_below, below_empty, below_linked, all_linked}
 use Rattle.daggy_cells.proofs.FieldLemmas.{firsts_as_many, as_many as same_long}
 use Rattle.daggy_stable.specs.Stored.{weight_of, plain_edge, shown, list_firsts, Stores}
 use Rattle.daggy_stable.specs.Ordering.{new_lists}

@@ -11,10 +11,11 @@ use Rattle.daggy_base.specs.Weights.{edge_weight, with_node_weight, with_edge_we
 use Rattle.daggy_cells.specs.declared.cell.Node.{Node}
 use Rattle.daggy_cells.specs.declared.cell.Edge.{Edge}
 use Rattle.daggy_base.specs.Calls.{CalledAtTwo}
-use Rattle.daggy_cells.specs.Cells.{changed_at, node_of_weight, edge_of_weight}
+use Rattle.daggy_cells.specs.Cells.{node_of_weight, edge_of_weight}
+use Rattle.daggy_cells.proofs.Weights.{changed_at}
 use Rattle.daggy_cells.proofs.CellLemmas.{changed_is_set, item_at, called_at, called_through, twice_changed}
 use Rattle.daggy_base.proofs.MappedSlots.{slot_read}
-use Rattle.daggy_stable.specs.Cells.{node_weight_in, edge_weight_in, with_node_weights, with_edge_weights}
+use Rattle.daggy_stable.proofs.SlotWeights.{node_weight_in, edge_weight_in, with_node_weights, with_edge_weights}
 use Rattle.daggy_stable.specs.Stored.{weight_of, plain_edge, stored_graph, Stores}
 use Rattle.daggy_stable.proofs.Changes.{node_inside}
 use Rattle.daggy_stable.proofs.StoredRemoval.{weight_plain}

@@ -3,6 +3,5 @@ pub mod Held
 pub mod Lends
 pub mod Building
 pub mod Ordering
-pub mod Cells
 pub mod FullSlots
 pub mod Rest

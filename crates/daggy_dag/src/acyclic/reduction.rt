@@ -6,7 +6,7 @@ ghost use Rattle.daggy_base.specs.Removal.{KeepsIndices};
 ghost use Rattle.daggy_base.specs.declared.kind.Kind.TheVariants.{Stable};
 ghost use Rattle.daggy_base.specs.Reduction.{IsReduction};
 ghost use Rattle.daggy_walk.specs.Visit.{HasPair};
-ghost use Rattle.daggy_reduction.specs.Blocks.{ReachesOn};
+ghost use Rattle.daggy_reduction.specs.Descendants.{IsDescendantOf};
 ghost use Rattle.daggy_reduction.specs.Comparison.{HaveSameReachability, JoinsCovers, JoinsOthers};
 ghost use Rattle.daggy_reduction.specs.Comparison.{IsLeast, HasNoneRedundant, IsCanonical};
 
@@ -112,7 +112,7 @@ where
     /// ```
     pub fn transitive_closure(&mut self) -> Result<AdjMatrix<Ix>, AllocError>
         ensures closure { IfOk result (λ matrix. (a b : ℕ)
-            → HasPair matrix a b ↔ ReachesOn self.old.graph a b) }
+            → HasPair matrix a b ↔ IsDescendantOf self.old.graph a b) }
         ensures same { self.new.graph ≡ self.old.graph }
         ensures looked { self.old.looks ≤ self.new.looks }
         ensures counted { self.new.looks ≤ self.old.looks + edge_count_of self.old.graph }

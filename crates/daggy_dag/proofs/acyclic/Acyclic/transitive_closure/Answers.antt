@@ -2,12 +2,12 @@ use Rattle.std.proofs.Common.{◌↔◌, ℕ, IfOk, ap, subst, ◌∙◌}
 use Rattle.daggy_base.specs.Graph.{Graph}
 use Rattle.daggy_guard.proofs.GuardedChange.{same_graph}
 use Rattle.daggy_walk.specs.Visit.{HasPair}
-use Rattle.daggy_reduction.specs.Blocks.{ReachesOn}
+use Rattle.daggy_reduction.specs.Descendants.{IsDescendantOf}
 use Rattle.daggy_dag.proofs.acyclic.Acyclic.transitive_closure.Goals as goal
 
 pub returns-clause-closure : goal.returns-clause-closure
 returns-clause-closure g c =
     let P : Graph g.row.N.Denot g.row.E.Denot → Type 0 = λ z.
-    IfOk c.transitive_closure.result (λ matrix. (a b : ℕ) → HasPair matrix a b ↔ ReachesOn z a b) in
+    IfOk c.transitive_closure.result (λ matrix. (a b : ℕ) → HasPair matrix a b ↔ IsDescendantOf z a b) in
     subst P (same_graph (ap (λ i. i.guarded) c.self-inside.view_is ∙ c.self.view_is))
     c.transitive_closure.ensures.closure

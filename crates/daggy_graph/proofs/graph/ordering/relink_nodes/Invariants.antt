@@ -2,7 +2,7 @@ use Rattle.std.proofs.Common.{◌≡◌, map}
 use Rattle.daggy_base.specs.declared.index.Direction.{Direction}
 use Rattle.daggy_base.specs.Orders.{numbers_of}
 use Rattle.daggy_cells.specs.Fields.{weight_of, plain_edge, firsts_of, nexts_of, order_at}
-use Rattle.daggy_cells.specs.Links.{AreLinkedBelow}
+use Rattle.daggy_cells.proofs.RelinkedLists.{AreLinkedBelow}
 use Rattle.daggy_graph.proofs.graph.ordering.relink_nodes.Given as goal
 
 abbrev pub invariant-each : goal.invariant-each

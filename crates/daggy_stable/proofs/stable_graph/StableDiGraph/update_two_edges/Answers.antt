@@ -3,7 +3,7 @@ use Rattle.daggy_base.specs.Weights.{with_edge_weight}
 use Rattle.daggy_cells.specs.Cells.{edge_of_weight}
 use Rattle.daggy_cells.proofs.CellLemmas.{called_at}
 use Rattle.daggy_cells.proofs.States.{state_changed}
-use Rattle.daggy_stable.specs.Cells.{edge_weight_in}
+use Rattle.daggy_stable.proofs.SlotWeights.{edge_weight_in}
 use Rattle.daggy_stable.proofs.Stores.{stored_is, Stores-itself}
 use Rattle.daggy_stable.proofs.TwoWeightLemmas.{edges_updated, edge_stands, edge_seen, slots_called, edge_weight_got}
 use Rattle.daggy_stable.proofs.TwoWeightLemmas.{still_some}

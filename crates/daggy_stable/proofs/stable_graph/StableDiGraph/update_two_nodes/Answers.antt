@@ -3,7 +3,7 @@ use Rattle.daggy_base.specs.Weights.{with_node_weight}
 use Rattle.daggy_cells.specs.Cells.{node_of_weight}
 use Rattle.daggy_cells.proofs.CellLemmas.{called_at}
 use Rattle.daggy_cells.proofs.States.{state_changed}
-use Rattle.daggy_stable.specs.Cells.{node_weight_in}
+use Rattle.daggy_stable.proofs.SlotWeights.{node_weight_in}
 use Rattle.daggy_stable.specs.Stored.{weight_of}
 use Rattle.daggy_stable.proofs.Stores.{stored_is, Stores-itself}
 use Rattle.daggy_stable.proofs.TwoWeightLemmas.{nodes_updated, node_stands, node_seen, slots_called, slot_got}

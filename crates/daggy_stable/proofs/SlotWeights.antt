@@ -4,7 +4,8 @@ use Rattle.std.specs.Option.{option_map}
 use Rattle.daggy_base.specs.Graph.{slot}
 use Rattle.daggy_cells.specs.declared.cell.Node.{Node}
 use Rattle.daggy_cells.specs.declared.cell.Edge.{Edge}
-use Rattle.daggy_cells.specs.Cells.{changed_at, node_of_weight, edge_of_weight}
+use Rattle.daggy_cells.specs.Cells.{node_of_weight, edge_of_weight}
+use Rattle.daggy_cells.proofs.Weights.{changed_at}
 use Rattle.daggy_stable.specs.Stored.{weight_of, plain_edge}
 
 -- the weight of the node in this slot, if the slot is not vacant

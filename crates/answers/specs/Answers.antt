@@ -1,0 +1,20 @@
+-- The parts of the answers.
+use Rattle.std.specs.Prelude.{◌≡◌, ℕ, ◌↔◌, Some, List, [], Contains, map}
+use Rattle.daggy_base.specs.Graph.{Graph, Edge, ends_of}
+use Rattle.daggy_base.specs.Iterating.{edge_references}
+use Rattle.daggy_base.specs.Path.{Reaches}
+use Rattle.daggy_base.specs.WellFormed.{AreDistinct}
+
+-- exactly the nodes that the start reaches, each once
+pub record AreReached {N E : Type 0} (g : Graph N E) (start : ℕ) (nodes : List ℕ) : Type 0 where
+  pub exact : (n : ℕ) → Contains nodes n ↔ Reaches g start n
+  pub once : AreDistinct nodes
+
+-- the parent and the child of each edge, by ascending index
+abbrev pub endpoints_of : {N E : Type 0} → Graph N E → List (ℕ × ℕ)
+endpoints_of g = map (λ p. ends_of p.1) (edge_references g)
+
+-- nodes with these weights, and no edges
+pub record HasOnly {N E : Type 0} (weights : List N) (g : Graph N E) : Type 0 where
+  pub nodes : g.nodes ≡ map Some weights
+  pub edges : g.edges ≡ []

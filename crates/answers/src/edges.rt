@@ -1,0 +1,40 @@
+//! The edges of a dag.
+ghost use Rattle.std.specs.Prelude.{◌≡◌, map, IfOk, IsPermutation};
+ghost use Rattle.std.specs.List.Sorted.{IsSorted};
+ghost use Rattle.daggy_base.specs.State.{State};
+ghost use Rattle.answers.specs.Answers.{endpoints_of};
+
+use daggy::{Acyclic, EdgeIndex, IndexType, Store};
+use std::alloc::{AllocError, Global};
+
+// The parent and the child of each edge, by ascending index.
+fn endpoints<N: Drop, E: Drop, Ix: IndexType, S: Store<Ix, NodeWeight = N, EdgeWeight = E>>(
+    alloc: Global,
+    dag: &Acyclic<N, E, Ix, S>,
+) -> Result<Vec<(usize, usize)>, AllocError>
+    ensures { IfOk result (λ pairs. pairs.items ≡ endpoints_of dag.now.graph) }
+{
+    let graph = dag.graph();
+    graph.invariant();
+    let mut pairs = Vec::new(alloc);
+    for i in 0..graph.edge_slots() {
+        if let Some((parent, child)) = dag.edge_endpoints(EdgeIndex::new(i)) {
+            pairs.push((parent.index(), child.index()))?;
+        }
+    }
+    Ok(pairs)
+}
+
+/// The parent and the child of each edge, in ascending order.
+pub fn sorted_endpoints<
+    N: Drop,
+    E: Drop,
+    Ix: IndexType,
+    S: Store<Ix, NodeWeight = N, EdgeWeight = E>,
+>(alloc: Global, dag: &Acyclic<N, E, Ix, S>) -> Result<Vec<(usize, usize)>, AllocError>
+    ensures { IfOk result (λ pairs. IsPermutation (endpoints_of dag.now.graph) pairs.items) }
+{
+    let mut pairs = endpoints(alloc, dag)?;
+    pairs.sort()?;
+    Ok(pairs)
+}
