@@ -10,7 +10,7 @@ ghost use Rattle.daggy_reduction.specs.KeptRoom.{keeps_room};
 
 use crate::arcs::list_arcs;
 use crate::block::flag_block;
-use crate::flags::{gather_flagged, unflag};
+use crate::flags::{collect_flags, unflag};
 use crate::redundant::front;
 use crate::roots::list_below;
 use daggy_base::index::{EdgeIndex, IndexType, NodeIndex};
@@ -87,7 +87,7 @@ pub(crate) fn leave_redundant_by_blocks<Ix: IndexType, S: EdgeSource<Ix>>(
     let rows = scratch.rows.as_mut_slice();
     let flags = scratch.found.as_mut_slice();
     flag_blocks(source, order, roots, work, adjacency, rows, flags);
-    gather_flagged(flags, bound)
+    collect_flags(flags, bound)
 }
 
 /// As [`redundant_edges_in`](crate::bounded::redundant_edges_in), by rows of bits for 512 nodes at a

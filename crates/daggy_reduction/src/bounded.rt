@@ -14,8 +14,8 @@ ghost use Rattle.daggy_reduction.specs.SearchSpan.{edges_spanned, all_spanned};
 ghost use Rattle.std.specs.Borrow.{sem};
 ghost use Rattle.daggy_reduction.specs.KeptRoom.{keeps_room};
 
-use crate::closure::{enter, mark_unless_first};
-use crate::flags::{flag_marked, gather_flagged, unflag};
+use crate::bfs::{enqueue, mark_unless_first};
+use crate::flags::{collect_flags, flag_marked, unflag};
 use crate::redundant::front;
 use crate::roots::enter_below;
 use daggy_base::index::{EdgeIndex, IndexType, NodeIndex};
@@ -25,7 +25,7 @@ use daggy_search::{Scratch, Worklist};
 
 // Marks the children of `u` that are also reachable by a longer path. Such a path cannot
 // leave the part of the order before `u`'s last child, so the search stays there.
-pub(crate) fn meet_round<Ix: IndexType, S: EdgeSource<Ix>>(
+pub(crate) fn mark_indirect_children<Ix: IndexType, S: EdgeSource<Ix>>(
     source: &mut S,
     order: &Order<Ix>,
     u: NodeIndex<Ix>,
@@ -55,10 +55,10 @@ pub(crate) fn meet_round<Ix: IndexType, S: EdgeSource<Ix>>(
     'children: while e.index() != end {
         let (v, next) = source.look(e);
         if order.stands_before(last, v) {
-            len = enter(work, len, last);
+            len = enqueue(work, len, last);
             last = v;
         } else if order.stands_before(v, last) {
-            len = enter(work, len, v);
+            len = enqueue(work, len, v);
         }
         e = next;
     }
@@ -76,7 +76,7 @@ pub(crate) fn meet_round<Ix: IndexType, S: EdgeSource<Ix>>(
         } else {
             let (v, next) = source.look(e);
             if order.stands_before(v, last) {
-                len = enter(work, len, v);
+                len = enqueue(work, len, v);
             }
             mark_unless_first(work, head, v.index());
             e = next;
@@ -85,7 +85,7 @@ pub(crate) fn meet_round<Ix: IndexType, S: EdgeSource<Ix>>(
 }
 
 // Flags the edges of `u` whose children are also reachable by a longer path.
-fn flag_round_in<Ix: IndexType, S: EdgeSource<Ix>>(
+fn flag_children_in<Ix: IndexType, S: EdgeSource<Ix>>(
     source: &mut S,
     order: &Order<Ix>,
     u: NodeIndex<Ix>,
@@ -110,7 +110,7 @@ fn flag_round_in<Ix: IndexType, S: EdgeSource<Ix>>(
     ensures flags_kept { length flags.new ≡ length flags.old }
 {
     work.begin();
-    meet_round(source, order, u, work);
+    mark_indirect_children(source, order, u, work);
     flag_marked(source, u, work, flags);
 }
 
@@ -143,7 +143,7 @@ fn flag_redundant_in<Ix: IndexType, S: EdgeSource<Ix>>(
     let count = enter_below(source, roots, work);
     let mut k = 0;
     'nodes: while k < count {
-        flag_round_in(source, order, work.cursor(k).node(), work, flags);
+        flag_children_in(source, order, work.cursor(k).node(), work, flags);
         k += 1;
     }
 }
@@ -178,7 +178,7 @@ pub(crate) fn leave_redundant_in<Ix: IndexType, S: EdgeSource<Ix>>(
     let bound = source.edge_bound();
     let flags = scratch.found.as_mut_slice();
     flag_redundant_in(source, order, roots, &mut scratch.work, flags);
-    gather_flagged(flags, bound)
+    collect_flags(flags, bound)
 }
 
 /// As [`redundant_edges`](crate::redundant::redundant_edges), by a topological order of the nodes.

@@ -72,7 +72,7 @@ pub(crate) fn flag_marked<Ix: IndexType, S: EdgeSource<Ix>>(
 
 // Moves the indices of the flagged edges to the front, in ascending order, and returns how many
 // there are. This overwrites the flags.
-pub(crate) fn gather_flagged<Ix: IndexType>(flags: &mut [EdgeIndex<Ix>], bound: usize) -> usize
+pub(crate) fn collect_flags<Ix: IndexType>(flags: &mut [EdgeIndex<Ix>], bound: usize) -> usize
     requires within { bound ≤ length flags.old }
     requires real { bound ≤ Ix.greatest }
     ensures gathered { take result (map Ix.number flags.new)

@@ -4,11 +4,11 @@
 
 pub mod affected;
 mod arcs;
+mod bfs;
 mod block;
 pub mod blocks;
 pub mod bounded;
 mod choice;
-mod closure;
 mod flags;
 pub mod joined_pairs;
 pub mod reduce;

@@ -11,15 +11,15 @@ ghost use Rattle.daggy_reduction.specs.Comparison.{IsAscending};
 ghost use Rattle.std.specs.Borrow.{sem};
 ghost use Rattle.daggy_reduction.specs.KeptRoom.{keeps_room};
 
-use crate::closure::{close, enter};
-use crate::flags::{flag_marked, gather_flagged, unflag};
+use crate::bfs::{bfs, enqueue};
+use crate::flags::{collect_flags, flag_marked, unflag};
 use crate::roots::enter_below;
 use daggy_base::index::{EdgeIndex, IndexType, NodeIndex};
 use daggy_base::source::EdgeSource;
 use daggy_search::{Scratch, Worklist};
 
 // Flags the edges of `u` whose children are also reachable by a longer path.
-fn flag_round<Ix: IndexType, S: EdgeSource<Ix>>(
+fn flag_children<Ix: IndexType, S: EdgeSource<Ix>>(
     source: &mut S,
     u: NodeIndex<Ix>,
     work: &mut Worklist<Ix>,
@@ -42,8 +42,8 @@ fn flag_round<Ix: IndexType, S: EdgeSource<Ix>>(
     ensures flags_kept { length flags.new ≡ length flags.old }
 {
     work.begin();
-    let len = enter(work, 0, u);
-    close(source, work, len);
+    let len = enqueue(work, 0, u);
+    bfs(source, work, len);
     flag_marked(source, u, work, flags);
 }
 
@@ -71,7 +71,7 @@ fn flag_redundant<Ix: IndexType, S: EdgeSource<Ix>>(
     let count = enter_below(source, roots, work);
     let mut k = 0;
     'nodes: while k < count {
-        flag_round(source, work.cursor(k).node(), work, flags);
+        flag_children(source, work.cursor(k).node(), work, flags);
         k += 1;
     }
 }
@@ -102,7 +102,7 @@ fn leave_redundant<Ix: IndexType, S: EdgeSource<Ix>>(
     let bound = source.edge_bound();
     let flags = scratch.found.as_mut_slice();
     flag_redundant(source, roots, &mut scratch.work, flags);
-    gather_flagged(flags, bound)
+    collect_flags(flags, bound)
 }
 
 // The first `count` items of a list.

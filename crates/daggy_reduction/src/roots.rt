@@ -9,7 +9,7 @@ ghost use Rattle.daggy_search.specs.Work.{IsSized, IsCleared};
 ghost use Rattle.daggy_reduction.specs.Closure.{IsQueue};
 ghost use Rattle.daggy_reduction.specs.Blocks.{IsPlaced};
 
-use crate::closure::{close, enter};
+use crate::bfs::{bfs, enqueue};
 use daggy_base::index::{IndexType, NodeIndex};
 use daggy_base::link::Link;
 use daggy_base::source::EdgeSource;
@@ -36,7 +36,7 @@ fn enter_roots<Ix: IndexType, S: EdgeSource<Ix>>(
     'roots: while k < roots.len() {
         let root = roots[k];
         if source.contains_node(root) {
-            len = enter(work, len, root);
+            len = enqueue(work, len, root);
         }
         k += 1;
     }
@@ -71,7 +71,7 @@ pub(crate) fn queue_below<Ix: IndexType, S: EdgeSource<Ix>>(
     if len == 0 {
         return 0;
     }
-    close(source, work, len)
+    bfs(source, work, len)
 }
 
 // Copies the first `count` nodes of a worklist over its first cursors.

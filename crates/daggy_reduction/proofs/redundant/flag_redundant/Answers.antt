@@ -19,18 +19,18 @@ read : (g : Over) (c : After-cursor g) (d : ℕ)
     → c.cursor.result ≡ get_or c.enter_below-count.new.work.cursors c.nodes.k d
 read g c d = c.cursor.ensures d ∙ ap (λ z. get_or z c.nodes.k d) c.nodes.invariant.aside
 
-pub flag_round-requires-clause-exists : goal.flag_round-requires-clause-exists
-flag_round-requires-clause-exists g c =
+pub flag_children-requires-clause-exists : goal.flag_children-requires-clause-exists
+flag_children-requires-clause-exists g c =
     let graph = g.S.EdgeSource.graph c.args.source.now in
     let count = c.enter_below-count.result in
     let below = c.enter_below-count.new.work.cursors in
     let n = c.cursor.result in
     let low : c.nodes.k < length (take count below) =
-    omega (arith, c.nodes-test.true, long g (goal.at.flag_round-requires-clause-exists g c).After-enter_below-count) in
+    omega (arith, c.nodes-test.true, long g (goal.at.flag_children-requires-clause-exists g c).After-enter_below-count) in
     let there : Contains (take count below) n = (
       c.nodes.k,
       low,
-      get_or-take count below c.nodes.k n c.nodes-test.true ∙ sym (read g (goal.at.flag_round-requires-clause-exists g c).After-cursor n),
+      get_or-take count below c.nodes.k n c.nodes-test.true ∙ sym (read g (goal.at.flag_children-requires-clause-exists g c).After-cursor n),
     ) in
     let has =
     below_exists graph (map g.Ix.IndexType.number c.args.roots.now) n ((c.enter_below-count.ensures.below n).0 there) in
@@ -51,12 +51,12 @@ nodes-preserved g c =
     let inv = c.nodes.invariant in
     record {
       within = omega (arith, c.nodes-test.true);
-      sized = subst (λ z. IsSized z c.flag_round.new.work) inv.sized.size_is c.flag_round.ensures.kept;
-      aside = c.flag_round.ensures.aside ∙ inv.aside;
-      flags = c.flag_round.ensures.flags_kept ∙ inv.flags;
+      sized = subst (λ z. IsSized z c.flag_children.new.work) inv.sized.size_is c.flag_children.ensures.kept;
+      aside = c.flag_children.ensures.aside ∙ inv.aside;
+      flags = c.flag_children.ensures.flags_kept ∙ inv.flags;
       sweep =
-          sweep_on inv.sweep low u is c.flag_round.ensures.same c.flag_round.ensures.flagged c.flag_round.ensures.looked
-          (omega (arith, c.flag_round.ensures.counted, ap edge_count inv.sweep.same));
+          sweep_on inv.sweep low u is c.flag_children.ensures.same c.flag_children.ensures.flagged c.flag_children.ensures.looked
+          (omega (arith, c.flag_children.ensures.counted, ap edge_count inv.sweep.same));
     }
 
 pub returns-clause-flagged : goal.returns-clause-flagged

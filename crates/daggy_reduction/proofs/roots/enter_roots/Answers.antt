@@ -27,16 +27,16 @@ roots-init g c =
     rooting_start (g.S.EdgeSource.graph c.args.source.now) (map g.Ix.IndexType.number c.args.roots.now)
     c.requires.fits c.requires.sized c.requires.cleared
 
-pub enter-len-requires-clause-low : goal.enter-len-requires-clause-low
-enter-len-requires-clause-low g c =
-    let at = goal.at.enter-len-requires-clause-low g c in
+pub enqueue-len-requires-clause-low : goal.enqueue-len-requires-clause-low
+enqueue-len-requires-clause-low g c =
+    let at = goal.at.enqueue-len-requires-clause-low g c in
     let root = g.Ix.IndexType.number c.index-roots-k.result in
     root_low c.roots.invariant (within g at.In-roots) root (root_is g at.After-index-roots-k)
     (c.if-contains_node.ensures.exists.0 cc)
 
-pub enter-len-requires-clause-room : goal.enter-len-requires-clause-room
-enter-len-requires-clause-room g c unseen =
-    let at = goal.at.enter-len-requires-clause-room g c in
+pub enqueue-len-requires-clause-room : goal.enqueue-len-requires-clause-room
+enqueue-len-requires-clause-room g c unseen =
+    let at = goal.at.enqueue-len-requires-clause-room g c in
     let root = g.Ix.IndexType.number c.index-roots-k.result in
     root_room c.roots.invariant (within g at.In-roots) root (root_is g at.After-index-roots-k)
     (c.if-contains_node.ensures.exists.0 cc) unseen
@@ -50,7 +50,7 @@ roots-preserved g c =
       | then-contains_node w ↦
           rw (w.work-is, w.len-is)
           (root_entered s (within g at.In-roots) root (root_is g at.After-index-roots-k)
-          (w.if-contains_node.ensures.exists.0 cc) w.enter-len.ensures.there w.enter-len.ensures.put)
+          (w.if-contains_node.ensures.exists.0 cc) w.enqueue-len.ensures.there w.enqueue-len.ensures.put)
       | else-contains_node w ↦
           rw (w.work-is, w.len-is)
           (root_missing s (within g at.In-roots) root (root_is g at.After-index-roots-k)

@@ -9,10 +9,10 @@ use Rattle.daggy_reduction.proofs.QueuedChildren.{none_listed}
 use Rattle.daggy_reduction.proofs.BoundedQueue.{steps_start, few_spanned, round_met}
 use Rattle.daggy_reduction.proofs.QueueState.{Entered, looked_once, edge_here, head_low, child_low}
 use Rattle.daggy_reduction.proofs.QueueState.{child_exists_here, room_here, entered, left_out, visited, next_here}
-use Rattle.daggy_reduction.proofs.bounded.meet_round.Given.{Over}
-use Rattle.daggy_reduction.proofs.bounded.meet_round.Goals.{At-children, After-look-v, After-index-else-index-end}
-use Rattle.daggy_reduction.proofs.bounded.meet_round.Goals as goal
-use Rattle.daggy_reduction.proofs.bounded.meet_round.Goals.{then-stands_before-3, else-stands_before-3}
+use Rattle.daggy_reduction.proofs.bounded.mark_indirect_children.Given.{Over}
+use Rattle.daggy_reduction.proofs.bounded.mark_indirect_children.Goals.{At-children, After-look-v, After-index-else-index-end}
+use Rattle.daggy_reduction.proofs.bounded.mark_indirect_children.Goals as goal
+use Rattle.daggy_reduction.proofs.bounded.mark_indirect_children.Goals.{then-stands_before-3, else-stands_before-3}
 
 not_before : {a b : ℕ} → (a < b → ⊥) → b ≤ a
 not_before h = omega (arith, h)
@@ -61,17 +61,17 @@ pub stands_before-requires-clause-second : goal.stands_before-requires-clause-se
 stands_before-requires-clause-second g c =
     (c.requires.ordered.exact _).1 (child_node g (goal.at.stands_before-requires-clause-second g c).After-look-v)
 
-pub enter-len-requires-clause-low : goal.enter-len-requires-clause-low
-enter-len-requires-clause-low g c =
+pub enqueue-len-requires-clause-low : goal.enqueue-len-requires-clause-low
+enqueue-len-requires-clause-low g c =
     let s = c.children.invariant in
     low_node c.requires.well_formed c.requires.ordered c.requires.exists s _
-    (last_node g (goal.at.enter-len-requires-clause-low g c).At-children)
+    (last_node g (goal.at.enqueue-len-requires-clause-low g c).At-children)
 
-pub enter-len-requires-clause-room : goal.enter-len-requires-clause-room
-enter-len-requires-clause-room g c unseen =
+pub enqueue-len-requires-clause-room : goal.enqueue-len-requires-clause-room
+enqueue-len-requires-clause-room g c unseen =
     let s = c.children.invariant in
     has_room c.requires.well_formed c.requires.ordered c.requires.exists s _
-    (last_node g (goal.at.enter-len-requires-clause-room g c).At-children) unseen
+    (last_node g (goal.at.enqueue-len-requires-clause-room g c).At-children) unseen
 
 pub stands_before-requires-else-stands_before-clause-first :
     goal.stands_before-requires-else-stands_before-clause-first
@@ -85,19 +85,19 @@ stands_before-requires-else-stands_before-clause-second g c =
     (c.requires.ordered.exact _).1
     (last_node g (goal.at.stands_before-requires-else-stands_before-clause-second g c).At-children)
 
-pub enter-len-requires-then-stands_before-2-clause-low :
-    goal.enter-len-requires-then-stands_before-2-clause-low
-enter-len-requires-then-stands_before-2-clause-low g c =
+pub enqueue-len-requires-then-stands_before-2-clause-low :
+    goal.enqueue-len-requires-then-stands_before-2-clause-low
+enqueue-len-requires-then-stands_before-2-clause-low g c =
     let s = c.children.invariant in
     low_node c.requires.well_formed c.requires.ordered c.requires.exists s _
-    (child_node g (goal.at.enter-len-requires-then-stands_before-2-clause-low g c).After-look-v)
+    (child_node g (goal.at.enqueue-len-requires-then-stands_before-2-clause-low g c).After-look-v)
 
-pub enter-len-requires-then-stands_before-2-clause-room :
-    goal.enter-len-requires-then-stands_before-2-clause-room
-enter-len-requires-then-stands_before-2-clause-room g c unseen =
+pub enqueue-len-requires-then-stands_before-2-clause-room :
+    goal.enqueue-len-requires-then-stands_before-2-clause-room
+enqueue-len-requires-then-stands_before-2-clause-room g c unseen =
     let s = c.children.invariant in
     has_room c.requires.well_formed c.requires.ordered c.requires.exists s _
-    (child_node g (goal.at.enter-len-requires-then-stands_before-2-clause-room g c).After-look-v) unseen
+    (child_node g (goal.at.enqueue-len-requires-then-stands_before-2-clause-room g c).After-look-v) unseen
 
 pub children-smaller-then-stands_before : goal.children-smaller-then-stands_before
 children-smaller-then-stands_before g c =
@@ -110,8 +110,8 @@ children-preserved-then-stands_before g c =
     c.look-v.ensures.gives
     c.look-v.ensures.same c.look-v.ensures.counted
     (put c.requires.well_formed c.requires.ordered c.requires.exists s _
-    (last_node g (goal.at.children-preserved-then-stands_before g c).At-children) c.enter-len.ensures.there
-    c.enter-len.ensures.put)
+    (last_node g (goal.at.children-preserved-then-stands_before g c).At-children) c.enqueue-len.ensures.there
+    c.enqueue-len.ensures.put)
     (c.stands_before.ensures.0 c.if-stands_before.true)
 
 pub children-smaller-then-stands_before-2 : goal.children-smaller-then-stands_before-2
@@ -126,7 +126,7 @@ children-preserved-then-stands_before-2 g c =
     c.look-v.ensures.same c.look-v.ensures.counted
     (put c.requires.well_formed c.requires.ordered c.requires.exists s _
     (child_node g (goal.at.children-preserved-then-stands_before-2 g c).After-look-v)
-    c.enter-len-then-stands_before-2.ensures.there c.enter-len-then-stands_before-2.ensures.put)
+    c.enqueue-len-then-stands_before-2.ensures.there c.enqueue-len-then-stands_before-2.ensures.put)
     (c.stands_before-else-stands_before.ensures.0 c.if-stands_before-2.true)
 
 pub children-smaller : goal.children-smaller
@@ -209,9 +209,9 @@ stands_before-requires-else-index-end-clause-second g c =
     (c.requires.ordered.exact _).1
     (last_node g (goal.at.stands_before-requires-else-index-end-clause-second g c).At-children)
 
-pub enter-len-requires-then-stands_before-3-clause-low :
-    goal.enter-len-requires-then-stands_before-3-clause-low
-enter-len-requires-then-stands_before-3-clause-low g c =
+pub enqueue-len-requires-then-stands_before-3-clause-low :
+    goal.enqueue-len-requires-then-stands_before-3-clause-low
+enqueue-len-requires-then-stands_before-3-clause-low g c =
     let s = c.steps.invariant in
     omega (
       arith,
@@ -221,9 +221,9 @@ enter-len-requires-then-stands_before-3-clause-low g c =
       s.sized.entered_are,
     )
 
-pub enter-len-requires-then-stands_before-3-clause-room :
-    goal.enter-len-requires-then-stands_before-3-clause-room
-enter-len-requires-then-stands_before-3-clause-room g c unseen =
+pub enqueue-len-requires-then-stands_before-3-clause-room :
+    goal.enqueue-len-requires-then-stands_before-3-clause-room
+enqueue-len-requires-then-stands_before-3-clause-room g c unseen =
     let s = c.steps.invariant in
     omega (
       arith,
@@ -244,7 +244,7 @@ entry g c =
       | then-stands_before-3 b ↦
           rw (b.work-is, b.len-is)
           (entered c.requires.well_formed s here look (b.if-stands_before-3.ensures.0 refl)
-          b.enter-len-then-stands_before-3.ensures.there b.enter-len-then-stands_before-3.ensures.put)
+          b.enqueue-len-then-stands_before-3.ensures.there b.enqueue-len-then-stands_before-3.ensures.put)
       | else-stands_before-3 b ↦
           rw (b.work-is, b.len-is)
           (left_out c.requires.well_formed s here look (not_before (λ h. false≢true (b.if-stands_before-3.ensures.1 h))))
@@ -266,7 +266,7 @@ steps-smaller g c =
     let s = c.steps.invariant in
     let most : c.if-stands_before-3.len ≤ c.steps.len + 1 =
     elim c.if-stands_before-3.branch [
-      | then-stands_before-3 b ↦ omega (arith, b.len-is, b.enter-len-then-stands_before-3.ensures.most)
+      | then-stands_before-3 b ↦ omega (arith, b.len-is, b.enqueue-len-then-stands_before-3.ensures.most)
       | else-stands_before-3 b ↦ omega (arith, b.len-is)
     ] in
     omega (

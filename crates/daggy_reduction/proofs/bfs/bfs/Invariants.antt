@@ -2,7 +2,7 @@ use Rattle.std.proofs.Common.{◌+◌, ◌-◌, ◌*◌, take}
 use Rattle.daggy_base.specs.Graph.{edge_count}
 use Rattle.daggy_reduction.proofs.QueueState.{Draining}
 use Rattle.daggy_reduction.proofs.QueueProgress.{Anywhere, Nowhere}
-use Rattle.daggy_reduction.proofs.closure.close.Given as goal
+use Rattle.daggy_reduction.proofs.bfs.bfs.Given as goal
 
 abbrev pub invariant-steps : goal.invariant-steps
 invariant-steps g l =

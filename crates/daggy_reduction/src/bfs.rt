@@ -14,7 +14,7 @@ use daggy_search::Worklist;
 
 // Appends a node to the queue of a worklist unless it is there, and returns the new length.
 #[inline]
-pub(crate) fn enter<Ix: IndexType>(work: &mut Worklist<Ix>, len: usize, n: NodeIndex<Ix>) -> usize
+pub(crate) fn enqueue<Ix: IndexType>(work: &mut Worklist<Ix>, len: usize, n: NodeIndex<Ix>) -> usize
     requires low { Ix.number n < length work.old.entered }
     requires room { slice_index_or work.old.entered (Ix.number n) false ≡ false
         → len < length work.old.nodes }
@@ -52,7 +52,7 @@ pub(crate) fn mark_unless_first<Ix: IndexType>(work: &mut Worklist<Ix>, head: us
 // Extends the queue of a worklist, of `len` nodes, to everything reachable from them, breadth
 // first, and returns its new length. The nodes in the queue are entered; the children of every node
 // but the first are marked.
-pub(crate) fn close<Ix: IndexType, S: EdgeSource<Ix>>(
+pub(crate) fn bfs<Ix: IndexType, S: EdgeSource<Ix>>(
     source: &mut S,
     work: &mut Worklist<Ix>,
     len: usize,
@@ -92,7 +92,7 @@ pub(crate) fn close<Ix: IndexType, S: EdgeSource<Ix>>(
             e = source.first(work.node(head).node());
         } else {
             let (v, next) = source.look(e);
-            len = enter(work, len, v);
+            len = enqueue(work, len, v);
             mark_unless_first(work, head, v.index());
             e = next;
         }

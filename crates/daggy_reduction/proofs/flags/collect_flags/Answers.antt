@@ -1,8 +1,8 @@
 use Rattle.std.proofs.Common.{◌≡◌, ◌≢◌, ◌+◌, ◌<◌, ℕ, List, length, map, set, get_or, sym, ap, subst, ◌∙◌, arith}
 use Rattle.std.proofs.lemmas.List.{map-set, length-map, get_or-map}
 use Rattle.daggy_reduction.proofs.GatheredFlags.{Gathering, gather_passed, gather_put}
-use Rattle.daggy_reduction.proofs.flags.gather_flagged.Goals as goal
-use Rattle.daggy_reduction.proofs.flags.gather_flagged.Goals.{then-index-end, else-index-end}
+use Rattle.daggy_reduction.proofs.flags.collect_flags.Goals as goal
+use Rattle.daggy_reduction.proofs.flags.collect_flags.Goals.{then-index-end, else-index-end}
 
 pub places-preserved : goal.places-preserved
 places-preserved g c =

@@ -1,6 +1,6 @@
 use Rattle.std.proofs.Common.{◌-◌, ◌≡◌, ◌≤◌, length, map}
 use Rattle.daggy_reduction.proofs.GatheredFlags.{Gathering}
-use Rattle.daggy_reduction.proofs.flags.gather_flagged.Given as goal
+use Rattle.daggy_reduction.proofs.flags.collect_flags.Given as goal
 
 abbrev pub invariant-places : goal.invariant-places
 invariant-places g l =

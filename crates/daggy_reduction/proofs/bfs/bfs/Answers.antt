@@ -3,7 +3,7 @@ use Rattle.daggy_base.specs.Graph.{out_list}
 use Rattle.daggy_base.specs.Cursor.{first_of}
 use Rattle.daggy_reduction.proofs.QueueState.{few, few_visited, looked_once, edge_here, head_low, child_low, room_here, entered}
 use Rattle.daggy_reduction.proofs.QueueState.{visited, next_here, is_closure, entered_are, meets_children, starts_here}
-use Rattle.daggy_reduction.proofs.closure.close.Goals as goal
+use Rattle.daggy_reduction.proofs.bfs.bfs.Goals as goal
 
 pub steps-init : goal.steps-init
 steps-init g c =
@@ -58,13 +58,13 @@ pub look-v-requires : goal.look-v-requires
 look-v-requires g c =
     edge_here c.requires.well_formed c.steps.invariant (λ h. c.if-index-end.false cc)
 
-pub enter-len-requires-clause-low : goal.enter-len-requires-clause-low
-enter-len-requires-clause-low g c =
+pub enqueue-len-requires-clause-low : goal.enqueue-len-requires-clause-low
+enqueue-len-requires-clause-low g c =
     let s = c.steps.invariant in
     omega (arith, child_low c.requires.well_formed s (λ h. c.if-index-end.false cc) c.look-v.ensures.gives, s.fits, s.sized.entered_are)
 
-pub enter-len-requires-clause-room : goal.enter-len-requires-clause-room
-enter-len-requires-clause-room g c unseen =
+pub enqueue-len-requires-clause-room : goal.enqueue-len-requires-clause-room
+enqueue-len-requires-clause-room g c unseen =
     let s = c.steps.invariant in
     omega (
       arith,
@@ -76,8 +76,8 @@ pub mark_unless_first-requires : goal.mark_unless_first-requires
 mark_unless_first-requires g c =
     let here : g.Ix.IndexType.number c.steps.e ≢ g.Ix.IndexType.greatest = λ h. c.if-index-end.false cc in
     let s = c.steps.invariant in
-    let entry = entered c.requires.well_formed s here c.look-v.ensures.gives tt c.enter-len.ensures.there
-    c.enter-len.ensures.put in
+    let entry = entered c.requires.well_formed s here c.look-v.ensures.gives tt c.enqueue-len.ensures.there
+    c.enqueue-len.ensures.put in
     omega (
       arith,
       child_low c.requires.well_formed s here c.look-v.ensures.gives,
@@ -93,7 +93,7 @@ steps-smaller g c =
       arith,
       looked_once c.requires.well_formed s (λ h. c.if-index-end.false cc) c.look-v.ensures.counted,
       c.look-v.ensures.counted,
-      c.enter-len.ensures.most,
+      c.enqueue-len.ensures.most,
       head_low c.requires.well_formed s,
     )
 
@@ -103,5 +103,5 @@ steps-preserved g c =
     let s = c.steps.invariant in
     let at = c.index-else-index-end.ensures.value in
     visited c.requires.well_formed s here c.look-v.ensures.gives c.look-v.ensures.same c.look-v.ensures.counted
-    (entered c.requires.well_formed s here c.look-v.ensures.gives tt c.enter-len.ensures.there c.enter-len.ensures.put)
+    (entered c.requires.well_formed s here c.look-v.ensures.gives tt c.enqueue-len.ensures.there c.enqueue-len.ensures.put)
     (rw (sym at) c.mark_unless_first.ensures.later) c.mark_unless_first.ensures.first
