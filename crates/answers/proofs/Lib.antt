@@ -1,1 +1,3 @@
 pub mod Listed
+pub mod Endpoints
+pub mod Nodes

@@ -5,7 +5,7 @@ use Rattle.daggy_base.specs.declared.index.Direction.TheVariants.{Outgoing}
 use Rattle.daggy_base.specs.Graph.{Graph}
 use Rattle.daggy_base.specs.Path.{Reaches}
 use Rattle.daggy_base.specs.WellFormed.{AreDistinct}
-use Rattle.daggy_base.proofs.Lists.{Mem, Unique, mem_cases, unique_append, contains_mem, mem_contains}
+use Rattle.daggy_base.proofs.Lists.{Mem, mem_cases, unique_append, contains_mem, mem_contains}
 use Rattle.daggy_base.proofs.Lists.{unique_from_distinct, distinct_from_unique, Contains-nil}
 use Rattle.daggy_traversal.specs.Traversal.{LeadsFar, AreAllGiven}
 use Rattle.answers.specs.Answers.{AreReached}

@@ -1,6 +1,6 @@
 -- The parts of the answers.
 use Rattle.std.specs.Prelude.{◌≡◌, ℕ, ◌↔◌, Some, List, [], Contains, map}
-use Rattle.daggy_base.specs.Graph.{Graph, Edge, ends_of}
+use Rattle.daggy_base.specs.Graph.{Graph, ends_of}
 use Rattle.daggy_base.specs.Iterating.{edge_references}
 use Rattle.daggy_base.specs.Path.{Reaches}
 use Rattle.daggy_base.specs.WellFormed.{AreDistinct}

@@ -18,8 +18,8 @@ fn endpoints<N: Drop, E: Drop, Ix: IndexType, S: Store<Ix, NodeWeight = N, EdgeW
     graph.invariant();
     let mut pairs = Vec::new(alloc);
     for i in 0..graph.edge_slots() {
-        if let Some((parent, child)) = dag.edge_endpoints(EdgeIndex::new(i)) {
-            pairs.push((parent.index(), child.index()))?;
+        if let Some(ends) = dag.edge_endpoints(EdgeIndex::new(i)) {
+            pairs.push((ends.0.index(), ends.1.index()))?;
         }
     }
     Ok(pairs)

@@ -38,7 +38,7 @@ pub fn add_edge<S: Store<u32, NodeWeight = u64, EdgeWeight = ()>>(
     child: NodeIndex,
 ) -> Result<()>
     ensures added { OnOk result
-        (dag.new.graph ≡ with_edge dag.old.graph parent.entry child.entry tt) }
+        (dag.new.graph ≡ with_edge dag.old.graph parent child tt) }
     ensures unchanged { OnErr result (dag.new.graph ≡ dag.old.graph) }
 {
     if !dag.contains_node(parent) || !dag.contains_node(child) || !dag.can_add_edge() {
