@@ -1,15 +1,14 @@
 //! Walking depth first, in postorder.
 ghost use Rattle.std.specs.Prelude.{◌≡◌, ℕ, ◌≤◌, ◌↔◌, ◌⊎◌, ◌∷◌, ◌++◌, [], length, vec_capacity};
-ghost use Rattle.std.specs.Prelude.{IsNone, IfNone, IfSome, IfOk, List, Contains};
-ghost use Rattle.daggy_base.specs.Graph.{HasNode, node_bound};
+ghost use Rattle.std.specs.Prelude.{IsNone, IfNone, IfSome, IfOk, Contains};
+ghost use Rattle.daggy_base.specs.Graph.{node_bound};
 ghost use Rattle.daggy_base.specs.Path.{IsAcyclic};
 ghost use Rattle.daggy_traversal.specs.Traversal.{LeadsTo, LeadsFar, AreAllGiven, AreMarked, begin};
-ghost use Rattle.daggy_traversal.specs.Traversal.{neighbors_left, without_old};
 ghost use Rattle.daggy_traversal.specs.Postorder.{IsPostorder, GivesLast, AreLeft};
 
 use crate::given::Given;
 use crate::neighbors::next_new;
-use daggy_base::index::{DefaultIx, Direction, EdgeIndex, IndexType, NodeIndex};
+use daggy_base::index::{DefaultIx, Direction, IndexType, NodeIndex};
 use daggy_base::link::Link;
 use daggy_base::store::Store;
 use daggy_walk::visit::NodeSet;
