@@ -1,14 +1,17 @@
 #!/usr/bin/env bash
 # Times this library and a peer on the same workloads, one run of each in turn, and prints the table of
 # docs/BENCHMARKS.md: two series, of each the medians, their ratio, and the ratio of the least times.
-#   compare.sh PEER_BENCH PEER_PROGRAM [ROW]     PEER_PROGRAM may be -; with ROW, the rows alone whose text holds it
-# PEER_BENCH NAME NODES EDGES [--kind stable] --reps COUNT prints a line that ends with seconds, the median of COUNT runs
-# in one process, and on standard error `check .. VALUE`.
+#   compare.sh PEER_BENCH PEER_PROGRAM [ROW]
+# Either program may be -, and its rows are left out; with ROW, only the rows whose text contains it are printed.
+# PEER_BENCH NAME NODES EDGES [--kind stable] --reps COUNT prints a line that ends with seconds, the median of COUNT
+# runs in one process, and on standard error `check .. VALUE`.
 # With PEER_REDUCTION in the environment, reductions below all nodes are compared with that program too: PEER_REDUCTION
 # SHAPE NODES EDGES prints a line that ends with the seconds of one reduction of such a dag, of its own making.
+# With PEER_QUESTIONS in the environment, a second table compares questions and schedules with that program, of the same
+# form as PEER_BENCH: the one in .ci/peer.
 # PEER_PROGRAM compact reads command lines and writes replies.
 set -eu
-peer_bench=$(realpath "$1")
+peer_bench=$([ "$1" = - ] && echo - || realpath "$1")
 peer_program=$([ "$2" = - ] && echo - || realpath "$2")
 wanted=${3:-}
 here=$(cd "$(dirname "$0")" && pwd)
@@ -36,6 +39,7 @@ reps=1 # how often a workload is repeated in each process
 workload() { # ROUNDS NAME NODES EDGES ..: two series of ROUNDS rounds
   local rounds=$1 same=equal ours theirs
   shift
+  [ "$peer_bench" != - ] || return 0
   asked "$*" || return 0
   printf '| %s |' "$*"
   for _ in 1 2; do
@@ -55,8 +59,8 @@ workload() { # ROUNDS NAME NODES EDGES ..: two series of ROUNDS rounds
 
 small() { # NODES EDGES REPS: dags of the sizes that most people have, of both kinds, in warm caches
   reps=$3
-  for name in build_sorted build_random build_lowhigh add_edges add_child_tree walk_children map_weights copy edge_list \
-    update_hit remove_edges remove_nodes; do
+  for name in build_sorted build_random build_lowhigh add_edges add_child_tree walk_children map_weights copy \
+    edge_list update_hit remove_edges remove_nodes; do
     workload 5 "$name" "$1" "$2"
     workload 5 "$name" "$1" "$2" --kind stable
   done
@@ -99,8 +103,24 @@ program() { # ROUNDS
   echo " $same |"
 }
 
-echo "| Workload, nodes, edges | ours, s | theirs, s | ratio | least | second series: ours, s | theirs, s | ratio | least | check values |"
-echo "|---|---|---|---|---|---|---|---|---|---|"
+questions() { # NODES EDGES REPS NAME ..: questions about random pairs of nodes, orders and schedules, of both kinds
+  local nodes=$1 edges=$2
+  reps=$3
+  shift 3
+  for name in "$@"; do
+    workload 3 "$name" "$nodes" "$edges"
+    workload 3 "$name" "$nodes" "$edges" --kind stable
+  done
+  reps=1
+}
+
+head_of_table() {
+  local series='ours, s | theirs, s | ratio | least'
+  echo "| Workload, nodes, edges | $series | second series: $series | check values |"
+  echo "|---|---|---|---|---|---|---|---|---|---|"
+}
+
+head_of_table
 workload 15 build_sorted 100000 500000
 workload 15 add_edges 100000 500000
 workload 15 add_child_tree 1000000 0
@@ -154,3 +174,12 @@ if [ -n "${PEER_REDUCTION:-}" ]; then
   reduction 11 diamonds 121 0
 fi
 [ "$peer_program" = "-" ] || program 5
+if [ -n "${PEER_QUESTIONS:-}" ]; then
+  peer_bench=$(realpath "$PEER_QUESTIONS")
+  echo
+  head_of_table
+  names=(reaches path descendants bfs dfs postorder toposort ready schedule)
+  questions 1000 3000 301 "${names[@]}"
+  questions 100000 500000 7 "${names[@]}"
+  questions 1000000 5000000 1 ready schedule
+fi

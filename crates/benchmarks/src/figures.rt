@@ -1,4 +1,4 @@
-//! The result of a run of a workload.
+//! The figures of a run of a workload.
 ghost use Rattle.std.specs.Prelude.{IfOk};
 
 use std::alloc::Global;
@@ -6,25 +6,24 @@ use std::io;
 use std::rt::CpuClock;
 use std::time::Duration;
 
-/// How much time of a processor it took, and a number that another program which did the same has
-/// too.
+/// The processor time of a run, and its check value: equal for all programs that did the same.
 #[derive(Clone, Copy)]
 pub struct Figures {
     pub time: Duration,
     pub check: u64,
 }
 
-/// How much time of a processor the program has used since it had used so much.
+/// The processor time that the program has used since `start`.
 pub fn since<R: CpuClock>(rt: &R, start: Duration) -> io::Result<Duration> {
     let now = rt.process_cpu_time()?;
     Ok(now.saturating_sub(start))
 }
 
-/// Runs something so many times. Gives the median of the times, and the number of the last run.
-pub fn median<F: Fn() -> io::Result<Figures>>(
+/// Calls `run` `reps` times. Returns the median of the times, and the check value of the last run.
+pub fn median<F: FnMut() -> io::Result<Figures>>(
     alloc: Global,
     reps: u32,
-    run: F,
+    mut run: F,
 ) -> io::Result<Figures>
     requires { F.IsAlwaysCallable run }
 {

@@ -1,8 +1,11 @@
 //! What the workloads ask of a dag.
+use crate::questions::{breadth_first, depth_first, in_postorder};
+use crate::schedules::{as_ready, duration};
 use daggy::json::{
     StreamError, dag_from_json, dag_to_json, stable_from_json, stable_to_json, write_json,
 };
 use daggy::run::{Plan, plan};
+use daggy::schedule::Schedule;
 use daggy::walker::{Filter, Take};
 use daggy::{Dag, EdgeIndex, NodeIndex, StableDag, Walker};
 use daggy_base::store::Store;
@@ -35,10 +38,10 @@ pub trait Graph: Drop {
     /// Adds all edges at once. The error says that they were refused.
     fn put_edges(&mut self, pairs: &[(u32, u32)]) -> Result<(), AllocError>;
 
-    /// Removes a node and returns its weight, or 0 if there is none.
+    /// Removes a node, and returns its weight, or 0 if there is none.
     fn take_node(&mut self, n: u32) -> i64;
 
-    /// Removes an edge and returns its weight, or 0 if there is none.
+    /// Removes an edge, and returns its weight, or 0 if there is none.
     fn take_edge(&mut self, e: u32) -> i64;
 
     /// A number of the walk over the children of a node.
@@ -58,6 +61,33 @@ pub trait Graph: Drop {
 
     /// The nodes in stages, each node after its parents.
     fn stages(&self, alloc: Global) -> Result<Vec<Vec<NodeIndex<u32>>>, AllocError>;
+
+    /// Whether a path leads from a node to another.
+    fn leads(&mut self, a: u32, b: u32) -> bool;
+
+    /// A shortest path from a node to another. Empty if there is none.
+    fn shortest_path(&mut self, a: u32, b: u32) -> Result<Vec<NodeIndex<u32>>, AllocError>;
+
+    /// The descendants of a node.
+    fn below(&mut self, n: u32) -> Result<Vec<NodeIndex<u32>>, AllocError>;
+
+    /// A number of the walk breadth first from a node.
+    fn breadth_first_sum(&self, alloc: Global, n: u32) -> Result<u64, AllocError>;
+
+    /// A number of the walk depth first from a node.
+    fn depth_first_sum(&self, alloc: Global, n: u32) -> Result<u64, AllocError>;
+
+    /// A number of the walk in postorder from a node.
+    fn postorder_sum(&self, alloc: Global, n: u32) -> Result<u64, AllocError>;
+
+    /// All nodes in topological order.
+    fn in_order(&self, alloc: Global) -> Result<Vec<NodeIndex<u32>>, AllocError>;
+
+    /// All nodes as a ready queue hands them out.
+    fn as_ready(&self, alloc: Global) -> Result<Vec<NodeIndex<u32>>, AllocError>;
+
+    /// A schedule, with durations by weight.
+    fn schedule(&self, alloc: Global) -> Result<Schedule<u32>, AllocError>;
 }
 
 /// What the two kinds of dag do each by a call of its own.
@@ -259,6 +289,49 @@ impl<S: Store<u32, NodeWeight = i64, EdgeWeight = i64>> Graph for Acyclic<i64, i
     fn stages(&self, alloc: Global) -> Result<Vec<Vec<NodeIndex<u32>>>, AllocError> {
         let Plan { stages, .. } = plan(alloc, self)?;
         Ok(stages)
+    }
+
+    #[inline]
+    fn leads(&mut self, a: u32, b: u32) -> bool {
+        self.reaches(node(a), node(b))
+    }
+
+    fn shortest_path(&mut self, a: u32, b: u32) -> Result<Vec<NodeIndex<u32>>, AllocError> {
+        match self.path(node(a), node(b))? {
+            Some(nodes) => Ok(nodes),
+            None => Ok(Vec::new(self.allocator())),
+        }
+    }
+
+    fn below(&mut self, n: u32) -> Result<Vec<NodeIndex<u32>>, AllocError> {
+        self.descendants(&[node(n)])
+    }
+
+    fn breadth_first_sum(&self, alloc: Global, n: u32) -> Result<u64, AllocError> {
+        breadth_first(alloc, self.graph(), node(n))
+    }
+
+    fn depth_first_sum(&self, alloc: Global, n: u32) -> Result<u64, AllocError> {
+        depth_first(alloc, self.graph(), node(n))
+    }
+
+    fn postorder_sum(&self, alloc: Global, n: u32) -> Result<u64, AllocError> {
+        in_postorder(alloc, self.graph(), node(n))
+    }
+
+    fn in_order(&self, alloc: Global) -> Result<Vec<NodeIndex<u32>>, AllocError> {
+        self.topological_order().collect(alloc)
+    }
+
+    fn as_ready(&self, alloc: Global) -> Result<Vec<NodeIndex<u32>>, AllocError> {
+        as_ready(alloc, self)
+    }
+
+    fn schedule(&self, alloc: Global) -> Result<Schedule<u32>, AllocError> {
+        match Schedule::new(alloc, self, |_, weight| duration(*weight)) {
+            Ok(schedule) => Ok(schedule),
+            Err(_) => Err(AllocError),
+        }
     }
 }
 

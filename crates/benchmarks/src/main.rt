@@ -1,6 +1,6 @@
-//! Times one workload: `benchmarks NAME NODES EDGES` prints `NAME NODES SECONDS`, and a check
-//! value on standard error. After these, `--kind stable` asks for a stable dag, and `--reps COUNT`
-//! for the median of so many runs in one process.
+//! Times one workload: `benchmarks NAME NODES EDGES` prints `NAME NODES SECONDS`, and a check value
+//! on standard error. After these, `--kind stable` selects a stable dag, and `--reps COUNT` the median
+//! of COUNT runs in one process.
 #![tactic(auto)]
 
 mod builds;
@@ -11,10 +11,12 @@ mod figures;
 mod graph;
 mod inputs;
 mod plans;
+mod questions;
 mod random;
 mod readings;
 mod reductions;
 mod removals;
+mod schedules;
 mod small;
 mod workload;
 

@@ -8,9 +8,11 @@ use crate::figures::Figures;
 use crate::graph::Kind;
 use crate::inputs::Sizes;
 use crate::plans::plan_stages;
+use crate::questions::{Question, ask};
 use crate::readings::{Reading, copy, map_weights, read};
 use crate::reductions::{Shape, close, reduce_all, reduce_layers};
 use crate::removals::{Part, remove};
+use crate::schedules::{Listing, list, schedule};
 use crate::small::{Life, many};
 use daggy::{Dag, StableDag};
 use std::io;
@@ -41,6 +43,9 @@ pub enum Workload {
     JsonWrite,
     JsonStream,
     JsonRead,
+    Ask(Question),
+    List(Listing),
+    Schedule,
 }
 
 impl Workload {
@@ -78,6 +83,15 @@ impl Workload {
             "json_write" => Some(Workload::JsonWrite),
             "json_stream" => Some(Workload::JsonStream),
             "json_read" => Some(Workload::JsonRead),
+            "reaches" => Some(Workload::Ask(Question::Reaches)),
+            "path" => Some(Workload::Ask(Question::Path)),
+            "descendants" => Some(Workload::Ask(Question::Descendants)),
+            "bfs" => Some(Workload::Ask(Question::BreadthFirst)),
+            "dfs" => Some(Workload::Ask(Question::DepthFirst)),
+            "postorder" => Some(Workload::Ask(Question::Postorder)),
+            "toposort" => Some(Workload::List(Listing::Sorted)),
+            "ready" => Some(Workload::List(Listing::Ready)),
+            "schedule" => Some(Workload::Schedule),
             _ => None,
         }
     }
@@ -120,6 +134,9 @@ impl Workload {
             Workload::JsonWrite => json_write::<G, R>(rt, sizes),
             Workload::JsonStream => json_stream::<G, R>(rt, sizes),
             Workload::JsonRead => json_read::<G, R>(rt, sizes),
+            Workload::Ask(question) => ask::<G, R>(rt, question, sizes),
+            Workload::List(listing) => list::<G, R>(rt, listing, sizes),
+            Workload::Schedule => schedule::<G, R>(rt, sizes),
         }
     }
 }

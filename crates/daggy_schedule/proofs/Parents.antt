@@ -1,100 +1,97 @@
--- The edges that lead to a node, counted one after the other.
-use Rattle.std.proofs.Common.{◌≡◌, ◌≢◌, ℕ, ◌+◌, ◌-◌, ◌<◌, ◌≤◌, List, [], ◌∷◌, ◌++◌, length, Some, refl}
-use Rattle.std.proofs.Common.{sym, ap, subst, ◌∙◌, arith, append_assoc}
-use Rattle.std.proofs.lemmas.List.{length-append}
+-- The edges that lead to each node, counted by their indices.
+use Rattle.std.proofs.Common.{◌≡◌, ◌≢◌, ℕ, suc, ◌+◌, ◌<◌, ◌≤◌, Bool, inl, inr, List, length, get_or, set, Option}
+use Rattle.std.proofs.Common.{Some, None, refl, sym, ap, subst, ◌∙◌, arith}
+use Rattle.std.proofs.Math.Dec.{ltb}
+use Rattle.std.proofs.lemmas.Bool.{lt-ltb, le-ltb, cases_eq, cases_lt}
+use Rattle.std.proofs.lemmas.List.{get_or-set_same, get_or-set_other}
+use Rattle.std.proofs.lemmas.Option.{slice_get_within, none-some}
 use Rattle.daggy_base.specs.Graph.{Graph, Edge, edge_at, in_list}
-use Rattle.daggy_base.specs.Cursor.{first_of, after, cursor_after}
-use Rattle.daggy_base.specs.declared.index.Direction.TheVariants.{Incoming}
-use Rattle.daggy_base.specs.Ordered.{place}
 use Rattle.daggy_base.specs.WellFormed.{IsWellFormed}
-use Rattle.daggy_base.proofs.Lists.{Mem, Unique, mem_mid, mem_contains, unique_from_distinct, fewer_than}
-use Rattle.daggy_base.proofs.OutEdgesRead.{edge_below}
-use Rattle.daggy_schedule.proofs.Counts.{after_split, next_closer}
+use Rattle.daggy_base.proofs.Lists.{Mem, Unique, mem_contains, contains_mem, unique_from_distinct, fewer_than}
+use Rattle.daggy_base.proofs.OutEdgesRead.{slot_get}
+use Rattle.daggy_schedule.specs.Queue.{count_of}
+use Rattle.daggy_schedule.specs.Work.{child_or}
+use Rattle.daggy_schedule.proofs.Counts.{count_same, count_none, count_all, count_rises, count_most}
 
-pub record Counting {N E : Type 0} (end : ℕ) (g : Graph N E) (n : ℕ) (e count : ℕ) : Type 0 where
-  pub before : List ℕ
-  pub rest : List ℕ
-  pub split : in_list g n ≡ before ++ rest
-  pub at_rest : e ≡ first_of end rest
-  pub counted : count ≡ length before
+-- whether an edge is among the first k
+abbrev pub early : ℕ → ℕ → Bool
+early k e = ltb e k
 
-pub counting_from : {N E : Type 0} {end : ℕ} {g : Graph N E} {n e : ℕ} → e ≡ first_of end (in_list g n)
-    → Counting end g n e 0
-counting_from {N} {E} {end} {g} {n} is =
-    record { before = []; rest = in_list g n; split = refl; at_rest = is; counted = refl }
+-- by node index, how many of the first k edges lead to each node
+abbrev pub AreCounted : {N E : Type 0} → Graph N E → ℕ → List ℕ → Type 0
+AreCounted g k counts = (n : ℕ) → get_or counts n 0 ≡ count_of (early k) (in_list g n)
 
-first_rest : (end e : ℕ) (xs : List ℕ) → e ≡ first_of end xs → e ≢ end → (es : List ℕ) × (xs ≡ e ∷ es)
-first_rest end e [] is ne = absurd (ne is)
-first_rest end e (x ∷ xs) is ne = (xs, ap (λ z. z ∷ xs) (sym is))
+pub none_counted : {N E : Type 0} (g : Graph N E) (counts : List ℕ) → ((n : ℕ) → get_or counts n 0 ≡ 0)
+    → AreCounted g 0 counts
+none_counted g counts zeros n =
+    zeros n ∙ sym (count_none (early 0) (in_list g n) (λ e m. le-ltb e 0 (omega arith)))
 
-module _ {N E : Type 0} {end : ℕ} {g : Graph N E} (w : IsWellFormed end g) {n e count : ℕ}
-    (s : Counting end g n e count) where
-  arrives : (k : ℕ) → Mem k (in_list g n) → (x : Edge E) × (edge_at g k ≡ Some x) × (x.child ≡ n)
-  arrives k m = (w.in_of.exact n k).0 (mem_contains (in_list g n) k m)
+early_next : (k e : ℕ) → e ≢ k → early (k + 1) e ≡ early k e
+early_next k e apart =
+    elim (cases_lt e k) [
+      | inl low ↦ lt-ltb e (k + 1) (omega (arith, low)) ∙ sym (lt-ltb e k low)
+      | inr past ↦ le-ltb e (k + 1) (omega (arith, past, apart)) ∙ sym (le-ltb e k past)
+    ]
 
-  below : (k : ℕ) → Mem k (in_list g n) → k < end
-  below k m = let p = arrives k m in edge_below end g w k p.0 p.1
+module _ {N E : Type 0} {limit : ℕ} {g : Graph N E} (w : IsWellFormed limit g) where
+  leads : (n e : ℕ) → Mem e (in_list g n) → (x : Edge E) × (edge_at g e ≡ Some x) × (x.child ≡ n)
+  leads n e m = (w.in_of.exact n e).0 (mem_contains (in_list g n) e m)
 
-  pub few : count ≤ end
-  few =
-      let all = fewer_than (in_list g n) end (unique_from_distinct (in_list g n) (w.in_of.once n)) below in
-      omega (arith, all, s.counted, ap length s.split, length-append s.before s.rest)
+  once : (n : ℕ) → Unique (in_list g n)
+  once n = unique_from_distinct (in_list g n) (w.in_of.once n)
 
-  pub all_counted : e ≡ end → count ≡ length (in_list g n)
-  all_counted h = from s.rest s.split s.at_rest
-    where
-      from : (xs : List ℕ) → in_list g n ≡ s.before ++ xs → e ≡ first_of end xs → count ≡ length (in_list g n)
-      from [] split is = omega (arith, s.counted, ap length split, length-append s.before [])
-      from (y ∷ ys) split is =
-          let M : List ℕ → Type 0 = λ z. Mem y z in
-          let low = below y (subst M (sym split) (mem_mid s.before ys y)) in
-          absurd (omega (arith, low, is, h))
+  below : (n e : ℕ) → Mem e (in_list g n) → e < length g.edges
+  below n e m =
+      let y = leads n e m in
+      slice_get_within g.edges e (Some y.0) (slot_get g.edges e y.0 y.1)
 
-  module _ (here : e ≢ end) where
-    tail : (es : List ℕ) × (s.rest ≡ e ∷ es)
-    tail = first_rest end e s.rest s.at_rest here
+  pub all_counted : (counts : List ℕ) → AreCounted g (length g.edges) counts
+      → (n : ℕ) → get_or counts n 0 ≡ length (in_list g n)
+  all_counted counts so_far n =
+      so_far n
+      ∙ count_all (early (length g.edges)) (in_list g n) (λ e m. lt-ltb e (length g.edges) (below n e m))
 
-    split_here : in_list g n ≡ s.before ++ e ∷ tail.0
-    split_here = s.split ∙ ap (λ z. s.before ++ z) tail.1
+  module _ (k : ℕ) (counts : List ℕ) (so_far : AreCounted g k counts) where
+    -- the next edge does not lead to the node
+    elsewhere : (n : ℕ) → (Mem k (in_list g n) → ⊥) → get_or counts n 0 ≡ count_of (early (k + 1)) (in_list g n)
+    elsewhere n absent =
+        so_far n
+        ∙ sym (count_same (early k) (early (k + 1)) (in_list g n) (λ e m. early_next k e (λ is.
+        absent (let P : ℕ → Type 0 = λ z. Mem z (in_list g n) in subst P is m))))
 
-    once_all : Unique (s.before ++ e ∷ tail.0)
-    once_all =
-        let P : List ℕ → Type 0 = λ z. Unique z in
-        subst P split_here (unique_from_distinct (in_list g n) (w.in_of.once n))
+    -- a vacant slot
+    pub counted_none : edge_at g k ≡ None → AreCounted g (k + 1) counts
+    counted_none vacant n = elsewhere n (λ m. (let y = leads n k m in none-some y.0 (sym vacant ∙ y.1)))
 
-    pub counted_edge : (x : Edge E) × (edge_at g e ≡ Some x) × (x.child ≡ n)
-    counted_edge =
-        let M : List ℕ → Type 0 = λ z. Mem e z in
-        arrives e (subst M (sym split_here) (mem_mid s.before tail.0 e))
+    -- the next edge
+    module _ (x : Edge E) (at : edge_at g k ≡ Some x) where
+      rises : count_of (early (k + 1)) (in_list g x.child) ≡ suc (count_of (early k) (in_list g x.child))
+      rises =
+          let there = contains_mem (in_list g x.child) k ((w.in_of.exact x.child k).1 (x, at, refl)) in
+          count_rises (early k) (early (k + 1)) k (in_list g x.child) (once x.child) there (le-ltb k k (omega arith))
+          (lt-ltb k (k + 1) (omega arith)) (λ e apart. early_next k e apart)
 
-    pub more_fits : count < end
-    more_fits =
-        let all = fewer_than (in_list g n) end (unique_from_distinct (in_list g n) (w.in_of.once n)) below in
-        omega (arith, all, s.counted, ap length split_here, length-append s.before (e ∷ tail.0))
+      pub one_fits : get_or counts x.child 0 + 1 ≤ length g.edges
+      one_fits =
+          let few = fewer_than (in_list g x.child) (length g.edges) (once x.child) (below x.child) in
+          omega (arith, so_far x.child, rises, count_most (early (k + 1)) (in_list g x.child), few)
 
-    module _ (next : ℕ) (is : next ≡ cursor_after Incoming end g e (edge_at g e)) where
-      next_is : next ≡ first_of end tail.0
-      next_is =
-          is
-          ∙ (ap (λ z. cursor_after Incoming end g e z) counted_edge.1
-          ∙ (ap (λ (z : ℕ). after end (in_list g z) e) counted_edge.2
-          ∙ (ap (λ (z : List ℕ). after end z e) split_here ∙ after_split end s.before e tail.0 once_all)))
-
-      pub nearer : length (in_list g n) - place (in_list g n) next < length (in_list g n) - place (in_list g n) e
-      nearer =
-          let P : List ℕ → Type 0 = λ z. length z - place z next < length z - place z e in
-          let absent : Mem end (s.before ++ e ∷ tail.0) → ⊥ = λ m.
-          (let M : List ℕ → Type 0 = λ z. Mem end z in
-          let low = below end (subst M (sym split_here) m) in
-          omega (arith, low)) in
-          subst P (sym split_here) (next_closer end s.before e tail.0 next once_all absent next_is)
-
-      pub counted_on : Counting end g n next (count + 1)
-      counted_on =
-          record {
-            before = s.before ++ e ∷ [];
-            rest = tail.0;
-            split = split_here ∙ sym (append_assoc s.before (e ∷ []) tail.0);
-            at_rest = next_is;
-            counted = omega (arith, s.counted, length-append s.before (e ∷ []));
-          }
+      pub counted_one : x.child < length counts
+          → AreCounted g (k + 1) (set counts x.child (get_or counts x.child 0 + 1))
+      counted_one low n =
+          let one_more = get_or counts x.child 0 + 1 in
+          elim (cases_eq n x.child) [
+            | inl here ↦ (
+                let P : ℕ → Type 0 = λ z. get_or (set counts x.child one_more) z 0
+                ≡ count_of (early (k + 1)) (in_list g z) in
+                let at_child : P x.child =
+                get_or-set_same counts x.child one_more 0 low ∙ omega (arith, so_far x.child, rises) in
+                subst P (sym here) at_child
+                )
+            | inr apart ↦
+                get_or-set_other counts x.child n one_more 0 apart
+                ∙ elsewhere n (λ m. (
+                let y = leads n k m in
+                apart (sym y.2 ∙ ap (λ (o : Option (Edge E)). child_or o) (sym y.1 ∙ at))
+                ))
+          ]

@@ -1,10 +1,9 @@
 -- The nodes of an order, each with how many edges lead to it, and those without any put into a queue.
 use Rattle.std.proofs.Common.{◌≡◌, ◌≢◌, ℕ, ◌-◌, ◌<◌, ◌≤◌, Bool, true, false, ◌⊎◌, inl, inr, List}
-use Rattle.std.proofs.Common.{[], ◌∷◌, ◌++◌, length, get_or, set, take, replicate, refl, sym, ap, subst, ◌∙◌, arith}
+use Rattle.std.proofs.Common.{[], ◌∷◌, ◌++◌, length, get_or, take, replicate, refl, sym, ap, subst, ◌∙◌, arith}
 use Rattle.std.proofs.Common.{append_assoc, append-nil, cond}
 use Rattle.std.specs.List.{filter}
-use Rattle.std.proofs.lemmas.List.{get_or-set_same, get_or-set_other, length-replicate, get_or-replicate}
-use Rattle.std.proofs.lemmas.List.{get_or_past, take_all}
+use Rattle.std.proofs.lemmas.List.{length-replicate, get_or-replicate, get_or_past, take_all}
 use Rattle.std.proofs.lemmas.List.Elements.{filter-append}
 use Rattle.std.proofs.lemmas.Bool.{false≢true, cases_eq, cases_lt, eq-eqb, ne_eqb, eqb-true}
 use Rattle.daggy_base.specs.Graph.{Graph, HasNode, in_list, node_bound}
@@ -69,7 +68,7 @@ module _ {N E : Type 0} {g : Graph N E} {order waiting queue : List ℕ} {n : �
       ]) in
       omega (arith, few)
 
-  module _ (low : n < length waiting) (count : ℕ) (counts : count ≡ length (in_list g n)) where
+  module _ (counts : get_or waiting n 0 ≡ length (in_list g n)) where
     passed_one : (m : ℕ) → Mem m (s.passed ++ n ∷ []) → (Mem m s.passed × (m ≢ n)) ⊎ (m ≡ n)
     passed_one m h =
         elim (cases_eq m n) [
@@ -81,18 +80,16 @@ module _ {N E : Type 0} {g : Graph N E} {order waiting queue : List ℕ} {n : �
               ])
         ]
 
-    waits_now : (m : ℕ) → Mem m (s.passed ++ n ∷ []) → get_or (set waiting n count) m 0 ≡ length (in_list g m)
+    waits_now : (m : ℕ) → Mem m (s.passed ++ n ∷ []) → get_or waiting m 0 ≡ length (in_list g m)
     waits_now m h =
         elim (passed_one m h) [
-          | inl a ↦ get_or-set_other waiting n m count 0 a.1 ∙ s.waits m a.0
-          | inr same ↦ (
-              let P : ℕ → Type 0 = λ z. get_or (set waiting n count) z 0 ≡ length (in_list g z) in
-              subst P (sym same) (get_or-set_same waiting n count 0 low ∙ counts)
-              )
+          | inl a ↦ s.waits m a.0
+          | inr same ↦
+              (let P : ℕ → Type 0 = λ z. get_or waiting z 0 ≡ length (in_list g z) in subst P (sym same) counts)
         ]
 
     started_with : (queue_now : List ℕ) → queue_now ≡ filter (has_no_parents g) (s.passed ++ n ∷ [])
-        → Starting g order (set waiting n count) queue_now rest
+        → Starting g order waiting queue_now rest
     started_with queue_now queued =
         record {
           passed = s.passed ++ n ∷ [];
@@ -101,13 +98,13 @@ module _ {N E : Type 0} {g : Graph N E} {order waiting queue : List ℕ} {n : �
           queued = queued;
         }
 
-    pub start_waits : count ≢ 0 → Starting g order (set waiting n count) queue rest
+    pub start_waits : get_or waiting n 0 ≢ 0 → Starting g order waiting queue rest
     start_waits some =
         let fails : has_no_parents g n ≡ false = ne_eqb (length (in_list g n)) 0 (λ z. some (counts ∙ z)) in
         started_with queue
         (s.queued ∙ sym (filter_past (has_no_parents g) (has_no_parents g) n s.passed (λ k. refl) fails))
 
-    pub start_ready : count ≡ 0 → Starting g order (set waiting n count) (queue ++ n ∷ []) rest
+    pub start_ready : get_or waiting n 0 ≡ 0 → Starting g order waiting (queue ++ n ∷ []) rest
     start_ready none =
         let passes : has_no_parents g n ≡ true = eq-eqb (length (in_list g n)) 0 (sym counts ∙ none) in
         started_with (queue ++ n ∷ [])
@@ -196,6 +193,14 @@ module _ {N E : Type 0} {end : ℕ} {g : Graph N E} (w : IsWellFormed end g) {or
         finished_is = refl;
       }
 
+pub all_zero : (size n : ℕ) → ◌≡◌ {A = ℕ} (get_or (replicate size 0) n 0) 0
+all_zero size n =
+    let none : ℕ = 0 in
+    elim (cases_lt n size) [
+      | inl a ↦ get_or-replicate size n none none a
+      | inr b ↦ get_or_past (replicate size none) n none (omega (arith, b, length-replicate size none))
+    ]
+
 -- what a list is resized to that was empty
 pub resized : {A : Type 0} (new old : List A) (k len : ℕ) (x : A)
     → old ≡ [] → len ≡ 0 → new ≡ take k old ++ replicate (k - len) x → new ≡ replicate k x
@@ -212,3 +217,7 @@ pub record IsStarting {N E : Type 0} (g : Graph N E) (waiting queue : List ℕ) 
   pub order : List ℕ
   pub ordered : IsOrderOf g order
   pub starting : Starting g order waiting queue rest
+
+pub starting_by : {N E : Type 0} {g h : Graph N E} {waiting queue rest : List ℕ} → g ≡ h
+    → IsStarting g waiting queue rest → IsStarting h waiting queue rest
+starting_by {N} {E} {g} {h} {waiting} {queue} {rest} same s = subst (λ z. IsStarting z waiting queue rest) same s

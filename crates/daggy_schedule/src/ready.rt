@@ -1,7 +1,7 @@
 //! Which nodes of a dag can begin, while others are being done.
 ghost use Rattle.std.specs.Prelude.{◌≡◌, ℕ, ◌+◌, ◌<◌, ◌≤◌, ◌↔◌, ◌⊎◌, ◌∷◌, ◌++◌, [], List};
-ghost use Rattle.std.specs.Prelude.{IsTrue, IsNone, IfSome, IfOk, take, length, filter};
-ghost use Rattle.daggy_base.specs.Graph.{HasNode, in_list, out_list};
+ghost use Rattle.std.specs.Prelude.{IsTrue, IsNone, IfSome, IfOk, take, length, filter, slice_index_or};
+ghost use Rattle.daggy_base.specs.Graph.{HasNode, in_list, out_list, node_bound};
 ghost use Rattle.daggy_base.specs.Ordered.{IsOrderOf};
 ghost use Rattle.daggy_schedule.specs.Work.{IsSet, IsOut, IsIdle, IsUnderWay};
 ghost use Rattle.daggy_schedule.specs.Work.{has_no_parents, released, each_last, children_of};
@@ -99,8 +99,7 @@ impl<Ix: IndexType> Ready<Ix> {
     {
         let store = dag.graph();
         let bound = store.node_bound();
-        let mut waiting = Vec::new(alloc);
-        waiting.resize(bound, 0usize)?;
+        let waiting = count_parents(alloc, store)?;
         let mut queue = Vec::new(alloc);
         queue.resize(bound, Link::end())?;
         let mut out = Vec::new(alloc);
@@ -110,9 +109,7 @@ impl<Ix: IndexType> Ready<Ix> {
         let mut tail = 0;
         let mut nodes = dag.topological_order();
         'nodes: while let Some(n) = nodes.next() {
-            let count = count_parents(store, n);
-            waiting[n.index()] = count;
-            if count == 0 {
+            if waiting[n.index()] == 0 {
                 queue[tail] = Link::of_node(n);
                 tail += 1;
             }
@@ -131,7 +128,8 @@ impl<Ix: IndexType> Ready<Ix> {
     /// Hands out the node that has been ready for longest, or returns `None` if none is ready: then
     /// some node that is out has to be done first, or all are done.
     ///
-    /// `dag` is not read. It names the dag of which the nodes are worked off, for the contract.
+    /// `dag` names the dag of which the nodes are worked off, for the contract. It is read only to have
+    /// the edges of the nodes that come next in the caches.
     ///
     /// # Complexity
     ///
@@ -150,8 +148,14 @@ impl<Ix: IndexType> Ready<Ix> {
         ensures waiting { self.new.waiting ≡ self.old.waiting }
         ensures under_way { IsUnderWay dag.now.graph self.new }
     {
-        let _ = dag;
         if self.head == self.tail {
+            return None;
+        }
+        let store = dag.graph();
+        // Never taken: this is a prefetch.
+        if store.edge_slots() >= PREFETCH_FROM
+            && !touch_lists(store, &self.queue[self.head..self.tail])
+        {
             return None;
         }
         let n = self.queue[self.head].node();
@@ -209,19 +213,74 @@ impl<Ix: IndexType> Ready<Ix> {
     }
 }
 
-// How many edges lead to a node.
-fn count_parents<Ix: IndexType, S: Store<Ix>>(store: &S, n: NodeIndex<Ix>) -> usize
-    ensures { result ≡ length (in_list (S.graph store.now) (Ix.number n)) }
+// The number of edges from which on a graph is expected not to fit the second-level cache, so that a
+// prefetch pays.
+const PREFETCH_FROM: usize = 1 << 15;
+
+// How many of the nodes that come next are prefetched.
+const AHEAD: usize = 4;
+
+// By node index, how many edges lead to each node.
+fn count_parents<Ix: IndexType, S: Store<Ix>>(
+    alloc: Global,
+    store: &S,
+) -> Result<Vec<usize>, AllocError>
+    ensures sized { IfOk result (λ counts.
+        length counts.items ≡ node_bound (S.graph store.now)) }
+    ensures counted { IfOk result (λ counts. (n : ℕ)
+        → slice_index_or counts.items n 0 ≡ length (in_list (S.graph store.now) n)) }
+{
+    store.invariant();
+    let mut counts = Vec::new(alloc);
+    counts.resize(store.node_bound(), 0usize)?;
+    let bound = store.edge_slots();
+    let mut e = 0;
+    'edges: while e < bound {
+        if let Some((_parent, child)) = store.edge_endpoints(EdgeIndex::new(e)) {
+            counts[child.index()] += 1;
+        }
+        e += 1;
+    }
+    Ok(counts)
+}
+
+// Reads up to `count` edges of the list of a node. The answer is always true.
+#[inline]
+fn touch_list<Ix: IndexType, S: Store<Ix>>(store: &S, n: NodeIndex<Ix>, count: usize) -> bool
+    ensures { IsTrue result }
 {
     store.invariant();
     let end = EdgeIndex::<Ix>::end().index();
-    let mut e = store.first_edge(n, Direction::Incoming);
-    let mut count = 0;
-    'parents: while e.index() != end {
-        count += 1;
-        e = store.next_edge(e, Direction::Incoming);
+    let mut e = store.first_edge(n, Direction::Outgoing);
+    'edges: for _i in 0..count {
+        if e.index() == end {
+            return true;
+        }
+        if !store.contains_edge(e) {
+            return false;
+        }
+        e = store.next_edge(e, Direction::Outgoing);
     }
-    count
+    e.index() == end || store.contains_edge(e)
+}
+
+// Reads the first edges of the nodes that come next, the more of a node the sooner it comes. The
+// answer is always true.
+//
+// This is a prefetch. A walk along a list waits for each edge before the next; here one more edge of
+// each of several lists is read at a time, and these reads overlap. The compiler does not know the
+// answer, so it keeps them. Out of line, so that small graphs need not save registers for it.
+#[cold]
+#[inline(never)]
+fn touch_lists<Ix: IndexType, S: Store<Ix>>(store: &S, queue: &[Link<Ix>]) -> bool
+    ensures { IsTrue result }
+{
+    for k in 0..AHEAD.min(queue.len()) {
+        if !touch_list(store, queue[k].node(), AHEAD - k) {
+            return false;
+        }
+    }
+    true
 }
 
 // Counts off the edges that leave a node that is done, and queues the children that wait for none
@@ -260,9 +319,11 @@ fn release<Ix: IndexType, S: Store<Ix>>(
         e = store.next_edge(e, Direction::Outgoing);
         if let Some((_parent, child)) = ends {
             let i = child.index();
-            waiting[i] -= 1;
-            if waiting[i] == 0 {
-                queue[at] = Link::of_node(child);
+            let count = waiting[i] - 1;
+            waiting[i] = count;
+            // Written in any case: a branch around it would often be predicted wrong.
+            queue[at] = Link::of_node(child);
+            if count == 0 {
                 at += 1;
             }
         }

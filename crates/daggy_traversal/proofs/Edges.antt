@@ -131,6 +131,13 @@ module _ {N E : Type 0} {end : ℕ} {g : Graph N E} (w : IsWellFormed end g) (di
       let P : ℕ → Type 0 = λ z. HasNode g z in
       below_bound g.nodes v (subst P (sym step.far) (far_by w dir step.edge e step.at))
 
+  pub none_at_end : edge_at g end ≡ None
+  none_at_end = by_edge (edge_at g end) refl
+    where
+      by_edge : (o : Option (Edge E)) → edge_at g end ≡ o → edge_at g end ≡ None
+      by_edge None is = is
+      by_edge (Some x) is = absurd (omega (arith, edge_below end g w end x is))
+
   edges_at : (n e : ℕ) → (e ≡ end) ⊎ Mem e (list_at dir g n) → edges_left dir g e (edge_at g e) ≡ rest_from (list_at dir g n) e
   edges_at n e h =
       elim h [

@@ -17,7 +17,7 @@ use Rattle.daggy_traversal.proofs.Edges.{left_first}
 use Rattle.daggy_traversal.proofs.Members.{mem_or_not, turned, turned_back, turned_once}
 use Rattle.daggy_traversal.proofs.Fresh.{first_in}
 use Rattle.daggy_traversal.proofs.Marks.{marked_more, marked_by, marked_room, listed}
-use Rattle.daggy_traversal.proofs.Others.{others_old, others_new, others_first, others_still, others_more}
+use Rattle.daggy_traversal.proofs.Others.{others_old, others_new, others_first, others_still, others_more, first_not_old}
 
 pub last_of_push : (u : ℕ) (xs : List ℕ) (n : ℕ) → end_of u (xs ++ n ∷ []) ≡ n
 last_of_push u [] n = refl
@@ -238,21 +238,7 @@ module _ {N E : Type 0} {end : ℕ} {g : Graph N E} (w : IsWellFormed end g) {di
     new_low = omega (arith, below_bound g.nodes v exists, fits, s.sized)
 
     new_out : Mem v (given ++ path) → ⊥
-    new_out m = not_left (given ++ path) (neighbors_left dir g at) m (some (given ++ path) s.marked)
-      where
-        not_left : (old xs : List ℕ) → Mem v old
-            → without_old old xs ≡ v ∷ without_old old (neighbors_left dir g next) → ⊥
-        not_left old [] m h = cc
-        not_left old (x ∷ xs) m h =
-            elim (mem_or_not old x) [
-              | inl o ↦ not_left old xs m (sym (others_old old xs x o) ∙ h)
-              | inr none ↦ (
-                  let heads : x ∷ without_old old xs ≡ v ∷ without_old old (neighbors_left dir g next) =
-                  sym (others_new old xs x none) ∙ h in
-                  let same : x ≡ v = cc in
-                  none (let P : ℕ → Type 0 = λ z. Mem z old in subst P (sym same) m)
-                  )
-            ]
+    new_out m = first_not_old (given ++ path) (neighbors_left dir g at) (some (given ++ path) s.marked) m
 
     new_unvisited : IsVisited met v → ⊥
     new_unvisited h = new_out (listed s.marked v h)

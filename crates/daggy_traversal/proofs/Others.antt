@@ -79,3 +79,16 @@ none_new old (y ∷ ys) x none m =
       ]
       | inr new ↦ (let found : Some y ≡ None = sym (new_unmet old ys y new) ∙ none in cc)
     ]
+
+-- the first of those that are not old is not old
+pub first_not_old : (old xs : List ℕ) {v : ℕ} {rest : List ℕ} → without_old old xs ≡ v ∷ rest → Mem v old → ⊥
+first_not_old old [] h m = cc
+first_not_old old (x ∷ xs) {v} {rest} h m =
+    elim (mem_or_not old x) [
+      | inl o ↦ first_not_old old xs (sym (others_old old xs x o) ∙ h) m
+      | inr none ↦ (
+          let heads : x ∷ without_old old xs ≡ v ∷ rest = sym (others_new old xs x none) ∙ h in
+          let same : x ≡ v = cc in
+          none (let P : ℕ → Type 0 = λ z. Mem z old in subst P (sym same) m)
+          )
+    ]

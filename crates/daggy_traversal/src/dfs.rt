@@ -1,15 +1,15 @@
 //! Walking depth first.
-ghost use Rattle.std.specs.Prelude.{◌≡◌, ℕ, ◌≤◌, ◌↔◌, ◌∷◌, ◌++◌, [], length, vec_capacity, Contains};
+ghost use Rattle.std.specs.Prelude.{◌≡◌, ℕ, ◌+◌, ◌<◌, ◌≤◌, ◌↔◌, ◌∷◌, ◌++◌, [], length, vec_capacity, Contains};
 ghost use Rattle.std.specs.Prelude.{IsNone, IfNone, IfSome, IfOk};
 ghost use Rattle.std.specs.Option.{option_map};
 ghost use Rattle.daggy_base.specs.Graph.{HasNode, node_bound};
 ghost use Rattle.daggy_traversal.specs.Traversal.{LeadsFar, neighbors, AreAllGiven, AreMarked};
-ghost use Rattle.daggy_traversal.specs.Traversal.{first_new, without_old};
+ghost use Rattle.daggy_traversal.specs.Traversal.{first_new, without_old, neighbors_left};
 ghost use Rattle.daggy_traversal.specs.Depth.{IsDepthFirst, next_in_depth, ahead};
 
 use crate::given::Given;
-use crate::neighbors::next_neighbor;
-use daggy_base::index::{DefaultIx, Direction, IndexType, NodeIndex};
+use crate::neighbors::next_new;
+use daggy_base::index::{DefaultIx, Direction, EdgeIndex, IndexType, NodeIndex};
 use daggy_base::link::Link;
 use daggy_base::store::Store;
 use daggy_walk::visit::NodeSet;
@@ -56,7 +56,7 @@ pub struct Dfs<Ix: IndexType = DefaultIx> {
     dir: Direction,
     // Whether the start is still to come.
     waits: bool,
-    // Of each node on the way to the one given last, the edge to look at next.
+    // Of each node on the way to the one given last, the edge to look at next, if there is one.
     cursors: Vec<Link<Ix>>,
     // The nodes that were given.
     met: NodeSet<Ix>,
@@ -162,8 +162,29 @@ impl<Ix: IndexType> Dfs<Ix> {
     }
 }
 
+// Adds a cursor at the edge `e`, unless the list is at its end there.
+#[inline]
+fn push_cursor<Ix: IndexType, S: Store<Ix>>(
+    graph: &S,
+    _dir: Direction,
+    cursors: &mut Vec<Link<Ix>>,
+    e: EdgeIndex<Ix>,
+)
+    requires room { length cursors.old.items < vec_capacity cursors.old }
+    ensures ahead { ahead _dir (S.graph graph.now) cursors.new.items
+        ≡ neighbors_left _dir (S.graph graph.now) (Ix.number e)
+        ++ ahead _dir (S.graph graph.now) cursors.old.items }
+    ensures few { length cursors.new.items ≤ length cursors.old.items + 1 }
+    ensures capacity { vec_capacity cursors.new ≡ vec_capacity cursors.old }
+{
+    graph.invariant();
+    if e.index() != EdgeIndex::<Ix>::end().index() {
+        cursors.push_reserved(Link::of_edge(e));
+    }
+}
+
 // Moves the cursors on to the first neighbor that was not given, and gives it. Its cursor is last
-// then.
+// then, if it has neighbors.
 fn advance<Ix: IndexType, S: Store<Ix>>(
     graph: &S,
     dir: Direction,
@@ -193,13 +214,12 @@ fn advance<Ix: IndexType, S: Store<Ix>>(
 {
     graph.invariant();
     'steps: while let Some(at) = cursors.pop() {
-        if let Some((n, next)) = next_neighbor(graph, dir, at.edge()) {
-            cursors.push_reserved(Link::of_edge(next));
-            if met.visit(n) {
-                given.push(n.index());
-                cursors.push_reserved(Link::of_edge(graph.first_edge(n, dir)));
-                return Some(n);
-            }
+        if let Some((n, next)) = next_new(graph, dir, at.edge(), met) {
+            let _new = met.visit(n);
+            given.push(n.index());
+            push_cursor(graph, dir, cursors, next);
+            push_cursor(graph, dir, cursors, graph.first_edge(n, dir));
+            return Some(n);
         }
     }
     None

@@ -1,10 +1,12 @@
 //! Reading the list of a node.
-ghost use Rattle.std.specs.Prelude.{◌≡◌, None, IfNone, IfSome};
-ghost use Rattle.daggy_base.specs.Graph.{edge_at};
-ghost use Rattle.daggy_traversal.specs.Traversal.{IsNeighbor, far_of};
+ghost use Rattle.std.specs.Prelude.{◌≡◌, ℕ, List, [], ◌∷◌, None, IfNone, IfSome};
+ghost use Rattle.daggy_base.specs.Graph.{HasNode, edge_at};
+ghost use Rattle.daggy_traversal.specs.Traversal.{IsNeighbor, AreMarked, far_of, neighbors_left};
+ghost use Rattle.daggy_traversal.specs.Traversal.{without_old};
 
 use daggy_base::index::{Direction, EdgeIndex, IndexType, NodeIndex};
 use daggy_base::store::Store;
+use daggy_walk::visit::NodeSet;
 
 /// The node at the far end of the edge `e`, and the edge after `e` in its list, or `end`. Returns
 /// `None` if there is no edge `e`.
@@ -35,4 +37,32 @@ fn far_end<Ix: IndexType>(
         Direction::Outgoing => child,
         Direction::Incoming => parent,
     }
+}
+
+/// The first neighbor that was not met, from the edge `e` on, and the edge after it. Returns `None`
+/// if there is none.
+#[inline]
+pub fn next_new<Ix: IndexType, S: Store<Ix>>(
+    graph: &S,
+    dir: Direction,
+    e: EdgeIndex<Ix>,
+    met: &NodeSet<Ix>,
+) -> Option<(NodeIndex<Ix>, EdgeIndex<Ix>)>
+    ensures none { IfNone result ((nodes : List ℕ) → AreMarked met.now nodes
+        → without_old nodes (neighbors_left dir (S.graph graph.now) (Ix.number e)) ≡ []) }
+    ensures some { IfSome result (λ found. (nodes : List ℕ) → AreMarked met.now nodes
+        → without_old nodes (neighbors_left dir (S.graph graph.now) (Ix.number e))
+        ≡ Ix.number found.0 ∷ without_old nodes
+        (neighbors_left dir (S.graph graph.now) (Ix.number found.1))) }
+    ensures exists { IfSome result (λ found. HasNode (S.graph graph.now) (Ix.number found.0)) }
+{
+    graph.invariant();
+    let mut e = e;
+    'edges: while let Some((v, next)) = next_neighbor(graph, dir, e) {
+        if !met.is_visited(v) {
+            return Some((v, next));
+        }
+        e = next;
+    }
+    None
 }

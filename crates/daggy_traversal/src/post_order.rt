@@ -1,15 +1,14 @@
 //! Walking depth first, in postorder.
 ghost use Rattle.std.specs.Prelude.{◌≡◌, ℕ, ◌≤◌, ◌↔◌, ◌⊎◌, ◌∷◌, ◌++◌, [], length, vec_capacity};
-ghost use Rattle.std.specs.Prelude.{IsNone, IfNone, IfSome, IfOk, List, Contains};
-ghost use Rattle.daggy_base.specs.Graph.{HasNode, node_bound};
+ghost use Rattle.std.specs.Prelude.{IsNone, IfNone, IfSome, IfOk, Contains};
+ghost use Rattle.daggy_base.specs.Graph.{node_bound};
 ghost use Rattle.daggy_base.specs.Path.{IsAcyclic};
 ghost use Rattle.daggy_traversal.specs.Traversal.{LeadsTo, LeadsFar, AreAllGiven, AreMarked, begin};
-ghost use Rattle.daggy_traversal.specs.Traversal.{neighbors_left, without_old};
 ghost use Rattle.daggy_traversal.specs.Postorder.{IsPostorder, GivesLast, AreLeft};
 
 use crate::given::Given;
-use crate::neighbors::next_neighbor;
-use daggy_base::index::{DefaultIx, Direction, EdgeIndex, IndexType, NodeIndex};
+use crate::neighbors::next_new;
+use daggy_base::index::{DefaultIx, Direction, IndexType, NodeIndex};
 use daggy_base::link::Link;
 use daggy_base::store::Store;
 use daggy_walk::visit::NodeSet;
@@ -167,32 +166,6 @@ impl<Ix: IndexType> DfsPostOrder<Ix> {
             &mut self.given,
         )
     }
-}
-
-// The first neighbor that was not met, from the edge `e` on, and the edge after it.
-fn next_new<Ix: IndexType, S: Store<Ix>>(
-    graph: &S,
-    dir: Direction,
-    e: EdgeIndex<Ix>,
-    met: &NodeSet<Ix>,
-) -> Option<(NodeIndex<Ix>, EdgeIndex<Ix>)>
-    ensures none { IfNone result ((nodes : List ℕ) → AreMarked met.now nodes
-        → without_old nodes (neighbors_left dir (S.graph graph.now) (Ix.number e)) ≡ []) }
-    ensures some { IfSome result (λ found. (nodes : List ℕ) → AreMarked met.now nodes
-        → without_old nodes (neighbors_left dir (S.graph graph.now) (Ix.number e))
-        ≡ Ix.number found.0 ∷ without_old nodes
-        (neighbors_left dir (S.graph graph.now) (Ix.number found.1))) }
-    ensures exists { IfSome result (λ found. HasNode (S.graph graph.now) (Ix.number found.0)) }
-{
-    graph.invariant();
-    let mut e = e;
-    'edges: while let Some((v, next)) = next_neighbor(graph, dir, e) {
-        if !met.is_visited(v) {
-            return Some((v, next));
-        }
-        e = next;
-    }
-    None
 }
 
 // Goes down to a node all of whose neighbors were met, and gives it.

@@ -1,15 +1,15 @@
-use Rattle.std.proofs.Common.{◌-◌, length}
-use Rattle.daggy_base.specs.Graph.{in_list}
-use Rattle.daggy_base.specs.Ordered.{place}
-use Rattle.daggy_schedule.proofs.Parents.{Counting}
+use Rattle.std.proofs.Common.{◌≡◌, ◌≤◌, ◌-◌, length}
+use Rattle.daggy_base.specs.Graph.{node_bound}
+use Rattle.daggy_schedule.proofs.Parents.{AreCounted}
 use Rattle.daggy_schedule.proofs.ready.count_parents.Given as goal
 
-abbrev pub invariant-parents : goal.invariant-parents
-invariant-parents g l =
-    Counting g.Ix.IndexType.greatest (g.S.EdgeSource.graph l.store) (g.Ix.IndexType.number l.fn.n)
-    (g.Ix.IndexType.number l.e) l.count
+abbrev pub invariant-edges : goal.invariant-edges
+invariant-edges g l =
+    record {
+      within : l.e ≤ l.bound;
+      sized : length l.counts.items ≡ node_bound (g.S.EdgeSource.graph l.store);
+      counted : AreCounted (g.S.EdgeSource.graph l.store) l.e l.counts.items;
+    }
 
-abbrev pub decreases-parents : goal.decreases-parents
-decreases-parents g l =
-    length (in_list (g.S.EdgeSource.graph l.store) (g.Ix.IndexType.number l.fn.n))
-    - place (in_list (g.S.EdgeSource.graph l.store) (g.Ix.IndexType.number l.fn.n)) (g.Ix.IndexType.number l.e)
+abbrev pub decreases-edges : goal.decreases-edges
+decreases-edges g l = l.bound - l.e

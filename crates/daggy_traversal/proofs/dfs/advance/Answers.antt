@@ -1,8 +1,8 @@
 use Rattle.std.proofs.Common.{rules, ◌≡◌, ap, refl, sym, ◌∙◌, arith, length, vec_len, ◌++◌, ◌∷◌, []}
-use Rattle.std.proofs.lemmas.List.{nil_from_length}
+use Rattle.std.proofs.lemmas.List.{nil_from_length, length_push}
 use Rattle.daggy_traversal.specs.Depth.{ahead}
-use Rattle.daggy_traversal.proofs.Descending.{Descending, all_given, goes_up, goes_up_smaller, neighbor_within, goes_past}
-use Rattle.daggy_traversal.proofs.Descending.{goes_past_smaller, goes_down_to, goes_down_room, goes_down_marked, goes_down}
+use Rattle.daggy_traversal.proofs.Descending.{Descending, all_given, goes_up, goes_up_smaller, neighbor_within}
+use Rattle.daggy_traversal.proofs.Descending.{goes_down_to, goes_down_room, goes_down_marked, goes_down}
 use Rattle.daggy_traversal.proofs.dfs.advance.Given.{Over}
 use Rattle.daggy_traversal.proofs.dfs.advance.Goals.{At-steps}
 use Rattle.daggy_traversal.proofs.dfs.advance.Goals as goal
@@ -15,93 +15,70 @@ so_far g c =
     let i = c.steps.invariant in
     record { left = i.left; few = i.few; marked = i.marked; sized = i.sized }
 
-pub visit-requires : goal.visit-requires
-visit-requires g c =
-    neighbor_within c.invariant.ensures.well_formed (so_far g (goal.at.visit-requires g c).At-steps) c.requires.bound
-    c.pop.new.self.items c.in-Some.at c.in-Some.ensures.items c.edge.ensures.value c.in-Some-next_neighbor.ensures.some
+pub visit-new-requires : goal.visit-new-requires
+visit-new-requires g c =
+    neighbor_within c.invariant.ensures.well_formed (so_far g (goal.at.visit-new-requires g c).At-steps)
+    c.requires.bound c.pop.new.self.items c.in-Some.at c.in-Some.ensures.items c.edge.ensures.value _ _
+    c.in-Some-next_new.ensures.exists (c.in-Some-next_new.ensures.some _ c.steps.invariant.marked)
 
-pub push_reserved-requires-then-visit : goal.push_reserved-requires-then-visit
-push_reserved-requires-then-visit g c =
+pub push_cursor-requires-in-Some-next_new : goal.push_cursor-requires-in-Some-next_new
+push_cursor-requires-in-Some-next_new g c =
     let room = goes_down_room c.invariant.ensures.well_formed
-    (so_far g (goal.at.push_reserved-requires-then-visit g c).At-steps) c.requires.bound
-    c.pop.new.self.items c.in-Some.at c.in-Some.ensures.items c.edge.ensures.value c.in-Some-next_neighbor.ensures.some
-    c.push_reserved.ensures.items c.of_edge.ensures c.visit.ensures.answer c.visit.new.self c.visit.ensures.visited
-    c.visit.ensures.bound c.if-visit.true in
-    let size : vec_len c.push_reserved.new.self ≡ length c.push_reserved.new.self.items = search rules in
-    omega (
-      arith,
-      room,
-      size,
-      c.steps.invariant.room,
-      c.in-Some.ensures.capacity,
-      c.push_reserved.ensures.capacity,
-    )
-
-pub returns-then-visit-clause-next : goal.returns-then-visit-clause-next
-returns-then-visit-clause-next g c =
-    sym (goes_down_to c.invariant.ensures.well_formed
-    (so_far g (goal.at.returns-then-visit-clause-next g c).At-steps) c.requires.bound
-    c.pop.new.self.items c.in-Some.at c.in-Some.ensures.items c.edge.ensures.value c.in-Some-next_neighbor.ensures.some
-    c.push_reserved.ensures.items c.of_edge.ensures c.visit.ensures.answer c.visit.new.self c.visit.ensures.visited
-    c.visit.ensures.bound c.if-visit.true)
-
-pub returns-then-visit-clause-left : goal.returns-then-visit-clause-left
-returns-then-visit-clause-left g c =
-    goes_down c.invariant.ensures.well_formed (so_far g (goal.at.returns-then-visit-clause-left g c).At-steps)
-    c.requires.bound
-    c.pop.new.self.items c.in-Some.at c.in-Some.ensures.items c.edge.ensures.value c.in-Some-next_neighbor.ensures.some
-    c.push_reserved.ensures.items c.of_edge.ensures c.visit.ensures.answer c.visit.new.self c.visit.ensures.visited
-    c.visit.ensures.bound (c.push.ensures ∙ ap (λ z. z ++ c.index.result ∷ []) c.steps.invariant.same) c.index.ensures.value c.if-visit.true
-    c.push_reserved-then-visit.ensures.items c.of_edge-then-visit.ensures c.first_edge.ensures
-
-pub returns-then-visit-clause-marked : goal.returns-then-visit-clause-marked
-returns-then-visit-clause-marked g c =
-    goes_down_marked c.invariant.ensures.well_formed (so_far g (goal.at.returns-then-visit-clause-marked g c).At-steps)
-    c.requires.bound
-    c.pop.new.self.items c.in-Some.at c.in-Some.ensures.items c.edge.ensures.value c.in-Some-next_neighbor.ensures.some
-    c.push_reserved.ensures.items c.of_edge.ensures c.visit.ensures.answer c.visit.new.self c.visit.ensures.visited
-    c.visit.ensures.bound (c.push.ensures ∙ ap (λ z. z ++ c.index.result ∷ []) c.steps.invariant.same) c.index.ensures.value c.if-visit.true
-
-pub steps-smaller-else-visit : goal.steps-smaller-else-visit
-steps-smaller-else-visit g c =
-    goes_past_smaller c.invariant.ensures.well_formed (so_far g (goal.at.steps-smaller-else-visit g c).At-steps)
-    c.requires.bound
-    c.pop.new.self.items c.in-Some.at c.in-Some.ensures.items c.edge.ensures.value c.in-Some-next_neighbor.ensures.some
-    c.push_reserved.ensures.items c.of_edge.ensures c.visit.ensures.answer c.visit.new.self c.visit.ensures.visited
-    c.visit.ensures.bound
-
-pub steps-preserved-else-visit : goal.steps-preserved-else-visit
-steps-preserved-else-visit g c =
-    let past = goes_past c.invariant.ensures.well_formed (so_far g (goal.at.steps-preserved-else-visit g c).At-steps)
-    c.requires.bound
-    c.pop.new.self.items c.in-Some.at c.in-Some.ensures.items c.edge.ensures.value c.in-Some-next_neighbor.ensures.some
-    c.push_reserved.ensures.items c.of_edge.ensures c.visit.ensures.answer c.visit.new.self c.visit.ensures.visited
-    c.visit.ensures.bound c.if-visit.false in
+    (so_far g (goal.at.push_cursor-requires-in-Some-next_new g c).At-steps) c.requires.bound
+    c.pop.new.self.items c.in-Some.at c.in-Some.ensures.items c.edge.ensures.value _ _
+    c.in-Some-next_new.ensures.exists (c.in-Some-next_new.ensures.some _ c.steps.invariant.marked) in
     record {
-      left = past.left;
-      few = past.few;
-      marked = past.marked;
-      sized = past.sized;
       room = omega (
         arith,
+        room,
+        ap (λ z. length z) c.in-Some.ensures.items,
+        length_push c.pop.new.self.items c.in-Some.at,
+        c.push_cursor.ensures.few,
+        c.push_cursor.ensures.capacity,
         c.steps.invariant.room,
         c.in-Some.ensures.capacity,
-        c.push_reserved.ensures.capacity,
       );
-      same = c.steps.invariant.same;
     }
+
+pub returns-in-Some-next_new-clause-next : goal.returns-in-Some-next_new-clause-next
+returns-in-Some-next_new-clause-next g c =
+    sym (goes_down_to c.invariant.ensures.well_formed
+    (so_far g (goal.at.returns-in-Some-next_new-clause-next g c).At-steps) c.requires.bound
+    c.pop.new.self.items c.in-Some.at c.in-Some.ensures.items c.edge.ensures.value _ _
+    c.in-Some-next_new.ensures.exists (c.in-Some-next_new.ensures.some _ c.steps.invariant.marked)
+    c.push_cursor.new.cursors.items c.push_cursor.ensures.ahead)
+
+pub returns-in-Some-next_new-clause-left : goal.returns-in-Some-next_new-clause-left
+returns-in-Some-next_new-clause-left g c =
+    goes_down c.invariant.ensures.well_formed
+    (so_far g (goal.at.returns-in-Some-next_new-clause-left g c).At-steps) c.requires.bound
+    c.pop.new.self.items c.in-Some.at c.in-Some.ensures.items c.edge.ensures.value _ _
+    c.in-Some-next_new.ensures.exists (c.in-Some-next_new.ensures.some _ c.steps.invariant.marked)
+    c.push_cursor.new.cursors.items c.push_cursor.ensures.ahead
+    (c.push.ensures ∙ ap (λ z. z ++ c.index.result ∷ []) c.steps.invariant.same) c.index.ensures.value
+    c.push_cursor-in-Some-next_new.new.cursors.items (g.Ix.IndexType.number c.first_edge.result)
+    c.push_cursor-in-Some-next_new.ensures.ahead c.first_edge.ensures
+
+pub returns-in-Some-next_new-clause-marked : goal.returns-in-Some-next_new-clause-marked
+returns-in-Some-next_new-clause-marked g c =
+    goes_down_marked c.invariant.ensures.well_formed
+    (so_far g (goal.at.returns-in-Some-next_new-clause-marked g c).At-steps) c.requires.bound
+    c.pop.new.self.items c.in-Some.at c.in-Some.ensures.items c.edge.ensures.value _ _
+    c.in-Some-next_new.ensures.exists (c.in-Some-next_new.ensures.some _ c.steps.invariant.marked)
+    c.push_cursor.new.cursors.items c.push_cursor.ensures.ahead
+    (c.push.ensures ∙ ap (λ z. z ++ c.index.result ∷ []) c.steps.invariant.same) c.index.ensures.value
+    c.visit-new.new.self c.visit-new.ensures.visited
 
 pub steps-smaller : goal.steps-smaller
 steps-smaller g c =
     goes_up_smaller c.invariant.ensures.well_formed (so_far g (goal.at.steps-smaller g c).At-steps) c.requires.bound
-    c.pop.new.self.items c.in-Some.at c.in-Some.ensures.items c.edge.ensures.value
-    c.in_default-next_neighbor.ensures.none refl
+    c.pop.new.self.items c.in-Some.at c.in-Some.ensures.items c.edge.ensures.value refl
 
 pub steps-preserved : goal.steps-preserved
 steps-preserved g c =
     let up = goes_up c.invariant.ensures.well_formed (so_far g (goal.at.steps-preserved g c).At-steps) c.requires.bound
     c.pop.new.self.items c.in-Some.at c.in-Some.ensures.items c.edge.ensures.value
-    c.in_default-next_neighbor.ensures.none refl in
+    (c.in_default-next_new.ensures.none _ c.steps.invariant.marked) refl in
     record {
       left = up.left;
       few = up.few;

@@ -6,10 +6,9 @@ use Rattle.daggy_schedule.proofs.ready.Ready.new.Given as goal
 abbrev pub invariant-nodes : goal.invariant-nodes
 invariant-nodes g l =
     record {
-      starting : IsStarting (g.S.EdgeSource.graph l.store) l.waiting.items (take l.tail l.queue.items) l.nodes;
+      starting : IsStarting l.fn.dag.graph l.waiting.items (take l.tail l.queue.items) l.nodes;
       low : l.tail ≤ length l.queue.items;
-      waiting_sized : length l.waiting.items ≡ node_bound (g.S.EdgeSource.graph l.store);
-      queue_sized : length l.queue.items ≡ node_bound (g.S.EdgeSource.graph l.store);
+      queue_sized : length l.queue.items ≡ node_bound l.fn.dag.graph;
     }
 
 abbrev pub decreases-nodes : goal.decreases-nodes

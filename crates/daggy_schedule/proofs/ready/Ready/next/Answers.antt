@@ -1,4 +1,6 @@
 use Rattle.std.proofs.Common.{◌≡◌, ◌∙◌, ◌<◌, ◌↔◌, ◌⊎◌, ℕ, true, length, set, arith, subst, rules, vec_len, refl, sym, inr, ◌+◌, drop, take}
+use Rattle.std.proofs.Common.{◌∷◌, [], ap}
+use Rattle.std.proofs.lemmas.Bool.{false≢true}
 use Rattle.daggy_schedule.specs.Work.{Work, IsSet, IsUnderWay}
 use Rattle.daggy_schedule.proofs.Keeping.{hand_out, next_low, read_next, set_more, next_first, next_undone, handed_on}
 use Rattle.daggy_schedule.proofs.ready.Ready.next.Goals as goal
@@ -73,3 +75,24 @@ returns-clause-under_way g c =
     let U : Work → Type 0 = λ z. IsUnderWay c.args.dag.now.graph z in
     let under = subst U (sym c.self.view_is) c.requires in
     handed_on old new n (next_first k lt n is) (set_more out n (next_low k lt n is)) refl refl under
+
+pub returns-clause-first : goal.returns-clause-first
+returns-clause-first g c =
+    let k = c.self.invariant in
+    let lt : c.self.inside.head < c.self.inside.tail = omega (arith, k.handed_low, c.if-self.false) in
+    let is = read_next k lt c.index-2.result c.index.result.now (c.index-2.ensures.value ∙ c.node-n.ensures.value)
+    c.index.ensures in
+    let later = drop (c.self.inside.head + 1) (take c.self.inside.tail c.self.inside.queue.items) in
+    let P : Work → Type 0 = λ z. z.ready ≡ g.Ix.IndexType.number c.node-n.result ∷ later in
+    subst P c.self.view_is
+    (next_first k lt c.index-2.result is ∙ ap (λ z. z ∷ later) c.index-2.ensures.value)
+
+pub returns-clause-none : goal.returns-clause-none
+returns-clause-none g c = (
+  λ h. absurd (false≢true (sym h)),
+  λ empty. (
+      let later = drop (c.self.inside.head + 1) (take c.self.inside.tail c.self.inside.queue.items) in
+      let none : g.Ix.IndexType.number c.node-n.result ∷ later ≡ [] = sym (returns-clause-first g c) ∙ empty in
+      cc
+      ),
+)

@@ -1,6 +1,6 @@
 use Rattle.std.proofs.Common.{◌∙◌, sym}
 use Rattle.daggy_traversal.proofs.Seeking.{passes_met, finds_new, seeks_less}
-use Rattle.daggy_traversal.proofs.post_order.next_new.Goals as goal
+use Rattle.daggy_traversal.proofs.neighbors.next_new.Goals as goal
 
 pub returns-then-not-is_visited-clause-some : goal.returns-then-not-is_visited-clause-some
 returns-then-not-is_visited-clause-some g c =

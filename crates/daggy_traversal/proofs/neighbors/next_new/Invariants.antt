@@ -1,6 +1,6 @@
 use Rattle.std.proofs.Common.{◌≡◌, ℕ, List, length}
 use Rattle.daggy_traversal.specs.Traversal.{neighbors_left, without_old, AreMarked}
-use Rattle.daggy_traversal.proofs.post_order.next_new.Given as goal
+use Rattle.daggy_traversal.proofs.neighbors.next_new.Given as goal
 
 abbrev pub invariant-edges : goal.invariant-edges
 invariant-edges g l =
