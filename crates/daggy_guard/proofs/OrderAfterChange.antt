@@ -6,7 +6,7 @@ use Rattle.std.specs.List.{Contains}
 use Rattle.std.proofs.lemmas.Bool.{eqb-true, eq-eqb, ne_eqb}
 use Rattle.std.proofs.lemmas.List.{take-append-drop, length-take, length-set}
 use Rattle.daggy_base.specs.Graph.{Graph, HasNode, slot, edge_count}
-use Rattle.daggy_base.specs.Path.{Reaches, IsAcyclic}
+use Rattle.daggy_base.specs.Path.{IsAcyclic}
 use Rattle.daggy_base.specs.Adding.{with_node, with_edge, with_neighbor, next_node}
 use Rattle.daggy_base.specs.Removal.{without, renamed, without_edge, without_node}
 use Rattle.daggy_base.specs.declared.kind.Kind.{Kind}
@@ -20,7 +20,6 @@ use Rattle.daggy_base.proofs.Lists.{Unique, contains_mem, mem_contains, unique_r
 use Rattle.daggy_base.proofs.PathsWithNewNode.{not_before}
 use Rattle.daggy_base.proofs.PathsWithNode.{bound_low}
 use Rattle.daggy_base.proofs.OutEdgesRead.{lists_few, below_bound}
-use Rattle.daggy_search.proofs.SearchProgress.{reaches_stays}
 use Rattle.daggy_base.proofs.FullSlots.{full_from}
 use Rattle.daggy_base.specs.Ordered.{IsOrderOf, place, stretch, edges_from}
 use Rattle.daggy_base.proofs.Sorted.{unique_left, mem_filter, filter_mem}

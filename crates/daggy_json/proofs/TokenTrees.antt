@@ -10,7 +10,7 @@ use Rattle.json.specs.Tree as tree
 use Rattle.json.proofs.Printed.Tokens.{tokens-print}
 use Rattle.json.proofs.Printed.Trees.{value-json_tokens}
 use Rattle.serde_json.specs.Data as kinds
-use Rattle.serde_json.specs.Data.{Data, item, array, object, member, no_members, put, depth}
+use Rattle.serde_json.specs.Data.{Data, item, array, object, member, no_members, put}
 use Rattle.serde_json.specs.Read.{of_json, of_items, max_depth}
 use Rattle.serde_json.specs.View.{items_of}
 use Rattle.serde_json.specs.Written.{IsInOrder, WritesItems}

@@ -2,13 +2,12 @@
 use Rattle.std.proofs.Common.{◌≡◌, ◌≢◌, ℕ, suc, ◌+◌, ◌<◌, ◌≤◌, ◌⊎◌, ◌↔◌, Bool, inl, inr, List, [], ◌∷◌, ◌++◌}
 use Rattle.std.proofs.Common.{zero, length, drop, refl, sym, ap, subst, ◌∙◌, arith, Contains, append_assoc, append-nil}
 use Rattle.std.proofs.lemmas.List.{length-append}
-use Rattle.std.proofs.lemmas.Bool.{cases_lt, cases_eq}
-use Rattle.std.proofs.lemmas.List.Elements.{Contains-append_left, Contains-append_right, Contains-append_cases}
+use Rattle.std.proofs.lemmas.List.Elements.{Contains-append_right, Contains-append_cases}
 use Rattle.daggy_base.specs.Graph.{Graph, HasNode, HasEdge, out_list, node_bound, edge_count}
 use Rattle.daggy_base.specs.Cursor.{first_of}
 use Rattle.daggy_base.specs.Look.{IsLook}
 use Rattle.daggy_base.specs.Ordered.{IsOrderOf, place}
-use Rattle.daggy_base.specs.Path.{AreJoined, Reaches, IsPath, end_of}
+use Rattle.daggy_base.specs.Path.{AreJoined, Reaches}
 use Rattle.daggy_base.specs.WellFormed.{IsWellFormed}
 use Rattle.daggy_base.proofs.Lists.{Mem, Unique, contains_mem, mem_contains, mem_cases, unique_from_distinct, unique_right}
 use Rattle.daggy_base.proofs.OutEdgesRead.{joins, below_bound, read_whole, read_part, has_edge, child_exists, child_joined}

@@ -1,8 +1,8 @@
 -- Nodes in an order with their places, and rows of bits over a block of them.
-use Rattle.std.specs.Prelude.{◌≡◌, ℕ, ◌+◌, ◌-◌, ◌<◌, ◌≤◌, Bool, true, false, ◌&&◌, nat_lt, nat_le, Some, List, []}
+use Rattle.std.specs.Prelude.{◌≡◌, ℕ, ◌-◌, ◌<◌, ◌≤◌, Bool, true, false, ◌&&◌, nat_lt, nat_le, Some, List, []}
 use Rattle.std.specs.Prelude.{length, slice_index, slice_index_or, Contains, ◌↔◌, ◌⊎◌}
 use Rattle.daggy_base.specs.Graph.{Graph, Edge, HasNode, edge_at}
-use Rattle.daggy_base.specs.Path.{AreJoined, Reaches}
+use Rattle.daggy_base.specs.Path.{AreJoined}
 use Rattle.daggy_base.specs.Reduction.{ReachesIndirectly}
 use Rattle.daggy_search.specs.declared.adjacency.Arc.{Arc}
 use Rattle.daggy_reduction.specs.Flags.{IsFlagged}

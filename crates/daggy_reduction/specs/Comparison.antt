@@ -1,10 +1,10 @@
 -- Graphs compared by their nodes, their joined pairs and their reachability.
-use Rattle.std.specs.Prelude.{ℕ, ◌<◌, ◌⊎◌, ◌↔◌, List, [], ◌∷◌}
+use Rattle.std.specs.Prelude.{ℕ, ◌<◌, ◌↔◌, List, [], ◌∷◌}
 use Rattle.daggy_base.specs.Graph.{Graph, HasNode}
 use Rattle.daggy_base.specs.Path.{AreJoined, Reaches}
 use Rattle.daggy_base.specs.declared.kind.Kind.{Kind}
 use Rattle.daggy_base.specs.WellFormed.{IsDag}
-use Rattle.daggy_base.specs.Reduction.{IsBelow, ReachesIndirectly, IsRedundant, IsReduction, Covers}
+use Rattle.daggy_base.specs.Reduction.{IsBelow, IsRedundant, IsReduction, Covers}
 
 module _ {N E M F : Type 0} (g : Graph N E) (h : Graph M F) where
   -- the same nodes exist

@@ -3,7 +3,6 @@ use Rattle.daggy_base.proofs.Lists.{unique_from_distinct}
 use Rattle.daggy_search.specs.Work.{IsSized}
 use Rattle.daggy_reduction.proofs.PlacedNodes.{next_listed, next_few, list_whole, list_few}
 use Rattle.daggy_reduction.proofs.PlacedNodes.{listed_or_passed}
-use Rattle.daggy_reduction.proofs.roots.list_entered.Goals.{After-next}
 use Rattle.daggy_reduction.proofs.roots.list_entered.Goals as goal
 
 pub list_if_entered-len-requires-clause-low : goal.list_if_entered-len-requires-clause-low
