@@ -1,0 +1,112 @@
+//! Histories: calls of a dag that is empty at first, and of its model.
+use crate::answer::Answer;
+use crate::calls::Call;
+use crate::choosing::{Style, choose};
+use crate::comparing::{Difference, compare};
+use crate::dag::kinds::Kind;
+use crate::dag::{self, Ix, Numbers};
+use crate::judging::is_right;
+use crate::model::Model;
+use crate::random::Random;
+use crate::tally::Tally;
+use anyhow::Result;
+use daggy::NodeIndex;
+use std::alloc::Global;
+
+/// How a dag and its model disagree.
+#[derive(Drop)]
+pub enum Fault {
+    /// The answer of the model, and that of the dag.
+    Answer(Answer, Answer),
+    /// What differs after a call.
+    State(Difference),
+}
+
+/// A dag with its model.
+#[derive(Drop)]
+struct Pair<S: Kind> {
+    alloc: Global,
+    dag: Numbers<S>,
+    model: Model,
+    tally: Tally,
+}
+
+impl<S: Kind> Pair<S> {
+    fn new(alloc: Global) -> Self {
+        Pair {
+            alloc,
+            dag: Numbers::new(alloc),
+            model: Model::new(alloc, S::removal(), NodeIndex::<Ix>::end().index()),
+            tally: Tally::default(),
+        }
+    }
+
+    // Makes a call of both and compares the answers. If `compares`, it compares the dag and the model
+    // too.
+    fn step(&mut self, call: &Call, compares: bool) -> Result<Option<Fault>> {
+        let actual = match dag::answer(self.alloc, &mut self.dag, &self.model, call) {
+            Ok(answer) => answer,
+            Err(error) => Answer::Error(format!(in self.alloc; "{error:#}")?),
+        };
+        let expected = self.model.answer(call)?;
+        self.tally.count(call, &expected);
+        if !is_right(self.alloc, &self.model, call, &expected, &actual)? {
+            return Ok(Some(Fault::Answer(expected, actual)));
+        }
+        if compares {
+            let found = compare(self.alloc, &self.dag, &self.model)?;
+            return Ok(found.map(Fault::State));
+        }
+        Ok(None)
+    }
+}
+
+/// The result of a history.
+#[derive(Drop)]
+pub enum Played {
+    Agrees,
+    /// The last of these calls disagrees.
+    Disagrees(Vec<Call>),
+}
+
+/// Plays a random history of at most `most` calls, and adds them to the tally.
+pub fn play<S: Kind>(
+    alloc: Global,
+    random: &mut Random,
+    style: Style,
+    most: usize,
+    tally: &mut Tally,
+) -> Result<Played> {
+    let mut pair = Pair::<S>::new(alloc);
+    pair.tally = *tally;
+    let mut calls = Vec::new(alloc);
+    let length = 50usize.saturating_add(random.below(351)).min(most);
+    for left in (0..length).rev() {
+        let call = choose(alloc, random, &pair.model, style)?;
+        let compares = left == 0 || random.once_in(4);
+        let fault = pair.step(&call, compares)?;
+        calls.push(call)?;
+        if fault.is_some() {
+            return Ok(Played::Disagrees(calls));
+        }
+    }
+    *tally = pair.tally;
+    Ok(Played::Agrees)
+}
+
+/// Plays the calls that are kept, and returns the position of the first one that disagrees.
+pub fn replay<S: Kind>(
+    alloc: Global,
+    calls: &[Call],
+    kept: &[bool],
+) -> Result<Option<(usize, Fault)>> {
+    let mut pair = Pair::<S>::new(alloc);
+    for (i, (call, is_kept)) in calls.iter().zip(kept.iter()).enumerate() {
+        if *is_kept {
+            if let Some(fault) = pair.step(call, true)? {
+                return Ok(Some((i, fault)));
+            }
+        }
+    }
+    Ok(None)
+}
