@@ -85,7 +85,7 @@ impl<Ix: IndexType> Ready<Ix> {
     ///
     /// # Complexity
     ///
-    /// O(nodes + edges).
+    /// O(nodes + edges), vacant slots included.
     pub fn new<N: Drop, E: Drop, S>(
         alloc: Global,
         dag: &Acyclic<N, E, Ix, S>,
@@ -128,8 +128,8 @@ impl<Ix: IndexType> Ready<Ix> {
     /// Hands out the node that has been ready for longest, or returns `None` if none is ready: then
     /// some node that is out has to be done first, or all are done.
     ///
-    /// `dag` names the dag of which the nodes are worked off, for the contract. It is read only to have
-    /// the edges of the nodes that come next in the caches.
+    /// The contract says by `dag` of which dag the nodes are. It is read only to prefetch edges of the
+    /// next nodes.
     ///
     /// # Complexity
     ///

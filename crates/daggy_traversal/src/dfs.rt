@@ -183,8 +183,8 @@ fn push_cursor<Ix: IndexType, S: Store<Ix>>(
     }
 }
 
-// Moves the cursors on to the first neighbor that was not given, and gives it. Its cursor is last
-// then, if it has neighbors.
+// Advances the cursors to the first neighbor that was not given, and returns it. If it has neighbors
+// itself, its cursor is then the last one.
 fn advance<Ix: IndexType, S: Store<Ix>>(
     graph: &S,
     dir: Direction,
