@@ -1,8 +1,10 @@
 -- Walks breadth first.
-use Rattle.std.specs.Prelude.{◌≡◌, ℕ, ◌≤◌, ◌+◌, true, Option, List, [], ◌∷◌, ◌++◌, if◌then◌else◌}
+use Rattle.std.specs.Prelude.{◌≡◌, ℕ, ◌≤◌, ◌+◌, true, Option, IfNone, IfSome, List, [], ◌∷◌, ◌++◌, Contains}
+use Rattle.std.specs.Prelude.{if◌then◌else◌}
 use Rattle.daggy_base.specs.declared.index.Direction.{Direction}
 use Rattle.daggy_base.specs.Graph.{Graph, node_bound}
-use Rattle.daggy_traversal.specs.Traversal.{IsAway, neighbors_of, is_among, are_found, first_new, begin}
+use Rattle.daggy_traversal.specs.Traversal.{IsAway, IsStep, neighbors_of, is_among, are_found, first_new}
+use Rattle.daggy_traversal.specs.Traversal.{begin}
 
 -- A walk breadth first: the node that it starts from; its direction; the nodes that were given, in turn; those that were
 -- met and not given, the next one first; and a bound of the indices that it has room for.
@@ -34,3 +36,14 @@ pub record IsBreadthFirst {N E : Type 0} (g : Graph N E) (walk : Breadth) : Type
   pub met : walk.given ++ walk.waiting ≡ fresh [] (begin g walk.start ++ neighbors_of walk.dir g walk.given)
   pub found : are_found walk.dir g walk.start [] walk.given ≡ true
   pub room : node_bound g ≤ walk.bound
+
+-- A step of a walk yields the next node, and no given node is farther from the start. Where it yields nothing, the walk
+-- stays as it is.
+pub record IsBreadthStep {N E : Type 0} (g : Graph N E) (walk : Breadth) (node : Option ℕ) (walk' : Breadth)
+    : Type 0 where
+  pub step : IsStep walk.dir g walk.start walk.given node walk'.given
+  pub next : node ≡ next_in_breadth g walk.dir walk.start walk.given
+  pub distance : IfSome node (λ n. (m : ℕ) → Contains walk.given m → IsWithin g walk.dir walk.start 0 m n)
+  pub unchanged : IfNone node (walk' ≡ walk)
+  pub start : walk'.start ≡ walk.start
+  pub dir : walk'.dir ≡ walk.dir

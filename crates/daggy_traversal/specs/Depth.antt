@@ -3,7 +3,7 @@ use Rattle.std.specs.Prelude.{◌≡◌, ℕ, ◌≤◌, Bool, true, Option, Lis
 use Rattle.daggy_base.specs.declared.index.Direction.{Direction}
 use Rattle.daggy_base.specs.Graph.{Graph, HasNode, node_bound}
 use Rattle.daggy_traversal.specs.Traversal.{neighbors, neighbors_left, without_old, first_new, begin, are_distinct}
-use Rattle.daggy_traversal.specs.Traversal.{are_found}
+use Rattle.daggy_traversal.specs.Traversal.{are_found, IsStep}
 
 -- A walk depth first: the node that it starts from; its direction; the nodes that were given, in turn; whether the start
 -- is still to come; of each node on the way to the one given last, the edge to look at next; and a bound of the indices
@@ -40,3 +40,10 @@ pub record IsDepthFirst {N E : Type 0} (g : Graph N E) (walk : Depth) : Type 0 w
   pub first : walk.waits ≡ true → HasNode g walk.start × (walk.given ≡ []) × (walk.cursors ≡ [])
   pub few : length walk.cursors ≤ length walk.given
   pub room : node_bound g ≤ walk.bound
+
+-- a step of a walk yields the next node
+pub record IsDepthStep {N E : Type 0} (g : Graph N E) (walk : Depth) (node : Option ℕ) (walk' : Depth) : Type 0 where
+  pub step : IsStep walk.dir g walk.start walk.given node walk'.given
+  pub next : node ≡ next_in_depth g walk.dir walk.start walk.given
+  pub start : walk'.start ≡ walk.start
+  pub dir : walk'.dir ≡ walk.dir

@@ -2,3 +2,4 @@ pub mod Traversal
 pub mod Breadth
 pub mod Depth
 pub mod Postorder
+pub mod Fused

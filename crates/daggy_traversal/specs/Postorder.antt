@@ -1,10 +1,11 @@
 -- Walks depth first in postorder.
-use Rattle.std.specs.Prelude.{◌≡◌, ◌≢◌, ℕ, ◌≤◌, ◌==◌, ◌&&◌, Bool, true, Some, None, List, [], ◌∷◌, ◌++◌, map}
+use Rattle.std.specs.Prelude.{◌≡◌, ◌≢◌, ℕ, ◌≤◌, ◌==◌, ◌&&◌, ◌⊎◌, Bool, true, Option, Some, None, IfNone, IfSome, List, [], ◌∷◌}
+use Rattle.std.specs.Prelude.{◌++◌, map, Contains}
 use Rattle.daggy_base.specs.declared.index.Direction.{Direction}
 use Rattle.daggy_base.specs.Graph.{Graph, HasNode, node_bound}
-use Rattle.daggy_base.specs.Path.{end_of}
-use Rattle.daggy_traversal.specs.Traversal.{LeadsTo, neighbors, neighbors_left, without_old, first_new, is_among}
-use Rattle.daggy_traversal.specs.Traversal.{are_distinct}
+use Rattle.daggy_base.specs.Path.{end_of, IsAcyclic}
+use Rattle.daggy_traversal.specs.Traversal.{LeadsTo, LeadsFar, neighbors, neighbors_left, without_old, first_new, is_among}
+use Rattle.daggy_traversal.specs.Traversal.{are_distinct, IsStep}
 
 -- A walk in postorder: the node that it starts from; its direction; the nodes that were given, in turn; the path from the
 -- start to the node that was met last; of each node on it, the edge to look at next; and a bound of the indices that it
@@ -59,3 +60,16 @@ pub record IsPostorder {N E : Type 0} (g : Graph N E) (walk : Postorder) : Type 
   pub done : (u v : ℕ) → is_among walk.given u ≡ true → LeadsTo walk.dir g u v
       → is_among (walk.given ++ walk.path) v ≡ true
   pub room : node_bound g ≤ walk.bound
+
+-- A step of a walk goes down and yields a node. Each neighbor of that node was given or reaches it, so in an acyclic graph
+-- each was given. Where the step yields nothing, the walk stays as it is.
+pub record IsPostorderStep {N E : Type 0} (g : Graph N E) (walk : Postorder) (node : Option ℕ) (walk' : Postorder)
+    : Type 0 where
+  pub step : IsStep walk.dir g walk.start walk.given node walk'.given
+  pub next : IfSome node (λ n. GivesLast walk.dir g walk.given walk.path walk'.path n)
+  pub after : IfSome node (λ n.
+      (v : ℕ) → LeadsTo walk.dir g n v → Contains walk.given v ⊎ LeadsFar walk.dir g v n)
+  pub acyclic : IsAcyclic g → IfSome node (λ n. (v : ℕ) → LeadsTo walk.dir g n v → Contains walk.given v)
+  pub unchanged : IfNone node (walk' ≡ walk)
+  pub start : walk'.start ≡ walk.start
+  pub dir : walk'.dir ≡ walk.dir

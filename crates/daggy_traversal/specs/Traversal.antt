@@ -1,10 +1,10 @@
 -- Walks over all nodes that one node reaches, in a direction of the edges.
-use Rattle.std.specs.Prelude.{◌≡◌, ℕ, zero, suc, ◌==◌, ◌||◌, ◌&&◌, ◌↔◌, Bool, true, false, not, Option, Some, None, List, []}
-use Rattle.std.specs.Prelude.{◌∷◌, ◌++◌}
+use Rattle.std.specs.Prelude.{◌≡◌, ℕ, zero, suc, ◌==◌, ◌≤◌, ◌||◌, ◌&&◌, ◌↔◌, Bool, true, false, not, Option, Some, None, List}
+use Rattle.std.specs.Prelude.{[], ◌∷◌, ◌++◌, length, IsNone, IfNone, IfSome}
 use Rattle.std.specs.Prelude.{map, filter, is_some, Contains, if◌then◌else◌}
 use Rattle.daggy_base.specs.declared.index.Direction.{Direction}
 use Rattle.daggy_base.specs.declared.index.Direction.TheVariants.{Outgoing, Incoming}
-use Rattle.daggy_base.specs.Graph.{Graph, Edge, HasNode, node_weight, edge_at, list_at, near_end, far_end}
+use Rattle.daggy_base.specs.Graph.{Graph, Edge, HasNode, node_weight, node_bound, edge_at, list_at, near_end, far_end}
 use Rattle.daggy_base.specs.Path.{AreJoined, Reaches}
 use Rattle.daggy_base.specs.Cursor.{after}
 use Rattle.daggy_base.specs.WellFormed.{AreDistinct}
@@ -90,6 +90,17 @@ are_found dir g start given (x ∷ xs) =
 -- all nodes that the start reaches were given
 abbrev pub AreAllGiven : {N E : Type 0} → Graph N E → Direction → (start : ℕ) (given : List ℕ) → Type 0
 AreAllGiven g dir start given = (n : ℕ) → LeadsFar dir g start n → Contains given n
+
+-- A step of a walk from a start, after the given nodes. It yields a node that the start reaches and that was not given,
+-- which is then the last given one, or nothing if and only if all were given.
+pub record IsStep {N E : Type 0} (dir : Direction) (g : Graph N E) (start : ℕ) (given : List ℕ) (node : Option ℕ)
+    (given' : List ℕ) : Type 0 where
+  pub none : IsNone node ↔ AreAllGiven g dir start given
+  pub reached : IfSome node (λ n. LeadsFar dir g start n)
+  pub once : IfSome node (λ n. ¬ Contains given n)
+  pub grown : IfSome node (λ n. given' ≡ given ++ n ∷ [])
+  pub kept : IfNone node (given' ≡ given)
+  pub few : length given' ≤ node_bound g
 
 -- the set has the nodes of the list, each of which is there once
 pub record AreMarked (set : List Bool) (nodes : List ℕ) : Type 0 where

@@ -1,10 +1,11 @@
 //! Walking breadth first.
-ghost use Rattle.std.specs.Prelude.{◌≡◌, ℕ, ◌≤◌, ◌↔◌, ◌∷◌, ◌++◌, [], length, vec_capacity, Contains};
+ghost use Rattle.std.specs.Prelude.{◌≡◌, ℕ, ◌-◌, ◌≤◌, ◌↔◌, ◌∷◌, ◌++◌, [], length, vec_capacity, Contains};
 ghost use Rattle.std.specs.Prelude.{IsNone, IfNone, IfSome, IfOk};
+ghost use Rattle.std.specs.Iterator.{at_most};
 ghost use Rattle.std.specs.Option.{option_map};
 ghost use Rattle.daggy_base.specs.Graph.{node_bound};
 ghost use Rattle.daggy_traversal.specs.Traversal.{LeadsFar, neighbors, AreAllGiven, AreMarked};
-ghost use Rattle.daggy_traversal.specs.Breadth.{IsBreadthFirst, IsWithin};
+ghost use Rattle.daggy_traversal.specs.Breadth.{IsBreadthFirst, IsBreadthStep, IsWithin};
 ghost use Rattle.daggy_traversal.specs.Breadth.{next_in_breadth, fresh};
 
 use crate::neighbors::next_neighbor;
@@ -12,6 +13,7 @@ use daggy_base::index::{DefaultIx, Direction, IndexType, NodeIndex};
 use daggy_base::link::Link;
 use daggy_base::store::Store;
 use daggy_walk::visit::NodeSet;
+use daggy_walk::walker::{FiniteWalker, FusedWalker, Walker};
 use std::alloc::{AllocError, Global};
 use std::fmt;
 use std::marker::Model;
@@ -19,7 +21,8 @@ use std::marker::Model;
 /// The nodes that a node reaches, breadth first: a node that fewer edges lead to comes earlier.
 ///
 /// It does not borrow the graph; each step borrows it for that step. Until the walk ends, no node
-/// and no edge may be added or removed.
+/// and no edge may be added or removed. With [`iter`](Walker::iter) it walks on as an iterator,
+/// which borrows the graph.
 ///
 /// The calls say that the walk on this graph is under way, and ask for that. A struct that keeps
 /// both states it once, as `ghost under_way: { IsBreadthFirst (S.graph graph.now) walk }`.
@@ -43,10 +46,8 @@ use std::marker::Model;
 /// let mut walk = Bfs::new(rt.alloc(), dag.graph(), sow, Direction::Outgoing)?;
 /// assert!(rt; walk.next(dag.graph()) == Some(sow));
 /// assert!(rt; walk.next(dag.graph()) == Some(water));
-/// assert!(rt; walk.next(dag.graph()) == Some(hoe));
-/// assert!(rt; walk.next(dag.graph()) == Some(reap));
-/// assert!(rt; walk.next(dag.graph()) == Some(eat));
-/// assert!(rt; walk.next(dag.graph()).is_none());
+/// let rest: Vec<_> = walk.iter(dag.graph()).collect(rt.alloc())?;
+/// assert!(rt; rest.as_slice() == [hoe, reap, eat].as_slice());
 /// ```
 #[derive(Drop)]
 pub struct Bfs<Ix: IndexType = DefaultIx> {
@@ -150,6 +151,31 @@ impl<Ix: IndexType> Bfs<Ix> {
         meet_neighbors(graph, self.dir, n, &mut self.queue, &mut self.met);
         Some(n)
     }
+}
+
+impl<Ix: IndexType, S: Store<Ix>> Walker<S> for Bfs<Ix> {
+    type Item = NodeIndex<Ix>;
+
+    ghost can_walk = { λ w g. IsBreadthFirst (S.graph g) w };
+
+    ghost walk_gives = { λ w g r v. IsBreadthStep (S.graph g) w (option_map Ix.number r) v };
+
+    ghost items_left = { λ w g. at_most (node_bound (S.graph g) - length w.given) };
+
+    #[inline]
+    fn walk_next(&mut self, graph: &S) -> Option<NodeIndex<Ix>> {
+        self.next(graph)
+    }
+}
+
+impl<Ix: IndexType, S: Store<Ix>> FiniteWalker<S> for Bfs<Ix> {
+    ghost ends = { λ w g. tt };
+}
+
+impl<Ix: IndexType, S: Store<Ix>> FusedWalker<S> for Bfs<Ix> {
+    ghost use Rattle.daggy_traversal.specs.Fused.{step_rests};
+
+    ghost rests = { λ g w t u r a b. step_rests Ix.number r a.dir a.start a.step b.step };
 }
 
 // Queues the neighbors of a node that were not met.

@@ -1,11 +1,12 @@
 //! Walking depth first.
-ghost use Rattle.std.specs.Prelude.{◌≡◌, ℕ, ◌+◌, ◌<◌, ◌≤◌, ◌↔◌, ◌∷◌, ◌++◌, [], length, vec_capacity, Contains};
+ghost use Rattle.std.specs.Prelude.{◌≡◌, ℕ, ◌-◌, ◌+◌, ◌<◌, ◌≤◌, ◌↔◌, ◌∷◌, ◌++◌, [], length, vec_capacity, Contains};
 ghost use Rattle.std.specs.Prelude.{IsNone, IfNone, IfSome, IfOk};
+ghost use Rattle.std.specs.Iterator.{at_most};
 ghost use Rattle.std.specs.Option.{option_map};
 ghost use Rattle.daggy_base.specs.Graph.{HasNode, node_bound};
 ghost use Rattle.daggy_traversal.specs.Traversal.{LeadsFar, neighbors, AreAllGiven, AreMarked};
 ghost use Rattle.daggy_traversal.specs.Traversal.{first_new, without_old, neighbors_left};
-ghost use Rattle.daggy_traversal.specs.Depth.{IsDepthFirst, next_in_depth, ahead};
+ghost use Rattle.daggy_traversal.specs.Depth.{IsDepthFirst, IsDepthStep, next_in_depth, ahead};
 
 use crate::given::Given;
 use crate::neighbors::next_new;
@@ -13,6 +14,7 @@ use daggy_base::index::{DefaultIx, Direction, EdgeIndex, IndexType, NodeIndex};
 use daggy_base::link::Link;
 use daggy_base::store::Store;
 use daggy_walk::visit::NodeSet;
+use daggy_walk::walker::{FiniteWalker, FusedWalker, Walker};
 use std::alloc::{AllocError, Global};
 use std::fmt;
 use std::marker::Model;
@@ -21,7 +23,8 @@ use std::marker::Model;
 /// are reached through it.
 ///
 /// It does not borrow the graph; each step borrows it for that step. Until the walk ends, no node
-/// and no edge may be added or removed.
+/// and no edge may be added or removed. With [`iter`](Walker::iter) it walks on as an iterator,
+/// which borrows the graph.
 ///
 /// The calls say that the walk on this graph is under way, and ask for that. A struct that keeps
 /// both states it once, as `ghost under_way: { IsDepthFirst (S.graph graph.now) walk }`.
@@ -160,6 +163,31 @@ impl<Ix: IndexType> Dfs<Ix> {
             &mut self.given,
         )
     }
+}
+
+impl<Ix: IndexType, S: Store<Ix>> Walker<S> for Dfs<Ix> {
+    type Item = NodeIndex<Ix>;
+
+    ghost can_walk = { λ w g. IsDepthFirst (S.graph g) w };
+
+    ghost walk_gives = { λ w g r v. IsDepthStep (S.graph g) w (option_map Ix.number r) v };
+
+    ghost items_left = { λ w g. at_most (node_bound (S.graph g) - length w.given) };
+
+    #[inline]
+    fn walk_next(&mut self, graph: &S) -> Option<NodeIndex<Ix>> {
+        self.next(graph)
+    }
+}
+
+impl<Ix: IndexType, S: Store<Ix>> FiniteWalker<S> for Dfs<Ix> {
+    ghost ends = { λ w g. tt };
+}
+
+impl<Ix: IndexType, S: Store<Ix>> FusedWalker<S> for Dfs<Ix> {
+    ghost use Rattle.daggy_traversal.specs.Fused.{step_rests};
+
+    ghost rests = { λ g w t u r a b. step_rests Ix.number r a.dir a.start a.step b.step };
 }
 
 // Adds a cursor at the edge `e`, unless the list is at its end there.

@@ -1,10 +1,12 @@
 //! Walking depth first, in postorder.
-ghost use Rattle.std.specs.Prelude.{◌≡◌, ℕ, ◌≤◌, ◌↔◌, ◌⊎◌, ◌∷◌, ◌++◌, [], length, vec_capacity};
+ghost use Rattle.std.specs.Prelude.{◌≡◌, ℕ, ◌-◌, ◌≤◌, ◌↔◌, ◌⊎◌, ◌∷◌, ◌++◌, [], length, vec_capacity};
 ghost use Rattle.std.specs.Prelude.{IsNone, IfNone, IfSome, IfOk, Contains};
+ghost use Rattle.std.specs.Iterator.{at_most};
+ghost use Rattle.std.specs.Option.{option_map};
 ghost use Rattle.daggy_base.specs.Graph.{node_bound};
 ghost use Rattle.daggy_base.specs.Path.{IsAcyclic};
 ghost use Rattle.daggy_traversal.specs.Traversal.{LeadsTo, LeadsFar, AreAllGiven, AreMarked, begin};
-ghost use Rattle.daggy_traversal.specs.Postorder.{IsPostorder, GivesLast, AreLeft};
+ghost use Rattle.daggy_traversal.specs.Postorder.{IsPostorder, IsPostorderStep, GivesLast, AreLeft};
 
 use crate::given::Given;
 use crate::neighbors::next_new;
@@ -12,6 +14,7 @@ use daggy_base::index::{DefaultIx, Direction, IndexType, NodeIndex};
 use daggy_base::link::Link;
 use daggy_base::store::Store;
 use daggy_walk::visit::NodeSet;
+use daggy_walk::walker::{FiniteWalker, FusedWalker, Walker};
 use std::alloc::{AllocError, Global};
 use std::fmt;
 use std::marker::Model;
@@ -20,7 +23,8 @@ use std::marker::Model;
 /// neighbors, except for those that lead back to it.
 ///
 /// It does not borrow the graph; each step borrows it for that step. Until the walk ends, no node
-/// and no edge may be added or removed.
+/// and no edge may be added or removed. With [`iter`](Walker::iter) it walks on as an iterator,
+/// which borrows the graph.
 ///
 /// The calls say that the walk on this graph is under way, and ask for that. A struct that keeps
 /// both states it once, as `ghost under_way: { IsPostorder (S.graph graph.now) walk }`.
@@ -166,6 +170,31 @@ impl<Ix: IndexType> DfsPostOrder<Ix> {
             &mut self.given,
         )
     }
+}
+
+impl<Ix: IndexType, S: Store<Ix>> Walker<S> for DfsPostOrder<Ix> {
+    type Item = NodeIndex<Ix>;
+
+    ghost can_walk = { λ w g. IsPostorder (S.graph g) w };
+
+    ghost walk_gives = { λ w g r v. IsPostorderStep (S.graph g) w (option_map Ix.number r) v };
+
+    ghost items_left = { λ w g. at_most (node_bound (S.graph g) - length w.given) };
+
+    #[inline]
+    fn walk_next(&mut self, graph: &S) -> Option<NodeIndex<Ix>> {
+        self.next(graph)
+    }
+}
+
+impl<Ix: IndexType, S: Store<Ix>> FiniteWalker<S> for DfsPostOrder<Ix> {
+    ghost ends = { λ w g. tt };
+}
+
+impl<Ix: IndexType, S: Store<Ix>> FusedWalker<S> for DfsPostOrder<Ix> {
+    ghost use Rattle.daggy_traversal.specs.Fused.{step_rests};
+
+    ghost rests = { λ g w t u r a b. step_rests Ix.number r a.dir a.start a.step b.step };
 }
 
 // Goes down to a node all of whose neighbors were met, and gives it.
