@@ -1,12 +1,12 @@
 //! Dags that are reduced.
 use crate::builds::build;
 use crate::figures::{Figures, median, since};
-use crate::graph::{Kind, node};
+use crate::graph::{Graph, Kind, node};
 use crate::inputs::{
     Layers, Pairs, Sizes, chain_pairs, complete_pairs, diamond_pairs, layered_pairs, local_pairs,
     low_high_pairs,
 };
-use daggy::NodeIndex;
+use daggy::{Dag, NodeIndex, same_reachability};
 use std::alloc::{AllocError, Global};
 use std::io;
 use std::rt::CpuClock;
@@ -98,6 +98,21 @@ pub fn close<G: Kind, R: AllocGlobal + CpuClock>(rt: &R, sizes: Sizes) -> io::Re
         let last = dag.closed(0, sizes.nodes.saturating_sub(1))?;
         let time = since(rt, start)?;
         let check = u64::from(last);
+        Ok(Figures { time, check })
+    })
+}
+
+/// Comparing the reachability of a random compact dag with that of its reduction.
+pub fn compare<R: AllocGlobal + CpuClock>(rt: &R, sizes: Sizes) -> io::Result<Figures> {
+    let pairs = low_high_pairs(rt.alloc(), sizes)?;
+    let dag = build::<Dag<i64, i64, u32>>(rt.alloc(), sizes.nodes, pairs.as_slice())?;
+    let mut reduced = dag.copy()?;
+    reduced.reduce(first_nodes(rt.alloc(), sizes.nodes)?)?;
+    median(rt.alloc(), sizes.reps, || {
+        let start = rt.process_cpu_time()?;
+        let same = same_reachability(&dag, &reduced)?;
+        let time = since(rt, start)?;
+        let check = u64::from(same);
         Ok(Figures { time, check })
     })
 }

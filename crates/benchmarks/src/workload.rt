@@ -10,7 +10,7 @@ use crate::inputs::Sizes;
 use crate::plans::plan_stages;
 use crate::questions::{Question, ask};
 use crate::readings::{Reading, copy, map_weights, read};
-use crate::reductions::{Shape, close, reduce_all, reduce_layers};
+use crate::reductions::{Shape, close, compare, reduce_all, reduce_layers};
 use crate::removals::{Part, remove};
 use crate::schedules::{Listing, list, schedule};
 use crate::small::{Life, many};
@@ -38,6 +38,7 @@ pub enum Workload {
     ReduceLayers,
     Reduce(Shape),
     Close,
+    Compare,
     Churn,
     Plan,
     JsonWrite,
@@ -78,6 +79,7 @@ impl Workload {
             "reduce_complete" => Some(Workload::Reduce(Shape::Complete)),
             "reduce_diamonds" => Some(Workload::Reduce(Shape::Diamonds)),
             "close" => Some(Workload::Close),
+            "compare" => Some(Workload::Compare),
             "churn" => Some(Workload::Churn),
             "plan" => Some(Workload::Plan),
             "json_write" => Some(Workload::JsonWrite),
@@ -129,6 +131,7 @@ impl Workload {
             Workload::ReduceLayers => reduce_layers::<G, R>(rt, sizes),
             Workload::Reduce(shape) => reduce_all::<G, R>(rt, shape, sizes),
             Workload::Close => close::<G, R>(rt, sizes),
+            Workload::Compare => compare::<R>(rt, sizes),
             Workload::Churn => come_and_go::<G, R>(rt, sizes),
             Workload::Plan => plan_stages::<G, R>(rt, sizes),
             Workload::JsonWrite => json_write::<G, R>(rt, sizes),

@@ -1,23 +1,25 @@
 //! Random numbers that any run can repeat.
 ghost use Rattle.std.specs.Prelude.{◌<◌};
 
-/// The generator splitmix64.
+use rand_core::{Rng, SeedableRng};
+use rand_xoshiro::SplitMix64;
+
+/// A generator of random numbers.
 #[derive(Drop)]
 pub struct Random {
-    state: u64,
+    generator: SplitMix64,
 }
 
 impl Random {
     pub fn new(seed: u64) -> Random {
-        Random { state: seed }
+        Random {
+            generator: SplitMix64::seed_from_u64(seed),
+        }
     }
 
+    #[inline]
     pub fn next(&mut self) -> u64 {
-        self.state = self.state.wrapping_add(0x9e37_79b9_7f4a_7c15);
-        let mut z = self.state;
-        z = (z ^ (z >> 30)).wrapping_mul(0xbf58_476d_1ce4_e5b9);
-        z = (z ^ (z >> 27)).wrapping_mul(0x94d0_49bb_1331_11eb);
-        z ^ (z >> 31)
+        self.generator.next_u64()
     }
 
     /// A number below `n`, or 0 if `n` is 0.
