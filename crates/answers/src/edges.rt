@@ -1,8 +1,6 @@
 //! The edges of a dag.
-ghost use Rattle.std.specs.Prelude.{◌≡◌, map, IfOk, IsPermutation};
-ghost use Rattle.std.specs.List.Sorted.{IsSorted};
-ghost use Rattle.daggy_base.specs.State.{State};
-ghost use Rattle.answers.specs.Answers.{endpoints_of};
+ghost use Rattle.std.specs.Prelude.{◌≡◌, IfOk, IsPermutation};
+ghost use Rattle.answers.specs.Answers.{endpoints_of, AreAscending};
 
 use daggy::{Acyclic, EdgeIndex, IndexType, Store};
 use std::alloc::{AllocError, Global};
@@ -32,7 +30,8 @@ pub fn sorted_endpoints<
     Ix: IndexType,
     S: Store<Ix, NodeWeight = N, EdgeWeight = E>,
 >(alloc: Global, dag: &Acyclic<N, E, Ix, S>) -> Result<Vec<(usize, usize)>, AllocError>
-    ensures { IfOk result (λ pairs. IsPermutation (endpoints_of dag.now.graph) pairs.items) }
+    ensures all { IfOk result (λ pairs. IsPermutation (endpoints_of dag.now.graph) pairs.items) }
+    ensures ascending { IfOk result (λ pairs. AreAscending pairs.items) }
 {
     let mut pairs = endpoints(alloc, dag)?;
     pairs.sort()?;

@@ -40,6 +40,7 @@ pub use Rattle.daggy_reduction.specs.Descendants
 pub use Rattle.daggy_search.specs.Room
 pub use Rattle.daggy_search.specs.Reversed
 pub use Rattle.daggy_order.specs.Paths
+pub use Rattle.daggy_dag.specs.Recomputing
 pub use Rattle.daggy_dag.specs.Retaining
 pub use Rattle.daggy_dag.specs.EdgePaths
 pub use Rattle.daggy_dag.specs.Connecting

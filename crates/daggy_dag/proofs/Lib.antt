@@ -2,6 +2,7 @@ pub mod OrderWithWeights
 pub mod OrderKept
 pub mod Externals
 pub mod Mapped
+pub mod Recomputed
 pub mod Rewritten
 pub mod Filtered
 pub mod KeptInPlace

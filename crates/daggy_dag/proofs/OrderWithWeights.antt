@@ -20,7 +20,7 @@ bound_written (None ∷ xs) zero w there = absurd (false≢true there)
 bound_written (Some x ∷ xs) zero w there = step_written w x (bound_of xs)
 bound_written (x ∷ xs) (suc n) w there = ap (bound_step x) (bound_written xs n w there)
 
-still_there : {A : Type 0} (xs : List (Option A)) (a b : ℕ) (v : A)
+pub still_there : {A : Type 0} (xs : List (Option A)) (a b : ℕ) (v : A)
     → IsSome (slot xs b) → IsSome (slot (set xs a (Some v)) b)
 still_there [] a b v there = absurd (false≢true there)
 still_there (x ∷ xs) zero zero v there = refl

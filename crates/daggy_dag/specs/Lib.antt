@@ -3,6 +3,7 @@ pub mod Slots
 pub mod Cursors
 pub mod Walks
 pub mod SlottedCells
+pub mod Recomputing
 pub mod Retaining
 pub mod EdgePaths
 pub mod Connecting

@@ -49,6 +49,7 @@ mod graph;
 mod many_edges;
 mod parents;
 mod paths;
+mod recomputing;
 mod recursive;
 mod reduction;
 mod retain;

@@ -12,6 +12,7 @@ pub mod FilledMatrix
 pub mod PackedSort
 pub mod StandingAfterEdge
 pub mod WalkedEdges
+pub mod ListCursors
 pub mod ParentsAsked
 pub mod KeptBefore
 pub mod ParentsInTurn

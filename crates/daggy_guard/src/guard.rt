@@ -19,6 +19,7 @@ ghost use Rattle.daggy_base.specs.declared.error.EdgeError.TheVariants.{WouldCyc
 ghost use Rattle.daggy_base.specs.declared.error.EdgeError.TheVariants.{Memory as EdgeMemory};
 ghost use Rattle.daggy_base.specs.declared.error.ChildError.TheVariants.{Memory as ChildMemory};
 
+use crate::prefetch::{PREFETCH_FROM, touch_neighbors};
 use crate::walk::step;
 use daggy_base::error::{ChildError, EdgeError, NodeError, WouldCycle};
 use daggy_base::index::{Direction, EdgeIndex, IndexType, NodeIndex};
@@ -274,10 +275,6 @@ impl<Ix: IndexType, S: Store<Ix>> Guarded<Ix, S> {
     }
 }
 
-// The number of edges from which on a graph is expected not to fit the second-level cache, so that a
-// prefetch pays.
-const PREFETCH_FROM: usize = 1 << 15;
-
 // Puts a new node last in an order if edges will lead to it, or first if they will leave it.
 #[inline]
 fn put<Ix: IndexType>(
@@ -483,30 +480,4 @@ fn take_out<Ix: IndexType>(order: &mut Order<Ix>, n: NodeIndex<Ix>, last: usize,
     if moved && n.index() != last {
         order.rename(NodeIndex::new(last), n);
     }
-}
-
-// Reads where the list of each neighbor of a node begins. The answer is always true.
-//
-// This is a prefetch. A removal of these edges reads the same list heads, and each read waits for
-// the removal before it; here reads at different neighbors overlap, and wait only for the walk
-// along the node's own list. The compiler does not know the answer, so it keeps the reads.
-#[inline]
-fn touch_neighbors<Ix: IndexType, S: Store<Ix>>(store: &S, n: NodeIndex<Ix>, dir: Direction) -> bool
-    ensures { IsTrue result }
-{
-    store.invariant();
-    let mut cursor = store.first_edge(n, dir);
-    'edges: for _i in 0..store.edge_slots() {
-        let Some((_e, far)) = step(store, dir, &mut cursor) else {
-            return true;
-        };
-        let mut first = store.first_edge(far, dir.opposite());
-        let Some((_first, same)) = step(store, dir, &mut first) else {
-            return false;
-        };
-        if same.index() != far.index() {
-            return false;
-        }
-    }
-    true
 }

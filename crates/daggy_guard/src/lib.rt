@@ -11,4 +11,6 @@ pub mod matrix;
 mod packed;
 pub mod parents;
 pub mod paths;
+#[doc(hidden)]
+pub mod prefetch;
 pub mod walk;

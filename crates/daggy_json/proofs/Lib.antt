@@ -3,7 +3,6 @@ pub mod PassedTokens
 pub mod TokenTrees
 pub mod ValueTokens
 pub mod NumberedSlots
-pub mod ListCursors
 pub mod WrittenLists
 pub mod Parts
 pub mod WrittenTokens

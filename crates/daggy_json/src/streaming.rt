@@ -12,6 +12,7 @@ use crate::text::TextWriter;
 use crate::values::write_weight;
 use daggy_base::index::{Direction, EdgeIndex, IndexType, NodeIndex};
 use daggy_base::store::Store;
+use daggy_guard::prefetch::touch_list;
 use json::Token;
 use serde_json::Value;
 use std::alloc::AllocError;
@@ -145,35 +146,15 @@ fn stream_row<W: Write, Ix: IndexType, S: Store<Ix>>(
     out.token(Token::EndArray);
 }
 
-// Walks along a list of a node. The answer is always true.
-#[inline]
-fn touch_list<Ix: IndexType, S: Store<Ix>>(store: &S, n: NodeIndex<Ix>, dir: Direction) -> bool
-    ensures { IsTrue result }
-{
-    store.invariant();
-    let end = EdgeIndex::<Ix>::end().index();
-    let mut e = store.first_edge(n, dir);
-    'edges: while e.index() != end {
-        if !store.contains_edge(e) {
-            return false;
-        }
-        e = store.next_edge(e, dir);
-    }
-    true
-}
-
-// Walks along the lists of the nodes from `from` up to `to`. The answer is always true.
-//
-// This is a prefetch. A walk along one list waits for each edge before the next; here the walks
-// along many lists overlap. The compiler does not know the answer, so it keeps them.
+// Walks along the lists of the nodes from `from` up to `to`, a prefetch. The answer is always true.
 fn touch_lists<Ix: IndexType, S: Store<Ix>>(store: &S, from: usize, to: usize) -> bool
     requires { to ≤ Ix.greatest }
     ensures { IsTrue result }
 {
     for i in from..to {
         let n = NodeIndex::new(i);
-        if !touch_list(store, n, Direction::Outgoing)
-            || !touch_list(store, n, Direction::Incoming)
+        if !touch_list(store, n, Direction::Outgoing, usize::MAX)
+            || !touch_list(store, n, Direction::Incoming, usize::MAX)
         {
             return false;
         }

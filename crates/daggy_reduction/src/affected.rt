@@ -84,7 +84,7 @@ fn front_nodes<Ix: IndexType>(
 ///
 /// # Errors
 ///
-/// Returns `AllocError` if the memory for the list cannot be allocated.
+/// Returns `AllocError` if an allocation fails.
 ///
 /// # Complexity
 ///
@@ -112,7 +112,7 @@ pub fn affected<Ix: IndexType, S: EdgeSource<Ix>>(
     let _bound = source.node_bound();
     let count = queue_below(source, nodes, &mut scratch.work);
     let mut found = front_nodes(alloc, &scratch.work, count)?;
-    order.sort_by_place(found.as_mut_slice());
+    order.sort_by_place(alloc, found.as_mut_slice())?;
     Ok(found)
 }
 
@@ -121,8 +121,7 @@ pub fn affected<Ix: IndexType, S: EdgeSource<Ix>>(
 ///
 /// # Errors
 ///
-/// Returns `AllocError` if the memory for the list, or for the children of `nodes`, cannot be
-/// allocated.
+/// Returns `AllocError` if an allocation fails.
 ///
 /// # Complexity
 ///

@@ -125,11 +125,5 @@ module _ {N E : Type 0} {end : ℕ} {g : Graph N E} (w : IsWellFormed end g) {n 
                 ];
           }
 
-    -- whatever the edge is
-    pub passing_any : (next : ℕ) → next ≡ cursor_after Outgoing end g e (edge_at g e)
-        → Passing end g n next (λ v. Unit {0})
-    passing_any next is =
-        passing_on (sym (ap (option_map ends_of) edge.1)) next is (λ v. Unit {0}) (λ v p. tt) tt
-
 pub ends_at : {o : Option (ℕ × ℕ)} {p c i : ℕ} → Some (p, c) ≡ o → i ≡ c → Some (p, i) ≡ o
 ends_at {o} {p} {c} {i} is same = ap (λ z. Some (p, z)) same ∙ is

@@ -11,6 +11,7 @@ use daggy_base::index::{DefaultIx, Direction, EdgeIndex, IndexType, NodeIndex};
 use daggy_base::link::Link;
 use daggy_base::store::Store;
 use daggy_dag::acyclic::Acyclic;
+use daggy_guard::prefetch::{PREFETCH_FROM, touch_list};
 use std::alloc::{AllocError, Global};
 use std::marker::Model;
 
@@ -213,10 +214,6 @@ impl<Ix: IndexType> Ready<Ix> {
     }
 }
 
-// The number of edges from which on a graph is expected not to fit the second-level cache, so that a
-// prefetch pays.
-const PREFETCH_FROM: usize = 1 << 15;
-
 // How many of the nodes that come next are prefetched.
 const AHEAD: usize = 4;
 
@@ -244,39 +241,16 @@ fn count_parents<Ix: IndexType, S: Store<Ix>>(
     Ok(counts)
 }
 
-// Reads up to `count` edges of the list of a node. The answer is always true.
-#[inline]
-fn touch_list<Ix: IndexType, S: Store<Ix>>(store: &S, n: NodeIndex<Ix>, count: usize) -> bool
-    ensures { IsTrue result }
-{
-    store.invariant();
-    let end = EdgeIndex::<Ix>::end().index();
-    let mut e = store.first_edge(n, Direction::Outgoing);
-    'edges: for _i in 0..count {
-        if e.index() == end {
-            return true;
-        }
-        if !store.contains_edge(e) {
-            return false;
-        }
-        e = store.next_edge(e, Direction::Outgoing);
-    }
-    e.index() == end || store.contains_edge(e)
-}
-
-// Reads the first edges of the nodes that come next, the more of a node the sooner it comes. The
-// answer is always true.
-//
-// This is a prefetch. A walk along a list waits for each edge before the next; here one more edge of
-// each of several lists is read at a time, and these reads overlap. The compiler does not know the
-// answer, so it keeps them. Out of line, so that small graphs need not save registers for it.
+// Reads the first edges of the nodes that come next, the more of a node the sooner it comes: a
+// prefetch. The answer is always true. Out of line, so that small graphs need not save registers for
+// it.
 #[cold]
 #[inline(never)]
 fn touch_lists<Ix: IndexType, S: Store<Ix>>(store: &S, queue: &[Link<Ix>]) -> bool
     ensures { IsTrue result }
 {
     for k in 0..AHEAD.min(queue.len()) {
-        if !touch_list(store, queue[k].node(), AHEAD - k) {
+        if !touch_list(store, queue[k].node(), Direction::Outgoing, AHEAD - k) {
             return false;
         }
     }

@@ -31,3 +31,10 @@ pub fn add_weights<E: Drop>(dag: &mut StableDag<u32, E>, table: &[u32])
 {
     dag.update_node_weights(|n, weight| *weight = weight.wrapping_add(table[n.index()]));
 }
+
+/// Gives each node its entry in a table.
+pub fn take_weights<E: Drop>(dag: &mut Dag<u32, E>, table: &[u32])
+    requires { node_bound dag.old.graph ≤ length table.now }
+{
+    dag.recompute(|_, n| table[n.index()]);
+}

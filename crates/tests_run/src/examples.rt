@@ -143,6 +143,26 @@ fn topological_order(rt: HostRuntime) -> Result<(), Fail> {
 }
 
 #[test]
+fn recompute(rt: HostRuntime) -> Result<(), Fail> {
+    let mut dag: Dag<u32, ()> = Dag::new(rt.alloc());
+    let sow = dag.add_node(0)?;
+    let (_, hoe) = dag.add_child(sow, (), 0)?;
+    let (_, reap) = dag.add_child(hoe, (), 0)?;
+    dag.add_edge(sow, reap, ())?;
+    // How many edges the longest path to each node has.
+    dag.recompute(|graph, n| {
+        let mut depth = 0u32;
+        for parent in graph.neighbors_directed(n, Direction::Incoming) {
+            let above = graph.node_weight(parent).copied().unwrap_or(0);
+            depth = depth.max(above.saturating_add(1));
+        }
+        depth
+    });
+    assert!(rt; dag.node_weight(reap) == Some(&2));
+    Ok(())
+}
+
+#[test]
 fn transitive_reduce(rt: HostRuntime) -> Result<(), Fail> {
     let mut dag: Dag<&'static str, u32> = Dag::new(rt.alloc());
     let sow = dag.add_node("sow")?;
@@ -341,10 +361,8 @@ fn breadth_first(rt: HostRuntime) -> Result<(), Fail> {
     let mut walk = Bfs::new(rt.alloc(), dag.graph(), sow, Direction::Outgoing)?;
     assert!(rt; walk.next(dag.graph()) == Some(sow));
     assert!(rt; walk.next(dag.graph()) == Some(water));
-    assert!(rt; walk.next(dag.graph()) == Some(hoe));
-    assert!(rt; walk.next(dag.graph()) == Some(reap));
-    assert!(rt; walk.next(dag.graph()) == Some(eat));
-    assert!(rt; walk.next(dag.graph()).is_none());
+    let rest: Vec<_> = walk.iter(dag.graph()).collect(rt.alloc())?;
+    assert!(rt; rest.as_slice() == [hoe, reap, eat].as_slice());
     Ok(())
 }
 

@@ -4,7 +4,7 @@
 use daggy::dot::Dot;
 use daggy::json::write_json;
 use daggy::run::plan;
-use daggy::{Dag, StableDag, Walker};
+use daggy::{Dag, Direction, StableDag, Walker};
 use serde_json::Value;
 use std::alloc::AllocError;
 use std::io::{BufWriter, Write};
@@ -86,21 +86,14 @@ fn weights_in_order(rt: HostRuntime) -> Result<(), Fail> {
     let sow = dag.add_node(0)?;
     let (_, hoe) = dag.add_child(sow, 30, 0)?;
     let (_, reap) = dag.add_child(hoe, 60, 0)?;
-    let mut nodes = Vec::new(rt.alloc());
-    for n in dag.topological_order() {
-        nodes.push(n)?;
-    }
-    for n in nodes {
-        let mut start = 0;
-        for (days, parent) in dag.parents(n).iter(&dag) {
-            if let (Some(begun), Some(days)) = (dag.node_weight(parent), dag.edge_weight(days)) {
-                start = start.max(begun.saturating_add(*days));
-            }
+    dag.recompute(|graph, n| {
+        let mut start = 0u32;
+        for edge in graph.edges_directed(n, Direction::Incoming) {
+            let begun = graph.node_weight(edge.source()).copied().unwrap_or(0);
+            start = start.max(begun.saturating_add(*edge.weight()));
         }
-        if let Some(weight) = dag.node_weight_mut(n) {
-            *weight = start;
-        }
-    }
+        start
+    });
     assert!(rt; dag.node_weight(reap) == Some(&90));
     Ok(())
 }

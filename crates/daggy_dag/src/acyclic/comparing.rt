@@ -48,7 +48,8 @@ fn reduced_shape<N: Drop, E: Drop, Ix: IndexType>(
 ///
 /// # Complexity
 ///
-/// One search for each node of both dags.
+/// That of two copies and their reductions: see
+/// [`transitive_reduce`](crate::acyclic::Acyclic::transitive_reduce).
 pub fn same_reachability<N: Drop, E: Drop, M: Drop, F: Drop, Ix: IndexType>(
     a: &Dag<N, E, Ix>,
     b: &Dag<M, F, Ix>,

@@ -21,7 +21,7 @@ where
     ///
     /// # Errors
     ///
-    /// Returns `AllocError` if the memory for the list cannot be allocated.
+    /// Returns `AllocError` if an allocation fails.
     ///
     /// # Complexity
     ///
@@ -60,8 +60,7 @@ where
     ///
     /// # Errors
     ///
-    /// Returns `AllocError` if the memory for the list, or for the children of `nodes`, cannot be
-    /// allocated.
+    /// Returns `AllocError` if an allocation fails.
     ///
     /// # Complexity
     ///
@@ -92,8 +91,7 @@ where
     ///
     /// # Errors
     ///
-    /// Returns `AllocError` if the memory for the list, or for the parents of `nodes`, cannot be
-    /// allocated.
+    /// Returns `AllocError` if an allocation fails.
     ///
     /// # Complexity
     ///

@@ -3,7 +3,7 @@ use super::acts::{TRIANGLE, dag_of};
 use super::kinds::{Plain, Stable, note};
 use super::support::{holds, made, same};
 use super::table::{Answer, Call, Row, play};
-use daggy_base::index::NodeIndex;
+use daggy_base::index::{Direction, NodeIndex};
 use daggy_base::source::EdgeSource;
 use daggy_dag::acyclic::StableDag;
 use daggy_walk::visit::NodeIndexable;
@@ -78,6 +78,29 @@ fn closures_read_tables_of_the_bounds_of_a_stable_dag(rt: HostRuntime) {
     holds(&rt, dag.graph().edge_bound() <= edges.len());
     dag.update_node_weights(|n, weight| *weight = nodes[n.index()]);
     dag.update_edge_weights(|e, weight| *weight = edges[e.index()]);
+    play(&rt, rt.alloc(), &mut dag, ROWS);
+}
+
+#[test]
+fn weights_of_a_stable_dag_are_recomputed_from_those_of_parents(rt: HostRuntime) {
+    const ROWS: &[Row<'static>] = &[
+        (Call::Weight(0), Answer::Weight(1)),
+        (Call::Weight(1), Answer::Nothing),
+        (Call::Weight(2), Answer::Weight(2)),
+        (Call::Stored(1), Answer::Stored(0, 2, 101)),
+    ];
+    let mut dag = cut_triangle(&rt, rt.alloc());
+    dag.recompute(|graph, n| {
+        let mut sum = 1;
+        for parent in graph.neighbors_directed(n, Direction::Incoming) {
+            sum = graph
+                .node_weight(parent)
+                .copied()
+                .unwrap_or(0)
+                .wrapping_add(sum);
+        }
+        sum
+    });
     play(&rt, rt.alloc(), &mut dag, ROWS);
 }
 

@@ -1,7 +1,8 @@
 use Rattle.std.proofs.Common.{◌≡◌, ℕ, List, ◌++◌, length, take, drop, map, subst, Contains}
-use Rattle.std.specs.List.Sorted.{IsPermutation}
+use Rattle.std.specs.List.Sorted.{IsPermutation, IsNonDecreasingBy}
 use Rattle.daggy_search.proofs.Entries.{come_back}
 use Rattle.daggy_reduction.specs.Descendants.{IsSortedPart}
+use Rattle.daggy_base.specs.Ordered.{place}
 use Rattle.daggy_base.specs.Reduction.{IsBelow}
 use Rattle.daggy_reduction.proofs.AffectedNodes.{below_exists, part_sorted}
 use Rattle.daggy_reduction.proofs.affected.affected.Given.{Over}
@@ -26,19 +27,20 @@ back : (g : Over) (c : After-sort_by_place g)
 back g c = come_back c.in_ok-found.found.items c.sort_by_place.new.nodes c.in_ok-found.found.len (sorted g c) c.in_ok-found.found.ok.0
 
 found : (g : Over) (c : After-sort_by_place g)
+    → IsNonDecreasingBy (λ x. place c.args.order.now (g.Ix.IndexType.number x)) c.sort_by_place.new.nodes
     → IsSortedPart c.args.order.now (IsBelow (g.S.EdgeSource.graph c.args.source.now) (map g.Ix.IndexType.number c.args.nodes.now))
     (map g.Ix.IndexType.number c.sort_by_place.new.nodes)
-found g c =
+found g c places =
     part_sorted g.Ix.IndexType.number c.args.order.now _ c.queue_below-count.ensures.below
     c.queue_below-count.ensures.distinct c.in_ok-found.found.items c.sort_by_place.new.nodes c.in_ok-found.ensures
-    (sorted g c) c.sort_by_place.ensures.sorted
+    (sorted g c) places
 
 pub returns-clause-found : goal.returns-clause-found
 returns-clause-found g c =
     let at = (goal.at.returns-clause-found g c).After-sort_by_place in
-    rw (back g at) (found g at)
+    rw (back g at) (found g at c.in_ok-sort_by_place.ensures.sorted)
 
 pub returns-clause-visited : goal.returns-clause-visited
 returns-clause-visited g c =
     let at = (goal.at.returns-clause-visited g c).After-sort_by_place in
-    rw (back g at) (c.queue_below-count.ensures.visited _ (λ n b. ((found g at).exact n).1 b))
+    rw (back g at) (c.queue_below-count.ensures.visited _ (λ n b. ((found g at c.in_ok-sort_by_place.ensures.sorted).exact n).1 b))

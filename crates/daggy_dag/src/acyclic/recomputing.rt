@@ -1,0 +1,74 @@
+//! New weights for all nodes, parents before children.
+ghost use Rattle.std.specs.Prelude.{◌≡◌, ℕ, List, Contains};
+ghost use Rattle.daggy_base.specs.Graph.{HasNode};
+ghost use Rattle.daggy_base.specs.Ordered.{IsOrderOf};
+ghost use Rattle.daggy_base.specs.Path.{IsAcyclic};
+ghost use Rattle.daggy_dag.specs.Recomputing.{CanRecompute, Recomputes};
+
+use crate::acyclic::Acyclic;
+use daggy_base::index::{IndexType, NodeIndex};
+use daggy_base::store::Store;
+use daggy_order::order::Nodes;
+
+impl<N: Drop, E: Drop, Ix: IndexType, S> Acyclic<N, E, Ix, S>
+where
+    S: Store<Ix, NodeWeight = N, EdgeWeight = E>,
+{
+    /// Gives each node the weight that `f` returns for it, parents before children. `f` is called
+    /// with the graph and the node, and the parents of the node have their new weights by then.
+    ///
+    /// The nodes come in the order of [`topological_order`](Acyclic::topological_order).
+    ///
+    /// # Complexity
+    ///
+    /// O(nodes), plus the calls. Does not allocate.
+    ///
+    /// # Examples
+    ///
+    /// ```
+    /// let mut dag: Dag<u32, ()> = Dag::new(rt.alloc());
+    /// let sow = dag.add_node(0)?;
+    /// let (_, hoe) = dag.add_child(sow, (), 0)?;
+    /// let (_, reap) = dag.add_child(hoe, (), 0)?;
+    /// dag.add_edge(sow, reap, ())?;
+    /// // How many edges the longest path to each node has.
+    /// dag.recompute(|graph, n| {
+    ///     let mut depth = 0u32;
+    ///     for parent in graph.neighbors_directed(n, Direction::Incoming) {
+    ///         let above = graph.node_weight(parent).copied().unwrap_or(0);
+    ///         depth = depth.max(above.saturating_add(1));
+    ///     }
+    ///     depth
+    /// });
+    /// assert!(rt; dag.node_weight(reap) == Some(&2));
+    /// ```
+    pub fn recompute<F: Fn(&S, NodeIndex<Ix>) -> N>(&mut self, f: F)
+        requires { CanRecompute S.graph Ix.of F.pre f self.old.graph }
+        ensures written { (order : List ℕ) × IsOrderOf self.old.graph order
+            × Recomputes S.graph Ix.of F.post f order self.old.graph self.new.graph }
+        ensures acyclic { IsAcyclic self.new.graph }
+        ensures looks { self.new.looks ≡ self.old.looks }
+    {
+        self.guarded.invariant();
+        recompute_nodes(&mut self.guarded.store, self.guarded.order.nodes(), &f);
+    }
+}
+
+// Gives each of these nodes in turn the weight that `f` returns for it.
+fn recompute_nodes<Ix: IndexType, S: Store<Ix>, F: Fn(&S, NodeIndex<Ix>) -> S::NodeWeight>(
+    store: &mut S,
+    mut nodes: Nodes<'_, Ix>,
+    f: &F,
+)
+    requires exist { (n : ℕ) → Contains nodes n → HasNode (S.graph store.old) n }
+    requires callable { CanRecompute S.graph Ix.of F.pre f.now (S.graph store.old) }
+    ensures written { Recomputes S.graph Ix.of F.post f.now nodes.entry (S.graph store.old)
+        (S.graph store.new) }
+    ensures looks { S.looks store.new ≡ S.looks store.old }
+{
+    'nodes: while let Some(n) = nodes.next() {
+        store.invariant();
+        let weight = f(&*store, n);
+        *store.node_mut(n) = weight;
+    }
+}
