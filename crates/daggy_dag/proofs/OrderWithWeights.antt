@@ -5,7 +5,7 @@ use Rattle.std.proofs.lemmas.Bool.{false≢true}
 use Rattle.daggy_base.specs.Graph.{Graph, HasNode, slot, bound_of, bound_step}
 use Rattle.daggy_base.specs.State.{State, with_graph}
 use Rattle.daggy_base.specs.Weights.{with_node_weight, with_edge_weight}
-use Rattle.daggy_order.proofs.OrderLaws.{order_with_node_weight, order_with_edge_weight}
+use Rattle.daggy_order.proofs.OrderLaws.{nodes_with_weight, order_with_node_weight, order_with_edge_weight}
 use Rattle.daggy_dag.proofs.OrderKept.{IsKept}
 
 step_written : {A : Type 0} (x y : A) (n : ℕ) → bound_step (Some x) n ≡ bound_step (Some y) n
@@ -20,14 +20,6 @@ bound_written (None ∷ xs) zero w there = absurd (false≢true there)
 bound_written (Some x ∷ xs) zero w there = step_written w x (bound_of xs)
 bound_written (x ∷ xs) (suc n) w there = ap (bound_step x) (bound_written xs n w there)
 
-pub still_there : {A : Type 0} (xs : List (Option A)) (a b : ℕ) (v : A)
-    → IsSome (slot xs b) → IsSome (slot (set xs a (Some v)) b)
-still_there [] a b v there = absurd (false≢true there)
-still_there (x ∷ xs) zero zero v there = refl
-still_there (x ∷ xs) zero (suc b) v there = there
-still_there (x ∷ xs) (suc a) zero v there = there
-still_there (x ∷ xs) (suc a) (suc b) v there = still_there xs a b v there
-
 module _ {N E : Type 0} (capacity : ℕ) (g : Graph N E) (order : List ℕ) (kept : IsKept g order capacity) where
   pub node_written : (n : ℕ) (w : N) → HasNode g n → IsKept (with_node_weight g n w) order capacity
   node_written n w there = (
@@ -41,7 +33,7 @@ module _ {N E : Type 0} (capacity : ℕ) (g : Graph N E) (order : List ℕ) (kep
   pub nodes_written : (a b : ℕ) (v w : N)
       → HasNode g a → HasNode g b → IsKept (with_node_weight (with_node_weight g a v) b w) order capacity
   nodes_written a b v w first second =
-      let still : HasNode (with_node_weight g a v) b = still_there g.nodes a b v second in (
+      let still : HasNode (with_node_weight g a v) b = (nodes_with_weight g a v first b).1 second in (
         order_with_node_weight order (order_with_node_weight order kept.0 a v first) b w still,
         omega (arith, bound_written (set g.nodes a (Some v)) b w still, bound_written g.nodes a v first, kept.1),
       )

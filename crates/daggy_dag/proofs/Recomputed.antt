@@ -1,24 +1,16 @@
 -- New weights for the nodes of a list, one after another.
-use Rattle.std.proofs.Common.{◌≡◌, ℕ, zero, suc, Option, Some, IsSome, List, [], ◌∷◌, ◌++◌, set, refl, ap, subst, ◌∙◌, Contains}
-use Rattle.std.proofs.lemmas.Bool.{false≢true}
+use Rattle.std.proofs.Common.{◌≡◌, ℕ, Some, List, [], ◌∷◌, ◌++◌, set, refl, ap, subst, ◌∙◌, Contains}
 use Rattle.std.specs.Borrow.{Bor}
-use Rattle.daggy_base.specs.Graph.{Graph, HasNode, slot}
+use Rattle.daggy_base.specs.Graph.{Graph, HasNode}
 use Rattle.daggy_base.specs.Weights.{with_node_weight}
 use Rattle.daggy_base.proofs.Lists.{Contains-here, Contains-there}
+use Rattle.daggy_order.proofs.OrderLaws.{nodes_with_weight}
 use Rattle.daggy_dag.specs.Recomputing.{DiffersInWeights, IsComputed, Recomputes}
 use Rattle.daggy_dag.proofs.OrderKept.{IsKept, stays_so}
-use Rattle.daggy_dag.proofs.OrderWithWeights.{still_there, node_written}
+use Rattle.daggy_dag.proofs.OrderWithWeights.{node_written}
 
 pub differs_not : {N E : Type 0} (g : Graph N E) → DiffersInWeights g g
 differs_not g = (g.nodes, refl, λ n. (λ h. h, λ h. h))
-
-was_there : {A : Type 0} (xs : List (Option A)) (a b : ℕ) (v : A)
-    → IsSome (slot xs a) → IsSome (slot (set xs a (Some v)) b) → IsSome (slot xs b)
-was_there [] a b v at there = absurd (false≢true there)
-was_there (x ∷ xs) zero zero v at there = at
-was_there (x ∷ xs) zero (suc b) v at there = there
-was_there (x ∷ xs) (suc a) zero v at there = there
-was_there (x ∷ xs) (suc a) (suc b) v at there = was_there xs a b v at there
 
 pub differs_written : {N E : Type 0} (g h : Graph N E) → DiffersInWeights g h → (n : ℕ) (w : N) → HasNode h n
     → DiffersInWeights g (with_node_weight h n w)
@@ -27,7 +19,8 @@ differs_written {N} {E} g h d n w there =
     let written : Graph N E → Graph N E = λ z. record z { nodes = nodes } in (
       nodes,
       ap written d.1,
-      λ m. (λ k. (d.2 m).0 (was_there h.nodes n m w there k), λ k. still_there h.nodes n m w ((d.2 m).1 k)),
+      λ m. (let same = nodes_with_weight h n w there m in
+          (λ k. (d.2 m).0 (same.0 k), λ k. same.1 ((d.2 m).1 k))),
     )
 
 module _ {N E S F I : Type 0} (graph : S → Graph N E) (of : ℕ → I) (post : F → Bor S → I → N → Type 0) (f : F) where
@@ -48,4 +41,4 @@ module _ {N E S F I : Type 0} (graph : S → Graph N E) (of : ℕ → I) (post :
   recomputed_kept (n ∷ ns) order capacity old new kept exist is =
       let there = exist n (Contains-here n ns) in
       recomputed_kept ns order capacity (with_node_weight old n is.0) new (node_written capacity old order kept n is.0 there)
-      (λ m c. still_there old.nodes n m is.0 (exist m (Contains-there n m ns c))) is.2
+      (λ m c. (nodes_with_weight old n is.0 there m).1 (exist m (Contains-there n m ns c))) is.2

@@ -238,11 +238,10 @@ module _ {N E : Type 0} {end : ℕ} {g : Graph N E} (f : IsWellFormed end g) (w 
         (first_before order n (next_node g) (contains_mem order n ((ord.exact n).1 exists)) not_listed)
 
 -- weights are written
-pub order_with_node_weight : {N E : Type 0} {g : Graph N E} (order : List ℕ)
-    → IsOrderOf g order → (n : ℕ) (w : N) → HasNode g n → IsOrderOf (with_node_weight g n w) order
-order_with_node_weight {N} {E} {g} order ord n w exists =
-    let within : n < length g.nodes = slot_within g.nodes n exists in
-    order_fewer order ord (λ m. (
+pub nodes_with_weight : {N E : Type 0} (g : Graph N E) (n : ℕ) (w : N) → HasNode g n
+    → (m : ℕ) → HasNode (with_node_weight g n w) m ↔ HasNode g m
+nodes_with_weight {N} {E} g n w exists m =
+    let within : n < length g.nodes = slot_within g.nodes n exists in (
       λ h. elim (cases_eq m n) [
         | inl e ↦ (let P : ℕ → Type 0 = λ z. HasNode g z in subst P (sym e) exists)
         | inr d ↦ some_as (sym (slot_other g.nodes n m (Some w) d)) h
@@ -253,7 +252,12 @@ order_with_node_weight {N} {E} {g} order ord n w exists =
             subst P (sym e) (some_as (slot_here g.nodes n (Some w) within) refl))
         | inr d ↦ some_as (slot_other g.nodes n m (Some w) d) h
       ],
-    )) (λ u v j. j)
+    )
+
+pub order_with_node_weight : {N E : Type 0} {g : Graph N E} (order : List ℕ)
+    → IsOrderOf g order → (n : ℕ) (w : N) → HasNode g n → IsOrderOf (with_node_weight g n w) order
+order_with_node_weight {N} {E} {g} order ord n w exists =
+    order_fewer order ord (nodes_with_weight g n w exists) (λ u v j. j)
 
 pub order_with_edge_weight : {N E : Type 0} {g : Graph N E} (order : List ℕ)
     → IsOrderOf g order → (e : ℕ) (w : E) → IsOrderOf (with_edge_weight g e w) order

@@ -17,8 +17,6 @@ where
     /// Gives each node the weight that `f` returns for it, parents before children. `f` is called
     /// with the graph and the node, and the parents of the node have their new weights by then.
     ///
-    /// The nodes come in the order of [`topological_order`](Acyclic::topological_order).
-    ///
     /// # Complexity
     ///
     /// O(nodes), plus the calls. Does not allocate.
@@ -67,7 +65,6 @@ fn recompute_nodes<Ix: IndexType, S: Store<Ix>, F: Fn(&S, NodeIndex<Ix>) -> S::N
     ensures looks { S.looks store.new ≡ S.looks store.old }
 {
     'nodes: while let Some(n) = nodes.next() {
-        store.invariant();
         let weight = f(&*store, n);
         *store.node_mut(n) = weight;
     }

@@ -6,11 +6,11 @@ use Rattle.daggy_base.proofs.OutEdgesRead.{below_bound}
 use Rattle.daggy_dag.specs.Recomputing.{DiffersInWeights, IsComputed}
 use Rattle.daggy_dag.proofs.Recomputed.{differs_not, differs_written, recomputes_one_more}
 use Rattle.daggy_dag.proofs.acyclic.recomputing.recompute_nodes.Given.{Over}
-use Rattle.daggy_dag.proofs.acyclic.recomputing.recompute_nodes.Goals.{After-invariant}
+use Rattle.daggy_dag.proofs.acyclic.recomputing.recompute_nodes.Goals.{In-Some}
 use Rattle.daggy_dag.proofs.acyclic.recomputing.recompute_nodes.Goals as goal
 
 -- the next node existed from the beginning
-existed : (g : Over) (c : After-invariant g) → HasNode (g.S.EdgeSource.graph c.args.store.now) (g.Ix.IndexType.number c.in-Some.n)
+existed : (g : Over) (c : In-Some g) → HasNode (g.S.EdgeSource.graph c.args.store.now) (g.Ix.IndexType.number c.in-Some.n)
 existed g c =
     let n = g.Ix.IndexType.number c.in-Some.n in
     let s = c.nodes.invariant in
@@ -19,7 +19,7 @@ existed g c =
     c.requires.exist n (subst P (sym here) (mem_contains _ n (mem_mid s.done c.next.new.self n)))
 
 -- and exists now
-exists : (g : Over) (c : After-invariant g) → HasNode (g.S.EdgeSource.graph c.nodes.store) (g.Ix.IndexType.number c.in-Some.n)
+exists : (g : Over) (c : In-Some g) → HasNode (g.S.EdgeSource.graph c.nodes.store) (g.Ix.IndexType.number c.in-Some.n)
 exists g c = (c.nodes.invariant.alike.2 (g.Ix.IndexType.number c.in-Some.n)).1 (existed g c)
 
 pub nodes-init : goal.nodes-init
@@ -36,7 +36,7 @@ f-weight-requires g c =
     (c.requires.callable shown c.nodes.invariant.alike n there (below_bound (g.S.EdgeSource.graph c.args.store.now).nodes n there))
 
 pub node_mut-requires : goal.node_mut-requires
-node_mut-requires g c = exists g (goal.at.node_mut-requires g c).After-invariant
+node_mut-requires g c = exists g (goal.at.node_mut-requires g c).In-Some
 
 pub nodes-preserved : goal.nodes-preserved
 nodes-preserved g c =
@@ -53,7 +53,7 @@ nodes-preserved g c =
     let computed : IsComputed graph g.Ix.IndexType.of post c.args.f.now mid n w =
     (shown, refl, subst P (sym (g.Ix.IndexType.of_number c.in-Some.n)) c.f-weight.ensures) in
     let D : Graph _ _ → Type 0 = λ z. DiffersInWeights old z in
-    let there = exists g (goal.at.nodes-preserved g c).After-invariant in
+    let there = exists g (goal.at.nodes-preserved g c).In-Some in
     record {
       done = s.done ++ n ∷ [];
       split = s.split ∙ (ap (λ z. s.done ++ z) c.in-Some.ensures.steps ∙ sym (append_assoc s.done (n ∷ []) c.next.new.self));
